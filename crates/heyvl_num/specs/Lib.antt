@@ -1,0 +1,4 @@
+pub mod Gcd
+pub mod GcdLaws
+pub mod Rational
+pub mod Value

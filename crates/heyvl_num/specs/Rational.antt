@@ -1,0 +1,64 @@
+-- Exact fractions of whole numbers, kept in lowest terms, so that two fractions are equal exactly where their cross
+-- products agree.
+use Rattle.std.specs.Prelude.{◌≡◌, ℕ, ◌*◌, ◌/◌, ◌<◌, ℤ, pos, negsuc, ◌+ℤ◌, ◌*ℤ◌, Bool, true}
+use Rattle.std.specs.Int.RustNames.{int_div, unsigned_abs}
+use Rattle.std.specs.Int.Signed.{le_z}
+use Rattle.std.proofs.Math.IntN.{neg_ℤ}
+use Prim.Native.Nat.{suc, zero}
+use Rattle.std.proofs.Common.{refl, ◌∙◌, ap}
+use Rattle.std.proofs.Math.Nat.{zero-lt-suc}
+use Rattle.heyvl_num.specs.Gcd.{gcd, gcd_steps}
+use Rattle.heyvl_num.specs.GcdLaws.{gcd-quotients, quotient_den-pos}
+
+infix 4 ◌≤ʳ◌
+infixl 6 ◌+ʳ◌
+infixl 6 ◌-ʳ◌
+infixl 7 ◌*ʳ◌
+
+-- A fraction in lowest terms with a positive denominator.
+pub record Rational : Type 0 where
+  pub num : ℤ
+  pub den : ℕ
+  pub positive : 0 < den
+  pub lowest : gcd (unsigned_abs num) den ≡ 1
+
+abs_neg : (n : ℕ) → unsigned_abs (neg_ℤ (pos n)) ≡ n
+abs_neg zero = refl
+abs_neg (suc n) = refl
+
+pub abs_div : (a : ℤ) (g : ℕ) → unsigned_abs (int_div a (pos g)) ≡ unsigned_abs a / g
+abs_div (pos n) g = refl
+abs_div (negsuc n) g = abs_neg (suc n / g)
+
+-- The fraction of two whole numbers; 0 where the denominator is 0.
+unfoldable pub ratio : ℤ → ℕ → Rational
+unfolding gcd gcd_steps
+ratio a zero = record { num = pos 0; den = 1; positive = zero-lt-suc 0; lowest = refl }
+ratio a (suc d) = record { num = int_div a (pos (gcd (unsigned_abs a) (suc d))); den = suc d / gcd (unsigned_abs a) (suc d); positive = quotient_den-pos (unsigned_abs a) (suc d) (zero-lt-suc d); lowest = ap (λ x. gcd x (suc d / gcd (unsigned_abs a) (suc d))) (abs_div a (gcd (unsigned_abs a) (suc d))) ∙ gcd-quotients (unsigned_abs a) (suc d) (zero-lt-suc d) }
+
+unfoldable pub zeroʳ : Rational
+zeroʳ = ratio (pos 0) 1
+
+unfoldable pub oneʳ : Rational
+oneʳ = ratio (pos 1) 1
+
+-- a/b + c/d = (a*d + c*b) / (b*d)
+unfoldable pub ◌+ʳ◌ : Rational → Rational → Rational
+x +ʳ y = ratio (x.num *ℤ pos y.den +ℤ y.num *ℤ pos x.den) (x.den * y.den)
+
+-- a/b * c/d = (a*c) / (b*d)
+unfoldable pub ◌*ʳ◌ : Rational → Rational → Rational
+x *ʳ y = ratio (x.num *ℤ y.num) (x.den * y.den)
+
+unfoldable pub negʳ : Rational → Rational
+negʳ x = ratio (neg_ℤ x.num) x.den
+
+unfoldable pub ◌-ʳ◌ : Rational → Rational → Rational
+x -ʳ y = x +ʳ negʳ y
+
+-- a/b is at most c/d where a*d is at most c*b.
+unfoldable pub leqʳ : Rational → Rational → Bool
+leqʳ x y = le_z (x.num *ℤ pos y.den) (y.num *ℤ pos x.den)
+
+pub record ◌≤ʳ◌ (x y : Rational) : Type 0 where
+  pub holds : leqʳ x y ≡ true

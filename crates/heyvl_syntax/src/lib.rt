@@ -1,0 +1,16 @@
+//! Places, names, literals, tokens and the lexer of HeyVL.
+#![tactic(auto)]
+
+mod keys;
+mod literals;
+mod marks;
+mod names;
+mod spans;
+mod tokens;
+
+pub use keys::Key;
+pub use literals::Lit;
+pub use marks::Mark;
+pub use names::Name;
+pub use spans::Span;
+pub use tokens::{Token, TokenKind};

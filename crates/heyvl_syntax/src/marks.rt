@@ -1,0 +1,36 @@
+//! The marks of HeyVL.
+
+/// A mark, in the order of the language's list of marks.
+#[derive(Clone, Copy, Debug, PartialEq, Eq)]
+pub enum Mark {
+    ParenLeft,
+    ParenRight,
+    BraceLeft,
+    BraceRight,
+    BracketLeft,
+    BracketRight,
+    Comma,
+    Colon,
+    Semi,
+    Dot,
+    Assign,
+    Same,
+    Differ,
+    Less,
+    AtMost,
+    CoImply,
+    More,
+    AtLeast,
+    Plus,
+    Minus,
+    Star,
+    Slash,
+    AndAnd,
+    OrOr,
+    Bang,
+    Tilde,
+    Imply,
+    Arrow,
+    Question,
+    AtSign,
+}

@@ -1,0 +1,36 @@
+//! Names.
+
+ghost use Rattle.std.specs.Prelude.{◌≡◌, IfOk, List, ℕ};
+
+use std::alloc::{AllocError, Global};
+use std::marker::Model;
+
+/// A name: a list of bytes.
+#[derive(Drop)]
+pub struct Name {
+    bytes: Vec<u8>,
+}
+
+impl Model for Name {
+    ghost Value = { List ℕ };
+
+    ghost view = { λ name. name.bytes.items };
+}
+
+impl Name {
+    /// The name that these bytes spell.
+    pub fn new(alloc: Global, bytes: &[u8]) -> Result<Name, AllocError>
+        ensures { IfOk result (λ name. name ≡ bytes.now) }
+    {
+        Ok(Name {
+            bytes: Vec::from_slice(alloc, bytes)?,
+        })
+    }
+
+    /// The bytes of the name.
+    pub fn as_bytes(&self) -> &[u8]
+        ensures { result.now ≡ self.now }
+    {
+        self.bytes.as_slice()
+    }
+}

@@ -1,0 +1,19 @@
+//! Tokens.
+
+use crate::{Key, Lit, Mark, Name, Span};
+
+/// What a token is.
+#[derive(Drop)]
+pub enum TokenKind {
+    Word(Name),
+    Number(Lit),
+    Key(Key),
+    Mark(Mark),
+}
+
+/// A token and its place in the bytes.
+#[derive(Drop)]
+pub struct Token {
+    pub kind: TokenKind,
+    pub span: Span,
+}
