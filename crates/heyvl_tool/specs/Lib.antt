@@ -10,3 +10,4 @@ pub mod Sums
 pub mod Bound
 pub mod Meaning
 pub mod Verdict
+pub mod Report

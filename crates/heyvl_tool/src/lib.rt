@@ -3,6 +3,8 @@
 
 mod answers;
 mod first_form;
+mod reporting;
 
 pub use answers::{Answer, GoalId, Val, Verdict};
 pub use first_form::{Constant, FirstForm, Stmt};
+pub use reporting::report;
