@@ -14,7 +14,6 @@ infix 4 ◌≤ʳ◌
 infixl 6 ◌+ʳ◌
 infixl 6 ◌-ʳ◌
 infixl 7 ◌*ʳ◌
-
 -- A fraction in lowest terms with a positive denominator.
 pub record Rational : Type 0 where
   pub num : ℤ

@@ -1,12 +1,11 @@
 -- Values: a fraction, or infinity. They are what formulas mean, and what rewards, posts and sums over runs are made of.
-use Rattle.std.specs.Prelude.{◌≡◌, ℕ, Bool, true, false, ℤ, pos, negsuc}
+use Rattle.std.specs.Prelude.{◌≡◌, Bool, true, false, ℤ, pos, negsuc}
 use Prim.Native.Nat.{zero, suc}
 use Rattle.heyvl_num.specs.Rational.{Rational, ◌+ʳ◌, ◌*ʳ◌, zeroʳ, oneʳ, leqʳ}
 
 infix 4 ◌≤ᵛ◌
 infixl 6 ◌+ᵛ◌
 infixl 7 ◌*ᵛ◌
-
 pub data Value : Type 0 where
   finite : Rational → Value
   infinite : Value
