@@ -1,6 +1,7 @@
 //! Places, names, literals, tokens and the lexer of HeyVL.
 #![tactic(auto)]
 
+mod fronts;
 mod keys;
 mod literals;
 mod marks;

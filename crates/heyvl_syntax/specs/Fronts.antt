@@ -1,0 +1,91 @@
+-- What stands at the front of bytes, computed.
+use Rattle.heyvl_syntax.specs.Bytes.{is_letter, is_line_feed, is_point, is_white, is_word_byte}
+use Rattle.heyvl_syntax.specs.Comments.{closes_at, opens_block, opens_line}
+use Rattle.heyvl_syntax.specs.Keys.{key_text}
+use Rattle.heyvl_syntax.specs.Literals.{is_too_large, literal}
+use Rattle.heyvl_syntax.specs.Marks.{mark_text}
+use Rattle.heyvl_syntax.specs.declared.fronts.Front.TheVariants as fronts
+use Rattle.heyvl_syntax.specs.declared.fronts.Front.{Front}
+use Rattle.heyvl_syntax.specs.declared.keys.Key.TheVariants as keys
+use Rattle.heyvl_syntax.specs.declared.keys.Key.{Key}
+use Rattle.heyvl_syntax.specs.declared.marks.Mark.TheVariants as marks
+use Rattle.heyvl_syntax.specs.declared.marks.Mark.{Mark}
+use Rattle.heyvl_syntax.specs.declared.tokens.TokenKind.TheVariants as kinds
+use Rattle.std.specs.Char.{is_ascii_digit}
+use Rattle.std.specs.Cmp.Lexicographic.{pointwise}
+use Rattle.std.specs.List.{find, position_or_len, prefix_len, starts_with}
+use Rattle.std.specs.Option.{option_map}
+use Rattle.std.specs.Prelude.{List, None, Option, Some, [], cond, drop, length, nat_eq, suc, take, zero, ◌+◌, ◌==◌, ◌||◌, ◌∷◌, ℕ}
+
+-- The keys, in the language's order.
+abbrev pub all_keys : List Key
+all_keys =
+    keys.Proc ∷ keys.CoProc ∷ keys.Pre ∷ keys.Post ∷ keys.Var ∷ keys.If ∷ keys.Else ∷ keys.While ∷ keys.Assert
+    ∷ keys.Assume ∷ keys.CoAssert ∷ keys.CoAssume ∷ keys.Havoc ∷ keys.CoHavoc ∷ keys.Validate ∷ keys.CoValidate
+    ∷ keys.Reward ∷ keys.Tick ∷ keys.TrueWord ∷ keys.FalseWord ∷ keys.BoolWord ∷ keys.IntWord ∷ keys.UIntWord
+    ∷ keys.URealWord ∷ keys.EURealWord ∷ keys.RealWord ∷ keys.Ite ∷ keys.Flip ∷ keys.Unif ∷ keys.Choose ∷ keys.Sup
+    ∷ keys.Inf ∷ keys.Cap ∷ keys.Cup ∷ keys.Infty ∷ []
+
+-- The marks, the longer ones first.
+abbrev pub marks_by_length : List Mark
+marks_by_length =
+    marks.CoImply ∷ marks.Imply ∷ marks.Same ∷ marks.Differ ∷ marks.AtMost ∷ marks.AtLeast ∷ marks.AndAnd ∷ marks.OrOr
+    ∷ marks.Arrow ∷ marks.ParenLeft ∷ marks.ParenRight ∷ marks.BraceLeft ∷ marks.BraceRight ∷ marks.BracketLeft
+    ∷ marks.BracketRight ∷ marks.Comma ∷ marks.Colon ∷ marks.Semi ∷ marks.Dot ∷ marks.Assign ∷ marks.Less ∷ marks.More
+    ∷ marks.Plus ∷ marks.Minus ∷ marks.Star ∷ marks.Slash ∷ marks.Bang ∷ marks.Tilde ∷ marks.Question ∷ marks.AtSign
+    ∷ []
+
+-- The key with this text.
+abbrev pub key_of : List ℕ → Option Key
+key_of text = find (λ key. pointwise nat_eq text (key_text key)) all_keys
+
+-- The longest mark at the front.
+abbrev pub mark_of : List ℕ → Option Mark
+mark_of bytes = find (λ mark. starts_with nat_eq bytes (mark_text mark)) marks_by_length
+
+-- The first place at which `*/` stands.
+abbrev pub first_close : List ℕ → Option ℕ
+first_close [] = None
+first_close (b ∷ bs) = cond (closes_at (b ∷ bs) 0) (Some 0) (option_map suc (first_close bs))
+
+abbrev pub block_front : Option ℕ → Front
+block_front None = fronts.Fault 2 2
+block_front (Some inner) = fronts.Blank (2 + inner + 2)
+
+-- A letter, `_` or `\` at the front, with the letters, digits and `_` behind it.
+abbrev pub word_front : List ℕ → List ℕ → Option Key → Front
+word_front [] text key = fronts.End
+word_front (b ∷ bs) text (Some key) = fronts.Token (kinds.Key key) (length text)
+word_front (b ∷ bs) text None =
+    cond (is_letter b) (fronts.Token (kinds.Word text) (length text)) (fronts.Fault 1 1)
+
+-- A point and digits, as far as they stand at the front.
+abbrev pub with_point : ℕ → ℕ
+with_point zero = 0
+with_point (suc n) = suc (suc n)
+
+abbrev pub fraction_len : List ℕ → ℕ
+fraction_len [] = 0
+fraction_len (b ∷ bs) = cond (is_point b) (with_point (prefix_len is_ascii_digit bs)) 0
+
+abbrev pub number_len : List ℕ → ℕ
+number_len bytes =
+    prefix_len is_ascii_digit bytes + fraction_len (drop (prefix_len is_ascii_digit bytes) bytes)
+
+abbrev pub number_front : List ℕ → ℕ → Front
+number_front text n = cond (is_too_large text) (fronts.Fault 3 n) (fronts.Token (kinds.Number (literal text)) n)
+
+abbrev pub mark_front : Option Mark → Front
+mark_front None = fronts.Fault 1 1
+mark_front (Some mark) = fronts.Token (kinds.Mark mark) (length (mark_text mark))
+
+abbrev pub front : List ℕ → Front
+front [] = fronts.End
+front (b ∷ bs) =
+    cond (is_white b) (fronts.Blank 1)
+    (cond (opens_line (b ∷ bs)) (fronts.Blank (position_or_len is_line_feed (b ∷ bs)))
+    (cond (opens_block (b ∷ bs)) (block_front (first_close (drop 2 (b ∷ bs))))
+    (cond (is_letter b || b == 92)
+    (word_front (b ∷ bs) (take (suc (prefix_len is_word_byte bs)) (b ∷ bs)) (key_of (take (suc (prefix_len is_word_byte bs)) (b ∷ bs))))
+    (cond (is_ascii_digit b) (number_front (take (number_len (b ∷ bs)) (b ∷ bs)) (number_len (b ∷ bs)))
+    (mark_front (mark_of (b ∷ bs)))))))
