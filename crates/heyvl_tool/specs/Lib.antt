@@ -11,3 +11,9 @@ pub mod Bound
 pub mod Meaning
 pub mod Verdict
 pub mod Report
+pub mod Words
+pub mod Files
+pub mod Replies
+pub mod Stubs
+pub mod Responses
+pub mod Headline
