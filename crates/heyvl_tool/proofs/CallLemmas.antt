@@ -17,3 +17,7 @@ cause_by_bytes call file bytes (Err e) asks held taken within said = tt
 -- Fewer bytes than one past the limit are within it.
 pub within_limit : (n : ℕ) → n ≤ file_limit + 1 → (n ≡ file_limit + 1 → ⊥) → n ≤ file_limit
 within_limit n h k = omega arith
+
+-- The words ask to verify one file.
+pub same_file : (words : List (List ℕ)) (file other : List ℕ) → AsksToVerify words file → AsksToVerify words other → file ≡ other
+same_file words file other asks also = cc (asks.words_are, also.words_are)

@@ -31,6 +31,9 @@ pub record Call : Type 0 where
   pub faults_after : ℕ
   pub taken : ℕ
 
+abbrev pub call : List (List ℕ) → (List ℕ → Option (List ℕ)) → ℕ → ℕ → ℕ → Call
+call words holds before after taken = record { words = words; holds = holds; faults_before = before; faults_after = after; taken = taken }
+
 -- The most bytes that a file may have.
 abbrev pub file_limit : ℕ
 file_limit = 1048576
@@ -65,15 +68,15 @@ pub data IsReplyTo (bytes : List ℕ) (reply : Reply) : Type 0 where
 
 -- The reply has its cause: the words are no command; the source failed; the file is longer than the limit; or the whole
 -- file was read, and this is said of its bytes.
-pub data HasCause (call : Call) (reply : Reply) : Type 0 where
-  by_words : IsUsage call.words → reply ≡ usage → HasCause call reply
-  by_source : (file : List ℕ) → AsksToVerify call.words file → Rose call.faults_before call.faults_after
-      → call.taken ≤ file_limit → reply ≡ read_fault → HasCause call reply
-  by_length : (file : List ℕ) → AsksToVerify call.words file → call.taken ≡ file_limit + 1
-      → IfSome (call.holds file) (λ held. file_limit < length held) → reply ≡ file_too_long → HasCause call reply
-  by_bytes : (file : List ℕ) → AsksToVerify call.words file → (bytes : List ℕ)
-      → IfSome (call.holds file) (λ held. bytes ≡ held) → call.taken ≡ length bytes → length bytes ≤ file_limit
-      → IsReplyTo bytes reply → HasCause call reply
+pub data HasCause (made : Call) (reply : Reply) : Type 0 where
+  by_words : IsUsage made.words → reply ≡ usage → HasCause made reply
+  by_source : (file : List ℕ) → AsksToVerify made.words file → Rose made.faults_before made.faults_after
+      → made.taken ≤ file_limit → reply ≡ read_fault → HasCause made reply
+  by_length : (file : List ℕ) → AsksToVerify made.words file → made.taken ≡ file_limit + 1
+      → IfSome (made.holds file) (λ held. file_limit < length held) → reply ≡ file_too_long → HasCause made reply
+  by_bytes : (file : List ℕ) → AsksToVerify made.words file → (bytes : List ℕ)
+      → IfSome (made.holds file) (λ held. bytes ≡ held) → made.taken ≡ length bytes → length bytes ≤ file_limit
+      → IsReplyTo bytes reply → HasCause made reply
 
 abbrev pub is_refuted : Verdict → Bool
 is_refuted Verified = false
@@ -99,35 +102,38 @@ pub record Writing : Type 0 where
   pub faults_before : ℕ
   pub faults_after : ℕ
 
+abbrev pub writing : Option (List ℕ) → Option (List ℕ) → ℕ → ℕ → Writing
+writing told now before after = record { told_before = told; told_after = now; faults_before = before; faults_after = after }
+
 -- Exactly the output was written.
-pub record IsWritten (reply : Reply) (writing : Writing) (outcome : Outcome) : Type 0 where
+pub record IsWritten (reply : Reply) (done : Writing) (outcome : Outcome) : Type 0 where
   pub fault : outcome.fault ≡ reply.fault
   pub written : outcome.written ≡ length reply.output
-  pub appended : writing.told_after ≡ with_appended writing.told_before reply.output
+  pub appended : done.told_after ≡ with_appended done.told_before reply.output
 
 -- The sink failed when it had taken the front of the output.
-pub record IsCut (reply : Reply) (writing : Writing) (outcome : Outcome) : Type 0 where
+pub record IsCut (reply : Reply) (done : Writing) (outcome : Outcome) : Type 0 where
   pub fault : outcome.fault ≡ faults.Write
   pub written : outcome.written < length reply.output
-  pub appended : writing.told_after ≡ with_appended writing.told_before (take outcome.written reply.output)
-  pub rose : Rose writing.faults_before writing.faults_after
+  pub appended : done.told_after ≡ with_appended done.told_before (take outcome.written reply.output)
+  pub rose : Rose done.faults_before done.faults_after
 
 -- The reply was written whole, or the sink failed; the answers are the reply's in both cases.
-pub record IsDelivered (reply : Reply) (writing : Writing) (outcome : Outcome) : Type 0 where
-  pub delivered : IsWritten reply writing outcome ⊎ IsCut reply writing outcome
+pub record IsDelivered (reply : Reply) (done : Writing) (outcome : Outcome) : Type 0 where
+  pub delivered : IsWritten reply done outcome ⊎ IsCut reply done outcome
   pub answers : outcome.answers.items ≡ reply.answers
   pub status : outcome.status ≡ status_of outcome.fault reply.answers
 
 -- A reply that has its cause was delivered.
-pub record IsAnswered (call : Call) (writing : Writing) (outcome : Outcome) : Type 0 where
+pub record IsAnswered (made : Call) (done : Writing) (outcome : Outcome) : Type 0 where
   pub reply : Reply
-  pub cause : HasCause call reply
-  pub is_delivered : IsDelivered reply writing outcome
+  pub cause : HasCause made reply
+  pub is_delivered : IsDelivered reply done outcome
 
 -- There was no memory, and nothing was written.
-pub record IsOutOfMemory (writing : Writing) (outcome : Outcome) : Type 0 where
+pub record IsOutOfMemory (done : Writing) (outcome : Outcome) : Type 0 where
   pub fault : outcome.fault ≡ faults.Memory
   pub status : outcome.status ≡ 7
   pub answers : outcome.answers.items ≡ []
   pub written : outcome.written ≡ 0
-  pub unchanged : writing.told_after ≡ writing.told_before
+  pub unchanged : done.told_after ≡ done.told_before

@@ -1,9 +1,9 @@
 //! The top call.
 
-ghost use Rattle.std.specs.Prelude.{◌≡◌, ◌⊎◌, ◌≤◌, ◌+◌, List, ℕ, IfOk, IfSome, Some, length, map, string_bytes};
+ghost use Rattle.std.specs.Prelude.{◌≡◌, ◌≢◌, ◌⊎◌, ◌≤◌, ◌+◌, List, ℕ, IfOk, IsOk, Some, map, string_bytes};
 ghost use Rattle.heyvl_io.specs.Order.{order_after};
 ghost use Rattle.heyvl_tool.specs.Headline.{IsHeadline};
-ghost use Rattle.heyvl_tool.specs.Replies.{Call, HasCause, IsAnswered, IsDelivered, IsOutOfMemory, Reply, Writing, file_limit, is_refuted, status_of, some_refuted};
+ghost use Rattle.heyvl_tool.specs.Replies.{HasCause, IsAnswered, IsDelivered, IsOutOfMemory, call, file_limit, is_refuted, some_refuted, status_of, writing};
 ghost use Rattle.heyvl_tool.specs.Responses.{reply_of};
 ghost use Rattle.heyvl_tool.specs.Words.{AsksToVerify, IsUsage};
 
@@ -15,29 +15,34 @@ use std::alloc::{AllocError, Global};
 /// The most bytes that a file may have.
 pub const FILE_LIMIT: usize = 1_048_576;
 
-/// Does what the words ask for: `verify FILE` reads the file from the source and writes the report of its answers to the
-/// sink.
+/// Does what the words ask for: `verify FILE` reads the file from the source, and writes the report of its answers to
+/// the sink.
 pub fn run_tool<F: Source, K: Sink>(
     alloc: Global,
     words: &Vec<String>,
     source: &mut F,
     sink: &mut K,
 ) -> Outcome
-    ensures answered { let words_are : List (List ℕ) = map string_bytes words.now.items in
-        let call : Call = record {
-          words = words_are;
-          holds = F.holds source.old;
-          faults_before = F.faults source.old;
-          faults_after = F.faults source.new;
-          taken = F.taken source.new;
-        } in
-        let writing : Writing = record {
-          told_before = K.written sink.old;
-          told_after = K.written sink.new;
-          faults_before = K.faults sink.old;
-          faults_after = K.faults sink.new;
-        } in
-        IsAnswered call writing result ⊎ IsOutOfMemory writing result }
+    ensures answered { IsAnswered (call (map string_bytes words.now.items) (F.holds source.old) (F.faults source.old) (F.faults source.new) (F.taken source.new))
+        (writing (K.written sink.old) (K.written sink.new) (K.faults sink.old) (K.faults sink.new)) result
+        ⊎ IsOutOfMemory (writing (K.written sink.old) (K.written sink.new) (K.faults sink.old) (K.faults sink.new)) result }
+
+    // What `verified` means, where the source tells what the file holds.
+    ensures verified { (file bytes : List ℕ) → AsksToVerify (map string_bytes words.now.items) file → F.holds source.old file ≡ Some bytes
+        → IsHeadline bytes result.answers.items }
+
+    // The answer to words that are no command takes no memory, and starts no name.
+    ensures usage { IsUsage (map string_bytes words.now.items) → result.fault ≢ Fault.Memory }
+    ensures no_start { IsUsage (map string_bytes words.now.items) → F.order source.new ≡ F.order source.old }
+
+    // Else the file of the words is started, once, and nothing else.
+    ensures start { (file : List ℕ) → AsksToVerify (map string_bytes words.now.items) file
+        → F.order source.new ≡ order_after (F.names source.old) file (F.order source.old) }
+    ensures taken { (file : List ℕ) → AsksToVerify (map string_bytes words.now.items) file → F.taken source.new ≤ file_limit + 1 }
+    ensures source_names { F.names source.new ≡ F.names source.old }
+    ensures source_holds { F.holds source.new ≡ F.holds source.old }
+    ensures source_count { F.faults source.old ≤ F.faults source.new }
+    ensures sink_count { K.faults sink.old ≤ K.faults sink.new }
 {
     match response_to(alloc, words, source) {
         Ok(response) => deliver(response, sink),
@@ -56,15 +61,15 @@ fn response_to<F: Source>(
     words: &[String],
     source: &mut F,
 ) -> Result<Response, AllocError>
-    ensures cause { let words_are : List (List ℕ) = map string_bytes words.now in
-        let call : Call = record {
-          words = words_are;
-          holds = F.holds source.old;
-          faults_before = F.faults source.old;
-          faults_after = F.faults source.new;
-          taken = F.taken source.new;
-        } in
-        IfOk result (λ response. HasCause call (reply_of response)) }
+    ensures cause { IfOk result (λ response. HasCause (call (map string_bytes words.now) (F.holds source.old) (F.faults source.old) (F.faults source.new) (F.taken source.new)) (reply_of response)) }
+    ensures usage { IsUsage (map string_bytes words.now) → IsOk result }
+    ensures no_start { IsUsage (map string_bytes words.now) → F.order source.new ≡ F.order source.old }
+    ensures start { (file : List ℕ) → AsksToVerify (map string_bytes words.now) file
+        → F.order source.new ≡ order_after (F.names source.old) file (F.order source.old) }
+    ensures taken { (file : List ℕ) → AsksToVerify (map string_bytes words.now) file → F.taken source.new ≤ file_limit + 1 }
+    ensures names { F.names source.new ≡ F.names source.old }
+    ensures holds { F.holds source.new ≡ F.holds source.old }
+    ensures count { F.faults source.old ≤ F.faults source.new }
 {
     match file_to_verify(words) {
         None => Ok(refusal(alloc, Fault::Usage, b"usage: caesar verify FILE\n")),
@@ -79,13 +84,8 @@ fn response_to<F: Source>(
 
 /// Writes the answer to a call.
 fn deliver<K: Sink>(response: Response, sink: &mut K) -> Outcome
-    ensures { let writing : Writing = record {
-      told_before = K.written sink.old;
-      told_after = K.written sink.new;
-      faults_before = K.faults sink.old;
-      faults_after = K.faults sink.new;
-    } in
-        IsDelivered (reply_of response) writing result }
+    ensures delivered { IsDelivered (reply_of response) (writing (K.written sink.old) (K.written sink.new) (K.faults sink.old) (K.faults sink.new)) result }
+    ensures count { K.faults sink.old ≤ K.faults sink.new }
 {
     match write_all(sink, response.text.as_bytes()) {
         Ok(written) => Outcome {
