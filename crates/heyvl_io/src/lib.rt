@@ -2,13 +2,20 @@
 #![tactic(auto)]
 
 mod failures;
+mod files;
+mod mem_sinks;
+mod mem_sources;
 mod reading;
 mod sinks;
 mod sources;
+mod sure_sources;
 mod writing;
 
 pub use failures::Failed;
+pub use mem_sinks::MemSink;
+pub use mem_sources::MemSource;
 pub use reading::{ReadStop, read_all};
 pub use sinks::Sink;
 pub use sources::Source;
+pub use sure_sources::SureSource;
 pub use writing::{Cut, write_all};
