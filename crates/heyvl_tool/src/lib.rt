@@ -7,6 +7,8 @@ mod outcomes;
 mod reporting;
 mod responses;
 mod stubs;
+#[cfg(test)]
+mod tests;
 mod tool;
 mod words;
 
