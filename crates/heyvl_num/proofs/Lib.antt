@@ -1,3 +1,5 @@
 pub mod Integers
 pub mod Rationals
 pub mod Values
+pub mod Reducing
+pub mod Fitting

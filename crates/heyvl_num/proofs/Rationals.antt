@@ -37,7 +37,7 @@ ratio_den a (suc b) h = refl
 cross_nat : (a b : ℕ) → (a / gcd a b) * b ≡ a * (b / gcd a b)
 cross_nat a b = omega (arith, ap (λ x. a / gcd a b * x) (quotient_den a b), ap (λ x. x * (b / gcd a b)) (quotient_num a b))
 
-div_cross : (a : ℤ) (b : ℕ) → int_div a (pos (gcd (unsigned_abs a) b)) *ℤ pos b ≡ a *ℤ pos (b / gcd (unsigned_abs a) b)
+pub div_cross : (a : ℤ) (b : ℕ) → int_div a (pos (gcd (unsigned_abs a) b)) *ℤ pos b ≡ a *ℤ pos (b / gcd (unsigned_abs a) b)
 div_cross (pos a) b = ap pos (cross_nat a b)
 div_cross (negsuc a) b = neg-*ℤ (pos (suc a / gcd (suc a) b)) (pos b) ∙ ap (λ n. neg_ℤ (pos n)) (cross_nat (suc a) b)
 

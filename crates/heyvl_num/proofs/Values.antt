@@ -128,6 +128,15 @@ one-*ᵛ infinite = rw is_zero-one
 pub *ᵛ-one : (x : Value) → x *ᵛ oneᵛ ≡ x
 *ᵛ-one x = *ᵛ_comm x oneᵛ ∙ one-*ᵛ x
 
+-- infinity times a fraction, by its numerator
+pub infinite_times_zero : (x : Rational) → x.num ≡ pos 0 → finite x ≡ infinite *ᵛ finite x
+unfolding ◌*ᵛ◌ infinite_times is_zeroʳ zeroᵛ
+infinite_times_zero x e = ap finite (is_zero-is x (ap is_zero_num e)) ∙ ap (λ n. infinite_times (is_zero_num n)) (sym e)
+
+pub infinite_times_other : (x : Rational) → (x.num ≡ pos 0 → ⊥) → infinite ≡ infinite *ᵛ finite x
+unfolding ◌*ᵛ◌ infinite_times is_zeroʳ
+infinite_times_other x h = rw (not_zero x.num h)
+
 pub finite-+ : (x y : Rational) → finite x +ᵛ finite y ≡ finite (x +ʳ y)
 unfolding ◌+ᵛ◌
 finite-+ x y = refl
