@@ -8,8 +8,9 @@ use Prim.Native.Nat.{zero, suc}
 use Rattle.std.specs.Ordering.{int_cmp}
 use Rattle.std.specs.declared.cmp.Ordering.{Ordering}
 use Rattle.std.proofs.lemmas.Int.{ints, to_z-of_z, fits_signed_from_abs}
-use Rattle.heyvl_num.specs.Rational.{Rational, ratio, ◌+ʳ◌, ◌*ʳ◌, compareʳ}
-use Rattle.heyvl_num.specs.Exact.{is_small, is_zero, quotient, quotient_fits, exact_quotient, sum_fits, exact_sum, product_fits, exact_product, order_fits, exact_order}
+use Rattle.heyvl_num.specs.Rational.{Rational, ratio, ◌+ʳ◌, ◌-ʳ◌, ◌*ʳ◌, compareʳ}
+use Rattle.heyvl_num.specs.Exact.{is_small, is_zero, quotient, quotient_fits, exact_quotient, sum_fits, exact_sum, difference_fits, exact_difference, product_fits, exact_product, order_fits, exact_order}
+use Rattle.heyvl_num.proofs.Rationals.{difference_parts}
 
 untrue : (b : Bool) → ¬ (IsTrue b) → b ≡ false
 untrue true h = absurd (h refl)
@@ -86,6 +87,41 @@ sum_made x y r left right den num p q d n e =
     let s : to_z w128 (of_z w128 left) +ℤ to_z w128 (of_z w128 right) ≡ x.num *ℤ pos y.den +ℤ y.num *ℤ pos x.den = ap₂ (λ (u v : ℤ). u +ℤ v) (seen left _ p) (seen right _ q) in
     let m : Made num (x.num *ℤ pos y.den +ℤ y.num *ℤ pos x.den) = subst (λ (z : ℤ). Made num z) s n in
     ap Some (e ∙ fraction_seen num den _ (x.den * y.den) m d) ∙ sym (sum_given x y (four (is_small (x.num *ℤ pos y.den)) (is_small (y.num *ℤ pos x.den)) (is_small (pos x.den *ℤ pos y.den)) (is_small (x.num *ℤ pos y.den +ℤ y.num *ℤ pos x.den)) p.0 q.0 d.0 m.0))
+
+-- ---- Differences: for x = a/b and y = c/d
+
+difference_refused : (x y : Rational) → difference_fits x y ≡ false → exact_difference x y ≡ None
+unfolding exact_difference
+difference_refused x y e = rw e
+
+pub difference_refuses_left : (x y : Rational) → ¬ (IsTrue (is_small (x.num *ℤ pos y.den))) → exact_difference x y ≡ None
+unfolding difference_fits
+difference_refuses_left x y h = difference_refused x y (four_first (is_small (x.num *ℤ pos y.den)) (is_small (y.num *ℤ pos x.den)) (is_small (pos x.den *ℤ pos y.den)) (is_small (x.num *ℤ pos y.den -ℤ y.num *ℤ pos x.den)) h)
+
+pub difference_refuses_right : (x y : Rational) → ¬ (IsTrue (is_small (y.num *ℤ pos x.den))) → exact_difference x y ≡ None
+unfolding difference_fits
+difference_refuses_right x y h = difference_refused x y (four_second (is_small (x.num *ℤ pos y.den)) (is_small (y.num *ℤ pos x.den)) (is_small (pos x.den *ℤ pos y.den)) (is_small (x.num *ℤ pos y.den -ℤ y.num *ℤ pos x.den)) h)
+
+pub difference_refuses_den : (x y : Rational) → ¬ (IsTrue (is_small (pos x.den *ℤ pos y.den))) → exact_difference x y ≡ None
+unfolding difference_fits
+difference_refuses_den x y h = difference_refused x y (four_third (is_small (x.num *ℤ pos y.den)) (is_small (y.num *ℤ pos x.den)) (is_small (pos x.den *ℤ pos y.den)) (is_small (x.num *ℤ pos y.den -ℤ y.num *ℤ pos x.den)) h)
+
+pub difference_refuses_num : (x y : Rational) (l r : ℤ) → Made l (x.num *ℤ pos y.den) → Made r (y.num *ℤ pos x.den) → ¬ (IsTrue (is_small (to_z w128 (of_z w128 l) -ℤ to_z w128 (of_z w128 r)))) → exact_difference x y ≡ None
+unfolding difference_fits
+difference_refuses_num x y l r p q h =
+    let k : ¬ (IsTrue (is_small (x.num *ℤ pos y.den -ℤ y.num *ℤ pos x.den))) = subst (λ (z : ℤ). ¬ (IsTrue (is_small z))) (ap₂ (λ (u v : ℤ). u -ℤ v) (seen l _ p) (seen r _ q)) h in
+    difference_refused x y (four_fourth (is_small (x.num *ℤ pos y.den)) (is_small (y.num *ℤ pos x.den)) (is_small (pos x.den *ℤ pos y.den)) (is_small (x.num *ℤ pos y.den -ℤ y.num *ℤ pos x.den)) k)
+
+difference_given : (x y : Rational) → difference_fits x y ≡ true → exact_difference x y ≡ Some (x -ʳ y)
+unfolding exact_difference
+difference_given x y e = rw e
+
+pub difference_made : (x y r : Rational) (left right den num : ℤ) → Made left (x.num *ℤ pos y.den) → Made right (y.num *ℤ pos x.den) → Made den (pos x.den *ℤ pos y.den) → Made num (to_z w128 (of_z w128 left) -ℤ to_z w128 (of_z w128 right)) → r ≡ ratio (to_z w128 (of_z w128 num)) (unsigned_abs (to_z w128 (of_z w128 den))) → Some r ≡ exact_difference x y
+unfolding difference_fits
+difference_made x y r left right den num p q d n e =
+    let s : to_z w128 (of_z w128 left) -ℤ to_z w128 (of_z w128 right) ≡ x.num *ℤ pos y.den -ℤ y.num *ℤ pos x.den = ap₂ (λ (u v : ℤ). u -ℤ v) (seen left _ p) (seen right _ q) in
+    let m : Made num (x.num *ℤ pos y.den -ℤ y.num *ℤ pos x.den) = subst (λ (z : ℤ). Made num z) s n in
+    ap Some (e ∙ fraction_seen num den _ (x.den * y.den) m d ∙ sym (difference_parts x y)) ∙ sym (difference_given x y (four (is_small (x.num *ℤ pos y.den)) (is_small (y.num *ℤ pos x.den)) (is_small (pos x.den *ℤ pos y.den)) (is_small (x.num *ℤ pos y.den -ℤ y.num *ℤ pos x.den)) p.0 q.0 d.0 m.0))
 
 -- ---- Products
 

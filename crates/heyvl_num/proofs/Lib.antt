@@ -3,3 +3,4 @@ pub mod Rationals
 pub mod Values
 pub mod Reducing
 pub mod Fitting
+pub mod Roundings

@@ -6,3 +6,4 @@ pub mod Value
 pub mod Exact
 pub mod Extended
 pub mod ExactValues
+pub mod Rounding

@@ -1,12 +1,13 @@
 //! Exact fractions in lowest terms.
-ghost use Rattle.std.specs.Prelude.{◌≡◌, ◌<◌, ◌^◌, pos, ◌*ℤ◌, ◌<ℤ◌, unsigned_abs, int_div, SomeIff, IsTrue};
+ghost use Rattle.std.specs.Prelude.{◌≡◌, ◌<◌, ◌^◌, pos, ◌*ℤ◌, ◌<ℤ◌, unsigned_abs, neg_ℤ, int_div, SomeIff, IsTrue};
 ghost use Rattle.std.proofs.Common.{ap, ◌∙◌};
 ghost use Rattle.heyvl_num.specs.Gcd as euclid;
 ghost use Rattle.heyvl_num.specs.Rational.{Rational, ratio};
 ghost use Rattle.heyvl_num.specs.RationalParts.{ratio_num-lowest, ratio_den-lowest, abs-pos, pos-abs};
-ghost use Rattle.heyvl_num.specs.Exact.{is_small, quotient_fits, exact_quotient, exact_sum, exact_product, exact_order};
+ghost use Rattle.heyvl_num.specs.Exact.{is_small, quotient_fits, exact_quotient, exact_sum, exact_difference, exact_product, exact_order};
+ghost use Rattle.heyvl_num.specs.Rounding.{floorʳ, ceilʳ, IsFloor, IsCeiling};
 
-use crate::bounded::{product, sum};
+use crate::bounded::{difference, product, sum};
 use crate::divisors::gcd;
 use std::cmp::Ordering;
 use std::marker::Model;
@@ -69,6 +70,18 @@ impl Frac {
         Some(Frac::reduced(num, den))
     }
 
+    /// The difference. For a/b and c/d, None exactly where `a*d`, `c*b`, `b*d` or `a*d - c*b` reaches 2^127 in absolute
+    /// value.
+    pub fn sub(&self, other: &Frac) -> Option<Frac>
+        ensures { result ≡ exact_difference self.now other.now }
+    {
+        let left = self.num_times_den(other)?;
+        let right = other.num_times_den(self)?;
+        let den = self.den_times_den(other)?;
+        let num = difference(left, right)?;
+        Some(Frac::reduced(num, den))
+    }
+
     /// The product. For a/b and c/d, None exactly where `a*c` or `b*d` reaches 2^127 in absolute value.
     pub fn mul(&self, other: &Frac) -> Option<Frac>
         ensures { result ≡ exact_product self.now other.now }
@@ -85,6 +98,29 @@ impl Frac {
         let left = self.num_times_den(other)?;
         let right = other.num_times_den(self)?;
         Some(left.cmp(&right))
+    }
+
+    /// The greatest whole number that is at most the fraction.
+    pub fn floor(&self) -> i128
+        ensures value { result ≡ floorʳ self.now }
+        ensures greatest { IsFloor self.now result }
+    {
+        self.num().div_euclid(self.den())
+    }
+
+    /// The least whole number that is at least the fraction.
+    pub fn ceil(&self) -> i128
+        ensures value { result ≡ ceilʳ self.now }
+        ensures least { IsCeiling self.now result }
+    {
+        -self.negated_num().div_euclid(self.den())
+    }
+
+    fn negated_num(&self) -> i128
+        ensures value { result ≡ neg_ℤ self.now.num }
+        ensures small { unsigned_abs result < 2 ^ 127 }
+    {
+        -self.num
     }
 
     fn num_times_num(&self, other: &Frac) -> Option<i128>
