@@ -7,3 +7,4 @@ pub mod Roundings
 pub mod Signs
 pub mod WeightedSums
 pub mod ValueOperators
+pub mod Uses

@@ -11,6 +11,7 @@ use Rattle.std.proofs.Math.IntN.{ℤ, pos, ◌+ℤ◌, ◌*ℤ◌, neg_ℤ}
 use Rattle.std.proofs.Math.Nat.{mul-pos}
 use borrow.Author.Differences.{ints}
 use Rattle.heyvl_num.specs.Rational.{Rational, ratio, zeroʳ, oneʳ, halfʳ, middleʳ, ◌+ʳ◌, ◌*ʳ◌, ◌-ʳ◌, negʳ, leqʳ, ◌≤ʳ◌, ◌<ʳ◌, compareʳ}
+use Rattle.heyvl_num.specs.Rounding.{whole}
 use Rattle.heyvl_num.proofs.Integers.{neg-*ℤ, one-*ℤ, *ℤ-one, zero_times}
 use Rattle.heyvl_num.proofs.Rationals.{each_ratio, ratio_same, ratio-+, ratio-*, ratio-neg, same_cross, ratio_nonnegative, +ʳ_comm, +ʳ_assoc, *ʳ_comm, *ʳ_assoc, *ʳ-+ʳ, +ʳ-*ʳ, zero-+ʳ, +ʳ-zero, zero-*ʳ, one-*ʳ, ≤ʳ_refl, +ʳ_mono, *ʳ_mono, *ʳ_nonnegative}
 
@@ -129,7 +130,8 @@ undone : (n : ℕ) (x : Rational) → 0 < n → ratio (pos 1) n *ʳ (ratio (pos 
 undone n x p = sym (*ʳ_assoc (ratio (pos 1) n) (ratio (pos n) 1) x) ∙ ap (λ z. z *ʳ x) (inverse n p) ∙ one-*ʳ x
 
 -- a positive whole number as a factor keeps the order, both ways
-pub times_whole : (n : ℕ) (x y : Rational) → 0 < n → (x ≤ʳ y) ↔ (ratio (pos n) 1 *ʳ x ≤ʳ ratio (pos n) 1 *ʳ y)
+pub times_whole : (n : ℕ) (x y : Rational) → 0 < n → (x ≤ʳ y) ↔ (whole (pos n) *ʳ x ≤ʳ whole (pos n) *ʳ y)
+unfolding whole
 times_whole n x y p = (
   λ h. *ʳ_mono (ratio (pos n) 1) x y (ratio_nonnegative (pos n) 1 (omega arith) (omega (arith, ints))) h,
   λ h. subst (λ u. u ≤ʳ y) (undone n x p) (subst (λ u. ratio (pos 1) n *ʳ (ratio (pos n) 1 *ʳ x) ≤ʳ u) (undone n y p) (*ʳ_mono (ratio (pos 1) n) (ratio (pos n) 1 *ʳ x) (ratio (pos n) 1 *ʳ y) (ratio_nonnegative (pos 1) n p (omega (arith, ints))) h)),

@@ -47,6 +47,9 @@ min_greatest x y z p q = go (order_cases x y)
     go (inl h) = rw h.0 p
     go (inr h) = rw h.0 q
 
+pub min_adjoint : (x y z : Value) → (z ≤ᵛ minᵛ x y) ↔ ((z ≤ᵛ x) × (z ≤ᵛ y))
+min_adjoint x y z = (λ h. (≤ᵛ_trans z (minᵛ x y) x h (min_below_left x y), ≤ᵛ_trans z (minᵛ x y) y h (min_below_right x y)), λ h. min_greatest x y z h.0 h.1)
+
 pub min_mono : (x x' y y' : Value) → x ≤ᵛ x' → y ≤ᵛ y' → minᵛ x y ≤ᵛ minᵛ x' y'
 min_mono x x' y y' p q = min_greatest x' y' (minᵛ x y) (≤ᵛ_trans (minᵛ x y) x x' (min_below_left x y) p) (≤ᵛ_trans (minᵛ x y) y y' (min_below_right x y) q)
 
@@ -78,6 +81,9 @@ max_least x y z p q = go (order_cases x y)
     go : ((leqᵛ x y ≡ true) × (x ≤ᵛ y)) ⊎ ((leqᵛ x y ≡ false) × (y ≤ᵛ x)) → maxᵛ x y ≤ᵛ z
     go (inl h) = rw h.0 q
     go (inr h) = rw h.0 p
+
+pub max_adjoint : (x y z : Value) → (maxᵛ x y ≤ᵛ z) ↔ ((x ≤ᵛ z) × (y ≤ᵛ z))
+max_adjoint x y z = (λ h. (≤ᵛ_trans x (maxᵛ x y) z (max_above_left x y) h, ≤ᵛ_trans y (maxᵛ x y) z (max_above_right x y) h), λ h. max_least x y z h.0 h.1)
 
 pub max_mono : (x x' y y' : Value) → x ≤ᵛ x' → y ≤ᵛ y' → maxᵛ x y ≤ᵛ maxᵛ x' y'
 max_mono x x' y y' p q = max_least x y (maxᵛ x' y') (≤ᵛ_trans x x' (maxᵛ x' y') p (max_above_left x' y')) (≤ᵛ_trans y y' (maxᵛ x' y') q (max_above_right x' y'))

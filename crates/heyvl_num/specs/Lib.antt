@@ -9,3 +9,5 @@ pub mod ExactValues
 pub mod Rounding
 pub mod ValueOperators
 pub mod WeightedSums
+pub mod FractionLaws
+pub mod ValueLaws
