@@ -4,7 +4,7 @@
 use Rattle.std.proofs.Common.{◌≡◌, ℕ, ◌*◌, ◌/◌, ◌<◌, ◌⊎◌, inl, inr, refl, sym, ap, ap₂, ◌∙◌, subst, arith}
 use Rattle.std.specs.Prelude.{◌≤ℤ◌}
 use Rattle.std.specs.Int.Signed.{le_z}
-use Rattle.std.proofs.Math.IntN.{ℤ, pos, negsuc, ◌+ℤ◌, ◌*ℤ◌, neg_ℤ}
+use Rattle.std.proofs.Math.IntN.{ℤ, pos, negsuc, ◌+ℤ◌, ◌-ℤ◌, ◌*ℤ◌, neg_ℤ}
 use Rattle.std.specs.Int.RustNames.{int_div, unsigned_abs}
 use borrow.Author.Differences.{ints}
 use Prim.Native.Nat.{suc, zero}
@@ -14,7 +14,7 @@ use Rattle.std.proofs.Math.Nat.{ℕ_set, mul-pos, div-one}
 use Rattle.std.proofs.lemmas.Int.{by_lt_z}
 use Rattle.heyvl_num.specs.Gcd.{gcd}
 use Rattle.heyvl_num.specs.GcdLaws.{quotient_num, quotient_den, quotient_scale, quotient_scale_den}
-use Rattle.heyvl_num.specs.Rational.{Rational, ratio, zeroʳ, oneʳ, ◌+ʳ◌, ◌*ʳ◌, negʳ, leqʳ, ◌≤ʳ◌}
+use Rattle.heyvl_num.specs.Rational.{Rational, ratio, zeroʳ, oneʳ, ◌+ʳ◌, ◌*ʳ◌, negʳ, ◌-ʳ◌, leqʳ, ◌≤ʳ◌}
 use Rattle.heyvl_num.proofs.Integers as whole
 use Rattle.heyvl_num.proofs.Integers.{neg-*ℤ, ≤ℤ-scale, ≤ℤ-cancel, one-*ℤ, *ℤ-one, zero_times, zero-+ℤ, le_test, test_le, same_test}
 
@@ -37,7 +37,7 @@ ratio_den a (suc b) h = refl
 cross_nat : (a b : ℕ) → (a / gcd a b) * b ≡ a * (b / gcd a b)
 cross_nat a b = omega (arith, ap (λ x. a / gcd a b * x) (quotient_den a b), ap (λ x. x * (b / gcd a b)) (quotient_num a b))
 
-div_cross : (a : ℤ) (b : ℕ) → int_div a (pos (gcd (unsigned_abs a) b)) *ℤ pos b ≡ a *ℤ pos (b / gcd (unsigned_abs a) b)
+pub div_cross : (a : ℤ) (b : ℕ) → int_div a (pos (gcd (unsigned_abs a) b)) *ℤ pos b ≡ a *ℤ pos (b / gcd (unsigned_abs a) b)
 div_cross (pos a) b = ap pos (cross_nat a b)
 div_cross (negsuc a) b = neg-*ℤ (pos (suc a / gcd (suc a) b)) (pos b) ∙ ap (λ n. neg_ℤ (pos n)) (cross_nat (suc a) b)
 
@@ -105,6 +105,17 @@ cross_neg m n a b e = rw (neg-*ℤ m b, neg-*ℤ a n, e)
 pub ratio-neg : (a : ℤ) (b : ℕ) → 0 < b → negʳ (ratio a b) ≡ ratio (neg_ℤ a) b
 unfolding negʳ
 ratio-neg a b p = ratio_same _ _ _ _ (ratio a b).positive p (cross_neg (ratio a b).num (pos (ratio a b).den) a (pos b) (ratio_cross a b p))
+
+difference_num : (a b c d : ℤ) → a *ℤ d +ℤ neg_ℤ c *ℤ b ≡ a *ℤ d -ℤ c *ℤ b
+difference_num a b c d = rw (neg-*ℤ c b) (omega (arith, ints))
+
+pub ratio-- : (a : ℤ) (b : ℕ) (c : ℤ) (d : ℕ) → 0 < b → 0 < d → ratio a b -ʳ ratio c d ≡ ratio (a *ℤ pos d -ℤ c *ℤ pos b) (b * d)
+unfolding ◌-ʳ◌
+ratio-- a b c d p q = ap (λ z. ratio a b +ʳ z) (ratio-neg c d q) ∙ ratio-+ a b (neg_ℤ c) d p q ∙ ap (λ n. ratio n (b * d)) (difference_num a (pos b) c (pos d))
+
+-- the difference of two fractions by their parts
+pub difference_parts : (x y : Rational) → x -ʳ y ≡ ratio (x.num *ℤ pos y.den -ℤ y.num *ℤ pos x.den) (x.den * y.den)
+difference_parts x y = ap₂ (λ u v. u -ʳ v) (sym (ratio_parts x)) (sym (ratio_parts y)) ∙ ratio-- x.num x.den y.num y.den x.positive y.positive
 
 sum_comm : (a b c d : ℤ) → (a *ℤ d +ℤ c *ℤ b) *ℤ (d *ℤ b) ≡ (c *ℤ b +ℤ a *ℤ d) *ℤ (b *ℤ d)
 sum_comm a b c d = simp whole.ring
@@ -207,6 +218,13 @@ ratio-≤_out a b c d p q h = test_le _ _ (sym (leq_ratio a b c d p q) ∙ h.hol
 
 pub ≤ʳ_refl : (x : Rational) → x ≤ʳ x
 ≤ʳ_refl x = order_cross x x (omega (arith, ints))
+
+-- equal fractions have equal cross products
+pub ratio_equal_cross : (a : ℤ) (b : ℕ) (c : ℤ) (d : ℕ) → 0 < b → 0 < d → ratio a b ≡ ratio c d → a *ℤ pos d ≡ c *ℤ pos b
+ratio_equal_cross a b c d p q e =
+    let h = ratio-≤_out a b c d p q (subst (λ z. ratio a b ≤ʳ z) e (≤ʳ_refl (ratio a b))) in
+    let k = ratio-≤_out c d a b q p (subst (λ z. z ≤ʳ ratio a b) e (≤ʳ_refl (ratio a b))) in
+    omega (arith, ints)
 
 pub ≤ʳ_trans : (x y z : Rational) → x ≤ʳ y → y ≤ʳ z → x ≤ʳ z
 ≤ʳ_trans x y z h k = order_cross x z (≤ℤ-cancel _ _ y.den y.positive (let h1 = simp whole.ring at (≤ℤ-scale _ _ z.den (cross_order x y h)) in let k1 = simp whole.ring at (≤ℤ-scale _ _ x.den (cross_order y z k)) in simp whole.ring (omega (arith, ints))))
