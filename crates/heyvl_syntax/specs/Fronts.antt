@@ -14,8 +14,7 @@ use Rattle.heyvl_syntax.specs.declared.tokens.TokenKind.TheVariants as kinds
 use Rattle.std.specs.Char.{is_ascii_digit}
 use Rattle.std.specs.Cmp.Lexicographic.{pointwise}
 use Rattle.std.specs.List.{find, position_or_len, prefix_len, starts_with}
-use Rattle.std.specs.Option.{option_map}
-use Rattle.std.specs.Prelude.{List, None, Option, Some, [], cond, drop, length, nat_eq, suc, take, zero, ◌+◌, ◌==◌, ◌||◌, ◌∷◌, ℕ}
+use Rattle.std.specs.Prelude.{List, None, Option, Some, [], cond, drop, length, nat_eq, nat_lt, suc, take, zero, ◌+◌, ◌==◌, ◌^◌, ◌||◌, ◌∷◌, ℕ}
 
 -- The keys, in the language's order.
 abbrev pub all_keys : List Key
@@ -43,10 +42,13 @@ key_of text = find (λ key. pointwise nat_eq text (key_text key)) all_keys
 abbrev pub mark_of : List ℕ → Option Mark
 mark_of bytes = find (λ mark. starts_with nat_eq bytes (mark_text mark)) marks_by_length
 
--- The first place at which `*/` stands.
+-- The first place at which `*/` stands, where n bytes stand before these.
+abbrev pub close_from : ℕ → List ℕ → Option ℕ
+close_from n [] = None
+close_from n (b ∷ bs) = cond (closes_at (b ∷ bs) 0) (Some n) (close_from (n + 1) bs)
+
 abbrev pub first_close : List ℕ → Option ℕ
-first_close [] = None
-first_close (b ∷ bs) = cond (closes_at (b ∷ bs) 0) (Some 0) (option_map suc (first_close bs))
+first_close bytes = close_from 0 bytes
 
 abbrev pub block_front : Option ℕ → Front
 block_front None = fronts.Fault 2 2
@@ -71,6 +73,10 @@ fraction_len (b ∷ bs) = cond (is_point b) (with_point (prefix_len is_ascii_dig
 abbrev pub number_len : List ℕ → ℕ
 number_len bytes =
     prefix_len is_ascii_digit bytes + fraction_len (drop (prefix_len is_ascii_digit bytes) bytes)
+
+-- A number below 2^127.
+abbrev pub below_limit : ℕ → Option ℕ
+below_limit n = cond (nat_lt n (2 ^ 127)) (Some n) None
 
 abbrev pub number_front : List ℕ → ℕ → Front
 number_front text n = cond (is_too_large text) (fronts.Fault 3 n) (fronts.Token (kinds.Number (literal text)) n)

@@ -1,6 +1,8 @@
 //! Places, names, literals, tokens and the lexer of HeyVL.
 #![tactic(auto)]
 
+mod bytes;
+mod comments;
 mod fronts;
 mod keys;
 mod literals;
