@@ -1,5 +1,8 @@
 pub mod Closing
 pub mod Digits
+pub mod FrontIs
+pub mod Longest
 mod Rows
 pub mod Runs
+pub mod Starts
 pub mod Tables
