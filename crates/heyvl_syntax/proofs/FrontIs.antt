@@ -42,9 +42,9 @@ longest_from : (bytes : List ℕ) (kind : TokenKind) (n : ℕ) → IsTokenOf byt
 longest_from bytes kind n token bound = record {
   token = token;
   longest = λ other m less longer.
-    let le = bound other (take m bytes) (drop m bytes) longer.1 (take-append-drop m bytes) in
-    let len = length-take-le m bytes longer.0 in
-    omega arith;
+      let le = bound other (take m bytes) (drop m bytes) longer.1 (take-append-drop m bytes) in
+      let len = length-take-le m bytes longer.0 in
+      omega arith;
 }
 
 starts_text : (bytes text : List ℕ) → starts_with nat_eq bytes text ≡ true → text ≡ take (length text) bytes
@@ -81,12 +81,16 @@ no_token_from : (bytes : List ℕ) → ((kind : TokenKind) (text rest : List ℕ
 no_token_from bytes none kind n (within, token) = none kind (take n bytes) (drop n bytes) token (take-append-drop n bytes)
 
 nothing_at : (b : ℕ) (bs : List ℕ) → is_white b ≡ false → opens_comment (b ∷ bs) ≡ false → ((kind : TokenKind) (text rest : List ℕ) → IsToken kind text rest → text ++ rest ≡ b ∷ bs → ⊥) → IsFault (b ∷ bs) 1 1
-nothing_at b bs w c none = inl (refl, refl, record {
-  more = omega arith;
-  no_white = λ (yes : is_white b ≡ true). cc;
-  no_comment = c;
-  no_token = no_token_from (b ∷ bs) none;
-})
+nothing_at b bs w c none = inl (
+  refl,
+  refl,
+  record {
+    more = omega arith;
+    no_white = λ (yes : is_white b ≡ true). cc;
+    no_comment = c;
+    no_token = no_token_from (b ∷ bs) none;
+  },
+)
 
 word_len-is : (b : ℕ) (bs : List ℕ) → length (word_text (b ∷ bs)) ≡ suc (prefix_len is_word_byte bs)
 word_len-is b bs = length-take-le (suc (prefix_len is_word_byte bs)) (b ∷ bs) (omega (arith, prefix_len-le-length is_word_byte bs))
@@ -132,6 +136,7 @@ mark-is b bs (Some mark) o d w c h = (c, longest_from (b ∷ bs) (kinds.Mark mar
   where
     token : IsTokenOf (b ∷ bs) (kinds.Mark mark) (length (mark_text mark))
     token = (starts_len (b ∷ bs) (mark_text mark) (mark_starts (b ∷ bs) mark h), sym (starts_text (b ∷ bs) (mark_text mark) (mark_starts (b ∷ bs) mark h)))
+
     bound : BoundsTokens (b ∷ bs) (length (mark_text mark))
     bound kind text rest token all =
         let (other, is, same) = mark_token kind text rest b bs o d token all in

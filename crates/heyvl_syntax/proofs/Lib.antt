@@ -5,4 +5,5 @@ pub mod Longest
 mod Rows
 pub mod Runs
 pub mod Starts
+pub mod Steps
 pub mod Tables

@@ -140,6 +140,7 @@ fraction_len-le (c ∷ cs) = pick (is_point c)
     within : (n : ℕ) → n ≤ length cs → with_point n ≤ suc (length cs)
     within zero h = omega arith
     within (suc n) h = omega arith
+
     pick : (x : Bool) → cond x (with_point (prefix_len is_ascii_digit cs)) 0 ≤ suc (length cs)
     pick true = within (prefix_len is_ascii_digit cs) (prefix_len-le-length is_ascii_digit cs)
     pick false = omega arith
