@@ -7,3 +7,5 @@ pub mod Runs
 pub mod Starts
 pub mod Steps
 pub mod Tables
+pub mod Total
+pub mod Unique
