@@ -1,1 +1,11 @@
+pub mod Closing
+pub mod Digits
+pub mod FrontIs
+pub mod Longest
 mod Rows
+pub mod Runs
+pub mod Starts
+pub mod Steps
+pub mod Tables
+pub mod Total
+pub mod Unique

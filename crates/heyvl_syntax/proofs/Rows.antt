@@ -1,6 +1,6 @@
 -- Worked rows of the definitions of tokens, computed.
 
-use Rattle.heyvl_syntax.specs.Fronts.{front}
+use Rattle.heyvl_syntax.specs.Fronts.{front_of}
 use Rattle.heyvl_syntax.specs.Literals.{is_too_large, literal}
 use Rattle.heyvl_syntax.specs.declared.fronts.Front.TheVariants as fronts
 use Rattle.heyvl_syntax.specs.declared.keys.Key.TheVariants as keys
@@ -48,65 +48,65 @@ places_39 : is_too_large (codes "0.000000000000000000000000000000000000000") ≡
 places_39 = refl
 
 -- What stands at the front.
-no_bytes : front [] ≡ fronts.End
+no_bytes : front_of [] ≡ fronts.End
 no_bytes = refl
 
-nul : front (0 ∷ []) ≡ fronts.Fault 1 1
+nul : front_of (0 ∷ []) ≡ fronts.Fault 1 1
 nul = refl
 
-carriage_return : front (13 ∷ 97 ∷ []) ≡ fronts.Blank 1
+carriage_return : front_of (13 ∷ 97 ∷ []) ≡ fronts.Blank 1
 carriage_return = refl
 
-open_comment : front (codes "/* a") ≡ fronts.Fault 2 2
+open_comment : front_of (codes "/* a") ≡ fronts.Fault 2 2
 open_comment = refl
 
-shared_star : front (codes "/*/") ≡ fronts.Fault 2 2
+shared_star : front_of (codes "/*/") ≡ fronts.Fault 2 2
 shared_star = refl
 
-not_nested : front (codes "/* /* */ */") ≡ fronts.Blank 8
+not_nested : front_of (codes "/* /* */ */") ≡ fronts.Blank 8
 not_nested = refl
 
-stars : front (codes "/***/") ≡ fronts.Blank 5
+stars : front_of (codes "/***/") ≡ fronts.Blank 5
 stars = refl
 
-line_to_the_end : front (codes "// a") ≡ fronts.Blank 4
+line_to_the_end : front_of (codes "// a") ≡ fronts.Blank 4
 line_to_the_end = refl
 
-line_to_the_line_feed : front (47 ∷ 47 ∷ 200 ∷ 10 ∷ 97 ∷ []) ≡ fronts.Blank 3
+line_to_the_line_feed : front_of (47 ∷ 47 ∷ 200 ∷ 10 ∷ 97 ∷ []) ≡ fronts.Blank 3
 line_to_the_line_feed = refl
 
-coimply : front (codes "<==b") ≡ fronts.Token (kinds.Mark marks.CoImply) 3
+coimply : front_of (codes "<==b") ≡ fronts.Token (kinds.Mark marks.CoImply) 3
 coimply = refl
 
-at_most : front (codes "<= =b") ≡ fronts.Token (kinds.Mark marks.AtMost) 2
+at_most : front_of (codes "<= =b") ≡ fronts.Token (kinds.Mark marks.AtMost) 2
 at_most = refl
 
-one_point : front (codes "1.") ≡ fronts.Token (kinds.Number (record { digits = pos 1; places = 0 })) 1
+one_point : front_of (codes "1.") ≡ fronts.Token (kinds.Number (record { digits = pos 1; places = 0 })) 1
 one_point = refl
 
-point_five : front (codes ".5") ≡ fronts.Token (kinds.Mark marks.Dot) 1
+point_five : front_of (codes ".5") ≡ fronts.Token (kinds.Mark marks.Dot) 1
 point_five = refl
 
-one_point_five : front (codes "1.5.2") ≡ fronts.Token (kinds.Number (record { digits = pos 15; places = 1 })) 3
+one_point_five : front_of (codes "1.5.2") ≡ fronts.Token (kinds.Number (record { digits = pos 15; places = 1 })) 3
 one_point_five = refl
 
-cap : front (codes "\\cap x") ≡ fronts.Token (kinds.Key keys.Cap) 4
+cap : front_of (codes "\\cap x") ≡ fronts.Token (kinds.Key keys.Cap) 4
 cap = refl
 
-cap_x : front (codes "\\capx") ≡ fronts.Fault 1 1
+cap_x : front_of (codes "\\capx") ≡ fronts.Fault 1 1
 cap_x = refl
 
-cap_underscore : front (codes "\\cap_") ≡ fronts.Fault 1 1
+cap_underscore : front_of (codes "\\cap_") ≡ fronts.Fault 1 1
 cap_underscore = refl
 
-proc : front (codes "proc(") ≡ fronts.Token (kinds.Key keys.Proc) 4
+proc : front_of (codes "proc(") ≡ fronts.Token (kinds.Key keys.Proc) 4
 proc = refl
 
-proc_of : front (codes "proc_1 ") ≡ fronts.Token (kinds.Word (codes "proc_1")) 6
+proc_of : front_of (codes "proc_1 ") ≡ fronts.Token (kinds.Word (codes "proc_1")) 6
 proc_of = refl
 
-number_then_word : front (codes "1a") ≡ fronts.Token (kinds.Number (record { digits = pos 1; places = 0 })) 1
+number_then_word : front_of (codes "1a") ≡ fronts.Token (kinds.Number (record { digits = pos 1; places = 0 })) 1
 number_then_word = refl
 
-high_byte : front (200 ∷ []) ≡ fronts.Fault 1 1
+high_byte : front_of (200 ∷ []) ≡ fronts.Fault 1 1
 high_byte = refl

@@ -14,8 +14,7 @@ use Rattle.heyvl_syntax.specs.declared.tokens.TokenKind.TheVariants as kinds
 use Rattle.std.specs.Char.{is_ascii_digit}
 use Rattle.std.specs.Cmp.Lexicographic.{pointwise}
 use Rattle.std.specs.List.{find, position_or_len, prefix_len, starts_with}
-use Rattle.std.specs.Option.{option_map}
-use Rattle.std.specs.Prelude.{List, None, Option, Some, [], cond, drop, length, nat_eq, suc, take, zero, ◌+◌, ◌==◌, ◌||◌, ◌∷◌, ℕ}
+use Rattle.std.specs.Prelude.{Bool, List, None, Option, Some, [], cond, false, drop, length, nat_eq, nat_lt, suc, take, true, zero, ◌+◌, ◌==◌, ◌^◌, ◌||◌, ◌∷◌, ◌<◌, ◌≤◌, ℕ}
 
 -- The keys, in the language's order.
 abbrev pub all_keys : List Key
@@ -43,21 +42,23 @@ key_of text = find (λ key. pointwise nat_eq text (key_text key)) all_keys
 abbrev pub mark_of : List ℕ → Option Mark
 mark_of bytes = find (λ mark. starts_with nat_eq bytes (mark_text mark)) marks_by_length
 
--- The first place at which `*/` stands.
+-- The first place at which `*/` stands, where n bytes stand before these.
+abbrev pub close_from : ℕ → List ℕ → Option ℕ
+close_from n [] = None
+close_from n (b ∷ bs) = cond (closes_at (b ∷ bs) 0) (Some n) (close_from (n + 1) bs)
+
 abbrev pub first_close : List ℕ → Option ℕ
-first_close [] = None
-first_close (b ∷ bs) = cond (closes_at (b ∷ bs) 0) (Some 0) (option_map suc (first_close bs))
+first_close bytes = close_from 0 bytes
 
 abbrev pub block_front : Option ℕ → Front
 block_front None = fronts.Fault 2 2
 block_front (Some inner) = fronts.Blank (2 + inner + 2)
 
--- A letter, `_` or `\` at the front, with the letters, digits and `_` behind it.
-abbrev pub word_front : List ℕ → List ℕ → Option Key → Front
-word_front [] text key = fronts.End
-word_front (b ∷ bs) text (Some key) = fronts.Token (kinds.Key key) (length text)
-word_front (b ∷ bs) text None =
-    cond (is_letter b) (fronts.Token (kinds.Word text) (length text)) (fronts.Fault 1 1)
+-- A text of a letter, `_` or `\` with the letters, digits and `_` behind it; whether its first byte begins a word.
+abbrev pub word_front : Bool → List ℕ → Option Key → Front
+word_front begins text (Some key) = fronts.Token (kinds.Key key) (length text)
+word_front true text None = fronts.Token (kinds.Word text) (length text)
+word_front false text None = fronts.Fault 1 1
 
 -- A point and digits, as far as they stand at the front.
 abbrev pub with_point : ℕ → ℕ
@@ -72,20 +73,37 @@ abbrev pub number_len : List ℕ → ℕ
 number_len bytes =
     prefix_len is_ascii_digit bytes + fraction_len (drop (prefix_len is_ascii_digit bytes) bytes)
 
-abbrev pub number_front : List ℕ → ℕ → Front
-number_front text n = cond (is_too_large text) (fronts.Fault 3 n) (fronts.Token (kinds.Number (literal text)) n)
+-- A number below 2^127.
+abbrev pub below_limit : ℕ → Option ℕ
+below_limit n = cond (nat_lt n (2 ^ 127)) (Some n) None
+
+abbrev pub number_front : List ℕ → Front
+number_front text =
+    cond (is_too_large text) (fronts.Fault 3 (length text)) (fronts.Token (kinds.Number (literal text)) (length text))
 
 abbrev pub mark_front : Option Mark → Front
 mark_front None = fronts.Fault 1 1
 mark_front (Some mark) = fronts.Token (kinds.Mark mark) (length (mark_text mark))
 
-abbrev pub front : List ℕ → Front
-front [] = fronts.End
-front (b ∷ bs) =
+abbrev pub word_text : List ℕ → List ℕ
+word_text [] = []
+word_text (b ∷ bs) = take (suc (prefix_len is_word_byte bs)) (b ∷ bs)
+
+abbrev pub number_text : List ℕ → List ℕ
+number_text bytes = take (number_len bytes) bytes
+
+abbrev pub front_of : List ℕ → Front
+front_of [] = fronts.End
+front_of (b ∷ bs) =
     cond (is_white b) (fronts.Blank 1)
     (cond (opens_line (b ∷ bs)) (fronts.Blank (position_or_len is_line_feed (b ∷ bs)))
     (cond (opens_block (b ∷ bs)) (block_front (first_close (drop 2 (b ∷ bs))))
-    (cond (is_letter b || b == 92)
-    (word_front (b ∷ bs) (take (suc (prefix_len is_word_byte bs)) (b ∷ bs)) (key_of (take (suc (prefix_len is_word_byte bs)) (b ∷ bs))))
-    (cond (is_ascii_digit b) (number_front (take (number_len (b ∷ bs)) (b ∷ bs)) (number_len (b ∷ bs)))
-    (mark_front (mark_of (b ∷ bs)))))))
+    (cond (is_letter b || b == 92) (word_front (is_letter b) (word_text (b ∷ bs)) (key_of (word_text (b ∷ bs))))
+    (cond (is_ascii_digit b) (number_front (number_text (b ∷ bs))) (mark_front (mark_of (b ∷ bs)))))))
+
+-- The front has at least one and at most this many bytes.
+abbrev pub IsInside : ℕ → Front → Type 0
+IsInside len fronts.End = Unit {0}
+IsInside len (fronts.Blank n) = (0 < n) × (n ≤ len)
+IsInside len (fronts.Token kind n) = (0 < n) × (n ≤ len)
+IsInside len (fronts.Fault number n) = (0 < n) × (n ≤ len)

@@ -6,6 +6,8 @@ use Rattle.heyvl_syntax.specs.Literals.{IsNumber, is_too_large, literal}
 use Rattle.heyvl_syntax.specs.Marks.{mark_text}
 use Rattle.heyvl_syntax.specs.declared.keys.Key.{Key}
 use Rattle.heyvl_syntax.specs.declared.spans.Span.{Span}
+use Rattle.heyvl_syntax.specs.declared.stops.LexStop.TheVariants as stops
+use Rattle.heyvl_syntax.specs.declared.stops.LexStop.{LexStop}
 use Rattle.heyvl_syntax.specs.declared.tokens.Token.{Token}
 use Rattle.heyvl_syntax.specs.declared.tokens.TokenKind.TheVariants as kinds
 use Rattle.heyvl_syntax.specs.declared.tokens.TokenKind.{TokenKind}
@@ -111,3 +113,8 @@ StopsAfter place bytes (part ∷ parts) number span =
 pub record Stops (place : ℕ) (bytes : List ℕ) (number : ℕ) (span : Span) : Type 0 where
   pub parts : List Part
   pub stops : StopsAfter place bytes parts number span
+
+-- Why lexing stops: the leftmost fault, or want of memory.
+abbrev pub IsStop : List ℕ → LexStop → Type 0
+IsStop bytes (stops.Fault number span) = Stops 0 bytes number span
+IsStop bytes (stops.Memory error) = Unit {0}
