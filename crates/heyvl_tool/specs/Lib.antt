@@ -1,6 +1,7 @@
 pub mod Procedure
 pub mod Grammar
 pub mod Limits
+pub mod Reading
 pub mod State
 pub mod Formula
 pub mod Acts

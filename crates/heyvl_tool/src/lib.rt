@@ -2,7 +2,11 @@
 #![tactic(auto)]
 
 mod answers;
+mod bodies;
+mod constants;
+mod expecting;
 mod first_form;
+mod stops;
 
 pub use answers::{Answer, GoalId, Val, Verdict};
 pub use first_form::{Constant, FirstForm, Stmt};
