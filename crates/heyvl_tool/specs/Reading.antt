@@ -1,6 +1,6 @@
 -- Reading as functions of the kinds of tokens: what was read, and the kinds behind it. The proofs of the reader go by
 -- these functions; what they are worth is said by the grammar alone.
-use Rattle.std.specs.Prelude.{◌≡◌, ℕ, ℤ, pos, negsuc, Bool, true, false, cond, List, [], ◌∷◌, ◌++◌, map, Option, Some, None, Result, Ok, Err, nat_eq, nat_le, is_some, position}
+use Rattle.std.specs.Prelude.{◌≡◌, ℕ, ℤ, pos, negsuc, Bool, true, false, cond, List, [], ◌∷◌, ◌++◌, map, Option, Some, None, Result, Ok, Err, nat_eq, nat_le, is_some, position, count_by, ◌+◌, ◌≤◌}
 use Prim.Native.Nat.{zero, suc}
 use Rattle.std.specs.Str.{bytes_eq}
 use denote.Enum.Bare.{sameb}
@@ -153,11 +153,15 @@ block_at ws (suc n) ks =
 abbrev pub param : List TokenKind → Read (List ℕ)
 param ks = word ks >>= λ w r1. expect_mark marks.Colon r1 >>= λ u1 r2. expect_key keys.BoolWord r2 >>= λ u2 r3. Got w r3
 
+-- A param with another name than these.
+abbrev pub new_param : List (List ℕ) → List TokenKind → Read (List ℕ)
+new_param ws ks = param ks >>= λ w r. cond (is_some (place w ws)) Refused (Got w r)
+
 -- At most so many further params, behind those with these names.
 unfoldable pub params_at : ℕ → List (List ℕ) → List TokenKind → Read (List (List ℕ))
 params_at zero ws ks = Refused
 params_at (suc n) ws ks =
-    param ks >>= λ w r. cond (is_some (place w ws)) Refused (pick (past_mark marks.Comma r) (params_at n (ws ++ (w ∷ []))) (Got (ws ++ (w ∷ [])) r))
+    new_param ws ks >>= λ w r. pick (past_mark marks.Comma r) (params_at n (ws ++ (w ∷ []))) (Got (ws ++ (w ∷ [])) r)
 
 -- The name, up to the params.
 abbrev pub title : List TokenKind → Read (List ℕ)
@@ -176,9 +180,9 @@ post_at ws ks =
     expect_key keys.Post ks >>= λ u1 r1. expect_mark marks.BracketLeft r1
     >>= λ u2 r2. variable ws r2 >>= λ x r3. expect_mark marks.BracketRight r3 >>= λ u3 r4. Got x r4
 
-abbrev pub ended : Procedure → List TokenKind → Read Procedure
-ended p [] = Got p []
-ended p (k ∷ ks) = Refused
+abbrev pub ended : List TokenKind → Read (Unit {0})
+ended [] = Got tt []
+ended (k ∷ ks) = Refused
 
 -- All of the kinds, as a procedure with at most so many outputs, and with at most so many statements in a block.
 abbrev pub file : ℕ → ℕ → List TokenKind → Read Procedure
@@ -187,4 +191,19 @@ file outputs statements ks =
     >>= λ ws r2. pre_at r2
     >>= λ c r3. post_at ws r3
     >>= λ x r4. braced (block_at ws statements) r4
-    >>= λ b r5. ended (record { name = w; outputs = ws; pre = c; post = x; body = b }) r5
+    >>= λ b r5. ended r5 >>= λ u r6. Got (record { name = w; outputs = ws; pre = c; post = x; body = b }) r6
+
+-- How many tokens are this key, or this mark.
+abbrev pub key_count : Key → List Token → ℕ
+key_count k tokens = count_by (λ t. is_key k t.kind) tokens
+
+abbrev pub mark_count : Mark → List Token → ℕ
+mark_count m tokens = count_by (λ t. is_mark m t.kind) tokens
+
+-- As many flips, rewards, ifs and statements as the first form may have, counted by tokens.
+abbrev pub KeepsCounts : List Token → Type 0
+KeepsCounts tokens =
+    (key_count keys.Flip tokens ≤ 6)
+    × (key_count keys.Reward tokens ≤ 4)
+    × (key_count keys.If tokens ≤ 16)
+    × (mark_count marks.Assign tokens + key_count keys.Reward tokens + key_count keys.If tokens ≤ 64)

@@ -1,23 +1,40 @@
 //! One token of a wanted sort at the front of others.
 
-ghost use Rattle.heyvl_tool.specs.Reading.{Gives, expect_key, expect_mark, kinds_of, number, past_key, past_mark, small, word};
+ghost use Rattle.heyvl_tool.specs.Reading.{Gives, expect_key, expect_mark, is_key, is_mark, kinds_of, number, past_key, past_mark, small, word};
 ghost use Rattle.std.specs.Prelude.{None, Some, MatchOption, ◌≡◌};
 
 use heyvl_syntax::{Key, Lit, Mark, Name, Token, TokenKind};
 
 use crate::stops::Stop;
 
+pub(crate) fn is_mark(mark: Mark, kind: &TokenKind) -> bool
+    ensures { result ≡ is_mark mark kind.now }
+{
+    match kind {
+        TokenKind::Mark(found) => *found == mark,
+        TokenKind::Word(_) => false,
+        TokenKind::Number(_) => false,
+        TokenKind::Key(_) => false,
+    }
+}
+
+pub(crate) fn is_key(key: Key, kind: &TokenKind) -> bool
+    ensures { result ≡ is_key key kind.now }
+{
+    match kind {
+        TokenKind::Key(found) => *found == key,
+        TokenKind::Word(_) => false,
+        TokenKind::Number(_) => false,
+        TokenKind::Mark(_) => false,
+    }
+}
+
 /// The tokens behind this mark, where it stands at the front.
 pub(crate) fn past_mark(mark: Mark, tokens: &[Token]) -> Option<&[Token]>
     ensures { MatchOption result (past_mark mark (kinds_of tokens.now) ≡ None) (λ rest. past_mark mark (kinds_of tokens.now) ≡ Some (kinds_of rest.now)) }
 {
     let (token, rest) = tokens.split_first()?;
-    match &token.kind {
-        TokenKind::Mark(found) => (*found == mark).then_some(rest),
-        TokenKind::Word(_) => None,
-        TokenKind::Number(_) => None,
-        TokenKind::Key(_) => None,
-    }
+    is_mark(mark, &token.kind).then_some(rest)
 }
 
 /// The tokens behind this key, where it stands at the front.
@@ -25,12 +42,7 @@ pub(crate) fn past_key(key: Key, tokens: &[Token]) -> Option<&[Token]>
     ensures { MatchOption result (past_key key (kinds_of tokens.now) ≡ None) (λ rest. past_key key (kinds_of tokens.now) ≡ Some (kinds_of rest.now)) }
 {
     let (token, rest) = tokens.split_first()?;
-    match &token.kind {
-        TokenKind::Key(found) => (*found == key).then_some(rest),
-        TokenKind::Word(_) => None,
-        TokenKind::Number(_) => None,
-        TokenKind::Mark(_) => None,
-    }
+    is_key(key, &token.kind).then_some(rest)
 }
 
 /// The tokens behind this mark, which has to stand at the front.

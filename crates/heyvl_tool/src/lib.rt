@@ -6,7 +6,10 @@ mod bodies;
 mod constants;
 mod expecting;
 mod first_form;
+mod heads;
+mod reading;
 mod stops;
 
 pub use answers::{Answer, GoalId, Val, Verdict};
 pub use first_form::{Constant, FirstForm, Stmt};
+pub use reading::read_first_form;
