@@ -1,5 +1,5 @@
 -- What reading gives is spelled by the kinds that it took.
-use Rattle.std.proofs.Common.{◌≡◌, ◌∙◌, refl, sym, ap, ℕ, ℤ, pos, negsuc, ◌+◌, ◌<◌, ◌≤◌, Bool, true, false, cond, eqb, leb, nat_eq, nat_le, List, [], ◌∷◌, ◌++◌, length, Option, Some, None, IfSome, arith, append_assoc}
+use Rattle.std.proofs.Common.{◌≡◌, ◌∙◌, refl, sym, ap, ℕ, ℤ, pos, negsuc, ◌+◌, ◌<◌, ◌≤◌, Bool, true, false, cond, eqb, leb, nat_eq, nat_le, List, [], ◌∷◌, ◌++◌, length, Option, Some, None, IfSome, is_some, arith, append_assoc, length-append}
 use Prim.Native.Nat.{zero, suc}
 use denote.Enum.Bare.{same_true}
 use Rattle.std.proofs.lemmas.Bool.{eqb-true, eqb-false, leb-true}
@@ -147,6 +147,9 @@ IsStatementAt ws ks s r = (ks ≡ statement_tokens ws s ++ r) × IsStatement (le
 abbrev IsBlockAt : List (List ℕ) → List TokenKind → Block → List TokenKind → Type 0
 IsBlockAt ws ks b r = (ks ≡ block_tokens ws b ++ (kinds.Mark marks.BraceRight ∷ r)) × IsBlock (length ws) b
 
+abbrev IsBracedAt : List (List ℕ) → List TokenKind → Block → List TokenKind → Type 0
+IsBracedAt ws ks b r = (ks ≡ kinds.Mark marks.BraceLeft ∷ (block_tokens ws b ++ (kinds.Mark marks.BraceRight ∷ r))) × IsBlock (length ws) b
+
 module _ (ws : List (List ℕ)) where
   flipped_sound : (x : ℕ) (ks r : List TokenKind) → ks ≡ kinds.Word (name_at x ws) ∷ kinds.Mark marks.Assign ∷ r → x < length ws → Sound (IsStatementAt ws ks) (flipped x r)
   flipped_sound x ks r e h =
@@ -171,22 +174,19 @@ module _ (ws : List (List ℕ)) where
   rewarded_sound ks r e = after (IsConstantAt r) (IsStatementAt ws ks) (constant r) _ (constant_sound r) (λ c r1 (e1, h). (rw (e, e1) refl, h))
 
   module _ (block : List TokenKind → Read Block) (block_sound : (ks : List TokenKind) → Sound (IsBlockAt ws ks) (block ks)) where
-    abbrev IsBracedAt : List TokenKind → Block → List TokenKind → Type 0
-    IsBracedAt ks b r = (ks ≡ kinds.Mark marks.BraceLeft ∷ (block_tokens ws b ++ (kinds.Mark marks.BraceRight ∷ r))) × IsBlock (length ws) b
-
-    pub braced_sound : (ks : List TokenKind) → Sound (IsBracedAt ks) (braced block ks)
-    braced_sound ks = marked (IsBracedAt ks) marks.BraceLeft ks _ (λ r e. front r e (block r) (block_sound r))
+    pub braced_sound : (ks : List TokenKind) → Sound (IsBracedAt ws ks) (braced block ks)
+    braced_sound ks = marked (IsBracedAt ws ks) marks.BraceLeft ks _ (λ r e. front r e (block r) (block_sound r))
       where
-        front : (r : List TokenKind) → Behind (kinds.Mark marks.BraceLeft) ks r → (read : Read Block) → Sound (IsBlockAt ws r) read → Sound (IsBracedAt ks) read
+        front : (r : List TokenKind) → Behind (kinds.Mark marks.BraceLeft) ks r → (read : Read Block) → Sound (IsBlockAt ws r) read → Sound (IsBracedAt ws ks) read
         front r e (Got b r1) (e1, h) = (rw (e, e1) refl, h)
         front r e Refused h = tt
 
     branch_sound : (ks r : List TokenKind) → Behind (kinds.Key keys.If) ks r → Sound (IsStatementAt ws ks) (branch block ws r)
     branch_sound ks r e =
         after (IsVariableAt ws r) (IsStatementAt ws ks) (variable ws r) _ (variable_sound ws r)
-        (λ x r1 (e1, h1). after (IsBracedAt r1) (IsStatementAt ws ks) (braced block r1) _ (braced_sound r1)
+        (λ x r1 (e1, h1). after (IsBracedAt ws r1) (IsStatementAt ws ks) (braced block r1) _ (braced_sound r1)
         (λ a r2 (e2, h2). keyed (IsStatementAt ws ks) keys.Else r2 _
-        (λ r3 e3. after (IsBracedAt r3) (IsStatementAt ws ks) (braced block r3) _ (braced_sound r3)
+        (λ r3 e3. after (IsBracedAt ws r3) (IsStatementAt ws ks) (braced block r3) _ (braced_sound r3)
         (λ b r4 (e4, h4). (rw (e, e1, e2, e3, e4) (simp append_assoc), (h1, h2, h4))))))
 
     pub statement_sound : (ks : List TokenKind) → Sound (IsStatementAt ws ks) (statement_at block ws ks)
@@ -203,3 +203,113 @@ block_sound ws (suc n) ks =
     (after (IsStatementAt ws ks) (IsBlockAt ws ks) (statement_at (block_at ws n) ws ks) _ (statement_sound ws (block_at ws n) (block_sound ws n) ks)
     (λ s r (e, h). after (IsBlockAt ws r) (IsBlockAt ws ks) (block_at ws n r) _ (block_sound ws n r)
     (λ b r1 (e1, h1). (rw (e, e1) (simp append_assoc), (h, h1)))))
+
+abbrev IsParamAt : List TokenKind → List ℕ → List TokenKind → Type 0
+IsParamAt ks w r = ks ≡ grammar.param_tokens w ++ r
+
+param_sound : (ks : List TokenKind) → Sound (IsParamAt ks) (param ks)
+param_sound ks =
+    after (λ w r. Behind (kinds.Word w) ks r) (IsParamAt ks) (word ks) _ (word_sound ks)
+    (λ w r e. marked (IsParamAt ks) marks.Colon r _ (λ r1 e1. keyed (IsParamAt ks) keys.BoolWord r1 _ (λ r2 e2. rw (e, e1, e2) refl)))
+
+abbrev IsNewParamAt : List (List ℕ) → List TokenKind → List ℕ → List TokenKind → Type 0
+IsNewParamAt ws ks w r = IsParamAt ks w r × Without w ws
+
+new_param_sound : (ws : List (List ℕ)) (ks : List TokenKind) → Sound (IsNewParamAt ws ks) (new_param ws ks)
+new_param_sound ws ks = after (IsParamAt ks) (IsNewParamAt ws ks) (param ks) _ (param_sound ks) (λ w r e. at_place w r e (place w ws) refl)
+  where
+    at_place : (w : List ℕ) (r : List TokenKind) → IsParamAt ks w r → (o : Option ℕ) → place w ws ≡ o → Sound (IsNewParamAt ws ks) (cond (is_some o) Refused (Got w r))
+    at_place w r e None f = (e, without_none w ws f)
+    at_place w r e (Some x) f = tt
+
+-- Names from some names on, with what they are spelled by.
+abbrev IsParamsAt : List (List ℕ) → ℕ → List TokenKind → List (List ℕ) → List TokenKind → Type 0
+IsParamsAt ws n ks vs r = (w : List ℕ) × (us : List (List ℕ)) × (vs ≡ ws ++ (w ∷ us)) × (ks ≡ params_tokens (w ∷ us) ++ r) × AreDifferent vs × (length vs ≤ length ws + n)
+
+params_sound : (n : ℕ) (ws : List (List ℕ)) (ks : List TokenKind) → AreDifferent ws → Sound (IsParamsAt ws n ks) (params_at n ws ks)
+unfolding params_at
+params_sound zero ws ks d = tt
+params_sound (suc n) ws ks d =
+    after (IsNewParamAt ws ks) (IsParamsAt ws (suc n) ks) (new_param ws ks) _ (new_param_sound ws ks)
+    (λ w r (e, h). let long = length-append ws (w ∷ []) in picked (IsParamsAt ws (suc n) ks) (kinds.Mark marks.Comma) r (past_mark marks.Comma r) _ _ (past_mark_sound marks.Comma r)
+    (λ r1 e1. others w r r1 e e1 (params_at n (ws ++ (w ∷ [])) r1) (params_sound n (ws ++ (w ∷ [])) r1 (different_more w ws d h)))
+    (w, [], refl, e, different_more w ws d h, omega arith))
+  where
+    others : (w : List ℕ) (r r1 : List TokenKind) → IsParamAt ks w r → Behind (kinds.Mark marks.Comma) r r1 → (read : Read (List (List ℕ))) → Sound (IsParamsAt (ws ++ (w ∷ [])) n r1) read → Sound (IsParamsAt ws (suc n) ks) read
+    others w r r1 e e1 Refused h = tt
+    others w r r1 e e1 (Got vs r2) (v, us, same, e2, different, long) =
+        let longer = length-append ws (w ∷ []) in
+        (w, v ∷ us, same ∙ append_assoc ws (w ∷ []) (v ∷ us), rw (e, e1, e2) refl, different, omega arith)
+
+abbrev IsTitleAt : List TokenKind → List ℕ → List TokenKind → Type 0
+IsTitleAt ks w r = ks ≡ kinds.Key keys.CoProc ∷ kinds.Word w ∷ kinds.Mark marks.ParenLeft ∷ kinds.Mark marks.ParenRight ∷ kinds.Mark marks.Arrow ∷ kinds.Mark marks.ParenLeft ∷ r
+
+title_sound : (ks : List TokenKind) → Sound (IsTitleAt ks) (title ks)
+title_sound ks =
+    keyed (IsTitleAt ks) keys.CoProc ks _
+    (λ r1 e1. after (λ w r. Behind (kinds.Word w) r1 r) (IsTitleAt ks) (word r1) _ (word_sound r1)
+    (λ w r2 e2. marked (IsTitleAt ks) marks.ParenLeft r2 _
+    (λ r3 e3. marked (IsTitleAt ks) marks.ParenRight r3 _
+    (λ r4 e4. marked (IsTitleAt ks) marks.Arrow r4 _
+    (λ r5 e5. marked (IsTitleAt ks) marks.ParenLeft r5 _
+    (λ r6 e6. rw (e1, e2, e3, e4, e5, e6) refl))))))
+
+abbrev IsPreAt : List TokenKind → Constant → List TokenKind → Type 0
+IsPreAt ks c r = (ks ≡ kinds.Mark marks.ParenRight ∷ kinds.Key keys.Pre ∷ (constant_tokens c ++ r)) × IsConstant c
+
+pre_sound : (ks : List TokenKind) → Sound (IsPreAt ks) (pre_at ks)
+pre_sound ks =
+    marked (IsPreAt ks) marks.ParenRight ks _ (λ r1 e1. keyed (IsPreAt ks) keys.Pre r1 _ (λ r2 e2. front r1 r2 e1 e2 (constant r2) (constant_sound r2)))
+  where
+    front : (r1 r2 : List TokenKind) → Behind (kinds.Mark marks.ParenRight) ks r1 → Behind (kinds.Key keys.Pre) r1 r2 → (read : Read Constant) → Sound (IsConstantAt r2) read → Sound (IsPreAt ks) read
+    front r1 r2 e1 e2 Refused h = tt
+    front r1 r2 e1 e2 (Got c r3) (e3, h) = (rw (e1, e2, e3) refl, h)
+
+abbrev IsPostAt : List (List ℕ) → List TokenKind → ℕ → List TokenKind → Type 0
+IsPostAt ws ks x r = (ks ≡ kinds.Key keys.Post ∷ kinds.Mark marks.BracketLeft ∷ kinds.Word (name_at x ws) ∷ kinds.Mark marks.BracketRight ∷ r) × (x < length ws)
+
+post_sound : (ws : List (List ℕ)) (ks : List TokenKind) → Sound (IsPostAt ws ks) (post_at ws ks)
+post_sound ws ks =
+    keyed (IsPostAt ws ks) keys.Post ks _
+    (λ r1 e1. marked (IsPostAt ws ks) marks.BracketLeft r1 _
+    (λ r2 e2. after (IsVariableAt ws r2) (IsPostAt ws ks) (variable ws r2) _ (variable_sound ws r2)
+    (λ x r3 (e3, h3). marked (IsPostAt ws ks) marks.BracketRight r3 _
+    (λ r4 e4. (rw (e1, e2, e3, e4) refl, h3)))))
+
+abbrev IsEnd : List TokenKind → Unit {0} → List TokenKind → Type 0
+IsEnd ks u r = ks ≡ []
+
+ended_sound : (ks : List TokenKind) → Sound (IsEnd ks) (ended ks)
+ended_sound [] = refl
+ended_sound (k ∷ ks) = tt
+
+-- What is read of a file, but for the limits on counts.
+pub record IsFileAt (outputs : ℕ) (ks : List TokenKind) (p : Procedure) (r : List TokenKind) : Type 0 where
+  pub spells : ks ≡ procedure_tokens p
+  pub some_output : 0 < length p.outputs
+  pub few : length p.outputs ≤ outputs
+  pub different : AreDifferent p.outputs
+  pub pre : IsConstant p.pre
+  pub post : p.post < length p.outputs
+  pub body : IsBlock (length p.outputs) p.body
+
+file_whole : (outputs : ℕ) (ks r1 r2 r3 r4 r5 r6 : List TokenKind) (w : List ℕ) (ws : List (List ℕ)) (c : Constant) (x : ℕ) (b : Block) → IsTitleAt ks w r1 → IsParamsAt [] outputs r1 ws r2 → IsPreAt r2 c r3 → IsPostAt ws r3 x r4 → IsBracedAt ws r4 b r5 → IsEnd r5 tt r6 → IsFileAt outputs ks (record { name = w; outputs = ws; pre = c; post = x; body = b }) r6
+file_whole outputs ks r1 r2 r3 r4 r5 r6 w ws c x b e1 (v, us, same, e2, different, long) (e3, h3) (e4, h4) (e5, h5) e6 = record {
+  spells = let e2' = e2 ∙ ap (λ z. params_tokens z ++ r2) (sym same) in rw (e1, e2', e3, e4, e5, e6) (simp append_assoc);
+  some_output = let some = ap length same in omega arith;
+  few = omega arith;
+  different = different;
+  pre = h3;
+  post = h4;
+  body = h5;
+}
+
+pub file_sound : (outputs statements : ℕ) (ks : List TokenKind) → Sound (IsFileAt outputs ks) (file outputs statements ks)
+file_sound outputs statements ks =
+    after (IsTitleAt ks) (IsFileAt outputs ks) (title ks) _ (title_sound ks)
+    (λ w r1 e1. after (IsParamsAt [] outputs r1) (IsFileAt outputs ks) (params_at outputs [] r1) _ (params_sound outputs [] r1 tt)
+    (λ ws r2 e2. after (IsPreAt r2) (IsFileAt outputs ks) (pre_at r2) _ (pre_sound r2)
+    (λ c r3 e3. after (IsPostAt ws r3) (IsFileAt outputs ks) (post_at ws r3) _ (post_sound ws r3)
+    (λ x r4 e4. after (IsBracedAt ws r4) (IsFileAt outputs ks) (braced (block_at ws statements) r4) _ (braced_sound ws (block_at ws statements) (block_sound ws statements) r4)
+    (λ b r5 e5. after (IsEnd r5) (IsFileAt outputs ks) (ended r5) _ (ended_sound r5)
+    (λ u r6 e6. file_whole outputs ks r1 r2 r3 r4 r5 r6 w ws c x b e1 e2 e3 e4 e5 e6))))))
