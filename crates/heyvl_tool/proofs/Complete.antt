@@ -1,5 +1,5 @@
 -- What is spelled, within limits, is read.
-use Rattle.std.proofs.Common.{◌≡◌, ◌∙◌, refl, sym, ap, ℕ, pos, ◌+◌, ◌<◌, ◌≤◌, Bool, true, false, cond, eqb, leb, List, [], ◌∷◌, ◌++◌, length, Option, Some, None, arith, append_assoc, length-append}
+use Rattle.std.proofs.Common.{◌≡◌, ◌∙◌, refl, sym, ap, subst, ℕ, pos, ◌+◌, ◌<◌, ◌≤◌, Bool, true, false, cond, eqb, leb, List, [], ◌∷◌, ◌++◌, length, Option, Some, None, arith, append_assoc, length-append}
 use Prim.Native.Nat.{zero, suc}
 use Rattle.std.proofs.lemmas.Bool.{le-leb}
 use Rattle.std.proofs.Math.Dec.{eqb-suc-zero}
@@ -88,3 +88,35 @@ module _ (ws : List (List ℕ)) (d : AreDifferent ws) where
         let some = some_statement s in
         let rest = block_tokens ws b ++ (kinds.Mark marks.BraceRight ∷ r) in
         rw (append_assoc, block_more ws n (statement_tokens ws s ++ rest), no_brace ws s rest, statement_complete s n rest hs (omega arith) (ends_constant ws b r), block_complete b n r hb (omega arith)) refl
+
+new_param_complete : (ws : List (List ℕ)) (w : List ℕ) (us : List (List ℕ)) (r : List TokenKind) → AreDifferent (ws ++ (w ∷ us)) → new_param ws (grammar.param_tokens w ++ r) ≡ Got w r
+new_param_complete ws w us r d = rw (none_without w ws (different_without w ws us d)) refl
+
+params_complete : (n : ℕ) (ws : List (List ℕ)) (w : List ℕ) (us : List (List ℕ)) (r : List TokenKind) → AreDifferent (ws ++ (w ∷ us)) → length us < n → past_mark marks.Comma r ≡ None → params_at n ws (params_tokens (w ∷ us) ++ r) ≡ Got (ws ++ (w ∷ us)) r
+params_complete zero ws w us r d few none = absurd (omega arith)
+params_complete (suc n) ws w [] r d few none = params_last (suc n) n ws w (grammar.param_tokens w ++ r) r refl (new_param_complete ws w [] r d) none
+params_complete (suc n) ws w (v ∷ us) r d few none =
+    let rest = params_tokens (v ∷ us) ++ r in
+    let same = append_assoc ws (w ∷ []) (v ∷ us) in
+    params_on (suc n) n ws w (params_tokens (w ∷ v ∷ us) ++ r) (kinds.Mark marks.Comma ∷ rest) rest refl (new_param_complete ws w (v ∷ us) (kinds.Mark marks.Comma ∷ rest) d) refl
+    ∙ params_complete n (ws ++ (w ∷ [])) v us r (subst AreDifferent (sym same) d) (omega arith) none
+    ∙ ap (λ vs. Got vs r) same
+
+whole : (params c b : List TokenKind) (w : List ℕ) →
+    params ++ grammar.mark marks.ParenRight ++ grammar.key keys.Pre ++ c ++ grammar.key keys.Post ++ grammar.mark marks.BracketLeft ++ grammar.word w ++ grammar.mark marks.BracketRight ++ grammar.mark marks.BraceLeft ++ b ++ grammar.mark marks.BraceRight
+    ≡ params ++ (kinds.Mark marks.ParenRight ∷ kinds.Key keys.Pre ∷ (c ++ (kinds.Key keys.Post ∷ kinds.Mark marks.BracketLeft ∷ kinds.Word w ∷ kinds.Mark marks.BracketRight ∷ kinds.Mark marks.BraceLeft ∷ (b ++ (kinds.Mark marks.BraceRight ∷ [])))))
+whole params c b w = simp append_assoc
+
+-- Of all limits these are asked for here, with so many outputs and statements.
+parts_complete : (outputs statements : ℕ) (name : List ℕ) (ws : List (List ℕ)) (c : Constant) (x : ℕ) (b : Block) → 0 < length ws → length ws ≤ outputs → AreDifferent ws → IsConstant c → x < length ws → IsBlock (length ws) b → block_count is_any b ≤ statements → file outputs statements (procedure_tokens (record { name = name; outputs = ws; pre = c; post = x; body = b })) ≡ Got (record { name = name; outputs = ws; pre = c; post = x; body = b }) []
+parts_complete outputs statements name [] c x b some few d hc hx hb long = absurd (omega arith)
+parts_complete outputs statements name (w ∷ us) c x b some few d hc hx hb long =
+    let ws = w ∷ us in
+    let r4 = kinds.Mark marks.BraceLeft ∷ (block_tokens ws b ++ (kinds.Mark marks.BraceRight ∷ [])) in
+    let r3 = kinds.Key keys.Post ∷ kinds.Mark marks.BracketLeft ∷ kinds.Word (name_at x ws) ∷ kinds.Mark marks.BracketRight ∷ r4 in
+    let r2 = kinds.Mark marks.ParenRight ∷ kinds.Key keys.Pre ∷ (constant_tokens c ++ r3) in
+    ap (λ z. file outputs statements (kinds.Key keys.CoProc ∷ kinds.Word name ∷ kinds.Mark marks.ParenLeft ∷ kinds.Mark marks.ParenRight ∷ kinds.Mark marks.Arrow ∷ kinds.Mark marks.ParenLeft ∷ z)) (whole (params_tokens ws) (constant_tokens c) (block_tokens ws b) (name_at x ws))
+    ∙ rw (params_complete outputs [] w us r2 d (omega arith) refl, constant_complete c r3 hc refl, place_named ws x d hx, block_complete ws d b statements [] hb long) refl
+
+pub file_complete : (p : Procedure) → IsWithinLimits p → file 4 64 (procedure_tokens p) ≡ Got p []
+file_complete p h = parts_complete 4 64 p.name p.outputs p.pre p.post p.body h.some_output h.outputs h.different h.pre h.post h.body h.statements

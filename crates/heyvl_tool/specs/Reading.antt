@@ -1,6 +1,6 @@
 -- Reading as functions of the kinds of tokens: what was read, and the kinds behind it. The proofs of the reader go by
 -- these functions; what they are worth is said by the grammar alone.
-use Rattle.std.specs.Prelude.{◌≡◌, ℕ, ℤ, pos, negsuc, Bool, true, false, cond, List, [], ◌∷◌, ◌++◌, map, Option, Some, None, Result, Ok, Err, nat_eq, nat_le, is_some, position, count_by, ◌+◌, ◌≤◌}
+use Rattle.std.specs.Prelude.{◌≡◌, ℕ, ℤ, pos, negsuc, Bool, true, false, cond, List, [], ◌∷◌, ◌++◌, map, Option, Some, None, Result, Ok, Err, nat_eq, nat_le, is_some, position, count_by, ◌||◌, ◌≤◌}
 use Prim.Native.Nat.{zero, suc}
 use Rattle.std.specs.Str.{bytes_eq}
 use denote.Enum.Bare.{sameb}
@@ -193,12 +193,15 @@ file outputs statements ks =
     >>= λ x r4. braced (block_at ws statements) r4
     >>= λ b r5. ended r5 >>= λ u r6. Got (record { name = w; outputs = ws; pre = c; post = x; body = b }) r6
 
--- How many tokens are this key, or this mark.
+-- Every statement has just one of these.
+abbrev pub shows_statement : TokenKind → Bool
+shows_statement k = is_mark marks.Assign k || is_key keys.Reward k || is_key keys.If k
+
 abbrev pub key_count : Key → List Token → ℕ
 key_count k tokens = count_by (λ t. is_key k t.kind) tokens
 
-abbrev pub mark_count : Mark → List Token → ℕ
-mark_count m tokens = count_by (λ t. is_mark m t.kind) tokens
+abbrev pub statement_count : List Token → ℕ
+statement_count tokens = count_by (λ t. shows_statement t.kind) tokens
 
 -- As many flips, rewards, ifs and statements as the first form may have, counted by tokens.
 abbrev pub KeepsCounts : List Token → Type 0
@@ -206,4 +209,4 @@ KeepsCounts tokens =
     (key_count keys.Flip tokens ≤ 6)
     × (key_count keys.Reward tokens ≤ 4)
     × (key_count keys.If tokens ≤ 16)
-    × (mark_count marks.Assign tokens + key_count keys.Reward tokens + key_count keys.If tokens ≤ 64)
+    × (statement_count tokens ≤ 64)

@@ -12,4 +12,4 @@ mod stops;
 
 pub use answers::{Answer, GoalId, Val, Verdict};
 pub use first_form::{Constant, FirstForm, Stmt};
-pub use reading::read_first_form;
+pub use reading::{first_form_is_unique, read_first_form};

@@ -1,14 +1,13 @@
 //! Reading files of the first form.
 
-ghost use Rattle.heyvl_syntax.specs.declared.keys.Key.TheVariants.{Flip, If, Reward};
-ghost use Rattle.heyvl_syntax.specs.declared.marks.Mark.TheVariants.{Assign};
 ghost use Rattle.heyvl_tool.specs.Grammar.{Spells};
 ghost use Rattle.heyvl_tool.specs.Limits.{IsWithinLimits};
 ghost use Rattle.heyvl_tool.specs.Procedure.{Procedure, procedure};
-ghost use Rattle.heyvl_tool.specs.Reading.{Gives, KeepsCounts, ended, file, key_count, kinds_of, mark_count};
+ghost use Rattle.heyvl_tool.specs.Reading.{Gives, KeepsCounts, ended, file, key_count, kinds_of, shows_statement, statement_count};
+ghost use Rattle.heyvl_tool.specs.Unique.{FirstFormIsUnique};
 ghost use Rattle.std.specs.Prelude.{[], IfNone, IfOk, IfSome, IsTrue, ◌≡◌, ◌↔◌};
 
-use heyvl_syntax::{Key, Mark, Name, Token};
+use heyvl_syntax::{Key, Mark, Name, Token, TokenKind};
 use std::alloc::{AllocError, Global};
 
 use crate::bodies::braced;
@@ -23,23 +22,27 @@ fn key_count(key: Key, tokens: &[Token]) -> usize
     tokens.iter().filter(|token| is_key(key, &token.kind)).count()
 }
 
-fn mark_count(mark: Mark, tokens: &[Token]) -> usize
-    ensures { result ≡ mark_count mark tokens.now }
+/// Whether this is the key of a reward or an if, or the mark of an assignment: every statement has just one of these.
+fn shows_statement(kind: &TokenKind) -> bool
+    ensures { result ≡ shows_statement kind.now }
 {
-    tokens.iter().filter(|token| is_mark(mark, &token.kind)).count()
+    is_mark(Mark::Assign, kind) || is_key(Key::Reward, kind) || is_key(Key::If, kind)
 }
 
-/// Whether there are at most 6 flips, 4 rewards, 16 ifs and 64 statements. Each of them has one token that nothing else
-/// has: its key, or the mark of its assignment.
+fn statement_count(tokens: &[Token]) -> usize
+    ensures { result ≡ statement_count tokens.now }
+{
+    tokens.iter().filter(|token| shows_statement(&token.kind)).count()
+}
+
+/// Whether there are at most 6 flips, 4 rewards, 16 ifs and 64 statements, counted by the tokens that only they have.
 fn keeps_counts(tokens: &[Token]) -> bool
     ensures { IsTrue result ↔ KeepsCounts tokens.now }
 {
-    let rewards = key_count(Key::Reward, tokens);
-    let ifs = key_count(Key::If, tokens);
     key_count(Key::Flip, tokens) <= 6
-        && rewards <= 4
-        && ifs <= 16
-        && mark_count(Mark::Assign, tokens) <= 64 - rewards - ifs
+        && key_count(Key::Reward, tokens) <= 4
+        && key_count(Key::If, tokens) <= 16
+        && statement_count(tokens) <= 64
 }
 
 /// Nothing, where no token is left.
@@ -85,4 +88,10 @@ pub fn read_first_form(alloc: Global, tokens: &[Token]) -> Result<Option<FirstFo
         Err(Stop::NotInForm) => Ok(None),
         Err(Stop::Memory) => Err(AllocError),
     }
+}
+
+/// The tokens of a file spell at most one procedure of the first form within its limits.
+pub fn first_form_is_unique()
+    ensures { FirstFormIsUnique }
+{
 }
