@@ -1,6 +1,8 @@
 pub mod Procedure
 pub mod Grammar
 pub mod Limits
+pub mod Reading
+pub mod Unique
 pub mod State
 pub mod Formula
 pub mod Acts
