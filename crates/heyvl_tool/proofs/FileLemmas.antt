@@ -4,6 +4,7 @@ use Rattle.std.specs.declared.alloc.AllocError.{AllocError}
 use Rattle.heyvl_syntax.specs.Tokens.{Lexes, Stops}
 use Rattle.heyvl_syntax.specs.declared.spans.Span.{Span}
 use Rattle.heyvl_syntax.specs.declared.tokens.Token.{Token}
+use Rattle.heyvl_syntax.proofs.Unique.{lexes_unique, lexes_no_stop}
 use Rattle.heyvl_tool.specs.Files.{IsFile, IsOtherFile}
 use Rattle.heyvl_tool.specs.Grammar.{Spells}
 use Rattle.heyvl_tool.specs.Limits.{IsWithinLimits}
@@ -13,19 +14,13 @@ use Rattle.heyvl_tool.specs.Replies.IsReplyTo.{verified}
 use Rattle.heyvl_tool.specs.Responses.{reply_of}
 use Rattle.heyvl_tool.specs.declared.responses.Response.{Response}
 
-pub one_token_list : (bytes : List ℕ) (ts us : List Token) → Lexes 0 bytes ts → Lexes 0 bytes us → ts ≡ us
-one_token_list bytes ts us l m = ?
-
-pub no_tokens_at_fault : (bytes : List ℕ) (n : ℕ) (span : Span) (ts : List Token) → Stops 0 bytes n span → Lexes 0 bytes ts → ⊥
-no_tokens_at_fault bytes n span ts s l = ?
-
 -- Bytes with a fault are no file of the first form.
 pub other_by_fault : (bytes : List ℕ) (n : ℕ) (span : Span) → Stops 0 bytes n span → IsOtherFile bytes
-other_by_fault bytes n span stops p file = no_tokens_at_fault bytes n span file.tokens stops file.lexes
+other_by_fault bytes n span stops p file = lexes_no_stop 0 bytes file.tokens n span file.lexes stops
 
 -- Nor are those whose tokens spell no procedure.
 pub other_by_tokens : (bytes : List ℕ) (ts : List Token) → Lexes 0 bytes ts → ((p : Procedure) → Spells ts p → IsWithinLimits p → ⊥) → IsOtherFile bytes
-other_by_tokens bytes ts lexes none p file = none p (subst (λ (us : List Token). Spells us p) (one_token_list bytes file.tokens ts file.lexes lexes) file.spells) file.within
+other_by_tokens bytes ts lexes none p file = none p (subst (λ (us : List Token). Spells us p) (lexes_unique 0 bytes file.tokens ts file.lexes lexes) file.spells) file.within
 
 -- The verdict on the procedure of a file is what is said of the file.
 pub reply_by_verdict : (bytes : List ℕ) (p : Procedure) (r : Result Response AllocError) → IsFile bytes p → IfOk r (λ x. IsVerdictOn p (reply_of x)) → IfOk r (λ x. IsReplyTo bytes (reply_of x))

@@ -17,14 +17,12 @@ use Rattle.heyvl_tool.specs.Replies.IsReplyTo.{verified, early}
 use Rattle.heyvl_tool.specs.Verdict.{IsVerdict}
 use Rattle.heyvl_tool.specs.Words.{AsksToVerify}
 use Rattle.heyvl_tool.proofs.CallLemmas.{same_file}
-use Rattle.heyvl_tool.proofs.FileLemmas.{one_token_list}
-
-pub one_procedure : (ts : List Token) (p q : Procedure) → Spells ts p → Spells ts q → IsWithinLimits p → IsWithinLimits q → p ≡ q
-one_procedure ts p q s t v w = ?
+use Rattle.heyvl_syntax.proofs.Unique.{lexes_unique}
+use Rattle.heyvl_tool.proofs.Whole.{is_unique}
 
 -- Bytes are at most one procedure.
 pub one_file : (bytes : List ℕ) (p q : Procedure) → IsFile bytes p → IsFile bytes q → p ≡ q
-one_file bytes p q f g = one_procedure g.tokens p q (subst (λ (ts : List Token). Spells ts p) (one_token_list bytes f.tokens g.tokens f.lexes g.lexes) f.spells) g.spells f.within g.within
+one_file bytes p q f g = is_unique g.tokens p q (subst (λ (ts : List Token). Spells ts p) (lexes_unique 0 bytes f.tokens g.tokens f.lexes g.lexes) f.spells) g.spells f.within g.within
 
 no_report : (answers : List Answer) (name : List ℕ) → answers ≡ [] → IsReportedVerified answers name → ⊥
 no_report [] name e reported = let none : reported.0 < 0 = reported.2 in absurd (omega arith)

@@ -16,6 +16,5 @@ pub mod Report
 pub mod Words
 pub mod Files
 pub mod Replies
-pub mod Stubs
 pub mod Responses
 pub mod Headline

@@ -6,8 +6,8 @@ ghost use Rattle.heyvl_tool.specs.Responses.{reply_of, text_bytes};
 ghost use Rattle.heyvl_tool.specs.Limits.{IsWithinLimits};
 ghost use Rattle.heyvl_tool.specs.Procedure.{procedure};
 
-use crate::{Answer, Fault, FirstForm, LexStop, decide, lex, read_first_form, report};
-use heyvl_syntax::Name;
+use crate::{Answer, Fault, FirstForm, decide, read_first_form, report};
+use heyvl_syntax::{LexStop, Name, lex};
 use std::alloc::{AllocError, Global};
 
 /// What is written: a fixed text, or one that was made.
