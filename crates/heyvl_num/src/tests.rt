@@ -215,21 +215,28 @@ fn finds_greatest_divisors(rt: HostRuntime) {
     }
 }
 
+/// The parts of a finite number, and None for infinity.
+fn extended_parts(number: &Option<Ext>) -> Option<Parts> {
+    match number {
+        Some(Ext::Fin(fraction)) => Some(Some((fraction.num(), fraction.den()))),
+        Some(Ext::Inf) => Some(None),
+        None => None,
+    }
+}
+
 #[test]
 fn extends_by_infinity(rt: HostRuntime) {
     let zero = Ext::Fin(Frac::new(0, 1).expect(&rt, "0"));
     let half = Ext::Fin(Frac::new(1, 2).expect(&rt, "1/2"));
     let top = Ext::Fin(Frac::new(TOP, 1).expect(&rt, "2^127 - 1"));
-    assert!(rt; matches!(half.add(&Ext::Inf), Some(Ext::Inf)));
-    assert!(rt; matches!(Ext::Inf.add(&top), Some(Ext::Inf)));
-    assert!(rt; matches!(top.add(&half), None));
-    assert!(rt; matches!(Ext::Inf.mul(&half), Some(Ext::Inf)));
-    assert!(rt; matches!(Ext::Inf.mul(&Ext::Inf), Some(Ext::Inf)));
-    assert!(rt; matches!(zero.mul(&Ext::Inf), Some(Ext::Fin(x)) if x.num() == 0));
-    assert!(rt; matches!(Ext::Inf.mul(&zero), Some(Ext::Fin(x)) if x.num() == 0));
-    assert!(rt; matches!(top.mul(&top), None));
-    assert_eq!(rt; half.compare(&Ext::Inf), Some(Less));
-    assert_eq!(rt; Ext::Inf.compare(&top), Some(Greater));
-    assert_eq!(rt; Ext::Inf.compare(&Ext::Inf), Some(Equal));
+    assert_eq!(rt; extended_parts(&zero.add(&half)), Some(Some((1, 2))));
+    assert_eq!(rt; extended_parts(&top.add(&half)), None);
+    assert_eq!(rt; extended_parts(&half.add(&Ext::Inf)), Some(None));
+    assert_eq!(rt; extended_parts(&half.mul(&half)), Some(Some((1, 4))));
+    assert_eq!(rt; extended_parts(&top.mul(&top)), None);
+    assert_eq!(rt; extended_parts(&Ext::Inf.mul(&half)), Some(None));
+    assert_eq!(rt; extended_parts(&zero.mul(&Ext::Inf)), Some(Some((0, 1))));
     assert_eq!(rt; zero.compare(&half), Some(Less));
+    assert_eq!(rt; top.compare(&Ext::Inf), Some(Less));
+    assert_eq!(rt; Ext::Inf.compare(&Ext::Inf), Some(Equal));
 }
