@@ -8,3 +8,4 @@ pub mod Signs
 pub mod WeightedSums
 pub mod ValueOperators
 pub mod Uses
+mod Examples
