@@ -2,3 +2,4 @@ pub mod Bytes
 pub mod Faults
 pub mod Files
 pub mod Order
+pub mod OrderLaws
