@@ -12,6 +12,8 @@ mod marks;
 mod names;
 mod spans;
 mod stops;
+#[cfg(test)]
+mod tests;
 mod tokens;
 
 pub use keys::Key;
