@@ -40,3 +40,10 @@ by_length (suc fuel) place bytes h = step place bytes (front_of bytes) (front-is
 
 pub outcome : (place : ℕ) (bytes : List ℕ) → Outcome place bytes
 outcome place bytes = by_length (suc (length bytes)) place bytes (omega arith)
+
+pub one_of_both : (place : ℕ) (bytes : List ℕ) → ((tokens : List Token) × Lexes place bytes tokens) ⊎ ((number : ℕ) × (span : Span) × Stops place bytes number span)
+one_of_both place bytes = either (outcome place bytes)
+  where
+    either : Outcome place bytes → ((tokens : List Token) × Lexes place bytes tokens) ⊎ ((number : ℕ) × (span : Span) × Stops place bytes number span)
+    either (split tokens lexes) = inl (tokens, lexes)
+    either (stopped number span stops) = inr (number, span, stops)

@@ -4,4 +4,5 @@ pub mod Fronts
 pub mod Keys
 pub mod Literals
 pub mod Marks
+pub mod TokenLaws
 pub mod Tokens
