@@ -2,13 +2,8 @@
 #![tactic(auto)]
 
 mod answers;
-mod bodies;
-mod constants;
-mod expecting;
 mod first_form;
-mod heads;
 mod reading;
-mod stops;
 
 pub use answers::{Answer, GoalId, Val, Verdict};
 pub use first_form::{Constant, FirstForm, Stmt};

@@ -1,20 +1,26 @@
 //! Reading files of the first form.
 
+mod bodies;
+mod constants;
+mod expecting;
+mod heads;
+mod stops;
+
 ghost use Rattle.heyvl_tool.specs.Grammar.{Spells};
 ghost use Rattle.heyvl_tool.specs.Limits.{IsWithinLimits};
 ghost use Rattle.heyvl_tool.specs.Procedure.{Procedure, procedure};
-ghost use Rattle.heyvl_tool.specs.Reading.{Gives, KeepsCounts, ended, file, key_count, kinds_of, shows_statement, statement_count};
+ghost use Rattle.heyvl_tool.specs.Reading.{Gives, KeepsCounts, ended, file, key_count, kinds_of, shows_statement, statement_token_count};
 ghost use Rattle.heyvl_tool.specs.Unique.{FirstFormIsUnique};
 ghost use Rattle.std.specs.Prelude.{[], IfNone, IfOk, IfSome, IsTrue, ◌≡◌, ◌↔◌};
 
 use heyvl_syntax::{Key, Mark, Name, Token, TokenKind};
 use std::alloc::{AllocError, Global};
 
-use crate::bodies::braced;
-use crate::expecting::{is_key, is_mark};
+use bodies::braced;
+use expecting::{is_key, is_mark};
 use crate::first_form::FirstForm;
-use crate::heads::{params, post, pre, title};
-use crate::stops::Stop;
+use heads::{params, post, pre, title};
+use stops::Stop;
 
 fn key_count(key: Key, tokens: &[Token]) -> usize
     ensures { result ≡ key_count key tokens.now }
@@ -29,8 +35,8 @@ fn shows_statement(kind: &TokenKind) -> bool
     is_mark(Mark::Assign, kind) || is_key(Key::Reward, kind) || is_key(Key::If, kind)
 }
 
-fn statement_count(tokens: &[Token]) -> usize
-    ensures { result ≡ statement_count tokens.now }
+fn statement_token_count(tokens: &[Token]) -> usize
+    ensures { result ≡ statement_token_count tokens.now }
 {
     tokens.iter().filter(|token| shows_statement(&token.kind)).count()
 }
@@ -42,7 +48,7 @@ fn keeps_counts(tokens: &[Token]) -> bool
     key_count(Key::Flip, tokens) <= 6
         && key_count(Key::Reward, tokens) <= 4
         && key_count(Key::If, tokens) <= 16
-        && statement_count(tokens) <= 64
+        && statement_token_count(tokens) <= 64
 }
 
 /// Nothing, where no token is left.
