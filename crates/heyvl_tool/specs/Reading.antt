@@ -16,8 +16,8 @@ use Rattle.heyvl_syntax.specs.declared.tokens.TokenKind.TheVariants as kinds
 use Rattle.heyvl_tool.specs.Procedure.{Statement, Block, Procedure}
 use Rattle.heyvl_tool.specs.declared.first_form.Constant.{Constant}
 use Rattle.heyvl_tool.specs.declared.first_form.Constant.TheVariants.{Whole, Quotient}
-use Rattle.heyvl_tool.specs.declared.stops.Stop.{Stop}
-use Rattle.heyvl_tool.specs.declared.stops.Stop.TheVariants.{NotInForm, Memory}
+use Rattle.heyvl_tool.specs.declared.reading.stops.Stop.{Stop}
+use Rattle.heyvl_tool.specs.declared.reading.stops.Stop.TheVariants.{NotInForm, Memory}
 
 pub data Read (A : Type 0) : Type 0 where
   Got : A → List TokenKind → Read A
@@ -200,8 +200,8 @@ shows_statement k = is_mark marks.Assign k || is_key keys.Reward k || is_key key
 abbrev pub key_count : Key → List Token → ℕ
 key_count k tokens = count_by (λ t. is_key k t.kind) tokens
 
-abbrev pub statement_count : List Token → ℕ
-statement_count tokens = count_by (λ t. shows_statement t.kind) tokens
+abbrev pub statement_token_count : List Token → ℕ
+statement_token_count tokens = count_by (λ t. shows_statement t.kind) tokens
 
 -- As many flips, rewards, ifs and statements as the first form may have, counted by tokens.
 abbrev pub KeepsCounts : List Token → Type 0
@@ -209,4 +209,4 @@ KeepsCounts tokens =
     (key_count keys.Flip tokens ≤ 6)
     × (key_count keys.Reward tokens ≤ 4)
     × (key_count keys.If tokens ≤ 16)
-    × (statement_count tokens ≤ 64)
+    × (statement_token_count tokens ≤ 64)

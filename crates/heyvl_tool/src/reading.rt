@@ -1,27 +1,31 @@
 //! Reading files of the first form.
 
+mod bodies;
+mod constants;
+mod expecting;
+mod heads;
+mod stops;
+
 ghost use Rattle.heyvl_tool.specs.Grammar.{Spells};
 ghost use Rattle.heyvl_tool.specs.Limits.{IsWithinLimits};
 ghost use Rattle.heyvl_tool.specs.Procedure.{Procedure, procedure};
-ghost use Rattle.heyvl_tool.specs.Reading.{Gives, KeepsCounts, ended, file, key_count, kinds_of, shows_statement, statement_count};
+ghost use Rattle.heyvl_tool.specs.Reading.{Gives, KeepsCounts, ended, file, key_count, kinds_of, shows_statement, statement_token_count};
 ghost use Rattle.heyvl_tool.specs.Unique.{FirstFormIsUnique};
 ghost use Rattle.std.specs.Prelude.{[], IfNone, IfOk, IfSome, IsTrue, ◌≡◌, ◌↔◌};
 
-use crate::bodies::braced;
-use crate::expecting::{is_key, is_mark};
-use crate::first_form::FirstForm;
-use crate::heads::{params, post, pre, title};
-use crate::stops::Stop;
 use heyvl_syntax::{Key, Mark, Name, Token, TokenKind};
 use std::alloc::{AllocError, Global};
+
+use bodies::braced;
+use expecting::{is_key, is_mark};
+use crate::first_form::FirstForm;
+use heads::{params, post, pre, title};
+use stops::Stop;
 
 fn key_count(key: Key, tokens: &[Token]) -> usize
     ensures { result ≡ key_count key tokens.now }
 {
-    tokens
-        .iter()
-        .filter(|token| is_key(key, &token.kind))
-        .count()
+    tokens.iter().filter(|token| is_key(key, &token.kind)).count()
 }
 
 /// Whether this is the key of a reward or an if, or the mark of an assignment: every statement has just one of these.
@@ -31,13 +35,10 @@ fn shows_statement(kind: &TokenKind) -> bool
     is_mark(Mark::Assign, kind) || is_key(Key::Reward, kind) || is_key(Key::If, kind)
 }
 
-fn statement_count(tokens: &[Token]) -> usize
-    ensures { result ≡ statement_count tokens.now }
+fn statement_token_count(tokens: &[Token]) -> usize
+    ensures { result ≡ statement_token_count tokens.now }
 {
-    tokens
-        .iter()
-        .filter(|token| shows_statement(&token.kind))
-        .count()
+    tokens.iter().filter(|token| shows_statement(&token.kind)).count()
 }
 
 /// Whether there are at most 6 flips, 4 rewards, 16 ifs and 64 statements, counted by the tokens that only they have.
@@ -47,7 +48,7 @@ fn keeps_counts(tokens: &[Token]) -> bool
     key_count(Key::Flip, tokens) <= 6
         && key_count(Key::Reward, tokens) <= 4
         && key_count(Key::If, tokens) <= 16
-        && statement_count(tokens) <= 64
+        && statement_token_count(tokens) <= 64
 }
 
 /// Nothing, where no token is left.
@@ -98,4 +99,5 @@ pub fn read_first_form(alloc: Global, tokens: &[Token]) -> Result<Option<FirstFo
 /// The tokens of a file spell at most one procedure of the first form within its limits.
 pub fn first_form_is_unique()
     ensures { FirstFormIsUnique }
-{}
+{
+}

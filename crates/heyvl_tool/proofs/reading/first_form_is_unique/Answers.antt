@@ -1,4 +1,4 @@
-use Rattle.heyvl_tool.proofs.Whole.{is_unique}
+use Rattle.heyvl_tool.proofs.FileReading.{is_unique}
 use Rattle.heyvl_tool.proofs.reading.first_form_is_unique.Goals as goal
 
 pub returns : goal.returns

@@ -1,6 +1,6 @@
 use Rattle.std.proofs.Common.{rules}
 use Rattle.heyvl_tool.specs.Procedure.{procedure}
-use Rattle.heyvl_tool.proofs.Whole.{is_found, refused_is_none, counts_are_kept}
+use Rattle.heyvl_tool.proofs.FileReading.{is_found, refused_is_none, counts_are_kept}
 use Rattle.heyvl_tool.proofs.reading.read_first_form.Goals as goal
 
 pub returns-in-Ok-clause-found : goal.returns-in-Ok-clause-found

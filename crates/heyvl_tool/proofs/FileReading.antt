@@ -7,9 +7,9 @@ use Rattle.heyvl_tool.specs.Limits.{IsWithinLimits}
 use Rattle.heyvl_tool.specs.Procedure.{Procedure}
 use Rattle.heyvl_tool.specs.Reading.{Read, Got, Refused, KeepsCounts, kinds_of, file}
 use Rattle.heyvl_tool.specs.Unique.{FirstFormIsUnique}
-use Rattle.heyvl_tool.proofs.Complete.{file_complete}
-use Rattle.heyvl_tool.proofs.Counts.{flip_count, reward_count, if_count, any_count}
-use Rattle.heyvl_tool.proofs.Sound.{Sound, IsFileAt, file_sound}
+use Rattle.heyvl_tool.proofs.CompleteReading.{file_complete}
+use Rattle.heyvl_tool.proofs.TokenCounts.{flip_count, reward_count, if_count, any_count}
+use Rattle.heyvl_tool.proofs.SoundReading.{Sound, IsFileAt, file_sound}
 
 pub is_found : (tokens : List Token) (p : Procedure) → file 4 64 (kinds_of tokens) ≡ Got p [] → KeepsCounts tokens → Spells tokens p × IsWithinLimits p
 is_found tokens p e (flips, rewards, ifs, statements) =

@@ -13,8 +13,7 @@ use Rattle.heyvl_tool.specs.Grammar as grammar
 use Rattle.heyvl_tool.specs.Grammar.{Spells, constant_tokens, statement_tokens, block_tokens, params_tokens, more_params, procedure_tokens}
 use Rattle.heyvl_tool.specs.Limits.{statement_count, block_count, is_flip, is_reward, is_if, is_any}
 use Rattle.heyvl_tool.specs.Procedure.{Statement, Block, Procedure}
-use Rattle.heyvl_tool.specs.Reading.{is_key, is_mark, shows_statement, kinds_of, key_count}
-use Rattle.heyvl_tool.specs.Reading as reading
+use Rattle.heyvl_tool.specs.Reading.{is_key, is_mark, shows_statement, kinds_of, key_count, statement_token_count}
 use Rattle.heyvl_tool.specs.declared.first_form.Constant.{Constant}
 use Rattle.heyvl_tool.specs.declared.first_form.Constant.TheVariants.{Whole, Quotient}
 
@@ -134,5 +133,5 @@ reward_count = spelled_count false true false false is_reward (λ x p. refl) (λ
 pub if_count : (tokens : List Token) (p : Procedure) → Spells tokens p → key_count keys.If tokens ≡ block_count is_if p.body
 if_count = spelled_count false false true false is_if (λ x p. refl) (λ x b. refl) (λ c. refl) (λ x b e. refl) (is_key keys.If) if_told
 
-pub any_count : (tokens : List Token) (p : Procedure) → Spells tokens p → reading.statement_count tokens ≡ block_count is_any p.body
+pub any_count : (tokens : List Token) (p : Procedure) → Spells tokens p → statement_token_count tokens ≡ block_count is_any p.body
 any_count = spelled_count false true true true is_any (λ x p. refl) (λ x b. refl) (λ c. refl) (λ x b e. refl) shows_statement any_told

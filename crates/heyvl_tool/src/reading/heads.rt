@@ -3,16 +3,17 @@
 ghost use Rattle.heyvl_tool.specs.Reading.{Gives, kinds_of, new_param, param, params_at, post_at, pre_at, title};
 ghost use Rattle.std.specs.Prelude.{[], IfOk, length, ◌≡◌, ◌≤◌};
 
-use crate::bodies::{place, variable};
-use crate::constants::constant;
-use crate::expecting::{expect_key, expect_mark, past_mark, word};
-use crate::first_form::Constant;
-use crate::stops::Stop;
 use heyvl_syntax::{Key, Mark, Name, Token};
 use std::alloc::Global;
 
+use super::bodies::{place, variable};
+use super::constants::constant;
+use super::expecting::{expect_key, expect_mark, past_mark, word};
+use crate::first_form::Constant;
+use super::stops::Stop;
+
 /// The name of the procedure, and the tokens from the first output on.
-pub(crate) fn title(tokens: &[Token]) -> Result<(&Name, &[Token]), Stop>
+pub(super) fn title(tokens: &[Token]) -> Result<(&Name, &[Token]), Stop>
     ensures { Gives (λ x. x.0.now) (λ x. x.1.now) result (title (kinds_of tokens.now)) }
 {
     let rest = expect_key(Key::CoProc, tokens)?;
@@ -47,7 +48,7 @@ fn new_param<'a>(names: &[Name], tokens: &'a [Token]) -> Result<(&'a Name, &'a [
 }
 
 /// The names of the outputs, which are 1 to 4 and differ, and the tokens behind them.
-pub(crate) fn params(alloc: Global, tokens: &[Token]) -> Result<(Vec<Name>, &[Token]), Stop>
+pub(super) fn params(alloc: Global, tokens: &[Token]) -> Result<(Vec<Name>, &[Token]), Stop>
     ensures value { Gives (λ x. x.0.items) (λ x. x.1.now) result (params_at 4 [] (kinds_of tokens.now)) }
     ensures few { IfOk result (λ x. length x.0.items ≤ 4) }
 {
@@ -66,7 +67,7 @@ pub(crate) fn params(alloc: Global, tokens: &[Token]) -> Result<(Vec<Name>, &[To
 }
 
 /// The pre, behind the end of the outputs.
-pub(crate) fn pre(tokens: &[Token]) -> Result<(Constant, &[Token]), Stop>
+pub(super) fn pre(tokens: &[Token]) -> Result<(Constant, &[Token]), Stop>
     ensures { Gives (λ x. x.0) (λ x. x.1.now) result (pre_at (kinds_of tokens.now)) }
 {
     let rest = expect_mark(Mark::ParenRight, tokens)?;
@@ -75,7 +76,7 @@ pub(crate) fn pre(tokens: &[Token]) -> Result<(Constant, &[Token]), Stop>
 }
 
 /// The variable of the post.
-pub(crate) fn post<'a>(names: &[Name], tokens: &'a [Token]) -> Result<(u32, &'a [Token]), Stop>
+pub(super) fn post<'a>(names: &[Name], tokens: &'a [Token]) -> Result<(u32, &'a [Token]), Stop>
     requires { length names.now ≤ 4 }
     ensures { Gives (λ x. x.0) (λ x. x.1.now) result (post_at names.now (kinds_of tokens.now)) }
 {

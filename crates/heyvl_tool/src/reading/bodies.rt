@@ -5,12 +5,13 @@ ghost use Rattle.heyvl_tool.specs.Reading.{Gives, assigned, assignment, block_at
 ghost use Rattle.std.specs.Prelude.{IfSome, length, ◌<◌, ◌≡◌, ◌≤◌};
 ghost use Rattle.std.specs.Str.{bytes_eq};
 
-use crate::constants::{constant, probability};
-use crate::expecting::{expect_key, expect_mark, past_key, past_mark, word};
-use crate::first_form::Stmt;
-use crate::stops::Stop;
 use heyvl_syntax::{Key, Mark, Name, Token};
 use std::alloc::Global;
+
+use super::constants::{constant, probability};
+use super::expecting::{expect_key, expect_mark, past_key, past_mark, word};
+use crate::first_form::Stmt;
+use super::stops::Stop;
 
 fn same_name(name: &Name, other: &Name) -> bool
     ensures { result ≡ bytes_eq name.now other.now }
@@ -26,7 +27,7 @@ fn first_place(name: &Name, names: &[Name]) -> Option<usize>
 }
 
 /// The number of a name among names.
-pub(crate) fn place(name: &Name, names: &[Name]) -> Option<u32>
+pub(super) fn place(name: &Name, names: &[Name]) -> Option<u32>
     requires { length names.now ≤ 4 }
     ensures { result ≡ place name.now names.now }
 {
@@ -35,7 +36,10 @@ pub(crate) fn place(name: &Name, names: &[Name]) -> Option<u32>
 }
 
 /// The number of the variable that is named at the front, and the tokens behind it.
-pub(crate) fn variable<'a>(names: &[Name], tokens: &'a [Token]) -> Result<(u32, &'a [Token]), Stop>
+pub(super) fn variable<'a>(
+    names: &[Name],
+    tokens: &'a [Token],
+) -> Result<(u32, &'a [Token]), Stop>
     requires { length names.now ≤ 4 }
     ensures { Gives (λ x. x.0) (λ x. x.1.now) result (variable names.now (kinds_of tokens.now)) }
 {
@@ -155,7 +159,7 @@ fn block<'a>(
 
 /// At most so many statements in braces, and the tokens behind them.
 #[cycle(statements)]
-pub(crate) fn braced<'a>(
+pub(super) fn braced<'a>(
     alloc: Global,
     names: &[Name],
     most: u8,

@@ -1,8 +1,8 @@
 use Rattle.std.proofs.Common.{◌≡◌, ◌∙◌, ◌+◌, ◌-◌, ◌<◌, ◌≤◌, ◌∷◌, ◌++◌, [], ap, arith, length, length-append, suc, sym, ℕ}
 use Rattle.std.proofs.lemmas.Grind.{common_steps}
 use Rattle.heyvl_tool.specs.Reading.{Got, kinds_of, params_at}
-use Rattle.heyvl_tool.proofs.Params.{params_none, params_last, params_on, params_fail}
-use Rattle.heyvl_tool.proofs.heads.params.Goals as goal
+use Rattle.heyvl_tool.proofs.ParamReading.{params_none, params_last, params_on, params_fail}
+use Rattle.heyvl_tool.proofs.reading.heads.params.Goals as goal
 
 pub returns-in_err-name-clause-value : goal.returns-in_err-name-clause-value
 returns-in_err-name-clause-value c =

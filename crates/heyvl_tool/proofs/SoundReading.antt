@@ -18,7 +18,7 @@ use Rattle.heyvl_tool.specs.Procedure.{Statement, Block, Procedure}
 use Rattle.heyvl_tool.specs.Reading.{Read, Got, Refused, ◌>>=◌, is_mark, is_key, past_mark, past_key, demanded, expect_mark, expect_key, word, small, given, number, pick, divided, constant, is_at_most_one, probability, place, variable, flipped, assigned, assignment, rewarded, braced, branch, statement_at, block_at, param, new_param, params_at, title, pre_at, post_at, ended, file}
 use Rattle.heyvl_tool.specs.declared.first_form.Constant.{Constant}
 use Rattle.heyvl_tool.specs.declared.first_form.Constant.TheVariants.{Whole, Quotient}
-use Rattle.heyvl_tool.proofs.Places.{Without, place_found, without_none, different_more}
+use Rattle.heyvl_tool.proofs.NamePlaces.{Without, place_found, without_none, different_more}
 
 -- Of what was read, and of the kinds behind it, a relation holds.
 abbrev pub Sound : {A : Type 0} → (A → List TokenKind → Type 0) → Read A → Type 0

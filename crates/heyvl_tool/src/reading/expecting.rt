@@ -3,10 +3,11 @@
 ghost use Rattle.heyvl_tool.specs.Reading.{Gives, expect_key, expect_mark, is_key, is_mark, kinds_of, number, past_key, past_mark, small, word};
 ghost use Rattle.std.specs.Prelude.{None, Some, MatchOption, ◌≡◌};
 
-use crate::stops::Stop;
 use heyvl_syntax::{Key, Lit, Mark, Name, Token, TokenKind};
 
-pub(crate) fn is_mark(mark: Mark, kind: &TokenKind) -> bool
+use super::stops::Stop;
+
+pub(super) fn is_mark(mark: Mark, kind: &TokenKind) -> bool
     ensures { result ≡ is_mark mark kind.now }
 {
     match kind {
@@ -17,7 +18,7 @@ pub(crate) fn is_mark(mark: Mark, kind: &TokenKind) -> bool
     }
 }
 
-pub(crate) fn is_key(key: Key, kind: &TokenKind) -> bool
+pub(super) fn is_key(key: Key, kind: &TokenKind) -> bool
     ensures { result ≡ is_key key kind.now }
 {
     match kind {
@@ -29,7 +30,7 @@ pub(crate) fn is_key(key: Key, kind: &TokenKind) -> bool
 }
 
 /// The tokens behind this mark, where it stands at the front.
-pub(crate) fn past_mark(mark: Mark, tokens: &[Token]) -> Option<&[Token]>
+pub(super) fn past_mark(mark: Mark, tokens: &[Token]) -> Option<&[Token]>
     ensures { MatchOption result (past_mark mark (kinds_of tokens.now) ≡ None) (λ rest. past_mark mark (kinds_of tokens.now) ≡ Some (kinds_of rest.now)) }
 {
     let (token, rest) = tokens.split_first()?;
@@ -37,7 +38,7 @@ pub(crate) fn past_mark(mark: Mark, tokens: &[Token]) -> Option<&[Token]>
 }
 
 /// The tokens behind this key, where it stands at the front.
-pub(crate) fn past_key(key: Key, tokens: &[Token]) -> Option<&[Token]>
+pub(super) fn past_key(key: Key, tokens: &[Token]) -> Option<&[Token]>
     ensures { MatchOption result (past_key key (kinds_of tokens.now) ≡ None) (λ rest. past_key key (kinds_of tokens.now) ≡ Some (kinds_of rest.now)) }
 {
     let (token, rest) = tokens.split_first()?;
@@ -45,21 +46,21 @@ pub(crate) fn past_key(key: Key, tokens: &[Token]) -> Option<&[Token]>
 }
 
 /// The tokens behind this mark, which has to stand at the front.
-pub(crate) fn expect_mark(mark: Mark, tokens: &[Token]) -> Result<&[Token], Stop>
+pub(super) fn expect_mark(mark: Mark, tokens: &[Token]) -> Result<&[Token], Stop>
     ensures { Gives (λ rest. tt) (λ rest. rest.now) result (expect_mark mark (kinds_of tokens.now)) }
 {
     past_mark(mark, tokens).ok_or(Stop::NotInForm)
 }
 
 /// The tokens behind this key, which has to stand at the front.
-pub(crate) fn expect_key(key: Key, tokens: &[Token]) -> Result<&[Token], Stop>
+pub(super) fn expect_key(key: Key, tokens: &[Token]) -> Result<&[Token], Stop>
     ensures { Gives (λ rest. tt) (λ rest. rest.now) result (expect_key key (kinds_of tokens.now)) }
 {
     past_key(key, tokens).ok_or(Stop::NotInForm)
 }
 
 /// The word at the front, and the tokens behind it.
-pub(crate) fn word(tokens: &[Token]) -> Result<(&Name, &[Token]), Stop>
+pub(super) fn word(tokens: &[Token]) -> Result<(&Name, &[Token]), Stop>
     ensures { Gives (λ x. x.0.now) (λ x. x.1.now) result (word (kinds_of tokens.now)) }
 {
     match tokens.split_first() {
@@ -85,7 +86,7 @@ fn small(literal: Lit) -> Option<u8>
 }
 
 /// The whole number of at most 16 at the front, and the tokens behind it.
-pub(crate) fn number(tokens: &[Token]) -> Result<(u8, &[Token]), Stop>
+pub(super) fn number(tokens: &[Token]) -> Result<(u8, &[Token]), Stop>
     ensures { Gives (λ x. x.0) (λ x. x.1.now) result (number (kinds_of tokens.now)) }
 {
     match tokens.split_first() {

@@ -14,9 +14,9 @@ use Rattle.heyvl_tool.specs.Procedure.{Statement, Block, Procedure}
 use Rattle.heyvl_tool.specs.Reading.{Read, Got, Refused, ◌>>=◌, past_mark, number, pick, divided, constant, is_at_most_one, probability, variable, statement_at, block_at, new_param, params_at, pre_at, post_at, braced, file}
 use Rattle.heyvl_tool.specs.declared.first_form.Constant.{Constant}
 use Rattle.heyvl_tool.specs.declared.first_form.Constant.TheVariants.{Whole, Quotient}
-use Rattle.heyvl_tool.proofs.Blocks.{block_more, block_ends}
-use Rattle.heyvl_tool.proofs.Params.{params_last, params_on}
-use Rattle.heyvl_tool.proofs.Places.{none_without, different_without, place_named}
+use Rattle.heyvl_tool.proofs.BlockReading.{block_more, block_ends}
+use Rattle.heyvl_tool.proofs.ParamReading.{params_last, params_on}
+use Rattle.heyvl_tool.proofs.NamePlaces.{none_without, different_without, place_named}
 
 number_complete : (n : ℕ) (r : List TokenKind) → n ≤ 16 → number (grammar.number n ++ r) ≡ Got n r
 number_complete n r h = rw (le-leb n 16 h) refl

@@ -3,10 +3,11 @@
 ghost use Rattle.heyvl_tool.specs.Reading.{Gives, constant, divided, is_at_most_one, kinds_of, probability};
 ghost use Rattle.std.specs.Prelude.{◌≡◌};
 
-use crate::expecting::{number, past_mark};
-use crate::first_form::Constant;
-use crate::stops::Stop;
 use heyvl_syntax::{Mark, Token};
+
+use super::expecting::{number, past_mark};
+use crate::first_form::Constant;
+use super::stops::Stop;
 
 /// The quotient of a number by the one at the front.
 fn divided(over: u8, tokens: &[Token]) -> Result<(Constant, &[Token]), Stop>
@@ -20,7 +21,7 @@ fn divided(over: u8, tokens: &[Token]) -> Result<(Constant, &[Token]), Stop>
 }
 
 /// The constant at the front, and the tokens behind it.
-pub(crate) fn constant(tokens: &[Token]) -> Result<(Constant, &[Token]), Stop>
+pub(super) fn constant(tokens: &[Token]) -> Result<(Constant, &[Token]), Stop>
     ensures { Gives (λ x. x.0) (λ x. x.1.now) result (constant (kinds_of tokens.now)) }
 {
     let (number, rest) = number(tokens)?;
@@ -40,7 +41,7 @@ fn is_at_most_one(constant: Constant) -> bool
 }
 
 /// The constant of at most 1 at the front, and the tokens behind it.
-pub(crate) fn probability(tokens: &[Token]) -> Result<(Constant, &[Token]), Stop>
+pub(super) fn probability(tokens: &[Token]) -> Result<(Constant, &[Token]), Stop>
     ensures { Gives (λ x. x.0) (λ x. x.1.now) result (probability (kinds_of tokens.now)) }
 {
     let (constant, rest) = constant(tokens)?;

@@ -4,8 +4,8 @@ use Prim.Native.Nat.{zero, suc}
 use Rattle.heyvl_syntax.specs.declared.marks.Mark.TheVariants as marks
 use Rattle.heyvl_syntax.specs.declared.tokens.TokenKind.{TokenKind}
 use Rattle.heyvl_tool.specs.Reading.{Read, Got, Refused, ◌>>=◌, Fails, past_mark, pick, new_param, params_at}
-use Rattle.heyvl_tool.specs.declared.stops.Stop.{Stop}
-use Rattle.heyvl_tool.specs.declared.stops.Stop.TheVariants.{NotInForm, Memory}
+use Rattle.heyvl_tool.specs.declared.reading.stops.Stop.{Stop}
+use Rattle.heyvl_tool.specs.declared.reading.stops.Stop.TheVariants.{NotInForm, Memory}
 
 pub params_more : (n : ℕ) (ws : List (List ℕ)) (ks : List TokenKind) → params_at (suc n) ws ks ≡ (new_param ws ks >>= λ w r. pick (past_mark marks.Comma r) (params_at n (ws ++ (w ∷ []))) (Got (ws ++ (w ∷ [])) r))
 unfolding params_at

@@ -1,8 +1,8 @@
 use Rattle.std.proofs.Common.{length, ◌≡◌, ◌≤◌, ◌*◌, ◌+◌, map}
 use Rattle.heyvl_tool.specs.Procedure.{statement}
 use Rattle.heyvl_tool.specs.Reading.{block_at, kinds_of}
-use Rattle.heyvl_tool.proofs.Blocks.{behind}
-use Rattle.heyvl_tool.proofs.bodies.+statements.Given as goal
+use Rattle.heyvl_tool.proofs.BlockReading.{behind}
+use Rattle.heyvl_tool.proofs.reading.bodies.+statements.Given as goal
 
 abbrev pub decreases-block : goal.decreases-block
 decreases-block l = 4 * l.most

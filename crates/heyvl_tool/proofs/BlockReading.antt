@@ -4,8 +4,8 @@ use Prim.Native.Nat.{zero, suc}
 use Rattle.heyvl_syntax.specs.declared.marks.Mark.TheVariants as marks
 use Rattle.heyvl_syntax.specs.declared.tokens.TokenKind.{TokenKind}
 use Rattle.heyvl_tool.specs.Procedure.{Statement, Block, block_of}
-use Rattle.heyvl_tool.specs.declared.stops.Stop.{Stop}
-use Rattle.heyvl_tool.specs.declared.stops.Stop.TheVariants.{NotInForm, Memory}
+use Rattle.heyvl_tool.specs.declared.reading.stops.Stop.{Stop}
+use Rattle.heyvl_tool.specs.declared.reading.stops.Stop.TheVariants.{NotInForm, Memory}
 use Rattle.heyvl_tool.specs.Reading.{Read, Got, Refused, ◌>>=◌, Fails, past_mark, pick, statement_at, block_at}
 
 abbrev pub joined : List Statement → Block → Block

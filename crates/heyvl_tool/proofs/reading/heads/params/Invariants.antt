@@ -1,6 +1,6 @@
 use Rattle.std.proofs.Common.{◌≡◌, ◌≤◌, ◌-◌, length, []}
 use Rattle.heyvl_tool.specs.Reading.{kinds_of, params_at}
-use Rattle.heyvl_tool.proofs.heads.params.Given as goal
+use Rattle.heyvl_tool.proofs.reading.heads.params.Given as goal
 
 abbrev pub invariant-params : goal.invariant-params
 invariant-params l = record {

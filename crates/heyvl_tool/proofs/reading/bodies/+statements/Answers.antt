@@ -3,8 +3,8 @@ use Rattle.std.proofs.lemmas.List.{map-append}
 use Rattle.std.proofs.lemmas.Grind.{common_steps}
 use Rattle.heyvl_tool.specs.Procedure.{statement}
 use Rattle.heyvl_tool.specs.Reading.{Got, kinds_of, block_at}
-use Rattle.heyvl_tool.proofs.Blocks.{behind, block_ends, block_refused, statement_more, block_fails, joined_done}
-use Rattle.heyvl_tool.proofs.bodies.+statements.Goals as goal
+use Rattle.heyvl_tool.proofs.BlockReading.{behind, block_ends, block_refused, statement_more, block_fails, joined_done}
+use Rattle.heyvl_tool.proofs.reading.bodies.+statements.Goals as goal
 
 pub block-returns-in-Some : goal.block-returns-in-Some
 block-returns-in-Some t c =

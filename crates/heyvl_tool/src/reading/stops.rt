@@ -1,13 +1,13 @@
 //! Why reading stops.
 
-ghost use Rattle.heyvl_tool.specs.declared.stops.Stop.TheVariants.{Memory};
+ghost use Rattle.heyvl_tool.specs.declared.reading.stops.Stop.TheVariants.{Memory};
 ghost use Rattle.std.specs.Prelude.{◌≡◌};
 
 use std::alloc::{AllocError, AllocFailed};
 
 /// Why the reader stops.
 #[derive(Debug, Drop)]
-pub(crate) enum Stop {
+pub(super) enum Stop {
     /// The tokens are not in the first form.
     NotInForm,
     /// There is no memory for what was read.
