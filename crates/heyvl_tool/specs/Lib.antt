@@ -1,0 +1,12 @@
+pub mod Procedure
+pub mod Grammar
+pub mod Limits
+pub mod State
+pub mod Formula
+pub mod Acts
+pub mod Step
+pub mod Runs
+pub mod Sums
+pub mod Bound
+pub mod Meaning
+pub mod Verdict

@@ -1,0 +1,8 @@
+//! The top call of Caesar, and what belongs to its commands.
+#![tactic(auto)]
+
+mod answers;
+mod first_form;
+
+pub use answers::{Answer, GoalId, Val, Verdict};
+pub use first_form::{Constant, FirstForm, Stmt};
