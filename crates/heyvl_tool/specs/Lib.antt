@@ -9,4 +9,5 @@ pub mod Runs
 pub mod Sums
 pub mod Bound
 pub mod Meaning
+pub mod Expectation
 pub mod Verdict
