@@ -1,8 +1,7 @@
 -- The expected value of a block of the first form: for each state, reward and value of the rest, weighted exactly.
-use Rattle.std.specs.Prelude.{cond}
-use Rattle.heyvl_num.specs.Rational.{Rational, oneʳ, ◌+ʳ◌, ◌-ʳ◌, ◌*ʳ◌}
+use Rattle.std.specs.Prelude.{ℕ, true, false, cond}
+use Rattle.heyvl_num.specs.Rational.{Rational, zeroʳ, oneʳ, ◌+ʳ◌, ◌-ʳ◌, ◌*ʳ◌}
 use Rattle.heyvl_tool.specs.declared.answers.Val.TheVariants.{Truth}
-use Rattle.std.specs.Prelude.{true, false}
 use Rattle.heyvl_tool.specs.State.{State, get, put, truth_of}
 use Rattle.heyvl_tool.specs.Procedure.{Statement, Block}
 use Rattle.heyvl_tool.specs.Meaning.{constant_value}
@@ -18,3 +17,7 @@ abbrev mutual
   pub expectation : Block → (State → Rational) → State → Rational
   expectation Block.done k s = k s
   expectation (Block.next a as') k s = before_statement a (expectation as' k) s
+
+-- The post `[x]`: 1 where x is true, and 0 elsewhere.
+abbrev pub post_value : ℕ → State → Rational
+post_value x s = cond (truth_of (get x s)) oneʳ zeroʳ
