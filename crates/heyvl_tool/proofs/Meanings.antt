@@ -18,6 +18,7 @@ use Rattle.heyvl_tool.specs.Procedure.{Statement, Block, Procedure}
 use Rattle.heyvl_tool.specs.Limits.{IsConstant, IsProbability, IsStatement, IsBlock, IsWithinLimits}
 use Rattle.heyvl_tool.specs.Meaning.{constant_value, flip_parts, act_of, acts_of, program}
 use Rattle.heyvl_tool.specs.Expectation.{before_statement, expectation, post_value}
+use Rattle.heyvl_tool.specs.Room.{divisor}
 use Rattle.heyvl_tool.specs.Bound.{Program, IsBoundedAt}
 use Rattle.heyvl_tool.proofs.Forward.{forward_act, forward, total, HasWeights, IsFair, IsFairAct}
 use Rattle.heyvl_tool.proofs.Bounds.{IsFairProgram, IsNonnegative, bounded-forward, forward-bounded}
@@ -27,15 +28,26 @@ constant_nonnegative (Whole n) h = ratio_nonnegative (pos n) 1 (omega arith) (om
 constant_nonnegative (Quotient n d) h = ratio_nonnegative (pos n) d h.2 (omega (arith, ints))
 
 -- a probability, and what is left of 1, as fractions of one divisor
-pub record Chance (p : Rational) : Type 0 where
+pub record Chance (p : Rational) (d : ℕ) : Type 0 where
   pub n : ℕ
   pub m : ℕ
-  pub d : ℕ
   pub some : 0 < d
   pub small : d ≤ 16
   pub sums : n + m ≡ d
   pub yes : p ≡ ratio (pos n) d
   pub no : oneʳ -ʳ p ≡ ratio (pos m) d
+
+-- a constant as a fraction
+pub record Amount (r : Rational) (d : ℕ) : Type 0 where
+  pub n : ℕ
+  pub few : n ≤ 16
+  pub some : 0 < d
+  pub small : d ≤ 16
+  pub is : r ≡ ratio (pos n) d
+
+pub amount : (c : Constant) → IsConstant c → Amount (constant_value c) (divisor c)
+amount (Whole n) h = record { n = n; few = h; some = omega arith; small = omega arith; is = refl }
+amount (Quotient n d) h = record { n = n; few = h.0; some = h.2; small = h.1; is = refl }
 
 minus : (n m d : ℕ) → n + m ≡ d → 0 < d → oneʳ -ʳ ratio (pos n) d ≡ ratio (pos m) d
 unfolding oneʳ ◌-ʳ◌
@@ -47,9 +59,9 @@ minus n m d e p =
 some_rest : (n d : ℕ) → n ≤ d → n + (d - n) ≡ d
 some_rest n d h = omega arith
 
-pub chance : (c : Constant) → IsProbability c → Chance (constant_value c)
-chance (Whole n) h = record { n = n; m = 1 - n; d = 1; some = omega arith; small = omega arith; sums = some_rest n 1 h; yes = refl; no = minus n (1 - n) 1 (some_rest n 1 h) (omega arith) }
-chance (Quotient n d) h = record { n = n; m = d - n; d = d; some = h.2; small = h.1; sums = some_rest n d h.0; yes = refl; no = minus n (d - n) d (some_rest n d h.0) h.2 }
+pub chance : (c : Constant) → IsProbability c → Chance (constant_value c) (divisor c)
+chance (Whole n) h = record { n = n; m = 1 - n; some = omega arith; small = omega arith; sums = some_rest n 1 h; yes = refl; no = minus n (1 - n) 1 (some_rest n 1 h) (omega arith) }
+chance (Quotient n d) h = record { n = n; m = d - n; some = h.2; small = h.1; sums = some_rest n d h.0; yes = refl; no = minus n (d - n) d (some_rest n d h.0) h.2 }
 
 ratio_pos : (n d : ℕ) → 0 < d → zeroʳ ≤ʳ ratio (pos n) d
 ratio_pos n d p = ratio_nonnegative (pos n) d p (omega (arith, ints))
@@ -61,7 +73,7 @@ whole n m d e p =
     ap (λ x. ratio (pos n) d +ʳ x) (+ʳ-zero _) ∙ ratio-+ (pos n) d (pos m) d p p ∙ ratio_same _ _ _ _ (mul-pos p p) (omega arith) above
 
 pub flip_weights : (c : Constant) → IsProbability c → HasWeights (flip_parts (constant_value c)) × (total (flip_parts (constant_value c)) ≡ oneʳ)
-flip_weights c h = let k = chance c h in ((rw k.yes (ratio_pos k.n k.d k.some), (rw k.no (ratio_pos k.m k.d k.some), tt)), rw (k.yes, minus k.n k.m k.d k.sums k.some) (whole k.n k.m k.d k.sums k.some))
+flip_weights c h = let k = chance c h in ((rw k.yes (ratio_pos k.n (divisor c) k.some), (rw k.no (ratio_pos k.m (divisor c) k.some), tt)), rw (k.yes, minus k.n k.m (divisor c) k.sums k.some) (whole k.n k.m (divisor c) k.sums k.some))
 
 if_value : (t : Bool) (x y : Rational) (v w : Value) → v ≡ finite x → w ≡ finite y → cond t v w ≡ finite (cond t x y)
 if_value true x y v w e f = e

@@ -10,4 +10,6 @@ pub mod Sums
 pub mod Bound
 pub mod Meaning
 pub mod Expectation
+pub mod Numbering
+pub mod Room
 pub mod Verdict

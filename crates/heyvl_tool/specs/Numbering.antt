@@ -1,0 +1,26 @@
+-- States by number, in their order as lists, and tables that hold a fraction for each.
+use Rattle.std.specs.Prelude.{◌≡◌, ℕ, ◌+◌, ◌*◌, ◌/◌, ◌%◌, ◌^◌, ◌<◌, ◌==◌, Bool, true, false, cond, List, [], ◌∷◌, length}
+use Rattle.std.proofs.Common.{get_or}
+use Prim.Native.Nat.{zero, suc}
+use Rattle.heyvl_num.specs.Rational.{Rational, zeroʳ}
+use Rattle.heyvl_tool.specs.declared.answers.Val.{Val}
+use Rattle.heyvl_tool.specs.declared.answers.Val.TheVariants.{Truth}
+use Rattle.heyvl_tool.specs.State.{State, truth_of}
+
+abbrev pub digit : Bool → ℕ
+digit b = cond b 1 0
+
+-- The number with the values for binary digits, the first the most significant.
+abbrev pub number : State → ℕ
+number [] = 0
+number (v ∷ s) = digit (truth_of v) * 2 ^ length s + number s
+
+-- The state of so many variables whose number, up to a multiple of 2 ^ k, is this.
+abbrev pub state_at : ℕ → ℕ → State
+state_at zero n = []
+state_at (suc k) n = Truth (n / 2 ^ k % 2 == 1) ∷ state_at k n
+
+-- A table of the values of a function, one for each state.
+pub record IsTable (k : ℕ) (f : State → Rational) (table : List Rational) : Type 0 where
+  pub size : length table ≡ 2 ^ k
+  pub entries : (n : ℕ) → n < 2 ^ k → get_or table n zeroʳ ≡ f (state_at k n)
