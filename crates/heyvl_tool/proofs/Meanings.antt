@@ -122,3 +122,7 @@ bounded-expected p h s b = finite_order _ _ (subst (λ v. v ≤ᵛ finite (const
 
 pub expected-bounded : (p : Procedure) → IsWithinLimits p → (s : State) → expectation p.body (post_value p.post) s ≤ʳ constant_value p.pre → IsBoundedAt (program p) s
 expected-bounded p h s b = forward-bounded (program p) (fair_program p h) s (subst (λ v. v ≤ᵛ finite (constant_value p.pre)) (sym (expected p s)) (order_finite _ _ b))
+
+-- what a fraction of at most 1 leaves of 1
+pub rest_of : (n d : ℕ) → n ≤ d → 0 < d → oneʳ -ʳ ratio (pos n) d ≡ ratio (pos (d - n)) d
+rest_of n d h p = minus n (d - n) d (some_rest n d h) p

@@ -1,9 +1,8 @@
 -- Numbers of states.
-use Rattle.std.proofs.Common.{◌≡◌, ℕ, ◌+◌, ◌-◌, ◌*◌, ◌/◌, ◌%◌, ◌^◌, ◌≤◌, ◌<◌, ◌==◌, refl, sym, ap, ap₂, ◌∙◌, subst, Bool, true, false, cond, List, [], ◌∷◌, arith, length, ◌⊎◌, inl, inr}
+use Rattle.std.proofs.Common.{◌≡◌, ℕ, ◌+◌, ◌-◌, ◌*◌, ◌/◌, ◌%◌, ◌^◌, ◌≤◌, ◌<◌, ◌==◌, refl, sym, ap, ap₂, ◌∙◌, subst, Bool, true, false, cond, List, [], ◌∷◌, arith, length, ◌⊎◌, inl, inr, ◌++◌, take, mod-eq_of_lt}
 use Prim.Native.Nat.{zero, suc}
-use Rattle.std.proofs.lemmas.Nat.{mod-pow-add, pow_pos, div-mul-add, mod-mul-add, shr_high}
-use Rattle.std.specs.Int.Bits.{block_odd}
-use Rattle.std.proofs.Math.Nat.{two-pow-succ, pow-suc}
+use Rattle.std.proofs.lemmas.Nat.{mod-pow-add, div-mul-add}
+use Rattle.std.proofs.Math.Nat.{two-pow-succ, div-mul-le_self, mul-le-mul_right}
 use Rattle.heyvl_tool.specs.declared.answers.Val.{Val}
 use Rattle.heyvl_tool.specs.declared.answers.Val.TheVariants.{Truth}
 use Rattle.heyvl_tool.specs.State.{State, get, put, truth_of, IsBefore}
@@ -78,3 +77,33 @@ number_before [] s e h = absurd h
 number_before (v ∷ r) [] e h = absurd h
 number_before (v ∷ r) (w ∷ s) e (inl h) = rw (h.0, h.1) (let l : length r ≡ length s = omega arith in omega (arith, number_below r, ap (λ j. 2 ^ j) l))
 number_before (v ∷ r) (w ∷ s) e (inr h) = let l : length r ≡ length s = omega arith in omega (arith, number_before r s l h.1, ap₂ (λ u j. digit (truth_of u) * 2 ^ j) h.0 l)
+
+-- ---- What the code computes
+
+place : (k x : ℕ) → x < k → suc (x + (k - 1 - x)) ≡ k
+place k x h = omega arith
+
+pub test_of : (k n x w : ℕ) → x < k → w ≡ 2 ^ (k - 1 - x) → (n / w % 2 == 1) ≡ truth_of (get x (state_at k n))
+test_of k n x w h e = rw (e, get-state_at k n x (k - 1 - x) (place k x h))
+
+-- the number of a changed state, with the digit that it had
+pub changed_number : (k n x w : ℕ) (b : Bool) → x < k → w ≡ 2 ^ (k - 1 - x) → n < 2 ^ k → number (put x (Truth b) (state_at k n)) + digit (truth_of (get x (state_at k n))) * w ≡ n + digit b * w
+changed_number k n x w b h e l =
+    rw e
+    (subst (λ t. number (put x (Truth b) (state_at k n)) + digit t * 2 ^ (k - 1 - x) ≡ n + digit b * 2 ^ (k - 1 - x)) (ap truth_of (sym (get-state_at k n x (k - 1 - x) (place k x h))) ∙ refl)
+    (number-put k n x (k - 1 - x) b (place k x h) ∙ ap (λ m. m + digit b * 2 ^ (k - 1 - x)) (mod-eq_of_lt l)))
+
+pub weight_within : (k n x w : ℕ) → x < k → w ≡ 2 ^ (k - 1 - x) → truth_of (get x (state_at k n)) ≡ true → w ≤ n
+weight_within k n x w h e t =
+    let odd : n / w % 2 ≡ 1 = sym (digit_odd (n / w)) ∙ ap digit (test_of k n x w h e ∙ t) in
+    let some : 1 ≤ n / w = omega arith in
+    omega (arith, div-mul-le_self n w, mul-le-mul_right w some)
+
+pub take_get : (x : ℕ) (s : State) → x < length s → take (x + 1) s ≡ take x s ++ Truth (truth_of (get x s)) ∷ []
+take_get x [] h = absurd (omega arith)
+take_get zero (Truth b ∷ s) h = refl
+take_get (suc x) (Truth b ∷ s) h = let e : suc x + 1 ≡ suc (x + 1) = omega arith in ap (λ j. take j (Truth b ∷ s)) e ∙ ap (λ ys. Truth b ∷ ys) (take_get x s (omega arith))
+
+-- the number without the digit, and then with the new one
+pub changed_from : (k n x w : ℕ) (b t : Bool) (m r : ℕ) → x < k → w ≡ 2 ^ (k - 1 - x) → n < 2 ^ k → t ≡ truth_of (get x (state_at k n)) → m + digit t * w ≡ n → r ≡ m + digit b * w → r ≡ number (put x (Truth b) (state_at k n))
+changed_from k n x w b t m r h e l f g i = let j = changed_number k n x w b h e l in omega (arith, j, ap (λ u. digit u * w) f)

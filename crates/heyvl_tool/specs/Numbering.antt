@@ -20,7 +20,15 @@ abbrev pub state_at : ℕ → ℕ → State
 state_at zero n = []
 state_at (suc k) n = Truth (n / 2 ^ k % 2 == 1) ∷ state_at k n
 
--- A table of the values of a function, one for each state.
-pub record IsTable (k : ℕ) (f : State → Rational) (table : List Rational) : Type 0 where
-  pub size : length table ≡ 2 ^ k
-  pub entries : (n : ℕ) → n < 2 ^ k → get_or table n zeroʳ ≡ f (state_at k n)
+-- The first values of a function of numbers.
+pub record AreEntries (n : ℕ) (f : ℕ → Rational) (table : List Rational) : Type 0 where
+  pub size : length table ≡ n
+  pub each : (m : ℕ) → m < n → get_or table m zeroʳ ≡ f m
+
+-- A table of the values of a function, one for each state of so many variables.
+abbrev pub IsTable : ℕ → (State → Rational) → List Rational → Type 0
+IsTable k f table = AreEntries (2 ^ k) (λ n. f (state_at k n)) table
+
+-- What a table holds for a state.
+abbrev pub value_in : List Rational → State → Rational
+value_in table s = get_or table (number s) zeroʳ

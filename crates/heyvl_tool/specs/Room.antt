@@ -45,3 +45,22 @@ StatementHasRoom k s f = IsStatement k s × HasRoom k (statement_divisors s) (st
 
 abbrev pub BlockHasRoom : ℕ → Block → (State → Rational) → Type 0
 BlockHasRoom k b f = IsBlock k b × HasRoom k (divisors b) (block_count is_reward b) f
+
+-- A fraction that isn't negative, with parts of at most these.
+pub record IsWithin (top bottom : ℕ) (v : Rational) : Type 0 where
+  pub num : ℕ
+  pub is : v.num ≡ pos num
+  pub above : num ≤ top
+  pub below : v.den ≤ bottom
+
+-- Values of a block within the limits.
+abbrev pub IsSmallValue : Rational → Type 0
+IsSmallValue v = IsWithin (65 * 2 ^ 40) (2 ^ 40) v
+
+-- Constants within the limits.
+abbrev pub IsSmallConstant : Rational → Type 0
+IsSmallConstant v = IsWithin 16 16 v
+
+-- A share of a value, by a weight within the limits.
+abbrev pub IsShare : Rational → Type 0
+IsShare v = IsWithin (16 * (65 * 2 ^ 40)) (16 * 2 ^ 40) v

@@ -2,7 +2,10 @@
 #![tactic(auto)]
 
 mod answers;
+mod constants;
+mod expectation;
 mod first_form;
+mod numbering;
 
 pub use answers::{Answer, GoalId, Val, Verdict};
 pub use first_form::{Constant, FirstForm, Stmt};
