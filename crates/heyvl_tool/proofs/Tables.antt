@@ -1,5 +1,5 @@
 -- Tables of values.
-use Rattle.std.proofs.Common.{◌≡◌, ℕ, ◌+◌, ◌*◌, ◌^◌, ◌≤◌, ◌<◌, refl, sym, ap, ap₂, ◌∙◌, subst, arith, List, [], ◌∷◌, ◌++◌, length, get_or, length-append, below_more, lit<}
+use Rattle.std.proofs.Common.{◌≡◌, ℕ, ◌+◌, ◌*◌, ◌^◌, ◌≤◌, ◌<◌, refl, sym, ap, ap₂, ◌∙◌, subst, arith, List, [], ◌∷◌, ◌++◌, length, get_or, length-append, below_more, mod-eq_of_lt, lit<}
 use Rattle.heyvl_num.specs.Rational.{Rational, ratio, zeroʳ, oneʳ, ◌-ʳ◌}
 use Rattle.heyvl_tool.specs.declared.answers.Val.{Val}
 use Rattle.heyvl_tool.specs.State.{State, put}
@@ -63,3 +63,7 @@ rest_small c h = let a = chance c h in small_ratio _ a.m (divisor c) a.no a.some
 
 pub few_states : (k : ℕ) → k ≤ 4 → 2 ^ k ≤ 16
 few_states k h = pow-le-pow_right {n = 2} (lit< tt) h
+
+-- a read of the table at a number
+pub read_at : (k : ℕ) (table : List Rational) (n : ℕ) (v : Rational) → length table ≡ 2 ^ k → n < 2 ^ k → v ≡ get_or table n v → v ≡ value_in table (state_at k n)
+read_at k table n v e h f = read_value table (state_at k n) n v (sym (number-state_at k n ∙ mod-eq_of_lt h)) (omega arith) f
