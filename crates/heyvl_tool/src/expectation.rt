@@ -2,14 +2,14 @@
 ghost use Rattle.std.specs.Prelude.{◌≡◌, ◌^◌, ◌<◌, ◌≤◌, length, cond, IfOk};
 ghost use Rattle.heyvl_num.specs.Rational.{◌+ʳ◌, ◌*ʳ◌};
 ghost use Rattle.heyvl_tool.specs.State.{get, put, truth_of};
-ghost use Rattle.heyvl_tool.specs.Procedure.{Statement, Block};
-ghost use Rattle.heyvl_tool.specs.Expectation.{before_statement};
+ghost use Rattle.heyvl_tool.specs.Procedure.{Statement, statement, block};
+ghost use Rattle.heyvl_tool.specs.Expectation.{before_statement, expectation};
 ghost use Rattle.heyvl_tool.specs.Numbering.{state_at, IsTable, value_in};
-ghost use Rattle.heyvl_tool.specs.Room.{IsSmallConstant, IsSmallValue, IsShare, StatementHasRoom};
+ghost use Rattle.heyvl_tool.specs.Room.{IsSmallConstant, IsSmallValue, IsShare, StatementHasRoom, BlockHasRoom};
 ghost use Rattle.heyvl_tool.specs.declared.answers.Val.TheVariants.{Truth};
 
 use crate::constants::{complement, fraction};
-use crate::first_form::Constant;
+use crate::first_form::{Constant, Stmt};
 use crate::numbering::{changed, is_true};
 use heyvl_num::Frac;
 use std::alloc::{AllocError, Global};
@@ -157,4 +157,39 @@ fn joined(alloc: Global, outputs: usize, variable: usize, yes: &[Frac], no: &[Fr
         both.push(either(outputs, variable, yes, no, state))?;
     }
     Ok(both)
+}
+
+/// The table before a statement.
+#[cycle(blocks)]
+fn before(alloc: Global, outputs: usize, after: &[Frac], stmt: &Stmt) -> Result<Vec<Frac>, AllocError>
+    requires few { outputs ≤ 4 }
+    requires size { length after.now ≡ 2 ^ outputs }
+    requires room { StatementHasRoom outputs (statement stmt.now) (value_in after.now) }
+    ensures { IfOk result (λ t. IsTable outputs (before_statement (statement stmt.now) (value_in after.now)) t.items) }
+{
+    match stmt {
+        Stmt::Flip(variable, chance) => before_flip(alloc, outputs, after, *variable as usize, *chance),
+        Stmt::Set(variable, truth) => before_set(alloc, outputs, after, *variable as usize, *truth),
+        Stmt::Reward(reward) => before_reward(alloc, outputs, after, *reward),
+        Stmt::If(variable, yes, no) => {
+            let yes = before_block(alloc, outputs, after, yes)?;
+            let no = before_block(alloc, outputs, after, no)?;
+            joined(alloc, outputs, *variable as usize, &yes, &no)
+        }
+    }
+}
+
+/// The table before a block.
+#[cycle(blocks)]
+pub fn before_block(alloc: Global, outputs: usize, after: &[Frac], stmts: &[Stmt]) -> Result<Vec<Frac>, AllocError>
+    requires few { outputs ≤ 4 }
+    requires size { length after.now ≡ 2 ^ outputs }
+    requires room { BlockHasRoom outputs (block stmts.now) (value_in after.now) }
+    ensures { IfOk result (λ t. IsTable outputs (expectation (block stmts.now) (value_in after.now)) t.items) }
+{
+    let mut table = Vec::from_slice(alloc, after)?;
+    for i in (0..stmts.len()).rev() {
+        table = before(alloc, outputs, &table, &stmts[i])?;
+    }
+    Ok(table)
 }
