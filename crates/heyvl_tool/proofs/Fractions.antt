@@ -12,7 +12,7 @@ use Rattle.heyvl_num.specs.Exact.{is_small, quotient, quotient_fits, exact_quoti
 use Rattle.heyvl_num.proofs.Rationals.{ratio_num, ratio_den}
 use Rattle.heyvl_tool.specs.Room.{IsOnGrid, IsWithin, IsSmallValue, IsSmallConstant, IsShare}
 
-small_number : (n : ℕ) → n < 2 ^ 127 → is_small (pos n) ≡ true
+pub small_number : (n : ℕ) → n < 2 ^ 127 → is_small (pos n) ≡ true
 small_number n h = lt-ltb n (2 ^ 127) h
 
 quotient_known : (n d : ℕ) → n < 2 ^ 8 → 0 < d → d < 2 ^ 8 → exact_quotient (pos n) (pos d) ≡ Some (ratio (pos n) d)
@@ -39,7 +39,7 @@ product_within a b c d x y h k =
     rw (h.is, k.is)
     (within_more (h.num * k.num) (x.den * y.den) (a * c) (b * d) _ (mul-le-mul h.above k.above) (mul-le-mul h.below k.below) (ratio_within (h.num * k.num) (x.den * y.den) (mul-pos x.positive y.positive)))
 
-given : {A : Type 0} (t : Bool) (x : A) → t ≡ true → cond t (Some x) None ≡ Some x
+pub given : {A : Type 0} (t : Bool) (x : A) → t ≡ true → cond t (Some x) None ≡ Some x
 given t x e = rw e
 
 product_fit : (a b c d : ℕ) (x y : Rational) → IsWithin a b x → IsWithin c d y → a * c < 2 ^ 127 → b * d < 2 ^ 127 → product_fits x y ≡ true

@@ -34,15 +34,11 @@ table_value k f table h s e = sym (h.each (number s) (subst (λ j. number s < 2 
 pub below_size : (k n x : ℕ) (v : Val) → number (put x v (state_at k n)) < 2 ^ k
 below_size k n x v = subst (λ j. number (put x v (state_at k n)) < 2 ^ j) (length-put x v (state_at k n) ∙ length-state_at k n) (number_below (put x v (state_at k n)))
 
+pub small_value : (g b : ℕ) (v : Rational) → 0 < g → g ≤ 2 ^ 40 → b ≤ 65 → IsOnGrid g b v → IsSmallValue v
+small_value g b v p narrow low h = subst IsSmallValue (sym h.is) (within_more h.amount g (65 * 2 ^ 40) (2 ^ 40) _ (omega (arith, h.most, mul-le-mul low narrow)) narrow (ratio_within h.amount g p))
+
 pub room_small : (k factor rewards : ℕ) (f : State → Rational) → 0 < factor → HasRoom k factor rewards f → (s : State) → length s ≡ k → IsSmallValue (f s)
-room_small k factor rewards f p h s e =
-    let v = h.values s e in
-    subst IsSmallValue (sym v.is) (within_more v.amount h.grid (65 * 2 ^ 40) (2 ^ 40) _ (most v.amount h.bound h.grid (omega (arith, h.low)) narrow v.most) narrow (ratio_within v.amount h.grid h.positive))
-  where
-    most : (a b g : ℕ) → b ≤ 65 → g ≤ 2 ^ 40 → a ≤ b * g → a ≤ 65 * 2 ^ 40
-    most a b g l n m = omega (arith, mul-le-mul l n)
-    narrow : h.grid ≤ 2 ^ 40
-    narrow = omega (arith, h.narrow, le-mul_of_pos_right h.grid p)
+room_small k factor rewards f p h s e = small_value h.grid h.bound _ h.positive (omega (arith, h.narrow, le-mul_of_pos_right h.grid p)) (omega (arith, h.low)) (h.values s e)
 
 -- a read of the table at the number of a state
 pub read_value : (table : List Rational) (s : State) (i : ℕ) (v : Rational) → i ≡ number s → i < length table → v ≡ get_or table i v → v ≡ value_in table s

@@ -2,7 +2,7 @@
 use Rattle.std.specs.Prelude.{◌≡◌, ℕ, ◌+◌, ◌*◌, ◌/◌, ◌%◌, ◌^◌, ◌<◌, ◌==◌, Bool, true, false, cond, List, [], ◌∷◌, length}
 use Rattle.std.proofs.Common.{get_or}
 use Prim.Native.Nat.{zero, suc}
-use Rattle.heyvl_num.specs.Rational.{Rational, zeroʳ}
+use Rattle.heyvl_num.specs.Rational.{Rational, zeroʳ, leqʳ}
 use Rattle.heyvl_tool.specs.declared.answers.Val.{Val}
 use Rattle.heyvl_tool.specs.declared.answers.Val.TheVariants.{Truth}
 use Rattle.heyvl_tool.specs.State.{State, truth_of}
@@ -32,3 +32,7 @@ IsTable k f table = AreEntries (2 ^ k) (λ n. f (state_at k n)) table
 -- What a table holds for a state.
 abbrev pub value_in : List Rational → State → Rational
 value_in table s = get_or table (number s) zeroʳ
+
+-- The first values of a table are at most the limit.
+abbrev pub IsBelowTo : ℕ → Rational → List Rational → Type 0
+IsBelowTo n limit table = (m : ℕ) → m < n → leqʳ (get_or table m zeroʳ) limit ≡ true

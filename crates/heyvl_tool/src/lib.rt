@@ -3,6 +3,7 @@
 
 mod answers;
 mod constants;
+mod deciding;
 mod expectation;
 mod first_form;
 mod numbering;
