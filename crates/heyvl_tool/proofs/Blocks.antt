@@ -46,7 +46,7 @@ pub joined_table : (k : ℕ) (f : State → Rational) (stmt : Stmt) (x : ℕ) (a
 joined_table k f stmt x a b as' bs left right left' right' table e i j y z p q t =
     rw (ap statement e ∙ statement_if x a b)
     (table_same k (λ s. cond (truth_of (get x s)) (value_in left' s) (value_in right' s)) (before_statement (Statement.branch x (block a.items) (block b.items)) f) table
-     (λ s l. ap₂ (λ v w. cond (truth_of (get x s)) v w) (ap (λ t. value_in t s) y ∙ sym (table_value k (expectation (block as') f) left p s l) ∙ ap (λ ss. expectation (block ss) f s) i) (ap (λ t. value_in t s) z ∙ sym (table_value k (expectation (block bs) f) right q s l) ∙ ap (λ ss. expectation (block ss) f s) j)) t)
+    (λ s l. ap₂ (λ v w. cond (truth_of (get x s)) v w) (ap (λ t. value_in t s) y ∙ sym (table_value k (expectation (block as') f) left p s l) ∙ ap (λ ss. expectation (block ss) f s) i) (ap (λ t. value_in t s) z ∙ sym (table_value k (expectation (block bs) f) right q s l) ∙ ap (λ ss. expectation (block ss) f s) j)) t)
 
 -- ---- The statements from the last
 
@@ -73,7 +73,7 @@ pub table_step : (k i : ℕ) (stmts : List Stmt) (s : Stmt) (f : State → Ratio
 table_step k i stmts s f mid mid' table p h e t m u =
     rw (dropped stmts i s p h e)
     (table_same k (before_statement (statement s) (value_in mid')) (expectation (block (s ∷ drop i stmts)) f) table
-     (statement_same k (statement s) (value_in mid') (expectation (block (drop i stmts)) f) (λ r l. ap (λ t. value_in t r) m ∙ sym (table_value k (expectation (block (drop i stmts)) f) mid t r l))) u)
+    (statement_same k (statement s) (value_in mid') (expectation (block (drop i stmts)) f) (λ r l. ap (λ t. value_in t r) m ∙ sym (table_value k (expectation (block (drop i stmts)) f) mid t r l))) u)
 
 -- ---- Counts of statements
 

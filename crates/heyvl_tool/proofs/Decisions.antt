@@ -75,11 +75,11 @@ pub record IsDecided (p : Procedure) (table : List Rational) : Type 0 where
 
 pub decided : (p : Procedure) (k : ℕ) (body : Block) (after after' table : List Rational) → IsWithinLimits p → k ≡ length p.outputs → body ≡ p.body → IsTable k (post_value p.post) after → after' ≡ after → IsTable k (expectation body (value_in after')) table → IsDecided p table
 decided p k body after after' table h e f t i u = record {
-      limits = h;
-      values = subst (λ j. IsTable j (expectation p.body (post_value p.post)) table) e
-               (table_same k (expectation body (value_in after')) (expectation p.body (post_value p.post)) table
-                (λ s l. ap₂ (λ b xs. expectation b (value_in xs) s) f i ∙ sym (block_same k p.body (post_value p.post) (value_in after) (table_value k (post_value p.post) after t) s l)) u);
-    }
+  limits = h;
+  values = subst (λ j. IsTable j (expectation p.body (post_value p.post)) table) e
+      (table_same k (expectation body (value_in after')) (expectation p.body (post_value p.post)) table
+      (λ s l. ap₂ (λ b xs. expectation b (value_in xs) s) f i ∙ sym (block_same k p.body (post_value p.post) (value_in after) (table_value k (post_value p.post) after t) s l)) u);
+}
 
 entry : (p : Procedure) (table table' : List Rational) → IsDecided p table → table' ≡ table → (s : State) → IsState (program p) s → expectation p.body (post_value p.post) s ≡ get_or table' (number s) zeroʳ
 entry p table table' d e s l = table_value (length p.outputs) (expectation p.body (post_value p.post)) table d.values s l ∙ ap (λ xs. get_or xs (number s) zeroʳ) (sym e)

@@ -38,18 +38,18 @@ part n a g d p q = ratio-* (pos n) d (pos a) g q p ∙ turned (n * a) g d
 -- a weighted sum of two values
 pub grid_flip : (g b d : ℕ) (p x y : Rational) → 0 < g → Chance p d → IsOnGrid g b x → IsOnGrid g b y → IsOnGrid (g * d) b (p *ʳ x +ʳ (oneʳ -ʳ p) *ʳ y)
 grid_flip g b d p x y s c h k = record {
-      amount = c.n * h.amount + c.m * k.amount;
-      is = ap₂ (λ v w. v +ʳ w) (ap₂ (λ v w. v *ʳ w) c.yes h.is ∙ part c.n h.amount g d s c.some) (ap₂ (λ v w. v *ʳ w) c.no k.is ∙ part c.m k.amount g d s c.some) ∙ ratio_sum (c.n * h.amount) (c.m * k.amount) (g * d) (mul-pos s c.some);
-      most = omega (arith, mul-le-mul_left c.n h.most, mul-le-mul_left c.m k.most, ap (λ x. x * (b * g)) c.sums);
-    }
+  amount = c.n * h.amount + c.m * k.amount;
+  is = ap₂ (λ v w. v +ʳ w) (ap₂ (λ v w. v *ʳ w) c.yes h.is ∙ part c.n h.amount g d s c.some) (ap₂ (λ v w. v *ʳ w) c.no k.is ∙ part c.m k.amount g d s c.some) ∙ ratio_sum (c.n * h.amount) (c.m * k.amount) (g * d) (mul-pos s c.some);
+  most = omega (arith, mul-le-mul_left c.n h.most, mul-le-mul_left c.m k.most, ap (λ x. x * (b * g)) c.sums);
+}
 
 -- a reward and a value
 pub grid_reward : (g b d : ℕ) (r x : Rational) → 0 < g → Amount r d → IsOnGrid g b x → IsOnGrid (g * d) (b + 16) (r +ʳ x)
 grid_reward g b d r x s c h = record {
-      amount = c.n * g + h.amount * d;
-      is = ap₂ (λ v w. v +ʳ w) (c.is ∙ finer c.n d g c.some s ∙ turned (c.n * g) g d) (h.is ∙ finer h.amount g d s c.some) ∙ ratio_sum (c.n * g) (h.amount * d) (g * d) (mul-pos s c.some);
-      most = omega (arith, mul-le-mul_right d h.most, mul-le-mul_right g c.few, mul-le-mul_right (16 * g) c.some);
-    }
+  amount = c.n * g + h.amount * d;
+  is = ap₂ (λ v w. v +ʳ w) (c.is ∙ finer c.n d g c.some s ∙ turned (c.n * g) g d) (h.is ∙ finer h.amount g d s c.some) ∙ ratio_sum (c.n * g) (h.amount * d) (g * d) (mul-pos s c.some);
+  most = omega (arith, mul-le-mul_right d h.most, mul-le-mul_right g c.few, mul-le-mul_right (16 * g) c.some);
+}
 
 mutual
   pub statement_some : (k : ℕ) (a : Statement) → IsStatement k a → 0 < statement_divisors a

@@ -41,14 +41,17 @@ pub room_rest : (k : ℕ) (a : Statement) (c : Block) (f : State → Rational) �
 room_rest k a c f h = (h.0.1, room_part k (divisors c) (statement_divisors a) _ (statement_count is_reward a) f (statement_some k a h.0.0) h.1)
 
 pub room_first : (k : ℕ) (a : Statement) (c : Block) (f : State → Rational) → BlockHasRoom k (Block.next a c) f → StatementHasRoom k a (expectation c f)
-room_first k a c f h = (h.0.0, record {
-      grid = h.1.grid * divisors c;
-      bound = h.1.bound + 16 * block_count is_reward c;
-      positive = mul-pos h.1.positive (block_some k c h.0.1);
-      values = block_grid k c f h.1.grid h.1.bound h.0.1 h.1.positive h.1.values;
-      narrow = omega (arith, h.1.narrow);
-      low = omega (arith, h.1.low);
-    })
+room_first k a c f h = (
+  h.0.0,
+  record {
+    grid = h.1.grid * divisors c;
+    bound = h.1.bound + 16 * block_count is_reward c;
+    positive = mul-pos h.1.positive (block_some k c h.0.1);
+    values = block_grid k c f h.1.grid h.1.bound h.0.1 h.1.positive h.1.values;
+    narrow = omega (arith, h.1.narrow);
+    low = omega (arith, h.1.low);
+  },
+)
 
 pub room_left : (k x : ℕ) (a b : Block) (f : State → Rational) → StatementHasRoom k (Statement.branch x a b) f → BlockHasRoom k a f
 room_left k x a b f h = (h.0.1, room_part k (divisors a) (divisors b) _ (block_count is_reward b) f (block_some k b h.0.2) (record { grid = h.1.grid; bound = h.1.bound; positive = h.1.positive; values = h.1.values; narrow = h.1.narrow; low = omega (arith, h.1.low) }))

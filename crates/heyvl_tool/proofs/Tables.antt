@@ -23,9 +23,9 @@ entries_none f = record { size = refl; each = λ m h. absurd (omega arith) }
 
 pub entries_more : (n : ℕ) (f : ℕ → Rational) (table : List Rational) (v : Rational) → AreEntries n f table → v ≡ f n → AreEntries (n + 1) f (table ++ v ∷ [])
 entries_more n f table v h e = record {
-      size = length-append table (v ∷ []) ∙ ap (λ x. x + 1) h.size;
-      each = below_more (λ (m : ℕ). get_or (table ++ v ∷ []) m zeroʳ ≡ f m) n (λ m b. get_or-append table (v ∷ []) zeroʳ m (omega (arith, h.size)) ∙ h.each m b) (ap (λ x. get_or (table ++ v ∷ []) x zeroʳ) (sym h.size) ∙ get_or-append_seam table v [] zeroʳ ∙ e);
-    }
+  size = length-append table (v ∷ []) ∙ ap (λ x. x + 1) h.size;
+  each = below_more (λ (m : ℕ). get_or (table ++ v ∷ []) m zeroʳ ≡ f m) n (λ m b. get_or-append table (v ∷ []) zeroʳ m (omega (arith, h.size)) ∙ h.each m b) (ap (λ x. get_or (table ++ v ∷ []) x zeroʳ) (sym h.size) ∙ get_or-append_seam table v [] zeroʳ ∙ e);
+}
 
 -- a table holds its function's value for each state
 pub table_value : (k : ℕ) (f : State → Rational) (table : List Rational) → IsTable k f table → AreSame k f (value_in table)
@@ -55,7 +55,6 @@ chance_small c h = let a = chance c h in small_ratio _ a.n (divisor c) a.yes a.s
 
 pub rest_small : (c : Constant) → IsProbability c → IsSmallConstant (oneʳ -ʳ constant_value c)
 rest_small c h = let a = chance c h in small_ratio _ a.m (divisor c) a.no a.some (omega (arith, a.sums, a.small)) a.small
-
 
 pub few_states : (k : ℕ) → k ≤ 4 → 2 ^ k ≤ 16
 few_states k h = pow-le-pow_right {n = 2} (lit< tt) h

@@ -70,8 +70,14 @@ fn flipped(outputs: usize, after: &[Frac], state: usize, variable: usize, chance
     requires room { StatementHasRoom outputs (Statement.flip variable chance) (value_in after.now) }
     ensures { result ≡ before_statement (Statement.flip variable chance) (value_in after.now) (state_at outputs state) }
 {
-    let yes = share(fraction(chance), value_changed(outputs, after, state, variable, true));
-    let no = share(complement(chance), value_changed(outputs, after, state, variable, false));
+    let yes = share(
+        fraction(chance),
+        value_changed(outputs, after, state, variable, true),
+    );
+    let no = share(
+        complement(chance),
+        value_changed(outputs, after, state, variable, false),
+    );
     sum_of_shares(yes, no)
 }
 
@@ -87,7 +93,13 @@ fn earned(outputs: usize, after: &[Frac], state: usize, reward: Constant) -> Fra
 }
 
 /// The table before `x = flip(p)`.
-fn before_flip(alloc: Global, outputs: usize, after: &[Frac], variable: usize, chance: Constant) -> Result<Vec<Frac>, AllocError>
+fn before_flip(
+    alloc: Global,
+    outputs: usize,
+    after: &[Frac],
+    variable: usize,
+    chance: Constant,
+) -> Result<Vec<Frac>, AllocError>
     requires few { outputs ≤ 4 }
     requires size { length after.now ≡ 2 ^ outputs }
     requires room { StatementHasRoom outputs (Statement.flip variable chance) (value_in after.now) }
@@ -101,7 +113,13 @@ fn before_flip(alloc: Global, outputs: usize, after: &[Frac], variable: usize, c
 }
 
 /// The table before `x = true` or `x = false`.
-fn before_set(alloc: Global, outputs: usize, after: &[Frac], variable: usize, truth: bool) -> Result<Vec<Frac>, AllocError>
+fn before_set(
+    alloc: Global,
+    outputs: usize,
+    after: &[Frac],
+    variable: usize,
+    truth: bool,
+) -> Result<Vec<Frac>, AllocError>
     requires few { outputs ≤ 4 }
     requires size { length after.now ≡ 2 ^ outputs }
     requires variable { variable < outputs }
@@ -115,7 +133,12 @@ fn before_set(alloc: Global, outputs: usize, after: &[Frac], variable: usize, tr
 }
 
 /// The table before `reward r`.
-fn before_reward(alloc: Global, outputs: usize, after: &[Frac], reward: Constant) -> Result<Vec<Frac>, AllocError>
+fn before_reward(
+    alloc: Global,
+    outputs: usize,
+    after: &[Frac],
+    reward: Constant,
+) -> Result<Vec<Frac>, AllocError>
     requires few { outputs ≤ 4 }
     requires size { length after.now ≡ 2 ^ outputs }
     requires room { StatementHasRoom outputs (Statement.reward reward) (value_in after.now) }
@@ -145,7 +168,13 @@ fn either(outputs: usize, variable: usize, yes: &[Frac], no: &[Frac], state: usi
 }
 
 /// The table that takes each state's value from the first where the variable is true, and from the second elsewhere.
-fn joined(alloc: Global, outputs: usize, variable: usize, yes: &[Frac], no: &[Frac]) -> Result<Vec<Frac>, AllocError>
+fn joined(
+    alloc: Global,
+    outputs: usize,
+    variable: usize,
+    yes: &[Frac],
+    no: &[Frac],
+) -> Result<Vec<Frac>, AllocError>
     requires few { outputs ≤ 4 }
     requires yes { length yes.now ≡ 2 ^ outputs }
     requires no { length no.now ≡ 2 ^ outputs }
@@ -161,14 +190,25 @@ fn joined(alloc: Global, outputs: usize, variable: usize, yes: &[Frac], no: &[Fr
 
 /// The table before a statement.
 #[cycle(blocks)]
-fn before(alloc: Global, outputs: usize, after: &[Frac], stmt: &Stmt) -> Result<Vec<Frac>, AllocError>
+fn before(
+    alloc: Global,
+    outputs: usize,
+    after: &[Frac],
+    stmt: &Stmt,
+) -> Result<Vec<Frac>, AllocError>
     requires few { outputs ≤ 4 }
     requires size { length after.now ≡ 2 ^ outputs }
     requires room { StatementHasRoom outputs (statement stmt.now) (value_in after.now) }
     ensures { IfOk result (λ t. IsTable outputs (before_statement (statement stmt.now) (value_in after.now)) t.items) }
 {
     match stmt {
-        Stmt::Flip(variable, chance) => before_flip(alloc, outputs, after, *variable as usize, *chance),
+        Stmt::Flip(variable, chance) => before_flip(
+            alloc,
+            outputs,
+            after,
+            *variable as usize,
+            *chance,
+        ),
         Stmt::Set(variable, truth) => before_set(alloc, outputs, after, *variable as usize, *truth),
         Stmt::Reward(reward) => before_reward(alloc, outputs, after, *reward),
         Stmt::If(variable, yes, no) => {
@@ -181,7 +221,12 @@ fn before(alloc: Global, outputs: usize, after: &[Frac], stmt: &Stmt) -> Result<
 
 /// The table before a block.
 #[cycle(blocks)]
-pub fn before_block(alloc: Global, outputs: usize, after: &[Frac], stmts: &[Stmt]) -> Result<Vec<Frac>, AllocError>
+pub fn before_block(
+    alloc: Global,
+    outputs: usize,
+    after: &[Frac],
+    stmts: &[Stmt],
+) -> Result<Vec<Frac>, AllocError>
     requires few { outputs ≤ 4 }
     requires size { length after.now ≡ 2 ^ outputs }
     requires room { BlockHasRoom outputs (block stmts.now) (value_in after.now) }

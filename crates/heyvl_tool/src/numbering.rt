@@ -33,7 +33,11 @@ pub fn changed(outputs: usize, state: usize, variable: usize, truth: bool) -> us
     ensures { result ≡ number (put variable (Truth truth) (state_at outputs state)) }
 {
     let weight = weight(outputs, variable);
-    let without = if is_true(outputs, state, variable) { state - weight } else { state };
+    let without = if is_true(outputs, state, variable) {
+        state - weight
+    } else {
+        state
+    };
     if truth { without + weight } else { without }
 }
 

@@ -21,9 +21,17 @@ pub before_block-loop-i-init : goal.before_block-loop-i-init
 before_block-loop-i-init t c = table_start c.args.outputs c.args.after.now c.args.stmts.now c.in_ok-table.table.items c.requires.size c.in_ok-table.ensures.items
 
 pub before_block-before-requires : goal.before_block-before-requires
-before_block-before-requires t c = (below_measure _ _ _ (below_block c.args.stmts.now c.loop-i.i c.index-stmts-i.result c.loop-i-test.true c.loop-i.auto.i c.index-stmts-i.is) c.decreases, (c.requires.few, (ap length c.deref.ensures.value ∙ c.loop-i.invariant.size,
-    subst (λ table. StatementHasRoom c.args.outputs (statement c.index-stmts-i.result) (value_in table)) (sym c.deref.ensures.value)
-    (room_here c.args.outputs c.loop-i.i c.args.stmts.now c.index-stmts-i.result (value_in c.args.after.now) c.loop-i.table.items c.loop-i-test.true c.loop-i.auto.i c.index-stmts-i.is c.requires.room c.loop-i.invariant))))
+before_block-before-requires t c = (
+  below_measure _ _ _ (below_block c.args.stmts.now c.loop-i.i c.index-stmts-i.result c.loop-i-test.true c.loop-i.auto.i c.index-stmts-i.is) c.decreases,
+  (
+    c.requires.few,
+    (
+      ap length c.deref.ensures.value ∙ c.loop-i.invariant.size,
+      subst (λ table. StatementHasRoom c.args.outputs (statement c.index-stmts-i.result) (value_in table)) (sym c.deref.ensures.value)
+          (room_here c.args.outputs c.loop-i.i c.args.stmts.now c.index-stmts-i.result (value_in c.args.after.now) c.loop-i.table.items c.loop-i-test.true c.loop-i.auto.i c.index-stmts-i.is c.requires.room c.loop-i.invariant),
+    ),
+  ),
+)
 
 pub before_block-loop-i-preserved : goal.before_block-loop-i-preserved
 before_block-loop-i-preserved t c = table_step c.args.outputs c.loop-i.i c.args.stmts.now c.index-stmts-i.result (value_in c.args.after.now) c.loop-i.table.items c.deref.result.now _ c.loop-i-test.true c.loop-i.auto.i c.index-stmts-i.is c.loop-i.invariant c.deref.ensures.value c.in_ok-table-2.ensures
