@@ -18,7 +18,7 @@ use Rattle.heyvl_tool.specs.Verdict.{IsVerdict}
 use Rattle.heyvl_tool.specs.Words.{AsksToVerify}
 use Rattle.heyvl_tool.proofs.CallLemmas.{same_file}
 use Rattle.heyvl_syntax.proofs.Unique.{lexes_unique}
-use Rattle.heyvl_tool.proofs.Whole.{is_unique}
+use Rattle.heyvl_tool.proofs.FileReading.{is_unique}
 
 -- Bytes are at most one procedure.
 pub one_file : (bytes : List ℕ) (p q : Procedure) → IsFile bytes p → IsFile bytes q → p ≡ q

@@ -11,6 +11,9 @@ pub mod Runs
 pub mod Sums
 pub mod Bound
 pub mod Meaning
+pub mod Expectation
+pub mod Numbering
+pub mod Room
 pub mod Verdict
 pub mod Report
 pub mod Words
