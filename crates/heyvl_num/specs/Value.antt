@@ -6,6 +6,7 @@ use Rattle.std.specs.declared.cmp.Ordering.TheVariants.{Less, Equal, Greater}
 use Rattle.heyvl_num.specs.Rational.{Rational, ◌+ʳ◌, ◌*ʳ◌, zeroʳ, oneʳ, leqʳ, compareʳ}
 
 infix 4 ◌≤ᵛ◌
+infix 4 ◌<ᵛ◌
 infixl 6 ◌+ᵛ◌
 infixl 7 ◌*ᵛ◌
 pub data Value : Type 0 where
@@ -54,6 +55,9 @@ leqᵛ infinite infinite = true
 
 pub record ◌≤ᵛ◌ (x y : Value) : Type 0 where
   pub holds : leqᵛ x y ≡ true
+
+pub record ◌<ᵛ◌ (x y : Value) : Type 0 where
+  pub holds : leqᵛ y x ≡ false
 
 -- How the first compares with the second.
 abbrev pub compareᵛ : Value → Value → Ordering
