@@ -7,5 +7,6 @@ pub mod Roundings
 pub mod Signs
 pub mod WeightedSums
 pub mod ValueOperators
+pub mod Exactness
 pub mod Uses
 mod Examples
