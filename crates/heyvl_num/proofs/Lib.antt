@@ -1,8 +1,8 @@
 pub mod Integers
 pub mod Rationals
 pub mod Values
-pub mod Reducing
-pub mod Fitting
+mod Reducing
+mod Fitting
 pub mod Roundings
 pub mod Signs
 pub mod WeightedSums
