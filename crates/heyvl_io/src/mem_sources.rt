@@ -1,4 +1,4 @@
-ghost use Rattle.std.specs.Prelude.{◌≡◌, ◌⊎◌, ◌+◌, ◌<◌, ◌≤◌, ◌↔◌, length, take, drop, min, Contains, IfOk, OnErr, OnOk, IsErr, Some, None};
+ghost use Rattle.std.specs.Prelude.{◌≡◌, ◌⊎◌, ◌+◌, ◌<◌, ◌≤◌, ◌↔◌, length, min, Contains, IfOk, OnErr, OnOk, IsErr, Some, None};
 ghost use Rattle.heyvl_io.specs.Bytes.{HandsOut};
 ghost use Rattle.heyvl_io.specs.Faults.{Rose, next_count, faults_after};
 ghost use Rattle.heyvl_io.specs.Files.{names_of, held_bytes, started_bytes, rest_at, numbered_order};
@@ -69,8 +69,8 @@ impl Source for MemSource {
 
     ghost faults = { λ s. s.faults };
 
-    #[tactic(auto, using(crate::proofs::Held::held_at))]
     /// Fails if its number is in the list, or where there is no such name.
+    #[tactic(auto, using(crate::proofs::Held::held_at))]
     fn start(&mut self, name: &str) -> Result<(), Failed>
         ensures fails { IsErr result ↔
             (Contains self.old.fail.items self.old.calls ⊎ (held_bytes self.old.files.items name.now ≡ None)) }

@@ -1,4 +1,4 @@
-ghost use Rattle.std.specs.Prelude.{◌≡◌, ◌+◌, ◌<◌, ◌≤◌, ◌↔◌, length, vec_len, IfOk, IfSome, OnErr, IsErrOf};
+ghost use Rattle.std.specs.Prelude.{◌≡◌, ◌+◌, ◌<◌, ◌≤◌, ◌↔◌, length, vec_len, IfOk, IfSome, IsErrOf};
 ghost use Rattle.heyvl_io.specs.Faults.{Rose};
 ghost use Rattle.heyvl_io.specs.Order.{order_after};
 ghost use Rattle.heyvl_io.specs.declared.reading.ReadStop.TheVariants.{Failed, Memory};

@@ -1,4 +1,4 @@
-ghost use Rattle.std.specs.Prelude.{◌≡◌, ◌+◌, ◌<◌, ◌≤◌, [], length, take, drop, min, unwrap_or, IfOk, IsOk, Some, None};
+ghost use Rattle.std.specs.Prelude.{◌≡◌, ◌+◌, ◌<◌, ◌≤◌, [], length, min, unwrap_or, IfOk, IsOk, Some, None};
 ghost use Rattle.heyvl_io.specs.Bytes.{HandsOut};
 ghost use Rattle.heyvl_io.specs.Files.{names_of, held_bytes, started_bytes, rest_at};
 ghost use Rattle.heyvl_io.specs.Order.{untold};
