@@ -1,5 +1,5 @@
 -- Named texts in memory.
-use Rattle.std.specs.Prelude.{ℕ, Bool, List, [], map, Option, Some, None, option_map, slice_get, find, Vec, String, string_bytes}
+use Rattle.std.specs.Prelude.{ℕ, Bool, List, [], map, drop, Option, Some, None, option_map, slice_get, find, Vec, String, string_bytes}
 use Rattle.std.specs.Option.{option_map_or}
 use Rattle.std.specs.Str.{bytes_eq}
 use Rattle.std.specs.declared.alloc.Global.{Global}
@@ -23,6 +23,10 @@ held_bytes files name = option_map (λ file. file.1.items) (find (is_named name)
 abbrev pub started_bytes : List File → Option ℕ → List ℕ
 started_bytes files None = []
 started_bytes files (Some place) = option_map_or (λ file. file.1.items) (slice_get files place) []
+
+-- what is left of the started file from a place in it on
+abbrev pub rest_at : List File → Option ℕ → ℕ → List ℕ
+rest_at files started place = drop place (started_bytes files started)
 
 -- an order as its number, `None` for any other
 abbrev pub numbered_order : Option ℕ → Order

@@ -51,7 +51,8 @@ impl Sink for MemSink {
     fn write(&mut self, piece: &[u8]) -> Result<usize, Failed>
         requires { 0 < length piece.now }
         ensures listed { Contains self.old.fail.items self.old.calls → IsErr result }
-        ensures refused { IsErr result → Contains self.old.fail.items self.old.calls ⊎ (vec_capacity self.old.bytes < vec_len self.old.bytes + min (length piece.now) self.old.most) }
+        ensures refused { IsErr result → Contains self.old.fail.items self.old.calls
+            ⊎ (vec_capacity self.old.bytes < vec_len self.old.bytes + min (length piece.now) self.old.most) }
         ensures number { IfOk result (λ n. n ≡ min (length piece.now) self.old.most) }
         ensures bytes { IfOk result (λ n. self.new.bytes.items ≡ self.old.bytes.items ++ take n piece.now) }
         ensures kept { OnErr result (self.new.bytes.items ≡ self.old.bytes.items) }

@@ -1,7 +1,7 @@
-ghost use Rattle.std.specs.Prelude.{◌≡◌, ◌⊎◌, ◌+◌, ◌<◌, ◌≤◌, ◌↔◌, length, take, drop, min, Contains, IfOk, OnErr, OnOk, IsErr, Some, None};
+ghost use Rattle.std.specs.Prelude.{◌≡◌, ◌⊎◌, ◌+◌, ◌<◌, ◌≤◌, ◌↔◌, length, min, Contains, IfOk, OnErr, OnOk, IsErr, Some, None};
 ghost use Rattle.heyvl_io.specs.Bytes.{HandsOut};
 ghost use Rattle.heyvl_io.specs.Faults.{Rose, next_count, faults_after};
-ghost use Rattle.heyvl_io.specs.Files.{names_of, held_bytes, started_bytes, numbered_order};
+ghost use Rattle.heyvl_io.specs.Files.{names_of, held_bytes, started_bytes, rest_at, numbered_order};
 ghost use Rattle.heyvl_io.specs.Order.{order_after};
 
 use crate::files::{bytes_at, copy_front, next_order, place_of};
@@ -61,7 +61,7 @@ impl Source for MemSource {
 
     ghost holds = { λ s. held_bytes s.files.items };
 
-    ghost left = { λ s. Some (drop s.place (started_bytes s.files.items s.started)) };
+    ghost left = { λ s. Some (rest_at s.files.items s.started s.place) };
 
     ghost order = { λ s. numbered_order s.order };
 
@@ -69,14 +69,17 @@ impl Source for MemSource {
 
     ghost faults = { λ s. s.faults };
 
-    #[tactic(auto, using(crate::proofs::Held::held_at))]
     /// Fails if its number is in the list, or where there is no such name.
+    #[tactic(auto, using(crate::proofs::Held::held_at))]
     fn start(&mut self, name: &str) -> Result<(), Failed>
-        ensures fails { IsErr result ↔ (Contains self.old.fail.items self.old.calls ⊎ (held_bytes self.old.files.items name.now ≡ None)) }
-        ensures started { OnOk result (held_bytes self.old.files.items name.now ≡ Some (started_bytes self.old.files.items self.new.started)) }
+        ensures fails { IsErr result ↔
+            (Contains self.old.fail.items self.old.calls ⊎ (held_bytes self.old.files.items name.now ≡ None)) }
+        ensures left { OnOk result (Some (rest_at self.new.files.items self.new.started self.new.place)
+            ≡ held_bytes self.old.files.items name.now) }
         ensures nothing { OnErr result (self.new.started ≡ None) }
         ensures place { self.new.place ≡ 0 }
-        ensures order { numbered_order self.new.order ≡ order_after (names_of self.old.files.items) name.now (numbered_order self.old.order) }
+        ensures order { numbered_order self.new.order
+            ≡ order_after (names_of self.old.files.items) name.now (numbered_order self.old.order) }
 
         ensures files { self.new.files ≡ self.old.files }
         ensures most { self.new.most ≡ self.old.most }
@@ -102,9 +105,11 @@ impl Source for MemSource {
     fn read(&mut self, into: &mut [u8]) -> Result<usize, Failed>
         requires { 0 < length into.old }
         ensures fails { IsErr result ↔ Contains self.old.fail.items self.old.calls }
-        ensures number { IfOk result (λ n. n ≡ min (min (length (drop self.old.place (started_bytes self.old.files.items self.old.started))) (length into.old)) self.old.most) }
-        ensures front { IfOk result (λ n. take n into.new ≡ take n (drop self.old.place (started_bytes self.old.files.items self.old.started))) }
-        ensures bytes { IfOk result (λ n. HandsOut (Some (drop self.old.place (started_bytes self.old.files.items self.old.started))) (Some (drop self.new.place (started_bytes self.old.files.items self.old.started))) into.new n) }
+        ensures number { IfOk result (λ n. n ≡ min (min
+            (length (rest_at self.old.files.items self.old.started self.old.place)) (length into.old)) self.old.most) }
+        ensures bytes { IfOk result (λ n. HandsOut
+            (Some (rest_at self.old.files.items self.old.started self.old.place))
+            (Some (rest_at self.new.files.items self.new.started self.new.place)) into.new n) }
         ensures place { IfOk result (λ n. self.new.place ≡ self.old.place + n) }
         ensures kept { OnErr result (self.new.place ≡ self.old.place) }
         ensures started { self.new.started ≡ self.old.started }

@@ -1,4 +1,4 @@
-ghost use Rattle.std.specs.Prelude.{◌≡◌, ◌+◌, ◌<◌, ◌≤◌, ◌↔◌, length, vec_len, IfOk, IfSome, OnErr, IsErrOf};
+ghost use Rattle.std.specs.Prelude.{◌≡◌, ◌+◌, ◌<◌, ◌≤◌, ◌↔◌, length, vec_len, IfOk, IfSome, IsErrOf};
 ghost use Rattle.heyvl_io.specs.Faults.{Rose};
 ghost use Rattle.heyvl_io.specs.Order.{order_after};
 ghost use Rattle.heyvl_io.specs.declared.reading.ReadStop.TheVariants.{Failed, Memory};
@@ -53,7 +53,8 @@ pub fn read_all<F: Source>(
 
     ensures failed { IsErrOf result ReadStop.Failed → Rose (F.faults source.old) (F.faults source.new) }
     ensures too_long { IsErrOf result ReadStop.TooLong ↔ (F.taken source.new ≡ limit + 1) }
-    ensures longer { IsErrOf result ReadStop.TooLong → IfSome (F.holds source.old name.now) (λ held. limit < length held) }
+    ensures longer { IsErrOf result ReadStop.TooLong
+        → IfSome (F.holds source.old name.now) (λ held. limit < length held) }
 
     ensures taken { F.taken source.new ≤ limit + 1 }
     ensures order { F.order source.new ≡ order_after (F.names source.old) name.now (F.order source.old) }

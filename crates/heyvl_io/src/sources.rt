@@ -10,7 +10,7 @@ use crate::Failed;
 /// What a source tells, it tells for good: a call changes neither its names nor what they hold, and `order` stays told
 /// or untold.
 pub trait Source {
-    /// Its names, in their order.
+    /// Its names, in the order that `order` speaks of.
     ghost names: { Self → List (List ℕ) };
 
     /// The bytes that a name holds, where it tells them.

@@ -1,6 +1,6 @@
-ghost use Rattle.std.specs.Prelude.{◌≡◌, ◌+◌, ◌<◌, ◌≤◌, [], length, take, drop, min, unwrap_or, IfOk, IsOk, Some, None};
+ghost use Rattle.std.specs.Prelude.{◌≡◌, ◌+◌, ◌<◌, ◌≤◌, [], length, min, unwrap_or, IfOk, IsOk, Some, None};
 ghost use Rattle.heyvl_io.specs.Bytes.{HandsOut};
-ghost use Rattle.heyvl_io.specs.Files.{names_of, held_bytes, started_bytes};
+ghost use Rattle.heyvl_io.specs.Files.{names_of, held_bytes, started_bytes, rest_at};
 ghost use Rattle.heyvl_io.specs.Order.{untold};
 
 use crate::files::{bytes_at, copy_front, place_of};
@@ -44,7 +44,7 @@ impl Source for SureSource {
 
     ghost holds = { λ s name. Some (unwrap_or (held_bytes s.files.items name) []) };
 
-    ghost left = { λ s. Some (drop s.place (started_bytes s.files.items s.started)) };
+    ghost left = { λ s. Some (rest_at s.files.items s.started s.place) };
 
     ghost order = { λ _. untold };
 
@@ -55,7 +55,8 @@ impl Source for SureSource {
     #[tactic(auto, using(crate::proofs::Held::held_at))]
     fn start(&mut self, name: &str) -> Result<(), Failed>
         ensures ok { IsOk result }
-        ensures started { started_bytes self.old.files.items self.new.started ≡ unwrap_or (held_bytes self.old.files.items name.now) [] }
+        ensures left { rest_at self.new.files.items self.new.started self.new.place
+            ≡ unwrap_or (held_bytes self.old.files.items name.now) [] }
         ensures place { self.new.place ≡ 0 }
 
         ensures files { self.new.files ≡ self.old.files }
@@ -69,8 +70,11 @@ impl Source for SureSource {
     fn read(&mut self, into: &mut [u8]) -> Result<usize, Failed>
         requires { 0 < length into.old }
         ensures ok { IsOk result }
-        ensures number { IfOk result (λ n. n ≡ min (min (length (drop self.old.place (started_bytes self.old.files.items self.old.started))) (length into.old)) self.old.most) }
-        ensures bytes { IfOk result (λ n. HandsOut (Some (drop self.old.place (started_bytes self.old.files.items self.old.started))) (Some (drop self.new.place (started_bytes self.old.files.items self.old.started))) into.new n) }
+        ensures number { IfOk result (λ n. n ≡ min (min
+            (length (rest_at self.old.files.items self.old.started self.old.place)) (length into.old)) self.old.most) }
+        ensures bytes { IfOk result (λ n. HandsOut
+            (Some (rest_at self.old.files.items self.old.started self.old.place))
+            (Some (rest_at self.new.files.items self.new.started self.new.place)) into.new n) }
         ensures place { IfOk result (λ n. self.new.place ≡ self.old.place + n) }
 
         ensures started { self.new.started ≡ self.old.started }

@@ -1,5 +1,3 @@
-ghost use Rattle.std.specs.Prelude.{◌<◌};
-
 use super::*;
 use std::alloc::{AllocError, Global};
 use std::fmt::Display;

@@ -17,7 +17,8 @@ pub fn write_all<K: Sink>(sink: &mut K, bytes: &[u8]) -> Result<u64, Cut>
     ensures appended { OnOk result (K.written sink.new ≡ with_appended (K.written sink.old) bytes.now) }
 
     ensures cut { IfErr result (λ cut. cut.written < length bytes.now) }
-    ensures front { IfErr result (λ cut. K.written sink.new ≡ with_appended (K.written sink.old) (take cut.written bytes.now)) }
+    ensures front { IfErr result (λ cut.
+        K.written sink.new ≡ with_appended (K.written sink.old) (take cut.written bytes.now)) }
     ensures failed { OnErr result (Rose (K.faults sink.old) (K.faults sink.new)) }
     ensures count { K.faults sink.old ≤ K.faults sink.new }
 {
