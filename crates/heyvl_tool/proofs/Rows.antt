@@ -1,5 +1,5 @@
 -- Worked rows: the sums that the definitions give, against values computed by hand.
-use Rattle.std.proofs.Common.{◌≡◌, ℕ, refl, Bool, true, false, List, [], ◌∷◌}
+use Rattle.std.proofs.Common.{◌≡◌, ℕ, refl, true, false, [], ◌∷◌}
 use Rattle.std.proofs.Math.IntN.{ℤ, pos}
 use Rattle.heyvl_num.specs.Gcd.{gcd, gcd_steps}
 use Rattle.heyvl_num.specs.Rational.{ratio, zeroʳ, oneʳ, ◌+ʳ◌, ◌-ʳ◌, ◌*ʳ◌, negʳ}
@@ -9,7 +9,7 @@ use Rattle.heyvl_tool.specs.declared.answers.Val.TheVariants.{Truth}
 use Rattle.heyvl_tool.specs.declared.first_form.Constant.TheVariants.{Whole, Quotient}
 use Rattle.heyvl_tool.specs.State.{State}
 use Rattle.heyvl_tool.specs.Formula.{value}
-use Rattle.heyvl_tool.specs.Procedure.{Statement, Block, Procedure}
+use Rattle.heyvl_tool.specs.Procedure.{Procedure}
 use Rattle.heyvl_tool.specs.Procedure.Statement.{flip, set, reward, branch}
 use Rattle.heyvl_tool.specs.Procedure.Block.{done, next}
 use Rattle.heyvl_tool.specs.Meaning.{program}
