@@ -6,6 +6,8 @@ mod divisors;
 mod extended;
 mod fractions;
 mod laws;
+#[cfg(test)]
+mod tests;
 
 pub use divisors::gcd;
 pub use extended::Ext;
