@@ -1,5 +1,5 @@
 -- Tables before a block, statement by statement from the last.
-use Rattle.std.proofs.Common.{◌≡◌, ℕ, ◌+◌, ◌-◌, ◌*◌, ◌^◌, ◌≤◌, ◌<◌, refl, sym, ap, ap₂, ◌∙◌, subst, arith, Bool, cond, List, [], ◌∷◌, map, length, get_or, drop, mod-eq_of_lt, Result, Ok, Err, IfOk}
+use Rattle.std.proofs.Common.{◌≡◌, ℕ, ◌+◌, ◌-◌, ◌*◌, ◌^◌, ◌≤◌, ◌<◌, sym, ap, ap₂, ◌∙◌, subst, arith, cond, List, [], ◌∷◌, length, get_or, drop, mod-eq_of_lt, Result, Ok, Err, IfOk}
 use Prim.Native.Nat.{zero, suc}
 use Rattle.std.proofs.Math.Seq.{drop-cons, drop-length}
 use Rattle.std.specs.Prelude.{Vec}
@@ -8,14 +8,14 @@ use Rattle.heyvl_num.specs.Rational.{Rational, zeroʳ}
 use Rattle.heyvl_tool.specs.declared.first_form.Stmt as Declared
 use Rattle.heyvl_tool.specs.declared.first_form.Stmt.{Stmt}
 use Rattle.heyvl_tool.specs.State.{State, get, truth_of}
-use Rattle.heyvl_tool.specs.Procedure.{Statement, Block, statement, block}
+use Rattle.heyvl_tool.specs.Procedure.{Statement, statement, block}
 use Rattle.heyvl_tool.specs.Expectation.{before_statement, expectation}
-use Rattle.heyvl_tool.specs.Numbering.{number, state_at, AreEntries, IsTable, value_in}
+use Rattle.heyvl_tool.specs.Numbering.{state_at, IsTable, value_in}
 use Rattle.heyvl_tool.specs.Limits.{statement_count, block_count, is_any}
-use Rattle.heyvl_tool.specs.Room.{StatementHasRoom, BlockHasRoom, HasRoom}
+use Rattle.heyvl_tool.specs.Room.{StatementHasRoom, BlockHasRoom}
 use Rattle.heyvl_tool.proofs.Numbers.{length-state_at, number-state_at}
 use Rattle.heyvl_tool.proofs.Rooms.{AreSame, statement_same, room_rest, room_first, room_left, room_right, room_same}
-use Rattle.heyvl_tool.proofs.Tables.{table_value, read_at}
+use Rattle.heyvl_tool.proofs.Tables.{table_value}
 use Rattle.heyvl_tool.proofs.Trees.{statement_if}
 
 -- a table of one function is a table of another that is the same in all states

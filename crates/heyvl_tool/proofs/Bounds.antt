@@ -1,8 +1,8 @@
 -- The upper sum is at most the forward meaning, and reaches it after enough steps.
 use Rattle.std.proofs.Common.{◌≡◌, ℕ, ◌+◌, ◌≤◌, refl, sym, ap, ap₂, ◌∙◌, subst, Bool, true, false, cond, List, [], ◌∷◌, arith}
 use Prim.Native.Nat.{zero, suc}
-use Rattle.heyvl_num.specs.Rational.{Rational, zeroʳ, oneʳ, ◌+ʳ◌, ◌≤ʳ◌}
-use Rattle.heyvl_num.specs.Value.{Value, zeroᵛ, oneᵛ, ◌+ᵛ◌, ◌*ᵛ◌, ◌≤ᵛ◌}
+use Rattle.heyvl_num.specs.Rational.{Rational, zeroʳ, ◌+ʳ◌, ◌≤ʳ◌}
+use Rattle.heyvl_num.specs.Value.{Value, zeroᵛ, ◌+ᵛ◌, ◌*ᵛ◌, ◌≤ᵛ◌}
 use Rattle.heyvl_num.specs.Value.Value.{finite}
 use Rattle.heyvl_num.proofs.Rationals.{≤ʳ_refl, +ʳ_nonnegative}
 use Rattle.heyvl_num.proofs.Values.{≤ᵛ_refl, ≤ᵛ_trans, +ᵛ_mono, scale_mono, scale-+ᵛ, weights-*, +ᵛ_assoc, +ᵛ_left_comm, zero-+ᵛ, +ᵛ-zero, zero-*ᵛ, +ᵛ_nonnegative, scale_nonnegative}
@@ -12,14 +12,14 @@ use Rattle.heyvl_tool.specs.Acts.{Act, Acts, Arms, Part, chosen}
 use Rattle.heyvl_tool.specs.Acts.Act.{set, draw, reward, ifs}
 use Rattle.heyvl_tool.specs.Acts.Acts.{done, next}
 use Rattle.heyvl_tool.specs.Acts.Arms.{no_arm, arm}
-use Rattle.heyvl_tool.specs.Step.{Config, Item, Weighted, push, branches, sure, step_act}
+use Rattle.heyvl_tool.specs.Step.{Item, push, branches, sure, step_act}
 use Rattle.heyvl_tool.specs.Step.Item.{act}
-use Rattle.heyvl_tool.specs.Runs.{Scheduler, Schedulers, decision, under, first, rest, spread, runs}
+use Rattle.heyvl_tool.specs.Runs.{Scheduler, Schedulers, under, first, rest, spread, runs}
 use Rattle.heyvl_tool.specs.Runs.Scheduler.{leaf}
 use Rattle.heyvl_tool.specs.Sums.{upper, ended_post}
 use Rattle.heyvl_tool.specs.Bound.{Program, begin, IsBoundedAt}
 use Rattle.heyvl_tool.proofs.Sums.{at, runs-zero, runs-ended, runs-step, upper-empty, upper-spread, upper-onward, upper-sure, one_times}
-use Rattle.heyvl_tool.proofs.Forward.{drawn, forward_act, forward, forward_arms, forward_items, total, HasWeights, IsFairAct, IsFair, IsFairArms, AreFair, act_steps, steps, arms_steps, items_steps, push_forward, push_fair, push_steps, chosen_fair, chosen_forward, chosen_steps}
+use Rattle.heyvl_tool.proofs.Forward.{drawn, forward_act, forward, forward_arms, forward_items, total, HasWeights, IsFairAct, IsFair, IsFairArms, AreFair, act_steps, steps, items_steps, push_forward, push_fair, push_steps, chosen_fair, chosen_forward, chosen_steps}
 
 -- Exactly the same, or at most.
 abbrev pub Compares : Bool → Value → Value → Type 0

@@ -1,27 +1,27 @@
 -- From a table of expected values to the verdict.
-use Rattle.std.proofs.Common.{◌≡◌, ℕ, ◌+◌, ◌*◌, ◌^◌, ◌≤◌, ◌<◌, refl, sym, ap, ap₂, ◌∙◌, subst, arith, Bool, true, false, cond, List, length, get_or, All, ℤ, pos, negsuc, ◌*ℤ◌, lit<, mod-eq_of_lt}
+use Rattle.std.proofs.Common.{◌≡◌, ℕ, ◌+◌, ◌*◌, ◌^◌, ◌<◌, sym, ap, ap₂, ◌∙◌, subst, arith, Bool, true, false, cond, List, length, get_or, All, ℤ, pos, negsuc, ◌*ℤ◌, lit<, mod-eq_of_lt}
 use Rattle.std.specs.Prelude.{Some, ◌&&◌}
 use Rattle.std.specs.Ordering.{int_cmp, is_le}
 use Rattle.std.specs.Int.Signed.{le_z}
 use Rattle.std.proofs.Math.Nat.{mul-le-mul, mul-pos}
 use borrow.Author.Differences.{ints}
 use Rattle.std.proofs.lemmas.List.{get_or_default}
-use Rattle.heyvl_num.specs.Rational.{Rational, ratio, zeroʳ, oneʳ, compareʳ, leqʳ, ◌≤ʳ◌}
+use Rattle.heyvl_num.specs.Rational.{Rational, zeroʳ, oneʳ, compareʳ, leqʳ}
 use Rattle.heyvl_num.specs.Exact.{is_small, order_fits, exact_order}
 use Rattle.heyvl_tool.specs.declared.first_form.Constant.TheVariants.{Whole}
-use Rattle.heyvl_tool.specs.State.{State, IsBefore}
+use Rattle.heyvl_tool.specs.State.{State}
 use Rattle.heyvl_tool.specs.Procedure.{Procedure, Block}
-use Rattle.heyvl_tool.specs.Limits.{IsWithinLimits, IsBlock, block_count, is_reward}
+use Rattle.heyvl_tool.specs.Limits.{IsWithinLimits, block_count, is_reward}
 use Rattle.heyvl_tool.specs.Meaning.{constant_value, program}
 use Rattle.heyvl_tool.specs.Expectation.{expectation, post_value}
 use Rattle.heyvl_tool.specs.Bound.{IsState, IsBoundedAt, IsBounded}
 use Rattle.heyvl_tool.specs.Verdict.{IsFirstUnbounded}
-use Rattle.heyvl_tool.specs.Numbering.{number, state_at, AreEntries, IsTable, IsBelowTo, value_in}
-use Rattle.heyvl_tool.specs.Room.{IsWithin, IsSmallValue, IsSmallConstant, HasRoom, BlockHasRoom, divisors}
+use Rattle.heyvl_tool.specs.Numbering.{number, state_at, IsTable, IsBelowTo, value_in}
+use Rattle.heyvl_tool.specs.Room.{IsWithin, IsSmallValue, IsSmallConstant, BlockHasRoom, divisors}
 use Rattle.heyvl_tool.proofs.Numbers.{length-state_at, number-state_at, number_below, number_before}
 use Rattle.heyvl_tool.proofs.Meanings.{bounded-expected, expected-bounded}
 use Rattle.heyvl_tool.proofs.Grids.{block_some, block_grid}
-use Rattle.heyvl_tool.proofs.Rooms.{AreSame, block_same, room_same, room_start}
+use Rattle.heyvl_tool.proofs.Rooms.{block_same, room_same, room_start}
 use Rattle.heyvl_tool.proofs.Fractions.{given, small_number}
 use Rattle.heyvl_tool.proofs.Tables.{table_value, small_value}
 use Rattle.heyvl_tool.proofs.Blocks.{table_same}

@@ -1,16 +1,16 @@
 -- Within the limits the calls of fractions give the exact results.
-use Rattle.std.proofs.Common.{◌≡◌, ℕ, ◌+◌, ◌*◌, ◌/◌, ◌^◌, ◌≤◌, ◌<◌, refl, sym, ap, ap₂, ◌∙◌, subst, arith, to_z, of_z, ℤ, pos, ◌*ℤ◌, ◌+ℤ◌, unsigned_abs, Bool, true, false, cond, ◌&&◌, lit<}
+use Rattle.std.proofs.Common.{◌≡◌, ℕ, ◌+◌, ◌*◌, ◌/◌, ◌^◌, ◌≤◌, ◌<◌, refl, sym, ap, ap₂, ◌∙◌, subst, arith, to_z, of_z, ℤ, pos, ◌*ℤ◌, ◌+ℤ◌, Bool, true, cond, ◌&&◌, lit<}
 use Rattle.std.specs.Prelude.{Some, None, Option, IsSome}
 use Rattle.std.specs.Int.{w128}
 use Prim.Native.Nat.{zero, suc}
 use Rattle.std.proofs.lemmas.Bool.{lt-ltb}
-use Rattle.std.proofs.lemmas.Int.{ints, to_z-of_z, fits_signed_from_abs}
+use Rattle.std.proofs.lemmas.Int.{to_z-of_z, fits_signed_from_abs}
 use Rattle.std.proofs.Math.Nat.{mul-le-mul, mul-pos, div-le_self}
 use Rattle.heyvl_num.specs.Gcd.{gcd}
-use Rattle.heyvl_num.specs.Rational.{Rational, ratio, oneʳ, ◌+ʳ◌, ◌-ʳ◌, ◌*ʳ◌}
-use Rattle.heyvl_num.specs.Exact.{is_small, quotient, quotient_fits, exact_quotient, sum_fits, exact_sum, product_fits, exact_product, order_fits, exact_order}
+use Rattle.heyvl_num.specs.Rational.{Rational, ratio, ◌+ʳ◌, ◌*ʳ◌}
+use Rattle.heyvl_num.specs.Exact.{is_small, quotient, quotient_fits, exact_quotient, sum_fits, exact_sum, product_fits, exact_product}
 use Rattle.heyvl_num.proofs.Rationals.{ratio_num, ratio_den}
-use Rattle.heyvl_tool.specs.Room.{IsOnGrid, IsWithin, IsSmallValue, IsSmallConstant, IsShare}
+use Rattle.heyvl_tool.specs.Room.{IsWithin, IsSmallValue, IsSmallConstant, IsShare}
 
 pub small_number : (n : ℕ) → n < 2 ^ 127 → is_small (pos n) ≡ true
 small_number n h = lt-ltb n (2 ^ 127) h

@@ -1,16 +1,15 @@
 -- Values on a grid.
-use Rattle.std.proofs.Common.{◌≡◌, ℕ, ◌+◌, ◌-◌, ◌*◌, ◌^◌, ◌≤◌, ◌<◌, refl, sym, ap, ap₂, ◌∙◌, subst, Bool, true, false, cond, arith, length}
-use Rattle.std.proofs.Math.IntN.{ℤ, pos, ◌+ℤ◌, ◌*ℤ◌}
+use Rattle.std.proofs.Common.{◌≡◌, ℕ, ◌+◌, ◌*◌, ◌≤◌, ◌<◌, refl, ap, ap₂, ◌∙◌, Bool, true, false, cond, arith, length}
+use Rattle.std.proofs.Math.IntN.{pos}
 use Rattle.std.proofs.Math.Nat.{mul-pos, mul-le-mul_left, mul-le-mul_right}
 use borrow.Author.Differences.{ints}
 use Rattle.heyvl_num.specs.Rational.{Rational, ratio, oneʳ, ◌+ʳ◌, ◌-ʳ◌, ◌*ʳ◌}
 use Rattle.heyvl_num.proofs.Rationals.{ratio_same, ratio-+, ratio-*}
-use Rattle.heyvl_tool.specs.declared.first_form.Constant.{Constant}
-use Rattle.heyvl_tool.specs.State.{State, get, put, truth_of}
+use Rattle.heyvl_tool.specs.State.{State, get, truth_of}
 use Rattle.heyvl_tool.specs.Procedure.{Statement, Block}
 use Rattle.heyvl_tool.specs.Expectation.{before_statement, expectation}
 use Rattle.heyvl_tool.specs.declared.answers.Val.TheVariants.{Truth}
-use Rattle.heyvl_tool.specs.Limits.{IsConstant, IsProbability, IsStatement, IsBlock, statement_count, block_count, is_reward}
+use Rattle.heyvl_tool.specs.Limits.{IsStatement, IsBlock, statement_count, block_count, is_reward}
 use Rattle.heyvl_tool.specs.Meaning.{constant_value}
 use Rattle.heyvl_tool.specs.Room.{IsOnGrid, divisor, statement_divisors, divisors}
 use Rattle.heyvl_tool.proofs.Meanings.{Chance, Amount, chance, amount}

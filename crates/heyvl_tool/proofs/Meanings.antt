@@ -1,13 +1,13 @@
 -- Procedures within the limits: their programs are fair, and the forward meaning is the expected value of the block.
-use Rattle.std.proofs.Common.{◌≡◌, ℕ, ◌≤◌, ◌<◌, ◌+◌, ◌-◌, ◌*◌, refl, sym, ap, ap₂, ◌∙◌, subst, Bool, true, false, cond, List, [], ◌∷◌, arith, length}
-use Rattle.std.proofs.Math.IntN.{ℤ, pos, ◌+ℤ◌, ◌*ℤ◌, neg_ℤ}
+use Rattle.std.proofs.Common.{◌≡◌, ℕ, ◌≤◌, ◌<◌, ◌+◌, ◌-◌, ◌*◌, refl, sym, ap, ap₂, ◌∙◌, subst, Bool, true, false, cond, arith, length}
+use Rattle.std.proofs.Math.IntN.{pos, ◌+ℤ◌, ◌*ℤ◌, neg_ℤ}
 use Rattle.std.proofs.Math.Path.{fun_ext}
 use Rattle.std.proofs.Math.Nat.{mul-pos}
 use borrow.Author.Differences.{ints}
-use Rattle.heyvl_num.specs.Rational.{Rational, ratio, zeroʳ, oneʳ, ◌+ʳ◌, ◌-ʳ◌, ◌*ʳ◌, negʳ, ◌≤ʳ◌}
+use Rattle.heyvl_num.specs.Rational.{Rational, ratio, zeroʳ, oneʳ, ◌+ʳ◌, ◌-ʳ◌, ◌≤ʳ◌}
 use Rattle.heyvl_num.specs.Value.{Value, zeroᵛ, oneᵛ, ◌+ᵛ◌, ◌*ᵛ◌, ◌≤ᵛ◌}
 use Rattle.heyvl_num.specs.Value.Value.{finite}
-use Rattle.heyvl_num.proofs.Rationals.{≤ʳ_refl, ratio_nonnegative, ratio_same, ratio-+, ratio-neg, +ʳ-zero, zero-≤ʳ-one}
+use Rattle.heyvl_num.proofs.Rationals.{ratio_nonnegative, ratio_same, ratio-+, ratio-neg, +ʳ-zero}
 use Rattle.heyvl_num.proofs.Values.{finite-+, finite-*, +ᵛ-zero, finite_nonnegative, order_finite, finite_order, zero-≤ᵛ-one, zero-≤ᵛ-zero}
 use Rattle.heyvl_tool.specs.declared.answers.Val.TheVariants.{Truth}
 use Rattle.heyvl_tool.specs.declared.first_form.Constant.{Constant}
@@ -19,9 +19,9 @@ use Rattle.heyvl_tool.specs.Limits.{IsConstant, IsProbability, IsStatement, IsBl
 use Rattle.heyvl_tool.specs.Meaning.{constant_value, flip_parts, act_of, acts_of, program}
 use Rattle.heyvl_tool.specs.Expectation.{before_statement, expectation, post_value}
 use Rattle.heyvl_tool.specs.Room.{divisor}
-use Rattle.heyvl_tool.specs.Bound.{Program, IsBoundedAt}
+use Rattle.heyvl_tool.specs.Bound.{IsBoundedAt}
 use Rattle.heyvl_tool.proofs.Forward.{forward_act, forward, total, HasWeights, IsFair, IsFairAct}
-use Rattle.heyvl_tool.proofs.Bounds.{IsFairProgram, IsNonnegative, bounded-forward, forward-bounded}
+use Rattle.heyvl_tool.proofs.Bounds.{IsFairProgram, bounded-forward, forward-bounded}
 
 constant_nonnegative : (c : Constant) → IsConstant c → zeroʳ ≤ʳ constant_value c
 constant_nonnegative (Whole n) h = ratio_nonnegative (pos n) 1 (omega arith) (omega (arith, ints))

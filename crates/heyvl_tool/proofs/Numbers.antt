@@ -1,5 +1,5 @@
 -- Numbers of states.
-use Rattle.std.proofs.Common.{◌≡◌, ℕ, ◌+◌, ◌-◌, ◌*◌, ◌/◌, ◌%◌, ◌^◌, ◌≤◌, ◌<◌, ◌==◌, refl, sym, ap, ap₂, ◌∙◌, subst, Bool, true, false, cond, List, [], ◌∷◌, arith, length, ◌⊎◌, inl, inr, ◌++◌, take, mod-eq_of_lt}
+use Rattle.std.proofs.Common.{◌≡◌, ℕ, ◌+◌, ◌-◌, ◌*◌, ◌/◌, ◌%◌, ◌^◌, ◌≤◌, ◌<◌, ◌==◌, refl, sym, ap, ap₂, ◌∙◌, subst, Bool, true, false, [], ◌∷◌, arith, length, inl, inr, ◌++◌, take, mod-eq_of_lt}
 use Prim.Native.Nat.{zero, suc}
 use Rattle.std.proofs.lemmas.Nat.{mod-pow-add, div-mul-add}
 use Rattle.std.proofs.Math.Nat.{two-pow-succ, div-mul-le_self, mul-le-mul_right}

@@ -1,11 +1,10 @@
 -- Room for the fractions of a block, handed on from statement to statement.
 use Rattle.std.proofs.Common.{◌≡◌, ℕ, ◌+◌, ◌*◌, ◌^◌, ◌≤◌, ◌<◌, refl, sym, ap, ap₂, ◌∙◌, subst, Bool, true, false, cond, arith, length, lit<}
-use Rattle.std.proofs.Math.IntN.{ℤ, pos}
 use Rattle.std.proofs.Math.Nat.{mul-pos, mul-le-mul, mul-le-mul_left, le-mul_of_pos_right, pow-le-pow_right}
 use Rattle.std.proofs.lemmas.Nat.{pow-add}
-use Rattle.heyvl_num.specs.Rational.{Rational, ratio, zeroʳ, oneʳ, ◌+ʳ◌, ◌-ʳ◌, ◌*ʳ◌}
+use Rattle.heyvl_num.specs.Rational.{Rational, zeroʳ, oneʳ, ◌+ʳ◌, ◌-ʳ◌, ◌*ʳ◌}
 use Rattle.heyvl_tool.specs.declared.answers.Val.TheVariants.{Truth}
-use Rattle.heyvl_tool.specs.State.{State, get, put, truth_of}
+use Rattle.heyvl_tool.specs.State.{State, get, truth_of}
 use Rattle.heyvl_tool.specs.Procedure.{Statement, Block, Procedure}
 use Rattle.heyvl_tool.specs.Limits.{IsStatement, IsBlock, IsWithinLimits, statement_count, block_count, is_flip, is_reward}
 use Rattle.heyvl_tool.specs.Meaning.{constant_value}

@@ -1,19 +1,21 @@
 -- Worked rows: the sums that the definitions give, against values computed by hand.
-use Rattle.std.proofs.Common.{◌≡◌, ℕ, refl, Bool, true, false, List, [], ◌∷◌}
+use Rattle.std.proofs.Common.{◌≡◌, ℕ, lit<, lit≤, arith, sym, refl, true, false, [], ◌∷◌}
 use Rattle.std.proofs.Math.IntN.{ℤ, pos}
 use Rattle.heyvl_num.specs.Gcd.{gcd, gcd_steps}
-use Rattle.heyvl_num.specs.Rational.{ratio, zeroʳ, oneʳ, ◌+ʳ◌, ◌-ʳ◌, ◌*ʳ◌, negʳ}
+use Rattle.heyvl_num.specs.Rational.{ratio, zeroʳ, oneʳ, ◌+ʳ◌, ◌-ʳ◌, ◌*ʳ◌, negʳ, leqʳ}
 use Rattle.heyvl_num.specs.Value.{Value, zeroᵛ, oneᵛ, ◌+ᵛ◌, ◌*ᵛ◌}
 use Rattle.heyvl_num.specs.Value.Value.{finite, infinite}
 use Rattle.heyvl_tool.specs.declared.answers.Val.TheVariants.{Truth}
 use Rattle.heyvl_tool.specs.declared.first_form.Constant.TheVariants.{Whole, Quotient}
 use Rattle.heyvl_tool.specs.State.{State}
 use Rattle.heyvl_tool.specs.Formula.{value}
-use Rattle.heyvl_tool.specs.Procedure.{Statement, Block, Procedure}
+use Rattle.heyvl_tool.specs.Procedure.{Procedure}
 use Rattle.heyvl_tool.specs.Procedure.Statement.{flip, set, reward, branch}
 use Rattle.heyvl_tool.specs.Procedure.Block.{done, next}
 use Rattle.heyvl_tool.specs.Meaning.{program}
-use Rattle.heyvl_tool.specs.Bound.{begin}
+use Rattle.heyvl_tool.specs.Bound.{begin, IsState, IsBoundedAt}
+use Rattle.heyvl_tool.specs.Limits.{IsWithinLimits}
+use Rattle.heyvl_tool.proofs.Meanings.{bounded-expected, expected-bounded}
 use Rattle.heyvl_tool.specs.Runs.{runs}
 use Rattle.heyvl_tool.specs.Runs.Scheduler.{leaf}
 use Rattle.heyvl_tool.specs.Sums.{upper}
@@ -129,3 +131,29 @@ four_takes_a = refl
 four_takes_a_false : sum 3 four (Truth false ∷ Truth true ∷ Truth false ∷ Truth true ∷ []) ≡ (pos 0, 1)
 unfolding upper runs ratio gcd gcd_steps zeroʳ oneʳ ◌+ʳ◌ ◌-ʳ◌ ◌*ʳ◌ negʳ zeroᵛ oneᵛ ◌+ᵛ◌ ◌*ᵛ◌
 four_takes_a_false = refl
+
+-- ---- The limits can be met, and the bound holds or fails over all runs where it should
+
+coin_within : IsWithinLimits coin
+coin_within = record { some_output = lit< tt; outputs = lit≤ tt; different = (tt, tt); pre = (lit≤ tt, lit≤ tt, lit< tt); post = lit< tt; body = ((lit< tt, (lit≤ tt, lit≤ tt, lit< tt)), tt); flips = lit≤ tt; rewards = lit≤ tt; ifs = lit≤ tt; statements = lit≤ tt }
+
+coin_bounded : (s : State) → IsState (program coin) s → IsBoundedAt (program coin) s
+unfolding ratio gcd gcd_steps zeroʳ oneʳ ◌+ʳ◌ ◌-ʳ◌ ◌*ʳ◌ negʳ leqʳ
+coin_bounded [] e = absurd (omega arith)
+coin_bounded (v ∷ []) e = expected-bounded coin coin_within (v ∷ []) (record { holds = refl })
+coin_bounded (v ∷ w ∷ s) e = absurd (omega arith)
+
+id_within : IsWithinLimits id
+id_within = record { some_output = lit< tt; outputs = lit≤ tt; different = (tt, tt); pre = lit≤ tt; post = lit< tt; body = tt; flips = lit≤ tt; rewards = lit≤ tt; ifs = lit≤ tt; statements = lit≤ tt }
+
+-- the bound of `id` fails first where b is true
+id_fails : IsBoundedAt (program id) (Truth true ∷ []) → ⊥
+unfolding ratio gcd gcd_steps zeroʳ oneʳ ◌+ʳ◌ ◌-ʳ◌ ◌*ʳ◌ negʳ leqʳ
+id_fails b = untrue (sym (bounded-expected id id_within (Truth true ∷ []) b).holds)
+  where
+    untrue : true ≡ false → ⊥
+    untrue q = cc
+
+id_bounded_before : IsBoundedAt (program id) (Truth false ∷ [])
+unfolding ratio gcd gcd_steps zeroʳ oneʳ ◌+ʳ◌ ◌-ʳ◌ ◌*ʳ◌ negʳ leqʳ
+id_bounded_before = expected-bounded id id_within (Truth false ∷ []) (record { holds = refl })

@@ -1,10 +1,10 @@
 -- Tables of values.
-use Rattle.std.proofs.Common.{◌≡◌, ℕ, ◌+◌, ◌*◌, ◌^◌, ◌≤◌, ◌<◌, refl, sym, ap, ap₂, ◌∙◌, subst, arith, List, [], ◌∷◌, ◌++◌, length, get_or, length-append, below_more, mod-eq_of_lt, lit<}
+use Rattle.std.proofs.Common.{◌≡◌, ℕ, ◌+◌, ◌*◌, ◌^◌, ◌≤◌, ◌<◌, refl, sym, ap, ◌∙◌, subst, arith, List, [], ◌∷◌, ◌++◌, length, get_or, length-append, below_more, mod-eq_of_lt, lit<}
 use Rattle.heyvl_num.specs.Rational.{Rational, ratio, zeroʳ, oneʳ, ◌-ʳ◌}
 use Rattle.heyvl_tool.specs.declared.answers.Val.{Val}
 use Rattle.heyvl_tool.specs.State.{State, put}
 use Rattle.heyvl_tool.specs.Numbering.{number, state_at, AreEntries, IsTable, value_in}
-use Rattle.heyvl_tool.specs.Room.{IsOnGrid, HasRoom, IsWithin, IsSmallValue, IsSmallConstant, divisor}
+use Rattle.heyvl_tool.specs.Room.{IsOnGrid, HasRoom, IsSmallValue, IsSmallConstant, divisor}
 use Rattle.heyvl_tool.specs.declared.first_form.Constant.{Constant}
 use Rattle.heyvl_tool.specs.Limits.{IsConstant, IsProbability}
 use Rattle.heyvl_tool.specs.Meaning.{constant_value}

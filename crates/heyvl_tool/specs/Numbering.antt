@@ -1,9 +1,8 @@
 -- States by number, in their order as lists, and tables that hold a fraction for each.
-use Rattle.std.specs.Prelude.{◌≡◌, ℕ, ◌+◌, ◌*◌, ◌/◌, ◌%◌, ◌^◌, ◌<◌, ◌==◌, Bool, true, false, cond, List, [], ◌∷◌, length}
+use Rattle.std.specs.Prelude.{◌≡◌, ℕ, ◌+◌, ◌*◌, ◌/◌, ◌%◌, ◌^◌, ◌<◌, ◌==◌, Bool, true, cond, List, [], ◌∷◌, length}
 use Rattle.std.proofs.Common.{get_or}
 use Prim.Native.Nat.{zero, suc}
 use Rattle.heyvl_num.specs.Rational.{Rational, zeroʳ, leqʳ}
-use Rattle.heyvl_tool.specs.declared.answers.Val.{Val}
 use Rattle.heyvl_tool.specs.declared.answers.Val.TheVariants.{Truth}
 use Rattle.heyvl_tool.specs.State.{State, truth_of}
 

@@ -1,6 +1,5 @@
 use Rattle.std.proofs.Common.{arith, ap, sym, subst, ◌≡◌, ◌∙◌, length, get_or}
 use Rattle.heyvl_num.specs.Rational.{zeroʳ, leqʳ}
-use Rattle.heyvl_tool.specs.State.{State}
 use Rattle.heyvl_tool.specs.Procedure.{procedure, block}
 use Rattle.heyvl_tool.specs.Numbering.{state_at, value_in, IsBelowTo}
 use Rattle.heyvl_tool.specs.Room.{IsSmallConstant}

@@ -1,6 +1,5 @@
 use Rattle.std.proofs.Common.{sym, subst, ◌∙◌, true, false}
 use Rattle.heyvl_tool.specs.declared.answers.Val.TheVariants.{Truth}
-use Rattle.heyvl_tool.specs.State.{put}
 use Rattle.heyvl_tool.specs.Numbering.{state_at, value_in}
 use Rattle.heyvl_tool.specs.Procedure.{Statement}
 use Rattle.heyvl_tool.specs.Room.{IsSmallConstant, IsSmallValue}

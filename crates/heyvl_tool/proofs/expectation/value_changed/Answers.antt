@@ -1,4 +1,4 @@
-use Rattle.std.proofs.Common.{arith, rules}
+use Rattle.std.proofs.Common.{arith}
 use Rattle.heyvl_tool.specs.declared.answers.Val.TheVariants.{Truth}
 use Rattle.heyvl_tool.proofs.Tables.{below_size, few_states, read_value}
 use Rattle.heyvl_tool.proofs.expectation.value_changed.Goals as goal

@@ -1,5 +1,4 @@
-use Rattle.std.proofs.Common.{◌≡◌, ◌+◌, ◌*◌, sym, ap, ◌∙◌, arith, true, false}
-use Rattle.heyvl_tool.specs.Numbering.{digit}
+use Rattle.std.proofs.Common.{sym, ◌∙◌, arith}
 use Rattle.heyvl_tool.proofs.Numbers.{changed_from, weight_within}
 use Rattle.heyvl_tool.proofs.numbering.changed.Goals as goal
 use Rattle.heyvl_tool.proofs.numbering.changed.Goals.{then-is_true, else-is_true}
