@@ -62,6 +62,7 @@ without_in w (v ∷ vs) e = by_test (bytes_eq v w) refl e (λ f. without_in w vs
     raised_none : (o : Option ℕ) → raised o ≡ None → o ≡ None
     raised_none None e = refl
     raised_none (Some x) e = cc
+
     by_test : (b : Bool) → bytes_eq v w ≡ b → cond b (Some 0) (raised (place_in w vs)) ≡ None → (place_in w vs ≡ None → Without w vs) → Without w (v ∷ vs)
     by_test true f e h = cc
     by_test false f e h = (λ same. absurd (let g = (bytes_eq-Decides v w).1 same in cc), h (raised_none (place_in w vs) e))

@@ -5,13 +5,12 @@ ghost use Rattle.heyvl_tool.specs.Reading.{Gives, assigned, assignment, block_at
 ghost use Rattle.std.specs.Prelude.{IfSome, length, ◌<◌, ◌≡◌, ◌≤◌};
 ghost use Rattle.std.specs.Str.{bytes_eq};
 
-use heyvl_syntax::{Key, Mark, Name, Token};
-use std::alloc::Global;
-
 use super::constants::{constant, probability};
 use super::expecting::{expect_key, expect_mark, past_key, past_mark, word};
-use crate::first_form::Stmt;
 use super::stops::Stop;
+use crate::first_form::Stmt;
+use heyvl_syntax::{Key, Mark, Name, Token};
+use std::alloc::Global;
 
 fn same_name(name: &Name, other: &Name) -> bool
     ensures { result ≡ bytes_eq name.now other.now }
@@ -36,10 +35,7 @@ pub(super) fn place(name: &Name, names: &[Name]) -> Option<u32>
 }
 
 /// The number of the variable that is named at the front, and the tokens behind it.
-pub(super) fn variable<'a>(
-    names: &[Name],
-    tokens: &'a [Token],
-) -> Result<(u32, &'a [Token]), Stop>
+pub(super) fn variable<'a>(names: &[Name], tokens: &'a [Token]) -> Result<(u32, &'a [Token]), Stop>
     requires { length names.now ≤ 4 }
     ensures { Gives (λ x. x.0) (λ x. x.1.now) result (variable names.now (kinds_of tokens.now)) }
 {

@@ -26,8 +26,8 @@ pub block-statements-preserved : goal.block-statements-preserved
 block-statements-preserved t c = record {
   left = omega (arith, c.statements.invariant.left);
   same =
-    let ss = map statement c.statements.found.items in
-    c.statements.invariant.same
-    ∙ statement_more c.args.names.now c.statements.left (c.statements.left - 1) (kinds_of c.statements.rest.now) (kinds_of c.in_ok-one.behind.now) ss (statement c.in_ok-one.one) (omega arith) c.in_default.ensures c.in_ok-one.ensures
-    ∙ rw (c.in_ok-push.ensures.items, map-append statement) refl;
+      let ss = map statement c.statements.found.items in
+      c.statements.invariant.same
+      ∙ statement_more c.args.names.now c.statements.left (c.statements.left - 1) (kinds_of c.statements.rest.now) (kinds_of c.in_ok-one.behind.now) ss (statement c.in_ok-one.one) (omega arith) c.in_default.ensures c.in_ok-one.ensures
+      ∙ rw (c.in_ok-push.ensures.items, map-append statement) refl;
 }

@@ -28,9 +28,9 @@ params-preserved c =
     record {
       few = rw c.in_ok-push.ensures.items (omega arith);
       same =
-        c.params.invariant.same
-        ∙ params_on n (n - 1) c.params.found.items c.in_ok-name-2.name (kinds_of c.params.rest.now) (kinds_of c.in_ok-name.behind.now) (kinds_of c.in-Some.behind.now) (omega arith) got c.in-Some.ensures
-        ∙ rw c.in_ok-push.ensures.items (ap (λ k. params_at k (c.params.found.items ++ (c.in_ok-name-2.name ∷ [])) (kinds_of c.in-Some.behind.now)) (omega arith));
+          c.params.invariant.same
+          ∙ params_on n (n - 1) c.params.found.items c.in_ok-name-2.name (kinds_of c.params.rest.now) (kinds_of c.in_ok-name.behind.now) (kinds_of c.in-Some.behind.now) (omega arith) got c.in-Some.ensures
+          ∙ rw c.in_ok-push.ensures.items (ap (λ k. params_at k (c.params.found.items ++ (c.in_ok-name-2.name ∷ [])) (kinds_of c.in-Some.behind.now)) (omega arith));
     }
 
 pub returns-clause-value : goal.returns-clause-value
