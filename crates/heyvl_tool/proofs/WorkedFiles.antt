@@ -1,5 +1,5 @@
 -- Worked files: their tokens, written out by hand, are what the grammar spells, and they keep the limits.
-use Rattle.std.proofs.Common.{◌≡◌, refl, ℕ, pos, ◌<◌, ◌≤◌, List, [], ◌∷◌, true, false, codes, arith}
+use Rattle.std.proofs.Common.{◌≡◌, refl, ℕ, pos, List, [], ◌∷◌, true, false, codes, arith}
 use Rattle.heyvl_syntax.specs.declared.keys.Key.TheVariants as keys
 use Rattle.heyvl_syntax.specs.declared.marks.Mark.TheVariants as marks
 use Rattle.heyvl_syntax.specs.declared.tokens.TokenKind.{TokenKind}
@@ -8,7 +8,6 @@ use Rattle.heyvl_tool.specs.Grammar.{procedure_tokens}
 use Rattle.heyvl_tool.specs.Limits.{IsWithinLimits}
 use Rattle.heyvl_tool.specs.Procedure.{Statement, Block, Procedure}
 use Rattle.heyvl_tool.specs.declared.first_form.Constant.TheVariants.{Whole, Quotient}
-use Rattle.heyvl_tool.specs.Reading.{Got, Refused, file}
 
 abbrev whole : ℕ → TokenKind
 whole n = Number (record { digits = pos n; places = 0 })
