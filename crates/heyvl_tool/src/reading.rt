@@ -5,6 +5,7 @@ mod constants;
 mod expecting;
 mod heads;
 mod stops;
+mod variables;
 
 ghost use Rattle.heyvl_tool.specs.Grammar.{Spells};
 ghost use Rattle.heyvl_tool.specs.Limits.{IsWithinLimits};

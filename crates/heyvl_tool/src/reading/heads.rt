@@ -3,10 +3,10 @@
 ghost use Rattle.heyvl_tool.specs.Reading.{Gives, kinds_of, new_param, param, params_at, post_at, pre_at, title};
 ghost use Rattle.std.specs.Prelude.{[], IfOk, length, ◌≡◌, ◌≤◌};
 
-use super::bodies::{place, variable};
 use super::constants::constant;
 use super::expecting::{expect_key, expect_mark, past_mark, word};
 use super::stops::Stop;
+use super::variables::{place, variable};
 use crate::first_form::Constant;
 use heyvl_syntax::{Key, Mark, Name, Token};
 use std::alloc::Global;
