@@ -1,5 +1,5 @@
 -- What is spelled, within limits, is read.
-use Rattle.std.proofs.Common.{◌≡◌, ◌∙◌, refl, sym, ap, subst, ℕ, pos, ◌+◌, ◌<◌, ◌≤◌, Bool, true, false, cond, eqb, leb, List, [], ◌∷◌, ◌++◌, length, Option, Some, None, arith, append_assoc, length-append}
+use Rattle.std.proofs.Common.{◌≡◌, ◌∙◌, refl, sym, ap, subst, ℕ, ◌<◌, ◌≤◌, true, false, List, [], ◌∷◌, ◌++◌, length, None, arith, append_assoc}
 use Prim.Native.Nat.{zero, suc}
 use Rattle.std.proofs.lemmas.Bool.{le-leb}
 use Rattle.std.proofs.Math.Dec.{eqb-suc-zero}
@@ -11,7 +11,7 @@ use Rattle.heyvl_tool.specs.Grammar as grammar
 use Rattle.heyvl_tool.specs.Grammar.{name_at, truth_key, constant_tokens, statement_tokens, block_tokens, params_tokens, more_params, procedure_tokens}
 use Rattle.heyvl_tool.specs.Limits.{IsConstant, IsProbability, IsStatement, IsBlock, AreDifferent, IsWithinLimits, statement_count, block_count, is_any}
 use Rattle.heyvl_tool.specs.Procedure.{Statement, Block, Procedure}
-use Rattle.heyvl_tool.specs.Reading.{Read, Got, Refused, ◌>>=◌, past_mark, number, pick, divided, constant, is_at_most_one, probability, variable, statement_at, block_at, new_param, params_at, pre_at, post_at, braced, file}
+use Rattle.heyvl_tool.specs.Reading.{Got, past_mark, number, constant, is_at_most_one, probability, variable, statement_at, block_at, new_param, params_at, file}
 use Rattle.heyvl_tool.specs.declared.first_form.Constant.{Constant}
 use Rattle.heyvl_tool.specs.declared.first_form.Constant.TheVariants.{Whole, Quotient}
 use Rattle.heyvl_tool.proofs.BlockReading.{block_more, block_ends}

@@ -1,11 +1,10 @@
 -- Reading whole files: what is read is spelled within the limits, and what is spelled within them is read.
-use Rattle.std.proofs.Common.{◌≡◌, ◌∙◌, refl, sym, ap, subst, ◌≤◌, List, [], arith}
+use Rattle.std.proofs.Common.{◌≡◌, ◌∙◌, ap, subst, List, [], arith}
 use Rattle.heyvl_syntax.specs.declared.tokens.Token.{Token}
-use Rattle.heyvl_syntax.specs.declared.tokens.TokenKind.{TokenKind}
 use Rattle.heyvl_tool.specs.Grammar.{Spells}
 use Rattle.heyvl_tool.specs.Limits.{IsWithinLimits}
 use Rattle.heyvl_tool.specs.Procedure.{Procedure}
-use Rattle.heyvl_tool.specs.Reading.{Read, Got, Refused, KeepsCounts, kinds_of, file}
+use Rattle.heyvl_tool.specs.Reading.{Got, Refused, KeepsCounts, kinds_of, file}
 use Rattle.heyvl_tool.specs.Unique.{FirstFormIsUnique}
 use Rattle.heyvl_tool.proofs.CompleteReading.{file_complete}
 use Rattle.heyvl_tool.proofs.TokenCounts.{flip_count, reward_count, if_count, any_count}

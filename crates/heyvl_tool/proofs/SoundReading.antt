@@ -1,5 +1,5 @@
 -- What reading gives is spelled by the kinds that it took.
-use Rattle.std.proofs.Common.{◌≡◌, ◌∙◌, refl, sym, ap, ℕ, ℤ, pos, negsuc, ◌+◌, ◌<◌, ◌≤◌, Bool, true, false, cond, eqb, leb, nat_eq, nat_le, List, [], ◌∷◌, ◌++◌, length, Option, Some, None, IfSome, is_some, arith, append_assoc, length-append}
+use Rattle.std.proofs.Common.{◌≡◌, ◌∙◌, refl, sym, ap, ℕ, ℤ, pos, negsuc, ◌+◌, ◌<◌, ◌≤◌, Bool, true, false, cond, nat_eq, nat_le, List, [], ◌∷◌, ◌++◌, length, Option, Some, None, IfSome, is_some, arith, append_assoc, length-append}
 use Prim.Native.Nat.{zero, suc}
 use denote.Enum.Bare.{same_true}
 use Rattle.std.proofs.lemmas.Bool.{eqb-true, eqb-false, leb-true}

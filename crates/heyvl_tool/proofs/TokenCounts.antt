@@ -1,5 +1,5 @@
 -- Statements are counted by tokens that only they have.
-use Rattle.std.proofs.Common.{◌≡◌, ◌∙◌, refl, sym, ap, ℕ, ◌+◌, ◌≤◌, Bool, true, false, cond, ◌||◌, List, [], ◌∷◌, ◌++◌, map, count_by, sum_by, arith}
+use Rattle.std.proofs.Common.{◌≡◌, ◌∙◌, refl, sym, ap, ℕ, ◌+◌, Bool, true, false, cond, List, [], ◌∷◌, ◌++◌, count_by, arith}
 use Rattle.std.proofs.lemmas.List.Recursion.{is_count_by}
 use denote.Enum.Bare.{sameb}
 use Rattle.heyvl_syntax.specs.contracts.keys.Key.{the_type as the_keys}
@@ -13,7 +13,7 @@ use Rattle.heyvl_tool.specs.Grammar as grammar
 use Rattle.heyvl_tool.specs.Grammar.{Spells, constant_tokens, statement_tokens, block_tokens, params_tokens, more_params, procedure_tokens}
 use Rattle.heyvl_tool.specs.Limits.{statement_count, block_count, is_flip, is_reward, is_if, is_any}
 use Rattle.heyvl_tool.specs.Procedure.{Statement, Block, Procedure}
-use Rattle.heyvl_tool.specs.Reading.{is_key, is_mark, shows_statement, kinds_of, key_count, statement_token_count}
+use Rattle.heyvl_tool.specs.Reading.{is_key, shows_statement, kinds_of, key_count, statement_token_count}
 use Rattle.heyvl_tool.specs.declared.first_form.Constant.{Constant}
 use Rattle.heyvl_tool.specs.declared.first_form.Constant.TheVariants.{Whole, Quotient}
 

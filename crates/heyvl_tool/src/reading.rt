@@ -5,6 +5,7 @@ mod constants;
 mod expecting;
 mod heads;
 mod stops;
+mod variables;
 
 ghost use Rattle.heyvl_tool.specs.Grammar.{Spells};
 ghost use Rattle.heyvl_tool.specs.Limits.{IsWithinLimits};
@@ -13,19 +14,21 @@ ghost use Rattle.heyvl_tool.specs.Reading.{Gives, KeepsCounts, ended, file, key_
 ghost use Rattle.heyvl_tool.specs.Unique.{FirstFormIsUnique};
 ghost use Rattle.std.specs.Prelude.{[], IfNone, IfOk, IfSome, IsTrue, ◌≡◌, ◌↔◌};
 
-use heyvl_syntax::{Key, Mark, Name, Token, TokenKind};
-use std::alloc::{AllocError, Global};
-
+use crate::first_form::FirstForm;
 use bodies::braced;
 use expecting::{is_key, is_mark};
-use crate::first_form::FirstForm;
 use heads::{params, post, pre, title};
+use heyvl_syntax::{Key, Mark, Name, Token, TokenKind};
+use std::alloc::{AllocError, Global};
 use stops::Stop;
 
 fn key_count(key: Key, tokens: &[Token]) -> usize
     ensures { result ≡ key_count key tokens.now }
 {
-    tokens.iter().filter(|token| is_key(key, &token.kind)).count()
+    tokens
+        .iter()
+        .filter(|token| is_key(key, &token.kind))
+        .count()
 }
 
 /// Whether this is the key of a reward or an if, or the mark of an assignment: every statement has just one of these.
@@ -38,7 +41,10 @@ fn shows_statement(kind: &TokenKind) -> bool
 fn statement_token_count(tokens: &[Token]) -> usize
     ensures { result ≡ statement_token_count tokens.now }
 {
-    tokens.iter().filter(|token| shows_statement(&token.kind)).count()
+    tokens
+        .iter()
+        .filter(|token| shows_statement(&token.kind))
+        .count()
 }
 
 /// Whether there are at most 6 flips, 4 rewards, 16 ifs and 64 statements, counted by the tokens that only they have.
@@ -99,5 +105,7 @@ pub fn read_first_form(alloc: Global, tokens: &[Token]) -> Result<Option<FirstFo
 /// The tokens of a file spell at most one procedure of the first form within its limits.
 pub fn first_form_is_unique()
     ensures { FirstFormIsUnique }
-{
-}
+{}
+
+#[cfg(test)]
+mod tests;

@@ -1,54 +1,16 @@
 //! Reading statements.
 
 ghost use Rattle.heyvl_tool.specs.Procedure.{block, statement};
-ghost use Rattle.heyvl_tool.specs.Reading.{Gives, assigned, assignment, block_at, braced, branch, flipped, kinds_of, place, rewarded, statement_at, variable};
-ghost use Rattle.std.specs.Prelude.{IfSome, length, ◌<◌, ◌≡◌, ◌≤◌};
-ghost use Rattle.std.specs.Str.{bytes_eq};
-
-use heyvl_syntax::{Key, Mark, Name, Token};
-use std::alloc::Global;
+ghost use Rattle.heyvl_tool.specs.Reading.{Gives, assigned, assignment, block_at, braced, branch, flipped, kinds_of, rewarded, statement_at};
+ghost use Rattle.std.specs.Prelude.{length, ◌≡◌, ◌≤◌};
 
 use super::constants::{constant, probability};
-use super::expecting::{expect_key, expect_mark, past_key, past_mark, word};
-use crate::first_form::Stmt;
+use super::expecting::{expect_key, expect_mark, past_key, past_mark};
 use super::stops::Stop;
-
-fn same_name(name: &Name, other: &Name) -> bool
-    ensures { result ≡ bytes_eq name.now other.now }
-{
-    name.as_bytes() == other.as_bytes()
-}
-
-fn first_place(name: &Name, names: &[Name]) -> Option<usize>
-    ensures value { result ≡ place name.now names.now }
-    ensures within { IfSome result (λ x. x < length names.now) }
-{
-    names.iter().position(|other| same_name(other, name))
-}
-
-/// The number of a name among names.
-pub(super) fn place(name: &Name, names: &[Name]) -> Option<u32>
-    requires { length names.now ≤ 4 }
-    ensures { result ≡ place name.now names.now }
-{
-    let place = first_place(name, names)?;
-    Some(place as u32)
-}
-
-/// The number of the variable that is named at the front, and the tokens behind it.
-pub(super) fn variable<'a>(
-    names: &[Name],
-    tokens: &'a [Token],
-) -> Result<(u32, &'a [Token]), Stop>
-    requires { length names.now ≤ 4 }
-    ensures { Gives (λ x. x.0) (λ x. x.1.now) result (variable names.now (kinds_of tokens.now)) }
-{
-    let (name, rest) = word(tokens)?;
-    match place(name, names) {
-        Some(place) => Ok((place, rest)),
-        None => Err(Stop::NotInForm),
-    }
-}
+use super::variables::variable;
+use crate::first_form::Stmt;
+use heyvl_syntax::{Key, Mark, Name, Token};
+use std::alloc::Global;
 
 /// `flip(p)`, assigned to a variable.
 fn flipped(variable: u32, tokens: &[Token]) -> Result<(Stmt, &[Token]), Stop>

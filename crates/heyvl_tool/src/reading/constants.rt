@@ -3,11 +3,10 @@
 ghost use Rattle.heyvl_tool.specs.Reading.{Gives, constant, divided, is_at_most_one, kinds_of, probability};
 ghost use Rattle.std.specs.Prelude.{◌≡◌};
 
-use heyvl_syntax::{Mark, Token};
-
 use super::expecting::{number, past_mark};
-use crate::first_form::Constant;
 use super::stops::Stop;
+use crate::first_form::Constant;
+use heyvl_syntax::{Mark, Token};
 
 /// The quotient of a number by the one at the front.
 fn divided(over: u8, tokens: &[Token]) -> Result<(Constant, &[Token]), Stop>

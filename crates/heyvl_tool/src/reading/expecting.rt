@@ -3,9 +3,8 @@
 ghost use Rattle.heyvl_tool.specs.Reading.{Gives, expect_key, expect_mark, is_key, is_mark, kinds_of, number, past_key, past_mark, small, word};
 ghost use Rattle.std.specs.Prelude.{None, Some, MatchOption, ◌≡◌};
 
-use heyvl_syntax::{Key, Lit, Mark, Name, Token, TokenKind};
-
 use super::stops::Stop;
+use heyvl_syntax::{Key, Lit, Mark, Name, Token, TokenKind};
 
 pub(super) fn is_mark(mark: Mark, kind: &TokenKind) -> bool
     ensures { result ≡ is_mark mark kind.now }

@@ -3,14 +3,13 @@
 ghost use Rattle.heyvl_tool.specs.Reading.{Gives, kinds_of, new_param, param, params_at, post_at, pre_at, title};
 ghost use Rattle.std.specs.Prelude.{[], IfOk, length, ◌≡◌, ◌≤◌};
 
-use heyvl_syntax::{Key, Mark, Name, Token};
-use std::alloc::Global;
-
-use super::bodies::{place, variable};
 use super::constants::constant;
 use super::expecting::{expect_key, expect_mark, past_mark, word};
-use crate::first_form::Constant;
 use super::stops::Stop;
+use super::variables::{place, variable};
+use crate::first_form::Constant;
+use heyvl_syntax::{Key, Mark, Name, Token};
+use std::alloc::Global;
 
 /// The name of the procedure, and the tokens from the first output on.
 pub(super) fn title(tokens: &[Token]) -> Result<(&Name, &[Token]), Stop>

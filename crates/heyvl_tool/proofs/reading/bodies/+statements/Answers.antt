@@ -1,8 +1,8 @@
-use Rattle.std.proofs.Common.{◌≡◌, ◌∙◌, ◌-◌, ap, refl, sym, map, arith, suc}
+use Rattle.std.proofs.Common.{◌∙◌, ◌-◌, ap, refl, map, arith}
 use Rattle.std.proofs.lemmas.List.{map-append}
 use Rattle.std.proofs.lemmas.Grind.{common_steps}
 use Rattle.heyvl_tool.specs.Procedure.{statement}
-use Rattle.heyvl_tool.specs.Reading.{Got, kinds_of, block_at}
+use Rattle.heyvl_tool.specs.Reading.{Got, kinds_of}
 use Rattle.heyvl_tool.proofs.BlockReading.{behind, block_ends, block_refused, statement_more, block_fails, joined_done}
 use Rattle.heyvl_tool.proofs.reading.bodies.+statements.Goals as goal
 

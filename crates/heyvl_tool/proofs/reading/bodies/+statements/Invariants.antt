@@ -1,4 +1,4 @@
-use Rattle.std.proofs.Common.{length, ◌≡◌, ◌≤◌, ◌*◌, ◌+◌, map}
+use Rattle.std.proofs.Common.{◌≡◌, ◌≤◌, ◌*◌, ◌+◌, map}
 use Rattle.heyvl_tool.specs.Procedure.{statement}
 use Rattle.heyvl_tool.specs.Reading.{block_at, kinds_of}
 use Rattle.heyvl_tool.proofs.BlockReading.{behind}

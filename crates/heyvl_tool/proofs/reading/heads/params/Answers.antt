@@ -1,4 +1,4 @@
-use Rattle.std.proofs.Common.{◌≡◌, ◌∙◌, ◌+◌, ◌-◌, ◌<◌, ◌≤◌, ◌∷◌, ◌++◌, [], ap, arith, length, length-append, suc, sym, ℕ}
+use Rattle.std.proofs.Common.{◌∙◌, ◌-◌, ◌∷◌, ◌++◌, [], ap, arith, length, length-append, sym}
 use Rattle.std.proofs.lemmas.Grind.{common_steps}
 use Rattle.heyvl_tool.specs.Reading.{Got, kinds_of, params_at}
 use Rattle.heyvl_tool.proofs.ParamReading.{params_none, params_last, params_on, params_fail}
