@@ -64,38 +64,69 @@ fn reads_rows(rt: HostRuntime) -> Result<(), AllocError> {
         (b"0.00", "number 0/0 0..4; "),
         (b"1.", "number 1/0 0..1; mark Dot 1..2; "),
         (b".5", "mark Dot 0..1; number 5/0 1..2; "),
-        (b"1.5.25", "number 15/1 0..3; mark Dot 3..4; number 25/0 4..6; "),
+        (
+            b"1.5.25",
+            "number 15/1 0..3; mark Dot 3..4; number 25/0 4..6; ",
+        ),
         (b"1a", "number 1/0 0..1; word a 1..2; "),
         (
             b"170141183460469231731687303715884105727",
             "number 170141183460469231731687303715884105727/0 0..39; ",
         ),
-        (b" 170141183460469231731687303715884105728", "fault 3 at the bytes 1..40"),
-        (b"17014118346046923173168730371588410572.8", "fault 3 at the bytes 0..40"),
+        (
+            b" 170141183460469231731687303715884105728",
+            "fault 3 at the bytes 1..40",
+        ),
+        (
+            b"17014118346046923173168730371588410572.8",
+            "fault 3 at the bytes 0..40",
+        ),
         (
             b"0.00000000000000000000000000000000000001",
             "number 1/38 0..40; ",
         ),
-        (b"0.000000000000000000000000000000000000000", "fault 3 at the bytes 0..41"),
-        (b"0.00000000000000000000000000000000000000", "number 0/0 0..40; "),
+        (
+            b"0.000000000000000000000000000000000000000",
+            "fault 3 at the bytes 0..41",
+        ),
+        (
+            b"0.00000000000000000000000000000000000000",
+            "number 0/0 0..40; ",
+        ),
         (
             b"000000000000000000000000000000000000000001.5",
             "number 15/1 0..44; ",
         ),
         (b"a<==b", "word a 0..1; mark CoImply 1..4; word b 4..5; "),
         (b"a<=b", "word a 0..1; mark AtMost 1..3; word b 3..4; "),
-        (b"a<= =b", "word a 0..1; mark AtMost 1..3; mark Assign 4..5; word b 5..6; "),
+        (
+            b"a<= =b",
+            "word a 0..1; mark AtMost 1..3; mark Assign 4..5; word b 5..6; ",
+        ),
         (b"==>", "mark Imply 0..3; "),
         (b"== >", "mark Same 0..2; mark More 3..4; "),
-        (b"->- >", "mark Arrow 0..2; mark Minus 2..3; mark More 4..5; "),
-        (b"\\cap\\cup \\infty", "key Cap 0..4; key Cup 4..8; key Infty 9..15; "),
+        (
+            b"->- >",
+            "mark Arrow 0..2; mark Minus 2..3; mark More 4..5; ",
+        ),
+        (
+            b"\\cap\\cup \\infty",
+            "key Cap 0..4; key Cup 4..8; key Infty 9..15; ",
+        ),
         (b"\\capx", "fault 1 at the bytes 0..1"),
         (b"\\cap_", "fault 1 at the bytes 0..1"),
-        (b"# /* 170141183460469231731687303715884105728", "fault 1 at the bytes 0..1"),
-        (b"proc procs _ _1 Sup", "key Proc 0..4; word procs 5..10; word _ 11..12; word _1 13..15; word Sup 16..19; "),
+        (
+            b"# /* 170141183460469231731687303715884105728",
+            "fault 1 at the bytes 0..1",
+        ),
+        (
+            b"proc procs _ _1 Sup",
+            "key Proc 0..4; word procs 5..10; word _ 11..12; word _1 13..15; word Sup 16..19; ",
+        ),
     ];
     let alloc = rt.alloc();
     for (bytes, want) in rows {
+        assert!(rt; bytes.len() < 100);
         let got = show(alloc, lex(alloc, bytes))?;
         assert_eq!(rt; got.as_str(), want);
     }
@@ -108,8 +139,27 @@ fn alone(byte: u8) -> &'static str {
         b' ' | b'\t' | b'\r' | b'\n' => "",
         b'_' | b'a'..=b'z' | b'A'..=b'Z' => "word",
         b'0'..=b'9' => "number",
-        b'(' | b')' | b'{' | b'}' | b'[' | b']' | b',' | b':' | b';' | b'.' | b'=' | b'<' | b'>' | b'+' | b'-' | b'*'
-        | b'/' | b'!' | b'~' | b'?' | b'@' => "mark",
+        b'('
+        | b')'
+        | b'{'
+        | b'}'
+        | b'['
+        | b']'
+        | b','
+        | b':'
+        | b';'
+        | b'.'
+        | b'='
+        | b'<'
+        | b'>'
+        | b'+'
+        | b'-'
+        | b'*'
+        | b'/'
+        | b'!'
+        | b'~'
+        | b'?'
+        | b'@' => "mark",
         _ => "fault 1 at the bytes 0..1",
     }
 }
@@ -127,13 +177,16 @@ fn reads_each_byte(rt: HostRuntime) -> Result<(), AllocError> {
 #[test]
 fn reads_each_key_and_mark(rt: HostRuntime) -> Result<(), AllocError> {
     let alloc = rt.alloc();
-    let keys = "proc coproc pre post var if else while assert assume coassert coassume havoc cohavoc validate covalidate \
+    let keys =
+        "proc coproc pre post var if else while assert assume coassert coassume havoc cohavoc validate covalidate \
         reward tick true false Bool Int UInt UReal EUReal Real ite flip unif choose sup inf \\cap \\cup \\infty";
     let marks = "( ) { } [ ] , : ; . = == != < <= <== > >= + - * / && || ! ~ ==> -> ? @";
-    let names = "Proc CoProc Pre Post Var If Else While Assert Assume CoAssert CoAssume Havoc CoHavoc Validate CoValidate \
+    let names =
+        "Proc CoProc Pre Post Var If Else While Assert Assume CoAssert CoAssume Havoc CoHavoc Validate CoValidate \
         Reward Tick TrueWord FalseWord BoolWord IntWord UIntWord URealWord EURealWord RealWord Ite Flip Unif Choose Sup \
         Inf Cap Cup Infty";
-    let signs = "ParenLeft ParenRight BraceLeft BraceRight BracketLeft BracketRight Comma Colon Semi Dot Assign Same \
+    let signs =
+        "ParenLeft ParenRight BraceLeft BraceRight BracketLeft BracketRight Comma Colon Semi Dot Assign Same \
         Differ Less AtMost CoImply More AtLeast Plus Minus Star Slash AndAnd OrOr Bang Tilde Imply Arrow Question AtSign";
     for (text, name) in keys.split_whitespace().zip(names.split_whitespace()) {
         let end = text.len();
