@@ -7,7 +7,7 @@ use Rattle.heyvl_syntax.specs.declared.fronts.Front.TheVariants as fronts
 use Rattle.heyvl_syntax.specs.declared.keys.Key.TheVariants as keys
 use Rattle.heyvl_syntax.specs.declared.marks.Mark.TheVariants as marks
 use Rattle.heyvl_syntax.specs.declared.tokens.TokenKind.TheVariants as kinds
-use Rattle.std.proofs.Common.{Bool, List, [], codes, false, pos, refl, true, ◌∷◌, ◌≡◌, ℕ}
+use Rattle.std.proofs.Common.{[], codes, false, pos, refl, true, ◌∷◌, ◌≡◌}
 
 -- Literals lose the zeros at their end behind the point, and keep what stands before it.
 half_is : literal (codes "0.50") ≡ record { digits = pos 5; places = 1 }
