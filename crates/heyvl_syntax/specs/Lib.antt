@@ -4,5 +4,6 @@ pub mod Fronts
 pub mod Keys
 pub mod Literals
 pub mod Marks
+pub mod Places
 pub mod TokenLaws
 pub mod Tokens

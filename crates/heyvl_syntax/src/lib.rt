@@ -10,6 +10,7 @@ mod lexer;
 mod literals;
 mod marks;
 mod names;
+mod places;
 mod spans;
 mod stops;
 #[cfg(test)]
@@ -25,6 +26,7 @@ pub use lexer::lex;
 pub use literals::Lit;
 pub use marks::Mark;
 pub use names::Name;
+pub use places::{Place, place_at};
 pub use spans::Span;
 pub use stops::LexStop;
 pub use tokens::{Token, TokenKind};
