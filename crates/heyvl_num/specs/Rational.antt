@@ -1,9 +1,11 @@
 -- Exact fractions of whole numbers, kept in lowest terms, so that two fractions are equal exactly where their cross
 -- products agree.
-use Rattle.std.specs.Prelude.{◌≡◌, ℕ, ◌*◌, ◌/◌, ◌<◌, ℤ, pos, negsuc, ◌+ℤ◌, ◌*ℤ◌, Bool, true}
+use Rattle.std.specs.Prelude.{◌≡◌, ℕ, ◌*◌, ◌/◌, ◌<◌, ℤ, pos, negsuc, ◌+ℤ◌, ◌*ℤ◌, Bool, true, false}
 use Rattle.std.specs.Int.RustNames.{int_div, unsigned_abs}
 use Rattle.std.specs.Int.Signed.{le_z}
 use Rattle.std.proofs.Math.IntN.{neg_ℤ}
+use Rattle.std.specs.Ordering.{int_cmp}
+use Rattle.std.specs.declared.cmp.Ordering.{Ordering}
 use Prim.Native.Nat.{suc, zero}
 use Rattle.std.proofs.Common.{refl, ◌∙◌, ap}
 use Rattle.std.proofs.Math.Nat.{zero-lt-suc}
@@ -11,10 +13,10 @@ use Rattle.heyvl_num.specs.Gcd.{gcd, gcd_steps}
 use Rattle.heyvl_num.specs.GcdLaws.{gcd-quotients, quotient_den-pos}
 
 infix 4 ◌≤ʳ◌
+infix 4 ◌<ʳ◌
 infixl 6 ◌+ʳ◌
 infixl 6 ◌-ʳ◌
 infixl 7 ◌*ʳ◌
-
 -- A fraction in lowest terms with a positive denominator.
 pub record Rational : Type 0 where
   pub num : ℤ
@@ -62,3 +64,18 @@ leqʳ x y = le_z (x.num *ℤ pos y.den) (y.num *ℤ pos x.den)
 
 pub record ◌≤ʳ◌ (x y : Rational) : Type 0 where
   pub holds : leqʳ x y ≡ true
+
+-- a/b is less than c/d where c/d isn't at most a/b.
+pub record ◌<ʳ◌ (x y : Rational) : Type 0 where
+  pub holds : leqʳ y x ≡ false
+
+unfoldable pub halfʳ : Rational
+halfʳ = ratio (pos 1) 2
+
+-- The middle of two fractions.
+unfoldable pub middleʳ : Rational → Rational → Rational
+middleʳ x y = halfʳ *ʳ (x +ʳ y)
+
+-- How the first compares with the second, by their cross products.
+unfoldable pub compareʳ : Rational → Rational → Ordering
+compareʳ x y = int_cmp (x.num *ℤ pos y.den) (y.num *ℤ pos x.den)
