@@ -1,0 +1,5 @@
+pub mod Closing
+pub mod Digits
+mod Rows
+pub mod Runs
+pub mod Tables
