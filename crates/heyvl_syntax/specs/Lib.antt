@@ -1,7 +1,9 @@
 pub mod Bytes
 pub mod Comments
+pub mod Expressions
 pub mod Fronts
 pub mod Keys
 pub mod Literals
 pub mod Marks
+pub mod Statements
 pub mod Tokens

@@ -27,6 +27,13 @@ impl Name {
         })
     }
 
+    /// A name of its own that is equal to this one.
+    pub fn copy(&self, alloc: Global) -> Result<Name, AllocError>
+        ensures { IfOk result (λ copied. copied ≡ self.now) }
+    {
+        Name::new(alloc, self.as_bytes())
+    }
+
     /// The bytes of the name.
     pub fn as_bytes(&self) -> &[u8]
         ensures { result.now ≡ self.now }
