@@ -31,10 +31,13 @@ closes_first n (b ∷ bs) place h = pick (closes_at (b ∷ bs) 0) refl h (closes
         before : (k : ℕ) → k < suc inner → closes_at (b ∷ bs) k ≡ false
         before zero l = here
         before (suc k) l = r.first k (omega arith)
+
     next : closes_at (b ∷ bs) 0 ≡ false → ((inner : ℕ) × (place ≡ n + 1 + inner) × IsFirstClose bs inner) → (inner : ℕ) × (place ≡ n + inner) × IsFirstClose (b ∷ bs) inner
     next here (inner, e, r) = (suc inner, omega (arith, e), later inner e r here)
+
     none : (k : ℕ) → k < 0 → closes_at (b ∷ bs) k ≡ false
     none k l = absurd (omega arith)
+
     pick : (here : Bool) → closes_at (b ∷ bs) 0 ≡ here → cond here (Some n) (close_from (n + 1) bs) ≡ Some place → (close_from (n + 1) bs ≡ Some place → (inner : ℕ) × (place ≡ n + 1 + inner) × IsFirstClose bs inner) → (inner : ℕ) × (place ≡ n + inner) × IsFirstClose (b ∷ bs) inner
     pick true e h rest = let same : n ≡ place = cc in (0, omega (arith, same), record { closes = e; first = none })
     pick false e h rest = next e (rest h)

@@ -43,7 +43,7 @@ run_ends p (x ∷ xs) h =
     let more = run_ends p xs (and_right (p x) (list_all p xs) h) in
     rw (and_left (p x) (list_all p xs) h, more) (omega arith)
 
-not_true : (x : Bool) → not x ≡ true → x ≡ false
+pub not_true : (x : Bool) → not x ≡ true → x ≡ false
 not_true true h = sym h
 not_true false h = refl
 

@@ -117,5 +117,8 @@ impl Mark {
 pub(crate) fn mark_of(bytes: &[u8]) -> Option<Mark>
     ensures { result ≡ mark_of bytes.now }
 {
-    MARKS.iter().copied().find(|mark| bytes.starts_with(mark.text()))
+    MARKS
+        .iter()
+        .copied()
+        .find(|mark| bytes.starts_with(mark.text()))
 }
