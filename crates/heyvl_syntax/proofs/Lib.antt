@@ -1,6 +1,7 @@
 pub mod Closing
 pub mod Digits
 pub mod FrontIs
+mod LoadRows
 pub mod Longest
 mod Rows
 pub mod Runs

@@ -1,6 +1,6 @@
 //! Expressions.
 
-ghost use Rattle.heyvl_syntax.specs.Expressions.{expression};
+ghost use Rattle.heyvl_syntax.specs.Expressions.{expression, expressions};
 ghost use Rattle.std.specs.Prelude.{◌≡◌, IfOk};
 
 use std::alloc::{AllocError, Global};
@@ -70,5 +70,16 @@ impl Expr {
         ensures { IfOk result (λ boxed. boxed.value ≡ self) }
     {
         Ok(Box::new(alloc, self)?)
+    }
+
+    /// Copies of these expressions, in their order.
+    pub fn copy_all(alloc: Global, all: &[Expr]) -> Result<Vec<Expr>, AllocError>
+        ensures { IfOk result (λ copied. expressions copied.items ≡ expressions all.now) }
+    {
+        let mut copied = Vec::with_capacity(alloc, all.len())?;
+        for one in all {
+            copied.push(one.copy(alloc)?)?;
+        }
+        Ok(copied)
     }
 }

@@ -40,4 +40,15 @@ impl Name {
     {
         self.bytes.as_slice()
     }
+
+    /// Copies of these names, in their order.
+    pub fn copy_all(alloc: Global, all: &[Name]) -> Result<Vec<Name>, AllocError>
+        ensures { IfOk result (λ copied. copied.items ≡ all.now) }
+    {
+        let mut copied = Vec::with_capacity(alloc, all.len())?;
+        for one in all {
+            copied.push(one.copy(alloc)?)?;
+        }
+        Ok(copied)
+    }
 }
