@@ -25,6 +25,23 @@ sign mark = kinds.Mark mark
 abbrev pub key : Key → TokenKind
 key k = kinds.Key k
 
+abbrev pub word : List ℕ → TokenKind
+word x = kinds.Word x
+
+-- Names.
+abbrev pub a : List ℕ
+a = codes "a"
+
+abbrev pub b : List ℕ
+b = codes "b"
+
+abbrev pub c : List ℕ
+c = codes "c"
+
+-- A variable, the token of which begins at this byte.
+abbrev pub name : List ℕ → ℕ → Expression
+name x from = Expression.name x (span from (from + 1))
+
 -- One token is one token, and covers its own place.
 pub token : {kind : TokenKind} {s : Span} → IsOne kind (at kind s ∷ [])
 token {s = s} = (s, refl)
