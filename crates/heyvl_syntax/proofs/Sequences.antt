@@ -39,3 +39,7 @@ pub semis_then : (P : List Token → Type 0) (t : Token) (ts : List Token) → (
 unfolding first
 semis_then P t ts ([], ys, semis, p, e) = inr (subst P (sym e) p)
 semis_then P t ts (x ∷ xs, ys, semis, p, e) = inl (ap (λ z. (first t z).kind) e ∙ semis.0)
+
+pub or_then : (P Q R : List Token → Type 0) (ts : List Token) → ((P or Q) then R) ts → (P then R) ts ⊎ (Q then R) ts
+or_then P Q R ts (xs, ys, inl p, r, e) = inl (xs, ys, p, r, e)
+or_then P Q R ts (xs, ys, inr q, r, e) = inr (xs, ys, q, r, e)

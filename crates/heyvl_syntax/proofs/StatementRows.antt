@@ -1,9 +1,9 @@
 -- Worked rows of the grammar of statements: small texts with the trees that they spell, and trees that they don't spell.
-use Rattle.heyvl_syntax.proofs.Sequences.{nothing_then, one_then, semis_then, then_assoc, then_map}
+use Rattle.heyvl_syntax.proofs.Sequences.{nothing_then, one_then, or_then, semis_then, then_assoc, then_map}
 use Rattle.heyvl_syntax.proofs.Texts.{a, b, c, key, leaf, name, placed, sign, span, text, token, word}
 use Rattle.heyvl_syntax.specs.Expressions.{Expression}
 use Rattle.heyvl_syntax.specs.Grammar.{IsBlock, IsElse, IsStmts, IsRight, IsRule, IsStmt, IsType, check_key, havoc_key, pick_key, type_key, validate_key}
-use Rattle.heyvl_syntax.specs.Productions.{at}
+use Rattle.heyvl_syntax.specs.Productions.{AreSemis, IsKey, IsMark, IsNothing, at, ◌then◌}
 use Rattle.heyvl_syntax.specs.Statements.{Arms, Block, LoopRule, RightSide, Statement}
 use Rattle.heyvl_syntax.specs.declared.keys.Key.TheVariants as keys
 use Rattle.heyvl_syntax.specs.declared.keys.Key.{Key}
@@ -262,4 +262,25 @@ else_of_outer_if s t spelled =
     let behind_if = (one_then _ _ _ _ (then_assoc _ _ _ _ spelled.0)).1 in
     let behind_guard = (one_then _ _ _ _ (then_map _ _ _ _ _ (λ xs h. h.0) (λ xs h. h) (then_assoc _ _ _ _ behind_if))).1 in
     let block = (one_then _ _ _ _ (then_assoc _ _ _ _ (then_assoc _ _ _ _ behind_guard))).1 in
-    ?
+    let statement = then_map _ _ _ _ _ (λ xs h. h.0) (λ xs h. h) (then_assoc _ _ _ _ (then_assoc _ _ _ _ block)) in
+    let inner_behind_if = (one_then _ _ _ _ (then_assoc _ _ _ _ (then_assoc _ _ _ _ statement))).1 in
+    let inner_behind_guard = (one_then _ _ _ _ (then_map _ _ _ _ _ (λ xs h. h.0) (λ xs h. h) (then_assoc _ _ _ _ inner_behind_if))).1 in
+    let inner_block = (one_then _ _ _ _ (then_assoc _ _ _ _ (then_assoc _ _ _ _ inner_behind_guard))).1 in
+    let closing = nothing_then _ _ (then_assoc _ _ _ _ inner_block) in
+    no_else _ (or_then _ _ _ _ (nothing_then _ _ (one_then _ _ _ _ closing).1))
+  where
+    from_else : List Token
+    from_else = placed 7 (key keys.Else ∷ sign marks.BraceLeft ∷ key keys.Validate ∷ sign marks.BraceRight ∷ sign marks.BraceRight ∷ [])
+    no_semi : (R : List Token → Type 0) → (key keys.Else ≡ sign marks.Semi) ⊎ (IsNothing then IsMark marks.BraceRight then R) from_else → ⊥
+    no_semi R (inl e) = key_no_mark _ _ e
+    no_semi R (inr h) = key_no_mark _ _ (one_then _ _ _ _ (nothing_then _ _ h)).0
+    no_else : (R : List Token → Type 0) →
+      ((IsKey keys.Else then IsBlock Block.done) then (AreSemis then IsNothing) then IsMark marks.BraceRight then R) from_else
+      ⊎ ((λ ts. (Block.done ≡ Block.done) × IsNothing ts) then (AreSemis then IsNothing) then IsMark marks.BraceRight then R) from_else
+      → ⊥
+    no_else R (inl h) =
+        let behind_else = (one_then _ _ _ _ (then_assoc _ _ _ _ h)).1 in
+        let behind_brace = (one_then _ _ _ _ (then_assoc _ _ _ _ behind_else)).1 in
+        key_no_mark _ _ (one_then _ _ _ _ (nothing_then _ _ (then_assoc _ _ _ _ behind_brace))).0
+    no_else R (inr h) =
+        no_semi R (semis_then _ _ _ (then_assoc _ _ _ _ (nothing_then _ _ (then_map _ IsNothing _ _ _ (λ xs n. n.1) (λ xs n. n) h))))
