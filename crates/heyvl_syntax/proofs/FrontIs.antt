@@ -173,7 +173,7 @@ front-is [] = refl
 front-is (b ∷ bs) = by_first (is_white b) (opens_line (b ∷ bs)) (opens_block (b ∷ bs)) (opens_word b) (is_ascii_digit b) b bs refl refl refl refl refl
 
 -- It has a byte, and lies inside.
-closes_len : (bytes : List ℕ) (k : ℕ) → closes_at bytes k ≡ true → k + 2 ≤ length bytes
+pub closes_len : (bytes : List ℕ) (k : ℕ) → closes_at bytes k ≡ true → k + 2 ≤ length bytes
 closes_len bytes k h = omega (arith, starts_len (drop k bytes) (42 ∷ 47 ∷ []) h, length-drop k bytes)
 
 pub line_first : (b : ℕ) (bs : List ℕ) → opens_line (b ∷ bs) ≡ true → b ≡ 47
@@ -186,7 +186,7 @@ line_some : (bytes : List ℕ) → opens_line bytes ≡ true → 0 < position_or
 line_some [] h = absurd (cc)
 line_some (b ∷ bs) h = rw (line_first b bs h) (omega arith)
 
-longest_some : (bytes : List ℕ) (kind : TokenKind) (n : ℕ) → IsLongest bytes kind n → 0 < n
+pub longest_some : (bytes : List ℕ) (kind : TokenKind) (n : ℕ) → IsLongest bytes kind n → 0 < n
 longest_some bytes kind zero longest = let begins = token_begins kind [] bytes longest.token.1 in let no = begins.same in absurd (cc)
 longest_some bytes kind (suc n) longest = omega arith
 

@@ -10,4 +10,5 @@ pub mod Marks
 pub mod Procedures
 pub mod Productions
 pub mod Statements
+pub mod TokenLaws
 pub mod Tokens

@@ -3,7 +3,7 @@ use Rattle.heyvl_syntax.specs.Bytes.{is_point}
 use Rattle.heyvl_syntax.specs.declared.literals.Lit.{Lit}
 use Rattle.std.specs.Char.{is_ascii_digit}
 use Rattle.std.specs.List.{after_first, before_first, list_all}
-use Rattle.std.specs.Prelude.{Bool, List, [], cond, fold, length, nat_eq, nat_le, nat_lt, pos, true, ◌*◌, ◌+◌, ◌++◌, ◌-◌, ◌<◌, ◌^◌, ◌||◌, ◌∷◌, ◌≡◌, ◌⊎◌, ℕ}
+use Rattle.std.specs.Prelude.{Bool, List, [], cond, fold, length, nat_eq, nat_le, nat_lt, pos, true, ◌%◌, ◌*◌, ◌+◌, ◌++◌, ◌-◌, ◌<◌, ◌^◌, ◌≤◌, ◌||◌, ◌∷◌, ◌≡◌, ◌⊎◌, ℕ}
 
 -- One or more digits.
 abbrev pub IsDigits : List ℕ → Type 0
@@ -45,3 +45,11 @@ literal text = record {
 -- The digits as they are written, without the point, make 2^127 or more, or more than 38 digits stand behind the point.
 abbrev pub is_too_large : List ℕ → Bool
 is_too_large text = nat_le (2 ^ 127) (number (whole text ++ fraction text)) || nat_lt 38 (length (fraction text))
+
+-- Digits from 0 to below 2^127, at most 38 of them behind the point, and there no zero at their end.
+pub record IsInLimits (lit : Lit) : Type 0 where
+  pub digits : ℕ
+  pub same : lit.digits ≡ pos digits
+  pub small : digits < 2 ^ 127
+  pub short : lit.places ≤ 38
+  pub no_last_zero : 0 < lit.places → 0 < digits % 10

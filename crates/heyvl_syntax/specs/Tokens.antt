@@ -118,3 +118,13 @@ pub record Stops (place : ℕ) (bytes : List ℕ) (number : ℕ) (span : Span) :
 abbrev pub IsStop : List ℕ → LexStop → Type 0
 IsStop bytes (stops.Fault number span) = Stops 0 bytes number span
 IsStop bytes (stops.Memory error) = Unit {0}
+
+-- Want of memory.
+abbrev pub IsMemory : LexStop → Type 0
+IsMemory (stops.Fault number span) = ⊥
+IsMemory (stops.Memory error) = Unit {0}
+
+-- This fault with its span, or want of memory.
+abbrev pub IsFaultOrMemory : ℕ → Span → LexStop → Type 0
+IsFaultOrMemory number span (stops.Fault other at) = (other ≡ number) × (at ≡ span)
+IsFaultOrMemory number span (stops.Memory error) = Unit {0}

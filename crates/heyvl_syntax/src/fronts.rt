@@ -4,7 +4,7 @@ ghost use Rattle.heyvl_syntax.specs.Bytes.{is_letter};
 ghost use Rattle.heyvl_syntax.specs.Fronts.{IsInside, block_front, first_close, front_of, key_of, mark_front, mark_of, number_front, number_text, word_front, word_text};
 ghost use Rattle.std.specs.Prelude.{◌+◌, ◌<◌, ◌≡◌, ◌≤◌, IfOk, drop, length};
 
-use crate::bytes::{digits_len, is_letter, is_white, line_len, word_len};
+use crate::bytes::{is_letter, is_white, line_len, word_len};
 use crate::comments::first_close;
 use crate::keys::key_of;
 use crate::literals::{literal, number_len};

@@ -1,7 +1,9 @@
 //! The tokens of bytes.
 
-ghost use Rattle.heyvl_syntax.specs.Tokens.{IsStop, Lexes, span_of};
-ghost use Rattle.std.specs.Prelude.{◌+◌, ◌<◌, ◌^◌, ◌≡◌, IfErr, IfOk, length};
+ghost use Rattle.heyvl_syntax.specs.Tokens.{IsFaultOrMemory, IsMemory, IsStop, Lexes, Stops, span_of};
+ghost use Rattle.heyvl_syntax.specs.declared.spans.Span.{Span};
+ghost use Rattle.heyvl_syntax.specs.declared.tokens.Token.{Token};
+ghost use Rattle.std.specs.Prelude.{◌+◌, ◌<◌, ◌^◌, ◌≡◌, ℕ, IfErr, IfOk, List, MatchResult, length};
 
 use crate::fronts::{Front, front_of};
 use crate::{LexStop, Span, Token};
@@ -18,8 +20,8 @@ fn span_of(place: usize, n: usize) -> Span
     }
 }
 
-/// The tokens that the bytes are split into, or the leftmost fault.
-pub fn lex(alloc: Global, bytes: &[u8]) -> Result<Vec<Token>, LexStop>
+/// The tokens or the leftmost fault, part by part.
+fn lex_parts(alloc: Global, bytes: &[u8]) -> Result<Vec<Token>, LexStop>
     requires { length bytes.now < 2 ^ 31 }
     ensures found { IfOk result (λ tokens. Lexes 0 bytes.now tokens.items) }
     ensures fault { IfErr result (λ stop. IsStop bytes.now stop) }
@@ -47,4 +49,18 @@ pub fn lex(alloc: Global, bytes: &[u8]) -> Result<Vec<Token>, LexStop>
             }
         }
     }
+}
+
+/// The tokens that the bytes are split into: white space, comments and, between these, the longest token at each place.
+/// Fails with the leftmost fault where the bytes can't be split so, and otherwise for want of memory alone.
+pub fn lex(alloc: Global, bytes: &[u8]) -> Result<Vec<Token>, LexStop>
+    requires { length bytes.now < 2 ^ 31 }
+    ensures found { IfOk result (λ tokens. Lexes 0 bytes.now tokens.items) }
+    ensures fault { IfErr result (λ stop. IsStop bytes.now stop) }
+    ensures only { (tokens : List Token) → Lexes 0 bytes.now tokens
+        → MatchResult result (λ found. found.items ≡ tokens) (λ stop. IsMemory stop) }
+    ensures only_fault { (number : ℕ) (span : Span) → Stops 0 bytes.now number span
+        → MatchResult result (λ _. ⊥) (λ stop. IsFaultOrMemory number span stop) }
+{
+    lex_parts(alloc, bytes)
 }

@@ -6,6 +6,7 @@ mod comments;
 mod expressions;
 mod fronts;
 mod keys;
+mod laws;
 mod lexer;
 mod literals;
 mod marks;
@@ -15,11 +16,17 @@ mod procedures;
 mod spans;
 mod statements;
 mod stops;
+#[cfg(test)]
+mod tests;
 mod tokens;
 mod types;
 
 pub use expressions::Expr;
 pub use keys::Key;
+pub use laws::{
+    faults_are_unique, tokens_are_few, tokens_are_unique, tokens_exclude_faults, tokens_or_fault,
+    tokens_stand_in_order,
+};
 pub use lexer::lex;
 pub use literals::Lit;
 pub use marks::Mark;

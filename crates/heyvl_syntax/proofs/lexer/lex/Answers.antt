@@ -1,35 +1,32 @@
-use Rattle.heyvl_syntax.proofs.FrontIs.{IsFront}
-use Rattle.heyvl_syntax.proofs.Steps.{front_was, lexed_more, lexes_blank, lexes_end, stops_blank, stops_here, stops_token}
+use Rattle.heyvl_syntax.proofs.Unique.{lexes_no_stop, lexes_unique, stops_unique}
 use Rattle.heyvl_syntax.proofs.lexer.lex.Goals as goal
-use Rattle.heyvl_syntax.specs.Tokens.{Lexes, Stops}
-use Rattle.heyvl_syntax.specs.declared.fronts.Front.TheVariants as fronts
-use Rattle.std.proofs.Common.{List, [], arith, drop, subst, ℕ, ◌+◌}
-use Rattle.std.proofs.lemmas.List.{append-nil}
+use Rattle.heyvl_syntax.specs.Tokens.{IsFaultOrMemory, IsMemory, IsStop, Lexes, Stops}
+use Rattle.heyvl_syntax.specs.declared.spans.Span.{Span}
+use Rattle.heyvl_syntax.specs.declared.stops.LexStop.TheVariants as stops
+use Rattle.heyvl_syntax.specs.declared.stops.LexStop.{LexStop}
+use Rattle.heyvl_syntax.specs.declared.tokens.Token.{Token}
+use Rattle.std.proofs.Common.{Err, IfErr, IfOk, List, MatchResult, Ok, Result, sym, ℕ, ◌≡◌}
 
-pub returns-in-End-clause-found : goal.returns-in-End-clause-found
-returns-in-End-clause-found c =
-    let front = front_was c.parts.rest.now c.in_ok-front_of.field-0 fronts.End c.in_ok-front_of.ensures.value c.in-End.is in
-    rw append-nil at (c.parts.invariant.lexed [] (lexes_end c.parts.place c.parts.rest.now front))
+-- What stops bytes that are split into tokens.
+only_memory : (bytes : List ℕ) (stop : LexStop) → IsStop bytes stop → (tokens : List Token) → Lexes 0 bytes tokens → IsMemory stop
+only_memory bytes (stops.Fault number span) here tokens split = lexes_no_stop 0 bytes tokens number span split here
+only_memory bytes (stops.Memory error) here tokens split = tt
 
-pub returns-in-Fault-clause-fault : goal.returns-in-Fault-clause-fault
-returns-in-Fault-clause-fault c =
-    let front = front_was c.parts.rest.now c.in_ok-front_of.field-0 (fronts.Fault c.in-Fault.number c.in-Fault.n) c.in_ok-front_of.ensures.value c.in-Fault.is in
-    rw c.span_of.ensures (c.parts.invariant.stopped c.in-Fault.number _ (stops_here c.parts.place c.in-Fault.n c.in-Fault.number c.parts.rest.now front))
+-- What stops bytes that have a fault.
+only_fault : (bytes : List ℕ) (stop : LexStop) → IsStop bytes stop → (number : ℕ) (span : Span) → Stops 0 bytes number span → IsFaultOrMemory number span stop
+only_fault bytes (stops.Fault other at) here number span fault = stops_unique 0 bytes other number at span here fault
+only_fault bytes (stops.Memory error) here number span fault = tt
 
-pub parts-preserved-in-Blank : goal.parts-preserved-in-Blank
-parts-preserved-in-Blank c =
-    let front = front_was c.parts.rest.now c.in_ok-front_of.field-0 (fronts.Blank c.in-Blank.n) c.in_ok-front_of.ensures.value c.in-Blank.is in
-    record {
-      within = omega (arith, c.parts.invariant.within, c.split_at.ensures.back_len);
-      lexed = λ tokens rest. c.parts.invariant.lexed tokens (lexes_blank c.parts.place c.in-Blank.n c.parts.rest.now front tokens (rw (← c.split_at.ensures.back) rest));
-      stopped = λ number span rest. c.parts.invariant.stopped number span (stops_blank c.parts.place c.in-Blank.n c.parts.rest.now front number span (rw (← c.split_at.ensures.back) rest));
-    }
+only : {V : Type 0} (items : V → List Token) (bytes : List ℕ) (result : Result V LexStop) → IfOk result (λ found. Lexes 0 bytes (items found)) → IfErr result (λ stop. IsStop bytes stop) → (tokens : List Token) → Lexes 0 bytes tokens → MatchResult result (λ found. items found ≡ tokens) (λ stop. IsMemory stop)
+only items bytes (Ok found) lexes stops tokens split = lexes_unique 0 bytes (items found) tokens lexes split
+only items bytes (Err stop) lexes stops tokens split = only_memory bytes stop stops tokens split
 
-pub parts-preserved : goal.parts-preserved
-parts-preserved c =
-    let front = front_was c.parts.rest.now c.in_ok-front_of.field-0 (fronts.Token c.in-Token.kind c.in-Token.n) c.in_ok-front_of.ensures.value c.in-Token.is in
-    record {
-      within = omega (arith, c.parts.invariant.within, c.split_at-in-Token.ensures.back_len);
-      lexed = rw (c.in_ok-push-in-Token.ensures.items, c.span_of-in-Token.ensures) (lexed_more c.parts.place c.in-Token.n c.in-Token.kind c.args.bytes.now c.parts.rest.now c.split_at-in-Token.result.1.now c.parts.tokens.items front c.split_at-in-Token.ensures.back c.parts.invariant.lexed);
-      stopped = λ number span rest. c.parts.invariant.stopped number span (stops_token c.parts.place c.in-Token.n c.in-Token.kind c.parts.rest.now front number span (rw (← c.split_at-in-Token.ensures.back) rest));
-    }
+stopped : {V : Type 0} (items : V → List Token) (bytes : List ℕ) (result : Result V LexStop) → IfOk result (λ found. Lexes 0 bytes (items found)) → IfErr result (λ stop. IsStop bytes stop) → (number : ℕ) (span : Span) → Stops 0 bytes number span → MatchResult result (λ found. ⊥) (λ stop. IsFaultOrMemory number span stop)
+stopped items bytes (Ok found) lexes stops number span fault = lexes_no_stop 0 bytes (items found) number span lexes fault
+stopped items bytes (Err stop) lexes stops number span fault = only_fault bytes stop stops number span fault
+
+pub returns-clause-only : goal.returns-clause-only
+returns-clause-only c = only (λ found. found.items) c.args.bytes.now c.lex_parts.result c.lex_parts.ensures.found c.lex_parts.ensures.fault
+
+pub returns-clause-only_fault : goal.returns-clause-only_fault
+returns-clause-only_fault c = stopped (λ found. found.items) c.args.bytes.now c.lex_parts.result c.lex_parts.ensures.found c.lex_parts.ensures.fault
