@@ -5,6 +5,7 @@ pub mod FrontIs
 pub mod InOrder
 mod LoadRows
 pub mod Longest
+pub mod PlainTreesAre
 mod ProcedureRows
 mod Rows
 pub mod Runs

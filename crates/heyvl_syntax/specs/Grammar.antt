@@ -1,6 +1,36 @@
 -- The grammar of HeyVL: which tokens spell a tree. Each definition is a production, by cases on the tree, with the production
--- beside it; the surface language is that of Caesar (Schroeer, Batz, Kaminski, Katoen, Matheja, OOPSLA 2023). `x*` is any number,
--- `x?` at most one, `list(x)` one or more with ',' between and `list0(x)` none or list(x); W is a word and N a number.
+-- beside it. The language is HeyVL of Schroeer, Batz, Kaminski, Katoen and Matheja (OOPSLA 2023) with the words of the verifier
+-- Caesar. `x*` is any number, `x?` at most one, `list(x)` one or more with ',' between and `list0(x)` none or list(x); W is a word
+-- and N a number. From the top:
+--
+--   file   ::= proc*
+--   proc   ::= note? ('proc'|'coproc') W '(' list0(param) ')' '->' '(' list0(param) ')' clause* block?
+--   note   ::= '@' ('wlp'|'wp'|'ert')
+--   param  ::= W ':' type
+--   type   ::= 'Bool'|'Int'|'UInt'|'UReal'|'EUReal'|'Real'
+--   clause ::= ('pre'|'post') expr
+--   block  ::= '{' (stmt ';'*)* '}'
+--   stmt   ::= 'var' W ':' type ('=' right)?  |  list(W) '=' right  |  W '(' list0(expr) ')'
+--            | ('assert'|'assume'|'coassert'|'coassume') expr | 'validate' | 'covalidate'
+--            | ('havoc'|'cohavoc') list(W) | ('reward'|'tick') expr
+--            | 'if' expr block ('else' 'if' expr block)* ('else' block)?
+--            | 'if' ('\cap'|'\cup') block ('else' block)?
+--            | rule* 'while' expr block
+--   rule   ::= '@' 'invariant' '(' expr ')' | '@' 'k_induction' '(' expr ',' expr ')' | '@' 'ranking' '(' expr ',' expr ')'
+--   right  ::= 'flip' '(' expr ')' | 'unif' '(' expr ',' expr ')' | 'choose' '{' list(expr ':' expr) '}'
+--            | W '(' list0(expr) ')' | expr
+--   expr   ::= ('sup'|'inf') W ':' type '.' expr | e1
+--   e1     ::= e2 (('==>'|'<==') e1)?
+--   e2     ::= e2 '\cup' e3 | e3
+--   e3     ::= e3 '\cap' e4 | e4
+--   e4     ::= e4 '||' e5 | e5
+--   e5     ::= e5 '&&' e6 | e6
+--   e6     ::= e7 (('=='|'!='|'<'|'<='|'>'|'>=') e7)?
+--   e7     ::= e7 ('+'|'-') e8 | e8
+--   e8     ::= e8 ('*'|'/') e9 | e9
+--   e9     ::= ('!'|'-'|'~') e9 | atom
+--   atom   ::= N | 'true' | 'false' | '\infty' | W | '(' expr ')' | '[' expr ']' | '?' '(' expr ')'
+--            | 'ite' '(' expr ',' expr ',' expr ')'
 --
 -- Each node has a place in the bytes. That of a binary expression is the place of its operator. That of every other node goes from
 -- its first byte to the end of its last token.
@@ -8,6 +38,7 @@ use Rattle.heyvl_syntax.specs.Expressions.{Expression}
 use Rattle.heyvl_syntax.specs.Procedures.{Procedure}
 use Rattle.heyvl_syntax.specs.Productions.{AreSemis, IsAt, IsEach, IsKey, IsList, IsList0, IsLiteral, IsMark, IsName, IsNothing, IsOne, IsOptional, extent, ◌or◌, ◌then◌}
 use Rattle.heyvl_syntax.specs.Statements.{Arms, Block, LoopRule, RightSide, Statement}
+use Rattle.heyvl_syntax.specs.Tokens.{Lexes}
 use Rattle.heyvl_syntax.specs.declared.keys.Key.TheVariants as keys
 use Rattle.heyvl_syntax.specs.declared.keys.Key.{Key}
 use Rattle.heyvl_syntax.specs.declared.marks.Mark.TheVariants as marks
@@ -292,3 +323,9 @@ IsProc p ts =
 -- file ::= proc*
 abbrev pub IsFile : List Procedure → List Token → Type 0
 IsFile = IsEach IsProc
+
+-- The bytes spell the file: they are split into tokens, and these tokens are the file's.
+pub record Spells (bytes : List ℕ) (file : List Procedure) : Type 0 where
+  pub tokens : List Token
+  pub lexes : Lexes 0 bytes tokens
+  pub is_file : IsFile file tokens

@@ -19,6 +19,7 @@ mod stops;
 #[cfg(test)]
 mod tests;
 mod tokens;
+mod trees;
 mod types;
 
 pub use expressions::Expr;
@@ -37,4 +38,5 @@ pub use spans::Span;
 pub use statements::{Arm, CheckKind, Right, Rule, Stmt};
 pub use stops::LexStop;
 pub use tokens::{Token, TokenKind};
+pub use trees::{expressions_are_plain, statements_are_plain};
 pub use types::TypeName;
