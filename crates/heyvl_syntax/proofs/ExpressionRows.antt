@@ -40,12 +40,12 @@ bracket = ((_, _, token, (_, _, leaf, token, refl), refl), refl)
 
 -- '?' '(' expr ')'
 embed :
-  IsFull (Expression.embed (name a 2) (span 0 4)) (text (sign marks.Question ∷ sign marks.ParenLeft ∷ word a ∷ sign marks.ParenRight ∷ []))
+    IsFull (Expression.embed (name a 2) (span 0 4)) (text (sign marks.Question ∷ sign marks.ParenLeft ∷ word a ∷ sign marks.ParenRight ∷ []))
 embed = ((_, _, token, (_, _, token, (_, _, leaf, token, refl), refl), refl), refl)
 
 -- 'ite' '(' expr ',' expr ',' expr ')'
 choice :
-  IsFull (Expression.choice (name a 2) (name b 4) (name c 6) (span 0 8))
+    IsFull (Expression.choice (name a 2) (name b 4) (name c 6) (span 0 8))
     (text (key keys.Ite ∷ sign marks.ParenLeft ∷ word a ∷ sign marks.Comma ∷ word b ∷ sign marks.Comma ∷ word c ∷ sign marks.ParenRight ∷ []))
 choice =
     ((_, _, token, (_, _, token, (_, _, leaf, (_, _, token, (_, _, leaf, (_, _, token, (_, _, leaf, token, refl), refl), refl), refl), refl), refl), refl), refl)
@@ -55,7 +55,7 @@ prefixes_of_atoms : (op : UnaryOp) → IsFull (Expression.unary op (name a 1) (s
 prefixes_of_atoms op = ((_, _, token, leaf, refl), refl)
 
 prefixes_of_prefixes : (o p : UnaryOp) →
-  IsFull (Expression.unary o (Expression.unary p (name a 2) (span 1 3)) (span 0 3)) (text (sign (prefix o) ∷ sign (prefix p) ∷ word a ∷ []))
+    IsFull (Expression.unary o (Expression.unary p (name a 2) (span 1 3)) (span 0 3)) (text (sign (prefix o) ∷ sign (prefix p) ∷ word a ∷ []))
 prefixes_of_prefixes o p = ((_, _, token, ((_, _, token, leaf, refl), refl), refl), refl)
 
 -- Each binary operator and its operands are within e1.
@@ -234,12 +234,12 @@ plus_not_in_star = not_left ops.Star ops.Plus (omega arith)
 
 -- -a * b is (-a) * b. No text is -(a * b) without parentheses.
 minus_star :
-  IsFull (Expression.binary ops.Star (Expression.unary prefixes.Minus (name a 1) (span 0 2)) (name b 3) (span 2 3))
+    IsFull (Expression.binary ops.Star (Expression.unary prefixes.Minus (name a 1) (span 0 2)) (name b 3) (span 2 3))
     (text (sign marks.Minus ∷ word a ∷ sign marks.Star ∷ word b ∷ []))
 minus_star = (omega arith, (_, _, ((_, _, token, leaf, refl), refl), (_, _, refl, leaf, refl), refl))
 
 prefix_not_of_binary : (op : UnaryOp) (o : BinaryOp) (s p : Span) (x y : Expression) (ts : List Token) →
-  IsFull (Expression.unary op (Expression.binary o x y p) s) ts → ⊥
+    IsFull (Expression.unary op (Expression.binary o x y p) s) ts → ⊥
 prefix_not_of_binary op o s p x y ts spelled =
     let positive = rank_positive o in
     let within = spelled.0.3.0 in
@@ -248,33 +248,33 @@ prefix_not_of_binary op o s p x y ts spelled =
 -- ('sup'|'inf') W ':' type '.' expr: the body goes as far as it can. The place of the whole ends with its last token, and that of the
 -- body is its operator's.
 quantifiers : (up : Bool) →
-  IsFull (Expression.bound up a types.UInt (Expression.binary ops.Plus (name b 5) (name c 7) (span 6 7)) (span 0 8))
+    IsFull (Expression.bound up a types.UInt (Expression.binary ops.Plus (name b 5) (name c 7) (span 6 7)) (span 0 8))
     (text (key (quantifier_key up) ∷ word a ∷ sign marks.Colon ∷ key keys.UIntWord ∷ sign marks.Dot ∷ word b ∷ sign marks.Plus ∷ word c ∷ []))
 quantifiers up =
     (omega arith, (_, _, token, (_, _, token, (_, _, token, (_, _, token, (_, _, token, (omega arith, (_, _, leaf, (_, _, refl, leaf, refl), refl)), refl), refl), refl), refl), refl), refl)
 
 -- A quantifier is no operand without parentheses.
 quantifier_not_left : (o : BinaryOp) (up : Bool) (x y : Expression) (s t : Span) (ts : List Token) →
-  IsFull (Expression.binary o (Expression.bound up a types.UInt x s) y t) ts → ⊥
+    IsFull (Expression.binary o (Expression.bound up a types.UInt x s) y t) ts → ⊥
 quantifier_not_left o up x y s t ts spelled =
     let bound = (bounds o).1 in
     let within = spelled.1.2.0 in
     absurd (omega arith)
 
 quantifier_not_right : (o : BinaryOp) (up : Bool) (x y : Expression) (s t : Span) (ts : List Token) →
-  IsFull (Expression.binary o y (Expression.bound up a types.UInt x s) t) ts → ⊥
+    IsFull (Expression.binary o y (Expression.bound up a types.UInt x s) t) ts → ⊥
 quantifier_not_right o up x y s t ts spelled =
     let bound = (bounds o).2 in
     let within = spelled.1.3.3.0 in
     absurd (omega arith)
 
 quantifier_not_prefixed : (op : UnaryOp) (up : Bool) (x : Expression) (s t : Span) (ts : List Token) →
-  IsFull (Expression.unary op (Expression.bound up a types.UInt x s) t) ts → ⊥
+    IsFull (Expression.unary op (Expression.bound up a types.UInt x s) t) ts → ⊥
 quantifier_not_prefixed op up x s t ts spelled = let within = spelled.0.3.0 in absurd (omega arith)
 
 -- With parentheses it is one: a + (sup b: Bool. c).
 quantifier_in_group :
-  IsFull (Expression.binary ops.Plus (name a 0) (Expression.group (Expression.bound true b types.Bool (name c 8) (span 3 9)) (span 2 10)) (span 1 2))
+    IsFull (Expression.binary ops.Plus (name a 0) (Expression.group (Expression.bound true b types.Bool (name c 8) (span 3 9)) (span 2 10)) (span 1 2))
     (text (word a ∷ sign marks.Plus ∷ sign marks.ParenLeft ∷ key keys.Sup ∷ word b ∷ sign marks.Colon ∷ key keys.BoolWord ∷ sign marks.Dot ∷ word c ∷ sign marks.ParenRight ∷ []))
 quantifier_in_group =
     (omega arith, (_, _, leaf, (_, _, refl, ((_, _, token, (_, _, (omega arith, (_, _, token, (_, _, token, (_, _, token, (_, _, token, (_, _, token, leaf, refl), refl), refl), refl), refl), refl), token, refl), refl), refl), refl), refl))

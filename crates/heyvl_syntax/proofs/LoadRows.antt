@@ -70,14 +70,14 @@ mixed_brackets = refl
 
 -- Closing brackets without opening ones leave the one count as it is: + ) ] + } (
 unopened_brackets :
-  of_text (mark marks.Plus ∷ mark marks.ParenRight ∷ mark marks.BracketRight ∷ mark marks.Plus ∷ mark marks.BraceRight ∷ mark marks.ParenLeft ∷ [])
-  ≡ 1 ∷ 1 ∷ 1 ∷ 2 ∷ 2 ∷ 3 ∷ []
+    of_text (mark marks.Plus ∷ mark marks.ParenRight ∷ mark marks.BracketRight ∷ mark marks.Plus ∷ mark marks.BraceRight ∷ mark marks.ParenLeft ∷ [])
+    ≡ 1 ∷ 1 ∷ 1 ∷ 2 ∷ 2 ∷ 3 ∷ []
 unopened_brackets = refl
 
 -- Operators count without brackets: x + x * x ==> x \cap x
 operators_alone :
-  of_text (word ∷ mark marks.Plus ∷ word ∷ mark marks.Star ∷ word ∷ mark marks.Imply ∷ word ∷ key keys.Cap ∷ word ∷ [])
-  ≡ 0 ∷ 1 ∷ 1 ∷ 2 ∷ 2 ∷ 3 ∷ 3 ∷ 4 ∷ 4 ∷ []
+    of_text (word ∷ mark marks.Plus ∷ word ∷ mark marks.Star ∷ word ∷ mark marks.Imply ∷ word ∷ key keys.Cap ∷ word ∷ [])
+    ≡ 0 ∷ 1 ∷ 1 ∷ 2 ∷ 2 ∷ 3 ∷ 3 ∷ 4 ∷ 4 ∷ []
 operators_alone = refl
 
 operators_201 : overload (replicate 201 (mark marks.Bang)) ≡ 200
@@ -85,8 +85,8 @@ operators_201 = refl
 
 -- A closed bracket takes its operators with it, and what separates sets the innermost count alone to 0: - ( - - , - ) - ; -
 separated :
-  of_text (mark marks.Minus ∷ mark marks.ParenLeft ∷ mark marks.Minus ∷ mark marks.Minus ∷ mark marks.Comma ∷ mark marks.Minus ∷ mark marks.ParenRight ∷ mark marks.Minus ∷ mark marks.Semi ∷ mark marks.Minus ∷ [])
-  ≡ 1 ∷ 2 ∷ 3 ∷ 4 ∷ 2 ∷ 3 ∷ 1 ∷ 2 ∷ 0 ∷ 1 ∷ []
+    of_text (mark marks.Minus ∷ mark marks.ParenLeft ∷ mark marks.Minus ∷ mark marks.Minus ∷ mark marks.Comma ∷ mark marks.Minus ∷ mark marks.ParenRight ∷ mark marks.Minus ∷ mark marks.Semi ∷ mark marks.Minus ∷ [])
+    ≡ 1 ∷ 2 ∷ 3 ∷ 4 ∷ 2 ∷ 3 ∷ 1 ∷ 2 ∷ 0 ∷ 1 ∷ []
 separated = refl
 
 -- if \cap adds too, after `if` has set the count to 0; colons, points, arrows, question marks, ite, flip and choose keep the counts.
@@ -94,6 +94,6 @@ picks : of_text (mark marks.Plus ∷ key keys.If ∷ key keys.Cap ∷ []) ≡ 1 
 picks = refl
 
 kept :
-  of_text (mark marks.Plus ∷ mark marks.Colon ∷ mark marks.Dot ∷ mark marks.Arrow ∷ mark marks.Question ∷ key keys.Ite ∷ key keys.Flip ∷ key keys.Choose ∷ key keys.Infty ∷ [])
-  ≡ 1 ∷ 1 ∷ 1 ∷ 1 ∷ 1 ∷ 1 ∷ 1 ∷ 1 ∷ 1 ∷ []
+    of_text (mark marks.Plus ∷ mark marks.Colon ∷ mark marks.Dot ∷ mark marks.Arrow ∷ mark marks.Question ∷ key keys.Ite ∷ key keys.Flip ∷ key keys.Choose ∷ key keys.Infty ∷ [])
+    ≡ 1 ∷ 1 ∷ 1 ∷ 1 ∷ 1 ∷ 1 ∷ 1 ∷ 1 ∷ 1 ∷ []
 kept = refl

@@ -44,7 +44,7 @@ two_params =
 
 -- clause*: clauses of both kinds in any order; each kind keeps its own order.
 clause_rows :
-  IsClauses (name a 1 ∷ name c 5 ∷ []) (name b 3 ∷ []) (text (key keys.Pre ∷ word a ∷ key keys.Post ∷ word b ∷ key keys.Pre ∷ word c ∷ []))
+    IsClauses (name a 1 ∷ name c 5 ∷ []) (name b 3 ∷ []) (text (key keys.Pre ∷ word a ∷ key keys.Post ∷ word b ∷ key keys.Pre ∷ word c ∷ []))
 clause_rows =
     (Clause.pre (name a 1) ∷ Clause.post (name b 3) ∷ Clause.pre (name c 5) ∷ [], (_, _, (_, _, token, leaf, refl), (_, _, (_, _, token, leaf, refl), (_, _, (_, _, token, leaf, refl), refl, refl), refl), refl), refl, refl)
 

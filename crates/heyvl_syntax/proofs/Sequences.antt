@@ -10,7 +10,7 @@ use Rattle.std.proofs.lemmas.List.{append_assoc}
 
 -- Parts are weakened.
 pub then_map : (P P' Q Q' : List Token → Type 0) (ts : List Token) → ((xs : List Token) → P xs → P' xs) → ((xs : List Token) → Q xs → Q' xs) →
-  (P then Q) ts → (P' then Q') ts
+    (P then Q) ts → (P' then Q') ts
 then_map P P' Q Q' ts left right (xs, ys, p, q, e) = (xs, ys, left xs p, right ys q, e)
 
 pub then_assoc : (P Q R : List Token → Type 0) (ts : List Token) → ((P then Q) then R) ts → (P then Q then R) ts

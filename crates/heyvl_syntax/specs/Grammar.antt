@@ -59,8 +59,8 @@ use Rattle.heyvl_syntax.specs.declared.types.TypeName.TheVariants as types
 use Rattle.heyvl_syntax.specs.declared.types.TypeName.{TypeName}
 use Rattle.std.specs.Prelude.{Bool, List, [], codes, false, true, ◌∷◌, ◌≡◌, ◌≤◌, ◌⊎◌, ℕ}
 
--- The rank of a binary operator, and the ranks that its left and its right operand may have. A row is a part of the production
--- beside it. The lowest rank, 0, is that of e9, and the highest, 9, is that of expr.
+-- The rank of a binary operator, and the highest ranks that its left and its right operand may have. The rank of e9 is 0, that of
+-- e8 is 1 and so on up to e1, which has rank 8; expr has rank 9.
 pub record Ranks : Type 0 where
   pub rank : ℕ
   pub left : ℕ
@@ -69,24 +69,32 @@ pub record Ranks : Type 0 where
 abbrev pub row : ℕ → ℕ → ℕ → Ranks
 row rank left right = record { rank = rank; left = left; right = right }
 
+-- The table of the binary operators: rank, left rank and right rank, below the production of each.
 abbrev pub ranks : BinaryOp → Ranks
---                    rank left right
-ranks ops.Imply   = row 8 7 8   -- e1 ::= e2 (('==>'|'<==') e1)?
+-- e1 ::= e2 (('==>'|'<==') e1)?
+ranks ops.Imply = row 8 7 8
 ranks ops.CoImply = row 8 7 8
-ranks ops.Cup     = row 7 7 6   -- e2 ::= e2 '\cup' e3 | e3
-ranks ops.Cap     = row 6 6 5   -- e3 ::= e3 '\cap' e4 | e4
-ranks ops.Or      = row 5 5 4   -- e4 ::= e4 '||' e5 | e5
-ranks ops.And     = row 4 4 3   -- e5 ::= e5 '&&' e6 | e6
-ranks ops.Same    = row 3 2 2   -- e6 ::= e7 (('=='|'!='|'<'|'<='|'>'|'>=') e7)?
-ranks ops.Differ  = row 3 2 2
-ranks ops.Less    = row 3 2 2
-ranks ops.AtMost  = row 3 2 2
-ranks ops.More    = row 3 2 2
+-- e2 ::= e2 '\cup' e3 | e3
+ranks ops.Cup = row 7 7 6
+-- e3 ::= e3 '\cap' e4 | e4
+ranks ops.Cap = row 6 6 5
+-- e4 ::= e4 '||' e5 | e5
+ranks ops.Or = row 5 5 4
+-- e5 ::= e5 '&&' e6 | e6
+ranks ops.And = row 4 4 3
+-- e6 ::= e7 (('=='|'!='|'<'|'<='|'>'|'>=') e7)?
+ranks ops.Same = row 3 2 2
+ranks ops.Differ = row 3 2 2
+ranks ops.Less = row 3 2 2
+ranks ops.AtMost = row 3 2 2
+ranks ops.More = row 3 2 2
 ranks ops.AtLeast = row 3 2 2
-ranks ops.Plus    = row 2 2 1   -- e7 ::= e7 ('+'|'-') e8 | e8
-ranks ops.Minus   = row 2 2 1
-ranks ops.Star    = row 1 1 0   -- e8 ::= e8 ('*'|'/') e9 | e9
-ranks ops.Slash   = row 1 1 0
+-- e7 ::= e7 ('+'|'-') e8 | e8
+ranks ops.Plus = row 2 2 1
+ranks ops.Minus = row 2 2 1
+-- e8 ::= e8 ('*'|'/') e9 | e9
+ranks ops.Star = row 1 1 0
+ranks ops.Slash = row 1 1 0
 
 -- The token of each operator.
 abbrev pub operator : BinaryOp → TokenKind
@@ -156,7 +164,7 @@ IsExpr (Expression.embed a s) k ts =
     (IsMark marks.Question then IsMark marks.ParenLeft then IsExpr a 9 then IsMark marks.ParenRight) ts × (s ≡ extent ts)
 IsExpr (Expression.choice a b c s) k ts =
     (IsKey keys.Ite then IsMark marks.ParenLeft then IsExpr a 9 then IsMark marks.Comma then IsExpr b 9 then IsMark marks.Comma
-      then IsExpr c 9 then IsMark marks.ParenRight) ts
+    then IsExpr c 9 then IsMark marks.ParenRight) ts
     × (s ≡ extent ts)
 
 -- The production expr.
@@ -165,8 +173,8 @@ IsFull a = IsExpr a 9
 
 -- right ::= 'flip' '(' expr ')' | 'unif' '(' expr ',' expr ')' | 'choose' '{' list(expr ':' expr) '}' | W '(' list0(expr) ')'
 --         | expr
-abbrev pub IsPart : Expression × Expression → List Token → Type 0
-IsPart part = IsFull part.0 then IsMark marks.Colon then IsFull part.1
+abbrev pub IsWeighted : Expression × Expression → List Token → Type 0
+IsWeighted part = IsFull part.0 then IsMark marks.Colon then IsFull part.1
 
 abbrev pub IsCall : List ℕ → List Expression → List Token → Type 0
 IsCall f arguments = IsName f then IsMark marks.ParenLeft then IsList0 IsFull arguments then IsMark marks.ParenRight
@@ -175,7 +183,7 @@ abbrev pub IsRight : RightSide → List Token → Type 0
 IsRight (RightSide.flip p) = IsKey keys.Flip then IsMark marks.ParenLeft then IsFull p then IsMark marks.ParenRight
 IsRight (RightSide.unif a b) =
     IsKey keys.Unif then IsMark marks.ParenLeft then IsFull a then IsMark marks.Comma then IsFull b then IsMark marks.ParenRight
-IsRight (RightSide.choose parts) = IsKey keys.Choose then IsMark marks.BraceLeft then IsList IsPart parts then IsMark marks.BraceRight
+IsRight (RightSide.choose parts) = IsKey keys.Choose then IsMark marks.BraceLeft then IsList IsWeighted parts then IsMark marks.BraceRight
 IsRight (RightSide.call f arguments) = IsCall f arguments
 IsRight (RightSide.plain a) = IsFull a
 
@@ -186,11 +194,11 @@ IsRule (LoopRule.invariant i s) ts =
     × (s ≡ extent ts)
 IsRule (LoopRule.k_induction k i s) ts =
     (IsMark marks.AtSign then IsName (codes "k_induction") then IsMark marks.ParenLeft then IsFull k then IsMark marks.Comma
-      then IsFull i then IsMark marks.ParenRight) ts
+    then IsFull i then IsMark marks.ParenRight) ts
     × (s ≡ extent ts)
 IsRule (LoopRule.ranking e r s) ts =
     (IsMark marks.AtSign then IsName (codes "ranking") then IsMark marks.ParenLeft then IsFull e then IsMark marks.Comma
-      then IsFull r then IsMark marks.ParenRight) ts
+    then IsFull r then IsMark marks.ParenRight) ts
     × (s ≡ extent ts)
 
 abbrev pub check_key : CheckKind → Key
@@ -315,9 +323,9 @@ proc_key false = keys.Proc
 abbrev pub IsProc : Procedure → List Token → Type 0
 IsProc p ts =
     (IsOptional IsNote p.note then IsKey (proc_key p.co) then IsName p.name
-      then IsMark marks.ParenLeft then IsList0 IsParam p.inputs then IsMark marks.ParenRight then IsMark marks.Arrow
-      then IsMark marks.ParenLeft then IsList0 IsParam p.outputs then IsMark marks.ParenRight
-      then IsClauses p.pres p.posts then IsOptional IsBlock p.body) ts
+    then IsMark marks.ParenLeft then IsList0 IsParam p.inputs then IsMark marks.ParenRight then IsMark marks.Arrow
+    then IsMark marks.ParenLeft then IsList0 IsParam p.outputs then IsMark marks.ParenRight
+    then IsClauses p.pres p.posts then IsOptional IsBlock p.body) ts
     × (p.span ≡ extent ts)
 
 -- file ::= proc*

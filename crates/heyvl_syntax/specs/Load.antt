@@ -13,11 +13,11 @@ use Rattle.std.specs.Prelude.{List, [], length, nat_lt, ◌+◌, ◌-◌, ◌∷
 -- What a token does to the list of counts, which has one count for each open bracket and one for the text outside of them. The
 -- innermost stands first.
 pub data Effect : Type 0 where
-  opens : Effect    -- one more count, of 0
-  closes : Effect   -- without the innermost count, if there is more than one
-  adds : Effect     -- 1 more in the innermost count
-  resets : Effect   -- 0 as the innermost count
-  keeps : Effect    -- the same counts
+  opens : Effect  -- one more count, of 0
+  closes : Effect  -- without the innermost count, if there is more than one
+  adds : Effect  -- 1 more in the innermost count
+  resets : Effect  -- 0 as the innermost count
+  keeps : Effect  -- the same counts
 
 abbrev pub mark_effect : Mark → Effect
 mark_effect marks.ParenLeft = opens

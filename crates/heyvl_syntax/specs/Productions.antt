@@ -11,7 +11,6 @@ use Rattle.std.specs.Prelude.{List, None, Option, Some, [], ◌++◌, ◌∷◌,
 
 infixr 30 ◌then◌
 infixr 20 ◌or◌
-
 -- The first byte of the first token.
 abbrev pub first_byte : List Token → ℕ
 first_byte [] = 0

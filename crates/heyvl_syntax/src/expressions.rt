@@ -3,9 +3,8 @@
 ghost use Rattle.heyvl_syntax.specs.Expressions.{expression, expressions};
 ghost use Rattle.std.specs.Prelude.{◌≡◌, IfOk};
 
-use std::alloc::{AllocError, Global};
-
 use crate::{BinaryOp, Lit, Name, Span, TypeName, UnaryOp};
+use std::alloc::{AllocError, Global};
 
 /// An expression, with its parentheses. Each node has its place: that of the operator for an operator between two
 /// operands, and else from the first byte of the node to the end of its last token.
@@ -46,9 +45,16 @@ impl Expr {
             Expr::Infinity(span) => Ok(Expr::Infinity(*span)),
             Expr::Name(name, span) => Ok(Expr::Name(name.copy(alloc)?, *span)),
             Expr::Group(inner, span) => Ok(Expr::Group(inner.copy(alloc)?.boxed(alloc)?, *span)),
-            Expr::Bracket(inner, span) => Ok(Expr::Bracket(inner.copy(alloc)?.boxed(alloc)?, *span)),
+            Expr::Bracket(inner, span) => Ok(Expr::Bracket(
+                inner.copy(alloc)?.boxed(alloc)?,
+                *span,
+            )),
             Expr::Embed(inner, span) => Ok(Expr::Embed(inner.copy(alloc)?.boxed(alloc)?, *span)),
-            Expr::Unary(op, inner, span) => Ok(Expr::Unary(*op, inner.copy(alloc)?.boxed(alloc)?, *span)),
+            Expr::Unary(op, inner, span) => Ok(Expr::Unary(
+                *op,
+                inner.copy(alloc)?.boxed(alloc)?,
+                *span,
+            )),
             Expr::Binary(op, left, right, span) => {
                 let left = left.copy(alloc)?.boxed(alloc)?;
                 Ok(Expr::Binary(*op, left, right.copy(alloc)?.boxed(alloc)?, *span))

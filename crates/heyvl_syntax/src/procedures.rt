@@ -3,9 +3,8 @@
 ghost use Rattle.heyvl_syntax.specs.Procedures.{optional_block, procedure, procedures};
 ghost use Rattle.std.specs.Prelude.{◌≡◌, IfOk, map};
 
-use std::alloc::{AllocError, Global};
-
 use crate::{Expr, Name, Span, Stmt, TypeName};
+use std::alloc::{AllocError, Global};
 
 /// Which expectation a procedure is about.
 #[derive(Clone, Copy, Debug, PartialEq, Eq)]

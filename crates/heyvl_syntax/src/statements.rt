@@ -3,9 +3,8 @@
 ghost use Rattle.heyvl_syntax.specs.Statements.{arms, block, choices, guarded, loop_rule, loop_rules, optional_right, right_side, statement};
 ghost use Rattle.std.specs.Prelude.{◌≡◌, IfOk};
 
-use std::alloc::{AllocError, Global};
-
 use crate::{Expr, Name, Span, TypeName};
+use std::alloc::{AllocError, Global};
 
 /// Which of the four checks a statement is.
 #[derive(Clone, Copy, Debug, PartialEq, Eq)]
@@ -179,7 +178,11 @@ impl Stmt {
             }
             Stmt::Check(kind, claim, span) => Ok(Stmt::Check(*kind, claim.copy(alloc)?, *span)),
             Stmt::Validate(co, span) => Ok(Stmt::Validate(*co, *span)),
-            Stmt::Havoc(co, names, span) => Ok(Stmt::Havoc(*co, Name::copy_all(alloc, names)?, *span)),
+            Stmt::Havoc(co, names, span) => Ok(Stmt::Havoc(
+                *co,
+                Name::copy_all(alloc, names)?,
+                *span,
+            )),
             Stmt::Reward(amount, span) => Ok(Stmt::Reward(amount.copy(alloc)?, *span)),
             Stmt::If(arms, other, span) => {
                 let arms = Arm::copy_all(alloc, arms)?;
