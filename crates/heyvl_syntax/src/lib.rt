@@ -3,6 +3,8 @@
 
 mod bytes;
 mod comments;
+#[cfg(test)]
+mod copy_tests;
 mod expressions;
 mod fronts;
 mod keys;
