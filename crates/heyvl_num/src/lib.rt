@@ -1,10 +1,18 @@
 //! Exact fractions, and numbers extended by infinity.
 #![tactic(auto)]
 
-ghost use Rattle.std.specs.Prelude.{◌≡◌};
+mod bounded;
+mod divisors;
+mod extended;
+mod fractions;
+mod laws;
+#[cfg(test)]
+mod tests;
 
-pub fn same(x: usize) -> usize
-    ensures { result ≡ x }
-{
-    x
-}
+pub use divisors::gcd;
+pub use extended::Ext;
+pub use fractions::Frac;
+pub use laws::{
+    fractions_by_cross_products, laws_in_use, operators_on_values, order_of_fractions,
+    order_of_values, ring_of_fractions, semiring_of_values, weighted_sums,
+};
