@@ -4,6 +4,8 @@ use Rattle.std.specs.Prelude.{◌≡◌, ℕ, ◌*◌, ◌/◌, ◌<◌, ℤ, po
 use Rattle.std.specs.Int.RustNames.{int_div, unsigned_abs}
 use Rattle.std.specs.Int.Signed.{le_z}
 use Rattle.std.proofs.Math.IntN.{neg_ℤ}
+use Rattle.std.specs.Ordering.{int_cmp}
+use Rattle.std.specs.declared.cmp.Ordering.{Ordering}
 use Prim.Native.Nat.{suc, zero}
 use Rattle.std.proofs.Common.{refl, ◌∙◌, ap}
 use Rattle.std.proofs.Math.Nat.{zero-lt-suc}
@@ -14,7 +16,6 @@ infix 4 ◌≤ʳ◌
 infixl 6 ◌+ʳ◌
 infixl 6 ◌-ʳ◌
 infixl 7 ◌*ʳ◌
-
 -- A fraction in lowest terms with a positive denominator.
 pub record Rational : Type 0 where
   pub num : ℤ
@@ -62,3 +63,7 @@ leqʳ x y = le_z (x.num *ℤ pos y.den) (y.num *ℤ pos x.den)
 
 pub record ◌≤ʳ◌ (x y : Rational) : Type 0 where
   pub holds : leqʳ x y ≡ true
+
+-- How the first compares with the second, by their cross products.
+unfoldable pub compareʳ : Rational → Rational → Ordering
+compareʳ x y = int_cmp (x.num *ℤ pos y.den) (y.num *ℤ pos x.den)

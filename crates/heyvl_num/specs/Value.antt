@@ -1,12 +1,13 @@
 -- Values: a fraction, or infinity. They are what formulas mean, and what rewards, posts and sums over runs are made of.
-use Rattle.std.specs.Prelude.{◌≡◌, ℕ, Bool, true, false, ℤ, pos, negsuc}
+use Rattle.std.specs.Prelude.{◌≡◌, Bool, true, false, ℤ, pos, negsuc}
 use Prim.Native.Nat.{zero, suc}
-use Rattle.heyvl_num.specs.Rational.{Rational, ◌+ʳ◌, ◌*ʳ◌, zeroʳ, oneʳ, leqʳ}
+use Rattle.std.specs.declared.cmp.Ordering.{Ordering}
+use Rattle.std.specs.declared.cmp.Ordering.TheVariants.{Less, Equal, Greater}
+use Rattle.heyvl_num.specs.Rational.{Rational, ◌+ʳ◌, ◌*ʳ◌, zeroʳ, oneʳ, leqʳ, compareʳ}
 
 infix 4 ◌≤ᵛ◌
 infixl 6 ◌+ᵛ◌
 infixl 7 ◌*ᵛ◌
-
 pub data Value : Type 0 where
   finite : Rational → Value
   infinite : Value
@@ -53,3 +54,10 @@ leqᵛ infinite infinite = true
 
 pub record ◌≤ᵛ◌ (x y : Value) : Type 0 where
   pub holds : leqᵛ x y ≡ true
+
+-- How the first compares with the second.
+abbrev pub compareᵛ : Value → Value → Ordering
+compareᵛ (finite x) (finite y) = compareʳ x y
+compareᵛ (finite x) infinite = Less
+compareᵛ infinite (finite y) = Greater
+compareᵛ infinite infinite = Equal

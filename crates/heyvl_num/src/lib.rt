@@ -1,10 +1,11 @@
 //! Exact fractions, and numbers extended by infinity.
 #![tactic(auto)]
 
-ghost use Rattle.std.specs.Prelude.{◌≡◌};
+mod bounded;
+mod divisors;
+mod extended;
+mod fractions;
 
-pub fn same(x: usize) -> usize
-    ensures { result ≡ x }
-{
-    x
-}
+pub use divisors::gcd;
+pub use extended::Ext;
+pub use fractions::Frac;

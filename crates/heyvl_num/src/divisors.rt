@@ -1,0 +1,19 @@
+//! The greatest common divisor.
+ghost use Rattle.std.specs.Prelude.{◌≡◌};
+ghost use Rattle.std.specs.Int.{IsGcd};
+ghost use Rattle.heyvl_num.specs.Gcd as euclid;
+
+/// The greatest number that divides both; 0 for 0 and 0.
+pub fn gcd(a: u128, b: u128) -> u128
+    ensures value { result ≡ euclid.gcd a b }
+    ensures greatest { IsGcd a b result }
+{
+    let mut x = a;
+    let mut y = b;
+    while y != 0 {
+        let rest = x % y;
+        x = y;
+        y = rest;
+    }
+    x
+}
