@@ -1,0 +1,4 @@
+pub mod Formula
+pub mod PlainTrees
+pub mod Variables
+pub mod Sizes
