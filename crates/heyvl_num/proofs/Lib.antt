@@ -4,3 +4,7 @@ pub mod Values
 pub mod Reducing
 pub mod Fitting
 pub mod Roundings
+pub mod Signs
+pub mod WeightedSums
+pub mod ValueOperators
+pub mod Uses

@@ -219,6 +219,13 @@ ratio-≤_out a b c d p q h = test_le _ _ (sym (leq_ratio a b c d p q) ∙ h.hol
 pub ≤ʳ_refl : (x : Rational) → x ≤ʳ x
 ≤ʳ_refl x = order_cross x x (omega (arith, ints))
 
+-- equal fractions have equal cross products
+pub ratio_equal_cross : (a : ℤ) (b : ℕ) (c : ℤ) (d : ℕ) → 0 < b → 0 < d → ratio a b ≡ ratio c d → a *ℤ pos d ≡ c *ℤ pos b
+ratio_equal_cross a b c d p q e =
+    let h = ratio-≤_out a b c d p q (subst (λ z. ratio a b ≤ʳ z) e (≤ʳ_refl (ratio a b))) in
+    let k = ratio-≤_out c d a b q p (subst (λ z. z ≤ʳ ratio a b) e (≤ʳ_refl (ratio a b))) in
+    omega (arith, ints)
+
 pub ≤ʳ_trans : (x y z : Rational) → x ≤ʳ y → y ≤ʳ z → x ≤ʳ z
 ≤ʳ_trans x y z h k = order_cross x z (≤ℤ-cancel _ _ y.den y.positive (let h1 = simp whole.ring at (≤ℤ-scale _ _ z.den (cross_order x y h)) in let k1 = simp whole.ring at (≤ℤ-scale _ _ x.den (cross_order y z k)) in simp whole.ring (omega (arith, ints))))
 

@@ -9,11 +9,12 @@ use Rattle.std.proofs.Math.IntN.{ℤ, pos, negsuc, ◌+ℤ◌, ◌*ℤ◌}
 use Prim.Native.Nat.{suc, zero, ℕ}
 use borrow.Author.Differences.{ints}
 use Rattle.std.proofs.Math.Nat.{mul-pos}
-use Rattle.heyvl_num.specs.Rational.{Rational, ratio, zeroʳ, oneʳ, ◌+ʳ◌, ◌*ʳ◌, ◌≤ʳ◌}
+use Rattle.heyvl_num.specs.Rational.{Rational, ratio, zeroʳ, oneʳ, halfʳ, ◌+ʳ◌, ◌*ʳ◌, ◌≤ʳ◌}
 use Rattle.heyvl_num.specs.Value.{Value, zeroᵛ, oneᵛ, is_zero_num, is_zeroʳ, ◌+ᵛ◌, infinite_times, ◌*ᵛ◌, leqᵛ, ◌≤ᵛ◌}
 use Rattle.heyvl_num.specs.Value.Value.{finite, infinite}
 use Rattle.heyvl_num.proofs.Integers.{zero_times}
-use Rattle.heyvl_num.proofs.Rationals.{ratio_cross, ratio_same, ratio_parts, nonnegative_num, +ʳ_comm, *ʳ_comm, +ʳ_assoc, *ʳ_assoc, *ʳ-+ʳ, zero-+ʳ, +ʳ-zero, zero-*ʳ, *ʳ-zero, one-*ʳ, ≤ʳ_refl, ≤ʳ_trans, ≤ʳ_antisym, ≤ʳ_total, +ʳ_mono, *ʳ_mono, zero-≤ʳ-one}
+use Rattle.heyvl_num.proofs.Signs.{halves}
+use Rattle.heyvl_num.proofs.Rationals.{ratio_nonnegative, ratio_cross, ratio_same, ratio_parts, nonnegative_num, +ʳ_comm, *ʳ_comm, +ʳ_assoc, *ʳ_assoc, *ʳ-+ʳ, zero-+ʳ, +ʳ-zero, zero-*ʳ, *ʳ-zero, one-*ʳ, ≤ʳ_refl, ≤ʳ_trans, ≤ʳ_antisym, ≤ʳ_total, +ʳ_mono, *ʳ_mono, zero-≤ʳ-one}
 
 -- ---- Which fractions are 0
 
@@ -144,6 +145,14 @@ finite-+ x y = refl
 pub finite-* : (x y : Rational) → finite x *ᵛ finite y ≡ finite (x *ʳ y)
 unfolding ◌*ᵛ◌
 finite-* x y = refl
+
+pub finite_sum : (x y : Rational) → finite (x +ʳ y) ≡ finite x +ᵛ finite y
+unfolding ◌+ᵛ◌
+finite_sum x y = refl
+
+pub finite_product : (x y : Rational) → finite (x *ʳ y) ≡ finite x *ᵛ finite y
+unfolding ◌*ᵛ◌
+finite_product x y = refl
 
 -- two finite factors, one after the other; for all fractions and values
 pub scale_scale : (a b : Rational) (v : Value) → finite a *ᵛ (finite b *ᵛ v) ≡ finite (a *ʳ b) *ᵛ v
@@ -305,6 +314,23 @@ pub ≤ᵛ-+ᵛ : (x y : Value) → zeroᵛ ≤ᵛ y → x ≤ᵛ x +ᵛ y
 pub ≤ᵛ-+ᵛ_left : (x y : Value) → zeroᵛ ≤ᵛ y → x ≤ᵛ y +ᵛ x
 ≤ᵛ-+ᵛ_left x y p = subst (λ z. x ≤ᵛ z) (+ᵛ_comm x y) (≤ᵛ-+ᵛ x y p)
 
-pub ruleset semiring = (zero-+ᵛ, +ᵛ-zero, zero-*ᵛ, *ᵛ-zero, one-*ᵛ, *ᵛ-one, scale-+ᵛ, +ᵛ-scale, *ᵛ-+ᵛ, +ᵛ-*ᵛ, *ᵛ_assoc, *ᵛ_comm, *ᵛ_left_comm, +ᵛ_assoc, +ᵛ_comm, +ᵛ_left_comm)
+pub +ᵛ-infinite : (x : Value) → x +ᵛ infinite ≡ infinite
+unfolding ◌+ᵛ◌
++ᵛ-infinite (finite x) = refl
++ᵛ-infinite infinite = refl
+
+unit_times : (x : Value) → finite oneʳ *ᵛ x ≡ x
+unfolding oneᵛ
+unit_times x = one-*ᵛ x
+
+half_nonnegative : zeroʳ ≤ʳ halfʳ
+unfolding halfʳ
+half_nonnegative = ratio_nonnegative (pos 1) 2 (omega arith) (omega (arith, ints))
+
+-- two halves make the whole, infinity too
+pub half-half : (x : Value) → (finite halfʳ *ᵛ x) +ᵛ (finite halfʳ *ᵛ x) ≡ x
+half-half x = sym (weights-* halfʳ halfʳ x half_nonnegative half_nonnegative) ∙ ap (λ w. finite w *ᵛ x) halves ∙ unit_times x
+
+pub ruleset semiring = (finite_sum, finite_product, zero-+ᵛ, +ᵛ-zero, zero-*ᵛ, *ᵛ-zero, one-*ᵛ, *ᵛ-one, scale-+ᵛ, +ᵛ-scale, *ᵛ-+ᵛ, +ᵛ-*ᵛ, *ᵛ_assoc, *ᵛ_comm, *ᵛ_left_comm, +ᵛ_assoc, +ᵛ_comm, +ᵛ_left_comm)
 
 pub ruleset ordered = (≤ᵛ_refl, ≤ᵛ_infinite, zero-≤ᵛ-one, +ᵛ_nonnegative, scale_nonnegative, *ᵛ_nonnegative, ≤ᵛ-+ᵛ, ≤ᵛ-+ᵛ_left, +ᵛ_mono, scale_mono, weight_mono, *ᵛ_mono, ≤ᵛ_trans)

@@ -7,3 +7,7 @@ pub mod Exact
 pub mod Extended
 pub mod ExactValues
 pub mod Rounding
+pub mod ValueOperators
+pub mod WeightedSums
+pub mod FractionLaws
+pub mod ValueLaws

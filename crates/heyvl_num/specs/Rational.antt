@@ -1,6 +1,6 @@
 -- Exact fractions of whole numbers, kept in lowest terms, so that two fractions are equal exactly where their cross
 -- products agree.
-use Rattle.std.specs.Prelude.{◌≡◌, ℕ, ◌*◌, ◌/◌, ◌<◌, ℤ, pos, negsuc, ◌+ℤ◌, ◌*ℤ◌, Bool, true}
+use Rattle.std.specs.Prelude.{◌≡◌, ℕ, ◌*◌, ◌/◌, ◌<◌, ℤ, pos, negsuc, ◌+ℤ◌, ◌*ℤ◌, Bool, true, false}
 use Rattle.std.specs.Int.RustNames.{int_div, unsigned_abs}
 use Rattle.std.specs.Int.Signed.{le_z}
 use Rattle.std.proofs.Math.IntN.{neg_ℤ}
@@ -13,6 +13,7 @@ use Rattle.heyvl_num.specs.Gcd.{gcd, gcd_steps}
 use Rattle.heyvl_num.specs.GcdLaws.{gcd-quotients, quotient_den-pos}
 
 infix 4 ◌≤ʳ◌
+infix 4 ◌<ʳ◌
 infixl 6 ◌+ʳ◌
 infixl 6 ◌-ʳ◌
 infixl 7 ◌*ʳ◌
@@ -63,6 +64,17 @@ leqʳ x y = le_z (x.num *ℤ pos y.den) (y.num *ℤ pos x.den)
 
 pub record ◌≤ʳ◌ (x y : Rational) : Type 0 where
   pub holds : leqʳ x y ≡ true
+
+-- a/b is less than c/d where c/d isn't at most a/b.
+pub record ◌<ʳ◌ (x y : Rational) : Type 0 where
+  pub holds : leqʳ y x ≡ false
+
+unfoldable pub halfʳ : Rational
+halfʳ = ratio (pos 1) 2
+
+-- The middle of two fractions.
+unfoldable pub middleʳ : Rational → Rational → Rational
+middleʳ x y = halfʳ *ʳ (x +ʳ y)
 
 -- How the first compares with the second, by their cross products.
 unfoldable pub compareʳ : Rational → Rational → Ordering

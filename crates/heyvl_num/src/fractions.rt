@@ -95,9 +95,9 @@ impl Frac {
     pub fn compare(&self, other: &Frac) -> Option<Ordering>
         ensures { result ≡ exact_order self.now other.now }
     {
-        let left = self.num_times_den(other)?;
-        let right = other.num_times_den(self)?;
-        Some(left.cmp(&right))
+        let here = self.num_times_den(other)?;
+        let there = other.num_times_den(self)?;
+        Some(here.cmp(&there))
     }
 
     /// The greatest whole number that is at most the fraction.

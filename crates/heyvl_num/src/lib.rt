@@ -5,7 +5,14 @@ mod bounded;
 mod divisors;
 mod extended;
 mod fractions;
+mod laws;
+#[cfg(test)]
+mod tests;
 
 pub use divisors::gcd;
 pub use extended::Ext;
 pub use fractions::Frac;
+pub use laws::{
+    fractions_by_cross_products, laws_in_use, operators_on_values, order_of_fractions,
+    order_of_values, ring_of_fractions, semiring_of_values, weighted_sums,
+};

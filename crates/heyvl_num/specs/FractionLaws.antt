@@ -1,0 +1,124 @@
+-- What fractions are, in terms of whole numbers, and the laws of their arithmetic and order.
+use Rattle.std.specs.Prelude.{◌≡◌, ◌↔◌, ◌⊎◌, ℕ, ◌*◌, ◌<◌, ℤ, pos, ◌+ℤ◌, ◌-ℤ◌, ◌*ℤ◌, neg_ℤ, ◌≤ℤ◌}
+use Rattle.std.specs.Ordering.{MatchOrdering}
+use Rattle.heyvl_num.specs.Rational.{Rational, ratio, zeroʳ, oneʳ, halfʳ, middleʳ, ◌+ʳ◌, ◌-ʳ◌, ◌*ʳ◌, negʳ, ◌≤ʳ◌, ◌<ʳ◌, compareʳ}
+use Rattle.heyvl_num.specs.Rounding.{whole}
+
+-- ---- By cross products
+
+-- Two fractions are equal exactly where their cross products are.
+abbrev pub FractionsEqual : Type 0
+FractionsEqual = (a c : ℤ) (b d : ℕ) → 0 < b → 0 < d → (ratio a b ≡ ratio c d) ↔ (a *ℤ pos d ≡ c *ℤ pos b)
+
+-- a/b + c/d = (a*d + c*b) / (b*d)
+abbrev pub FractionsAdded : Type 0
+FractionsAdded = (a c : ℤ) (b d : ℕ) → 0 < b → 0 < d → ratio a b +ʳ ratio c d ≡ ratio (a *ℤ pos d +ℤ c *ℤ pos b) (b * d)
+
+-- a/b - c/d = (a*d - c*b) / (b*d)
+abbrev pub FractionsSubtracted : Type 0
+FractionsSubtracted = (a c : ℤ) (b d : ℕ) → 0 < b → 0 < d → ratio a b -ʳ ratio c d ≡ ratio (a *ℤ pos d -ℤ c *ℤ pos b) (b * d)
+
+-- a/b * c/d = (a*c) / (b*d)
+abbrev pub FractionsMultiplied : Type 0
+FractionsMultiplied = (a c : ℤ) (b d : ℕ) → 0 < b → 0 < d → ratio a b *ʳ ratio c d ≡ ratio (a *ℤ c) (b * d)
+
+-- -(a/b) = (-a)/b
+abbrev pub FractionsNegated : Type 0
+FractionsNegated = (a : ℤ) (b : ℕ) → 0 < b → negʳ (ratio a b) ≡ ratio (neg_ℤ a) b
+
+-- a/b is at most c/d exactly where a*d is at most c*b.
+abbrev pub FractionsOrdered : Type 0
+FractionsOrdered = (a c : ℤ) (b d : ℕ) → 0 < b → 0 < d → (ratio a b ≤ʳ ratio c d) ↔ ((a *ℤ pos d) ≤ℤ (c *ℤ pos b))
+
+-- A comparison tells which is less, or that the two are equal.
+abbrev pub FractionsCompared : Type 0
+FractionsCompared = (x y : Rational) → MatchOrdering (compareʳ x y) (x <ʳ y) (x ≡ y) (y <ʳ x)
+
+-- Each fraction is that of its parts.
+abbrev pub FractionsHaveParts : Type 0
+FractionsHaveParts = (x : Rational) → ratio x.num x.den ≡ x
+
+-- ---- The ring
+
+abbrev pub AdditionAssociates : Type 0
+AdditionAssociates = (x y z : Rational) → (x +ʳ y) +ʳ z ≡ x +ʳ (y +ʳ z)
+
+abbrev pub AdditionCommutes : Type 0
+AdditionCommutes = (x y : Rational) → x +ʳ y ≡ y +ʳ x
+
+abbrev pub ZeroAddsNothing : Type 0
+ZeroAddsNothing = (x : Rational) → zeroʳ +ʳ x ≡ x
+
+abbrev pub NegationCancels : Type 0
+NegationCancels = (x : Rational) → x +ʳ negʳ x ≡ zeroʳ
+
+abbrev pub MultiplicationAssociates : Type 0
+MultiplicationAssociates = (x y z : Rational) → (x *ʳ y) *ʳ z ≡ x *ʳ (y *ʳ z)
+
+abbrev pub MultiplicationCommutes : Type 0
+MultiplicationCommutes = (x y : Rational) → x *ʳ y ≡ y *ʳ x
+
+abbrev pub OneChangesNothing : Type 0
+OneChangesNothing = (x : Rational) → oneʳ *ʳ x ≡ x
+
+abbrev pub MultiplicationDistributes : Type 0
+MultiplicationDistributes = (x y z : Rational) → x *ʳ (y +ʳ z) ≡ (x *ʳ y) +ʳ (x *ʳ z)
+
+-- ---- Signs
+
+abbrev pub NegationUndoesItself : Type 0
+NegationUndoesItself = (x : Rational) → negʳ (negʳ x) ≡ x
+
+abbrev pub NegationOfAFactor : Type 0
+NegationOfAFactor = (x y : Rational) → negʳ x *ʳ y ≡ negʳ (x *ʳ y)
+
+abbrev pub NegationOfASum : Type 0
+NegationOfASum = (x y : Rational) → negʳ (x +ʳ y) ≡ negʳ x +ʳ negʳ y
+
+-- A negation turns the order round.
+abbrev pub NegationTurnsTheOrder : Type 0
+NegationTurnsTheOrder = (x y : Rational) → x ≤ʳ y → negʳ y ≤ʳ negʳ x
+
+-- The product of two fractions that aren't positive isn't negative.
+abbrev pub NonpositiveFactors : Type 0
+NonpositiveFactors = (x y : Rational) → x ≤ʳ zeroʳ → y ≤ʳ zeroʳ → zeroʳ ≤ʳ x *ʳ y
+
+-- What was taken away and is added again gives the fraction back.
+abbrev pub DifferenceUndone : Type 0
+DifferenceUndone = (x y : Rational) → (x -ʳ y) +ʳ y ≡ x
+
+-- ---- The order
+
+abbrev pub OrderReflexive : Type 0
+OrderReflexive = (x : Rational) → x ≤ʳ x
+
+abbrev pub OrderTransitive : Type 0
+OrderTransitive = (x y z : Rational) → x ≤ʳ y → y ≤ʳ z → x ≤ʳ z
+
+abbrev pub OrderAntisymmetric : Type 0
+OrderAntisymmetric = (x y : Rational) → x ≤ʳ y → y ≤ʳ x → x ≡ y
+
+abbrev pub OrderTotal : Type 0
+OrderTotal = (x y : Rational) → (x ≤ʳ y) ⊎ (y ≤ʳ x)
+
+abbrev pub SumsMonotone : Type 0
+SumsMonotone = (x x' y y' : Rational) → x ≤ʳ x' → y ≤ʳ y' → x +ʳ y ≤ʳ x' +ʳ y'
+
+abbrev pub ProductsMonotone : Type 0
+ProductsMonotone = (w x y : Rational) → zeroʳ ≤ʳ w → x ≤ʳ y → w *ʳ x ≤ʳ w *ʳ y
+
+-- A positive whole number as a factor keeps the order, both ways.
+abbrev pub WholeFactorsKeepTheOrder : Type 0
+WholeFactorsKeepTheOrder = (n : ℕ) (x y : Rational) → 0 < n → (x ≤ʳ y) ↔ (whole (pos n) *ʳ x ≤ʳ whole (pos n) *ʳ y)
+
+-- A fraction is at most another exactly where their difference isn't negative.
+abbrev pub DifferenceTellsTheOrder : Type 0
+DifferenceTellsTheOrder = (x y : Rational) → (zeroʳ ≤ʳ y -ʳ x) ↔ (x ≤ʳ y)
+
+-- Two halves make the whole.
+abbrev pub HalvesAddUp : Type 0
+HalvesAddUp = (x : Rational) → (halfʳ *ʳ x) +ʳ (halfʳ *ʳ x) ≡ x
+
+-- Between two different fractions lies their middle.
+abbrev pub MiddlesLieBetween : Type 0
+MiddlesLieBetween = (x y : Rational) → x <ʳ y → (x <ʳ middleʳ x y) × (middleʳ x y <ʳ y)

@@ -1,0 +1,129 @@
+-- The laws of values: their arithmetic, their order, their operators and their weighted sums.
+use Rattle.std.specs.Prelude.{◌≡◌, ◌↔◌, ◌⊎◌, ℕ, List, ◌++◌}
+use Rattle.heyvl_num.specs.Rational.{Rational, zeroʳ, oneʳ, halfʳ, ◌+ʳ◌, ◌*ʳ◌, ◌≤ʳ◌, ◌<ʳ◌}
+use Rattle.heyvl_num.specs.Value.{Value, zeroᵛ, oneᵛ, ◌+ᵛ◌, ◌*ᵛ◌, ◌≤ᵛ◌}
+use Rattle.heyvl_num.specs.Value.Value.{finite, infinite}
+use Rattle.heyvl_num.specs.ValueOperators.{minᵛ, maxᵛ, impliesᵛ, coimpliesᵛ, monusᵛ}
+use Rattle.heyvl_num.specs.WeightedSums.{weighted_sum, total_weight, scaled, joined, IsWeighted}
+
+-- ---- The semiring
+
+abbrev pub AdditionAssociates : Type 0
+AdditionAssociates = (x y z : Value) → (x +ᵛ y) +ᵛ z ≡ x +ᵛ (y +ᵛ z)
+
+abbrev pub AdditionCommutes : Type 0
+AdditionCommutes = (x y : Value) → x +ᵛ y ≡ y +ᵛ x
+
+abbrev pub ZeroAddsNothing : Type 0
+ZeroAddsNothing = (x : Value) → zeroᵛ +ᵛ x ≡ x
+
+abbrev pub MultiplicationAssociates : Type 0
+MultiplicationAssociates = (x y z : Value) → (x *ᵛ y) *ᵛ z ≡ x *ᵛ (y *ᵛ z)
+
+abbrev pub MultiplicationCommutes : Type 0
+MultiplicationCommutes = (x y : Value) → x *ᵛ y ≡ y *ᵛ x
+
+abbrev pub OneChangesNothing : Type 0
+OneChangesNothing = (x : Value) → oneᵛ *ᵛ x ≡ x
+
+-- 0 times everything, infinity too, is 0.
+abbrev pub ZeroTakesAll : Type 0
+ZeroTakesAll = (x : Value) → zeroᵛ *ᵛ x ≡ zeroᵛ
+
+abbrev pub InfinityAbsorbs : Type 0
+InfinityAbsorbs = (x : Value) → x +ᵛ infinite ≡ infinite
+
+-- A finite factor distributes over every sum.
+abbrev pub WeightsDistribute : Type 0
+WeightsDistribute = (w : Rational) (x y : Value) → finite w *ᵛ (x +ᵛ y) ≡ (finite w *ᵛ x) +ᵛ (finite w *ᵛ y)
+
+-- Every factor distributes over a sum of values that aren't negative.
+abbrev pub MultiplicationDistributes : Type 0
+MultiplicationDistributes = (x y z : Value) → zeroᵛ ≤ᵛ y → zeroᵛ ≤ᵛ z → x *ᵛ (y +ᵛ z) ≡ (x *ᵛ y) +ᵛ (x *ᵛ z)
+
+-- Two halves make the whole.
+abbrev pub HalvesAddUp : Type 0
+HalvesAddUp = (x : Value) → (finite halfʳ *ᵛ x) +ᵛ (finite halfʳ *ᵛ x) ≡ x
+
+-- ---- The order
+
+abbrev pub OrderReflexive : Type 0
+OrderReflexive = (x : Value) → x ≤ᵛ x
+
+abbrev pub OrderTransitive : Type 0
+OrderTransitive = (x y z : Value) → x ≤ᵛ y → y ≤ᵛ z → x ≤ᵛ z
+
+abbrev pub OrderAntisymmetric : Type 0
+OrderAntisymmetric = (x y : Value) → x ≤ᵛ y → y ≤ᵛ x → x ≡ y
+
+abbrev pub OrderTotal : Type 0
+OrderTotal = (x y : Value) → (x ≤ᵛ y) ⊎ (y ≤ᵛ x)
+
+abbrev pub InfinityGreatest : Type 0
+InfinityGreatest = (x : Value) → x ≤ᵛ infinite
+
+abbrev pub SumsMonotone : Type 0
+SumsMonotone = (x x' y y' : Value) → x ≤ᵛ x' → y ≤ᵛ y' → x +ᵛ y ≤ᵛ x' +ᵛ y'
+
+abbrev pub WeightsMonotone : Type 0
+WeightsMonotone = (w : Rational) (x y : Value) → zeroʳ ≤ʳ w → x ≤ᵛ y → finite w *ᵛ x ≤ᵛ finite w *ᵛ y
+
+abbrev pub ProductsMonotone : Type 0
+ProductsMonotone = (x x' y y' : Value) → zeroᵛ ≤ᵛ x → zeroᵛ ≤ᵛ y → x ≤ᵛ x' → y ≤ᵛ y' → x *ᵛ y ≤ᵛ x' *ᵛ y'
+
+-- ---- The operators
+
+-- The minimum is the greatest value that is at most both.
+abbrev pub MinimumGreatest : Type 0
+MinimumGreatest = (x y z : Value) → (z ≤ᵛ minᵛ x y) ↔ ((z ≤ᵛ x) × (z ≤ᵛ y))
+
+-- The maximum is the least value that is at least both.
+abbrev pub MaximumLeast : Type 0
+MaximumLeast = (x y z : Value) → (maxᵛ x y ≤ᵛ z) ↔ ((x ≤ᵛ z) × (y ≤ᵛ z))
+
+-- z is at most the implication exactly where the minimum of z and x is at most y.
+abbrev pub ImplicationAdjoint : Type 0
+ImplicationAdjoint = (x y z : Value) → (z ≤ᵛ impliesᵛ x y) ↔ (minᵛ z x ≤ᵛ y)
+
+-- The coimplication is at most z exactly where y is at most the maximum of x and z.
+abbrev pub CoimplicationAdjoint : Type 0
+CoimplicationAdjoint = (x y z : Value) → zeroᵛ ≤ᵛ z → (coimpliesᵛ x y ≤ᵛ z) ↔ (y ≤ᵛ maxᵛ x z)
+
+-- The truncated difference is at most z exactly where x is at most z and y together.
+abbrev pub DifferenceAdjoint : Type 0
+DifferenceAdjoint = (x y z : Value) → zeroᵛ ≤ᵛ z → (monusᵛ x y ≤ᵛ z) ↔ (x ≤ᵛ z +ᵛ y)
+
+-- ---- Weighted sums of numbered outcomes
+
+abbrev pub SumsOfAppendedLists : Type 0
+SumsOfAppendedLists = (f : ℕ → Value) (xs ys : List (Rational × ℕ)) → weighted_sum f (xs ++ ys) ≡ weighted_sum f xs +ᵛ weighted_sum f ys
+
+-- A factor of all weights, or of all values, moves out.
+abbrev pub FactorsMoveOut : Type 0
+FactorsMoveOut = (f : ℕ → Value) (w : Rational) (xs : List (Rational × ℕ)) → (weighted_sum f (scaled w xs) ≡ finite w *ᵛ weighted_sum f xs) × (weighted_sum (λ a. finite w *ᵛ f a) xs ≡ finite w *ᵛ weighted_sum f xs)
+
+-- Where each outcome has outcomes of its own, with multiplied weights, its value is their sum.
+abbrev pub SumsOfJoinedLists : Type 0
+SumsOfJoinedLists = (f : ℕ → Value) (k : ℕ → List (Rational × ℕ)) (xs : List (Rational × ℕ)) → weighted_sum f (joined k xs) ≡ weighted_sum (λ a. weighted_sum f (k a)) xs
+
+abbrev pub WeightedSumsMonotone : Type 0
+WeightedSumsMonotone = (f g : ℕ → Value) (xs : List (Rational × ℕ)) → IsWeighted xs → ((a : ℕ) → f a ≤ᵛ g a) → weighted_sum f xs ≤ᵛ weighted_sum g xs
+
+-- Weights of at most 1 in all don't lead above a bound of all values.
+abbrev pub WeightedSumsBounded : Type 0
+WeightedSumsBounded = (f : ℕ → Value) (v : Value) (xs : List (Rational × ℕ)) → IsWeighted xs → total_weight xs ≤ʳ oneʳ → zeroᵛ ≤ᵛ v → ((a : ℕ) → f a ≤ᵛ v) → weighted_sum f xs ≤ᵛ v
+
+-- ---- The laws in use
+
+-- A sum of three weighted values is monotone.
+abbrev pub ThreeTermsMonotone : Type 0
+ThreeTermsMonotone = (p q r : Rational) (x x' y y' z z' : Value) → zeroʳ ≤ʳ p → zeroʳ ≤ʳ q → zeroʳ ≤ʳ r → x ≤ᵛ x' → y ≤ᵛ y' → z ≤ᵛ z' → ((finite p *ᵛ x) +ᵛ (finite q *ᵛ y)) +ᵛ (finite r *ᵛ z) ≤ᵛ ((finite p *ᵛ x') +ᵛ (finite q *ᵛ y')) +ᵛ (finite r *ᵛ z')
+
+-- A weight before a flip goes to both of its outcomes.
+abbrev pub FlipDistributes : Type 0
+FlipDistributes = (w p q : Rational) (x y : Value) → finite w *ᵛ ((finite p *ᵛ x) +ᵛ (finite q *ᵛ y)) ≡ (finite (w *ʳ p) *ᵛ x) +ᵛ (finite (w *ʳ q) *ᵛ y)
+
+-- Two rows a*x <= b and c*x <= d contradict each other where multipliers that aren't negative cancel x and leave less
+-- than 0 (Farkas).
+abbrev pub TwoRowsContradict : Type 0
+TwoRowsContradict = (a b c d k l x : Rational) → zeroʳ ≤ʳ k → zeroʳ ≤ʳ l → (k *ʳ a) +ʳ (l *ʳ c) ≡ zeroʳ → (k *ʳ b) +ʳ (l *ʳ d) <ʳ zeroʳ → a *ʳ x ≤ʳ b → c *ʳ x ≤ʳ d → ⊥

@@ -1,0 +1,100 @@
+//! The laws of fractions and values. Each function does nothing: its contract is the law, and the definitions are what the
+//! crates above reason about.
+ghost use Rattle.heyvl_num.specs.FractionLaws as fraction;
+ghost use Rattle.heyvl_num.specs.ValueLaws as value;
+
+/// Fractions are pairs of whole numbers, read by their cross products.
+pub fn fractions_by_cross_products()
+    ensures equal { fraction.FractionsEqual }
+    ensures added { fraction.FractionsAdded }
+    ensures subtracted { fraction.FractionsSubtracted }
+    ensures multiplied { fraction.FractionsMultiplied }
+    ensures negated { fraction.FractionsNegated }
+    ensures ordered { fraction.FractionsOrdered }
+    ensures compared { fraction.FractionsCompared }
+    ensures parts { fraction.FractionsHaveParts }
+{}
+
+/// Sums, products and negations of fractions.
+pub fn ring_of_fractions()
+    ensures sum_associative { fraction.AdditionAssociates }
+    ensures sum_commutative { fraction.AdditionCommutes }
+    ensures zero { fraction.ZeroAddsNothing }
+    ensures negation { fraction.NegationCancels }
+    ensures product_associative { fraction.MultiplicationAssociates }
+    ensures product_commutative { fraction.MultiplicationCommutes }
+    ensures one { fraction.OneChangesNothing }
+    ensures distributive { fraction.MultiplicationDistributes }
+    ensures twice_negated { fraction.NegationUndoesItself }
+    ensures negated_factor { fraction.NegationOfAFactor }
+    ensures negated_sum { fraction.NegationOfASum }
+    ensures difference { fraction.DifferenceUndone }
+    ensures halves { fraction.HalvesAddUp }
+{}
+
+/// The order of fractions, and what keeps it.
+pub fn order_of_fractions()
+    ensures reflexive { fraction.OrderReflexive }
+    ensures transitive { fraction.OrderTransitive }
+    ensures antisymmetric { fraction.OrderAntisymmetric }
+    ensures total { fraction.OrderTotal }
+    ensures sums { fraction.SumsMonotone }
+    ensures products { fraction.ProductsMonotone }
+    ensures whole_factors { fraction.WholeFactorsKeepTheOrder }
+    ensures differences { fraction.DifferenceTellsTheOrder }
+    ensures negations { fraction.NegationTurnsTheOrder }
+    ensures nonpositive_factors { fraction.NonpositiveFactors }
+    ensures dense { fraction.MiddlesLieBetween }
+{}
+
+/// Sums and products of values, in which 0 times infinity is 0.
+pub fn semiring_of_values()
+    ensures sum_associative { value.AdditionAssociates }
+    ensures sum_commutative { value.AdditionCommutes }
+    ensures zero { value.ZeroAddsNothing }
+    ensures product_associative { value.MultiplicationAssociates }
+    ensures product_commutative { value.MultiplicationCommutes }
+    ensures one { value.OneChangesNothing }
+    ensures zero_factor { value.ZeroTakesAll }
+    ensures infinity { value.InfinityAbsorbs }
+    ensures weights { value.WeightsDistribute }
+    ensures distributive { value.MultiplicationDistributes }
+    ensures halves { value.HalvesAddUp }
+{}
+
+/// The order of values, and what keeps it.
+pub fn order_of_values()
+    ensures reflexive { value.OrderReflexive }
+    ensures transitive { value.OrderTransitive }
+    ensures antisymmetric { value.OrderAntisymmetric }
+    ensures total { value.OrderTotal }
+    ensures infinity { value.InfinityGreatest }
+    ensures sums { value.SumsMonotone }
+    ensures weights { value.WeightsMonotone }
+    ensures products { value.ProductsMonotone }
+{}
+
+/// Minimum, maximum, the implications and the truncated difference, each by what it is the best of.
+pub fn operators_on_values()
+    ensures minimum { value.MinimumGreatest }
+    ensures maximum { value.MaximumLeast }
+    ensures implication { value.ImplicationAdjoint }
+    ensures coimplication { value.CoimplicationAdjoint }
+    ensures difference { value.DifferenceAdjoint }
+{}
+
+/// Sums of weighted outcomes.
+pub fn weighted_sums()
+    ensures appended { value.SumsOfAppendedLists }
+    ensures factors { value.FactorsMoveOut }
+    ensures joined { value.SumsOfJoinedLists }
+    ensures monotone { value.WeightedSumsMonotone }
+    ensures bounded { value.WeightedSumsBounded }
+{}
+
+/// What the exported rule sets close by themselves.
+pub fn laws_in_use()
+    ensures three_terms { value.ThreeTermsMonotone }
+    ensures flip { value.FlipDistributes }
+    ensures two_rows { value.TwoRowsContradict }
+{}
