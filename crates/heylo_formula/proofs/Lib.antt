@@ -1,0 +1,4 @@
+pub mod Dependence
+pub mod FreshNumbers
+pub mod RenamedValues
+pub mod SubstitutionValues

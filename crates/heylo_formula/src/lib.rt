@@ -4,7 +4,9 @@
 mod copies;
 mod forms;
 mod goals;
+mod laws;
 mod occurrences;
+mod renaming;
 mod sizes;
 mod terms;
 mod types;
@@ -12,6 +14,7 @@ mod values;
 
 pub use forms::{Cond, Form};
 pub use goals::{Goal, GoalId, Made};
+pub use laws::{renaming_renames_the_state, substitution_changes_the_state, what_values_depend_on};
 pub use terms::Term;
 pub use types::Ty;
 pub use values::Val;
