@@ -8,6 +8,7 @@ mod laws;
 mod occurrences;
 mod renaming;
 mod sizes;
+mod substitution;
 mod terms;
 mod types;
 mod values;
