@@ -1,7 +1,6 @@
 -- States: a value for each variable, by number. A run has a list of values; a formula is read in an environment, where
 -- every number has a value, since a renamed binder has a number beyond every list.
-use Rattle.std.specs.Prelude.{◌≡◌, ℕ, Bool, true, false, ◌==◌, ◌&&◌, List, [], ◌∷◌, if◌then◌else◌}
-use Prim.Native.Nat.{zero, suc}
+use Rattle.std.specs.Prelude.{◌≡◌, ℕ, Bool, true, false, ◌==◌, ◌&&◌, List, [], ◌∷◌, get_or, if◌then◌else◌}
 use Rattle.heyvl_num.specs.Rational.{Rational, zeroʳ, leqʳ}
 use Rattle.heylo_formula.specs.declared.types.Ty.{Ty}
 use Rattle.heylo_formula.specs.declared.types.Ty.TheVariants as Ty
@@ -48,9 +47,7 @@ put x v s y = if x == y then v else s y
 
 -- The value of a variable in a list of values; false where the list has none.
 abbrev pub get : ℕ → List Val → Val
-get x [] = Truth false
-get zero (v ∷ s) = v
-get (suc x) (v ∷ s) = get x s
+get x s = get_or s x (Truth false)
 
 abbrev pub environment : List Val → Env
 environment s x = get x s

@@ -1,0 +1,2 @@
+pub mod ExactOperators
+pub mod ExactMeaning
