@@ -1,11 +1,13 @@
 //! Values of formulas, truth of conditions, and goals, in a given state.
 
-ghost use Rattle.std.specs.Prelude.{◌≡◌, option_map};
+ghost use Rattle.std.specs.Prelude.{◌≡◌, ◌↔◌, true, option_map, IfSome};
 ghost use Rattle.heyvl_num.specs.Value.Value.{finite};
 ghost use Rattle.heyvl_num.specs.Extended.{value_of};
 ghost use Rattle.heylo_formula.specs.PlainTrees.{form_of, cond_of};
-ghost use Rattle.heylo_formula.specs.Goals.{goal_of};
-ghost use Rattle.heylo_formula.specs.State.{get, truth_of, number_of};
+ghost use Rattle.heylo_formula.specs.Goals.{goal_of, HoldsIn};
+ghost use Rattle.heylo_formula.specs.Choices.{Choices};
+ghost use Rattle.heylo_formula.specs.Meaning.{value as form_value, holds};
+ghost use Rattle.heylo_formula.specs.State.{get, truth_of, number_of, environment};
 ghost use Rattle.quant_algebra.specs.ExactMeaning.{at_of, held_of, exact_value, exact_truth, exact_goal};
 
 use crate::answers::{At, Held};
@@ -16,28 +18,38 @@ use crate::operators::{
 use heylo_formula::{Cond, Form, Goal, Val};
 use heyvl_num::Ext;
 
-/// The exact value of a form without binders. Bits comes exactly where a number that is needed doesn't fit.
+/// The exact value of a form without binders, which is the value that it means in the state. Bits comes exactly where a
+/// number that is needed doesn't fit.
 pub fn value_at(form: &Form, state: &[Val]) -> At
-    ensures { at_of result ≡ exact_value (form_of form.now) state.now }
+    ensures exact { at_of result ≡ exact_value (form_of form.now) state.now }
+    ensures meaning { IfSome (at_of result) (λ x. x ≡ form_value (form_of form.now) (environment state.now) Choices.stop) }
 {
-    match value(form, state) {
-        Some(x) => At::Value(x),
-        None => At::Bits,
-    }
+    at(value(form, state))
 }
 
-/// Whether a condition without binders holds. Bits comes exactly where a number that is needed doesn't fit.
+/// Whether a condition without binders holds in the state. Bits comes exactly where a number that is needed doesn't fit.
 pub fn holds_at(cond: &Cond, state: &[Val]) -> Held
-    ensures { held_of result ≡ exact_truth (cond_of cond.now) state.now }
+    ensures exact { held_of result ≡ exact_truth (cond_of cond.now) state.now }
+    ensures meaning { IfSome (held_of result) (λ t. t ≡ holds (cond_of cond.now) (environment state.now) Choices.stop) }
 {
     held(truth(cond, state))
 }
 
-/// Whether a goal's inequality holds in a state. Bits comes exactly where a number that is needed doesn't fit.
+/// Whether a goal's inequality holds in the state. Bits comes exactly where a number that is needed doesn't fit.
 pub fn goal_at(goal: &Goal, state: &[Val]) -> Held
-    ensures { held_of result ≡ exact_goal (goal_of goal.now) state.now }
+    ensures exact { held_of result ≡ exact_goal (goal_of goal.now) state.now }
+    ensures meaning { IfSome (held_of result) (λ t. (t ≡ true) ↔ HoldsIn (goal_of goal.now) (environment state.now)) }
 {
     held(inequality(goal, state))
+}
+
+fn at(value: Option<Ext>) -> At
+    ensures { at_of result ≡ option_map value_of value }
+{
+    match value {
+        Some(x) => At::Value(x),
+        None => At::Bits,
+    }
 }
 
 fn held(truth: Option<bool>) -> Held

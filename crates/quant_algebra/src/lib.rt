@@ -3,7 +3,9 @@
 
 mod answers;
 mod evaluation;
+mod laws;
 mod operators;
 
 pub use answers::{At, Held};
 pub use evaluation::{goal_at, holds_at, value_at};
+pub use laws::exact_values_are_meant;
