@@ -1,19 +1,17 @@
 -- What the value of a formula depends on.
-use Rattle.std.proofs.Common.{◌≡◌, ℕ, ◌+◌, ◌≤◌, ◌<◌, refl, sym, ap, ap₂, ◌∙◌, arith, Bool, true, false, not, cond, ◌==◌, ◌||◌, ◌&&◌, inl, inr, ◌⊎◌}
+use Rattle.std.proofs.Common.{◌≡◌, ℕ, refl, sym, ap, ap₂, ◌∙◌, arith, Bool, true, false, not, cond, ◌==◌, ◌||◌, ◌&&◌}
 use mathlib.Core.Path.{fun_ext}
-use Rattle.heyvl_num.specs.Rational.{zeroʳ}
-use Rattle.heyvl_num.specs.Value.{Value, zeroᵛ, oneᵛ, leqᵛ, ◌+ᵛ◌, ◌*ᵛ◌}
+use Rattle.heyvl_num.specs.Value.{zeroᵛ, oneᵛ, leqᵛ, ◌+ᵛ◌, ◌*ᵛ◌}
 use Rattle.heyvl_num.specs.Value.Value.{finite, infinite}
 use Rattle.heyvl_num.specs.ValueOperators.{minᵛ, maxᵛ, impliesᵛ, coimpliesᵛ, monusᵛ}
-use Rattle.heylo_formula.specs.Operators.{differenceᵛ, validateᵛ, covalidateᵛ, lessᵛ, equalᵛ, agree, finite_part, is_finite}
+use Rattle.heylo_formula.specs.Operators.{differenceᵛ, validateᵛ, covalidateᵛ, lessᵛ, equalᵛ, agree}
 use Rattle.heylo_formula.specs.State.{Env, put, fit, truth_of, number_of}
 use Rattle.heylo_formula.specs.Choices.{Choices, here, left, right}
-use Rattle.heylo_formula.specs.Formula.{Form, Cond, Term}
-use Rattle.heylo_formula.specs.Variables.{is_free, is_free_in, occurs, occurs_in, occurs_in_term}
-use Rattle.heylo_formula.specs.Meaning.{value, holds, term_value}
-use Rattle.heylo_formula.specs.Binders.{has_binder, has_binder_in, IsPlain}
+use Rattle.heylo_formula.specs.Formula.{Form, Cond}
+use Rattle.heylo_formula.specs.Variables.{is_free, is_free_in, occurs, occurs_in}
+use Rattle.heylo_formula.specs.Meaning.{value, holds}
+use Rattle.heylo_formula.specs.Binders.{has_binder, has_binder_in}
 use Rattle.heylo_formula.specs.declared.values.Val.{Val}
-use Rattle.heylo_formula.specs.declared.values.Val.TheVariants.{Truth, Num}
 
 pub or_false : (a b : Bool) → (a || b) ≡ false → (a ≡ false) × (b ≡ false)
 or_false true b h = absurd (cc)

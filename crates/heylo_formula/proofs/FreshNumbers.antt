@@ -1,5 +1,5 @@
 -- The fresh number of a binder is the least unused one.
-use Rattle.std.proofs.Common.{◌≡◌, ℕ, ◌+◌, ◌≤◌, ◌<◌, refl, sym, ap, ap₂, ◌∙◌, arith, Bool, true, false, not, cond, ◌==◌, ◌||◌, ◌&&◌, inl, inr, ◌⊎◌}
+use Rattle.std.proofs.Common.{◌≡◌, ℕ, ◌+◌, ◌≤◌, ◌<◌, refl, sym, ap, ◌∙◌, arith, Bool, true, false, cond, ◌==◌, ◌||◌, inl, inr, ◌⊎◌}
 use Prim.Native.Nat.{zero, suc}
 use Rattle.heylo_formula.specs.Formula.{Form, Cond, Term}
 use Rattle.heylo_formula.specs.Variables.{occurs, occurs_in, occurs_in_term}

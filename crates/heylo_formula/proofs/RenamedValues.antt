@@ -1,21 +1,17 @@
 -- The value of a renamed formula is the value in the renamed state.
-use Rattle.std.proofs.Common.{◌≡◌, ℕ, ◌+◌, ◌≤◌, ◌<◌, refl, sym, ap, ap₂, ◌∙◌, arith, Bool, true, false, not, cond, ◌==◌, ◌||◌, ◌&&◌, inl, inr, ◌⊎◌}
-use mathlib.Core.Path.{fun_ext}
-use Rattle.heyvl_num.specs.Rational.{zeroʳ}
-use Rattle.heyvl_num.specs.Value.{Value, zeroᵛ, oneᵛ, leqᵛ, ◌+ᵛ◌, ◌*ᵛ◌}
+use Rattle.std.proofs.Common.{◌≡◌, ℕ, ◌+◌, refl, sym, ap, ap₂, ◌∙◌, arith, Bool, true, false, not, cond, ◌==◌, ◌||◌, ◌&&◌}
+use Rattle.heyvl_num.specs.Value.{zeroᵛ, oneᵛ, leqᵛ, ◌+ᵛ◌, ◌*ᵛ◌}
 use Rattle.heyvl_num.specs.Value.Value.{finite, infinite}
 use Rattle.heyvl_num.specs.ValueOperators.{minᵛ, maxᵛ, impliesᵛ, coimpliesᵛ, monusᵛ}
-use Rattle.heylo_formula.specs.Operators.{differenceᵛ, validateᵛ, covalidateᵛ, lessᵛ, equalᵛ, agree, finite_part, is_finite}
+use Rattle.heylo_formula.specs.Operators.{differenceᵛ, validateᵛ, covalidateᵛ, lessᵛ, equalᵛ, agree}
 use Rattle.heylo_formula.specs.State.{Env, put, fit, truth_of, number_of}
 use Rattle.heylo_formula.specs.Choices.{Choices, here, left, right}
-use Rattle.heylo_formula.specs.Formula.{Form, Cond, Term}
-use Rattle.heylo_formula.specs.Variables.{is_free, is_free_in, occurs, occurs_in, occurs_in_term}
-use Rattle.heylo_formula.specs.Meaning.{value, holds, term_value}
-use Rattle.heylo_formula.specs.Binders.{has_binder, has_binder_in, IsPlain}
+use Rattle.heylo_formula.specs.Formula.{Form, Cond}
+use Rattle.heylo_formula.specs.Variables.{occurs, occurs_in}
+use Rattle.heylo_formula.specs.Meaning.{value, holds}
 use Rattle.heylo_formula.specs.declared.values.Val.{Val}
-use Rattle.heylo_formula.specs.declared.values.Val.TheVariants.{Truth, Num}
-use Rattle.heylo_formula.specs.Sizes.{nodes, nodes_in, nodes_in_term}
-use Rattle.heylo_formula.proofs.Dependence.{or_false, neither, clash, put_again, put_commute, three, same_on, same_on_in, unfree, unfree_in, unused_free, unused_free_in, unchosen, unchosen_in}
+use Rattle.heylo_formula.specs.Sizes.{nodes, nodes_in}
+use Rattle.heylo_formula.proofs.Dependence.{or_false, put_again, put_commute, three}
 use Rattle.heylo_formula.specs.Substitution.{renamed, renamed_in}
 
 pick_form : (y z w : ℕ) (s : Env) (c : Choices) → value (cond (y == w) (Form.variable z) (Form.variable w)) s c ≡ finite (number_of (put y (s z) s w))

@@ -1,10 +1,10 @@
 -- What a substitution makes of each kind of node.
-use Rattle.std.proofs.Common.{◌≡◌, ℕ, ◌+◌, ◌≤◌, ◌<◌, refl, sym, ap, ap₂, ◌∙◌, arith, Bool, true, false, not, cond, ◌==◌, ◌||◌, ◌&&◌, inl, inr, ◌⊎◌}
+use Rattle.std.proofs.Common.{◌≡◌, ℕ, ◌<◌, refl, ap, ap₂, arith, cond, ◌==◌, ◌&&◌}
 use Prim.Native.Nat.{zero, suc}
 use Rattle.heylo_formula.specs.Formula.{Form, Cond, Term}
 use Rattle.heylo_formula.specs.Variables.{is_free, occurs_in_term}
 use Rattle.heylo_formula.specs.Sizes.{nodes, nodes_in}
-use Rattle.heylo_formula.specs.Substitution.{renamed, renamed_in, fresh, as_form, as_cond, subst_within, subst_within_in, subst, subst_in}
+use Rattle.heylo_formula.specs.Substitution.{renamed, fresh, as_form, as_cond, subst_within, subst_within_in, subst, subst_in}
 use Rattle.heylo_formula.proofs.RenamedValues.{same_nodes}
 
 mutual

@@ -1,8 +1,6 @@
 -- The value of a substituted formula is the value in the changed state.
-use Rattle.std.proofs.Common.{◌≡◌, ℕ, ◌+◌, ◌≤◌, ◌<◌, refl, sym, ap, ap₂, ◌∙◌, arith, Bool, true, false, not, cond, ◌==◌, ◌||◌, ◌&&◌, inl, inr, ◌⊎◌}
+use Rattle.std.proofs.Common.{◌≡◌, ℕ, ◌<◌, refl, sym, ap, ap₂, ◌∙◌, arith, Bool, true, false, not, cond, ◌==◌, ◌||◌, ◌&&◌, inl, inr, ◌⊎◌}
 use Prim.Native.Nat.{zero, suc}
-use mathlib.Core.Path.{fun_ext}
-use Rattle.heyvl_num.specs.Rational.{zeroʳ}
 use Rattle.heyvl_num.specs.Value.{Value, zeroᵛ, oneᵛ, leqᵛ, ◌+ᵛ◌, ◌*ᵛ◌}
 use Rattle.heyvl_num.specs.Value.Value.{finite, infinite}
 use Rattle.heyvl_num.specs.ValueOperators.{minᵛ, maxᵛ, impliesᵛ, coimpliesᵛ, monusᵛ}
@@ -10,14 +8,14 @@ use Rattle.heylo_formula.specs.Operators.{differenceᵛ, validateᵛ, covalidate
 use Rattle.heylo_formula.specs.State.{Env, put, fit, truth_of, number_of}
 use Rattle.heylo_formula.specs.Choices.{Choices, here, left, right}
 use Rattle.heylo_formula.specs.Formula.{Form, Cond, Term}
-use Rattle.heylo_formula.specs.Variables.{is_free, is_free_in, occurs, occurs_in, occurs_in_term}
+use Rattle.heylo_formula.specs.Variables.{is_free, occurs, occurs_in_term}
 use Rattle.heylo_formula.specs.Meaning.{value, holds, term_value}
-use Rattle.heylo_formula.specs.Binders.{has_binder, has_binder_in, IsPlain}
+use Rattle.heylo_formula.specs.Binders.{IsPlain}
 use Rattle.heylo_formula.specs.declared.values.Val.{Val}
 use Rattle.heylo_formula.specs.declared.values.Val.TheVariants.{Truth, Num}
-use Rattle.heylo_formula.specs.Sizes.{nodes, nodes_in, nodes_in_term}
-use Rattle.heylo_formula.proofs.Dependence.{or_false, neither, clash, put_again, put_commute, three, same_on, same_on_in, unfree, unfree_in, unused_free, unused_free_in, unchosen, unchosen_in}
-use Rattle.heylo_formula.specs.Substitution.{renamed, renamed_in, fresh, as_form, as_cond, subst_within, subst_within_in, subst, subst_in}
+use Rattle.heylo_formula.specs.Sizes.{nodes, nodes_in}
+use Rattle.heylo_formula.proofs.Dependence.{or_false, clash, put_again, put_commute, three, same_on, unfree, unfree_in, unused_free, unused_free_in, unchosen, unchosen_in}
+use Rattle.heylo_formula.specs.Substitution.{renamed, fresh, as_form, as_cond, subst_within, subst_within_in, subst, subst_in}
 use Rattle.heylo_formula.proofs.RenamedValues.{renamed_value, same_nodes}
 use Rattle.heylo_formula.proofs.FreshNumbers.{fresh_is}
 

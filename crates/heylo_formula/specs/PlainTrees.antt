@@ -1,5 +1,4 @@
 -- The trees that the program holds, read as plain trees.
-use Rattle.std.specs.Prelude.{◌≡◌}
 use Rattle.heyvl_num.specs.Extended.{value_of}
 use Rattle.heylo_formula.specs.declared.forms.Form as F
 use Rattle.heylo_formula.specs.declared.forms.Cond as C

@@ -3,7 +3,6 @@
 use Rattle.std.specs.Prelude.{◌≡◌, ℕ, Bool, true, false, ◌==◌, ◌&&◌, List, [], ◌∷◌, get_or, if◌then◌else◌}
 use Rattle.heyvl_num.specs.Rational.{Rational, zeroʳ, leqʳ}
 use Rattle.heylo_formula.specs.declared.types.Ty.{Ty}
-use Rattle.heylo_formula.specs.declared.types.Ty.TheVariants as Ty
 use Rattle.heylo_formula.specs.declared.values.Val.{Val}
 use Rattle.heylo_formula.specs.declared.values.Val.TheVariants.{Truth, Num}
 

@@ -2,12 +2,11 @@
 -- of two types is the least one to which both widen; Int has no join with UReal and EUReal. A formula is of UInt, UReal or
 -- EUReal.
 use Rattle.std.specs.Prelude.{◌≡◌, ℕ, Bool, true, false, ◌==◌, ◌&&◌, Option, Some, None, if◌then◌else◌}
-use Rattle.heyvl_num.specs.Rational.{Rational, zeroʳ, leqʳ}
+use Rattle.heyvl_num.specs.Rational.{zeroʳ, leqʳ}
 use Rattle.heyvl_num.specs.Value.{Value}
 use Rattle.heyvl_num.specs.Value.Value.{finite, infinite}
-use Rattle.heylo_formula.specs.Formula.{Form, Cond, Term}
+use Rattle.heylo_formula.specs.Formula.{Form, Cond}
 use Rattle.heylo_formula.specs.declared.types.Ty.{Ty}
-use Rattle.heylo_formula.specs.declared.types.Ty.TheVariants as Ty
 
 -- The types of expressions that are numbers. EUReal is UReal with infinity.
 pub data NumberType : Type 0 where

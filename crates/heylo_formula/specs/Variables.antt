@@ -1,5 +1,5 @@
 -- Where the number of a variable occurs in a formula.
-use Rattle.std.specs.Prelude.{ℕ, Bool, true, false, ◌==◌, ◌||◌, if◌then◌else◌}
+use Rattle.std.specs.Prelude.{ℕ, Bool, false, ◌==◌, ◌||◌, if◌then◌else◌}
 use Rattle.heylo_formula.specs.Formula.{Form, Cond, Term}
 
 -- Whether the variable occurs outside every binder of its number.

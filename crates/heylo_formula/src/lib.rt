@@ -10,6 +10,8 @@ mod renaming;
 mod sizes;
 mod substitution;
 mod terms;
+#[cfg(test)]
+mod tests;
 mod types;
 mod values;
 
