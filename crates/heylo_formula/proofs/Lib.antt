@@ -1,0 +1,8 @@
+pub mod Dependence
+pub mod FreshNumbers
+pub mod RenamedValues
+pub mod SubstitutionValues
+pub mod SubstitutionSteps
+pub mod Mirrors
+pub mod SubstitutionTrees
+pub mod SubstitutionResults

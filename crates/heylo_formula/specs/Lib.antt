@@ -1,0 +1,13 @@
+pub mod Formula
+pub mod PlainTrees
+pub mod Variables
+pub mod Sizes
+pub mod Operators
+pub mod State
+pub mod Choices
+pub mod Meaning
+pub mod Binders
+pub mod Typing
+pub mod Goals
+pub mod Substitution
+pub mod Laws

@@ -1,0 +1,138 @@
+-- Well-typed formulas. A UInt widens to Int and to UReal, a UReal widens to EUReal, and a UInt so to EUReal too. The join
+-- of two types is the least one to which both widen; Int has no join with UReal and EUReal. A formula is of UInt, UReal or
+-- EUReal.
+use Rattle.std.specs.Prelude.{◌≡◌, ℕ, Bool, true, false, ◌==◌, ◌&&◌, Option, Some, None, if◌then◌else◌}
+use Rattle.heyvl_num.specs.Rational.{zeroʳ, leqʳ}
+use Rattle.heyvl_num.specs.Value.{Value}
+use Rattle.heyvl_num.specs.Value.Value.{finite, infinite}
+use Rattle.heylo_formula.specs.Formula.{Form, Cond}
+use Rattle.heylo_formula.specs.declared.types.Ty.{Ty}
+
+-- The types of expressions that are numbers. EUReal is UReal with infinity.
+pub data NumberType : Type 0 where
+  int : NumberType
+  uint : NumberType
+  ureal : NumberType
+  eureal : NumberType
+
+-- The types of the variables, by number.
+abbrev pub Types : Type 0
+Types = ℕ → Ty
+
+-- The types with a variable's changed.
+abbrev pub retyped : ℕ → Ty → Types → Types
+retyped x ty types y = if x == y then ty else types y
+
+abbrev pub number_type : Ty → Option NumberType
+number_type Ty.Bool = None
+number_type Ty.Int = Some NumberType.int
+number_type Ty.UInt = Some NumberType.uint
+number_type Ty.UReal = Some NumberType.ureal
+
+abbrev pub is_bool : Ty → Bool
+is_bool Ty.Bool = true
+is_bool Ty.Int = false
+is_bool Ty.UInt = false
+is_bool Ty.UReal = false
+
+-- The join of two types, where there is one.
+abbrev pub join : NumberType → NumberType → Option NumberType
+join NumberType.int NumberType.int = Some NumberType.int
+join NumberType.int NumberType.uint = Some NumberType.int
+join NumberType.int NumberType.ureal = None
+join NumberType.int NumberType.eureal = None
+join NumberType.uint t = Some t
+join NumberType.ureal NumberType.int = None
+join NumberType.ureal NumberType.uint = Some NumberType.ureal
+join NumberType.ureal NumberType.ureal = Some NumberType.ureal
+join NumberType.ureal NumberType.eureal = Some NumberType.eureal
+join NumberType.eureal NumberType.int = None
+join NumberType.eureal NumberType.uint = Some NumberType.eureal
+join NumberType.eureal NumberType.ureal = Some NumberType.eureal
+join NumberType.eureal NumberType.eureal = Some NumberType.eureal
+
+abbrev pub joined : Option NumberType → Option NumberType → Option NumberType
+joined (Some t) (Some u) = join t u
+joined (Some t) None = None
+joined None t = None
+
+abbrev pub is_finite_type : Option NumberType → Bool
+is_finite_type (Some NumberType.int) = true
+is_finite_type (Some NumberType.uint) = true
+is_finite_type (Some NumberType.ureal) = true
+is_finite_type (Some NumberType.eureal) = false
+is_finite_type None = false
+
+-- UInt, UReal or EUReal.
+abbrev pub is_unsigned : Option NumberType → Bool
+is_unsigned (Some NumberType.int) = false
+is_unsigned (Some NumberType.uint) = true
+is_unsigned (Some NumberType.ureal) = true
+is_unsigned (Some NumberType.eureal) = true
+is_unsigned None = false
+
+abbrev pub only_if : Bool → Option NumberType → Option NumberType
+only_if true t = t
+only_if false t = None
+
+-- A negative number is a whole one, and an Int. A whole number from 0 on is a UInt, every other one a UReal.
+abbrev pub constant_type : Value → Option NumberType
+constant_type (finite x) = if leqʳ zeroʳ x then Some (if x.den == 1 then NumberType.uint else NumberType.ureal) else only_if (x.den == 1) (Some NumberType.int)
+constant_type infinite = Some NumberType.eureal
+
+-- A difference is of whole numbers.
+abbrev pub difference_type : Option NumberType → Option NumberType
+difference_type (Some NumberType.int) = Some NumberType.int
+difference_type (Some NumberType.uint) = Some NumberType.int
+difference_type (Some NumberType.ureal) = None
+difference_type (Some NumberType.eureal) = None
+difference_type None = None
+
+-- A truncated difference is of unsigned finite numbers.
+abbrev pub cut_type : Option NumberType → Option NumberType
+cut_type t = only_if (is_unsigned t && is_finite_type t) t
+
+-- A multiple of an unsigned number.
+abbrev pub scale_type : Option NumberType → Option NumberType
+scale_type (Some NumberType.int) = None
+scale_type (Some NumberType.uint) = Some NumberType.ureal
+scale_type (Some NumberType.ureal) = Some NumberType.ureal
+scale_type (Some NumberType.eureal) = Some NumberType.eureal
+scale_type None = None
+
+abbrev mutual
+  -- The type of a form, where each of its nodes is well typed; else none.
+  pub type_of : Types → Form → Option NumberType
+  type_of types (Form.number v) = constant_type v
+  type_of types (Form.variable x) = number_type (types x)
+  type_of types (Form.sum a b) = joined (type_of types a) (type_of types b)
+  type_of types (Form.difference a b) = difference_type (joined (type_of types a) (type_of types b))
+  type_of types (Form.cut a b) = cut_type (joined (type_of types a) (type_of types b))
+  type_of types (Form.scale w a) = only_if (leqʳ zeroʳ w) (scale_type (type_of types a))
+  type_of types (Form.product a b span) = joined (type_of types a) (type_of types b)
+  type_of types (Form.min a b) = joined (type_of types a) (type_of types b)
+  type_of types (Form.max a b) = joined (type_of types a) (type_of types b)
+  type_of types (Form.imply a b) = only_if (is_unsigned (type_of types a) && is_unsigned (type_of types b)) (Some NumberType.eureal)
+  type_of types (Form.co_imply a b) = only_if (is_unsigned (type_of types a) && is_unsigned (type_of types b)) (Some NumberType.eureal)
+  type_of types (Form.validate a) = only_if (is_unsigned (type_of types a)) (Some NumberType.eureal)
+  type_of types (Form.co_validate a) = only_if (is_unsigned (type_of types a)) (Some NumberType.eureal)
+  type_of types (Form.embed g) = only_if (is_well_typed types g) (Some NumberType.eureal)
+  type_of types (Form.iverson g) = only_if (is_well_typed types g) (Some NumberType.uint)
+  type_of types (Form.select g a b) = only_if (is_well_typed types g) (joined (type_of types a) (type_of types b))
+  type_of types (Form.bind up x name ty a) = only_if (is_unsigned (type_of (retyped x ty types) a)) (Some NumberType.eureal)
+
+  pub is_well_typed : Types → Cond → Bool
+  is_well_typed types (Cond.constant b) = true
+  is_well_typed types (Cond.flag x) = is_bool (types x)
+  is_well_typed types (Cond.not g) = is_well_typed types g
+  is_well_typed types (Cond.and g h) = is_well_typed types g && is_well_typed types h
+  is_well_typed types (Cond.or g h) = is_well_typed types g && is_well_typed types h
+  is_well_typed types (Cond.same g h) = is_well_typed types g && is_well_typed types h
+  is_well_typed types (Cond.le a b) = is_finite_type (joined (type_of types a) (type_of types b))
+  is_well_typed types (Cond.lt a b) = is_finite_type (joined (type_of types a) (type_of types b))
+  is_well_typed types (Cond.equal a b) = is_finite_type (joined (type_of types a) (type_of types b))
+  is_well_typed types (Cond.ite g h k) = is_well_typed types g && (is_well_typed types h && is_well_typed types k)
+
+-- A formula: a form of UInt, UReal or EUReal.
+abbrev pub IsFormula : Types → Form → Type 0
+IsFormula types f = is_unsigned (type_of types f) ≡ true

@@ -1,0 +1,61 @@
+//! Formulas and conditions.
+
+use crate::types::Ty;
+use heyvl_num::{Ext, Frac};
+use heyvl_syntax::Span;
+
+/// A formula of HeyLo: a tree that has a number, or infinity, as its value in each state. Variables go by number.
+#[derive(Drop)]
+#[cycle(forms)]
+pub enum Form {
+    Const(Ext),
+    /// The value of a numeric variable.
+    Var(u32),
+    Sum(Box<Form>, Box<Form>),
+    /// The plain difference, of whole numbers, which may be negative.
+    Diff(Box<Form>, Box<Form>),
+    /// The truncated difference: 0 where the second part is greater.
+    Cut(Box<Form>, Box<Form>),
+    Scale(Frac, Box<Form>),
+    /// The product, with the place of its operator in the text.
+    Product(Box<Form>, Box<Form>, Span),
+    Min(Box<Form>, Box<Form>),
+    Max(Box<Form>, Box<Form>),
+    /// Implication (Goedel's): infinity where the first part is at most the second, else the second.
+    Imply(Box<Form>, Box<Form>),
+    /// Coimplication: 0 where the first part is at least the second, else the second.
+    CoImply(Box<Form>, Box<Form>),
+    /// Infinity where the part is infinity, else 0.
+    Validate(Box<Form>),
+    /// 0 where the part is 0, else infinity.
+    CoValidate(Box<Form>),
+    /// Infinity where the condition holds, else 0.
+    Embed(Box<Cond>),
+    /// 1 where the condition holds, else 0.
+    Iverson(Box<Cond>),
+    /// The first form where the condition holds, else the second.
+    Select(Box<Cond>, Box<Form>, Box<Form>),
+    /// A binder: whether it is a supremum (else it is an infimum), the number that it binds, the number of the variable
+    /// whose name it bears, the type of that variable, and the body.
+    Bind(bool, u32, u32, Ty, Box<Form>),
+}
+
+/// A condition: a tree that holds in a state, or doesn't.
+#[derive(Drop)]
+#[cycle(forms)]
+pub enum Cond {
+    Const(bool),
+    /// The value of a Boolean variable.
+    Var(u32),
+    Not(Box<Cond>),
+    And(Box<Cond>, Box<Cond>),
+    Or(Box<Cond>, Box<Cond>),
+    /// Both hold, or neither does.
+    Same(Box<Cond>, Box<Cond>),
+    Le(Box<Form>, Box<Form>),
+    Lt(Box<Form>, Box<Form>),
+    /// Equal numbers.
+    EqNum(Box<Form>, Box<Form>),
+    /// The second condition where the first holds, else the third.
+    Ite(Box<Cond>, Box<Cond>, Box<Cond>),
+}

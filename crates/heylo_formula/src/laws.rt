@@ -1,0 +1,26 @@
+//! The laws of formulas. Each function does nothing: its contract is the law, and the definitions are what the crates above
+//! reason about.
+
+ghost use Rattle.heylo_formula.specs.Laws as law;
+
+/// A value depends on the free variables alone, and on choices only where there is a binder.
+pub fn what_values_depend_on()
+    ensures variables { law.ValuesIgnoreOthers }
+    ensures variables_of_truth { law.TruthIgnoresOthers }
+    ensures choices { law.ValuesIgnoreChoices }
+    ensures choices_of_truth { law.TruthIgnoresChoices }
+{}
+
+/// A renamed formula has its value in the renamed state.
+pub fn renaming_renames_the_state()
+    ensures value { law.RenamingKeepsValues }
+    ensures truth { law.RenamingKeepsTruth }
+{}
+
+/// A substitution is a change of state, for all choices of the binders; a binder that would capture takes the least unused
+/// number.
+pub fn substitution_changes_the_state()
+    ensures value { law.SubstitutionChangesState }
+    ensures truth { law.SubstitutionChangesStateOfTruth }
+    ensures fresh { law.FreshIsLeast }
+{}

@@ -1,0 +1,118 @@
+//! Where variables occur.
+
+ghost use Rattle.std.specs.Prelude.{◌≡◌};
+ghost use Rattle.heylo_formula.specs.PlainTrees.{form_of, cond_of, term_of};
+ghost use Rattle.heylo_formula.specs.Variables.{is_free, is_free_in, occurs, occurs_in, occurs_in_term};
+
+use crate::forms::{Cond, Form};
+use crate::terms::Term;
+
+impl Form {
+    /// Whether the variable occurs outside every binder of its number.
+    #[cycle(frees)]
+    pub fn free(&self, var: u32) -> bool
+        ensures { result ≡ is_free var (form_of self.now) }
+    {
+        match self {
+            Form::Const(_) => false,
+            Form::Var(y) => var == *y,
+            Form::Sum(a, b) => a.free(var) || b.free(var),
+            Form::Diff(a, b) => a.free(var) || b.free(var),
+            Form::Cut(a, b) => a.free(var) || b.free(var),
+            Form::Scale(_, a) => a.free(var),
+            Form::Product(a, b, _) => a.free(var) || b.free(var),
+            Form::Min(a, b) => a.free(var) || b.free(var),
+            Form::Max(a, b) => a.free(var) || b.free(var),
+            Form::Imply(a, b) => a.free(var) || b.free(var),
+            Form::CoImply(a, b) => a.free(var) || b.free(var),
+            Form::Validate(a) => a.free(var),
+            Form::CoValidate(a) => a.free(var),
+            Form::Embed(g) => g.free(var),
+            Form::Iverson(g) => g.free(var),
+            Form::Select(g, a, b) => g.free(var) || (a.free(var) || b.free(var)),
+            Form::Bind(_, y, _, _, a) => if var == *y { false } else { a.free(var) },
+        }
+    }
+}
+
+impl Cond {
+    /// Whether the variable occurs outside every binder of its number.
+    #[cycle(frees)]
+    pub fn free(&self, var: u32) -> bool
+        ensures { result ≡ is_free_in var (cond_of self.now) }
+    {
+        match self {
+            Cond::Const(_) => false,
+            Cond::Var(y) => var == *y,
+            Cond::Not(g) => g.free(var),
+            Cond::And(g, h) => g.free(var) || h.free(var),
+            Cond::Or(g, h) => g.free(var) || h.free(var),
+            Cond::Same(g, h) => g.free(var) || h.free(var),
+            Cond::Le(a, b) => a.free(var) || b.free(var),
+            Cond::Lt(a, b) => a.free(var) || b.free(var),
+            Cond::EqNum(a, b) => a.free(var) || b.free(var),
+            Cond::Ite(g, h, k) => g.free(var) || (h.free(var) || k.free(var)),
+        }
+    }
+}
+
+impl Form {
+    /// Whether the number occurs at all: as a variable, or as what a binder binds.
+    #[cycle(occurring)]
+    pub fn occurs(&self, var: u32) -> bool
+        ensures { result ≡ occurs var (form_of self.now) }
+    {
+        match self {
+            Form::Const(_) => false,
+            Form::Var(y) => var == *y,
+            Form::Sum(a, b) => a.occurs(var) || b.occurs(var),
+            Form::Diff(a, b) => a.occurs(var) || b.occurs(var),
+            Form::Cut(a, b) => a.occurs(var) || b.occurs(var),
+            Form::Scale(_, a) => a.occurs(var),
+            Form::Product(a, b, _) => a.occurs(var) || b.occurs(var),
+            Form::Min(a, b) => a.occurs(var) || b.occurs(var),
+            Form::Max(a, b) => a.occurs(var) || b.occurs(var),
+            Form::Imply(a, b) => a.occurs(var) || b.occurs(var),
+            Form::CoImply(a, b) => a.occurs(var) || b.occurs(var),
+            Form::Validate(a) => a.occurs(var),
+            Form::CoValidate(a) => a.occurs(var),
+            Form::Embed(g) => g.occurs(var),
+            Form::Iverson(g) => g.occurs(var),
+            Form::Select(g, a, b) => g.occurs(var) || (a.occurs(var) || b.occurs(var)),
+            Form::Bind(_, y, _, _, a) => var == *y || a.occurs(var),
+        }
+    }
+}
+
+impl Cond {
+    /// Whether the number occurs at all: as a variable, or as what a binder binds.
+    #[cycle(occurring)]
+    pub fn occurs(&self, var: u32) -> bool
+        ensures { result ≡ occurs_in var (cond_of self.now) }
+    {
+        match self {
+            Cond::Const(_) => false,
+            Cond::Var(y) => var == *y,
+            Cond::Not(g) => g.occurs(var),
+            Cond::And(g, h) => g.occurs(var) || h.occurs(var),
+            Cond::Or(g, h) => g.occurs(var) || h.occurs(var),
+            Cond::Same(g, h) => g.occurs(var) || h.occurs(var),
+            Cond::Le(a, b) => a.occurs(var) || b.occurs(var),
+            Cond::Lt(a, b) => a.occurs(var) || b.occurs(var),
+            Cond::EqNum(a, b) => a.occurs(var) || b.occurs(var),
+            Cond::Ite(g, h, k) => g.occurs(var) || (h.occurs(var) || k.occurs(var)),
+        }
+    }
+}
+
+impl Term {
+    /// Whether the number occurs at all: as a variable, or as what a binder binds.
+    pub fn occurs(&self, var: u32) -> bool
+        ensures { result ≡ occurs_in_term var (term_of self.now) }
+    {
+        match self {
+            Term::Truth(g) => g.occurs(var),
+            Term::Num(f) => f.occurs(var),
+        }
+    }
+}

@@ -1,0 +1,138 @@
+//! How large formulas are. The counts stand still at 2^63.
+
+ghost use Rattle.std.specs.Prelude.{◌≡◌, ◌+◌, ◌^◌, min};
+ghost use Rattle.heylo_formula.specs.PlainTrees.{form_of, cond_of, term_of};
+ghost use Rattle.heylo_formula.specs.Sizes.{nodes, nodes_in, nodes_in_term, depth, depth_in};
+
+use crate::forms::{Cond, Form};
+use crate::terms::Term;
+
+const MOST: u64 = 1 << 63;
+
+impl Form {
+    /// The number of nodes, those of conditions included; at most 2^63.
+    #[cycle(counting)]
+    pub fn nodes(&self) -> u64
+        ensures { result ≡ min (2 ^ 63) (nodes (form_of self.now)) }
+    {
+        match self {
+            Form::Const(_) => 1,
+            Form::Var(_) => 1,
+            Form::Sum(a, b) => above(both(a.nodes(), b.nodes())),
+            Form::Diff(a, b) => above(both(a.nodes(), b.nodes())),
+            Form::Cut(a, b) => above(both(a.nodes(), b.nodes())),
+            Form::Scale(_, a) => above(a.nodes()),
+            Form::Product(a, b, _) => above(both(a.nodes(), b.nodes())),
+            Form::Min(a, b) => above(both(a.nodes(), b.nodes())),
+            Form::Max(a, b) => above(both(a.nodes(), b.nodes())),
+            Form::Imply(a, b) => above(both(a.nodes(), b.nodes())),
+            Form::CoImply(a, b) => above(both(a.nodes(), b.nodes())),
+            Form::Validate(a) => above(a.nodes()),
+            Form::CoValidate(a) => above(a.nodes()),
+            Form::Embed(g) => above(g.nodes()),
+            Form::Iverson(g) => above(g.nodes()),
+            Form::Select(g, a, b) => above(both(g.nodes(), both(a.nodes(), b.nodes()))),
+            Form::Bind(_, _, _, _, a) => above(a.nodes()),
+        }
+    }
+}
+
+impl Cond {
+    /// The number of nodes, those of formulas included; at most 2^63.
+    #[cycle(counting)]
+    pub fn nodes(&self) -> u64
+        ensures { result ≡ min (2 ^ 63) (nodes_in (cond_of self.now)) }
+    {
+        match self {
+            Cond::Const(_) => 1,
+            Cond::Var(_) => 1,
+            Cond::Not(g) => above(g.nodes()),
+            Cond::And(g, h) => above(both(g.nodes(), h.nodes())),
+            Cond::Or(g, h) => above(both(g.nodes(), h.nodes())),
+            Cond::Same(g, h) => above(both(g.nodes(), h.nodes())),
+            Cond::Le(a, b) => above(both(a.nodes(), b.nodes())),
+            Cond::Lt(a, b) => above(both(a.nodes(), b.nodes())),
+            Cond::EqNum(a, b) => above(both(a.nodes(), b.nodes())),
+            Cond::Ite(g, h, k) => above(both(g.nodes(), both(h.nodes(), k.nodes()))),
+        }
+    }
+}
+
+impl Form {
+    /// The number of nodes on the longest way down, where a leaf has depth 1; at most 2^63.
+    #[cycle(descending)]
+    pub fn depth(&self) -> u64
+        ensures { result ≡ min (2 ^ 63) (depth (form_of self.now)) }
+    {
+        match self {
+            Form::Const(_) => 1,
+            Form::Var(_) => 1,
+            Form::Sum(a, b) => above(a.depth().max(b.depth())),
+            Form::Diff(a, b) => above(a.depth().max(b.depth())),
+            Form::Cut(a, b) => above(a.depth().max(b.depth())),
+            Form::Scale(_, a) => above(a.depth()),
+            Form::Product(a, b, _) => above(a.depth().max(b.depth())),
+            Form::Min(a, b) => above(a.depth().max(b.depth())),
+            Form::Max(a, b) => above(a.depth().max(b.depth())),
+            Form::Imply(a, b) => above(a.depth().max(b.depth())),
+            Form::CoImply(a, b) => above(a.depth().max(b.depth())),
+            Form::Validate(a) => above(a.depth()),
+            Form::CoValidate(a) => above(a.depth()),
+            Form::Embed(g) => above(g.depth()),
+            Form::Iverson(g) => above(g.depth()),
+            Form::Select(g, a, b) => above(g.depth().max(a.depth().max(b.depth()))),
+            Form::Bind(_, _, _, _, a) => above(a.depth()),
+        }
+    }
+}
+
+impl Cond {
+    /// The number of nodes on the longest way down, where a leaf has depth 1; at most 2^63.
+    #[cycle(descending)]
+    pub fn depth(&self) -> u64
+        ensures { result ≡ min (2 ^ 63) (depth_in (cond_of self.now)) }
+    {
+        match self {
+            Cond::Const(_) => 1,
+            Cond::Var(_) => 1,
+            Cond::Not(g) => above(g.depth()),
+            Cond::And(g, h) => above(g.depth().max(h.depth())),
+            Cond::Or(g, h) => above(g.depth().max(h.depth())),
+            Cond::Same(g, h) => above(g.depth().max(h.depth())),
+            Cond::Le(a, b) => above(a.depth().max(b.depth())),
+            Cond::Lt(a, b) => above(a.depth().max(b.depth())),
+            Cond::EqNum(a, b) => above(a.depth().max(b.depth())),
+            Cond::Ite(g, h, k) => above(g.depth().max(h.depth().max(k.depth()))),
+        }
+    }
+}
+
+impl Term {
+    /// The number of nodes; at most 2^63.
+    pub fn nodes(&self) -> u64
+        ensures { result ≡ min (2 ^ 63) (nodes_in_term (term_of self.now)) }
+    {
+        match self {
+            Term::Truth(g) => g.nodes(),
+            Term::Num(f) => f.nodes(),
+        }
+    }
+}
+
+/// One more, at most 2^63.
+fn above(count: u64) -> u64
+    ensures { (m : _) → count ≡ min (2 ^ 63) m → result ≡ min (2 ^ 63) (1 + m) }
+{
+    if count >= MOST { MOST } else { count + 1 }
+}
+
+/// Both together, at most 2^63.
+fn both(left: u64, right: u64) -> u64
+    ensures { (m : _) (n : _) → left ≡ min (2 ^ 63) m → right ≡ min (2 ^ 63) n → result ≡ min (2 ^ 63) (m + n) }
+{
+    if left >= MOST || right >= MOST || left + right >= MOST {
+        MOST
+    } else {
+        left + right
+    }
+}

@@ -1,0 +1,3 @@
+pub mod ExactOperators
+pub mod ExactMeaning
+pub mod Laws

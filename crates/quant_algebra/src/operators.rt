@@ -1,0 +1,144 @@
+//! The operators of formulas on exact numbers. None comes where a number doesn't fit.
+
+ghost use Rattle.std.specs.Prelude.{◌≡◌, option_map};
+ghost use Rattle.heyvl_num.specs.Rational.{zeroʳ};
+ghost use Rattle.heyvl_num.specs.Value.{zeroᵛ};
+ghost use Rattle.heyvl_num.specs.Value.Value.{finite};
+ghost use Rattle.heyvl_num.specs.Extended.{value_of};
+ghost use Rattle.heyvl_num.specs.Value.{oneᵛ};
+ghost use Rattle.heylo_formula.specs.Operators.{validateᵛ, covalidateᵛ};
+ghost use Rattle.quant_algebra.specs.ExactOperators.{exact_differenceᵛ, exact_cutᵛ, exact_scaleᵛ, exact_minᵛ, exact_maxᵛ, exact_impliesᵛ, exact_coimpliesᵛ, exact_leqᵛ, exact_lessᵛ, exact_equalᵛ};
+
+use heyvl_num::{Ext, Frac};
+use std::cmp::Ordering;
+
+pub(crate) fn zero() -> Ext
+    ensures value { value_of result ≡ zeroᵛ }
+    ensures number { value_of result ≡ finite zeroʳ }
+{
+    Ext::Fin(Frac::new(0, 1).unwrap())
+}
+
+pub(crate) fn one() -> Ext
+    ensures { value_of result ≡ oneᵛ }
+{
+    Ext::Fin(Frac::new(1, 1).unwrap())
+}
+
+/// The plain difference. One with infinity has no meaning; it is 0 where the second is infinity, else infinity.
+pub(crate) fn difference(x: &Ext, y: &Ext) -> Option<Ext>
+    ensures { option_map value_of result ≡ exact_differenceᵛ (value_of x.now) (value_of y.now) }
+{
+    match (x, y) {
+        (Ext::Fin(a), Ext::Fin(b)) => Some(Ext::Fin(a.sub(b)?)),
+        (Ext::Fin(_), Ext::Inf) => Some(zero()),
+        (Ext::Inf, _) => Some(Ext::Inf),
+    }
+}
+
+/// The truncated difference.
+pub(crate) fn cut(x: &Ext, y: &Ext) -> Option<Ext>
+    ensures { option_map value_of result ≡ exact_cutᵛ (value_of x.now) (value_of y.now) }
+{
+    match x.compare(y)? {
+        Ordering::Less => Some(zero()),
+        Ordering::Equal => Some(zero()),
+        Ordering::Greater => difference(x, y),
+    }
+}
+
+pub(crate) fn scale(w: &Frac, x: &Ext) -> Option<Ext>
+    ensures { option_map value_of result ≡ exact_scaleᵛ w.now (value_of x.now) }
+{
+    Ext::Fin(*w).mul(x)
+}
+
+pub(crate) fn min(x: &Ext, y: &Ext) -> Option<Ext>
+    ensures { option_map value_of result ≡ exact_minᵛ (value_of x.now) (value_of y.now) }
+{
+    match x.compare(y)? {
+        Ordering::Less => Some(*x),
+        Ordering::Equal => Some(*x),
+        Ordering::Greater => Some(*y),
+    }
+}
+
+pub(crate) fn max(x: &Ext, y: &Ext) -> Option<Ext>
+    ensures { option_map value_of result ≡ exact_maxᵛ (value_of x.now) (value_of y.now) }
+{
+    match x.compare(y)? {
+        Ordering::Less => Some(*y),
+        Ordering::Equal => Some(*y),
+        Ordering::Greater => Some(*x),
+    }
+}
+
+/// Implication (Goedel's).
+pub(crate) fn implies(x: &Ext, y: &Ext) -> Option<Ext>
+    ensures { option_map value_of result ≡ exact_impliesᵛ (value_of x.now) (value_of y.now) }
+{
+    match x.compare(y)? {
+        Ordering::Less => Some(Ext::Inf),
+        Ordering::Equal => Some(Ext::Inf),
+        Ordering::Greater => Some(*y),
+    }
+}
+
+/// Coimplication.
+pub(crate) fn coimplies(x: &Ext, y: &Ext) -> Option<Ext>
+    ensures { option_map value_of result ≡ exact_coimpliesᵛ (value_of x.now) (value_of y.now) }
+{
+    match x.compare(y)? {
+        Ordering::Less => Some(*y),
+        Ordering::Equal => Some(zero()),
+        Ordering::Greater => Some(zero()),
+    }
+}
+
+pub(crate) fn validate(x: &Ext) -> Ext
+    ensures { value_of result ≡ validateᵛ (value_of x.now) }
+{
+    match x {
+        Ext::Fin(_) => zero(),
+        Ext::Inf => Ext::Inf,
+    }
+}
+
+pub(crate) fn covalidate(x: &Ext) -> Ext
+    ensures { value_of result ≡ covalidateᵛ (value_of x.now) }
+{
+    match x {
+        Ext::Fin(a) => if a.num() == 0 { zero() } else { Ext::Inf },
+        Ext::Inf => Ext::Inf,
+    }
+}
+
+pub(crate) fn at_most(x: &Ext, y: &Ext) -> Option<bool>
+    ensures { result ≡ exact_leqᵛ (value_of x.now) (value_of y.now) }
+{
+    match x.compare(y)? {
+        Ordering::Less => Some(true),
+        Ordering::Equal => Some(true),
+        Ordering::Greater => Some(false),
+    }
+}
+
+pub(crate) fn less(x: &Ext, y: &Ext) -> Option<bool>
+    ensures { result ≡ exact_lessᵛ (value_of x.now) (value_of y.now) }
+{
+    match x.compare(y)? {
+        Ordering::Less => Some(true),
+        Ordering::Equal => Some(false),
+        Ordering::Greater => Some(false),
+    }
+}
+
+pub(crate) fn equal(x: &Ext, y: &Ext) -> Option<bool>
+    ensures { result ≡ exact_equalᵛ (value_of x.now) (value_of y.now) }
+{
+    match x.compare(y)? {
+        Ordering::Less => Some(false),
+        Ordering::Equal => Some(true),
+        Ordering::Greater => Some(false),
+    }
+}
