@@ -1,0 +1,5 @@
+pub mod Complete
+pub mod Ends
+pub mod Fuel
+pub mod Local
+pub mod Right
