@@ -160,6 +160,34 @@ base_prefix op a s ca text rest n ((front, back, (p, hp), ha, e), es) len q =
     go prefixes.Minus m back p read place = rw read place
     go prefixes.Tilde m back p read place = rw read place
 
+-- The parts of an ite, from its end.
+abbrev Parts5 : Expression × Span → List Token → Type 0
+Parts5 = Pair (Ranked 9) (IsSign marks.ParenRight)
+
+abbrev Parts4 : Span × (Expression × Span) → List Token → Type 0
+Parts4 = Pair (IsSign marks.Comma) Parts5
+
+abbrev Parts3 : Expression × (Span × (Expression × Span)) → List Token → Type 0
+Parts3 = Pair (Ranked 9) Parts4
+
+abbrev Parts2 : Span × (Expression × (Span × (Expression × Span))) → List Token → Type 0
+Parts2 = Pair (IsSign marks.Comma) Parts3
+
+abbrev Parts1 : Expression × (Span × (Expression × (Span × (Expression × Span)))) → List Token → Type 0
+Parts1 = Pair (Ranked 9) Parts2
+
+abbrev parts4 : Reader → List Token → Read (Span × (Expression × Span))
+parts4 self = pair (expect marks.Comma) (enclosed self marks.ParenRight)
+
+abbrev parts3 : Reader → List Token → Read (Expression × (Span × (Expression × Span)))
+parts3 self = pair (self Whole) (parts4 self)
+
+abbrev parts2 : Reader → List Token → Read (Span × (Expression × (Span × (Expression × Span))))
+parts2 self = pair (expect marks.Comma) (parts3 self)
+
+abbrev parts1 : Reader → List Token → Read (Expression × (Span × (Expression × (Span × (Expression × Span)))))
+parts1 self = pair (self Whole) (parts2 self)
+
 base_choice : (a b c : Expression) (s : Span) → WholeClaim a → WholeClaim b → WholeClaim c → Base (Expression.choice a b c s)
 base_choice a b c s wa wb wc text rest n ((front, back, (p, hp), (f0, b0, (o, ho), (f1, b1, ha, (f2, b2, (x, hx), (f3, b3, hb, (f4, b4, (y, hy), (f5, b5, hc, (z, hz), e5), e4), e3), e2), e1), e0), e), es) len q =
     begin (Expression.choice a b c s) (kinds.Key keys.Ite) p text back rest n starts len (λ m le. rw (all m back rest parts le tt) (ap (λ w. Got (Expression.choice a b c w) rest) place))
@@ -175,14 +203,14 @@ base_choice a b c s wa wb wc text rest n ((front, back, (p, hp), (f0, b0, (o, ho
 
     all : (m : ℕ) → CompletesAt m Anything IsChoices (choice_parts (reading (suc m))) (o, (a, (x, (b, (y, (c, z))))))
     all m =
-        complete_pair m Anything Anything _ _ (expect marks.ParenLeft) _ o (a, (x, (b, (y, (c, z))))) (complete_expect m marks.ParenLeft o)
-        (complete_pair m (Quiet 9) Anything _ _ (reading (suc m) Whole) _ a (x, (b, (y, (c, z)))) (in_whole a wa m)
-        (complete_pair m Anything Anything _ _ (expect marks.Comma) _ x (b, (y, (c, z))) (complete_expect m marks.Comma x)
-        (complete_pair m (Quiet 9) Anything _ _ (reading (suc m) Whole) _ b (y, (c, z)) (in_whole b wb m)
-        (complete_pair m Anything Anything _ _ (expect marks.Comma) _ y (c, z) (complete_expect m marks.Comma y) (complete_enclosed marks.ParenRight refl c z wc m) (λ text rest h u. tt))
-        (λ text rest h u. ends_then marks.Comma refl (Pair (Ranked 9) (IsSign marks.ParenRight)) (y, (c, z)) text rest h))
+        complete_pair m Anything Anything (IsSign marks.ParenLeft) Parts1 (expect marks.ParenLeft) (parts1 (reading (suc m))) o (a, (x, (b, (y, (c, z))))) (complete_expect m marks.ParenLeft o)
+        (complete_pair m (Quiet 9) Anything (Ranked 9) Parts2 (reading (suc m) Whole) (parts2 (reading (suc m))) a (x, (b, (y, (c, z)))) (in_whole a wa m)
+        (complete_pair m Anything Anything (IsSign marks.Comma) Parts3 (expect marks.Comma) (parts3 (reading (suc m))) x (b, (y, (c, z))) (complete_expect m marks.Comma x)
+        (complete_pair m (Quiet 9) Anything (Ranked 9) Parts4 (reading (suc m) Whole) (parts4 (reading (suc m))) b (y, (c, z)) (in_whole b wb m)
+        (complete_pair m Anything Anything (IsSign marks.Comma) Parts5 (expect marks.Comma) (enclosed (reading (suc m)) marks.ParenRight) y (c, z) (complete_expect m marks.Comma y) (complete_enclosed marks.ParenRight refl c z wc m) (λ text rest h u. tt))
+        (λ text rest h u. ends_then marks.Comma refl Parts5 (y, (c, z)) text rest h))
         (λ text rest h u. tt))
-        (λ text rest h u. ends_then marks.Comma refl (Pair (Ranked 9) (Pair (IsSign marks.Comma) (Pair (Ranked 9) (IsSign marks.ParenRight)))) (x, (b, (y, (c, z)))) text rest h))
+        (λ text rest h u. ends_then marks.Comma refl Parts3 (x, (b, (y, (c, z)))) text rest h))
         (λ text rest h u. tt)
 
 -- How the operators group.
@@ -320,6 +348,25 @@ rank_bound : (op : BinaryOp) → (ranks op).rank ≤ 8
 rank_bound ops.Imply = omega arith
 rank_bound _ = omega arith
 
+-- What stands behind the name of a quantifier, from its end.
+abbrev Rest3 : Span × Expression → List Token → Type 0
+Rest3 = Pair (IsSign marks.Dot) (Ranked 9)
+
+abbrev Rest2 : TypeName × (Span × Expression) → List Token → Type 0
+Rest2 = Pair IsType Rest3
+
+abbrev Rest1 : Span × (TypeName × (Span × Expression)) → List Token → Type 0
+Rest1 = Pair (IsSign marks.Colon) Rest2
+
+abbrev rest3 : Reader → List Token → Read (Span × Expression)
+rest3 self = pair (expect marks.Dot) (self Whole)
+
+abbrev rest2 : Reader → List Token → Read (TypeName × (Span × Expression))
+rest2 self = pair type_name (rest3 self)
+
+abbrev rest1 : Reader → List Token → Read (Span × (TypeName × (Span × Expression)))
+rest1 self = pair (expect marks.Colon) (rest2 self)
+
 whole_bound : (up : Bool) (x : List ℕ) (t : TypeName) (a : Expression) (s : Span) → WholeClaim a → WholeClaim (Expression.bound up x t a s)
 whole_bound up x t a s wa text rest n (within, (front, back, (p, hp), (f0, b0, hx, (f1, b1, (c, hc), (f2, b2, ht, (f3, b3, (d, hd), ha, e3), e2), e1), e0), e), es) len q = rw starts (go up n refl)
   where
@@ -334,10 +381,10 @@ whole_bound up x t a s wa text rest n (within, (front, back, (p, hp), (f0, b0, h
 
     all : (m : ℕ) → CompletesAt m (Quiet 9) IsBounds (bound_parts (reading (suc m))) (x, (c, (t, (d, a))))
     all m =
-        complete_pair m Anything (Quiet 9) _ _ word _ x (c, (t, (d, a))) (complete_word m x)
-        (complete_pair m Anything (Quiet 9) _ _ (expect marks.Colon) _ c (t, (d, a)) (complete_expect m marks.Colon c)
-        (complete_pair m Anything (Quiet 9) _ _ type_name _ t (d, a) (complete_type m t)
-        (complete_pair m Anything (Quiet 9) _ _ (expect marks.Dot) _ d a (complete_expect m marks.Dot d) (in_whole a wa m) (λ text rest h u. tt))
+        complete_pair m Anything (Quiet 9) IsName Rest1 word (rest1 (reading (suc m))) x (c, (t, (d, a))) (complete_word m x)
+        (complete_pair m Anything (Quiet 9) (IsSign marks.Colon) Rest2 (expect marks.Colon) (rest2 (reading (suc m))) c (t, (d, a)) (complete_expect m marks.Colon c)
+        (complete_pair m Anything (Quiet 9) IsType Rest3 type_name (rest3 (reading (suc m))) t (d, a) (complete_type m t)
+        (complete_pair m Anything (Quiet 9) (IsSign marks.Dot) (Ranked 9) (expect marks.Dot) (reading (suc m) Whole) d a (complete_expect m marks.Dot d) (in_whole a wa m) (λ text rest h u. tt))
         (λ text rest h u. tt))
         (λ text rest h u. tt))
         (λ text rest h u. tt)

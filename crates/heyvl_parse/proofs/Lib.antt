@@ -2,4 +2,5 @@ pub mod Complete
 pub mod Ends
 pub mod Fuel
 pub mod Local
+pub mod Refusals
 pub mod Right

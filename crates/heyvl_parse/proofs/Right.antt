@@ -269,7 +269,7 @@ abbrev FoundOp : ℕ → TokenKind → Option BinaryOp → Type 0
 FoundOp k kind None = Unit {0}
 FoundOp k kind (Some op) = ((ranks op).rank ≡ k) × (kind ≡ operator op)
 
-abbrev IsOperator : TokenKind → Option BinaryOp → Type 0
+abbrev pub IsOperator : TokenKind → Option BinaryOp → Type 0
 IsOperator kind None = Unit {0}
 IsOperator kind (Some op) = kind ≡ operator op
 

@@ -1,10 +1,11 @@
 //! The parser of expressions.
 
+ghost use Rattle.heyvl_parse.specs.Parts.{IsMemory, IsPartStop, IsRead, NoOperator};
 ghost use Rattle.heyvl_parse.specs.Reading.{Full, More, Whole, bound, choice, enclosed, end_of, operand, prefixed, reach, reading, started};
 ghost use Rattle.heyvl_parse.specs.Results.{Gives};
 ghost use Rattle.heyvl_syntax.specs.declared.tokens.Token.{Token};
-ghost use Rattle.heyvl_syntax.specs.Expressions.{expression};
-ghost use Rattle.std.specs.Prelude.{IfOk, List, length, ◌<◌, ◌≡◌, ◌≤◌, ◌+◌, ℕ};
+ghost use Rattle.heyvl_syntax.specs.Expressions.{Expression, expression};
+ghost use Rattle.std.specs.Prelude.{IfErr, IfOk, List, MatchResult, length, ◌<◌, ◌≡◌, ◌≤◌, ◌+◌, ℕ};
 
 use crate::PartStop;
 use crate::operators::{operator_at, ranks, repeats};
@@ -212,8 +213,15 @@ fn choice(alloc: Global, place: Span, tokens: &[Token]) -> Result<(Expr, &[Token
     Ok((Expr::Choice(test, yes, other, reach(place, close.to)), rest))
 }
 
-/// The expression at the front, and the tokens behind it.
+/// The expression at the front, as far as it goes, and the tokens behind it. A fault is told by how many tokens are left
+/// from it on; `Memory` comes where there is no memory for the tree.
 pub fn read_expr(alloc: Global, tokens: &[Token]) -> Result<(Expr, &[Token]), PartStop>
+    // The tokens before the rest spell the tree.
+    ensures found { IfOk result (λ x. IsRead tokens.now (expression x.0) x.1.now) }
+    // What is spelled before a rest that doesn't go on with it is read, unless memory runs out.
+    ensures only { (tree : Expression) (rest : List Token) → IsRead tokens.now tree rest → NoOperator rest → MatchResult result (λ x. (expression x.0 ≡ tree) × (x.1.now ≡ rest)) IsMemory }
+    // A fault stands at the index where the tokens are refused.
+    ensures fault { IfErr result (λ e. IsPartStop tokens.now e) }
 {
     whole(alloc, tokens)
 }

@@ -2,10 +2,12 @@
 #![tactic(auto)]
 
 mod expressions;
+mod laws;
 mod operators;
 mod starts;
 mod stops;
 mod tokens;
 
 pub use expressions::read_expr;
+pub use laws::expression_is_unique;
 pub use stops::PartStop;
