@@ -1,9 +1,9 @@
 -- What the tokens spell is read, where nothing follows that would go on.
 use Rattle.heyvl_parse.proofs.Right.{IsBounds, IsChoices, IsSign, Pair, Ranked, bound_text, bracket_text, choice_text, embed_text, group_text, prefix_text, wider}
-use Rattle.heyvl_parse.specs.Reading.{Bad, Bounds, Choices, Full, Got, More, Read, Reader, Whole, after, bound_parts, bound_tree, by_kind, choice_parts, choice_tree, end_of, enclosed, expect, full, is_mark, mark_operator, more, operand, operator_at, operator_of, pair, placed, quantified, quantifier_of, reach, reading, repeats, type_name, whole, word, ◌>>=◌}
+use Rattle.heyvl_parse.specs.Reading.{Bad, Got, Read, Reader, Whole, bound_parts, by_kind, choice_parts, end_of, enclosed, expect, full, is_mark, mark_operator, more, operand, operator_at, operator_of, pair, placed, quantified, quantifier_of, reach, reading, repeats, type_name, whole, word}
 use Rattle.heyvl_syntax.specs.Expressions.{Expression}
-use Rattle.heyvl_syntax.specs.Grammar.{IsExpr, IsType, operator, prefix, quantifier_key, ranks, truth_key, type_key}
-use Rattle.heyvl_syntax.specs.Productions.{IsName, at, extent, ◌then◌}
+use Rattle.heyvl_syntax.specs.Grammar.{IsExpr, IsType, operator, prefix, quantifier_key, ranks}
+use Rattle.heyvl_syntax.specs.Productions.{IsName, at, extent}
 use Rattle.heyvl_syntax.specs.declared.keys.Key.TheVariants as keys
 use Rattle.heyvl_syntax.specs.declared.keys.Key.{Key}
 use Rattle.heyvl_syntax.specs.declared.marks.Mark.TheVariants as marks

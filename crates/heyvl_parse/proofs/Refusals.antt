@@ -92,7 +92,7 @@ part_stop (Memory error) ts f = tt
 part_stop (Fault left) ts f =
     let (r, stop, len) = f (suc (length ts)) (omega arith) in
     let in_it = part_inside ts r (suc (length ts)) stop in
-    part_fault ts (length ts - left) left (omega arith) f
+    (length ts - left, omega arith, part_fault ts (length ts - left) left (omega arith) f)
 
 read_is : (ts : List Token) (n : ℕ) (t : Expression) (rest : List Token) → reading n Whole ts ≡ Got t rest → IsRead ts t rest
 read_is ts n t rest got = go (subst (λ (x : Read Expression). Right (Ranked 9) ts x) got (right_reading n Whole ts))

@@ -1,11 +1,11 @@
 -- What reading gives is spelled by the tokens that it took, and what it took before a fault can be completed.
 use Rattle.heyvl_parse.proofs.Ends.{LastIs, last_of, last_one, last_then}
-use Rattle.heyvl_parse.specs.Reading.{Bad, Bounds, Choices, Full, Got, More, Out, Part, Read, Reader, Whole, after, bound, bound_parts, bound_tree, bracket_tree, by_kind, choice, choice_parts, choice_tree, embed_tree, enclosed, end_of, expect, full, given, group_tree, is_mark, joined, key_operator, key_quantifier, key_start, key_type, mapped, mark_operator, mark_place, mark_start, more, one, operand, operator_of, pair, placed, prefix_tree, prefixed, quantified, quantifier_of, ranked, reach, reading, repeats, started, step, type_name, type_of, whole, word, word_of, ◌>>=◌}
+use Rattle.heyvl_parse.specs.Reading.{Bad, Bounds, Choices, Full, Got, More, Out, Part, Read, Reader, Whole, after, bound_parts, bound_tree, bracket_tree, by_kind, choice_parts, choice_tree, embed_tree, enclosed, end_of, expect, full, given, group_tree, is_mark, joined, key_operator, key_start, key_type, mark_operator, mark_place, mark_start, more, one, operand, operator_of, pair, placed, prefix_tree, prefixed, quantified, quantifier_of, ranked, reach, reading, repeats, started, step, type_name, type_of, whole, word, word_of, ◌>>=◌}
 use Rattle.heyvl_parse.specs.declared.starts.Start.TheVariants as starts
 use Rattle.heyvl_parse.specs.declared.starts.Start.{Start}
 use Rattle.heyvl_syntax.specs.Expressions.{Expression}
-use Rattle.heyvl_syntax.specs.Grammar.{IsExpr, IsType, operator, prefix, quantifier_key, ranks, truth_key, type_key}
-use Rattle.heyvl_syntax.specs.Productions.{IsAt, IsKey, IsMark, IsName, at, extent, ◌then◌}
+use Rattle.heyvl_syntax.specs.Grammar.{IsExpr, IsType, operator, prefix, quantifier_key, ranks, truth_key}
+use Rattle.heyvl_syntax.specs.Productions.{IsAt, IsName, at, extent, ◌then◌}
 use Rattle.heyvl_syntax.specs.contracts.marks.Mark.{the_type as the_marks}
 use Rattle.heyvl_syntax.specs.declared.keys.Key.TheVariants as keys
 use Rattle.heyvl_syntax.specs.declared.keys.Key.{Key}
@@ -19,7 +19,6 @@ use Rattle.heyvl_syntax.specs.declared.tokens.Token.{Token}
 use Rattle.heyvl_syntax.specs.declared.tokens.TokenKind.TheVariants as kinds
 use Rattle.heyvl_syntax.specs.declared.tokens.TokenKind.{TokenKind}
 use Rattle.heyvl_syntax.specs.declared.types.TypeName.TheVariants as types
-use Rattle.heyvl_syntax.specs.declared.types.TypeName.{TypeName}
 use Rattle.std.proofs.Common.{Bool, List, None, Option, Some, [], ap, append_assoc, arith, cond, eqb, false, refl, subst, suc, sym, true, zero, ◌++◌, ◌∙◌, ◌∷◌, ◌≡◌, ◌≤◌, ℕ}
 use Rattle.std.proofs.lemmas.Bool.{eqb-true}
 use Rattle.std.proofs.lemmas.List.{append-nil}

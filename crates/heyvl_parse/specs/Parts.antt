@@ -7,7 +7,7 @@ use Rattle.heyvl_syntax.specs.Productions.{at}
 use Rattle.heyvl_syntax.specs.declared.operators.BinaryOp.{BinaryOp}
 use Rattle.heyvl_syntax.specs.declared.spans.Span.{Span}
 use Rattle.heyvl_syntax.specs.declared.tokens.Token.{Token}
-use Rattle.std.specs.Prelude.{List, length, take, ◌++◌, ◌+◌, ◌-◌, ◌∷◌, ◌≡◌, ◌≤◌, ℕ}
+use Rattle.std.specs.Prelude.{List, length, take, ◌++◌, ◌+◌, ◌∷◌, ◌≡◌, ◌≤◌, ℕ}
 
 -- Nothing at the front goes on with an expression: no operator between operands stands there. The end and every other token may
 -- stand behind an expression.
@@ -28,9 +28,10 @@ pub record IsRefusedAt (tokens : List Token) (i : ℕ) : Type 0 where
   pub completed : (more : List Token) × (tree : Expression) × IsFull tree (take i tokens ++ more)
   pub refused : (text rest : List Token) (tree : Expression) → IsFull tree text → NoOperator rest → take (i + 1) (text ++ rest) ≡ take (i + 1) tokens → ⊥
 
--- Where reading an expression stops: at the index at which it is refused, or for want of memory.
+-- Where reading an expression stops: at the index at which it is refused, told by how many tokens are left from it on, or for
+-- want of memory.
 abbrev pub IsPartStop : List Token → PartStop → Type 0
-IsPartStop tokens (Fault left) = IsRefusedAt tokens (length tokens - left)
+IsPartStop tokens (Fault left) = (i : ℕ) × (i + left ≡ length tokens) × IsRefusedAt tokens i
 IsPartStop tokens (Memory error) = Unit {0}
 
 -- Want of memory.

@@ -93,12 +93,7 @@ fn full(alloc: Global, rank: u8, tokens: &[Token]) -> Result<(Expr, &[Token]), P
 
 /// The expression of this rank that begins with this operand.
 #[cycle(expressions)]
-fn more(
-    alloc: Global,
-    rank: u8,
-    left: Expr,
-    tokens: &[Token],
-) -> Result<(Expr, &[Token]), PartStop>
+fn more(alloc: Global, rank: u8, left: Expr, tokens: &[Token]) -> Result<(Expr, &[Token]), PartStop>
     ensures value { (n : ℕ) → length tokens.now < n → Gives (λ x. expression x.0) (λ x. x.1.now) result (reading n (More rank (expression left)) tokens.now) }
     ensures shorter { IfOk result (λ x. length x.1.now ≤ length tokens.now) }
 {

@@ -1,6 +1,6 @@
 use Rattle.heyvl_parse.proofs.Fuel.{by_fuel, full_above}
 use Rattle.heyvl_parse.proofs.expressions.+expressions.Goals as goal
-use Rattle.std.proofs.Common.{arith, refl, rules, suc, sym, ◌<◌}
+use Rattle.std.proofs.Common.{arith, rules, suc, ◌<◌}
 use Rattle.std.proofs.lemmas.Grind.{common_steps}
 
 pub full-returns-in_err-first-clause-value : goal.full-returns-in_err-first-clause-value
