@@ -1,0 +1,5 @@
+use Rattle.heyvl_parse.proofs.Refusals.{unique}
+use Rattle.heyvl_parse.proofs.laws.expression_is_unique.Goals as goal
+
+pub returns : goal.returns
+returns c = unique

@@ -1,0 +1,222 @@
+//! The parser of expressions.
+
+ghost use Rattle.heyvl_parse.specs.Parts.{IsMemory, IsPartStop, IsRead, NoOperator};
+ghost use Rattle.heyvl_parse.specs.Reading.{Full, More, Whole, bound, choice, enclosed, end_of, operand, prefixed, reach, reading, started};
+ghost use Rattle.heyvl_parse.specs.Results.{Gives};
+ghost use Rattle.heyvl_syntax.specs.declared.tokens.Token.{Token};
+ghost use Rattle.heyvl_syntax.specs.Expressions.{Expression, expression};
+ghost use Rattle.std.specs.Prelude.{IfErr, IfOk, List, MatchResult, length, ◌<◌, ◌≡◌, ◌≤◌, ◌+◌, ℕ};
+
+use crate::PartStop;
+use crate::operators::{operator_at, ranks, repeats};
+use crate::starts::{Start, key_start, mark_start, quantifier_at};
+use crate::tokens::{expect, next, type_name, word};
+use heyvl_syntax::{Expr, Mark, Span, Token, TokenKind, UnaryOp};
+use std::alloc::Global;
+
+/// The rank of e1, above which only quantifiers stand.
+const LOOSEST: u8 = 8;
+
+/// From the first byte of a place to an end.
+fn reach(start: Span, end: u32) -> Span
+    ensures { result ≡ reach start end }
+{
+    Span {
+        from: start.from,
+        to: end,
+    }
+}
+
+/// The end of the last token of an expression.
+fn end_of(expr: &Expr) -> u32
+    ensures { result ≡ end_of (expression expr.now) }
+{
+    match expr {
+        Expr::Number(_, span) => span.to,
+        Expr::Truth(_, span) => span.to,
+        Expr::Infinity(span) => span.to,
+        Expr::Name(_, span) => span.to,
+        Expr::Group(_, span) => span.to,
+        Expr::Bracket(_, span) => span.to,
+        Expr::Embed(_, span) => span.to,
+        Expr::Unary(_, _, span) => span.to,
+        Expr::Binary(_, _, right, _) => end_of(right),
+        Expr::Choice(_, _, _, span) => span.to,
+        Expr::Bound(_, _, _, _, span) => span.to,
+    }
+}
+
+/// The expression at the front, and the tokens behind it.
+#[cycle(expressions)]
+fn whole(alloc: Global, tokens: &[Token]) -> Result<(Expr, &[Token]), PartStop>
+    ensures value { (n : ℕ) → length tokens.now < n → Gives (λ x. expression x.0) (λ x. x.1.now) result (reading n Whole tokens.now) }
+    ensures shorter { IfOk result (λ x. length x.1.now < length tokens.now) }
+{
+    match quantifier_at(tokens) {
+        None => full(alloc, LOOSEST, tokens),
+        Some((up, place, rest)) => bound(alloc, up, place, rest),
+    }
+}
+
+/// What stands behind a quantifier.
+#[cycle(expressions)]
+fn bound(
+    alloc: Global,
+    up: bool,
+    place: Span,
+    tokens: &[Token],
+) -> Result<(Expr, &[Token]), PartStop>
+    ensures value { (n : ℕ) → length tokens.now < n → Gives (λ x. expression x.0) (λ x. x.1.now) result (bound (reading n) up place tokens.now) }
+    ensures shorter { IfOk result (λ x. length x.1.now < length tokens.now) }
+{
+    let (name, rest) = word(alloc, tokens)?;
+    let (_, rest) = expect(Mark::Colon, rest)?;
+    let (ty, rest) = type_name(rest)?;
+    let (_, rest) = expect(Mark::Dot, rest)?;
+    let (inner, rest) = whole(alloc, rest)?;
+    let place = reach(place, end_of(&inner));
+    Ok((Expr::Bound(up, name, ty, inner.boxed(alloc)?, place), rest))
+}
+
+/// An expression of at most this rank without quantifiers in front.
+#[cycle(expressions)]
+fn full(alloc: Global, rank: u8, tokens: &[Token]) -> Result<(Expr, &[Token]), PartStop>
+    ensures value { (n : ℕ) → length tokens.now < n → Gives (λ x. expression x.0) (λ x. x.1.now) result (reading n (Full rank) tokens.now) }
+    ensures shorter { IfOk result (λ x. length x.1.now < length tokens.now) }
+{
+    if rank == 0 {
+        return operand(alloc, tokens);
+    }
+    let (first, rest) = full(alloc, rank - 1, tokens)?;
+    more(alloc, rank, first, rest)
+}
+
+/// The expression of this rank that begins with this operand.
+#[cycle(expressions)]
+fn more(alloc: Global, rank: u8, left: Expr, tokens: &[Token]) -> Result<(Expr, &[Token]), PartStop>
+    ensures value { (n : ℕ) → length tokens.now < n → Gives (λ x. expression x.0) (λ x. x.1.now) result (reading n (More rank (expression left)) tokens.now) }
+    ensures shorter { IfOk result (λ x. length x.1.now ≤ length tokens.now) }
+{
+    match operator_at(rank, tokens) {
+        None => Ok((left, tokens)),
+        Some((op, place, rest)) => {
+            let (right, rest) = full(alloc, ranks(op).right, rest)?;
+            let left = left.boxed(alloc)?;
+            let both = Expr::Binary(op, left, right.boxed(alloc)?, place);
+            if repeats(op) {
+                more(alloc, rank, both, rest)
+            } else {
+                Ok((both, rest))
+            }
+        }
+    }
+}
+
+/// An operand of a prefix operator, or an atom.
+#[cycle(expressions)]
+fn operand(alloc: Global, tokens: &[Token]) -> Result<(Expr, &[Token]), PartStop>
+    ensures value { (n : ℕ) → length tokens.now < n → Gives (λ x. expression x.0) (λ x. x.1.now) result (reading n (Full 0) tokens.now) }
+    ensures shorter { IfOk result (λ x. length x.1.now < length tokens.now) }
+{
+    let (token, rest) = next(tokens)?;
+    match &token.kind {
+        TokenKind::Word(name) => Ok((Expr::Name(name.copy(alloc)?, token.span), rest)),
+        TokenKind::Number(number) => Ok((Expr::Number(*number, token.span), rest)),
+        TokenKind::Key(key) => started(alloc, key_start(*key), token.span, rest),
+        TokenKind::Mark(mark) => started(alloc, mark_start(*mark), token.span, rest),
+    }
+}
+
+/// What stands behind the key or mark at this place.
+#[cycle(expressions)]
+fn started(
+    alloc: Global,
+    start: Start,
+    place: Span,
+    tokens: &[Token],
+) -> Result<(Expr, &[Token]), PartStop>
+    ensures value { (n : ℕ) → length tokens.now < n → (all : List Token) → length all ≡ length tokens.now + 1 → Gives (λ x. expression x.0) (λ x. x.1.now) result (started (reading n) start place tokens.now all) }
+    ensures shorter { IfOk result (λ x. length x.1.now ≤ length tokens.now) }
+{
+    match start {
+        Start::Truth(truth) => Ok((Expr::Truth(truth, place), tokens)),
+        Start::Infinity => Ok((Expr::Infinity(place), tokens)),
+        Start::Group => {
+            let (inner, close, rest) = enclosed(alloc, Mark::ParenRight, tokens)?;
+            Ok((Expr::Group(inner, reach(place, close.to)), rest))
+        }
+        Start::Bracket => {
+            let (inner, close, rest) = enclosed(alloc, Mark::BracketRight, tokens)?;
+            Ok((Expr::Bracket(inner, reach(place, close.to)), rest))
+        }
+        Start::Embed => {
+            let (_, rest) = expect(Mark::ParenLeft, tokens)?;
+            let (inner, close, rest) = enclosed(alloc, Mark::ParenRight, rest)?;
+            Ok((Expr::Embed(inner, reach(place, close.to)), rest))
+        }
+        Start::Prefix(op) => prefixed(alloc, op, place, tokens),
+        Start::Choice => choice(alloc, place, tokens),
+        Start::Other => Err(PartStop::Fault(tokens.len() + 1)),
+    }
+}
+
+/// An expression, the place of the mark that closes it, and the tokens behind that.
+#[cycle(expressions)]
+fn enclosed(
+    alloc: Global,
+    close: Mark,
+    tokens: &[Token],
+) -> Result<(Box<Expr>, Span, &[Token]), PartStop>
+    ensures value { (n : ℕ) → length tokens.now < n → Gives (λ x. (expression x.0.value, x.1)) (λ x. x.2.now) result (enclosed (reading n) close tokens.now) }
+    ensures shorter { IfOk result (λ x. length x.2.now < length tokens.now) }
+{
+    let (inner, rest) = whole(alloc, tokens)?;
+    let (place, rest) = expect(close, rest)?;
+    Ok((inner.boxed(alloc)?, place, rest))
+}
+
+/// The operand of the prefix operator at this place.
+#[cycle(expressions)]
+fn prefixed(
+    alloc: Global,
+    op: UnaryOp,
+    place: Span,
+    tokens: &[Token],
+) -> Result<(Expr, &[Token]), PartStop>
+    ensures value { (n : ℕ) → length tokens.now < n → Gives (λ x. expression x.0) (λ x. x.1.now) result (prefixed (reading n) op place tokens.now) }
+    ensures shorter { IfOk result (λ x. length x.1.now < length tokens.now) }
+{
+    let (inner, rest) = full(alloc, 0, tokens)?;
+    let place = reach(place, end_of(&inner));
+    Ok((Expr::Unary(op, inner.boxed(alloc)?, place), rest))
+}
+
+/// The parts of the `ite` at this place.
+#[cycle(expressions)]
+fn choice(alloc: Global, place: Span, tokens: &[Token]) -> Result<(Expr, &[Token]), PartStop>
+    ensures value { (n : ℕ) → length tokens.now < n → Gives (λ x. expression x.0) (λ x. x.1.now) result (choice (reading n) place tokens.now) }
+    ensures shorter { IfOk result (λ x. length x.1.now < length tokens.now) }
+{
+    let (_, rest) = expect(Mark::ParenLeft, tokens)?;
+    let (test, rest) = whole(alloc, rest)?;
+    let (_, rest) = expect(Mark::Comma, rest)?;
+    let (yes, rest) = whole(alloc, rest)?;
+    let (_, rest) = expect(Mark::Comma, rest)?;
+    let (other, close, rest) = enclosed(alloc, Mark::ParenRight, rest)?;
+    let test = test.boxed(alloc)?;
+    let yes = yes.boxed(alloc)?;
+    Ok((Expr::Choice(test, yes, other, reach(place, close.to)), rest))
+}
+
+/// The expression at the front, as far as it goes, and the tokens behind it. A fault is told by how many tokens are left
+/// from it on; `Memory` comes where there is no memory for the tree.
+pub fn read_expr(alloc: Global, tokens: &[Token]) -> Result<(Expr, &[Token]), PartStop>
+    // The tokens before the rest spell the tree.
+    ensures found { IfOk result (λ x. IsRead tokens.now (expression x.0) x.1.now) }
+    // What is spelled before a rest that doesn't go on with it is read, unless memory runs out.
+    ensures only { (tree : Expression) (rest : List Token) → IsRead tokens.now tree rest → NoOperator rest → MatchResult result (λ x. (expression x.0 ≡ tree) × (x.1.now ≡ rest)) IsMemory }
+    // A fault stands at the index where the tokens are refused.
+    ensures fault { IfErr result (λ e. IsPartStop tokens.now e) }
+{
+    whole(alloc, tokens)
+}

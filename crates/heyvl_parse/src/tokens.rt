@@ -1,0 +1,90 @@
+//! Ways to take the token at the front of others.
+
+ghost use Rattle.heyvl_parse.specs.Reading.{expect, is_mark, next, type_name, type_of, word};
+ghost use Rattle.heyvl_parse.specs.Results.{Gives};
+ghost use Rattle.std.specs.Prelude.{IfOk, length, ◌+◌, ◌<◌, ◌≡◌};
+
+use crate::PartStop;
+use heyvl_syntax::{Key, Mark, Name, Span, Token, TokenKind, TypeName};
+use std::alloc::Global;
+
+/// The token at the front, and the tokens behind it.
+pub(crate) fn next(tokens: &[Token]) -> Result<(&Token, &[Token]), PartStop>
+    ensures value { Gives (λ x. x.0.now) (λ x. x.1.now) result (next tokens.now) }
+    ensures shorter { IfOk result (λ x. length tokens.now ≡ length x.1.now + 1) }
+{
+    match tokens.split_first() {
+        None => Err(PartStop::Fault(0)),
+        Some((token, rest)) => Ok((token, rest)),
+    }
+}
+
+fn is_mark(mark: Mark, kind: &TokenKind) -> bool
+    ensures { result ≡ is_mark mark kind.now }
+{
+    match kind {
+        TokenKind::Mark(found) => *found == mark,
+        TokenKind::Word(_) => false,
+        TokenKind::Number(_) => false,
+        TokenKind::Key(_) => false,
+    }
+}
+
+/// The place of this mark, which has to stand at the front, and the tokens behind it.
+pub(crate) fn expect(mark: Mark, tokens: &[Token]) -> Result<(Span, &[Token]), PartStop>
+    ensures value { Gives (λ x. x.0) (λ x. x.1.now) result (expect mark tokens.now) }
+    ensures shorter { IfOk result (λ x. length x.1.now < length tokens.now) }
+{
+    let (token, rest) = next(tokens)?;
+    if is_mark(mark, &token.kind) {
+        Ok((token.span, rest))
+    } else {
+        Err(PartStop::Fault(tokens.len()))
+    }
+}
+
+/// The word at the front, and the tokens behind it.
+pub(crate) fn word(alloc: Global, tokens: &[Token]) -> Result<(Name, &[Token]), PartStop>
+    ensures value { Gives (λ x. x.0) (λ x. x.1.now) result (word tokens.now) }
+    ensures shorter { IfOk result (λ x. length x.1.now < length tokens.now) }
+{
+    let (token, rest) = next(tokens)?;
+    match &token.kind {
+        TokenKind::Word(name) => Ok((name.copy(alloc)?, rest)),
+        TokenKind::Number(_) => Err(PartStop::Fault(tokens.len())),
+        TokenKind::Key(_) => Err(PartStop::Fault(tokens.len())),
+        TokenKind::Mark(_) => Err(PartStop::Fault(tokens.len())),
+    }
+}
+
+/// The type that a token names.
+fn type_of(kind: &TokenKind) -> Option<TypeName>
+    ensures { result ≡ type_of kind.now }
+{
+    match kind {
+        TokenKind::Key(key) => match key {
+            Key::BoolWord => Some(TypeName::Bool),
+            Key::IntWord => Some(TypeName::Int),
+            Key::UIntWord => Some(TypeName::UInt),
+            Key::URealWord => Some(TypeName::UReal),
+            Key::EURealWord => Some(TypeName::EUReal),
+            Key::RealWord => Some(TypeName::Real),
+            _ => None,
+        },
+        TokenKind::Word(_) => None,
+        TokenKind::Number(_) => None,
+        TokenKind::Mark(_) => None,
+    }
+}
+
+/// The type at the front, and the tokens behind it.
+pub(crate) fn type_name(tokens: &[Token]) -> Result<(TypeName, &[Token]), PartStop>
+    ensures value { Gives (λ x. x.0) (λ x. x.1.now) result (type_name tokens.now) }
+    ensures shorter { IfOk result (λ x. length x.1.now < length tokens.now) }
+{
+    let (token, rest) = next(tokens)?;
+    match type_of(&token.kind) {
+        Some(ty) => Ok((ty, rest)),
+        None => Err(PartStop::Fault(tokens.len())),
+    }
+}
