@@ -9,7 +9,8 @@ use Rattle.std.specs.Ordering.{int_cmp}
 use Rattle.std.specs.declared.cmp.Ordering.{Ordering}
 use Rattle.std.proofs.lemmas.Int.{ints, to_z-of_z, fits_signed_from_abs}
 use Rattle.heyvl_num.specs.Rational.{Rational, ratio, ◌+ʳ◌, ◌-ʳ◌, ◌*ʳ◌, compareʳ}
-use Rattle.heyvl_num.specs.Exact.{is_small, is_zero, quotient, quotient_fits, exact_quotient, sum_fits, exact_sum, difference_fits, exact_difference, product_fits, exact_product, order_fits, exact_order}
+use Rattle.heyvl_num.specs.Value.{is_zero_num}
+use Rattle.heyvl_num.specs.Exact.{is_small, quotient, quotient_fits, exact_quotient, sum_fits, exact_sum, difference_fits, exact_difference, product_fits, exact_product, order_fits, exact_order}
 use Rattle.heyvl_num.proofs.Rationals.{difference_parts}
 
 untrue : (b : Bool) → ¬ (IsTrue b) → b ≡ false
@@ -173,7 +174,7 @@ two_parts : (a b : Bool) → (a && b) ≡ true → IsTrue a × IsTrue b
 two_parts true b h = (refl, h)
 two_parts false b h = absurd (cc)
 
-nonzero : (b : ℤ) → not (is_zero b) ≡ true → b ≡ pos 0 → ⊥
+nonzero : (b : ℤ) → not (is_zero_num b) ≡ true → b ≡ pos 0 → ⊥
 nonzero (pos zero) h e = absurd (cc)
 nonzero (pos (suc n)) h e = absurd (omega (arith, ints))
 nonzero (negsuc n) h e = absurd (omega (arith, ints))
@@ -193,8 +194,8 @@ given a b r f g e t =
     let p = to_z-of_z w128 a f in
     let q = to_z-of_z w128 b g in
     let k : quotient_fits a b ≡ true = subst (λ (u : ℤ). quotient_fits u b ≡ true) p (subst (λ (v : ℤ). quotient_fits (to_z w128 (of_z w128 a)) v ≡ true) q (sym e ∙ t)) in
-    let h = two_parts (not (is_zero b) && is_small a) (is_small b) k in
-    let s = two_parts (not (is_zero b)) (is_small a) h.0 in
+    let h = two_parts (not (is_zero_num b) && is_small a) (is_small b) k in
+    let s = two_parts (not (is_zero_num b)) (is_small a) h.0 in
     record { num = below a s.1; den = below b h.1; nonzero = nonzero b s.0; fits = k; num_seen = p; den_seen = q }
 
 pub quotient_refused : (a b : ℤ) (r : Bool) → FitsSigned w128 a → FitsSigned w128 b → r ≡ quotient_fits (to_z w128 (of_z w128 a)) (to_z w128 (of_z w128 b)) → r ≡ false → exact_quotient a b ≡ None

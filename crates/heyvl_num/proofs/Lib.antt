@@ -1,10 +1,12 @@
 pub mod Integers
 pub mod Rationals
 pub mod Values
-pub mod Reducing
-pub mod Fitting
+mod Reducing
+mod Fitting
 pub mod Roundings
 pub mod Signs
 pub mod WeightedSums
 pub mod ValueOperators
+pub mod Exactness
 pub mod Uses
+mod Examples

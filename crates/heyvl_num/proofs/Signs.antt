@@ -1,6 +1,6 @@
 -- Differences and signs of fractions, their order under positive factors, middles, and what a comparison says.
 -- To import: `use Rattle.heyvl_num.proofs.Signs.{signs}`, or `using(heyvl_num::proofs::Signs::signs)`: negations go inward.
-use Rattle.std.proofs.Common.{◌≡◌, ℕ, ◌<◌, ◌↔◌, refl, sym, ap, ap₂, ◌∙◌, subst, arith, Bool, true, false}
+use Rattle.std.proofs.Common.{◌≡◌, ℕ, ◌<◌, ◌↔◌, ◌⊎◌, inl, inr, refl, sym, ap, ap₂, ◌∙◌, subst, arith, Bool, true, false}
 use Rattle.std.specs.Prelude.{◌<ℤ◌}
 use Rattle.std.specs.Int.Signed.{le_z}
 use Rattle.std.specs.Cmp.{int_ranks}
@@ -13,7 +13,7 @@ use borrow.Author.Differences.{ints}
 use Rattle.heyvl_num.specs.Rational.{Rational, ratio, zeroʳ, oneʳ, halfʳ, middleʳ, ◌+ʳ◌, ◌*ʳ◌, ◌-ʳ◌, negʳ, leqʳ, ◌≤ʳ◌, ◌<ʳ◌, compareʳ}
 use Rattle.heyvl_num.specs.Rounding.{whole}
 use Rattle.heyvl_num.proofs.Integers.{neg-*ℤ, one-*ℤ, *ℤ-one, zero_times}
-use Rattle.heyvl_num.proofs.Rationals.{each_ratio, ratio_same, ratio-+, ratio-*, ratio-neg, same_cross, ratio_nonnegative, +ʳ_comm, +ʳ_assoc, *ʳ_comm, *ʳ_assoc, *ʳ-+ʳ, +ʳ-*ʳ, zero-+ʳ, +ʳ-zero, zero-*ʳ, one-*ʳ, ≤ʳ_refl, +ʳ_mono, *ʳ_mono, *ʳ_nonnegative}
+use Rattle.heyvl_num.proofs.Rationals.{each_ratio, ratio_same, ratio-+, ratio-*, ratio-neg, same_cross, ratio_nonnegative, +ʳ_comm, +ʳ_assoc, *ʳ_comm, *ʳ_assoc, *ʳ-+ʳ, +ʳ-*ʳ, zero-+ʳ, +ʳ-zero, zero-*ʳ, one-*ʳ, ≤ʳ_refl, ≤ʳ_total, +ʳ_mono, *ʳ_mono, *ʳ_nonnegative}
 
 cancelled : (a b : ℤ) → (a *ℤ b +ℤ neg_ℤ a *ℤ b) *ℤ pos 1 ≡ pos 0 *ℤ (b *ℤ b)
 cancelled a b = rw (neg-*ℤ a b, zero_times (b *ℤ b), *ℤ-one) (omega (arith, ints))
@@ -163,6 +163,18 @@ middle_above x y h = record { holds = not_true _ (λ k. let l : middleʳ x y ≤
 
 pub middle_below : (x y : Rational) → x <ʳ y → middleʳ x y <ʳ y
 middle_below x y h = record { holds = not_true _ (λ k. let l : y ≤ʳ middleʳ x y = record { holds = k } in let m : y +ʳ y ≤ʳ x +ʳ y = subst (λ u. y +ʳ y ≤ʳ u) (twice_middle x y) (+ʳ_mono y (middleʳ x y) y (middleʳ x y) l l) in clash (leqʳ y x) (≤ʳ-+ʳ_cancel y x y m).holds h.holds) }
+
+less_case : (x y : Rational) → (x ≤ʳ y) ⊎ (y ≤ʳ x) → leqʳ y x ≡ false → x ≤ʳ y
+less_case x y (inl h) e = h
+less_case x y (inr h) e = absurd (clash (leqʳ y x) h.holds e)
+
+-- what is less is at most
+pub <ʳ-≤ʳ : (x y : Rational) → x <ʳ y → x ≤ʳ y
+<ʳ-≤ʳ x y h = less_case x y (≤ʳ_total x y) h.holds
+
+-- what is less isn't at least
+pub <ʳ-not : (x y : Rational) → x <ʳ y → y ≤ʳ x → ⊥
+<ʳ-not x y h k = clash (leqʳ y x) k.holds h.holds
 
 -- ---- Comparisons
 

@@ -3,17 +3,20 @@
 -- Both rule sets serve `simp`, `search`, `grind` and `using(..)`.
 -- Sums and products are associative and commutative for all values. A product distributes over a sum where the factor is
 -- finite, or where the parts of the sum are nonnegative (infinity times 1 - 1 is 0, and infinity plus infinity isn't).
-use Rattle.std.proofs.Common.{◌≡◌, ◌⊎◌, inl, inr, refl, sym, ap, ◌∙◌, subst, arith, Bool, true, false, ◌&&◌, ◌||◌}
+use Rattle.std.proofs.Common.{◌≡◌, ◌⊎◌, ◌↔◌, inl, inr, refl, sym, ap, ◌∙◌, subst, arith, Bool, true, false, ◌&&◌, ◌||◌}
 use Rattle.std.specs.Prelude.{◌<◌, ◌≤ℤ◌}
 use Rattle.std.proofs.Math.IntN.{ℤ, pos, negsuc, ◌+ℤ◌, ◌*ℤ◌}
+use Rattle.std.specs.Ordering.{MatchOrdering}
+use Rattle.std.specs.declared.cmp.Ordering.{Ordering}
+use Rattle.std.specs.declared.cmp.Ordering.TheVariants.{Less, Equal, Greater}
 use Prim.Native.Nat.{suc, zero, ℕ}
 use borrow.Author.Differences.{ints}
 use Rattle.std.proofs.Math.Nat.{mul-pos}
-use Rattle.heyvl_num.specs.Rational.{Rational, ratio, zeroʳ, oneʳ, halfʳ, ◌+ʳ◌, ◌*ʳ◌, ◌≤ʳ◌}
-use Rattle.heyvl_num.specs.Value.{Value, zeroᵛ, oneᵛ, is_zero_num, is_zeroʳ, ◌+ᵛ◌, infinite_times, ◌*ᵛ◌, leqᵛ, ◌≤ᵛ◌}
+use Rattle.heyvl_num.specs.Rational.{Rational, ratio, zeroʳ, oneʳ, halfʳ, ◌+ʳ◌, ◌*ʳ◌, ◌≤ʳ◌, ◌<ʳ◌, compareʳ}
+use Rattle.heyvl_num.specs.Value.{Value, zeroᵛ, oneᵛ, is_zero_num, is_zeroʳ, ◌+ᵛ◌, infinite_times, ◌*ᵛ◌, leqᵛ, ◌≤ᵛ◌, ◌<ᵛ◌, compareᵛ}
 use Rattle.heyvl_num.specs.Value.Value.{finite, infinite}
 use Rattle.heyvl_num.proofs.Integers.{zero_times}
-use Rattle.heyvl_num.proofs.Signs.{halves}
+use Rattle.heyvl_num.proofs.Signs.{halves, compareʳ-is, ≤ʳ-+ʳ_cancel}
 use Rattle.heyvl_num.proofs.Rationals.{ratio_nonnegative, ratio_cross, ratio_same, ratio_parts, nonnegative_num, +ʳ_comm, *ʳ_comm, +ʳ_assoc, *ʳ_assoc, *ʳ-+ʳ, zero-+ʳ, +ʳ-zero, zero-*ʳ, *ʳ-zero, one-*ʳ, ≤ʳ_refl, ≤ʳ_trans, ≤ʳ_antisym, ≤ʳ_total, +ʳ_mono, *ʳ_mono, zero-≤ʳ-one}
 
 -- ---- Which fractions are 0
@@ -330,6 +333,62 @@ half_nonnegative = ratio_nonnegative (pos 1) 2 (omega arith) (omega (arith, ints
 -- two halves make the whole, infinity too
 pub half-half : (x : Value) → (finite halfʳ *ᵛ x) +ᵛ (finite halfʳ *ᵛ x) ≡ x
 half-half x = sym (weights-* halfʳ halfʳ x half_nonnegative half_nonnegative) ∙ ap (λ w. finite w *ᵛ x) halves ∙ unit_times x
+
+-- ---- Strict order, comparisons and finite terms
+
+less_finite : (x y : Rational) → x <ʳ y → finite x <ᵛ finite y
+unfolding leqᵛ
+less_finite x y h = record { holds = h.holds }
+
+finite_below_infinite : (x : Rational) → finite x <ᵛ infinite
+unfolding leqᵛ
+finite_below_infinite x = record { holds = refl }
+
+ranked : (o : Ordering) {A B C A' B' C' : Type 0} → (A → A') → (B → B') → (C → C') → MatchOrdering o A B C → MatchOrdering o A' B' C'
+ranked Less f g h m = f m
+ranked Equal f g h m = g m
+ranked Greater f g h m = h m
+
+-- less, equal or greater
+pub compareᵛ-is : (x y : Value) → MatchOrdering (compareᵛ x y) (x <ᵛ y) (x ≡ y) (y <ᵛ x)
+compareᵛ-is (finite x) (finite y) = ranked (compareʳ x y) (less_finite x y) (λ e. ap finite e) (less_finite y x) (compareʳ-is x y)
+compareᵛ-is (finite x) infinite = finite_below_infinite x
+compareᵛ-is infinite (finite y) = finite_below_infinite y
+compareᵛ-is infinite infinite = refl
+
+less_case : (x y : Value) → (x ≤ᵛ y) ⊎ (y ≤ᵛ x) → leqᵛ y x ≡ false → x ≤ᵛ y
+less_case x y (inl h) e = h
+less_case x y (inr h) e = absurd (let k = h.holds in cc)
+
+-- what is less is at most
+pub <ᵛ-≤ᵛ : (x y : Value) → x <ᵛ y → x ≤ᵛ y
+<ᵛ-≤ᵛ x y h = less_case x y (≤ᵛ_total x y) h.holds
+
+-- what is less isn't at least
+pub <ᵛ-not : (x y : Value) → x <ᵛ y → y ≤ᵛ x → ⊥
+<ᵛ-not x y h k = let e = h.holds in let f = k.holds in cc
+
+order_test : (x y : Value) (b : Bool) → leqᵛ x y ≡ b → (x ≤ᵛ y) ⊎ (y <ᵛ x)
+order_test x y true e = inl (record { holds = e })
+order_test x y false e = inr (record { holds = e })
+
+pub at_most_or_less : (x y : Value) → (x ≤ᵛ y) ⊎ (y <ᵛ x)
+at_most_or_less x y = order_test x y (leqᵛ x y) refl
+
+finite_cancel : (x y : Value) (z : Rational) → x +ᵛ finite z ≤ᵛ y +ᵛ finite z → x ≤ᵛ y
+unfolding ◌+ᵛ◌
+finite_cancel (finite x) (finite y) z h = order_finite x y (≤ʳ-+ʳ_cancel x y z (finite_order (x +ʳ z) (y +ʳ z) h))
+finite_cancel x infinite z h = ≤ᵛ_infinite x
+finite_cancel infinite (finite y) z h = absurd (infinite_above (y +ʳ z) h)
+
+-- a finite term on both sides doesn't matter to the order
+pub finite_terms : (x y : Value) (z : Rational) → (x ≤ᵛ y) ↔ (x +ᵛ finite z ≤ᵛ y +ᵛ finite z)
+finite_terms x y z = (λ h. +ᵛ_mono x y (finite z) (finite z) h (≤ᵛ_refl (finite z)), finite_cancel x y z)
+
+-- a weight that isn't 0 keeps infinity
+pub scale-infinite : (w : Rational) → is_zeroʳ w ≡ false → finite w *ᵛ infinite ≡ infinite
+unfolding ◌*ᵛ◌ infinite_times
+scale-infinite w e = rw e
 
 pub ruleset semiring = (finite_sum, finite_product, zero-+ᵛ, +ᵛ-zero, zero-*ᵛ, *ᵛ-zero, one-*ᵛ, *ᵛ-one, scale-+ᵛ, +ᵛ-scale, *ᵛ-+ᵛ, +ᵛ-*ᵛ, *ᵛ_assoc, *ᵛ_comm, *ᵛ_left_comm, +ᵛ_assoc, +ᵛ_comm, +ᵛ_left_comm)
 

@@ -1,8 +1,10 @@
 -- What the code's calls give: the exact result, or None exactly where a whole number that it is computed from is too large.
--- The bound is on the products as they are, before they are reduced to lowest terms.
-use Rattle.std.specs.Prelude.{◌^◌, ℤ, pos, negsuc, ◌+ℤ◌, ◌-ℤ◌, ◌*ℤ◌, neg_ℤ, unsigned_abs, nat_lt, Bool, true, false, not, ◌&&◌, Option, Some, None, if◌then◌else◌}
+-- The bound is on the products as they are, before they are reduced to lowest terms. This project's own: the code's parts
+-- have 127 bits and a sign.
+use Rattle.std.specs.Prelude.{◌^◌, ℤ, pos, negsuc, ◌+ℤ◌, ◌-ℤ◌, ◌*ℤ◌, neg_ℤ, unsigned_abs, nat_lt, Bool, not, ◌&&◌, Option, Some, None, if◌then◌else◌}
 use Rattle.std.specs.declared.cmp.Ordering.{Ordering}
-use Prim.Native.Nat.{suc, zero}
+use Prim.Native.Nat.{suc}
+use Rattle.heyvl_num.specs.Value.{is_zero_num}
 use Rattle.heyvl_num.specs.Rational.{Rational, ratio, ◌+ʳ◌, ◌*ʳ◌, ◌-ʳ◌, compareʳ}
 
 -- Below 2^127 in absolute value. The only i128 that isn't is the least one.
@@ -14,14 +16,9 @@ unfoldable pub quotient : ℤ → ℤ → Rational
 quotient a (pos b) = ratio a b
 quotient a (negsuc b) = ratio (neg_ℤ a) (suc b)
 
-abbrev pub is_zero : ℤ → Bool
-is_zero (pos zero) = true
-is_zero (pos (suc n)) = false
-is_zero (negsuc n) = false
-
 -- The denominator isn't 0, and both parts are small.
 unfoldable pub quotient_fits : ℤ → ℤ → Bool
-quotient_fits num den = not (is_zero den) && is_small num && is_small den
+quotient_fits num den = not (is_zero_num den) && is_small num && is_small den
 
 -- The fraction num/den, or None where it doesn't fit.
 unfoldable pub exact_quotient : ℤ → ℤ → Option Rational

@@ -1,5 +1,5 @@
--- Exact fractions of whole numbers, kept in lowest terms, so that two fractions are equal exactly where their cross
--- products agree.
+-- Exact fractions of whole numbers. They are kept in lowest terms, so that two fractions are equal exactly where their
+-- cross products agree; sums, products and the order are those of the cross products too.
 use Rattle.std.specs.Prelude.{◌≡◌, ℕ, ◌*◌, ◌/◌, ◌<◌, ℤ, pos, negsuc, ◌+ℤ◌, ◌*ℤ◌, Bool, true, false}
 use Rattle.std.specs.Int.RustNames.{int_div, unsigned_abs}
 use Rattle.std.specs.Int.Signed.{le_z}
@@ -32,11 +32,19 @@ pub abs_div : (a : ℤ) (g : ℕ) → unsigned_abs (int_div a (pos g)) ≡ unsig
 abs_div (pos n) g = refl
 abs_div (negsuc n) g = abs_neg (suc n / g)
 
--- The fraction of two whole numbers; 0 where the denominator is 0.
+pub quotients_lowest : (a : ℤ) (d : ℕ) → gcd (unsigned_abs (int_div a (pos (gcd (unsigned_abs a) (suc d))))) (suc d / gcd (unsigned_abs a) (suc d)) ≡ 1
+quotients_lowest a d = ap (λ x. gcd x (suc d / gcd (unsigned_abs a) (suc d))) (abs_div a (gcd (unsigned_abs a) (suc d))) ∙ gcd-quotients (unsigned_abs a) (suc d) (zero-lt-suc d)
+
+-- The fraction a/b of two whole numbers: both divided by their greatest common divisor. It is 0 where b is 0.
 unfoldable pub ratio : ℤ → ℕ → Rational
 unfolding gcd gcd_steps
 ratio a zero = record { num = pos 0; den = 1; positive = zero-lt-suc 0; lowest = refl }
-ratio a (suc d) = record { num = int_div a (pos (gcd (unsigned_abs a) (suc d))); den = suc d / gcd (unsigned_abs a) (suc d); positive = quotient_den-pos (unsigned_abs a) (suc d) (zero-lt-suc d); lowest = ap (λ x. gcd x (suc d / gcd (unsigned_abs a) (suc d))) (abs_div a (gcd (unsigned_abs a) (suc d))) ∙ gcd-quotients (unsigned_abs a) (suc d) (zero-lt-suc d) }
+ratio a (suc d) = record {
+  num = int_div a (pos (gcd (unsigned_abs a) (suc d)));
+  den = suc d / gcd (unsigned_abs a) (suc d);
+  positive = quotient_den-pos (unsigned_abs a) (suc d) (zero-lt-suc d);
+  lowest = quotients_lowest a d;
+}
 
 unfoldable pub zeroʳ : Rational
 zeroʳ = ratio (pos 0) 1
@@ -52,30 +60,33 @@ x +ʳ y = ratio (x.num *ℤ pos y.den +ℤ y.num *ℤ pos x.den) (x.den * y.den)
 unfoldable pub ◌*ʳ◌ : Rational → Rational → Rational
 x *ʳ y = ratio (x.num *ℤ y.num) (x.den * y.den)
 
+-- -(a/b) = (-a)/b
 unfoldable pub negʳ : Rational → Rational
 negʳ x = ratio (neg_ℤ x.num) x.den
 
+-- a/b - c/d = a/b + (-c)/d
 unfoldable pub ◌-ʳ◌ : Rational → Rational → Rational
 x -ʳ y = x +ʳ negʳ y
 
--- a/b is at most c/d where a*d is at most c*b.
+-- Whether a/b is at most c/d: whether a*d is at most c*b.
 unfoldable pub leqʳ : Rational → Rational → Bool
 leqʳ x y = le_z (x.num *ℤ pos y.den) (y.num *ℤ pos x.den)
 
+-- x is at most y.
 pub record ◌≤ʳ◌ (x y : Rational) : Type 0 where
   pub holds : leqʳ x y ≡ true
 
--- a/b is less than c/d where c/d isn't at most a/b.
+-- x is less than y: y isn't at most x.
 pub record ◌<ʳ◌ (x y : Rational) : Type 0 where
   pub holds : leqʳ y x ≡ false
 
 unfoldable pub halfʳ : Rational
 halfʳ = ratio (pos 1) 2
 
--- The middle of two fractions.
+-- The fraction halfway between two.
 unfoldable pub middleʳ : Rational → Rational → Rational
 middleʳ x y = halfʳ *ʳ (x +ʳ y)
 
--- How the first compares with the second, by their cross products.
+-- How a/b compares with c/d: as a*d with c*b.
 unfoldable pub compareʳ : Rational → Rational → Ordering
 compareʳ x y = int_cmp (x.num *ℤ pos y.den) (y.num *ℤ pos x.den)

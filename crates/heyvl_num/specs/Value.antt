@@ -1,4 +1,6 @@
--- Values: a fraction, or infinity. They are what formulas mean, and what rewards, posts and sums over runs are made of.
+-- Values: exact fractions and infinity. They are what formulas mean, and what rewards, posts and sums over runs are made of.
+-- Source: the quantities of HeyLo (Schroeer, Batz, Kaminski, Katoen, Matheja, OOPSLA 2023), with fractions in place of reals,
+-- and negative fractions for the values of type Int. No program makes a negative fraction meet infinity.
 use Rattle.std.specs.Prelude.{◌≡◌, Bool, true, false, ℤ, pos, negsuc}
 use Prim.Native.Nat.{zero, suc}
 use Rattle.std.specs.declared.cmp.Ordering.{Ordering}
@@ -6,8 +8,10 @@ use Rattle.std.specs.declared.cmp.Ordering.TheVariants.{Less, Equal, Greater}
 use Rattle.heyvl_num.specs.Rational.{Rational, ◌+ʳ◌, ◌*ʳ◌, zeroʳ, oneʳ, leqʳ, compareʳ}
 
 infix 4 ◌≤ᵛ◌
+infix 4 ◌<ᵛ◌
 infixl 6 ◌+ᵛ◌
 infixl 7 ◌*ᵛ◌
+-- A fraction, or infinity.
 pub data Value : Type 0 where
   finite : Rational → Value
   infinite : Value
@@ -18,15 +22,17 @@ zeroᵛ = finite zeroʳ
 unfoldable pub oneᵛ : Value
 oneᵛ = finite oneʳ
 
+-- Whether a whole number is 0.
 abbrev pub is_zero_num : ℤ → Bool
 is_zero_num (pos zero) = true
 is_zero_num (pos (suc n)) = false
 is_zero_num (negsuc n) = false
 
+-- Whether a fraction is 0.
 unfoldable pub is_zeroʳ : Rational → Bool
 is_zeroʳ x = is_zero_num x.num
 
--- A sum with infinity is infinity.
+-- The sum. With infinity it is infinity.
 unfoldable pub ◌+ᵛ◌ : Value → Value → Value
 finite x +ᵛ finite y = finite (x +ʳ y)
 finite x +ᵛ infinite = infinite
@@ -38,24 +44,29 @@ unfoldable pub infinite_times : Bool → Value
 infinite_times true = zeroᵛ
 infinite_times false = infinite
 
--- 0 times infinity is 0.
+-- The product. 0 times infinity is 0.
 unfoldable pub ◌*ᵛ◌ : Value → Value → Value
 finite x *ᵛ finite y = finite (x *ʳ y)
 finite x *ᵛ infinite = infinite_times (is_zeroʳ x)
 infinite *ᵛ finite y = infinite_times (is_zeroʳ y)
 infinite *ᵛ infinite = infinite
 
--- Everything is at most infinity.
+-- Whether x is at most y. Everything is at most infinity.
 unfoldable pub leqᵛ : Value → Value → Bool
 leqᵛ (finite x) (finite y) = leqʳ x y
 leqᵛ (finite x) infinite = true
 leqᵛ infinite (finite y) = false
 leqᵛ infinite infinite = true
 
+-- x is at most y.
 pub record ◌≤ᵛ◌ (x y : Value) : Type 0 where
   pub holds : leqᵛ x y ≡ true
 
--- How the first compares with the second.
+-- x is less than y: y isn't at most x.
+pub record ◌<ᵛ◌ (x y : Value) : Type 0 where
+  pub holds : leqᵛ y x ≡ false
+
+-- How x compares with y.
 abbrev pub compareᵛ : Value → Value → Ordering
 compareᵛ (finite x) (finite y) = compareʳ x y
 compareᵛ (finite x) infinite = Less

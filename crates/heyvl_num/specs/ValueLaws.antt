@@ -1,7 +1,8 @@
 -- The laws of values: their arithmetic, their order, their operators and their weighted sums.
 use Rattle.std.specs.Prelude.{◌≡◌, ◌↔◌, ◌⊎◌, ℕ, List, ◌++◌}
+use Rattle.std.specs.Ordering.{MatchOrdering}
 use Rattle.heyvl_num.specs.Rational.{Rational, zeroʳ, oneʳ, halfʳ, ◌+ʳ◌, ◌*ʳ◌, ◌≤ʳ◌, ◌<ʳ◌}
-use Rattle.heyvl_num.specs.Value.{Value, zeroᵛ, oneᵛ, ◌+ᵛ◌, ◌*ᵛ◌, ◌≤ᵛ◌}
+use Rattle.heyvl_num.specs.Value.{Value, zeroᵛ, oneᵛ, ◌+ᵛ◌, ◌*ᵛ◌, ◌≤ᵛ◌, ◌<ᵛ◌, compareᵛ}
 use Rattle.heyvl_num.specs.Value.Value.{finite, infinite}
 use Rattle.heyvl_num.specs.ValueOperators.{minᵛ, maxᵛ, impliesᵛ, coimpliesᵛ, monusᵛ}
 use Rattle.heyvl_num.specs.WeightedSums.{weighted_sum, total_weight, scaled, joined, IsWeighted}
@@ -70,6 +71,14 @@ WeightsMonotone = (w : Rational) (x y : Value) → zeroʳ ≤ʳ w → x ≤ᵛ y
 
 abbrev pub ProductsMonotone : Type 0
 ProductsMonotone = (x x' y y' : Value) → zeroᵛ ≤ᵛ x → zeroᵛ ≤ᵛ y → x ≤ᵛ x' → y ≤ᵛ y' → x *ᵛ y ≤ᵛ x' *ᵛ y'
+
+-- A comparison tells which is less, or that the two are equal.
+abbrev pub ValuesCompared : Type 0
+ValuesCompared = (x y : Value) → MatchOrdering (compareᵛ x y) (x <ᵛ y) (x ≡ y) (y <ᵛ x)
+
+-- A sum with a finite value keeps the order, both ways.
+abbrev pub FiniteTermsCancel : Type 0
+FiniteTermsCancel = (x y : Value) (z : Rational) → (x ≤ᵛ y) ↔ (x +ᵛ finite z ≤ᵛ y +ᵛ finite z)
 
 -- ---- The operators
 

@@ -9,7 +9,7 @@ use crate::fractions::Frac;
 use std::cmp::Ordering;
 
 /// A fraction, or infinity.
-#[derive(Clone, Copy, Debug)]
+#[derive(Clone, Copy, Debug, PartialEq, Eq)]
 pub enum Ext {
     Fin(Frac),
     Inf,

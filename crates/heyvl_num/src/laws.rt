@@ -72,6 +72,8 @@ pub fn order_of_values()
     ensures sums { value.SumsMonotone }
     ensures weights { value.WeightsMonotone }
     ensures products { value.ProductsMonotone }
+    ensures finite_terms { value.FiniteTermsCancel }
+    ensures compared { value.ValuesCompared }
 {}
 
 /// Minimum, maximum, the implications and the truncated difference, each by what it is the best of.

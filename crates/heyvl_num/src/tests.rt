@@ -44,133 +44,86 @@ fn makes_fractions(rt: HostRuntime) {
     }
 }
 
+// Each table has a/b, c/d and what their operation gives. 2^127 - 1 is the last number that fits, on both sides; -2^127 is
+// an i128, and too large all the same.
+
 #[test]
-fn computes_exactly_or_not_at_all(rt: HostRuntime) {
-    // a/b, c/d, and then their sum, difference, product and order
-    let table: [(
-        i128,
-        i128,
-        i128,
-        i128,
-        Parts,
-        Parts,
-        Parts,
-        Option<Ordering>,
-    ); 12] = [
-        (
-            1,
-            2,
-            1,
-            3,
-            Some((5, 6)),
-            Some((1, 6)),
-            Some((1, 6)),
-            Some(Greater),
-        ),
-        (
-            -1,
-            2,
-            1,
-            3,
-            Some((-1, 6)),
-            Some((-5, 6)),
-            Some((-1, 6)),
-            Some(Less),
-        ),
-        (
-            1,
-            2,
-            -1,
-            2,
-            Some((0, 1)),
-            Some((1, 1)),
-            Some((-1, 4)),
-            Some(Greater),
-        ),
-        (
-            6,
-            -4,
-            -3,
-            2,
-            Some((-3, 1)),
-            Some((0, 1)),
-            Some((9, 4)),
-            Some(Equal),
-        ),
-        (
-            1,
-            6,
-            1,
-            10,
-            Some((4, 15)),
-            Some((1, 15)),
-            Some((1, 60)),
-            Some(Greater),
-        ),
-        // 2^127 - 1 is the last number that fits, on both sides
-        (
-            TOP,
-            1,
-            0,
-            1,
-            Some((TOP, 1)),
-            Some((TOP, 1)),
-            Some((0, 1)),
-            Some(Greater),
-        ),
-        (
-            TOP,
-            1,
-            1,
-            1,
-            None,
-            Some((TOP - 1, 1)),
-            Some((TOP, 1)),
-            Some(Greater),
-        ),
-        (
-            -TOP,
-            1,
-            1,
-            1,
-            Some((-TOP + 1, 1)),
-            None,
-            Some((-TOP, 1)),
-            Some(Less),
-        ),
-        (
-            1,
-            TOP,
-            1,
-            1,
-            None,
-            Some((-TOP + 1, TOP)),
-            Some((1, TOP)),
-            Some(Less),
-        ),
-        // the product is 1, but 2 * (2^127 - 1) doesn't fit
-        (TOP, 2, 2, TOP, None, None, None, None),
-        // the product is 2; 2^64 * 2^63 doesn't fit
-        (TWO_64, 1, 1, TWO_63, None, None, Some((2, 1)), None),
-        // -2^127 is an i128, and too large all the same
-        (
-            -TWO_64,
-            1,
-            TWO_63,
-            1,
-            Some((-TWO_63, 1)),
-            Some((-27670116110564327424, 1)),
-            None,
-            Some(Less),
-        ),
+fn adds_exactly_or_not_at_all(rt: HostRuntime) {
+    let table: [(i128, i128, i128, i128, Parts); 10] = [
+        (1, 2, 1, 3, Some((5, 6))),
+        (1, 6, 1, 10, Some((4, 15))),
+        (-1, 2, 1, 3, Some((-1, 6))),
+        (1, 2, -1, 2, Some((0, 1))),
+        (6, -4, -3, 2, Some((-3, 1))),
+        (TOP, 1, 0, 1, Some((TOP, 1))),
+        (TOP, 1, 1, 1, None),
+        (-TOP, 1, -1, 1, None),
+        (1, TOP, 1, 1, None),
+        // the sum is above 2^64 by little, but 2^64 * 2^63 doesn't fit
+        (TWO_64, 1, 1, TWO_63, None),
     ];
-    for (a, b, c, d, sum, difference, product, order) in table {
+    for (a, b, c, d, want) in table {
         let x = Frac::new(a, b).expect(&rt, "the first is a fraction");
         let y = Frac::new(c, d).expect(&rt, "the second is a fraction");
-        assert_eq!(rt; parts(x.add(&y)), sum, "{a}/{b} + {c}/{d}");
-        assert_eq!(rt; parts(x.sub(&y)), difference, "{a}/{b} - {c}/{d}");
-        assert_eq!(rt; parts(x.mul(&y)), product, "{a}/{b} * {c}/{d}");
-        assert_eq!(rt; x.compare(&y), order, "{a}/{b} and {c}/{d}");
+        assert_eq!(rt; parts(x.add(&y)), want, "{a}/{b} + {c}/{d}");
+    }
+}
+
+#[test]
+fn subtracts_exactly_or_not_at_all(rt: HostRuntime) {
+    let table: [(i128, i128, i128, i128, Parts); 8] = [
+        (1, 2, 1, 3, Some((1, 6))),
+        (1, 6, 1, 10, Some((1, 15))),
+        (-1, 2, 1, 3, Some((-5, 6))),
+        (6, -4, -3, 2, Some((0, 1))),
+        (TOP, 1, 1, 1, Some((TOP - 1, 1))),
+        (-TOP, 1, 1, 1, None),
+        (1, TOP, 1, 1, Some((-TOP + 1, TOP))),
+        (TOP, 2, 2, TOP, None),
+    ];
+    for (a, b, c, d, want) in table {
+        let x = Frac::new(a, b).expect(&rt, "the first is a fraction");
+        let y = Frac::new(c, d).expect(&rt, "the second is a fraction");
+        assert_eq!(rt; parts(x.sub(&y)), want, "{a}/{b} - {c}/{d}");
+    }
+}
+
+#[test]
+fn multiplies_exactly_or_not_at_all(rt: HostRuntime) {
+    let table: [(i128, i128, i128, i128, Parts); 8] = [
+        (1, 2, 1, 3, Some((1, 6))),
+        (1, 2, -1, 2, Some((-1, 4))),
+        (6, -4, -3, 2, Some((9, 4))),
+        (TOP, 1, 0, 1, Some((0, 1))),
+        (-TOP, 1, 1, 1, Some((-TOP, 1))),
+        // the product is 1, but 2 * (2^127 - 1) doesn't fit
+        (TOP, 2, 2, TOP, None),
+        (TWO_64, 1, 1, TWO_63, Some((2, 1))),
+        (-TWO_64, 1, TWO_63, 1, None),
+    ];
+    for (a, b, c, d, want) in table {
+        let x = Frac::new(a, b).expect(&rt, "the first is a fraction");
+        let y = Frac::new(c, d).expect(&rt, "the second is a fraction");
+        assert_eq!(rt; parts(x.mul(&y)), want, "{a}/{b} * {c}/{d}");
+    }
+}
+
+#[test]
+fn compares_exactly_or_not_at_all(rt: HostRuntime) {
+    let table: [(i128, i128, i128, i128, Option<Ordering>); 8] = [
+        (1, 2, 1, 3, Some(Greater)),
+        (-1, 2, 1, 3, Some(Less)),
+        (-1, 2, -1, 3, Some(Less)),
+        (6, -4, -3, 2, Some(Equal)),
+        (TOP, 1, -TOP, 1, Some(Greater)),
+        (1, TOP, 1, 1, Some(Less)),
+        (TOP, 2, 2, TOP, None),
+        (-TWO_64, 1, 1, TWO_63, None),
+    ];
+    for (a, b, c, d, want) in table {
+        let x = Frac::new(a, b).expect(&rt, "the first is a fraction");
+        let y = Frac::new(c, d).expect(&rt, "the second is a fraction");
+        assert_eq!(rt; x.compare(&y), want, "{a}/{b} and {c}/{d}");
     }
 }
 
@@ -215,21 +168,28 @@ fn finds_greatest_divisors(rt: HostRuntime) {
     }
 }
 
+/// The parts of a finite number, and None for infinity.
+fn extended_parts(number: &Option<Ext>) -> Option<Parts> {
+    match number {
+        Some(Ext::Fin(fraction)) => Some(Some((fraction.num(), fraction.den()))),
+        Some(Ext::Inf) => Some(None),
+        None => None,
+    }
+}
+
 #[test]
 fn extends_by_infinity(rt: HostRuntime) {
     let zero = Ext::Fin(Frac::new(0, 1).expect(&rt, "0"));
     let half = Ext::Fin(Frac::new(1, 2).expect(&rt, "1/2"));
     let top = Ext::Fin(Frac::new(TOP, 1).expect(&rt, "2^127 - 1"));
-    assert!(rt; matches!(half.add(&Ext::Inf), Some(Ext::Inf)));
-    assert!(rt; matches!(Ext::Inf.add(&top), Some(Ext::Inf)));
-    assert!(rt; matches!(top.add(&half), None));
-    assert!(rt; matches!(Ext::Inf.mul(&half), Some(Ext::Inf)));
-    assert!(rt; matches!(Ext::Inf.mul(&Ext::Inf), Some(Ext::Inf)));
-    assert!(rt; matches!(zero.mul(&Ext::Inf), Some(Ext::Fin(x)) if x.num() == 0));
-    assert!(rt; matches!(Ext::Inf.mul(&zero), Some(Ext::Fin(x)) if x.num() == 0));
-    assert!(rt; matches!(top.mul(&top), None));
-    assert_eq!(rt; half.compare(&Ext::Inf), Some(Less));
-    assert_eq!(rt; Ext::Inf.compare(&top), Some(Greater));
-    assert_eq!(rt; Ext::Inf.compare(&Ext::Inf), Some(Equal));
+    assert_eq!(rt; extended_parts(&zero.add(&half)), Some(Some((1, 2))));
+    assert_eq!(rt; extended_parts(&top.add(&half)), None);
+    assert_eq!(rt; extended_parts(&half.add(&Ext::Inf)), Some(None));
+    assert_eq!(rt; extended_parts(&half.mul(&half)), Some(Some((1, 4))));
+    assert_eq!(rt; extended_parts(&top.mul(&top)), None);
+    assert_eq!(rt; extended_parts(&Ext::Inf.mul(&half)), Some(None));
+    assert_eq!(rt; extended_parts(&zero.mul(&Ext::Inf)), Some(Some((0, 1))));
     assert_eq!(rt; zero.compare(&half), Some(Less));
+    assert_eq!(rt; top.compare(&Ext::Inf), Some(Less));
+    assert_eq!(rt; Ext::Inf.compare(&Ext::Inf), Some(Equal));
 }

@@ -1,16 +1,46 @@
-//! Places, names, literals, tokens and the lexer of HeyVL.
+//! Places, names, literals, tokens, the lexer and the syntax trees of HeyVL.
 #![tactic(auto)]
 
+mod bytes;
+mod comments;
+#[cfg(test)]
+mod copy_tests;
+mod expressions;
+mod fronts;
 mod keys;
+mod laws;
+mod lexer;
 mod literals;
 mod marks;
 mod names;
+mod operators;
+mod places;
+mod procedures;
 mod spans;
+mod statements;
+mod stops;
+#[cfg(test)]
+mod tests;
 mod tokens;
+mod trees;
+mod types;
 
+pub use expressions::Expr;
 pub use keys::Key;
+pub use laws::{
+    faults_are_unique, tokens_are_few, tokens_are_unique, tokens_exclude_faults, tokens_or_fault,
+    tokens_stand_in_order,
+};
+pub use lexer::lex;
 pub use literals::Lit;
 pub use marks::Mark;
 pub use names::Name;
+pub use operators::{BinaryOp, UnaryOp};
+pub use places::{Place, place_at};
+pub use procedures::{File, Note, Param, Proc};
 pub use spans::Span;
+pub use statements::{Arm, CheckKind, Right, Rule, Stmt};
+pub use stops::LexStop;
 pub use tokens::{Token, TokenKind};
+pub use trees::{expressions_are_plain, statements_are_plain};
+pub use types::TypeName;

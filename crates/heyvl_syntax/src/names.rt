@@ -27,10 +27,28 @@ impl Name {
         })
     }
 
+    /// A name of its own that is equal to this one.
+    pub fn copy(&self, alloc: Global) -> Result<Name, AllocError>
+        ensures { IfOk result (λ copied. copied ≡ self.now) }
+    {
+        Name::new(alloc, self.as_bytes())
+    }
+
     /// The bytes of the name.
     pub fn as_bytes(&self) -> &[u8]
         ensures { result.now ≡ self.now }
     {
         self.bytes.as_slice()
+    }
+
+    /// Copies of these names, in their order.
+    pub fn copy_all(alloc: Global, all: &[Name]) -> Result<Vec<Name>, AllocError>
+        ensures { IfOk result (λ copied. copied.items ≡ all.now) }
+    {
+        let mut copied = Vec::with_capacity(alloc, all.len())?;
+        for one in all {
+            copied.push(one.copy(alloc)?)?;
+        }
+        Ok(copied)
     }
 }

@@ -1,5 +1,5 @@
 -- What a program does: acts, lists of acts, and the arms of an if.
-use Rattle.std.specs.Prelude.{ℕ, List, [], ◌∷◌, cond}
+use Rattle.std.specs.Prelude.{ℕ, List, cond}
 use Rattle.heyvl_num.specs.Rational.{Rational}
 use Rattle.heyvl_tool.specs.Formula.{Cond, Form, Term, holds}
 use Rattle.heyvl_tool.specs.State.{State}

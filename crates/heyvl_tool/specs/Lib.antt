@@ -1,6 +1,8 @@
 pub mod Procedure
 pub mod Grammar
 pub mod Limits
+pub mod Reading
+pub mod Unique
 pub mod State
 pub mod Formula
 pub mod Acts
@@ -9,4 +11,13 @@ pub mod Runs
 pub mod Sums
 pub mod Bound
 pub mod Meaning
+pub mod Expectation
+pub mod Numbering
+pub mod Room
 pub mod Verdict
+pub mod Report
+pub mod Words
+pub mod Files
+pub mod Replies
+pub mod Responses
+pub mod Headline

@@ -1,15 +1,14 @@
 -- The program that a procedure of the first form means.
-use Rattle.std.specs.Prelude.{ℕ, Bool, true, false, List, [], ◌∷◌, length, pos}
+use Rattle.std.specs.Prelude.{true, false, List, [], ◌∷◌, length, pos}
 use Rattle.heyvl_num.specs.Rational.{Rational, ratio, oneʳ, ◌-ʳ◌}
 use Rattle.heyvl_num.specs.Value.Value.{finite}
 use Rattle.heyvl_tool.specs.declared.first_form.Constant.{Constant}
 use Rattle.heyvl_tool.specs.declared.first_form.Constant.TheVariants.{Whole, Quotient}
 use Rattle.heyvl_tool.specs.Procedure.{Statement, Block, Procedure}
-use Rattle.heyvl_tool.specs.Formula.{Cond, Form, Term}
 use Rattle.heyvl_tool.specs.Formula.Cond.{constant, variable}
 use Rattle.heyvl_tool.specs.Formula.Form.{number, iverson}
 use Rattle.heyvl_tool.specs.Formula.Term.{truth}
-use Rattle.heyvl_tool.specs.Acts.{Act, Acts, Arms, Part}
+use Rattle.heyvl_tool.specs.Acts.{Act, Acts, Part}
 use Rattle.heyvl_tool.specs.Acts.Act.{set, draw, reward, ifs}
 use Rattle.heyvl_tool.specs.Acts.Acts.{done, next}
 use Rattle.heyvl_tool.specs.Acts.Arms.{no_arm, arm}

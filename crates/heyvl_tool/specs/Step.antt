@@ -1,5 +1,5 @@
 -- One step of a configuration: the operational reading of a program.
-use Rattle.std.specs.Prelude.{ℕ, Bool, List, [], ◌∷◌}
+use Rattle.std.specs.Prelude.{ℕ, List, [], ◌∷◌}
 use Rattle.heyvl_num.specs.Rational.{Rational, oneʳ}
 use Rattle.heyvl_num.specs.Value.{Value, ◌+ᵛ◌}
 use Rattle.heyvl_tool.specs.State.{State, put}

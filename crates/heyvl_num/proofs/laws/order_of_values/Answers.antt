@@ -1,4 +1,4 @@
-use Rattle.heyvl_num.proofs.Values.{≤ᵛ_refl, ≤ᵛ_trans, ≤ᵛ_antisym, ≤ᵛ_total, ≤ᵛ_infinite, +ᵛ_mono, scale_mono, *ᵛ_mono}
+use Rattle.heyvl_num.proofs.Values.{≤ᵛ_refl, ≤ᵛ_trans, ≤ᵛ_antisym, ≤ᵛ_total, ≤ᵛ_infinite, +ᵛ_mono, scale_mono, *ᵛ_mono, finite_terms, compareᵛ-is}
 use Rattle.heyvl_num.proofs.laws.order_of_values.Goals as goal
 
 pub returns : goal.returns
@@ -11,4 +11,6 @@ returns c = record {
   sums = +ᵛ_mono;
   weights = scale_mono;
   products = *ᵛ_mono;
+  finite_terms = finite_terms;
+  compared = compareᵛ-is;
 }

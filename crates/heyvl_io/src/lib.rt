@@ -1,0 +1,29 @@
+//! The outside: where bytes are read from and written to, in memory and for real.
+#![tactic(auto)]
+
+mod failures;
+mod file_sources;
+mod files;
+mod mem_sinks;
+mod mem_sources;
+mod orders;
+mod reading;
+mod sinks;
+mod sources;
+mod stdout_sinks;
+mod sure_sources;
+#[cfg(test)]
+mod tests;
+mod writing;
+
+pub use failures::Failed;
+pub use file_sources::FileSource;
+pub use mem_sinks::MemSink;
+pub use mem_sources::MemSource;
+pub use orders::names_in_order;
+pub use reading::{ReadStop, read_all};
+pub use sinks::Sink;
+pub use sources::Source;
+pub use stdout_sinks::StdoutSink;
+pub use sure_sources::SureSource;
+pub use writing::{Cut, write_all};

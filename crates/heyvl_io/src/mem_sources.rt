@@ -1,0 +1,136 @@
+ghost use Rattle.std.specs.Prelude.{◌≡◌, ◌⊎◌, ◌+◌, ◌<◌, ◌≤◌, ◌↔◌, length, min, Contains, IfOk, OnErr, OnOk, IsErr, Some, None};
+ghost use Rattle.heyvl_io.specs.Bytes.{HandsOut};
+ghost use Rattle.heyvl_io.specs.Faults.{Rose, next_count, faults_after};
+ghost use Rattle.heyvl_io.specs.Files.{names_of, held_bytes, started_bytes, rest_at, numbered_order};
+ghost use Rattle.heyvl_io.specs.Order.{order_after};
+
+use crate::files::{bytes_at, copy_front, next_order, place_of};
+use crate::{Failed, Source};
+
+/// Named texts in memory, of which calls fail by a list. Of equal names the first counts.
+#[derive(Drop)]
+pub struct MemSource {
+    /// The names and their bytes.
+    pub files: Vec<(String, Vec<u8>)>,
+    /// The most bytes that one read gives, at least 1.
+    pub most: usize,
+    /// The numbers of the calls that fail.
+    pub fail: Vec<u64>,
+    /// The number of the next call, counted from 0 over starts and reads. At its last value it stands still.
+    pub calls: u64,
+    /// How many calls failed. At its last value it stands still.
+    pub faults: u64,
+    /// The place of the started name among the files.
+    pub started: Option<usize>,
+    /// How many of its bytes were read.
+    pub place: usize,
+    /// How many starts there were, where they were of the first names, in their order and once each.
+    pub order: Option<usize>,
+    pub ghost gives_some: { 0 < most },
+    pub ghost within: { place ≤ length (started_bytes files.items started) },
+}
+
+impl MemSource {
+    /// A source that nothing was read from. A read gives at most `most` bytes, and the calls of these numbers fail.
+    pub fn new(files: Vec<(String, Vec<u8>)>, most: usize, fail: Vec<u64>) -> Self
+        requires { 0 < most }
+        ensures files { result.files ≡ files }
+        ensures most { result.most ≡ most }
+        ensures fail { result.fail ≡ fail }
+        ensures calls { result.calls ≡ 0 }
+        ensures faults { result.faults ≡ 0 }
+        ensures started { result.started ≡ None }
+        ensures place { result.place ≡ 0 }
+        ensures order { result.order ≡ Some 0 }
+    {
+        MemSource {
+            files,
+            most,
+            fail,
+            calls: 0,
+            faults: 0,
+            started: None,
+            place: 0,
+            order: Some(0),
+        }
+    }
+}
+
+impl Source for MemSource {
+    ghost names = { λ s. names_of s.files.items };
+
+    ghost holds = { λ s. held_bytes s.files.items };
+
+    ghost left = { λ s. Some (rest_at s.files.items s.started s.place) };
+
+    ghost order = { λ s. numbered_order s.order };
+
+    ghost taken = { λ s. s.place };
+
+    ghost faults = { λ s. s.faults };
+
+    /// Fails if its number is in the list, or where there is no such name.
+    #[tactic(auto, using(crate::proofs::Held::held_at))]
+    fn start(&mut self, name: &str) -> Result<(), Failed>
+        ensures fails { IsErr result ↔
+            (Contains self.old.fail.items self.old.calls ⊎ (held_bytes self.old.files.items name.now ≡ None)) }
+        ensures left { OnOk result (Some (rest_at self.new.files.items self.new.started self.new.place)
+            ≡ held_bytes self.old.files.items name.now) }
+        ensures nothing { OnErr result (self.new.started ≡ None) }
+        ensures place { self.new.place ≡ 0 }
+        ensures order { numbered_order self.new.order
+            ≡ order_after (names_of self.old.files.items) name.now (numbered_order self.old.order) }
+
+        ensures files { self.new.files ≡ self.old.files }
+        ensures most { self.new.most ≡ self.old.most }
+        ensures fail { self.new.fail ≡ self.old.fail }
+        ensures calls { self.new.calls ≡ next_count self.old.calls }
+        ensures faults { self.new.faults ≡ faults_after result self.old.faults }
+        ensures failed { OnErr result (Rose self.old.faults self.new.faults) }
+    {
+        let fails = self.fail.contains(&self.calls);
+        self.calls = self.calls.saturating_add(1);
+        self.order = next_order(&self.files, self.order, name);
+        self.place = 0;
+        self.started = place_of(&self.files, name);
+        if fails || self.started.is_none() {
+            self.started = None;
+            self.faults = self.faults.saturating_add(1);
+            return Err(Failed);
+        }
+        Ok(())
+    }
+
+    /// Fails if its number is in the list.
+    fn read(&mut self, into: &mut [u8]) -> Result<usize, Failed>
+        requires { 0 < length into.old }
+        ensures fails { IsErr result ↔ Contains self.old.fail.items self.old.calls }
+        ensures number { IfOk result (λ n. n ≡ min (min
+            (length (rest_at self.old.files.items self.old.started self.old.place)) (length into.old)) self.old.most) }
+        ensures bytes { IfOk result (λ n. HandsOut
+            (Some (rest_at self.old.files.items self.old.started self.old.place))
+            (Some (rest_at self.new.files.items self.new.started self.new.place)) into.new n) }
+        ensures place { IfOk result (λ n. self.new.place ≡ self.old.place + n) }
+        ensures kept { OnErr result (self.new.place ≡ self.old.place) }
+        ensures started { self.new.started ≡ self.old.started }
+        ensures order { self.new.order ≡ self.old.order }
+
+        ensures files { self.new.files ≡ self.old.files }
+        ensures most { self.new.most ≡ self.old.most }
+        ensures fail { self.new.fail ≡ self.old.fail }
+        ensures calls { self.new.calls ≡ next_count self.old.calls }
+        ensures faults { self.new.faults ≡ faults_after result self.old.faults }
+        ensures failed { OnErr result (Rose self.old.faults self.new.faults) }
+    {
+        let fails = self.fail.contains(&self.calls);
+        self.calls = self.calls.saturating_add(1);
+        if fails {
+            self.faults = self.faults.saturating_add(1);
+            return Err(Failed);
+        }
+        let bytes = bytes_at(&self.files, self.started);
+        let count = copy_front(&bytes[self.place..], into, self.most);
+        self.place += count;
+        Ok(count)
+    }
+}

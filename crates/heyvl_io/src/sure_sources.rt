@@ -1,0 +1,89 @@
+ghost use Rattle.std.specs.Prelude.{◌≡◌, ◌+◌, ◌<◌, ◌≤◌, [], length, min, unwrap_or, IfOk, IsOk, Some, None};
+ghost use Rattle.heyvl_io.specs.Bytes.{HandsOut};
+ghost use Rattle.heyvl_io.specs.Files.{names_of, held_bytes, started_bytes, rest_at};
+ghost use Rattle.heyvl_io.specs.Order.{untold};
+
+use crate::files::{bytes_at, copy_front, place_of};
+use crate::{Failed, Source};
+
+/// Named texts in memory, of which no call fails. A name that isn't there holds no bytes. Of equal names the first counts.
+#[derive(Drop)]
+pub struct SureSource {
+    /// The names and their bytes.
+    pub files: Vec<(String, Vec<u8>)>,
+    /// The most bytes that one read gives, at least 1.
+    pub most: usize,
+    /// The place of the started name among the files.
+    pub started: Option<usize>,
+    /// How many of its bytes were read.
+    pub place: usize,
+    pub ghost gives_some: { 0 < most },
+    pub ghost within: { place ≤ length (started_bytes files.items started) },
+}
+
+impl SureSource {
+    /// A source that nothing was read from. A read gives at most `most` bytes.
+    pub fn new(files: Vec<(String, Vec<u8>)>, most: usize) -> Self
+        requires { 0 < most }
+        ensures files { result.files ≡ files }
+        ensures most { result.most ≡ most }
+        ensures started { result.started ≡ None }
+        ensures place { result.place ≡ 0 }
+    {
+        SureSource {
+            files,
+            most,
+            started: None,
+            place: 0,
+        }
+    }
+}
+
+impl Source for SureSource {
+    ghost names = { λ s. names_of s.files.items };
+
+    ghost holds = { λ s name. Some (unwrap_or (held_bytes s.files.items name) []) };
+
+    ghost left = { λ s. Some (rest_at s.files.items s.started s.place) };
+
+    ghost order = { λ _. untold };
+
+    ghost taken = { λ s. s.place };
+
+    ghost faults = { λ _. 0 };
+
+    #[tactic(auto, using(crate::proofs::Held::held_at))]
+    fn start(&mut self, name: &str) -> Result<(), Failed>
+        ensures ok { IsOk result }
+        ensures left { rest_at self.new.files.items self.new.started self.new.place
+            ≡ unwrap_or (held_bytes self.old.files.items name.now) [] }
+        ensures place { self.new.place ≡ 0 }
+
+        ensures files { self.new.files ≡ self.old.files }
+        ensures most { self.new.most ≡ self.old.most }
+    {
+        self.place = 0;
+        self.started = place_of(&self.files, name);
+        Ok(())
+    }
+
+    fn read(&mut self, into: &mut [u8]) -> Result<usize, Failed>
+        requires { 0 < length into.old }
+        ensures ok { IsOk result }
+        ensures number { IfOk result (λ n. n ≡ min (min
+            (length (rest_at self.old.files.items self.old.started self.old.place)) (length into.old)) self.old.most) }
+        ensures bytes { IfOk result (λ n. HandsOut
+            (Some (rest_at self.old.files.items self.old.started self.old.place))
+            (Some (rest_at self.new.files.items self.new.started self.new.place)) into.new n) }
+        ensures place { IfOk result (λ n. self.new.place ≡ self.old.place + n) }
+
+        ensures started { self.new.started ≡ self.old.started }
+        ensures files { self.new.files ≡ self.old.files }
+        ensures most { self.new.most ≡ self.old.most }
+    {
+        let bytes = bytes_at(&self.files, self.started);
+        let count = copy_front(&bytes[self.place..], into, self.most);
+        self.place += count;
+        Ok(count)
+    }
+}

@@ -1,0 +1,20 @@
+pub mod Closing
+pub mod Digits
+mod ExpressionRows
+pub mod FrontIs
+pub mod InOrder
+mod LoadRows
+pub mod Longest
+pub mod PlainTreesAre
+mod ProcedureRows
+mod Rows
+pub mod Runs
+pub mod Sequences
+pub mod SmallLiterals
+pub mod Starts
+mod StatementRows
+pub mod Steps
+pub mod Tables
+pub mod Texts
+pub mod Total
+pub mod Unique

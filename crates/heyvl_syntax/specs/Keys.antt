@@ -1,0 +1,42 @@
+-- The reserved words of HeyVL.
+use Rattle.heyvl_syntax.specs.declared.keys.Key.TheVariants as keys
+use Rattle.heyvl_syntax.specs.declared.keys.Key.{Key}
+use Rattle.std.specs.Prelude.{List, codes, ℕ}
+
+-- The bytes of each key.
+abbrev pub key_text : Key → List ℕ
+key_text keys.Proc = codes "proc"
+key_text keys.CoProc = codes "coproc"
+key_text keys.Pre = codes "pre"
+key_text keys.Post = codes "post"
+key_text keys.Var = codes "var"
+key_text keys.If = codes "if"
+key_text keys.Else = codes "else"
+key_text keys.While = codes "while"
+key_text keys.Assert = codes "assert"
+key_text keys.Assume = codes "assume"
+key_text keys.CoAssert = codes "coassert"
+key_text keys.CoAssume = codes "coassume"
+key_text keys.Havoc = codes "havoc"
+key_text keys.CoHavoc = codes "cohavoc"
+key_text keys.Validate = codes "validate"
+key_text keys.CoValidate = codes "covalidate"
+key_text keys.Reward = codes "reward"
+key_text keys.Tick = codes "tick"
+key_text keys.TrueWord = codes "true"
+key_text keys.FalseWord = codes "false"
+key_text keys.BoolWord = codes "Bool"
+key_text keys.IntWord = codes "Int"
+key_text keys.UIntWord = codes "UInt"
+key_text keys.URealWord = codes "UReal"
+key_text keys.EURealWord = codes "EUReal"
+key_text keys.RealWord = codes "Real"
+key_text keys.Ite = codes "ite"
+key_text keys.Flip = codes "flip"
+key_text keys.Unif = codes "unif"
+key_text keys.Choose = codes "choose"
+key_text keys.Sup = codes "sup"
+key_text keys.Inf = codes "inf"
+key_text keys.Cap = codes "\\cap"
+key_text keys.Cup = codes "\\cup"
+key_text keys.Infty = codes "\\infty"

@@ -1,0 +1,16 @@
+pub mod Bytes
+pub mod Comments
+pub mod Expressions
+pub mod Fronts
+pub mod Grammar
+pub mod Keys
+pub mod Literals
+pub mod Load
+pub mod Marks
+pub mod Places
+pub mod PlainTrees
+pub mod Procedures
+pub mod Productions
+pub mod Statements
+pub mod TokenLaws
+pub mod Tokens

@@ -1,0 +1,91 @@
+//! Expressions.
+
+ghost use Rattle.heyvl_syntax.specs.Expressions.{expression, expressions};
+ghost use Rattle.std.specs.Prelude.{◌≡◌, IfOk};
+
+use crate::{BinaryOp, Lit, Name, Span, TypeName, UnaryOp};
+use std::alloc::{AllocError, Global};
+
+/// An expression, with its parentheses. Each node has its place: that of the operator for an operator between two
+/// operands, and else from the first byte of the node to the end of its last token.
+#[derive(Drop)]
+pub enum Expr {
+    /// A number literal.
+    Number(Lit, Span),
+    /// `true` or `false`.
+    Truth(bool, Span),
+    /// `\infty`
+    Infinity(Span),
+    /// A variable.
+    Name(Name, Span),
+    /// `(a)`
+    Group(Box<Expr>, Span),
+    /// `[a]`: 1 where a holds, else 0.
+    Bracket(Box<Expr>, Span),
+    /// `?(a)`: infinity where a holds, else 0.
+    Embed(Box<Expr>, Span),
+    /// An operator before its operand.
+    Unary(UnaryOp, Box<Expr>, Span),
+    /// An operator between its operands.
+    Binary(BinaryOp, Box<Expr>, Box<Expr>, Span),
+    /// `ite(a, b, c)`: b where a holds, else c.
+    Choice(Box<Expr>, Box<Expr>, Box<Expr>, Span),
+    /// `sup x: T. a` where the flag is true, else `inf x: T. a`.
+    Bound(bool, Name, TypeName, Box<Expr>, Span),
+}
+
+impl Expr {
+    /// An expression of its own that is equal to this one.
+    pub fn copy(&self, alloc: Global) -> Result<Expr, AllocError>
+        ensures { IfOk result (λ copied. expression copied ≡ expression self.now) }
+    {
+        match self {
+            Expr::Number(number, span) => Ok(Expr::Number(*number, *span)),
+            Expr::Truth(truth, span) => Ok(Expr::Truth(*truth, *span)),
+            Expr::Infinity(span) => Ok(Expr::Infinity(*span)),
+            Expr::Name(name, span) => Ok(Expr::Name(name.copy(alloc)?, *span)),
+            Expr::Group(inner, span) => Ok(Expr::Group(inner.copy(alloc)?.boxed(alloc)?, *span)),
+            Expr::Bracket(inner, span) => Ok(Expr::Bracket(
+                inner.copy(alloc)?.boxed(alloc)?,
+                *span,
+            )),
+            Expr::Embed(inner, span) => Ok(Expr::Embed(inner.copy(alloc)?.boxed(alloc)?, *span)),
+            Expr::Unary(op, inner, span) => Ok(Expr::Unary(
+                *op,
+                inner.copy(alloc)?.boxed(alloc)?,
+                *span,
+            )),
+            Expr::Binary(op, left, right, span) => {
+                let left = left.copy(alloc)?.boxed(alloc)?;
+                Ok(Expr::Binary(*op, left, right.copy(alloc)?.boxed(alloc)?, *span))
+            }
+            Expr::Choice(test, left, right, span) => {
+                let test = test.copy(alloc)?.boxed(alloc)?;
+                let left = left.copy(alloc)?.boxed(alloc)?;
+                Ok(Expr::Choice(test, left, right.copy(alloc)?.boxed(alloc)?, *span))
+            }
+            Expr::Bound(up, name, ty, inner, span) => {
+                let name = name.copy(alloc)?;
+                Ok(Expr::Bound(*up, name, *ty, inner.copy(alloc)?.boxed(alloc)?, *span))
+            }
+        }
+    }
+
+    /// The expression in a box.
+    pub fn boxed(self, alloc: Global) -> Result<Box<Expr>, AllocError>
+        ensures { IfOk result (λ boxed. boxed.value ≡ self) }
+    {
+        Ok(Box::new(alloc, self)?)
+    }
+
+    /// Copies of these expressions, in their order.
+    pub fn copy_all(alloc: Global, all: &[Expr]) -> Result<Vec<Expr>, AllocError>
+        ensures { IfOk result (λ copied. expressions copied.items ≡ expressions all.now) }
+    {
+        let mut copied = Vec::with_capacity(alloc, all.len())?;
+        for one in all {
+            copied.push(one.copy(alloc)?)?;
+        }
+        Ok(copied)
+    }
+}

@@ -1,0 +1,66 @@
+//! The tokens of bytes.
+
+ghost use Rattle.heyvl_syntax.specs.Tokens.{IsFaultOrMemory, IsMemory, IsStop, Lexes, Stops, span_of};
+ghost use Rattle.heyvl_syntax.specs.declared.spans.Span.{Span};
+ghost use Rattle.heyvl_syntax.specs.declared.tokens.Token.{Token};
+ghost use Rattle.std.specs.Prelude.{◌+◌, ◌<◌, ◌^◌, ◌≡◌, ℕ, IfErr, IfOk, List, MatchResult, length};
+
+use crate::fronts::{Front, front_of};
+use crate::{LexStop, Span, Token};
+use std::alloc::Global;
+
+/// The n bytes from a place on.
+fn span_of(place: usize, n: usize) -> Span
+    requires { place + n < 2 ^ 32 }
+    ensures { result ≡ span_of place n }
+{
+    Span {
+        from: place as u32,
+        to: (place + n) as u32,
+    }
+}
+
+/// The tokens or the leftmost fault, part by part.
+fn lex_parts(alloc: Global, bytes: &[u8]) -> Result<Vec<Token>, LexStop>
+    requires { length bytes.now < 2 ^ 31 }
+    ensures found { IfOk result (λ tokens. Lexes 0 bytes.now tokens.items) }
+    ensures fault { IfErr result (λ stop. IsStop bytes.now stop) }
+{
+    let mut tokens = Vec::new(alloc);
+    let mut place = 0;
+    let mut rest = bytes;
+    'parts: loop {
+        match front_of(alloc, rest)? {
+            Front::End => return Ok(tokens),
+            Front::Fault(number, n) => return Err(LexStop::Fault(number, span_of(place, n))),
+            Front::Blank(n) => {
+                place += n;
+                let (_, behind) = rest.split_at(n);
+                rest = behind;
+            }
+            Front::Token(kind, n) => {
+                tokens.push(Token {
+                    kind,
+                    span: span_of(place, n),
+                })?;
+                place += n;
+                let (_, behind) = rest.split_at(n);
+                rest = behind;
+            }
+        }
+    }
+}
+
+/// The tokens that the bytes are split into: white space, comments and, between these, the longest token at each place.
+/// Fails with the leftmost fault where the bytes can't be split so, and otherwise for want of memory alone.
+pub fn lex(alloc: Global, bytes: &[u8]) -> Result<Vec<Token>, LexStop>
+    requires { length bytes.now < 2 ^ 31 }
+    ensures found { IfOk result (λ tokens. Lexes 0 bytes.now tokens.items) }
+    ensures fault { IfErr result (λ stop. IsStop bytes.now stop) }
+    ensures only { (tokens : List Token) → Lexes 0 bytes.now tokens
+        → MatchResult result (λ found. found.items ≡ tokens) (λ stop. IsMemory stop) }
+    ensures only_fault { (number : ℕ) (span : Span) → Stops 0 bytes.now number span
+        → MatchResult result (λ _. ⊥) (λ stop. IsFaultOrMemory number span stop) }
+{
+    lex_parts(alloc, bytes)
+}

@@ -1,0 +1,121 @@
+//! Procedures and files.
+
+ghost use Rattle.heyvl_syntax.specs.Procedures.{optional_block, procedure, procedures};
+ghost use Rattle.std.specs.Prelude.{◌≡◌, IfOk, map};
+
+use crate::{Expr, Name, Span, Stmt, TypeName};
+use std::alloc::{AllocError, Global};
+
+/// Which expectation a procedure is about.
+#[derive(Clone, Copy, Debug, PartialEq, Eq)]
+pub enum Note {
+    /// `@wlp`: the weakest liberal preexpectation.
+    Wlp,
+    /// `@wp`: the weakest preexpectation.
+    Wp,
+    /// `@ert`: the expected runtime.
+    Ert,
+}
+
+/// An input or an output.
+#[derive(Drop)]
+pub struct Param {
+    pub name: Name,
+    pub ty: TypeName,
+    pub span: Span,
+}
+
+/// A procedure: a coproc where `co` is true, else a proc. Its place begins at its note, where it has one.
+#[derive(Drop)]
+pub struct Proc {
+    pub co: bool,
+    pub note: Option<Note>,
+    pub name: Name,
+    pub inputs: Vec<Param>,
+    pub outputs: Vec<Param>,
+    pub pres: Vec<Expr>,
+    pub posts: Vec<Expr>,
+    pub body: Option<Vec<Stmt>>,
+    pub span: Span,
+}
+
+/// The procedures of a file.
+#[derive(Drop)]
+pub struct File {
+    pub procs: Vec<Proc>,
+}
+
+impl Param {
+    /// A parameter of its own that is equal to this one.
+    pub fn copy(&self, alloc: Global) -> Result<Param, AllocError>
+        ensures { IfOk result (λ copied. copied ≡ self.now) }
+    {
+        Ok(Param {
+            name: self.name.copy(alloc)?,
+            ty: self.ty,
+            span: self.span,
+        })
+    }
+
+    /// Copies of these parameters, in their order.
+    pub fn copy_all(alloc: Global, all: &[Param]) -> Result<Vec<Param>, AllocError>
+        ensures { IfOk result (λ copied. copied.items ≡ all.now) }
+    {
+        let mut copied = Vec::with_capacity(alloc, all.len())?;
+        for one in all {
+            copied.push(one.copy(alloc)?)?;
+        }
+        Ok(copied)
+    }
+}
+
+/// A copy of the body, where there is one.
+fn copy_body(alloc: Global, body: &Option<Vec<Stmt>>) -> Result<Option<Vec<Stmt>>, AllocError>
+    ensures { IfOk result (λ copied. optional_block copied ≡ optional_block body.now) }
+{
+    match body {
+        None => Ok(None),
+        Some(statements) => Ok(Some(Stmt::copy_all(alloc, statements)?)),
+    }
+}
+
+impl Proc {
+    /// A procedure of its own that is equal to this one.
+    pub fn copy(&self, alloc: Global) -> Result<Proc, AllocError>
+        ensures { IfOk result (λ copied. procedure copied ≡ procedure self.now) }
+    {
+        Ok(Proc {
+            co: self.co,
+            note: self.note,
+            name: self.name.copy(alloc)?,
+            inputs: Param::copy_all(alloc, &self.inputs)?,
+            outputs: Param::copy_all(alloc, &self.outputs)?,
+            pres: Expr::copy_all(alloc, &self.pres)?,
+            posts: Expr::copy_all(alloc, &self.posts)?,
+            body: copy_body(alloc, &self.body)?,
+            span: self.span,
+        })
+    }
+
+    /// Copies of these procedures, in their order.
+    pub fn copy_all(alloc: Global, all: &[Proc]) -> Result<Vec<Proc>, AllocError>
+        ensures { IfOk result (λ copied. map procedure copied.items ≡ map procedure all.now) }
+    {
+        let mut copied = Vec::with_capacity(alloc, all.len())?;
+        for one in all {
+            copied.push(one.copy(alloc)?)?;
+        }
+        Ok(copied)
+    }
+}
+
+impl File {
+    /// A file of its own that is equal to this one.
+    pub fn copy(&self, alloc: Global) -> Result<File, AllocError>
+        ensures { IfOk result (λ copied. procedures copied ≡ procedures self.now) }
+    {
+        Ok(File {
+            procs: Proc::copy_all(alloc, &self.procs)?,
+        })
+    }
+}

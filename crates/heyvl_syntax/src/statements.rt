@@ -1,0 +1,224 @@
+//! Statements.
+
+ghost use Rattle.heyvl_syntax.specs.Statements.{arms, block, choices, guarded, loop_rule, loop_rules, optional_right, right_side, statement};
+ghost use Rattle.std.specs.Prelude.{◌≡◌, IfOk};
+
+use crate::{Expr, Name, Span, TypeName};
+use std::alloc::{AllocError, Global};
+
+/// Which of the four checks a statement is.
+#[derive(Clone, Copy, Debug, PartialEq, Eq)]
+pub enum CheckKind {
+    Assert,
+    Assume,
+    CoAssert,
+    CoAssume,
+}
+
+/// What stands before a loop.
+#[derive(Drop)]
+pub enum Rule {
+    /// `@invariant(i)`
+    Invariant(Expr, Span),
+    /// `@k_induction(k, i)`
+    KInduction(Expr, Expr, Span),
+    /// `@ranking(step, r)`
+    Ranking(Expr, Expr, Span),
+}
+
+/// What a variable is given.
+#[derive(Drop)]
+pub enum Right {
+    /// The value of an expression.
+    Plain(Expr),
+    /// `flip(p)`: true with probability p.
+    Flip(Expr),
+    /// `unif(a, b)`: each integer from a to b with the same probability.
+    Unif(Expr, Expr),
+    /// `choose { p: a, .. }`: the value of a with probability p.
+    Choose(Vec<(Expr, Expr)>),
+    /// A call of a procedure with these arguments.
+    Call(Name, Vec<Expr>),
+}
+
+/// A guard and what runs where it is the first that holds.
+#[cycle(statements)]
+#[derive(Drop)]
+pub struct Arm {
+    pub guard: Expr,
+    pub body: Vec<Stmt>,
+}
+
+/// A statement. Its place goes from its first byte, for a loop that of its first rule, to the end of its last token.
+#[cycle(statements)]
+#[derive(Drop)]
+pub enum Stmt {
+    /// `var x: T`, with what the variable is given where that is there.
+    Var(Name, TypeName, Option<Right>, Span),
+    /// `x, .. = r`, or a call alone, which has no targets.
+    Assign(Vec<Name>, Right, Span),
+    /// `assert a`, `assume a`, `coassert a` or `coassume a`.
+    Check(CheckKind, Expr, Span),
+    /// `covalidate` where the flag is true, else `validate`.
+    Validate(bool, Span),
+    /// `cohavoc x, ..` where the flag is true, else `havoc x, ..`.
+    Havoc(bool, Vec<Name>, Span),
+    /// `reward a` or `tick a`.
+    Reward(Expr, Span),
+    /// `if a { .. } else if b { .. } else { .. }`. An else that isn't there is the empty block.
+    If(Vec<Arm>, Vec<Stmt>, Span),
+    /// `if \cup { .. } else { .. }` where the flag is true, else `if \cap { .. } else { .. }`.
+    Pick(bool, Vec<Stmt>, Vec<Stmt>, Span),
+    /// The rules of a loop, its guard and its body.
+    While(Vec<Rule>, Expr, Vec<Stmt>, Span),
+}
+
+impl Rule {
+    /// A rule of its own that is equal to this one.
+    pub fn copy(&self, alloc: Global) -> Result<Rule, AllocError>
+        ensures { IfOk result (λ copied. loop_rule copied ≡ loop_rule self.now) }
+    {
+        match self {
+            Rule::Invariant(invariant, span) => Ok(Rule::Invariant(invariant.copy(alloc)?, *span)),
+            Rule::KInduction(k, invariant, span) => {
+                let k = k.copy(alloc)?;
+                Ok(Rule::KInduction(k, invariant.copy(alloc)?, *span))
+            }
+            Rule::Ranking(step, ranking, span) => {
+                let step = step.copy(alloc)?;
+                Ok(Rule::Ranking(step, ranking.copy(alloc)?, *span))
+            }
+        }
+    }
+}
+
+/// Copies of the rules, in their order.
+fn copy_rules(alloc: Global, rules: &[Rule]) -> Result<Vec<Rule>, AllocError>
+    ensures { IfOk result (λ copied. loop_rules copied.items ≡ loop_rules rules.now) }
+{
+    let mut copied = Vec::with_capacity(alloc, rules.len())?;
+    for rule in rules {
+        copied.push(rule.copy(alloc)?)?;
+    }
+    Ok(copied)
+}
+
+impl Right {
+    /// A right side of its own that is equal to this one.
+    pub fn copy(&self, alloc: Global) -> Result<Right, AllocError>
+        ensures { IfOk result (λ copied. right_side copied ≡ right_side self.now) }
+    {
+        match self {
+            Right::Plain(value) => Ok(Right::Plain(value.copy(alloc)?)),
+            Right::Flip(probability) => Ok(Right::Flip(probability.copy(alloc)?)),
+            Right::Unif(low, high) => {
+                let low = low.copy(alloc)?;
+                Ok(Right::Unif(low, high.copy(alloc)?))
+            }
+            Right::Choose(parts) => Ok(Right::Choose(copy_parts(alloc, parts)?)),
+            Right::Call(name, arguments) => {
+                let name = name.copy(alloc)?;
+                Ok(Right::Call(name, Expr::copy_all(alloc, arguments)?))
+            }
+        }
+    }
+}
+
+/// Copies of the parts of a choose, in their order.
+fn copy_parts(alloc: Global, parts: &[(Expr, Expr)]) -> Result<Vec<(Expr, Expr)>, AllocError>
+    ensures { IfOk result (λ copied. choices copied.items ≡ choices parts.now) }
+{
+    let mut copied = Vec::with_capacity(alloc, parts.len())?;
+    for (weight, value) in parts {
+        let weight = weight.copy(alloc)?;
+        copied.push((weight, value.copy(alloc)?))?;
+    }
+    Ok(copied)
+}
+
+impl Arm {
+    /// An arm of its own that is equal to this one.
+    #[cycle(copying)]
+    pub fn copy(&self, alloc: Global) -> Result<Arm, AllocError>
+        ensures { IfOk result (λ copied. guarded copied ≡ guarded self.now) }
+    {
+        Ok(Arm {
+            guard: self.guard.copy(alloc)?,
+            body: Stmt::copy_all(alloc, &self.body)?,
+        })
+    }
+
+    /// Copies of these arms, in their order.
+    #[cycle(copying)]
+    pub fn copy_all(alloc: Global, all: &[Arm]) -> Result<Vec<Arm>, AllocError>
+        ensures { IfOk result (λ copied. arms copied.items ≡ arms all.now) }
+    {
+        let mut copied = Vec::with_capacity(alloc, all.len())?;
+        for one in all {
+            copied.push(one.copy(alloc)?)?;
+        }
+        Ok(copied)
+    }
+}
+
+impl Stmt {
+    /// A statement of its own that is equal to this one.
+    #[cycle(copying)]
+    pub fn copy(&self, alloc: Global) -> Result<Stmt, AllocError>
+        ensures { IfOk result (λ copied. statement copied ≡ statement self.now) }
+    {
+        match self {
+            Stmt::Var(name, ty, given, span) => {
+                let name = name.copy(alloc)?;
+                Ok(Stmt::Var(name, *ty, copy_given(alloc, given)?, *span))
+            }
+            Stmt::Assign(targets, right, span) => {
+                let targets = Name::copy_all(alloc, targets)?;
+                Ok(Stmt::Assign(targets, right.copy(alloc)?, *span))
+            }
+            Stmt::Check(kind, claim, span) => Ok(Stmt::Check(*kind, claim.copy(alloc)?, *span)),
+            Stmt::Validate(co, span) => Ok(Stmt::Validate(*co, *span)),
+            Stmt::Havoc(co, names, span) => Ok(Stmt::Havoc(
+                *co,
+                Name::copy_all(alloc, names)?,
+                *span,
+            )),
+            Stmt::Reward(amount, span) => Ok(Stmt::Reward(amount.copy(alloc)?, *span)),
+            Stmt::If(arms, other, span) => {
+                let arms = Arm::copy_all(alloc, arms)?;
+                Ok(Stmt::If(arms, Stmt::copy_all(alloc, other)?, *span))
+            }
+            Stmt::Pick(up, left, right, span) => {
+                let left = Stmt::copy_all(alloc, left)?;
+                Ok(Stmt::Pick(*up, left, Stmt::copy_all(alloc, right)?, *span))
+            }
+            Stmt::While(rules, guard, body, span) => {
+                let rules = copy_rules(alloc, rules)?;
+                let guard = guard.copy(alloc)?;
+                Ok(Stmt::While(rules, guard, Stmt::copy_all(alloc, body)?, *span))
+            }
+        }
+    }
+
+    /// Copies of these statements, in their order.
+    #[cycle(copying)]
+    pub fn copy_all(alloc: Global, all: &[Stmt]) -> Result<Vec<Stmt>, AllocError>
+        ensures { IfOk result (λ copied. block copied.items ≡ block all.now) }
+    {
+        let mut copied = Vec::with_capacity(alloc, all.len())?;
+        for one in all {
+            copied.push(one.copy(alloc)?)?;
+        }
+        Ok(copied)
+    }
+}
+
+/// A copy of what a variable is given, where that is there.
+fn copy_given(alloc: Global, given: &Option<Right>) -> Result<Option<Right>, AllocError>
+    ensures { IfOk result (λ copied. optional_right copied ≡ optional_right given.now) }
+{
+    match given {
+        None => Ok(None),
+        Some(right) => Ok(Some(right.copy(alloc)?)),
+    }
+}

@@ -1,0 +1,36 @@
+//! Why lexing stops.
+
+ghost use Rattle.heyvl_syntax.specs.declared.stops.LexStop.TheVariants.{Memory};
+ghost use Rattle.std.specs.Prelude.{◌≡◌, alloc_error};
+
+use crate::Span;
+use std::alloc::{AllocError, AllocFailed};
+use thiserror::Error;
+
+/// Why bytes give no list of tokens.
+#[derive(Debug, Drop, Error)]
+pub enum LexStop {
+    /// The leftmost fault, with its number and the bytes that it is about: 1 for a byte at which no token, white space
+    /// or comment begins, 2 for a `/*` that no `*/` closes, 3 for a number too large for a literal.
+    #[error("fault {0} at the bytes {1}")]
+    Fault(u8, Span),
+    /// Memory ran out.
+    #[error("out of memory")]
+    Memory(AllocError),
+}
+
+impl From<AllocError> for LexStop {
+    ghost from_gives = { λ error stop. stop ≡ Memory error };
+
+    fn from(error: AllocError) -> Self {
+        LexStop::Memory(error)
+    }
+}
+
+impl<T: Drop> From<AllocFailed<T>> for LexStop {
+    ghost from_gives = { λ _ stop. stop ≡ Memory alloc_error };
+
+    fn from(_failed: AllocFailed<T>) -> Self {
+        LexStop::Memory(AllocError)
+    }
+}

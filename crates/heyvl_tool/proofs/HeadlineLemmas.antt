@@ -1,0 +1,56 @@
+-- What `verified` means, from the reply that a call made.
+use Rattle.std.proofs.Common.{arith, ◌≡◌, ℕ, ◌<◌, zero, suc, get_or, List, [], ◌∷◌, Option, Some, IfSome, subst, ap, ◌∙◌}
+use Rattle.heyvl_syntax.specs.declared.tokens.Token.{Token}
+use Rattle.heyvl_tool.specs.declared.answers.Answer.{Answer}
+use Rattle.heyvl_tool.specs.declared.answers.Verdict.{Verdict}
+use Rattle.heyvl_tool.specs.declared.answers.Verdict.TheVariants.{Verified}
+use Rattle.heyvl_tool.specs.Bound.{IsBounded}
+use Rattle.heyvl_tool.specs.Files.{IsFile}
+use Rattle.heyvl_tool.specs.Grammar.{Spells}
+use Rattle.heyvl_tool.specs.Headline.{IsHeadline, IsReportedVerified}
+use Rattle.heyvl_tool.specs.Meaning.{program}
+use Rattle.heyvl_tool.specs.Procedure.{Procedure}
+use Rattle.heyvl_tool.specs.Replies.{Call, HasCause, IsReplyTo, Reply}
+use Rattle.heyvl_tool.specs.Replies.HasCause.{by_words, by_source, by_length, by_bytes}
+use Rattle.heyvl_tool.specs.Replies.IsReplyTo.{verified, early}
+use Rattle.heyvl_tool.specs.Verdict.{IsVerdict}
+use Rattle.heyvl_tool.specs.Words.{AsksToVerify}
+use Rattle.heyvl_tool.proofs.CallLemmas.{same_file}
+use Rattle.heyvl_syntax.proofs.Unique.{lexes_unique}
+use Rattle.heyvl_tool.proofs.FileReading.{is_unique}
+
+-- Bytes are at most one procedure.
+pub one_file : (bytes : List ℕ) (p q : Procedure) → IsFile bytes p → IsFile bytes q → p ≡ q
+one_file bytes p q f g = is_unique g.tokens p q (subst (λ (ts : List Token). Spells ts p) (lexes_unique 0 bytes f.tokens g.tokens f.lexes g.lexes) f.spells) g.spells f.within g.within
+
+no_report : (answers : List Answer) (name : List ℕ) → answers ≡ [] → IsReportedVerified answers name → ⊥
+no_report [] name e reported = let none : reported.0 < 0 = reported.2 in absurd (omega arith)
+no_report (a ∷ as') name e reported = absurd (cc)
+
+one_report : (a : Answer) (name : List ℕ) (k : ℕ) (b : Answer) → k < 1 → get_or (a ∷ []) k b ≡ b → b.verdict ≡ Verified → a.verdict ≡ Verified
+one_report a name zero b within e v = ap (λ (x : Answer). x.verdict) e ∙ v
+one_report a name (suc k) b within e v = absurd (omega arith)
+
+the_report : (answers : List Answer) (a : Answer) (name : List ℕ) → answers ≡ a ∷ [] → IsReportedVerified answers name → a.verdict ≡ Verified
+the_report answers a name e reported =
+    let h : IsReportedVerified (a ∷ []) name = subst (λ (as' : List Answer). IsReportedVerified as' name) e reported in
+    one_report a name h.0 h.1 h.2 h.3 h.4.1
+
+headline_of_bytes : (bytes : List ℕ) (reply : Reply) (answers : List Answer) → IsReplyTo bytes reply → answers ≡ reply.answers → IsHeadline bytes answers
+headline_of_bytes bytes reply answers (early other e) is p file reported = absurd (other p file)
+headline_of_bytes bytes reply answers (verified q found on) is p file reported =
+    let bounded : IsBounded (program q) = subst (λ (v : Verdict). IsVerdict (program q) v) (the_report answers on.answer p.name (is ∙ ap (λ (r : Reply). r.answers) on.is_reply) reported) on.verdict in
+    subst (λ (o : Procedure). IsBounded (program o)) (one_file bytes q p found file) bounded
+
+same_bytes : (held : Option (List ℕ)) (bytes read : List ℕ) → held ≡ Some bytes → IfSome held (λ h. read ≡ h) → read ≡ bytes
+same_bytes held bytes read e h = subst (λ (o : Option (List ℕ)). IfSome o (λ x. read ≡ x)) e h
+
+-- Where a reply has its cause, its answers are the headline's.
+pub headline_of : (made : Call) (reply : Reply) (answers : List Answer) (file bytes : List ℕ) → HasCause made reply
+    → answers ≡ reply.answers → AsksToVerify made.words file → made.holds file ≡ Some bytes → IsHeadline bytes answers
+headline_of made reply answers file bytes (by_words usage e) is asks told p found reported = absurd (usage file asks)
+headline_of made reply answers file bytes (by_source other asked rose taken e) is asks told p found reported = absurd (no_report answers p.name (is ∙ ap (λ (r : Reply). r.answers) e) reported)
+headline_of made reply answers file bytes (by_length other asked taken longer e) is asks told p found reported = absurd (no_report answers p.name (is ∙ ap (λ (r : Reply). r.answers) e) reported)
+headline_of made reply answers file bytes (by_bytes other asked read held taken within said) is asks told p found reported =
+    let held_here : IfSome (made.holds file) (λ h. read ≡ h) = subst (λ (f : List ℕ). IfSome (made.holds f) (λ h. read ≡ h)) (same_file made.words other file asked asks) held in
+    headline_of_bytes bytes reply answers (subst (λ (bs : List ℕ). IsReplyTo bs reply) (same_bytes _ bytes read told held_here) said) is p found reported

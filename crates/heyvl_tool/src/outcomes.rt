@@ -1,0 +1,34 @@
+//! What a call of the tool comes to.
+
+use crate::Answer;
+
+/// Why a call didn't do what its words ask for, or `Nothing`. A `u8` is the number of the file among the words, from 0.
+#[derive(Clone, Copy, Debug, PartialEq, Eq)]
+pub enum Fault {
+    /// It did what its words ask for.
+    Nothing,
+    /// The words are no command.
+    Usage,
+    /// The source failed while the file was read.
+    Read(u8),
+    /// The file has more than 1,048,576 bytes.
+    TooLong(u8),
+    /// The file isn't of a form that is verified so far.
+    Early,
+    /// The sink failed. It replaces every other fault.
+    Write,
+    /// There is no memory for the work.
+    Memory,
+}
+
+/// What a call of the tool comes to.
+#[derive(Drop)]
+pub struct Outcome {
+    /// The exit status: 0 done; 1 some goal fails in a state; 3 the file is refused; 4 usage; 5 read; 6 write; 7 memory.
+    pub status: u8,
+    pub fault: Fault,
+    /// One answer per procedure, in the order of the file.
+    pub answers: Vec<Answer>,
+    /// How many bytes were written.
+    pub written: u64,
+}
