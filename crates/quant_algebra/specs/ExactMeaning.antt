@@ -12,9 +12,7 @@ use Rattle.heylo_formula.specs.State.{get, truth_of, number_of}
 use Rattle.heylo_formula.specs.declared.values.Val.{Val}
 use Rattle.quant_algebra.specs.ExactOperators.{and_then, exact_differenceᵛ, exact_cutᵛ, exact_scaleᵛ, exact_minᵛ, exact_maxᵛ, exact_impliesᵛ, exact_coimpliesᵛ, exact_leqᵛ, exact_lessᵛ, exact_equalᵛ}
 use Rattle.quant_algebra.specs.declared.answers.At.{At}
-use Rattle.quant_algebra.specs.declared.answers.At.TheVariants as At
 use Rattle.quant_algebra.specs.declared.answers.Held.{Held}
-use Rattle.quant_algebra.specs.declared.answers.Held.TheVariants as Held
 
 abbrev pub at_of : At → Option Value
 at_of (At.Value v) = Some (value_of v)

@@ -5,6 +5,8 @@ mod answers;
 mod evaluation;
 mod laws;
 mod operators;
+#[cfg(test)]
+mod tests;
 
 pub use answers::{At, Held};
 pub use evaluation::{goal_at, holds_at, value_at};

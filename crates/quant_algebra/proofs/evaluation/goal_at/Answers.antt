@@ -1,10 +1,7 @@
 use Rattle.std.proofs.Common.{◌≡◌, ◌↔◌, sym, ◌∙◌, subst, true}
 use Rattle.std.specs.Prelude.{IfSome}
-use Rattle.heylo_formula.specs.PlainTrees.{form_of, cond_of}
 use Rattle.heylo_formula.specs.Goals.{goal_of, HoldsIn}
 use Rattle.heylo_formula.specs.State.{environment}
-use Rattle.heylo_formula.specs.Choices.{Choices}
-use Rattle.heylo_formula.specs.Meaning.{value, holds}
 use Rattle.quant_algebra.proofs.Exactness.{goal_is}
 use Rattle.quant_algebra.proofs.evaluation.goal_at.Goals as goal
 

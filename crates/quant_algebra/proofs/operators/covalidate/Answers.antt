@@ -1,4 +1,4 @@
-use Rattle.std.proofs.Common.{◌≡◌, sym, ap, ◌∙◌, refl, Bool, true, false, cond, arith, FitsSigned, rules}
+use Rattle.std.proofs.Common.{◌≡◌, sym, ap, ◌∙◌, refl, false, cond, arith, FitsSigned, rules}
 use Rattle.std.specs.Int.{w128}
 use Rattle.std.proofs.lemmas.Int.{ints}
 use Rattle.std.specs.Prelude.{ℤ, pos, negsuc}

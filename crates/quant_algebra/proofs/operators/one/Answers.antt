@@ -1,7 +1,7 @@
 use Rattle.std.proofs.Common.{◌≡◌, sym, ap, ◌∙◌, refl, rules}
-use Rattle.std.specs.Prelude.{Option, Some, None, pos}
-use Rattle.heyvl_num.specs.Rational.{Rational, zeroʳ, oneʳ}
-use Rattle.heyvl_num.specs.Value.{zeroᵛ, oneᵛ}
+use Rattle.std.specs.Prelude.{Some, pos}
+use Rattle.heyvl_num.specs.Rational.{Rational, oneʳ}
+use Rattle.heyvl_num.specs.Value.{oneᵛ}
 use Rattle.heyvl_num.specs.Value.Value.{finite}
 use Rattle.heyvl_num.specs.Exact.{exact_quotient, quotient_fits, quotient}
 use Rattle.quant_algebra.proofs.operators.one.Goals as goal

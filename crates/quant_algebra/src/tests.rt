@@ -1,0 +1,287 @@
+use crate::{At, Held, goal_at, holds_at, value_at};
+use heylo_formula::{Cond, Form, Goal, Val};
+use heyvl_num::{Ext, Frac};
+use heyvl_syntax::Span;
+use std::alloc::{AllocError, Global};
+
+/// 2^127 - 1, the greatest number that a part of a fraction may be.
+const TOP: i128 = i128::MAX;
+
+/// Numerator and denominator; 1/0 is infinity, and 0/0 says that a number didn't fit.
+type Parts = (i128, i128);
+
+const INFINITY: Parts = (1, 0);
+
+const BITS: Parts = (0, 0);
+
+const PLACE: Span = Span { from: 0, to: 1 };
+
+fn number(parts: Parts) -> Ext {
+    match Frac::new(parts.0, parts.1) {
+        Some(x) => Ext::Fin(x),
+        None => Ext::Inf,
+    }
+}
+
+fn constant(alloc: Global, parts: Parts) -> Result<Box<Form>, AllocError> {
+    Ok(Box::new(alloc, Form::Const(number(parts)))?)
+}
+
+fn parts(value: At) -> Parts {
+    match value {
+        At::Value(x) => parts_of(&x),
+        At::Bits => BITS,
+    }
+}
+
+fn parts_of(value: &Ext) -> Parts {
+    match value {
+        Ext::Fin(x) => (x.num(), x.den()),
+        Ext::Inf => INFINITY,
+    }
+}
+
+fn value(form: &Form) -> Parts {
+    parts(value_at(form, &[]))
+}
+
+#[test]
+fn operators_of_two_values(rt: HostRuntime) -> Result<(), AllocError> {
+    let alloc = rt.alloc();
+    // the two values, and then sum, product, minimum, maximum, implication and coimplication
+    let table: [(Parts, Parts, Parts, Parts, Parts, Parts, Parts, Parts); 7] = [
+        (
+            (3, 1),
+            (5, 1),
+            (8, 1),
+            (15, 1),
+            (3, 1),
+            (5, 1),
+            INFINITY,
+            (5, 1),
+        ),
+        (
+            (5, 1),
+            (3, 1),
+            (8, 1),
+            (15, 1),
+            (3, 1),
+            (5, 1),
+            (3, 1),
+            (0, 1),
+        ),
+        (
+            (1, 2),
+            (1, 2),
+            (1, 1),
+            (1, 4),
+            (1, 2),
+            (1, 2),
+            INFINITY,
+            (0, 1),
+        ),
+        (
+            (0, 1),
+            INFINITY,
+            INFINITY,
+            (0, 1),
+            (0, 1),
+            INFINITY,
+            INFINITY,
+            INFINITY,
+        ),
+        (
+            INFINITY,
+            (0, 1),
+            INFINITY,
+            (0, 1),
+            (0, 1),
+            INFINITY,
+            (0, 1),
+            (0, 1),
+        ),
+        (
+            INFINITY,
+            INFINITY,
+            INFINITY,
+            INFINITY,
+            INFINITY,
+            INFINITY,
+            INFINITY,
+            (0, 1),
+        ),
+        (
+            (TOP, 1),
+            (1, 1),
+            BITS,
+            (TOP, 1),
+            (1, 1),
+            (TOP, 1),
+            (1, 1),
+            (0, 1),
+        ),
+    ];
+    for (a, b, sum, product, min, max, imply, coimply) in table {
+        assert_eq!(rt;
+            value(&Form::Sum(constant(alloc, a)?, constant(alloc, b)?)),
+            sum
+        );
+        assert_eq!(rt;
+            value(&Form::Product(constant(alloc, a)?, constant(alloc, b)?, PLACE)),
+            product
+        );
+        assert_eq!(rt;
+            value(&Form::Min(constant(alloc, a)?, constant(alloc, b)?)),
+            min
+        );
+        assert_eq!(rt;
+            value(&Form::Max(constant(alloc, a)?, constant(alloc, b)?)),
+            max
+        );
+        assert_eq!(rt;
+            value(&Form::Imply(constant(alloc, a)?, constant(alloc, b)?)),
+            imply
+        );
+        assert_eq!(rt;
+            value(&Form::CoImply(constant(alloc, a)?, constant(alloc, b)?)),
+            coimply
+        );
+    }
+    Ok(())
+}
+
+#[test]
+fn differences(rt: HostRuntime) -> Result<(), AllocError> {
+    let alloc = rt.alloc();
+    // the two values, and then the plain and the truncated difference
+    let table: [(Parts, Parts, Parts, Parts); 4] = [
+        ((3, 1), (5, 1), (-2, 1), (0, 1)),
+        ((5, 1), (3, 1), (2, 1), (2, 1)),
+        ((4, 1), (4, 1), (0, 1), (0, 1)),
+        ((-TOP, 1), (1, 1), BITS, (0, 1)),
+    ];
+    for (a, b, difference, cut) in table {
+        assert_eq!(rt;
+            value(&Form::Diff(constant(alloc, a)?, constant(alloc, b)?)),
+            difference
+        );
+        assert_eq!(rt;
+            value(&Form::Cut(constant(alloc, a)?, constant(alloc, b)?)),
+            cut
+        );
+    }
+    Ok(())
+}
+
+#[test]
+fn operators_of_one_value(rt: HostRuntime) -> Result<(), AllocError> {
+    let alloc = rt.alloc();
+    // the value, and then validate and covalidate
+    let table: [(Parts, Parts, Parts); 3] = [
+        ((0, 1), (0, 1), (0, 1)),
+        ((1, 3), (0, 1), INFINITY),
+        (INFINITY, INFINITY, INFINITY),
+    ];
+    for (a, validate, covalidate) in table {
+        assert_eq!(rt; value(&Form::Validate(constant(alloc, a)?)), validate);
+        assert_eq!(rt; value(&Form::CoValidate(constant(alloc, a)?)), covalidate);
+    }
+    Ok(())
+}
+
+fn too_large(alloc: Global) -> Result<Cond, AllocError> {
+    let sum = Form::Sum(constant(alloc, (TOP, 1))?, constant(alloc, (1, 1))?);
+    Ok(Cond::Le(Box::new(alloc, sum)?, constant(alloc, (1, 1))?))
+}
+
+fn truth(alloc: Global, holds: bool) -> Result<Box<Cond>, AllocError> {
+    Ok(Box::new(alloc, Cond::Const(holds))?)
+}
+
+#[test]
+fn parts_that_decide_nothing_are_skipped(rt: HostRuntime) -> Result<(), AllocError> {
+    let alloc = rt.alloc();
+    let bits = Box::new(alloc, too_large(alloc)?)?;
+    assert!(rt; holds_at(&bits, &[]) == Held::Bits);
+    let both = Cond::And(truth(alloc, false)?, Box::new(alloc, too_large(alloc)?)?);
+    assert!(rt; holds_at(&both, &[]) == Held::No);
+    let needed = Cond::And(truth(alloc, true)?, Box::new(alloc, too_large(alloc)?)?);
+    assert!(rt; holds_at(&needed, &[]) == Held::Bits);
+    let either = Cond::Or(truth(alloc, true)?, Box::new(alloc, too_large(alloc)?)?);
+    assert!(rt; holds_at(&either, &[]) == Held::Yes);
+    let same = Cond::Same(truth(alloc, true)?, bits);
+    assert!(rt; holds_at(&same, &[]) == Held::Bits);
+    let chosen = Cond::Ite(
+        truth(alloc, true)?,
+        truth(alloc, false)?,
+        Box::new(alloc, too_large(alloc)?)?,
+    );
+    assert!(rt; holds_at(&chosen, &[]) == Held::No);
+    let large = Form::Sum(constant(alloc, (TOP, 1))?, constant(alloc, (1, 1))?);
+    let select = Form::Select(
+        truth(alloc, false)?,
+        Box::new(alloc, large)?,
+        constant(alloc, (2, 1))?,
+    );
+    assert_eq!(rt; value(&select), (2, 1));
+    Ok(())
+}
+
+#[test]
+fn variables_and_conditions(rt: HostRuntime) -> Result<(), AllocError> {
+    let alloc = rt.alloc();
+    // variable 0 is true, variable 1 is 7/2
+    let mut state = Vec::new(alloc);
+    state.push(Val::Truth(true))?;
+    if let Some(x) = Frac::new(7, 2) {
+        state.push(Val::Num(x))?;
+    }
+    assert_eq!(rt; parts(value_at(&Form::Var(1), &state)), (7, 2));
+    let yes = Form::Iverson(Box::new(alloc, Cond::Var(0))?);
+    assert_eq!(rt; parts(value_at(&yes, &state)), (1, 1));
+    let negation = Cond::Not(Box::new(alloc, Cond::Var(0))?);
+    let no = Form::Iverson(Box::new(alloc, negation)?);
+    assert_eq!(rt; parts(value_at(&no, &state)), (0, 1));
+    let embedded = Form::Embed(Box::new(alloc, Cond::Var(0))?);
+    assert_eq!(rt; parts(value_at(&embedded, &state)), INFINITY);
+    // the two values, and whether the first is less, at most, or equal
+    let table: [(Parts, Parts, Parts, Parts, Parts); 3] = [
+        ((1, 2), (2, 3), (1, 1), (1, 1), (0, 1)),
+        ((2, 3), (2, 3), (0, 1), (1, 1), (1, 1)),
+        ((2, 3), (1, 2), (0, 1), (0, 1), (0, 1)),
+    ];
+    for (a, b, less, at_most, equal) in table {
+        let test = Cond::Lt(constant(alloc, a)?, constant(alloc, b)?);
+        assert_eq!(rt; value(&Form::Iverson(Box::new(alloc, test)?)), less);
+        let test = Cond::Le(constant(alloc, a)?, constant(alloc, b)?);
+        assert_eq!(rt; value(&Form::Iverson(Box::new(alloc, test)?)), at_most);
+        let test = Cond::EqNum(constant(alloc, a)?, constant(alloc, b)?);
+        assert_eq!(rt; value(&Form::Iverson(Box::new(alloc, test)?)), equal);
+    }
+    Ok(())
+}
+
+#[test]
+fn goals_in_both_directions(rt: HostRuntime) -> Result<(), AllocError> {
+    let alloc = rt.alloc();
+    // whether the goal is an upper one, the stated and the found value, and whether the goal holds
+    let table: [(bool, Parts, Parts, Held); 5] = [
+        (true, (2, 1), (1, 1), Held::Yes),
+        (true, (1, 1), (2, 1), Held::No),
+        (false, (1, 1), (2, 1), Held::Yes),
+        (false, INFINITY, (2, 1), Held::No),
+        (true, (TOP, 2), (TOP, 3), Held::Bits),
+    ];
+    for (upper, stated, found, want) in table {
+        let goal = Goal {
+            upper,
+            stated: Form::Const(number(stated)),
+            found: Form::Const(number(found)),
+            vars: Vec::new(alloc),
+            names: Vec::new(alloc),
+            own: 0,
+        };
+        assert!(rt; goal_at(&goal, &[]) == want);
+    }
+    Ok(())
+}
