@@ -1,7 +1,7 @@
 -- The first `*/`.
 use Rattle.heyvl_syntax.specs.Comments.{closes_at}
-use Rattle.heyvl_syntax.specs.Fronts.{close_from, first_close}
-use Rattle.std.proofs.Common.{Bool, List, None, Option, Some, [], arith, cond, drop, false, refl, suc, true, zero, ◌+◌, ◌-◌, ◌<◌, ◌∷◌, ◌≡◌, ◌≤◌, ℕ}
+use Rattle.heyvl_syntax.specs.Fronts.{close_from}
+use Rattle.std.proofs.Common.{Bool, List, None, Some, [], arith, cond, false, refl, suc, true, zero, ◌+◌, ◌<◌, ◌∷◌, ◌≡◌, ℕ}
 
 closes_nowhere : (k : ℕ) → closes_at [] k ≡ false
 closes_nowhere zero = refl

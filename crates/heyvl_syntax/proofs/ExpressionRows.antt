@@ -1,7 +1,7 @@
 -- Worked rows of the grammar of expressions: small texts with the trees that they spell, and trees that no text spells.
 use Rattle.heyvl_syntax.proofs.Texts.{a, b, c, key, leaf, name, sign, span, text, token, word}
 use Rattle.heyvl_syntax.specs.Expressions.{Expression}
-use Rattle.heyvl_syntax.specs.Grammar.{IsExpr, IsFull, operator, prefix, quantifier_key, ranks, truth_key}
+use Rattle.heyvl_syntax.specs.Grammar.{IsFull, operator, prefix, quantifier_key, ranks, truth_key}
 use Rattle.heyvl_syntax.specs.declared.keys.Key.TheVariants as keys
 use Rattle.heyvl_syntax.specs.declared.marks.Mark.TheVariants as marks
 use Rattle.heyvl_syntax.specs.declared.operators.BinaryOp.TheVariants as ops
@@ -12,7 +12,7 @@ use Rattle.heyvl_syntax.specs.declared.spans.Span.{Span}
 use Rattle.heyvl_syntax.specs.declared.tokens.Token.{Token}
 use Rattle.heyvl_syntax.specs.declared.tokens.TokenKind.TheVariants as kinds
 use Rattle.heyvl_syntax.specs.declared.types.TypeName.TheVariants as types
-use Rattle.std.proofs.Common.{Bool, List, [], ap, arith, codes, false, pos, refl, true, ◌<◌, ◌∷◌, ◌≡◌, ◌≤◌, ℕ}
+use Rattle.std.proofs.Common.{Bool, List, [], ap, arith, codes, pos, refl, true, ◌<◌, ◌∷◌, ◌≡◌, ◌≤◌}
 
 -- W
 a_name : IsFull (name a 0) (text (word a ∷ []))

@@ -1,30 +1,29 @@
 -- What is computed at the front of bytes is what stands there.
-use Rattle.heyvl_syntax.proofs.Closing.{IsFirstClose, closes_first, never_closes}
-use Rattle.heyvl_syntax.proofs.Longest.{digit_number, mark_token, number-le, number_len-le, number_read, same_first, starts, word_le, word_tail}
-use Rattle.heyvl_syntax.proofs.Runs.{and_left, and_right, not_true, run_passes, word_run_ends, word_run_stops}
-use Rattle.heyvl_syntax.proofs.Starts.{Begins, BeginsBy, digit_opens_no_word, letter_opens_word, opens_mark, opens_word, token_begins, word_no_white, digit_no_white}
+use Rattle.heyvl_syntax.proofs.Closing.{closes_first, never_closes}
+use Rattle.heyvl_syntax.proofs.Longest.{digit_number, mark_token, number-le, number_len-le, number_read, same_first, starts, word_le}
+use Rattle.heyvl_syntax.proofs.Runs.{and_left, not_true, run_passes, word_run_ends, word_run_stops}
+use Rattle.heyvl_syntax.proofs.Starts.{BeginsBy, digit_opens_no_word, opens_word, token_begins, word_no_white}
 use Rattle.heyvl_syntax.proofs.Tables.{key_text_of, mark_longest, mark_starts, no_key_text, no_mark_starts}
-use Rattle.heyvl_syntax.specs.Bytes.{ends_word, is_letter, is_line_feed, is_white, is_word_byte}
-use Rattle.heyvl_syntax.specs.Comments.{IsBlockComment, IsLineComment, IsOpenComment, closes_at, opens_block, opens_comment, opens_line}
+use Rattle.heyvl_syntax.specs.Bytes.{is_letter, is_line_feed, is_white, is_word_byte}
+use Rattle.heyvl_syntax.specs.Comments.{IsBlockComment, IsLineComment, closes_at, opens_block, opens_comment, opens_line}
 use Rattle.heyvl_syntax.specs.Fronts.{IsInside, block_front, first_close, front_of, key_of, mark_front, mark_of, number_front, number_len, number_text, word_front, word_text}
-use Rattle.heyvl_syntax.specs.Keys.{key_text}
-use Rattle.heyvl_syntax.specs.Literals.{IsNumber, is_too_large, literal}
+use Rattle.heyvl_syntax.specs.Literals.{is_too_large, literal}
 use Rattle.heyvl_syntax.specs.Marks.{mark_text}
-use Rattle.heyvl_syntax.specs.Tokens.{IsFault, IsLargeNumber, IsLongest, IsNoPart, IsToken, IsTokenOf, IsWhite, IsWord, is_beyond_limits}
+use Rattle.heyvl_syntax.specs.Tokens.{IsFault, IsLongest, IsToken, IsTokenOf, IsWhite, is_beyond_limits}
 use Rattle.heyvl_syntax.specs.declared.fronts.Front.TheVariants as fronts
 use Rattle.heyvl_syntax.specs.declared.fronts.Front.{Front}
 use Rattle.heyvl_syntax.specs.declared.keys.Key.{Key}
 use Rattle.heyvl_syntax.specs.declared.marks.Mark.{Mark}
 use Rattle.heyvl_syntax.specs.declared.tokens.TokenKind.TheVariants as kinds
 use Rattle.heyvl_syntax.specs.declared.tokens.TokenKind.{TokenKind}
-use Rattle.std.proofs.Common.{Bool, List, None, Option, Some, [], ap, arith, cond, drop, false, inl, inr, length, nat_eq, not, refl, subst, suc, sym, take, true, zero, ◌&&◌, ◌++◌, ◌+◌, ◌<◌, ◌==◌, ◌||◌, ◌∙◌, ◌∷◌, ◌≡◌, ◌≤◌, ◌⊎◌, ℕ}
+use Rattle.std.proofs.Common.{Bool, List, None, Option, Some, [], ap, arith, cond, drop, false, inl, inr, length, nat_eq, not, refl, subst, suc, sym, take, true, zero, ◌&&◌, ◌++◌, ◌+◌, ◌<◌, ◌∙◌, ◌∷◌, ◌≡◌, ◌≤◌, ◌⊎◌, ℕ}
 use Rattle.std.proofs.Math.Seq.{take-append_seam}
 use Rattle.std.proofs.lemmas.Bool.Decides.{nat_tests}
 use Rattle.std.proofs.lemmas.List.Sums.{prefix_len-le-length}
 use Rattle.std.proofs.lemmas.List.{length-drop, length-take, length-take-le, take-append-drop}
 use Rattle.std.specs.Char.{is_ascii_digit}
 use Rattle.std.specs.Cmp.Lexicographic.{pointwise, same_text}
-use Rattle.std.specs.List.{list_all, position_or_len, prefix_len, starts_with}
+use Rattle.std.specs.List.{position_or_len, prefix_len, starts_with}
 
 -- The front says what stands there.
 abbrev pub IsFront : List ℕ → Front → Type 0

@@ -1,17 +1,16 @@
 -- Tokens stand one behind another, and the bytes of their spans spell them.
 use Rattle.heyvl_syntax.proofs.FrontIs.{front-inside, longest_some}
 use Rattle.heyvl_syntax.proofs.SmallLiterals.{literal_in_limits}
-use Rattle.heyvl_syntax.specs.Comments.{IsBlockComment, IsLineComment}
-use Rattle.heyvl_syntax.specs.Literals.{IsInLimits, IsNumber, is_too_large, literal}
+use Rattle.heyvl_syntax.specs.Literals.{IsInLimits}
 use Rattle.heyvl_syntax.specs.TokenLaws.{HasSmallLiteral, StandInOrder}
-use Rattle.heyvl_syntax.specs.Tokens.{IsLongest, IsPart, IsToken, Lexes, Part, Splits, comment, is_beyond_limits, span_of, token, tokens_of, white}
+use Rattle.heyvl_syntax.specs.Tokens.{IsPart, IsToken, Lexes, Part, Splits, comment, is_beyond_limits, token, tokens_of, white}
 use Rattle.heyvl_syntax.specs.declared.fronts.Front.TheVariants as fronts
 use Rattle.heyvl_syntax.specs.declared.literals.Lit.{Lit}
 use Rattle.heyvl_syntax.specs.declared.spans.Span.{Span}
 use Rattle.heyvl_syntax.specs.declared.tokens.Token.{Token}
 use Rattle.heyvl_syntax.specs.declared.tokens.TokenKind.TheVariants as kinds
 use Rattle.heyvl_syntax.specs.declared.tokens.TokenKind.{TokenKind}
-use Rattle.std.proofs.Common.{List, [], arith, drop, false, inl, inr, length, slice_range, subst, suc, sym, take, zero, ◌+◌, ◌-◌, ◌<◌, ◌∷◌, ◌≡◌, ◌≤◌, ℕ}
+use Rattle.std.proofs.Common.{List, [], arith, drop, false, inl, inr, length, slice_range, subst, sym, take, ◌+◌, ◌-◌, ◌<◌, ◌∷◌, ◌≡◌, ◌≤◌, ℕ}
 use Rattle.std.proofs.lemmas.List.{drop-drop, length-drop}
 
 -- From the place of one of the parts on.

@@ -7,6 +7,7 @@ use Rattle.heyvl_syntax.specs.declared.marks.Mark.{Mark}
 use Rattle.heyvl_syntax.specs.declared.tokens.Token.{Token}
 use Rattle.heyvl_syntax.specs.declared.tokens.TokenKind.TheVariants as kinds
 use Rattle.heyvl_syntax.specs.declared.tokens.TokenKind.{TokenKind}
+use Rattle.std.specs.Prelude.{pos}
 use Rattle.std.proofs.Common.{List, [], codes, length, refl, replicate, ◌++◌, ◌∷◌, ◌≡◌, ℕ}
 
 -- The load doesn't depend on places.
@@ -21,6 +22,9 @@ mark m = here (kinds.Mark m)
 
 abbrev word : Token
 word = here (kinds.Word (codes "x"))
+
+abbrev number : Token
+number = here (kinds.Number (record { digits = pos 1; places = 0 }))
 
 abbrev of_text : List Token → List ℕ
 of_text = loads (0 ∷ [])
@@ -47,6 +51,17 @@ head =
 
 head_is : of_text head ≡ 0 ∷ 0 ∷ 1 ∷ 0 ∷ 0 ∷ 1 ∷ 0 ∷ 0 ∷ []
 head_is = refl
+
+-- coproc h() -> (b: Bool) pre 1 post [b] { havoc b }
+abbrev havoc_text : List Token
+havoc_text =
+    key keys.CoProc ∷ word ∷ mark marks.ParenLeft ∷ mark marks.ParenRight ∷ mark marks.Arrow ∷ mark marks.ParenLeft ∷ word
+    ∷ mark marks.Colon ∷ key keys.BoolWord ∷ mark marks.ParenRight ∷ key keys.Pre ∷ number ∷ key keys.Post
+    ∷ mark marks.BracketLeft ∷ word ∷ mark marks.BracketRight ∷ mark marks.BraceLeft ∷ key keys.Havoc ∷ word
+    ∷ mark marks.BraceRight ∷ []
+
+havoc_text_is : of_text havoc_text ≡ 0 ∷ 0 ∷ 1 ∷ 0 ∷ 0 ∷ 1 ∷ 1 ∷ 1 ∷ 1 ∷ 0 ∷ 0 ∷ 0 ∷ 0 ∷ 1 ∷ 1 ∷ 0 ∷ 1 ∷ 1 ∷ 1 ∷ 0 ∷ []
+havoc_text_is = refl
 
 -- 200 open parentheses are within the limit. The 201st, behind 8 tokens of a head the one with index 208, is above it.
 parentheses_200 : overload (head ++ replicate 200 (mark marks.ParenLeft)) ≡ 208

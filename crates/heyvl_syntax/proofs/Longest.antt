@@ -1,19 +1,18 @@
 -- The longest token that begins with a byte.
-use Rattle.heyvl_syntax.proofs.Runs.{and_left, and_right, not_true, passes-le_run, run_ends, run_passes, run_stops, word_run_stops}
-use Rattle.heyvl_syntax.proofs.Starts.{Begins, BeginsBy, digit_no_white, digit_opens_no_word, letter_opens_word, opens_mark, opens_word, token_begins, word_no_white}
-use Rattle.heyvl_syntax.proofs.Tables.{mark_longest}
-use Rattle.heyvl_syntax.specs.Bytes.{ends_word, is_letter, is_point, is_white, is_word_byte}
-use Rattle.heyvl_syntax.specs.Fronts.{fraction_len, mark_of, number_len, with_point}
+use Rattle.heyvl_syntax.proofs.Runs.{and_left, and_right, not_true, passes-le_run, run_passes, run_stops}
+use Rattle.heyvl_syntax.proofs.Starts.{BeginsBy, digit_no_white, digit_opens_no_word, letter_opens_word, opens_word, token_begins, word_no_white}
+use Rattle.heyvl_syntax.specs.Bytes.{is_point, is_white, is_word_byte}
+use Rattle.heyvl_syntax.specs.Fronts.{fraction_len, number_len, with_point}
 use Rattle.heyvl_syntax.specs.Literals.{IsDigits, IsNumber}
 use Rattle.heyvl_syntax.specs.Marks.{mark_text}
 use Rattle.heyvl_syntax.specs.Tokens.{IsToken}
 use Rattle.heyvl_syntax.specs.declared.marks.Mark.{Mark}
 use Rattle.heyvl_syntax.specs.declared.tokens.TokenKind.TheVariants as kinds
 use Rattle.heyvl_syntax.specs.declared.tokens.TokenKind.{TokenKind}
-use Rattle.std.proofs.Common.{Bool, List, Some, [], ap, append_assoc, arith, cond, drop, false, inl, inr, length, nat_eq, not, refl, subst, suc, sym, take, true, zero, ◌&&◌, ◌++◌, ◌+◌, ◌<◌, ◌==◌, ◌||◌, ◌∙◌, ◌∷◌, ◌≡◌, ◌≤◌, ◌⊎◌, ℕ}
-use Rattle.std.proofs.Math.Seq.{drop-append_seam, take-append-add, take-append_seam}
+use Rattle.std.proofs.Common.{Bool, List, [], ap, append_assoc, arith, cond, drop, false, inl, inr, length, nat_eq, not, refl, subst, suc, sym, take, true, zero, ◌&&◌, ◌++◌, ◌+◌, ◌<◌, ◌∷◌, ◌≡◌, ◌≤◌, ℕ}
+use Rattle.std.proofs.Math.Seq.{drop-append_seam, take-append_seam}
 use Rattle.std.proofs.lemmas.Bool.Decides.{nat_tests}
-use Rattle.std.proofs.lemmas.List.{append-nil, length-append, length-drop, length-take-le, take-append-drop}
+use Rattle.std.proofs.lemmas.List.{append-nil, length-append, length-drop}
 use Rattle.std.proofs.lemmas.List.Sums.{prefix_len-le-length}
 use Rattle.std.proofs.lemmas.List.Folds.{length-prefix_len}
 use Rattle.std.specs.Char.{is_ascii_digit}

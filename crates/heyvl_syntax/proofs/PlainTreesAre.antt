@@ -1,12 +1,12 @@
 -- The equations of plain trees.
-use Rattle.heyvl_syntax.specs.Expressions.{Expression, expression, expression_layer}
+use Rattle.heyvl_syntax.specs.Expressions.{expression}
 use Rattle.heyvl_syntax.specs.PlainTrees.{PlainExpressions, PlainStatements}
-use Rattle.heyvl_syntax.specs.Statements.{Statement, arm_layer, statement, statement_layer}
+use Rattle.heyvl_syntax.specs.Statements.{statement}
 use Rattle.heyvl_syntax.specs.declared.expressions.Expr.TheFolds.{fold-roll-Expr}
 use Rattle.heyvl_syntax.specs.declared.expressions.Expr.TheVariants as exprs
 use Rattle.heyvl_syntax.specs.declared.statements.Stmt.TheFolds.{fold-roll-Arm, fold-roll-Stmt}
 use Rattle.heyvl_syntax.specs.declared.statements.Stmt.TheVariants as stmts
-use Rattle.std.proofs.Common.{ap, refl, sym, ◌∙◌, ◌≡◌}
+use Rattle.std.proofs.Common.{ap, sym, ◌∙◌}
 
 pub plain_expressions : PlainExpressions
 plain_expressions = record {

@@ -1,6 +1,5 @@
 -- Worked rows of the grammar of procedures and files: small texts with the trees that they spell.
-use Rattle.heyvl_syntax.proofs.Texts.{a, b, c, key, leaf, name, placed, sign, span, text, token, word}
-use Rattle.heyvl_syntax.specs.Expressions.{Expression}
+use Rattle.heyvl_syntax.proofs.Texts.{a, b, c, key, leaf, name, sign, span, text, token, word}
 use Rattle.heyvl_syntax.specs.Grammar.{Clause, IsClauses, IsFile, IsNote, IsParam, IsProc, note_word, proc_key}
 use Rattle.heyvl_syntax.specs.Procedures.{Procedure}
 use Rattle.heyvl_syntax.specs.Productions.{IsList0}
@@ -12,7 +11,7 @@ use Rattle.heyvl_syntax.specs.declared.procedures.Note.{Note}
 use Rattle.heyvl_syntax.specs.declared.procedures.Param.{Param}
 use Rattle.heyvl_syntax.specs.declared.tokens.TokenKind.{TokenKind}
 use Rattle.heyvl_syntax.specs.declared.types.TypeName.TheVariants as types
-use Rattle.std.proofs.Common.{Bool, List, None, Option, Some, [], codes, false, refl, true, ◌+◌, ◌++◌, ◌∷◌, ◌≡◌, ℕ}
+use Rattle.std.proofs.Common.{Bool, List, None, Some, [], codes, false, refl, true, ◌+◌, ◌++◌, ◌∷◌, ℕ}
 
 -- '@' ('wlp'|'wp'|'ert')
 note_rows : (note : Note) → IsNote note (text (sign marks.AtSign ∷ word (note_word note) ∷ []))

@@ -2,11 +2,12 @@
 
 use Rattle.heyvl_syntax.specs.Fronts.{front_of}
 use Rattle.heyvl_syntax.specs.Literals.{is_too_large, literal}
+use Rattle.heyvl_syntax.specs.Places.{place_at}
 use Rattle.heyvl_syntax.specs.declared.fronts.Front.TheVariants as fronts
 use Rattle.heyvl_syntax.specs.declared.keys.Key.TheVariants as keys
 use Rattle.heyvl_syntax.specs.declared.marks.Mark.TheVariants as marks
 use Rattle.heyvl_syntax.specs.declared.tokens.TokenKind.TheVariants as kinds
-use Rattle.std.proofs.Common.{Bool, List, [], codes, false, pos, refl, true, ◌∷◌, ◌≡◌, ℕ}
+use Rattle.std.proofs.Common.{[], codes, false, pos, refl, true, ◌∷◌, ◌≡◌}
 
 -- Literals lose the zeros at their end behind the point, and keep what stands before it.
 half_is : literal (codes "0.50") ≡ record { digits = pos 5; places = 1 }
@@ -110,3 +111,22 @@ number_then_word = refl
 
 high_byte : front_of (200 ∷ []) ≡ fronts.Fault 1 1
 high_byte = refl
+
+-- Lines and columns: the first byte, after a line feed, the line feed itself, and the end.
+first_place : place_at (codes "ab") 0 ≡ record { line = 1; column = 1 }
+first_place = refl
+
+second_column : place_at (codes "ab") 1 ≡ record { line = 1; column = 2 }
+second_column = refl
+
+line_feed_itself : place_at (97 ∷ 10 ∷ 98 ∷ []) 1 ≡ record { line = 1; column = 2 }
+line_feed_itself = refl
+
+after_line_feed : place_at (97 ∷ 10 ∷ 98 ∷ []) 2 ≡ record { line = 2; column = 1 }
+after_line_feed = refl
+
+end_of_file : place_at (97 ∷ 10 ∷ 98 ∷ []) 3 ≡ record { line = 2; column = 2 }
+end_of_file = refl
+
+end_after_line_feed : place_at (97 ∷ 13 ∷ 10 ∷ []) 3 ≡ record { line = 2; column = 1 }
+end_after_line_feed = refl

@@ -1,6 +1,6 @@
 -- How many elements at the front of a list pass a test, where the list is split into a text and its rest.
 use Rattle.heyvl_syntax.specs.Bytes.{ends_word, is_word_byte}
-use Rattle.std.proofs.Common.{Bool, List, [], arith, cond, drop, false, length, not, refl, suc, sym, take, true, zero, ◌&&◌, ◌++◌, ◌+◌, ◌∙◌, ◌∷◌, ◌≡◌, ◌≤◌, ap, ℕ}
+use Rattle.std.proofs.Common.{Bool, List, [], arith, cond, drop, false, length, not, refl, suc, sym, take, true, ◌&&◌, ◌++◌, ◌+◌, ◌∷◌, ◌≡◌, ◌≤◌, ℕ}
 use Rattle.std.specs.List.{list_all, prefix_len}
 
 pub one-add : (n : ℕ) → 1 + n ≡ suc n

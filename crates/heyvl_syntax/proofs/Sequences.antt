@@ -1,7 +1,6 @@
 -- Laws of sequences of parts: how a text is taken apart from its front.
 use Rattle.heyvl_syntax.specs.Productions.{AreSemis, IsNothing, IsOne, at, ◌or◌, ◌then◌}
 use Rattle.heyvl_syntax.specs.declared.marks.Mark.TheVariants as marks
-use Rattle.heyvl_syntax.specs.declared.spans.Span.{Span}
 use Rattle.heyvl_syntax.specs.declared.tokens.Token.{Token}
 use Rattle.heyvl_syntax.specs.declared.tokens.TokenKind.TheVariants as kinds
 use Rattle.heyvl_syntax.specs.declared.tokens.TokenKind.{TokenKind}

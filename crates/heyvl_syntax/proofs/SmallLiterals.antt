@@ -2,14 +2,14 @@
 use Rattle.heyvl_syntax.proofs.Digits.{kept-le}
 use Rattle.heyvl_syntax.proofs.Runs.{and_left, and_right, run_ends, run_stops}
 use Rattle.heyvl_syntax.specs.Bytes.{is_point}
-use Rattle.heyvl_syntax.specs.Literals.{IsDigits, IsInLimits, IsNumber, fraction, is_too_large, literal, number, whole, with_digit, without_last_zeros}
-use Rattle.std.proofs.Common.{Bool, List, [], arith, cond, drop, false, fold, inl, inr, length, nat_eq, nat_le, nat_lt, not, pos, refl, subst, suc, sym, take, true, ◌%◌, ◌&&◌, ◌*◌, ◌++◌, ◌+◌, ◌-◌, ◌<◌, ◌^◌, ◌||◌, ◌∙◌, ◌∷◌, ◌≡◌, ◌≤◌, ap, ℕ}
+use Rattle.heyvl_syntax.specs.Literals.{IsInLimits, IsNumber, fraction, is_too_large, literal, number, whole, with_digit, without_last_zeros}
+use Rattle.std.proofs.Common.{Bool, List, [], arith, cond, false, fold, inl, inr, length, nat_eq, nat_le, nat_lt, not, refl, subst, suc, true, ◌%◌, ◌&&◌, ◌++◌, ◌+◌, ◌<◌, ◌^◌, ◌||◌, ◌∙◌, ◌∷◌, ◌≡◌, ◌≤◌, ap, ℕ}
 use Rattle.std.proofs.Math.Seq.{drop-append-add}
 use Rattle.std.proofs.lemmas.Bool.Decides.{nat_tests}
 use Rattle.std.proofs.lemmas.List.Sums.{fold-append, fold_push}
 use Rattle.std.proofs.lemmas.List.{append-nil, drop_all}
 use Rattle.std.specs.Char.{is_ascii_digit}
-use Rattle.std.specs.List.{list_all, position_or_len, prefix_len}
+use Rattle.std.specs.List.{list_all, position_or_len}
 
 no_point : (b : ℕ) → is_ascii_digit b ≡ true → not (is_point b) ≡ true
 no_point b h = grind (arith, nat_tests)

@@ -1,8 +1,6 @@
 -- With which byte a token begins, and how long a token that begins with it is at most.
-use Rattle.heyvl_syntax.proofs.Runs.{and_left, and_right, passes-le_run, run_ends, run_stops, word_run_stops}
-use Rattle.heyvl_syntax.proofs.Tables.{mark_longest}
-use Rattle.heyvl_syntax.specs.Bytes.{ends_word, is_letter, is_point, is_white, is_word_byte}
-use Rattle.heyvl_syntax.specs.Fronts.{fraction_len, mark_of, number_len, with_point}
+use Rattle.heyvl_syntax.proofs.Runs.{and_left, and_right}
+use Rattle.heyvl_syntax.specs.Bytes.{is_letter, is_white, is_word_byte}
 use Rattle.heyvl_syntax.specs.Keys.{key_text}
 use Rattle.heyvl_syntax.specs.Literals.{IsDigits, IsNumber}
 use Rattle.heyvl_syntax.specs.Marks.{mark_text}
@@ -13,12 +11,10 @@ use Rattle.heyvl_syntax.specs.declared.marks.Mark.TheVariants as marks
 use Rattle.heyvl_syntax.specs.declared.marks.Mark.{Mark}
 use Rattle.heyvl_syntax.specs.declared.tokens.TokenKind.TheVariants as kinds
 use Rattle.heyvl_syntax.specs.declared.tokens.TokenKind.{TokenKind}
-use Rattle.std.proofs.Common.{Bool, List, Some, [], ap, append_assoc, arith, cond, drop, false, inl, inr, length, nat_eq, not, refl, subst, suc, sym, take, true, zero, ◌&&◌, ◌++◌, ◌+◌, ◌<◌, ◌==◌, ◌||◌, ◌∙◌, ◌∷◌, ◌≡◌, ◌≤◌, ◌⊎◌, ℕ}
-use Rattle.std.proofs.Math.Seq.{take-append_seam}
+use Rattle.std.proofs.Common.{Bool, List, [], ap, arith, false, inl, inr, not, refl, sym, true, ◌&&◌, ◌++◌, ◌==◌, ◌||◌, ◌∙◌, ◌∷◌, ◌≡◌, ℕ}
 use Rattle.std.proofs.lemmas.Bool.Decides.{nat_tests}
 use Rattle.std.specs.Char.{is_ascii_digit}
-use Rattle.std.specs.Cmp.Lexicographic.{other_text, pointwise}
-use Rattle.std.specs.List.{list_all, prefix_len, starts_with}
+use Rattle.std.specs.List.{list_all}
 
 -- The first byte of a word or of a key.
 abbrev pub opens_word : ℕ → Bool

@@ -13,10 +13,9 @@ use Rattle.heyvl_syntax.specs.declared.spans.Span.{Span}
 use Rattle.heyvl_syntax.specs.declared.statements.CheckKind.{CheckKind}
 use Rattle.heyvl_syntax.specs.declared.tokens.Token.{Token}
 use Rattle.heyvl_syntax.specs.declared.tokens.TokenKind.TheVariants as kinds
-use Rattle.heyvl_syntax.specs.declared.tokens.TokenKind.{TokenKind}
 use Rattle.heyvl_syntax.specs.declared.types.TypeName.TheVariants as types
 use Rattle.heyvl_syntax.specs.declared.types.TypeName.{TypeName}
-use Rattle.std.proofs.Common.{Bool, List, None, Some, [], ap, arith, codes, false, inl, inr, refl, true, ◌+◌, ◌++◌, ◌∷◌, ◌≡◌, ◌⊎◌, ℕ}
+use Rattle.std.proofs.Common.{Bool, List, None, Some, [], codes, false, inl, inr, refl, true, ◌+◌, ◌∷◌, ◌≡◌, ◌⊎◌, ℕ}
 
 -- One statement, and no semicolon behind it.
 one : {s : Span} → IsStmts (Block.next (Statement.validate false s) Block.done) (at (key keys.Validate) s ∷ [])

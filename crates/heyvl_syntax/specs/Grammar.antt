@@ -36,7 +36,7 @@
 -- its first byte to the end of its last token.
 use Rattle.heyvl_syntax.specs.Expressions.{Expression}
 use Rattle.heyvl_syntax.specs.Procedures.{Procedure}
-use Rattle.heyvl_syntax.specs.Productions.{AreSemis, IsAt, IsEach, IsKey, IsList, IsList0, IsLiteral, IsMark, IsName, IsNothing, IsOne, IsOptional, extent, ◌or◌, ◌then◌}
+use Rattle.heyvl_syntax.specs.Productions.{AreSemis, IsAt, IsEach, IsKey, IsList, IsList0, IsLiteral, IsMark, IsName, IsNothing, IsOptional, extent, ◌or◌, ◌then◌}
 use Rattle.heyvl_syntax.specs.Statements.{Arms, Block, LoopRule, RightSide, Statement}
 use Rattle.heyvl_syntax.specs.Tokens.{Lexes}
 use Rattle.heyvl_syntax.specs.declared.keys.Key.TheVariants as keys

@@ -7,6 +7,7 @@ pub mod Keys
 pub mod Literals
 pub mod Load
 pub mod Marks
+pub mod Places
 pub mod PlainTrees
 pub mod Procedures
 pub mod Productions

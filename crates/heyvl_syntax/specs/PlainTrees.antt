@@ -1,6 +1,6 @@
 -- The plain trees of expressions and statements, variant by variant.
 use Rattle.heyvl_syntax.specs.Expressions.{Expression, expression}
-use Rattle.heyvl_syntax.specs.Statements.{RightSide, Statement, arms, block, guarded, loop_rules, optional_right, right_side, statement}
+use Rattle.heyvl_syntax.specs.Statements.{Statement, arms, block, guarded, loop_rules, optional_right, right_side, statement}
 use Rattle.heyvl_syntax.specs.declared.expressions.Expr.TheVariants as exprs
 use Rattle.heyvl_syntax.specs.declared.expressions.Expr.{Expr}
 use Rattle.heyvl_syntax.specs.declared.literals.Lit.{Lit}

@@ -1,6 +1,6 @@
 //! Rows of bytes with their tokens, written by hand.
 
-use crate::{LexStop, Token, TokenKind, lex};
+use crate::{LexStop, Token, TokenKind, lex, place_at};
 use std::alloc::{AllocError, Global};
 
 /// One line of text per token, or the fault.
@@ -199,6 +199,26 @@ fn reads_each_key_and_mark(rt: HostRuntime) -> Result<(), AllocError> {
         let want = format!(in alloc; "mark {name} 0..{end}; ")?;
         let got = show(alloc, lex(alloc, text.as_bytes()))?;
         assert_eq!(rt; got.as_str(), want.as_str());
+    }
+    Ok(())
+}
+
+#[test]
+fn shows_places(rt: HostRuntime) -> Result<(), AllocError> {
+    let alloc = rt.alloc();
+    let rows = [
+        (0, "1:1"),
+        (1, "1:2"),
+        (2, "1:3"),
+        (3, "2:1"),
+        (4, "3:1"),
+        (5, "3:2"),
+        (6, "3:3"),
+    ];
+    for (index, want) in rows {
+        let place = place_at(b"ab\n\n\xFFc", index);
+        let got = format!(in alloc; "{place}")?;
+        assert_eq!(rt; got.as_str(), want);
     }
     Ok(())
 }

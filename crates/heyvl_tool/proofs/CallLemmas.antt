@@ -1,7 +1,7 @@
 -- How a reply has its cause, from what reading the file gave.
-use Rattle.std.proofs.Common.{◌≡◌, ℕ, ◌+◌, ◌<◌, ◌≤◌, List, Option, Some, None, Result, Ok, Err, IfOk, IfSome, length, rules, arith, sym}
+use Rattle.std.proofs.Common.{◌≡◌, ℕ, ◌+◌, ◌≤◌, List, Result, Ok, Err, IfOk, IfSome, length, arith}
 use Rattle.std.specs.declared.alloc.AllocError.{AllocError}
-use Rattle.heyvl_tool.specs.Replies.{Call, HasCause, IsReplyTo, Reply, file_limit}
+use Rattle.heyvl_tool.specs.Replies.{Call, HasCause, IsReplyTo, file_limit}
 use Rattle.heyvl_tool.specs.Replies.HasCause.{by_bytes}
 use Rattle.heyvl_tool.specs.Responses.{reply_of}
 use Rattle.heyvl_tool.specs.Words.{AsksToVerify}

@@ -1,5 +1,5 @@
 -- What the bytes of a file are, from what its tokens spell.
-use Rattle.std.proofs.Common.{◌≡◌, ℕ, List, Result, Ok, Err, IfOk, subst, sym}
+use Rattle.std.proofs.Common.{ℕ, List, Result, Ok, Err, IfOk, subst}
 use Rattle.std.specs.declared.alloc.AllocError.{AllocError}
 use Rattle.heyvl_syntax.specs.Tokens.{Lexes, Stops}
 use Rattle.heyvl_syntax.specs.declared.spans.Span.{Span}

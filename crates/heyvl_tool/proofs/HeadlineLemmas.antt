@@ -1,5 +1,5 @@
 -- What `verified` means, from the reply that a call made.
-use Rattle.std.proofs.Common.{arith, ◌≡◌, ◌⊎◌, inl, inr, ℕ, ◌<◌, zero, suc, get_or, List, [], ◌∷◌, Option, Some, IfSome, subst, sym, ap, ◌∙◌}
+use Rattle.std.proofs.Common.{arith, ◌≡◌, ℕ, ◌<◌, zero, suc, get_or, List, [], ◌∷◌, Option, Some, IfSome, subst, ap, ◌∙◌}
 use Rattle.heyvl_syntax.specs.declared.tokens.Token.{Token}
 use Rattle.heyvl_tool.specs.declared.answers.Answer.{Answer}
 use Rattle.heyvl_tool.specs.declared.answers.Verdict.{Verdict}
@@ -8,10 +8,9 @@ use Rattle.heyvl_tool.specs.Bound.{IsBounded}
 use Rattle.heyvl_tool.specs.Files.{IsFile}
 use Rattle.heyvl_tool.specs.Grammar.{Spells}
 use Rattle.heyvl_tool.specs.Headline.{IsHeadline, IsReportedVerified}
-use Rattle.heyvl_tool.specs.Limits.{IsWithinLimits}
 use Rattle.heyvl_tool.specs.Meaning.{program}
 use Rattle.heyvl_tool.specs.Procedure.{Procedure}
-use Rattle.heyvl_tool.specs.Replies.{Call, HasCause, IsReplyTo, IsVerdictOn, Reply}
+use Rattle.heyvl_tool.specs.Replies.{Call, HasCause, IsReplyTo, Reply}
 use Rattle.heyvl_tool.specs.Replies.HasCause.{by_words, by_source, by_length, by_bytes}
 use Rattle.heyvl_tool.specs.Replies.IsReplyTo.{verified, early}
 use Rattle.heyvl_tool.specs.Verdict.{IsVerdict}

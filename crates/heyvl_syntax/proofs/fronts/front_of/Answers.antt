@@ -1,4 +1,4 @@
-use Rattle.heyvl_syntax.proofs.FrontIs.{IsFront, front-inside, front-is}
+use Rattle.heyvl_syntax.proofs.FrontIs.{front-inside, front-is}
 use Rattle.heyvl_syntax.proofs.fronts.front_of.Goals as goal
 use Rattle.heyvl_syntax.specs.Fronts.{IsInside, front_of}
 use Rattle.heyvl_syntax.specs.declared.fronts.Front.{Front}

@@ -5,7 +5,7 @@ use Rattle.heyvl_syntax.specs.declared.spans.Span.{Span}
 use Rattle.heyvl_syntax.specs.declared.stops.LexStop.TheVariants as stops
 use Rattle.heyvl_syntax.specs.declared.stops.LexStop.{LexStop}
 use Rattle.heyvl_syntax.specs.declared.tokens.Token.{Token}
-use Rattle.std.proofs.Common.{Err, IfErr, IfOk, List, MatchResult, Ok, Result, sym, ℕ, ◌≡◌}
+use Rattle.std.proofs.Common.{Err, IfErr, IfOk, List, MatchResult, Ok, Result, ℕ, ◌≡◌}
 
 -- What stops bytes that are split into tokens.
 only_memory : (bytes : List ℕ) (stop : LexStop) → IsStop bytes stop → (tokens : List Token) → Lexes 0 bytes tokens → IsMemory stop

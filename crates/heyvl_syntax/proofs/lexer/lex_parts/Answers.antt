@@ -1,9 +1,7 @@
-use Rattle.heyvl_syntax.proofs.FrontIs.{IsFront}
 use Rattle.heyvl_syntax.proofs.Steps.{front_was, lexed_more, lexes_blank, lexes_end, stops_blank, stops_here, stops_token}
 use Rattle.heyvl_syntax.proofs.lexer.lex_parts.Goals as goal
-use Rattle.heyvl_syntax.specs.Tokens.{Lexes, Stops}
 use Rattle.heyvl_syntax.specs.declared.fronts.Front.TheVariants as fronts
-use Rattle.std.proofs.Common.{List, [], arith, drop, subst, ℕ, ◌+◌}
+use Rattle.std.proofs.Common.{[], arith}
 use Rattle.std.proofs.lemmas.List.{append-nil}
 
 pub returns-in-End-clause-found : goal.returns-in-End-clause-found

@@ -1,5 +1,5 @@
-use Rattle.std.proofs.Common.{◌≡◌, ℕ, List, Err, IfOk, ap, subst, rules, length}
-use Rattle.heyvl_io.specs.Order.{Order, order_after}
+use Rattle.std.proofs.Common.{◌≡◌, ℕ, List, Err, IfOk, ap, subst, rules}
+use Rattle.heyvl_io.specs.Order.{order_after}
 use Rattle.heyvl_tool.specs.Replies.{IsReplyTo}
 use Rattle.heyvl_tool.specs.Replies.HasCause.{by_source, by_length}
 use Rattle.heyvl_tool.specs.Responses.{reply_of}

@@ -1,6 +1,5 @@
-use Rattle.std.proofs.Common.{rules, arith, ap, ap₂, ◌∙◌, sym, map, string_bytes, codes, length, ◌≡◌, ◌∷◌, [], ℕ, List, suc}
+use Rattle.std.proofs.Common.{rules, arith, ap₂, ◌∙◌, sym, codes, length, ◌≡◌, ◌∷◌, [], ℕ, List}
 use Rattle.std.proofs.lemmas.Bool.{eqb-true}
-use Rattle.heyvl_tool.specs.Words.{AsksToVerify, IsFileWord, IsUsage}
 use Rattle.heyvl_tool.proofs.words.file_to_verify.Goals as goal
 
 -- A list that goes on with a list without elements has two.
