@@ -6,6 +6,8 @@ mod laws;
 mod operators;
 mod starts;
 mod stops;
+#[cfg(test)]
+mod tests;
 mod tokens;
 
 pub use expressions::read_expr;
