@@ -1,14 +1,13 @@
 //! Texts with the trees that they spell and the tokens behind them, or the indexes at which they are refused, all by hand.
 
 use crate::{PartStop, read_expr};
-use heyvl_syntax::{BinaryOp, Expr, LexStop, Name, Span, Token, UnaryOp, lex};
+use heyvl_syntax::{BinaryOp, Expr, LexStop, Lit, Name, Span, Token, TypeName, UnaryOp, lex};
 use std::alloc::{AllocError, Global};
 use std::process::Abort;
 use std::test::Fail;
 
-/// A text, and what it gives: the tree with braces around each operator and quantifier, its place, and how many tokens
-/// stand behind it; or the index of the token at which it is refused.
-const ROWS: [(&str, &str); 96] = [
+/// Atoms.
+const ATOMS: [(&str, &str); 10] = [
     ("a", "a 0..1 0"),
     ("7", "7 0..1 0"),
     ("1.5", "15e1 0..3 0"),
@@ -19,6 +18,10 @@ const ROWS: [(&str, &str); 96] = [
     ("[a]", "[a] 0..3 0"),
     ("?(a)", "?(a) 0..4 0"),
     ("ite(a, b, c)", "ite(a, b, c) 0..12 0"),
+];
+
+/// Prefix operators.
+const PREFIXES: [(&str, &str); 7] = [
     ("!a", "{!a} 0..2 0"),
     ("- a", "{-a} 0..3 0"),
     ("~~a", "{~{~a}} 0..3 0"),
@@ -26,6 +29,10 @@ const ROWS: [(&str, &str); 96] = [
     ("-a * b", "{{-a} * b} 3..4 0"),
     ("!a && b", "{{!a} && b} 3..5 0"),
     ("a * -b", "{a * {-b}} 2..3 0"),
+];
+
+/// How operators group.
+const GROUPING: [(&str, &str); 20] = [
     ("a - b - c", "{{a - b} - c} 6..7 0"),
     ("a / b * c", "{{a / b} * c} 6..7 0"),
     ("a + b * c", "{a + {b * c}} 2..3 0"),
@@ -46,18 +53,33 @@ const ROWS: [(&str, &str); 96] = [
     ("a + b < c", "{{a + b} < c} 6..7 0"),
     ("a && b == c", "{a && {b == c}} 2..4 0"),
     ("a == b && c", "{{a == b} && c} 7..9 0"),
+];
+
+/// Comparisons, which don't chain.
+const COMPARISONS: [(&str, &str); 6] = [
     ("a != b", "{a != b} 2..4 0"),
     ("a <= b", "{a <= b} 2..4 0"),
     ("a > b", "{a > b} 2..3 0"),
     ("a >= b", "{a >= b} 2..4 0"),
     ("a < b < c", "{a < b} 2..3 2"),
     ("a == b != c", "{a == b} 2..4 2"),
+];
+
+/// Quantifiers, and expressions in brackets.
+const NESTING: [(&str, &str); 6] = [
     ("sup x: UInt. a + b", "{sup x: UInt. {a + b}} 0..18 0"),
-    ("inf y: Bool. sup x: Int. y", "{inf y: Bool. {sup x: Int. y}} 0..26 0"),
+    (
+        "inf y: Bool. sup x: Int. y",
+        "{inf y: Bool. {sup x: Int. y}} 0..26 0",
+    ),
     ("a + (sup x: Real. x)", "{a + ({sup x: Real. x})} 2..3 0"),
     ("(a + b) * c", "{({a + b}) * c} 8..9 0"),
     ("((a))", "((a)) 0..5 0"),
     ("[a < b] + [b < c]", "{[{a < b}] + [{b < c}]} 8..9 0"),
+];
+
+/// What may stand behind an expression.
+const ENDS: [(&str, &str); 11] = [
     ("a b", "a 0..1 1"),
     ("a )", "a 0..1 1"),
     ("a , b", "a 0..1 2"),
@@ -69,6 +91,10 @@ const ROWS: [(&str, &str); 96] = [
     ("a { }", "a 0..1 2"),
     ("a else", "a 0..1 1"),
     ("a [b]", "a 0..1 3"),
+];
+
+/// Refused at an operand or its brackets.
+const REFUSED_OPERANDS: [(&str, &str); 18] = [
     ("", "refused 0"),
     (")", "refused 0"),
     ("* a", "refused 0"),
@@ -87,6 +113,10 @@ const ROWS: [(&str, &str); 96] = [
     ("ite(a, b)", "refused 5"),
     ("ite(a, b, c, d)", "refused 7"),
     ("ite(a, b, c", "refused 7"),
+];
+
+/// Refused in an `ite`, behind an operator or in a quantifier.
+const REFUSED_LISTS: [(&str, &str); 18] = [
     ("!", "refused 1"),
     ("a ==>", "refused 2"),
     ("a + sup x: Int. x", "refused 2"),
@@ -132,49 +162,90 @@ fn text_of(name: &Name) -> &str {
     std::str::from_utf8(name.as_bytes()).unwrap_or("?")
 }
 
-fn tree(alloc: Global, expr: &Expr) -> Result<String, AllocError> {
+fn prefix(op: UnaryOp) -> &'static str {
+    match op {
+        UnaryOp::Not => "!",
+        UnaryOp::Minus => "-",
+        UnaryOp::Tilde => "~",
+    }
+}
+
+fn write_number(alloc: Global, lit: Lit, text: &mut String) -> Result<(), AllocError> {
+    let digits = lit.digits;
+    text.push_str(format!(in alloc; "{digits}")?.as_str())?;
+    if lit.places != 0 {
+        let places = lit.places;
+        text.push_str(format!(in alloc; "e{places}")?.as_str())?;
+    }
+    Ok(())
+}
+
+fn write_binder(
+    alloc: Global,
+    up: bool,
+    name: &Name,
+    ty: TypeName,
+    text: &mut String,
+) -> Result<(), AllocError> {
+    let key = if up { "sup" } else { "inf" };
+    let name = text_of(name);
+    text.push_str(format!(in alloc; "{{{key} {name}: {ty:?}. ")?.as_str())?;
+    Ok(())
+}
+
+/// Appends the tree with braces around each operator and quantifier.
+fn write_tree(alloc: Global, expr: &Expr, text: &mut String) -> Result<(), AllocError> {
     match expr {
-        Expr::Number(lit, _) => {
-            let digits = lit.digits;
-            let places = lit.places;
-            if places == 0 {
-                return format!(in alloc; "{digits}");
-            }
-            format!(in alloc; "{digits}e{places}")
+        Expr::Number(lit, _) => write_number(alloc, *lit, text)?,
+        Expr::Truth(truth, _) => text.push_str(if *truth { "true" } else { "false" })?,
+        Expr::Infinity(_) => text.push_str("\\infty")?,
+        Expr::Name(name, _) => text.push_str(text_of(name))?,
+        Expr::Group(inner, _) => {
+            text.push_str("(")?;
+            write_tree(alloc, inner, text)?;
+            text.push_str(")")?;
         }
-        Expr::Truth(truth, _) => format!(in alloc; "{truth}"),
-        Expr::Infinity(_) => format!(in alloc; "\\infty"),
-        Expr::Name(name, _) => format!(in alloc; "{}", text_of(name)),
-        Expr::Group(inner, _) => format!(in alloc; "({})", tree(alloc, inner)?),
-        Expr::Bracket(inner, _) => format!(in alloc; "[{}]", tree(alloc, inner)?),
-        Expr::Embed(inner, _) => format!(in alloc; "?({})", tree(alloc, inner)?),
+        Expr::Bracket(inner, _) => {
+            text.push_str("[")?;
+            write_tree(alloc, inner, text)?;
+            text.push_str("]")?;
+        }
+        Expr::Embed(inner, _) => {
+            text.push_str("?(")?;
+            write_tree(alloc, inner, text)?;
+            text.push_str(")")?;
+        }
         Expr::Unary(op, inner, _) => {
-            let sign = match op {
-                UnaryOp::Not => "!",
-                UnaryOp::Minus => "-",
-                UnaryOp::Tilde => "~",
-            };
-            format!(in alloc; "{{{sign}{}}}", tree(alloc, inner)?)
+            text.push_str("{")?;
+            text.push_str(prefix(*op))?;
+            write_tree(alloc, inner, text)?;
+            text.push_str("}")?;
         }
         Expr::Binary(op, left, right, _) => {
-            let left = tree(alloc, left)?;
-            let right = tree(alloc, right)?;
-            let sign = sign(*op);
-            format!(in alloc; "{{{left} {sign} {right}}}")
+            text.push_str("{")?;
+            write_tree(alloc, left, text)?;
+            text.push_str(" ")?;
+            text.push_str(sign(*op))?;
+            text.push_str(" ")?;
+            write_tree(alloc, right, text)?;
+            text.push_str("}")?;
         }
         Expr::Choice(test, left, right, _) => {
-            let test = tree(alloc, test)?;
-            let left = tree(alloc, left)?;
-            let right = tree(alloc, right)?;
-            format!(in alloc; "ite({test}, {left}, {right})")
+            text.push_str("ite(")?;
+            write_tree(alloc, test, text)?;
+            text.push_str(", ")?;
+            write_tree(alloc, left, text)?;
+            text.push_str(", ")?;
+            write_tree(alloc, right, text)?;
+            text.push_str(")")?;
         }
         Expr::Bound(up, name, ty, inner, _) => {
-            let key = if *up { "sup" } else { "inf" };
-            let name = text_of(name);
-            let inner = tree(alloc, inner)?;
-            format!(in alloc; "{{{key} {name}: {ty:?}. {inner}}}")
+            write_binder(alloc, *up, name, *ty, text)?;
+            write_tree(alloc, inner, text)?;
+            text.push_str("}")?;
         }
     }
+    Ok(())
 }
 
 fn place(expr: &Expr) -> Span {
@@ -208,10 +279,12 @@ fn shown(alloc: Global, text: &str) -> Result<String, Fail> {
     let tokens = tokens_of(alloc, text)?;
     match read_expr(alloc, &tokens) {
         Ok((expr, rest)) => {
-            let tree = tree(alloc, &expr)?;
+            let mut text = String::new(alloc);
+            write_tree(alloc, &expr, &mut text)?;
             let place = place(&expr);
             let left = rest.len();
-            Ok(format!(in alloc; "{tree} {place} {left}")?)
+            text.push_str(format!(in alloc; " {place} {left}")?.as_str())?;
+            Ok(text)
         }
         Err(PartStop::Fault(left)) => {
             let index = tokens.len().saturating_sub(left);
@@ -221,14 +294,55 @@ fn shown(alloc: Global, text: &str) -> Result<String, Fail> {
     }
 }
 
-#[test]
-fn reads_rows(rt: HostRuntime) -> Result<(), Fail> {
+/// Each text, and what it gives: the tree, its place, and how many tokens stand behind it; or the index of the token at
+/// which it is refused.
+fn check_rows(rt: &(impl Abort + AllocGlobal), rows: &[(&str, &str)]) -> Result<(), Fail> {
     let alloc = rt.alloc();
-    for (text, want) in ROWS {
+    for (text, want) in rows {
         let got = shown(alloc, text)?;
-        assert_eq!(rt; got.as_str(), want, "{text}");
+        assert_eq!(rt; got.as_str(), *want, "{text}");
     }
     Ok(())
+}
+
+#[test]
+fn reads_atoms(rt: HostRuntime) -> Result<(), Fail> {
+    check_rows(&rt, &ATOMS)
+}
+
+#[test]
+fn reads_prefixes(rt: HostRuntime) -> Result<(), Fail> {
+    check_rows(&rt, &PREFIXES)
+}
+
+#[test]
+fn reads_grouping(rt: HostRuntime) -> Result<(), Fail> {
+    check_rows(&rt, &GROUPING)
+}
+
+#[test]
+fn reads_comparisons(rt: HostRuntime) -> Result<(), Fail> {
+    check_rows(&rt, &COMPARISONS)
+}
+
+#[test]
+fn reads_nesting(rt: HostRuntime) -> Result<(), Fail> {
+    check_rows(&rt, &NESTING)
+}
+
+#[test]
+fn reads_ends(rt: HostRuntime) -> Result<(), Fail> {
+    check_rows(&rt, &ENDS)
+}
+
+#[test]
+fn reads_refused_operands(rt: HostRuntime) -> Result<(), Fail> {
+    check_rows(&rt, &REFUSED_OPERANDS)
+}
+
+#[test]
+fn reads_refused_lists(rt: HostRuntime) -> Result<(), Fail> {
+    check_rows(&rt, &REFUSED_LISTS)
 }
 
 /// A text 200 times, `a`, and another text 200 times.
