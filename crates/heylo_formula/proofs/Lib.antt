@@ -6,3 +6,5 @@ pub mod SubstitutionSteps
 pub mod Mirrors
 pub mod SubstitutionTrees
 pub mod SubstitutionResults
+pub mod TypedValues
+pub mod BoundedChoices

@@ -6,6 +6,7 @@ use Rattle.heyvl_num.specs.Rational.{zeroʳ, leqʳ}
 use Rattle.heyvl_num.specs.Value.{Value}
 use Rattle.heyvl_num.specs.Value.Value.{finite, infinite}
 use Rattle.heylo_formula.specs.Formula.{Form, Cond}
+use Rattle.heylo_formula.specs.State.{Env, has}
 use Rattle.heylo_formula.specs.declared.types.Ty.{Ty}
 
 -- The types of expressions that are numbers. EUReal is UReal with infinity.
@@ -136,3 +137,7 @@ abbrev mutual
 -- A formula: a form of UInt, UReal or EUReal.
 abbrev pub IsFormula : Types → Form → Type 0
 IsFormula types f = is_unsigned (type_of types f) ≡ true
+
+-- Each variable has a value of its type.
+pub record HasTypes (types : Types) (s : Env) : Type 0 where
+  pub typed : (x : ℕ) → has (types x) (s x) ≡ true

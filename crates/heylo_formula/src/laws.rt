@@ -2,6 +2,7 @@
 //! reason about.
 
 ghost use Rattle.heylo_formula.specs.Laws as law;
+ghost use Rattle.heylo_formula.specs.ExtremaLaws as typed;
 
 /// A value depends on the free variables alone, and on choices only where there is a binder.
 pub fn what_values_depend_on()
@@ -23,4 +24,16 @@ pub fn substitution_changes_the_state()
     ensures value { law.SubstitutionChangesState }
     ensures truth { law.SubstitutionChangesStateOfTruth }
     ensures fresh { law.FreshIsLeast }
+{}
+
+/// What the types of forms say of their values.
+pub fn types_bound_values()
+    ensures finite { typed.FiniteTypesAreFinite }
+    ensures nonnegative { typed.FormulasAreNonnegative }
+{}
+
+/// What a formula with binders means is bounded by what its value is for each choice.
+pub fn bounds_hold_by_choices()
+    ensures binder_free { typed.BinderFreeFormsMeanTheirValues }
+    ensures bounds { typed.BoundsHoldByChoices }
 {}

@@ -1,0 +1,5 @@
+use Rattle.heylo_formula.proofs.TypedValues.{finite_value, nonnegative_value}
+use Rattle.heylo_formula.proofs.laws.types_bound_values.Goals as goal
+
+pub returns : goal.returns
+returns c = record { finite = finite_value; nonnegative = nonnegative_value }

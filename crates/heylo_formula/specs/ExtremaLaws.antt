@@ -1,0 +1,29 @@
+-- Laws of typed values and of suprema and infima.
+use Rattle.std.specs.Prelude.{◌≡◌, ◌↔◌, Bool, true, false}
+use Rattle.heyvl_num.specs.Value.{Value, zeroᵛ, ◌≤ᵛ◌}
+use Rattle.heylo_formula.specs.Operators.{is_finite}
+use Rattle.heylo_formula.specs.State.{Env}
+use Rattle.heylo_formula.specs.Choices.{Choices}
+use Rattle.heylo_formula.specs.Formula.{Form}
+use Rattle.heylo_formula.specs.Meaning.{value}
+use Rattle.heylo_formula.specs.Binders.{has_binder}
+use Rattle.heylo_formula.specs.Typing.{Types, type_of, is_finite_type, IsFormula, HasTypes}
+use Rattle.heylo_formula.specs.Goals.{Compares}
+use Rattle.heylo_formula.specs.Extrema.{Means, is_directed}
+
+-- A form of Int, UInt or UReal is finite in every state, for all choices.
+abbrev pub FiniteTypesAreFinite : Type 0
+FiniteTypesAreFinite = (types : Types) (f : Form) (s : Env) (c : Choices) → is_finite_type (type_of types f) ≡ true → is_finite (value f s c) ≡ true
+
+-- A formula isn't negative where its variables have values of their types.
+abbrev pub FormulasAreNonnegative : Type 0
+FormulasAreNonnegative = (types : Types) (f : Form) (s : Env) (c : Choices) → IsFormula types f → HasTypes types s → zeroᵛ ≤ᵛ value f s c
+
+-- A form without binders means its value.
+abbrev pub BinderFreeFormsMeanTheirValues : Type 0
+BinderFreeFormsMeanTheirValues = (f : Form) (s : Env) (m : Value) → has_binder f ≡ false → Means f s m ↔ (m ≡ value f s Choices.stop)
+
+-- Where binders stand only under operators that keep their direction, a formula with suprema is at most a value exactly
+-- where the value of every choice is; and one with infima is at least a value exactly where the value of every choice is.
+abbrev pub BoundsHoldByChoices : Type 0
+BoundsHoldByChoices = (types : Types) (up : Bool) (f : Form) (s : Env) (m z : Value) → IsFormula types f → HasTypes types s → is_directed up f ≡ true → Means f s m → Compares up z m ↔ ((c : Choices) → Compares up z (value f s c))
