@@ -8,3 +8,4 @@ pub mod SubstitutionTrees
 pub mod SubstitutionResults
 pub mod TypedValues
 pub mod BoundedChoices
+mod Examples
