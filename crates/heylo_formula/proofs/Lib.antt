@@ -9,3 +9,4 @@ pub mod SubstitutionResults
 pub mod TypedValues
 pub mod BoundedChoices
 mod Examples
+pub mod SubstitutionTypes

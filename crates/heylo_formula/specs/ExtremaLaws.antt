@@ -1,13 +1,14 @@
 -- Laws of typed values and of suprema and infima.
-use Rattle.std.specs.Prelude.{◌≡◌, ◌↔◌, Bool, true, false}
+use Rattle.std.specs.Prelude.{◌≡◌, ◌↔◌, ℕ, Bool, true, false}
 use Rattle.heyvl_num.specs.Value.{Value, zeroᵛ, ◌≤ᵛ◌}
 use Rattle.heylo_formula.specs.Operators.{is_finite}
 use Rattle.heylo_formula.specs.State.{Env}
 use Rattle.heylo_formula.specs.Choices.{Choices}
-use Rattle.heylo_formula.specs.Formula.{Form}
+use Rattle.heylo_formula.specs.Formula.{Form, Cond, Term}
 use Rattle.heylo_formula.specs.Meaning.{value}
-use Rattle.heylo_formula.specs.Binders.{has_binder}
-use Rattle.heylo_formula.specs.Typing.{Types, type_of, is_finite_type, IsFormula, HasTypes}
+use Rattle.heylo_formula.specs.Binders.{has_binder, IsPlain}
+use Rattle.heylo_formula.specs.Substitution.{subst, subst_in}
+use Rattle.heylo_formula.specs.Typing.{Types, type_of, is_well_typed, is_finite_type, fits, IsFormula, HasTypes, TermFits}
 use Rattle.heylo_formula.specs.Goals.{Compares}
 use Rattle.heylo_formula.specs.Extrema.{Means, is_directed}
 
@@ -18,6 +19,20 @@ FiniteTypesAreFinite = (types : Types) (f : Form) (s : Env) (c : Choices) → is
 -- A formula isn't negative where its variables have values of their types.
 abbrev pub FormulasAreNonnegative : Type 0
 FormulasAreNonnegative = (types : Types) (f : Form) (s : Env) (c : Choices) → IsFormula types f → HasTypes types s → zeroᵛ ≤ᵛ value f s c
+
+-- So a form of Int, UInt or UReal without binders may be put in for a variable.
+abbrev pub FiniteTermsArePlain : Type 0
+FiniteTermsArePlain = (types : Types) (f : Form) → has_binder f ≡ false → is_finite_type (type_of types f) ≡ true → IsPlain (Term.number f)
+
+-- What is substituted stays well typed: its type widens to the one it had. So formulas stay formulas.
+abbrev pub SubstitutionKeepsTypes : Type 0
+SubstitutionKeepsTypes = (types : Types) (x : ℕ) (t : Term) (f : Form) → TermFits types (types x) t → fits (type_of types (subst x t f)) (type_of types f) ≡ true
+
+abbrev pub SubstitutionKeepsFormulas : Type 0
+SubstitutionKeepsFormulas = (types : Types) (x : ℕ) (t : Term) (f : Form) → TermFits types (types x) t → IsFormula types f → IsFormula types (subst x t f)
+
+abbrev pub SubstitutionKeepsConditions : Type 0
+SubstitutionKeepsConditions = (types : Types) (x : ℕ) (t : Term) (g : Cond) → TermFits types (types x) t → is_well_typed types g ≡ true → is_well_typed types (subst_in x t g) ≡ true
 
 -- A form without binders means its value.
 abbrev pub BinderFreeFormsMeanTheirValues : Type 0

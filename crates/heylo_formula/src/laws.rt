@@ -30,6 +30,14 @@ pub fn substitution_changes_the_state()
 pub fn types_bound_values()
     ensures finite { typed.FiniteTypesAreFinite }
     ensures nonnegative { typed.FormulasAreNonnegative }
+    ensures plain { typed.FiniteTermsArePlain }
+{}
+
+/// A substitution of a term that fits its variable keeps forms and conditions well typed.
+pub fn substitution_keeps_types()
+    ensures types { typed.SubstitutionKeepsTypes }
+    ensures formulas { typed.SubstitutionKeepsFormulas }
+    ensures conditions { typed.SubstitutionKeepsConditions }
 {}
 
 /// What a formula with binders means is bounded by what its value is for each choice.
