@@ -10,3 +10,4 @@ pub mod TypedValues
 pub mod BoundedChoices
 mod Examples
 pub mod SubstitutionTypes
+pub mod SubstitutionBinders

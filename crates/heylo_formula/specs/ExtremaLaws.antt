@@ -42,3 +42,14 @@ BinderFreeFormsMeanTheirValues = (f : Form) (s : Env) (m : Value) → has_binder
 -- where the value of every choice is; and one with infima is at least a value exactly where the value of every choice is.
 abbrev pub BoundsHoldByChoices : Type 0
 BoundsHoldByChoices = (types : Types) (up : Bool) (f : Form) (s : Env) (m z : Value) → IsFormula types f → HasTypes types s → is_directed up f ≡ true → Means f s m → Compares up z m ↔ ((c : Choices) → Compares up z (value f s c))
+
+-- Every form without binders is of both directions.
+abbrev pub BinderFreeFormsAreDirected : Type 0
+BinderFreeFormsAreDirected = (up : Bool) (f : Form) → has_binder f ≡ false → is_directed up f ≡ true
+
+-- A substitution of a plain term keeps binders, and the operators over them.
+abbrev pub SubstitutionKeepsBinders : Type 0
+SubstitutionKeepsBinders = (x : ℕ) (t : Term) (f : Form) → IsPlain t → has_binder (subst x t f) ≡ has_binder f
+
+abbrev pub SubstitutionKeepsDirections : Type 0
+SubstitutionKeepsDirections = (up : Bool) (x : ℕ) (t : Term) (f : Form) → IsPlain t → is_directed up (subst x t f) ≡ is_directed up f

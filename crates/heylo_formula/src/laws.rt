@@ -44,4 +44,11 @@ pub fn substitution_keeps_types()
 pub fn bounds_hold_by_choices()
     ensures binder_free { typed.BinderFreeFormsMeanTheirValues }
     ensures bounds { typed.BoundsHoldByChoices }
+    ensures unbound { typed.BinderFreeFormsAreDirected }
+{}
+
+/// A substitution of a plain term keeps where binders stand.
+pub fn substitution_keeps_binders()
+    ensures binders { typed.SubstitutionKeepsBinders }
+    ensures directions { typed.SubstitutionKeepsDirections }
 {}

@@ -1,5 +1,10 @@
 use Rattle.heylo_formula.proofs.BoundedChoices.{binder_free_means, bounds_by_choices}
+use Rattle.heylo_formula.proofs.SubstitutionBinders.{binder_free_directed}
 use Rattle.heylo_formula.proofs.laws.bounds_hold_by_choices.Goals as goal
 
 pub returns : goal.returns
-returns c = record { binder_free = binder_free_means; bounds = bounds_by_choices }
+returns c = record {
+  binder_free = binder_free_means;
+  bounds = bounds_by_choices;
+  unbound = binder_free_directed;
+}
