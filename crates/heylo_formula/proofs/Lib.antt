@@ -11,3 +11,4 @@ pub mod BoundedChoices
 mod Examples
 pub mod SubstitutionTypes
 pub mod SubstitutionBinders
+pub mod OneMeaning

@@ -38,6 +38,10 @@ SubstitutionKeepsConditions = (types : Types) (x : ℕ) (t : Term) (g : Cond) �
 abbrev pub BinderFreeFormsMeanTheirValues : Type 0
 BinderFreeFormsMeanTheirValues = (f : Form) (s : Env) (m : Value) → has_binder f ≡ false → Means f s m ↔ (m ≡ value f s Choices.stop)
 
+-- A form means one value at most: where no fraction is the best, it means none.
+abbrev pub FormsMeanOneValue : Type 0
+FormsMeanOneValue = (f : Form) (s : Env) (m n : Value) → Means f s m → Means f s n → m ≡ n
+
 -- Where binders stand only under operators that keep their direction, a formula with suprema is at most a value exactly
 -- where the value of every choice is; and one with infima is at least a value exactly where the value of every choice is.
 abbrev pub BoundsHoldByChoices : Type 0

@@ -42,6 +42,7 @@ pub fn substitution_keeps_types()
 
 /// What a formula with binders means is bounded by what its value is for each choice.
 pub fn bounds_hold_by_choices()
+    ensures one { typed.FormsMeanOneValue }
     ensures binder_free { typed.BinderFreeFormsMeanTheirValues }
     ensures bounds { typed.BoundsHoldByChoices }
     ensures unbound { typed.BinderFreeFormsAreDirected }
