@@ -4,7 +4,7 @@ use Rattle.std.specs.Prelude.{pos, negsuc, Some, None}
 use Prim.Native.Nat.{zero, suc}
 use Rattle.heyvl_syntax.specs.declared.spans.Span.{Span}
 use Rattle.heyvl_num.specs.Gcd.{gcd, gcd_steps}
-use Rattle.heyvl_num.specs.Rational.{ratio, zeroʳ, ◌+ʳ◌, ◌-ʳ◌, ◌*ʳ◌, negʳ, leqʳ}
+use Rattle.heyvl_num.specs.Rational.{ratio, zeroʳ, halfʳ, ◌+ʳ◌, ◌-ʳ◌, ◌*ʳ◌, negʳ, leqʳ}
 use Rattle.heyvl_num.specs.Value.{Value, zeroᵛ, oneᵛ, ◌+ᵛ◌, ◌*ᵛ◌, infinite_times, is_zeroʳ, leqᵛ, ◌≤ᵛ◌}
 use Rattle.heyvl_num.specs.Value.Value.{finite, infinite}
 use Rattle.heyvl_num.specs.ValueOperators.{minᵛ, maxᵛ, impliesᵛ, coimpliesᵛ, monusᵛ}
@@ -212,3 +212,13 @@ least_number_means_zero s = record { family = λ v. finite (number_of v); meant 
     above : (v : Val) → has Ty.UInt v ≡ true → zeroᵛ ≤ᵛ finite (number_of v)
     above (Truth b) k = absurd (cc)
     above (Num x) k = finite_nonnegative x (record { holds = and_right (x.den == 1) (leqʳ zeroʳ x) k })
+
+-- what the acts of a coproc put over a form with suprema: draws, choices, rewards, branches and checks
+upward_acts : (is_directed true (Form.sum (Form.scale halfʳ all_numbers) (Form.scale halfʳ all_numbers)) ≡ true) × (is_directed true (Form.bind true 5 5 Ty.UInt all_numbers) ≡ true) × (is_directed true (Form.sum all_numbers (Form.variable 2)) ≡ true) × (is_directed true (Form.select (Cond.flag 0) all_numbers all_numbers) ≡ true) × (is_directed true (Form.max all_numbers all_numbers) ≡ true) × (is_directed true (Form.min (Form.variable 2) all_numbers) ≡ true) × (is_directed true (Form.co_imply (Form.variable 2) (Form.co_validate (Form.max (Form.variable 2) all_numbers))) ≡ true)
+unfolding all_numbers
+upward_acts = (refl, refl, refl, refl, refl, refl, refl)
+
+-- what those of a proc put over a form with infima
+downward_acts : (is_directed false (Form.sum (Form.scale halfʳ least_number) (Form.scale halfʳ least_number)) ≡ true) × (is_directed false (Form.bind false 5 5 Ty.UInt least_number) ≡ true) × (is_directed false (Form.select (Cond.flag 0) least_number least_number) ≡ true) × (is_directed false (Form.min least_number least_number) ≡ true) × (is_directed false (Form.max (Form.variable 2) least_number) ≡ true) × (is_directed false (Form.imply (Form.variable 2) (Form.validate (Form.min (Form.variable 2) least_number))) ≡ true) × (is_directed false (Form.co_imply (Form.variable 2) least_number) ≡ false) × (is_directed false (Form.co_validate least_number) ≡ false)
+unfolding least_number
+downward_acts = (refl, refl, refl, refl, refl, refl, refl, refl)
