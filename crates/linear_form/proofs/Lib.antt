@@ -4,3 +4,5 @@ pub mod Moves
 pub mod Normal
 pub mod Fractions
 pub mod Combinations
+pub mod Walking
+pub mod Mixing

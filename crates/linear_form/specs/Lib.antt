@@ -6,3 +6,5 @@ pub mod Combination
 pub mod VariableOrder
 pub mod RowLaws
 pub mod GreedyPoint
+pub mod Merging
+pub mod Divisors
