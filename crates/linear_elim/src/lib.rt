@@ -1,0 +1,12 @@
+//! Exact elimination of variables from linear rows, with multipliers.
+#![tactic(auto)]
+
+mod elimination;
+mod gathering;
+mod joins;
+mod steps;
+
+pub use elimination::{Outcome, eliminate_from};
+pub use gathering::Gathering;
+pub use joins::{Derived, joined};
+pub use steps::{Step, eliminate_one};
