@@ -13,6 +13,8 @@ use Rattle.linear_form.specs.Terms.{sum_at, coefficient, IsNormal}
 use Rattle.linear_form.specs.Row.{Row}
 use Rattle.linear_form.specs.Combination.{row_at, combined, uses_strict, IsGrowing, IsWideThroughout, IsContradiction}
 use Rattle.linear_form.proofs.Sums.{sum_at-nil, sum_at-cons}
+use Rattle.linear_form.specs.Points.{IsMetSomewhere}
+use Rattle.linear_form.proofs.Combinations.{unmet}
 use Rattle.linear_form.proofs.Moves.{only, coefficient-is}
 use Rattle.linear_elim.specs.Joins.{Derived, is_positive, any_at, Follows}
 use Rattle.linear_elim.specs.Steps.{has_terms, is_contradiction}
@@ -93,3 +95,8 @@ contradicts first c f e n w v =
       no_variable = vanishes first c f (none_of c.row.terms p.0);
       false_constant = false_constant c.over c.row.rest (combined (λ r. r.rest) (multipliers c) first) c.row.strict (uses_strict (multipliers c) first) f.positive p.1 (f.rest ∙ sym (combined-is (λ r. r.rest) c.shares first f.shares_positive)) (f.strict ∙ sym (strict-is c.shares first));
     }
+
+pub refuted_unmet : (first : List Row) (c : Derived) → Follows first c → is_contradiction c.row ≡ true → IsMetSomewhere first → ⊥
+refuted_unmet first c f e =
+    let p = and_true (not (has_terms c.row.terms)) (lt_z (pos 0) c.row.rest || (is_zero_num c.row.rest && c.row.strict)) e in
+    unmet (multipliers c) first (plain-positive c.shares f.shares_positive) (vanishes first c f (none_of c.row.terms p.0)) (false_constant c.over c.row.rest (combined (λ r. r.rest) (multipliers c) first) c.row.strict (uses_strict (multipliers c) first) f.positive p.1 (f.rest ∙ sym (combined-is (λ r. r.rest) c.shares first f.shares_positive)) (f.strict ∙ sym (strict-is c.shares first)))

@@ -11,3 +11,4 @@ pub mod Joining
 pub mod Splitting
 pub mod Keeping
 pub mod Finishing
+pub mod FirstRows

@@ -73,10 +73,13 @@ unfoldable pub run : ℕ → List ℕ → Gathered → Outcome
 run n [] g = ended_by g.found (unless_many n g.rows (standing []))
 run n (x ∷ xs) g = ended_by g.found (unless_many n g.rows (cond (step_fits x g.rows) (after_step (step_of x g.rows) (run (suc n) xs (gathered (eliminate_one x g.rows)))) too_great))
 
--- Each first row is its own share.
+-- A first row is its own share.
+abbrev pub own : ℕ → Row → Derived
+own k r = record { row = r; shares = (k, pos 1) ∷ []; over = 1 }
+
 unfoldable pub start : ℕ → List Row → List Derived
 start k [] = []
-start k (r ∷ rs) = record { row = r; shares = (k, pos 1) ∷ []; over = 1 } ∷ start (suc k) rs
+start k (r ∷ rs) = own k r ∷ start (suc k) rs
 
 abbrev pub elimination : List ℕ → List Row → Outcome
 elimination order rows = run 0 order (gathered (start 0 rows))
