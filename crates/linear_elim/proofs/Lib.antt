@@ -12,3 +12,4 @@ pub mod Splitting
 pub mod Keeping
 pub mod Finishing
 pub mod FirstRows
+pub mod Examples
