@@ -1,6 +1,9 @@
 pub mod Complete
+pub mod EachLoop
 pub mod Ends
 pub mod Fuel
+pub mod Lawful
 pub mod Local
 pub mod Refusals
 pub mod Right
+pub mod RightLaws

@@ -1,3 +1,5 @@
+pub mod Combinators
 pub mod Parts
 pub mod Reading
 pub mod Results
+pub mod Rights

@@ -3,7 +3,9 @@
 
 mod expressions;
 mod laws;
+mod lists;
 mod operators;
+mod rights;
 mod starts;
 mod stops;
 #[cfg(test)]
