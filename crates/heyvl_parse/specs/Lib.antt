@@ -1,3 +1,4 @@
+pub mod Counting
 pub mod Parts
 pub mod Reading
 pub mod Results
