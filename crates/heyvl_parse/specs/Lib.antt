@@ -1,4 +1,5 @@
 pub mod Combinators
+pub mod Counting
 pub mod Parts
 pub mod Reading
 pub mod Results

@@ -1,8 +1,13 @@
-//! The parser of HeyVL: the tools that take tokens, and the reading of expressions.
+//! The parser of HeyVL: the tools that take tokens, the limits of a file, and the reading of expressions.
 #![tactic(auto)]
 
+mod counts;
+mod effects;
 mod expressions;
 mod laws;
+#[cfg(test)]
+mod limit_tests;
+mod limits;
 mod lists;
 mod operators;
 mod rights;
@@ -14,4 +19,5 @@ mod tokens;
 
 pub use expressions::read_expr;
 pub use laws::expression_is_unique;
+pub use limits::{crowd_at, overload_at};
 pub use stops::PartStop;
