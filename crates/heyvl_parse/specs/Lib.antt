@@ -1,5 +1,7 @@
 pub mod Combinators
+pub mod Loops
 pub mod Parts
 pub mod Reading
 pub mod Results
 pub mod Rights
+pub mod Statements

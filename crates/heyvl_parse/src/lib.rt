@@ -1,12 +1,16 @@
-//! The parser of HeyVL: the tools that take tokens, and the reading of expressions.
+//! The parser of HeyVL: the tools that take tokens, and the reading of expressions, statements and blocks.
 #![tactic(auto)]
 
 mod expressions;
 mod laws;
 mod lists;
+mod loops;
 mod operators;
+mod places;
 mod rights;
+mod simple;
 mod starts;
+mod statements;
 mod stops;
 #[cfg(test)]
 mod tests;
