@@ -145,9 +145,9 @@ lead_more {A} {n} {P} {s} {f} {kind} {test} is lf some = let lower = lead_laws i
   right = lower.right;
   local = lower.local;
   complete = λ x text rest (one, two, (p, h), q, e) len quiet.
-    let all : text ++ rest ≡ at kind p ∷ (two ++ rest) = ap (λ z. z ++ rest) (e ∙ ap (λ z. z ++ two) h) in
-    let short : length (two ++ rest) < n = omega (arith, ap length all) in
-    rw (all, is.holds) (lf.complete x two rest q short quiet);
+      let all : text ++ rest ≡ at kind p ∷ (two ++ rest) = ap (λ z. z ++ rest) (e ∙ ap (λ z. z ++ two) h) in
+      let short : length (two ++ rest) < n = omega (arith, ap length all) in
+      rw (all, is.holds) (lf.complete x two rest q short quiet);
 }
 
 trail_is : {A : Type 0} (test : TokenKind → Bool) (f : List Token → Read A) (ts : List Token) → trail f test ts ≡ mapped (λ p. p.0) (pair f (sign test)) ts
@@ -177,8 +177,8 @@ spanned_laws {A} {B} {n} {P} {s} {f} h R lf into out = record {
   right = λ ts. rights ts (f ts) (lf.right ts);
   local = λ ts. locals ts (f ts) (lf.local ts);
   complete = λ y text rest r len quiet.
-    let (x, same, p) = out y text r in
-    rw (lf.complete x text rest p len quiet, taken_is (text ++ rest) text rest refl) (ap (λ z. Got z rest) (sym same));
+      let (x, same, p) = out y text r in
+      rw (lf.complete x text rest p len quiet, taken_is (text ++ rest) text rest refl) (ap (λ z. Got z rest) (sym same));
 }
   where
     rights : (ts : List Token) (res : Read A) → Right P ts res → Right R ts (res >>= λ x r. Got (h x (extent (taken ts r))) r)
@@ -267,7 +267,7 @@ optional_laws {A} {n} {P} {s} {f} test lf begins = record {
     done (Some x) text rest h len quiet =
         rw (starts_front test text rest (begins x text h), lf.complete x text rest h len (starts_first s test rest quiet)) refl
 
-local_front : {A : Type 0} (before : List A) (g : List Token → Read (List A)) → Local g → Local (λ ts. with_front before (g ts))
+pub local_front : {A : Type 0} (before : List A) (g : List Token → Read (List A)) → Local g → Local (λ ts. with_front before (g ts))
 local_front {A} before g l ts = go (g ts) (l ts)
   where
     go : (res : Read (List A)) → LocalAt g ts res → LocalAt (λ ts. with_front before (g ts)) ts (with_front before res)
@@ -420,3 +420,6 @@ list0_laws {A} {n} {P} {s} {f} lf some free close begins = record {
         let long : length (one ++ (two ++ rest)) < n = shorter_back n text one two rest e len in
         let ends : starts (either s (is_mark marks.Comma)) (two ++ rest) ≡ false = rw (hc, close) refl in
         rw (cut, before x xs one (two ++ rest) h, items.complete (x ∷ xs) one (two ++ rest) h long ends, hc) refl
+
+pub local_refuse : {A : Type 0} → Local {A = A} refuse
+local_refuse ts = ([], refl, λ t r0 r' eq. refl)

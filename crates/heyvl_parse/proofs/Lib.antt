@@ -1,3 +1,4 @@
+pub mod ChainLoop
 pub mod Complete
 pub mod EachLoop
 pub mod Ends
@@ -7,3 +8,4 @@ pub mod Local
 pub mod Refusals
 pub mod Right
 pub mod RightLaws
+pub mod StatementLaws

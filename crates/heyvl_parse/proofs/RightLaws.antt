@@ -91,7 +91,6 @@ word_laws n = record {
 
 pub arguments_laws : (n : ℕ) → Laws n (λ xs. IsMark marks.ParenLeft then IsList0 IsFull xs then IsMark marks.ParenRight) no_kind (arguments n)
 arguments_laws n = lead_laws (mark_test marks.ParenLeft) (list0_laws (expr_laws n) some_full refl refl (barred (is_mark marks.ParenRight) close_barred)) some_inside
-
   where
     some_inside : Some_text (λ xs. IsList0 IsFull xs then IsMark marks.ParenRight)
     some_inside = ([], at (kinds.Mark marks.ParenRight) nowhere ∷ [], ([], at (kinds.Mark marks.ParenRight) nowhere ∷ [], refl, (nowhere, refl), refl))
@@ -194,7 +193,7 @@ local_no_call : (n : ℕ) → Local (no_call n)
 local_no_call n = chosen_local right_start (right_by n) (no_call n) (λ ts. refl) (λ t r r'. refl) (local_by n)
 
 -- A reader that takes a word where one stands at the front.
-abbrev Within : {A : Type 0} → List Token → Read A → Type 0
+abbrev pub Within : {A : Type 0} → List Token → Read A → Type 0
 Within us (Got x r) = length r ≤ length us
 Within us (Bad r) = length r ≤ length us
 Within us Out = Unit {0}
@@ -202,7 +201,7 @@ Within us Out = Unit {0}
 abbrev pub Takes : {A : Type 0} → (List Token → Read A) → Type 0
 Takes f = (w : List ℕ) (s : Span) (us : List Token) → Within us (f (at (kinds.Word w) s ∷ us))
 
-takes_mapped : {A B : Type 0} (h : A → B) (f : List Token → Read A) → Takes f → Takes (mapped h f)
+pub takes_mapped : {A B : Type 0} (h : A → B) (f : List Token → Read A) → Takes f → Takes (mapped h f)
 takes_mapped {A} {B} h f takes w s us = go (f (at (kinds.Word w) s ∷ us)) (takes w s us)
   where
     go : (res : Read A) → Within us res → Within us (res >>= λ x r. Got (h x) r)
@@ -210,7 +209,7 @@ takes_mapped {A} {B} h f takes w s us = go (f (at (kinds.Word w) s ∷ us)) (tak
     go (Bad r) le = le
     go Out le = tt
 
-within_local : {A : Type 0} (f : List Token → Read A) (us : List Token) (res : Read A) → LocalAt f us res → Within us res
+pub within_local : {A : Type 0} (f : List Token → Read A) (us : List Token) (res : Read A) → LocalAt f us res → Within us res
 within_local f us (Got x r) (text, e, move) = omega (arith, ap length e, length-append text r)
 within_local f us (Bad r) (text, e, move) = omega (arith, ap length e, length-append text r)
 within_local f us Out h = tt
@@ -242,7 +241,7 @@ takes_expr (suc n) w s us =
 takes_no_call : (n : ℕ) → Takes (no_call n)
 takes_no_call n w s us = takes_mapped RightSide.plain (expr n) (takes_expr n) w s us
 
-takes_call : (n : ℕ) → Takes (call n)
+pub takes_call : (n : ℕ) → Takes (call n)
 takes_call n = takes_word (arguments n) (arguments_laws n).local
 
 abbrev pub picked_by : {A : Type 0} → (List Token → Read A) → (List Token → Read A) → Bool → List Token → Read A
@@ -408,7 +407,7 @@ at_class n ts b e = ap (λ z. right_if n z ts) e
 at_start : (n : ℕ) (ts : List Token) (start : RightStart) → is_call ts ≡ false → right_start ts ≡ start → right n ts ≡ right_by n start ts
 at_start n ts start e e2 = at_class n ts false e ∙ ap (λ z. right_by n z ts) e2
 
-anything : (rest : List Token) → starts no_kind rest ≡ false
+pub anything : (rest : List Token) → starts no_kind rest ≡ false
 anything [] = refl
 anything (t ∷ ts) = refl
 

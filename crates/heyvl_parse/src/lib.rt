@@ -1,4 +1,4 @@
-//! The parser of HeyVL: the tools that take tokens, the limits of a file, and the reading of expressions.
+//! The parser of HeyVL: the tools that take tokens, the limits of a file, and the reading of expressions, statements and blocks.
 #![tactic(auto)]
 
 mod counts;
@@ -9,9 +9,13 @@ mod laws;
 mod limit_tests;
 mod limits;
 mod lists;
+mod loops;
 mod operators;
+mod places;
 mod rights;
+mod simple;
 mod starts;
+mod statements;
 mod stops;
 #[cfg(test)]
 mod tests;

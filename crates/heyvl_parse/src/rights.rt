@@ -82,7 +82,10 @@ fn right_start(tokens: &[Token]) -> RightStart
 }
 
 /// A call: the name, and what stands in the parentheses behind it.
-pub(crate) fn call(alloc: Global, tokens: &[Token]) -> Result<((Name, Vec<Expr>), &[Token]), PartStop>
+pub(crate) fn call(
+    alloc: Global,
+    tokens: &[Token],
+) -> Result<((Name, Vec<Expr>), &[Token]), PartStop>
     ensures value { (n : ℕ) → length tokens.now < n → Gives (λ x. (x.0.0, expressions x.0.1.items)) (λ x. x.1.now) result (call n tokens.now) }
     ensures shorter { IfOk result (λ x. length x.1.now < length tokens.now) }
 {

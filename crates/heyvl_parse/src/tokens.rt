@@ -1,6 +1,6 @@
 //! Ways to take the token at the front of others.
 
-ghost use Rattle.heyvl_parse.specs.Combinators.{is_key, sign, starts};
+ghost use Rattle.heyvl_parse.specs.Combinators.{is_key, is_word, sign, starts};
 ghost use Rattle.heyvl_parse.specs.Reading.{expect, is_mark, next, type_name, type_of, word};
 ghost use Rattle.heyvl_parse.specs.Results.{Gives};
 ghost use Rattle.std.specs.Prelude.{IfOk, length, ◌+◌, ◌<◌, ◌≡◌};
@@ -131,5 +131,32 @@ pub(crate) fn starts_key(key: Key, tokens: &[Token]) -> bool
     match tokens.split_first() {
         None => false,
         Some((token, _)) => is_key(key, &token.kind),
+    }
+}
+
+fn is_word(name: &[u8], kind: &TokenKind) -> bool
+    ensures { result ≡ is_word name.now kind.now }
+{
+    match kind {
+        TokenKind::Word(found) => found.as_bytes() == name,
+        TokenKind::Key(_) => false,
+        TokenKind::Number(_) => false,
+        TokenKind::Mark(_) => false,
+    }
+}
+
+/// The place of this word, which has to stand at the front, and the tokens behind it.
+pub(crate) fn expect_word<'a>(
+    name: &[u8],
+    tokens: &'a [Token],
+) -> Result<(Span, &'a [Token]), PartStop>
+    ensures value { Gives (λ x. x.0) (λ x. x.1.now) result (sign (is_word name.now) tokens.now) }
+    ensures shorter { IfOk result (λ x. length x.1.now < length tokens.now) }
+{
+    let (token, rest) = next(tokens)?;
+    if is_word(name, &token.kind) {
+        Ok((token.span, rest))
+    } else {
+        Err(PartStop::Fault(tokens.len()))
     }
 }

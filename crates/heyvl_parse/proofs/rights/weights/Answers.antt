@@ -2,7 +2,6 @@ use Rattle.heyvl_parse.proofs.rights.weights.Goals as goal
 use Rattle.std.proofs.Common.{arith, refl, ◌<◌}
 use Rattle.std.proofs.lemmas.Grind.{common_steps}
 
-
 pub returns-in_err-parts-clause-value : goal.returns-in_err-parts-clause-value
 returns-in_err-parts-clause-value c = λ n h. rw (c.in_ok-rest.ensures.value) (grind (arith, common_steps, c.in_err-parts.ensures.value n (omega (arith, c.in_ok-rest.ensures.shorter))))
 
