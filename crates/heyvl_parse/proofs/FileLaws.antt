@@ -84,13 +84,13 @@ pub ended_bad : (block : List Token → Read Block) (n : ℕ) (ts r rs : List To
 ended_bad block n ts r rs t x e same = rw (e, same) refl
 
 -- Where nothing follows them, they are the file.
-pub ended_got : (block : List Token → Read Block) (n : ℕ) (ts r : List Token) (x : List Procedure) → procs block n ts ≡ Got x r → length r ≡ 0 → file block n ts ≡ Got x []
-ended_got block n ts [] x e none = rw e refl
-ended_got block n ts (t ∷ r) x e none = absurd (omega (arith, none))
+pub ended_good : (block : List Token → Read Block) (n : ℕ) (ts r : List Token) (x : List Procedure) → procs block n ts ≡ Got x r → length r ≡ 0 → file block n ts ≡ Got x []
+ended_good block n ts [] x e none = rw e refl
+ended_good block n ts (t ∷ rs) x e none = absurd (omega arith)
 
-pub fails_ended : (block : List Token → Read Block) (n : ℕ) (ts : List Token) (e : PartStop) → Fails e (procs block n ts) → Fails e (file block n ts)
-fails_ended block n ts (Memory error) fails = tt
-fails_ended block n ts (Fault left) (r, bad, len) = (r, rw bad refl, len)
+pub ended_fails : (e : PartStop) (block : List Token → Read Block) (n : ℕ) (ts : List Token) → Fails e (procs block n ts) → Fails e (file block n ts)
+ended_fails (Memory error) block n ts fails = tt
+ended_fails (Fault left) block n ts (r, bad, len) = (r, rw bad refl, len)
 
 -- A reader of files for each amount of fuel.
 module _ (f : ℕ → List Token → Read (List Procedure)) (laws : (n : ℕ) → Laws n IsFile every_kind (f n)) where

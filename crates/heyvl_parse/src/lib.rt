@@ -6,6 +6,8 @@ mod counts;
 mod effects;
 mod expressions;
 mod file_reader;
+#[cfg(test)]
+mod file_tests;
 mod laws;
 #[cfg(test)]
 mod limit_tests;
