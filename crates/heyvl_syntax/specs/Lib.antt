@@ -11,6 +11,7 @@ pub mod Places
 pub mod PlainTrees
 pub mod Procedures
 pub mod Productions
+pub mod Sizes
 pub mod SourceFaults
 pub mod Statements
 pub mod TokenLaws

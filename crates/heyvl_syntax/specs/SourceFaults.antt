@@ -91,3 +91,22 @@ pub record IsSource (bytes : List ℕ) (file : List Procedure) : Type 0 where
   pub lexes : Lexes 0 bytes tokens
   pub within : IsWithinLimits tokens
   pub is_file : IsFile file tokens
+
+-- Some bytes have at most one first fault.
+abbrev pub SourceFaultsAreUnique : Type 0
+SourceFaultsAreUnique =
+    (bytes : List ℕ) (number other : ℕ) (place at : Span) → IsSourceFault bytes number place → IsSourceFault bytes other at → (number ≡ other) × (place ≡ at)
+
+-- Bytes that spell a file within the limits have no first fault.
+abbrev pub SourcesHaveNoFault : Type 0
+SourcesHaveNoFault = (bytes : List ℕ) (file : List Procedure) (number : ℕ) (place : Span) → IsSource bytes file → IsSourceFault bytes number place → ⊥
+
+-- Some tokens have at most one first fault.
+abbrev pub TokenFaultsAreUnique : Type 0
+TokenFaultsAreUnique =
+    (tokens : List Token) (number other i j : ℕ) → IsTokenFault tokens number i → IsTokenFault tokens other j → (number ≡ other) × (i ≡ j)
+
+-- Tokens that spell a file within the limits have no first fault.
+abbrev pub FilesHaveNoTokenFault : Type 0
+FilesHaveNoTokenFault =
+    (tokens : List Token) (file : List Procedure) (number i : ℕ) → IsWithinLimits tokens → IsFile file tokens → IsTokenFault tokens number i → ⊥

@@ -1,5 +1,6 @@
-//! Laws of the definition of tokens.
+//! Laws of the definitions of tokens and of the faults of a file.
 
+ghost use Rattle.heyvl_syntax.specs.SourceFaults.{FilesHaveNoTokenFault, SourceFaultsAreUnique, SourcesHaveNoFault, TokenFaultsAreUnique};
 ghost use Rattle.heyvl_syntax.specs.TokenLaws.{FaultsAreUnique, TokensAreFew, TokensAreUnique, TokensExcludeFaults, TokensOrFault, TokensStandInOrder};
 
 /// Some bytes have at most one list of tokens.
@@ -30,4 +31,24 @@ pub fn tokens_stand_in_order()
 /// Bytes have no more tokens than there are bytes.
 pub fn tokens_are_few()
     ensures { TokensAreFew }
+{}
+
+/// Some tokens have at most one first fault.
+pub fn token_faults_are_unique()
+    ensures { TokenFaultsAreUnique }
+{}
+
+/// Tokens that spell a file within the limits have no first fault.
+pub fn files_have_no_token_fault()
+    ensures { FilesHaveNoTokenFault }
+{}
+
+/// Some bytes have at most one first fault.
+pub fn source_faults_are_unique()
+    ensures { SourceFaultsAreUnique }
+{}
+
+/// Bytes that spell a file within the limits have no first fault.
+pub fn sources_have_no_fault()
+    ensures { SourcesHaveNoFault }
 {}

@@ -28,8 +28,9 @@ mod types;
 pub use expressions::Expr;
 pub use keys::Key;
 pub use laws::{
-    faults_are_unique, tokens_are_few, tokens_are_unique, tokens_exclude_faults, tokens_or_fault,
-    tokens_stand_in_order,
+    faults_are_unique, files_have_no_token_fault, source_faults_are_unique, sources_have_no_fault,
+    token_faults_are_unique, tokens_are_few, tokens_are_unique, tokens_exclude_faults,
+    tokens_or_fault, tokens_stand_in_order,
 };
 pub use lexer::lex;
 pub use literals::Lit;
@@ -42,5 +43,5 @@ pub use spans::Span;
 pub use statements::{Arm, CheckKind, Right, Rule, Stmt};
 pub use stops::LexStop;
 pub use tokens::{Token, TokenKind};
-pub use trees::{expressions_are_plain, statements_are_plain};
+pub use trees::{expressions_are_few, expressions_are_plain, statements_are_plain};
 pub use types::TypeName;
