@@ -1,0 +1,2 @@
+//! The canonical text of a file.
+#![tactic(auto)]
