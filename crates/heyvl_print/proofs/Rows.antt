@@ -12,7 +12,7 @@ use Rattle.heyvl_syntax.specs.declared.operators.UnaryOp.TheVariants as prefixes
 use Rattle.heyvl_syntax.specs.declared.procedures.Note.TheVariants as notes
 use Rattle.heyvl_syntax.specs.declared.statements.CheckKind.TheVariants as checks
 use Rattle.heyvl_syntax.specs.declared.types.TypeName.TheVariants as types
-use Rattle.std.proofs.Common.{List, None, Some, [], codes, false, pos, refl, true, ◌++◌, ◌∷◌, ◌≡◌, ℕ}
+use Rattle.std.proofs.Common.{List, None, Some, [], codes, false, pos, refl, true, ◌∷◌, ◌≡◌, ℕ}
 use Rattle.std.specs.Fmt.{digits}
 
 -- Numbers.
@@ -136,13 +136,13 @@ loop_is = refl
 
 simple_are :
     text_of (block_lines 0 (
-      Block.next (Statement.var (codes "x") types.Real None no_place) (
-      Block.next (Statement.var (codes "x") types.UReal (Some (RightSide.plain a)) no_place) (
-      Block.next (Statement.assign (codes "x" ∷ codes "y" ∷ []) (RightSide.call (codes "f") (a ∷ b ∷ [])) no_place) (
-      Block.next (Statement.assign [] (RightSide.call (codes "f") []) no_place) (
-      Block.next (Statement.check checks.CoAssume a no_place) (
-      Block.next (Statement.havoc true (codes "x" ∷ codes "y" ∷ []) no_place)
-      Block.done)))))))
+    Block.next (Statement.var (codes "x") types.Real None no_place) (
+    Block.next (Statement.var (codes "x") types.UReal (Some (RightSide.plain a)) no_place) (
+    Block.next (Statement.assign (codes "x" ∷ codes "y" ∷ []) (RightSide.call (codes "f") (a ∷ b ∷ [])) no_place) (
+    Block.next (Statement.assign [] (RightSide.call (codes "f") []) no_place) (
+    Block.next (Statement.check checks.CoAssume a no_place) (
+    Block.next (Statement.havoc true (codes "x" ∷ codes "y" ∷ []) no_place)
+    Block.done)))))))
     ≡ codes "var x: Real\nvar x: UReal = a\nx, y = f(a, b)\nf()\ncoassume a\ncohavoc x, y\n"
 unfolding name a b
 simple_are = refl

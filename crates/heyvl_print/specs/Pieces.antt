@@ -52,19 +52,24 @@ feed = line_feed ∷ []
 abbrev pub margin : ℕ → List Piece
 margin n = replicate n blank
 
+-- First the one and then the other.
+infixr 30 ◌then◌
+abbrev pub ◌then◌ : List Piece → List Piece → List Piece
+◌then◌ ps qs = ps ++ qs
+
 -- `,` and `:` are followed by one space.
 abbrev pub comma : List Piece
-comma = mark marks.Comma ++ space
+comma = mark marks.Comma then space
 
 abbrev pub colon : List Piece
-colon = mark marks.Colon ++ space
+colon = mark marks.Colon then space
 
 -- Each item, one behind another.
 abbrev pub each : {A : Type 0} → (A → List Piece) → List A → List Piece
 each item [] = []
-each item (x ∷ xs) = item x ++ each item xs
+each item (x ∷ xs) = item x then each item xs
 
 -- The items, with a separator between.
 abbrev pub separated : {A : Type 0} → List Piece → (A → List Piece) → List A → List Piece
 separated separator item [] = []
-separated separator item (x ∷ xs) = item x ++ each (λ y. separator ++ item y) xs
+separated separator item (x ∷ xs) = item x then each (λ y. separator then item y) xs

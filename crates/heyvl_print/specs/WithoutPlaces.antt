@@ -4,7 +4,7 @@ use Rattle.heyvl_syntax.specs.Procedures.{Procedure}
 use Rattle.heyvl_syntax.specs.Statements.{Arms, Block, LoopRule, RightSide, Statement}
 use Rattle.heyvl_syntax.specs.declared.procedures.Param.{Param}
 use Rattle.heyvl_syntax.specs.declared.spans.Span.{Span}
-use Rattle.std.specs.Prelude.{List, None, Option, Some, map, ◌≡◌, ℕ}
+use Rattle.std.specs.Prelude.{List, None, Option, Some, map, ◌≡◌}
 
 -- The place that stands for all.
 abbrev pub no_place : Span
