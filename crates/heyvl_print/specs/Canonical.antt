@@ -37,7 +37,8 @@ expression_pieces (Expression.group a s) = parens (expression_pieces a)
 expression_pieces (Expression.bracket a s) = mark marks.BracketLeft then expression_pieces a then mark marks.BracketRight
 expression_pieces (Expression.embed a s) = mark marks.Question then parens (expression_pieces a)
 expression_pieces (Expression.choice a b c s) =
-    key keys.Ite then parens (expression_pieces a then comma then expression_pieces b then comma then expression_pieces c)
+    key keys.Ite then mark marks.ParenLeft then expression_pieces a then comma then expression_pieces b then comma then expression_pieces c
+    then mark marks.ParenRight
 
 -- `p: a`
 abbrev pub weighted_pieces : Expression × Expression → List Piece
@@ -50,7 +51,7 @@ call_pieces f arguments = word f then parens (separated comma expression_pieces 
 -- `flip(p)`, `unif(a, b)`, `choose { p: a, q: b }`, a call, or an expression.
 abbrev pub right_pieces : RightSide → List Piece
 right_pieces (RightSide.flip p) = key keys.Flip then parens (expression_pieces p)
-right_pieces (RightSide.unif a b) = key keys.Unif then parens (expression_pieces a then comma then expression_pieces b)
+right_pieces (RightSide.unif a b) = key keys.Unif then mark marks.ParenLeft then expression_pieces a then comma then expression_pieces b then mark marks.ParenRight
 right_pieces (RightSide.choose parts) =
     key keys.Choose then space then mark marks.BraceLeft then space then separated comma weighted_pieces parts then space then mark marks.BraceRight
 right_pieces (RightSide.call f arguments) = call_pieces f arguments
@@ -60,9 +61,11 @@ right_pieces (RightSide.plain a) = expression_pieces a
 abbrev pub rule_pieces : LoopRule → List Piece
 rule_pieces (LoopRule.invariant i s) = mark marks.AtSign then word (codes "invariant") then parens (expression_pieces i)
 rule_pieces (LoopRule.k_induction k i s) =
-    mark marks.AtSign then word (codes "k_induction") then parens (expression_pieces k then comma then expression_pieces i)
+    mark marks.AtSign then word (codes "k_induction") then mark marks.ParenLeft then expression_pieces k then comma then expression_pieces i
+    then mark marks.ParenRight
 rule_pieces (LoopRule.ranking e r s) =
-    mark marks.AtSign then word (codes "ranking") then parens (expression_pieces e then comma then expression_pieces r)
+    mark marks.AtSign then word (codes "ranking") then mark marks.ParenLeft then expression_pieces e then comma then expression_pieces r
+    then mark marks.ParenRight
 
 -- ` = r`, where something is given.
 abbrev pub given_pieces : Option RightSide → List Piece
