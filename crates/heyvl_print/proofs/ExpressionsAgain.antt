@@ -141,9 +141,11 @@ again (Expression.binary op a b s) k = record {
       record {
         flows = base.flows;
         again = λ us e.
-            let y = base.again us e in
-            (Expression.binary op y.0.0 y.0.1 y.2.3.2.0, ap (λ z. Expression.binary op z.0 z.1 no_place) y.1,
-            (h.0, (y.2.0, y.2.1, y.2.2, (y.2.3.0, y.2.3.1, y.2.3.2.1, y.2.3.3, y.2.3.4), y.2.4)));
+            let y = base.again us e in (
+              Expression.binary op y.0.0 y.0.1 y.2.3.2.0,
+              ap (λ z. Expression.binary op z.0 z.1 no_place) y.1,
+              (h.0, (y.2.0, y.2.1, y.2.2, (y.2.3.0, y.2.3.1, y.2.3.2.1, y.2.3.3, y.2.3.4), y.2.4)),
+            );
       };
 }
 again (Expression.unary op a s) k = record {

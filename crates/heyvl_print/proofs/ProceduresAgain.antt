@@ -129,9 +129,9 @@ proc_again p =
     (λ ts g. inside _ _ _ (λ vs k. deep_head p.co p.name (p.inputs, p.outputs) (IsClauses p.pres p.posts then IsOptional IsBlock p.body) vs k) ts g.0)
     (r_both (note_again p.note) (λ rest passes. refl) (r_both (head_again p) (λ rest passes. refl)
     (subst (λ (ps : List Piece). Reprints {A = (List Expression × List Expression) × Option Block} {B = (List Expression × List Expression) × Option Block} any
-      (λ y. ((bare_expressions y.0.0, bare_expressions y.0.1), bare_body y.1)) (λ y. IsClauses y.0.0 y.0.1 then IsOptional IsBlock y.1) ((p.pres, p.posts), p.body) ps)
-      (append_assoc (each pre_line p.pres) (each post_line p.posts) (body_lines p.body))
-      (r_both (clauses_again p.pres p.posts) (λ rest passes. refl) (body_again p.body)))))
+    (λ y. ((bare_expressions y.0.0, bare_expressions y.0.1), bare_body y.1)) (λ y. IsClauses y.0.0 y.0.1 then IsOptional IsBlock y.1) ((p.pres, p.posts), p.body) ps)
+    (append_assoc (each pre_line p.pres) (each post_line p.posts) (body_lines p.body))
+    (r_both (clauses_again p.pres p.posts) (λ rest passes. refl) (body_again p.body)))))
 
 others_again : (file : List Procedure) → Reprints any without_places IsFile file (each (λ p. feed ++ procedure_lines p) file)
 others_again [] = r_nothing (λ us h. h)

@@ -109,9 +109,11 @@ braced_again n one =
 
 -- Tokens of an else, where none was there.
 some_else : (b : Block) → b ≡ Block.done → (ts : List Token) × (IsKey keys.Else then IsBraced (IsStmts b)) ts × ArePrintable ts
-some_else Block.done h =
-    (at (kinds.Key keys.Else) no_place ∷ at (kinds.Mark marks.BraceLeft) no_place ∷ at (kinds.Mark marks.BraceRight) no_place ∷ [],
-    (_, _, (no_place, refl), (_, _, (no_place, refl), (_, _, refl, (no_place, refl), refl), refl), refl), (tt, (tt, (tt, tt))))
+some_else Block.done h = (
+  at (kinds.Key keys.Else) no_place ∷ at (kinds.Mark marks.BraceLeft) no_place ∷ at (kinds.Mark marks.BraceRight) no_place ∷ [],
+  (_, _, (no_place, refl), (_, _, (no_place, refl), (_, _, refl, (no_place, refl), refl), refl), refl),
+  (tt, (tt, (tt, tt))),
+)
 some_else (Block.next x xs) h = absurd (cc)
 
 -- An else that is printed, also where none was there.

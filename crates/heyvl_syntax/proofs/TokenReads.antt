@@ -1,6 +1,6 @@
 -- Tokens that are what stands at the front: words, keys, marks and numbers before bytes that don't make them longer.
 use Rattle.heyvl_syntax.proofs.FrontIs.{block_first, line_first}
-use Rattle.heyvl_syntax.proofs.Runs.{and_left, not_true, run_ends, run_stops, word_run_stops}
+use Rattle.heyvl_syntax.proofs.Runs.{run_ends, run_stops, word_run_stops}
 use Rattle.heyvl_syntax.proofs.Starts.{digit_no_white, digit_opens_no_word, letter_opens_word, opens_word, token_begins, word_no_white}
 use Rattle.heyvl_syntax.proofs.Steps.{front_was, lexes_token, made}
 use Rattle.heyvl_syntax.proofs.Tables.{key_read, key_text_of}
@@ -9,7 +9,7 @@ use Rattle.heyvl_syntax.specs.Comments.{opens_block, opens_line}
 use Rattle.heyvl_syntax.specs.Fronts.{front_of, key_of, fraction_len, number_front, number_len, number_text, with_point, word_front, word_text}
 use Rattle.heyvl_syntax.specs.Grammar.{prefix}
 use Rattle.heyvl_syntax.specs.Keys.{key_text}
-use Rattle.heyvl_syntax.specs.Literals.{IsDigits, IsNumber, is_too_large, literal}
+use Rattle.heyvl_syntax.specs.Literals.{IsNumber, is_too_large, literal}
 use Rattle.heyvl_syntax.specs.Marks.{mark_text}
 use Rattle.heyvl_syntax.specs.Tokens.{IsWord, Lexes}
 use Rattle.heyvl_syntax.specs.declared.fronts.Front.TheVariants as fronts
@@ -22,7 +22,7 @@ use Rattle.heyvl_syntax.specs.declared.operators.UnaryOp.{UnaryOp}
 use Rattle.heyvl_syntax.specs.declared.tokens.Token.{Token}
 use Rattle.heyvl_syntax.specs.declared.tokens.TokenKind.TheVariants as kinds
 use Rattle.heyvl_syntax.specs.declared.tokens.TokenKind.{TokenKind}
-use Rattle.std.proofs.Common.{Bool, List, None, Option, Some, [], ap, append_assoc, arith, cond, drop, false, inl, inr, length, nat_eq, not, refl, subst, suc, sym, take, true, zero, ◌&&◌, ◌++◌, ◌+◌, ◌<◌, ◌==◌, ◌||◌, ◌∙◌, ◌∷◌, ◌≡◌, ℕ}
+use Rattle.std.proofs.Common.{Bool, List, None, Option, Some, [], ap, append_assoc, arith, cond, false, inl, inr, length, nat_eq, not, refl, subst, suc, sym, true, zero, ◌&&◌, ◌++◌, ◌+◌, ◌<◌, ◌==◌, ◌∙◌, ◌∷◌, ◌≡◌, ℕ}
 use Rattle.std.proofs.Math.Seq.{drop-append_seam, take-append_seam}
 use Rattle.std.proofs.lemmas.Bool.Decides.{nat_tests}
 use Rattle.std.proofs.lemmas.List.{length-append}
