@@ -1,0 +1,4 @@
+mod LinearValues
+mod QueryTrees
+mod TypedValues
+mod EndValues
