@@ -1,4 +1,12 @@
+pub mod Sums
+pub mod Between
+pub mod Moves
+pub mod Normal
+pub mod Fractions
+pub mod Combinations
 mod LinearValues
 mod QueryTrees
 mod TypedValues
 mod EndValues
+mod EachResults
+mod ConstantForms

@@ -1,6 +1,16 @@
-//! Linear questions of a goal, and the rows of a path.
+//! Linear questions of a goal along a path, linear rows, the points that meet them, and their combinations.
 #![tactic(auto)]
 
+mod goal_products;
 mod lin;
+mod paths;
+mod question_laws;
+mod row;
+mod row_laws;
 
+pub use goal_products::nonlinear;
 pub use lin::Lin;
+pub use paths::{Atom, Taken};
+pub use question_laws::{constant_without_variables, one_path_agrees};
+pub use row::Row;
+pub use row_laws::solutions_of_rows;
