@@ -10,3 +10,8 @@ mod TypedValues
 mod EndValues
 mod EachResults
 mod ConstantForms
+mod Runs
+mod PathEnds
+mod KeptValues
+mod Narrow
+mod KeptParts

@@ -34,7 +34,7 @@ minus_one_is : minus_oneʳ ≡ negʳ oneʳ
 unfolding minus_oneʳ oneʳ
 minus_one_is = sym (ratio-neg (pos 1) 1 (lit< tt))
 
-minus_one_times : (x : Rational) → minus_oneʳ *ʳ x ≡ negʳ x
+pub minus_one_times : (x : Rational) → minus_oneʳ *ʳ x ≡ negʳ x
 minus_one_times x = ap (λ w. w *ʳ x) minus_one_is ∙ negʳ-*ʳ oneʳ x ∙ ap negʳ (one-*ʳ x)
 
 nothing_more : (x v r : Rational) → is_zeroʳ x ≡ true → r ≡ (x *ʳ v) +ʳ r

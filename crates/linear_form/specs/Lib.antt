@@ -17,3 +17,7 @@ pub mod PathRows
 pub mod Cells
 pub mod QuestionLaws
 pub mod PlainPaths
+pub mod Run
+pub mod Seen
+pub mod FitTerms
+pub mod Loops

@@ -1,13 +1,18 @@
 //! Linear questions of a goal along a path, linear rows, the points that meet them, and their combinations.
 #![tactic(auto)]
 
+mod asking;
+mod cursor;
 mod goal_products;
 mod lin;
+mod numbers;
 mod paths;
 mod question_laws;
 mod row;
 mod row_laws;
+mod terms;
 
+pub use asking::Ask;
 pub use goal_products::nonlinear;
 pub use lin::Lin;
 pub use paths::{Atom, Taken};
