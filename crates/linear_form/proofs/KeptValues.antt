@@ -13,7 +13,9 @@ use Rattle.linear_form.specs.Query.Query.{done, bits, ask}
 use Rattle.linear_form.specs.Questions as q
 use Rattle.linear_form.specs.Questions.{Linear, sized, is_below, evaluate, test}
 use Rattle.linear_form.specs.QuestionLaws.{EachResult}
-use Rattle.linear_form.specs.Run.{IsKept, IsKeptValue}
+use Rattle.linear_form.specs.Run.{IsKept, IsKeptValue, Outcome, run}
+use Rattle.linear_form.specs.Query.{Taken}
+use Rattle.linear_form.proofs.Runs.{run_result}
 use Rattle.linear_form.proofs.EachResults.{each_next, each_after, each_both, of_two}
 
 -- ---- Terms
@@ -195,3 +197,6 @@ form_kept (Form.embed g) = each_after (test g) _ IsKeptValue (λ t. of_two IsKep
 form_kept (Form.iverson g) = each_after (test g) _ IsKeptValue (λ t. of_two IsKeptValue t q.one q.zero one_kept zero_kept)
 form_kept (Form.select g a b) = each_after (test g) _ IsKeptValue (λ t. of_two (EachResult IsKeptValue) t (evaluate a) (evaluate b) (form_kept a) (form_kept b))
 form_kept (Form.bind up x name ty a) = tt
+
+pub kept_found : (ps : List Taken) (f : Form) (i : ℕ) (x : Linear) (j : ℕ) → run ps (evaluate f) i ≡ Outcome.value x j → IsKeptValue x
+kept_found ps f i x j h = run_result ps (evaluate f) IsKeptValue i x j (form_kept f) h

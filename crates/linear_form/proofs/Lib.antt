@@ -15,3 +15,6 @@ mod PathEnds
 mod KeptValues
 mod Narrow
 mod KeptParts
+mod Products
+mod OperatorRuns
+mod Asks

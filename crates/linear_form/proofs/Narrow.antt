@@ -40,7 +40,7 @@ same x y e = cc
 abs_sum : (a b : ℤ) → unsigned_abs (a +ℤ b) ≤ unsigned_abs a + unsigned_abs b
 abs_sum a b = omega (arith, ints)
 
-small : (z : ℤ) → unsigned_abs z < 2 ^ 127 → is_small z ≡ true
+pub small : (z : ℤ) → unsigned_abs z < 2 ^ 127 → is_small z ≡ true
 small z h = grind arith
 
 narrow_less : (z : ℤ) → is_narrow z ≡ true → unsigned_abs z < 2 ^ 62
@@ -54,11 +54,11 @@ and_right : (a b : Bool) → (a && b) ≡ true → b ≡ true
 and_right true b e = e
 and_right false b e = absurd (cc)
 
-num_less : (x : Rational) → fits x ≡ true → unsigned_abs x.num < 2 ^ 62
+pub num_less : (x : Rational) → fits x ≡ true → unsigned_abs x.num < 2 ^ 62
 unfolding fits
 num_less x h = narrow_less x.num (and_left _ _ h)
 
-den_less : (x : Rational) → fits x ≡ true → x.den < 2 ^ 62
+pub den_less : (x : Rational) → fits x ≡ true → x.den < 2 ^ 62
 unfolding fits
 den_less x h = narrow_less (pos x.den) (and_right (is_narrow x.num) _ h)
 
@@ -115,7 +115,7 @@ less_is n = go (lt_z n (pos 0)) (le_z (pos 0) n) refl refl
     go false true e f = refl
     go false false e f = absurd (omega (arith, ints))
 
-seen : (n m : ℤ) → n ≡ m → FitsSigned w128 n → to_z w128 (of_z w128 n) ≡ m
+pub seen : (n m : ℤ) → n ≡ m → FitsSigned w128 n → to_z w128 (of_z w128 n) ≡ m
 seen n m e h = to_z-of_z w128 n h ∙ e
 
 pub negative_plain : (x : Rational) (n : ℤ) → n ≡ x.num → FitsSigned w128 n → le_z (to_z w128 (of_z w128 n)) (pos 0) ≡ is_negative x false

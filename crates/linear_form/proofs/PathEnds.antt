@@ -9,6 +9,11 @@ use Rattle.linear_form.specs.Paths.{Path, walk, IsPath, end_at}
 use Rattle.linear_form.specs.Questions.{Linear, Ends, questions, evaluate, both}
 use Rattle.linear_form.specs.Run.{Outcome, run, turned, heard}
 use Rattle.linear_form.specs.Run.Outcome.{value, decide}
+use Rattle.linear_form.specs.PlainPaths.{linear_of, atom_of}
+use Rattle.linear_form.specs.Seen.{Answers}
+use Rattle.linear_form.specs.declared.lin.Lin as L
+use Rattle.linear_form.specs.declared.paths.Atom as A
+use Rattle.linear_form.specs.declared.asking.Ask as K
 
 -- an evaluation came to what the tree has at its head
 abbrev pub Same : {A : Type 0} → Outcome A → Query A → Type 0
@@ -58,3 +63,18 @@ run_walk {A} past rest (ask (Atom.truth x) y n) p = subst (λ zs. Same (heard (k
 -- what a goal's evaluation comes to is what stands at the end of the path
 pub goal_end : (g : Goal) (ps : List Taken) (o : Outcome Ends) → IsPath g ps → run ps (both (evaluate g.stated) (evaluate g.found) (λ x y. done (x, y))) 0 ≡ o → Same o (end_at g ps)
 goal_end g ps o p e = subst (λ o. Same o (end_at g ps)) e (run_walk [] ps (both (evaluate g.stated) (evaluate g.found) (λ x y. done (x, y))) p)
+
+pub answer_end : (x z : Option L.Lin) (i : ℕ) (t : Query Ends) → Same (value (linear_of x, linear_of z) i) t → Answers (K.TheVariants.End x z) t
+answer_end x z i (done e) h = h
+answer_end x z i bits h = h
+answer_end x z i (ask q y n) h = h
+
+pub answer_decide : (q : A.Atom) (t : Query Ends) → Same (decide (atom_of q)) t → Answers (K.TheVariants.Decide q) t
+answer_decide q (done e) h = h
+answer_decide q bits h = h
+answer_decide q (ask r y n) h = h
+
+pub answer_bits : (t : Query Ends) → Same Outcome.bits t → Answers K.TheVariants.Bits t
+answer_bits (done e) h = h
+answer_bits bits h = h
+answer_bits (ask r y n) h = h

@@ -21,3 +21,4 @@ pub mod Run
 pub mod Seen
 pub mod FitTerms
 pub mod Loops
+pub mod Operator

@@ -17,3 +17,8 @@ pub record IsMergedSoFar (us ts made rest : Terms) : Type 0 where
   pub normal : IsNormal rest
   pub rest_fits : all_fit rest ≡ true
   pub made_fits : AreFitAt rest made
+
+pub record IsSmallSoFar (w : Rational) (terms made rest : Terms) : Type 0 where
+  pub whole : times w terms ≡ made ++ times w rest
+  pub fits : all_fit (times w terms) ≡ all_fit (times w rest)
+  pub rest_fits : all_fit rest ≡ true
