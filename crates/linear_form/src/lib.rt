@@ -13,6 +13,8 @@ mod question_laws;
 mod row;
 mod row_laws;
 mod terms;
+#[cfg(test)]
+mod tests;
 
 pub use asking::Ask;
 pub use goal_products::nonlinear;
