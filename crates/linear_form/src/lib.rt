@@ -5,6 +5,7 @@ mod asking;
 mod cursor;
 mod goal_products;
 mod lin;
+mod linear_terms;
 mod multiples;
 mod numbers;
 mod operators;
@@ -12,7 +13,6 @@ mod paths;
 mod question_laws;
 mod row;
 mod row_laws;
-mod terms;
 #[cfg(test)]
 mod tests;
 

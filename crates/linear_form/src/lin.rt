@@ -7,7 +7,7 @@ ghost use Rattle.linear_form.specs.Run.{IsKept};
 ghost use Rattle.linear_form.specs.PlainPaths.{lin_of};
 
 use crate::numbers::{fits, is_zero, minus_one, one, product, sum, zero};
-use crate::terms::merged;
+use crate::linear_terms::merged;
 use heyvl_num::Frac;
 use std::alloc::{AllocError, Global};
 

@@ -1,7 +1,7 @@
 use Rattle.std.proofs.Common.{◌≡◌, ap, ◌∙◌, rules}
 use Rattle.linear_form.specs.Lin.{more}
 use Rattle.linear_form.proofs.KeptParts.{merged_init, merged_step, head_fits, head_may_be_added}
-use Rattle.linear_form.proofs.terms.merged.Goals as goal
+use Rattle.linear_form.proofs.linear_terms.merged.Goals as goal
 
 pub terms-init : goal.terms-init
 terms-init c = merged_init c.args.from.now c.args.into.now c.in_ok-made.made.items c.in_ok-made.ensures.items c.requires.normal c.requires.from_fits c.requires.into_fits

@@ -1,6 +1,6 @@
 use Rattle.std.proofs.Common.{length}
 use Rattle.linear_form.specs.Loops.{IsMergedSoFar}
-use Rattle.linear_form.proofs.terms.merged.Given as goal
+use Rattle.linear_form.proofs.linear_terms.merged.Given as goal
 
 abbrev pub decreases-terms : goal.decreases-terms
 decreases-terms l = length l.rest
