@@ -18,3 +18,5 @@ mod KeptParts
 mod Products
 mod OperatorRuns
 mod Asks
+pub mod Walking
+pub mod Mixing

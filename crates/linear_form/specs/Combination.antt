@@ -1,8 +1,8 @@
 -- Rows added up with multipliers, and when that is a contradiction (Farkas). What is accepted as a certificate is this
 -- project's own.
-use Rattle.std.specs.Prelude.{◌≡◌, ◌⊎◌, ℕ, ◌<◌, ◌^◌, List, [], ◌∷◌, length, take, get_or, ℤ, pos, ◌+ℤ◌, ◌*ℤ◌, ◌<ℤ◌, Bool, true, false, ◌||◌}
+use Rattle.std.specs.Prelude.{◌≡◌, ◌⊎◌, ℕ, ◌<◌, ◌^◌, List, [], ◌∷◌, length, take, get_or, unsigned_abs, ℤ, pos, ◌+ℤ◌, ◌*ℤ◌, ◌<ℤ◌, Bool, true, false, ◌||◌}
 use Rattle.std.specs.List.{All}
-use Rattle.linear_form.specs.Terms.{coefficient, is_wide}
+use Rattle.linear_form.specs.Terms.{coefficient}
 use Rattle.linear_form.specs.Row.{Row}
 
 -- The row with an index; the row 0 <= 0 beyond the list.
@@ -26,7 +26,7 @@ IsGrowing (m ∷ ms) = All (λ n. m.0 < n.0) ms × IsGrowing ms
 
 -- Each partial sum, in the order of the rows, is below 2^126.
 pub record IsWideThroughout (F : Row → ℤ) (ms : List (ℕ × ℕ)) (rows : List Row) : Type 0 where
-  pub wide : (k : ℕ) → is_wide (combined F (take k ms) rows) ≡ true
+  pub wide : (k : ℕ) → unsigned_abs (combined F (take k ms) rows) < 2 ^ 126
 
 -- The multipliers combine the rows to a row without variables that nothing meets: its constant is above 0, or it is 0 and a
 -- strict row is used. The row 0 <= 0 is none.

@@ -13,6 +13,7 @@ mod paths;
 mod question_laws;
 mod row;
 mod row_laws;
+mod terms;
 #[cfg(test)]
 mod tests;
 
@@ -23,3 +24,6 @@ pub use paths::{Atom, Taken};
 pub use question_laws::{constant_without_variables, one_path_agrees};
 pub use row::Row;
 pub use row_laws::solutions_of_rows;
+pub use terms::{
+    coefficient_of, divided, divisor_of, merged, mixed, narrow_quotient, scaled, wide_product,
+};
