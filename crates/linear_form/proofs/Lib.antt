@@ -4,5 +4,19 @@ pub mod Moves
 pub mod Normal
 pub mod Fractions
 pub mod Combinations
+mod LinearValues
+mod QueryTrees
+mod TypedValues
+mod EndValues
+mod EachResults
+mod ConstantForms
+mod Runs
+mod PathEnds
+mod KeptValues
+mod Narrow
+mod KeptParts
+mod Products
+mod OperatorRuns
+mod Asks
 pub mod Walking
 pub mod Mixing

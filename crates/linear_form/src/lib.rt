@@ -1,10 +1,27 @@
-//! Linear rows, the points that meet them, and their combinations.
+//! Linear questions of a goal along a path, linear rows, the points that meet them, and their combinations.
 #![tactic(auto)]
 
+mod asking;
+mod cursor;
+mod goal_products;
+mod lin;
+mod linear_terms;
+mod multiples;
+mod numbers;
+mod operators;
+mod paths;
+mod question_laws;
 mod row;
 mod row_laws;
 mod terms;
+#[cfg(test)]
+mod tests;
 
+pub use asking::Ask;
+pub use goal_products::nonlinear;
+pub use lin::Lin;
+pub use paths::{Atom, Taken};
+pub use question_laws::{constant_without_variables, one_path_agrees};
 pub use row::Row;
 pub use row_laws::solutions_of_rows;
 pub use terms::{
