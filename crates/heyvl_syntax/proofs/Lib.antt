@@ -19,5 +19,6 @@ mod StatementRows
 pub mod Steps
 pub mod Tables
 pub mod Texts
+pub mod TokenReads
 pub mod Total
 pub mod Unique

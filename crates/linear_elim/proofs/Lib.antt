@@ -13,3 +13,4 @@ pub mod Keeping
 pub mod Finishing
 pub mod FirstRows
 pub mod Examples
+pub mod Orders

@@ -3,3 +3,4 @@ pub mod Steps
 pub mod Elimination
 pub mod Laws
 pub mod Outcomes
+pub mod Turns

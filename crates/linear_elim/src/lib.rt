@@ -5,6 +5,7 @@ mod elimination;
 mod gathering;
 mod joins;
 mod laws;
+mod ordering;
 mod starting;
 mod steps;
 
@@ -12,5 +13,6 @@ pub use elimination::{Outcome, eliminate_from};
 pub use gathering::Gathering;
 pub use joins::{Derived, joined};
 pub use laws::elimination_decides;
+pub use ordering::elimination_order;
 pub use starting::contradiction_or_steps;
 pub use steps::{Step, eliminate_one};

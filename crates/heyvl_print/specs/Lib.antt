@@ -1,0 +1,5 @@
+pub mod Canonical
+pub mod Laws
+pub mod Numbers
+pub mod Pieces
+pub mod WithoutPlaces

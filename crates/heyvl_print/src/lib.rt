@@ -1,0 +1,14 @@
+//! The canonical text of a file.
+#![tactic(auto)]
+
+mod bytes;
+mod expressions;
+mod laws;
+mod lines;
+mod numbers;
+mod procedures;
+mod statements;
+mod symbols;
+
+pub use laws::{printed_text_spells_the_file, printing_is_stable, text_ignores_places};
+pub use procedures::print;
