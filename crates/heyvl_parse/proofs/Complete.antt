@@ -41,7 +41,7 @@ complete_pair n F G P Q f g x y cf cg fits text rest (one, two, p, q, e) len r =
       cg two rest q (omega (arith, ap length cut, length-append one (two ++ rest))) r,
     ) refl
 
-mark_same : (m : Mark) (s : Span) → is_mark m (at (kinds.Mark m) s).kind ≡ true
+pub mark_same : (m : Mark) (s : Span) → is_mark m (at (kinds.Mark m) s).kind ≡ true
 mark_same marks.ParenLeft s = refl
 mark_same _ s = refl
 

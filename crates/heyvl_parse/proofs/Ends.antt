@@ -48,3 +48,10 @@ last_of (Expression.choice a b c s) k ts (h, e) = whole_end s ts (some_then _ _ 
 last_of (Expression.bound up x t a s) k ts (within, h, e) = whole_end s ts (some_then _ _ ts h) e
 last_of (Expression.binary op a b s) k ts (within, (left, behind, ha, (sign, right, hs, hb, e2), e)) =
     last_then ts left behind _ e (last_then behind sign right _ e2 (last_of b _ right hb))
+
+pub ends_with : (ts rest : List Token) (t : Token) → ts ≡ rest ++ (t ∷ []) → last_end ts ≡ t.span.to
+ends_with ts rest t e = ap last_end e ∙ last_append rest (t ∷ []) (omega arith)
+
+pub ends_nowhere : (ts : List Token) → length ts ≡ 0 → last_end ts ≡ 0
+ends_nowhere [] e = refl
+ends_nowhere (t ∷ ts) e = absurd (omega arith)

@@ -1,6 +1,15 @@
+pub mod ChainLoop
+pub mod ClauseLoop
 pub mod Complete
+pub mod EachLoop
 pub mod Ends
+pub mod FileLaws
 pub mod Fuel
+pub mod Lawful
 pub mod Local
+pub mod ParseClauses
+pub mod ProcedureLaws
 pub mod Refusals
 pub mod Right
+pub mod RightLaws
+pub mod StatementLaws

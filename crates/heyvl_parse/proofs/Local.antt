@@ -126,7 +126,7 @@ module _ (self : Reader) (l : AllLocal self) where
       local_token (more self k left) (λ z. self (Full (ranks op).right) z >>= λ b. joined self (repeats op) k (Expression.binary op left b u.span)) u us _ (λ zs. rw e refl)
       (local_bind (self (Full (ranks op).right)) (λ b. joined self (repeats op) k (Expression.binary op left b u.span)) (l (Full (ranks op).right)) (λ b. local_joined (repeats op) k (Expression.binary op left b u.span)) us)
 
-  local_more : (k : ℕ) (left : Expression) → Local (more self k left)
+  pub local_more : (k : ℕ) (left : Expression) → Local (more self k left)
   local_more k left [] = ([], refl, λ t r0 r' eq. cc)
   local_more k left (u ∷ us) = local_placed k left u us (ranked k (operator_of u.kind)) refl
 

@@ -16,7 +16,7 @@ use Rattle.std.proofs.Common.{Err, IfErr, IfOk, List, MatchResult, None, Ok, Opt
 use Rattle.std.proofs.Math.Seq.{take-append-add, take-append_seam}
 use Rattle.std.proofs.lemmas.List.{append-nil, length-take-le, take-append-drop, take_all}
 
-quiet : (rest : List Token) → NoOperator rest → Quiet 9 rest
+pub quiet : (rest : List Token) → NoOperator rest → Quiet 9 rest
 quiet [] free j lt = refl
 quiet (t ∷ ts) free j lt = go (operator_of t.kind) (is_operator t.kind)
   where
@@ -24,24 +24,24 @@ quiet (t ∷ ts) free j lt = go (operator_of t.kind) (is_operator t.kind)
     go None e = refl
     go (Some op) e = absurd (free op t.span ts (ap (λ k. at k t.span ∷ ts) e))
 
-reads : (n : ℕ) (text rest : List Token) (t : Expression) → length (text ++ rest) < n → IsExpr t 9 text → Quiet 9 rest → reading n Whole (text ++ rest) ≡ Got t rest
+pub reads : (n : ℕ) (text rest : List Token) (t : Expression) → length (text ++ rest) < n → IsExpr t 9 text → Quiet 9 rest → reading n Whole (text ++ rest) ≡ Got t rest
 reads zero text rest t len h q = absurd (omega arith)
 reads (suc n) text rest t len h q = complete t text rest n h (omega arith) q
 
-done_before : (ts : List Token) (i : ℕ) (r : List Token) → i + length r ≡ length ts → Right (Ranked 9) ts (Bad r) → (more : List Token) × (t : Expression) × IsFull t (take i ts ++ more)
+pub done_before : (ts : List Token) (i : ℕ) (r : List Token) → i + length r ≡ length ts → Right (Ranked 9) ts (Bad r) → (more : List Token) × (t : Expression) × IsFull t (take i ts ++ more)
 done_before ts i r sum (text, more, t, e, h) =
     let len : i ≡ length text = omega (arith, ap length e, length-append text r) in
     (more, t, rw (len, e, take-append_seam text r) h)
 
 -- A list that agrees up to and including the token u behind text.
-agrees : (text r0 zs : List Token) (u : Token) → take (length text + 1) zs ≡ take (length text + 1) (text ++ (u ∷ r0)) → zs ≡ text ++ (u ∷ drop (length text + 1) zs)
+pub agrees : (text r0 zs : List Token) (u : Token) → take (length text + 1) zs ≡ take (length text + 1) (text ++ (u ∷ r0)) → zs ≡ text ++ (u ∷ drop (length text + 1) zs)
 agrees text r0 zs u e =
     let front : take (length text + 1) (text ++ (u ∷ r0)) ≡ text ++ (u ∷ []) = take-append-add text (u ∷ r0) 1 in
     let cut : take (length text + 1) zs ++ drop (length text + 1) zs ≡ zs = take-append-drop (length text + 1) zs in
     sym cut ∙ ap (λ z. z ++ drop (length text + 1) zs) (e ∙ front) ∙ append_assoc text (u ∷ []) (drop (length text + 1) zs)
 
 -- A list that agrees with all of ts, and has no more.
-same_end : (ts zs : List Token) → take (length ts + 1) zs ≡ take (length ts + 1) ts → zs ≡ ts
+pub same_end : (ts zs : List Token) → take (length ts + 1) zs ≡ take (length ts + 1) ts → zs ≡ ts
 same_end ts zs e =
     let all : take (length ts + 1) ts ≡ ts = take_all (length ts + 1) ts (omega arith) in
     let len : length (take (length ts + 1) zs) ≡ length ts = ap length (e ∙ all) in

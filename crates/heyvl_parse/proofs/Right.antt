@@ -81,7 +81,7 @@ right_pair {A} P Q f g rf rg (y, t, q) ts = go (f ts) (rf ts)
 pub some_pair : {A B : Type 0} (P : A → List Token → Type 0) (Q : B → List Token → Type 0) → Some_text P → Some_text Q → Some_text (Pair P Q)
 some_pair P Q (x, one, p) (y, two, q) = ((x, y), one ++ two, (one, two, p, q, refl))
 
-abbrev Holds : {A : Type 0} → (A → List Token → Type 0) → Token → Option A → Type 0
+abbrev pub Holds : {A : Type 0} → (A → List Token → Type 0) → Token → Option A → Type 0
 Holds P t None = Unit {0}
 Holds P t (Some x) = P x (t ∷ [])
 
@@ -118,10 +118,10 @@ right_expect m = right_one (IsSign m) (mark_place m) holds (some_sign m)
         pick true e = ap (λ k. at k t.span ∷ []) (is_mark_true m t.kind e)
         pick false e = tt
 
-some_word : Some_text IsName
+pub some_word : Some_text IsName
 some_word = ([], at (kinds.Word []) nowhere ∷ [], (nowhere, refl))
 
-right_word : RightAt IsName word
+pub right_word : RightAt IsName word
 right_word = right_one IsName (λ t. word_of t.kind) (λ t. holds t.kind t.span) some_word
   where
     holds : (k : TokenKind) (s : Span) → Holds IsName (at k s) (word_of k)
@@ -130,10 +130,10 @@ right_word = right_one IsName (λ t. word_of t.kind) (λ t. holds t.kind t.span)
     holds (kinds.Key k) s = tt
     holds (kinds.Mark m) s = tt
 
-some_type : Some_text IsType
+pub some_type : Some_text IsType
 some_type = (types.Bool, at (kinds.Key keys.BoolWord) nowhere ∷ [], (nowhere, refl))
 
-right_type : RightAt IsType type_name
+pub right_type : RightAt IsType type_name
 right_type = right_one IsType (λ t. type_of t.kind) (λ t. holds t.kind t.span) some_type
   where
     of_key : (k : Key) (s : Span) → Holds IsType (at (kinds.Key k) s) (key_type k)
@@ -180,7 +180,7 @@ wider (Expression.choice a b c s) j k text le h = h
 wider (Expression.bound up x t a s) j k text le (within, h, e) = (omega arith, h, e)
 
 -- A sample.
-some_expr : (k : ℕ) → Some_text (Ranked k)
+pub some_expr : (k : ℕ) → Some_text (Ranked k)
 some_expr k = (Expression.infinity nowhere, at (kinds.Key keys.Infty) nowhere ∷ [], ((nowhere, refl), refl))
 
 module _ (self : Reader) (good : Good self) where

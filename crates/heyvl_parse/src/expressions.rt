@@ -48,7 +48,7 @@ fn end_of(expr: &Expr) -> u32
 
 /// The expression at the front, and the tokens behind it.
 #[cycle(expressions)]
-fn whole(alloc: Global, tokens: &[Token]) -> Result<(Expr, &[Token]), PartStop>
+pub(crate) fn whole(alloc: Global, tokens: &[Token]) -> Result<(Expr, &[Token]), PartStop>
     ensures value { (n : ℕ) → length tokens.now < n → Gives (λ x. expression x.0) (λ x. x.1.now) result (reading n Whole tokens.now) }
     ensures shorter { IfOk result (λ x. length x.1.now < length tokens.now) }
 {

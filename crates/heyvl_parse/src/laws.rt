@@ -1,8 +1,14 @@
-//! Laws of the reading of expressions.
+//! Laws of the reading of expressions and files.
 
+ghost use Rattle.heyvl_parse.specs.Files.{FileIsUnique};
 ghost use Rattle.heyvl_parse.specs.Parts.{ExpressionIsUnique};
 
 /// Tokens spell at most one expression.
 pub fn expression_is_unique()
     ensures { ExpressionIsUnique }
+{}
+
+/// Tokens spell at most one file.
+pub fn file_is_unique()
+    ensures { FileIsUnique }
 {}

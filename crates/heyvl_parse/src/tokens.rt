@@ -1,5 +1,6 @@
 //! Ways to take the token at the front of others.
 
+ghost use Rattle.heyvl_parse.specs.Combinators.{is_key, is_word, sign, starts};
 ghost use Rattle.heyvl_parse.specs.Reading.{expect, is_mark, next, type_name, type_of, word};
 ghost use Rattle.heyvl_parse.specs.Results.{Gives};
 ghost use Rattle.std.specs.Prelude.{IfOk, length, ◌+◌, ◌<◌, ◌≡◌};
@@ -86,5 +87,76 @@ pub(crate) fn type_name(tokens: &[Token]) -> Result<(TypeName, &[Token]), PartSt
     match type_of(&token.kind) {
         Some(ty) => Ok((ty, rest)),
         None => Err(PartStop::Fault(tokens.len())),
+    }
+}
+
+fn is_key(key: Key, kind: &TokenKind) -> bool
+    ensures { result ≡ is_key key kind.now }
+{
+    match kind {
+        TokenKind::Key(found) => *found == key,
+        TokenKind::Word(_) => false,
+        TokenKind::Number(_) => false,
+        TokenKind::Mark(_) => false,
+    }
+}
+
+/// The place of this key, which has to stand at the front, and the tokens behind it.
+pub(crate) fn expect_key(key: Key, tokens: &[Token]) -> Result<(Span, &[Token]), PartStop>
+    ensures value { Gives (λ x. x.0) (λ x. x.1.now) result (sign (is_key key) tokens.now) }
+    ensures shorter { IfOk result (λ x. length x.1.now < length tokens.now) }
+{
+    let (token, rest) = next(tokens)?;
+    if is_key(key, &token.kind) {
+        Ok((token.span, rest))
+    } else {
+        Err(PartStop::Fault(tokens.len()))
+    }
+}
+
+/// Whether this mark stands at the front.
+pub(crate) fn starts_mark(mark: Mark, tokens: &[Token]) -> bool
+    ensures { result ≡ starts (is_mark mark) tokens.now }
+{
+    match tokens.split_first() {
+        None => false,
+        Some((token, _)) => is_mark(mark, &token.kind),
+    }
+}
+
+/// Whether this key stands at the front.
+pub(crate) fn starts_key(key: Key, tokens: &[Token]) -> bool
+    ensures { result ≡ starts (is_key key) tokens.now }
+{
+    match tokens.split_first() {
+        None => false,
+        Some((token, _)) => is_key(key, &token.kind),
+    }
+}
+
+fn is_word(name: &[u8], kind: &TokenKind) -> bool
+    ensures { result ≡ is_word name.now kind.now }
+{
+    match kind {
+        TokenKind::Word(found) => found.as_bytes() == name,
+        TokenKind::Key(_) => false,
+        TokenKind::Number(_) => false,
+        TokenKind::Mark(_) => false,
+    }
+}
+
+/// The place of this word, which has to stand at the front, and the tokens behind it.
+pub(crate) fn expect_word<'a>(
+    name: &[u8],
+    tokens: &'a [Token],
+) -> Result<(Span, &'a [Token]), PartStop>
+    ensures value { Gives (λ x. x.0) (λ x. x.1.now) result (sign (is_word name.now) tokens.now) }
+    ensures shorter { IfOk result (λ x. length x.1.now < length tokens.now) }
+{
+    let (token, rest) = next(tokens)?;
+    if is_word(name, &token.kind) {
+        Ok((token.span, rest))
+    } else {
+        Err(PartStop::Fault(tokens.len()))
     }
 }

@@ -1,0 +1,11 @@
+use Rattle.heyvl_parse.proofs.StatementLaws.{block_laws}
+use Rattle.heyvl_parse.proofs.FileLaws.{fault_clause, file_laws, found_clause}
+use Rattle.heyvl_parse.proofs.file_reader.spelled.Goals as goal
+use Rattle.heyvl_parse.specs.Statements.{braced, stmts}
+use Rattle.heyvl_parse.specs.FileReading.{file}
+
+pub returns-clause-found : goal.returns-clause-found
+returns-clause-found c = found_clause (λ n. file (braced (stmts n)) n) (λ n. file_laws (block_laws n)) c.args.tokens.now c.file.result c.file.ensures.value
+
+pub returns-clause-fault : goal.returns-clause-fault
+returns-clause-fault c = fault_clause (λ n. file (braced (stmts n)) n) (λ n. file_laws (block_laws n)) c.args.tokens.now c.file.result c.file.ensures.value

@@ -1,0 +1,18 @@
+use Rattle.heyvl_parse.proofs.EachLoop.{Rest}
+use Rattle.heyvl_parse.proofs.rights.all_weighted.Given as goal
+use Rattle.heyvl_parse.specs.Combinators.{lead, list}
+use Rattle.heyvl_parse.specs.Reading.{is_mark, word}
+use Rattle.heyvl_parse.specs.Rights.{expr, weighted}
+use Rattle.heyvl_syntax.specs.Expressions.{expression, expressions}
+use Rattle.heyvl_syntax.specs.Statements.{choices}
+use Rattle.heyvl_syntax.specs.declared.marks.Mark.TheVariants as marks
+use Rattle.std.proofs.Common.{length, map, ◌<◌, ◌≤◌, ℕ}
+
+abbrev pub invariant-items : goal.invariant-items
+invariant-items l = record {
+  shorter : length l.rest < length l.tokens;
+  same : (n : ℕ) → length l.tokens < n → Rest (is_mark marks.Comma) (lead (is_mark marks.Comma) (weighted n)) (list (weighted n) n l.tokens) (choices l.found.items) l.rest;
+}
+
+abbrev pub decreases-items : goal.decreases-items
+decreases-items l = length l.rest

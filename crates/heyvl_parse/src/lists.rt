@@ -1,0 +1,87 @@
+//! The parser of lists of expressions and of names.
+
+ghost use Rattle.heyvl_parse.specs.Combinators.{lead, list, list0};
+ghost use Rattle.heyvl_parse.specs.Reading.{is_mark, word};
+ghost use Rattle.heyvl_parse.specs.Results.{Gives};
+ghost use Rattle.heyvl_parse.specs.Rights.{arguments, expr};
+ghost use Rattle.heyvl_syntax.specs.Expressions.{expression, expressions};
+ghost use Rattle.heyvl_syntax.specs.declared.marks.Mark.TheVariants as marks;
+ghost use Rattle.std.specs.Prelude.{IfOk, length, ◌<◌, ◌≡◌, ◌≤◌, ℕ};
+
+use crate::PartStop;
+use crate::expressions::whole;
+use crate::tokens::{expect, starts_mark, word};
+use heyvl_syntax::{Expr, Mark, Name, Token};
+use std::alloc::Global;
+
+/// A `,` and an expression.
+fn further(alloc: Global, tokens: &[Token]) -> Result<(Expr, &[Token]), PartStop>
+    ensures value { (n : ℕ) → length tokens.now < n → Gives (λ x. expression x.0) (λ x. x.1.now) result (lead (is_mark marks.Comma) (expr n) tokens.now) }
+    ensures shorter { IfOk result (λ x. length x.1.now < length tokens.now) }
+{
+    let (_, rest) = expect(Mark::Comma, tokens)?;
+    whole(alloc, rest)
+}
+
+/// Expressions with `,` between.
+fn expressions(alloc: Global, tokens: &[Token]) -> Result<(Vec<Expr>, &[Token]), PartStop>
+    ensures value { (n : ℕ) → length tokens.now < n → Gives (λ x. expressions x.0.items) (λ x. x.1.now) result (list (expr n) n tokens.now) }
+    ensures shorter { IfOk result (λ x. length x.1.now < length tokens.now) }
+{
+    let (first, mut rest) = whole(alloc, tokens)?;
+    let mut found = Vec::new(alloc);
+    found.push(first)?;
+    'items: while starts_mark(Mark::Comma, rest) {
+        let (one, behind) = further(alloc, rest)?;
+        found.push(one)?;
+        rest = behind;
+    }
+    Ok((found, rest))
+}
+
+/// Expressions with `,` between, or none before `)`.
+fn expressions_inside(alloc: Global, tokens: &[Token]) -> Result<(Vec<Expr>, &[Token]), PartStop>
+    ensures value { (n : ℕ) → length tokens.now < n → Gives (λ x. expressions x.0.items) (λ x. x.1.now) result (list0 (expr n) n tokens.now) }
+    ensures shorter { IfOk result (λ x. length x.1.now ≤ length tokens.now) }
+{
+    if starts_mark(Mark::ParenRight, tokens) {
+        return Ok((Vec::new(alloc), tokens));
+    }
+    expressions(alloc, tokens)
+}
+
+/// What stands in the parentheses of a call.
+pub(crate) fn arguments(alloc: Global, tokens: &[Token]) -> Result<(Vec<Expr>, &[Token]), PartStop>
+    ensures value { (n : ℕ) → length tokens.now < n → Gives (λ x. expressions x.0.items) (λ x. x.1.now) result (arguments n tokens.now) }
+    ensures shorter { IfOk result (λ x. length x.1.now < length tokens.now) }
+{
+    let (_, rest) = expect(Mark::ParenLeft, tokens)?;
+    let (found, rest) = expressions_inside(alloc, rest)?;
+    let (_, rest) = expect(Mark::ParenRight, rest)?;
+    Ok((found, rest))
+}
+
+/// A `,` and a name.
+fn further_name(alloc: Global, tokens: &[Token]) -> Result<(Name, &[Token]), PartStop>
+    ensures value { Gives (λ x. x.0) (λ x. x.1.now) result (lead (is_mark marks.Comma) word tokens.now) }
+    ensures shorter { IfOk result (λ x. length x.1.now < length tokens.now) }
+{
+    let (_, rest) = expect(Mark::Comma, tokens)?;
+    word(alloc, rest)
+}
+
+/// Names with `,` between.
+pub(crate) fn names(alloc: Global, tokens: &[Token]) -> Result<(Vec<Name>, &[Token]), PartStop>
+    ensures value { (n : ℕ) → length tokens.now < n → Gives (λ x. x.0.items) (λ x. x.1.now) result (list word n tokens.now) }
+    ensures shorter { IfOk result (λ x. length x.1.now < length tokens.now) }
+{
+    let (first, mut rest) = word(alloc, tokens)?;
+    let mut found = Vec::new(alloc);
+    found.push(first)?;
+    'items: while starts_mark(Mark::Comma, rest) {
+        let (one, behind) = further_name(alloc, rest)?;
+        found.push(one)?;
+        rest = behind;
+    }
+    Ok((found, rest))
+}

@@ -1,0 +1,311 @@
+//! The parser of procedures.
+
+ghost use Rattle.heyvl_parse.specs.Statements.{braced, stmts};
+ghost use Rattle.heyvl_parse.specs.Combinators.{kind, lead, list, list0, optional, starts};
+ghost use Rattle.heyvl_parse.specs.Procedures.{clause_of, divided, is_clause, key_clause, key_proc, note, note_of, opening, param, params, proc_of, procedure, promise, signature, word_note};
+ghost use Rattle.heyvl_parse.specs.Reading.{is_mark, pair};
+ghost use Rattle.heyvl_parse.specs.Results.{Gives};
+ghost use Rattle.heyvl_parse.specs.Rights.{expr};
+ghost use Rattle.heyvl_syntax.specs.Expressions.{expression, expressions};
+ghost use Rattle.heyvl_syntax.specs.Procedures.{optional_block, procedure as tree_of};
+ghost use Rattle.heyvl_syntax.specs.declared.marks.Mark.TheVariants as marks;
+ghost use Rattle.std.specs.Prelude.{IfOk, length, ◌<◌, ◌≡◌, ◌≤◌, ℕ};
+
+use crate::PartStop;
+use crate::expressions::whole;
+use crate::places::span_between;
+use crate::statements::block;
+use crate::tokens::{expect, next, starts_mark, type_name, word};
+use heyvl_syntax::{Expr, Key, Mark, Name, Note, Param, Proc, Stmt, Token, TokenKind};
+use std::alloc::Global;
+
+/// The note that a word tells.
+fn word_note(name: &Name) -> Option<Note>
+    ensures { result ≡ word_note name.now }
+{
+    let bytes = name.as_bytes();
+    if bytes == b"wlp".as_slice() {
+        Some(Note::Wlp)
+    } else if bytes == b"wp".as_slice() {
+        Some(Note::Wp)
+    } else if bytes == b"ert".as_slice() {
+        Some(Note::Ert)
+    } else {
+        None
+    }
+}
+
+fn note_of(kind: &TokenKind) -> Option<Note>
+    ensures { result ≡ note_of kind.now }
+{
+    match kind {
+        TokenKind::Word(name) => word_note(name),
+        TokenKind::Key(_) => None,
+        TokenKind::Number(_) => None,
+        TokenKind::Mark(_) => None,
+    }
+}
+
+/// The note that the word at the front tells.
+fn note_word(tokens: &[Token]) -> Result<(Note, &[Token]), PartStop>
+    ensures value { Gives (λ x. x.0) (λ x. x.1.now) result (kind note_of tokens.now) }
+    ensures shorter { IfOk result (λ x. length x.1.now < length tokens.now) }
+{
+    let (token, rest) = next(tokens)?;
+    match note_of(&token.kind) {
+        Some(note) => Ok((note, rest)),
+        None => Err(PartStop::Fault(tokens.len())),
+    }
+}
+
+/// The note at the front, where `@` stands there.
+fn note(tokens: &[Token]) -> Result<(Option<Note>, &[Token]), PartStop>
+    ensures value { Gives (λ x. x.0) (λ x. x.1.now) result (optional (is_mark marks.AtSign) note tokens.now) }
+    ensures shorter { IfOk result (λ x. length x.1.now ≤ length tokens.now) }
+{
+    if !starts_mark(Mark::AtSign, tokens) {
+        return Ok((None, tokens));
+    }
+    let (_, rest) = expect(Mark::AtSign, tokens)?;
+    let (note, rest) = note_word(rest)?;
+    Ok((Some(note), rest))
+}
+
+fn key_proc(key: Key) -> Option<bool>
+    ensures { result ≡ key_proc key }
+{
+    match key {
+        Key::Proc => Some(false),
+        Key::CoProc => Some(true),
+        _ => None,
+    }
+}
+
+/// True for `coproc`, and false for `proc`.
+pub(crate) fn proc_of(kind: &TokenKind) -> Option<bool>
+    ensures { result ≡ proc_of kind.now }
+{
+    match kind {
+        TokenKind::Key(key) => key_proc(*key),
+        TokenKind::Word(_) => None,
+        TokenKind::Number(_) => None,
+        TokenKind::Mark(_) => None,
+    }
+}
+
+/// The `proc` or `coproc` at the front: whether it is a `coproc`.
+fn proc_key(tokens: &[Token]) -> Result<(bool, &[Token]), PartStop>
+    ensures value { Gives (λ x. x.0) (λ x. x.1.now) result (kind proc_of tokens.now) }
+    ensures shorter { IfOk result (λ x. length x.1.now < length tokens.now) }
+{
+    let (token, rest) = next(tokens)?;
+    match proc_of(&token.kind) {
+        Some(co) => Ok((co, rest)),
+        None => Err(PartStop::Fault(tokens.len())),
+    }
+}
+
+/// The note of a procedure, and whether it is a coproc.
+fn opening(tokens: &[Token]) -> Result<((Option<Note>, bool), &[Token]), PartStop>
+    ensures value { Gives (λ x. x.0) (λ x. x.1.now) result (opening tokens.now) }
+    ensures shorter { IfOk result (λ x. length x.1.now < length tokens.now) }
+{
+    let (note, rest) = note(tokens)?;
+    let (co, rest) = proc_key(rest)?;
+    Ok(((note, co), rest))
+}
+
+/// An input or an output.
+fn param(alloc: Global, tokens: &[Token]) -> Result<(Param, &[Token]), PartStop>
+    ensures value { Gives (λ x. x.0) (λ x. x.1.now) result (param tokens.now) }
+    ensures shorter { IfOk result (λ x. length x.1.now < length tokens.now) }
+{
+    let (name, rest) = word(alloc, tokens)?;
+    let (_, rest) = expect(Mark::Colon, rest)?;
+    let (ty, rest) = type_name(rest)?;
+    let span = span_between(tokens, rest);
+    Ok((Param { name, ty, span }, rest))
+}
+
+/// A `,` and a parameter.
+fn further_param(alloc: Global, tokens: &[Token]) -> Result<(Param, &[Token]), PartStop>
+    ensures value { Gives (λ x. x.0) (λ x. x.1.now) result (lead (is_mark marks.Comma) param tokens.now) }
+    ensures shorter { IfOk result (λ x. length x.1.now < length tokens.now) }
+{
+    let (_, rest) = expect(Mark::Comma, tokens)?;
+    param(alloc, rest)
+}
+
+/// Parameters with `,` between.
+fn some_params(alloc: Global, tokens: &[Token]) -> Result<(Vec<Param>, &[Token]), PartStop>
+    ensures value { (n : ℕ) → length tokens.now < n → Gives (λ x. x.0.items) (λ x. x.1.now) result (list param n tokens.now) }
+    ensures shorter { IfOk result (λ x. length x.1.now < length tokens.now) }
+{
+    let (first, mut rest) = param(alloc, tokens)?;
+    let mut found = Vec::new(alloc);
+    found.push(first)?;
+    'items: while starts_mark(Mark::Comma, rest) {
+        let (one, behind) = further_param(alloc, rest)?;
+        found.push(one)?;
+        rest = behind;
+    }
+    Ok((found, rest))
+}
+
+/// Parameters with `,` between, or none before `)`.
+fn params_inside(alloc: Global, tokens: &[Token]) -> Result<(Vec<Param>, &[Token]), PartStop>
+    ensures value { (n : ℕ) → length tokens.now < n → Gives (λ x. x.0.items) (λ x. x.1.now) result (list0 param n tokens.now) }
+    ensures shorter { IfOk result (λ x. length x.1.now ≤ length tokens.now) }
+{
+    if starts_mark(Mark::ParenRight, tokens) {
+        return Ok((Vec::new(alloc), tokens));
+    }
+    some_params(alloc, tokens)
+}
+
+/// Parameters in parentheses.
+fn params(alloc: Global, tokens: &[Token]) -> Result<(Vec<Param>, &[Token]), PartStop>
+    ensures value { (n : ℕ) → length tokens.now < n → Gives (λ x. x.0.items) (λ x. x.1.now) result (params n tokens.now) }
+    ensures shorter { IfOk result (λ x. length x.1.now < length tokens.now) }
+{
+    let (_, rest) = expect(Mark::ParenLeft, tokens)?;
+    let (found, rest) = params_inside(alloc, rest)?;
+    let (_, rest) = expect(Mark::ParenRight, rest)?;
+    Ok((found, rest))
+}
+
+/// The name, the inputs and the outputs of a procedure.
+fn signature(
+    alloc: Global,
+    tokens: &[Token],
+) -> Result<((Name, Vec<Param>, Vec<Param>), &[Token]), PartStop>
+    ensures value { (n : ℕ) → length tokens.now < n → Gives (λ x. (x.0.0, (x.0.1.items, x.0.2.items))) (λ x. x.1.now) result (signature n tokens.now) }
+    ensures shorter { IfOk result (λ x. length x.1.now < length tokens.now) }
+{
+    let (name, rest) = word(alloc, tokens)?;
+    let (inputs, rest) = params(alloc, rest)?;
+    let (_, rest) = expect(Mark::Arrow, rest)?;
+    let (outputs, rest) = params(alloc, rest)?;
+    Ok(((name, inputs, outputs), rest))
+}
+
+fn key_clause(key: Key) -> Option<bool>
+    ensures { result ≡ key_clause key }
+{
+    match key {
+        Key::Pre => Some(false),
+        Key::Post => Some(true),
+        _ => None,
+    }
+}
+
+/// True for `post`, and false for `pre`.
+fn clause_of(kind: &TokenKind) -> Option<bool>
+    ensures { result ≡ clause_of kind.now }
+{
+    match kind {
+        TokenKind::Key(key) => key_clause(*key),
+        TokenKind::Word(_) => None,
+        TokenKind::Number(_) => None,
+        TokenKind::Mark(_) => None,
+    }
+}
+
+/// The `pre` or `post` at the front: whether it is a `post`.
+fn clause_key(tokens: &[Token]) -> Result<(bool, &[Token]), PartStop>
+    ensures value { Gives (λ x. x.0) (λ x. x.1.now) result (kind clause_of tokens.now) }
+    ensures shorter { IfOk result (λ x. length x.1.now < length tokens.now) }
+{
+    let (token, rest) = next(tokens)?;
+    match clause_of(&token.kind) {
+        Some(post) => Ok((post, rest)),
+        None => Err(PartStop::Fault(tokens.len())),
+    }
+}
+
+/// Whether `pre` or `post` stands at the front.
+fn starts_clause(tokens: &[Token]) -> bool
+    ensures { result ≡ starts is_clause tokens.now }
+{
+    match tokens.split_first() {
+        None => false,
+        Some((token, _)) => clause_of(&token.kind).is_some(),
+    }
+}
+
+/// A clause: whether it is a `post`, and what it says.
+fn clause(alloc: Global, tokens: &[Token]) -> Result<((bool, Expr), &[Token]), PartStop>
+    ensures value { (n : ℕ) → length tokens.now < n → Gives (λ x. (x.0.0, expression x.0.1)) (λ x. x.1.now) result (pair (kind clause_of) (expr n) tokens.now) }
+    ensures shorter { IfOk result (λ x. length x.1.now < length tokens.now) }
+{
+    let (post, rest) = clause_key(tokens)?;
+    let (claim, rest) = whole(alloc, rest)?;
+    Ok(((post, claim), rest))
+}
+
+/// The pre and the post clauses at the front.
+fn clauses(alloc: Global, tokens: &[Token]) -> Result<((Vec<Expr>, Vec<Expr>), &[Token]), PartStop>
+    ensures value { (n : ℕ) → length tokens.now < n → Gives (λ x. (expressions x.0.0.items, expressions x.0.1.items)) (λ x. x.1.now) result (divided n tokens.now) }
+    ensures shorter { IfOk result (λ x. length x.1.now ≤ length tokens.now) }
+{
+    let mut pres = Vec::new(alloc);
+    let mut posts = Vec::new(alloc);
+    let mut rest = tokens;
+    'items: while starts_clause(rest) {
+        let (one, behind) = clause(alloc, rest)?;
+        if one.0 {
+            posts.push(one.1)?;
+        } else {
+            pres.push(one.1)?;
+        }
+        rest = behind;
+    }
+    Ok(((pres, posts), rest))
+}
+
+/// The body at the front, where `{` stands there.
+fn body(alloc: Global, tokens: &[Token]) -> Result<(Option<Vec<Stmt>>, &[Token]), PartStop>
+    ensures value { (n : ℕ) → length tokens.now < n → Gives (λ x. optional_block x.0) (λ x. x.1.now) result (optional (is_mark marks.BraceLeft) (braced (stmts n)) tokens.now) }
+    ensures shorter { IfOk result (λ x. length x.1.now ≤ length tokens.now) }
+{
+    if !starts_mark(Mark::BraceLeft, tokens) {
+        return Ok((None, tokens));
+    }
+    let (found, rest) = block(alloc, tokens)?;
+    Ok((Some(found), rest))
+}
+
+/// The pre and the post clauses of a procedure, and its body.
+fn promise(
+    alloc: Global,
+    tokens: &[Token],
+) -> Result<((Vec<Expr>, Vec<Expr>, Option<Vec<Stmt>>), &[Token]), PartStop>
+    ensures value { (n : ℕ) → length tokens.now < n → Gives (λ x. ((expressions x.0.0.items, expressions x.0.1.items), optional_block x.0.2)) (λ x. x.1.now) result (promise (braced (stmts n)) n tokens.now) }
+    ensures shorter { IfOk result (λ x. length x.1.now ≤ length tokens.now) }
+{
+    let (found, rest) = clauses(alloc, tokens)?;
+    let (body, rest) = body(alloc, rest)?;
+    Ok(((found.0, found.1, body), rest))
+}
+
+/// The procedure at the front.
+pub(crate) fn procedure(alloc: Global, tokens: &[Token]) -> Result<(Proc, &[Token]), PartStop>
+    ensures value { (n : ℕ) → length tokens.now < n → Gives (λ x. tree_of x.0) (λ x. x.1.now) result (procedure (braced (stmts n)) n tokens.now) }
+    ensures shorter { IfOk result (λ x. length x.1.now < length tokens.now) }
+{
+    let (front, rest) = opening(tokens)?;
+    let (signed, rest) = signature(alloc, rest)?;
+    let (promised, rest) = promise(alloc, rest)?;
+    let found = Proc {
+        co: front.1,
+        note: front.0,
+        name: signed.0,
+        inputs: signed.1,
+        outputs: signed.2,
+        pres: promised.0,
+        posts: promised.1,
+        body: promised.2,
+        span: span_between(tokens, rest),
+    };
+    Ok((found, rest))
+}

@@ -1,0 +1,224 @@
+//! The parser of right sides.
+
+ghost use Rattle.heyvl_parse.specs.Combinators.{lead, list};
+ghost use Rattle.heyvl_parse.specs.Reading.{is_mark};
+ghost use Rattle.heyvl_parse.specs.Results.{Gives};
+ghost use Rattle.heyvl_parse.specs.Rights.{call, choose, enclosed_expr, flip, is_a_word, is_call, key_right, kind_right, no_call, right, right_start, two, unif, weighted, weights};
+ghost use Rattle.heyvl_syntax.specs.Expressions.{expression, expressions};
+ghost use Rattle.heyvl_syntax.specs.Statements.{choices, right_side};
+ghost use Rattle.heyvl_syntax.specs.declared.marks.Mark.TheVariants as marks;
+ghost use Rattle.std.specs.Prelude.{IfOk, length, ◌<◌, ◌≡◌, ℕ};
+
+use crate::PartStop;
+use crate::expressions::whole;
+use crate::lists::arguments;
+use crate::tokens::{expect, expect_key, starts_mark, word};
+use heyvl_syntax::{Expr, Key, Mark, Name, Right, Token, TokenKind};
+use std::alloc::Global;
+
+/// What a right side begins with.
+#[derive(Clone, Copy, Debug)]
+pub(crate) enum RightStart {
+    /// `flip`
+    Flip,
+    /// `unif`
+    Unif,
+    /// `choose`
+    Choose,
+    /// Anything else: an expression.
+    Plain,
+}
+
+fn is_a_word(kind: &TokenKind) -> bool
+    ensures { result ≡ is_a_word kind.now }
+{
+    match kind {
+        TokenKind::Word(_) => true,
+        TokenKind::Key(_) => false,
+        TokenKind::Number(_) => false,
+        TokenKind::Mark(_) => false,
+    }
+}
+
+/// Whether a word and then `(` stand at the front.
+pub(crate) fn is_call(tokens: &[Token]) -> bool
+    ensures { result ≡ is_call tokens.now }
+{
+    match tokens.split_first() {
+        None => false,
+        Some((token, rest)) => is_a_word(&token.kind) && starts_mark(Mark::ParenLeft, rest),
+    }
+}
+
+fn key_right(key: Key) -> RightStart
+    ensures { result ≡ key_right key }
+{
+    match key {
+        Key::Flip => RightStart::Flip,
+        Key::Unif => RightStart::Unif,
+        Key::Choose => RightStart::Choose,
+        _ => RightStart::Plain,
+    }
+}
+
+fn kind_right(kind: &TokenKind) -> RightStart
+    ensures { result ≡ kind_right kind.now }
+{
+    match kind {
+        TokenKind::Key(key) => key_right(*key),
+        TokenKind::Word(_) => RightStart::Plain,
+        TokenKind::Number(_) => RightStart::Plain,
+        TokenKind::Mark(_) => RightStart::Plain,
+    }
+}
+
+fn right_start(tokens: &[Token]) -> RightStart
+    ensures { result ≡ right_start tokens.now }
+{
+    match tokens.split_first() {
+        None => RightStart::Plain,
+        Some((token, _)) => kind_right(&token.kind),
+    }
+}
+
+/// A call: the name, and what stands in the parentheses behind it.
+pub(crate) fn call(
+    alloc: Global,
+    tokens: &[Token],
+) -> Result<((Name, Vec<Expr>), &[Token]), PartStop>
+    ensures value { (n : ℕ) → length tokens.now < n → Gives (λ x. (x.0.0, expressions x.0.1.items)) (λ x. x.1.now) result (call n tokens.now) }
+    ensures shorter { IfOk result (λ x. length x.1.now < length tokens.now) }
+{
+    let (name, rest) = word(alloc, tokens)?;
+    let (given, rest) = arguments(alloc, rest)?;
+    Ok(((name, given), rest))
+}
+
+/// An expression in parentheses.
+pub(crate) fn enclosed_expr(alloc: Global, tokens: &[Token]) -> Result<(Expr, &[Token]), PartStop>
+    ensures value { (n : ℕ) → length tokens.now < n → Gives (λ x. expression x.0) (λ x. x.1.now) result (enclosed_expr n tokens.now) }
+    ensures shorter { IfOk result (λ x. length x.1.now < length tokens.now) }
+{
+    let (_, rest) = expect(Mark::ParenLeft, tokens)?;
+    let (inner, rest) = whole(alloc, rest)?;
+    let (_, rest) = expect(Mark::ParenRight, rest)?;
+    Ok((inner, rest))
+}
+
+/// Two expressions in parentheses, with `,` between.
+pub(crate) fn two(alloc: Global, tokens: &[Token]) -> Result<((Expr, Expr), &[Token]), PartStop>
+    ensures value { (n : ℕ) → length tokens.now < n → Gives (λ x. (expression x.0.0, expression x.0.1)) (λ x. x.1.now) result (two n tokens.now) }
+    ensures shorter { IfOk result (λ x. length x.1.now < length tokens.now) }
+{
+    let (_, rest) = expect(Mark::ParenLeft, tokens)?;
+    let (first, rest) = whole(alloc, rest)?;
+    let (_, rest) = expect(Mark::Comma, rest)?;
+    let (second, rest) = whole(alloc, rest)?;
+    let (_, rest) = expect(Mark::ParenRight, rest)?;
+    Ok(((first, second), rest))
+}
+
+/// A weight, `:` and a value.
+fn weighted(alloc: Global, tokens: &[Token]) -> Result<((Expr, Expr), &[Token]), PartStop>
+    ensures value { (n : ℕ) → length tokens.now < n → Gives (λ x. (expression x.0.0, expression x.0.1)) (λ x. x.1.now) result (weighted n tokens.now) }
+    ensures shorter { IfOk result (λ x. length x.1.now < length tokens.now) }
+{
+    let (weight, rest) = whole(alloc, tokens)?;
+    let (_, rest) = expect(Mark::Colon, rest)?;
+    let (value, rest) = whole(alloc, rest)?;
+    Ok(((weight, value), rest))
+}
+
+/// A `,` and a weighted value.
+fn further_weighted(alloc: Global, tokens: &[Token]) -> Result<((Expr, Expr), &[Token]), PartStop>
+    ensures value { (n : ℕ) → length tokens.now < n → Gives (λ x. (expression x.0.0, expression x.0.1)) (λ x. x.1.now) result (lead (is_mark marks.Comma) (weighted n) tokens.now) }
+    ensures shorter { IfOk result (λ x. length x.1.now < length tokens.now) }
+{
+    let (_, rest) = expect(Mark::Comma, tokens)?;
+    weighted(alloc, rest)
+}
+
+/// Weighted values with `,` between.
+fn all_weighted(alloc: Global, tokens: &[Token]) -> Result<(Vec<(Expr, Expr)>, &[Token]), PartStop>
+    ensures value { (n : ℕ) → length tokens.now < n → Gives (λ x. choices x.0.items) (λ x. x.1.now) result (list (weighted n) n tokens.now) }
+    ensures shorter { IfOk result (λ x. length x.1.now < length tokens.now) }
+{
+    let (first, mut rest) = weighted(alloc, tokens)?;
+    let mut found = Vec::new(alloc);
+    found.push(first)?;
+    'items: while starts_mark(Mark::Comma, rest) {
+        let (one, behind) = further_weighted(alloc, rest)?;
+        found.push(one)?;
+        rest = behind;
+    }
+    Ok((found, rest))
+}
+
+/// Weighted values in braces.
+fn weights(alloc: Global, tokens: &[Token]) -> Result<(Vec<(Expr, Expr)>, &[Token]), PartStop>
+    ensures value { (n : ℕ) → length tokens.now < n → Gives (λ x. choices x.0.items) (λ x. x.1.now) result (weights n tokens.now) }
+    ensures shorter { IfOk result (λ x. length x.1.now < length tokens.now) }
+{
+    let (_, rest) = expect(Mark::BraceLeft, tokens)?;
+    let (parts, rest) = all_weighted(alloc, rest)?;
+    let (_, rest) = expect(Mark::BraceRight, rest)?;
+    Ok((parts, rest))
+}
+
+/// `flip` and a probability in parentheses.
+fn flip(alloc: Global, tokens: &[Token]) -> Result<(Right, &[Token]), PartStop>
+    ensures value { (n : ℕ) → length tokens.now < n → Gives (λ x. right_side x.0) (λ x. x.1.now) result (flip n tokens.now) }
+    ensures shorter { IfOk result (λ x. length x.1.now < length tokens.now) }
+{
+    let (_, rest) = expect_key(Key::Flip, tokens)?;
+    let (probability, rest) = enclosed_expr(alloc, rest)?;
+    Ok((Right::Flip(probability), rest))
+}
+
+/// `unif` and two ends in parentheses.
+fn unif(alloc: Global, tokens: &[Token]) -> Result<(Right, &[Token]), PartStop>
+    ensures value { (n : ℕ) → length tokens.now < n → Gives (λ x. right_side x.0) (λ x. x.1.now) result (unif n tokens.now) }
+    ensures shorter { IfOk result (λ x. length x.1.now < length tokens.now) }
+{
+    let (_, rest) = expect_key(Key::Unif, tokens)?;
+    let (ends, rest) = two(alloc, rest)?;
+    Ok((Right::Unif(ends.0, ends.1), rest))
+}
+
+/// `choose` and weighted values in braces.
+fn choose(alloc: Global, tokens: &[Token]) -> Result<(Right, &[Token]), PartStop>
+    ensures value { (n : ℕ) → length tokens.now < n → Gives (λ x. right_side x.0) (λ x. x.1.now) result (choose n tokens.now) }
+    ensures shorter { IfOk result (λ x. length x.1.now < length tokens.now) }
+{
+    let (_, rest) = expect_key(Key::Choose, tokens)?;
+    let (parts, rest) = weights(alloc, rest)?;
+    Ok((Right::Choose(parts), rest))
+}
+
+/// A right side that is no call.
+fn no_call(alloc: Global, tokens: &[Token]) -> Result<(Right, &[Token]), PartStop>
+    ensures value { (n : ℕ) → length tokens.now < n → Gives (λ x. right_side x.0) (λ x. x.1.now) result (no_call n tokens.now) }
+    ensures shorter { IfOk result (λ x. length x.1.now < length tokens.now) }
+{
+    match right_start(tokens) {
+        RightStart::Flip => flip(alloc, tokens),
+        RightStart::Unif => unif(alloc, tokens),
+        RightStart::Choose => choose(alloc, tokens),
+        RightStart::Plain => {
+            let (value, rest) = whole(alloc, tokens)?;
+            Ok((Right::Plain(value), rest))
+        }
+    }
+}
+
+/// A right side. A word that `(` follows is a call.
+pub(crate) fn right(alloc: Global, tokens: &[Token]) -> Result<(Right, &[Token]), PartStop>
+    ensures value { (n : ℕ) → length tokens.now < n → Gives (λ x. right_side x.0) (λ x. x.1.now) result (right n tokens.now) }
+    ensures shorter { IfOk result (λ x. length x.1.now < length tokens.now) }
+{
+    if is_call(tokens) {
+        let (made, rest) = call(alloc, tokens)?;
+        return Ok((Right::Call(made.0, made.1), rest));
+    }
+    no_call(alloc, tokens)
+}

@@ -1,0 +1,291 @@
+//! The parser of statements and blocks.
+
+ghost use Rattle.heyvl_parse.specs.Combinators.{spanned, starts};
+ghost use Rattle.heyvl_parse.specs.Results.{Gives};
+ghost use Rattle.heyvl_parse.specs.Statements.{Shortens, arm, braced, branched, if_parts, if_tree, is_opening, key_opening, kind_opening, link, loop_tree, looped, mark_opening, next_of, opening, opens, otherwise, picked, skip, stmt, stmts};
+ghost use Rattle.heyvl_syntax.specs.Statements.{block, guarded, statement};
+ghost use Rattle.std.specs.Prelude.{IfOk, length, map, suc, ◌<◌, ◌≡◌, ◌≤◌, ℕ};
+
+use crate::PartStop;
+use crate::expressions::whole;
+use crate::loops::rules;
+use crate::places::span_between;
+use crate::simple::{assign, check, havoc, pick_word, reward, starts_pick, validate, var};
+use crate::tokens::{expect, expect_key, starts_key, starts_mark};
+use heyvl_syntax::{Arm, Key, Mark, Stmt, Token, TokenKind};
+use std::alloc::Global;
+
+/// Which statement begins with a token.
+#[derive(Clone, Copy, Debug)]
+pub(crate) enum Opening {
+    Var,
+    /// An assignment or a call.
+    Assign,
+    Check,
+    Validate,
+    Havoc,
+    Reward,
+    If,
+    /// `while`, or the `@` of a rule.
+    Loop,
+    /// No statement.
+    Other,
+}
+
+/// What stands behind an arm: a further arm, or the statements behind the last `else`.
+#[derive(Drop)]
+pub(crate) enum Link {
+    Again(Arm),
+    Last(Vec<Stmt>),
+}
+
+fn key_opening(key: Key) -> Opening
+    ensures { result ≡ key_opening key }
+{
+    match key {
+        Key::Var => Opening::Var,
+        Key::Assert => Opening::Check,
+        Key::Assume => Opening::Check,
+        Key::CoAssert => Opening::Check,
+        Key::CoAssume => Opening::Check,
+        Key::Validate => Opening::Validate,
+        Key::CoValidate => Opening::Validate,
+        Key::Havoc => Opening::Havoc,
+        Key::CoHavoc => Opening::Havoc,
+        Key::Reward => Opening::Reward,
+        Key::Tick => Opening::Reward,
+        Key::If => Opening::If,
+        Key::While => Opening::Loop,
+        _ => Opening::Other,
+    }
+}
+
+fn mark_opening(mark: Mark) -> Opening
+    ensures { result ≡ mark_opening mark }
+{
+    match mark {
+        Mark::AtSign => Opening::Loop,
+        _ => Opening::Other,
+    }
+}
+
+fn kind_opening(kind: &TokenKind) -> Opening
+    ensures { result ≡ kind_opening kind.now }
+{
+    match kind {
+        TokenKind::Word(_) => Opening::Assign,
+        TokenKind::Key(key) => key_opening(*key),
+        TokenKind::Mark(mark) => mark_opening(*mark),
+        TokenKind::Number(_) => Opening::Other,
+    }
+}
+
+fn opening_at(tokens: &[Token]) -> Opening
+    ensures { result ≡ opening tokens.now }
+{
+    match tokens.split_first() {
+        None => Opening::Other,
+        Some((token, _)) => kind_opening(&token.kind),
+    }
+}
+
+fn opens(opening: Opening) -> bool
+    ensures { result ≡ opens opening }
+{
+    match opening {
+        Opening::Var => true,
+        Opening::Assign => true,
+        Opening::Check => true,
+        Opening::Validate => true,
+        Opening::Havoc => true,
+        Opening::Reward => true,
+        Opening::If => true,
+        Opening::Loop => true,
+        Opening::Other => false,
+    }
+}
+
+/// Whether a statement begins at the front.
+fn starts_statement(tokens: &[Token]) -> bool
+    ensures { result ≡ starts is_opening tokens.now }
+{
+    match tokens.split_first() {
+        None => false,
+        Some((token, _)) => opens(kind_opening(&token.kind)),
+    }
+}
+
+/// The tokens behind the semicolons at the front.
+fn skip(tokens: &[Token]) -> &[Token]
+    ensures value { result.now ≡ skip tokens.now }
+    ensures shorter { length result.now ≤ length tokens.now }
+{
+    let mut rest = tokens;
+    'semis: while let Some((_, behind)) = rest.split_first() {
+        if !starts_mark(Mark::Semi, rest) {
+            break;
+        }
+        rest = behind;
+    }
+    rest
+}
+
+/// The statements of a block, with its braces.
+#[cycle(statements)]
+pub(crate) fn block(alloc: Global, tokens: &[Token]) -> Result<(Vec<Stmt>, &[Token]), PartStop>
+    ensures value { (n : ℕ) → length tokens.now ≤ n → Gives (λ x. block x.0.items) (λ x. x.1.now) result (braced (stmts n) tokens.now) }
+    ensures shorter { IfOk result (λ x. length x.1.now < length tokens.now) }
+{
+    let (_, rest) = expect(Mark::BraceLeft, tokens)?;
+    let (inner, rest) = statements(alloc, rest)?;
+    let (_, rest) = expect(Mark::BraceRight, rest)?;
+    Ok((inner, rest))
+}
+
+/// The statements at the front, as far as they go.
+#[cycle(statements)]
+fn statements(alloc: Global, tokens: &[Token]) -> Result<(Vec<Stmt>, &[Token]), PartStop>
+    ensures value { (n : ℕ) → length tokens.now < n → Gives (λ x. block x.0.items) (λ x. x.1.now) result (stmts n tokens.now) }
+    ensures shorter { IfOk result (λ x. length x.1.now ≤ length tokens.now) }
+{
+    let mut found = Vec::new(alloc);
+    let mut rest = tokens;
+    'items: while starts_statement(rest) {
+        let (one, behind) = stmt(alloc, rest)?;
+        found.push(one)?;
+        rest = skip(behind);
+    }
+    Ok((found, rest))
+}
+
+/// The statement at the front.
+#[cycle(statements)]
+fn stmt(alloc: Global, tokens: &[Token]) -> Result<(Stmt, &[Token]), PartStop>
+    ensures value { (n : ℕ) → length tokens.now ≤ n → Gives (λ x. statement x.0) (λ x. x.1.now) result (stmt (suc n) (braced (stmts n)) tokens.now) }
+    ensures shorter { IfOk result (λ x. length x.1.now < length tokens.now) }
+{
+    match opening_at(tokens) {
+        Opening::Var => var(alloc, tokens),
+        Opening::Assign => assign(alloc, tokens),
+        Opening::Check => check(alloc, tokens),
+        Opening::Validate => validate(tokens),
+        Opening::Havoc => havoc(alloc, tokens),
+        Opening::Reward => reward(alloc, tokens),
+        Opening::If => if_at(alloc, tokens),
+        Opening::Loop => looped(alloc, tokens),
+        Opening::Other => Err(PartStop::Fault(tokens.len())),
+    }
+}
+
+/// An `if`.
+#[cycle(statements)]
+fn if_at(alloc: Global, tokens: &[Token]) -> Result<(Stmt, &[Token]), PartStop>
+    ensures value { (n : ℕ) → length tokens.now ≤ n → Gives (λ x. statement x.0) (λ x. x.1.now) result (spanned if_tree (if_parts (suc n) (braced (stmts n))) tokens.now) }
+    ensures shorter { IfOk result (λ x. length x.1.now < length tokens.now) }
+{
+    let (_, rest) = expect_key(Key::If, tokens)?;
+    if starts_pick(rest) {
+        let (parts, rest) = picked(alloc, rest)?;
+        return Ok((
+            Stmt::Pick(parts.0, parts.1, parts.2, span_between(tokens, rest)),
+            rest,
+        ));
+    }
+    let (parts, rest) = branched(alloc, rest)?;
+    Ok((Stmt::If(parts.0, parts.1, span_between(tokens, rest)), rest))
+}
+
+/// What stands behind the `if` of a choice of two blocks.
+#[cycle(statements)]
+fn picked(
+    alloc: Global,
+    tokens: &[Token],
+) -> Result<((bool, Vec<Stmt>, Vec<Stmt>), &[Token]), PartStop>
+    ensures value { (n : ℕ) → length tokens.now ≤ n → Gives (λ x. (x.0.0, (block x.0.1.items, block x.0.2.items))) (λ x. x.1.now) result (picked (braced (stmts n)) tokens.now) }
+    ensures shorter { IfOk result (λ x. length x.1.now < length tokens.now) }
+{
+    let (up, rest) = pick_word(tokens)?;
+    let (left, rest) = block(alloc, rest)?;
+    let (right, rest) = otherwise(alloc, rest)?;
+    Ok(((up, left, right), rest))
+}
+
+/// The block behind `else`, or none where there is no `else`.
+#[cycle(statements)]
+fn otherwise(alloc: Global, tokens: &[Token]) -> Result<(Vec<Stmt>, &[Token]), PartStop>
+    ensures value { (n : ℕ) → length tokens.now ≤ n → Gives (λ x. block x.0.items) (λ x. x.1.now) result (otherwise (braced (stmts n)) tokens.now) }
+    ensures shorter { IfOk result (λ x. length x.1.now ≤ length tokens.now) }
+{
+    if starts_key(Key::Else, tokens) {
+        let (_, rest) = expect_key(Key::Else, tokens)?;
+        return block(alloc, rest);
+    }
+    Ok((Vec::new(alloc), tokens))
+}
+
+/// A guard and its block.
+#[cycle(statements)]
+fn arm(alloc: Global, tokens: &[Token]) -> Result<(Arm, &[Token]), PartStop>
+    ensures value { (n : ℕ) → length tokens.now ≤ n → Gives (λ x. guarded x.0) (λ x. x.1.now) result (arm (suc n) (braced (stmts n)) tokens.now) }
+    ensures shorter { IfOk result (λ x. length x.1.now < length tokens.now) }
+{
+    let (guard, rest) = whole(alloc, tokens)?;
+    let (body, rest) = block(alloc, rest)?;
+    Ok((Arm { guard, body }, rest))
+}
+
+/// The arms of an `if`, and what stands behind the last `else`.
+#[cycle(statements)]
+fn branched(alloc: Global, tokens: &[Token]) -> Result<((Vec<Arm>, Vec<Stmt>), &[Token]), PartStop>
+    ensures value { (n : ℕ) → length tokens.now ≤ n → Gives (λ x. (map guarded x.0.0.items, block x.0.1.items)) (λ x. x.1.now) result (branched (suc n) (braced (stmts n)) tokens.now) }
+    ensures shorter { IfOk result (λ x. length x.1.now < length tokens.now) }
+{
+    let (first, mut rest) = arm(alloc, tokens)?;
+    let mut found = Vec::new(alloc);
+    found.push(first)?;
+    'arms: loop {
+        let (one, behind) = link_at(alloc, rest)?;
+        match one {
+            Link::Last(last) => return Ok(((found, last), behind)),
+            Link::Again(arm) => {
+                found.push(arm)?;
+                rest = behind;
+            }
+        }
+    }
+}
+
+/// What stands behind an arm.
+#[cycle(statements)]
+fn link_at(alloc: Global, tokens: &[Token]) -> Result<(Link, &[Token]), PartStop>
+    ensures value { (n : ℕ) → length tokens.now ≤ n → Gives (λ x. next_of x.0) (λ x. x.1.now) result (link (suc n) (braced (stmts n)) tokens.now) }
+    ensures shorter { IfOk result (λ x. Shortens x.0 (length x.1.now) (length tokens.now)) }
+{
+    if !starts_key(Key::Else, tokens) {
+        return Ok((Link::Last(Vec::new(alloc)), tokens));
+    }
+    let (_, rest) = expect_key(Key::Else, tokens)?;
+    if !starts_key(Key::If, rest) {
+        let (last, rest) = block(alloc, rest)?;
+        return Ok((Link::Last(last), rest));
+    }
+    let (_, rest) = expect_key(Key::If, rest)?;
+    let (one, rest) = arm(alloc, rest)?;
+    Ok((Link::Again(one), rest))
+}
+
+/// A loop with its rules.
+#[cycle(statements)]
+fn looped(alloc: Global, tokens: &[Token]) -> Result<(Stmt, &[Token]), PartStop>
+    ensures value { (n : ℕ) → length tokens.now ≤ n → Gives (λ x. statement x.0) (λ x. x.1.now) result (spanned loop_tree (looped (suc n) (braced (stmts n))) tokens.now) }
+    ensures shorter { IfOk result (λ x. length x.1.now < length tokens.now) }
+{
+    let (rules, rest) = rules(alloc, tokens)?;
+    let (_, rest) = expect_key(Key::While, rest)?;
+    let (guard, rest) = whole(alloc, rest)?;
+    let (body, rest) = block(alloc, rest)?;
+    Ok((
+        Stmt::While(rules, guard, body, span_between(tokens, rest)),
+        rest,
+    ))
+}
