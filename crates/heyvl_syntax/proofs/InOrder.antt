@@ -33,7 +33,7 @@ token_stands place n bytes t ts (c, longest, limits, span) rest =
     let small = small_literal t.kind (take n (drop place bytes)) (drop n (drop place bytes)) longest.token.1 limits in
     subst (λ (s : Span). (place ≤ s.from) × (s.from < s.to) × IsToken t.kind (slice_range bytes s.from s.to) (drop s.to bytes) × HasSmallLiteral t.kind × StandInOrder s.to bytes ts) (sym span) (omega arith, omega arith, is, small, rest)
 
-part_le : (place : ℕ) (bytes : List ℕ) (p : Part) (n : ℕ) → IsPart place bytes p n → n ≤ length bytes
+pub part_le : (place : ℕ) (bytes : List ℕ) (p : Part) (n : ℕ) → IsPart place bytes p n → n ≤ length bytes
 part_le place bytes white n s = (front-inside bytes (fronts.Blank n) (inl s)).1
 part_le place bytes comment n s = (front-inside bytes (fronts.Blank n) (inr s)).1
 part_le place bytes (token t) n s = s.1.token.0

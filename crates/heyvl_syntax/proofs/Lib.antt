@@ -1,6 +1,7 @@
 pub mod Closing
 pub mod Digits
 mod ExpressionRows
+pub mod FaultPlaces
 pub mod FewNodes
 pub mod FrontIs
 pub mod InOrder

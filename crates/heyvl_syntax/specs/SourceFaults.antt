@@ -110,3 +110,7 @@ TokenFaultsAreUnique =
 abbrev pub FilesHaveNoTokenFault : Type 0
 FilesHaveNoTokenFault =
     (tokens : List Token) (file : List Procedure) (number i : ℕ) → IsWithinLimits tokens → IsFile file tokens → IsTokenFault tokens number i → ⊥
+
+-- A first fault stands at a byte of the file, or at its end.
+abbrev pub SourceFaultsStandInside : Type 0
+SourceFaultsStandInside = (bytes : List ℕ) (number : ℕ) (place : Span) → IsSourceFault bytes number place → place.from ≤ length bytes

@@ -1,6 +1,6 @@
 //! Laws of the definitions of tokens and of the faults of a file.
 
-ghost use Rattle.heyvl_syntax.specs.SourceFaults.{FilesHaveNoTokenFault, SourceFaultsAreUnique, SourcesHaveNoFault, TokenFaultsAreUnique};
+ghost use Rattle.heyvl_syntax.specs.SourceFaults.{FilesHaveNoTokenFault, SourceFaultsAreUnique, SourceFaultsStandInside, SourcesHaveNoFault, TokenFaultsAreUnique};
 ghost use Rattle.heyvl_syntax.specs.TokenLaws.{FaultsAreUnique, TokensAreFew, TokensAreUnique, TokensExcludeFaults, TokensOrFault, TokensStandInOrder};
 
 /// Some bytes have at most one list of tokens.
@@ -51,4 +51,9 @@ pub fn source_faults_are_unique()
 /// Bytes that spell a file within the limits have no first fault.
 pub fn sources_have_no_fault()
     ensures { SourcesHaveNoFault }
+{}
+
+/// A first fault of bytes stands at one of them, or at their end.
+pub fn source_faults_stand_inside()
+    ensures { SourceFaultsStandInside }
 {}

@@ -28,9 +28,9 @@ mod types;
 pub use expressions::Expr;
 pub use keys::Key;
 pub use laws::{
-    faults_are_unique, files_have_no_token_fault, source_faults_are_unique, sources_have_no_fault,
-    token_faults_are_unique, tokens_are_few, tokens_are_unique, tokens_exclude_faults,
-    tokens_or_fault, tokens_stand_in_order,
+    faults_are_unique, files_have_no_token_fault, source_faults_are_unique,
+    source_faults_stand_inside, sources_have_no_fault, token_faults_are_unique, tokens_are_few,
+    tokens_are_unique, tokens_exclude_faults, tokens_or_fault, tokens_stand_in_order,
 };
 pub use lexer::lex;
 pub use literals::Lit;

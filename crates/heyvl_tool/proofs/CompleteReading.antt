@@ -8,7 +8,7 @@ use Rattle.heyvl_syntax.specs.declared.marks.Mark.TheVariants as marks
 use Rattle.heyvl_syntax.specs.declared.tokens.TokenKind.{TokenKind}
 use Rattle.heyvl_syntax.specs.declared.tokens.TokenKind.TheVariants as kinds
 use Rattle.heyvl_tool.specs.Grammar as grammar
-use Rattle.heyvl_tool.specs.Grammar.{name_at, truth_key, constant_tokens, statement_tokens, block_tokens, params_tokens, more_params, procedure_tokens}
+use Rattle.heyvl_tool.specs.Grammar.{name_at, constant_tokens, statement_tokens, block_tokens, params_tokens, more_params, procedure_tokens}
 use Rattle.heyvl_tool.specs.Limits.{IsConstant, IsProbability, IsStatement, IsBlock, AreDifferent, IsWithinLimits, statement_count, block_count, is_any}
 use Rattle.heyvl_tool.specs.Procedure.{Statement, Block, Procedure}
 use Rattle.heyvl_tool.specs.Reading.{Got, past_mark, number, constant, is_at_most_one, probability, variable, statement_at, block_at, new_param, params_at, file}

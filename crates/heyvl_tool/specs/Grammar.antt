@@ -1,7 +1,8 @@
 -- How tokens spell a procedure of the first form. Each definition is a line of this grammar, with the line beside it;
 -- W is a word and N a whole number.
-use Rattle.std.specs.Prelude.{◌≡◌, ℕ, pos, Bool, true, false, List, [], ◌∷◌, ◌++◌, map}
+use Rattle.std.specs.Prelude.{◌≡◌, ℕ, pos, List, [], ◌∷◌, ◌++◌, map}
 use Prim.Native.Nat.{zero, suc}
+use Rattle.heyvl_syntax.specs.Grammar.{truth_key}
 use Rattle.heyvl_syntax.specs.declared.keys.Key.{Key}
 use Rattle.heyvl_syntax.specs.declared.keys.Key.TheVariants as keys
 use Rattle.heyvl_syntax.specs.declared.marks.Mark.{Mark}
@@ -35,10 +36,6 @@ abbrev pub name_at : ℕ → List (List ℕ) → List ℕ
 name_at x [] = []
 name_at zero (w ∷ ws) = w
 name_at (suc x) (w ∷ ws) = name_at x ws
-
-abbrev pub truth_key : Bool → Key
-truth_key true = keys.TrueWord
-truth_key false = keys.FalseWord
 
 -- stmt ::= W '=' 'flip' '(' num ')' | W '=' 'true' | W '=' 'false' | 'reward' num
 --        | 'if' W '{' stmt* '}' 'else' '{' stmt* '}'

@@ -3,6 +3,7 @@ pub mod Grammar
 pub mod Limits
 pub mod Reading
 pub mod Unique
+pub mod FirstFormLaws
 pub mod State
 pub mod Formula
 pub mod Acts

@@ -1,5 +1,7 @@
 //! Files of the first form: one coproc over Boolean outputs, whose numbers are constants.
 
+ghost use Rattle.heyvl_tool.specs.FirstFormLaws.{FirstFormIsSource};
+
 use heyvl_syntax::Name;
 
 /// A constant: a whole number, or a quotient of two.
@@ -31,3 +33,8 @@ pub struct FirstForm {
     pub post: u32,
     pub body: Vec<Stmt>,
 }
+
+/// A file of the first form is a file of the whole language, within its limits.
+pub fn first_form_is_source()
+    ensures { FirstFormIsSource }
+{}

@@ -18,7 +18,7 @@ mod words;
 
 pub use answers::{Answer, GoalId, Val, Verdict};
 pub use deciding::decide;
-pub use first_form::{Constant, FirstForm, Stmt};
+pub use first_form::{Constant, FirstForm, Stmt, first_form_is_source};
 pub use outcomes::{Fault, Outcome};
 pub use reading::{first_form_is_unique, read_first_form};
 pub use reporting::report;
