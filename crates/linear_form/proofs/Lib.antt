@@ -1,0 +1,6 @@
+pub mod Sums
+pub mod Between
+pub mod Moves
+pub mod Normal
+pub mod Fractions
+pub mod Combinations
