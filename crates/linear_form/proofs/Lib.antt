@@ -4,3 +4,7 @@ pub mod Moves
 pub mod Normal
 pub mod Fractions
 pub mod Combinations
+mod LinearValues
+mod QueryTrees
+mod TypedValues
+mod EndValues

@@ -6,3 +6,8 @@ pub mod Combination
 pub mod VariableOrder
 pub mod RowLaws
 pub mod GreedyPoint
+pub mod Lin
+pub mod Query
+pub mod Questions
+pub mod Paths
+pub mod TypedGoals

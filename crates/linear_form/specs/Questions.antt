@@ -1,0 +1,192 @@
+-- The questions of a form, of a condition and of a goal: which comparison or truth is needed next, after which answers.
+-- This project's own; the operators are those of HeyLo (Schroeer, Batz, Kaminski, Katoen, Matheja, OOPSLA 2023).
+use Rattle.std.specs.Prelude.{ℕ, List, [], ◌∷◌, Bool, true, false, not, Option, Some, None, if◌then◌else◌}
+use Rattle.heyvl_num.specs.Rational.{Rational, zeroʳ, oneʳ}
+use Rattle.heyvl_num.specs.Value.{Value, is_zeroʳ}
+use Rattle.heyvl_num.specs.Value.Value.{finite, infinite}
+use Rattle.heylo_formula.specs.Formula.{Form, Cond}
+use Rattle.heylo_formula.specs.Goals.{Goal}
+use Rattle.heylo_formula.specs.Operators.{agree}
+use Rattle.heylo_formula.specs.State.{Env}
+use Rattle.linear_form.specs.Lin.{Lin, Terms, at, constant, variable, plus, minus, scaled, is_narrow}
+use Rattle.linear_form.specs.Query.{Query, Atom, next, is_negative, once}
+use Rattle.linear_form.specs.Query.Query.{done, bits, ask}
+
+-- A linear value, or infinity.
+abbrev pub Linear : Type 0
+Linear = Option Lin
+
+abbrev pub value_in : Linear → Env → Value
+value_in (Some a) s = finite (at a s)
+value_in None s = infinite
+
+abbrev pub zero : Linear
+zero = Some (constant zeroʳ)
+
+abbrev pub one : Linear
+one = Some (constant oneʳ)
+
+-- A value that a node has: too large where one of its numbers is.
+abbrev pub sized : Linear → Query Linear
+sized None = done None
+sized (Some a) = if is_narrow a then done (Some a) else bits
+
+-- Is the linear value at most 0, or below 0? Without variables that is known.
+abbrev pub asked : Terms → Lin → Bool → Query Bool
+asked [] a strict = done (is_negative a.rest strict)
+asked (t ∷ ts) a strict = ask (Atom.row a strict) (done true) (done false)
+
+-- The difference that is compared with 0 is too large where one of its numbers is.
+abbrev pub is_below : Lin → Bool → Query Bool
+is_below a strict = if is_narrow a then asked a.terms a strict else bits
+
+-- ---- The operators, on linear values and infinity
+
+abbrev pub number : Value → Linear
+number (finite x) = Some (constant x)
+number infinite = None
+
+abbrev pub sum : Linear → Linear → Query Linear
+sum (Some a) (Some b) = sized (Some (plus a b))
+sum (Some a) None = done None
+sum None (Some b) = done None
+sum None None = done None
+
+-- The parts of a plain difference are finite.
+abbrev pub difference : Linear → Linear → Query Linear
+difference (Some a) (Some b) = sized (Some (minus a b))
+difference (Some a) None = done zero
+difference None b = done None
+
+-- Is b at most a? Then a - b, else 0. The parts are finite.
+abbrev pub cut : Linear → Linear → Query Linear
+cut (Some a) (Some b) = next (is_below (minus b a) false) (λ t. if t then sized (Some (minus a b)) else done zero)
+cut (Some a) None = done zero
+cut None (Some b) = done None
+cut None None = done zero
+
+-- Infinity times 0 is 0.
+abbrev pub scale : Rational → Linear → Query Linear
+scale w (Some a) = sized (Some (scaled w a))
+scale w None = done (if is_zeroʳ w then zero else None)
+
+-- One of two finite factors is constant, where the goal isn't nonlinear.
+abbrev pub finite_product : Terms → Terms → Lin → Lin → Query Linear
+finite_product [] us a b = sized (Some (scaled a.rest b))
+finite_product (t ∷ ts) [] a b = sized (Some (scaled b.rest a))
+finite_product (t ∷ ts) (u ∷ us) a b = bits
+
+-- Is the other factor at most 0? Then 0, else infinity.
+abbrev pub infinite_product : Lin → Query Linear
+infinite_product a = next (is_below a false) (λ t. done (if t then zero else None))
+
+abbrev pub product : Linear → Linear → Query Linear
+product (Some a) (Some b) = finite_product a.terms b.terms a b
+product (Some a) None = infinite_product a
+product None (Some b) = infinite_product b
+product None None = done None
+
+-- Is a at most b? Then a, else b.
+abbrev pub min : Linear → Linear → Query Linear
+min (Some a) (Some b) = next (is_below (minus a b) false) (λ t. done (if t then Some a else Some b))
+min (Some a) None = done (Some a)
+min None (Some b) = done (Some b)
+min None None = done None
+
+-- Is a at most b? Then b, else a.
+abbrev pub max : Linear → Linear → Query Linear
+max (Some a) (Some b) = next (is_below (minus a b) false) (λ t. done (if t then Some b else Some a))
+max (Some a) None = done None
+max None (Some b) = done None
+max None None = done None
+
+-- Is a at most b? Then infinity, else b.
+abbrev pub imply : Linear → Linear → Query Linear
+imply (Some a) (Some b) = next (is_below (minus a b) false) (λ t. done (if t then None else Some b))
+imply (Some a) None = done None
+imply None (Some b) = done (Some b)
+imply None None = done None
+
+-- Is b at most a? Then 0, else b.
+abbrev pub co_imply : Linear → Linear → Query Linear
+co_imply (Some a) (Some b) = next (is_below (minus b a) false) (λ t. done (if t then zero else Some b))
+co_imply (Some a) None = done None
+co_imply None (Some b) = done zero
+co_imply None None = done zero
+
+abbrev pub validate : Linear → Linear
+validate (Some a) = zero
+validate None = None
+
+-- Is a at most 0? Then 0, else infinity.
+abbrev pub co_validate : Linear → Query Linear
+co_validate (Some a) = next (is_below a false) (λ t. done (if t then zero else None))
+co_validate None = done None
+
+-- Is a at most b? The parts of a comparison are finite.
+abbrev pub at_most : Linear → Linear → Query Bool
+at_most (Some a) (Some b) = is_below (minus a b) false
+at_most (Some a) None = done true
+at_most None (Some b) = done false
+at_most None None = done true
+
+-- Is a below b?
+abbrev pub less : Linear → Linear → Query Bool
+less (Some a) (Some b) = is_below (minus a b) true
+less (Some a) None = done true
+less None b = done false
+
+-- Is a at most b, and then b at most a?
+abbrev pub equal : Linear → Linear → Query Bool
+equal a b = next (at_most a b) (λ t. if t then at_most b a else done false)
+
+-- ---- Forms and conditions, from left to right
+
+-- A part, and then what is asked of its value.
+abbrev pub with : {A : Type 0} → Query Linear → (Linear → Query A) → Query A
+with q f = next q f
+
+-- Two parts, the left one first, and then what is asked of their values.
+abbrev pub both : {A : Type 0} → Query Linear → Query Linear → (Linear → Linear → Query A) → Query A
+both q r f = next q (λ x. next r (λ y. f x y))
+
+-- The forms of a goal have no binder, and so a binder has no question.
+abbrev mutual
+  pub evaluate : Form → Query Linear
+  evaluate (Form.number v) = sized (number v)
+  evaluate (Form.variable x) = done (Some (variable x))
+  evaluate (Form.sum a b) = both (evaluate a) (evaluate b) sum
+  evaluate (Form.difference a b) = both (evaluate a) (evaluate b) difference
+  evaluate (Form.cut a b) = both (evaluate a) (evaluate b) cut
+  evaluate (Form.scale w a) = with (evaluate a) (scale w)
+  evaluate (Form.product a b span) = both (evaluate a) (evaluate b) product
+  evaluate (Form.min a b) = both (evaluate a) (evaluate b) min
+  evaluate (Form.max a b) = both (evaluate a) (evaluate b) max
+  evaluate (Form.imply a b) = both (evaluate a) (evaluate b) imply
+  evaluate (Form.co_imply a b) = both (evaluate a) (evaluate b) co_imply
+  evaluate (Form.validate a) = with (evaluate a) (λ x. done (validate x))
+  evaluate (Form.co_validate a) = with (evaluate a) co_validate
+  evaluate (Form.embed g) = next (test g) (λ t. done (if t then None else zero))
+  evaluate (Form.iverson g) = next (test g) (λ t. done (if t then one else zero))
+  evaluate (Form.select g a b) = next (test g) (λ t. if t then evaluate a else evaluate b)
+  evaluate (Form.bind up x name ty a) = bits
+
+  pub test : Cond → Query Bool
+  test (Cond.constant b) = done b
+  test (Cond.flag x) = ask (Atom.truth x) (done true) (done false)
+  test (Cond.not g) = next (test g) (λ t. done (not t))
+  test (Cond.and g h) = next (test g) (λ t. if t then test h else done false)
+  test (Cond.or g h) = next (test g) (λ t. if t then done true else test h)
+  test (Cond.same g h) = next (test g) (λ t. next (test h) (λ u. done (agree t u)))
+  test (Cond.le a b) = both (evaluate a) (evaluate b) at_most
+  test (Cond.lt a b) = both (evaluate a) (evaluate b) less
+  test (Cond.equal a b) = both (evaluate a) (evaluate b) equal
+  test (Cond.ite g h k) = next (test g) (λ t. if t then test h else test k)
+
+-- The values of the stated and of the found form.
+abbrev pub Ends : Type 0
+Ends = Linear × Linear
+
+-- The stated form and then the found one; a Boolean is asked once.
+abbrev pub questions : Goal → Query Ends
+questions g = once [] (next (evaluate g.stated) (λ x. next (evaluate g.found) (λ y. done (x, y))))
