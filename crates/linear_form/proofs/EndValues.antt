@@ -9,19 +9,21 @@ use Rattle.heyvl_num.proofs.Rationals.{zero-+ʳ, *ʳ_comm, ≤ʳ_antisym, ≤ʳ_
 use Rattle.heyvl_num.proofs.Values.{is_zero-is, is_zero-zero, nonnegative_finite}
 use Rattle.heylo_formula.specs.Formula.{Form, Cond}
 use Rattle.heylo_formula.specs.Operators.{agree, differenceᵛ, validateᵛ, covalidateᵛ, lessᵛ, equalᵛ, is_finite}
-use Rattle.heylo_formula.specs.State.{Env, truth_of, number_of}
+use Rattle.heylo_formula.specs.State.{Env, truth_of, number_of, environment, IsTyped}
+use Rattle.heylo_formula.specs.declared.values.Val.{Val}
+use Rattle.linear_form.specs.TypedGoals.{IsTypedGoal}
 use Rattle.heylo_formula.specs.Choices.{Choices, left, right}
 use Rattle.heylo_formula.specs.Meaning.{value, holds}
 use Rattle.heylo_formula.specs.Typing.{NumberType, Types, type_of, is_well_typed, joined, is_finite_type, is_unsigned, only_if}
 use Rattle.heylo_formula.specs.Goals.{Goal}
-use Rattle.linear_form.specs.Lin.{Lin, Terms, constant, variable, plus, minus, scaled, is_narrow, at, total}
+use Rattle.linear_form.specs.Lin.{Lin, Terms, constant, variable, plus, minus, scaled, is_sized, at, total}
 use Rattle.linear_form.specs.Query.{Query, Atom, next, Taken, is_negative, holds_at, once}
 use Rattle.linear_form.specs.Query.Query.{done, bits, ask}
 use Rattle.linear_form.specs.Questions as q
 use Rattle.linear_form.specs.Questions.{Linear, value_in, sized, asked, is_below, evaluate, test, both, with, questions}
 use Rattle.linear_form.proofs.LinearValues.{plus_at, minus_at, scaled_at, variable_at, at_most_at, below_at}
 use Rattle.linear_form.proofs.QueryTrees.{Ends, ends_then, ends_once}
-use Rattle.linear_form.proofs.TypedValues.{IsTypedEnv, Fits, infinite_ok, negative_ok, Parts, parts, allowed, only, Unsigned, unsigned, difference_joined, scale_joined, value_fits}
+use Rattle.linear_form.proofs.TypedValues.{IsTypedEnv, typed_environment, Fits, infinite_ok, negative_ok, Parts, parts, allowed, only, Unsigned, unsigned, difference_joined, scale_joined, value_fits}
 
 abbrev pub Is : Env → Value → Linear → Type 0
 Is s w x = value_in x s ≡ w
@@ -40,7 +42,7 @@ value_cond false x y s = refl
 
 sized_ends : (x : Linear) (s : Env) (w : Value) → value_in x s ≡ w → Ends (sized x) s (Is s w)
 sized_ends None s w h = h
-sized_ends (Some a) s w h = go (is_narrow a)
+sized_ends (Some a) s w h = go (is_sized a)
   where
     go : (b : Bool) → Ends (cond b (done (Some a)) bits) s (Is s w)
     go true = h
@@ -51,7 +53,7 @@ asked_ends [] a strict s e = ap (λ x. is_negative x strict) (sym (zero-+ʳ a.re
 asked_ends (t ∷ ts) a strict s e = (λ h. sym h, λ h. sym h)
 
 is_below_ends : (a : Lin) (strict : Bool) (s : Env) → Ends (is_below a strict) s (λ t. t ≡ is_negative (at a s) strict)
-is_below_ends a strict s = go (is_narrow a)
+is_below_ends a strict s = go (is_sized a)
   where
     go : (b : Bool) → Ends (cond b (asked a.terms a strict) bits) s (λ t. t ≡ is_negative (at a s) strict)
     go true = asked_ends a.terms a strict s refl
@@ -293,3 +295,10 @@ mutual
   truth_is types s h (Cond.lt a b) c e = let d = compared _ e in let p = parts _ _ d.0 d.1 in two (evaluate a) (evaluate b) q.less s _ _ (λ u v t. t ≡ lessᵛ u v) (value_is types s h a p.left (left c) p.left_is) (value_is types s h b p.right (right c) p.right_is) (λ x y. less_ends x y s)
   truth_is types s h (Cond.equal a b) c e = let d = compared _ e in let p = parts _ _ d.0 d.1 in two (evaluate a) (evaluate b) q.equal s _ _ (λ u v t. t ≡ equalᵛ u v) (value_is types s h a p.left (left c) p.left_is) (value_is types s h b p.right (right c) p.right_is) (λ x y. equal_ends x y s)
   truth_is types s h (Cond.ite g k l) c e = after (test g) _ s _ _ (truth_is types s h g (left c) (and_left _ _ e)) (test_ends (holds g s (left c)) (test k) (test l) s _ _ (truth_is types s h k (right c) (and_left _ _ (and_right (is_well_typed types g) _ e))) (truth_is types s h l (right c) (and_right (is_well_typed types k) _ (and_right (is_well_typed types g) _ e))))
+
+pub record AreValues (g : Goal) (s : Env) (e : q.Ends) : Type 0 where
+  pub stated : value_in e.0 s ≡ value g.stated s Choices.stop
+  pub found : value_in e.1 s ≡ value g.found s Choices.stop
+
+pub goal_ends : (g : Goal) (s : List Val) → IsTypedGoal g → IsTyped g.types s → Ends (questions g) (environment s) (AreValues g (environment s))
+goal_ends g s t h = let te = typed_environment g.types s h in let m = unsigned _ t.stated in let n = unsigned _ t.found in ends_once [] _ (environment s) (AreValues g (environment s)) tt (ends_then (evaluate g.stated) _ (environment s) _ _ (value_is _ _ te g.stated m.type Choices.stop m.is) (λ x p. ends_then (evaluate g.found) _ (environment s) _ _ (value_is _ _ te g.found n.type Choices.stop n.is) (λ y r. record { stated = p; found = r })))

@@ -8,3 +8,5 @@ mod LinearValues
 mod QueryTrees
 mod TypedValues
 mod EndValues
+mod EachResults
+mod ConstantForms

@@ -11,3 +11,9 @@ pub mod Query
 pub mod Questions
 pub mod Paths
 pub mod TypedGoals
+pub mod Nonlinear
+pub mod Tightening
+pub mod PathRows
+pub mod Cells
+pub mod QuestionLaws
+pub mod PlainPaths

@@ -1,8 +1,10 @@
 -- Linear values: a sum of multiples of variables, and a constant. This project's own.
-use Rattle.std.specs.Prelude.{ℕ, ◌^◌, ◌==◌, ◌&&◌, ltb, nat_lt, negsuc, unsigned_abs, Bool, true, List, [], ◌∷◌, if◌then◌else◌}
+use Rattle.std.specs.Prelude.{◌≡◌, ℕ, ◌<◌, ◌==◌, ◌&&◌, ltb, pos, negsuc, Bool, true, false, List, [], ◌∷◌, if◌then◌else◌}
 use Rattle.heyvl_num.specs.Rational.{Rational, ratio, zeroʳ, oneʳ, ◌+ʳ◌, ◌*ʳ◌}
 use Rattle.heyvl_num.specs.Value.{is_zeroʳ}
+use Rattle.std.specs.List.{All}
 use Rattle.heylo_formula.specs.State.{Env, number_of}
+use Rattle.linear_form.specs.Terms.{is_narrow}
 
 -- Multiples of variables, each by the variable's number.
 abbrev pub Terms : Type 0
@@ -59,12 +61,17 @@ at a s = total a.terms s +ʳ a.rest
 
 -- The numerator and the denominator, in lowest terms, are below 2^62 in absolute value.
 unfoldable pub fits : Rational → Bool
-fits x = nat_lt (unsigned_abs x.num) (2 ^ 62) && nat_lt x.den (2 ^ 62)
+fits x = is_narrow x.num && is_narrow (pos x.den)
 
 abbrev pub all_fit : Terms → Bool
 all_fit [] = true
 all_fit (t ∷ ts) = fits t.1 && all_fit ts
 
--- Each coefficient and the constant is below the bound.
-unfoldable pub is_narrow : Lin → Bool
-is_narrow a = fits a.rest && all_fit a.terms
+-- Each coefficient and the constant are below the bound.
+unfoldable pub is_sized : Lin → Bool
+is_sized a = fits a.rest && all_fit a.terms
+
+-- The variables grow, and no coefficient is zero.
+abbrev pub IsNormal : Terms → Type 0
+IsNormal [] = Unit {0}
+IsNormal (t ∷ ts) = (is_zeroʳ t.1 ≡ false) × (All (λ u. t.0 < u.0) ts × IsNormal ts)

@@ -8,7 +8,7 @@ use Rattle.heylo_formula.specs.Formula.{Form, Cond}
 use Rattle.heylo_formula.specs.Goals.{Goal}
 use Rattle.heylo_formula.specs.Operators.{agree}
 use Rattle.heylo_formula.specs.State.{Env}
-use Rattle.linear_form.specs.Lin.{Lin, Terms, at, constant, variable, plus, minus, scaled, is_narrow}
+use Rattle.linear_form.specs.Lin.{Lin, Terms, at, constant, variable, plus, minus, scaled, is_sized}
 use Rattle.linear_form.specs.Query.{Query, Atom, next, is_negative, once}
 use Rattle.linear_form.specs.Query.Query.{done, bits, ask}
 
@@ -29,7 +29,7 @@ one = Some (constant oneʳ)
 -- A value that a node has: too large where one of its numbers is.
 abbrev pub sized : Linear → Query Linear
 sized None = done None
-sized (Some a) = if is_narrow a then done (Some a) else bits
+sized (Some a) = if is_sized a then done (Some a) else bits
 
 -- Is the linear value at most 0, or below 0? Without variables that is known.
 abbrev pub asked : Terms → Lin → Bool → Query Bool
@@ -38,7 +38,7 @@ asked (t ∷ ts) a strict = ask (Atom.row a strict) (done true) (done false)
 
 -- The difference that is compared with 0 is too large where one of its numbers is.
 abbrev pub is_below : Lin → Bool → Query Bool
-is_below a strict = if is_narrow a then asked a.terms a strict else bits
+is_below a strict = if is_sized a then asked a.terms a strict else bits
 
 -- ---- The operators, on linear values and infinity
 

@@ -1,10 +1,16 @@
-//! Linear questions of a goal, rows, the points that meet them, and their combinations.
+//! Linear questions of a goal along a path, linear rows, the points that meet them, and their combinations.
 #![tactic(auto)]
 
+mod goal_products;
 mod lin;
+mod paths;
+mod question_laws;
 mod row;
 mod row_laws;
 
+pub use goal_products::nonlinear;
 pub use lin::Lin;
+pub use paths::{Atom, Taken};
+pub use question_laws::{constant_without_variables, one_path_agrees};
 pub use row::Row;
 pub use row_laws::solutions_of_rows;

@@ -1,0 +1,42 @@
+-- Laws of the questions of a goal: the path of a state, and what stands at its end.
+use Rattle.std.specs.Prelude.{◌≡◌, ◌⊎◌, List, [], Bool, true, false, Option, Some, None}
+use Rattle.heylo_formula.specs.Formula.{Form}
+use Rattle.heylo_formula.specs.Goals.{Goal}
+use Rattle.heylo_formula.specs.State.{Env, IsTyped, environment}
+use Rattle.heylo_formula.specs.Choices.{Choices}
+use Rattle.heylo_formula.specs.Meaning.{value}
+use Rattle.heylo_formula.specs.declared.values.Val.{Val}
+use Rattle.linear_form.specs.Lin.{Lin}
+use Rattle.linear_form.specs.Query.{Query, Taken}
+use Rattle.linear_form.specs.Query.Query.{done, bits, ask}
+use Rattle.linear_form.specs.Questions.{Linear, Ends, value_in, evaluate}
+use Rattle.linear_form.specs.Paths.{IsPath, Agrees, IsPathOf, end_at}
+use Rattle.linear_form.specs.TypedGoals.{IsTypedGoal}
+use Rattle.linear_form.specs.Nonlinear.{has_variable}
+
+-- Each state has a path to the end that agrees with it.
+abbrev pub StatesHaveAPath : Type 0
+StatesHaveAPath = (g : Goal) (s : Env) → (ps : List Taken) × IsPathOf g s ps
+
+-- No state has two.
+abbrev pub PathsAreUnique : Type 0
+PathsAreUnique = (g : Goal) (s : Env) (ps qs : List Taken) → IsPathOf g s ps → IsPathOf g s qs → ps ≡ qs
+
+-- At an end the two linear values are the values of the two forms in the state, infinity included.
+abbrev pub EndsAreValues : Type 0
+EndsAreValues = (g : Goal) (s : List Val) (ps : List Taken) (e : Ends) → IsTypedGoal g → IsTyped g.types s → IsPath g ps → Agrees (environment s) ps → end_at g ps ≡ done e → (value_in e.0 (environment s) ≡ value g.stated (environment s) Choices.stop) × (value_in e.1 (environment s) ≡ value g.found (environment s) Choices.stop)
+
+-- What holds of every result of a tree, after all answers.
+abbrev pub EachResult : {A : Type 0} → (A → Type 0) → Query A → Type 0
+EachResult P (done a) = P a
+EachResult P bits = Unit {0}
+EachResult P (ask q y n) = EachResult P y × EachResult P n
+
+abbrev pub IsConstant : Linear → Type 0
+IsConstant (Some a) = a.terms ≡ []
+IsConstant None = Unit {0}
+
+-- A form without variables outside conditions has constant values, whatever the answers: a product that isn't nonlinear has
+-- a constant factor.
+abbrev pub ConstantWithoutVariables : Type 0
+ConstantWithoutVariables = (f : Form) → has_variable f ≡ false → EachResult IsConstant (evaluate f)

@@ -1,0 +1,94 @@
+//! Products that are not linear.
+
+ghost use Rattle.std.specs.Prelude.{◌≡◌, ◌&&◌};
+ghost use Rattle.heylo_formula.specs.PlainTrees.{form_of, cond_of};
+ghost use Rattle.heylo_formula.specs.Goals.{goal_of};
+ghost use Rattle.linear_form.specs.Nonlinear.{has_variable as form_has_variable, product_at, first_product, first_product_in, nonlinear_product};
+
+use heylo_formula::{Cond, Form, Goal};
+use heyvl_syntax::Span;
+
+/// The place of the goal's first product both of whose factors hold a numeric variable outside conditions: in the order of
+/// the text, the stated form before the found one. None exactly where there is none.
+pub fn nonlinear(goal: &Goal) -> Option<Span>
+    ensures { result ≡ nonlinear_product (goal_of goal.now) }
+{
+    in_form(&goal.stated).or(in_form(&goal.found))
+}
+
+fn has_variable(form: &Form) -> bool
+    ensures { result ≡ form_has_variable (form_of form.now) }
+{
+    match form {
+        Form::Const(_) => false,
+        Form::Var(_) => true,
+        Form::Sum(a, b) => has_variable(a) || has_variable(b),
+        Form::Diff(a, b) => has_variable(a) || has_variable(b),
+        Form::Cut(a, b) => has_variable(a) || has_variable(b),
+        Form::Scale(_, a) => has_variable(a),
+        Form::Product(a, b, _) => has_variable(a) || has_variable(b),
+        Form::Min(a, b) => has_variable(a) || has_variable(b),
+        Form::Max(a, b) => has_variable(a) || has_variable(b),
+        Form::Imply(a, b) => has_variable(a) || has_variable(b),
+        Form::CoImply(a, b) => has_variable(a) || has_variable(b),
+        Form::Validate(a) => has_variable(a),
+        Form::CoValidate(a) => has_variable(a),
+        Form::Embed(_) => false,
+        Form::Iverson(_) => false,
+        Form::Select(_, a, b) => has_variable(a) || has_variable(b),
+        Form::Bind(_, _, _, _, a) => has_variable(a),
+    }
+}
+
+fn here(a: &Form, b: &Form, span: Span) -> Option<Span>
+    ensures { result ≡ product_at (form_has_variable (form_of a.now) && form_has_variable (form_of b.now)) span }
+{
+    if has_variable(a) && has_variable(b) {
+        Some(span)
+    } else {
+        None
+    }
+}
+
+#[cycle(products)]
+fn in_form(form: &Form) -> Option<Span>
+    ensures { result ≡ first_product (form_of form.now) }
+{
+    match form {
+        Form::Const(_) => None,
+        Form::Var(_) => None,
+        Form::Sum(a, b) => in_form(a).or(in_form(b)),
+        Form::Diff(a, b) => in_form(a).or(in_form(b)),
+        Form::Cut(a, b) => in_form(a).or(in_form(b)),
+        Form::Scale(_, a) => in_form(a),
+        Form::Product(a, b, span) => in_form(a).or(here(a, b, *span).or(in_form(b))),
+        Form::Min(a, b) => in_form(a).or(in_form(b)),
+        Form::Max(a, b) => in_form(a).or(in_form(b)),
+        Form::Imply(a, b) => in_form(a).or(in_form(b)),
+        Form::CoImply(a, b) => in_form(a).or(in_form(b)),
+        Form::Validate(a) => in_form(a),
+        Form::CoValidate(a) => in_form(a),
+        Form::Embed(g) => in_cond(g),
+        Form::Iverson(g) => in_cond(g),
+        Form::Select(g, a, b) => in_cond(g).or(in_form(a).or(in_form(b))),
+        Form::Bind(_, _, _, _, a) => in_form(a),
+    }
+}
+
+#[cycle(products)]
+fn in_cond(cond: &Cond) -> Option<Span>
+    ensures { result ≡ first_product_in (cond_of cond.now) }
+{
+    match cond {
+        Cond::Const(_) => None,
+        Cond::Var(_) => None,
+        Cond::Not(g) => in_cond(g),
+        Cond::And(g, h) => in_cond(g).or(in_cond(h)),
+        Cond::Or(g, h) => in_cond(g).or(in_cond(h)),
+        Cond::Same(g, h) => in_cond(g).or(in_cond(h)),
+        Cond::Le(a, b) => in_form(a).or(in_form(b)),
+        Cond::Lt(a, b) => in_form(a).or(in_form(b)),
+        Cond::EqNum(a, b) => in_form(a).or(in_form(b)),
+        Cond::Ite(g, h, k) => in_cond(g).or(in_cond(h).or(in_cond(k))),
+    }
+}
