@@ -10,3 +10,5 @@ mod TypedValues
 mod EndValues
 mod EachResults
 mod ConstantForms
+pub mod Walking
+pub mod Mixing

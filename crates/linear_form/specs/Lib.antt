@@ -17,3 +17,5 @@ pub mod PathRows
 pub mod Cells
 pub mod QuestionLaws
 pub mod PlainPaths
+pub mod Merging
+pub mod Divisors

@@ -7,6 +7,7 @@ mod paths;
 mod question_laws;
 mod row;
 mod row_laws;
+mod terms;
 
 pub use goal_products::nonlinear;
 pub use lin::Lin;
@@ -14,3 +15,6 @@ pub use paths::{Atom, Taken};
 pub use question_laws::{constant_without_variables, one_path_agrees};
 pub use row::Row;
 pub use row_laws::solutions_of_rows;
+pub use terms::{
+    coefficient_of, divided, divisor_of, merged, mixed, narrow_quotient, scaled, wide_product,
+};
