@@ -12,3 +12,4 @@ mod EachResults
 mod ConstantForms
 pub mod Walking
 pub mod Mixing
+pub mod PathSteps
