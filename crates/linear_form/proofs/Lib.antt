@@ -13,3 +13,4 @@ mod ConstantForms
 pub mod Walking
 pub mod Mixing
 pub mod PathSteps
+pub mod AgreedEnds
