@@ -14,3 +14,4 @@ pub mod Walking
 pub mod Mixing
 pub mod PathSteps
 pub mod AgreedEnds
+mod MetClaims

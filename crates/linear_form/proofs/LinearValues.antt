@@ -24,17 +24,17 @@ same_order a b c d h = same_truth _ _ (λ e. (h.0 (record { holds = e })).holds)
 leq_at : (x y : Rational) → (x ≤ʳ zeroʳ +ʳ y) ↔ (x ≤ʳ y)
 leq_at x y = rw (zero-+ʳ y) ((λ h. h, λ h. h))
 
-leq_minus : (x y : Rational) → leqʳ (x -ʳ y) zeroʳ ≡ leqʳ x y
+pub leq_minus : (x y : Rational) → leqʳ (x -ʳ y) zeroʳ ≡ leqʳ x y
 leq_minus x y = same_order _ _ _ _ (minus_at_most x y zeroʳ) ∙ same_order _ _ _ _ (leq_at x y)
 
-leq_zero_minus : (x y : Rational) → leqʳ zeroʳ (x -ʳ y) ≡ leqʳ y x
+pub leq_zero_minus : (x y : Rational) → leqʳ zeroʳ (x -ʳ y) ≡ leqʳ y x
 leq_zero_minus x y = same_order _ _ _ _ (difference_nonnegative y x)
 
 minus_one_is : minus_oneʳ ≡ negʳ oneʳ
 unfolding minus_oneʳ oneʳ
 minus_one_is = sym (ratio-neg (pos 1) 1 (lit< tt))
 
-minus_one_times : (x : Rational) → minus_oneʳ *ʳ x ≡ negʳ x
+pub minus_one_times : (x : Rational) → minus_oneʳ *ʳ x ≡ negʳ x
 minus_one_times x = ap (λ w. w *ʳ x) minus_one_is ∙ negʳ-*ʳ oneʳ x ∙ ap negʳ (one-*ʳ x)
 
 nothing_more : (x v r : Rational) → is_zeroʳ x ≡ true → r ≡ (x *ʳ v) +ʳ r

@@ -19,3 +19,4 @@ pub mod QuestionLaws
 pub mod PlainPaths
 pub mod Merging
 pub mod Divisors
+pub mod ClaimLaws

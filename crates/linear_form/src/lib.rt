@@ -1,6 +1,7 @@
 //! Linear questions of a goal along a path, linear rows, the points that meet them, and their combinations.
 #![tactic(auto)]
 
+mod claim_laws;
 mod goal_products;
 mod lin;
 mod paths;
@@ -9,6 +10,7 @@ mod row;
 mod row_laws;
 mod terms;
 
+pub use claim_laws::paths_claim_truths;
 pub use goal_products::nonlinear;
 pub use lin::Lin;
 pub use paths::{Atom, Taken};

@@ -1,0 +1,23 @@
+-- What is proved of the claims of a path.
+use Rattle.std.specs.Prelude.{◌≡◌, List, [], ◌∷◌, Bool, true}
+use Rattle.heylo_formula.specs.Goals.{Goal, HoldsIn}
+use Rattle.heylo_formula.specs.State.{Env, IsTyped, environment}
+use Rattle.heylo_formula.specs.declared.values.Val.{Val}
+use Rattle.linear_form.specs.Lin.{at}
+use Rattle.linear_form.specs.Query.{Taken, is_negative}
+use Rattle.linear_form.specs.Paths.{IsPath, Agrees}
+use Rattle.linear_form.specs.TypedGoals.{IsTypedGoal}
+use Rattle.linear_form.specs.Tightening.{Claim}
+use Rattle.linear_form.specs.PathRows.{claims_of}
+
+-- The claim holds in the state.
+pub record IsClaimed (s : Env) (k : Claim) : Type 0 where
+  pub claimed : is_negative (at k.left s) k.strict ≡ true
+
+abbrev pub AllClaimed : Env → List Claim → Type 0
+AllClaimed s [] = Unit {0}
+AllClaimed s (k ∷ ks) = IsClaimed s k × AllClaimed s ks
+
+-- Each claim of a path holds in each state of the right types that agrees with the path and in which the goal fails.
+abbrev pub PathsClaimTruths : Type 0
+PathsClaimTruths = (g : Goal) (s : List Val) (ps : List Taken) (denied : Bool) → IsTypedGoal g → IsTyped g.types s → IsPath g ps → Agrees (environment s) ps → (HoldsIn g (environment s) → ⊥) → AllClaimed (environment s) (claims_of g ps denied)
