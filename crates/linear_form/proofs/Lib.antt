@@ -15,3 +15,4 @@ pub mod Mixing
 pub mod PathSteps
 pub mod AgreedEnds
 mod MetClaims
+mod TightRows
