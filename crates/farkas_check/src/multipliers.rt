@@ -8,7 +8,7 @@ ghost use Rattle.linear_form.specs.Row.{IsRow};
 ghost use Rattle.linear_form.specs.Combination.{row_at, combined, uses_strict, IsWideThroughout, IsContradiction};
 ghost use Rattle.farkas_check.specs.Columns.{number_in, AreMultipliers, IsBeyond, Vanishes, IsUnmet};
 
-use linear_form::{coefficient_of, Row};
+use linear_form::{Row, coefficient_of};
 
 /// A number of each row: its constant, or its coefficient of a variable.
 #[derive(Clone, Copy)]

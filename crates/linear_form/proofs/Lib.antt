@@ -16,3 +16,5 @@ pub mod PathSteps
 pub mod AgreedEnds
 mod MetClaims
 mod TightRows
+mod NonzeroClaims
+pub mod MetRows

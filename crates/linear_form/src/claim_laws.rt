@@ -1,4 +1,4 @@
-//! The law of the claims of a path. The function does nothing: its contract is the law.
+//! The laws of the claims and of the rows of a path. Each function does nothing: its contract is the law.
 
 ghost use Rattle.linear_form.specs.ClaimLaws as law;
 
@@ -6,4 +6,9 @@ ghost use Rattle.linear_form.specs.ClaimLaws as law;
 /// path and in which the goal fails.
 pub fn paths_claim_truths()
     ensures { law.PathsClaimTruths }
+{}
+
+/// Each row of a path is met by each state that agrees with the path and in which the goal fails.
+pub fn paths_rows_are_met()
+    ensures { law.RowsAreMet }
 {}

@@ -10,7 +10,7 @@ mod row;
 mod row_laws;
 mod terms;
 
-pub use claim_laws::paths_claim_truths;
+pub use claim_laws::{paths_claim_truths, paths_rows_are_met};
 pub use goal_products::nonlinear;
 pub use lin::Lin;
 pub use paths::{Atom, Taken};
