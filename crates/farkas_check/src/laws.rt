@@ -8,7 +8,7 @@ pub fn certificates_are_told_apart()
     ensures one_place { law.OnePlace }
 {}
 
-/// A goal with a certificate holds in each state that meets the rows of its paths.
+/// A goal with a certificate holds in every state.
 pub fn certified_goals_hold()
     ensures { law.CertifiedGoalsHold }
 {}
