@@ -3,6 +3,8 @@
 
 mod laws;
 mod multipliers;
+#[cfg(test)]
+mod tests;
 mod trees;
 
 pub use laws::{certificates_are_told_apart, certified_goals_hold};
