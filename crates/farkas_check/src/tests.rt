@@ -54,13 +54,22 @@ fn zero_below_zero(rt: HostRuntime) -> Result<(), Fail> {
     assert!(rt; contradicts(&rows, &[(0, 1)]));
     assert!(rt; contradicts(&rows, &[(0, 1), (1, 1)]));
     assert!(rt; contradicts(&rows, &[(0, 4611686018427387903)]));
-    assert!(rt; !contradicts(&rows, &[(1, 1)]), "0 <= 0 is no contradiction");
+    assert!(rt;
+        !contradicts(&rows, &[(1, 1)]),
+        "0 <= 0 is no contradiction"
+    );
     assert!(rt; !contradicts(&rows, &[]), "nothing is no contradiction");
     assert!(rt; !contradicts(&rows, &[(2, 1)]), "there is no row 2");
-    assert!(rt; !contradicts(&rows, &[(1, 1), (0, 1)]), "the indexes don't grow");
+    assert!(rt;
+        !contradicts(&rows, &[(1, 1), (0, 1)]),
+        "the indexes don't grow"
+    );
     assert!(rt; !contradicts(&rows, &[(0, 1), (0, 1)]), "a row twice");
     assert!(rt; !contradicts(&rows, &[(0, 0)]), "a multiplier 0");
-    assert!(rt; !contradicts(&rows, &[(0, 4611686018427387904)]), "a multiplier of 2^62");
+    assert!(rt;
+        !contradicts(&rows, &[(0, 4611686018427387904)]),
+        "a multiplier of 2^62"
+    );
     Ok(())
 }
 
@@ -88,6 +97,11 @@ fn partial_sums_stay_small(rt: HostRuntime) -> Result<(), Fail> {
     rows = with(rows, flat(alloc, greatest, false))?;
     let most = 4611686018427387903;
     assert!(rt; contradicts(&rows, &[(0, most), (1, most), (2, most), (3, most)]));
-    assert!(rt; !contradicts(&rows, &[(0, most), (1, most), (2, most), (3, most), (4, most)]));
+    assert!(rt;
+        !contradicts(
+            &rows,
+            &[(0, most), (1, most), (2, most), (3, most), (4, most)]
+        )
+    );
     Ok(())
 }

@@ -286,8 +286,8 @@ rounded_met n c true h = at_most_zero n (floorʳ c +ℤ pos 1) (by_lt_z (floorʳ
   where
     never : neg_ℤ n ≤ℤ floorʳ c → ⊥
     never l = let m : whole (neg_ℤ n) ≤ʳ c = ≤ʳ_trans _ _ _ (whole-≤ (neg_ℤ n) (floorʳ c) l) (floor-is c).at_most in
-      let k : zeroʳ ≤ʳ whole n +ʳ c = subst (λ x. x ≤ʳ whole n +ʳ c) (opposite n) (subst (λ x. whole (neg_ℤ n) +ʳ whole n ≤ʳ x) (+ʳ_comm c (whole n)) (+ʳ_mono _ _ _ _ m (≤ʳ_refl (whole n)))) in
-      let a = h.holds in let b = k.holds in let d = sym a ∙ b in absurd (cc)
+        let k : zeroʳ ≤ʳ whole n +ʳ c = subst (λ x. x ≤ʳ whole n +ʳ c) (opposite n) (subst (λ x. whole (neg_ℤ n) +ʳ whole n ≤ʳ x) (+ʳ_comm c (whole n)) (+ʳ_mono _ _ _ _ m (≤ʳ_refl (whole n)))) in
+        let a = h.holds in let b = k.holds in let d = sym a ∙ b in absurd (cc)
 
 -- ---- Without variables
 
