@@ -6,3 +6,9 @@ pub mod SubstitutionSteps
 pub mod Mirrors
 pub mod SubstitutionTrees
 pub mod SubstitutionResults
+pub mod TypedValues
+pub mod BoundedChoices
+mod Examples
+pub mod SubstitutionTypes
+pub mod SubstitutionBinders
+pub mod OneMeaning

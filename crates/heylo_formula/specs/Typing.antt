@@ -5,7 +5,8 @@ use Rattle.std.specs.Prelude.{◌≡◌, ℕ, Bool, true, false, ◌==◌, ◌&&
 use Rattle.heyvl_num.specs.Rational.{zeroʳ, leqʳ}
 use Rattle.heyvl_num.specs.Value.{Value}
 use Rattle.heyvl_num.specs.Value.Value.{finite, infinite}
-use Rattle.heylo_formula.specs.Formula.{Form, Cond}
+use Rattle.heylo_formula.specs.Formula.{Form, Cond, Term}
+use Rattle.heylo_formula.specs.State.{Env, has}
 use Rattle.heylo_formula.specs.declared.types.Ty.{Ty}
 
 -- The types of expressions that are numbers. EUReal is UReal with infinity.
@@ -50,6 +51,31 @@ join NumberType.eureal NumberType.int = None
 join NumberType.eureal NumberType.uint = Some NumberType.eureal
 join NumberType.eureal NumberType.ureal = Some NumberType.eureal
 join NumberType.eureal NumberType.eureal = Some NumberType.eureal
+
+-- Whether the first type widens to the second.
+abbrev pub widens : NumberType → NumberType → Bool
+widens NumberType.int NumberType.int = true
+widens NumberType.int NumberType.uint = false
+widens NumberType.int NumberType.ureal = false
+widens NumberType.int NumberType.eureal = false
+widens NumberType.uint t = true
+widens NumberType.ureal NumberType.int = false
+widens NumberType.ureal NumberType.uint = false
+widens NumberType.ureal NumberType.ureal = true
+widens NumberType.ureal NumberType.eureal = true
+widens NumberType.eureal NumberType.int = false
+widens NumberType.eureal NumberType.uint = false
+widens NumberType.eureal NumberType.ureal = false
+widens NumberType.eureal NumberType.eureal = true
+
+abbrev pub has_type_within : NumberType → Option NumberType → Bool
+has_type_within u (Some t) = widens t u
+has_type_within u None = false
+
+-- Whether there is a first type and it widens to the second, where there is a second.
+abbrev pub fits : Option NumberType → Option NumberType → Bool
+fits t (Some u) = has_type_within u t
+fits t None = true
 
 abbrev pub joined : Option NumberType → Option NumberType → Option NumberType
 joined (Some t) (Some u) = join t u
@@ -136,3 +162,12 @@ abbrev mutual
 -- A formula: a form of UInt, UReal or EUReal.
 abbrev pub IsFormula : Types → Form → Type 0
 IsFormula types f = is_unsigned (type_of types f) ≡ true
+
+-- A term that may be put in for a variable of the type: a condition for a Bool, else a form whose type widens to it.
+abbrev pub TermFits : Types → Ty → Term → Type 0
+TermFits types ty (Term.truth g) = (ty ≡ Ty.Bool) × (is_well_typed types g ≡ true)
+TermFits types ty (Term.number f) = (is_bool ty ≡ false) × (fits (type_of types f) (number_type ty) ≡ true)
+
+-- Each variable has a value of its type.
+pub record HasTypes (types : Types) (s : Env) : Type 0 where
+  pub typed : (x : ℕ) → has (types x) (s x) ≡ true

@@ -2,6 +2,7 @@
 //! reason about.
 
 ghost use Rattle.heylo_formula.specs.Laws as law;
+ghost use Rattle.heylo_formula.specs.ExtremaLaws as typed;
 
 /// A value depends on the free variables alone, and on choices only where there is a binder.
 pub fn what_values_depend_on()
@@ -23,4 +24,32 @@ pub fn substitution_changes_the_state()
     ensures value { law.SubstitutionChangesState }
     ensures truth { law.SubstitutionChangesStateOfTruth }
     ensures fresh { law.FreshIsLeast }
+{}
+
+/// What the types of forms say of their values.
+pub fn types_bound_values()
+    ensures finite { typed.FiniteTypesAreFinite }
+    ensures nonnegative { typed.FormulasAreNonnegative }
+    ensures plain { typed.FiniteTermsArePlain }
+{}
+
+/// A substitution of a term that fits its variable keeps forms and conditions well typed.
+pub fn substitution_keeps_types()
+    ensures types { typed.SubstitutionKeepsTypes }
+    ensures formulas { typed.SubstitutionKeepsFormulas }
+    ensures conditions { typed.SubstitutionKeepsConditions }
+{}
+
+/// What a formula with binders means is bounded by what its value is for each choice.
+pub fn bounds_hold_by_choices()
+    ensures one { typed.FormsMeanOneValue }
+    ensures binder_free { typed.BinderFreeFormsMeanTheirValues }
+    ensures bounds { typed.BoundsHoldByChoices }
+    ensures unbound { typed.BinderFreeFormsAreDirected }
+{}
+
+/// A substitution of a plain term keeps where binders stand.
+pub fn substitution_keeps_binders()
+    ensures binders { typed.SubstitutionKeepsBinders }
+    ensures directions { typed.SubstitutionKeepsDirections }
 {}

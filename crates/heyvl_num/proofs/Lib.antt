@@ -8,5 +8,6 @@ pub mod Signs
 pub mod WeightedSums
 pub mod ValueOperators
 pub mod Exactness
-pub mod Uses
+pub mod Rows
+pub mod Inverses
 mod Examples

@@ -1,7 +1,7 @@
 -- The laws of values: their arithmetic, their order, their operators and their weighted sums.
 use Rattle.std.specs.Prelude.{◌≡◌, ◌↔◌, ◌⊎◌, ℕ, List, ◌++◌}
 use Rattle.std.specs.Ordering.{MatchOrdering}
-use Rattle.heyvl_num.specs.Rational.{Rational, zeroʳ, oneʳ, halfʳ, ◌+ʳ◌, ◌*ʳ◌, ◌≤ʳ◌, ◌<ʳ◌}
+use Rattle.heyvl_num.specs.Rational.{Rational, zeroʳ, oneʳ, halfʳ, ◌≤ʳ◌}
 use Rattle.heyvl_num.specs.Value.{Value, zeroᵛ, oneᵛ, ◌+ᵛ◌, ◌*ᵛ◌, ◌≤ᵛ◌, ◌<ᵛ◌, compareᵛ}
 use Rattle.heyvl_num.specs.Value.Value.{finite, infinite}
 use Rattle.heyvl_num.specs.ValueOperators.{minᵛ, maxᵛ, impliesᵛ, coimpliesᵛ, monusᵛ}
@@ -121,18 +121,3 @@ WeightedSumsMonotone = (f g : ℕ → Value) (xs : List (Rational × ℕ)) → I
 -- Weights of at most 1 in all don't lead above a bound of all values.
 abbrev pub WeightedSumsBounded : Type 0
 WeightedSumsBounded = (f : ℕ → Value) (v : Value) (xs : List (Rational × ℕ)) → IsWeighted xs → total_weight xs ≤ʳ oneʳ → zeroᵛ ≤ᵛ v → ((a : ℕ) → f a ≤ᵛ v) → weighted_sum f xs ≤ᵛ v
-
--- ---- The laws in use
-
--- A sum of three weighted values is monotone.
-abbrev pub ThreeTermsMonotone : Type 0
-ThreeTermsMonotone = (p q r : Rational) (x x' y y' z z' : Value) → zeroʳ ≤ʳ p → zeroʳ ≤ʳ q → zeroʳ ≤ʳ r → x ≤ᵛ x' → y ≤ᵛ y' → z ≤ᵛ z' → ((finite p *ᵛ x) +ᵛ (finite q *ᵛ y)) +ᵛ (finite r *ᵛ z) ≤ᵛ ((finite p *ᵛ x') +ᵛ (finite q *ᵛ y')) +ᵛ (finite r *ᵛ z')
-
--- A weight before a flip goes to both of its outcomes.
-abbrev pub FlipDistributes : Type 0
-FlipDistributes = (w p q : Rational) (x y : Value) → finite w *ᵛ ((finite p *ᵛ x) +ᵛ (finite q *ᵛ y)) ≡ (finite (w *ʳ p) *ᵛ x) +ᵛ (finite (w *ʳ q) *ᵛ y)
-
--- Two rows a*x <= b and c*x <= d contradict each other where multipliers that aren't negative cancel x and leave less
--- than 0 (Farkas).
-abbrev pub TwoRowsContradict : Type 0
-TwoRowsContradict = (a b c d k l x : Rational) → zeroʳ ≤ʳ k → zeroʳ ≤ʳ l → (k *ʳ a) +ʳ (l *ʳ c) ≡ zeroʳ → (k *ʳ b) +ʳ (l *ʳ d) <ʳ zeroʳ → a *ʳ x ≤ʳ b → c *ʳ x ≤ʳ d → ⊥

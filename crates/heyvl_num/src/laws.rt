@@ -93,10 +93,3 @@ pub fn weighted_sums()
     ensures monotone { value.WeightedSumsMonotone }
     ensures bounded { value.WeightedSumsBounded }
 {}
-
-/// What the exported rule sets close by themselves.
-pub fn laws_in_use()
-    ensures three_terms { value.ThreeTermsMonotone }
-    ensures flip { value.FlipDistributes }
-    ensures two_rows { value.TwoRowsContradict }
-{}

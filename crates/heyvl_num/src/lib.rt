@@ -13,6 +13,6 @@ pub use divisors::gcd;
 pub use extended::Ext;
 pub use fractions::Frac;
 pub use laws::{
-    fractions_by_cross_products, laws_in_use, operators_on_values, order_of_fractions,
-    order_of_values, ring_of_fractions, semiring_of_values, weighted_sums,
+    fractions_by_cross_products, operators_on_values, order_of_fractions, order_of_values,
+    ring_of_fractions, semiring_of_values, weighted_sums,
 };

@@ -70,8 +70,8 @@ no_terms : (w : Point) (ms : List (ℕ × ℕ)) (rs : List Row) → ((x : ℕ) �
 no_terms w ms rs h = sym (combined-sum w.top ms rs) ∙ ap (sum_at w.top) (all_zero (combined_terms ms rs) (combined-normal ms rs) (λ x. coefficient-is x (combined_terms ms rs) ∙ combined-sum (only x) ms rs ∙ combined-same (λ s. sum_at (only x) s.terms) (λ s. coefficient x s.terms) ms rs (λ r. sym (coefficient-is x r.terms)) ∙ h x)) ∙ sum_at-nil w.top
 
 -- Rows with a contradiction aren't met anywhere.
-pub contradiction_unmet : (ms : List (ℕ × ℕ)) (rows : List Row) → IsContradiction ms rows → IsMetSomewhere rows → ⊥
-contradiction_unmet ms rows h s = go h.false_constant
+pub unmet : (ms : List (ℕ × ℕ)) (rows : List Row) → All (λ m. 0 < m.1) ms → ((x : ℕ) → combined (λ r. coefficient x r.terms) ms rows ≡ pos 0) → (pos 0 <ℤ combined (λ r. r.rest) ms rows) ⊎ ((combined (λ r. r.rest) ms rows ≡ pos 0) × (uses_strict ms rows ≡ true)) → IsMetSomewhere rows → ⊥
+unmet ms rows positive none constant s = go constant
   where
     w : Point
     w = s.at_point
@@ -80,10 +80,10 @@ contradiction_unmet ms rows h s = go h.false_constant
     drop_zero z = omega (arith, ints)
 
     only_rest : combined (left_side w) ms rows ≡ combined (λ r. r.rest) ms rows *ℤ pos w.below
-    only_rest = combined-left_side w ms rows ∙ ap (λ t. t +ℤ (combined (λ r. r.rest) ms rows *ℤ pos w.below)) (no_terms w ms rows h.no_variable) ∙ drop_zero (combined (λ r. r.rest) ms rows *ℤ pos w.below)
+    only_rest = combined-left_side w ms rows ∙ ap (λ t. t +ℤ (combined (λ r. r.rest) ms rows *ℤ pos w.below)) (no_terms w ms rows none) ∙ drop_zero (combined (λ r. r.rest) ms rows *ℤ pos w.below)
 
     bound : IsBelow (uses_strict ms rows) (combined (λ r. r.rest) ms rows *ℤ pos w.below)
-    bound = below-same (uses_strict ms rows) _ _ (sym only_rest) (combined-below w ms rows h.positive s.meets)
+    bound = below-same (uses_strict ms rows) _ _ (sym only_rest) (combined-below w ms rows positive s.meets)
 
     no_strict : (z : ℤ) → z ≡ pos 0 → (z *ℤ pos w.below) <ℤ pos 0 → ⊥
     no_strict z e k = absurd_zero (subst (λ y. (y *ℤ pos w.below) <ℤ pos 0) e k)
@@ -94,6 +94,9 @@ contradiction_unmet ms rows h s = go h.false_constant
     go : (pos 0 <ℤ combined (λ r. r.rest) ms rows) ⊎ ((combined (λ r. r.rest) ms rows ≡ pos 0) × (uses_strict ms rows ≡ true)) → ⊥
     go (inl l) = positive_times _ w.below w.positive l (below-weak (uses_strict ms rows) _ bound)
     go (inr e) = no_strict _ e.0 (subst (λ b. IsBelow b (combined (λ r. r.rest) ms rows *ℤ pos w.below)) e.1 bound)
+
+pub contradiction_unmet : (ms : List (ℕ × ℕ)) (rows : List Row) → IsContradiction ms rows → IsMetSomewhere rows → ⊥
+contradiction_unmet ms rows h s = unmet ms rows h.positive h.no_variable h.false_constant s
 
 pub contradiction_unsolvable : (ms : List (ℕ × ℕ)) (rows : List Row) → IsContradiction ms rows → IsSolvable rows → ⊥
 contradiction_unsolvable ms rows h s = contradiction_unmet ms rows h ((solvable_is rows).0 s)

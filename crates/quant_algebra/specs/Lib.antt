@@ -1,3 +1,4 @@
 pub mod ExactOperators
 pub mod ExactMeaning
 pub mod Laws
+pub mod NumbersInUse

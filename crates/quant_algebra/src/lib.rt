@@ -10,4 +10,4 @@ mod tests;
 
 pub use answers::{At, Held};
 pub use evaluation::{goal_at, holds_at, value_at};
-pub use laws::exact_values_are_meant;
+pub use laws::{exact_values_are_meant, numbers_in_use};

@@ -49,7 +49,7 @@ fn value(form: &Form) -> Parts {
 fn operators_of_two_values(rt: HostRuntime) -> Result<(), AllocError> {
     let alloc = rt.alloc();
     // the two values, and then sum, product, minimum, maximum, implication and coimplication
-    let table: [(Parts, Parts, Parts, Parts, Parts, Parts, Parts, Parts); 7] = [
+    let table: [(Parts, Parts, Parts, Parts, Parts, Parts, Parts, Parts); 10] = [
         (
             (3, 1),
             (5, 1),
@@ -111,6 +111,27 @@ fn operators_of_two_values(rt: HostRuntime) -> Result<(), AllocError> {
             (0, 1),
         ),
         (
+            (0, 1),
+            (0, 1),
+            (0, 1),
+            (0, 1),
+            (0, 1),
+            (0, 1),
+            INFINITY,
+            (0, 1),
+        ),
+        (
+            (TOP, 2),
+            INFINITY,
+            INFINITY,
+            INFINITY,
+            (TOP, 2),
+            INFINITY,
+            INFINITY,
+            INFINITY,
+        ),
+        ((TOP, 2), (TOP, 3), BITS, BITS, BITS, BITS, BITS, BITS),
+        (
             (TOP, 1),
             (1, 1),
             BITS,
@@ -154,8 +175,13 @@ fn operators_of_two_values(rt: HostRuntime) -> Result<(), AllocError> {
 fn differences(rt: HostRuntime) -> Result<(), AllocError> {
     let alloc = rt.alloc();
     // the two values, and then the plain and the truncated difference
-    let table: [(Parts, Parts, Parts, Parts); 4] = [
+    let table: [(Parts, Parts, Parts, Parts); 8] = [
         ((3, 1), (5, 1), (-2, 1), (0, 1)),
+        ((0, 1), (0, 1), (0, 1), (0, 1)),
+        ((5, 2), (0, 1), (5, 2), (5, 2)),
+        // 1/2^63 and 1/2^64 can be compared, and have no difference in 127 bits
+        ((1, 1 << 63), (1, 1 << 64), BITS, BITS),
+        ((1, 1 << 64), (1, 1 << 63), BITS, (0, 1)),
         ((5, 1), (3, 1), (2, 1), (2, 1)),
         ((4, 1), (4, 1), (0, 1), (0, 1)),
         ((-TOP, 1), (1, 1), BITS, (0, 1)),
@@ -169,6 +195,27 @@ fn differences(rt: HostRuntime) -> Result<(), AllocError> {
             value(&Form::Cut(constant(alloc, a)?, constant(alloc, b)?)),
             cut
         );
+    }
+    Ok(())
+}
+
+#[test]
+fn multiples(rt: HostRuntime) -> Result<(), AllocError> {
+    let alloc = rt.alloc();
+    // the weight, the value, and the multiple
+    let table: [(Parts, Parts, Parts); 7] = [
+        ((1, 2), (3, 1), (3, 2)),
+        ((0, 1), (5, 1), (0, 1)),
+        ((1, 3), (0, 1), (0, 1)),
+        ((0, 1), INFINITY, (0, 1)),
+        ((1, 2), INFINITY, INFINITY),
+        ((2, 1), (TOP, 1), BITS),
+        ((1, 1 << 64), (1, 1 << 63), BITS),
+    ];
+    for (weight, a, want) in table {
+        if let Some(w) = Frac::new(weight.0, weight.1) {
+            assert_eq!(rt; value(&Form::Scale(w, constant(alloc, a)?)), want);
+        }
     }
     Ok(())
 }
@@ -198,32 +245,103 @@ fn truth(alloc: Global, holds: bool) -> Result<Box<Cond>, AllocError> {
     Ok(Box::new(alloc, Cond::Const(holds))?)
 }
 
+/// A condition by what it gives: No, Yes, or Bits where it needs a sum that doesn't fit.
+fn test_of(alloc: Global, held: Held) -> Result<Box<Cond>, AllocError> {
+    match held {
+        Held::No => truth(alloc, false),
+        Held::Yes => truth(alloc, true),
+        Held::Bits => Ok(Box::new(alloc, too_large(alloc)?)?),
+    }
+}
+
 #[test]
-fn parts_that_decide_nothing_are_skipped(rt: HostRuntime) -> Result<(), AllocError> {
+fn conditions_skip_what_decides_nothing(rt: HostRuntime) -> Result<(), AllocError> {
     let alloc = rt.alloc();
-    let bits = Box::new(alloc, too_large(alloc)?)?;
-    assert!(rt; holds_at(&bits, &[]) == Held::Bits);
-    let both = Cond::And(truth(alloc, false)?, Box::new(alloc, too_large(alloc)?)?);
-    assert!(rt; holds_at(&both, &[]) == Held::No);
-    let needed = Cond::And(truth(alloc, true)?, Box::new(alloc, too_large(alloc)?)?);
-    assert!(rt; holds_at(&needed, &[]) == Held::Bits);
-    let either = Cond::Or(truth(alloc, true)?, Box::new(alloc, too_large(alloc)?)?);
-    assert!(rt; holds_at(&either, &[]) == Held::Yes);
-    let same = Cond::Same(truth(alloc, true)?, bits);
-    assert!(rt; holds_at(&same, &[]) == Held::Bits);
-    let chosen = Cond::Ite(
-        truth(alloc, true)?,
-        truth(alloc, false)?,
-        Box::new(alloc, too_large(alloc)?)?,
-    );
-    assert!(rt; holds_at(&chosen, &[]) == Held::No);
-    let large = Form::Sum(constant(alloc, (TOP, 1))?, constant(alloc, (1, 1))?);
-    let select = Form::Select(
-        truth(alloc, false)?,
-        Box::new(alloc, large)?,
-        constant(alloc, (2, 1))?,
-    );
-    assert_eq!(rt; value(&select), (2, 1));
+    // what the two parts give, and then what And, Or and Same give
+    let table: [(Held, Held, Held, Held, Held); 9] = [
+        (Held::No, Held::No, Held::No, Held::No, Held::Yes),
+        (Held::No, Held::Yes, Held::No, Held::Yes, Held::No),
+        (Held::No, Held::Bits, Held::No, Held::Bits, Held::Bits),
+        (Held::Yes, Held::No, Held::No, Held::Yes, Held::No),
+        (Held::Yes, Held::Yes, Held::Yes, Held::Yes, Held::Yes),
+        (Held::Yes, Held::Bits, Held::Bits, Held::Yes, Held::Bits),
+        (Held::Bits, Held::No, Held::Bits, Held::Bits, Held::Bits),
+        (Held::Bits, Held::Yes, Held::Bits, Held::Bits, Held::Bits),
+        (Held::Bits, Held::Bits, Held::Bits, Held::Bits, Held::Bits),
+    ];
+    for (a, b, and, or, same) in table {
+        let both = Cond::And(test_of(alloc, a)?, test_of(alloc, b)?);
+        assert!(rt; holds_at(&both, &[]) == and);
+        let either = Cond::Or(test_of(alloc, a)?, test_of(alloc, b)?);
+        assert!(rt; holds_at(&either, &[]) == or);
+        let agree = Cond::Same(test_of(alloc, a)?, test_of(alloc, b)?);
+        assert!(rt; holds_at(&agree, &[]) == same);
+    }
+    Ok(())
+}
+
+#[test]
+fn alternatives_evaluate_one_part(rt: HostRuntime) -> Result<(), AllocError> {
+    let alloc = rt.alloc();
+    // what the condition and the two parts give, and what the alternative of them gives
+    let table: [(Held, Held, Held, Held); 5] = [
+        (Held::Yes, Held::No, Held::Bits, Held::No),
+        (Held::Yes, Held::Bits, Held::No, Held::Bits),
+        (Held::No, Held::Bits, Held::Yes, Held::Yes),
+        (Held::No, Held::Yes, Held::Bits, Held::Bits),
+        (Held::Bits, Held::Yes, Held::Yes, Held::Bits),
+    ];
+    for (g, a, b, want) in table {
+        let chosen = Cond::Ite(test_of(alloc, g)?, test_of(alloc, a)?, test_of(alloc, b)?);
+        assert!(rt; holds_at(&chosen, &[]) == want);
+    }
+    Ok(())
+}
+
+fn large(alloc: Global) -> Result<Box<Form>, AllocError> {
+    let sum = Form::Sum(constant(alloc, (TOP, 1))?, constant(alloc, (1, 1))?);
+    Ok(Box::new(alloc, sum)?)
+}
+
+#[test]
+fn selections_evaluate_one_part(rt: HostRuntime) -> Result<(), AllocError> {
+    let alloc = rt.alloc();
+    // what the condition gives, the other part, and the value with it first and second, beside a part that doesn't fit
+    let table: [(Held, Parts, Parts, Parts); 4] = [
+        (Held::Yes, (2, 1), (2, 1), BITS),
+        (Held::No, (0, 1), BITS, (0, 1)),
+        (Held::No, INFINITY, BITS, INFINITY),
+        (Held::Bits, (2, 1), BITS, BITS),
+    ];
+    for (g, a, first, second) in table {
+        let select = Form::Select(test_of(alloc, g)?, constant(alloc, a)?, large(alloc)?);
+        assert_eq!(rt; value(&select), first);
+        let select = Form::Select(test_of(alloc, g)?, large(alloc)?, constant(alloc, a)?);
+        assert_eq!(rt; value(&select), second);
+    }
+    Ok(())
+}
+
+#[test]
+fn operators_evaluate_both_parts(rt: HostRuntime) -> Result<(), AllocError> {
+    let alloc = rt.alloc();
+    for a in [(0, 1), INFINITY] {
+        assert_eq!(rt; value(&Form::Sum(constant(alloc, a)?, large(alloc)?)), BITS);
+        assert_eq!(rt;
+            value(&Form::Product(constant(alloc, a)?, large(alloc)?, PLACE)),
+            BITS
+        );
+        assert_eq!(rt; value(&Form::Min(large(alloc)?, constant(alloc, a)?)), BITS);
+        assert_eq!(rt;
+            value(&Form::Imply(constant(alloc, a)?, large(alloc)?)),
+            BITS
+        );
+        assert_eq!(rt;
+            value(&Form::CoImply(large(alloc)?, constant(alloc, a)?)),
+            BITS
+        );
+    }
+    assert_eq!(rt; value(&Form::Validate(large(alloc)?)), BITS);
     Ok(())
 }
 

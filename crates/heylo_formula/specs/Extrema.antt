@@ -1,0 +1,88 @@
+-- What a form means where each binder takes the best value of its body: a supremum the least value that is at least each
+-- of them, an infimum the greatest that is at most each. Where no fraction is the best, a form means nothing.
+-- Source: HeyLo, the logic of HeyVL (Schroeer, Batz, Kaminski, Katoen, Matheja, OOPSLA 2023). The table of the operators
+-- that keep suprema or infima is this project's own.
+use Rattle.std.specs.Prelude.{◌≡◌, ◌↔◌, Bool, true, false, not, ◌&&◌, if◌then◌else◌}
+use Rattle.heyvl_num.specs.Value.{Value, zeroᵛ, oneᵛ, ◌+ᵛ◌, ◌*ᵛ◌}
+use Rattle.heyvl_num.specs.Value.Value.{finite, infinite}
+use Rattle.heyvl_num.specs.ValueOperators.{minᵛ, maxᵛ, impliesᵛ, coimpliesᵛ, monusᵛ}
+use Rattle.heylo_formula.specs.Operators.{differenceᵛ, validateᵛ, covalidateᵛ, agree}
+use Rattle.heylo_formula.specs.State.{Env, put, has, number_of}
+use Rattle.heylo_formula.specs.Choices.{Choices}
+use Rattle.heylo_formula.specs.Formula.{Form}
+use Rattle.heylo_formula.specs.Meaning.{holds}
+use Rattle.heylo_formula.specs.Binders.{has_binder, has_binder_in}
+use Rattle.heylo_formula.specs.Goals.{Compares}
+use Rattle.heylo_formula.specs.declared.types.Ty.{Ty}
+use Rattle.heylo_formula.specs.declared.values.Val.{Val}
+
+-- The supremum of the values of a family over a type is at most a value exactly where each of them is; an infimum is at
+-- least a value exactly where each of them is.
+abbrev pub IsBest : Bool → Ty → (Val → Value) → Value → Type 0
+IsBest up ty family m = (z : Value) → Compares up z m ↔ ((v : Val) → has ty v ≡ true → Compares up z (family v))
+
+-- An operator of one part, of what the part means.
+pub record Mapped (op : Value → Value) (Part : Value → Type 0) (m : Value) : Type 0 where
+  pub part : Value
+  pub meant : Part part
+  pub result : m ≡ op part
+
+-- An operator of two parts, of what they mean.
+pub record Joined (op : Value → Value → Value) (First Second : Value → Type 0) (m : Value) : Type 0 where
+  pub first : Value
+  pub second : Value
+  pub first_meant : First first
+  pub second_meant : Second second
+  pub result : m ≡ op first second
+
+-- A binder: the best of what the body means, for each value of the type.
+pub record Bound (up : Bool) (ty : Ty) (Body : Val → Value → Type 0) (m : Value) : Type 0 where
+  pub family : Val → Value
+  pub meant : (v : Val) → has ty v ≡ true → Body v (family v)
+  pub best : IsBest up ty family m
+
+abbrev pub Chosen : Bool → Type 0 → Type 0 → Type 0
+Chosen true A B = A
+Chosen false A B = B
+
+-- A condition of a well-typed form has no binder, and so needs no choices.
+abbrev pub Means : Form → Env → Value → Type 0
+Means (Form.number v) s m = m ≡ v
+Means (Form.variable x) s m = m ≡ finite (number_of (s x))
+Means (Form.sum a b) s m = Joined (λ x y. x +ᵛ y) (Means a s) (Means b s) m
+Means (Form.difference a b) s m = Joined differenceᵛ (Means a s) (Means b s) m
+Means (Form.cut a b) s m = Joined monusᵛ (Means a s) (Means b s) m
+Means (Form.scale w a) s m = Mapped (λ x. finite w *ᵛ x) (Means a s) m
+Means (Form.product a b span) s m = Joined (λ x y. x *ᵛ y) (Means a s) (Means b s) m
+Means (Form.min a b) s m = Joined minᵛ (Means a s) (Means b s) m
+Means (Form.max a b) s m = Joined maxᵛ (Means a s) (Means b s) m
+Means (Form.imply a b) s m = Joined impliesᵛ (Means a s) (Means b s) m
+Means (Form.co_imply a b) s m = Joined coimpliesᵛ (Means a s) (Means b s) m
+Means (Form.validate a) s m = Mapped validateᵛ (Means a s) m
+Means (Form.co_validate a) s m = Mapped covalidateᵛ (Means a s) m
+Means (Form.embed g) s m = m ≡ (if holds g s Choices.stop then infinite else zeroᵛ)
+Means (Form.iverson g) s m = m ≡ (if holds g s Choices.stop then oneᵛ else zeroᵛ)
+Means (Form.select g a b) s m = Chosen (holds g s Choices.stop) (Means a s m) (Means b s m)
+Means (Form.bind up x name ty a) s m = Bound up ty (λ v. Means a (put x v s)) m
+
+-- Whether each binder is of the direction, and stands only under operators that keep the best value of a part: all that
+-- a generated form puts over a binder. An implication doesn't keep a supremum, nor does validate; a coimplication doesn't
+-- keep an infimum, nor does covalidate.
+abbrev pub is_directed : Bool → Form → Bool
+is_directed up (Form.number v) = true
+is_directed up (Form.variable x) = true
+is_directed up (Form.sum a b) = is_directed up a && is_directed up b
+is_directed up (Form.difference a b) = not (has_binder (Form.difference a b))
+is_directed up (Form.cut a b) = not (has_binder (Form.cut a b))
+is_directed up (Form.scale w a) = is_directed up a
+is_directed up (Form.product a b span) = not (has_binder (Form.product a b span))
+is_directed up (Form.min a b) = is_directed up a && is_directed up b
+is_directed up (Form.max a b) = is_directed up a && is_directed up b
+is_directed up (Form.imply a b) = not (has_binder a) && (if up then not (has_binder b) else is_directed up b)
+is_directed up (Form.co_imply a b) = not (has_binder a) && (if up then is_directed up b else not (has_binder b))
+is_directed up (Form.validate a) = if up then not (has_binder a) else is_directed up a
+is_directed up (Form.co_validate a) = if up then is_directed up a else not (has_binder a)
+is_directed up (Form.embed g) = not (has_binder_in g)
+is_directed up (Form.iverson g) = not (has_binder_in g)
+is_directed up (Form.select g a b) = not (has_binder_in g) && (is_directed up a && is_directed up b)
+is_directed up (Form.bind d x name ty a) = agree up d && is_directed up a

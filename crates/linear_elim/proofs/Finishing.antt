@@ -1,0 +1,80 @@
+-- How a run ends.
+use Rattle.std.proofs.Common.{◌≡◌, ℕ, ◌+◌, ◌<◌, ◌≤◌, List, [], ◌∷◌, ◌++◌, length, refl, sym, ap, ap₂, ◌∙◌, arith, true, false, cond, ltb}
+use Rattle.std.specs.Prelude.{Option, Some, None, Result, Ok, Err, IfOk}
+use Rattle.std.proofs.lemmas.Bool.Decides.{nat_tests}
+use Prim.Native.Nat.{suc}
+use Rattle.linear_elim.specs.Joins.{Derived}
+use Rattle.linear_elim.specs.Steps.{step_fits, eliminate_one, tidied, contradiction}
+use Rattle.linear_elim.specs.Elimination.{Step, Gathered, Outcome, gathered, step_of, after_step, after_all, ended_by, unless_many, run}
+use Rattle.linear_elim.specs.Elimination.Outcome.{refuted, standing, too_many, too_great}
+
+all_refuted : (ss : List Step) (c : Derived) → after_all ss (refuted c) ≡ refuted c
+unfolding after_all
+all_refuted [] c = refl
+all_refuted (s ∷ ss) c = ap (after_step s) (all_refuted ss c)
+
+all_many : (ss : List Step) (n c : ℕ) → after_all ss (too_many n c) ≡ too_many n c
+unfolding after_all
+all_many [] n c = refl
+all_many (s ∷ ss) n c = ap (after_step s) (all_many ss n c)
+
+all_great : (ss : List Step) → after_all ss too_great ≡ too_great
+unfolding after_all
+all_great [] = refl
+all_great (s ∷ ss) = ap (after_step s) (all_great ss)
+
+all_standing : (ss : List Step) → after_all ss (standing []) ≡ standing ss
+unfolding after_all
+all_standing [] = refl
+all_standing (s ∷ ss) = ap (after_step s) (all_standing ss)
+
+all_push : (ss : List Step) (s : Step) (o : Outcome) → after_all (ss ++ s ∷ []) o ≡ after_all ss (after_step s o)
+unfolding after_all
+all_push [] s o = refl
+all_push (r ∷ ss) s o = ap (after_step r) (all_push ss s o)
+
+pub ends_found : (ss : List Step) (n : ℕ) (xs : List ℕ) (g : Gathered) (c : Derived) → g.found ≡ Some c → refuted c ≡ after_all ss (run n xs g)
+unfolding run
+ends_found ss n [] g c e = sym (ap (λ o. after_all ss (ended_by o (unless_many n g.rows (standing [])))) e ∙ all_refuted ss c)
+ends_found ss n (x ∷ xs) g c e = sym (ap (λ o. after_all ss (ended_by o (unless_many n g.rows (cond (step_fits x g.rows) (after_step (step_of x g.rows) (run (suc n) xs (gathered (eliminate_one x g.rows)))) too_great)))) e ∙ all_refuted ss c)
+
+many_test : (k : ℕ) → 4096 < k → ltb 4096 k ≡ true
+many_test k h = grind (arith, nat_tests)
+
+few_test : (k : ℕ) → k ≤ 4096 → ltb 4096 k ≡ false
+few_test k h = grind (arith, nat_tests)
+
+pub ends_many : (ss : List Step) (n : ℕ) (xs : List ℕ) (g : Gathered) (k : ℕ) → g.found ≡ None → k ≡ length g.rows → 4096 < k → too_many n k ≡ after_all ss (run n xs g)
+unfolding run
+ends_many ss n [] g k e h l = ap (too_many n) h ∙ sym (ap₂ (λ o b. after_all ss (ended_by o (cond b (too_many n (length g.rows)) (standing [])))) e (ap (ltb 4096) (sym h) ∙ many_test k l) ∙ all_many ss n (length g.rows))
+ends_many ss n (x ∷ xs) g k e h l = ap (too_many n) h ∙ sym (ap₂ (λ o b. after_all ss (ended_by o (cond b (too_many n (length g.rows)) (cond (step_fits x g.rows) (after_step (step_of x g.rows) (run (suc n) xs (gathered (eliminate_one x g.rows)))) too_great)))) e (ap (ltb 4096) (sym h) ∙ many_test k l) ∙ all_many ss n (length g.rows))
+
+pub ends_standing : (ss : List Step) (n : ℕ) (xs : List ℕ) (g : Gathered) (k : ℕ) → xs ≡ [] → g.found ≡ None → k ≡ length g.rows → k ≤ 4096 → standing ss ≡ after_all ss (run n xs g)
+unfolding run
+ends_standing ss n xs g k m e h l = sym (ap (λ ys. after_all ss (run n ys g)) m ∙ ap₂ (λ o b. after_all ss (ended_by o (cond b (too_many n (length g.rows)) (standing [])))) e (ap (ltb 4096) (sym h) ∙ few_test k l) ∙ all_standing ss)
+
+pub ends_great : (ss : List Step) (n : ℕ) (xs ys : List ℕ) (x : ℕ) (g : Gathered) (k : ℕ) → xs ≡ x ∷ ys → g.found ≡ None → k ≡ length g.rows → k ≤ 4096 → false ≡ step_fits x g.rows → too_great ≡ after_all ss (run n xs g)
+unfolding run
+ends_great ss n xs ys x g k m e h l f = sym (ap (λ zs. after_all ss (run n zs g)) m ∙ ap₂ (λ o b. after_all ss (ended_by o (cond b (too_many n (length g.rows)) (cond (step_fits x g.rows) (after_step (step_of x g.rows) (run (suc n) ys (gathered (eliminate_one x g.rows)))) too_great)))) e (ap (ltb 4096) (sym h) ∙ few_test k l) ∙ ap (λ b. after_all ss (cond b (after_step (step_of x g.rows) (run (suc n) ys (gathered (eliminate_one x g.rows)))) too_great)) (sym f) ∙ all_great ss)
+
+abbrev make : Option Derived → List Derived → Gathered
+make o rs = record { found = o; rows = rs }
+
+pub goes_on : (ss now : List Step) (n : ℕ) (xs ys : List ℕ) (x : ℕ) (g h : Gathered) (s : Step) (k : ℕ) → xs ≡ x ∷ ys → g.found ≡ None → k ≡ length g.rows → k ≤ 4096 → true ≡ step_fits x g.rows → s ≡ step_of x g.rows → h.found ≡ contradiction (eliminate_one x g.rows) → h.rows ≡ tidied (eliminate_one x g.rows) → now ≡ ss ++ s ∷ [] → after_all now (run (n + 1) ys h) ≡ after_all ss (run n xs g)
+unfolding run
+goes_on ss now n xs ys x g h s k m e a l f t p q r =
+    ap₂ (λ (us : List Step) (j : ℕ). after_all us (run j ys h)) r (next n)
+    ∙ all_push ss s (run (suc n) ys h)
+    ∙ ap₂ (λ (u : Step) (i : Gathered). after_all ss (after_step u (run (suc n) ys i))) t (ap₂ make p q)
+    ∙ sym (ap (λ zs. after_all ss (run n zs g)) m ∙ ap₂ (λ o b. after_all ss (ended_by o (cond b (too_many n (length g.rows)) (cond (step_fits x g.rows) (after_step (step_of x g.rows) (run (suc n) ys (gathered (eliminate_one x g.rows)))) too_great)))) e (ap (ltb 4096) (sym a) ∙ few_test k l) ∙ ap (λ b. after_all ss (cond b (after_step (step_of x g.rows) (run (suc n) ys (gathered (eliminate_one x g.rows)))) too_great)) (sym f))
+  where
+    next : (n : ℕ) → n + 1 ≡ suc n
+    next n = omega arith
+
+pub none_left : (xs : List ℕ) → length xs ≡ 0 → xs ≡ []
+none_left [] e = refl
+none_left (x ∷ xs) e = absurd (omega (arith, e))
+
+pub ok_same : {A B E : Type 0} (r : Result A E) (f : A → B) (x y : B) → x ≡ y → IfOk r (λ o. f o ≡ x) → IfOk r (λ o. f o ≡ y)
+ok_same (Ok a) f x y e h = h ∙ e
+ok_same (Err a) f x y e h = tt

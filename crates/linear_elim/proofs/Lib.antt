@@ -1,0 +1,15 @@
+pub mod Lowest
+pub mod Solutions
+pub mod Tidying
+pub mod Shapes
+pub mod Shares
+pub mod Deciding
+pub mod Certificates
+pub mod Numbers
+pub mod Places
+pub mod Joining
+pub mod Splitting
+pub mod Keeping
+pub mod Finishing
+pub mod FirstRows
+pub mod Examples

@@ -1,0 +1,35 @@
+use Rattle.std.proofs.Common.{rules, arith, subst, sym, ◌∙◌}
+use Rattle.std.specs.List.{All}
+use Rattle.linear_elim.specs.Joins.{IsDerived}
+use Rattle.linear_elim.specs.Outcomes.{gathering_of, outcome_of}
+use Rattle.linear_elim.proofs.Finishing.{none_left, ends_found, ends_many, ends_standing, ends_great, goes_on, ok_same}
+use Rattle.linear_elim.proofs.Keeping.{step-derived}
+use Rattle.linear_elim.proofs.elimination.+eliminate_from.Goals as goal
+
+pub returns-in-Some : goal.returns-in-Some
+returns-in-Some t c = ends_found c.args.steps.items c.args.done c.args.order.now (gathering_of c.args.now) _ c.in-Some.is
+
+pub returns-then-count-gt4096 : goal.returns-then-count-gt4096
+returns-then-count-gt4096 t c = ends_many c.args.steps.items c.args.done c.args.order.now (gathering_of c.args.now) _ c.in_default.is (c.len-count.ensures ∙ c.args.now.rows.ok.0) c.if-count-gt4096.true
+
+pub returns-in_default-split_first : goal.returns-in_default-split_first
+returns-in_default-split_first t c = ends_standing c.args.steps.items c.args.done c.args.order.now (gathering_of c.args.now) _ (none_left c.args.order.now c.in_default-split_first.ensures.cases) c.in_default.is (c.len-count.ensures ∙ c.args.now.rows.ok.0) c.if-count-gt4096.false
+
+pub returns-in_default-2 : goal.returns-in_default-2
+returns-in_default-2 t c = ends_great c.args.steps.items c.args.done c.args.order.now c.in-Some-split_first.rest.now c.in-Some-split_first.field-0-0.now (gathering_of c.args.now) _ c.in-Some-split_first.ensures.cases.0 c.in_default.is (c.len-count.ensures ∙ c.args.now.rows.ok.0) c.if-count-gt4096.false (rw c.in_default-2.is at c.in_ok-step.ensures.fits)
+
+pub eliminate_from-requires : goal.eliminate_from-requires
+eliminate_from-requires t c =
+    let e = rw c.in-Some-2.is at c.in_ok-step.ensures.rows in
+    let f = rw c.in-Some-2.is at c.in_ok-step.ensures.fits in
+    let l = c.in-Some-split_first.ensures.cases.1 in
+    let m = c.requires.few in
+    (search rules, (subst (All IsDerived) (sym e) (step-derived c.in-Some-split_first.field-0-0.now c.args.now.rows.items c.requires.derived f), omega (arith, l, m)))
+
+pub returns : goal.returns
+returns t c =
+    let e = rw c.in-Some-2.is at c.in_ok-step.ensures.rows in
+    let f = rw c.in-Some-2.is at c.in_ok-step.ensures.fits in
+    let g = rw c.in-Some-2.is at c.in_ok-step.ensures.found in
+    let s = rw c.in-Some-2.is at c.in_ok-step.ensures.step in
+    ok_same c.eliminate_from.result outcome_of _ _ (goes_on c.args.steps.items _ c.args.done c.args.order.now c.in-Some-split_first.rest.now c.in-Some-split_first.field-0-0.now (gathering_of c.args.now) (gathering_of c.in-Some-2.next) c.in-Some-2.step _ c.in-Some-split_first.ensures.cases.0 c.in_default.is (c.len-count.ensures ∙ c.args.now.rows.ok.0) c.if-count-gt4096.false f s g e c.in_ok-push.ensures.items) c.eliminate_from.ensures

@@ -1,0 +1,17 @@
+use Rattle.std.proofs.Common.{◌≡◌, sym, subst, ap₂, ◌∙◌}
+use Rattle.std.specs.List.{All}
+use Rattle.linear_elim.specs.Joins.{IsDerived}
+use Rattle.linear_elim.specs.Outcomes.{outcome_of, Decided}
+use Rattle.linear_elim.specs.Elimination.{elimination}
+use Rattle.linear_elim.proofs.Numbers.{ok_map}
+use Rattle.linear_elim.proofs.FirstRows.{first-derived, decided, started}
+use Rattle.linear_elim.proofs.starting.contradiction_or_steps.Goals as goal
+
+pub eliminate_from-requires-clause-derived : goal.eliminate_from-requires-clause-derived
+eliminate_from-requires-clause-derived c = subst (All IsDerived) (sym c.in_ok-start.ensures.rows) (first-derived c.args.rows.now c.requires.rows)
+
+pub returns-clause-plain : goal.returns-clause-plain
+returns-clause-plain c = ok_map c.eliminate_from.result _ _ (λ o h. h ∙ started c.args.order.now c.args.rows.now _ _ _ c.new.ensures.items c.in_ok-start.ensures.found c.in_ok-start.ensures.rows) c.eliminate_from.ensures
+
+pub returns-clause-decided : goal.returns-clause-decided
+returns-clause-decided c = ok_map c.eliminate_from.result _ _ (λ o h. decided c.args.order.now c.args.rows.now o c.requires.rows c.requires.over (h ∙ started c.args.order.now c.args.rows.now _ _ _ c.new.ensures.items c.in_ok-start.ensures.found c.in_ok-start.ensures.rows)) c.eliminate_from.ensures

@@ -1,0 +1,89 @@
+-- The whole elimination, with its limits. It says when too many rows and too great numbers are answered, and nothing else rests
+-- on it: what is promised of the other answers speaks of the rows' solutions.
+use Rattle.std.specs.Prelude.{ℕ, List, [], ◌∷◌, length, map, unsigned_abs, ℤ, pos, cond, ltb, Option, Some, None}
+use Prim.Native.Nat.{suc}
+use Rattle.linear_form.specs.Row.{Row}
+use Rattle.linear_elim.specs.Joins.{Derived}
+use Rattle.linear_elim.specs.Steps.{lowers, uppers, tidied, has_terms, put_row, is_contradiction, contradiction, step_fits, eliminate_one}
+
+-- The rows of a variable's step that bound it, from below and from above.
+pub record Step : Type 0 where
+  pub var : ℕ
+  pub lows : List Derived
+  pub ups : List Derived
+
+-- The first contradiction among rows, and the rows once they are tidied.
+pub record Gathered : Type 0 where
+  pub found : Option Derived
+  pub rows : List Derived
+
+abbrev pub gathered : List Derived → Gathered
+gathered rows = record { found = contradiction rows; rows = tidied rows }
+
+-- A contradiction, no row left after all steps, too many rows after some steps, or a number that is too great.
+pub data Outcome : Type 0 where
+  refuted : Derived → Outcome
+  standing : List Step → Outcome
+  too_many : ℕ → ℕ → Outcome
+  too_great : Outcome
+
+-- The step put before those of the rest.
+abbrev pub after_step : Step → Outcome → Outcome
+after_step s (refuted c) = refuted c
+after_step s (standing ss) = standing (s ∷ ss)
+after_step s (too_many n c) = too_many n c
+after_step s too_great = too_great
+
+unfoldable pub after_all : List Step → Outcome → Outcome
+after_all [] o = o
+after_all (s ∷ ss) o = after_step s (after_all ss o)
+
+abbrev pub ended_by : Option Derived → Outcome → Outcome
+ended_by None o = o
+ended_by (Some c) o = refuted c
+
+abbrev pub unless_many : ℕ → List Derived → Outcome → Outcome
+unless_many n rows o = cond (ltb 4096 (length rows)) (too_many n (length rows)) o
+
+-- What was found, and the rows, once another row is put in.
+abbrev pub or_else : Option Derived → Option Derived → Option Derived
+or_else None o = o
+or_else (Some c) o = Some c
+
+abbrev pub found_after : Derived → Option Derived → Option Derived
+found_after r o = or_else o (cond (is_contradiction r.row) (Some r) None)
+
+abbrev pub rows_after : Derived → List Derived → List Derived
+rows_after r ks = cond (has_terms r.row.terms) (put_row r ks) ks
+
+unfoldable pub found_all : List Derived → Option Derived → Option Derived
+found_all [] o = o
+found_all (d ∷ ds) o = found_all ds (found_after d o)
+
+unfoldable pub rows_all : List Derived → List Derived → List Derived
+rows_all [] ks = ks
+rows_all (d ∷ ds) ks = rows_all ds (rows_after d ks)
+
+abbrev pub step_of : ℕ → List Derived → Step
+step_of x rows = record { var = x; lows = lowers x rows; ups = uppers x rows }
+
+-- After n steps, with these variables to come: a contradiction ends it, then too many tidied rows, then a step whose numbers
+-- don't fit.
+unfoldable pub run : ℕ → List ℕ → Gathered → Outcome
+run n [] g = ended_by g.found (unless_many n g.rows (standing []))
+run n (x ∷ xs) g = ended_by g.found (unless_many n g.rows (cond (step_fits x g.rows) (after_step (step_of x g.rows) (run (suc n) xs (gathered (eliminate_one x g.rows)))) too_great))
+
+-- A first row is its own share.
+abbrev pub own : ℕ → Row → Derived
+own k r = record { row = r; shares = (k, pos 1) ∷ []; over = 1 }
+
+unfoldable pub start : ℕ → List Row → List Derived
+start k [] = []
+start k (r ∷ rs) = own k r ∷ start (suc k) rs
+
+abbrev pub elimination : List ℕ → List Row → Outcome
+elimination order rows = run 0 order (gathered (start 0 rows))
+
+-- The multipliers of a derived row.
+abbrev pub multipliers : Derived → List (ℕ × ℕ)
+multipliers c = map (λ (s : ℕ × ℤ). (s.0, unsigned_abs s.1)) c.shares

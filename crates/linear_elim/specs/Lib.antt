@@ -1,0 +1,5 @@
+pub mod Joins
+pub mod Steps
+pub mod Elimination
+pub mod Laws
+pub mod Outcomes

@@ -1,0 +1,51 @@
+//! The whole elimination, one variable after the other.
+ghost use Rattle.std.specs.Prelude.{◌≡◌, ◌<◌, ◌+◌, ◌^◌, ℕ, length, IfOk};
+ghost use Rattle.std.specs.List.{All};
+ghost use Rattle.linear_elim.specs.Joins.{IsDerived};
+ghost use Rattle.linear_elim.specs.Elimination.{run, after_all};
+ghost use Rattle.linear_elim.specs.Outcomes.{outcome_of, gathering_of};
+
+use crate::gathering::Gathering;
+use crate::joins::Derived;
+use crate::steps::{Step, eliminate_one};
+use std::alloc::{AllocError, Global};
+
+/// How an elimination ends: with a contradiction; with no row left, after these steps; with too many rows, after so many steps;
+/// or with a number that is too great.
+#[derive(Drop)]
+pub enum Outcome {
+    Refuted(Derived),
+    Standing(Vec<Step>),
+    TooMany(usize, usize),
+    TooGreat,
+}
+
+/// Eliminates the variables in order, after the steps that are done.
+pub fn eliminate_from(
+    alloc: Global,
+    order: &[u32],
+    done: usize,
+    mut steps: Vec<Step>,
+    now: Gathering,
+) -> Result<Outcome, AllocError>
+    requires derived { All IsDerived now.rows.items }
+    requires few { done + length order.now < 2 ^ 63 }
+    ensures { IfOk result (λ o. outcome_of o ≡ after_all steps.items (run done order.now (gathering_of now))) }
+{
+    let Gathering { found, rows } = now;
+    if let Some(contradiction) = found {
+        return Ok(Outcome::Refuted(contradiction));
+    }
+    let count = rows.len();
+    if count > 4096 {
+        return Ok(Outcome::TooMany(done, count));
+    }
+    let Some((&x, rest)) = order.split_first() else {
+        return Ok(Outcome::Standing(steps));
+    };
+    let Some((step, next)) = eliminate_one(alloc, rows, x)? else {
+        return Ok(Outcome::TooGreat);
+    };
+    steps.push(step)?;
+    eliminate_from(alloc, rest, done + 1, steps, next)
+}

@@ -1,0 +1,122 @@
+//! The rules that keep the rows few.
+ghost use Rattle.std.specs.Prelude.{◌≡◌, ◌<◌, ◌≤◌, ◌++◌, ℕ, IfOk, length, not};
+ghost use Rattle.linear_elim.specs.Steps.{same_terms, is_stronger, is_contradiction, has_terms, put_row, IsPlace};
+ghost use Rattle.linear_elim.specs.Elimination.{found_after, rows_after};
+
+use crate::joins::Derived;
+use linear_form::Row;
+use std::alloc::{AllocError, Global};
+
+/// Whether two rows have the same terms.
+fn have_same_terms(a: &[(u32, i64)], b: &[(u32, i64)]) -> bool
+    ensures { result ≡ same_terms a.now b.now }
+{
+    if a.len() != b.len() {
+        return false;
+    }
+    for i in 0..a.len() {
+        let (v, c) = a[i];
+        let (w, d) = b[i];
+        if v != w {
+            return false;
+        }
+        if c != d {
+            return false;
+        }
+    }
+    true
+}
+
+/// Whether the two rows have the same terms.
+fn are_alike(a: &Derived, b: &Derived) -> bool
+    ensures { result ≡ same_terms a.now.row.terms b.now.row.terms }
+{
+    let left = &a.row;
+    let right = &b.row;
+    have_same_terms(&left.terms, &right.terms)
+}
+
+/// Whether the first row has a greater constant, or the same one and is strict where the other is not.
+fn is_stronger_than(r: &Derived, k: &Derived) -> bool
+    ensures { result ≡ is_stronger r.now.row k.now.row }
+{
+    let row = &r.row;
+    let other = &k.row;
+    if other.rest < row.rest {
+        return true;
+    }
+    if other.rest == row.rest {
+        return row.strict && !other.strict;
+    }
+    false
+}
+
+/// Whether nothing meets the row since no variable is left in it.
+fn contradicts(r: &Derived) -> bool
+    ensures { result ≡ is_contradiction r.now.row }
+{
+    let row = &r.row;
+    if !row.terms.is_empty() {
+        return false;
+    }
+    if row.rest > 0 {
+        return true;
+    }
+    row.rest == 0 && row.strict
+}
+
+/// The place of the first row with the same terms, or the number of rows.
+fn place_of(rows: &[Derived], r: &Derived) -> usize
+    ensures { IsPlace r.now rows.now result }
+{
+    for i in 0..rows.len() {
+        if are_alike(&rows[i], r) {
+            return i;
+        }
+    }
+    rows.len()
+}
+
+/// Puts a row among others: of two with equal coefficients the stronger stays, in the place of the first.
+fn put_row(rows: &mut Vec<Derived>, r: Derived) -> Result<(), AllocError>
+    ensures { IfOk result (λ _. rows.new.items ≡ put_row r rows.old.items) }
+{
+    let place = place_of(rows, &r);
+    if place == rows.len() {
+        rows.push(r)?;
+    } else if is_stronger_than(&r, &rows[place]) {
+        rows[place] = r;
+    }
+    Ok(())
+}
+
+/// Rows that were put in, tidied, and the first contradiction among them.
+#[derive(Drop)]
+pub struct Gathering {
+    pub found: Option<Derived>,
+    pub rows: Vec<Derived>,
+}
+
+fn has_no_terms(r: &Derived) -> bool
+    ensures { result ≡ not (has_terms r.now.row.terms) }
+{
+    let row = &r.row;
+    row.terms.is_empty()
+}
+
+impl Gathering {
+    /// Puts a row in.
+    pub fn put(&mut self, r: Derived) -> Result<(), AllocError>
+        ensures found { IfOk result (λ _. self.new.found ≡ found_after r self.old.found) }
+        ensures rows { IfOk result (λ _. self.new.rows.items ≡ rows_after r self.old.rows.items) }
+    {
+        if has_no_terms(&r) {
+            if self.found.is_none() && contradicts(&r) {
+                self.found = Some(r);
+            }
+        } else {
+            put_row(&mut self.rows, r)?;
+        }
+        Ok(())
+    }
+}

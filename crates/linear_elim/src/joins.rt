@@ -1,0 +1,247 @@
+//! Rows made of the first rows, and the join of two in which a variable vanishes.
+ghost use Rattle.std.specs.Prelude.{◌≡◌, ◌<◌, ◌^◌, ◌*◌, ◌/◌, ◌+ℤ◌, ◌*ℤ◌, ◌<ℤ◌, ◌||◌, ◌&&◌, ℕ, ℤ, pos, unsigned_abs, int_div, true, is_some, IfOk, IfSome, SomeIff, IsSome};
+ghost use Rattle.std.specs.List.{All};
+ghost use Rattle.linear_form.specs.Terms.{coefficient, is_narrow, is_wide};
+ghost use Rattle.linear_form.specs.Merging.{mixed_terms, are_wide, are_narrow};
+ghost use Rattle.linear_form.specs.Divisors.{divisor, divided_terms};
+ghost use Rattle.linear_form.specs.Row.{IsRow};
+ghost use Rattle.linear_elim.specs.Joins.{Derived as DerivedValue, IsDerived, is_negative, is_positive, join, join_fits, derived_parts, parts_fit, size};
+
+use linear_form::{Row, coefficient_of, divided, divisor_of, mixed, narrow_quotient};
+use std::alloc::{AllocError, Global};
+use std::marker::Model;
+
+/// A row that `over` times is a sum of the first rows, each as often as its share says. Shares are pairs of a row's index and
+/// its multiplier.
+#[derive(Drop, Debug)]
+pub struct Derived {
+    pub row: Row,
+    pub shares: Vec<(u32, i64)>,
+    pub over: u64,
+}
+
+impl Model for Derived {
+    ghost Value = { DerivedValue };
+
+    ghost view = { λ d. record { row = d.row; shares = d.shares.items; over = d.over } };
+}
+
+/// A row before it is brought to lowest terms.
+#[derive(Drop)]
+struct WideRow {
+    terms: Vec<(u32, i128)>,
+    rest: i128,
+    strict: bool,
+}
+
+/// The product of two numbers below 2^62.
+fn product(a: u64, b: u64) -> i128
+    requires left_narrow { a < 2 ^ 62 }
+    requires right_narrow { b < 2 ^ 62 }
+    ensures value { result ≡ pos (a * b) }
+    ensures small { a * b < 2 ^ 124 }
+    ensures positive { 0 < a → 0 < b → pos 0 <ℤ result }
+{
+    (a as i128) * (b as i128)
+}
+
+impl Derived {
+    /// The coefficient of x, without its sign.
+    fn size(&self, x: u32) -> u64
+        requires { IsDerived self.now }
+        ensures value { result ≡ size x self.now }
+        ensures narrow { result < 2 ^ 62 }
+    {
+        let row = &self.row;
+        coefficient_of(&row.terms, x).unsigned_abs()
+    }
+}
+
+impl WideRow {
+    /// The greatest number that divides the constant and each coefficient.
+    fn divisor(&self) -> u128
+        ensures value { result ≡ divisor self.now.terms.items (unsigned_abs self.now.rest) }
+        ensures positive { 0 < result }
+    {
+        divisor_of(&self.terms, self.rest.unsigned_abs())
+    }
+}
+
+/// The product of the two multiples and the divisor, or None where it reaches 2^126.
+fn wide_over(low: &Derived, up: &Derived, divisor: u128) -> Option<u128>
+    requires low_derived { IsDerived low.now }
+    requires up_derived { IsDerived up.now }
+    ensures { SomeIff result (low.now.over * up.now.over * divisor < 2 ^ 126) (low.now.over * up.now.over * divisor) }
+{
+    let first = product(low.over, up.over) as u128;
+    let whole = first.checked_mul(divisor)?;
+    if whole < 1 << 126 { Some(whole) } else { None }
+}
+
+/// p times a, both below 2^62.
+fn side(p: u64, a: i64) -> i128
+    requires left_narrow { p < 2 ^ 62 }
+    requires right_narrow { unsigned_abs a < 2 ^ 62 }
+    ensures value { result ≡ pos p *ℤ a }
+    ensures small { unsigned_abs (pos p *ℤ a) < 2 ^ 124 }
+{
+    (p as i128) * (a as i128)
+}
+
+/// p times a and q times b.
+fn mixed_rest(p: u64, a: i64, q: u64, b: i64) -> i128
+    requires p_narrow { p < 2 ^ 62 }
+    requires q_narrow { q < 2 ^ 62 }
+    requires a_narrow { unsigned_abs a < 2 ^ 62 }
+    requires b_narrow { unsigned_abs b < 2 ^ 62 }
+    ensures { result ≡ (pos p *ℤ a) +ℤ (pos q *ℤ b) }
+{
+    let left = side(p, a);
+    let right = side(q, b);
+    left + right
+}
+
+fn either(a: bool, b: bool) -> bool
+    ensures { result ≡ (a || b) }
+{
+    a || b
+}
+
+/// p times the terms of the first row and q times those of the second.
+fn mixed_row_terms(
+    alloc: Global,
+    p: u64,
+    a: &Row,
+    q: u64,
+    b: &Row,
+) -> Result<Option<Vec<(u32, i128)>>, AllocError>
+    requires p_positive { 0 < p }
+    requires q_positive { 0 < q }
+    requires p_narrow { p < 2 ^ 62 }
+    requires q_narrow { q < 2 ^ 62 }
+    requires left { IsRow a.now }
+    requires right { IsRow b.now }
+    ensures terms { IfOk result (λ o. IfSome o (λ ts. ts.items ≡ mixed_terms (pos p) a.now.terms (pos q) b.now.terms)) }
+    ensures some { IfOk result (λ o. is_some o ≡ true) }
+{
+    mixed(alloc, p as i128, &a.terms, q as i128, &b.terms)
+}
+
+/// p times the first row and q times the second.
+fn mixed_row(alloc: Global, p: u64, a: &Row, q: u64, b: &Row) -> Result<Option<WideRow>, AllocError>
+    requires p_positive { 0 < p }
+    requires q_positive { 0 < q }
+    requires p_narrow { p < 2 ^ 62 }
+    requires q_narrow { q < 2 ^ 62 }
+    requires left { IsRow a.now }
+    requires right { IsRow b.now }
+    ensures terms { IfOk result (λ o. IfSome o (λ w. w.terms.items ≡ mixed_terms (pos p) a.now.terms (pos q) b.now.terms)) }
+    ensures rest { IfOk result (λ o. IfSome o (λ w. w.rest ≡ (pos p *ℤ a.now.rest) +ℤ (pos q *ℤ b.now.rest))) }
+    ensures strict { IfOk result (λ o. IfSome o (λ w. w.strict ≡ (a.now.strict || b.now.strict))) }
+    ensures some { IfOk result (λ o. is_some o ≡ true) }
+{
+    let Some(terms) = mixed_row_terms(alloc, p, a, q, b)? else {
+        return Ok(None);
+    };
+    Ok(Some(WideRow {
+        terms,
+        rest: mixed_rest(p, a.rest, q, b.rest),
+        strict: either(a.strict, b.strict),
+    }))
+}
+
+/// The shares of a join, before they are brought to lowest terms; None where a product reaches 2^126.
+fn mixed_shares(
+    alloc: Global,
+    p: u64,
+    low: &Derived,
+    q: u64,
+    up: &Derived,
+) -> Result<Option<Vec<(u32, i128)>>, AllocError>
+    requires p_positive { 0 < p }
+    requires q_positive { 0 < q }
+    requires p_narrow { p < 2 ^ 62 }
+    requires q_narrow { q < 2 ^ 62 }
+    requires low_derived { IsDerived low.now }
+    requires up_derived { IsDerived up.now }
+    ensures shares { IfOk result (λ o. IfSome o (λ ms. ms.items ≡ mixed_terms (pos (p * up.now.over)) low.now.shares (pos (q * low.now.over)) up.now.shares)) }
+    ensures fits { IfOk result (λ o. is_some o ≡ (are_wide (pos (p * up.now.over)) low.now.shares && are_wide (pos (q * low.now.over)) up.now.shares)) }
+{
+    let left = product(p, up.over);
+    let right = product(q, low.over);
+    mixed(alloc, left, &low.shares, right, &up.shares)
+}
+
+/// A number below 2^62, or None.
+fn narrow_over(over: u128) -> Option<u64>
+    ensures { SomeIff result (over < 2 ^ 62) over }
+{
+    if over < 1 << 62 {
+        Some(over as u64)
+    } else {
+        None
+    }
+}
+
+/// The row divided, with its shares in lowest terms; None where a number of it reaches 2^62.
+fn lowered(
+    alloc: Global,
+    wide: &WideRow,
+    divisor: u128,
+    shares: &[(u32, i128)],
+    over: u128,
+) -> Result<Option<Derived>, AllocError>
+    requires positive { 0 < divisor }
+    ensures derived { IfOk result (λ o. IfSome o (λ d. d ≡ derived_parts wide.now.terms.items wide.now.rest wide.now.strict divisor shares.now over)) }
+    ensures fits { IfOk result (λ o. is_some o ≡ parts_fit (derived_parts wide.now.terms.items wide.now.rest wide.now.strict divisor shares.now over)) }
+{
+    let Some(terms) = divided(alloc, &wide.terms, divisor)? else {
+        return Ok(None);
+    };
+    let Some(rest) = narrow_quotient(wide.rest, divisor) else {
+        return Ok(None);
+    };
+    let common = divisor_of(shares, over);
+    let Some(shares) = divided(alloc, shares, common)? else {
+        return Ok(None);
+    };
+    let Some(over) = narrow_over(over / common) else {
+        return Ok(None);
+    };
+    let row = Row {
+        terms,
+        rest,
+        strict: wide.strict,
+    };
+    Ok(Some(Derived { row, shares, over }))
+}
+
+/// The join of a row with a negative coefficient of x and one with a positive coefficient. None where a product on the way
+/// reaches 2^126, or a number of the join 2^62.
+pub fn joined(
+    alloc: Global,
+    low: &Derived,
+    up: &Derived,
+    x: u32,
+) -> Result<Option<Derived>, AllocError>
+    requires low_derived { IsDerived low.now }
+    requires up_derived { IsDerived up.now }
+    requires lower { is_negative (coefficient x low.now.row.terms) ≡ true }
+    requires upper { is_positive (coefficient x up.now.row.terms) ≡ true }
+    ensures derived { IfOk result (λ o. IfSome o (λ d. d ≡ join x low.now up.now)) }
+    ensures fits { IfOk result (λ o. is_some o ≡ join_fits x low.now up.now) }
+{
+    let p = up.size(x);
+    let q = low.size(x);
+    let Some(wide) = mixed_row(alloc, p, &low.row, q, &up.row)? else {
+        return Ok(None);
+    };
+    let divisor = wide.divisor();
+    let Some(shares) = mixed_shares(alloc, p, low, q, up)? else {
+        return Ok(None);
+    };
+    let Some(over) = wide_over(low, up, divisor) else {
+        return Ok(None);
+    };
+    lowered(alloc, &wide, divisor, &shares, over)
+}

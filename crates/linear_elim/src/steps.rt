@@ -1,0 +1,146 @@
+//! One step of elimination.
+ghost use Rattle.std.specs.Prelude.{◌≡◌, ◌&&◌, [], true, IfOk, IfSome, is_some};
+ghost use Rattle.std.specs.List.{All};
+ghost use Rattle.linear_form.specs.Terms.{coefficient};
+ghost use Rattle.linear_elim.specs.Joins.{IsDerived, is_negative, is_positive};
+ghost use Rattle.linear_elim.specs.Steps.{lowers, uppers, kept, fits_each, pairs_fit, joins, pairs, eliminate_one, step_fits, contradiction, tidied};
+ghost use Rattle.linear_elim.specs.Elimination.{Step as StepValue, step_of, found_all, rows_all};
+
+use crate::gathering::Gathering;
+use crate::joins::{Derived, joined};
+use linear_form::coefficient_of;
+use std::alloc::{AllocError, Global};
+use std::marker::Model;
+
+/// A variable, and the rows that bound it from below and from above before its step.
+#[derive(Drop)]
+pub struct Step {
+    pub var: u32,
+    pub lows: Vec<Derived>,
+    pub ups: Vec<Derived>,
+}
+
+impl Model for Step {
+    ghost Value = { StepValue };
+
+    ghost view = { λ s. record { var = s.var; lows = s.lows.items; ups = s.ups.items } };
+}
+
+/// Puts in the joins of a row that bounds x from below with each row that bounds it from above. False where one of them
+/// doesn't fit.
+fn join_each(
+    alloc: Global,
+    x: u32,
+    low: &Derived,
+    ups: &[Derived],
+    out: &mut Gathering,
+) -> Result<bool, AllocError>
+    requires low_derived { IsDerived low.now }
+    requires ups_derived { All IsDerived ups.now }
+    requires lower { is_negative (coefficient x low.now.row.terms) ≡ true }
+    requires upper { All (λ u. is_positive (coefficient x u.row.terms) ≡ true) ups.now }
+    ensures fits { IfOk result (λ b. b ≡ fits_each x low.now ups.now) }
+    ensures found { IfOk result (λ b. b ≡ true → out.new.found ≡ found_all (joins x low.now ups.now) out.old.found) }
+    ensures rows { IfOk result (λ b. b ≡ true → out.new.rows.items ≡ rows_all (joins x low.now ups.now) out.old.rows.items) }
+{
+    for up in ups {
+        let Some(derived) = joined(alloc, low, up, x)? else {
+            return Ok(false);
+        };
+        out.put(derived)?;
+    }
+    Ok(true)
+}
+
+/// Puts in the joins of each row that bounds x from below with each that bounds it from above. False where one of them
+/// doesn't fit.
+fn join_all(
+    alloc: Global,
+    x: u32,
+    lows: &[Derived],
+    ups: &[Derived],
+    out: &mut Gathering,
+) -> Result<bool, AllocError>
+    requires lows_derived { All IsDerived lows.now }
+    requires ups_derived { All IsDerived ups.now }
+    requires lower { All (λ l. is_negative (coefficient x l.row.terms) ≡ true) lows.now }
+    requires upper { All (λ u. is_positive (coefficient x u.row.terms) ≡ true) ups.now }
+    ensures fits { IfOk result (λ b. b ≡ pairs_fit x lows.now ups.now) }
+    ensures found { IfOk result (λ b. b ≡ true → out.new.found ≡ found_all (pairs x lows.now ups.now) out.old.found) }
+    ensures rows { IfOk result (λ b. b ≡ true → out.new.rows.items ≡ rows_all (pairs x lows.now ups.now) out.old.rows.items) }
+{
+    for low in lows {
+        if !join_each(alloc, x, low, ups, out)? {
+            return Ok(false);
+        }
+    }
+    Ok(true)
+}
+
+/// The coefficient of x.
+fn coefficient_in(r: &Derived, x: u32) -> i64
+    requires { IsDerived r.now }
+    ensures { result ≡ coefficient x r.now.row.terms }
+{
+    let row = &r.row;
+    coefficient_of(&row.terms, x)
+}
+
+/// The rows that bound a variable from below and from above, and the others, gathered.
+#[derive(Drop)]
+struct Split {
+    lows: Vec<Derived>,
+    ups: Vec<Derived>,
+    rest: Gathering,
+}
+
+/// Splits rows by the sign of their coefficient of x.
+fn split_by(alloc: Global, rows: Vec<Derived>, x: u32) -> Result<Split, AllocError>
+    requires { All IsDerived rows.items }
+    ensures lows { IfOk result (λ p. p.lows.items ≡ lowers x rows.items) }
+    ensures ups { IfOk result (λ p. p.ups.items ≡ uppers x rows.items) }
+    ensures found { IfOk result (λ p. p.rest.found ≡ found_all (kept x rows.items) None) }
+    ensures rest { IfOk result (λ p. p.rest.rows.items ≡ rows_all (kept x rows.items) []) }
+{
+    let mut lows: Vec<Derived> = Vec::new(alloc);
+    let mut ups: Vec<Derived> = Vec::new(alloc);
+    let mut rest = Gathering {
+        found: None,
+        rows: Vec::new(alloc),
+    };
+    for r in rows {
+        let c = coefficient_in(&r, x);
+        if c < 0 {
+            lows.push(r)?;
+        } else if c > 0 {
+            ups.push(r)?;
+        } else {
+            rest.put(r)?;
+        }
+    }
+    Ok(Split { lows, ups, rest })
+}
+
+/// One step: the rows that bound x, and the rows after it. None where a join doesn't fit.
+pub fn eliminate_one(
+    alloc: Global,
+    rows: Vec<Derived>,
+    x: u32,
+) -> Result<Option<(Step, Gathering)>, AllocError>
+    requires { All IsDerived rows.items }
+    ensures fits { IfOk result (λ o. is_some o ≡ step_fits x rows.items) }
+    ensures step { IfOk result (λ o. IfSome o (λ p. p.0 ≡ step_of x rows.items)) }
+    ensures found { IfOk result (λ o. IfSome o (λ p. p.1.found ≡ contradiction (eliminate_one x rows.items))) }
+    ensures rows { IfOk result (λ o. IfSome o (λ p. p.1.rows.items ≡ tidied (eliminate_one x rows.items))) }
+{
+    let Split {
+        lows,
+        ups,
+        mut rest,
+    } = split_by(alloc, rows, x)?;
+    if join_all(alloc, x, &lows, &ups, &mut rest)? {
+        Ok(Some((Step { var: x, lows, ups }, rest)))
+    } else {
+        Ok(None)
+    }
+}
