@@ -18,3 +18,11 @@ mod MetClaims
 mod TightRows
 mod NonzeroClaims
 pub mod MetRows
+mod Runs
+mod PathEnds
+mod KeptValues
+mod Narrow
+mod KeptParts
+mod Products
+mod OperatorRuns
+mod Asks

@@ -20,3 +20,8 @@ pub mod PlainPaths
 pub mod Merging
 pub mod Divisors
 pub mod ClaimLaws
+pub mod Run
+pub mod Seen
+pub mod FitTerms
+pub mod Loops
+pub mod Operator

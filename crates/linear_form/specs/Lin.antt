@@ -2,7 +2,6 @@
 use Rattle.std.specs.Prelude.{◌≡◌, ℕ, ◌<◌, ◌==◌, ◌&&◌, ltb, pos, negsuc, Bool, true, false, List, [], ◌∷◌, if◌then◌else◌}
 use Rattle.heyvl_num.specs.Rational.{Rational, ratio, zeroʳ, oneʳ, ◌+ʳ◌, ◌*ʳ◌}
 use Rattle.heyvl_num.specs.Value.{is_zeroʳ}
-use Rattle.std.specs.List.{All}
 use Rattle.heylo_formula.specs.State.{Env, number_of}
 use Rattle.linear_form.specs.Terms.{is_narrow}
 
@@ -71,7 +70,12 @@ all_fit (t ∷ ts) = fits t.1 && all_fit ts
 unfoldable pub is_sized : Lin → Bool
 is_sized a = fits a.rest && all_fit a.terms
 
+-- Each variable's number is above m.
+abbrev pub IsAbove : ℕ → Terms → Type 0
+IsAbove m [] = Unit {0}
+IsAbove m (t ∷ ts) = (m < t.0) × IsAbove m ts
+
 -- The variables grow, and no coefficient is zero.
 abbrev pub IsNormal : Terms → Type 0
 IsNormal [] = Unit {0}
-IsNormal (t ∷ ts) = (is_zeroʳ t.1 ≡ false) × (All (λ u. t.0 < u.0) ts × IsNormal ts)
+IsNormal (t ∷ ts) = (is_zeroʳ t.1 ≡ false) × (IsAbove t.0 ts × IsNormal ts)

@@ -1,15 +1,24 @@
 //! Linear questions of a goal along a path, linear rows, the points that meet them, and their combinations.
 #![tactic(auto)]
 
+mod asking;
 mod claim_laws;
+mod cursor;
 mod goal_products;
 mod lin;
+mod linear_terms;
+mod multiples;
+mod numbers;
+mod operators;
 mod paths;
 mod question_laws;
 mod row;
 mod row_laws;
 mod terms;
+#[cfg(test)]
+mod tests;
 
+pub use asking::Ask;
 pub use claim_laws::{paths_claim_truths, paths_rows_are_met};
 pub use goal_products::nonlinear;
 pub use lin::Lin;

@@ -1,0 +1,80 @@
+-- Evaluation of the operators along a path.
+use Rattle.std.proofs.Common.{◌≡◌, ℕ, ◌+◌, List, [], ◌∷◌, refl, sym, ap, ◌∙◌, Bool, true, false, cond, drop}
+use Rattle.std.specs.Prelude.{Option, Some, None}
+use Rattle.linear_form.specs.Lin.{Lin, Terms, is_sized}
+use Rattle.linear_form.specs.Query.{Query, Atom, Taken, is_negative}
+use Rattle.linear_form.specs.Query.Query.{done, bits, ask}
+use Rattle.linear_form.specs.Questions as q
+use Rattle.linear_form.specs.Questions.{Linear}
+use Rattle.linear_form.specs.Operator.{has_no_terms}
+use Rattle.linear_form.specs.Run.{Outcome, run, turned}
+use Rattle.linear_form.specs.Run.Outcome.{value, decide}
+
+pub run_sized : (ps : List Taken) (a : Lin) (i : ℕ) → is_sized a ≡ true → run ps (q.sized (Some a)) i ≡ value (Some a) i
+unfolding run
+run_sized ps a i e = rw e
+
+pub run_large : (ps : List Taken) (a : Lin) (i : ℕ) → is_sized a ≡ false → run ps (q.sized (Some a)) i ≡ Outcome.bits
+unfolding run
+run_large ps a i e = rw e
+
+pub run_below_large : (ps : List Taken) (a : Lin) (strict : Bool) (i : ℕ) → is_sized a ≡ false → run ps (q.is_below a strict) i ≡ Outcome.bits
+unfolding run
+run_below_large ps a strict i e = rw e
+
+asked_known : (ts : Terms) (a : Lin) (strict : Bool) → has_no_terms ts ≡ true → q.asked ts a strict ≡ done (is_negative a.rest strict)
+asked_known [] a strict e = refl
+asked_known (t ∷ ts) a strict e = absurd (cc)
+
+asked_new : (ts : Terms) (a : Lin) (strict : Bool) → has_no_terms ts ≡ false → q.asked ts a strict ≡ ask (Atom.row a strict) (done true) (done false)
+asked_new [] a strict e = absurd (cc)
+asked_new (t ∷ ts) a strict e = refl
+
+pub run_below_known : (ps : List Taken) (a : Lin) (strict : Bool) (i : ℕ) → is_sized a ≡ true → has_no_terms a.terms ≡ true → run ps (q.is_below a strict) i ≡ value (is_negative a.rest strict) i
+unfolding run
+run_below_known ps a strict i e h = rw (e, asked_known a.terms a strict h)
+
+pub run_below_asked : (ps : List Taken) (a : Lin) (strict : Bool) (i : ℕ) → is_sized a ≡ true → has_no_terms a.terms ≡ false → run ps (q.is_below a strict) i ≡ turned (drop i ps) (Atom.row a strict) (value true (i + 1)) (value false (i + 1))
+unfolding run
+run_below_asked ps a strict i e h = rw (e, asked_new a.terms a strict h)
+
+-- ---- Where the first value is infinity
+
+pub sum_none : (ps : List Taken) (y : Linear) (i : ℕ) → run ps (q.sum None y) i ≡ value None i
+unfolding run
+sum_none ps (Some b) i = refl
+sum_none ps None i = refl
+
+pub difference_none : (ps : List Taken) (y : Linear) (i : ℕ) → run ps (q.difference None y) i ≡ value None i
+unfolding run
+difference_none ps y i = refl
+
+pub min_none : (ps : List Taken) (y : Linear) (i : ℕ) → run ps (q.min None y) i ≡ value y i
+unfolding run
+min_none ps (Some b) i = refl
+min_none ps None i = refl
+
+pub max_none : (ps : List Taken) (y : Linear) (i : ℕ) → run ps (q.max None y) i ≡ value None i
+unfolding run
+max_none ps (Some b) i = refl
+max_none ps None i = refl
+
+pub imply_none : (ps : List Taken) (y : Linear) (i : ℕ) → run ps (q.imply None y) i ≡ value y i
+unfolding run
+imply_none ps (Some b) i = refl
+imply_none ps None i = refl
+
+pub co_imply_none : (ps : List Taken) (y : Linear) (i : ℕ) → run ps (q.co_imply None y) i ≡ value q.zero i
+unfolding run
+co_imply_none ps (Some b) i = refl
+co_imply_none ps None i = refl
+
+pub less_none : (ps : List Taken) (y : Linear) (i : ℕ) → run ps (q.less None y) i ≡ value false i
+unfolding run
+less_none ps y i = refl
+
+pub finite_product_large : (ps : List Taken) (ts us : Terms) (a b : Lin) (i : ℕ) → has_no_terms ts ≡ false → has_no_terms us ≡ false → run ps (q.finite_product ts us a b) i ≡ Outcome.bits
+unfolding run
+finite_product_large ps [] us a b i e f = absurd (cc)
+finite_product_large ps (t ∷ ts) [] a b i e f = absurd (cc)
+finite_product_large ps (t ∷ ts) (u ∷ us) a b i e f = refl

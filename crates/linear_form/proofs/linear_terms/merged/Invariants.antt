@@ -1,0 +1,9 @@
+use Rattle.std.proofs.Common.{length}
+use Rattle.linear_form.specs.Loops.{IsMergedSoFar}
+use Rattle.linear_form.proofs.linear_terms.merged.Given as goal
+
+abbrev pub decreases-terms : goal.decreases-terms
+decreases-terms l = length l.rest
+
+abbrev pub invariant-terms : goal.invariant-terms
+invariant-terms l = IsMergedSoFar l.fn.from l.fn.into l.made.items l.rest

@@ -1,0 +1,24 @@
+-- What the loops over terms keep.
+use Rattle.std.specs.Prelude.{◌≡◌, ℕ, ◌++◌, true}
+use Rattle.heyvl_num.specs.Rational.{Rational}
+use Rattle.linear_form.specs.Lin.{Terms, all_fit, times, more, merged, IsNormal}
+use Rattle.linear_form.specs.FitTerms.{IsFitAt, AreFitAt}
+
+pub record IsTimesSoFar (w : Rational) (terms made rest : Terms) : Type 0 where
+  pub whole : times w terms ≡ made ++ times w rest
+  pub fits : all_fit rest ≡ true
+
+pub record IsMoreSoFar (x : ℕ) (c : Rational) (terms made rest : Terms) : Type 0 where
+  pub whole : more x c terms ≡ made ++ more x c rest
+  pub fits : IsFitAt x rest
+
+pub record IsMergedSoFar (us ts made rest : Terms) : Type 0 where
+  pub whole : merged us ts ≡ merged rest made
+  pub normal : IsNormal rest
+  pub rest_fits : all_fit rest ≡ true
+  pub made_fits : AreFitAt rest made
+
+pub record IsSmallSoFar (w : Rational) (terms made rest : Terms) : Type 0 where
+  pub whole : times w terms ≡ made ++ times w rest
+  pub fits : all_fit (times w terms) ≡ all_fit (times w rest)
+  pub rest_fits : all_fit rest ≡ true

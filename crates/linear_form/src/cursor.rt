@@ -1,0 +1,107 @@
+//! An evaluation along a path: where it stands, and why it stops.
+
+ghost use Rattle.std.specs.Prelude.{◌≡◌, ◌+◌, drop, take, Bool, true, false, Option, Some, if◌then◌else◌};
+ghost use Rattle.linear_form.specs.Query.{Atom as PlainAtom, known, known_by};
+ghost use Rattle.linear_form.specs.Query.Query.{ask, done};
+ghost use Rattle.linear_form.specs.Run.{run, turned, Outcome};
+ghost use Rattle.linear_form.specs.PlainPaths.{path_of, atom_of};
+ghost use Rattle.linear_form.specs.Seen.{Tells};
+
+use crate::lin::Lin;
+use crate::paths::{Atom, Taken};
+use std::alloc::AllocError;
+
+/// A linear value, or None for infinity, and the place where the path goes on.
+#[derive(Drop)]
+pub struct Found {
+    pub value: Option<Lin>,
+    pub next: usize,
+}
+
+/// Two values, and the place where the path goes on.
+#[derive(Drop)]
+pub struct Pair {
+    pub left: Option<Lin>,
+    pub right: Option<Lin>,
+    pub next: usize,
+}
+
+/// A truth value, and the place where the path goes on.
+#[derive(Clone, Copy)]
+pub struct Tested {
+    pub holds: bool,
+    pub next: usize,
+}
+
+/// Why an evaluation goes no further.
+#[derive(Drop)]
+pub enum Stop {
+    /// The path doesn't answer this question.
+    Decide(Atom),
+    /// A number reaches 2^62.
+    Bits,
+    Memory(AllocError),
+}
+
+impl From<AllocError> for Stop {
+    ghost use Rattle.linear_form.specs.declared.cursor.Stop.{Stop};
+
+    ghost from_gives = { λ e r. r ≡ Stop.Memory e };
+
+    fn from(e: AllocError) -> Stop {
+        Stop::Memory(e)
+    }
+}
+
+/// The answer of the path to a question, or the question.
+pub fn answered(atom: Atom, path: &[Taken], at: usize) -> Result<Tested, Stop>
+    ensures { Tells result (turned (drop at (path_of path.now)) (atom_of atom) (Outcome.value true (at + 1)) (Outcome.value false (at + 1))) }
+{
+    if at < path.len() {
+        Ok(Tested {
+            holds: path[at].held,
+            next: at + 1,
+        })
+    } else {
+        Err(Stop::Decide(atom))
+    }
+}
+
+/// Whether the question is the truth of this variable.
+fn asks_truth(atom: &Atom, x: u32) -> bool
+    ensures { (held : Bool) (other : Option Bool) → known_by x (atom_of atom.now) held other ≡ (if result then Some held else other) }
+{
+    match atom {
+        Atom::Truth(y) => x == *y,
+        Atom::Row(_, _) => false,
+    }
+}
+
+/// The truth of a Boolean variable that the first `count` answers of a path have decided.
+fn known_truth(x: u32, path: &[Taken], count: usize) -> Option<bool>
+    ensures { result ≡ known x (take count (path_of path.now)) }
+{
+    let mut rest = path;
+    let mut left = count;
+    'search: while let Some((taken, others)) = rest.split_first() {
+        if left == 0 {
+            return None;
+        }
+        if asks_truth(&taken.atom, x) {
+            return Some(taken.held);
+        }
+        rest = others;
+        left -= 1;
+    }
+    None
+}
+
+/// The truth of a Boolean variable: known where the path has decided it before this place, else asked.
+pub fn truth(x: u32, path: &[Taken], at: usize) -> Result<Tested, Stop>
+    ensures { Tells result (run (path_of path.now) (ask (PlainAtom.truth x) (done true) (done false)) at) }
+{
+    match known_truth(x, path, at) {
+        Some(holds) => Ok(Tested { holds, next: at }),
+        None => answered(Atom::Truth(x), path, at),
+    }
+}

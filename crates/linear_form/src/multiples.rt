@@ -1,0 +1,65 @@
+//! Multiples of linear values by any fraction, where they are below 2^62.
+
+ghost use Rattle.std.specs.Prelude.{◌≡◌, IfOk, MatchOption, true, false};
+ghost use Rattle.linear_form.specs.Run.{IsKept};
+ghost use Rattle.linear_form.specs.Lin.{all_fit, fits as number_fits, is_sized as lin_is_sized, scaled as lin_scaled, times as times_terms};
+ghost use Rattle.linear_form.specs.Operator.{small_product as product_of};
+ghost use Rattle.linear_form.specs.PlainPaths.{lin_of};
+
+use crate::lin::{Lin, constant};
+use crate::numbers::{fits, is_zero, zero};
+use heyvl_num::Frac;
+use std::alloc::{AllocError, Global};
+
+/// The product with a fraction below 2^62, where it is below 2^62 too. It is reduced crosswise before it is made, so that no
+/// product on the way is too large for what it stands for.
+fn small_product(w: &Frac, c: &Frac) -> Option<Frac>
+    requires { number_fits c.now ≡ true }
+    ensures { result ≡ product_of w.now c.now }
+{
+    if is_zero(c) {
+        return Some(zero());
+    }
+    let left = Frac::new(w.num(), c.den())?;
+    let right = Frac::new(c.num(), w.den())?;
+    let product = left.mul(&right)?;
+    if fits(&product) { Some(product) } else { None }
+}
+
+/// Each term times a number, where all coefficients are below 2^62.
+fn small_terms(
+    alloc: Global,
+    w: &Frac,
+    terms: &[(u32, Frac)],
+) -> Result<Option<Vec<(u32, Frac)>>, AllocError>
+    requires { all_fit terms.now ≡ true }
+    ensures { IfOk result (λ o. MatchOption o (all_fit (times_terms w.now terms.now) ≡ false) (λ v. (v.items ≡ times_terms w.now terms.now) × (all_fit (times_terms w.now terms.now) ≡ true))) }
+{
+    let mut made = Vec::new(alloc);
+    let mut rest = terms;
+    'terms: while let Some((term, others)) = rest.split_first() {
+        match small_product(w, &term.1) {
+            None => return Ok(None),
+            Some(c) => made.push((term.0, c))?,
+        }
+        rest = others;
+    }
+    Ok(Some(made))
+}
+
+/// The multiple of a linear value, where all of its numbers are below 2^62.
+pub(crate) fn small_multiple(alloc: Global, w: &Frac, a: &Lin) -> Result<Option<Lin>, AllocError>
+    requires { IsKept (lin_of a.now) }
+    ensures { IfOk result (λ o. MatchOption o (lin_is_sized (lin_scaled w.now (lin_of a.now)) ≡ false) (λ b. (lin_of b ≡ lin_scaled w.now (lin_of a.now)) × (lin_is_sized (lin_scaled w.now (lin_of a.now)) ≡ true))) }
+{
+    if is_zero(w) {
+        return Ok(Some(constant(alloc, zero())));
+    }
+    match small_product(w, &a.rest) {
+        None => Ok(None),
+        Some(rest) => match small_terms(alloc, w, &a.terms)? {
+            None => Ok(None),
+            Some(terms) => Ok(Some(Lin { terms, rest })),
+        },
+    }
+}

@@ -1,0 +1,75 @@
+//! Fractions below 2^62, whose sums and products are exact.
+
+ghost use Rattle.std.specs.Prelude.{◌≡◌, true};
+ghost use Rattle.heyvl_num.specs.Rational.{zeroʳ, oneʳ, ◌+ʳ◌, ◌*ʳ◌};
+ghost use Rattle.heyvl_num.specs.Value.{is_zeroʳ};
+ghost use Rattle.linear_form.specs.Terms.{is_narrow};
+ghost use Rattle.linear_form.specs.Lin.{minus_oneʳ, fits as number_fits};
+ghost use Rattle.linear_form.specs.Query.{is_negative as number_is_negative};
+
+use heyvl_num::Frac;
+
+/// 2^62, which the numbers of linear values and rows stay below.
+const BOUND: u128 = 4_611_686_018_427_387_904;
+
+pub(crate) fn zero() -> Frac
+    ensures { result ≡ zeroʳ }
+{
+    Frac::new(0, 1).unwrap()
+}
+
+pub(crate) fn one() -> Frac
+    ensures { result ≡ oneʳ }
+{
+    Frac::new(1, 1).unwrap()
+}
+
+pub(crate) fn minus_one() -> Frac
+    ensures { result ≡ minus_oneʳ }
+{
+    Frac::new(-1, 1).unwrap()
+}
+
+/// Whether the numerator and the denominator are below 2^62 in absolute value.
+#[tactic(auto, unfolding(crate::specs::Lin::fits))]
+pub(crate) fn fits(x: &Frac) -> bool
+    ensures { result ≡ number_fits x.now }
+{
+    is_below(x.num()) && is_below(x.den())
+}
+
+/// Whether the number is below 2^62 in absolute value.
+fn is_below(n: i128) -> bool
+    ensures { result ≡ is_narrow n }
+{
+    n.unsigned_abs() < BOUND
+}
+
+pub(crate) fn is_zero(x: &Frac) -> bool
+    ensures { result ≡ is_zeroʳ x.now }
+{
+    x.num() == 0
+}
+
+/// Whether the number is at most 0 or, where strict, below 0.
+pub(crate) fn is_negative(x: &Frac, strict: bool) -> bool
+    ensures { result ≡ number_is_negative x.now strict }
+{
+    if strict { x.num() < 0 } else { x.num() <= 0 }
+}
+
+pub(crate) fn sum(x: &Frac, y: &Frac) -> Frac
+    requires left { number_fits x.now ≡ true }
+    requires right { number_fits y.now ≡ true }
+    ensures { result ≡ x.now +ʳ y.now }
+{
+    x.add(y).unwrap()
+}
+
+pub(crate) fn product(x: &Frac, y: &Frac) -> Frac
+    requires left { number_fits x.now ≡ true }
+    requires right { number_fits y.now ≡ true }
+    ensures { result ≡ x.now *ʳ y.now }
+{
+    x.mul(y).unwrap()
+}

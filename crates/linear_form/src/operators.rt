@@ -1,0 +1,577 @@
+//! The operators on linear values and infinity: the questions that they ask, and their results.
+
+ghost use Rattle.std.specs.Prelude.{◌≡◌, List, Some, None, true, if◌then◌else◌};
+ghost use Rattle.linear_form.specs.Lin.{minus as lin_minus, scaled as lin_scaled};
+ghost use Rattle.heyvl_num.specs.Value.{is_zeroʳ};
+ghost use Rattle.linear_form.specs.Query.{Taken as PlainTaken};
+ghost use Rattle.linear_form.specs.Questions as tree;
+ghost use Rattle.linear_form.specs.Operator.{has_no_terms};
+ghost use Rattle.linear_form.specs.Run.{run, IsKept, IsKeptValue};
+ghost use Rattle.linear_form.specs.PlainPaths.{lin_of, linear_of, path_of};
+ghost use Rattle.linear_form.specs.Seen.{Gives, Tells};
+ghost use Rattle.heyvl_num.specs.Extended.{value_of};
+
+use crate::cursor::{Found, Stop, Tested, answered};
+use crate::lin::{Lin, constant, is_sized, minus, plus, scaled};
+use crate::multiples::small_multiple;
+use crate::numbers::{is_negative, is_zero, one, zero};
+use crate::paths::{Atom, Taken};
+use heyvl_num::{Ext, Frac};
+use std::alloc::Global;
+
+/// Whether a linear value holds no variable.
+fn is_constant(a: &Lin) -> bool
+    ensures { result ≡ has_no_terms (lin_of a.now).terms }
+{
+    a.terms.as_slice().split_first().is_none()
+}
+
+/// Whether a linear value is at most 0 or, where strict, below 0: known without variables, else asked.
+fn is_below(a: Lin, strict: bool, path: &[Taken], at: usize) -> Result<Tested, Stop>
+    ensures { Tells result (run (path_of path.now) (tree.is_below (lin_of a) strict) at) }
+{
+    if !is_sized(&a) {
+        Err(Stop::Bits)
+    } else if is_constant(&a) {
+        Ok(Tested {
+            holds: is_negative(&a.rest, strict),
+            next: at,
+        })
+    } else {
+        answered(Atom::Row(a, strict), path, at)
+    }
+}
+
+/// Whether the first value is at most the second or, where strict, below it.
+fn compare(
+    alloc: Global,
+    a: &Lin,
+    b: &Lin,
+    strict: bool,
+    path: &[Taken],
+    at: usize,
+) -> Result<Tested, Stop>
+    requires left { IsKept (lin_of a.now) }
+    requires right { IsKept (lin_of b.now) }
+    ensures { Tells result (run (path_of path.now) (tree.is_below (lin_minus (lin_of a.now) (lin_of b.now)) strict) at) }
+{
+    let difference = minus(alloc, a, b)?;
+    is_below(difference, strict, path, at)
+}
+
+/// A value that a node has.
+fn sized(value: Lin, at: usize) -> Result<Found, Stop>
+    ensures { (ps : List PlainTaken) → Gives result (run ps (tree.sized (Some (lin_of value))) at) }
+{
+    if is_sized(&value) {
+        Ok(Found {
+            value: Some(value),
+            next: at,
+        })
+    } else {
+        Err(Stop::Bits)
+    }
+}
+
+fn nothing(alloc: Global) -> Option<Lin>
+    ensures { linear_of result ≡ tree.zero }
+{
+    Some(constant(alloc, zero()))
+}
+
+fn unit(alloc: Global) -> Option<Lin>
+    ensures { linear_of result ≡ tree.one }
+{
+    Some(constant(alloc, one()))
+}
+
+/// 0 where a factor of infinity is at most 0, else infinity.
+fn zero_or_infinity(alloc: Global, a: Lin, path: &[Taken], at: usize) -> Result<Found, Stop>
+    ensures { Gives result (run (path_of path.now) (tree.infinite_product (lin_of a)) at) }
+{
+    let test = is_below(a, false, path, at)?;
+    if test.holds {
+        Ok(Found {
+            value: nothing(alloc),
+            next: test.next,
+        })
+    } else {
+        Ok(Found {
+            value: None,
+            next: test.next,
+        })
+    }
+}
+
+/// The product of two linear values, one of which is constant.
+fn finite_product(alloc: Global, a: &Lin, b: &Lin, path: &[Taken], at: usize) -> Result<Found, Stop>
+    requires left { IsKept (lin_of a.now) }
+    requires right { IsKept (lin_of b.now) }
+    ensures { Gives result (run (path_of path.now) (tree.finite_product (lin_of a.now).terms (lin_of b.now).terms (lin_of a.now) (lin_of b.now)) at) }
+{
+    if is_constant(a) {
+        let total = scaled(alloc, &a.rest, b)?;
+        sized(total, at)
+    } else if is_constant(b) {
+        let total = scaled(alloc, &b.rest, a)?;
+        sized(total, at)
+    } else {
+        Err(Stop::Bits)
+    }
+}
+
+#[tactic(auto, unfolding(crate::specs::Run::run))]
+pub(crate) fn sum(
+    alloc: Global,
+    a: Option<Lin>,
+    b: Option<Lin>,
+    path: &[Taken],
+    at: usize,
+) -> Result<Found, Stop>
+    requires left { IsKeptValue (linear_of a) }
+    requires right { IsKeptValue (linear_of b) }
+    ensures { Gives result (run (path_of path.now) (tree.sum (linear_of a) (linear_of b)) at) }
+{
+    match a {
+        None => Ok(Found {
+            value: None,
+            next: at,
+        }),
+        Some(x) => match b {
+            None => Ok(Found {
+                value: None,
+                next: at,
+            }),
+            Some(y) => {
+                let total = plus(alloc, &x, &y)?;
+                sized(total, at)
+            }
+        },
+    }
+}
+
+#[tactic(auto, unfolding(crate::specs::Run::run))]
+pub(crate) fn difference(
+    alloc: Global,
+    a: Option<Lin>,
+    b: Option<Lin>,
+    path: &[Taken],
+    at: usize,
+) -> Result<Found, Stop>
+    requires left { IsKeptValue (linear_of a) }
+    requires right { IsKeptValue (linear_of b) }
+    ensures { Gives result (run (path_of path.now) (tree.difference (linear_of a) (linear_of b)) at) }
+{
+    match a {
+        None => Ok(Found {
+            value: None,
+            next: at,
+        }),
+        Some(x) => match b {
+            None => Ok(Found {
+                value: nothing(alloc),
+                next: at,
+            }),
+            Some(y) => {
+                let left = minus(alloc, &x, &y)?;
+                sized(left, at)
+            }
+        },
+    }
+}
+
+#[tactic(auto, unfolding(crate::specs::Run::run))]
+pub(crate) fn cut(
+    alloc: Global,
+    a: Option<Lin>,
+    b: Option<Lin>,
+    path: &[Taken],
+    at: usize,
+) -> Result<Found, Stop>
+    requires left { IsKeptValue (linear_of a) }
+    requires right { IsKeptValue (linear_of b) }
+    ensures { Gives result (run (path_of path.now) (tree.cut (linear_of a) (linear_of b)) at) }
+{
+    match a {
+        None => match b {
+            None => Ok(Found {
+                value: nothing(alloc),
+                next: at,
+            }),
+            Some(_) => Ok(Found {
+                value: None,
+                next: at,
+            })
+        },
+        Some(x) => match b {
+            None => Ok(Found {
+                value: nothing(alloc),
+                next: at,
+            }),
+            Some(y) => {
+                let test = compare(alloc, &y, &x, false, path, at)?;
+                if test.holds {
+                    let left = minus(alloc, &x, &y)?;
+                    sized(left, test.next)
+                } else {
+                    Ok(Found {
+                        value: nothing(alloc),
+                        next: test.next,
+                    })
+                }
+            }
+        },
+    }
+}
+
+#[tactic(auto, unfolding(crate::specs::Run::run))]
+pub(crate) fn product(
+    alloc: Global,
+    a: Option<Lin>,
+    b: Option<Lin>,
+    path: &[Taken],
+    at: usize,
+) -> Result<Found, Stop>
+    requires left { IsKeptValue (linear_of a) }
+    requires right { IsKeptValue (linear_of b) }
+    ensures { Gives result (run (path_of path.now) (tree.product (linear_of a) (linear_of b)) at) }
+{
+    match a {
+        None => match b {
+            None => Ok(Found {
+                value: None,
+                next: at,
+            }),
+            Some(y) => zero_or_infinity(alloc, y, path, at)
+        },
+        Some(x) => match b {
+            None => zero_or_infinity(alloc, x, path, at),
+            Some(y) => { finite_product(alloc, &x, &y, path, at) }
+        },
+    }
+}
+
+pub(crate) fn min(
+    alloc: Global,
+    a: Option<Lin>,
+    b: Option<Lin>,
+    path: &[Taken],
+    at: usize,
+) -> Result<Found, Stop>
+    requires left { IsKeptValue (linear_of a) }
+    requires right { IsKeptValue (linear_of b) }
+    ensures { Gives result (run (path_of path.now) (tree.min (linear_of a) (linear_of b)) at) }
+{
+    match a {
+        None => Ok(Found { value: b, next: at }),
+        Some(x) => match b {
+            None => Ok(Found {
+                value: Some(x),
+                next: at,
+            }),
+            Some(y) => {
+                let test = compare(alloc, &x, &y, false, path, at)?;
+                if test.holds {
+                    Ok(Found {
+                        value: Some(x),
+                        next: test.next,
+                    })
+                } else {
+                    Ok(Found {
+                        value: Some(y),
+                        next: test.next,
+                    })
+                }
+            }
+        },
+    }
+}
+
+pub(crate) fn max(
+    alloc: Global,
+    a: Option<Lin>,
+    b: Option<Lin>,
+    path: &[Taken],
+    at: usize,
+) -> Result<Found, Stop>
+    requires left { IsKeptValue (linear_of a) }
+    requires right { IsKeptValue (linear_of b) }
+    ensures { Gives result (run (path_of path.now) (tree.max (linear_of a) (linear_of b)) at) }
+{
+    match a {
+        None => Ok(Found {
+            value: None,
+            next: at,
+        }),
+        Some(x) => match b {
+            None => Ok(Found {
+                value: None,
+                next: at,
+            }),
+            Some(y) => {
+                let test = compare(alloc, &x, &y, false, path, at)?;
+                if test.holds {
+                    Ok(Found {
+                        value: Some(y),
+                        next: test.next,
+                    })
+                } else {
+                    Ok(Found {
+                        value: Some(x),
+                        next: test.next,
+                    })
+                }
+            }
+        },
+    }
+}
+
+pub(crate) fn imply(
+    alloc: Global,
+    a: Option<Lin>,
+    b: Option<Lin>,
+    path: &[Taken],
+    at: usize,
+) -> Result<Found, Stop>
+    requires left { IsKeptValue (linear_of a) }
+    requires right { IsKeptValue (linear_of b) }
+    ensures { Gives result (run (path_of path.now) (tree.imply (linear_of a) (linear_of b)) at) }
+{
+    match a {
+        None => Ok(Found { value: b, next: at }),
+        Some(x) => match b {
+            None => Ok(Found {
+                value: None,
+                next: at,
+            }),
+            Some(y) => {
+                let test = compare(alloc, &x, &y, false, path, at)?;
+                if test.holds {
+                    Ok(Found {
+                        value: None,
+                        next: test.next,
+                    })
+                } else {
+                    Ok(Found {
+                        value: Some(y),
+                        next: test.next,
+                    })
+                }
+            }
+        },
+    }
+}
+
+pub(crate) fn co_imply(
+    alloc: Global,
+    a: Option<Lin>,
+    b: Option<Lin>,
+    path: &[Taken],
+    at: usize,
+) -> Result<Found, Stop>
+    requires left { IsKeptValue (linear_of a) }
+    requires right { IsKeptValue (linear_of b) }
+    ensures { Gives result (run (path_of path.now) (tree.co_imply (linear_of a) (linear_of b)) at) }
+{
+    match a {
+        None => Ok(Found {
+            value: nothing(alloc),
+            next: at,
+        }),
+        Some(x) => match b {
+            None => Ok(Found {
+                value: None,
+                next: at,
+            }),
+            Some(y) => {
+                let test = compare(alloc, &y, &x, false, path, at)?;
+                if test.holds {
+                    Ok(Found {
+                        value: nothing(alloc),
+                        next: test.next,
+                    })
+                } else {
+                    Ok(Found {
+                        value: Some(y),
+                        next: test.next,
+                    })
+                }
+            }
+        },
+    }
+}
+
+/// Infinity where a condition holds, else 0.
+pub(crate) fn embed(alloc: Global, holds: bool) -> Option<Lin>
+    ensures { linear_of result ≡ (if holds then None else tree.zero) }
+{
+    if holds { None } else { nothing(alloc) }
+}
+
+/// 1 where a condition holds, else 0.
+pub(crate) fn iverson(alloc: Global, holds: bool) -> Option<Lin>
+    ensures { linear_of result ≡ (if holds then tree.one else tree.zero) }
+{
+    if holds { unit(alloc) } else { nothing(alloc) }
+}
+
+/// Infinity where the value is infinity, else 0.
+pub(crate) fn validate(alloc: Global, a: Option<Lin>) -> Option<Lin>
+    ensures { linear_of result ≡ tree.validate (linear_of a) }
+{
+    match a {
+        None => None,
+        Some(_) => nothing(alloc),
+    }
+}
+
+/// 0 where the value is at most 0, else infinity.
+#[tactic(auto, unfolding(crate::specs::Run::run))]
+pub(crate) fn co_validate(
+    alloc: Global,
+    a: Option<Lin>,
+    path: &[Taken],
+    at: usize,
+) -> Result<Found, Stop>
+    ensures { Gives result (run (path_of path.now) (tree.co_validate (linear_of a)) at) }
+{
+    match a {
+        None => Ok(Found {
+            value: None,
+            next: at,
+        }),
+        Some(x) => zero_or_infinity(alloc, x, path, at),
+    }
+}
+
+/// A constant.
+#[tactic(auto, unfolding(crate::specs::Run::run))]
+pub(crate) fn number(alloc: Global, v: &Ext, at: usize) -> Result<Found, Stop>
+    ensures { (ps : List PlainTaken) → Gives result (run ps (tree.sized (tree.number (value_of v.now))) at) }
+{
+    match v {
+        Ext::Inf => Ok(Found {
+            value: None,
+            next: at,
+        }),
+        Ext::Fin(x) => sized(constant(alloc, *x), at),
+    }
+}
+
+/// A multiple of infinity; 0 times infinity is 0.
+fn infinite_multiple(alloc: Global, w: &Frac) -> Option<Lin>
+    ensures { linear_of result ≡ (if is_zeroʳ w.now then tree.zero else None) }
+{
+    if is_zero(w) { nothing(alloc) } else { None }
+}
+
+/// A multiple of a linear value.
+fn finite_multiple(alloc: Global, w: &Frac, a: &Lin, at: usize) -> Result<Found, Stop>
+    requires { IsKept (lin_of a.now) }
+    ensures { (ps : List PlainTaken) → Gives result (run ps (tree.sized (Some (lin_scaled w.now (lin_of a.now)))) at) }
+{
+    match small_multiple(alloc, w, a)? {
+        Some(total) => Ok(Found {
+            value: Some(total),
+            next: at,
+        }),
+        None => Err(Stop::Bits),
+    }
+}
+
+/// A multiple of a value.
+pub(crate) fn scale(alloc: Global, w: &Frac, a: Option<Lin>, at: usize) -> Result<Found, Stop>
+    requires { IsKeptValue (linear_of a) }
+    ensures { (ps : List PlainTaken) → Gives result (run ps (tree.scale w.now (linear_of a)) at) }
+{
+    match a {
+        None => Ok(Found {
+            value: infinite_multiple(alloc, w),
+            next: at,
+        }),
+        Some(x) => finite_multiple(alloc, w, &x, at),
+    }
+}
+
+/// Whether the first value is at most the second.
+#[tactic(auto, unfolding(crate::specs::Run::run))]
+pub(crate) fn at_most(
+    alloc: Global,
+    a: &Option<Lin>,
+    b: &Option<Lin>,
+    path: &[Taken],
+    at: usize,
+) -> Result<Tested, Stop>
+    requires left { IsKeptValue (linear_of a.now) }
+    requires right { IsKeptValue (linear_of b.now) }
+    ensures { Tells result (run (path_of path.now) (tree.at_most (linear_of a.now) (linear_of b.now)) at) }
+{
+    match a {
+        None => match b {
+            None => Ok(Tested {
+                holds: true,
+                next: at,
+            }),
+            Some(_) => Ok(Tested {
+                holds: false,
+                next: at,
+            }),
+        },
+        Some(x) => match b {
+            None => Ok(Tested {
+                holds: true,
+                next: at,
+            }),
+            Some(y) => compare(alloc, x, y, false, path, at),
+        },
+    }
+}
+
+/// Whether the first value is below the second.
+#[tactic(auto, unfolding(crate::specs::Run::run))]
+pub(crate) fn less(
+    alloc: Global,
+    a: &Option<Lin>,
+    b: &Option<Lin>,
+    path: &[Taken],
+    at: usize,
+) -> Result<Tested, Stop>
+    requires left { IsKeptValue (linear_of a.now) }
+    requires right { IsKeptValue (linear_of b.now) }
+    ensures { Tells result (run (path_of path.now) (tree.less (linear_of a.now) (linear_of b.now)) at) }
+{
+    match a {
+        None => Ok(Tested {
+            holds: false,
+            next: at,
+        }),
+        Some(x) => match b {
+            None => Ok(Tested {
+                holds: true,
+                next: at,
+            }),
+            Some(y) => compare(alloc, x, y, true, path, at),
+        },
+    }
+}
+
+/// Whether the values are equal: each at most the other.
+#[tactic(auto, unfolding(crate::specs::Run::run))]
+pub(crate) fn equal(
+    alloc: Global,
+    a: &Option<Lin>,
+    b: &Option<Lin>,
+    path: &[Taken],
+    at: usize,
+) -> Result<Tested, Stop>
+    requires left { IsKeptValue (linear_of a.now) }
+    requires right { IsKeptValue (linear_of b.now) }
+    ensures { Tells result (run (path_of path.now) (tree.equal (linear_of a.now) (linear_of b.now)) at) }
+{
+    let test = at_most(alloc, a, b, path, at)?;
+    if test.holds {
+        at_most(alloc, b, a, path, test.next)
+    } else {
+        Ok(test)
+    }
+}
