@@ -10,6 +10,14 @@ mod TypedValues
 mod EndValues
 mod EachResults
 mod ConstantForms
+pub mod Walking
+pub mod Mixing
+pub mod PathSteps
+pub mod AgreedEnds
+mod MetClaims
+mod TightRows
+mod NonzeroClaims
+pub mod MetRows
 mod Runs
 mod PathEnds
 mod KeptValues

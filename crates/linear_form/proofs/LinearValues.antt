@@ -24,10 +24,10 @@ same_order a b c d h = same_truth _ _ (λ e. (h.0 (record { holds = e })).holds)
 leq_at : (x y : Rational) → (x ≤ʳ zeroʳ +ʳ y) ↔ (x ≤ʳ y)
 leq_at x y = rw (zero-+ʳ y) ((λ h. h, λ h. h))
 
-leq_minus : (x y : Rational) → leqʳ (x -ʳ y) zeroʳ ≡ leqʳ x y
+pub leq_minus : (x y : Rational) → leqʳ (x -ʳ y) zeroʳ ≡ leqʳ x y
 leq_minus x y = same_order _ _ _ _ (minus_at_most x y zeroʳ) ∙ same_order _ _ _ _ (leq_at x y)
 
-leq_zero_minus : (x y : Rational) → leqʳ zeroʳ (x -ʳ y) ≡ leqʳ y x
+pub leq_zero_minus : (x y : Rational) → leqʳ zeroʳ (x -ʳ y) ≡ leqʳ y x
 leq_zero_minus x y = same_order _ _ _ _ (difference_nonnegative y x)
 
 minus_one_is : minus_oneʳ ≡ negʳ oneʳ

@@ -17,6 +17,9 @@ pub mod PathRows
 pub mod Cells
 pub mod QuestionLaws
 pub mod PlainPaths
+pub mod Merging
+pub mod Divisors
+pub mod ClaimLaws
 pub mod Run
 pub mod Seen
 pub mod FitTerms

@@ -2,6 +2,7 @@
 #![tactic(auto)]
 
 mod asking;
+mod claim_laws;
 mod cursor;
 mod goal_products;
 mod lin;
@@ -18,6 +19,7 @@ mod terms;
 mod tests;
 
 pub use asking::Ask;
+pub use claim_laws::{paths_claim_truths, paths_rows_are_met};
 pub use goal_products::nonlinear;
 pub use lin::Lin;
 pub use paths::{Atom, Taken};

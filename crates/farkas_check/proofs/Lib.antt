@@ -1,0 +1,5 @@
+pub mod Positions
+pub mod PartialSums
+pub mod Coefficients
+pub mod Acceptance
+pub mod Soundness

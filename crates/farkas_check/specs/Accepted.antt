@@ -1,0 +1,59 @@
+-- Which certificates are accepted, and at which node another one is refused first. This project's own; what is a contradiction
+-- goes back to Farkas.
+use Rattle.std.specs.Prelude.{◌≡◌, ℕ, List, [], Bool, true, false, Some, None, is_some, map}
+use Rattle.heyvl_syntax.specs.declared.spans.Span.{Span}
+use Rattle.heylo_formula.specs.Goals.{Goal}
+use Rattle.linear_form.specs.Query.{Query, Atom, Taken, onto}
+use Rattle.linear_form.specs.Query.Query.{ask}
+use Rattle.linear_form.specs.Questions.{Ends}
+use Rattle.linear_form.specs.Paths.{end_at}
+use Rattle.linear_form.specs.Row.{Row}
+use Rattle.linear_form.specs.Combination.{IsContradiction}
+use Rattle.linear_form.specs.PathRows.{rows_of, denial_at, IsPlainAt}
+use Rattle.linear_form.specs.Nonlinear.{nonlinear_product}
+use Rattle.farkas_check.specs.Trees.{Tree}
+
+-- The goal asks a question at the end of the path.
+pub record Asks (g : Goal) (ps : List Taken) (q : Atom) : Type 0 where
+  pub yes : Query Ends
+  pub no : Query Ends
+  pub question : end_at g ps ≡ ask q yes no
+
+-- The denied goal is among the rows at an end at which the goal doesn't hold plainly, and nowhere else.
+abbrev pub has_denied : Goal → List Taken → Bool
+has_denied g ps = is_some (denial_at g.upper (end_at g ps))
+
+-- The rows of the path exist, and the multipliers combine them to a contradiction.
+pub record IsRefuted (g : Goal) (ps : List Taken) (ms : List (ℕ × ℕ)) : Type 0 where
+  pub rows : List Row
+  pub exist : rows_of g ps (has_denied g ps) ≡ Some rows
+  pub contradiction : IsContradiction ms rows
+
+-- The tree is accepted at the end of a path.
+pub data IsAccepted (g : Goal) : List Taken → Tree → Type 0 where
+  split : (ps : List Taken) (q : Atom) (t u : Tree) → Asks g ps q → IsAccepted g (onto ps q true) t → IsAccepted g (onto ps q false) u → IsAccepted g ps (Tree.split t u)
+  farkas : (ps : List Taken) (ms : List (ℕ × ℕ)) → IsRefuted g ps ms → IsAccepted g ps (Tree.farkas ms)
+  plain : (ps : List Taken) → IsPlainAt g ps → IsAccepted g ps Tree.plain
+
+-- The answers of a path.
+abbrev pub answers : List Taken → List Bool
+answers ps = map (λ p. p.held) ps
+
+-- The tree is refused at the end of a path: the answers that lead to the first node, in the order of the text, that isn't
+-- what the goal asks for there.
+pub data IsRefused (g : Goal) : List Taken → Tree → List Bool → Type 0 where
+  no_question : (ps : List Taken) (t u : Tree) → ((q : Atom) → Asks g ps q → ⊥) → IsRefused g ps (Tree.split t u) (answers ps)
+  no_contradiction : (ps : List Taken) (ms : List (ℕ × ℕ)) → (IsRefuted g ps ms → ⊥) → IsRefused g ps (Tree.farkas ms) (answers ps)
+  not_plain : (ps : List Taken) → (IsPlainAt g ps → ⊥) → IsRefused g ps Tree.plain (answers ps)
+  first : (ps : List Taken) (q : Atom) (t u : Tree) (place : List Bool) → Asks g ps q → IsRefused g (onto ps q true) t place → IsRefused g ps (Tree.split t u) place
+  second : (ps : List Taken) (q : Atom) (t u : Tree) (place : List Bool) → Asks g ps q → IsAccepted g (onto ps q true) t → IsRefused g (onto ps q false) u place → IsRefused g ps (Tree.split t u) place
+
+-- The tree is a certificate of the goal. A goal with a product of two numeric parts has none.
+pub record IsCertificate (g : Goal) (t : Tree) : Type 0 where
+  pub linear : nonlinear_product g ≡ None
+  pub accepted : IsAccepted g [] t
+
+-- The tree is no certificate of the goal, and this is the first place at which it is refused.
+pub data IsNoCertificate (g : Goal) (t : Tree) : List Bool → Type 0 where
+  product : (span : Span) → nonlinear_product g ≡ Some span → IsNoCertificate g t []
+  at_node : (place : List Bool) → nonlinear_product g ≡ None → IsRefused g [] t place → IsNoCertificate g t place

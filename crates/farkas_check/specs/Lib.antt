@@ -1,0 +1,4 @@
+pub mod Columns
+pub mod Trees
+pub mod Accepted
+pub mod CertificateLaws

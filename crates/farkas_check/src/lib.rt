@@ -1,0 +1,12 @@
+//! The check of certificates: trees that show, question by question, that a goal holds.
+#![tactic(auto)]
+
+mod laws;
+mod multipliers;
+#[cfg(test)]
+mod tests;
+mod trees;
+
+pub use laws::{certificates_are_told_apart, certified_goals_hold};
+pub use multipliers::contradicts;
+pub use trees::{Checked, GoalCert, Tree};

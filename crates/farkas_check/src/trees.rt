@@ -1,0 +1,30 @@
+//! Certificates: trees of answered questions.
+
+use heylo_formula::GoalId;
+
+/// A certificate of a goal: each question of a path answered both ways, until no state goes on or the goal holds plainly.
+#[derive(Drop)]
+pub enum Tree {
+    /// The tree where the question's atom holds, and the tree where it fails.
+    Split(Box<Tree>, Box<Tree>),
+    /// Multipliers by row index, which combine the rows of the path to a contradiction.
+    Farkas(Vec<(u32, u64)>),
+    /// The goal holds here plainly.
+    Plain,
+}
+
+/// The certificate of a goal of a file: the procedure's number, which of its goals, and the tree.
+#[derive(Drop)]
+pub struct GoalCert {
+    pub proc: u32,
+    pub id: GoalId,
+    pub tree: Tree,
+}
+
+/// What the check of a tree gives: it is accepted, or the answers on the way to the first node, in the order of the text, at
+/// which it is refused.
+#[derive(Drop)]
+pub enum Checked {
+    Yes,
+    No(Vec<bool>),
+}

@@ -1,0 +1,40 @@
+-- What is proved of the claims of a path.
+use Rattle.std.specs.Prelude.{◌≡◌, List, [], ◌∷◌, Bool, true, pos, Some}
+use Rattle.heylo_formula.specs.Goals.{Goal, HoldsIn}
+use Rattle.heylo_formula.specs.State.{Env, IsTyped, environment, number_of}
+use Rattle.heylo_formula.specs.declared.values.Val.{Val}
+use Rattle.linear_form.specs.Lin.{at, Terms}
+use Rattle.linear_form.specs.Query.{Taken, is_negative}
+use Rattle.linear_form.specs.Paths.{IsPath, Agrees}
+use Rattle.linear_form.specs.TypedGoals.{IsTypedGoal}
+use Rattle.linear_form.specs.Tightening.{Claim}
+use Rattle.linear_form.specs.PathRows.{claims_of, rows_of}
+use Rattle.linear_form.specs.Row.{Row}
+use Rattle.linear_form.specs.Solutions.{MeetsAt}
+use Rattle.std.specs.List.{All}
+
+-- The claim holds in the state.
+pub record IsClaimed (s : Env) (k : Claim) : Type 0 where
+  pub claimed : is_negative (at k.left s) k.strict ≡ true
+
+abbrev pub AllClaimed : Env → List Claim → Type 0
+AllClaimed s [] = Unit {0}
+AllClaimed s (k ∷ ks) = IsClaimed s k × AllClaimed s ks
+
+-- No coefficient is 0.
+abbrev pub AreNonzero : Terms → Type 0
+AreNonzero [] = Unit {0}
+AreNonzero (t ∷ ts) = (t.1.num ≡ pos 0 → ⊥) × AreNonzero ts
+
+abbrev pub AllNonzero : List Claim → Type 0
+AllNonzero [] = Unit {0}
+AllNonzero (k ∷ ks) = AreNonzero k.left.terms × AllNonzero ks
+
+-- Each claim of a path holds in each state of the right types that agrees with the path and in which the goal fails.
+abbrev pub PathsClaimTruths : Type 0
+PathsClaimTruths = (g : Goal) (s : List Val) (ps : List Taken) (denied : Bool) → IsTypedGoal g → IsTyped g.types s → IsPath g ps → Agrees (environment s) ps → (HoldsIn g (environment s) → ⊥) → AllClaimed (environment s) (claims_of g ps denied)
+
+-- Each row of a path is met by each state of the right types that agrees with the path and in which the goal fails: the rows
+-- of its answers, those of the signs of unsigned variables, and where it is asked for the denied goal's.
+abbrev pub RowsAreMet : Type 0
+RowsAreMet = (g : Goal) (s : List Val) (ps : List Taken) (denied : Bool) (rows : List Row) → IsTypedGoal g → IsTyped g.types s → IsPath g ps → Agrees (environment s) ps → (HoldsIn g (environment s) → ⊥) → rows_of g ps denied ≡ Some rows → All (MeetsAt (λ x. number_of (environment s x))) rows
