@@ -26,5 +26,3 @@ mod KeptParts
 mod Products
 mod OperatorRuns
 mod Asks
-pub mod Walking
-pub mod Mixing

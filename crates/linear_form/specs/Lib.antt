@@ -25,5 +25,3 @@ pub mod Seen
 pub mod FitTerms
 pub mod Loops
 pub mod Operator
-pub mod Merging
-pub mod Divisors
