@@ -1,0 +1,4 @@
+pub mod Canonical
+pub mod Numbers
+pub mod Pieces
+pub mod WithoutPlaces

@@ -1,0 +1,22 @@
+//! Bytes that are put behind a text.
+
+ghost use Rattle.std.specs.Prelude.{◌++◌, ◌≡◌, OnOk, replicate};
+
+use std::alloc::AllocError;
+
+/// Puts the bytes behind the text.
+pub(crate) fn write(text: &mut Vec<u8>, bytes: &[u8]) -> Result<(), AllocError>
+    ensures { OnOk result (text.new.items ≡ text.old.items ++ bytes.now) }
+{
+    Ok(text.extend_from_slice(bytes)?)
+}
+
+/// Puts the byte behind the text, `count` times.
+pub(crate) fn write_repeated(text: &mut Vec<u8>, byte: u8, count: usize) -> Result<(), AllocError>
+    ensures { OnOk result (text.new.items ≡ text.old.items ++ replicate count byte) }
+{
+    for written in 0..count {
+        text.push(byte)?;
+    }
+    Ok(())
+}
