@@ -1,28 +1,41 @@
--- What the bytes of a file are, from what its tokens spell.
-use Rattle.std.proofs.Common.{ℕ, List, Result, Ok, Err, IfOk, subst}
-use Rattle.std.specs.declared.alloc.AllocError.{AllocError}
-use Rattle.heyvl_syntax.specs.Tokens.{Lexes, Stops}
+-- What is said of the bytes of a file, from what its tokens spell.
+use Rattle.heyvl_syntax.proofs.Unique.{lexes_unique}
+use Rattle.heyvl_syntax.specs.Procedures.{Procedure as SourceProcedure}
+use Rattle.heyvl_syntax.specs.SourceFaults.{IsSource, IsSourceFault}
+use Rattle.heyvl_syntax.specs.Tokens.{Lexes}
 use Rattle.heyvl_syntax.specs.declared.spans.Span.{Span}
 use Rattle.heyvl_syntax.specs.declared.tokens.Token.{Token}
-use Rattle.heyvl_syntax.proofs.Unique.{lexes_unique, lexes_no_stop}
-use Rattle.heyvl_tool.specs.Files.{IsFile, IsOtherFile}
+use Rattle.heyvl_tool.specs.Files.{IsOtherFile}
 use Rattle.heyvl_tool.specs.Grammar.{Spells}
 use Rattle.heyvl_tool.specs.Limits.{IsWithinLimits}
 use Rattle.heyvl_tool.specs.Procedure.{Procedure}
-use Rattle.heyvl_tool.specs.Replies.{IsReplyTo, IsVerdictOn}
-use Rattle.heyvl_tool.specs.Replies.IsReplyTo.{verified}
+use Rattle.heyvl_tool.specs.Replies.IsReplyTo.{sound, source}
+use Rattle.heyvl_tool.specs.Replies.IsVerifyReply.{verified}
+use Rattle.heyvl_tool.specs.Replies.{IsReplyTo, IsSourceReply, IsVerdictOn, IsVerifyReply, source_fault}
 use Rattle.heyvl_tool.specs.Responses.{reply_of}
 use Rattle.heyvl_tool.specs.declared.responses.Response.{Response}
+use Rattle.heyvl_tool.specs.declared.requests.Settings.{Settings}
+use Rattle.std.proofs.Common.{Err, IfOk, List, Ok, Result, subst, ◌≡◌, ℕ}
+use Rattle.std.specs.declared.alloc.AllocError.{AllocError}
 
--- Bytes with a fault are no file of the first form.
-pub other_by_fault : (bytes : List ℕ) (n : ℕ) (span : Span) → Stops 0 bytes n span → IsOtherFile bytes
-other_by_fault bytes n span stops p file = lexes_no_stop 0 bytes file.tokens n span file.lexes stops
-
--- Nor are those whose tokens spell no procedure.
+-- Bytes whose tokens spell no procedure of the first form are no file of it.
 pub other_by_tokens : (bytes : List ℕ) (ts : List Token) → Lexes 0 bytes ts → ((p : Procedure) → Spells ts p → IsWithinLimits p → ⊥) → IsOtherFile bytes
 other_by_tokens bytes ts lexes none p file = none p (subst (λ (us : List Token). Spells us p) (lexes_unique 0 bytes file.tokens ts file.lexes lexes) file.spells) file.within
 
 -- The verdict on the procedure of a file is what is said of the file.
-pub reply_by_verdict : (bytes : List ℕ) (p : Procedure) (r : Result Response AllocError) → IsFile bytes p → IfOk r (λ x. IsVerdictOn p (reply_of x)) → IfOk r (λ x. IsReplyTo bytes (reply_of x))
-reply_by_verdict bytes p (Ok x) file verdict = verified p file verdict
-reply_by_verdict bytes p (Err e) file verdict = tt
+pub reply_by_verdict : (tokens : List Token) (p : Procedure) (r : Result Response AllocError) → Spells tokens p → IsWithinLimits p → IfOk r (λ x. IsVerdictOn p (reply_of x))
+    → IfOk r (λ x. (bytes : List ℕ) → Lexes 0 bytes tokens → IsVerifyReply bytes (reply_of x))
+reply_by_verdict tokens p (Ok x) spells within verdict = λ bytes lexes. verified p (record { tokens = tokens; lexes = lexes; spells = spells; within = within }) verdict
+reply_by_verdict tokens p (Err e) spells within verdict = tt
+
+-- The line on a fault is what is said of a file with it.
+pub reply_by_fault : (settings : Settings) (bytes : List ℕ) (number : ℕ) (place : Span) (r : Result Response AllocError) → IsSourceFault bytes number place
+    → IfOk r (λ x. reply_of x ≡ source_fault bytes number place) → IfOk r (λ x. IsReplyTo settings bytes (reply_of x))
+reply_by_fault settings bytes number place (Ok x) fault said = source number place fault said
+reply_by_fault settings bytes number place (Err e) fault said = tt
+
+-- What is said of the file that the tokens spell is said of its bytes.
+pub reply_by_file : (settings : Settings) (bytes : List ℕ) (tokens : List Token) (file : List SourceProcedure) (r : Result Response AllocError) → IsSource bytes file → Lexes 0 bytes tokens
+    → IfOk r (λ x. (bs : List ℕ) → Lexes 0 bs tokens → IsSourceReply settings bs file (reply_of x)) → IfOk r (λ x. IsReplyTo settings bytes (reply_of x))
+reply_by_file settings bytes tokens file (Ok x) within lexes said = sound file within (said bytes lexes)
+reply_by_file settings bytes tokens file (Err e) within lexes said = tt

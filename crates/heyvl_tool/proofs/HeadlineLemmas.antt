@@ -12,10 +12,13 @@ use Rattle.heyvl_tool.specs.Meaning.{program}
 use Rattle.heyvl_tool.specs.Procedure.{Procedure}
 use Rattle.heyvl_tool.specs.Replies.{Call, HasCause, IsReplyTo, Reply}
 use Rattle.heyvl_tool.specs.Replies.HasCause.{by_words, by_source, by_length, by_bytes}
-use Rattle.heyvl_tool.specs.Replies.IsReplyTo.{verified, early}
+use Rattle.heyvl_tool.specs.Replies.IsReplyTo.{sound, source}
+use Rattle.heyvl_tool.specs.Replies.IsVerifyReply.{early, verified}
 use Rattle.heyvl_tool.specs.Verdict.{IsVerdict}
-use Rattle.heyvl_tool.specs.Words.{AsksToVerify}
-use Rattle.heyvl_tool.proofs.CallLemmas.{same_file}
+use Rattle.heyvl_tool.specs.Words.{AskFor, file_of}
+use Rattle.heyvl_tool.specs.declared.requests.Settings.TheVariants.{Verify}
+use Rattle.heyvl_tool.specs.declared.requests.Settings.{Settings}
+use Rattle.heyvl_tool.proofs.CallLemmas.{same_settings}
 use Rattle.heyvl_syntax.proofs.Unique.{lexes_unique}
 use Rattle.heyvl_tool.proofs.FileReading.{is_unique}
 
@@ -36,9 +39,10 @@ the_report answers a name e reported =
     let h : IsReportedVerified (a ∷ []) name = subst (λ (as' : List Answer). IsReportedVerified as' name) e reported in
     one_report a name h.0 h.1 h.2 h.3 h.4.1
 
-headline_of_bytes : (bytes : List ℕ) (reply : Reply) (answers : List Answer) → IsReplyTo bytes reply → answers ≡ reply.answers → IsHeadline bytes answers
-headline_of_bytes bytes reply answers (early other e) is p file reported = absurd (other p file)
-headline_of_bytes bytes reply answers (verified q found on) is p file reported =
+headline_of_bytes : (name bytes : List ℕ) (reply : Reply) (answers : List Answer) → IsReplyTo (Verify name) bytes reply → answers ≡ reply.answers → IsHeadline bytes answers
+headline_of_bytes name bytes reply answers (source number place fault e) is p file reported = absurd (no_report answers p.name (is ∙ ap (λ (r : Reply). r.answers) e) reported)
+headline_of_bytes name bytes reply answers (sound tree within (early other e)) is p file reported = absurd (other p file)
+headline_of_bytes name bytes reply answers (sound tree within (verified q found on)) is p file reported =
     let bounded : IsBounded (program q) = subst (λ (v : Verdict). IsVerdict (program q) v) (the_report answers on.answer p.name (is ∙ ap (λ (r : Reply). r.answers) on.is_reply) reported) on.verdict in
     subst (λ (o : Procedure). IsBounded (program o)) (one_file bytes q p found file) bounded
 
@@ -47,10 +51,12 @@ same_bytes held bytes read e h = subst (λ (o : Option (List ℕ)). IfSome o (λ
 
 -- Where a reply has its cause, its answers are the headline's.
 pub headline_of : (made : Call) (reply : Reply) (answers : List Answer) (file bytes : List ℕ) → HasCause made reply
-    → answers ≡ reply.answers → AsksToVerify made.words file → made.holds file ≡ Some bytes → IsHeadline bytes answers
-headline_of made reply answers file bytes (by_words usage e) is asks told p found reported = absurd (usage file asks)
+    → answers ≡ reply.answers → AskFor made.words (Verify file) → made.holds file ≡ Some bytes → IsHeadline bytes answers
+headline_of made reply answers file bytes (by_words usage e) is asks told p found reported = absurd (usage (Verify file) asks)
 headline_of made reply answers file bytes (by_source other asked rose taken e) is asks told p found reported = absurd (no_report answers p.name (is ∙ ap (λ (r : Reply). r.answers) e) reported)
 headline_of made reply answers file bytes (by_length other asked taken longer e) is asks told p found reported = absurd (no_report answers p.name (is ∙ ap (λ (r : Reply). r.answers) e) reported)
 headline_of made reply answers file bytes (by_bytes other asked read held taken within said) is asks told p found reported =
-    let held_here : IfSome (made.holds file) (λ h. read ≡ h) = subst (λ (f : List ℕ). IfSome (made.holds f) (λ h. read ≡ h)) (same_file made.words other file asked asks) held in
-    headline_of_bytes bytes reply answers (subst (λ (bs : List ℕ). IsReplyTo bs reply) (same_bytes _ bytes read told held_here) said) is p found reported
+    let same : other ≡ Verify file = same_settings made.words other (Verify file) asked asks in
+    let held_here : IfSome (made.holds file) (λ h. read ≡ h) = subst (λ (s : Settings). IfSome (made.holds (file_of s)) (λ h. read ≡ h)) same held in
+    let said_here : IsReplyTo (Verify file) read reply = subst (λ (s : Settings). IsReplyTo s read reply) same said in
+    headline_of_bytes file bytes reply answers (subst (λ (bs : List ℕ). IsReplyTo (Verify file) bs reply) (same_bytes _ bytes read told held_here) said_here) is p found reported

@@ -18,7 +18,10 @@ pub mod Room
 pub mod Verdict
 pub mod Report
 pub mod Words
+pub mod CommandLine
+pub mod FaultTexts
 pub mod Files
 pub mod Replies
+pub mod SourceUses
 pub mod Responses
 pub mod Headline

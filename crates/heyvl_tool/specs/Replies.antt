@@ -14,7 +14,14 @@ use Rattle.heyvl_tool.specs.Meaning.{program}
 use Rattle.heyvl_tool.specs.Procedure.{Procedure}
 use Rattle.heyvl_tool.specs.Report.{report_text}
 use Rattle.heyvl_tool.specs.Verdict.{IsVerdict}
-use Rattle.heyvl_tool.specs.Words.{AsksToVerify, IsUsage}
+use Rattle.heyvl_tool.specs.FaultTexts.{source_fault_line}
+use Rattle.heyvl_tool.specs.Words.{AskFor, IsUsage, file_of}
+use Rattle.heyvl_tool.specs.declared.requests.Settings.TheVariants as commands
+use Rattle.heyvl_tool.specs.declared.requests.Settings.{Settings}
+use Rattle.heyvl_print.specs.Canonical.{canonical_text}
+use Rattle.heyvl_syntax.specs.Procedures.{Procedure as SourceProcedure}
+use Rattle.heyvl_syntax.specs.SourceFaults.{IsSource, IsSourceFault}
+use Rattle.heyvl_syntax.specs.declared.spans.Span.{Span}
 
 -- The answer to a call, before it is written.
 pub record Reply : Type 0 where
@@ -43,7 +50,7 @@ abbrev pub message : Fault → List ℕ → Reply
 message fault text = record { fault = fault; answers = []; output = text }
 
 abbrev pub usage : Reply
-usage = message faults.Usage (codes "usage: caesar verify FILE\n")
+usage = message faults.Usage (codes "usage: caesar verify FILE | print FILE\n")
 
 abbrev pub read_fault : Reply
 read_fault = message (faults.Read 0) (codes "read fault\n")
@@ -61,22 +68,41 @@ pub record IsVerdictOn (procedure : Procedure) (reply : Reply) : Type 0 where
   pub verdict : IsVerdict (program procedure) answer.verdict
   pub is_reply : reply ≡ record { fault = faults.Nothing; answers = answer ∷ []; output = report_text (procedure ∷ []) (answer ∷ []) }
 
--- What is said of a file with these bytes.
-pub data IsReplyTo (bytes : List ℕ) (reply : Reply) : Type 0 where
-  verified : (procedure : Procedure) → IsFile bytes procedure → IsVerdictOn procedure reply → IsReplyTo bytes reply
-  early : IsOtherFile bytes → reply ≡ form_not_built_yet → IsReplyTo bytes reply
+-- The line on the first fault of a file, in place of answers.
+abbrev pub source_fault : List ℕ → ℕ → Span → Reply
+source_fault bytes number place = message (faults.Source number place) (source_fault_line bytes number place)
+
+-- The canonical text of a file, without answers.
+abbrev pub printed : List SourceProcedure → Reply
+printed file = record { fault = faults.Nothing; answers = []; output = canonical_text file }
+
+-- What `verify` says of the bytes of a file that has none of the faults 1 to 6: the verdict on a file of the first form, and of
+-- any other file that it can't be verified yet.
+pub data IsVerifyReply (bytes : List ℕ) (reply : Reply) : Type 0 where
+  verified : (procedure : Procedure) → IsFile bytes procedure → IsVerdictOn procedure reply → IsVerifyReply bytes reply
+  early : IsOtherFile bytes → reply ≡ form_not_built_yet → IsVerifyReply bytes reply
+
+-- What a command says of the bytes that spell a file and have none of the faults 1 to 6.
+abbrev pub IsSourceReply : Settings → List ℕ → List SourceProcedure → Reply → Type 0
+IsSourceReply (commands.Verify name) bytes file reply = IsVerifyReply bytes reply
+IsSourceReply (commands.Print name) bytes file reply = reply ≡ printed file
+
+-- What a command says of a file with these bytes: their first fault of 1 to 6, or else what it says of the file that they spell.
+pub data IsReplyTo (settings : Settings) (bytes : List ℕ) (reply : Reply) : Type 0 where
+  source : (number : ℕ) (place : Span) → IsSourceFault bytes number place → reply ≡ source_fault bytes number place → IsReplyTo settings bytes reply
+  sound : (file : List SourceProcedure) → IsSource bytes file → IsSourceReply settings bytes file reply → IsReplyTo settings bytes reply
 
 -- The reply has its cause: the words are no command; the source failed; the file is longer than the limit; or the whole
 -- file was read, and this is said of its bytes.
 pub data HasCause (made : Call) (reply : Reply) : Type 0 where
   by_words : IsUsage made.words → reply ≡ usage → HasCause made reply
-  by_source : (file : List ℕ) → AsksToVerify made.words file → Rose made.faults_before made.faults_after
+  by_source : (settings : Settings) → AskFor made.words settings → Rose made.faults_before made.faults_after
       → made.taken ≤ file_limit → reply ≡ read_fault → HasCause made reply
-  by_length : (file : List ℕ) → AsksToVerify made.words file → made.taken ≡ file_limit + 1
-      → IfSome (made.holds file) (λ held. file_limit < length held) → reply ≡ file_too_long → HasCause made reply
-  by_bytes : (file : List ℕ) → AsksToVerify made.words file → (bytes : List ℕ)
-      → IfSome (made.holds file) (λ held. bytes ≡ held) → made.taken ≡ length bytes → length bytes ≤ file_limit
-      → IsReplyTo bytes reply → HasCause made reply
+  by_length : (settings : Settings) → AskFor made.words settings → made.taken ≡ file_limit + 1
+      → IfSome (made.holds (file_of settings)) (λ held. file_limit < length held) → reply ≡ file_too_long → HasCause made reply
+  by_bytes : (settings : Settings) → AskFor made.words settings → (bytes : List ℕ)
+      → IfSome (made.holds (file_of settings)) (λ held. bytes ≡ held) → made.taken ≡ length bytes → length bytes ≤ file_limit
+      → IsReplyTo settings bytes reply → HasCause made reply
 
 abbrev pub is_refuted : Verdict → Bool
 is_refuted Verified = false
@@ -91,6 +117,7 @@ status_of faults.Nothing answers = cond (some_refuted answers) 1 0
 status_of faults.Usage answers = 4
 status_of (faults.Read n) answers = 5
 status_of (faults.TooLong n) answers = 3
+status_of (faults.Source number place) answers = 3
 status_of faults.Early answers = 3
 status_of faults.Write answers = 6
 status_of faults.Memory answers = 7

@@ -2,14 +2,19 @@
 #![tactic(auto)]
 
 mod answers;
+mod commands;
 mod constants;
 mod deciding;
 mod expectation;
+mod faults;
 mod first_form;
 mod numbering;
 mod outcomes;
 mod reading;
+#[cfg(test)]
+mod refusal_tests;
 mod reporting;
+mod requests;
 mod responses;
 #[cfg(test)]
 mod tests;
@@ -17,11 +22,13 @@ mod tool;
 mod words;
 
 pub use answers::{Answer, GoalId, Val, Verdict};
+pub use commands::settings;
 pub use deciding::decide;
 pub use first_form::{Constant, FirstForm, Stmt, first_form_is_source};
 pub use outcomes::{Fault, Outcome};
 pub use reading::{first_form_is_unique, read_first_form};
 pub use reporting::report;
+pub use requests::{Settings, SettingsStop};
 pub use responses::{Response, Text, respond};
 pub use tool::{FILE_LIMIT, run_tool};
-pub use words::file_to_verify;
+pub use words::Word;

@@ -1,6 +1,7 @@
 //! What a call of the tool comes to.
 
 use crate::Answer;
+use heyvl_syntax::Span;
 
 /// Why a call didn't do what its words ask for, or `Nothing`. A `u8` is the number of the file among the words, from 0.
 #[derive(Clone, Copy, Debug, PartialEq, Eq)]
@@ -13,6 +14,8 @@ pub enum Fault {
     Read(u8),
     /// The file has more than 1,048,576 bytes.
     TooLong(u8),
+    /// The file has the fault of this number, which stands there.
+    Source(u8, Span),
     /// The file isn't of a form that is verified so far.
     Early,
     /// The sink failed. It replaces every other fault.

@@ -1,13 +1,18 @@
 //! What is answered to a call, before it is written.
 
-ghost use Rattle.std.specs.Prelude.{◌≡◌, ◌<◌, ◌^◌, [], ◌∷◌, IfOk, length};
-ghost use Rattle.heyvl_tool.specs.Replies.{IsReplyTo, IsVerdictOn, form_not_built_yet, message};
-ghost use Rattle.heyvl_tool.specs.Responses.{reply_of, text_bytes};
+ghost use Rattle.heyvl_syntax.specs.Procedures.{procedures};
+ghost use Rattle.heyvl_syntax.specs.Tokens.{Lexes};
 ghost use Rattle.heyvl_tool.specs.Limits.{IsWithinLimits};
 ghost use Rattle.heyvl_tool.specs.Procedure.{procedure};
+ghost use Rattle.heyvl_tool.specs.Replies.{IsReplyTo, IsSourceReply, IsVerdictOn, IsVerifyReply, form_not_built_yet, message, printed, source_fault};
+ghost use Rattle.heyvl_tool.specs.Responses.{reply_of, text_bytes};
+ghost use Rattle.std.specs.Prelude.{IfOk, List, [], length, ◌<◌, ◌^◌, ◌∷◌, ◌≡◌, ◌≤◌, ℕ};
 
-use crate::{Answer, Fault, FirstForm, decide, read_first_form, report};
-use heyvl_syntax::{LexStop, Name, lex};
+use crate::faults::{source_fault_line, token_place};
+use crate::{Answer, Fault, FirstForm, Settings, decide, read_first_form, report};
+use heyvl_parse::{ParseStop, parse};
+use heyvl_print::print;
+use heyvl_syntax::{File, LexStop, Name, Span, Token, lex};
 use std::alloc::{AllocError, Global};
 
 /// What is written: a fixed text, or one that was made.
@@ -66,17 +71,11 @@ fn verify(alloc: Global, form: FirstForm) -> Result<Response, AllocError>
     })
 }
 
-/// What is said of a file with these bytes.
-pub fn respond(alloc: Global, bytes: &[u8]) -> Result<Response, AllocError>
-    requires { length bytes.now < 2 ^ 31 }
-    ensures { IfOk result (λ response. IsReplyTo bytes.now (reply_of response)) }
+/// What `verify` says of the bytes that have these tokens.
+fn verify_tokens(alloc: Global, tokens: &[Token]) -> Result<Response, AllocError>
+    ensures { IfOk result (λ response. (bytes : List ℕ) → Lexes 0 bytes tokens.now → IsVerifyReply bytes (reply_of response)) }
 {
-    let tokens = match lex(alloc, bytes) {
-        Ok(tokens) => tokens,
-        Err(LexStop::Fault(_, _)) => return Ok(not_built_yet(alloc)),
-        Err(LexStop::Memory(error)) => return Err(error),
-    };
-    match read_first_form(alloc, &tokens)? {
+    match read_first_form(alloc, tokens)? {
         Some(form) => verify(alloc, form),
         None => Ok(not_built_yet(alloc)),
     }
@@ -86,4 +85,67 @@ fn not_built_yet(alloc: Global) -> Response
     ensures { reply_of result ≡ form_not_built_yet }
 {
     refusal(alloc, Fault::Early, b"form not built yet\n")
+}
+
+fn print_file(alloc: Global, file: &File) -> Result<Response, AllocError>
+    ensures { IfOk result (λ response. reply_of response ≡ printed (procedures file.now)) }
+{
+    Ok(Response {
+        fault: Fault::Nothing,
+        answers: Vec::new(alloc),
+        text: Text::Made(print(alloc, file)?),
+    })
+}
+
+/// The line on a fault of a file with these bytes.
+fn source_fault(
+    alloc: Global,
+    bytes: &[u8],
+    number: u8,
+    place: Span,
+) -> Result<Response, AllocError>
+    requires inside { place.from ≤ length bytes.now }
+    requires short { length bytes.now < 2 ^ 31 }
+    ensures { IfOk result (λ response. reply_of response ≡ source_fault bytes.now number place) }
+{
+    Ok(Response {
+        fault: Fault::Source(number, place),
+        answers: Vec::new(alloc),
+        text: Text::Made(source_fault_line(alloc, bytes, number, place)?),
+    })
+}
+
+/// What a command says of a file that these tokens spell.
+fn respond_to_file(
+    alloc: Global,
+    settings: &Settings,
+    tokens: &[Token],
+    file: &File,
+) -> Result<Response, AllocError>
+    ensures { IfOk result (λ response. (bytes : List ℕ) → Lexes 0 bytes tokens.now → IsSourceReply settings.now bytes (procedures file.now) (reply_of response)) }
+{
+    match settings {
+        Settings::Verify(_) => verify_tokens(alloc, tokens),
+        Settings::Print(_) => print_file(alloc, file),
+    }
+}
+
+/// What a command says of a file with these bytes.
+pub fn respond(alloc: Global, settings: &Settings, bytes: &[u8]) -> Result<Response, AllocError>
+    requires { length bytes.now < 2 ^ 31 }
+    ensures { IfOk result (λ response. IsReplyTo settings.now bytes.now (reply_of response)) }
+{
+    let tokens = match lex(alloc, bytes) {
+        Ok(tokens) => tokens,
+        Err(LexStop::Fault(number, place)) => return source_fault(alloc, bytes, number, place),
+        Err(LexStop::Memory(error)) => return Err(error),
+    };
+    match parse(alloc, &tokens) {
+        Ok(file) => respond_to_file(alloc, settings, &tokens, &file),
+        Err(ParseStop::Fault(number, index)) => {
+            let place = token_place(bytes, &tokens, index);
+            source_fault(alloc, bytes, number, place)
+        }
+        Err(ParseStop::Memory(error)) => Err(error),
+    }
 }

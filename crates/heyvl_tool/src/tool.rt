@@ -1,14 +1,15 @@
 //! The top call.
 
-ghost use Rattle.std.specs.Prelude.{◌≡◌, ◌≢◌, ◌⊎◌, ◌≤◌, ◌+◌, List, ℕ, IfOk, IsOk, Some, map, string_bytes};
-ghost use Rattle.heyvl_io.specs.Order.{order_after};
 ghost use Rattle.heyvl_tool.specs.Headline.{IsHeadline};
-ghost use Rattle.heyvl_tool.specs.Replies.{HasCause, IsAnswered, IsDelivered, IsOutOfMemory, call, file_limit, is_refuted, some_refuted, status_of, writing};
+ghost use Rattle.heyvl_tool.specs.Replies.{HasCause, IsAnswered, IsDelivered, IsOutOfMemory, call, is_refuted, some_refuted, status_of, writing};
 ghost use Rattle.heyvl_tool.specs.Responses.{reply_of};
-ghost use Rattle.heyvl_tool.specs.Words.{AsksToVerify, IsUsage};
+ghost use Rattle.heyvl_tool.specs.SourceUses.{IsReadOnce, IsUntouched, use_of};
+ghost use Rattle.heyvl_tool.specs.Words.{AskFor, IsUsage, file_of};
+ghost use Rattle.heyvl_tool.specs.declared.requests.Settings.{Settings};
+ghost use Rattle.std.specs.Prelude.{IfOk, IsErr, List, Some, map, string_bytes, ◌≡◌, ◌≤◌, ◌⊎◌, ℕ};
 
 use crate::responses::refusal;
-use crate::{Answer, Fault, Outcome, Response, Verdict, file_to_verify, respond};
+use crate::{Answer, Fault, Outcome, Response, Settings, SettingsStop, Verdict, respond, settings};
 use heyvl_io::{ReadStop, Sink, Source, read_all, write_all};
 use std::alloc::{AllocError, Global};
 
@@ -16,7 +17,7 @@ use std::alloc::{AllocError, Global};
 pub const FILE_LIMIT: usize = 1_048_576;
 
 /// Does what the words ask for: `verify FILE` reads the file from the source, and writes the report of its answers to
-/// the sink.
+/// the sink; `print FILE` writes the canonical text of the file. A file with one of the faults 1 to 6 is refused by both.
 pub fn run_tool<F: Source, K: Sink>(
     alloc: Global,
     words: &Vec<String>,
@@ -28,17 +29,17 @@ pub fn run_tool<F: Source, K: Sink>(
         ⊎ IsOutOfMemory (writing (K.written sink.old) (K.written sink.new) (K.faults sink.old) (K.faults sink.new)) result }
 
     // What `verified` means, where the source tells what the file holds.
-    ensures verified { (file bytes : List ℕ) → AsksToVerify (map string_bytes words.now.items) file → F.holds source.old file ≡ Some bytes
+    ensures verified { (file bytes : List ℕ) → AskFor (map string_bytes words.now.items) (Settings.Verify file) → F.holds source.old file ≡ Some bytes
         → IsHeadline bytes result.answers.items }
 
-    // The answer to words that are no command takes no memory, and starts no name.
-    ensures usage { IsUsage (map string_bytes words.now.items) → result.fault ≢ Fault.Memory }
-    ensures no_start { IsUsage (map string_bytes words.now.items) → F.order source.new ≡ F.order source.old }
-
-    // Else the file of the words is started, once, and nothing else.
-    ensures start { (file : List ℕ) → AsksToVerify (map string_bytes words.now.items) file
-        → F.order source.new ≡ order_after (F.names source.old) file (F.order source.old) }
-    ensures taken { (file : List ℕ) → AsksToVerify (map string_bytes words.now.items) file → F.taken source.new ≤ file_limit + 1 }
+    // For words that are no command nothing is started. Else the file of the words is started, once, and nothing else, but
+    // where there was no memory for the words.
+    ensures no_start { IsUsage (map string_bytes words.now.items)
+        → IsUntouched (use_of (F.order source.old) (F.taken source.old)) (use_of (F.order source.new) (F.taken source.new)) }
+    ensures start { (settings : Settings) → AskFor (map string_bytes words.now.items) settings
+        → IsReadOnce (F.names source.old) (file_of settings) (use_of (F.order source.old) (F.taken source.old)) (use_of (F.order source.new) (F.taken source.new))
+        ⊎ ((result.fault ≡ Fault.Memory)
+        × IsUntouched (use_of (F.order source.old) (F.taken source.old)) (use_of (F.order source.new) (F.taken source.new))) }
     ensures source_names { F.names source.new ≡ F.names source.old }
     ensures source_holds { F.holds source.new ≡ F.holds source.old }
     ensures source_count { F.faults source.old ≤ F.faults source.new }
@@ -58,27 +59,48 @@ pub fn run_tool<F: Source, K: Sink>(
 /// The answer to a call, before it is written.
 fn response_to<F: Source>(
     alloc: Global,
-    words: &[String],
+    words: &Vec<String>,
     source: &mut F,
 ) -> Result<Response, AllocError>
-    ensures cause { IfOk result (λ response. HasCause (call (map string_bytes words.now) (F.holds source.old) (F.faults source.old) (F.faults source.new) (F.taken source.new)) (reply_of response)) }
-    ensures usage { IsUsage (map string_bytes words.now) → IsOk result }
-    ensures no_start { IsUsage (map string_bytes words.now) → F.order source.new ≡ F.order source.old }
-    ensures start { (file : List ℕ) → AsksToVerify (map string_bytes words.now) file
-        → F.order source.new ≡ order_after (F.names source.old) file (F.order source.old) }
-    ensures taken { (file : List ℕ) → AsksToVerify (map string_bytes words.now) file → F.taken source.new ≤ file_limit + 1 }
+    ensures cause { IfOk result (λ response. HasCause (call (map string_bytes words.now.items) (F.holds source.old) (F.faults source.old) (F.faults source.new) (F.taken source.new)) (reply_of response)) }
+    ensures no_start { IsUsage (map string_bytes words.now.items)
+        → IsUntouched (use_of (F.order source.old) (F.taken source.old)) (use_of (F.order source.new) (F.taken source.new)) }
+    ensures start { (settings : Settings) → AskFor (map string_bytes words.now.items) settings
+        → IsReadOnce (F.names source.old) (file_of settings) (use_of (F.order source.old) (F.taken source.old)) (use_of (F.order source.new) (F.taken source.new))
+        ⊎ (IsErr result × IsUntouched (use_of (F.order source.old) (F.taken source.old)) (use_of (F.order source.new) (F.taken source.new))) }
     ensures names { F.names source.new ≡ F.names source.old }
     ensures holds { F.holds source.new ≡ F.holds source.old }
     ensures count { F.faults source.old ≤ F.faults source.new }
 {
-    match file_to_verify(words) {
-        None => Ok(refusal(alloc, Fault::Usage, b"usage: caesar verify FILE\n")),
-        Some(file) => match read_all(alloc, source, file, FILE_LIMIT) {
-            Ok(bytes) => respond(alloc, &bytes),
-            Err(ReadStop::Failed) => Ok(refusal(alloc, Fault::Read(0), b"read fault\n")),
-            Err(ReadStop::TooLong) => Ok(refusal(alloc, Fault::TooLong(0), b"file too long\n")),
-            Err(ReadStop::Memory(error)) => Err(error),
-        },
+    match settings(alloc, words) {
+        Ok(settings) => answer_to(alloc, &settings, source),
+        Err(SettingsStop::Usage) => Ok(refusal(
+            alloc,
+            Fault::Usage,
+            b"usage: caesar verify FILE | print FILE\n",
+        )),
+        Err(SettingsStop::Memory(error)) => Err(error),
+    }
+}
+
+/// The answer to a command, before it is written.
+fn answer_to<F: Source>(
+    alloc: Global,
+    settings: &Settings,
+    source: &mut F,
+) -> Result<Response, AllocError>
+    ensures cause { IfOk result (λ response. (words : List (List ℕ)) → AskFor words settings.now
+        → HasCause (call words (F.holds source.old) (F.faults source.old) (F.faults source.new) (F.taken source.new)) (reply_of response)) }
+    ensures once { IsReadOnce (F.names source.old) (file_of settings.now) (use_of (F.order source.old) (F.taken source.old)) (use_of (F.order source.new) (F.taken source.new)) }
+    ensures names { F.names source.new ≡ F.names source.old }
+    ensures holds { F.holds source.new ≡ F.holds source.old }
+    ensures count { F.faults source.old ≤ F.faults source.new }
+{
+    match read_all(alloc, source, settings.file(), FILE_LIMIT) {
+        Ok(bytes) => respond(alloc, settings, &bytes),
+        Err(ReadStop::Failed) => Ok(refusal(alloc, Fault::Read(0), b"read fault\n")),
+        Err(ReadStop::TooLong) => Ok(refusal(alloc, Fault::TooLong(0), b"file too long\n")),
+        Err(ReadStop::Memory(error)) => Err(error),
     }
 }
 
@@ -121,7 +143,7 @@ fn status(fault: Fault, answers: &[Answer]) -> u8
 {
     match fault {
         Fault::Nothing => { if is_some_refuted(answers) { 1 } else { 0 } }
-        Fault::TooLong(_) | Fault::Early => 3,
+        Fault::TooLong(_) | Fault::Source(_, _) | Fault::Early => 3,
         Fault::Usage => 4,
         Fault::Read(_) => 5,
         Fault::Write => 6,

@@ -1,34 +1,36 @@
 //! The words of the command line.
 
-ghost use Rattle.std.specs.Prelude.{IfNone, IfSome, IsTrue, codes, map, string_bytes, ◌≡◌, ◌↔◌};
-ghost use Rattle.heyvl_tool.specs.Words.{AsksToVerify, IsFileWord, IsUsage};
+ghost use Rattle.std.specs.Prelude.{IfOk, List, string_bytes, ◌≡◌, ℕ};
 
-fn names_a_file(word: &str) -> bool
-    ensures { IsTrue result ↔ IsFileWord word.now }
-{
-    match word.as_bytes() {
-        [] => false,
-        [first, ..] => *first != b'-',
+use std::alloc::{AllocError, Global};
+use std::marker::Model;
+
+/// A word of the command line.
+#[derive(Drop)]
+pub struct Word {
+    text: String,
+}
+
+impl Model for Word {
+    ghost Value = { List ℕ };
+
+    ghost view = { λ word. string_bytes word.text };
+}
+
+impl Word {
+    /// The word that this text spells.
+    pub(crate) fn new(alloc: Global, text: &str) -> Result<Word, AllocError>
+        ensures { IfOk result (λ word. word ≡ text.now) }
+    {
+        Ok(Word {
+            text: String::from_str(alloc, text)?,
+        })
     }
-}
 
-fn is_verify(word: &str) -> bool
-    ensures { IsTrue result ↔ (word.now ≡ codes "verify") }
-{
-    word == "verify"
-}
-
-/// The file that the words ask to verify.
-pub fn file_to_verify(words: &[String]) -> Option<&str>
-    ensures asked { IfSome result (λ file. AsksToVerify (map string_bytes words.now) file.now) }
-    ensures usage { IfNone result (IsUsage (map string_bytes words.now)) }
-{
-    let (command, after_command) = words.split_first()?;
-    let (word, after_word) = after_command.split_first()?;
-    let file = word.as_str();
-    if after_word.is_empty() && is_verify(command.as_str()) && names_a_file(file) {
-        Some(file)
-    } else {
-        None
+    /// The text of the word.
+    pub fn as_str(&self) -> &str
+        ensures { result.now ≡ self.now }
+    {
+        self.text.as_str()
     }
 }

@@ -1,27 +1,52 @@
-use Rattle.std.proofs.Common.{List, subst, sym}
-use Rattle.heyvl_syntax.specs.Tokens.{Stops}
+use Rattle.heyvl_syntax.proofs.FaultPlaces.{fault_inside}
+use Rattle.heyvl_syntax.proofs.InOrder.{tokens_few}
+use Rattle.heyvl_syntax.specs.Procedures.{procedures}
+use Rattle.heyvl_syntax.specs.SourceFaults.{IsTokenFault, token_place}
+use Rattle.heyvl_syntax.specs.Tokens.{Lexes, Stops}
 use Rattle.heyvl_syntax.specs.declared.tokens.Token.{Token}
-use Rattle.heyvl_tool.specs.Grammar.{Spells}
-use Rattle.heyvl_tool.specs.Limits.{IsWithinLimits}
-use Rattle.heyvl_tool.specs.Procedure.{Procedure, procedure}
-use Rattle.heyvl_tool.specs.Replies.IsReplyTo.{early}
-use Rattle.heyvl_tool.proofs.FileLemmas.{other_by_fault, other_by_tokens, reply_by_verdict}
+use Rattle.heyvl_tool.proofs.FileLemmas.{reply_by_fault, reply_by_file}
 use Rattle.heyvl_tool.proofs.responses.respond.Goals as goal
+use Rattle.heyvl_tool.specs.Replies.{IsSourceReply}
+use Rattle.heyvl_tool.specs.Responses.{reply_of}
+use Rattle.std.proofs.Common.{IfOk, List, ap, arith, inl, inr, subst, ◌∙◌, ◌≡◌, ℕ}
+
+pub source_fault-requires-clause-inside : goal.source_fault-requires-clause-inside
+source_fault-requires-clause-inside c =
+    let stops : Stops 0 c.args.bytes.now c.in-Err-Fault.number c.in-Err-Fault.place = rw c.in-Err-Fault.field-0-is at c.in-Err-Fault.ensures.fault in
+    fault_inside c.args.bytes.now c.in-Err-Fault.number c.in-Err-Fault.place (inl stops)
 
 pub returns-in-Err-Fault : goal.returns-in-Err-Fault
 returns-in-Err-Fault c =
-    let stops : Stops 0 c.args.bytes.now c.in-Err-Fault.field-0-0 c.in-Err-Fault.field-0-1 = rw c.in-Err-Fault.field-0-is at c.in-Err-Fault.ensures.fault in
-    early (other_by_fault _ _ _ stops) c.not_built_yet.ensures
+    let stops : Stops 0 c.args.bytes.now c.in-Err-Fault.number c.in-Err-Fault.place = rw c.in-Err-Fault.field-0-is at c.in-Err-Fault.ensures.fault in
+    reply_by_fault c.args.settings.now c.args.bytes.now c.in-Err-Fault.number c.in-Err-Fault.place _ (inl stops) c.source_fault.ensures
 
-pub returns-in-Some : goal.returns-in-Some
-returns-in-Some c =
-    let found : Spells c.deref.result.now (procedure c.in-Some.form) × IsWithinLimits (procedure c.in-Some.form) = rw c.in-Some.is at c.in_ok-form.ensures.found in
-    let spells : Spells c.in-Ok.tokens.items (procedure c.in-Some.form) = subst (λ (ts : List Token). Spells ts (procedure c.in-Some.form)) c.deref.ensures.value found.0 in
-    reply_by_verdict _ _ _ (record { tokens = c.in-Ok.tokens.items; lexes = c.in-Ok.ensures.found; spells = spells; within = found.1 }) c.verify.ensures
+pub parse-requires : goal.parse-requires
+parse-requires c =
+    let few = tokens_few c.args.bytes.now c.in-Ok.tokens.items c.in-Ok.ensures.found in
+    rw c.deref.ensures.value (omega arith)
 
-pub returns : goal.returns
-returns c =
-    let none : (p : Procedure) → Spells c.deref.result.now p → IsWithinLimits p → ⊥ = rw c.in-None.is at c.in_ok-form.ensures.none in
-    early
-    (other_by_tokens _ _ c.in-Ok.ensures.found (λ p spells within. none p (subst (λ (ts : List Token). Spells ts p) (sym c.deref.ensures.value) spells) within))
-    c.not_built_yet-in-None.ensures
+pub returns-in-Ok-parse : goal.returns-in-Ok-parse
+returns-in-Ok-parse c =
+    let found = rw c.deref.ensures.value at c.in-Ok-parse.ensures.found in
+    let said =
+    subst (λ (ts : List Token). IfOk c.respond_to_file.result (λ x. (bs : List ℕ) → Lexes 0 bs ts → IsSourceReply c.args.settings.now bs (procedures c.in-Ok-parse.file) (reply_of x)))
+    c.deref-in-Ok-parse.ensures.value c.respond_to_file.ensures in
+    reply_by_file c.args.settings.now c.args.bytes.now c.in-Ok.tokens.items (procedures c.in-Ok-parse.file) _
+    (record { tokens = c.in-Ok.tokens.items; lexes = c.in-Ok.ensures.found; within = found.0; is_file = found.1 }) c.in-Ok.ensures.found said
+
+pub source_fault-requires-in-Err-Fault-parse-clause-inside : goal.source_fault-requires-in-Err-Fault-parse-clause-inside
+source_fault-requires-in-Err-Fault-parse-clause-inside c =
+    let stop : IsTokenFault c.deref.result.now c.in-Err-Fault-parse.number c.in-Err-Fault-parse.index = rw c.in-Err-Fault-parse.field-0-is at c.in-Err-Fault-parse.ensures.fault in
+    let fault : IsTokenFault c.in-Ok.tokens.items c.in-Err-Fault-parse.number c.in-Err-Fault-parse.index = subst (λ (ts : List Token). IsTokenFault ts c.in-Err-Fault-parse.number c.in-Err-Fault-parse.index) c.deref.ensures.value stop in
+    let place : c.token_place-place.result ≡ token_place c.args.bytes.now c.in-Ok.tokens.items c.in-Err-Fault-parse.index =
+    c.token_place-place.ensures ∙ ap (λ (ts : List Token). token_place c.args.bytes.now ts c.in-Err-Fault-parse.index) c.deref-in-Err-Fault-parse.ensures.value in
+    fault_inside c.args.bytes.now c.in-Err-Fault-parse.number c.token_place-place.result (inr (c.in-Ok.tokens.items, c.in-Err-Fault-parse.index, c.in-Ok.ensures.found, fault, place))
+
+pub returns-in-Err-Fault-parse : goal.returns-in-Err-Fault-parse
+returns-in-Err-Fault-parse c =
+    let stop : IsTokenFault c.deref.result.now c.in-Err-Fault-parse.number c.in-Err-Fault-parse.index = rw c.in-Err-Fault-parse.field-0-is at c.in-Err-Fault-parse.ensures.fault in
+    let fault : IsTokenFault c.in-Ok.tokens.items c.in-Err-Fault-parse.number c.in-Err-Fault-parse.index = subst (λ (ts : List Token). IsTokenFault ts c.in-Err-Fault-parse.number c.in-Err-Fault-parse.index) c.deref.ensures.value stop in
+    let place : c.token_place-place.result ≡ token_place c.args.bytes.now c.in-Ok.tokens.items c.in-Err-Fault-parse.index =
+    c.token_place-place.ensures ∙ ap (λ (ts : List Token). token_place c.args.bytes.now ts c.in-Err-Fault-parse.index) c.deref-in-Err-Fault-parse.ensures.value in
+    reply_by_fault c.args.settings.now c.args.bytes.now c.in-Err-Fault-parse.number c.token_place-place.result _
+    (inr (c.in-Ok.tokens.items, c.in-Err-Fault-parse.index, c.in-Ok.ensures.found, fault, place)) c.source_fault-in-Err-Fault-parse.ensures
