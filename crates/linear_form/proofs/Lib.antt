@@ -16,6 +16,8 @@ pub mod PathSteps
 pub mod AgreedEnds
 mod MetClaims
 mod TightRows
+mod Factors
+mod RowParts
 mod NonzeroClaims
 pub mod MetRows
 mod Runs

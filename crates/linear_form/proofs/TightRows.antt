@@ -30,19 +30,19 @@ use Rattle.linear_form.specs.Row.{Row}
 use Rattle.std.specs.List.{All}
 use Rattle.std.proofs.lemmas.List.Elements.{All-nil, All-cons}
 use Rattle.linear_form.proofs.TypedValues.{IsTypedEnv}
-use Rattle.linear_form.specs.Tightening.{Claim, sign_of, rounded, are_whole, is_whole_type, tight_row, tightened, all_narrow, constant_fits, common_multiple, common_divisor, factor, whole_terms}
+use Rattle.linear_form.specs.Tightening.{Claim, sign_of, rounded, are_whole, is_whole_type, tight_row, tightened, all_narrow, constant_fits, common_multiple, common_divisor, factor, whole_terms, AreWholeTimes}
 
 -- ---- Whole numbers among the fractions
 
-whole_back : (x : Rational) → x.den ≡ 1 → whole x.num ≡ x
+pub whole_back : (x : Rational) → x.den ≡ 1 → whole x.num ≡ x
 unfolding whole
 whole_back x e = ap (λ d. ratio x.num d) (sym e) ∙ ratio_parts x
 
-whole_den : (k : ℤ) → (whole k).den ≡ 1
+pub whole_den : (k : ℤ) → (whole k).den ≡ 1
 unfolding whole
 whole_den k = ratio_den k 1 (lit< tt) ∙ eq-one_of_dvd-one (subst (λ n. (1 / gcd (unsigned_abs k) 1) ∣ n) (quotient_den (unsigned_abs k) 1) (dvd-mul_right (1 / gcd (unsigned_abs k) 1) (gcd (unsigned_abs k) 1)))
 
-whole-* : (a b : ℤ) → whole a *ʳ whole b ≡ whole (a *ℤ b)
+pub whole-* : (a b : ℤ) → whole a *ʳ whole b ≡ whole (a *ℤ b)
 unfolding whole
 whole-* a b = ratio-* a 1 b 1 (lit< tt) (lit< tt)
 
@@ -102,30 +102,25 @@ positive-* v w p q = record {
 
 -- ---- The factor makes the coefficients whole
 
--- Times the factor, each coefficient is whole.
-abbrev pub AreWholeTimes : Rational → Terms → Type 0
-AreWholeTimes w [] = Unit {0}
-AreWholeTimes w (t ∷ ts) = ((w *ʳ t.1).den ≡ 1) × AreWholeTimes w ts
-
-lcm_left : (d m : ℕ) → 0 < m → d * m / gcd d m ≡ d * (m / gcd d m)
+pub lcm_left : (d m : ℕ) → 0 < m → d * m / gcd d m ≡ d * (m / gcd d m)
 lcm_left d m p = ap (λ n. n / gcd d m) (split d (m / gcd d m) (gcd d m) m (quotient_den d m)) ∙ mul-div_cancel (d * (m / gcd d m)) (pos_of_dvd_of_pos (gcd-is d m).1 p)
   where
     split : (d q g m : ℕ) → q * g ≡ m → d * m ≡ d * q * g
     split d q g m e = rw (← e) (omega arith)
 
-lcm_right : (d m : ℕ) → 0 < m → d * m / gcd d m ≡ d / gcd d m * m
+pub lcm_right : (d m : ℕ) → 0 < m → d * m / gcd d m ≡ d / gcd d m * m
 lcm_right d m p = ap (λ n. n / gcd d m) (split (d / gcd d m) m (gcd d m) d (quotient_num d m)) ∙ mul-div_cancel (d / gcd d m * m) (pos_of_dvd_of_pos (gcd-is d m).1 p)
   where
     split : (q m g d : ℕ) → q * g ≡ d → d * m ≡ q * m * g
     split q m g d e = rw (← e) (omega arith)
 
-multiple_positive : (ts : Terms) → 0 < common_multiple ts
+pub multiple_positive : (ts : Terms) → 0 < common_multiple ts
 unfolding common_multiple
 multiple_positive [] = lit< tt
 multiple_positive (t ∷ ts) = let p = multiple_positive ts in subst (λ n. 0 < n) (sym (lcm_left t.1.den (common_multiple ts) p)) (mul-pos t.1.positive (quotient_den-pos t.1.den (common_multiple ts) p))
 
 -- Each denominator divides a number.
-abbrev Denominators : ℕ → Terms → Type 0
+abbrev pub Denominators : ℕ → Terms → Type 0
 Denominators m [] = Unit {0}
 Denominators m (t ∷ ts) = (t.1.den ∣ m) × Denominators m ts
 
@@ -133,7 +128,7 @@ denominators_further : (m n : ℕ) (ts : Terms) → m ∣ n → Denominators m t
 denominators_further m n [] h k = tt
 denominators_further m n (t ∷ ts) h k = (dvd_trans t.1.den k.0 h, denominators_further m n ts h k.1)
 
-common_denominators : (ts : Terms) → Denominators (common_multiple ts) ts
+pub common_denominators : (ts : Terms) → Denominators (common_multiple ts) ts
 unfolding common_multiple
 common_denominators [] = tt
 common_denominators (t ∷ ts) = let p = multiple_positive ts in (
@@ -162,12 +157,12 @@ quotient_positive d m p h = go (m / d) (div-mul_cancel d h)
     go zero e = absurd (let z : 0 * d ≡ 0 = omega arith in omega (arith, e, z))
     go (suc q) e = zero-lt-suc q
 
-abs_positive : (z : ℤ) → (z ≡ pos 0 → ⊥) → 0 < unsigned_abs z
+pub abs_positive : (z : ℤ) → (z ≡ pos 0 → ⊥) → 0 < unsigned_abs z
 abs_positive (pos zero) n = absurd (n refl)
 abs_positive (pos (suc k)) n = zero-lt-suc k
 abs_positive (negsuc k) n = zero-lt-suc k
 
-divisor_positive : (m : ℕ) (t : ℕ × Rational) (ts : Terms) → 0 < m → (t.1.num ≡ pos 0 → ⊥) → t.1.den ∣ m → 0 < common_divisor m (t ∷ ts)
+pub divisor_positive : (m : ℕ) (t : ℕ × Rational) (ts : Terms) → 0 < m → (t.1.num ≡ pos 0 → ⊥) → t.1.den ∣ m → 0 < common_divisor m (t ∷ ts)
 unfolding common_divisor
 divisor_positive m t ts p n h = pos_of_dvd_of_pos (gcd-is (unsigned_abs t.1.num * (m / t.1.den)) (common_divisor m ts)).0 (mul-pos (abs_positive t.1.num n) (quotient_positive t.1.den m p h))
 
@@ -190,11 +185,11 @@ each_whole : (m d : ℕ) (ts : Terms) → 0 < d → Denominators m ts → Divide
 each_whole m d [] p h k = tt
 each_whole m d (t ∷ ts) p h k = (subst (λ (x : Rational). (ratio (pos m) d *ʳ x).den ≡ 1) (ratio_parts t.1) (whole_times m d t.1.num t.1.den p t.1.positive h.0 k.0), each_whole m d ts p h.1 k.1)
 
-factor_positive : (t : ℕ × Rational) (ts : Terms) → AreNonzero (t ∷ ts) → IsPositive (factor (t ∷ ts))
+pub factor_positive : (t : ℕ × Rational) (ts : Terms) → AreNonzero (t ∷ ts) → IsPositive (factor (t ∷ ts))
 unfolding factor
 factor_positive t ts n = positive_ratio _ _ (multiple_positive (t ∷ ts)) (divisor_positive (common_multiple (t ∷ ts)) t ts (multiple_positive (t ∷ ts)) n.0 (common_denominators (t ∷ ts)).0)
 
-factor_whole : (t : ℕ × Rational) (ts : Terms) → AreNonzero (t ∷ ts) → AreWholeTimes (factor (t ∷ ts)) (t ∷ ts)
+pub factor_whole : (t : ℕ × Rational) (ts : Terms) → AreNonzero (t ∷ ts) → AreWholeTimes (factor (t ∷ ts)) (t ∷ ts)
 unfolding factor
 factor_whole t ts n = each_whole _ _ (t ∷ ts) (divisor_positive (common_multiple (t ∷ ts)) t ts (multiple_positive (t ∷ ts)) n.0 (common_denominators (t ∷ ts)).0) (common_denominators (t ∷ ts)) (common_divided (common_multiple (t ∷ ts)) (t ∷ ts))
 
@@ -213,7 +208,7 @@ value_scaled w ts c s h = ap (λ a. a +ʳ (w *ʳ c)) (sum_scaled w ts s h) ∙ s
 
 -- ---- With a UReal: the whole row is brought to whole numbers
 
-product_whole : (n : ℕ) (k : ℤ) → ratio (pos n) 1 *ʳ whole k ≡ whole (pos n *ℤ k)
+pub product_whole : (n : ℕ) (k : ℤ) → ratio (pos n) 1 *ʳ whole k ≡ whole (pos n *ℤ k)
 unfolding whole
 product_whole n k = whole-* (pos n) k
 
@@ -221,7 +216,7 @@ further_whole : (n : ℕ) (w : Rational) (ts : Terms) → AreWholeTimes w ts →
 further_whole n w [] h = tt
 further_whole n w (t ∷ ts) h = (ap (λ (x : Rational). x.den) (*ʳ_assoc (ratio (pos n) 1) w t.1 ∙ ap (λ x. ratio (pos n) 1 *ʳ x) (sym (whole_back (w *ʳ t.1) h.0)) ∙ product_whole n (w *ʳ t.1).num) ∙ whole_den (pos n *ℤ (w *ʳ t.1).num), further_whole n w ts h.1)
 
-cleared : (c : Rational) → whole c.num ≡ ratio (pos c.den) 1 *ʳ c
+pub cleared : (c : Rational) → whole c.num ≡ ratio (pos c.den) 1 *ʳ c
 unfolding whole
 cleared c = ratio_same c.num 1 (pos c.den *ℤ c.num) (1 * c.den) (lit< tt) (mul-pos (lit< tt) c.positive) (flip c.num c.den) ∙ sym (ratio-* (pos c.den) 1 c.num c.den (lit< tt) c.positive) ∙ ap (λ x. ratio (pos c.den) 1 *ʳ x) (ratio_parts c)
   where

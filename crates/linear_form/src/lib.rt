@@ -19,6 +19,7 @@ mod row_laws;
 mod terms;
 #[cfg(test)]
 mod tests;
+mod tightening;
 
 pub use answering::ask;
 pub use asking::Ask;
@@ -32,3 +33,4 @@ pub use row_laws::solutions_of_rows;
 pub use terms::{
     coefficient_of, divided, divisor_of, merged, mixed, narrow_quotient, scaled, wide_product,
 };
+pub use tightening::tightened;

@@ -13,7 +13,7 @@ use std::alloc::{AllocError, Global};
 
 /// The product with a fraction below 2^62, where it is below 2^62 too. It is reduced crosswise before it is made, so that no
 /// product on the way is too large for what it stands for.
-fn small_product(w: &Frac, c: &Frac) -> Option<Frac>
+pub(crate) fn small_product(w: &Frac, c: &Frac) -> Option<Frac>
     requires { number_fits c.now ≡ true }
     ensures { result ≡ product_of w.now c.now }
 {

@@ -10,7 +10,7 @@ ghost use Rattle.linear_form.specs.Query.{is_negative as number_is_negative};
 use heyvl_num::Frac;
 
 /// 2^62, which the numbers of linear values and rows stay below.
-const BOUND: u128 = 4_611_686_018_427_387_904;
+pub(crate) const BOUND: u128 = 4_611_686_018_427_387_904;
 
 pub(crate) fn zero() -> Frac
     ensures { result ≡ zeroʳ }
