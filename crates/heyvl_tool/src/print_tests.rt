@@ -38,7 +38,7 @@ const STATEMENTS_PRINTED: &str = "proc s(a: UInt, b: Int) -> (x: UReal, y: Bool)
 
 #[test]
 fn prints_statements(rt: HostRuntime) -> Result<(), Fail> {
-    check_printed(rt, STATEMENTS, STATEMENTS_PRINTED)
+    check_printed(&rt, STATEMENTS, STATEMENTS_PRINTED)
 }
 
 const BLOCKS: &str =
@@ -73,7 +73,7 @@ const BLOCKS_PRINTED: &str = "coproc b() -> (x: UInt)
 
 #[test]
 fn prints_blocks(rt: HostRuntime) -> Result<(), Fail> {
-    check_printed(rt, BLOCKS, BLOCKS_PRINTED)
+    check_printed(&rt, BLOCKS, BLOCKS_PRINTED)
 }
 
 const EXPRESSIONS: &str =
@@ -93,7 +93,7 @@ const EXPRESSIONS_PRINTED: &str = "coproc e(a: Bool, b: UInt) -> ()
 
 #[test]
 fn prints_expressions(rt: HostRuntime) -> Result<(), Fail> {
-    check_printed(rt, EXPRESSIONS, EXPRESSIONS_PRINTED)
+    check_printed(&rt, EXPRESSIONS, EXPRESSIONS_PRINTED)
 }
 
 const PROCEDURES: &str =
@@ -115,8 +115,8 @@ coproc r() -> (x: Real)
 
 #[test]
 fn prints_procedures(rt: HostRuntime) -> Result<(), Fail> {
-    check_printed(rt, PROCEDURES, PROCEDURES_PRINTED)?;
-    check_printed(rt, "// nothing", "")
+    check_printed(&rt, PROCEDURES, PROCEDURES_PRINTED)?;
+    check_printed(&rt, "// nothing", "")
 }
 
 const NUMBERS: &str =
@@ -133,5 +133,5 @@ const NUMBERS_PRINTED: &str = "coproc n() -> ()
 
 #[test]
 fn prints_numbers(rt: HostRuntime) -> Result<(), Fail> {
-    check_printed(rt, NUMBERS, NUMBERS_PRINTED)
+    check_printed(&rt, NUMBERS, NUMBERS_PRINTED)
 }
