@@ -111,6 +111,9 @@ fn write_file(alloc: Global, file: &File) -> Result<String, AllocError> {
 }
 
 fn tokens_of(alloc: Global, text: &str) -> Result<Vec<Token>, Fail> {
+    if text.len() > 10_000 {
+        return Err("too long".into());
+    }
     match lex(alloc, text.as_bytes()) {
         Ok(tokens) => Ok(tokens),
         Err(LexStop::Memory(error)) => Err(error.into()),

@@ -1,3 +1,4 @@
+pub mod PrintLaws
 pub mod Procedure
 pub mod Grammar
 pub mod Limits

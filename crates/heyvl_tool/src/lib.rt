@@ -10,6 +10,9 @@ mod faults;
 mod first_form;
 mod numbering;
 mod outcomes;
+#[cfg(test)]
+mod print_tests;
+mod printing;
 mod reading;
 #[cfg(test)]
 mod refusal_tests;
@@ -26,6 +29,7 @@ pub use commands::settings;
 pub use deciding::decide;
 pub use first_form::{Constant, FirstForm, Stmt, first_form_is_source};
 pub use outcomes::{Fault, Outcome};
+pub use printing::{printed_text_prints_itself, spelling_is_unique};
 pub use reading::{first_form_is_unique, read_first_form};
 pub use reporting::report;
 pub use requests::{Settings, SettingsStop};
