@@ -1,17 +1,20 @@
 -- The questions of each form and condition that the program holds, variant by variant.
-use Rattle.std.proofs.Common.{◌≡◌, ap, ◌∙◌, refl, Bool, true, false, not, cond}
-use Rattle.std.specs.Prelude.{Option, Some, None}
+use Rattle.std.proofs.Common.{◌≡◌, ℕ, ap, refl, Bool, true, false, not, cond}
+use mathlib.Core.Bool.{beq}
+use Rattle.std.specs.Prelude.{Some, None}
 use Rattle.std.specs.declared.boxed.Box.{Box}
 use Rattle.std.specs.declared.alloc.Global.{Global}
 use Rattle.heyvl_num.specs.Rational.{Rational}
 use Rattle.heyvl_syntax.specs.declared.spans.Span.{Span}
+use Rattle.heylo_formula.specs.declared.types.Ty.{Ty}
 use Rattle.heylo_formula.specs.declared.forms.Form as F
 use Rattle.heylo_formula.specs.declared.forms.Cond as C
 use Rattle.heylo_formula.specs.PlainTrees.{form_of, cond_of}
 use Rattle.heylo_formula.specs.Operators.{agree}
 use Rattle.heylo_formula.proofs.Mirrors as m
-use Rattle.linear_form.specs.Query.{Query, next}
-use Rattle.linear_form.specs.Query.Query.{done, bits, ask}
+use Rattle.linear_form.specs.Lin.{variable}
+use Rattle.linear_form.specs.Query.{next}
+use Rattle.linear_form.specs.Query.Query.{done, bits}
 use Rattle.linear_form.specs.Questions as q
 use Rattle.linear_form.specs.Questions.{evaluate, test, both, with}
 
@@ -80,3 +83,18 @@ same_asks f g h g' h' e eg eh = rw (e, eg, eh) (ap test (m.same_cond g h))
 
 pub ite_asks : (f : C.Cond) (g h k : Box C.Cond Global) (g' h' k' : C.Cond) → f ≡ C.Ite g h k → g' ≡ g.value → h' ≡ h.value → k' ≡ k.value → test (cond_of f) ≡ next (test (cond_of g')) (λ t. cond t (test (cond_of h')) (test (cond_of k')))
 ite_asks f g h k g' h' k' e eg eh ek = rw (e, eg, eh, ek) (ap test (m.ite_cond g h k))
+
+pub constant_asks : (f : C.Cond) (b : Bool) → f ≡ C.Const b → test (cond_of f) ≡ done b
+constant_asks f b e = rw e (ap test (m.constant_cond b))
+
+pub variable_asks : (f : F.Form) (x : ℕ) → f ≡ F.Var x → evaluate (form_of f) ≡ done (Some (variable x))
+variable_asks f x e = rw e (ap evaluate (m.variable_form x))
+
+pub bind_asks : (f : F.Form) (up : Bool) (y name : ℕ) (ty : Ty) (a : Box F.Form Global) → f ≡ F.Bind up y name ty a → evaluate (form_of f) ≡ bits
+bind_asks f up y name ty a e = rw e (ap evaluate (m.bind_form up y name ty a))
+
+pub agree_is : (t u : Bool) → agree t u ≡ beq t u
+agree_is true true = refl
+agree_is true false = refl
+agree_is false true = refl
+agree_is false false = refl

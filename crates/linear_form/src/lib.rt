@@ -1,9 +1,11 @@
 //! Linear questions of a goal along a path, linear rows, the points that meet them, and their combinations.
 #![tactic(auto)]
 
+mod answering;
 mod asking;
 mod claim_laws;
 mod cursor;
+mod evaluation;
 mod goal_products;
 mod lin;
 mod linear_terms;
@@ -18,6 +20,7 @@ mod terms;
 #[cfg(test)]
 mod tests;
 
+pub use answering::ask;
 pub use asking::Ask;
 pub use claim_laws::{paths_claim_truths, paths_rows_are_met};
 pub use goal_products::nonlinear;

@@ -6,8 +6,8 @@ ghost use Rattle.linear_form.specs.Lin.{all_fit, fits as number_fits, is_sized a
 ghost use Rattle.linear_form.specs.Run.{IsKept};
 ghost use Rattle.linear_form.specs.PlainPaths.{lin_of};
 
-use crate::numbers::{fits, is_zero, minus_one, one, product, sum, zero};
 use crate::linear_terms::merged;
+use crate::numbers::{fits, is_zero, minus_one, one, product, sum, zero};
 use heyvl_num::Frac;
 use std::alloc::{AllocError, Global};
 
