@@ -5,7 +5,10 @@ use heyvl_syntax::Span;
 use std::alloc::{AllocError, Global};
 
 fn place(from: u32) -> Span {
-    Span { from, to: from + 1 }
+    Span {
+        from,
+        to: from.wrapping_add(1),
+    }
 }
 
 fn variable(alloc: Global, x: u32) -> Result<Box<Form>, AllocError> {
