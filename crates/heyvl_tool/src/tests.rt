@@ -254,17 +254,28 @@ fn other_words_are_usage(rt: HostRuntime) -> Result<(), Fail> {
     Ok(())
 }
 
+fn is_print(settings: &Settings) -> bool {
+    match settings {
+        Settings::Verify(_) => false,
+        Settings::Print(_) => true,
+    }
+}
+
+/// The words are taken as a command, `print` or else `verify`, with this file.
+fn names(asked: &Result<Settings, SettingsStop>, prints: bool, file: &str) -> bool {
+    match asked {
+        Ok(settings) => is_print(settings) == prints && settings.file() == file,
+        Err(_) => false,
+    }
+}
+
 #[test]
 fn words_name_a_command_and_its_file(rt: HostRuntime) -> Result<(), Fail> {
     let alloc = rt.alloc();
-    match settings(alloc, &words_of(alloc, &["verify", "help"])?) {
-        Ok(Settings::Verify(file)) => assert_eq!(rt; file.as_str(), "help"),
-        _ => assert!(rt; false, "verify"),
-    }
-    match settings(alloc, &words_of(alloc, &["print", "a b=c"])?) {
-        Ok(Settings::Print(file)) => assert_eq!(rt; file.as_str(), "a b=c"),
-        _ => assert!(rt; false, "print"),
-    }
+    let asked = settings(alloc, &words_of(alloc, &["verify", "help"])?);
+    assert!(rt; names(&asked, false, "help"), "verify");
+    let asked = settings(alloc, &words_of(alloc, &["print", "a b=c"])?);
+    assert!(rt; names(&asked, true, "a b=c"), "print");
     Ok(())
 }
 
