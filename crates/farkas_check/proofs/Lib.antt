@@ -1,5 +1,2 @@
-pub mod Positions
-pub mod PartialSums
-pub mod Coefficients
 pub mod Acceptance
 pub mod Soundness

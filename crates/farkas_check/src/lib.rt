@@ -2,11 +2,7 @@
 #![tactic(auto)]
 
 mod laws;
-mod multipliers;
-#[cfg(test)]
-mod tests;
 mod trees;
 
 pub use laws::{certificates_are_told_apart, certified_goals_hold};
-pub use multipliers::contradicts;
 pub use trees::{Checked, GoalCert, Tree};

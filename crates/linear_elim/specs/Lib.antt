@@ -4,3 +4,4 @@ pub mod Elimination
 pub mod Laws
 pub mod Outcomes
 pub mod Turns
+pub mod Answers

@@ -1,6 +1,8 @@
 //! Exact elimination of variables from linear rows, with multipliers.
 #![tactic(auto)]
 
+mod answers;
+mod eliminating;
 mod elimination;
 mod gathering;
 mod joins;
@@ -9,6 +11,8 @@ mod ordering;
 mod starting;
 mod steps;
 
+pub use answers::{Broken, Cause, Elim};
+pub use eliminating::eliminate;
 pub use elimination::{Outcome, eliminate_from};
 pub use gathering::Gathering;
 pub use joins::{Derived, joined};

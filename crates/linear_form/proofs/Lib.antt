@@ -28,3 +28,6 @@ mod KeptParts
 mod Products
 mod OperatorRuns
 mod Asks
+mod Positions
+mod PartialSums
+mod Coefficients

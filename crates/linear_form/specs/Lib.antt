@@ -25,3 +25,5 @@ pub mod Seen
 pub mod FitTerms
 pub mod Loops
 pub mod Operator
+pub mod Columns
+pub mod RowLists

@@ -4,14 +4,18 @@
 mod answering;
 mod asking;
 mod claim_laws;
+#[cfg(test)]
+mod contradiction_tests;
 mod cursor;
 mod evaluation;
 mod goal_products;
 mod lin;
 mod linear_terms;
 mod multiples;
+mod multipliers;
 mod numbers;
 mod operators;
+mod path_rows;
 mod paths;
 mod question_laws;
 mod row;
@@ -26,6 +30,8 @@ pub use asking::Ask;
 pub use claim_laws::{paths_claim_truths, paths_rows_are_met};
 pub use goal_products::nonlinear;
 pub use lin::Lin;
+pub use multipliers::contradicts;
+pub use path_rows::{RowList, rows};
 pub use paths::{Atom, Taken};
 pub use question_laws::{constant_without_variables, one_path_agrees};
 pub use row::Row;

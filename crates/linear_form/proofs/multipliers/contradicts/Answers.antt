@@ -1,6 +1,6 @@
 use Rattle.std.proofs.Common.{◌∙◌, sym}
-use Rattle.farkas_check.proofs.Coefficients.{contradiction_made, multipliers_of, vanishing_of, unmet_of}
-use Rattle.farkas_check.proofs.multipliers.contradicts.Goals as goal
+use Rattle.linear_form.proofs.Coefficients.{contradiction_made, multipliers_of, vanishing_of, unmet_of}
+use Rattle.linear_form.proofs.multipliers.contradicts.Goals as goal
 
 pub returns-then-not-are_multipliers : goal.returns-then-not-are_multipliers
 returns-then-not-are_multipliers c = (λ h. absurd (cc), λ h. sym c.if-not-are_multipliers.true ∙ c.are_multipliers.ensures.1 (multipliers_of _ _ h))

@@ -1,7 +1,7 @@
 use Rattle.std.proofs.Common.{arith, rules}
-use Rattle.farkas_check.proofs.PartialSums.{checks_start, checks_next, checks_at, checks_end, are_multipliers, are_from, from_any}
-use Rattle.farkas_check.proofs.multipliers.are_multipliers.Goals as goal
-use Rattle.farkas_check.proofs.multipliers.are_multipliers.Goals.{then-place-least-via-then-place-least, then-place-least-via-else-place-least+then-count-place, then-place-least-via-else-place-least+else-count-place+then-multiplier-eq0, then-place-least-via-else-place-least+else-count-place+else-multiplier-eq0+then-multiplier}
+use Rattle.linear_form.proofs.PartialSums.{checks_start, checks_next, checks_at, checks_end, are_multipliers, are_from, from_any}
+use Rattle.linear_form.proofs.multipliers.are_multipliers.Goals as goal
+use Rattle.linear_form.proofs.multipliers.are_multipliers.Goals.{then-place-least-via-then-place-least, then-place-least-via-else-place-least+then-count-place, then-place-least-via-else-place-least+else-count-place+then-multiplier-eq0, then-place-least-via-else-place-least+else-count-place+else-multiplier-eq0+then-multiplier}
 
 pub returns-then-place-least : goal.returns-then-place-least
 returns-then-place-least c = (

@@ -10,8 +10,8 @@ use Rattle.std.specs.List.{All}
 use Rattle.std.proofs.lemmas.List.Elements.{All-nil, All-cons, All-head, All-tail}
 use Rattle.linear_form.specs.Row.{Row}
 use Rattle.linear_form.specs.Combination.{row_at, combined, uses_strict, IsGrowing, IsWideThroughout}
-use Rattle.farkas_check.specs.Columns.{AreMultipliers}
-use Rattle.farkas_check.proofs.Positions.{from, at_end, take_none}
+use Rattle.linear_form.specs.Columns.{AreMultipliers}
+use Rattle.linear_form.proofs.Positions.{from, at_end, take_none}
 
 -- Each partial sum of the rest, begun at z, is below 2^126.
 pub record IsWideFrom (F : Row → ℤ) (z : ℤ) (ms : List (ℕ × ℕ)) (rows : List Row) : Type 0 where

@@ -3,9 +3,9 @@ use Rattle.std.specs.Prelude.{pos}
 use Rattle.std.proofs.lemmas.List.{take_all}
 use Rattle.std.specs.List.{All}
 use Rattle.linear_form.specs.Row.{Row}
-use Rattle.farkas_check.specs.Columns.{IsBeyond}
-use Rattle.farkas_check.proofs.Coefficients.{rows_step, row_read}
-use Rattle.farkas_check.proofs.multipliers.beyond_all.Goals as goal
+use Rattle.linear_form.specs.Columns.{IsBeyond}
+use Rattle.linear_form.proofs.Coefficients.{rows_step, row_read}
+use Rattle.linear_form.proofs.multipliers.beyond_all.Goals as goal
 
 pub loop-row-preserved : goal.loop-row-preserved
 loop-row-preserved c = let g = c.greater-least.ensures in let w = c.loop-row.invariant.within in let v = c.beyond.ensures.within in record {

@@ -2,8 +2,7 @@ ghost use Rattle.std.specs.Prelude.{◌<◌, ◌^◌, ◌≢◌, pos, IfOk, unsi
 ghost use Rattle.std.specs.List.{All};
 ghost use Rattle.linear_form.specs.Row.{IsRow};
 
-use crate::contradicts;
-use linear_form::Row;
+use crate::{Row, contradicts};
 use std::alloc::{AllocError, Global};
 use std::test::Fail;
 

@@ -4,8 +4,8 @@ use Rattle.std.specs.List.{All}
 use Rattle.linear_form.specs.Terms.{coefficient}
 use Rattle.linear_form.specs.Row.{Row}
 use Rattle.linear_form.specs.Combination.{IsGrowing, IsWideThroughout, combined, uses_strict}
-use Rattle.farkas_check.specs.declared.multipliers.Column.{Column}
-use Rattle.farkas_check.specs.declared.multipliers.Column.TheVariants.{Constant, Coefficient}
+use Rattle.linear_form.specs.declared.multipliers.Column.{Column}
+use Rattle.linear_form.specs.declared.multipliers.Column.TheVariants.{Constant, Coefficient}
 
 -- The number that a row has in a column.
 abbrev pub number_in : Column → Row → ℤ

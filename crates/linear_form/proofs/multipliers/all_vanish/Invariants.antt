@@ -1,6 +1,6 @@
 use Rattle.std.proofs.Common.{ℕ, ◌<◌}
-use Rattle.farkas_check.specs.Columns.{Vanishes}
-use Rattle.farkas_check.proofs.multipliers.all_vanish.Given as goal
+use Rattle.linear_form.specs.Columns.{Vanishes}
+use Rattle.linear_form.proofs.multipliers.all_vanish.Given as goal
 
 abbrev pub invariant-loop-variable : goal.invariant-loop-variable
 invariant-loop-variable l = (x : ℕ) → x < l.variable → Vanishes x l.multipliers l.rows

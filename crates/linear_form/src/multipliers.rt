@@ -6,9 +6,10 @@ ghost use Rattle.std.specs.Option.{SomeIff};
 ghost use Rattle.linear_form.specs.Terms.{coefficient};
 ghost use Rattle.linear_form.specs.Row.{IsRow};
 ghost use Rattle.linear_form.specs.Combination.{row_at, combined, uses_strict, IsWideThroughout, IsContradiction};
-ghost use Rattle.farkas_check.specs.Columns.{number_in, AreMultipliers, IsBeyond, Vanishes, IsUnmet};
+ghost use Rattle.linear_form.specs.Columns.{number_in, AreMultipliers, IsBeyond, Vanishes, IsUnmet};
 
-use linear_form::{Row, coefficient_of};
+use crate::row::Row;
+use crate::terms::coefficient_of;
 
 /// A number of each row: its constant, or its coefficient of a variable.
 #[derive(Clone, Copy)]

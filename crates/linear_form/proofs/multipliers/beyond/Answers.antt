@@ -2,8 +2,8 @@ use Rattle.std.proofs.Common.{arith, length, take, subst, ◌<◌, rules}
 use Rattle.std.proofs.lemmas.List.{take_all}
 use Rattle.std.specs.List.{All}
 use Rattle.std.specs.Prelude.{pos}
-use Rattle.farkas_check.proofs.Coefficients.{beyond_step}
-use Rattle.farkas_check.proofs.multipliers.beyond.Goals as goal
+use Rattle.linear_form.proofs.Coefficients.{beyond_step}
+use Rattle.linear_form.proofs.multipliers.beyond.Goals as goal
 
 pub loop-variable-preserved : goal.loop-variable-preserved
 loop-variable-preserved c = let f = c.from.ensures in let g = c.greater-least.ensures in let w = c.loop-variable.invariant.within in record {

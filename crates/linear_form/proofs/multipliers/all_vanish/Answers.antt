@@ -1,6 +1,6 @@
 use Rattle.std.proofs.Common.{arith, rules, refl, below_more}
-use Rattle.farkas_check.proofs.Coefficients.{vanish_all}
-use Rattle.farkas_check.proofs.multipliers.all_vanish.Goals as goal
+use Rattle.linear_form.proofs.Coefficients.{vanish_all}
+use Rattle.linear_form.proofs.multipliers.all_vanish.Goals as goal
 
 pub loop-variable-preserved : goal.loop-variable-preserved
 loop-variable-preserved c = below_more _ _ c.loop-variable.invariant (search rules)

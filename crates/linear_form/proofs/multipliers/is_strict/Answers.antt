@@ -1,8 +1,8 @@
 use Rattle.std.proofs.Common.{◌∙◌, sym, ap}
 use Rattle.linear_form.specs.Row.{Row}
-use Rattle.farkas_check.proofs.PartialSums.{strict_next, strict_found, strict_end}
-use Rattle.farkas_check.proofs.Coefficients.{row_read}
-use Rattle.farkas_check.proofs.multipliers.is_strict.Goals as goal
+use Rattle.linear_form.proofs.PartialSums.{strict_next, strict_found, strict_end}
+use Rattle.linear_form.proofs.Coefficients.{row_read}
+use Rattle.linear_form.proofs.multipliers.is_strict.Goals as goal
 
 pub returns-then-row : goal.returns-then-row
 returns-then-row c = strict_found _ _ _ (0, 0) c.loop-index-test.true c.loop-index.invariant (sym (ap (λ (r : Row). r.strict) (row_read _ _ _ c.index-rows-index.is (c.requires.multipliers.within _ (0, 0) c.loop-index-test.true))) ∙ sym (ap (λ (r : Row). r.strict) c.row.view_is) ∙ c.if-row.true)

@@ -1,9 +1,9 @@
 use Rattle.std.proofs.Common.{ap, sym, subst, ◌∙◌, ◌<◌, ◌^◌, get_or}
 use Rattle.std.specs.Prelude.{pos, ◌+ℤ◌, ◌*ℤ◌, unsigned_abs}
-use Rattle.farkas_check.specs.Columns.{number_in}
-use Rattle.farkas_check.proofs.PartialSums.{sums_start, sums_next, sums_stop, sums_end, number_read, sum_read}
-use Rattle.farkas_check.proofs.Coefficients.{row_read}
-use Rattle.farkas_check.proofs.multipliers.total.Goals as goal
+use Rattle.linear_form.specs.Columns.{number_in}
+use Rattle.linear_form.proofs.PartialSums.{sums_start, sums_next, sums_stop, sums_end, number_read, sum_read}
+use Rattle.linear_form.proofs.Coefficients.{row_read}
+use Rattle.linear_form.proofs.multipliers.total.Goals as goal
 
 pub returns-in_default : goal.returns-in_default
 returns-in_default c =

@@ -1,6 +1,0 @@
-use Rattle.farkas_check.specs.Columns.{number_in}
-use Rattle.farkas_check.proofs.PartialSums.{Sums}
-use Rattle.farkas_check.proofs.multipliers.total.Given as goal
-
-abbrev pub invariant-loop-index : goal.invariant-loop-index
-invariant-loop-index l = Sums (number_in l.column) l.sum l.index-index l.multipliers l.rows

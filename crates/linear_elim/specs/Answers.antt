@@ -1,0 +1,58 @@
+-- What each answer of the elimination says of the rows.
+use Rattle.std.specs.Prelude.{◌≡◌, ℕ, List, [], ◌∷◌, map, length, Bool, true, false, Some, None}
+use Rattle.std.specs.List.{All}
+use Rattle.heyvl_num.specs.Rational.{Rational}
+use Rattle.heylo_formula.specs.State.{environment, number_of}
+use Rattle.heylo_formula.specs.declared.types.Ty.{Ty}
+use Rattle.heylo_formula.specs.declared.values.Val.{Val}
+use Rattle.linear_form.specs.Terms.{coefficient}
+use Rattle.linear_form.specs.Row.{Row}
+use Rattle.linear_form.specs.Solutions.{MeetsAt, IsSolvable}
+use Rattle.linear_form.specs.Combination.{IsContradiction, IsWideThroughout}
+use Rattle.linear_form.specs.VariableOrder.{order_of}
+use Rattle.linear_form.specs.GreedyPoint.{Interval, End, Greedy, ChoosesFrom, IsGreedyPoint}
+use Rattle.linear_elim.specs.Joins.{Derived}
+use Rattle.linear_elim.specs.Elimination as plain
+use Rattle.linear_elim.specs.Elimination.{Step, elimination, multipliers}
+use Rattle.linear_elim.specs.declared.answers.Broken.{Broken}
+use Rattle.linear_elim.specs.declared.answers.Elim.{Elim}
+use Rattle.linear_elim.specs.declared.answers.Elim.TheVariants.{NoSolution, Point, Fraction, Rows, Bits}
+
+-- The variables in their order, and what the plain elimination of the rows in this order ends with.
+abbrev pub eliminated : List Row → List Ty → plain.Outcome
+eliminated rows vars = elimination (order_of rows (length vars)) rows
+
+-- The state meets the rows.
+abbrev pub MeetsAll : List Val → List Row → Type 0
+MeetsAll point rows = All (MeetsAt (λ x. number_of (environment point x))) rows
+
+-- Values as numbers.
+abbrev pub numbers_of : List (ℕ × Val) → List (ℕ × Rational)
+numbers_of cs = map (λ c. (c.0, number_of c.1)) cs
+
+-- The two ends at which the choice breaks.
+abbrev pub ends_of : Broken → Interval
+ends_of b = record { low = Some (record { place = b.low; inside = b.low_in }); high = Some (record { place = b.high; inside = b.high_in }) }
+
+-- The greedy choice breaks at this variable, with these values chosen before and these ends.
+pub record IsBreak (rows : List Row) (vars : List Ty) (b : Broken) : Type 0 where
+  pub solvable : IsSolvable rows
+  pub choice : ChoosesFrom rows vars (Greedy.broke b.var (numbers_of b.earlier.items) (ends_of b))
+
+-- No partial sum of the combination reaches 2^126.
+pub record IsWide (ms : List (ℕ × ℕ)) (rows : List Row) : Type 0 where
+  pub coefficients : (x : ℕ) → IsWideThroughout (λ r. coefficient x r.terms) ms rows
+  pub constants : IsWideThroughout (λ r. r.rest) ms rows
+
+-- A number reaches its bound: one of the elimination, or a partial sum of the combination that refutes the rows.
+pub data IsTooGreat (rows : List Row) (vars : List Ty) : Type 0 where
+  in_a_step : eliminated rows vars ≡ plain.Outcome.too_great → IsTooGreat rows vars
+  in_a_sum : (c : Derived) → eliminated rows vars ≡ plain.Outcome.refuted c → (IsWide (multipliers c) rows → ⊥) → IsTooGreat rows vars
+
+-- What an answer says.
+abbrev pub IsAnswer : List Row → List Ty → Elim → Type 0
+IsAnswer rows vars (NoSolution ms) = IsContradiction ms.items rows
+IsAnswer rows vars (Point point) = IsGreedyPoint rows vars point.items × MeetsAll point.items rows
+IsAnswer rows vars (Fraction b) = IsBreak rows vars b
+IsAnswer rows vars (Rows steps count) = eliminated rows vars ≡ plain.Outcome.too_many steps count
+IsAnswer rows vars Bits = IsTooGreat rows vars

@@ -1,0 +1,27 @@
+-- The rows that the program gives, and rows over numbers.
+use Rattle.std.specs.Prelude.{◌≡◌, List, Option, Some, None, Bool, true, false}
+use Rattle.std.specs.List.{All}
+use Rattle.heylo_formula.specs.declared.types.Ty.{Ty}
+use Rattle.linear_form.specs.Row.{Row, IsRow}
+use Rattle.linear_form.specs.TypedGoals.{types_in}
+use Rattle.linear_form.specs.declared.path_rows.RowList.{RowList}
+use Rattle.linear_form.specs.declared.path_rows.RowList.TheVariants.{Rows, Bits}
+
+-- The rows are those that there are, or there are none, since a number is too large.
+abbrev pub Lists : RowList → Option (List Row) → Type 0
+Lists (Rows rows) found = found ≡ Some rows.items
+Lists Bits found = found ≡ None
+
+abbrev pub AreRows : RowList → Type 0
+AreRows (Rows rows) = All IsRow rows.items
+AreRows Bits = Unit {0}
+
+abbrev pub is_numeric : Ty → Bool
+is_numeric Ty.Bool = false
+is_numeric Ty.Int = true
+is_numeric Ty.UInt = true
+is_numeric Ty.UReal = true
+
+-- Each variable of the row has a type, and it is one of numbers.
+pub record IsNumericRow (types : List Ty) (r : Row) : Type 0 where
+  pub numeric : All (λ t. is_numeric (types_in types t.0) ≡ true) r.terms
