@@ -1,5 +1,5 @@
 -- The rows that the program gives, and rows over numbers.
-use Rattle.std.specs.Prelude.{◌≡◌, List, Option, Some, None, Bool, true, false}
+use Rattle.std.specs.Prelude.{◌≡◌, ℕ, List, length, Option, Some, None, Bool, true, false}
 use Rattle.std.specs.List.{All}
 use Rattle.heylo_formula.specs.declared.types.Ty.{Ty}
 use Rattle.linear_form.specs.Row.{Row, IsRow}
@@ -25,3 +25,12 @@ is_numeric Ty.UReal = true
 -- Each variable of the row has a type, and it is one of numbers.
 pub record IsNumericRow (types : List Ty) (r : Row) : Type 0 where
   pub numeric : All (λ t. is_numeric (types_in types t.0) ≡ true) r.terms
+
+abbrev pub AreNumericRows : List Ty → RowList → Type 0
+AreNumericRows types (Rows rows) = All (IsNumericRow types) rows.items
+AreNumericRows types Bits = Unit {0}
+
+-- How many rows there are.
+abbrev pub count_of : RowList → ℕ
+count_of (Rows rows) = length rows.items
+count_of Bits = 0

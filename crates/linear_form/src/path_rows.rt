@@ -1,11 +1,12 @@
 //! The rows of a path.
 
-ghost use Rattle.std.specs.Prelude.{IfOk};
+ghost use Rattle.std.specs.Prelude.{◌≤◌, ◌+◌, length, IfOk};
 ghost use Rattle.heylo_formula.specs.Goals.{goal_of};
 ghost use Rattle.linear_form.specs.Paths.{IsPath};
 ghost use Rattle.linear_form.specs.PathRows.{rows_of};
 ghost use Rattle.linear_form.specs.PlainPaths.{path_of};
-ghost use Rattle.linear_form.specs.RowLists.{Lists, AreRows};
+ghost use Rattle.linear_form.specs.RowLists.{Lists, AreRows, AreNumericRows, count_of};
+ghost use Rattle.linear_form.specs.TypedGoals.{IsTypedGoal};
 
 use crate::paths::Taken;
 use crate::row::Row;
@@ -34,6 +35,8 @@ pub fn rows(
     requires { IsPath (goal_of goal.now) (path_of path.now) }
     ensures rows { IfOk result (λ r. Lists r (rows_of (goal_of goal.now) (path_of path.now) denied)) }
     ensures normal { IfOk result (λ r. AreRows r) }
+    ensures numeric { IsTypedGoal (goal_of goal.now) → IfOk result (λ r. AreNumericRows (goal_of goal.now).types r) }
+    ensures few { IfOk result (λ r. count_of r ≤ length path.now + 1 + length goal.now.vars.items) }
 {
     Err(AllocError)
 }

@@ -1,0 +1,17 @@
+-- What a decision means for the states of a goal: a proved goal holds in each of them, a falsified one fails in the one that is shown.
+use Rattle.std.specs.Prelude.{List}
+use Rattle.heylo_formula.specs.Goals.{Goal, HoldsIn, Holds}
+use Rattle.heylo_formula.specs.State.{environment, IsTyped}
+use Rattle.heylo_formula.specs.declared.values.Val.{Val}
+use Rattle.region_split.specs.declared.decisions.Decision.{Decision}
+use Rattle.region_split.specs.declared.decisions.Decision.TheVariants.{Proved, Falsified, Unknown}
+
+-- The goal fails in this state of its variables.
+pub record Fails (g : Goal) (point : List Val) : Type 0 where
+  pub typed : IsTyped g.types point
+  pub fails : HoldsIn g (environment point) → ⊥
+
+abbrev pub Tells : Goal → Decision → Type 0
+Tells g (Proved t) = Holds g
+Tells g (Falsified point) = Fails g point.items
+Tells g (Unknown cause) = Unit {0}
