@@ -18,7 +18,7 @@ mod MetClaims
 mod TightRows
 mod Factors
 mod RowParts
-mod NonzeroClaims
+mod NormalClaims
 pub mod MetRows
 mod Runs
 mod PathEnds
@@ -31,3 +31,4 @@ mod Asks
 mod Positions
 mod PartialSums
 mod Coefficients
+mod RowsOfClaims

@@ -27,3 +27,5 @@ pub mod Loops
 pub mod Operator
 pub mod Columns
 pub mod RowLists
+pub mod FurtherRows
+pub mod NormalPaths

@@ -8,6 +8,7 @@ mod claim_laws;
 mod contradiction_tests;
 mod cursor;
 mod evaluation;
+mod further_rows;
 mod goal_products;
 mod lin;
 mod linear_terms;
@@ -20,6 +21,7 @@ mod paths;
 mod question_laws;
 mod row;
 mod row_laws;
+mod signs;
 mod terms;
 #[cfg(test)]
 mod tests;
