@@ -32,3 +32,5 @@ mod Positions
 mod PartialSums
 mod Coefficients
 mod RowsOfClaims
+mod SignRows
+mod FoundRows

@@ -77,7 +77,7 @@ keeps_sign w x true p e = record { holds = go (leqʳ zeroʳ (w *ʳ x)) refl }
     go true k = let m = (back (record { holds = k })).holds in let n = sym (ap not m) ∙ e in absurd (cc)
     go false k = k
 
-positive_ratio : (m n : ℕ) → 0 < m → 0 < n → IsPositive (ratio (pos m) n)
+pub positive_ratio : (m n : ℕ) → 0 < m → 0 < n → IsPositive (ratio (pos m) n)
 unfolding oneʳ
 positive_ratio m n p q = record {
   above = ratio_nonnegative (pos m) n q (omega (arith, ints));
