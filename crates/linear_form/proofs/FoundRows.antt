@@ -110,7 +110,7 @@ count_joined ks ls m n h k = let e = length-append ks ls in omega (arith, e, h, 
 
 one_answer : (q : Atom) (held : Bool) → length (answer_claims q held) ≤ 1
 one_answer (Atom.truth x) held = omega arith
-one_answer (Atom.row a strict) held = of_two (λ (k : Claim). length (k ∷ []) ≤ 1) held (claim a strict) _ (omega arith) (omega arith)
+one_answer (Atom.row a strict) held = omega arith
 
 path_count : (ps : List Taken) → length (path_claims ps) ≤ length ps
 path_count [] = omega arith

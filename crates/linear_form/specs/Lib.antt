@@ -29,3 +29,4 @@ pub mod Columns
 pub mod RowLists
 pub mod FurtherRows
 pub mod NormalPaths
+pub mod RowListLaws
