@@ -19,7 +19,6 @@ mod TightRows
 mod Factors
 mod RowParts
 mod NormalClaims
-mod NonzeroClaims
 pub mod TypedTrees
 pub mod NumericRows
 pub mod DeniedRows

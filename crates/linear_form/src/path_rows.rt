@@ -94,12 +94,7 @@ fn claimed_rows(
 /// the path is at an end at which the goal doesn't hold plainly; and for each UInt and UReal variable that occurs before, by
 /// number, that it isn't negative. Each is tightened. Bits is given exactly where a number of a row reaches 2^62 before or
 /// after it is tightened, or the constant's multiple 2^127. Want of memory is the one error.
-pub fn rows(
-    alloc: Global,
-    goal: &Goal,
-    path: &[Taken],
-    denied: bool,
-) -> Result<RowList, AllocError>
+pub fn rows(alloc: Global, goal: &Goal, path: &[Taken], denied: bool) -> Result<RowList, AllocError>
     requires { IsPath (goal_of goal.now) (path_of path.now) }
     ensures rows { IfOk result (λ r. Lists r (rows_of (goal_of goal.now) (path_of path.now) denied)) }
     ensures normal { IfOk result (λ r. AreRows r) }

@@ -68,11 +68,7 @@ fn unsigned_variable(types: &[Ty], rows: &[Row], x: usize) -> Option<u32>
 }
 
 /// The unsigned variables that occur in the rows, by number.
-fn unsigned_variables(
-    alloc: Global,
-    types: &[Ty],
-    rows: &[Row],
-) -> Result<Vec<u32>, AllocError>
+fn unsigned_variables(alloc: Global, types: &[Ty], rows: &[Row]) -> Result<Vec<u32>, AllocError>
     ensures { IfOk result (λ v. v.items ≡ all_unsigned_in (types_in types.now) rows.now (length types.now)) }
 {
     let mut variables = Vec::new(alloc);

@@ -1,4 +1,4 @@
-use Rattle.std.proofs.Common.{◌≡◌, sym, subst, rules}
+use Rattle.std.proofs.Common.{sym, subst, rules}
 use Rattle.linear_form.specs.Lin.{Lin, IsNormal}
 use Rattle.linear_form.specs.Run.{IsKept}
 use Rattle.linear_form.specs.PlainPaths.{lin_of}

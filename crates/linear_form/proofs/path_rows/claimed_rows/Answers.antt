@@ -1,4 +1,3 @@
-use Rattle.std.proofs.Common.{◌≡◌}
 use Rattle.heylo_formula.specs.Goals.{goal_of}
 use Rattle.linear_form.specs.PathRows.{path_claims, listed, denial_at}
 use Rattle.linear_form.specs.Paths.{end_at}

@@ -1,4 +1,4 @@
-use Rattle.std.proofs.Common.{◌≡◌, ◌++◌, [], cond, refl, ap, length}
+use Rattle.std.proofs.Common.{◌++◌, [], cond, refl, ap, length}
 use Rattle.heylo_formula.specs.Goals.{goal_of}
 use Rattle.linear_form.specs.PathRows.{path_claims, listed, denial_at}
 use Rattle.linear_form.specs.Paths.{end_at}

@@ -1,5 +1,4 @@
-use Rattle.std.proofs.Common.{◌≡◌, sym, ap, ◌∙◌, subst, rules, [], ◌∷◌, false}
-use Rattle.std.specs.Prelude.{Some}
+use Rattle.std.proofs.Common.{sym, ap, ◌∙◌, subst, rules, [], ◌∷◌, false}
 use Rattle.linear_form.specs.Lin.{Lin, IsNormal, variable}
 use Rattle.linear_form.specs.PathRows.{claim, negated}
 use Rattle.linear_form.specs.FurtherRows.{rows_with}
