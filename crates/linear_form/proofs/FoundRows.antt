@@ -1,5 +1,5 @@
 -- The rows of a path are rows, and how many they are.
-use Rattle.std.proofs.Common.{◌≡◌, ℕ, ◌+◌, ◌<◌, ◌≤◌, ◌^◌, List, [], ◌∷◌, ◌++◌, map, length, refl, sym, ap, ap₂, ◌∙◌, subst, arith, lit<, Bool, true, false, cond, ◌&&◌, ◌||◌}
+use Rattle.std.proofs.Common.{◌≡◌, ℕ, ◌+◌, ◌<◌, ◌≤◌, ◌^◌, List, [], ◌∷◌, ◌++◌, length, refl, sym, ap, ap₂, ◌∙◌, subst, arith, lit<, Bool, true, false, cond, ◌&&◌, ◌||◌}
 use Rattle.std.specs.Prelude.{ℤ, pos, unsigned_abs, Option, Some, None}
 use Rattle.std.specs.List.{All}
 use Rattle.std.proofs.lemmas.List.{length-append, length-map}
@@ -14,13 +14,12 @@ use Rattle.heylo_formula.specs.Typing.{Types}
 use Rattle.linear_form.specs.Row.{Row, IsRow}
 use Rattle.linear_form.specs.Terms as row
 use Rattle.linear_form.specs.Terms.{is_narrow}
-use Rattle.linear_form.specs.Lin.{Lin, Terms, variable, IsAbove, IsNormal, is_sized}
-use Rattle.linear_form.specs.Query.{Query, Atom, Taken}
-use Rattle.linear_form.specs.Questions.{Ends}
+use Rattle.linear_form.specs.Lin.{Terms, variable, IsAbove, IsNormal, is_sized}
+use Rattle.linear_form.specs.Query.{Atom, Taken}
 use Rattle.linear_form.specs.Paths.{IsPath, end_at}
-use Rattle.linear_form.specs.Tightening.{Claim, tightened, tight_row, whole_terms, factor, rounded, are_whole, all_narrow, constant_fits, AreWholeTimes}
+use Rattle.linear_form.specs.Tightening.{Claim, tightened, tight_row, whole_terms, factor, rounded, are_whole, all_narrow, constant_fits}
 use Rattle.linear_form.specs.TypedGoals.{IsTypedGoal, types_in}
-use Rattle.linear_form.specs.PathRows.{claim, negated, answer_claims, path_claims, below_claim, denial, denial_at, listed, with_row, all_tightened, is_unsigned_type, occurs_in_claims, sign_claims, claims_of, rows_of}
+use Rattle.linear_form.specs.PathRows.{claim, negated, answer_claims, path_claims, denial_at, listed, with_row, all_tightened, is_unsigned_type, occurs_in_claims, sign_claims, claims_of, rows_of}
 use Rattle.linear_form.specs.RowLists.{Lists, AreRows, AreNumericRows, count_of}
 use Rattle.linear_form.specs.PlainPaths.{path_of, taken_of}
 use Rattle.linear_form.specs.declared.paths.Taken as T

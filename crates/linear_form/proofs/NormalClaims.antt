@@ -1,15 +1,15 @@
 -- The claims of a path of a goal have growing terms and no coefficient 0.
-use Rattle.std.proofs.Common.{◌≡◌, ℕ, List, [], ◌∷◌, ◌++◌, length, refl, sym, ap, ap₂, ◌∙◌, subst, Bool, true, false, not, cond, ◌&&◌, ◌||◌, ◌==◌, ltb}
-use Rattle.std.specs.Prelude.{Option, Some, None, pos}
+use Rattle.std.proofs.Common.{ℕ, List, [], ◌∷◌, ◌++◌, length, Bool, true, false, cond, ◌&&◌}
+use Rattle.std.specs.Prelude.{Option, Some, None}
 use Prim.Native.Nat.{zero, suc}
-use Rattle.heyvl_num.specs.Rational.{Rational, zeroʳ, oneʳ, ◌+ʳ◌, ◌*ʳ◌}
-use Rattle.heyvl_num.specs.Value.{Value, is_zeroʳ, is_zero_num}
+use Rattle.heyvl_num.specs.Rational.{Rational}
+use Rattle.heyvl_num.specs.Value.{Value, is_zeroʳ}
 use Rattle.heyvl_num.specs.Value.Value.{finite, infinite}
-use Rattle.heyvl_num.proofs.Values.{is_zero-*, is_zero-one}
+use Rattle.heyvl_num.proofs.Values.{is_zero-one}
 use Rattle.heylo_formula.specs.Formula.{Form, Cond}
 use Rattle.heylo_formula.specs.Goals.{Goal}
 use Rattle.heylo_formula.specs.Typing.{Types}
-use Rattle.linear_form.specs.Lin.{Lin, Terms, constant, variable, kept, more, merged, times, plus, minus, minus_oneʳ, scaled, is_sized, IsNormal}
+use Rattle.linear_form.specs.Lin.{Lin, Terms, constant, variable, plus, minus, minus_oneʳ, scaled, is_sized, IsNormal}
 use Rattle.linear_form.specs.Query.{Query, Atom, Taken, next, known, unless_known, onto, once}
 use Rattle.linear_form.specs.Query.Query.{done, bits, ask}
 use Rattle.linear_form.specs.Questions as q
@@ -18,7 +18,7 @@ use Rattle.linear_form.specs.Paths.{walk, Path, IsPath, end_at}
 use Rattle.linear_form.specs.TypedGoals.{types_in}
 use Rattle.linear_form.specs.Tightening.{Claim}
 use Rattle.linear_form.specs.ClaimLaws.{AllNonzero}
-use Rattle.linear_form.specs.PathRows.{claim, negated, answer_claims, path_claims, below_claim, denial, listed, denial_at, is_unsigned_type, occurs_in_claims, sign_claims, claims_of}
+use Rattle.linear_form.specs.PathRows.{claim, negated, answer_claims, path_claims, below_claim, listed, denial_at, is_unsigned_type, occurs_in_claims, sign_claims, claims_of}
 use Rattle.linear_form.specs.NormalPaths.{IsNormalAtom, IsNormalPath}
 use Rattle.linear_form.specs.QuestionLaws.{EachResult}
 use Rattle.linear_form.specs.Run.{IsKeptValue}

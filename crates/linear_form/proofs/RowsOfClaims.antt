@@ -1,15 +1,14 @@
 -- The rows of claims, one after the other.
-use Rattle.std.proofs.Common.{◌≡◌, ℕ, List, [], ◌∷◌, ◌++◌, map, length, refl, sym, ap, ap₂, ◌∙◌, subst, append_assoc, arith, Bool, true, false, cond, not, ◌&&◌}
+use Rattle.std.proofs.Common.{◌≡◌, ℕ, List, [], ◌∷◌, ◌++◌, map, refl, sym, ap, ap₂, ◌∙◌, subst, append_assoc, Bool, false, cond, ◌&&◌}
 use Rattle.std.specs.Prelude.{Option, Some, None}
 use Rattle.std.proofs.lemmas.List.{append-nil}
-use Prim.Native.Nat.{zero, suc}
 use Rattle.heylo_formula.specs.Typing.{Types}
 use Rattle.linear_form.specs.Row.{Row}
-use Rattle.linear_form.specs.Lin.{Lin, Terms, constant, times, scaled, minus_oneʳ, fits, all_fit, is_sized, IsNormal}
+use Rattle.linear_form.specs.Lin.{Lin, Terms, constant, times, scaled, minus_oneʳ, fits, all_fit, is_sized}
 use Rattle.heyvl_num.specs.Gcd.{gcd, gcd_steps}
 use Rattle.heyvl_num.specs.Rational.{ratio, zeroʳ, ◌*ʳ◌}
 use Rattle.heyvl_num.specs.Value.{is_zeroʳ}
-use Rattle.linear_form.specs.Query.{Query, Taken}
+use Rattle.linear_form.specs.Query.{Query}
 use Rattle.linear_form.specs.Questions.{Ends}
 use Rattle.linear_form.specs.Tightening.{Claim, tightened}
 use Rattle.linear_form.specs.NormalPaths.{IsNormalAtom, IsNormalPath}
@@ -22,7 +21,7 @@ use Rattle.linear_form.specs.Seen.{Answers}
 use Rattle.linear_form.specs.declared.lin.Lin as L
 use Rattle.linear_form.specs.declared.paths.Taken as T
 use Rattle.linear_form.specs.declared.asking.Ask as K
-use Rattle.linear_form.proofs.Narrow.{fits_negated, minus_one_fits}
+use Rattle.linear_form.proofs.Narrow.{fits_negated}
 use Rattle.linear_form.proofs.RowParts.{too_large}
 use Rattle.linear_form.proofs.NormalClaims.{AreKept}
 

@@ -4,7 +4,7 @@ use Rattle.std.specs.Prelude.{ℤ, Option, Some, None}
 use Rattle.std.specs.List.{list_any}
 use Rattle.std.proofs.lemmas.List.{append-nil, map-append}
 use Prim.Native.Nat.{zero, suc}
-use Rattle.heyvl_num.specs.Rational.{Rational, ratio, ◌*ʳ◌}
+use Rattle.heyvl_num.specs.Rational.{Rational, ◌*ʳ◌}
 use Rattle.heylo_formula.specs.Typing.{Types}
 use Rattle.heylo_formula.specs.declared.types.Ty.{Ty}
 use Rattle.linear_form.specs.Row.{Row}
@@ -13,7 +13,7 @@ use Rattle.linear_form.specs.Tightening.{Claim, tightened, tight_row, whole_term
 use Rattle.linear_form.specs.TypedGoals.{types_in}
 use Rattle.linear_form.specs.VariableOrder.{occurs}
 use Rattle.linear_form.specs.PathRows.{claim, negated, with_row, all_tightened, is_unsigned_type, occurs_in_terms, occurs_in_claims, sign_claims}
-use Rattle.linear_form.specs.FurtherRows.{rows_with, one_more, unsigned_in, all_unsigned_in}
+use Rattle.linear_form.specs.FurtherRows.{rows_with, one_more, all_unsigned_in}
 use Rattle.linear_form.specs.RowLists.{Lists}
 use Rattle.linear_form.specs.declared.path_rows.RowList.{RowList}
 use Rattle.linear_form.proofs.EachResults.{of_two}
