@@ -23,6 +23,9 @@ pub mod TypedTrees
 pub mod NumericRows
 pub mod DeniedRows
 mod ShortPaths
+mod ClaimedRows
+mod KnownTruths
+pub mod FalsifyingPoints
 pub mod MetRows
 mod Runs
 mod PathEnds
