@@ -26,11 +26,11 @@ use Rattle.linear_form.proofs.AgreedEnds.{ends_are_values}
 use Rattle.linear_form.proofs.ClaimedRows.{rows_claim}
 use Rattle.linear_form.proofs.KnownTruths.{IsKnown, AreKnown, path_known}
 
-first_claimed : (s : Env) (ks ls : List Claim) → AllClaimed s (ks ++ ls) → AllClaimed s ks
+pub first_claimed : (s : Env) (ks ls : List Claim) → AllClaimed s (ks ++ ls) → AllClaimed s ks
 first_claimed s [] ls h = tt
 first_claimed s (k ∷ ks) ls h = (h.0, first_claimed s ks ls h.1)
 
-second_claimed : (s : Env) (ks ls : List Claim) → AllClaimed s (ks ++ ls) → AllClaimed s ls
+pub second_claimed : (s : Env) (ks ls : List Claim) → AllClaimed s (ks ++ ls) → AllClaimed s ls
 second_claimed s [] ls h = h
 second_claimed s (k ∷ ks) ls h = second_claimed s ks ls h.1
 

@@ -26,6 +26,8 @@ mod ShortPaths
 mod ClaimedRows
 mod KnownTruths
 pub mod FalsifyingPoints
+pub mod Truths
+pub mod UnsignedRows
 pub mod MetRows
 mod Runs
 mod PathEnds

@@ -37,7 +37,7 @@ pub use multipliers::contradicts;
 pub use path_laws::paths_are_short;
 pub use path_rows::{RowList, rows};
 pub use paths::{Atom, Taken};
-pub use point_laws::falsifying_points;
+pub use point_laws::{falsifying_points, truths_are_booleans, unsigned_are_nonnegative};
 pub use question_laws::{constant_without_variables, one_path_agrees};
 pub use row::Row;
 pub use row_laws::solutions_of_rows;
