@@ -30,3 +30,5 @@ pub mod RowLists
 pub mod FurtherRows
 pub mod NormalPaths
 pub mod RowListLaws
+pub mod PathLaws
+pub mod PointLaws

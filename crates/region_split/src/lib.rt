@@ -2,7 +2,9 @@
 #![tactic(auto)]
 
 mod deciding;
+mod decision_laws;
 mod decisions;
 
 pub use deciding::decide;
+pub use decision_laws::decisions_tell;
 pub use decisions::Decision;
