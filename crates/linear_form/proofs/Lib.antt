@@ -13,6 +13,7 @@ mod ConstantForms
 pub mod Walking
 pub mod Mixing
 pub mod PathSteps
+pub mod AnsweredPaths
 pub mod AgreedEnds
 mod MetClaims
 mod TightRows
@@ -31,3 +32,6 @@ mod Asks
 mod Positions
 mod PartialSums
 mod Coefficients
+mod QuestionExamples
+mod TighteningExamples
+mod PathRowExamples

@@ -15,15 +15,23 @@ mod multiples;
 mod multipliers;
 mod numbers;
 mod operators;
+#[cfg(test)]
+mod path_row_tests;
 mod path_rows;
 mod paths;
+#[cfg(test)]
+mod product_tests;
+#[cfg(test)]
+mod question_answers;
 mod question_laws;
+#[cfg(test)]
+mod question_tests;
 mod row;
 mod row_laws;
 mod terms;
-#[cfg(test)]
-mod tests;
 mod tightening;
+#[cfg(test)]
+mod tightening_tests;
 
 pub use answering::ask;
 pub use asking::Ask;
