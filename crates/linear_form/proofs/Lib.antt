@@ -13,6 +13,7 @@ mod ConstantForms
 pub mod Walking
 pub mod Mixing
 pub mod PathSteps
+pub mod AnsweredPaths
 pub mod AgreedEnds
 mod MetClaims
 mod TightRows
@@ -43,3 +44,6 @@ mod Coefficients
 mod RowsOfClaims
 mod SignRows
 mod FoundRows
+mod QuestionExamples
+mod TighteningExamples
+mod PathRowExamples

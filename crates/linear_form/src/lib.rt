@@ -20,15 +20,23 @@ mod path_laws;
 mod path_rows;
 mod paths;
 mod point_laws;
+#[cfg(test)]
+mod path_row_tests;
+#[cfg(test)]
+mod product_tests;
+#[cfg(test)]
+mod question_answers;
 mod question_laws;
+#[cfg(test)]
+mod question_tests;
 mod row;
 mod row_laws;
 mod row_list_laws;
 mod signs;
 mod terms;
-#[cfg(test)]
-mod tests;
 mod tightening;
+#[cfg(test)]
+mod tightening_tests;
 
 pub use answering::ask;
 pub use asking::Ask;

@@ -270,16 +270,16 @@ pub(crate) fn min(
                 next: at,
             }),
             Some(y) => {
-                let test = compare(alloc, &x, &y, false, path, at)?;
-                if test.holds {
+                let least = compare(alloc, &x, &y, false, path, at)?;
+                if least.holds {
                     Ok(Found {
                         value: Some(x),
-                        next: test.next,
+                        next: least.next,
                     })
                 } else {
                     Ok(Found {
                         value: Some(y),
-                        next: test.next,
+                        next: least.next,
                     })
                 }
             }

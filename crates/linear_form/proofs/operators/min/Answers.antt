@@ -4,8 +4,8 @@ use Rattle.linear_form.proofs.Runs.{gives_first, run_done, run_after}
 use Rattle.linear_form.proofs.OperatorRuns.{min_none}
 use Rattle.linear_form.proofs.operators.min.Goals as goal
 
-pub returns-in_err-test-in-Some-b : goal.returns-in_err-test-in-Some-b
-returns-in_err-test-in-Some-b c = rw (c.in-Some.is, c.in-Some-b.is) (gives_first _ _ _ _ _ _ _ (search rules) refl c.in_err-test-in-Some-b.ensures)
+pub returns-in_err-least-in-Some-b : goal.returns-in_err-least-in-Some-b
+returns-in_err-least-in-Some-b c = rw (c.in-Some.is, c.in-Some-b.is) (gives_first _ _ _ _ _ _ _ (search rules) refl c.in_err-least-in-Some-b.ensures)
 
 pub returns-in-None : goal.returns-in-None
 returns-in-None c = rw c.in-None.is (min_none _ _ _)
@@ -13,8 +13,8 @@ returns-in-None c = rw c.in-None.is (min_none _ _ _)
 pub returns-in-None-b : goal.returns-in-None-b
 returns-in-None-b c = rw (c.in-Some.is, c.in-None-b.is) (run_done _ _ _)
 
-pub returns-then-test : goal.returns-then-test
-returns-then-test c = rw (c.in-Some.is, c.in-Some-b.is) (run_after _ _ _ _ _ _ c.in_ok-test-in-Some-b.ensures ∙ rw c.if-test.true (run_done _ _ _))
+pub returns-then-least : goal.returns-then-least
+returns-then-least c = rw (c.in-Some.is, c.in-Some-b.is) (run_after _ _ _ _ _ _ c.in_ok-least-in-Some-b.ensures ∙ rw c.if-least.true (run_done _ _ _))
 
-pub returns-else-test : goal.returns-else-test
-returns-else-test c = rw (c.in-Some.is, c.in-Some-b.is) (run_after _ _ _ _ _ _ c.in_ok-test-in-Some-b.ensures ∙ rw c.if-test.false (run_done _ _ _))
+pub returns-else-least : goal.returns-else-least
+returns-else-least c = rw (c.in-Some.is, c.in-Some-b.is) (run_after _ _ _ _ _ _ c.in_ok-least-in-Some-b.ensures ∙ rw c.if-least.false (run_done _ _ _))

@@ -1,4 +1,4 @@
-use crate::{Ask, Atom, ask, nonlinear};
+use crate::nonlinear;
 use heylo_formula::{Cond, Form, Goal};
 use heyvl_num::{Ext, Frac};
 use heyvl_syntax::Span;
@@ -74,49 +74,5 @@ fn first_nonlinear_products(rt: HostRuntime) -> Result<(), AllocError> {
     let bracket = Box::new(alloc, Form::Iverson(test))?;
     let outer = Form::Product(bracket, variable(alloc, 0)?, place(2));
     assert_eq!(rt; from_of(nonlinear(&goal(alloc, outer, Form::Var(0)))), 5);
-    Ok(())
-}
-
-/// What is asked first.
-fn first(alloc: Global, goal: &Goal) -> Result<Ask, AllocError> {
-    let path = Vec::new(alloc);
-    ask(alloc, goal, &path)
-}
-
-/// The comparison that is asked first, 1000 where none is: its number of terms, and whether it is strict.
-fn comparison(alloc: Global, goal: &Goal) -> Result<(usize, bool), AllocError> {
-    match first(alloc, goal)? {
-        Ask::Decide(Atom::Row(a, strict)) => Ok((a.terms.len(), strict)),
-        Ask::Decide(Atom::Truth(_)) => Ok((1000, false)),
-        Ask::End(_, _) => Ok((1000, false)),
-        Ask::Bits => Ok((1000, false)),
-    }
-}
-
-#[test]
-fn first_questions(rt: HostRuntime) -> Result<(), AllocError> {
-    let alloc = rt.alloc();
-    // min(x, y): is x - y at most 0?
-    let least = Form::Min(variable(alloc, 0)?, variable(alloc, 1)?);
-    assert_eq!(rt;
-        comparison(alloc, &goal(alloc, least, Form::Var(0)))?,
-        (2, false)
-    );
-    // [2 < x]: is 2 - x below 0?
-    let test = Box::new(alloc, Cond::Lt(two(alloc)?, variable(alloc, 0)?))?;
-    let bracket = Form::Iverson(test);
-    assert_eq!(rt;
-        comparison(alloc, &goal(alloc, bracket, Form::Var(0)))?,
-        (1, true)
-    );
-    // [b]: is b true?
-    let flag = Form::Iverson(Box::new(alloc, Cond::Var(3))?);
-    let answer = first(alloc, &goal(alloc, flag, Form::Var(0)))?;
-    assert!(rt; matches!(&answer, Ask::Decide(Atom::Truth(3))));
-    // min(2, infinity) and infinity ask nothing
-    let infinity = Box::new(alloc, Form::Const(Ext::Inf))?;
-    let least = Form::Min(two(alloc)?, infinity);
-    let answer = first(alloc, &goal(alloc, least, Form::Const(Ext::Inf)))?;
-    assert!(rt; matches!(&answer, Ask::End(Some(_), None)));
     Ok(())
 }

@@ -1,0 +1,144 @@
+-- The rows of paths, and a front that is dropped, computed at values found by hand.
+use Rattle.std.proofs.Common.{◌≡◌, refl, sym, subst, ◌∙◌, cond, eqb, List, [], ◌∷◌, ◌++◌, Bool, true, false, arith, inl, ◌<◌}
+use Rattle.std.specs.Prelude.{ℕ, ℤ, pos, negsuc, ◌+ℤ◌, ◌*ℤ◌, ◌<ℤ◌, Option, Some, None}
+use Rattle.std.specs.List.{All}
+use borrow.Author.Differences.{ints}
+use Rattle.std.proofs.lemmas.List.Elements.{All-nil, All-cons}
+use Rattle.heyvl_num.specs.Gcd.{gcd, gcd_steps}
+use Rattle.heyvl_num.specs.Rational.{ratio, zeroʳ, oneʳ, leqʳ, ◌+ʳ◌, ◌*ʳ◌}
+use Rattle.heyvl_num.specs.Value.{Value, is_zeroʳ}
+use Rattle.heyvl_num.specs.Value.Value.{finite, infinite}
+use Rattle.heyvl_num.specs.Rounding.{floorʳ, ceilʳ}
+use Rattle.heyvl_num.specs.Exact.{product_fits}
+use Rattle.heylo_formula.specs.Formula.{Form, Cond}
+use Rattle.heylo_formula.specs.Goals.{Goal}
+use Rattle.heylo_formula.specs.declared.types.Ty.{Ty}
+use Rattle.linear_form.specs.Row.{Row}
+use Rattle.linear_form.specs.Lin.{Lin, constant, variable, minus_oneʳ, plus, minus, scaled, fits, is_sized}
+use Rattle.linear_form.specs.Terms.{coefficient}
+use Rattle.linear_form.specs.Combination.{combined}
+use Rattle.linear_form.specs.Solutions.{IsSolvable}
+use Rattle.linear_form.specs.Query.{Atom, Taken}
+use Rattle.linear_form.specs.Query.Query.{done}
+use Rattle.linear_form.specs.Questions.{zero, one}
+use Rattle.linear_form.specs.Paths.{Path, IsPath}
+use Rattle.linear_form.specs.Tightening.{common_multiple, common_divisor, factor, tightened}
+use Rattle.linear_form.specs.PathRows.{rows_of}
+use Rattle.linear_form.specs.Cells.{IsDropped, IsFront}
+use Rattle.linear_form.proofs.Combinations.{unmet}
+use Rattle.linear_form.proofs.Fractions.{solvable_is}
+
+goal : Bool → Form → Form → List Ty → Goal
+goal upper stated found types = record { upper = upper; stated = stated; found = found; types = types; names = []; own = 0 }
+
+-- a multiple of the variable i, and a constant
+row : ℕ → ℤ → ℤ → Bool → Row
+row i p c strict = record { terms = (i, p) ∷ []; rest = c; strict = strict }
+
+-- a multiple of the variable 0, one of the variable 1, and a constant
+row_of_two : ℤ → ℤ → ℤ → Bool → Row
+row_of_two p q c strict = record { terms = (0, p) ∷ ((1, q) ∷ []); rest = c; strict = strict }
+
+sign : ℤ → Bool → Row
+sign c strict = record { terms = []; rest = c; strict = strict }
+
+-- x < 0, answered
+negative : Bool → List Taken
+negative held = record { atom = Atom.row (variable 0) true; held = held } ∷ []
+
+-- ite(x < 0, a, 1) is stated, and b found
+if_negative : Value → Value → Goal
+if_negative a b = goal true (Form.select (Cond.lt (Form.variable 0) (Form.number (finite zeroʳ))) (Form.number a) (Form.number (finite oneʳ))) (Form.number b) (Ty.UInt ∷ [])
+
+-- 0 where x < 0, and else 1; 1 is found. The denied goal stands between the rows of the path and -x <= 0.
+denied_in_the_middle : (rows_of (if_negative (finite zeroʳ) (finite oneʳ)) (negative true) true ≡ Some (row 0 (pos 1) (pos 1) false ∷ (sign (negsuc 0) true ∷ (row 0 (negsuc 0) (pos 0) false ∷ [])))) × (rows_of (if_negative (finite zeroʳ) (finite oneʳ)) (negative false) true ≡ Some (row 0 (negsuc 0) (pos 0) false ∷ (sign (pos 0) true ∷ (row 0 (negsuc 0) (pos 0) false ∷ []))))
+unfolding goal row sign negative if_negative minus plus scaled minus_oneʳ is_sized fits is_zeroʳ leqʳ tightened common_multiple common_divisor factor ratio gcd gcd_steps zeroʳ oneʳ ◌+ʳ◌ ◌*ʳ◌ floorʳ ceilʳ product_fits
+denied_in_the_middle = (refl, refl)
+
+-- without the denied goal, and before the end, where there is none
+not_denied : (rows_of (if_negative (finite zeroʳ) (finite oneʳ)) (negative true) false ≡ Some (row 0 (pos 1) (pos 1) false ∷ (row 0 (negsuc 0) (pos 0) false ∷ []))) × (rows_of (if_negative (finite zeroʳ) (finite oneʳ)) [] true ≡ Some [])
+unfolding goal row negative if_negative minus plus scaled minus_oneʳ is_sized fits is_zeroʳ leqʳ tightened common_multiple common_divisor factor ratio gcd gcd_steps zeroʳ oneʳ ◌+ʳ◌ ◌*ʳ◌ floorʳ ceilʳ product_fits
+not_denied = (refl, refl)
+
+-- 1/(2^31 - 1) - 1/(2^61 - 1) has a denominator above 2^62
+denied_goal_is_too_large : (rows_of (if_negative (finite (ratio (pos 1) 2147483647)) (finite (ratio (pos 1) 2305843009213693951))) (negative true) true ≡ None) × (rows_of (if_negative (finite (ratio (pos 1) 2147483647)) (finite (ratio (pos 1) 2305843009213693951))) (negative true) false ≡ Some (row 0 (pos 1) (pos 1) false ∷ (row 0 (negsuc 0) (pos 0) false ∷ [])))
+unfolding goal row negative if_negative minus plus scaled minus_oneʳ is_sized fits is_zeroʳ leqʳ tightened common_multiple common_divisor factor ratio gcd gcd_steps zeroʳ oneʳ ◌+ʳ◌ ◌*ʳ◌ floorʳ ceilʳ product_fits
+denied_goal_is_too_large = (refl, refl)
+
+-- x is stated and y found: in an upper goal x < y is the denied goal, in a lower one y < x. A UInt or a UReal isn't negative, an Int may be.
+denied_goals : (rows_of (goal true (Form.variable 0) (Form.variable 1) (Ty.Int ∷ (Ty.UInt ∷ []))) [] true ≡ Some (row_of_two (pos 1) (negsuc 0) (pos 1) false ∷ (row 1 (negsuc 0) (pos 0) false ∷ []))) × (rows_of (goal false (Form.variable 0) (Form.variable 1) (Ty.Int ∷ (Ty.Int ∷ []))) [] true ≡ Some (row_of_two (negsuc 0) (pos 1) (pos 1) false ∷ [])) × (rows_of (goal true (Form.variable 0) (Form.variable 1) (Ty.UReal ∷ (Ty.UInt ∷ []))) [] true ≡ Some (row_of_two (pos 1) (negsuc 0) (pos 0) true ∷ (row 0 (negsuc 0) (pos 0) false ∷ (row 1 (negsuc 0) (pos 0) false ∷ []))))
+unfolding goal row row_of_two minus plus scaled minus_oneʳ is_sized fits is_zeroʳ tightened common_multiple common_divisor factor ratio gcd gcd_steps zeroʳ oneʳ ◌+ʳ◌ ◌*ʳ◌ floorʳ ceilʳ product_fits
+denied_goals = (refl, refl, refl)
+
+-- infinity can't be the smaller side; where it is the other one, the denied goal is -1 < 0
+infinite_sides : (rows_of (goal true (Form.number infinite) (Form.variable 0) (Ty.UInt ∷ [])) [] true ≡ Some []) × (rows_of (goal true (Form.variable 0) (Form.number infinite) (Ty.UInt ∷ [])) [] true ≡ Some (sign (negsuc 0) true ∷ [])) × (rows_of (goal false (Form.variable 0) (Form.number infinite) (Ty.UInt ∷ [])) [] true ≡ Some []) × (rows_of (goal false (Form.number infinite) (Form.variable 0) (Ty.UInt ∷ [])) [] true ≡ Some (sign (negsuc 0) true ∷ [])) × (rows_of (goal true (Form.number infinite) (Form.number infinite) []) [] true ≡ Some []) × (rows_of (goal false (Form.number infinite) (Form.number infinite) []) [] true ≡ Some [])
+unfolding goal sign minus_oneʳ is_sized fits tightened ratio gcd gcd_steps zeroʳ oneʳ
+infinite_sides = (refl, refl, refl, refl, refl, refl)
+
+-- the two comparisons of x = y for a UReal x and a UInt y: x <= y, and y <= x or its denial, x < y; a Boolean gives no row
+answers_in_order : (rows_of (goal true (Form.embed (Cond.equal (Form.variable 0) (Form.variable 1))) (Form.variable 0) (Ty.UReal ∷ (Ty.UInt ∷ []))) (record { atom = Atom.row (minus (variable 0) (variable 1)) false; held = true } ∷ (record { atom = Atom.row (minus (variable 1) (variable 0)) false; held = false } ∷ [])) false ≡ Some (row_of_two (pos 1) (negsuc 0) (pos 0) false ∷ (row_of_two (pos 1) (negsuc 0) (pos 0) true ∷ (row 0 (negsuc 0) (pos 0) false ∷ (row 1 (negsuc 0) (pos 0) false ∷ []))))) × (rows_of (goal true (Form.embed (Cond.flag 0)) (Form.number infinite) (Ty.Bool ∷ [])) (record { atom = Atom.truth 0; held = true } ∷ []) true ≡ Some [])
+unfolding goal row row_of_two minus plus scaled minus_oneʳ is_sized fits is_zeroʳ tightened common_multiple common_divisor factor ratio gcd gcd_steps zeroʳ oneʳ ◌+ʳ◌ ◌*ʳ◌ floorʳ ceilʳ product_fits
+answers_in_order = (refl, refl)
+
+-- ---- A front that is dropped: a natural number below 0
+
+natural : Goal
+natural = if_negative (finite zeroʳ) (finite oneʳ)
+
+-- x + 1 <= 0 and -x <= 0
+unmet_rows : List Row
+unmet_rows = row 0 (pos 1) (pos 1) false ∷ (row 0 (negsuc 0) (pos 0) false ∷ [])
+
+-- their sum is 1 <= 0
+each_once : List (ℕ × ℕ)
+each_once = (0, 1) ∷ ((1, 1) ∷ [])
+
+none_is_left : (b : Bool) → (pos 1 *ℤ (cond b (pos 1) (pos 0) +ℤ pos 0)) +ℤ ((pos 1 *ℤ (cond b (negsuc 0) (pos 0) +ℤ pos 0)) +ℤ pos 0) ≡ pos 0
+none_is_left true = refl
+none_is_left false = refl
+
+no_variable : (x : ℕ) → combined (λ r. coefficient x r.terms) each_once unmet_rows ≡ pos 0
+unfolding unmet_rows each_once row combined coefficient
+no_variable x = none_is_left (eqb 0 x)
+
+one_is_left : combined (λ r. r.rest) each_once unmet_rows ≡ pos 1
+unfolding unmet_rows each_once row combined
+one_is_left = refl
+
+positive : All (λ (m : ℕ × ℕ). 0 < m.1) each_once
+unfolding each_once
+positive = All-cons (λ (m : ℕ × ℕ). 0 < m.1) (0, 1) ((1, 1) ∷ []) (omega arith) (All-cons (λ (m : ℕ × ℕ). 0 < m.1) (1, 1) [] (omega arith) (All-nil (λ (m : ℕ × ℕ). 0 < m.1)))
+
+unsolvable : IsSolvable unmet_rows → ⊥
+unsolvable s = unmet each_once unmet_rows positive no_variable (inl (subst (λ z. pos 0 <ℤ z) (sym one_is_left) (omega (arith, ints)))) ((solvable_is unmet_rows).0 s)
+
+dropped : IsDropped natural (negative true)
+unfolding natural unmet_rows
+dropped = record { rows = unmet_rows; are_rows = not_denied.0; unsolvable = unsolvable }
+
+-- the path without an answer has no rows, and so it isn't dropped
+nothing_at_the_start : rows_of natural [] false ≡ Some []
+unfolding goal natural if_negative minus plus scaled minus_oneʳ is_sized fits is_zeroʳ leqʳ ratio gcd gcd_steps zeroʳ oneʳ ◌+ʳ◌ ◌*ʳ◌
+nothing_at_the_start = refl
+
+same_rows : (rs ss : List Row) → Some rs ≡ Some ss → rs ≡ ss
+same_rows rs ss e = cc
+
+no_row : IsSolvable []
+no_row = record { at_values = λ x. zeroʳ; meets = All-nil _ }
+
+start_is_kept : IsDropped natural [] → ⊥
+start_is_kept d = d.unsolvable (subst (λ rs. IsSolvable rs) (same_rows [] d.rows (sym nothing_at_the_start ∙ d.are_rows)) no_row)
+
+is_path : IsPath natural (negative true)
+unfolding goal negative natural if_negative minus plus scaled minus_oneʳ is_sized fits is_zeroʳ leqʳ ratio gcd gcd_steps zeroʳ oneʳ ◌+ʳ◌ ◌*ʳ◌
+is_path = Path.yes (Atom.row (variable 0) true) (done (zero, one)) (done (one, one)) [] (Path.start (done (zero, one)))
+
+front : IsFront natural (negative true)
+unfolding negative
+front = record { is_path = is_path; reached = reached }
+  where
+    reached : (before : List Taken) (p : Taken) (after : List Taken) → negative true ≡ before ++ (p ∷ after) → IsDropped natural before → ⊥
+    reached [] p after e d = start_is_kept d
+    reached (q ∷ []) p after e d = absurd (cc)
+    reached (q ∷ (r ∷ qs)) p after e d = absurd (cc)
