@@ -1,26 +1,26 @@
 -- A row that a state's values meet claims what its inequality says: its constant is rounded up.
 use Rattle.std.proofs.Common.{◌≡◌, ℕ, List, [], ◌∷◌, refl, sym, ap, ◌∙◌, arith, lit<, subst, Bool, true, false, not, cond}
-use Rattle.std.specs.Prelude.{ℤ, pos, negsuc, ◌+ℤ◌, ◌*ℤ◌, ◌≤ℤ◌, Option, Some, None}
+use Rattle.std.specs.Prelude.{ℤ, pos, negsuc, ◌+ℤ◌, ◌≤ℤ◌, Option, Some, None}
 use borrow.Author.Differences.{ints}
 use Prim.Native.Nat.{zero, suc}
 use Rattle.std.specs.List.{All}
 use Rattle.std.proofs.lemmas.List.Elements.{All-head, All-tail}
 use Rattle.heyvl_num.specs.Gcd.{gcd, gcd_steps}
-use Rattle.heyvl_num.specs.Rational.{Rational, ratio, zeroʳ, oneʳ, ◌+ʳ◌, ◌*ʳ◌, leqʳ, ◌≤ʳ◌, ◌<ʳ◌}
-use Rattle.heyvl_num.specs.Rounding.{whole, floorʳ, ceilʳ}
+use Rattle.heyvl_num.specs.Rational.{Rational, ratio, zeroʳ, ◌+ʳ◌, ◌*ʳ◌, leqʳ, ◌≤ʳ◌}
+use Rattle.heyvl_num.specs.Rounding.{whole, floorʳ}
 use Rattle.heyvl_num.proofs.Rationals.{≤ʳ_trans, ≤ʳ_refl, +ʳ_mono, +ʳ_comm, *ʳ_assoc, *ʳ_comm, one-*ʳ, zero-+ʳ, order_cross, nonnegative_num}
 use Rattle.heyvl_num.proofs.Roundings.{floor-is, ceil-is}
 use Rattle.heyvl_num.proofs.Signs.{≤ʳ-+ʳ_cancel}
 use Rattle.heylo_formula.specs.State.{Env, number_of}
 use Rattle.heylo_formula.specs.Typing.{Types}
 use Rattle.linear_form.specs.Solutions.{sum_of, IsBelowZero, MeetsAt}
-use Rattle.linear_form.specs.Lin.{Lin, Terms, at, total}
+use Rattle.linear_form.specs.Lin.{Terms, total}
 use Rattle.linear_form.specs.Query.{is_negative}
 use Rattle.linear_form.specs.ClaimLaws.{IsClaimed, AllClaimed, AreNonzero, AllNonzero}
 use Rattle.linear_form.specs.PathRows.{with_row, all_tightened}
 use Rattle.linear_form.specs.Row.{Row}
 use Rattle.linear_form.specs.Tightening.{Claim, sign_of, rounded, are_whole, tight_row, tightened, factor, whole_terms, AreWholeTimes}
-use Rattle.linear_form.proofs.TightRows.{IsPositive, keeps_sign, positive_ratio, positive-*, factor_positive, factor_whole, sum_scaled, value_scaled, further_whole, cleared, zero_row, taken_row}
+use Rattle.linear_form.proofs.TightRows.{IsPositive, keeps_sign, positive_ratio, positive-*, factor_positive, factor_whole, value_scaled, further_whole, cleared, zero_row, taken_row}
 
 abbrev numbers : Env → ℕ → Rational
 numbers s x = number_of (s x)

@@ -1,23 +1,20 @@
 -- A state that meets the rows of a path and has its truths agrees with it, and with the denied goal among them the goal fails.
-use Rattle.std.proofs.Common.{◌≡◌, ℕ, List, [], ◌∷◌, ◌++◌, length, refl, sym, ap, ◌∙◌, subst, Bool, true, false, not, cond}
-use Rattle.std.specs.Prelude.{Option, Some, None}
-use Rattle.heyvl_num.specs.Rational.{Rational, zeroʳ, ◌-ʳ◌, leqʳ}
+use Rattle.std.proofs.Common.{◌≡◌, List, [], ◌∷◌, ◌++◌, length, refl, sym, ap, ◌∙◌, subst, Bool, true, false, not, cond}
+use Rattle.std.specs.Prelude.{Some, None}
+use Rattle.heyvl_num.specs.Rational.{Rational, zeroʳ, ◌-ʳ◌}
 use Rattle.heyvl_num.specs.Value.{Value, leqᵛ, ◌≤ᵛ◌}
-use Rattle.heyvl_num.specs.Value.Value.{finite, infinite}
-use Rattle.heylo_formula.specs.Goals.{Goal, Compares, HoldsIn}
+use Rattle.heylo_formula.specs.Goals.{Goal, Compares}
 use Rattle.heylo_formula.specs.State.{Env, environment}
 use Rattle.heylo_formula.specs.Choices.{Choices}
 use Rattle.heylo_formula.specs.Meaning.{value}
-use Rattle.heylo_formula.specs.declared.values.Val.{Val}
-use Rattle.linear_form.specs.Lin.{Lin, at, minus}
-use Rattle.linear_form.specs.Query.{Query, Atom, Taken, is_negative, holds_at}
-use Rattle.linear_form.specs.Query.Query.{done, bits, ask}
+use Rattle.linear_form.specs.Lin.{Lin, at}
+use Rattle.linear_form.specs.Query.{Atom, Taken, is_negative, holds_at}
 use Rattle.linear_form.specs.Questions.{Linear, Ends, value_in}
-use Rattle.linear_form.specs.Paths.{IsPath, Agrees, end_at}
-use Rattle.linear_form.specs.TypedGoals.{IsTypedGoal, types_in}
+use Rattle.linear_form.specs.Paths.{Agrees, end_at}
+use Rattle.linear_form.specs.TypedGoals.{types_in}
 use Rattle.linear_form.specs.Tightening.{Claim}
-use Rattle.linear_form.specs.ClaimLaws.{IsClaimed, AllClaimed}
-use Rattle.linear_form.specs.PathRows.{answer_claims, path_claims, below_claim, denial, listed, denial_at, sign_claims, claims_of, IsPlainAt}
+use Rattle.linear_form.specs.ClaimLaws.{AllClaimed}
+use Rattle.linear_form.specs.PathRows.{answer_claims, path_claims, below_claim, denial, listed, denial_at, sign_claims, claims_of}
 use Rattle.linear_form.specs.PointLaws.{HasTruths, PointsAgree, PointsFalsify}
 use Rattle.linear_form.proofs.LinearValues.{leq_zero_minus, leq_minus, below_at}
 use Rattle.linear_form.proofs.MetClaims.{negated_at}

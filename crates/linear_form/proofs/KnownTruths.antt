@@ -1,10 +1,9 @@
 -- A path asks for a truth once, and so its answer is what the path knows of it.
-use Rattle.std.proofs.Common.{◌≡◌, ℕ, List, [], ◌∷◌, ◌++◌, refl, sym, ap, ◌∙◌, subst, arith, Bool, true, false, cond, ◌==◌, append_assoc}
+use Rattle.std.proofs.Common.{◌≡◌, ℕ, List, [], ◌∷◌, ◌++◌, refl, ap, ◌∙◌, subst, arith, Bool, true, false, cond, ◌==◌, append_assoc}
 use Rattle.std.specs.Prelude.{Option, Some, None}
 use Rattle.heylo_formula.specs.Goals.{Goal}
 use Rattle.linear_form.specs.Query.{Query, Atom, Taken, known, known_by, unless_known, onto, once}
 use Rattle.linear_form.specs.Query.Query.{done, bits, ask}
-use Rattle.linear_form.specs.Questions.{questions}
 use Rattle.linear_form.specs.Paths.{Path, IsPath}
 
 abbrev IsNew : List Taken → Atom → Type 0

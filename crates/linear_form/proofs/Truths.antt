@@ -1,13 +1,11 @@
 -- The truths that a goal asks for are those of its free Boolean variables.
-use Rattle.std.proofs.Common.{◌≡◌, ℕ, ◌<◌, List, [], ◌∷◌, length, refl, sym, ap, subst, arith, Bool, true, false, cond, ◌==◌, ◌||◌}
+use Rattle.std.proofs.Common.{◌≡◌, ℕ, ◌<◌, List, [], ◌∷◌, length, refl, subst, arith, Bool, true, false, cond, ◌==◌, ◌||◌}
 use Rattle.std.specs.Prelude.{Option, Some, None}
 use Rattle.heyvl_num.specs.Rational.{Rational}
-use Rattle.heyvl_num.specs.Value.{Value, is_zeroʳ}
 use Rattle.heylo_formula.specs.Formula.{Form, Cond}
-use Rattle.heylo_formula.specs.Goals.{Goal}
 use Rattle.heylo_formula.specs.Typing.{Types, is_bool}
 use Rattle.heylo_formula.specs.Variables.{is_free, is_free_in}
-use Rattle.linear_form.specs.Lin.{Lin, Terms, constant, plus, minus, scaled, is_sized}
+use Rattle.linear_form.specs.Lin.{Lin, Terms, plus, minus, scaled, is_sized}
 use Rattle.linear_form.specs.Query.{Query, Atom, Taken, next, known, known_by, unless_known, onto, once}
 use Rattle.linear_form.specs.Query.Query.{done, bits, ask}
 use Rattle.linear_form.specs.Questions as q
@@ -15,7 +13,6 @@ use Rattle.linear_form.specs.Questions.{Linear, Ends, sized, asked, is_below, ev
 use Rattle.linear_form.specs.Paths.{Path}
 use Rattle.linear_form.specs.TypedGoals.{types_in}
 use Rattle.linear_form.specs.PointLaws.{TruthsAreBooleans, TruthsHaveVariables}
-use Rattle.linear_form.proofs.EachResults.{of_two}
 use Rattle.linear_form.proofs.TypedTrees.{IsTypedAtom, IsTypedPath, typed_path}
 
 -- What holds of the variable of each truth that is asked for.

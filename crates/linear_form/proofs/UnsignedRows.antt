@@ -1,21 +1,19 @@
 -- An unsigned variable that occurs in the rows of a path has a row that says that it isn't negative.
 use Rattle.std.proofs.Common.{◌≡◌, ℕ, ◌+◌, ◌<◌, List, [], ◌∷◌, ◌++◌, length, refl, sym, ap, ap₂, ◌∙◌, subst, arith, Bool, true, false, cond, ◌==◌, ◌&&◌, ◌||◌, eqb}
-use Rattle.std.specs.Prelude.{Option, Some, None, count_by}
+use Rattle.std.specs.Prelude.{Some}
 use Prim.Native.Nat.{zero, suc}
 use Rattle.std.specs.List.{All, list_any}
 use Rattle.std.proofs.lemmas.List.Elements.{All-head, All-tail}
 use Rattle.std.proofs.lemmas.List.Sums.{sum_by-cons}
 use Rattle.heyvl_num.specs.Rational.{Rational, zeroʳ, leqʳ, ◌≤ʳ◌, ◌*ʳ◌}
 use Rattle.heyvl_num.specs.Value.{is_zeroʳ}
-use Rattle.heylo_formula.specs.Goals.{Goal}
 use Rattle.heylo_formula.specs.State.{Env, number_of}
 use Rattle.heylo_formula.specs.Typing.{Types}
 use Rattle.linear_form.specs.Lin.{Lin, Terms, at, constant, variable, times, scaled, minus_oneʳ}
-use Rattle.linear_form.specs.Query.{Taken}
-use Rattle.linear_form.specs.Paths.{IsPath, end_at}
+use Rattle.linear_form.specs.Paths.{end_at}
 use Rattle.linear_form.specs.TypedGoals.{types_in}
 use Rattle.linear_form.specs.Tightening.{Claim, tightened, tight_row, rounded, are_whole, factor, whole_terms}
-use Rattle.linear_form.specs.PathRows.{claim, negated, path_claims, listed, denial_at, is_unsigned_type, occurs_in_terms, occurs_in_claims, sign_claims, claims_of, rows_of}
+use Rattle.linear_form.specs.PathRows.{claim, negated, path_claims, listed, denial_at, is_unsigned_type, occurs_in_terms, occurs_in_claims, sign_claims, claims_of}
 use Rattle.linear_form.specs.ClaimLaws.{IsClaimed, AllClaimed}
 use Rattle.linear_form.specs.PointLaws.{UnsignedAreNonnegative}
 use Rattle.linear_form.specs.Row.{Row}

@@ -6,8 +6,8 @@ use Rattle.heylo_formula.specs.Goals.{Goal, HoldsIn}
 use Rattle.heylo_formula.specs.State.{Env, IsTyped, environment, number_of, truth_of}
 use Rattle.heylo_formula.specs.Typing.{is_bool}
 use Rattle.heylo_formula.specs.declared.values.Val.{Val}
-use Rattle.linear_form.specs.Query.{Query, Taken, known}
-use Rattle.linear_form.specs.Query.Query.{done, bits, ask}
+use Rattle.linear_form.specs.Query.{Taken, known}
+use Rattle.linear_form.specs.Query.Query.{done}
 use Rattle.linear_form.specs.Questions.{Ends}
 use Rattle.linear_form.specs.Paths.{IsPath, Agrees, end_at}
 use Rattle.linear_form.specs.PathRows.{rows_of, IsPlainAt, is_unsigned_type}

@@ -1,12 +1,12 @@
 -- The point of a false cell is a state of the right types in which the goal fails.
-use Rattle.std.proofs.Common.{◌≡◌, ℕ, ◌+◌, ◌<◌, List, [], ◌∷◌, ◌++◌, length, get_or, refl, sym, ap, ap₂, ◌∙◌, subst, arith, Bool, true, false, cond, ◌==◌, ◌&&◌}
+use Rattle.std.proofs.Common.{◌≡◌, ℕ, ◌+◌, ◌<◌, List, [], ◌∷◌, length, get_or, refl, sym, ap, ap₂, ◌∙◌, subst, arith, Bool, true, false, ◌==◌, ◌&&◌}
 use Rattle.std.specs.Prelude.{Option, Some, None}
 use Prim.Native.Nat.{zero, suc}
 use Rattle.std.specs.List.{All}
-use Rattle.heyvl_num.specs.Rational.{Rational, zeroʳ, leqʳ, ◌≤ʳ◌}
+use Rattle.heyvl_num.specs.Rational.{Rational, zeroʳ, ◌≤ʳ◌}
 use Rattle.heyvl_num.proofs.Rationals.{≤ʳ_refl}
-use Rattle.heylo_formula.specs.Goals.{Goal, HoldsIn}
-use Rattle.heylo_formula.specs.State.{Env, IsTyped, environment, number_of, truth_of, has}
+use Rattle.heylo_formula.specs.Goals.{Goal}
+use Rattle.heylo_formula.specs.State.{IsTyped, environment, number_of, truth_of, has}
 use Rattle.heylo_formula.specs.Typing.{is_bool}
 use Rattle.heylo_formula.specs.declared.types.Ty.{Ty}
 use Rattle.heylo_formula.specs.declared.values.Val.{Val}
@@ -18,8 +18,7 @@ use Rattle.linear_form.specs.Row.{Row}
 use Rattle.linear_form.specs.RowLists.{is_numeric, IsNumericRow}
 use Rattle.linear_form.specs.Solutions.{MeetsAt, IsSolvable}
 use Rattle.linear_form.specs.TypedGoals.{IsTypedGoal, HasItsVariables, types_in}
-use Rattle.linear_form.specs.VariableOrder.{occurrences}
-use Rattle.linear_form.specs.GreedyPoint.{Greedy, ChoosesFrom, chosen_value, value_for, type_at, IsWholeType, IsGreedyPoint}
+use Rattle.linear_form.specs.GreedyPoint.{Greedy, ChoosesFrom, chosen_value, value_for, IsWholeType}
 use Rattle.linear_form.specs.Cells.{IsFalseCell}
 use Rattle.linear_form.specs.PointLaws.{HasTruths}
 use Rattle.linear_form.proofs.NumericRows.{numeric_rows}

@@ -1,5 +1,5 @@
 -- The value that is chosen in an interval is inside it, and whole for a whole type.
-use Rattle.std.proofs.Common.{◌≡◌, ◌↔◌, ℕ, List, [], ◌∷◌, ◌++◌, refl, sym, ap, ◌∙◌, subst, Bool, true, false, cond}
+use Rattle.std.proofs.Common.{◌≡◌, ℕ, List, [], ◌∷◌, ◌++◌, refl, sym, ◌∙◌, subst, Bool, true, false, cond}
 use Rattle.std.specs.Prelude.{Option, Some, None}
 use Rattle.std.specs.List.{All}
 use Rattle.std.proofs.lemmas.List.Elements.{All-push}
@@ -9,8 +9,7 @@ use Rattle.heyvl_num.proofs.Rationals.{≤ʳ_refl, ≤ʳ_trans, +ʳ_comm, zero-+
 use Rattle.heyvl_num.proofs.Signs.{<ʳ-≤ʳ, <ʳ-not, middle_above, middle_below, ≤ʳ-+ʳ_cancel, -ʳ-+ʳ}
 use Rattle.heylo_formula.specs.declared.types.Ty.{Ty}
 use Rattle.linear_form.specs.Row.{Row}
-use Rattle.linear_form.specs.Solutions.{MeetsAt}
-use Rattle.linear_form.specs.GreedyPoint.{IsCompleted, End, Interval, IsUpFrom, IsUpTo, IsInside, IsIntervalOf, IsWholeType, IsChoice, type_at, Greedy, Chooses}
+use Rattle.linear_form.specs.GreedyPoint.{IsCompleted, End, Interval, IsUpFrom, IsUpTo, IsInside, IsWholeType, IsChoice, type_at, Greedy, Chooses}
 
 -- ---- Below and at most
 

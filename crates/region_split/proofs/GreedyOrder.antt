@@ -1,5 +1,5 @@
 -- The variables that are chosen are those that occur in the rows.
-use Rattle.std.proofs.Common.{◌≡◌, ℕ, ◌<◌, List, [], ◌∷◌, ◌++◌, refl, sym, ap, ap₂, ◌∙◌, subst, arith, Bool, true, false, cond, ◌||◌, eqb, ltb}
+use Rattle.std.proofs.Common.{◌≡◌, ℕ, ◌<◌, List, [], ◌∷◌, ◌++◌, refl, sym, ap, ◌∙◌, subst, arith, Bool, true, false, cond, ◌||◌, eqb, ltb}
 use Rattle.std.specs.Prelude.{reverse}
 use Prim.Native.Nat.{zero, suc}
 use Rattle.std.specs.List.{All, list_any}

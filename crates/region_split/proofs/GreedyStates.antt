@@ -1,5 +1,5 @@
 -- The greedy point of solvable rows over numbers meets them; its values for whole types are whole, and a variable that occurs in no row is 0.
-use Rattle.std.proofs.Common.{◌≡◌, ℕ, ◌+◌, ◌<◌, List, [], ◌∷◌, length, get_or, refl, sym, ap, ap₂, ◌∙◌, subst, arith, Bool, true, false, cond, ◌||◌, eqb}
+use Rattle.std.proofs.Common.{◌≡◌, ℕ, ◌+◌, ◌<◌, List, [], ◌∷◌, length, refl, sym, ap, ap₂, ◌∙◌, subst, arith, Bool, true, false, cond, ◌||◌, eqb}
 use Rattle.std.specs.Prelude.{ℤ, reverse}
 use Prim.Native.Nat.{zero, suc}
 use Rattle.std.specs.List.{All, list_any}
@@ -13,7 +13,7 @@ use Rattle.linear_form.specs.RowLists.{is_numeric, IsNumericRow}
 use Rattle.linear_form.specs.TypedGoals.{types_in}
 use Rattle.linear_form.specs.Solutions.{sum_of, MeetsAt, IsBelowZero, IsSolvable}
 use Rattle.linear_form.specs.VariableOrder.{occurs, occurrences, order_of}
-use Rattle.linear_form.specs.GreedyPoint.{IsCompleted, IsWholeType, type_at, Greedy, ChoosesFrom, chosen_value}
+use Rattle.linear_form.specs.GreedyPoint.{IsWholeType, type_at, Greedy, ChoosesFrom, chosen_value}
 use Rattle.region_split.proofs.GreedyChoices.{AreWhole, completed, chosen_whole, zero_whole}
 use Rattle.region_split.proofs.GreedyOrder.{turned_order, turned_occurs, chosen_any, chosen_all}
 

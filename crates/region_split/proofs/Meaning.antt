@@ -1,10 +1,5 @@
 -- What a decision means for the states of its goal.
-use Rattle.heylo_formula.specs.Goals.{Goal}
-use Rattle.linear_form.specs.TypedGoals.{IsTypedGoal, HasItsVariables}
-use Rattle.region_split.specs.Decisions.{IsDecision}
-use Rattle.region_split.specs.Meanings.{Tells}
 use Rattle.region_split.specs.DecisionLaws.{DecisionsTell}
-use Rattle.region_split.specs.declared.decisions.Decision.{Decision}
 use Rattle.region_split.specs.declared.decisions.Decision.TheVariants.{Proved, Falsified, Unknown}
 use Rattle.region_split.proofs.ProvedGoals.{proved_holds}
 use Rattle.region_split.proofs.FalsifiedGoals.{falsified_fails}

@@ -1,17 +1,16 @@
 -- A goal each of whose cells is plain or refuted holds in every state.
-use Rattle.std.proofs.Common.{◌≡◌, ℕ, List, [], ◌∷◌, ◌++◌, refl, sym, ap, ◌∙◌, subst, Bool, true, false, ◌⊎◌, inl, inr}
-use Rattle.std.specs.Prelude.{Option, Some, None}
+use Rattle.std.proofs.Common.{◌≡◌, List, [], ◌∷◌, ◌++◌, refl, subst, Bool, true, false, ◌⊎◌, inl, inr}
+use Rattle.std.specs.Prelude.{Option, Some}
 use Rattle.std.specs.List.{All}
 use Rattle.std.proofs.lemmas.List.Elements.{All-nil, All-cons, All-head, All-tail}
-use Rattle.heyvl_num.specs.Value.{Value}
 use Rattle.heylo_formula.specs.Goals.{Goal, Compares, HoldsIn, Holds}
-use Rattle.heylo_formula.specs.State.{Env, IsTyped, environment, number_of}
+use Rattle.heylo_formula.specs.State.{IsTyped, environment, number_of}
 use Rattle.heylo_formula.specs.Choices.{Choices}
 use Rattle.heylo_formula.specs.Meaning.{value}
 use Rattle.heylo_formula.specs.declared.values.Val.{Val}
-use Rattle.linear_form.specs.Query.{Query, Atom, Taken, onto, holds_at}
-use Rattle.linear_form.specs.Questions.{Ends, value_in, questions}
-use Rattle.linear_form.specs.Paths.{end_at, IsPath, Path, Agrees}
+use Rattle.linear_form.specs.Query.{Taken, onto, holds_at}
+use Rattle.linear_form.specs.Questions.{value_in, questions}
+use Rattle.linear_form.specs.Paths.{IsPath, Path, Agrees}
 use Rattle.linear_form.specs.Row.{Row}
 use Rattle.linear_form.specs.PathRows.{rows_of, IsPlainAt}
 use Rattle.linear_form.specs.Solutions.{IsSolvable}
