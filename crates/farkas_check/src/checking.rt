@@ -3,7 +3,6 @@
 ghost use Rattle.std.specs.Prelude.{◌≡◌, ◌↔◌, List, [], ◌∷◌, ◌++◌, Bool, true, false, IsTrue, IsSome, is_none, IfOk, Ok, Some, None, map};
 ghost use Rattle.heylo_formula.specs.Goals.{goal_of, Holds};
 ghost use Rattle.linear_form.specs.TypedGoals.{IsTypedGoal};
-ghost use Rattle.linear_form.specs.Nonlinear.{nonlinear_product};
 ghost use Rattle.linear_form.specs.Paths.{IsPath};
 ghost use Rattle.linear_form.specs.PlainPaths.{path_of, linear_of};
 ghost use Rattle.linear_form.specs.PathRows.{denial, IsPlainAt};
@@ -37,9 +36,7 @@ fn is_plain(upper: bool, stated: &Option<Lin>, found: &Option<Lin>) -> bool
 
 /// Whether the denied goal is among the rows of the path.
 fn is_denied(alloc: Global, goal: &Goal, path: &[Taken]) -> Result<bool, AllocError>
-    requires typed { IsTypedGoal (goal_of goal.now) }
-    requires linear { nonlinear_product (goal_of goal.now) ≡ None }
-    requires path { IsPath (goal_of goal.now) (path_of path.now) }
+    requires { IsPath (goal_of goal.now) (path_of path.now) }
     ensures { IfOk result (λ b. b ≡ has_denied (goal_of goal.now) (path_of path.now)) }
 {
     match ask(alloc, goal, path)? {
@@ -51,9 +48,7 @@ fn is_denied(alloc: Global, goal: &Goal, path: &[Taken]) -> Result<bool, AllocEr
 
 /// Whether the path is at an end at which the goal holds plainly.
 fn holds_plainly(alloc: Global, goal: &Goal, path: &[Taken]) -> Result<bool, AllocError>
-    requires typed { IsTypedGoal (goal_of goal.now) }
-    requires linear { nonlinear_product (goal_of goal.now) ≡ None }
-    requires path { IsPath (goal_of goal.now) (path_of path.now) }
+    requires { IsPath (goal_of goal.now) (path_of path.now) }
     ensures { IfOk result (λ b. IsTrue b ↔ IsPlainAt (goal_of goal.now) (path_of path.now)) }
 {
     match ask(alloc, goal, path)? {
@@ -65,9 +60,7 @@ fn holds_plainly(alloc: Global, goal: &Goal, path: &[Taken]) -> Result<bool, All
 
 /// The question at the end of the path, if there is one.
 fn question(alloc: Global, goal: &Goal, path: &[Taken]) -> Result<Option<Atom>, AllocError>
-    requires typed { IsTypedGoal (goal_of goal.now) }
-    requires linear { nonlinear_product (goal_of goal.now) ≡ None }
-    requires path { IsPath (goal_of goal.now) (path_of path.now) }
+    requires { IsPath (goal_of goal.now) (path_of path.now) }
     ensures { IfOk result (IsNext (goal_of goal.now) (path_of path.now)) }
 {
     match ask(alloc, goal, path)? {
@@ -78,10 +71,13 @@ fn question(alloc: Global, goal: &Goal, path: &[Taken]) -> Result<Option<Atom>, 
 }
 
 /// Whether the multipliers combine rows of the path to a contradiction.
-fn is_refuted(alloc: Global, goal: &Goal, path: &[Taken], multipliers: &[(u32, u64)]) -> Result<bool, AllocError>
-    requires typed { IsTypedGoal (goal_of goal.now) }
-    requires linear { nonlinear_product (goal_of goal.now) ≡ None }
-    requires path { IsPath (goal_of goal.now) (path_of path.now) }
+fn is_refuted(
+    alloc: Global,
+    goal: &Goal,
+    path: &[Taken],
+    multipliers: &[(u32, u64)],
+) -> Result<bool, AllocError>
+    requires { IsPath (goal_of goal.now) (path_of path.now) }
     ensures { IfOk result (λ b. IsTrue b ↔ IsRefuted (goal_of goal.now) (path_of path.now) multipliers.now) }
 {
     let denied = is_denied(alloc, goal, path)?;
@@ -127,9 +123,7 @@ fn shortened(mut path: Vec<Taken>) -> Vec<Taken>
 
 /// Goes through the tree from the end of the path, in the order of the text.
 fn judge(alloc: Global, goal: &Goal, path: Vec<Taken>, tree: &Tree) -> Result<Judged, AllocError>
-    requires typed { IsTypedGoal (goal_of goal.now) }
-    requires linear { nonlinear_product (goal_of goal.now) ≡ None }
-    requires path { IsPath (goal_of goal.now) (path_of path.items) }
+    requires { IsPath (goal_of goal.now) (path_of path.items) }
     ensures { IfOk result (IsJudged (goal_of goal.now) path.items (tree_of tree.now)) }
 {
     match tree {
@@ -162,14 +156,16 @@ fn judge(alloc: Global, goal: &Goal, path: Vec<Taken>, tree: &Tree) -> Result<Ju
     }
 }
 
-/// Checks a certificate of a goal: yes exactly where it is accepted, and then the goal holds in every state; else no, with the
-/// answers on the way to the first node, in the order of the text, at which it is refused. A goal with a product of two
-/// numeric parts is refused at the root.
+/// Checks a certificate of a goal. Yes is given exactly where each node is what the goal asks for at the end of its path: a
+/// split where there is a question, multipliers that combine the rows of the path to a contradiction (Farkas), or a plain leaf
+/// at an end at which the goal holds plainly. Then a well-typed goal holds in every state. At an end at which it doesn't hold
+/// plainly the denied goal is among the rows. Else No is given, with the answers on the way to the first node, in the order of
+/// the text, that isn't such. A goal with a product of two numeric parts is refused at the root, whatever the tree. Want of
+/// memory is the one error.
 pub fn check(alloc: Global, goal: &Goal, tree: &Tree) -> Result<Checked, AllocError>
-    requires { IsTypedGoal (goal_of goal.now) }
     ensures yes { IfOk result (λ c. (c ≡ Checked.Yes) ↔ IsCertificate (goal_of goal.now) (tree_of tree.now)) }
     ensures no { IfOk result (λ c. (place : List Bool) → IsNoAt c place ↔ IsNoCertificate (goal_of goal.now) (tree_of tree.now) place) }
-    ensures holds { IfOk result (λ c. c ≡ Checked.Yes → Holds (goal_of goal.now)) }
+    ensures holds { IsTypedGoal (goal_of goal.now) → IfOk result (λ c. c ≡ Checked.Yes → Holds (goal_of goal.now)) }
 {
     match nonlinear(goal) {
         Some(_) => Ok(Checked::No(Vec::new(alloc))),

@@ -1,4 +1,4 @@
-use Rattle.std.proofs.Common.{rules, refl, sym, ◌∙◌, ap, ◌++◌, ◌∷◌, [], true, false}
+use Rattle.std.proofs.Common.{refl, ◌∙◌}
 use Rattle.farkas_check.proofs.Judging.{lower_first, lower_second, asks_next, asks_none, goes_on, no_question_here, refused_first, refused_second, accepted_both, accepted_farkas, refused_farkas, accepted_plain, refused_plain}
 use Rattle.farkas_check.proofs.checking.+judge.Goals as goal
 
@@ -6,14 +6,14 @@ pub returns-in_default : goal.returns-in_default
 returns-in_default t c = no_question_here _ _ c.deref-in_default.result.now _ c.in-Split.holds c.in-Split.fails _ c.in-Split.is (asks_none _ c.deref.result.now _ _ c.in_ok-atom-in-Split.ensures c.deref.ensures.value c.in_default.is) c.in_ok-answers_of-in-Split.ensures c.deref-in_default.ensures.value
 
 pub judge-requires : goal.judge-requires
-judge-requires t c = let a = asks_next _ c.deref.result.now _ _ c.in-Some.atom c.in_ok-atom-in-Split.ensures c.deref.ensures.value c.in-Some.is in (lower_first _ _ c.in-Split.holds c.in-Split.fails _ c.in-Split.is c.deref-in-Split.ensures c.decreases, (c.requires.typed, (c.requires.linear, goes_on _ _ _ _ c.requires.path a c.in_ok-with_yes-in-Split.ensures)))
+judge-requires t c = let a = asks_next _ c.deref.result.now _ _ c.in-Some.atom c.in_ok-atom-in-Split.ensures c.deref.ensures.value c.in-Some.is in (lower_first _ _ c.in-Split.holds c.in-Split.fails _ c.in-Split.is c.deref-in-Split.ensures c.decreases, goes_on _ _ _ _ c.requires a c.in_ok-with_yes-in-Split.ensures)
 
 pub judge-requires-in-Accepted : goal.judge-requires-in-Accepted
 judge-requires-in-Accepted t c =
     let a = asks_next _ c.deref.result.now _ _ c.in-Some.atom c.in_ok-atom-in-Split.ensures c.deref.ensures.value c.in-Some.is in
     let j = rw c.in-Accepted.is at c.in_ok-place-in-Split.ensures in
     let w = c.in_ok-with_no-in-Accepted.ensures _ _ (j.0 ∙ c.in_ok-with_yes-in-Split.ensures) in
-    (lower_second _ _ c.in-Split.holds c.in-Split.fails _ c.in-Split.is c.deref-in-Accepted.ensures c.decreases, (c.requires.typed, (c.requires.linear, goes_on _ _ _ _ c.requires.path a w)))
+    (lower_second _ _ c.in-Split.holds c.in-Split.fails _ c.in-Split.is c.deref-in-Accepted.ensures c.decreases, goes_on _ _ _ _ c.requires a w)
 
 pub returns-in-Refused : goal.returns-in-Refused
 returns-in-Refused t c =
