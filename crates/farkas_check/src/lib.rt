@@ -2,6 +2,8 @@
 #![tactic(auto)]
 
 mod checking;
+#[cfg(test)]
+mod checking_tests;
 mod laws;
 mod trees;
 
