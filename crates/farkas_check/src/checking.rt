@@ -158,10 +158,10 @@ fn judge(alloc: Global, goal: &Goal, path: Vec<Taken>, tree: &Tree) -> Result<Ju
 
 /// Checks a certificate of a goal. Yes is given exactly where each node is what the goal asks for at the end of its path: a
 /// split where there is a question, multipliers that combine the rows of the path to a contradiction (Farkas), or a plain leaf
-/// at an end at which the goal holds plainly. Then a well-typed goal holds in every state. At an end at which it doesn't hold
-/// plainly the denied goal is among the rows. Else No is given, with the answers on the way to the first node, in the order of
-/// the text, that isn't such. A goal with a product of two numeric parts is refused at the root, whatever the tree. Want of
-/// memory is the one error.
+/// at an end at which the goal holds plainly; at an end at which it doesn't, the denied goal is among the rows. A well-typed
+/// goal with a Yes holds in every state. Else No is given, with the answers on the way to the first node, in the order of the
+/// text, that isn't such. A goal with a product of two numeric parts is refused at the root, whatever the tree. Want of memory
+/// is the one error.
 pub fn check(alloc: Global, goal: &Goal, tree: &Tree) -> Result<Checked, AllocError>
     ensures yes { IfOk result (λ c. (c ≡ Checked.Yes) ↔ IsCertificate (goal_of goal.now) (tree_of tree.now)) }
     ensures no { IfOk result (λ c. (place : List Bool) → IsNoAt c place ↔ IsNoCertificate (goal_of goal.now) (tree_of tree.now) place) }

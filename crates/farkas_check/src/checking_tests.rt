@@ -61,13 +61,13 @@ fn at_most(alloc: Global, left: Form, right: Form) -> Result<Cond, AllocError> {
 }
 
 /// Whether the tree is accepted.
-fn accepts(alloc: Global, goal: &Goal, tree: Tree) -> Result<bool, AllocError> {
-    Ok(matches!(check(alloc, goal, &tree)?, Checked::Yes))
+fn accepts(alloc: Global, goal: Goal, tree: Tree) -> Result<bool, AllocError> {
+    Ok(matches!(check(alloc, &goal, &tree)?, Checked::Yes))
 }
 
 /// Whether the tree is refused after these answers.
-fn refuses(alloc: Global, goal: &Goal, tree: Tree, place: &[bool]) -> Result<bool, AllocError> {
-    match check(alloc, goal, &tree)? {
+fn refuses(alloc: Global, goal: Goal, tree: Tree, place: &[bool]) -> Result<bool, AllocError> {
+    match check(alloc, &goal, &tree)? {
         Checked::Yes => Ok(false),
         Checked::No(answers) => Ok(answers.as_slice() == place),
     }
@@ -81,29 +81,34 @@ fn halves(alloc: Global) -> Goal {
 #[test]
 fn a_half_is_at_least_a_half(rt: HostRuntime) -> Result<(), Fail> {
     let alloc = rt.alloc();
-    let goal = halves(alloc);
-    assert!(rt; accepts(alloc, &goal, farkas(alloc, &[(0, 1)])?)?);
-    assert!(rt; accepts(alloc, &goal, farkas(alloc, &[(0, GREATEST)])?)?);
+    assert!(rt; accepts(alloc, halves(alloc), farkas(alloc, &[(0, 1)])?)?);
+    assert!(rt; accepts(alloc, halves(alloc), farkas(alloc, &[(0, GREATEST)])?)?);
     // no side is infinite
-    assert!(rt; refuses(alloc, &goal, Tree::Plain, &[])?);
+    assert!(rt; refuses(alloc, halves(alloc), Tree::Plain, &[])?);
     // there is no question
-    assert!(rt; refuses(alloc, &goal, split(alloc, Tree::Plain, Tree::Plain)?, &[])?);
+    assert!(rt;
+        refuses(
+            alloc,
+            halves(alloc),
+            split(alloc, Tree::Plain, Tree::Plain)?,
+            &[]
+        )?
+    );
     Ok(())
 }
 
 #[test]
 fn other_multipliers_of_a_half(rt: HostRuntime) -> Result<(), Fail> {
     let alloc = rt.alloc();
-    let goal = halves(alloc);
     // nothing is no contradiction, there is no row 1, a row twice, a multiplier 0, a multiplier 2^62
-    assert!(rt; refuses(alloc, &goal, farkas(alloc, &[])?, &[])?);
-    assert!(rt; refuses(alloc, &goal, farkas(alloc, &[(1, 1)])?, &[])?);
-    assert!(rt; refuses(alloc, &goal, farkas(alloc, &[(0, 1), (0, 1)])?, &[])?);
-    assert!(rt; refuses(alloc, &goal, farkas(alloc, &[(0, 0)])?, &[])?);
+    assert!(rt; refuses(alloc, halves(alloc), farkas(alloc, &[])?, &[])?);
+    assert!(rt; refuses(alloc, halves(alloc), farkas(alloc, &[(1, 1)])?, &[])?);
+    assert!(rt; refuses(alloc, halves(alloc), farkas(alloc, &[(0, 1), (0, 1)])?, &[])?);
+    assert!(rt; refuses(alloc, halves(alloc), farkas(alloc, &[(0, 0)])?, &[])?);
     assert!(rt;
         refuses(
             alloc,
-            &goal,
+            halves(alloc),
             farkas(alloc, &[(0, 4611686018427387904)])?,
             &[]
         )?
@@ -126,46 +131,42 @@ fn never_below_zero(alloc: Global) -> Result<Goal, AllocError> {
 #[test]
 fn the_denied_goal_stands_before_the_signs(rt: HostRuntime) -> Result<(), Fail> {
     let alloc = rt.alloc();
-    let goal = never_below_zero(alloc)?;
     let tree = pair(alloc, &[(0, 1), (2, 1)], &[(1, 1)])?;
-    assert!(rt; accepts(alloc, &goal, tree)?);
+    assert!(rt; accepts(alloc, never_below_zero(alloc)?, tree)?);
     let tree = pair(alloc, &[(0, 1), (1, 1)], &[(1, 1)])?;
-    assert!(rt; refuses(alloc, &goal, tree, &[true])?, "x is left");
+    // x is left
+    assert!(rt; refuses(alloc, never_below_zero(alloc)?, tree, &[true])?);
     let tree = pair(alloc, &[(0, 1), (2, 2)], &[(1, 1)])?;
-    assert!(rt; refuses(alloc, &goal, tree, &[true])?, "-x is left");
+    // -x is left
+    assert!(rt; refuses(alloc, never_below_zero(alloc)?, tree, &[true])?);
     let tree = pair(alloc, &[(2, 1), (0, 1)], &[(1, 1)])?;
-    assert!(rt;
-        refuses(alloc, &goal, tree, &[true])?,
-        "the indexes don't grow"
-    );
+    // the indexes don't grow
+    assert!(rt; refuses(alloc, never_below_zero(alloc)?, tree, &[true])?);
     Ok(())
 }
 
 #[test]
 fn trees_end_where_the_questions_do(rt: HostRuntime) -> Result<(), Fail> {
     let alloc = rt.alloc();
-    let goal = never_below_zero(alloc)?;
     let tree = farkas(alloc, &[(0, 1), (2, 1)])?;
-    assert!(rt; refuses(alloc, &goal, tree, &[])?, "a missing split");
-    assert!(rt; refuses(alloc, &goal, Tree::Plain, &[])?);
+    // a missing split
+    assert!(rt; refuses(alloc, never_below_zero(alloc)?, tree, &[])?);
+    assert!(rt; refuses(alloc, never_below_zero(alloc)?, Tree::Plain, &[])?);
     let past = pair(alloc, &[(0, 1), (2, 1)], &[(1, 1)])?;
     let tree = over(alloc, past, 1)?;
-    assert!(rt;
-        refuses(alloc, &goal, tree, &[true])?,
-        "past the last question"
-    );
+    // past the last question
+    assert!(rt; refuses(alloc, never_below_zero(alloc)?, tree, &[true])?);
     Ok(())
 }
 
 #[test]
 fn the_first_wrong_node_is_named(rt: HostRuntime) -> Result<(), Fail> {
     let alloc = rt.alloc();
-    let goal = never_below_zero(alloc)?;
     let holds = farkas(alloc, &[(0, 1), (2, 1)])?;
     let tree = split(alloc, holds, Tree::Plain)?;
-    assert!(rt; refuses(alloc, &goal, tree, &[false])?);
+    assert!(rt; refuses(alloc, never_below_zero(alloc)?, tree, &[false])?);
     let tree = split(alloc, Tree::Plain, Tree::Plain)?;
-    assert!(rt; refuses(alloc, &goal, tree, &[true])?);
+    assert!(rt; refuses(alloc, never_below_zero(alloc)?, tree, &[true])?);
     Ok(())
 }
 
@@ -187,26 +188,50 @@ fn right_branch(alloc: Global, holds: u32, fails: u32) -> Result<Tree, AllocErro
 #[test]
 fn deep_nodes_are_checked(rt: HostRuntime) -> Result<(), Fail> {
     let alloc = rt.alloc();
-    let goal = two_questions(alloc)?;
-    assert!(rt; accepts(alloc, &goal, right_branch(alloc, 2, 2)?)?);
-    assert!(rt; refuses(alloc, &goal, right_branch(alloc, 1, 2)?, &[false, true])?);
-    assert!(rt; refuses(alloc, &goal, right_branch(alloc, 2, 1)?, &[false, false])?);
-    assert!(rt; refuses(alloc, &goal, right_branch(alloc, 1, 1)?, &[false, true])?);
+    assert!(rt; accepts(alloc, two_questions(alloc)?, right_branch(alloc, 2, 2)?)?);
+    assert!(rt;
+        refuses(
+            alloc,
+            two_questions(alloc)?,
+            right_branch(alloc, 1, 2)?,
+            &[false, true]
+        )?
+    );
+    assert!(rt;
+        refuses(
+            alloc,
+            two_questions(alloc)?,
+            right_branch(alloc, 2, 1)?,
+            &[false, false]
+        )?
+    );
+    assert!(rt;
+        refuses(
+            alloc,
+            two_questions(alloc)?,
+            right_branch(alloc, 1, 1)?,
+            &[false, true]
+        )?
+    );
     Ok(())
 }
 
-/// For a natural number x, where x is at most 0 the rows `x <= 0` and `-x <= 0` add up to `0 <= 0`.
+/// One question, whether a natural number is at most 0. Each time 1 is stated and found.
+fn at_most_zero(alloc: Global) -> Result<Goal, AllocError> {
+    let test = at_most(alloc, Form::Var(0), number(0, 1))?;
+    let stated = select(alloc, test, number(1, 1), number(1, 1))?;
+    Ok(upper(stated, number(1, 1), [Ty::UInt].to_vec(alloc)?, alloc))
+}
+
+/// Where x is at most 0 the rows `x <= 0` and `-x <= 0` add up to `0 <= 0`.
 #[test]
 fn zero_is_at_most_zero(rt: HostRuntime) -> Result<(), Fail> {
     let alloc = rt.alloc();
-    let test = at_most(alloc, Form::Var(0), number(0, 1))?;
-    let stated = select(alloc, test, number(1, 1), number(1, 1))?;
-    let goal = upper(stated, number(1, 1), [Ty::UInt].to_vec(alloc)?, alloc);
     let tree = pair(alloc, &[(0, 1), (2, 1)], &[(1, 1)])?;
-    assert!(rt; refuses(alloc, &goal, tree, &[true])?);
+    assert!(rt; refuses(alloc, at_most_zero(alloc)?, tree, &[true])?);
     // with the denied goal, `0 < 0`, it is a contradiction
     let tree = pair(alloc, &[(0, 1), (1, 1), (2, 1)], &[(1, 1)])?;
-    assert!(rt; accepts(alloc, &goal, tree)?);
+    assert!(rt; accepts(alloc, at_most_zero(alloc)?, tree)?);
     Ok(())
 }
 
@@ -240,23 +265,38 @@ fn below_six(alloc: Global, multipliers: &[(u32, u64)]) -> Result<Tree, AllocErr
 #[test]
 fn partial_sums_stay_small(rt: HostRuntime) -> Result<(), Fail> {
     let alloc = rt.alloc();
-    let goal = six_questions(alloc)?;
     let m = GREATEST;
     let four = below_six(alloc, &[(0, m), (1, m), (2, m), (3, m)])?;
-    assert!(rt; accepts(alloc, &goal, four)?);
+    assert!(rt; accepts(alloc, six_questions(alloc)?, four)?);
     let six = below_six(alloc, &[(0, m), (1, m), (2, m), (3, m), (4, m), (5, m)])?;
-    assert!(rt; refuses(alloc, &goal, six, &[true, true, true, true, true, true])?);
+    assert!(rt;
+        refuses(
+            alloc,
+            six_questions(alloc)?,
+            six,
+            &[true, true, true, true, true, true]
+        )?
+    );
     Ok(())
+}
+
+/// States infinity and finds 1/2.
+fn infinity_stated(alloc: Global) -> Goal {
+    upper(Form::Const(Ext::Inf), number(1, 2), Vec::new(alloc), alloc)
+}
+
+/// States 1/2 and finds infinity.
+fn infinity_found(alloc: Global) -> Goal {
+    upper(number(1, 2), Form::Const(Ext::Inf), Vec::new(alloc), alloc)
 }
 
 /// A goal that holds plainly has no denied goal among its rows.
 #[test]
 fn infinity_is_at_least_a_half(rt: HostRuntime) -> Result<(), Fail> {
     let alloc = rt.alloc();
-    let infinity = Form::Const(Ext::Inf);
-    let goal = upper(infinity, number(1, 2), Vec::new(alloc), alloc);
-    assert!(rt; accepts(alloc, &goal, Tree::Plain)?);
-    assert!(rt; refuses(alloc, &goal, farkas(alloc, &[(0, 1)])?, &[])?);
+    assert!(rt; accepts(alloc, infinity_stated(alloc), Tree::Plain)?);
+    let tree = farkas(alloc, &[(0, 1)])?;
+    assert!(rt; refuses(alloc, infinity_stated(alloc), tree, &[])?);
     Ok(())
 }
 
@@ -264,12 +304,12 @@ fn infinity_is_at_least_a_half(rt: HostRuntime) -> Result<(), Fail> {
 #[test]
 fn a_half_is_at_most_infinity(rt: HostRuntime) -> Result<(), Fail> {
     let alloc = rt.alloc();
-    let infinity = Form::Const(Ext::Inf);
-    let mut goal = upper(number(1, 2), infinity, Vec::new(alloc), alloc);
-    assert!(rt; refuses(alloc, &goal, Tree::Plain, &[])?);
-    assert!(rt; refuses(alloc, &goal, farkas(alloc, &[(0, 1)])?, &[])?);
-    goal.upper = false;
-    assert!(rt; accepts(alloc, &goal, Tree::Plain)?);
+    assert!(rt; refuses(alloc, infinity_found(alloc), Tree::Plain, &[])?);
+    let tree = farkas(alloc, &[(0, 1)])?;
+    assert!(rt; refuses(alloc, infinity_found(alloc), tree, &[])?);
+    let mut lower = infinity_found(alloc);
+    lower.upper = false;
+    assert!(rt; accepts(alloc, lower, Tree::Plain)?);
     Ok(())
 }
 
@@ -281,15 +321,20 @@ fn hidden_product(alloc: Global) -> Result<Form, AllocError> {
     select(alloc, Cond::Const(true), number(1, 1), product)
 }
 
-/// Though the product is never asked for.
+/// States infinity, and finds a form with a product that is never asked for.
+fn nonlinear(alloc: Global) -> Result<Goal, AllocError> {
+    let found = hidden_product(alloc)?;
+    let vars = [Ty::UReal, Ty::UReal].to_vec(alloc)?;
+    Ok(upper(Form::Const(Ext::Inf), found, vars, alloc))
+}
+
 #[test]
 fn nonlinear_goals_are_refused_at_the_root(rt: HostRuntime) -> Result<(), Fail> {
     let alloc = rt.alloc();
-    let found = hidden_product(alloc)?;
-    let vars = [Ty::UReal, Ty::UReal].to_vec(alloc)?;
-    let goal = upper(Form::Const(Ext::Inf), found, vars, alloc);
-    assert!(rt; refuses(alloc, &goal, Tree::Plain, &[])?);
-    assert!(rt; refuses(alloc, &goal, farkas(alloc, &[(0, 1)])?, &[])?);
-    assert!(rt; refuses(alloc, &goal, split(alloc, Tree::Plain, Tree::Plain)?, &[])?);
+    assert!(rt; refuses(alloc, nonlinear(alloc)?, Tree::Plain, &[])?);
+    let tree = farkas(alloc, &[(0, 1)])?;
+    assert!(rt; refuses(alloc, nonlinear(alloc)?, tree, &[])?);
+    let tree = split(alloc, Tree::Plain, Tree::Plain)?;
+    assert!(rt; refuses(alloc, nonlinear(alloc)?, tree, &[])?);
     Ok(())
 }
