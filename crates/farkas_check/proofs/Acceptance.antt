@@ -1,12 +1,11 @@
 -- A tree is accepted or refused at one place, and not both.
-use Rattle.std.proofs.Common.{◌≡◌, ℕ, List, [], ◌∷◌, refl, sym, ◌∙◌, subst, Bool, true, false}
-use Rattle.std.specs.Prelude.{Option, Some, None}
+use Rattle.std.proofs.Common.{◌≡◌, List, [], refl, sym, ◌∙◌, subst, Bool, true, false}
+use Rattle.std.specs.Prelude.{Some, None}
 use Rattle.heyvl_syntax.specs.declared.spans.Span.{Span}
 use Rattle.heylo_formula.specs.Goals.{Goal}
 use Rattle.linear_form.specs.Query.{Query, Atom, Taken, onto}
-use Rattle.linear_form.specs.Query.Query.{done, bits, ask}
+use Rattle.linear_form.specs.Query.Query.{ask}
 use Rattle.linear_form.specs.Questions.{Ends}
-use Rattle.linear_form.specs.Paths.{end_at}
 use Rattle.linear_form.specs.Nonlinear.{nonlinear_product}
 use Rattle.farkas_check.specs.Trees.{Tree}
 use Rattle.farkas_check.specs.Accepted.{Asks, IsAccepted, IsRefused, IsCertificate, IsNoCertificate}

@@ -1,2 +1,4 @@
 pub mod Acceptance
+mod Examples
 pub mod Soundness
+pub mod Judging

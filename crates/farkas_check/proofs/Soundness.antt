@@ -1,21 +1,17 @@
 -- A goal with a certificate holds in every state.
-use Rattle.std.proofs.Common.{◌≡◌, ℕ, List, [], ◌∷◌, refl, sym, ap, ◌∙◌, subst, Bool, true, false, ◌⊎◌, inl, inr}
-use Rattle.std.specs.Prelude.{Option, Some, None}
-use Rattle.std.specs.List.{All}
+use Rattle.std.proofs.Common.{◌≡◌, List, [], refl, sym, ◌∙◌, subst, Bool, true, false, ◌⊎◌, inl, inr}
+use Rattle.std.specs.Prelude.{Some, None}
 use Rattle.heyvl_num.specs.Value.{Value, leqᵛ, ◌≤ᵛ◌}
 use Rattle.heyvl_num.specs.Value.Value.{finite, infinite}
-use Rattle.heylo_formula.specs.Goals.{Goal, Compares, HoldsIn, Holds}
+use Rattle.heylo_formula.specs.Goals.{Goal, Compares, HoldsIn}
 use Rattle.heylo_formula.specs.State.{Env, IsTyped, environment, number_of}
 use Rattle.heylo_formula.specs.Choices.{Choices}
 use Rattle.heylo_formula.specs.Meaning.{value}
 use Rattle.heylo_formula.specs.declared.values.Val.{Val}
-use Rattle.linear_form.specs.Query.{Query, Atom, Taken, onto, holds_at}
-use Rattle.linear_form.specs.Query.Query.{done, bits, ask}
+use Rattle.linear_form.specs.Query.{Taken, onto, holds_at}
 use Rattle.linear_form.specs.Questions.{Ends, Linear, value_in, questions}
-use Rattle.linear_form.specs.Paths.{end_at, IsPath, Path, Agrees}
-use Rattle.linear_form.specs.Row.{Row}
-use Rattle.linear_form.specs.Solutions.{MeetsAt, IsSolvable}
-use Rattle.linear_form.specs.PathRows.{rows_of, denial, below_claim, IsPlainAt}
+use Rattle.linear_form.specs.Paths.{IsPath, Path, Agrees}
+use Rattle.linear_form.specs.PathRows.{denial, below_claim}
 use Rattle.linear_form.specs.TypedGoals.{IsTypedGoal}
 use Rattle.linear_form.proofs.MetRows.{rows_are_met}
 use Rattle.linear_form.proofs.AgreedEnds.{ends_are_values}
@@ -23,7 +19,7 @@ use Rattle.farkas_check.specs.CertificateLaws.{CertifiedGoalsHold}
 use Rattle.linear_form.proofs.Combinations.{contradiction_unsolvable}
 use Rattle.linear_form.proofs.PathSteps.{path_onto, agrees_onto}
 use Rattle.farkas_check.specs.Trees.{Tree}
-use Rattle.farkas_check.specs.Accepted.{Asks, IsRefuted, IsAccepted, IsCertificate}
+use Rattle.farkas_check.specs.Accepted.{IsAccepted}
 
 at_most_infinite : (v : Value) → v ≤ᵛ infinite
 unfolding leqᵛ

@@ -1,3 +1,4 @@
 pub mod Trees
 pub mod Accepted
 pub mod CertificateLaws
+pub mod Verdicts
