@@ -1,8 +1,9 @@
 -- The rows of a path without the denied goal are among those with it.
-use Rattle.std.proofs.Common.{◌≡◌, ℕ, List, [], ◌∷◌, ◌++◌, length, refl, sym, ap, ◌∙◌, subst, Bool, true, false, cond, ◌&&◌, ◌||◌}
+use Rattle.std.proofs.Common.{◌≡◌, ℕ, List, [], ◌∷◌, ◌++◌, length, refl, sym, ◌∙◌, subst, Bool, true, false, cond, ◌&&◌, ◌||◌}
 use Rattle.std.specs.Prelude.{Option, Some, None}
 use Prim.Native.Nat.{zero, suc}
 use Rattle.std.specs.List.{All, Contains}
+use Rattle.std.proofs.lemmas.List.{append-nil}
 use Rattle.std.proofs.lemmas.List.Elements.{All-nil, All-cons, All-head, All-tail, All-contains_itself}
 use Rattle.heylo_formula.specs.Goals.{Goal}
 use Rattle.heylo_formula.specs.Typing.{Types}
@@ -79,13 +80,9 @@ signs_give types P ks ls (suc n) h = gives_append types P (sign_claims types ks 
 
 -- ---- The claims and the rows of a path
 
-append_nil : (ks : List Claim) → ks ++ [] ≡ ks
-append_nil [] = refl
-append_nil (k ∷ ks) = ap (λ ls. k ∷ ls) (append_nil ks)
-
 -- What holds of the rows with the denied goal holds of those without it.
 fewer_give : (g : Goal) (P : Row → Type 0) (ps : List Taken) → Gives (types_in g.types) P (claims_of g ps true) → Gives (types_in g.types) P (claims_of g ps false)
-fewer_give g P ps h = subst (λ ks. Gives (types_in g.types) P (with_signs g ks)) (sym (append_nil (path_claims ps))) (gives_append (types_in g.types) P (path_claims ps) (sign_claims (types_in g.types) (path_claims ps) (length g.types)) (gives_first (types_in g.types) P (path_claims ps) denied (gives_first (types_in g.types) P (path_claims ps ++ denied) _ h)) (signs_give (types_in g.types) P (path_claims ps) denied (length g.types) (gives_second (types_in g.types) P (path_claims ps ++ denied) _ h)))
+fewer_give g P ps h = subst (λ ks. Gives (types_in g.types) P (with_signs g ks)) (sym (append-nil (path_claims ps))) (gives_append (types_in g.types) P (path_claims ps) (sign_claims (types_in g.types) (path_claims ps) (length g.types)) (gives_first (types_in g.types) P (path_claims ps) denied (gives_first (types_in g.types) P (path_claims ps ++ denied) _ h)) (signs_give (types_in g.types) P (path_claims ps) denied (length g.types) (gives_second (types_in g.types) P (path_claims ps ++ denied) _ h)))
   where
     denied : List Claim
     denied = listed (denial_at g.upper (end_at g ps))

@@ -19,6 +19,7 @@ use Rattle.linear_form.specs.PathRows.{claim, negated, answer_claims, path_claim
 use Rattle.linear_form.specs.Row.{Row}
 use Rattle.linear_form.specs.RowLists.{is_numeric, IsNumericRow}
 use Rattle.linear_form.proofs.EachResults.{of_two}
+use Rattle.linear_form.proofs.TightRows.{taken_row}
 use Rattle.linear_form.proofs.TypedTrees.{NumberTerms, IsNumberValue, IsTypedAtom, IsTypedPath, AreNumberEnds, scaled_numbers, minus_numbers, typed_path, typed_end}
 
 -- ---- The claims
@@ -51,7 +52,8 @@ denial_numbers types false (done e) h = below_numbers types e.1 e.0 h.1 h.0
 denial_numbers types up bits h = tt
 denial_numbers types up (ask q y n) h = tt
 
-unsigned_number : (ty : Ty) → is_unsigned_type ty ≡ true → is_numeric ty ≡ true
+-- An unsigned type is one of numbers.
+pub unsigned_number : (ty : Ty) → is_unsigned_type ty ≡ true → is_numeric ty ≡ true
 unsigned_number Ty.Bool e = absurd (cc)
 unsigned_number Ty.Int e = absurd (cc)
 unsigned_number Ty.UInt e = refl
@@ -88,11 +90,6 @@ HasNumbers types r = All (λ t. is_numeric (types t.0) ≡ true) r.terms
 tight_numbers : (types : Types) (ts : Terms) (c : Rational) (strict : Bool) → NumberTerms types ts → HasNumbers types (tight_row types ts c strict)
 tight_numbers types [] c strict h = All-nil _
 tight_numbers types (t ∷ ts) c strict h = of_two (HasNumbers types) (are_whole types (t ∷ ts)) (record { terms = whole_terms (factor (t ∷ ts)) (t ∷ ts); rest = rounded strict (factor (t ∷ ts) *ʳ c); strict = false }) _ (whole_numbers types (factor (t ∷ ts)) (t ∷ ts) h) (whole_numbers types _ (t ∷ ts) h)
-
--- the row that is taken
-pub taken_row : (b : Bool) (r q : Row) → cond b (Some r) None ≡ Some q → r ≡ q
-taken_row true r q e = cc
-taken_row false r q e = absurd (cc)
 
 tightened_numbers : (types : Types) (k : Claim) (r : Row) → NumberTerms types k.left.terms → tightened types k ≡ Some r → HasNumbers types r
 unfolding tightened

@@ -21,7 +21,7 @@ use Rattle.linear_form.specs.TypedGoals.{IsTypedGoal, HasItsVariables, types_in}
 use Rattle.linear_form.specs.GreedyPoint.{Greedy, ChoosesFrom, chosen_value, value_for, IsWholeType}
 use Rattle.linear_form.specs.Cells.{IsFalseCell}
 use Rattle.linear_form.specs.PointLaws.{HasTruths}
-use Rattle.linear_form.proofs.NumericRows.{numeric_rows}
+use Rattle.linear_form.proofs.NumericRows.{unsigned_number, numeric_rows}
 use Rattle.linear_form.proofs.FalsifyingPoints.{points_falsify}
 use Rattle.linear_form.proofs.Truths.{truths_booleans, truths_variables}
 use Rattle.linear_form.proofs.UnsignedRows.{unsigned_nonnegative}
@@ -100,14 +100,8 @@ typed_each [] (v ∷ s) e h = absurd (omega (arith, e))
 typed_each (ty ∷ tys) [] e h = absurd (omega (arith, e))
 typed_each (ty ∷ tys) (v ∷ s) e h = (h zero (omega arith), typed_each tys s (omega (arith, e)) (λ x l. h (suc x) (omega (arith, l))))
 
-unsigned_numeric : (ty : Ty) → is_unsigned_type ty ≡ true → is_numeric ty ≡ true
-unsigned_numeric Ty.Bool e = absurd (cc)
-unsigned_numeric Ty.Int e = absurd (cc)
-unsigned_numeric Ty.UInt e = refl
-unsigned_numeric Ty.UReal e = refl
-
 point_typed : (g : Goal) (ps : List Taken) (rows : List Row) (cs : List (ℕ × Rational)) (point : List Val) → Pointed g ps rows cs point → IsPath g ps → rows_of g ps true ≡ Some rows → All (MeetsAt (λ x. number_of (environment point x))) rows → IsTyped g.types point
-point_typed g ps rows cs point p a e m = typed_each g.types point p.size (λ x l. subst (λ v. has (types_in g.types x) v ≡ true) (sym (p.at_variable x l)) (has_type (types_in g.types x) (known x ps) (chosen_value x cs) (p.booleans x) (greedy_whole rows g.types cs x p.choice) (λ u. greedy_value (λ v. zeroʳ ≤ʳ v) rows g.types cs x p.choice (≤ʳ_refl zeroʳ) (λ o. subst (λ v. zeroʳ ≤ʳ v) (ap number_of (number_is g ps rows cs point p x (unsigned_numeric (types_in g.types x) u))) (unsigned_nonnegative g ps true rows (environment point) x a e m l u o)))))
+point_typed g ps rows cs point p a e m = typed_each g.types point p.size (λ x l. subst (λ v. has (types_in g.types x) v ≡ true) (sym (p.at_variable x l)) (has_type (types_in g.types x) (known x ps) (chosen_value x cs) (p.booleans x) (greedy_whole rows g.types cs x p.choice) (λ u. greedy_value (λ v. zeroʳ ≤ʳ v) rows g.types cs x p.choice (≤ʳ_refl zeroʳ) (λ o. subst (λ v. zeroʳ ≤ʳ v) (ap number_of (number_is g ps rows cs point p x (unsigned_number (types_in g.types x) u))) (unsigned_nonnegative g ps true rows (environment point) x a e m l u o)))))
 
 -- ---- The point of a false cell
 
