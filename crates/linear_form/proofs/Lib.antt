@@ -22,6 +22,9 @@ mod RowParts
 mod NonzeroClaims
 pub mod MetRows
 mod Runs
+mod QuestionExamples
+mod TighteningExamples
+mod PathRowExamples
 mod PathEnds
 mod KeptValues
 mod Narrow
@@ -32,6 +35,3 @@ mod Asks
 mod Positions
 mod PartialSums
 mod Coefficients
-mod QuestionExamples
-mod TighteningExamples
-mod PathRowExamples
