@@ -31,6 +31,9 @@ pub mod Truths
 pub mod UnsignedRows
 pub mod MetRows
 mod Runs
+mod QuestionExamples
+mod TighteningExamples
+mod PathRowExamples
 mod PathEnds
 mod KeptValues
 mod Narrow

@@ -56,7 +56,9 @@ fn coefficient(row: &Row, x: u32) -> i64 {
 }
 
 /// The row of a linear value over an Int, or a UReal, and a UInt.
-fn row(alloc: Global, first: Ty, left: &Lin, strict: bool) -> Result<Shown, AllocError> {
+fn row(alloc: Global, first: Ty, left: &Lin, strict: bool) -> Result<Shown, AllocError>
+    requires { IsNormal (lin_of left.now).terms }
+{
     match tightened(alloc, &[first, Ty::UInt], left, strict)? {
         None => Ok(None),
         Some(row) => Ok(Some((
