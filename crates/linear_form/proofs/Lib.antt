@@ -47,6 +47,3 @@ mod Coefficients
 mod RowsOfClaims
 mod SignRows
 mod FoundRows
-mod QuestionExamples
-mod TighteningExamples
-mod PathRowExamples
