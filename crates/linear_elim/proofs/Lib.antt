@@ -14,3 +14,6 @@ pub mod Finishing
 pub mod FirstRows
 pub mod Examples
 pub mod Orders
+pub mod NarrowShares
+pub mod Counts
+pub mod OrderedRows

@@ -56,3 +56,13 @@ IsAnswer rows vars (Point point) = IsGreedyPoint rows vars point.items × MeetsA
 IsAnswer rows vars (Fraction b) = IsBreak rows vars b
 IsAnswer rows vars (Rows steps count) = eliminated rows vars ≡ plain.Outcome.too_many steps count
 IsAnswer rows vars Bits = IsTooGreat rows vars
+
+-- Without multipliers the rows may be solvable or not: they aren't where some are named, and they are where a point or a
+-- broken variable is. So unless there are too many rows or a number is too great, multipliers come exactly where the rows
+-- aren't solvable.
+abbrev pub Settles : List Row → Elim → Type 0
+Settles rows (NoSolution ms) = IsSolvable rows → ⊥
+Settles rows (Point point) = IsSolvable rows
+Settles rows (Fraction b) = IsSolvable rows
+Settles rows (Rows steps count) = Unit {0}
+Settles rows Bits = Unit {0}

@@ -8,6 +8,7 @@ mod gathering;
 mod joins;
 mod laws;
 mod ordering;
+mod refuting;
 mod starting;
 mod steps;
 
