@@ -17,3 +17,4 @@ pub mod Orders
 pub mod NarrowShares
 pub mod Counts
 pub mod OrderedRows
+pub mod Answering

@@ -7,6 +7,7 @@ ghost use Rattle.linear_form.specs.RowLists.{IsNumericRow};
 ghost use Rattle.linear_elim.specs.Answers.{IsAnswer, Settles};
 
 use crate::answers::Elim;
+use crate::choosing::greedy;
 use crate::elimination::Outcome;
 use crate::ordering::elimination_order;
 use crate::refuting::refutation;
@@ -31,7 +32,7 @@ pub fn eliminate(alloc: Global, rows: &[Row], vars: &[Ty]) -> Result<Elim, Alloc
             Some(multipliers) => Ok(Elim::NoSolution(multipliers)),
             None => Ok(Elim::Bits),
         },
-        Outcome::Standing(_) => Err(AllocError),
+        Outcome::Standing(steps) => greedy(alloc, &steps, vars),
         Outcome::TooMany(steps, count) => Ok(Elim::Rows(steps as u32, count as u32)),
         Outcome::TooGreat => Ok(Elim::Bits),
     }

@@ -2,6 +2,7 @@
 #![tactic(auto)]
 
 mod answers;
+mod choosing;
 mod eliminating;
 mod elimination;
 mod gathering;
