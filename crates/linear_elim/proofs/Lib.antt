@@ -18,3 +18,4 @@ pub mod NarrowShares
 pub mod Counts
 pub mod OrderedRows
 pub mod Answering
+pub mod TestRows

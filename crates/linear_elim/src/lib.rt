@@ -12,6 +12,10 @@ mod ordering;
 mod refuting;
 mod starting;
 mod steps;
+#[cfg(test)]
+mod test_rows;
+#[cfg(test)]
+mod tests;
 
 pub use answers::{Broken, Cause, Elim};
 pub use eliminating::eliminate;
