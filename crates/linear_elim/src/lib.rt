@@ -9,6 +9,8 @@ mod gathering;
 mod joins;
 mod laws;
 mod ordering;
+#[cfg(test)]
+mod point_tests;
 mod refuting;
 mod starting;
 mod steps;

@@ -10,7 +10,6 @@ use heylo_formula::Ty;
 use linear_form::Row;
 use std::alloc::{AllocError, Global};
 
-
 fn is_number(ty: &Ty) -> bool
     ensures { result ≡ is_numeric ty.now }
 {
@@ -23,12 +22,7 @@ fn is_number(ty: &Ty) -> bool
 }
 
 /// A row, where the variables of the terms grow, and no coefficient is 0; else want of memory.
-pub fn row(
-    alloc: Global,
-    terms: &[(u32, i64)],
-    rest: i64,
-    strict: bool,
-) -> Result<Row, AllocError>
+fn row(alloc: Global, terms: &[(u32, i64)], rest: i64, strict: bool) -> Result<Row, AllocError>
     ensures { IfOk result IsRow }
 {
     let mut kept: Vec<(u32, i64)> = Vec::new(alloc);
@@ -103,11 +97,30 @@ pub fn answer(alloc: Global, rows: &[Row], vars: &[Ty]) -> Result<Elim, AllocErr
     eliminate(alloc, rows, vars)
 }
 
-pub fn with(mut rows: Vec<Row>, row: Row) -> Result<Vec<Row>, AllocError>
-    requires rows { All IsRow rows.items }
-    requires row { IsRow row }
+/// The rows, and one more: the sum of the terms and the number is at most 0.
+pub fn at_most(
+    alloc: Global,
+    mut rows: Vec<Row>,
+    terms: &[(u32, i64)],
+    rest: i64,
+) -> Result<Vec<Row>, AllocError>
+    requires { All IsRow rows.items }
     ensures { IfOk result (λ v. All IsRow v.items) }
 {
-    rows.push(row)?;
+    rows.push(row(alloc, terms, rest, false)?)?;
+    Ok(rows)
+}
+
+/// The rows, and one more: the sum of the terms and the number is below 0.
+pub fn below(
+    alloc: Global,
+    mut rows: Vec<Row>,
+    terms: &[(u32, i64)],
+    rest: i64,
+) -> Result<Vec<Row>, AllocError>
+    requires { All IsRow rows.items }
+    ensures { IfOk result (λ v. All IsRow v.items) }
+{
+    rows.push(row(alloc, terms, rest, true)?)?;
     Ok(rows)
 }
