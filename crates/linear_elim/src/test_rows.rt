@@ -111,16 +111,39 @@ pub fn at_most(
     Ok(rows)
 }
 
-/// The rows, and one more: the sum of the terms and the number is below 0.
-pub fn below(
-    alloc: Global,
-    mut rows: Vec<Row>,
-    terms: &[(u32, i64)],
-    rest: i64,
-) -> Result<Vec<Row>, AllocError>
-    requires { All IsRow rows.items }
+/// A row of three variables: their coefficients, the constant, and whether it is strict.
+pub type Given = (i64, i64, i64, i64, bool);
+
+/// The terms whose coefficients aren't 0.
+fn terms_of(alloc: Global, given: Given) -> Result<Vec<(u32, i64)>, AllocError> {
+    let (x, y, z, _, _) = given;
+    let mut terms: Vec<(u32, i64)> = Vec::new(alloc);
+    if x != 0 {
+        terms.push((0, x))?;
+    }
+    if y != 0 {
+        terms.push((1, y))?;
+    }
+    if z != 0 {
+        terms.push((2, z))?;
+    }
+    Ok(terms)
+}
+
+fn rows_of(alloc: Global, given: &[Given]) -> Result<Vec<Row>, AllocError>
     ensures { IfOk result (λ v. All IsRow v.items) }
 {
-    rows.push(row(alloc, terms, rest, true)?)?;
+    let mut rows: Vec<Row> = Vec::new(alloc);
+    for &one in given {
+        let terms = terms_of(alloc, one)?;
+        let (_, _, _, rest, strict) = one;
+        rows.push(row(alloc, &terms, rest, strict)?)?;
+    }
     Ok(rows)
+}
+
+/// What is found of these rows.
+pub fn found(alloc: Global, given: &[Given], vars: &[Ty]) -> Result<Elim, AllocError> {
+    let rows = rows_of(alloc, given)?;
+    answer(alloc, &rows, vars)
 }

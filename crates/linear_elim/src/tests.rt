@@ -3,36 +3,39 @@ ghost use Rattle.std.specs.List.{All};
 ghost use Rattle.linear_form.specs.Row.{IsRow};
 
 use crate::Elim;
-use crate::test_rows::{answer, at_most, below};
+use crate::test_rows::{Given, answer, at_most, found};
 use heylo_formula::Ty;
 use linear_form::Row;
 use std::alloc::{AllocError, Global};
 use std::test::Fail;
 
-/// Whether the rows are refuted with these multipliers.
-fn is_refuted(found: &Elim, wanted: &[(u32, u64)]) -> bool {
-    match found {
-        Elim::NoSolution(multipliers) => {
-            if multipliers.len() != wanted.len() {
-                return false;
-            }
-            for i in 0..wanted.len() {
-                let (index, multiplier) = wanted[i];
-                let (other_index, other) = multipliers[i];
-                if index != other_index || multiplier != other {
-                    return false;
-                }
-            }
-            true
-        }
-        _ => false,
+/// Whether these multipliers refute the rows.
+fn is_refuted(
+    alloc: Global,
+    rows: &[Given],
+    vars: &[Ty],
+    wanted: &[(u32, u64)],
+) -> Result<bool, AllocError> {
+    let Elim::NoSolution(multipliers) = found(alloc, rows, vars)? else {
+        return Ok(false);
+    };
+    if multipliers.len() != wanted.len() {
+        return Ok(false);
     }
+    for i in 0..wanted.len() {
+        let (index, multiplier) = wanted[i];
+        let (other_index, other) = multipliers[i];
+        if index != other_index || multiplier != other {
+            return Ok(false);
+        }
+    }
+    Ok(true)
 }
 
-fn is_bits(found: &Elim) -> bool {
-    match found {
-        Elim::Bits => true,
-        _ => false,
+fn is_bits(alloc: Global, rows: &[Given], vars: &[Ty]) -> Result<bool, AllocError> {
+    match found(alloc, rows, vars)? {
+        Elim::Bits => Ok(true),
+        _ => Ok(false),
     }
 }
 
@@ -40,9 +43,8 @@ fn is_bits(found: &Elim) -> bool {
 #[test]
 fn bounds_that_cross(rt: HostRuntime) -> Result<(), Fail> {
     let alloc = rt.alloc();
-    let rows = at_most(alloc, Vec::new(alloc), &[(0, 1)], -1)?;
-    let rows = at_most(alloc, rows, &[(0, -1)], 2)?;
-    assert!(rt; is_refuted(&answer(alloc, &rows, &[Ty::Int])?, &[(0, 1), (1, 1)]));
+    let rows = [(1, 0, 0, -1, false), (-1, 0, 0, 2, false)];
+    assert!(rt; is_refuted(alloc, &rows, &[Ty::Int], &[(0, 1), (1, 1)])?);
     Ok(())
 }
 
@@ -50,12 +52,10 @@ fn bounds_that_cross(rt: HostRuntime) -> Result<(), Fail> {
 #[test]
 fn strict_rows_that_touch(rt: HostRuntime) -> Result<(), Fail> {
     let alloc = rt.alloc();
-    let rows = below(alloc, Vec::new(alloc), &[(0, 1)], 0)?;
-    let rows = below(alloc, rows, &[(0, -1)], 0)?;
-    assert!(rt; is_refuted(&answer(alloc, &rows, &[Ty::UReal])?, &[(0, 1), (1, 1)]));
-    let rows = below(alloc, Vec::new(alloc), &[(0, 1)], 0)?;
-    let rows = at_most(alloc, rows, &[(0, -1)], 0)?;
-    assert!(rt; is_refuted(&answer(alloc, &rows, &[Ty::UReal])?, &[(0, 1), (1, 1)]));
+    let rows = [(1, 0, 0, 0, true), (-1, 0, 0, 0, true)];
+    assert!(rt; is_refuted(alloc, &rows, &[Ty::UReal], &[(0, 1), (1, 1)])?);
+    let rows = [(1, 0, 0, 0, true), (-1, 0, 0, 0, false)];
+    assert!(rt; is_refuted(alloc, &rows, &[Ty::UReal], &[(0, 1), (1, 1)])?);
     Ok(())
 }
 
@@ -63,14 +63,10 @@ fn strict_rows_that_touch(rt: HostRuntime) -> Result<(), Fail> {
 #[test]
 fn rows_without_variables(rt: HostRuntime) -> Result<(), Fail> {
     let alloc = rt.alloc();
-    let rows = at_most(alloc, Vec::new(alloc), &[], 0)?;
-    let rows = below(alloc, rows, &[], 0)?;
-    let rows = at_most(alloc, rows, &[], 1)?;
-    assert!(rt; is_refuted(&answer(alloc, &rows, &[])?, &[(1, 1)]));
-    let rows = below(alloc, Vec::new(alloc), &[], -1)?;
-    let rows = at_most(alloc, rows, &[], 1)?;
-    let rows = below(alloc, rows, &[], 0)?;
-    assert!(rt; is_refuted(&answer(alloc, &rows, &[])?, &[(1, 1)]));
+    let rows = [(0, 0, 0, 0, false), (0, 0, 0, 0, true), (0, 0, 0, 1, false)];
+    assert!(rt; is_refuted(alloc, &rows, &[], &[(1, 1)])?);
+    let rows = [(0, 0, 0, -1, true), (0, 0, 0, 1, false), (0, 0, 0, 0, true)];
+    assert!(rt; is_refuted(alloc, &rows, &[], &[(1, 1)])?);
     Ok(())
 }
 
@@ -79,20 +75,26 @@ fn rows_without_variables(rt: HostRuntime) -> Result<(), Fail> {
 fn rows_with_equal_coefficients(rt: HostRuntime) -> Result<(), Fail> {
     let alloc = rt.alloc();
     // x <= 0, x < 0 and 0 <= x
-    let rows = at_most(alloc, Vec::new(alloc), &[(0, 1)], 0)?;
-    let rows = below(alloc, rows, &[(0, 1)], 0)?;
-    let rows = at_most(alloc, rows, &[(0, -1)], 0)?;
-    assert!(rt; is_refuted(&answer(alloc, &rows, &[Ty::Int])?, &[(1, 1), (2, 1)]));
+    let rows = [
+        (1, 0, 0, 0, false),
+        (1, 0, 0, 0, true),
+        (-1, 0, 0, 0, false),
+    ];
+    assert!(rt; is_refuted(alloc, &rows, &[Ty::Int], &[(1, 1), (2, 1)])?);
     // x <= 5, x <= 1 and 2 <= x
-    let rows = at_most(alloc, Vec::new(alloc), &[(0, 1)], -5)?;
-    let rows = at_most(alloc, rows, &[(0, 1)], -1)?;
-    let rows = at_most(alloc, rows, &[(0, -1)], 2)?;
-    assert!(rt; is_refuted(&answer(alloc, &rows, &[Ty::Int])?, &[(1, 1), (2, 1)]));
+    let rows = [
+        (1, 0, 0, -5, false),
+        (1, 0, 0, -1, false),
+        (-1, 0, 0, 2, false),
+    ];
+    assert!(rt; is_refuted(alloc, &rows, &[Ty::Int], &[(1, 1), (2, 1)])?);
     // x <= 1, x < 2 and 3 <= x
-    let rows = at_most(alloc, Vec::new(alloc), &[(0, 1)], -1)?;
-    let rows = below(alloc, rows, &[(0, 1)], -2)?;
-    let rows = at_most(alloc, rows, &[(0, -1)], 3)?;
-    assert!(rt; is_refuted(&answer(alloc, &rows, &[Ty::Int])?, &[(0, 1), (2, 1)]));
+    let rows = [
+        (1, 0, 0, -1, false),
+        (1, 0, 0, -2, true),
+        (-1, 0, 0, 3, false),
+    ];
+    assert!(rt; is_refuted(alloc, &rows, &[Ty::Int], &[(0, 1), (2, 1)])?);
     Ok(())
 }
 
@@ -100,10 +102,12 @@ fn rows_with_equal_coefficients(rt: HostRuntime) -> Result<(), Fail> {
 #[test]
 fn equal_rows(rt: HostRuntime) -> Result<(), Fail> {
     let alloc = rt.alloc();
-    let rows = at_most(alloc, Vec::new(alloc), &[(0, 1)], -1)?;
-    let rows = at_most(alloc, rows, &[(0, 1)], -1)?;
-    let rows = at_most(alloc, rows, &[(0, -1)], 2)?;
-    assert!(rt; is_refuted(&answer(alloc, &rows, &[Ty::Int])?, &[(0, 1), (2, 1)]));
+    let rows = [
+        (1, 0, 0, -1, false),
+        (1, 0, 0, -1, false),
+        (-1, 0, 0, 2, false),
+    ];
+    assert!(rt; is_refuted(alloc, &rows, &[Ty::Int], &[(0, 1), (2, 1)])?);
     Ok(())
 }
 
@@ -112,13 +116,11 @@ fn equal_rows(rt: HostRuntime) -> Result<(), Fail> {
 fn multipliers_in_lowest_terms(rt: HostRuntime) -> Result<(), Fail> {
     let alloc = rt.alloc();
     // 3 times 2x - 1 <= 0 and twice -3x + 3 <= 0 add up to 3 <= 0
-    let rows = at_most(alloc, Vec::new(alloc), &[(0, 2)], -1)?;
-    let rows = at_most(alloc, rows, &[(0, -3)], 3)?;
-    assert!(rt; is_refuted(&answer(alloc, &rows, &[Ty::UReal])?, &[(0, 3), (1, 2)]));
+    let rows = [(2, 0, 0, -1, false), (-3, 0, 0, 3, false)];
+    assert!(rt; is_refuted(alloc, &rows, &[Ty::UReal], &[(0, 3), (1, 2)])?);
     // 2x + 2 <= 0 and -2x <= 0
-    let rows = at_most(alloc, Vec::new(alloc), &[(0, 2)], 2)?;
-    let rows = at_most(alloc, rows, &[(0, -2)], 0)?;
-    assert!(rt; is_refuted(&answer(alloc, &rows, &[Ty::UReal])?, &[(0, 1), (1, 1)]));
+    let rows = [(2, 0, 0, 2, false), (-2, 0, 0, 0, false)];
+    assert!(rt; is_refuted(alloc, &rows, &[Ty::UReal], &[(0, 1), (1, 1)])?);
     Ok(())
 }
 
@@ -126,11 +128,13 @@ fn multipliers_in_lowest_terms(rt: HostRuntime) -> Result<(), Fail> {
 #[test]
 fn a_circle_of_rows(rt: HostRuntime) -> Result<(), Fail> {
     let alloc = rt.alloc();
-    let rows = at_most(alloc, Vec::new(alloc), &[(0, 1), (1, -1)], 0)?;
-    let rows = at_most(alloc, rows, &[(1, 1), (2, -1)], 0)?;
-    let rows = below(alloc, rows, &[(0, -1), (2, 1)], 0)?;
     let vars = [Ty::Int, Ty::UReal, Ty::UInt];
-    assert!(rt; is_refuted(&answer(alloc, &rows, &vars)?, &[(0, 1), (1, 1), (2, 1)]));
+    let rows = [
+        (1, -1, 0, 0, false),
+        (0, 1, -1, 0, false),
+        (-1, 0, 1, 0, true),
+    ];
+    assert!(rt; is_refuted(alloc, &rows, &vars, &[(0, 1), (1, 1), (2, 1)])?);
     Ok(())
 }
 
@@ -138,15 +142,12 @@ fn a_circle_of_rows(rt: HostRuntime) -> Result<(), Fail> {
 #[test]
 fn a_coefficient_reaches_its_bound(rt: HostRuntime) -> Result<(), Fail> {
     let alloc = rt.alloc();
-    let rows = at_most(
-        alloc,
-        Vec::new(alloc),
-        &[(0, -1), (1, 2305843009213693952)],
-        0,
-    )?;
-    let rows = at_most(alloc, rows, &[(0, 2)], 1)?;
-    let rows = at_most(alloc, rows, &[(1, 1)], 0)?;
-    assert!(rt; is_bits(&answer(alloc, &rows, &[Ty::Int, Ty::Int])?));
+    let rows = [
+        (-1, 2305843009213693952, 0, 0, false),
+        (2, 0, 0, 1, false),
+        (0, 1, 0, 0, false),
+    ];
+    assert!(rt; is_bits(alloc, &rows, &[Ty::Int, Ty::Int])?);
     Ok(())
 }
 
