@@ -171,12 +171,13 @@ fn fractions_past_one_end(rt: HostRuntime) -> Result<(), Fail> {
     Ok(())
 }
 
-/// `x <= y` and `1 <= x`: y occurs in one row and is eliminated first, so x is chosen first.
+/// `1 <= x + y` and `x <= 5`: y occurs in one row and is eliminated first, so x is chosen first.
 #[test]
 fn the_last_eliminated_is_chosen_first(rt: HostRuntime) -> Result<(), Fail> {
     let alloc = rt.alloc();
-    let rows = [(1, -1, 0, 0, false), (-1, 0, 0, 1, false)];
-    assert!(rt; is_point(alloc, &rows, &[Ty::Int, Ty::UReal], &[(1, 1), (1, 1)])?);
+    let rows = [(-1, -1, 0, 1, false), (1, 0, 0, -5, false)];
+    let vars = [Ty::UReal, Ty::UReal];
+    assert!(rt; is_point(alloc, &rows, &vars, &[(0, 1), (1, 1)])?);
     Ok(())
 }
 
