@@ -14,3 +14,4 @@ pub mod Finishing
 pub mod FirstRows
 pub mod Examples
 pub mod Orders
+pub mod Projecting
