@@ -15,3 +15,5 @@ pub mod FirstRows
 pub mod Examples
 pub mod Orders
 pub mod Projecting
+pub mod Reaching
+pub mod EndPlaces

@@ -35,7 +35,7 @@ met_point f vs rows g m = All-both (Good vs) (λ d. MeetsAt f d.row) (MeetsIn (p
 pub point_met : (f : ℕ → Rational) (vs : List ℕ) (rows : List Derived) → All (Good vs) rows → All (MeetsIn (point_of f vs)) rows → Met f rows
 point_met f vs rows g m = All-both (Good vs) (MeetsIn (point_of f vs)) (λ d. MeetsAt f d.row) (λ d k n. (meets_alike f (point_of f vs) d.row (same_over f vs d.row.terms k.within)).0 n) rows g m
 
-in_more : (v x : ℕ) (xs : List ℕ) → is_in v xs ≡ true → is_in v (x ∷ xs) ≡ true
+pub in_more : (v x : ℕ) (xs : List ℕ) → is_in v xs ≡ true → is_in v (x ∷ xs) ≡ true
 in_more v x xs e = go (eqb v x) (is_in v xs) e
   where
     go : (a b : Bool) → b ≡ true → (a || b) ≡ true
