@@ -17,3 +17,6 @@ pub mod Orders
 pub mod Projecting
 pub mod Reaching
 pub mod EndPlaces
+pub mod Bounded
+pub mod EndRuns
+pub mod Intervals

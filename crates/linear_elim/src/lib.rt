@@ -5,6 +5,8 @@ mod answers;
 mod choosing;
 mod eliminating;
 mod elimination;
+mod ends;
+mod fractions;
 mod gathering;
 mod joins;
 mod laws;
