@@ -27,7 +27,7 @@ pub whole-+ : (a b : ℤ) → whole a +ʳ whole b ≡ whole (a +ℤ b)
 unfolding whole
 whole-+ a b = ratio-+ a 1 b 1 (zero-lt-suc 0) (zero-lt-suc 0) ∙ ratio_same _ _ _ _ (zero-lt-suc 0) (zero-lt-suc 0) (rw (*ℤ-one a, *ℤ-one b) refl)
 
-whole-zero : whole (pos 0) ≡ zeroʳ
+pub whole-zero : whole (pos 0) ≡ zeroʳ
 unfolding whole zeroʳ
 whole-zero = refl
 
@@ -83,11 +83,11 @@ times_part n a p = ratio-* (pos n) 1 a n (zero-lt-suc 0) p ∙ ratio_same _ _ _ 
 part_times : (n : ℕ) (a : ℤ) (s : Rational) → 0 < n → whole (pos n) *ʳ (s *ʳ ratio a n) ≡ whole a *ʳ s
 part_times n a s p = ap (λ z. whole (pos n) *ʳ z) (*ʳ_comm s (ratio a n)) ∙ sym (*ʳ_assoc (whole (pos n)) (ratio a n) s) ∙ ap (λ z. z *ʳ s) (times_part n a p)
 
-whole-negative : (n : ℕ) → whole (negsuc n) ≡ negʳ (whole (pos (suc n)))
+pub whole-negative : (n : ℕ) → whole (negsuc n) ≡ negʳ (whole (pos (suc n)))
 unfolding whole
 whole-negative n = sym (ratio-neg (pos (suc n)) 1 (zero-lt-suc 0))
 
-whole-one : whole (pos 1) ≡ oneʳ
+pub whole-one : whole (pos 1) ≡ oneʳ
 unfolding whole oneʳ
 whole-one = refl
 

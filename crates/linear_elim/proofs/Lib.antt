@@ -20,3 +20,6 @@ pub mod EndPlaces
 pub mod Bounded
 pub mod EndRuns
 pub mod Intervals
+pub mod Middles
+pub mod PickLaws
+pub mod Pasts

@@ -1,14 +1,11 @@
 -- What the parts of the greedy choice promise: the ends that the rows of a step give, and the value that is taken between them.
 use Rattle.std.specs.Prelude.{◌≡◌, ◌↔◌, ℕ, List, Bool, true, false, cond, not, Option, Some, None, IfSome, is_some}
 use Rattle.std.specs.List.{All}
-use Rattle.heylo_formula.specs.declared.types.Ty.{Ty}
 use Rattle.heyvl_num.specs.Rational.{Rational}
 use Rattle.linear_form.specs.Lin.{fits}
 use Rattle.linear_form.specs.Row.{Row}
-use Rattle.linear_form.specs.RowLists.{is_numeric}
-use Rattle.linear_form.specs.GreedyPoint.{End, Interval, IsUpFrom, IsUpTo, IsInside, IsChoice, IsBroken}
+use Rattle.linear_form.specs.GreedyPoint.{End, IsUpFrom, IsUpTo}
 use Rattle.linear_elim.specs.Joins.{Derived}
-use Rattle.linear_elim.specs.Elimination.{Step}
 use Rattle.linear_elim.specs.ChoiceNumbers.{end_of}
 use Rattle.linear_elim.specs.declared.ends.Side.{Side}
 use Rattle.linear_elim.specs.declared.ends.Side.TheVariants.{Low, High}

@@ -6,4 +6,5 @@ pub mod Outcomes
 pub mod Turns
 pub mod ChoiceNumbers
 pub mod ChoiceSteps
+pub mod Picks
 pub mod Answers

@@ -1,6 +1,6 @@
 //! Fractions below 2^62, and some whole numbers as fractions.
 ghost use Rattle.std.specs.Prelude.{◌≡◌, ◌<◌, ◌^◌, true, unsigned_abs};
-ghost use Rattle.heyvl_num.specs.Rational.{zeroʳ, compareʳ};
+ghost use Rattle.heyvl_num.specs.Rational.{zeroʳ, halfʳ, middleʳ, ◌+ʳ◌, compareʳ};
 ghost use Rattle.heyvl_num.specs.Rounding.{whole};
 ghost use Rattle.linear_form.specs.Terms.{is_narrow};
 ghost use Rattle.linear_form.specs.Lin.{fits as number_fits};
@@ -56,4 +56,27 @@ pub(crate) fn order(x: &Frac, y: &Frac) -> Ordering
     ensures { result ≡ compareʳ x.now y.now }
 {
     x.compare(y).unwrap()
+}
+
+pub(crate) fn sum(x: &Frac, y: &Frac) -> Frac
+    requires left { number_fits x.now ≡ true }
+    requires right { number_fits y.now ≡ true }
+    ensures { result ≡ x.now +ʳ y.now }
+{
+    x.add(y).unwrap()
+}
+
+fn half() -> Frac
+    ensures { result ≡ halfʳ }
+{
+    Frac::new(1, 2).unwrap()
+}
+
+/// The fraction halfway between two.
+pub(crate) fn middle(x: &Frac, y: &Frac) -> Frac
+    requires left { number_fits x.now ≡ true }
+    requires right { number_fits y.now ≡ true }
+    ensures { result ≡ middleʳ x.now y.now }
+{
+    half().mul(&sum(x, y)).unwrap()
 }

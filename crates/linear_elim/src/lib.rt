@@ -11,6 +11,7 @@ mod gathering;
 mod joins;
 mod laws;
 mod ordering;
+mod picking;
 mod starting;
 mod steps;
 
