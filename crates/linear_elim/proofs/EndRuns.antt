@@ -152,7 +152,7 @@ bounded_fits strict (Some p) e h = go (fits p) refl h
 pub tight_none : (side : Side) (x : ℕ) (cs : List (ℕ × Rational)) (rows : List Derived) → IsTightest side x cs (take 0 rows) None
 tight_none side x cs rows = record { each = All-nil _; narrow = tt; values = λ v. (λ h. All-nil _, λ h. tt) }
 
-take_item : {A : Type 0} (xs : List A) (i : ℕ) (x : A) → i < length xs → x ≡ get_or xs i x → take (i + 1) xs ≡ take i xs ++ (x ∷ [])
+pub take_item : {A : Type 0} (xs : List A) (i : ℕ) (x : A) → i < length xs → x ≡ get_or xs i x → take (i + 1) xs ≡ take i xs ++ (x ∷ [])
 take_item xs i x l e = take_more xs i x l ∙ ap (λ y. take i xs ++ (y ∷ [])) (sym e)
 
 abbrev pub IsPastRow : Side → ℕ → List (ℕ × Rational) → Rational → Derived → Type 0

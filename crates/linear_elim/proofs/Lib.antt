@@ -23,3 +23,5 @@ pub mod Intervals
 pub mod Middles
 pub mod PickLaws
 pub mod Pasts
+pub mod Greedily
+pub mod ChoiceRuns

@@ -14,8 +14,9 @@ use Rattle.heyvl_num.specs.Rounding.{whole, IsFloor, IsCeiling}
 use Rattle.heyvl_num.proofs.Rationals.{ratio_parts, ratio_den, ratio_cross, +ʳ_comm, +ʳ-zero, +ʳ_mono, ≤ʳ_refl, ≤ʳ_trans, ≤ʳ_total, zero-≤ʳ-one, ≤ʳ-+ʳ}
 use Rattle.heyvl_num.proofs.Signs.{<ʳ-≤ʳ, <ʳ-not, middle_above, middle_below, ≤ʳ-+ʳ_cancel, -ʳ-is, -ʳ-+ʳ}
 use Rattle.linear_form.specs.Lin.{fits}
+use Rattle.linear_form.specs.RowLists.{is_numeric}
 use Rattle.linear_form.specs.GreedyPoint.{End, Interval, IsInside, IsUpFrom, IsUpTo, IsWhole, IsWholeType, IsChoice, IsBroken}
-use Rattle.linear_form.specs.GreedyPoint.IsChoice.{nearest_whole, low_end, high_end, middle_of_low, middle_of_high, past_low, past_high}
+use Rattle.linear_form.specs.GreedyPoint.IsChoice.{zero as choose_zero, nearest_whole, low_end, high_end, middle_of_low, middle_of_high, past_low, past_high}
 use Rattle.linear_elim.specs.ChoiceSteps.{IsWithin, IsPast}
 use Rattle.linear_elim.specs.Picks.{sided, across, between, IsNearer, IsNextWhole, IsPicked, narrow_pick, broken_pick, past_place}
 use Rattle.linear_elim.specs.declared.ends.Side.{Side}
@@ -268,3 +269,9 @@ past_none side far v e = subst (λ o. IsPast (across side) o v) (sym e) tt
 
 pub picked_whole : (side : Side) (near : End) (far : Option End) (n : ℤ) (v : Rational) (p : Pick) → v ≡ whole n → IsPast (across side) far v → p ≡ narrow_pick v → IsNextWhole side near n → (ty : Ty) → IsWholeType ty → (IsWithin side near zeroʳ → ⊥) → IsPicked (sided side near far) ty p
 picked_whole side near far n v p e h q x ty t o = picked_value (sided side near far) ty v p q (subst (Chosen (sided side near far) ty) (sym e) (whole_taken side near far n ty x t o (subst (IsPast (across side) far) e h)))
+
+pub taken_out : (side : Side) (end far : Option End) (near : End) (ty : Ty) (p : Pick) (z : Rational) (b : Bool) → end ≡ Some near → (is_numeric ty ≡ true → (IsWithin side near zeroʳ → ⊥) → (w : Rational) → IsInside (sided side near far) w → IsPicked (sided side near far) ty p) → (IsTrue b ↔ IsWithin side near z) → z ≡ zeroʳ → b ≡ false → is_numeric ty ≡ true → (w : Rational) → IsInside (between side end far) w → IsPicked (between side end far) ty p
+taken_out side end far near ty p z b e f k m n q w i = subst (λ o. IsPicked (between side o far) ty p) (sym e) (f q (λ y. absurd (let l = k.1 (subst (IsWithin side near) (sym m) y) in cc)) w (subst (λ o. IsInside (between side o far) w) e i))
+
+pub zero_taken : (low high : Option End) (ty : Ty) (z : Rational) → z ≡ zeroʳ → IsPast Low low zeroʳ → IsPast High high zeroʳ → IsPicked (between Low low high) ty (Value z)
+zero_taken low high ty z e l h = let i = (inside_past (between Low low high) zeroʳ).1 (l, h) in subst (λ v. IsPicked (between Low low high) ty (Value v)) (sym e) (choose_zero ty i, i)

@@ -47,7 +47,7 @@ impl Model for End {
 pub(crate) struct TooGreat;
 
 /// The value chosen for a variable, 0 where none was.
-fn value_of(chosen: &[(u32, Frac)], x: u32) -> Frac
+pub(crate) fn value_of(chosen: &[(u32, Frac)], x: u32) -> Frac
     ensures { result ≡ chosen_value x chosen.now }
 {
     for &(v, value) in chosen {
