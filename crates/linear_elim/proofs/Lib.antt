@@ -25,3 +25,4 @@ pub mod PickLaws
 pub mod Pasts
 pub mod Greedily
 pub mod ChoiceRuns
+pub mod StepRows
