@@ -19,3 +19,15 @@ pub mod Counts
 pub mod OrderedRows
 pub mod Answering
 pub mod TestRows
+pub mod Projecting
+pub mod Reaching
+pub mod EndPlaces
+pub mod Bounded
+pub mod EndRuns
+pub mod Intervals
+pub mod Middles
+pub mod PickLaws
+pub mod Pasts
+pub mod Greedily
+pub mod ChoiceRuns
+pub mod StepRows

@@ -5,10 +5,13 @@ mod answers;
 mod choosing;
 mod eliminating;
 mod elimination;
+mod ends;
+mod fractions;
 mod gathering;
 mod joins;
 mod laws;
 mod ordering;
+mod picking;
 #[cfg(test)]
 mod point_tests;
 mod refuting;

@@ -36,7 +36,7 @@ mod TighteningExamples
 mod PathRowExamples
 mod PathEnds
 mod KeptValues
-mod Narrow
+pub mod Narrow
 mod KeptParts
 mod Products
 mod OperatorRuns
