@@ -1,8 +1,11 @@
-use Rattle.std.proofs.Common.{◌∙◌, sym, subst, arith}
+use Rattle.std.proofs.Common.{◌∙◌, sym, subst, arith, length}
+use Rattle.linear_form.specs.VariableOrder.{order_of}
 use Rattle.std.specs.List.{All}
 use Rattle.linear_form.specs.Terms.{IsOver}
 use Rattle.linear_elim.specs.Answers.{IsEliminated}
+use Rattle.linear_elim.specs.Picks.{IsDerivedStep}
 use Rattle.linear_elim.proofs.Numbers.{ok_map}
+use Rattle.linear_elim.proofs.StepRows.{standing_derived}
 use Rattle.linear_elim.proofs.OrderedRows.{rows_over}
 use Rattle.linear_elim.proofs.Answering.{sum_too_great, settled, few_in, counted, in_order_of, stands_after}
 use Rattle.linear_elim.proofs.eliminating.eliminate.Goals as goal
@@ -41,3 +44,8 @@ pub returns-in-Standing-clause-settles : goal.returns-in-Standing-clause-settles
 returns-in-Standing-clause-settles c =
     let e = rw c.in-Standing.is at c.in_ok-contradiction.ensures.plain in
     ok_map c.greedy.result _ _ (λ o h. settled c.args.rows.now c.args.vars.now o (h c.args.rows.now (subst (λ ss. IsEliminated c.args.rows.now c.args.vars.now ss) (sym c.deref-in-Standing.ensures.value) (stands_after c.args.rows.now c.args.vars.now _ c.requires.rows c.requires.numeric (in_order_of c.args.rows.now c.args.vars.now _ _ (c.deref.ensures.value ∙ c.in_ok-order.ensures) e))))) c.greedy.ensures
+
+pub greedy-requires-clause-derived : goal.greedy-requires-clause-derived
+greedy-requires-clause-derived c =
+    let e = rw c.in-Standing.is at c.in_ok-contradiction.ensures.plain in
+    subst (All IsDerivedStep) (sym c.deref-in-Standing.ensures.value) (standing_derived (order_of c.args.rows.now (length c.args.vars.now)) c.args.rows.now _ c.requires.rows (sym (in_order_of c.args.rows.now c.args.vars.now _ _ (c.deref.ensures.value ∙ c.in_ok-order.ensures) e)))
