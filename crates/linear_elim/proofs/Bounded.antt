@@ -1,16 +1,15 @@
 -- Fractions below 2^62 are compared exactly, and the tighter of two ends.
-use Rattle.std.proofs.Common.{◌≡◌, ℕ, ◌<◌, ◌^◌, ◌*◌, refl, sym, ap, ap₂, ◌∙◌, ◌↔◌, subst, arith, Bool, true, false, cond, ◌&&◌, not, nat_lt, unsigned_abs}
-use Rattle.std.specs.Prelude.{ℤ, pos, negsuc, ◌*ℤ◌, Option, Some, None}
+use Rattle.std.proofs.Common.{◌≡◌, ℕ, ◌<◌, ◌^◌, refl, sym, ◌∙◌, ◌↔◌, subst, arith, Bool, true, false, cond, ◌&&◌, unsigned_abs}
+use Rattle.std.specs.Prelude.{ℤ, pos, ◌*ℤ◌, Some}
 use Rattle.std.specs.declared.cmp.Ordering.{Ordering}
 use Rattle.std.specs.declared.cmp.Ordering.TheVariants.{Less, Equal, Greater}
 use Rattle.std.specs.Ordering.{MatchOrdering}
 use Rattle.std.proofs.lemmas.Int.{unsigned_abs-mul}
 use Rattle.std.proofs.lemmas.Nat.{mul-lt}
-use borrow.Author.Differences.{ints}
-use Rattle.heyvl_num.specs.Rational.{Rational, ratio, zeroʳ, ◌≤ʳ◌, ◌<ʳ◌, compareʳ}
+use Rattle.heyvl_num.specs.Rational.{Rational, ◌≤ʳ◌, ◌<ʳ◌, compareʳ}
 use Rattle.heyvl_num.specs.Rounding.{whole}
 use Rattle.heyvl_num.specs.Exact.{is_small, quotient, quotient_fits, exact_quotient, order_fits, exact_order}
-use Rattle.heyvl_num.proofs.Rationals.{≤ʳ_trans, ≤ʳ_refl}
+use Rattle.heyvl_num.proofs.Rationals.{≤ʳ_trans}
 use Rattle.heyvl_num.proofs.Signs.{<ʳ-≤ʳ, <ʳ-not, compareʳ-is}
 use Rattle.linear_form.specs.Lin.{fits}
 use Rattle.linear_form.specs.GreedyPoint.{End, IsUpFrom, IsUpTo}

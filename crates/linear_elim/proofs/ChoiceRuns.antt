@@ -1,6 +1,6 @@
 -- What the loop over the steps and the state of all variables rest on.
 use Rattle.std.proofs.Common.{◌≡◌, ℕ, ◌+◌, ◌<◌, ◌≤◌, List, [], ◌∷◌, ◌++◌, length, map, take, get_or, below_more, refl, sym, ap, ap₂, ◌∙◌, subst, arith, Bool, true, false, ◌||◌, not}
-use Rattle.std.specs.Prelude.{Option, Some, None}
+use Rattle.std.specs.Prelude.{Option, Some}
 use Rattle.std.specs.List.{All, list_any}
 use Prim.Native.Nat.{zero, suc}
 use Rattle.std.proofs.lemmas.List.Elements.{All-head}
@@ -9,17 +9,17 @@ use Rattle.heylo_formula.specs.declared.types.Ty.{Ty}
 use Rattle.heylo_formula.specs.declared.values.Val.{Val}
 use Rattle.heylo_formula.specs.declared.values.Val.TheVariants.{Truth, Num}
 use Rattle.heyvl_num.specs.Rational.{Rational}
-use Rattle.linear_form.specs.Row.{Row, IsRow}
+use Rattle.linear_form.specs.Row.{Row}
 use Rattle.linear_form.specs.RowLists.{is_numeric}
 use Rattle.linear_form.specs.GreedyPoint.{End, Interval, IsInside, ChoosesFrom, type_at, chosen_value, value_for, IsStateOf}
 use Rattle.linear_form.specs.GreedyPoint.Greedy.{broke}
-use Rattle.linear_elim.specs.Joins.{Derived, IsDerived}
+use Rattle.linear_elim.specs.Joins.{Derived}
 use Rattle.linear_elim.specs.Elimination.{Step}
 use Rattle.linear_elim.specs.ChoiceNumbers.{end_of, end_fits}
 use Rattle.linear_elim.specs.ChoiceSteps.{IsTightest}
 use Rattle.linear_elim.specs.Picks.{between, IsPicked, IsNext, IsDerivedStep}
 use Rattle.linear_elim.specs.Picks.IsNext.{great_end, between_ends}
-use Rattle.linear_elim.specs.Answers.{IsEliminated, IsTooGreat, IsBreak, numbers_of, ends_of}
+use Rattle.linear_elim.specs.Answers.{IsEliminated, IsTooGreat, IsBreak, numbers_of}
 use Rattle.linear_elim.specs.declared.answers.Broken.{Broken}
 use Rattle.linear_elim.specs.declared.ends.Side.TheVariants.{Low, High}
 use Rattle.linear_elim.specs.declared.picking.Pick.{Pick}

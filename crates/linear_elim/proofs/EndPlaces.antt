@@ -1,21 +1,20 @@
 -- The end that a row gives is where the row is met.
-use Rattle.std.proofs.Common.{◌≡◌, ℕ, ◌<◌, ◌*◌, List, [], ◌∷◌, refl, sym, ap, ap₂, ◌∙◌, ◌↔◌, arith, subst, Bool, true, false, cond, eqb, not, inl, inr}
+use Rattle.std.proofs.Common.{◌≡◌, ℕ, ◌<◌, List, [], ◌∷◌, refl, sym, ap, ◌∙◌, ◌↔◌, arith, subst, Bool, true, false, cond, eqb, not}
 use Rattle.std.specs.Prelude.{ℤ, pos, negsuc, ◌+ℤ◌, ◌*ℤ◌, Option, Some, None}
-use Rattle.std.proofs.Math.IntN.{neg_ℤ}
 use Prim.Native.Nat.{suc, zero}
 use borrow.Author.Differences.{ints}
 use Rattle.std.proofs.Math.Nat.{mul-pos, zero-lt-suc}
-use Rattle.heyvl_num.proofs.Integers.{*ℤ-one, one-*ℤ}
+use Rattle.heyvl_num.proofs.Integers.{*ℤ-one}
 use Rattle.heyvl_num.specs.Rational.{Rational, ratio, zeroʳ, oneʳ, negʳ, leqʳ, ◌+ʳ◌, ◌*ʳ◌, ◌-ʳ◌, ◌≤ʳ◌, ◌<ʳ◌}
 use Rattle.heyvl_num.specs.Rounding.{whole}
 use Rattle.heyvl_num.specs.Exact.{exact_quotient, exact_sum, exact_product, quotient}
-use Rattle.heyvl_num.proofs.Rationals.{ring, ratio_same, ratio-+, ratio-*, ratio-neg, zero-+ʳ, zero-*ʳ, one-*ʳ, +ʳ_assoc, +ʳ_comm, +ʳ-*ʳ, *ʳ_assoc, *ʳ_comm, +ʳ_left_comm}
+use Rattle.heyvl_num.proofs.Rationals.{ratio_same, ratio-+, ratio-*, ratio-neg, zero-+ʳ, zero-*ʳ, one-*ʳ, +ʳ_assoc, +ʳ_comm, +ʳ-*ʳ, *ʳ_assoc, *ʳ_comm}
 use Rattle.heyvl_num.proofs.Signs.{negʳ-*ʳ, -ʳ-is, minus_at_most, at_most_minus, difference_nonnegative, times_whole, <ʳ-not}
 use Rattle.heyvl_num.proofs.Exactness.{exact_sum_some, exact_product_some, exact_quotient_some}
 use Rattle.linear_form.specs.Terms.{coefficient}
 use Rattle.linear_form.specs.Row.{Row}
 use Rattle.linear_form.specs.Solutions.{sum_of, IsBelowZero, MeetsAt}
-use Rattle.linear_form.specs.GreedyPoint.{End, IsUpFrom, IsUpTo, chosen_value}
+use Rattle.linear_form.specs.GreedyPoint.{IsUpFrom, IsUpTo, chosen_value}
 use Rattle.linear_elim.specs.Joins.{is_negative, is_positive}
 use Rattle.linear_elim.specs.ChoiceNumbers.{added, sum_without, divided_by, end_of}
 

@@ -1,23 +1,22 @@
 -- Loops over the values chosen, over a row's terms, and over the rows of a step.
 use Rattle.std.proofs.Common.{◌≡◌, ℕ, ◌+◌, ◌<◌, ◌≤◌, List, [], ◌∷◌, ◌++◌, length, take, drop, get_or, refl, sym, ap, ap₂, ◌∙◌, ◌↔◌, subst, arith, Bool, true, false, cond, eqb, ◌&&◌, not}
 use Prim.Native.Nat.{zero, suc}
-use Rattle.std.specs.Prelude.{ℤ, pos, Option, Some, None, IfSome, is_some}
+use Rattle.std.specs.Prelude.{ℤ, Option, Some, None, is_some}
 use Rattle.std.specs.declared.cmp.Ordering.{Ordering}
 use Rattle.std.specs.declared.cmp.Ordering.TheVariants.{Less, Equal, Greater}
-use Rattle.std.specs.List.{All}
 use Rattle.std.proofs.Math.Seq.{drop-cons}
 use Rattle.std.proofs.lemmas.List.{take_more}
-use Rattle.std.proofs.lemmas.List.Elements.{All-nil, All-cons, All-head, All-tail, All-append}
+use Rattle.std.proofs.lemmas.List.Elements.{All-nil, All-cons, All-head, All-append}
 use Rattle.heyvl_num.specs.Rational.{Rational, zeroʳ, compareʳ, ◌<ʳ◌}
 use Rattle.heyvl_num.specs.Rounding.{whole}
 use Rattle.heyvl_num.specs.Exact.{exact_sum, exact_product, exact_quotient}
 use Rattle.linear_form.specs.Lin.{fits}
 use Rattle.linear_form.specs.Row.{Row}
 use Rattle.linear_form.specs.Terms.{coefficient}
-use Rattle.linear_form.specs.GreedyPoint.{End, IsUpFrom, IsUpTo, chosen_value}
+use Rattle.linear_form.specs.GreedyPoint.{End, chosen_value}
 use Rattle.linear_elim.specs.Joins.{Derived}
 use Rattle.linear_elim.specs.ChoiceNumbers.{added, sum_without, divided_by, end_of}
-use Rattle.linear_elim.specs.ChoiceSteps.{IsWithin, IsPast, bounded, end_at, IsTightest}
+use Rattle.linear_elim.specs.ChoiceSteps.{IsWithin, bounded, end_at, IsTightest}
 use Rattle.linear_elim.specs.declared.ends.Side.{Side}
 use Rattle.linear_elim.specs.declared.ends.Side.TheVariants.{Low, High}
 use Rattle.linear_elim.proofs.Joining.{rest_item}

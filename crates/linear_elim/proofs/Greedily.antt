@@ -1,6 +1,6 @@
 -- The greedy choice along the steps of an elimination that stands, from the last step on.
-use Rattle.std.proofs.Common.{◌≡◌, ℕ, ◌+◌, ◌<◌, ◌≤◌, List, [], ◌∷◌, ◌++◌, length, map, reverse, refl, sym, ap, ap₂, ◌∙◌, ◌↔◌, subst, arith, Bool, true, false, cond, eqb, ltb, ◌||◌, not}
-use Rattle.std.specs.Prelude.{ℤ, Option, Some, None, count_by}
+use Rattle.std.proofs.Common.{◌≡◌, ℕ, ◌+◌, ◌<◌, List, [], ◌∷◌, ◌++◌, length, reverse, refl, sym, ap, ap₂, ◌∙◌, subst, arith, Bool, true, false, cond, eqb, ltb, ◌||◌}
+use Rattle.std.specs.Prelude.{ℤ, Option, Some}
 use Rattle.std.specs.List.{All, list_any, fold}
 use Prim.Native.Nat.{zero, suc}
 use Rattle.std.proofs.lemmas.Bool.{eqb-true}
@@ -11,21 +11,17 @@ use Rattle.heylo_formula.specs.State.{environment, number_of}
 use Rattle.heylo_formula.specs.declared.types.Ty.{Ty}
 use Rattle.heylo_formula.specs.declared.values.Val.{Val}
 use Rattle.heyvl_num.specs.Rational.{Rational}
-use Rattle.linear_form.specs.Lin.{fits}
 use Rattle.linear_form.specs.Terms.{is_in, IsNormal, IsOver}
 use Rattle.linear_form.specs.Row.{Row, IsRow}
 use Rattle.linear_form.specs.RowLists.{is_numeric, IsNumericRow}
 use Rattle.linear_form.specs.Solutions.{MeetsAt, IsSolvable}
 use Rattle.linear_form.specs.VariableOrder.{occurs, occurrences, put_variable, order_of}
-use Rattle.linear_form.specs.GreedyPoint.{End, Interval, IsInside, IsIntervalOf, IsCompleted, IsChoice, IsBroken, Greedy, Chooses, ChoosesFrom, type_at, chosen_value, value_for, IsStateOf, IsGreedyPoint}
+use Rattle.linear_form.specs.GreedyPoint.{End, Interval, IsInside, IsIntervalOf, IsCompleted, IsChoice, IsBroken, Chooses, ChoosesFrom, type_at, chosen_value, value_for, IsStateOf, IsGreedyPoint}
 use Rattle.linear_form.specs.GreedyPoint.Greedy.{chose, broke}
 use Rattle.linear_form.specs.GreedyPoint.Chooses.{ends, takes, breaks}
 use Rattle.linear_form.proofs.Fractions.{solvable_is}
 use Rattle.linear_form.proofs.Between.{All-both}
-use Rattle.linear_elim.specs.Joins.{Derived}
-use Rattle.linear_elim.specs.Elimination.{Step, elimination, start}
-use Rattle.linear_elim.specs.Elimination.Outcome.{standing}
-use Rattle.linear_elim.specs.ChoiceNumbers.{IsNextTooGreat, IsChoiceTooGreat}
+use Rattle.linear_elim.specs.Elimination.{Step, start}
 use Rattle.linear_elim.specs.ChoiceNumbers.IsNextTooGreat.{in_an_end, in_a_value}
 use Rattle.linear_elim.specs.ChoiceSteps.{IsTightest}
 use Rattle.linear_elim.specs.Picks.{between, IsPicked, IsNext}

@@ -14,7 +14,7 @@ use Rattle.linear_form.specs.Solutions.{sum_of, IsBelowZero, MeetsAt}
 use Rattle.linear_form.specs.GreedyPoint.{End, Interval, IsInside, IsIntervalOf, IsCompleted, chosen_value}
 use Rattle.linear_form.proofs.Between.{All-both}
 use Rattle.linear_elim.specs.Joins.{Derived, is_negative, is_positive}
-use Rattle.linear_elim.specs.Steps.{lowers, uppers, kept, pairs, eliminate_one, tidied}
+use Rattle.linear_elim.specs.Steps.{lowers, uppers, kept, pairs, tidied}
 use Rattle.linear_elim.specs.Elimination.{Step}
 use Rattle.linear_elim.specs.ChoiceNumbers.{end_of}
 use Rattle.linear_elim.specs.ChoiceSteps.{IsWithin, IsPast, bounded, end_at, IsTightest}
@@ -178,10 +178,12 @@ inside_past i v = (λ h. (low i.low (λ e k. h.from_low e k), high i.high (λ e 
 
 -- The interval of a step that is reached.
 pub interval_is : (xs : List ℕ) (rows : List Derived) (s : Step) (after : List Step) (r : Reached xs rows s after) (cs : List (ℕ × Rational)) → AreFor r.later cs → IsCompleted (bare rows) cs → (i : Interval) → IsTightest Low s.var cs s.lows i.low → IsTightest High s.var cs s.ups i.high → IsIntervalOf (bare rows) cs r.x i
-interval_is xs rows s after r cs a h i l u = record { values = λ v. (
+interval_is xs rows s after r cs a h i l u = record {
+  values = λ v. (
     λ k. let p = (inside_past i v).0 k in bounds_complete xs rows s after r cs a h v ((lows_alike r.x v cs (tidied r.now) i.low low).1 p.0) ((ups_alike r.x v cs (tidied r.now) i.high high).1 p.1),
     λ k. let m = complete_bounds xs rows s after r cs a v k in (inside_past i v).1 ((lows_alike r.x v cs (tidied r.now) i.low low).0 (All-filter _ (λ d. MeetsAt (placed r.x v cs) d.row) (tidied r.now) m), (ups_alike r.x v cs (tidied r.now) i.high high).0 (All-filter _ (λ d. MeetsAt (placed r.x v cs) d.row) (tidied r.now) m)),
-  ) }
+  );
+}
   where
     low : IsTightest Low r.x cs (lowers r.x (tidied r.now)) i.low
     low = subst (λ s. IsTightest Low s.var cs s.lows i.low) r.is_step l

@@ -1,18 +1,16 @@
 -- The middle of two fractions below 2^62 is exact, and so is the whole number next to one.
-use Rattle.std.proofs.Common.{◌≡◌, ℕ, ◌<◌, ◌≤◌, ◌*◌, ◌/◌, ◌+◌, ◌^◌, refl, sym, ap, ap₂, ◌∙◌, ◌↔◌, subst, arith, Bool, true, false, cond, ◌&&◌, not, unsigned_abs}
-use Rattle.std.specs.Prelude.{ℤ, pos, negsuc, ◌+ℤ◌, ◌-ℤ◌, ◌*ℤ◌, ◌≤ℤ◌, ◌<ℤ◌, Option, Some, None}
+use Rattle.std.proofs.Common.{◌≡◌, ℕ, ◌<◌, ◌≤◌, ◌*◌, ◌/◌, ◌^◌, refl, sym, ap, ◌∙◌, subst, arith, Bool, true, ◌&&◌, unsigned_abs}
+use Rattle.std.specs.Prelude.{ℤ, pos, ◌+ℤ◌, ◌*ℤ◌, ◌≤ℤ◌, Some}
 use Rattle.std.proofs.Math.IntN.{neg_ℤ}
 use Rattle.std.proofs.Math.Nat.{mul-pos, zero-lt-suc}
-use Rattle.std.specs.Int.RustNames.{int_div}
-use Rattle.std.proofs.lemmas.Int.{unsigned_abs-mul, by_lt_z}
+use Rattle.std.proofs.lemmas.Int.{unsigned_abs-mul}
 use Rattle.std.proofs.lemmas.Nat.{mul-lt}
-use Prim.Native.Nat.{suc, zero}
 use borrow.Author.Differences.{ints}
 use Rattle.heyvl_num.specs.Gcd.{gcd, gcd_steps}
-use Rattle.heyvl_num.specs.Rational.{Rational, ratio, zeroʳ, oneʳ, halfʳ, middleʳ, ◌+ʳ◌, ◌*ʳ◌, ◌≤ʳ◌, ◌<ʳ◌, abs_div}
+use Rattle.heyvl_num.specs.Rational.{Rational, ratio, halfʳ, middleʳ, ◌+ʳ◌, ◌≤ʳ◌, abs_div}
 use Rattle.heyvl_num.specs.Rounding.{whole, IsFloor, IsCeiling}
-use Rattle.heyvl_num.specs.Exact.{is_small, quotient, quotient_fits, exact_quotient, product_fits, exact_product, exact_sum}
-use Rattle.heyvl_num.proofs.Rationals.{ratio_parts, ratio_num, ratio_den, ratio-≤, ratio-≤_out, ≤ʳ_trans, ≤ʳ_refl}
+use Rattle.heyvl_num.specs.Exact.{quotient, quotient_fits, exact_quotient, product_fits, exact_product}
+use Rattle.heyvl_num.proofs.Rationals.{ratio_parts, ratio_num, ratio_den, ratio-≤, ratio-≤_out, ≤ʳ_trans}
 use Rattle.linear_form.specs.Lin.{fits}
 use Rattle.linear_form.proofs.Narrow.{small, num_less, den_less}
 

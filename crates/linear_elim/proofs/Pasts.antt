@@ -1,10 +1,9 @@
 -- 1 past an end.
-use Rattle.std.proofs.Common.{◌≡◌, refl, sym, ap, ◌∙◌, true}
+use Rattle.std.proofs.Common.{◌≡◌, refl, ap, ◌∙◌, true}
 use Rattle.std.specs.Prelude.{pos, negsuc}
 use Rattle.heyvl_num.specs.Gcd.{gcd, gcd_steps}
 use Rattle.heyvl_num.specs.Rational.{Rational, ratio, zeroʳ, oneʳ, negʳ, ◌+ʳ◌, ◌-ʳ◌}
 use Rattle.heyvl_num.specs.Rounding.{whole}
-use Rattle.heyvl_num.proofs.Signs.{+ʳ-neg, -ʳ-is}
 use Rattle.linear_form.specs.Lin.{fits}
 use Rattle.linear_elim.specs.Picks.{past_place}
 use Rattle.linear_elim.specs.declared.ends.Side.{Side}
@@ -24,7 +23,8 @@ past_low_is Low p s = ap (λ x. p +ʳ x) whole-one
 past_low_is High p s = absurd (cc)
 
 pub past_high_is : (side : Side) (p : Rational) → side ≡ High → p +ʳ whole (negsuc 0) ≡ past_place side p
-past_high_is High p s = ap (λ x. p +ʳ x) (whole-negative 0 ∙ ap negʳ whole-one) ∙ sym (-ʳ-is p oneʳ)
+unfolding ◌-ʳ◌
+past_high_is High p s = ap (λ x. p +ʳ x) (whole-negative 0 ∙ ap negʳ whole-one)
 past_high_is Low p s = absurd (cc)
 
 pub zero_fits : fits zeroʳ ≡ true

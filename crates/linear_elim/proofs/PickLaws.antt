@@ -1,9 +1,9 @@
 -- What is taken in an interval is its choice, and lies in it.
-use Rattle.std.proofs.Common.{◌≡◌, ℕ, ◌<◌, ◌≤◌, ◌+◌, ◌/◌, ◌^◌, refl, sym, ap, ap₂, ◌∙◌, ◌↔◌, subst, arith, Bool, true, false, cond, unsigned_abs, inl, inr, ◌⊎◌}
-use Rattle.std.specs.Prelude.{ℤ, pos, negsuc, ◌+ℤ◌, ◌-ℤ◌, ◌*ℤ◌, ◌≤ℤ◌, ◌<ℤ◌, Option, Some, None, IsTrue}
+use Rattle.std.proofs.Common.{◌≡◌, ℕ, ◌<◌, ◌≤◌, ◌/◌, ◌^◌, refl, sym, ap, ◌∙◌, ◌↔◌, subst, arith, Bool, true, false, cond, unsigned_abs}
+use Rattle.std.specs.Prelude.{ℤ, pos, ◌+ℤ◌, ◌-ℤ◌, ◌*ℤ◌, ◌<ℤ◌, Option, Some, None, IsTrue}
 use Rattle.std.proofs.Math.Nat.{zero-lt-suc, eq-one_of_dvd-one, dvd-mul_right}
 use Rattle.std.proofs.lemmas.Int.{by_lt_z}
-use Prim.Native.Nat.{suc, zero, ◌∣◌}
+use Prim.Native.Nat.{◌∣◌}
 use borrow.Author.Differences.{ints}
 use Rattle.heylo_formula.specs.declared.types.Ty.{Ty}
 use Rattle.heyvl_num.specs.Rational.{Rational, ratio, zeroʳ, oneʳ, halfʳ, middleʳ, leqʳ, ◌+ʳ◌, ◌-ʳ◌, ◌*ʳ◌, ◌≤ʳ◌, ◌<ʳ◌}
@@ -11,19 +11,19 @@ use Rattle.heyvl_num.specs.Gcd.{gcd}
 use Rattle.heyvl_num.specs.GcdLaws.{quotient_den}
 use Rattle.heyvl_num.proofs.Integers.{*ℤ-one}
 use Rattle.heyvl_num.specs.Rounding.{whole, IsFloor, IsCeiling}
-use Rattle.heyvl_num.proofs.Rationals.{ratio_parts, ratio_den, ratio_cross, +ʳ_comm, +ʳ-zero, +ʳ_mono, ≤ʳ_refl, ≤ʳ_trans, ≤ʳ_total, zero-≤ʳ-one, ≤ʳ-+ʳ}
-use Rattle.heyvl_num.proofs.Signs.{<ʳ-≤ʳ, <ʳ-not, middle_above, middle_below, ≤ʳ-+ʳ_cancel, -ʳ-is, -ʳ-+ʳ}
+use Rattle.heyvl_num.proofs.Rationals.{ratio_parts, ratio_den, ratio_cross, +ʳ_comm, +ʳ-zero, ≤ʳ_refl, ≤ʳ_trans}
+use Rattle.heyvl_num.proofs.Signs.{<ʳ-not, middle_above, middle_below, ≤ʳ-+ʳ_cancel, -ʳ-+ʳ}
 use Rattle.linear_form.specs.Lin.{fits}
 use Rattle.linear_form.specs.RowLists.{is_numeric}
-use Rattle.linear_form.specs.GreedyPoint.{End, Interval, IsInside, IsUpFrom, IsUpTo, IsWhole, IsWholeType, IsChoice, IsBroken}
+use Rattle.linear_form.specs.GreedyPoint.{End, Interval, IsInside, IsUpFrom, IsUpTo, IsWholeType, IsChoice, IsBroken}
 use Rattle.linear_form.specs.GreedyPoint.IsChoice.{zero as choose_zero, nearest_whole, low_end, high_end, middle_of_low, middle_of_high, past_low, past_high}
 use Rattle.linear_elim.specs.ChoiceSteps.{IsWithin, IsPast}
 use Rattle.linear_elim.specs.Picks.{sided, across, between, IsNearer, IsNextWhole, IsPicked, narrow_pick, broken_pick, past_place}
 use Rattle.linear_elim.specs.declared.ends.Side.{Side}
 use Rattle.linear_elim.specs.declared.ends.Side.TheVariants.{Low, High}
 use Rattle.linear_elim.specs.declared.picking.Pick.{Pick}
-use Rattle.linear_elim.specs.declared.picking.Pick.TheVariants.{Value, Breaks, Great}
-use Rattle.linear_elim.proofs.EndPlaces.{less_from, whole-zero, whole-one, whole-negative}
+use Rattle.linear_elim.specs.declared.picking.Pick.TheVariants.{Value, Great}
+use Rattle.linear_elim.proofs.EndPlaces.{less_from, whole-zero, whole-one}
 use Rattle.linear_elim.proofs.Bounded.{<ʳ-≤ʳ-trans, ≤ʳ-<ʳ-trans, up_from_weak, up_to_weak, up_from_strong, up_to_strong}
 use Rattle.linear_elim.proofs.Intervals.{inside_past}
 use Rattle.linear_elim.proofs.Middles.{whole_mono, whole_mono_out, floor_small, ceil_small}

@@ -1,14 +1,12 @@
 -- Values that meet the rows after a step are those that extend to the rows before it.
-use Rattle.std.proofs.Common.{◌≡◌, ℕ, List, [], ◌∷◌, ◌++◌, map, refl, sym, ap, ◌∙◌, arith, subst, Bool, true, false, cond, eqb, ◌||◌}
+use Rattle.std.proofs.Common.{◌≡◌, ℕ, List, [], ◌∷◌, map, refl, ap, ◌∙◌, Bool, true, false, cond, eqb, ◌||◌}
 use Rattle.std.specs.Prelude.{ℤ, None}
 use Rattle.std.specs.List.{All}
-use Rattle.std.proofs.lemmas.Bool.{eqb-true}
-use Rattle.std.proofs.lemmas.List.Elements.{All-nil, All-cons, All-head, All-tail, All-weaker, All-map}
+use Rattle.std.proofs.lemmas.List.Elements.{All-weaker, All-map}
 use Rattle.heyvl_num.specs.Rational.{Rational, ratio}
 use Rattle.heyvl_num.proofs.Rationals.{ratio_same}
 use Rattle.linear_form.specs.Terms.{is_in, IsOver}
 use Rattle.linear_form.specs.Row.{Row}
-use Rattle.linear_form.specs.Points.{Point}
 use Rattle.linear_form.specs.Solutions.{MeetsAt}
 use Rattle.linear_form.specs.GreedyPoint.{IsCompleted}
 use Rattle.linear_form.proofs.Between.{All-both}

@@ -1,5 +1,5 @@
 -- The rows before a step of an elimination that stands: which values complete to the first rows.
-use Rattle.std.proofs.Common.{◌≡◌, ℕ, List, [], ◌∷◌, ◌++◌, length, map, refl, sym, ap, ◌∙◌, subst, Bool, true, false, cond, eqb, ltb, ◌||◌}
+use Rattle.std.proofs.Common.{◌≡◌, ℕ, List, [], ◌∷◌, ◌++◌, length, map, refl, sym, ap, ◌∙◌, subst, Bool, true, false, cond, eqb, ltb}
 use Rattle.std.specs.Prelude.{Option, Some, None}
 use Prim.Native.Nat.{suc}
 use Rattle.std.specs.List.{All}
@@ -11,12 +11,12 @@ use Rattle.linear_form.specs.Row.{Row}
 use Rattle.linear_form.specs.GreedyPoint.{IsCompleted}
 use Rattle.linear_elim.specs.Joins.{Derived}
 use Rattle.linear_elim.specs.Steps.{eliminate_one, tidied, contradiction, step_fits}
-use Rattle.linear_elim.specs.Elimination.{Step, step_of, gathered, Outcome, after_step, ended_by, unless_many, run, start}
-use Rattle.linear_elim.specs.Elimination.Outcome.{refuted, standing, too_many, too_great}
+use Rattle.linear_elim.specs.Elimination.{Step, step_of, gathered, after_step, ended_by, unless_many, run, start}
+use Rattle.linear_elim.specs.Elimination.Outcome.{standing, too_many, too_great}
 use Rattle.linear_elim.proofs.Shapes.{Good, step-good}
 use Rattle.linear_elim.proofs.Tidying.{tidied-all}
 use Rattle.linear_elim.proofs.Deciding.{after-standing}
-use Rattle.linear_elim.proofs.Projecting.{bare, in_more, Lacks, completed_after, completed_before}
+use Rattle.linear_elim.proofs.Projecting.{bare, in_more, completed_after, completed_before}
 
 -- The rows stand, after these steps for these variables.
 abbrev pub Stands : List ℕ → List Derived → List Step → Type 0

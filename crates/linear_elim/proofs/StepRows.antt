@@ -1,5 +1,5 @@
 -- The rows of the steps are as the code keeps them.
-use Rattle.std.proofs.Common.{◌≡◌, ℕ, List, [], ◌∷◌, length, refl, sym, ap, ◌∙◌, subst, Bool, true, false, cond, ltb}
+use Rattle.std.proofs.Common.{◌≡◌, ℕ, List, [], ◌∷◌, length, refl, sym, subst, Bool, true, false, cond, ltb}
 use Rattle.std.specs.Prelude.{Option, Some, None}
 use Prim.Native.Nat.{suc}
 use Rattle.std.specs.List.{All}
@@ -7,8 +7,8 @@ use Rattle.std.proofs.lemmas.List.Elements.{All-nil, All-cons, All-filter}
 use Rattle.linear_form.specs.Row.{Row, IsRow}
 use Rattle.linear_elim.specs.Joins.{Derived, IsDerived}
 use Rattle.linear_elim.specs.Steps.{eliminate_one, tidied, contradiction, step_fits}
-use Rattle.linear_elim.specs.Elimination.{Step, step_of, gathered, Outcome, after_step, ended_by, unless_many, run, start, elimination}
-use Rattle.linear_elim.specs.Elimination.Outcome.{refuted, standing, too_many, too_great}
+use Rattle.linear_elim.specs.Elimination.{Step, step_of, gathered, after_step, ended_by, unless_many, run, start, elimination}
+use Rattle.linear_elim.specs.Elimination.Outcome.{standing, too_many, too_great}
 use Rattle.linear_elim.specs.Picks.{IsDerivedStep}
 use Rattle.linear_elim.proofs.Deciding.{after-standing}
 use Rattle.linear_elim.proofs.Keeping.{step-derived}

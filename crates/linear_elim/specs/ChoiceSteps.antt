@@ -1,5 +1,5 @@
 -- What the parts of the greedy choice promise: the ends that the rows of a step give, and the value that is taken between them.
-use Rattle.std.specs.Prelude.{◌≡◌, ◌↔◌, ℕ, List, Bool, true, false, cond, not, Option, Some, None, IfSome, is_some}
+use Rattle.std.specs.Prelude.{◌≡◌, ◌↔◌, ℕ, List, Bool, true, cond, not, Option, Some, None, IfSome, is_some}
 use Rattle.std.specs.List.{All}
 use Rattle.heyvl_num.specs.Rational.{Rational}
 use Rattle.linear_form.specs.Lin.{fits}

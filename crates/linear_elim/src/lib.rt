@@ -3,6 +3,8 @@
 
 mod answers;
 mod choosing;
+#[cfg(test)]
+mod choosing_tests;
 mod eliminating;
 mod elimination;
 mod ends;

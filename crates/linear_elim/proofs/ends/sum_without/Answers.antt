@@ -1,4 +1,4 @@
-use Rattle.std.proofs.Common.{◌≡◌, rules, ap, ap₂, sym, ◌∙◌, ◌+◌, get_or, drop, FitsSigned}
+use Rattle.std.proofs.Common.{rules, ap, ap₂, sym, ◌∙◌, ◌+◌, get_or, drop, FitsSigned}
 use Rattle.std.proofs.lemmas.Int.{to_z-of_z}
 use mir.Syntax.{w64}
 use Rattle.std.specs.Prelude.{pos, Some, None}
@@ -23,8 +23,8 @@ pub loop-v-preserved : goal.loop-v-preserved
 loop-v-preserved c =
     elim c.if-v-x.branch [
       | then-v-x+in_ok-sum w ↦
-        let f : FitsSigned w64 (get_or c.deref-v-items.result.now c.loop-v.v-index (0, pos 0)).1 = search rules in
-        term_added c.args.x c.args.chosen.now c.deref-v-items.result.now c.loop-v.v-index _ c.loop-v.sum _ (Some c.if-v-x.sum) (term_at _ _ (0, pos 0) c.loop-v-test.true) w.if-v-x.true (ap (λ s. Some s) w.sum-is ∙ sym w.in_ok-sum.was ∙ w.with_term.ensures ∙ ap₂ (λ a b. added (Some c.loop-v.sum) (exact_product a b)) (ap whole (to_z-of_z w64 _ f)) w.value_of-value.ensures) c.loop-v.invariant
+          let f : FitsSigned w64 (get_or c.deref-v-items.result.now c.loop-v.v-index (0, pos 0)).1 = search rules in
+          term_added c.args.x c.args.chosen.now c.deref-v-items.result.now c.loop-v.v-index _ c.loop-v.sum _ (Some c.if-v-x.sum) (term_at _ _ (0, pos 0) c.loop-v-test.true) w.if-v-x.true (ap (λ s. Some s) w.sum-is ∙ sym w.in_ok-sum.was ∙ w.with_term.ensures ∙ ap₂ (λ a b. added (Some c.loop-v.sum) (exact_product a b)) (ap whole (to_z-of_z w64 _ f)) w.value_of-value.ensures) c.loop-v.invariant
       | else-v-x w ↦ ap (λ s. sum_without c.args.x c.args.chosen.now (drop (c.loop-v.v-index + 1) c.deref-v-items.result.now) (Some s)) w.sum-is ∙ term_skipped c.args.x c.args.chosen.now c.deref-v-items.result.now c.loop-v.v-index _ c.loop-v.sum _ (term_at _ _ (0, pos 0) c.loop-v-test.true) w.if-v-x.false c.loop-v.invariant
     ]
 

@@ -1,5 +1,5 @@
-use Rattle.std.proofs.Common.{◌≡◌, rules, subst, ap, sym, ◌∙◌, true}
-use Rattle.std.specs.Prelude.{IfSome, Some, None}
+use Rattle.std.proofs.Common.{◌≡◌, subst, ap, sym, ◌∙◌, true}
+use Rattle.std.specs.Prelude.{IfSome}
 use Rattle.linear_form.specs.Lin.{fits}
 use Rattle.linear_elim.specs.ChoiceSteps.{IsTightest, end_at}
 use Rattle.linear_elim.proofs.EndRuns.{tight_none, tight_first, tight_more, tight_item, tight_end}

@@ -1,7 +1,6 @@
-use Rattle.std.proofs.Common.{◌≡◌, rules, ap, ap₂, sym, ◌∙◌, FitsSigned}
+use Rattle.std.proofs.Common.{rules, ap, sym, ◌∙◌, FitsSigned}
 use Rattle.std.proofs.lemmas.Int.{to_z-of_z}
 use mir.Syntax.{w64}
-use Rattle.std.specs.Prelude.{Some, None}
 use Rattle.heyvl_num.specs.Rounding.{whole}
 use Rattle.heyvl_num.specs.Exact.{exact_product}
 use Rattle.linear_elim.proofs.EndRuns.{product_none, product_some}

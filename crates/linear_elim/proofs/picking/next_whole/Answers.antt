@@ -1,10 +1,8 @@
-use Rattle.std.proofs.Common.{◌≡◌, ◌<◌, ◌≤◌, ◌^◌, subst, sym, ap, ◌∙◌, arith, rules, unsigned_abs, true, FitsSigned}
+use Rattle.std.proofs.Common.{◌<◌, ◌^◌, subst, sym, ap, ◌∙◌, rules, unsigned_abs, FitsSigned}
 use Rattle.std.specs.Prelude.{pos, ◌+ℤ◌, ◌-ℤ◌}
 use Rattle.std.proofs.lemmas.Int.{to_z-of_z}
 use mir.Syntax.{w128}
 use Rattle.heyvl_num.specs.Rounding.{IsFloor, IsCeiling}
-use Rattle.linear_form.specs.Lin.{fits}
-use Rattle.linear_form.specs.GreedyPoint.{End}
 use Rattle.linear_elim.specs.Picks.{IsNextWhole}
 use Rattle.linear_elim.proofs.Middles.{floor_small, ceil_small}
 use Rattle.linear_elim.proofs.PickLaws.{less_of, next_low_closed, next_low_open, next_high_closed, next_high_open}
