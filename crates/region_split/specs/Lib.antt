@@ -1,3 +1,4 @@
 pub mod Walk
 pub mod Decisions
 pub mod Meanings
+pub mod Seen

@@ -3,6 +3,8 @@
 
 mod deciding;
 mod decisions;
+mod front;
+mod solving;
 
 pub use deciding::decide;
 pub use decisions::Decision;
