@@ -19,6 +19,9 @@ mod TightRows
 mod Factors
 mod RowParts
 mod NonzeroClaims
+pub mod TypedTrees
+pub mod NumericRows
+pub mod DeniedRows
 pub mod MetRows
 mod Runs
 mod PathEnds

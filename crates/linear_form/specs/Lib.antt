@@ -27,3 +27,4 @@ pub mod Loops
 pub mod Operator
 pub mod Columns
 pub mod RowLists
+pub mod RowListLaws

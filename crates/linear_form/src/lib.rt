@@ -20,6 +20,7 @@ mod paths;
 mod question_laws;
 mod row;
 mod row_laws;
+mod row_list_laws;
 mod terms;
 #[cfg(test)]
 mod tests;
@@ -36,6 +37,7 @@ pub use paths::{Atom, Taken};
 pub use question_laws::{constant_without_variables, one_path_agrees};
 pub use row::Row;
 pub use row_laws::solutions_of_rows;
+pub use row_list_laws::{denied_rows_are_more, rows_are_numeric};
 pub use terms::{
     coefficient_of, divided, divisor_of, merged, mixed, narrow_quotient, scaled, wide_product,
 };

@@ -1,0 +1,14 @@
+//! The laws of the rows of a path. Each function does nothing: its contract is the law.
+
+ghost use Rattle.linear_form.specs.RowListLaws as law;
+
+/// The variables of the rows of a typed goal are numbers by their types.
+pub fn rows_are_numeric()
+    ensures { law.RowsAreNumeric }
+{}
+
+/// The rows without the denied goal are among the rows with it, and so they are solvable where those are.
+pub fn denied_rows_are_more()
+    ensures among { law.DeniedRowsAreMore }
+    ensures solvable { law.DeniedRowsAreStronger }
+{}
