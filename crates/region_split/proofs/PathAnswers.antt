@@ -10,15 +10,19 @@ use Rattle.linear_form.specs.Query.Query.{done, bits, ask}
 use Rattle.linear_form.specs.Questions.{Ends}
 use Rattle.linear_form.specs.Paths.{end_at}
 use Rattle.linear_form.specs.PathRows.{rows_of, denial, denial_at, IsPlainAt}
-use Rattle.linear_form.specs.PlainPaths.{atom_of}
+use Rattle.linear_form.specs.PlainPaths.{linear_of}
 use Rattle.linear_form.specs.Row.{Row}
 use Rattle.linear_form.specs.Seen.{Answers}
 use Rattle.linear_form.specs.Solutions.{IsSolvable}
 use Rattle.linear_form.specs.GreedyPoint.{IsGreedyPoint}
 use Rattle.linear_form.specs.Cells.{IsDropped, IsFront}
 use Rattle.linear_form.specs.declared.asking.Ask as K
+use Rattle.linear_form.specs.declared.paths.Atom as A
+use Rattle.linear_form.specs.declared.lin.Lin as L
+use Rattle.linear_form.proofs.DeniedRows.{denied_stronger}
 use Rattle.linear_form.proofs.Combinations.{contradiction_unsolvable}
 use Rattle.linear_elim.specs.Answers.{MeetsAll, IsTooGreat}
+use Rattle.linear_elim.specs.declared.answers.Broken.{Broken}
 use Rattle.linear_elim.specs.declared.answers.Cause.TheVariants.{Bits}
 use Rattle.farkas_check.specs.Trees.{Tree}
 use Rattle.farkas_check.specs.Accepted.{has_denied, IsRefuted, IsAccepted}
@@ -69,3 +73,27 @@ dropped_by g ps denied ms e d r = record { dropped = d; accepted = IsAccepted.fa
 
 pub bits_undenied : (g : Goal) (ps : List Taken) → Answers K.TheVariants.Bits (end_at g ps) → has_denied g ps ≡ false
 bits_undenied g ps a = undenied_bits g.upper (end_at g ps) a
+
+undenied_question : (upper : Bool) (q : A.Atom) (t : Query Ends) → Answers (K.TheVariants.Decide q) t → is_some (denial_at upper t) ≡ false
+undenied_question upper q (done e) h = absurd h
+undenied_question upper q bits h = absurd h
+undenied_question upper q (ask r y n) h = refl
+
+pub question_undenied : (g : Goal) (ps : List Taken) (q : A.Atom) → Answers (K.TheVariants.Decide q) (end_at g ps) → has_denied g ps ≡ false
+question_undenied g ps q a = undenied_question g.upper q (end_at g ps) a
+
+undenied_end : (upper : Bool) (x y : Option L.Lin) (t : Query Ends) → Answers (K.TheVariants.End x y) t → denial upper (linear_of x, linear_of y) ≡ None → is_some (denial_at upper t) ≡ false
+undenied_end upper x y (done e) h n = ap is_some (subst (λ d. denial upper d ≡ None) h n)
+undenied_end upper x y bits h n = absurd h
+undenied_end upper x y (ask r s t) h n = absurd h
+
+pub end_undenied : (g : Goal) (ps : List Taken) (x y : Option L.Lin) → Answers (K.TheVariants.End x y) (end_at g ps) → denial g.upper (linear_of x, linear_of y) ≡ None → has_denied g ps ≡ false
+end_undenied g ps x y a n = undenied_end g.upper x y (end_at g ps) a n
+
+-- ---- A dropped end
+
+pub point_of_dropped : (g : Goal) (ps : List Taken) (point : List Val) → IsDropped g ps → IsPointAt g ps true point → ⊥
+point_of_dropped g ps point d p = d.unsolvable (denied_stronger g ps d.rows p.rows d.are_rows p.are_rows p.solvable)
+
+pub break_of_dropped : (g : Goal) (ps : List Taken) (b : Broken) → IsDropped g ps → IsBreakAt g ps true b → ⊥
+break_of_dropped g ps b d p = d.unsolvable (denied_stronger g ps d.rows p.rows d.are_rows p.are_rows p.broken.solvable)

@@ -2,3 +2,4 @@ pub mod Walk
 pub mod Decisions
 pub mod Meanings
 pub mod Seen
+pub mod Progress

@@ -1,0 +1,49 @@
+//! The trees of finished branches.
+
+ghost use Rattle.std.specs.Prelude.{List, IfOk, true, false};
+ghost use Rattle.heylo_formula.specs.Goals.{Goal as PlainGoal};
+ghost use Rattle.linear_form.specs.Query.{Taken as PlainTaken, Atom, onto};
+ghost use Rattle.region_split.specs.Seen.{GoesOn};
+ghost use Rattle.region_split.specs.Progress.{IsGrown, IsGrownTree};
+
+use farkas_check::Tree;
+use std::alloc::{AllocError, Global};
+
+/// The tree of a finished branch, and its depth, which is at most 1,000. A leaf has depth 1.
+#[derive(Drop)]
+pub struct Grown {
+    pub tree: Tree,
+    pub depth: u32,
+}
+
+/// The tree that splits into two trees; none where one of them is missing or the new one would be deeper than 1,000.
+pub fn joined(
+    alloc: Global,
+    left: Option<Grown>,
+    right: Option<Grown>,
+) -> Result<Option<Grown>, AllocError>
+    ensures { (g : PlainGoal) (ps : List PlainTaken) (q : Atom) → GoesOn g ps q → IsGrown g (onto ps q true) left → IsGrown g (onto ps q false) right → IfOk result (λ t. IsGrown g ps t) }
+{
+    match (left, right) {
+        (Some(first), Some(second)) => split(alloc, first, second),
+        (Some(_), None) => Ok(None),
+        (None, Some(_)) => Ok(None),
+        (None, None) => Ok(None),
+    }
+}
+
+/// The tree that splits into these two.
+fn split(alloc: Global, left: Grown, right: Grown) -> Result<Option<Grown>, AllocError>
+    ensures { (g : PlainGoal) (ps : List PlainTaken) (q : Atom) → GoesOn g ps q → IsGrownTree g (onto ps q true) left → IsGrownTree g (onto ps q false) right → IfOk result (λ t. IsGrown g ps t) }
+{
+    let below = left.depth.max(right.depth);
+    if below >= 1000 {
+        return Ok(None);
+    }
+    let first = Box::new(alloc, left.tree)?;
+    let second = Box::new(alloc, right.tree)?;
+    Ok(Some(Grown {
+        tree: Tree::Split(first, second),
+        depth: below + 1,
+    }))
+}
