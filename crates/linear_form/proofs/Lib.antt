@@ -22,6 +22,7 @@ mod NonzeroClaims
 pub mod TypedTrees
 pub mod NumericRows
 pub mod DeniedRows
+mod ShortPaths
 pub mod MetRows
 mod Runs
 mod PathEnds

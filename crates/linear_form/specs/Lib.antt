@@ -28,3 +28,4 @@ pub mod Operator
 pub mod Columns
 pub mod RowLists
 pub mod RowListLaws
+pub mod PathLaws

@@ -1,5 +1,5 @@
 -- What each decision says of a goal. This project's own.
-use Rattle.std.specs.Prelude.{◌≡◌, ◌↔◌, ℕ, ◌≤◌, ◌<◌, List, [], ◌∷◌, ◌++◌, length, Bool, true, false, Option, Some, None}
+use Rattle.std.specs.Prelude.{◌≡◌, ◌↔◌, ◌⊎◌, ℕ, ◌≤◌, ◌<◌, List, [], ◌∷◌, ◌++◌, length, Bool, true, false, Option, Some, None}
 use Prim.Native.Nat.{suc}
 use Rattle.std.specs.List.{All}
 use Rattle.heyvl_num.specs.Rational.{Rational}
@@ -10,9 +10,10 @@ use Rattle.linear_form.specs.Query.{Query, Taken, known}
 use Rattle.linear_form.specs.Query.Query.{done, bits, ask}
 use Rattle.linear_form.specs.Questions.{Ends}
 use Rattle.linear_form.specs.Paths.{end_at}
-use Rattle.linear_form.specs.PathRows.{rows_of}
+use Rattle.linear_form.specs.PathRows.{rows_of, IsPlainAt}
 use Rattle.linear_form.specs.Nonlinear.{nonlinear_product}
 use Rattle.linear_form.specs.Row.{Row}
+use Rattle.linear_form.specs.Solutions.{IsSolvable}
 use Rattle.linear_form.specs.Cells.{IsFront, IsCell, IsFalseCell}
 use Rattle.linear_form.specs.GreedyPoint.{Interval, Greedy, ChoosesFrom, IsGreedyPoint}
 use Rattle.linear_elim.specs.Elimination.Outcome.{too_many}
@@ -118,11 +119,17 @@ abbrev pub HasTree : Goal → ℕ → Option Tree → Type 0
 HasTree g n (Some t) = (n ≤ 1000) × IsCertificate g (tree_of t)
 HasTree g n None = 1000 < n
 
--- No cell is false.
+-- There are rows of the path with the denied goal, and no fractions meet them.
+pub record IsRefutedCell (g : Goal) (ps : List Taken) : Type 0 where
+  pub rows : List Row
+  pub are_rows : rows_of g ps true ≡ Some rows
+  pub unsolvable : IsSolvable rows → ⊥
+
+-- At each cell the goal holds plainly, or its denial is refuted.
 pub record IsProved (g : Goal) (t : Option Tree) : Type 0 where
   pub cells : List (List Taken)
   pub walked : IsWalked g cells
-  pub none_false : All (λ ps. IsFalseCell g ps → ⊥) cells
+  pub each_holds : All (λ ps. IsPlainAt g ps ⊎ IsRefutedCell g ps) cells
   pub depth : ℕ
   pub has_depth : HasDepth g [] depth
   pub tree : HasTree g depth t

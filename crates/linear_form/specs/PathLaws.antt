@@ -1,0 +1,10 @@
+-- What is proved of the length of paths.
+use Rattle.std.specs.Prelude.{ℕ, ◌+◌, ◌*◌, ◌≤◌, List, length}
+use Rattle.heylo_formula.specs.Goals.{Goal}
+use Rattle.heylo_formula.specs.Sizes.{nodes}
+use Rattle.linear_form.specs.Query.{Taken}
+use Rattle.linear_form.specs.Paths.{IsPath}
+
+-- Each node of the two forms asks at most two questions, and on a path only once.
+abbrev pub PathsAreShort : Type 0
+PathsAreShort = (g : Goal) (ps : List Taken) → IsPath g ps → length ps ≤ 2 * (nodes g.stated + nodes g.found)

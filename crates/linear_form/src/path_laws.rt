@@ -1,0 +1,8 @@
+//! The law of the length of paths. The function does nothing: its contract is the law.
+
+ghost use Rattle.linear_form.specs.PathLaws as law;
+
+/// A path has at most two questions for each node of the two forms of its goal.
+pub fn paths_are_short()
+    ensures { law.PathsAreShort }
+{}
