@@ -1,1 +1,5 @@
 mod PathAnswers
+mod Climbing
+mod CellOrder
+mod CellsFound
+mod Leaves

@@ -55,7 +55,7 @@ pub fn walked(alloc: Global, goal: &Goal) -> Result<Decision, AllocError>
         found: Found::Nothing,
     };
     'walk: loop {
-        match step(alloc, goal, walk)? {
+        match visit(alloc, goal, walk)? {
             Step::On(next) => walk = next,
             Step::Done(decision) => return Ok(decision),
         }
@@ -63,7 +63,7 @@ pub fn walked(alloc: Global, goal: &Goal) -> Result<Decision, AllocError>
 }
 
 /// Looks at the path of the walk, and goes on to the next one.
-fn step(alloc: Global, goal: &Goal, walk: Walk) -> Result<Step, AllocError>
+fn visit(alloc: Global, goal: &Goal, walk: Walk) -> Result<Step, AllocError>
     requires typed { IsTypedGoal (goal_of goal.now) }
     requires short { AreShort (goal_of goal.now) }
     requires linear { nonlinear_product (goal_of goal.now) ≡ None }

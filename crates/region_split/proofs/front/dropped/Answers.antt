@@ -1,3 +1,4 @@
+use Rattle.std.proofs.Common.{rules}
 use Rattle.heylo_formula.specs.Goals.{goal_of}
 use Rattle.linear_form.specs.PlainPaths.{path_of}
 use Rattle.region_split.proofs.PathAnswers.{is_dropped, dropped_by, bits_undenied, question_undenied, end_undenied}
