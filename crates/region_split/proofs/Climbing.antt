@@ -150,32 +150,32 @@ rest_first : {A : Type 0} (t : Query A) (ps : List Taken) (q : Atom) (y n : Quer
 rest_first (done a) ps q y n e = absurd (cc)
 rest_first bits ps q y n e = absurd (cc)
 rest_first (ask r y' n') [] q y n e = let k : n' ≡ n = cc in ap (λ t. 0 + size t) k
-rest_first (ask r y' n') (p ∷ ps) q y n e = go p.held e
+rest_first (ask r y' n') (p ∷ ps) q y n e = go p.held e (rest_first y' ps q y n) (rest_first n' ps q y n)
   where
-    go : (b : Bool) → (if b then walk y' ps else walk n' ps) ≡ ask q y n → (if b then rest_of y' (onto ps q true) + size n' else rest_of n' (onto ps q true)) ≡ (if b then rest_of y' ps + size n' else rest_of n' ps) + size n
-    go true f = let h = rest_first y' ps q y n f in omega arith
-    go false f = rest_first n' ps q y n f
+    go : (b : Bool) → (if b then walk y' ps else walk n' ps) ≡ ask q y n → (walk y' ps ≡ ask q y n → rest_of y' (onto ps q true) ≡ rest_of y' ps + size n) → (walk n' ps ≡ ask q y n → rest_of n' (onto ps q true) ≡ rest_of n' ps + size n) → (if b then rest_of y' (onto ps q true) + size n' else rest_of n' (onto ps q true)) ≡ (if b then rest_of y' ps + size n' else rest_of n' ps) + size n
+    go true f k l = let h = k f in omega arith
+    go false f k l = l f
 
 rest_second : {A : Type 0} (t : Query A) (ps : List Taken) (q : Atom) (y n : Query A) → walk t ps ≡ ask q y n → rest_of t (onto ps q false) ≡ rest_of t ps
 rest_second (done a) ps q y n e = absurd (cc)
 rest_second bits ps q y n e = absurd (cc)
 rest_second (ask r y' n') [] q y n e = refl
-rest_second (ask r y' n') (p ∷ ps) q y n e = go p.held e
+rest_second (ask r y' n') (p ∷ ps) q y n e = go p.held e (rest_second y' ps q y n) (rest_second n' ps q y n)
   where
-    go : (b : Bool) → (if b then walk y' ps else walk n' ps) ≡ ask q y n → (if b then rest_of y' (onto ps q false) + size n' else rest_of n' (onto ps q false)) ≡ (if b then rest_of y' ps + size n' else rest_of n' ps)
-    go true f = ap (λ k. k + size n') (rest_second y' ps q y n f)
-    go false f = rest_second n' ps q y n f
+    go : (b : Bool) → (if b then walk y' ps else walk n' ps) ≡ ask q y n → (walk y' ps ≡ ask q y n → rest_of y' (onto ps q false) ≡ rest_of y' ps) → (walk n' ps ≡ ask q y n → rest_of n' (onto ps q false) ≡ rest_of n' ps) → (if b then rest_of y' (onto ps q false) + size n' else rest_of n' (onto ps q false)) ≡ (if b then rest_of y' ps + size n' else rest_of n' ps)
+    go true f k l = ap (λ j. j + size n') (k f)
+    go false f k l = l f
 
 walk_on : {A : Type 0} (t : Query A) (ps : List Taken) (q : Atom) (y n : Query A) (b : Bool) → walk t ps ≡ ask q y n → walk t (onto ps q b) ≡ (if b then y else n)
 walk_on (done a) ps q y n b e = absurd (cc)
 walk_on bits ps q y n b e = absurd (cc)
 walk_on (ask r y' n') [] q y n true e = walk_none y' ∙ cc
 walk_on (ask r y' n') [] q y n false e = walk_none n' ∙ cc
-walk_on (ask r y' n') (p ∷ ps) q y n b e = go p.held e
+walk_on (ask r y' n') (p ∷ ps) q y n b e = go p.held e (walk_on y' ps q y n b) (walk_on n' ps q y n b)
   where
-    go : (h : Bool) → (if h then walk y' ps else walk n' ps) ≡ ask q y n → (if h then walk y' (onto ps q b) else walk n' (onto ps q b)) ≡ (if b then y else n)
-    go true f = walk_on y' ps q y n b f
-    go false f = walk_on n' ps q y n b f
+    go : (h : Bool) → (if h then walk y' ps else walk n' ps) ≡ ask q y n → (walk y' ps ≡ ask q y n → walk y' (onto ps q b) ≡ (if b then y else n)) → (walk n' ps ≡ ask q y n → walk n' (onto ps q b) ≡ (if b then y else n)) → (if h then walk y' (onto ps q b) else walk n' (onto ps q b)) ≡ (if b then y else n)
+    go true f k l = k f
+    go false f k l = l f
 
 pub rest_up : (g : Goal) (ps : List Taken) (q : Atom) → GoesOn g ps q → rest_of (questions g) (onto ps q false) ≡ rest_of (questions g) ps
 rest_up g ps q h = rest_second (questions g) ps q h.asks.yes h.asks.no h.asks.question

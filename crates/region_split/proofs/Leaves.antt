@@ -53,6 +53,13 @@ deep_left g ps q n h a b = let d = a.deep in grown_deep g ps q a.depth n h a.has
 pub deep_right : (g : Goal) (ps : List Taken) (q : Atom) (m : ℕ) → GoesOn g ps q → HasDepth g (onto ps q true) m → IsDeep g (onto ps q false) → IsDeep g ps
 deep_right g ps q m h a b = let d = b.deep in grown_deep g ps q m b.depth h a b.has_depth (omega arith)
 
+grown_depth : (g : Goal) (ps : List Taken) (t : Option Grown) → IsGrown g ps t → (n : ℕ) × HasDepth g ps n
+grown_depth g ps (Some t) h = (t.depth, h.has_depth)
+grown_depth g ps None h = (h.depth, h.has_depth)
+
+pub deep_first : (g : Goal) (ps : List Taken) (q : Atom) (right : Option Grown) → GoesOn g ps q → IsDeep g (onto ps q true) → IsGrown g (onto ps q false) right → IsDeep g ps
+deep_first g ps q right h a b = let d = grown_depth g (onto ps q false) right b in deep_left g ps q d.0 h a d.1
+
 pub grown_split : (g : Goal) (ps : List Taken) (q : Atom) (l r : Grown) (a b : Box T.Tree Global) (k : ℕ) → GoesOn g ps q → IsGrownTree g (onto ps q true) l → IsGrownTree g (onto ps q false) r → a.value ≡ l.tree → b.value ≡ r.tree → k ≡ max l.depth r.depth → k < 1000 → IsGrownTree g ps (record { tree = T.Split a b; depth = k + 1 })
 grown_split g ps q l r a b k h x y e f d s = record {
   has_depth = depth_joined g ps q l.depth r.depth (k + 1) h x.has_depth y.has_depth (omega arith);

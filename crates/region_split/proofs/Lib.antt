@@ -3,3 +3,4 @@ mod Climbing
 mod CellOrder
 mod CellsFound
 mod Leaves
+mod Steps

@@ -1,6 +1,6 @@
 //! The trees of finished branches.
 
-ghost use Rattle.std.specs.Prelude.{List, IfOk, true, false};
+ghost use Rattle.std.specs.Prelude.{◌≡◌, max, List, IfOk, true, false};
 ghost use Rattle.heylo_formula.specs.Goals.{Goal as PlainGoal};
 ghost use Rattle.linear_form.specs.Query.{Taken as PlainTaken, Atom, onto};
 ghost use Rattle.region_split.specs.Seen.{GoesOn};
@@ -24,19 +24,27 @@ pub fn joined(
 ) -> Result<Option<Grown>, AllocError>
     ensures { (g : PlainGoal) (ps : List PlainTaken) (q : Atom) → GoesOn g ps q → IsGrown g (onto ps q true) left → IsGrown g (onto ps q false) right → IfOk result (λ t. IsGrown g ps t) }
 {
-    match (left, right) {
-        (Some(first), Some(second)) => split(alloc, first, second),
-        (Some(_), None) => Ok(None),
-        (None, Some(_)) => Ok(None),
-        (None, None) => Ok(None),
+    match left {
+        Some(first) => match right {
+            Some(second) => split(alloc, first, second),
+            None => Ok(None),
+        },
+        None => Ok(None),
     }
+}
+
+/// The greater of two depths.
+fn greater(a: u32, b: u32) -> u32
+    ensures { result ≡ max a b }
+{
+    if a < b { b } else { a }
 }
 
 /// The tree that splits into these two.
 fn split(alloc: Global, left: Grown, right: Grown) -> Result<Option<Grown>, AllocError>
     ensures { (g : PlainGoal) (ps : List PlainTaken) (q : Atom) → GoesOn g ps q → IsGrownTree g (onto ps q true) left → IsGrownTree g (onto ps q false) right → IfOk result (λ t. IsGrown g ps t) }
 {
-    let below = left.depth.max(right.depth);
+    let below = greater(left.depth, right.depth);
     if below >= 1000 {
         return Ok(None);
     }
