@@ -5,7 +5,7 @@ use Rattle.region_split.proofs.backing.climb.Goals as goal
 pub returns-then-held : goal.returns-then-held
 returns-then-held c g all a =
     let h = c.up.invariant g all a in
-    next_branch g all c.args.path.items c.up.path.items c.pop.new.self.items c.push.new.self.items c.up.trees.items c.push-then-held.new.self.items c.up.tree c.in-Some.field-0 (record { atom = c.in-Some.atom; held = false }) h.0 h.1 c.in-Some.ensures.items (search rules) c.in_ok-push.ensures.items (search rules) refl c.in_ok-push-2.ensures.items
+    next_branch g all c.args.path.items c.up.path.items c.pop.new.self.items c.push.new.self.items c.up.trees.items c.push-then-held.new.self.items c.up.tree c.in-Some.field-0 (record { atom = c.in-Some.field-0.atom; held = false }) h.0 h.1 c.in-Some.ensures.items (search rules) c.in_ok-push.ensures.items refl refl c.in_ok-push-2.ensures.items
 
 pub up-preserved-in_ok-tree : goal.up-preserved-in_ok-tree
 up-preserved-in_ok-tree c g all a =
