@@ -37,7 +37,7 @@ order_or v w = go (leqᵛ v w) refl
     go true e = inl (record { holds = e })
     go false e = inr (λ h. let k : true ≡ false = sym h.holds ∙ e in absurd (cc))
 
-holds_or : (up : Bool) (v w : Value) → Compares up v w ⊎ (Compares up v w → ⊥)
+pub holds_or : (up : Bool) (v w : Value) → Compares up v w ⊎ (Compares up v w → ⊥)
 holds_or true v w = order_or w v
 holds_or false v w = order_or v w
 
@@ -47,7 +47,7 @@ none_below (Some a) (Some b) e = absurd (cc)
 none_below (Some a) None e = absurd (cc)
 none_below None y e = refl
 
-plain_holds : (up : Bool) (e : Ends) (s : Env) → denial up e ≡ None → Compares up (value_in e.0 s) (value_in e.1 s)
+pub plain_holds : (up : Bool) (e : Ends) (s : Env) → denial up e ≡ None → Compares up (value_in e.0 s) (value_in e.1 s)
 plain_holds true e s h = subst (λ x. value_in e.1 s ≤ᵛ value_in x s) (sym (none_below e.0 e.1 h)) (at_most_infinite (value_in e.1 s))
 plain_holds false e s h = subst (λ x. value_in e.0 s ≤ᵛ value_in x s) (sym (none_below e.1 e.0 h)) (at_most_infinite (value_in e.0 s))
 

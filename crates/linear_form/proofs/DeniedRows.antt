@@ -1,5 +1,5 @@
 -- The rows of a path without the denied goal are among those with it.
-use Rattle.std.proofs.Common.{◌≡◌, ℕ, List, [], ◌∷◌, ◌++◌, length, refl, sym, ap, ◌∙◌, subst, Bool, true, false, cond, ◌&&◌, ◌||◌, append_assoc}
+use Rattle.std.proofs.Common.{◌≡◌, ℕ, List, [], ◌∷◌, ◌++◌, length, refl, sym, ap, ◌∙◌, subst, Bool, true, false, cond, ◌&&◌, ◌||◌}
 use Rattle.std.specs.Prelude.{Option, Some, None}
 use Prim.Native.Nat.{zero, suc}
 use Rattle.std.specs.List.{All, Contains}
@@ -13,7 +13,7 @@ use Rattle.linear_form.specs.TypedGoals.{types_in}
 use Rattle.linear_form.specs.Tightening.{Claim, tightened}
 use Rattle.linear_form.specs.PathRows.{claim, negated, path_claims, listed, denial_at, is_unsigned_type, occurs_in_terms, occurs_in_claims, sign_claims, with_signs, claims_of, with_row, all_tightened, rows_of}
 use Rattle.linear_form.specs.Row.{Row}
-use Rattle.linear_form.specs.Solutions.{MeetsAt, IsSolvable}
+use Rattle.linear_form.specs.Solutions.{MeetsAt}
 use Rattle.linear_form.specs.RowListLaws.{DeniedRowsAreMore, DeniedRowsAreStronger}
 
 -- ---- What holds of the row of each claim

@@ -23,6 +23,11 @@ pub mod TypedTrees
 pub mod NumericRows
 pub mod DeniedRows
 mod ShortPaths
+mod ClaimedRows
+mod KnownTruths
+pub mod FalsifyingPoints
+pub mod Truths
+pub mod UnsignedRows
 pub mod MetRows
 mod Runs
 mod PathEnds

@@ -38,7 +38,7 @@ zero_minus : (x : Rational) → zeroʳ -ʳ x ≡ negʳ x
 unfolding ◌-ʳ◌
 zero_minus x = zero-+ʳ (negʳ x)
 
-negated_at : (a : Lin) (s : Env) → at (negated a) s ≡ zeroʳ -ʳ at a s
+pub negated_at : (a : Lin) (s : Env) → at (negated a) s ≡ zeroʳ -ʳ at a s
 negated_at a s = scaled_at minus_oneʳ a s ∙ minus_one_times (at a s) ∙ sym (zero_minus (at a s))
 
 denied : (x : Rational) (strict : Bool) → is_negative x strict ≡ false → is_negative (zeroʳ -ʳ x) (not strict) ≡ true

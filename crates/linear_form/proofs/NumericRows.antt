@@ -1,21 +1,21 @@
 -- Each variable of a row of a typed goal is a number by its type.
-use Rattle.std.proofs.Common.{◌≡◌, ℕ, List, [], ◌∷◌, ◌++◌, length, refl, sym, ap, ◌∙◌, subst, Bool, true, false, not, cond, ◌&&◌}
+use Rattle.std.proofs.Common.{◌≡◌, ℕ, List, [], ◌∷◌, ◌++◌, length, refl, subst, Bool, true, false, cond, ◌&&◌}
 use Rattle.std.specs.Prelude.{Option, Some, None}
 use Prim.Native.Nat.{zero, suc}
 use Rattle.std.specs.List.{All}
 use Rattle.std.proofs.lemmas.List.Elements.{All-nil, All-cons}
-use Rattle.heyvl_num.specs.Rational.{Rational, ratio, ◌*ʳ◌}
+use Rattle.heyvl_num.specs.Rational.{Rational, ◌*ʳ◌}
 use Rattle.heylo_formula.specs.Goals.{Goal}
 use Rattle.heylo_formula.specs.Typing.{Types}
 use Rattle.heylo_formula.specs.declared.types.Ty.{Ty}
-use Rattle.linear_form.specs.Lin.{Lin, Terms, variable, minus, minus_oneʳ}
+use Rattle.linear_form.specs.Lin.{Terms, variable, minus_oneʳ}
 use Rattle.linear_form.specs.Query.{Query, Atom, Taken}
 use Rattle.linear_form.specs.Query.Query.{done, bits, ask}
 use Rattle.linear_form.specs.Questions.{Linear, Ends}
 use Rattle.linear_form.specs.Paths.{IsPath, end_at}
 use Rattle.linear_form.specs.TypedGoals.{IsTypedGoal, types_in}
 use Rattle.linear_form.specs.Tightening.{Claim, tightened, tight_row, rounded, are_whole, factor, whole_terms}
-use Rattle.linear_form.specs.PathRows.{claim, negated, answer_claims, path_claims, below_claim, denial, listed, denial_at, is_unsigned_type, occurs_in_claims, sign_claims, claims_of, with_row, all_tightened, rows_of}
+use Rattle.linear_form.specs.PathRows.{claim, negated, answer_claims, path_claims, below_claim, listed, denial_at, is_unsigned_type, occurs_in_claims, sign_claims, claims_of, with_row, all_tightened, rows_of}
 use Rattle.linear_form.specs.Row.{Row}
 use Rattle.linear_form.specs.RowLists.{is_numeric, IsNumericRow}
 use Rattle.linear_form.proofs.EachResults.{of_two}

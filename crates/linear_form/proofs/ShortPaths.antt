@@ -1,14 +1,13 @@
 -- A path has at most two questions for each node of the two forms.
-use Rattle.std.proofs.Common.{◌≡◌, ℕ, ◌+◌, ◌*◌, ◌≤◌, List, [], ◌∷◌, length, arith, refl, Bool, true, false, cond}
+use Rattle.std.proofs.Common.{ℕ, ◌+◌, ◌*◌, ◌≤◌, List, [], ◌∷◌, length, arith, Bool, true, false, cond}
 use Rattle.std.specs.Prelude.{max, Option, Some, None}
 use Rattle.heyvl_num.specs.Rational.{Rational}
-use Rattle.heyvl_num.specs.Value.{Value, is_zeroʳ}
-use Rattle.heyvl_num.specs.Value.Value.{finite, infinite}
+use Rattle.heyvl_num.specs.Value.{Value}
 use Rattle.heylo_formula.specs.Formula.{Form, Cond}
 use Rattle.heylo_formula.specs.Goals.{Goal}
 use Rattle.heylo_formula.specs.Operators.{agree}
 use Rattle.heylo_formula.specs.Sizes.{nodes, nodes_in}
-use Rattle.linear_form.specs.Lin.{Lin, Terms, constant, plus, minus, scaled, is_sized}
+use Rattle.linear_form.specs.Lin.{Lin, Terms, plus, minus, scaled, is_sized}
 use Rattle.linear_form.specs.Query.{Query, Atom, Taken, next, known, unless_known, onto, once}
 use Rattle.linear_form.specs.Query.Query.{done, bits, ask}
 use Rattle.linear_form.specs.Questions as q

@@ -66,7 +66,7 @@ pub record IsPositive (w : Rational) : Type 0 where
   pub inverse_above : zeroʳ ≤ʳ inverse
   pub one : inverse *ʳ w ≡ oneʳ
 
-keeps_sign : (w x : Rational) (strict : Bool) → IsPositive w → is_negative x strict ≡ true → IsBelowZero strict (w *ʳ x)
+pub keeps_sign : (w x : Rational) (strict : Bool) → IsPositive w → is_negative x strict ≡ true → IsBelowZero strict (w *ʳ x)
 keeps_sign w x false p e = subst (λ y. w *ʳ x ≤ʳ y) (*ʳ-zero w) (*ʳ_mono w x zeroʳ p.above (record { holds = e }))
 keeps_sign w x true p e = record { holds = go (leqʳ zeroʳ (w *ʳ x)) refl }
   where
@@ -77,7 +77,7 @@ keeps_sign w x true p e = record { holds = go (leqʳ zeroʳ (w *ʳ x)) refl }
     go true k = let m = (back (record { holds = k })).holds in let n = sym (ap not m) ∙ e in absurd (cc)
     go false k = k
 
-positive_ratio : (m n : ℕ) → 0 < m → 0 < n → IsPositive (ratio (pos m) n)
+pub positive_ratio : (m n : ℕ) → 0 < m → 0 < n → IsPositive (ratio (pos m) n)
 unfolding oneʳ
 positive_ratio m n p q = record {
   above = ratio_nonnegative (pos m) n q (omega (arith, ints));
@@ -92,7 +92,7 @@ positive_ratio m n p q = record {
 exchange : (a b c d : Rational) → (a *ʳ b) *ʳ (c *ʳ d) ≡ (b *ʳ c) *ʳ (a *ʳ d)
 exchange a b c d = simp fraction.ring
 
-positive-* : (v w : Rational) → IsPositive v → IsPositive w → IsPositive (v *ʳ w)
+pub positive-* : (v w : Rational) → IsPositive v → IsPositive w → IsPositive (v *ʳ w)
 positive-* v w p q = record {
   above = *ʳ_nonnegative v w p.above q.above;
   inverse = q.inverse *ʳ p.inverse;
@@ -198,12 +198,12 @@ factor_whole t ts n = each_whole _ _ (t ∷ ts) (divisor_positive (common_multip
 abbrev numbers : Env → ℕ → Rational
 numbers s x = number_of (s x)
 
-sum_scaled : (w : Rational) (ts : Terms) (s : Env) → AreWholeTimes w ts → sum_of (numbers s) (whole_terms w ts) ≡ w *ʳ total ts s
+pub sum_scaled : (w : Rational) (ts : Terms) (s : Env) → AreWholeTimes w ts → sum_of (numbers s) (whole_terms w ts) ≡ w *ʳ total ts s
 unfolding sum_of
 sum_scaled w [] s h = sym (*ʳ-zero w)
 sum_scaled w (t ∷ ts) s h = ap₂ (λ a b. (a *ʳ numbers s t.0) +ʳ b) (whole_back (w *ʳ t.1) h.0) (sum_scaled w ts s h.1) ∙ ap (λ a. a +ʳ (w *ʳ total ts s)) (*ʳ_assoc w t.1 (numbers s t.0)) ∙ sym (*ʳ-+ʳ w (t.1 *ʳ numbers s t.0) (total ts s))
 
-value_scaled : (w : Rational) (ts : Terms) (c : Rational) (s : Env) → AreWholeTimes w ts → sum_of (numbers s) (whole_terms w ts) +ʳ (w *ʳ c) ≡ w *ʳ (total ts s +ʳ c)
+pub value_scaled : (w : Rational) (ts : Terms) (c : Rational) (s : Env) → AreWholeTimes w ts → sum_of (numbers s) (whole_terms w ts) +ʳ (w *ʳ c) ≡ w *ʳ (total ts s +ʳ c)
 value_scaled w ts c s h = ap (λ a. a +ʳ (w *ʳ c)) (sum_scaled w ts s h) ∙ sym (*ʳ-+ʳ w (total ts s) c)
 
 -- ---- With a UReal: the whole row is brought to whole numbers
@@ -212,7 +212,7 @@ pub product_whole : (n : ℕ) (k : ℤ) → ratio (pos n) 1 *ʳ whole k ≡ whol
 unfolding whole
 product_whole n k = whole-* (pos n) k
 
-further_whole : (n : ℕ) (w : Rational) (ts : Terms) → AreWholeTimes w ts → AreWholeTimes (ratio (pos n) 1 *ʳ w) ts
+pub further_whole : (n : ℕ) (w : Rational) (ts : Terms) → AreWholeTimes w ts → AreWholeTimes (ratio (pos n) 1 *ʳ w) ts
 further_whole n w [] h = tt
 further_whole n w (t ∷ ts) h = (ap (λ (x : Rational). x.den) (*ʳ_assoc (ratio (pos n) 1) w t.1 ∙ ap (λ x. ratio (pos n) 1 *ʳ x) (sym (whole_back (w *ʳ t.1) h.0)) ∙ product_whole n (w *ʳ t.1).num) ∙ whole_den (pos n *ℤ (w *ʳ t.1).num), further_whole n w ts h.1)
 
@@ -286,7 +286,7 @@ rounded_met n c true h = at_most_zero n (floorʳ c +ℤ pos 1) (by_lt_z (floorʳ
 
 -- ---- Without variables
 
-zero_row : zeroʳ +ʳ whole (pos 0) ≡ zeroʳ
+pub zero_row : zeroʳ +ʳ whole (pos 0) ≡ zeroʳ
 zero_row = ap (λ x. zeroʳ +ʳ x) whole_zero ∙ zero-+ʳ zeroʳ
 
 minus_below : (strict : Bool) → IsBelowZero strict (zeroʳ +ʳ whole (negsuc 0))
@@ -326,7 +326,7 @@ row_met types s (x ∷ ts) c strict t n e = go (are_whole types (x ∷ ts)) refl
     go true k = let r = sum_whole types s (factor (x ∷ ts)) (x ∷ ts) t k in record { met = subst (λ y. y +ʳ whole (rounded strict (factor (x ∷ ts) *ʳ c)) ≤ʳ zeroʳ) (sym r.is) (rounded_met r.sum (factor (x ∷ ts) *ʳ c) strict (subst (IsBelowZero strict) (sym (value_scaled (factor (x ∷ ts)) (x ∷ ts) c s (factor_whole x ts n)) ∙ ap (λ y. y +ʳ (factor (x ∷ ts) *ʳ c)) r.is) (keeps_sign (factor (x ∷ ts)) (total (x ∷ ts) s +ʳ c) strict (factor_positive x ts n) e))) }
     go false k = record { met = exact_met (factor (x ∷ ts)) c (x ∷ ts) s strict (factor_positive x ts n) (factor_whole x ts n) e }
 
-taken_row : (b : Bool) (r q : Row) → cond b (Some r) None ≡ Some q → r ≡ q
+pub taken_row : (b : Bool) (r q : Row) → cond b (Some r) None ≡ Some q → r ≡ q
 taken_row true r q e = cc
 taken_row false r q e = absurd (cc)
 

@@ -1,14 +1,14 @@
 -- A typed goal asks about the variables that it may: linear values are of variables of numbers, and a truth is a Boolean's.
-use Rattle.std.proofs.Common.{◌≡◌, ℕ, List, [], ◌∷◌, refl, sym, ap, ◌∙◌, Bool, true, false, cond, ◌&&◌, ◌==◌, ltb}
+use Rattle.std.proofs.Common.{◌≡◌, ℕ, List, [], ◌∷◌, refl, Bool, true, false, cond, ◌&&◌, ◌==◌, ltb}
 use Rattle.std.specs.Prelude.{Option, Some, None}
-use Rattle.heyvl_num.specs.Rational.{Rational, zeroʳ, oneʳ, leqʳ, ◌+ʳ◌, ◌*ʳ◌}
+use Rattle.heyvl_num.specs.Rational.{Rational, zeroʳ, leqʳ, ◌+ʳ◌, ◌*ʳ◌}
 use Rattle.heyvl_num.specs.Value.{Value, is_zeroʳ}
 use Rattle.heyvl_num.specs.Value.Value.{finite, infinite}
 use Rattle.heylo_formula.specs.Formula.{Form, Cond}
 use Rattle.heylo_formula.specs.Goals.{Goal}
 use Rattle.heylo_formula.specs.Typing.{Types, NumberType, number_type, is_bool, is_unsigned, is_finite_type, type_of, is_well_typed}
 use Rattle.heylo_formula.specs.declared.types.Ty.{Ty}
-use Rattle.linear_form.specs.Lin.{Lin, Terms, constant, variable, kept, more, merged, times, plus, minus, minus_oneʳ, scaled, is_sized}
+use Rattle.linear_form.specs.Lin.{Lin, Terms, constant, kept, more, merged, times, plus, minus, minus_oneʳ, scaled, is_sized}
 use Rattle.linear_form.specs.Query.{Query, Atom, Taken, next, known, unless_known, onto, once}
 use Rattle.linear_form.specs.Query.Query.{done, bits, ask}
 use Rattle.linear_form.specs.Questions as q

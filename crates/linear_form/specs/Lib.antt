@@ -29,3 +29,4 @@ pub mod Columns
 pub mod RowLists
 pub mod RowListLaws
 pub mod PathLaws
+pub mod PointLaws

@@ -1,5 +1,5 @@
 -- What is proved of the length of paths.
-use Rattle.std.specs.Prelude.{ℕ, ◌+◌, ◌*◌, ◌≤◌, List, length}
+use Rattle.std.specs.Prelude.{◌+◌, ◌*◌, ◌≤◌, List, length}
 use Rattle.heylo_formula.specs.Goals.{Goal}
 use Rattle.heylo_formula.specs.Sizes.{nodes}
 use Rattle.linear_form.specs.Query.{Taken}

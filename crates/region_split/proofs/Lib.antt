@@ -4,3 +4,9 @@ mod CellOrder
 mod CellsFound
 mod Leaves
 mod Steps
+mod ProvedGoals
+mod GreedyChoices
+mod GreedyOrder
+mod GreedyStates
+mod FalsifiedGoals
+pub mod Meaning

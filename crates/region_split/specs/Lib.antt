@@ -3,3 +3,4 @@ pub mod Decisions
 pub mod Meanings
 pub mod Seen
 pub mod Progress
+pub mod DecisionLaws

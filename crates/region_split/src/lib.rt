@@ -3,6 +3,7 @@
 
 mod backing;
 mod deciding;
+mod decision_laws;
 mod decisions;
 mod found;
 mod front;
@@ -12,4 +13,5 @@ mod solving;
 mod walk;
 
 pub use deciding::decide;
+pub use decision_laws::decisions_tell;
 pub use decisions::Decision;
