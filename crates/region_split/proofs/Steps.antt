@@ -75,23 +75,28 @@ pub deeper_walk : (g : Goal) (w next : Walk) (p : T.Taken) → IsWalk g w → Go
 deeper_walk g w next p h k e b t n f =
     let c = path_onto w.path.items next.path.items p true e b in
     let l = left_first g (path_of w.path.items) (atom_of p.atom) k in
-    let m = ap (left_of g) c in
-    (record {
-      before = h.before;
-      stands = subst (λ ps. IsBefore g ps h.before next.trees.items) (sym c) (subst (λ ts. IsBefore g (onto (path_of w.path.items) (atom_of p.atom) true) h.before ts) (sym t) (IsBefore.first (path_of w.path.items) (atom_of p.atom) h.before w.trees.items k h.stands));
-      found = subst (IsFound g h.before) (sym f) h.found;
-      counted = h.counted ∙ sym n;
-      few = let i = h.few in omega (arith, i, n);
-    }, omega (arith, l, m))
+    let m = ap (left_of g) c in (
+      record {
+        before = h.before;
+        stands = subst (λ ps. IsBefore g ps h.before next.trees.items) (sym c) (subst (λ ts. IsBefore g (onto (path_of w.path.items) (atom_of p.atom) true) h.before ts) (sym t) (IsBefore.first (path_of w.path.items) (atom_of p.atom) h.before w.trees.items k h.stands));
+        found = subst (IsFound g h.before) (sym f) h.found;
+        counted = h.counted ∙ sym n;
+        few = let i = h.few in omega (arith, i, n);
+      },
+      omega (arith, l, m),
+    )
 
 pub next_walk : (g : Goal) (w next : Walk) (tree : Option Grown) (h : IsFinishedWalk g w tree) → IsNext g (path_of w.path.items) h.all (path_of next.path.items) next.trees.items → next.count ≡ w.count → next.found ≡ w.found → IsWalk g next × (left_of g (path_of next.path.items) < left_of g (path_of w.path.items))
-next_walk g w next tree h k n f = (record {
-  before = h.all;
-  stands = k.stands;
-  found = subst (IsFound g h.all) (sym f) h.found;
-  counted = h.counted ∙ sym n;
-  few = let i = h.few in omega (arith, i, n);
-}, k.less)
+next_walk g w next tree h k n f = (
+  record {
+    before = h.all;
+    stands = k.stands;
+    found = subst (IsFound g h.all) (sym f) h.found;
+    counted = h.counted ∙ sym n;
+    few = let i = h.few in omega (arith, i, n);
+  },
+  k.less,
+)
 
 -- ---- Where a walk stands
 

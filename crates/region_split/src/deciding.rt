@@ -25,18 +25,6 @@ pub fn decide(alloc: Global, goal: &Goal) -> Result<Decision, AllocError>
     ensures decision { IfOk result (λ d. IsDecision (goal_of goal.now) d) }
     ensures meaning { IfOk result (λ d. Tells (goal_of goal.now) d) }
 {
-    let found = decided_goal(alloc, goal)?;
-    Ok(found)
-}
-
-/// Decides a goal, once by its products and else by the walk through its questions.
-fn decided_goal(alloc: Global, goal: &Goal) -> Result<Decision, AllocError>
-    requires typed { IsTypedGoal (goal_of goal.now) }
-    requires stated_small { nodes (form_of goal.now.stated) < 2 ^ 29 }
-    requires found_small { nodes (form_of goal.now.found) < 2 ^ 29 }
-    requires few_variables { length goal.now.vars.items < 2 ^ 31 }
-    ensures { IfOk result (λ d. IsDecision (goal_of goal.now) d) }
-{
     paths_are_short();
     match nonlinear(goal) {
         Some(span) => Ok(Decision::Unknown(Cause::Nonlinear(span))),

@@ -48,7 +48,11 @@ pub fn look(alloc: Global, goal: &Goal, path: &[Taken]) -> Result<Front, AllocEr
 fn holds_plainly(upper: bool, stated: &Option<Lin>, found: &Option<Lin>) -> bool
     ensures { IsTrue result ↔ (denial upper (linear_of stated.now, linear_of found.now) ≡ None) }
 {
-    if upper { stated.is_none() } else { found.is_none() }
+    if upper {
+        stated.is_none()
+    } else {
+        found.is_none()
+    }
 }
 
 /// What stands at a path whose rows are solvable.

@@ -30,12 +30,7 @@ pub enum Solved {
 }
 
 /// Solves the rows of a path, the denied goal among them where it is asked for. Want of memory is the one error.
-pub fn solve(
-    alloc: Global,
-    goal: &Goal,
-    path: &[Taken],
-    denied: bool,
-) -> Result<Solved, AllocError>
+pub fn solve(alloc: Global, goal: &Goal, path: &[Taken], denied: bool) -> Result<Solved, AllocError>
     requires path { IsPath (goal_of goal.now) (path_of path.now) }
     requires typed { IsTypedGoal (goal_of goal.now) }
     requires short { length path.now + 1 + length goal.now.vars.items < 2 ^ 32 }
