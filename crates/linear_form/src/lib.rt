@@ -16,6 +16,8 @@ mod multiples;
 mod multipliers;
 mod numbers;
 mod operators;
+#[cfg(test)]
+mod path_row_tests;
 mod path_rows;
 mod paths;
 mod question_laws;
