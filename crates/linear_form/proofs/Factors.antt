@@ -204,7 +204,7 @@ wide_rest t u us n e = right_false _ _ (subst (λ w. all_narrow (whole_terms w (
 pub head_product : (t u : ℕ × Rational) (us : Terms) → AreNonzero (t ∷ u ∷ us) → factor (t ∷ u ∷ us) *ʳ t.1 ≡ whole (factor (u ∷ us) *ʳ t.1).num
 head_product t u us n = ap (λ w. w *ʳ t.1) (factor_step t u us n) ∙ *ʳ_assoc (ratio (pos (factor (u ∷ us) *ʳ t.1).den) 1) (factor (u ∷ us)) t.1 ∙ sym (cleared (factor (u ∷ us) *ʳ t.1))
 
-nonzero_factor : (w x : Rational) → IsPositive w → is_zeroʳ x ≡ false → is_zeroʳ (w *ʳ x) ≡ false
+pub nonzero_factor : (w x : Rational) → IsPositive w → is_zeroʳ x ≡ false → is_zeroʳ (w *ʳ x) ≡ false
 nonzero_factor w x p h = go (is_zeroʳ w) refl
   where
     inverse : (is_zeroʳ p.inverse || is_zeroʳ w) ≡ false

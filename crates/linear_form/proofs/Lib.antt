@@ -18,7 +18,7 @@ mod MetClaims
 mod TightRows
 mod Factors
 mod RowParts
-mod NonzeroClaims
+mod NormalClaims
 pub mod TypedTrees
 pub mod NumericRows
 pub mod DeniedRows
@@ -40,3 +40,6 @@ mod Asks
 mod Positions
 mod PartialSums
 mod Coefficients
+mod RowsOfClaims
+mod SignRows
+mod FoundRows

@@ -6,7 +6,7 @@ use Rattle.linear_form.specs.PathRows.{claims_of}
 use Rattle.linear_form.specs.TypedGoals.{types_in}
 use Rattle.linear_form.proofs.TypedValues.{typed_environment}
 use Rattle.linear_form.proofs.MetClaims.{all_claimed}
-use Rattle.linear_form.proofs.NonzeroClaims.{all_nonzero}
+use Rattle.linear_form.proofs.NormalClaims.{all_nonzero}
 use Rattle.linear_form.proofs.TightRows.{rows_met}
 
 pub rows_are_met : RowsAreMet

@@ -27,6 +27,8 @@ pub mod Loops
 pub mod Operator
 pub mod Columns
 pub mod RowLists
+pub mod FurtherRows
+pub mod NormalPaths
 pub mod RowListLaws
 pub mod PathLaws
 pub mod PointLaws

@@ -8,6 +8,7 @@ mod claim_laws;
 mod contradiction_tests;
 mod cursor;
 mod evaluation;
+mod further_rows;
 mod goal_products;
 mod lin;
 mod linear_terms;
@@ -16,6 +17,8 @@ mod multipliers;
 mod numbers;
 mod operators;
 mod path_laws;
+#[cfg(test)]
+mod path_row_tests;
 mod path_rows;
 mod paths;
 mod point_laws;
@@ -23,6 +26,7 @@ mod question_laws;
 mod row;
 mod row_laws;
 mod row_list_laws;
+mod signs;
 mod terms;
 #[cfg(test)]
 mod tests;

@@ -1,16 +1,22 @@
 //! The rows of a path.
 
-ghost use Rattle.std.specs.Prelude.{◌≤◌, ◌+◌, length, IfOk};
+ghost use Rattle.std.specs.Prelude.{◌≤◌, ◌+◌, ◌++◌, [], length, IfOk, if◌then◌else◌};
 ghost use Rattle.heylo_formula.specs.Goals.{goal_of};
-ghost use Rattle.linear_form.specs.Paths.{IsPath};
-ghost use Rattle.linear_form.specs.PathRows.{rows_of};
+ghost use Rattle.linear_form.specs.Paths.{IsPath, end_at};
+ghost use Rattle.linear_form.specs.PathRows.{rows_of, all_tightened, path_claims, listed, denial_at};
+ghost use Rattle.linear_form.specs.FurtherRows.{rows_with};
+ghost use Rattle.linear_form.specs.NormalPaths.{IsNormalPath};
 ghost use Rattle.linear_form.specs.PlainPaths.{path_of};
 ghost use Rattle.linear_form.specs.RowLists.{Lists, AreRows, AreNumericRows, count_of};
-ghost use Rattle.linear_form.specs.TypedGoals.{IsTypedGoal};
+ghost use Rattle.linear_form.specs.TypedGoals.{IsTypedGoal, types_in};
 
+use crate::answering::ask;
+use crate::asking::Ask;
+use crate::further_rows::{with_answer, with_below};
 use crate::paths::Taken;
 use crate::row::Row;
-use heylo_formula::Goal;
+use crate::signs::with_signs;
+use heylo_formula::{Goal, Ty};
 use std::alloc::{AllocError, Global};
 
 /// The rows of a path, or that one of their numbers is too large.
@@ -22,21 +28,81 @@ pub enum RowList {
     Bits,
 }
 
-/// The rows of a path of the goal: one for each comparison, in order, as it was answered; where asked for, the denied goal, if
-/// the path is at an end at which the goal doesn't hold plainly; and for each UInt and UReal variable that occurs before, by
-/// number, that it isn't negative. Each is tightened. Bits is given exactly where a number of a row reaches 2^62 before or
-/// after it is tightened, or the constant's multiple 2^127. Want of memory is the one error.
-pub fn rows(
+/// The rows of the comparisons, in order, as they were answered.
+fn path_rows(alloc: Global, types: &[Ty], path: &[Taken]) -> Result<RowList, AllocError>
+    requires { IsNormalPath (path_of path.now) }
+    ensures { IfOk result (λ r. Lists r (all_tightened (types_in types.now) (path_claims (path_of path.now)))) }
+{
+    let mut rows = Vec::new(alloc);
+    let mut rest = path;
+    'path: while let Some((taken, others)) = rest.split_first() {
+        match with_answer(alloc, types, rows, &taken.atom, taken.held)? {
+            RowList::Bits => return Ok(RowList::Bits),
+            RowList::Rows(more) => rows = more,
+        }
+        rest = others;
+    }
+    Ok(RowList::Rows(rows))
+}
+
+/// The rows, and after them the denied goal, if the path is at an end at which the goal doesn't hold plainly.
+fn with_denial(
+    alloc: Global,
+    goal: &Goal,
+    path: &[Taken],
+    rows: Vec<Row>,
+) -> Result<RowList, AllocError>
+    requires { IsPath (goal_of goal.now) (path_of path.now) }
+    ensures { IfOk result (λ r. Lists r (rows_with (types_in (goal_of goal.now).types) rows.items (listed (denial_at (goal_of goal.now).upper (end_at (goal_of goal.now) (path_of path.now)))))) }
+{
+    match ask(alloc, goal, path)? {
+        Ask::Decide(_) => Ok(RowList::Rows(rows)),
+        Ask::Bits => Ok(RowList::Rows(rows)),
+        Ask::End(stated, found) => {
+            if goal.upper {
+                with_below(alloc, &goal.vars, rows, &stated, &found)
+            } else {
+                with_below(alloc, &goal.vars, rows, &found, &stated)
+            }
+        }
+    }
+}
+
+/// The rows of the comparisons and, where asked for, the denied goal.
+fn claimed_rows(
     alloc: Global,
     goal: &Goal,
     path: &[Taken],
     denied: bool,
 ) -> Result<RowList, AllocError>
     requires { IsPath (goal_of goal.now) (path_of path.now) }
+    ensures { IfOk result (λ r. Lists r (all_tightened (types_in (goal_of goal.now).types) (path_claims (path_of path.now) ++ (if denied then listed (denial_at (goal_of goal.now).upper (end_at (goal_of goal.now) (path_of path.now))) else [])))) }
+{
+    match path_rows(alloc, &goal.vars, path)? {
+        RowList::Bits => Ok(RowList::Bits),
+        RowList::Rows(rows) => {
+            if denied {
+                with_denial(alloc, goal, path, rows)
+            } else {
+                Ok(RowList::Rows(rows))
+            }
+        }
+    }
+}
+
+/// The rows of a path of the goal: one for each comparison, in order, as it was answered; where asked for, the denied goal, if
+/// the path is at an end at which the goal doesn't hold plainly; and for each UInt and UReal variable that occurs before, by
+/// number, that it isn't negative. Each is tightened. Bits is given exactly where a number of a row reaches 2^62 before or
+/// after it is tightened, or the constant's multiple 2^127. Want of memory is the one error.
+pub fn rows(alloc: Global, goal: &Goal, path: &[Taken], denied: bool) -> Result<RowList, AllocError>
+    requires { IsPath (goal_of goal.now) (path_of path.now) }
     ensures rows { IfOk result (λ r. Lists r (rows_of (goal_of goal.now) (path_of path.now) denied)) }
     ensures normal { IfOk result (λ r. AreRows r) }
     ensures numeric { IsTypedGoal (goal_of goal.now) → IfOk result (λ r. AreNumericRows (goal_of goal.now).types r) }
     ensures few { IfOk result (λ r. count_of r ≤ length path.now + 1 + length goal.now.vars.items) }
 {
-    Err(AllocError)
+    match claimed_rows(alloc, goal, path, denied)? {
+        RowList::Bits => Ok(RowList::Bits),
+        RowList::Rows(before) => with_signs(alloc, &goal.vars, before),
+    }
 }

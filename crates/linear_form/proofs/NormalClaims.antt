@@ -1,15 +1,15 @@
--- No claim of a path of a goal has a coefficient 0.
-use Rattle.std.proofs.Common.{◌≡◌, ℕ, List, [], ◌∷◌, ◌++◌, length, refl, sym, ap, ap₂, ◌∙◌, subst, Bool, true, false, not, cond, ◌&&◌, ◌||◌, ◌==◌, ltb}
-use Rattle.std.specs.Prelude.{Option, Some, None, pos}
+-- The claims of a path of a goal have growing terms and no coefficient 0.
+use Rattle.std.proofs.Common.{ℕ, List, [], ◌∷◌, ◌++◌, length, Bool, true, false, cond, ◌&&◌}
+use Rattle.std.specs.Prelude.{Option, Some, None}
 use Prim.Native.Nat.{zero, suc}
-use Rattle.heyvl_num.specs.Rational.{Rational, zeroʳ, oneʳ, ◌+ʳ◌, ◌*ʳ◌}
-use Rattle.heyvl_num.specs.Value.{Value, is_zeroʳ, is_zero_num}
+use Rattle.heyvl_num.specs.Rational.{Rational}
+use Rattle.heyvl_num.specs.Value.{Value, is_zeroʳ}
 use Rattle.heyvl_num.specs.Value.Value.{finite, infinite}
-use Rattle.heyvl_num.proofs.Values.{is_zero-*, is_zero-one}
+use Rattle.heyvl_num.proofs.Values.{is_zero-one}
 use Rattle.heylo_formula.specs.Formula.{Form, Cond}
 use Rattle.heylo_formula.specs.Goals.{Goal}
 use Rattle.heylo_formula.specs.Typing.{Types}
-use Rattle.linear_form.specs.Lin.{Lin, Terms, constant, variable, kept, more, merged, times, plus, minus, minus_oneʳ, scaled, is_sized}
+use Rattle.linear_form.specs.Lin.{Lin, Terms, constant, variable, plus, minus, minus_oneʳ, scaled, is_sized, IsNormal}
 use Rattle.linear_form.specs.Query.{Query, Atom, Taken, next, known, unless_known, onto, once}
 use Rattle.linear_form.specs.Query.Query.{done, bits, ask}
 use Rattle.linear_form.specs.Questions as q
@@ -17,65 +17,25 @@ use Rattle.linear_form.specs.Questions.{Linear, Ends, sized, asked, is_below, ev
 use Rattle.linear_form.specs.Paths.{walk, Path, IsPath, end_at}
 use Rattle.linear_form.specs.TypedGoals.{types_in}
 use Rattle.linear_form.specs.Tightening.{Claim}
-use Rattle.linear_form.specs.ClaimLaws.{AreNonzero, AllNonzero}
-use Rattle.linear_form.specs.PathRows.{claim, negated, answer_claims, path_claims, below_claim, denial, listed, denial_at, is_unsigned_type, occurs_in_claims, sign_claims, claims_of}
-use Rattle.linear_form.proofs.EachResults.{of_two}
-
--- ---- Terms
-
-abbrev Nonzeros : Terms → Type 0
-Nonzeros [] = Unit {0}
-Nonzeros (t ∷ ts) = (is_zeroʳ t.1 ≡ false) × Nonzeros ts
-
-kept_nonzero : (x : ℕ) (c : Rational) (ts : Terms) → Nonzeros ts → Nonzeros (kept x c ts)
-kept_nonzero x c ts h = go (is_zeroʳ c) refl
-  where
-    go : (b : Bool) → is_zeroʳ c ≡ b → Nonzeros (cond b ts ((x, c) ∷ ts))
-    go true e = h
-    go false e = (e, h)
-
-more_nonzero : (x : ℕ) (c : Rational) (ts : Terms) → Nonzeros ts → Nonzeros (more x c ts)
-more_nonzero x c [] h = kept_nonzero x c [] tt
-more_nonzero x c (t ∷ ts) h = of_two Nonzeros (x == t.0) (kept x (t.1 +ʳ c) ts) _ (kept_nonzero x (t.1 +ʳ c) ts h.1) (of_two Nonzeros (ltb x t.0) (kept x c (t ∷ ts)) (t ∷ more x c ts) (kept_nonzero x c (t ∷ ts) h) (h.0, more_nonzero x c ts h.1))
-
-merged_nonzero : (us ts : Terms) → Nonzeros ts → Nonzeros (merged us ts)
-merged_nonzero [] ts h = h
-merged_nonzero (u ∷ us) ts h = merged_nonzero us (more u.0 u.1 ts) (more_nonzero u.0 u.1 ts h)
-
-times_nonzero : (w : Rational) (ts : Terms) → is_zeroʳ w ≡ false → Nonzeros ts → Nonzeros (times w ts)
-times_nonzero w [] e h = tt
-times_nonzero w (t ∷ ts) e h = (is_zero-* w t.1 ∙ ap₂ (λ a b. a || b) e h.0, times_nonzero w ts e h.1)
-
-plus_nonzero : (a b : Lin) → Nonzeros a.terms → Nonzeros (plus a b).terms
-unfolding plus
-plus_nonzero a b h = merged_nonzero b.terms a.terms h
-
-scaled_nonzero : (w : Rational) (a : Lin) → Nonzeros a.terms → Nonzeros (scaled w a).terms
-unfolding scaled
-scaled_nonzero w a h = go (is_zeroʳ w) refl
-  where
-    go : (b : Bool) → is_zeroʳ w ≡ b → Nonzeros (cond b (constant zeroʳ) (record { terms = times w a.terms; rest = w *ʳ a.rest })).terms
-    go true e = tt
-    go false e = times_nonzero w a.terms e h
-
-minus_nonzero : (a b : Lin) → Nonzeros a.terms → Nonzeros (minus a b).terms
-unfolding minus
-minus_nonzero a b h = plus_nonzero a (scaled minus_oneʳ b) h
+use Rattle.linear_form.specs.ClaimLaws.{AllNonzero}
+use Rattle.linear_form.specs.PathRows.{claim, negated, answer_claims, path_claims, below_claim, listed, denial_at, is_unsigned_type, occurs_in_claims, sign_claims, claims_of}
+use Rattle.linear_form.specs.NormalPaths.{IsNormalAtom, IsNormalPath}
+use Rattle.linear_form.specs.QuestionLaws.{EachResult}
+use Rattle.linear_form.specs.Run.{IsKeptValue}
+use Rattle.linear_form.proofs.EachResults.{of_two, each_next}
+use Rattle.linear_form.proofs.KeptValues.{plus_normal, minus_normal, scaled_normal, form_kept}
+use Rattle.linear_form.proofs.Factors.{normal_nonzero}
 
 -- ---- The results and the questions of a tree
 
 abbrev IsGoodValue : Linear → Type 0
-IsGoodValue (Some a) = Nonzeros a.terms
+IsGoodValue (Some a) = IsNormal a.terms
 IsGoodValue None = Unit {0}
-
-abbrev IsGoodAtom : Atom → Type 0
-IsGoodAtom (Atom.truth x) = Unit {0}
-IsGoodAtom (Atom.row a strict) = Nonzeros a.terms
 
 abbrev IsGood : {A : Type 0} → (A → Type 0) → Query A → Type 0
 IsGood P (done a) = P a
 IsGood P bits = Unit {0}
-IsGood P (ask q y n) = IsGoodAtom q × IsGood P y × IsGood P n
+IsGood P (ask q y n) = IsNormalAtom q × IsGood P y × IsGood P n
 
 abbrev Any : Bool → Type 0
 Any b = Unit {0}
@@ -92,40 +52,40 @@ sized_good : (x : Linear) → IsGoodValue x → IsGood IsGoodValue (sized x)
 sized_good None h = tt
 sized_good (Some a) h = of_two (IsGood IsGoodValue) (is_sized a) (done (Some a)) bits h tt
 
-asked_good : (ts : Terms) (a : Lin) (strict : Bool) → Nonzeros a.terms → IsGood Any (asked ts a strict)
+asked_good : (ts : Terms) (a : Lin) (strict : Bool) → IsNormal a.terms → IsGood Any (asked ts a strict)
 asked_good [] a strict h = tt
 asked_good (t ∷ ts) a strict h = (h, tt, tt)
 
-below_good : (a : Lin) (strict : Bool) → Nonzeros a.terms → IsGood Any (is_below a strict)
+below_good : (a : Lin) (strict : Bool) → IsNormal a.terms → IsGood Any (is_below a strict)
 below_good a strict h = of_two (IsGood Any) (is_sized a) (asked a.terms a strict) bits (asked_good a.terms a strict h) tt
 
-picked_good : (a : Lin) (strict : Bool) (x y : Linear) → Nonzeros a.terms → IsGoodValue x → IsGoodValue y → IsGood IsGoodValue (next (is_below a strict) (λ t. done (cond t x y)))
+picked_good : (a : Lin) (strict : Bool) (x y : Linear) → IsNormal a.terms → IsGoodValue x → IsGoodValue y → IsGood IsGoodValue (next (is_below a strict) (λ t. done (cond t x y)))
 picked_good a strict x y m h k = good_next (is_below a strict) _ Any IsGoodValue (below_good a strict m) (λ t e. of_two IsGoodValue t x y h k)
 
 sum_good : (x y : Linear) → IsGoodValue x → IsGoodValue y → IsGood IsGoodValue (q.sum x y)
-sum_good (Some a) (Some b) h k = sized_good (Some (plus a b)) (plus_nonzero a b h)
+sum_good (Some a) (Some b) h k = sized_good (Some (plus a b)) (plus_normal a b h)
 sum_good (Some a) None h k = tt
 sum_good None (Some b) h k = tt
 sum_good None None h k = tt
 
 difference_good : (x y : Linear) → IsGoodValue x → IsGoodValue y → IsGood IsGoodValue (q.difference x y)
-difference_good (Some a) (Some b) h k = sized_good (Some (minus a b)) (minus_nonzero a b h)
+difference_good (Some a) (Some b) h k = sized_good (Some (minus a b)) (minus_normal a b h)
 difference_good (Some a) None h k = tt
 difference_good None y h k = tt
 
 cut_good : (x y : Linear) → IsGoodValue x → IsGoodValue y → IsGood IsGoodValue (q.cut x y)
-cut_good (Some a) (Some b) h k = good_next (is_below (minus b a) false) _ Any IsGoodValue (below_good (minus b a) false (minus_nonzero b a k)) (λ t e. of_two (IsGood IsGoodValue) t (sized (Some (minus a b))) (done q.zero) (sized_good (Some (minus a b)) (minus_nonzero a b h)) tt)
+cut_good (Some a) (Some b) h k = good_next (is_below (minus b a) false) _ Any IsGoodValue (below_good (minus b a) false (minus_normal b a k)) (λ t e. of_two (IsGood IsGoodValue) t (sized (Some (minus a b))) (done q.zero) (sized_good (Some (minus a b)) (minus_normal a b h)) tt)
 cut_good (Some a) None h k = tt
 cut_good None (Some b) h k = tt
 cut_good None None h k = tt
 
 scale_good : (w : Rational) (x : Linear) → IsGoodValue x → IsGood IsGoodValue (q.scale w x)
-scale_good w (Some a) h = sized_good (Some (scaled w a)) (scaled_nonzero w a h)
+scale_good w (Some a) h = sized_good (Some (scaled w a)) (scaled_normal w a h)
 scale_good w None h = of_two IsGoodValue (is_zeroʳ w) q.zero None tt tt
 
-finite_product_good : (ts us : Terms) (a b : Lin) → Nonzeros a.terms → Nonzeros b.terms → IsGood IsGoodValue (q.finite_product ts us a b)
-finite_product_good [] us a b h k = sized_good (Some (scaled a.rest b)) (scaled_nonzero a.rest b k)
-finite_product_good (t ∷ ts) [] a b h k = sized_good (Some (scaled b.rest a)) (scaled_nonzero b.rest a h)
+finite_product_good : (ts us : Terms) (a b : Lin) → IsNormal a.terms → IsNormal b.terms → IsGood IsGoodValue (q.finite_product ts us a b)
+finite_product_good [] us a b h k = sized_good (Some (scaled a.rest b)) (scaled_normal a.rest b k)
+finite_product_good (t ∷ ts) [] a b h k = sized_good (Some (scaled b.rest a)) (scaled_normal b.rest a h)
 finite_product_good (t ∷ ts) (u ∷ us) a b h k = tt
 
 product_good : (x y : Linear) → IsGoodValue x → IsGoodValue y → IsGood IsGoodValue (q.product x y)
@@ -135,25 +95,25 @@ product_good None (Some b) h k = picked_good b false q.zero None k tt tt
 product_good None None h k = tt
 
 min_good : (x y : Linear) → IsGoodValue x → IsGoodValue y → IsGood IsGoodValue (q.min x y)
-min_good (Some a) (Some b) h k = picked_good (minus a b) false (Some a) (Some b) (minus_nonzero a b h) h k
+min_good (Some a) (Some b) h k = picked_good (minus a b) false (Some a) (Some b) (minus_normal a b h) h k
 min_good (Some a) None h k = h
 min_good None (Some b) h k = k
 min_good None None h k = tt
 
 max_good : (x y : Linear) → IsGoodValue x → IsGoodValue y → IsGood IsGoodValue (q.max x y)
-max_good (Some a) (Some b) h k = picked_good (minus a b) false (Some b) (Some a) (minus_nonzero a b h) k h
+max_good (Some a) (Some b) h k = picked_good (minus a b) false (Some b) (Some a) (minus_normal a b h) k h
 max_good (Some a) None h k = tt
 max_good None (Some b) h k = tt
 max_good None None h k = tt
 
 imply_good : (x y : Linear) → IsGoodValue x → IsGoodValue y → IsGood IsGoodValue (q.imply x y)
-imply_good (Some a) (Some b) h k = picked_good (minus a b) false None (Some b) (minus_nonzero a b h) tt k
+imply_good (Some a) (Some b) h k = picked_good (minus a b) false None (Some b) (minus_normal a b h) tt k
 imply_good (Some a) None h k = tt
 imply_good None (Some b) h k = k
 imply_good None None h k = tt
 
 co_imply_good : (x y : Linear) → IsGoodValue x → IsGoodValue y → IsGood IsGoodValue (q.co_imply x y)
-co_imply_good (Some a) (Some b) h k = picked_good (minus b a) false q.zero (Some b) (minus_nonzero b a k) tt k
+co_imply_good (Some a) (Some b) h k = picked_good (minus b a) false q.zero (Some b) (minus_normal b a k) tt k
 co_imply_good (Some a) None h k = tt
 co_imply_good None (Some b) h k = tt
 co_imply_good None None h k = tt
@@ -167,13 +127,13 @@ co_validate_good (Some a) h = picked_good a false q.zero None h tt tt
 co_validate_good None h = tt
 
 at_most_good : (x y : Linear) → IsGoodValue x → IsGoodValue y → IsGood Any (q.at_most x y)
-at_most_good (Some a) (Some b) h k = below_good (minus a b) false (minus_nonzero a b h)
+at_most_good (Some a) (Some b) h k = below_good (minus a b) false (minus_normal a b h)
 at_most_good (Some a) None h k = tt
 at_most_good None (Some b) h k = tt
 at_most_good None None h k = tt
 
 less_good : (x y : Linear) → IsGoodValue x → IsGoodValue y → IsGood Any (q.less x y)
-less_good (Some a) (Some b) h k = below_good (minus a b) true (minus_nonzero a b h)
+less_good (Some a) (Some b) h k = below_good (minus a b) true (minus_normal a b h)
 less_good (Some a) None h k = tt
 less_good None y h k = tt
 
@@ -187,7 +147,7 @@ number_good infinite = tt
 mutual
   form_good : (f : Form) → IsGood IsGoodValue (evaluate f)
   form_good (Form.number v) = number_good v
-  form_good (Form.variable x) = (is_zero-one, tt)
+  form_good (Form.variable x) = (is_zero-one, (tt, tt))
   form_good (Form.sum a b) = good_both (evaluate a) (evaluate b) q.sum IsGoodValue (form_good a) (form_good b) sum_good
   form_good (Form.difference a b) = good_both (evaluate a) (evaluate b) q.difference IsGoodValue (form_good a) (form_good b) difference_good
   form_good (Form.cut a b) = good_both (evaluate a) (evaluate b) q.cut IsGoodValue (form_good a) (form_good b) cut_good
@@ -235,11 +195,7 @@ AreGood e = IsGoodValue e.0 × IsGoodValue e.1
 goal_good : (g : Goal) → IsGood AreGood (questions g)
 goal_good g = good_once [] _ AreGood (good_next (evaluate g.stated) _ IsGoodValue AreGood (form_good g.stated) (λ x h. good_next (evaluate g.found) _ IsGoodValue AreGood (form_good g.found) (λ y k. (h, k))))
 
-abbrev IsGoodPath : List Taken → Type 0
-IsGoodPath [] = Unit {0}
-IsGoodPath (p ∷ ps) = IsGoodAtom p.atom × IsGoodPath ps
-
-path_good : {A : Type 0} (t : Query A) (ps : List Taken) (P : A → Type 0) → IsGood P t → Path t ps → IsGoodPath ps
+path_good : {A : Type 0} (t : Query A) (ps : List Taken) (P : A → Type 0) → IsGood P t → Path t ps → IsNormalPath ps
 path_good t _ P h (Path.start _) = tt
 path_good (ask q y n) _ P h (Path.yes _ _ _ ps p) = (h.0, path_good y ps P h.1 p)
 path_good (ask q y n) _ P h (Path.no _ _ _ ps p) = (h.0, path_good n ps P h.2 p)
@@ -253,44 +209,76 @@ walk_good (ask q y n) _ P h (Path.no _ _ _ ps p) = walk_good n ps P h.2 p
 
 -- ---- The claims
 
-number_nonzero : (x : Rational) → is_zeroʳ x ≡ false → x.num ≡ pos 0 → ⊥
-unfolding is_zeroʳ
-number_nonzero x e k = let l = sym (ap is_zero_num k) ∙ e in absurd (cc)
+abbrev pub AllNormal : List Claim → Type 0
+AllNormal [] = Unit {0}
+AllNormal (k ∷ ks) = IsNormal k.left.terms × AllNormal ks
 
-terms_nonzero : (ts : Terms) → Nonzeros ts → AreNonzero ts
-terms_nonzero [] h = tt
-terms_nonzero (t ∷ ts) h = (number_nonzero t.1 h.0, terms_nonzero ts h.1)
+normal_append : (ks ls : List Claim) → AllNormal ks → AllNormal ls → AllNormal (ks ++ ls)
+normal_append [] ls h m = m
+normal_append (k ∷ ks) ls h m = (h.0, normal_append ks ls h.1 m)
 
-nonzero_append : (ks ls : List Claim) → AllNonzero ks → AllNonzero ls → AllNonzero (ks ++ ls)
-nonzero_append [] ls h m = m
-nonzero_append (k ∷ ks) ls h m = (h.0, nonzero_append ks ls h.1 m)
+answer_normal : (q : Atom) (held : Bool) → IsNormalAtom q → AllNormal (answer_claims q held)
+answer_normal (Atom.truth x) held h = tt
+answer_normal (Atom.row a strict) true h = (h, tt)
+answer_normal (Atom.row a strict) false h = ((scaled_normal minus_oneʳ a h), tt)
 
-answer_nonzero : (q : Atom) (held : Bool) → IsGoodAtom q → AllNonzero (answer_claims q held)
-answer_nonzero (Atom.truth x) held h = tt
-answer_nonzero (Atom.row a strict) true h = (terms_nonzero a.terms h, tt)
-answer_nonzero (Atom.row a strict) false h = (terms_nonzero (negated a).terms (scaled_nonzero minus_oneʳ a h), tt)
+path_normal : (ps : List Taken) → IsNormalPath ps → AllNormal (path_claims ps)
+path_normal [] h = tt
+path_normal (p ∷ ps) h = normal_append (answer_claims p.atom p.held) (path_claims ps) (answer_normal p.atom p.held h.0) (path_normal ps h.1)
 
-path_nonzero : (ps : List Taken) → IsGoodPath ps → AllNonzero (path_claims ps)
-path_nonzero [] h = tt
-path_nonzero (p ∷ ps) h = nonzero_append (answer_claims p.atom p.held) (path_claims ps) (answer_nonzero p.atom p.held h.0) (path_nonzero ps h.1)
+below_normal : (x y : Linear) → IsGoodValue x → AllNormal (listed (below_claim x y))
+below_normal (Some a) (Some b) h = ((minus_normal a b h), tt)
+below_normal (Some a) None h = (tt, tt)
+below_normal None y h = tt
 
-below_nonzero : (x y : Linear) → IsGoodValue x → AllNonzero (listed (below_claim x y))
-below_nonzero (Some a) (Some b) h = (terms_nonzero (minus a b).terms (minus_nonzero a b h), tt)
-below_nonzero (Some a) None h = (tt, tt)
-below_nonzero None y h = tt
+denial_normal : (up : Bool) (t : Query Ends) → IsGood AreGood t → AllNormal (listed (denial_at up t))
+denial_normal true (done e) h = below_normal e.0 e.1 h.0
+denial_normal false (done e) h = below_normal e.1 e.0 h.1
+denial_normal up bits h = tt
+denial_normal up (ask q y n) h = tt
 
-denial_nonzero : (up : Bool) (t : Query Ends) → IsGood AreGood t → AllNonzero (listed (denial_at up t))
-denial_nonzero true (done e) h = below_nonzero e.0 e.1 h.0
-denial_nonzero false (done e) h = below_nonzero e.1 e.0 h.1
-denial_nonzero up bits h = tt
-denial_nonzero up (ask q y n) h = tt
+signs_normal : (types : Types) (ks : List Claim) (n : ℕ) → AllNormal (sign_claims types ks n)
+signs_normal types ks zero = tt
+signs_normal types ks (suc n) = normal_append (sign_claims types ks n) _ (signs_normal types ks n) (of_two AllNormal (is_unsigned_type (types n) && occurs_in_claims n ks) (claim (negated (variable n)) false ∷ []) [] ((scaled_normal minus_oneʳ (variable n) (is_zero-one, (tt, tt))), tt) tt)
 
-signs_nonzero : (types : Types) (ks : List Claim) (n : ℕ) → AllNonzero (sign_claims types ks n)
-signs_nonzero types ks zero = tt
-signs_nonzero types ks (suc n) = nonzero_append (sign_claims types ks n) _ (signs_nonzero types ks n) (of_two AllNonzero (is_unsigned_type (types n) && occurs_in_claims n ks) (claim (negated (variable n)) false ∷ []) [] (terms_nonzero (negated (variable n)).terms (scaled_nonzero minus_oneʳ (variable n) (is_zero-one, tt)), tt) tt)
-
-pub all_nonzero : (g : Goal) (ps : List Taken) (denied : Bool) → IsPath g ps → AllNonzero (claims_of g ps denied)
-all_nonzero g ps denied p = nonzero_append before (sign_claims (types_in g.types) before (length g.types)) (nonzero_append (path_claims ps) (cond denied (listed (denial_at g.upper (end_at g ps))) []) (path_nonzero ps (path_good (questions g) ps AreGood (goal_good g) p)) (of_two AllNonzero denied (listed (denial_at g.upper (end_at g ps))) [] (denial_nonzero g.upper (end_at g ps) (walk_good (questions g) ps AreGood (goal_good g) p)) tt)) (signs_nonzero (types_in g.types) before (length g.types))
+pub all_normal : (g : Goal) (ps : List Taken) (denied : Bool) → IsPath g ps → AllNormal (claims_of g ps denied)
+all_normal g ps denied p = normal_append before (sign_claims (types_in g.types) before (length g.types)) (normal_append (path_claims ps) (cond denied (listed (denial_at g.upper (end_at g ps))) []) (path_normal ps (path_good (questions g) ps AreGood (goal_good g) p)) (of_two AllNormal denied (listed (denial_at g.upper (end_at g ps))) [] (denial_normal g.upper (end_at g ps) (walk_good (questions g) ps AreGood (goal_good g) p)) tt)) (signs_normal (types_in g.types) before (length g.types))
   where
     before : List Claim
     before = path_claims ps ++ cond denied (listed (denial_at g.upper (end_at g ps))) []
+
+claims_nonzero : (ks : List Claim) → AllNormal ks → AllNonzero ks
+claims_nonzero [] h = tt
+claims_nonzero (k ∷ ks) h = (normal_nonzero k.left.terms h.0, claims_nonzero ks h.1)
+
+pub all_nonzero : (g : Goal) (ps : List Taken) (denied : Bool) → IsPath g ps → AllNonzero (claims_of g ps denied)
+all_nonzero g ps denied p = claims_nonzero (claims_of g ps denied) (all_normal g ps denied p)
+
+pub answers_normal : (g : Goal) (ps : List Taken) → IsPath g ps → IsNormalPath ps
+answers_normal g ps p = path_good (questions g) ps AreGood (goal_good g) p
+
+-- ---- The values at an end
+
+each_once : {A : Type 0} (ps : List Taken) (t : Query A) (P : A → Type 0) → EachResult P t → EachResult P (once ps t)
+each_once ps (done a) P h = h
+each_once ps bits P h = tt
+each_once ps (ask (Atom.row a strict) y n) P h = (each_once (onto ps (Atom.row a strict) true) y P h.0, each_once (onto ps (Atom.row a strict) false) n P h.1)
+each_once ps (ask (Atom.truth x) y n) P h = go (known x ps) (each_once ps y P h.0) (each_once ps n P h.1) (each_once (onto ps (Atom.truth x) true) y P h.0) (each_once (onto ps (Atom.truth x) false) n P h.1)
+  where
+    go : (o : Option Bool) → EachResult P (once ps y) → EachResult P (once ps n) → EachResult P (once (onto ps (Atom.truth x) true) y) → EachResult P (once (onto ps (Atom.truth x) false) n) → EachResult P (unless_known o (once ps y) (once ps n) (ask (Atom.truth x) (once (onto ps (Atom.truth x) true) y) (once (onto ps (Atom.truth x) false) n)))
+    go (Some true) a b c d = a
+    go (Some false) a b c d = b
+    go None a b c d = (c, d)
+
+each_walk : {A : Type 0} (t : Query A) (ps : List Taken) (P : A → Type 0) → EachResult P t → Path t ps → EachResult P (walk t ps)
+each_walk (done a) _ P h (Path.start _) = h
+each_walk bits _ P h (Path.start _) = tt
+each_walk (ask q y n) _ P h (Path.start _) = h
+each_walk (ask q y n) _ P h (Path.yes _ _ _ ps p) = each_walk y ps P h.0 p
+each_walk (ask q y n) _ P h (Path.no _ _ _ ps p) = each_walk n ps P h.1 p
+
+abbrev pub AreKept : Ends → Type 0
+AreKept e = IsKeptValue e.0 × IsKeptValue e.1
+
+pub ends_kept : (g : Goal) (ps : List Taken) → IsPath g ps → EachResult AreKept (end_at g ps)
+ends_kept g ps p = each_walk (questions g) ps AreKept (each_once [] _ AreKept (each_next (evaluate g.stated) _ IsKeptValue AreKept (form_kept g.stated) (λ x h. each_next (evaluate g.found) _ IsKeptValue AreKept (form_kept g.found) (λ y k. (h, k))))) p

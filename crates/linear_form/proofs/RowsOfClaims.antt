@@ -1,0 +1,117 @@
+-- The rows of claims, one after the other.
+use Rattle.std.proofs.Common.{◌≡◌, ℕ, List, [], ◌∷◌, ◌++◌, map, refl, sym, ap, ap₂, ◌∙◌, subst, append_assoc, Bool, false, cond, ◌&&◌}
+use Rattle.std.specs.Prelude.{Option, Some, None}
+use Rattle.std.proofs.lemmas.List.{append-nil}
+use Rattle.heylo_formula.specs.Typing.{Types}
+use Rattle.linear_form.specs.Row.{Row}
+use Rattle.linear_form.specs.Lin.{Lin, Terms, constant, times, scaled, minus_oneʳ, fits, all_fit, is_sized}
+use Rattle.heyvl_num.specs.Gcd.{gcd, gcd_steps}
+use Rattle.heyvl_num.specs.Rational.{ratio, zeroʳ, ◌*ʳ◌}
+use Rattle.heyvl_num.specs.Value.{is_zeroʳ}
+use Rattle.linear_form.specs.Query.{Query}
+use Rattle.linear_form.specs.Questions.{Ends}
+use Rattle.linear_form.specs.Tightening.{Claim, tightened}
+use Rattle.linear_form.specs.NormalPaths.{IsNormalAtom, IsNormalPath}
+use Rattle.linear_form.specs.PathRows.{claim, negated, answer_claims, path_claims, with_row, all_tightened}
+use Rattle.linear_form.specs.FurtherRows.{followed_by, rows_with}
+use Rattle.linear_form.specs.PlainPaths.{path_of, atom_of, linear_of}
+use Rattle.linear_form.specs.QuestionLaws.{EachResult}
+use Rattle.linear_form.specs.Run.{IsKeptValue}
+use Rattle.linear_form.specs.Seen.{Answers}
+use Rattle.linear_form.specs.declared.lin.Lin as L
+use Rattle.linear_form.specs.declared.paths.Taken as T
+use Rattle.linear_form.specs.declared.asking.Ask as K
+use Rattle.linear_form.proofs.Narrow.{fits_negated}
+use Rattle.linear_form.proofs.RowParts.{too_large}
+use Rattle.linear_form.proofs.NormalClaims.{AreKept}
+
+-- ---- One list of claims after another
+
+abbrev pub joined : Option (List Row) → Option (List Row) → Option (List Row)
+joined (Some rows) o = followed_by rows o
+joined None o = None
+
+pub none_before : (o : Option (List Row)) → followed_by [] o ≡ o
+none_before (Some rows) = refl
+none_before None = refl
+
+put : (o : Option Row) (p q : Option (List Row)) → with_row o (joined p q) ≡ joined (with_row o p) q
+put (Some r) (Some a) (Some b) = refl
+put (Some r) (Some a) None = refl
+put (Some r) None q = refl
+put None p q = refl
+
+pub tightened_append : (types : Types) (ks ls : List Claim) → all_tightened types (ks ++ ls) ≡ joined (all_tightened types ks) (all_tightened types ls)
+tightened_append types [] ls = sym (none_before (all_tightened types ls))
+tightened_append types (k ∷ ks) ls = ap (with_row (tightened types k)) (tightened_append types ks ls) ∙ put (tightened types k) (all_tightened types ks) (all_tightened types ls)
+
+follows : (rows made : List Row) (o q : Option (List Row)) → followed_by rows o ≡ Some made → followed_by rows (joined o q) ≡ followed_by made q
+follows rows made (Some a) (Some b) e = let k : rows ++ a ≡ made = cc in ap Some (sym (append_assoc rows a b)) ∙ ap (λ z. Some (z ++ b)) k
+follows rows made (Some a) None e = refl
+follows rows made None q e = absurd (cc)
+
+lost : (rows : List Row) (o q : Option (List Row)) → followed_by rows o ≡ None → followed_by rows (joined o q) ≡ None
+lost rows (Some a) q e = absurd (cc)
+lost rows None q e = refl
+
+pub then_more : (types : Types) (rows made : List Row) (ks ls : List Claim) → rows_with types rows ks ≡ Some made → rows_with types rows (ks ++ ls) ≡ rows_with types made ls
+then_more types rows made ks ls e = ap (followed_by rows) (tightened_append types ks ls) ∙ follows rows made (all_tightened types ks) (all_tightened types ls) e
+
+pub then_none : (types : Types) (rows : List Row) (ks ls : List Claim) → rows_with types rows ks ≡ None → rows_with types rows (ks ++ ls) ≡ None
+then_none types rows ks ls e = ap (followed_by rows) (tightened_append types ks ls) ∙ lost rows (all_tightened types ks) (all_tightened types ls) e
+
+pub no_more : (types : Types) (rows : List Row) → rows_with types rows [] ≡ Some rows
+no_more types rows = ap Some (append-nil rows)
+
+-- ---- The steps of a loop over claims
+
+pub path_start : (types : Types) (rows : List Row) (ks : List Claim) → rows ≡ [] → all_tightened types ks ≡ rows_with types rows ks
+path_start types rows ks e = sym (none_before (all_tightened types ks)) ∙ ap (λ z. rows_with types z ks) (sym e)
+
+pub path_step : (types : Types) (o : Option (List Row)) (rows made : List Row) (p : T.Taken) (others rest : List T.Taken) → rest ≡ p ∷ others → o ≡ rows_with types rows (path_claims (path_of rest)) → rows_with types rows (answer_claims (atom_of p.atom) p.held) ≡ Some made → o ≡ rows_with types made (path_claims (path_of others))
+path_step types o rows made p others rest e h k = h ∙ ap (λ z. rows_with types rows (path_claims (path_of z))) e ∙ then_more types rows made (answer_claims (atom_of p.atom) p.held) (path_claims (path_of others)) k
+
+pub path_lost : (types : Types) (o : Option (List Row)) (rows : List Row) (p : T.Taken) (others rest : List T.Taken) → rest ≡ p ∷ others → o ≡ rows_with types rows (path_claims (path_of rest)) → rows_with types rows (answer_claims (atom_of p.atom) p.held) ≡ None → o ≡ None
+path_lost types o rows p others rest e h k = h ∙ ap (λ z. rows_with types rows (path_claims (path_of z))) e ∙ then_none types rows (answer_claims (atom_of p.atom) p.held) (path_claims (path_of others)) k
+
+pub path_done : (types : Types) (o : Option (List Row)) (rows : List Row) (rest : List T.Taken) → rest ≡ [] → o ≡ rows_with types rows (path_claims (path_of rest)) → o ≡ Some rows
+path_done types o rows rest e h = h ∙ ap (λ z. rows_with types rows (path_claims (path_of z))) e ∙ no_more types rows
+
+pub first_normal : (p : T.Taken) (others rest : List T.Taken) → rest ≡ p ∷ others → IsNormalPath (path_of rest) → IsNormalAtom (atom_of p.atom)
+first_normal p others rest e h = (subst (λ z. IsNormalPath (path_of z)) e h).0
+
+pub others_normal : (p : T.Taken) (others rest : List T.Taken) → rest ≡ p ∷ others → IsNormalPath (path_of rest) → IsNormalPath (path_of others)
+others_normal p others rest e h = (subst (λ z. IsNormalPath (path_of z)) e h).1
+
+pub claim_step : (types : Types) (f : ℕ → Claim) (o : Option (List Row)) (rows made : List Row) (x : ℕ) (others rest : List ℕ) → rest ≡ x ∷ others → o ≡ rows_with types rows (map f rest) → rows_with types rows (f x ∷ []) ≡ Some made → o ≡ rows_with types made (map f others)
+claim_step types f o rows made x others rest e h k = h ∙ ap (λ z. rows_with types rows (map f z)) e ∙ then_more types rows made (f x ∷ []) (map f others) k
+
+pub claim_lost : (types : Types) (f : ℕ → Claim) (o : Option (List Row)) (rows : List Row) (x : ℕ) (others rest : List ℕ) → rest ≡ x ∷ others → o ≡ rows_with types rows (map f rest) → rows_with types rows (f x ∷ []) ≡ None → o ≡ None
+claim_lost types f o rows x others rest e h k = h ∙ ap (λ z. rows_with types rows (map f z)) e ∙ then_none types rows (f x ∷ []) (map f others) k
+
+pub claims_done : (types : Types) (f : ℕ → Claim) (o : Option (List Row)) (rows : List Row) (rest : List ℕ) → rest ≡ [] → o ≡ rows_with types rows (map f rest) → o ≡ Some rows
+claims_done types f o rows rest e h = h ∙ ap (λ z. rows_with types rows (map f z)) e ∙ no_more types rows
+
+-- ---- Negation keeps sizes
+
+negated_terms_fit : (ts : Terms) → all_fit (times minus_oneʳ ts) ≡ all_fit ts
+negated_terms_fit [] = refl
+negated_terms_fit (t ∷ ts) = ap₂ (λ a b. a && b) (fits_negated t.1) (negated_terms_fit ts)
+
+not_zero : is_zeroʳ minus_oneʳ ≡ false
+unfolding is_zeroʳ minus_oneʳ ratio gcd gcd_steps
+not_zero = refl
+
+negated_sized : (a : Lin) → is_sized (negated a) ≡ is_sized a
+unfolding is_sized scaled
+negated_sized a = ap (λ b. fits (cond b (constant zeroʳ) (record { terms = times minus_oneʳ a.terms; rest = minus_oneʳ *ʳ a.rest })).rest && all_fit (cond b (constant zeroʳ) (record { terms = times minus_oneʳ a.terms; rest = minus_oneʳ *ʳ a.rest })).terms) not_zero ∙ ap₂ (λ a b. a && b) (fits_negated a.rest) (negated_terms_fit a.terms)
+
+pub negated_large : (types : Types) (rows : List Row) (a : Lin) (strict : Bool) → is_sized a ≡ false → rows_with types rows (claim (negated a) strict ∷ []) ≡ None
+negated_large types rows a strict e = ap (λ o. followed_by rows (with_row o (Some []))) (sym (too_large types (negated a) strict (negated_sized a ∙ e)))
+
+-- ---- The values at an end
+
+pub ended : (x z : Option L.Lin) (t : Query Ends) → Answers (K.TheVariants.End x z) t → EachResult AreKept t → IsKeptValue (linear_of x) × IsKeptValue (linear_of z)
+ended x z (Query.done e) h k = subst AreKept (sym h) k
+ended x z Query.bits h k = absurd h
+ended x z (Query.ask q y n) h k = absurd h

@@ -1,0 +1,7 @@
+use Rattle.std.proofs.Common.{◌≡◌}
+use Rattle.linear_form.specs.FurtherRows.{all_unsigned_in}
+use Rattle.linear_form.specs.TypedGoals.{types_in}
+use Rattle.linear_form.proofs.signs.unsigned_variables.Given as goal
+
+abbrev pub invariant-loop-x : goal.invariant-loop-x
+invariant-loop-x l = l.variables.items ≡ all_unsigned_in (types_in l.types) l.rows l.x
