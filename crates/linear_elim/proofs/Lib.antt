@@ -14,3 +14,8 @@ pub mod Finishing
 pub mod FirstRows
 pub mod Examples
 pub mod Orders
+pub mod NarrowShares
+pub mod Counts
+pub mod OrderedRows
+pub mod Answering
+pub mod TestRows

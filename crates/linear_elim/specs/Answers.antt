@@ -5,13 +5,15 @@ use Rattle.heyvl_num.specs.Rational.{Rational}
 use Rattle.heylo_formula.specs.State.{environment, number_of}
 use Rattle.heylo_formula.specs.declared.types.Ty.{Ty}
 use Rattle.heylo_formula.specs.declared.values.Val.{Val}
-use Rattle.linear_form.specs.Terms.{coefficient}
-use Rattle.linear_form.specs.Row.{Row}
+use Rattle.linear_form.specs.Terms.{coefficient, IsOver}
+use Rattle.linear_form.specs.Row.{Row, IsRow}
+use Rattle.linear_form.specs.RowLists.{IsNumericRow}
 use Rattle.linear_form.specs.Solutions.{MeetsAt, IsSolvable}
 use Rattle.linear_form.specs.Combination.{IsContradiction, IsWideThroughout}
 use Rattle.linear_form.specs.VariableOrder.{order_of}
 use Rattle.linear_form.specs.GreedyPoint.{Interval, End, Greedy, ChoosesFrom, IsGreedyPoint}
 use Rattle.linear_elim.specs.Joins.{Derived}
+use Rattle.linear_elim.specs.ChoiceNumbers.{IsChoiceTooGreat}
 use Rattle.linear_elim.specs.Elimination as plain
 use Rattle.linear_elim.specs.Elimination.{Step, elimination, multipliers}
 use Rattle.linear_elim.specs.declared.answers.Broken.{Broken}
@@ -44,10 +46,12 @@ pub record IsWide (ms : List (ℕ × ℕ)) (rows : List Row) : Type 0 where
   pub coefficients : (x : ℕ) → IsWideThroughout (λ r. coefficient x r.terms) ms rows
   pub constants : IsWideThroughout (λ r. r.rest) ms rows
 
--- A number reaches its bound: one of the elimination, or a partial sum of the combination that refutes the rows.
+-- A number reaches its bound: one of the elimination, a partial sum of the combination that refutes the rows, or one of the
+-- greedy choice.
 pub data IsTooGreat (rows : List Row) (vars : List Ty) : Type 0 where
   in_a_step : eliminated rows vars ≡ plain.Outcome.too_great → IsTooGreat rows vars
   in_a_sum : (c : Derived) → eliminated rows vars ≡ plain.Outcome.refuted c → (IsWide (multipliers c) rows → ⊥) → IsTooGreat rows vars
+  in_a_choice : (steps : List Step) → eliminated rows vars ≡ plain.Outcome.standing steps → IsChoiceTooGreat rows vars steps → IsTooGreat rows vars
 
 -- What an answer says.
 abbrev pub IsAnswer : List Row → List Ty → Elim → Type 0
@@ -56,3 +60,19 @@ IsAnswer rows vars (Point point) = IsGreedyPoint rows vars point.items × MeetsA
 IsAnswer rows vars (Fraction b) = IsBreak rows vars b
 IsAnswer rows vars (Rows steps count) = eliminated rows vars ≡ plain.Outcome.too_many steps count
 IsAnswer rows vars Bits = IsTooGreat rows vars
+
+-- The rows, over numbers, stand after these steps.
+pub record IsEliminated (rows : List Row) (vars : List Ty) (steps : List Step) : Type 0 where
+  pub are_rows : All IsRow rows
+  pub numeric : All (IsNumericRow vars) rows
+  pub over : All (λ r. IsOver (order_of rows (length vars)) r.terms) rows
+  pub standing : eliminated rows vars ≡ plain.Outcome.standing steps
+
+-- Multipliers come only where no fractions meet the rows, and a point or a break of the choice only where some do. So where
+-- there aren't too many rows and no number is too great, multipliers come exactly where the rows aren't solvable.
+abbrev pub Settles : List Row → Elim → Type 0
+Settles rows (NoSolution ms) = IsSolvable rows → ⊥
+Settles rows (Point point) = IsSolvable rows
+Settles rows (Fraction b) = IsSolvable rows
+Settles rows (Rows steps count) = Unit {0}
+Settles rows Bits = Unit {0}

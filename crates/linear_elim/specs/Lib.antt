@@ -4,4 +4,5 @@ pub mod Elimination
 pub mod Laws
 pub mod Outcomes
 pub mod Turns
+pub mod ChoiceNumbers
 pub mod Answers

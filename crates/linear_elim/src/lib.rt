@@ -2,14 +2,22 @@
 #![tactic(auto)]
 
 mod answers;
+mod choosing;
 mod eliminating;
 mod elimination;
 mod gathering;
 mod joins;
 mod laws;
 mod ordering;
+#[cfg(test)]
+mod point_tests;
+mod refuting;
 mod starting;
 mod steps;
+#[cfg(test)]
+mod test_rows;
+#[cfg(test)]
+mod tests;
 
 pub use answers::{Broken, Cause, Elim};
 pub use eliminating::eliminate;

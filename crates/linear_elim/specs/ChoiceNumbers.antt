@@ -1,0 +1,55 @@
+-- The numbers of the greedy choice, and when one of them is too great. The bound on numbers is this project's own.
+use Rattle.std.specs.Prelude.{◌≡◌, ℕ, List, [], ◌∷◌, ◌++◌, reverse, map, ℤ, pos, Bool, true, false, cond, eqb, not, Option, Some, None}
+use Rattle.std.specs.List.{list_any}
+use Rattle.heylo_formula.specs.declared.types.Ty.{Ty}
+use Rattle.heyvl_num.specs.Rational.{Rational}
+use Rattle.heyvl_num.specs.Rounding.{whole}
+use Rattle.heyvl_num.specs.Exact.{exact_quotient, exact_sum, exact_product}
+use Rattle.linear_form.specs.Lin.{fits}
+use Rattle.linear_form.specs.Terms.{coefficient}
+use Rattle.linear_form.specs.Row.{Row}
+use Rattle.linear_form.specs.GreedyPoint.{Interval, IsIntervalOf, IsChoice, Greedy, Chooses, type_at, chosen_value}
+use Rattle.linear_elim.specs.Joins.{Derived}
+use Rattle.linear_elim.specs.Elimination.{Step}
+
+-- A sum, and a product that is added to it. None where there is none, or the sum doesn't fit.
+abbrev pub added : Option Rational → Option Rational → Option Rational
+added None p = None
+added (Some s) None = None
+added (Some s) (Some p) = exact_sum s p
+
+-- To a sum each term but those of x is added, with the value chosen for its variable.
+unfoldable pub sum_without : ℕ → List (ℕ × Rational) → List (ℕ × ℤ) → Option Rational → Option Rational
+sum_without x chosen [] o = o
+sum_without x chosen (t ∷ ts) o = sum_without x chosen ts (cond (eqb t.0 x) o (added o (exact_product (whole t.1) (chosen_value t.0 chosen))))
+
+-- The product of a sum and -1 over a coefficient.
+abbrev pub divided_by : Option Rational → Option Rational → Option Rational
+divided_by None k = None
+divided_by (Some s) None = None
+divided_by (Some s) (Some k) = exact_product s k
+
+-- The end that a row gives to x with the values chosen, where each call on the way gives a number.
+unfoldable pub end_of : ℕ → List (ℕ × Rational) → Row → Option Rational
+end_of x chosen r = divided_by (sum_without x chosen r.terms (Some (whole r.rest))) (exact_quotient (ℤ.negsuc 0) (coefficient x r.terms))
+
+-- There is an end, and its numerator and denominator are below 2^62.
+abbrev pub end_fits : Option Rational → Bool
+end_fits None = false
+end_fits (Some p) = fits p
+
+-- The step's variable is to be chosen next, after these values: the end that a row of the step gives is too great, or the value
+-- that the variable takes.
+pub data IsNextTooGreat (rows : List Row) (vars : List Ty) (s : Step) (chosen : List (ℕ × Rational)) : Type 0 where
+  in_an_end : list_any (λ r. not (end_fits (end_of s.var chosen r.row))) (s.lows ++ s.ups) ≡ true → IsNextTooGreat rows vars s chosen
+  in_a_value : (i : Interval) (v : Rational) → IsIntervalOf rows chosen s.var i → IsChoice i (type_at vars s.var) v → fits v ≡ false → IsNextTooGreat rows vars s chosen
+
+-- The choice takes the steps from the last on, and a number of one of them is too great.
+pub record IsChoiceTooGreat (rows : List Row) (vars : List Ty) (steps : List Step) : Type 0 where
+  pub before : List Step
+  pub next : Step
+  pub after : List Step
+  pub chosen : List (ℕ × Rational)
+  pub splits : steps ≡ before ++ (next ∷ after)
+  pub choice : Chooses rows vars (reverse (map (λ s. s.var) after)) [] (Greedy.chose chosen)
+  pub too_great : IsNextTooGreat rows vars next chosen
