@@ -18,7 +18,7 @@ use Rattle.linear_form.specs.PathRows.{answer_claims, path_claims, below_claim, 
 use Rattle.linear_form.specs.PointLaws.{HasTruths, PointsAgree, PointsFalsify}
 use Rattle.linear_form.proofs.LinearValues.{leq_zero_minus, leq_minus, below_at}
 use Rattle.linear_form.proofs.MetClaims.{negated_at}
-use Rattle.linear_form.proofs.NonzeroClaims.{all_nonzero}
+use Rattle.linear_form.proofs.NormalClaims.{all_nonzero}
 use Rattle.linear_form.proofs.AgreedEnds.{ends_are_values}
 use Rattle.linear_form.proofs.ClaimedRows.{rows_claim}
 use Rattle.linear_form.proofs.KnownTruths.{IsKnown, AreKnown, path_known}

@@ -21,7 +21,7 @@ use Rattle.linear_form.specs.VariableOrder.{occurs, occurrences}
 use Rattle.linear_form.proofs.EachResults.{of_two}
 use Rattle.linear_form.proofs.LinearValues.{leq_minus, variable_at}
 use Rattle.linear_form.proofs.MetClaims.{negated_at}
-use Rattle.linear_form.proofs.NonzeroClaims.{all_nonzero}
+use Rattle.linear_form.proofs.NormalClaims.{all_nonzero}
 use Rattle.linear_form.proofs.TightRows.{taken_row}
 use Rattle.linear_form.proofs.ClaimedRows.{rows_claim}
 use Rattle.linear_form.proofs.DeniedRows.{Gives, gives_rows}

@@ -15,7 +15,7 @@ eliminate-requires-clause-numeric c =
 pub returns-in_ok-eliminate-in-Rows : goal.returns-in_ok-eliminate-in-Rows
 returns-in_ok-eliminate-in-Rows c =
     let e = rw c.in-Rows.is at c.in_ok-list.ensures.rows in
-    let a = subst (λ ts. IsAnswer c.deref.result.now ts c.in_ok-eliminate-in-Rows.field-0) c.deref-in-Rows.ensures.value c.in_ok-eliminate-in-Rows.ensures in
+    let a = subst (λ ts. IsAnswer c.deref.result.now ts c.in_ok-eliminate-in-Rows.field-0) c.deref-in-Rows.ensures.value c.in_ok-eliminate-in-Rows.ensures.answer in
     let b = subst (λ rs. IsAnswer rs c.args.goal.now.vars.items c.in_ok-eliminate-in-Rows.field-0) c.deref.ensures.value a in
     c.told.ensures (goal_of c.args.goal.now) (path_of c.args.path.now) c.args.denied c.in-Rows.list.items e b
 
