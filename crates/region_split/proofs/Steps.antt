@@ -18,7 +18,7 @@ use Rattle.linear_elim.specs.declared.answers.Broken.{Broken}
 use Rattle.farkas_check.specs.declared.trees.Tree as F
 use Rattle.region_split.specs.Decisions.{HasCells}
 use Rattle.region_split.specs.Seen.{GoesOn, IsEnd, IsDroppedBy, IsRefutedAt, IsPointAt, IsBreakAt}
-use Rattle.region_split.specs.Progress.{Holds, AreShort, IsGrown, IsBranch, IsBefore, IsAfter, IsNext, IsFound, IsWalk, IsFinishedWalk, rest_of, left_of}
+use Rattle.region_split.specs.Progress.{Holds, AreShort, IsGrown, IsBranch, IsBefore, IsAfter, IsNext, IsFound, IsWalk, IsFinishedWalk, IsJudgedCell, rest_of, left_of}
 use Rattle.region_split.specs.declared.growth.Grown.{Grown}
 use Rattle.region_split.specs.declared.found.Found.{Found}
 use Rattle.region_split.specs.declared.walk.Walk.{Walk}
@@ -111,48 +111,33 @@ dropped_walk g w ms tree e h d = subst (IsFinishedWalk g w) (sym e) (dropped_fin
 
 -- ---- Another cell
 
--- a walk whose path is finished, with one more cell
-pub record IsCounted (w next : Walk) : Type 0 where
-  pub few : w.count < 4096
-  pub count : next.count ≡ w.count + 1
-  pub path : next.path ≡ w.path
-  pub trees : next.trees ≡ w.trees
-
-finished : (g : Goal) (w next : Walk) (leaf tree : Option Grown) → tree ≡ leaf → IsWalk g w → IsCounted w next → IsBranch g (path_of w.path.items) (path_of w.path.items ∷ []) leaf → ((cells : List (List Taken)) → IsFound g cells w.found → IsFound g (cells ++ (path_of w.path.items ∷ [])) next.found) → IsFinishedWalk g next tree
-finished g w next leaf tree e h c b f = subst (IsFinishedWalk g next) (sym e) (cell_finished g w next leaf h c.few c.count c.path c.trees b f)
-
 pub all_counted : (g : Goal) (w : Walk) (plain : Bool) → IsWalk g w → IsEnd g (path_of w.path.items) plain → 4096 ≤ w.count → HasCells g 4097
 all_counted g w plain h e l = let c = h.counted in let f = h.few in many_cells g (path_of w.path.items) h.before w.trees.items plain h.stands e (omega (arith, c, f))
-
-plain_there : (g : Goal) (ps : List Taken) (plain : Bool) → IsEnd g ps plain → plain ≡ true → IsPlainAt g ps
-plain_there g ps plain e k = e.holds_plainly.0 k
 
 not_plain_there : (g : Goal) (ps : List Taken) (plain : Bool) → IsEnd g ps plain → plain ≡ false → IsPlainAt g ps → ⊥
 not_plain_there g ps plain e k p = let m = e.holds_plainly.1 p in let n : true ≡ false = sym m ∙ k in absurd (cc)
 
-pub plain_cell : (g : Goal) (w next : Walk) (plain : Bool) (tree : Option Grown) → tree ≡ leaf_of F.Plain → IsWalk g w → IsEnd g (path_of w.path.items) plain → plain ≡ true → IsCounted w next → next.found ≡ w.found → IsFinishedWalk g next tree
-plain_cell g w next plain tree t h e k c f =
-    let ps = path_of w.path.items in
-    let p = plain_there g (path_of w.path.items) plain e k in
-    finished g w next _ tree t h c (plain_leaf g (path_of w.path.items) plain e p) (λ cells i. subst (IsFound g (cells ++ (path_of w.path.items ∷ []))) (sym f) (found_holds g cells (path_of w.path.items) w.found i (inl p)))
+judged : (g : Goal) (ps : List Taken) (found next : Found) (leaf tree : Option Grown) → tree ≡ leaf → IsBranch g ps (ps ∷ []) leaf → ((cells : List (List Taken)) → IsFound g cells found → IsFound g (cells ++ (ps ∷ [])) next) → IsJudgedCell g ps found next tree
+judged g ps found next leaf tree e b f = record { branch = subst (IsBranch g ps (ps ∷ [])) (sym e) b; shown = f }
 
-pub refuted_cell : (g : Goal) (w next : Walk) (plain : Bool) (ms : Vec (ℕ × ℕ) Global) (tree : Option Grown) → tree ≡ leaf_of (F.Farkas ms) → IsWalk g w → IsEnd g (path_of w.path.items) plain → plain ≡ false → IsRefutedAt g (path_of w.path.items) true ms.items → IsCounted w next → next.found ≡ w.found → IsFinishedWalk g next tree
-refuted_cell g w next plain ms tree t h e k r c f =
-    let n = not_plain_there g (path_of w.path.items) plain e k in
-    finished g w next _ tree t h c (refuted_leaf g (path_of w.path.items) plain ms e n r) (λ cells i. subst (IsFound g (cells ++ (path_of w.path.items ∷ []))) (sym f) (found_holds g cells (path_of w.path.items) w.found i (refuted_holds g (path_of w.path.items) ms.items r)))
+pub plain_cell : (g : Goal) (ps : List Taken) (found : Found) (plain : Bool) (tree : Option Grown) → tree ≡ leaf_of F.Plain → IsEnd g ps plain → plain ≡ true → IsJudgedCell g ps found found tree
+plain_cell g ps found plain tree t e k = let p = e.holds_plainly.0 k in judged g ps found found _ tree t (plain_leaf g ps plain e p) (λ cells i. found_holds g cells ps found i (inl p))
 
-false_cell : (g : Goal) (w next : Walk) (plain : Bool) → IsWalk g w → IsEnd g (path_of w.path.items) plain → IsFalseCell g (path_of w.path.items) → IsCounted w next → ((cells : List (List Taken)) → IsFound g cells w.found → IsFound g (cells ++ (path_of w.path.items ∷ [])) next.found) → IsFinishedWalk g next None
-false_cell g w next plain h e k c f = finished g w next None None refl h c (false_leaf g (path_of w.path.items) plain e k) f
+pub refuted_cell : (g : Goal) (ps : List Taken) (found : Found) (plain : Bool) (ms : Vec (ℕ × ℕ) Global) (tree : Option Grown) → tree ≡ leaf_of (F.Farkas ms) → IsEnd g ps plain → plain ≡ false → IsRefutedAt g ps true ms.items → IsJudgedCell g ps found found tree
+refuted_cell g ps found plain ms tree t e k r = judged g ps found found _ tree t (refuted_leaf g ps plain ms e (not_plain_there g ps plain e k) r) (λ cells i. found_holds g cells ps found i (refuted_holds g ps ms.items r))
 
-pub point_cell : (g : Goal) (w next : Walk) (plain : Bool) (point : List Val) → IsWalk g w → IsEnd g (path_of w.path.items) plain → plain ≡ false → IsPointAt g (path_of w.path.items) true point → IsCounted w next → ((cells : List (List Taken)) → IsFound g cells w.found → IsFalseCell g (path_of w.path.items) → IsPointAt g (path_of w.path.items) true point → IsFound g (cells ++ (path_of w.path.items ∷ [])) next.found) → IsFinishedWalk g next None
-point_cell g w next plain point h e k p c f =
-    let i = point_is_false g (path_of w.path.items) point (cell_here g (path_of w.path.items) plain (walk_front g w h) e) (not_plain_there g (path_of w.path.items) plain e k) p in
-    false_cell g w next plain h e i c (λ cells j. f cells j i p)
+pub point_cell : (g : Goal) (ps : List Taken) (found next : Found) (plain : Bool) (point : List Val) → IsFront g ps → IsEnd g ps plain → plain ≡ false → IsPointAt g ps true point → ((cells : List (List Taken)) → IsFound g cells found → IsFalseCell g ps → IsPointAt g ps true point → IsFound g (cells ++ (ps ∷ [])) next) → IsJudgedCell g ps found next None
+point_cell g ps found next plain point h e k p f =
+    let i = point_is_false g ps point (cell_here g ps plain h e) (not_plain_there g ps plain e k) p in
+    judged g ps found next None None refl (false_leaf g ps plain e i) (λ cells j. f cells j i p)
 
-pub break_cell : (g : Goal) (w next : Walk) (plain : Bool) (b : Broken) → IsWalk g w → IsEnd g (path_of w.path.items) plain → plain ≡ false → IsBreakAt g (path_of w.path.items) true b → IsCounted w next → ((cells : List (List Taken)) (ps : List Taken) → IsFound g cells w.found → IsFalseCell g ps → IsBreakAt g ps true b → IsFound g (cells ++ (ps ∷ [])) next.found) → IsFinishedWalk g next None
-break_cell g w next plain b h e k p c f =
-    let i = break_is_false g (path_of w.path.items) b (cell_here g (path_of w.path.items) plain (walk_front g w h) e) (not_plain_there g (path_of w.path.items) plain e k) p in
-    false_cell g w next plain h e i c (λ cells j. f cells (path_of w.path.items) j i p)
+pub break_cell : (g : Goal) (ps : List Taken) (found next : Found) (plain : Bool) (b : Broken) → IsFront g ps → IsEnd g ps plain → plain ≡ false → IsBreakAt g ps true b → ((cells : List (List Taken)) (ps : List Taken) → IsFound g cells found → IsFalseCell g ps → IsBreakAt g ps true b → IsFound g (cells ++ (ps ∷ [])) next) → IsJudgedCell g ps found next None
+break_cell g ps found next plain b h e k p f =
+    let i = break_is_false g ps b (cell_here g ps plain h e) (not_plain_there g ps plain e k) p in
+    judged g ps found next None None refl (false_leaf g ps plain e i) (λ cells j. f cells ps j i p)
+
+pub cell_walk : (g : Goal) (w next : Walk) (found : Found) (tree : Option Grown) → IsWalk g w → w.count < 4096 → next.count ≡ w.count + 1 → next.path ≡ w.path → next.trees ≡ w.trees → next.found ≡ found → IsJudgedCell g (path_of w.path.items) w.found found tree → IsFinishedWalk g next tree
+cell_walk g w next found tree h l k p t f j = cell_finished g w next tree h l k p t j.branch (λ cells i. subst (IsFound g (cells ++ (path_of w.path.items ∷ []))) (sym f) (j.shown cells i))
 
 -- ---- The start
 

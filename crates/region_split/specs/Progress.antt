@@ -17,10 +17,12 @@ use Rattle.farkas_check.specs.declared.trees.Tree.{Tree}
 use Rattle.farkas_check.specs.Accepted.{IsAccepted}
 use Rattle.region_split.specs.Walk.{AreCells, HasDepth}
 use Rattle.region_split.specs.Decisions.{IsRefutedCell, IsPointOf, IsBreakOf, Breaks, HasTree, IsDecision}
-use Rattle.region_split.specs.Seen.{GoesOn}
+use Rattle.region_split.specs.Seen.{GoesOn, EndsGoal}
 use Rattle.region_split.specs.declared.growth.Grown.{Grown}
 use Rattle.region_split.specs.declared.found.Found.{Found}
 use Rattle.region_split.specs.declared.found.Found.TheVariants.{Nothing, Break, Point}
+use Rattle.region_split.specs.declared.cell.Cell.{Cell}
+use Rattle.region_split.specs.declared.cell.Cell.TheVariants.{Judged, Unknown}
 use Rattle.region_split.specs.declared.backing.Up.{Up}
 use Rattle.region_split.specs.declared.backing.Up.TheVariants.{Next, Whole}
 use Rattle.region_split.specs.declared.walk.Walk.{Walk}
@@ -89,6 +91,15 @@ IsFound g cells (Point point) = IsFirstPoint g cells point.items
 pub record IsBranch (g : Goal) (ps : List Taken) (cells : List (List Taken)) (tree : Option Grown) : Type 0 where
   pub are_cells : AreCells g ps cells
   pub grown : All (Holds g) cells → IsGrown g ps tree
+
+-- A cell whose branch has this tree, and what all cells up to it have shown, where those before it have shown this.
+pub record IsJudgedCell (g : Goal) (ps : List Taken) (found next : Found) (tree : Option Grown) : Type 0 where
+  pub branch : IsBranch g ps (ps ∷ []) tree
+  pub shown : (cells : List (List Taken)) → IsFound g cells found → IsFound g (cells ++ (ps ∷ [])) next
+
+abbrev pub IsJudged : Goal → List Taken → Found → Cell → Type 0
+IsJudged g ps found (Judged next tree) = IsJudgedCell g ps found next tree
+IsJudged g ps found (Unknown cause) = EndsGoal g ps cause
 
 -- The cells before a path, in order, and the trees of the branches to its left, from the start of the path on.
 pub data IsBefore (g : Goal) : List Taken → List (List Taken) → List (Option Grown) → Type 0 where

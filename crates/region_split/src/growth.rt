@@ -9,6 +9,9 @@ ghost use Rattle.region_split.specs.Progress.{IsGrown, IsGrownTree};
 use farkas_check::Tree;
 use std::alloc::{AllocError, Global};
 
+/// A deeper tree isn't kept.
+const MOST_DEPTH: u32 = 1000;
+
 /// The tree of a finished branch, and its depth, which is at most 1,000. A leaf has depth 1.
 #[derive(Drop)]
 pub struct Grown {
@@ -45,7 +48,7 @@ fn split(alloc: Global, left: Grown, right: Grown) -> Result<Option<Grown>, Allo
     ensures { (g : PlainGoal) (ps : List PlainTaken) (q : Atom) → GoesOn g ps q → IsGrownTree g (onto ps q true) left → IsGrownTree g (onto ps q false) right → IfOk result (λ t. IsGrown g ps t) }
 {
     let below = greater(left.depth, right.depth);
-    if below >= 1000 {
+    if below >= MOST_DEPTH {
         return Ok(None);
     }
     let first = Box::new(alloc, left.tree)?;

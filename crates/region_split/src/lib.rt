@@ -2,6 +2,7 @@
 #![tactic(auto)]
 
 mod backing;
+mod cell;
 mod deciding;
 mod decision_laws;
 mod decisions;

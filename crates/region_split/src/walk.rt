@@ -11,16 +11,19 @@ ghost use Rattle.region_split.specs.Seen.{IsEnd, GoesOn};
 ghost use Rattle.region_split.specs.Progress.{AreShort, IsWalk, IsFinishedWalk, IsStep, IsFound, IsBranch, IsGrown, HasWholeTree};
 
 use crate::backing::{Up, climb};
+use crate::cell::{Cell, judge, leaf};
 use crate::decisions::Decision;
-use crate::found::{Found, with_break, with_point};
+use crate::found::Found;
 use crate::front::{Front, look};
 use crate::growth::Grown;
-use crate::solving::{Solved, solve};
 use farkas_check::Tree;
 use heylo_formula::Goal;
 use linear_elim::Cause;
 use linear_form::{Atom, Taken};
 use std::alloc::{AllocError, Global};
+
+/// More cells than these end a walk.
+const MOST_CELLS: u32 = 4096;
 
 /// Where a walk stands: the path, the trees of the finished branches to its left, how many cells there were before, and what
 /// they have shown.
@@ -78,13 +81,6 @@ fn visit(alloc: Global, goal: &Goal, walk: Walk) -> Result<Step, AllocError>
     }
 }
 
-/// A tree of depth 1.
-fn leaf(tree: Tree) -> Option<Grown>
-    ensures { result ≡ Some (record { tree = tree; depth = 1 }) }
-{
-    Some(Grown { tree, depth: 1 })
-}
-
 /// Goes on to the branch in which the atom of a question holds.
 fn deeper(mut walk: Walk, atom: Atom) -> Result<Step, AllocError>
     ensures { (g : PlainGoal) → IsWalk g walk → GoesOn g (path_of walk.path.items) (atom_of atom) → IfOk result (λ s. IsStep g (path_of walk.path.items) s) }
@@ -108,50 +104,20 @@ fn end(alloc: Global, goal: &Goal, walk: Walk, plain: bool) -> Result<Step, Allo
         count,
         found,
     } = walk;
-    if count >= 4096 {
-        return Ok(Step::Done(Decision::Unknown(Cause::Cells(4097))));
+    if count >= MOST_CELLS {
+        return Ok(Step::Done(Decision::Unknown(Cause::Cells(MOST_CELLS + 1))));
     }
-    let count = count + 1;
-    if plain {
-        let next = Walk {
-            path,
-            trees,
-            count,
-            found,
-        };
-        return finish(alloc, next, leaf(Tree::Plain));
-    }
-    match solve(alloc, goal, &path, true)? {
-        Solved::Refuted(multipliers) => {
+    match judge(alloc, goal, &path, found, plain)? {
+        Cell::Judged(found, tree) => {
             let next = Walk {
                 path,
                 trees,
-                count,
+                count: count + 1,
                 found,
             };
-            finish(alloc, next, leaf(Tree::Farkas(multipliers)))
+            finish(alloc, next, tree)
         }
-        Solved::Point(point) => {
-            let found = with_point(alloc, found, &path, point)?;
-            let next = Walk {
-                path,
-                trees,
-                count,
-                found,
-            };
-            finish(alloc, next, None)
-        }
-        Solved::Break(broken) => {
-            let found = with_break(found, broken);
-            let next = Walk {
-                path,
-                trees,
-                count,
-                found,
-            };
-            finish(alloc, next, None)
-        }
-        Solved::Unknown(cause) => Ok(Step::Done(Decision::Unknown(cause))),
+        Cell::Unknown(cause) => Ok(Step::Done(Decision::Unknown(cause))),
     }
 }
 
