@@ -1,3 +1,9 @@
+mod PathAnswers
+mod Climbing
+mod CellOrder
+mod CellsFound
+mod Leaves
+mod Steps
 mod ProvedGoals
 mod GreedyChoices
 mod GreedyOrder

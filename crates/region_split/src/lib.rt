@@ -1,9 +1,17 @@
 //! The decision of a goal: its questions are walked, and each cell is refuted or gives a point at which the goal fails.
 #![tactic(auto)]
 
+mod backing;
+mod cell;
 mod deciding;
 mod decision_laws;
 mod decisions;
+mod found;
+mod front;
+mod growth;
+mod points;
+mod solving;
+mod walk;
 
 pub use deciding::decide;
 pub use decision_laws::decisions_tell;

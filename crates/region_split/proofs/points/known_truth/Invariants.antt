@@ -1,0 +1,10 @@
+use Rattle.std.proofs.Common.{◌≡◌, length}
+use Rattle.linear_form.specs.Query.{known}
+use Rattle.linear_form.specs.PlainPaths.{path_of}
+use Rattle.region_split.proofs.points.known_truth.Given as goal
+
+abbrev pub decreases-search : goal.decreases-search
+decreases-search l = length l.rest
+
+abbrev pub invariant-search : goal.invariant-search
+invariant-search l = known l.fn.x (path_of l.fn.path) ≡ known l.fn.x (path_of l.rest)

@@ -1,0 +1,16 @@
+use Rattle.std.proofs.Common.{◌≤◌, length, refl, arith}
+use Rattle.region_split.proofs.Steps.{next_walk}
+use Rattle.region_split.proofs.walk.finish.Goals as goal
+
+pub returns-in-Next : goal.returns-in-Next
+returns-in-Next c g n h =
+    let u = c.in_ok-path.ensures g h.all h.after in
+    next_walk g c.args.walk _ c.args.tree h (rw c.in-Next.is at u) refl refl
+
+pub returns-in-Whole : goal.returns-in-Whole
+returns-in-Whole c g n h =
+    let u = c.in_ok-path.ensures g h.all h.after in
+    let a = h.counted in
+    let b = h.few in
+    let l : length h.all ≤ 4096 = omega (arith, a, b) in
+    c.decided.ensures g h.all n h.found l (rw c.in-Whole.is at u)
