@@ -17,11 +17,11 @@ mod multipliers;
 mod numbers;
 mod operators;
 mod path_laws;
+#[cfg(test)]
+mod path_row_tests;
 mod path_rows;
 mod paths;
 mod point_laws;
-#[cfg(test)]
-mod path_row_tests;
 #[cfg(test)]
 mod product_tests;
 #[cfg(test)]
