@@ -34,27 +34,28 @@ after-refuted s (standing ss) c e = absurd (cc)
 after-refuted s (too_many n m) c e = absurd (cc)
 after-refuted s too_great c e = absurd (cc)
 
-pub run-refuted : (first : List Row) (n : ℕ) (xs : List ℕ) (rows : List Derived) (c : Derived) → run n xs (gathered rows) ≡ refuted c → All (Follows first) rows → Follows first c × (is_contradiction c.row ≡ true)
+-- What holds of the rows at the start and after a step that fits holds of what refutes them.
+pub refuted-all : (P : Derived → Type 0) → ((x : ℕ) (rows : List Derived) → true ≡ step_fits x rows → All P rows → All P (eliminate_one x rows)) → (n : ℕ) (xs : List ℕ) (rows : List Derived) (c : Derived) → run n xs (gathered rows) ≡ refuted c → All P rows → P c × (is_contradiction c.row ≡ true)
 unfolding run
-run-refuted first n [] rows c e h = go (contradiction rows) refl e
+refuted-all P next n [] rows c e h = go (contradiction rows) refl e
   where
-    many : (b : Bool) → cond b (too_many n (length (tidied rows))) (standing []) ≡ refuted c → Follows first c × (is_contradiction c.row ≡ true)
+    many : (b : Bool) → cond b (too_many n (length (tidied rows))) (standing []) ≡ refuted c → P c × (is_contradiction c.row ≡ true)
     many true e = absurd (cc)
     many false e = absurd (cc)
 
-    go : (o : Option Derived) → contradiction rows ≡ o → ended_by o (unless_many n (tidied rows) (standing [])) ≡ refuted c → Follows first c × (is_contradiction c.row ≡ true)
+    go : (o : Option Derived) → contradiction rows ≡ o → ended_by o (unless_many n (tidied rows) (standing [])) ≡ refuted c → P c × (is_contradiction c.row ≡ true)
     go None k e = many (ltb 4096 (length (tidied rows))) e
-    go (Some d) k e = let s : d ≡ c = cc in contradiction-some (Follows first) rows c (k ∙ ap (λ x. Some x) s) h
-run-refuted first n (x ∷ xs) rows c e h = go (λ k. run-refuted first (suc n) xs (eliminate_one x (tidied rows)) c k (step-follows first x (tidied rows) (tidied-all (Follows first) rows h))) (contradiction rows) refl e
+    go (Some d) k e = let s : d ≡ c = cc in contradiction-some P rows c (k ∙ ap (λ x. Some x) s) h
+refuted-all P next n (x ∷ xs) rows c e h = go (λ f k. refuted-all P next (suc n) xs (eliminate_one x (tidied rows)) c k (next x (tidied rows) f (tidied-all P rows h))) (contradiction rows) refl e
   where
-    many : (run (suc n) xs (gathered (eliminate_one x (tidied rows))) ≡ refuted c → Follows first c × (is_contradiction c.row ≡ true)) → (b f : Bool) → cond b (too_many n (length (tidied rows))) (cond f (after_step (step_of x (tidied rows)) (run (suc n) xs (gathered (eliminate_one x (tidied rows))))) too_great) ≡ refuted c → Follows first c × (is_contradiction c.row ≡ true)
-    many ih true f e = absurd (cc)
-    many ih false true e = ih (after-refuted _ _ c e)
-    many ih false false e = absurd (cc)
+    many : (true ≡ step_fits x (tidied rows) → run (suc n) xs (gathered (eliminate_one x (tidied rows))) ≡ refuted c → P c × (is_contradiction c.row ≡ true)) → (b f : Bool) → f ≡ step_fits x (tidied rows) → cond b (too_many n (length (tidied rows))) (cond f (after_step (step_of x (tidied rows)) (run (suc n) xs (gathered (eliminate_one x (tidied rows))))) too_great) ≡ refuted c → P c × (is_contradiction c.row ≡ true)
+    many ih true f k e = absurd (cc)
+    many ih false true k e = ih k (after-refuted _ _ c e)
+    many ih false false k e = absurd (cc)
 
-    go : (run (suc n) xs (gathered (eliminate_one x (tidied rows))) ≡ refuted c → Follows first c × (is_contradiction c.row ≡ true)) → (o : Option Derived) → contradiction rows ≡ o → ended_by o (unless_many n (tidied rows) (cond (step_fits x (tidied rows)) (after_step (step_of x (tidied rows)) (run (suc n) xs (gathered (eliminate_one x (tidied rows))))) too_great)) ≡ refuted c → Follows first c × (is_contradiction c.row ≡ true)
-    go ih None k e = many ih (ltb 4096 (length (tidied rows))) (step_fits x (tidied rows)) e
-    go ih (Some d) k e = let s : d ≡ c = cc in contradiction-some (Follows first) rows c (k ∙ ap (λ x. Some x) s) h
+    go : (true ≡ step_fits x (tidied rows) → run (suc n) xs (gathered (eliminate_one x (tidied rows))) ≡ refuted c → P c × (is_contradiction c.row ≡ true)) → (o : Option Derived) → contradiction rows ≡ o → ended_by o (unless_many n (tidied rows) (cond (step_fits x (tidied rows)) (after_step (step_of x (tidied rows)) (run (suc n) xs (gathered (eliminate_one x (tidied rows))))) too_great)) ≡ refuted c → P c × (is_contradiction c.row ≡ true)
+    go ih None k e = many ih (ltb 4096 (length (tidied rows))) (step_fits x (tidied rows)) refl e
+    go ih (Some d) k e = let s : d ≡ c = cc in contradiction-some P rows c (k ∙ ap (λ x. Some x) s) h
 
 -- points
 cross : (a b c : ℕ) (t u v : ℤ) → 0 < b → t *ℤ pos b ≡ u *ℤ pos a → u *ℤ pos c ≡ v *ℤ pos b → t *ℤ pos c ≡ v *ℤ pos a
@@ -188,4 +189,4 @@ start-follows first k [] t = All-nil _
 start-follows first k (r ∷ rs) t = let h = tail-row k first r rs t in All-cons (Follows first) (record { row = r; shares = (k, pos 1) ∷ []; over = 1 }) (start (suc k) rs) (own_row first k r h.0 h.1) (start-follows first (suc k) rs (tail-next k first r rs t))
 
 pub refuted-follows : (order : List ℕ) (first : List Row) (c : Derived) → elimination order first ≡ refuted c → Follows first c × (is_contradiction c.row ≡ true)
-refuted-follows order first c e = run-refuted first 0 order (start 0 first) c e (start-follows first 0 first refl)
+refuted-follows order first c e = refuted-all (Follows first) (λ x rows f h. step-follows first x rows h) 0 order (start 0 first) c e (start-follows first 0 first refl)

@@ -26,3 +26,8 @@ pub mod Pasts
 pub mod Greedily
 pub mod ChoiceRuns
 pub mod StepRows
+pub mod NarrowShares
+pub mod Counts
+pub mod OrderedRows
+pub mod Answering
+pub mod TestRows

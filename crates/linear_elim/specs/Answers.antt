@@ -67,3 +67,12 @@ pub record IsEliminated (rows : List Row) (vars : List Ty) (steps : List Step) :
   pub numeric : All (IsNumericRow vars) rows
   pub over : All (λ r. IsOver (order_of rows (length vars)) r.terms) rows
   pub standing : eliminated rows vars ≡ plain.Outcome.standing steps
+
+-- Multipliers come only where no fractions meet the rows, and a point or a break of the choice only where some do. So where
+-- there aren't too many rows and no number is too great, multipliers come exactly where the rows aren't solvable.
+abbrev pub Settles : List Row → Elim → Type 0
+Settles rows (NoSolution ms) = IsSolvable rows → ⊥
+Settles rows (Point point) = IsSolvable rows
+Settles rows (Fraction b) = IsSolvable rows
+Settles rows (Rows steps count) = Unit {0}
+Settles rows Bits = Unit {0}

@@ -4,9 +4,14 @@ ghost use Rattle.std.specs.Prelude.{◌<◌, ◌^◌, length, IfOk};
 ghost use Rattle.std.specs.List.{All};
 ghost use Rattle.linear_form.specs.Row.{IsRow};
 ghost use Rattle.linear_form.specs.RowLists.{IsNumericRow};
-ghost use Rattle.linear_elim.specs.Answers.{IsAnswer};
+ghost use Rattle.linear_elim.specs.Answers.{IsAnswer, Settles};
 
 use crate::answers::Elim;
+use crate::choosing::greedy;
+use crate::elimination::Outcome;
+use crate::ordering::elimination_order;
+use crate::refuting::refutation;
+use crate::starting::contradiction_or_steps;
 use heylo_formula::Ty;
 use linear_form::Row;
 use std::alloc::{AllocError, Global};
@@ -18,7 +23,17 @@ pub fn eliminate(alloc: Global, rows: &[Row], vars: &[Ty]) -> Result<Elim, Alloc
     requires numeric { All (IsNumericRow vars.now) rows.now }
     requires few { length rows.now < 2 ^ 32 }
     requires few_variables { length vars.now < 2 ^ 32 }
-    ensures { IfOk result (λ e. IsAnswer rows.now vars.now e) }
+    ensures answer { IfOk result (λ e. IsAnswer rows.now vars.now e) }
+    ensures settles { IfOk result (λ e. Settles rows.now e) }
 {
-    Err(AllocError)
+    let order = elimination_order(alloc, rows, vars.len() as u32)?;
+    match contradiction_or_steps(alloc, rows, &order)? {
+        Outcome::Refuted(contradiction) => match refutation(alloc, rows, &contradiction)? {
+            Some(multipliers) => Ok(Elim::NoSolution(multipliers)),
+            None => Ok(Elim::Bits),
+        },
+        Outcome::Standing(steps) => greedy(alloc, &steps, vars),
+        Outcome::TooMany(steps, count) => Ok(Elim::Rows(steps as u32, count as u32)),
+        Outcome::TooGreat => Ok(Elim::Bits),
+    }
 }

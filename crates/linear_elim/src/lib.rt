@@ -14,8 +14,15 @@ mod joins;
 mod laws;
 mod ordering;
 mod picking;
+#[cfg(test)]
+mod point_tests;
+mod refuting;
 mod starting;
 mod steps;
+#[cfg(test)]
+mod test_rows;
+#[cfg(test)]
+mod tests;
 
 pub use answers::{Broken, Cause, Elim};
 pub use eliminating::eliminate;
