@@ -2,7 +2,7 @@
 use Rattle.std.proofs.Common.{◌≡◌, refl, ap, ◌∙◌, true}
 use Rattle.std.specs.Prelude.{pos, negsuc}
 use Rattle.heyvl_num.specs.Gcd.{gcd, gcd_steps}
-use Rattle.heyvl_num.specs.Rational.{Rational, ratio, zeroʳ, oneʳ, negʳ, ◌+ʳ◌, ◌-ʳ◌}
+use Rattle.heyvl_num.specs.Rational.{Rational, ratio, zeroʳ, negʳ, ◌+ʳ◌, ◌-ʳ◌}
 use Rattle.heyvl_num.specs.Rounding.{whole}
 use Rattle.linear_form.specs.Lin.{fits}
 use Rattle.linear_elim.specs.Picks.{past_place}
