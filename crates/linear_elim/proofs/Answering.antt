@@ -5,7 +5,6 @@ use Rattle.heylo_formula.specs.State.{environment, number_of}
 use Rattle.heylo_formula.specs.declared.types.Ty.{Ty}
 use Rattle.linear_form.specs.Row.{Row, IsRow}
 use Rattle.linear_form.specs.RowLists.{IsNumericRow}
-use Rattle.linear_form.specs.Solutions.{IsSolvable}
 use Rattle.linear_form.specs.Combination.{IsContradiction}
 use Rattle.linear_form.specs.VariableOrder.{order_of}
 use Rattle.linear_form.proofs.Fractions.{solvable_is}

@@ -91,7 +91,7 @@ nothing_left w r g h = absurd (go r.row.terms g.within h)
 tidied-terms : (rows : List Derived) → All (λ r. has_terms r.row.terms ≡ true) (tidied rows)
 tidied-terms rows = strongest-all (λ r. has_terms r.row.terms ≡ true) [] _ (All-nil _) (filter_passes (λ r. has_terms r.row.terms) rows)
 
-after-standing : (s : Step) (o : Outcome) (ss : List Step) → after_step s o ≡ standing ss → (ts : List Step) × (o ≡ standing ts) × (ss ≡ s ∷ ts)
+pub after-standing : (s : Step) (o : Outcome) (ss : List Step) → after_step s o ≡ standing ss → (ts : List Step) × (o ≡ standing ts) × (ss ≡ s ∷ ts)
 after-standing s (refuted d) ss e = absurd (cc)
 after-standing s (standing ts) ss e = (ts, refl, cc)
 after-standing s (too_many n m) ss e = absurd (cc)

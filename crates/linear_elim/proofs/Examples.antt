@@ -1,15 +1,14 @@
 -- The definition at small rows, computed.
-use Rattle.std.proofs.Common.{◌≡◌, List, [], ◌∷◌, refl, true, false}
+use Rattle.std.proofs.Common.{◌≡◌, [], ◌∷◌, refl, true, false}
 use Rattle.std.specs.Prelude.{pos, negsuc}
 use Rattle.heyvl_num.specs.Gcd.{gcd, gcd_steps}
 use Rattle.linear_form.specs.Terms.{coefficient, add_term, add_terms}
 use Rattle.linear_form.specs.Merging.{are_wide, are_narrow}
 use Rattle.linear_form.specs.Divisors.{common}
-use Rattle.linear_form.specs.Row.{Row}
-use Rattle.linear_elim.specs.Joins.{Derived, mixed_row, lowest, join}
+use Rattle.linear_elim.specs.Joins.{mixed_row, lowest, join}
 use Rattle.linear_elim.specs.Steps.{put_row, strongest, contradiction, pairs, fits_each, pairs_fit}
 use Rattle.linear_elim.specs.Elimination.{run, start, elimination}
-use Rattle.linear_elim.specs.Elimination.Outcome.{refuted, standing, too_great}
+use Rattle.linear_elim.specs.Elimination.Outcome.{refuted, standing}
 
 -- x < 0 and -x <= 0 combine, each taken once, to 0 < 0.
 touching : elimination (0 ∷ []) (record { terms = (0, pos 1) ∷ []; rest = pos 0; strict = true } ∷ record { terms = (0, negsuc 0) ∷ []; rest = pos 0; strict = false } ∷ []) ≡ refuted (record { row = record { terms = []; rest = pos 0; strict = true }; shares = (0, pos 1) ∷ (1, pos 1) ∷ []; over = 1 })

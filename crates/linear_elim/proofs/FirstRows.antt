@@ -1,13 +1,12 @@
 -- The first rows.
-use Rattle.std.proofs.Common.{◌≡◌, ℕ, ◌+◌, ◌<◌, ◌≤◌, ◌^◌, List, [], ◌∷◌, length, drop, refl, sym, ap, ap₂, ◌∙◌, arith}
-use Rattle.std.specs.Prelude.{ℤ, pos, Option, Some, None}
+use Rattle.std.proofs.Common.{◌≡◌, ℕ, ◌+◌, ◌≤◌, List, [], ◌∷◌, length, drop, sym, ap, ap₂, ◌∙◌, arith}
+use Rattle.std.specs.Prelude.{Option, None}
 use borrow.Author.Differences.{ints}
-use Prim.Native.Nat.{zero, suc}
+use Prim.Native.Nat.{suc}
 use Rattle.std.specs.List.{All}
 use Rattle.std.proofs.lemmas.List.Elements.{All-nil, All-cons, All-head, All-tail}
 use Rattle.linear_form.specs.Terms.{IsNormal, IsOver}
 use Rattle.linear_form.specs.Row.{Row, IsRow}
-use Rattle.linear_form.specs.Solutions.{IsSolvable}
 use Rattle.linear_form.proofs.Between.{All-both}
 use Rattle.linear_form.proofs.Fractions.{solvable_is}
 use Rattle.linear_elim.specs.Joins.{Derived, IsDerived}

@@ -1,5 +1,5 @@
 -- The shares of the rows of an elimination stay below 2^62.
-use Rattle.std.proofs.Common.{◌≡◌, ℕ, ◌<◌, ◌^◌, List, [], ◌∷◌, sym, arith, Bool, true, ◌&&◌}
+use Rattle.std.proofs.Common.{◌≡◌, ℕ, ◌<◌, ◌^◌, List, [], ◌∷◌, sym, arith, true, ◌&&◌}
 use Rattle.std.specs.Prelude.{ℤ, pos, unsigned_abs}
 use Prim.Native.Nat.{suc}
 use Rattle.std.specs.List.{All}

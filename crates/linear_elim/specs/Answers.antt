@@ -1,5 +1,5 @@
 -- What each answer of the elimination says of the rows.
-use Rattle.std.specs.Prelude.{◌≡◌, ℕ, List, [], ◌∷◌, map, length, Bool, true, false, Some, None}
+use Rattle.std.specs.Prelude.{◌≡◌, ℕ, List, map, length, Some}
 use Rattle.std.specs.List.{All}
 use Rattle.heyvl_num.specs.Rational.{Rational}
 use Rattle.heylo_formula.specs.State.{environment, number_of}
@@ -11,7 +11,7 @@ use Rattle.linear_form.specs.RowLists.{IsNumericRow}
 use Rattle.linear_form.specs.Solutions.{MeetsAt, IsSolvable}
 use Rattle.linear_form.specs.Combination.{IsContradiction, IsWideThroughout}
 use Rattle.linear_form.specs.VariableOrder.{order_of}
-use Rattle.linear_form.specs.GreedyPoint.{Interval, End, Greedy, ChoosesFrom, IsGreedyPoint}
+use Rattle.linear_form.specs.GreedyPoint.{Interval, Greedy, ChoosesFrom, IsGreedyPoint}
 use Rattle.linear_elim.specs.Joins.{Derived}
 use Rattle.linear_elim.specs.ChoiceNumbers.{IsChoiceTooGreat}
 use Rattle.linear_elim.specs.Elimination as plain

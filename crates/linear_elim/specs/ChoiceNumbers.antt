@@ -1,5 +1,5 @@
 -- The numbers of the greedy choice, and when one of them is too great. The bound on numbers is this project's own.
-use Rattle.std.specs.Prelude.{◌≡◌, ℕ, List, [], ◌∷◌, ◌++◌, reverse, map, ℤ, pos, Bool, true, false, cond, eqb, not, Option, Some, None}
+use Rattle.std.specs.Prelude.{◌≡◌, ℕ, List, [], ◌∷◌, ◌++◌, reverse, map, ℤ, Bool, true, false, cond, eqb, not, Option, Some, None}
 use Rattle.std.specs.List.{list_any}
 use Rattle.heylo_formula.specs.declared.types.Ty.{Ty}
 use Rattle.heyvl_num.specs.Rational.{Rational}
@@ -9,7 +9,6 @@ use Rattle.linear_form.specs.Lin.{fits}
 use Rattle.linear_form.specs.Terms.{coefficient}
 use Rattle.linear_form.specs.Row.{Row}
 use Rattle.linear_form.specs.GreedyPoint.{Interval, IsIntervalOf, IsChoice, Greedy, Chooses, type_at, chosen_value}
-use Rattle.linear_elim.specs.Joins.{Derived}
 use Rattle.linear_elim.specs.Elimination.{Step}
 
 -- A sum, and a product that is added to it. None where there is none, or the sum doesn't fit.

@@ -5,4 +5,6 @@ pub mod Laws
 pub mod Outcomes
 pub mod Turns
 pub mod ChoiceNumbers
+pub mod ChoiceSteps
+pub mod Picks
 pub mod Answers

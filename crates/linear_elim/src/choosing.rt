@@ -1,18 +1,124 @@
 //! The greedy point of solvable rows, from the steps that eliminated their variables.
-ghost use Rattle.std.specs.Prelude.{◌<◌, ◌^◌, List, length, IfOk};
+ghost use Rattle.std.specs.Prelude.{◌≡◌, ◌<◌, ◌^◌, List, map, length, IfOk};
+ghost use Rattle.std.specs.List.{All};
+ghost use Rattle.heylo_formula.specs.declared.values.Val.TheVariants.{Num};
 ghost use Rattle.linear_form.specs.Row.{Row};
+ghost use Rattle.linear_form.specs.GreedyPoint.{type_at, value_for, IsStateOf};
+ghost use Rattle.linear_elim.specs.Picks.{IsNext, IsDerivedStep};
 ghost use Rattle.linear_elim.specs.Answers.{IsEliminated, IsAnswer};
 
-use crate::answers::Elim;
+use crate::answers::{Broken, Elim};
+use crate::ends::{End, Side, tightest, value_of};
+use crate::picking::{Pick, taken_between};
 use crate::steps::Step;
-use heylo_formula::Ty;
+use heylo_formula::{Ty, Val};
+use heyvl_num::Frac;
 use std::alloc::{AllocError, Global};
+
+/// The type of a variable, Bool beyond the list.
+fn type_of(vars: &[Ty], x: u32) -> Ty
+    ensures { result ≡ type_at vars.now x }
+{
+    match vars.get(x as usize) {
+        Some(ty) => *ty,
+        None => Ty::Bool,
+    }
+}
+
+/// What the variable of a step takes next, after these values.
+fn next_pick(step: &Step, chosen: &[(u32, Frac)], ty: Ty) -> Pick
+    requires { IsDerivedStep step.now }
+    ensures { IsNext step.now chosen.now ty result }
+{
+    let Ok(low) = tightest(Side::Low, &step.lows, step.var, chosen) else {
+        return Pick::Great;
+    };
+    let Ok(high) = tightest(Side::High, &step.ups, step.var, chosen) else {
+        return Pick::Great;
+    };
+    taken_between(&low, &high, ty)
+}
+
+/// The values as values of variables.
+fn numbers(alloc: Global, chosen: &[(u32, Frac)]) -> Result<Vec<(u32, Val)>, AllocError>
+    ensures { IfOk result (λ v. v.items ≡ map (λ c. (c.0, Num c.1)) chosen.now) }
+{
+    let mut out: Vec<(u32, Val)> = Vec::new(alloc);
+    for &(x, value) in chosen {
+        out.push((x, Val::Num(value)))?;
+    }
+    Ok(out)
+}
+
+/// Where the choice breaks.
+fn broken(
+    alloc: Global,
+    var: u32,
+    chosen: &[(u32, Frac)],
+    low: End,
+    high: End,
+) -> Result<Broken, AllocError>
+    ensures var { IfOk result (λ b. b.var ≡ var) }
+    ensures earlier { IfOk result (λ b. b.earlier.items ≡ map (λ c. (c.0, Num c.1)) chosen.now) }
+    ensures low { IfOk result (λ b. b.low ≡ low.place) }
+    ensures low_in { IfOk result (λ b. b.low_in ≡ low.inside) }
+    ensures high { IfOk result (λ b. b.high ≡ high.place) }
+    ensures high_in { IfOk result (λ b. b.high_in ≡ high.inside) }
+{
+    let earlier = numbers(alloc, chosen)?;
+    Ok(Broken {
+        var,
+        earlier,
+        low: low.place,
+        low_in: low.inside,
+        high: high.place,
+        high_in: high.inside,
+    })
+}
+
+fn value_as(ty: Ty, value: Frac) -> Val
+    ensures { result ≡ value_for ty value }
+{
+    match ty {
+        Ty::Bool => Val::Truth(false),
+        Ty::Int => Val::Num(value),
+        Ty::UInt => Val::Num(value),
+        Ty::UReal => Val::Num(value),
+    }
+}
+
+/// The values of all variables: 0 where none was chosen, and false for a Boolean.
+fn state(alloc: Global, vars: &[Ty], chosen: &[(u32, Frac)]) -> Result<Vec<Val>, AllocError>
+    requires { length vars.now < 2 ^ 32 }
+    ensures { IfOk result (λ p. IsStateOf vars.now chosen.now p.items) }
+{
+    let mut out: Vec<Val> = Vec::new(alloc);
+    for i in 0..vars.len() {
+        let ty = type_of(vars, i as u32);
+        out.push(value_as(ty, value_of(chosen, i as u32)))?;
+    }
+    Ok(out)
+}
 
 /// Chooses a value for each variable, from the last step on: the greedy point of the rows that stand after these steps; or the
 /// variable at which the choice breaks; or a number that is too great.
 pub fn greedy(alloc: Global, steps: &[Step], vars: &[Ty]) -> Result<Elim, AllocError>
+    requires derived { All IsDerivedStep steps.now }
     requires few_variables { length vars.now < 2 ^ 32 }
     ensures { IfOk result (λ e. (rows : List Row) → IsEliminated rows vars.now steps.now → IsAnswer rows vars.now e) }
 {
-    Err(AllocError)
+    let mut chosen: Vec<(u32, Frac)> = Vec::new(alloc);
+    let mut rest = steps;
+    while let Some((step, before)) = rest.split_last() {
+        match next_pick(step, &chosen, type_of(vars, step.var)) {
+            Pick::Value(value) => chosen.push((step.var, value))?,
+            Pick::Breaks(low, high) => {
+                let found = broken(alloc, step.var, &chosen, low, high)?;
+                return Ok(Elim::Fraction(found));
+            }
+            Pick::Great => return Ok(Elim::Bits),
+        }
+        rest = before;
+    }
+    Ok(Elim::Point(state(alloc, vars, &chosen)?))
 }

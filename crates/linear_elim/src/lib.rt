@@ -3,12 +3,17 @@
 
 mod answers;
 mod choosing;
+#[cfg(test)]
+mod choosing_tests;
 mod eliminating;
 mod elimination;
+mod ends;
+mod fractions;
 mod gathering;
 mod joins;
 mod laws;
 mod ordering;
+mod picking;
 #[cfg(test)]
 mod point_tests;
 mod refuting;

@@ -30,7 +30,7 @@ less_from {x} {y} n = record { holds = go (leqʳ y x) refl }
     go false e = e
 
 -- the point's fractions at the variables of the terms
-pub Same : (ℕ → Rational) → Point → List (ℕ × ℤ) → Type 0
+unfoldable pub Same : (ℕ → Rational) → Point → List (ℕ × ℤ) → Type 0
 Same f w ts = All (λ t. f t.0 ≡ ratio (w.top t.0) w.below) ts
 
 pub sum_is : (f : ℕ → Rational) (w : Point) (ts : List (ℕ × ℤ)) → Same f w ts → sum_of f ts ≡ ratio (sum_at w.top ts) w.below
@@ -73,11 +73,11 @@ pub meets_alike : (f : ℕ → Rational) (w : Point) (r : Row) → Same f w r.te
 meets_alike f w r h = (λ m. record { met = subst (IsBelowZero r.strict) (sym (value_is f w r h)) ((sign r.strict (left_side w r) w.below w.positive).0 m.met) }, λ m. record { met = (sign r.strict (left_side w r) w.below w.positive).1 (subst (IsBelowZero r.strict) (value_is f w r h) m.met) })
 
 -- a common denominator of some variables
-common_den : (ℕ → Rational) → List ℕ → ℕ
+pub common_den : (ℕ → Rational) → List ℕ → ℕ
 common_den f [] = 1
 common_den f (v ∷ vs) = (f v).den * common_den f vs
 
-common_den-positive : (f : ℕ → Rational) (vs : List ℕ) → 0 < common_den f vs
+pub common_den-positive : (f : ℕ → Rational) (vs : List ℕ) → 0 < common_den f vs
 unfolding common_den
 common_den-positive f [] = zero-lt-suc 0
 common_den-positive f (v ∷ vs) = mul-pos (f v).positive (common_den-positive f vs)
@@ -91,10 +91,10 @@ den_divides f v (x ∷ vs) e = go (eqb v x) refl e (den_divides f v vs)
     go true k e ih = subst (λ y. (f v).den ∣ ((f y).den * common_den f vs)) (eqb-true v x k) (dvd-mul_right (f v).den (common_den f vs))
     go false k e ih = dvd_trans (f v).den (ih e) (dvd-mul_left (common_den f vs) (f x).den)
 
-abbrev point_of : (ℕ → Rational) → List ℕ → Point
+abbrev pub point_of : (ℕ → Rational) → List ℕ → Point
 point_of f vs = record { below = common_den f vs; positive = common_den-positive f vs; top = λ v. (f v).num *ℤ pos (common_den f vs / (f v).den) }
 
-point_same : (f : ℕ → Rational) (vs : List ℕ) (v : ℕ) → is_in v vs ≡ true → f v ≡ ratio ((point_of f vs).top v) (point_of f vs).below
+pub point_same : (f : ℕ → Rational) (vs : List ℕ) (v : ℕ) → is_in v vs ≡ true → f v ≡ ratio ((point_of f vs).top v) (point_of f vs).below
 point_same f vs v e = sym (ratio_parts (f v)) ∙ ratio_same (f v).num (f v).den ((f v).num *ℤ pos (common_den f vs / (f v).den)) (common_den f vs) (f v).positive (common_den-positive f vs) (ap (λ n. (f v).num *ℤ pos n) (sym (div-mul_cancel (f v).den (den_divides f v vs e))) ∙ regroup (f v).num (pos (common_den f vs / (f v).den)) (pos (f v).den))
   where
     regroup : (a b c : ℤ) → a *ℤ (b *ℤ c) ≡ (a *ℤ b) *ℤ c

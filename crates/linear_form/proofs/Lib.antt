@@ -32,7 +32,7 @@ pub mod MetRows
 mod Runs
 mod PathEnds
 mod KeptValues
-mod Narrow
+pub mod Narrow
 mod KeptParts
 mod Products
 mod OperatorRuns

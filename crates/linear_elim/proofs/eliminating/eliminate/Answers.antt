@@ -1,7 +1,10 @@
-use Rattle.std.proofs.Common.{◌∙◌, sym, subst, arith}
+use Rattle.std.proofs.Common.{length, ◌∙◌, sym, subst, arith}
 use Rattle.std.specs.List.{All}
 use Rattle.linear_form.specs.Terms.{IsOver}
+use Rattle.linear_form.specs.VariableOrder.{order_of}
 use Rattle.linear_elim.specs.Answers.{IsEliminated}
+use Rattle.linear_elim.specs.Picks.{IsDerivedStep}
+use Rattle.linear_elim.proofs.StepRows.{standing_derived}
 use Rattle.linear_elim.proofs.Numbers.{ok_map}
 use Rattle.linear_elim.proofs.OrderedRows.{rows_over}
 use Rattle.linear_elim.proofs.Answering.{sum_too_great, settled, few_in, counted, in_order_of, stands_after}
@@ -31,6 +34,11 @@ overflow_cast-result-in-TooMany c =
     let h = counted c.args.rows.now c.args.vars.now _ _ (in_order_of c.args.rows.now c.args.vars.now _ _ (c.deref.ensures.value ∙ c.in_ok-order.ensures) e) c.requires.few c.requires.few_variables in
     let l = h.1 in
     omega (arith, l)
+
+pub greedy-requires-clause-derived : goal.greedy-requires-clause-derived
+greedy-requires-clause-derived c =
+    let e = rw c.in-Standing.is at c.in_ok-contradiction.ensures.plain in
+    subst (All IsDerivedStep) (sym c.deref-in-Standing.ensures.value) (standing_derived (order_of c.args.rows.now (length c.args.vars.now)) c.args.rows.now _ c.requires.rows (sym (in_order_of c.args.rows.now c.args.vars.now _ _ (c.deref.ensures.value ∙ c.in_ok-order.ensures) e)))
 
 pub returns-in-Standing-clause-answer : goal.returns-in-Standing-clause-answer
 returns-in-Standing-clause-answer c =
