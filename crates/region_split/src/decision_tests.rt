@@ -131,6 +131,28 @@ fn truths(alloc: Global, count: u32) -> Result<Goal, AllocError> {
     upper(alloc, stated, number(0, 1), &vars)
 }
 
+/// The sum of the truths of so many comparisons of whole numbers with 0 is at least 0.
+fn comparisons(alloc: Global, count: u32) -> Result<Goal, AllocError> {
+    let mut stated = number(0, 1);
+    let mut vars = Vec::new(alloc);
+    for x in 0..count {
+        let test = at_most(alloc, Form::Var(x), number(0, 1))?;
+        let truth = Form::Iverson(Box::new(alloc, test)?);
+        stated = sum(alloc, truth, stated)?;
+        vars.push(Ty::Int)?;
+    }
+    upper(alloc, stated, number(0, 1), &vars)
+}
+
+#[test]
+fn cells_of_comparisons(rt: HostRuntime) -> Result<(), Fail> {
+    let alloc = rt.alloc();
+    assert!(rt; is_proved(&decision_of(alloc, &comparisons(alloc, 3)?)?, 8));
+    let many = decision_of(alloc, &comparisons(alloc, 13)?)?;
+    assert!(rt; matches!(many, Some(Decision::Unknown(Cause::Cells(4097)))));
+    Ok(())
+}
+
 #[test]
 fn cells_of_booleans(rt: HostRuntime) -> Result<(), Fail> {
     let alloc = rt.alloc();
