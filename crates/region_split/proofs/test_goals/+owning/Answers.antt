@@ -1,4 +1,4 @@
-use Rattle.std.proofs.Common.{◌≡◌, ℕ, ◌<◌, ap, ◌∙◌, sym, subst, refl, Bool, true, false, ◌||◌, ◌⊎◌, inl, inr, Global}
+use Rattle.std.proofs.Common.{◌≡◌, ℕ, ◌<◌, ap, ◌∙◌, sym, refl, Bool, true, false, ◌||◌, ◌⊎◌, inl, inr, Global}
 use Rattle.std.specs.declared.boxed.Box.{Box}
 use Rattle.heylo_formula.specs.declared.forms.Form as F
 use Rattle.heylo_formula.specs.declared.forms.Cond as C

@@ -7,7 +7,6 @@ use Rattle.std.proofs.lemmas.Int.{to_z-of_z}
 use Rattle.heyvl_num.specs.Rational.{Rational, ratio, zeroʳ, leqʳ}
 use Rattle.heyvl_num.specs.Value.Value.{finite}
 use Rattle.heyvl_num.specs.Extended.{value_of}
-use Rattle.heyvl_num.specs.declared.extended.Ext.{Ext}
 use Rattle.heyvl_num.proofs.Integers.{*ℤ-one, zero_times}
 use Rattle.heyvl_num.proofs.Rationals.{ratio_parts, leq_ratio}
 use Rattle.heylo_formula.specs.Typing.{NumberType, only_if, is_unsigned, constant_type}
