@@ -1,15 +1,14 @@
 -- The cells of a walk are cells of the goal, and no two of them are the same.
-use Rattle.std.proofs.Common.{◌≡◌, ℕ, ◌+◌, List, [], ◌∷◌, ◌++◌, length, refl, sym, ap, ◌∙◌, subst, arith, length-append, Bool, true, false, ◌⊎◌, inl, inr}
+use Rattle.std.proofs.Common.{◌≡◌, List, [], ◌∷◌, ◌++◌, length, refl, sym, ap, ◌∙◌, subst, arith, length-append, Bool, true, false, ◌⊎◌, inl, inr}
 use Rattle.std.specs.Prelude.{Option}
 use Rattle.std.specs.List.{All}
 use Rattle.std.proofs.lemmas.List.Elements.{All-nil, All-cons, All-head, All-tail, All-append, All-push, All-weaker}
 use Rattle.heylo_formula.specs.Goals.{Goal}
 use Rattle.linear_form.specs.Query.{Atom, Taken, onto}
 use Rattle.linear_form.specs.Questions.{questions}
-use Rattle.linear_form.specs.Paths.{Path, IsPath}
+use Rattle.linear_form.specs.Paths.{Path}
 use Rattle.linear_form.specs.Cells.{IsDropped, IsFront, IsCell}
 use Rattle.linear_form.proofs.PathSteps.{path_onto}
-use Rattle.farkas_check.specs.Accepted.{Asks}
 use Rattle.region_split.specs.Walk.{AreCells}
 use Rattle.region_split.specs.Decisions.{AreDistinct, HasCells}
 use Rattle.region_split.specs.Seen.{GoesOn, IsEnd}

@@ -1,6 +1,5 @@
 -- What a walk has found, once there is another cell.
-use Rattle.std.proofs.Common.{◌≡◌, ℕ, List, [], ◌∷◌, ◌++◌, refl, sym, ap, ◌∙◌, subst, append_assoc, Bool, true, false, ◌⊎◌, inl, inr}
-use Rattle.std.specs.Prelude.{Option, Some, None}
+use Rattle.std.proofs.Common.{◌≡◌, List, [], ◌∷◌, ◌++◌, refl, sym, ap, ◌∙◌, subst, append_assoc, true, inl, inr}
 use Rattle.std.specs.List.{All}
 use Rattle.std.proofs.lemmas.List.Elements.{All-nil, All-cons, All-append, All-push, All-weaker}
 use Rattle.heylo_formula.specs.Goals.{Goal}
@@ -11,7 +10,7 @@ use Rattle.linear_form.specs.Solutions.{IsSolvable}
 use Rattle.linear_form.specs.Cells.{IsCell, IsFalseCell}
 use Rattle.linear_elim.specs.Answers.{numbers_of, ends_of}
 use Rattle.linear_elim.specs.declared.answers.Broken.{Broken}
-use Rattle.region_split.specs.Decisions.{with_truths, IsRefutedCell, IsPointOf, IsBreakOf, Breaks}
+use Rattle.region_split.specs.Decisions.{with_truths, IsPointOf, IsBreakOf, Breaks}
 use Rattle.region_split.specs.Seen.{IsPointAt, IsBreakAt}
 use Rattle.region_split.specs.Progress.{Holds, IsFirstPoint, IsFirstBreak, IsFound}
 use Rattle.region_split.specs.declared.found.Found.{Found}

@@ -1,18 +1,16 @@
 -- How a walk goes down to a question's first branch, and up from a finished one.
-use Rattle.std.proofs.Common.{◌≡◌, ℕ, ◌+◌, ◌<◌, ◌≤◌, List, [], ◌∷◌, ◌++◌, length, refl, sym, ap, ◌∙◌, subst, arith, append_assoc, Bool, true, false, ◌⊎◌, inl, inr}
-use Rattle.std.specs.Prelude.{Option, Some, None, if◌then◌else◌}
+use Rattle.std.proofs.Common.{◌≡◌, ◌+◌, ◌<◌, List, [], ◌∷◌, ◌++◌, refl, sym, ap, ◌∙◌, subst, arith, append_assoc, Bool, true, false}
+use Rattle.std.specs.Prelude.{Option, if◌then◌else◌}
 use Rattle.std.specs.List.{All}
-use Rattle.std.proofs.lemmas.List.Elements.{All-nil, All-cons, All-head, All-tail, All-append}
+use Rattle.std.proofs.lemmas.List.Elements.{All-nil, All-cons, All-head, All-tail}
 use Rattle.heylo_formula.specs.Goals.{Goal}
 use Rattle.linear_form.specs.Query.{Query, Atom, Taken, onto}
 use Rattle.linear_form.specs.Query.Query.{done, bits, ask}
-use Rattle.linear_form.specs.Questions.{Ends, questions}
-use Rattle.linear_form.specs.Paths.{Path, IsPath, walk, end_at}
-use Rattle.linear_form.specs.Cells.{IsDropped, IsFront, IsCell}
-use Rattle.linear_form.proofs.PathSteps.{path_onto}
+use Rattle.linear_form.specs.Questions.{questions}
+use Rattle.linear_form.specs.Paths.{walk, end_at}
 use Rattle.region_split.specs.Walk.{AreCells}
 use Rattle.region_split.specs.Seen.{GoesOn}
-use Rattle.region_split.specs.Progress.{Holds, IsBranch, IsBefore, IsAfter, IsNext, IsGrown, size, rest_of, left_of}
+use Rattle.region_split.specs.Progress.{Holds, IsBranch, IsBefore, IsAfter, IsGrown, size, rest_of, left_of}
 use Rattle.region_split.specs.declared.growth.Grown.{Grown}
 
 -- ---- A path and its last answer

@@ -1,12 +1,11 @@
 -- The trees of finished branches.
-use Rattle.std.proofs.Common.{◌≡◌, ℕ, ◌+◌, ◌<◌, ◌≤◌, max, List, [], ◌∷◌, ◌++◌, length, refl, sym, ap, ap₂, ◌∙◌, subst, arith, length-append, Vec, Global, Bool, true, false, ◌⊎◌, inl, inr}
+use Rattle.std.proofs.Common.{◌≡◌, ℕ, ◌+◌, ◌<◌, ◌≤◌, max, List, [], ◌∷◌, ◌++◌, refl, sym, ap, ◌∙◌, subst, arith, length-append, Vec, Global, Bool, true, false, inr}
 use Rattle.std.specs.Prelude.{Option, Some, None, is_some}
 use Rattle.std.proofs.lemmas.List.{append-nil}
-use Rattle.std.specs.List.{All}
 use Rattle.std.proofs.lemmas.List.Elements.{All-head}
 use Rattle.std.specs.declared.boxed.Box.{Box}
 use Rattle.heylo_formula.specs.Goals.{Goal}
-use Rattle.linear_form.specs.Query.{Query, Atom, Taken, onto}
+use Rattle.linear_form.specs.Query.{Atom, Taken, onto}
 use Rattle.linear_form.specs.Query.Query.{done}
 use Rattle.linear_form.specs.Questions.{Ends}
 use Rattle.linear_form.specs.Paths.{end_at}
@@ -20,11 +19,9 @@ use Rattle.farkas_check.specs.declared.trees.Tree as T
 use Rattle.farkas_check.specs.declared.trees.Tree.TheOpen.{Tree-F}
 use Rattle.farkas_check.specs.declared.trees.Tree.TheFolds.{fold-roll-Tree}
 use Rattle.region_split.specs.Walk.{AreCells, HasDepth}
-use Rattle.region_split.specs.Decisions.{IsRefutedCell}
 use Rattle.region_split.specs.Seen.{GoesOn, IsEnd, IsDroppedBy, IsRefutedAt}
-use Rattle.region_split.specs.Progress.{Holds, IsGrownTree, IsDeep, IsGrown, IsBranch, IsBefore, IsAfter, IsFound, IsWalk, IsFinishedWalk}
+use Rattle.region_split.specs.Progress.{Holds, IsGrownTree, IsDeep, IsGrown, IsBranch, IsAfter, IsFound, IsWalk, IsFinishedWalk}
 use Rattle.region_split.specs.declared.growth.Grown.{Grown}
-use Rattle.region_split.specs.declared.found.Found.{Found}
 use Rattle.region_split.specs.declared.walk.Walk.{Walk}
 use Rattle.region_split.proofs.CellsFound.{holds_not_false}
 

@@ -1,21 +1,20 @@
 -- What the rows of a path come to, and what stands at a path.
-use Rattle.std.proofs.Common.{◌≡◌, ◌↔◌, ℕ, List, Bool, true, false, refl, sym, ◌∙◌, ap, subst}
+use Rattle.std.proofs.Common.{◌≡◌, ℕ, List, Bool, true, false, refl, sym, ◌∙◌, ap, subst}
 use Rattle.std.specs.Prelude.{Option, Some, None, is_some}
-use Rattle.std.specs.List.{All}
 use Rattle.heylo_formula.specs.Goals.{Goal}
 use Rattle.heylo_formula.specs.State.{environment, number_of}
 use Rattle.heylo_formula.specs.declared.values.Val.{Val}
-use Rattle.linear_form.specs.Query.{Query, Atom, Taken}
+use Rattle.linear_form.specs.Query.{Query, Taken}
 use Rattle.linear_form.specs.Query.Query.{done, bits, ask}
 use Rattle.linear_form.specs.Questions.{Ends}
 use Rattle.linear_form.specs.Paths.{end_at}
-use Rattle.linear_form.specs.PathRows.{rows_of, denial, denial_at, IsPlainAt}
+use Rattle.linear_form.specs.PathRows.{rows_of, denial, denial_at}
 use Rattle.linear_form.specs.PlainPaths.{linear_of}
 use Rattle.linear_form.specs.Row.{Row}
 use Rattle.linear_form.specs.Seen.{Answers}
 use Rattle.linear_form.specs.Solutions.{IsSolvable}
 use Rattle.linear_form.specs.GreedyPoint.{IsGreedyPoint}
-use Rattle.linear_form.specs.Cells.{IsDropped, IsFront}
+use Rattle.linear_form.specs.Cells.{IsDropped}
 use Rattle.linear_form.specs.declared.asking.Ask as K
 use Rattle.linear_form.specs.declared.paths.Atom as A
 use Rattle.linear_form.specs.declared.lin.Lin as L
@@ -24,10 +23,9 @@ use Rattle.linear_form.proofs.Combinations.{contradiction_unsolvable}
 use Rattle.linear_elim.specs.Answers.{MeetsAll, IsTooGreat}
 use Rattle.linear_elim.specs.declared.answers.Broken.{Broken}
 use Rattle.linear_elim.specs.declared.answers.Cause.TheVariants.{Bits}
-use Rattle.farkas_check.specs.Trees.{Tree}
-use Rattle.farkas_check.specs.Accepted.{has_denied, IsRefuted, IsAccepted}
+use Rattle.farkas_check.specs.Accepted.{has_denied, IsAccepted}
 use Rattle.region_split.specs.Decisions.{IsLarge}
-use Rattle.region_split.specs.Seen.{IsRefutedAt, IsPointAt, IsBreakAt, EndsGoal, IsDroppedBy, GoesOn, IsEnd}
+use Rattle.region_split.specs.Seen.{IsRefutedAt, IsPointAt, IsBreakAt, EndsGoal, IsDroppedBy}
 
 -- ---- What the elimination answers
 

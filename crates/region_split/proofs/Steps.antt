@@ -11,9 +11,8 @@ use Rattle.linear_form.specs.Questions.{questions}
 use Rattle.linear_form.specs.Paths.{IsPath}
 use Rattle.linear_form.specs.PathRows.{IsPlainAt}
 use Rattle.linear_form.specs.PlainPaths.{path_of, taken_of, atom_of}
-use Rattle.linear_form.specs.Cells.{IsFront, IsCell, IsFalseCell}
+use Rattle.linear_form.specs.Cells.{IsFront, IsFalseCell}
 use Rattle.linear_form.specs.declared.paths.Taken as T
-use Rattle.linear_form.specs.declared.paths.Atom as A
 use Rattle.linear_elim.specs.declared.answers.Broken.{Broken}
 use Rattle.farkas_check.specs.declared.trees.Tree as F
 use Rattle.region_split.specs.Decisions.{HasCells}

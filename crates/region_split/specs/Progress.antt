@@ -1,6 +1,6 @@
 -- How far a walk has come: the cells before its path, the trees of the branches to the left, what the cells have shown, and how
 -- much is left.
-use Rattle.std.specs.Prelude.{◌≡◌, ◌⊎◌, ℕ, ◌+◌, ◌≤◌, ◌<◌, ◌^◌, List, [], ◌∷◌, ◌++◌, length, Bool, true, false, Option, Some, None, if◌then◌else◌}
+use Rattle.std.specs.Prelude.{◌≡◌, ◌⊎◌, ℕ, ◌+◌, ◌≤◌, ◌<◌, ◌^◌, List, [], ◌∷◌, ◌++◌, length, true, false, Option, Some, None, if◌then◌else◌}
 use Rattle.std.specs.List.{All}
 use Rattle.heylo_formula.specs.Goals.{Goal}
 use Rattle.heylo_formula.specs.declared.values.Val.{Val}

@@ -1,7 +1,7 @@
 use Rattle.std.proofs.Common.{◌∙◌, ap}
 use Rattle.linear_form.specs.PlainPaths.{path_of}
 use Rattle.region_split.specs.Decisions.{with_truths}
-use Rattle.region_split.proofs.CellsFound.{point_longer, first_point, point_after_break}
+use Rattle.region_split.proofs.CellsFound.{point_longer, point_after_break}
 use Rattle.region_split.proofs.found.with_point.Goals as goal
 
 pub returns-in-Break : goal.returns-in-Break
