@@ -5,6 +5,7 @@ mod answers;
 mod choosing;
 mod eliminating;
 mod elimination;
+mod fingerprints;
 mod gathering;
 mod joins;
 mod laws;
