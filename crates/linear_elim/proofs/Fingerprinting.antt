@@ -10,18 +10,18 @@ use Rattle.std.proofs.lemmas.Bool.{eqb-true, eqb-false}
 use Prim.Native.Nat.{zero, suc}
 use Rattle.linear_elim.specs.Joins.{Derived}
 use Rattle.linear_elim.specs.Steps.{same_terms, IsPlace}
-use Rattle.linear_elim.specs.Fingerprints.{mixed, mixed_all, fingerprint, first_with, ArePlaces}
+use Rattle.linear_elim.specs.Fingerprints.{hashed, hashed_all, fingerprint, first_with, ArePlaces}
 use Rattle.linear_elim.proofs.Tidying.{same_terms-is}
 use Rattle.linear_elim.proofs.Places.{strictly}
 use Rattle.linear_elim.proofs.Joining.{rest_end}
 
-pub one_more : (ts : List (ℕ × ℤ)) (i a : ℕ) (t : ℕ × ℤ) (h n f : ℕ) → drop i ts ≡ t ∷ drop (i + 1) ts → h ≡ mixed a t.0 → n ≡ mixed h (cast_unsigned w64 t.1) → mixed_all a (drop i ts) ≡ f → mixed_all n (drop (i + 1) ts) ≡ f
-unfolding mixed_all
-one_more ts i a t h n f e p q k = ap (λ m. mixed_all m (drop (i + 1) ts)) (q ∙ ap (λ m. mixed m (cast_unsigned w64 t.1)) p) ∙ ap (mixed_all a) (sym e) ∙ k
+pub one_more : (ts : List (ℕ × ℤ)) (i a : ℕ) (t : ℕ × ℤ) (h n f : ℕ) → drop i ts ≡ t ∷ drop (i + 1) ts → h ≡ hashed a t.0 → n ≡ hashed h (cast_unsigned w64 t.1) → hashed_all a (drop i ts) ≡ f → hashed_all n (drop (i + 1) ts) ≡ f
+unfolding hashed_all
+one_more ts i a t h n f e p q k = ap (λ m. hashed_all m (drop (i + 1) ts)) (q ∙ ap (λ m. hashed m (cast_unsigned w64 t.1)) p) ∙ ap (hashed_all a) (sym e) ∙ k
 
-pub all_mixed : (ts : List (ℕ × ℤ)) (i a : ℕ) → length ts ≤ i → mixed_all a (drop i ts) ≡ fingerprint ts → a ≡ fingerprint ts
-unfolding mixed_all
-all_mixed ts i a e h = ap (mixed_all a) (sym (rest_end ts i e)) ∙ h
+pub all_hashed : (ts : List (ℕ × ℤ)) (i a : ℕ) → length ts ≤ i → hashed_all a (drop i ts) ≡ fingerprint ts → a ≡ fingerprint ts
+unfolding hashed_all
+all_hashed ts i a e h = ap (hashed_all a) (sym (rest_end ts i e)) ∙ h
 
 -- ---- The first row with a fingerprint
 

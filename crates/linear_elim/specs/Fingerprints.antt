@@ -7,17 +7,17 @@ use Prim.Native.Nat.{suc}
 use Rattle.linear_elim.specs.declared.fingerprints.TheConstants.{MULTIPLIER}
 use Rattle.linear_elim.specs.Joins.{Derived}
 
--- A number once another is mixed into it.
-unfoldable pub mixed : ℕ → ℕ → ℕ
-mixed a x = ((a * MULTIPLIER) % 2 ^ 64 + x) % 2 ^ 64
+-- A number once another is hashed into it.
+unfoldable pub hashed : ℕ → ℕ → ℕ
+hashed a x = ((a * MULTIPLIER) % 2 ^ 64 + x) % 2 ^ 64
 
--- A number once each term's variable and coefficient are mixed into it, in order.
-unfoldable pub mixed_all : ℕ → List (ℕ × ℤ) → ℕ
-mixed_all a [] = a
-mixed_all a (t ∷ ts) = mixed_all (mixed (mixed a t.0) (cast_unsigned w64 t.1)) ts
+-- A number once each term's variable and coefficient are hashed into it, in order.
+unfoldable pub hashed_all : ℕ → List (ℕ × ℤ) → ℕ
+hashed_all a [] = a
+hashed_all a (t ∷ ts) = hashed_all (hashed (hashed a t.0) (cast_unsigned w64 t.1)) ts
 
 abbrev pub fingerprint : List (ℕ × ℤ) → ℕ
-fingerprint ts = mixed_all 0 ts
+fingerprint ts = hashed_all 0 ts
 
 -- The place of the first row with this fingerprint.
 unfoldable pub first_with : ℕ → List Derived → Option ℕ

@@ -1,13 +1,13 @@
 //! A number that rows with the same terms share, by which they are found among many.
 ghost use Rattle.std.specs.Prelude.{◌≡◌};
-ghost use Rattle.linear_elim.specs.Fingerprints.{mixed, fingerprint};
+ghost use Rattle.linear_elim.specs.Fingerprints.{hashed, fingerprint};
 
 /// An odd number whose bits look random: 2^64 over the golden ratio.
 const MULTIPLIER: u64 = 0x9e37_79b9_7f4a_7c15;
 
-/// A number once another is mixed into it.
-fn mixed(number: u64, next: u64) -> u64
-    ensures { result ≡ mixed number next }
+/// A number once another is hashed into it.
+fn hashed(number: u64, next: u64) -> u64
+    ensures { result ≡ hashed number next }
 {
     number.wrapping_mul(MULTIPLIER).wrapping_add(next)
 }
@@ -19,8 +19,8 @@ pub fn fingerprint(terms: &[(u32, i64)]) -> u64
     let mut number = 0;
     for i in 0..terms.len() {
         let (variable, coefficient) = terms[i];
-        let half = mixed(number, u64::from(variable));
-        number = mixed(half, coefficient.cast_unsigned());
+        let half = hashed(number, u64::from(variable));
+        number = hashed(half, coefficient.cast_unsigned());
     }
     number
 }

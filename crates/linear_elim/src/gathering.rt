@@ -86,8 +86,8 @@ fn place_in(places: &HashMap<u64, usize>, rows: &[Derived], r: &Derived) -> usiz
     ensures { IsPlace r.now rows.now result }
 {
     let row = &r.row;
-    let print = fingerprint(&row.terms);
-    match places.get(&print).copied() {
+    let key = fingerprint(&row.terms);
+    match places.get(&key).copied() {
         None => rows.len(),
         Some(place) => {
             if are_alike(&rows[place], r) {
@@ -110,9 +110,9 @@ fn push_row(
     ensures places { IfOk result (λ _. ArePlaces places.new rows.new.items) }
 {
     let row = &r.row;
-    let print = fingerprint(&row.terms);
-    if !places.contains_key(&print) {
-        places.insert(print, rows.len())?;
+    let key = fingerprint(&row.terms);
+    if !places.contains_key(&key) {
+        places.insert(key, rows.len())?;
     }
     rows.push(r)?;
     Ok(())
