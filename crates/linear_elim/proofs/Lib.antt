@@ -8,6 +8,7 @@ pub mod Certificates
 pub mod Numbers
 pub mod Places
 pub mod Joining
+pub mod Fingerprinting
 pub mod Splitting
 pub mod Keeping
 pub mod Finishing

@@ -1,5 +1,6 @@
 pub mod Joins
 pub mod Steps
+pub mod Fingerprints
 pub mod Elimination
 pub mod Laws
 pub mod Outcomes

@@ -32,7 +32,12 @@ pub fn eliminate_from(
     requires few { done + length order.now < 2 ^ 63 }
     ensures { IfOk result (λ o. outcome_of o ≡ after_all steps.items (run done order.now (gathering_of now))) }
 {
-    let Gathering { found, rows } = now;
+    let Gathering {
+        found,
+        rows,
+        places,
+    } = now;
+    drop(places);
     if let Some(contradiction) = found {
         return Ok(Outcome::Refuted(contradiction));
     }

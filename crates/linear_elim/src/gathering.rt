@@ -1,11 +1,14 @@
 //! The rules that keep the rows few.
-ghost use Rattle.std.specs.Prelude.{◌≡◌, ◌<◌, ◌≤◌, ◌++◌, ℕ, IfOk, length, not};
+ghost use Rattle.std.specs.Prelude.{◌≡◌, ◌<◌, ◌≤◌, ◌++◌, ◌∷◌, [], ℕ, IfOk, length, not};
 ghost use Rattle.linear_elim.specs.Steps.{same_terms, is_stronger, is_contradiction, has_terms, put_row, IsPlace};
+ghost use Rattle.linear_elim.specs.Fingerprints.{ArePlaces};
 ghost use Rattle.linear_elim.specs.Elimination.{found_after, rows_after};
 
+use crate::fingerprints::fingerprint;
 use crate::joins::Derived;
 use linear_form::Row;
 use std::alloc::{AllocError, Global};
+use std::collections::HashMap;
 
 /// Whether two rows have the same terms.
 fn have_same_terms(a: &[(u32, i64)], b: &[(u32, i64)]) -> bool
@@ -77,24 +80,70 @@ fn place_of(rows: &[Derived], r: &Derived) -> usize
     rows.len()
 }
 
-/// Puts a row among others: of two with equal coefficients the stronger stays, in the place of the first.
-fn put_row(rows: &mut Vec<Derived>, r: Derived) -> Result<(), AllocError>
-    ensures { IfOk result (λ _. rows.new.items ≡ put_row r rows.old.items) }
+/// The place of the first row with the same terms, or the number of rows, found by the row's fingerprint.
+fn place_in(places: &HashMap<u64, usize>, rows: &[Derived], r: &Derived) -> usize
+    requires { ArePlaces places.now rows.now }
+    ensures { IsPlace r.now rows.now result }
 {
-    let place = place_of(rows, &r);
+    let row = &r.row;
+    let key = fingerprint(&row.terms);
+    match places.get(&key).copied() {
+        None => rows.len(),
+        Some(place) => {
+            if are_alike(&rows[place], r) {
+                place
+            } else {
+                place_of(rows, r)
+            }
+        }
+    }
+}
+
+/// Puts a row last, and notes its place where no row before it has its fingerprint.
+fn push_row(
+    places: &mut HashMap<u64, usize>,
+    rows: &mut Vec<Derived>,
+    r: Derived,
+) -> Result<(), AllocError>
+    requires { ArePlaces places.old rows.old.items }
+    ensures rows { IfOk result (λ _. rows.new.items ≡ rows.old.items ++ r ∷ []) }
+    ensures places { IfOk result (λ _. ArePlaces places.new rows.new.items) }
+{
+    let row = &r.row;
+    let key = fingerprint(&row.terms);
+    if !places.contains_key(&key) {
+        places.insert(key, rows.len())?;
+    }
+    rows.push(r)?;
+    Ok(())
+}
+
+/// Puts a row among others: of two with equal coefficients the stronger stays, in the place of the first.
+fn put_row(
+    places: &mut HashMap<u64, usize>,
+    rows: &mut Vec<Derived>,
+    r: Derived,
+) -> Result<(), AllocError>
+    requires { ArePlaces places.old rows.old.items }
+    ensures rows { IfOk result (λ _. rows.new.items ≡ put_row r rows.old.items) }
+    ensures places { IfOk result (λ _. ArePlaces places.new rows.new.items) }
+{
+    let place = place_in(places, rows, &r);
     if place == rows.len() {
-        rows.push(r)?;
+        push_row(places, rows, r)?;
     } else if is_stronger_than(&r, &rows[place]) {
         rows[place] = r;
     }
     Ok(())
 }
 
-/// Rows that were put in, tidied, and the first contradiction among them.
+/// Rows that were put in, tidied, and the first contradiction among them. At the fingerprint of each row it has the place of the
+/// first row with it.
 #[derive(Drop)]
 pub struct Gathering {
     pub found: Option<Derived>,
     pub rows: Vec<Derived>,
+    pub(crate) places: HashMap<u64, usize>,
 }
 
 fn has_no_terms(r: &Derived) -> bool
@@ -105,17 +154,32 @@ fn has_no_terms(r: &Derived) -> bool
 }
 
 impl Gathering {
+    /// Nothing yet.
+    pub fn new(alloc: Global) -> Gathering
+        ensures found { result.found ≡ None }
+        ensures rows { result.rows.items ≡ [] }
+        ensures places { ArePlaces result.places result.rows.items }
+    {
+        Gathering {
+            found: None,
+            rows: Vec::new(alloc),
+            places: HashMap::new(alloc),
+        }
+    }
+
     /// Puts a row in.
     pub fn put(&mut self, r: Derived) -> Result<(), AllocError>
+        requires { ArePlaces self.old.places self.old.rows.items }
         ensures found { IfOk result (λ _. self.new.found ≡ found_after r self.old.found) }
         ensures rows { IfOk result (λ _. self.new.rows.items ≡ rows_after r self.old.rows.items) }
+        ensures places { IfOk result (λ _. ArePlaces self.new.places self.new.rows.items) }
     {
         if has_no_terms(&r) {
             if self.found.is_none() && contradicts(&r) {
                 self.found = Some(r);
             }
         } else {
-            put_row(&mut self.rows, r)?;
+            put_row(&mut self.places, &mut self.rows, r)?;
         }
         Ok(())
     }

@@ -9,6 +9,7 @@ mod eliminating;
 mod elimination;
 mod ends;
 mod fractions;
+mod fingerprints;
 mod gathering;
 mod joins;
 mod laws;

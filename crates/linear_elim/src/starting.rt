@@ -38,10 +38,7 @@ fn first_rows(alloc: Global, rows: &[Row]) -> Result<Gathering, AllocError>
     ensures found { IfOk result (λ g. g.found ≡ contradiction (start 0 rows.now)) }
     ensures rows { IfOk result (λ g. g.rows.items ≡ tidied (start 0 rows.now)) }
 {
-    let mut out = Gathering {
-        found: None,
-        rows: Vec::new(alloc),
-    };
+    let mut out = Gathering::new(alloc);
     for i in 0..rows.len() {
         let derived = own_row(alloc, i as u32, &rows[i])?;
         out.put(derived)?;

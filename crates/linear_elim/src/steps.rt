@@ -4,6 +4,7 @@ ghost use Rattle.std.specs.List.{All};
 ghost use Rattle.linear_form.specs.Terms.{coefficient};
 ghost use Rattle.linear_elim.specs.Joins.{IsDerived, is_negative, is_positive};
 ghost use Rattle.linear_elim.specs.Steps.{lowers, uppers, kept, fits_each, pairs_fit, joins, pairs, eliminate_one, step_fits, contradiction, tidied};
+ghost use Rattle.linear_elim.specs.Fingerprints.{ArePlaces};
 ghost use Rattle.linear_elim.specs.Elimination.{Step as StepValue, step_of, found_all, rows_all};
 
 use crate::gathering::Gathering;
@@ -37,11 +38,13 @@ fn join_each(
 ) -> Result<bool, AllocError>
     requires low_derived { IsDerived low.now }
     requires ups_derived { All IsDerived ups.now }
+    requires places { ArePlaces out.old.places out.old.rows.items }
     requires lower { is_negative (coefficient x low.now.row.terms) ≡ true }
     requires upper { All (λ u. is_positive (coefficient x u.row.terms) ≡ true) ups.now }
     ensures fits { IfOk result (λ b. b ≡ fits_each x low.now ups.now) }
     ensures found { IfOk result (λ b. b ≡ true → out.new.found ≡ found_all (joins x low.now ups.now) out.old.found) }
     ensures rows { IfOk result (λ b. b ≡ true → out.new.rows.items ≡ rows_all (joins x low.now ups.now) out.old.rows.items) }
+    ensures places { IfOk result (λ _. ArePlaces out.new.places out.new.rows.items) }
 {
     for up in ups {
         let Some(derived) = joined(alloc, low, up, x)? else {
@@ -63,6 +66,7 @@ fn join_all(
 ) -> Result<bool, AllocError>
     requires lows_derived { All IsDerived lows.now }
     requires ups_derived { All IsDerived ups.now }
+    requires places { ArePlaces out.old.places out.old.rows.items }
     requires lower { All (λ l. is_negative (coefficient x l.row.terms) ≡ true) lows.now }
     requires upper { All (λ u. is_positive (coefficient x u.row.terms) ≡ true) ups.now }
     ensures fits { IfOk result (λ b. b ≡ pairs_fit x lows.now ups.now) }
@@ -101,13 +105,11 @@ fn split_by(alloc: Global, rows: Vec<Derived>, x: u32) -> Result<Split, AllocErr
     ensures ups { IfOk result (λ p. p.ups.items ≡ uppers x rows.items) }
     ensures found { IfOk result (λ p. p.rest.found ≡ found_all (kept x rows.items) None) }
     ensures rest { IfOk result (λ p. p.rest.rows.items ≡ rows_all (kept x rows.items) []) }
+    ensures places { IfOk result (λ p. ArePlaces p.rest.places p.rest.rows.items) }
 {
     let mut lows: Vec<Derived> = Vec::new(alloc);
     let mut ups: Vec<Derived> = Vec::new(alloc);
-    let mut rest = Gathering {
-        found: None,
-        rows: Vec::new(alloc),
-    };
+    let mut rest = Gathering::new(alloc);
     for r in rows {
         let c = coefficient_in(&r, x);
         if c < 0 {

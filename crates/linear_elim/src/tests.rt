@@ -3,6 +3,7 @@ ghost use Rattle.std.specs.List.{All};
 ghost use Rattle.linear_form.specs.Row.{IsRow};
 
 use crate::Elim;
+use crate::fingerprints::fingerprint;
 use crate::test_rows::{Given, answer, at_most, found};
 use heylo_formula::Ty;
 use linear_form::Row;
@@ -108,6 +109,25 @@ fn equal_rows(rt: HostRuntime) -> Result<(), Fail> {
         (-1, 0, 0, 2, false),
     ];
     assert!(rt; is_refuted(alloc, &rows, &[Ty::Int], &[(0, 1), (2, 1)])?);
+    Ok(())
+}
+
+/// Rows with other terms and the same fingerprint are kept side by side: twice the factor of the fingerprints, and 1 more, is
+/// 4354685564936845355 modulo 2^64.
+#[test]
+fn rows_with_equal_fingerprints(rt: HostRuntime) -> Result<(), Fail> {
+    let alloc = rt.alloc();
+    let great = 4_354_685_564_936_845_355;
+    assert_eq!(rt; fingerprint(&[(0, great)]), fingerprint(&[(2, 1)]));
+    // z <= 0, great * x <= 0 twice, the second time with a greater constant, and 1 <= z
+    let rows = [
+        (0, 0, 1, 0, false),
+        (great, 0, 0, 0, false),
+        (great, 0, 0, 1, false),
+        (0, 0, -1, 1, false),
+    ];
+    let vars = [Ty::Int, Ty::Int, Ty::Int];
+    assert!(rt; is_refuted(alloc, &rows, &vars, &[(0, 1), (3, 1)])?);
     Ok(())
 }
 
