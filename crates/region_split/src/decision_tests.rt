@@ -1,6 +1,6 @@
 use crate::Decision;
 use crate::test_goals::decision_of;
-use farkas_check::Tree;
+use farkas_check::{Checked, Tree, check};
 use heylo_formula::{Cond, Form, Goal, Ty, Val};
 use heyvl_num::{Ext, Frac};
 use linear_elim::Cause;
@@ -284,5 +284,27 @@ fn dropped_ends(rt: HostRuntime) -> Result<(), Fail> {
     // the denied goal's row reaches the bound
     let goal = below_zero(alloc, number(1, 2147483647), number(1, 2305843009213693951))?;
     assert!(rt; is_bits(&decision_of(alloc, &goal)?));
+    Ok(())
+}
+
+/// Whether the goal is proved with a certificate that the checker accepts.
+fn is_certified(alloc: Global, goal: &Goal) -> Result<bool, AllocError> {
+    match decision_of(alloc, goal)? {
+        Some(Decision::Proved(Some(tree))) => {
+            Ok(matches!(check(alloc, goal, &tree)?, Checked::Yes))
+        }
+        _ => Ok(false),
+    }
+}
+
+#[test]
+fn certificates_are_accepted(rt: HostRuntime) -> Result<(), Fail> {
+    let alloc = rt.alloc();
+    assert!(rt; is_certified(alloc, &truths(alloc, 3)?)?);
+    assert!(rt; is_certified(alloc, &comparisons(alloc, 3)?)?);
+    let dropped = below_zero(alloc, number(0, 1), number(1, 1))?;
+    assert!(rt; is_certified(alloc, &dropped)?);
+    let plain = upper(alloc, infinity(), Form::Var(0), &[Ty::UReal])?;
+    assert!(rt; is_certified(alloc, &plain)?);
     Ok(())
 }
