@@ -14,7 +14,7 @@ use Rattle.heylo_formula.specs.declared.values.Val.{Val}
 use Rattle.linear_form.specs.TypedGoals.{IsTypedGoal}
 use Rattle.heylo_formula.specs.Choices.{Choices, left, right}
 use Rattle.heylo_formula.specs.Meaning.{value, holds}
-use Rattle.heylo_formula.specs.Typing.{NumberType, Types, type_of, is_well_typed, joined, is_finite_type, is_unsigned, only_if}
+use Rattle.heylo_formula.specs.Typing.{HasTypes, NumberType, Types, type_of, is_well_typed, joined, is_finite_type, is_unsigned, only_if}
 use Rattle.heylo_formula.specs.Goals.{Goal}
 use Rattle.linear_form.specs.Lin.{Lin, Terms, constant, variable, plus, minus, scaled, is_sized, at, total}
 use Rattle.linear_form.specs.Query.{Query, Atom, next, Taken, is_negative, holds_at, once}
@@ -23,7 +23,7 @@ use Rattle.linear_form.specs.Questions as q
 use Rattle.linear_form.specs.Questions.{Linear, value_in, sized, asked, is_below, evaluate, test, both, with, questions}
 use Rattle.linear_form.proofs.LinearValues.{plus_at, minus_at, scaled_at, variable_at, at_most_at, below_at}
 use Rattle.linear_form.proofs.QueryTrees.{Ends, ends_then, ends_once}
-use Rattle.linear_form.proofs.TypedValues.{IsTypedEnv, typed_environment, Fits, infinite_ok, negative_ok, Parts, parts, allowed, only, Unsigned, unsigned, difference_joined, scale_joined, value_fits}
+use Rattle.linear_form.proofs.TypedValues.{typed_environment, Fits, infinite_ok, negative_ok, Parts, parts, allowed, only, Unsigned, unsigned, difference_joined, scale_joined, value_fits}
 
 abbrev pub Is : Env → Value → Linear → Type 0
 Is s w x = value_in x s ≡ w
@@ -265,7 +265,7 @@ compatible p q t h u v fu fv = let a = allowed p q t h in record {
 -- ---- Forms and conditions
 
 mutual
-  pub value_is : (types : Types) (s : Env) → IsTypedEnv types s → (f : Form) (t : NumberType) (c : Choices) → type_of types f ≡ Some t → Ends (evaluate f) s (Is s (value f s c))
+  pub value_is : (types : Types) (s : Env) → HasTypes types s → (f : Form) (t : NumberType) (c : Choices) → type_of types f ≡ Some t → Ends (evaluate f) s (Is s (value f s c))
   value_is types s h (Form.number v) t c e = sized_ends (q.number v) s v (number_is v s)
   value_is types s h (Form.variable x) t c e = ap finite (variable_at x s)
   value_is types s h (Form.sum a b) t c e = let p = parts _ _ t e in two (evaluate a) (evaluate b) q.sum s _ _ (λ u v. Is s (u +ᵛ v)) (value_is types s h a p.left (left c) p.left_is) (value_is types s h b p.right (right c) p.right_is) (λ x y. sum_ends x y s)
@@ -284,7 +284,7 @@ mutual
   value_is types s h (Form.select g a b) t c e = let o = only _ _ t e in let p = parts _ _ t o.1 in after (test g) _ s _ _ (truth_is types s h g (left c) o.0) (select_ends (holds g s (left c)) (evaluate a) (evaluate b) s _ _ (value_is types s h a p.left (right c) p.left_is) (value_is types s h b p.right (right c) p.right_is))
   value_is types s h (Form.bind up x name ty a) t c e = tt
 
-  pub truth_is : (types : Types) (s : Env) → IsTypedEnv types s → (g : Cond) (c : Choices) → is_well_typed types g ≡ true → Ends (test g) s (λ t. t ≡ holds g s c)
+  pub truth_is : (types : Types) (s : Env) → HasTypes types s → (g : Cond) (c : Choices) → is_well_typed types g ≡ true → Ends (test g) s (λ t. t ≡ holds g s c)
   truth_is types s h (Cond.constant b) c e = refl
   truth_is types s h (Cond.flag x) c e = (λ e. sym e, λ e. sym e)
   truth_is types s h (Cond.not g) c e = after (test g) _ s _ _ (truth_is types s h g c e) refl

@@ -10,7 +10,7 @@ use Rattle.heylo_formula.specs.Goals.{Goal, Compares, HoldsIn}
 use Rattle.heylo_formula.specs.State.{Env, IsTyped, environment, number_of, truth_of, has}
 use Rattle.heylo_formula.specs.Choices.{Choices}
 use Rattle.heylo_formula.specs.Meaning.{value}
-use Rattle.heylo_formula.specs.Typing.{Types}
+use Rattle.heylo_formula.specs.Typing.{HasTypes, Types}
 use Rattle.heylo_formula.specs.declared.types.Ty.{Ty}
 use Rattle.heylo_formula.specs.declared.values.Val.{Val}
 use Rattle.heylo_formula.specs.declared.values.Val.TheVariants.{Truth, Num}
@@ -24,7 +24,7 @@ use Rattle.linear_form.specs.Tightening.{Claim}
 use Rattle.linear_form.specs.ClaimLaws.{IsClaimed, AllClaimed}
 use Rattle.linear_form.specs.PathRows.{claim, negated, answer_claims, path_claims, below_claim, denial, listed, denial_at, is_unsigned_type, occurs_in_claims, sign_claims, with_signs, claims_of}
 use Rattle.linear_form.proofs.LinearValues.{scaled_at, constant_at, variable_at, minus_one_times, leq_zero_minus, leq_minus, below_at}
-use Rattle.linear_form.proofs.TypedValues.{IsTypedEnv, typed_environment}
+use Rattle.linear_form.proofs.TypedValues.{typed_environment}
 use Rattle.linear_form.proofs.AgreedEnds.{ends_are_values}
 use Rattle.heyvl_num.proofs.Rationals.{zero-+ʳ}
 
@@ -106,7 +106,7 @@ unsigned_value Ty.UReal (Num x) e h = h
 sign_claimed : (types : Types) (s : Env) (x : ℕ) → has (types x) (s x) ≡ true → is_unsigned_type (types x) ≡ true → IsClaimed s (claim (negated (variable x)) false)
 sign_claimed types s x h e = record { claimed = ap (λ y. leqʳ y zeroʳ) (negated_at (variable x) s) ∙ leq_minus zeroʳ (at (variable x) s) ∙ ap (λ y. leqʳ zeroʳ y) (variable_at x s) ∙ unsigned_value (types x) (s x) e h }
 
-signs_claimed : (types : Types) (s : Env) (ks : List Claim) (n : ℕ) → IsTypedEnv types s → AllClaimed s (sign_claims types ks n)
+signs_claimed : (types : Types) (s : Env) (ks : List Claim) (n : ℕ) → HasTypes types s → AllClaimed s (sign_claims types ks n)
 signs_claimed types s ks zero h = tt
 signs_claimed types s ks (suc n) h = claimed_append s (sign_claims types ks n) _ (signs_claimed types s ks n h) (go (is_unsigned_type (types n)) refl (occurs_in_claims n ks))
   where

@@ -17,7 +17,7 @@ use Rattle.heyvl_num.proofs.Rationals.{ratio_parts, ratio_den, ratio_same, ratio
 use Rattle.heyvl_num.proofs.Roundings.{floor-is, ceil-is}
 use Rattle.heyvl_num.proofs.Signs.{≤ʳ-+ʳ_cancel}
 use Rattle.heylo_formula.specs.State.{Env, number_of, has}
-use Rattle.heylo_formula.specs.Typing.{Types}
+use Rattle.heylo_formula.specs.Typing.{HasTypes, Types}
 use Rattle.heylo_formula.specs.declared.types.Ty.{Ty}
 use Rattle.heylo_formula.specs.declared.values.Val.{Val}
 use Rattle.heylo_formula.specs.declared.values.Val.TheVariants.{Truth, Num}
@@ -29,7 +29,6 @@ use Rattle.linear_form.specs.PathRows.{with_row, all_tightened}
 use Rattle.linear_form.specs.Row.{Row}
 use Rattle.std.specs.List.{All}
 use Rattle.std.proofs.lemmas.List.Elements.{All-nil, All-cons}
-use Rattle.linear_form.proofs.TypedValues.{IsTypedEnv}
 use Rattle.linear_form.specs.Tightening.{Claim, sign_of, rounded, are_whole, is_whole_type, tight_row, tightened, all_narrow, constant_fits, common_multiple, common_divisor, factor, whole_terms, AreWholeTimes}
 
 -- ---- Whole numbers among the fractions
@@ -258,7 +257,7 @@ and_second : (a b : Bool) → (a && b) ≡ true → b ≡ true
 and_second true b e = e
 and_second false b e = absurd (cc)
 
-sum_whole : (types : Types) (s : Env) (w : Rational) (ts : Terms) → IsTypedEnv types s → are_whole types ts ≡ true → WholeSum s (whole_terms w ts)
+sum_whole : (types : Types) (s : Env) (w : Rational) (ts : Terms) → HasTypes types s → are_whole types ts ≡ true → WholeSum s (whole_terms w ts)
 unfolding sum_of
 sum_whole types s w [] t e = record { sum = pos 0; is = sym whole_zero }
 sum_whole types s w (x ∷ ts) t e = let r = sum_whole types s w ts t (and_second _ _ e) in record {
@@ -317,7 +316,7 @@ sign_met c strict e = go c.num refl strict e
 
 -- ---- Each row
 
-row_met : (types : Types) (s : Env) (ts : Terms) (c : Rational) (strict : Bool) → IsTypedEnv types s → AreNonzero ts → is_negative (total ts s +ʳ c) strict ≡ true → MeetsAt (numbers s) (tight_row types ts c strict)
+row_met : (types : Types) (s : Env) (ts : Terms) (c : Rational) (strict : Bool) → HasTypes types s → AreNonzero ts → is_negative (total ts s +ʳ c) strict ≡ true → MeetsAt (numbers s) (tight_row types ts c strict)
 unfolding sum_of
 row_met types s [] c strict t n e = record { met = sign_met c strict (ap (λ x. is_negative x strict) (sym (zero-+ʳ c)) ∙ e) }
 row_met types s (x ∷ ts) c strict t n e = go (are_whole types (x ∷ ts)) refl
@@ -330,16 +329,16 @@ pub taken_row : (b : Bool) (r q : Row) → cond b (Some r) None ≡ Some q → r
 taken_row true r q e = cc
 taken_row false r q e = absurd (cc)
 
-tightened_met : (types : Types) (s : Env) (k : Claim) (r : Row) → IsTypedEnv types s → AreNonzero k.left.terms → IsClaimed s k → tightened types k ≡ Some r → MeetsAt (numbers s) r
+tightened_met : (types : Types) (s : Env) (k : Claim) (r : Row) → HasTypes types s → AreNonzero k.left.terms → IsClaimed s k → tightened types k ≡ Some r → MeetsAt (numbers s) r
 unfolding tightened
 tightened_met types s k r t n h e = subst (MeetsAt (numbers s)) (taken_row _ (tight_row types k.left.terms k.left.rest k.strict) r e) (row_met types s k.left.terms k.left.rest k.strict t n h.claimed)
 
 -- The rows of claims that hold are met.
-pub rows_met : (types : Types) (s : Env) (ks : List Claim) (rows : List Row) → IsTypedEnv types s → AllNonzero ks → AllClaimed s ks → all_tightened types ks ≡ Some rows → All (MeetsAt (numbers s)) rows
+pub rows_met : (types : Types) (s : Env) (ks : List Claim) (rows : List Row) → HasTypes types s → AllNonzero ks → AllClaimed s ks → all_tightened types ks ≡ Some rows → All (MeetsAt (numbers s)) rows
 rows_met types s [] rows t n h e = let k : [] ≡ rows = cc in subst (All (MeetsAt (numbers s))) k (All-nil _)
 rows_met types s (k ∷ ks) rows t n h e = go (tightened types k) refl (all_tightened types ks) refl e (rows_met types s ks)
   where
-    go : (o : Option Row) → tightened types k ≡ o → (p : Option (List Row)) → all_tightened types ks ≡ p → with_row o p ≡ Some rows → ((qs : List Row) → IsTypedEnv types s → AllNonzero ks → AllClaimed s ks → all_tightened types ks ≡ Some qs → All (MeetsAt (numbers s)) qs) → All (MeetsAt (numbers s)) rows
+    go : (o : Option Row) → tightened types k ≡ o → (p : Option (List Row)) → all_tightened types ks ≡ p → with_row o p ≡ Some rows → ((qs : List Row) → HasTypes types s → AllNonzero ks → AllClaimed s ks → all_tightened types ks ≡ Some qs → All (MeetsAt (numbers s)) qs) → All (MeetsAt (numbers s)) rows
     go (Some r) a (Some qs) b e ih = let i : (r ∷ qs) ≡ rows = cc in subst (All (MeetsAt (numbers s))) i (All-cons (MeetsAt (numbers s)) r qs (tightened_met types s k r t n.0 h.0 a) (ih qs t n.1 h.1 b))
     go (Some r) a None b e ih = absurd (cc)
     go None a (Some qs) b e ih = absurd (cc)

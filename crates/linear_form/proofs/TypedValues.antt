@@ -14,15 +14,11 @@ use Rattle.heylo_formula.specs.Operators.{differenceᵛ, validateᵛ, covalidate
 use Rattle.heylo_formula.specs.State.{Env, environment, IsTyped, has, fit, default, put, number_of}
 use Rattle.heylo_formula.specs.Choices.{Choices, here, left, right}
 use Rattle.heylo_formula.specs.Meaning.{value, holds}
-use Rattle.heylo_formula.specs.Typing.{NumberType, Types, retyped, number_type, join, joined, is_finite_type, is_unsigned, only_if, constant_type, difference_type, cut_type, scale_type, type_of, is_well_typed}
+use Rattle.heylo_formula.specs.Typing.{HasTypes, NumberType, Types, retyped, number_type, join, joined, is_finite_type, is_unsigned, only_if, constant_type, difference_type, cut_type, scale_type, type_of, is_well_typed}
 use Rattle.heylo_formula.specs.declared.types.Ty.{Ty}
 use Rattle.heylo_formula.specs.declared.values.Val.{Val}
 use Rattle.heylo_formula.specs.declared.values.Val.TheVariants.{Truth, Num}
 use Rattle.linear_form.specs.TypedGoals.{types_in}
-
--- Each variable has a value of its type.
-pub record IsTypedEnv (types : Types) (s : Env) : Type 0 where
-  pub typed : (x : ℕ) → has (types x) (s x) ≡ true
 
 typed_list : (tys : List Ty) (s : List Val) (x : ℕ) → IsTyped tys s → has (types_in tys x) (environment s x) ≡ true
 typed_list [] s x h = ap (λ l. has Ty.Bool (get_or l x (Truth false))) h
@@ -30,7 +26,7 @@ typed_list (ty ∷ tys) [] x h = absurd h
 typed_list (ty ∷ tys) (v ∷ s) zero h = h.0
 typed_list (ty ∷ tys) (v ∷ s) (suc x) h = typed_list tys s x h.1
 
-pub typed_environment : (tys : List Ty) (s : List Val) → IsTyped tys s → IsTypedEnv (types_in tys) (environment s)
+pub typed_environment : (tys : List Ty) (s : List Val) → IsTyped tys s → HasTypes (types_in tys) (environment s)
 typed_environment tys s h = record { typed = λ x. typed_list tys s x h }
 
 default_has : (ty : Ty) → has ty (default ty) ≡ true
@@ -47,7 +43,7 @@ fit_has ty v = go (has ty v) refl
     go true e = e
     go false e = default_has ty
 
-pub put_typed : (types : Types) (s : Env) (x : ℕ) (ty : Ty) (v : Val) → IsTypedEnv types s → IsTypedEnv (retyped x ty types) (put x (fit ty v) s)
+pub put_typed : (types : Types) (s : Env) (x : ℕ) (ty : Ty) (v : Val) → HasTypes types s → HasTypes (retyped x ty types) (put x (fit ty v) s)
 put_typed types s x ty v h = record { typed = λ y. go y (x == y) }
   where
     go : (y : ℕ) (b : Bool) → has (cond b ty (types y)) (cond b (fit ty v) (s y)) ≡ true
@@ -267,7 +263,7 @@ variable_fits Ty.UReal (Num x) t h e = record { finite = λ f. refl; nonnegative
 
 -- ---- Forms
 
-pub value_fits : (types : Types) (s : Env) → IsTypedEnv types s → (f : Form) (t : NumberType) (c : Choices) → type_of types f ≡ Some t → Fits t (value f s c)
+pub value_fits : (types : Types) (s : Env) → HasTypes types s → (f : Form) (t : NumberType) (c : Choices) → type_of types f ≡ Some t → Fits t (value f s c)
 value_fits types s h (Form.number (finite x)) t c e = number_fits x t e
 value_fits types s h (Form.number infinite) t c e = above t infinite (a_formula t e) (≤ᵛ_infinite zeroᵛ)
 value_fits types s h (Form.variable x) t c e = variable_fits (types x) (s x) t (h.typed x) e
