@@ -27,10 +27,4 @@ mod tests;
 
 pub use answers::{Broken, Cause, Elim};
 pub use eliminating::eliminate;
-pub use elimination::{Outcome, eliminate_from};
-pub use gathering::Gathering;
-pub use joins::{Derived, joined};
 pub use laws::elimination_decides;
-pub use ordering::elimination_order;
-pub use starting::contradiction_or_steps;
-pub use steps::{Step, eliminate_one};
