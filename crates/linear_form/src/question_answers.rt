@@ -31,6 +31,7 @@ pub enum Shown {
     Other,
 }
 
+/// A whole number; infinity where it is the least i128.
 pub fn number(alloc: Global, n: i128) -> Result<Box<Form>, AllocError> {
     let value = match Frac::new(n, 1) {
         Some(x) => Ext::Fin(x),
@@ -39,6 +40,7 @@ pub fn number(alloc: Global, n: i128) -> Result<Box<Form>, AllocError> {
     Ok(Box::new(alloc, Form::Const(value))?)
 }
 
+/// Infinity.
 pub fn infinity(alloc: Global) -> Result<Box<Form>, AllocError> {
     Ok(Box::new(alloc, Form::Const(Ext::Inf))?)
 }
