@@ -12,5 +12,6 @@ pub mod Goals
 pub mod TypedGoals
 pub mod Extrema
 pub mod Substitution
+pub mod Shifted
 pub mod Laws
 pub mod ExtremaLaws
