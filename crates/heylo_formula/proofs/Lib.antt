@@ -12,3 +12,4 @@ mod Examples
 pub mod SubstitutionTypes
 pub mod SubstitutionBinders
 pub mod OneMeaning
+pub mod exported

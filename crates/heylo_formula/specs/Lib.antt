@@ -15,3 +15,4 @@ pub mod Substitution
 pub mod Shifted
 pub mod Laws
 pub mod ExtremaLaws
+pub mod ShiftLaws

@@ -3,6 +3,7 @@
 
 ghost use Rattle.heylo_formula.specs.Laws as law;
 ghost use Rattle.heylo_formula.specs.ExtremaLaws as typed;
+ghost use Rattle.heylo_formula.specs.ShiftLaws as shift;
 
 /// A value depends on the free variables alone, and on choices only where there is a binder.
 pub fn what_values_depend_on()
@@ -52,4 +53,22 @@ pub fn bounds_hold_by_choices()
 pub fn substitution_keeps_binders()
     ensures binders { typed.SubstitutionKeepsBinders }
     ensures directions { typed.SubstitutionKeepsDirections }
+{}
+
+/// A formula whose variables are numbered anew has the value and the type that it has without the first variables; its
+/// binders, nodes and depth stay, and each of its free variables is that many further on.
+pub fn shifting_moves_the_state()
+    ensures value { shift.ShiftingMovesTheState }
+    ensures truth { shift.ShiftingMovesTheStateOfTruth }
+    ensures types { shift.ShiftingMovesTypes }
+    ensures conditions { shift.ShiftingMovesTypesOfConditions }
+    ensures binders { shift.ShiftingKeepsBinders }
+    ensures directions { shift.ShiftingKeepsDirections }
+    ensures sizes { shift.ShiftingKeepsSizes }
+    ensures variables { shift.ShiftingMovesFreeVariables }
+    ensures none_below { shift.NoneBelowTheShift }
+    ensures over { shift.ShiftedIsOver }
+    ensures extent { shift.ExtentIsLeast }
+    ensures extent_of_free { shift.ExtentOfFreeVariables }
+    ensures extent_of_conditions { shift.ExtentOfConditions }
 {}
