@@ -16,3 +16,6 @@ pub mod Shifted
 pub mod Laws
 pub mod ExtremaLaws
 pub mod ShiftLaws
+pub mod TermLaws
+pub mod AgreementLaws
+pub mod StateLaws

@@ -4,6 +4,9 @@
 ghost use Rattle.heylo_formula.specs.Laws as law;
 ghost use Rattle.heylo_formula.specs.ExtremaLaws as typed;
 ghost use Rattle.heylo_formula.specs.ShiftLaws as shift;
+ghost use Rattle.heylo_formula.specs.TermLaws as term;
+ghost use Rattle.heylo_formula.specs.AgreementLaws as agreement;
+ghost use Rattle.heylo_formula.specs.StateLaws as state;
 
 /// A value depends on the free variables alone, and on choices only where there is a binder.
 pub fn what_values_depend_on()
@@ -71,4 +74,42 @@ pub fn shifting_moves_the_state()
     ensures extent { shift.ExtentIsLeast }
     ensures extent_of_free { shift.ExtentOfFreeVariables }
     ensures extent_of_conditions { shift.ExtentOfConditions }
+{}
+
+/// Forms of Int and UInt have whole values; what fits a type has no binder and a value of that type.
+pub fn terms_have_values_of_their_types()
+    ensures whole { term.WholeTypesAreWhole }
+    ensures typed { term.TermsHaveValuesOfTheirTypes }
+    ensures binders { term.FiniteTypesHaveNoBinder }
+    ensures binders_of_conditions { term.TypedConditionsHaveNoBinder }
+    ensures plain { term.TermsThatFitArePlain }
+    ensures fit { term.FitIsTyped }
+    ensures fit_keeps { term.FitKeeps }
+    ensures joins { term.JoinsOfUnsigned }
+{}
+
+/// The value and the type of a form depend on its free variables alone.
+pub fn what_free_variables_decide()
+    ensures value { agreement.ValuesDependOnFree }
+    ensures truth { agreement.TruthDependsOnFree }
+    ensures types { agreement.TypesDependOnFree }
+    ensures conditions { agreement.ConditionsDependOnFree }
+{}
+
+/// Typed lists of values are typed environments, and their changes are changes of these.
+pub fn lists_are_environments()
+    ensures length { state.TypedListsHaveAllValues }
+    ensures typed { state.TypedListsAreTypedEnvironments }
+    ensures changed { state.ChangedListsAreChangedEnvironments }
+    ensures lists_stay_typed { state.ChangesKeepTypedLists }
+    ensures stays_typed { state.ChangesKeepTypes }
+    ensures appended { state.TypedListsAppend }
+    ensures first { state.FirstOfTwoLists }
+    ensures second { state.SecondOfTwoLists }
+    ensures first_types { state.TypesOfTheFirst }
+    ensures second_types { state.TypesOfTheSecond }
+    ensures listed { state.FirstValuesAreValues }
+    ensures listed_typed { state.FirstValuesAreTyped }
+    ensures commute { state.ChangesCommute }
+    ensures later { state.LaterChangesCount }
 {}
