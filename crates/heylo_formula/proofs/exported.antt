@@ -4,3 +4,6 @@ pub mod Plain
 pub mod TypedTerms
 pub mod States
 pub mod Agreement
+pub mod Growth
+pub mod BinderNames
+pub mod Substitutions

@@ -19,3 +19,5 @@ pub mod ShiftLaws
 pub mod TermLaws
 pub mod AgreementLaws
 pub mod StateLaws
+pub mod BinderNames
+pub mod SubstitutionLaws

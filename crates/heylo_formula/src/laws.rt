@@ -7,6 +7,7 @@ ghost use Rattle.heylo_formula.specs.ShiftLaws as shift;
 ghost use Rattle.heylo_formula.specs.TermLaws as term;
 ghost use Rattle.heylo_formula.specs.AgreementLaws as agreement;
 ghost use Rattle.heylo_formula.specs.StateLaws as state;
+ghost use Rattle.heylo_formula.specs.SubstitutionLaws as put;
 
 /// A value depends on the free variables alone, and on choices only where there is a binder.
 pub fn what_values_depend_on()
@@ -112,4 +113,27 @@ pub fn lists_are_environments()
     ensures listed_typed { state.FirstValuesAreTyped }
     ensures commute { state.ChangesCommute }
     ensures later { state.LaterChangesCount }
+{}
+
+/// What a renaming keeps beside the value.
+pub fn what_renaming_keeps()
+    ensures types { put.RenamingKeepsTypes }
+    ensures conditions { put.RenamingKeepsConditions }
+    ensures sizes { put.RenamingKeepsSizes }
+    ensures binders { put.RenamingKeepsBinders }
+    ensures directions { put.RenamingKeepsDirections }
+    ensures variables { put.FreeInRenamed }
+{}
+
+/// Where the free variables of a substitution's result come from, and how large the result is.
+pub fn what_substitution_gives()
+    ensures variables { put.FreeInSubstitution }
+    ensures over { put.SubstitutionIsOver }
+    ensures others { put.SubstitutionOfOthers }
+    ensures others_in_conditions { put.SubstitutionOfOthersInConditions }
+    ensures grows { put.SubstitutionGrows }
+    ensures counts { put.SubstitutionCounts }
+    ensures counts_in_conditions { put.SubstitutionCountsInConditions }
+    ensures names { put.SubstitutionKeepsBinderNames }
+    ensures no_names { put.NoBinderNoName }
 {}

@@ -23,7 +23,8 @@ pub use laws::{
     bounds_hold_by_choices, lists_are_environments, renaming_renames_the_state,
     shifting_moves_the_state, substitution_changes_the_state, substitution_keeps_binders,
     substitution_keeps_types, terms_have_values_of_their_types, types_bound_values,
-    what_free_variables_decide, what_values_depend_on,
+    what_free_variables_decide, what_renaming_keeps, what_substitution_gives,
+    what_values_depend_on,
 };
 pub use terms::Term;
 pub use types::Ty;
