@@ -12,4 +12,5 @@ mod Examples
 pub mod SubstitutionTypes
 pub mod SubstitutionBinders
 pub mod OneMeaning
+pub mod StandingCounts
 pub mod exported
