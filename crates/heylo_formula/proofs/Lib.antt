@@ -13,4 +13,5 @@ pub mod SubstitutionTypes
 pub mod SubstitutionBinders
 pub mod OneMeaning
 pub mod StandingCounts
+pub mod FiniteChoices
 pub mod exported

@@ -7,3 +7,5 @@ pub mod Agreement
 pub mod Growth
 pub mod BinderNames
 pub mod Substitutions
+pub mod Goals
+pub mod Operators

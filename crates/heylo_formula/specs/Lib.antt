@@ -21,3 +21,6 @@ pub mod AgreementLaws
 pub mod StateLaws
 pub mod BinderNames
 pub mod SubstitutionLaws
+pub mod OperatorLaws
+pub mod GoalLaws
+pub mod MeaningLaws

@@ -8,6 +8,9 @@ ghost use Rattle.heylo_formula.specs.TermLaws as term;
 ghost use Rattle.heylo_formula.specs.AgreementLaws as agreement;
 ghost use Rattle.heylo_formula.specs.StateLaws as state;
 ghost use Rattle.heylo_formula.specs.SubstitutionLaws as put;
+ghost use Rattle.heylo_formula.specs.OperatorLaws as operator;
+ghost use Rattle.heylo_formula.specs.GoalLaws as goal;
+ghost use Rattle.heylo_formula.specs.MeaningLaws as meaning;
 
 /// A value depends on the free variables alone, and on choices only where there is a binder.
 pub fn what_values_depend_on()
@@ -136,4 +139,25 @@ pub fn what_substitution_gives()
     ensures counts_in_conditions { put.SubstitutionCountsInConditions }
     ensures names { put.SubstitutionKeepsBinderNames }
     ensures no_names { put.NoBinderNoName }
+{}
+
+/// Validate and covalidate keep the order and the sign, and plain differences keep whole numbers.
+pub fn growth_of_validates()
+    ensures validate { operator.ValidateGrows }
+    ensures covalidate { operator.CovalidateGrows }
+    ensures nonnegative { operator.ValidatesNonnegative }
+    ensures whole { operator.WholeDifferences }
+{}
+
+/// A goal speaks of the states of its own variables, and of no choices.
+pub fn what_goals_speak_of()
+    ensures variables { goal.GoalsReadTheirVariables }
+    ensures environments { goal.GoalsHoldInTypedEnvironments }
+    ensures choices { goal.GoalsIgnoreChoices }
+{}
+
+/// Where each binder is over Bool a form has a meaning with suprema and infima: it is the best of finitely many values. Of
+/// other binders no meaning is claimed, since no fraction may be the best.
+pub fn finite_choices_have_meanings()
+    ensures meanings { meaning.FiniteChoicesHaveMeanings }
 {}
