@@ -10,8 +10,6 @@ mod renaming;
 mod sizes;
 mod substitution;
 mod terms;
-#[cfg(test)]
-mod tests;
 mod types;
 mod values;
 

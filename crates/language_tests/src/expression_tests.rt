@@ -1,6 +1,6 @@
 //! Texts with the trees that they spell and the tokens behind them, or the indexes at which they are refused, all by hand.
 
-use crate::{PartStop, read_expr};
+use heyvl_parse::{PartStop, read_expr};
 use heyvl_syntax::{BinaryOp, Expr, LexStop, Lit, Name, Span, Token, TypeName, UnaryOp, lex};
 use std::alloc::{AllocError, Global};
 use std::process::Abort;
@@ -91,50 +91,6 @@ const ENDS: [(&str, &str); 11] = [
     ("a { }", "a 0..1 2"),
     ("a else", "a 0..1 1"),
     ("a [b]", "a 0..1 3"),
-];
-
-/// Refused at an operand or its brackets.
-const REFUSED_OPERANDS: [(&str, &str); 18] = [
-    ("", "refused 0"),
-    (")", "refused 0"),
-    ("* a", "refused 0"),
-    ("a +", "refused 2"),
-    ("a + *", "refused 2"),
-    ("a + + b", "refused 2"),
-    ("(a", "refused 2"),
-    ("(a]", "refused 2"),
-    ("()", "refused 1"),
-    ("[a)", "refused 2"),
-    ("?a", "refused 1"),
-    ("? [a]", "refused 1"),
-    ("?(a", "refused 3"),
-    ("ite a", "refused 1"),
-    ("ite(a)", "refused 3"),
-    ("ite(a, b)", "refused 5"),
-    ("ite(a, b, c, d)", "refused 7"),
-    ("ite(a, b, c", "refused 7"),
-];
-
-/// Refused in an `ite`, behind an operator or in a quantifier.
-const REFUSED_LISTS: [(&str, &str); 18] = [
-    ("!", "refused 1"),
-    ("a ==>", "refused 2"),
-    ("a + sup x: Int. x", "refused 2"),
-    ("! inf x: Int. x", "refused 1"),
-    ("sup", "refused 1"),
-    ("sup x", "refused 2"),
-    ("sup x.", "refused 2"),
-    ("sup x: y. a", "refused 3"),
-    ("sup x: Int a", "refused 4"),
-    ("sup 1: Int. a", "refused 1"),
-    ("sup x: Int.", "refused 5"),
-    ("(a < b < c)", "refused 4"),
-    ("(sup x: Int. x", "refused 7"),
-    ("flip(1)", "refused 0"),
-    ("a \\cup \\cap b", "refused 2"),
-    ("(a b)", "refused 2"),
-    ("@", "refused 0"),
-    ("Int", "refused 0"),
 ];
 
 fn sign(op: BinaryOp) -> &'static str {
@@ -333,16 +289,6 @@ fn reads_nesting(rt: HostRuntime) -> Result<(), Fail> {
 #[test]
 fn reads_ends(rt: HostRuntime) -> Result<(), Fail> {
     check_rows(&rt, &ENDS)
-}
-
-#[test]
-fn reads_refused_operands(rt: HostRuntime) -> Result<(), Fail> {
-    check_rows(&rt, &REFUSED_OPERANDS)
-}
-
-#[test]
-fn reads_refused_lists(rt: HostRuntime) -> Result<(), Fail> {
-    check_rows(&rt, &REFUSED_LISTS)
 }
 
 /// A text 200 times, `a`, and another text 200 times.

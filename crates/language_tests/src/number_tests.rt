@@ -1,4 +1,4 @@
-use crate::{Ext, Frac, gcd};
+use heyvl_num::{Ext, Frac, gcd};
 use std::cmp::Ordering;
 use std::cmp::Ordering::{Equal, Greater, Less};
 
@@ -18,6 +18,11 @@ fn parts(fraction: Option<Frac>) -> Parts {
         Some(fraction) => Some((fraction.num(), fraction.den())),
         None => None,
     }
+}
+
+/// Whether the fraction, or none, is what was wanted.
+fn is(found: Option<Frac>, wanted: Parts) -> bool {
+    parts(found) == wanted
 }
 
 #[test]
@@ -40,7 +45,7 @@ fn makes_fractions(rt: HostRuntime) {
         (LEAST, LEAST, None),
     ];
     for (num, den, want) in table {
-        assert_eq!(rt; parts(Frac::new(num, den)), want, "at {num}/{den}");
+        assert!(rt; is(Frac::new(num, den), want), "at {num}/{den}");
     }
 }
 
@@ -65,7 +70,7 @@ fn adds_exactly_or_not_at_all(rt: HostRuntime) {
     for (a, b, c, d, want) in table {
         let x = Frac::new(a, b).expect(&rt, "the first is a fraction");
         let y = Frac::new(c, d).expect(&rt, "the second is a fraction");
-        assert_eq!(rt; parts(x.add(&y)), want, "{a}/{b} + {c}/{d}");
+        assert!(rt; is(x.add(&y), want), "{a}/{b} + {c}/{d}");
     }
 }
 
@@ -84,7 +89,7 @@ fn subtracts_exactly_or_not_at_all(rt: HostRuntime) {
     for (a, b, c, d, want) in table {
         let x = Frac::new(a, b).expect(&rt, "the first is a fraction");
         let y = Frac::new(c, d).expect(&rt, "the second is a fraction");
-        assert_eq!(rt; parts(x.sub(&y)), want, "{a}/{b} - {c}/{d}");
+        assert!(rt; is(x.sub(&y), want), "{a}/{b} - {c}/{d}");
     }
 }
 
@@ -104,7 +109,7 @@ fn multiplies_exactly_or_not_at_all(rt: HostRuntime) {
     for (a, b, c, d, want) in table {
         let x = Frac::new(a, b).expect(&rt, "the first is a fraction");
         let y = Frac::new(c, d).expect(&rt, "the second is a fraction");
-        assert_eq!(rt; parts(x.mul(&y)), want, "{a}/{b} * {c}/{d}");
+        assert!(rt; is(x.mul(&y), want), "{a}/{b} * {c}/{d}");
     }
 }
 

@@ -1,4 +1,4 @@
-use crate::{Cond, Form, Term, Ty};
+use heylo_formula::{Cond, Form, Term, Ty};
 use std::alloc::{AllocError, Global};
 
 fn put(alloc: Global, form: &Form, var: u32, with: &Term) -> Result<Option<Form>, AllocError> {

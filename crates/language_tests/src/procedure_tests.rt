@@ -1,6 +1,6 @@
 //! Texts with the procedures that they spell, or the faults at which they are refused behind a head, all by hand.
 
-use crate::{ParseStop, parse};
+use heyvl_parse::{ParseStop, parse};
 use heyvl_syntax::{Expr, File, LexStop, Name, Note, Param, Proc, Token, lex};
 use std::alloc::{AllocError, Global};
 use std::process::Abort;
@@ -30,20 +30,6 @@ const FILES: [(&str, &str); 7] = [
         "proc wp(ert: Real) -> ()",
         "proc wp(ert: Real 8..17, ) -> () pre post 0..24;",
     ),
-];
-
-/// Refused behind a head.
-const REFUSED_BEHIND: [(&str, &str); 10] = [
-    ("proc f() -> () 1", "fault 4 at 7"),
-    ("proc f() -> () ;", "fault 4 at 7"),
-    ("proc f() -> () pre post 1", "fault 4 at 8"),
-    ("proc f() -> () pre @wp proc", "fault 4 at 8"),
-    ("proc f() -> () pre a b", "fault 4 at 9"),
-    ("proc f() -> () pre a < b < c", "fault 4 at 11"),
-    ("proc f() -> () {} ;", "fault 4 at 9"),
-    ("proc f() -> () {} {}", "fault 4 at 9"),
-    ("proc f() -> () proc", "fault 4 at 8"),
-    ("proc f() -> () @wp", "fault 4 at 9"),
 ];
 
 fn text_of(name: &Name) -> &str {
@@ -149,30 +135,3 @@ fn reads_files(rt: HostRuntime) -> Result<(), Fail> {
     check_rows(&rt, &FILES)
 }
 
-#[test]
-fn refuses_behind_heads(rt: HostRuntime) -> Result<(), Fail> {
-    check_rows(&rt, &REFUSED_BEHIND)
-}
-
-/// A head and a part so many times.
-fn repeated(alloc: Global, head: &str, part: &str, times: u32) -> Result<String, AllocError> {
-    let mut text = String::new(alloc);
-    text.push_str(head)?;
-    for _ in 0..times {
-        text.push_str(part)?;
-    }
-    Ok(text)
-}
-
-/// A passed limit comes before the place at which no file goes on.
-#[test]
-fn limits_come_first(rt: HostRuntime) -> Result<(), Fail> {
-    let alloc = rt.alloc();
-    let deep = repeated(alloc, "coproc coproc d() -> () pre ", "(", 201)?;
-    assert_eq!(rt; shown(alloc, deep.as_str())?.as_str(), "fault 5 at 209");
-    let many = repeated(alloc, "", "proc ", 1025)?;
-    assert_eq!(rt; shown(alloc, many.as_str())?.as_str(), "fault 6 at 1024");
-    let most = repeated(alloc, "", "proc ", 1024)?;
-    assert_eq!(rt; shown(alloc, most.as_str())?.as_str(), "fault 4 at 1");
-    Ok(())
-}

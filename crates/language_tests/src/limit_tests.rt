@@ -1,6 +1,6 @@
 //! Texts against the limits of files, by hand.
 
-use crate::{crowd_at, overload_at};
+use heyvl_parse::{crowd_at, overload_at};
 use heyvl_syntax::{LexStop, Token, lex};
 use std::alloc::{AllocError, Global};
 use std::test::Fail;

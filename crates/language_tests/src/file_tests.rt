@@ -1,8 +1,8 @@
 //! Texts of files with the indexes at which they are refused, or what they hold, all by hand.
 
-use crate::{ParseStop, parse};
+use heyvl_parse::parse;
 use heyvl_syntax::{File, LexStop, Stmt, Token, lex};
-use std::alloc::{AllocError, Global};
+use std::alloc::Global;
 use std::test::Fail;
 
 fn tokens_of(alloc: Global, text: &str) -> Result<Vec<Token>, Fail> {
@@ -14,131 +14,6 @@ fn tokens_of(alloc: Global, text: &str) -> Result<Vec<Token>, Fail> {
         Err(LexStop::Fault(_, _)) => Ok(Vec::new(alloc)),
         Err(LexStop::Memory(error)) => Err(error.into()),
     }
-}
-
-/// The number and the index of the first fault of a text, if it has one.
-fn fault_of(alloc: Global, text: &str) -> Result<Option<(u8, u32)>, Fail> {
-    let tokens = tokens_of(alloc, text)?;
-    if tokens.len() >= 2000 {
-        return Ok(None);
-    }
-    match parse(alloc, &tokens) {
-        Ok(_) => Ok(None),
-        Err(ParseStop::Fault(number, index)) => Ok(Some((number, index))),
-        Err(ParseStop::Memory(error)) => Err(error.into()),
-    }
-}
-
-/// Heads of procedures, and the index at which each text is refused.
-const HEADS: [(&str, u32); 35] = [
-    ("x", 0),
-    ("proc", 1),
-    ("proc 1", 1),
-    ("proc f", 2),
-    ("proc f {", 2),
-    ("proc f(", 3),
-    ("proc f(x", 4),
-    ("proc f(x)", 4),
-    ("proc f(x:", 5),
-    ("proc f(x: y)", 5),
-    ("proc f(x: Int", 6),
-    ("proc f(x: Int,", 7),
-    ("proc f(x: Int,)", 7),
-    ("proc f(x: Int y: Int)", 6),
-    ("proc f(,)", 3),
-    ("proc f()", 4),
-    ("proc f() {", 4),
-    ("proc f() ->", 5),
-    ("proc f() -> {", 5),
-    ("proc f() -> (", 6),
-    ("coproc f() -> () pre", 8),
-    ("coproc f() -> () pre }", 8),
-    ("coproc f() -> () pre 1 2", 9),
-    ("coproc f() -> () pre a +", 10),
-    ("coproc f() -> () pre (a", 10),
-    ("coproc f() -> () pre (a]", 10),
-    ("coproc f() -> () post sup x: Int a", 12),
-    ("coproc f() -> () {", 8),
-    ("coproc f() -> () { } }", 9),
-    ("coproc f() -> () { } pre 1", 9),
-    ("@", 1),
-    ("@wlq proc f() -> ()", 1),
-    ("@wp", 2),
-    ("@wp @wp", 2),
-    ("proc f() -> () @", 8),
-];
-
-/// What stands behind `coproc f() -> () {`, and the index at which each text is refused.
-const BODIES: [(&str, u32); 48] = [
-    (";", 8),
-    ("var", 9),
-    ("var x", 10),
-    ("var x:", 11),
-    ("var x: Int = }", 13),
-    ("x", 9),
-    ("x }", 9),
-    ("x, }", 10),
-    ("x, y }", 11),
-    ("x =", 10),
-    ("x = y(", 12),
-    ("x = y(a", 13),
-    ("x = y(a b", 13),
-    ("x = y(a,)", 14),
-    ("x(a) = 1 }", 12),
-    ("x = flip }", 11),
-    ("x = flip(1, 2) }", 13),
-    ("x = unif(1) }", 13),
-    ("x = choose }", 11),
-    ("x = choose { }", 12),
-    ("x = choose { 1/2 }", 15),
-    ("x = choose { 1: a, }", 16),
-    ("x = a (", 12),
-    ("x = a + b (", 13),
-    ("assert }", 9),
-    ("validate x }", 10),
-    ("havoc }", 9),
-    ("havoc x, }", 11),
-    ("reward }", 9),
-    ("if }", 9),
-    ("if a }", 10),
-    ("if a { } else }", 13),
-    ("if a { } else if }", 14),
-    ("if a { } else { } else", 15),
-    ("if \\cap }", 10),
-    ("if \\cap { } else if", 13),
-    ("if \\cup { } else", 13),
-    ("else", 8),
-    ("@invariant(a) }", 13),
-    ("@other(a)", 9),
-    ("@invariant a", 10),
-    ("@k_induction(1) while", 12),
-    ("@ranking(1, a, b)", 14),
-    ("@invariant(a) @", 14),
-    ("while }", 9),
-    ("while a; }", 10),
-    ("while a { }", 12),
-    ("x = a < b < c }", 13),
-];
-
-#[test]
-fn refuses_heads(rt: HostRuntime) -> Result<(), Fail> {
-    let alloc = rt.alloc();
-    for (text, index) in HEADS {
-        assert_eq!(rt; fault_of(alloc, text)?, Some((4, index)), "{text}");
-    }
-    Ok(())
-}
-
-#[test]
-fn refuses_bodies(rt: HostRuntime) -> Result<(), Fail> {
-    let alloc = rt.alloc();
-    for (body, index) in BODIES {
-        let mut text = String::new(alloc);
-        text.push_str("coproc f() -> () { ")?;
-        text.push_str(body)?;
-        assert_eq!(rt; fault_of(alloc, text.as_str())?, Some((4, index)), "{body}");
-    }
-    Ok(())
 }
 
 /// Texts that are files: how many procedures they have, and how many statements the first body has.
@@ -187,18 +62,6 @@ fn reads_files(rt: HostRuntime) -> Result<(), Fail> {
             }
         }
     }
-    Ok(())
-}
-
-/// The load comes before the grammar.
-#[test]
-fn deep_nesting_comes_first(rt: HostRuntime) -> Result<(), Fail> {
-    let alloc = rt.alloc();
-    let mut text = String::new(alloc);
-    for _ in 0..201 {
-        text.push_str("(")?;
-    }
-    assert_eq!(rt; fault_of(alloc, text.as_str())?, Some((5, 200)));
     Ok(())
 }
 
