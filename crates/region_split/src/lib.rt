@@ -5,16 +5,12 @@ mod backing;
 mod cell;
 mod deciding;
 mod decision_laws;
-#[cfg(test)]
-mod decision_tests;
 mod decisions;
 mod found;
 mod front;
 mod growth;
 mod points;
 mod solving;
-#[cfg(test)]
-mod test_goals;
 mod walk;
 
 pub use deciding::decide;

@@ -1,0 +1,203 @@
+//! Goals of tests. Their types are looked at before they are decided, for the kinds of formulas that the tests use.
+
+ghost use Rattle.std.specs.Prelude.{◌≡◌, ℕ, ◌<◌, ◌^◌, length, IsTrue, Some, true};
+ghost use Rattle.heyvl_num.specs.Extended.{value_of};
+ghost use Rattle.heylo_formula.specs.PlainTrees.{form_of, cond_of};
+ghost use Rattle.heylo_formula.specs.Typing.{NumberType, type_of, is_well_typed, is_unsigned, constant_type, number_type, difference_type, is_bool};
+ghost use Rattle.heylo_formula.specs.Variables.{is_free, is_free_in};
+ghost use Rattle.linear_form.specs.TypedGoals.{types_in};
+
+use region_split::{Decision, decide};
+use heylo_formula::{Cond, Form, Goal, Ty};
+use heyvl_num::Ext;
+use std::alloc::{AllocError, Global};
+
+const MOST_NODES: u64 = 536_870_912;
+
+const MOST_VARIABLES: usize = 2_147_483_648;
+
+/// The type of a variable.
+fn type_at(types: &[Ty], x: u32) -> Ty
+    ensures { result ≡ types_in types.now x }
+{
+    let place = x as usize;
+    if place < types.len() {
+        types[place]
+    } else {
+        Ty::Bool
+    }
+}
+
+/// Whether the number is from 0 on, or infinity.
+fn is_unsigned_number(v: &Ext) -> bool
+    ensures { IsTrue result → is_unsigned (constant_type (value_of v.now)) ≡ true }
+{
+    match v {
+        Ext::Fin(x) => x.num() >= 0,
+        Ext::Inf => true,
+    }
+}
+
+/// Whether the number is a whole number from 0 on.
+fn is_whole_number(v: &Ext) -> bool
+    ensures { IsTrue result → difference_type (constant_type (value_of v.now)) ≡ Some NumberType.int }
+{
+    match v {
+        Ext::Fin(x) => x.num() >= 0 && x.den() == 1,
+        Ext::Inf => false,
+    }
+}
+
+/// Whether the type is UInt or UReal.
+fn is_unsigned_type(ty: Ty) -> bool
+    ensures { IsTrue result → is_unsigned (number_type ty) ≡ true }
+{
+    matches!(ty, Ty::UInt | Ty::UReal)
+}
+
+/// Whether the type is UInt or Int.
+fn is_whole_type(ty: Ty) -> bool
+    ensures { IsTrue result → difference_type (number_type ty) ≡ Some NumberType.int }
+{
+    matches!(ty, Ty::UInt | Ty::Int)
+}
+
+/// Whether the type is Bool.
+fn is_bool_type(ty: Ty) -> bool
+    ensures { IsTrue result → is_bool ty ≡ true }
+{
+    matches!(ty, Ty::Bool)
+}
+
+/// Whether the form is of UInt or Int, for sums of variables and numbers.
+fn is_whole(types: &[Ty], form: &Form) -> bool
+    ensures { IsTrue result → difference_type (type_of (types_in types.now) (form_of form.now)) ≡ Some NumberType.int }
+{
+    match form {
+        Form::Const(v) => is_whole_number(v),
+        Form::Var(x) => is_whole_type(type_at(types, *x)),
+        Form::Sum(a, b) => is_whole(types, a) && is_whole(types, b),
+        Form::Diff(_, _) => false,
+        Form::Cut(_, _) => false,
+        Form::Scale(_, _) => false,
+        Form::Product(_, _, _) => false,
+        Form::Min(_, _) => false,
+        Form::Max(_, _) => false,
+        Form::Imply(_, _) => false,
+        Form::CoImply(_, _) => false,
+        Form::Validate(_) => false,
+        Form::CoValidate(_) => false,
+        Form::Embed(_) => false,
+        Form::Iverson(_) => false,
+        Form::Select(_, _, _) => false,
+        Form::Bind(_, _, _, _, _) => false,
+    }
+}
+
+/// Whether the condition is well typed, for Booleans and comparisons of whole numbers.
+fn is_condition(types: &[Ty], cond: &Cond) -> bool
+    ensures { IsTrue result → is_well_typed (types_in types.now) (cond_of cond.now) ≡ true }
+{
+    match cond {
+        Cond::Const(_) => true,
+        Cond::Var(x) => is_bool_type(type_at(types, *x)),
+        Cond::Not(g) => is_condition(types, g),
+        Cond::And(g, h) => is_condition(types, g) && is_condition(types, h),
+        Cond::Or(g, h) => is_condition(types, g) && is_condition(types, h),
+        Cond::Same(_, _) => false,
+        Cond::Le(a, b) => is_whole(types, a) && is_whole(types, b),
+        Cond::Lt(a, b) => is_whole(types, a) && is_whole(types, b),
+        Cond::EqNum(_, _) => false,
+        Cond::Ite(_, _, _) => false,
+    }
+}
+
+/// Whether the form is a formula, for sums and choices of variables and numbers.
+fn is_formula(types: &[Ty], form: &Form) -> bool
+    ensures { IsTrue result → is_unsigned (type_of (types_in types.now) (form_of form.now)) ≡ true }
+{
+    match form {
+        Form::Const(v) => is_unsigned_number(v),
+        Form::Var(x) => is_unsigned_type(type_at(types, *x)),
+        Form::Sum(a, b) => is_formula(types, a) && is_formula(types, b),
+        Form::Diff(_, _) => false,
+        Form::Cut(_, _) => false,
+        Form::Scale(_, _) => false,
+        Form::Product(_, _, _) => false,
+        Form::Min(_, _) => false,
+        Form::Max(_, _) => false,
+        Form::Imply(_, _) => false,
+        Form::CoImply(_, _) => false,
+        Form::Validate(_) => false,
+        Form::CoValidate(_) => false,
+        Form::Embed(g) => is_condition(types, g),
+        Form::Iverson(g) => is_condition(types, g),
+        Form::Select(g, a, b) => is_condition(types, g)
+            && (is_formula(types, a) && is_formula(types, b)),
+        Form::Bind(_, _, _, _, _) => false,
+    }
+}
+
+/// Whether each variable of the form is below the count, for the forms above.
+#[cycle(owning)]
+fn has_own(count: usize, form: &Form) -> bool
+    ensures { IsTrue result → (x : ℕ) → is_free x (form_of form.now) ≡ true → x < count }
+{
+    match form {
+        Form::Const(_) => true,
+        Form::Var(x) => (*x as usize) < count,
+        Form::Sum(a, b) => has_own(count, a) && has_own(count, b),
+        Form::Diff(_, _) => false,
+        Form::Cut(_, _) => false,
+        Form::Scale(_, _) => false,
+        Form::Product(_, _, _) => false,
+        Form::Min(_, _) => false,
+        Form::Max(_, _) => false,
+        Form::Imply(_, _) => false,
+        Form::CoImply(_, _) => false,
+        Form::Validate(_) => false,
+        Form::CoValidate(_) => false,
+        Form::Embed(g) => tests_own(count, g),
+        Form::Iverson(g) => tests_own(count, g),
+        Form::Select(g, a, b) => tests_own(count, g) && (has_own(count, a) && has_own(count, b)),
+        Form::Bind(_, _, _, _, _) => false,
+    }
+}
+
+/// Whether each variable of the condition is below the count, for the conditions above.
+#[cycle(owning)]
+fn tests_own(count: usize, cond: &Cond) -> bool
+    ensures { IsTrue result → (x : ℕ) → is_free_in x (cond_of cond.now) ≡ true → x < count }
+{
+    match cond {
+        Cond::Const(_) => true,
+        Cond::Var(x) => (*x as usize) < count,
+        Cond::Not(g) => tests_own(count, g),
+        Cond::And(g, h) => tests_own(count, g) && tests_own(count, h),
+        Cond::Or(g, h) => tests_own(count, g) && tests_own(count, h),
+        Cond::Same(_, _) => false,
+        Cond::Le(a, b) => has_own(count, a) && has_own(count, b),
+        Cond::Lt(a, b) => has_own(count, a) && has_own(count, b),
+        Cond::EqNum(_, _) => false,
+        Cond::Ite(_, _, _) => false,
+    }
+}
+
+/// Decides a goal whose formulas are those of the tests.
+pub fn decision_of(alloc: Global, goal: &Goal) -> Result<Option<Decision>, AllocError> {
+    let types = goal.vars.as_slice();
+    let count = types.len();
+    if !(is_formula(types, &goal.stated) && is_formula(types, &goal.found)) {
+        return Ok(None);
+    }
+    if !(has_own(count, &goal.stated) && has_own(count, &goal.found)) {
+        return Ok(None);
+    }
+    if goal.stated.nodes() >= MOST_NODES
+        || goal.found.nodes() >= MOST_NODES
+        || count >= MOST_VARIABLES
+    {
+        return Ok(None);
+    }
+    Ok(Some(decide(alloc, goal)?))
+}
