@@ -9,17 +9,17 @@ use Rattle.std.proofs.lemmas.Simd.{map-map}
 use Rattle.heylo_formula.specs.Goals.{Goal}
 use Rattle.linear_form.specs.Query.{Atom, Taken, onto}
 use Rattle.linear_form.specs.Questions.{questions}
-use Rattle.linear_form.specs.Paths.{IsPath}
+use Rattle.linear_form.specs.Paths.{Asks, IsPath}
 use Rattle.linear_form.specs.PathRows.{IsPlainAt}
 use Rattle.linear_form.specs.PlainPaths.{atom_of, taken_of, path_of}
 use Rattle.linear_form.specs.declared.paths.Atom as A
 use Rattle.linear_form.specs.declared.paths.Taken as T
-use Rattle.linear_form.proofs.PathSteps.{path_onto}
+use Rattle.linear_form.proofs.exported.PathSteps.{path_onto}
 use Rattle.farkas_check.specs.declared.trees.Tree as K
 use Rattle.farkas_check.specs.declared.trees.Tree.TheOpen.{Tree-F}
 use Rattle.farkas_check.specs.declared.trees.Tree.TheFolds.{fold-roll-Tree}
 use Rattle.farkas_check.specs.Trees.{Tree, tree_of, tree_layer}
-use Rattle.farkas_check.specs.Accepted.{Asks, IsRefuted, IsAccepted, IsRefused, answers}
+use Rattle.farkas_check.specs.Accepted.{IsRefuted, IsAccepted, IsRefused, answers}
 use Rattle.farkas_check.specs.Verdicts.{IsNext}
 
 split_tree : (a b : Box K.Tree Global) → tree_of (K.TheVariants.Split a b) ≡ Tree.split (tree_of a.value) (tree_of b.value)

@@ -8,7 +8,8 @@ use Rattle.linear_form.specs.declared.paths.Taken as T
 use Rattle.farkas_check.specs.declared.trees.Checked as C
 use Rattle.farkas_check.specs.declared.checking.Judged as J
 use Rattle.farkas_check.specs.Trees.{Tree}
-use Rattle.farkas_check.specs.Accepted.{Asks, IsAccepted, IsRefused}
+use Rattle.linear_form.specs.Paths.{Asks}
+use Rattle.farkas_check.specs.Accepted.{IsAccepted, IsRefused}
 
 -- The answer is no, with these answers on the way to the refused node.
 abbrev pub IsNoAt : C.Checked → List Bool → Type 0

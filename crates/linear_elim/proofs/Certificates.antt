@@ -12,10 +12,10 @@ use Rattle.heyvl_num.specs.Value.{is_zero_num}
 use Rattle.linear_form.specs.Terms.{sum_at, coefficient, IsNormal}
 use Rattle.linear_form.specs.Row.{Row}
 use Rattle.linear_form.specs.Combination.{row_at, combined, uses_strict, IsGrowing, IsWideThroughout, IsContradiction}
-use Rattle.linear_form.proofs.Sums.{sum_at-nil, sum_at-cons}
+use Rattle.linear_form.proofs.exported.Sums.{sum_at-nil, sum_at-cons}
 use Rattle.linear_form.specs.Points.{IsMetSomewhere}
-use Rattle.linear_form.proofs.Combinations.{unmet}
-use Rattle.linear_form.proofs.Moves.{only, coefficient-is}
+use Rattle.linear_form.proofs.exported.Combinations.{unmet}
+use Rattle.linear_form.proofs.exported.Moves.{only, coefficient-is}
 use Rattle.linear_elim.specs.Joins.{Derived, is_positive, any_at, Follows}
 use Rattle.linear_elim.specs.Steps.{has_terms, is_contradiction}
 use Rattle.linear_elim.specs.Elimination.{multipliers}

@@ -8,7 +8,7 @@ use Rattle.std.proofs.lemmas.List.Folds.{list_any-append}
 use Rattle.heylo_formula.specs.declared.types.Ty.{Ty}
 use Rattle.heylo_formula.specs.declared.values.Val.{Val}
 use Rattle.heylo_formula.specs.declared.values.Val.TheVariants.{Truth, Num}
-use Rattle.heyvl_num.specs.Rational.{Rational}
+use Rattle.heyvl_num.specs.Rational.{Rational, ◌≤ʳ◌}
 use Rattle.linear_form.specs.Row.{Row}
 use Rattle.linear_form.specs.RowLists.{is_numeric}
 use Rattle.linear_form.specs.GreedyPoint.{End, Interval, IsInside, ChoosesFrom, type_at, chosen_value, value_for, IsStateOf}
@@ -19,14 +19,14 @@ use Rattle.linear_elim.specs.ChoiceNumbers.{end_of, end_fits}
 use Rattle.linear_elim.specs.ChoiceSteps.{IsTightest}
 use Rattle.linear_elim.specs.Picks.{between, IsPicked, IsNext, IsDerivedStep}
 use Rattle.linear_elim.specs.Picks.IsNext.{great_end, between_ends}
-use Rattle.linear_elim.specs.Answers.{IsEliminated, IsTooGreat, IsBreak, numbers_of}
+use Rattle.linear_elim.specs.Answers.{IsEliminated, IsTooGreat, IsBreak}
 use Rattle.linear_elim.specs.declared.answers.Broken.{Broken}
 use Rattle.linear_elim.specs.declared.ends.Side.TheVariants.{Low, High}
 use Rattle.linear_elim.specs.declared.picking.Pick.{Pick}
 use Rattle.linear_elim.specs.declared.picking.Pick.TheVariants.{Value, Breaks, Great}
 use Rattle.linear_elim.proofs.Solutions.{all_append-left, all_append-right}
 use Rattle.linear_elim.proofs.EndRuns.{take_item}
-use Rattle.linear_elim.proofs.Greedily.{IsSofar, solved, goes_on, breaks_here, great_here}
+use Rattle.linear_elim.proofs.Greedily.{IsSofar, solved, goes_on, breaks_here, ordered_here, great_here}
 
 -- ---- The next step
 
@@ -64,10 +64,6 @@ next_is vars s cs ds ty p q h e f g = subst (IsNext s cs (type_at vars s.var)) g
 pub sofar_next : (rows : List Row) (vars : List Ty) (steps rest before : List Step) (s : Step) (cs ds now : List (ℕ × Rational)) (ty : Ty) (x : ℕ) (v : Rational) (p : Pick) → IsEliminated rows vars steps → rest ≡ before ++ (s ∷ []) → IsSofar rows vars steps rest cs → IsNext s ds ty p → ds ≡ cs → ty ≡ type_at vars s.var → p ≡ Value v → now ≡ cs ++ ((x, v) ∷ []) → x ≡ s.var → IsSofar rows vars steps before now
 sofar_next rows vars steps rest before s cs ds now ty x v p h e f n a b g m k = subst (IsSofar rows vars steps before) (sym (m ∙ ap (λ y. cs ++ ((y, v) ∷ [])) k)) (goes_on rows vars steps h before s cs (subst (λ r. IsSofar rows vars steps r cs) e f) v (next_is vars s cs ds ty p (Value v) n a b g))
 
-numbers_back : (cs : List (ℕ × Rational)) → numbers_of (map (λ c. (c.0, Num c.1)) cs) ≡ cs
-numbers_back [] = refl
-numbers_back (c ∷ cs) = ap (λ ds. c ∷ ds) (numbers_back cs)
-
 an_end : (low : End) (p : Rational) (i : Bool) → p ≡ low.place → i ≡ low.inside → record { place = p; inside = i } ≡ low
 an_end low p i e f = ap₂ (λ (p : Rational) (i : Bool). the_end p i) e f
   where
@@ -77,7 +73,10 @@ an_end low p i e f = ap₂ (λ (p : Rational) (i : Bool). the_end p i) e f
 pub break_found : (rows : List Row) (vars : List Ty) (steps rest before : List Step) (s : Step) (cs ds es : List (ℕ × Rational)) (ty : Ty) (low high : End) (p : Pick) (b : Broken) → IsEliminated rows vars steps → rest ≡ before ++ (s ∷ []) → IsSofar rows vars steps rest cs → IsNext s ds ty p → ds ≡ cs → ty ≡ type_at vars s.var → p ≡ Breaks low high → b.var ≡ s.var → b.earlier.items ≡ map (λ c. (c.0, Num c.1)) es → es ≡ cs → b.low ≡ low.place → b.low_in ≡ low.inside → b.high ≡ high.place → b.high_in ≡ high.inside → IsBreak rows vars b
 break_found rows vars steps rest before s cs ds es ty low high p b h e f n a t g m k q l li u ui = record {
   solvable = solved rows vars steps h;
-  choice = subst (λ i. ChoosesFrom rows vars (broke b.var (numbers_of b.earlier.items) i)) (sym (two_ends (an_end low b.low b.low_in l li) (an_end high b.high b.high_in u ui))) (subst (λ ys. ChoosesFrom rows vars (broke b.var ys (record { low = Some low; high = Some high }))) (sym (ap numbers_of k ∙ numbers_back es ∙ q)) (subst (λ y. ChoosesFrom rows vars (broke y cs (record { low = Some low; high = Some high }))) (sym m) (breaks_here rows vars steps h before s cs (subst (λ r. IsSofar rows vars steps r cs) e f) low high (next_is vars s cs ds ty p (Breaks low high) n a t g))));
+  chosen = cs;
+  choice = subst (λ i. ChoosesFrom rows vars (broke b.var cs i)) (sym (two_ends (an_end low b.low b.low_in l li) (an_end high b.high b.high_in u ui))) (subst (λ y. ChoosesFrom rows vars (broke y cs (record { low = Some low; high = Some high }))) (sym m) (breaks_here rows vars steps h before s cs (subst (λ r. IsSofar rows vars steps r cs) e f) low high (next_is vars s cs ds ty p (Breaks low high) n a t g)));
+  earlier = k ∙ ap (λ ys. map (λ c. (c.0, Num c.1)) ys) q;
+  ordered = subst (λ y. y ≤ʳ b.high) (sym l) (subst (λ y. low.place ≤ʳ y) (sym u) (ordered_here rows vars steps h before s cs (subst (λ r. IsSofar rows vars steps r cs) e f) low high (next_is vars s cs ds ty p (Breaks low high) n a t g)));
 }
   where
     ends_at : End → End → Interval

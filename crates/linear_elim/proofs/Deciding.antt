@@ -10,8 +10,8 @@ use Rattle.linear_form.specs.Terms.{sum_at, is_in, IsNormal, IsOver}
 use Rattle.linear_form.specs.Row.{Row}
 use Rattle.linear_form.specs.Points.{Point, Meets, IsMetSomewhere, AgreesBut}
 use Rattle.linear_form.specs.Combination.{row_at}
-use Rattle.linear_form.proofs.Sums.{sum_at-cons, sum_at-nil}
-use Rattle.linear_form.proofs.Between.{All-both}
+use Rattle.linear_form.proofs.exported.Sums.{sum_at-cons, sum_at-nil}
+use Rattle.linear_form.proofs.exported.Between.{All-both}
 use Rattle.linear_elim.specs.Joins.{Derived, is_positive, join, any_at, Follows}
 use Rattle.linear_elim.specs.Steps.{lowers, uppers, kept, pairs, eliminate_one, has_terms, tidied, is_contradiction, contradiction, step_fits}
 use Rattle.linear_elim.specs.Elimination.{Step, step_of, gathered, Outcome, after_step, ended_by, unless_many, run, start, elimination}

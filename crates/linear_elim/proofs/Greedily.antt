@@ -1,5 +1,5 @@
 -- The greedy choice along the steps of an elimination that stands, from the last step on.
-use Rattle.std.proofs.Common.{◌≡◌, ℕ, ◌+◌, ◌<◌, List, [], ◌∷◌, ◌++◌, length, reverse, refl, sym, ap, ap₂, ◌∙◌, subst, arith, Bool, true, false, cond, eqb, ltb, ◌||◌}
+use Rattle.std.proofs.Common.{◌≡◌, ℕ, ◌+◌, ◌<◌, List, [], ◌∷◌, ◌++◌, length, get_or, reverse, refl, sym, ap, ap₂, ◌∙◌, subst, arith, Bool, true, false, cond, eqb, ltb, ◌||◌}
 use Rattle.std.specs.Prelude.{ℤ, Option, Some}
 use Rattle.std.specs.List.{All, list_any, fold}
 use Prim.Native.Nat.{zero, suc}
@@ -10,8 +10,11 @@ use Rattle.std.proofs.lemmas.List.Elements.{All-nil, All-cons, All-head, All-tai
 use Rattle.heylo_formula.specs.State.{environment, number_of}
 use Rattle.heylo_formula.specs.declared.types.Ty.{Ty}
 use Rattle.heylo_formula.specs.declared.values.Val.{Val}
-use Rattle.heyvl_num.specs.Rational.{Rational}
+use Rattle.heyvl_num.specs.Rational.{Rational, ◌≤ʳ◌}
+use Rattle.heyvl_num.proofs.Rationals.{≤ʳ_trans}
 use Rattle.linear_form.specs.Terms.{is_in, IsNormal, IsOver}
+use Rattle.heylo_formula.specs.declared.values.Val.TheVariants.{Truth}
+use Rattle.linear_form.specs.Lin.{fits}
 use Rattle.linear_form.specs.Row.{Row, IsRow}
 use Rattle.linear_form.specs.RowLists.{is_numeric, IsNumericRow}
 use Rattle.linear_form.specs.Solutions.{MeetsAt, IsSolvable}
@@ -19,19 +22,21 @@ use Rattle.linear_form.specs.VariableOrder.{occurs, occurrences, put_variable, o
 use Rattle.linear_form.specs.GreedyPoint.{End, Interval, IsInside, IsIntervalOf, IsCompleted, IsChoice, IsBroken, Chooses, ChoosesFrom, type_at, chosen_value, value_for, IsStateOf, IsGreedyPoint}
 use Rattle.linear_form.specs.GreedyPoint.Greedy.{chose, broke}
 use Rattle.linear_form.specs.GreedyPoint.Chooses.{ends, takes, breaks}
-use Rattle.linear_form.proofs.Fractions.{solvable_is}
-use Rattle.linear_form.proofs.Between.{All-both}
+use Rattle.linear_form.proofs.exported.Fractions.{solvable_is}
+use Rattle.linear_form.proofs.exported.Between.{All-both}
 use Rattle.linear_elim.specs.Elimination.{Step, start}
 use Rattle.linear_elim.specs.ChoiceNumbers.IsNextTooGreat.{in_an_end, in_a_value}
 use Rattle.linear_elim.specs.ChoiceSteps.{IsTightest}
 use Rattle.linear_elim.specs.Picks.{between, IsPicked, IsNext}
 use Rattle.linear_elim.specs.Picks.IsNext.{great_end, between_ends}
-use Rattle.linear_elim.specs.Answers.{IsEliminated, IsTooGreat, MeetsAll}
+use Rattle.linear_elim.specs.Answers.{IsEliminated, IsTooGreat, MeetsAll, AreNarrow}
 use Rattle.linear_elim.specs.Answers.IsTooGreat.{in_a_choice}
 use Rattle.linear_elim.specs.declared.ends.Side.TheVariants.{Low, High}
 use Rattle.linear_elim.specs.declared.picking.Pick.{Pick}
 use Rattle.linear_elim.specs.declared.picking.Pick.TheVariants.{Value, Breaks, Great}
 use Rattle.linear_elim.proofs.Deciding.{complete, start-all}
+use Rattle.linear_elim.proofs.Bounded.{up_from_weak, up_to_weak}
+use Rattle.linear_elim.proofs.Pasts.{zero_fits}
 use Rattle.linear_elim.proofs.Shapes.{Good}
 use Rattle.linear_elim.proofs.Projecting.{bare}
 use Rattle.linear_elim.proofs.Reaching.{Stands, run_stands, vars_of, stands_vars, NoneTwice, Reached, reached, bare_start}
@@ -152,7 +157,7 @@ counted_from vars v k (r ∷ rs) h e p = go (occurs v r) refl p (λ m q l. count
     go true q p ih = occurs_numeric vars v r.terms (All-head (IsNumericRow vars) r rs h).numeric q
     go false q p ih = ih (k + 0) (omega (arith, e)) p
 
-counted_numeric : (vars : List Ty) (v : ℕ) (rows : List Row) → All (IsNumericRow vars) rows → 0 < occurrences v rows → is_numeric (type_at vars v) ≡ true
+pub counted_numeric : (vars : List Ty) (v : ℕ) (rows : List Row) → All (IsNumericRow vars) rows → 0 < occurrences v rows → is_numeric (type_at vars v) ≡ true
 counted_numeric vars v rows h p = counted_from vars v 0 rows h refl p
 
 pub order_numeric : (vars : List Ty) (rows : List Row) (n v : ℕ) → All (IsNumericRow vars) rows → is_in v (order_of rows n) ≡ true → is_numeric (type_at vars v) ≡ true
@@ -177,6 +182,7 @@ pub record IsSofar (rows : List Row) (vars : List Ty) (steps rest : List Step) (
   pub choice : Chooses rows vars (reverse (vars_of after)) [] (chose cs)
   pub met : IsCompleted rows cs
   pub are_for : AreFor (vars_of after) cs
+  pub narrow : All (λ (c : ℕ × Rational). fits c.1 ≡ true) cs
 
 module _ (rows : List Row) (vars : List Ty) (steps : List Step) (h : IsEliminated rows vars steps) where
   the_order : List ℕ
@@ -204,6 +210,7 @@ module _ (rows : List Row) (vars : List Ty) (steps : List Step) (h : IsEliminate
     choice = ends [];
     met = record { at_values = solved.at_values; agrees = All-nil _; meets = solved.meets };
     are_for = record { within = All-nil _; each = λ v e. e };
+    narrow = All-nil _;
   }
     where
       append_none : (ss : List Step) → ss ++ [] ≡ ss
@@ -247,6 +254,7 @@ module _ (rows : List Row) (vars : List Ty) (steps : List Step) (h : IsEliminate
     choice = subst (λ xs. Chooses rows vars xs [] (chose (cs ++ ((s.var, v) ∷ [])))) (sym (reverse-append (s.var ∷ []) (vars_of f.after))) (then_takes rows vars (reverse (vars_of f.after)) [] cs s.var (between Low low high) v f.choice i p.0);
     met = (i.values v).0 p.1;
     are_for = more_for (vars_of f.after) s.var v cs f.are_for;
+    narrow = All-append (λ (c : ℕ × Rational). fits c.1 ≡ true) cs ((s.var, v) ∷ []) f.narrow (All-cons (λ (c : ℕ × Rational). fits c.1 ≡ true) (s.var, v) [] p.2 (All-nil _));
   }
     where
       or_true : (a b : Bool) → b ≡ true → (a || b) ≡ true
@@ -289,6 +297,13 @@ module _ (rows : List Row) (vars : List Ty) (steps : List Step) (h : IsEliminate
       both_ends : lo ≡ Some low → hi ≡ Some high → between Low lo hi ≡ record { low = Some low; high = Some high }
       both_ends e g = ap₂ (between Low) e g
 
+  -- some value lies between the two ends
+  pub ordered_here : (low high : End) → IsNext s cs (type_at vars s.var) (Breaks low high) → low.place ≤ʳ high.place
+  ordered_here low high (between_ends lo hi _ l u k) =
+      let p = picked_here lo hi (Breaks low high) l u k in
+      let w = some_here (between Low lo hi) (interval_here lo hi l u) in
+      ≤ʳ_trans low.place w.0 high.place (up_from_weak low w.0 (w.1.from_low low p.1)) (up_to_weak high w.0 (w.1.to_high high p.2))
+
   pub great_here : IsNext s cs (type_at vars s.var) Great → IsTooGreat rows vars
   great_here (great_end e) = in_a_choice steps h.standing (record { before = before; next = s; after = f.after; chosen = cs; splits = splits_here; choice = f.choice; too_great = in_an_end e })
   great_here (between_ends low high _ l u k) = let p = picked_here low high Great l u k in in_a_choice steps h.standing (record { before = before; next = s; after = f.after; chosen = cs; splits = splits_here; choice = f.choice; too_great = in_a_value (between Low low high) p.0 (interval_here low high l u) p.1 p.2 })
@@ -311,5 +326,27 @@ module _ (rows : List Row) (vars : List Ty) (steps : List Step) (h : IsEliminate
   pub point_meets : (point : List Val) → IsStateOf vars cs point → MeetsAll point rows
   point_meets point p = All-both (λ r. IsOver (order_of rows (length vars)) r.terms) (MeetsAt f.met.at_values) (MeetsAt (λ x. number_of (environment point x))) (λ r o m. meets_same f.met.at_values (λ x. number_of (environment point x)) r (All-weaker (λ t. is_in t.0 (order_of rows (length vars)) ≡ true) (λ t. f.met.at_values t.0 ≡ number_of (environment point t.0)) (λ t e. state_agrees point p t.0 e) r.terms o) m) rows h.over f.met.meets
 
-  pub point_answer : (point : List Val) → IsStateOf vars cs point → IsGreedyPoint rows vars point × MeetsAll point rows
-  point_answer point p = (record { chosen = cs; choice = all_chosen; state = p }, point_meets point p)
+  -- what is chosen is narrow, and every other variable is 0
+  value_narrow : (ds : List (ℕ × Rational)) (x : ℕ) → All (λ (c : ℕ × Rational). fits c.1 ≡ true) ds → fits (chosen_value x ds) ≡ true
+  value_narrow [] x a = zero_fits
+  value_narrow (d ∷ ds) x a = go (eqb d.0 x) (value_narrow ds x (All-tail (λ (c : ℕ × Rational). fits c.1 ≡ true) d ds a))
+    where
+      go : (b : Bool) → fits (chosen_value x ds) ≡ true → fits (cond b d.1 (chosen_value x ds)) ≡ true
+      go true ih = All-head (λ (c : ℕ × Rational). fits c.1 ≡ true) d ds a
+      go false ih = ih
+
+  number_narrow : (ty : Ty) (v : Rational) → fits v ≡ true → fits (number_of (value_for ty v)) ≡ true
+  number_narrow Ty.Bool v e = zero_fits
+  number_narrow Ty.Int v e = e
+  number_narrow Ty.UInt v e = e
+  number_narrow Ty.UReal v e = e
+
+  all_narrow : (point : List Val) → IsStateOf vars cs point → AreNarrow point
+  all_narrow point p = from_each point (λ x l. subst (λ v. fits (number_of v) ≡ true) (sym (p.values x (subst (λ n. x < n) p.each l))) (number_narrow (type_at vars x) (chosen_value x cs) (value_narrow cs x f.narrow)))
+    where
+      from_each : (vs : List Val) → ((x : ℕ) → x < length vs → fits (number_of (get_or vs x (Truth false))) ≡ true) → AreNarrow vs
+      from_each [] h = All-nil _
+      from_each (v ∷ vs) h = All-cons (λ v. fits (number_of v) ≡ true) v vs (h zero (omega arith)) (from_each vs (λ x l. h (suc x) (omega (arith, l))))
+
+  pub point_answer : (point : List Val) → IsStateOf vars cs point → IsGreedyPoint rows vars point × MeetsAll point rows × AreNarrow point
+  point_answer point p = (record { chosen = cs; choice = all_chosen; state = p }, point_meets point p, all_narrow point p)

@@ -12,7 +12,7 @@ use Rattle.linear_form.specs.Terms.{is_in, coefficient}
 use Rattle.linear_form.specs.Row.{Row}
 use Rattle.linear_form.specs.Solutions.{sum_of, IsBelowZero, MeetsAt}
 use Rattle.linear_form.specs.GreedyPoint.{End, Interval, IsInside, IsIntervalOf, IsCompleted, chosen_value}
-use Rattle.linear_form.proofs.Between.{All-both}
+use Rattle.linear_form.proofs.exported.Between.{All-both}
 use Rattle.linear_elim.specs.Joins.{Derived, is_negative, is_positive}
 use Rattle.linear_elim.specs.Steps.{lowers, uppers, kept, pairs, tidied}
 use Rattle.linear_elim.specs.Elimination.{Step}

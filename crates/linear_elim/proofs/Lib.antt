@@ -32,3 +32,4 @@ pub mod Pasts
 pub mod Greedily
 pub mod ChoiceRuns
 pub mod StepRows
+pub mod exported

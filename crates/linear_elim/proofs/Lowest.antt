@@ -14,7 +14,7 @@ use Rattle.heyvl_num.specs.GcdLaws.{gcd-is}
 use Rattle.linear_form.specs.Terms.{sum_at}
 use Rattle.linear_form.specs.Row.{Row}
 use Rattle.linear_form.specs.Points.{Point, left_side}
-use Rattle.linear_form.proofs.Sums.{sum_at-nil, sum_at-cons}
+use Rattle.linear_form.proofs.exported.Sums.{sum_at-nil, sum_at-cons}
 use Rattle.linear_form.specs.Divisors.{common, or_one}
 use Rattle.linear_elim.specs.Joins.{row_divisor, lowest}
 

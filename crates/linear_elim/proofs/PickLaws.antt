@@ -27,6 +27,7 @@ use Rattle.linear_elim.proofs.EndPlaces.{less_from, whole-zero, whole-one}
 use Rattle.linear_elim.proofs.Bounded.{<ʳ-≤ʳ-trans, ≤ʳ-<ʳ-trans, up_from_weak, up_to_weak, up_from_strong, up_to_strong}
 use Rattle.linear_elim.proofs.Intervals.{inside_past}
 use Rattle.linear_elim.proofs.Middles.{whole_mono, whole_mono_out, floor_small, ceil_small}
+use Rattle.linear_elim.proofs.Pasts.{zero_fits}
 
 pub not_less : (x y : Rational) → (x <ʳ y → ⊥) → y ≤ʳ x
 not_less x y n = record { holds = go (leqʳ y x) refl }
@@ -138,7 +139,7 @@ pub picked_value : (i : Interval) (ty : Ty) (v : Rational) (p : Pick) → p ≡ 
 picked_value i ty v p e h = subst (IsPicked i ty) (sym e) (go (fits v) refl)
   where
     go : (b : Bool) → fits v ≡ b → IsPicked i ty (cond b (Value v) Great)
-    go true k = h
+    go true k = (h.0, h.1, k)
     go false k = (v, h.0, k)
 
 -- ---- Whole numbers
@@ -274,4 +275,4 @@ pub taken_out : (side : Side) (end far : Option End) (near : End) (ty : Ty) (p :
 taken_out side end far near ty p z b e f k m n q w i = subst (λ o. IsPicked (between side o far) ty p) (sym e) (f q (λ y. absurd (let l = k.1 (subst (IsWithin side near) (sym m) y) in cc)) w (subst (λ o. IsInside (between side o far) w) e i))
 
 pub zero_taken : (low high : Option End) (ty : Ty) (z : Rational) → z ≡ zeroʳ → IsPast Low low zeroʳ → IsPast High high zeroʳ → IsPicked (between Low low high) ty (Value z)
-zero_taken low high ty z e l h = let i = (inside_past (between Low low high) zeroʳ).1 (l, h) in subst (λ v. IsPicked (between Low low high) ty (Value v)) (sym e) (choose_zero ty i, i)
+zero_taken low high ty z e l h = let i = (inside_past (between Low low high) zeroʳ).1 (l, h) in subst (λ v. IsPicked (between Low low high) ty (Value v)) (sym e) (choose_zero ty i, i, zero_fits)

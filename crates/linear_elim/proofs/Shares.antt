@@ -12,8 +12,8 @@ use Rattle.heyvl_num.proofs.Integers.{ring}
 use Rattle.linear_form.specs.Terms.{sum_at, IsNormal, put_term, add_term, add_terms}
 use Rattle.linear_form.specs.Row.{Row}
 use Rattle.linear_form.specs.Combination.{row_at}
-use Rattle.linear_form.proofs.Sums.{sum_at-nil, sum_at-add}
-use Rattle.linear_form.proofs.Normal.{add-normal, add-all}
+use Rattle.linear_form.proofs.exported.Sums.{sum_at-nil, sum_at-add}
+use Rattle.linear_form.proofs.exported.Normal.{add-normal, add-all}
 use Rattle.linear_form.specs.Divisors.{common, divisor, divided_terms}
 use Rattle.linear_elim.specs.Joins.{is_positive, row_divisor, lowest, size, mixed_row, mixed_shares, joined_row, joined_shares, joined_over, share_divisor, join, any_at, Derived, Follows}
 use Rattle.linear_elim.proofs.Lowest.{lowest-is, sum_at-divided, times_back, or_one-divides, common-divides, or_one-positive, DividesAll}

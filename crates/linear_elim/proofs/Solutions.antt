@@ -12,9 +12,9 @@ use Rattle.heyvl_num.specs.Value.{is_zero_num}
 use Rattle.linear_form.specs.Terms.{sum_at, coefficient, add_terms}
 use Rattle.linear_form.specs.Row.{Row}
 use Rattle.linear_form.specs.Points.{Point, IsBelow, Meets, left_side, AgreesBut}
-use Rattle.linear_form.proofs.Sums.{sum_at-nil, sum_at-add}
-use Rattle.linear_form.proofs.Between.{below-scale, below-cancel, below-same, below-both, All-both, Shift, between}
-use Rattle.linear_form.proofs.Moves.{moved, left_side-moved, agrees-moved}
+use Rattle.linear_form.proofs.exported.Sums.{sum_at-nil, sum_at-add}
+use Rattle.linear_form.proofs.exported.Between.{below-scale, below-cancel, below-same, below-both, All-both, Shift, between}
+use Rattle.linear_form.proofs.exported.Moves.{moved, left_side-moved, agrees-moved}
 use Rattle.linear_elim.specs.Joins.{is_negative, is_positive, mixed_row, Derived, size, join, joined_row, lowest, row_divisor}
 use Rattle.linear_elim.specs.Steps.{lowers, uppers, kept, pairs, eliminate_one}
 use Rattle.linear_elim.proofs.Lowest.{lowest-is, left_side-times}

@@ -12,8 +12,8 @@ use Rattle.heyvl_num.specs.Value.{is_zero_num}
 use Rattle.linear_form.specs.Terms.{sum_at}
 use Rattle.linear_form.specs.Row.{Row}
 use Rattle.linear_form.specs.Points.{Point, IsBelow, Meets}
-use Rattle.linear_form.proofs.Sums.{sum_at-nil}
-use Rattle.linear_form.proofs.Between.{below-weak, below-strong, below-same}
+use Rattle.linear_form.proofs.exported.Sums.{sum_at-nil}
+use Rattle.linear_form.proofs.exported.Between.{below-weak, below-strong, below-same}
 use Rattle.linear_elim.specs.Joins.{Derived}
 use Rattle.linear_elim.specs.Steps.{same_number, same_terms, is_stronger, put_row, strongest, has_terms, tidied, is_contradiction, contradiction}
 use Rattle.linear_elim.proofs.Solutions.{MeetsIn}

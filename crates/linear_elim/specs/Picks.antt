@@ -40,7 +40,7 @@ pub record IsNextWhole (side : Side) (e : End) (n : ℤ) : Type 0 where
 
 -- What is taken in an interval: a value of it that isn't too great; or it breaks, between these ends; or the value is too great.
 abbrev pub IsPicked : Interval → Ty → Pick → Type 0
-IsPicked i ty (Value v) = IsChoice i ty v × IsInside i v
+IsPicked i ty (Value v) = IsChoice i ty v × IsInside i v × (fits v ≡ true)
 IsPicked i ty (Breaks low high) = IsBroken i ty × (i.low ≡ Some low) × (i.high ≡ Some high)
 IsPicked i ty Great = (v : Rational) × IsChoice i ty v × (fits v ≡ false)
 

@@ -60,7 +60,7 @@ rows_give types P (k ∷ ks) rows e h = go (tightened types k) refl (all_tighten
 
 -- ---- The signs of more claims
 
-occurs_more : (x : ℕ) (ks ls : List Claim) → occurs_in_claims x ks ≡ true → occurs_in_claims x (ks ++ ls) ≡ true
+pub occurs_more : (x : ℕ) (ks ls : List Claim) → occurs_in_claims x ks ≡ true → occurs_in_claims x (ks ++ ls) ≡ true
 occurs_more x [] ls e = absurd (cc)
 occurs_more x (k ∷ ks) ls e = go (occurs_in_terms x k.left.terms) e (occurs_more x ks ls)
   where

@@ -1,6 +1,6 @@
 -- The factor that makes coefficients whole, term by term from the last one.
-use Rattle.std.proofs.Common.{◌≡◌, ℕ, length, ◌==◌, ◌+◌, ◌*◌, ◌/◌, ◌<◌, ◌≤◌, ◌^◌, List, [], ◌∷◌, refl, sym, ap, ap₂, ◌∙◌, arith, lit<, subst, Bool, true, false, cond, ◌&&◌, nat_lt, ◌||◌, to_z, of_z, FitsSigned}
-use Rattle.std.specs.Prelude.{ℤ, pos, negsuc, ◌*ℤ◌, ◌<ℤ◌, neg_ℤ, unsigned_abs, Option, Some, None}
+use Rattle.std.proofs.Common.{◌≡◌, ℕ, length, ◌==◌, ◌+◌, ◌*◌, ◌/◌, ◌<◌, ◌≤◌, ◌^◌, [], ◌∷◌, refl, sym, ap, ap₂, ◌∙◌, arith, lit<, subst, Bool, true, false, ◌&&◌, ◌||◌, to_z, of_z, FitsSigned}
+use Rattle.std.specs.Prelude.{ℤ, pos, negsuc, ◌*ℤ◌, ◌<ℤ◌, neg_ℤ, unsigned_abs, Some, None}
 use borrow.Author.Differences.{ints}
 use Prim.Native.Nat.{zero, suc, ◌∣◌}
 use Rattle.std.proofs.Math.Nat.{mul-pos, div-mul_cancel, mul-div_cancel, pos_of_dvd_of_pos, eq_of_mul-eq-mul_right, eq-one_of_dvd-one, one-mul, zero-lt-suc}
@@ -16,7 +16,7 @@ use Rattle.std.specs.Int.{w128}
 use Rattle.std.proofs.lemmas.Nat.{mul-lt}
 use Rattle.linear_form.proofs.Narrow.{small, num_less, den_less, seen}
 use Rattle.heyvl_num.specs.Value.{is_zeroʳ, is_zero_num}
-use Rattle.heyvl_num.proofs.Rationals.{ratio_parts, ratio_den, ratio_num, ratio_same, ratio-*, *ʳ_assoc, div_one, ratio_equal_cross}
+use Rattle.heyvl_num.proofs.Rationals.{ratio_parts, ratio_den, ratio_same, ratio-*, *ʳ_assoc, ratio_equal_cross}
 use Rattle.linear_form.specs.Lin.{Terms, fits, IsNormal}
 use Rattle.linear_form.specs.ClaimLaws.{AreNonzero}
 use Rattle.linear_form.specs.Terms.{is_narrow}

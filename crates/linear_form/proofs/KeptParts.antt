@@ -1,5 +1,5 @@
 -- The parts of linear values, and terms that may be added.
-use Rattle.std.proofs.Common.{◌≡◌, ℕ, ◌<◌, List, [], ◌∷◌, refl, sym, ap, ap₂, ◌∙◌, arith, Bool, true, false, cond, ◌==◌, ltb, ◌&&◌}
+use Rattle.std.proofs.Common.{◌≡◌, ℕ, ◌<◌, [], ◌∷◌, refl, sym, ap, ap₂, ◌∙◌, arith, Bool, true, false, cond, ◌==◌, ltb, ◌&&◌}
 use Rattle.heyvl_num.specs.Rational.{Rational, zeroʳ, ◌+ʳ◌, ◌*ʳ◌}
 use Rattle.heyvl_num.specs.Value.{is_zeroʳ}
 use Rattle.linear_form.specs.Lin.{Lin, Terms, constant, kept, more, merged, times, scaled, minus_oneʳ, fits, all_fit, is_sized, IsAbove, IsNormal}

@@ -1,19 +1,19 @@
 -- Linear values keep their terms growing and without zeros, and their numbers below the bound.
-use Rattle.std.proofs.Common.{◌≡◌, ℕ, ◌<◌, List, [], ◌∷◌, refl, sym, ap, ap₂, ◌∙◌, arith, Bool, true, false, cond, ◌==◌, ltb, ◌||◌}
-use Rattle.std.specs.Prelude.{Option, Some, None}
+use Rattle.std.proofs.Common.{◌≡◌, ℕ, ◌<◌, List, [], ◌∷◌, refl, ap₂, ◌∙◌, arith, Bool, true, false, cond, ◌==◌, ltb, ◌||◌}
+use Rattle.std.specs.Prelude.{Some, None}
 use Rattle.heyvl_num.specs.Gcd.{gcd, gcd_steps}
 use Rattle.heyvl_num.specs.Rational.{Rational, ratio, zeroʳ, oneʳ, ◌+ʳ◌, ◌*ʳ◌}
 use Rattle.heyvl_num.specs.Value.{Value, is_zeroʳ}
 use Rattle.heyvl_num.specs.Value.Value.{finite, infinite}
 use Rattle.heyvl_num.proofs.Values.{is_zero-*, is_zero-one}
-use Rattle.heylo_formula.specs.Formula.{Form, Cond}
+use Rattle.heylo_formula.specs.Formula.{Form}
 use Rattle.linear_form.specs.Lin.{Lin, Terms, constant, variable, kept, more, merged, times, plus, minus, minus_oneʳ, scaled, fits, is_sized, IsAbove, IsNormal}
-use Rattle.linear_form.specs.Query.{Query, next}
-use Rattle.linear_form.specs.Query.Query.{done, bits, ask}
+use Rattle.linear_form.specs.Query.{next}
+use Rattle.linear_form.specs.Query.Query.{done, bits}
 use Rattle.linear_form.specs.Questions as q
 use Rattle.linear_form.specs.Questions.{Linear, sized, is_below, evaluate, test}
 use Rattle.linear_form.specs.QuestionLaws.{EachResult}
-use Rattle.linear_form.specs.Run.{IsKept, IsKeptValue, Outcome, run}
+use Rattle.linear_form.specs.Run.{IsKeptValue, Outcome, run}
 use Rattle.linear_form.specs.Query.{Taken}
 use Rattle.linear_form.proofs.Runs.{run_result}
 use Rattle.linear_form.proofs.EachResults.{each_next, each_after, each_both, of_two}

@@ -1,7 +1,7 @@
 -- The value of a linear value in a state, operator by operator.
-use Rattle.std.proofs.Common.{◌≡◌, ◌↔◌, ℕ, ◌^◌, List, [], ◌∷◌, refl, sym, ap, ap₂, ◌∙◌, arith, lit<, Bool, true, false, not, cond, ◌==◌, ltb}
-use Rattle.std.proofs.Math.IntN.{pos, negsuc}
-use Rattle.heyvl_num.specs.Rational.{Rational, ratio, zeroʳ, oneʳ, ◌+ʳ◌, ◌*ʳ◌, ◌-ʳ◌, negʳ, leqʳ, ◌≤ʳ◌}
+use Rattle.std.proofs.Common.{◌≡◌, ◌↔◌, ℕ, [], ◌∷◌, refl, sym, ap, ap₂, ◌∙◌, arith, lit<, Bool, true, false, not, cond, ◌==◌, ltb}
+use Rattle.std.proofs.Math.IntN.{pos}
+use Rattle.heyvl_num.specs.Rational.{Rational, zeroʳ, oneʳ, ◌+ʳ◌, ◌*ʳ◌, ◌-ʳ◌, negʳ, leqʳ, ◌≤ʳ◌}
 use Rattle.heyvl_num.specs.Value.{is_zeroʳ}
 use Rattle.heyvl_num.proofs.Rationals as fraction
 use Rattle.heyvl_num.proofs.Rationals.{+ʳ_assoc, +ʳ_left_comm, zero-+ʳ, +ʳ-zero, zero-*ʳ, *ʳ-zero, one-*ʳ, *ʳ_assoc, *ʳ-+ʳ, +ʳ-*ʳ, ratio-neg}

@@ -1,6 +1,6 @@
 -- Sums and products of fractions below 2^62 are exact.
-use Rattle.std.proofs.Common.{◌≡◌, ℕ, ◌<◌, ◌≤◌, ◌*◌, ◌+◌, ◌^◌, refl, sym, ap, ap₂, ◌∙◌, subst, arith, lit<, Bool, true, false, cond, ◌&&◌, not, nat_lt, nat_eq, unsigned_abs, to_z, of_z, FitsSigned}
-use Rattle.std.specs.Prelude.{Option, Some, None}
+use Rattle.std.proofs.Common.{◌≡◌, ℕ, ◌<◌, ◌≤◌, ◌+◌, ◌^◌, refl, sym, ap, ap₂, ◌∙◌, arith, lit<, Bool, true, false, ◌&&◌, not, nat_lt, nat_eq, unsigned_abs, to_z, of_z, FitsSigned}
+use Rattle.std.specs.Prelude.{Some}
 use Rattle.std.proofs.Math.IntN.{ℤ, pos, negsuc, ◌+ℤ◌, ◌*ℤ◌, neg_ℤ}
 use Rattle.std.specs.Int.Signed.{le_z, lt_z}
 use Rattle.std.specs.Int.{w128}

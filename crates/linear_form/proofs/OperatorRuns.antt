@@ -1,14 +1,14 @@
 -- Evaluation of the operators along a path.
-use Rattle.std.proofs.Common.{◌≡◌, ℕ, ◌+◌, List, [], ◌∷◌, refl, sym, ap, ◌∙◌, Bool, true, false, cond, drop}
-use Rattle.std.specs.Prelude.{Option, Some, None}
+use Rattle.std.proofs.Common.{◌≡◌, ℕ, ◌+◌, List, [], ◌∷◌, refl, Bool, true, false, drop}
+use Rattle.std.specs.Prelude.{Some, None}
 use Rattle.linear_form.specs.Lin.{Lin, Terms, is_sized}
-use Rattle.linear_form.specs.Query.{Query, Atom, Taken, is_negative}
-use Rattle.linear_form.specs.Query.Query.{done, bits, ask}
+use Rattle.linear_form.specs.Query.{Atom, Taken, is_negative}
+use Rattle.linear_form.specs.Query.Query.{done, ask}
 use Rattle.linear_form.specs.Questions as q
 use Rattle.linear_form.specs.Questions.{Linear}
 use Rattle.linear_form.specs.Operator.{has_no_terms}
 use Rattle.linear_form.specs.Run.{Outcome, run, turned}
-use Rattle.linear_form.specs.Run.Outcome.{value, decide}
+use Rattle.linear_form.specs.Run.Outcome.{value}
 
 pub run_sized : (ps : List Taken) (a : Lin) (i : ℕ) → is_sized a ≡ true → run ps (q.sized (Some a)) i ≡ value (Some a) i
 unfolding run

@@ -1,12 +1,11 @@
 -- An evaluation along a path of a tree gives what stands at the path's end.
-use Rattle.std.proofs.Common.{◌≡◌, ℕ, ◌+◌, List, [], ◌∷◌, ◌++◌, refl, sym, ap, ap₂, ◌∙◌, subst, arith, Bool, true, false, cond, take, drop, length}
-use Prim.Native.Nat.{zero, suc}
+use Rattle.std.proofs.Common.{◌≡◌, ℕ, ◌+◌, List, [], ◌∷◌, ◌++◌, refl, sym, ap, subst, arith, Bool, true, false, take, drop, length}
 use Rattle.std.specs.Prelude.{Option, Some, None}
 use Rattle.heylo_formula.specs.Goals.{Goal}
-use Rattle.linear_form.specs.Query.{Query, Atom, Taken, next, known, unless_known, once, onto}
+use Rattle.linear_form.specs.Query.{Query, Atom, Taken, known, unless_known, once, onto}
 use Rattle.linear_form.specs.Query.Query.{done, bits, ask}
 use Rattle.linear_form.specs.Paths.{Path, walk, IsPath, end_at}
-use Rattle.linear_form.specs.Questions.{Linear, Ends, questions, evaluate, both}
+use Rattle.linear_form.specs.Questions.{Ends, evaluate, both}
 use Rattle.linear_form.specs.Run.{Outcome, run, turned, heard}
 use Rattle.linear_form.specs.Run.Outcome.{value, decide}
 use Rattle.linear_form.specs.PlainPaths.{linear_of, atom_of}

@@ -1,9 +1,8 @@
 -- The product of two fractions in lowest terms, reduced crosswise before it is made.
 use Rattle.std.proofs.Common.{◌≡◌, ℕ, ◌<◌, ◌*◌, ◌/◌, ◌^◌, refl, sym, ap, ap₂, ◌∙◌, subst, arith, Bool, true, false, cond, ◌&&◌, nat_lt, unsigned_abs, ◌≤◌, ◌+◌, FitsSigned}
-use Rattle.std.specs.Prelude.{Option, Some, None}
+use Rattle.std.specs.Prelude.{Some, None}
 use Rattle.std.proofs.Math.IntN.{ℤ, pos, negsuc, ◌*ℤ◌}
 use Prim.Native.Nat.{suc, zero, ◌∣◌}
-use Rattle.std.specs.Int.{IsGcd}
 use Rattle.std.proofs.lemmas.Int.{unsigned_abs-mul}
 use Rattle.std.proofs.lemmas.Nat.Gcd.{dvd_trans, le_of_dvd}
 use Rattle.std.proofs.Math.Nat.{dvd-mul_right, dvd-mul_right_of_dvd, eq-one_of_dvd-one, pos_of_dvd_of_pos, mul-pos, mul_comm, one-mul}

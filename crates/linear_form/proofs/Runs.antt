@@ -1,14 +1,14 @@
 -- Evaluation along a path, operator by operator.
-use Rattle.std.proofs.Common.{◌≡◌, ℕ, ◌+◌, ◌<◌, ◌≤◌, List, [], ◌∷◌, refl, sym, ap, ap₂, ◌∙◌, subst, arith, Bool, true, false, cond, take, drop, length, get_or}
+use Rattle.std.proofs.Common.{◌≡◌, ℕ, ◌+◌, ◌<◌, ◌≤◌, List, [], ◌∷◌, refl, sym, ap, ◌∙◌, subst, arith, Bool, true, false, cond, take, drop, length, get_or}
 use Prim.Native.Nat.{zero, suc}
 use Rattle.std.specs.Prelude.{Option, Some, None, Result, Err}
 use Rattle.linear_form.specs.Query.{Query, Atom, Taken, next, known}
 use Rattle.linear_form.specs.Query.Query.{done, bits, ask}
-use Rattle.linear_form.specs.Questions.{Linear, Ends, both}
+use Rattle.linear_form.specs.Questions.{Linear, Ends}
 use Rattle.linear_form.specs.QuestionLaws.{EachResult}
 use Rattle.linear_form.specs.Run.{Outcome, run, turned, heard, onward}
 use Rattle.linear_form.specs.Run.Outcome.{value, decide}
-use Rattle.linear_form.specs.PlainPaths.{path_of, atom_of}
+use Rattle.linear_form.specs.PlainPaths.{path_of}
 use Rattle.linear_form.specs.Seen.{Stops, Gives, GivesBoth, Tells}
 use Rattle.linear_form.specs.declared.paths.Taken as T
 use Rattle.linear_form.specs.declared.cursor.Stop as S

@@ -8,7 +8,7 @@ use Rattle.std.proofs.lemmas.List.{drop_all}
 use Rattle.std.specs.List.{All}
 use Rattle.std.proofs.lemmas.List.Elements.{All-nil, All-cons, All-weaker, All-append}
 use Rattle.std.proofs.lemmas.Bool.Decides.{nat_tests}
-use mir.Syntax.{w64, w128}
+use mir.Syntax.{w128}
 use Rattle.heyvl_num.proofs.Integers.{one-*ℤ}
 use Rattle.linear_form.specs.Terms.{coefficient, IsNormal, put_term, add_terms}
 use Rattle.std.specs.Int.RustNames.{int_div}

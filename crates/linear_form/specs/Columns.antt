@@ -1,5 +1,5 @@
 -- The numbers of rows, and which lists are multipliers of some rows.
-use Rattle.std.specs.Prelude.{ℕ, ◌≡◌, ◌⊎◌, ◌<◌, ◌^◌, List, length, ℤ, pos, ◌<ℤ◌, true}
+use Rattle.std.specs.Prelude.{ℕ, ◌≡◌, ◌⊎◌, ◌<◌, ◌^◌, List, ℤ, pos, ◌<ℤ◌, true}
 use Rattle.std.specs.List.{All}
 use Rattle.linear_form.specs.Terms.{coefficient}
 use Rattle.linear_form.specs.Row.{Row}

@@ -1,6 +1,6 @@
 -- The greedy point of solvable rows: one variable after the other takes a value near 0 that the values so far leave room for.
 -- It speaks of the rows' solutions alone. Source: this project's own choice of a point.
-use Rattle.std.specs.Prelude.{◌≡◌, ◌↔◌, ◌⊎◌, ℕ, ◌<◌, ◌≤◌, List, [], ◌∷◌, ◌++◌, length, get_or, reverse, map, unsigned_abs, Bool, true, false, Option, Some, None, cond, eqb}
+use Rattle.std.specs.Prelude.{◌≡◌, ◌↔◌, ℕ, ◌<◌, ◌≤◌, List, [], ◌∷◌, ◌++◌, length, get_or, reverse, unsigned_abs, Bool, true, false, Option, Some, None, cond, eqb}
 use Rattle.std.specs.List.{All}
 use Rattle.heyvl_num.specs.Rational.{Rational, zeroʳ, oneʳ, middleʳ, ◌+ʳ◌, ◌-ʳ◌, ◌≤ʳ◌, ◌<ʳ◌}
 use Rattle.heylo_formula.specs.declared.types.Ty.{Ty}

@@ -1,10 +1,9 @@
 -- What the program's evaluation gives, told in plain words.
-use Rattle.std.specs.Prelude.{◌≡◌, Option, Some, None, Bool, Result, Ok, Err}
+use Rattle.std.specs.Prelude.{◌≡◌, Bool, Result, Ok, Err}
 use Rattle.linear_form.specs.Query.{Query}
 use Rattle.linear_form.specs.Questions.{Linear, Ends}
-use Rattle.linear_form.specs.Paths.{end_at}
 use Rattle.linear_form.specs.Run.{Outcome}
-use Rattle.linear_form.specs.PlainPaths.{lin_of, linear_of, atom_of}
+use Rattle.linear_form.specs.PlainPaths.{linear_of, atom_of}
 use Rattle.linear_form.specs.declared.cursor.Found as F
 use Rattle.linear_form.specs.declared.cursor.Pair as P
 use Rattle.linear_form.specs.declared.cursor.Tested as B

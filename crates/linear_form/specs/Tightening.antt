@@ -1,6 +1,6 @@
 -- Inequalities with fractions, and the rows with whole numbers that they are tightened to. This project's own; rounding a
 -- constant over whole variables is Gomory's and Chvatal's.
-use Rattle.std.specs.Prelude.{◌≡◌, ℕ, ◌+◌, ◌*◌, ◌/◌, List, [], ◌∷◌, map, ℤ, pos, negsuc, ◌+ℤ◌, unsigned_abs, Bool, true, false, ◌&&◌, Option, Some, None, if◌then◌else◌}
+use Rattle.std.specs.Prelude.{◌≡◌, ℕ, ◌*◌, ◌/◌, List, [], ◌∷◌, map, ℤ, pos, negsuc, ◌+ℤ◌, unsigned_abs, Bool, true, false, ◌&&◌, Option, Some, None, if◌then◌else◌}
 use Prim.Native.Nat.{zero, suc}
 use Rattle.heyvl_num.specs.Gcd.{gcd}
 use Rattle.heyvl_num.specs.Rational.{Rational, ratio, ◌*ʳ◌}

@@ -21,6 +21,7 @@ mod path_laws;
 mod path_row_tests;
 mod path_rows;
 mod paths;
+mod plain_ends;
 mod point_laws;
 #[cfg(test)]
 mod product_tests;
@@ -47,6 +48,7 @@ pub use multipliers::contradicts;
 pub use path_laws::paths_are_short;
 pub use path_rows::{RowList, rows};
 pub use paths::{Atom, Taken};
+pub use plain_ends::holds_plainly;
 pub use point_laws::{falsifying_points, truths_are_booleans, unsigned_are_nonnegative};
 pub use question_laws::{constant_without_variables, one_path_agrees};
 pub use row::Row;

@@ -21,12 +21,13 @@ use Rattle.linear_form.specs.TypedGoals.{IsTypedGoal, HasItsVariables, types_in}
 use Rattle.linear_form.specs.GreedyPoint.{Greedy, ChoosesFrom, chosen_value, value_for, IsWholeType}
 use Rattle.linear_form.specs.Cells.{IsFalseCell}
 use Rattle.linear_form.specs.PointLaws.{HasTruths}
-use Rattle.linear_form.proofs.NumericRows.{unsigned_number, numeric_rows}
-use Rattle.linear_form.proofs.FalsifyingPoints.{points_falsify}
-use Rattle.linear_form.proofs.Truths.{truths_booleans, truths_variables}
-use Rattle.linear_form.proofs.UnsignedRows.{unsigned_nonnegative}
+use Rattle.linear_form.proofs.exported.NumericRows.{unsigned_number, numeric_rows}
+use Rattle.linear_form.proofs.exported.FalsifyingPoints.{points_falsify}
+use Rattle.linear_form.proofs.exported.Truths.{truths_booleans, truths_variables}
+use Rattle.linear_form.proofs.exported.UnsignedRows.{unsigned_nonnegative}
 use Rattle.region_split.specs.Decisions.{value_on, with_truths, IsPointOf, IsFalsified}
 use Rattle.region_split.specs.Meanings.{Fails}
+use Rattle.region_split.proofs.CellOrder.{front_path}
 use Rattle.region_split.proofs.GreedyStates.{number_below, rows_same, greedy_meets, greedy_whole, greedy_value}
 
 -- ---- The truths of a path among the values
@@ -119,7 +120,7 @@ pointed g ps point w v a h = record {
 
 cell_fails : (g : Goal) (ps : List Taken) (point : List Val) → IsTypedGoal g → HasItsVariables g → IsFalseCell g ps → IsPointOf g ps point → Fails g point
 cell_fails g ps point w v f h =
-    let a = f.cell.front.is_path in
+    let a = front_path g ps f.cell.front in
     let p = pointed g ps point w v a h in
     let o : Some f.rows ≡ Some h.rows = sym f.are_rows ∙ h.are_rows in
     let same : f.rows ≡ h.rows = cc in
@@ -129,4 +130,4 @@ cell_fails g ps point w v f h =
     record { typed = t; fails = points_falsify g ps f.cell.ends h.rows point w t a f.cell.at_end f.not_plain h.are_rows (truths_are g ps h.rows h.greedy.chosen point p) m }
 
 pub falsified_fails : (g : Goal) (point : List Val) → IsTypedGoal g → HasItsVariables g → IsFalsified g point → Fails g point
-falsified_fails g point w v f = cell_fails g f.path point w v f.false_cell f.point_of_cell
+falsified_fails g point w v f = cell_fails g f.first.path point w v f.first.false_cell f.first.point_of_cell

@@ -1,7 +1,9 @@
+mod Moved
 mod PathAnswers
 mod Climbing
 mod CellOrder
 mod CellsFound
+mod TypedBreaks
 mod Leaves
 mod Steps
 mod ProvedGoals

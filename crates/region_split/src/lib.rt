@@ -11,6 +11,7 @@ mod decisions;
 mod found;
 mod front;
 mod growth;
+mod moving;
 mod points;
 mod solving;
 #[cfg(test)]

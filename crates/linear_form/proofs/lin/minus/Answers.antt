@@ -1,4 +1,4 @@
-use Rattle.std.proofs.Common.{◌≡◌, ap, ◌∙◌, sym, subst}
+use Rattle.std.proofs.Common.{ap, ◌∙◌, sym, subst}
 use Rattle.linear_form.specs.Lin.{fits, scaled}
 use Rattle.linear_form.specs.Run.{IsKept}
 use Rattle.linear_form.specs.PlainPaths.{lin_of}

@@ -1,4 +1,4 @@
-use Rattle.std.proofs.Common.{arith, rules, subst, ap, sym, ◌∙◌, [], ◌<◌, false}
+use Rattle.std.proofs.Common.{subst, ap, ◌∙◌, [], ◌<◌, false}
 use Rattle.std.specs.Prelude.{pos}
 use Rattle.std.proofs.lemmas.List.{take_all}
 use Rattle.std.specs.List.{All}

@@ -1,4 +1,4 @@
-use Rattle.std.proofs.Common.{◌≡◌, sym, ◌∙◌, ap, rules, refl}
+use Rattle.std.proofs.Common.{sym, ◌∙◌, ap, rules, refl}
 use Rattle.linear_form.specs.Run.Outcome.{value}
 use Rattle.linear_form.proofs.Runs.{gives_first, run_done, run_after}
 use Rattle.linear_form.proofs.OperatorRuns.{co_imply_none}

@@ -1,4 +1,4 @@
-use Rattle.std.proofs.Common.{◌≡◌, sym, ◌∙◌, ap}
+use Rattle.std.proofs.Common.{sym, ◌∙◌, ap}
 use Rattle.std.specs.Prelude.{Some}
 use Rattle.linear_form.specs.Run.Outcome.{value}
 use Rattle.linear_form.proofs.OperatorRuns.{run_sized, run_large}

@@ -1,4 +1,4 @@
-use Rattle.std.proofs.Common.{◌≡◌, sym, ◌∙◌, subst, true, ap}
+use Rattle.std.proofs.Common.{sym, ◌∙◌, subst, ap}
 use Rattle.linear_form.specs.Seen.{Tells}
 use Rattle.linear_form.specs.PlainPaths.{path_of, lin_of}
 use Rattle.linear_form.specs.Run.Outcome.{value}

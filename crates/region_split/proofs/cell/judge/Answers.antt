@@ -20,4 +20,4 @@ pub returns-in_ok-with_point-in-Point : goal.returns-in_ok-with_point-in-Point
 returns-in_ok-with_point-in-Point c = point_cell (goal_of c.args.goal.now) (path_of c.args.path.now) c.args.found _ c.args.plain c.in-Point.point.items c.requires.front c.requires.at_end c.if-plain.false (rw c.in-Point.is at c.in_ok-multipliers.ensures) (λ cells j i p. c.in_ok-with_point-in-Point.ensures (goal_of c.args.goal.now) cells j i p)
 
 pub returns-in-Break : goal.returns-in-Break
-returns-in-Break c = break_cell (goal_of c.args.goal.now) (path_of c.args.path.now) c.args.found _ c.args.plain c.in-Break.broken c.requires.front c.requires.at_end c.if-plain.false (rw c.in-Break.is at c.in_ok-multipliers.ensures) (λ cells ps j i p. c.with_break.ensures (goal_of c.args.goal.now) cells ps j i p)
+returns-in-Break c = break_cell (goal_of c.args.goal.now) (path_of c.args.path.now) c.args.found _ c.args.plain c.in-Break.broken c.requires.typed c.requires.front c.requires.at_end c.if-plain.false (rw c.in-Break.is at c.in_ok-multipliers.ensures) (λ cells ps j i p. c.with_break.ensures (goal_of c.args.goal.now) cells ps j i p)

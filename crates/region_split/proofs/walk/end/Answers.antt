@@ -3,8 +3,8 @@ use Rattle.heylo_formula.specs.Goals.{goal_of}
 use Rattle.linear_form.specs.Paths.{IsPath}
 use Rattle.linear_form.specs.PlainPaths.{path_of}
 use Rattle.linear_form.specs.Cells.{IsFront}
-use Rattle.region_split.specs.Seen.{EndsGoal, IsEnd}
-use Rattle.region_split.specs.Progress.{IsJudgedCell}
+use Rattle.region_split.specs.internal.Seen.{EndsGoal, IsEnd}
+use Rattle.region_split.specs.internal.Progress.{IsJudgedCell}
 use Rattle.region_split.proofs.Steps.{all_counted, cell_walk, walk_front, walk_short}
 use Rattle.region_split.proofs.walk.end.Goals as goal
 

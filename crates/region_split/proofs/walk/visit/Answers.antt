@@ -2,7 +2,7 @@ use Rattle.std.proofs.Common.{sym, subst}
 use Rattle.heylo_formula.specs.Goals.{goal_of}
 use Rattle.linear_form.specs.Paths.{IsPath}
 use Rattle.linear_form.specs.PlainPaths.{path_of}
-use Rattle.region_split.specs.Seen.{IsDroppedBy, EndsGoal}
+use Rattle.region_split.specs.internal.Seen.{IsDroppedBy, EndsGoal}
 use Rattle.region_split.proofs.Steps.{walk_front, walk_short, dropped_walk}
 use Rattle.region_split.proofs.walk.visit.Goals as goal
 

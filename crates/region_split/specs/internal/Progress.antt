@@ -3,21 +3,19 @@
 use Rattle.std.specs.Prelude.{◌≡◌, ◌⊎◌, ℕ, ◌+◌, ◌≤◌, ◌<◌, ◌^◌, List, [], ◌∷◌, ◌++◌, length, true, false, Option, Some, None, if◌then◌else◌}
 use Rattle.std.specs.List.{All}
 use Rattle.heylo_formula.specs.Goals.{Goal}
-use Rattle.heylo_formula.specs.declared.values.Val.{Val}
 use Rattle.linear_form.specs.Query.{Query, Atom, Taken, onto}
 use Rattle.linear_form.specs.Query.Query.{done, bits, ask}
 use Rattle.linear_form.specs.Questions.{questions}
 use Rattle.linear_form.specs.Paths.{IsPath, end_at}
 use Rattle.linear_form.specs.PathRows.{IsPlainAt}
 use Rattle.linear_form.specs.PlainPaths.{path_of}
-use Rattle.linear_form.specs.Cells.{IsFalseCell}
-use Rattle.linear_elim.specs.declared.answers.Broken.{Broken}
-use Rattle.farkas_check.specs.Trees.{tree_of}
-use Rattle.farkas_check.specs.declared.trees.Tree.{Tree}
-use Rattle.farkas_check.specs.Accepted.{IsAccepted}
-use Rattle.region_split.specs.Walk.{AreCells, HasDepth}
-use Rattle.region_split.specs.Decisions.{IsRefutedCell, IsPointOf, IsBreakOf, Breaks, HasTree, IsDecision}
-use Rattle.region_split.specs.Seen.{GoesOn, EndsGoal}
+use Rattle.linear_form.specs.Cells.{GoesOn}
+use Rattle.farkas_check.specs.Trees.{Tree, tree_of}
+use Rattle.farkas_check.specs.declared.trees.Tree as T
+use Rattle.region_split.specs.Walk.{IsRefutedCell, AreCells}
+use Rattle.region_split.specs.WalkTree.{IsWalkTree, depth}
+use Rattle.region_split.specs.Decisions.{IsFirstPoint, IsFirstBreak, IsGiven, IsDecision}
+use Rattle.region_split.specs.internal.Seen.{EndsWalk}
 use Rattle.region_split.specs.declared.growth.Grown.{Grown}
 use Rattle.region_split.specs.declared.found.Found.{Found}
 use Rattle.region_split.specs.declared.found.Found.TheVariants.{Nothing, Break, Point}
@@ -33,55 +31,34 @@ use Rattle.region_split.specs.declared.walk.Step.TheVariants.{On, Done}
 
 -- The tree of a branch, with its depth.
 pub record IsGrownTree (g : Goal) (ps : List Taken) (t : Grown) : Type 0 where
-  pub has_depth : HasDepth g ps t.depth
+  pub is_tree : IsWalkTree g ps (tree_of t.tree)
+  pub counted : depth (tree_of t.tree) ≡ t.depth
   pub shallow : t.depth ≤ 1000
-  pub accepted : IsAccepted g ps (tree_of t.tree)
 
 -- The tree of the branch is deeper than 1,000.
 pub record IsDeep (g : Goal) (ps : List Taken) : Type 0 where
-  pub depth : ℕ
-  pub has_depth : HasDepth g ps depth
-  pub deep : 1000 < depth
+  pub tree : Tree
+  pub is_tree : IsWalkTree g ps tree
+  pub deep : 1000 < depth tree
 
 abbrev pub IsGrown : Goal → List Taken → Option Grown → Type 0
 IsGrown g ps (Some t) = IsGrownTree g ps t
 IsGrown g ps None = IsDeep g ps
 
 -- What is handed out once all is walked.
-pub record HasWholeTree (g : Goal) (t : Option Tree) : Type 0 where
-  pub depth : ℕ
-  pub has_depth : HasDepth g [] depth
-  pub tree : HasTree g depth t
+pub record HasWholeTree (g : Goal) (given : Option T.Tree) : Type 0 where
+  pub tree : Tree
+  pub is_tree : IsWalkTree g [] tree
+  pub is_given : IsGiven tree given
 
 -- ---- What the cells have shown
 
--- A cell at which the goal holds.
-abbrev pub Holds : Goal → List Taken → Type 0
-Holds g ps = IsPlainAt g ps ⊎ IsRefutedCell g ps
-
--- The first false cell that doesn't break, with its point.
-pub record IsFirstPoint (g : Goal) (cells : List (List Taken)) (point : List Val) : Type 0 where
-  pub before : List (List Taken)
-  pub path : List Taken
-  pub after : List (List Taken)
-  pub whole : before ++ (path ∷ after) ≡ cells
-  pub broken_before : All (λ ps. IsFalseCell g ps → Breaks g ps) before
-  pub false_cell : IsFalseCell g path
-  pub point_of_cell : IsPointOf g path point
-
--- The first false cell, where each of them breaks.
-pub record IsFirstBreak (g : Goal) (cells : List (List Taken)) (b : Broken) : Type 0 where
-  pub before : List (List Taken)
-  pub path : List Taken
-  pub after : List (List Taken)
-  pub whole : before ++ (path ∷ after) ≡ cells
-  pub none_before : All (λ ps. IsFalseCell g ps → ⊥) before
-  pub false_cell : IsFalseCell g path
-  pub breaks_here : IsBreakOf g path b
-  pub broken_after : All (λ ps. IsFalseCell g ps → Breaks g ps) after
+-- The goal holds in a cell: plainly, or since its denial is refuted.
+abbrev pub HoldsAt : Goal → List Taken → Type 0
+HoldsAt g ps = IsPlainAt g ps ⊎ IsRefutedCell g ps
 
 abbrev pub IsFound : Goal → List (List Taken) → Found → Type 0
-IsFound g cells Nothing = All (Holds g) cells
+IsFound g cells Nothing = All (HoldsAt g) cells
 IsFound g cells (Break b) = IsFirstBreak g cells b
 IsFound g cells (Point point) = IsFirstPoint g cells point.items
 
@@ -90,7 +67,7 @@ IsFound g cells (Point point) = IsFirstPoint g cells point.items
 -- The cells of a branch, and its tree where the goal holds in each of them.
 pub record IsBranch (g : Goal) (ps : List Taken) (cells : List (List Taken)) (tree : Option Grown) : Type 0 where
   pub are_cells : AreCells g ps cells
-  pub grown : All (Holds g) cells → IsGrown g ps tree
+  pub grown : All (HoldsAt g) cells → IsGrown g ps tree
 
 -- A cell whose branch has this tree, and what all cells up to it have shown, where those before it have shown this.
 pub record IsJudgedCell (g : Goal) (ps : List Taken) (found next : Found) (tree : Option Grown) : Type 0 where
@@ -99,20 +76,20 @@ pub record IsJudgedCell (g : Goal) (ps : List Taken) (found next : Found) (tree 
 
 abbrev pub IsJudged : Goal → List Taken → Found → Cell → Type 0
 IsJudged g ps found (Judged next tree) = IsJudgedCell g ps found next tree
-IsJudged g ps found (Unknown cause) = EndsGoal g ps cause
+IsJudged g ps found (Unknown cause) = EndsWalk g ps true cause
 
 -- The cells before a path, in order, and the trees of the branches to its left, from the start of the path on.
-pub data IsBefore (g : Goal) : List Taken → List (List Taken) → List (Option Grown) → Type 0 where
-  start : IsBefore g [] [] []
-  first : (ps : List Taken) (q : Atom) (cells : List (List Taken)) (trees : List (Option Grown)) → GoesOn g ps q → IsBefore g ps cells trees → IsBefore g (onto ps q true) cells trees
-  second : (ps : List Taken) (q : Atom) (cells here : List (List Taken)) (trees : List (Option Grown)) (tree : Option Grown) → GoesOn g ps q → IsBefore g ps cells trees → IsBranch g (onto ps q true) here tree → IsBefore g (onto ps q false) (cells ++ here) (trees ++ (tree ∷ []))
+pub data HasBefore (g : Goal) : List Taken → List (List Taken) → List (Option Grown) → Type 0 where
+  start : HasBefore g [] [] []
+  first : (ps : List Taken) (q : Atom) (cells : List (List Taken)) (trees : List (Option Grown)) → GoesOn g ps q → HasBefore g ps cells trees → HasBefore g (onto ps q true) cells trees
+  second : (ps : List Taken) (q : Atom) (cells here : List (List Taken)) (trees : List (Option Grown)) (tree : Option Grown) → GoesOn g ps q → HasBefore g ps cells trees → IsBranch g (onto ps q true) here tree → HasBefore g (onto ps q false) (cells ++ here) (trees ++ (tree ∷ []))
 
 -- The same once the branch of the path is finished too: all cells up to its last one.
 pub record IsAfter (g : Goal) (ps : List Taken) (trees : List (Option Grown)) (all : List (List Taken)) (tree : Option Grown) : Type 0 where
   pub before : List (List Taken)
   pub here : List (List Taken)
   pub whole : before ++ here ≡ all
-  pub stands : IsBefore g ps before trees
+  pub stands : HasBefore g ps before trees
   pub branch : IsBranch g ps here tree
 
 -- ---- How much is left
@@ -138,7 +115,7 @@ left_of g ps = rest_of (questions g) ps + size (end_at g ps)
 
 -- A walk goes on behind a branch: all its cells are before the new path.
 pub record IsNext (g : Goal) (ps : List Taken) (all : List (List Taken)) (path : List Taken) (trees : List (Option Grown)) : Type 0 where
-  pub stands : IsBefore g path all trees
+  pub stands : HasBefore g path all trees
   pub less : left_of g path < left_of g ps
 
 abbrev pub IsUp : Goal → List Taken → List (List Taken) → Up → Type 0
@@ -151,7 +128,7 @@ AreShort g = (ps : List Taken) → IsPath g ps → length ps + 1 + length g.type
 
 pub record IsWalk (g : Goal) (w : Walk) : Type 0 where
   pub before : List (List Taken)
-  pub stands : IsBefore g (path_of w.path.items) before w.trees.items
+  pub stands : HasBefore g (path_of w.path.items) before w.trees.items
   pub found : IsFound g before w.found
   pub counted : length before ≡ w.count
   pub few : w.count ≤ 4096
