@@ -48,4 +48,6 @@ mod Coefficients
 mod RowsOfClaims
 mod SignRows
 mod FoundRows
+mod GreedyChoices
+mod GreedyUnique
 pub mod exported

@@ -13,3 +13,4 @@ pub mod PathSteps
 pub mod Sums
 pub mod Truths
 pub mod UnsignedRows
+pub mod GreedyChoices

@@ -6,6 +6,7 @@ pub mod Combination
 pub mod VariableOrder
 pub mod RowLaws
 pub mod GreedyPoint
+pub mod GreedyLaws
 pub mod Lin
 pub mod Query
 pub mod Questions

@@ -32,7 +32,7 @@ break_is_false g ps b c n p = record { cell = c; not_plain = n; rows = p.rows; a
 point_of : (g : Goal) (ps : List Taken) (values point : List Val) → IsPointAt g ps true values → point ≡ with_truths ps 0 values → IsPointOf g ps point
 point_of g ps values point p e = record { rows = p.rows; are_rows = p.are_rows; values = values; greedy = p.greedy; truths = e }
 
-breaks : (g : Goal) (ps : List Taken) (b : Broken) → IsBreakOf g ps b → Breaks g ps
+pub breaks : (g : Goal) (ps : List Taken) (b : Broken) → IsBreakOf g ps b → Breaks g ps
 breaks g ps b p = record { rows = p.rows; are_rows = p.are_rows; var = b.var; earlier = p.broken.chosen; interval = ends_of b; choice = p.broken.choice }
 
 -- ---- All cells

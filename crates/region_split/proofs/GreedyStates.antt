@@ -14,7 +14,7 @@ use Rattle.linear_form.specs.TypedGoals.{types_in}
 use Rattle.linear_form.specs.Solutions.{sum_of, MeetsAt, IsBelowZero, IsSolvable}
 use Rattle.linear_form.specs.VariableOrder.{occurs, occurrences, order_of}
 use Rattle.linear_form.specs.GreedyPoint.{IsWholeType, type_at, Greedy, ChoosesFrom, chosen_value}
-use Rattle.region_split.proofs.GreedyChoices.{AreWhole, completed, chosen_whole, zero_whole}
+use Rattle.linear_form.proofs.exported.GreedyChoices.{AreWhole, completed, chosen_whole, zero_whole}
 use Rattle.region_split.proofs.GreedyOrder.{turned_order, turned_occurs, chosen_any, chosen_all}
 
 -- ---- The value of a variable among those chosen

@@ -7,8 +7,9 @@ mod TypedBreaks
 mod Leaves
 mod Steps
 mod ProvedGoals
-mod GreedyChoices
 mod GreedyOrder
 mod GreedyStates
 mod FalsifiedGoals
+mod UniqueWalks
+mod UniqueDecisions
 pub mod Meaning

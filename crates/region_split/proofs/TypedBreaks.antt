@@ -26,7 +26,7 @@ use Rattle.linear_elim.specs.declared.answers.Broken.{Broken}
 use Rattle.region_split.specs.Decisions.{IsBreakOf}
 use Rattle.region_split.specs.internal.Seen.{IsBreakAt}
 use Rattle.region_split.proofs.Climbing.{all_first}
-use Rattle.region_split.proofs.GreedyChoices.{AreWhole, completed, chosen_whole}
+use Rattle.linear_form.proofs.exported.GreedyChoices.{AreWhole, completed, chosen_whole}
 use Rattle.region_split.proofs.GreedyOrder.{turned_occurs, chosen_all}
 use Rattle.region_split.proofs.GreedyStates.{number_below}
 

@@ -19,5 +19,7 @@ mod test_goals;
 mod walk;
 
 pub use deciding::decide;
-pub use decision_laws::decisions_tell;
+pub use decision_laws::{
+    decisions_are_unique, decisions_tell, walk_trees_certify, walks_are_unique,
+};
 pub use decisions::Decision;

@@ -7,7 +7,8 @@ ghost use Rattle.linear_form.specs.Query.{Taken as PlainTaken};
 ghost use Rattle.linear_form.specs.Nonlinear.{nonlinear_product};
 ghost use Rattle.linear_form.specs.TypedGoals.{IsTypedGoal};
 ghost use Rattle.region_split.specs.Decisions.{IsDecision};
-ghost use Rattle.region_split.specs.internal.Seen.{IsEnd, GoesOn};
+ghost use Rattle.linear_form.specs.Cells.{GoesOn};
+ghost use Rattle.region_split.specs.internal.Seen.{IsEnd};
 ghost use Rattle.region_split.specs.internal.Progress.{AreShort, IsWalk, IsFinishedWalk, IsStep, IsFound, IsBranch, IsGrown, HasWholeTree};
 
 use crate::backing::{Up, climb};

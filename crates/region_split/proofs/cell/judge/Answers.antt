@@ -1,6 +1,7 @@
 use Rattle.std.proofs.Common.{arith}
 use Rattle.heylo_formula.specs.Goals.{goal_of}
 use Rattle.linear_form.specs.PlainPaths.{path_of}
+use Rattle.region_split.proofs.CellOrder.{front_path}
 use Rattle.region_split.proofs.Steps.{plain_cell, refuted_cell, point_cell, break_cell, point_length}
 use Rattle.region_split.proofs.cell.judge.Goals as goal
 
@@ -21,3 +22,6 @@ returns-in_ok-with_point-in-Point c = point_cell (goal_of c.args.goal.now) (path
 
 pub returns-in-Break : goal.returns-in-Break
 returns-in-Break c = break_cell (goal_of c.args.goal.now) (path_of c.args.path.now) c.args.found _ c.args.plain c.in-Break.broken c.requires.typed c.requires.front c.requires.at_end c.if-plain.false (rw c.in-Break.is at c.in_ok-multipliers.ensures) (λ cells ps j i p. c.with_break.ensures (goal_of c.args.goal.now) cells ps j i p)
+
+pub solve-requires-clause-path : goal.solve-requires-clause-path
+solve-requires-clause-path c = front_path (goal_of c.args.goal.now) (path_of c.args.path.now) c.requires.front

@@ -17,83 +17,83 @@ not_true : (b : Bool) → (b ≡ true → ⊥) → b ≡ false
 not_true true n = absurd (n refl)
 not_true false n = refl
 
-most_less : (x y z : Rational) → x ≤ʳ y → y <ʳ z → x <ʳ z
+pub most_less : (x y z : Rational) → x ≤ʳ y → y <ʳ z → x <ʳ z
 most_less x y z h k = record { holds = not_true _ (λ e. <ʳ-not y z k (≤ʳ_trans z x y (record { holds = e }) h)) }
 
-less_most : (x y z : Rational) → x <ʳ y → y ≤ʳ z → x <ʳ z
+pub less_most : (x y z : Rational) → x <ʳ y → y ≤ʳ z → x <ʳ z
 less_most x y z h k = record { holds = not_true _ (λ e. <ʳ-not x y h (≤ʳ_trans y z x k (record { holds = e }))) }
 
 one_above : oneʳ ≤ʳ zeroʳ → ⊥
 unfolding oneʳ zeroʳ leqʳ ratio gcd gcd_steps
 one_above h = let k = h.holds in absurd (cc)
 
-less_next : (x : Rational) → x <ʳ x +ʳ oneʳ
+pub less_next : (x : Rational) → x <ʳ x +ʳ oneʳ
 less_next x = record { holds = not_true _ (λ e. one_above (≤ʳ-+ʳ_cancel oneʳ zeroʳ x (subst (λ y. y ≤ʳ zeroʳ +ʳ x) (+ʳ_comm x oneʳ) (subst (λ y. x +ʳ oneʳ ≤ʳ y) (sym (zero-+ʳ x)) (record { holds = e }))))) }
 
-less_before : (x : Rational) → x -ʳ oneʳ <ʳ x
+pub less_before : (x : Rational) → x -ʳ oneʳ <ʳ x
 less_before x = subst (λ y. x -ʳ oneʳ <ʳ y) (-ʳ-+ʳ x oneʳ) (less_next (x -ʳ oneʳ))
 
 -- ---- Ends
 
-from_most : (e : End) (v : Rational) → IsUpFrom e v → e.place ≤ʳ v
+pub from_most : (e : End) (v : Rational) → IsUpFrom e v → e.place ≤ʳ v
 from_most e v h = go e.inside h
   where
     go : (b : Bool) → cond b (e.place ≤ʳ v) (e.place <ʳ v) → e.place ≤ʳ v
     go true h = h
     go false h = <ʳ-≤ʳ _ _ h
 
-to_most : (e : End) (v : Rational) → IsUpTo e v → v ≤ʳ e.place
+pub to_most : (e : End) (v : Rational) → IsUpTo e v → v ≤ʳ e.place
 to_most e v h = go e.inside h
   where
     go : (b : Bool) → cond b (v ≤ʳ e.place) (v <ʳ e.place) → v ≤ʳ e.place
     go true h = h
     go false h = <ʳ-≤ʳ _ _ h
 
-from_less : (e : End) (v : Rational) → e.place <ʳ v → IsUpFrom e v
+pub from_less : (e : End) (v : Rational) → e.place <ʳ v → IsUpFrom e v
 from_less e v h = go e.inside
   where
     go : (b : Bool) → cond b (e.place ≤ʳ v) (e.place <ʳ v)
     go true = <ʳ-≤ʳ _ _ h
     go false = h
 
-to_less : (e : End) (v : Rational) → v <ʳ e.place → IsUpTo e v
+pub to_less : (e : End) (v : Rational) → v <ʳ e.place → IsUpTo e v
 to_less e v h = go e.inside
   where
     go : (b : Bool) → cond b (v ≤ʳ e.place) (v <ʳ e.place)
     go true = <ʳ-≤ʳ _ _ h
     go false = h
 
-from_more : (e : End) (v w : Rational) → v ≤ʳ w → IsUpFrom e v → IsUpFrom e w
+pub from_more : (e : End) (v w : Rational) → v ≤ʳ w → IsUpFrom e v → IsUpFrom e w
 from_more e v w l h = go e.inside h
   where
     go : (b : Bool) → cond b (e.place ≤ʳ v) (e.place <ʳ v) → cond b (e.place ≤ʳ w) (e.place <ʳ w)
     go true h = ≤ʳ_trans _ _ _ h l
     go false h = less_most _ _ _ h l
 
-to_fewer : (e : End) (v w : Rational) → w ≤ʳ v → IsUpTo e v → IsUpTo e w
+pub to_fewer : (e : End) (v w : Rational) → w ≤ʳ v → IsUpTo e v → IsUpTo e w
 to_fewer e v w l h = go e.inside h
   where
     go : (b : Bool) → cond b (v ≤ʳ e.place) (v <ʳ e.place) → cond b (w ≤ʳ e.place) (w <ʳ e.place)
     go true h = ≤ʳ_trans _ _ _ l h
     go false h = most_less _ _ _ l h
 
-own_from : (e : End) → e.inside ≡ true → IsUpFrom e e.place
+pub own_from : (e : End) → e.inside ≡ true → IsUpFrom e e.place
 own_from e k = subst (λ b. cond b (e.place ≤ʳ e.place) (e.place <ʳ e.place)) (sym k) (≤ʳ_refl e.place)
 
-own_to : (e : End) → e.inside ≡ true → IsUpTo e e.place
+pub own_to : (e : End) → e.inside ≡ true → IsUpTo e e.place
 own_to e k = subst (λ b. cond b (e.place ≤ʳ e.place) (e.place <ʳ e.place)) (sym k) (≤ʳ_refl e.place)
 
-beyond_from : (e : End) (v : Rational) → e.inside ≡ false → IsUpFrom e v → e.place <ʳ v
+pub beyond_from : (e : End) (v : Rational) → e.inside ≡ false → IsUpFrom e v → e.place <ʳ v
 beyond_from e v k h = subst (λ b. cond b (e.place ≤ʳ v) (e.place <ʳ v)) k h
 
-beyond_to : (e : End) (v : Rational) → e.inside ≡ false → IsUpTo e v → v <ʳ e.place
+pub beyond_to : (e : End) (v : Rational) → e.inside ≡ false → IsUpTo e v → v <ʳ e.place
 beyond_to e v k h = subst (λ b. cond b (v ≤ʳ e.place) (v <ʳ e.place)) k h
 
 -- the end of an interval is one
-one_end : (P : End → Type 0) (o : Option End) (e f : End) → o ≡ Some e → o ≡ Some f → P e → P f
+pub one_end : (P : End → Type 0) (o : Option End) (e f : End) → o ≡ Some e → o ≡ Some f → P e → P f
 one_end P o e f k l p = let m : Some e ≡ Some f = sym k ∙ l in let n : e ≡ f = cc in subst P n p
 
-no_end : (P : Type 0) (o : Option End) (e : End) → o ≡ None → o ≡ Some e → P
+pub no_end : (P : Type 0) (o : Option End) (e : End) → o ≡ None → o ≡ Some e → P
 no_end P o e k l = absurd (let m : None ≡ Some e = sym k ∙ l in cc)
 
 -- ---- Choices
@@ -102,7 +102,7 @@ between : (i : Interval) (e f : End) (m : Rational) → i.low ≡ Some e → i.h
 between i e f m l h p q = record { from_low = λ d k. one_end (λ d. IsUpFrom d m) i.low e d l k (from_less e m p); to_high = λ d k. one_end (λ d. IsUpTo d m) i.high f d h k (to_less f m q) }
 
 -- In an interval that some value w is inside, the choice is.
-choice_inside : (i : Interval) (ty : Ty) (v w : Rational) → IsInside i w → IsChoice i ty v → IsInside i v
+pub choice_inside : (i : Interval) (ty : Ty) (v w : Rational) → IsInside i w → IsChoice i ty v → IsInside i v
 choice_inside i _ _ w h (IsChoice.zero ty z) = z
 choice_inside i _ _ w h (IsChoice.nearest_whole ty v n k l a m) = a
 choice_inside i _ _ w h (IsChoice.low_end e n l z k) = record {
@@ -141,7 +141,7 @@ choice_whole i _ _ (IsChoice.past_high e n l g k) t = absurd t
 -- ---- All choices
 
 -- A completion gives one more variable the value that it has there.
-with_own : (rows : List Row) (cs : List (ℕ × Rational)) (x : ℕ) (h : IsCompleted rows cs) → IsCompleted rows (cs ++ (x, h.at_values x) ∷ [])
+pub with_own : (rows : List Row) (cs : List (ℕ × Rational)) (x : ℕ) (h : IsCompleted rows cs) → IsCompleted rows (cs ++ (x, h.at_values x) ∷ [])
 with_own rows cs x h = record { at_values = h.at_values; agrees = All-push (λ c. h.at_values c.0 ≡ c.1) cs (x, h.at_values x) h.agrees refl; meets = h.meets }
 
 -- What is chosen in the end is completed.
