@@ -85,7 +85,7 @@ same_test true false m n = absurd (m refl refl)
 same_test false true m n = absurd (n refl refl)
 same_test false false m n = refl
 
-end_at : Rational → Bool → End
+abbrev end_at : Rational → Bool → End
 end_at p b = record { place = p; inside = b }
 
 low_same : (i j : Interval) (w : Rational) → SameValues i j → IsInside i w → i.low ≡ j.low
@@ -118,7 +118,7 @@ high_same i j w s h = go i.high refl j.high refl
         let b : e.inside ≡ f.inside = same_test e.inside f.inside (λ x y. high_inside i j e f w s h k l p x y) (λ x y. high_inside j i f e w (turned i j s) back l k (sym p) x y) in
         k ∙ ap Some (ap₂ end_at p b) ∙ sym l
 
-an_interval : Option End → Option End → Interval
+abbrev an_interval : Option End → Option End → Interval
 an_interval l h = record { low = l; high = h }
 
 same_interval : (i j : Interval) (w : Rational) → SameValues i j → IsInside i w → i ≡ j
@@ -131,11 +131,11 @@ between_zero : (i : Interval) (v u : Rational) → IsInside i v → IsInside i u
 between_zero i v u a b h k = record { from_low = λ d q. from_more d v zeroʳ h (a.from_low d q); to_high = λ d q. to_fewer d u zeroʳ k (b.to_high d q) }
 
 -- what a UReal takes on the side of the low end, or of the high one, where 0 isn't inside
-low_value : End → Option End → Rational
+abbrev low_value : End → Option End → Rational
 low_value e (Some f) = cond e.inside e.place (middleʳ e.place f.place)
 low_value e None = cond e.inside e.place (e.place +ʳ oneʳ)
 
-high_value : End → Option End → Rational
+abbrev high_value : End → Option End → Rational
 high_value e (Some f) = cond e.inside e.place (middleʳ f.place e.place)
 high_value e None = cond e.inside e.place (e.place -ʳ oneʳ)
 

@@ -1,5 +1,5 @@
-mod Moved
 mod PathAnswers
+mod Moved
 mod Climbing
 mod CellOrder
 mod CellsFound

@@ -1,15 +1,21 @@
 -- Multipliers whose indexes are moved to where their rows stand combine them as before.
 use Rattle.std.proofs.Common.{◌≡◌, ℕ, ◌+◌, ◌<◌, ◌≤◌, ◌^◌, List, [], ◌∷◌, ◌++◌, length, get_or, take, drop, map, refl, sym, ap, ap₂, ◌∙◌, subst, arith, length-append, ltb, Bool, true, false, ◌⊎◌, inl, inr}
-use Rattle.std.specs.Prelude.{ℤ, pos, ◌+ℤ◌, ◌*ℤ◌, ◌<ℤ◌, unsigned_abs, ◌||◌}
+use Rattle.std.specs.Prelude.{Some, ℤ, pos, ◌+ℤ◌, ◌*ℤ◌, ◌<ℤ◌, unsigned_abs, ◌||◌}
 use Rattle.std.specs.List.{All}
 use Rattle.std.proofs.lemmas.List.{take-map, get_or_push, get_or_append_left, drop_more, length-drop}
 use Rattle.std.proofs.lemmas.Bool.Decides.{nat_tests}
 use Rattle.std.proofs.lemmas.List.Elements.{All-nil, All-cons, All-head, All-tail, All-map, All-weaker, All-take}
 use Rattle.std.proofs.Math.Seq.{drop-append_seam, drop-append-add}
+use Prim.Native.Nat.{zero, suc}
+use Rattle.heylo_formula.specs.Goals.{Goal}
+use Rattle.linear_form.specs.Query.{Taken}
+use Rattle.linear_form.specs.PathRows.{rows_of}
 use Rattle.linear_form.specs.Row.{Row}
 use Rattle.linear_form.specs.Terms.{coefficient}
 use Rattle.linear_form.specs.Combination.{row_at, combined, uses_strict, IsGrowing, IsWideThroughout, IsContradiction}
 use Rattle.linear_form.specs.RowListLaws.{StandAmong, MakesRoom}
+use Rattle.farkas_check.specs.Accepted.{IsRefutedWith}
+use Rattle.region_split.proofs.PathAnswers.{same_rows}
 use Rattle.region_split.specs.internal.Moving.{AreFirst, ArePlacesSoFar, ArePlaces, moved_all}
 
 -- ---- Combinations
@@ -204,3 +210,28 @@ first_more ns ms i h e = subst (AreFirst (i + 1)) (sym e) (record { each = pushe
     own : (k : ℕ) → (k < i) ⊎ (k ≡ i) → get_or (ns ++ (i ∷ [])) k 0 ≡ k
     own k (inl l) = let n = h.each in old_place ns i k (omega (arith, l, n)) ∙ h.own k l
     own k (inr l) = ap (λ n. get_or (ns ++ (i ∷ [])) n 0) (l ∙ sym h.each) ∙ new_place ns i ∙ sym l
+
+-- ---- The rows of a path
+
+pub within_rows : (g : Goal) (ps : List Taken) (ms : List (ℕ × ℕ)) (rows fewer more : List Row) (places held : List ℕ) → IsRefutedWith g ps false ms → rows_of g ps false ≡ Some rows → fewer ≡ rows → ArePlaces fewer more places → held ≡ places → All (λ (m : ℕ × ℕ). m.0 < length held) ms
+within_rows g ps ms rows fewer more places held r e f h k =
+    let i = same_rows g ps false r.rows rows r.are_rows e in
+    subst (λ ns. All (λ (m : ℕ × ℕ). m.0 < length ns) ms) (sym k) (within_places rows more places ms (subst (λ rs. ArePlaces rs more places) f h) (subst (IsContradiction ms) i r.contradiction))
+
+pub moved_refuted : (g : Goal) (ps : List Taken) (ms out : List (ℕ × ℕ)) (rows all fewer more : List Row) (places held : List ℕ) → IsRefutedWith g ps false ms → rows_of g ps false ≡ Some rows → rows_of g ps true ≡ Some all → fewer ≡ rows → more ≡ all → ArePlaces fewer more places → held ≡ places → out ≡ moved_all held ms → IsRefutedWith g ps true out
+moved_refuted g ps ms out rows all fewer more places held r e a f m h k o =
+    let i = same_rows g ps false r.rows rows r.are_rows e in
+    let p = subst (λ rs. ArePlaces rs all places) f (subst (λ rs. ArePlaces fewer rs places) m h) in
+    record {
+      rows = all;
+      are_rows = a;
+      contradiction = subst (λ ns. IsContradiction ns all) (sym (o ∙ ap (λ ns. moved_all ns ms) k)) (contradiction_moved rows all places ms p (subst (IsContradiction ms) i r.contradiction));
+    }
+
+pub item_row : (rows : List Row) (k : ℕ) (r : Row) → k < length rows → r ≡ get_or rows k r → r ≡ row_at rows k
+item_row rows k r l e = e ∙ get_or_default rows k r _ l
+  where
+    get_or_default : (xs : List Row) (k : ℕ) (a b : Row) → k < length xs → get_or xs k a ≡ get_or xs k b
+    get_or_default [] k a b l = absurd (omega (arith, l))
+    get_or_default (x ∷ xs) zero a b l = refl
+    get_or_default (x ∷ xs) (suc k) a b l = get_or_default xs k a b (omega (arith, l))

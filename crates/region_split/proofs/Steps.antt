@@ -16,16 +16,19 @@ use Rattle.linear_form.specs.declared.paths.Taken as T
 use Rattle.linear_elim.specs.declared.answers.Broken.{Broken}
 use Rattle.farkas_check.specs.Accepted.{IsRefutedWith}
 use Rattle.farkas_check.specs.declared.trees.Tree as F
-use Rattle.region_split.specs.Decisions.{HasCells, IsBreakOf}
+use Rattle.linear_form.specs.Nonlinear.{nonlinear_product}
+use Rattle.linear_elim.specs.declared.answers.Cause.{Cause}
+use Rattle.region_split.specs.Walk.{IsReached}
+use Rattle.region_split.specs.Decisions.{HasCells, IsBreakOf, IsCause}
 use Rattle.linear_form.specs.TypedGoals.{IsTypedGoal}
 use Rattle.region_split.proofs.TypedBreaks.{break_of}
-use Rattle.region_split.specs.internal.Seen.{IsEnd, IsDroppedBy, IsPointAt, IsBreakAt}
+use Rattle.region_split.specs.internal.Seen.{EndsWalk, IsEnd, IsDroppedBy, IsPointAt, IsBreakAt}
 use Rattle.region_split.specs.internal.Progress.{HoldsAt, AreShort, IsGrown, IsBranch, HasBefore, IsAfter, IsNext, IsFound, IsWalk, IsFinishedWalk, IsJudgedCell, rest_of, left_of}
 use Rattle.region_split.specs.declared.growth.Grown.{Grown}
 use Rattle.region_split.specs.declared.found.Found.{Found}
 use Rattle.region_split.specs.declared.walk.Walk.{Walk}
 use Rattle.region_split.proofs.Climbing.{taken, in_first, in_second, after_second, before_second, after_start, left_second, left_first, rest_below, rest_up}
-use Rattle.region_split.proofs.CellOrder.{front_path, stands_front, cell_here, many_cells}
+use Rattle.region_split.proofs.CellOrder.{front_path, stands_front, reached, cell_here, many_cells}
 use Rattle.region_split.proofs.CellsFound.{found_holds, point_is_false, break_is_false}
 use Rattle.region_split.proofs.Leaves.{leaf_of, dropped_leaf, plain_leaf, refuted_leaf, refuted_holds, false_leaf, dropped_finished, cell_finished}
 
@@ -105,6 +108,19 @@ next_walk g w next tree h k n f = (
 pub walk_front : (g : Goal) (w : Walk) → IsWalk g w → IsFront g (path_of w.path.items)
 walk_front g w h = stands_front g (path_of w.path.items) h.before w.trees.items h.stands
 
+pub walk_path : (g : Goal) (w : Walk) → IsWalk g w → IsPath g (path_of w.path.items)
+walk_path g w h = front_path g (path_of w.path.items) (walk_front g w h)
+
+walk_reached : (g : Goal) (w : Walk) (h : IsWalk g w) → IsReached g (path_of w.path.items) h.before
+walk_reached g w h = let c = h.counted in let f = h.few in reached g (path_of w.path.items) h.before w.trees.items h.stands (omega (arith, c, f))
+
+-- the cause of a front, and that of a cell
+pub front_ends : (g : Goal) (w : Walk) (cause : Cause) → nonlinear_product g ≡ None → IsWalk g w → EndsWalk g (path_of w.path.items) false cause → IsCause g cause
+front_ends g w cause l h r = r h.before (walk_reached g w h) tt l
+
+pub cell_ends : (g : Goal) (w : Walk) (plain : Bool) (cause : Cause) → nonlinear_product g ≡ None → IsWalk g w → IsEnd g (path_of w.path.items) plain → w.count < 4096 → (IsPlainAt g (path_of w.path.items) → ⊥) → EndsWalk g (path_of w.path.items) true cause → IsCause g cause
+cell_ends g w plain cause l h e f n r = r h.before (walk_reached g w h) (let c = h.counted in omega (arith, c, f), (cell_here g (path_of w.path.items) plain (walk_front g w h) e, n)) l
+
 pub walk_short : (g : Goal) (ps : List T.Taken) → AreShort g → IsPath g (path_of ps) → length ps + 1 + length g.types < 2 ^ 32
 walk_short g ps s p = let l = length-map ps taken_of in let h = s (path_of ps) p in omega (arith, l, h)
 
@@ -116,7 +132,7 @@ dropped_walk g w ms tree e h d = subst (IsFinishedWalk g w) (sym e) (dropped_fin
 pub all_counted : (g : Goal) (w : Walk) (plain : Bool) → IsWalk g w → IsEnd g (path_of w.path.items) plain → 4096 ≤ w.count → HasCells g 4097
 all_counted g w plain h e l = let c = h.counted in let f = h.few in many_cells g (path_of w.path.items) h.before w.trees.items plain h.stands e (omega (arith, c, f))
 
-not_plain_there : (g : Goal) (ps : List Taken) (plain : Bool) → IsEnd g ps plain → plain ≡ false → IsPlainAt g ps → ⊥
+pub not_plain_there : (g : Goal) (ps : List Taken) (plain : Bool) → IsEnd g ps plain → plain ≡ false → IsPlainAt g ps → ⊥
 not_plain_there g ps plain e k p = let m = e.holds_plainly.1 p in let n : true ≡ false = sym m ∙ k in absurd (cc)
 
 judged : (g : Goal) (ps : List Taken) (found next : Found) (leaf tree : Option Grown) → tree ≡ leaf → IsBranch g ps (ps ∷ []) leaf → ((cells : List (List Taken)) → IsFound g cells found → IsFound g (cells ++ (ps ∷ [])) next) → IsJudgedCell g ps found next tree

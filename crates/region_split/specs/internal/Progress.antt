@@ -76,7 +76,7 @@ pub record IsJudgedCell (g : Goal) (ps : List Taken) (found next : Found) (tree 
 
 abbrev pub IsJudged : Goal → List Taken → Found → Cell → Type 0
 IsJudged g ps found (Judged next tree) = IsJudgedCell g ps found next tree
-IsJudged g ps found (Unknown cause) = EndsWalk g ps true cause
+IsJudged g ps found (Unknown cause) = (IsPlainAt g ps → ⊥) × EndsWalk g ps true cause
 
 -- The cells before a path, in order, and the trees of the branches to its left, from the start of the path on.
 pub data HasBefore (g : Goal) : List Taken → List (List Taken) → List (Option Grown) → Type 0 where

@@ -2,7 +2,7 @@ use Rattle.std.proofs.Common.{arith}
 use Rattle.heylo_formula.specs.Goals.{goal_of}
 use Rattle.linear_form.specs.PlainPaths.{path_of}
 use Rattle.region_split.proofs.CellOrder.{front_path}
-use Rattle.region_split.proofs.Steps.{plain_cell, refuted_cell, point_cell, break_cell, point_length}
+use Rattle.region_split.proofs.Steps.{plain_cell, refuted_cell, point_cell, break_cell, point_length, not_plain_there}
 use Rattle.region_split.proofs.cell.judge.Goals as goal
 
 pub returns-then-plain : goal.returns-then-plain
@@ -25,3 +25,6 @@ returns-in-Break c = break_cell (goal_of c.args.goal.now) (path_of c.args.path.n
 
 pub solve-requires-clause-path : goal.solve-requires-clause-path
 solve-requires-clause-path c = front_path (goal_of c.args.goal.now) (path_of c.args.path.now) c.requires.front
+
+pub returns-in-Unknown : goal.returns-in-Unknown
+returns-in-Unknown c = (not_plain_there (goal_of c.args.goal.now) (path_of c.args.path.now) c.args.plain c.requires.at_end c.if-plain.false, rw c.in-Unknown.is at c.in_ok-multipliers.ensures)
