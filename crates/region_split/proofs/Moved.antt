@@ -235,3 +235,21 @@ item_row rows k r l e = e ∙ get_or_default rows k r _ l
     get_or_default [] k a b l = absurd (omega (arith, l))
     get_or_default (x ∷ xs) zero a b l = refl
     get_or_default (x ∷ xs) (suc k) a b l = get_or_default xs k a b (omega (arith, l))
+
+-- the next row stands at the next place, or another one does
+pub place_taken : (rows more : List Row) (ns ps : List ℕ) (at k : ℕ) (r m : Row) → ArePlacesSoFar rows more ns at → length ns < length rows → k ≡ length ns → r ≡ get_or rows k r → m ≡ get_or more at m → r ≡ m → ps ≡ ns ++ (at ∷ []) → ArePlacesSoFar rows more ps (at + 1)
+place_taken rows more ns ps at k r m h l e f g s p =
+    let n = next_place rows more ns at h l in
+    let a = item_row rows (length ns) r l (f ∙ ap (λ j. get_or rows j r) e) in
+    let b = item_row more at m n.inside g in
+    subst (λ qs. ArePlacesSoFar rows more qs (at + 1)) (sym p) (n.when_same (sym a ∙ s ∙ b))
+
+pub place_passed : (rows more : List Row) (ns ps : List ℕ) (at k : ℕ) (r m : Row) → ArePlacesSoFar rows more ns at → length ns < length rows → k ≡ length ns → r ≡ get_or rows k r → m ≡ get_or more at m → (r ≡ m → ⊥) → ps ≡ ns → ArePlacesSoFar rows more ps (at + 1)
+place_passed rows more ns ps at k r m h l e f g s p =
+    let n = next_place rows more ns at h l in
+    let a = item_row rows (length ns) r l (f ∙ ap (λ j. get_or rows j r) e) in
+    let b = item_row more at m n.inside g in
+    subst (λ qs. ArePlacesSoFar rows more qs (at + 1)) (sym p) (n.when_other (λ q. s (a ∙ q ∙ sym b)))
+
+pub room_held : (n m : ℕ) (rows more fewer all : List Row) → n ≡ m → fewer ≡ rows → all ≡ more → MakesRoom m rows more → MakesRoom n fewer all
+room_held n m rows more fewer all e f a h = subst (λ j. MakesRoom j fewer all) (sym e) (subst (λ x. MakesRoom m x all) (sym f) (subst (λ y. MakesRoom m rows y) (sym a) h))

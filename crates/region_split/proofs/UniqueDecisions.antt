@@ -3,7 +3,7 @@ use Rattle.std.proofs.Common.{◌≡◌, ℕ, ◌+◌, ◌<◌, ◌≤◌, List,
 use Rattle.std.specs.Prelude.{Option, Some, None}
 use Rattle.std.specs.List.{All}
 use Rattle.std.proofs.lemmas.List.Elements.{All-nil, All-cons, All-head, All-tail, All-append, All-weaker}
-use Rattle.heyvl_num.specs.Rational.{Rational}
+use Rattle.heyvl_num.specs.Rational.{Rational, zeroʳ}
 use Rattle.heylo_formula.specs.Goals.{Goal}
 use Rattle.heylo_formula.specs.declared.values.Val.{Val}
 use Rattle.linear_form.specs.Query.{Taken}
@@ -12,7 +12,7 @@ use Rattle.linear_form.specs.Nonlinear.{nonlinear_product}
 use Rattle.linear_form.specs.Row.{Row}
 use Rattle.linear_form.specs.Solutions.{IsSolvable}
 use Rattle.linear_form.specs.Cells.{IsCell, IsFalseCell}
-use Rattle.linear_form.specs.GreedyPoint.{Interval, Greedy, ChoosesFrom, IsGreedyPoint}
+use Rattle.linear_form.specs.GreedyPoint.{End, Interval, Greedy, ChoosesFrom, IsGreedyPoint}
 use Rattle.linear_form.proofs.exported.GreedyChoices.{choices_unique, points_unique}
 use Rattle.linear_elim.specs.Answers.{ends_of, values_of}
 use Rattle.linear_elim.specs.declared.answers.Broken.{Broken}
@@ -34,20 +34,20 @@ use Rattle.region_split.proofs.UniqueWalks.{cells_unique, trees_alike, alike_dep
 
 -- the same place, or one before the other
 data Places {A : Type 0} : List A → A → List A → List A → A → List A → Type 0 where
-  same : (as : List A) (a : A) (bs : List A) → Places as a bs as a bs
-  left : (as bs : List A) (a c : A) (cs : List A) → Places as a (bs ++ (c ∷ cs)) (as ++ (a ∷ bs)) c cs
-  right : (as bs : List A) (a c : A) (cs : List A) → Places (as ++ (a ∷ bs)) c cs as a (bs ++ (c ∷ cs))
+  same : (es : List A) (a : A) (bs : List A) → Places es a bs es a bs
+  left : (es bs : List A) (a c : A) (cs : List A) → Places es a (bs ++ (c ∷ cs)) (es ++ (a ∷ bs)) c cs
+  right : (es bs : List A) (a c : A) (cs : List A) → Places (es ++ (a ∷ bs)) c cs es a (bs ++ (c ∷ cs))
 
-more_places : {A : Type 0} (x : A) (as : List A) (a : A) (bs cs : List A) (c : A) (ds : List A) → Places as a bs cs c ds → Places (x ∷ as) a bs (x ∷ cs) c ds
-more_places x _ _ _ _ _ _ (Places.same as a bs) = Places.same (x ∷ as) a bs
-more_places x _ _ _ _ _ _ (Places.left as bs a c cs) = Places.left (x ∷ as) bs a c cs
-more_places x _ _ _ _ _ _ (Places.right as bs a c cs) = Places.right (x ∷ as) bs a c cs
+more_places : {A : Type 0} (x : A) (es : List A) (a : A) (bs cs : List A) (c : A) (ds : List A) → Places es a bs cs c ds → Places (x ∷ es) a bs (x ∷ cs) c ds
+more_places x _ _ _ _ _ _ (Places.same es a bs) = Places.same (x ∷ es) a bs
+more_places x _ _ _ _ _ _ (Places.left es bs a c cs) = Places.left (x ∷ es) bs a c cs
+more_places x _ _ _ _ _ _ (Places.right es bs a c cs) = Places.right (x ∷ es) bs a c cs
 
-places : {A : Type 0} (as : List A) (a : A) (bs cs : List A) (c : A) (ds : List A) → as ++ (a ∷ bs) ≡ cs ++ (c ∷ ds) → Places as a bs cs c ds
+places : {A : Type 0} (es : List A) (a : A) (bs cs : List A) (c : A) (ds : List A) → es ++ (a ∷ bs) ≡ cs ++ (c ∷ ds) → Places es a bs cs c ds
 places [] a bs [] c ds e = let k : a ≡ c = cc in let m : bs ≡ ds = cc in subst (λ z. Places [] a bs [] z ds) k (subst (λ z. Places [] a bs [] a z) m (Places.same [] a bs))
 places [] a bs (x ∷ cs) c ds e = let f : a ∷ bs ≡ x ∷ (cs ++ (c ∷ ds)) = e in let k : a ≡ x = cc in let m : cs ++ (c ∷ ds) ≡ bs = cc in subst (λ z. Places [] a bs (z ∷ cs) c ds) k (subst (λ z. Places [] a z (a ∷ cs) c ds) m (Places.left [] cs a c ds))
-places (x ∷ as) a bs [] c ds e = let f : x ∷ (as ++ (a ∷ bs)) ≡ c ∷ ds = e in let k : c ≡ x = cc in let m : as ++ (a ∷ bs) ≡ ds = cc in subst (λ z. Places (z ∷ as) a bs [] c ds) k (subst (λ z. Places (c ∷ as) a bs [] c z) m (Places.right [] as c a bs))
-places (x ∷ as) a bs (y ∷ cs) c ds e = let f : x ∷ (as ++ (a ∷ bs)) ≡ y ∷ (cs ++ (c ∷ ds)) = e in let k : x ≡ y = cc in let m : as ++ (a ∷ bs) ≡ cs ++ (c ∷ ds) = cc in subst (λ z. Places (x ∷ as) a bs (z ∷ cs) c ds) k (more_places x as a bs cs c ds (places as a bs cs c ds m))
+places (x ∷ es) a bs [] c ds e = let f : x ∷ (es ++ (a ∷ bs)) ≡ c ∷ ds = e in let k : c ≡ x = cc in let m : es ++ (a ∷ bs) ≡ ds = cc in subst (λ z. Places (z ∷ es) a bs [] c ds) k (subst (λ z. Places (c ∷ es) a bs [] c z) m (Places.right [] es c a bs))
+places (x ∷ es) a bs (y ∷ cs) c ds e = let f : x ∷ (es ++ (a ∷ bs)) ≡ y ∷ (cs ++ (c ∷ ds)) = e in let k : x ≡ y = cc in let m : es ++ (a ∷ bs) ≡ cs ++ (c ∷ ds) = cc in subst (λ z. Places (x ∷ es) a bs (z ∷ cs) c ds) k (more_places x es a bs cs c ds (places es a bs cs c ds m))
 
 -- ---- One point, one break
 
@@ -70,20 +70,22 @@ same_point g ps p q f a b =
     let e = same_rows g ps true b.rows a.rows b.are_rows a.are_rows in
     a.truths ∙ ap (with_truths ps 0) (points_unique a.rows g.types a.values b.values (rows_solvable g ps a.rows f a.are_rows) a.greedy (subst (λ rs. IsGreedyPoint rs g.types b.values) e b.greedy)) ∙ sym b.truths
 
+abbrev the_end : Option End → End
+the_end (Some e) = e
+the_end None = record { place = zeroʳ; inside = false }
+
 broken_parts : (b c : Broken) (ds es : List (ℕ × Rational)) → Greedy.broke b.var ds (ends_of b) ≡ Greedy.broke c.var es (ends_of c) → b.earlier.items ≡ values_of ds → c.earlier.items ≡ values_of es → IsSameBreak b c
 broken_parts b c ds es e h k =
     let v : b.var ≡ c.var = cc in
     let d : ds ≡ es = cc in
     let i : ends_of b ≡ ends_of c = cc in
-    let l : Some _ ≡ Some _ = ap (λ (j : Interval). j.low) i in
-    let u : Some _ ≡ Some _ = ap (λ (j : Interval). j.high) i in
     record {
       var = v;
       earlier = h ∙ ap values_of d ∙ sym k;
-      low = cc;
-      low_in = cc;
-      high = cc;
-      high_in = cc;
+      low = ap (λ (j : Interval). (the_end j.low).place) i;
+      low_in = ap (λ (j : Interval). (the_end j.low).inside) i;
+      high = ap (λ (j : Interval). (the_end j.high).place) i;
+      high_in = ap (λ (j : Interval). (the_end j.high).inside) i;
     }
 
 same_break : (g : Goal) (ps : List Taken) (b c : Broken) → IsBreakOf g ps b → IsBreakOf g ps c → IsSameBreak b c
@@ -92,25 +94,25 @@ same_break g ps b c p q =
     broken_parts b c p.broken.chosen q.broken.chosen (choices_unique p.rows g.types _ _ p.broken.solvable p.broken.choice (subst (λ rs. ChoosesFrom rs g.types (Greedy.broke c.var q.broken.chosen (ends_of c))) e q.broken.choice)) p.broken.earlier q.broken.earlier
 
 -- what holds of a list holds at a place of it
-at_place : {A : Type 0} (P : A → Type 0) (as : List A) (a : A) (bs : List A) → All P (as ++ (a ∷ bs)) → P a
+at_place : {A : Type 0} (P : A → Type 0) (es : List A) (a : A) (bs : List A) → All P (es ++ (a ∷ bs)) → P a
 at_place P [] a bs h = All-head P a bs h
-at_place P (x ∷ as) a bs h = at_place P as a bs (All-tail P x (as ++ (a ∷ bs)) h)
+at_place P (x ∷ es) a bs h = at_place P es a bs (All-tail P x (es ++ (a ∷ bs)) h)
 
 one_point : (g : Goal) (cells : List (List Taken)) (p q : List Val) → IsFirstPoint g cells p → IsFirstPoint g cells q → p ≡ q
 one_point g cells p q a b = go (places a.before a.path a.after b.before b.path b.after (a.whole ∙ sym b.whole)) a.broken_before b.broken_before a.false_cell b.false_cell a.point_of_cell b.point_of_cell
   where
-    go : {as bs cs ds : List (List Taken)} {ps rs : List Taken} → Places as ps bs cs rs ds → All (BreaksIfFalse g) as → All (BreaksIfFalse g) cs → IsFalseCell g ps → IsFalseCell g rs → IsPointOf g ps p → IsPointOf g rs q → p ≡ q
-    go (Places.same as ps bs) h k f _ x y = same_point g ps p q f x y
-    go (Places.left as bs ps rs ds) h k f _ x y = absurd (point_or_break g ps p f x (at_place (BreaksIfFalse g) as ps bs k f))
-    go (Places.right as bs rs ps ds) h k _ f x y = absurd (point_or_break g rs q f y (at_place (BreaksIfFalse g) as rs bs h f))
+    go : {es bs cs ds : List (List Taken)} {ps rs : List Taken} → Places es ps bs cs rs ds → All (BreaksIfFalse g) es → All (BreaksIfFalse g) cs → IsFalseCell g ps → IsFalseCell g rs → IsPointOf g ps p → IsPointOf g rs q → p ≡ q
+    go (Places.same es ps bs) h k f _ x y = same_point g ps p q f x y
+    go (Places.left es bs ps rs ds) h k f _ x y = absurd (point_or_break g ps p f x (at_place (BreaksIfFalse g) es ps bs k f))
+    go (Places.right es bs rs ps ds) h k _ f x y = absurd (point_or_break g rs q f y (at_place (BreaksIfFalse g) es rs bs h f))
 
 one_break : (g : Goal) (cells : List (List Taken)) (p q : Broken) → IsFirstBreak g cells p → IsFirstBreak g cells q → IsSameBreak p q
 one_break g cells p q a b = go (places a.before a.path a.after b.before b.path b.after (a.whole ∙ sym b.whole)) a.none_before b.none_before a.false_cell b.false_cell a.breaks_here b.breaks_here
   where
-    go : {as bs cs ds : List (List Taken)} {ps rs : List Taken} → Places as ps bs cs rs ds → All (λ ps. IsFalseCell g ps → ⊥) as → All (λ ps. IsFalseCell g ps → ⊥) cs → IsFalseCell g ps → IsFalseCell g rs → IsBreakOf g ps p → IsBreakOf g rs q → IsSameBreak p q
-    go (Places.same as ps bs) h k f _ x y = same_break g ps p q x y
-    go (Places.left as bs ps rs ds) h k f _ x y = absurd (at_place (λ ps. IsFalseCell g ps → ⊥) as ps bs k f)
-    go (Places.right as bs rs ps ds) h k _ f x y = absurd (at_place (λ ps. IsFalseCell g ps → ⊥) as rs bs h f)
+    go : {es bs cs ds : List (List Taken)} {ps rs : List Taken} → Places es ps bs cs rs ds → All (λ ps. IsFalseCell g ps → ⊥) es → All (λ ps. IsFalseCell g ps → ⊥) cs → IsFalseCell g ps → IsFalseCell g rs → IsBreakOf g ps p → IsBreakOf g rs q → IsSameBreak p q
+    go (Places.same es ps bs) h k f _ x y = same_break g ps p q x y
+    go (Places.left es bs ps rs ds) h k f _ x y = absurd (at_place (λ ps. IsFalseCell g ps → ⊥) es ps bs k f)
+    go (Places.right es bs rs ps ds) h k _ f x y = absurd (at_place (λ ps. IsFalseCell g ps → ⊥) es rs bs h f)
 
 all_break : (g : Goal) (cells : List (List Taken)) (b : Broken) → IsFirstBreak g cells b → All (BreaksIfFalse g) cells
 all_break g cells b f = subst (All (BreaksIfFalse g)) f.whole (All-append (BreaksIfFalse g) f.before (f.path ∷ f.after) (All-weaker (λ ps. IsFalseCell g ps → ⊥) (BreaksIfFalse g) (λ ps n h. absurd (n h)) f.before f.none_before) (All-cons (BreaksIfFalse g) f.path f.after (λ _. breaks g f.path b f.breaks_here) f.broken_after))

@@ -5,8 +5,6 @@ mod backing;
 mod cell;
 mod deciding;
 mod decision_laws;
-#[cfg(test)]
-mod decision_tests;
 mod decisions;
 mod found;
 mod front;
@@ -14,8 +12,6 @@ mod growth;
 mod moving;
 mod points;
 mod solving;
-#[cfg(test)]
-mod test_goals;
 mod walk;
 
 pub use deciding::decide;
