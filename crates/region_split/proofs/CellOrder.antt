@@ -1,8 +1,8 @@
 -- Where a walk stands is a front that it reaches, and where it finds one cell more than the most.
-use Rattle.std.proofs.Common.{◌≡◌, ◌+◌, ◌≤◌, List, length, arith, Bool, true, false}
+use Rattle.std.proofs.Common.{◌≡◌, ◌≤◌, List, length, arith, Bool, true, false}
 use Rattle.std.specs.Prelude.{Option}
 use Rattle.heylo_formula.specs.Goals.{Goal}
-use Rattle.linear_form.specs.Query.{Taken, onto}
+use Rattle.linear_form.specs.Query.{Taken}
 use Rattle.linear_form.specs.Questions.{questions}
 use Rattle.linear_form.specs.Paths.{Path, IsPath}
 use Rattle.linear_form.specs.Cells.{IsFront, IsCell}

@@ -9,12 +9,12 @@ use Rattle.linear_form.specs.Query.{Atom, Taken, onto}
 use Rattle.linear_form.specs.Query.Query.{done}
 use Rattle.linear_form.specs.Questions.{Ends}
 use Rattle.linear_form.specs.Paths.{end_at}
-use Rattle.linear_form.specs.PathRows.{IsPlainAt, denial, denial_at, rows_of}
+use Rattle.linear_form.specs.PathRows.{IsPlainAt, denial, denial_at}
 use Rattle.linear_form.specs.PlainPaths.{path_of}
 use Rattle.linear_form.specs.Cells.{GoesOn, IsFalseCell}
 use Rattle.linear_form.proofs.exported.Combinations.{contradiction_unsolvable}
 use Rattle.farkas_check.specs.Trees.{Tree, tree_of, tree_layer}
-use Rattle.farkas_check.specs.Accepted.{IsRefutedWith, IsRefuted, has_denied}
+use Rattle.farkas_check.specs.Accepted.{IsRefutedWith, has_denied}
 use Rattle.farkas_check.specs.declared.trees.Tree as T
 use Rattle.farkas_check.specs.declared.trees.Tree.TheOpen.{Tree-F}
 use Rattle.farkas_check.specs.declared.trees.Tree.TheFolds.{fold-roll-Tree}

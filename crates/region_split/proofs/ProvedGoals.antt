@@ -2,7 +2,7 @@
 use Rattle.std.proofs.Common.{List, []}
 use Rattle.std.specs.Prelude.{◌≡◌, Option, None}
 use Rattle.heylo_formula.specs.Goals.{Goal, Holds}
-use Rattle.linear_form.specs.Query.{Taken, onto}
+use Rattle.linear_form.specs.Query.{Taken}
 use Rattle.linear_form.specs.Nonlinear.{nonlinear_product}
 use Rattle.linear_form.specs.TypedGoals.{IsTypedGoal}
 use Rattle.farkas_check.specs.Trees.{Tree}

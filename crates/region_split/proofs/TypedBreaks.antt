@@ -1,11 +1,11 @@
 -- The values that are shown with a break have the types of their variables.
-use Rattle.std.proofs.Common.{◌≡◌, ℕ, ◌<◌, List, [], ◌∷◌, ◌++◌, length, map, refl, sym, ap, ap₂, ◌∙◌, subst, arith, true, ◌&&◌, ◌==◌}
+use Rattle.std.proofs.Common.{◌≡◌, ℕ, ◌<◌, List, [], ◌∷◌, ◌++◌, length, refl, sym, ap, ap₂, subst, arith, true, ◌&&◌, ◌==◌}
 use Rattle.std.specs.Prelude.{reverse, Some}
 use Rattle.std.specs.List.{All}
 use Rattle.std.proofs.lemmas.List.Elements.{All-nil, All-cons, All-head, All-tail, All-map}
 use Rattle.heyvl_num.specs.Rational.{Rational, zeroʳ, ◌≤ʳ◌}
 use Rattle.heylo_formula.specs.Goals.{Goal}
-use Rattle.heylo_formula.specs.State.{has, number_of}
+use Rattle.heylo_formula.specs.State.{has}
 use Rattle.heylo_formula.specs.declared.types.Ty.{Ty}
 use Rattle.heylo_formula.specs.declared.values.Val.{Val}
 use Rattle.heylo_formula.specs.declared.values.Val.TheVariants.{Num}
@@ -13,15 +13,14 @@ use Rattle.linear_form.specs.Query.{Taken}
 use Rattle.linear_form.specs.Paths.{IsPath}
 use Rattle.linear_form.specs.PathRows.{rows_of, is_unsigned_type}
 use Rattle.linear_form.specs.Row.{Row}
-use Rattle.linear_form.specs.RowLists.{is_numeric, IsNumericRow}
+use Rattle.linear_form.specs.RowLists.{is_numeric}
 use Rattle.linear_form.specs.Solutions.{MeetsAt}
 use Rattle.linear_form.specs.TypedGoals.{IsTypedGoal, types_in}
 use Rattle.linear_form.specs.VariableOrder.{occurrences, order_of}
-use Rattle.linear_form.specs.GreedyPoint.{IsCompleted, Interval, IsWholeType, Greedy, Chooses}
+use Rattle.linear_form.specs.GreedyPoint.{Interval, IsWholeType, Greedy, Chooses}
 use Rattle.linear_form.proofs.exported.NumericRows.{numeric_rows}
 use Rattle.linear_elim.proofs.exported.Numeric.{counted_numeric}
 use Rattle.linear_form.proofs.exported.UnsignedRows.{unsigned_nonnegative}
-use Rattle.linear_elim.specs.Answers.{values_of}
 use Rattle.linear_elim.specs.declared.answers.Broken.{Broken}
 use Rattle.region_split.specs.Decisions.{IsBreakOf}
 use Rattle.region_split.specs.internal.Seen.{IsBreakAt}

@@ -1,8 +1,8 @@
 -- A goal has one decision, but for the multipliers of its tree and the limits.
-use Rattle.std.proofs.Common.{◌≡◌, ℕ, ◌+◌, ◌<◌, ◌≤◌, List, [], ◌∷◌, ◌++◌, length, refl, sym, ap, ap₂, ◌∙◌, subst, arith, length-append, Bool, true, false, ◌⊎◌, inl, inr}
+use Rattle.std.proofs.Common.{◌≡◌, ℕ, List, [], ◌∷◌, ◌++◌, length, refl, sym, ap, ◌∙◌, subst, arith, length-append, true, false}
 use Rattle.std.specs.Prelude.{Option, Some, None}
 use Rattle.std.specs.List.{All}
-use Rattle.std.proofs.lemmas.List.Elements.{All-nil, All-cons, All-head, All-tail, All-append, All-weaker}
+use Rattle.std.proofs.lemmas.List.Elements.{All-cons, All-head, All-tail, All-append, All-weaker}
 use Rattle.heyvl_num.specs.Rational.{Rational, zeroʳ}
 use Rattle.heylo_formula.specs.Goals.{Goal}
 use Rattle.heylo_formula.specs.declared.values.Val.{Val}
@@ -21,10 +21,8 @@ use Rattle.linear_elim.specs.declared.answers.Cause.TheVariants.{Depth, Nodes, N
 use Rattle.farkas_check.specs.Trees.{Tree, tree_of}
 use Rattle.farkas_check.specs.declared.trees.Tree as T
 use Rattle.region_split.specs.Walk.{AreCells, IsWalked}
-use Rattle.region_split.specs.WalkTree.{IsWalkTree, depth}
 use Rattle.region_split.specs.Decisions.{with_truths, IsPointOf, IsBreakOf, Breaks, HasCells, IsFirstPoint, IsFirstBreak, IsFalsified, IsUndecided, IsGiven, IsProved, IsCause, IsDecision}
-use Rattle.region_split.specs.DecisionLaws.{AreAlike, IsSameBreak, GiveAlike, IsOfLimits, IsSameCause, IsSameDecision, DecisionsAreUnique}
-use Rattle.region_split.specs.declared.decisions.Decision.{Decision}
+use Rattle.region_split.specs.DecisionLaws.{AreAlike, IsSameBreak, GiveAlike, IsOfLimits, IsSameCause, DecisionsAreUnique}
 use Rattle.region_split.specs.declared.decisions.Decision.TheVariants.{Proved, Falsified, Unknown}
 use Rattle.region_split.proofs.PathAnswers.{same_rows}
 use Rattle.region_split.proofs.CellsFound.{breaks}

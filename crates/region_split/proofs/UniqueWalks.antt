@@ -1,12 +1,12 @@
 -- The walk is one: its cells, those before a front, and its tree but for the multipliers.
-use Rattle.std.proofs.Common.{◌≡◌, ℕ, ◌+◌, max, List, [], ◌∷◌, ◌++◌, refl, sym, ap, ap₂, ◌∙◌, subst, append_assoc, Bool, true, false}
-use Rattle.std.specs.Prelude.{Some, None, is_some}
+use Rattle.std.proofs.Common.{◌≡◌, ℕ, ◌+◌, max, List, [], ◌++◌, refl, sym, ap, ap₂, ◌∙◌, subst, append_assoc, Bool, true, false}
+use Rattle.std.specs.Prelude.{Some, is_some}
 use Rattle.std.proofs.lemmas.List.{append-nil}
 use Rattle.std.specs.List.{All}
 use Rattle.std.proofs.lemmas.List.Elements.{All-nil, All-cons, All-append}
 use Rattle.heylo_formula.specs.Goals.{Goal}
-use Rattle.linear_form.specs.Query.{Query, Atom, Taken, onto}
-use Rattle.linear_form.specs.Query.Query.{done, ask}
+use Rattle.linear_form.specs.Query.{Atom, Taken, onto}
+use Rattle.linear_form.specs.Query.Query.{done}
 use Rattle.linear_form.specs.Questions.{Ends}
 use Rattle.linear_form.specs.Paths.{Asks, end_at}
 use Rattle.linear_form.specs.PathRows.{IsPlainAt, denial_at, rows_of}

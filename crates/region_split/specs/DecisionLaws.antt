@@ -6,7 +6,7 @@ use Rattle.linear_form.specs.Nonlinear.{nonlinear_product}
 use Rattle.linear_form.specs.TypedGoals.{IsTypedGoal, HasItsVariables}
 use Rattle.linear_elim.specs.declared.answers.Broken.{Broken}
 use Rattle.linear_elim.specs.declared.answers.Cause.{Cause}
-use Rattle.linear_elim.specs.declared.answers.Cause.TheVariants.{Depth, Nodes, Nonlinear, Cells, Rows, Bits, Fraction}
+use Rattle.linear_elim.specs.declared.answers.Cause.TheVariants.{Nonlinear, Cells, Rows, Bits, Fraction}
 use Rattle.farkas_check.specs.Trees.{Tree, tree_of}
 use Rattle.farkas_check.specs.Accepted.{IsCertificate}
 use Rattle.farkas_check.specs.declared.trees.Tree as T

@@ -1,7 +1,7 @@
 -- The tree of the walk, and how deep it is. This project's own; what its multipliers show goes back to Farkas.
 use Rattle.std.specs.Prelude.{◌≡◌, ℕ, ◌+◌, max, List, true, false}
 use Rattle.heylo_formula.specs.Goals.{Goal}
-use Rattle.linear_form.specs.Query.{Query, Atom, Taken, onto}
+use Rattle.linear_form.specs.Query.{Atom, Taken, onto}
 use Rattle.linear_form.specs.Query.Query.{done}
 use Rattle.linear_form.specs.Questions.{Ends}
 use Rattle.linear_form.specs.Paths.{end_at}

@@ -1,4 +1,3 @@
-use Rattle.std.proofs.Common.{◌∙◌, sym, ap}
 use Rattle.heylo_formula.specs.Goals.{goal_of}
 use Rattle.linear_form.specs.PlainPaths.{path_of}
 use Rattle.region_split.proofs.PathAnswers.{dropped_by, bits_undenied, question_undenied, end_undenied, end_denied}

@@ -1,5 +1,5 @@
-use Rattle.std.proofs.Common.{◌≡◌, ◌<◌, ◌∙◌, ap, sym, subst, arith, length}
-use Rattle.region_split.proofs.Moved.{next_place, all_placed, place_taken, place_passed}
+use Rattle.std.proofs.Common.{◌≡◌, ◌<◌, ◌∙◌, ap, arith, length}
+use Rattle.region_split.proofs.Moved.{next_place, place_taken, place_passed}
 use Rattle.region_split.proofs.moving.further_places.Goals as goal
 use Rattle.region_split.proofs.moving.further_places.Goals.{then-is_same_row+in_ok-push, else-is_same_row}
 

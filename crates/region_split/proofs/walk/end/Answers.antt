@@ -1,4 +1,4 @@
-use Rattle.std.proofs.Common.{refl, sym, subst, true, false}
+use Rattle.std.proofs.Common.{refl, sym, subst, true}
 use Rattle.heylo_formula.specs.Goals.{goal_of}
 use Rattle.linear_form.specs.Paths.{IsPath}
 use Rattle.linear_form.specs.PathRows.{IsPlainAt}
