@@ -10,7 +10,7 @@ use Rattle.heyvl_num.specs.Extended.{value_of}
 use Rattle.heyvl_num.proofs.Integers.{*ℤ-one, zero_times}
 use Rattle.heyvl_num.proofs.Rationals.{ratio_parts, leq_ratio}
 use Rattle.heylo_formula.specs.Typing.{NumberType, only_if, is_unsigned, constant_type}
-use Rattle.region_split.proofs.test_goals.is_unsigned_number.Goals as goal
+use Rattle.decision_tests.proofs.test_goals.is_unsigned_number.Goals as goal
 
 at_least_zero : (x : Rational) → leqʳ zeroʳ x ≡ le_z (pos 0) x.num
 unfolding zeroʳ
