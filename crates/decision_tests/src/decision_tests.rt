@@ -267,7 +267,12 @@ fn products_of_two_variables(rt: HostRuntime) -> Result<(), Fail> {
     let stated = product(alloc, Form::Var(0), Form::Var(1), place)?;
     let goal = upper(alloc, stated, number(0, 1), &[Ty::UReal, Ty::UReal])?;
     let decision = decision_of(alloc, &goal)?;
-    assert!(rt; matches!(decision, Some(Decision::Unknown(Cause::Nonlinear(Span { from: 5, to: 6 })))));
+    assert!(rt;
+        matches!(
+            decision,
+            Some(Decision::Unknown(Cause::Nonlinear(Span { from: 5, to: 6 })))
+        )
+    );
     Ok(())
 }
 

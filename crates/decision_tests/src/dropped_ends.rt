@@ -509,9 +509,11 @@ fn is_as_told(alloc: Global, given: &Given) -> Result<bool, AllocError> {
     match decision_of(alloc, &goal)? {
         Some(Decision::Proved(Some(tree))) => {
             let accepted = matches!(check(alloc, &goal, &tree)?, Checked::Yes);
-            Ok(accepted
-                && has_nodes(&tree, given.tree)
-                && has_multipliers(&tree, given.leaf, given.multipliers))
+            Ok(
+                accepted
+                    && has_nodes(&tree, given.tree)
+                    && has_multipliers(&tree, given.leaf, given.multipliers),
+            )
         }
         _ => Ok(false),
     }

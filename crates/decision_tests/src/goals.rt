@@ -55,7 +55,6 @@ pub fn upper(alloc: Global, stated: Form, found: Form, vars: &[Ty]) -> Result<Go
     })
 }
 
-
 /// The product of two forms, at this place.
 pub fn product(alloc: Global, left: Form, right: Form, span: Span) -> Result<Form, AllocError> {
     let left = Box::new(alloc, left)?;

@@ -7,9 +7,9 @@ ghost use Rattle.heylo_formula.specs.Typing.{NumberType, type_of, is_well_typed,
 ghost use Rattle.heylo_formula.specs.Variables.{is_free, is_free_in};
 ghost use Rattle.linear_form.specs.TypedGoals.{types_in};
 
-use region_split::{Decision, decide};
 use heylo_formula::{Cond, Form, Goal, Ty};
 use heyvl_num::Ext;
+use region_split::{Decision, decide};
 use std::alloc::{AllocError, Global};
 
 const MOST_NODES: u64 = 536_870_912;
