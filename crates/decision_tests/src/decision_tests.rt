@@ -276,24 +276,28 @@ fn products_of_two_variables(rt: HostRuntime) -> Result<(), Fail> {
     Ok(())
 }
 
-/// The truth of `x <= 0`, added up so often that the number of terms doubles with each level.
-fn repeated(alloc: Global, levels: u32) -> Result<Form, AllocError> {
+/// `x <= 0`, asked so often that the number of times doubles with each level.
+fn repeated(alloc: Global, levels: u32) -> Result<Cond, AllocError> {
     if levels == 0 {
-        let test = at_most(alloc, Form::Var(0), number(0, 1))?;
-        return Ok(Form::Iverson(Box::new(alloc, test)?));
+        return at_most(alloc, Form::Var(0), number(0, 1));
     }
-    let left = repeated(alloc, levels - 1)?;
-    sum(alloc, left, repeated(alloc, levels - 1)?)
+    let first = repeated(alloc, levels - 1)?;
+    both(alloc, first, repeated(alloc, levels - 1)?)
 }
 
-/// Each term asks once more, and one of the two answers is dropped.
+/// A goal that asks so often, and holds whatever is answered.
+fn asked(alloc: Global, levels: u32) -> Result<Goal, AllocError> {
+    let test = repeated(alloc, levels)?;
+    let stated = select(alloc, test, number(1, 1), number(1, 1))?;
+    upper(alloc, stated, number(1, 1), &[Ty::Int])
+}
+
+/// Each question but the first has an answer that no state gives.
 #[test]
 fn trees_that_are_too_deep(rt: HostRuntime) -> Result<(), Fail> {
     let alloc = rt.alloc();
-    let goal = upper(alloc, repeated(alloc, 3)?, number(0, 1), &[Ty::Int])?;
-    assert!(rt; is_proved(&decision_of(alloc, &goal)?, 16));
-    let goal = upper(alloc, repeated(alloc, 10)?, number(0, 1), &[Ty::Int])?;
-    let decision = decision_of(alloc, &goal)?;
+    assert!(rt; is_proved(&decision_of(alloc, &asked(alloc, 3)?)?, 9));
+    let decision = decision_of(alloc, &asked(alloc, 10)?)?;
     assert!(rt; matches!(decision, Some(Decision::Proved(None))));
     Ok(())
 }

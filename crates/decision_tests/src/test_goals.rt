@@ -5,7 +5,7 @@ ghost use Rattle.heyvl_num.specs.Extended.{value_of};
 ghost use Rattle.heylo_formula.specs.PlainTrees.{form_of, cond_of};
 ghost use Rattle.heylo_formula.specs.Typing.{NumberType, type_of, is_well_typed, is_unsigned, constant_type, number_type, difference_type, is_bool};
 ghost use Rattle.heylo_formula.specs.Variables.{is_free, is_free_in};
-ghost use Rattle.linear_form.specs.TypedGoals.{types_in};
+ghost use Rattle.heylo_formula.specs.Typing.{types_in};
 
 use heylo_formula::{Cond, Form, Goal, Ty};
 use heyvl_num::Ext;

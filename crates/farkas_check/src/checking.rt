@@ -2,14 +2,15 @@
 
 ghost use Rattle.std.specs.Prelude.{◌≡◌, ◌↔◌, List, [], ◌∷◌, ◌++◌, Bool, true, false, IsTrue, IsSome, IfOk, Ok, Some, None, map};
 ghost use Rattle.heylo_formula.specs.Goals.{goal_of, Holds};
-ghost use Rattle.linear_form.specs.TypedGoals.{IsTypedGoal};
+ghost use Rattle.heylo_formula.specs.TypedGoals.{IsTypedGoal};
 ghost use Rattle.linear_form.specs.Paths.{IsPath};
 ghost use Rattle.linear_form.specs.PlainPaths.{path_of};
 ghost use Rattle.linear_form.specs.PathRows.{IsPlainAt};
 ghost use Rattle.linear_form.specs.declared.paths.Taken.{Taken as TakenValue};
 ghost use Rattle.farkas_check.specs.Trees.{tree_of};
 ghost use Rattle.farkas_check.specs.Accepted.{has_denied, IsRefuted, IsCertificate, IsNoCertificate};
-ghost use Rattle.farkas_check.specs.Verdicts.{IsNext, IsNoAt, IsJudged};
+ghost use Rattle.farkas_check.specs.Verdicts.{IsNoAt};
+ghost use Rattle.farkas_check.specs.internal.Findings.{IsQuestion, IsFinding};
 
 use crate::trees::{Checked, Tree};
 use heylo_formula::Goal;
@@ -50,7 +51,7 @@ fn is_plain_at(alloc: Global, goal: &Goal, path: &[Taken]) -> Result<bool, Alloc
 /// The question at the end of the path, if there is one.
 fn question(alloc: Global, goal: &Goal, path: &[Taken]) -> Result<Option<Atom>, AllocError>
     requires { IsPath (goal_of goal.now) (path_of path.now) }
-    ensures { IfOk result (IsNext (goal_of goal.now) (path_of path.now)) }
+    ensures { IfOk result (IsQuestion (goal_of goal.now) (path_of path.now)) }
 {
     match ask(alloc, goal, path)? {
         Ask::Decide(atom) => Ok(Some(atom)),
@@ -113,7 +114,7 @@ fn shortened(mut path: Vec<Taken>) -> Vec<Taken>
 /// Goes through the tree from the end of the path, in the order of the text.
 fn judge(alloc: Global, goal: &Goal, path: Vec<Taken>, tree: &Tree) -> Result<Judged, AllocError>
     requires { IsPath (goal_of goal.now) (path_of path.items) }
-    ensures { IfOk result (IsJudged (goal_of goal.now) path.items (tree_of tree.now)) }
+    ensures { IfOk result (IsFinding (goal_of goal.now) path.items (tree_of tree.now)) }
 {
     match tree {
         Tree::Split(holds, fails) => {

@@ -8,7 +8,7 @@ use Rattle.std.proofs.Math.Nat.{div-mul_cancel, zero-lt-suc, one-dvd}
 use Rattle.std.proofs.lemmas.Nat.Gcd.{dvd_refl, dvd_trans}
 use Rattle.std.specs.List.{All}
 use Rattle.std.proofs.lemmas.List.Elements.{All-nil, All-cons, All-head, All-tail, All-weaker}
-use Rattle.heyvl_num.proofs.Integers.{ring, *ℤ-neg}
+use Rattle.heyvl_num.proofs.exported.Integers.{ring, *ℤ-neg}
 use Rattle.heyvl_num.specs.Gcd.{gcd}
 use Rattle.heyvl_num.specs.GcdLaws.{gcd-is}
 use Rattle.linear_form.specs.Terms.{sum_at}

@@ -4,7 +4,7 @@ use Rattle.std.specs.Prelude.{ℤ, None}
 use Rattle.std.specs.List.{All}
 use Rattle.std.proofs.lemmas.List.Elements.{All-weaker, All-map}
 use Rattle.heyvl_num.specs.Rational.{Rational, ratio}
-use Rattle.heyvl_num.proofs.Rationals.{ratio_same}
+use Rattle.heyvl_num.proofs.exported.Rationals.{ratio_same}
 use Rattle.linear_form.specs.Terms.{is_in, IsOver}
 use Rattle.linear_form.specs.Row.{Row}
 use Rattle.linear_form.specs.Solutions.{MeetsAt}

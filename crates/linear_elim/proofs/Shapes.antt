@@ -7,7 +7,7 @@ use borrow.Author.Differences.{ints}
 use Prim.Native.Nat.{◌∣◌}
 use Rattle.std.specs.List.{All}
 use Rattle.std.proofs.lemmas.List.Elements.{All-nil, All-head, All-tail, All-append, All-filter, All-map, filter_passes}
-use Rattle.heyvl_num.proofs.Integers.{ring, ring_neg, ≤ℤ-cancel}
+use Rattle.heyvl_num.proofs.exported.Integers.{ring, ring_neg, ≤ℤ-cancel}
 use Rattle.heyvl_num.specs.Value.{is_zero_num}
 use Rattle.linear_form.specs.Terms.{coefficient, is_in, IsNormal, IsOver, add_terms}
 use Rattle.linear_form.specs.Row.{Row}

@@ -7,7 +7,7 @@ use Rattle.std.specs.Int.Signed.{lt_z}
 use Rattle.std.proofs.lemmas.Bool.{eqb-true}
 use Rattle.std.specs.List.{All, filter}
 use Rattle.std.proofs.lemmas.List.Elements.{All-nil, All-cons, All-head, All-tail, All-filter}
-use Rattle.heyvl_num.proofs.Integers.{≤ℤ-cancel}
+use Rattle.heyvl_num.proofs.exported.Integers.{≤ℤ-cancel}
 use Rattle.heyvl_num.specs.Value.{is_zero_num}
 use Rattle.linear_form.specs.Terms.{sum_at}
 use Rattle.linear_form.specs.Row.{Row}

@@ -2,7 +2,7 @@ ghost use Rattle.std.specs.Prelude.{◌<◌, ◌^◌, IfOk, unsigned_abs};
 ghost use Rattle.std.specs.List.{All};
 ghost use Rattle.linear_form.specs.Row.{IsRow};
 ghost use Rattle.linear_elim.specs.Joins.{IsDerived};
-ghost use Rattle.linear_elim.specs.Picks.{IsDerivedStep};
+ghost use Rattle.linear_elim.specs.internal.Picks.{IsDerivedStep};
 
 use crate::answers::Elim;
 use crate::choosing::greedy;

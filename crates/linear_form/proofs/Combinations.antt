@@ -6,7 +6,7 @@ use borrow.Author.Differences.{ints}
 use Prim.Native.Nat.{zero, suc}
 use Rattle.std.specs.List.{All}
 use Rattle.std.proofs.lemmas.List.Elements.{All-head, All-tail}
-use Rattle.heyvl_num.proofs.Integers.{ring}
+use Rattle.heyvl_num.proofs.exported.Integers.{ring}
 use Rattle.linear_form.specs.Terms.{sum_at, coefficient, IsNormal, add_terms}
 use Rattle.linear_form.specs.Row.{Row}
 use Rattle.linear_form.specs.Points.{Point, IsBelow, Meets, IsMetSomewhere, left_side}

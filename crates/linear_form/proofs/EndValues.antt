@@ -5,13 +5,13 @@ use Rattle.heyvl_num.specs.Rational.{Rational, zeroʳ, oneʳ, ◌+ʳ◌, ◌*ʳ�
 use Rattle.heyvl_num.specs.Value.{Value, zeroᵛ, oneᵛ, is_zeroʳ, infinite_times, ◌+ᵛ◌, ◌*ᵛ◌, leqᵛ, ◌≤ᵛ◌}
 use Rattle.heyvl_num.specs.Value.Value.{finite, infinite}
 use Rattle.heyvl_num.specs.ValueOperators.{minᵛ, maxᵛ, impliesᵛ, coimpliesᵛ, monusᵛ}
-use Rattle.heyvl_num.proofs.Rationals.{zero-+ʳ, *ʳ_comm, ≤ʳ_antisym, ≤ʳ_refl}
-use Rattle.heyvl_num.proofs.Values.{is_zero-is, is_zero-zero, nonnegative_finite}
+use Rattle.heyvl_num.proofs.exported.Rationals.{zero-+ʳ, *ʳ_comm, ≤ʳ_antisym, ≤ʳ_refl}
+use Rattle.heyvl_num.proofs.exported.Values.{is_zero-is, is_zero-zero, nonnegative_finite}
 use Rattle.heylo_formula.specs.Formula.{Form, Cond}
 use Rattle.heylo_formula.specs.Operators.{differenceᵛ, validateᵛ, covalidateᵛ, lessᵛ, equalᵛ, is_finite}
 use Rattle.heylo_formula.specs.State.{Env, environment, IsTyped}
 use Rattle.heylo_formula.specs.declared.values.Val.{Val}
-use Rattle.linear_form.specs.TypedGoals.{IsTypedGoal}
+Noneuse Rattle.heylo_formula.specs.TypedGoals.{IsTypedGoal}
 use Rattle.heylo_formula.specs.Choices.{Choices, left, right}
 use Rattle.heylo_formula.specs.Meaning.{value, holds}
 use Rattle.heylo_formula.specs.Typing.{HasTypes, NumberType, Types, type_of, is_well_typed, is_finite_type, is_unsigned}

@@ -5,11 +5,13 @@ use Rattle.std.specs.List.{All}
 use Rattle.std.proofs.lemmas.List.Elements.{All-push}
 use Rattle.heyvl_num.specs.Gcd.{gcd, gcd_steps}
 use Rattle.heyvl_num.specs.Rational.{Rational, ratio, zeroʳ, oneʳ, middleʳ, ◌+ʳ◌, ◌-ʳ◌, leqʳ, ◌≤ʳ◌, ◌<ʳ◌}
-use Rattle.heyvl_num.proofs.Rationals.{≤ʳ_refl, ≤ʳ_trans, +ʳ_comm, zero-+ʳ}
-use Rattle.heyvl_num.proofs.Signs.{<ʳ-≤ʳ, <ʳ-not, middle_above, middle_below, ≤ʳ-+ʳ_cancel, -ʳ-+ʳ}
+use Rattle.heyvl_num.proofs.exported.Rationals.{≤ʳ_refl, ≤ʳ_trans, +ʳ_comm, zero-+ʳ}
+use Rattle.heyvl_num.proofs.exported.Signs.{<ʳ-≤ʳ, <ʳ-not, middle_above, middle_below, ≤ʳ-+ʳ_cancel, -ʳ-+ʳ}
 use Rattle.heylo_formula.specs.declared.types.Ty.{Ty}
 use Rattle.linear_form.specs.Row.{Row}
-use Rattle.linear_form.specs.GreedyPoint.{IsCompleted, End, Interval, IsUpFrom, IsUpTo, IsInside, IsWholeType, IsChoice, type_at, Greedy, Chooses}
+use Rattle.linear_form.specs.GreedyPoint.{IsCompleted, End, Interval, IsUpFrom, IsUpTo, IsInside, IsChoice, Greedy, Chooses}
+use Rattle.heylo_formula.specs.Typing.{types_in}
+use Rattle.linear_form.specs.Tightening.{is_integral}
 
 -- ---- Below and at most
 
@@ -128,15 +130,15 @@ pub zero_whole : zeroʳ.den ≡ 1
 unfolding zeroʳ ratio gcd gcd_steps
 zero_whole = refl
 
-choice_whole : (i : Interval) (ty : Ty) (v : Rational) → IsChoice i ty v → IsWholeType ty → v.den ≡ 1
+choice_whole : (i : Interval) (ty : Ty) (v : Rational) → IsChoice i ty v → (is_integral ty ≡ true) → v.den ≡ 1
 choice_whole i _ _ (IsChoice.zero ty z) t = zero_whole
 choice_whole i _ _ (IsChoice.nearest_whole ty v n k l a m) t = l.whole
-choice_whole i _ _ (IsChoice.low_end e n l z k) t = absurd t
-choice_whole i _ _ (IsChoice.high_end e n l z k) t = absurd t
-choice_whole i _ _ (IsChoice.middle_of_low e f n l g z k) t = absurd t
-choice_whole i _ _ (IsChoice.middle_of_high e f n l g z k) t = absurd t
-choice_whole i _ _ (IsChoice.past_low e n l g k) t = absurd t
-choice_whole i _ _ (IsChoice.past_high e n l g k) t = absurd t
+choice_whole i _ _ (IsChoice.low_end e n l z k) t = absurd (cc)
+choice_whole i _ _ (IsChoice.high_end e n l z k) t = absurd (cc)
+choice_whole i _ _ (IsChoice.middle_of_low e f n l g z k) t = absurd (cc)
+choice_whole i _ _ (IsChoice.middle_of_high e f n l g z k) t = absurd (cc)
+choice_whole i _ _ (IsChoice.past_low e n l g k) t = absurd (cc)
+choice_whole i _ _ (IsChoice.past_high e n l g k) t = absurd (cc)
 
 -- ---- All choices
 
@@ -147,12 +149,12 @@ with_own rows cs x h = record { at_values = h.at_values; agrees = All-push (λ c
 -- What is chosen in the end is completed.
 pub completed : (rows : List Row) (vars : List Ty) (xs : List ℕ) (cs ds : List (ℕ × Rational)) → Chooses rows vars xs cs (Greedy.chose ds) → IsCompleted rows cs → IsCompleted rows ds
 completed rows vars _ _ ds (Chooses.ends _) h = h
-completed rows vars _ cs ds (Chooses.takes x xs _ i v _ a c r) h = completed rows vars xs (cs ++ (x, v) ∷ []) ds r ((a.values v).0 (choice_inside i (type_at vars x) v (h.at_values x) ((a.values (h.at_values x)).1 (with_own rows cs x h)) c))
+completed rows vars _ cs ds (Chooses.takes x xs _ i v _ a c r) h = completed rows vars xs (cs ++ (x, v) ∷ []) ds r ((a.values v).0 (choice_inside i (types_in vars x) v (h.at_values x) ((a.values (h.at_values x)).1 (with_own rows cs x h)) c))
 
 abbrev pub AreWhole : List Ty → List (ℕ × Rational) → Type 0
-AreWhole vars cs = All (λ c. IsWholeType (type_at vars c.0) → c.1.den ≡ 1) cs
+AreWhole vars cs = All (λ c. (is_integral (types_in vars c.0) ≡ true) → c.1.den ≡ 1) cs
 
 -- Variables of whole types have whole values.
 pub chosen_whole : (rows : List Row) (vars : List Ty) (xs : List ℕ) (cs ds : List (ℕ × Rational)) → Chooses rows vars xs cs (Greedy.chose ds) → AreWhole vars cs → AreWhole vars ds
 chosen_whole rows vars _ _ ds (Chooses.ends _) h = h
-chosen_whole rows vars _ cs ds (Chooses.takes x xs _ i v _ a c r) h = chosen_whole rows vars xs (cs ++ (x, v) ∷ []) ds r (All-push (λ c. IsWholeType (type_at vars c.0) → c.1.den ≡ 1) cs (x, v) h (choice_whole i (type_at vars x) v c))
+chosen_whole rows vars _ cs ds (Chooses.takes x xs _ i v _ a c r) h = chosen_whole rows vars xs (cs ++ (x, v) ∷ []) ds r (All-push (λ c. (is_integral (types_in vars c.0) ≡ true) → c.1.den ≡ 1) cs (x, v) h (choice_whole i (types_in vars x) v c))

@@ -7,15 +7,17 @@ use Rattle.std.specs.List.{All}
 use Rattle.std.proofs.lemmas.List.Elements.{All-nil, All-push}
 use Rattle.heyvl_num.specs.Gcd.{gcd, gcd_steps}
 use Rattle.heyvl_num.specs.Rational.{Rational, ratio, zeroʳ, oneʳ, middleʳ, ◌+ʳ◌, ◌-ʳ◌, leqʳ, ◌≤ʳ◌, ◌<ʳ◌}
-use Rattle.heyvl_num.proofs.Rationals.{≤ʳ_refl, ≤ʳ_trans, ≤ʳ_antisym, ≤ʳ_total, cross_order, ratio_parts}
-use Rattle.heyvl_num.proofs.Signs.{<ʳ-≤ʳ, <ʳ-not, middle_above, middle_below}
+use Rattle.heyvl_num.proofs.exported.Rationals.{≤ʳ_refl, ≤ʳ_trans, ≤ʳ_antisym, ≤ʳ_total, cross_order, ratio_parts}
+use Rattle.heyvl_num.proofs.exported.Signs.{<ʳ-≤ʳ, <ʳ-not, middle_above, middle_below}
 use Rattle.heylo_formula.specs.declared.types.Ty.{Ty}
 use Rattle.heylo_formula.specs.declared.values.Val.{Val}
 use Rattle.heylo_formula.specs.declared.values.Val.TheVariants.{Truth}
 use Rattle.linear_form.specs.Row.{Row}
 use Rattle.linear_form.specs.Solutions.{IsSolvable}
 use Rattle.linear_form.specs.VariableOrder.{order_of}
-use Rattle.linear_form.specs.GreedyPoint.{IsCompleted, End, Interval, IsUpFrom, IsUpTo, IsInside, IsIntervalOf, IsWhole, IsWholeType, IsChoice, IsBroken, type_at, Greedy, Chooses, ChoosesFrom, chosen_value, value_for, IsStateOf, IsGreedyPoint}
+use Rattle.linear_form.specs.GreedyPoint.{IsCompleted, End, Interval, IsUpFrom, IsUpTo, IsInside, IsIntervalOf, IsWhole, IsChoice, IsBroken, Greedy, Chooses, ChoosesFrom, chosen_value, value_for, IsStateOf, IsGreedyPoint}
+use Rattle.heylo_formula.specs.Typing.{types_in}
+use Rattle.linear_form.specs.Tightening.{is_integral}
 use Rattle.linear_form.specs.GreedyLaws.{ChoicesAreUnique, PointsAreUnique}
 use Rattle.linear_form.proofs.GreedyChoices.{less_next, less_before, from_most, to_most, from_less, to_less, from_more, to_fewer, own_from, own_to, beyond_from, beyond_to, no_end, choice_inside, with_own, one_end, zero_whole}
 
@@ -149,7 +151,7 @@ closed_high e None k = ap (λ b. cond b e.place (e.place -ʳ oneʳ)) k
 
 data Kind (i : Interval) (ty : Ty) (v : Rational) : Type 0 where
   at_zero : IsInside i zeroʳ → v ≡ zeroʳ → Kind i ty v
-  at_whole : (IsInside i zeroʳ → ⊥) → IsWholeType ty → IsWhole v → IsInside i v → ((w : Rational) → IsWhole w → IsInside i w → unsigned_abs v.num ≤ unsigned_abs w.num) → Kind i ty v
+  at_whole : (IsInside i zeroʳ → ⊥) → (is_integral ty ≡ true) → IsWhole v → IsInside i v → ((w : Rational) → IsWhole w → IsInside i w → unsigned_abs v.num ≤ unsigned_abs w.num) → Kind i ty v
   at_low : (e : End) → (IsInside i zeroʳ → ⊥) → ty ≡ Ty.UReal → i.low ≡ Some e → zeroʳ ≤ʳ e.place → v ≡ low_value e i.high → Kind i ty v
   at_high : (e : End) → (IsInside i zeroʳ → ⊥) → ty ≡ Ty.UReal → i.high ≡ Some e → e.place ≤ʳ zeroʳ → v ≡ high_value e i.low → Kind i ty v
 
@@ -203,8 +205,8 @@ one_whole i v u n d e a b s = go (≤ʳ_total v zeroʳ) (≤ʳ_total u zeroʳ)
 not_both : (i : Interval) (e f : End) (w : Rational) → IsInside i w → (IsInside i zeroʳ → ⊥) → i.low ≡ Some e → i.high ≡ Some f → zeroʳ ≤ʳ e.place → f.place ≤ʳ zeroʳ → ⊥
 not_both i e f w h n l g a b = n (between_zero i w w h h (≤ʳ_trans w f.place zeroʳ (to_most f w (h.to_high f g)) b) (≤ʳ_trans zeroʳ e.place w a (from_most e w (h.from_low e l))))
 
-not_real : {A : Type 0} (ty : Ty) → IsWholeType ty → ty ≡ Ty.UReal → A
-not_real ty t e = absurd (subst IsWholeType e t)
+not_real : {A : Type 0} (ty : Ty) → (is_integral ty ≡ true) → ty ≡ Ty.UReal → A
+not_real ty t e = let k : true ≡ false = sym t ∙ ap is_integral e in absurd (cc)
 
 one_kind : (i : Interval) (ty : Ty) (v u w : Rational) → IsInside i w → Kind i ty v → Kind i ty u → v ≡ u
 one_kind i ty v u w h (Kind.at_zero z e) (Kind.at_zero y f) = e ∙ sym f
@@ -248,19 +250,19 @@ own_value rows cs x i h a = (a.values (h.at_values x)).1 (with_own rows cs x h)
 one_interval : (rows : List Row) (cs : List (ℕ × Rational)) (x : ℕ) (i j : Interval) → IsCompleted rows cs → IsIntervalOf rows cs x i → IsIntervalOf rows cs x j → i ≡ j
 one_interval rows cs x i j h a b = same_interval i j (h.at_values x) (same_values rows cs x i j a b) (own_value rows cs x i h a)
 
-next_completed : (rows : List Row) (vars : List Ty) (cs : List (ℕ × Rational)) (x : ℕ) (i : Interval) (v : Rational) → IsCompleted rows cs → IsIntervalOf rows cs x i → IsChoice i (type_at vars x) v → IsCompleted rows (cs ++ (x, v) ∷ [])
-next_completed rows vars cs x i v h a c = (a.values v).0 (choice_inside i (type_at vars x) v (h.at_values x) (own_value rows cs x i h a) c)
+next_completed : (rows : List Row) (vars : List Ty) (cs : List (ℕ × Rational)) (x : ℕ) (i : Interval) (v : Rational) → IsCompleted rows cs → IsIntervalOf rows cs x i → IsChoice i (types_in vars x) v → IsCompleted rows (cs ++ (x, v) ∷ [])
+next_completed rows vars cs x i v h a c = (a.values v).0 (choice_inside i (types_in vars x) v (h.at_values x) (own_value rows cs x i h a) c)
 
-one_value : (rows : List Row) (vars : List Ty) (cs : List (ℕ × Rational)) (x : ℕ) (i j : Interval) (v u : Rational) → IsCompleted rows cs → IsIntervalOf rows cs x i → IsChoice i (type_at vars x) v → IsIntervalOf rows cs x j → IsChoice j (type_at vars x) u → v ≡ u
-one_value rows vars cs x i j v u h a c b d = one_choice i (type_at vars x) v u (h.at_values x) (own_value rows cs x i h a) c (subst (λ k. IsChoice k (type_at vars x) u) (sym (one_interval rows cs x i j h a b)) d)
+one_value : (rows : List Row) (vars : List Ty) (cs : List (ℕ × Rational)) (x : ℕ) (i j : Interval) (v u : Rational) → IsCompleted rows cs → IsIntervalOf rows cs x i → IsChoice i (types_in vars x) v → IsIntervalOf rows cs x j → IsChoice j (types_in vars x) u → v ≡ u
+one_value rows vars cs x i j v u h a c b d = one_choice i (types_in vars x) v u (h.at_values x) (own_value rows cs x i h a) c (subst (λ k. IsChoice k (types_in vars x) u) (sym (one_interval rows cs x i j h a b)) d)
 
 one_way : (rows : List Row) (vars : List Ty) (xs : List ℕ) (cs : List (ℕ × Rational)) (a b : Greedy) → IsCompleted rows cs → Chooses rows vars xs cs a → Chooses rows vars xs cs b → a ≡ b
 one_way rows vars _ cs _ _ h (Chooses.ends _) (Chooses.ends _) = refl
 one_way rows vars _ cs a b h (Chooses.takes x xs _ i v _ p c r) (Chooses.takes _ _ _ j u _ q d s) =
     let e = one_value rows vars cs x i j v u h p c q d in
     one_way rows vars xs (cs ++ (x, v) ∷ []) a b (next_completed rows vars cs x i v h p c) r (subst (λ y. Chooses rows vars xs (cs ++ (x, y) ∷ []) b) (sym e) s)
-one_way rows vars _ cs a _ h (Chooses.takes x xs _ i v _ p c r) (Chooses.breaks _ _ _ j q d) = absurd (chosen_or_broken i (type_at vars x) v c (subst (λ k. IsBroken k (type_at vars x)) (sym (one_interval rows cs x i j h p q)) d))
-one_way rows vars _ cs _ b h (Chooses.breaks x xs _ i p c) (Chooses.takes _ _ _ j u _ q d s) = absurd (chosen_or_broken j (type_at vars x) u d (subst (λ k. IsBroken k (type_at vars x)) (one_interval rows cs x i j h p q) c))
+one_way rows vars _ cs a _ h (Chooses.takes x xs _ i v _ p c r) (Chooses.breaks _ _ _ j q d) = absurd (chosen_or_broken i (types_in vars x) v c (subst (λ k. IsBroken k (types_in vars x)) (sym (one_interval rows cs x i j h p q)) d))
+one_way rows vars _ cs _ b h (Chooses.breaks x xs _ i p c) (Chooses.takes _ _ _ j u _ q d s) = absurd (chosen_or_broken j (types_in vars x) u d (subst (λ k. IsBroken k (types_in vars x)) (one_interval rows cs x i j h p q) c))
 one_way rows vars _ cs _ _ h (Chooses.breaks x xs _ i p c) (Chooses.breaks _ _ _ j q d) = ap (Greedy.broke x cs) (one_interval rows cs x i j h p q)
 
 pub choices_unique : ChoicesAreUnique
@@ -278,4 +280,4 @@ pub points_unique : PointsAreUnique
 points_unique rows vars p q s a b =
     let e : Greedy.chose a.chosen ≡ Greedy.chose b.chosen = choices_unique rows vars (Greedy.chose a.chosen) (Greedy.chose b.chosen) s a.choice b.choice in
     let c : a.chosen ≡ b.chosen = cc in
-    same_lists p q (a.state.each ∙ sym b.state.each) (λ x l. let m = subst (λ n. x < n) a.state.each l in a.state.values x m ∙ ap (λ ds. value_for (type_at vars x) (chosen_value x ds)) c ∙ sym (b.state.values x m))
+    same_lists p q (a.state.each ∙ sym b.state.each) (λ x l. let m = subst (λ n. x < n) a.state.each l in a.state.values x m ∙ ap (λ ds. value_for (types_in vars x) (chosen_value x ds)) c ∙ sym (b.state.values x m))

@@ -18,14 +18,15 @@ use Rattle.linear_form.specs.Query.{Query, Atom, Taken, is_negative, holds_at}
 use Rattle.linear_form.specs.Query.Query.{done, bits, ask}
 use Rattle.linear_form.specs.Questions.{Linear, Ends, value_in}
 use Rattle.linear_form.specs.Paths.{IsPath, Agrees, end_at}
-use Rattle.linear_form.specs.TypedGoals.{IsTypedGoal, types_in}
+Noneuse Rattle.heylo_formula.specs.TypedGoals.{IsTypedGoal}
+Noneuse Rattle.heylo_formula.specs.Typing.{types_in}
 use Rattle.linear_form.specs.Tightening.{Claim}
 use Rattle.linear_form.specs.ClaimLaws.{IsClaimed, AllClaimed, AnswersClaimTruths, DenialsClaimTruths}
 use Rattle.linear_form.specs.PathRows.{claim, negated, answer_claims, path_claims, below_claim, denial, listed, denial_at, is_unsigned_type, occurs_in_claims, sign_claims, with_signs}
 use Rattle.linear_form.proofs.LinearValues.{scaled_at, constant_at, variable_at, minus_one_times, leq_zero_minus, leq_minus, below_at}
 use Rattle.linear_form.proofs.TypedValues.{typed_environment}
 use Rattle.linear_form.proofs.AgreedEnds.{ends_are_values}
-use Rattle.heyvl_num.proofs.Rationals.{zero-+ʳ}
+use Rattle.heyvl_num.proofs.exported.Rationals.{zero-+ʳ}
 
 claimed_append : (s : Env) (ks ls : List Claim) → AllClaimed s ks → AllClaimed s ls → AllClaimed s (ks ++ ls)
 claimed_append s [] ls h m = m

@@ -10,7 +10,7 @@ use Rattle.std.specs.List.{All}
 use Rattle.std.proofs.lemmas.List.Elements.{All-nil, All-cons, All-head, All-tail}
 use Rattle.linear_form.specs.Row.{Row}
 use Rattle.linear_form.specs.Combination.{row_at, combined, uses_strict, IsWideThroughout}
-use Rattle.linear_form.specs.Columns.{AreMultipliers}
+use Rattle.linear_form.specs.internal.Columns.{AreMultipliers}
 use Rattle.linear_form.proofs.Positions.{from, at_end, take_none}
 
 -- Each partial sum of the rest, begun at z, is below 2^126.

@@ -12,14 +12,14 @@ use Rattle.heyvl_num.specs.Rational.{Rational, ratio, zeroʳ, ◌*ʳ◌, abs_div
 use Rattle.heyvl_num.specs.RationalParts.{ratio_num-lowest, ratio_den-lowest}
 use Rattle.heyvl_num.specs.Exact.{is_small, quotient, quotient_fits, exact_quotient, exact_product, product_fits}
 use Rattle.heyvl_num.specs.Value.{is_zero_num, is_zeroʳ}
-use Rattle.heyvl_num.proofs.Exactness.{exact_product_some, exact_quotient_some}
-use Rattle.heyvl_num.proofs.Values.{is_zero-is}
-use Rattle.heyvl_num.proofs.Rationals.{*ʳ-zero}
+use Rattle.heyvl_num.proofs.exported.Exactness.{exact_product_some, exact_quotient_some}
+use Rattle.heyvl_num.proofs.exported.Values.{is_zero-is}
+use Rattle.heyvl_num.proofs.exported.Rationals.{*ʳ-zero}
 use Rattle.std.specs.Int.{w128}
 use Rattle.std.proofs.lemmas.Nat.{mul-lt}
 use borrow.Author.Differences.{ints}
-use Rattle.linear_form.specs.Operator.{small_product}
-use Rattle.heyvl_num.proofs.Rationals.{ratio_num, ratio_den, ratio-*}
+use Rattle.linear_form.specs.internal.Operator.{small_product}
+use Rattle.heyvl_num.proofs.exported.Rationals.{ratio_num, ratio_den, ratio-*}
 use Rattle.linear_form.specs.Lin.{Lin, Terms, constant, times, scaled, fits, all_fit, is_sized}
 use Rattle.linear_form.proofs.Narrow.{small, num_less, den_less}
 

@@ -11,11 +11,11 @@ use Rattle.heyvl_num.specs.Gcd.{gcd, gcd_steps}
 use Rattle.heyvl_num.specs.GcdLaws.{gcd-is, quotient_num, quotient_den, quotient_den-pos}
 use Rattle.heyvl_num.specs.Rational.{Rational, ratio, zeroʳ, oneʳ, ◌+ʳ◌, ◌*ʳ◌, leqʳ, ◌≤ʳ◌}
 use Rattle.heyvl_num.specs.Rounding.{whole, floorʳ, ceilʳ}
-use Rattle.heyvl_num.proofs.Integers.{*ℤ-one, *ℤ-neg, neg-*ℤ}
-use Rattle.heyvl_num.proofs.Rationals as fraction
-use Rattle.heyvl_num.proofs.Rationals.{ratio_parts, ratio_den, ratio_same, ratio-*, ratio-+, ratio-≤, ≤ʳ_trans, *ʳ_mono, *ʳ_assoc, *ʳ-zero, *ʳ-one, one-*ʳ, *ʳ-+ʳ, +ʳ_comm, +ʳ_mono, ≤ʳ_refl, ratio_nonnegative, cross_order, order_cross, *ʳ_nonnegative, zero-+ʳ}
-use Rattle.heyvl_num.proofs.Roundings.{floor-is, ceil-is}
-use Rattle.heyvl_num.proofs.Signs.{≤ʳ-+ʳ_cancel}
+use Rattle.heyvl_num.proofs.exported.Integers.{*ℤ-one, *ℤ-neg, neg-*ℤ}
+use Rattle.heyvl_num.proofs.exported.Rationals as fraction
+use Rattle.heyvl_num.proofs.exported.Rationals.{ratio_parts, ratio_den, ratio_same, ratio-*, ratio-+, ratio-≤, ≤ʳ_trans, *ʳ_mono, *ʳ_assoc, *ʳ-zero, *ʳ-one, one-*ʳ, *ʳ-+ʳ, +ʳ_comm, +ʳ_mono, ≤ʳ_refl, ratio_nonnegative, cross_order, order_cross, *ʳ_nonnegative, zero-+ʳ}
+use Rattle.heyvl_num.proofs.exported.Roundings.{floor-is, ceil-is}
+use Rattle.heyvl_num.proofs.exported.Signs.{≤ʳ-+ʳ_cancel}
 use Rattle.heylo_formula.specs.State.{Env, number_of, has}
 use Rattle.heylo_formula.specs.Typing.{HasTypes, Types}
 use Rattle.heylo_formula.specs.declared.types.Ty.{Ty}
@@ -29,7 +29,7 @@ use Rattle.linear_form.specs.PathRows.{with_row, all_tightened}
 use Rattle.linear_form.specs.Row.{Row}
 use Rattle.std.specs.List.{All}
 use Rattle.std.proofs.lemmas.List.Elements.{All-nil, All-cons}
-use Rattle.linear_form.specs.Tightening.{Claim, sign_of, rounded, are_whole, is_whole_type, tight_row, tightened, common_multiple, common_divisor, factor, whole_terms, AreWholeTimes}
+use Rattle.linear_form.specs.Tightening.{Claim, sign_of, rounded, are_whole, is_integral, tight_row, tightened, common_multiple, common_divisor, factor, whole_terms, AreWholeTimes}
 
 -- ---- Whole numbers among the fractions
 
@@ -231,7 +231,7 @@ record WholeSum (s : Env) (ts : List (ℕ × ℤ)) : Type 0 where
   sum : ℤ
   is : sum_of (numbers s) ts ≡ whole sum
 
-whole_number : (ty : Ty) (v : Val) → is_whole_type ty ≡ true → has ty v ≡ true → (number_of v).den ≡ 1
+whole_number : (ty : Ty) (v : Val) → is_integral ty ≡ true → has ty v ≡ true → (number_of v).den ≡ 1
 whole_number Ty.Bool v e h = absurd (cc)
 whole_number Ty.Int (Truth b) e h = absurd (cc)
 whole_number Ty.Int (Num x) e h = same x.den h

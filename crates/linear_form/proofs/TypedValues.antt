@@ -7,8 +7,8 @@ use Rattle.heyvl_num.specs.Rational.{Rational, ratio, zeroʳ, leqʳ, ◌-ʳ◌}
 use Rattle.heyvl_num.specs.Value.{Value, zeroᵛ, oneᵛ, is_zeroʳ, leqᵛ, ◌≤ᵛ◌, ◌+ᵛ◌, ◌*ᵛ◌}
 use Rattle.heyvl_num.specs.Value.Value.{finite, infinite}
 use Rattle.heyvl_num.specs.ValueOperators.{minᵛ, maxᵛ, impliesᵛ, coimpliesᵛ, monusᵛ}
-use Rattle.heyvl_num.proofs.Values.{≤ᵛ_infinite, zero-≤ᵛ-zero, zero-≤ᵛ-one, +ᵛ_nonnegative, *ᵛ_nonnegative, scale_nonnegative, finite_nonnegative}
-use Rattle.heyvl_num.proofs.Signs.{difference_nonnegative}
+use Rattle.heyvl_num.proofs.exported.Values.{≤ᵛ_infinite, zero-≤ᵛ-zero, zero-≤ᵛ-one, +ᵛ_nonnegative, *ᵛ_nonnegative, scale_nonnegative, finite_nonnegative}
+use Rattle.heyvl_num.proofs.exported.Signs.{difference_nonnegative}
 use Rattle.heylo_formula.specs.Formula.{Form}
 use Rattle.heylo_formula.specs.Operators.{differenceᵛ, validateᵛ, covalidateᵛ, is_finite}
 use Rattle.heylo_formula.specs.State.{Env, environment, IsTyped, has, fit, default, put, number_of}
@@ -18,7 +18,7 @@ use Rattle.heylo_formula.specs.Typing.{HasTypes, NumberType, Types, retyped, num
 use Rattle.heylo_formula.specs.declared.types.Ty.{Ty}
 use Rattle.heylo_formula.specs.declared.values.Val.{Val}
 use Rattle.heylo_formula.specs.declared.values.Val.TheVariants.{Truth, Num}
-use Rattle.linear_form.specs.TypedGoals.{types_in}
+Noneuse Rattle.heylo_formula.specs.Typing.{types_in}
 
 typed_list : (tys : List Ty) (s : List Val) (x : ℕ) → IsTyped tys s → has (types_in tys x) (environment s x) ≡ true
 typed_list [] s x h = ap (λ l. has Ty.Bool (get_or l x (Truth false))) h

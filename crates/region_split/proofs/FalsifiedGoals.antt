@@ -4,7 +4,7 @@ use Rattle.std.specs.Prelude.{Option, Some, None}
 use Prim.Native.Nat.{zero, suc}
 use Rattle.std.specs.List.{All}
 use Rattle.heyvl_num.specs.Rational.{Rational, zeroʳ, ◌≤ʳ◌}
-use Rattle.heyvl_num.proofs.Rationals.{≤ʳ_refl}
+use Rattle.heyvl_num.proofs.exported.Rationals.{≤ʳ_refl}
 use Rattle.heylo_formula.specs.Goals.{Goal}
 use Rattle.heylo_formula.specs.State.{IsTyped, environment, number_of, truth_of, has}
 use Rattle.heylo_formula.specs.Typing.{is_bool}
@@ -17,8 +17,10 @@ use Rattle.linear_form.specs.PathRows.{rows_of, is_unsigned_type}
 use Rattle.linear_form.specs.Row.{Row}
 use Rattle.linear_form.specs.RowLists.{is_numeric, IsNumericRow}
 use Rattle.linear_form.specs.Solutions.{MeetsAt, IsSolvable}
-use Rattle.linear_form.specs.TypedGoals.{IsTypedGoal, HasItsVariables, types_in}
-use Rattle.linear_form.specs.GreedyPoint.{Greedy, ChoosesFrom, chosen_value, value_for, IsWholeType}
+Noneuse Rattle.heylo_formula.specs.TypedGoals.{IsTypedGoal, HasItsVariables}
+Noneuse Rattle.heylo_formula.specs.Typing.{types_in}
+use Rattle.linear_form.specs.GreedyPoint.{Greedy, ChoosesFrom, chosen_value, value_for}
+use Rattle.linear_form.specs.Tightening.{is_integral}
 use Rattle.linear_form.specs.Cells.{IsFalseCell}
 use Rattle.linear_form.specs.PointLaws.{HasTruths}
 use Rattle.linear_form.proofs.exported.NumericRows.{unsigned_number, numeric_rows}
@@ -85,13 +87,13 @@ truths_are g ps rows cs point p x b e = ap truth_of (p.at_variable x (p.variable
 whole_test : (n : ℕ) → n ≡ 1 → (n == 1) ≡ true
 whole_test n e = grind arith
 
-has_type : (ty : Ty) (o : Option Bool) (v : Rational) → ((b : Bool) → o ≡ Some b → is_bool ty ≡ true) → (IsWholeType ty → v.den ≡ 1) → (is_unsigned_type ty ≡ true → zeroʳ ≤ʳ v) → has ty (value_on o (value_for ty v)) ≡ true
+has_type : (ty : Ty) (o : Option Bool) (v : Rational) → ((b : Bool) → o ≡ Some b → is_bool ty ≡ true) → ((is_integral ty ≡ true) → v.den ≡ 1) → (is_unsigned_type ty ≡ true → zeroʳ ≤ʳ v) → has ty (value_on o (value_for ty v)) ≡ true
 has_type Ty.Bool (Some b) v h w u = refl
 has_type Ty.Bool None v h w u = refl
 has_type Ty.Int (Some b) v h w u = absurd (let k = h b refl in cc)
-has_type Ty.Int None v h w u = whole_test v.den (w tt)
+has_type Ty.Int None v h w u = whole_test v.den (w refl)
 has_type Ty.UInt (Some b) v h w u = absurd (let k = h b refl in cc)
-has_type Ty.UInt None v h w u = ap₂ (λ a b. a && b) (whole_test v.den (w tt)) (u refl).holds
+has_type Ty.UInt None v h w u = ap₂ (λ a b. a && b) (whole_test v.den (w refl)) (u refl).holds
 has_type Ty.UReal (Some b) v h w u = absurd (let k = h b refl in cc)
 has_type Ty.UReal None v h w u = (u refl).holds
 

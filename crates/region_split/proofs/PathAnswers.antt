@@ -11,7 +11,7 @@ use Rattle.linear_form.specs.Paths.{end_at}
 use Rattle.linear_form.specs.PathRows.{rows_of, denial, denial_at}
 use Rattle.linear_form.specs.PlainPaths.{linear_of}
 use Rattle.linear_form.specs.Row.{Row}
-use Rattle.linear_form.specs.Seen.{Answers}
+use Rattle.linear_form.specs.Asked.{Answers}
 use Rattle.linear_form.specs.GreedyPoint.{IsGreedyPoint}
 use Rattle.linear_form.specs.Cells.{IsDropped, IsKept}
 use Rattle.linear_form.specs.declared.asking.Ask as K

@@ -20,10 +20,10 @@ use Rattle.linear_form.specs.Nonlinear.{nonlinear_product}
 use Rattle.linear_elim.specs.declared.answers.Cause.{Cause}
 use Rattle.region_split.specs.Walk.{IsReached}
 use Rattle.region_split.specs.Decisions.{HasCells, IsBreakOf, IsCause}
-use Rattle.linear_form.specs.TypedGoals.{IsTypedGoal}
+Noneuse Rattle.heylo_formula.specs.TypedGoals.{IsTypedGoal}
 use Rattle.region_split.proofs.TypedBreaks.{break_of}
 use Rattle.region_split.specs.internal.Seen.{EndsWalk, IsEnd, IsDroppedBy, IsPointAt, IsBreakAt}
-use Rattle.region_split.specs.internal.Progress.{HoldsAt, AreShort, IsGrown, IsBranch, HasBefore, IsAfter, IsNext, IsFound, IsWalk, IsFinishedWalk, IsJudgedCell, rest_of, left_of}
+use Rattle.region_split.specs.internal.Progress.{HoldsAt, AreShort, IsGrown, IsBranch, HasBefore, IsAfter, IsNextFront, IsFound, IsWalk, IsFinishedWalk, IsJudgedCell, rest_of, left_of}
 use Rattle.region_split.specs.declared.growth.Grown.{Grown}
 use Rattle.region_split.specs.declared.found.Found.{Found}
 use Rattle.region_split.specs.declared.walk.Walk.{Walk}
@@ -39,7 +39,7 @@ path_onto xs ys p b e h = ap path_of e ∙ map-append taken_of xs (p ∷ []) ∙
 
 -- ---- Going up
 
-pub next_branch : (g : Goal) (all : List (List Taken)) (start path xs next : List T.Taken) (trees more : List (Option Grown)) (tree : Option Grown) (p q : T.Taken) → IsAfter g (path_of path) trees all tree → rest_of (questions g) (path_of path) ≡ rest_of (questions g) (path_of start) → path ≡ xs ++ (p ∷ []) → p.held ≡ true → next ≡ xs ++ (q ∷ []) → q.atom ≡ p.atom → q.held ≡ false → more ≡ trees ++ (tree ∷ []) → IsNext g (path_of start) all (path_of next) more
+pub next_branch : (g : Goal) (all : List (List Taken)) (start path xs next : List T.Taken) (trees more : List (Option Grown)) (tree : Option Grown) (p q : T.Taken) → IsAfter g (path_of path) trees all tree → rest_of (questions g) (path_of path) ≡ rest_of (questions g) (path_of start) → path ≡ xs ++ (p ∷ []) → p.held ≡ true → next ≡ xs ++ (q ∷ []) → q.atom ≡ p.atom → q.held ≡ false → more ≡ trees ++ (tree ∷ []) → IsNextFront g (path_of start) all (path_of next) more
 next_branch g all start path xs next trees more tree p q a r e h f k l m =
     let b = path_onto xs path p true e h in
     let c : path_of next ≡ onto (path_of xs) (atom_of p.atom) false = path_onto xs next q false f l ∙ ap (λ x. onto (path_of xs) (atom_of x) false) k in
@@ -91,7 +91,7 @@ deeper_walk g w next p h k e b t n f =
       omega (arith, l, m),
     )
 
-pub next_walk : (g : Goal) (w next : Walk) (tree : Option Grown) (h : IsFinishedWalk g w tree) → IsNext g (path_of w.path.items) h.all (path_of next.path.items) next.trees.items → next.count ≡ w.count → next.found ≡ w.found → IsWalk g next × (left_of g (path_of next.path.items) < left_of g (path_of w.path.items))
+pub next_walk : (g : Goal) (w next : Walk) (tree : Option Grown) (h : IsFinishedWalk g w tree) → IsNextFront g (path_of w.path.items) h.all (path_of next.path.items) next.trees.items → next.count ≡ w.count → next.found ≡ w.found → IsWalk g next × (left_of g (path_of next.path.items) < left_of g (path_of w.path.items))
 next_walk g w next tree h k n f = (
   record {
     before = h.all;

@@ -15,9 +15,11 @@ use Rattle.linear_form.specs.PathRows.{rows_of, is_unsigned_type}
 use Rattle.linear_form.specs.Row.{Row}
 use Rattle.linear_form.specs.RowLists.{is_numeric}
 use Rattle.linear_form.specs.Solutions.{MeetsAt}
-use Rattle.linear_form.specs.TypedGoals.{IsTypedGoal, types_in}
+Noneuse Rattle.heylo_formula.specs.TypedGoals.{IsTypedGoal}
+Noneuse Rattle.heylo_formula.specs.Typing.{types_in}
 use Rattle.linear_form.specs.VariableOrder.{occurrences, order_of}
-use Rattle.linear_form.specs.GreedyPoint.{Interval, IsWholeType, Greedy, Chooses}
+use Rattle.linear_form.specs.GreedyPoint.{Interval, Greedy, Chooses}
+use Rattle.linear_form.specs.Tightening.{is_integral}
 use Rattle.linear_form.proofs.exported.NumericRows.{numeric_rows}
 use Rattle.linear_elim.proofs.exported.Numeric.{counted_numeric}
 use Rattle.linear_form.proofs.exported.UnsignedRows.{unsigned_nonnegative}
@@ -43,10 +45,10 @@ before_break rows vars _ cs ds x i (Chooses.breaks _ ys _ _ a b) = record { befo
 whole_test : (n : ℕ) → n ≡ 1 → (n == 1) ≡ true
 whole_test n e = grind arith
 
-number_typed : (ty : Ty) (v : Rational) → is_numeric ty ≡ true → (IsWholeType ty → v.den ≡ 1) → (is_unsigned_type ty ≡ true → zeroʳ ≤ʳ v) → has ty (Num v) ≡ true
+number_typed : (ty : Ty) (v : Rational) → is_numeric ty ≡ true → ((is_integral ty ≡ true) → v.den ≡ 1) → (is_unsigned_type ty ≡ true → zeroʳ ≤ʳ v) → has ty (Num v) ≡ true
 number_typed Ty.Bool v n w u = absurd (cc)
-number_typed Ty.Int v n w u = whole_test v.den (w tt)
-number_typed Ty.UInt v n w u = ap₂ (λ a b. a && b) (whole_test v.den (w tt)) (u refl).holds
+number_typed Ty.Int v n w u = whole_test v.den (w refl)
+number_typed Ty.UInt v n w u = ap₂ (λ a b. a && b) (whole_test v.den (w refl)) (u refl).holds
 number_typed Ty.UReal v n w u = (u refl).holds
 
 abbrev HasTypeOf : List Ty → ℕ × Rational → Type 0
@@ -59,8 +61,8 @@ chosen_typed g ps rows f (c ∷ cs) t p e m o w a =
     let occurs = All-head (λ (c : ℕ × Rational). 0 < occurrences c.0 rows) c cs o in
     let n = counted_numeric g.types c.0 rows (numeric_rows g ps true rows t p e) occurs in
     All-cons (HasTypeOf g.types) c cs
-    (number_typed (types_in g.types c.0) c.1 n (All-head (λ (c : ℕ × Rational). IsWholeType (types_in g.types c.0) → c.1.den ≡ 1) c cs w) (λ u. subst (λ v. zeroʳ ≤ʳ v) (All-head (λ (c : ℕ × Rational). f c.0 ≡ c.1) c cs a) (unsigned_nonnegative g ps true rows (λ x. Num (f x)) c.0 p e m (number_below g.types c.0 n) u occurs)))
-    (chosen_typed g ps rows f cs t p e m (All-tail (λ (c : ℕ × Rational). 0 < occurrences c.0 rows) c cs o) (All-tail (λ (c : ℕ × Rational). IsWholeType (types_in g.types c.0) → c.1.den ≡ 1) c cs w) (All-tail (λ (c : ℕ × Rational). f c.0 ≡ c.1) c cs a))
+    (number_typed (types_in g.types c.0) c.1 n (All-head (λ (c : ℕ × Rational). (is_integral (types_in g.types c.0) ≡ true) → c.1.den ≡ 1) c cs w) (λ u. subst (λ v. zeroʳ ≤ʳ v) (All-head (λ (c : ℕ × Rational). f c.0 ≡ c.1) c cs a) (unsigned_nonnegative g ps true rows (λ x. Num (f x)) c.0 p e m (number_below g.types c.0 n) u occurs)))
+    (chosen_typed g ps rows f cs t p e m (All-tail (λ (c : ℕ × Rational). 0 < occurrences c.0 rows) c cs o) (All-tail (λ (c : ℕ × Rational). (is_integral (types_in g.types c.0) ≡ true) → c.1.den ≡ 1) c cs w) (All-tail (λ (c : ℕ × Rational). f c.0 ≡ c.1) c cs a))
 
 pub break_of : (g : Goal) (ps : List Taken) (b : Broken) → IsTypedGoal g → IsPath g ps → IsBreakAt g ps true b → IsBreakOf g ps b
 break_of g ps b t p h =

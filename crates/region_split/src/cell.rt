@@ -4,7 +4,7 @@ ghost use Rattle.std.specs.Prelude.{◌≡◌, ◌<◌, ◌+◌, ◌^◌, length
 ghost use Rattle.heylo_formula.specs.Goals.{goal_of};
 ghost use Rattle.linear_form.specs.Cells.{IsFront};
 ghost use Rattle.linear_form.specs.PlainPaths.{path_of};
-ghost use Rattle.linear_form.specs.TypedGoals.{IsTypedGoal};
+ghost use Rattle.heylo_formula.specs.TypedGoals.{IsTypedGoal};
 ghost use Rattle.region_split.specs.internal.Seen.{IsEnd};
 ghost use Rattle.region_split.specs.internal.Progress.{IsJudged};
 

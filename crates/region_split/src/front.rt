@@ -5,7 +5,7 @@ ghost use Rattle.heylo_formula.specs.Goals.{goal_of};
 ghost use Rattle.linear_form.specs.Cells.{IsKept};
 ghost use Rattle.linear_form.specs.Paths.{IsPath};
 ghost use Rattle.linear_form.specs.PlainPaths.{path_of};
-ghost use Rattle.linear_form.specs.TypedGoals.{IsTypedGoal};
+ghost use Rattle.heylo_formula.specs.TypedGoals.{IsTypedGoal};
 ghost use Rattle.farkas_check.specs.Accepted.{has_denied, IsRefutedWith};
 ghost use Rattle.region_split.specs.internal.Seen.{IsSeen};
 

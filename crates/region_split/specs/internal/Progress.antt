@@ -114,12 +114,12 @@ left_of g ps = rest_of (questions g) ps + size (end_at g ps)
 -- ---- Steps
 
 -- A walk goes on behind a branch: all its cells are before the new path.
-pub record IsNext (g : Goal) (ps : List Taken) (all : List (List Taken)) (path : List Taken) (trees : List (Option Grown)) : Type 0 where
+pub record IsNextFront (g : Goal) (ps : List Taken) (all : List (List Taken)) (path : List Taken) (trees : List (Option Grown)) : Type 0 where
   pub stands : HasBefore g path all trees
   pub less : left_of g path < left_of g ps
 
 abbrev pub IsUp : Goal → List Taken → List (List Taken) → Up → Type 0
-IsUp g ps all (Next path trees) = IsNext g ps all (path_of path.items) trees.items
+IsUp g ps all (Next path trees) = IsNextFront g ps all (path_of path.items) trees.items
 IsUp g ps all (Whole tree) = IsBranch g [] all tree
 
 -- The paths of the goal are so short that their rows can be counted.

@@ -5,7 +5,7 @@ use Prim.Native.Nat.{zero, suc}
 use Rattle.heylo_formula.specs.Typing.{Types}
 use Rattle.linear_form.specs.Row.{Row}
 use Rattle.linear_form.specs.Tightening.{Claim}
-use Rattle.linear_form.specs.VariableOrder.{occurs}
+use Rattle.linear_form.specs.VariableOrder.{occurs_in_row}
 use Rattle.linear_form.specs.PathRows.{all_tightened, is_unsigned_type}
 
 abbrev pub followed_by : List Row → Option (List Row) → Option (List Row)
@@ -16,9 +16,9 @@ followed_by rows None = None
 abbrev pub rows_with : Types → List Row → List Claim → Option (List Row)
 rows_with types rows ks = followed_by rows (all_tightened types ks)
 
--- A variable, where it is unsigned and occurs in the rows.
+-- A variable, where it is unsigned and occurs_in_row in the rows.
 abbrev pub unsigned_in : Types → List Row → ℕ → Option ℕ
-unsigned_in types rows x = if is_unsigned_type (types x) && list_any (occurs x) rows then Some x else None
+unsigned_in types rows x = if is_unsigned_type (types x) && list_any (occurs_in_row x) rows then Some x else None
 
 abbrev pub one_more : List ℕ → Option ℕ → List ℕ
 one_more xs (Some x) = xs ++ (x ∷ [])

@@ -24,11 +24,11 @@ bounded strict None = None
 bounded strict (Some p) = cond (fits p) (Some (record { place = p; inside = not strict })) None
 
 -- The end that a row gives, where it isn't too great.
-abbrev pub end_at : ℕ → List (ℕ × Rational) → Row → Option End
-end_at x chosen r = bounded r.strict (end_of x chosen r)
+abbrev pub narrow_end : ℕ → List (ℕ × Rational) → Row → Option End
+narrow_end x chosen r = bounded r.strict (end_of x chosen r)
 
 -- No end is too great, and the values past this one are those past the end that each row gives.
 pub record IsTightest (side : Side) (x : ℕ) (chosen : List (ℕ × Rational)) (rows : List Derived) (o : Option End) : Type 0 where
-  pub each : All (λ r. is_some (end_at x chosen r.row) ≡ true) rows
+  pub each : All (λ r. is_some (narrow_end x chosen r.row) ≡ true) rows
   pub narrow : IfSome o (λ e. fits e.place ≡ true)
-  pub values : (v : Rational) → IsPast side o v ↔ All (λ r. (e : End) → end_at x chosen r.row ≡ Some e → IsWithin side e v) rows
+  pub values : (v : Rational) → IsPast side o v ↔ All (λ r. (e : End) → narrow_end x chosen r.row ≡ Some e → IsWithin side e v) rows

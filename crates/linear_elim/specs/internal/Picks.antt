@@ -10,7 +10,7 @@ use Rattle.linear_form.specs.GreedyPoint.{End, Interval, IsInside, IsChoice, IsB
 use Rattle.linear_elim.specs.Joins.{IsDerived}
 use Rattle.linear_elim.specs.Elimination.{Step}
 use Rattle.linear_elim.specs.ChoiceNumbers.{end_of, end_fits}
-use Rattle.linear_elim.specs.ChoiceSteps.{IsWithin, IsTightest}
+use Rattle.linear_elim.specs.internal.ChoiceSteps.{IsWithin, IsTightest}
 use Rattle.linear_elim.specs.declared.ends.Side.{Side}
 use Rattle.linear_elim.specs.declared.ends.Side.TheVariants.{Low, High}
 use Rattle.linear_elim.specs.declared.picking.Pick.{Pick}
@@ -57,9 +57,9 @@ past_place Low p = p +ʳ oneʳ
 past_place High p = p -ʳ oneʳ
 
 -- What the step's variable takes next, after these values: an end of the step is too great, or it is taken between its ends.
-pub data IsNext (s : Step) (chosen : List (ℕ × Rational)) (ty : Ty) : Pick → Type 0 where
-  great_end : list_any (λ r. not (end_fits (end_of s.var chosen r.row))) (s.lows ++ s.ups) ≡ true → IsNext s chosen ty Great
-  between_ends : (low high : Option End) (p : Pick) → IsTightest Low s.var chosen s.lows low → IsTightest High s.var chosen s.ups high → (is_numeric ty ≡ true → (w : Rational) → IsInside (between Low low high) w → IsPicked (between Low low high) ty p) → IsNext s chosen ty p
+pub data IsNextPick (s : Step) (chosen : List (ℕ × Rational)) (ty : Ty) : Pick → Type 0 where
+  great_end : list_any (λ r. not (end_fits (end_of s.var chosen r.row))) (s.lows ++ s.ups) ≡ true → IsNextPick s chosen ty Great
+  between_ends : (low high : Option End) (p : Pick) → IsTightest Low s.var chosen s.lows low → IsTightest High s.var chosen s.ups high → (is_numeric ty ≡ true → (w : Rational) → IsInside (between Low low high) w → IsPicked (between Low low high) ty p) → IsNextPick s chosen ty p
 
 -- The rows of a step are as the code keeps them.
 pub record IsDerivedStep (s : Step) : Type 0 where

@@ -2,8 +2,8 @@
 use Rattle.std.specs.Prelude.{◌≡◌, ℕ, ℤ, List, ◌++◌, true}
 use Rattle.heyvl_num.specs.Rational.{Rational, ratio, ◌*ʳ◌}
 use Rattle.linear_form.specs.Tightening.{whole_terms, all_narrow, AreWholeTimes}
-use Rattle.linear_form.specs.Lin.{Terms, all_fit, times, more, merged, IsNormal}
-use Rattle.linear_form.specs.FitTerms.{IsFitAt, AreFitAt}
+use Rattle.linear_form.specs.Lin.{Terms, all_fit, times, more, merged, AreNormal}
+use Rattle.linear_form.specs.internal.FitTerms.{IsFitAt, AreFitAt}
 
 pub record IsTimesSoFar (w : Rational) (terms made rest : Terms) : Type 0 where
   pub whole : times w terms ≡ made ++ times w rest
@@ -15,7 +15,7 @@ pub record IsMoreSoFar (x : ℕ) (c : Rational) (terms made rest : Terms) : Type
 
 pub record IsMergedSoFar (us ts made rest : Terms) : Type 0 where
   pub whole : merged us ts ≡ merged rest made
-  pub normal : IsNormal rest
+  pub normal : AreNormal rest
   pub rest_fits : all_fit rest ≡ true
   pub made_fits : AreFitAt rest made
 
