@@ -9,3 +9,4 @@ pub mod BinderNames
 pub mod Substitutions
 pub mod Goals
 pub mod Operators
+pub mod Mirrors
