@@ -15,7 +15,7 @@ use Rattle.linear_form.specs.Paths.{IsPath, Path, Agrees}
 use Rattle.linear_form.specs.PathRows.{denial, below_claim, rows_of}
 use Rattle.linear_form.specs.Row.{Row}
 use Rattle.linear_form.specs.Solutions.{MeetsAt}
-Noneuse Rattle.heylo_formula.specs.TypedGoals.{IsTypedGoal}
+use Rattle.heylo_formula.specs.TypedGoals.{IsTypedGoal}
 use Rattle.linear_form.proofs.exported.MetRows.{rows_are_met, denied_rows_are_met}
 use Rattle.linear_form.proofs.exported.AgreedEnds.{ends_are_values}
 use Rattle.farkas_check.specs.CertificateLaws.{CertifiedGoalsHold}

@@ -10,7 +10,7 @@ use Rattle.heylo_formula.specs.Typing.{Types}
 use Rattle.linear_form.specs.Lin.{variable}
 use Rattle.linear_form.specs.Query.{Taken}
 use Rattle.linear_form.specs.Paths.{end_at}
-Noneuse Rattle.heylo_formula.specs.Typing.{types_in}
+use Rattle.heylo_formula.specs.Typing.{types_in}
 use Rattle.linear_form.specs.Tightening.{Claim, tightened}
 use Rattle.linear_form.specs.PathRows.{claim, negated, path_claims, listed, denial_at, is_unsigned_type, occurs_in_terms, occurs_in_claims, sign_claims, with_signs, claims_of, with_row, all_tightened, rows_of}
 use Rattle.linear_form.specs.Row.{Row}

@@ -11,7 +11,7 @@ use Rattle.heylo_formula.specs.Formula.{Form, Cond}
 use Rattle.heylo_formula.specs.Operators.{differenceᵛ, validateᵛ, covalidateᵛ, lessᵛ, equalᵛ, is_finite}
 use Rattle.heylo_formula.specs.State.{Env, environment, IsTyped}
 use Rattle.heylo_formula.specs.declared.values.Val.{Val}
-Noneuse Rattle.heylo_formula.specs.TypedGoals.{IsTypedGoal}
+use Rattle.heylo_formula.specs.TypedGoals.{IsTypedGoal}
 use Rattle.heylo_formula.specs.Choices.{Choices, left, right}
 use Rattle.heylo_formula.specs.Meaning.{value, holds}
 use Rattle.heylo_formula.specs.Typing.{HasTypes, NumberType, Types, type_of, is_well_typed, is_finite_type, is_unsigned}

@@ -18,8 +18,8 @@ use Rattle.linear_form.specs.Lin.{Terms, variable, IsAbove, AreNormal, is_sized}
 use Rattle.linear_form.specs.Query.{Atom, Taken}
 use Rattle.linear_form.specs.Paths.{IsPath, end_at}
 use Rattle.linear_form.specs.Tightening.{Claim, tightened, tight_row, whole_terms, factor, rounded, are_whole, all_narrow, constant_fits}
-Noneuse Rattle.heylo_formula.specs.TypedGoals.{IsTypedGoal}
-Noneuse Rattle.heylo_formula.specs.Typing.{types_in}
+use Rattle.heylo_formula.specs.TypedGoals.{IsTypedGoal}
+use Rattle.heylo_formula.specs.Typing.{types_in}
 use Rattle.linear_form.specs.PathRows.{claim, negated, answer_claims, path_claims, denial_at, listed, with_row, all_tightened, is_unsigned_type, occurs_in_claims, sign_claims, claims_of, rows_of}
 use Rattle.linear_form.specs.RowLists.{Lists, AreRows, AreNumericRows, count_of}
 use Rattle.linear_form.specs.PlainPaths.{path_of, taken_of}

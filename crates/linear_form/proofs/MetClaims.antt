@@ -18,8 +18,8 @@ use Rattle.linear_form.specs.Query.{Query, Atom, Taken, is_negative, holds_at}
 use Rattle.linear_form.specs.Query.Query.{done, bits, ask}
 use Rattle.linear_form.specs.Questions.{Linear, Ends, value_in}
 use Rattle.linear_form.specs.Paths.{IsPath, Agrees, end_at}
-Noneuse Rattle.heylo_formula.specs.TypedGoals.{IsTypedGoal}
-Noneuse Rattle.heylo_formula.specs.Typing.{types_in}
+use Rattle.heylo_formula.specs.TypedGoals.{IsTypedGoal}
+use Rattle.heylo_formula.specs.Typing.{types_in}
 use Rattle.linear_form.specs.Tightening.{Claim}
 use Rattle.linear_form.specs.ClaimLaws.{IsClaimed, AllClaimed, AnswersClaimTruths, DenialsClaimTruths}
 use Rattle.linear_form.specs.PathRows.{claim, negated, answer_claims, path_claims, below_claim, denial, listed, denial_at, is_unsigned_type, occurs_in_claims, sign_claims, with_signs}

@@ -3,7 +3,7 @@ use Rattle.std.proofs.Common.{true, false}
 use Rattle.heylo_formula.specs.State.{environment}
 use Rattle.linear_form.specs.ClaimLaws.{RowsAreMet, DeniedRowsAreMet}
 use Rattle.linear_form.specs.PathRows.{claims_of}
-Noneuse Rattle.heylo_formula.specs.Typing.{types_in}
+use Rattle.heylo_formula.specs.Typing.{types_in}
 use Rattle.linear_form.proofs.TypedValues.{typed_environment}
 use Rattle.linear_form.proofs.MetClaims.{answers_claimed, denials_claimed}
 use Rattle.linear_form.proofs.NormalClaims.{all_nonzero}

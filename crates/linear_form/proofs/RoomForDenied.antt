@@ -6,7 +6,7 @@ use Prim.Native.Nat.{zero, suc}
 use Rattle.heylo_formula.specs.Typing.{Types}
 use Rattle.linear_form.specs.Lin.{variable}
 use Rattle.linear_form.specs.Paths.{end_at}
-Noneuse Rattle.heylo_formula.specs.Typing.{types_in}
+use Rattle.heylo_formula.specs.Typing.{types_in}
 use Rattle.linear_form.specs.Tightening.{Claim, tightened}
 use Rattle.linear_form.specs.PathRows.{claim, negated, path_claims, listed, denial_at, is_unsigned_type, occurs_in_claims, sign_claims, with_row, all_tightened}
 use Rattle.linear_form.specs.Row.{Row}

@@ -10,7 +10,7 @@ use Rattle.heylo_formula.specs.declared.types.Ty.{Ty}
 use Rattle.linear_form.specs.Row.{Row}
 use Rattle.linear_form.specs.Lin.{Terms, variable}
 use Rattle.linear_form.specs.Tightening.{Claim, tightened, tight_row, whole_terms, factor, rounded, are_whole}
-Noneuse Rattle.heylo_formula.specs.Typing.{types_in}
+use Rattle.heylo_formula.specs.Typing.{types_in}
 use Rattle.linear_form.specs.VariableOrder.{occurs_in_row}
 use Rattle.linear_form.specs.PathRows.{claim, negated, with_row, all_tightened, is_unsigned_type, occurs_in_terms, occurs_in_claims, sign_claims}
 use Rattle.linear_form.specs.internal.FurtherRows.{rows_with, one_more, all_unsigned_in}

@@ -14,8 +14,8 @@ use Rattle.linear_form.specs.Query.Query.{done, bits, ask}
 use Rattle.linear_form.specs.Questions as q
 use Rattle.linear_form.specs.Questions.{Linear, Ends, sized, asked, is_below, evaluate, test, both, questions}
 use Rattle.linear_form.specs.Paths.{walk, Path, IsPath, end_at}
-Noneuse Rattle.heylo_formula.specs.TypedGoals.{IsTypedGoal}
-Noneuse Rattle.heylo_formula.specs.Typing.{types_in}
+use Rattle.heylo_formula.specs.TypedGoals.{IsTypedGoal}
+use Rattle.heylo_formula.specs.Typing.{types_in}
 use Rattle.linear_form.specs.RowLists.{is_numeric}
 use Rattle.linear_form.proofs.EachResults.{of_two}
 use Rattle.linear_form.proofs.TypedValues.{parts, only, unsigned, difference_joined, scale_joined}

@@ -18,7 +18,7 @@ use Rattle.heylo_formula.specs.Typing.{HasTypes, NumberType, Types, retyped, num
 use Rattle.heylo_formula.specs.declared.types.Ty.{Ty}
 use Rattle.heylo_formula.specs.declared.values.Val.{Val}
 use Rattle.heylo_formula.specs.declared.values.Val.TheVariants.{Truth, Num}
-Noneuse Rattle.heylo_formula.specs.Typing.{types_in}
+use Rattle.heylo_formula.specs.Typing.{types_in}
 
 typed_list : (tys : List Ty) (s : List Val) (x : ℕ) → IsTyped tys s → has (types_in tys x) (environment s x) ≡ true
 typed_list [] s x h = ap (λ l. has Ty.Bool (get_or l x (Truth false))) h

@@ -11,7 +11,7 @@ use Rattle.heylo_formula.specs.State.{Env, number_of}
 use Rattle.heylo_formula.specs.Typing.{Types}
 use Rattle.linear_form.specs.Lin.{Lin, Terms, at, constant, variable, times, scaled, minus_oneʳ}
 use Rattle.linear_form.specs.Paths.{end_at}
-Noneuse Rattle.heylo_formula.specs.Typing.{types_in}
+use Rattle.heylo_formula.specs.Typing.{types_in}
 use Rattle.linear_form.specs.Tightening.{Claim, tightened, tight_row, rounded, are_whole, factor, whole_terms}
 use Rattle.linear_form.specs.PathRows.{claim, negated, path_claims, listed, denial_at, is_unsigned_type, occurs_in_terms, occurs_in_claims, sign_claims, claims_of}
 use Rattle.linear_form.specs.ClaimLaws.{IsClaimed, AllClaimed}

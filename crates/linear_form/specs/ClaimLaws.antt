@@ -6,7 +6,7 @@ use Rattle.heylo_formula.specs.declared.values.Val.{Val}
 use Rattle.linear_form.specs.Lin.{at, Terms}
 use Rattle.linear_form.specs.Query.{Taken, is_negative}
 use Rattle.linear_form.specs.Paths.{IsPath, Agrees}
-Noneuse Rattle.heylo_formula.specs.TypedGoals.{IsTypedGoal}
+use Rattle.heylo_formula.specs.TypedGoals.{IsTypedGoal}
 use Rattle.linear_form.specs.Tightening.{Claim}
 use Rattle.linear_form.specs.PathRows.{claims_of, rows_of}
 use Rattle.linear_form.specs.Row.{Row}

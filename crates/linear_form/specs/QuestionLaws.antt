@@ -10,7 +10,7 @@ use Rattle.linear_form.specs.Query.{Query, Taken}
 use Rattle.linear_form.specs.Query.Query.{done, bits, ask}
 use Rattle.linear_form.specs.Questions.{Linear, Ends, value_in, evaluate}
 use Rattle.linear_form.specs.Paths.{IsPath, Agrees, IsPathOf, end_at}
-Noneuse Rattle.heylo_formula.specs.TypedGoals.{IsTypedGoal}
+use Rattle.heylo_formula.specs.TypedGoals.{IsTypedGoal}
 use Rattle.linear_form.specs.Nonlinear.{has_variable}
 
 -- Each state has a path to the end that agrees with it.

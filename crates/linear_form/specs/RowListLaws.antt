@@ -8,7 +8,7 @@ use Rattle.linear_form.specs.PathRows.{path_claims, denial_at, rows_of}
 use Rattle.linear_form.specs.Row.{Row}
 use Rattle.linear_form.specs.RowLists.{IsNumericRow}
 use Rattle.linear_form.specs.Solutions.{IsSolvable}
-Noneuse Rattle.heylo_formula.specs.TypedGoals.{IsTypedGoal}
+use Rattle.heylo_formula.specs.TypedGoals.{IsTypedGoal}
 
 -- Each variable of a row of a typed goal is a number by its type.
 abbrev pub RowsAreNumeric : Type 0

@@ -3,7 +3,7 @@ use Rattle.std.specs.Prelude.{◌≡◌, ℕ, List, length, Option, Some, None, 
 use Rattle.std.specs.List.{All}
 use Rattle.heylo_formula.specs.declared.types.Ty.{Ty}
 use Rattle.linear_form.specs.Row.{Row, IsRow}
-Noneuse Rattle.heylo_formula.specs.Typing.{types_in, is_bool}
+use Rattle.heylo_formula.specs.Typing.{types_in, is_bool}
 use Rattle.linear_form.specs.declared.path_rows.RowList.{RowList}
 use Rattle.linear_form.specs.declared.path_rows.RowList.TheVariants.{Rows, Bits}
 

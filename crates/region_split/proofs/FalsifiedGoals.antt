@@ -17,8 +17,8 @@ use Rattle.linear_form.specs.PathRows.{rows_of, is_unsigned_type}
 use Rattle.linear_form.specs.Row.{Row}
 use Rattle.linear_form.specs.RowLists.{is_numeric, IsNumericRow}
 use Rattle.linear_form.specs.Solutions.{MeetsAt, IsSolvable}
-Noneuse Rattle.heylo_formula.specs.TypedGoals.{IsTypedGoal, HasItsVariables}
-Noneuse Rattle.heylo_formula.specs.Typing.{types_in}
+use Rattle.heylo_formula.specs.TypedGoals.{IsTypedGoal, HasItsVariables}
+use Rattle.heylo_formula.specs.Typing.{types_in}
 use Rattle.linear_form.specs.GreedyPoint.{Greedy, ChoosesFrom, chosen_value, value_for}
 use Rattle.linear_form.specs.Tightening.{is_integral}
 use Rattle.linear_form.specs.Cells.{IsFalseCell}

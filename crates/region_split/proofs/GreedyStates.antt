@@ -10,7 +10,7 @@ use Rattle.heyvl_num.specs.Rounding.{whole}
 use Rattle.heylo_formula.specs.declared.types.Ty.{Ty}
 use Rattle.linear_form.specs.Row.{Row}
 use Rattle.linear_form.specs.RowLists.{is_numeric, IsNumericRow}
-Noneuse Rattle.heylo_formula.specs.Typing.{types_in}
+use Rattle.heylo_formula.specs.Typing.{types_in}
 use Rattle.linear_form.specs.Solutions.{sum_of, MeetsAt, IsBelowZero, IsSolvable}
 use Rattle.linear_form.specs.VariableOrder.{occurs_in_row, occurrences, order_of}
 use Rattle.linear_form.specs.GreedyPoint.{Greedy, ChoosesFrom, chosen_value}

@@ -4,7 +4,7 @@ use Rattle.std.specs.Prelude.{◌≡◌, Option, None}
 use Rattle.heylo_formula.specs.Goals.{Goal, Holds}
 use Rattle.linear_form.specs.Query.{Taken}
 use Rattle.linear_form.specs.Nonlinear.{nonlinear_product}
-Noneuse Rattle.heylo_formula.specs.TypedGoals.{IsTypedGoal}
+use Rattle.heylo_formula.specs.TypedGoals.{IsTypedGoal}
 use Rattle.farkas_check.specs.Trees.{Tree}
 use Rattle.farkas_check.specs.Accepted.{IsAccepted, IsCertificate}
 use Rattle.farkas_check.specs.declared.trees.Tree as T

@@ -20,7 +20,7 @@ use Rattle.linear_form.specs.Nonlinear.{nonlinear_product}
 use Rattle.linear_elim.specs.declared.answers.Cause.{Cause}
 use Rattle.region_split.specs.Walk.{IsReached}
 use Rattle.region_split.specs.Decisions.{HasCells, IsBreakOf, IsCause}
-Noneuse Rattle.heylo_formula.specs.TypedGoals.{IsTypedGoal}
+use Rattle.heylo_formula.specs.TypedGoals.{IsTypedGoal}
 use Rattle.region_split.proofs.TypedBreaks.{break_of}
 use Rattle.region_split.specs.internal.Seen.{EndsWalk, IsEnd, IsDroppedBy, IsPointAt, IsBreakAt}
 use Rattle.region_split.specs.internal.Progress.{HoldsAt, AreShort, IsGrown, IsBranch, HasBefore, IsAfter, IsNextFront, IsFound, IsWalk, IsFinishedWalk, IsJudgedCell, rest_of, left_of}

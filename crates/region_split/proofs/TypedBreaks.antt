@@ -15,8 +15,8 @@ use Rattle.linear_form.specs.PathRows.{rows_of, is_unsigned_type}
 use Rattle.linear_form.specs.Row.{Row}
 use Rattle.linear_form.specs.RowLists.{is_numeric}
 use Rattle.linear_form.specs.Solutions.{MeetsAt}
-Noneuse Rattle.heylo_formula.specs.TypedGoals.{IsTypedGoal}
-Noneuse Rattle.heylo_formula.specs.Typing.{types_in}
+use Rattle.heylo_formula.specs.TypedGoals.{IsTypedGoal}
+use Rattle.heylo_formula.specs.Typing.{types_in}
 use Rattle.linear_form.specs.VariableOrder.{occurrences, order_of}
 use Rattle.linear_form.specs.GreedyPoint.{Interval, Greedy, Chooses}
 use Rattle.linear_form.specs.Tightening.{is_integral}

@@ -2,7 +2,7 @@ use Rattle.std.proofs.Common.{◌≡◌, ◌∙◌, sym, ap, true}
 use Rattle.std.specs.Prelude.{pos}
 use Rattle.std.proofs.lemmas.List.Elements.{All-more}
 use Rattle.linear_form.specs.RowLists.{is_numeric}
-Noneuse Rattle.heylo_formula.specs.Typing.{types_in}
+use Rattle.heylo_formula.specs.Typing.{types_in}
 use Rattle.linear_elim.proofs.TestRows.{over_all}
 use Rattle.linear_elim.proofs.test_rows.is_over_numbers.Goals as goal
 

@@ -1,7 +1,7 @@
 use Rattle.std.proofs.Common.{◌≡◌, sym, ap, ◌∙◌, subst, rules, false}
 use Rattle.linear_form.specs.Lin.{Lin, AreNormal, fits, scaled, minus_oneʳ}
 use Rattle.linear_form.specs.PlainPaths.{lin_of}
-Noneuse Rattle.heylo_formula.specs.Typing.{types_in}
+use Rattle.heylo_formula.specs.Typing.{types_in}
 use Rattle.linear_form.proofs.Narrow.{minus_one_fits}
 use Rattle.linear_form.proofs.KeptValues.{scaled_normal}
 use Rattle.linear_form.proofs.RowsOfClaims.{negated_large}

@@ -3,7 +3,7 @@ use Rattle.linear_form.specs.PathRows.{all_tightened, path_claims}
 use Rattle.linear_form.specs.internal.FurtherRows.{rows_with}
 use Rattle.linear_form.specs.internal.NormalPaths.{IsNormalPath}
 use Rattle.linear_form.specs.PlainPaths.{path_of}
-Noneuse Rattle.heylo_formula.specs.Typing.{types_in}
+use Rattle.heylo_formula.specs.Typing.{types_in}
 use Rattle.linear_form.proofs.path_rows.path_rows.Given as goal
 
 abbrev pub decreases-path : goal.decreases-path

@@ -2,7 +2,7 @@ use Rattle.std.proofs.Common.{sym, ap, ◌∙◌, subst, rules, [], ◌∷◌, f
 use Rattle.linear_form.specs.Lin.{Lin, AreNormal, variable}
 use Rattle.linear_form.specs.PathRows.{claim, negated}
 use Rattle.linear_form.specs.internal.FurtherRows.{rows_with}
-Noneuse Rattle.heylo_formula.specs.Typing.{types_in}
+use Rattle.heylo_formula.specs.Typing.{types_in}
 use Rattle.linear_form.proofs.KeptValues.{variable_kept}
 use Rattle.linear_form.proofs.RowsOfClaims.{claim_step}
 use Rattle.linear_form.proofs.signs.with_signs_of.Goals as goal

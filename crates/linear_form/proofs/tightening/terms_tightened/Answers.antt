@@ -3,7 +3,7 @@ use Rattle.std.specs.Prelude.{Some}
 use Rattle.std.proofs.lemmas.Int.{to_z-of_z}
 use mir.Syntax.{w64}
 use Rattle.std.specs.Int.{w128}
-Noneuse Rattle.heylo_formula.specs.Typing.{types_in}
+use Rattle.heylo_formula.specs.Typing.{types_in}
 use Rattle.linear_form.proofs.Narrow.{seen}
 use Rattle.linear_form.proofs.RowParts.{lost_factor, lost_product, lost_whole, lost_exact, made_whole, made_exact, whole_of, sized_terms, ok_then}
 use Rattle.linear_form.proofs.tightening.terms_tightened.Goals as goal

@@ -4,7 +4,7 @@ use Rattle.std.proofs.lemmas.Int.{to_z-of_z}
 use mir.Syntax.{w64}
 use Rattle.std.specs.Int.{w128}
 use Rattle.linear_form.specs.PlainPaths.{lin_of}
-Noneuse Rattle.heylo_formula.specs.Typing.{types_in}
+use Rattle.heylo_formula.specs.Typing.{types_in}
 use Rattle.linear_form.proofs.Narrow.{seen}
 use Rattle.linear_form.proofs.Factors.{none_left}
 use Rattle.linear_form.proofs.RowParts.{too_large, constant_row, sign_found, empty_row}
