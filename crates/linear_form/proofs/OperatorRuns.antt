@@ -8,7 +8,7 @@ use Rattle.linear_form.specs.Questions as q
 use Rattle.linear_form.specs.Questions.{Linear}
 use Rattle.linear_form.specs.internal.Operator.{has_no_terms}
 use Rattle.linear_form.specs.internal.Run.{Evaluation, along, turned}
-use Rattle.linear_form.specs.internal.Run.Outcome.{value}
+use Rattle.linear_form.specs.internal.Run.Evaluation.{value}
 
 pub run_sized : (ps : List Taken) (a : Lin) (i : ℕ) → is_sized a ≡ true → along ps (q.sized (Some a)) i ≡ value (Some a) i
 unfolding along

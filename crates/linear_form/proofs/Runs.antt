@@ -7,7 +7,7 @@ use Rattle.linear_form.specs.Query.Query.{done, bits, ask}
 use Rattle.linear_form.specs.Questions.{Linear, Ends}
 use Rattle.linear_form.specs.QuestionLaws.{EachResult}
 use Rattle.linear_form.specs.internal.Run.{Evaluation, along, turned, heard, onward}
-use Rattle.linear_form.specs.internal.Run.Outcome.{value, decide}
+use Rattle.linear_form.specs.internal.Run.Evaluation.{value, decide}
 use Rattle.linear_form.specs.PlainPaths.{path_of}
 use Rattle.linear_form.specs.internal.Seen.{Stops, Gives, GivesBoth, Tells}
 use Rattle.linear_form.specs.declared.paths.Taken as T

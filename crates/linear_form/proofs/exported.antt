@@ -14,3 +14,4 @@ pub mod Sums
 pub mod Truths
 pub mod UnsignedRows
 pub mod GreedyChoices
+pub mod AnsweredPaths

@@ -1,5 +1,5 @@
 use Rattle.std.proofs.Common.{◌≡◌, ap, ◌∙◌, Bool, true, false, cond, ℕ, ◌+◌}
-use Rattle.linear_form.specs.internal.Run.Outcome.{value}
+use Rattle.linear_form.specs.internal.Run.Evaluation.{value}
 use Rattle.linear_form.proofs.Runs.{turned_at}
 use Rattle.linear_form.proofs.cursor.answered.Goals as goal
 

@@ -2,7 +2,7 @@ use Rattle.std.proofs.Common.{sym, ◌∙◌, ap, subst, rules, refl}
 use Rattle.heylo_formula.specs.PlainTrees.{form_of}
 use Rattle.std.specs.Prelude.{Some}
 use Rattle.linear_form.specs.internal.Run.{along}
-use Rattle.linear_form.specs.internal.Run.Outcome.{value}
+use Rattle.linear_form.specs.internal.Run.Evaluation.{value}
 use Rattle.linear_form.specs.PlainPaths.{path_of}
 use Rattle.linear_form.specs.internal.Seen.{Gives}
 use Rattle.linear_form.proofs.Runs.{gives_first, gives_second, gives_two, gives_after, tells_first, tells_second, tells_two, tells_after, run_done, run_bits, run_after, run_two, after_false, after_true}
