@@ -2,8 +2,6 @@
 #![tactic(auto)]
 
 mod checking;
-#[cfg(test)]
-mod checking_tests;
 mod laws;
 mod trees;
 

@@ -13,8 +13,6 @@ mod shifting;
 mod sizes;
 mod substitution;
 mod terms;
-#[cfg(test)]
-mod tests;
 mod types;
 mod values;
 

@@ -12,8 +12,6 @@ mod sinks;
 mod sources;
 mod stdout_sinks;
 mod sure_sources;
-#[cfg(test)]
-mod tests;
 mod writing;
 
 pub use failures::Failed;

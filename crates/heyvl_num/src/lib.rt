@@ -6,8 +6,6 @@ mod divisors;
 mod extended;
 mod fractions;
 mod laws;
-#[cfg(test)]
-mod tests;
 
 pub use divisors::gcd;
 pub use extended::Ext;

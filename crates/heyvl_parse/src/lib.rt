@@ -6,27 +6,19 @@ mod counts;
 mod effects;
 mod expressions;
 mod file_reader;
-#[cfg(test)]
-mod file_tests;
 mod laws;
-#[cfg(test)]
-mod limit_tests;
 mod limits;
 mod lists;
 mod loops;
 mod operators;
 mod parsing;
 mod places;
-#[cfg(test)]
-mod procedure_tests;
 mod procedures;
 mod rights;
 mod simple;
 mod starts;
 mod statements;
 mod stops;
-#[cfg(test)]
-mod tests;
 mod tokens;
 
 pub use expressions::read_expr;

@@ -3,8 +3,6 @@
 
 mod bytes;
 mod comments;
-#[cfg(test)]
-mod copy_tests;
 mod expressions;
 mod fronts;
 mod keys;
@@ -19,8 +17,6 @@ mod procedures;
 mod spans;
 mod statements;
 mod stops;
-#[cfg(test)]
-mod tests;
 mod tokens;
 mod trees;
 mod types;

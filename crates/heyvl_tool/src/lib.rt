@@ -10,17 +10,11 @@ mod faults;
 mod first_form;
 mod numbering;
 mod outcomes;
-#[cfg(test)]
-mod print_tests;
 mod printing;
 mod reading;
-#[cfg(test)]
-mod refusal_tests;
 mod reporting;
 mod requests;
 mod responses;
-#[cfg(test)]
-mod tests;
 mod tool;
 mod words;
 

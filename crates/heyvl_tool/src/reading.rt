@@ -107,5 +107,3 @@ pub fn first_form_is_unique()
     ensures { FirstFormIsUnique }
 {}
 
-#[cfg(test)]
-mod tests;

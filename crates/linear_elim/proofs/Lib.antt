@@ -19,7 +19,6 @@ pub mod NarrowShares
 pub mod Counts
 pub mod OrderedRows
 pub mod Answering
-pub mod TestRows
 pub mod Projecting
 pub mod Reaching
 pub mod EndPlaces

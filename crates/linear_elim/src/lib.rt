@@ -3,8 +3,6 @@
 
 mod answers;
 mod choosing;
-#[cfg(test)]
-mod choosing_tests;
 mod eliminating;
 mod elimination;
 mod ends;
@@ -15,15 +13,9 @@ mod joins;
 mod laws;
 mod ordering;
 mod picking;
-#[cfg(test)]
-mod point_tests;
 mod refuting;
 mod starting;
 mod steps;
-#[cfg(test)]
-mod test_rows;
-#[cfg(test)]
-mod tests;
 
 pub use answers::{Broken, Cause, Elim};
 pub use eliminating::eliminate;

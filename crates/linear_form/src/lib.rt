@@ -4,8 +4,6 @@
 mod answering;
 mod asking;
 mod claim_laws;
-#[cfg(test)]
-mod contradiction_tests;
 mod cursor;
 mod evaluation;
 mod further_rows;
@@ -18,27 +16,17 @@ mod multipliers;
 mod numbers;
 mod operators;
 mod path_laws;
-#[cfg(test)]
-mod path_row_tests;
 mod path_rows;
 mod paths;
 mod plain_ends;
 mod point_laws;
-#[cfg(test)]
-mod product_tests;
-#[cfg(test)]
-mod question_answers;
 mod question_laws;
-#[cfg(test)]
-mod question_tests;
 mod row;
 mod row_laws;
 mod row_list_laws;
 mod signs;
 mod terms;
 mod tightening;
-#[cfg(test)]
-mod tightening_tests;
 
 pub use answering::ask;
 pub use asking::Ask;

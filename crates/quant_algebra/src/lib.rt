@@ -5,8 +5,6 @@ mod answers;
 mod evaluation;
 mod laws;
 mod operators;
-#[cfg(test)]
-mod tests;
 
 pub use answers::{At, Held};
 pub use evaluation::{goal_at, holds_at, value_at};

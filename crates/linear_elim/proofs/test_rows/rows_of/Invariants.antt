@@ -1,6 +1,0 @@
-use Rattle.std.specs.List.{All}
-use Rattle.linear_form.specs.Row.{IsRow}
-use Rattle.linear_elim.proofs.test_rows.rows_of.Given as goal
-
-abbrev pub invariant-loop-one : goal.invariant-loop-one
-invariant-loop-one l = All IsRow l.rows.items

@@ -1,6 +1,0 @@
-use Rattle.heylo_formula.specs.Goals.{goal_of}
-use Rattle.linear_form.proofs.PathSteps.{empty_path}
-use Rattle.linear_form.proofs.question_answers.path_with.Goals as goal
-
-pub answers-init : goal.answers-init
-answers-init c = empty_path (goal_of c.args.goal.now) c.new-path.result.items c.new-path.ensures.items

@@ -1,0 +1,9 @@
+//! Tests of the top call over the devices in memory, whose calls fail where a test says so, and of the devices themselves.
+#![tactic(auto)]
+
+#[cfg(test)]
+mod device_tests;
+#[cfg(test)]
+mod first_form_tests;
+#[cfg(test)]
+mod run_tests;
