@@ -9,3 +9,4 @@ pub mod Exactness
 pub mod Rows
 pub mod Operators
 pub mod WholeNumbers
+pub mod Inverses

@@ -1,8 +1,8 @@
 -- Further laws of the operators: what they keep of the order and of the sign, which of them keep whole numbers, and what
 -- weights add up to.
-use Rattle.std.specs.Prelude.{◌≡◌, List, [], ◌∷◌, ◌++◌, ℕ}
-use Rattle.heyvl_num.specs.Rational.{Rational, zeroʳ, oneʳ, ◌+ʳ◌, ◌-ʳ◌, ◌*ʳ◌, negʳ, ◌≤ʳ◌}
-use Rattle.heyvl_num.specs.Value.{Value, zeroᵛ, oneᵛ, ◌+ᵛ◌, ◌*ᵛ◌, ◌≤ᵛ◌}
+use Rattle.std.specs.Prelude.{◌≡◌, List, [], ◌∷◌, ℕ}
+use Rattle.heyvl_num.specs.Rational.{Rational, zeroʳ, oneʳ, ◌+ʳ◌, ◌-ʳ◌, ◌*ʳ◌, negʳ}
+use Rattle.heyvl_num.specs.Value.{Value, zeroᵛ, ◌+ᵛ◌, ◌*ᵛ◌, ◌≤ᵛ◌}
 use Rattle.heyvl_num.specs.ValueOperators.{minᵛ, maxᵛ, impliesᵛ, coimpliesᵛ, monusᵛ}
 use Rattle.heyvl_num.specs.WeightedSums.{weighted_sum, total_weight, IsWeighted}
 use Rattle.heyvl_num.specs.WholeNumbers.{IsWhole}

@@ -1,5 +1,5 @@
 -- Meant for the proofs of other crates. What the operators on values keep of the order and of the sign.
-use Rattle.std.proofs.Common.{◌≡◌, Bool, true, false, cond, ◌⊎◌, inl, inr}
+use Rattle.std.proofs.Common.{◌≡◌, true, false, cond, ◌⊎◌, inl, inr}
 use Rattle.heyvl_num.specs.Value.{Value, zeroᵛ, leqᵛ, ◌≤ᵛ◌}
 use Rattle.heyvl_num.specs.ValueOperators.{coimpliesᵛ}
 use Rattle.heyvl_num.proofs.Values.{≤ᵛ_refl, ≤ᵛ_trans}

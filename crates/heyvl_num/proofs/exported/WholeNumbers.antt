@@ -1,5 +1,5 @@
 -- Meant for the proofs of other crates. Whole numbers stay whole under sums, products, negatives and the other operators.
-use Rattle.std.proofs.Common.{◌≡◌, ℕ, ◌<◌, ◌≤◌, refl, sym, subst, arith, Bool, true, false, cond}
+use Rattle.std.proofs.Common.{◌≡◌, ℕ, ◌<◌, ◌≤◌, sym, subst, arith, Bool, true, false, cond}
 use Rattle.std.specs.Prelude.{ℤ}
 use Rattle.std.proofs.Math.Nat.{zero-lt-suc, div-le_self}
 use Rattle.heyvl_num.specs.Rational.{Rational, ratio, zeroʳ, oneʳ, leqʳ, ◌+ʳ◌, ◌-ʳ◌, ◌*ʳ◌, negʳ}
