@@ -8,7 +8,7 @@ use Rattle.heylo_formula.specs.declared.types.Ty.{Ty}
 use Rattle.linear_form.specs.Terms.{IsNormal}
 use Rattle.linear_form.specs.Row.{Row}
 use Rattle.linear_form.specs.RowLists.{is_numeric, IsNumericRow}
-use Rattle.linear_form.specs.TypedGoals.{types_in}
+use Rattle.heylo_formula.specs.Typing.{types_in}
 
 pub record IsPart (least : ℕ) (ts : List (ℕ × ℤ)) : Type 0 where
   pub normal : IsNormal ts

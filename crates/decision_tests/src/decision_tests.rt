@@ -1,61 +1,12 @@
-use region_split::Decision;
+use crate::goals::{at_most, both, flag, infinity, number, product, select, sum, upper};
 use crate::test_goals::decision_of;
 use farkas_check::{Checked, Tree, check};
 use heylo_formula::{Cond, Form, Goal, Ty, Val};
-use heyvl_num::{Ext, Frac};
+use heyvl_syntax::Span;
 use linear_elim::Cause;
+use region_split::Decision;
 use std::alloc::{AllocError, Global};
 use std::test::Fail;
-
-fn number(num: i128, den: i128) -> Form {
-    match Frac::new(num, den) {
-        Some(x) => Form::Const(Ext::Fin(x)),
-        None => Form::Const(Ext::Inf),
-    }
-}
-
-fn infinity() -> Form {
-    Form::Const(Ext::Inf)
-}
-
-fn sum(alloc: Global, left: Form, right: Form) -> Result<Form, AllocError> {
-    let left = Box::new(alloc, left)?;
-    Ok(Form::Sum(left, Box::new(alloc, right)?))
-}
-
-/// 1 where the Boolean is true, else 0.
-fn flag(alloc: Global, x: u32) -> Result<Form, AllocError> {
-    Ok(Form::Iverson(Box::new(alloc, Cond::Var(x))?))
-}
-
-/// The first form where the condition holds, else the second.
-fn select(alloc: Global, test: Cond, holds: Form, fails: Form) -> Result<Form, AllocError> {
-    let test = Box::new(alloc, test)?;
-    let holds = Box::new(alloc, holds)?;
-    Ok(Form::Select(test, holds, Box::new(alloc, fails)?))
-}
-
-fn at_most(alloc: Global, left: Form, right: Form) -> Result<Cond, AllocError> {
-    let left = Box::new(alloc, left)?;
-    Ok(Cond::Le(left, Box::new(alloc, right)?))
-}
-
-fn both(alloc: Global, left: Cond, right: Cond) -> Result<Cond, AllocError> {
-    let left = Box::new(alloc, left)?;
-    Ok(Cond::And(left, Box::new(alloc, right)?))
-}
-
-/// A goal that asks that the stated form is at least the found one.
-fn upper(alloc: Global, stated: Form, found: Form, vars: &[Ty]) -> Result<Goal, AllocError> {
-    Ok(Goal {
-        upper: true,
-        stated,
-        found,
-        vars: vars.to_vec(alloc)?,
-        names: Vec::new(alloc),
-        own: 0,
-    })
-}
 
 fn leaves(tree: &Tree) -> u32 {
     match tree {
@@ -306,5 +257,79 @@ fn certificates_are_accepted(rt: HostRuntime) -> Result<(), Fail> {
     assert!(rt; is_certified(alloc, &dropped)?);
     let plain = upper(alloc, infinity(), Form::Var(0), &[Ty::UReal])?;
     assert!(rt; is_certified(alloc, &plain)?);
+    Ok(())
+}
+
+#[test]
+fn products_of_two_variables(rt: HostRuntime) -> Result<(), Fail> {
+    let alloc = rt.alloc();
+    let place = Span { from: 5, to: 6 };
+    let stated = product(alloc, Form::Var(0), Form::Var(1), place)?;
+    let goal = upper(alloc, stated, number(0, 1), &[Ty::UReal, Ty::UReal])?;
+    let decision = decision_of(alloc, &goal)?;
+    assert!(rt;
+        matches!(
+            decision,
+            Some(Decision::Unknown(Cause::Nonlinear(Span { from: 5, to: 6 })))
+        )
+    );
+    Ok(())
+}
+
+/// `x <= 0`, asked so often that the number of times doubles with each level.
+fn repeated(alloc: Global, levels: u32) -> Result<Cond, AllocError> {
+    if levels == 0 {
+        return at_most(alloc, Form::Var(0), number(0, 1));
+    }
+    let first = repeated(alloc, levels - 1)?;
+    both(alloc, first, repeated(alloc, levels - 1)?)
+}
+
+/// A goal that asks so often, and holds whatever is answered.
+fn asked(alloc: Global, levels: u32) -> Result<Goal, AllocError> {
+    let test = repeated(alloc, levels)?;
+    let stated = select(alloc, test, number(1, 1), number(1, 1))?;
+    upper(alloc, stated, number(1, 1), &[Ty::Int])
+}
+
+/// Each question but the first has an answer that no state gives.
+#[test]
+fn trees_that_are_too_deep(rt: HostRuntime) -> Result<(), Fail> {
+    let alloc = rt.alloc();
+    assert!(rt; is_proved(&decision_of(alloc, &asked(alloc, 3)?)?, 9));
+    let decision = decision_of(alloc, &asked(alloc, 10)?)?;
+    assert!(rt; matches!(decision, Some(Decision::Proved(None))));
+    Ok(())
+}
+
+/// A multiple of a variable.
+fn multiple(alloc: Global, times: u32, x: u32) -> Result<Form, AllocError> {
+    let place = Span { from: 0, to: 0 };
+    product(alloc, number(i128::from(times), 1), Form::Var(x), place)
+}
+
+/// Where `i*y + z <= x` for each i from 1 up to a number, and `x + 66*j*y + z <= 0` for each j from 1 up to another.
+fn crossing(alloc: Global, lowers: u32, uppers: u32) -> Result<Cond, AllocError> {
+    let mut test = Cond::Const(true);
+    for i in 0..lowers.min(100) {
+        let left = sum(alloc, multiple(alloc, i + 1, 1)?, Form::Var(2))?;
+        test = both(alloc, test, at_most(alloc, left, Form::Var(0))?)?;
+    }
+    for j in 0..uppers.min(100) {
+        let left = sum(alloc, multiple(alloc, 66 * (j + 1), 1)?, Form::Var(2))?;
+        let left = sum(alloc, Form::Var(0), left)?;
+        test = both(alloc, test, at_most(alloc, left, number(0, 1))?)?;
+    }
+    Ok(test)
+}
+
+/// 65 lower and 64 upper bounds of x make 4,160 rows.
+#[test]
+fn rows_that_are_too_many(rt: HostRuntime) -> Result<(), Fail> {
+    let alloc = rt.alloc();
+    let stated = select(alloc, crossing(alloc, 65, 64)?, number(0, 1), number(1, 1))?;
+    let goal = upper(alloc, stated, number(1, 1), &[Ty::Int, Ty::Int, Ty::Int])?;
+    let decision = decision_of(alloc, &goal)?;
+    assert!(rt; matches!(decision, Some(Decision::Unknown(Cause::Rows(1, 4160)))));
     Ok(())
 }

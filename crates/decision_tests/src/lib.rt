@@ -11,9 +11,13 @@ mod contradiction_tests;
 #[cfg(test)]
 mod decision_tests;
 #[cfg(test)]
+mod dropped_ends;
+#[cfg(test)]
 mod elimination_tests;
 #[cfg(test)]
 mod fractions;
+#[cfg(test)]
+mod goals;
 #[cfg(test)]
 mod path_row_tests;
 #[cfg(test)]

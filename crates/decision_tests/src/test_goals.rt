@@ -5,11 +5,11 @@ ghost use Rattle.heyvl_num.specs.Extended.{value_of};
 ghost use Rattle.heylo_formula.specs.PlainTrees.{form_of, cond_of};
 ghost use Rattle.heylo_formula.specs.Typing.{NumberType, type_of, is_well_typed, is_unsigned, constant_type, number_type, difference_type, is_bool};
 ghost use Rattle.heylo_formula.specs.Variables.{is_free, is_free_in};
-ghost use Rattle.linear_form.specs.TypedGoals.{types_in};
+ghost use Rattle.heylo_formula.specs.Typing.{types_in};
 
-use region_split::{Decision, decide};
 use heylo_formula::{Cond, Form, Goal, Ty};
 use heyvl_num::Ext;
+use region_split::{Decision, decide};
 use std::alloc::{AllocError, Global};
 
 const MOST_NODES: u64 = 536_870_912;
@@ -69,7 +69,7 @@ fn is_bool_type(ty: Ty) -> bool
     matches!(ty, Ty::Bool)
 }
 
-/// Whether the form is of UInt or Int, for sums of variables and numbers.
+/// Whether the form is of UInt or Int, for sums and products of variables and numbers.
 fn is_whole(types: &[Ty], form: &Form) -> bool
     ensures { IsTrue result → difference_type (type_of (types_in types.now) (form_of form.now)) ≡ Some NumberType.int }
 {
@@ -77,10 +77,10 @@ fn is_whole(types: &[Ty], form: &Form) -> bool
         Form::Const(v) => is_whole_number(v),
         Form::Var(x) => is_whole_type(type_at(types, *x)),
         Form::Sum(a, b) => is_whole(types, a) && is_whole(types, b),
+        Form::Product(a, b, _) => is_whole(types, a) && is_whole(types, b),
         Form::Diff(_, _) => false,
         Form::Cut(_, _) => false,
         Form::Scale(_, _) => false,
-        Form::Product(_, _, _) => false,
         Form::Min(_, _) => false,
         Form::Max(_, _) => false,
         Form::Imply(_, _) => false,
@@ -112,7 +112,7 @@ fn is_condition(types: &[Ty], cond: &Cond) -> bool
     }
 }
 
-/// Whether the form is a formula, for sums and choices of variables and numbers.
+/// Whether the form is a formula, for sums, products and choices of variables and numbers.
 fn is_formula(types: &[Ty], form: &Form) -> bool
     ensures { IsTrue result → is_unsigned (type_of (types_in types.now) (form_of form.now)) ≡ true }
 {
@@ -120,10 +120,10 @@ fn is_formula(types: &[Ty], form: &Form) -> bool
         Form::Const(v) => is_unsigned_number(v),
         Form::Var(x) => is_unsigned_type(type_at(types, *x)),
         Form::Sum(a, b) => is_formula(types, a) && is_formula(types, b),
+        Form::Product(a, b, _) => is_formula(types, a) && is_formula(types, b),
         Form::Diff(_, _) => false,
         Form::Cut(_, _) => false,
         Form::Scale(_, _) => false,
-        Form::Product(_, _, _) => false,
         Form::Min(_, _) => false,
         Form::Max(_, _) => false,
         Form::Imply(_, _) => false,
@@ -147,10 +147,10 @@ fn has_own(count: usize, form: &Form) -> bool
         Form::Const(_) => true,
         Form::Var(x) => (*x as usize) < count,
         Form::Sum(a, b) => has_own(count, a) && has_own(count, b),
+        Form::Product(a, b, _) => has_own(count, a) && has_own(count, b),
         Form::Diff(_, _) => false,
         Form::Cut(_, _) => false,
         Form::Scale(_, _) => false,
-        Form::Product(_, _, _) => false,
         Form::Min(_, _) => false,
         Form::Max(_, _) => false,
         Form::Imply(_, _) => false,

@@ -2,7 +2,7 @@
 ghost use Rattle.std.specs.Prelude.{◌≡◌, ◌<◌, ◌^◌, IfOk, IsTrue, length};
 ghost use Rattle.std.specs.List.{All};
 ghost use Rattle.linear_form.specs.Row.{IsRow};
-ghost use Rattle.linear_form.specs.TypedGoals.{types_in};
+ghost use Rattle.heylo_formula.specs.Typing.{types_in};
 ghost use Rattle.linear_form.specs.RowLists.{is_numeric, IsNumericRow};
 
 use linear_elim::{Elim, eliminate};

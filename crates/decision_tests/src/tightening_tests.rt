@@ -1,5 +1,5 @@
 ghost use Rattle.std.specs.Prelude.{IfOk};
-ghost use Rattle.linear_form.specs.Lin.{IsNormal};
+ghost use Rattle.linear_form.specs.Lin.{AreNormal};
 ghost use Rattle.linear_form.specs.PlainPaths.{lin_of};
 
 use crate::fractions::{is_zero, zero};
@@ -29,7 +29,7 @@ fn fraction(parts: Parts) -> Frac {
 
 /// A multiple of the variable 0, one of the variable 1 and a constant.
 fn line(alloc: Global, x: Parts, y: Parts, rest: Parts) -> Result<Lin, AllocError>
-    ensures { IfOk result (λ l. IsNormal (lin_of l).terms) }
+    ensures { IfOk result (λ l. AreNormal (lin_of l).terms) }
 {
     let mut terms = Vec::new(alloc);
     let first = fraction(x);
@@ -57,7 +57,7 @@ fn coefficient(row: &Row, x: u32) -> i64 {
 
 /// The row of a linear value over an Int, or a UReal, and a UInt.
 fn row(alloc: Global, first: Ty, left: &Lin, strict: bool) -> Result<Shown, AllocError>
-    requires { IsNormal (lin_of left.now).terms }
+    requires { AreNormal (lin_of left.now).terms }
 {
     match tightened(alloc, &[first, Ty::UInt], left, strict)? {
         None => Ok(None),

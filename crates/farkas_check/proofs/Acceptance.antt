@@ -8,7 +8,8 @@ use Rattle.linear_form.specs.Query.Query.{ask}
 use Rattle.linear_form.specs.Questions.{Ends}
 use Rattle.linear_form.specs.Nonlinear.{nonlinear_product}
 use Rattle.farkas_check.specs.Trees.{Tree}
-use Rattle.farkas_check.specs.Accepted.{Asks, IsAccepted, IsRefused, IsCertificate, IsNoCertificate}
+use Rattle.linear_form.specs.Paths.{Asks}
+use Rattle.farkas_check.specs.Accepted.{IsAccepted, IsRefused, IsCertificate, IsNoCertificate}
 
 -- One question is asked at the end of a path.
 pub one_question : (g : Goal) (ps : List Taken) (q r : Atom) → Asks g ps q → Asks g ps r → q ≡ r

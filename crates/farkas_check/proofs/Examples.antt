@@ -16,13 +16,13 @@ use Rattle.linear_form.specs.Lin.{Lin, constant, plus, scaled, minus, minus_one�
 use Rattle.linear_form.specs.Terms.{coefficient}
 use Rattle.linear_form.specs.Query.{Query, Atom, Taken}
 use Rattle.linear_form.specs.Questions.{Ends}
-use Rattle.linear_form.specs.Paths.{end_at}
+use Rattle.linear_form.specs.Paths.{Asks, end_at}
 use Rattle.linear_form.specs.Combination.{IsContradiction, combined, uses_strict}
 use Rattle.linear_form.specs.PathRows.{rows_of, denial, IsPlainAt}
 use Rattle.linear_form.specs.Row.{Row}
 use Rattle.linear_form.specs.Tightening.{common_multiple, common_divisor, factor, tightened}
 use Rattle.farkas_check.specs.Trees.{Tree}
-use Rattle.farkas_check.specs.Accepted.{Asks, IsRefuted, IsAccepted, IsRefused, has_denied}
+use Rattle.farkas_check.specs.Accepted.{IsRefuted, IsAccepted, IsRefused, has_denied}
 
 half : Value
 half = finite (ratio (pos 1) 2)
@@ -92,7 +92,7 @@ contradiction_of_once = record {
 }
 
 refuted_halves : IsRefuted halves [] once
-refuted_halves = record { rows = zero_below_zero ∷ []; exist = ap (rows_of halves []) denied_in_halves ∙ rows_of_halves; contradiction = contradiction_of_once }
+refuted_halves = record { rows = zero_below_zero ∷ []; are_rows = ap (rows_of halves []) denied_in_halves ∙ rows_of_halves; contradiction = contradiction_of_once }
 
 accepted_halves : IsAccepted halves [] (Tree.farkas once)
 accepted_halves = IsAccepted.farkas [] once refuted_halves
@@ -100,7 +100,7 @@ accepted_halves = IsAccepted.farkas [] once refuted_halves
 -- ---- There is no row 1, no side is infinite, and there is no question
 
 no_row_one : IsRefuted halves [] ((1, 1) ∷ []) → ⊥
-no_row_one h = go h.rows (sym h.exist ∙ ap (rows_of halves []) denied_in_halves ∙ rows_of_halves) h.contradiction
+no_row_one h = go h.rows (sym h.are_rows ∙ ap (rows_of halves []) denied_in_halves ∙ rows_of_halves) h.contradiction
   where
     go : (rows : List Row) → Some rows ≡ Some (zero_below_zero ∷ []) → IsContradiction ((1, 1) ∷ []) rows → ⊥
     go rows e k = let i : rows ≡ zero_below_zero ∷ [] = cc in let l : 1 < length rows = All-head (λ m. m.0 < length rows) (1, 1) [] k.within in let n = ap length i in omega (arith, l, n)

@@ -9,18 +9,18 @@ use Rattle.std.proofs.lemmas.Simd.{map-map}
 use Rattle.heylo_formula.specs.Goals.{Goal}
 use Rattle.linear_form.specs.Query.{Atom, Taken, onto}
 use Rattle.linear_form.specs.Questions.{questions}
-use Rattle.linear_form.specs.Paths.{IsPath}
+use Rattle.linear_form.specs.Paths.{Asks, IsPath}
 use Rattle.linear_form.specs.PathRows.{IsPlainAt}
 use Rattle.linear_form.specs.PlainPaths.{atom_of, taken_of, path_of}
 use Rattle.linear_form.specs.declared.paths.Atom as A
 use Rattle.linear_form.specs.declared.paths.Taken as T
-use Rattle.linear_form.proofs.PathSteps.{path_onto}
+use Rattle.linear_form.proofs.exported.PathSteps.{path_onto}
 use Rattle.farkas_check.specs.declared.trees.Tree as K
 use Rattle.farkas_check.specs.declared.trees.Tree.TheOpen.{Tree-F}
 use Rattle.farkas_check.specs.declared.trees.Tree.TheFolds.{fold-roll-Tree}
 use Rattle.farkas_check.specs.Trees.{Tree, tree_of, tree_layer}
-use Rattle.farkas_check.specs.Accepted.{Asks, IsRefuted, IsAccepted, IsRefused, answers}
-use Rattle.farkas_check.specs.Verdicts.{IsNext}
+use Rattle.farkas_check.specs.Accepted.{IsRefuted, IsAccepted, IsRefused, answers}
+use Rattle.farkas_check.specs.internal.Findings.{IsQuestion}
 
 split_tree : (a b : Box K.Tree Global) → tree_of (K.TheVariants.Split a b) ≡ Tree.split (tree_of a.value) (tree_of b.value)
 split_tree a b = ap tree_of (sym (K.TheVariants.rolls-Split a b)) ∙ fold-roll-Tree Tree tree_layer (Tree-F.Split a b) ∙ refl
@@ -34,11 +34,11 @@ plain_tree = ap tree_of (sym K.TheVariants.rolls-Plain) ∙ fold-roll-Tree Tree 
 pub path_of-append : (ps : List T.Taken) (p : T.Taken) → path_of (ps ++ p ∷ []) ≡ onto (path_of ps) (atom_of p.atom) p.held
 path_of-append ps p = map-append taken_of ps (p ∷ [])
 
-pub asks_next : (g : Goal) (now items : List T.Taken) (o : Option A.Atom) (q : A.Atom) → IsNext g (path_of now) o → now ≡ items → o ≡ Some q → Asks g (path_of items) (atom_of q)
-asks_next g now items o q h e k = subst (λ ps. Asks g (path_of ps) (atom_of q)) e (subst (IsNext g (path_of now)) k h)
+pub asks_next : (g : Goal) (now items : List T.Taken) (o : Option A.Atom) (q : A.Atom) → IsQuestion g (path_of now) o → now ≡ items → o ≡ Some q → Asks g (path_of items) (atom_of q)
+asks_next g now items o q h e k = subst (λ ps. Asks g (path_of ps) (atom_of q)) e (subst (IsQuestion g (path_of now)) k h)
 
-pub asks_none : (g : Goal) (now items : List T.Taken) (o : Option A.Atom) → IsNext g (path_of now) o → now ≡ items → o ≡ None → (q : Atom) → Asks g (path_of items) q → ⊥
-asks_none g now items o h e k q a = subst (IsNext g (path_of now)) k h q (subst (λ ps. Asks g (path_of ps) q) (sym e) a)
+pub asks_none : (g : Goal) (now items : List T.Taken) (o : Option A.Atom) → IsQuestion g (path_of now) o → now ≡ items → o ≡ None → (q : Atom) → Asks g (path_of items) q → ⊥
+asks_none g now items o h e k q a = subst (IsQuestion g (path_of now)) k h q (subst (λ ps. Asks g (path_of ps) q) (sym e) a)
 
 pub goes_on : (g : Goal) (items v : List T.Taken) (p : T.Taken) → IsPath g (path_of items) → Asks g (path_of items) (atom_of p.atom) → v ≡ items ++ p ∷ [] → IsPath g (path_of v)
 goes_on g items v p h a e = subst (λ ps. IsPath g (path_of ps)) (sym e) (subst (IsPath g) (sym (path_of-append items p)) (path_onto (questions g) (path_of items) (atom_of p.atom) a.yes a.no p.held h a.question))

@@ -2,3 +2,4 @@ pub mod Acceptance
 mod Examples
 pub mod Soundness
 pub mod Judging
+pub mod exported

@@ -1,6 +1,7 @@
 -- A goal with a certificate holds in every state.
 use Rattle.std.proofs.Common.{◌≡◌, List, [], refl, sym, ◌∙◌, subst, Bool, true, false, ◌⊎◌, inl, inr}
 use Rattle.std.specs.Prelude.{Some, None}
+use Rattle.std.specs.List.{All}
 use Rattle.heyvl_num.specs.Value.{Value, leqᵛ, ◌≤ᵛ◌}
 use Rattle.heyvl_num.specs.Value.Value.{finite, infinite}
 use Rattle.heylo_formula.specs.Goals.{Goal, Compares, HoldsIn}
@@ -11,15 +12,17 @@ use Rattle.heylo_formula.specs.declared.values.Val.{Val}
 use Rattle.linear_form.specs.Query.{Taken, onto, holds_at}
 use Rattle.linear_form.specs.Questions.{Ends, Linear, value_in, questions}
 use Rattle.linear_form.specs.Paths.{IsPath, Path, Agrees}
-use Rattle.linear_form.specs.PathRows.{denial, below_claim}
-use Rattle.linear_form.specs.TypedGoals.{IsTypedGoal}
-use Rattle.linear_form.proofs.MetRows.{rows_are_met}
-use Rattle.linear_form.proofs.AgreedEnds.{ends_are_values}
+use Rattle.linear_form.specs.PathRows.{denial, below_claim, rows_of}
+use Rattle.linear_form.specs.Row.{Row}
+use Rattle.linear_form.specs.Solutions.{MeetsAt}
+use Rattle.heylo_formula.specs.TypedGoals.{IsTypedGoal}
+use Rattle.linear_form.proofs.exported.MetRows.{rows_are_met, denied_rows_are_met}
+use Rattle.linear_form.proofs.exported.AgreedEnds.{ends_are_values}
 use Rattle.farkas_check.specs.CertificateLaws.{CertifiedGoalsHold}
-use Rattle.linear_form.proofs.Combinations.{contradiction_unsolvable}
-use Rattle.linear_form.proofs.PathSteps.{path_onto, agrees_onto}
+use Rattle.linear_form.proofs.exported.Combinations.{contradiction_unsolvable}
+use Rattle.linear_form.proofs.exported.PathSteps.{path_onto, agrees_onto}
 use Rattle.farkas_check.specs.Trees.{Tree}
-use Rattle.farkas_check.specs.Accepted.{IsAccepted}
+use Rattle.farkas_check.specs.Accepted.{has_denied, IsAccepted}
 
 at_most_infinite : (v : Value) → v ≤ᵛ infinite
 unfolding leqᵛ
@@ -47,6 +50,11 @@ pub plain_holds : (up : Bool) (e : Ends) (s : Env) → denial up e ≡ None → 
 plain_holds true e s h = subst (λ x. value_in e.1 s ≤ᵛ value_in x s) (sym (none_below e.0 e.1 h)) (at_most_infinite (value_in e.1 s))
 plain_holds false e s h = subst (λ x. value_in e.0 s ≤ᵛ value_in x s) (sym (none_below e.1 e.0 h)) (at_most_infinite (value_in e.0 s))
 
+-- the rows of which a certificate speaks are met where the goal fails
+rows_met : (g : Goal) (s : List Val) (ps : List Taken) (denied : Bool) (rows : List Row) → IsTypedGoal g → IsTyped g.types s → IsPath g ps → Agrees (environment s) ps → (HoldsIn g (environment s) → ⊥) → rows_of g ps denied ≡ Some rows → All (MeetsAt (λ x. number_of (environment s x))) rows
+rows_met g s ps true rows w t p a n e = denied_rows_are_met g s ps rows w t p a n e
+rows_met g s ps false rows w t p a n e = rows_are_met g s ps rows t p a e
+
 pub accepted_holds : (g : Goal) (s : List Val) → IsTypedGoal g → IsTyped g.types s → (t : Tree) (ps : List Taken) → IsPath g ps → Agrees (environment s) ps → IsAccepted g ps t → HoldsIn g (environment s)
 accepted_holds g s w h (Tree.split t u) _ p k (IsAccepted.split ps q _ _ a x y) = go (holds_at q (environment s)) refl (accepted_holds g s w h t (onto ps q true) (path_onto (questions g) ps q a.yes a.no true p a.question)) (accepted_holds g s w h u (onto ps q false) (path_onto (questions g) ps q a.yes a.no false p a.question))
   where
@@ -57,7 +65,7 @@ accepted_holds g s w h (Tree.farkas ms) _ p k (IsAccepted.farkas ps _ a) = go (h
   where
     go : HoldsIn g (environment s) ⊎ (HoldsIn g (environment s) → ⊥) → HoldsIn g (environment s)
     go (inl h) = h
-    go (inr n) = absurd (contradiction_unsolvable ms a.rows a.contradiction (record { at_values = λ x. number_of (environment s x); meets = rows_are_met g s ps _ a.rows w h p k n a.exist }))
+    go (inr n) = absurd (contradiction_unsolvable ms a.rows a.contradiction (record { at_values = λ x. number_of (environment s x); meets = rows_met g s ps (has_denied g ps) a.rows w h p k n a.are_rows }))
 accepted_holds g s w h Tree.plain _ p k (IsAccepted.plain ps a) = let v = ends_are_values g s ps a.ends w h p k a.at_end in subst (λ y. Compares g.upper (value g.stated (environment s) Choices.stop) y) v.1 (subst (λ x. Compares g.upper x (value_in a.ends.1 (environment s))) v.0 (plain_holds g.upper a.ends (environment s) a.plain))
 
 pub certificate_holds : CertifiedGoalsHold

@@ -3,31 +3,27 @@
 use Rattle.std.specs.Prelude.{◌≡◌, ℕ, List, [], Bool, true, false, Some, None, is_some, map}
 use Rattle.heyvl_syntax.specs.declared.spans.Span.{Span}
 use Rattle.heylo_formula.specs.Goals.{Goal}
-use Rattle.linear_form.specs.Query.{Query, Atom, Taken, onto}
-use Rattle.linear_form.specs.Query.Query.{ask}
-use Rattle.linear_form.specs.Questions.{Ends}
-use Rattle.linear_form.specs.Paths.{end_at}
+use Rattle.linear_form.specs.Query.{Atom, Taken, onto}
+use Rattle.linear_form.specs.Paths.{Asks, end_at}
 use Rattle.linear_form.specs.Row.{Row}
 use Rattle.linear_form.specs.Combination.{IsContradiction}
 use Rattle.linear_form.specs.PathRows.{rows_of, denial_at, IsPlainAt}
 use Rattle.linear_form.specs.Nonlinear.{nonlinear_product}
 use Rattle.farkas_check.specs.Trees.{Tree}
 
--- The goal asks a question at the end of the path.
-pub record Asks (g : Goal) (ps : List Taken) (q : Atom) : Type 0 where
-  pub yes : Query Ends
-  pub no : Query Ends
-  pub question : end_at g ps ≡ ask q yes no
-
 -- The denied goal is among the rows at an end at which the goal doesn't hold plainly, and nowhere else.
 abbrev pub has_denied : Goal → List Taken → Bool
 has_denied g ps = is_some (denial_at g.upper (end_at g ps))
 
--- The rows of the path exist, and the multipliers combine them to a contradiction.
-pub record IsRefuted (g : Goal) (ps : List Taken) (ms : List (ℕ × ℕ)) : Type 0 where
+-- The multipliers combine the rows of the path, with or without the denied goal, to a contradiction.
+pub record IsRefutedWith (g : Goal) (ps : List Taken) (denied : Bool) (ms : List (ℕ × ℕ)) : Type 0 where
   pub rows : List Row
-  pub exist : rows_of g ps (has_denied g ps) ≡ Some rows
+  pub are_rows : rows_of g ps denied ≡ Some rows
   pub contradiction : IsContradiction ms rows
+
+-- The multipliers combine the rows of which a certificate speaks at the path to a contradiction.
+abbrev pub IsRefuted : Goal → List Taken → List (ℕ × ℕ) → Type 0
+IsRefuted g ps ms = IsRefutedWith g ps (has_denied g ps) ms
 
 -- The tree is accepted at the end of a path.
 pub data IsAccepted (g : Goal) : List Taken → Tree → Type 0 where

@@ -1,7 +1,7 @@
 -- What is proved of certificates.
 use Rattle.std.specs.Prelude.{◌≡◌, List, Bool}
 use Rattle.heylo_formula.specs.Goals.{Goal, Holds}
-use Rattle.linear_form.specs.TypedGoals.{IsTypedGoal}
+use Rattle.heylo_formula.specs.TypedGoals.{IsTypedGoal}
 use Rattle.farkas_check.specs.Trees.{Tree}
 use Rattle.farkas_check.specs.Accepted.{IsCertificate, IsNoCertificate}
 

@@ -2,3 +2,4 @@ pub mod Trees
 pub mod Accepted
 pub mod CertificateLaws
 pub mod Verdicts
+pub mod internal

@@ -1,26 +1,8 @@
--- What the program's answers say.
-use Rattle.std.specs.Prelude.{◌≡◌, List, Bool, Option, Some, None}
-use Rattle.heylo_formula.specs.Goals.{Goal}
-use Rattle.linear_form.specs.Query.{Atom, Taken}
-use Rattle.linear_form.specs.PlainPaths.{atom_of, path_of}
-use Rattle.linear_form.specs.declared.paths.Atom as A
-use Rattle.linear_form.specs.declared.paths.Taken as T
+-- What the check answers.
+use Rattle.std.specs.Prelude.{◌≡◌, List, Bool}
 use Rattle.farkas_check.specs.declared.trees.Checked as C
-use Rattle.farkas_check.specs.declared.checking.Judged as J
-use Rattle.farkas_check.specs.Trees.{Tree}
-use Rattle.farkas_check.specs.Accepted.{Asks, IsAccepted, IsRefused}
 
 -- The answer is no, with these answers on the way to the refused node.
 abbrev pub IsNoAt : C.Checked → List Bool → Type 0
 IsNoAt C.TheVariants.Yes place = ⊥
 IsNoAt (C.TheVariants.No answers) place = answers.items ≡ place
-
--- The question at the end of the path, or none.
-abbrev pub IsNext : Goal → List Taken → Option A.Atom → Type 0
-IsNext g ps (Some q) = Asks g ps (atom_of q)
-IsNext g ps None = (q : Atom) → Asks g ps q → ⊥
-
--- The tree is accepted at the end of the path, which is given back, or refused at a place.
-abbrev pub IsJudged : Goal → List T.Taken → Tree → J.Judged → Type 0
-IsJudged g ps t (J.TheVariants.Accepted back) = (back.items ≡ ps) × IsAccepted g (path_of ps) t
-IsJudged g ps t (J.TheVariants.Refused place) = IsRefused g (path_of ps) t place.items

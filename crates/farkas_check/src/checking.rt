@@ -1,19 +1,20 @@
 //! The check of a certificate.
 
-ghost use Rattle.std.specs.Prelude.{◌≡◌, ◌↔◌, List, [], ◌∷◌, ◌++◌, Bool, true, false, IsTrue, IsSome, is_none, IfOk, Ok, Some, None, map};
+ghost use Rattle.std.specs.Prelude.{◌≡◌, ◌↔◌, List, [], ◌∷◌, ◌++◌, Bool, true, false, IsTrue, IsSome, IfOk, Ok, Some, None, map};
 ghost use Rattle.heylo_formula.specs.Goals.{goal_of, Holds};
-ghost use Rattle.linear_form.specs.TypedGoals.{IsTypedGoal};
+ghost use Rattle.heylo_formula.specs.TypedGoals.{IsTypedGoal};
 ghost use Rattle.linear_form.specs.Paths.{IsPath};
-ghost use Rattle.linear_form.specs.PlainPaths.{path_of, linear_of};
-ghost use Rattle.linear_form.specs.PathRows.{denial, IsPlainAt};
+ghost use Rattle.linear_form.specs.PlainPaths.{path_of};
+ghost use Rattle.linear_form.specs.PathRows.{IsPlainAt};
 ghost use Rattle.linear_form.specs.declared.paths.Taken.{Taken as TakenValue};
 ghost use Rattle.farkas_check.specs.Trees.{tree_of};
 ghost use Rattle.farkas_check.specs.Accepted.{has_denied, IsRefuted, IsCertificate, IsNoCertificate};
-ghost use Rattle.farkas_check.specs.Verdicts.{IsNext, IsNoAt, IsJudged};
+ghost use Rattle.farkas_check.specs.Verdicts.{IsNoAt};
+ghost use Rattle.farkas_check.specs.internal.Findings.{IsQuestion, IsFinding};
 
 use crate::trees::{Checked, Tree};
 use heylo_formula::Goal;
-use linear_form::{Ask, Atom, Lin, RowList, Taken, ask, contradicts, nonlinear, rows};
+use linear_form::{Ask, Atom, RowList, Taken, ask, contradicts, holds_plainly, nonlinear, rows};
 use std::alloc::{AllocError, Global};
 
 /// What is found of a tree at the end of a path: it is accepted, with the path given back, or refused at a place.
@@ -23,17 +24,6 @@ enum Judged {
     Refused(Vec<bool>),
 }
 
-/// Whether the side that would have to be smaller is infinite.
-fn is_plain(upper: bool, stated: &Option<Lin>, found: &Option<Lin>) -> bool
-    ensures { result ≡ is_none (denial upper (linear_of stated.now, linear_of found.now)) }
-{
-    if upper {
-        stated.is_none()
-    } else {
-        found.is_none()
-    }
-}
-
 /// Whether the denied goal is among the rows of the path.
 fn is_denied(alloc: Global, goal: &Goal, path: &[Taken]) -> Result<bool, AllocError>
     requires { IsPath (goal_of goal.now) (path_of path.now) }
@@ -41,19 +31,19 @@ fn is_denied(alloc: Global, goal: &Goal, path: &[Taken]) -> Result<bool, AllocEr
 {
     match ask(alloc, goal, path)? {
         Ask::Decide(_) => Ok(false),
-        Ask::End(stated, found) => Ok(!is_plain(goal.upper, &stated, &found)),
+        Ask::End(stated, found) => Ok(!holds_plainly(goal.upper, &stated, &found)),
         Ask::Bits => Ok(false),
     }
 }
 
 /// Whether the path is at an end at which the goal holds plainly.
-fn holds_plainly(alloc: Global, goal: &Goal, path: &[Taken]) -> Result<bool, AllocError>
+fn is_plain_at(alloc: Global, goal: &Goal, path: &[Taken]) -> Result<bool, AllocError>
     requires { IsPath (goal_of goal.now) (path_of path.now) }
     ensures { IfOk result (λ b. IsTrue b ↔ IsPlainAt (goal_of goal.now) (path_of path.now)) }
 {
     match ask(alloc, goal, path)? {
         Ask::Decide(_) => Ok(false),
-        Ask::End(stated, found) => Ok(is_plain(goal.upper, &stated, &found)),
+        Ask::End(stated, found) => Ok(holds_plainly(goal.upper, &stated, &found)),
         Ask::Bits => Ok(false),
     }
 }
@@ -61,7 +51,7 @@ fn holds_plainly(alloc: Global, goal: &Goal, path: &[Taken]) -> Result<bool, All
 /// The question at the end of the path, if there is one.
 fn question(alloc: Global, goal: &Goal, path: &[Taken]) -> Result<Option<Atom>, AllocError>
     requires { IsPath (goal_of goal.now) (path_of path.now) }
-    ensures { IfOk result (IsNext (goal_of goal.now) (path_of path.now)) }
+    ensures { IfOk result (IsQuestion (goal_of goal.now) (path_of path.now)) }
 {
     match ask(alloc, goal, path)? {
         Ask::Decide(atom) => Ok(Some(atom)),
@@ -124,7 +114,7 @@ fn shortened(mut path: Vec<Taken>) -> Vec<Taken>
 /// Goes through the tree from the end of the path, in the order of the text.
 fn judge(alloc: Global, goal: &Goal, path: Vec<Taken>, tree: &Tree) -> Result<Judged, AllocError>
     requires { IsPath (goal_of goal.now) (path_of path.items) }
-    ensures { IfOk result (IsJudged (goal_of goal.now) path.items (tree_of tree.now)) }
+    ensures { IfOk result (IsFinding (goal_of goal.now) path.items (tree_of tree.now)) }
 {
     match tree {
         Tree::Split(holds, fails) => {
@@ -147,7 +137,7 @@ fn judge(alloc: Global, goal: &Goal, path: Vec<Taken>, tree: &Tree) -> Result<Ju
             }
         }
         Tree::Plain => {
-            if holds_plainly(alloc, goal, &path)? {
+            if is_plain_at(alloc, goal, &path)? {
                 Ok(Judged::Accepted(path))
             } else {
                 Ok(Judged::Refused(answers_of(alloc, &path)?))

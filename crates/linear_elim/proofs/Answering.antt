@@ -7,8 +7,8 @@ use Rattle.linear_form.specs.Row.{Row, IsRow}
 use Rattle.linear_form.specs.RowLists.{IsNumericRow}
 use Rattle.linear_form.specs.Combination.{IsContradiction}
 use Rattle.linear_form.specs.VariableOrder.{order_of}
-use Rattle.linear_form.proofs.Fractions.{solvable_is}
-use Rattle.linear_form.proofs.Combinations.{contradiction_unmet}
+use Rattle.linear_form.proofs.exported.Fractions.{solvable_is}
+use Rattle.linear_form.proofs.exported.Combinations.{contradiction_unmet}
 use Rattle.linear_elim.specs.Joins.{Derived}
 use Rattle.linear_elim.specs.Elimination as plain
 use Rattle.linear_elim.specs.Elimination.{Step, multipliers}

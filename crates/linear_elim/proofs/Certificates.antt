@@ -12,11 +12,11 @@ use Rattle.heyvl_num.specs.Value.{is_zero_num}
 use Rattle.linear_form.specs.Terms.{sum_at, coefficient, IsNormal}
 use Rattle.linear_form.specs.Row.{Row}
 use Rattle.linear_form.specs.Combination.{row_at, combined, uses_strict, IsGrowing, IsWideThroughout, IsContradiction}
-use Rattle.linear_form.proofs.Sums.{sum_at-nil, sum_at-cons}
+use Rattle.linear_form.proofs.exported.Sums.{sum_at-nil, sum_at-cons}
 use Rattle.linear_form.specs.Points.{IsMetSomewhere}
-use Rattle.linear_form.proofs.Combinations.{unmet}
-use Rattle.linear_form.proofs.Moves.{only, coefficient-is}
-use Rattle.linear_elim.specs.Joins.{Derived, is_positive, any_at, Follows}
+use Rattle.linear_form.proofs.exported.Combinations.{unmet}
+use Rattle.linear_form.proofs.exported.Moves.{only, coefficient-is}
+use Rattle.linear_elim.specs.Joins.{Derived, is_above_zero, any_at, Follows}
 use Rattle.linear_elim.specs.Steps.{has_terms, is_contradiction}
 use Rattle.linear_elim.specs.Elimination.{multipliers}
 use Rattle.linear_elim.proofs.Shares.{ArePositive}
@@ -25,11 +25,11 @@ use Rattle.linear_elim.proofs.Tidying.{and_true}
 abbrev pub plain_shares : List (ℕ × ℤ) → List (ℕ × ℕ)
 plain_shares ms = map (λ (s : ℕ × ℤ). (s.0, unsigned_abs s.1)) ms
 
-positive_abs : (c : ℤ) → is_positive c ≡ true → pos (unsigned_abs c) ≡ c
+positive_abs : (c : ℤ) → is_above_zero c ≡ true → pos (unsigned_abs c) ≡ c
 positive_abs (pos n) e = refl
 positive_abs (negsuc n) e = absurd (cc)
 
-abs_positive : (c : ℤ) → is_positive c ≡ true → 0 < unsigned_abs c
+abs_positive : (c : ℤ) → is_above_zero c ≡ true → 0 < unsigned_abs c
 abs_positive (pos zero) e = absurd (cc)
 abs_positive (pos (suc n)) e = omega arith
 abs_positive (negsuc n) e = absurd (cc)
@@ -37,7 +37,7 @@ abs_positive (negsuc n) e = absurd (cc)
 pub combined-is : (F : Row → ℤ) (ms : List (ℕ × ℤ)) (rows : List Row) → ArePositive ms → combined F (plain_shares ms) rows ≡ sum_at (λ i. F (row_at rows i)) ms
 unfolding combined
 combined-is F [] rows h = sym (sum_at-nil (λ i. F (row_at rows i)))
-combined-is F (m ∷ ms) rows h = ap₂ (λ c z. (c *ℤ F (row_at rows m.0)) +ℤ z) (positive_abs m.1 (All-head (λ s. is_positive s.1 ≡ true) m ms h)) (combined-is F ms rows (All-tail (λ s. is_positive s.1 ≡ true) m ms h)) ∙ sym (sum_at-cons (λ i. F (row_at rows i)) m ms)
+combined-is F (m ∷ ms) rows h = ap₂ (λ c z. (c *ℤ F (row_at rows m.0)) +ℤ z) (positive_abs m.1 (All-head (λ s. is_above_zero s.1 ≡ true) m ms h)) (combined-is F ms rows (All-tail (λ s. is_above_zero s.1 ≡ true) m ms h)) ∙ sym (sum_at-cons (λ i. F (row_at rows i)) m ms)
 
 strict-is : (ms : List (ℕ × ℤ)) (rows : List Row) → uses_strict (plain_shares ms) rows ≡ any_at (λ i. (row_at rows i).strict) ms
 unfolding uses_strict any_at
@@ -54,7 +54,7 @@ growing (m ∷ ms) h = (plain-all (λ i. m.0 < i) ms h.1.0, growing ms h.1.1)
 
 plain-positive : (ms : List (ℕ × ℤ)) → ArePositive ms → All (λ (m : ℕ × ℕ). 0 < m.1) (plain_shares ms)
 plain-positive [] h = All-nil _
-plain-positive (m ∷ ms) h = All-cons (λ (m : ℕ × ℕ). 0 < m.1) (m.0, unsigned_abs m.1) (plain_shares ms) (abs_positive m.1 (All-head (λ s. is_positive s.1 ≡ true) m ms h)) (plain-positive ms (All-tail (λ s. is_positive s.1 ≡ true) m ms h))
+plain-positive (m ∷ ms) h = All-cons (λ (m : ℕ × ℕ). 0 < m.1) (m.0, unsigned_abs m.1) (plain_shares ms) (abs_positive m.1 (All-head (λ s. is_above_zero s.1 ≡ true) m ms h)) (plain-positive ms (All-tail (λ s. is_above_zero s.1 ≡ true) m ms h))
 
 plain-narrow : (ms : List (ℕ × ℤ)) → All (λ m. unsigned_abs m.1 < 2 ^ 62) ms → All (λ (m : ℕ × ℕ). m.1 < 2 ^ 62) (plain_shares ms)
 plain-narrow [] h = All-nil _

@@ -5,14 +5,14 @@ use borrow.Author.Differences.{ints}
 use Prim.Native.Nat.{zero, suc}
 use Rattle.std.specs.List.{All}
 use Rattle.std.proofs.lemmas.List.Elements.{All-nil, All-cons, All-head, All-tail, All-append, All-filter, filter_passes}
-use Rattle.heyvl_num.proofs.Integers.{ring}
+use Rattle.heyvl_num.proofs.exported.Integers.{ring}
 use Rattle.linear_form.specs.Terms.{sum_at, is_in, IsNormal, IsOver}
 use Rattle.linear_form.specs.Row.{Row}
 use Rattle.linear_form.specs.Points.{Point, Meets, IsMetSomewhere, AgreesBut}
 use Rattle.linear_form.specs.Combination.{row_at}
-use Rattle.linear_form.proofs.Sums.{sum_at-cons, sum_at-nil}
-use Rattle.linear_form.proofs.Between.{All-both}
-use Rattle.linear_elim.specs.Joins.{Derived, is_positive, join, any_at, Follows}
+use Rattle.linear_form.proofs.exported.Sums.{sum_at-cons, sum_at-nil}
+use Rattle.linear_form.proofs.exported.Between.{All-both}
+use Rattle.linear_elim.specs.Joins.{Derived, is_above_zero, join, any_at, Follows}
 use Rattle.linear_elim.specs.Steps.{lowers, uppers, kept, pairs, eliminate_one, has_terms, tidied, is_contradiction, contradiction, step_fits}
 use Rattle.linear_elim.specs.Elimination.{Step, step_of, gathered, Outcome, after_step, ended_by, unless_many, run, start, elimination}
 use Rattle.linear_elim.specs.Elimination.Outcome.{refuted, standing, too_many, too_great}
@@ -176,7 +176,7 @@ unfolding any_at
 own_row first k r e l = record {
   positive = omega arith;
   shares_normal = ((λ h. absurd (omega (arith, ints, h))), (All-nil _, tt));
-  shares_positive = All-cons (λ (s : ℕ × ℤ). is_positive s.1 ≡ true) (k, pos 1) [] refl (All-nil _);
+  shares_positive = All-cons (λ (s : ℕ × ℤ). is_above_zero s.1 ≡ true) (k, pos 1) [] refl (All-nil _);
   shares_within = All-cons (λ (s : ℕ × ℤ). s.0 < length first) (k, pos 1) [] l (All-nil _);
   sums = λ f. own (λ i. sum_at f (row_at first i).terms) k (sum_at f r.terms) (ap (λ s. sum_at f s.terms) e);
   rest = own (λ i. (row_at first i).rest) k r.rest (ap (λ s. s.rest) e);

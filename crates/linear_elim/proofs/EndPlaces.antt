@@ -4,18 +4,18 @@ use Rattle.std.specs.Prelude.{ℤ, pos, negsuc, ◌+ℤ◌, ◌*ℤ◌, Option, 
 use Prim.Native.Nat.{suc, zero}
 use borrow.Author.Differences.{ints}
 use Rattle.std.proofs.Math.Nat.{mul-pos, zero-lt-suc}
-use Rattle.heyvl_num.proofs.Integers.{*ℤ-one}
+use Rattle.heyvl_num.proofs.exported.Integers.{*ℤ-one}
 use Rattle.heyvl_num.specs.Rational.{Rational, ratio, zeroʳ, oneʳ, negʳ, leqʳ, ◌+ʳ◌, ◌*ʳ◌, ◌-ʳ◌, ◌≤ʳ◌, ◌<ʳ◌}
 use Rattle.heyvl_num.specs.Rounding.{whole}
 use Rattle.heyvl_num.specs.Exact.{exact_quotient, exact_sum, exact_product, quotient}
-use Rattle.heyvl_num.proofs.Rationals.{ratio_same, ratio-+, ratio-*, ratio-neg, zero-+ʳ, zero-*ʳ, one-*ʳ, +ʳ_assoc, +ʳ_comm, +ʳ-*ʳ, *ʳ_assoc, *ʳ_comm}
-use Rattle.heyvl_num.proofs.Signs.{negʳ-*ʳ, -ʳ-is, minus_at_most, at_most_minus, difference_nonnegative, times_whole, <ʳ-not}
-use Rattle.heyvl_num.proofs.Exactness.{exact_sum_some, exact_product_some, exact_quotient_some}
+use Rattle.heyvl_num.proofs.exported.Rationals.{ratio_same, ratio-+, ratio-*, ratio-neg, zero-+ʳ, zero-*ʳ, one-*ʳ, +ʳ_assoc, +ʳ_comm, +ʳ-*ʳ, *ʳ_assoc, *ʳ_comm}
+use Rattle.heyvl_num.proofs.exported.Signs.{negʳ-*ʳ, -ʳ-is, minus_at_most, at_most_minus, difference_nonnegative, times_whole, <ʳ-not}
+use Rattle.heyvl_num.proofs.exported.Exactness.{exact_sum_some, exact_product_some, exact_quotient_some}
 use Rattle.linear_form.specs.Terms.{coefficient}
 use Rattle.linear_form.specs.Row.{Row}
 use Rattle.linear_form.specs.Solutions.{sum_of, IsBelowZero, MeetsAt}
 use Rattle.linear_form.specs.GreedyPoint.{IsUpFrom, IsUpTo, chosen_value}
-use Rattle.linear_elim.specs.Joins.{is_negative, is_positive}
+use Rattle.linear_elim.specs.Joins.{is_below_zero, is_above_zero}
 use Rattle.linear_elim.specs.ChoiceNumbers.{added, sum_without, divided_by, end_of}
 
 -- The values chosen, with one for x.
@@ -162,11 +162,11 @@ end_parts x chosen r p e = go (sum_without x chosen r.terms (Some (whole r.rest)
     go (Some s) None h k e = absurd (cc)
     go (Some s) (Some m) h k e = record { sum = s; summed = h; place = exact_product_some s m p (sym e) ∙ ap (λ y. s *ʳ y) (exact_quotient_some _ _ m (sym k)) }
 
-pub upper_end : (x : ℕ) (v : Rational) (chosen : List (ℕ × Rational)) (r : Row) (p : Rational) → is_positive (coefficient x r.terms) ≡ true → end_of x chosen r ≡ Some p → MeetsAt (placed x v chosen) r ↔ IsUpTo (record { place = p; inside = not r.strict }) v
+pub upper_end : (x : ℕ) (v : Rational) (chosen : List (ℕ × Rational)) (r : Row) (p : Rational) → is_above_zero (coefficient x r.terms) ≡ true → end_of x chosen r ≡ Some p → MeetsAt (placed x v chosen) r ↔ IsUpTo (record { place = p; inside = not r.strict }) v
 unfolding quotient
 upper_end x v chosen r p c e = found (end_parts x chosen r p e)
   where
-    side : (c : ℤ) (s : Rational) → is_positive c ≡ true → p ≡ s *ʳ quotient (negsuc 0) c → Sided ((whole c *ʳ v) +ʳ s) v p
+    side : (c : ℤ) (s : Rational) → is_above_zero c ≡ true → p ≡ s *ʳ quotient (negsuc 0) c → Sided ((whole c *ʳ v) +ʳ s) v p
     side (pos zero) s k h = absurd (cc)
     side (pos (suc n)) s k h = upper_side (suc n) v s p (zero-lt-suc n) (ap (λ y. whole (pos (suc n)) *ʳ y) h ∙ part_times (suc n) (negsuc 0) s (zero-lt-suc n) ∙ minus_one s)
     side (negsuc n) s k h = absurd (cc)
@@ -177,11 +177,11 @@ upper_end x v chosen r p c e = found (end_parts x chosen r p e)
         let w = up_by_side r.strict ((whole (coefficient x r.terms) *ʳ v) +ʳ q.sum) v p (side (coefficient x r.terms) q.sum c q.place) in
         (λ m. w.0 (subst (IsBelowZero r.strict) z m.met), λ u. record { met = subst (IsBelowZero r.strict) (sym z) (w.1 u) })
 
-pub lower_end : (x : ℕ) (v : Rational) (chosen : List (ℕ × Rational)) (r : Row) (p : Rational) → is_negative (coefficient x r.terms) ≡ true → end_of x chosen r ≡ Some p → MeetsAt (placed x v chosen) r ↔ IsUpFrom (record { place = p; inside = not r.strict }) v
+pub lower_end : (x : ℕ) (v : Rational) (chosen : List (ℕ × Rational)) (r : Row) (p : Rational) → is_below_zero (coefficient x r.terms) ≡ true → end_of x chosen r ≡ Some p → MeetsAt (placed x v chosen) r ↔ IsUpFrom (record { place = p; inside = not r.strict }) v
 unfolding quotient
 lower_end x v chosen r p c e = found (end_parts x chosen r p e)
   where
-    side : (c : ℤ) (s : Rational) → is_negative c ≡ true → p ≡ s *ʳ quotient (negsuc 0) c → Sided ((whole c *ʳ v) +ʳ s) p v
+    side : (c : ℤ) (s : Rational) → is_below_zero c ≡ true → p ≡ s *ʳ quotient (negsuc 0) c → Sided ((whole c *ʳ v) +ʳ s) p v
     side (pos n) s k h = absurd (cc)
     side (negsuc n) s k h = subst (λ y. Sided (y +ʳ s) p v) (sym (ap (λ y. y *ʳ v) (whole-negative n) ∙ negʳ-*ʳ (whole (pos (suc n))) v)) (lower_side (suc n) v s p (zero-lt-suc n) (ap (λ y. whole (pos (suc n)) *ʳ y) h ∙ part_times (suc n) (pos 1) s (zero-lt-suc n) ∙ plus_one s))
 

@@ -16,7 +16,7 @@ use Rattle.linear_form.specs.Terms.{coefficient}
 use Rattle.linear_form.specs.GreedyPoint.{End, chosen_value}
 use Rattle.linear_elim.specs.Joins.{Derived}
 use Rattle.linear_elim.specs.ChoiceNumbers.{added, sum_without, divided_by, end_of}
-use Rattle.linear_elim.specs.ChoiceSteps.{IsWithin, bounded, end_at, IsTightest}
+use Rattle.linear_elim.specs.internal.ChoiceSteps.{IsWithin, bounded, narrow_end, IsTightest}
 use Rattle.linear_elim.specs.declared.ends.Side.{Side}
 use Rattle.linear_elim.specs.declared.ends.Side.TheVariants.{Low, High}
 use Rattle.linear_elim.proofs.Joining.{rest_item}
@@ -155,11 +155,11 @@ pub take_item : {A : Type 0} (xs : List A) (i : ℕ) (x : A) → i < length xs �
 take_item xs i x l e = take_more xs i x l ∙ ap (λ y. take i xs ++ (y ∷ [])) (sym e)
 
 abbrev pub IsPastRow : Side → ℕ → List (ℕ × Rational) → Rational → Derived → Type 0
-IsPastRow side x cs v r = (e : End) → end_at x cs r.row ≡ Some e → IsWithin side e v
+IsPastRow side x cs v r = (e : End) → narrow_end x cs r.row ≡ Some e → IsWithin side e v
 
-pub tight_first : (side : Side) (x : ℕ) (cs : List (ℕ × Rational)) (rows : List Derived) (r : Derived) (e : End) → IsTightest side x cs rows None → end_at x cs r.row ≡ Some e → IsTightest side x cs (rows ++ (r ∷ [])) (Some e)
+pub tight_first : (side : Side) (x : ℕ) (cs : List (ℕ × Rational)) (rows : List Derived) (r : Derived) (e : End) → IsTightest side x cs rows None → narrow_end x cs r.row ≡ Some e → IsTightest side x cs (rows ++ (r ∷ [])) (Some e)
 tight_first side x cs rows r e t h = record {
-  each = All-append (λ r. is_some (end_at x cs r.row) ≡ true) rows (r ∷ []) t.each (All-cons (λ r. is_some (end_at x cs r.row) ≡ true) r [] (ap is_some h) (All-nil _));
+  each = All-append (λ r. is_some (narrow_end x cs r.row) ≡ true) rows (r ∷ []) t.each (All-cons (λ r. is_some (narrow_end x cs r.row) ≡ true) r [] (ap is_some h) (All-nil _));
   narrow = bounded_fits r.row.strict (end_of x cs r.row) e h;
   values = λ v. (
     λ w. All-append (IsPastRow side x cs v) rows (r ∷ []) ((t.values v).0 tt) (All-cons (IsPastRow side x cs v) r [] (λ f k. let s : e ≡ f = cc in subst (λ z. IsWithin side z v) s w) (All-nil _)),
@@ -167,9 +167,9 @@ tight_first side x cs rows r e t h = record {
   );
 }
 
-pub tight_more : (side : Side) (x : ℕ) (cs : List (ℕ × Rational)) (rows : List Derived) (r : Derived) (b e f : End) → IsTightest side x cs rows (Some b) → end_at x cs r.row ≡ Some e → fits f.place ≡ true → Tighter side b e f → IsTightest side x cs (rows ++ (r ∷ [])) (Some f)
+pub tight_more : (side : Side) (x : ℕ) (cs : List (ℕ × Rational)) (rows : List Derived) (r : Derived) (b e f : End) → IsTightest side x cs rows (Some b) → narrow_end x cs r.row ≡ Some e → fits f.place ≡ true → Tighter side b e f → IsTightest side x cs (rows ++ (r ∷ [])) (Some f)
 tight_more side x cs rows r b e f t h n m = record {
-  each = All-append (λ r. is_some (end_at x cs r.row) ≡ true) rows (r ∷ []) t.each (All-cons (λ r. is_some (end_at x cs r.row) ≡ true) r [] (ap is_some h) (All-nil _));
+  each = All-append (λ r. is_some (narrow_end x cs r.row) ≡ true) rows (r ∷ []) t.each (All-cons (λ r. is_some (narrow_end x cs r.row) ≡ true) r [] (ap is_some h) (All-nil _));
   narrow = n;
   values = λ v. (
     λ w. All-append (IsPastRow side x cs v) rows (r ∷ []) ((t.values v).0 ((m v).0 w).0) (All-cons (IsPastRow side x cs v) r [] (λ g k. let s : e ≡ g = cc in subst (λ z. IsWithin side z v) s ((m v).0 w).1) (All-nil _)),

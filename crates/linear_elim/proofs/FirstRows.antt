@@ -7,12 +7,12 @@ use Rattle.std.specs.List.{All}
 use Rattle.std.proofs.lemmas.List.Elements.{All-nil, All-cons, All-head, All-tail}
 use Rattle.linear_form.specs.Terms.{IsNormal, IsOver}
 use Rattle.linear_form.specs.Row.{Row, IsRow}
-use Rattle.linear_form.proofs.Between.{All-both}
-use Rattle.linear_form.proofs.Fractions.{solvable_is}
+use Rattle.linear_form.proofs.exported.Between.{All-both}
+use Rattle.linear_form.proofs.exported.Fractions.{solvable_is}
 use Rattle.linear_elim.specs.Joins.{Derived, IsDerived}
 use Rattle.linear_elim.specs.Steps.{tidied, contradiction}
 use Rattle.linear_elim.specs.Elimination.{Step, Gathered, after_all, run, own, start, found_after, rows_after, found_all, rows_all, elimination}
-use Rattle.linear_elim.specs.Outcomes.{outcome_of, Decided}
+use Rattle.linear_elim.specs.internal.Outcomes.{outcome_of, Decided}
 use Rattle.linear_elim.specs.declared.elimination.Outcome.{Outcome}
 use Rattle.linear_elim.specs.declared.elimination.Outcome.TheVariants.{Refuted, Standing, TooMany, TooGreat}
 use Rattle.linear_elim.proofs.Joining.{found_none, rows_none, rest_end}

@@ -1,5 +1,5 @@
 -- The greedy choice along the steps of an elimination that stands, from the last step on.
-use Rattle.std.proofs.Common.{◌≡◌, ℕ, ◌+◌, ◌<◌, List, [], ◌∷◌, ◌++◌, length, reverse, refl, sym, ap, ap₂, ◌∙◌, subst, arith, Bool, true, false, cond, eqb, ltb, ◌||◌}
+use Rattle.std.proofs.Common.{◌≡◌, ℕ, ◌+◌, ◌<◌, List, [], ◌∷◌, ◌++◌, length, get_or, reverse, refl, sym, ap, ap₂, ◌∙◌, subst, arith, Bool, true, false, cond, eqb, ltb, ◌||◌}
 use Rattle.std.specs.Prelude.{ℤ, Option, Some}
 use Rattle.std.specs.List.{All, list_any, fold}
 use Prim.Native.Nat.{zero, suc}
@@ -10,28 +10,34 @@ use Rattle.std.proofs.lemmas.List.Elements.{All-nil, All-cons, All-head, All-tai
 use Rattle.heylo_formula.specs.State.{environment, number_of}
 use Rattle.heylo_formula.specs.declared.types.Ty.{Ty}
 use Rattle.heylo_formula.specs.declared.values.Val.{Val}
-use Rattle.heyvl_num.specs.Rational.{Rational}
+use Rattle.heyvl_num.specs.Rational.{Rational, ◌≤ʳ◌}
+use Rattle.heyvl_num.proofs.exported.Rationals.{≤ʳ_trans}
 use Rattle.linear_form.specs.Terms.{is_in, IsNormal, IsOver}
+use Rattle.heylo_formula.specs.declared.values.Val.TheVariants.{Truth}
+use Rattle.linear_form.specs.Lin.{fits}
 use Rattle.linear_form.specs.Row.{Row, IsRow}
 use Rattle.linear_form.specs.RowLists.{is_numeric, IsNumericRow}
 use Rattle.linear_form.specs.Solutions.{MeetsAt, IsSolvable}
-use Rattle.linear_form.specs.VariableOrder.{occurs, occurrences, put_variable, order_of}
-use Rattle.linear_form.specs.GreedyPoint.{End, Interval, IsInside, IsIntervalOf, IsCompleted, IsChoice, IsBroken, Chooses, ChoosesFrom, type_at, chosen_value, value_for, IsStateOf, IsGreedyPoint}
+use Rattle.linear_form.specs.VariableOrder.{occurs_in_row, occurrences, put_variable, order_of}
+use Rattle.linear_form.specs.GreedyPoint.{End, Interval, IsInside, IsIntervalOf, IsCompleted, IsChoice, IsBroken, Chooses, ChoosesFrom, chosen_value, value_for, IsStateOf, IsGreedyPoint}
+use Rattle.heylo_formula.specs.Typing.{types_in}
 use Rattle.linear_form.specs.GreedyPoint.Greedy.{chose, broke}
 use Rattle.linear_form.specs.GreedyPoint.Chooses.{ends, takes, breaks}
-use Rattle.linear_form.proofs.Fractions.{solvable_is}
-use Rattle.linear_form.proofs.Between.{All-both}
+use Rattle.linear_form.proofs.exported.Fractions.{solvable_is}
+use Rattle.linear_form.proofs.exported.Between.{All-both}
 use Rattle.linear_elim.specs.Elimination.{Step, start}
 use Rattle.linear_elim.specs.ChoiceNumbers.IsNextTooGreat.{in_an_end, in_a_value}
-use Rattle.linear_elim.specs.ChoiceSteps.{IsTightest}
-use Rattle.linear_elim.specs.Picks.{between, IsPicked, IsNext}
-use Rattle.linear_elim.specs.Picks.IsNext.{great_end, between_ends}
-use Rattle.linear_elim.specs.Answers.{IsEliminated, IsTooGreat, MeetsAll}
+use Rattle.linear_elim.specs.internal.ChoiceSteps.{IsTightest}
+use Rattle.linear_elim.specs.internal.Picks.{between, IsPicked, IsNextPick}
+use Rattle.linear_elim.specs.internal.Picks.IsNextPick.{great_end, between_ends}
+use Rattle.linear_elim.specs.Answers.{IsEliminated, IsTooGreat, MeetsAll, AreNarrow}
 use Rattle.linear_elim.specs.Answers.IsTooGreat.{in_a_choice}
 use Rattle.linear_elim.specs.declared.ends.Side.TheVariants.{Low, High}
 use Rattle.linear_elim.specs.declared.picking.Pick.{Pick}
 use Rattle.linear_elim.specs.declared.picking.Pick.TheVariants.{Value, Breaks, Great}
 use Rattle.linear_elim.proofs.Deciding.{complete, start-all}
+use Rattle.linear_elim.proofs.Bounded.{up_from_weak, up_to_weak}
+use Rattle.linear_elim.proofs.Pasts.{zero_fits}
 use Rattle.linear_elim.proofs.Shapes.{Good}
 use Rattle.linear_elim.proofs.Projecting.{bare}
 use Rattle.linear_elim.proofs.Reaching.{Stands, run_stands, vars_of, stands_vars, NoneTwice, Reached, reached, bare_start}
@@ -57,7 +63,7 @@ in_put rows x v (y ∷ ys) = go (ltb (occurrences x rows) (occurrences y rows)) 
     go true h = refl
     go false h = ap (λ b. eqb v y || b) h ∙ swap (eqb v y) (eqb v x) (is_in v ys)
 
--- each variable of an order is below the number, and occurs in a row
+-- each variable of an order is below the number, and occurs_in_row in a row
 pub order_below : (rows : List Row) (n v : ℕ) → is_in v (order_of rows n) ≡ true → v < n
 unfolding order_of
 order_below rows zero v e = absurd (cc)
@@ -132,39 +138,39 @@ order_none_twice rows (suc n) = go (order_none_twice rows n) (ltb 0 (occurrences
     go ih true = none_twice_put rows n (order_of rows n) new ih
     go ih false = ih
 
--- a variable that occurs in rows over numbers has a type of numbers
-occurs_numeric : (vars : List Ty) (v : ℕ) (ts : List (ℕ × ℤ)) → All (λ t. is_numeric (type_at vars t.0) ≡ true) ts → list_any (λ t. eqb t.0 v) ts ≡ true → is_numeric (type_at vars v) ≡ true
+-- a variable that occurs_in_row in rows over numbers has a type of numbers
+occurs_numeric : (vars : List Ty) (v : ℕ) (ts : List (ℕ × ℤ)) → All (λ t. is_numeric (types_in vars t.0) ≡ true) ts → list_any (λ t. eqb t.0 v) ts ≡ true → is_numeric (types_in vars v) ≡ true
 occurs_numeric vars v [] h e = absurd (cc)
-occurs_numeric vars v (t ∷ ts) h e = go (eqb t.0 v) refl e (occurs_numeric vars v ts (All-tail (λ t. is_numeric (type_at vars t.0) ≡ true) t ts h))
+occurs_numeric vars v (t ∷ ts) h e = go (eqb t.0 v) refl e (occurs_numeric vars v ts (All-tail (λ t. is_numeric (types_in vars t.0) ≡ true) t ts h))
   where
-    go : (b : Bool) → eqb t.0 v ≡ b → (b || list_any (λ t. eqb t.0 v) ts) ≡ true → (list_any (λ t. eqb t.0 v) ts ≡ true → is_numeric (type_at vars v) ≡ true) → is_numeric (type_at vars v) ≡ true
-    go true k e ih = subst (λ u. is_numeric (type_at vars u) ≡ true) (eqb-true t.0 v k) (All-head (λ t. is_numeric (type_at vars t.0) ≡ true) t ts h)
+    go : (b : Bool) → eqb t.0 v ≡ b → (b || list_any (λ t. eqb t.0 v) ts) ≡ true → (list_any (λ t. eqb t.0 v) ts ≡ true → is_numeric (types_in vars v) ≡ true) → is_numeric (types_in vars v) ≡ true
+    go true k e ih = subst (λ u. is_numeric (types_in vars u) ≡ true) (eqb-true t.0 v k) (All-head (λ t. is_numeric (types_in vars t.0) ≡ true) t ts h)
     go false k e ih = ih e
 
 abbrev counts : ℕ → ℕ → Row → ℕ
-counts v a r = a + cond (occurs v r) 1 0
+counts v a r = a + cond (occurs_in_row v r) 1 0
 
-counted_from : (vars : List Ty) (v k : ℕ) (rows : List Row) → All (IsNumericRow vars) rows → k ≡ 0 → 0 < fold (counts v) k rows → is_numeric (type_at vars v) ≡ true
+counted_from : (vars : List Ty) (v k : ℕ) (rows : List Row) → All (IsNumericRow vars) rows → k ≡ 0 → 0 < fold (counts v) k rows → is_numeric (types_in vars v) ≡ true
 counted_from vars v k [] h e p = absurd (omega (arith, e, p))
-counted_from vars v k (r ∷ rs) h e p = go (occurs v r) refl p (λ m q l. counted_from vars v m rs (All-tail (IsNumericRow vars) r rs h) q l)
+counted_from vars v k (r ∷ rs) h e p = go (occurs_in_row v r) refl p (λ m q l. counted_from vars v m rs (All-tail (IsNumericRow vars) r rs h) q l)
   where
-    go : (b : Bool) → occurs v r ≡ b → 0 < fold (counts v) (k + cond b 1 0) rs → ((m : ℕ) → m ≡ 0 → 0 < fold (counts v) m rs → is_numeric (type_at vars v) ≡ true) → is_numeric (type_at vars v) ≡ true
+    go : (b : Bool) → occurs_in_row v r ≡ b → 0 < fold (counts v) (k + cond b 1 0) rs → ((m : ℕ) → m ≡ 0 → 0 < fold (counts v) m rs → is_numeric (types_in vars v) ≡ true) → is_numeric (types_in vars v) ≡ true
     go true q p ih = occurs_numeric vars v r.terms (All-head (IsNumericRow vars) r rs h).numeric q
     go false q p ih = ih (k + 0) (omega (arith, e)) p
 
-counted_numeric : (vars : List Ty) (v : ℕ) (rows : List Row) → All (IsNumericRow vars) rows → 0 < occurrences v rows → is_numeric (type_at vars v) ≡ true
+pub counted_numeric : (vars : List Ty) (v : ℕ) (rows : List Row) → All (IsNumericRow vars) rows → 0 < occurrences v rows → is_numeric (types_in vars v) ≡ true
 counted_numeric vars v rows h p = counted_from vars v 0 rows h refl p
 
-pub order_numeric : (vars : List Ty) (rows : List Row) (n v : ℕ) → All (IsNumericRow vars) rows → is_in v (order_of rows n) ≡ true → is_numeric (type_at vars v) ≡ true
+pub order_numeric : (vars : List Ty) (rows : List Row) (n v : ℕ) → All (IsNumericRow vars) rows → is_in v (order_of rows n) ≡ true → is_numeric (types_in vars v) ≡ true
 order_numeric vars rows n v h e = counted_numeric vars v rows h (order_occurs rows n v e)
 
 -- ---- Choices, one after the other
 
-pub then_takes : (rows : List Row) (vars : List Ty) (xs : List ℕ) (cs ds : List (ℕ × Rational)) (x : ℕ) (i : Interval) (v : Rational) → Chooses rows vars xs cs (chose ds) → IsIntervalOf rows ds x i → IsChoice i (type_at vars x) v → Chooses rows vars (xs ++ (x ∷ [])) cs (chose (ds ++ ((x, v) ∷ [])))
+pub then_takes : (rows : List Row) (vars : List Ty) (xs : List ℕ) (cs ds : List (ℕ × Rational)) (x : ℕ) (i : Interval) (v : Rational) → Chooses rows vars xs cs (chose ds) → IsIntervalOf rows ds x i → IsChoice i (types_in vars x) v → Chooses rows vars (xs ++ (x ∷ [])) cs (chose (ds ++ ((x, v) ∷ [])))
 then_takes rows vars xs cs ds x i v (ends _) h k = takes x [] ds i v (chose (ds ++ ((x, v) ∷ []))) h k (ends (ds ++ ((x, v) ∷ [])))
 then_takes rows vars xs cs ds x i v (takes y ys _ j u g a b c) h k = takes y (ys ++ (x ∷ [])) cs j u (chose (ds ++ ((x, v) ∷ []))) a b (then_takes rows vars ys (cs ++ ((y, u) ∷ [])) ds x i v c h k)
 
-pub then_breaks : (rows : List Row) (vars : List Ty) (xs zs : List ℕ) (cs ds : List (ℕ × Rational)) (x : ℕ) (i : Interval) → Chooses rows vars xs cs (chose ds) → IsIntervalOf rows ds x i → IsBroken i (type_at vars x) → Chooses rows vars (xs ++ (x ∷ zs)) cs (broke x ds i)
+pub then_breaks : (rows : List Row) (vars : List Ty) (xs zs : List ℕ) (cs ds : List (ℕ × Rational)) (x : ℕ) (i : Interval) → Chooses rows vars xs cs (chose ds) → IsIntervalOf rows ds x i → IsBroken i (types_in vars x) → Chooses rows vars (xs ++ (x ∷ zs)) cs (broke x ds i)
 then_breaks rows vars xs zs cs ds x i (ends _) h k = breaks x zs ds i h k
 then_breaks rows vars xs zs cs ds x i (takes y ys _ j u g a b c) h k = takes y (ys ++ (x ∷ zs)) cs j u (broke x ds i) a b (then_breaks rows vars ys zs (cs ++ ((y, u) ∷ [])) ds x i c h k)
 
@@ -177,6 +183,7 @@ pub record IsSofar (rows : List Row) (vars : List Ty) (steps rest : List Step) (
   pub choice : Chooses rows vars (reverse (vars_of after)) [] (chose cs)
   pub met : IsCompleted rows cs
   pub are_for : AreFor (vars_of after) cs
+  pub narrow : All (λ (c : ℕ × Rational). fits c.1 ≡ true) cs
 
 module _ (rows : List Row) (vars : List Ty) (steps : List Step) (h : IsEliminated rows vars steps) where
   the_order : List ℕ
@@ -204,6 +211,7 @@ module _ (rows : List Row) (vars : List Ty) (steps : List Step) (h : IsEliminate
     choice = ends [];
     met = record { at_values = solved.at_values; agrees = All-nil _; meets = solved.meets };
     are_for = record { within = All-nil _; each = λ v e. e };
+    narrow = All-nil _;
   }
     where
       append_none : (ss : List Step) → ss ++ [] ≡ ss
@@ -234,19 +242,20 @@ module _ (rows : List Row) (vars : List Ty) (steps : List Step) (h : IsEliminate
   some_here : (i : Interval) → IsIntervalOf rows cs s.var i → (w : Rational) × IsInside i w
   some_here i v = let k = some_value (order_of rows (length vars)) (start 0 rows) s f.after reached_here cs for_here met_here in (k.0, (v.values k.0).1 (subst (λ x. IsCompleted rows (with_value x k.0 cs)) (sym var_here) (subst (λ rs. IsCompleted rs (with_value reached_here.x k.0 cs)) (bare_start 0 rows) k.1)))
 
-  numeric_here : is_numeric (type_at vars s.var) ≡ true
+  numeric_here : is_numeric (types_in vars s.var) ≡ true
   numeric_here = order_numeric vars rows (length vars) s.var h.numeric (subst (λ x. is_in x (order_of rows (length vars)) ≡ true) (sym var_here) (reached_here.within reached_here.x (ap (λ b. b || is_in reached_here.x reached_here.later) (same_var reached_here.x))))
 
-  picked_here : (low high : Option End) (p : Pick) → IsTightest Low s.var cs s.lows low → IsTightest High s.var cs s.ups high → (is_numeric (type_at vars s.var) ≡ true → (w : Rational) → IsInside (between Low low high) w → IsPicked (between Low low high) (type_at vars s.var) p) → IsPicked (between Low low high) (type_at vars s.var) p
+  picked_here : (low high : Option End) (p : Pick) → IsTightest Low s.var cs s.lows low → IsTightest High s.var cs s.ups high → (is_numeric (types_in vars s.var) ≡ true → (w : Rational) → IsInside (between Low low high) w → IsPicked (between Low low high) (types_in vars s.var) p) → IsPicked (between Low low high) (types_in vars s.var) p
   picked_here low high p l u k = let w = some_here (between Low low high) (interval_here low high l u) in k numeric_here w.0 w.1
 
-  pub goes_on : (v : Rational) → IsNext s cs (type_at vars s.var) (Value v) → IsSofar rows vars steps before (cs ++ ((s.var, v) ∷ []))
+  pub goes_on : (v : Rational) → IsNextPick s cs (types_in vars s.var) (Value v) → IsSofar rows vars steps before (cs ++ ((s.var, v) ∷ []))
   goes_on v (between_ends low high _ l u k) = let i = interval_here low high l u in let p = picked_here low high (Value v) l u k in record {
     after = s ∷ f.after;
     splits = splits_here;
     choice = subst (λ xs. Chooses rows vars xs [] (chose (cs ++ ((s.var, v) ∷ [])))) (sym (reverse-append (s.var ∷ []) (vars_of f.after))) (then_takes rows vars (reverse (vars_of f.after)) [] cs s.var (between Low low high) v f.choice i p.0);
     met = (i.values v).0 p.1;
     are_for = more_for (vars_of f.after) s.var v cs f.are_for;
+    narrow = All-append (λ (c : ℕ × Rational). fits c.1 ≡ true) cs ((s.var, v) ∷ []) f.narrow (All-cons (λ (c : ℕ × Rational). fits c.1 ≡ true) (s.var, v) [] p.2 (All-nil _));
   }
     where
       or_true : (a b : Bool) → b ≡ true → (a || b) ≡ true
@@ -280,7 +289,7 @@ module _ (rows : List Row) (vars : List Ty) (steps : List Step) (h : IsEliminate
       vars_append [] b = refl
       vars_append (t ∷ a) b = ap (λ ys. t.var ∷ ys) (vars_append a b)
 
-  pub breaks_here : (low high : End) → IsNext s cs (type_at vars s.var) (Breaks low high) → ChoosesFrom rows vars (broke s.var cs (record { low = Some low; high = Some high }))
+  pub breaks_here : (low high : End) → IsNextPick s cs (types_in vars s.var) (Breaks low high) → ChoosesFrom rows vars (broke s.var cs (record { low = Some low; high = Some high }))
   breaks_here low high (between_ends lo hi _ l u k) =
       let p = picked_here lo hi (Breaks low high) l u k in
       subst (λ xs. Chooses rows vars xs [] (broke s.var cs (record { low = Some low; high = Some high }))) (sym reversed_here)
@@ -289,7 +298,14 @@ module _ (rows : List Row) (vars : List Ty) (steps : List Step) (h : IsEliminate
       both_ends : lo ≡ Some low → hi ≡ Some high → between Low lo hi ≡ record { low = Some low; high = Some high }
       both_ends e g = ap₂ (between Low) e g
 
-  pub great_here : IsNext s cs (type_at vars s.var) Great → IsTooGreat rows vars
+  -- some value lies between the two ends
+  pub ordered_here : (low high : End) → IsNextPick s cs (types_in vars s.var) (Breaks low high) → low.place ≤ʳ high.place
+  ordered_here low high (between_ends lo hi _ l u k) =
+      let p = picked_here lo hi (Breaks low high) l u k in
+      let w = some_here (between Low lo hi) (interval_here lo hi l u) in
+      ≤ʳ_trans low.place w.0 high.place (up_from_weak low w.0 (w.1.from_low low p.1)) (up_to_weak high w.0 (w.1.to_high high p.2))
+
+  pub great_here : IsNextPick s cs (types_in vars s.var) Great → IsTooGreat rows vars
   great_here (great_end e) = in_a_choice steps h.standing (record { before = before; next = s; after = f.after; chosen = cs; splits = splits_here; choice = f.choice; too_great = in_an_end e })
   great_here (between_ends low high _ l u k) = let p = picked_here low high Great l u k in in_a_choice steps h.standing (record { before = before; next = s; after = f.after; chosen = cs; splits = splits_here; choice = f.choice; too_great = in_a_value (between Low low high) p.0 (interval_here low high l u) p.1 p.2 })
 
@@ -306,10 +322,32 @@ module _ (rows : List Row) (vars : List Ty) (steps : List Step) (h : IsEliminate
   value_numeric Ty.UReal v e = refl
 
   state_agrees : (point : List Val) → IsStateOf vars cs point → (v : ℕ) → is_in v (order_of rows (length vars)) ≡ true → f.met.at_values v ≡ number_of (environment point v)
-  state_agrees point p v e = agrees_on f.met.at_values (order_of rows (length vars)) cs (subst (λ vs. AreFor vs cs) (sym (steps_in_order rows vars steps h ∙ ap vars_of f.splits)) f.are_for) f.met.agrees v e ∙ sym (ap number_of (p.values v (order_below rows (length vars) v e)) ∙ value_numeric (type_at vars v) (chosen_value v cs) (order_numeric vars rows (length vars) v h.numeric e))
+  state_agrees point p v e = agrees_on f.met.at_values (order_of rows (length vars)) cs (subst (λ vs. AreFor vs cs) (sym (steps_in_order rows vars steps h ∙ ap vars_of f.splits)) f.are_for) f.met.agrees v e ∙ sym (ap number_of (p.values v (order_below rows (length vars) v e)) ∙ value_numeric (types_in vars v) (chosen_value v cs) (order_numeric vars rows (length vars) v h.numeric e))
 
   pub point_meets : (point : List Val) → IsStateOf vars cs point → MeetsAll point rows
   point_meets point p = All-both (λ r. IsOver (order_of rows (length vars)) r.terms) (MeetsAt f.met.at_values) (MeetsAt (λ x. number_of (environment point x))) (λ r o m. meets_same f.met.at_values (λ x. number_of (environment point x)) r (All-weaker (λ t. is_in t.0 (order_of rows (length vars)) ≡ true) (λ t. f.met.at_values t.0 ≡ number_of (environment point t.0)) (λ t e. state_agrees point p t.0 e) r.terms o) m) rows h.over f.met.meets
 
-  pub point_answer : (point : List Val) → IsStateOf vars cs point → IsGreedyPoint rows vars point × MeetsAll point rows
-  point_answer point p = (record { chosen = cs; choice = all_chosen; state = p }, point_meets point p)
+  -- what is chosen is narrow, and every other variable is 0
+  value_narrow : (ds : List (ℕ × Rational)) (x : ℕ) → All (λ (c : ℕ × Rational). fits c.1 ≡ true) ds → fits (chosen_value x ds) ≡ true
+  value_narrow [] x a = zero_fits
+  value_narrow (d ∷ ds) x a = go (eqb d.0 x) (value_narrow ds x (All-tail (λ (c : ℕ × Rational). fits c.1 ≡ true) d ds a))
+    where
+      go : (b : Bool) → fits (chosen_value x ds) ≡ true → fits (cond b d.1 (chosen_value x ds)) ≡ true
+      go true ih = All-head (λ (c : ℕ × Rational). fits c.1 ≡ true) d ds a
+      go false ih = ih
+
+  number_narrow : (ty : Ty) (v : Rational) → fits v ≡ true → fits (number_of (value_for ty v)) ≡ true
+  number_narrow Ty.Bool v e = zero_fits
+  number_narrow Ty.Int v e = e
+  number_narrow Ty.UInt v e = e
+  number_narrow Ty.UReal v e = e
+
+  all_narrow : (point : List Val) → IsStateOf vars cs point → AreNarrow point
+  all_narrow point p = from_each point (λ x l. subst (λ v. fits (number_of v) ≡ true) (sym (p.values x (subst (λ n. x < n) p.each l))) (number_narrow (types_in vars x) (chosen_value x cs) (value_narrow cs x f.narrow)))
+    where
+      from_each : (vs : List Val) → ((x : ℕ) → x < length vs → fits (number_of (get_or vs x (Truth false))) ≡ true) → AreNarrow vs
+      from_each [] h = All-nil _
+      from_each (v ∷ vs) h = All-cons (λ v. fits (number_of v) ≡ true) v vs (h zero (omega arith)) (from_each vs (λ x l. h (suc x) (omega (arith, l))))
+
+  pub point_answer : (point : List Val) → IsStateOf vars cs point → IsGreedyPoint rows vars point × MeetsAll point rows × AreNarrow point
+  point_answer point p = (record { chosen = cs; choice = all_chosen; state = p }, point_meets point p, all_narrow point p)

@@ -12,12 +12,12 @@ use Rattle.linear_form.specs.Terms.{is_in, coefficient}
 use Rattle.linear_form.specs.Row.{Row}
 use Rattle.linear_form.specs.Solutions.{sum_of, IsBelowZero, MeetsAt}
 use Rattle.linear_form.specs.GreedyPoint.{End, Interval, IsInside, IsIntervalOf, IsCompleted, chosen_value}
-use Rattle.linear_form.proofs.Between.{All-both}
-use Rattle.linear_elim.specs.Joins.{Derived, is_negative, is_positive}
+use Rattle.linear_form.proofs.exported.Between.{All-both}
+use Rattle.linear_elim.specs.Joins.{Derived, is_below_zero, is_above_zero}
 use Rattle.linear_elim.specs.Steps.{lowers, uppers, kept, pairs, tidied}
 use Rattle.linear_elim.specs.Elimination.{Step}
 use Rattle.linear_elim.specs.ChoiceNumbers.{end_of}
-use Rattle.linear_elim.specs.ChoiceSteps.{IsWithin, IsPast, bounded, end_at, IsTightest}
+use Rattle.linear_elim.specs.internal.ChoiceSteps.{IsWithin, IsPast, bounded, narrow_end, IsTightest}
 use Rattle.linear_elim.specs.declared.ends.Side.TheVariants.{Low, High}
 use Rattle.linear_elim.proofs.Solutions.{by_sign, all_append-left}
 use Rattle.linear_elim.proofs.Shapes.{Good, step-good}
@@ -140,13 +140,13 @@ found_end strict (Some p) e = go (fits p) refl e
     go true k h = record { place = p; is = refl; made = ap (λ b. cond b (Some (record { place = p; inside = not strict })) None) k }
     go false k h = absurd (cc)
 
-low_alike : (x : ℕ) (v : Rational) (cs : List (ℕ × Rational)) (d : Derived) → is_negative (coefficient x d.row.terms) ≡ true → is_some (end_at x cs d.row) ≡ true → MeetsAt (placed x v cs) d.row ↔ IsPastRow Low x cs v d
+low_alike : (x : ℕ) (v : Rational) (cs : List (ℕ × Rational)) (d : Derived) → is_below_zero (coefficient x d.row.terms) ≡ true → is_some (narrow_end x cs d.row) ≡ true → MeetsAt (placed x v cs) d.row ↔ IsPastRow Low x cs v d
 low_alike x v cs d n e = go (found_end d.row.strict (end_of x cs d.row) e)
   where
     go : Found d.row.strict (end_of x cs d.row) → MeetsAt (placed x v cs) d.row ↔ IsPastRow Low x cs v d
     go f = let w = lower_end x v cs d.row f.place n f.is in (λ m e h. let s : record { place = f.place; inside = not d.row.strict } ≡ e = (let k = f.made in cc) in subst (λ z. IsWithin Low z v) s (w.0 m), λ p. w.1 (p _ f.made))
 
-high_alike : (x : ℕ) (v : Rational) (cs : List (ℕ × Rational)) (d : Derived) → is_positive (coefficient x d.row.terms) ≡ true → is_some (end_at x cs d.row) ≡ true → MeetsAt (placed x v cs) d.row ↔ IsPastRow High x cs v d
+high_alike : (x : ℕ) (v : Rational) (cs : List (ℕ × Rational)) (d : Derived) → is_above_zero (coefficient x d.row.terms) ≡ true → is_some (narrow_end x cs d.row) ≡ true → MeetsAt (placed x v cs) d.row ↔ IsPastRow High x cs v d
 high_alike x v cs d n e = go (found_end d.row.strict (end_of x cs d.row) e)
   where
     go : Found d.row.strict (end_of x cs d.row) → MeetsAt (placed x v cs) d.row ↔ IsPastRow High x cs v d
@@ -160,10 +160,10 @@ all_both_ways P Q R S f (x ∷ xs) p q =
     (λ k. All-cons S x xs (h.0 (All-head R x xs k)) (t.0 (All-tail R x xs k)), λ k. All-cons R x xs (h.1 (All-head S x xs k)) (t.1 (All-tail S x xs k)))
 
 pub lows_alike : (x : ℕ) (v : Rational) (cs : List (ℕ × Rational)) (rows : List Derived) (o : Option End) → IsTightest Low x cs (lowers x rows) o → Met (placed x v cs) (lowers x rows) ↔ IsPast Low o v
-lows_alike x v cs rows o t = let h = all_both_ways (λ d. is_negative (coefficient x d.row.terms) ≡ true) (λ d. is_some (end_at x cs d.row) ≡ true) (λ d. MeetsAt (placed x v cs) d.row) (IsPastRow Low x cs v) (λ d n e. low_alike x v cs d n e) (lowers x rows) (filter_passes _ rows) t.each in (λ m. (t.values v).1 (h.0 m), λ p. h.1 ((t.values v).0 p))
+lows_alike x v cs rows o t = let h = all_both_ways (λ d. is_below_zero (coefficient x d.row.terms) ≡ true) (λ d. is_some (narrow_end x cs d.row) ≡ true) (λ d. MeetsAt (placed x v cs) d.row) (IsPastRow Low x cs v) (λ d n e. low_alike x v cs d n e) (lowers x rows) (filter_passes _ rows) t.each in (λ m. (t.values v).1 (h.0 m), λ p. h.1 ((t.values v).0 p))
 
 pub ups_alike : (x : ℕ) (v : Rational) (cs : List (ℕ × Rational)) (rows : List Derived) (o : Option End) → IsTightest High x cs (uppers x rows) o → Met (placed x v cs) (uppers x rows) ↔ IsPast High o v
-ups_alike x v cs rows o t = let h = all_both_ways (λ d. is_positive (coefficient x d.row.terms) ≡ true) (λ d. is_some (end_at x cs d.row) ≡ true) (λ d. MeetsAt (placed x v cs) d.row) (IsPastRow High x cs v) (λ d n e. high_alike x v cs d n e) (uppers x rows) (filter_passes _ rows) t.each in (λ m. (t.values v).1 (h.0 m), λ p. h.1 ((t.values v).0 p))
+ups_alike x v cs rows o t = let h = all_both_ways (λ d. is_above_zero (coefficient x d.row.terms) ≡ true) (λ d. is_some (narrow_end x cs d.row) ≡ true) (λ d. MeetsAt (placed x v cs) d.row) (IsPastRow High x cs v) (λ d n e. high_alike x v cs d n e) (uppers x rows) (filter_passes _ rows) t.each in (λ m. (t.values v).1 (h.0 m), λ p. h.1 ((t.values v).0 p))
 
 pub inside_past : (i : Interval) (v : Rational) → IsInside i v ↔ (IsPast Low i.low v × IsPast High i.high v)
 inside_past i v = (λ h. (low i.low (λ e k. h.from_low e k), high i.high (λ e k. h.to_high e k)), λ p. record { from_low = λ e k. subst (λ o. IsPast Low o v) k p.0; to_high = λ e k. subst (λ o. IsPast High o v) k p.1 })

@@ -7,7 +7,7 @@ use Rattle.std.proofs.lemmas.List.Elements.{All-nil, All-cons, All-head, All-tai
 use Rattle.std.proofs.lemmas.Bool.Decides.{nat_tests}
 use Rattle.linear_form.specs.Terms.{IsNormal, add_terms, is_narrow}
 use Rattle.linear_form.specs.Merging.{are_narrow}
-use Rattle.linear_form.proofs.Normal.{add-normal}
+use Rattle.linear_form.proofs.exported.Normal.{add-normal}
 use Rattle.linear_elim.specs.Joins.{Derived, IsDerived, size, lowest, join, join_fits, derived_fits, joined_row, joined_shares, joined_over, share_divisor}
 use Rattle.linear_elim.specs.Steps.{lowers, uppers, kept, joins, pairs, fits_each, pairs_fit, step_fits, eliminate_one, tidied}
 use Rattle.linear_elim.proofs.Lowest.{lowest-is}

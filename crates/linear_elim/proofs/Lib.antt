@@ -31,3 +31,4 @@ pub mod Pasts
 pub mod Greedily
 pub mod ChoiceRuns
 pub mod StepRows
+pub mod exported

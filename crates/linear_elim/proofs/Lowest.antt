@@ -8,13 +8,13 @@ use Rattle.std.proofs.Math.Nat.{div-mul_cancel, zero-lt-suc, one-dvd}
 use Rattle.std.proofs.lemmas.Nat.Gcd.{dvd_refl, dvd_trans}
 use Rattle.std.specs.List.{All}
 use Rattle.std.proofs.lemmas.List.Elements.{All-nil, All-cons, All-head, All-tail, All-weaker}
-use Rattle.heyvl_num.proofs.Integers.{ring, *ℤ-neg}
+use Rattle.heyvl_num.proofs.exported.Integers.{ring, *ℤ-neg}
 use Rattle.heyvl_num.specs.Gcd.{gcd}
 use Rattle.heyvl_num.specs.GcdLaws.{gcd-is}
 use Rattle.linear_form.specs.Terms.{sum_at}
 use Rattle.linear_form.specs.Row.{Row}
 use Rattle.linear_form.specs.Points.{Point, left_side}
-use Rattle.linear_form.proofs.Sums.{sum_at-nil, sum_at-cons}
+use Rattle.linear_form.proofs.exported.Sums.{sum_at-nil, sum_at-cons}
 use Rattle.linear_form.specs.Divisors.{common, or_one}
 use Rattle.linear_elim.specs.Joins.{row_divisor, lowest}
 

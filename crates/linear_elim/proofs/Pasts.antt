@@ -5,7 +5,7 @@ use Rattle.heyvl_num.specs.Gcd.{gcd, gcd_steps}
 use Rattle.heyvl_num.specs.Rational.{Rational, ratio, zeroʳ, negʳ, ◌+ʳ◌, ◌-ʳ◌}
 use Rattle.heyvl_num.specs.Rounding.{whole}
 use Rattle.linear_form.specs.Lin.{fits}
-use Rattle.linear_elim.specs.Picks.{past_place}
+use Rattle.linear_elim.specs.internal.Picks.{past_place}
 use Rattle.linear_elim.specs.declared.ends.Side.{Side}
 use Rattle.linear_elim.specs.declared.ends.Side.TheVariants.{Low, High}
 use Rattle.linear_elim.proofs.EndPlaces.{whole-one, whole-negative}

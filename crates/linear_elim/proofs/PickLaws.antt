@@ -9,16 +9,17 @@ use Rattle.heylo_formula.specs.declared.types.Ty.{Ty}
 use Rattle.heyvl_num.specs.Rational.{Rational, ratio, zeroʳ, oneʳ, halfʳ, middleʳ, leqʳ, ◌+ʳ◌, ◌-ʳ◌, ◌*ʳ◌, ◌≤ʳ◌, ◌<ʳ◌}
 use Rattle.heyvl_num.specs.Gcd.{gcd}
 use Rattle.heyvl_num.specs.GcdLaws.{quotient_den}
-use Rattle.heyvl_num.proofs.Integers.{*ℤ-one}
+use Rattle.heyvl_num.proofs.exported.Integers.{*ℤ-one}
 use Rattle.heyvl_num.specs.Rounding.{whole, IsFloor, IsCeiling}
-use Rattle.heyvl_num.proofs.Rationals.{ratio_parts, ratio_den, ratio_cross, +ʳ_comm, +ʳ-zero, ≤ʳ_refl, ≤ʳ_trans}
-use Rattle.heyvl_num.proofs.Signs.{<ʳ-not, middle_above, middle_below, ≤ʳ-+ʳ_cancel, -ʳ-+ʳ}
+use Rattle.heyvl_num.proofs.exported.Rationals.{ratio_parts, ratio_den, ratio_cross, +ʳ_comm, +ʳ-zero, ≤ʳ_refl, ≤ʳ_trans}
+use Rattle.heyvl_num.proofs.exported.Signs.{<ʳ-not, middle_above, middle_below, ≤ʳ-+ʳ_cancel, -ʳ-+ʳ}
 use Rattle.linear_form.specs.Lin.{fits}
 use Rattle.linear_form.specs.RowLists.{is_numeric}
-use Rattle.linear_form.specs.GreedyPoint.{End, Interval, IsInside, IsUpFrom, IsUpTo, IsWholeType, IsChoice, IsBroken}
+use Rattle.linear_form.specs.GreedyPoint.{End, Interval, IsInside, IsUpFrom, IsUpTo, IsChoice, IsBroken}
+use Rattle.linear_form.specs.Tightening.{is_integral}
 use Rattle.linear_form.specs.GreedyPoint.IsChoice.{zero as choose_zero, nearest_whole, low_end, high_end, middle_of_low, middle_of_high, past_low, past_high}
-use Rattle.linear_elim.specs.ChoiceSteps.{IsWithin, IsPast}
-use Rattle.linear_elim.specs.Picks.{sided, across, between, IsNearer, IsNextWhole, IsPicked, narrow_pick, broken_pick, past_place}
+use Rattle.linear_elim.specs.internal.ChoiceSteps.{IsWithin, IsPast}
+use Rattle.linear_elim.specs.internal.Picks.{sided, across, between, IsNearer, IsNextWhole, IsPicked, narrow_pick, broken_pick, past_place}
 use Rattle.linear_elim.specs.declared.ends.Side.{Side}
 use Rattle.linear_elim.specs.declared.ends.Side.TheVariants.{Low, High}
 use Rattle.linear_elim.specs.declared.picking.Pick.{Pick}
@@ -27,6 +28,7 @@ use Rattle.linear_elim.proofs.EndPlaces.{less_from, whole-zero, whole-one}
 use Rattle.linear_elim.proofs.Bounded.{<ʳ-≤ʳ-trans, ≤ʳ-<ʳ-trans, up_from_weak, up_to_weak, up_from_strong, up_to_strong}
 use Rattle.linear_elim.proofs.Intervals.{inside_past}
 use Rattle.linear_elim.proofs.Middles.{whole_mono, whole_mono_out, floor_small, ceil_small}
+use Rattle.linear_elim.proofs.Pasts.{zero_fits}
 
 pub not_less : (x y : Rational) → (x <ʳ y → ⊥) → y ≤ʳ x
 not_less x y n = record { holds = go (leqʳ y x) refl }
@@ -138,7 +140,7 @@ pub picked_value : (i : Interval) (ty : Ty) (v : Rational) (p : Pick) → p ≡ 
 picked_value i ty v p e h = subst (IsPicked i ty) (sym e) (go (fits v) refl)
   where
     go : (b : Bool) → fits v ≡ b → IsPicked i ty (cond b (Value v) Great)
-    go true k = h
+    go true k = (h.0, h.1, k)
     go false k = (v, h.0, k)
 
 -- ---- Whole numbers
@@ -166,7 +168,7 @@ nearer : (side : Side) (near : End) (n m : ℤ) → IsWithin side near (whole n)
 nearer Low near n m h o l = let k = above_zero near n h o in omega (arith, ints, k, l)
 nearer High near n m h o l = let k = below_zero near n h o in omega (arith, ints, k, l)
 
-pub whole_taken : (side : Side) (near : End) (far : Option End) (n : ℤ) (ty : Ty) → IsNextWhole side near n → IsWholeType ty → (IsWithin side near zeroʳ → ⊥) → IsPast (across side) far (whole n) → Chosen (sided side near far) ty (whole n)
+pub whole_taken : (side : Side) (near : End) (far : Option End) (n : ℤ) (ty : Ty) → IsNextWhole side near n → (is_integral ty ≡ true) → (IsWithin side near zeroʳ → ⊥) → IsPast (across side) far (whole n) → Chosen (sided side near far) ty (whole n)
 whole_taken side near far n ty h t o p =
     let i = (sided_past side near far (whole n)).1 (h.within, p) in
     (nearest_whole ty (whole n) (zero_out side near far o) t (record { whole = whole_den n }) i (λ w ww wi. subst (λ z. unsigned_abs z ≤ unsigned_abs w.num) (sym (whole_num n)) (nearer side near n w.num h.within o (h.nearest w.num (subst (IsWithin side near) (sym (whole_back w ww.whole)) ((sided_past side near far w).0 wi).0)))), i)
@@ -175,10 +177,10 @@ further : (side : Side) (f : End) (n m : ℤ) → IsNearer side n m → IsWithin
 further Low f n m l h = down_further f (whole n) (whole m) h (whole_mono n m l)
 further High f n m l h = up_further f (whole m) (whole n) h (whole_mono m n l)
 
-whole_broken : (side : Side) (near f : End) (n : ℤ) (ty : Ty) → IsNextWhole side near n → IsWholeType ty → (IsWithin (across side) f (whole n) → ⊥) → IsBroken (sided side near (Some f)) ty
+whole_broken : (side : Side) (near f : End) (n : ℤ) (ty : Ty) → IsNextWhole side near n → (is_integral ty ≡ true) → (IsWithin (across side) f (whole n) → ⊥) → IsBroken (sided side near (Some f)) ty
 whole_broken side near f n ty h t o = record { whole_type = t; none_whole = λ v i w. let k = (sided_past side near (Some f) v).0 i in let e = whole_back v w.whole in o (further side f n v.num (h.nearest v.num (subst (IsWithin side near) (sym e) k.0)) (subst (IsWithin (across side) f) (sym e) k.1)) }
 
-pub whole_breaks : (side : Side) (near f : End) (n : ℤ) (ty : Ty) → IsNextWhole side near n → IsWholeType ty → (IsWithin (across side) f (whole n) → ⊥) → IsPicked (sided side near (Some f)) ty (broken_pick side near f)
+pub whole_breaks : (side : Side) (near f : End) (n : ℤ) (ty : Ty) → IsNextWhole side near n → (is_integral ty ≡ true) → (IsWithin (across side) f (whole n) → ⊥) → IsPicked (sided side near (Some f)) ty (broken_pick side near f)
 whole_breaks Low near f n ty h t o = (whole_broken Low near f n ty h t o, refl, refl)
 whole_breaks High near f n ty h t o = (whole_broken High near f n ty h t o, refl, refl)
 
@@ -258,7 +260,7 @@ picked_middle side near far f v p e h k m n w i = picked_value (sided side near 
 pub picked_past : (side : Side) (near : End) (far : Option End) (v : Rational) (p : Pick) → far ≡ None → v ≡ past_place side near.place → near.inside ≡ false → p ≡ narrow_pick v → (IsWithin side near zeroʳ → ⊥) → IsPicked (sided side near far) Ty.UReal p
 picked_past side near far v p e h k m n = picked_value (sided side near far) Ty.UReal v p m (subst (λ o. Chosen (sided side near o) Ty.UReal v) (sym e) (subst (Chosen (sided side near None) Ty.UReal) (sym h) (real_past side near k n)))
 
-pub picked_broken : (side : Side) (near : End) (far : Option End) (f : End) (n : ℤ) (v : Rational) (s : Side) (b : Bool) (p : Pick) → far ≡ Some f → v ≡ whole n → s ≡ across side → (IsTrue b ↔ IsWithin s f v) → b ≡ false → p ≡ broken_pick side near f → IsNextWhole side near n → (ty : Ty) → IsWholeType ty → IsPicked (sided side near far) ty p
+pub picked_broken : (side : Side) (near : End) (far : Option End) (f : End) (n : ℤ) (v : Rational) (s : Side) (b : Bool) (p : Pick) → far ≡ Some f → v ≡ whole n → s ≡ across side → (IsTrue b ↔ IsWithin s f v) → b ≡ false → p ≡ broken_pick side near f → IsNextWhole side near n → (ty : Ty) → (is_integral ty ≡ true) → IsPicked (sided side near far) ty p
 picked_broken side near far f n v s b p e h k m l q x ty t = subst (IsPicked (sided side near far) ty) (sym q) (subst (λ o. IsPicked (sided side near o) ty (broken_pick side near f)) (sym e) (whole_breaks side near f n ty x t (λ w. absurd (let y = m.1 (subst (λ z. IsWithin z f v) (sym k) (subst (IsWithin (across side) f) (sym h) w)) in cc))))
 
 pub past_some : (side : Side) (far : Option End) (f : End) (v : Rational) (s : Side) (b : Bool) → far ≡ Some f → s ≡ across side → (IsTrue b ↔ IsWithin s f v) → b ≡ true → IsPast (across side) far v
@@ -267,11 +269,11 @@ past_some side far f v s b e k m l = subst (λ o. IsPast (across side) o v) (sym
 pub past_none : (side : Side) (far : Option End) (v : Rational) → far ≡ None → IsPast (across side) far v
 past_none side far v e = subst (λ o. IsPast (across side) o v) (sym e) tt
 
-pub picked_whole : (side : Side) (near : End) (far : Option End) (n : ℤ) (v : Rational) (p : Pick) → v ≡ whole n → IsPast (across side) far v → p ≡ narrow_pick v → IsNextWhole side near n → (ty : Ty) → IsWholeType ty → (IsWithin side near zeroʳ → ⊥) → IsPicked (sided side near far) ty p
+pub picked_whole : (side : Side) (near : End) (far : Option End) (n : ℤ) (v : Rational) (p : Pick) → v ≡ whole n → IsPast (across side) far v → p ≡ narrow_pick v → IsNextWhole side near n → (ty : Ty) → (is_integral ty ≡ true) → (IsWithin side near zeroʳ → ⊥) → IsPicked (sided side near far) ty p
 picked_whole side near far n v p e h q x ty t o = picked_value (sided side near far) ty v p q (subst (Chosen (sided side near far) ty) (sym e) (whole_taken side near far n ty x t o (subst (IsPast (across side) far) e h)))
 
 pub taken_out : (side : Side) (end far : Option End) (near : End) (ty : Ty) (p : Pick) (z : Rational) (b : Bool) → end ≡ Some near → (is_numeric ty ≡ true → (IsWithin side near zeroʳ → ⊥) → (w : Rational) → IsInside (sided side near far) w → IsPicked (sided side near far) ty p) → (IsTrue b ↔ IsWithin side near z) → z ≡ zeroʳ → b ≡ false → is_numeric ty ≡ true → (w : Rational) → IsInside (between side end far) w → IsPicked (between side end far) ty p
 taken_out side end far near ty p z b e f k m n q w i = subst (λ o. IsPicked (between side o far) ty p) (sym e) (f q (λ y. absurd (let l = k.1 (subst (IsWithin side near) (sym m) y) in cc)) w (subst (λ o. IsInside (between side o far) w) e i))
 
 pub zero_taken : (low high : Option End) (ty : Ty) (z : Rational) → z ≡ zeroʳ → IsPast Low low zeroʳ → IsPast High high zeroʳ → IsPicked (between Low low high) ty (Value z)
-zero_taken low high ty z e l h = let i = (inside_past (between Low low high) zeroʳ).1 (l, h) in subst (λ v. IsPicked (between Low low high) ty (Value v)) (sym e) (choose_zero ty i, i)
+zero_taken low high ty z e l h = let i = (inside_past (between Low low high) zeroʳ).1 (l, h) in subst (λ v. IsPicked (between Low low high) ty (Value v)) (sym e) (choose_zero ty i, i, zero_fits)

@@ -7,13 +7,13 @@ use borrow.Author.Differences.{ints}
 use Prim.Native.Nat.{◌∣◌}
 use Rattle.std.specs.List.{All}
 use Rattle.std.proofs.lemmas.List.Elements.{All-nil, All-head, All-tail, All-append, All-filter, All-map, filter_passes}
-use Rattle.heyvl_num.proofs.Integers.{ring, ring_neg, ≤ℤ-cancel}
+use Rattle.heyvl_num.proofs.exported.Integers.{ring, ring_neg, ≤ℤ-cancel}
 use Rattle.heyvl_num.specs.Value.{is_zero_num}
 use Rattle.linear_form.specs.Terms.{coefficient, is_in, IsNormal, IsOver, add_terms}
 use Rattle.linear_form.specs.Row.{Row}
-use Rattle.linear_form.proofs.Between.{All-both}
-use Rattle.linear_form.proofs.Moves.{coefficient-is, coefficient-add, only}
-use Rattle.linear_form.proofs.Normal.{add-normal, add-all, fewer}
+use Rattle.linear_form.proofs.exported.Between.{All-both}
+use Rattle.linear_form.proofs.exported.Moves.{coefficient-is, coefficient-add, only}
+use Rattle.linear_form.proofs.exported.Normal.{add-normal, add-all, fewer}
 use Rattle.linear_form.specs.Divisors.{common}
 use Rattle.linear_elim.specs.Joins.{mixed_row, Derived, size, join, joined_row, lowest, row_divisor}
 use Rattle.linear_elim.specs.Steps.{lowers, uppers, kept, pairs, eliminate_one}

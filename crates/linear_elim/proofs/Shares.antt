@@ -8,47 +8,47 @@ use Rattle.std.proofs.Math.Nat.{mul-pos}
 use Rattle.std.proofs.lemmas.Bool.{eqb-true}
 use Rattle.std.specs.List.{All}
 use Rattle.std.proofs.lemmas.List.Elements.{All-nil, All-cons, All-head, All-tail}
-use Rattle.heyvl_num.proofs.Integers.{ring}
+use Rattle.heyvl_num.proofs.exported.Integers.{ring}
 use Rattle.linear_form.specs.Terms.{sum_at, IsNormal, put_term, add_term, add_terms}
 use Rattle.linear_form.specs.Row.{Row}
 use Rattle.linear_form.specs.Combination.{row_at}
-use Rattle.linear_form.proofs.Sums.{sum_at-nil, sum_at-add}
-use Rattle.linear_form.proofs.Normal.{add-normal, add-all}
+use Rattle.linear_form.proofs.exported.Sums.{sum_at-nil, sum_at-add}
+use Rattle.linear_form.proofs.exported.Normal.{add-normal, add-all}
 use Rattle.linear_form.specs.Divisors.{common, divisor, divided_terms}
-use Rattle.linear_elim.specs.Joins.{is_positive, row_divisor, lowest, size, mixed_row, mixed_shares, joined_row, joined_shares, joined_over, share_divisor, join, any_at, Derived, Follows}
+use Rattle.linear_elim.specs.Joins.{is_above_zero, row_divisor, lowest, size, mixed_row, mixed_shares, joined_row, joined_shares, joined_over, share_divisor, join, any_at, Derived, Follows}
 use Rattle.linear_elim.proofs.Lowest.{lowest-is, sum_at-divided, times_back, or_one-divides, common-divides, or_one-positive, DividesAll}
 use Rattle.linear_elim.proofs.Shapes.{cancel, divided-normal, divided-all}
 
 abbrev pub ArePositive : List (ℕ × ℤ) → Type 0
-ArePositive ts = All (λ s. is_positive s.1 ≡ true) ts
+ArePositive ts = All (λ s. is_above_zero s.1 ≡ true) ts
 
-positive_from : (z : ℤ) → pos 0 <ℤ z → is_positive z ≡ true
+positive_from : (z : ℤ) → pos 0 <ℤ z → is_above_zero z ≡ true
 positive_from (pos zero) h = absurd (omega (arith, ints, h))
 positive_from (pos (suc n)) h = refl
 positive_from (negsuc n) h = absurd (omega (arith, ints, h))
 
-pub positive_out : (z : ℤ) → is_positive z ≡ true → pos 0 <ℤ z
+pub positive_out : (z : ℤ) → is_above_zero z ≡ true → pos 0 <ℤ z
 positive_out (pos zero) e = absurd (cc)
 positive_out (pos (suc n)) e = omega (arith, ints)
 positive_out (negsuc n) e = absurd (cc)
 
-positive_sum : (a b : ℤ) → is_positive a ≡ true → is_positive b ≡ true → is_positive (a +ℤ b) ≡ true
+positive_sum : (a b : ℤ) → is_above_zero a ≡ true → is_above_zero b ≡ true → is_above_zero (a +ℤ b) ≡ true
 positive_sum a b p q = let h = positive_out a p in let k = positive_out b q in positive_from (a +ℤ b) (omega (arith, ints, h, k))
 
-positive_product : (k : ℕ) (a : ℤ) → 0 < k → is_positive a ≡ true → is_positive (pos k *ℤ a) ≡ true
+positive_product : (k : ℕ) (a : ℤ) → 0 < k → is_above_zero a ≡ true → is_above_zero (pos k *ℤ a) ≡ true
 positive_product k (pos zero) h p = absurd (cc)
 positive_product k (pos (suc n)) h p = let m : 0 < k * suc n = mul-pos h (omega arith) in positive_from (pos k *ℤ pos (suc n)) (omega (arith, ints, m))
 positive_product k (negsuc n) h p = absurd (cc)
 
-any_at-put : (f : ℕ → Bool) (v : ℕ) (c : ℤ) (ts : List (ℕ × ℤ)) → is_positive c ≡ true → any_at f (put_term v c ts) ≡ (f v || any_at f ts)
+any_at-put : (f : ℕ → Bool) (v : ℕ) (c : ℤ) (ts : List (ℕ × ℤ)) → is_above_zero c ≡ true → any_at f (put_term v c ts) ≡ (f v || any_at f ts)
 unfolding any_at
 any_at-put f v (pos zero) ts p = absurd (cc)
 any_at-put f v (pos (suc n)) ts p = refl
 any_at-put f v (negsuc n) ts p = absurd (cc)
 
-put-positive : (v : ℕ) (c : ℤ) (ts : List (ℕ × ℤ)) → is_positive c ≡ true → ArePositive ts → ArePositive (put_term v c ts)
+put-positive : (v : ℕ) (c : ℤ) (ts : List (ℕ × ℤ)) → is_above_zero c ≡ true → ArePositive ts → ArePositive (put_term v c ts)
 put-positive v (pos zero) ts p h = absurd (cc)
-put-positive v (pos (suc n)) ts p h = All-cons (λ s. is_positive s.1 ≡ true) (v, pos (suc n)) ts p h
+put-positive v (pos (suc n)) ts p h = All-cons (λ s. is_above_zero s.1 ≡ true) (v, pos (suc n)) ts p h
 put-positive v (negsuc n) ts p h = absurd (cc)
 
 or_twice : (a b : Bool) → (a || b) ≡ (a || (a || b))
@@ -60,30 +60,30 @@ or_swap true true c = refl
 or_swap true false c = refl
 or_swap false b c = refl
 
-any_at-add_term : (f : ℕ → Bool) (v : ℕ) (c : ℤ) (ts : List (ℕ × ℤ)) → is_positive c ≡ true → ArePositive ts → any_at f (add_term v c ts) ≡ (f v || any_at f ts)
+any_at-add_term : (f : ℕ → Bool) (v : ℕ) (c : ℤ) (ts : List (ℕ × ℤ)) → is_above_zero c ≡ true → ArePositive ts → any_at f (add_term v c ts) ≡ (f v || any_at f ts)
 unfolding add_term any_at
 any_at-add_term f v c [] p h = any_at-put f v c [] p
-any_at-add_term f v c (t ∷ ts) p h = go (eqb v t.0) refl (ltb v t.0) (any_at-add_term f v c ts p (All-tail (λ s. is_positive s.1 ≡ true) t ts h))
+any_at-add_term f v c (t ∷ ts) p h = go (eqb v t.0) refl (ltb v t.0) (any_at-add_term f v c ts p (All-tail (λ s. is_above_zero s.1 ≡ true) t ts h))
   where
     go : (e : Bool) → eqb v t.0 ≡ e → (l : Bool) → any_at f (add_term v c ts) ≡ (f v || any_at f ts) → any_at f (cond e (put_term v (c +ℤ t.1) ts) (cond l (put_term v c (t ∷ ts)) (t ∷ add_term v c ts))) ≡ (f v || (f t.0 || any_at f ts))
-    go true e l ih = any_at-put f v (c +ℤ t.1) ts (positive_sum c t.1 p (All-head (λ s. is_positive s.1 ≡ true) t ts h)) ∙ or_twice (f v) (any_at f ts) ∙ ap (λ w. f v || (f w || any_at f ts)) (eqb-true v t.0 e)
+    go true e l ih = any_at-put f v (c +ℤ t.1) ts (positive_sum c t.1 p (All-head (λ s. is_above_zero s.1 ≡ true) t ts h)) ∙ or_twice (f v) (any_at f ts) ∙ ap (λ w. f v || (f w || any_at f ts)) (eqb-true v t.0 e)
     go false e true ih = any_at-put f v c (t ∷ ts) p
     go false e false ih = ap (λ b. f t.0 || b) ih ∙ or_swap (f t.0) (f v) (any_at f ts)
 
-add_term-positive : (v : ℕ) (c : ℤ) (ts : List (ℕ × ℤ)) → is_positive c ≡ true → ArePositive ts → ArePositive (add_term v c ts)
+add_term-positive : (v : ℕ) (c : ℤ) (ts : List (ℕ × ℤ)) → is_above_zero c ≡ true → ArePositive ts → ArePositive (add_term v c ts)
 unfolding add_term
 add_term-positive v c [] p h = put-positive v c [] p h
-add_term-positive v c (t ∷ ts) p h = go (eqb v t.0) (ltb v t.0) (add_term-positive v c ts p (All-tail (λ s. is_positive s.1 ≡ true) t ts h))
+add_term-positive v c (t ∷ ts) p h = go (eqb v t.0) (ltb v t.0) (add_term-positive v c ts p (All-tail (λ s. is_above_zero s.1 ≡ true) t ts h))
   where
     go : (e l : Bool) → ArePositive (add_term v c ts) → ArePositive (cond e (put_term v (c +ℤ t.1) ts) (cond l (put_term v c (t ∷ ts)) (t ∷ add_term v c ts)))
-    go true l ih = put-positive v (c +ℤ t.1) ts (positive_sum c t.1 p (All-head (λ s. is_positive s.1 ≡ true) t ts h)) (All-tail (λ s. is_positive s.1 ≡ true) t ts h)
+    go true l ih = put-positive v (c +ℤ t.1) ts (positive_sum c t.1 p (All-head (λ s. is_above_zero s.1 ≡ true) t ts h)) (All-tail (λ s. is_above_zero s.1 ≡ true) t ts h)
     go false true ih = put-positive v c (t ∷ ts) p h
-    go false false ih = All-cons (λ s. is_positive s.1 ≡ true) t (add_term v c ts) (All-head (λ s. is_positive s.1 ≡ true) t ts h) ih
+    go false false ih = All-cons (λ s. is_above_zero s.1 ≡ true) t (add_term v c ts) (All-head (λ s. is_above_zero s.1 ≡ true) t ts h) ih
 
 add-positive : (k : ℕ) (ts us : List (ℕ × ℤ)) → 0 < k → ArePositive ts → ArePositive us → ArePositive (add_terms (pos k) ts us)
 unfolding add_terms
 add-positive k [] us p h l = l
-add-positive k (t ∷ ts) us p h l = add_term-positive t.0 (pos k *ℤ t.1) (add_terms (pos k) ts us) (positive_product k t.1 p (All-head (λ s. is_positive s.1 ≡ true) t ts h)) (add-positive k ts us p (All-tail (λ s. is_positive s.1 ≡ true) t ts h) l)
+add-positive k (t ∷ ts) us p h l = add_term-positive t.0 (pos k *ℤ t.1) (add_terms (pos k) ts us) (positive_product k t.1 p (All-head (λ s. is_above_zero s.1 ≡ true) t ts h)) (add-positive k ts us p (All-tail (λ s. is_above_zero s.1 ≡ true) t ts h) l)
 
 or_assoc : (a b c : Bool) → (a || (b || c)) ≡ ((a || b) || c)
 or_assoc true b c = refl
@@ -93,26 +93,26 @@ any_at-add : (f : ℕ → Bool) (k : ℕ) (ts us : List (ℕ × ℤ)) → 0 < k 
 unfolding add_terms any_at
 any_at-add f k [] us p h l = refl
 any_at-add f k (t ∷ ts) us p h l =
-    let hs = All-tail (λ s. is_positive s.1 ≡ true) t ts h in
-    any_at-add_term f t.0 (pos k *ℤ t.1) (add_terms (pos k) ts us) (positive_product k t.1 p (All-head (λ s. is_positive s.1 ≡ true) t ts h)) (add-positive k ts us p hs l) ∙ ap (λ b. f t.0 || b) (any_at-add f k ts us p hs l) ∙ or_assoc (f t.0) (any_at f ts) (any_at f us)
+    let hs = All-tail (λ s. is_above_zero s.1 ≡ true) t ts h in
+    any_at-add_term f t.0 (pos k *ℤ t.1) (add_terms (pos k) ts us) (positive_product k t.1 p (All-head (λ s. is_above_zero s.1 ≡ true) t ts h)) (add-positive k ts us p hs l) ∙ ap (λ b. f t.0 || b) (any_at-add f k ts us p hs l) ∙ or_assoc (f t.0) (any_at f ts) (any_at f us)
 
 any_at-divided : (f : ℕ → Bool) (g : ℕ) (ts : List (ℕ × ℤ)) → any_at f (divided_terms g ts) ≡ any_at f ts
 unfolding any_at
 any_at-divided f g [] = refl
 any_at-divided f g (t ∷ ts) = ap (λ b. f t.0 || b) (any_at-divided f g ts)
 
-divided_positive : (g : ℕ) (c : ℤ) → g ∣ unsigned_abs c → is_positive c ≡ true → is_positive (int_div c (pos g)) ≡ true
+divided_positive : (g : ℕ) (c : ℤ) → g ∣ unsigned_abs c → is_above_zero c ≡ true → is_above_zero (int_div c (pos g)) ≡ true
 divided_positive g (pos zero) d p = absurd (cc)
 divided_positive g (pos (suc n)) d p = go (suc n / g) (times_back g (suc n) d)
   where
-    go : (q : ℕ) → g * q ≡ suc n → is_positive (pos q) ≡ true
+    go : (q : ℕ) → g * q ≡ suc n → is_above_zero (pos q) ≡ true
     go zero e = absurd (omega (arith, e))
     go (suc q) e = refl
 divided_positive g (negsuc n) d p = absurd (cc)
 
 divided-positive : (g : ℕ) (ts : List (ℕ × ℤ)) → All (λ t. g ∣ unsigned_abs t.1) ts → ArePositive ts → ArePositive (divided_terms g ts)
 divided-positive g [] d h = All-nil _
-divided-positive g (t ∷ ts) d h = All-cons (λ s. is_positive s.1 ≡ true) (t.0, int_div t.1 (pos g)) (divided_terms g ts) (divided_positive g t.1 (All-head (λ t. g ∣ unsigned_abs t.1) t ts d) (All-head (λ s. is_positive s.1 ≡ true) t ts h)) (divided-positive g ts (All-tail (λ t. g ∣ unsigned_abs t.1) t ts d) (All-tail (λ s. is_positive s.1 ≡ true) t ts h))
+divided-positive g (t ∷ ts) d h = All-cons (λ s. is_above_zero s.1 ≡ true) (t.0, int_div t.1 (pos g)) (divided_terms g ts) (divided_positive g t.1 (All-head (λ t. g ∣ unsigned_abs t.1) t ts d) (All-head (λ s. is_above_zero s.1 ≡ true) t ts h)) (divided-positive g ts (All-tail (λ t. g ∣ unsigned_abs t.1) t ts d) (All-tail (λ s. is_above_zero s.1 ≡ true) t ts h))
 
 pub quotient_positive : (h o : ℕ) → h ∣ o → 0 < o → 0 < o / h
 quotient_positive h o d p = go (o / h) (times_back h o d)

@@ -7,15 +7,15 @@ use borrow.Author.Differences.{ints}
 use Prim.Native.Nat.{zero, suc}
 use Rattle.std.specs.List.{All}
 use Rattle.std.proofs.lemmas.List.Elements.{All-nil, All-cons, All-head, All-tail, All-weaker, All-append, All-filter, All-map, filter_passes}
-use Rattle.heyvl_num.proofs.Integers.{ring, ring_neg}
+use Rattle.heyvl_num.proofs.exported.Integers.{ring, ring_neg}
 use Rattle.heyvl_num.specs.Value.{is_zero_num}
 use Rattle.linear_form.specs.Terms.{sum_at, coefficient, add_terms}
 use Rattle.linear_form.specs.Row.{Row}
 use Rattle.linear_form.specs.Points.{Point, IsBelow, Meets, left_side, AgreesBut}
-use Rattle.linear_form.proofs.Sums.{sum_at-nil, sum_at-add}
-use Rattle.linear_form.proofs.Between.{below-scale, below-cancel, below-same, below-both, All-both, Shift, between}
-use Rattle.linear_form.proofs.Moves.{moved, left_side-moved, agrees-moved}
-use Rattle.linear_elim.specs.Joins.{is_negative, is_positive, mixed_row, Derived, size, join, joined_row, lowest, row_divisor}
+use Rattle.linear_form.proofs.exported.Sums.{sum_at-nil, sum_at-add}
+use Rattle.linear_form.proofs.exported.Between.{below-scale, below-cancel, below-same, below-both, All-both, Shift, between}
+use Rattle.linear_form.proofs.exported.Moves.{moved, left_side-moved, agrees-moved}
+use Rattle.linear_elim.specs.Joins.{is_below_zero, is_above_zero, mixed_row, Derived, size, join, joined_row, lowest, row_divisor}
 use Rattle.linear_elim.specs.Steps.{lowers, uppers, kept, pairs, eliminate_one}
 use Rattle.linear_elim.proofs.Lowest.{lowest-is, left_side-times}
 
@@ -26,11 +26,11 @@ pub left_side-mixed : (w : Point) (p : ℕ) (r : Row) (q : ℕ) (s : Row) → le
 unfolding mixed_row
 left_side-mixed w p r q s = rw (sum_at-add w.top (pos p) r.terms (add_terms (pos q) s.terms []), sum_at-add w.top (pos q) s.terms [], sum_at-nil w.top) (row_step (pos p) (pos q) (sum_at w.top r.terms) (sum_at w.top s.terms) r.rest s.rest (pos w.below))
 
-pub neg_abs : (c : ℤ) → is_negative c ≡ true → (0 < unsigned_abs c) × (c ≡ neg_ℤ (pos (unsigned_abs c)))
+pub neg_abs : (c : ℤ) → is_below_zero c ≡ true → (0 < unsigned_abs c) × (c ≡ neg_ℤ (pos (unsigned_abs c)))
 neg_abs (pos n) e = absurd (cc)
 neg_abs (negsuc n) e = (omega arith, omega (arith, ints))
 
-pub pos_abs : (c : ℤ) → is_positive c ≡ true → (0 < unsigned_abs c) × (c ≡ pos (unsigned_abs c))
+pub pos_abs : (c : ℤ) → is_above_zero c ≡ true → (0 < unsigned_abs c) × (c ≡ pos (unsigned_abs c))
 pos_abs (pos zero) e = absurd (cc)
 pos_abs (pos (suc n)) e = (omega arith, refl)
 pos_abs (negsuc n) e = absurd (cc)
@@ -44,10 +44,10 @@ abbrev pub MeetsIn : Point → Derived → Type 0
 MeetsIn w r = Meets w r.row
 
 abbrev pub IsLower : ℕ → Derived → Type 0
-IsLower x r = is_negative (coefficient x r.row.terms) ≡ true
+IsLower x r = is_below_zero (coefficient x r.row.terms) ≡ true
 
 abbrev pub IsUpper : ℕ → Derived → Type 0
-IsUpper x r = is_positive (coefficient x r.row.terms) ≡ true
+IsUpper x r = is_above_zero (coefficient x r.row.terms) ≡ true
 
 joined-strict : (x : ℕ) (l u : Derived) → (join x l u).row.strict ≡ (l.row.strict || u.row.strict)
 unfolding join lowest mixed_row
@@ -99,7 +99,7 @@ pub by_sign : (P : Derived → Type 0) (x : ℕ) (rows : List Derived) → All P
 by_sign P x [] k l u = All-nil P
 by_sign P x (r ∷ rows) k l u = go (by_sign P x rows) (coefficient x r.row.terms) k l u
   where
-    go : (All P (kept x rows) → All P (lowers x rows) → All P (uppers x rows) → All P rows) → (c : ℤ) → All P (cond (is_zero_num c) (r ∷ kept x rows) (kept x rows)) → All P (cond (is_negative c) (r ∷ lowers x rows) (lowers x rows)) → All P (cond (is_positive c) (r ∷ uppers x rows) (uppers x rows)) → All P (r ∷ rows)
+    go : (All P (kept x rows) → All P (lowers x rows) → All P (uppers x rows) → All P rows) → (c : ℤ) → All P (cond (is_zero_num c) (r ∷ kept x rows) (kept x rows)) → All P (cond (is_below_zero c) (r ∷ lowers x rows) (lowers x rows)) → All P (cond (is_above_zero c) (r ∷ uppers x rows) (uppers x rows)) → All P (r ∷ rows)
     go ih (pos zero) k l u = All-cons P r rows (All-head P r (kept x rows) k) (ih (All-tail P r (kept x rows) k) l u)
     go ih (pos (suc n)) k l u = All-cons P r rows (All-head P r (uppers x rows) u) (ih k l (All-tail P r (uppers x rows) u))
     go ih (negsuc n) k l u = All-cons P r rows (All-head P r (lowers x rows) l) (ih k (All-tail P r (lowers x rows) l) u)
@@ -123,8 +123,8 @@ pub step-complete : (x : ℕ) (w : Point) (rows : List Derived) → All (MeetsIn
 step-complete x w rows h =
     let rest = all_append-left (MeetsIn w) (kept x rows) (pairs x (lowers x rows) (uppers x rows)) h in
     let joined = pairs-out (MeetsIn w) x (lowers x rows) (uppers x rows) (all_append-right (MeetsIn w) (kept x rows) (pairs x (lowers x rows) (uppers x rows)) h) in
-    let low = filter_passes (λ r. is_negative (coefficient x r.row.terms)) rows in
-    let high = filter_passes (λ r. is_positive (coefficient x r.row.terms)) rows in
+    let low = filter_passes (λ r. is_below_zero (coefficient x r.row.terms)) rows in
+    let high = filter_passes (λ r. is_above_zero (coefficient x r.row.terms)) rows in
     finish rest low high (between (size x) (λ r. left_side w r.row) (λ r. r.row.strict) (lowers x rows) (uppers x rows)
     (All-weaker (IsLower x) (λ r. 0 < size x r) (λ r p. (neg_abs _ p).0) (lowers x rows) low)
     (All-weaker (IsUpper x) (λ r. 0 < size x r) (λ r p. (pos_abs _ p).0) (uppers x rows) high)

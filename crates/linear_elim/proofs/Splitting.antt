@@ -7,7 +7,7 @@ use Rattle.std.specs.Int.Signed.{lt_z}
 use Prim.Native.Nat.{zero, suc}
 use Rattle.heyvl_num.specs.Value.{is_zero_num}
 use Rattle.linear_form.specs.Terms.{coefficient}
-use Rattle.linear_elim.specs.Joins.{Derived, is_negative, is_positive}
+use Rattle.linear_elim.specs.Joins.{Derived, is_below_zero, is_above_zero}
 use Rattle.linear_elim.specs.Steps.{lowers, uppers, kept}
 use Rattle.linear_elim.specs.Elimination.{found_after, rows_after, found_all, rows_all}
 use Rattle.linear_elim.proofs.Joining.{found-append, rows-append}
@@ -29,8 +29,8 @@ filter_no p (x ∷ xs) r e = go (p x) (filter_no p xs r e)
     go false h = h
 
 pub record Signs (C : ℤ) (n p z : Bool) : Type 0 where
-  pub negative : is_negative C ≡ n
-  pub positive : is_positive C ≡ p
+  pub negative : is_below_zero C ≡ n
+  pub positive : is_above_zero C ≡ p
   pub nothing : is_zero_num C ≡ z
 
 below : (C : ℤ) → lt_z C (pos 0) ≡ true → Signs C true false false
@@ -57,16 +57,16 @@ pub signs_none : (x : ℕ) (r : Derived) (c : ℤ) → c ≡ coefficient x r.row
 signs_none x r c e h k = level _ (subst (λ z. lt_z z (pos 0) ≡ false) e h) (subst (λ z. lt_z (pos 0) z ≡ false) e k)
 
 pub low_yes : (x : ℕ) (xs : List Derived) (r : Derived) {p z : Bool} → Signs (coefficient x r.row.terms) true p z → lowers x (xs ++ r ∷ []) ≡ lowers x xs ++ r ∷ []
-low_yes x xs r s = filter_yes (λ r. is_negative (coefficient x r.row.terms)) xs r s.negative
+low_yes x xs r s = filter_yes (λ r. is_below_zero (coefficient x r.row.terms)) xs r s.negative
 
 pub low_no : (x : ℕ) (xs : List Derived) (r : Derived) {p z : Bool} → Signs (coefficient x r.row.terms) false p z → lowers x (xs ++ r ∷ []) ≡ lowers x xs
-low_no x xs r s = filter_no (λ r. is_negative (coefficient x r.row.terms)) xs r s.negative
+low_no x xs r s = filter_no (λ r. is_below_zero (coefficient x r.row.terms)) xs r s.negative
 
 pub up_yes : (x : ℕ) (xs : List Derived) (r : Derived) {n z : Bool} → Signs (coefficient x r.row.terms) n true z → uppers x (xs ++ r ∷ []) ≡ uppers x xs ++ r ∷ []
-up_yes x xs r s = filter_yes (λ r. is_positive (coefficient x r.row.terms)) xs r s.positive
+up_yes x xs r s = filter_yes (λ r. is_above_zero (coefficient x r.row.terms)) xs r s.positive
 
 pub up_no : (x : ℕ) (xs : List Derived) (r : Derived) {n z : Bool} → Signs (coefficient x r.row.terms) n false z → uppers x (xs ++ r ∷ []) ≡ uppers x xs
-up_no x xs r s = filter_no (λ r. is_positive (coefficient x r.row.terms)) xs r s.positive
+up_no x xs r s = filter_no (λ r. is_above_zero (coefficient x r.row.terms)) xs r s.positive
 
 pub kept_no : (x : ℕ) (xs : List Derived) (r : Derived) {n p : Bool} → Signs (coefficient x r.row.terms) n p false → kept x (xs ++ r ∷ []) ≡ kept x xs
 kept_no x xs r s = filter_no (λ r. is_zero_num (coefficient x r.row.terms)) xs r s.nothing

@@ -9,7 +9,7 @@ use Rattle.linear_elim.specs.Joins.{Derived, IsDerived}
 use Rattle.linear_elim.specs.Steps.{eliminate_one, tidied, contradiction, step_fits}
 use Rattle.linear_elim.specs.Elimination.{Step, step_of, gathered, after_step, ended_by, unless_many, run, start, elimination}
 use Rattle.linear_elim.specs.Elimination.Outcome.{standing, too_many, too_great}
-use Rattle.linear_elim.specs.Picks.{IsDerivedStep}
+use Rattle.linear_elim.specs.internal.Picks.{IsDerivedStep}
 use Rattle.linear_elim.proofs.Deciding.{after-standing}
 use Rattle.linear_elim.proofs.Keeping.{step-derived}
 use Rattle.linear_elim.proofs.FirstRows.{first-derived}

@@ -7,13 +7,13 @@ use Rattle.std.specs.Int.Signed.{lt_z}
 use Rattle.std.proofs.lemmas.Bool.{eqb-true}
 use Rattle.std.specs.List.{All, filter}
 use Rattle.std.proofs.lemmas.List.Elements.{All-nil, All-cons, All-head, All-tail, All-filter}
-use Rattle.heyvl_num.proofs.Integers.{≤ℤ-cancel}
+use Rattle.heyvl_num.proofs.exported.Integers.{≤ℤ-cancel}
 use Rattle.heyvl_num.specs.Value.{is_zero_num}
 use Rattle.linear_form.specs.Terms.{sum_at}
 use Rattle.linear_form.specs.Row.{Row}
 use Rattle.linear_form.specs.Points.{Point, IsBelow, Meets}
-use Rattle.linear_form.proofs.Sums.{sum_at-nil}
-use Rattle.linear_form.proofs.Between.{below-weak, below-strong, below-same}
+use Rattle.linear_form.proofs.exported.Sums.{sum_at-nil}
+use Rattle.linear_form.proofs.exported.Between.{below-weak, below-strong, below-same}
 use Rattle.linear_elim.specs.Joins.{Derived}
 use Rattle.linear_elim.specs.Steps.{same_number, same_terms, is_stronger, put_row, strongest, has_terms, tidied, is_contradiction, contradiction}
 use Rattle.linear_elim.proofs.Solutions.{MeetsIn}

@@ -1,10 +1,12 @@
 -- What each answer of the elimination says of the rows.
-use Rattle.std.specs.Prelude.{◌≡◌, ℕ, List, map, length, Some}
+use Rattle.std.specs.Prelude.{◌≡◌, ℕ, List, map, length, true, Some}
 use Rattle.std.specs.List.{All}
-use Rattle.heyvl_num.specs.Rational.{Rational}
+use Rattle.heyvl_num.specs.Rational.{Rational, ◌≤ʳ◌}
 use Rattle.heylo_formula.specs.State.{environment, number_of}
 use Rattle.heylo_formula.specs.declared.types.Ty.{Ty}
 use Rattle.heylo_formula.specs.declared.values.Val.{Val}
+use Rattle.heylo_formula.specs.declared.values.Val.TheVariants.{Num}
+use Rattle.linear_form.specs.Lin.{fits}
 use Rattle.linear_form.specs.Terms.{coefficient, IsOver}
 use Rattle.linear_form.specs.Row.{Row, IsRow}
 use Rattle.linear_form.specs.RowLists.{IsNumericRow}
@@ -28,18 +30,25 @@ eliminated rows vars = elimination (order_of rows (length vars)) rows
 abbrev pub MeetsAll : List Val → List Row → Type 0
 MeetsAll point rows = All (MeetsAt (λ x. number_of (environment point x))) rows
 
--- Values as numbers.
-abbrev pub numbers_of : List (ℕ × Val) → List (ℕ × Rational)
-numbers_of cs = map (λ c. (c.0, number_of c.1)) cs
+-- Each number's numerator and denominator are below 2^62 in absolute value.
+abbrev pub AreNarrow : List Val → Type 0
+AreNarrow point = All (λ v. fits (number_of v) ≡ true) point
+
+-- Chosen numbers as values: each is a number, as its variable's type wants it.
+abbrev pub values_of : List (ℕ × Rational) → List (ℕ × Val)
+values_of chosen = map (λ c. (c.0, Num c.1)) chosen
 
 -- The two ends at which the choice breaks.
 abbrev pub ends_of : Broken → Interval
 ends_of b = record { low = Some (record { place = b.low; inside = b.low_in }); high = Some (record { place = b.high; inside = b.high_in }) }
 
--- The greedy choice breaks at this variable, with these values chosen before and these ends.
+-- The greedy choice breaks at this variable, with these values chosen before and these ends, of which the lower comes first.
 pub record IsBreak (rows : List Row) (vars : List Ty) (b : Broken) : Type 0 where
   pub solvable : IsSolvable rows
-  pub choice : ChoosesFrom rows vars (Greedy.broke b.var (numbers_of b.earlier.items) (ends_of b))
+  pub chosen : List (ℕ × Rational)
+  pub choice : ChoosesFrom rows vars (Greedy.broke b.var chosen (ends_of b))
+  pub earlier : b.earlier.items ≡ values_of chosen
+  pub ordered : b.low ≤ʳ b.high
 
 -- No partial sum of the combination reaches 2^126.
 pub record IsWide (ms : List (ℕ × ℕ)) (rows : List Row) : Type 0 where
@@ -56,7 +65,7 @@ pub data IsTooGreat (rows : List Row) (vars : List Ty) : Type 0 where
 -- What an answer says.
 abbrev pub IsAnswer : List Row → List Ty → Elim → Type 0
 IsAnswer rows vars (NoSolution ms) = IsContradiction ms.items rows
-IsAnswer rows vars (Point point) = IsGreedyPoint rows vars point.items × MeetsAll point.items rows
+IsAnswer rows vars (Point point) = IsGreedyPoint rows vars point.items × MeetsAll point.items rows × AreNarrow point.items
 IsAnswer rows vars (Fraction b) = IsBreak rows vars b
 IsAnswer rows vars (Rows steps count) = eliminated rows vars ≡ plain.Outcome.too_many steps count
 IsAnswer rows vars Bits = IsTooGreat rows vars

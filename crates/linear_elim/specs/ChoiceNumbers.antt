@@ -8,7 +8,8 @@ use Rattle.heyvl_num.specs.Exact.{exact_quotient, exact_sum, exact_product}
 use Rattle.linear_form.specs.Lin.{fits}
 use Rattle.linear_form.specs.Terms.{coefficient}
 use Rattle.linear_form.specs.Row.{Row}
-use Rattle.linear_form.specs.GreedyPoint.{Interval, IsIntervalOf, IsChoice, Greedy, Chooses, type_at, chosen_value}
+use Rattle.linear_form.specs.GreedyPoint.{Interval, IsIntervalOf, IsChoice, Greedy, Chooses, chosen_value}
+use Rattle.heylo_formula.specs.Typing.{types_in}
 use Rattle.linear_elim.specs.Elimination.{Step}
 
 -- A sum, and a product that is added to it. None where there is none, or the sum doesn't fit.
@@ -41,7 +42,7 @@ end_fits (Some p) = fits p
 -- that the variable takes.
 pub data IsNextTooGreat (rows : List Row) (vars : List Ty) (s : Step) (chosen : List (ℕ × Rational)) : Type 0 where
   in_an_end : list_any (λ r. not (end_fits (end_of s.var chosen r.row))) (s.lows ++ s.ups) ≡ true → IsNextTooGreat rows vars s chosen
-  in_a_value : (i : Interval) (v : Rational) → IsIntervalOf rows chosen s.var i → IsChoice i (type_at vars s.var) v → fits v ≡ false → IsNextTooGreat rows vars s chosen
+  in_a_value : (i : Interval) (v : Rational) → IsIntervalOf rows chosen s.var i → IsChoice i (types_in vars s.var) v → fits v ≡ false → IsNextTooGreat rows vars s chosen
 
 -- The choice takes the steps from the last on, and a number of one of them is too great.
 pub record IsChoiceTooGreat (rows : List Row) (vars : List Ty) (steps : List Step) : Type 0 where

@@ -17,14 +17,14 @@ pub record Derived : Type 0 where
   pub shares : List (ℕ × ℤ)
   pub over : ℕ
 
-abbrev pub is_negative : ℤ → Bool
-is_negative (pos n) = false
-is_negative (negsuc n) = true
+abbrev pub is_below_zero : ℤ → Bool
+is_below_zero (pos n) = false
+is_below_zero (negsuc n) = true
 
-abbrev pub is_positive : ℤ → Bool
-is_positive (pos zero) = false
-is_positive (pos (suc n)) = true
-is_positive (negsuc n) = false
+abbrev pub is_above_zero : ℤ → Bool
+is_above_zero (pos zero) = false
+is_above_zero (pos (suc n)) = true
+is_above_zero (negsuc n) = false
 
 abbrev pub row_divisor : Row → ℕ
 row_divisor r = divisor r.terms (unsigned_abs r.rest)
@@ -80,7 +80,7 @@ any_at f (t ∷ ts) = f t.0 || any_at f ts
 pub record Follows (first : List Row) (r : Derived) : Type 0 where
   pub positive : 0 < r.over
   pub shares_normal : IsNormal r.shares
-  pub shares_positive : All (λ s. is_positive s.1 ≡ true) r.shares
+  pub shares_positive : All (λ s. is_above_zero s.1 ≡ true) r.shares
   pub shares_within : All (λ s. s.0 < length first) r.shares
   pub sums : (f : ℕ → ℤ) → pos r.over *ℤ sum_at f r.row.terms ≡ sum_at (λ i. sum_at f (row_at first i).terms) r.shares
   pub rest : pos r.over *ℤ r.row.rest ≡ sum_at (λ i. (row_at first i).rest) r.shares

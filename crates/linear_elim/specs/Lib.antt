@@ -1,11 +1,7 @@
 pub mod Joins
 pub mod Steps
-pub mod Fingerprints
 pub mod Elimination
 pub mod Laws
-pub mod Outcomes
-pub mod Turns
 pub mod ChoiceNumbers
-pub mod ChoiceSteps
-pub mod Picks
 pub mod Answers
+pub mod internal

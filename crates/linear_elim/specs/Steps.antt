@@ -5,13 +5,13 @@ use Rattle.std.specs.Int.Signed.{lt_z}
 use Rattle.heyvl_num.specs.Value.{is_zero_num}
 use Rattle.linear_form.specs.Terms.{coefficient}
 use Rattle.linear_form.specs.Row.{Row}
-use Rattle.linear_elim.specs.Joins.{Derived, is_negative, is_positive, join, join_fits}
+use Rattle.linear_elim.specs.Joins.{Derived, is_below_zero, is_above_zero, join, join_fits}
 
 abbrev pub lowers : ℕ → List Derived → List Derived
-lowers x rows = filter (λ r. is_negative (coefficient x r.row.terms)) rows
+lowers x rows = filter (λ r. is_below_zero (coefficient x r.row.terms)) rows
 
 abbrev pub uppers : ℕ → List Derived → List Derived
-uppers x rows = filter (λ r. is_positive (coefficient x r.row.terms)) rows
+uppers x rows = filter (λ r. is_above_zero (coefficient x r.row.terms)) rows
 
 abbrev pub kept : ℕ → List Derived → List Derived
 kept x rows = filter (λ r. is_zero_num (coefficient x r.row.terms)) rows

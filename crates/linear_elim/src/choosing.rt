@@ -3,8 +3,9 @@ ghost use Rattle.std.specs.Prelude.{◌≡◌, ◌<◌, ◌^◌, List, map, leng
 ghost use Rattle.std.specs.List.{All};
 ghost use Rattle.heylo_formula.specs.declared.values.Val.TheVariants.{Num};
 ghost use Rattle.linear_form.specs.Row.{Row};
-ghost use Rattle.linear_form.specs.GreedyPoint.{type_at, value_for, IsStateOf};
-ghost use Rattle.linear_elim.specs.Picks.{IsNext, IsDerivedStep};
+ghost use Rattle.linear_form.specs.GreedyPoint.{value_for, IsStateOf};
+ghost use Rattle.heylo_formula.specs.Typing.{types_in};
+ghost use Rattle.linear_elim.specs.internal.Picks.{IsNextPick, IsDerivedStep};
 ghost use Rattle.linear_elim.specs.Answers.{IsEliminated, IsAnswer};
 
 use crate::answers::{Broken, Elim};
@@ -17,7 +18,7 @@ use std::alloc::{AllocError, Global};
 
 /// The type of a variable, Bool beyond the list.
 fn type_of(vars: &[Ty], x: u32) -> Ty
-    ensures { result ≡ type_at vars.now x }
+    ensures { result ≡ types_in vars.now x }
 {
     match vars.get(x as usize) {
         Some(ty) => *ty,
@@ -28,7 +29,7 @@ fn type_of(vars: &[Ty], x: u32) -> Ty
 /// What the variable of a step takes next, after these values.
 fn next_pick(step: &Step, chosen: &[(u32, Frac)], ty: Ty) -> Pick
     requires { IsDerivedStep step.now }
-    ensures { IsNext step.now chosen.now ty result }
+    ensures { IsNextPick step.now chosen.now ty result }
 {
     let Ok(low) = tightest(Side::Low, &step.lows, step.var, chosen) else {
         return Pick::Great;

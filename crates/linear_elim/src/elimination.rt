@@ -3,7 +3,7 @@ ghost use Rattle.std.specs.Prelude.{◌≡◌, ◌<◌, ◌+◌, ◌^◌, ℕ, l
 ghost use Rattle.std.specs.List.{All};
 ghost use Rattle.linear_elim.specs.Joins.{IsDerived};
 ghost use Rattle.linear_elim.specs.Elimination.{run, after_all};
-ghost use Rattle.linear_elim.specs.Outcomes.{outcome_of, gathering_of};
+ghost use Rattle.linear_elim.specs.internal.Outcomes.{outcome_of, gathering_of};
 
 use crate::gathering::Gathering;
 use crate::joins::Derived;

@@ -9,7 +9,7 @@ ghost use Rattle.linear_form.specs.Row.{IsRow};
 ghost use Rattle.linear_form.specs.GreedyPoint.{End as EndValue, chosen_value};
 ghost use Rattle.linear_elim.specs.Joins.{IsDerived};
 ghost use Rattle.linear_elim.specs.ChoiceNumbers.{added, sum_without as exact_sum_without, end_of, end_fits};
-ghost use Rattle.linear_elim.specs.ChoiceSteps.{IsWithin, end_at, IsTightest};
+ghost use Rattle.linear_elim.specs.internal.ChoiceSteps.{IsWithin, narrow_end, IsTightest};
 
 use crate::fractions::{fits, order, whole_of, zero};
 use crate::joins::Derived;
@@ -101,7 +101,7 @@ fn row_place(row: &Row, x: u32, chosen: &[(u32, Frac)]) -> Option<Frac>
 /// The end that a row gives to x, None where it is too great.
 fn row_end(row: &Row, x: u32, chosen: &[(u32, Frac)]) -> Option<End>
     requires { IsRow row.now }
-    ensures { result ≡ end_at x chosen.now row.now }
+    ensures { result ≡ narrow_end x chosen.now row.now }
 {
     let place = row_place(row, x, chosen)?;
     if fits(&place) {

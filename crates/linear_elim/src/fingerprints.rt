@@ -1,6 +1,6 @@
 //! A number that rows with the same terms share, by which they are found among many.
 ghost use Rattle.std.specs.Prelude.{◌≡◌};
-ghost use Rattle.linear_elim.specs.Fingerprints.{hashed, fingerprint};
+ghost use Rattle.linear_elim.specs.internal.Fingerprints.{hashed, fingerprint};
 
 /// An odd number whose bits look random: 2^64 over the golden ratio.
 const MULTIPLIER: u64 = 0x9e37_79b9_7f4a_7c15;

@@ -5,7 +5,7 @@ ghost use Rattle.linear_form.specs.Terms.{coefficient, is_narrow, is_wide};
 ghost use Rattle.linear_form.specs.Merging.{mixed_terms, are_wide, are_narrow};
 ghost use Rattle.linear_form.specs.Divisors.{divisor, divided_terms};
 ghost use Rattle.linear_form.specs.Row.{IsRow};
-ghost use Rattle.linear_elim.specs.Joins.{Derived as DerivedValue, IsDerived, is_negative, is_positive, join, join_fits, derived_parts, parts_fit, size};
+ghost use Rattle.linear_elim.specs.Joins.{Derived as DerivedValue, IsDerived, is_below_zero, is_above_zero, join, join_fits, derived_parts, parts_fit, size};
 
 use linear_form::{Row, coefficient_of, divided, divisor_of, mixed, narrow_quotient};
 use std::alloc::{AllocError, Global};
@@ -226,8 +226,8 @@ pub fn joined(
 ) -> Result<Option<Derived>, AllocError>
     requires low_derived { IsDerived low.now }
     requires up_derived { IsDerived up.now }
-    requires lower { is_negative (coefficient x low.now.row.terms) ≡ true }
-    requires upper { is_positive (coefficient x up.now.row.terms) ≡ true }
+    requires lower { is_below_zero (coefficient x low.now.row.terms) ≡ true }
+    requires upper { is_above_zero (coefficient x up.now.row.terms) ≡ true }
     ensures derived { IfOk result (λ o. IfSome o (λ d. d ≡ join x low.now up.now)) }
     ensures fits { IfOk result (λ o. is_some o ≡ join_fits x low.now up.now) }
 {

@@ -4,10 +4,11 @@ ghost use Rattle.heylo_formula.specs.declared.types.Ty.{Ty as TyValue};
 ghost use Rattle.heyvl_num.specs.Rational.{Rational, zeroʳ};
 ghost use Rattle.linear_form.specs.Lin.{fits as number_fits};
 ghost use Rattle.linear_form.specs.RowLists.{is_numeric};
-ghost use Rattle.linear_form.specs.GreedyPoint.{IsInside, IsWholeType};
-ghost use Rattle.linear_elim.specs.ChoiceSteps.{IsWithin, IsPast};
+ghost use Rattle.linear_form.specs.GreedyPoint.{IsInside};
+ghost use Rattle.linear_form.specs.Tightening.{is_integral};
+ghost use Rattle.linear_elim.specs.internal.ChoiceSteps.{IsWithin, IsPast};
 ghost use Rattle.linear_elim.specs.declared.ends.Side.{Side as SideValue};
-ghost use Rattle.linear_elim.specs.Picks.{IsNextWhole, IsPicked, sided, across, between, narrow_pick, broken_pick, past_place};
+ghost use Rattle.linear_elim.specs.internal.Picks.{IsNextWhole, IsPicked, sided, across, between, narrow_pick, broken_pick, past_place};
 
 use crate::ends::{End, Side};
 use crate::fractions::{fits, middle, order, sum, whole_number, whole_of, zero};
@@ -101,7 +102,7 @@ fn breaks(side: Side, near: End, far: End) -> Pick
 fn whole_pick(side: Side, near: End, far: Option<End>) -> Pick
     requires near { number_fits near.place ≡ true }
     requires far { IfSome far (λ e. number_fits e.place ≡ true) }
-    ensures { (ty : TyValue) → IsWholeType ty → (IsWithin side near zeroʳ → ⊥) → IsPicked (sided side near far) ty result }
+    ensures { (ty : TyValue) → (is_integral ty ≡ true) → (IsWithin side near zeroʳ → ⊥) → IsPicked (sided side near far) ty result }
 {
     let v = whole_number(next_whole(side, near));
     if let Some(end) = far {

@@ -5,7 +5,7 @@ ghost use Rattle.linear_form.specs.Terms.{IsOver};
 ghost use Rattle.linear_form.specs.Row.{IsRow};
 ghost use Rattle.linear_elim.specs.Steps.{contradiction, tidied};
 ghost use Rattle.linear_elim.specs.Elimination.{start, elimination, own};
-ghost use Rattle.linear_elim.specs.Outcomes.{outcome_of, Decided};
+ghost use Rattle.linear_elim.specs.internal.Outcomes.{outcome_of, Decided};
 
 use crate::elimination::{Outcome, eliminate_from};
 use crate::gathering::Gathering;

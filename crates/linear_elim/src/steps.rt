@@ -2,9 +2,9 @@
 ghost use Rattle.std.specs.Prelude.{◌≡◌, ◌&&◌, [], true, IfOk, IfSome, is_some};
 ghost use Rattle.std.specs.List.{All};
 ghost use Rattle.linear_form.specs.Terms.{coefficient};
-ghost use Rattle.linear_elim.specs.Joins.{IsDerived, is_negative, is_positive};
+ghost use Rattle.linear_elim.specs.Joins.{IsDerived, is_below_zero, is_above_zero};
 ghost use Rattle.linear_elim.specs.Steps.{lowers, uppers, kept, fits_each, pairs_fit, joins, pairs, eliminate_one, step_fits, contradiction, tidied};
-ghost use Rattle.linear_elim.specs.Fingerprints.{ArePlaces};
+ghost use Rattle.linear_elim.specs.internal.Fingerprints.{ArePlaces};
 ghost use Rattle.linear_elim.specs.Elimination.{Step as StepValue, step_of, found_all, rows_all};
 
 use crate::gathering::Gathering;
@@ -39,8 +39,8 @@ fn join_each(
     requires low_derived { IsDerived low.now }
     requires ups_derived { All IsDerived ups.now }
     requires places { ArePlaces out.old.places out.old.rows.items }
-    requires lower { is_negative (coefficient x low.now.row.terms) ≡ true }
-    requires upper { All (λ u. is_positive (coefficient x u.row.terms) ≡ true) ups.now }
+    requires lower { is_below_zero (coefficient x low.now.row.terms) ≡ true }
+    requires upper { All (λ u. is_above_zero (coefficient x u.row.terms) ≡ true) ups.now }
     ensures fits { IfOk result (λ b. b ≡ fits_each x low.now ups.now) }
     ensures found { IfOk result (λ b. b ≡ true → out.new.found ≡ found_all (joins x low.now ups.now) out.old.found) }
     ensures rows { IfOk result (λ b. b ≡ true → out.new.rows.items ≡ rows_all (joins x low.now ups.now) out.old.rows.items) }
@@ -67,8 +67,8 @@ fn join_all(
     requires lows_derived { All IsDerived lows.now }
     requires ups_derived { All IsDerived ups.now }
     requires places { ArePlaces out.old.places out.old.rows.items }
-    requires lower { All (λ l. is_negative (coefficient x l.row.terms) ≡ true) lows.now }
-    requires upper { All (λ u. is_positive (coefficient x u.row.terms) ≡ true) ups.now }
+    requires lower { All (λ l. is_below_zero (coefficient x l.row.terms) ≡ true) lows.now }
+    requires upper { All (λ u. is_above_zero (coefficient x u.row.terms) ≡ true) ups.now }
     ensures fits { IfOk result (λ b. b ≡ pairs_fit x lows.now ups.now) }
     ensures found { IfOk result (λ b. b ≡ true → out.new.found ≡ found_all (pairs x lows.now ups.now) out.old.found) }
     ensures rows { IfOk result (λ b. b ≡ true → out.new.rows.items ≡ rows_all (pairs x lows.now ups.now) out.old.rows.items) }

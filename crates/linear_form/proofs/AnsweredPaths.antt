@@ -6,7 +6,7 @@ use Rattle.linear_form.specs.Query.Query.{done, bits, ask}
 use Rattle.linear_form.specs.Questions.{Ends, questions}
 use Rattle.linear_form.specs.Paths.{walk, Path, IsPath, end_at}
 use Rattle.linear_form.specs.PlainPaths.{path_of, atom_of, taken_of}
-use Rattle.linear_form.specs.Seen.{Answers}
+use Rattle.linear_form.specs.Asked.{Answers}
 use Rattle.linear_form.specs.declared.paths.Atom as A
 use Rattle.linear_form.specs.declared.paths.Taken as T
 use Rattle.linear_form.specs.declared.asking.Ask as K

@@ -11,7 +11,7 @@ use Rattle.heylo_formula.specs.declared.forms.Form as F
 use Rattle.heylo_formula.specs.declared.forms.Cond as C
 use Rattle.heylo_formula.specs.PlainTrees.{form_of, cond_of}
 use Rattle.heylo_formula.specs.Operators.{agree}
-use Rattle.heylo_formula.proofs.Mirrors as m
+use Rattle.heylo_formula.proofs.exported.Mirrors as m
 use Rattle.linear_form.specs.Lin.{variable}
 use Rattle.linear_form.specs.Query.{next}
 use Rattle.linear_form.specs.Query.Query.{done, bits}

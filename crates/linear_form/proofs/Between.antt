@@ -8,7 +8,7 @@ use borrow.Author.Differences.{ints}
 use Rattle.std.specs.List.{All}
 use Rattle.std.proofs.lemmas.List.Elements.{All-nil, All-cons, All-head, All-tail, All-weaker}
 use Rattle.std.proofs.lemmas.Int.{by_lt_z}
-use Rattle.heyvl_num.proofs.Integers.{ring, ring_neg, ≤ℤ-scale, ≤ℤ-cancel}
+use Rattle.heyvl_num.proofs.exported.Integers.{ring, ring_neg, ≤ℤ-scale, ≤ℤ-cancel}
 use Rattle.linear_form.specs.Points.{IsBelow}
 use Prim.Native.Nat.{zero, suc}
 use Rattle.std.proofs.Math.Nat.{zero-lt-suc}

@@ -8,9 +8,9 @@ use Rattle.std.proofs.lemmas.List.Elements.{All-head, All-tail}
 use Rattle.heyvl_num.specs.Gcd.{gcd, gcd_steps}
 use Rattle.heyvl_num.specs.Rational.{Rational, ratio, zeroʳ, ◌+ʳ◌, ◌*ʳ◌, leqʳ, ◌≤ʳ◌}
 use Rattle.heyvl_num.specs.Rounding.{whole, floorʳ}
-use Rattle.heyvl_num.proofs.Rationals.{≤ʳ_trans, ≤ʳ_refl, +ʳ_mono, +ʳ_comm, *ʳ_assoc, *ʳ_comm, one-*ʳ, zero-+ʳ, order_cross, nonnegative_num}
-use Rattle.heyvl_num.proofs.Roundings.{floor-is, ceil-is}
-use Rattle.heyvl_num.proofs.Signs.{≤ʳ-+ʳ_cancel}
+use Rattle.heyvl_num.proofs.exported.Rationals.{≤ʳ_trans, ≤ʳ_refl, +ʳ_mono, +ʳ_comm, *ʳ_assoc, *ʳ_comm, one-*ʳ, zero-+ʳ, order_cross, nonnegative_num}
+use Rattle.heyvl_num.proofs.exported.Roundings.{floor-is, ceil-is}
+use Rattle.heyvl_num.proofs.exported.Signs.{≤ʳ-+ʳ_cancel}
 use Rattle.heylo_formula.specs.State.{Env, number_of}
 use Rattle.heylo_formula.specs.Typing.{Types}
 use Rattle.linear_form.specs.Solutions.{sum_of, IsBelowZero, MeetsAt}

@@ -1,5 +1,5 @@
 -- Variables that vanish, and the parts of a contradiction.
-use Rattle.std.proofs.Common.{◌≡◌, ℕ, ◌+◌, ◌<◌, ◌≤◌, ◌^◌, List, [], ◌∷◌, length, drop, take, get_or, refl, sym, ap, ap₂, ◌∙◌, subst, arith, Bool, true, false, cond, eqb, ltb}
+use Rattle.std.proofs.Common.{◌≡◌, ℕ, ◌+◌, ◌<◌, ◌≤◌, ◌^◌, List, [], ◌∷◌, length, take, get_or, refl, sym, ap, ap₂, ◌∙◌, subst, arith, Bool, true, false, cond, eqb, ltb}
 use Rattle.std.specs.Prelude.{ℤ, pos, ◌+ℤ◌, ◌*ℤ◌, unsigned_abs}
 use Rattle.std.proofs.Math.IntN.{*ℤ-zero}
 use Rattle.std.proofs.lemmas.List.{get_or_read}
@@ -9,7 +9,7 @@ use Rattle.std.specs.List.{All}
 use Rattle.std.proofs.lemmas.List.Elements.{All-nil, All-cons, All-head, All-tail}
 use Rattle.linear_form.specs.Row.{Row}
 use Rattle.linear_form.specs.Combination.{row_at, combined, IsContradiction}
-use Rattle.linear_form.specs.Columns.{number_in, AreMultipliers, IsBeyond, Vanishes, IsUnmet}
+use Rattle.linear_form.specs.internal.Columns.{number_in, AreMultipliers, IsBeyond, Vanishes, IsUnmet}
 use Rattle.linear_form.specs.declared.multipliers.Column.TheVariants.{Coefficient}
 use Rattle.linear_form.specs.Terms.{coefficient}
 use Rattle.linear_form.proofs.Normal.{coefficient-cons, coefficient-nil}

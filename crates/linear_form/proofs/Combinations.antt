@@ -1,12 +1,12 @@
 -- Rows that multipliers combine to a contradiction have no solution.
-use Rattle.std.proofs.Common.{◌≡◌, ℕ, ◌<◌, List, [], ◌∷◌, get_or, refl, sym, ap, ◌∙◌, arith, subst, true, false, ◌⊎◌, inl, inr}
+use Rattle.std.proofs.Common.{◌≡◌, ℕ, ◌<◌, List, [], ◌∷◌, refl, sym, ap, ◌∙◌, arith, subst, true, false, ◌⊎◌, inl, inr}
 use Rattle.std.specs.Prelude.{ℤ, pos, negsuc, ◌+ℤ◌, ◌*ℤ◌, ◌≤ℤ◌, ◌<ℤ◌}
-use Rattle.std.proofs.Math.IntN.{zero-*ℤ, *ℤ-zero}
+use Rattle.std.proofs.Math.IntN.{zero-*ℤ}
 use borrow.Author.Differences.{ints}
 use Prim.Native.Nat.{zero, suc}
 use Rattle.std.specs.List.{All}
 use Rattle.std.proofs.lemmas.List.Elements.{All-head, All-tail}
-use Rattle.heyvl_num.proofs.Integers.{ring}
+use Rattle.heyvl_num.proofs.exported.Integers.{ring}
 use Rattle.linear_form.specs.Terms.{sum_at, coefficient, IsNormal, add_terms}
 use Rattle.linear_form.specs.Row.{Row}
 use Rattle.linear_form.specs.Points.{Point, IsBelow, Meets, IsMetSomewhere, left_side}

@@ -1,13 +1,13 @@
 -- A form without variables outside conditions has constant values.
-use Rattle.std.proofs.Common.{◌≡◌, ℕ, List, [], ◌∷◌, refl, sym, ap, ap₂, ◌∙◌, Bool, true, false, cond, ◌||◌}
-use Rattle.std.specs.Prelude.{Option, Some, None}
-use Rattle.heyvl_num.specs.Rational.{Rational, zeroʳ, oneʳ, ◌*ʳ◌}
+use Rattle.std.proofs.Common.{◌≡◌, [], ◌∷◌, refl, ap, ap₂, Bool, true, false, cond, ◌||◌}
+use Rattle.std.specs.Prelude.{Some, None}
+use Rattle.heyvl_num.specs.Rational.{Rational, zeroʳ, ◌*ʳ◌}
 use Rattle.heyvl_num.specs.Value.{Value, is_zeroʳ}
 use Rattle.heyvl_num.specs.Value.Value.{finite, infinite}
-use Rattle.heylo_formula.specs.Formula.{Form, Cond}
+use Rattle.heylo_formula.specs.Formula.{Form}
 use Rattle.linear_form.specs.Lin.{Lin, Terms, constant, merged, times, plus, minus, minus_oneʳ, scaled, is_sized}
-use Rattle.linear_form.specs.Query.{Query, next}
-use Rattle.linear_form.specs.Query.Query.{done, bits, ask}
+use Rattle.linear_form.specs.Query.{next}
+use Rattle.linear_form.specs.Query.Query.{done, bits}
 use Rattle.linear_form.specs.Questions as q
 use Rattle.linear_form.specs.Questions.{Linear, sized, is_below, evaluate, test}
 use Rattle.linear_form.specs.Nonlinear.{has_variable}

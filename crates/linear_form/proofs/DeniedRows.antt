@@ -10,7 +10,7 @@ use Rattle.heylo_formula.specs.Typing.{Types}
 use Rattle.linear_form.specs.Lin.{variable}
 use Rattle.linear_form.specs.Query.{Taken}
 use Rattle.linear_form.specs.Paths.{end_at}
-use Rattle.linear_form.specs.TypedGoals.{types_in}
+use Rattle.heylo_formula.specs.Typing.{types_in}
 use Rattle.linear_form.specs.Tightening.{Claim, tightened}
 use Rattle.linear_form.specs.PathRows.{claim, negated, path_claims, listed, denial_at, is_unsigned_type, occurs_in_terms, occurs_in_claims, sign_claims, with_signs, claims_of, with_row, all_tightened, rows_of}
 use Rattle.linear_form.specs.Row.{Row}
@@ -60,7 +60,7 @@ rows_give types P (k ∷ ks) rows e h = go (tightened types k) refl (all_tighten
 
 -- ---- The signs of more claims
 
-occurs_more : (x : ℕ) (ks ls : List Claim) → occurs_in_claims x ks ≡ true → occurs_in_claims x (ks ++ ls) ≡ true
+pub occurs_more : (x : ℕ) (ks ls : List Claim) → occurs_in_claims x ks ≡ true → occurs_in_claims x (ks ++ ls) ≡ true
 occurs_more x [] ls e = absurd (cc)
 occurs_more x (k ∷ ks) ls e = go (occurs_in_terms x k.left.terms) e (occurs_more x ks ls)
   where

@@ -1,8 +1,8 @@
 -- What holds of every result of a tree.
-use Rattle.std.proofs.Common.{◌≡◌, ℕ, List, [], ◌∷◌, refl, Bool, true, false, cond}
-use Rattle.linear_form.specs.Query.{Query, Atom, next}
+use Rattle.std.proofs.Common.{Bool, true, false, cond}
+use Rattle.linear_form.specs.Query.{Query, next}
 use Rattle.linear_form.specs.Query.Query.{done, bits, ask}
-use Rattle.linear_form.specs.Questions.{Linear, both, with}
+use Rattle.linear_form.specs.Questions.{Linear, both}
 use Rattle.linear_form.specs.QuestionLaws.{EachResult}
 
 pub each_next : {A B : Type 0} (t : Query A) (f : A → Query B) (P : A → Type 0) (Q : B → Type 0) → EachResult P t → ((a : A) → P a → EachResult Q (f a)) → EachResult Q (next t f)

@@ -1,29 +1,29 @@
 -- The linear values at an end are the values of the forms, in each state of the right types.
-use Rattle.std.proofs.Common.{◌≡◌, ℕ, List, [], ◌∷◌, refl, sym, ap, ap₂, ◌∙◌, subst, arith, Bool, true, false, not, cond, ◌&&◌, ◌||◌}
+use Rattle.std.proofs.Common.{◌≡◌, List, [], ◌∷◌, refl, sym, ap, ap₂, ◌∙◌, subst, Bool, true, false, cond, ◌&&◌, ◌||◌}
 use Rattle.std.specs.Prelude.{Option, Some, None}
 use Rattle.heyvl_num.specs.Rational.{Rational, zeroʳ, oneʳ, ◌+ʳ◌, ◌*ʳ◌, ◌-ʳ◌, leqʳ, ◌≤ʳ◌}
 use Rattle.heyvl_num.specs.Value.{Value, zeroᵛ, oneᵛ, is_zeroʳ, infinite_times, ◌+ᵛ◌, ◌*ᵛ◌, leqᵛ, ◌≤ᵛ◌}
 use Rattle.heyvl_num.specs.Value.Value.{finite, infinite}
 use Rattle.heyvl_num.specs.ValueOperators.{minᵛ, maxᵛ, impliesᵛ, coimpliesᵛ, monusᵛ}
-use Rattle.heyvl_num.proofs.Rationals.{zero-+ʳ, *ʳ_comm, ≤ʳ_antisym, ≤ʳ_refl}
-use Rattle.heyvl_num.proofs.Values.{is_zero-is, is_zero-zero, nonnegative_finite}
+use Rattle.heyvl_num.proofs.exported.Rationals.{zero-+ʳ, *ʳ_comm, ≤ʳ_antisym, ≤ʳ_refl}
+use Rattle.heyvl_num.proofs.exported.Values.{is_zero-is, is_zero-zero, nonnegative_finite}
 use Rattle.heylo_formula.specs.Formula.{Form, Cond}
-use Rattle.heylo_formula.specs.Operators.{agree, differenceᵛ, validateᵛ, covalidateᵛ, lessᵛ, equalᵛ, is_finite}
-use Rattle.heylo_formula.specs.State.{Env, truth_of, number_of, environment, IsTyped}
+use Rattle.heylo_formula.specs.Operators.{differenceᵛ, validateᵛ, covalidateᵛ, lessᵛ, equalᵛ, is_finite}
+use Rattle.heylo_formula.specs.State.{Env, environment, IsTyped}
 use Rattle.heylo_formula.specs.declared.values.Val.{Val}
-use Rattle.linear_form.specs.TypedGoals.{IsTypedGoal}
+use Rattle.heylo_formula.specs.TypedGoals.{IsTypedGoal}
 use Rattle.heylo_formula.specs.Choices.{Choices, left, right}
 use Rattle.heylo_formula.specs.Meaning.{value, holds}
-use Rattle.heylo_formula.specs.Typing.{HasTypes, NumberType, Types, type_of, is_well_typed, joined, is_finite_type, is_unsigned, only_if}
+use Rattle.heylo_formula.specs.Typing.{HasTypes, NumberType, Types, type_of, is_well_typed, is_finite_type, is_unsigned}
 use Rattle.heylo_formula.specs.Goals.{Goal}
-use Rattle.linear_form.specs.Lin.{Lin, Terms, constant, variable, plus, minus, scaled, is_sized, at, total}
-use Rattle.linear_form.specs.Query.{Query, Atom, next, Taken, is_negative, holds_at, once}
-use Rattle.linear_form.specs.Query.Query.{done, bits, ask}
+use Rattle.linear_form.specs.Lin.{Lin, Terms, plus, minus, scaled, is_sized, at, total}
+use Rattle.linear_form.specs.Query.{Query, next, is_negative}
+use Rattle.linear_form.specs.Query.Query.{done, bits}
 use Rattle.linear_form.specs.Questions as q
 use Rattle.linear_form.specs.Questions.{Linear, value_in, sized, asked, is_below, evaluate, test, both, with, questions}
 use Rattle.linear_form.proofs.LinearValues.{plus_at, minus_at, scaled_at, variable_at, at_most_at, below_at}
 use Rattle.linear_form.proofs.QueryTrees.{Ends, ends_then, ends_once}
-use Rattle.linear_form.proofs.TypedValues.{typed_environment, Fits, infinite_ok, negative_ok, Parts, parts, allowed, only, Unsigned, unsigned, difference_joined, scale_joined, value_fits}
+use Rattle.linear_form.proofs.TypedValues.{typed_environment, Fits, infinite_ok, Parts, parts, allowed, only, unsigned, difference_joined, scale_joined, value_fits}
 
 abbrev pub Is : Env → Value → Linear → Type 0
 Is s w x = value_in x s ≡ w

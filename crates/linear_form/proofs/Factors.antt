@@ -1,6 +1,6 @@
 -- The factor that makes coefficients whole, term by term from the last one.
-use Rattle.std.proofs.Common.{◌≡◌, ℕ, length, ◌==◌, ◌+◌, ◌*◌, ◌/◌, ◌<◌, ◌≤◌, ◌^◌, List, [], ◌∷◌, refl, sym, ap, ap₂, ◌∙◌, arith, lit<, subst, Bool, true, false, cond, ◌&&◌, nat_lt, ◌||◌, to_z, of_z, FitsSigned}
-use Rattle.std.specs.Prelude.{ℤ, pos, negsuc, ◌*ℤ◌, ◌<ℤ◌, neg_ℤ, unsigned_abs, Option, Some, None}
+use Rattle.std.proofs.Common.{◌≡◌, ℕ, length, ◌==◌, ◌+◌, ◌*◌, ◌/◌, ◌<◌, ◌≤◌, ◌^◌, [], ◌∷◌, refl, sym, ap, ap₂, ◌∙◌, arith, lit<, subst, Bool, true, false, ◌&&◌, ◌||◌, to_z, of_z, FitsSigned}
+use Rattle.std.specs.Prelude.{ℤ, pos, negsuc, ◌*ℤ◌, ◌<ℤ◌, neg_ℤ, unsigned_abs, Some, None}
 use borrow.Author.Differences.{ints}
 use Prim.Native.Nat.{zero, suc, ◌∣◌}
 use Rattle.std.proofs.Math.Nat.{mul-pos, div-mul_cancel, mul-div_cancel, pos_of_dvd_of_pos, eq_of_mul-eq-mul_right, eq-one_of_dvd-one, one-mul, zero-lt-suc}
@@ -11,18 +11,18 @@ use Rattle.heyvl_num.specs.Rational.{Rational, ratio, ◌*ʳ◌}
 use Rattle.heyvl_num.specs.RationalParts.{ratio_num-lowest}
 use Rattle.heyvl_num.specs.Rounding.{whole}
 use Rattle.heyvl_num.specs.Exact.{quotient, exact_quotient, quotient_fits}
-use Rattle.heyvl_num.proofs.Integers.{*ℤ-one, *ℤ-neg, neg-*ℤ, *ℤ_assoc}
+use Rattle.heyvl_num.proofs.exported.Integers.{*ℤ-one, *ℤ-neg, neg-*ℤ, *ℤ_assoc}
 use Rattle.std.specs.Int.{w128}
 use Rattle.std.proofs.lemmas.Nat.{mul-lt}
 use Rattle.linear_form.proofs.Narrow.{small, num_less, den_less, seen}
 use Rattle.heyvl_num.specs.Value.{is_zeroʳ, is_zero_num}
-use Rattle.heyvl_num.proofs.Rationals.{ratio_parts, ratio_den, ratio_num, ratio_same, ratio-*, *ʳ_assoc, div_one, ratio_equal_cross}
-use Rattle.linear_form.specs.Lin.{Terms, fits, IsNormal}
+use Rattle.heyvl_num.proofs.exported.Rationals.{ratio_parts, ratio_den, ratio_same, ratio-*, *ʳ_assoc, ratio_equal_cross}
+use Rattle.linear_form.specs.Lin.{Terms, fits, AreNormal}
 use Rattle.linear_form.specs.ClaimLaws.{AreNonzero}
 use Rattle.linear_form.specs.Terms.{is_narrow}
-use Rattle.heyvl_num.proofs.Values.{is_zero-*, is_zero-one}
+use Rattle.heyvl_num.proofs.exported.Values.{is_zero-*, is_zero-one}
 use Rattle.linear_form.specs.Tightening.{sign_of, common_multiple, common_divisor, factor, whole_terms, all_narrow, AreWholeTimes}
-use Rattle.linear_form.specs.Operator.{small_product, narrow_value}
+use Rattle.linear_form.specs.internal.Operator.{small_product, narrow_value}
 use Rattle.linear_form.proofs.Products.{product_none, product_some}
 use Rattle.linear_form.proofs.TightRows.{whole-*, Denominators, multiple_positive, lcm_left, lcm_right, common_denominators, divisor_positive, factor_whole, factor_positive, IsPositive, abs_positive, whole_back, product_whole, cleared}
 
@@ -278,7 +278,7 @@ single_product t n =
     let a = unsigned_abs t.1.num in
     ap (λ w. w *ʳ t.1) (ap₂ (λ l g. ratio (pos l) g) (one_multiple t) (one_divisor t)) ∙ ap (λ x. ratio (pos d) a *ʳ x) (sym (ratio_parts t.1)) ∙ ratio-* (pos d) a t.1.num d (abs_positive t.1.num n) t.1.positive ∙ ratio_same (pos d *ℤ t.1.num) (a * d) (sign_of t.1.num) 1 (mul-pos (abs_positive t.1.num n) t.1.positive) (lit< tt) (signed t.1.num d)
 
-pub normal_nonzero : (ts : Terms) → IsNormal ts → AreNonzero ts
+pub normal_nonzero : (ts : Terms) → AreNormal ts → AreNonzero ts
 normal_nonzero [] h = tt
 normal_nonzero (t ∷ ts) h = (number t.1 h.0, normal_nonzero ts h.1.1)
   where
@@ -287,19 +287,19 @@ normal_nonzero (t ∷ ts) h = (number t.1 h.0, normal_nonzero ts h.1.1)
 
 -- ---- What the code makes of the terms, from their first one and the others
 
-pub only_factor : (ts rest : Terms) (t : ℕ × Rational) (q : Rational) → ts ≡ t ∷ rest → length rest ≡ 0 → IsNormal ts → ((w : Rational) → w *ʳ t.1 ≡ whole (sign_of t.1.num) → q ≡ w) → q ≡ factor ts
+pub only_factor : (ts rest : Terms) (t : ℕ × Rational) (q : Rational) → ts ≡ t ∷ rest → length rest ≡ 0 → AreNormal ts → ((w : Rational) → w *ʳ t.1 ≡ whole (sign_of t.1.num) → q ≡ w) → q ≡ factor ts
 only_factor ts [] t q e l n h = h (factor (t ∷ [])) (single_product t (normal_nonzero (t ∷ []) (rw e at n)).0) ∙ ap factor (sym e)
 only_factor ts (u ∷ us) t q e l n h = absurd (omega arith)
 
-pub others_wide : (ts rest : Terms) (t : ℕ × Rational) → ts ≡ t ∷ rest → 0 < length rest → IsNormal ts → all_narrow (whole_terms (factor rest) rest) ≡ false → all_narrow (whole_terms (factor ts) ts) ≡ false
+pub others_wide : (ts rest : Terms) (t : ℕ × Rational) → ts ≡ t ∷ rest → 0 < length rest → AreNormal ts → all_narrow (whole_terms (factor rest) rest) ≡ false → all_narrow (whole_terms (factor ts) ts) ≡ false
 others_wide ts [] t e l n h = absurd (omega arith)
 others_wide ts (u ∷ us) t e l n h = ap (λ ts. all_narrow (whole_terms (factor ts) ts)) e ∙ wide_rest t u us (normal_nonzero (t ∷ u ∷ us) (rw e at n)) h
 
-pub first_wide : (ts rest : Terms) (t : ℕ × Rational) (w : Rational) → ts ≡ t ∷ rest → 0 < length rest → IsNormal ts → w ≡ factor rest → None ≡ small_product w t.1 → all_narrow (whole_terms (factor ts) ts) ≡ false
+pub first_wide : (ts rest : Terms) (t : ℕ × Rational) (w : Rational) → ts ≡ t ∷ rest → 0 < length rest → AreNormal ts → w ≡ factor rest → None ≡ small_product w t.1 → all_narrow (whole_terms (factor ts) ts) ≡ false
 first_wide ts [] t w e l n f h = absurd (omega arith)
 first_wide ts (u ∷ us) t w e l n f h = ap (λ ts. all_narrow (whole_terms (factor ts) ts)) e ∙ wide_head t u us (normal_nonzero (t ∷ u ∷ us) (rw e at n)) (ap (λ v. fits (v *ʳ t.1)) (sym f) ∙ product_none w t.1 h)
 
-pub next_factor : (ts rest : Terms) (t : ℕ × Rational) (w p q : Rational) → ts ≡ t ∷ rest → 0 < length rest → IsNormal ts → w ≡ factor rest → Some p ≡ small_product w t.1 → ((v : Rational) → v *ʳ t.1 ≡ whole p.num → q ≡ v) → q ≡ factor ts
+pub next_factor : (ts rest : Terms) (t : ℕ × Rational) (w p q : Rational) → ts ≡ t ∷ rest → 0 < length rest → AreNormal ts → w ≡ factor rest → Some p ≡ small_product w t.1 → ((v : Rational) → v *ʳ t.1 ≡ whole p.num → q ≡ v) → q ≡ factor ts
 next_factor ts [] t w p q e l n f h g = absurd (omega arith)
 next_factor ts (u ∷ us) t w p q e l n f h g = g (factor (t ∷ u ∷ us)) (head_product t u us (normal_nonzero (t ∷ u ∷ us) (rw e at n)) ∙ ap (λ (r : Rational). whole r.num) (ap (λ v. v *ʳ t.1) (sym f) ∙ sym ((product_some w t.1 p h).0))) ∙ ap factor (sym e)
 

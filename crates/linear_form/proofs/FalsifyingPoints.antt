@@ -11,7 +11,7 @@ use Rattle.linear_form.specs.Lin.{Lin, at}
 use Rattle.linear_form.specs.Query.{Atom, Taken, is_negative, holds_at}
 use Rattle.linear_form.specs.Questions.{Linear, Ends, value_in}
 use Rattle.linear_form.specs.Paths.{Agrees, end_at}
-use Rattle.linear_form.specs.TypedGoals.{types_in}
+use Rattle.heylo_formula.specs.Typing.{types_in}
 use Rattle.linear_form.specs.Tightening.{Claim}
 use Rattle.linear_form.specs.ClaimLaws.{AllClaimed}
 use Rattle.linear_form.specs.PathRows.{answer_claims, path_claims, below_claim, denial, listed, denial_at, sign_claims, claims_of}

@@ -7,18 +7,19 @@ use Rattle.std.proofs.lemmas.List.Elements.{All-nil, All-cons}
 use Prim.Native.Nat.{zero, suc}
 use Rattle.heyvl_num.specs.Rational.{Rational, ratio, oneʳ, ◌*ʳ◌}
 use Rattle.heyvl_num.specs.Value.{is_zeroʳ, is_zero_num}
-use Rattle.heyvl_num.proofs.Values.{is_zero-*, is_zero-one}
-use Rattle.heyvl_num.proofs.Rationals.{*ʳ-one}
+use Rattle.heyvl_num.proofs.exported.Values.{is_zero-*, is_zero-one}
+use Rattle.heyvl_num.proofs.exported.Rationals.{*ʳ-one}
 use Rattle.heylo_formula.specs.Goals.{Goal}
 use Rattle.heylo_formula.specs.Typing.{Types}
 use Rattle.linear_form.specs.Row.{Row, IsRow}
 use Rattle.linear_form.specs.Terms as row
 use Rattle.linear_form.specs.Terms.{is_narrow}
-use Rattle.linear_form.specs.Lin.{Terms, variable, IsAbove, IsNormal, is_sized}
+use Rattle.linear_form.specs.Lin.{Terms, variable, IsAbove, AreNormal, is_sized}
 use Rattle.linear_form.specs.Query.{Atom, Taken}
 use Rattle.linear_form.specs.Paths.{IsPath, end_at}
 use Rattle.linear_form.specs.Tightening.{Claim, tightened, tight_row, whole_terms, factor, rounded, are_whole, all_narrow, constant_fits}
-use Rattle.linear_form.specs.TypedGoals.{IsTypedGoal, types_in}
+use Rattle.heylo_formula.specs.TypedGoals.{IsTypedGoal}
+use Rattle.heylo_formula.specs.Typing.{types_in}
 use Rattle.linear_form.specs.PathRows.{claim, negated, answer_claims, path_claims, denial_at, listed, with_row, all_tightened, is_unsigned_type, occurs_in_claims, sign_claims, claims_of, rows_of}
 use Rattle.linear_form.specs.RowLists.{Lists, AreRows, AreNumericRows, count_of}
 use Rattle.linear_form.specs.PlainPaths.{path_of, taken_of}
@@ -41,20 +42,20 @@ whole_above : (m : ℕ) (w : Rational) (ts : Terms) → IsAbove m ts → All (λ
 whole_above m w [] h = All-nil _
 whole_above m w (t ∷ ts) h = All-cons (λ (u : ℕ × ℤ). m < u.0) _ _ h.0 (whole_above m w ts h.1)
 
-whole_normal : (w : Rational) (ts : Terms) → is_zeroʳ w ≡ false → IsNormal ts → row.IsNormal (whole_terms w ts)
+whole_normal : (w : Rational) (ts : Terms) → is_zeroʳ w ≡ false → AreNormal ts → row.IsNormal (whole_terms w ts)
 whole_normal w [] e h = tt
 whole_normal w (t ∷ ts) e h = (number_nonzero (w *ʳ t.1) (is_zero-* w t.1 ∙ ap₂ (λ a b. a || b) e h.0), (whole_above t.0 w ts h.1.0, whole_normal w ts e h.1.1))
 
 positive_nonzero : (w : Rational) → IsPositive w → is_zeroʳ w ≡ false
 positive_nonzero w p = ap is_zeroʳ (sym (*ʳ-one w)) ∙ nonzero_factor w oneʳ p is_zero-one
 
-factor_nonzero : (t : ℕ × Rational) (ts : Terms) → IsNormal (t ∷ ts) → is_zeroʳ (factor (t ∷ ts)) ≡ false
+factor_nonzero : (t : ℕ × Rational) (ts : Terms) → AreNormal (t ∷ ts) → is_zeroʳ (factor (t ∷ ts)) ≡ false
 factor_nonzero t ts h = positive_nonzero (factor (t ∷ ts)) (factor_positive t ts (normal_nonzero (t ∷ ts) h))
 
 multiple_nonzero : (c : Rational) → is_zeroʳ (ratio (pos c.den) 1) ≡ false
 multiple_nonzero c = positive_nonzero (ratio (pos c.den) 1) (positive_ratio c.den 1 c.positive (lit< tt))
 
-tight_normal : (types : Types) (ts : Terms) (c : Rational) (strict : Bool) → IsNormal ts → row.IsNormal (tight_row types ts c strict).terms
+tight_normal : (types : Types) (ts : Terms) (c : Rational) (strict : Bool) → AreNormal ts → row.IsNormal (tight_row types ts c strict).terms
 tight_normal types [] c strict h = tt
 tight_normal types (t ∷ ts) c strict h = of_two (λ (r : Row). row.IsNormal r.terms) (are_whole types (t ∷ ts)) (record { terms = whole_terms (factor (t ∷ ts)) (t ∷ ts); rest = rounded strict (factor (t ∷ ts) *ʳ c); strict = false }) _ (whole_normal (factor (t ∷ ts)) (t ∷ ts) (factor_nonzero t ts h) h) (whole_normal _ (t ∷ ts) (is_zero-* _ (factor (t ∷ ts)) ∙ ap₂ (λ a b. a || b) (multiple_nonzero (factor (t ∷ ts) *ʳ c)) (factor_nonzero t ts h)) h)
 
@@ -82,7 +83,7 @@ chosen_row a b r q h e = go (a && (b && (all_narrow r.terms && is_narrow r.rest)
     go true f e = let n = and_right b _ (and_right a _ f) in let i : r ≡ q = cc in subst IsRow i (record { normal = h; narrow = narrow_terms r.terms (and_left _ _ n); rest_narrow = narrow_less r.rest (and_right (all_narrow r.terms) _ n) })
     go false f e = absurd (cc)
 
-tightened_row : (types : Types) (k : Claim) (r : Row) → IsNormal k.left.terms → tightened types k ≡ Some r → IsRow r
+tightened_row : (types : Types) (k : Claim) (r : Row) → AreNormal k.left.terms → tightened types k ≡ Some r → IsRow r
 unfolding tightened
 tightened_row types k r h e = chosen_row (is_sized k.left) (constant_fits k.left.terms k.left.rest) (tight_row types k.left.terms k.left.rest k.strict) r (tight_normal types k.left.terms k.left.rest k.strict h) e
 

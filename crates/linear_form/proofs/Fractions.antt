@@ -10,11 +10,11 @@ use Rattle.std.proofs.lemmas.Bool.{eqb-true}
 use Rattle.std.proofs.lemmas.Int.{by_lt_z}
 use Rattle.std.specs.List.{All}
 use Rattle.std.proofs.lemmas.List.Elements.{All-nil, All-cons, All-head, All-tail, All-weaker}
-use Rattle.heyvl_num.proofs.Integers.{ring}
+use Rattle.heyvl_num.proofs.exported.Integers.{ring}
 use Rattle.heyvl_num.specs.Rational.{Rational, ratio, zeroʳ, ◌+ʳ◌, ◌*ʳ◌, ◌≤ʳ◌, ◌<ʳ◌, leqʳ}
 use Rattle.heyvl_num.specs.Rounding.{whole}
-use Rattle.heyvl_num.proofs.Rationals.{ratio_parts, ratio_same, ratio-+, ratio-*, ratio-≤, ratio-≤_out}
-use Rattle.heyvl_num.proofs.Signs.{<ʳ-not}
+use Rattle.heyvl_num.proofs.exported.Rationals.{ratio_parts, ratio_same, ratio-+, ratio-*, ratio-≤, ratio-≤_out}
+use Rattle.heyvl_num.proofs.exported.Signs.{<ʳ-not}
 use Rattle.linear_form.specs.Terms.{sum_at, is_in, IsOver}
 use Rattle.linear_form.specs.Row.{Row}
 use Rattle.linear_form.specs.Points.{Point, IsBelow, Meets, IsMetSomewhere, left_side}

@@ -1,11 +1,11 @@
 -- The parts of linear values, and terms that may be added.
-use Rattle.std.proofs.Common.{◌≡◌, ℕ, ◌<◌, List, [], ◌∷◌, refl, sym, ap, ap₂, ◌∙◌, arith, Bool, true, false, cond, ◌==◌, ltb, ◌&&◌}
+use Rattle.std.proofs.Common.{◌≡◌, ℕ, ◌<◌, [], ◌∷◌, refl, sym, ap, ap₂, ◌∙◌, arith, Bool, true, false, cond, ◌==◌, ltb, ◌&&◌}
 use Rattle.heyvl_num.specs.Rational.{Rational, zeroʳ, ◌+ʳ◌, ◌*ʳ◌}
 use Rattle.heyvl_num.specs.Value.{is_zeroʳ}
-use Rattle.linear_form.specs.Lin.{Lin, Terms, constant, kept, more, merged, times, scaled, minus_oneʳ, fits, all_fit, is_sized, IsAbove, IsNormal}
-use Rattle.linear_form.specs.Run.{IsKept}
-use Rattle.linear_form.specs.FitTerms.{IsFitAt, AreFitAt}
-use Rattle.linear_form.specs.Loops.{IsMergedSoFar}
+use Rattle.linear_form.specs.Lin.{Lin, Terms, constant, unless_zero, more, merged, times, scaled, minus_oneʳ, fits, all_fit, is_sized, IsAbove, AreNormal}
+use Rattle.linear_form.specs.internal.Run.{IsKept}
+use Rattle.linear_form.specs.internal.FitTerms.{IsFitAt, AreFitAt}
+use Rattle.linear_form.specs.internal.Loops.{IsMergedSoFar}
 use Rattle.linear_form.proofs.EachResults.{of_two}
 use Rattle.linear_form.proofs.KeptValues.{zero_kept, scaled_normal}
 use Rattle.linear_form.proofs.Narrow.{fits_negated}
@@ -36,12 +36,12 @@ pub all_may_be_added : (us ts : Terms) → all_fit ts ≡ true → AreFitAt us t
 all_may_be_added [] ts h = tt
 all_may_be_added (u ∷ us) ts h = (fit_everywhere u.0 ts h, all_may_be_added us ts h)
 
-kept_fit : (y x : ℕ) (c : Rational) (ts : Terms) → (y == x) ≡ false → IsFitAt y ts → IsFitAt y (kept x c ts)
+kept_fit : (y x : ℕ) (c : Rational) (ts : Terms) → (y == x) ≡ false → IsFitAt y ts → IsFitAt y (unless_zero x c ts)
 kept_fit y x c ts e h = of_two (IsFitAt y) (is_zeroʳ c) ts ((x, c) ∷ ts) h (λ f. absurd (let k : true ≡ false = sym f ∙ e in cc), h)
 
 more_fit : (y x : ℕ) (c : Rational) (ts : Terms) → (y == x) ≡ false → IsFitAt y ts → IsFitAt y (more x c ts)
 more_fit y x c [] e h = kept_fit y x c [] e tt
-more_fit y x c (t ∷ ts) e h = of_two (IsFitAt y) (x == t.0) (kept x (t.1 +ʳ c) ts) _ (kept_fit y x (t.1 +ʳ c) ts e h.1) (of_two (IsFitAt y) (ltb x t.0) (kept x c (t ∷ ts)) (t ∷ more x c ts) (kept_fit y x c (t ∷ ts) e h) (h.0, more_fit y x c ts e h.1))
+more_fit y x c (t ∷ ts) e h = of_two (IsFitAt y) (x == t.0) (unless_zero x (t.1 +ʳ c) ts) _ (kept_fit y x (t.1 +ʳ c) ts e h.1) (of_two (IsFitAt y) (ltb x t.0) (unless_zero x c (t ∷ ts)) (t ∷ more x c ts) (kept_fit y x c (t ∷ ts) e h) (h.0, more_fit y x c ts e h.1))
 
 apart : (x y : ℕ) → x < y → (y == x) ≡ false
 apart x y h = grind arith
@@ -50,7 +50,7 @@ all_more_fit : (x : ℕ) (c : Rational) (us ts : Terms) → IsAbove x us → Are
 all_more_fit x c [] ts h k = tt
 all_more_fit x c (u ∷ us) ts h k = (more_fit u.0 x c ts (apart x u.0 h.0) k.0, all_more_fit x c us ts h.1 k.1)
 
-pub merged_init : (us ts made : Terms) → made ≡ ts → IsNormal us → all_fit us ≡ true → all_fit ts ≡ true → IsMergedSoFar us ts made us
+pub merged_init : (us ts made : Terms) → made ≡ ts → AreNormal us → all_fit us ≡ true → all_fit ts ≡ true → IsMergedSoFar us ts made us
 merged_init us ts made e n h k = record { whole = ap (λ ts. merged us ts) (sym e); normal = n; rest_fits = h; made_fits = all_may_be_added us made (ap all_fit e ∙ k) }
 
 pub merged_step : (us ts made made' : Terms) (u : ℕ × Rational) (rest others : Terms) → rest ≡ u ∷ others → made' ≡ more u.0 u.1 made → IsMergedSoFar us ts made rest → IsMergedSoFar us ts made' others

@@ -1,19 +1,19 @@
 -- Linear values keep their terms growing and without zeros, and their numbers below the bound.
-use Rattle.std.proofs.Common.{◌≡◌, ℕ, ◌<◌, List, [], ◌∷◌, refl, sym, ap, ap₂, ◌∙◌, arith, Bool, true, false, cond, ◌==◌, ltb, ◌||◌}
-use Rattle.std.specs.Prelude.{Option, Some, None}
+use Rattle.std.proofs.Common.{◌≡◌, ℕ, ◌<◌, List, [], ◌∷◌, refl, ap₂, ◌∙◌, arith, Bool, true, false, cond, ◌==◌, ltb, ◌||◌}
+use Rattle.std.specs.Prelude.{Some, None}
 use Rattle.heyvl_num.specs.Gcd.{gcd, gcd_steps}
 use Rattle.heyvl_num.specs.Rational.{Rational, ratio, zeroʳ, oneʳ, ◌+ʳ◌, ◌*ʳ◌}
 use Rattle.heyvl_num.specs.Value.{Value, is_zeroʳ}
 use Rattle.heyvl_num.specs.Value.Value.{finite, infinite}
-use Rattle.heyvl_num.proofs.Values.{is_zero-*, is_zero-one}
-use Rattle.heylo_formula.specs.Formula.{Form, Cond}
-use Rattle.linear_form.specs.Lin.{Lin, Terms, constant, variable, kept, more, merged, times, plus, minus, minus_oneʳ, scaled, fits, is_sized, IsAbove, IsNormal}
-use Rattle.linear_form.specs.Query.{Query, next}
-use Rattle.linear_form.specs.Query.Query.{done, bits, ask}
+use Rattle.heyvl_num.proofs.exported.Values.{is_zero-*, is_zero-one}
+use Rattle.heylo_formula.specs.Formula.{Form}
+use Rattle.linear_form.specs.Lin.{Lin, Terms, constant, variable, unless_zero, more, merged, times, plus, minus, minus_oneʳ, scaled, fits, is_sized, IsAbove, AreNormal}
+use Rattle.linear_form.specs.Query.{next}
+use Rattle.linear_form.specs.Query.Query.{done, bits}
 use Rattle.linear_form.specs.Questions as q
 use Rattle.linear_form.specs.Questions.{Linear, sized, is_below, evaluate, test}
 use Rattle.linear_form.specs.QuestionLaws.{EachResult}
-use Rattle.linear_form.specs.Run.{IsKept, IsKeptValue, Outcome, run}
+use Rattle.linear_form.specs.internal.Run.{IsKeptValue, Evaluation, along}
 use Rattle.linear_form.specs.Query.{Taken}
 use Rattle.linear_form.proofs.Runs.{run_result}
 use Rattle.linear_form.proofs.EachResults.{each_next, each_after, each_both, of_two}
@@ -24,17 +24,17 @@ above_less : (m n : ℕ) (ts : Terms) → m < n → IsAbove n ts → IsAbove m t
 above_less m n [] h k = tt
 above_less m n (t ∷ ts) h k = (omega arith, above_less m n ts h k.1)
 
-kept_above : (m x : ℕ) (c : Rational) (ts : Terms) → m < x → IsAbove m ts → IsAbove m (kept x c ts)
+kept_above : (m x : ℕ) (c : Rational) (ts : Terms) → m < x → IsAbove m ts → IsAbove m (unless_zero x c ts)
 kept_above m x c ts h k = of_two (IsAbove m) (is_zeroʳ c) ts ((x, c) ∷ ts) k (h, k)
 
 more_above : (m x : ℕ) (c : Rational) (ts : Terms) → m < x → IsAbove m ts → IsAbove m (more x c ts)
 more_above m x c [] h k = kept_above m x c [] h tt
-more_above m x c (t ∷ ts) h k = of_two (IsAbove m) (x == t.0) (kept x (t.1 +ʳ c) ts) _ (kept_above m x (t.1 +ʳ c) ts h k.1) (of_two (IsAbove m) (ltb x t.0) (kept x c (t ∷ ts)) (t ∷ more x c ts) (kept_above m x c (t ∷ ts) h k) (k.0, more_above m x c ts h k.1))
+more_above m x c (t ∷ ts) h k = of_two (IsAbove m) (x == t.0) (unless_zero x (t.1 +ʳ c) ts) _ (kept_above m x (t.1 +ʳ c) ts h k.1) (of_two (IsAbove m) (ltb x t.0) (unless_zero x c (t ∷ ts)) (t ∷ more x c ts) (kept_above m x c (t ∷ ts) h k) (k.0, more_above m x c ts h k.1))
 
-kept_normal : (x : ℕ) (c : Rational) (ts : Terms) → IsAbove x ts → IsNormal ts → IsNormal (kept x c ts)
+kept_normal : (x : ℕ) (c : Rational) (ts : Terms) → IsAbove x ts → AreNormal ts → AreNormal (unless_zero x c ts)
 kept_normal x c ts h k = go (is_zeroʳ c) refl
   where
-    go : (b : Bool) → is_zeroʳ c ≡ b → IsNormal (cond b ts ((x, c) ∷ ts))
+    go : (b : Bool) → is_zeroʳ c ≡ b → AreNormal (cond b ts ((x, c) ∷ ts))
     go true e = k
     go false e = (e, (h, k))
 
@@ -47,16 +47,16 @@ less x y f = grind arith
 greater : (x y : ℕ) → (x == y) ≡ false → ltb x y ≡ false → y < x
 greater x y e f = grind arith
 
-pub more_normal : (x : ℕ) (c : Rational) (ts : Terms) → IsNormal ts → IsNormal (more x c ts)
+pub more_normal : (x : ℕ) (c : Rational) (ts : Terms) → AreNormal ts → AreNormal (more x c ts)
 more_normal x c [] h = kept_normal x c [] tt tt
 more_normal x c (t ∷ ts) h = go (x == t.0) (ltb x t.0) refl refl (more_normal x c ts h.1.1)
   where
-    go : (a b : Bool) → (x == t.0) ≡ a → ltb x t.0 ≡ b → IsNormal (more x c ts) → IsNormal (cond a (kept x (t.1 +ʳ c) ts) (cond b (kept x c (t ∷ ts)) (t ∷ more x c ts)))
+    go : (a b : Bool) → (x == t.0) ≡ a → ltb x t.0 ≡ b → AreNormal (more x c ts) → AreNormal (cond a (unless_zero x (t.1 +ʳ c) ts) (cond b (unless_zero x c (t ∷ ts)) (t ∷ more x c ts)))
     go true b e f ih = kept_normal x (t.1 +ʳ c) ts (rw (same_number x t.0 e) h.1.0) h.1.1
     go false true e f ih = let k : x < t.0 = less x t.0 f in kept_normal x c (t ∷ ts) (k, above_less x t.0 ts k h.1.0) h
     go false false e f ih = (h.0, (more_above t.0 x c ts (greater x t.0 e f) h.1.0, ih))
 
-merged_normal : (us ts : Terms) → IsNormal ts → IsNormal (merged us ts)
+merged_normal : (us ts : Terms) → AreNormal ts → AreNormal (merged us ts)
 merged_normal [] ts h = h
 merged_normal (u ∷ us) ts h = merged_normal us (more u.0 u.1 ts) (more_normal u.0 u.1 ts h)
 
@@ -64,29 +64,29 @@ times_above : (m : ℕ) (w : Rational) (ts : Terms) → IsAbove m ts → IsAbove
 times_above m w [] h = tt
 times_above m w (t ∷ ts) h = (h.0, times_above m w ts h.1)
 
-times_normal : (w : Rational) (ts : Terms) → is_zeroʳ w ≡ false → IsNormal ts → IsNormal (times w ts)
+times_normal : (w : Rational) (ts : Terms) → is_zeroʳ w ≡ false → AreNormal ts → AreNormal (times w ts)
 times_normal w [] e h = tt
 times_normal w (t ∷ ts) e h = (is_zero-* w t.1 ∙ ap₂ (λ a b. a || b) e h.0, (times_above t.0 w ts h.1.0, times_normal w ts e h.1.1))
 
-pub plus_normal : (a b : Lin) → IsNormal a.terms → IsNormal (plus a b).terms
+pub plus_normal : (a b : Lin) → AreNormal a.terms → AreNormal (plus a b).terms
 unfolding plus
 plus_normal a b h = merged_normal b.terms a.terms h
 
-pub scaled_normal : (w : Rational) (a : Lin) → IsNormal a.terms → IsNormal (scaled w a).terms
+pub scaled_normal : (w : Rational) (a : Lin) → AreNormal a.terms → AreNormal (scaled w a).terms
 unfolding scaled
 scaled_normal w a h = go (is_zeroʳ w) refl
   where
-    go : (b : Bool) → is_zeroʳ w ≡ b → IsNormal (cond b (constant zeroʳ) (record { terms = times w a.terms; rest = w *ʳ a.rest })).terms
+    go : (b : Bool) → is_zeroʳ w ≡ b → AreNormal (cond b (constant zeroʳ) (record { terms = times w a.terms; rest = w *ʳ a.rest })).terms
     go true e = tt
     go false e = times_normal w a.terms e h
 
-pub minus_normal : (a b : Lin) → IsNormal a.terms → IsNormal (minus a b).terms
+pub minus_normal : (a b : Lin) → AreNormal a.terms → AreNormal (minus a b).terms
 unfolding minus
 minus_normal a b h = plus_normal a (scaled minus_oneʳ b) h
 
 -- ---- Operators
 
-pub sized_kept : (a : Lin) → IsNormal a.terms → EachResult IsKeptValue (sized (Some a))
+pub sized_kept : (a : Lin) → AreNormal a.terms → EachResult IsKeptValue (sized (Some a))
 sized_kept a h = go (is_sized a) refl
   where
     go : (b : Bool) → is_sized a ≡ b → EachResult IsKeptValue (cond b (done (Some a)) bits)
@@ -132,7 +132,7 @@ scale_kept : (w : Rational) (x : Linear) → IsKeptValue x → EachResult IsKept
 scale_kept w (Some a) h = sized_kept (scaled w a) (scaled_normal w a h.normal)
 scale_kept w None h = of_two IsKeptValue (is_zeroʳ w) q.zero None zero_kept tt
 
-finite_product_kept : (ts us : Terms) (a b : Lin) → IsNormal a.terms → IsNormal b.terms → EachResult IsKeptValue (q.finite_product ts us a b)
+finite_product_kept : (ts us : Terms) (a b : Lin) → AreNormal a.terms → AreNormal b.terms → EachResult IsKeptValue (q.finite_product ts us a b)
 finite_product_kept [] us a b h k = sized_kept (scaled a.rest b) (scaled_normal a.rest b k)
 finite_product_kept (t ∷ ts) [] a b h k = sized_kept (scaled b.rest a) (scaled_normal b.rest a h)
 finite_product_kept (t ∷ ts) (u ∷ us) a b h k = tt
@@ -198,5 +198,5 @@ form_kept (Form.iverson g) = each_after (test g) _ IsKeptValue (λ t. of_two IsK
 form_kept (Form.select g a b) = each_after (test g) _ IsKeptValue (λ t. of_two (EachResult IsKeptValue) t (evaluate a) (evaluate b) (form_kept a) (form_kept b))
 form_kept (Form.bind up x name ty a) = tt
 
-pub kept_found : (ps : List Taken) (f : Form) (i : ℕ) (x : Linear) (j : ℕ) → run ps (evaluate f) i ≡ Outcome.value x j → IsKeptValue x
+pub kept_found : (ps : List Taken) (f : Form) (i : ℕ) (x : Linear) (j : ℕ) → along ps (evaluate f) i ≡ Evaluation.value x j → IsKeptValue x
 kept_found ps f i x j h = run_result ps (evaluate f) IsKeptValue i x j (form_kept f) h

@@ -23,6 +23,7 @@ mod NormalClaims
 pub mod TypedTrees
 pub mod NumericRows
 pub mod DeniedRows
+mod RoomForDenied
 mod ShortPaths
 mod ClaimedRows
 mod KnownTruths
@@ -47,3 +48,6 @@ mod Coefficients
 mod RowsOfClaims
 mod SignRows
 mod FoundRows
+mod GreedyChoices
+mod GreedyUnique
+pub mod exported

@@ -1,14 +1,14 @@
 -- The value of a linear value in a state, operator by operator.
-use Rattle.std.proofs.Common.{◌≡◌, ◌↔◌, ℕ, ◌^◌, List, [], ◌∷◌, refl, sym, ap, ap₂, ◌∙◌, arith, lit<, Bool, true, false, not, cond, ◌==◌, ltb}
-use Rattle.std.proofs.Math.IntN.{pos, negsuc}
-use Rattle.heyvl_num.specs.Rational.{Rational, ratio, zeroʳ, oneʳ, ◌+ʳ◌, ◌*ʳ◌, ◌-ʳ◌, negʳ, leqʳ, ◌≤ʳ◌}
+use Rattle.std.proofs.Common.{◌≡◌, ◌↔◌, ℕ, [], ◌∷◌, refl, sym, ap, ap₂, ◌∙◌, arith, lit<, Bool, true, false, not, cond, ◌==◌, ltb}
+use Rattle.std.proofs.Math.IntN.{pos}
+use Rattle.heyvl_num.specs.Rational.{Rational, zeroʳ, oneʳ, ◌+ʳ◌, ◌*ʳ◌, ◌-ʳ◌, negʳ, leqʳ, ◌≤ʳ◌}
 use Rattle.heyvl_num.specs.Value.{is_zeroʳ}
-use Rattle.heyvl_num.proofs.Rationals as fraction
-use Rattle.heyvl_num.proofs.Rationals.{+ʳ_assoc, +ʳ_left_comm, zero-+ʳ, +ʳ-zero, zero-*ʳ, *ʳ-zero, one-*ʳ, *ʳ_assoc, *ʳ-+ʳ, +ʳ-*ʳ, ratio-neg}
-use Rattle.heyvl_num.proofs.Signs.{negʳ-*ʳ, minus_at_most, difference_nonnegative}
-use Rattle.heyvl_num.proofs.Values.{is_zero-is}
+use Rattle.heyvl_num.proofs.exported.Rationals as fraction
+use Rattle.heyvl_num.proofs.exported.Rationals.{+ʳ_assoc, +ʳ_left_comm, zero-+ʳ, +ʳ-zero, zero-*ʳ, *ʳ-zero, one-*ʳ, *ʳ_assoc, *ʳ-+ʳ, +ʳ-*ʳ, ratio-neg}
+use Rattle.heyvl_num.proofs.exported.Signs.{negʳ-*ʳ, minus_at_most, difference_nonnegative}
+use Rattle.heyvl_num.proofs.exported.Values.{is_zero-is}
 use Rattle.heylo_formula.specs.State.{Env, number_of}
-use Rattle.linear_form.specs.Lin.{Lin, Terms, kept, more, merged, times, constant, variable, plus, scaled, minus, minus_oneʳ, total, at}
+use Rattle.linear_form.specs.Lin.{Lin, Terms, unless_zero, more, merged, times, constant, variable, plus, scaled, minus, minus_oneʳ, total, at}
 use Rattle.linear_form.specs.Query.{is_negative}
 
 same_truth : (p q : Bool) → (p ≡ true → q ≡ true) → (q ≡ true → p ≡ true) → p ≡ q
@@ -40,7 +40,7 @@ minus_one_times x = ap (λ w. w *ʳ x) minus_one_is ∙ negʳ-*ʳ oneʳ x ∙ ap
 nothing_more : (x v r : Rational) → is_zeroʳ x ≡ true → r ≡ (x *ʳ v) +ʳ r
 nothing_more x v r e = rw (is_zero-is x e, zero-*ʳ v, zero-+ʳ r)
 
-kept_at : (x : ℕ) (c : Rational) (ts : Terms) (s : Env) → total (kept x c ts) s ≡ (c *ʳ number_of (s x)) +ʳ total ts s
+kept_at : (x : ℕ) (c : Rational) (ts : Terms) (s : Env) → total (unless_zero x c ts) s ≡ (c *ʳ number_of (s x)) +ʳ total ts s
 kept_at x c ts s = go (is_zeroʳ c) refl
   where
     go : (b : Bool) → is_zeroʳ c ≡ b → total (cond b ts ((x, c) ∷ ts)) s ≡ (c *ʳ number_of (s x)) +ʳ total ts s
@@ -57,7 +57,7 @@ more_at : (x : ℕ) (c : Rational) (ts : Terms) (s : Env) → total (more x c ts
 more_at x c [] s = kept_at x c [] s
 more_at x c (t ∷ ts) s = go (x == t.0) (ltb x t.0) refl (more_at x c ts s)
   where
-    go : (a b : Bool) → (x == t.0) ≡ a → total (more x c ts) s ≡ (c *ʳ number_of (s x)) +ʳ total ts s → total (cond a (kept x (t.1 +ʳ c) ts) (cond b (kept x c (t ∷ ts)) (t ∷ more x c ts))) s ≡ (c *ʳ number_of (s x)) +ʳ ((t.1 *ʳ number_of (s t.0)) +ʳ total ts s)
+    go : (a b : Bool) → (x == t.0) ≡ a → total (more x c ts) s ≡ (c *ʳ number_of (s x)) +ʳ total ts s → total (cond a (unless_zero x (t.1 +ʳ c) ts) (cond b (unless_zero x c (t ∷ ts)) (t ∷ more x c ts))) s ≡ (c *ʳ number_of (s x)) +ʳ ((t.1 *ʳ number_of (s t.0)) +ʳ total ts s)
     go true b e ih = kept_at x (t.1 +ʳ c) ts s ∙ joined c t.1 (number_of (s x)) (total ts s) ∙ ap (λ y. (c *ʳ number_of (s x)) +ʳ ((t.1 *ʳ number_of (s y)) +ʳ total ts s)) (same_number x t.0 e)
     go false true e ih = kept_at x c (t ∷ ts) s
     go false false e ih = ap (λ r. (t.1 *ʳ number_of (s t.0)) +ʳ r) ih ∙ +ʳ_left_comm _ _ _

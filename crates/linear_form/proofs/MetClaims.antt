@@ -1,32 +1,32 @@
 -- What a path claims holds in each state that agrees with it.
 use Rattle.std.proofs.Common.{◌≡◌, ℕ, List, [], ◌∷◌, ◌++◌, length, refl, sym, ap, ◌∙◌, subst, Bool, true, false, not, cond, ◌&&◌}
-use Rattle.std.specs.Prelude.{Option, Some, None}
+use Rattle.std.specs.Prelude.{Some, None}
 use Prim.Native.Nat.{zero, suc}
 use Rattle.heyvl_num.specs.Rational.{Rational, ratio, zeroʳ, ◌-ʳ◌, negʳ, leqʳ}
 use Rattle.heyvl_num.specs.Gcd.{gcd, gcd_steps}
 use Rattle.heyvl_num.specs.Value.{Value, leqᵛ, ◌≤ᵛ◌}
-use Rattle.heyvl_num.specs.Value.Value.{finite, infinite}
 use Rattle.heylo_formula.specs.Goals.{Goal, Compares, HoldsIn}
-use Rattle.heylo_formula.specs.State.{Env, IsTyped, environment, number_of, truth_of, has}
+use Rattle.heylo_formula.specs.State.{Env, IsTyped, environment, number_of, has}
 use Rattle.heylo_formula.specs.Choices.{Choices}
 use Rattle.heylo_formula.specs.Meaning.{value}
 use Rattle.heylo_formula.specs.Typing.{HasTypes, Types}
 use Rattle.heylo_formula.specs.declared.types.Ty.{Ty}
 use Rattle.heylo_formula.specs.declared.values.Val.{Val}
 use Rattle.heylo_formula.specs.declared.values.Val.TheVariants.{Truth, Num}
-use Rattle.linear_form.specs.Lin.{Lin, Terms, at, constant, variable, minus, scaled, minus_oneʳ}
+use Rattle.linear_form.specs.Lin.{Lin, at, variable, minus_oneʳ}
 use Rattle.linear_form.specs.Query.{Query, Atom, Taken, is_negative, holds_at}
 use Rattle.linear_form.specs.Query.Query.{done, bits, ask}
 use Rattle.linear_form.specs.Questions.{Linear, Ends, value_in}
 use Rattle.linear_form.specs.Paths.{IsPath, Agrees, end_at}
-use Rattle.linear_form.specs.TypedGoals.{IsTypedGoal, types_in}
+use Rattle.heylo_formula.specs.TypedGoals.{IsTypedGoal}
+use Rattle.heylo_formula.specs.Typing.{types_in}
 use Rattle.linear_form.specs.Tightening.{Claim}
-use Rattle.linear_form.specs.ClaimLaws.{IsClaimed, AllClaimed}
-use Rattle.linear_form.specs.PathRows.{claim, negated, answer_claims, path_claims, below_claim, denial, listed, denial_at, is_unsigned_type, occurs_in_claims, sign_claims, with_signs, claims_of}
+use Rattle.linear_form.specs.ClaimLaws.{IsClaimed, AllClaimed, AnswersClaimTruths, DenialsClaimTruths}
+use Rattle.linear_form.specs.PathRows.{claim, negated, answer_claims, path_claims, below_claim, denial, listed, denial_at, is_unsigned_type, occurs_in_claims, sign_claims, with_signs}
 use Rattle.linear_form.proofs.LinearValues.{scaled_at, constant_at, variable_at, minus_one_times, leq_zero_minus, leq_minus, below_at}
 use Rattle.linear_form.proofs.TypedValues.{typed_environment}
 use Rattle.linear_form.proofs.AgreedEnds.{ends_are_values}
-use Rattle.heyvl_num.proofs.Rationals.{zero-+ʳ}
+use Rattle.heyvl_num.proofs.exported.Rationals.{zero-+ʳ}
 
 claimed_append : (s : Env) (ks ls : List Claim) → AllClaimed s ks → AllClaimed s ls → AllClaimed s (ks ++ ls)
 claimed_append s [] ls h m = m
@@ -115,13 +115,13 @@ signs_claimed types s ks (suc n) h = claimed_append s (sign_claims types ks n) _
     go true e false = tt
     go false e b = tt
 
--- Each claim of a path holds in each state that agrees with it, the denied goal where the goal fails.
-pub all_claimed : (g : Goal) (s : List Val) (ps : List Taken) (denied : Bool) → IsTypedGoal g → IsTyped g.types s → IsPath g ps → Agrees (environment s) ps → (HoldsIn g (environment s) → ⊥) → AllClaimed (environment s) (claims_of g ps denied)
-all_claimed g s ps denied w t p a n = claimed_append (environment s) (before denied) (sign_claims (types_in g.types) (before denied) (length g.types)) (claimed_append (environment s) (path_claims ps) (cond denied (listed (denial_at g.upper (end_at g ps))) []) (path_claimed (environment s) ps a) (go denied)) (signs_claimed (types_in g.types) (environment s) (before denied) (length g.types) (typed_environment g.types s t))
-  where
-    before : Bool → List Claim
-    before b = path_claims ps ++ cond b (listed (denial_at g.upper (end_at g ps))) []
+signs_at : (g : Goal) (s : List Val) (ks : List Claim) → IsTyped g.types s → AllClaimed (environment s) ks → AllClaimed (environment s) (with_signs g ks)
+signs_at g s ks t h = claimed_append (environment s) ks (sign_claims (types_in g.types) ks (length g.types)) h (signs_claimed (types_in g.types) (environment s) ks (length g.types) (typed_environment g.types s t))
 
-    go : (b : Bool) → AllClaimed (environment s) (cond b (listed (denial_at g.upper (end_at g ps))) [])
-    go true = denied_claimed g s ps w t p a n
-    go false = tt
+-- Each claim of a path without the denied goal holds in each state that agrees with it.
+pub answers_claimed : AnswersClaimTruths
+answers_claimed g s ps t a = signs_at g s (path_claims ps ++ []) t (claimed_append (environment s) (path_claims ps) [] (path_claimed (environment s) ps a) tt)
+
+-- With the denied goal each holds where the goal fails.
+pub denials_claimed : DenialsClaimTruths
+denials_claimed g s ps w t p a n = signs_at g s (path_claims ps ++ listed (denial_at g.upper (end_at g ps))) t (claimed_append (environment s) (path_claims ps) (listed (denial_at g.upper (end_at g ps))) (path_claimed (environment s) ps a) (denied_claimed g s ps w t p a n))

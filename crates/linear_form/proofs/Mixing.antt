@@ -1,12 +1,11 @@
 -- Sums that are scaled and then merged.
 use Rattle.std.proofs.Common.{◌≡◌, ℕ, ◌*◌, ◌<◌, List, [], ◌∷◌, refl, sym, ap, ap₂, ◌∙◌, arith}
-use Rattle.std.specs.Prelude.{ℤ, pos, negsuc, ◌+ℤ◌, ◌*ℤ◌, ◌<ℤ◌}
+use Rattle.std.specs.Prelude.{ℤ, pos, negsuc, ◌*ℤ◌, ◌<ℤ◌}
 use borrow.Author.Differences.{ints}
 use Prim.Native.Nat.{zero, suc}
 use Rattle.std.proofs.Math.Nat.{mul-pos}
-use Rattle.std.specs.List.{All}
 use Rattle.std.proofs.lemmas.List.Elements.{All-nil, All-map}
-use Rattle.heyvl_num.proofs.Integers.{one-*ℤ}
+use Rattle.heyvl_num.proofs.exported.Integers.{one-*ℤ}
 use Rattle.linear_form.specs.Terms.{IsNormal, put_term, add_term, add_terms}
 use Rattle.linear_form.specs.Merging.{scaled_terms, merged_terms, mixed_terms}
 use Rattle.linear_form.proofs.Normal.{take_first}

@@ -4,7 +4,7 @@ use Rattle.std.specs.Prelude.{ℤ, pos, ◌+ℤ◌, ◌*ℤ◌}
 use Rattle.std.proofs.Math.IntN.{*ℤ-zero}
 use borrow.Author.Differences.{ints}
 use Rattle.std.proofs.Math.Nat.{mul-pos}
-use Rattle.heyvl_num.proofs.Integers.{ring}
+use Rattle.heyvl_num.proofs.exported.Integers.{ring}
 use Rattle.linear_form.specs.Terms.{sum_at, coefficient, add_terms}
 use Rattle.linear_form.specs.Row.{Row}
 use Rattle.linear_form.specs.Points.{Point, left_side, AgreesBut}

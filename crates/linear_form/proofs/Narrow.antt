@@ -1,6 +1,6 @@
 -- Sums and products of fractions below 2^62 are exact.
-use Rattle.std.proofs.Common.{◌≡◌, ℕ, ◌<◌, ◌≤◌, ◌*◌, ◌+◌, ◌^◌, refl, sym, ap, ap₂, ◌∙◌, subst, arith, lit<, Bool, true, false, cond, ◌&&◌, not, nat_lt, nat_eq, unsigned_abs, to_z, of_z, FitsSigned}
-use Rattle.std.specs.Prelude.{Option, Some, None}
+use Rattle.std.proofs.Common.{◌≡◌, ℕ, ◌<◌, ◌≤◌, ◌+◌, ◌^◌, refl, sym, ap, ap₂, ◌∙◌, arith, lit<, Bool, true, false, ◌&&◌, not, nat_lt, nat_eq, unsigned_abs, to_z, of_z, FitsSigned}
+use Rattle.std.specs.Prelude.{Some}
 use Rattle.std.proofs.Math.IntN.{ℤ, pos, negsuc, ◌+ℤ◌, ◌*ℤ◌, neg_ℤ}
 use Rattle.std.specs.Int.Signed.{le_z, lt_z}
 use Rattle.std.specs.Int.{w128}
@@ -13,8 +13,8 @@ use Rattle.heyvl_num.specs.Rational.{Rational, ratio, zeroʳ, oneʳ, ◌+ʳ◌, 
 use Rattle.heyvl_num.specs.RationalParts.{ratio_num-lowest, ratio_den-lowest}
 use Rattle.heyvl_num.specs.Exact.{is_small, quotient, quotient_fits, exact_quotient, sum_fits, exact_sum, product_fits, exact_product}
 use Rattle.heyvl_num.specs.Value.{is_zeroʳ, is_zero_num}
-use Rattle.heyvl_num.proofs.Integers.{*ℤ-one, zero_times}
-use Rattle.heyvl_num.proofs.Rationals.{ratio_parts, leq_ratio}
+use Rattle.heyvl_num.proofs.exported.Integers.{*ℤ-one, zero_times}
+use Rattle.heyvl_num.proofs.exported.Rationals.{ratio_parts, leq_ratio}
 use Rattle.linear_form.specs.Terms.{is_narrow}
 use Rattle.linear_form.specs.Lin.{fits, minus_oneʳ}
 use Rattle.linear_form.specs.Query.{is_negative}

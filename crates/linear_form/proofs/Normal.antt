@@ -7,8 +7,7 @@ use Prim.Native.Nat.{zero, suc}
 use Rattle.std.proofs.lemmas.Bool.{eqb-true}
 use Rattle.std.specs.List.{All}
 use Rattle.std.proofs.lemmas.List.Elements.{All-nil, All-cons, All-head, All-tail, All-weaker}
-use Rattle.heyvl_num.proofs.Integers.{ring}
-use Rattle.heyvl_num.specs.Value.{is_zero_num}
+use Rattle.heyvl_num.proofs.exported.Integers.{ring}
 use Rattle.linear_form.specs.Terms.{coefficient, is_in, IsNormal, IsOver, put_term, add_term, add_terms}
 use Rattle.linear_form.proofs.Sums.{sum_at-put}
 use Rattle.linear_form.proofs.Moves.{coefficient-is, coefficient-add, only}

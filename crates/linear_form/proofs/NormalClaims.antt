@@ -5,23 +5,23 @@ use Prim.Native.Nat.{zero, suc}
 use Rattle.heyvl_num.specs.Rational.{Rational}
 use Rattle.heyvl_num.specs.Value.{Value, is_zeroʳ}
 use Rattle.heyvl_num.specs.Value.Value.{finite, infinite}
-use Rattle.heyvl_num.proofs.Values.{is_zero-one}
+use Rattle.heyvl_num.proofs.exported.Values.{is_zero-one}
 use Rattle.heylo_formula.specs.Formula.{Form, Cond}
 use Rattle.heylo_formula.specs.Goals.{Goal}
 use Rattle.heylo_formula.specs.Typing.{Types}
-use Rattle.linear_form.specs.Lin.{Lin, Terms, constant, variable, plus, minus, minus_oneʳ, scaled, is_sized, IsNormal}
+use Rattle.linear_form.specs.Lin.{Lin, Terms, constant, variable, plus, minus, minus_oneʳ, scaled, is_sized, AreNormal}
 use Rattle.linear_form.specs.Query.{Query, Atom, Taken, next, known, unless_known, onto, once}
 use Rattle.linear_form.specs.Query.Query.{done, bits, ask}
 use Rattle.linear_form.specs.Questions as q
 use Rattle.linear_form.specs.Questions.{Linear, Ends, sized, asked, is_below, evaluate, test, both, questions}
 use Rattle.linear_form.specs.Paths.{walk, Path, IsPath, end_at}
-use Rattle.linear_form.specs.TypedGoals.{types_in}
+use Rattle.heylo_formula.specs.Typing.{types_in}
 use Rattle.linear_form.specs.Tightening.{Claim}
 use Rattle.linear_form.specs.ClaimLaws.{AllNonzero}
 use Rattle.linear_form.specs.PathRows.{claim, negated, answer_claims, path_claims, below_claim, listed, denial_at, is_unsigned_type, occurs_in_claims, sign_claims, claims_of}
-use Rattle.linear_form.specs.NormalPaths.{IsNormalAtom, IsNormalPath}
+use Rattle.linear_form.specs.internal.NormalPaths.{IsNormalAtom, IsNormalPath}
 use Rattle.linear_form.specs.QuestionLaws.{EachResult}
-use Rattle.linear_form.specs.Run.{IsKeptValue}
+use Rattle.linear_form.specs.internal.Run.{IsKeptValue}
 use Rattle.linear_form.proofs.EachResults.{of_two, each_next}
 use Rattle.linear_form.proofs.KeptValues.{plus_normal, minus_normal, scaled_normal, form_kept}
 use Rattle.linear_form.proofs.Factors.{normal_nonzero}
@@ -29,7 +29,7 @@ use Rattle.linear_form.proofs.Factors.{normal_nonzero}
 -- ---- The results and the questions of a tree
 
 abbrev IsGoodValue : Linear → Type 0
-IsGoodValue (Some a) = IsNormal a.terms
+IsGoodValue (Some a) = AreNormal a.terms
 IsGoodValue None = Unit {0}
 
 abbrev IsGood : {A : Type 0} → (A → Type 0) → Query A → Type 0
@@ -52,14 +52,14 @@ sized_good : (x : Linear) → IsGoodValue x → IsGood IsGoodValue (sized x)
 sized_good None h = tt
 sized_good (Some a) h = of_two (IsGood IsGoodValue) (is_sized a) (done (Some a)) bits h tt
 
-asked_good : (ts : Terms) (a : Lin) (strict : Bool) → IsNormal a.terms → IsGood Any (asked ts a strict)
+asked_good : (ts : Terms) (a : Lin) (strict : Bool) → AreNormal a.terms → IsGood Any (asked ts a strict)
 asked_good [] a strict h = tt
 asked_good (t ∷ ts) a strict h = (h, tt, tt)
 
-below_good : (a : Lin) (strict : Bool) → IsNormal a.terms → IsGood Any (is_below a strict)
+below_good : (a : Lin) (strict : Bool) → AreNormal a.terms → IsGood Any (is_below a strict)
 below_good a strict h = of_two (IsGood Any) (is_sized a) (asked a.terms a strict) bits (asked_good a.terms a strict h) tt
 
-picked_good : (a : Lin) (strict : Bool) (x y : Linear) → IsNormal a.terms → IsGoodValue x → IsGoodValue y → IsGood IsGoodValue (next (is_below a strict) (λ t. done (cond t x y)))
+picked_good : (a : Lin) (strict : Bool) (x y : Linear) → AreNormal a.terms → IsGoodValue x → IsGoodValue y → IsGood IsGoodValue (next (is_below a strict) (λ t. done (cond t x y)))
 picked_good a strict x y m h k = good_next (is_below a strict) _ Any IsGoodValue (below_good a strict m) (λ t e. of_two IsGoodValue t x y h k)
 
 sum_good : (x y : Linear) → IsGoodValue x → IsGoodValue y → IsGood IsGoodValue (q.sum x y)
@@ -83,7 +83,7 @@ scale_good : (w : Rational) (x : Linear) → IsGoodValue x → IsGood IsGoodValu
 scale_good w (Some a) h = sized_good (Some (scaled w a)) (scaled_normal w a h)
 scale_good w None h = of_two IsGoodValue (is_zeroʳ w) q.zero None tt tt
 
-finite_product_good : (ts us : Terms) (a b : Lin) → IsNormal a.terms → IsNormal b.terms → IsGood IsGoodValue (q.finite_product ts us a b)
+finite_product_good : (ts us : Terms) (a b : Lin) → AreNormal a.terms → AreNormal b.terms → IsGood IsGoodValue (q.finite_product ts us a b)
 finite_product_good [] us a b h k = sized_good (Some (scaled a.rest b)) (scaled_normal a.rest b k)
 finite_product_good (t ∷ ts) [] a b h k = sized_good (Some (scaled b.rest a)) (scaled_normal b.rest a h)
 finite_product_good (t ∷ ts) (u ∷ us) a b h k = tt
@@ -211,7 +211,7 @@ walk_good (ask q y n) _ P h (Path.no _ _ _ ps p) = walk_good n ps P h.2 p
 
 abbrev pub AllNormal : List Claim → Type 0
 AllNormal [] = Unit {0}
-AllNormal (k ∷ ks) = IsNormal k.left.terms × AllNormal ks
+AllNormal (k ∷ ks) = AreNormal k.left.terms × AllNormal ks
 
 normal_append : (ks ls : List Claim) → AllNormal ks → AllNormal ls → AllNormal (ks ++ ls)
 normal_append [] ls h m = m

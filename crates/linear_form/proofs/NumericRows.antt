@@ -13,7 +13,8 @@ use Rattle.linear_form.specs.Query.{Query, Atom, Taken}
 use Rattle.linear_form.specs.Query.Query.{done, bits, ask}
 use Rattle.linear_form.specs.Questions.{Linear, Ends}
 use Rattle.linear_form.specs.Paths.{IsPath, end_at}
-use Rattle.linear_form.specs.TypedGoals.{IsTypedGoal, types_in}
+use Rattle.heylo_formula.specs.TypedGoals.{IsTypedGoal}
+use Rattle.heylo_formula.specs.Typing.{types_in}
 use Rattle.linear_form.specs.Tightening.{Claim, tightened, tight_row, rounded, are_whole, factor, whole_terms}
 use Rattle.linear_form.specs.PathRows.{claim, negated, answer_claims, path_claims, below_claim, listed, denial_at, is_unsigned_type, occurs_in_claims, sign_claims, claims_of, with_row, all_tightened, rows_of}
 use Rattle.linear_form.specs.Row.{Row}

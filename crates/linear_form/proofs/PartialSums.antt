@@ -1,5 +1,5 @@
 -- Rows added up one after the other.
-use Rattle.std.proofs.Common.{◌≡◌, ℕ, ◌+◌, ◌<◌, ◌≤◌, ◌^◌, ◌↔◌, List, [], ◌∷◌, length, drop, take, get_or, refl, sym, ap, ◌∙◌, subst, arith, Bool, true, false, ◌||◌, to_z, of_z}
+use Rattle.std.proofs.Common.{◌≡◌, ℕ, ◌+◌, ◌<◌, ◌≤◌, ◌^◌, List, [], ◌∷◌, length, drop, take, get_or, refl, sym, ap, ◌∙◌, subst, arith, true, false, ◌||◌, to_z, of_z}
 use Rattle.std.specs.Int.{w64, w128}
 use Rattle.std.proofs.lemmas.Int.{to_z-of_z, fits_signed_from_abs}
 use Rattle.std.specs.Prelude.{ℤ, pos, ◌+ℤ◌, ◌*ℤ◌, unsigned_abs}
@@ -9,8 +9,8 @@ use Prim.Native.Nat.{zero, suc}
 use Rattle.std.specs.List.{All}
 use Rattle.std.proofs.lemmas.List.Elements.{All-nil, All-cons, All-head, All-tail}
 use Rattle.linear_form.specs.Row.{Row}
-use Rattle.linear_form.specs.Combination.{row_at, combined, uses_strict, IsGrowing, IsWideThroughout}
-use Rattle.linear_form.specs.Columns.{AreMultipliers}
+use Rattle.linear_form.specs.Combination.{row_at, combined, uses_strict, IsWideThroughout}
+use Rattle.linear_form.specs.internal.Columns.{AreMultipliers}
 use Rattle.linear_form.proofs.Positions.{from, at_end, take_none}
 
 -- Each partial sum of the rest, begun at z, is below 2^126.

@@ -1,31 +1,30 @@
 -- An evaluation along a path of a tree gives what stands at the path's end.
-use Rattle.std.proofs.Common.{◌≡◌, ℕ, ◌+◌, List, [], ◌∷◌, ◌++◌, refl, sym, ap, ap₂, ◌∙◌, subst, arith, Bool, true, false, cond, take, drop, length}
-use Prim.Native.Nat.{zero, suc}
+use Rattle.std.proofs.Common.{◌≡◌, ℕ, ◌+◌, List, [], ◌∷◌, ◌++◌, refl, sym, ap, subst, arith, Bool, true, false, take, drop, length}
 use Rattle.std.specs.Prelude.{Option, Some, None}
 use Rattle.heylo_formula.specs.Goals.{Goal}
-use Rattle.linear_form.specs.Query.{Query, Atom, Taken, next, known, unless_known, once, onto}
+use Rattle.linear_form.specs.Query.{Query, Atom, Taken, known, unless_known, once, onto}
 use Rattle.linear_form.specs.Query.Query.{done, bits, ask}
 use Rattle.linear_form.specs.Paths.{Path, walk, IsPath, end_at}
-use Rattle.linear_form.specs.Questions.{Linear, Ends, questions, evaluate, both}
-use Rattle.linear_form.specs.Run.{Outcome, run, turned, heard}
-use Rattle.linear_form.specs.Run.Outcome.{value, decide}
+use Rattle.linear_form.specs.Questions.{Ends, evaluate, both}
+use Rattle.linear_form.specs.internal.Run.{Evaluation, along, turned, heard}
+use Rattle.linear_form.specs.internal.Run.Evaluation.{value, decide}
 use Rattle.linear_form.specs.PlainPaths.{linear_of, atom_of}
-use Rattle.linear_form.specs.Seen.{Answers}
+use Rattle.linear_form.specs.Asked.{Answers}
 use Rattle.linear_form.specs.declared.lin.Lin as L
 use Rattle.linear_form.specs.declared.paths.Atom as A
 use Rattle.linear_form.specs.declared.asking.Ask as K
 
 -- an evaluation came to what the tree has at its head
-abbrev pub Same : {A : Type 0} → Outcome A → Query A → Type 0
-Same (Outcome.value a i) (Query.done b) = a ≡ b
-Same (Outcome.value a i) Query.bits = ⊥
-Same (Outcome.value a i) (Query.ask q y n) = ⊥
-Same (Outcome.decide q) (Query.done b) = ⊥
-Same (Outcome.decide q) Query.bits = ⊥
-Same (Outcome.decide q) (Query.ask r y n) = q ≡ r
-Same Outcome.bits (Query.done b) = ⊥
-Same Outcome.bits Query.bits = Unit {0}
-Same Outcome.bits (Query.ask q y n) = ⊥
+abbrev pub Same : {A : Type 0} → Evaluation A → Query A → Type 0
+Same (Evaluation.value a i) (Query.done b) = a ≡ b
+Same (Evaluation.value a i) Query.bits = ⊥
+Same (Evaluation.value a i) (Query.ask q y n) = ⊥
+Same (Evaluation.decide q) (Query.done b) = ⊥
+Same (Evaluation.decide q) Query.bits = ⊥
+Same (Evaluation.decide q) (Query.ask r y n) = q ≡ r
+Same Evaluation.bits (Query.done b) = ⊥
+Same Evaluation.bits Query.bits = Unit {0}
+Same Evaluation.bits (Query.ask q y n) = ⊥
 
 drop_past : (ps rest : List Taken) → drop (length ps) (ps ++ rest) ≡ rest
 drop_past [] rest = refl
@@ -43,25 +42,25 @@ onto_length : (ps : List Taken) (q : Atom) (b : Bool) → length (onto ps q b) �
 onto_length [] q b = refl
 onto_length (p ∷ ps) q b = let e = onto_length ps q b in omega arith
 
-step : {A : Type 0} (past rest : List Taken) (q : Atom) (y n y' n' : Query A) → Path (ask q y' n') rest → ((ps : List Taken) → Path y' ps → Same (run (onto past q true ++ ps) y (length (onto past q true))) (walk y' ps)) → ((ps : List Taken) → Path n' ps → Same (run (onto past q false ++ ps) n (length (onto past q false))) (walk n' ps)) → Same (turned (drop (length past) (past ++ rest)) q (run (past ++ rest) y (length past + 1)) (run (past ++ rest) n (length past + 1))) (walk (ask q y' n') rest)
-step past _ q y n y' n' (Path.start _) f g = subst (λ zs. Same (turned zs q (run (past ++ []) y (length past + 1)) (run (past ++ []) n (length past + 1))) (ask q y' n')) (sym (drop_past past [])) refl
-step past _ q y n y' n' (Path.yes _ _ _ ps p) f g = subst (λ zs. Same (turned zs q (run (past ++ (record { atom = q; held = true } ∷ ps)) y (length past + 1)) (run (past ++ (record { atom = q; held = true } ∷ ps)) n (length past + 1))) (walk y' ps)) (sym (drop_past past _)) (subst (λ i. Same (run (past ++ (record { atom = q; held = true } ∷ ps)) y i) (walk y' ps)) (onto_length past q true) (subst (λ zs. Same (run zs y (length (onto past q true))) (walk y' ps)) (onto_more past ps q true) (f ps p)))
-step past _ q y n y' n' (Path.no _ _ _ ps p) f g = subst (λ zs. Same (turned zs q (run (past ++ (record { atom = q; held = false } ∷ ps)) y (length past + 1)) (run (past ++ (record { atom = q; held = false } ∷ ps)) n (length past + 1))) (walk n' ps)) (sym (drop_past past _)) (subst (λ i. Same (run (past ++ (record { atom = q; held = false } ∷ ps)) n i) (walk n' ps)) (onto_length past q false) (subst (λ zs. Same (run zs n (length (onto past q false))) (walk n' ps)) (onto_more past ps q false) (g ps p)))
+step : {A : Type 0} (past rest : List Taken) (q : Atom) (y n y' n' : Query A) → Path (ask q y' n') rest → ((ps : List Taken) → Path y' ps → Same (along (onto past q true ++ ps) y (length (onto past q true))) (walk y' ps)) → ((ps : List Taken) → Path n' ps → Same (along (onto past q false ++ ps) n (length (onto past q false))) (walk n' ps)) → Same (turned (drop (length past) (past ++ rest)) q (along (past ++ rest) y (length past + 1)) (along (past ++ rest) n (length past + 1))) (walk (ask q y' n') rest)
+step past _ q y n y' n' (Path.start _) f g = subst (λ zs. Same (turned zs q (along (past ++ []) y (length past + 1)) (along (past ++ []) n (length past + 1))) (ask q y' n')) (sym (drop_past past [])) refl
+step past _ q y n y' n' (Path.yes _ _ _ ps p) f g = subst (λ zs. Same (turned zs q (along (past ++ (record { atom = q; held = true } ∷ ps)) y (length past + 1)) (along (past ++ (record { atom = q; held = true } ∷ ps)) n (length past + 1))) (walk y' ps)) (sym (drop_past past _)) (subst (λ i. Same (along (past ++ (record { atom = q; held = true } ∷ ps)) y i) (walk y' ps)) (onto_length past q true) (subst (λ zs. Same (along zs y (length (onto past q true))) (walk y' ps)) (onto_more past ps q true) (f ps p)))
+step past _ q y n y' n' (Path.no _ _ _ ps p) f g = subst (λ zs. Same (turned zs q (along (past ++ (record { atom = q; held = false } ∷ ps)) y (length past + 1)) (along (past ++ (record { atom = q; held = false } ∷ ps)) n (length past + 1))) (walk n' ps)) (sym (drop_past past _)) (subst (λ i. Same (along (past ++ (record { atom = q; held = false } ∷ ps)) n i) (walk n' ps)) (onto_length past q false) (subst (λ zs. Same (along zs n (length (onto past q false))) (walk n' ps)) (onto_more past ps q false) (g ps p)))
 
-pub run_walk : {A : Type 0} (past rest : List Taken) (t : Query A) → Path (once past t) rest → Same (run (past ++ rest) t (length past)) (walk (once past t) rest)
-unfolding run
+pub run_walk : {A : Type 0} (past rest : List Taken) (t : Query A) → Path (once past t) rest → Same (along (past ++ rest) t (length past)) (walk (once past t) rest)
+unfolding along
 run_walk past rest (done a) p = refl
 run_walk past rest bits p = tt
 run_walk past rest (ask (Atom.row a strict) y n) p = step past rest (Atom.row a strict) y n _ _ p (λ ps r. run_walk (onto past (Atom.row a strict) true) ps y r) (λ ps r. run_walk (onto past (Atom.row a strict) false) ps n r)
-run_walk {A} past rest (ask (Atom.truth x) y n) p = subst (λ zs. Same (heard (known x zs) (run (past ++ rest) y (length past)) (run (past ++ rest) n (length past)) (turned (drop (length past) (past ++ rest)) (Atom.truth x) (run (past ++ rest) y (length past + 1)) (run (past ++ rest) n (length past + 1)))) (walk (unless_known (known x past) (once past y) (once past n) (ask (Atom.truth x) (once (onto past (Atom.truth x) true) y) (once (onto past (Atom.truth x) false) n))) rest)) (sym (take_past past rest)) (go (known x past) p (run_walk past rest y) (run_walk past rest n) (λ ps r. run_walk (onto past (Atom.truth x) true) ps y r) (λ ps r. run_walk (onto past (Atom.truth x) false) ps n r))
+run_walk {A} past rest (ask (Atom.truth x) y n) p = subst (λ zs. Same (heard (known x zs) (along (past ++ rest) y (length past)) (along (past ++ rest) n (length past)) (turned (drop (length past) (past ++ rest)) (Atom.truth x) (along (past ++ rest) y (length past + 1)) (along (past ++ rest) n (length past + 1)))) (walk (unless_known (known x past) (once past y) (once past n) (ask (Atom.truth x) (once (onto past (Atom.truth x) true) y) (once (onto past (Atom.truth x) false) n))) rest)) (sym (take_past past rest)) (go (known x past) p (run_walk past rest y) (run_walk past rest n) (λ ps r. run_walk (onto past (Atom.truth x) true) ps y r) (λ ps r. run_walk (onto past (Atom.truth x) false) ps n r))
   where
-    go : (o : Option Bool) → Path (unless_known o (once past y) (once past n) (ask (Atom.truth x) (once (onto past (Atom.truth x) true) y) (once (onto past (Atom.truth x) false) n))) rest → (Path (once past y) rest → Same (run (past ++ rest) y (length past)) (walk (once past y) rest)) → (Path (once past n) rest → Same (run (past ++ rest) n (length past)) (walk (once past n) rest)) → ((ps : List Taken) → Path (once (onto past (Atom.truth x) true) y) ps → Same (run (onto past (Atom.truth x) true ++ ps) y (length (onto past (Atom.truth x) true))) (walk (once (onto past (Atom.truth x) true) y) ps)) → ((ps : List Taken) → Path (once (onto past (Atom.truth x) false) n) ps → Same (run (onto past (Atom.truth x) false ++ ps) n (length (onto past (Atom.truth x) false))) (walk (once (onto past (Atom.truth x) false) n) ps)) → Same (heard o (run (past ++ rest) y (length past)) (run (past ++ rest) n (length past)) (turned (drop (length past) (past ++ rest)) (Atom.truth x) (run (past ++ rest) y (length past + 1)) (run (past ++ rest) n (length past + 1)))) (walk (unless_known o (once past y) (once past n) (ask (Atom.truth x) (once (onto past (Atom.truth x) true) y) (once (onto past (Atom.truth x) false) n))) rest)
+    go : (o : Option Bool) → Path (unless_known o (once past y) (once past n) (ask (Atom.truth x) (once (onto past (Atom.truth x) true) y) (once (onto past (Atom.truth x) false) n))) rest → (Path (once past y) rest → Same (along (past ++ rest) y (length past)) (walk (once past y) rest)) → (Path (once past n) rest → Same (along (past ++ rest) n (length past)) (walk (once past n) rest)) → ((ps : List Taken) → Path (once (onto past (Atom.truth x) true) y) ps → Same (along (onto past (Atom.truth x) true ++ ps) y (length (onto past (Atom.truth x) true))) (walk (once (onto past (Atom.truth x) true) y) ps)) → ((ps : List Taken) → Path (once (onto past (Atom.truth x) false) n) ps → Same (along (onto past (Atom.truth x) false ++ ps) n (length (onto past (Atom.truth x) false))) (walk (once (onto past (Atom.truth x) false) n) ps)) → Same (heard o (along (past ++ rest) y (length past)) (along (past ++ rest) n (length past)) (turned (drop (length past) (past ++ rest)) (Atom.truth x) (along (past ++ rest) y (length past + 1)) (along (past ++ rest) n (length past + 1)))) (walk (unless_known o (once past y) (once past n) (ask (Atom.truth x) (once (onto past (Atom.truth x) true) y) (once (onto past (Atom.truth x) false) n))) rest)
     go (Some true) p f g k l = f p
     go (Some false) p f g k l = g p
     go None p f g k l = step past rest (Atom.truth x) y n _ _ p k l
 
 -- what a goal's evaluation comes to is what stands at the end of the path
-pub goal_end : (g : Goal) (ps : List Taken) (o : Outcome Ends) → IsPath g ps → run ps (both (evaluate g.stated) (evaluate g.found) (λ x y. done (x, y))) 0 ≡ o → Same o (end_at g ps)
+pub goal_end : (g : Goal) (ps : List Taken) (o : Evaluation Ends) → IsPath g ps → along ps (both (evaluate g.stated) (evaluate g.found) (λ x y. done (x, y))) 0 ≡ o → Same o (end_at g ps)
 goal_end g ps o p e = subst (λ o. Same o (end_at g ps)) e (run_walk [] ps (both (evaluate g.stated) (evaluate g.found) (λ x y. done (x, y))) p)
 
 pub answer_end : (x z : Option L.Lin) (i : ℕ) (t : Query Ends) → Same (value (linear_of x, linear_of z) i) t → Answers (K.TheVariants.End x z) t
@@ -74,7 +73,7 @@ answer_decide q (done e) h = h
 answer_decide q bits h = h
 answer_decide q (ask r y n) h = h
 
-pub answer_bits : (t : Query Ends) → Same Outcome.bits t → Answers K.TheVariants.Bits t
+pub answer_bits : (t : Query Ends) → Same Evaluation.bits t → Answers K.TheVariants.Bits t
 answer_bits (done e) h = h
 answer_bits bits h = h
 answer_bits (ask r y n) h = h

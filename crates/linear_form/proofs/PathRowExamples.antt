@@ -1,6 +1,6 @@
 -- The rows of paths, and a front that is dropped, computed at values found by hand.
-use Rattle.std.proofs.Common.{◌≡◌, refl, sym, subst, ◌∙◌, cond, eqb, List, [], ◌∷◌, ◌++◌, Bool, true, false, arith, inl, ◌<◌}
-use Rattle.std.specs.Prelude.{ℕ, ℤ, pos, negsuc, ◌+ℤ◌, ◌*ℤ◌, ◌<ℤ◌, Option, Some, None}
+use Rattle.std.proofs.Common.{◌≡◌, refl, sym, subst, cond, eqb, List, [], ◌∷◌, Bool, true, false, arith, inl, ◌<◌}
+use Rattle.std.specs.Prelude.{ℕ, ℤ, pos, negsuc, ◌+ℤ◌, ◌*ℤ◌, ◌<ℤ◌, Some, None}
 use Rattle.std.specs.List.{All}
 use borrow.Author.Differences.{ints}
 use Rattle.std.proofs.lemmas.List.Elements.{All-nil, All-cons}
@@ -14,17 +14,17 @@ use Rattle.heylo_formula.specs.Formula.{Form, Cond}
 use Rattle.heylo_formula.specs.Goals.{Goal}
 use Rattle.heylo_formula.specs.declared.types.Ty.{Ty}
 use Rattle.linear_form.specs.Row.{Row}
-use Rattle.linear_form.specs.Lin.{Lin, constant, variable, minus_oneʳ, plus, minus, scaled, fits, is_sized}
+use Rattle.linear_form.specs.Lin.{variable, minus_oneʳ, plus, minus, scaled, fits, is_sized}
 use Rattle.linear_form.specs.Terms.{coefficient}
 use Rattle.linear_form.specs.Combination.{combined}
 use Rattle.linear_form.specs.Solutions.{IsSolvable}
 use Rattle.linear_form.specs.Query.{Atom, Taken}
 use Rattle.linear_form.specs.Query.Query.{done}
 use Rattle.linear_form.specs.Questions.{zero, one}
-use Rattle.linear_form.specs.Paths.{Path, IsPath}
+use Rattle.linear_form.specs.Paths.{Asks}
 use Rattle.linear_form.specs.Tightening.{common_multiple, common_divisor, factor, tightened}
 use Rattle.linear_form.specs.PathRows.{rows_of}
-use Rattle.linear_form.specs.Cells.{IsDropped, IsFront}
+use Rattle.linear_form.specs.Cells.{IsDropped, IsKept, IsFront}
 use Rattle.linear_form.proofs.Combinations.{unmet}
 use Rattle.linear_form.proofs.Fractions.{solvable_is}
 
@@ -116,29 +116,18 @@ dropped : IsDropped natural (negative true)
 unfolding natural unmet_rows
 dropped = record { rows = unmet_rows; are_rows = not_denied.0; unsolvable = unsolvable }
 
--- the path without an answer has no rows, and so it isn't dropped
+-- the path without an answer has no rows, and so it is kept
 nothing_at_the_start : rows_of natural [] false ≡ Some []
 unfolding goal natural if_negative minus plus scaled minus_oneʳ is_sized fits is_zeroʳ leqʳ ratio gcd gcd_steps zeroʳ oneʳ ◌+ʳ◌ ◌*ʳ◌
 nothing_at_the_start = refl
 
-same_rows : (rs ss : List Row) → Some rs ≡ Some ss → rs ≡ ss
-same_rows rs ss e = cc
+start_is_kept : IsKept natural []
+start_is_kept = record { rows = []; are_rows = nothing_at_the_start; solvable = record { at_values = λ x. zeroʳ; meets = All-nil _ } }
 
-no_row : IsSolvable []
-no_row = record { at_values = λ x. zeroʳ; meets = All-nil _ }
-
-start_is_kept : IsDropped natural [] → ⊥
-start_is_kept d = d.unsolvable (subst (λ rs. IsSolvable rs) (same_rows [] d.rows (sym nothing_at_the_start ∙ d.are_rows)) no_row)
-
-is_path : IsPath natural (negative true)
-unfolding goal negative natural if_negative minus plus scaled minus_oneʳ is_sized fits is_zeroʳ leqʳ ratio gcd gcd_steps zeroʳ oneʳ ◌+ʳ◌ ◌*ʳ◌
-is_path = Path.yes (Atom.row (variable 0) true) (done (zero, one)) (done (one, one)) [] (Path.start (done (zero, one)))
+asks_at_the_start : Asks natural [] (Atom.row (variable 0) true)
+unfolding goal natural if_negative minus plus scaled minus_oneʳ is_sized fits is_zeroʳ leqʳ ratio gcd gcd_steps zeroʳ oneʳ ◌+ʳ◌ ◌*ʳ◌
+asks_at_the_start = record { yes = done (zero, one); no = done (one, one); question = refl }
 
 front : IsFront natural (negative true)
 unfolding negative
-front = record { is_path = is_path; reached = reached }
-  where
-    reached : (before : List Taken) (p : Taken) (after : List Taken) → negative true ≡ before ++ (p ∷ after) → IsDropped natural before → ⊥
-    reached [] p after e d = start_is_kept d
-    reached (q ∷ []) p after e d = absurd (cc)
-    reached (q ∷ (r ∷ qs)) p after e d = absurd (cc)
+front = IsFront.answer [] (Atom.row (variable 0) true) true IsFront.start (record { kept = start_is_kept; asks = asks_at_the_start })

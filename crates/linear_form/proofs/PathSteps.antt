@@ -1,5 +1,5 @@
 -- A path and one more answer.
-use Rattle.std.proofs.Common.{◌≡◌, List, [], ◌∷◌, ap, sym, subst, Bool, true, false}
+use Rattle.std.proofs.Common.{◌≡◌, List, [], ◌∷◌, sym, subst, Bool, true, false}
 use Rattle.heylo_formula.specs.State.{Env}
 use Rattle.linear_form.specs.Query.{Query, Atom, Taken, holds_at, onto}
 use Rattle.linear_form.specs.Query.Query.{done, bits, ask}

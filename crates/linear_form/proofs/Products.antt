@@ -1,9 +1,8 @@
 -- The product of two fractions in lowest terms, reduced crosswise before it is made.
 use Rattle.std.proofs.Common.{◌≡◌, ℕ, ◌<◌, ◌*◌, ◌/◌, ◌^◌, refl, sym, ap, ap₂, ◌∙◌, subst, arith, Bool, true, false, cond, ◌&&◌, nat_lt, unsigned_abs, ◌≤◌, ◌+◌, FitsSigned}
-use Rattle.std.specs.Prelude.{Option, Some, None}
+use Rattle.std.specs.Prelude.{Some, None}
 use Rattle.std.proofs.Math.IntN.{ℤ, pos, negsuc, ◌*ℤ◌}
 use Prim.Native.Nat.{suc, zero, ◌∣◌}
-use Rattle.std.specs.Int.{IsGcd}
 use Rattle.std.proofs.lemmas.Int.{unsigned_abs-mul}
 use Rattle.std.proofs.lemmas.Nat.Gcd.{dvd_trans, le_of_dvd}
 use Rattle.std.proofs.Math.Nat.{dvd-mul_right, dvd-mul_right_of_dvd, eq-one_of_dvd-one, pos_of_dvd_of_pos, mul-pos, mul_comm, one-mul}
@@ -13,14 +12,14 @@ use Rattle.heyvl_num.specs.Rational.{Rational, ratio, zeroʳ, ◌*ʳ◌, abs_div
 use Rattle.heyvl_num.specs.RationalParts.{ratio_num-lowest, ratio_den-lowest}
 use Rattle.heyvl_num.specs.Exact.{is_small, quotient, quotient_fits, exact_quotient, exact_product, product_fits}
 use Rattle.heyvl_num.specs.Value.{is_zero_num, is_zeroʳ}
-use Rattle.heyvl_num.proofs.Exactness.{exact_product_some, exact_quotient_some}
-use Rattle.heyvl_num.proofs.Values.{is_zero-is}
-use Rattle.heyvl_num.proofs.Rationals.{*ʳ-zero}
+use Rattle.heyvl_num.proofs.exported.Exactness.{exact_product_some, exact_quotient_some}
+use Rattle.heyvl_num.proofs.exported.Values.{is_zero-is}
+use Rattle.heyvl_num.proofs.exported.Rationals.{*ʳ-zero}
 use Rattle.std.specs.Int.{w128}
 use Rattle.std.proofs.lemmas.Nat.{mul-lt}
 use borrow.Author.Differences.{ints}
-use Rattle.linear_form.specs.Operator.{small_product}
-use Rattle.heyvl_num.proofs.Rationals.{ratio_num, ratio_den, ratio-*}
+use Rattle.linear_form.specs.internal.Operator.{small_product}
+use Rattle.heyvl_num.proofs.exported.Rationals.{ratio_num, ratio_den, ratio-*}
 use Rattle.linear_form.specs.Lin.{Lin, Terms, constant, times, scaled, fits, all_fit, is_sized}
 use Rattle.linear_form.proofs.Narrow.{small, num_less, den_less}
 

@@ -1,5 +1,5 @@
 -- Laws of trees of questions: the one path of a state, and what stands at its end.
-use Rattle.std.proofs.Common.{◌≡◌, ℕ, List, [], ◌∷◌, refl, sym, ap, ap₂, ◌∙◌, subst, arith, Bool, true, false, cond, ◌==◌}
+use Rattle.std.proofs.Common.{◌≡◌, ℕ, List, [], ◌∷◌, refl, sym, ap, ◌∙◌, subst, arith, Bool, true, false, cond, ◌==◌}
 use Rattle.std.specs.Prelude.{Option, Some, None}
 use Rattle.heylo_formula.specs.State.{Env, truth_of}
 use Rattle.linear_form.specs.Query.{Query, Atom, next, holds_at, Taken, known, known_by, unless_known, onto, once}

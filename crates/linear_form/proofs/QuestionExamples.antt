@@ -1,17 +1,17 @@
 -- The questions of forms and conditions, computed at values found by hand.
-use Rattle.std.proofs.Common.{◌≡◌, refl, List, [], ◌∷◌, Bool, true, false}
-use Rattle.std.specs.Prelude.{ℕ, pos, negsuc, Some, None}
+use Rattle.std.proofs.Common.{◌≡◌, refl, [], ◌∷◌, true, false}
+use Rattle.std.specs.Prelude.{pos, negsuc, Some, None}
 use Rattle.heyvl_syntax.specs.declared.spans.Span.{Span}
 use Rattle.heyvl_num.specs.Gcd.{gcd, gcd_steps}
 use Rattle.heyvl_num.specs.Rational.{ratio, zeroʳ, oneʳ, leqʳ, ◌+ʳ◌, ◌*ʳ◌}
 use Rattle.heyvl_num.specs.Value.{is_zeroʳ}
-use Rattle.heyvl_num.specs.Value.Value.{finite, infinite}
+use Rattle.heyvl_num.specs.Value.Value.{finite}
 use Rattle.heylo_formula.specs.Formula.{Form, Cond}
 use Rattle.heylo_formula.specs.Goals.{Goal}
 use Rattle.linear_form.specs.Lin.{Lin, constant, variable, minus_oneʳ, plus, minus, scaled, fits, is_sized}
-use Rattle.linear_form.specs.Query.{Query, Atom, once}
+use Rattle.linear_form.specs.Query.{Atom, once}
 use Rattle.linear_form.specs.Query.Query.{done, bits, ask}
-use Rattle.linear_form.specs.Questions.{Linear, Ends, zero, one, sized, number, sum, difference, cut, scale, product, min, max, imply, co_imply, validate, co_validate, at_most, less, equal, evaluate, test, questions}
+use Rattle.linear_form.specs.Questions.{Linear, zero, one, sum, difference, cut, scale, product, min, max, imply, co_imply, validate, co_validate, at_most, less, equal, evaluate, test, questions}
 
 x : Linear
 x = Some (variable 0)

@@ -4,13 +4,13 @@ use Prim.Native.Nat.{zero, suc}
 use Rattle.std.specs.Prelude.{ℤ, pos, negsuc, Option, Some, None, Result, Ok, Err, IfOk}
 use Rattle.heyvl_num.specs.Rational.{Rational, ratio, oneʳ, ◌*ʳ◌}
 use Rattle.heyvl_num.specs.Exact.{exact_product, product_fits}
-use Rattle.heyvl_num.proofs.Exactness.{exact_product_some, exact_product_none}
-use Rattle.heyvl_num.proofs.Rationals.{one-*ʳ}
+use Rattle.heyvl_num.proofs.exported.Exactness.{exact_product_some, exact_product_none}
+use Rattle.heyvl_num.proofs.exported.Rationals.{one-*ʳ}
 use Rattle.heylo_formula.specs.Typing.{Types}
 use Rattle.linear_form.specs.Row.{Row}
-use Rattle.linear_form.specs.Lin.{Lin, Terms, IsNormal, fits, all_fit, is_sized}
+use Rattle.linear_form.specs.Lin.{Lin, Terms, AreNormal, fits, all_fit, is_sized}
 use Rattle.linear_form.specs.Terms.{is_narrow}
-use Rattle.linear_form.specs.Operator.{narrow_value}
+use Rattle.linear_form.specs.internal.Operator.{narrow_value}
 use Rattle.linear_form.specs.ClaimLaws.{AreNonzero}
 use Rattle.linear_form.specs.Tightening.{Claim, tightened, tight_row, sign_of, rounded, are_whole, factor, whole_terms, all_narrow, constant_fits, AreWholeTimes}
 use Rattle.linear_form.proofs.TightRows.{factor_whole}
@@ -70,7 +70,7 @@ factor_whole_of : (ts : Terms) → 0 < length ts → AreNonzero ts → AreWholeT
 factor_whole_of [] h n = tt
 factor_whole_of (t ∷ ts) h n = factor_whole t ts n
 
-pub whole_of : (ts : Terms) (w : Rational) → 0 < length ts → IsNormal ts → w ≡ factor ts → AreWholeTimes w ts
+pub whole_of : (ts : Terms) (w : Rational) → 0 < length ts → AreNormal ts → w ≡ factor ts → AreWholeTimes w ts
 whole_of ts w h n e = subst (λ w. AreWholeTimes w ts) (sym e) (factor_whole_of ts h (normal_nonzero ts n))
 
 no_choice : (p d : Bool) (r q : Row) → all_narrow r.terms ≡ false → all_narrow q.terms ≡ false → row_choice p d r q ≡ None
@@ -79,7 +79,7 @@ no_choice true false r q e f = rw f
 no_choice false true r q e f = refl
 no_choice false false r q e f = refl
 
-pub lost_factor : (types : Types) (ts : Terms) (c : Rational) (strict : Bool) → 0 < length ts → is_sized (record { terms = ts; rest = c }) ≡ true → IsNormal ts → all_narrow (whole_terms (factor ts) ts) ≡ false → None ≡ tightened types (claim_of ts c strict)
+pub lost_factor : (types : Types) (ts : Terms) (c : Rational) (strict : Bool) → 0 < length ts → is_sized (record { terms = ts; rest = c }) ≡ true → AreNormal ts → all_narrow (whole_terms (factor ts) ts) ≡ false → None ≡ tightened types (claim_of ts c strict)
 lost_factor types ts c strict h z n e = let k = whole_of ts (factor ts) h n refl in sym (row_of types ts c (factor ts) strict h z refl ∙ no_choice (product_fits (factor ts) c) (are_whole types ts) (WholeRow (factor ts) ts c strict) (ExactRow (factor ts) ts c strict) (times_wide 1 (factor ts) ts (lit< tt) k e) (times_wide (factor ts *ʳ c).den (factor ts) ts (factor ts *ʳ c).positive k e))
 
 pub lost_product : (types : Types) (ts : Terms) (c w : Rational) (strict : Bool) → 0 < length ts → is_sized (record { terms = ts; rest = c }) ≡ true → w ≡ factor ts → None ≡ exact_product w c → None ≡ tightened types (claim_of ts c strict)

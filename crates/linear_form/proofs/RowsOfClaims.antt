@@ -11,13 +11,13 @@ use Rattle.heyvl_num.specs.Value.{is_zeroʳ}
 use Rattle.linear_form.specs.Query.{Query}
 use Rattle.linear_form.specs.Questions.{Ends}
 use Rattle.linear_form.specs.Tightening.{Claim, tightened}
-use Rattle.linear_form.specs.NormalPaths.{IsNormalAtom, IsNormalPath}
+use Rattle.linear_form.specs.internal.NormalPaths.{IsNormalAtom, IsNormalPath}
 use Rattle.linear_form.specs.PathRows.{claim, negated, answer_claims, path_claims, with_row, all_tightened}
-use Rattle.linear_form.specs.FurtherRows.{followed_by, rows_with}
+use Rattle.linear_form.specs.internal.FurtherRows.{followed_by, rows_with}
 use Rattle.linear_form.specs.PlainPaths.{path_of, atom_of, linear_of}
 use Rattle.linear_form.specs.QuestionLaws.{EachResult}
-use Rattle.linear_form.specs.Run.{IsKeptValue}
-use Rattle.linear_form.specs.Seen.{Answers}
+use Rattle.linear_form.specs.internal.Run.{IsKeptValue}
+use Rattle.linear_form.specs.Asked.{Answers}
 use Rattle.linear_form.specs.declared.lin.Lin as L
 use Rattle.linear_form.specs.declared.paths.Taken as T
 use Rattle.linear_form.specs.declared.asking.Ask as K

@@ -1,15 +1,15 @@
 -- Evaluation along a path, operator by operator.
-use Rattle.std.proofs.Common.{◌≡◌, ℕ, ◌+◌, ◌<◌, ◌≤◌, List, [], ◌∷◌, refl, sym, ap, ap₂, ◌∙◌, subst, arith, Bool, true, false, cond, take, drop, length, get_or}
+use Rattle.std.proofs.Common.{◌≡◌, ℕ, ◌+◌, ◌<◌, ◌≤◌, List, [], ◌∷◌, refl, sym, ap, ◌∙◌, subst, arith, Bool, true, false, cond, take, drop, length, get_or}
 use Prim.Native.Nat.{zero, suc}
 use Rattle.std.specs.Prelude.{Option, Some, None, Result, Err}
 use Rattle.linear_form.specs.Query.{Query, Atom, Taken, next, known}
 use Rattle.linear_form.specs.Query.Query.{done, bits, ask}
-use Rattle.linear_form.specs.Questions.{Linear, Ends, both}
+use Rattle.linear_form.specs.Questions.{Linear, Ends}
 use Rattle.linear_form.specs.QuestionLaws.{EachResult}
-use Rattle.linear_form.specs.Run.{Outcome, run, turned, heard, onward}
-use Rattle.linear_form.specs.Run.Outcome.{value, decide}
-use Rattle.linear_form.specs.PlainPaths.{path_of, atom_of}
-use Rattle.linear_form.specs.Seen.{Stops, Gives, GivesBoth, Tells}
+use Rattle.linear_form.specs.internal.Run.{Evaluation, along, turned, heard, onward}
+use Rattle.linear_form.specs.internal.Run.Evaluation.{value, decide}
+use Rattle.linear_form.specs.PlainPaths.{path_of}
+use Rattle.linear_form.specs.internal.Seen.{Stops, Gives, GivesBoth, Tells}
 use Rattle.linear_form.specs.declared.paths.Taken as T
 use Rattle.linear_form.specs.declared.cursor.Stop as S
 use Rattle.linear_form.specs.declared.cursor.Stop.{Stop}
@@ -17,7 +17,7 @@ use Rattle.linear_form.specs.declared.cursor.Found.{Found}
 use Rattle.linear_form.specs.declared.cursor.Pair.{Pair}
 use Rattle.linear_form.specs.declared.cursor.Tested.{Tested}
 
-turned_onward : {A B : Type 0} (ps : List Taken) (q : Atom) (y n : Outcome A) (y' n' : Outcome B) (f : A → ℕ → Outcome B) → y' ≡ onward y f → n' ≡ onward n f → turned ps q y' n' ≡ onward (turned ps q y n) f
+turned_onward : {A B : Type 0} (ps : List Taken) (q : Atom) (y n : Evaluation A) (y' n' : Evaluation B) (f : A → ℕ → Evaluation B) → y' ≡ onward y f → n' ≡ onward n f → turned ps q y' n' ≡ onward (turned ps q y n) f
 turned_onward [] q y n y' n' f h k = refl
 turned_onward (p ∷ ps) q y n y' n' f h k = go p.held
   where
@@ -25,64 +25,64 @@ turned_onward (p ∷ ps) q y n y' n' f h k = go p.held
     go true = h
     go false = k
 
-heard_onward : {A B : Type 0} (h : Option Bool) (y n o : Outcome A) (y' n' o' : Outcome B) (f : A → ℕ → Outcome B) → y' ≡ onward y f → n' ≡ onward n f → o' ≡ onward o f → heard h y' n' o' ≡ onward (heard h y n o) f
+heard_onward : {A B : Type 0} (h : Option Bool) (y n o : Evaluation A) (y' n' o' : Evaluation B) (f : A → ℕ → Evaluation B) → y' ≡ onward y f → n' ≡ onward n f → o' ≡ onward o f → heard h y' n' o' ≡ onward (heard h y n o) f
 heard_onward (Some true) y n o y' n' o' f e g k = e
 heard_onward (Some false) y n o y' n' o' f e g k = g
 heard_onward None y n o y' n' o' f e g k = k
 
-pub run_next : {A B : Type 0} (ps : List Taken) (t : Query A) (f : A → Query B) (i : ℕ) → run ps (next t f) i ≡ onward (run ps t i) (λ a j. run ps (f a) j)
-unfolding run
+pub run_next : {A B : Type 0} (ps : List Taken) (t : Query A) (f : A → Query B) (i : ℕ) → along ps (next t f) i ≡ onward (along ps t i) (λ a j. along ps (f a) j)
+unfolding along
 run_next ps (done a) f i = refl
 run_next ps bits f i = refl
 run_next ps (ask (Atom.row a strict) y n) f i = turned_onward (drop i ps) _ _ _ _ _ _ (run_next ps y f (i + 1)) (run_next ps n f (i + 1))
 run_next ps (ask (Atom.truth x) y n) f i = heard_onward (known x (take i ps)) _ _ _ _ _ _ _ (run_next ps y f i) (run_next ps n f i) (turned_onward (drop i ps) _ _ _ _ _ _ (run_next ps y f (i + 1)) (run_next ps n f (i + 1)))
 
-pub run_done : {A : Type 0} (ps : List Taken) (a : A) (i : ℕ) → run ps (done a) i ≡ value a i
-unfolding run
+pub run_done : {A : Type 0} (ps : List Taken) (a : A) (i : ℕ) → along ps (done a) i ≡ value a i
+unfolding along
 run_done ps a i = refl
 
-pub run_bits : {A : Type 0} (ps : List Taken) (i : ℕ) → run {A = A} ps bits i ≡ Outcome.bits
-unfolding run
+pub run_bits : {A : Type 0} (ps : List Taken) (i : ℕ) → along {A = A} ps bits i ≡ Evaluation.bits
+unfolding along
 run_bits ps i = refl
 
-pub run_after : {A C : Type 0} (ps : List Taken) (t : Query A) (f : A → Query C) (i j : ℕ) (x : A) → run ps t i ≡ value x j → run ps (next t f) i ≡ run ps (f x) j
-run_after ps t f i j x h = run_next ps t f i ∙ ap (λ z. onward z (λ x j. run ps (f x) j)) h
+pub run_after : {A C : Type 0} (ps : List Taken) (t : Query A) (f : A → Query C) (i j : ℕ) (x : A) → along ps t i ≡ value x j → along ps (next t f) i ≡ along ps (f x) j
+run_after ps t f i j x h = run_next ps t f i ∙ ap (λ z. onward z (λ x j. along ps (f x) j)) h
 
 -- two parts, and what comes of them
-pub run_two : {A B C : Type 0} (ps : List Taken) (t : Query A) (u : Query B) (f : A → B → Query C) (i j k : ℕ) (x : A) (y : B) → run ps t i ≡ value x j → run ps u j ≡ value y k → run ps (next t (λ x. next u (λ y. f x y))) i ≡ run ps (f x y) k
+pub run_two : {A B C : Type 0} (ps : List Taken) (t : Query A) (u : Query B) (f : A → B → Query C) (i j k : ℕ) (x : A) (y : B) → along ps t i ≡ value x j → along ps u j ≡ value y k → along ps (next t (λ x. next u (λ y. f x y))) i ≡ along ps (f x y) k
 run_two ps t u f i j k x y h g = run_after ps t _ i j x h ∙ run_after ps u _ j k y g
 
 -- where the first part stops, all stops
-pub stops_first : {A C : Type 0} (e : Stop) (ps : List Taken) (t : Query A) (f : A → Query C) (i : ℕ) → Stops e (run ps t i) → Stops e (run ps (next t f) i)
-stops_first (S.TheVariants.Decide q) ps t f i h = run_next ps t f i ∙ ap (λ z. onward z (λ x j. run ps (f x) j)) h
-stops_first S.TheVariants.Bits ps t f i h = run_next ps t f i ∙ ap (λ z. onward z (λ x j. run ps (f x) j)) h
+pub stops_first : {A C : Type 0} (e : Stop) (ps : List Taken) (t : Query A) (f : A → Query C) (i : ℕ) → Stops e (along ps t i) → Stops e (along ps (next t f) i)
+stops_first (S.TheVariants.Decide q) ps t f i h = run_next ps t f i ∙ ap (λ z. onward z (λ x j. along ps (f x) j)) h
+stops_first S.TheVariants.Bits ps t f i h = run_next ps t f i ∙ ap (λ z. onward z (λ x j. along ps (f x) j)) h
 stops_first (S.TheVariants.Memory e) ps t f i h = tt
 
-pub stops_second : {A B C : Type 0} (e : Stop) (ps : List Taken) (t : Query A) (u : Query B) (f : A → B → Query C) (i j : ℕ) (x : A) → run ps t i ≡ value x j → Stops e (run ps u j) → Stops e (run ps (next t (λ x. next u (λ y. f x y))) i)
+pub stops_second : {A B C : Type 0} (e : Stop) (ps : List Taken) (t : Query A) (u : Query B) (f : A → B → Query C) (i j : ℕ) (x : A) → along ps t i ≡ value x j → Stops e (along ps u j) → Stops e (along ps (next t (λ x. next u (λ y. f x y))) i)
 stops_second e ps t u f i j x h g = subst (λ o. Stops e o) (sym (run_after ps t (λ x. next u (λ y. f x y)) i j x h)) (stops_first e ps u (λ y. f x y) j g)
 
-pub run_known : (ps : List Taken) (x i : ℕ) (b : Bool) → known x (take i ps) ≡ Some b → run ps (ask (Atom.truth x) (done true) (done false)) i ≡ value b i
-unfolding run
+pub run_known : (ps : List Taken) (x i : ℕ) (b : Bool) → known x (take i ps) ≡ Some b → along ps (ask (Atom.truth x) (done true) (done false)) i ≡ value b i
+unfolding along
 run_known ps x i true e = rw e
 run_known ps x i false e = rw e
 
-pub run_new : (ps : List Taken) (x i : ℕ) → known x (take i ps) ≡ None → run ps (ask (Atom.truth x) (done true) (done false)) i ≡ turned (drop i ps) (Atom.truth x) (value true (i + 1)) (value false (i + 1))
-unfolding run
+pub run_new : (ps : List Taken) (x i : ℕ) → known x (take i ps) ≡ None → along ps (ask (Atom.truth x) (done true) (done false)) i ≡ turned (drop i ps) (Atom.truth x) (value true (i + 1)) (value false (i + 1))
+unfolding along
 run_new ps x i e = rw e
 
-pub turned_at : {A : Type 0} (ps : List T.Taken) (i : ℕ) (p : T.Taken) (q : Atom) (y n : Outcome A) → i < length ps → p ≡ get_or ps i p → turned (drop i (path_of ps)) q y n ≡ cond p.held y n
+pub turned_at : {A : Type 0} (ps : List T.Taken) (i : ℕ) (p : T.Taken) (q : Atom) (y n : Evaluation A) → i < length ps → p ≡ get_or ps i p → turned (drop i (path_of ps)) q y n ≡ cond p.held y n
 turned_at [] i p q y n h e = absurd (omega arith)
 turned_at (x ∷ ps) zero p q y n h e = ap (λ (z : T.Taken). cond z.held y n) (sym e)
 turned_at (x ∷ ps) (suc i) p q y n h e = turned_at ps i p q y n (omega arith) e
 
-pub turned_end : {A : Type 0} (ps : List T.Taken) (i : ℕ) (q : Atom) (y n : Outcome A) → length ps ≤ i → turned (drop i (path_of ps)) q y n ≡ decide q
+pub turned_end : {A : Type 0} (ps : List T.Taken) (i : ℕ) (q : Atom) (y n : Evaluation A) → length ps ≤ i → turned (drop i (path_of ps)) q y n ≡ decide q
 turned_end [] zero q y n h = refl
 turned_end [] (suc i) q y n h = refl
 turned_end (x ∷ ps) zero q y n h = absurd (omega arith)
 turned_end (x ∷ ps) (suc i) q y n h = turned_end ps i q y n (omega arith)
 
 -- a value of an evaluation is a result of the tree
-turned_result : {A : Type 0} (ps : List Taken) (q : Atom) (o p : Outcome A) (P : A → Type 0) (a : A) (j : ℕ) → (o ≡ value a j → P a) → (p ≡ value a j → P a) → turned ps q o p ≡ value a j → P a
+turned_result : {A : Type 0} (ps : List Taken) (q : Atom) (o p : Evaluation A) (P : A → Type 0) (a : A) (j : ℕ) → (o ≡ value a j → P a) → (p ≡ value a j → P a) → turned ps q o p ≡ value a j → P a
 turned_result [] q o p P a j f g e = absurd (cc)
 turned_result (t ∷ ps) q o p P a j f g e = go t.held e
   where
@@ -90,56 +90,56 @@ turned_result (t ∷ ps) q o p P a j f g e = go t.held e
     go true e = f e
     go false e = g e
 
-heard_result : {A : Type 0} (h : Option Bool) (y n o : Outcome A) (P : A → Type 0) (a : A) (j : ℕ) → (y ≡ value a j → P a) → (n ≡ value a j → P a) → (o ≡ value a j → P a) → heard h y n o ≡ value a j → P a
+heard_result : {A : Type 0} (h : Option Bool) (y n o : Evaluation A) (P : A → Type 0) (a : A) (j : ℕ) → (y ≡ value a j → P a) → (n ≡ value a j → P a) → (o ≡ value a j → P a) → heard h y n o ≡ value a j → P a
 heard_result (Some true) y n o P a j f g k e = f e
 heard_result (Some false) y n o P a j f g k e = g e
 heard_result None y n o P a j f g k e = k e
 
-abbrev value_or : {A : Type 0} → A → Outcome A → A
+abbrev value_or : {A : Type 0} → A → Evaluation A → A
 value_or d (value a i) = a
 value_or d (decide q) = d
-value_or d Outcome.bits = d
+value_or d Evaluation.bits = d
 
-pub run_result : {A : Type 0} (ps : List Taken) (t : Query A) (P : A → Type 0) (i : ℕ) (a : A) (j : ℕ) → EachResult P t → run ps t i ≡ value a j → P a
-unfolding run
+pub run_result : {A : Type 0} (ps : List Taken) (t : Query A) (P : A → Type 0) (i : ℕ) (a : A) (j : ℕ) → EachResult P t → along ps t i ≡ value a j → P a
+unfolding along
 run_result ps (done b) P i a j h e = subst P (ap (value_or b) e) h
 run_result ps bits P i a j h e = absurd (cc)
 run_result ps (ask (Atom.row l strict) y n) P i a j h e = turned_result (drop i ps) (Atom.row l strict) _ _ P a j (run_result ps y P (i + 1) a j h.0) (run_result ps n P (i + 1) a j h.1) e
 run_result ps (ask (Atom.truth x) y n) P i a j h e = heard_result (known x (take i ps)) _ _ _ P a j (run_result ps y P i a j h.0) (run_result ps n P i a j h.1) (turned_result (drop i ps) (Atom.truth x) _ _ P a j (run_result ps y P (i + 1) a j h.0) (run_result ps n P (i + 1) a j h.1)) e
 
-pub gives_first : {A : Type 0} (r : Result Found Stop) (e : Stop) (ps : List Taken) (q : Query Linear) (t : Query A) (f : A → Query Linear) (i : ℕ) → r ≡ Err e → q ≡ next t f → Stops e (run ps t i) → Gives r (run ps q i)
+pub gives_first : {A : Type 0} (r : Result Found Stop) (e : Stop) (ps : List Taken) (q : Query Linear) (t : Query A) (f : A → Query Linear) (i : ℕ) → r ≡ Err e → q ≡ next t f → Stops e (along ps t i) → Gives r (along ps q i)
 gives_first r e ps q t f i h k g = rw (h, k) (stops_first e ps t f i g)
 
-pub tells_first : {A : Type 0} (r : Result Tested Stop) (e : Stop) (ps : List Taken) (q : Query Bool) (t : Query A) (f : A → Query Bool) (i : ℕ) → r ≡ Err e → q ≡ next t f → Stops e (run ps t i) → Tells r (run ps q i)
+pub tells_first : {A : Type 0} (r : Result Tested Stop) (e : Stop) (ps : List Taken) (q : Query Bool) (t : Query A) (f : A → Query Bool) (i : ℕ) → r ≡ Err e → q ≡ next t f → Stops e (along ps t i) → Tells r (along ps q i)
 tells_first r e ps q t f i h k g = rw (h, k) (stops_first e ps t f i g)
 
-pub both_first : {A : Type 0} (r : Result Pair Stop) (e : Stop) (ps : List Taken) (q : Query Ends) (t : Query A) (f : A → Query Ends) (i : ℕ) → r ≡ Err e → q ≡ next t f → Stops e (run ps t i) → GivesBoth r (run ps q i)
+pub both_first : {A : Type 0} (r : Result Pair Stop) (e : Stop) (ps : List Taken) (q : Query Ends) (t : Query A) (f : A → Query Ends) (i : ℕ) → r ≡ Err e → q ≡ next t f → Stops e (along ps t i) → GivesBoth r (along ps q i)
 both_first r e ps q t f i h k g = rw (h, k) (stops_first e ps t f i g)
 
-pub both_second : {A B : Type 0} (r : Result Pair Stop) (e : Stop) (ps : List Taken) (t : Query A) (u : Query B) (f : A → B → Query Ends) (i j : ℕ) (x : A) → r ≡ Err e → run ps t i ≡ value x j → Stops e (run ps u j) → GivesBoth r (run ps (next t (λ x. next u (λ y. f x y))) i)
+pub both_second : {A B : Type 0} (r : Result Pair Stop) (e : Stop) (ps : List Taken) (t : Query A) (u : Query B) (f : A → B → Query Ends) (i j : ℕ) (x : A) → r ≡ Err e → along ps t i ≡ value x j → Stops e (along ps u j) → GivesBoth r (along ps (next t (λ x. next u (λ y. f x y))) i)
 both_second r e ps t u f i j x h a g = rw h (stops_second e ps t u f i j x a g)
 
 -- after a truth that is known
-pub gives_after : (r : Result Found Stop) (ps : List Taken) (q : Query Linear) (t : Query Bool) (f : Bool → Query Linear) (i j : ℕ) (b b' : Bool) → q ≡ next t f → run ps t i ≡ value b j → b ≡ b' → Gives r (run ps (f b') j) → Gives r (run ps q i)
-gives_after r ps q t f i j b b' e a k g = subst (λ o. Gives r o) (sym (ap (λ q. run ps q i) e ∙ run_after ps t f i j b a ∙ ap (λ b. run ps (f b) j) k)) g
+pub gives_after : (r : Result Found Stop) (ps : List Taken) (q : Query Linear) (t : Query Bool) (f : Bool → Query Linear) (i j : ℕ) (b b' : Bool) → q ≡ next t f → along ps t i ≡ value b j → b ≡ b' → Gives r (along ps (f b') j) → Gives r (along ps q i)
+gives_after r ps q t f i j b b' e a k g = subst (λ o. Gives r o) (sym (ap (λ q. along ps q i) e ∙ run_after ps t f i j b a ∙ ap (λ b. along ps (f b) j) k)) g
 
-pub tells_after : (r : Result Tested Stop) (ps : List Taken) (q : Query Bool) (t : Query Bool) (f : Bool → Query Bool) (i j : ℕ) (b b' : Bool) → q ≡ next t f → run ps t i ≡ value b j → b ≡ b' → Tells r (run ps (f b') j) → Tells r (run ps q i)
-tells_after r ps q t f i j b b' e a k g = subst (λ o. Tells r o) (sym (ap (λ q. run ps q i) e ∙ run_after ps t f i j b a ∙ ap (λ b. run ps (f b) j) k)) g
+pub tells_after : (r : Result Tested Stop) (ps : List Taken) (q : Query Bool) (t : Query Bool) (f : Bool → Query Bool) (i j : ℕ) (b b' : Bool) → q ≡ next t f → along ps t i ≡ value b j → b ≡ b' → Tells r (along ps (f b') j) → Tells r (along ps q i)
+tells_after r ps q t f i j b b' e a k g = subst (λ o. Tells r o) (sym (ap (λ q. along ps q i) e ∙ run_after ps t f i j b a ∙ ap (λ b. along ps (f b) j) k)) g
 
-pub gives_second : {A B : Type 0} (r : Result Found Stop) (e : Stop) (ps : List Taken) (q : Query Linear) (t : Query A) (u : Query B) (f : A → B → Query Linear) (i j : ℕ) (x : A) → r ≡ Err e → q ≡ next t (λ x. next u (λ y. f x y)) → run ps t i ≡ value x j → Stops e (run ps u j) → Gives r (run ps q i)
+pub gives_second : {A B : Type 0} (r : Result Found Stop) (e : Stop) (ps : List Taken) (q : Query Linear) (t : Query A) (u : Query B) (f : A → B → Query Linear) (i j : ℕ) (x : A) → r ≡ Err e → q ≡ next t (λ x. next u (λ y. f x y)) → along ps t i ≡ value x j → Stops e (along ps u j) → Gives r (along ps q i)
 gives_second r e ps q t u f i j x h k a g = rw (h, k) (stops_second e ps t u f i j x a g)
 
-pub tells_second : {A B : Type 0} (r : Result Tested Stop) (e : Stop) (ps : List Taken) (q : Query Bool) (t : Query A) (u : Query B) (f : A → B → Query Bool) (i j : ℕ) (x : A) → r ≡ Err e → q ≡ next t (λ x. next u (λ y. f x y)) → run ps t i ≡ value x j → Stops e (run ps u j) → Tells r (run ps q i)
+pub tells_second : {A B : Type 0} (r : Result Tested Stop) (e : Stop) (ps : List Taken) (q : Query Bool) (t : Query A) (u : Query B) (f : A → B → Query Bool) (i j : ℕ) (x : A) → r ≡ Err e → q ≡ next t (λ x. next u (λ y. f x y)) → along ps t i ≡ value x j → Stops e (along ps u j) → Tells r (along ps q i)
 tells_second r e ps q t u f i j x h k a g = rw (h, k) (stops_second e ps t u f i j x a g)
 
-pub gives_two : {A B : Type 0} (r : Result Found Stop) (ps : List Taken) (q : Query Linear) (t : Query A) (u : Query B) (f : A → B → Query Linear) (i j k : ℕ) (x : A) (y : B) → q ≡ next t (λ x. next u (λ y. f x y)) → run ps t i ≡ value x j → run ps u j ≡ value y k → Gives r (run ps (f x y) k) → Gives r (run ps q i)
-gives_two r ps q t u f i j k x y e a b g = subst (λ o. Gives r o) (sym (ap (λ q. run ps q i) e ∙ run_two ps t u f i j k x y a b)) g
+pub gives_two : {A B : Type 0} (r : Result Found Stop) (ps : List Taken) (q : Query Linear) (t : Query A) (u : Query B) (f : A → B → Query Linear) (i j k : ℕ) (x : A) (y : B) → q ≡ next t (λ x. next u (λ y. f x y)) → along ps t i ≡ value x j → along ps u j ≡ value y k → Gives r (along ps (f x y) k) → Gives r (along ps q i)
+gives_two r ps q t u f i j k x y e a b g = subst (λ o. Gives r o) (sym (ap (λ q. along ps q i) e ∙ run_two ps t u f i j k x y a b)) g
 
-pub tells_two : {A B : Type 0} (r : Result Tested Stop) (ps : List Taken) (q : Query Bool) (t : Query A) (u : Query B) (f : A → B → Query Bool) (i j k : ℕ) (x : A) (y : B) → q ≡ next t (λ x. next u (λ y. f x y)) → run ps t i ≡ value x j → run ps u j ≡ value y k → Tells r (run ps (f x y) k) → Tells r (run ps q i)
-tells_two r ps q t u f i j k x y e a b g = subst (λ o. Tells r o) (sym (ap (λ q. run ps q i) e ∙ run_two ps t u f i j k x y a b)) g
+pub tells_two : {A B : Type 0} (r : Result Tested Stop) (ps : List Taken) (q : Query Bool) (t : Query A) (u : Query B) (f : A → B → Query Bool) (i j k : ℕ) (x : A) (y : B) → q ≡ next t (λ x. next u (λ y. f x y)) → along ps t i ≡ value x j → along ps u j ≡ value y k → Tells r (along ps (f x y) k) → Tells r (along ps q i)
+tells_two r ps q t u f i j k x y e a b g = subst (λ o. Tells r o) (sym (ap (λ q. along ps q i) e ∙ run_two ps t u f i j k x y a b)) g
 
-pub after_false : (ps : List Taken) (q : Query Bool) (t u : Query Bool) (i j : ℕ) (b : Bool) → q ≡ next t (λ t. cond t u (done false)) → run ps t i ≡ value b j → b ≡ false → run ps q i ≡ value b j
-after_false ps q t u i j b e a k = ap (λ q. run ps q i) e ∙ run_after ps t _ i j b a ∙ ap (λ b. run ps (cond b u (done false)) j) k ∙ run_done ps false j ∙ ap (λ b. value b j) (sym k)
+pub after_false : (ps : List Taken) (q : Query Bool) (t u : Query Bool) (i j : ℕ) (b : Bool) → q ≡ next t (λ t. cond t u (done false)) → along ps t i ≡ value b j → b ≡ false → along ps q i ≡ value b j
+after_false ps q t u i j b e a k = ap (λ q. along ps q i) e ∙ run_after ps t _ i j b a ∙ ap (λ b. along ps (cond b u (done false)) j) k ∙ run_done ps false j ∙ ap (λ b. value b j) (sym k)
 
-pub after_true : (ps : List Taken) (q : Query Bool) (t u : Query Bool) (i j : ℕ) (b : Bool) → q ≡ next t (λ t. cond t (done true) u) → run ps t i ≡ value b j → b ≡ true → run ps q i ≡ value b j
-after_true ps q t u i j b e a k = ap (λ q. run ps q i) e ∙ run_after ps t _ i j b a ∙ ap (λ b. run ps (cond b (done true) u) j) k ∙ run_done ps true j ∙ ap (λ b. value b j) (sym k)
+pub after_true : (ps : List Taken) (q : Query Bool) (t u : Query Bool) (i j : ℕ) (b : Bool) → q ≡ next t (λ t. cond t (done true) u) → along ps t i ≡ value b j → b ≡ true → along ps q i ≡ value b j
+after_true ps q t u i j b e a k = ap (λ q. along ps q i) e ∙ run_after ps t _ i j b a ∙ ap (λ b. along ps (cond b (done true) u) j) k ∙ run_done ps true j ∙ ap (λ b. value b j) (sym k)

@@ -10,13 +10,14 @@ use Rattle.heylo_formula.specs.declared.types.Ty.{Ty}
 use Rattle.linear_form.specs.Row.{Row}
 use Rattle.linear_form.specs.Lin.{Terms, variable}
 use Rattle.linear_form.specs.Tightening.{Claim, tightened, tight_row, whole_terms, factor, rounded, are_whole}
-use Rattle.linear_form.specs.TypedGoals.{types_in}
-use Rattle.linear_form.specs.VariableOrder.{occurs}
+use Rattle.heylo_formula.specs.Typing.{types_in}
+use Rattle.linear_form.specs.VariableOrder.{occurs_in_row}
 use Rattle.linear_form.specs.PathRows.{claim, negated, with_row, all_tightened, is_unsigned_type, occurs_in_terms, occurs_in_claims, sign_claims}
-use Rattle.linear_form.specs.FurtherRows.{rows_with, one_more, all_unsigned_in}
+use Rattle.linear_form.specs.internal.FurtherRows.{rows_with, one_more, all_unsigned_in}
 use Rattle.linear_form.specs.RowLists.{Lists}
 use Rattle.linear_form.specs.declared.path_rows.RowList.{RowList}
 use Rattle.linear_form.proofs.EachResults.{of_two}
+use Rattle.linear_form.proofs.TightRows.{taken_row}
 use Rattle.linear_form.proofs.RowsOfClaims.{joined, tightened_append}
 
 -- ---- A row has the variables of its claim
@@ -28,24 +29,20 @@ whole_occurs : (x : ℕ) (w : Rational) (ts : Terms) → list_any (λ (t : ℕ �
 whole_occurs x w [] = refl
 whole_occurs x w (t ∷ ts) = ap₂ (λ a b. a || b) (same_either_way t.0 x) (whole_occurs x w ts)
 
-tight_occurs : (types : Types) (x : ℕ) (ts : Terms) (c : Rational) (strict : Bool) → occurs x (tight_row types ts c strict) ≡ occurs_in_terms x ts
+tight_occurs : (types : Types) (x : ℕ) (ts : Terms) (c : Rational) (strict : Bool) → occurs_in_row x (tight_row types ts c strict) ≡ occurs_in_terms x ts
 tight_occurs types x [] c strict = refl
-tight_occurs types x (t ∷ ts) c strict = of_two (λ r. occurs x r ≡ occurs_in_terms x (t ∷ ts)) (are_whole types (t ∷ ts)) (record { terms = whole_terms (factor (t ∷ ts)) (t ∷ ts); rest = rounded strict (factor (t ∷ ts) *ʳ c); strict = false }) _ (whole_occurs x (factor (t ∷ ts)) (t ∷ ts)) (whole_occurs x _ (t ∷ ts))
+tight_occurs types x (t ∷ ts) c strict = of_two (λ r. occurs_in_row x r ≡ occurs_in_terms x (t ∷ ts)) (are_whole types (t ∷ ts)) (record { terms = whole_terms (factor (t ∷ ts)) (t ∷ ts); rest = rounded strict (factor (t ∷ ts) *ʳ c); strict = false }) _ (whole_occurs x (factor (t ∷ ts)) (t ∷ ts)) (whole_occurs x _ (t ∷ ts))
 
-taken_row : (b : Bool) (r q : Row) → cond b (Some r) None ≡ Some q → r ≡ q
-taken_row true r q e = cc
-taken_row false r q e = absurd (cc)
-
-claim_occurs : (types : Types) (x : ℕ) (k : Claim) (r : Row) → tightened types k ≡ Some r → occurs x r ≡ occurs_in_terms x k.left.terms
+claim_occurs : (types : Types) (x : ℕ) (k : Claim) (r : Row) → tightened types k ≡ Some r → occurs_in_row x r ≡ occurs_in_terms x k.left.terms
 unfolding tightened
-claim_occurs types x k r e = ap (occurs x) (sym (taken_row _ (tight_row types k.left.terms k.left.rest k.strict) r e)) ∙ tight_occurs types x k.left.terms k.left.rest k.strict
+claim_occurs types x k r e = ap (occurs_in_row x) (sym (taken_row _ (tight_row types k.left.terms k.left.rest k.strict) r e)) ∙ tight_occurs types x k.left.terms k.left.rest k.strict
 
-claims_occur : (types : Types) (x : ℕ) (ks : List Claim) (rows : List Row) → all_tightened types ks ≡ Some rows → list_any (occurs x) rows ≡ occurs_in_claims x ks
-claims_occur types x [] rows e = let k : [] ≡ rows = cc in ap (list_any (occurs x)) (sym k)
+claims_occur : (types : Types) (x : ℕ) (ks : List Claim) (rows : List Row) → all_tightened types ks ≡ Some rows → list_any (occurs_in_row x) rows ≡ occurs_in_claims x ks
+claims_occur types x [] rows e = let k : [] ≡ rows = cc in ap (list_any (occurs_in_row x)) (sym k)
 claims_occur types x (k ∷ ks) rows e = go (tightened types k) refl (all_tightened types ks) refl e (λ qs b. claims_occur types x ks qs b)
   where
-    go : (o : Option Row) → tightened types k ≡ o → (p : Option (List Row)) → all_tightened types ks ≡ p → with_row o p ≡ Some rows → ((qs : List Row) → all_tightened types ks ≡ Some qs → list_any (occurs x) qs ≡ occurs_in_claims x ks) → list_any (occurs x) rows ≡ occurs_in_claims x (k ∷ ks)
-    go (Some r) a (Some qs) b e ih = let i : (r ∷ qs) ≡ rows = cc in ap (list_any (occurs x)) (sym i) ∙ ap₂ (λ a b. a || b) (claim_occurs types x k r a) (ih qs b)
+    go : (o : Option Row) → tightened types k ≡ o → (p : Option (List Row)) → all_tightened types ks ≡ p → with_row o p ≡ Some rows → ((qs : List Row) → all_tightened types ks ≡ Some qs → list_any (occurs_in_row x) qs ≡ occurs_in_claims x ks) → list_any (occurs_in_row x) rows ≡ occurs_in_claims x (k ∷ ks)
+    go (Some r) a (Some qs) b e ih = let i : (r ∷ qs) ≡ rows = cc in ap (list_any (occurs_in_row x)) (sym i) ∙ ap₂ (λ a b. a || b) (claim_occurs types x k r a) (ih qs b)
     go (Some r) a None b e ih = absurd (cc)
     go None a (Some qs) b e ih = absurd (cc)
     go None a None b e ih = absurd (cc)
@@ -58,7 +55,7 @@ one_sign f xs n false = sym (append-nil (map f xs))
 
 signs_same : (types : Types) (ks : List Claim) (rows : List Row) (n : ℕ) → all_tightened types ks ≡ Some rows → map (λ x. claim (negated (variable x)) false) (all_unsigned_in types rows n) ≡ sign_claims types ks n
 signs_same types ks rows zero e = refl
-signs_same types ks rows (suc n) e = one_sign (λ x. claim (negated (variable x)) false) (all_unsigned_in types rows n) n (is_unsigned_type (types n) && list_any (occurs n) rows) ∙ ap₂ (λ ls b. ls ++ cond (is_unsigned_type (types n) && b) (claim (negated (variable n)) false ∷ []) []) (signs_same types ks rows n e) (claims_occur types n ks rows e)
+signs_same types ks rows (suc n) e = one_sign (λ x. claim (negated (variable x)) false) (all_unsigned_in types rows n) n (is_unsigned_type (types n) && list_any (occurs_in_row n) rows) ∙ ap₂ (λ ls b. ls ++ cond (is_unsigned_type (types n) && b) (claim (negated (variable n)) false ∷ []) []) (signs_same types ks rows n e) (claims_occur types n ks rows e)
 
 -- ---- The rows as a whole
 

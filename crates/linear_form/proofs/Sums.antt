@@ -3,7 +3,7 @@ use Rattle.std.proofs.Common.{◌≡◌, ℕ, List, [], ◌∷◌, refl, arith, 
 use Rattle.std.specs.Prelude.{ℤ, pos, negsuc, ◌+ℤ◌, ◌*ℤ◌}
 use borrow.Author.Differences.{ints}
 use Rattle.std.proofs.Math.IntN.{zero-*ℤ, *ℤ-zero}
-use Rattle.heyvl_num.proofs.Integers.{ring}
+use Rattle.heyvl_num.proofs.exported.Integers.{ring}
 use Prim.Native.Nat.{zero, suc}
 use Rattle.std.proofs.lemmas.Bool.{eqb-true}
 use Rattle.linear_form.specs.Terms.{sum_at, put_term, add_term, add_terms}

@@ -1,6 +1,6 @@
 -- A claim that holds in a state gives a row that the state's values meet.
-use Rattle.std.proofs.Common.{◌≡◌, ℕ, ◌+◌, ◌*◌, ◌/◌, ◌<◌, ◌≤◌, List, [], ◌∷◌, map, refl, sym, ap, ap₂, ◌∙◌, arith, lit<, subst, Bool, true, false, not, cond, ◌&&◌, ◌==◌}
-use Rattle.std.specs.Prelude.{ℤ, pos, negsuc, ◌+ℤ◌, ◌*ℤ◌, ◌≤ℤ◌, ◌<ℤ◌, neg_ℤ, unsigned_abs, Option, Some, None}
+use Rattle.std.proofs.Common.{◌≡◌, ℕ, ◌*◌, ◌/◌, ◌<◌, List, [], ◌∷◌, refl, sym, ap, ap₂, ◌∙◌, arith, lit<, subst, Bool, true, false, not, cond, ◌&&◌, ◌==◌}
+use Rattle.std.specs.Prelude.{ℤ, pos, negsuc, ◌+ℤ◌, ◌*ℤ◌, ◌≤ℤ◌, neg_ℤ, unsigned_abs, Option, Some, None}
 use borrow.Author.Differences.{ints}
 use Prim.Native.Nat.{zero, suc, ◌∣◌}
 use Rattle.std.proofs.Math.Nat.{mul-pos, zero-lt-suc, div-mul_cancel, dvd-mul_left, dvd-mul_right, pos_of_dvd_of_pos, mul-div_cancel, eq-one_of_dvd-one, one-mul}
@@ -9,27 +9,27 @@ use Rattle.std.proofs.lemmas.Nat.Gcd.{dvd_trans}
 use Rattle.std.proofs.lemmas.Int.{by_lt_z}
 use Rattle.heyvl_num.specs.Gcd.{gcd, gcd_steps}
 use Rattle.heyvl_num.specs.GcdLaws.{gcd-is, quotient_num, quotient_den, quotient_den-pos}
-use Rattle.heyvl_num.specs.Rational.{Rational, ratio, zeroʳ, oneʳ, ◌+ʳ◌, ◌*ʳ◌, leqʳ, ◌≤ʳ◌, ◌<ʳ◌}
+use Rattle.heyvl_num.specs.Rational.{Rational, ratio, zeroʳ, oneʳ, ◌+ʳ◌, ◌*ʳ◌, leqʳ, ◌≤ʳ◌}
 use Rattle.heyvl_num.specs.Rounding.{whole, floorʳ, ceilʳ}
-use Rattle.heyvl_num.proofs.Integers.{*ℤ-one, *ℤ-neg, neg-*ℤ}
-use Rattle.heyvl_num.proofs.Rationals as fraction
-use Rattle.heyvl_num.proofs.Rationals.{ratio_parts, ratio_den, ratio_same, ratio-*, ratio-+, ratio-≤, ≤ʳ_trans, *ʳ_mono, *ʳ_assoc, *ʳ-zero, *ʳ-one, one-*ʳ, *ʳ-+ʳ, +ʳ_comm, +ʳ_mono, ≤ʳ_refl, ratio_nonnegative, cross_order, order_cross, *ʳ_nonnegative, zero-+ʳ}
-use Rattle.heyvl_num.proofs.Roundings.{floor-is, ceil-is}
-use Rattle.heyvl_num.proofs.Signs.{≤ʳ-+ʳ_cancel}
+use Rattle.heyvl_num.proofs.exported.Integers.{*ℤ-one, *ℤ-neg, neg-*ℤ}
+use Rattle.heyvl_num.proofs.exported.Rationals as fraction
+use Rattle.heyvl_num.proofs.exported.Rationals.{ratio_parts, ratio_den, ratio_same, ratio-*, ratio-+, ratio-≤, ≤ʳ_trans, *ʳ_mono, *ʳ_assoc, *ʳ-zero, *ʳ-one, one-*ʳ, *ʳ-+ʳ, +ʳ_comm, +ʳ_mono, ≤ʳ_refl, ratio_nonnegative, cross_order, order_cross, *ʳ_nonnegative, zero-+ʳ}
+use Rattle.heyvl_num.proofs.exported.Roundings.{floor-is, ceil-is}
+use Rattle.heyvl_num.proofs.exported.Signs.{≤ʳ-+ʳ_cancel}
 use Rattle.heylo_formula.specs.State.{Env, number_of, has}
 use Rattle.heylo_formula.specs.Typing.{HasTypes, Types}
 use Rattle.heylo_formula.specs.declared.types.Ty.{Ty}
 use Rattle.heylo_formula.specs.declared.values.Val.{Val}
 use Rattle.heylo_formula.specs.declared.values.Val.TheVariants.{Truth, Num}
 use Rattle.linear_form.specs.Solutions.{sum_of, IsBelowZero, MeetsAt}
-use Rattle.linear_form.specs.Lin.{Lin, Terms, at, total}
+use Rattle.linear_form.specs.Lin.{Terms, total}
 use Rattle.linear_form.specs.Query.{is_negative}
 use Rattle.linear_form.specs.ClaimLaws.{IsClaimed, AllClaimed, AreNonzero, AllNonzero}
 use Rattle.linear_form.specs.PathRows.{with_row, all_tightened}
 use Rattle.linear_form.specs.Row.{Row}
 use Rattle.std.specs.List.{All}
 use Rattle.std.proofs.lemmas.List.Elements.{All-nil, All-cons}
-use Rattle.linear_form.specs.Tightening.{Claim, sign_of, rounded, are_whole, is_whole_type, tight_row, tightened, all_narrow, constant_fits, common_multiple, common_divisor, factor, whole_terms, AreWholeTimes}
+use Rattle.linear_form.specs.Tightening.{Claim, sign_of, rounded, are_whole, is_integral, tight_row, tightened, common_multiple, common_divisor, factor, whole_terms, AreWholeTimes}
 
 -- ---- Whole numbers among the fractions
 
@@ -231,7 +231,7 @@ record WholeSum (s : Env) (ts : List (ℕ × ℤ)) : Type 0 where
   sum : ℤ
   is : sum_of (numbers s) ts ≡ whole sum
 
-whole_number : (ty : Ty) (v : Val) → is_whole_type ty ≡ true → has ty v ≡ true → (number_of v).den ≡ 1
+whole_number : (ty : Ty) (v : Val) → is_integral ty ≡ true → has ty v ≡ true → (number_of v).den ≡ 1
 whole_number Ty.Bool v e h = absurd (cc)
 whole_number Ty.Int (Truth b) e h = absurd (cc)
 whole_number Ty.Int (Num x) e h = same x.den h

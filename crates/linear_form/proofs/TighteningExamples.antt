@@ -1,5 +1,5 @@
 -- Inequalities tightened to rows, computed at values found by hand.
-use Rattle.std.proofs.Common.{◌≡◌, refl, List, [], ◌∷◌, Bool, true, false}
+use Rattle.std.proofs.Common.{◌≡◌, refl, [], ◌∷◌, Bool, true, false}
 use Rattle.std.specs.Prelude.{ℕ, ℤ, pos, negsuc, Option, Some, None}
 use Prim.Native.Nat.{zero, suc}
 use Rattle.heyvl_num.specs.Gcd.{gcd, gcd_steps}
@@ -9,7 +9,7 @@ use Rattle.heyvl_num.specs.Exact.{product_fits}
 use Rattle.heylo_formula.specs.Typing.{Types}
 use Rattle.heylo_formula.specs.declared.types.Ty.{Ty}
 use Rattle.linear_form.specs.Row.{Row}
-use Rattle.linear_form.specs.Lin.{Lin, fits, is_sized}
+use Rattle.linear_form.specs.Lin.{fits, is_sized}
 use Rattle.linear_form.specs.Tightening.{Claim, common_multiple, common_divisor, factor, tightened}
 
 -- variable 0 is an Int, 1 a UInt, and each other one a UReal

@@ -11,7 +11,7 @@ use Rattle.linear_form.specs.Query.Query.{done, bits, ask}
 use Rattle.linear_form.specs.Questions as q
 use Rattle.linear_form.specs.Questions.{Linear, Ends, sized, asked, is_below, evaluate, test, both, questions}
 use Rattle.linear_form.specs.Paths.{Path}
-use Rattle.linear_form.specs.TypedGoals.{types_in}
+use Rattle.heylo_formula.specs.Typing.{types_in}
 use Rattle.linear_form.specs.PointLaws.{TruthsAreBooleans, TruthsHaveVariables}
 use Rattle.linear_form.proofs.TypedTrees.{IsTypedAtom, IsTypedPath, typed_path}
 

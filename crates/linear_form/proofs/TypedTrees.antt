@@ -8,13 +8,14 @@ use Rattle.heylo_formula.specs.Formula.{Form, Cond}
 use Rattle.heylo_formula.specs.Goals.{Goal}
 use Rattle.heylo_formula.specs.Typing.{Types, NumberType, number_type, is_bool, is_unsigned, is_finite_type, type_of, is_well_typed}
 use Rattle.heylo_formula.specs.declared.types.Ty.{Ty}
-use Rattle.linear_form.specs.Lin.{Lin, Terms, constant, kept, more, merged, times, plus, minus, minus_oneʳ, scaled, is_sized}
+use Rattle.linear_form.specs.Lin.{Lin, Terms, constant, unless_zero, more, merged, times, plus, minus, minus_oneʳ, scaled, is_sized}
 use Rattle.linear_form.specs.Query.{Query, Atom, Taken, next, known, unless_known, onto, once}
 use Rattle.linear_form.specs.Query.Query.{done, bits, ask}
 use Rattle.linear_form.specs.Questions as q
 use Rattle.linear_form.specs.Questions.{Linear, Ends, sized, asked, is_below, evaluate, test, both, questions}
 use Rattle.linear_form.specs.Paths.{walk, Path, IsPath, end_at}
-use Rattle.linear_form.specs.TypedGoals.{IsTypedGoal, types_in}
+use Rattle.heylo_formula.specs.TypedGoals.{IsTypedGoal}
+use Rattle.heylo_formula.specs.Typing.{types_in}
 use Rattle.linear_form.specs.RowLists.{is_numeric}
 use Rattle.linear_form.proofs.EachResults.{of_two}
 use Rattle.linear_form.proofs.TypedValues.{parts, only, unsigned, difference_joined, scale_joined}
@@ -25,12 +26,12 @@ abbrev pub NumberTerms : Types → Terms → Type 0
 NumberTerms types [] = Unit {0}
 NumberTerms types (t ∷ ts) = (is_numeric (types t.0) ≡ true) × NumberTerms types ts
 
-kept_numbers : (types : Types) (x : ℕ) (c : Rational) (ts : Terms) → is_numeric (types x) ≡ true → NumberTerms types ts → NumberTerms types (kept x c ts)
+kept_numbers : (types : Types) (x : ℕ) (c : Rational) (ts : Terms) → is_numeric (types x) ≡ true → NumberTerms types ts → NumberTerms types (unless_zero x c ts)
 kept_numbers types x c ts e h = of_two (NumberTerms types) (is_zeroʳ c) ts ((x, c) ∷ ts) h (e, h)
 
 more_numbers : (types : Types) (x : ℕ) (c : Rational) (ts : Terms) → is_numeric (types x) ≡ true → NumberTerms types ts → NumberTerms types (more x c ts)
 more_numbers types x c [] e h = kept_numbers types x c [] e tt
-more_numbers types x c (t ∷ ts) e h = of_two (NumberTerms types) (x == t.0) (kept x (t.1 +ʳ c) ts) _ (kept_numbers types x (t.1 +ʳ c) ts e h.1) (of_two (NumberTerms types) (ltb x t.0) (kept x c (t ∷ ts)) (t ∷ more x c ts) (kept_numbers types x c (t ∷ ts) e h) (h.0, more_numbers types x c ts e h.1))
+more_numbers types x c (t ∷ ts) e h = of_two (NumberTerms types) (x == t.0) (unless_zero x (t.1 +ʳ c) ts) _ (kept_numbers types x (t.1 +ʳ c) ts e h.1) (of_two (NumberTerms types) (ltb x t.0) (unless_zero x c (t ∷ ts)) (t ∷ more x c ts) (kept_numbers types x c (t ∷ ts) e h) (h.0, more_numbers types x c ts e h.1))
 
 merged_numbers : (types : Types) (us ts : Terms) → NumberTerms types us → NumberTerms types ts → NumberTerms types (merged us ts)
 merged_numbers types [] ts k h = h

@@ -1,24 +1,24 @@
 -- A well-typed form has a value of its type, in each state of the right types.
-use Rattle.std.proofs.Common.{◌≡◌, ◌↔◌, ℕ, List, [], ◌∷◌, get_or, refl, sym, ap, ◌∙◌, subst, arith, Bool, true, false, cond, ◌==◌, ◌&&◌, ◌||◌}
+use Rattle.std.proofs.Common.{◌≡◌, ℕ, List, [], ◌∷◌, get_or, refl, sym, ap, ◌∙◌, subst, Bool, true, false, cond, ◌==◌, ◌&&◌, ◌||◌}
 use Rattle.std.specs.Prelude.{Option, Some, None}
 use Prim.Native.Nat.{zero, suc}
 use Rattle.heyvl_num.specs.Gcd.{gcd, gcd_steps}
-use Rattle.heyvl_num.specs.Rational.{Rational, ratio, zeroʳ, oneʳ, leqʳ, ◌≤ʳ◌, ◌-ʳ◌}
-use Rattle.heyvl_num.specs.Value.{Value, zeroᵛ, oneᵛ, is_zeroʳ, infinite_times, leqᵛ, ◌≤ᵛ◌, ◌+ᵛ◌, ◌*ᵛ◌}
+use Rattle.heyvl_num.specs.Rational.{Rational, ratio, zeroʳ, leqʳ, ◌-ʳ◌}
+use Rattle.heyvl_num.specs.Value.{Value, zeroᵛ, oneᵛ, is_zeroʳ, leqᵛ, ◌≤ᵛ◌, ◌+ᵛ◌, ◌*ᵛ◌}
 use Rattle.heyvl_num.specs.Value.Value.{finite, infinite}
 use Rattle.heyvl_num.specs.ValueOperators.{minᵛ, maxᵛ, impliesᵛ, coimpliesᵛ, monusᵛ}
-use Rattle.heyvl_num.proofs.Values.{≤ᵛ_infinite, zero-≤ᵛ-zero, zero-≤ᵛ-one, +ᵛ_nonnegative, *ᵛ_nonnegative, scale_nonnegative, finite_nonnegative}
-use Rattle.heyvl_num.proofs.Signs.{difference_nonnegative}
-use Rattle.heylo_formula.specs.Formula.{Form, Cond}
+use Rattle.heyvl_num.proofs.exported.Values.{≤ᵛ_infinite, zero-≤ᵛ-zero, zero-≤ᵛ-one, +ᵛ_nonnegative, *ᵛ_nonnegative, scale_nonnegative, finite_nonnegative}
+use Rattle.heyvl_num.proofs.exported.Signs.{difference_nonnegative}
+use Rattle.heylo_formula.specs.Formula.{Form}
 use Rattle.heylo_formula.specs.Operators.{differenceᵛ, validateᵛ, covalidateᵛ, is_finite}
 use Rattle.heylo_formula.specs.State.{Env, environment, IsTyped, has, fit, default, put, number_of}
 use Rattle.heylo_formula.specs.Choices.{Choices, here, left, right}
 use Rattle.heylo_formula.specs.Meaning.{value, holds}
-use Rattle.heylo_formula.specs.Typing.{HasTypes, NumberType, Types, retyped, number_type, join, joined, is_finite_type, is_unsigned, only_if, constant_type, difference_type, cut_type, scale_type, type_of, is_well_typed}
+use Rattle.heylo_formula.specs.Typing.{HasTypes, NumberType, Types, retyped, number_type, join, joined, is_unsigned, only_if, constant_type, difference_type, scale_type, type_of}
 use Rattle.heylo_formula.specs.declared.types.Ty.{Ty}
 use Rattle.heylo_formula.specs.declared.values.Val.{Val}
 use Rattle.heylo_formula.specs.declared.values.Val.TheVariants.{Truth, Num}
-use Rattle.linear_form.specs.TypedGoals.{types_in}
+use Rattle.heylo_formula.specs.Typing.{types_in}
 
 typed_list : (tys : List Ty) (s : List Val) (x : ℕ) → IsTyped tys s → has (types_in tys x) (environment s x) ≡ true
 typed_list [] s x h = ap (λ l. has Ty.Bool (get_or l x (Truth false))) h

@@ -1,4 +1,4 @@
--- An unsigned variable that occurs in the rows of a path has a row that says that it isn't negative.
+-- An unsigned variable that occurs_in_row in the rows of a path has a row that says that it isn't negative.
 use Rattle.std.proofs.Common.{◌≡◌, ℕ, ◌+◌, ◌<◌, List, [], ◌∷◌, ◌++◌, length, refl, sym, ap, ap₂, ◌∙◌, subst, arith, Bool, true, false, cond, ◌==◌, ◌&&◌, ◌||◌, eqb}
 use Rattle.std.specs.Prelude.{Some}
 use Prim.Native.Nat.{zero, suc}
@@ -11,13 +11,13 @@ use Rattle.heylo_formula.specs.State.{Env, number_of}
 use Rattle.heylo_formula.specs.Typing.{Types}
 use Rattle.linear_form.specs.Lin.{Lin, Terms, at, constant, variable, times, scaled, minus_oneʳ}
 use Rattle.linear_form.specs.Paths.{end_at}
-use Rattle.linear_form.specs.TypedGoals.{types_in}
+use Rattle.heylo_formula.specs.Typing.{types_in}
 use Rattle.linear_form.specs.Tightening.{Claim, tightened, tight_row, rounded, are_whole, factor, whole_terms}
 use Rattle.linear_form.specs.PathRows.{claim, negated, path_claims, listed, denial_at, is_unsigned_type, occurs_in_terms, occurs_in_claims, sign_claims, claims_of}
 use Rattle.linear_form.specs.ClaimLaws.{IsClaimed, AllClaimed}
 use Rattle.linear_form.specs.PointLaws.{UnsignedAreNonnegative}
 use Rattle.linear_form.specs.Row.{Row}
-use Rattle.linear_form.specs.VariableOrder.{occurs, occurrences}
+use Rattle.linear_form.specs.VariableOrder.{occurs_in_row, occurrences}
 use Rattle.linear_form.proofs.EachResults.{of_two}
 use Rattle.linear_form.proofs.LinearValues.{leq_minus, variable_at}
 use Rattle.linear_form.proofs.MetClaims.{negated_at}
@@ -27,7 +27,7 @@ use Rattle.linear_form.proofs.ClaimedRows.{rows_claim}
 use Rattle.linear_form.proofs.DeniedRows.{Gives, gives_rows}
 use Rattle.linear_form.proofs.FalsifyingPoints.{first_claimed, second_claimed}
 
--- ---- Where a variable occurs in no claim, it occurs in no row
+-- ---- Where a variable occurs_in_row in no claim, it occurs_in_row in no row
 
 or_false_first : (a b : Bool) → (a || b) ≡ false → a ≡ false
 or_false_first true b e = absurd (cc)
@@ -45,7 +45,7 @@ whole_lacks x w [] e = refl
 whole_lacks x w (t ∷ ts) e = ap₂ (λ a b. a || b) (turned x t.0 (or_false_first (x == t.0) _ e)) (whole_lacks x w ts (or_false_second (x == t.0) _ e))
 
 abbrev Lacks : ℕ → Row → Type 0
-Lacks x r = occurs x r ≡ false
+Lacks x r = occurs_in_row x r ≡ false
 
 tight_lacks : (types : Types) (x : ℕ) (ts : Terms) (c : Rational) (strict : Bool) → occurs_in_terms x ts ≡ false → Lacks x (tight_row types ts c strict)
 tight_lacks types x [] c strict e = refl
@@ -65,7 +65,7 @@ counted false e = refl
 
 none_occur : (x : ℕ) (rows : List Row) → All (Lacks x) rows → occurrences x rows ≡ 0
 none_occur x [] h = refl
-none_occur x (r ∷ rows) h = sum_by-cons (λ q. cond (occurs x q) 1 0) r rows ∙ ap₂ (λ a b. a + b) (counted (occurs x r) (All-head (Lacks x) r rows h)) (none_occur x rows (All-tail (Lacks x) r rows h))
+none_occur x (r ∷ rows) h = sum_by-cons (λ q. cond (occurs_in_row x q) 1 0) r rows ∙ ap₂ (λ a b. a + b) (counted (occurs_in_row x r) (All-head (Lacks x) r rows h)) (none_occur x rows (All-tail (Lacks x) r rows h))
 
 -- ---- The signs are about variables that occur
 
@@ -87,7 +87,7 @@ signs_lack types x ks (suc n) e = lack_append x (sign_claims types ks n) _ (sign
     go true false k b i = refl
     go false a k b i = refl
 
--- ---- The sign of a variable that occurs
+-- ---- The sign of a variable that occurs_in_row
 
 sign_at : (types : Types) (s : Env) (ks : List Claim) (n x : ℕ) → x < n → is_unsigned_type (types x) ≡ true → occurs_in_claims x ks ≡ true → AllClaimed s (sign_claims types ks n) → IsClaimed s (claim (negated (variable x)) false)
 sign_at types s ks zero x l u o h = absurd (omega (arith, l))

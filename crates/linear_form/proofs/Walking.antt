@@ -8,12 +8,12 @@ use Rattle.std.proofs.lemmas.List.{drop_all}
 use Rattle.std.specs.List.{All}
 use Rattle.std.proofs.lemmas.List.Elements.{All-nil, All-cons, All-weaker, All-append}
 use Rattle.std.proofs.lemmas.Bool.Decides.{nat_tests}
-use mir.Syntax.{w64, w128}
-use Rattle.heyvl_num.proofs.Integers.{one-*ℤ}
+use mir.Syntax.{w128}
+use Rattle.heyvl_num.proofs.exported.Integers.{one-*ℤ}
 use Rattle.linear_form.specs.Terms.{coefficient, IsNormal, put_term, add_terms}
 use Rattle.std.specs.Int.RustNames.{int_div}
 use Rattle.heyvl_num.specs.Gcd.{gcd}
-use Rattle.linear_form.specs.Merging.{scaled_terms, merged_terms, are_wide, are_narrow, IsNext}
+use Rattle.linear_form.specs.Merging.{scaled_terms, merged_terms, are_wide, are_narrow, IsNextTerm}
 use Rattle.linear_form.specs.Divisors.{common, divided_terms}
 use Rattle.linear_form.proofs.Normal.{coefficient-cons, coefficient-nil, head_coef, take_first, take_second, take_both}
 
@@ -68,31 +68,31 @@ put_append v (negsuc n) ms = refl
 pub step_so_far : (old now m k f : List (ℕ × ℤ)) (v : ℕ) (c : ℤ) → now ≡ old ++ put_term v c [] → m ≡ put_term v c k → old ++ m ≡ f → now ++ k ≡ f
 step_so_far old now m k f v c e h g = ap (λ xs. xs ++ k) e ∙ append_assoc old (put_term v c []) k ∙ ap (λ xs. old ++ xs) (put_append v c k ∙ sym h) ∙ g
 
-from_first : (ts : List (ℕ × ℤ)) (i : ℕ) (us : List (ℕ × ℤ)) (j : ℕ) (d : ℕ × ℤ) (c : ℤ) → i < length ts → j ≤ length us → IsNormal (drop i ts) → IsNormal (drop j us) → All (λ u. (get_or ts i d).0 < u.0) (drop j us) → c ≡ (get_or ts i d).1 → IsNext ts i us j (get_or ts i d).0 c (i + 1) j
+from_first : (ts : List (ℕ × ℤ)) (i : ℕ) (us : List (ℕ × ℤ)) (j : ℕ) (d : ℕ × ℤ) (c : ℤ) → i < length ts → j ≤ length us → IsNormal (drop i ts) → IsNormal (drop j us) → All (λ u. (get_or ts i d).0 < u.0) (drop j us) → c ≡ (get_or ts i d).1 → IsNextTerm ts i us j (get_or ts i d).0 c (i + 1) j
 from_first ts i us j d c l m k n h e = record { split = go (get_or ts i d) (from ts i d l) h ∙ ap (λ z. put_term (get_or ts i d).0 z (merged_terms (drop (i + 1) ts) (drop j us))) (one-*ℤ (get_or ts i d).1 ∙ sym e); left_normal = after ts i d l k; right_normal = n; left_within = omega (arith, l); right_within = m; further = omega arith }
   where
     go : (t : ℕ × ℤ) → drop i ts ≡ t ∷ drop (i + 1) ts → All (λ u. t.0 < u.0) (drop j us) → merged_terms (drop i ts) (drop j us) ≡ put_term t.0 (pos 1 *ℤ t.1) (merged_terms (drop (i + 1) ts) (drop j us))
     go t f h = ap (λ xs. merged_terms xs (drop j us)) f ∙ take_first (pos 1) t (drop (i + 1) ts) (drop j us) (subst IsNormal f k) n h
 
-from_second : (ts : List (ℕ × ℤ)) (i : ℕ) (us : List (ℕ × ℤ)) (j : ℕ) (d : ℕ × ℤ) (c : ℤ) → i ≤ length ts → j < length us → IsNormal (drop i ts) → IsNormal (drop j us) → All (λ t. (get_or us j d).0 < t.0) (drop i ts) → c ≡ (get_or us j d).1 → IsNext ts i us j (get_or us j d).0 c i (j + 1)
+from_second : (ts : List (ℕ × ℤ)) (i : ℕ) (us : List (ℕ × ℤ)) (j : ℕ) (d : ℕ × ℤ) (c : ℤ) → i ≤ length ts → j < length us → IsNormal (drop i ts) → IsNormal (drop j us) → All (λ t. (get_or us j d).0 < t.0) (drop i ts) → c ≡ (get_or us j d).1 → IsNextTerm ts i us j (get_or us j d).0 c i (j + 1)
 from_second ts i us j d c l m k n h e = record { split = go (get_or us j d) (from us j d m) h ∙ ap (λ z. put_term (get_or us j d).0 z (merged_terms (drop i ts) (drop (j + 1) us))) (sym e); left_normal = k; right_normal = after us j d m n; left_within = l; right_within = omega (arith, m); further = omega arith }
   where
     go : (u : ℕ × ℤ) → drop j us ≡ u ∷ drop (j + 1) us → All (λ t. u.0 < t.0) (drop i ts) → merged_terms (drop i ts) (drop j us) ≡ put_term u.0 u.1 (merged_terms (drop i ts) (drop (j + 1) us))
     go u f h = ap (λ xs. merged_terms (drop i ts) xs) f ∙ take_second (pos 1) (drop i ts) u (drop (j + 1) us) (subst IsNormal f n) h
 
-pub first_lower : (ts : List (ℕ × ℤ)) (i : ℕ) (us : List (ℕ × ℤ)) (j : ℕ) (d : ℕ × ℤ) (c : ℤ) → i < length ts → j < length us → IsNormal (drop i ts) → IsNormal (drop j us) → (get_or ts i d).0 < (get_or us j d).0 → c ≡ (get_or ts i d).1 → IsNext ts i us j (get_or ts i d).0 c (i + 1) j
+pub first_lower : (ts : List (ℕ × ℤ)) (i : ℕ) (us : List (ℕ × ℤ)) (j : ℕ) (d : ℕ × ℤ) (c : ℤ) → i < length ts → j < length us → IsNormal (drop i ts) → IsNormal (drop j us) → (get_or ts i d).0 < (get_or us j d).0 → c ≡ (get_or ts i d).1 → IsNextTerm ts i us j (get_or ts i d).0 c (i + 1) j
 first_lower ts i us j d c l m k n h e = from_first ts i us j d c l (omega (arith, m)) k n (all_above (get_or ts i d).0 us j d m n h) e
 
-pub first_alone : (ts : List (ℕ × ℤ)) (i : ℕ) (us : List (ℕ × ℤ)) (j : ℕ) (d : ℕ × ℤ) (c : ℤ) → i < length ts → j ≤ length us → length us ≤ j → IsNormal (drop i ts) → IsNormal (drop j us) → c ≡ (get_or ts i d).1 → IsNext ts i us j (get_or ts i d).0 c (i + 1) j
+pub first_alone : (ts : List (ℕ × ℤ)) (i : ℕ) (us : List (ℕ × ℤ)) (j : ℕ) (d : ℕ × ℤ) (c : ℤ) → i < length ts → j ≤ length us → length us ≤ j → IsNormal (drop i ts) → IsNormal (drop j us) → c ≡ (get_or ts i d).1 → IsNextTerm ts i us j (get_or ts i d).0 c (i + 1) j
 first_alone ts i us j d c l m o k n e = from_first ts i us j d c l m k n (none_above (get_or ts i d).0 us j o) e
 
-pub second_lower : (ts : List (ℕ × ℤ)) (i : ℕ) (us : List (ℕ × ℤ)) (j : ℕ) (d : ℕ × ℤ) (c : ℤ) → i < length ts → j < length us → IsNormal (drop i ts) → IsNormal (drop j us) → (get_or us j d).0 < (get_or ts i d).0 → c ≡ (get_or us j d).1 → IsNext ts i us j (get_or us j d).0 c i (j + 1)
+pub second_lower : (ts : List (ℕ × ℤ)) (i : ℕ) (us : List (ℕ × ℤ)) (j : ℕ) (d : ℕ × ℤ) (c : ℤ) → i < length ts → j < length us → IsNormal (drop i ts) → IsNormal (drop j us) → (get_or us j d).0 < (get_or ts i d).0 → c ≡ (get_or us j d).1 → IsNextTerm ts i us j (get_or us j d).0 c i (j + 1)
 second_lower ts i us j d c l m k n h e = from_second ts i us j d c (omega (arith, l)) m k n (all_above (get_or us j d).0 ts i d l k h) e
 
-pub second_alone : (ts : List (ℕ × ℤ)) (i : ℕ) (us : List (ℕ × ℤ)) (j : ℕ) (d : ℕ × ℤ) (c : ℤ) → i ≤ length ts → length ts ≤ i → j < length us → IsNormal (drop i ts) → IsNormal (drop j us) → c ≡ (get_or us j d).1 → IsNext ts i us j (get_or us j d).0 c i (j + 1)
+pub second_alone : (ts : List (ℕ × ℤ)) (i : ℕ) (us : List (ℕ × ℤ)) (j : ℕ) (d : ℕ × ℤ) (c : ℤ) → i ≤ length ts → length ts ≤ i → j < length us → IsNormal (drop i ts) → IsNormal (drop j us) → c ≡ (get_or us j d).1 → IsNextTerm ts i us j (get_or us j d).0 c i (j + 1)
 second_alone ts i us j d c l o m k n e = from_second ts i us j d c l m k n (none_above (get_or us j d).0 ts i o) e
 
-pub both_level : (ts : List (ℕ × ℤ)) (i : ℕ) (us : List (ℕ × ℤ)) (j : ℕ) (d : ℕ × ℤ) (c : ℤ) → i < length ts → j < length us → IsNormal (drop i ts) → IsNormal (drop j us) → (get_or ts i d).0 ≡ (get_or us j d).0 → c ≡ (get_or ts i d).1 +ℤ (get_or us j d).1 → IsNext ts i us j (get_or ts i d).0 c (i + 1) (j + 1)
+pub both_level : (ts : List (ℕ × ℤ)) (i : ℕ) (us : List (ℕ × ℤ)) (j : ℕ) (d : ℕ × ℤ) (c : ℤ) → i < length ts → j < length us → IsNormal (drop i ts) → IsNormal (drop j us) → (get_or ts i d).0 ≡ (get_or us j d).0 → c ≡ (get_or ts i d).1 +ℤ (get_or us j d).1 → IsNextTerm ts i us j (get_or ts i d).0 c (i + 1) (j + 1)
 both_level ts i us j d c l m k n h e = record { split = go (get_or ts i d) (get_or us j d) (from ts i d l) (from us j d m) h ∙ ap (λ z. put_term (get_or ts i d).0 z (merged_terms (drop (i + 1) ts) (drop (j + 1) us))) (ap (λ y. y +ℤ (get_or us j d).1) (one-*ℤ (get_or ts i d).1) ∙ sym e); left_normal = after ts i d l k; right_normal = after us j d m n; left_within = omega (arith, l); right_within = omega (arith, m); further = omega arith }
   where
     go : (t u : ℕ × ℤ) → drop i ts ≡ t ∷ drop (i + 1) ts → drop j us ≡ u ∷ drop (j + 1) us → t.0 ≡ u.0 → merged_terms (drop i ts) (drop j us) ≡ put_term t.0 ((pos 1 *ℤ t.1) +ℤ u.1) (merged_terms (drop (i + 1) ts) (drop (j + 1) us))

@@ -1,11 +1,11 @@
 -- Fronts and cells of a goal: the paths that a walk through its questions reaches. This project's own.
-use Rattle.std.specs.Prelude.{◌≡◌, List, [], ◌∷◌, ◌++◌, Bool, true, false, Option, Some}
+use Rattle.std.specs.Prelude.{◌≡◌, List, [], Bool, true, false, Some}
 use Rattle.heylo_formula.specs.Goals.{Goal}
 use Rattle.linear_form.specs.Row.{Row}
 use Rattle.linear_form.specs.Solutions.{IsSolvable}
-use Rattle.linear_form.specs.Query.{Query, Taken}
+use Rattle.linear_form.specs.Query.{Query, Atom, Taken, onto}
 use Rattle.linear_form.specs.Questions.{Ends}
-use Rattle.linear_form.specs.Paths.{IsPath, end_at}
+use Rattle.linear_form.specs.Paths.{Asks, end_at}
 use Rattle.linear_form.specs.PathRows.{rows_of, IsPlainAt}
 
 -- No fractions meet the rows of the path: the walk goes no further here.
@@ -14,15 +14,26 @@ pub record IsDropped (g : Goal) (ps : List Taken) : Type 0 where
   pub are_rows : rows_of g ps false ≡ Some rows
   pub unsolvable : IsSolvable rows → ⊥
 
--- A path that the walk reaches: nothing before its end is dropped.
-pub record IsFront (g : Goal) (ps : List Taken) : Type 0 where
-  pub is_path : IsPath g ps
-  pub reached : (before : List Taken) (p : Taken) (after : List Taken) → ps ≡ before ++ (p ∷ after) → IsDropped g before → ⊥
+-- Some fractions meet the rows of the path.
+pub record IsKept (g : Goal) (ps : List Taken) : Type 0 where
+  pub rows : List Row
+  pub are_rows : rows_of g ps false ≡ Some rows
+  pub solvable : IsSolvable rows
 
--- A front at an end that isn't dropped.
+-- The path is kept, and its question is this one.
+pub record GoesOn (g : Goal) (ps : List Taken) (q : Atom) : Type 0 where
+  pub kept : IsKept g ps
+  pub asks : Asks g ps q
+
+-- A path that the walk reaches: the start, and both answers to the question of a front that is kept.
+pub data IsFront (g : Goal) : List Taken → Type 0 where
+  start : IsFront g []
+  answer : (ps : List Taken) (q : Atom) (held : Bool) → IsFront g ps → GoesOn g ps q → IsFront g (onto ps q held)
+
+-- A front that is kept, at an end.
 pub record IsCell (g : Goal) (ps : List Taken) : Type 0 where
   pub front : IsFront g ps
-  pub kept : IsDropped g ps → ⊥
+  pub kept : IsKept g ps
   pub ends : Ends
   pub at_end : end_at g ps ≡ Query.done ends
 

@@ -1,12 +1,12 @@
 -- What is proved of the claims of a path.
-use Rattle.std.specs.Prelude.{◌≡◌, List, [], ◌∷◌, Bool, true, pos, Some}
+use Rattle.std.specs.Prelude.{◌≡◌, List, [], ◌∷◌, true, false, pos, Some}
 use Rattle.heylo_formula.specs.Goals.{Goal, HoldsIn}
 use Rattle.heylo_formula.specs.State.{Env, IsTyped, environment, number_of}
 use Rattle.heylo_formula.specs.declared.values.Val.{Val}
 use Rattle.linear_form.specs.Lin.{at, Terms}
 use Rattle.linear_form.specs.Query.{Taken, is_negative}
 use Rattle.linear_form.specs.Paths.{IsPath, Agrees}
-use Rattle.linear_form.specs.TypedGoals.{IsTypedGoal}
+use Rattle.heylo_formula.specs.TypedGoals.{IsTypedGoal}
 use Rattle.linear_form.specs.Tightening.{Claim}
 use Rattle.linear_form.specs.PathRows.{claims_of, rows_of}
 use Rattle.linear_form.specs.Row.{Row}
@@ -30,11 +30,19 @@ abbrev pub AllNonzero : List Claim → Type 0
 AllNonzero [] = Unit {0}
 AllNonzero (k ∷ ks) = AreNonzero k.left.terms × AllNonzero ks
 
--- Each claim of a path holds in each state of the right types that agrees with the path and in which the goal fails.
-abbrev pub PathsClaimTruths : Type 0
-PathsClaimTruths = (g : Goal) (s : List Val) (ps : List Taken) (denied : Bool) → IsTypedGoal g → IsTyped g.types s → IsPath g ps → Agrees (environment s) ps → (HoldsIn g (environment s) → ⊥) → AllClaimed (environment s) (claims_of g ps denied)
+-- What the answers of a path claim, and the signs of unsigned variables, holds in each state of the right types that agrees with
+-- the path.
+abbrev pub AnswersClaimTruths : Type 0
+AnswersClaimTruths = (g : Goal) (s : List Val) (ps : List Taken) → IsTyped g.types s → Agrees (environment s) ps → AllClaimed (environment s) (claims_of g ps false)
 
--- Each row of a path is met by each state of the right types that agrees with the path and in which the goal fails: the rows
--- of its answers, those of the signs of unsigned variables, and where it is asked for the denied goal's.
+-- With the denied goal among the claims each holds where the goal fails.
+abbrev pub DenialsClaimTruths : Type 0
+DenialsClaimTruths = (g : Goal) (s : List Val) (ps : List Taken) → IsTypedGoal g → IsTyped g.types s → IsPath g ps → Agrees (environment s) ps → (HoldsIn g (environment s) → ⊥) → AllClaimed (environment s) (claims_of g ps true)
+
+-- Each row of a path without the denied goal is met by each state of the right types that agrees with the path.
 abbrev pub RowsAreMet : Type 0
-RowsAreMet = (g : Goal) (s : List Val) (ps : List Taken) (denied : Bool) (rows : List Row) → IsTypedGoal g → IsTyped g.types s → IsPath g ps → Agrees (environment s) ps → (HoldsIn g (environment s) → ⊥) → rows_of g ps denied ≡ Some rows → All (MeetsAt (λ x. number_of (environment s x))) rows
+RowsAreMet = (g : Goal) (s : List Val) (ps : List Taken) (rows : List Row) → IsTyped g.types s → IsPath g ps → Agrees (environment s) ps → rows_of g ps false ≡ Some rows → All (MeetsAt (λ x. number_of (environment s x))) rows
+
+-- With the denied goal each is met where the goal fails.
+abbrev pub DeniedRowsAreMet : Type 0
+DeniedRowsAreMet = (g : Goal) (s : List Val) (ps : List Taken) (rows : List Row) → IsTypedGoal g → IsTyped g.types s → IsPath g ps → Agrees (environment s) ps → (HoldsIn g (environment s) → ⊥) → rows_of g ps true ≡ Some rows → All (MeetsAt (λ x. number_of (environment s x))) rows

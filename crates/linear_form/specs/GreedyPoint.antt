@@ -1,11 +1,13 @@
 -- The greedy point of solvable rows: one variable after the other takes a value near 0 that the values so far leave room for.
 -- It speaks of the rows' solutions alone. Source: this project's own choice of a point.
-use Rattle.std.specs.Prelude.{◌≡◌, ◌↔◌, ◌⊎◌, ℕ, ◌<◌, ◌≤◌, List, [], ◌∷◌, ◌++◌, length, get_or, reverse, map, unsigned_abs, Bool, true, false, Option, Some, None, cond, eqb}
+use Rattle.std.specs.Prelude.{◌≡◌, ◌↔◌, ℕ, ◌<◌, ◌≤◌, List, [], ◌∷◌, ◌++◌, length, get_or, reverse, unsigned_abs, Bool, true, false, Option, Some, None, cond, eqb}
 use Rattle.std.specs.List.{All}
 use Rattle.heyvl_num.specs.Rational.{Rational, zeroʳ, oneʳ, middleʳ, ◌+ʳ◌, ◌-ʳ◌, ◌≤ʳ◌, ◌<ʳ◌}
 use Rattle.heylo_formula.specs.declared.types.Ty.{Ty}
 use Rattle.heylo_formula.specs.declared.values.Val.{Val}
 use Rattle.heylo_formula.specs.declared.values.Val.TheVariants.{Truth, Num}
+use Rattle.heylo_formula.specs.Typing.{types_in}
+use Rattle.linear_form.specs.Tightening.{is_integral}
 use Rattle.linear_form.specs.Row.{Row}
 use Rattle.linear_form.specs.Solutions.{MeetsAt}
 use Rattle.linear_form.specs.VariableOrder.{order_of}
@@ -43,19 +45,12 @@ pub record IsIntervalOf (rows : List Row) (chosen : List (ℕ × Rational)) (x :
 pub record IsWhole (v : Rational) : Type 0 where
   pub whole : v.den ≡ 1
 
--- Int and UInt.
-abbrev pub IsWholeType : Ty → Type 0
-IsWholeType Ty.Bool = ⊥
-IsWholeType Ty.Int = Unit {0}
-IsWholeType Ty.UInt = Unit {0}
-IsWholeType Ty.UReal = ⊥
-
 -- The value that a variable takes in its interval: 0 where it is inside; else an Int or UInt the whole number inside that is
 -- nearest to 0, and a UReal the end nearest to 0 where it is inside, else the middle of the two ends, else the near end with
 -- 1 added, or taken away where it is the upper one.
 pub data IsChoice (i : Interval) : Ty → Rational → Type 0 where
   zero : (ty : Ty) → IsInside i zeroʳ → IsChoice i ty zeroʳ
-  nearest_whole : (ty : Ty) (v : Rational) → (IsInside i zeroʳ → ⊥) → IsWholeType ty → IsWhole v → IsInside i v → ((w : Rational) → IsWhole w → IsInside i w → unsigned_abs v.num ≤ unsigned_abs w.num) → IsChoice i ty v
+  nearest_whole : (ty : Ty) (v : Rational) → (IsInside i zeroʳ → ⊥) → (is_integral ty ≡ true) → IsWhole v → IsInside i v → ((w : Rational) → IsWhole w → IsInside i w → unsigned_abs v.num ≤ unsigned_abs w.num) → IsChoice i ty v
   low_end : (e : End) → (IsInside i zeroʳ → ⊥) → i.low ≡ Some e → zeroʳ ≤ʳ e.place → e.inside ≡ true → IsChoice i Ty.UReal e.place
   high_end : (e : End) → (IsInside i zeroʳ → ⊥) → i.high ≡ Some e → e.place ≤ʳ zeroʳ → e.inside ≡ true → IsChoice i Ty.UReal e.place
   middle_of_low : (e f : End) → (IsInside i zeroʳ → ⊥) → i.low ≡ Some e → i.high ≡ Some f → zeroʳ ≤ʳ e.place → e.inside ≡ false → IsChoice i Ty.UReal (middleʳ e.place f.place)
@@ -65,12 +60,8 @@ pub data IsChoice (i : Interval) : Ty → Rational → Type 0 where
 
 -- The interval of an Int or UInt holds no whole number.
 pub record IsBroken (i : Interval) (ty : Ty) : Type 0 where
-  pub whole_type : IsWholeType ty
+  pub whole_type : (is_integral ty ≡ true)
   pub none_whole : (v : Rational) → IsInside i v → IsWhole v → ⊥
-
--- The type of a variable; Bool beyond the list.
-abbrev pub type_at : List Ty → ℕ → Ty
-type_at vars x = get_or vars x Ty.Bool
 
 -- How the choice ends: with a value for each variable, in the order of choice, or at a variable whose interval breaks, with
 -- the values chosen before and the interval.
@@ -81,8 +72,8 @@ pub data Greedy : Type 0 where
 -- The variables still to be chosen, in order, the values chosen so far, and how the choice ends.
 pub data Chooses (rows : List Row) (vars : List Ty) : List ℕ → List (ℕ × Rational) → Greedy → Type 0 where
   ends : (chosen : List (ℕ × Rational)) → Chooses rows vars [] chosen (chose chosen)
-  takes : (x : ℕ) (xs : List ℕ) (chosen : List (ℕ × Rational)) (i : Interval) (v : Rational) (g : Greedy) → IsIntervalOf rows chosen x i → IsChoice i (type_at vars x) v → Chooses rows vars xs (chosen ++ (x, v) ∷ []) g → Chooses rows vars (x ∷ xs) chosen g
-  breaks : (x : ℕ) (xs : List ℕ) (chosen : List (ℕ × Rational)) (i : Interval) → IsIntervalOf rows chosen x i → IsBroken i (type_at vars x) → Chooses rows vars (x ∷ xs) chosen (broke x chosen i)
+  takes : (x : ℕ) (xs : List ℕ) (chosen : List (ℕ × Rational)) (i : Interval) (v : Rational) (g : Greedy) → IsIntervalOf rows chosen x i → IsChoice i (types_in vars x) v → Chooses rows vars xs (chosen ++ (x, v) ∷ []) g → Chooses rows vars (x ∷ xs) chosen g
+  breaks : (x : ℕ) (xs : List ℕ) (chosen : List (ℕ × Rational)) (i : Interval) → IsIntervalOf rows chosen x i → IsBroken i (types_in vars x) → Chooses rows vars (x ∷ xs) chosen (broke x chosen i)
 
 -- The last variable of the order of elimination is chosen first.
 abbrev pub ChoosesFrom : List Row → List Ty → Greedy → Type 0
@@ -102,7 +93,7 @@ value_for Ty.UReal v = Num v
 -- The state of all variables: a variable without rows is 0, and a Boolean is false.
 pub record IsStateOf (vars : List Ty) (chosen : List (ℕ × Rational)) (point : List Val) : Type 0 where
   pub each : length point ≡ length vars
-  pub values : (x : ℕ) → x < length vars → get_or point x (Truth false) ≡ value_for (type_at vars x) (chosen_value x chosen)
+  pub values : (x : ℕ) → x < length vars → get_or point x (Truth false) ≡ value_for (types_in vars x) (chosen_value x chosen)
 
 -- The state is the greedy point of the rows.
 pub record IsGreedyPoint (rows : List Row) (vars : List Ty) (point : List Val) : Type 0 where

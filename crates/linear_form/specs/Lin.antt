@@ -14,13 +14,13 @@ pub record Lin : Type 0 where
   pub rest : Rational
 
 -- A term in front, unless it is zero.
-abbrev pub kept : ℕ → Rational → Terms → Terms
-kept x c ts = if is_zeroʳ c then ts else (x, c) ∷ ts
+abbrev pub unless_zero : ℕ → Rational → Terms → Terms
+unless_zero x c ts = if is_zeroʳ c then ts else (x, c) ∷ ts
 
 -- A term more, where the terms go by variable and none is zero.
 abbrev pub more : ℕ → Rational → Terms → Terms
-more x c [] = kept x c []
-more x c (t ∷ ts) = if x == t.0 then kept x (t.1 +ʳ c) ts else (if ltb x t.0 then kept x c (t ∷ ts) else (t ∷ more x c ts))
+more x c [] = unless_zero x c []
+more x c (t ∷ ts) = if x == t.0 then unless_zero x (t.1 +ʳ c) ts else (if ltb x t.0 then unless_zero x c (t ∷ ts) else (t ∷ more x c ts))
 
 -- The terms of the first list, one after the other, put into the second.
 abbrev pub merged : Terms → Terms → Terms
@@ -76,6 +76,6 @@ IsAbove m [] = Unit {0}
 IsAbove m (t ∷ ts) = (m < t.0) × IsAbove m ts
 
 -- The variables grow, and no coefficient is zero.
-abbrev pub IsNormal : Terms → Type 0
-IsNormal [] = Unit {0}
-IsNormal (t ∷ ts) = (is_zeroʳ t.1 ≡ false) × (IsAbove t.0 ts × IsNormal ts)
+abbrev pub AreNormal : Terms → Type 0
+AreNormal [] = Unit {0}
+AreNormal (t ∷ ts) = (is_zeroʳ t.1 ≡ false) × (IsAbove t.0 ts × AreNormal ts)

@@ -11,7 +11,7 @@ abbrev pub merged_terms : List (ℕ × ℤ) → List (ℕ × ℤ) → List (ℕ 
 merged_terms ts us = add_terms (pos 1) ts us
 
 -- The term (v, c) comes first from the places i and j, and k and l are the places after it.
-pub record IsNext (ts : List (ℕ × ℤ)) (i : ℕ) (us : List (ℕ × ℤ)) (j v : ℕ) (c : ℤ) (k l : ℕ) : Type 0 where
+pub record IsNextTerm (ts : List (ℕ × ℤ)) (i : ℕ) (us : List (ℕ × ℤ)) (j v : ℕ) (c : ℤ) (k l : ℕ) : Type 0 where
   pub split : merged_terms (drop i ts) (drop j us) ≡ put_term v c (merged_terms (drop k ts) (drop l us))
   pub left_normal : IsNormal (drop k ts)
   pub right_normal : IsNormal (drop l us)

@@ -10,7 +10,7 @@ use Rattle.linear_form.specs.Lin.{Lin, Terms, constant, variable, minus, scaled,
 use Rattle.linear_form.specs.Query.{Query, Atom, Taken}
 use Rattle.linear_form.specs.Questions.{Linear, Ends}
 use Rattle.linear_form.specs.Paths.{end_at}
-use Rattle.linear_form.specs.TypedGoals.{types_in}
+use Rattle.heylo_formula.specs.Typing.{types_in}
 use Rattle.linear_form.specs.Tightening.{Claim, tightened}
 
 abbrev pub claim : Lin → Bool → Claim

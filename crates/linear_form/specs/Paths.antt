@@ -1,9 +1,9 @@
 -- Paths of answered questions through the tree of a goal, and the states that agree with them.
-use Rattle.std.specs.Prelude.{◌≡◌, List, [], ◌∷◌, Bool, true, false, if◌then◌else◌}
+use Rattle.std.specs.Prelude.{◌≡◌, List, [], ◌∷◌, true, false, if◌then◌else◌}
 use Rattle.heylo_formula.specs.Goals.{Goal}
 use Rattle.heylo_formula.specs.State.{Env}
 use Rattle.linear_form.specs.Query.{Query, Atom, Taken, holds_at}
-use Rattle.linear_form.specs.Query.Query.{done, bits, ask}
+use Rattle.linear_form.specs.Query.Query.{ask}
 use Rattle.linear_form.specs.Questions.{Ends, questions}
 
 -- The tree that is left after some answers. Past a result there is nothing to answer.
@@ -30,6 +30,12 @@ Agrees s (p ∷ ps) = (holds_at p.atom s ≡ p.held) × Agrees s ps
 -- What stands at the end of a path: the next question, the two values, or a number that is too large.
 abbrev pub end_at : Goal → List Taken → Query Ends
 end_at g ps = walk (questions g) ps
+
+-- The goal asks this question at the end of the path.
+pub record Asks (g : Goal) (ps : List Taken) (q : Atom) : Type 0 where
+  pub yes : Query Ends
+  pub no : Query Ends
+  pub question : end_at g ps ≡ ask q yes no
 
 -- No question is left.
 pub data Ended {A : Type 0} : Query A → Type 0 where

@@ -13,7 +13,8 @@ use Rattle.linear_form.specs.Paths.{IsPath, Agrees, end_at}
 use Rattle.linear_form.specs.PathRows.{rows_of, IsPlainAt, is_unsigned_type}
 use Rattle.linear_form.specs.Row.{Row}
 use Rattle.linear_form.specs.Solutions.{MeetsAt}
-use Rattle.linear_form.specs.TypedGoals.{IsTypedGoal, HasItsVariables, types_in}
+use Rattle.heylo_formula.specs.TypedGoals.{IsTypedGoal, HasItsVariables}
+use Rattle.heylo_formula.specs.Typing.{types_in}
 use Rattle.linear_form.specs.VariableOrder.{occurrences}
 
 -- The truths that the path has decided are so in the state.

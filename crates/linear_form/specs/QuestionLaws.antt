@@ -1,17 +1,16 @@
 -- Laws of the questions of a goal: the path of a state, and what stands at its end.
-use Rattle.std.specs.Prelude.{◌≡◌, ◌⊎◌, List, [], Bool, true, false, Option, Some, None}
+use Rattle.std.specs.Prelude.{◌≡◌, List, [], false, Some, None}
 use Rattle.heylo_formula.specs.Formula.{Form}
 use Rattle.heylo_formula.specs.Goals.{Goal}
 use Rattle.heylo_formula.specs.State.{Env, IsTyped, environment}
 use Rattle.heylo_formula.specs.Choices.{Choices}
 use Rattle.heylo_formula.specs.Meaning.{value}
 use Rattle.heylo_formula.specs.declared.values.Val.{Val}
-use Rattle.linear_form.specs.Lin.{Lin}
 use Rattle.linear_form.specs.Query.{Query, Taken}
 use Rattle.linear_form.specs.Query.Query.{done, bits, ask}
 use Rattle.linear_form.specs.Questions.{Linear, Ends, value_in, evaluate}
 use Rattle.linear_form.specs.Paths.{IsPath, Agrees, IsPathOf, end_at}
-use Rattle.linear_form.specs.TypedGoals.{IsTypedGoal}
+use Rattle.heylo_formula.specs.TypedGoals.{IsTypedGoal}
 use Rattle.linear_form.specs.Nonlinear.{has_variable}
 
 -- Each state has a path to the end that agrees with it.

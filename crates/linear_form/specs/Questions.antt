@@ -1,6 +1,6 @@
 -- The questions of a form, of a condition and of a goal: which comparison or truth is needed next, after which answers.
 -- This project's own; the operators are those of HeyLo (Schroeer, Batz, Kaminski, Katoen, Matheja, OOPSLA 2023).
-use Rattle.std.specs.Prelude.{ℕ, List, [], ◌∷◌, Bool, true, false, not, Option, Some, None, if◌then◌else◌}
+use Rattle.std.specs.Prelude.{[], ◌∷◌, Bool, true, false, not, Option, Some, None, if◌then◌else◌}
 use Rattle.heyvl_num.specs.Rational.{Rational, zeroʳ, oneʳ}
 use Rattle.heyvl_num.specs.Value.{Value, is_zeroʳ}
 use Rattle.heyvl_num.specs.Value.Value.{finite, infinite}

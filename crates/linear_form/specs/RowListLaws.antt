@@ -1,18 +1,40 @@
 -- What is proved of the rows of a path.
-use Rattle.std.specs.Prelude.{◌≡◌, List, Bool, true, false, Some}
+use Rattle.std.specs.Prelude.{◌≡◌, ℕ, List, [], ◌∷◌, ◌++◌, length, Bool, true, false, Some, is_some}
 use Rattle.std.specs.List.{All, Contains}
 use Rattle.heylo_formula.specs.Goals.{Goal}
 use Rattle.linear_form.specs.Query.{Taken}
-use Rattle.linear_form.specs.Paths.{IsPath}
-use Rattle.linear_form.specs.PathRows.{rows_of}
+use Rattle.linear_form.specs.Paths.{IsPath, end_at}
+use Rattle.linear_form.specs.PathRows.{path_claims, denial_at, rows_of}
 use Rattle.linear_form.specs.Row.{Row}
 use Rattle.linear_form.specs.RowLists.{IsNumericRow}
 use Rattle.linear_form.specs.Solutions.{IsSolvable}
-use Rattle.linear_form.specs.TypedGoals.{IsTypedGoal}
+use Rattle.heylo_formula.specs.TypedGoals.{IsTypedGoal}
 
 -- Each variable of a row of a typed goal is a number by its type.
 abbrev pub RowsAreNumeric : Type 0
 RowsAreNumeric = (g : Goal) (ps : List Taken) (denied : Bool) (rows : List Row) → IsTypedGoal g → IsPath g ps → rows_of g ps denied ≡ Some rows → All (IsNumericRow g.types) rows
+
+-- The first rows stand among the others, in their order.
+pub data StandAmong : List Row → List Row → Type 0 where
+  none : StandAmong [] []
+  here : (r : Row) (rs ss : List Row) → StandAmong rs ss → StandAmong (r ∷ rs) (r ∷ ss)
+  past : (s : Row) (rs ss : List Row) → StandAmong rs ss → StandAmong rs (s ∷ ss)
+
+-- Where the rows of a path stand once the denied goal is among them: those of the answers where they stood, then the denied
+-- goal's, then those of the signs, where further ones may stand between.
+pub record MakesRoom (answers : ℕ) (rows denied : List Row) : Type 0 where
+  pub first : List Row
+  pub denied_goal : Row
+  pub signs : List Row
+  pub more_signs : List Row
+  pub counted : length first ≡ answers
+  pub split : rows ≡ first ++ signs
+  pub denied_split : denied ≡ first ++ (denied_goal ∷ more_signs)
+  pub among : StandAmong signs more_signs
+
+-- The denied goal stands behind the rows of the answers, wherever something denies the goal.
+abbrev pub DeniedGoalMakesRoom : Type 0
+DeniedGoalMakesRoom = (g : Goal) (ps : List Taken) (rows denied : List Row) → is_some (denial_at g.upper (end_at g ps)) ≡ true → rows_of g ps false ≡ Some rows → rows_of g ps true ≡ Some denied → MakesRoom (length (path_claims ps)) rows denied
 
 -- The rows without the denied goal are among those with it.
 abbrev pub DeniedRowsAreMore : Type 0

@@ -1,9 +1,9 @@
 -- The rows that the program gives, and rows over numbers.
-use Rattle.std.specs.Prelude.{◌≡◌, ℕ, List, length, Option, Some, None, Bool, true, false}
+use Rattle.std.specs.Prelude.{◌≡◌, ℕ, List, length, Option, Some, None, Bool, true, not}
 use Rattle.std.specs.List.{All}
 use Rattle.heylo_formula.specs.declared.types.Ty.{Ty}
 use Rattle.linear_form.specs.Row.{Row, IsRow}
-use Rattle.linear_form.specs.TypedGoals.{types_in}
+use Rattle.heylo_formula.specs.Typing.{types_in, is_bool}
 use Rattle.linear_form.specs.declared.path_rows.RowList.{RowList}
 use Rattle.linear_form.specs.declared.path_rows.RowList.TheVariants.{Rows, Bits}
 
@@ -16,11 +16,9 @@ abbrev pub AreRows : RowList → Type 0
 AreRows (Rows rows) = All IsRow rows.items
 AreRows Bits = Unit {0}
 
+-- A type of numbers.
 abbrev pub is_numeric : Ty → Bool
-is_numeric Ty.Bool = false
-is_numeric Ty.Int = true
-is_numeric Ty.UInt = true
-is_numeric Ty.UReal = true
+is_numeric ty = not (is_bool ty)
 
 -- Each variable of the row has a type, and it is one of numbers.
 pub record IsNumericRow (types : List Ty) (r : Row) : Type 0 where

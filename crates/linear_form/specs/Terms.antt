@@ -1,6 +1,6 @@
 -- Sums of whole multiples of variables: lists of a variable and its coefficient. Rows are made of them, and so are the
 -- multipliers of a combination of rows, where the variable is a row's index.
-use Rattle.std.specs.Prelude.{◌≡◌, ℕ, ◌<◌, ◌^◌, List, [], ◌∷◌, ℤ, pos, ◌+ℤ◌, ◌*ℤ◌, unsigned_abs, nat_lt, Bool, true, false, cond, eqb, ltb, ◌||◌, ◌&&◌}
+use Rattle.std.specs.Prelude.{◌≡◌, ℕ, ◌<◌, ◌^◌, List, [], ◌∷◌, ℤ, pos, ◌+ℤ◌, ◌*ℤ◌, unsigned_abs, nat_lt, Bool, true, false, cond, eqb, ltb, ◌||◌}
 use Rattle.std.specs.List.{All}
 use Rattle.heyvl_num.specs.Value.{is_zero_num}
 

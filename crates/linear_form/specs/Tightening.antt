@@ -1,6 +1,6 @@
 -- Inequalities with fractions, and the rows with whole numbers that they are tightened to. This project's own; rounding a
 -- constant over whole variables is Gomory's and Chvatal's.
-use Rattle.std.specs.Prelude.{◌≡◌, ℕ, ◌+◌, ◌*◌, ◌/◌, List, [], ◌∷◌, map, ℤ, pos, negsuc, ◌+ℤ◌, unsigned_abs, Bool, true, false, ◌&&◌, Option, Some, None, if◌then◌else◌}
+use Rattle.std.specs.Prelude.{◌≡◌, ℕ, ◌*◌, ◌/◌, List, [], ◌∷◌, map, ℤ, pos, negsuc, ◌+ℤ◌, unsigned_abs, Bool, true, false, ◌&&◌, Option, Some, None, if◌then◌else◌}
 use Prim.Native.Nat.{zero, suc}
 use Rattle.heyvl_num.specs.Gcd.{gcd}
 use Rattle.heyvl_num.specs.Rational.{Rational, ratio, ◌*ʳ◌}
@@ -40,16 +40,16 @@ abbrev pub AreWholeTimes : Rational → Terms → Type 0
 AreWholeTimes w [] = Unit {0}
 AreWholeTimes w (t ∷ ts) = ((w *ʳ t.1).den ≡ 1) × AreWholeTimes w ts
 
-abbrev pub is_whole_type : Ty → Bool
-is_whole_type Ty.Bool = false
-is_whole_type Ty.Int = true
-is_whole_type Ty.UInt = true
-is_whole_type Ty.UReal = false
+abbrev pub is_integral : Ty → Bool
+is_integral Ty.Bool = false
+is_integral Ty.Int = true
+is_integral Ty.UInt = true
+is_integral Ty.UReal = false
 
 -- All variables are of type Int or UInt.
 abbrev pub are_whole : Types → Terms → Bool
 are_whole types [] = true
-are_whole types (t ∷ ts) = is_whole_type (types t.0) && are_whole types ts
+are_whole types (t ∷ ts) = is_integral (types t.0) && are_whole types ts
 
 -- The sign: -1, 0 or 1.
 abbrev pub sign_of : ℤ → ℤ

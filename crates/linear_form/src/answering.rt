@@ -6,9 +6,10 @@ ghost use Rattle.heylo_formula.specs.PlainTrees.{form_of};
 ghost use Rattle.linear_form.specs.Questions.{evaluate, both};
 ghost use Rattle.linear_form.specs.Paths.{IsPath, end_at};
 ghost use Rattle.linear_form.specs.Query.{Query};
-ghost use Rattle.linear_form.specs.Run.{run};
+ghost use Rattle.linear_form.specs.internal.Run.{along};
 ghost use Rattle.linear_form.specs.PlainPaths.{path_of};
-ghost use Rattle.linear_form.specs.Seen.{Answers, GivesBoth};
+ghost use Rattle.linear_form.specs.Asked.{Answers};
+ghost use Rattle.linear_form.specs.internal.Seen.{GivesBoth};
 
 use crate::asking::Ask;
 use crate::cursor::{Pair, Stop};
@@ -34,7 +35,7 @@ pub fn ask(alloc: Global, goal: &Goal, path: &[Taken]) -> Result<Ask, AllocError
 
 /// The values of both forms, evaluated along the path from its start, the stated form first.
 fn ends(alloc: Global, goal: &Goal, path: &[Taken]) -> Result<Pair, Stop>
-    ensures { GivesBoth result (run (path_of path.now) (both (evaluate (form_of goal.now.stated)) (evaluate (form_of goal.now.found)) (λ x y. Query.done (x, y))) 0) }
+    ensures { GivesBoth result (along (path_of path.now) (both (evaluate (form_of goal.now.stated)) (evaluate (form_of goal.now.found)) (λ x y. Query.done (x, y))) 0) }
 {
     let x = value(alloc, &goal.stated, path, 0)?;
     let y = value(alloc, &goal.found, path, x.next)?;

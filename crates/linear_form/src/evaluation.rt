@@ -2,9 +2,9 @@
 
 ghost use Rattle.heylo_formula.specs.PlainTrees.{form_of, cond_of};
 ghost use Rattle.linear_form.specs.Questions.{evaluate, test};
-ghost use Rattle.linear_form.specs.Run.{run};
+ghost use Rattle.linear_form.specs.internal.Run.{along};
 ghost use Rattle.linear_form.specs.PlainPaths.{path_of};
-ghost use Rattle.linear_form.specs.Seen.{Gives, Tells};
+ghost use Rattle.linear_form.specs.internal.Seen.{Gives, Tells};
 
 use crate::cursor::{Found, Stop, Tested, truth};
 use crate::lin::variable;
@@ -19,7 +19,7 @@ use std::alloc::Global;
 /// The value of a form, evaluated along the path from a place in it.
 #[cycle(evaluating)]
 pub(crate) fn value(alloc: Global, form: &Form, path: &[Taken], at: usize) -> Result<Found, Stop>
-    ensures { Gives result (run (path_of path.now) (evaluate (form_of form.now)) at) }
+    ensures { Gives result (along (path_of path.now) (evaluate (form_of form.now)) at) }
 {
     match form {
         Form::Const(v) => number(alloc, v, at),
@@ -111,7 +111,7 @@ pub(crate) fn value(alloc: Global, form: &Form, path: &[Taken], at: usize) -> Re
 /// The truth of a condition, evaluated along the path from a place in it.
 #[cycle(evaluating)]
 fn holds(alloc: Global, cond: &Cond, path: &[Taken], at: usize) -> Result<Tested, Stop>
-    ensures { Tells result (run (path_of path.now) (test (cond_of cond.now)) at) }
+    ensures { Tells result (along (path_of path.now) (test (cond_of cond.now)) at) }
 {
     match cond {
         Cond::Const(b) => Ok(Tested {

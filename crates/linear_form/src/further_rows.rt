@@ -1,14 +1,14 @@
 //! The rows of claims, one after the other.
 
 ghost use Rattle.std.specs.Prelude.{[], ◌∷◌, IfOk, not, true, false};
-ghost use Rattle.linear_form.specs.Lin.{IsNormal};
-ghost use Rattle.linear_form.specs.Run.{IsKeptValue};
-ghost use Rattle.linear_form.specs.NormalPaths.{IsNormalAtom};
+ghost use Rattle.linear_form.specs.Lin.{AreNormal};
+ghost use Rattle.linear_form.specs.internal.Run.{IsKeptValue};
+ghost use Rattle.linear_form.specs.internal.NormalPaths.{IsNormalAtom};
 ghost use Rattle.linear_form.specs.PathRows.{claim, negated, answer_claims, below_claim, listed};
-ghost use Rattle.linear_form.specs.FurtherRows.{rows_with};
+ghost use Rattle.linear_form.specs.internal.FurtherRows.{rows_with};
 ghost use Rattle.linear_form.specs.PlainPaths.{lin_of, linear_of, atom_of};
 ghost use Rattle.linear_form.specs.RowLists.{Lists};
-ghost use Rattle.linear_form.specs.TypedGoals.{types_in};
+ghost use Rattle.heylo_formula.specs.Typing.{types_in};
 
 use crate::lin::{Lin, constant, is_sized, minus, scaled};
 use crate::numbers::minus_one;
@@ -27,7 +27,7 @@ pub(crate) fn with_claim(
     left: &Lin,
     strict: bool,
 ) -> Result<RowList, AllocError>
-    requires { IsNormal (lin_of left.now).terms }
+    requires { AreNormal (lin_of left.now).terms }
     ensures { IfOk result (λ r. Lists r (rows_with (types_in types.now) rows.items (claim (lin_of left.now) strict ∷ []))) }
 {
     match tightened(alloc, types, left, strict)? {
@@ -47,7 +47,7 @@ pub(crate) fn with_negated(
     left: &Lin,
     strict: bool,
 ) -> Result<RowList, AllocError>
-    requires { IsNormal (lin_of left.now).terms }
+    requires { AreNormal (lin_of left.now).terms }
     ensures { IfOk result (λ r. Lists r (rows_with (types_in types.now) rows.items (claim (negated (lin_of left.now)) strict ∷ []))) }
 {
     if !is_sized(left) {

@@ -3,7 +3,7 @@
 ghost use Rattle.std.specs.Prelude.{◌≡◌, IfOk, true};
 ghost use Rattle.heyvl_num.specs.Rational.{zeroʳ};
 ghost use Rattle.linear_form.specs.Lin.{all_fit, fits as number_fits, is_sized as lin_is_sized, constant as constant_lin, variable as variable_lin, plus as lin_plus, minus as lin_minus, scaled as lin_scaled, times as times_terms};
-ghost use Rattle.linear_form.specs.Run.{IsKept};
+ghost use Rattle.linear_form.specs.internal.Run.{IsKept};
 ghost use Rattle.linear_form.specs.PlainPaths.{lin_of};
 
 use crate::linear_terms::merged;

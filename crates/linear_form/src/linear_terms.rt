@@ -1,8 +1,8 @@
 //! Terms of linear values, by growing variable number.
 
 ghost use Rattle.std.specs.Prelude.{◌≡◌, ◌++◌, [], IfOk, true};
-ghost use Rattle.linear_form.specs.Lin.{all_fit, fits as number_fits, kept, more, merged as merged_terms, IsNormal};
-ghost use Rattle.linear_form.specs.FitTerms.{IsFitAt, AreFitAt};
+ghost use Rattle.linear_form.specs.Lin.{all_fit, fits as number_fits, unless_zero, more, merged as merged_terms, AreNormal};
+ghost use Rattle.linear_form.specs.internal.FitTerms.{IsFitAt, AreFitAt};
 
 use crate::numbers::{is_zero, sum};
 use heyvl_num::Frac;
@@ -14,7 +14,7 @@ pub(crate) fn merged(
     from: &[(u32, Frac)],
     into: &[(u32, Frac)],
 ) -> Result<Vec<(u32, Frac)>, AllocError>
-    requires normal { IsNormal from.now }
+    requires normal { AreNormal from.now }
     requires from_fits { all_fit from.now ≡ true }
     requires into_fits { all_fit into.now ≡ true }
     ensures { IfOk result (λ v. v.items ≡ merged_terms from.now into.now) }
@@ -61,7 +61,7 @@ fn with_term(
 
 /// Appends a term, unless it is zero.
 fn push_term(made: &mut Vec<(u32, Frac)>, x: u32, c: Frac) -> Result<(), AllocError>
-    ensures { IfOk result (λ _. made.new.items ≡ made.old.items ++ kept x c []) }
+    ensures { IfOk result (λ _. made.new.items ≡ made.old.items ++ unless_zero x c []) }
 {
     if !is_zero(&c) {
         made.push((x, c))?;

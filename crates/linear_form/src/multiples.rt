@@ -1,9 +1,9 @@
 //! Multiples of linear values by any fraction, where they are below 2^62.
 
 ghost use Rattle.std.specs.Prelude.{◌≡◌, IfOk, MatchOption, true, false};
-ghost use Rattle.linear_form.specs.Run.{IsKept};
+ghost use Rattle.linear_form.specs.internal.Run.{IsKept};
 ghost use Rattle.linear_form.specs.Lin.{all_fit, fits as number_fits, is_sized as lin_is_sized, scaled as lin_scaled, times as times_terms};
-ghost use Rattle.linear_form.specs.Operator.{small_product as product_of};
+ghost use Rattle.linear_form.specs.internal.Operator.{small_product as product_of};
 ghost use Rattle.linear_form.specs.PlainPaths.{lin_of};
 
 use crate::lin::{Lin, constant};

@@ -6,7 +6,7 @@ ghost use Rattle.std.specs.Option.{SomeIff};
 ghost use Rattle.linear_form.specs.Terms.{coefficient};
 ghost use Rattle.linear_form.specs.Row.{IsRow};
 ghost use Rattle.linear_form.specs.Combination.{row_at, combined, uses_strict, IsWideThroughout, IsContradiction};
-ghost use Rattle.linear_form.specs.Columns.{number_in, AreMultipliers, IsBeyond, Vanishes, IsUnmet};
+ghost use Rattle.linear_form.specs.internal.Columns.{number_in, AreMultipliers, IsBeyond, Vanishes, IsUnmet};
 
 use crate::row::Row;
 use crate::terms::coefficient_of;

@@ -5,10 +5,10 @@ ghost use Rattle.linear_form.specs.Lin.{minus as lin_minus, scaled as lin_scaled
 ghost use Rattle.heyvl_num.specs.Value.{is_zeroʳ};
 ghost use Rattle.linear_form.specs.Query.{Taken as PlainTaken};
 ghost use Rattle.linear_form.specs.Questions as tree;
-ghost use Rattle.linear_form.specs.Operator.{has_no_terms};
-ghost use Rattle.linear_form.specs.Run.{run, IsKept, IsKeptValue};
+ghost use Rattle.linear_form.specs.internal.Operator.{has_no_terms};
+ghost use Rattle.linear_form.specs.internal.Run.{along, IsKept, IsKeptValue};
 ghost use Rattle.linear_form.specs.PlainPaths.{lin_of, linear_of, path_of};
-ghost use Rattle.linear_form.specs.Seen.{Gives, Tells};
+ghost use Rattle.linear_form.specs.internal.Seen.{Gives, Tells};
 ghost use Rattle.heyvl_num.specs.Extended.{value_of};
 
 use crate::cursor::{Found, Stop, Tested, answered};
@@ -28,7 +28,7 @@ fn is_constant(a: &Lin) -> bool
 
 /// Whether a linear value is at most 0 or, where strict, below 0: known without variables, else asked.
 fn is_below(a: Lin, strict: bool, path: &[Taken], at: usize) -> Result<Tested, Stop>
-    ensures { Tells result (run (path_of path.now) (tree.is_below (lin_of a) strict) at) }
+    ensures { Tells result (along (path_of path.now) (tree.is_below (lin_of a) strict) at) }
 {
     if !is_sized(&a) {
         Err(Stop::Bits)
@@ -53,7 +53,7 @@ fn compare(
 ) -> Result<Tested, Stop>
     requires left { IsKept (lin_of a.now) }
     requires right { IsKept (lin_of b.now) }
-    ensures { Tells result (run (path_of path.now) (tree.is_below (lin_minus (lin_of a.now) (lin_of b.now)) strict) at) }
+    ensures { Tells result (along (path_of path.now) (tree.is_below (lin_minus (lin_of a.now) (lin_of b.now)) strict) at) }
 {
     let difference = minus(alloc, a, b)?;
     is_below(difference, strict, path, at)
@@ -61,7 +61,7 @@ fn compare(
 
 /// A value that a node has.
 fn sized(value: Lin, at: usize) -> Result<Found, Stop>
-    ensures { (ps : List PlainTaken) → Gives result (run ps (tree.sized (Some (lin_of value))) at) }
+    ensures { (ps : List PlainTaken) → Gives result (along ps (tree.sized (Some (lin_of value))) at) }
 {
     if is_sized(&value) {
         Ok(Found {
@@ -87,7 +87,7 @@ fn unit(alloc: Global) -> Option<Lin>
 
 /// 0 where a factor of infinity is at most 0, else infinity.
 fn zero_or_infinity(alloc: Global, a: Lin, path: &[Taken], at: usize) -> Result<Found, Stop>
-    ensures { Gives result (run (path_of path.now) (tree.infinite_product (lin_of a)) at) }
+    ensures { Gives result (along (path_of path.now) (tree.infinite_product (lin_of a)) at) }
 {
     let test = is_below(a, false, path, at)?;
     if test.holds {
@@ -107,7 +107,7 @@ fn zero_or_infinity(alloc: Global, a: Lin, path: &[Taken], at: usize) -> Result<
 fn finite_product(alloc: Global, a: &Lin, b: &Lin, path: &[Taken], at: usize) -> Result<Found, Stop>
     requires left { IsKept (lin_of a.now) }
     requires right { IsKept (lin_of b.now) }
-    ensures { Gives result (run (path_of path.now) (tree.finite_product (lin_of a.now).terms (lin_of b.now).terms (lin_of a.now) (lin_of b.now)) at) }
+    ensures { Gives result (along (path_of path.now) (tree.finite_product (lin_of a.now).terms (lin_of b.now).terms (lin_of a.now) (lin_of b.now)) at) }
 {
     if is_constant(a) {
         let total = scaled(alloc, &a.rest, b)?;
@@ -120,7 +120,7 @@ fn finite_product(alloc: Global, a: &Lin, b: &Lin, path: &[Taken], at: usize) ->
     }
 }
 
-#[tactic(auto, unfolding(crate::specs::Run::run))]
+#[tactic(auto, unfolding(crate::specs::Run::along))]
 pub(crate) fn sum(
     alloc: Global,
     a: Option<Lin>,
@@ -130,7 +130,7 @@ pub(crate) fn sum(
 ) -> Result<Found, Stop>
     requires left { IsKeptValue (linear_of a) }
     requires right { IsKeptValue (linear_of b) }
-    ensures { Gives result (run (path_of path.now) (tree.sum (linear_of a) (linear_of b)) at) }
+    ensures { Gives result (along (path_of path.now) (tree.sum (linear_of a) (linear_of b)) at) }
 {
     match a {
         None => Ok(Found {
@@ -150,7 +150,7 @@ pub(crate) fn sum(
     }
 }
 
-#[tactic(auto, unfolding(crate::specs::Run::run))]
+#[tactic(auto, unfolding(crate::specs::Run::along))]
 pub(crate) fn difference(
     alloc: Global,
     a: Option<Lin>,
@@ -160,7 +160,7 @@ pub(crate) fn difference(
 ) -> Result<Found, Stop>
     requires left { IsKeptValue (linear_of a) }
     requires right { IsKeptValue (linear_of b) }
-    ensures { Gives result (run (path_of path.now) (tree.difference (linear_of a) (linear_of b)) at) }
+    ensures { Gives result (along (path_of path.now) (tree.difference (linear_of a) (linear_of b)) at) }
 {
     match a {
         None => Ok(Found {
@@ -180,7 +180,7 @@ pub(crate) fn difference(
     }
 }
 
-#[tactic(auto, unfolding(crate::specs::Run::run))]
+#[tactic(auto, unfolding(crate::specs::Run::along))]
 pub(crate) fn cut(
     alloc: Global,
     a: Option<Lin>,
@@ -190,7 +190,7 @@ pub(crate) fn cut(
 ) -> Result<Found, Stop>
     requires left { IsKeptValue (linear_of a) }
     requires right { IsKeptValue (linear_of b) }
-    ensures { Gives result (run (path_of path.now) (tree.cut (linear_of a) (linear_of b)) at) }
+    ensures { Gives result (along (path_of path.now) (tree.cut (linear_of a) (linear_of b)) at) }
 {
     match a {
         None => match b {
@@ -224,7 +224,7 @@ pub(crate) fn cut(
     }
 }
 
-#[tactic(auto, unfolding(crate::specs::Run::run))]
+#[tactic(auto, unfolding(crate::specs::Run::along))]
 pub(crate) fn product(
     alloc: Global,
     a: Option<Lin>,
@@ -234,7 +234,7 @@ pub(crate) fn product(
 ) -> Result<Found, Stop>
     requires left { IsKeptValue (linear_of a) }
     requires right { IsKeptValue (linear_of b) }
-    ensures { Gives result (run (path_of path.now) (tree.product (linear_of a) (linear_of b)) at) }
+    ensures { Gives result (along (path_of path.now) (tree.product (linear_of a) (linear_of b)) at) }
 {
     match a {
         None => match b {
@@ -260,7 +260,7 @@ pub(crate) fn min(
 ) -> Result<Found, Stop>
     requires left { IsKeptValue (linear_of a) }
     requires right { IsKeptValue (linear_of b) }
-    ensures { Gives result (run (path_of path.now) (tree.min (linear_of a) (linear_of b)) at) }
+    ensures { Gives result (along (path_of path.now) (tree.min (linear_of a) (linear_of b)) at) }
 {
     match a {
         None => Ok(Found { value: b, next: at }),
@@ -296,7 +296,7 @@ pub(crate) fn max(
 ) -> Result<Found, Stop>
     requires left { IsKeptValue (linear_of a) }
     requires right { IsKeptValue (linear_of b) }
-    ensures { Gives result (run (path_of path.now) (tree.max (linear_of a) (linear_of b)) at) }
+    ensures { Gives result (along (path_of path.now) (tree.max (linear_of a) (linear_of b)) at) }
 {
     match a {
         None => Ok(Found {
@@ -335,7 +335,7 @@ pub(crate) fn imply(
 ) -> Result<Found, Stop>
     requires left { IsKeptValue (linear_of a) }
     requires right { IsKeptValue (linear_of b) }
-    ensures { Gives result (run (path_of path.now) (tree.imply (linear_of a) (linear_of b)) at) }
+    ensures { Gives result (along (path_of path.now) (tree.imply (linear_of a) (linear_of b)) at) }
 {
     match a {
         None => Ok(Found { value: b, next: at }),
@@ -371,7 +371,7 @@ pub(crate) fn co_imply(
 ) -> Result<Found, Stop>
     requires left { IsKeptValue (linear_of a) }
     requires right { IsKeptValue (linear_of b) }
-    ensures { Gives result (run (path_of path.now) (tree.co_imply (linear_of a) (linear_of b)) at) }
+    ensures { Gives result (along (path_of path.now) (tree.co_imply (linear_of a) (linear_of b)) at) }
 {
     match a {
         None => Ok(Found {
@@ -426,14 +426,14 @@ pub(crate) fn validate(alloc: Global, a: Option<Lin>) -> Option<Lin>
 }
 
 /// 0 where the value is at most 0, else infinity.
-#[tactic(auto, unfolding(crate::specs::Run::run))]
+#[tactic(auto, unfolding(crate::specs::Run::along))]
 pub(crate) fn co_validate(
     alloc: Global,
     a: Option<Lin>,
     path: &[Taken],
     at: usize,
 ) -> Result<Found, Stop>
-    ensures { Gives result (run (path_of path.now) (tree.co_validate (linear_of a)) at) }
+    ensures { Gives result (along (path_of path.now) (tree.co_validate (linear_of a)) at) }
 {
     match a {
         None => Ok(Found {
@@ -445,9 +445,9 @@ pub(crate) fn co_validate(
 }
 
 /// A constant.
-#[tactic(auto, unfolding(crate::specs::Run::run))]
+#[tactic(auto, unfolding(crate::specs::Run::along))]
 pub(crate) fn number(alloc: Global, v: &Ext, at: usize) -> Result<Found, Stop>
-    ensures { (ps : List PlainTaken) → Gives result (run ps (tree.sized (tree.number (value_of v.now))) at) }
+    ensures { (ps : List PlainTaken) → Gives result (along ps (tree.sized (tree.number (value_of v.now))) at) }
 {
     match v {
         Ext::Inf => Ok(Found {
@@ -468,7 +468,7 @@ fn infinite_multiple(alloc: Global, w: &Frac) -> Option<Lin>
 /// A multiple of a linear value.
 fn finite_multiple(alloc: Global, w: &Frac, a: &Lin, at: usize) -> Result<Found, Stop>
     requires { IsKept (lin_of a.now) }
-    ensures { (ps : List PlainTaken) → Gives result (run ps (tree.sized (Some (lin_scaled w.now (lin_of a.now)))) at) }
+    ensures { (ps : List PlainTaken) → Gives result (along ps (tree.sized (Some (lin_scaled w.now (lin_of a.now)))) at) }
 {
     match small_multiple(alloc, w, a)? {
         Some(total) => Ok(Found {
@@ -482,7 +482,7 @@ fn finite_multiple(alloc: Global, w: &Frac, a: &Lin, at: usize) -> Result<Found,
 /// A multiple of a value.
 pub(crate) fn scale(alloc: Global, w: &Frac, a: Option<Lin>, at: usize) -> Result<Found, Stop>
     requires { IsKeptValue (linear_of a) }
-    ensures { (ps : List PlainTaken) → Gives result (run ps (tree.scale w.now (linear_of a)) at) }
+    ensures { (ps : List PlainTaken) → Gives result (along ps (tree.scale w.now (linear_of a)) at) }
 {
     match a {
         None => Ok(Found {
@@ -494,7 +494,7 @@ pub(crate) fn scale(alloc: Global, w: &Frac, a: Option<Lin>, at: usize) -> Resul
 }
 
 /// Whether the first value is at most the second.
-#[tactic(auto, unfolding(crate::specs::Run::run))]
+#[tactic(auto, unfolding(crate::specs::Run::along))]
 pub(crate) fn at_most(
     alloc: Global,
     a: &Option<Lin>,
@@ -504,7 +504,7 @@ pub(crate) fn at_most(
 ) -> Result<Tested, Stop>
     requires left { IsKeptValue (linear_of a.now) }
     requires right { IsKeptValue (linear_of b.now) }
-    ensures { Tells result (run (path_of path.now) (tree.at_most (linear_of a.now) (linear_of b.now)) at) }
+    ensures { Tells result (along (path_of path.now) (tree.at_most (linear_of a.now) (linear_of b.now)) at) }
 {
     match a {
         None => match b {
@@ -528,7 +528,7 @@ pub(crate) fn at_most(
 }
 
 /// Whether the first value is below the second.
-#[tactic(auto, unfolding(crate::specs::Run::run))]
+#[tactic(auto, unfolding(crate::specs::Run::along))]
 pub(crate) fn less(
     alloc: Global,
     a: &Option<Lin>,
@@ -538,7 +538,7 @@ pub(crate) fn less(
 ) -> Result<Tested, Stop>
     requires left { IsKeptValue (linear_of a.now) }
     requires right { IsKeptValue (linear_of b.now) }
-    ensures { Tells result (run (path_of path.now) (tree.less (linear_of a.now) (linear_of b.now)) at) }
+    ensures { Tells result (along (path_of path.now) (tree.less (linear_of a.now) (linear_of b.now)) at) }
 {
     match a {
         None => Ok(Tested {
@@ -556,7 +556,7 @@ pub(crate) fn less(
 }
 
 /// Whether the values are equal: each at most the other.
-#[tactic(auto, unfolding(crate::specs::Run::run))]
+#[tactic(auto, unfolding(crate::specs::Run::along))]
 pub(crate) fn equal(
     alloc: Global,
     a: &Option<Lin>,
@@ -566,7 +566,7 @@ pub(crate) fn equal(
 ) -> Result<Tested, Stop>
     requires left { IsKeptValue (linear_of a.now) }
     requires right { IsKeptValue (linear_of b.now) }
-    ensures { Tells result (run (path_of path.now) (tree.equal (linear_of a.now) (linear_of b.now)) at) }
+    ensures { Tells result (along (path_of path.now) (tree.equal (linear_of a.now) (linear_of b.now)) at) }
 {
     let test = at_most(alloc, a, b, path, at)?;
     if test.holds {

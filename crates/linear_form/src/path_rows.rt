@@ -4,11 +4,12 @@ ghost use Rattle.std.specs.Prelude.{◌≤◌, ◌+◌, ◌++◌, [], length, If
 ghost use Rattle.heylo_formula.specs.Goals.{goal_of};
 ghost use Rattle.linear_form.specs.Paths.{IsPath, end_at};
 ghost use Rattle.linear_form.specs.PathRows.{rows_of, all_tightened, path_claims, listed, denial_at};
-ghost use Rattle.linear_form.specs.FurtherRows.{rows_with};
-ghost use Rattle.linear_form.specs.NormalPaths.{IsNormalPath};
+ghost use Rattle.linear_form.specs.internal.FurtherRows.{rows_with};
+ghost use Rattle.linear_form.specs.internal.NormalPaths.{IsNormalPath};
 ghost use Rattle.linear_form.specs.PlainPaths.{path_of};
 ghost use Rattle.linear_form.specs.RowLists.{Lists, AreRows, AreNumericRows, count_of};
-ghost use Rattle.linear_form.specs.TypedGoals.{IsTypedGoal, types_in};
+ghost use Rattle.heylo_formula.specs.TypedGoals.{IsTypedGoal};
+ghost use Rattle.heylo_formula.specs.Typing.{types_in};
 
 use crate::answering::ask;
 use crate::asking::Ask;

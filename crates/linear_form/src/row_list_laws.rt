@@ -7,8 +7,10 @@ pub fn rows_are_numeric()
     ensures { law.RowsAreNumeric }
 {}
 
-/// The rows without the denied goal are among the rows with it, and so they are solvable where those are.
+/// The rows without the denied goal are among the rows with it, and so they are solvable where those are. The rows of the
+/// answers keep their places; the denied goal's stands behind them, and those of the signs follow in their order.
 pub fn denied_rows_are_more()
     ensures among { law.DeniedRowsAreMore }
     ensures solvable { law.DeniedRowsAreStronger }
+    ensures places { law.DeniedGoalMakesRoom }
 {}

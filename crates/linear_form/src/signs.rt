@@ -4,10 +4,10 @@ ghost use Rattle.std.specs.Prelude.{◌≡◌, ℕ, Some, None, IfOk, map, lengt
 ghost use Rattle.std.specs.List.{list_any};
 ghost use Rattle.linear_form.specs.Lin.{variable as variable_lin};
 ghost use Rattle.linear_form.specs.PathRows.{claim, negated, is_unsigned_type};
-ghost use Rattle.linear_form.specs.FurtherRows.{rows_with, unsigned_in, all_unsigned_in};
-ghost use Rattle.linear_form.specs.VariableOrder.{occurs};
+ghost use Rattle.linear_form.specs.internal.FurtherRows.{rows_with, unsigned_in, all_unsigned_in};
+ghost use Rattle.linear_form.specs.VariableOrder.{occurs_in_row};
 ghost use Rattle.linear_form.specs.RowLists.{Lists};
-ghost use Rattle.linear_form.specs.TypedGoals.{types_in};
+ghost use Rattle.heylo_formula.specs.Typing.{types_in};
 
 use crate::further_rows::with_negated;
 use crate::lin::variable;
@@ -43,9 +43,9 @@ fn found_in_terms(terms: &[(u32, i64)], x: usize) -> Option<u32>
     None
 }
 
-/// The variable, where it occurs in the rows.
+/// The variable, where it occurs_in_row in the rows.
 fn found_in_rows(rows: &[Row], x: usize) -> Option<u32>
-    ensures { result ≡ (if list_any (occurs x) rows.now then Some x else None) }
+    ensures { result ≡ (if list_any (occurs_in_row x) rows.now then Some x else None) }
 {
     for row in rows {
         match found_in_terms(&row.terms, x) {
@@ -56,7 +56,7 @@ fn found_in_rows(rows: &[Row], x: usize) -> Option<u32>
     None
 }
 
-/// The variable, where it is unsigned and occurs in the rows.
+/// The variable, where it is unsigned and occurs_in_row in the rows.
 fn unsigned_variable(types: &[Ty], rows: &[Row], x: usize) -> Option<u32>
     ensures { result ≡ unsigned_in (types_in types.now) rows.now x }
 {
@@ -103,7 +103,7 @@ fn with_signs_of(
     Ok(RowList::Rows(made))
 }
 
-/// The rows, and after them that no unsigned variable that occurs in them is negative.
+/// The rows, and after them that no unsigned variable that occurs_in_row in them is negative.
 pub(crate) fn with_signs(alloc: Global, types: &[Ty], rows: Vec<Row>) -> Result<RowList, AllocError>
     ensures { IfOk result (λ r. Lists r (rows_with (types_in types.now) rows.items (map (λ x. claim (negated (variable_lin x)) false) (all_unsigned_in (types_in types.now) rows.items (length types.now))))) }
 {

@@ -2,7 +2,7 @@
 ghost use Rattle.std.specs.Prelude.{◌≡◌, ◌<◌, ◌≤◌, ◌^◌, ◌+◌, ◌*ℤ◌, ◌+ℤ◌, ◌++◌, [], ℕ, ℤ, pos, ◌<ℤ◌, ◌&&◌, int_div, length, drop, unsigned_abs, is_some, IfOk, IfSome, SomeIff, IsTrue};
 ghost use Rattle.std.specs.List.{All};
 ghost use Rattle.linear_form.specs.Terms.{coefficient, IsNormal, put_term};
-ghost use Rattle.linear_form.specs.Merging.{scaled_terms, merged_terms, mixed_terms, are_wide, are_narrow, IsNext};
+ghost use Rattle.linear_form.specs.Merging.{scaled_terms, merged_terms, mixed_terms, are_wide, are_narrow, IsNextTerm};
 ghost use Rattle.linear_form.specs.Divisors.{divisor, divided_terms};
 
 use heyvl_num::gcd;
@@ -84,7 +84,7 @@ fn next_term(a: &[(u32, i128)], i: usize, b: &[(u32, i128)], j: usize) -> Next
     requires left_within { i ≤ length a.now }
     requires right_within { j ≤ length b.now }
     requires more { i + j < length a.now + length b.now }
-    ensures next { IsNext a.now i b.now j result.var result.coef result.left result.right }
+    ensures next { IsNextTerm a.now i b.now j result.var result.coef result.left result.right }
 {
     if i < a.len() {
         let (v, c) = a[i];

@@ -4,10 +4,10 @@ ghost use Rattle.std.specs.Prelude.{◌≡◌, ◌<◌, ◌^◌, ◌<ℤ◌, pos
 ghost use Rattle.heyvl_num.specs.Rational.{Rational, ratio, ◌*ʳ◌};
 ghost use Rattle.heyvl_num.specs.Rounding.{whole};
 ghost use Rattle.heyvl_num.specs.Value.{is_zeroʳ};
-ghost use Rattle.linear_form.specs.Lin.{IsNormal, all_fit, is_sized as lin_is_sized, fits as number_fits};
-ghost use Rattle.linear_form.specs.Tightening.{factor, whole_terms, all_narrow, sign_of, rounded as rounded_constant, are_whole as variables_are_whole, is_whole_type, tightened as row_tightened, AreWholeTimes};
-ghost use Rattle.linear_form.specs.TypedGoals.{types_in};
-ghost use Rattle.linear_form.specs.Operator.{narrow_value};
+ghost use Rattle.linear_form.specs.Lin.{AreNormal, all_fit, is_sized as lin_is_sized, fits as number_fits};
+ghost use Rattle.linear_form.specs.Tightening.{factor, whole_terms, all_narrow, sign_of, rounded as rounded_constant, are_whole as variables_are_whole, is_integral, tightened as row_tightened, AreWholeTimes};
+ghost use Rattle.heylo_formula.specs.Typing.{types_in};
+ghost use Rattle.linear_form.specs.internal.Operator.{narrow_value};
 ghost use Rattle.linear_form.specs.PlainPaths.{lin_of};
 
 use crate::lin::{Lin, is_sized};
@@ -40,7 +40,7 @@ fn sign(x: &Frac) -> i128
 #[cycle(factors)]
 fn factor_of(terms: &[(u32, Frac)]) -> Option<Frac>
     requires some { 0 < length terms.now }
-    requires normal { IsNormal terms.now }
+    requires normal { AreNormal terms.now }
     requires sized { all_fit terms.now ≡ true }
     ensures { MatchOption result (all_narrow (whole_terms (factor terms.now) terms.now) ≡ false) (λ w. w ≡ factor terms.now) }
 {
@@ -114,7 +114,7 @@ fn coefficients(
 
 /// Whether the variable is of type Int or UInt.
 fn is_whole(types: &[Ty], x: u32) -> bool
-    ensures { result ≡ is_whole_type (types_in types.now x) }
+    ensures { result ≡ is_integral (types_in types.now x) }
 {
     match types.get(x as usize) {
         None => false,
@@ -186,7 +186,7 @@ fn terms_tightened(
     strict: bool,
 ) -> Result<Option<Row>, AllocError>
     requires some { 0 < length terms.now }
-    requires normal { IsNormal terms.now }
+    requires normal { AreNormal terms.now }
     requires sized { lin_is_sized (record { terms = terms.now; rest = constant.now }) ≡ true }
     ensures { IfOk result (λ o. o ≡ row_tightened (types_in types.now) (record { left = record { terms = terms.now; rest = constant.now }; strict = strict })) }
 {
@@ -220,7 +220,7 @@ pub fn tightened(
     left: &Lin,
     strict: bool,
 ) -> Result<Option<Row>, AllocError>
-    requires { IsNormal (lin_of left.now).terms }
+    requires { AreNormal (lin_of left.now).terms }
     ensures { IfOk result (λ o. o ≡ row_tightened (types_in types.now) (record { left = lin_of left.now; strict = strict })) }
 {
     if !is_sized(left) {

@@ -8,18 +8,18 @@ use Rattle.linear_form.specs.Query.{Taken}
 use Rattle.linear_form.specs.PathRows.{IsPlainAt}
 use Rattle.linear_form.specs.Solutions.{IsSolvable}
 use Rattle.linear_form.specs.Cells.{IsCell, IsFalseCell}
-use Rattle.linear_elim.specs.Answers.{numbers_of, ends_of}
+use Rattle.linear_elim.specs.Answers.{ends_of}
 use Rattle.linear_elim.specs.declared.answers.Broken.{Broken}
-use Rattle.region_split.specs.Decisions.{with_truths, IsPointOf, IsBreakOf, Breaks}
-use Rattle.region_split.specs.Seen.{IsPointAt, IsBreakAt}
-use Rattle.region_split.specs.Progress.{Holds, IsFirstPoint, IsFirstBreak, IsFound}
+use Rattle.region_split.specs.Decisions.{with_truths, IsPointOf, IsBreakOf, Breaks, IsFirstPoint, IsFirstBreak}
+use Rattle.region_split.specs.internal.Seen.{IsPointAt, IsBreakAt}
+use Rattle.region_split.specs.internal.Progress.{HoldsAt, IsFound}
 use Rattle.region_split.specs.declared.found.Found.{Found}
 use Rattle.region_split.specs.declared.found.Found.TheVariants.{Nothing, Break, Point}
 use Rattle.region_split.proofs.PathAnswers.{same_rows}
 
 -- ---- One cell
 
-pub holds_not_false : (g : Goal) (ps : List Taken) → Holds g ps → IsFalseCell g ps → ⊥
+pub holds_not_false : (g : Goal) (ps : List Taken) → HoldsAt g ps → IsFalseCell g ps → ⊥
 holds_not_false g ps (inl p) f = f.not_plain p
 holds_not_false g ps (inr r) f = r.unsolvable (subst IsSolvable (same_rows g ps true f.rows r.rows f.are_rows r.are_rows) f.solvable)
 
@@ -32,11 +32,8 @@ break_is_false g ps b c n p = record { cell = c; not_plain = n; rows = p.rows; a
 point_of : (g : Goal) (ps : List Taken) (values point : List Val) → IsPointAt g ps true values → point ≡ with_truths ps 0 values → IsPointOf g ps point
 point_of g ps values point p e = record { rows = p.rows; are_rows = p.are_rows; values = values; greedy = p.greedy; truths = e }
 
-break_of : (g : Goal) (ps : List Taken) (b : Broken) → IsBreakAt g ps true b → IsBreakOf g ps b
-break_of g ps b p = record { rows = p.rows; are_rows = p.are_rows; broken = p.broken }
-
-breaks : (g : Goal) (ps : List Taken) (b : Broken) → IsBreakOf g ps b → Breaks g ps
-breaks g ps b p = record { rows = p.rows; are_rows = p.are_rows; var = b.var; earlier = numbers_of b.earlier.items; interval = ends_of b; choice = p.broken.choice }
+pub breaks : (g : Goal) (ps : List Taken) (b : Broken) → IsBreakOf g ps b → Breaks g ps
+breaks g ps b p = record { rows = p.rows; are_rows = p.are_rows; var = b.var; earlier = p.broken.chosen; interval = ends_of b; choice = p.broken.choice }
 
 -- ---- All cells
 
@@ -46,8 +43,8 @@ NotFalse g ps = IsFalseCell g ps → ⊥
 abbrev BreaksIfFalse : Goal → List Taken → Type 0
 BreaksIfFalse g ps = IsFalseCell g ps → Breaks g ps
 
-none_false : (g : Goal) (cells : List (List Taken)) → All (Holds g) cells → All (NotFalse g) cells
-none_false g cells h = All-weaker (Holds g) (NotFalse g) (λ ps k f. holds_not_false g ps k f) cells h
+none_false : (g : Goal) (cells : List (List Taken)) → All (HoldsAt g) cells → All (NotFalse g) cells
+none_false g cells h = All-weaker (HoldsAt g) (NotFalse g) (λ ps k f. holds_not_false g ps k f) cells h
 
 not_false_breaks : (g : Goal) (cells : List (List Taken)) → All (NotFalse g) cells → All (BreaksIfFalse g) cells
 not_false_breaks g cells h = All-weaker (NotFalse g) (BreaksIfFalse g) (λ ps k f. absurd (k f)) cells h
@@ -79,13 +76,13 @@ point_longer g cells ps point f = record {
 }
 
 -- another cell at which the goal holds
-pub found_holds : (g : Goal) (cells : List (List Taken)) (ps : List Taken) (found : Found) → IsFound g cells found → Holds g ps → IsFound g (cells ++ (ps ∷ [])) found
-found_holds g cells ps Nothing f h = All-push (Holds g) cells ps f h
+pub found_holds : (g : Goal) (cells : List (List Taken)) (ps : List Taken) (found : Found) → IsFound g cells found → HoldsAt g ps → IsFound g (cells ++ (ps ∷ [])) found
+found_holds g cells ps Nothing f h = All-push (HoldsAt g) cells ps f h
 found_holds g cells ps (Break b) f h = break_longer g cells ps b f (λ k. absurd (holds_not_false g ps h k))
 found_holds g cells ps (Point p) f h = point_longer g cells ps p.items f
 
 -- another cell that breaks
-pub first_break : (g : Goal) (cells : List (List Taken)) (ps : List Taken) (b : Broken) → All (Holds g) cells → IsFalseCell g ps → IsBreakAt g ps true b → IsFirstBreak g (cells ++ (ps ∷ [])) b
+pub first_break : (g : Goal) (cells : List (List Taken)) (ps : List Taken) (b : Broken) → All (HoldsAt g) cells → IsFalseCell g ps → IsBreakOf g ps b → IsFirstBreak g (cells ++ (ps ∷ [])) b
 first_break g cells ps b h f p = record {
   before = cells;
   path = ps;
@@ -93,15 +90,15 @@ first_break g cells ps b h f p = record {
   whole = refl;
   none_before = none_false g cells h;
   false_cell = f;
-  breaks_here = break_of g ps b p;
+  breaks_here = p;
   broken_after = All-nil (BreaksIfFalse g);
 }
 
-pub later_break : (g : Goal) (cells : List (List Taken)) (ps : List Taken) (first b : Broken) → IsFirstBreak g cells first → IsBreakAt g ps true b → IsFirstBreak g (cells ++ (ps ∷ [])) first
-later_break g cells ps first b f p = break_longer g cells ps first f (λ k. breaks g ps b (break_of g ps b p))
+pub later_break : (g : Goal) (cells : List (List Taken)) (ps : List Taken) (first b : Broken) → IsFirstBreak g cells first → IsBreakOf g ps b → IsFirstBreak g (cells ++ (ps ∷ [])) first
+later_break g cells ps first b f p = break_longer g cells ps first f (λ k. breaks g ps b p)
 
 -- another cell with a point
-pub first_point : (g : Goal) (cells : List (List Taken)) (ps : List Taken) (values point : List Val) → All (Holds g) cells → IsFalseCell g ps → IsPointAt g ps true values → point ≡ with_truths ps 0 values → IsFirstPoint g (cells ++ (ps ∷ [])) point
+pub first_point : (g : Goal) (cells : List (List Taken)) (ps : List Taken) (values point : List Val) → All (HoldsAt g) cells → IsFalseCell g ps → IsPointAt g ps true values → point ≡ with_truths ps 0 values → IsFirstPoint g (cells ++ (ps ∷ [])) point
 first_point g cells ps values point h f p e = record {
   before = cells;
   path = ps;

@@ -9,8 +9,8 @@ use Rattle.linear_form.specs.Query.Query.{done, bits, ask}
 use Rattle.linear_form.specs.Questions.{questions}
 use Rattle.linear_form.specs.Paths.{walk, end_at}
 use Rattle.region_split.specs.Walk.{AreCells}
-use Rattle.region_split.specs.Seen.{GoesOn}
-use Rattle.region_split.specs.Progress.{Holds, IsBranch, IsBefore, IsAfter, IsGrown, size, rest_of, left_of}
+use Rattle.linear_form.specs.Cells.{GoesOn}
+use Rattle.region_split.specs.internal.Progress.{HoldsAt, IsBranch, HasBefore, IsAfter, IsGrown, size, rest_of, left_of}
 use Rattle.region_split.specs.declared.growth.Grown.{Grown}
 
 -- ---- A path and its last answer
@@ -43,7 +43,7 @@ snoc_not_empty (x ∷ ps) p e = let k : [] ≡ x ∷ (ps ++ (p ∷ [])) = e in a
 -- the walk stands in a first branch
 pub record InFirst (g : Goal) (ps : List Taken) (q : Atom) (cells : List (List Taken)) (trees : List (Option Grown)) : Type 0 where
   pub goes_on : GoesOn g ps q
-  pub stands : IsBefore g ps cells trees
+  pub stands : HasBefore g ps cells trees
 
 -- the walk stands in a second branch
 pub record InSecond (g : Goal) (ps : List Taken) (q : Atom) (cells : List (List Taken)) (trees : List (Option Grown)) : Type 0 where
@@ -54,21 +54,21 @@ pub record InSecond (g : Goal) (ps : List Taken) (q : Atom) (cells : List (List 
   pub tree : Option Grown
   pub whole_cells : before ++ here ≡ cells
   pub whole_trees : others ++ (tree ∷ []) ≡ trees
-  pub stands : IsBefore g ps before others
+  pub stands : HasBefore g ps before others
   pub branch : IsBranch g (onto ps q true) here tree
 
-pub in_first : (g : Goal) (rs ps : List Taken) (q : Atom) (cells : List (List Taken)) (trees : List (Option Grown)) → rs ≡ onto ps q true → IsBefore g rs cells trees → InFirst g ps q cells trees
-in_first g _ ps q _ _ e IsBefore.start = absurd (snoc_not_empty ps (taken q true) e)
-in_first g _ ps q _ _ e (IsBefore.first rs r cells trees h b) =
+pub in_first : (g : Goal) (rs ps : List Taken) (q : Atom) (cells : List (List Taken)) (trees : List (Option Grown)) → rs ≡ onto ps q true → HasBefore g rs cells trees → InFirst g ps q cells trees
+in_first g _ ps q _ _ e HasBefore.start = absurd (snoc_not_empty ps (taken q true) e)
+in_first g _ ps q _ _ e (HasBefore.first rs r cells trees h b) =
     let a : rs ≡ ps = snoc_first rs ps (taken r true) (taken q true) e in
     let c : r ≡ q = ap (λ p. p.atom) (snoc_last rs ps (taken r true) (taken q true) e) in
-    record { goes_on = subst (λ x. GoesOn g x q) a (subst (λ x. GoesOn g rs x) c h); stands = subst (λ x. IsBefore g x cells trees) a b }
-in_first g _ ps q _ _ e (IsBefore.second rs r cells here trees tree h b d) = let k : false ≡ true = ap (λ p. p.held) (snoc_last rs ps (taken r false) (taken q true) e) in absurd (cc)
+    record { goes_on = subst (λ x. GoesOn g x q) a (subst (λ x. GoesOn g rs x) c h); stands = subst (λ x. HasBefore g x cells trees) a b }
+in_first g _ ps q _ _ e (HasBefore.second rs r cells here trees tree h b d) = let k : false ≡ true = ap (λ p. p.held) (snoc_last rs ps (taken r false) (taken q true) e) in absurd (cc)
 
-pub in_second : (g : Goal) (rs ps : List Taken) (q : Atom) (cells : List (List Taken)) (trees : List (Option Grown)) → rs ≡ onto ps q false → IsBefore g rs cells trees → InSecond g ps q cells trees
-in_second g _ ps q _ _ e IsBefore.start = absurd (snoc_not_empty ps (taken q false) e)
-in_second g _ ps q _ _ e (IsBefore.first rs r cells trees h b) = let k : true ≡ false = ap (λ p. p.held) (snoc_last rs ps (taken r true) (taken q false) e) in absurd (cc)
-in_second g _ ps q _ _ e (IsBefore.second rs r cells here trees tree h b d) =
+pub in_second : (g : Goal) (rs ps : List Taken) (q : Atom) (cells : List (List Taken)) (trees : List (Option Grown)) → rs ≡ onto ps q false → HasBefore g rs cells trees → InSecond g ps q cells trees
+in_second g _ ps q _ _ e HasBefore.start = absurd (snoc_not_empty ps (taken q false) e)
+in_second g _ ps q _ _ e (HasBefore.first rs r cells trees h b) = let k : true ≡ false = ap (λ p. p.held) (snoc_last rs ps (taken r true) (taken q false) e) in absurd (cc)
+in_second g _ ps q _ _ e (HasBefore.second rs r cells here trees tree h b d) =
     let a : rs ≡ ps = snoc_first rs ps (taken r false) (taken q false) e in
     let c : r ≡ q = ap (λ p. p.atom) (snoc_last rs ps (taken r false) (taken q false) e) in
     record {
@@ -79,7 +79,7 @@ in_second g _ ps q _ _ e (IsBefore.second rs r cells here trees tree h b d) =
       tree = tree;
       whole_cells = refl;
       whole_trees = refl;
-      stands = subst (λ x. IsBefore g x cells trees) a b;
+      stands = subst (λ x. HasBefore g x cells trees) a b;
       branch = subst (λ x. IsBranch g (onto x q true) here tree) a (subst (λ x. IsBranch g (onto rs x true) here tree) c d);
     }
 
@@ -87,7 +87,7 @@ in_second g _ ps q _ _ e (IsBefore.second rs r cells here trees tree h b d) =
 
 -- the cells of a question are those of its branches
 pub cells_joined : (g : Goal) (ps : List Taken) (q : Atom) (cells others : List (List Taken)) → GoesOn g ps q → AreCells g (onto ps q true) cells → AreCells g (onto ps q false) others → AreCells g ps (cells ++ others)
-cells_joined g ps q cells others h a b = AreCells.question ps q h.asks.yes h.asks.no cells others h.kept h.asks.question a b
+cells_joined g ps q cells others h a b = AreCells.question ps q cells others h a b
 
 pub all_first : {A : Type 0} (P : A → Type 0) (xs ys : List A) → All P (xs ++ ys) → All P xs
 all_first P [] ys h = All-nil P
@@ -108,23 +108,23 @@ after_second g ps q trees others all left tree joined a e j =
       before = s.before;
       here = s.here ++ a.here;
       whole = sym (append_assoc s.before s.here a.here) ∙ ap (λ cs. cs ++ a.here) s.whole_cells ∙ a.whole;
-      stands = subst (λ ts. IsBefore g ps s.before ts) m s.stands;
+      stands = subst (λ ts. HasBefore g ps s.before ts) m s.stands;
       branch = record {
         are_cells = cells_joined g ps q s.here a.here s.goes_on s.branch.are_cells a.branch.are_cells;
-        grown = λ h. j s.goes_on (subst (IsGrown g (onto ps q true)) n (s.branch.grown (all_first (Holds g) s.here a.here h))) (a.branch.grown (all_second (Holds g) s.here a.here h));
+        grown = λ h. j s.goes_on (subst (IsGrown g (onto ps q true)) n (s.branch.grown (all_first (HoldsAt g) s.here a.here h))) (a.branch.grown (all_second (HoldsAt g) s.here a.here h));
       };
     }
 
 -- once the first branch is finished, the walk stands in the second
-pub before_second : (g : Goal) (ps : List Taken) (q : Atom) (trees : List (Option Grown)) (all : List (List Taken)) (tree : Option Grown) → IsAfter g (onto ps q true) trees all tree → IsBefore g (onto ps q false) all (trees ++ (tree ∷ []))
+pub before_second : (g : Goal) (ps : List Taken) (q : Atom) (trees : List (Option Grown)) (all : List (List Taken)) (tree : Option Grown) → IsAfter g (onto ps q true) trees all tree → HasBefore g (onto ps q false) all (trees ++ (tree ∷ []))
 before_second g ps q trees all tree a =
     let s = in_first g (onto ps q true) ps q a.before trees refl a.stands in
-    subst (λ cs. IsBefore g (onto ps q false) cs (trees ++ (tree ∷ []))) a.whole (IsBefore.second ps q a.before a.here trees tree s.goes_on s.stands a.branch)
+    subst (λ cs. HasBefore g (onto ps q false) cs (trees ++ (tree ∷ []))) a.whole (HasBefore.second ps q a.before a.here trees tree s.goes_on s.stands a.branch)
 
-before_start : (g : Goal) (ps : List Taken) (cells : List (List Taken)) (trees : List (Option Grown)) → ps ≡ [] → IsBefore g ps cells trees → cells ≡ []
-before_start g _ _ _ e IsBefore.start = refl
-before_start g _ _ _ e (IsBefore.first ps q cells trees h b) = absurd (snoc_not_empty ps (taken q true) (sym e))
-before_start g _ _ _ e (IsBefore.second ps q cells here trees tree h b d) = absurd (snoc_not_empty ps (taken q false) (sym e))
+before_start : (g : Goal) (ps : List Taken) (cells : List (List Taken)) (trees : List (Option Grown)) → ps ≡ [] → HasBefore g ps cells trees → cells ≡ []
+before_start g _ _ _ e HasBefore.start = refl
+before_start g _ _ _ e (HasBefore.first ps q cells trees h b) = absurd (snoc_not_empty ps (taken q true) (sym e))
+before_start g _ _ _ e (HasBefore.second ps q cells here trees tree h b d) = absurd (snoc_not_empty ps (taken q false) (sym e))
 
 -- at the start all is walked
 pub after_start : (g : Goal) (trees : List (Option Grown)) (all : List (List Taken)) (tree : Option Grown) → IsAfter g [] trees all tree → IsBranch g [] all tree

@@ -4,7 +4,7 @@ use Rattle.std.specs.Prelude.{Option, Some, None}
 use Prim.Native.Nat.{zero, suc}
 use Rattle.std.specs.List.{All}
 use Rattle.heyvl_num.specs.Rational.{Rational, zeroʳ, ◌≤ʳ◌}
-use Rattle.heyvl_num.proofs.Rationals.{≤ʳ_refl}
+use Rattle.heyvl_num.proofs.exported.Rationals.{≤ʳ_refl}
 use Rattle.heylo_formula.specs.Goals.{Goal}
 use Rattle.heylo_formula.specs.State.{IsTyped, environment, number_of, truth_of, has}
 use Rattle.heylo_formula.specs.Typing.{is_bool}
@@ -17,16 +17,19 @@ use Rattle.linear_form.specs.PathRows.{rows_of, is_unsigned_type}
 use Rattle.linear_form.specs.Row.{Row}
 use Rattle.linear_form.specs.RowLists.{is_numeric, IsNumericRow}
 use Rattle.linear_form.specs.Solutions.{MeetsAt, IsSolvable}
-use Rattle.linear_form.specs.TypedGoals.{IsTypedGoal, HasItsVariables, types_in}
-use Rattle.linear_form.specs.GreedyPoint.{Greedy, ChoosesFrom, chosen_value, value_for, IsWholeType}
+use Rattle.heylo_formula.specs.TypedGoals.{IsTypedGoal, HasItsVariables}
+use Rattle.heylo_formula.specs.Typing.{types_in}
+use Rattle.linear_form.specs.GreedyPoint.{Greedy, ChoosesFrom, chosen_value, value_for}
+use Rattle.linear_form.specs.Tightening.{is_integral}
 use Rattle.linear_form.specs.Cells.{IsFalseCell}
 use Rattle.linear_form.specs.PointLaws.{HasTruths}
-use Rattle.linear_form.proofs.NumericRows.{unsigned_number, numeric_rows}
-use Rattle.linear_form.proofs.FalsifyingPoints.{points_falsify}
-use Rattle.linear_form.proofs.Truths.{truths_booleans, truths_variables}
-use Rattle.linear_form.proofs.UnsignedRows.{unsigned_nonnegative}
+use Rattle.linear_form.proofs.exported.NumericRows.{unsigned_number, numeric_rows}
+use Rattle.linear_form.proofs.exported.FalsifyingPoints.{points_falsify}
+use Rattle.linear_form.proofs.exported.Truths.{truths_booleans, truths_variables}
+use Rattle.linear_form.proofs.exported.UnsignedRows.{unsigned_nonnegative}
 use Rattle.region_split.specs.Decisions.{value_on, with_truths, IsPointOf, IsFalsified}
 use Rattle.region_split.specs.Meanings.{Fails}
+use Rattle.region_split.proofs.CellOrder.{front_path}
 use Rattle.region_split.proofs.GreedyStates.{number_below, rows_same, greedy_meets, greedy_whole, greedy_value}
 
 -- ---- The truths of a path among the values
@@ -84,13 +87,13 @@ truths_are g ps rows cs point p x b e = ap truth_of (p.at_variable x (p.variable
 whole_test : (n : ℕ) → n ≡ 1 → (n == 1) ≡ true
 whole_test n e = grind arith
 
-has_type : (ty : Ty) (o : Option Bool) (v : Rational) → ((b : Bool) → o ≡ Some b → is_bool ty ≡ true) → (IsWholeType ty → v.den ≡ 1) → (is_unsigned_type ty ≡ true → zeroʳ ≤ʳ v) → has ty (value_on o (value_for ty v)) ≡ true
+has_type : (ty : Ty) (o : Option Bool) (v : Rational) → ((b : Bool) → o ≡ Some b → is_bool ty ≡ true) → ((is_integral ty ≡ true) → v.den ≡ 1) → (is_unsigned_type ty ≡ true → zeroʳ ≤ʳ v) → has ty (value_on o (value_for ty v)) ≡ true
 has_type Ty.Bool (Some b) v h w u = refl
 has_type Ty.Bool None v h w u = refl
 has_type Ty.Int (Some b) v h w u = absurd (let k = h b refl in cc)
-has_type Ty.Int None v h w u = whole_test v.den (w tt)
+has_type Ty.Int None v h w u = whole_test v.den (w refl)
 has_type Ty.UInt (Some b) v h w u = absurd (let k = h b refl in cc)
-has_type Ty.UInt None v h w u = ap₂ (λ a b. a && b) (whole_test v.den (w tt)) (u refl).holds
+has_type Ty.UInt None v h w u = ap₂ (λ a b. a && b) (whole_test v.den (w refl)) (u refl).holds
 has_type Ty.UReal (Some b) v h w u = absurd (let k = h b refl in cc)
 has_type Ty.UReal None v h w u = (u refl).holds
 
@@ -119,7 +122,7 @@ pointed g ps point w v a h = record {
 
 cell_fails : (g : Goal) (ps : List Taken) (point : List Val) → IsTypedGoal g → HasItsVariables g → IsFalseCell g ps → IsPointOf g ps point → Fails g point
 cell_fails g ps point w v f h =
-    let a = f.cell.front.is_path in
+    let a = front_path g ps f.cell.front in
     let p = pointed g ps point w v a h in
     let o : Some f.rows ≡ Some h.rows = sym f.are_rows ∙ h.are_rows in
     let same : f.rows ≡ h.rows = cc in
@@ -129,4 +132,4 @@ cell_fails g ps point w v f h =
     record { typed = t; fails = points_falsify g ps f.cell.ends h.rows point w t a f.cell.at_end f.not_plain h.are_rows (truths_are g ps h.rows h.greedy.chosen point p) m }
 
 pub falsified_fails : (g : Goal) (point : List Val) → IsTypedGoal g → HasItsVariables g → IsFalsified g point → Fails g point
-falsified_fails g point w v f = cell_fails g f.path point w v f.false_cell f.point_of_cell
+falsified_fails g point w v f = cell_fails g f.first.path point w v f.first.false_cell f.first.point_of_cell

@@ -1,4 +1,4 @@
--- The greedy point of solvable rows over numbers meets them; its values for whole types are whole, and a variable that occurs in no row is 0.
+-- The greedy point of solvable rows over numbers meets them; its values for whole types are whole, and a variable that occurs_in_row in no row is 0.
 use Rattle.std.proofs.Common.{◌≡◌, ℕ, ◌+◌, ◌<◌, List, [], ◌∷◌, length, refl, sym, ap, ap₂, ◌∙◌, subst, arith, Bool, true, false, cond, ◌||◌, eqb}
 use Rattle.std.specs.Prelude.{ℤ, reverse}
 use Prim.Native.Nat.{zero, suc}
@@ -10,11 +10,12 @@ use Rattle.heyvl_num.specs.Rounding.{whole}
 use Rattle.heylo_formula.specs.declared.types.Ty.{Ty}
 use Rattle.linear_form.specs.Row.{Row}
 use Rattle.linear_form.specs.RowLists.{is_numeric, IsNumericRow}
-use Rattle.linear_form.specs.TypedGoals.{types_in}
+use Rattle.heylo_formula.specs.Typing.{types_in}
 use Rattle.linear_form.specs.Solutions.{sum_of, MeetsAt, IsBelowZero, IsSolvable}
-use Rattle.linear_form.specs.VariableOrder.{occurs, occurrences, order_of}
-use Rattle.linear_form.specs.GreedyPoint.{IsWholeType, type_at, Greedy, ChoosesFrom, chosen_value}
-use Rattle.region_split.proofs.GreedyChoices.{AreWhole, completed, chosen_whole, zero_whole}
+use Rattle.linear_form.specs.VariableOrder.{occurs_in_row, occurrences, order_of}
+use Rattle.linear_form.specs.GreedyPoint.{Greedy, ChoosesFrom, chosen_value}
+use Rattle.linear_form.specs.Tightening.{is_integral}
+use Rattle.linear_form.proofs.exported.GreedyChoices.{AreWhole, completed, chosen_whole, zero_whole}
 use Rattle.region_split.proofs.GreedyOrder.{turned_order, turned_occurs, chosen_any, chosen_all}
 
 -- ---- The value of a variable among those chosen
@@ -33,12 +34,12 @@ value_agrees f x (c ∷ cs) h e = go (eqb c.0 x) refl e (value_agrees f x cs (Al
     go true k e ih = sym (All-head (λ c. f c.0 ≡ c.1) c cs h) ∙ ap f (same_number c.0 x k)
     go false k e ih = ih e
 
-value_whole : (vars : List Ty) (x : ℕ) (cs : List (ℕ × Rational)) → AreWhole vars cs → IsWholeType (type_at vars x) → (chosen_value x cs).den ≡ 1
+value_whole : (vars : List Ty) (x : ℕ) (cs : List (ℕ × Rational)) → AreWhole vars cs → (is_integral (types_in vars x) ≡ true) → (chosen_value x cs).den ≡ 1
 value_whole vars x [] h t = zero_whole
-value_whole vars x (c ∷ cs) h t = go (eqb c.0 x) refl (value_whole vars x cs (All-tail (λ c. IsWholeType (type_at vars c.0) → c.1.den ≡ 1) c cs h) t)
+value_whole vars x (c ∷ cs) h t = go (eqb c.0 x) refl (value_whole vars x cs (All-tail (λ c. (is_integral (types_in vars c.0) ≡ true) → c.1.den ≡ 1) c cs h) t)
   where
     go : (b : Bool) → eqb c.0 x ≡ b → (chosen_value x cs).den ≡ 1 → (cond b c.1 (chosen_value x cs)).den ≡ 1
-    go true k ih = All-head (λ c. IsWholeType (type_at vars c.0) → c.1.den ≡ 1) c cs h (subst (λ y. IsWholeType (type_at vars y)) (sym (same_number c.0 x k)) t)
+    go true k ih = All-head (λ c. (is_integral (types_in vars c.0) ≡ true) → c.1.den ≡ 1) c cs h (subst (λ y. (is_integral (types_in vars y) ≡ true)) (sym (same_number c.0 x k)) t)
     go false k ih = ih
 
 -- A variable that is chosen has what the chosen ones have; every other one is 0.
@@ -65,21 +66,21 @@ sum_same types f g (t ∷ ts) n h = ap₂ (λ a b. (whole t.1 *ʳ a) +ʳ b) (h t
     later true b e = refl
     later false b e = e
 
-row_same : (types : List Ty) (f g : ℕ → Rational) (r : Row) → IsNumericRow types r → ((x : ℕ) → is_numeric (types_in types x) ≡ true → occurs x r ≡ true → f x ≡ g x) → MeetsAt f r → MeetsAt g r
+row_same : (types : List Ty) (f g : ℕ → Rational) (r : Row) → IsNumericRow types r → ((x : ℕ) → is_numeric (types_in types x) ≡ true → occurs_in_row x r ≡ true → f x ≡ g x) → MeetsAt f r → MeetsAt g r
 row_same types f g r n h m = record { met = subst (λ y. IsBelowZero r.strict (y +ʳ whole r.rest)) (sum_same types f g r.terms n.numeric h) m.met }
 
 -- f and g agree on the variables of numbers that occur in the rows.
 abbrev AgreeOn : List Ty → List Row → (ℕ → Rational) → (ℕ → Rational) → Type 0
 AgreeOn types rows f g = (x : ℕ) → is_numeric (types_in types x) ≡ true → 0 < occurrences x rows → f x ≡ g x
 
-occurs_first : (x : ℕ) (r : Row) (rows : List Row) → occurs x r ≡ true → 0 < occurrences x (r ∷ rows)
-occurs_first x r rows e = subst (λ n. 0 < n) (sym (sum_by-cons (λ q. cond (occurs x q) 1 0) r rows ∙ ap (λ b. cond b 1 0 + occurrences x rows) e)) (positive (occurrences x rows))
+occurs_first : (x : ℕ) (r : Row) (rows : List Row) → occurs_in_row x r ≡ true → 0 < occurrences x (r ∷ rows)
+occurs_first x r rows e = subst (λ n. 0 < n) (sym (sum_by-cons (λ q. cond (occurs_in_row x q) 1 0) r rows ∙ ap (λ b. cond b 1 0 + occurrences x rows) e)) (positive (occurrences x rows))
   where
     positive : (n : ℕ) → 0 < 1 + n
     positive n = omega arith
 
 occurs_later : (x : ℕ) (r : Row) (rows : List Row) → 0 < occurrences x rows → 0 < occurrences x (r ∷ rows)
-occurs_later x r rows h = subst (λ n. 0 < n) (sym (sum_by-cons (λ q. cond (occurs x q) 1 0) r rows)) (larger (cond (occurs x r) 1 0) (occurrences x rows) h)
+occurs_later x r rows h = subst (λ n. 0 < n) (sym (sum_by-cons (λ q. cond (occurs_in_row x q) 1 0) r rows)) (larger (cond (occurs_in_row x r) 1 0) (occurrences x rows) h)
   where
     larger : (m n : ℕ) → 0 < n → 0 < m + n
     larger m n h = omega (arith, h)
@@ -100,10 +101,10 @@ number_below (ty ∷ types) (suc x) e = let h = number_below types x e in omega 
 pub greedy_meets : (rows : List Row) (vars : List Ty) (cs : List (ℕ × Rational)) → IsSolvable rows → All (IsNumericRow vars) rows → ChoosesFrom rows vars (Greedy.chose cs) → All (MeetsAt (λ x. chosen_value x cs)) rows
 greedy_meets rows vars cs s n c = let h = completed rows vars (reverse (order_of rows (length vars))) [] cs c (record { at_values = s.at_values; agrees = All-nil _; meets = s.meets }) in rows_same vars h.at_values (λ x. chosen_value x cs) rows n (λ x k o. sym (value_agrees h.at_values x cs h.agrees (chosen_any rows vars x (reverse (order_of rows (length vars))) [] cs c (ap (λ b. b || false) (turned_order rows (length vars) x (number_below vars x k) o))))) h.meets
 
-pub greedy_whole : (rows : List Row) (vars : List Ty) (cs : List (ℕ × Rational)) (x : ℕ) → ChoosesFrom rows vars (Greedy.chose cs) → IsWholeType (type_at vars x) → (chosen_value x cs).den ≡ 1
+pub greedy_whole : (rows : List Row) (vars : List Ty) (cs : List (ℕ × Rational)) (x : ℕ) → ChoosesFrom rows vars (Greedy.chose cs) → (is_integral (types_in vars x) ≡ true) → (chosen_value x cs).den ≡ 1
 greedy_whole rows vars cs x c t = value_whole vars x cs (chosen_whole rows vars (reverse (order_of rows (length vars))) [] cs c (All-nil _)) t
 
--- What holds of 0, and of the value of each variable that occurs, holds of each value.
+-- What holds of 0, and of the value of each variable that occurs_in_row, holds of each value.
 pub greedy_value : (P : Rational → Type 0) (rows : List Row) (vars : List Ty) (cs : List (ℕ × Rational)) (x : ℕ) → ChoosesFrom rows vars (Greedy.chose cs) → P zeroʳ → (0 < occurrences x rows → P (chosen_value x cs)) → P (chosen_value x cs)
 greedy_value P rows vars cs x c z h = go (value_chosen (λ y. 0 < occurrences y rows) x cs (chosen_all (λ y. 0 < occurrences y rows) rows vars (reverse (order_of rows (length vars))) [] cs c (turned_occurs rows (length vars)) (All-nil _)))
   where

@@ -9,18 +9,19 @@ use Rattle.linear_form.specs.Query.{Atom, Taken, onto}
 use Rattle.linear_form.specs.Query.Query.{done}
 use Rattle.linear_form.specs.Questions.{Ends}
 use Rattle.linear_form.specs.Paths.{end_at}
-use Rattle.linear_form.specs.PathRows.{IsPlainAt, denial, denial_at, rows_of}
+use Rattle.linear_form.specs.PathRows.{IsPlainAt, denial, denial_at}
 use Rattle.linear_form.specs.PlainPaths.{path_of}
-use Rattle.linear_form.specs.Cells.{IsFalseCell}
-use Rattle.linear_form.proofs.Combinations.{contradiction_unsolvable}
+use Rattle.linear_form.specs.Cells.{GoesOn, IsFalseCell}
+use Rattle.linear_form.proofs.exported.Combinations.{contradiction_unsolvable}
 use Rattle.farkas_check.specs.Trees.{Tree, tree_of, tree_layer}
-use Rattle.farkas_check.specs.Accepted.{IsAccepted, has_denied}
+use Rattle.farkas_check.specs.Accepted.{IsRefutedWith, has_denied}
 use Rattle.farkas_check.specs.declared.trees.Tree as T
 use Rattle.farkas_check.specs.declared.trees.Tree.TheOpen.{Tree-F}
 use Rattle.farkas_check.specs.declared.trees.Tree.TheFolds.{fold-roll-Tree}
-use Rattle.region_split.specs.Walk.{AreCells, HasDepth}
-use Rattle.region_split.specs.Seen.{GoesOn, IsEnd, IsDroppedBy, IsRefutedAt}
-use Rattle.region_split.specs.Progress.{Holds, IsGrownTree, IsDeep, IsGrown, IsBranch, IsAfter, IsFound, IsWalk, IsFinishedWalk}
+use Rattle.region_split.specs.Walk.{AreCells, IsRefutedCell, IsSettled}
+use Rattle.region_split.specs.WalkTree.{IsWalkTree, depth}
+use Rattle.region_split.specs.internal.Seen.{IsEnd, IsDroppedBy}
+use Rattle.region_split.specs.internal.Progress.{HoldsAt, IsGrownTree, IsDeep, IsGrown, HasWholeTree, IsBranch, IsAfter, IsFound, IsWalk, IsFinishedWalk}
 use Rattle.region_split.specs.declared.growth.Grown.{Grown}
 use Rattle.region_split.specs.declared.walk.Walk.{Walk}
 use Rattle.region_split.proofs.CellsFound.{holds_not_false}
@@ -38,73 +39,90 @@ plain_tree = ap tree_of (sym T.TheVariants.rolls-Plain) ∙ fold-roll-Tree Tree 
 
 -- ---- Splits
 
-depth_joined : (g : Goal) (ps : List Taken) (q : Atom) (m n k : ℕ) → GoesOn g ps q → HasDepth g (onto ps q true) m → HasDepth g (onto ps q false) n → k ≡ 1 + max m n → HasDepth g ps k
-depth_joined g ps q m n k h a b e = subst (HasDepth g ps) (sym e) (HasDepth.question ps q h.asks.yes h.asks.no m n h.kept h.asks.question a b)
+pub grown_deep : (g : Goal) (ps : List Taken) (q : Atom) (t u : Tree) → GoesOn g ps q → IsWalkTree g (onto ps q true) t → IsWalkTree g (onto ps q false) u → 1000 ≤ max (depth t) (depth u) → IsDeep g ps
+grown_deep g ps q t u h a b d = record { tree = Tree.split t u; is_tree = IsWalkTree.split ps q t u h a b; deep = omega arith }
 
-pub grown_deep : (g : Goal) (ps : List Taken) (q : Atom) (m n : ℕ) → GoesOn g ps q → HasDepth g (onto ps q true) m → HasDepth g (onto ps q false) n → 1000 ≤ max m n → IsDeep g ps
-grown_deep g ps q m n h a b d = record { depth = 1 + max m n; has_depth = depth_joined g ps q m n _ h a b refl; deep = omega arith }
+deep_left : (g : Goal) (ps : List Taken) (q : Atom) (u : Tree) → GoesOn g ps q → IsDeep g (onto ps q true) → IsWalkTree g (onto ps q false) u → IsDeep g ps
+deep_left g ps q u h a b = let d = a.deep in grown_deep g ps q a.tree u h a.is_tree b (omega arith)
 
-pub deep_left : (g : Goal) (ps : List Taken) (q : Atom) (n : ℕ) → GoesOn g ps q → IsDeep g (onto ps q true) → HasDepth g (onto ps q false) n → IsDeep g ps
-deep_left g ps q n h a b = let d = a.deep in grown_deep g ps q a.depth n h a.has_depth b (omega arith)
+pub deep_right : (g : Goal) (ps : List Taken) (q : Atom) (t : Tree) → GoesOn g ps q → IsWalkTree g (onto ps q true) t → IsDeep g (onto ps q false) → IsDeep g ps
+deep_right g ps q t h a b = let d = b.deep in grown_deep g ps q t b.tree h a b.is_tree (omega arith)
 
-pub deep_right : (g : Goal) (ps : List Taken) (q : Atom) (m : ℕ) → GoesOn g ps q → HasDepth g (onto ps q true) m → IsDeep g (onto ps q false) → IsDeep g ps
-deep_right g ps q m h a b = let d = b.deep in grown_deep g ps q m b.depth h a b.has_depth (omega arith)
+record HasATree (g : Goal) (ps : List Taken) : Type 0 where
+  tree : Tree
+  is_tree : IsWalkTree g ps tree
 
-grown_depth : (g : Goal) (ps : List Taken) (t : Option Grown) → IsGrown g ps t → (n : ℕ) × HasDepth g ps n
-grown_depth g ps (Some t) h = (t.depth, h.has_depth)
-grown_depth g ps None h = (h.depth, h.has_depth)
+grown_tree : (g : Goal) (ps : List Taken) (t : Option Grown) → IsGrown g ps t → HasATree g ps
+grown_tree g ps (Some t) h = record { tree = tree_of t.tree; is_tree = h.is_tree }
+grown_tree g ps None h = record { tree = h.tree; is_tree = h.is_tree }
 
 pub deep_first : (g : Goal) (ps : List Taken) (q : Atom) (right : Option Grown) → GoesOn g ps q → IsDeep g (onto ps q true) → IsGrown g (onto ps q false) right → IsDeep g ps
-deep_first g ps q right h a b = let d = grown_depth g (onto ps q false) right b in deep_left g ps q d.0 h a d.1
+deep_first g ps q right h a b = let d = grown_tree g (onto ps q false) right b in deep_left g ps q d.tree h a d.is_tree
+
+pub deep_split : (g : Goal) (ps : List Taken) (q : Atom) (l r : Grown) → GoesOn g ps q → IsGrownTree g (onto ps q true) l → IsGrownTree g (onto ps q false) r → 1000 ≤ max l.depth r.depth → IsDeep g ps
+deep_split g ps q l r h x y d = let m = x.counted in let n = y.counted in grown_deep g ps q (tree_of l.tree) (tree_of r.tree) h x.is_tree y.is_tree (omega (arith, m, n, d))
 
 pub grown_split : (g : Goal) (ps : List Taken) (q : Atom) (l r : Grown) (a b : Box T.Tree Global) (k : ℕ) → GoesOn g ps q → IsGrownTree g (onto ps q true) l → IsGrownTree g (onto ps q false) r → a.value ≡ l.tree → b.value ≡ r.tree → k ≡ max l.depth r.depth → k < 1000 → IsGrownTree g ps (record { tree = T.Split a b; depth = k + 1 })
-grown_split g ps q l r a b k h x y e f d s = record {
-  has_depth = depth_joined g ps q l.depth r.depth (k + 1) h x.has_depth y.has_depth (omega arith);
-  shallow = omega arith;
-  accepted = subst (IsAccepted g ps) (sym (split_tree a b)) (IsAccepted.split ps q (tree_of a.value) (tree_of b.value) h.asks (subst (λ t. IsAccepted g (onto ps q true) (tree_of t)) (sym e) x.accepted) (subst (λ t. IsAccepted g (onto ps q false) (tree_of t)) (sym f) y.accepted));
-}
+grown_split g ps q l r a b k h x y e f d s =
+    let m = ap (λ t. depth (tree_of t)) e ∙ x.counted in
+    let n = ap (λ t. depth (tree_of t)) f ∙ y.counted in
+    record {
+      is_tree = subst (IsWalkTree g ps) (sym (split_tree a b)) (IsWalkTree.split ps q (tree_of a.value) (tree_of b.value) h (subst (λ t. IsWalkTree g (onto ps q true) (tree_of t)) (sym e) x.is_tree) (subst (λ t. IsWalkTree g (onto ps q false) (tree_of t)) (sym f) y.is_tree));
+      counted = ap depth (split_tree a b) ∙ split_depth (depth (tree_of a.value)) (depth (tree_of b.value)) l.depth r.depth k m n d;
+      shallow = omega arith;
+    }
+  where
+    split_depth : (a b m n k : ℕ) → a ≡ m → b ≡ n → k ≡ max m n → 1 + max a b ≡ k + 1
+    split_depth a b m n k e f d = omega (arith, e, f, d)
 
 -- ---- Leaves
 
 abbrev pub leaf_of : T.Tree → Option Grown
 leaf_of t = Some (record { tree = t; depth = 1 })
 
-grown_leaf : (g : Goal) (ps : List Taken) (t : T.Tree) → HasDepth g ps 1 → IsAccepted g ps (tree_of t) → IsGrown g ps (leaf_of t)
-grown_leaf g ps t d a = record { has_depth = d; shallow = omega arith; accepted = a }
+grown_leaf : (g : Goal) (ps : List Taken) (t : T.Tree) (u : Tree) → tree_of t ≡ u → depth u ≡ 1 → IsWalkTree g ps u → IsGrown g ps (leaf_of t)
+grown_leaf g ps t u e d a = record { is_tree = subst (IsWalkTree g ps) (sym e) a; counted = ap depth e ∙ d; shallow = omega arith }
 
 pub dropped_leaf : (g : Goal) (ps : List Taken) (ms : Vec (ℕ × ℕ) Global) → IsDroppedBy g ps ms.items → IsBranch g ps [] (leaf_of (T.Farkas ms))
 dropped_leaf g ps ms h = record {
-  are_cells = AreCells.dropped ps h.dropped;
-  grown = λ _. grown_leaf g ps (T.Farkas ms) (HasDepth.dropped ps h.dropped) (subst (IsAccepted g ps) (sym (farkas_tree ms)) h.accepted);
+  are_cells = AreCells.dropped ps h.dropped (record { rows = h.refuted.rows; are_rows = h.refuted.are_rows });
+  grown = λ _. grown_leaf g ps (T.Farkas ms) (Tree.farkas ms.items) (farkas_tree ms) refl (IsWalkTree.dropped ps ms.items h.dropped h.refuted);
 }
 
-end_branch : (g : Goal) (ps : List Taken) (plain : Bool) (tree : Option Grown) → IsEnd g ps plain → (Holds g ps → IsGrown g ps tree) → IsBranch g ps (ps ∷ []) tree
-end_branch g ps plain tree e h = record { are_cells = AreCells.end ps e.ends e.kept e.at_end; grown = λ a. h (All-head (Holds g) ps [] a) }
-
-end_depth : (g : Goal) (ps : List Taken) (plain : Bool) → IsEnd g ps plain → HasDepth g ps 1
-end_depth g ps plain e = HasDepth.end ps e.ends e.kept e.at_end
+end_branch : (g : Goal) (ps : List Taken) (plain : Bool) (tree : Option Grown) → IsEnd g ps plain → IsSettled g ps → (HoldsAt g ps → IsGrown g ps tree) → IsBranch g ps (ps ∷ []) tree
+end_branch g ps plain tree e s h = record { are_cells = AreCells.end ps e.ends e.kept e.at_end s; grown = λ a. h (All-head (HoldsAt g) ps [] a) }
 
 pub plain_leaf : (g : Goal) (ps : List Taken) (plain : Bool) → IsEnd g ps plain → IsPlainAt g ps → IsBranch g ps (ps ∷ []) (leaf_of T.Plain)
-plain_leaf g ps plain e p = end_branch g ps plain _ e (λ _. grown_leaf g ps T.Plain (end_depth g ps plain e) (subst (IsAccepted g ps) (sym plain_tree) (IsAccepted.plain ps p)))
+plain_leaf g ps plain e p = end_branch g ps plain _ e (IsSettled.plain p) (λ _. grown_leaf g ps T.Plain Tree.plain plain_tree refl (IsWalkTree.plain ps e.kept p))
 
 some_denied : (g : Goal) (ps : List Taken) (e : Ends) (o : Bool) → end_at g ps ≡ done e → is_some (denial g.upper e) ≡ o → has_denied g ps ≡ o
 some_denied g ps e o h k = ap (λ t. is_some (denial_at g.upper t)) h ∙ k
 
-pub denied_there : (g : Goal) (ps : List Taken) (plain : Bool) → IsEnd g ps plain → (IsPlainAt g ps → ⊥) → has_denied g ps ≡ true
+denied_there : (g : Goal) (ps : List Taken) (plain : Bool) → IsEnd g ps plain → (IsPlainAt g ps → ⊥) → has_denied g ps ≡ true
 denied_there g ps plain e n = go (denial g.upper e.ends) refl
   where
     go : (o : Option _) → denial g.upper e.ends ≡ o → has_denied g ps ≡ true
     go None k = absurd (n (record { ends = e.ends; at_end = e.at_end; plain = k }))
     go (Some c) k = some_denied g ps e.ends true e.at_end (ap is_some k)
 
-pub refuted_leaf : (g : Goal) (ps : List Taken) (plain : Bool) (ms : Vec (ℕ × ℕ) Global) → IsEnd g ps plain → (IsPlainAt g ps → ⊥) → IsRefutedAt g ps true ms.items → IsBranch g ps (ps ∷ []) (leaf_of (T.Farkas ms))
-refuted_leaf g ps plain ms e n r = end_branch g ps plain _ e (λ _. grown_leaf g ps (T.Farkas ms) (end_depth g ps plain e) (subst (IsAccepted g ps) (sym (farkas_tree ms)) (IsAccepted.farkas ps ms.items (record { rows = r.rows; exist = subst (λ b. rows_of g ps b ≡ Some r.rows) (sym (denied_there g ps plain e n)) r.are_rows; contradiction = r.contradiction }))))
+refuted_there : (g : Goal) (ps : List Taken) (ms : List (ℕ × ℕ)) → IsRefutedWith g ps true ms → IsRefutedCell g ps
+refuted_there g ps ms r = record { rows = r.rows; are_rows = r.are_rows; unsolvable = contradiction_unsolvable ms r.rows r.contradiction }
 
-pub refuted_holds : (g : Goal) (ps : List Taken) (ms : List (ℕ × ℕ)) → IsRefutedAt g ps true ms → Holds g ps
-refuted_holds g ps ms r = inr (record { rows = r.rows; are_rows = r.are_rows; unsolvable = contradiction_unsolvable ms r.rows r.contradiction })
+pub refuted_leaf : (g : Goal) (ps : List Taken) (plain : Bool) (ms : Vec (ℕ × ℕ) Global) → IsEnd g ps plain → (IsPlainAt g ps → ⊥) → IsRefutedWith g ps true ms.items → IsBranch g ps (ps ∷ []) (leaf_of (T.Farkas ms))
+refuted_leaf g ps plain ms e n r = end_branch g ps plain _ e (IsSettled.refuted (refuted_there g ps ms.items r)) (λ _. grown_leaf g ps (T.Farkas ms) (Tree.farkas ms.items) (farkas_tree ms) refl (IsWalkTree.refuted ps e.ends ms.items e.kept e.at_end (subst (λ b. IsRefutedWith g ps b ms.items) (sym (denied_there g ps plain e n)) r)))
+
+pub refuted_holds : (g : Goal) (ps : List Taken) (ms : List (ℕ × ℕ)) → IsRefutedWith g ps true ms → HoldsAt g ps
+refuted_holds g ps ms r = inr (refuted_there g ps ms r)
 
 pub false_leaf : (g : Goal) (ps : List Taken) (plain : Bool) → IsEnd g ps plain → IsFalseCell g ps → IsBranch g ps (ps ∷ []) None
-false_leaf g ps plain e f = end_branch g ps plain None e (λ h. absurd (holds_not_false g ps h f))
+false_leaf g ps plain e f = end_branch g ps plain None e (IsSettled.falsified f) (λ h. absurd (holds_not_false g ps h f))
+
+-- the whole tree, once all is walked
+pub whole_given : (g : Goal) (t : Grown) → IsGrownTree g [] t → HasWholeTree g (Some t.tree)
+whole_given g t h = record { tree = tree_of t.tree; is_tree = h.is_tree; is_given = (refl, let m = h.counted in let n = h.shallow in omega (arith, m, n)) }
+
+pub whole_deep : (g : Goal) → IsDeep g [] → HasWholeTree g None
+whole_deep g h = record { tree = h.tree; is_tree = h.is_tree; is_given = h.deep }
 
 -- ---- Finished branches of a walk
 

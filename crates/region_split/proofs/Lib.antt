@@ -1,12 +1,15 @@
 mod PathAnswers
+mod Moved
 mod Climbing
 mod CellOrder
 mod CellsFound
+mod TypedBreaks
 mod Leaves
 mod Steps
 mod ProvedGoals
-mod GreedyChoices
 mod GreedyOrder
 mod GreedyStates
 mod FalsifiedGoals
+mod UniqueWalks
+mod UniqueDecisions
 pub mod Meaning

@@ -1,11 +1,89 @@
--- What is proved of decisions, for the crates above.
+-- What is proved of walks and decisions, for the crates above.
+use Rattle.std.specs.Prelude.{◌≡◌, ℕ, List, [], Option, Some, None}
 use Rattle.heylo_formula.specs.Goals.{Goal}
-use Rattle.linear_form.specs.TypedGoals.{IsTypedGoal, HasItsVariables}
+use Rattle.linear_form.specs.Query.{Taken}
+use Rattle.linear_form.specs.Nonlinear.{nonlinear_product}
+use Rattle.heylo_formula.specs.TypedGoals.{IsTypedGoal, HasItsVariables}
+use Rattle.linear_elim.specs.declared.answers.Broken.{Broken}
+use Rattle.linear_elim.specs.declared.answers.Cause.{Cause}
+use Rattle.linear_elim.specs.declared.answers.Cause.TheVariants.{Nonlinear, Cells, Rows, Bits, Fraction}
+use Rattle.farkas_check.specs.Trees.{Tree, tree_of}
+use Rattle.farkas_check.specs.Accepted.{IsCertificate}
+use Rattle.farkas_check.specs.declared.trees.Tree as T
+use Rattle.region_split.specs.Walk.{AreCells, AreBefore}
+use Rattle.region_split.specs.WalkTree.{IsWalkTree, depth}
 use Rattle.region_split.specs.Decisions.{IsDecision}
 use Rattle.region_split.specs.Meanings.{Tells}
 use Rattle.region_split.specs.declared.decisions.Decision.{Decision}
+use Rattle.region_split.specs.declared.decisions.Decision.TheVariants.{Proved, Falsified, Unknown}
 
 -- A decision of a typed goal tells of its states: where it is proved, the goal holds in each, and where it is falsified, it
 -- fails in the one that is shown.
 abbrev pub DecisionsTell : Type 0
 DecisionsTell = (g : Goal) (d : Decision) → IsTypedGoal g → HasItsVariables g → IsDecision g d → Tells g d
+
+-- The tree of the walk is a certificate.
+abbrev pub TreesCertify : Type 0
+TreesCertify = (g : Goal) (t : Tree) → nonlinear_product g ≡ None → IsWalkTree g [] t → IsCertificate g t
+
+-- Two trees that differ in their multipliers alone.
+pub data AreAlike : Tree → Tree → Type 0 where
+  split : (t u v w : Tree) → AreAlike t v → AreAlike u w → AreAlike (Tree.split t u) (Tree.split v w)
+  farkas : (ms ns : List (ℕ × ℕ)) → AreAlike (Tree.farkas ms) (Tree.farkas ns)
+  plain : AreAlike Tree.plain Tree.plain
+
+-- The walk has one tree, but for its multipliers.
+abbrev pub TreesAreAlike : Type 0
+TreesAreAlike = (g : Goal) (ps : List Taken) (t u : Tree) → IsWalkTree g ps t → IsWalkTree g ps u → AreAlike t u
+
+-- So its depth is one number.
+abbrev pub DepthIsUnique : Type 0
+DepthIsUnique = (g : Goal) (ps : List Taken) (t u : Tree) → IsWalkTree g ps t → IsWalkTree g ps u → depth t ≡ depth u
+
+-- The cells of a walk have one order.
+abbrev pub CellsAreUnique : Type 0
+CellsAreUnique = (g : Goal) (ps : List Taken) (cs ds : List (List Taken)) → AreCells g ps cs → AreCells g ps ds → cs ≡ ds
+
+-- The cells before a front that the walk reaches are the same ones.
+abbrev pub CellsBeforeAreUnique : Type 0
+CellsBeforeAreUnique = (g : Goal) (ps : List Taken) (cs ds : List (List Taken)) → AreBefore g ps cs → AreBefore g ps ds → cs ≡ ds
+
+-- Two breaks say the same.
+pub record IsSameBreak (b c : Broken) : Type 0 where
+  pub var : b.var ≡ c.var
+  pub earlier : b.earlier.items ≡ c.earlier.items
+  pub low : b.low ≡ c.low
+  pub low_in : b.low_in ≡ c.low_in
+  pub high : b.high ≡ c.high
+  pub high_in : b.high_in ≡ c.high_in
+
+-- Both give a tree, and these differ in their multipliers alone, or neither does.
+abbrev pub GiveAlike : Option T.Tree → Option T.Tree → Type 0
+GiveAlike (Some t) (Some u) = AreAlike (tree_of t) (tree_of u)
+GiveAlike None None = Unit {0}
+GiveAlike (Some t) None = ⊥
+GiveAlike None (Some u) = ⊥
+
+-- There are too many rows, or a number is too great.
+abbrev pub IsOfLimits : Decision → Type 0
+IsOfLimits (Unknown (Rows steps count)) = Unit {0}
+IsOfLimits (Unknown Bits) = Unit {0}
+IsOfLimits d = ⊥
+
+-- Two causes say the same.
+abbrev pub IsSameCause : Cause → Cause → Type 0
+IsSameCause (Nonlinear s) (Nonlinear r) = s ≡ r
+IsSameCause (Cells m) (Cells n) = m ≡ n
+IsSameCause (Fraction b) (Fraction c) = IsSameBreak b c
+IsSameCause b c = ⊥
+
+-- Two decisions say the same, but for the multipliers of a tree.
+abbrev pub IsSameDecision : Decision → Decision → Type 0
+IsSameDecision (Proved t) (Proved u) = GiveAlike t u
+IsSameDecision (Falsified p) (Falsified q) = p.items ≡ q.items
+IsSameDecision (Unknown c) (Unknown d) = IsSameCause c d
+IsSameDecision d e = ⊥
+
+-- A goal has one decision, but for the multipliers of its tree, unless there are too many rows or a number is too great.
+abbrev pub DecisionsAreUnique : Type 0
+DecisionsAreUnique = (g : Goal) (d e : Decision) → IsDecision g d → IsDecision g e → (IsOfLimits d → ⊥) → (IsOfLimits e → ⊥) → IsSameDecision d e

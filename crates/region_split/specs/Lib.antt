@@ -1,6 +1,6 @@
 pub mod Walk
+pub mod WalkTree
 pub mod Decisions
 pub mod Meanings
-pub mod Seen
-pub mod Progress
 pub mod DecisionLaws
+pub mod internal

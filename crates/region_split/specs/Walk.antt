@@ -1,22 +1,55 @@
--- The walk through the questions of a goal: its cells in order, and how deep its tree is. This project's own.
-use Rattle.std.specs.Prelude.{◌≡◌, ℕ, ◌+◌, max, List, [], ◌∷◌, ◌++◌, true, false}
+-- The walk through the questions of a goal: depth first, the branch in which the question's atom holds first. Its cells in order,
+-- and the cells that come before a front that it reaches. This project's own.
+use Rattle.std.specs.Prelude.{◌≡◌, ◌≤◌, List, [], ◌∷◌, ◌++◌, length, true, false, Some}
 use Rattle.heylo_formula.specs.Goals.{Goal}
-use Rattle.linear_form.specs.Query.{Query, Atom, Taken, onto}
-use Rattle.linear_form.specs.Query.Query.{done, ask}
+use Rattle.linear_form.specs.Row.{Row}
+use Rattle.linear_form.specs.Solutions.{IsSolvable}
+use Rattle.linear_form.specs.Query.{Atom, Taken, onto}
+use Rattle.linear_form.specs.Query.Query.{done}
 use Rattle.linear_form.specs.Questions.{Ends}
 use Rattle.linear_form.specs.Paths.{end_at}
-use Rattle.linear_form.specs.Cells.{IsDropped}
+use Rattle.linear_form.specs.PathRows.{rows_of, IsPlainAt}
+use Rattle.linear_form.specs.Cells.{IsDropped, IsKept, GoesOn, IsFalseCell}
+use Rattle.farkas_check.specs.Accepted.{has_denied}
 
--- The cells that begin with a path, depth first, those where the question's atom holds first: none where the path is dropped,
--- the path itself at an end, else those of the two branches.
+-- The rows of which a certificate speaks at the path can be stated: with the denied goal among them at an end at which the goal
+-- doesn't hold plainly.
+pub record IsStated (g : Goal) (ps : List Taken) : Type 0 where
+  pub rows : List Row
+  pub are_rows : rows_of g ps (has_denied g ps) ≡ Some rows
+
+-- There are rows of the path with the denied goal, and no fractions meet them.
+pub record IsRefutedCell (g : Goal) (ps : List Taken) : Type 0 where
+  pub rows : List Row
+  pub are_rows : rows_of g ps true ≡ Some rows
+  pub unsolvable : IsSolvable rows → ⊥
+
+-- What a cell comes to: the goal holds there plainly, or its denial is refuted, or the cell is false.
+pub data IsSettled (g : Goal) (ps : List Taken) : Type 0 where
+  plain : IsPlainAt g ps → IsSettled g ps
+  refuted : IsRefutedCell g ps → IsSettled g ps
+  falsified : IsFalseCell g ps → IsSettled g ps
+
+-- The cells that begin with a path, in order, where the walk gets past each front there: none where the path is dropped, the path
+-- itself at an end, else those of the two branches. It gets past a dropped front whose rows can be stated, and past a cell that
+-- comes to something.
 pub data AreCells (g : Goal) : List Taken → List (List Taken) → Type 0 where
-  dropped : (ps : List Taken) → IsDropped g ps → AreCells g ps []
-  end : (ps : List Taken) (e : Ends) → (IsDropped g ps → ⊥) → end_at g ps ≡ done e → AreCells g ps (ps ∷ [])
-  question : (ps : List Taken) (q : Atom) (yes no : Query Ends) (cs ds : List (List Taken)) → (IsDropped g ps → ⊥) → end_at g ps ≡ ask q yes no → AreCells g (onto ps q true) cs → AreCells g (onto ps q false) ds → AreCells g ps (cs ++ ds)
+  dropped : (ps : List Taken) → IsDropped g ps → IsStated g ps → AreCells g ps []
+  end : (ps : List Taken) (e : Ends) → IsKept g ps → end_at g ps ≡ done e → IsSettled g ps → AreCells g ps (ps ∷ [])
+  question : (ps : List Taken) (q : Atom) (cs ds : List (List Taken)) → GoesOn g ps q → AreCells g (onto ps q true) cs → AreCells g (onto ps q false) ds → AreCells g ps (cs ++ ds)
 
--- The depth of the walk's tree from a path on: a leaf where the path is dropped and at an end, a split at a question. A leaf
--- has depth 1.
-pub data HasDepth (g : Goal) : List Taken → ℕ → Type 0 where
-  dropped : (ps : List Taken) → IsDropped g ps → HasDepth g ps 1
-  end : (ps : List Taken) (e : Ends) → (IsDropped g ps → ⊥) → end_at g ps ≡ done e → HasDepth g ps 1
-  question : (ps : List Taken) (q : Atom) (yes no : Query Ends) (m n : ℕ) → (IsDropped g ps → ⊥) → end_at g ps ≡ ask q yes no → HasDepth g (onto ps q true) m → HasDepth g (onto ps q false) n → HasDepth g ps (1 + max m n)
+-- The cells before a front that the walk reaches, in order: it got past each front before.
+pub data AreBefore (g : Goal) : List Taken → List (List Taken) → Type 0 where
+  start : AreBefore g [] []
+  first : (ps : List Taken) (q : Atom) (cs : List (List Taken)) → GoesOn g ps q → AreBefore g ps cs → AreBefore g (onto ps q true) cs
+  second : (ps : List Taken) (q : Atom) (cs ds : List (List Taken)) → GoesOn g ps q → AreBefore g ps cs → AreCells g (onto ps q true) ds → AreBefore g (onto ps q false) (cs ++ ds)
+
+-- The walk reaches this front, after these cells.
+pub record IsReached (g : Goal) (ps : List Taken) (cells : List (List Taken)) : Type 0 where
+  pub are_before : AreBefore g ps cells
+  pub few : length cells ≤ 4096
+
+-- All cells of the goal, in the order of the walk; there are at most 4,096.
+pub record IsWalked (g : Goal) (cells : List (List Taken)) : Type 0 where
+  pub are_cells : AreCells g [] cells
+  pub few : length cells ≤ 4096

@@ -4,7 +4,7 @@ ghost use Rattle.std.specs.Prelude.{List, IfOk};
 ghost use Rattle.heylo_formula.specs.Goals.{Goal as PlainGoal};
 ghost use Rattle.linear_form.specs.Query.{Taken as PlainTaken};
 ghost use Rattle.linear_form.specs.PlainPaths.{path_of};
-ghost use Rattle.region_split.specs.Progress.{IsAfter, IsUp};
+ghost use Rattle.region_split.specs.internal.Progress.{IsAfter, IsUp};
 
 use crate::growth::{Grown, joined};
 use linear_form::Taken;

@@ -4,9 +4,9 @@ ghost use Rattle.std.specs.Prelude.{◌≡◌, ◌<◌, ◌+◌, ◌^◌, length
 ghost use Rattle.heylo_formula.specs.Goals.{goal_of};
 ghost use Rattle.linear_form.specs.Cells.{IsFront};
 ghost use Rattle.linear_form.specs.PlainPaths.{path_of};
-ghost use Rattle.linear_form.specs.TypedGoals.{IsTypedGoal};
-ghost use Rattle.region_split.specs.Seen.{IsEnd};
-ghost use Rattle.region_split.specs.Progress.{IsJudged};
+ghost use Rattle.heylo_formula.specs.TypedGoals.{IsTypedGoal};
+ghost use Rattle.region_split.specs.internal.Seen.{IsEnd};
+ghost use Rattle.region_split.specs.internal.Progress.{IsJudged};
 
 use crate::found::{Found, with_break, with_point};
 use crate::growth::Grown;

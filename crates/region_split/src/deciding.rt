@@ -4,7 +4,7 @@ ghost use Rattle.std.specs.Prelude.{◌<◌, ◌^◌, length, IfOk};
 ghost use Rattle.heylo_formula.specs.Goals.{goal_of};
 ghost use Rattle.heylo_formula.specs.PlainTrees.{form_of};
 ghost use Rattle.heylo_formula.specs.Sizes.{nodes};
-ghost use Rattle.linear_form.specs.TypedGoals.{IsTypedGoal, HasItsVariables};
+ghost use Rattle.heylo_formula.specs.TypedGoals.{IsTypedGoal, HasItsVariables};
 ghost use Rattle.region_split.specs.Decisions.{IsDecision};
 ghost use Rattle.region_split.specs.Meanings.{Tells};
 

@@ -5,8 +5,9 @@ ghost use Rattle.heylo_formula.specs.Goals.{Goal as PlainGoal};
 ghost use Rattle.linear_form.specs.Query.{Taken as PlainTaken};
 ghost use Rattle.linear_form.specs.PlainPaths.{path_of};
 ghost use Rattle.linear_form.specs.Cells.{IsFalseCell};
-ghost use Rattle.region_split.specs.Seen.{IsPointAt, IsBreakAt};
-ghost use Rattle.region_split.specs.Progress.{IsFound};
+ghost use Rattle.region_split.specs.Decisions.{IsBreakOf};
+ghost use Rattle.region_split.specs.internal.Seen.{IsPointAt};
+ghost use Rattle.region_split.specs.internal.Progress.{IsFound};
 
 use crate::points::with_path;
 use heylo_formula::Val;
@@ -44,7 +45,7 @@ pub fn with_point(
 
 /// What is shown once another cell is false and breaks so.
 pub fn with_break(found: Found, broken: Broken) -> Found
-    ensures { (g : PlainGoal) (cells : List (List PlainTaken)) (ps : List PlainTaken) → IsFound g cells found → IsFalseCell g ps → IsBreakAt g ps true broken → IsFound g (cells ++ (ps ∷ [])) result }
+    ensures { (g : PlainGoal) (cells : List (List PlainTaken)) (ps : List PlainTaken) → IsFound g cells found → IsFalseCell g ps → IsBreakOf g ps broken → IsFound g (cells ++ (ps ∷ [])) result }
 {
     match found {
         Found::Nothing => Found::Break(broken),

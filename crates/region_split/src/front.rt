@@ -1,19 +1,21 @@
 //! What stands at a path of the walk.
 
-ghost use Rattle.std.specs.Prelude.{◌<◌, ◌+◌, ◌^◌, ◌≡◌, ◌↔◌, IsTrue, length, IfOk, true, false, None};
+ghost use Rattle.std.specs.Prelude.{◌<◌, ◌+◌, ◌^◌, ◌≡◌, length, IfOk, true, false};
 ghost use Rattle.heylo_formula.specs.Goals.{goal_of};
-ghost use Rattle.linear_form.specs.Cells.{IsDropped};
+ghost use Rattle.linear_form.specs.Cells.{IsKept};
 ghost use Rattle.linear_form.specs.Paths.{IsPath};
-ghost use Rattle.linear_form.specs.PathRows.{denial};
-ghost use Rattle.linear_form.specs.PlainPaths.{path_of, linear_of};
-ghost use Rattle.linear_form.specs.TypedGoals.{IsTypedGoal};
-ghost use Rattle.farkas_check.specs.Accepted.{has_denied};
-ghost use Rattle.region_split.specs.Seen.{IsSeen, IsRefutedAt};
+ghost use Rattle.linear_form.specs.PlainPaths.{path_of};
+ghost use Rattle.heylo_formula.specs.TypedGoals.{IsTypedGoal};
+ghost use Rattle.farkas_check.specs.Accepted.{has_denied, IsRefutedWith};
+ghost use Rattle.region_split.specs.internal.Seen.{IsSeen};
 
+use crate::moving::{comparisons, moved, places};
 use crate::solving::{Solved, solve};
 use heylo_formula::Goal;
 use linear_elim::Cause;
-use linear_form::{Ask, Atom, Lin, Taken, ask};
+use linear_form::{
+    Ask, Atom, RowList, Taken, ask, denied_rows_are_more, holds_plainly, rows,
+};
 use std::alloc::{AllocError, Global};
 
 /// What stands at a path of the walk.
@@ -44,21 +46,10 @@ pub fn look(alloc: Global, goal: &Goal, path: &[Taken]) -> Result<Front, AllocEr
     }
 }
 
-/// Whether nothing denies the goal, since the value that would have to be smaller is infinity.
-fn holds_plainly(upper: bool, stated: &Option<Lin>, found: &Option<Lin>) -> bool
-    ensures { IsTrue result ↔ (denial upper (linear_of stated.now, linear_of found.now) ≡ None) }
-{
-    if upper {
-        stated.is_none()
-    } else {
-        found.is_none()
-    }
-}
-
 /// What stands at a path whose rows are solvable.
 fn kept(alloc: Global, goal: &Goal, path: &[Taken]) -> Result<Front, AllocError>
     requires path { IsPath (goal_of goal.now) (path_of path.now) }
-    ensures { (IsDropped (goal_of goal.now) (path_of path.now) → ⊥) → IfOk result (λ f. IsSeen (goal_of goal.now) (path_of path.now) f) }
+    ensures { IsKept (goal_of goal.now) (path_of path.now) → IfOk result (λ f. IsSeen (goal_of goal.now) (path_of path.now) f) }
 {
     match ask(alloc, goal, path)? {
         Ask::Decide(atom) => Ok(Front::Question(atom)),
@@ -76,9 +67,8 @@ fn dropped(
     multipliers: Vec<(u32, u64)>,
 ) -> Result<Front, AllocError>
     requires path { IsPath (goal_of goal.now) (path_of path.now) }
-    requires typed { IsTypedGoal (goal_of goal.now) }
     requires short { length path.now + 1 + length goal.now.vars.items < 2 ^ 32 }
-    requires refuted { IsRefutedAt (goal_of goal.now) (path_of path.now) false multipliers.items }
+    requires refuted { IsRefutedWith (goal_of goal.now) (path_of path.now) false multipliers.items }
     ensures { IfOk result (λ f. IsSeen (goal_of goal.now) (path_of path.now) f) }
 {
     match ask(alloc, goal, path)? {
@@ -88,25 +78,33 @@ fn dropped(
             if holds_plainly(goal.upper, &stated, &found) {
                 Ok(Front::Dropped(multipliers))
             } else {
-                dropped_end(alloc, goal, path)
+                dropped_end(alloc, goal, path, &multipliers)
             }
         }
     }
 }
 
-/// The multipliers that a certificate takes at a dropped end at which the goal doesn't hold plainly.
-fn dropped_end(alloc: Global, goal: &Goal, path: &[Taken]) -> Result<Front, AllocError>
+/// The multipliers that a certificate takes at a dropped end at which the goal doesn't hold plainly: those of the rows without the
+/// denied goal, with the indexes that the rows have once it is among them. There are none where the denied goal can't be stated.
+fn dropped_end(
+    alloc: Global,
+    goal: &Goal,
+    path: &[Taken],
+    multipliers: &[(u32, u64)],
+) -> Result<Front, AllocError>
     requires path { IsPath (goal_of goal.now) (path_of path.now) }
-    requires typed { IsTypedGoal (goal_of goal.now) }
     requires short { length path.now + 1 + length goal.now.vars.items < 2 ^ 32 }
-    requires dropped { IsDropped (goal_of goal.now) (path_of path.now) }
+    requires refuted { IsRefutedWith (goal_of goal.now) (path_of path.now) false multipliers.now }
     requires denied { has_denied (goal_of goal.now) (path_of path.now) ≡ true }
     ensures { IfOk result (λ f. IsSeen (goal_of goal.now) (path_of path.now) f) }
 {
-    match solve(alloc, goal, path, true)? {
-        Solved::Refuted(multipliers) => Ok(Front::Dropped(multipliers)),
-        Solved::Point(_) => unreachable!(),
-        Solved::Break(_) => unreachable!(),
-        Solved::Unknown(cause) => Ok(Front::Unknown(cause)),
-    }
+    let RowList::Rows(fewer) = rows(alloc, goal, path, false)? else {
+        unreachable!()
+    };
+    let RowList::Rows(more) = rows(alloc, goal, path, true)? else {
+        return Ok(Front::Unknown(Cause::Bits));
+    };
+    denied_rows_are_more();
+    let places = places(alloc, &fewer, &more, comparisons(path))?;
+    Ok(Front::Dropped(moved(alloc, multipliers, &places)?))
 }

@@ -3,8 +3,8 @@
 ghost use Rattle.std.specs.Prelude.{◌≡◌, max, List, IfOk, true, false};
 ghost use Rattle.heylo_formula.specs.Goals.{Goal as PlainGoal};
 ghost use Rattle.linear_form.specs.Query.{Taken as PlainTaken, Atom, onto};
-ghost use Rattle.region_split.specs.Seen.{GoesOn};
-ghost use Rattle.region_split.specs.Progress.{IsGrown, IsGrownTree};
+ghost use Rattle.linear_form.specs.Cells.{GoesOn};
+ghost use Rattle.region_split.specs.internal.Progress.{IsGrown, IsGrownTree};
 
 use farkas_check::Tree;
 use std::alloc::{AllocError, Global};

@@ -9,10 +9,13 @@ mod decisions;
 mod found;
 mod front;
 mod growth;
+mod moving;
 mod points;
 mod solving;
 mod walk;
 
 pub use deciding::decide;
-pub use decision_laws::decisions_tell;
+pub use decision_laws::{
+    decisions_are_unique, decisions_tell, walk_trees_certify, walks_are_unique,
+};
 pub use decisions::Decision;

@@ -7,9 +7,9 @@ ghost use Rattle.linear_form.specs.Row.{Row};
 ghost use Rattle.linear_form.specs.Paths.{IsPath};
 ghost use Rattle.linear_form.specs.PathRows.{rows_of};
 ghost use Rattle.linear_form.specs.PlainPaths.{path_of};
-ghost use Rattle.linear_form.specs.TypedGoals.{IsTypedGoal};
+ghost use Rattle.heylo_formula.specs.TypedGoals.{IsTypedGoal};
 ghost use Rattle.linear_elim.specs.Answers.{IsAnswer};
-ghost use Rattle.region_split.specs.Seen.{IsSolved};
+ghost use Rattle.region_split.specs.internal.Seen.{IsSolved};
 
 use heylo_formula::{Goal, Val};
 use linear_elim::{Broken, Cause, Elim, eliminate};

@@ -5,10 +5,11 @@ ghost use Rattle.heylo_formula.specs.Goals.{Goal as PlainGoal, goal_of};
 ghost use Rattle.linear_form.specs.PlainPaths.{path_of, atom_of};
 ghost use Rattle.linear_form.specs.Query.{Taken as PlainTaken};
 ghost use Rattle.linear_form.specs.Nonlinear.{nonlinear_product};
-ghost use Rattle.linear_form.specs.TypedGoals.{IsTypedGoal};
+ghost use Rattle.heylo_formula.specs.TypedGoals.{IsTypedGoal};
 ghost use Rattle.region_split.specs.Decisions.{IsDecision};
-ghost use Rattle.region_split.specs.Seen.{IsEnd, GoesOn};
-ghost use Rattle.region_split.specs.Progress.{AreShort, IsWalk, IsFinishedWalk, IsStep, IsFound, IsBranch, IsGrown, HasWholeTree};
+ghost use Rattle.linear_form.specs.Cells.{GoesOn};
+ghost use Rattle.region_split.specs.internal.Seen.{IsEnd};
+ghost use Rattle.region_split.specs.internal.Progress.{AreShort, IsWalk, IsFinishedWalk, IsStep, IsFound, IsBranch, IsGrown, HasWholeTree};
 
 use crate::backing::{Up, climb};
 use crate::cell::{Cell, judge, leaf};

@@ -1,6 +1,6 @@
 use Rattle.std.proofs.Common.{◌≡◌, rules}
 use Rattle.heylo_formula.specs.Goals.{goal_of}
-use Rattle.linear_form.proofs.AnsweredPaths.{answered_path}
+use Rattle.linear_form.proofs.exported.AnsweredPaths.{answered_path}
 use Rattle.decision_tests.proofs.question_answers.extended.Goals as goal
 
 pub returns-in_ok-push-in-Decide : goal.returns-in_ok-push-in-Decide

@@ -1,5 +1,5 @@
 use Rattle.heylo_formula.specs.Goals.{goal_of}
-use Rattle.linear_form.proofs.PathSteps.{empty_path}
+use Rattle.linear_form.proofs.exported.PathSteps.{empty_path}
 use Rattle.decision_tests.proofs.question_answers.path_with.Goals as goal
 
 pub answers-init : goal.answers-init

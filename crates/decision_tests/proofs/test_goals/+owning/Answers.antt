@@ -4,7 +4,7 @@ use Rattle.heylo_formula.specs.declared.forms.Form as F
 use Rattle.heylo_formula.specs.declared.forms.Cond as C
 use Rattle.heylo_formula.specs.PlainTrees.{form_of, cond_of}
 use Rattle.heylo_formula.specs.Variables.{is_free, is_free_in}
-use Rattle.heylo_formula.proofs.Mirrors.{sum_form, le_cond, lt_cond}
+use Rattle.heylo_formula.proofs.exported.Mirrors.{sum_form, le_cond, lt_cond}
 use Rattle.decision_tests.proofs.test_goals.+owning.Goals as goal
 
 either : (a b : Bool) → (a || b) ≡ true → (a ≡ true) ⊎ (b ≡ true)

@@ -44,7 +44,7 @@ pub returns-in_ok-answers_of-in-Farkas : goal.returns-in_ok-answers_of-in-Farkas
 returns-in_ok-answers_of-in-Farkas t c = refused_farkas _ _ c.deref-in-Farkas.result.now c.deref-else-branch.result.now _ c.in-Farkas.multipliers _ _ c.in-Farkas.is (λ r. let e = c.in_ok-is_refuted-in-Farkas.ensures.1 r in let f = c.if-branch.false in absurd (cc)) c.deref-in-Farkas.ensures.value c.deref-in-Farkas-2.ensures.value c.in_ok-answers_of-in-Farkas.ensures c.deref-else-branch.ensures.value
 
 pub returns-then-branch-2 : goal.returns-then-branch-2
-returns-then-branch-2 t c = (refl, accepted_plain _ _ c.deref-in-Plain.result.now _ c.in-Plain.is (c.in_ok-holds_plainly-in-Plain.ensures.0 c.if-branch-2.true) c.deref-in-Plain.ensures.value)
+returns-then-branch-2 t c = (refl, accepted_plain _ _ c.deref-in-Plain.result.now _ c.in-Plain.is (c.in_ok-is_plain_at-in-Plain.ensures.0 c.if-branch-2.true) c.deref-in-Plain.ensures.value)
 
 pub returns-in_ok-answers_of-in-Plain : goal.returns-in_ok-answers_of-in-Plain
-returns-in_ok-answers_of-in-Plain t c = refused_plain _ _ c.deref-in-Plain.result.now c.deref-else-branch-2.result.now _ _ c.in-Plain.is (λ r. let e = c.in_ok-holds_plainly-in-Plain.ensures.1 r in let f = c.if-branch-2.false in absurd (cc)) c.deref-in-Plain.ensures.value c.in_ok-answers_of-in-Plain.ensures c.deref-else-branch-2.ensures.value
+returns-in_ok-answers_of-in-Plain t c = refused_plain _ _ c.deref-in-Plain.result.now c.deref-else-branch-2.result.now _ _ c.in-Plain.is (λ r. let e = c.in_ok-is_plain_at-in-Plain.ensures.1 r in let f = c.if-branch-2.false in absurd (cc)) c.deref-in-Plain.ensures.value c.in_ok-answers_of-in-Plain.ensures c.deref-else-branch-2.ensures.value

@@ -3,7 +3,7 @@ use Rattle.linear_form.specs.VariableOrder.{order_of}
 use Rattle.std.specs.List.{All}
 use Rattle.linear_form.specs.Terms.{IsOver}
 use Rattle.linear_elim.specs.Answers.{IsEliminated}
-use Rattle.linear_elim.specs.Picks.{IsDerivedStep}
+use Rattle.linear_elim.specs.internal.Picks.{IsDerivedStep}
 use Rattle.linear_elim.proofs.Numbers.{ok_map}
 use Rattle.linear_elim.proofs.StepRows.{standing_derived}
 use Rattle.linear_elim.proofs.OrderedRows.{rows_over}

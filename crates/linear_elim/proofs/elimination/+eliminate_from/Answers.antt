@@ -1,7 +1,7 @@
 use Rattle.std.proofs.Common.{rules, arith, subst, sym, ◌∙◌}
 use Rattle.std.specs.List.{All}
 use Rattle.linear_elim.specs.Joins.{IsDerived}
-use Rattle.linear_elim.specs.Outcomes.{gathering_of, outcome_of}
+use Rattle.linear_elim.specs.internal.Outcomes.{gathering_of, outcome_of}
 use Rattle.linear_elim.proofs.Finishing.{none_left, ends_found, ends_many, ends_standing, ends_great, goes_on, ok_same}
 use Rattle.linear_elim.proofs.Keeping.{step-derived}
 use Rattle.linear_elim.proofs.elimination.+eliminate_from.Goals as goal

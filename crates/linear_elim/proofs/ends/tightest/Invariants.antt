@@ -1,5 +1,5 @@
 use Rattle.std.proofs.Common.{take}
-use Rattle.linear_elim.specs.ChoiceSteps.{IsTightest}
+use Rattle.linear_elim.specs.internal.ChoiceSteps.{IsTightest}
 use Rattle.linear_elim.proofs.ends.tightest.Given as goal
 
 abbrev pub invariant-loop-r : goal.invariant-loop-r

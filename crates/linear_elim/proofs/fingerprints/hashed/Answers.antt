@@ -1,5 +1,5 @@
 use Rattle.std.proofs.Common.{rules}
-use Rattle.linear_elim.specs.Fingerprints.{hashed}
+use Rattle.linear_elim.specs.internal.Fingerprints.{hashed}
 use Rattle.linear_elim.proofs.fingerprints.hashed.Goals as goal
 
 pub returns : goal.returns

@@ -3,7 +3,7 @@ use Rattle.std.specs.Prelude.{Some, nat_eq}
 use Rattle.std.specs.HashMap.{Updates}
 use Rattle.linear_form.specs.Row.{Row}
 use Rattle.linear_elim.specs.Joins.{Derived}
-use Rattle.linear_elim.specs.Fingerprints.{fingerprint, ArePlaces}
+use Rattle.linear_elim.specs.internal.Fingerprints.{fingerprint, ArePlaces}
 use Rattle.linear_elim.proofs.Fingerprinting.{noted, kept}
 use Rattle.linear_elim.proofs.gathering.push_row.Goals as goal
 use Rattle.linear_elim.proofs.gathering.push_row.Goals.{then-not-contains_key+in_ok-insert, else-not-contains_key}

@@ -1,5 +1,5 @@
 use Rattle.std.proofs.Common.{subst, sym}
-use Rattle.linear_elim.specs.Picks.{IsPicked, sided}
+use Rattle.linear_elim.specs.internal.Picks.{IsPicked, sided}
 use Rattle.linear_elim.proofs.picking.near_pick.Goals as goal
 
 pub returns-in-UReal : goal.returns-in-UReal

@@ -3,7 +3,7 @@ use Rattle.std.specs.Prelude.{pos, ◌+ℤ◌, ◌-ℤ◌}
 use Rattle.std.proofs.lemmas.Int.{to_z-of_z}
 use mir.Syntax.{w128}
 use Rattle.heyvl_num.specs.Rounding.{IsFloor, IsCeiling}
-use Rattle.linear_elim.specs.Picks.{IsNextWhole}
+use Rattle.linear_elim.specs.internal.Picks.{IsNextWhole}
 use Rattle.linear_elim.proofs.Middles.{floor_small, ceil_small}
 use Rattle.linear_elim.proofs.PickLaws.{less_of, next_low_closed, next_low_open, next_high_closed, next_high_open}
 use Rattle.linear_elim.proofs.picking.next_whole.Goals as goal

@@ -2,7 +2,7 @@ use Rattle.std.proofs.Common.{◌≡◌, sym, subst, ◌∙◌, true}
 use Rattle.std.specs.List.{All}
 use Rattle.std.proofs.lemmas.List.Elements.{All-filter, filter_passes}
 use Rattle.linear_form.specs.Terms.{coefficient}
-use Rattle.linear_elim.specs.Joins.{IsDerived, is_negative, is_positive}
+use Rattle.linear_elim.specs.Joins.{IsDerived, is_below_zero, is_above_zero}
 use Rattle.linear_elim.proofs.Joining.{step_found, step_rows}
 use Rattle.linear_elim.proofs.steps.eliminate_one.Goals as goal
 
@@ -19,12 +19,12 @@ join_all-requires-clause-ups_derived c =
 pub join_all-requires-clause-lower : goal.join_all-requires-clause-lower
 join_all-requires-clause-lower c =
     let l = c.in_ok-lows.ensures.lows in
-    subst (All (λ r. is_negative (coefficient c.args.x r.row.terms) ≡ true)) (sym (c.deref.ensures.value ∙ l)) (filter_passes (λ r. is_negative (coefficient c.args.x r.row.terms)) c.args.rows.items)
+    subst (All (λ r. is_below_zero (coefficient c.args.x r.row.terms) ≡ true)) (sym (c.deref.ensures.value ∙ l)) (filter_passes (λ r. is_below_zero (coefficient c.args.x r.row.terms)) c.args.rows.items)
 
 pub join_all-requires-clause-upper : goal.join_all-requires-clause-upper
 join_all-requires-clause-upper c =
     let l = c.in_ok-lows.ensures.ups in
-    subst (All (λ r. is_positive (coefficient c.args.x r.row.terms) ≡ true)) (sym (c.deref-2.ensures.value ∙ l)) (filter_passes (λ r. is_positive (coefficient c.args.x r.row.terms)) c.args.rows.items)
+    subst (All (λ r. is_above_zero (coefficient c.args.x r.row.terms) ≡ true)) (sym (c.deref-2.ensures.value ∙ l)) (filter_passes (λ r. is_above_zero (coefficient c.args.x r.row.terms)) c.args.rows.items)
 
 pub returns-then-branch-clause-found : goal.returns-then-branch-clause-found
 returns-then-branch-clause-found c =

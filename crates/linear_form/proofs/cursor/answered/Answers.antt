@@ -1,7 +1,6 @@
-use Rattle.std.proofs.Common.{◌≡◌, sym, ap, ◌∙◌, subst, Bool, true, false, cond, ℕ, ◌+◌, arith}
-use Rattle.linear_form.specs.Run.{Outcome}
-use Rattle.linear_form.specs.Run.Outcome.{value}
-use Rattle.linear_form.proofs.Runs.{turned_at, turned_end}
+use Rattle.std.proofs.Common.{◌≡◌, ap, ◌∙◌, Bool, true, false, cond, ℕ, ◌+◌}
+use Rattle.linear_form.specs.internal.Run.Evaluation.{value}
+use Rattle.linear_form.proofs.Runs.{turned_at}
 use Rattle.linear_form.proofs.cursor.answered.Goals as goal
 
 either : (b : Bool) (i : ℕ) → cond b (value true i) (value false i) ≡ value b i

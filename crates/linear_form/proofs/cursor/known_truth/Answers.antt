@@ -1,4 +1,4 @@
-use Rattle.std.proofs.Common.{◌≡◌, ◌∙◌, ap, arith, rules, List, ◌∷◌, refl, ℕ, ◌-◌, take, Bool, sym}
+use Rattle.std.proofs.Common.{◌≡◌, ◌∙◌, ap, arith, rules, List, ◌∷◌, refl, ℕ, ◌-◌, take, Bool}
 use Rattle.std.specs.Prelude.{Option}
 use Prim.Native.Nat.{zero, suc}
 use Rattle.linear_form.specs.Query.{known, known_by}

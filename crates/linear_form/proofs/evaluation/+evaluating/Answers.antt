@@ -1,10 +1,10 @@
 use Rattle.std.proofs.Common.{sym, ◌∙◌, ap, subst, rules, refl}
 use Rattle.heylo_formula.specs.PlainTrees.{form_of}
 use Rattle.std.specs.Prelude.{Some}
-use Rattle.linear_form.specs.Run.{run}
-use Rattle.linear_form.specs.Run.Outcome.{value}
+use Rattle.linear_form.specs.internal.Run.{along}
+use Rattle.linear_form.specs.internal.Run.Evaluation.{value}
 use Rattle.linear_form.specs.PlainPaths.{path_of}
-use Rattle.linear_form.specs.Seen.{Gives}
+use Rattle.linear_form.specs.internal.Seen.{Gives}
 use Rattle.linear_form.proofs.Runs.{gives_first, gives_second, gives_two, gives_after, tells_first, tells_second, tells_two, tells_after, run_done, run_bits, run_after, run_two, after_false, after_true}
 use Rattle.linear_form.proofs.KeptValues.{kept_found}
 use Rattle.linear_form.proofs.Asks as asks
@@ -185,28 +185,28 @@ pub value-returns-in_err-x-in-CoValidate : goal.value-returns-in_err-x-in-CoVali
 value-returns-in_err-x-in-CoValidate t c = gives_first _ _ _ _ _ _ _ (search rules) (asks.co_validate_asks _ c.in-CoValidate.a _ c.in-CoValidate.is c.deref-in-CoValidate.ensures) c.in_err-x-in-CoValidate.ensures
 
 pub value-returns-in_ok-x-in-Scale : goal.value-returns-in_ok-x-in-Scale
-value-returns-in_ok-x-in-Scale t c = subst (λ q. Gives c.scale.result (run (path_of c.args.path.now) q c.args.at)) (sym (asks.scale_asks _ c.in-Scale.w c.in-Scale.a _ c.in-Scale.is c.deref-in-Scale.ensures)) (subst (λ o. Gives c.scale.result o) (sym (run_after _ _ _ _ _ _ c.in_ok-x-in-Scale.ensures)) (c.scale.ensures (path_of c.args.path.now)))
+value-returns-in_ok-x-in-Scale t c = subst (λ q. Gives c.scale.result (along (path_of c.args.path.now) q c.args.at)) (sym (asks.scale_asks _ c.in-Scale.w c.in-Scale.a _ c.in-Scale.is c.deref-in-Scale.ensures)) (subst (λ o. Gives c.scale.result o) (sym (run_after _ _ _ _ _ _ c.in_ok-x-in-Scale.ensures)) (c.scale.ensures (path_of c.args.path.now)))
 
 pub value-scale-requires : goal.value-scale-requires
 value-scale-requires t c = kept_found _ (form_of c.deref-in-Scale.result.now) _ _ _ c.in_ok-x-in-Scale.ensures
 
 pub value-returns-in_ok-x-in-CoValidate : goal.value-returns-in_ok-x-in-CoValidate
-value-returns-in_ok-x-in-CoValidate t c = subst (λ q. Gives c.co_validate.result (run (path_of c.args.path.now) q c.args.at)) (sym (asks.co_validate_asks _ c.in-CoValidate.a _ c.in-CoValidate.is c.deref-in-CoValidate.ensures)) (subst (λ o. Gives c.co_validate.result o) (sym (run_after _ _ _ _ _ _ c.in_ok-x-in-CoValidate.ensures)) c.co_validate.ensures)
+value-returns-in_ok-x-in-CoValidate t c = subst (λ q. Gives c.co_validate.result (along (path_of c.args.path.now) q c.args.at)) (sym (asks.co_validate_asks _ c.in-CoValidate.a _ c.in-CoValidate.is c.deref-in-CoValidate.ensures)) (subst (λ o. Gives c.co_validate.result o) (sym (run_after _ _ _ _ _ _ c.in_ok-x-in-CoValidate.ensures)) c.co_validate.ensures)
 
 pub value-returns-in_ok-x-in-Validate : goal.value-returns-in_ok-x-in-Validate
-value-returns-in_ok-x-in-Validate t c = ap (λ q. run (path_of c.args.path.now) q c.args.at) (asks.validate_asks _ c.in-Validate.a _ c.in-Validate.is c.deref-in-Validate.ensures) ∙ run_after _ _ _ _ _ _ c.in_ok-x-in-Validate.ensures ∙ run_done _ _ _ ∙ ap (λ v. value v c.in_ok-x-in-Validate.x.next) (sym c.validate.ensures)
+value-returns-in_ok-x-in-Validate t c = ap (λ q. along (path_of c.args.path.now) q c.args.at) (asks.validate_asks _ c.in-Validate.a _ c.in-Validate.is c.deref-in-Validate.ensures) ∙ run_after _ _ _ _ _ _ c.in_ok-x-in-Validate.ensures ∙ run_done _ _ _ ∙ ap (λ v. value v c.in_ok-x-in-Validate.x.next) (sym c.validate.ensures)
 
 pub value-returns-in_err-test-in-Embed : goal.value-returns-in_err-test-in-Embed
 value-returns-in_err-test-in-Embed t c = gives_first _ _ _ _ _ _ _ (search rules) (asks.embed_asks _ c.in-Embed.g _ c.in-Embed.is c.deref-in-Embed.ensures) c.in_err-test-in-Embed.ensures
 
 pub value-returns-in_ok-test-in-Embed : goal.value-returns-in_ok-test-in-Embed
-value-returns-in_ok-test-in-Embed t c = ap (λ q. run (path_of c.args.path.now) q c.args.at) (asks.embed_asks _ c.in-Embed.g _ c.in-Embed.is c.deref-in-Embed.ensures) ∙ run_after _ _ _ _ _ _ c.in_ok-test-in-Embed.ensures ∙ run_done _ _ _ ∙ ap (λ v. value v c.in_ok-test-in-Embed.test.next) (sym c.embed.ensures)
+value-returns-in_ok-test-in-Embed t c = ap (λ q. along (path_of c.args.path.now) q c.args.at) (asks.embed_asks _ c.in-Embed.g _ c.in-Embed.is c.deref-in-Embed.ensures) ∙ run_after _ _ _ _ _ _ c.in_ok-test-in-Embed.ensures ∙ run_done _ _ _ ∙ ap (λ v. value v c.in_ok-test-in-Embed.test.next) (sym c.embed.ensures)
 
 pub value-returns-in_err-test-in-Iverson : goal.value-returns-in_err-test-in-Iverson
 value-returns-in_err-test-in-Iverson t c = gives_first _ _ _ _ _ _ _ (search rules) (asks.iverson_asks _ c.in-Iverson.g _ c.in-Iverson.is c.deref-in-Iverson.ensures) c.in_err-test-in-Iverson.ensures
 
 pub value-returns-in_ok-test-in-Iverson : goal.value-returns-in_ok-test-in-Iverson
-value-returns-in_ok-test-in-Iverson t c = ap (λ q. run (path_of c.args.path.now) q c.args.at) (asks.iverson_asks _ c.in-Iverson.g _ c.in-Iverson.is c.deref-in-Iverson.ensures) ∙ run_after _ _ _ _ _ _ c.in_ok-test-in-Iverson.ensures ∙ run_done _ _ _ ∙ ap (λ v. value v c.in_ok-test-in-Iverson.test.next) (sym c.iverson.ensures)
+value-returns-in_ok-test-in-Iverson t c = ap (λ q. along (path_of c.args.path.now) q c.args.at) (asks.iverson_asks _ c.in-Iverson.g _ c.in-Iverson.is c.deref-in-Iverson.ensures) ∙ run_after _ _ _ _ _ _ c.in_ok-test-in-Iverson.ensures ∙ run_done _ _ _ ∙ ap (λ v. value v c.in_ok-test-in-Iverson.test.next) (sym c.iverson.ensures)
 
 pub value-returns-in_err-chosen-in-Select : goal.value-returns-in_err-chosen-in-Select
 value-returns-in_err-chosen-in-Select t c = gives_first _ _ _ _ _ _ _ (search rules) (asks.select_asks _ c.in-Select.g c.in-Select.a c.in-Select.b _ _ _ c.in-Select.is c.deref-in-Select.ensures refl refl) c.in_err-chosen-in-Select.ensures
@@ -221,7 +221,7 @@ pub holds-returns-in_err-test-in-Not : goal.holds-returns-in_err-test-in-Not
 holds-returns-in_err-test-in-Not t c = tells_first _ _ _ _ _ _ _ (search rules) (asks.not_asks _ c.in-Not.g _ c.in-Not.is c.deref.ensures) c.in_err-test-in-Not.ensures
 
 pub holds-returns-in_ok-test-in-Not : goal.holds-returns-in_ok-test-in-Not
-holds-returns-in_ok-test-in-Not t c = ap (λ q. run (path_of c.args.path.now) q c.args.at) (asks.not_asks _ c.in-Not.g _ c.in-Not.is c.deref.ensures) ∙ run_after _ _ _ _ _ _ c.in_ok-test-in-Not.ensures ∙ run_done _ _ _
+holds-returns-in_ok-test-in-Not t c = ap (λ q. along (path_of c.args.path.now) q c.args.at) (asks.not_asks _ c.in-Not.g _ c.in-Not.is c.deref.ensures) ∙ run_after _ _ _ _ _ _ c.in_ok-test-in-Not.ensures ∙ run_done _ _ _
 
 pub holds-returns-in_err-first-in-And : goal.holds-returns-in_err-first-in-And
 holds-returns-in_err-first-in-And t c = tells_first _ _ _ _ _ _ _ (search rules) (asks.and_asks _ c.in-And.g c.in-And.h _ _ c.in-And.is c.deref-in-And.ensures refl) c.in_err-first-in-And.ensures
@@ -257,13 +257,13 @@ pub holds-returns-else-chosen : goal.holds-returns-else-chosen
 holds-returns-else-chosen t c = tells_after _ _ _ _ _ _ _ _ _ (asks.ite_asks _ c.in-Ite.g c.in-Ite.h c.in-Ite.k _ _ _ c.in-Ite.is c.deref-in-Ite.ensures refl c.deref-else-chosen.ensures) c.in_ok-chosen-in-Ite.ensures c.if-chosen.false c.holds-else-chosen.ensures
 
 pub holds-returns-in-Const : goal.holds-returns-in-Const
-holds-returns-in-Const t c = ap (λ q. run (path_of c.args.path.now) q c.args.at) (asks.constant_asks _ c.in-Const.b c.in-Const.is) ∙ run_done _ _ _
+holds-returns-in-Const t c = ap (λ q. along (path_of c.args.path.now) q c.args.at) (asks.constant_asks _ c.in-Const.b c.in-Const.is) ∙ run_done _ _ _
 
 pub holds-returns-in_ok-right-in-Same : goal.holds-returns-in_ok-right-in-Same
-holds-returns-in_ok-right-in-Same t c = ap (λ q. run (path_of c.args.path.now) q c.args.at) (asks.same_asks _ c.in-Same.g c.in-Same.h _ _ c.in-Same.is c.deref-in-Same.ensures c.deref-in-Same-2.ensures) ∙ run_two _ _ _ _ _ _ _ _ _ c.in_ok-left-in-Same.ensures c.in_ok-right-in-Same.ensures ∙ run_done _ _ _ ∙ ap (λ b. value b c.in_ok-right-in-Same.right.next) (asks.agree_is _ _)
+holds-returns-in_ok-right-in-Same t c = ap (λ q. along (path_of c.args.path.now) q c.args.at) (asks.same_asks _ c.in-Same.g c.in-Same.h _ _ c.in-Same.is c.deref-in-Same.ensures c.deref-in-Same-2.ensures) ∙ run_two _ _ _ _ _ _ _ _ _ c.in_ok-left-in-Same.ensures c.in_ok-right-in-Same.ensures ∙ run_done _ _ _ ∙ ap (λ b. value b c.in_ok-right-in-Same.right.next) (asks.agree_is _ _)
 
 pub value-returns-in_ok-variable-in-Var : goal.value-returns-in_ok-variable-in-Var
-value-returns-in_ok-variable-in-Var t c = ap (λ q. run (path_of c.args.path.now) q c.args.at) (asks.variable_asks _ c.in-Var.x c.in-Var.is) ∙ run_done _ _ _ ∙ ap (λ a. value (Some a) c.args.at) (sym c.in_ok-variable-in-Var.ensures)
+value-returns-in_ok-variable-in-Var t c = ap (λ q. along (path_of c.args.path.now) q c.args.at) (asks.variable_asks _ c.in-Var.x c.in-Var.is) ∙ run_done _ _ _ ∙ ap (λ a. value (Some a) c.args.at) (sym c.in_ok-variable-in-Var.ensures)
 
 pub value-returns-in-Bind : goal.value-returns-in-Bind
-value-returns-in-Bind t c = ap (λ q. run (path_of c.args.path.now) q c.args.at) (asks.bind_asks _ _ _ _ _ _ c.in-Bind.is) ∙ run_bits _ _
+value-returns-in-Bind t c = ap (λ q. along (path_of c.args.path.now) q c.args.at) (asks.bind_asks _ _ _ _ _ _ c.in-Bind.is) ∙ run_bits _ _

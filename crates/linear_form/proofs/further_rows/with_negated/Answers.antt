@@ -1,7 +1,7 @@
 use Rattle.std.proofs.Common.{◌≡◌, sym, ap, ◌∙◌, subst, rules, false}
-use Rattle.linear_form.specs.Lin.{Lin, IsNormal, fits, scaled, minus_oneʳ}
+use Rattle.linear_form.specs.Lin.{Lin, AreNormal, fits, scaled, minus_oneʳ}
 use Rattle.linear_form.specs.PlainPaths.{lin_of}
-use Rattle.linear_form.specs.TypedGoals.{types_in}
+use Rattle.heylo_formula.specs.Typing.{types_in}
 use Rattle.linear_form.proofs.Narrow.{minus_one_fits}
 use Rattle.linear_form.proofs.KeptValues.{scaled_normal}
 use Rattle.linear_form.proofs.RowsOfClaims.{negated_large}
@@ -14,4 +14,4 @@ pub scaled-requires-clause-factor : goal.scaled-requires-clause-factor
 scaled-requires-clause-factor c = ap fits c.minus_one.ensures ∙ minus_one_fits
 
 pub with_claim-requires : goal.with_claim-requires
-with_claim-requires c = subst (λ (a : Lin). IsNormal a.terms) (sym (c.in_ok-down.ensures ∙ ap (λ w. scaled w (lin_of c.args.left.now)) c.minus_one.ensures)) (scaled_normal minus_oneʳ (lin_of c.args.left.now) c.requires)
+with_claim-requires c = subst (λ (a : Lin). AreNormal a.terms) (sym (c.in_ok-down.ensures ∙ ap (λ w. scaled w (lin_of c.args.left.now)) c.minus_one.ensures)) (scaled_normal minus_oneʳ (lin_of c.args.left.now) c.requires)

@@ -1,6 +1,6 @@
-use Rattle.std.proofs.Common.{◌≡◌, ap, ◌∙◌, sym, subst}
+use Rattle.std.proofs.Common.{ap, ◌∙◌, sym, subst}
 use Rattle.linear_form.specs.Lin.{fits, scaled}
-use Rattle.linear_form.specs.Run.{IsKept}
+use Rattle.linear_form.specs.internal.Run.{IsKept}
 use Rattle.linear_form.specs.PlainPaths.{lin_of}
 use Rattle.linear_form.proofs.Narrow.{minus_one_fits}
 use Rattle.linear_form.proofs.KeptParts.{negated_kept}

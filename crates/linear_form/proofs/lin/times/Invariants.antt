@@ -1,5 +1,5 @@
 use Rattle.std.proofs.Common.{length}
-use Rattle.linear_form.specs.Loops.{IsTimesSoFar}
+use Rattle.linear_form.specs.internal.Loops.{IsTimesSoFar}
 use Rattle.linear_form.proofs.lin.times.Given as goal
 
 abbrev pub decreases-terms : goal.decreases-terms

@@ -1,6 +1,6 @@
-use Rattle.std.proofs.Common.{◌≡◌, ap, ◌∙◌, rules}
+use Rattle.std.proofs.Common.{ap, ◌∙◌, rules}
 use Rattle.linear_form.specs.Lin.{more}
-use Rattle.linear_form.proofs.KeptParts.{merged_init, merged_step, head_fits, head_may_be_added}
+use Rattle.linear_form.proofs.KeptParts.{merged_init, merged_step}
 use Rattle.linear_form.proofs.linear_terms.merged.Goals as goal
 
 pub terms-init : goal.terms-init

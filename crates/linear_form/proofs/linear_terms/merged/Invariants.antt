@@ -1,5 +1,5 @@
 use Rattle.std.proofs.Common.{length}
-use Rattle.linear_form.specs.Loops.{IsMergedSoFar}
+use Rattle.linear_form.specs.internal.Loops.{IsMergedSoFar}
 use Rattle.linear_form.proofs.linear_terms.merged.Given as goal
 
 abbrev pub decreases-terms : goal.decreases-terms

@@ -1,5 +1,5 @@
 use Rattle.std.proofs.Common.{length}
-use Rattle.linear_form.specs.Loops.{IsMoreSoFar}
+use Rattle.linear_form.specs.internal.Loops.{IsMoreSoFar}
 use Rattle.linear_form.proofs.linear_terms.with_term.Given as goal
 
 abbrev pub decreases-terms : goal.decreases-terms

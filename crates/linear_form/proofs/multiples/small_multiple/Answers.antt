@@ -1,4 +1,4 @@
-use Rattle.std.proofs.Common.{◌≡◌, sym, ◌∙◌, ap}
+use Rattle.std.proofs.Common.{sym, ◌∙◌, ap}
 use Rattle.linear_form.specs.Lin.{all_fit, times, constant}
 use Rattle.linear_form.specs.PlainPaths.{lin_of}
 use Rattle.linear_form.proofs.KeptParts.{rest_fits, terms_fit}

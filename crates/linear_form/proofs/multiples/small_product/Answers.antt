@@ -1,4 +1,4 @@
-use Rattle.std.proofs.Common.{◌≡◌, sym, ◌∙◌, ap, rules, FitsSigned}
+use Rattle.std.proofs.Common.{sym, ◌∙◌, ap, rules, FitsSigned}
 use Rattle.std.specs.Prelude.{Some}
 use Rattle.std.specs.Int.{w128}
 use Rattle.linear_form.proofs.Narrow.{seen}

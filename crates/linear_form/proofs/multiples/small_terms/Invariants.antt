@@ -1,5 +1,5 @@
 use Rattle.std.proofs.Common.{length}
-use Rattle.linear_form.specs.Loops.{IsSmallSoFar}
+use Rattle.linear_form.specs.internal.Loops.{IsSmallSoFar}
 use Rattle.linear_form.proofs.multiples.small_terms.Given as goal
 
 abbrev pub decreases-terms : goal.decreases-terms

@@ -1,5 +1,5 @@
 use Rattle.std.proofs.Common.{ℕ, ◌<◌}
-use Rattle.linear_form.specs.Columns.{Vanishes}
+use Rattle.linear_form.specs.internal.Columns.{Vanishes}
 use Rattle.linear_form.proofs.multipliers.all_vanish.Given as goal
 
 abbrev pub invariant-loop-variable : goal.invariant-loop-variable

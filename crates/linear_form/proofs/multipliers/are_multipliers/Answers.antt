@@ -1,5 +1,5 @@
 use Rattle.std.proofs.Common.{arith, rules}
-use Rattle.linear_form.proofs.PartialSums.{checks_start, checks_next, checks_at, checks_end, are_multipliers, are_from, from_any}
+use Rattle.linear_form.proofs.PartialSums.{checks_at, checks_end, are_multipliers, are_from, from_any}
 use Rattle.linear_form.proofs.multipliers.are_multipliers.Goals as goal
 use Rattle.linear_form.proofs.multipliers.are_multipliers.Goals.{then-place-least-via-then-place-least, then-place-least-via-else-place-least+then-count-place, then-place-least-via-else-place-least+else-count-place+then-multiplier-eq0, then-place-least-via-else-place-least+else-count-place+else-multiplier-eq0+then-multiplier}
 

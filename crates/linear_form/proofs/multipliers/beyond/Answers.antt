@@ -1,4 +1,4 @@
-use Rattle.std.proofs.Common.{arith, length, take, subst, ◌<◌, rules}
+use Rattle.std.proofs.Common.{arith, subst, ◌<◌, rules}
 use Rattle.std.proofs.lemmas.List.{take_all}
 use Rattle.std.specs.List.{All}
 use Rattle.std.specs.Prelude.{pos}

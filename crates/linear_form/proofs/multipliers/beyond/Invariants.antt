@@ -1,4 +1,4 @@
-use Rattle.std.proofs.Common.{ℕ, ◌<◌, ◌≤◌, ◌^◌, take}
+use Rattle.std.proofs.Common.{◌<◌, ◌≤◌, ◌^◌, take}
 use Rattle.std.specs.List.{All}
 use Rattle.linear_form.proofs.multipliers.beyond.Given as goal
 

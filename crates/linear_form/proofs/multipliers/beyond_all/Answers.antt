@@ -1,9 +1,9 @@
-use Rattle.std.proofs.Common.{arith, rules, subst, ap, sym, ◌∙◌, [], ◌<◌, false}
+use Rattle.std.proofs.Common.{subst, ap, ◌∙◌, [], ◌<◌, false}
 use Rattle.std.specs.Prelude.{pos}
 use Rattle.std.proofs.lemmas.List.{take_all}
 use Rattle.std.specs.List.{All}
 use Rattle.linear_form.specs.Row.{Row}
-use Rattle.linear_form.specs.Columns.{IsBeyond}
+use Rattle.linear_form.specs.internal.Columns.{IsBeyond}
 use Rattle.linear_form.proofs.Coefficients.{rows_step, row_read}
 use Rattle.linear_form.proofs.multipliers.beyond_all.Goals as goal
 

@@ -1,6 +1,6 @@
-use Rattle.std.proofs.Common.{ℕ, ◌≤◌, ◌^◌, take}
+use Rattle.std.proofs.Common.{◌≤◌, ◌^◌, take}
 use Rattle.std.specs.List.{All}
-use Rattle.linear_form.specs.Columns.{IsBeyond}
+use Rattle.linear_form.specs.internal.Columns.{IsBeyond}
 use Rattle.linear_form.proofs.multipliers.beyond_all.Given as goal
 
 abbrev pub invariant-loop-row : goal.invariant-loop-row

@@ -1,7 +1,7 @@
-use Rattle.std.proofs.Common.{ap, sym, subst, ◌∙◌, ◌<◌, ◌^◌, get_or}
-use Rattle.std.specs.Prelude.{pos, ◌+ℤ◌, ◌*ℤ◌, unsigned_abs}
-use Rattle.linear_form.specs.Columns.{number_in}
-use Rattle.linear_form.proofs.PartialSums.{sums_start, sums_next, sums_stop, sums_end, number_read, sum_read}
+use Rattle.std.proofs.Common.{sym, subst, ◌<◌, ◌^◌}
+use Rattle.std.specs.Prelude.{unsigned_abs}
+use Rattle.linear_form.specs.internal.Columns.{number_in}
+use Rattle.linear_form.proofs.PartialSums.{sums_next, sums_stop, sums_end, number_read, sum_read}
 use Rattle.linear_form.proofs.Coefficients.{row_read}
 use Rattle.linear_form.proofs.multipliers.total.Goals as goal
 

@@ -1,4 +1,4 @@
-use Rattle.linear_form.specs.Columns.{number_in}
+use Rattle.linear_form.specs.internal.Columns.{number_in}
 use Rattle.linear_form.proofs.PartialSums.{Sums}
 use Rattle.linear_form.proofs.multipliers.total.Given as goal
 

@@ -1,7 +1,6 @@
 use Rattle.std.proofs.Common.{◌≡◌, sym, ◌∙◌, rules}
 use Rattle.std.specs.Prelude.{Some}
 use Rattle.heyvl_num.specs.Rational.{oneʳ}
-use Rattle.linear_form.specs.Lin.{minus_oneʳ}
 use Rattle.linear_form.proofs.Narrow.{the_one, same}
 use Rattle.linear_form.proofs.numbers.one.Goals as goal
 

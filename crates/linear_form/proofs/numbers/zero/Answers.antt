@@ -1,7 +1,6 @@
 use Rattle.std.proofs.Common.{◌≡◌, sym, ◌∙◌, rules}
 use Rattle.std.specs.Prelude.{Some}
 use Rattle.heyvl_num.specs.Rational.{zeroʳ}
-use Rattle.linear_form.specs.Lin.{minus_oneʳ}
 use Rattle.linear_form.proofs.Narrow.{the_zero, same}
 use Rattle.linear_form.proofs.numbers.zero.Goals as goal
 

@@ -1,6 +1,6 @@
-use Rattle.std.proofs.Common.{◌≡◌, sym, ◌∙◌, ap}
+use Rattle.std.proofs.Common.{sym, ◌∙◌, ap}
 use Rattle.std.specs.Prelude.{Some}
-use Rattle.linear_form.specs.Run.Outcome.{value}
+use Rattle.linear_form.specs.internal.Run.Evaluation.{value}
 use Rattle.linear_form.proofs.OperatorRuns.{run_sized, run_large}
 use Rattle.linear_form.proofs.operators.finite_multiple.Goals as goal
 

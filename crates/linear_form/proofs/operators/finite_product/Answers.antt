@@ -1,7 +1,7 @@
 use Rattle.linear_form.specs.PlainPaths.{lin_of}
 use Rattle.linear_form.proofs.KeptParts.{rest_fits}
 use Rattle.linear_form.proofs.OperatorRuns.{finite_product_large}
-use Rattle.std.proofs.Common.{◌≡◌, sym, ◌∙◌}
+use Rattle.std.proofs.Common.{sym, ◌∙◌}
 use Rattle.linear_form.proofs.operators.finite_product.Goals as goal
 
 pub scaled-requires-clause-factor : goal.scaled-requires-clause-factor

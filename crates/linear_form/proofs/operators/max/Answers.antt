@@ -1,5 +1,4 @@
-use Rattle.std.proofs.Common.{◌≡◌, sym, ◌∙◌, ap, rules, refl}
-use Rattle.linear_form.specs.Run.Outcome.{value}
+use Rattle.std.proofs.Common.{◌∙◌, rules, refl}
 use Rattle.linear_form.proofs.Runs.{gives_first, run_done, run_after}
 use Rattle.linear_form.proofs.OperatorRuns.{max_none}
 use Rattle.linear_form.proofs.operators.max.Goals as goal

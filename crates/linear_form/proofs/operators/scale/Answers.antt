@@ -1,5 +1,5 @@
-use Rattle.std.proofs.Common.{◌≡◌, sym, ◌∙◌, ap}
-use Rattle.linear_form.specs.Run.Outcome.{value}
+use Rattle.std.proofs.Common.{sym, ◌∙◌, ap}
+use Rattle.linear_form.specs.internal.Run.Evaluation.{value}
 use Rattle.linear_form.proofs.Runs.{run_done}
 use Rattle.linear_form.proofs.operators.scale.Goals as goal
 

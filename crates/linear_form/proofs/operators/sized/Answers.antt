@@ -1,4 +1,4 @@
-use Rattle.std.proofs.Common.{◌≡◌, sym, ◌∙◌}
+use Rattle.std.proofs.Common.{sym, ◌∙◌}
 use Rattle.linear_form.proofs.OperatorRuns.{run_sized, run_large}
 use Rattle.linear_form.proofs.operators.sized.Goals as goal
 

@@ -1,5 +1,5 @@
-use Rattle.std.proofs.Common.{◌≡◌, sym, ◌∙◌, ap, rules, refl}
-use Rattle.linear_form.specs.Run.Outcome.{value}
+use Rattle.std.proofs.Common.{sym, ◌∙◌, ap, rules, refl}
+use Rattle.linear_form.specs.internal.Run.Evaluation.{value}
 use Rattle.linear_form.proofs.Runs.{gives_first, run_done, run_after}
 use Rattle.linear_form.proofs.operators.zero_or_infinity.Goals as goal
 

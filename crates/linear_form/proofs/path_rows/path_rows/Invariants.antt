@@ -1,9 +1,9 @@
 use Rattle.std.proofs.Common.{◌≡◌, length}
 use Rattle.linear_form.specs.PathRows.{all_tightened, path_claims}
-use Rattle.linear_form.specs.FurtherRows.{rows_with}
-use Rattle.linear_form.specs.NormalPaths.{IsNormalPath}
+use Rattle.linear_form.specs.internal.FurtherRows.{rows_with}
+use Rattle.linear_form.specs.internal.NormalPaths.{IsNormalPath}
 use Rattle.linear_form.specs.PlainPaths.{path_of}
-use Rattle.linear_form.specs.TypedGoals.{types_in}
+use Rattle.heylo_formula.specs.Typing.{types_in}
 use Rattle.linear_form.proofs.path_rows.path_rows.Given as goal
 
 abbrev pub decreases-path : goal.decreases-path

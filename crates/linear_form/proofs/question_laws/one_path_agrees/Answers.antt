@@ -1,7 +1,6 @@
-use Rattle.std.proofs.Common.{◌≡◌, sym, ◌∙◌}
+use Rattle.std.proofs.Common.{sym, ◌∙◌}
 use Rattle.heylo_formula.specs.State.{environment}
 use Rattle.linear_form.specs.Questions.{questions}
-use Rattle.linear_form.specs.Paths.{IsPathOf}
 use Rattle.linear_form.proofs.QueryTrees.{path_in, path_taken, one_path, walk_ends}
 use Rattle.linear_form.proofs.EndValues.{AreValues, goal_ends}
 use Rattle.linear_form.proofs.question_laws.one_path_agrees.Goals as goal

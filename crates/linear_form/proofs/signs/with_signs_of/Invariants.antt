@@ -1,8 +1,8 @@
 use Rattle.std.proofs.Common.{◌≡◌, length, map, false}
 use Rattle.linear_form.specs.Lin.{variable}
 use Rattle.linear_form.specs.PathRows.{claim, negated}
-use Rattle.linear_form.specs.FurtherRows.{rows_with}
-use Rattle.linear_form.specs.TypedGoals.{types_in}
+use Rattle.linear_form.specs.internal.FurtherRows.{rows_with}
+use Rattle.heylo_formula.specs.Typing.{types_in}
 use Rattle.linear_form.proofs.signs.with_signs_of.Given as goal
 
 abbrev pub decreases-variables : goal.decreases-variables

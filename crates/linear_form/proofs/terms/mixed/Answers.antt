@@ -1,6 +1,5 @@
-use Rattle.std.proofs.Common.{rules, subst, sym, ap₂, ◌∙◌, FitsSigned}
+use Rattle.std.proofs.Common.{subst, sym, ap₂, ◌∙◌}
 use Rattle.std.proofs.lemmas.Int.{to_z-of_z}
-use mir.Syntax.{w128}
 use Rattle.linear_form.specs.Terms.{IsNormal}
 use Rattle.linear_form.specs.Merging.{merged_terms}
 use Rattle.linear_form.proofs.Mixing.{scaled-normal, mixed-is}

@@ -1,4 +1,4 @@
-use Rattle.std.proofs.Common.{arith, rules, FitsSigned, get_or, ◌∙◌, refl}
+use Rattle.std.proofs.Common.{arith, rules, FitsSigned, get_or}
 use Rattle.std.proofs.lemmas.Int.{to_z-of_z}
 use mir.Syntax.{w128}
 use Rattle.std.specs.Prelude.{pos}

@@ -1,4 +1,4 @@
-use Rattle.std.proofs.Common.{◌≡◌, sym, ap, ◌∙◌, rules, FitsSigned, unsigned_abs, subst, ◌<◌, ◌^◌, ◌∷◌, ℤ}
+use Rattle.std.proofs.Common.{sym, ap, ◌∙◌, rules, FitsSigned, unsigned_abs, subst, ◌<◌, ◌^◌, ℤ}
 use Rattle.std.specs.Int.{w128}
 use Rattle.heyvl_num.specs.Rounding.{whole}
 use Rattle.linear_form.proofs.Narrow.{seen, num_less}

@@ -1,4 +1,4 @@
-use Rattle.std.proofs.Common.{◌≡◌, refl, sym, ap₂, ◌∙◌, subst, rules, FitsSigned, ◌*ℤ◌, ℤ}
+use Rattle.std.proofs.Common.{refl, sym, ap₂, ◌∙◌, subst, rules, FitsSigned, ◌*ℤ◌, ℤ}
 use Rattle.std.specs.Int.{w128}
 use Rattle.linear_form.proofs.Narrow.{seen}
 use Rattle.linear_form.proofs.Factors.{product_lost, multiple_lost, multiple_made}

@@ -1,5 +1,5 @@
 use Rattle.std.proofs.Common.{length}
-use Rattle.linear_form.specs.Loops.{IsRowSoFar}
+use Rattle.linear_form.specs.internal.Loops.{IsRowSoFar}
 use Rattle.linear_form.proofs.tightening.coefficients.Given as goal
 
 abbrev pub decreases-terms : goal.decreases-terms

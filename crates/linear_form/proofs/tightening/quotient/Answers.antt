@@ -1,7 +1,5 @@
-use Rattle.std.proofs.Common.{◌≡◌, refl, sym, ◌∙◌, rules, FitsSigned, pos}
-use Rattle.std.specs.Prelude.{Some}
+use Rattle.std.proofs.Common.{refl, sym, ◌∙◌, rules, FitsSigned, pos}
 use Rattle.std.specs.Int.{w128}
-use Rattle.heyvl_num.specs.Exact.{quotient}
 use Rattle.linear_form.proofs.Narrow.{seen, same, den_less}
 use Rattle.linear_form.proofs.Factors.{quotient_is, product_in_range, quotient_found}
 use Rattle.linear_form.proofs.tightening.quotient.Goals as goal

@@ -1,10 +1,9 @@
-use Rattle.std.proofs.Common.{◌≡◌, refl, sym, ap, ◌∙◌, subst, rules, FitsSigned, ℤ}
+use Rattle.std.proofs.Common.{ap, ◌∙◌, rules, FitsSigned, ℤ}
 use Rattle.std.specs.Prelude.{Some}
 use Rattle.std.proofs.lemmas.Int.{to_z-of_z}
 use mir.Syntax.{w64}
 use Rattle.std.specs.Int.{w128}
-use Rattle.linear_form.specs.Operator.{narrow_value}
-use Rattle.linear_form.specs.TypedGoals.{types_in}
+use Rattle.heylo_formula.specs.Typing.{types_in}
 use Rattle.linear_form.proofs.Narrow.{seen}
 use Rattle.linear_form.proofs.RowParts.{lost_factor, lost_product, lost_whole, lost_exact, made_whole, made_exact, whole_of, sized_terms, ok_then}
 use Rattle.linear_form.proofs.tightening.terms_tightened.Goals as goal

@@ -1,11 +1,10 @@
-use Rattle.std.proofs.Common.{◌≡◌, sym, ap, ◌∙◌, rules, FitsSigned, ℤ, length, arith, true, false}
-use Rattle.std.specs.Prelude.{Some, vec_len}
+use Rattle.std.proofs.Common.{◌≡◌, sym, ◌∙◌, rules, FitsSigned, length, arith, true, false}
+use Rattle.std.specs.Prelude.{vec_len}
 use Rattle.std.proofs.lemmas.Int.{to_z-of_z}
 use mir.Syntax.{w64}
 use Rattle.std.specs.Int.{w128}
-use Rattle.linear_form.specs.Row.{Row}
 use Rattle.linear_form.specs.PlainPaths.{lin_of}
-use Rattle.linear_form.specs.TypedGoals.{types_in}
+use Rattle.heylo_formula.specs.Typing.{types_in}
 use Rattle.linear_form.proofs.Narrow.{seen}
 use Rattle.linear_form.proofs.Factors.{none_left}
 use Rattle.linear_form.proofs.RowParts.{too_large, constant_row, sign_found, empty_row}

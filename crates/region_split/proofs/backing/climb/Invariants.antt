@@ -3,7 +3,7 @@ use Rattle.heylo_formula.specs.Goals.{Goal}
 use Rattle.linear_form.specs.Query.{Taken}
 use Rattle.linear_form.specs.Questions.{questions}
 use Rattle.linear_form.specs.PlainPaths.{path_of}
-use Rattle.region_split.specs.Progress.{IsAfter, rest_of}
+use Rattle.region_split.specs.internal.Progress.{IsAfter, rest_of}
 use Rattle.region_split.proofs.backing.climb.Given as goal
 
 abbrev pub decreases-up : goal.decreases-up

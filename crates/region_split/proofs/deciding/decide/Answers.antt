@@ -1,7 +1,7 @@
 use Rattle.std.proofs.Common.{arith}
 use Rattle.std.specs.Prelude.{Result, Ok, Err, IfOk}
 use Rattle.heylo_formula.specs.Goals.{Goal, goal_of}
-use Rattle.linear_form.specs.TypedGoals.{IsTypedGoal, HasItsVariables}
+use Rattle.heylo_formula.specs.TypedGoals.{IsTypedGoal, HasItsVariables}
 use Rattle.region_split.specs.Decisions.{IsDecision}
 use Rattle.region_split.specs.Meanings.{Tells}
 use Rattle.region_split.specs.declared.decisions.Decision.{Decision}

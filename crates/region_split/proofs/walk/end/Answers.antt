@@ -1,11 +1,12 @@
-use Rattle.std.proofs.Common.{refl, sym, subst}
+use Rattle.std.proofs.Common.{refl, sym, subst, true}
 use Rattle.heylo_formula.specs.Goals.{goal_of}
 use Rattle.linear_form.specs.Paths.{IsPath}
+use Rattle.linear_form.specs.PathRows.{IsPlainAt}
 use Rattle.linear_form.specs.PlainPaths.{path_of}
 use Rattle.linear_form.specs.Cells.{IsFront}
-use Rattle.region_split.specs.Seen.{EndsGoal, IsEnd}
-use Rattle.region_split.specs.Progress.{IsJudgedCell}
-use Rattle.region_split.proofs.Steps.{all_counted, cell_walk, walk_front, walk_short}
+use Rattle.region_split.specs.internal.Seen.{EndsWalk, IsEnd}
+use Rattle.region_split.specs.internal.Progress.{IsJudgedCell}
+use Rattle.region_split.proofs.Steps.{all_counted, cell_ends, cell_walk, walk_front, walk_path, walk_short}
 use Rattle.region_split.proofs.walk.end.Goals as goal
 
 pub returns-then-count-ge-MOST_CELLS : goal.returns-then-count-ge-MOST_CELLS
@@ -15,7 +16,7 @@ pub judge-requires-clause-front : goal.judge-requires-clause-front
 judge-requires-clause-front c = subst (λ ps. IsFront (goal_of c.args.goal.now) (path_of ps)) (sym c.deref.ensures.value) (walk_front (goal_of c.args.goal.now) c.args.walk c.requires.stands)
 
 pub judge-requires-clause-short : goal.judge-requires-clause-short
-judge-requires-clause-short c = walk_short (goal_of c.args.goal.now) c.deref.result.now c.requires.short (subst (λ ps. IsPath (goal_of c.args.goal.now) (path_of ps)) (sym c.deref.ensures.value) (walk_front (goal_of c.args.goal.now) c.args.walk c.requires.stands).is_path)
+judge-requires-clause-short c = walk_short (goal_of c.args.goal.now) c.deref.result.now c.requires.short (subst (λ ps. IsPath (goal_of c.args.goal.now) (path_of ps)) (sym c.deref.ensures.value) (walk_path (goal_of c.args.goal.now) c.args.walk c.requires.stands))
 
 pub judge-requires-clause-at_end : goal.judge-requires-clause-at_end
 judge-requires-clause-at_end c = subst (λ ps. IsEnd (goal_of c.args.goal.now) (path_of ps) c.args.plain) (sym c.deref.ensures.value) c.requires.at_end
@@ -27,5 +28,5 @@ returns-in-Judged c =
 
 pub returns-in-Unknown : goal.returns-in-Unknown
 returns-in-Unknown c =
-    let r = subst (λ ps. EndsGoal (goal_of c.args.goal.now) (path_of ps) c.in-Unknown.cause) c.deref.ensures.value (rw c.in-Unknown.is at c.in_ok-found.ensures) in
-    r (walk_front (goal_of c.args.goal.now) c.args.walk c.requires.stands) c.requires.linear
+    let r = subst (λ ps. (IsPlainAt (goal_of c.args.goal.now) (path_of ps) → ⊥) × EndsWalk (goal_of c.args.goal.now) (path_of ps) true c.in-Unknown.cause) c.deref.ensures.value (rw c.in-Unknown.is at c.in_ok-found.ensures) in
+    cell_ends (goal_of c.args.goal.now) c.args.walk c.args.plain c.in-Unknown.cause c.requires.linear c.requires.stands c.requires.at_end c.if-count-ge-MOST_CELLS.false r.0 r.1

@@ -1,6 +1,6 @@
 use Rattle.heylo_formula.specs.Goals.{goal_of}
 use Rattle.linear_form.specs.PlainPaths.{path_of}
-use Rattle.region_split.specs.Progress.{IsWalk, left_of}
+use Rattle.region_split.specs.internal.Progress.{IsWalk, left_of}
 use Rattle.region_split.proofs.walk.walked.Given as goal
 
 abbrev pub invariant-walk : goal.invariant-walk

@@ -1,5 +1,5 @@
 use Rattle.std.proofs.Common.{subst, sym}
-use Rattle.linear_elim.specs.Fingerprints.{ArePlaces}
+use Rattle.linear_elim.specs.internal.Fingerprints.{ArePlaces}
 use Rattle.linear_elim.proofs.Fingerprinting.{no_places}
 use Rattle.linear_elim.proofs.gathering.Gathering.new.Goals as goal
 

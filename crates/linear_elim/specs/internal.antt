@@ -1,0 +1,5 @@
+pub mod ChoiceSteps
+pub mod Picks
+pub mod Turns
+pub mod Outcomes
+pub mod Fingerprints

@@ -1,0 +1,34 @@
+-- What the parts of the greedy choice promise: the ends that the rows of a step give, and the value that is taken between them.
+use Rattle.std.specs.Prelude.{◌≡◌, ◌↔◌, ℕ, List, Bool, true, cond, not, Option, Some, None, IfSome, is_some}
+use Rattle.std.specs.List.{All}
+use Rattle.heyvl_num.specs.Rational.{Rational}
+use Rattle.linear_form.specs.Lin.{fits}
+use Rattle.linear_form.specs.Row.{Row}
+use Rattle.linear_form.specs.GreedyPoint.{End, IsUpFrom, IsUpTo}
+use Rattle.linear_elim.specs.Joins.{Derived}
+use Rattle.linear_elim.specs.ChoiceNumbers.{end_of}
+use Rattle.linear_elim.specs.declared.ends.Side.{Side}
+use Rattle.linear_elim.specs.declared.ends.Side.TheVariants.{Low, High}
+
+-- The value keeps to an end of this side.
+abbrev pub IsWithin : Side → End → Rational → Type 0
+IsWithin Low e v = IsUpFrom e v
+IsWithin High e v = IsUpTo e v
+
+abbrev pub IsPast : Side → Option End → Rational → Type 0
+IsPast side None v = Unit {0}
+IsPast side (Some e) v = IsWithin side e v
+
+abbrev pub bounded : Bool → Option Rational → Option End
+bounded strict None = None
+bounded strict (Some p) = cond (fits p) (Some (record { place = p; inside = not strict })) None
+
+-- The end that a row gives, where it isn't too great.
+abbrev pub narrow_end : ℕ → List (ℕ × Rational) → Row → Option End
+narrow_end x chosen r = bounded r.strict (end_of x chosen r)
+
+-- No end is too great, and the values past this one are those past the end that each row gives.
+pub record IsTightest (side : Side) (x : ℕ) (chosen : List (ℕ × Rational)) (rows : List Derived) (o : Option End) : Type 0 where
+  pub each : All (λ r. is_some (narrow_end x chosen r.row) ≡ true) rows
+  pub narrow : IfSome o (λ e. fits e.place ≡ true)
+  pub values : (v : Rational) → IsPast side o v ↔ All (λ r. (e : End) → narrow_end x chosen r.row ≡ Some e → IsWithin side e v) rows

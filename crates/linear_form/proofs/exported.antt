@@ -1,0 +1,17 @@
+pub mod AgreedEnds
+pub mod Between
+pub mod Combinations
+pub mod DeniedRows
+pub mod FalsifyingPoints
+pub mod Fractions
+pub mod MetRows
+pub mod Moves
+pub mod Narrow
+pub mod Normal
+pub mod NumericRows
+pub mod PathSteps
+pub mod Sums
+pub mod Truths
+pub mod UnsignedRows
+pub mod GreedyChoices
+pub mod AnsweredPaths

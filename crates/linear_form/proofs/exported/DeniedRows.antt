@@ -1,0 +1,2 @@
+-- Meant for the proofs of other crates. The rows of a path without the denied goal are among those with it.
+pub use Rattle.linear_form.proofs.DeniedRows.{denied_stronger}

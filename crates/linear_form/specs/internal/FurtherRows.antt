@@ -1,0 +1,30 @@
+-- Rows, and further ones after them.
+use Rattle.std.specs.Prelude.{ℕ, List, [], ◌∷◌, ◌++◌, ◌&&◌, Option, Some, None, if◌then◌else◌}
+use Rattle.std.specs.List.{list_any}
+use Prim.Native.Nat.{zero, suc}
+use Rattle.heylo_formula.specs.Typing.{Types}
+use Rattle.linear_form.specs.Row.{Row}
+use Rattle.linear_form.specs.Tightening.{Claim}
+use Rattle.linear_form.specs.VariableOrder.{occurs_in_row}
+use Rattle.linear_form.specs.PathRows.{all_tightened, is_unsigned_type}
+
+abbrev pub followed_by : List Row → Option (List Row) → Option (List Row)
+followed_by rows (Some more) = Some (rows ++ more)
+followed_by rows None = None
+
+-- The rows, and after them those of some claims.
+abbrev pub rows_with : Types → List Row → List Claim → Option (List Row)
+rows_with types rows ks = followed_by rows (all_tightened types ks)
+
+-- A variable, where it is unsigned and occurs_in_row in the rows.
+abbrev pub unsigned_in : Types → List Row → ℕ → Option ℕ
+unsigned_in types rows x = if is_unsigned_type (types x) && list_any (occurs_in_row x) rows then Some x else None
+
+abbrev pub one_more : List ℕ → Option ℕ → List ℕ
+one_more xs (Some x) = xs ++ (x ∷ [])
+one_more xs None = xs
+
+-- The unsigned variables below a number that occur in the rows, by number.
+abbrev pub all_unsigned_in : Types → List Row → ℕ → List ℕ
+all_unsigned_in types rows zero = []
+all_unsigned_in types rows (suc n) = one_more (all_unsigned_in types rows n) (unsigned_in types rows n)

@@ -1,0 +1,31 @@
+-- What the loops over terms keep.
+use Rattle.std.specs.Prelude.{◌≡◌, ℕ, ℤ, List, ◌++◌, true}
+use Rattle.heyvl_num.specs.Rational.{Rational, ratio, ◌*ʳ◌}
+use Rattle.linear_form.specs.Tightening.{whole_terms, all_narrow, AreWholeTimes}
+use Rattle.linear_form.specs.Lin.{Terms, all_fit, times, more, merged, AreNormal}
+use Rattle.linear_form.specs.internal.FitTerms.{IsFitAt, AreFitAt}
+
+pub record IsTimesSoFar (w : Rational) (terms made rest : Terms) : Type 0 where
+  pub whole : times w terms ≡ made ++ times w rest
+  pub fits : all_fit rest ≡ true
+
+pub record IsMoreSoFar (x : ℕ) (c : Rational) (terms made rest : Terms) : Type 0 where
+  pub whole : more x c terms ≡ made ++ more x c rest
+  pub fits : IsFitAt x rest
+
+pub record IsMergedSoFar (us ts made rest : Terms) : Type 0 where
+  pub whole : merged us ts ≡ merged rest made
+  pub normal : AreNormal rest
+  pub rest_fits : all_fit rest ≡ true
+  pub made_fits : AreFitAt rest made
+
+pub record IsSmallSoFar (w : Rational) (terms made rest : Terms) : Type 0 where
+  pub whole : times w terms ≡ made ++ times w rest
+  pub fits : all_fit (times w terms) ≡ all_fit (times w rest)
+  pub rest_fits : all_fit rest ≡ true
+
+pub record IsRowSoFar (s : ℤ) (w : Rational) (terms : Terms) (made : List (ℕ × ℤ)) (rest : Terms) : Type 0 where
+  pub whole : whole_terms (ratio s 1 *ʳ w) terms ≡ made ++ whole_terms (ratio s 1 *ʳ w) rest
+  pub narrow : all_narrow (whole_terms (ratio s 1 *ʳ w) terms) ≡ all_narrow (whole_terms (ratio s 1 *ʳ w) rest)
+  pub rest_fits : all_fit rest ≡ true
+  pub rest_whole : AreWholeTimes w rest

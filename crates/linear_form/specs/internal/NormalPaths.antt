@@ -1,0 +1,12 @@
+-- Paths whose comparisons are of values with growing terms and without zeros.
+use Rattle.std.specs.Prelude.{List, [], ◌∷◌}
+use Rattle.linear_form.specs.Lin.{AreNormal}
+use Rattle.linear_form.specs.Query.{Atom, Taken}
+
+abbrev pub IsNormalAtom : Atom → Type 0
+IsNormalAtom (Atom.truth x) = Unit {0}
+IsNormalAtom (Atom.row a strict) = AreNormal a.terms
+
+abbrev pub IsNormalPath : List Taken → Type 0
+IsNormalPath [] = Unit {0}
+IsNormalPath (p ∷ ps) = IsNormalAtom p.atom × IsNormalPath ps

@@ -1,0 +1,213 @@
+-- A goal has one decision, but for the multipliers of its tree and the limits.
+use Rattle.std.proofs.Common.{◌≡◌, ℕ, List, [], ◌∷◌, ◌++◌, length, refl, sym, ap, ◌∙◌, subst, arith, length-append, true, false}
+use Rattle.std.specs.Prelude.{Option, Some, None}
+use Rattle.std.specs.List.{All}
+use Rattle.std.proofs.lemmas.List.Elements.{All-cons, All-head, All-tail, All-append, All-weaker}
+use Rattle.heyvl_num.specs.Rational.{Rational, zeroʳ}
+use Rattle.heylo_formula.specs.Goals.{Goal}
+use Rattle.heylo_formula.specs.declared.values.Val.{Val}
+use Rattle.linear_form.specs.Query.{Taken}
+use Rattle.linear_form.specs.PathRows.{rows_of}
+use Rattle.linear_form.specs.Nonlinear.{nonlinear_product}
+use Rattle.linear_form.specs.Row.{Row}
+use Rattle.linear_form.specs.Solutions.{IsSolvable}
+use Rattle.linear_form.specs.Cells.{IsCell, IsFalseCell}
+use Rattle.linear_form.specs.GreedyPoint.{End, Interval, Greedy, ChoosesFrom, IsGreedyPoint}
+use Rattle.linear_form.proofs.exported.GreedyChoices.{choices_unique, points_unique}
+use Rattle.linear_elim.specs.Answers.{ends_of, values_of}
+use Rattle.linear_elim.specs.declared.answers.Broken.{Broken}
+use Rattle.linear_elim.specs.declared.answers.Cause.{Cause}
+use Rattle.linear_elim.specs.declared.answers.Cause.TheVariants.{Depth, Nodes, Nonlinear, Cells, Rows, Bits, Fraction}
+use Rattle.farkas_check.specs.Trees.{Tree, tree_of}
+use Rattle.farkas_check.specs.declared.trees.Tree as T
+use Rattle.region_split.specs.Walk.{AreCells, IsWalked}
+use Rattle.region_split.specs.Decisions.{with_truths, IsPointOf, IsBreakOf, Breaks, HasCells, IsFirstPoint, IsFirstBreak, IsFalsified, IsUndecided, IsGiven, IsProved, IsCause, IsDecision}
+use Rattle.region_split.specs.DecisionLaws.{AreAlike, IsSameBreak, GiveAlike, IsOfLimits, IsSameCause, DecisionsAreUnique}
+use Rattle.region_split.specs.declared.decisions.Decision.TheVariants.{Proved, Falsified, Unknown}
+use Rattle.region_split.proofs.PathAnswers.{same_rows}
+use Rattle.region_split.proofs.CellsFound.{breaks}
+use Rattle.region_split.proofs.UniqueWalks.{cells_unique, trees_alike, alike_depth, none_false, kept_or_dropped, end_or_question, located}
+
+-- ---- Two places in a list
+
+-- the same place, or one before the other
+data Places {A : Type 0} : List A → A → List A → List A → A → List A → Type 0 where
+  same : (es : List A) (a : A) (bs : List A) → Places es a bs es a bs
+  left : (es bs : List A) (a c : A) (cs : List A) → Places es a (bs ++ (c ∷ cs)) (es ++ (a ∷ bs)) c cs
+  right : (es bs : List A) (a c : A) (cs : List A) → Places (es ++ (a ∷ bs)) c cs es a (bs ++ (c ∷ cs))
+
+more_places : {A : Type 0} (x : A) (es : List A) (a : A) (bs cs : List A) (c : A) (ds : List A) → Places es a bs cs c ds → Places (x ∷ es) a bs (x ∷ cs) c ds
+more_places x _ _ _ _ _ _ (Places.same es a bs) = Places.same (x ∷ es) a bs
+more_places x _ _ _ _ _ _ (Places.left es bs a c cs) = Places.left (x ∷ es) bs a c cs
+more_places x _ _ _ _ _ _ (Places.right es bs a c cs) = Places.right (x ∷ es) bs a c cs
+
+places : {A : Type 0} (es : List A) (a : A) (bs cs : List A) (c : A) (ds : List A) → es ++ (a ∷ bs) ≡ cs ++ (c ∷ ds) → Places es a bs cs c ds
+places [] a bs [] c ds e = let k : a ≡ c = cc in let m : bs ≡ ds = cc in subst (λ z. Places [] a bs [] z ds) k (subst (λ z. Places [] a bs [] a z) m (Places.same [] a bs))
+places [] a bs (x ∷ cs) c ds e = let f : a ∷ bs ≡ x ∷ (cs ++ (c ∷ ds)) = e in let k : a ≡ x = cc in let m : cs ++ (c ∷ ds) ≡ bs = cc in subst (λ z. Places [] a bs (z ∷ cs) c ds) k (subst (λ z. Places [] a z (a ∷ cs) c ds) m (Places.left [] cs a c ds))
+places (x ∷ es) a bs [] c ds e = let f : x ∷ (es ++ (a ∷ bs)) ≡ c ∷ ds = e in let k : c ≡ x = cc in let m : es ++ (a ∷ bs) ≡ ds = cc in subst (λ z. Places (z ∷ es) a bs [] c ds) k (subst (λ z. Places (c ∷ es) a bs [] c z) m (Places.right [] es c a bs))
+places (x ∷ es) a bs (y ∷ cs) c ds e = let f : x ∷ (es ++ (a ∷ bs)) ≡ y ∷ (cs ++ (c ∷ ds)) = e in let k : x ≡ y = cc in let m : es ++ (a ∷ bs) ≡ cs ++ (c ∷ ds) = cc in subst (λ z. Places (x ∷ es) a bs (z ∷ cs) c ds) k (more_places x es a bs cs c ds (places es a bs cs c ds m))
+
+-- ---- One point, one break
+
+abbrev BreaksIfFalse : Goal → List Taken → Type 0
+BreaksIfFalse g ps = IsFalseCell g ps → Breaks g ps
+
+rows_solvable : (g : Goal) (ps : List Taken) (rows : List Row) → IsFalseCell g ps → rows_of g ps true ≡ Some rows → IsSolvable rows
+rows_solvable g ps rows f e = subst IsSolvable (same_rows g ps true f.rows rows f.are_rows e) f.solvable
+
+chose_or_broke : (cs ds : List (ℕ × Rational)) (x : ℕ) (i : Interval) → Greedy.chose cs ≡ Greedy.broke x ds i → ⊥
+chose_or_broke cs ds x i e = absurd (cc)
+
+point_or_break : (g : Goal) (ps : List Taken) (point : List Val) → IsFalseCell g ps → IsPointOf g ps point → Breaks g ps → ⊥
+point_or_break g ps point f p b =
+    let e = same_rows g ps true b.rows p.rows b.are_rows p.are_rows in
+    chose_or_broke p.greedy.chosen b.earlier b.var b.interval (choices_unique p.rows g.types (Greedy.chose p.greedy.chosen) (Greedy.broke b.var b.earlier b.interval) (rows_solvable g ps p.rows f p.are_rows) p.greedy.choice (subst (λ rs. ChoosesFrom rs g.types (Greedy.broke b.var b.earlier b.interval)) e b.choice))
+
+same_point : (g : Goal) (ps : List Taken) (p q : List Val) → IsFalseCell g ps → IsPointOf g ps p → IsPointOf g ps q → p ≡ q
+same_point g ps p q f a b =
+    let e = same_rows g ps true b.rows a.rows b.are_rows a.are_rows in
+    a.truths ∙ ap (with_truths ps 0) (points_unique a.rows g.types a.values b.values (rows_solvable g ps a.rows f a.are_rows) a.greedy (subst (λ rs. IsGreedyPoint rs g.types b.values) e b.greedy)) ∙ sym b.truths
+
+abbrev the_end : Option End → End
+the_end (Some e) = e
+the_end None = record { place = zeroʳ; inside = false }
+
+broken_parts : (b c : Broken) (ds es : List (ℕ × Rational)) → Greedy.broke b.var ds (ends_of b) ≡ Greedy.broke c.var es (ends_of c) → b.earlier.items ≡ values_of ds → c.earlier.items ≡ values_of es → IsSameBreak b c
+broken_parts b c ds es e h k =
+    let v : b.var ≡ c.var = cc in
+    let d : ds ≡ es = cc in
+    let i : ends_of b ≡ ends_of c = cc in
+    record {
+      var = v;
+      earlier = h ∙ ap values_of d ∙ sym k;
+      low = ap (λ (j : Interval). (the_end j.low).place) i;
+      low_in = ap (λ (j : Interval). (the_end j.low).inside) i;
+      high = ap (λ (j : Interval). (the_end j.high).place) i;
+      high_in = ap (λ (j : Interval). (the_end j.high).inside) i;
+    }
+
+same_break : (g : Goal) (ps : List Taken) (b c : Broken) → IsBreakOf g ps b → IsBreakOf g ps c → IsSameBreak b c
+same_break g ps b c p q =
+    let e = same_rows g ps true q.rows p.rows q.are_rows p.are_rows in
+    broken_parts b c p.broken.chosen q.broken.chosen (choices_unique p.rows g.types _ _ p.broken.solvable p.broken.choice (subst (λ rs. ChoosesFrom rs g.types (Greedy.broke c.var q.broken.chosen (ends_of c))) e q.broken.choice)) p.broken.earlier q.broken.earlier
+
+-- what holds of a list holds at a place of it
+at_place : {A : Type 0} (P : A → Type 0) (es : List A) (a : A) (bs : List A) → All P (es ++ (a ∷ bs)) → P a
+at_place P [] a bs h = All-head P a bs h
+at_place P (x ∷ es) a bs h = at_place P es a bs (All-tail P x (es ++ (a ∷ bs)) h)
+
+one_point : (g : Goal) (cells : List (List Taken)) (p q : List Val) → IsFirstPoint g cells p → IsFirstPoint g cells q → p ≡ q
+one_point g cells p q a b = go (places a.before a.path a.after b.before b.path b.after (a.whole ∙ sym b.whole)) a.broken_before b.broken_before a.false_cell b.false_cell a.point_of_cell b.point_of_cell
+  where
+    go : {es bs cs ds : List (List Taken)} {ps rs : List Taken} → Places es ps bs cs rs ds → All (BreaksIfFalse g) es → All (BreaksIfFalse g) cs → IsFalseCell g ps → IsFalseCell g rs → IsPointOf g ps p → IsPointOf g rs q → p ≡ q
+    go (Places.same es ps bs) h k f _ x y = same_point g ps p q f x y
+    go (Places.left es bs ps rs ds) h k f _ x y = absurd (point_or_break g ps p f x (at_place (BreaksIfFalse g) es ps bs k f))
+    go (Places.right es bs rs ps ds) h k _ f x y = absurd (point_or_break g rs q f y (at_place (BreaksIfFalse g) es rs bs h f))
+
+one_break : (g : Goal) (cells : List (List Taken)) (p q : Broken) → IsFirstBreak g cells p → IsFirstBreak g cells q → IsSameBreak p q
+one_break g cells p q a b = go (places a.before a.path a.after b.before b.path b.after (a.whole ∙ sym b.whole)) a.none_before b.none_before a.false_cell b.false_cell a.breaks_here b.breaks_here
+  where
+    go : {es bs cs ds : List (List Taken)} {ps rs : List Taken} → Places es ps bs cs rs ds → All (λ ps. IsFalseCell g ps → ⊥) es → All (λ ps. IsFalseCell g ps → ⊥) cs → IsFalseCell g ps → IsFalseCell g rs → IsBreakOf g ps p → IsBreakOf g rs q → IsSameBreak p q
+    go (Places.same es ps bs) h k f _ x y = same_break g ps p q x y
+    go (Places.left es bs ps rs ds) h k f _ x y = absurd (at_place (λ ps. IsFalseCell g ps → ⊥) es ps bs k f)
+    go (Places.right es bs rs ps ds) h k _ f x y = absurd (at_place (λ ps. IsFalseCell g ps → ⊥) es rs bs h f)
+
+all_break : (g : Goal) (cells : List (List Taken)) (b : Broken) → IsFirstBreak g cells b → All (BreaksIfFalse g) cells
+all_break g cells b f = subst (All (BreaksIfFalse g)) f.whole (All-append (BreaksIfFalse g) f.before (f.path ∷ f.after) (All-weaker (λ ps. IsFalseCell g ps → ⊥) (BreaksIfFalse g) (λ ps n h. absurd (n h)) f.before f.none_before) (All-cons (BreaksIfFalse g) f.path f.after (λ _. breaks g f.path b f.breaks_here) f.broken_after))
+
+point_and_break : (g : Goal) (cells : List (List Taken)) (p : List Val) (b : Broken) → IsFirstPoint g cells p → IsFirstBreak g cells b → ⊥
+point_and_break g cells p b a c = point_or_break g a.path p a.false_cell a.point_of_cell (at_place (BreaksIfFalse g) a.before a.path a.after (subst (All (BreaksIfFalse g)) (sym a.whole) (all_break g cells b c)) a.false_cell)
+
+-- ---- All cells
+
+same_cells : (g : Goal) (cs ds : List (List Taken)) → IsWalked g cs → IsWalked g ds → cs ≡ ds
+same_cells g cs ds a b = cells_unique g [] cs ds a.are_cells b.are_cells
+
+proved_and_point : (g : Goal) (t : Option T.Tree) (p : List Val) → IsProved g t → IsFalsified g p → ⊥
+proved_and_point g t p a b = at_place (λ ps. IsFalseCell g ps → ⊥) b.first.before b.first.path b.first.after (subst (All (λ ps. IsFalseCell g ps → ⊥)) (sym b.first.whole) (none_false g [] a.tree b.cells a.is_tree b.walked.are_cells)) b.first.false_cell
+
+proved_and_break : (g : Goal) (t : Option T.Tree) (c : Broken) → IsProved g t → IsUndecided g c → ⊥
+proved_and_break g t c a b = at_place (λ ps. IsFalseCell g ps → ⊥) b.first.before b.first.path b.first.after (subst (All (λ ps. IsFalseCell g ps → ⊥)) (sym b.first.whole) (none_false g [] a.tree b.cells a.is_tree b.walked.are_cells)) b.first.false_cell
+
+cell_count : (g : Goal) (ps : List Taken) (cells : List (List Taken)) → IsCell g ps → AreCells g ps cells → length cells ≡ 1
+cell_count g _ _ c (AreCells.dropped ps d s) = absurd (kept_or_dropped g ps c.kept d)
+cell_count g _ _ c (AreCells.end ps e k h s) = refl
+cell_count g _ _ c (AreCells.question ps q cs ds h a b) = absurd (end_or_question g ps c.ends q c.at_end h.asks)
+
+-- where one cell more is reached, not all are walked
+cells_or_walked : (g : Goal) (all : List (List Taken)) → HasCells g 4097 → IsWalked g all → ⊥
+cells_or_walked g all h w =
+    let l = located g h.path h.before all h.are_before w.are_cells in
+    let n = cell_count g h.path l.here h.cell l.are_cells in
+    let a = ap length l.whole ∙ length-append h.before (l.here ++ l.behind) in
+    let b = length-append l.here l.behind in
+    let c = h.counted in
+    let f = w.few in
+    absurd (omega (arith, n, a, b, c, f))
+
+cells_counted : (g : Goal) (n : ℕ) → (n ≡ 4097) × HasCells g n → HasCells g 4097
+cells_counted g n h = subst (HasCells g) h.0 h.1
+
+given_alike : (t u : Tree) (s r : Option T.Tree) → AreAlike t u → IsGiven t s → IsGiven u r → GiveAlike s r
+given_alike t u (Some s) (Some r) a h k = subst (λ z. AreAlike z (tree_of r)) (sym h.0) (subst (AreAlike t) (sym k.0) a)
+given_alike t u (Some s) None a h k = let d = alike_depth t u a in let m = h.1 in absurd (omega (arith, d, m, k))
+given_alike t u None (Some r) a h k = let d = alike_depth t u a in let m = k.1 in absurd (omega (arith, d, m, h))
+given_alike t u None None a h k = tt
+
+-- ---- Decisions
+
+same_cause : (g : Goal) (c d : Cause) → IsCause g c → IsCause g d → (IsOfLimits (Unknown c) → ⊥) → (IsOfLimits (Unknown d) → ⊥) → IsSameCause c d
+same_cause g Depth d h k m n = absurd h
+same_cause g Nodes d h k m n = absurd h
+same_cause g (Rows a b) d h k m n = absurd (m tt)
+same_cause g Bits d h k m n = absurd (m tt)
+same_cause g (Nonlinear s) Depth h k m n = absurd k
+same_cause g (Nonlinear s) Nodes h k m n = absurd k
+same_cause g (Nonlinear s) (Rows a b) h k m n = absurd (n tt)
+same_cause g (Nonlinear s) Bits h k m n = absurd (n tt)
+same_cause g (Nonlinear s) (Nonlinear r) h k m n = let e = sym h ∙ k in cc
+same_cause g (Nonlinear s) (Cells a) h k m n = let e = sym h ∙ k.0 in absurd (cc)
+same_cause g (Nonlinear s) (Fraction b) h k m n = let e = sym h ∙ k.0 in absurd (cc)
+same_cause g (Cells a) Depth h k m n = absurd k
+same_cause g (Cells a) Nodes h k m n = absurd k
+same_cause g (Cells a) (Rows b c) h k m n = absurd (n tt)
+same_cause g (Cells a) Bits h k m n = absurd (n tt)
+same_cause g (Cells a) (Nonlinear r) h k m n = let e = sym k ∙ h.0 in absurd (cc)
+same_cause g (Cells a) (Cells b) h k m n = h.1.0 ∙ sym k.1.0
+same_cause g (Cells a) (Fraction b) h k m n = absurd (cells_or_walked g k.1.cells (cells_counted g a h.1) k.1.walked)
+same_cause g (Fraction b) Depth h k m n = absurd k
+same_cause g (Fraction b) Nodes h k m n = absurd k
+same_cause g (Fraction b) (Rows a c) h k m n = absurd (n tt)
+same_cause g (Fraction b) Bits h k m n = absurd (n tt)
+same_cause g (Fraction b) (Nonlinear r) h k m n = let e = sym k ∙ h.0 in absurd (cc)
+same_cause g (Fraction b) (Cells a) h k m n = absurd (cells_or_walked g h.1.cells (cells_counted g a k.1) h.1.walked)
+same_cause g (Fraction b) (Fraction c) h k m n = one_break g h.1.cells b c h.1.first (subst (λ cs. IsFirstBreak g cs c) (same_cells g k.1.cells h.1.cells k.1.walked h.1.walked) k.1.first)
+
+proved_or_cause : (g : Goal) (t : Option T.Tree) (c : Cause) → IsDecision g (Proved t) → IsCause g c → (IsOfLimits (Unknown c) → ⊥) → ⊥
+proved_or_cause g t Depth h k n = absurd k
+proved_or_cause g t Nodes h k n = absurd k
+proved_or_cause g t (Rows a b) h k n = n tt
+proved_or_cause g t Bits h k n = n tt
+proved_or_cause g t (Nonlinear r) h k n = let e = sym k ∙ h.0 in absurd (cc)
+proved_or_cause g t (Cells a) h k n = cells_or_walked g h.1.cells (cells_counted g a k.1) h.1.walked
+proved_or_cause g t (Fraction b) h k n = proved_and_break g t b h.1 k.1
+
+falsified_or_cause : (g : Goal) (p : List Val) (c : Cause) → (nonlinear_product g ≡ None) × IsFalsified g p → IsCause g c → (IsOfLimits (Unknown c) → ⊥) → ⊥
+falsified_or_cause g p Depth h k n = absurd k
+falsified_or_cause g p Nodes h k n = absurd k
+falsified_or_cause g p (Rows a b) h k n = n tt
+falsified_or_cause g p Bits h k n = n tt
+falsified_or_cause g p (Nonlinear r) h k n = let e = sym k ∙ h.0 in absurd (cc)
+falsified_or_cause g p (Cells a) h k n = cells_or_walked g h.1.cells (cells_counted g a k.1) h.1.walked
+falsified_or_cause g p (Fraction b) h k n = point_and_break g h.1.cells p b h.1.first (subst (λ cs. IsFirstBreak g cs b) (same_cells g k.1.cells h.1.cells k.1.walked h.1.walked) k.1.first)
+
+pub decisions_unique : DecisionsAreUnique
+decisions_unique g (Proved t) (Proved u) h k m n = given_alike h.1.tree k.1.tree t u (trees_alike g [] h.1.tree k.1.tree h.1.is_tree k.1.is_tree) h.1.is_given k.1.is_given
+decisions_unique g (Proved t) (Falsified q) h k m n = absurd (proved_and_point g t q.items h.1 k.1)
+decisions_unique g (Proved t) (Unknown c) h k m n = absurd (proved_or_cause g t c h k n)
+decisions_unique g (Falsified p) (Proved u) h k m n = absurd (proved_and_point g u p.items k.1 h.1)
+decisions_unique g (Falsified p) (Falsified q) h k m n = one_point g h.1.cells p.items q.items h.1.first (subst (λ cs. IsFirstPoint g cs q.items) (same_cells g k.1.cells h.1.cells k.1.walked h.1.walked) k.1.first)
+decisions_unique g (Falsified p) (Unknown c) h k m n = absurd (falsified_or_cause g p.items c h k n)
+decisions_unique g (Unknown c) (Proved u) h k m n = absurd (proved_or_cause g u c k h m)
+decisions_unique g (Unknown c) (Falsified q) h k m n = absurd (falsified_or_cause g q.items c k h m)
+decisions_unique g (Unknown c) (Unknown d) h k m n = same_cause g c d h k m n

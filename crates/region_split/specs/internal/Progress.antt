@@ -1,0 +1,146 @@
+-- How far a walk has come: the cells before its path, the trees of the branches to the left, what the cells have shown, and how
+-- much is left.
+use Rattle.std.specs.Prelude.{◌≡◌, ◌⊎◌, ℕ, ◌+◌, ◌≤◌, ◌<◌, ◌^◌, List, [], ◌∷◌, ◌++◌, length, true, false, Option, Some, None, if◌then◌else◌}
+use Rattle.std.specs.List.{All}
+use Rattle.heylo_formula.specs.Goals.{Goal}
+use Rattle.linear_form.specs.Query.{Query, Atom, Taken, onto}
+use Rattle.linear_form.specs.Query.Query.{done, bits, ask}
+use Rattle.linear_form.specs.Questions.{questions}
+use Rattle.linear_form.specs.Paths.{IsPath, end_at}
+use Rattle.linear_form.specs.PathRows.{IsPlainAt}
+use Rattle.linear_form.specs.PlainPaths.{path_of}
+use Rattle.linear_form.specs.Cells.{GoesOn}
+use Rattle.farkas_check.specs.Trees.{Tree, tree_of}
+use Rattle.farkas_check.specs.declared.trees.Tree as T
+use Rattle.region_split.specs.Walk.{IsRefutedCell, AreCells}
+use Rattle.region_split.specs.WalkTree.{IsWalkTree, depth}
+use Rattle.region_split.specs.Decisions.{IsFirstPoint, IsFirstBreak, IsGiven, IsDecision}
+use Rattle.region_split.specs.internal.Seen.{EndsWalk}
+use Rattle.region_split.specs.declared.growth.Grown.{Grown}
+use Rattle.region_split.specs.declared.found.Found.{Found}
+use Rattle.region_split.specs.declared.found.Found.TheVariants.{Nothing, Break, Point}
+use Rattle.region_split.specs.declared.cell.Cell.{Cell}
+use Rattle.region_split.specs.declared.cell.Cell.TheVariants.{Judged, Unknown}
+use Rattle.region_split.specs.declared.backing.Up.{Up}
+use Rattle.region_split.specs.declared.backing.Up.TheVariants.{Next, Whole}
+use Rattle.region_split.specs.declared.walk.Walk.{Walk}
+use Rattle.region_split.specs.declared.walk.Step.{Step}
+use Rattle.region_split.specs.declared.walk.Step.TheVariants.{On, Done}
+
+-- ---- Trees
+
+-- The tree of a branch, with its depth.
+pub record IsGrownTree (g : Goal) (ps : List Taken) (t : Grown) : Type 0 where
+  pub is_tree : IsWalkTree g ps (tree_of t.tree)
+  pub counted : depth (tree_of t.tree) ≡ t.depth
+  pub shallow : t.depth ≤ 1000
+
+-- The tree of the branch is deeper than 1,000.
+pub record IsDeep (g : Goal) (ps : List Taken) : Type 0 where
+  pub tree : Tree
+  pub is_tree : IsWalkTree g ps tree
+  pub deep : 1000 < depth tree
+
+abbrev pub IsGrown : Goal → List Taken → Option Grown → Type 0
+IsGrown g ps (Some t) = IsGrownTree g ps t
+IsGrown g ps None = IsDeep g ps
+
+-- What is handed out once all is walked.
+pub record HasWholeTree (g : Goal) (given : Option T.Tree) : Type 0 where
+  pub tree : Tree
+  pub is_tree : IsWalkTree g [] tree
+  pub is_given : IsGiven tree given
+
+-- ---- What the cells have shown
+
+-- The goal holds in a cell: plainly, or since its denial is refuted.
+abbrev pub HoldsAt : Goal → List Taken → Type 0
+HoldsAt g ps = IsPlainAt g ps ⊎ IsRefutedCell g ps
+
+abbrev pub IsFound : Goal → List (List Taken) → Found → Type 0
+IsFound g cells Nothing = All (HoldsAt g) cells
+IsFound g cells (Break b) = IsFirstBreak g cells b
+IsFound g cells (Point point) = IsFirstPoint g cells point.items
+
+-- ---- Where the walk stands
+
+-- The cells of a branch, and its tree where the goal holds in each of them.
+pub record IsBranch (g : Goal) (ps : List Taken) (cells : List (List Taken)) (tree : Option Grown) : Type 0 where
+  pub are_cells : AreCells g ps cells
+  pub grown : All (HoldsAt g) cells → IsGrown g ps tree
+
+-- A cell whose branch has this tree, and what all cells up to it have shown, where those before it have shown this.
+pub record IsJudgedCell (g : Goal) (ps : List Taken) (found next : Found) (tree : Option Grown) : Type 0 where
+  pub branch : IsBranch g ps (ps ∷ []) tree
+  pub shown : (cells : List (List Taken)) → IsFound g cells found → IsFound g (cells ++ (ps ∷ [])) next
+
+abbrev pub IsJudged : Goal → List Taken → Found → Cell → Type 0
+IsJudged g ps found (Judged next tree) = IsJudgedCell g ps found next tree
+IsJudged g ps found (Unknown cause) = (IsPlainAt g ps → ⊥) × EndsWalk g ps true cause
+
+-- The cells before a path, in order, and the trees of the branches to its left, from the start of the path on.
+pub data HasBefore (g : Goal) : List Taken → List (List Taken) → List (Option Grown) → Type 0 where
+  start : HasBefore g [] [] []
+  first : (ps : List Taken) (q : Atom) (cells : List (List Taken)) (trees : List (Option Grown)) → GoesOn g ps q → HasBefore g ps cells trees → HasBefore g (onto ps q true) cells trees
+  second : (ps : List Taken) (q : Atom) (cells here : List (List Taken)) (trees : List (Option Grown)) (tree : Option Grown) → GoesOn g ps q → HasBefore g ps cells trees → IsBranch g (onto ps q true) here tree → HasBefore g (onto ps q false) (cells ++ here) (trees ++ (tree ∷ []))
+
+-- The same once the branch of the path is finished too: all cells up to its last one.
+pub record IsAfter (g : Goal) (ps : List Taken) (trees : List (Option Grown)) (all : List (List Taken)) (tree : Option Grown) : Type 0 where
+  pub before : List (List Taken)
+  pub here : List (List Taken)
+  pub whole : before ++ here ≡ all
+  pub stands : HasBefore g ps before trees
+  pub branch : IsBranch g ps here tree
+
+-- ---- How much is left
+
+-- How many questions and results a tree has.
+abbrev pub size : {A : Type 0} → Query A → ℕ
+size (done a) = 1
+size bits = 1
+size (ask q y n) = size y + size n + 1
+
+-- How many of them lie to the right of a path.
+abbrev pub rest_of : {A : Type 0} → Query A → List Taken → ℕ
+rest_of t [] = 0
+rest_of (done a) (p ∷ ps) = 0
+rest_of bits (p ∷ ps) = 0
+rest_of (ask q y n) (p ∷ ps) = if p.held then rest_of y ps + size n else rest_of n ps
+
+-- How many a walk at a path has before it.
+abbrev pub left_of : Goal → List Taken → ℕ
+left_of g ps = rest_of (questions g) ps + size (end_at g ps)
+
+-- ---- Steps
+
+-- A walk goes on behind a branch: all its cells are before the new path.
+pub record IsNextFront (g : Goal) (ps : List Taken) (all : List (List Taken)) (path : List Taken) (trees : List (Option Grown)) : Type 0 where
+  pub stands : HasBefore g path all trees
+  pub less : left_of g path < left_of g ps
+
+abbrev pub IsUp : Goal → List Taken → List (List Taken) → Up → Type 0
+IsUp g ps all (Next path trees) = IsNextFront g ps all (path_of path.items) trees.items
+IsUp g ps all (Whole tree) = IsBranch g [] all tree
+
+-- The paths of the goal are so short that their rows can be counted.
+abbrev pub AreShort : Goal → Type 0
+AreShort g = (ps : List Taken) → IsPath g ps → length ps + 1 + length g.types < 2 ^ 32
+
+pub record IsWalk (g : Goal) (w : Walk) : Type 0 where
+  pub before : List (List Taken)
+  pub stands : HasBefore g (path_of w.path.items) before w.trees.items
+  pub found : IsFound g before w.found
+  pub counted : length before ≡ w.count
+  pub few : w.count ≤ 4096
+
+-- A walk whose last branch is finished, with the branch's tree.
+pub record IsFinishedWalk (g : Goal) (w : Walk) (tree : Option Grown) : Type 0 where
+  pub all : List (List Taken)
+  pub after : IsAfter g (path_of w.path.items) w.trees.items all tree
+  pub found : IsFound g all w.found
+  pub counted : length all ≡ w.count
+  pub few : w.count ≤ 4096
+
+abbrev pub IsStep : Goal → List Taken → Step → Type 0
+IsStep g ps (On w) = IsWalk g w × (left_of g (path_of w.path.items) < left_of g ps)
+IsStep g ps (Done d) = IsDecision g d

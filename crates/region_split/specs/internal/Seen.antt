@@ -1,0 +1,72 @@
+-- What the program finds at a path of the walk.
+use Rattle.std.specs.Prelude.{◌≡◌, ◌↔◌, ℕ, ◌<◌, List, length, Bool, true, false, Some, None, IsTrue}
+use Rattle.heylo_formula.specs.Goals.{Goal}
+use Rattle.heylo_formula.specs.declared.values.Val.{Val}
+use Rattle.linear_form.specs.Query.{Query, Taken}
+use Rattle.linear_form.specs.Questions.{Ends}
+use Rattle.linear_form.specs.Paths.{end_at}
+use Rattle.linear_form.specs.PathRows.{rows_of, IsPlainAt}
+use Rattle.linear_form.specs.PlainPaths.{atom_of}
+use Rattle.linear_form.specs.Nonlinear.{nonlinear_product}
+use Rattle.linear_form.specs.Row.{Row}
+use Rattle.linear_form.specs.Solutions.{IsSolvable}
+use Rattle.linear_form.specs.GreedyPoint.{IsGreedyPoint}
+use Rattle.linear_form.specs.Cells.{IsDropped, IsKept, GoesOn, IsCell}
+use Rattle.linear_elim.specs.Answers.{IsBreak}
+use Rattle.linear_elim.specs.declared.answers.Broken.{Broken}
+use Rattle.linear_elim.specs.declared.answers.Cause.{Cause}
+use Rattle.farkas_check.specs.Accepted.{IsRefutedWith, IsRefuted}
+use Rattle.region_split.specs.Walk.{IsReached}
+use Rattle.region_split.specs.Decisions.{IsCause}
+use Rattle.region_split.specs.declared.solving.Solved.{Solved}
+use Rattle.region_split.specs.declared.solving.Solved.TheVariants.{Refuted, Point, Break}
+use Rattle.region_split.specs.declared.solving.Solved.TheVariants as S
+use Rattle.region_split.specs.declared.front.Front.{Front}
+use Rattle.region_split.specs.declared.front.Front.TheVariants.{Dropped, Question, End, Unknown}
+
+-- The rows of the path are solvable, and this is their greedy point.
+pub record IsPointAt (g : Goal) (ps : List Taken) (denied : Bool) (point : List Val) : Type 0 where
+  pub rows : List Row
+  pub are_rows : rows_of g ps denied ≡ Some rows
+  pub solvable : IsSolvable rows
+  pub greedy : IsGreedyPoint rows g.types point
+
+-- The rows of the path are solvable, and their greedy choice breaks, as told.
+pub record IsBreakAt (g : Goal) (ps : List Taken) (denied : Bool) (b : Broken) : Type 0 where
+  pub rows : List Row
+  pub are_rows : rows_of g ps denied ≡ Some rows
+  pub broken : IsBreak rows g.types b
+
+-- Where the walk may look at these rows of a front, with these cells before it: at those with the denied goal only at one of the
+-- first 4,096 cells, if it isn't plain.
+abbrev pub MayLook : Goal → List Taken → Bool → List (List Taken) → Type 0
+MayLook g ps false cells = Unit {0}
+MayLook g ps true cells = (length cells < 4096) × (IsCell g ps × (IsPlainAt g ps → ⊥))
+
+-- The cause ends the walk, where it reaches the path and looks at these rows.
+abbrev pub EndsWalk : Goal → List Taken → Bool → Cause → Type 0
+EndsWalk g ps denied cause = (cells : List (List Taken)) → IsReached g ps cells → MayLook g ps denied cells → nonlinear_product g ≡ None → IsCause g cause
+
+abbrev pub IsSolved : Goal → List Taken → Bool → Solved → Type 0
+IsSolved g ps denied (Refuted ms) = IsRefutedWith g ps denied ms.items
+IsSolved g ps denied (Point point) = IsPointAt g ps denied point.items
+IsSolved g ps denied (Break b) = IsBreakAt g ps denied b
+IsSolved g ps denied (S.Unknown cause) = EndsWalk g ps denied cause
+
+-- The path is dropped, and a certificate takes these multipliers there.
+pub record IsDroppedBy (g : Goal) (ps : List Taken) (ms : List (ℕ × ℕ)) : Type 0 where
+  pub dropped : IsDropped g ps
+  pub refuted : IsRefuted g ps ms
+
+-- The path is kept, and no question is left there; the flag tells whether the goal holds plainly.
+pub record IsEnd (g : Goal) (ps : List Taken) (plain : Bool) : Type 0 where
+  pub kept : IsKept g ps
+  pub ends : Ends
+  pub at_end : end_at g ps ≡ Query.done ends
+  pub holds_plainly : IsTrue plain ↔ IsPlainAt g ps
+
+abbrev pub IsSeen : Goal → List Taken → Front → Type 0
+IsSeen g ps (Dropped ms) = IsDroppedBy g ps ms.items
+IsSeen g ps (Question q) = GoesOn g ps (atom_of q)
+IsSeen g ps (End plain) = IsEnd g ps plain
+IsSeen g ps (Unknown cause) = EndsWalk g ps false cause
