@@ -22,7 +22,7 @@ mod stops;
 #[cfg(test)]
 mod tests;
 mod tokens;
-mod trees;
+mod tree_laws;
 mod types;
 
 pub use expressions::Expr;
@@ -43,5 +43,5 @@ pub use spans::Span;
 pub use statements::{Arm, CheckKind, Right, Rule, Stmt};
 pub use stops::LexStop;
 pub use tokens::{Token, TokenKind};
-pub use trees::{expressions_are_few, expressions_are_plain, statements_are_plain};
+pub use tree_laws::{expressions_are_few, expressions_are_plain, statements_are_plain};
 pub use types::TypeName;

@@ -19,7 +19,7 @@ use Rattle.heyvl_tool.specs.Words.{AskFor, file_of}
 use Rattle.heyvl_tool.specs.declared.requests.Settings.TheVariants.{Verify}
 use Rattle.heyvl_tool.specs.declared.requests.Settings.{Settings}
 use Rattle.heyvl_tool.proofs.CallLemmas.{same_settings}
-use Rattle.heyvl_syntax.proofs.Unique.{lexes_unique}
+use Rattle.heyvl_syntax.proofs.exported.Unique.{lexes_unique}
 use Rattle.heyvl_tool.proofs.FileReading.{is_unique}
 
 -- Bytes are at most one procedure.
