@@ -1,3 +1,4 @@
+pub mod Climbing
 pub mod ChainLoop
 pub mod ClauseLoop
 pub mod Complete
