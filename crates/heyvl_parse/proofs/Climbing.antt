@@ -120,7 +120,7 @@ pub climb_on : (P : Read Expression → Type 0) (low high : ℕ) (op : BinaryOp)
 climb_on P low high op left right s ts behind rest inside shorter less read holds =
     let at = stands low high ts op s behind inside in
     climb_to P ((ranks op).rank - low) (suc high - low) (suc (high - (ranks op).rank)) low (ranks op).rank left ts (omega (arith, at.above, at.below)) (omega (arith, at.above)) at.before
-        (one_more P (high - (ranks op).rank) op left right s ts behind rest at.here shorter less read (repeats op) refl (pick (repeats op) holds))
+    (one_more P (high - (ranks op).rank) op left right s ts behind rest at.here shorter less read (repeats op) refl (pick (repeats op) holds))
   where
     below : (ranks op).rank ≤ high
     below = (stands low high ts op s behind inside).below
@@ -138,7 +138,7 @@ pub climb_stops : (e : PartStop) (low high : ℕ) (op : BinaryOp) (left : Expres
 climb_stops e low high op left s ts behind inside shorter read =
     let at = stands low high ts op s behind inside in
     climb_to (Fails e) ((ranks op).rank - low) (suc high - low) (suc (high - (ranks op).rank)) low (ranks op).rank left ts (omega (arith, at.above, at.below)) (omega (arith, at.above)) at.before
-        (λ m k a b. rw at.here (fails_first e _ _ (fails_first e _ _ (read m (omega arith)))))
+    (λ m k a b. rw at.here (fails_first e _ _ (fails_first e _ _ (read m (omega arith)))))
 
 -- No further operator stands at the front.
 pub climb_ends : (P : Read Expression → Type 0) (low high : ℕ) (left : Expression) (ts : List Token) → operator_within low high ts ≡ None → low ≤ suc high → P (Got left ts) → Holds P (suc high - low) low left ts

@@ -7,9 +7,9 @@ ghost use Rattle.heyvl_syntax.specs.declared.tokens.Token.{Token};
 ghost use Rattle.heyvl_syntax.specs.Expressions.{Expression, expression};
 ghost use Rattle.std.specs.Prelude.{IfErr, IfOk, List, MatchResult, length, ◌<◌, ◌≡◌, ◌≤◌, ◌+◌, ℕ};
 
-use crate::PartStop;
 use crate::operators::{next_level, operator_within, ranks};
 use crate::starts::{Start, key_start, mark_start, quantifier_at};
+use crate::stops::PartStop;
 use crate::tokens::{expect, next, type_name, word};
 use heyvl_syntax::{BinaryOp, Expr, Mark, Span, Token, TokenKind, UnaryOp};
 use std::alloc::{AllocError, Global};
@@ -221,9 +221,10 @@ fn choice(alloc: Global, place: Span, tokens: &[Token]) -> Result<(Expr, &[Token
     Ok((Expr::Choice(test, yes, other, reach(place, close.to)), rest))
 }
 
-/// The expression at the front, as far as it goes, and the tokens behind it. A fault is told by how many tokens are left
+/// The expression at the front and the tokens behind it, for tests. It has no limit of its own. A fault is told by how many tokens are left
 /// from it on; `Memory` comes where there is no memory for the tree.
-pub fn read_expr(alloc: Global, tokens: &[Token]) -> Result<(Expr, &[Token]), PartStop>
+#[cfg(test)]
+pub(crate) fn read_expr(alloc: Global, tokens: &[Token]) -> Result<(Expr, &[Token]), PartStop>
     // The tokens before the rest spell the tree.
     ensures found { IfOk result (λ x. IsRead tokens.now (expression x.0) x.1.now) }
     // What is spelled before a rest that doesn't go on with it is read, unless memory runs out.

@@ -1,6 +1,7 @@
 //! Texts with the trees that they spell and the tokens behind them, or the indexes at which they are refused, all by hand.
 
-use crate::{PartStop, read_expr};
+use crate::expressions::read_expr;
+use crate::stops::PartStop;
 use heyvl_syntax::{BinaryOp, Expr, LexStop, Lit, Name, Span, Token, TypeName, UnaryOp, lex};
 use std::alloc::{AllocError, Global};
 use std::process::Abort;

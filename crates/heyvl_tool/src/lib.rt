@@ -12,7 +12,7 @@ mod numbering;
 mod outcomes;
 #[cfg(test)]
 mod print_tests;
-mod printing;
+mod print_laws;
 mod reading;
 #[cfg(test)]
 mod refusal_tests;
@@ -29,7 +29,7 @@ pub use commands::settings;
 pub use deciding::decide;
 pub use first_form::{Constant, FirstForm, Stmt, first_form_is_source};
 pub use outcomes::{Fault, Outcome};
-pub use printing::{printed_text_prints_itself, spelling_is_unique};
+pub use print_laws::{printed_text_prints_itself, spelling_is_unique};
 pub use reading::{first_form_is_unique, read_first_form};
 pub use reporting::report;
 pub use requests::{Settings, SettingsStop};

@@ -29,27 +29,27 @@ climbed-operators-preserved t c = record {
   shorter = omega (arith, c.operators.invariant.shorter, c.in-Some.ensures.shorter, c.in_ok-right.ensures.shorter);
   level = rw c.next_level-level.ensures (next_within c.operators.level c.args.rank c.in-Some.op c.in-Some.place c.operators.rest.now c.in-Some.behind.now c.in-Some.ensures.value);
   leads = λ result holds. c.operators.invariant.leads result (climb_on (λ r. Gives (λ x. expression x.0) (λ x. x.1.now) result r)
-    c.operators.level c.args.rank c.in-Some.op (expression c.operators.left) (expression c.in_ok-right.right) c.in-Some.place
-    c.operators.rest.now c.in-Some.behind.now c.in_ok-right.behind.now c.in-Some.ensures.value c.in-Some.ensures.shorter c.in_ok-right.ensures.shorter
-    (λ m h. rw (← c.ranks.ensures.right) (c.in_ok-right.ensures.value m h))
-    (rw (c.next_level-level.ensures, c.in_ok-left.ensures) at holds));
+      c.operators.level c.args.rank c.in-Some.op (expression c.operators.left) (expression c.in_ok-right.right) c.in-Some.place
+      c.operators.rest.now c.in-Some.behind.now c.in_ok-right.behind.now c.in-Some.ensures.value c.in-Some.ensures.shorter c.in_ok-right.ensures.shorter
+      (λ m h. rw (← c.ranks.ensures.right) (c.in_ok-right.ensures.value m h))
+      (rw (c.next_level-level.ensures, c.in_ok-left.ensures) at holds));
 }
 
 pub climbed-returns-in_err-right-clause-value : goal.climbed-returns-in_err-right-clause-value
 climbed-returns-in_err-right-clause-value t c = λ n m a b.
     rw (passed _ _ c.from_residual.ensures)
     (c.operators.invariant.leads (Err c.in_err-right.field-0.0)
-        (climb_stops c.in_err-right.field-0.0 c.operators.level c.args.rank c.in-Some.op (expression c.operators.left) c.in-Some.place
-            c.operators.rest.now c.in-Some.behind.now c.in-Some.ensures.value c.in-Some.ensures.shorter
-            (λ k h. rw (← c.ranks.ensures.right) (c.in_err-right.ensures.value k h)))
-        n m a b)
+    (climb_stops c.in_err-right.field-0.0 c.operators.level c.args.rank c.in-Some.op (expression c.operators.left) c.in-Some.place
+    c.operators.rest.now c.in-Some.behind.now c.in-Some.ensures.value c.in-Some.ensures.shorter
+    (λ k h. rw (← c.ranks.ensures.right) (c.in_err-right.ensures.value k h)))
+    n m a b)
 
 pub climbed-returns-clause-value : goal.climbed-returns-clause-value
 climbed-returns-clause-value t c = λ n m a b.
     c.operators.invariant.leads (Ok (c.operators.left, c.operators.rest))
-        (climb_ends (λ r. Gives (λ (x : Expr × Bor (List Token)). expression x.0) (λ x. x.1.now) (Ok (c.operators.left, c.operators.rest)) r)
-            c.operators.level c.args.rank (expression c.operators.left) c.operators.rest.now c.in_default.ensures.value c.operators.invariant.level refl)
-        n m a b
+    (climb_ends (λ r. Gives (λ (x : Expr × Bor (List Token)). expression x.0) (λ x. x.1.now) (Ok (c.operators.left, c.operators.rest)) r)
+    c.operators.level c.args.rank (expression c.operators.left) c.operators.rest.now c.in_default.ensures.value c.operators.invariant.level refl)
+    n m a b
 
 pub operand-returns-in-Key-clause-value : goal.operand-returns-in-Key-clause-value
 operand-returns-in-Key-clause-value t c = by_fuel _ _ (λ m h.
