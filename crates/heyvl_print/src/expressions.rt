@@ -23,28 +23,28 @@ pub(crate) fn print_expression(text: &mut Vec<u8>, printed: &Expr) -> Result<(),
         Expr::Group(inner, _) => {
             write(text, b"(")?;
             print_expression(text, inner)?;
-            write(text, b")")
+            Ok(write(text, b")")?)
         }
         Expr::Bracket(inner, _) => {
             write(text, b"[")?;
             print_expression(text, inner)?;
-            write(text, b"]")
+            Ok(write(text, b"]")?)
         }
         Expr::Embed(inner, _) => {
             write(text, b"?(")?;
             print_expression(text, inner)?;
-            write(text, b")")
+            Ok(write(text, b")")?)
         }
         Expr::Unary(op, inner, _) => {
             write(text, prefix_text(*op))?;
-            print_expression(text, inner)
+            Ok(print_expression(text, inner)?)
         }
         Expr::Binary(op, left, right, _) => {
             print_expression(text, left)?;
             write(text, b" ")?;
             write(text, operator_text(*op))?;
             write(text, b" ")?;
-            print_expression(text, right)
+            Ok(print_expression(text, right)?)
         }
         Expr::Choice(test, left, right, _) => {
             write(text, b"ite(")?;
@@ -53,7 +53,7 @@ pub(crate) fn print_expression(text: &mut Vec<u8>, printed: &Expr) -> Result<(),
             print_expression(text, left)?;
             write(text, b", ")?;
             print_expression(text, right)?;
-            write(text, b")")
+            Ok(write(text, b")")?)
         }
         Expr::Bound(up, name, ty, inner, _) => {
             write(text, quantifier_text(*up))?;
@@ -62,7 +62,7 @@ pub(crate) fn print_expression(text: &mut Vec<u8>, printed: &Expr) -> Result<(),
             write(text, b": ")?;
             write(text, type_text(*ty))?;
             write(text, b". ")?;
-            print_expression(text, inner)
+            Ok(print_expression(text, inner)?)
         }
     }
 }

@@ -34,7 +34,7 @@ fn print_weighted(text: &mut Vec<u8>, weight: &Expr, value: &Expr) -> Result<(),
 {
     print_expression(text, weight)?;
     write(text, b": ")?;
-    print_expression(text, value)
+    Ok(print_expression(text, value)?)
 }
 
 /// Puts the parts of a choose behind the text, with commas between.
@@ -59,7 +59,7 @@ fn print_call(text: &mut Vec<u8>, name: &Name, arguments: &[Expr]) -> Result<(),
     write(text, name.as_bytes())?;
     write(text, b"(")?;
     print_expressions(text, arguments)?;
-    write(text, b")")
+    Ok(write(text, b")")?)
 }
 
 /// Puts what a variable is given behind the text.
@@ -71,19 +71,19 @@ fn print_right(text: &mut Vec<u8>, right: &Right) -> Result<(), AllocError>
         Right::Flip(probability) => {
             write(text, b"flip(")?;
             print_expression(text, probability)?;
-            write(text, b")")
+            Ok(write(text, b")")?)
         }
         Right::Unif(low, high) => {
             write(text, b"unif(")?;
             print_expression(text, low)?;
             write(text, b", ")?;
             print_expression(text, high)?;
-            write(text, b")")
+            Ok(write(text, b")")?)
         }
         Right::Choose(parts) => {
             write(text, b"choose { ")?;
             print_parts(text, parts)?;
-            write(text, b" }")
+            Ok(write(text, b" }")?)
         }
         Right::Call(name, arguments) => Ok(print_call(text, name, arguments)?),
     }
@@ -97,7 +97,7 @@ fn print_given(text: &mut Vec<u8>, given: &Option<Right>) -> Result<(), AllocErr
         None => Ok(()),
         Some(right) => {
             write(text, b" = ")?;
-            print_right(text, right)
+            Ok(print_right(text, right)?)
         }
     }
 }
@@ -110,7 +110,7 @@ fn print_targets(text: &mut Vec<u8>, targets: &[Name]) -> Result<(), AllocError>
         return Ok(());
     }
     print_names(text, targets)?;
-    write(text, b" = ")
+    Ok(write(text, b" = ")?)
 }
 
 /// Puts the rule behind the text.
@@ -121,21 +121,21 @@ fn print_rule(text: &mut Vec<u8>, rule: &Rule) -> Result<(), AllocError>
         Rule::Invariant(invariant, _) => {
             write(text, b"@invariant(")?;
             print_expression(text, invariant)?;
-            write(text, b")")
+            Ok(write(text, b")")?)
         }
         Rule::KInduction(k, invariant, _) => {
             write(text, b"@k_induction(")?;
             print_expression(text, k)?;
             write(text, b", ")?;
             print_expression(text, invariant)?;
-            write(text, b")")
+            Ok(write(text, b")")?)
         }
         Rule::Ranking(step, ranking, _) => {
             write(text, b"@ranking(")?;
             print_expression(text, step)?;
             write(text, b", ")?;
             print_expression(text, ranking)?;
-            write(text, b")")
+            Ok(write(text, b")")?)
         }
     }
 }
@@ -172,7 +172,7 @@ pub(crate) fn print_var(
     write(text, b": ")?;
     write(text, type_text(ty))?;
     print_given(text, given)?;
-    write(text, b"\n")
+    Ok(write(text, b"\n")?)
 }
 
 /// Puts `x, y = r`, or a call alone, on a line behind the margin.
@@ -187,7 +187,7 @@ pub(crate) fn print_assign(
     write_repeated(text, b' ', margin)?;
     print_targets(text, targets)?;
     print_right(text, right)?;
-    write(text, b"\n")
+    Ok(write(text, b"\n")?)
 }
 
 /// Puts `havoc x, y` or `cohavoc x, y` on a line behind the margin.
@@ -203,7 +203,7 @@ pub(crate) fn print_havoc(
     write(text, havoc_text(co))?;
     write(text, b" ")?;
     print_names(text, names)?;
-    write(text, b"\n")
+    Ok(write(text, b"\n")?)
 }
 
 /// Puts a word alone on a line behind the margin.
@@ -216,7 +216,7 @@ pub(crate) fn print_word(
 {
     write_repeated(text, b' ', margin)?;
     write(text, keyword)?;
-    write(text, b"\n")
+    Ok(write(text, b"\n")?)
 }
 
 /// Puts a word and an expression on a line behind the margin.
@@ -232,5 +232,5 @@ pub(crate) fn print_claim(
     write(text, keyword)?;
     write(text, b" ")?;
     print_expression(text, claim)?;
-    write(text, b"\n")
+    Ok(write(text, b"\n")?)
 }

@@ -16,15 +16,15 @@ pub(crate) fn print_number(text: &mut Vec<u8>, number: Lit) -> Result<(), AllocE
     let digits = buffer.format(number.digits.unsigned_abs()).as_bytes();
     let places = usize::from(number.places);
     if places == 0 {
-        write(text, digits)
+        Ok(write(text, digits)?)
     } else if places < digits.len() {
         let (whole, fraction) = digits.split_at(digits.len() - places);
         write(text, whole)?;
         write(text, b".")?;
-        write(text, fraction)
+        Ok(write(text, fraction)?)
     } else {
         write(text, b"0.")?;
         write_repeated(text, b'0', places - digits.len())?;
-        write(text, digits)
+        Ok(write(text, digits)?)
     }
 }

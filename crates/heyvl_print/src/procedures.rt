@@ -22,7 +22,7 @@ fn print_note(text: &mut Vec<u8>, note: Option<Note>) -> Result<(), AllocError>
         Some(note) => {
             write(text, b"@")?;
             write(text, note_text(note))?;
-            write(text, b"\n")
+            Ok(write(text, b"\n")?)
         }
     }
 }
@@ -33,7 +33,7 @@ fn print_param(text: &mut Vec<u8>, param: &Param) -> Result<(), AllocError>
 {
     write(text, param.name.as_bytes())?;
     write(text, b": ")?;
-    write(text, type_text(param.ty))
+    Ok(write(text, type_text(param.ty))?)
 }
 
 /// Puts the parameters behind the text, with commas between.
@@ -62,7 +62,7 @@ fn print_head(text: &mut Vec<u8>, printed: &Proc) -> Result<(), AllocError>
     print_params(text, &printed.inputs)?;
     write(text, b") -> (")?;
     print_params(text, &printed.outputs)?;
-    write(text, b")\n")
+    Ok(write(text, b")\n")?)
 }
 
 /// Puts the pre clauses behind the text, each on a line.
@@ -94,7 +94,7 @@ fn print_body(text: &mut Vec<u8>, body: &Option<Vec<Stmt>>) -> Result<(), AllocE
         Some(statements) => {
             write(text, b"{\n")?;
             print_block(text, 2, statements)?;
-            write(text, b"}\n")
+            Ok(write(text, b"}\n")?)
         }
     }
 }
@@ -107,7 +107,7 @@ fn print_procedure(text: &mut Vec<u8>, printed: &Proc) -> Result<(), AllocError>
     print_head(text, printed)?;
     print_pres(text, &printed.pres)?;
     print_posts(text, &printed.posts)?;
-    print_body(text, &printed.body)
+    Ok(print_body(text, &printed.body)?)
 }
 
 /// Puts the lines of the procedures behind the text, with an empty line between.

@@ -30,7 +30,7 @@ fn print_braced(text: &mut Vec<u8>, margin: usize, statements: &[Stmt]) -> Resul
     let inner = deeper(margin)?;
     print_block(text, inner, statements)?;
     write_repeated(text, b' ', margin)?;
-    write(text, b"}")
+    Ok(write(text, b"}")?)
 }
 
 /// Puts ` else {`, the lines of the block and `}` behind the text.
@@ -39,7 +39,7 @@ fn print_else(text: &mut Vec<u8>, margin: usize, statements: &[Stmt]) -> Result<
     ensures { OnOk result (text.new.items ≡ text.old.items ++ text_of (else_pieces margin (block_lines (margin + 2) (block statements.now)))) }
 {
     write(text, b" else")?;
-    print_braced(text, margin, statements)
+    Ok(print_braced(text, margin, statements)?)
 }
 
 /// Puts `if a {`, the lines of the block and `}` behind the text.
@@ -49,7 +49,7 @@ fn print_arm(text: &mut Vec<u8>, margin: usize, arm: &Arm) -> Result<(), AllocEr
 {
     write(text, b"if ")?;
     print_expression(text, &arm.guard)?;
-    print_braced(text, margin, &arm.body)
+    Ok(print_braced(text, margin, &arm.body)?)
 }
 
 /// Puts `if a { .. }` behind the text, and ` else if b { .. }` for each further arm.
@@ -84,7 +84,7 @@ fn print_statement(text: &mut Vec<u8>, margin: usize, printed: &Stmt) -> Result<
             write_repeated(text, b' ', margin)?;
             print_arms(text, margin, all)?;
             print_else(text, margin, other)?;
-            write(text, b"\n")
+            Ok(write(text, b"\n")?)
         }
         Stmt::Pick(up, left, right, _) => {
             write_repeated(text, b' ', margin)?;
@@ -92,7 +92,7 @@ fn print_statement(text: &mut Vec<u8>, margin: usize, printed: &Stmt) -> Result<
             write(text, pick_text(*up))?;
             print_braced(text, margin, left)?;
             print_else(text, margin, right)?;
-            write(text, b"\n")
+            Ok(write(text, b"\n")?)
         }
         Stmt::While(rules, guard, body, _) => {
             print_rules(text, margin, rules)?;
@@ -100,7 +100,7 @@ fn print_statement(text: &mut Vec<u8>, margin: usize, printed: &Stmt) -> Result<
             write(text, b"while ")?;
             print_expression(text, guard)?;
             print_braced(text, margin, body)?;
-            write(text, b"\n")
+            Ok(write(text, b"\n")?)
         }
     }
 }

@@ -58,11 +58,11 @@ verified_from file made done outcome reply (by_bytes other asked read held taken
     let same : other ≡ Verify file = same_settings made.words other (Verify file) asked asks in
     let said_here : IsReplyTo (Verify file) read reply = subst (λ (s : Settings). IsReplyTo s read reply) same said in
     record {
-        bytes = read;
-        held = subst (λ (s : Settings). IfSome (made.holds (file_of s)) (λ h. read ≡ h)) same held;
-        taken = taken;
-        reply = reply;
-        said = said_here;
-        is_delivered = delivered;
-        headline = headline_of_bytes file read reply outcome.answers.items said_here delivered.answers;
+      bytes = read;
+      held = subst (λ (s : Settings). IfSome (made.holds (file_of s)) (λ h. read ≡ h)) same held;
+      taken = taken;
+      reply = reply;
+      said = said_here;
+      is_delivered = delivered;
+      headline = headline_of_bytes file read reply outcome.answers.items said_here delivered.answers;
     }

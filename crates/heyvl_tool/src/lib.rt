@@ -10,9 +10,9 @@ mod faults;
 mod first_form;
 mod numbering;
 mod outcomes;
+mod print_laws;
 #[cfg(test)]
 mod print_tests;
-mod print_laws;
 mod reading;
 #[cfg(test)]
 mod refusal_tests;
