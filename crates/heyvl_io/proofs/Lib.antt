@@ -1,3 +1,4 @@
-pub mod Examples
-pub mod Held
-pub mod Told
+mod Examples
+mod Held
+mod Told
+mod Starting

@@ -5,7 +5,7 @@ use Rattle.heyvl_parse.proofs.Refusals.{reads}
 use Rattle.heyvl_parse.proofs.Right.{Holds, Pair, Right, RightAt, Some_text, is_mark_true, nowhere, right_as, right_bind, right_map, right_one, right_pair, right_reading, some_expr}
 use Rattle.heyvl_parse.specs.Combinators.{cons, each, each_if, either, is_operator, is_there, kind, lead, list, list0, list_if, no_kind, optional, refuse, sign, some_if, spanned, starts, taken, trail, with_front}
 use Rattle.heyvl_parse.specs.Reading.{Bad, Got, Out, Read, Whole, is_mark, mapped, one, operator_at, operator_of, pair, placed, ranked, reading, ◌>>=◌}
-use Rattle.heyvl_syntax.proofs.Sequences.{then_assoc}
+use Rattle.heyvl_syntax.proofs.exported.Sequences.{then_assoc}
 use Rattle.heyvl_syntax.specs.Grammar.{IsFull}
 use Rattle.heyvl_syntax.specs.Productions.{IsAt, IsEach, IsList, IsList0, IsMark, IsMore, IsNothing, IsOne, IsOptional, at, extent, ◌then◌}
 use Rattle.heyvl_syntax.specs.declared.marks.Mark.TheVariants as marks

@@ -1,15 +1,16 @@
-pub mod ChainLoop
-pub mod ClauseLoop
-pub mod Complete
-pub mod EachLoop
-pub mod Ends
-pub mod FileLaws
-pub mod Fuel
-pub mod Lawful
-pub mod Local
-pub mod ParseClauses
-pub mod ProcedureLaws
-pub mod Refusals
-pub mod Right
-pub mod RightLaws
-pub mod StatementLaws
+mod Climbing
+mod ChainLoop
+mod ClauseLoop
+mod Complete
+mod EachLoop
+mod Ends
+mod FileLaws
+mod Fuel
+mod Lawful
+mod Local
+mod ParseClauses
+mod ProcedureLaws
+mod Refusals
+mod Right
+mod RightLaws
+mod StatementLaws

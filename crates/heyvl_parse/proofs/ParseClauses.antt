@@ -2,8 +2,8 @@
 use Rattle.heyvl_parse.specs.Files.{FileIsUnique, IsParseMemory, IsParseStop, IsThisParseStop}
 use Rattle.heyvl_parse.specs.declared.parsing.ParseStop.TheVariants.{Fault, Memory}
 use Rattle.heyvl_parse.specs.declared.parsing.ParseStop.{ParseStop}
-use Rattle.heyvl_syntax.proofs.FewNodes.{few_nodes}
-use Rattle.heyvl_syntax.proofs.OneFault.{no_token_fault, token_faults_unique}
+use Rattle.heyvl_syntax.proofs.exported.FewNodes.{few_nodes}
+use Rattle.heyvl_syntax.proofs.exported.OneFault.{no_token_fault, token_faults_unique}
 use Rattle.heyvl_syntax.specs.Grammar.{IsFile}
 use Rattle.heyvl_syntax.specs.Procedures.{Procedure, procedures}
 use Rattle.heyvl_syntax.specs.Sizes.{expression_nodes}

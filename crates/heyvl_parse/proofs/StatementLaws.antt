@@ -12,7 +12,7 @@ use Rattle.heyvl_parse.specs.declared.loops.RuleStart.TheVariants as rule_starts
 use Rattle.heyvl_parse.specs.declared.loops.RuleStart.{RuleStart}
 use Rattle.heyvl_parse.specs.declared.statements.Opening.TheVariants as openings
 use Rattle.heyvl_parse.specs.declared.statements.Opening.{Opening}
-use Rattle.heyvl_syntax.proofs.Sequences.{then_assoc, then_map}
+use Rattle.heyvl_syntax.proofs.exported.Sequences.{then_assoc, then_map}
 use Rattle.heyvl_syntax.specs.Expressions.{Expression}
 use Rattle.heyvl_syntax.specs.Grammar.{IsAssign, IsBlock, IsBraced, IsElse, IsElseIfs, IsFull, IsGiven, IsIf, IsRight, IsRule, IsStmt, IsStmts, IsType, check_key, havoc_key, pick_key, validate_key}
 use Rattle.heyvl_syntax.specs.Productions.{AreSemis, IsEach, IsKey, IsList, IsMark, IsMore, IsName, IsNothing, IsOne, IsOptional, at, extent, ◌or◌, ◌then◌}

@@ -20,7 +20,7 @@ use Rattle.heyvl_syntax.specs.declared.tokens.TokenKind.TheVariants as kinds
 use Rattle.heyvl_syntax.specs.declared.tokens.TokenKind.{TokenKind}
 use Rattle.heyvl_syntax.specs.declared.types.TypeName.TheVariants as types
 use Rattle.heyvl_syntax.specs.declared.types.TypeName.{TypeName}
-use Rattle.std.specs.Prelude.{Bool, List, None, Option, Some, [], cond, false, nat_eq, true, ◌∷◌, ℕ}
+use Rattle.std.specs.Prelude.{Bool, List, None, Option, Some, [], cond, false, nat_eq, nat_le, true, ◌&&◌, ◌∷◌, ℕ}
 use denote.Enum.Bare.{sameb}
 
 -- Something was read, and these tokens stand behind it; or these tokens are left from the fault on; or the fuel ran out.
@@ -140,6 +140,19 @@ placed s ts (Some x) = Some (x, s, ts)
 abbrev pub operator_at : ℕ → List Token → Option (BinaryOp × Span × List Token)
 operator_at k [] = None
 operator_at k (t ∷ ts) = placed t.span ts (ranked k (operator_of t.kind))
+
+abbrev pub within : ℕ → ℕ → Option BinaryOp → Option BinaryOp
+within low high None = None
+within low high (Some op) = cond (nat_le low (ranks op).rank && nat_le (ranks op).rank high) (Some op) None
+
+-- The operator of a rank from low to high at the front with its place, and the tokens behind it.
+abbrev pub operator_within : ℕ → ℕ → List Token → Option (BinaryOp × Span × List Token)
+operator_within low high [] = None
+operator_within low high (t ∷ ts) = placed t.span ts (within low high (operator_of t.kind))
+
+-- The least rank of an operator that may stand behind the right operand of this one.
+abbrev pub next_level : BinaryOp → ℕ
+next_level op = cond (repeats op) (ranks op).rank (suc (ranks op).rank)
 
 abbrev pub key_quantifier : Key → Option Bool
 key_quantifier keys.Sup = Some true
@@ -265,6 +278,12 @@ after self k left ts (Some (op, s, r)) =
 
 abbrev pub more : Reader → ℕ → Expression → List Token → Read Expression
 more self k left ts = after self k left ts (operator_at k ts)
+
+-- What follows an operand: operators of n ranks from low on, each rank behind those below it. The first rank is read by one
+-- reader, and the others by another.
+abbrev pub climbed : Reader → Reader → ℕ → ℕ → Expression → List Token → Read Expression
+climbed one others zero low left ts = Got left ts
+climbed one others (suc n) low left ts = more one low left ts >>= climbed others others n (suc low)
 
 -- An expression of at most a rank, without quantifiers in front.
 abbrev pub full : Reader → ℕ → List Token → Read Expression

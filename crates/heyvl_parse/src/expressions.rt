@@ -1,18 +1,18 @@
 //! The parser of expressions.
 
 ghost use Rattle.heyvl_parse.specs.Parts.{IsMemory, IsPartStop, IsRead, NoOperator};
-ghost use Rattle.heyvl_parse.specs.Reading.{Full, More, Whole, bound, choice, enclosed, end_of, operand, prefixed, reach, reading, started};
+ghost use Rattle.heyvl_parse.specs.Reading.{Full, Whole, bound, choice, climbed, enclosed, end_of, operand, prefixed, reach, reading, started};
 ghost use Rattle.heyvl_parse.specs.Results.{Gives};
 ghost use Rattle.heyvl_syntax.specs.declared.tokens.Token.{Token};
 ghost use Rattle.heyvl_syntax.specs.Expressions.{Expression, expression};
 ghost use Rattle.std.specs.Prelude.{IfErr, IfOk, List, MatchResult, length, ◌<◌, ◌≡◌, ◌≤◌, ◌+◌, ℕ};
 
-use crate::PartStop;
-use crate::operators::{operator_at, ranks, repeats};
+use crate::operators::{next_level, operator_within, ranks};
 use crate::starts::{Start, key_start, mark_start, quantifier_at};
+use crate::stops::PartStop;
 use crate::tokens::{expect, next, type_name, word};
-use heyvl_syntax::{Expr, Mark, Span, Token, TokenKind, UnaryOp};
-use std::alloc::Global;
+use heyvl_syntax::{BinaryOp, Expr, Mark, Span, Token, TokenKind, UnaryOp};
+use std::alloc::{AllocError, Global};
 
 /// The rank of e1, above which only quantifiers stand.
 const LOOSEST: u8 = 8;
@@ -84,32 +84,45 @@ fn full(alloc: Global, rank: u8, tokens: &[Token]) -> Result<(Expr, &[Token]), P
     ensures value { (n : ℕ) → length tokens.now < n → Gives (λ x. expression x.0) (λ x. x.1.now) result (reading n (Full rank) tokens.now) }
     ensures shorter { IfOk result (λ x. length x.1.now < length tokens.now) }
 {
-    if rank == 0 {
-        return operand(alloc, tokens);
-    }
-    let (first, rest) = full(alloc, rank - 1, tokens)?;
-    more(alloc, rank, first, rest)
+    let (first, rest) = operand(alloc, tokens)?;
+    climbed(alloc, rank, first, rest)
 }
 
-/// The expression of this rank that begins with this operand.
+/// The expression of at most this rank that begins with this operand: rank by rank, from those that bind tightest.
 #[cycle(expressions)]
-fn more(alloc: Global, rank: u8, left: Expr, tokens: &[Token]) -> Result<(Expr, &[Token]), PartStop>
-    ensures value { (n : ℕ) → length tokens.now < n → Gives (λ x. expression x.0) (λ x. x.1.now) result (reading n (More rank (expression left)) tokens.now) }
+fn climbed(
+    alloc: Global,
+    rank: u8,
+    first: Expr,
+    tokens: &[Token],
+) -> Result<(Expr, &[Token]), PartStop>
+    ensures value { (n m : ℕ) → length tokens.now < n → length tokens.now < m → Gives (λ x. expression x.0) (λ x. x.1.now) result (climbed (reading n) (reading m) rank 1 (expression first) tokens.now) }
     ensures shorter { IfOk result (λ x. length x.1.now ≤ length tokens.now) }
 {
-    match operator_at(rank, tokens) {
-        None => Ok((left, tokens)),
-        Some((op, place, rest)) => {
-            let (right, rest) = full(alloc, ranks(op).right, rest)?;
-            let left = left.boxed(alloc)?;
-            let both = Expr::Binary(op, left, right.boxed(alloc)?, place);
-            if repeats(op) {
-                more(alloc, rank, both, rest)
-            } else {
-                Ok((both, rest))
-            }
-        }
+    let mut left = first;
+    let mut rest = tokens;
+    let mut level = 1;
+    'operators: while let Some((op, place, behind)) = operator_within(level, rank, rest) {
+        let (right, behind) = full(alloc, ranks(op).right, behind)?;
+        left = joined(alloc, op, left, right, place)?;
+        rest = behind;
+        level = next_level(op);
     }
+    Ok((left, rest))
+}
+
+/// The operator between its operands.
+fn joined(
+    alloc: Global,
+    op: BinaryOp,
+    left: Expr,
+    right: Expr,
+    place: Span,
+) -> Result<Expr, AllocError>
+    ensures { IfOk result (λ both. expression both ≡ Expression.binary op (expression left) (expression right) place) }
+{
+    let left = left.boxed(alloc)?;
+    Ok(Expr::Binary(op, left, right.boxed(alloc)?, place))
 }
 
 /// An operand of a prefix operator, or an atom.
@@ -186,7 +199,7 @@ fn prefixed(
     ensures value { (n : ℕ) → length tokens.now < n → Gives (λ x. expression x.0) (λ x. x.1.now) result (prefixed (reading n) op place tokens.now) }
     ensures shorter { IfOk result (λ x. length x.1.now < length tokens.now) }
 {
-    let (inner, rest) = full(alloc, 0, tokens)?;
+    let (inner, rest) = operand(alloc, tokens)?;
     let place = reach(place, end_of(&inner));
     Ok((Expr::Unary(op, inner.boxed(alloc)?, place), rest))
 }
@@ -208,9 +221,10 @@ fn choice(alloc: Global, place: Span, tokens: &[Token]) -> Result<(Expr, &[Token
     Ok((Expr::Choice(test, yes, other, reach(place, close.to)), rest))
 }
 
-/// The expression at the front, as far as it goes, and the tokens behind it. A fault is told by how many tokens are left
+/// The expression at the front and the tokens behind it, for tests. It has no limit of its own. A fault is told by how many tokens are left
 /// from it on; `Memory` comes where there is no memory for the tree.
-pub fn read_expr(alloc: Global, tokens: &[Token]) -> Result<(Expr, &[Token]), PartStop>
+#[cfg(test)]
+pub(crate) fn read_expr(alloc: Global, tokens: &[Token]) -> Result<(Expr, &[Token]), PartStop>
     // The tokens before the rest spell the tree.
     ensures found { IfOk result (λ x. IsRead tokens.now (expression x.0) x.1.now) }
     // What is spelled before a rest that doesn't go on with it is read, unless memory runs out.

@@ -9,8 +9,8 @@ ghost use Rattle.heyvl_syntax.specs.Grammar.{IsFile};
 ghost use Rattle.heyvl_syntax.specs.Procedures.{procedure, procedures};
 ghost use Rattle.std.specs.Prelude.{[], IfErr, IfOk, length, map, ◌<◌, ◌≡◌, ◌≤◌, ℕ};
 
-use crate::PartStop;
 use crate::procedures::{proc_of, procedure};
+use crate::stops::PartStop;
 use crate::tokens::starts_mark;
 use heyvl_syntax::{File, Mark, Proc, Token};
 use std::alloc::Global;

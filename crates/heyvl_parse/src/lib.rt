@@ -21,8 +21,6 @@ mod statements;
 mod stops;
 mod tokens;
 
-pub use expressions::read_expr;
 pub use laws::{expression_is_unique, file_is_unique};
 pub use limits::{crowd_at, overload_at};
 pub use parsing::{ParseStop, parse};
-pub use stops::PartStop;

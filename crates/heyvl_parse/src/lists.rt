@@ -8,8 +8,8 @@ ghost use Rattle.heyvl_syntax.specs.Expressions.{expression, expressions};
 ghost use Rattle.heyvl_syntax.specs.declared.marks.Mark.TheVariants as marks;
 ghost use Rattle.std.specs.Prelude.{IfOk, length, ◌<◌, ◌≡◌, ◌≤◌, ℕ};
 
-use crate::PartStop;
 use crate::expressions::whole;
+use crate::stops::PartStop;
 use crate::tokens::{expect, starts_mark, word};
 use heyvl_syntax::{Expr, Mark, Name, Token};
 use std::alloc::Global;

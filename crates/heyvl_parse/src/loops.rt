@@ -6,9 +6,9 @@ ghost use Rattle.heyvl_parse.specs.Results.{Gives};
 ghost use Rattle.heyvl_syntax.specs.Statements.{loop_rule, loop_rules};
 ghost use Rattle.std.specs.Prelude.{IfOk, length, ◌<◌, ◌≡◌, ◌≤◌, ℕ};
 
-use crate::PartStop;
 use crate::places::span_between;
 use crate::rights::{enclosed_expr, two};
+use crate::stops::PartStop;
 use crate::tokens::{expect, expect_word, starts_mark};
 use heyvl_syntax::{Mark, Name, Rule, Token, TokenKind};
 use std::alloc::Global;

@@ -1,6 +1,6 @@
 //! The operators between operands, and the table of their ranks.
 
-ghost use Rattle.heyvl_parse.specs.Reading.{operator_at, operator_of, repeats};
+ghost use Rattle.heyvl_parse.specs.Reading.{next_level, operator_of, operator_within};
 ghost use Rattle.heyvl_syntax.specs.Grammar.{ranks};
 ghost use Rattle.std.specs.Prelude.{IfSome, MatchOption, None, Some, length, ◌<◌, ◌≡◌, ◌≤◌};
 
@@ -30,6 +30,7 @@ pub(crate) fn ranks(op: BinaryOp) -> Row
     ensures left { result.left ≡ (ranks op).left }
     ensures right { result.right ≡ (ranks op).right }
     ensures bound { result.right ≤ 8 }
+    ensures loosest { result.rank ≤ 8 }
 {
     match op {
         BinaryOp::Imply | BinaryOp::CoImply => Row::new(8, 7, 8),
@@ -45,12 +46,16 @@ pub(crate) fn ranks(op: BinaryOp) -> Row
     }
 }
 
-/// Whether a further operator of the same rank may stand behind the right operand.
-pub(crate) fn repeats(op: BinaryOp) -> bool
-    ensures { result ≡ repeats op }
+/// The least rank of an operator that may stand behind the right operand of this one.
+pub(crate) fn next_level(op: BinaryOp) -> u8
+    ensures { result ≡ next_level op }
 {
     let row = ranks(op);
-    row.left == row.rank
+    if row.left == row.rank {
+        row.rank
+    } else {
+        row.rank + 1
+    }
 }
 
 /// The operator that a token is.
@@ -85,14 +90,19 @@ fn operator_of(kind: &TokenKind) -> Option<BinaryOp>
     }
 }
 
-/// The operator of this rank at the front with its place, and the tokens behind it.
-pub(crate) fn operator_at(rank: u8, tokens: &[Token]) -> Option<(BinaryOp, Span, &[Token])>
-    ensures value { MatchOption result (operator_at rank tokens.now ≡ None) (λ x. operator_at rank tokens.now ≡ Some (x.0, x.1, x.2.now)) }
+/// The operator of a rank from `low` to `high` at the front with its place, and the tokens behind it.
+pub(crate) fn operator_within(
+    low: u8,
+    high: u8,
+    tokens: &[Token],
+) -> Option<(BinaryOp, Span, &[Token])>
+    ensures value { MatchOption result (operator_within low high tokens.now ≡ None) (λ x. operator_within low high tokens.now ≡ Some (x.0, x.1, x.2.now)) }
     ensures shorter { IfSome result (λ x. length x.2.now < length tokens.now) }
 {
     let (token, rest) = tokens.split_first()?;
     let op = operator_of(&token.kind)?;
-    if ranks(op).rank == rank {
+    let rank = ranks(op).rank;
+    if low <= rank && rank <= high {
         Some((op, token.span, rest))
     } else {
         None

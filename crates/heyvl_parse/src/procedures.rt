@@ -11,10 +11,10 @@ ghost use Rattle.heyvl_syntax.specs.Procedures.{optional_block, procedure as tre
 ghost use Rattle.heyvl_syntax.specs.declared.marks.Mark.TheVariants as marks;
 ghost use Rattle.std.specs.Prelude.{IfOk, length, ◌<◌, ◌≡◌, ◌≤◌, ℕ};
 
-use crate::PartStop;
 use crate::expressions::whole;
 use crate::places::span_between;
 use crate::statements::block;
+use crate::stops::PartStop;
 use crate::tokens::{expect, next, starts_mark, type_name, word};
 use heyvl_syntax::{Expr, Key, Mark, Name, Note, Param, Proc, Stmt, Token, TokenKind};
 use std::alloc::Global;

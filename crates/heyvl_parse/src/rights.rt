@@ -9,9 +9,9 @@ ghost use Rattle.heyvl_syntax.specs.Statements.{choices, right_side};
 ghost use Rattle.heyvl_syntax.specs.declared.marks.Mark.TheVariants as marks;
 ghost use Rattle.std.specs.Prelude.{IfOk, length, ◌<◌, ◌≡◌, ℕ};
 
-use crate::PartStop;
 use crate::expressions::whole;
 use crate::lists::arguments;
+use crate::stops::PartStop;
 use crate::tokens::{expect, expect_key, starts_mark, word};
 use heyvl_syntax::{Expr, Key, Mark, Name, Right, Token, TokenKind};
 use std::alloc::Global;

@@ -8,11 +8,11 @@ ghost use Rattle.heyvl_syntax.specs.Statements.{Statement, optional_right, right
 ghost use Rattle.heyvl_syntax.specs.declared.marks.Mark.TheVariants as marks;
 ghost use Rattle.std.specs.Prelude.{IfOk, length, ◌<◌, ◌≡◌, ◌≤◌, ℕ};
 
-use crate::PartStop;
 use crate::expressions::whole;
 use crate::lists::names;
 use crate::places::span_between;
 use crate::rights::{call, is_call, right};
+use crate::stops::PartStop;
 use crate::tokens::{expect, expect_key, next, starts_mark, type_name, word};
 use heyvl_syntax::{CheckKind, Key, Mark, Name, Right, Stmt, Token, TokenKind};
 use std::alloc::Global;

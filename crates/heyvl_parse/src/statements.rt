@@ -6,11 +6,11 @@ ghost use Rattle.heyvl_parse.specs.Statements.{Shortens, arm, braced, branched, 
 ghost use Rattle.heyvl_syntax.specs.Statements.{block, guarded, statement};
 ghost use Rattle.std.specs.Prelude.{IfOk, length, map, suc, ◌<◌, ◌≡◌, ◌≤◌, ℕ};
 
-use crate::PartStop;
 use crate::expressions::whole;
 use crate::loops::rules;
 use crate::places::span_between;
 use crate::simple::{assign, check, havoc, pick_word, reward, starts_pick, validate, var};
+use crate::stops::PartStop;
 use crate::tokens::{expect, expect_key, starts_key, starts_mark};
 use heyvl_syntax::{Arm, Key, Mark, Stmt, Token, TokenKind};
 use std::alloc::Global;

@@ -5,7 +5,7 @@ ghost use Rattle.heyvl_parse.specs.Reading.{expect, is_mark, next, type_name, ty
 ghost use Rattle.heyvl_parse.specs.Results.{Gives};
 ghost use Rattle.std.specs.Prelude.{IfOk, length, ◌+◌, ◌<◌, ◌≡◌};
 
-use crate::PartStop;
+use crate::stops::PartStop;
 use heyvl_syntax::{Key, Mark, Name, Span, Token, TokenKind, TypeName};
 use std::alloc::Global;
 

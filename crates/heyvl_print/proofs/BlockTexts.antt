@@ -2,7 +2,7 @@
 use Rattle.heyvl_print.proofs.Texts.{after, margin_after, text_append, text_margin, token_after}
 use Rattle.heyvl_print.specs.Canonical.{arm_pieces, block_lines, braced, else_if_pieces, else_pieces, expression_pieces, if_pieces, rule_line, statement_lines}
 use Rattle.heyvl_print.specs.Pieces.{Piece, each, feed, key, margin, mark, space, text_of, ◌then◌}
-use Rattle.heyvl_syntax.proofs.PlainTreesAre.{plain_statements}
+use Rattle.heyvl_syntax.proofs.exported.PlainTreesAre.{plain_statements}
 use Rattle.heyvl_syntax.specs.Expressions.{Expression, expression}
 use Rattle.heyvl_syntax.specs.Grammar.{check_key, pick_key, validate_key}
 use Rattle.heyvl_syntax.specs.Keys.{key_text}

@@ -5,9 +5,9 @@ use Rattle.heyvl_print.specs.Canonical.{expression_pieces, parens}
 use Rattle.heyvl_print.specs.Numbers.{number_text}
 use Rattle.heyvl_print.specs.Pieces.{Piece, blank, text_of, token, token_text}
 use Rattle.heyvl_print.specs.WithoutPlaces.{bare_expression, no_place}
-use Rattle.heyvl_syntax.proofs.TokenReads.{Reads, ends_number, free_reads, is_free, key_reads, opens, prefix_reads, word_reads}
-use Rattle.heyvl_syntax.proofs.Runs.{and_left}
-use Rattle.heyvl_syntax.proofs.Starts.{token_begins}
+use Rattle.heyvl_syntax.proofs.exported.TokenReads.{Reads, ends_number, free_reads, is_free, key_reads, opens, prefix_reads, word_reads}
+use Rattle.heyvl_syntax.proofs.exported.Runs.{and_left}
+use Rattle.heyvl_syntax.proofs.exported.Starts.{token_begins}
 use Rattle.heyvl_syntax.specs.Bytes.{ends_word, is_letter, is_point, is_word_byte}
 use Rattle.heyvl_syntax.specs.Expressions.{Expression}
 use Rattle.heyvl_syntax.specs.Grammar.{IsExpr, operator, prefix, quantifier_key, ranks, truth_key, type_key}

@@ -5,7 +5,7 @@ use Rattle.heyvl_print.proofs.Respelling.{ArePrintable, IsPrintable, kinds_of, t
 use Rattle.heyvl_print.specs.Canonical.{file_lines}
 use Rattle.heyvl_print.specs.Laws.{PrintedTextSpells}
 use Rattle.heyvl_print.specs.Pieces.{Piece, blank, line_feed, token, token_text}
-use Rattle.heyvl_syntax.proofs.InOrder.{stand_in_order}
+use Rattle.heyvl_syntax.proofs.exported.InOrder.{stand_in_order}
 use Rattle.heyvl_syntax.specs.TokenLaws.{HasSmallLiteral, StandInOrder}
 use Rattle.heyvl_syntax.specs.Tokens.{IsToken}
 use Rattle.heyvl_syntax.specs.declared.keys.Key.{Key}

@@ -1,7 +1,7 @@
 -- Pieces of which each token is what stands at its place are split into these tokens.
 use Rattle.heyvl_print.specs.Pieces.{Piece, blank, line_feed, text_of, token, token_text}
-use Rattle.heyvl_syntax.proofs.Steps.{made}
-use Rattle.heyvl_syntax.proofs.TokenReads.{Reads, lexes_read}
+use Rattle.heyvl_syntax.proofs.exported.Steps.{made}
+use Rattle.heyvl_syntax.proofs.exported.TokenReads.{Reads, lexes_read}
 use Rattle.heyvl_syntax.specs.Tokens.{Lexes, white}
 use Rattle.heyvl_syntax.specs.declared.tokens.Token.{Token}
 use Rattle.std.proofs.Common.{List, [], length, refl, ◌+◌, ◌∷◌, ℕ}

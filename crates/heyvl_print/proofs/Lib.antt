@@ -1,15 +1,15 @@
-pub mod BlockTexts
-pub mod ExpressionTexts
-pub mod NumberTexts
-pub mod Lexing
-pub mod ExpressionsAgain
-pub mod LineTexts
-pub mod NumbersAgain
-pub mod ProcedureTexts
-pub mod Respelling
+mod BlockTexts
+mod ExpressionTexts
+mod NumberTexts
+mod Lexing
+mod ExpressionsAgain
+mod LineTexts
+mod NumbersAgain
+mod ProcedureTexts
+mod Respelling
 mod Rows
-pub mod Texts
-pub mod StatementsAgain
-pub mod ProceduresAgain
-pub mod FilesAgain
-pub mod SameTexts
+mod Texts
+mod StatementsAgain
+mod ProceduresAgain
+mod FilesAgain
+mod SameTexts

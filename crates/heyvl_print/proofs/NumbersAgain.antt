@@ -1,8 +1,8 @@
 -- The text of a number is read as this number again.
 use Rattle.heyvl_print.specs.Numbers.{number_text, padded, pointed}
-use Rattle.heyvl_syntax.proofs.Digits.{other_stays}
-use Rattle.heyvl_syntax.proofs.Runs.{and_left, and_right, run_ends, run_stops}
-use Rattle.heyvl_syntax.proofs.TokenReads.{Reads, ends_number, number_reads}
+use Rattle.heyvl_syntax.proofs.exported.Digits.{other_stays}
+use Rattle.heyvl_syntax.proofs.exported.Runs.{and_left, and_right, run_ends, run_stops}
+use Rattle.heyvl_syntax.proofs.exported.TokenReads.{Reads, ends_number, number_reads}
 use Rattle.heyvl_syntax.specs.Bytes.{is_point}
 use Rattle.heyvl_syntax.specs.Literals.{IsInLimits, IsNumber, fraction, is_too_large, literal, number, whole, with_digit, without_last_zeros}
 use Rattle.heyvl_syntax.specs.declared.literals.Lit.{Lit}

@@ -5,8 +5,8 @@ use Rattle.heyvl_print.proofs.StatementsAgain.{block_again, list0_again, nothing
 use Rattle.heyvl_print.specs.Canonical.{body_lines, file_lines, head_line, note_line, param_pieces, post_line, pre_line, procedure_lines}
 use Rattle.heyvl_print.specs.Pieces.{Piece, blank, each, feed, text_of, token}
 use Rattle.heyvl_print.specs.WithoutPlaces.{bare_body, bare_expression, bare_expressions, bare_param, bare_procedure, no_place, without_places}
-use Rattle.heyvl_syntax.proofs.Sequences.{then_assoc}
-use Rattle.heyvl_syntax.proofs.TokenReads.{ends_number, free_reads, spaced_reads}
+use Rattle.heyvl_syntax.proofs.exported.Sequences.{then_assoc}
+use Rattle.heyvl_syntax.proofs.exported.TokenReads.{ends_number, free_reads, spaced_reads}
 use Rattle.heyvl_syntax.specs.Expressions.{Expression}
 use Rattle.heyvl_syntax.specs.Grammar.{Clause, IsBlock, IsClause, IsClauses, IsFile, IsFull, IsNote, IsParam, IsProc, note_word, posts, pres, proc_key, type_key}
 use Rattle.heyvl_syntax.specs.Procedures.{Procedure}

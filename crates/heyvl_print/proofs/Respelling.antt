@@ -1,7 +1,7 @@
 -- How the pieces of a tree are put together, so that their tokens spell the same tree again.
 use Rattle.heyvl_print.proofs.Lexing.{Sound}
 use Rattle.heyvl_print.specs.Pieces.{Piece, blank, feed, line_feed, margin, text_of, token, token_text}
-use Rattle.heyvl_syntax.proofs.TokenReads.{Reads}
+use Rattle.heyvl_syntax.proofs.exported.TokenReads.{Reads}
 use Rattle.heyvl_syntax.specs.Keys.{key_text}
 use Rattle.heyvl_syntax.specs.Literals.{IsInLimits}
 use Rattle.heyvl_syntax.specs.Productions.{IsOne, at, ◌then◌}

@@ -4,7 +4,7 @@ use Rattle.heyvl_print.proofs.Respelling.{ArePrintable, Prints, Reprints, any, b
 use Rattle.heyvl_print.specs.Canonical.{block_lines, braced, else_if_pieces, else_pieces, expression_pieces, given_pieces, if_pieces, right_pieces, rule_line, rule_pieces, statement_lines, weighted_pieces}
 use Rattle.heyvl_print.specs.Pieces.{Piece, blank, comma, each, feed, separated, text_of, token, word}
 use Rattle.heyvl_print.specs.WithoutPlaces.{bare_arms, bare_block, bare_given, bare_part, bare_right, bare_rule, bare_statement, no_place}
-use Rattle.heyvl_syntax.proofs.TokenReads.{ends_number, free_reads, key_reads, spaced_reads}
+use Rattle.heyvl_syntax.proofs.exported.TokenReads.{ends_number, free_reads, key_reads, spaced_reads}
 use Rattle.heyvl_syntax.specs.Bytes.{ends_word}
 use Rattle.heyvl_syntax.specs.Expressions.{Expression}
 use Rattle.heyvl_syntax.specs.Grammar.{IsAssign, IsBraced, IsElse, IsElseIfs, IsGiven, IsIf, IsRight, IsRule, IsStmt, IsStmts, IsWeighted, check_key, havoc_key, pick_key, type_key, validate_key}

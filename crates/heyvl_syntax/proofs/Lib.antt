@@ -1,25 +1,26 @@
-pub mod Closing
-pub mod Digits
+mod Closing
+mod Digits
 mod ExpressionRows
-pub mod FaultPlaces
-pub mod FewNodes
-pub mod FrontIs
-pub mod InOrder
+mod FaultPlaces
+mod FewNodes
+mod FrontIs
+mod InOrder
 mod LoadRows
-pub mod Longest
-pub mod OneFault
-pub mod PlainTreesAre
+mod Longest
+mod OneFault
+mod PlainTreesAre
 mod ProcedureRows
 mod Rows
-pub mod Runs
-pub mod Sequences
-pub mod SmallLiterals
+mod Runs
+mod Sequences
+mod SmallLiterals
 mod SourceFaultRows
-pub mod Starts
+mod Starts
 mod StatementRows
-pub mod Steps
-pub mod Tables
-pub mod Texts
-pub mod TokenReads
-pub mod Total
-pub mod Unique
+mod Steps
+mod Tables
+mod Texts
+mod TokenReads
+mod Total
+mod Unique
+pub mod exported

@@ -1,13 +1,13 @@
 -- What a look-up in the lists of keys and marks finds.
 use Rattle.heyvl_syntax.proofs.Runs.{and_left, and_right}
-use Rattle.heyvl_syntax.specs.Fronts.{all_keys, key_of, mark_of, marks_by_length}
+use Rattle.heyvl_syntax.specs.Fronts.{all_keys, key_of, keys_from, mark_of, marks_by_length, marks_from}
 use Rattle.heyvl_syntax.specs.Keys.{key_text}
 use Rattle.heyvl_syntax.specs.Marks.{mark_text}
 use Rattle.heyvl_syntax.specs.declared.keys.Key.TheVariants as keys
 use Rattle.heyvl_syntax.specs.declared.keys.Key.{Key}
 use Rattle.heyvl_syntax.specs.declared.marks.Mark.TheVariants as marks
 use Rattle.heyvl_syntax.specs.declared.marks.Mark.{Mark}
-use Rattle.std.proofs.Common.{Bool, List, None, Option, Some, [], ap, arith, cond, false, length, nat_eq, nat_le, refl, subst, suc, sym, true, zero, ◌&&◌, ◌∷◌, ◌≡◌, ◌≤◌, ℕ}
+use Rattle.std.proofs.Common.{Bool, List, None, Option, Some, [], ap, arith, cond, false, filter, length, nat_eq, nat_le, not, refl, subst, suc, sym, true, zero, ◌&&◌, ◌∙◌, ◌∷◌, ◌≡◌, ◌≤◌, ℕ}
 use Rattle.std.proofs.lemmas.Bool.Decides.{nat_tests}
 use Rattle.std.specs.Cmp.Lexicographic.{pointwise, same_text}
 use Rattle.std.specs.List.{find, list_all, position_or_len, starts_with}
@@ -64,6 +64,25 @@ first_is_longest {X} len p (z ∷ zs) x y k f h e t = pick (p z) refl h (λ j. f
         absurd (cc)
     pick false g h later (suc k) e = later k h e t
 
+-- Nothing is kept where nothing passes.
+pub none_kept : {X : Type 0} (p : X → Bool) (xs : List X) → list_all (λ x. not (p x)) xs ≡ true → filter p xs ≡ []
+none_kept p [] h = refl
+none_kept {X} p (x ∷ xs) h = pick (p x) refl h (none_kept p xs)
+  where
+    pick : (passes : Bool) → p x ≡ passes → not passes && list_all (λ y. not (p y)) xs ≡ true → (list_all (λ y. not (p y)) xs ≡ true → filter p xs ≡ []) → cond passes (x ∷ filter p xs) (filter p xs) ≡ []
+    pick true e h later = cc
+    pick false e h later = later h
+
+-- What is found among the kept is found among all, where whatever is sought is kept.
+find_kept : {X : Type 0} (p q : X → Bool) (xs : List X) → ((x : X) → p x ≡ true → q x ≡ true) → find p (filter q xs) ≡ find p xs
+find_kept p q [] kept = refl
+find_kept {X} p q (x ∷ xs) kept = pick (q x) refl (p x) refl (find_kept p q xs kept)
+  where
+    pick : (keeps : Bool) → q x ≡ keeps → (passes : Bool) → p x ≡ passes → find p (filter q xs) ≡ find p xs → find p (cond keeps (x ∷ filter q xs) (filter q xs)) ≡ cond (p x) (Some x) (find p xs)
+    pick true k passes e later = ap (λ (o : Option X). cond (p x) (Some x) o) later
+    pick false k true e later = let no = kept x e in cc
+    pick false k false e later = rw e later
+
 -- Each key is found by its text.
 pub key_read : (key : Key) → key_of (key_text key) ≡ Some key
 key_read keys.Proc = refl
@@ -109,3 +128,44 @@ mark_longest bytes mark other h t = first_is_longest (λ m. length (mark_text m)
 
 pub no_mark_starts : (bytes : List ℕ) → mark_of bytes ≡ None → (mark : Mark) → starts_with nat_eq bytes (mark_text mark) ≡ false
 no_mark_starts bytes h mark = none_passes (λ m. starts_with nat_eq bytes (mark_text m)) marks_by_length (mark_place mark) mark h (mark_at mark)
+
+-- A text begins with the first byte of one that is equal to it.
+starts_alike : (b : ℕ) (bs text : List ℕ) → pointwise nat_eq (b ∷ bs) text ≡ true → starts_with nat_eq text (b ∷ []) ≡ true
+starts_alike b bs [] h = cc
+starts_alike b bs (c ∷ cs) h =
+    let same : nat_eq b c ≡ true = and_left (nat_eq b c) (pointwise nat_eq bs cs) h in
+    rw same refl
+
+-- A key is found among those that begin with the first byte.
+key_kept : (b : ℕ) (bs : List ℕ) → find (λ key. pointwise nat_eq (b ∷ bs) (key_text key)) (keys_from b) ≡ key_of (b ∷ bs)
+key_kept b bs =
+    find_kept (λ key. pointwise nat_eq (b ∷ bs) (key_text key)) (λ key. starts_with nat_eq (key_text key) (b ∷ [])) all_keys
+    (λ key. starts_alike b bs (key_text key))
+
+pub key_found : (text : List ℕ) (b : ℕ) (bs : List ℕ) (among : List Key) (found : Option Key) → text ≡ b ∷ bs → among ≡ keys_from b → found ≡ find (λ key. pointwise nat_eq text (key_text key)) among → found ≡ key_of text
+key_found text b bs among found is from by =
+    let all : found ≡ find (λ key. pointwise nat_eq text (key_text key)) (keys_from b) = subst (λ (keys : List Key). found ≡ find (λ key. pointwise nat_eq text (key_text key)) keys) from by in
+    all ∙ subst (λ (s : List ℕ). find (λ key. pointwise nat_eq s (key_text key)) (keys_from b) ≡ key_of s) (sym is) (key_kept b bs)
+
+-- A text with a byte begins with the first byte of what it stands before.
+begins_alike : (b : ℕ) (bs text : List ℕ) → nat_le 1 (length text) ≡ true → starts_with nat_eq (b ∷ bs) text ≡ true → starts_with nat_eq text (b ∷ []) ≡ true
+begins_alike b bs [] some h = cc
+begins_alike b bs (c ∷ cs) some h =
+    let same : nat_eq c b ≡ true = and_left (nat_eq c b) (starts_with nat_eq bs cs) h in
+    let turned : nat_eq b c ≡ true = grind (arith, nat_tests) in
+    rw turned refl
+
+mark_has_a_byte : (mark : Mark) → nat_le 1 (length (mark_text mark)) ≡ true
+mark_has_a_byte marks.ParenLeft = refl
+mark_has_a_byte _ = refl
+
+-- A mark is found among those that begin with the first byte.
+mark_kept : (b : ℕ) (bs : List ℕ) → find (λ mark. starts_with nat_eq (b ∷ bs) (mark_text mark)) (marks_from b) ≡ mark_of (b ∷ bs)
+mark_kept b bs =
+    find_kept (λ mark. starts_with nat_eq (b ∷ bs) (mark_text mark)) (λ mark. starts_with nat_eq (mark_text mark) (b ∷ [])) marks_by_length
+    (λ mark. begins_alike b bs (mark_text mark) (mark_has_a_byte mark))
+
+pub mark_found : (bytes : List ℕ) (b : ℕ) (bs : List ℕ) (among : List Mark) (found : Option Mark) → bytes ≡ b ∷ bs → among ≡ marks_from b → found ≡ find (λ mark. starts_with nat_eq bytes (mark_text mark)) among → found ≡ mark_of bytes
+mark_found bytes b bs among found is from by =
+    let all : found ≡ find (λ mark. starts_with nat_eq bytes (mark_text mark)) (marks_from b) = subst (λ (marks : List Mark). found ≡ find (λ mark. starts_with nat_eq bytes (mark_text mark)) marks) from by in
+    all ∙ subst (λ (s : List ℕ). find (λ mark. starts_with nat_eq s (mark_text mark)) (marks_from b) ≡ mark_of s) (sym is) (mark_kept b bs)

@@ -14,7 +14,7 @@ use Rattle.heyvl_syntax.specs.declared.tokens.TokenKind.TheVariants as kinds
 use Rattle.std.specs.Char.{is_ascii_digit}
 use Rattle.std.specs.Cmp.Lexicographic.{pointwise}
 use Rattle.std.specs.List.{find, position_or_len, prefix_len, starts_with}
-use Rattle.std.specs.Prelude.{Bool, List, None, Option, Some, [], cond, false, drop, length, nat_eq, nat_lt, suc, take, true, zero, ◌+◌, ◌==◌, ◌^◌, ◌||◌, ◌∷◌, ◌<◌, ◌≤◌, ℕ}
+use Rattle.std.specs.Prelude.{Bool, List, None, Option, Some, [], cond, false, drop, filter, length, nat_eq, nat_lt, suc, take, true, zero, ◌+◌, ◌==◌, ◌^◌, ◌||◌, ◌∷◌, ◌<◌, ◌≤◌, ℕ}
 
 -- The keys, in the language's order.
 abbrev pub all_keys : List Key
@@ -34,9 +34,17 @@ marks_by_length =
     ∷ marks.Plus ∷ marks.Minus ∷ marks.Star ∷ marks.Slash ∷ marks.Bang ∷ marks.Tilde ∷ marks.Question ∷ marks.AtSign
     ∷ []
 
+-- The keys that begin with this byte.
+abbrev pub keys_from : ℕ → List Key
+keys_from first = filter (λ key. starts_with nat_eq (key_text key) (first ∷ [])) all_keys
+
 -- The key with this text.
 abbrev pub key_of : List ℕ → Option Key
 key_of text = find (λ key. pointwise nat_eq text (key_text key)) all_keys
+
+-- The marks that begin with this byte, the longer ones first.
+abbrev pub marks_from : ℕ → List Mark
+marks_from first = filter (λ mark. starts_with nat_eq (mark_text mark) (first ∷ [])) marks_by_length
 
 -- The longest mark at the front.
 abbrev pub mark_of : List ℕ → Option Mark

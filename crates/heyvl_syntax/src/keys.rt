@@ -1,8 +1,10 @@
 //! The reserved words of HeyVL.
 
-ghost use Rattle.heyvl_syntax.specs.Fronts.{key_of};
+ghost use Rattle.heyvl_syntax.specs.Fronts.{key_of, keys_from};
 ghost use Rattle.heyvl_syntax.specs.Keys.{key_text};
-ghost use Rattle.std.specs.Prelude.{◌≡◌};
+ghost use Rattle.std.specs.Cmp.Lexicographic.{pointwise};
+ghost use Rattle.std.specs.List.{find};
+ghost use Rattle.std.specs.Prelude.{◌≡◌, nat_eq};
 
 /// A reserved word, in the order of the language's list of keys.
 #[derive(Clone, Copy, Debug, PartialEq, Eq)]
@@ -43,45 +45,6 @@ pub enum Key {
     Cup,
     Infty,
 }
-
-/// The keys, in the language's order.
-const KEYS: [Key; 35] = [
-    Key::Proc,
-    Key::CoProc,
-    Key::Pre,
-    Key::Post,
-    Key::Var,
-    Key::If,
-    Key::Else,
-    Key::While,
-    Key::Assert,
-    Key::Assume,
-    Key::CoAssert,
-    Key::CoAssume,
-    Key::Havoc,
-    Key::CoHavoc,
-    Key::Validate,
-    Key::CoValidate,
-    Key::Reward,
-    Key::Tick,
-    Key::TrueWord,
-    Key::FalseWord,
-    Key::BoolWord,
-    Key::IntWord,
-    Key::UIntWord,
-    Key::URealWord,
-    Key::EURealWord,
-    Key::RealWord,
-    Key::Ite,
-    Key::Flip,
-    Key::Unif,
-    Key::Choose,
-    Key::Sup,
-    Key::Inf,
-    Key::Cap,
-    Key::Cup,
-    Key::Infty,
-];
 
 impl Key {
     /// The bytes of the key.
@@ -128,9 +91,54 @@ impl Key {
     }
 }
 
+/// The keys that begin with this byte, in the language's order.
+fn keys_from(first: u8) -> &'static [Key]
+    ensures { result.now ≡ keys_from first }
+{
+    match first {
+        b'p' => &[Key::Proc, Key::Pre, Key::Post],
+        b'c' => &[
+            Key::CoProc,
+            Key::CoAssert,
+            Key::CoAssume,
+            Key::CoHavoc,
+            Key::CoValidate,
+            Key::Choose,
+        ],
+        b'v' => &[Key::Var, Key::Validate],
+        b'i' => &[Key::If, Key::Ite, Key::Inf],
+        b'e' => &[Key::Else],
+        b'w' => &[Key::While],
+        b'a' => &[Key::Assert, Key::Assume],
+        b'h' => &[Key::Havoc],
+        b'r' => &[Key::Reward],
+        b't' => &[Key::Tick, Key::TrueWord],
+        b'f' => &[Key::FalseWord, Key::Flip],
+        b'B' => &[Key::BoolWord],
+        b'I' => &[Key::IntWord],
+        b'U' => &[Key::UIntWord, Key::URealWord],
+        b'E' => &[Key::EURealWord],
+        b'R' => &[Key::RealWord],
+        b'u' => &[Key::Unif],
+        b's' => &[Key::Sup],
+        b'\\' => &[Key::Cap, Key::Cup, Key::Infty],
+        _ => &[],
+    }
+}
+
+/// The first of these keys that has this text, or None where none has it.
+fn key_among(keys: &[Key], text: &[u8]) -> Option<Key>
+    ensures { result ≡ find (λ key. pointwise nat_eq text.now (key_text key)) keys.now }
+{
+    keys.iter().copied().find(|key| text == key.text())
+}
+
 /// The key with this text, or None where there is none.
 pub(crate) fn key_of(text: &[u8]) -> Option<Key>
     ensures { result ≡ key_of text.now }
 {
-    KEYS.iter().copied().find(|key| text == key.text())
+    match text.split_first() {
+        None => None,
+        Some((first, _)) => key_among(keys_from(*first), text),
+    }
 }

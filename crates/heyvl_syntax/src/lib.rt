@@ -18,7 +18,7 @@ mod spans;
 mod statements;
 mod stops;
 mod tokens;
-mod trees;
+mod tree_laws;
 mod types;
 
 pub use expressions::Expr;
@@ -39,5 +39,5 @@ pub use spans::Span;
 pub use statements::{Arm, CheckKind, Right, Rule, Stmt};
 pub use stops::LexStop;
 pub use tokens::{Token, TokenKind};
-pub use trees::{expressions_are_few, expressions_are_plain, statements_are_plain};
+pub use tree_laws::{expressions_are_few, expressions_are_plain, statements_are_plain};
 pub use types::TypeName;

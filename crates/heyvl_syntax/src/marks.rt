@@ -1,8 +1,9 @@
 //! The marks of HeyVL.
 
-ghost use Rattle.heyvl_syntax.specs.Fronts.{mark_of};
+ghost use Rattle.heyvl_syntax.specs.Fronts.{mark_of, marks_from};
 ghost use Rattle.heyvl_syntax.specs.Marks.{mark_text};
-ghost use Rattle.std.specs.Prelude.{◌≡◌};
+ghost use Rattle.std.specs.List.{find, starts_with};
+ghost use Rattle.std.specs.Prelude.{◌≡◌, nat_eq};
 
 /// A mark, in the order of the language's list of marks.
 #[derive(Clone, Copy, Debug, PartialEq, Eq)]
@@ -38,40 +39,6 @@ pub enum Mark {
     Question,
     AtSign,
 }
-
-/// The marks, the longer ones first.
-const MARKS: [Mark; 30] = [
-    Mark::CoImply,
-    Mark::Imply,
-    Mark::Same,
-    Mark::Differ,
-    Mark::AtMost,
-    Mark::AtLeast,
-    Mark::AndAnd,
-    Mark::OrOr,
-    Mark::Arrow,
-    Mark::ParenLeft,
-    Mark::ParenRight,
-    Mark::BraceLeft,
-    Mark::BraceRight,
-    Mark::BracketLeft,
-    Mark::BracketRight,
-    Mark::Comma,
-    Mark::Colon,
-    Mark::Semi,
-    Mark::Dot,
-    Mark::Assign,
-    Mark::Less,
-    Mark::More,
-    Mark::Plus,
-    Mark::Minus,
-    Mark::Star,
-    Mark::Slash,
-    Mark::Bang,
-    Mark::Tilde,
-    Mark::Question,
-    Mark::AtSign,
-];
 
 impl Mark {
     /// The bytes of the mark.
@@ -113,12 +80,54 @@ impl Mark {
     }
 }
 
+/// The marks that begin with this byte, the longer ones first.
+fn marks_from(first: u8) -> &'static [Mark]
+    ensures { result.now ≡ marks_from first }
+{
+    match first {
+        b'(' => &[Mark::ParenLeft],
+        b')' => &[Mark::ParenRight],
+        b'{' => &[Mark::BraceLeft],
+        b'}' => &[Mark::BraceRight],
+        b'[' => &[Mark::BracketLeft],
+        b']' => &[Mark::BracketRight],
+        b',' => &[Mark::Comma],
+        b':' => &[Mark::Colon],
+        b';' => &[Mark::Semi],
+        b'.' => &[Mark::Dot],
+        b'=' => &[Mark::Imply, Mark::Same, Mark::Assign],
+        b'!' => &[Mark::Differ, Mark::Bang],
+        b'<' => &[Mark::CoImply, Mark::AtMost, Mark::Less],
+        b'>' => &[Mark::AtLeast, Mark::More],
+        b'+' => &[Mark::Plus],
+        b'-' => &[Mark::Arrow, Mark::Minus],
+        b'*' => &[Mark::Star],
+        b'/' => &[Mark::Slash],
+        b'&' => &[Mark::AndAnd],
+        b'|' => &[Mark::OrOr],
+        b'~' => &[Mark::Tilde],
+        b'?' => &[Mark::Question],
+        b'@' => &[Mark::AtSign],
+        _ => &[],
+    }
+}
+
+/// The first of these marks that stands at the front, or None where none does.
+fn mark_among(marks: &[Mark], bytes: &[u8]) -> Option<Mark>
+    ensures { result ≡ find (λ mark. starts_with nat_eq bytes.now (mark_text mark)) marks.now }
+{
+    marks
+        .iter()
+        .copied()
+        .find(|mark| bytes.starts_with(mark.text()))
+}
+
 /// The longest mark at the front, or None where there is none.
 pub(crate) fn mark_of(bytes: &[u8]) -> Option<Mark>
     ensures { result ≡ mark_of bytes.now }
 {
-    MARKS
-        .iter()
-        .copied()
-        .find(|mark| bytes.starts_with(mark.text()))
+    match bytes.split_first() {
+        None => None,
+        Some((first, _)) => mark_among(marks_from(*first), bytes),
+    }
 }

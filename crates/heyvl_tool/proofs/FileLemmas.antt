@@ -1,5 +1,5 @@
 -- What is said of the bytes of a file, from what its tokens spell.
-use Rattle.heyvl_syntax.proofs.Unique.{lexes_unique}
+use Rattle.heyvl_syntax.proofs.exported.Unique.{lexes_unique}
 use Rattle.heyvl_syntax.specs.Procedures.{Procedure as SourceProcedure}
 use Rattle.heyvl_syntax.specs.SourceFaults.{IsSource, IsSourceFault}
 use Rattle.heyvl_syntax.specs.Tokens.{Lexes}

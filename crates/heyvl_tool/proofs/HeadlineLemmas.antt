@@ -1,5 +1,6 @@
 -- What `verified` means, from the reply that a call made.
-use Rattle.std.proofs.Common.{arith, ◌≡◌, ℕ, ◌<◌, zero, suc, get_or, List, [], ◌∷◌, Option, Some, IfSome, subst, ap, ◌∙◌}
+use Rattle.std.proofs.Common.{arith, ◌≡◌, ℕ, ◌<◌, zero, suc, get_or, List, [], ◌∷◌, IfSome, subst, ap, ◌∙◌}
+use Rattle.std.specs.Prelude.{◌≢◌}
 use Rattle.heyvl_syntax.specs.declared.tokens.Token.{Token}
 use Rattle.heyvl_tool.specs.declared.answers.Answer.{Answer}
 use Rattle.heyvl_tool.specs.declared.answers.Verdict.{Verdict}
@@ -7,10 +8,11 @@ use Rattle.heyvl_tool.specs.declared.answers.Verdict.TheVariants.{Verified}
 use Rattle.heyvl_tool.specs.Bound.{IsBounded}
 use Rattle.heyvl_tool.specs.Files.{IsFile}
 use Rattle.heyvl_tool.specs.Grammar.{Spells}
-use Rattle.heyvl_tool.specs.Headline.{IsHeadline, IsReportedVerified}
+use Rattle.heyvl_tool.specs.Headline.{IsHeadline, IsReportedVerified, IsVerifiedFrom}
 use Rattle.heyvl_tool.specs.Meaning.{program}
 use Rattle.heyvl_tool.specs.Procedure.{Procedure}
-use Rattle.heyvl_tool.specs.Replies.{Call, HasCause, IsReplyTo, Reply}
+use Rattle.heyvl_tool.specs.Replies.{Call, HasCause, IsDelivered, IsReplyTo, Reply, Writing}
+use Rattle.heyvl_tool.specs.declared.outcomes.Outcome.{Outcome}
 use Rattle.heyvl_tool.specs.Replies.HasCause.{by_words, by_source, by_length, by_bytes}
 use Rattle.heyvl_tool.specs.Replies.IsReplyTo.{sound, source}
 use Rattle.heyvl_tool.specs.Replies.IsVerifyReply.{early, verified}
@@ -19,7 +21,7 @@ use Rattle.heyvl_tool.specs.Words.{AskFor, file_of}
 use Rattle.heyvl_tool.specs.declared.requests.Settings.TheVariants.{Verify}
 use Rattle.heyvl_tool.specs.declared.requests.Settings.{Settings}
 use Rattle.heyvl_tool.proofs.CallLemmas.{same_settings}
-use Rattle.heyvl_syntax.proofs.Unique.{lexes_unique}
+use Rattle.heyvl_syntax.proofs.exported.Unique.{lexes_unique}
 use Rattle.heyvl_tool.proofs.FileReading.{is_unique}
 
 -- Bytes are at most one procedure.
@@ -46,17 +48,21 @@ headline_of_bytes name bytes reply answers (sound tree within (verified q found 
     let bounded : IsBounded (program q) = subst (λ (v : Verdict). IsVerdict (program q) v) (the_report answers on.answer p.name (is ∙ ap (λ (r : Reply). r.answers) on.is_reply) reported) on.verdict in
     subst (λ (o : Procedure). IsBounded (program o)) (one_file bytes q p found file) bounded
 
-same_bytes : (held : Option (List ℕ)) (bytes read : List ℕ) → held ≡ Some bytes → IfSome held (λ h. read ≡ h) → read ≡ bytes
-same_bytes held bytes read e h = subst (λ (o : Option (List ℕ)). IfSome o (λ x. read ≡ x)) e h
-
--- Where a reply has its cause, its answers are the headline's.
-pub headline_of : (made : Call) (reply : Reply) (answers : List Answer) (file bytes : List ℕ) → HasCause made reply
-    → answers ≡ reply.answers → AskFor made.words (Verify file) → made.holds file ≡ Some bytes → IsHeadline bytes answers
-headline_of made reply answers file bytes (by_words usage e) is asks told p found reported = absurd (usage (Verify file) asks)
-headline_of made reply answers file bytes (by_source other asked rose taken e) is asks told p found reported = absurd (no_report answers p.name (is ∙ ap (λ (r : Reply). r.answers) e) reported)
-headline_of made reply answers file bytes (by_length other asked taken longer e) is asks told p found reported = absurd (no_report answers p.name (is ∙ ap (λ (r : Reply). r.answers) e) reported)
-headline_of made reply answers file bytes (by_bytes other asked read held taken within said) is asks told p found reported =
+-- Where a reply has its cause and was delivered, and there are answers, they are those on the bytes that were read.
+pub verified_from : (file : List ℕ) (made : Call) (done : Writing) (outcome : Outcome) (reply : Reply) → HasCause made reply
+    → IsDelivered reply done outcome → AskFor made.words (Verify file) → outcome.answers.items ≢ [] → IsVerifiedFrom file made done outcome
+verified_from file made done outcome reply (by_words usage e) delivered asks some = absurd (usage (Verify file) asks)
+verified_from file made done outcome reply (by_source other asked rose taken e) delivered asks some = absurd (some (delivered.answers ∙ ap (λ (r : Reply). r.answers) e))
+verified_from file made done outcome reply (by_length other asked taken longer e) delivered asks some = absurd (some (delivered.answers ∙ ap (λ (r : Reply). r.answers) e))
+verified_from file made done outcome reply (by_bytes other asked read held taken within said) delivered asks some =
     let same : other ≡ Verify file = same_settings made.words other (Verify file) asked asks in
-    let held_here : IfSome (made.holds file) (λ h. read ≡ h) = subst (λ (s : Settings). IfSome (made.holds (file_of s)) (λ h. read ≡ h)) same held in
     let said_here : IsReplyTo (Verify file) read reply = subst (λ (s : Settings). IsReplyTo s read reply) same said in
-    headline_of_bytes file bytes reply answers (subst (λ (bs : List ℕ). IsReplyTo (Verify file) bs reply) (same_bytes _ bytes read told held_here) said_here) is p found reported
+    record {
+      bytes = read;
+      held = subst (λ (s : Settings). IfSome (made.holds (file_of s)) (λ h. read ≡ h)) same held;
+      taken = taken;
+      reply = reply;
+      said = said_here;
+      is_delivered = delivered;
+      headline = headline_of_bytes file read reply outcome.answers.items said_here delivered.answers;
+    }

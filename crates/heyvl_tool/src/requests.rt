@@ -6,6 +6,7 @@ ghost use Rattle.std.specs.Prelude.{◌≡◌};
 
 use crate::Word;
 use std::alloc::AllocError;
+use thiserror::Error;
 
 /// What the words ask for.
 #[derive(Drop)]
@@ -29,11 +30,13 @@ impl Settings {
 }
 
 /// Why the words ask for nothing.
-#[derive(Debug, Drop)]
+#[derive(Debug, Drop, Error)]
 pub enum SettingsStop {
     /// They are no command.
+    #[error("no command")]
     Usage,
     /// Memory ran out.
+    #[error("out of memory")]
     Memory(AllocError),
 }
 

@@ -1,12 +1,12 @@
 //! The top call.
 
-ghost use Rattle.heyvl_tool.specs.Headline.{IsHeadline};
+ghost use Rattle.heyvl_tool.specs.Headline.{IsVerifiedFrom};
 ghost use Rattle.heyvl_tool.specs.Replies.{HasCause, IsAnswered, IsDelivered, IsOutOfMemory, call, is_refuted, some_refuted, status_of, writing};
 ghost use Rattle.heyvl_tool.specs.Responses.{reply_of};
 ghost use Rattle.heyvl_tool.specs.SourceUses.{IsReadOnce, IsUntouched, use_of};
 ghost use Rattle.heyvl_tool.specs.Words.{AskFor, IsUsage, file_of};
 ghost use Rattle.heyvl_tool.specs.declared.requests.Settings.{Settings};
-ghost use Rattle.std.specs.Prelude.{IfOk, IsErr, List, Some, map, string_bytes, ◌≡◌, ◌≤◌, ◌⊎◌, ℕ};
+ghost use Rattle.std.specs.Prelude.{IfOk, IsErr, List, [], map, string_bytes, ◌≡◌, ◌≢◌, ◌≤◌, ◌⊎◌, ℕ};
 
 use crate::responses::refusal;
 use crate::{Answer, Fault, Outcome, Response, Settings, SettingsStop, Verdict, respond, settings};
@@ -28,9 +28,11 @@ pub fn run_tool<F: Source, K: Sink>(
         (writing (K.written sink.old) (K.written sink.new) (K.faults sink.old) (K.faults sink.new)) result
         ⊎ IsOutOfMemory (writing (K.written sink.old) (K.written sink.new) (K.faults sink.old) (K.faults sink.new)) result }
 
-    // What `verified` means, where the source tells what the file holds.
-    ensures verified { (file bytes : List ℕ) → AskFor (map string_bytes words.now.items) (Settings.Verify file) → F.holds source.old file ≡ Some bytes
-        → IsHeadline bytes result.answers.items }
+    // What `verified` means, for the bytes that were read: those that the source holds, where it tells them. Any source may be
+    // meant, also one that tells nothing.
+    ensures verified { (file : List ℕ) → AskFor (map string_bytes words.now.items) (Settings.Verify file) → result.answers.items ≢ []
+        → IsVerifiedFrom file (call (map string_bytes words.now.items) (F.holds source.old) (F.faults source.old) (F.faults source.new) (F.taken source.new))
+        (writing (K.written sink.old) (K.written sink.new) (K.faults sink.old) (K.faults sink.new)) result }
 
     // For words that are no command nothing is started. Else the file of the words is started, once, and nothing else, but
     // where there was no memory for the words.

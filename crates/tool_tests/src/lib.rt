@@ -7,3 +7,7 @@ mod device_tests;
 mod first_form_tests;
 #[cfg(test)]
 mod run_tests;
+#[cfg(test)]
+mod long_files;
+#[cfg(test)]
+mod short_writes;

@@ -1,21 +1,55 @@
-use Rattle.heyvl_parse.proofs.Fuel.{by_fuel, full_above}
+use Rattle.heyvl_parse.proofs.Climbing.{climb_ends, climb_on, climb_stops, full_climbed, leads_first, next_within, passed}
+use Rattle.heyvl_parse.proofs.Fuel.{by_fuel}
 use Rattle.heyvl_parse.proofs.expressions.+expressions.Goals as goal
-use Rattle.std.proofs.Common.{arith, rules, suc, ◌<◌}
+use Rattle.std.proofs.Common.{Bor, Err, List, Ok, arith, length, refl, rules, suc, ◌<◌}
+use Rattle.heyvl_parse.specs.Results.{Gives}
+use Rattle.heyvl_syntax.specs.Expressions.{expression}
+use Rattle.heyvl_syntax.specs.declared.expressions.Expr.{Expr}
+use Rattle.heyvl_syntax.specs.declared.tokens.Token.{Token}
 use Rattle.std.proofs.lemmas.Grind.{common_steps}
 
 pub full-returns-in_err-first-clause-value : goal.full-returns-in_err-first-clause-value
 full-returns-in_err-first-clause-value t c = by_fuel _ _ (λ m h.
-    let pos : 0 < c.args.rank = omega arith in
-    rw (full_above _ c.args.rank c.args.tokens.now pos) (grind (arith, common_steps, c.in_err-first.ensures.value (suc m))))
+    rw full_climbed (grind (arith, common_steps, c.in_err-first.ensures.value (suc m))))
 
 pub full-returns-clause-value : goal.full-returns-clause-value
 full-returns-clause-value t c = by_fuel _ _ (λ m h.
-    let pos : 0 < c.args.rank = omega arith in
-    rw (full_above _ c.args.rank c.args.tokens.now pos, c.in_ok-first.ensures.value (suc m) (omega arith))
-    (c.more.ensures.value (suc m) (omega (arith, c.in_ok-first.ensures.shorter))))
+    rw (full_climbed, c.in_ok-first.ensures.value (suc m) (omega arith))
+    (c.climbed.ensures.value m m (omega (arith, c.in_ok-first.ensures.shorter)) (omega (arith, c.in_ok-first.ensures.shorter))))
 
-pub more-returns-in_err-right-in-Some-clause-value : goal.more-returns-in_err-right-in-Some-clause-value
-more-returns-in_err-right-in-Some-clause-value t c = by_fuel _ _ (λ m h. search rules)
+pub climbed-operators-init : goal.climbed-operators-init
+climbed-operators-init t c = record {
+  shorter = omega arith;
+  level = omega arith;
+  leads = leads_first (λ x. expression x.0) (λ x. x.1.now) c.args.rank (expression c.args.first) c.args.tokens.now;
+}
+
+pub climbed-operators-preserved : goal.climbed-operators-preserved
+climbed-operators-preserved t c = record {
+  shorter = omega (arith, c.operators.invariant.shorter, c.in-Some.ensures.shorter, c.in_ok-right.ensures.shorter);
+  level = rw c.next_level-level.ensures (next_within c.operators.level c.args.rank c.in-Some.op c.in-Some.place c.operators.rest.now c.in-Some.behind.now c.in-Some.ensures.value);
+  leads = λ result holds. c.operators.invariant.leads result (climb_on (λ r. Gives (λ x. expression x.0) (λ x. x.1.now) result r)
+      c.operators.level c.args.rank c.in-Some.op (expression c.operators.left) (expression c.in_ok-right.right) c.in-Some.place
+      c.operators.rest.now c.in-Some.behind.now c.in_ok-right.behind.now c.in-Some.ensures.value c.in-Some.ensures.shorter c.in_ok-right.ensures.shorter
+      (λ m h. rw (← c.ranks.ensures.right) (c.in_ok-right.ensures.value m h))
+      (rw (c.next_level-level.ensures, c.in_ok-left.ensures) at holds));
+}
+
+pub climbed-returns-in_err-right-clause-value : goal.climbed-returns-in_err-right-clause-value
+climbed-returns-in_err-right-clause-value t c = λ n m a b.
+    rw (passed _ _ c.from_residual.ensures)
+    (c.operators.invariant.leads (Err c.in_err-right.field-0.0)
+    (climb_stops c.in_err-right.field-0.0 c.operators.level c.args.rank c.in-Some.op (expression c.operators.left) c.in-Some.place
+    c.operators.rest.now c.in-Some.behind.now c.in-Some.ensures.value c.in-Some.ensures.shorter
+    (λ k h. rw (← c.ranks.ensures.right) (c.in_err-right.ensures.value k h)))
+    n m a b)
+
+pub climbed-returns-clause-value : goal.climbed-returns-clause-value
+climbed-returns-clause-value t c = λ n m a b.
+    c.operators.invariant.leads (Ok (c.operators.left, c.operators.rest))
+    (climb_ends (λ r. Gives (λ (x : Expr × Bor (List Token)). expression x.0) (λ x. x.1.now) (Ok (c.operators.left, c.operators.rest)) r)
+    c.operators.level c.args.rank (expression c.operators.left) c.operators.rest.now c.in_default.ensures.value c.operators.invariant.level refl)
+    n m a b
 
 pub operand-returns-in-Key-clause-value : goal.operand-returns-in-Key-clause-value
 operand-returns-in-Key-clause-value t c = by_fuel _ _ (λ m h.

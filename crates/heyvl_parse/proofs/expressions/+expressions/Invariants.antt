@@ -1,5 +1,9 @@
+use Rattle.heyvl_parse.proofs.Climbing.{Leads}
 use Rattle.heyvl_parse.proofs.expressions.+expressions.Given as goal
-use Rattle.std.proofs.Common.{length, ◌*◌, ◌+◌}
+use Rattle.heyvl_syntax.specs.Expressions.{expression}
+use Rattle.heyvl_syntax.specs.declared.expressions.Expr.{Expr}
+use Rattle.heyvl_syntax.specs.declared.tokens.Token.{Token}
+use Rattle.std.proofs.Common.{Bor, List, length, suc, ◌*◌, ◌+◌, ◌≤◌}
 
 abbrev pub decreases-whole : goal.decreases-whole
 decreases-whole l = 20 * length l.tokens.now + 12
@@ -8,10 +12,20 @@ abbrev pub decreases-bound : goal.decreases-bound
 decreases-bound l = 20 * length l.tokens.now + 13
 
 abbrev pub decreases-full : goal.decreases-full
-decreases-full l = 20 * length l.tokens.now + 2 + l.rank
+decreases-full l = 20 * length l.tokens.now + 11
 
-abbrev pub decreases-more : goal.decreases-more
-decreases-more l = 20 * length l.tokens.now + 12
+abbrev pub decreases-climbed : goal.decreases-climbed
+decreases-climbed l = 20 * length l.tokens.now + 12
+
+abbrev pub invariant-climbed-operators : goal.invariant-climbed-operators
+invariant-climbed-operators l = record {
+  shorter : length l.rest ≤ length l.tokens;
+  level : l.level ≤ suc l.rank;
+  leads : Leads (λ (x : Expr × Bor (List Token)). expression x.0) (λ x. x.1.now) l.rank (expression l.fn.first) l.tokens l.level (expression l.left) l.rest;
+}
+
+abbrev pub decreases-climbed-operators : goal.decreases-climbed-operators
+decreases-climbed-operators l = length l.rest
 
 abbrev pub decreases-operand : goal.decreases-operand
 decreases-operand l = 20 * length l.tokens.now + 1

@@ -1,7 +1,7 @@
 use Rattle.heyvl_parse.proofs.simple.havoc.Goals as goal
 use Rattle.std.proofs.Common.{arith, refl, ◌<◌}
 use Rattle.std.proofs.lemmas.Grind.{common_steps}
-use Rattle.heyvl_syntax.proofs.PlainTreesAre.{plain_statements}
+use Rattle.heyvl_syntax.proofs.exported.PlainTreesAre.{plain_statements}
 
 pub returns-in_err-targets-clause-value : goal.returns-in_err-targets-clause-value
 returns-in_err-targets-clause-value c = λ n h. rw (c.in_ok-co.ensures.value) (grind (arith, common_steps, c.in_err-targets.ensures.value n (omega (arith, c.in_ok-co.ensures.shorter))))

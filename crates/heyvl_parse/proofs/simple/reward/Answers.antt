@@ -1,7 +1,7 @@
 use Rattle.heyvl_parse.proofs.simple.reward.Goals as goal
 use Rattle.std.proofs.Common.{arith, refl, ◌<◌}
 use Rattle.std.proofs.lemmas.Grind.{common_steps}
-use Rattle.heyvl_syntax.proofs.PlainTreesAre.{plain_statements}
+use Rattle.heyvl_syntax.proofs.exported.PlainTreesAre.{plain_statements}
 
 pub returns-in_err-amount-clause-value : goal.returns-in_err-amount-clause-value
 returns-in_err-amount-clause-value c = λ n h. rw (c.in_ok-rest.ensures.value) (grind (arith, common_steps, c.in_err-amount.ensures.value n (omega (arith, c.in_ok-rest.ensures.shorter))))

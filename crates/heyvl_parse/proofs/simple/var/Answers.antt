@@ -1,7 +1,7 @@
 use Rattle.heyvl_parse.proofs.simple.var.Goals as goal
 use Rattle.std.proofs.Common.{arith, refl, ◌<◌}
 use Rattle.std.proofs.lemmas.Grind.{common_steps}
-use Rattle.heyvl_syntax.proofs.PlainTreesAre.{plain_statements}
+use Rattle.heyvl_syntax.proofs.exported.PlainTreesAre.{plain_statements}
 
 pub returns-in_err-name-clause-value : goal.returns-in_err-name-clause-value
 returns-in_err-name-clause-value c = λ n h. rw (c.in_ok-rest.ensures.value) (grind (arith, common_steps, c.in_err-name.ensures.value))

@@ -8,7 +8,7 @@ use Rattle.heyvl_parse.specs.Results.{Fails}
 use Rattle.heyvl_parse.specs.Statements.{braced, branched, entry, is_opening, next_of, skip, stmt, stmts}
 use Rattle.heyvl_parse.specs.declared.stops.PartStop.TheVariants.{Fault, Memory}
 use Rattle.heyvl_parse.specs.declared.stops.PartStop.{PartStop}
-use Rattle.heyvl_syntax.proofs.PlainTreesAre.{plain_statements}
+use Rattle.heyvl_syntax.proofs.exported.PlainTreesAre.{plain_statements}
 use Rattle.heyvl_syntax.specs.Statements.{Block, Statement, block, block_of, guarded, statement}
 use Rattle.heyvl_syntax.specs.declared.tokens.Token.{Token}
 use Rattle.std.proofs.Common.{List, ap, arith, length, map, refl, suc, sym, ◌<◌, ◌∙◌, ◌≡◌, ◌≤◌, ℕ}

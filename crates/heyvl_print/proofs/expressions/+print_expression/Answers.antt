@@ -1,6 +1,6 @@
 use Rattle.heyvl_print.proofs.ExpressionTexts.{binary_text, bound_text, bracket_text, choice_text, embed_text, group_text, unary_text}
 use Rattle.heyvl_print.proofs.expressions.+print_expression.Goals as goal
-use Rattle.heyvl_syntax.proofs.PlainTreesAre.{plain_expressions}
+use Rattle.heyvl_syntax.proofs.exported.PlainTreesAre.{plain_expressions}
 use Rattle.heyvl_syntax.specs.Expressions.{expression}
 
 pub returns-in_ok-write-in-Group-2 : goal.returns-in_ok-write-in-Group-2

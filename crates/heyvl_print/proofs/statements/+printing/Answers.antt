@@ -1,7 +1,7 @@
 use Rattle.heyvl_print.proofs.BlockTexts.{arm_next, arm_text, arms_done, braced_text, branch_text, check_text, guarded_text, loop_text, pick_text, reward_text, statement_next, validate_text}
 use Rattle.heyvl_print.proofs.statements.+printing.Goals as goal
 use Rattle.heyvl_print.specs.Canonical.{block_lines}
-use Rattle.heyvl_syntax.proofs.PlainTreesAre.{plain_statements}
+use Rattle.heyvl_syntax.proofs.exported.PlainTreesAre.{plain_statements}
 use Rattle.heyvl_syntax.specs.Expressions.{expression}
 use Rattle.heyvl_syntax.specs.Statements.{arms, block, guarded, loop_rules, statement}
 use Rattle.std.proofs.Common.{◌+◌}

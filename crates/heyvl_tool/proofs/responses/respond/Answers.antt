@@ -1,5 +1,5 @@
-use Rattle.heyvl_syntax.proofs.FaultPlaces.{fault_inside}
-use Rattle.heyvl_syntax.proofs.InOrder.{tokens_few}
+use Rattle.heyvl_syntax.proofs.exported.FaultPlaces.{fault_inside}
+use Rattle.heyvl_syntax.proofs.exported.InOrder.{tokens_few}
 use Rattle.heyvl_syntax.specs.Procedures.{procedures}
 use Rattle.heyvl_syntax.specs.SourceFaults.{IsTokenFault, token_place}
 use Rattle.heyvl_syntax.specs.Tokens.{Lexes, Stops}

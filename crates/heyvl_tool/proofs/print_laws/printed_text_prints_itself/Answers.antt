@@ -1,6 +1,6 @@
 use Rattle.heyvl_print.specs.Canonical.{canonical_text}
 use Rattle.heyvl_syntax.specs.Procedures.{Procedure}
-use Rattle.heyvl_tool.proofs.printing.printed_text_prints_itself.Goals as goal
+use Rattle.heyvl_tool.proofs.print_laws.printed_text_prints_itself.Goals as goal
 use Rattle.std.proofs.Common.{List, subst, ◌≡◌}
 
 -- src/printing.rt:18:1

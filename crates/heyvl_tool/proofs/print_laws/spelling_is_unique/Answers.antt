@@ -1,6 +1,6 @@
 use Rattle.heyvl_syntax.specs.Grammar.{IsFile}
 use Rattle.heyvl_syntax.specs.declared.tokens.Token.{Token}
-use Rattle.heyvl_tool.proofs.printing.spelling_is_unique.Goals as goal
+use Rattle.heyvl_tool.proofs.print_laws.spelling_is_unique.Goals as goal
 use Rattle.std.proofs.Common.{List, subst, ◌≡◌}
 
 -- src/printing.rt:10:1

@@ -14,7 +14,7 @@ pub fn spelling_is_unique()
     file_is_unique();
 }
 
-/// Printing what was printed gives the same bytes.
+/// Printing what was printed gives the same bytes, where what was printed is within the limits of a file.
 pub fn printed_text_prints_itself()
     ensures { PrintedTextPrintsItself }
 {

@@ -1,5 +1,5 @@
-use Rattle.heyvl_io.specs.OrderLaws.{order_after-next, order_after-other}
-use Rattle.heyvl_io.proofs.orders.names_in_order.Goals as goal
+use Rattle.heyvl_io.proofs.Starting.{order_after-next, order_after-other}
+use Rattle.heyvl_io.proofs.order_laws.names_in_order.Goals as goal
 
 pub returns-clause-next : goal.returns-clause-next
 returns-clause-next c = order_after-next

@@ -1,0 +1,13 @@
+-- The lemmas that crates above may cite. All other proofs are private.
+pub mod Digits
+pub mod FaultPlaces
+pub mod FewNodes
+pub mod InOrder
+pub mod OneFault
+pub mod PlainTreesAre
+pub mod Runs
+pub mod Sequences
+pub mod Starts
+pub mod Steps
+pub mod TokenReads
+pub mod Unique

@@ -1,0 +1,2 @@
+-- For crates above. The plain trees of the trees in memory.
+pub use Rattle.heyvl_syntax.proofs.PlainTreesAre.{plain_expressions, plain_statements}

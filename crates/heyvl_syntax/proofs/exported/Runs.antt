@@ -1,0 +1,2 @@
+-- For crates above. Runs of bytes of one class.
+pub use Rattle.heyvl_syntax.proofs.Runs.{and_left, and_right, run_ends, run_stops}
