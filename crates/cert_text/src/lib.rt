@@ -1,0 +1,15 @@
+//! The text of certificates.
+#![tactic(auto)]
+
+mod goal_names;
+mod lines;
+mod numbers;
+mod reader;
+mod reading;
+mod stops;
+mod words;
+mod writing;
+
+pub use reader::read_cert;
+pub use stops::CertStop;
+pub use writing::write_cert;
