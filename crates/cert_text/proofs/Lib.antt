@@ -6,3 +6,5 @@ pub mod Filling
 pub mod Written
 pub mod Progress
 pub mod Answering
+pub mod Unique
+pub mod Rows

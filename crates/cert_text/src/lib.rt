@@ -2,6 +2,7 @@
 #![tactic(auto)]
 
 mod goal_names;
+mod laws;
 mod lines;
 mod numbers;
 mod reader;
@@ -10,6 +11,7 @@ mod stops;
 mod words;
 mod writing;
 
+pub use laws::{faults_are_unique, texts_are_unique};
 pub use reader::read_cert;
 pub use stops::CertStop;
 pub use writing::write_cert;
