@@ -42,7 +42,10 @@ const TEXTS: [(&str, u32); 39] = [
     ("caesar certificate 1\ngoal 0 main\n", 3),
     ("caesar certificate 1\ngoal 0 main\nt", 3),
     ("caesar certificate 1\ngoal 0 main\nend\n", 3),
-    ("caesar certificate 1\ngoal 0 main\ngoal 1 main\nt\nend\n", 3),
+    (
+        "caesar certificate 1\ngoal 0 main\ngoal 1 main\nt\nend\n",
+        3,
+    ),
     ("caesar certificate 1\ngoal 0 main\nt\n", 4),
     ("caesar certificate 1\ngoal 0 main\nt\nt\nend\n", 4),
     ("caesar certificate 1\ngoal 0 main\nt\nend", 4),

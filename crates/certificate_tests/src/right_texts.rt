@@ -74,7 +74,9 @@ fn the_first_tree_is_where_the_atom_holds(rt: HostRuntime) -> Result<(), Fail> {
     let certs = read_cert(rt.alloc(), text).ok();
     let right = match certs {
         Some(certs) => match certs.as_slice() {
-            [cert] => cert.proc == 2 && cert.id == GoalId::Invariant(4) && is_small_tree(&cert.tree),
+            [cert] => cert.proc == 2
+                && cert.id == GoalId::Invariant(4)
+                && is_small_tree(&cert.tree),
             _ => false,
         },
         None => false,
