@@ -1,0 +1,18 @@
+-- A leaf that makes a tree whole.
+use Rattle.std.proofs.Common.{◌≡◌, List, [], ◌∷◌, ◌++◌, Some, sym, ap, ◌∙◌, subst}
+use Rattle.std.proofs.lemmas.List.{map-append}
+use Rattle.farkas_check.specs.Trees.{tree_of}
+use Rattle.farkas_check.specs.declared.trees.Tree as T
+use Rattle.farkas_check.specs.declared.trees.GoalCert.{GoalCert}
+use Rattle.cert_text.specs.declared.goal_names.GoalName.{GoalName}
+use Rattle.cert_text.specs.Certificates.{Certificate, certificate_of, certificates_of}
+use Rattle.cert_text.specs.Reading.{Filled, whole, between, filled_state}
+
+pub made_whole : (certs pushed : List GoalCert) (name : GoalName) (t : T.Tree) (f : Filled) → f ≡ whole (tree_of t)
+    → pushed ≡ certs ++ (record { proc = name.proc; id = name.id; tree = t }) ∷ []
+    → between (certificates_of pushed) (Some name) ≡ filled_state (certificates_of certs) name f
+made_whole certs pushed name t f e p =
+    let last : GoalCert = record { proc = name.proc; id = name.id; tree = t } in
+    let q : certificates_of pushed ≡ certificates_of certs ++ certificate_of last ∷ [] = ap (λ (xs : List GoalCert). certificates_of xs) p ∙ map-append certificate_of certs (last ∷ []) in
+    let P : Filled → Type 0 = λ g. between (certificates_of pushed) (Some name) ≡ filled_state (certificates_of certs) name g in
+    subst P (sym e) (ap (λ (xs : List Certificate). between xs (Some name)) q)

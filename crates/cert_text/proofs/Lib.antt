@@ -1,0 +1,10 @@
+pub mod Decimals
+pub mod Walk
+pub mod Cutting
+pub mod Multipliers
+pub mod Filling
+pub mod Written
+pub mod Progress
+pub mod Answering
+pub mod Unique
+pub mod Rows

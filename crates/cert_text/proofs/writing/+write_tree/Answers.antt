@@ -1,0 +1,12 @@
+use Rattle.cert_text.proofs.Written.{split_written, farkas_written}
+use Rattle.cert_text.proofs.writing.+write_tree.Goals as goal
+
+pub returns-in_ok-write_tree-in-Split-2 : goal.returns-in_ok-write_tree-in-Split-2
+returns-in_ok-write_tree-in-Split-2 t c =
+    split_written c.args.tree.now c.in-Split.holds c.in-Split.fails c.deref.result.now c.deref-in-Split.result.now _ _ _ _ c.in-Split.is c.deref.ensures c.deref-in-Split.ensures
+    c.in_ok-extend_from_slice-in-Split.ensures.items c.in_ok-write_tree-in-Split.ensures c.in_ok-write_tree-in-Split-2.ensures
+
+pub returns-in_ok-push-in-Farkas-2 : goal.returns-in_ok-push-in-Farkas-2
+returns-in_ok-push-in-Farkas-2 t c =
+    farkas_written c.args.tree.now c.in-Farkas.multipliers c.deref-in-Farkas.result.now _ _ _ _ c.in-Farkas.is c.deref-in-Farkas.ensures.value
+    c.in_ok-push-in-Farkas.ensures.items c.in_ok-write_multipliers-in-Farkas.ensures c.in_ok-push-in-Farkas-2.ensures.items

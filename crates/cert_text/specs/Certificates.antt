@@ -1,0 +1,92 @@
+-- Lists of certificates as plain data, and which of them have a text. This project's own.
+use Rattle.std.specs.Prelude.{ℕ, ◌+◌, ◌<◌, ◌≤◌, ◌^◌, ◌==◌, ◌&&◌, ◌||◌, Bool, true, IsTrue, List, [], ◌∷◌, Option, Some, None, length, map, max, nat_lt}
+use Rattle.std.specs.List.{All, AllByRecursion}
+use Rattle.heylo_formula.specs.declared.goals.GoalId.{GoalId}
+use Rattle.heylo_formula.specs.declared.goals.GoalId.TheVariants.{Main, Pre, Post, Invariant, Ranking}
+use Rattle.linear_form.specs.Combination.{IsGrowing}
+use Rattle.farkas_check.specs.Trees.{Tree, tree_of}
+use Rattle.farkas_check.specs.declared.trees.GoalCert.{GoalCert}
+use Rattle.cert_text.specs.declared.goal_names.GoalName.{GoalName}
+
+-- A tree for a goal of a file.
+pub record Certificate : Type 0 where
+  pub name : GoalName
+  pub tree : Tree
+
+-- The certificate that the program holds, read as plain data.
+abbrev pub certificate_of : GoalCert → Certificate
+certificate_of c = record { name = record { proc = c.proc; id = c.id }; tree = tree_of c.tree }
+
+-- The list that the program holds, read as plain data.
+abbrev pub certificates_of : List GoalCert → List Certificate
+certificates_of cs = map certificate_of cs
+
+-- A procedure's goals stand in this order: the main goal, those of pre and post, those of the invariants, those of the rankings.
+abbrev pub kind_rank : GoalId → ℕ
+kind_rank Main = 0
+kind_rank Pre = 1
+kind_rank Post = 2
+kind_rank (Invariant loop) = 3
+kind_rank (Ranking loop) = 4
+
+-- The number of the goal's loop; 0 where it has none.
+abbrev pub loop_of : GoalId → ℕ
+loop_of Main = 0
+loop_of Pre = 0
+loop_of Post = 0
+loop_of (Invariant loop) = loop
+loop_of (Ranking loop) = loop
+
+-- Of one procedure's goals the first stands before the second.
+abbrev pub stands_before : GoalId → GoalId → Bool
+stands_before i j = nat_lt (kind_rank i) (kind_rank j) || (kind_rank i == kind_rank j && nat_lt (loop_of i) (loop_of j))
+
+-- The first goal is of an earlier procedure, or stands before the second in the same.
+abbrev pub precedes : GoalName → GoalName → Bool
+precedes m n = nat_lt m.proc n.proc || (m.proc == n.proc && stands_before m.id n.id)
+
+-- A goal may come after the latest one, if there is one.
+abbrev pub may_follow : Option GoalName → GoalName → Bool
+may_follow None n = true
+may_follow (Some m) n = precedes m n
+
+-- The goals grow strictly, from the one that came before them on, if there is one.
+abbrev pub IsGrowingAfter : Option GoalName → List Certificate → Type 0
+IsGrowingAfter latest [] = Unit {0}
+IsGrowingAfter latest (c ∷ cs) = IsTrue (may_follow latest c.name) × IsGrowingAfter (Some c.name) cs
+
+-- The procedure's number and the loop's have 32 bits.
+pub record IsNumbered (n : GoalName) : Type 0 where
+  pub proc : n.proc < 2 ^ 32
+  pub loop : loop_of n.id < 2 ^ 32
+
+-- One or more multipliers by row index: the indexes grow and have 32 bits, the multipliers are from 1 to 2^62 - 1.
+pub record AreMultipliers (ms : List (ℕ × ℕ)) : Type 0 where
+  pub some : 0 < length ms
+  pub growing : IsGrowing ms
+  pub within : All (λ m. m.0 < 2 ^ 32) ms
+  pub positive : All (λ m. 0 < m.1) ms
+  pub narrow : All (λ m. m.1 < 2 ^ 62) ms
+
+-- All multipliers of a tree are such.
+abbrev pub HasMultipliers : Tree → Type 0
+HasMultipliers (Tree.split t u) = HasMultipliers t × HasMultipliers u
+HasMultipliers (Tree.farkas ms) = AreMultipliers ms
+HasMultipliers Tree.plain = Unit {0}
+
+-- How many nodes stand on a longest way from the root to a leaf.
+abbrev pub depth : Tree → ℕ
+depth (Tree.split t u) = max (depth t) (depth u) + 1
+depth (Tree.farkas ms) = 1
+depth Tree.plain = 1
+
+-- The certificate has a text: a tree is at most 1,000 deep.
+pub record IsWritable (c : Certificate) : Type 0 where
+  pub name : IsNumbered c.name
+  pub multipliers : HasMultipliers c.tree
+  pub depth : depth c.tree ≤ 1000
+
+-- The list has a text: each certificate has one, and their goals grow strictly.
+pub record AreWritable (cs : List Certificate) : Type 0 where
+  pub growing : IsGrowingAfter None cs
+  pub each : AllByRecursion IsWritable cs

@@ -1,0 +1,8 @@
+pub mod Certificates
+pub mod Lines
+pub mod Texts
+pub mod TextLaws
+pub mod Stops
+pub mod Words
+pub mod Reading
+pub mod Ends

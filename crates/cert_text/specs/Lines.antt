@@ -1,0 +1,50 @@
+-- The lines of a text of certificates. This project's own.
+use Rattle.std.specs.Prelude.{ℕ, List, [], ◌∷◌, ◌++◌, codes, decimal}
+use Rattle.heylo_formula.specs.declared.goals.GoalId.{GoalId}
+use Rattle.heylo_formula.specs.declared.goals.GoalId.TheVariants.{Main, Pre, Post, Invariant, Ranking}
+use Rattle.cert_text.specs.declared.goal_names.GoalName.{GoalName}
+use Rattle.cert_text.specs.Certificates.{IsNumbered, AreMultipliers}
+
+-- The title; a goal, whose tree follows; a node of a tree; the end.
+pub data Line : Type 0 where
+  title : Line
+  goal : GoalName → Line
+  split : Line
+  farkas : List (ℕ × ℕ) → Line
+  plain : Line
+  last : Line
+
+-- `main`, `pre`, `post`, `invariant N` or `ranking N`.
+abbrev pub id_text : GoalId → List ℕ
+id_text Main = codes "main"
+id_text Pre = codes "pre"
+id_text Post = codes "post"
+id_text (Invariant loop) = codes "invariant " ++ decimal loop
+id_text (Ranking loop) = codes "ranking " ++ decimal loop
+
+-- ` I:M`
+abbrev pub multiplier_text : ℕ × ℕ → List ℕ
+multiplier_text m = 32 ∷ (decimal m.0 ++ 58 ∷ decimal m.1)
+
+-- The multipliers, one behind another.
+abbrev pub multipliers_text : List (ℕ × ℕ) → List ℕ
+multipliers_text [] = []
+multipliers_text (m ∷ ms) = multiplier_text m ++ multipliers_text ms
+
+-- The bytes of a line, without its line feed.
+abbrev pub line_text : Line → List ℕ
+line_text title = codes "caesar certificate 1"
+line_text (goal n) = codes "goal " ++ (decimal n.proc ++ 32 ∷ id_text n.id)
+line_text split = codes "s"
+line_text (farkas ms) = 102 ∷ multipliers_text ms
+line_text plain = codes "t"
+line_text last = codes "end"
+
+-- The numbers of the line are within their bounds.
+abbrev pub IsLine : Line → Type 0
+IsLine title = Unit {0}
+IsLine (goal n) = IsNumbered n
+IsLine split = Unit {0}
+IsLine (farkas ms) = AreMultipliers ms
+IsLine plain = Unit {0}
+IsLine last = Unit {0}

@@ -1,0 +1,17 @@
+//! The text of certificates.
+#![tactic(auto)]
+
+mod goal_names;
+mod laws;
+mod lines;
+mod numbers;
+mod reader;
+mod reading;
+mod stops;
+mod words;
+mod writing;
+
+pub use laws::{faults_are_unique, texts_are_unique};
+pub use reader::read_cert;
+pub use stops::CertStop;
+pub use writing::write_cert;
