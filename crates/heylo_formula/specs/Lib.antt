@@ -9,6 +9,7 @@ pub mod Meaning
 pub mod Binders
 pub mod Typing
 pub mod Goals
+pub mod TypedGoals
 pub mod Extrema
 pub mod Substitution
 pub mod Laws

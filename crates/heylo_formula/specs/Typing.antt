@@ -1,7 +1,7 @@
 -- Well-typed formulas. A UInt widens to Int and to UReal, a UReal widens to EUReal, and a UInt so to EUReal too. The join
 -- of two types is the least one to which both widen; Int has no join with UReal and EUReal. A formula is of UInt, UReal or
 -- EUReal.
-use Rattle.std.specs.Prelude.{◌≡◌, ℕ, Bool, true, false, ◌==◌, ◌&&◌, Option, Some, None, if◌then◌else◌}
+use Rattle.std.specs.Prelude.{◌≡◌, ℕ, Bool, true, false, ◌==◌, ◌&&◌, Option, Some, None, List, get_or, if◌then◌else◌}
 use Rattle.heyvl_num.specs.Rational.{zeroʳ, leqʳ}
 use Rattle.heyvl_num.specs.Value.{Value}
 use Rattle.heyvl_num.specs.Value.Value.{finite, infinite}
@@ -19,6 +19,10 @@ pub data NumberType : Type 0 where
 -- The types of the variables, by number.
 abbrev pub Types : Type 0
 Types = ℕ → Ty
+
+-- The types of a list, by number; Bool for a number that has no variable.
+abbrev pub types_in : List Ty → Types
+types_in tys x = get_or tys x Ty.Bool
 
 -- The types with a variable's changed.
 abbrev pub retyped : ℕ → Ty → Types → Types

@@ -1,5 +1,5 @@
 -- Where the number of a variable occurs in a formula.
-use Rattle.std.specs.Prelude.{ℕ, Bool, false, ◌==◌, ◌||◌, if◌then◌else◌}
+use Rattle.std.specs.Prelude.{◌≡◌, ℕ, ◌<◌, Bool, true, false, ◌==◌, ◌||◌, if◌then◌else◌}
 use Rattle.heylo_formula.specs.Formula.{Form, Cond, Term}
 
 -- Whether the variable occurs outside every binder of its number.
@@ -71,3 +71,11 @@ abbrev mutual
 abbrev pub occurs_in_term : ℕ → Term → Bool
 occurs_in_term x (Term.truth g) = occurs_in x g
 occurs_in_term x (Term.number f) = occurs x f
+
+-- Each free variable of the form is one of the first n.
+abbrev pub IsOver : ℕ → Form → Type 0
+IsOver n f = (x : ℕ) → is_free x f ≡ true → x < n
+
+-- Each free variable of the condition is one of the first n.
+abbrev pub IsOverIn : ℕ → Cond → Type 0
+IsOverIn n g = (x : ℕ) → is_free_in x g ≡ true → x < n
