@@ -1,12 +1,12 @@
 -- Acts and procedures, as plain trees: what a procedure does, with variables, procedures and loops by number.
-use Rattle.std.specs.Prelude.{ℕ, Bool, List, [], ◌∷◌, ◌++◌, Option, Some, None, map, get_or}
+use Rattle.std.specs.Prelude.{ℕ, Bool, List, [], ◌∷◌, ◌++◌, Option, Some, None, map}
 use Prim.Native.Nat.{zero, suc}
 use Rattle.heyvl_num.specs.Rational.{Rational}
 use Rattle.heyvl_num.specs.Value.{zeroᵛ}
 use Rattle.heyvl_syntax.specs.declared.spans.Span.{Span}
 use Rattle.heyvl_syntax.specs.declared.statements.CheckKind.{CheckKind}
 use Rattle.heylo_formula.specs.Formula.{Form, Cond, Term}
-use Rattle.heylo_formula.specs.Typing.{Types}
+use Rattle.heylo_formula.specs.Typing.{Types, types_in}
 use Rattle.heylo_formula.specs.declared.types.Ty.{Ty}
 
 -- A loop without its body: its number, the number of copies of its body, its invariant, its guard, its ranking with the
@@ -71,10 +71,6 @@ type_list vs = map (λ v. v.ty) vs
 
 abbrev pub variables : TypedProcedure → List Variable
 variables p = p.inputs ++ (p.outputs ++ p.locals)
-
--- The types of an environment that is made of a list: Bool beyond it.
-abbrev pub types_in : List Ty → Types
-types_in tys x = get_or tys x Ty.Bool
 
 abbrev pub types_of : TypedProcedure → Types
 types_of p = types_in (type_list (variables p))

@@ -2,7 +2,9 @@
 #![tactic(auto)]
 
 mod acts;
+mod laws;
 mod typed;
 
 pub use acts::{Act, LoopAct};
+pub use laws::forward_meaning_matches_runs;
 pub use typed::{TProc, Typed, VarInfo};
