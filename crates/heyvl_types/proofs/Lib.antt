@@ -1,0 +1,2 @@
+mod Matching
+pub mod exported

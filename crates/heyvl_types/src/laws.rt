@@ -1,10 +1,6 @@
 //! Laws of acts. Each function does nothing: its contract is the law.
 
-ghost use Rattle.heyvl_types.specs.Length as lengths;
 ghost use Rattle.heyvl_types.specs.Matching as matching;
-ghost use Rattle.heyvl_types.specs.Program as programs;
-ghost use Rattle.heyvl_types.specs.Rules as rules;
-ghost use Rattle.heyvl_types.specs.WellTyped as typed;
 
 /// What a run asks of the forward meaning, whatever loops and calls mean: a list of acts after another means the one
 /// before what the other means; and after each kind of act, choices for what follows are part of choices for the whole.
