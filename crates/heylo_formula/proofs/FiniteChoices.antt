@@ -1,17 +1,17 @@
 -- A form whose binders are over Bool has a meaning: the greater or the smaller of two.
-use Rattle.std.proofs.Common.{◌≡◌, ℕ, refl, Bool, true, false, cond, ◌&&◌}
+use Rattle.std.proofs.Common.{◌≡◌, ℕ, refl, Bool, true, false, cond}
 use Rattle.std.specs.Prelude.{◌↔◌}
-use Rattle.heyvl_num.specs.Value.{Value, ◌+ᵛ◌, ◌*ᵛ◌, ◌≤ᵛ◌}
+use Rattle.heyvl_num.specs.Value.{Value, ◌+ᵛ◌, ◌*ᵛ◌}
 use Rattle.heyvl_num.specs.Value.Value.{finite}
 use Rattle.heyvl_num.specs.ValueOperators.{minᵛ, maxᵛ, impliesᵛ, coimpliesᵛ, monusᵛ}
 use Rattle.heyvl_num.proofs.exported.Operators.{min_adjoint, max_adjoint}
 use Rattle.heylo_formula.specs.Operators.{differenceᵛ, validateᵛ, covalidateᵛ}
-use Rattle.heylo_formula.specs.State.{Env, put, has, truth_of}
+use Rattle.heylo_formula.specs.State.{Env, put, has}
 use Rattle.heylo_formula.specs.Choices.{Choices}
 use Rattle.heylo_formula.specs.Formula.{Form}
 use Rattle.heylo_formula.specs.Meaning.{holds}
 use Rattle.heylo_formula.specs.Goals.{Compares}
-use Rattle.heylo_formula.specs.Extrema.{Means, Mapped, Joined, Bound, Chosen, IsBest}
+use Rattle.heylo_formula.specs.Extrema.{Means, Mapped, Joined, Chosen, IsBest}
 use Rattle.heylo_formula.specs.Typing.{is_bool}
 use Rattle.heylo_formula.specs.MeaningLaws.{chooses_finitely, HasMeaning}
 use Rattle.heylo_formula.specs.declared.types.Ty.{Ty}

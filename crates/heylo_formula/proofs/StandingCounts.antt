@@ -1,9 +1,8 @@
 -- A count that stands still at a number may begin from counts that do.
-use Rattle.std.proofs.Common.{◌≡◌, ℕ, ◌+◌, refl, ap, ap₂, arith, Bool, true, false, cond, ◌==◌, min}
+use Rattle.std.proofs.Common.{◌≡◌, ℕ, ◌+◌, refl, arith, Bool, true, false, cond, ◌==◌, min}
 use Rattle.heylo_formula.specs.Formula.{Form, Cond}
 use Rattle.heylo_formula.specs.Sizes.{nodes}
 use Rattle.heylo_formula.specs.Substitution.{nodes_put, nodes_put_in}
-use Rattle.heylo_formula.specs.declared.types.Ty.{Ty}
 
 still_two : (l a b c d : ℕ) → min l a ≡ min l c → min l b ≡ min l d → min l (1 + (a + b)) ≡ min l (1 + (c + d))
 still_two l a b c d h k = omega arith

@@ -1,5 +1,4 @@
 -- Laws of the operators of formulas: validate and covalidate keep the order and the sign.
-use Rattle.std.specs.Prelude.{◌≡◌}
 use Rattle.heyvl_num.specs.Value.{Value, zeroᵛ, ◌≤ᵛ◌}
 use Rattle.heyvl_num.specs.WholeNumbers.{IsWhole}
 use Rattle.heylo_formula.specs.Operators.{differenceᵛ, validateᵛ, covalidateᵛ}

@@ -4,7 +4,7 @@ use Rattle.heylo_formula.specs.Formula.{Form, Cond}
 use Rattle.heylo_formula.specs.State.{Env}
 use Rattle.heylo_formula.specs.Choices.{Choices}
 use Rattle.heylo_formula.specs.Meaning.{value, holds}
-use Rattle.heylo_formula.specs.Variables.{is_free, is_free_in, occurs, IsOver, IsOverIn}
+use Rattle.heylo_formula.specs.Variables.{is_free, occurs, IsOver, IsOverIn}
 use Rattle.heylo_formula.specs.Binders.{has_binder, has_binder_in}
 use Rattle.heylo_formula.specs.Sizes.{nodes, depth}
 use Rattle.heylo_formula.specs.Extrema.{is_directed}

@@ -2,8 +2,8 @@
 use Rattle.std.specs.Prelude.{◌≡◌, ◌⊎◌, ℕ, ◌≤◌, ◌<◌, Bool, true, false, []}
 use Rattle.heylo_formula.specs.Formula.{Form, Cond, Term}
 use Rattle.heylo_formula.specs.Variables.{is_free, is_free_in, occurs, occurs_in, occurs_in_term, IsOver}
-use Rattle.heylo_formula.specs.Sizes.{nodes, nodes_in, depth, depth_in}
-use Rattle.heylo_formula.specs.Binders.{has_binder, has_binder_in, IsPlain}
+use Rattle.heylo_formula.specs.Sizes.{nodes, nodes_in, depth}
+use Rattle.heylo_formula.specs.Binders.{has_binder, IsPlain}
 use Rattle.heylo_formula.specs.BinderNames.{binders}
 use Rattle.heylo_formula.specs.Extrema.{is_directed}
 use Rattle.heylo_formula.specs.Typing.{Types, retyped, type_of, is_well_typed}

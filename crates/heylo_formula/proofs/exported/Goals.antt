@@ -1,15 +1,13 @@
 -- Meant for the proofs of other crates. What goals depend on, and of which states they speak.
-use Rattle.std.proofs.Common.{◌≡◌, ◌<◌, ℕ, sym, subst, Bool, true, false, ap}
-use Rattle.std.specs.Prelude.{◌↔◌, List, length}
-use Rattle.heyvl_num.specs.Value.{Value}
-use Rattle.heylo_formula.specs.State.{Env, has, environment, IsTyped, listed}
+use Rattle.std.proofs.Common.{◌≡◌, ◌<◌, ℕ, sym, subst, true}
+use Rattle.std.specs.Prelude.{length}
+use Rattle.heylo_formula.specs.State.{Env, has, environment, listed}
 use Rattle.heylo_formula.specs.Choices.{Choices}
 use Rattle.heylo_formula.specs.Meaning.{value}
 use Rattle.heylo_formula.specs.Typing.{types_in}
 use Rattle.heylo_formula.specs.Goals.{Goal, Compares, Holds, HoldsIn}
-use Rattle.heylo_formula.specs.TypedGoals.{HasItsVariables, HasNoBinder}
-use Rattle.heylo_formula.specs.declared.values.Val.{Val}
-use Rattle.heylo_formula.proofs.exported.Agreement.{same_on, unchosen}
+use Rattle.heylo_formula.specs.TypedGoals.{HasItsVariables}
+use Rattle.heylo_formula.proofs.exported.Agreement.{same_on}
 use Rattle.heylo_formula.proofs.exported.States.{env_typed, listed_same, listed_typed}
 
 pub goal_reads : (g : Goal) (s t : Env) → HasItsVariables g → ((x : ℕ) → x < length g.types → s x ≡ t x) → HoldsIn g s → HoldsIn g t

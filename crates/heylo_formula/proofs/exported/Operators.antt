@@ -1,6 +1,6 @@
 -- Meant for the proofs of other crates. Validate and covalidate keep the order and the sign.
 use Rattle.std.proofs.Common.{◌≡◌, refl, sym, ap, subst, Bool, true, false, cond, ◌⊎◌, inl, inr}
-use Rattle.heyvl_num.specs.Rational.{Rational, zeroʳ}
+use Rattle.heyvl_num.specs.Rational.{zeroʳ}
 use Rattle.heyvl_num.specs.Value.{Value, zeroᵛ, is_zeroʳ, ◌≤ᵛ◌}
 use Rattle.heyvl_num.specs.Value.Value.{finite, infinite}
 use Rattle.heyvl_num.proofs.exported.Values.{is_zero-zero, is_zero-is, ≤ᵛ_refl, ≤ᵛ_infinite, ≤ᵛ_antisym, infinite_above}

@@ -15,10 +15,8 @@ use Rattle.heylo_formula.specs.Variables.{is_free, is_free_in, occurs, occurs_in
 use Rattle.heylo_formula.specs.Binders.{has_binder, has_binder_in}
 use Rattle.heylo_formula.specs.Sizes.{nodes, nodes_in, depth, depth_in}
 use Rattle.heylo_formula.specs.Extrema.{is_directed}
-use Rattle.heylo_formula.specs.Typing.{NumberType, Types, retyped, number_type, is_bool, joined, is_finite_type, is_unsigned, only_if, difference_type, cut_type, scale_type, type_of, is_well_typed}
+use Rattle.heylo_formula.specs.Typing.{NumberType, Types, retyped, joined, is_finite_type, is_unsigned, only_if, difference_type, cut_type, scale_type, type_of, is_well_typed}
 use Rattle.heylo_formula.specs.Shifted.{shifted, shifted_in, extent, extent_in}
-use Rattle.heylo_formula.specs.declared.types.Ty.{Ty}
-use Rattle.heylo_formula.specs.declared.values.Val.{Val}
 use Rattle.heylo_formula.proofs.Dependence.{three, or_false, same_on}
 use Rattle.heylo_formula.proofs.SubstitutionTypes.{same_types}
 

@@ -1,17 +1,16 @@
 -- Meant for the proofs of other crates. Typed states: lists of values, the environments that they are, and values that fit.
-use Rattle.std.proofs.Common.{◌≡◌, ◌≢◌, ◌≤◌, ◌<◌, ◌+◌, ℕ, refl, sym, ap, ◌∙◌, subst, arith, Bool, true, false, cond, ◌==◌, ◌&&◌, ◌⊎◌, inl, inr, List, [], ◌∷◌, ◌++◌, length-append}
+use Rattle.std.proofs.Common.{◌≡◌, ◌≢◌, ◌<◌, ◌+◌, ℕ, refl, sym, ap, ◌∙◌, subst, arith, true, false, cond, ◌==◌, ◌⊎◌, inl, inr, List, [], ◌∷◌, ◌++◌}
 use Rattle.std.specs.Prelude.{length, get_or, set, eqb}
 use Rattle.std.proofs.lemmas.Bool.Decides.{eqb_tells}
 use Rattle.std.proofs.lemmas.Grind.{get_or-set_at}
 use Rattle.std.proofs.lemmas.List.{get_or-set_other}
 use mathlib.Core.Path.{fun_ext}
 use Prim.Native.Nat.{zero, suc}
-use Rattle.heyvl_num.specs.Rational.{zeroʳ, leqʳ}
 use Rattle.heylo_formula.specs.State.{Env, put, has, environment, IsTyped, listed}
 use Rattle.heylo_formula.specs.Typing.{Types, types_in, HasTypes}
 use Rattle.heylo_formula.specs.declared.types.Ty.{Ty}
 use Rattle.heylo_formula.specs.declared.values.Val.{Val}
-use Rattle.heylo_formula.specs.declared.values.Val.TheVariants.{Truth, Num}
+use Rattle.heylo_formula.specs.declared.values.Val.TheVariants.{Truth}
 pub use Rattle.heylo_formula.proofs.Dependence.{put_again, put_commute}
 pub use Rattle.heylo_formula.proofs.TypedValues.{fit_has, fit_same, put_typed}
 

@@ -2,7 +2,7 @@
 -- has a value of it, where the variables have values of their types.
 use Rattle.std.proofs.Common.{◌≡◌, ℕ, refl, sym, subst, arith, Bool, true, false, cond, ◌==◌, ◌&&◌}
 use Rattle.std.specs.Prelude.{Option, Some, None}
-use Rattle.heyvl_num.specs.Rational.{Rational, zeroʳ, leqʳ}
+use Rattle.heyvl_num.specs.Rational.{zeroʳ, leqʳ}
 use Rattle.heyvl_num.specs.Value.{Value, zeroᵛ, oneᵛ, ◌≤ᵛ◌}
 use Rattle.heyvl_num.specs.Value.Value.{finite, infinite}
 use Rattle.heyvl_num.specs.WholeNumbers.{IsWhole}

@@ -1,4 +1,4 @@
-use Rattle.std.proofs.Common.{sym, ap, ap₂, ◌∙◌, min, ◌^◌, ℕ}
+use Rattle.std.proofs.Common.{sym, ap, ap₂, ◌∙◌, min, ◌^◌}
 use Rattle.heylo_formula.specs.PlainTrees.{form_of, term_of}
 use Rattle.heylo_formula.specs.Sizes.{nodes, nodes_in}
 use Rattle.heylo_formula.specs.Substitution.{as_form, as_cond, nodes_put}
