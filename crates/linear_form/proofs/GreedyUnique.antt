@@ -3,8 +3,7 @@ use Rattle.std.proofs.Common.{◌≡◌, ℕ, ◌<◌, ◌≤◌, List, [], ◌�
 use Rattle.std.specs.Prelude.{ℤ, pos, ◌≤ℤ◌, ◌*ℤ◌, unsigned_abs, reverse, Option, Some, None}
 use Prim.Native.Nat.{zero, suc}
 use borrow.Author.Differences.{ints}
-use Rattle.std.specs.List.{All}
-use Rattle.std.proofs.lemmas.List.Elements.{All-nil, All-push}
+use Rattle.std.proofs.lemmas.List.Elements.{All-nil}
 use Rattle.heyvl_num.specs.Gcd.{gcd, gcd_steps}
 use Rattle.heyvl_num.specs.Rational.{Rational, ratio, zeroʳ, oneʳ, middleʳ, ◌+ʳ◌, ◌-ʳ◌, leqʳ, ◌≤ʳ◌, ◌<ʳ◌}
 use Rattle.heyvl_num.proofs.exported.Rationals.{≤ʳ_refl, ≤ʳ_trans, ≤ʳ_antisym, ≤ʳ_total, cross_order, ratio_parts}
@@ -13,9 +12,8 @@ use Rattle.heylo_formula.specs.declared.types.Ty.{Ty}
 use Rattle.heylo_formula.specs.declared.values.Val.{Val}
 use Rattle.heylo_formula.specs.declared.values.Val.TheVariants.{Truth}
 use Rattle.linear_form.specs.Row.{Row}
-use Rattle.linear_form.specs.Solutions.{IsSolvable}
 use Rattle.linear_form.specs.VariableOrder.{order_of}
-use Rattle.linear_form.specs.GreedyPoint.{IsCompleted, End, Interval, IsUpFrom, IsUpTo, IsInside, IsIntervalOf, IsWhole, IsChoice, IsBroken, Greedy, Chooses, ChoosesFrom, chosen_value, value_for, IsStateOf, IsGreedyPoint}
+use Rattle.linear_form.specs.GreedyPoint.{IsCompleted, End, Interval, IsUpFrom, IsUpTo, IsInside, IsIntervalOf, IsWhole, IsChoice, IsBroken, Greedy, Chooses, chosen_value, value_for}
 use Rattle.heylo_formula.specs.Typing.{types_in}
 use Rattle.linear_form.specs.Tightening.{is_integral}
 use Rattle.linear_form.specs.GreedyLaws.{ChoicesAreUnique, PointsAreUnique}

@@ -120,7 +120,7 @@ fn finite_product(alloc: Global, a: &Lin, b: &Lin, path: &[Taken], at: usize) ->
     }
 }
 
-#[tactic(auto, unfolding(crate::specs::Run::along))]
+#[tactic(auto, unfolding(crate::specs::internal::Run::along))]
 pub(crate) fn sum(
     alloc: Global,
     a: Option<Lin>,
@@ -150,7 +150,7 @@ pub(crate) fn sum(
     }
 }
 
-#[tactic(auto, unfolding(crate::specs::Run::along))]
+#[tactic(auto, unfolding(crate::specs::internal::Run::along))]
 pub(crate) fn difference(
     alloc: Global,
     a: Option<Lin>,
@@ -180,7 +180,7 @@ pub(crate) fn difference(
     }
 }
 
-#[tactic(auto, unfolding(crate::specs::Run::along))]
+#[tactic(auto, unfolding(crate::specs::internal::Run::along))]
 pub(crate) fn cut(
     alloc: Global,
     a: Option<Lin>,
@@ -224,7 +224,7 @@ pub(crate) fn cut(
     }
 }
 
-#[tactic(auto, unfolding(crate::specs::Run::along))]
+#[tactic(auto, unfolding(crate::specs::internal::Run::along))]
 pub(crate) fn product(
     alloc: Global,
     a: Option<Lin>,
@@ -426,7 +426,7 @@ pub(crate) fn validate(alloc: Global, a: Option<Lin>) -> Option<Lin>
 }
 
 /// 0 where the value is at most 0, else infinity.
-#[tactic(auto, unfolding(crate::specs::Run::along))]
+#[tactic(auto, unfolding(crate::specs::internal::Run::along))]
 pub(crate) fn co_validate(
     alloc: Global,
     a: Option<Lin>,
@@ -445,7 +445,7 @@ pub(crate) fn co_validate(
 }
 
 /// A constant.
-#[tactic(auto, unfolding(crate::specs::Run::along))]
+#[tactic(auto, unfolding(crate::specs::internal::Run::along))]
 pub(crate) fn number(alloc: Global, v: &Ext, at: usize) -> Result<Found, Stop>
     ensures { (ps : List PlainTaken) → Gives result (along ps (tree.sized (tree.number (value_of v.now))) at) }
 {
@@ -494,7 +494,7 @@ pub(crate) fn scale(alloc: Global, w: &Frac, a: Option<Lin>, at: usize) -> Resul
 }
 
 /// Whether the first value is at most the second.
-#[tactic(auto, unfolding(crate::specs::Run::along))]
+#[tactic(auto, unfolding(crate::specs::internal::Run::along))]
 pub(crate) fn at_most(
     alloc: Global,
     a: &Option<Lin>,
@@ -528,7 +528,7 @@ pub(crate) fn at_most(
 }
 
 /// Whether the first value is below the second.
-#[tactic(auto, unfolding(crate::specs::Run::along))]
+#[tactic(auto, unfolding(crate::specs::internal::Run::along))]
 pub(crate) fn less(
     alloc: Global,
     a: &Option<Lin>,
@@ -556,7 +556,7 @@ pub(crate) fn less(
 }
 
 /// Whether the values are equal: each at most the other.
-#[tactic(auto, unfolding(crate::specs::Run::along))]
+#[tactic(auto, unfolding(crate::specs::internal::Run::along))]
 pub(crate) fn equal(
     alloc: Global,
     a: &Option<Lin>,

@@ -12,4 +12,5 @@ mod GreedyStates
 mod FalsifiedGoals
 mod UniqueWalks
 mod UniqueDecisions
+mod Examples
 pub mod Meaning

@@ -1,0 +1,90 @@
+-- The walks of two goals without questions, worked out by hand: one holds plainly, the other fails.
+use Rattle.std.proofs.Common.{◌≡◌, ℕ, List, [], ◌∷◌, refl, sym, ◌∙◌, arith, Bool, true, false}
+use Rattle.std.specs.Prelude.{ℤ, negsuc, Option, Some, None}
+use Rattle.std.specs.List.{All}
+use Rattle.std.proofs.lemmas.List.Elements.{All-nil, All-cons}
+use Rattle.heyvl_num.specs.Gcd.{gcd, gcd_steps}
+use Rattle.heyvl_num.specs.Rational.{ratio, zeroʳ, oneʳ, leqʳ, ◌+ʳ◌, ◌*ʳ◌}
+use Rattle.heyvl_num.specs.Rounding.{whole}
+use Rattle.heyvl_num.specs.Value.{is_zeroʳ}
+use Rattle.heyvl_num.specs.Value.Value.{finite, infinite}
+use Rattle.heylo_formula.specs.Formula.{Form}
+use Rattle.heylo_formula.specs.Goals.{Goal}
+use Rattle.heylo_formula.specs.declared.types.Ty.{Ty}
+use Rattle.linear_form.specs.Lin.{constant, variable, minus_oneʳ, plus, minus, scaled, fits, is_sized}
+use Rattle.linear_form.specs.Query.Query.{done}
+use Rattle.linear_form.specs.Questions.{Ends, zero, one}
+use Rattle.linear_form.specs.Paths.{end_at}
+use Rattle.linear_form.specs.PathRows.{denial, rows_of, IsPlainAt}
+use Rattle.linear_form.specs.Row.{Row}
+use Rattle.linear_form.specs.Solutions.{sum_of, MeetsAt, IsSolvable}
+use Rattle.linear_form.specs.Tightening.{tightened}
+use Rattle.linear_form.specs.VariableOrder.{order_of}
+use Rattle.linear_form.specs.GreedyPoint.{Chooses}
+use Rattle.linear_form.specs.Cells.{IsKept, IsFront, IsCell, IsFalseCell}
+use Rattle.farkas_check.specs.Trees.{Tree}
+use Rattle.region_split.specs.Walk.{AreCells, AreBefore, IsReached, IsSettled, IsWalked}
+use Rattle.region_split.specs.WalkTree.{IsWalkTree, depth}
+use Rattle.region_split.specs.Decisions.{IsFirstPoint, IsFalsified}
+
+-- infinity is at least x
+abbrev plain_goal : Goal
+plain_goal = record { upper = true; stated = Form.number infinite; found = Form.variable 0; types = Ty.UInt ∷ []; names = []; own = 0 }
+
+plain_kept : IsKept plain_goal []
+plain_kept = record { rows = []; are_rows = refl; solvable = record { at_values = λ x. zeroʳ; meets = All-nil _ } }
+
+holds_plainly : IsPlainAt plain_goal []
+holds_plainly = record { ends = (None, Some (variable 0)); at_end = refl; plain = refl }
+
+one_leaf : IsWalkTree plain_goal [] Tree.plain × (depth Tree.plain ≡ 1)
+one_leaf = (IsWalkTree.plain [] plain_kept holds_plainly, refl)
+
+one_cell : AreCells plain_goal [] ([] ∷ [])
+one_cell = AreCells.end [] (None, Some (variable 0)) plain_kept refl (IsSettled.plain holds_plainly)
+
+reached_first : IsReached plain_goal [] []
+reached_first = record { are_before = AreBefore.start; few = omega arith }
+
+-- 0 is at least 1
+abbrev false_goal : Goal
+false_goal = record { upper = true; stated = Form.number (finite zeroʳ); found = Form.number (finite oneʳ); types = []; names = []; own = 0 }
+
+below_zero : Row
+below_zero = record { terms = []; rest = negsuc 0; strict = true }
+
+false_kept : IsKept false_goal []
+false_kept = record { rows = []; are_rows = refl; solvable = record { at_values = λ x. zeroʳ; meets = All-nil _ } }
+
+false_end : end_at false_goal [] ≡ done (zero, one)
+unfolding is_sized fits ratio gcd gcd_steps zeroʳ oneʳ
+false_end = refl
+
+denied_row : rows_of false_goal [] true ≡ Some (below_zero ∷ [])
+unfolding below_zero minus plus scaled minus_oneʳ is_sized fits is_zeroʳ tightened ratio gcd gcd_steps zeroʳ oneʳ ◌+ʳ◌ ◌*ʳ◌
+denied_row = refl
+
+met : MeetsAt (λ x. zeroʳ) below_zero
+unfolding below_zero sum_of whole ratio gcd gcd_steps zeroʳ leqʳ ◌+ʳ◌
+met = record { met = record { holds = refl } }
+
+denied_solvable : IsSolvable (below_zero ∷ [])
+denied_solvable = record { at_values = λ x. zeroʳ; meets = All-cons (MeetsAt (λ x. zeroʳ)) below_zero [] met (All-nil _) }
+
+not_plain : IsPlainAt false_goal [] → ⊥
+not_plain p = go p.ends (sym false_end ∙ p.at_end) p.plain
+  where
+    go : (e : Ends) → done (zero, one) ≡ done e → denial true e ≡ None → ⊥
+    go e h k = let i : (zero, one) ≡ e = cc in let j = rw (← i) at k in absurd (cc)
+
+false_cell : IsFalseCell false_goal []
+false_cell = record { cell = record { front = IsFront.start; kept = false_kept; ends = (zero, one); at_end = false_end }; not_plain = not_plain; rows = below_zero ∷ []; are_rows = denied_row; solvable = denied_solvable }
+
+-- the state without variables falsifies it
+falsified : IsFalsified false_goal []
+unfolding order_of
+falsified = record {
+  cells = [] ∷ [];
+  walked = record { are_cells = AreCells.end [] (zero, one) false_kept false_end (IsSettled.falsified false_cell); few = omega arith };
+  first = record { before = []; path = []; after = []; whole = refl; broken_before = All-nil _; false_cell = false_cell; point_of_cell = record { rows = below_zero ∷ []; are_rows = denied_row; values = []; greedy = record { chosen = []; choice = Chooses.ends []; state = record { each = refl; values = λ x l. absurd (omega (arith, l)) } }; truths = refl } };
+}
