@@ -4,8 +4,8 @@ use Prim.Native.Nat.{zero, suc}
 use Rattle.heyvl_num.specs.Rational.{Rational, zeroʳ, ◌+ʳ◌, ◌≤ʳ◌}
 use Rattle.heyvl_num.specs.Value.{Value, zeroᵛ, ◌+ᵛ◌, ◌*ᵛ◌, ◌≤ᵛ◌}
 use Rattle.heyvl_num.specs.Value.Value.{finite}
-use Rattle.heyvl_num.proofs.Rationals.{≤ʳ_refl, +ʳ_nonnegative}
-use Rattle.heyvl_num.proofs.Values.{≤ᵛ_refl, ≤ᵛ_trans, +ᵛ_mono, scale_mono, scale-+ᵛ, weights-*, +ᵛ_assoc, +ᵛ_left_comm, zero-+ᵛ, +ᵛ-zero, zero-*ᵛ, +ᵛ_nonnegative, scale_nonnegative}
+use Rattle.heyvl_num.proofs.exported.Rationals.{≤ʳ_refl, +ʳ_nonnegative}
+use Rattle.heyvl_num.proofs.exported.Values.{≤ᵛ_refl, ≤ᵛ_trans, +ᵛ_mono, scale_mono, scale-+ᵛ, weights-*, +ᵛ_assoc, +ᵛ_left_comm, zero-+ᵛ, +ᵛ-zero, zero-*ᵛ, +ᵛ_nonnegative, scale_nonnegative}
 use Rattle.heyvl_tool.specs.State.{State, put}
 use Rattle.heyvl_tool.specs.Formula.{value, term_value, holds}
 use Rattle.heyvl_tool.specs.Acts.{Act, Acts, Arms, Part, chosen}

@@ -9,7 +9,7 @@ use Rattle.std.proofs.Math.Nat.{mul-le-mul, mul-pos, div-le_self}
 use Rattle.heyvl_num.specs.Gcd.{gcd}
 use Rattle.heyvl_num.specs.Rational.{Rational, ratio, ◌+ʳ◌, ◌*ʳ◌}
 use Rattle.heyvl_num.specs.Exact.{is_small, quotient, quotient_fits, exact_quotient, sum_fits, exact_sum, product_fits, exact_product}
-use Rattle.heyvl_num.proofs.Rationals.{ratio_num, ratio_den}
+use Rattle.heyvl_num.proofs.exported.Rationals.{ratio_num, ratio_den}
 use Rattle.heyvl_tool.specs.Room.{IsWithin, IsSmallValue, IsSmallConstant, IsShare}
 
 pub small_number : (n : ℕ) → n < 2 ^ 127 → is_small (pos n) ≡ true

@@ -4,7 +4,7 @@ use Rattle.std.proofs.Math.IntN.{pos}
 use Rattle.std.proofs.Math.Nat.{mul-pos, mul-le-mul_left, mul-le-mul_right}
 use borrow.Author.Differences.{ints}
 use Rattle.heyvl_num.specs.Rational.{Rational, ratio, oneʳ, ◌+ʳ◌, ◌-ʳ◌, ◌*ʳ◌}
-use Rattle.heyvl_num.proofs.Rationals.{ratio_same, ratio-+, ratio-*}
+use Rattle.heyvl_num.proofs.exported.Rationals.{ratio_same, ratio-+, ratio-*}
 use Rattle.heyvl_tool.specs.State.{State, get, truth_of}
 use Rattle.heyvl_tool.specs.Procedure.{Statement, Block}
 use Rattle.heyvl_tool.specs.Expectation.{before_statement, expectation}

@@ -7,8 +7,8 @@ use borrow.Author.Differences.{ints}
 use Rattle.heyvl_num.specs.Rational.{Rational, ratio, zeroʳ, oneʳ, ◌+ʳ◌, ◌-ʳ◌, ◌≤ʳ◌}
 use Rattle.heyvl_num.specs.Value.{Value, zeroᵛ, oneᵛ, ◌+ᵛ◌, ◌*ᵛ◌, ◌≤ᵛ◌}
 use Rattle.heyvl_num.specs.Value.Value.{finite}
-use Rattle.heyvl_num.proofs.Rationals.{ratio_nonnegative, ratio_same, ratio-+, ratio-neg, +ʳ-zero}
-use Rattle.heyvl_num.proofs.Values.{finite-+, finite-*, +ᵛ-zero, finite_nonnegative, order_finite, finite_order, zero-≤ᵛ-one, zero-≤ᵛ-zero}
+use Rattle.heyvl_num.proofs.exported.Rationals.{ratio_nonnegative, ratio_same, ratio-+, ratio-neg, +ʳ-zero}
+use Rattle.heyvl_num.proofs.exported.Values.{finite-+, finite-*, +ᵛ-zero, finite_nonnegative, order_finite, finite_order, zero-≤ᵛ-one, zero-≤ᵛ-zero}
 use Rattle.heyvl_tool.specs.declared.answers.Val.TheVariants.{Truth}
 use Rattle.heyvl_tool.specs.declared.first_form.Constant.{Constant}
 use Rattle.heyvl_tool.specs.declared.first_form.Constant.TheVariants.{Whole, Quotient}

@@ -4,7 +4,7 @@ use Prim.Native.Nat.{zero, suc}
 use Rattle.heyvl_num.specs.Rational.{Rational, oneʳ}
 use Rattle.heyvl_num.specs.Value.{Value, zeroᵛ, oneᵛ, ◌+ᵛ◌, ◌*ᵛ◌}
 use Rattle.heyvl_num.specs.Value.Value.{finite}
-use Rattle.heyvl_num.proofs.Values.{+ᵛ_assoc, scale-+ᵛ, scale_scale, zero-+ᵛ, +ᵛ-zero, one-*ᵛ, *ᵛ-zero}
+use Rattle.heyvl_num.proofs.exported.Values.{+ᵛ_assoc, scale-+ᵛ, scale_scale, zero-+ᵛ, +ᵛ-zero, one-*ᵛ, *ᵛ-zero}
 use Rattle.heyvl_tool.specs.State.{State}
 use Rattle.heyvl_tool.specs.Step.{Config, Item, Weighted, sure, step}
 use Rattle.heyvl_tool.specs.Runs.{Scheduler, Schedulers, decision, under, first, rest, times, spread, runs}

@@ -160,13 +160,17 @@ const FILES: [(&str, &str); 13] = [
     ("", "none"),
 ];
 
-#[test]
-fn reads_files(rt: HostRuntime) -> Result<(), Fail> {
-    for (text, wanted) in FILES {
+fn check_files(rt: &(impl Abort + AllocGlobal), files: &[(&str, &str)]) -> Result<(), Fail> {
+    for (text, wanted) in files {
         let found = shown(rt.alloc(), text)?;
-        assert_eq!(rt; found.as_str(), wanted, "{text}");
+        assert_eq!(rt; found.as_str(), *wanted, "{text}");
     }
     Ok(())
+}
+
+#[test]
+fn reads_files(rt: HostRuntime) -> Result<(), Fail> {
+    check_files(&rt, &FILES)
 }
 
 /// Whether a file is read whose body begins so many times with this, and ends as often with that.
@@ -192,13 +196,25 @@ const MOST: [(&str, &str, usize); 5] = [
     ("if a { ", "} else { } ", 16),
 ];
 
-#[test]
-fn keeps_limits(rt: HostRuntime) -> Result<(), Fail> {
-    for (begin, end, most) in MOST {
-        assert!(rt; is_read(rt.alloc(), begin, most, end)?, "{begin}");
-        assert!(rt; most < 100);
-        assert!(rt; !is_read(rt.alloc(), begin, most + 1, end)?, "{begin}");
-        assert!(rt; !is_read(rt.alloc(), begin, 10_000, end)?, "{begin}");
+/// Whether a body is read with this many parts, and not with one more, nor with many more.
+fn is_most(alloc: Global, begin: &str, most: usize, end: &str) -> Result<bool, AllocError> {
+    let at_most = is_read(alloc, begin, most, end)?;
+    let above = is_read(alloc, begin, most.saturating_add(1), end)?;
+    let far_above = is_read(alloc, begin, 10_000, end)?;
+    Ok(at_most && !above && !far_above)
+}
+
+fn check_limits(
+    rt: &(impl Abort + AllocGlobal),
+    limits: &[(&str, &str, usize)],
+) -> Result<(), Fail> {
+    for (begin, end, most) in limits {
+        assert!(rt; is_most(rt.alloc(), begin, *most, end)?, "{begin}");
     }
     Ok(())
+}
+
+#[test]
+fn keeps_limits(rt: HostRuntime) -> Result<(), Fail> {
+    check_limits(&rt, &MOST)
 }
