@@ -1,5 +1,5 @@
 use crate::question_answers::Shown::{self, *};
-use crate::question_answers::{answer_of, is, flag, goal, infinity, number, x, y};
+use crate::question_answers::{answer_of, flag, goal, infinity, is, number, x, y};
 use heylo_formula::{Cond, Form};
 use heyvl_num::{Ext, Frac};
 use heyvl_syntax::Span;
@@ -116,8 +116,12 @@ fn operators_that_ask_nothing(rt: HostRuntime) -> Result<(), AllocError> {
     for (by, a, b, value) in table {
         assert!(rt; is(after(alloc, joined(alloc, by, a, b)?, &[])?, value));
         // nothing was asked
-        assert!(rt; is(after(alloc, joined(alloc, by, a, b)?, &[true])?,
-            TooManyAnswers));
+        assert!(rt;
+            is(
+                after(alloc, joined(alloc, by, a, b)?, &[true])?,
+                TooManyAnswers
+            )
+        );
     }
     Ok(())
 }
@@ -217,8 +221,12 @@ fn operators_that_compare(rt: HostRuntime) -> Result<(), AllocError> {
         assert!(rt; is(after(alloc, joined(alloc, by, a, b)?, &[])?, question));
         assert!(rt; is(after(alloc, joined(alloc, by, a, b)?, &[true])?, yes));
         assert!(rt; is(after(alloc, joined(alloc, by, a, b)?, &[false])?, no));
-        assert!(rt; is(after(alloc, joined(alloc, by, a, b)?, &[true, true])?,
-            TooManyAnswers));
+        assert!(rt;
+            is(
+                after(alloc, joined(alloc, by, a, b)?, &[true, true])?,
+                TooManyAnswers
+            )
+        );
     }
     Ok(())
 }
@@ -250,8 +258,12 @@ fn constants_are_compared_at_once(rt: HostRuntime) -> Result<(), AllocError> {
     ];
     for (by, a, b, value) in table {
         assert!(rt; is(after(alloc, joined(alloc, by, a, b)?, &[])?, value));
-        assert!(rt; is(after(alloc, joined(alloc, by, a, b)?, &[true])?,
-            TooManyAnswers));
+        assert!(rt;
+            is(
+                after(alloc, joined(alloc, by, a, b)?, &[true])?,
+                TooManyAnswers
+            )
+        );
     }
     Ok(())
 }
@@ -267,41 +279,104 @@ fn scaled(alloc: Global, w: i128, a: Part) -> Result<Form, AllocError> {
 #[test]
 fn operators_of_one_part(rt: HostRuntime) -> Result<(), AllocError> {
     let alloc = rt.alloc();
-    assert!(rt; is(after(alloc, scaled(alloc, 3, Part::X)?, &[])?,
-        Value(3, 0, 0)));
-    assert!(rt; is(after(alloc, scaled(alloc, 0, Part::X)?, &[])?,
-        Value(0, 0, 0)));
-    assert!(rt; is(after(alloc, scaled(alloc, 3, Part::Infinity)?, &[])?,
-        Infinity));
-    assert!(rt; is(after(alloc, scaled(alloc, 0, Part::Infinity)?, &[])?,
-        Value(0, 0, 0)));
-    assert!(rt; is(after(alloc, Form::Validate(x(alloc)?), &[])?,
-        Value(0, 0, 0)));
-    assert!(rt; is(after(alloc, Form::Validate(infinity(alloc)?), &[])?,
-        Infinity));
-    assert!(rt; is(after(alloc, Form::CoValidate(x(alloc)?), &[])?,
-        AtMost(1, 0, 0)));
-    assert!(rt; is(after(alloc, Form::CoValidate(x(alloc)?), &[true])?,
-        Value(0, 0, 0)));
-    assert!(rt; is(after(alloc, Form::CoValidate(x(alloc)?), &[false])?,
-        Infinity));
-    assert!(rt; is(after(alloc, Form::CoValidate(number(alloc, 0)?), &[])?,
-        Value(0, 0, 0)));
-    assert!(rt; is(after(alloc, Form::CoValidate(number(alloc, 2)?), &[])?,
-        Infinity));
-    assert!(rt; is(after(alloc, Form::CoValidate(infinity(alloc)?), &[])?,
-        Infinity));
+    assert!(rt;
+        is(
+            after(alloc, scaled(alloc, 3, Part::X)?, &[])?,
+            Value(3, 0, 0)
+        )
+    );
+    assert!(rt;
+        is(
+            after(alloc, scaled(alloc, 0, Part::X)?, &[])?,
+            Value(0, 0, 0)
+        )
+    );
+    assert!(rt;
+        is(
+            after(alloc, scaled(alloc, 3, Part::Infinity)?, &[])?,
+            Infinity
+        )
+    );
+    assert!(rt;
+        is(
+            after(alloc, scaled(alloc, 0, Part::Infinity)?, &[])?,
+            Value(0, 0, 0)
+        )
+    );
+    assert!(rt;
+        is(
+            after(alloc, Form::Validate(x(alloc)?), &[])?,
+            Value(0, 0, 0)
+        )
+    );
+    assert!(rt;
+        is(
+            after(alloc, Form::Validate(infinity(alloc)?), &[])?,
+            Infinity
+        )
+    );
+    assert!(rt;
+        is(
+            after(alloc, Form::CoValidate(x(alloc)?), &[])?,
+            AtMost(1, 0, 0)
+        )
+    );
+    assert!(rt;
+        is(
+            after(alloc, Form::CoValidate(x(alloc)?), &[true])?,
+            Value(0, 0, 0)
+        )
+    );
+    assert!(rt;
+        is(
+            after(alloc, Form::CoValidate(x(alloc)?), &[false])?,
+            Infinity
+        )
+    );
+    assert!(rt;
+        is(
+            after(alloc, Form::CoValidate(number(alloc, 0)?), &[])?,
+            Value(0, 0, 0)
+        )
+    );
+    assert!(rt;
+        is(
+            after(alloc, Form::CoValidate(number(alloc, 2)?), &[])?,
+            Infinity
+        )
+    );
+    assert!(rt;
+        is(
+            after(alloc, Form::CoValidate(infinity(alloc)?), &[])?,
+            Infinity
+        )
+    );
     assert!(rt; is(after(alloc, Form::Embed(flag(alloc, 3)?), &[])?, Truth(3)));
-    assert!(rt; is(after(alloc, Form::Embed(flag(alloc, 3)?), &[true])?,
-        Infinity));
-    assert!(rt; is(after(alloc, Form::Embed(flag(alloc, 3)?), &[false])?,
-        Value(0, 0, 0)));
-    assert!(rt; is(after(alloc, Form::Iverson(flag(alloc, 3)?), &[])?,
-        Truth(3)));
-    assert!(rt; is(after(alloc, Form::Iverson(flag(alloc, 3)?), &[true])?,
-        Value(0, 0, 1)));
-    assert!(rt; is(after(alloc, Form::Iverson(flag(alloc, 3)?), &[false])?,
-        Value(0, 0, 0)));
+    assert!(rt;
+        is(
+            after(alloc, Form::Embed(flag(alloc, 3)?), &[true])?,
+            Infinity
+        )
+    );
+    assert!(rt;
+        is(
+            after(alloc, Form::Embed(flag(alloc, 3)?), &[false])?,
+            Value(0, 0, 0)
+        )
+    );
+    assert!(rt; is(after(alloc, Form::Iverson(flag(alloc, 3)?), &[])?, Truth(3)));
+    assert!(rt;
+        is(
+            after(alloc, Form::Iverson(flag(alloc, 3)?), &[true])?,
+            Value(0, 0, 1)
+        )
+    );
+    assert!(rt;
+        is(
+            after(alloc, Form::Iverson(flag(alloc, 3)?), &[false])?,
+            Value(0, 0, 0)
+        )
+    );
     Ok(())
 }
 
@@ -326,50 +401,94 @@ const NO: Shown = Value(0, 0, 0);
 #[test]
 fn comparisons(rt: HostRuntime) -> Result<(), AllocError> {
     let alloc = rt.alloc();
-    assert!(rt; is(tested(alloc, Cond::Le(x(alloc)?, y(alloc)?), &[])?,
-        AtMost(1, -1, 0)));
-    assert!(rt; is(tested(alloc, Cond::Le(x(alloc)?, y(alloc)?), &[true])?,
-        YES));
-    assert!(rt; is(tested(alloc, Cond::Le(x(alloc)?, y(alloc)?), &[false])?,
-        NO));
-    assert!(rt; is(tested(alloc, Cond::Lt(x(alloc)?, y(alloc)?), &[])?,
-        Below(1, -1, 0)));
-    assert!(rt; is(tested(alloc, Cond::Lt(x(alloc)?, y(alloc)?), &[true])?,
-        YES));
-    assert!(rt; is(tested(alloc, Cond::Lt(x(alloc)?, y(alloc)?), &[false])?,
-        NO));
+    assert!(rt;
+        is(
+            tested(alloc, Cond::Le(x(alloc)?, y(alloc)?), &[])?,
+            AtMost(1, -1, 0)
+        )
+    );
+    assert!(rt; is(tested(alloc, Cond::Le(x(alloc)?, y(alloc)?), &[true])?, YES));
+    assert!(rt; is(tested(alloc, Cond::Le(x(alloc)?, y(alloc)?), &[false])?, NO));
+    assert!(rt;
+        is(
+            tested(alloc, Cond::Lt(x(alloc)?, y(alloc)?), &[])?,
+            Below(1, -1, 0)
+        )
+    );
+    assert!(rt; is(tested(alloc, Cond::Lt(x(alloc)?, y(alloc)?), &[true])?, YES));
+    assert!(rt; is(tested(alloc, Cond::Lt(x(alloc)?, y(alloc)?), &[false])?, NO));
     // x = y: x <= y, and where that holds, y <= x
-    assert!(rt; is(tested(alloc, Cond::EqNum(x(alloc)?, y(alloc)?), &[])?,
-        AtMost(1, -1, 0)));
-    assert!(rt; is(tested(alloc, Cond::EqNum(x(alloc)?, y(alloc)?), &[true])?,
-        AtMost(-1, 1, 0)));
-    assert!(rt; is(tested(alloc, Cond::EqNum(x(alloc)?, y(alloc)?), &[true, true])?,
-        YES));
-    assert!(rt; is(tested(alloc, Cond::EqNum(x(alloc)?, y(alloc)?), &[true, false])?,
-        NO));
-    assert!(rt; is(tested(alloc, Cond::EqNum(x(alloc)?, y(alloc)?), &[false])?,
-        NO));
+    assert!(rt;
+        is(
+            tested(alloc, Cond::EqNum(x(alloc)?, y(alloc)?), &[])?,
+            AtMost(1, -1, 0)
+        )
+    );
+    assert!(rt;
+        is(
+            tested(alloc, Cond::EqNum(x(alloc)?, y(alloc)?), &[true])?,
+            AtMost(-1, 1, 0)
+        )
+    );
+    assert!(rt;
+        is(
+            tested(alloc, Cond::EqNum(x(alloc)?, y(alloc)?), &[true, true])?,
+            YES
+        )
+    );
+    assert!(rt;
+        is(
+            tested(alloc, Cond::EqNum(x(alloc)?, y(alloc)?), &[true, false])?,
+            NO
+        )
+    );
+    assert!(rt;
+        is(
+            tested(alloc, Cond::EqNum(x(alloc)?, y(alloc)?), &[false])?,
+            NO
+        )
+    );
     // known without variables: 2 <= 2 and 2 = 2, and not 2 < 2, 3 <= 2 or 3 = 2
     let two = number(alloc, 2)?;
     assert!(rt; is(tested(alloc, Cond::Le(two, number(alloc, 2)?), &[])?, YES));
-    assert!(rt; is(tested(alloc, Cond::Lt(number(alloc, 2)?, number(alloc, 2)?), &[])?,
-        NO));
-    assert!(rt; is(tested(alloc, Cond::Lt(number(alloc, 2)?, number(alloc, 3)?), &[])?,
-        YES));
-    assert!(rt; is(tested(alloc, Cond::Le(number(alloc, 3)?, number(alloc, 2)?), &[])?,
-        NO));
-    assert!(rt; is(tested(
-            alloc,
-            Cond::EqNum(number(alloc, 2)?, number(alloc, 2)?),
-            &[]
-        )?,
-        YES));
-    assert!(rt; is(tested(
-            alloc,
-            Cond::EqNum(number(alloc, 3)?, number(alloc, 2)?),
-            &[]
-        )?,
-        NO));
+    assert!(rt;
+        is(
+            tested(alloc, Cond::Lt(number(alloc, 2)?, number(alloc, 2)?), &[])?,
+            NO
+        )
+    );
+    assert!(rt;
+        is(
+            tested(alloc, Cond::Lt(number(alloc, 2)?, number(alloc, 3)?), &[])?,
+            YES
+        )
+    );
+    assert!(rt;
+        is(
+            tested(alloc, Cond::Le(number(alloc, 3)?, number(alloc, 2)?), &[])?,
+            NO
+        )
+    );
+    assert!(rt;
+        is(
+            tested(
+                alloc,
+                Cond::EqNum(number(alloc, 2)?, number(alloc, 2)?),
+                &[]
+            )?,
+            YES
+        )
+    );
+    assert!(rt;
+        is(
+            tested(
+                alloc,
+                Cond::EqNum(number(alloc, 3)?, number(alloc, 2)?),
+                &[]
+            )?,
+            NO
+        )
+    );
     assert!(rt; is(tested(alloc, Cond::Lt(x(alloc)?, x(alloc)?), &[])?, NO));
     Ok(())
 }
@@ -565,15 +684,31 @@ fn numbers_that_are_not_needed(rt: HostRuntime) -> Result<(), AllocError> {
     let select = Form::Select(flag(alloc, 3)?, large, x(alloc)?);
     assert!(rt; is(after(alloc, select, &[true])?, Bits));
     assert!(rt; is(after(alloc, scaled(alloc, LARGE, Part::X)?, &[])?, Bits));
-    assert!(rt; is(after(alloc, scaled(alloc, LARGEST, Part::X)?, &[])?,
-        Value(LARGEST, 0, 0)));
+    assert!(rt;
+        is(
+            after(alloc, scaled(alloc, LARGEST, Part::X)?, &[])?,
+            Value(LARGEST, 0, 0)
+        )
+    );
     // 2^62 times 0 is 0, and times infinity is infinity
-    assert!(rt; is(after(alloc, scaled(alloc, LARGE, Part::Number(0))?, &[])?,
-        Value(0, 0, 0)));
-    assert!(rt; is(after(alloc, scaled(alloc, LARGE, Part::Infinity)?, &[])?,
-        Infinity));
-    assert!(rt; is(after(alloc, scaled(alloc, 0, Part::Number(LARGE))?, &[])?,
-        Bits));
+    assert!(rt;
+        is(
+            after(alloc, scaled(alloc, LARGE, Part::Number(0))?, &[])?,
+            Value(0, 0, 0)
+        )
+    );
+    assert!(rt;
+        is(
+            after(alloc, scaled(alloc, LARGE, Part::Infinity)?, &[])?,
+            Infinity
+        )
+    );
+    assert!(rt;
+        is(
+            after(alloc, scaled(alloc, 0, Part::Number(LARGE))?, &[])?,
+            Bits
+        )
+    );
     // x <= y comes before the bound that is met after it: the sum of 2^62 - 1 and 1 in the second part
     let sum = Box::new(
         alloc,

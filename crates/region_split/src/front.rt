@@ -13,9 +13,7 @@ use crate::moving::{comparisons, moved, places};
 use crate::solving::{Solved, solve};
 use heylo_formula::Goal;
 use linear_elim::Cause;
-use linear_form::{
-    Ask, Atom, RowList, Taken, ask, denied_rows_are_more, holds_plainly, rows,
-};
+use linear_form::{Ask, Atom, RowList, Taken, ask, denied_rows_are_more, holds_plainly, rows};
 use std::alloc::{AllocError, Global};
 
 /// What stands at a path of the walk.
