@@ -106,4 +106,3 @@ pub fn read_first_form(alloc: Global, tokens: &[Token]) -> Result<Option<FirstFo
 pub fn first_form_is_unique()
     ensures { FirstFormIsUnique }
 {}
-

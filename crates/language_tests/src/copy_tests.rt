@@ -1,6 +1,8 @@
 //! Copies of a small file.
 
-use heyvl_syntax::{Arm, Expr, File, Lit, Name, Note, Param, Proc, Right, Rule, Span, Stmt, TypeName};
+use heyvl_syntax::{
+    Arm, Expr, File, Lit, Name, Note, Param, Proc, Right, Rule, Span, Stmt, TypeName,
+};
 use std::alloc::{AllocError, Global};
 use std::test::Fail;
 

@@ -134,4 +134,3 @@ fn check_rows(rt: &(impl Abort + AllocGlobal), rows: &[(&str, &str)]) -> Result<
 fn reads_files(rt: HostRuntime) -> Result<(), Fail> {
     check_rows(&rt, &FILES)
 }
-

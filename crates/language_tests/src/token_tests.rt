@@ -140,7 +140,6 @@ fn reads_rows(rt: HostRuntime) -> Result<(), AllocError> {
     check_rows(&rt, &ROWS)
 }
 
-
 /// What one byte alone is.
 fn alone(byte: u8) -> &'static str {
     match byte {

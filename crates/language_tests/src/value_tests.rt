@@ -1,7 +1,7 @@
-use quant_algebra::{At, Held, goal_at, holds_at, value_at};
 use heylo_formula::{Cond, Form, Goal, Val};
 use heyvl_num::{Ext, Frac};
 use heyvl_syntax::Span;
+use quant_algebra::{At, Held, goal_at, holds_at, value_at};
 use std::alloc::{AllocError, Global};
 
 /// 2^127 - 1, the greatest number that a part of a fraction may be.
@@ -143,18 +143,42 @@ fn operators_of_two_values(rt: HostRuntime) -> Result<(), AllocError> {
         ),
     ];
     for (a, b, sum, product, min, max, imply, coimply) in table {
-        assert!(rt; is(value(&Form::Sum(constant(alloc, a)?, constant(alloc, b)?)),
-            sum));
-        assert!(rt; is(value(&Form::Product(constant(alloc, a)?, constant(alloc, b)?, PLACE)),
-            product));
-        assert!(rt; is(value(&Form::Min(constant(alloc, a)?, constant(alloc, b)?)),
-            min));
-        assert!(rt; is(value(&Form::Max(constant(alloc, a)?, constant(alloc, b)?)),
-            max));
-        assert!(rt; is(value(&Form::Imply(constant(alloc, a)?, constant(alloc, b)?)),
-            imply));
-        assert!(rt; is(value(&Form::CoImply(constant(alloc, a)?, constant(alloc, b)?)),
-            coimply));
+        assert!(rt;
+            is(
+                value(&Form::Sum(constant(alloc, a)?, constant(alloc, b)?)),
+                sum
+            )
+        );
+        assert!(rt;
+            is(
+                value(&Form::Product(constant(alloc, a)?, constant(alloc, b)?, PLACE)),
+                product
+            )
+        );
+        assert!(rt;
+            is(
+                value(&Form::Min(constant(alloc, a)?, constant(alloc, b)?)),
+                min
+            )
+        );
+        assert!(rt;
+            is(
+                value(&Form::Max(constant(alloc, a)?, constant(alloc, b)?)),
+                max
+            )
+        );
+        assert!(rt;
+            is(
+                value(&Form::Imply(constant(alloc, a)?, constant(alloc, b)?)),
+                imply
+            )
+        );
+        assert!(rt;
+            is(
+                value(&Form::CoImply(constant(alloc, a)?, constant(alloc, b)?)),
+                coimply
+            )
+        );
     }
     Ok(())
 }
@@ -175,10 +199,18 @@ fn differences(rt: HostRuntime) -> Result<(), AllocError> {
         ((-TOP, 1), (1, 1), BITS, (0, 1)),
     ];
     for (a, b, difference, cut) in table {
-        assert!(rt; is(value(&Form::Diff(constant(alloc, a)?, constant(alloc, b)?)),
-            difference));
-        assert!(rt; is(value(&Form::Cut(constant(alloc, a)?, constant(alloc, b)?)),
-            cut));
+        assert!(rt;
+            is(
+                value(&Form::Diff(constant(alloc, a)?, constant(alloc, b)?)),
+                difference
+            )
+        );
+        assert!(rt;
+            is(
+                value(&Form::Cut(constant(alloc, a)?, constant(alloc, b)?)),
+                cut
+            )
+        );
     }
     Ok(())
 }
@@ -311,13 +343,25 @@ fn operators_evaluate_both_parts(rt: HostRuntime) -> Result<(), AllocError> {
     let alloc = rt.alloc();
     for a in [(0, 1), INFINITY] {
         assert!(rt; is(value(&Form::Sum(constant(alloc, a)?, large(alloc)?)), BITS));
-        assert!(rt; is(value(&Form::Product(constant(alloc, a)?, large(alloc)?, PLACE)),
-            BITS));
+        assert!(rt;
+            is(
+                value(&Form::Product(constant(alloc, a)?, large(alloc)?, PLACE)),
+                BITS
+            )
+        );
         assert!(rt; is(value(&Form::Min(large(alloc)?, constant(alloc, a)?)), BITS));
-        assert!(rt; is(value(&Form::Imply(constant(alloc, a)?, large(alloc)?)),
-            BITS));
-        assert!(rt; is(value(&Form::CoImply(large(alloc)?, constant(alloc, a)?)),
-            BITS));
+        assert!(rt;
+            is(
+                value(&Form::Imply(constant(alloc, a)?, large(alloc)?)),
+                BITS
+            )
+        );
+        assert!(rt;
+            is(
+                value(&Form::CoImply(large(alloc)?, constant(alloc, a)?)),
+                BITS
+            )
+        );
     }
     assert!(rt; is(value(&Form::Validate(large(alloc)?)), BITS));
     Ok(())

@@ -1,4 +1,7 @@
-use heyvl_io::{Cut, Failed, FileSource, MemSink, MemSource, ReadStop, Sink, Source, StdoutSink, SureSource, read_all, write_all};
+use heyvl_io::{
+    Cut, Failed, FileSource, MemSink, MemSource, ReadStop, Sink, Source, StdoutSink, SureSource,
+    read_all, write_all,
+};
 use std::alloc::{AllocError, Global};
 use std::fmt::Display;
 use std::process::Abort;

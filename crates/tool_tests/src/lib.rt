@@ -6,8 +6,8 @@ mod device_tests;
 #[cfg(test)]
 mod first_form_tests;
 #[cfg(test)]
-mod run_tests;
-#[cfg(test)]
 mod long_files;
+#[cfg(test)]
+mod run_tests;
 #[cfg(test)]
 mod short_writes;

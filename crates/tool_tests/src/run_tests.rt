@@ -1,5 +1,5 @@
-use heyvl_tool::{FILE_LIMIT, Fault, Settings, SettingsStop, run_tool, settings};
 use heyvl_io::{MemSink, MemSource};
+use heyvl_tool::{FILE_LIMIT, Fault, Settings, SettingsStop, run_tool, settings};
 use std::alloc::{AllocError, Global};
 use std::process::Abort;
 use std::test::Fail;
@@ -95,7 +95,12 @@ const ROWS: [Row; 7] = [
         0,
         "pay: verified\n1 procedures\n",
     ),
-    (&["verify", "f"], "coproc n(x: UInt) -> () pre x post 0 { }", 3, NOT_BUILT),
+    (
+        &["verify", "f"],
+        "coproc n(x: UInt) -> () pre x post 0 { }",
+        3,
+        NOT_BUILT,
+    ),
     (
         &["verify", "f"],
         "coproc coin(",
