@@ -1,0 +1,13 @@
+mod GeneratedValues
+mod GeneratedTypes
+mod PrenexedValues
+mod MainGoals
+mod Growth
+mod PrenexedTypes
+mod Examples
+mod Building
+mod PrenexedPlain
+mod Weights
+mod Generating
+mod Numbered
+mod GeneratedNames

@@ -1,0 +1,16 @@
+//! The verification preexpectation of acts as a formula, and formulas without binders.
+#![tactic(auto)]
+
+mod draws;
+mod generation;
+mod laws;
+mod nodes_of_acts;
+mod numbering;
+mod prenexed;
+mod stops;
+
+pub use generation::vp;
+pub use laws::{generated_form_means_acts, main_goals_are_goals, prenexed_form_means_choices};
+pub use numbering::prenex;
+pub use prenexed::Prenex;
+pub use stops::VpStop;
