@@ -7,7 +7,8 @@ use Rattle.heylo_formula.specs.Substitution as Replaced
 use Rattle.heylo_formula.specs.declared.types.Ty.{Ty}
 use Rattle.heyvl_types.specs.Acts.{Act, Acts}
 use Rattle.vp_generator.specs.Generated.{vp}
-use Rattle.vp_generator.specs.Prenexed.{binders, prenexed}
+use Rattle.heylo_formula.specs.BinderNames.{binders}
+use Rattle.vp_generator.specs.Prenexed.{prenexed}
 
 guess : Rational → Acts
 guess half = Acts.next (Act.draw 0 ((half, Term.truth (Cond.constant true)) ∷ (half, Term.truth (Cond.constant false)) ∷ [])) (Acts.next (Act.any 1 true Ty.Bool) Acts.done)

@@ -4,26 +4,17 @@ use Rattle.heyvl_num.specs.Rational.{Rational}
 use Rattle.heyvl_syntax.specs.declared.statements.CheckKind.{CheckKind}
 use Rattle.heylo_formula.specs.Formula.{Form, Cond, Term}
 use Rattle.heylo_formula.specs.Binders.{has_binder, has_binder_in}
-use Rattle.heylo_formula.specs.Substitution.{as_form, as_cond}
 use Rattle.heylo_formula.specs.Substitution as Replaced
 use Rattle.heylo_formula.specs.Typing.{Types, TermFits}
 use Rattle.heylo_formula.specs.declared.types.Ty.{Ty}
-use Rattle.heylo_formula.proofs.Dependence.{or_false}
+use Rattle.heylo_formula.proofs.exported.Agreement.{or_false}
 use Rattle.heyvl_types.specs.Acts.{Act, Acts, Arms}
 use Rattle.vp_generator.specs.Generated.{pick_form, check_form, validate_form, part_form, sum_of_parts, vp, vp_act, vp_arms}
 use Rattle.heyvl_types.specs.WellTyped.{PartsFit, ActFits, ActsFit, ArmsFit}
-use Rattle.vp_generator.specs.Prenexed.{Binder, binders, binders_in}
+use Rattle.heylo_formula.specs.BinderNames.{Binder, binders, binders_in}
 use Rattle.vp_generator.specs.Scopes.{AreNamed, AnyIsBelow, AnysAreBelow, AnysAreBelow_in}
 use Rattle.heylo_formula.proofs.exported.Plain.{term_plain, typed_plain}
-use Rattle.vp_generator.proofs.BinderNames.{names_subst}
-
-term_form : (types : Types) (ty : Ty) (t : Term) → TermFits types ty t → binders (as_form t) ≡ []
-term_form types ty (Term.truth g) h = refl
-term_form types ty (Term.number f) h = unnamed f (term_plain types ty (Term.number f) h).0
-
-term_cond : (types : Types) (ty : Ty) (t : Term) → TermFits types ty t → binders_in (as_cond t) ≡ []
-term_cond types ty (Term.truth g) h = unnamed_in g (term_plain types ty (Term.truth g) h)
-term_cond types ty (Term.number f) h = refl
+use Rattle.heylo_formula.proofs.exported.BinderNames.{names_plain, unnamed, unnamed_in}
 
 named_both : (n : ℕ) (xs ys : List Binder) → AreNamed n xs → AreNamed n ys → AreNamed n (xs ++ ys)
 named_both n [] ys h k = k
@@ -33,7 +24,7 @@ named_none : (n : ℕ) (xs : List Binder) → xs ≡ [] → AreNamed n xs
 named_none n xs e = subst (AreNamed n) (sym e) tt
 
 named_subst : (n : ℕ) (types : Types) (x : ℕ) (t : Term) (k : Form) → TermFits types (types x) t → AreNamed n (binders k) → AreNamed n (binders (Replaced.subst x t k))
-named_subst n types x t k h i = subst (AreNamed n) (sym (names_subst x t (term_form types (types x) t h) (term_cond types (types x) t h) k)) i
+named_subst n types x t k h i = subst (AreNamed n) (sym (names_plain x t k (term_plain types (types x) t h))) i
 
 named_parts : (n : ℕ) (types : Types) (x : ℕ) (ps : List (Rational × Term)) (k total : Form) → PartsFit types x ps → AreNamed n (binders k) → AreNamed n (binders total) → AreNamed n (binders (sum_of_parts x ps k total))
 named_parts n types x [] k total h i j = j

@@ -7,7 +7,7 @@ use Rattle.heyvl_syntax.specs.declared.statements.CheckKind.{CheckKind}
 use Rattle.heylo_formula.specs.Formula.{Form, Term}
 use Rattle.heylo_formula.specs.Typing.{NumberType, Types, type_of, is_unsigned, only_if, scale_type, is_well_typed, retyped, IsFormula, TermFits}
 use Rattle.heylo_formula.specs.declared.types.Ty.{Ty}
-use Rattle.heylo_formula.proofs.SubstitutionTypes.{subst_formula}
+use Rattle.heylo_formula.proofs.exported.Substitutions.{subst_formula}
 use Rattle.heyvl_types.specs.Acts.{Act, Acts, Arms}
 use Rattle.vp_generator.specs.Generated.{pick_form, check_form, validate_form, part_form, sum_of_parts, vp, vp_act, vp_arms}
 use Rattle.heyvl_types.specs.WellTyped.{PartsFit, ActFits, ActsFit, ArmsFit}
@@ -34,7 +34,7 @@ retyped_same x ty types e = fun_ext (λ y. go y (x == y) refl)
     go y true q = let p : x ≡ y = grind arith in sym e ∙ ap types p
     go y false q = refl
 
-part_type : (types : Types) (x : ℕ) (p : Rational × Term) (k : Form) → leqʳ zeroʳ p.0 ≡ true → TermFits types (types x) p.1 → IsFormula types k → IsFormula types (part_form x p k)
+pub part_type : (types : Types) (x : ℕ) (p : Rational × Term) (k : Form) → leqʳ zeroʳ p.0 ≡ true → TermFits types (types x) p.1 → IsFormula types k → IsFormula types (part_form x p k)
 part_type types x p k w h f = only (leqʳ zeroʳ p.0) _ w (scaled _ (subst_formula types x p.1 k h f))
 
 parts_type : (types : Types) (x : ℕ) (ps : List (Rational × Term)) (k total : Form) → PartsFit types x ps → IsFormula types k → IsFormula types total → IsFormula types (sum_of_parts x ps k total)
@@ -56,7 +56,7 @@ validate_type types true a h = only _ _ h refl
 validate_type types false a h = only _ _ h refl
 
 mutual
-  act_type : (types : Types) (a : Act) (k : Form) → ActFits types a → IsFormula types k → IsFormula types (vp_act a k)
+  pub act_type : (types : Types) (a : Act) (k : Form) → ActFits types a → IsFormula types k → IsFormula types (vp_act a k)
   act_type types (Act.set x t span) k h f = subst_formula types x t k h f
   act_type types (Act.draw x [] span) k h f = absurd h
   act_type types (Act.draw x (p ∷ ps) span) k h f = parts_type types x ps k (part_form x p k) h.1 f (part_type types x p k h.0.0 h.0.1 f)

@@ -10,8 +10,8 @@ use Rattle.heylo_formula.specs.Choices.{Choices, left, right}
 use Rattle.heylo_formula.specs.Formula.{Form, Term}
 use Rattle.heylo_formula.specs.Meaning.{value}
 use Rattle.heylo_formula.specs.Typing.{Types}
-use Rattle.heylo_formula.proofs.Dependence.{unchosen, unchosen_in, three}
-use Rattle.heylo_formula.proofs.SubstitutionValues.{subst_value}
+use Rattle.heylo_formula.proofs.exported.Agreement.{unchosen, unchosen_in, three}
+use Rattle.heylo_formula.proofs.exported.Substitutions.{subst_value}
 use Rattle.heyvl_types.specs.Acts.{Act, Acts, Arms}
 use Rattle.heyvl_types.specs.Forward.{Post, picked, checked, validated, part, parts, forward, forward_act, no_loops, no_calls, meant_arms}
 use Rattle.vp_generator.specs.Generated.{pick_form, check_form, validate_form, part_form, sum_of_parts, vp, vp_act, vp_arms}

@@ -7,7 +7,8 @@ use Rattle.heylo_formula.specs.Sizes.{nodes, nodes_in, depth, depth_in}
 use Rattle.heylo_formula.proofs.exported.Growth.{grow_subst, deepen_subst}
 use Rattle.heyvl_types.specs.Acts.{Act, Acts, Arms}
 use Rattle.vp_generator.specs.Generated.{pick_form, check_form, validate_form, part_form, sum_of_parts, vp, vp_act, vp_arms}
-use Rattle.vp_generator.specs.Limits.{AreBuildable, IsBuildable}
+use Rattle.heylo_formula.specs.Typing.{Types}
+use Rattle.heyvl_types.specs.WellTyped.{ActFits, ActsFit}
 
 grow_parts : (x : ℕ) (ps : List (Rational × Term)) (k total : Form) → nodes k ≤ nodes total → nodes k ≤ nodes (sum_of_parts x ps k total)
 grow_parts x [] k total h = h
@@ -28,22 +29,22 @@ grow_validate true k = omega arith
 grow_validate false k = omega arith
 
 mutual
-  pub grow_act : (a : Act) (k : Form) → IsBuildable a → nodes k ≤ nodes (vp_act a k)
-  grow_act (Act.set x t span) k h = grow_subst x t k
-  grow_act (Act.draw x [] span) k h = absurd h
-  grow_act (Act.draw x (p ∷ ps) span) k h = grow_parts x ps k (part_form x p k) (let g = grow_subst x p.1 k in omega arith)
-  grow_act (Act.any x up ty span) k h = omega arith
-  grow_act (Act.reward f span) k h = omega arith
-  grow_act (Act.ifs arms e span) k h = grow_arms arms k (vp e k) (grow_acts e k h.1)
-  grow_act (Act.pick up a b span) k h = grow_pick up k (vp a k) (vp b k) (grow_acts a k h.0)
-  grow_act (Act.check kind f span) k h = grow_check kind f k
-  grow_act (Act.validate co span) k h = grow_validate co k
-  grow_act (Act.loop l b) k h = absurd h
-  grow_act (Act.call xs p es span) k h = absurd h
+  pub grow_act : (types : Types) (a : Act) (k : Form) → ActFits types a → nodes k ≤ nodes (vp_act a k)
+  grow_act types (Act.set x t span) k h = grow_subst x t k
+  grow_act types (Act.draw x [] span) k h = absurd h
+  grow_act types (Act.draw x (p ∷ ps) span) k h = grow_parts x ps k (part_form x p k) (let g = grow_subst x p.1 k in omega arith)
+  grow_act types (Act.any x up ty span) k h = omega arith
+  grow_act types (Act.reward f span) k h = omega arith
+  grow_act types (Act.ifs arms e span) k h = grow_arms arms k (vp e k) (grow_acts types e k h.1)
+  grow_act types (Act.pick up a b span) k h = grow_pick up k (vp a k) (vp b k) (grow_acts types a k h.0)
+  grow_act types (Act.check kind f span) k h = grow_check kind f k
+  grow_act types (Act.validate co span) k h = grow_validate co k
+  grow_act types (Act.loop l b) k h = absurd h
+  grow_act types (Act.call xs p es span) k h = absurd h
 
-  pub grow_acts : (acts : Acts) (k : Form) → AreBuildable acts → nodes k ≤ nodes (vp acts k)
-  grow_acts Acts.done k h = omega arith
-  grow_acts (Acts.next a rest) k h = let p = grow_acts rest k h.1 in let q = grow_act a (vp rest k) h.0 in omega arith
+  pub grow_acts : (types : Types) (acts : Acts) (k : Form) → ActsFit types acts → nodes k ≤ nodes (vp acts k)
+  grow_acts types Acts.done k h = omega arith
+  grow_acts types (Acts.next a rest) k h = let p = grow_acts types rest k h.1 in let q = grow_act types a (vp rest k) h.0 in omega arith
 
   -- the arms give no smaller a form than what follows them
   pub grow_arms : (arms : Arms) (k otherwise : Form) → nodes k ≤ nodes otherwise → nodes k ≤ nodes (vp_arms arms k otherwise)
@@ -78,22 +79,22 @@ deepen_validate true k = omega arith
 deepen_validate false k = omega arith
 
 mutual
-  pub deepen_act : (a : Act) (k : Form) → IsBuildable a → depth k ≤ depth (vp_act a k)
-  deepen_act (Act.set x t span) k h = deepen_subst x t k
-  deepen_act (Act.draw x [] span) k h = absurd h
-  deepen_act (Act.draw x (p ∷ ps) span) k h = deepen_parts x ps k (part_form x p k) (let g = deepen_subst x p.1 k in omega arith)
-  deepen_act (Act.any x up ty span) k h = omega arith
-  deepen_act (Act.reward f span) k h = omega arith
-  deepen_act (Act.ifs arms e span) k h = deepen_arms arms k (vp e k) (deepen_acts e k h.1)
-  deepen_act (Act.pick up a b span) k h = deepen_pick up k (vp a k) (vp b k) (deepen_acts a k h.0)
-  deepen_act (Act.check kind f span) k h = deepen_check kind f k
-  deepen_act (Act.validate co span) k h = deepen_validate co k
-  deepen_act (Act.loop l b) k h = absurd h
-  deepen_act (Act.call xs p es span) k h = absurd h
+  pub deepen_act : (types : Types) (a : Act) (k : Form) → ActFits types a → depth k ≤ depth (vp_act a k)
+  deepen_act types (Act.set x t span) k h = deepen_subst x t k
+  deepen_act types (Act.draw x [] span) k h = absurd h
+  deepen_act types (Act.draw x (p ∷ ps) span) k h = deepen_parts x ps k (part_form x p k) (let g = deepen_subst x p.1 k in omega arith)
+  deepen_act types (Act.any x up ty span) k h = omega arith
+  deepen_act types (Act.reward f span) k h = omega arith
+  deepen_act types (Act.ifs arms e span) k h = deepen_arms arms k (vp e k) (deepen_acts types e k h.1)
+  deepen_act types (Act.pick up a b span) k h = deepen_pick up k (vp a k) (vp b k) (deepen_acts types a k h.0)
+  deepen_act types (Act.check kind f span) k h = deepen_check kind f k
+  deepen_act types (Act.validate co span) k h = deepen_validate co k
+  deepen_act types (Act.loop l b) k h = absurd h
+  deepen_act types (Act.call xs p es span) k h = absurd h
 
-  pub deepen_acts : (acts : Acts) (k : Form) → AreBuildable acts → depth k ≤ depth (vp acts k)
-  deepen_acts Acts.done k h = omega arith
-  deepen_acts (Acts.next a rest) k h = let p = deepen_acts rest k h.1 in let q = deepen_act a (vp rest k) h.0 in omega arith
+  pub deepen_acts : (types : Types) (acts : Acts) (k : Form) → ActsFit types acts → depth k ≤ depth (vp acts k)
+  deepen_acts types Acts.done k h = omega arith
+  deepen_acts types (Acts.next a rest) k h = let p = deepen_acts types rest k h.1 in let q = deepen_act types a (vp rest k) h.0 in omega arith
 
   -- the arms give no smaller a form than what follows them
   pub deepen_arms : (arms : Arms) (k otherwise : Form) → depth k ≤ depth otherwise → depth k ≤ depth (vp_arms arms k otherwise)

@@ -11,12 +11,13 @@ use Rattle.heylo_formula.specs.Typing.{Types}
 use Rattle.heylo_formula.specs.declared.types.Ty.{Ty}
 use Rattle.heylo_formula.specs.declared.values.Val.{Val}
 use Rattle.heylo_formula.specs.declared.values.Val.TheVariants.{Truth}
-use Rattle.heylo_formula.proofs.Dependence.{same_on}
+use Rattle.heylo_formula.proofs.exported.Agreement.{same_on}
 use Rattle.heyvl_types.specs.Acts.{Acts}
 use Rattle.heyvl_types.specs.Forward.{forward}
 use Rattle.vp_generator.specs.Generated.{vp}
 use Rattle.heyvl_types.specs.WellTyped.{ActsFit}
-use Rattle.vp_generator.specs.Prenexed.{Binder, binders, prenexed, chosen}
+use Rattle.heylo_formula.specs.BinderNames.{Binder, binders}
+use Rattle.vp_generator.specs.Prenexed.{prenexed, chosen}
 use Rattle.vp_generator.specs.MainGoals.{MainHolds, new_types, main_goal, IsOver}
 use Rattle.vp_generator.specs.PrenexLaws.{IsFrom, TypedFrom}
 use Rattle.vp_generator.proofs.PrenexedValues.{given_value, found_value, chosen_typed}

@@ -7,7 +7,8 @@ use Rattle.heylo_formula.specs.declared.forms.Form as F
 use Rattle.heylo_formula.specs.Formula.{Form, Cond}
 use Rattle.heylo_formula.specs.PlainTrees.{form_of, cond_of}
 use Rattle.heylo_formula.proofs.Mirrors.{select_form, ite_cond}
-use Rattle.vp_generator.specs.Prenexed.{Binder, binders, binders_in, Numbering, unbound, unbound_in}
+use Rattle.heylo_formula.specs.BinderNames.{Binder, binders, binders_in}
+use Rattle.vp_generator.specs.Prenexed.{Numbering, unbound, unbound_in}
 
 after : (x : ℕ) (xs ys zs : List Binder) → ys ≡ xs ++ zs → x + length ys ≡ x + length xs + length zs
 after x xs ys zs d = let e : length ys ≡ length xs + length zs = ap length d ∙ length-append xs zs in omega (arith, e)

@@ -17,6 +17,8 @@ abbrev mutual
   weight (Act.pick up a b span) = 8 + (weight_of a + weight_of b)
   weight (Act.check kind f span) = 1
   weight (Act.validate co span) = 1
+  weight (Act.loop h b) = 1
+  weight (Act.call xs p es span) = 1
 
   pub weight_of : Acts → ℕ
   weight_of Acts.done = 0

@@ -2,6 +2,7 @@ pub mod Generated
 pub mod Prenexed
 pub mod Scopes
 pub mod Limits
+pub mod Fit
 pub mod Answers
 pub mod Laws
 pub mod MainGoals
