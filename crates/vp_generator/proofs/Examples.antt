@@ -5,13 +5,17 @@ use Rattle.heylo_formula.specs.Formula.{Form, Cond, Term}
 use Rattle.heylo_formula.specs.Sizes.{nodes, depth}
 use Rattle.heylo_formula.specs.Substitution as Replaced
 use Rattle.heylo_formula.specs.declared.types.Ty.{Ty}
+use Rattle.heyvl_syntax.specs.declared.spans.Span.{Span}
 use Rattle.heyvl_types.specs.Acts.{Act, Acts}
 use Rattle.vp_generator.specs.Generated.{vp}
 use Rattle.heylo_formula.specs.BinderNames.{binders}
 use Rattle.vp_generator.specs.Prenexed.{prenexed}
 
+nowhere : Span
+nowhere = record { from = 0; to = 0 }
+
 guess : Rational → Acts
-guess half = Acts.next (Act.draw 0 ((half, Term.truth (Cond.constant true)) ∷ (half, Term.truth (Cond.constant false)) ∷ [])) (Acts.next (Act.any 1 true Ty.Bool) Acts.done)
+guess half = Acts.next (Act.draw 0 ((half, Term.truth (Cond.constant true)) ∷ (half, Term.truth (Cond.constant false)) ∷ []) nowhere) (Acts.next (Act.any 1 true Ty.Bool nowhere) Acts.done)
 
 same_values : Form
 same_values = Form.iverson (Cond.same (Cond.flag 0) (Cond.flag 1))

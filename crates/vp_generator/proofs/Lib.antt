@@ -1,7 +1,7 @@
 mod GeneratedValues
 mod GeneratedTypes
 mod PrenexedValues
-mod MainGoals
+mod PrenexedGoals
 mod Growth
 mod PrenexedTypes
 mod Examples
@@ -11,3 +11,6 @@ mod Weights
 mod Generating
 mod Numbered
 mod GeneratedNames
+mod FreeTerms
+mod Directions
+mod PrenexedOver

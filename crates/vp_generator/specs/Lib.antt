@@ -5,5 +5,6 @@ pub mod Limits
 pub mod Fit
 pub mod Answers
 pub mod Laws
-pub mod MainGoals
+pub mod PrenexedGoals
 pub mod PrenexLaws
+pub mod Directed

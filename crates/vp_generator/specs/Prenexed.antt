@@ -3,7 +3,7 @@
 use Rattle.std.specs.Prelude.{ℕ, ◌+◌, ◌==◌, List, [], ◌∷◌, ◌++◌, length, if◌then◌else◌}
 use Prim.Native.Nat.{suc}
 use Rattle.heylo_formula.specs.Formula.{Form, Cond}
-use Rattle.heylo_formula.specs.BinderNames.{binders, binders_in}
+use Rattle.heylo_formula.specs.BinderNames.{Binder, binders, binders_in}
 use Rattle.heylo_formula.specs.State.{fit}
 use Rattle.heylo_formula.specs.Choices.{Choices, here, left, right}
 use Rattle.heylo_formula.specs.declared.types.Ty.{Ty}
@@ -85,3 +85,8 @@ abbrev mutual
 -- The prenexed form of a form over n variables.
 abbrev pub prenexed : ℕ → Form → Form
 prenexed n f = unbound (λ x. x) n f
+
+-- The types of the binders' variables.
+abbrev pub new_types : List Binder → List Ty
+new_types [] = []
+new_types (b ∷ bs) = b.1 ∷ new_types bs

@@ -1,24 +1,23 @@
 //! The form of a draw: the sum of its parts, from the left.
 
-ghost use Rattle.std.specs.Prelude.{◌≡◌, ◌<◌, ◌^◌};
 ghost use Rattle.heylo_formula.specs.Formula.{Form as plain};
 ghost use Rattle.heylo_formula.specs.PlainTrees.{form_of, term_of};
-ghost use Rattle.heylo_formula.specs.Sizes.{nodes_in_term};
 ghost use Rattle.vp_generator.specs.Generated.{part_form, draw_form, sum_of_parts};
 ghost use Rattle.heyvl_types.specs.PlainActs.{parts_of};
-ghost use Rattle.vp_generator.specs.Limits.{DrawIsBuildable, PartsAreBuildable, TermIsBuildable, IsSmall};
+ghost use Rattle.vp_generator.specs.Limits.{IsSmall};
+ghost use Rattle.vp_generator.specs.Fit.{DrawIsFit, PartsAreFit, TermIsFit};
 ghost use Rattle.vp_generator.specs.Answers.{IsAnswer};
 
 use crate::nodes_of_acts::{added, put, scaled, small};
 use crate::stops::VpStop;
 use heylo_formula::{Form, Term};
-use heyvl_num::{Ext, Frac};
+use heyvl_num::Frac;
 use std::alloc::Global;
 
 /// The form of a draw of a variable from its parts.
 pub fn drawn(alloc: Global, var: u32, parts: &[(Frac, Term)], form: &Form) -> Result<Form, VpStop>
     requires small { IsSmall (form_of form.now) }
-    requires buildable { DrawIsBuildable (parts_of parts.now) }
+    requires fit { DrawIsFit var (parts_of parts.now) (form_of form.now) }
     ensures { IsAnswer (draw_form var (parts_of parts.now) (form_of form.now)) result }
 {
     match parts.split_first() {
@@ -26,7 +25,7 @@ pub fn drawn(alloc: Global, var: u32, parts: &[(Frac, Term)], form: &Form) -> Re
             Ok(start) => sum_from(alloc, var, others, form, start),
             Err(stop) => Err(stop),
         },
-        None => small(Form::Const(Ext::Inf)),
+        None => unreachable!(),
     }
 }
 
@@ -39,7 +38,7 @@ fn sum_from(
     start: Form,
 ) -> Result<Form, VpStop>
     requires small { IsSmall (form_of form.now) }
-    requires buildable { PartsAreBuildable (parts_of parts.now) }
+    requires fit { PartsAreFit var (parts_of parts.now) (form_of form.now) }
     requires start { IsSmall (form_of start) }
     ensures { IsAnswer (sum_of_parts var (parts_of parts.now) (form_of form.now) (form_of start)) result }
 {
@@ -55,6 +54,7 @@ fn sum_from(
     Ok(total)
 }
 
+/// One more part behind what is summed so far.
 fn with_part(
     alloc: Global,
     var: u32,
@@ -63,7 +63,7 @@ fn with_part(
     total: Form,
 ) -> Result<Form, VpStop>
     requires small { IsSmall (form_of form.now) }
-    requires buildable { TermIsBuildable (term_of one.now.1) }
+    requires fit { TermIsFit var (term_of one.now.1) (form_of form.now) }
     ensures { IsAnswer (plain.sum (form_of total) (part_form var (one.now.0, term_of one.now.1) (form_of form.now))) result }
 {
     match part(alloc, var, one, form) {
@@ -75,7 +75,7 @@ fn with_part(
 /// The form of one part of a draw.
 fn part(alloc: Global, var: u32, one: &(Frac, Term), form: &Form) -> Result<Form, VpStop>
     requires small { IsSmall (form_of form.now) }
-    requires buildable { TermIsBuildable (term_of one.now.1) }
+    requires fit { TermIsFit var (term_of one.now.1) (form_of form.now) }
     ensures { IsAnswer (part_form var (one.now.0, term_of one.now.1) (form_of form.now)) result }
 {
     scaled(alloc, one.0, put(alloc, form, var, &one.1)?)

@@ -5,7 +5,8 @@ ghost use Rattle.heylo_formula.specs.Formula.{Form as plain};
 ghost use Rattle.heylo_formula.specs.PlainTrees.{form_of, cond_of};
 ghost use Rattle.vp_generator.specs.Generated.{pick_form, vp, vp_act, vp_arms};
 ghost use Rattle.heyvl_types.specs.PlainActs.{act_of, acts_of, arms_of};
-ghost use Rattle.vp_generator.specs.Limits.{AreBuildable, AreBuildable_in, IsBuildable, IsSmall};
+ghost use Rattle.vp_generator.specs.Limits.{IsSmall};
+ghost use Rattle.vp_generator.specs.Fit.{AreFit, IsFit, ArmsAreFit};
 ghost use Rattle.vp_generator.specs.Answers.{IsAnswer};
 
 use crate::draws::drawn;
@@ -17,7 +18,7 @@ use std::alloc::Global;
 
 /// The form of acts, over the form of what follows them.
 pub fn vp(alloc: Global, acts: &[Act], post: Form) -> Result<Form, VpStop>
-    requires { AreBuildable (acts_of acts.now) }
+    requires { AreFit (acts_of acts.now) (form_of post) }
     ensures { IsAnswer (vp (acts_of acts.now) (form_of post)) result }
 {
     match small(post) {
@@ -28,7 +29,7 @@ pub fn vp(alloc: Global, acts: &[Act], post: Form) -> Result<Form, VpStop>
 
 #[cycle(generating)]
 fn over_acts(alloc: Global, acts: &[Act], post: Form) -> Result<Form, VpStop>
-    requires buildable { AreBuildable (acts_of acts.now) }
+    requires fit { AreFit (acts_of acts.now) (form_of post) }
     requires small { IsSmall (form_of post) }
     ensures { IsAnswer (vp (acts_of acts.now) (form_of post)) result }
 {
@@ -46,7 +47,7 @@ fn over_acts(alloc: Global, acts: &[Act], post: Form) -> Result<Form, VpStop>
 
 #[cycle(generating)]
 fn over_act(alloc: Global, act: &Act, form: Form) -> Result<Form, VpStop>
-    requires buildable { IsBuildable (act_of act.now) }
+    requires fit { IsFit (act_of act.now) (form_of form) }
     requires small { IsSmall (form_of form) }
     ensures { IsAnswer (vp_act (act_of act.now) (form_of form)) result }
 {
@@ -59,6 +60,8 @@ fn over_act(alloc: Global, act: &Act, form: Form) -> Result<Form, VpStop>
         Act::Pick(up, a, b, _) => over_pick(alloc, *up, a, b, &form),
         Act::Check(kind, f, _) => checked(alloc, *kind, f, form),
         Act::Validate(co, _) => validated(alloc, *co, form),
+        Act::Loop(_) => unreachable!(),
+        Act::Call(_, _, _, _) => unreachable!(),
     }
 }
 
@@ -70,7 +73,7 @@ fn with_reward(alloc: Global, reward: &Form, form: Form) -> Result<Form, VpStop>
 
 #[cycle(generating)]
 fn over_block(alloc: Global, acts: &[Act], form: &Form) -> Result<Form, VpStop>
-    requires buildable { AreBuildable (acts_of acts.now) }
+    requires fit { AreFit (acts_of acts.now) (form_of form.now) }
     requires small { IsSmall (form_of form.now) }
     ensures { IsAnswer (vp (acts_of acts.now) (form_of form.now)) result }
 {
@@ -79,8 +82,8 @@ fn over_block(alloc: Global, acts: &[Act], form: &Form) -> Result<Form, VpStop>
 
 #[cycle(generating)]
 fn over_pick(alloc: Global, up: bool, a: &[Act], b: &[Act], form: &Form) -> Result<Form, VpStop>
-    requires first { AreBuildable (acts_of a.now) }
-    requires second { AreBuildable (acts_of b.now) }
+    requires first { AreFit (acts_of a.now) (form_of form.now) }
+    requires second { AreFit (acts_of b.now) (form_of form.now) }
     requires small { IsSmall (form_of form.now) }
     ensures { IsAnswer (pick_form up (vp (acts_of a.now) (form_of form.now)) (vp (acts_of b.now) (form_of form.now))) result }
 {
@@ -100,8 +103,8 @@ fn over_if(
     otherwise: &[Act],
     form: &Form,
 ) -> Result<Form, VpStop>
-    requires arms { AreBuildable_in (arms_of arms.now) }
-    requires otherwise { AreBuildable (acts_of otherwise.now) }
+    requires arms { ArmsAreFit (arms_of arms.now) (form_of form.now) }
+    requires otherwise { AreFit (acts_of otherwise.now) (form_of form.now) }
     requires small { IsSmall (form_of form.now) }
     ensures { IsAnswer (vp_arms (arms_of arms.now) (form_of form.now) (vp (acts_of otherwise.now) (form_of form.now))) result }
 {
@@ -118,7 +121,7 @@ fn over_arms(
     form: &Form,
     start: Form,
 ) -> Result<Form, VpStop>
-    requires buildable { AreBuildable_in (arms_of arms.now) }
+    requires fit { ArmsAreFit (arms_of arms.now) (form_of form.now) }
     requires small { IsSmall (form_of form.now) }
     requires start { IsSmall (form_of start) }
     ensures { IsAnswer (vp_arms (arms_of arms.now) (form_of form.now) (form_of start)) result }
@@ -142,7 +145,7 @@ fn over_arm(
     form: &Form,
     others: Form,
 ) -> Result<Form, VpStop>
-    requires buildable { AreBuildable (acts_of arm.now.1.items) }
+    requires fit { AreFit (acts_of arm.now.1.items) (form_of form.now) }
     requires small { IsSmall (form_of form.now) }
     ensures { IsAnswer (plain.select (cond_of arm.now.0) (vp (acts_of arm.now.1.items) (form_of form.now)) (form_of others)) result }
 {

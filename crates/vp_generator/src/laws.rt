@@ -2,19 +2,22 @@
 
 ghost use Rattle.vp_generator.specs.Laws as law;
 ghost use Rattle.vp_generator.specs.PrenexLaws as prenex;
-ghost use Rattle.vp_generator.specs.MainGoals as goals;
+ghost use Rattle.vp_generator.specs.PrenexedGoals as goals;
+ghost use Rattle.vp_generator.specs.Directed as directed;
 ghost use Rattle.vp_generator.specs.Scopes as scopes;
 
-/// The generated form means what the acts mean, and is a formula.
+/// The generated form has the acts' forward meaning as its value, for the same choices; it is a formula, and its binders have
+/// the names of variables that acts give any value.
 pub fn generated_form_means_acts()
     ensures value { law.GeneratedFormMeansActs }
     ensures typed { law.GeneratedFormIsFormula }
     ensures named { scopes.GeneratedFormIsNamed }
 {}
 
-/// A main goal holds exactly where the goal that is made of it does.
-pub fn main_goals_are_goals()
-    ensures { goals.MainGoalsAreGoals }
+/// The binders of the generated form are of the procedure's direction, and stand under operators that keep the best value.
+pub fn generated_form_is_directed()
+    ensures acts { directed.GeneratedFormIsDirected }
+    ensures procedures { directed.FormOfProcedureIsDirected }
 {}
 
 /// The values of the prenexed form over all values of the new variables are those of the form over all choice trees.
@@ -24,4 +27,10 @@ pub fn prenexed_form_means_choices()
     ensures typed { prenex.ChoicesAreTyped }
     ensures formula { prenex.PrenexedFormIsFormula }
     ensures plain { prenex.PrenexedFormHasNoBinder }
+{}
+
+/// A goal whose found form is prenexed holds exactly where the inequality holds for all choices.
+pub fn prenexed_goals_speak_of_choices()
+    ensures holds { goals.PrenexedGoalsSpeakOfChoices }
+    ensures goals { goals.PrenexedGoalsAreGoals }
 {}

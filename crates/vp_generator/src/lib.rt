@@ -10,7 +10,10 @@ mod prenexed;
 mod stops;
 
 pub use generation::vp;
-pub use laws::{generated_form_means_acts, main_goals_are_goals, prenexed_form_means_choices};
+pub use laws::{
+    generated_form_is_directed, generated_form_means_acts, prenexed_form_means_choices,
+    prenexed_goals_speak_of_choices,
+};
 pub use numbering::prenex;
 pub use prenexed::Prenex;
 pub use stops::VpStop;
