@@ -67,6 +67,9 @@ counts types ty (Term.number f) h = record { flag = λ e. let k : true ≡ false
 at_variable : (x y m one size : ℕ) (types : Types) → (x == y) ≡ true → ((types x ≡ types y) → size ≤ m) → size ≤ cond (x == y) m one
 at_variable x y m one size types i g = let p : x ≡ y = grind arith in subst (λ b. size ≤ cond b m one) (sym i) (g (ap types p))
 
+more : (size a : ℕ) → size ≤ a → size ≤ 1 + a
+more size a h = omega (arith, h)
+
 two : (p q : Bool) (size a b : ℕ) → (p ≡ true → size ≤ a) → (q ≡ true → size ≤ b) → (p || q) ≡ true → size ≤ 1 + (a + b)
 two true q size a b f g h = let e = f refl in omega (arith, e)
 two false q size a b f g h = let e = g h in omega (arith, e)
@@ -97,16 +100,16 @@ mutual
   weighs (Form.sum a b) types x m k size w h i = let p = joined_parts _ _ h in two (is_free x a) (is_free x b) size (nodes_put x m k a) (nodes_put x m k b) (weighs a types x m k size w p.0) (weighs b types x m k size w p.1) i
   weighs (Form.difference a b) types x m k size w h i = let p = joined_parts _ _ (difference_part _ h) in two (is_free x a) (is_free x b) size (nodes_put x m k a) (nodes_put x m k b) (weighs a types x m k size w p.0) (weighs b types x m k size w p.1) i
   weighs (Form.cut a b) types x m k size w h i = let p = joined_parts _ _ (cut_part _ h) in two (is_free x a) (is_free x b) size (nodes_put x m k a) (nodes_put x m k b) (weighs a types x m k size w p.0) (weighs b types x m k size w p.1) i
-  weighs (Form.scale r a) types x m k size w h i = let e = weighs a types x m k size w (scale_part _ (only_parts _ _ h).1) i in omega (arith, e)
+  weighs (Form.scale r a) types x m k size w h i = more _ _ (weighs a types x m k size w (scale_part _ (only_parts _ _ h).1) i)
   weighs (Form.product a b span) types x m k size w h i = let p = joined_parts _ _ h in two (is_free x a) (is_free x b) size (nodes_put x m k a) (nodes_put x m k b) (weighs a types x m k size w p.0) (weighs b types x m k size w p.1) i
   weighs (Form.min a b) types x m k size w h i = let p = joined_parts _ _ h in two (is_free x a) (is_free x b) size (nodes_put x m k a) (nodes_put x m k b) (weighs a types x m k size w p.0) (weighs b types x m k size w p.1) i
   weighs (Form.max a b) types x m k size w h i = let p = joined_parts _ _ h in two (is_free x a) (is_free x b) size (nodes_put x m k a) (nodes_put x m k b) (weighs a types x m k size w p.0) (weighs b types x m k size w p.1) i
   weighs (Form.imply a b) types x m k size w h i = let p = and_both _ _ (only_parts _ _ h).0 in two (is_free x a) (is_free x b) size (nodes_put x m k a) (nodes_put x m k b) (weighs a types x m k size w (unsigned_type _ p.0)) (weighs b types x m k size w (unsigned_type _ p.1)) i
   weighs (Form.co_imply a b) types x m k size w h i = let p = and_both _ _ (only_parts _ _ h).0 in two (is_free x a) (is_free x b) size (nodes_put x m k a) (nodes_put x m k b) (weighs a types x m k size w (unsigned_type _ p.0)) (weighs b types x m k size w (unsigned_type _ p.1)) i
-  weighs (Form.validate a) types x m k size w h i = let e = weighs a types x m k size w (unsigned_type _ (only_parts _ _ h).0) i in omega (arith, e)
-  weighs (Form.co_validate a) types x m k size w h i = let e = weighs a types x m k size w (unsigned_type _ (only_parts _ _ h).0) i in omega (arith, e)
-  weighs (Form.embed g) types x m k size w h i = let e = weighs_in g types x m k size w (only_parts _ _ h).0 i in omega (arith, e)
-  weighs (Form.iverson g) types x m k size w h i = let e = weighs_in g types x m k size w (only_parts _ _ h).0 i in omega (arith, e)
+  weighs (Form.validate a) types x m k size w h i = more _ _ (weighs a types x m k size w (unsigned_type _ (only_parts _ _ h).0) i)
+  weighs (Form.co_validate a) types x m k size w h i = more _ _ (weighs a types x m k size w (unsigned_type _ (only_parts _ _ h).0) i)
+  weighs (Form.embed g) types x m k size w h i = more _ _ (weighs_in g types x m k size w (only_parts _ _ h).0 i)
+  weighs (Form.iverson g) types x m k size w h i = more _ _ (weighs_in g types x m k size w (only_parts _ _ h).0 i)
   weighs (Form.select g a b) types x m k size w h i =
       let o = only_parts _ _ h in let p = joined_parts _ _ o.1 in
       three (is_free_in x g) (is_free x a) (is_free x b) size (nodes_put_in x m k g) (nodes_put x m k a) (nodes_put x m k b) (weighs_in g types x m k size w o.0) (weighs a types x m k size w p.0) (weighs b types x m k size w p.1) i
@@ -115,7 +118,7 @@ mutual
   weighs_in : (g : Cond) (types : Types) (x m k size : ℕ) → Counts (types x) size m k → is_well_typed types g ≡ true → is_free_in x g ≡ true → size ≤ nodes_put_in x m k g
   weighs_in (Cond.constant b) types x m k size w h i = absurd (cc)
   weighs_in (Cond.flag y) types x m k size w h i = at_variable x y k 1 size types i (λ e. w.flag (subst (λ t. is_bool t ≡ true) (sym e) h))
-  weighs_in (Cond.not g) types x m k size w h i = let e = weighs_in g types x m k size w h i in omega (arith, e)
+  weighs_in (Cond.not g) types x m k size w h i = more _ _ (weighs_in g types x m k size w h i)
   weighs_in (Cond.and a b) types x m k size w h i = let p = and_both _ _ h in two (is_free_in x a) (is_free_in x b) size (nodes_put_in x m k a) (nodes_put_in x m k b) (weighs_in a types x m k size w p.0) (weighs_in b types x m k size w p.1) i
   weighs_in (Cond.or a b) types x m k size w h i = let p = and_both _ _ h in two (is_free_in x a) (is_free_in x b) size (nodes_put_in x m k a) (nodes_put_in x m k b) (weighs_in a types x m k size w p.0) (weighs_in b types x m k size w p.1) i
   weighs_in (Cond.same a b) types x m k size w h i = let p = and_both _ _ h in two (is_free_in x a) (is_free_in x b) size (nodes_put_in x m k a) (nodes_put_in x m k b) (weighs_in a types x m k size w p.0) (weighs_in b types x m k size w p.1) i

@@ -2,7 +2,7 @@
 use Rattle.std.proofs.Common.{◌≡◌, ℕ, refl, sym, ap, ◌∙◌, subst, arith, Bool, true, false, cond, ◌==◌, ◌&&◌, List, [], ◌∷◌}
 use Rattle.std.specs.Prelude.{Option, Some, None}
 use mathlib.Core.Path.{fun_ext}
-use Rattle.heyvl_num.specs.Rational.{Rational, zeroʳ, leqʳ}
+use Rattle.heyvl_num.specs.Rational.{Rational, zeroʳ, leqʳ, ◌≤ʳ◌}
 use Rattle.heyvl_syntax.specs.declared.statements.CheckKind.{CheckKind}
 use Rattle.heylo_formula.specs.Formula.{Form, Term}
 use Rattle.heylo_formula.specs.Typing.{NumberType, Types, type_of, is_unsigned, only_if, scale_type, is_well_typed, retyped, IsFormula, TermFits}
@@ -34,8 +34,8 @@ retyped_same x ty types e = fun_ext (λ y. go y (x == y) refl)
     go y true q = let p : x ≡ y = grind arith in sym e ∙ ap types p
     go y false q = refl
 
-pub part_type : (types : Types) (x : ℕ) (p : Rational × Term) (k : Form) → leqʳ zeroʳ p.0 ≡ true → TermFits types (types x) p.1 → IsFormula types k → IsFormula types (part_form x p k)
-part_type types x p k w h f = only (leqʳ zeroʳ p.0) _ w (scaled _ (subst_formula types x p.1 k h f))
+pub part_type : (types : Types) (x : ℕ) (p : Rational × Term) (k : Form) → zeroʳ ≤ʳ p.0 → TermFits types (types x) p.1 → IsFormula types k → IsFormula types (part_form x p k)
+part_type types x p k w h f = only (leqʳ zeroʳ p.0) _ w.holds (scaled _ (subst_formula types x p.1 k h f))
 
 parts_type : (types : Types) (x : ℕ) (ps : List (Rational × Term)) (k total : Form) → PartsFit types x ps → IsFormula types k → IsFormula types total → IsFormula types (sum_of_parts x ps k total)
 parts_type types x [] k total h f g = g
