@@ -19,11 +19,11 @@ use Rattle.heyvl_types.proofs.exported.PlainActsAre.{if_act, pick_act}
 use Rattle.vp_generator.proofs.Building.{acts_end, acts_fit, arms_end, arms_fit}
 use Rattle.vp_generator.proofs.Weights.{weight, weight_of, weight_of_arms, last_weighs, last_arm_weighs}
 
-pub if_here : (a : A.Act) (arms : Vec (C.Cond × Vec A.Act Global) Global) (e : Vec A.Act Global) (span : Span) (xs : List (C.Cond × Vec A.Act Global)) (ys : List A.Act) → a ≡ A.If arms e span → xs ≡ arms.items → ys ≡ e.items → act_of a ≡ Act.ifs (arms_of xs) (acts_of ys)
-if_here a arms e span xs ys h i j = ap act_of h ∙ if_act arms e span ∙ ap₂ (λ u v. Act.ifs (arms_of u) (acts_of v)) (sym i) (sym j)
+pub if_here : (a : A.Act) (arms : Vec (C.Cond × Vec A.Act Global) Global) (e : Vec A.Act Global) (span : Span) (xs : List (C.Cond × Vec A.Act Global)) (ys : List A.Act) → a ≡ A.If arms e span → xs ≡ arms.items → ys ≡ e.items → act_of a ≡ Act.ifs (arms_of xs) (acts_of ys) span
+if_here a arms e span xs ys h i j = ap act_of h ∙ if_act arms e span ∙ ap₂ (λ u v. Act.ifs (arms_of u) (acts_of v) span) (sym i) (sym j)
 
-pub pick_here : (act : A.Act) (up : Bool) (a b : Vec A.Act Global) (span : Span) (xs ys : List A.Act) → act ≡ A.Pick up a b span → xs ≡ a.items → ys ≡ b.items → act_of act ≡ Act.pick up (acts_of xs) (acts_of ys)
-pick_here act up a b span xs ys h i j = ap act_of h ∙ pick_act up a b span ∙ ap₂ (λ u v. Act.pick up (acts_of u) (acts_of v)) (sym i) (sym j)
+pub pick_here : (act : A.Act) (up : Bool) (a b : Vec A.Act Global) (span : Span) (xs ys : List A.Act) → act ≡ A.Pick up a b span → xs ≡ a.items → ys ≡ b.items → act_of act ≡ Act.pick up (acts_of xs) (acts_of ys) span
+pick_here act up a b span xs ys h i j = ap act_of h ∙ pick_act up a b span ∙ ap₂ (λ u v. Act.pick up (acts_of u) (acts_of v) span) (sym i) (sym j)
 
 -- what the loop over acts keeps: the acts, what follows them, the acts that are left, and the form so far
 abbrev pub Kept : List A.Act → Form → List A.Act → Form → Type 0

@@ -14,3 +14,6 @@ mod GeneratedNames
 mod FreeTerms
 mod Directions
 mod PrenexedOver
+mod BinderCounts
+mod MadeGoals
+mod GeneratedOver

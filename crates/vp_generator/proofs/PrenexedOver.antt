@@ -17,7 +17,7 @@ right_free true b h = refl
 right_free false b h = h
 
 -- what holds of each part's variables holds of those of both
-two : (a b : Bool) (x k : ℕ) → (a ≡ true → x < k) → (b ≡ true → x < k) → (a || b) ≡ true → x < k
+pub two : (a b : Bool) (x k : ℕ) → (a ≡ true → x < k) → (b ≡ true → x < k) → (a || b) ≡ true → x < k
 two true b x k f g h = f refl
 two false b x k f g h = g h
 

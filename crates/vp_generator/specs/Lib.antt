@@ -8,3 +8,4 @@ pub mod Laws
 pub mod PrenexedGoals
 pub mod PrenexLaws
 pub mod Directed
+pub mod Over

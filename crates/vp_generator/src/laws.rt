@@ -4,13 +4,15 @@ ghost use Rattle.vp_generator.specs.Laws as law;
 ghost use Rattle.vp_generator.specs.PrenexLaws as prenex;
 ghost use Rattle.vp_generator.specs.PrenexedGoals as goals;
 ghost use Rattle.vp_generator.specs.Directed as directed;
+ghost use Rattle.vp_generator.specs.Over as over;
 ghost use Rattle.vp_generator.specs.Scopes as scopes;
 
-/// The generated form has the acts' forward meaning as its value, for the same choices; it is a formula, and its binders have
-/// the names of variables that acts give any value.
+/// The generated form has the acts' forward meaning as its value, for the same choices. It is a formula, its free variables
+/// are those of the acts and of the post, and its binders are named after variables that acts give any value.
 pub fn generated_form_means_acts()
     ensures value { law.GeneratedFormMeansActs }
     ensures typed { law.GeneratedFormIsFormula }
+    ensures over { over.GeneratedFormIsOver }
     ensures named { scopes.GeneratedFormIsNamed }
 {}
 

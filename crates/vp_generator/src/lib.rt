@@ -3,13 +3,16 @@
 
 mod draws;
 mod generation;
+mod goals;
 mod laws;
+mod limits;
 mod nodes_of_acts;
 mod numbering;
 mod prenexed;
 mod stops;
 
 pub use generation::vp;
+pub use goals::goal_of_forms;
 pub use laws::{
     generated_form_is_directed, generated_form_means_acts, prenexed_form_means_choices,
     prenexed_goals_speak_of_choices,

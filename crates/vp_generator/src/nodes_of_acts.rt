@@ -10,17 +10,12 @@ ghost use Rattle.vp_generator.specs.Limits.{IsSmall};
 ghost use Rattle.vp_generator.specs.Fit.{TermIsFit};
 ghost use Rattle.vp_generator.specs.Answers.{IsAnswer};
 
+use crate::limits::{DEEPEST, MOST_NODES};
 use crate::stops::VpStop;
 use heylo_formula::{Cond, Form, Term, Ty};
 use heyvl_num::Frac;
 use heyvl_syntax::CheckKind;
 use std::alloc::{AllocError, Global};
-
-/// A form has at most so many nodes.
-const MOST_NODES: u64 = 200_000;
-
-/// A form is at most so deep; a leaf has depth 1.
-const DEEPEST: u64 = 1_000;
 
 /// The form, where it passes no limit.
 pub fn small(form: Form) -> Result<Form, VpStop>
