@@ -1,7 +1,8 @@
 -- A form has no more binders than nodes, and prenexed variables keep the types of the first ones.
 use Rattle.std.proofs.Common.{◌≡◌, ℕ, ◌≤◌, ◌+◌, refl, sym, ap, ◌∙◌, arith, List, [], ◌∷◌, ◌++◌, map}
 use Rattle.std.proofs.Math.ListN.{length}
-use Rattle.std.proofs.lemmas.List.{length-append, append_assoc}
+use Prim.Native.Nat.{suc}
+use Rattle.std.proofs.lemmas.List.{length-append, append-nil, append_assoc}
 use Rattle.heylo_formula.specs.BinderNames.{Binder, binders, binders_in}
 use Rattle.heylo_formula.specs.Formula.{Form, Cond}
 use Rattle.heylo_formula.specs.Sizes.{nodes, nodes_in}
@@ -62,4 +63,4 @@ named_types vs (b ∷ bs) = named_types (vs ++ (record { name = name_of vs b.0; 
 
 pub same_length : (vs : List VarInfo) → length (types_of_variables vs) ≡ length vs
 same_length [] = refl
-same_length (v ∷ vs) = ap (λ n. 1 + n) (same_length vs)
+same_length (v ∷ vs) = ap suc (same_length vs)
