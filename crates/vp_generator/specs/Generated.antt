@@ -1,0 +1,56 @@
+-- The form that is generated from acts, over the form that follows them: the table of vp, from the last act to the first.
+-- Loops and calls have no row: they are encoded before, and stand for 0 here.
+-- Source: vp of HeyVL (Schroeer, Batz, Kaminski, Katoen, Matheja, OOPSLA 2023).
+use Rattle.std.specs.Prelude.{ℕ, Bool, true, false, List, [], ◌∷◌}
+use Rattle.heyvl_num.specs.Rational.{Rational}
+use Rattle.heyvl_num.specs.Value.{zeroᵛ}
+use Rattle.heyvl_syntax.specs.declared.statements.CheckKind.{CheckKind}
+use Rattle.heylo_formula.specs.Formula.{Form, Term}
+use Rattle.heylo_formula.specs.Substitution.{subst}
+use Rattle.heyvl_types.specs.Acts.{Act, Acts, Arms}
+
+abbrev pub pick_form : Bool → Form → Form → Form
+pick_form true a b = Form.max a b
+pick_form false a b = Form.min a b
+
+abbrev pub check_form : CheckKind → Form → Form → Form
+check_form CheckKind.Assert f k = Form.min f k
+check_form CheckKind.Assume f k = Form.imply f k
+check_form CheckKind.CoAssert f k = Form.max f k
+check_form CheckKind.CoAssume f k = Form.co_imply f k
+
+abbrev pub validate_form : Bool → Form → Form
+validate_form true k = Form.co_validate k
+validate_form false k = Form.validate k
+
+abbrev pub part_form : ℕ → Rational × Term → Form → Form
+part_form x p k = Form.scale p.0 (subst x p.1 k)
+
+abbrev pub sum_of_parts : ℕ → List (Rational × Term) → Form → Form → Form
+sum_of_parts x [] k total = total
+sum_of_parts x (p ∷ ps) k total = sum_of_parts x ps k (Form.sum total (part_form x p k))
+
+abbrev pub draw_form : ℕ → List (Rational × Term) → Form → Form
+draw_form x [] k = Form.number zeroᵛ
+draw_form x (p ∷ ps) k = sum_of_parts x ps k (part_form x p k)
+
+abbrev mutual
+  pub vp_act : Act → Form → Form
+  vp_act (Act.set x t span) k = subst x t k
+  vp_act (Act.draw x ps span) k = draw_form x ps k
+  vp_act (Act.any x up ty span) k = Form.bind up x x ty k
+  vp_act (Act.reward f span) k = Form.sum k f
+  vp_act (Act.ifs arms e span) k = vp_arms arms k (vp e k)
+  vp_act (Act.pick up a b span) k = pick_form up (vp a k) (vp b k)
+  vp_act (Act.check kind f span) k = check_form kind f k
+  vp_act (Act.validate co span) k = validate_form co k
+  vp_act (Act.loop h b) k = Form.number zeroᵛ
+  vp_act (Act.call xs p es span) k = Form.number zeroᵛ
+
+  pub vp : Acts → Form → Form
+  vp Acts.done k = k
+  vp (Acts.next a rest) k = vp_act a (vp rest k)
+
+  pub vp_arms : Arms → Form → Form → Form
+  vp_arms Arms.no_arm k otherwise = otherwise
+  vp_arms (Arms.arm g b more) k otherwise = Form.select g (vp b k) (vp_arms more k otherwise)

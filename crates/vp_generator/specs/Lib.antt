@@ -1,0 +1,11 @@
+pub mod Generated
+pub mod Prenexed
+pub mod Scopes
+pub mod Limits
+pub mod Fit
+pub mod Answers
+pub mod Laws
+pub mod PrenexedGoals
+pub mod PrenexLaws
+pub mod Directed
+pub mod Over

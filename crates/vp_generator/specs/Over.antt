@@ -1,0 +1,40 @@
+-- Acts whose terms and formulas have only the first variables, and so do the forms that are made of them.
+use Rattle.std.specs.Prelude.{◌≡◌, ℕ, ◌<◌, true, List, [], ◌∷◌}
+use Rattle.heyvl_num.specs.Rational.{Rational}
+use Rattle.heylo_formula.specs.Formula.{Form, Term}
+use Rattle.heylo_formula.specs.Variables.{occurs_in_term, IsOver, IsOverIn}
+use Rattle.heyvl_types.specs.Acts.{Act, Acts, Arms}
+use Rattle.vp_generator.specs.Generated.{vp}
+
+-- Each number in the term is below n.
+abbrev pub TermIsOver : ℕ → Term → Type 0
+TermIsOver n t = (y : ℕ) → occurs_in_term y t ≡ true → y < n
+
+abbrev pub PartsAreOver : ℕ → List (Rational × Term) → Type 0
+PartsAreOver n [] = Unit {0}
+PartsAreOver n (p ∷ ps) = TermIsOver n p.1 × PartsAreOver n ps
+
+abbrev mutual
+  pub ActIsOver : ℕ → Act → Type 0
+  ActIsOver n (Act.set x t span) = TermIsOver n t
+  ActIsOver n (Act.draw x ps span) = PartsAreOver n ps
+  ActIsOver n (Act.any x up ty span) = Unit {0}
+  ActIsOver n (Act.reward f span) = IsOver n f
+  ActIsOver n (Act.ifs arms e span) = ArmsAreOver n arms × ActsAreOver n e
+  ActIsOver n (Act.pick up a b span) = ActsAreOver n a × ActsAreOver n b
+  ActIsOver n (Act.check kind f span) = IsOver n f
+  ActIsOver n (Act.validate co span) = Unit {0}
+  ActIsOver n (Act.loop h b) = Unit {0}
+  ActIsOver n (Act.call xs p es span) = Unit {0}
+
+  pub ActsAreOver : ℕ → Acts → Type 0
+  ActsAreOver n Acts.done = Unit {0}
+  ActsAreOver n (Acts.next a rest) = ActIsOver n a × ActsAreOver n rest
+
+  pub ArmsAreOver : ℕ → Arms → Type 0
+  ArmsAreOver n Arms.no_arm = Unit {0}
+  ArmsAreOver n (Arms.arm g b more) = IsOverIn n g × (ActsAreOver n b × ArmsAreOver n more)
+
+-- The free variables of the generated form are among the first n, where those of the acts and of the post are.
+abbrev pub GeneratedFormIsOver : Type 0
+GeneratedFormIsOver = (n : ℕ) (acts : Acts) (post : Form) → ActsAreOver n acts → IsOver n post → IsOver n (vp acts post)

@@ -1,0 +1,55 @@
+-- What the code that removes binders keeps: the numbers of the variables that are bound around a form.
+use Rattle.std.specs.Prelude.{◌<◌, slice_index_or, ◌++◌, ℕ, List, [], ◌∷◌}
+use Rattle.heylo_formula.specs.BinderNames.{Binder, binders}
+use Rattle.vp_generator.specs.Prenexed.{Numbering, renumbered}
+use Rattle.heyvl_types.specs.declared.typed.VarInfo.{VarInfo}
+use Rattle.heylo_formula.specs.declared.types.Ty.TheVariants.{Bool}
+use Rattle.heylo_formula.specs.Formula.{Form}
+use Rattle.heylo_formula.specs.Typing.{Types}
+use Rattle.heyvl_types.specs.Acts.{Act, Acts, Arms}
+use Rattle.vp_generator.specs.Generated.{vp}
+use Rattle.heyvl_types.specs.WellTyped.{ActsFit}
+
+-- The number of a variable under binders that are listed with their new numbers, the innermost first.
+abbrev pub number_in : List (ℕ × ℕ) → Numbering
+number_in [] = λ y. y
+number_in (p ∷ ps) = renumbered p.0 p.1 (number_in ps)
+
+-- Each binder has the name of one of the first n variables.
+abbrev pub AreNamed : ℕ → List Binder → Type 0
+AreNamed n [] = Unit {0}
+AreNamed n (b ∷ bs) = (b.0 < n) × AreNamed n bs
+
+abbrev pub name_of : List VarInfo → ℕ → List ℕ
+name_of vs x = (slice_index_or vs x (record { name = []; ty = Bool })).name
+
+-- The variables, and one more for each binder.
+abbrev pub named : List VarInfo → List Binder → List VarInfo
+named vs [] = vs
+named vs (b ∷ bs) = named (vs ++ (record { name = name_of vs b.0; ty = b.1 } ∷ [])) bs
+
+-- Each variable that an act gives any value is below n.
+abbrev mutual
+  pub AnyIsBelow : ℕ → Act → Type 0
+  AnyIsBelow n (Act.set x t span) = Unit {0}
+  AnyIsBelow n (Act.draw x ps span) = Unit {0}
+  AnyIsBelow n (Act.any x up ty span) = x < n
+  AnyIsBelow n (Act.reward f span) = Unit {0}
+  AnyIsBelow n (Act.ifs arms e span) = AnysAreBelow_in n arms × AnysAreBelow n e
+  AnyIsBelow n (Act.pick up a b span) = AnysAreBelow n a × AnysAreBelow n b
+  AnyIsBelow n (Act.check kind f span) = Unit {0}
+  AnyIsBelow n (Act.validate co span) = Unit {0}
+  AnyIsBelow n (Act.loop h b) = Unit {0}
+  AnyIsBelow n (Act.call xs p es span) = Unit {0}
+
+  pub AnysAreBelow : ℕ → Acts → Type 0
+  AnysAreBelow n Acts.done = Unit {0}
+  AnysAreBelow n (Acts.next a rest) = AnyIsBelow n a × AnysAreBelow n rest
+
+  pub AnysAreBelow_in : ℕ → Arms → Type 0
+  AnysAreBelow_in n Arms.no_arm = Unit {0}
+  AnysAreBelow_in n (Arms.arm g b more) = AnysAreBelow n b × AnysAreBelow_in n more
+
+-- What prenex asks of a generated form: its binders have the names of the first n variables.
+abbrev pub GeneratedFormIsNamed : Type 0
+GeneratedFormIsNamed = (n : ℕ) (types : Types) (acts : Acts) (post : Form) → ActsFit types acts → AnysAreBelow n acts → AreNamed n (binders post) → AreNamed n (binders (vp acts post))

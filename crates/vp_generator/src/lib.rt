@@ -1,0 +1,22 @@
+//! The verification preexpectation of acts as a formula, and formulas without binders.
+#![tactic(auto)]
+
+mod draws;
+mod generation;
+mod goals;
+mod laws;
+mod limits;
+mod nodes_of_acts;
+mod numbering;
+mod prenexed;
+mod stops;
+
+pub use generation::vp;
+pub use goals::goal_of_forms;
+pub use laws::{
+    generated_form_is_directed, generated_form_means_acts, prenexed_form_means_choices,
+    prenexed_goals_speak_of_choices,
+};
+pub use numbering::prenex;
+pub use prenexed::Prenex;
+pub use stops::VpStop;

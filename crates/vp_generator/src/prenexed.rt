@@ -1,0 +1,11 @@
+//! What prenex gives.
+
+use heylo_formula::Form;
+use heyvl_types::VarInfo;
+
+/// A form without binders, and its variables by number.
+#[derive(Drop)]
+pub struct Prenex {
+    pub form: Form,
+    pub vars: Vec<VarInfo>,
+}
