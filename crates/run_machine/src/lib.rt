@@ -1,0 +1,2 @@
+//! Runs of HeyVL programs, step by step.
+#![tactic(auto)]
