@@ -1,2 +1,4 @@
 mod Matching
+mod Copying
+mod Finding
 pub mod exported

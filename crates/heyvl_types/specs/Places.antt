@@ -1,7 +1,10 @@
 -- The place of an act: its number in the text of its procedure's body, from 0, an act before those inside it.
 use Rattle.std.specs.Prelude.{ℕ, List, [], ◌∷◌, ◌++◌, Option, Some, None}
+use Rattle.std.specs.Borrow.{Bor}
 use Prim.Native.Nat.{zero, suc}
 use Rattle.heyvl_types.specs.Acts.{Act, Acts, Arms, TypedProcedure, acts_in}
+use Rattle.heyvl_types.specs.PlainActs.{act_of}
+use Rattle.heyvl_types.specs.declared.acts.Act as A
 
 abbrev mutual
   -- The acts of a list and those inside them, in the order of the text.
@@ -38,3 +41,8 @@ acts_of_procedure None = []
 -- The act at a place of a procedure's body.
 abbrev pub act_named : List TypedProcedure → ℕ → ℕ → Option Act
 act_named ps p place = nth (acts_of_procedure (nth ps p)) place
+
+-- The plain tree of an act that is lent, where one is.
+abbrev pub held : Option (Bor A.Act) → Option Act
+held (Some a) = Some (act_of a.now)
+held None = None
