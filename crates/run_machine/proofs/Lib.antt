@@ -1,2 +1,3 @@
 mod Examples
+mod RunSteps
 pub mod exported

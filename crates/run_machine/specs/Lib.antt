@@ -4,3 +4,4 @@ pub mod Scheduler
 pub mod Runs
 pub mod Sums
 pub mod Bound
+pub mod RunLaws
