@@ -1,3 +1,5 @@
+mod BlockSizes
 mod Examples
+mod Places
 mod RunSteps
 pub mod exported

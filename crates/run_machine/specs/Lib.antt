@@ -5,3 +5,5 @@ pub mod Runs
 pub mod Sums
 pub mod Bound
 pub mod RunLaws
+pub mod Names
+pub mod BoundedStep

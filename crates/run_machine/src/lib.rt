@@ -1,6 +1,11 @@
 //! Runs of HeyVL programs, step by step.
 #![tactic(auto)]
 
+mod blocks;
+mod configurations;
+mod copies;
+mod evaluation;
 mod laws;
 
+pub use configurations::{Config, Decide, Frame, Item, Stepped};
 pub use laws::{decisions_decide_steps, runs_continue, steps_weigh_one};

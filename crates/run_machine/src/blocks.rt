@@ -1,0 +1,56 @@
+//! Items for the acts of a block, by their places.
+
+ghost use Rattle.std.specs.Prelude.{◌≡◌, ◌+◌, ◌++◌, ◌<◌, ◌^◌, length, OnOk};
+ghost use Rattle.heyvl_types.specs.PlainActs.{act_of, acts_of};
+ghost use Rattle.heyvl_types.specs.Places.{in_order, inside};
+ghost use Rattle.run_machine.specs.Names.{numbered};
+
+use crate::configurations::Item;
+use heyvl_types::Act;
+use std::alloc::AllocError;
+
+/// How many acts these are, those inside them included.
+#[cycle(counting)]
+pub(crate) fn size(acts: &[Act]) -> u32
+    requires { length (in_order (acts_of acts.now)) < 2 ^ 31 }
+    ensures { result ≡ length (in_order (acts_of acts.now)) }
+{
+    let mut total = 0;
+    for act in acts {
+        total += 1 + inside_size(act);
+    }
+    total
+}
+
+/// How many acts are inside one.
+#[cycle(counting)]
+fn inside_size(act: &Act) -> u32
+    requires { length (inside (act_of act.now)) < 2 ^ 31 }
+    ensures { result ≡ length (inside (act_of act.now)) }
+{
+    match act {
+        Act::If(arms, other, _) => {
+            let mut total = size(other);
+            for arm in arms {
+                total += size(&arm.1);
+            }
+            total
+        }
+        Act::Pick(_, left, right, _) => size(left) + size(right),
+        Act::Loop(one) => size(&one.body),
+        _ => 0,
+    }
+}
+
+/// The items of a block are appended, whose first act stands at this place.
+pub(crate) fn push_block(items: &mut Vec<Item>, p: u32, place: u32, acts: &[Act]) -> Result<(), AllocError>
+    requires { place + length (in_order (acts_of acts.now)) < 2 ^ 31 }
+    ensures { OnOk result (items.new.items ≡ items.old.items ++ numbered p place (acts_of acts.now)) }
+{
+    let mut at = place;
+    for act in acts {
+        items.push(Item::Do(p, at))?;
+        at += 1 + inside_size(act);
+    }
+    Ok(())
+}
