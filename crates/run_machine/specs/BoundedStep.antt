@@ -10,6 +10,7 @@ use Rattle.heylo_formula.specs.declared.values.Val.TheVariants.{Truth, Num}
 use Rattle.quant_algebra.specs.ExactMeaning.{exact_value, exact_truth}
 use Rattle.quant_algebra.specs.ExactOperators.{and_then}
 use Rattle.heyvl_types.specs.Acts.{Act, Arms, TypedProcedure}
+use Rattle.run_machine.specs.declared.configurations.Config as C
 use Rattle.run_machine.specs.declared.configurations.Stepped.{Stepped}
 use Rattle.run_machine.specs.declared.configurations.Stepped.TheVariants.{Next, Deep, Bits}
 use Rattle.run_machine.specs.Configurations.{Item, Frame, Config, Outcomes}
@@ -93,8 +94,14 @@ bounded fits cs = if fits then limited cs else Answer.bits
 abbrev pub bounded_step : List TypedProcedure → Config → Decision → Answer
 bounded_step ps c d = bounded (items_fit c.items c) (step ps c d)
 
+abbrev pub outcome_of : List TypedProcedure → Rational × C.Config → Rational × Config
+outcome_of ps x = (x.0, config_of ps (stored x.1))
+
+abbrev pub outcomes_of : List TypedProcedure → List (Rational × C.Config) → Outcomes
+outcomes_of ps xs = map (outcome_of ps) xs
+
 -- What the program's answer stands for.
 abbrev pub answer_of : List TypedProcedure → Stepped → Answer
-answer_of ps (Next outcomes) = Answer.next (map (λ x. (x.0, config_of ps (stored x.1))) outcomes.items)
+answer_of ps (Next outcomes) = Answer.next (outcomes_of ps outcomes.items)
 answer_of ps Deep = Answer.deep
 answer_of ps Bits = Answer.bits

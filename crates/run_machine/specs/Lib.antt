@@ -7,3 +7,4 @@ pub mod Bound
 pub mod RunLaws
 pub mod Names
 pub mod BoundedStep
+pub mod Continuing

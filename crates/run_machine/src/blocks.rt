@@ -9,34 +9,32 @@ use crate::configurations::Item;
 use heyvl_types::Act;
 use std::alloc::AllocError;
 
-/// How many acts these are, those inside them included.
+/// How many acts these are, those inside them included, where a u32 can tell.
 #[cycle(counting)]
 pub(crate) fn size(acts: &[Act]) -> u32
-    requires { length (in_order (acts_of acts.now)) < 2 ^ 31 }
-    ensures { result ≡ length (in_order (acts_of acts.now)) }
+    ensures { length (in_order (acts_of acts.now)) < 2 ^ 31 → result ≡ length (in_order (acts_of acts.now)) }
 {
-    let mut total = 0;
+    let mut total: u32 = 0;
     for act in acts {
-        total += 1 + inside_size(act);
+        total = total.saturating_add(1).saturating_add(inside_size(act));
     }
     total
 }
 
-/// How many acts are inside one.
+/// How many acts are inside one, where a u32 can tell.
 #[cycle(counting)]
 fn inside_size(act: &Act) -> u32
-    requires { length (inside (act_of act.now)) < 2 ^ 31 }
-    ensures { result ≡ length (inside (act_of act.now)) }
+    ensures { length (inside (act_of act.now)) < 2 ^ 31 → result ≡ length (inside (act_of act.now)) }
 {
     match act {
         Act::If(arms, other, _) => {
-            let mut total = size(other);
+            let mut total: u32 = size(other);
             for arm in arms {
-                total += size(&arm.1);
+                total = total.saturating_add(size(&arm.1));
             }
             total
         }
-        Act::Pick(_, left, right, _) => size(left) + size(right),
+        Act::Pick(_, left, right, _) => size(left).saturating_add(size(right)),
         Act::Loop(one) => size(&one.body),
         _ => 0,
     }

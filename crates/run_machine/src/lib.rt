@@ -6,6 +6,10 @@ mod configurations;
 mod copies;
 mod evaluation;
 mod laws;
+mod limits;
+mod plain_steps;
+mod starting;
 
 pub use configurations::{Config, Decide, Frame, Item, Stepped};
+pub use starting::begin;
 pub use laws::{decisions_decide_steps, runs_continue, steps_weigh_one};

@@ -1,0 +1,80 @@
+-- Configurations of the program with other items and another state, as the definition moves them.
+use Rattle.std.proofs.Common.{◌≡◌, ℕ, ◌+◌, ◌==◌, refl, ap, sym, subst, ◌∙◌, Bool, true, false, List, [], ◌∷◌, ◌++◌, length, map, reverse, drop, if◌then◌else◌}
+use Rattle.std.specs.Prelude.{Option, Some, None, option_map, is_some, Result, Ok, Err, IfOk}
+use Rattle.heyvl_num.specs.Rational.{Rational, ◌+ʳ◌}
+use Rattle.heyvl_num.specs.Value.Value.{finite, infinite}
+use Rattle.heyvl_num.specs.Exact.{exact_sum, sum_fits}
+use Rattle.heyvl_num.specs.ExactValues.{exact_sumᵛ}
+use Rattle.quant_algebra.specs.ExactOperators.{and_then}
+use Prim.Native.Nat.{zero, suc}
+use Rattle.heyvl_num.specs.Value.{Value, ◌+ᵛ◌}
+use Rattle.heylo_formula.specs.declared.values.Val.{Val}
+use Rattle.heyvl_types.specs.Acts.{TypedProcedure}
+use Rattle.run_machine.specs.Configurations.{Item, Frame, Config}
+use Rattle.run_machine.specs.Step.{sure, moved, rewarded}
+use Rattle.run_machine.specs.BoundedStep.{limited, bounded}
+use Rattle.run_machine.specs.Continuing.{GoesOn, Continues}
+use Rattle.run_machine.specs.Names.{Numbered, Lists, Stored, items_of, last_call, callers, turns_of, config_of}
+
+last_same : (ps : List TypedProcedure) (xs : List Numbered) (j : Numbered) (is : List Numbered) → last_call ps (xs ++ (j ∷ is)) ≡ last_call ps (j ∷ is)
+last_same ps [] j is = refl
+last_same ps (x ∷ []) j is = refl
+last_same ps (x ∷ (y ∷ xs)) j is = last_same ps (y ∷ xs) j is
+
+abbrev Behind : List Numbered → List Lists → Type 0
+Behind is [] = Unit {0}
+Behind [] (f ∷ fs) = ⊥
+Behind (i ∷ is) (f ∷ fs) = Unit {0}
+
+callers_same : (ps : List TypedProcedure) (xs ys is : List Numbered) (fs : List Lists) → Behind is fs → callers ps (xs ++ is) fs ≡ callers ps (ys ++ is) fs
+callers_same ps xs ys is [] g = refl
+callers_same ps xs ys [] (f ∷ fs) g = absurd g
+callers_same ps xs ys (j ∷ is) (f ∷ fs) g = ap (λ l. record { items = items_of ps f.0; state = f.1; targets = l.0; callee = l.1 } ∷ callers ps f.0 fs) (last_same ps xs j is ∙ sym (last_same ps ys j is))
+
+frames_kept : (ps : List TypedProcedure) (items front : List Numbered) (fs : List Lists) → GoesOn items fs → callers ps (front ++ drop 1 items) fs ≡ callers ps items fs
+frames_kept ps items front [] g = refl
+frames_kept ps [] front (f ∷ fs) g = absurd g
+frames_kept ps (i ∷ []) front (f ∷ fs) g = absurd g
+frames_kept ps (i ∷ (j ∷ is)) front (f ∷ fs) g = callers_same ps front (i ∷ []) (j ∷ is) (f ∷ fs) tt
+
+-- The first item is left out, others come in front, and there is another state.
+pub moves : (ps : List TypedProcedure) (c : Stored) (front : List Numbered) (s : List Val) (made : ℕ) → Continues c → config_of ps (record { procedure = c.procedure; items = front ++ drop 1 c.items; state = s; frames = c.frames; reward = c.reward; turns = c.turns; made = made }) ≡ moved (config_of ps c) (items_of ps (front ++ drop 1 c.items)) s
+moves ps c front s made g = λ i. record { procedure = c.procedure; items = items_of ps (front ++ drop 1 c.items); frames = frames_kept ps c.items front (reverse c.frames) g i; state = s; reward = c.reward; turns = turns_of c.turns }
+
+pub rewards : (ps : List TypedProcedure) (c : Stored) (v : Value) (made : ℕ) → Continues c → config_of ps (record { procedure = c.procedure; items = drop 1 c.items; state = c.state; frames = c.frames; reward = c.reward +ᵛ v; turns = c.turns; made = made }) ≡ rewarded (config_of ps c) (items_of ps (drop 1 c.items)) v
+rewards ps c v made g = λ i. record { procedure = c.procedure; items = items_of ps (drop 1 c.items); frames = frames_kept ps c.items [] (reverse c.frames) g i; state = c.state; reward = c.reward +ᵛ v; turns = turns_of c.turns }
+
+-- What holds of what is given, and follows from it, holds too.
+pub if_ok : {A E : Type 0} (r : Result A E) (P Q : A → Type 0) → ((x : A) → P x → Q x) → IfOk r P → IfOk r Q
+if_ok (Ok x) P Q f h = f x h
+if_ok (Err e) P Q f h = tt
+
+pub all_fits : (fits : Bool) (x y : Config) → true ≡ fits → x ≡ y → limited (sure x) ≡ bounded fits (sure y)
+all_fits true x y h e = ap (λ z. limited (sure z)) e
+all_fits false x y h e = cc
+
+-- A reward that is exact is added.
+pub reward_fits : (o : Option Value) (r v w : Value) → Some v ≡ o → Some w ≡ exact_sumᵛ r v → true ≡ is_some (and_then o (λ u. exact_sumᵛ r u))
+reward_fits o r v w h k = subst (λ p. true ≡ is_some (and_then p (λ u. exact_sumᵛ r u))) h (subst (λ q. true ≡ is_some q) k refl)
+
+exact_is : (x y z : Rational) → Some z ≡ exact_sum x y → z ≡ x +ʳ y
+unfolding exact_sum
+exact_is x y z h = go (sum_fits x y) h
+  where
+    go : (b : Bool) → Some z ≡ (if b then Some (x +ʳ y) else None) → z ≡ x +ʳ y
+    go true k = cc
+    go false k = cc
+
+pub sum_is : (r v w : Value) → Some w ≡ exact_sumᵛ r v → w ≡ r +ᵛ v
+unfolding ◌+ᵛ◌
+sum_is (finite x) (finite y) w h = go (exact_sum x y) refl h
+  where
+    go : (o : Option Rational) → exact_sum x y ≡ o → Some w ≡ option_map finite o → w ≡ finite (x +ʳ y)
+    go (Some z) e k = let same : w ≡ finite z = cc in same ∙ ap finite (exact_is x y z (sym e))
+    go None e k = cc
+sum_is (finite x) infinite w h = cc
+sum_is infinite (finite y) w h = cc
+sum_is infinite infinite w h = cc
+
+pub reward_is : (ps : List TypedProcedure) (c d : Stored) (v w : Value) → Continues c → Some w ≡ exact_sumᵛ c.reward v → d ≡ record { procedure = c.procedure; items = drop 1 c.items; state = c.state; frames = c.frames; reward = c.reward; turns = c.turns; made = c.made } → config_of ps (record { procedure = d.procedure; items = d.items; state = d.state; frames = d.frames; reward = w; turns = d.turns; made = d.made }) ≡ rewarded (config_of ps c) (items_of ps (drop 1 c.items)) v
+reward_is ps c d v w g h e = ap (λ x. config_of ps (record { procedure = x.procedure; items = x.items; state = x.state; frames = x.frames; reward = w; turns = x.turns; made = x.made })) e ∙ ap (λ r. config_of ps (record { procedure = c.procedure; items = drop 1 c.items; state = c.state; frames = c.frames; reward = r; turns = c.turns; made = c.made })) (sum_is c.reward v w h) ∙ rewards ps c v c.made g
