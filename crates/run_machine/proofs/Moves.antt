@@ -9,12 +9,14 @@ use Rattle.quant_algebra.specs.ExactOperators.{and_then}
 use Prim.Native.Nat.{zero, suc}
 use Rattle.heyvl_num.specs.Value.{Value, ◌+ᵛ◌}
 use Rattle.heylo_formula.specs.declared.values.Val.{Val}
-use Rattle.heyvl_types.specs.Acts.{TypedProcedure}
-use Rattle.run_machine.specs.Configurations.{Item, Frame, Config}
+use Rattle.heyvl_types.specs.Acts.{Acts, TypedProcedure}
+use Rattle.heyvl_types.specs.Places.{in_order}
+use Rattle.run_machine.specs.Configurations.{Item, Frame, Config, push}
 use Rattle.run_machine.specs.Step.{sure, moved, rewarded}
 use Rattle.run_machine.specs.BoundedStep.{limited, bounded}
-use Rattle.run_machine.specs.Continuing.{GoesOn, Continues}
-use Rattle.run_machine.specs.Names.{Numbered, Lists, Stored, items_of, last_call, callers, turns_of, config_of}
+use Rattle.run_machine.specs.Continuing.{GoesOn, Continues, Stands, text}
+use Rattle.run_machine.specs.Names.{Numbered, Lists, Stored, items_of, last_call, callers, turns_of, config_of, numbered}
+use Rattle.run_machine.proofs.Places.{named_push}
 
 last_same : (ps : List TypedProcedure) (xs : List Numbered) (j : Numbered) (is : List Numbered) → last_call ps (xs ++ (j ∷ is)) ≡ last_call ps (j ∷ is)
 last_same ps [] j is = refl
@@ -78,3 +80,11 @@ sum_is infinite infinite w h = cc
 
 pub reward_is : (ps : List TypedProcedure) (c d : Stored) (v w : Value) → Continues c → Some w ≡ exact_sumᵛ c.reward v → d ≡ record { procedure = c.procedure; items = drop 1 c.items; state = c.state; frames = c.frames; reward = c.reward; turns = c.turns; made = c.made } → config_of ps (record { procedure = d.procedure; items = d.items; state = d.state; frames = d.frames; reward = w; turns = d.turns; made = d.made }) ≡ rewarded (config_of ps c) (items_of ps (drop 1 c.items)) v
 reward_is ps c d v w g h e = ap (λ x. config_of ps (record { procedure = x.procedure; items = x.items; state = x.state; frames = x.frames; reward = w; turns = x.turns; made = x.made })) e ∙ ap (λ r. config_of ps (record { procedure = c.procedure; items = drop 1 c.items; state = c.state; frames = c.frames; reward = r; turns = c.turns; made = c.made })) (sum_is c.reward v w h) ∙ rewards ps c v c.made g
+
+-- The acts of a block come in front.
+pub block_is : (ps : List TypedProcedure) (c d : Stored) (p place : ℕ) (acts : Acts) (block items : List Numbered) → Continues c → Stands (text ps p) place (in_order acts) → block ≡ numbered p place acts → items ≡ block ++ drop 1 c.items → d ≡ record { procedure = c.procedure; items = items; state = c.state; frames = c.frames; reward = c.reward; turns = c.turns; made = c.made } → config_of ps d ≡ moved (config_of ps c) (push acts (items_of ps (drop 1 c.items))) c.state
+block_is ps c d p place acts block items g s b i e =
+    ap (config_of ps) e
+    ∙ ap (λ l. config_of ps (record { procedure = c.procedure; items = l; state = c.state; frames = c.frames; reward = c.reward; turns = c.turns; made = c.made })) (i ∙ ap (λ l. l ++ drop 1 c.items) b)
+    ∙ moves ps c (numbered p place acts) c.state c.made g
+    ∙ ap (λ l. moved (config_of ps c) l c.state) (named_push ps p place acts (drop 1 c.items) s)

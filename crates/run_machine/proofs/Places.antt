@@ -6,11 +6,8 @@ use Prim.Native.Nat.{zero, suc}
 use Rattle.heyvl_types.specs.Acts.{Act, Acts, Arms, TypedProcedure, acts_in}
 use Rattle.heyvl_types.specs.Places.{nth, in_order, inside, inside_arms, acts_of_procedure, act_named}
 use Rattle.run_machine.specs.Configurations.{Item, push}
+use Rattle.run_machine.specs.Continuing.{Stands, text}
 use Rattle.run_machine.specs.Names.{Numbered, item_of, items_of, act_item, numbered}
-
--- From this place on, the first list has the second.
-abbrev pub Stands : List Act → ℕ → List Act → Type 0
-Stands xs n ys = (k : ℕ) (a : Act) → nth ys k ≡ Some a → nth xs (n + k) ≡ Some a
 
 nth_first : (xs ys : List Act) (n : ℕ) (a : Act) → nth xs n ≡ Some a → nth (xs ++ ys) n ≡ Some a
 nth_first [] ys n a h = elim (none-some a h) [ ]
@@ -113,10 +110,6 @@ follows_procedure (Some p) = follows_body p.body
     follows_body : (b : Option Acts) → Follows (in_order (acts_in b))
     follows_body (Some acts) = follows_order acts
     follows_body None = follows_none
-
--- The text of a procedure's body.
-abbrev pub text : List TypedProcedure → ℕ → List Act
-text ps p = acts_of_procedure (nth ps p)
 
 pub inside_stands : (ps : List TypedProcedure) (p place : ℕ) (a : Act) → act_named ps p place ≡ Some a → Stands (text ps p) (suc place) (inside a)
 inside_stands ps p place a h = follows_procedure (nth ps p) place a h

@@ -13,7 +13,8 @@ use Rattle.heyvl_num.specs.Value.Value.{finite}
 use Rattle.heylo_formula.specs.declared.values.Val.{Val}
 use Rattle.run_machine.specs.Configurations.{Item, push, begin}
 use Rattle.run_machine.specs.Names.{Numbered, Lists, items_of, callers, turns_of, config_of, numbered}
-use Rattle.run_machine.proofs.Places.{Stands, text, named_push}
+use Rattle.run_machine.specs.Continuing.{Stands, text}
+use Rattle.run_machine.proofs.Places.{named_push}
 
 pub procedure_there : (xs : List TProc) (p : ℕ) (x : TProc) → slice_get xs p ≡ Some x → procedure_at (map procedure_of xs) p ≡ procedure_of x
 procedure_there [] p x h = elim (none-some x h) [ ]

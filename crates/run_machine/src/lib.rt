@@ -1,6 +1,7 @@
 //! Runs of HeyVL programs, step by step.
 #![tactic(auto)]
 
+mod block_steps;
 mod blocks;
 mod configurations;
 mod copies;
@@ -9,6 +10,7 @@ mod laws;
 mod limits;
 mod plain_steps;
 mod starting;
+mod taking;
 
 pub use configurations::{Config, Decide, Frame, Item, Stepped};
 pub use starting::begin;
