@@ -1,6 +1,7 @@
 -- Configurations of the program with other items and another state, as the definition moves them.
-use Rattle.std.proofs.Common.{◌≡◌, ℕ, ◌+◌, ◌==◌, refl, ap, sym, subst, ◌∙◌, Bool, true, false, List, [], ◌∷◌, ◌++◌, length, map, reverse, drop, if◌then◌else◌}
-use Rattle.std.specs.Prelude.{Option, Some, None, option_map, is_some, Result, Ok, Err, IfOk}
+use Rattle.std.proofs.Common.{◌≡◌, ℕ, ◌+◌, ◌<◌, ◌&&◌, get_or, append_assoc, refl, ap, sym, subst, ◌∙◌, Bool, true, false, List, [], ◌∷◌, ◌++◌, length, map, reverse, drop, if◌then◌else◌}
+use Rattle.std.proofs.lemmas.List.{at_drop_more}
+use Rattle.std.specs.Prelude.{set, Option, Some, None, option_map, is_some, Result, Ok, Err, IfOk}
 use Rattle.heyvl_num.specs.Rational.{Rational, ◌+ʳ◌}
 use Rattle.heyvl_num.specs.Value.Value.{finite, infinite}
 use Rattle.heyvl_num.specs.Exact.{exact_sum, sum_fits}
@@ -11,11 +12,17 @@ use Rattle.heyvl_num.specs.Value.{Value, ◌+ᵛ◌}
 use Rattle.heylo_formula.specs.declared.values.Val.{Val}
 use Rattle.heyvl_types.specs.Acts.{Acts, TypedProcedure}
 use Rattle.heyvl_types.specs.Places.{in_order}
+use Rattle.heyvl_types.specs.PlainActs.{part_of, parts_of}
+use Rattle.heylo_formula.specs.declared.terms.Term as T
+use Rattle.heylo_formula.specs.PlainTrees.{term_of}
+use Rattle.heylo_formula.specs.Meaning.{term_value}
+use Rattle.heylo_formula.specs.State.{environment}
+use Rattle.run_machine.specs.declared.configurations.Config as C
 use Rattle.run_machine.specs.Configurations.{Item, Frame, Config, push}
-use Rattle.run_machine.specs.Step.{sure, moved, rewarded}
-use Rattle.run_machine.specs.BoundedStep.{limited, bounded}
+use Rattle.run_machine.specs.Step.{sure, moved, rewarded, branch, branches}
+use Rattle.run_machine.specs.BoundedStep.{limited, bounded, exact_term, parts_fit, outcome_of, outcomes_of}
 use Rattle.run_machine.specs.Continuing.{GoesOn, Continues, Stands, text}
-use Rattle.run_machine.specs.Names.{Numbered, Lists, Stored, items_of, last_call, callers, turns_of, config_of, numbered}
+use Rattle.run_machine.specs.Names.{Numbered, Lists, Stored, items_of, last_call, callers, turns_of, stored, config_of, numbered}
 use Rattle.run_machine.proofs.Places.{named_push}
 
 last_same : (ps : List TypedProcedure) (xs : List Numbered) (j : Numbered) (is : List Numbered) → last_call ps (xs ++ (j ∷ is)) ≡ last_call ps (j ∷ is)
@@ -88,3 +95,17 @@ block_is ps c d p place acts block items g s b i e =
     ∙ ap (λ l. config_of ps (record { procedure = c.procedure; items = l; state = c.state; frames = c.frames; reward = c.reward; turns = c.turns; made = c.made })) (i ∙ ap (λ l. l ++ drop 1 c.items) b)
     ∙ moves ps c (numbered p place acts) c.state c.made g
     ∙ ap (λ l. moved (config_of ps c) l c.state) (named_push ps p place acts (drop 1 c.items) s)
+
+append_maps : (ps : List TypedProcedure) (xs ys : List (Rational × C.Config)) → outcomes_of ps (xs ++ ys) ≡ outcomes_of ps xs ++ outcomes_of ps ys
+append_maps ps [] ys = refl
+append_maps ps (x ∷ xs) ys = ap (λ l. outcome_of ps x ∷ l) (append_maps ps xs ys)
+
+-- One part more of a draw.
+pub parts_next : (s : List Val) (parts : List (Rational × T.Term)) (k : ℕ) (part : Rational × T.Term) (v : Val) → k < length parts → part ≡ get_or parts k part → Some v ≡ exact_term (term_of part.1) s → parts_fit (parts_of (drop k parts)) s ≡ parts_fit (parts_of (drop (k + 1) parts)) s
+parts_next s parts k part v lt is h = at_drop_more (λ l. parts_fit (parts_of l) s) parts k part lt ∙ ap (λ p. is_some (exact_term (term_of p.1) s) && parts_fit (parts_of (drop (k + 1) parts)) s) (sym is) ∙ ap (λ o. is_some o && parts_fit (parts_of (drop (k + 1) parts)) s) (sym h)
+
+pub draw_more : (ps : List TypedProcedure) (c : Config) (is : List Item) (x : ℕ) (parts : List (Rational × T.Term)) (k : ℕ) (part : Rational × T.Term) (old new : List (Rational × C.Config)) (next : C.Config) (v : Val) → k < length parts → part ≡ get_or parts k part → new ≡ old ++ ((part.0, next) ∷ []) → config_of ps (stored next) ≡ moved c is (set c.state x v) → v ≡ term_value (term_of part.1) (environment c.state) → outcomes_of ps old ++ branches c is x (parts_of (drop k parts)) ≡ outcomes_of ps new ++ branches c is x (parts_of (drop (k + 1) parts))
+draw_more ps c is x parts k part old new next v lt at n m e =
+    ap (λ l. outcomes_of ps old ++ l) (at_drop_more (λ l. branches c is x (parts_of l)) parts k part lt ∙ ap (λ p. branch c is x (part_of p) ∷ branches c is x (parts_of (drop (k + 1) parts))) (sym at) ∙ ap (λ z. (part.0, z) ∷ branches c is x (parts_of (drop (k + 1) parts))) (sym (m ∙ ap (λ w. moved c is (set c.state x w)) e)))
+    ∙ sym (append_assoc (outcomes_of ps old) ((part.0, config_of ps (stored next)) ∷ []) (branches c is x (parts_of (drop (k + 1) parts))))
+    ∙ ap (λ l. l ++ branches c is x (parts_of (drop (k + 1) parts))) (sym (ap (outcomes_of ps) n ∙ append_maps ps old ((part.0, next) ∷ [])))
