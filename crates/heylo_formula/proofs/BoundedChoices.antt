@@ -5,11 +5,11 @@ use Rattle.heyvl_num.specs.Rational.{Rational, zeroʳ, oneʳ, ◌+ʳ◌, negʳ, 
 use Rattle.heyvl_num.specs.Value.{Value, zeroᵛ, oneᵛ, ◌+ᵛ◌, ◌*ᵛ◌, leqᵛ, is_zeroʳ, ◌≤ᵛ◌, ◌<ᵛ◌}
 use Rattle.heyvl_num.specs.Value.Value.{finite, infinite}
 use Rattle.heyvl_num.specs.ValueOperators.{minᵛ, maxᵛ, impliesᵛ, coimpliesᵛ, monusᵛ}
-use Rattle.heyvl_num.proofs.Rationals.{+ʳ_assoc, +ʳ-zero, *ʳ_comm}
-use Rattle.heyvl_num.proofs.Signs.{neg-+ʳ}
+use Rattle.heyvl_num.proofs.exported.Rationals.{+ʳ_assoc, +ʳ-zero, *ʳ_comm}
+use Rattle.heyvl_num.proofs.exported.Signs.{neg-+ʳ}
 use Rattle.heyvl_num.proofs.Inverses.{inverse, Inverse}
-use Rattle.heyvl_num.proofs.Values.{≤ᵛ_refl, ≤ᵛ_trans, ≤ᵛ_antisym, ≤ᵛ_infinite, infinite_above, +ᵛ_comm, +ᵛ-infinite, +ᵛ_mono, scale_mono, scale_scale, one-*ᵛ, zero-*ᵛ, finite-+, finite_terms, at_most_or_less, <ᵛ-not, is_zero-is, is_zero-zero}
-use Rattle.heyvl_num.proofs.ValueOperators.{min_below_left, min_below_right, min_greatest, min_mono, min_comm, max_above_left, max_above_right, max_least, max_mono, max_comm, implies_adjoint, implies_mono, coimplies_adjoint, coimplies_mono, coimplies_nonnegative}
+use Rattle.heyvl_num.proofs.exported.Values.{≤ᵛ_refl, ≤ᵛ_trans, ≤ᵛ_antisym, ≤ᵛ_infinite, infinite_above, +ᵛ_comm, +ᵛ-infinite, +ᵛ_mono, scale_mono, scale_scale, one-*ᵛ, zero-*ᵛ, finite-+, finite_terms, at_most_or_less, <ᵛ-not, is_zero-is, is_zero-zero}
+use Rattle.heyvl_num.proofs.exported.Operators.{min_below_left, min_below_right, min_greatest, min_mono, min_comm, max_above_left, max_above_right, max_least, max_mono, max_comm, implies_adjoint, implies_mono, coimplies_adjoint, coimplies_mono, coimplies_nonnegative}
 use Rattle.heylo_formula.specs.Operators.{differenceᵛ, validateᵛ, covalidateᵛ, agree}
 use Rattle.heylo_formula.specs.State.{Env, put, fit, has}
 use Rattle.heylo_formula.specs.Choices.{Choices, here, left, right}

@@ -9,7 +9,7 @@ use Rattle.heyvl_num.specs.Value.{Value, zeroᵛ, oneᵛ, ◌+ᵛ◌, ◌*ᵛ◌
 use Rattle.heyvl_num.specs.Value.Value.{finite, infinite}
 use Rattle.heyvl_num.specs.ValueOperators.{minᵛ, maxᵛ, impliesᵛ, coimpliesᵛ, monusᵛ}
 use Rattle.heylo_formula.specs.Operators.{differenceᵛ, validateᵛ, covalidateᵛ, lessᵛ, equalᵛ}
-use Rattle.heyvl_num.proofs.Values.{≤ᵛ_trans, zero-≤ᵛ-one, finite_nonnegative}
+use Rattle.heyvl_num.proofs.exported.Values.{≤ᵛ_trans, zero-≤ᵛ-one, finite_nonnegative}
 use Rattle.heylo_formula.specs.State.{Env, has, truth_of, number_of}
 use Rattle.heylo_formula.specs.Choices.{Choices}
 use Rattle.heylo_formula.specs.Formula.{Form, Cond}

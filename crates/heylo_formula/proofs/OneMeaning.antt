@@ -3,7 +3,7 @@ use Rattle.std.proofs.Common.{◌≡◌, sym, ap, ap₂, ◌∙◌, subst, Bool,
 use Rattle.heyvl_num.specs.Value.{Value, ◌+ᵛ◌, ◌*ᵛ◌}
 use Rattle.heyvl_num.specs.Value.Value.{finite}
 use Rattle.heyvl_num.specs.ValueOperators.{minᵛ, maxᵛ, impliesᵛ, coimpliesᵛ, monusᵛ}
-use Rattle.heyvl_num.proofs.Values.{≤ᵛ_refl, ≤ᵛ_antisym}
+use Rattle.heyvl_num.proofs.exported.Values.{≤ᵛ_refl, ≤ᵛ_antisym}
 use Rattle.heylo_formula.specs.Operators.{differenceᵛ, validateᵛ, covalidateᵛ}
 use Rattle.heylo_formula.specs.State.{Env, put, has}
 use Rattle.heylo_formula.specs.Choices.{Choices}

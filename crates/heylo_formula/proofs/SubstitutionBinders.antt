@@ -30,7 +30,7 @@ directed_body true up a a' e = refl
 directed_body false up a a' e = e
 
 mutual
-  renamed_binder : (y z : ℕ) (f : Form) → has_binder (renamed y z f) ≡ has_binder f
+  pub renamed_binder : (y z : ℕ) (f : Form) → has_binder (renamed y z f) ≡ has_binder f
   renamed_binder y z (Form.number v) = refl
   renamed_binder y z (Form.variable w) = leaf_binder (y == w) z w
   renamed_binder y z (Form.sum a b) = ap₂ (λ p q. p || q) (renamed_binder y z a) (renamed_binder y z b)
@@ -49,7 +49,7 @@ mutual
   renamed_binder y z (Form.select g a b) = ap₂ (λ p q. p || q) (renamed_binder_in y z g) (ap₂ (λ p q. p || q) (renamed_binder y z a) (renamed_binder y z b))
   renamed_binder y z (Form.bind up w name ty a) = refl
 
-  renamed_binder_in : (y z : ℕ) (g : Cond) → has_binder_in (renamed_in y z g) ≡ has_binder_in g
+  pub renamed_binder_in : (y z : ℕ) (g : Cond) → has_binder_in (renamed_in y z g) ≡ has_binder_in g
   renamed_binder_in y z (Cond.constant b) = refl
   renamed_binder_in y z (Cond.flag w) = flag_binder (y == w) z w
   renamed_binder_in y z (Cond.not g) = renamed_binder_in y z g
@@ -61,7 +61,7 @@ mutual
   renamed_binder_in y z (Cond.equal a b) = ap₂ (λ p q. p || q) (renamed_binder y z a) (renamed_binder y z b)
   renamed_binder_in y z (Cond.ite g h k) = ap₂ (λ p q. p || q) (renamed_binder_in y z g) (ap₂ (λ p q. p || q) (renamed_binder_in y z h) (renamed_binder_in y z k))
 
-renamed_directed : (up : Bool) (y z : ℕ) (f : Form) → is_directed up (renamed y z f) ≡ is_directed up f
+pub renamed_directed : (up : Bool) (y z : ℕ) (f : Form) → is_directed up (renamed y z f) ≡ is_directed up f
 renamed_directed up y z (Form.number c) = refl
 renamed_directed up y z (Form.variable w) = leaf_directed (y == w) up z w
 renamed_directed up y z (Form.sum a b) = ap₂ (λ p q. p && q) (renamed_directed up y z a) (renamed_directed up y z b)

@@ -413,7 +413,7 @@ renamed_body y z w ty a m n h = go (y == w) refl
     go false e = h ∙ ap (λ t. type_of (retyped y (cond t ty (m z)) (retyped w ty m)) a) (swapped z w n) ∙ same_types a (retyped y (m z) (retyped w ty m)) (retyped w ty (retyped y (m z) m)) (λ u k. retyped_commute y w ty (m z) m u e)
 
 mutual
-  renamed_type : (y z : ℕ) (f : Form) (m : Types) → occurs z f ≡ false → type_of m (renamed y z f) ≡ type_of (retyped y (m z) m) f
+  pub renamed_type : (y z : ℕ) (f : Form) (m : Types) → occurs z f ≡ false → type_of m (renamed y z f) ≡ type_of (retyped y (m z) m) f
   renamed_type y z (Form.number v) m h = refl
   renamed_type y z (Form.variable w) m h = leaf_type y z w m
   renamed_type y z (Form.sum a b) m h = ap₂ (λ p q. joined p q) (renamed_type y z a m (or_false (occurs z a) (occurs z b) h).0) (renamed_type y z b m (or_false (occurs z a) (occurs z b) h).1)
@@ -432,7 +432,7 @@ mutual
   renamed_type y z (Form.select g a b) m h = let k = or_false (occurs_in z g) ((occurs z a) || (occurs z b)) h in let l = or_false (occurs z a) (occurs z b) k.1 in ap₂ (λ p q. only_if p q) (renamed_truth y z g m k.0) (ap₂ (λ p q. joined p q) (renamed_type y z a m l.0) (renamed_type y z b m l.1))
   renamed_type y z (Form.bind up w name ty a) m h = let k = or_false (z == w) (occurs z a) h in ap (λ p. only_if (is_unsigned p) (Some NumberType.eureal)) (renamed_body y z w ty a m k.0 (renamed_type y z a (retyped w ty m) k.1))
 
-  renamed_truth : (y z : ℕ) (g : Cond) (m : Types) → occurs_in z g ≡ false → is_well_typed m (renamed_in y z g) ≡ is_well_typed (retyped y (m z) m) g
+  pub renamed_truth : (y z : ℕ) (g : Cond) (m : Types) → occurs_in z g ≡ false → is_well_typed m (renamed_in y z g) ≡ is_well_typed (retyped y (m z) m) g
   renamed_truth y z (Cond.constant b) m h = refl
   renamed_truth y z (Cond.flag w) m h = leaf_truth y z w m
   renamed_truth y z (Cond.not g) m h = renamed_truth y z g m h
@@ -464,7 +464,7 @@ kept_bind n x w up name ty a t h f = go (x == w) h
     go false k = rw (no_capture (occurs_in_term w t) (is_free x a) k) (ap (λ b. Form.bind up w name ty b) (f k))
 
 mutual
-  kept : (n x : ℕ) (t : Term) (f : Form) → is_free x f ≡ false → subst_within n x t f ≡ f
+  pub kept : (n x : ℕ) (t : Term) (f : Form) → is_free x f ≡ false → subst_within n x t f ≡ f
   kept zero x t f h = refl
   kept (suc n) x t (Form.number v) h = refl
   kept (suc n) x t (Form.variable w) h = kept_leaf x w t h
@@ -484,7 +484,7 @@ mutual
   kept (suc n) x t (Form.select g a b) h = let k = or_false (is_free_in x g) ((is_free x a) || (is_free x b)) h in let l = or_false (is_free x a) (is_free x b) k.1 in ap₂ (λ p (q : Form × Form). Form.select p q.0 q.1) (kept_in n x t g k.0) (ap₂ (λ p q. (p, q)) (kept n x t a l.0) (kept n x t b l.1))
   kept (suc n) x t (Form.bind up w name ty a) h = kept_bind n x w up name ty a t h (λ k. kept n x t a k)
 
-  kept_in : (n x : ℕ) (t : Term) (g : Cond) → is_free_in x g ≡ false → subst_within_in n x t g ≡ g
+  pub kept_in : (n x : ℕ) (t : Term) (g : Cond) → is_free_in x g ≡ false → subst_within_in n x t g ≡ g
   kept_in zero x t g h = refl
   kept_in (suc n) x t (Cond.constant b) h = refl
   kept_in (suc n) x t (Cond.flag w) h = kept_flag x w t h

@@ -5,9 +5,9 @@ use Rattle.heyvl_num.specs.Rational.{ratio, zeroʳ, leqʳ, ◌-ʳ◌}
 use Rattle.heyvl_num.specs.Value.{Value, zeroᵛ, oneᵛ, ◌+ᵛ◌, ◌*ᵛ◌, leqᵛ, is_zeroʳ, ◌≤ᵛ◌}
 use Rattle.heyvl_num.specs.Value.Value.{finite, infinite}
 use Rattle.heyvl_num.specs.ValueOperators.{minᵛ, maxᵛ, impliesᵛ, monusᵛ}
-use Rattle.heyvl_num.proofs.Signs.{difference_nonnegative}
-use Rattle.heyvl_num.proofs.Values.{≤ᵛ_refl, ≤ᵛ_infinite, zero-≤ᵛ-one, +ᵛ_nonnegative, *ᵛ_nonnegative, scale_nonnegative, finite_nonnegative}
-use Rattle.heyvl_num.proofs.ValueOperators.{coimplies_nonnegative}
+use Rattle.heyvl_num.proofs.exported.Signs.{difference_nonnegative}
+use Rattle.heyvl_num.proofs.exported.Values.{≤ᵛ_refl, ≤ᵛ_infinite, zero-≤ᵛ-one, +ᵛ_nonnegative, *ᵛ_nonnegative, scale_nonnegative, finite_nonnegative}
+use Rattle.heyvl_num.proofs.exported.Operators.{coimplies_nonnegative}
 use Rattle.heylo_formula.specs.Operators.{differenceᵛ, validateᵛ, covalidateᵛ, is_finite}
 use Rattle.heylo_formula.specs.State.{Env, put, fit, has, default, number_of}
 use Rattle.heylo_formula.specs.Choices.{Choices, here, left, right}

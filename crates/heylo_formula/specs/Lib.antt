@@ -12,5 +12,15 @@ pub mod Goals
 pub mod TypedGoals
 pub mod Extrema
 pub mod Substitution
+pub mod Shifted
 pub mod Laws
 pub mod ExtremaLaws
+pub mod ShiftLaws
+pub mod TermLaws
+pub mod AgreementLaws
+pub mod StateLaws
+pub mod BinderNames
+pub mod SubstitutionLaws
+pub mod OperatorLaws
+pub mod GoalLaws
+pub mod MeaningLaws

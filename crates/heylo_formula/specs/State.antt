@@ -1,5 +1,6 @@
 -- States: a value for each variable, by number. A run has a list of values; a formula is read in an environment, where
 -- every number has a value, since a renamed binder has a number beyond every list.
+use Prim.Native.Nat.{zero, suc}
 use Rattle.std.specs.Prelude.{◌≡◌, ℕ, Bool, true, false, ◌==◌, ◌&&◌, List, [], ◌∷◌, get_or, if◌then◌else◌}
 use Rattle.heyvl_num.specs.Rational.{Rational, zeroʳ, leqʳ}
 use Rattle.heylo_formula.specs.declared.types.Ty.{Ty}
@@ -50,6 +51,11 @@ get x s = get_or s x (Truth false)
 
 abbrev pub environment : List Val → Env
 environment s x = get x s
+
+-- The first values of an environment.
+abbrev pub listed : ℕ → Env → List Val
+listed zero s = []
+listed (suc n) s = s 0 ∷ listed n (λ y. s (suc y))
 
 -- Each variable that has a type has a value of it.
 abbrev pub IsTyped : List Ty → List Val → Type 0

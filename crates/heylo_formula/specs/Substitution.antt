@@ -105,3 +105,36 @@ subst x t f = subst_within (suc (nodes f)) x t f
 
 unfoldable pub subst_in : ℕ → Term → Cond → Cond
 subst_in x t g = subst_within_in (suc (nodes_in g)) x t g
+
+-- The number of nodes of a form with a term for each free x, where the term has m nodes as a form, and k as a condition.
+abbrev mutual
+  pub nodes_put : ℕ → ℕ → ℕ → Form → ℕ
+  nodes_put x m k (Form.number v) = 1
+  nodes_put x m k (Form.variable w) = if x == w then m else 1
+  nodes_put x m k (Form.sum a b) = 1 + (nodes_put x m k a + nodes_put x m k b)
+  nodes_put x m k (Form.difference a b) = 1 + (nodes_put x m k a + nodes_put x m k b)
+  nodes_put x m k (Form.cut a b) = 1 + (nodes_put x m k a + nodes_put x m k b)
+  nodes_put x m k (Form.scale w a) = 1 + nodes_put x m k a
+  nodes_put x m k (Form.product a b span) = 1 + (nodes_put x m k a + nodes_put x m k b)
+  nodes_put x m k (Form.min a b) = 1 + (nodes_put x m k a + nodes_put x m k b)
+  nodes_put x m k (Form.max a b) = 1 + (nodes_put x m k a + nodes_put x m k b)
+  nodes_put x m k (Form.imply a b) = 1 + (nodes_put x m k a + nodes_put x m k b)
+  nodes_put x m k (Form.co_imply a b) = 1 + (nodes_put x m k a + nodes_put x m k b)
+  nodes_put x m k (Form.validate a) = 1 + nodes_put x m k a
+  nodes_put x m k (Form.co_validate a) = 1 + nodes_put x m k a
+  nodes_put x m k (Form.embed g) = 1 + nodes_put_in x m k g
+  nodes_put x m k (Form.iverson g) = 1 + nodes_put_in x m k g
+  nodes_put x m k (Form.select g a b) = 1 + (nodes_put_in x m k g + (nodes_put x m k a + nodes_put x m k b))
+  nodes_put x m k (Form.bind up w name ty a) = 1 + (if x == w then nodes a else nodes_put x m k a)
+
+  pub nodes_put_in : ℕ → ℕ → ℕ → Cond → ℕ
+  nodes_put_in x m k (Cond.constant b) = 1
+  nodes_put_in x m k (Cond.flag w) = if x == w then k else 1
+  nodes_put_in x m k (Cond.not g) = 1 + nodes_put_in x m k g
+  nodes_put_in x m k (Cond.and g h) = 1 + (nodes_put_in x m k g + nodes_put_in x m k h)
+  nodes_put_in x m k (Cond.or g h) = 1 + (nodes_put_in x m k g + nodes_put_in x m k h)
+  nodes_put_in x m k (Cond.same g h) = 1 + (nodes_put_in x m k g + nodes_put_in x m k h)
+  nodes_put_in x m k (Cond.le a b) = 1 + (nodes_put x m k a + nodes_put x m k b)
+  nodes_put_in x m k (Cond.lt a b) = 1 + (nodes_put x m k a + nodes_put x m k b)
+  nodes_put_in x m k (Cond.equal a b) = 1 + (nodes_put x m k a + nodes_put x m k b)
+  nodes_put_in x m k (Cond.ite g h j) = 1 + (nodes_put_in x m k g + (nodes_put_in x m k h + nodes_put_in x m k j))

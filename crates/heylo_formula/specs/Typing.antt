@@ -93,6 +93,14 @@ is_finite_type (Some NumberType.ureal) = true
 is_finite_type (Some NumberType.eureal) = false
 is_finite_type None = false
 
+-- Int or UInt.
+abbrev pub is_whole_type : Option NumberType → Bool
+is_whole_type (Some NumberType.int) = true
+is_whole_type (Some NumberType.uint) = true
+is_whole_type (Some NumberType.ureal) = false
+is_whole_type (Some NumberType.eureal) = false
+is_whole_type None = false
+
 -- UInt, UReal or EUReal.
 abbrev pub is_unsigned : Option NumberType → Bool
 is_unsigned (Some NumberType.int) = false

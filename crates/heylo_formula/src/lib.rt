@@ -2,11 +2,14 @@
 #![tactic(auto)]
 
 mod copies;
+mod counting;
 mod forms;
 mod goals;
 mod laws;
 mod occurrences;
+mod pairs;
 mod renaming;
+mod shifting;
 mod sizes;
 mod substitution;
 mod terms;
@@ -18,9 +21,11 @@ mod values;
 pub use forms::{Cond, Form};
 pub use goals::{Goal, GoalId, Made};
 pub use laws::{
-    bounds_hold_by_choices, renaming_renames_the_state, substitution_changes_the_state,
-    substitution_keeps_binders, substitution_keeps_types, types_bound_values,
-    what_values_depend_on,
+    bounds_hold_by_choices, finite_choices_have_meanings, growth_of_validates,
+    lists_are_environments, renaming_renames_the_state, shifting_moves_the_state,
+    substitution_changes_the_state, substitution_keeps_binders, substitution_keeps_types,
+    terms_have_values_of_their_types, types_bound_values, what_free_variables_decide,
+    what_goals_speak_of, what_renaming_keeps, what_substitution_gives, what_values_depend_on,
 };
 pub use terms::Term;
 pub use types::Ty;

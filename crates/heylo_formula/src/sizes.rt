@@ -120,14 +120,14 @@ impl Term {
 }
 
 /// One more, at most 2^63.
-fn above(count: u64) -> u64
+pub fn above(count: u64) -> u64
     ensures { (m : _) → count ≡ min (2 ^ 63) m → result ≡ min (2 ^ 63) (1 + m) }
 {
     if count >= MOST { MOST } else { count + 1 }
 }
 
 /// Both together, at most 2^63.
-fn both(left: u64, right: u64) -> u64
+pub fn both(left: u64, right: u64) -> u64
     ensures { (m : _) (n : _) → left ≡ min (2 ^ 63) m → right ≡ min (2 ^ 63) n → result ≡ min (2 ^ 63) (m + n) }
 {
     if left >= MOST || right >= MOST || left + right >= MOST {

@@ -11,3 +11,4 @@ pub mod Exactness
 pub mod Rows
 pub mod Inverses
 mod Examples
+pub mod exported

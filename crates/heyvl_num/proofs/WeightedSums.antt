@@ -2,7 +2,7 @@
 -- To import: `use Rattle.heyvl_num.proofs.WeightedSums.{weighted_sum-append}` and the like, or the rule set
 -- `using(heyvl_num::proofs::WeightedSums::weighted)`, which takes sums of lists apart.
 use Rattle.std.proofs.Common.{◌≡◌, List, [], ◌∷◌, ◌++◌, refl, sym, ap, ap₂, ◌∙◌, subst}
-use Rattle.heyvl_num.specs.Rational.{Rational, zeroʳ, oneʳ, ◌*ʳ◌, ◌≤ʳ◌}
+use Rattle.heyvl_num.specs.Rational.{Rational, zeroʳ, oneʳ, ◌+ʳ◌, ◌*ʳ◌, ◌≤ʳ◌}
 use Rattle.heyvl_num.specs.Value.{Value, zeroᵛ, oneᵛ, ◌+ᵛ◌, ◌*ᵛ◌, ◌≤ᵛ◌}
 use Rattle.heyvl_num.specs.Value.Value.{finite}
 use Rattle.heyvl_num.specs.WeightedSums.{weighted_sum, total_weight, scaled, joined, IsWeighted}
@@ -17,6 +17,14 @@ weighted_sum-empty f = refl
 pub weighted_sum-cons : {A : Type 0} (f : A → Value) (w : Rational) (a : A) (xs : List (Rational × A)) → weighted_sum f ((w, a) ∷ xs) ≡ (finite w *ᵛ f a) +ᵛ weighted_sum f xs
 unfolding weighted_sum
 weighted_sum-cons f w a xs = refl
+
+pub total_weight-empty : (A : Type 0) → total_weight {A = A} [] ≡ zeroʳ
+unfolding total_weight
+total_weight-empty A = refl
+
+pub total_weight-cons : {A : Type 0} (w : Rational) (a : A) (xs : List (Rational × A)) → total_weight ((w, a) ∷ xs) ≡ w +ʳ total_weight xs
+unfolding total_weight
+total_weight-cons w a xs = refl
 
 -- appended lists
 pub weighted_sum-append : {A : Type 0} (f : A → Value) (xs ys : List (Rational × A)) → weighted_sum f (xs ++ ys) ≡ weighted_sum f xs +ᵛ weighted_sum f ys

@@ -11,3 +11,5 @@ pub mod ValueOperators
 pub mod WeightedSums
 pub mod FractionLaws
 pub mod ValueLaws
+pub mod WholeNumbers
+pub mod OperatorLaws

@@ -2,6 +2,7 @@
 //! crates above reason about.
 ghost use Rattle.heyvl_num.specs.FractionLaws as fraction;
 ghost use Rattle.heyvl_num.specs.ValueLaws as value;
+ghost use Rattle.heyvl_num.specs.OperatorLaws as operator;
 
 /// Fractions are pairs of whole numbers, read by their cross products.
 pub fn fractions_by_cross_products()
@@ -92,4 +93,30 @@ pub fn weighted_sums()
     ensures joined { value.SumsOfJoinedLists }
     ensures monotone { value.WeightedSumsMonotone }
     ensures bounded { value.WeightedSumsBounded }
+{}
+
+/// Whole numbers stay whole.
+pub fn whole_numbers()
+    ensures sums { operator.WholeSums }
+    ensures differences { operator.WholeDifferences }
+    ensures products { operator.WholeProducts }
+    ensures negatives { operator.WholeNegatives }
+    ensures constants { operator.ZeroAndOneAreWhole }
+    ensures values { operator.WholeValues }
+{}
+
+/// What the operators on values keep of the order and of the sign.
+pub fn growth_of_operators()
+    ensures minimum { operator.MinimumGrows }
+    ensures maximum { operator.MaximumGrows }
+    ensures implication { operator.ImplicationGrows }
+    ensures coimplication { operator.CoimplicationGrows }
+    ensures nonnegative { operator.CoimplicationNonnegative }
+{}
+
+/// What the weights of outcomes add up to, and the sign of weighted sums.
+pub fn weights_of_outcomes()
+    ensures nothing { operator.WeightOfNothing }
+    ensures more { operator.WeightsAddUp }
+    ensures nonnegative { operator.WeightedSumsNonnegative }
 {}

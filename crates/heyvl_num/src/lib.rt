@@ -13,6 +13,7 @@ pub use divisors::gcd;
 pub use extended::Ext;
 pub use fractions::Frac;
 pub use laws::{
-    fractions_by_cross_products, operators_on_values, order_of_fractions, order_of_values,
-    ring_of_fractions, semiring_of_values, weighted_sums,
+    fractions_by_cross_products, growth_of_operators, operators_on_values, order_of_fractions,
+    order_of_values, ring_of_fractions, semiring_of_values, weighted_sums, weights_of_outcomes,
+    whole_numbers,
 };

@@ -8,9 +8,8 @@ use Rattle.std.specs.declared.alloc.Global.{Global}
 use Prim.Native.Nat.{zero, suc}
 use Rattle.heyvl_syntax.specs.declared.spans.Span.{Span}
 use Rattle.heylo_formula.specs.declared.forms.Cond as C
-use Rattle.heylo_formula.specs.PlainTrees.{cond_of}
 use Rattle.heyvl_types.specs.declared.acts.Act as A
-use Rattle.heyvl_types.specs.Acts.{Act, Acts}
+use Rattle.heyvl_types.specs.Acts.{Act}
 use Rattle.heyvl_types.proofs.exported.PlainActsAre.{if_act, pick_act}
 use Rattle.heyvl_types.specs.PlainActs.{act_of, acts_of, arms_of}
 use Rattle.heyvl_types.specs.Places.{nth, in_order, inside, inside_arms}

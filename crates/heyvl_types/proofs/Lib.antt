@@ -1,4 +1,5 @@
 mod Matching
 mod Copying
 mod Finding
+mod ActExamples
 pub mod exported

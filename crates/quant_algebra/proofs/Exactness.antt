@@ -10,8 +10,8 @@ use Rattle.heyvl_num.specs.Value.Value.{finite, infinite}
 use Rattle.heyvl_num.specs.ValueOperators.{minᵛ, maxᵛ, impliesᵛ, coimpliesᵛ, monusᵛ}
 use Rattle.heyvl_num.specs.Exact.{exact_sum, exact_product, exact_difference, exact_order, sum_fits, product_fits, difference_fits, order_fits}
 use Rattle.heyvl_num.specs.ExactValues.{exact_sumᵛ, exact_productᵛ, exact_orderᵛ}
-use Rattle.heyvl_num.proofs.Rationals.{≤ʳ_total, ≤ʳ_refl}
-use Rattle.heyvl_num.proofs.Signs.{compareʳ-is, -ʳ-self}
+use Rattle.heyvl_num.proofs.exported.Rationals.{≤ʳ_total, ≤ʳ_refl}
+use Rattle.heyvl_num.proofs.exported.Signs.{compareʳ-is, -ʳ-self}
 use Rattle.heylo_formula.specs.Formula.{Form, Cond}
 use Rattle.heylo_formula.specs.Operators.{differenceᵛ, validateᵛ, covalidateᵛ, lessᵛ, equalᵛ, agree}
 use Rattle.heylo_formula.specs.State.{environment}

@@ -1,5 +1,4 @@
-use Rattle.std.proofs.Common.{rules, arith, ◌≡◌, ℕ, ◌≤◌, length, List, map, ap, sym, ◌∙◌}
-use Rattle.std.proofs.lemmas.List.{take_all}
+use Rattle.std.proofs.Common.{arith, map, ap, sym, ◌∙◌}
 use Rattle.heyvl_types.specs.Acts.{Act}
 use Rattle.heyvl_types.specs.PlainActs.{act_of, acts_of, arm_of, arms_of}
 use Rattle.heyvl_types.proofs.Copying.{branched, all_arms}

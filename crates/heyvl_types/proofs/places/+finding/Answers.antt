@@ -1,7 +1,6 @@
 use Rattle.heyvl_types.specs.PlainActs.{acts_of}
 use Rattle.heyvl_types.specs.Places.{in_order}
-use Rattle.heyvl_types.proofs.Finding.{act_found, act_past, arm_found, arm_past, if_start, pick_start, found_first, past_first, finds_rest, no_arm}
-use Rattle.std.proofs.Common.{ap, subst}
+use Rattle.heyvl_types.proofs.Finding.{act_found, act_past, arm_found, arm_past, if_start, pick_start, found_first, past_first, finds_rest}
 use Rattle.heyvl_types.proofs.places.+finding.Goals as goal
 
 pub among-returns-in-Ok : goal.among-returns-in-Ok

@@ -1,10 +1,8 @@
 use Rattle.heyvl_types.proofs.places.+finding.Given as goal
 use Rattle.heyvl_types.proofs.Finding.{acts_from, arms_from}
-use Rattle.heyvl_types.specs.Acts.{Act}
-use Rattle.heyvl_types.specs.PlainActs.{act_of, acts_of, arms_of}
+use Rattle.heyvl_types.specs.PlainActs.{act_of, acts_of}
 use Rattle.heyvl_types.specs.Places.{in_order, inside}
 use Rattle.heyvl_types.specs.Finding.{Behind}
-use Rattle.std.proofs.Common.{◌≡◌, drop}
 
 -- The place is in the rest, by the number that is left.
 abbrev pub invariant-among-loop-act : goal.invariant-among-loop-act

@@ -1,5 +1,5 @@
-use Rattle.heyvl_num.proofs.Rows.{farkas}
-use Rattle.heyvl_num.proofs.Values.{semiring, ordered}
+use Rattle.heyvl_num.proofs.exported.Rows.{farkas}
+use Rattle.heyvl_num.proofs.exported.Values.{semiring, ordered}
 use Rattle.quant_algebra.proofs.laws.numbers_in_use.Goals as goal
 
 pub returns : goal.returns

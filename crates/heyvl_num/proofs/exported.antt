@@ -1,0 +1,11 @@
+-- Lemmas that are meant for the proofs of other crates. All else in proofs/ is private to this crate.
+pub mod Integers
+pub mod Rationals
+pub mod Values
+pub mod Signs
+pub mod Roundings
+pub mod WeightedSums
+pub mod Exactness
+pub mod Rows
+pub mod Operators
+pub mod WholeNumbers
