@@ -6,7 +6,7 @@ use Rattle.heyvl_num.specs.Rational.{Rational}
 use Rattle.run_machine.specs.declared.configurations.Config as C
 use Rattle.run_machine.specs.declared.configurations.Frame as F
 use Rattle.run_machine.specs.Names.{Numbered, Lists, lists_of, callers, stored, config_of, Stored}
-use Rattle.run_machine.specs.BoundedStep.{frame_values, values_in, any_deep, outcome_of, outcomes_of}
+use Rattle.run_machine.specs.BoundedStep.{frame_values, values_in, any_deep, outcomes_of}
 
 abbrev pub list_values : List Lists → ℕ
 list_values [] = 0

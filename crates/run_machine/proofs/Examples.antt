@@ -1,5 +1,5 @@
 -- Worked runs, computed by the definitions.
-use Rattle.std.proofs.Common.{◌≡◌, ℕ, ◌+◌, refl, Bool, true, false, List, [], ◌∷◌, Some, None, pos, map, length}
+use Rattle.std.proofs.Common.{◌≡◌, ℕ, refl, Bool, true, false, List, [], ◌∷◌, Some, None, pos, map, length}
 use Rattle.std.specs.Prelude.{ℤ}
 use Prim.Native.Nat.{zero, suc}
 use Rattle.heyvl_num.specs.Gcd.{gcd, gcd_steps}
@@ -14,7 +14,7 @@ use Rattle.heylo_formula.specs.declared.types.Ty.{Ty}
 use Rattle.heylo_formula.specs.declared.values.Val.{Val}
 use Rattle.heylo_formula.specs.declared.values.Val.TheVariants.{Truth, Num}
 use Rattle.heyvl_types.specs.Acts.{Head, Act, Acts, Arms, Variable, TypedProcedure}
-use Rattle.run_machine.specs.Configurations.{Config, Outcomes, begin}
+use Rattle.run_machine.specs.Configurations.{begin}
 use Rattle.run_machine.specs.Step.{Decision}
 use Rattle.run_machine.specs.Scheduler.{Tree, Forest}
 use Rattle.run_machine.specs.Runs.{runs}

@@ -1,13 +1,11 @@
 -- Configurations of the program with other items and another state, as the definition moves them.
-use Rattle.std.proofs.Common.{◌≡◌, ℕ, ◌+◌, ◌<◌, ◌&&◌, get_or, append_assoc, refl, ap, sym, subst, ◌∙◌, Bool, true, false, List, [], ◌∷◌, ◌++◌, length, map, reverse, drop, if◌then◌else◌}
+use Rattle.std.proofs.Common.{◌≡◌, ℕ, ◌+◌, ◌<◌, ◌&&◌, get_or, append_assoc, refl, ap, sym, subst, ◌∙◌, Bool, true, false, List, [], ◌∷◌, ◌++◌, length, reverse, drop}
 use Rattle.std.proofs.lemmas.List.{at_drop_more}
-use Rattle.std.specs.Prelude.{set, Option, Some, None, option_map, is_some, Result, Ok, Err, IfOk}
-use Rattle.heyvl_num.specs.Rational.{Rational, ◌+ʳ◌}
-use Rattle.heyvl_num.specs.Value.Value.{finite, infinite}
-use Rattle.heyvl_num.specs.Exact.{exact_sum, sum_fits}
+use Rattle.std.specs.Prelude.{set, Option, Some, is_some, Result, Ok, Err, IfOk}
+use Rattle.heyvl_num.specs.Rational.{Rational}
+use Rattle.heyvl_num.proofs.exported.Exactness.{exact_sumᵛ_some}
 use Rattle.heyvl_num.specs.ExactValues.{exact_sumᵛ}
 use Rattle.quant_algebra.specs.ExactOperators.{and_then}
-use Prim.Native.Nat.{zero, suc}
 use Rattle.heyvl_num.specs.Value.{Value, ◌+ᵛ◌}
 use Rattle.heylo_formula.specs.declared.values.Val.{Val}
 use Rattle.heyvl_types.specs.Acts.{Acts, TypedProcedure}
@@ -18,7 +16,7 @@ use Rattle.heylo_formula.specs.PlainTrees.{term_of}
 use Rattle.heylo_formula.specs.Meaning.{term_value}
 use Rattle.heylo_formula.specs.State.{environment}
 use Rattle.run_machine.specs.declared.configurations.Config as C
-use Rattle.run_machine.specs.Configurations.{Item, Frame, Config, push}
+use Rattle.run_machine.specs.Configurations.{Item, Config, push}
 use Rattle.run_machine.specs.Step.{sure, moved, rewarded, branch, branches}
 use Rattle.run_machine.specs.BoundedStep.{limited, bounded, exact_term, parts_fit, outcome_of, outcomes_of}
 use Rattle.run_machine.specs.Continuing.{GoesOn, Continues, Stands, text}
@@ -66,27 +64,8 @@ all_fits false x y h e = cc
 pub reward_fits : (o : Option Value) (r v w : Value) → Some v ≡ o → Some w ≡ exact_sumᵛ r v → true ≡ is_some (and_then o (λ u. exact_sumᵛ r u))
 reward_fits o r v w h k = subst (λ p. true ≡ is_some (and_then p (λ u. exact_sumᵛ r u))) h (subst (λ q. true ≡ is_some q) k refl)
 
-exact_is : (x y z : Rational) → Some z ≡ exact_sum x y → z ≡ x +ʳ y
-unfolding exact_sum
-exact_is x y z h = go (sum_fits x y) h
-  where
-    go : (b : Bool) → Some z ≡ (if b then Some (x +ʳ y) else None) → z ≡ x +ʳ y
-    go true k = cc
-    go false k = cc
-
-pub sum_is : (r v w : Value) → Some w ≡ exact_sumᵛ r v → w ≡ r +ᵛ v
-unfolding ◌+ᵛ◌
-sum_is (finite x) (finite y) w h = go (exact_sum x y) refl h
-  where
-    go : (o : Option Rational) → exact_sum x y ≡ o → Some w ≡ option_map finite o → w ≡ finite (x +ʳ y)
-    go (Some z) e k = let same : w ≡ finite z = cc in same ∙ ap finite (exact_is x y z (sym e))
-    go None e k = cc
-sum_is (finite x) infinite w h = cc
-sum_is infinite (finite y) w h = cc
-sum_is infinite infinite w h = cc
-
 pub reward_is : (ps : List TypedProcedure) (c d : Stored) (v w : Value) → Continues c → Some w ≡ exact_sumᵛ c.reward v → d ≡ record { procedure = c.procedure; items = drop 1 c.items; state = c.state; frames = c.frames; reward = c.reward; turns = c.turns; made = c.made } → config_of ps (record { procedure = d.procedure; items = d.items; state = d.state; frames = d.frames; reward = w; turns = d.turns; made = d.made }) ≡ rewarded (config_of ps c) (items_of ps (drop 1 c.items)) v
-reward_is ps c d v w g h e = ap (λ x. config_of ps (record { procedure = x.procedure; items = x.items; state = x.state; frames = x.frames; reward = w; turns = x.turns; made = x.made })) e ∙ ap (λ r. config_of ps (record { procedure = c.procedure; items = drop 1 c.items; state = c.state; frames = c.frames; reward = r; turns = c.turns; made = c.made })) (sum_is c.reward v w h) ∙ rewards ps c v c.made g
+reward_is ps c d v w g h e = ap (λ x. config_of ps (record { procedure = x.procedure; items = x.items; state = x.state; frames = x.frames; reward = w; turns = x.turns; made = x.made })) e ∙ ap (λ r. config_of ps (record { procedure = c.procedure; items = drop 1 c.items; state = c.state; frames = c.frames; reward = r; turns = c.turns; made = c.made })) (exact_sumᵛ_some c.reward v w h) ∙ rewards ps c v c.made g
 
 -- The acts of a block come in front.
 pub block_is : (ps : List TypedProcedure) (c d : Stored) (p place : ℕ) (acts : Acts) (block items : List Numbered) → Continues c → Stands (text ps p) place (in_order acts) → block ≡ numbered p place acts → items ≡ block ++ drop 1 c.items → d ≡ record { procedure = c.procedure; items = items; state = c.state; frames = c.frames; reward = c.reward; turns = c.turns; made = c.made } → config_of ps d ≡ moved (config_of ps c) (push acts (items_of ps (drop 1 c.items))) c.state

@@ -1,5 +1,5 @@
 -- The places of acts: those of a block stand in a row in the text of its procedure's body.
-use Rattle.std.proofs.Common.{◌≡◌, ℕ, ◌+◌, refl, ap, sym, subst, ◌∙◌, arith, ◌⊎◌, inl, inr, List, [], ◌∷◌, ◌++◌, length, map}
+use Rattle.std.proofs.Common.{◌≡◌, ℕ, ◌+◌, refl, ap, subst, ◌∙◌, arith, ◌⊎◌, inl, inr, List, [], ◌∷◌, ◌++◌, length}
 use Rattle.std.proofs.lemmas.Option.{none-some}
 use Rattle.std.specs.Prelude.{Option, Some, None}
 use Prim.Native.Nat.{zero, suc}
@@ -7,7 +7,7 @@ use Rattle.heyvl_types.specs.Acts.{Act, Acts, Arms, TypedProcedure, acts_in}
 use Rattle.heyvl_types.specs.Places.{nth, in_order, inside, inside_arms, acts_of_procedure, act_named}
 use Rattle.run_machine.specs.Configurations.{Item, push}
 use Rattle.run_machine.specs.Continuing.{Stands, text}
-use Rattle.run_machine.specs.Names.{Numbered, item_of, items_of, act_item, numbered}
+use Rattle.run_machine.specs.Names.{Numbered, items_of, act_item, numbered}
 
 nth_first : (xs ys : List Act) (n : ℕ) (a : Act) → nth xs n ≡ Some a → nth (xs ++ ys) n ≡ Some a
 nth_first [] ys n a h = elim (none-some a h) [ ]

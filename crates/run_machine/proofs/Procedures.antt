@@ -1,5 +1,5 @@
 -- Procedures by number.
-use Rattle.std.proofs.Common.{◌≡◌, ℕ, ◌+◌, ◌<◌, ◌≤◌, ◌^◌, refl, ap, sym, subst, ◌∙◌, arith, zero-add, List, [], ◌∷◌, ◌++◌, length, map, slice_get, get_or, replicate, reverse}
+use Rattle.std.proofs.Common.{◌≡◌, ℕ, ◌<◌, ◌≤◌, refl, ap, sym, subst, ◌∙◌, arith, zero-add, List, [], ◌∷◌, ◌++◌, length, map, slice_get, get_or, replicate, reverse}
 use Rattle.std.proofs.lemmas.Option.{none-some}
 use Rattle.std.specs.Prelude.{Option, Some, None}
 use Prim.Native.Nat.{zero, suc}
@@ -11,9 +11,9 @@ use Rattle.heyvl_num.specs.Rational.{Rational, zeroʳ}
 use Rattle.heyvl_num.specs.Value.{zeroᵛ}
 use Rattle.heyvl_num.specs.Value.Value.{finite}
 use Rattle.heylo_formula.specs.declared.values.Val.{Val}
-use Rattle.run_machine.specs.Configurations.{Item, push, begin}
+use Rattle.run_machine.specs.Configurations.{push, begin}
 use Rattle.run_machine.specs.Names.{Numbered, Lists, items_of, callers, turns_of, config_of, numbered}
-use Rattle.run_machine.specs.Continuing.{Stands, text}
+use Rattle.run_machine.specs.Continuing.{Stands}
 use Rattle.run_machine.proofs.Places.{named_push}
 
 pub procedure_there : (xs : List TProc) (p : ℕ) (x : TProc) → slice_get xs p ≡ Some x → procedure_at (map procedure_of xs) p ≡ procedure_of x

@@ -1,22 +1,21 @@
 -- The laws of steps and runs.
-use Rattle.std.proofs.Common.{◌≡◌, ℕ, ◌+◌, refl, sym, ap, ap₂, ◌∙◌, subst, zero-add, Bool, true, false, cond, List, [], ◌∷◌, ◌++◌, append_assoc, arith}
+use Rattle.std.proofs.Common.{◌≡◌, ℕ, ◌+◌, refl, sym, ap, ap₂, ◌∙◌, zero-add, Bool, true, false, cond, List, [], ◌∷◌, ◌++◌, append_assoc, arith}
 use Prim.Native.Nat.{zero, suc}
-use Rattle.heyvl_num.specs.Rational.{Rational, oneʳ, ◌*ʳ◌, ◌+ʳ◌, zeroʳ}
+use Rattle.heyvl_num.specs.Rational.{Rational, oneʳ, ◌*ʳ◌, ◌+ʳ◌}
 use Rattle.heyvl_num.specs.WeightedSums.{total_weight, scaled, joined}
-use Rattle.heyvl_num.proofs.Rationals.{one-*ʳ, *ʳ_assoc, +ʳ-zero}
-use Rattle.heylo_formula.specs.State.{environment, has, default, fit}
+use Rattle.heyvl_num.proofs.exported.Rationals.{one-*ʳ, *ʳ_assoc, +ʳ-zero}
+use Rattle.heylo_formula.specs.State.{environment}
 use Rattle.heylo_formula.specs.Choices.{Choices}
 use Rattle.heylo_formula.specs.Formula.{Term}
 use Rattle.heylo_formula.specs.Meaning.{holds}
 use Rattle.heylo_formula.specs.declared.types.Ty.{Ty}
-use Rattle.heylo_formula.specs.declared.values.Val.{Val}
 use Rattle.heyvl_types.specs.Acts.{Head, Act, Acts, TypedProcedure}
 use Rattle.heyvl_types.specs.Rules.{WeighsOne}
 use Rattle.run_machine.specs.Configurations.{Item, Frame, Config, Outcomes, push}
 use Rattle.run_machine.specs.Step.{Decision, sure, moved, turned, branches, test, step_act, step_back, step_item, step}
 use Rattle.run_machine.specs.Scheduler.{Tree, Forest, decision, under, first, rest}
 use Rattle.run_machine.specs.Runs.{Runner, spread, onward, runs}
-use Rattle.run_machine.specs.RunLaws.{ItemWeighsOne, StepsWeighOne, StepsAreDetermined, PicksGoLeft, IllTypedIsDefault, MissingIsDefault, AnysAreOuts, EndedStays, Reached, spread_reached, onward_reached, reached, RunsContinue}
+use Rattle.run_machine.specs.RunLaws.{StepsWeighOne, StepsAreDetermined, PicksGoLeft, IllTypedIsDefault, MissingIsDefault, AnysAreOuts, EndedStays, Reached, spread_reached, onward_reached, reached, RunsContinue}
 use Rattle.run_machine.proofs.exported.Equations.{runs-zero, runs-next}
 
 sure_weighs : (c : Config) → total_weight (sure c) ≡ oneʳ

@@ -14,7 +14,7 @@ use Rattle.run_machine.specs.declared.configurations.Config as C
 use Rattle.run_machine.specs.declared.configurations.Stepped.{Stepped}
 use Rattle.run_machine.specs.declared.configurations.Stepped.TheVariants.{Next, Deep, Bits}
 use Rattle.run_machine.specs.Configurations.{Item, Frame, Config, Outcomes}
-use Rattle.run_machine.specs.Step.{Decision, step_act, step_item, step}
+use Rattle.run_machine.specs.Step.{Decision, step}
 use Rattle.run_machine.specs.Names.{stored, config_of}
 
 -- The value of a term, where each number that is needed fits.

@@ -1,7 +1,7 @@
 -- Configurations of a run: what is still to be done, and what has been collected.
 -- Source: the operational reading of HeyVL programs (Schroeer, Batz, Kaminski, Katoen, Matheja, OOPSLA 2023), in this
 -- project's own words.
-use Rattle.std.specs.Prelude.{ℕ, ◌+◌, ◌==◌, List, [], ◌∷◌, ◌++◌, length, take, drop, set, map, if◌then◌else◌}
+use Rattle.std.specs.Prelude.{ℕ, List, [], ◌∷◌, ◌++◌, length, take, drop, set, map}
 use Prim.Native.Nat.{suc}
 use Rattle.heyvl_num.specs.Rational.{Rational}
 use Rattle.heyvl_num.specs.Value.{Value, zeroᵛ}

@@ -1,11 +1,11 @@
 -- The configurations that the program holds, which name acts by their places, read as those of the definition.
-use Rattle.std.specs.Prelude.{◌≡◌, ◌+◌, ◌<◌, ◌^◌, ℕ, Bool, true, false, List, [], ◌∷◌, ◌++◌, Option, Some, None, map, length, reverse, get_or}
+use Rattle.std.specs.Prelude.{◌≡◌, ◌+◌, ◌<◌, ◌^◌, ℕ, true, false, List, [], ◌∷◌, Option, Some, None, map, length, reverse, get_or}
 use Rattle.std.specs.Borrow.{Bor}
 use Prim.Native.Nat.{zero, suc}
 use Rattle.heyvl_num.specs.Value.{Value}
 use Rattle.heyvl_num.specs.Extended as extended
 use Rattle.heylo_formula.specs.declared.values.Val.{Val}
-use Rattle.heyvl_types.specs.Acts.{Head, Act, Acts, TypedProcedure, types_of, acts_in, procedure_at}
+use Rattle.heyvl_types.specs.Acts.{Act, Acts, TypedProcedure, types_of, acts_in, procedure_at}
 use Rattle.heyvl_types.specs.Places.{act_named, in_order, inside}
 use Rattle.run_machine.specs.declared.configurations.Item as I
 use Rattle.run_machine.specs.declared.configurations.Item.TheVariants.{Do, Turn, Out, Back}

@@ -7,7 +7,7 @@ use Rattle.heyvl_num.specs.Rational.{Rational, oneʳ}
 use Rattle.heyvl_num.specs.Value.{Value, ◌+ᵛ◌}
 use Rattle.heylo_formula.specs.State.{fit, environment}
 use Rattle.heylo_formula.specs.Choices.{Choices}
-use Rattle.heylo_formula.specs.Formula.{Form, Term}
+use Rattle.heylo_formula.specs.Formula.{Term}
 use Rattle.heylo_formula.specs.Meaning.{value, holds, term_value}
 use Rattle.heylo_formula.specs.declared.values.Val.{Val}
 use Rattle.heylo_formula.specs.declared.values.Val.TheVariants.{Truth}

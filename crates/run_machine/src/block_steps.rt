@@ -18,7 +18,13 @@ use heyvl_types::Act;
 use std::alloc::{AllocError, Global};
 
 /// The acts of a block, whose first stands at this place, come before the rest.
-pub(crate) fn block_step(alloc: Global, config: &Config, p: u32, place: u32, acts: &[Act]) -> Result<Stepped, AllocError>
+pub(crate) fn block_step(
+    alloc: Global,
+    config: &Config,
+    p: u32,
+    place: u32,
+    acts: &[Act],
+) -> Result<Stepped, AllocError>
     requires continues { Continues (stored config.now) }
     requires few { place + length (in_order (acts_of acts.now)) < 2 ^ 31 }
     ensures { IfOk result (λ stepped. (ps : List TypedProcedure) → Stands (text ps p) place (in_order (acts_of acts.now)) → answer_of ps stepped ≡ bounded true (sure (moved (config_of ps (stored config.now)) (push (acts_of acts.now) (items_of ps (drop 1 config.now.items.items))) config.now.state.items))) }

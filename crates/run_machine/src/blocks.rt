@@ -41,7 +41,12 @@ fn inside_size(act: &Act) -> u32
 }
 
 /// The items of a block are appended, whose first act stands at this place.
-pub(crate) fn push_block(items: &mut Vec<Item>, p: u32, place: u32, acts: &[Act]) -> Result<(), AllocError>
+pub(crate) fn push_block(
+    items: &mut Vec<Item>,
+    p: u32,
+    place: u32,
+    acts: &[Act],
+) -> Result<(), AllocError>
     requires { place + length (in_order (acts_of acts.now)) < 2 ^ 31 }
     ensures { OnOk result (items.new.items ≡ items.old.items ++ numbered p place (acts_of acts.now)) }
 {

@@ -27,7 +27,11 @@ fn copy_frame(alloc: Global, frame: &Frame) -> Result<Frame, AllocError>
 }
 
 /// The configuration with other items.
-pub(crate) fn with_items(alloc: Global, config: &Config, items: Vec<Item>) -> Result<Config, AllocError>
+pub(crate) fn with_items(
+    alloc: Global,
+    config: &Config,
+    items: Vec<Item>,
+) -> Result<Config, AllocError>
     ensures { IfOk result (λ next. stored next ≡ record (stored config.now) { items = items.items }) }
 {
     Ok(Config {

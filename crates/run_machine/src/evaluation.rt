@@ -44,7 +44,11 @@ fn finite(value: &Ext) -> Frac
 }
 
 /// The values of terms, in their order, or None where a number that is needed doesn't fit.
-pub(crate) fn terms_at(alloc: Global, terms: &[Term], state: &[Val]) -> Result<Option<Vec<Val>>, AllocError>
+pub(crate) fn terms_at(
+    alloc: Global,
+    terms: &[Term],
+    state: &[Val],
+) -> Result<Option<Vec<Val>>, AllocError>
     ensures fits { IfOk result (λ values. is_some values ≡ terms_fit (terms_of terms.now) state.now) }
     ensures values { IfOk result (λ values. IfSome values (λ vs. vs.items ≡ evaluate (terms_of terms.now) (environment state.now))) }
 {

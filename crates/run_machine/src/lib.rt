@@ -13,5 +13,5 @@ mod starting;
 mod taking;
 
 pub use configurations::{Config, Decide, Frame, Item, Stepped};
-pub use starting::begin;
 pub use laws::{decisions_decide_steps, runs_continue, steps_weigh_one};
+pub use starting::begin;

@@ -26,7 +26,12 @@ use quant_algebra::{At, value_at};
 use std::alloc::{AllocError, Global};
 
 /// The step of an assignment.
-pub(crate) fn set_step(alloc: Global, config: &Config, x: u32, term: &Term) -> Result<Stepped, AllocError>
+pub(crate) fn set_step(
+    alloc: Global,
+    config: &Config,
+    x: u32,
+    term: &Term,
+) -> Result<Stepped, AllocError>
     requires { Continues (stored config.now) }
     ensures { IfOk result (λ stepped. (ps : List TypedProcedure) → answer_of ps stepped ≡ bounded (is_some (exact_term (term_of term.now) config.now.state.items)) (sure (moved (config_of ps (stored config.now)) (items_of ps (drop 1 config.now.items.items)) (set config.now.state.items x (term_value (term_of term.now) (environment config.now.state.items)))))) }
 {
@@ -37,7 +42,12 @@ pub(crate) fn set_step(alloc: Global, config: &Config, x: u32, term: &Term) -> R
 }
 
 /// The variable takes the value, and the first item is done.
-pub(crate) fn value_step(alloc: Global, config: &Config, x: u32, value: Val) -> Result<Stepped, AllocError>
+pub(crate) fn value_step(
+    alloc: Global,
+    config: &Config,
+    x: u32,
+    value: Val,
+) -> Result<Stepped, AllocError>
     requires { Continues (stored config.now) }
     ensures { IfOk result (λ stepped. (ps : List TypedProcedure) → answer_of ps stepped ≡ bounded true (sure (moved (config_of ps (stored config.now)) (items_of ps (drop 1 config.now.items.items)) (set config.now.state.items x value)))) }
 {
@@ -56,7 +66,12 @@ fn with_value(alloc: Global, config: &Config, x: u32, value: Val) -> Result<Conf
 }
 
 /// The step of a draw: one outcome for each part, in their order, those of weight 0 too.
-pub(crate) fn draw_step(alloc: Global, config: &Config, x: u32, parts: &[(Frac, Term)]) -> Result<Stepped, AllocError>
+pub(crate) fn draw_step(
+    alloc: Global,
+    config: &Config,
+    x: u32,
+    parts: &[(Frac, Term)],
+) -> Result<Stepped, AllocError>
     requires { Continues (stored config.now) }
     ensures { IfOk result (λ stepped. (ps : List TypedProcedure) → answer_of ps stepped ≡ bounded (parts_fit (parts_of parts.now) config.now.state.items) (branches (config_of ps (stored config.now)) (items_of ps (drop 1 config.now.items.items)) x (parts_of parts.now))) }
 {
@@ -74,7 +89,11 @@ pub(crate) fn draw_step(alloc: Global, config: &Config, x: u32, parts: &[(Frac, 
 }
 
 /// The step of a reward.
-pub(crate) fn reward_step(alloc: Global, config: &Config, form: &Form) -> Result<Stepped, AllocError>
+pub(crate) fn reward_step(
+    alloc: Global,
+    config: &Config,
+    form: &Form,
+) -> Result<Stepped, AllocError>
     requires { Continues (stored config.now) }
     ensures { IfOk result (λ stepped. (ps : List TypedProcedure) → answer_of ps stepped ≡ bounded (is_some (and_then (exact_value (form_of form.now) config.now.state.items) (λ v. exact_sumᵛ (number_of config.now.reward) v))) (sure (rewarded (config_of ps (stored config.now)) (items_of ps (drop 1 config.now.items.items)) (value (form_of form.now) (environment config.now.state.items) Choices.stop)))) }
 {

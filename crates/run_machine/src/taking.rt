@@ -18,7 +18,13 @@ use heyvl_num::Frac;
 use std::alloc::{AllocError, Global};
 
 /// The step of a variable that takes any value of its type.
-pub(crate) fn any_step(alloc: Global, config: &Config, x: u32, ty: Ty, decision: Option<&Decide>) -> Result<Stepped, AllocError>
+pub(crate) fn any_step(
+    alloc: Global,
+    config: &Config,
+    x: u32,
+    ty: Ty,
+    decision: Option<&Decide>,
+) -> Result<Stepped, AllocError>
     requires continues { Continues (stored config.now) }
     requires few { config.now.made < 2 ^ 31 }
     ensures { IfOk result (λ stepped. (ps : List TypedProcedure) → answer_of ps stepped ≡ bounded true (sure (moved (config_of ps (stored config.now)) (items_of ps (drop 1 config.now.items.items)) (set config.now.state.items x (fit ty (value_of (decision_of decision.entry))))))) }
@@ -37,11 +43,7 @@ fn fitting(ty: Ty, decision: Option<&Decide>) -> Val
         None => default(ty),
         Some(Decide::Left) => default(ty),
         Some(Decide::Right) => default(ty),
-        Some(Decide::Give(value)) => if has(ty, value) {
-            *value
-        } else {
-            default(ty)
-        },
+        Some(Decide::Give(value)) => if has(ty, value) { *value } else { default(ty) },
     }
 }
 

@@ -5,8 +5,8 @@ use Rattle.heyvl_num.specs.Rational.{Rational, oneʳ}
 use Rattle.heyvl_num.specs.Value.{Value, zeroᵛ, oneᵛ, ◌+ᵛ◌, ◌*ᵛ◌}
 use Rattle.heyvl_num.specs.Value.Value.{finite}
 use Rattle.heyvl_num.specs.WeightedSums.{weighted_sum, scaled}
-use Rattle.heyvl_num.proofs.Values.{+ᵛ-zero, one-*ᵛ}
-use Rattle.heyvl_num.proofs.WeightedSums.{weighted_sum-empty, weighted_sum-cons, weighted_sum-append, weighted_sum-scaled}
+use Rattle.heyvl_num.proofs.exported.Values.{+ᵛ-zero, one-*ᵛ}
+use Rattle.heyvl_num.proofs.exported.WeightedSums.{weighted_sum-empty, weighted_sum-cons, weighted_sum-append, weighted_sum-scaled}
 use Rattle.heylo_formula.specs.Formula.{Form}
 use Rattle.heyvl_types.specs.Acts.{TypedProcedure}
 use Rattle.run_machine.specs.Configurations.{Config, Outcomes}

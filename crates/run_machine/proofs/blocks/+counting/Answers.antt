@@ -1,5 +1,5 @@
-use Rattle.std.proofs.Common.{◌≡◌, ◌+◌, ◌<◌, length, arith, rules}
-use Rattle.run_machine.proofs.BlockSizes.{arms_next, if_size, pick_size}
+use Rattle.std.proofs.Common.{arith}
+use Rattle.run_machine.proofs.BlockSizes.{if_size, pick_size}
 use Rattle.run_machine.proofs.blocks.+counting.Goals as goal
 
 pub inside_size-loop-arm-init : goal.inside_size-loop-arm-init

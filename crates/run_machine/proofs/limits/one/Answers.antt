@@ -1,8 +1,6 @@
-use Rattle.std.proofs.Common.{◌≡◌, sym, ap, ◌∙◌, refl, rules}
+use Rattle.std.proofs.Common.{◌≡◌, sym, ◌∙◌, refl, rules}
 use Rattle.std.specs.Prelude.{Some, pos}
 use Rattle.heyvl_num.specs.Rational.{Rational, oneʳ}
-use Rattle.heyvl_num.specs.Extended.{value_of}
-use Rattle.heylo_formula.specs.Operators.{finite_part}
 use Rattle.heyvl_num.specs.Exact.{exact_quotient, quotient_fits, quotient}
 use Rattle.run_machine.proofs.limits.one.Goals as goal
 

@@ -1,4 +1,4 @@
-use Rattle.std.proofs.Common.{◌≡◌, sym, ap, ◌∙◌, refl, rules}
+use Rattle.std.proofs.Common.{◌≡◌, sym, ◌∙◌, refl, rules}
 use Rattle.std.specs.Prelude.{Some, pos}
 use Rattle.heyvl_num.specs.Rational.{Rational, zeroʳ}
 use Rattle.heyvl_num.specs.Exact.{exact_quotient, quotient_fits, quotient}
