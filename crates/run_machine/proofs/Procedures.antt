@@ -1,0 +1,92 @@
+-- Procedures by number.
+use Rattle.std.proofs.Common.{◌≡◌, ℕ, ◌<◌, ◌≤◌, refl, ap, sym, subst, ◌∙◌, arith, zero-add, List, [], ◌∷◌, ◌++◌, length, map, slice_get, get_or, replicate, reverse}
+use Rattle.std.proofs.lemmas.Option.{none-some}
+use Rattle.std.specs.Prelude.{Option, Some, None}
+use Prim.Native.Nat.{zero, suc}
+use Rattle.heyvl_types.specs.declared.typed.TProc.{TProc}
+use Rattle.heyvl_types.specs.Acts.{Act, Acts, TypedProcedure, acts_in, nobody, procedure_at}
+use Rattle.heyvl_types.specs.PlainActs.{procedure_of}
+use Rattle.heyvl_types.specs.Places.{nth, in_order, acts_of_procedure}
+use Rattle.heyvl_num.specs.Rational.{Rational, zeroʳ}
+use Rattle.heyvl_num.specs.Value.{zeroᵛ}
+use Rattle.heyvl_num.specs.Value.Value.{finite}
+use Rattle.heylo_formula.specs.declared.values.Val.{Val}
+use Rattle.run_machine.specs.Configurations.{push, begin}
+use Rattle.run_machine.specs.Names.{Numbered, Lists, items_of, callers, turns_of, config_of, numbered}
+use Rattle.run_machine.specs.Continuing.{Stands}
+use Rattle.run_machine.proofs.Places.{named_push}
+
+pub procedure_there : (xs : List TProc) (p : ℕ) (x : TProc) → slice_get xs p ≡ Some x → procedure_at (map procedure_of xs) p ≡ procedure_of x
+procedure_there [] p x h = elim (none-some x h) [ ]
+procedure_there (y ∷ xs) zero x h = ap procedure_of (same h)
+  where
+    same : Some y ≡ Some x → y ≡ x
+    same e = cc
+procedure_there (y ∷ xs) (suc p) x h = procedure_there xs p x h
+
+pub procedure_missing : (xs : List TProc) (p : ℕ) → slice_get xs p ≡ None → procedure_at (map procedure_of xs) p ≡ nobody
+procedure_missing [] p h = refl
+procedure_missing (y ∷ xs) zero h = cc
+procedure_missing (y ∷ xs) (suc p) h = procedure_missing xs p h
+
+at_start : (acts : List Act) → Stands acts 0 acts
+at_start acts k a e = ap (λ m. nth acts m) (zero-add k) ∙ e
+
+-- The items of a procedure's body, from its first place on, name its acts.
+pub body_named : (ps : List TypedProcedure) (p : ℕ) (rest : List Numbered) → items_of ps (numbered p 0 (acts_in (procedure_at ps p).body) ++ rest) ≡ push (acts_in (procedure_at ps p).body) (items_of ps rest)
+body_named ps p rest = go (nth ps p) refl
+  where
+    found : (qs : List TypedProcedure) (n : ℕ) (q : TypedProcedure) → nth qs n ≡ Some q → procedure_at qs n ≡ q
+    found [] n q h = elim (none-some q h) [ ]
+    found (r ∷ qs) zero q h = cc
+    found (r ∷ qs) (suc n) q h = found qs n q h
+
+    missing : (qs : List TypedProcedure) (n : ℕ) → nth qs n ≡ None → procedure_at qs n ≡ nobody
+    missing [] n h = refl
+    missing (r ∷ qs) zero h = cc
+    missing (r ∷ qs) (suc n) h = missing qs n h
+
+    go : (o : Option TypedProcedure) → nth ps p ≡ o → items_of ps (numbered p 0 (acts_in (procedure_at ps p).body) ++ rest) ≡ push (acts_in (procedure_at ps p).body) (items_of ps rest)
+    go (Some q) e = named_push ps p 0 (acts_in (procedure_at ps p).body) rest (subst (λ l. Stands l 0 (in_order (acts_in (procedure_at ps p).body))) (sym (ap acts_of_procedure e ∙ ap (λ r. in_order (acts_in r.body)) (sym (found ps p q e)))) (at_start (in_order (acts_in (procedure_at ps p).body))))
+    go None e = subst (λ r. items_of ps (numbered p 0 (acts_in r.body) ++ rest) ≡ push (acts_in r.body) (items_of ps rest)) (sym (missing ps p e)) refl
+
+pub found_at : (xs : List TProc) (p : ℕ) (x : TProc) → p < length xs → x ≡ get_or xs p x → procedure_at (map procedure_of xs) p ≡ procedure_of x
+found_at [] p x lt is = absurd (omega (arith, lt))
+found_at (y ∷ xs) zero x lt is = ap procedure_of (sym is)
+found_at (y ∷ xs) (suc p) x lt is = found_at xs p x (omega (arith, lt)) is
+
+pub past_all : (xs : List TProc) (p : ℕ) → length xs ≤ p → procedure_at (map procedure_of xs) p ≡ nobody
+past_all [] p over = refl
+past_all (y ∷ xs) zero over = absurd (omega (arith, over))
+past_all (y ∷ xs) (suc p) over = past_all xs p (omega (arith, over))
+
+pub nothing_more : (xs : List Numbered) (p : ℕ) (b : Option Acts) → b ≡ None → xs ≡ xs ++ numbered p 0 (acts_in b)
+nothing_more xs p None e = sym (append_none xs)
+  where
+    append_none : (l : List Numbered) → l ++ [] ≡ l
+    append_none [] = refl
+    append_none (x ∷ l) = ap (λ m. x ∷ m) (append_none l)
+nothing_more xs p (Some acts) e = cc
+
+append_none : (l : List Numbered) → l ++ [] ≡ l
+append_none [] = refl
+append_none (x ∷ l) = ap (λ m. x ∷ m) (append_none l)
+
+abbrev nothing : ℕ
+nothing = 0
+
+no_turn : (n m : ℕ) → get_or (replicate n nothing) m nothing ≡ nothing
+no_turn zero m = refl
+no_turn (suc n) zero = refl
+no_turn (suc n) (suc m) = no_turn n m
+
+no_turn_yet : (n m : ℕ) → turns_of (replicate n nothing) m ≡ nothing
+no_turn_yet n zero = refl
+no_turn_yet n (suc m) = no_turn n m
+
+-- The first configuration, by what its parts hold.
+pub begun : (ps : List TypedProcedure) (p n : ℕ) (s : List Val) (is : List Numbered) (t : List Val) (fs : List Lists) (z : Rational) (ts : List ℕ) (made : ℕ) → is ≡ numbered p 0 (acts_in (procedure_at ps p).body) → t ≡ s → fs ≡ [] → z ≡ zeroʳ → ts ≡ replicate n 0 → config_of ps (record { procedure = p; items = is; state = t; frames = fs; reward = finite z; turns = ts; made = made }) ≡ begin ps p s
+unfolding zeroᵛ
+begun ps p n s is t fs z ts made e f g h k =
+    let named : items_of ps is ≡ push (acts_in (procedure_at ps p).body) [] = ap (items_of ps) (e ∙ sym (append_none (numbered p 0 (acts_in (procedure_at ps p).body)))) ∙ body_named ps p [] in
+    λ i. record { procedure = p; items = named i; frames = ap (λ l. callers ps is (reverse l)) g i; state = f i; reward = ap finite h i; turns = λ m. (ap (λ l. turns_of l m) k ∙ no_turn_yet n m) i }

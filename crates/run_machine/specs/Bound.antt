@@ -1,0 +1,46 @@
+-- What the runs promise of a procedure, and of a loop with a ranking: bounds in every state, under every scheduler and for
+-- every number of steps.
+-- Source: this project's own.
+use Rattle.std.specs.Prelude.{ℕ, Bool, List, [], ◌∷◌, Option, Some, None}
+use Rattle.heyvl_num.specs.Rational.{Rational}
+use Rattle.heyvl_num.specs.Value.{zeroᵛ, ◌*ᵛ◌, ◌≤ᵛ◌}
+use Rattle.heyvl_num.specs.Value.Value.{finite}
+use Rattle.heylo_formula.specs.State.{environment, IsTyped}
+use Rattle.heylo_formula.specs.Choices.{Choices}
+use Rattle.heylo_formula.specs.Formula.{Form}
+use Rattle.heylo_formula.specs.Goals.{Compares}
+use Rattle.heylo_formula.specs.Meaning.{value}
+use Rattle.heylo_formula.specs.declared.values.Val.{Val}
+use Rattle.heyvl_types.specs.Acts.{Head, Acts, TypedProcedure, variables, type_list, procedure_at}
+use Rattle.run_machine.specs.Configurations.{Item, Config, begin}
+use Rattle.run_machine.specs.Scheduler.{Tree}
+use Rattle.run_machine.specs.Runs.{runs}
+use Rattle.run_machine.specs.Sums.{sum_of, turns_sum}
+
+-- A list with a value of the right type for each of the procedure's variables.
+abbrev pub IsState : TypedProcedure → List Val → Type 0
+IsState p s = IsTyped (type_list (variables p)) s
+
+-- true: the upper sums are at most the pre; false: the weak sums are at least the pre. The pre is taken in the first state.
+abbrev pub BoundBy : Bool → List TypedProcedure → ℕ → Type 0
+BoundBy up ps p = (s : List Val) → IsState (procedure_at ps p) s → (n : ℕ) (t : Tree) → Compares up (value (procedure_at ps p).pre (environment s) Choices.stop) (sum_of up (procedure_at ps p).post (runs ps n (begin ps p s) t))
+
+-- The bound of a procedure: by upper sums of a coproc, by weak sums of a weak proc.
+abbrev pub Bound : List TypedProcedure → ℕ → Type 0
+Bound ps p = BoundBy (procedure_at ps p).co ps p
+
+-- The configuration whose only item is this loop's test.
+abbrev pub at_test : ℕ → Head → Acts → List Val → Config
+at_test p h b s = record { procedure = p; items = Item.turn h b ∷ []; frames = []; state = s; reward = zeroᵛ; turns = λ n. 0 }
+
+-- The expected turns of a loop of the procedure, from its test on, times the step are at most the ranking in the first state.
+abbrev pub RankedBy : List TypedProcedure → ℕ → Head → Acts → Rational × Form → Type 0
+RankedBy ps p h b r = (s : List Val) → IsState (procedure_at ps p) s → (n : ℕ) (t : Tree) → finite r.0 *ᵛ turns_sum h.number (runs ps n (at_test p h b s) t) ≤ᵛ value r.1 (environment s) Choices.stop
+
+-- The turns bound of a loop: that of its ranking, where it has one.
+abbrev pub TurnsBound : List TypedProcedure → ℕ → Head → Acts → Type 0
+TurnsBound ps p h b = ranked h.rank
+  where
+    ranked : Option (Rational × Form) → Type 0
+    ranked None = Unit {0}
+    ranked (Some r) = RankedBy ps p h b r

@@ -1,0 +1,10 @@
+pub mod Configurations
+pub mod Step
+pub mod Scheduler
+pub mod Runs
+pub mod Sums
+pub mod Bound
+pub mod RunLaws
+pub mod Names
+pub mod BoundedStep
+pub mod Continuing

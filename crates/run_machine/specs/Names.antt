@@ -1,0 +1,133 @@
+-- The configurations that the program holds, which name acts by their places, read as those of the definition.
+use Rattle.std.specs.Prelude.{◌≡◌, ◌+◌, ◌<◌, ◌^◌, ℕ, true, false, List, [], ◌∷◌, Option, Some, None, map, length, reverse, get_or}
+use Rattle.std.specs.Borrow.{Bor}
+use Prim.Native.Nat.{zero, suc}
+use Rattle.heyvl_num.specs.Value.{Value}
+use Rattle.heyvl_num.specs.Extended as extended
+use Rattle.heylo_formula.specs.declared.values.Val.{Val}
+use Rattle.heyvl_types.specs.Acts.{Act, Acts, TypedProcedure, types_of, acts_in, procedure_at}
+use Rattle.heyvl_types.specs.Places.{act_named, in_order, inside}
+use Rattle.run_machine.specs.declared.configurations.Item as I
+use Rattle.run_machine.specs.declared.configurations.Item.TheVariants.{Do, Turn, Out, Back}
+use Rattle.run_machine.specs.declared.configurations.Frame as F
+use Rattle.run_machine.specs.declared.configurations.Config as C
+use Rattle.run_machine.specs.declared.configurations.Decide.{Decide}
+use Rattle.run_machine.specs.declared.configurations.Decide.TheVariants.{Left, Right, Give}
+use Rattle.run_machine.specs.Configurations.{Item, Frame, Config}
+use Rattle.run_machine.specs.Step.{Decision}
+
+-- A place names the act that stands there in the text of the procedure's body.
+abbrev pub Names : List TypedProcedure → ℕ → ℕ → Act → Type 0
+Names ps p place a = act_named ps p place ≡ Some a
+
+-- An item of the program, which goes by numbers.
+abbrev pub Numbered : Type 0
+Numbered = I.Item
+
+-- Where no act is named, the item stands for a return.
+abbrev pub act_item : Option Act → Item
+act_item (Some a) = Item.act a
+act_item None = Item.back
+
+abbrev pub turn_item : Option Act → Item
+turn_item (Some (Act.loop h b)) = Item.turn h b
+turn_item (Some (Act.set x t span)) = Item.back
+turn_item (Some (Act.draw x ps span)) = Item.back
+turn_item (Some (Act.any x up ty span)) = Item.back
+turn_item (Some (Act.reward f span)) = Item.back
+turn_item (Some (Act.ifs arms e span)) = Item.back
+turn_item (Some (Act.pick up a b span)) = Item.back
+turn_item (Some (Act.check kind f span)) = Item.back
+turn_item (Some (Act.validate co span)) = Item.back
+turn_item (Some (Act.call xs p es span)) = Item.back
+turn_item None = Item.back
+
+-- The item of the definition that an item of the program names.
+abbrev pub item_of : List TypedProcedure → Numbered → Item
+item_of ps (Do p place) = act_item (act_named ps p place)
+item_of ps (Turn p place) = turn_item (act_named ps p place)
+item_of ps (Out p x) = Item.out x (types_of (procedure_at ps p) x)
+item_of ps (Back p place) = Item.back
+
+abbrev pub items_of : List TypedProcedure → List Numbered → List Item
+items_of ps is = map (item_of ps) is
+
+-- The targets and the procedure of a call; none and the first procedure where the act is no call.
+abbrev pub call_parts : Option Act → List ℕ × ℕ
+call_parts (Some (Act.call xs p es span)) = (xs, p)
+call_parts (Some (Act.set x t span)) = ([], 0)
+call_parts (Some (Act.draw x ps span)) = ([], 0)
+call_parts (Some (Act.any x up ty span)) = ([], 0)
+call_parts (Some (Act.reward f span)) = ([], 0)
+call_parts (Some (Act.ifs arms e span)) = ([], 0)
+call_parts (Some (Act.pick up a b span)) = ([], 0)
+call_parts (Some (Act.check kind f span)) = ([], 0)
+call_parts (Some (Act.validate co span)) = ([], 0)
+call_parts (Some (Act.loop h b)) = ([], 0)
+call_parts None = ([], 0)
+
+-- The call from which an item returns.
+abbrev pub call_of : List TypedProcedure → Numbered → List ℕ × ℕ
+call_of ps (Back p place) = call_parts (act_named ps p place)
+call_of ps (Do p place) = ([], 0)
+call_of ps (Turn p place) = ([], 0)
+call_of ps (Out p x) = ([], 0)
+
+-- The call from which a list of items returns at its end.
+abbrev pub last_call : List TypedProcedure → List Numbered → List ℕ × ℕ
+last_call ps [] = ([], 0)
+last_call ps (i ∷ []) = call_of ps i
+last_call ps (i ∷ (j ∷ is)) = last_call ps (j ∷ is)
+
+-- The items and the state of a frame.
+abbrev pub Lists : Type 0
+Lists = List Numbered × List Val
+
+abbrev pub lists_of : F.Frame → Lists
+lists_of f = (f.items.items, f.state.items)
+
+-- What a configuration of the program holds, its vectors as lists.
+pub record Stored : Type 0 where
+  pub procedure : ℕ
+  pub items : List Numbered
+  pub state : List Val
+  pub frames : List Lists
+  pub reward : Value
+  pub turns : List ℕ
+  pub made : ℕ
+
+abbrev pub stored : C.Config → Stored
+stored c = record { procedure = c.proc; items = c.items.items; state = c.state.items; frames = map lists_of c.frames.items; reward = extended.value_of c.reward; turns = c.turns.items; made = c.made }
+
+-- The callers, the last one first: the list of items above each tells its call.
+abbrev pub callers : List TypedProcedure → List Numbered → List Lists → List Frame
+callers ps above [] = []
+callers ps above (f ∷ fs) = record { items = items_of ps f.0; state = f.1; targets = (last_call ps above).0; callee = (last_call ps above).1 } ∷ callers ps f.0 fs
+
+-- The turns of the loops, which are numbered from 1.
+abbrev pub turns_of : List ℕ → ℕ → ℕ
+turns_of ts zero = 0
+turns_of ts (suc n) = get_or ts n 0
+
+-- The configuration of the definition.
+abbrev pub config_of : List TypedProcedure → Stored → Config
+config_of ps c = record { procedure = c.procedure; items = items_of ps c.items; frames = callers ps c.items (reverse c.frames); state = c.state; reward = c.reward; turns = turns_of c.turns }
+
+-- The decision of the definition.
+abbrev pub decision_of : Option (Bor Decide) → Decision
+decision_of None = Decision.none
+decision_of (Some d) = decided d.now
+  where
+    decided : Decide → Decision
+    decided Left = Decision.side true
+    decided Right = Decision.side false
+    decided (Give v) = Decision.given v
+
+-- The items of the acts of a list whose first act stands at this place.
+abbrev pub numbered : ℕ → ℕ → Acts → List Numbered
+numbered p place Acts.done = []
+numbered p place (Acts.next a rest) = Do p place ∷ numbered p (place + suc (length (inside a))) rest
+
+-- Each body has fewer acts than a place can count.
+abbrev pub HasFewActs : List TypedProcedure → Type 0
+HasFewActs ps = (p : ℕ) → length (in_order (acts_in (procedure_at ps p).body)) < 2 ^ 31

@@ -1,0 +1,29 @@
+-- Schedulers: a tree with a decision for each step, and below it a tree for each outcome of the step. So a scheduler is
+-- deterministic and may depend on the whole history of a run. Where a tree is missing, no decision is made.
+-- Source: this project's own.
+use Rattle.run_machine.specs.Step.{Decision}
+
+mutual
+  pub data Tree : Type 0 where
+    leaf : Tree
+    node : Decision → Forest → Tree
+
+  pub data Forest : Type 0 where
+    no_trees : Forest
+    trees : Tree → Forest → Forest
+
+abbrev pub decision : Tree → Decision
+decision Tree.leaf = Decision.none
+decision (Tree.node d ts) = d
+
+abbrev pub under : Tree → Forest
+under Tree.leaf = Forest.no_trees
+under (Tree.node d ts) = ts
+
+abbrev pub first : Forest → Tree
+first Forest.no_trees = Tree.leaf
+first (Forest.trees t ts) = t
+
+abbrev pub rest : Forest → Forest
+rest Forest.no_trees = Forest.no_trees
+rest (Forest.trees t ts) = ts

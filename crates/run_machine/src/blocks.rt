@@ -1,0 +1,59 @@
+//! Items for the acts of a block, by their places.
+
+ghost use Rattle.std.specs.Prelude.{◌≡◌, ◌+◌, ◌++◌, ◌<◌, ◌^◌, length, OnOk};
+ghost use Rattle.heyvl_types.specs.PlainActs.{act_of, acts_of};
+ghost use Rattle.heyvl_types.specs.Places.{in_order, inside};
+ghost use Rattle.run_machine.specs.Names.{numbered};
+
+use crate::configurations::Item;
+use heyvl_types::Act;
+use std::alloc::AllocError;
+
+/// How many acts these are, those inside them included, where a u32 can tell.
+#[cycle(counting)]
+pub(crate) fn size(acts: &[Act]) -> u32
+    ensures { length (in_order (acts_of acts.now)) < 2 ^ 31 → result ≡ length (in_order (acts_of acts.now)) }
+{
+    let mut total: u32 = 0;
+    for act in acts {
+        total = total.saturating_add(1).saturating_add(inside_size(act));
+    }
+    total
+}
+
+/// How many acts are inside one, where a u32 can tell.
+#[cycle(counting)]
+fn inside_size(act: &Act) -> u32
+    ensures { length (inside (act_of act.now)) < 2 ^ 31 → result ≡ length (inside (act_of act.now)) }
+{
+    match act {
+        Act::If(arms, other, _) => {
+            let mut total: u32 = size(other);
+            for arm in arms {
+                total = total.saturating_add(size(&arm.1));
+            }
+            total
+        }
+        Act::Pick(_, left, right, _) => size(left).saturating_add(size(right)),
+        Act::Loop(one) => size(&one.body),
+        _ => 0,
+    }
+}
+
+/// The items of a block are appended, whose first act stands at this place.
+pub(crate) fn push_block(
+    items: &mut Vec<Item>,
+    p: u32,
+    place: u32,
+    acts: &[Act],
+) -> Result<(), AllocError>
+    requires { place + length (in_order (acts_of acts.now)) < 2 ^ 31 }
+    ensures { OnOk result (items.new.items ≡ items.old.items ++ numbered p place (acts_of acts.now)) }
+{
+    let mut at = place;
+    for act in acts {
+        items.push(Item::Do(p, at))?;
+        at += 1 + inside_size(act);
+    }
+    Ok(())
+}

@@ -1,0 +1,112 @@
+//! The steps of the acts that hold no others.
+
+ghost use Rattle.std.specs.Prelude.{◌≡◌, List, IfOk, is_some, set, drop, true};
+ghost use Rattle.heylo_formula.specs.PlainTrees.{form_of, term_of};
+ghost use Rattle.heylo_formula.specs.Choices.{Choices};
+ghost use Rattle.heylo_formula.specs.Meaning.{term_value, value};
+ghost use Rattle.heylo_formula.specs.State.{environment, fit};
+ghost use Rattle.heyvl_num.specs.ExactValues.{exact_sumᵛ};
+ghost use Rattle.heyvl_num.specs.Extended.{value_of as number_of};
+ghost use Rattle.heyvl_types.specs.Acts.{TypedProcedure};
+ghost use Rattle.heyvl_types.specs.PlainActs.{parts_of};
+ghost use Rattle.quant_algebra.specs.ExactMeaning.{exact_value};
+ghost use Rattle.quant_algebra.specs.ExactOperators.{and_then};
+ghost use Rattle.run_machine.specs.BoundedStep.{answer_of, bounded, exact_term, parts_fit};
+ghost use Rattle.run_machine.specs.Continuing.{Continues};
+ghost use Rattle.run_machine.specs.Names.{stored, config_of, items_of};
+ghost use Rattle.run_machine.specs.Step.{sure, moved, rewarded, branches};
+
+use crate::configurations::{Config, Stepped};
+use crate::copies::without_first;
+use crate::evaluation::{assign, term_at};
+use crate::limits::{for_sure, limited};
+use heylo_formula::{Form, Term, Val};
+use heyvl_num::Frac;
+use quant_algebra::{At, value_at};
+use std::alloc::{AllocError, Global};
+
+/// The step of an assignment.
+pub(crate) fn set_step(
+    alloc: Global,
+    config: &Config,
+    x: u32,
+    term: &Term,
+) -> Result<Stepped, AllocError>
+    requires { Continues (stored config.now) }
+    ensures { IfOk result (λ stepped. (ps : List TypedProcedure) → answer_of ps stepped ≡ bounded (is_some (exact_term (term_of term.now) config.now.state.items)) (sure (moved (config_of ps (stored config.now)) (items_of ps (drop 1 config.now.items.items)) (set config.now.state.items x (term_value (term_of term.now) (environment config.now.state.items)))))) }
+{
+    match term_at(term, &config.state) {
+        None => Ok(Stepped::Bits),
+        Some(value) => value_step(alloc, config, x, value),
+    }
+}
+
+/// The variable takes the value, and the first item is done.
+pub(crate) fn value_step(
+    alloc: Global,
+    config: &Config,
+    x: u32,
+    value: Val,
+) -> Result<Stepped, AllocError>
+    requires { Continues (stored config.now) }
+    ensures { IfOk result (λ stepped. (ps : List TypedProcedure) → answer_of ps stepped ≡ bounded true (sure (moved (config_of ps (stored config.now)) (items_of ps (drop 1 config.now.items.items)) (set config.now.state.items x value)))) }
+{
+    let next = with_value(alloc, config, x, value)?;
+    for_sure(alloc, next)
+}
+
+/// The configuration in which the variable has the value and the first item is done.
+fn with_value(alloc: Global, config: &Config, x: u32, value: Val) -> Result<Config, AllocError>
+    requires { Continues (stored config.now) }
+    ensures { IfOk result (λ next. (ps : List TypedProcedure) → config_of ps (stored next) ≡ moved (config_of ps (stored config.now)) (items_of ps (drop 1 config.now.items.items)) (set config.now.state.items x value)) }
+{
+    let mut next = without_first(alloc, config)?;
+    assign(&mut next.state, x, value);
+    Ok(next)
+}
+
+/// The step of a draw: one outcome for each part, in their order, those of weight 0 too.
+pub(crate) fn draw_step(
+    alloc: Global,
+    config: &Config,
+    x: u32,
+    parts: &[(Frac, Term)],
+) -> Result<Stepped, AllocError>
+    requires { Continues (stored config.now) }
+    ensures { IfOk result (λ stepped. (ps : List TypedProcedure) → answer_of ps stepped ≡ bounded (parts_fit (parts_of parts.now) config.now.state.items) (branches (config_of ps (stored config.now)) (items_of ps (drop 1 config.now.items.items)) x (parts_of parts.now))) }
+{
+    let mut outcomes = Vec::new(alloc);
+    for part in parts {
+        match term_at(&part.1, &config.state) {
+            None => return Ok(Stepped::Bits),
+            Some(value) => {
+                let next = with_value(alloc, config, x, value)?;
+                outcomes.push((part.0, next))?;
+            }
+        }
+    }
+    Ok(limited(outcomes))
+}
+
+/// The step of a reward.
+pub(crate) fn reward_step(
+    alloc: Global,
+    config: &Config,
+    form: &Form,
+) -> Result<Stepped, AllocError>
+    requires { Continues (stored config.now) }
+    ensures { IfOk result (λ stepped. (ps : List TypedProcedure) → answer_of ps stepped ≡ bounded (is_some (and_then (exact_value (form_of form.now) config.now.state.items) (λ v. exact_sumᵛ (number_of config.now.reward) v))) (sure (rewarded (config_of ps (stored config.now)) (items_of ps (drop 1 config.now.items.items)) (value (form_of form.now) (environment config.now.state.items) Choices.stop)))) }
+{
+    let collected = match value_at(form, &config.state) {
+        At::Bits => return Ok(Stepped::Bits),
+        At::Value(value) => value,
+    };
+    match config.reward.add(&collected) {
+        None => Ok(Stepped::Bits),
+        Some(reward) => {
+            let mut next = without_first(alloc, config)?;
+            next.reward = reward;
+            for_sure(alloc, next)
+        }
+    }
+}

@@ -1,0 +1,77 @@
+//! The first configuration of a run.
+
+ghost use Rattle.std.specs.Prelude.{◌≡◌, ◌<◌, ◌++◌, ◌^◌, ℕ, IfOk, OnOk, length, replicate};
+ghost use Rattle.heyvl_num.specs.Rational.{zeroʳ};
+ghost use Rattle.heyvl_types.specs.Acts.{acts_in, procedure_at};
+ghost use Rattle.heyvl_types.specs.PlainActs.{procedures_of};
+ghost use Rattle.run_machine.specs.Configurations.{begin as begin_of};
+ghost use Rattle.run_machine.specs.Names.{HasFewActs, stored, config_of, numbered};
+
+use crate::blocks::push_block;
+use crate::configurations::{Config, Item};
+use heylo_formula::Val;
+use heyvl_num::{Ext, Frac};
+use heyvl_types::Typed;
+use std::alloc::{AllocError, Global};
+
+/// The first configuration of the procedure's body in a state, with no decision made. Of a procedure that isn't there, or
+/// has no body, it has ended.
+pub fn begin(alloc: Global, typed: &Typed, p: u32, state: &[Val]) -> Result<Config, AllocError>
+    requires { HasFewActs (procedures_of typed.now) }
+    ensures first { IfOk result (λ first. config_of (procedures_of typed.now) (stored first) ≡ begin_of (procedures_of typed.now) p state.now) }
+    ensures turns { IfOk result (λ first. first.turns.items ≡ replicate (procedure_at (procedures_of typed.now) p).loops 0) }
+    ensures made { IfOk result (λ first. first.made ≡ 0) }
+{
+    let mut items = Vec::new(alloc);
+    push_body(&mut items, typed, p)?;
+    Ok(Config {
+        proc: p,
+        items,
+        state: Vec::from_slice(alloc, state)?,
+        frames: Vec::new(alloc),
+        reward: Ext::Fin(zero()),
+        turns: no_turns(alloc, loops_of(typed, p))?,
+        made: 0,
+    })
+}
+
+/// The items of a procedure's body are appended.
+pub(crate) fn push_body(items: &mut Vec<Item>, typed: &Typed, p: u32) -> Result<(), AllocError>
+    requires { HasFewActs (procedures_of typed.now) }
+    ensures { OnOk result (items.new.items ≡ items.old.items ++ numbered p 0 (acts_in (procedure_at (procedures_of typed.now) p).body)) }
+{
+    match typed.procs.get(p as usize) {
+        None => Ok(()),
+        Some(procedure) => match &procedure.body {
+            None => Ok(()),
+            Some(acts) => push_block(items, p, 0, acts),
+        },
+    }
+}
+
+/// How many loops the procedure has; none where it isn't there.
+fn loops_of(typed: &Typed, p: u32) -> u32
+    ensures { result ≡ (procedure_at (procedures_of typed.now) p).loops }
+{
+    match typed.procs.get(p as usize) {
+        None => 0,
+        Some(procedure) => procedure.loops,
+    }
+}
+
+/// No turn of so many loops.
+fn no_turns(alloc: Global, loops: u32) -> Result<Vec<u64>, AllocError>
+    ensures { IfOk result (λ turns. turns.items ≡ replicate loops 0) }
+{
+    let mut turns = Vec::new(alloc);
+    for _ in 0..loops {
+        turns.push(0)?;
+    }
+    Ok(turns)
+}
+
+fn zero() -> Frac
+    ensures { result ≡ zeroʳ }
+{
+    Frac::new(0, 1).unwrap()
+}
