@@ -17,3 +17,4 @@ mod PrenexedOver
 mod BinderCounts
 mod MadeGoals
 mod GeneratedOver
+mod TypedParts

@@ -10,7 +10,7 @@ use Rattle.heylo_formula.specs.Binders.{has_binder, has_binder_in}
 use Rattle.heylo_formula.specs.Typing.{NumberType, Types, type_of, joined, is_unsigned, is_finite_type, only_if, scale_type, cut_type, difference_type, is_well_typed, retyped, IsFormula}
 use Rattle.heylo_formula.specs.declared.types.Ty.{Ty}
 use Rattle.heylo_formula.proofs.exported.Agreement.{or_false}
-use Rattle.heylo_formula.proofs.TypedValues.{joined_parts, only_parts, only_part, scaled_part}
+use Rattle.vp_generator.proofs.TypedParts.{joined_parts, only_parts, only_part, scaled_part}
 use Rattle.vp_generator.specs.PrenexLaws.{TypesFrom}
 use Rattle.heylo_formula.specs.BinderNames.{Binder, binders, binders_in}
 use Rattle.vp_generator.specs.Prenexed.{Numbering, renumbered, unbound, unbound_in}
