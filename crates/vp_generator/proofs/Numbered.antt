@@ -6,7 +6,7 @@ use Rattle.heylo_formula.specs.declared.forms.Cond as C
 use Rattle.heylo_formula.specs.declared.forms.Form as F
 use Rattle.heylo_formula.specs.Formula.{Form, Cond}
 use Rattle.heylo_formula.specs.PlainTrees.{form_of, cond_of}
-use Rattle.heylo_formula.proofs.Mirrors.{select_form, ite_cond}
+use Rattle.heylo_formula.proofs.exported.Mirrors.{select_form, ite_cond}
 use Rattle.heylo_formula.specs.BinderNames.{Binder, binders, binders_in}
 use Rattle.vp_generator.specs.Prenexed.{Numbering, unbound, unbound_in}
 
