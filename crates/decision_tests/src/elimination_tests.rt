@@ -2,9 +2,9 @@ ghost use Rattle.std.specs.Prelude.{IfOk};
 ghost use Rattle.std.specs.List.{All};
 ghost use Rattle.linear_form.specs.Row.{IsRow};
 
-use linear_elim::Elim;
 use crate::test_rows::{Given, answer, at_most, found};
 use heylo_formula::Ty;
+use linear_elim::Elim;
 use linear_form::Row;
 use std::alloc::{AllocError, Global};
 use std::test::Fail;

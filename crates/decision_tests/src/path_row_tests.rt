@@ -1,8 +1,8 @@
 use crate::fractions::zero;
 use crate::question_answers::{flag, number, path_with, x, y};
-use linear_form::{Row, RowList, rows};
 use heylo_formula::{Cond, Form, Goal, Ty};
 use heyvl_num::{Ext, Frac};
+use linear_form::{Row, RowList, rows};
 use std::alloc::{AllocError, Global};
 
 /// A row: the coefficients of the variables 0 and 1, the constant, and whether it is strict.

@@ -1,7 +1,7 @@
 use crate::test_rows::{Given, found};
-use linear_elim::{Broken, Elim};
 use heylo_formula::{Ty, Val};
 use heyvl_num::Frac;
+use linear_elim::{Broken, Elim};
 use std::alloc::{AllocError, Global};
 use std::test::Fail;
 

@@ -1,7 +1,7 @@
-use linear_form::nonlinear;
 use heylo_formula::{Cond, Form, Goal};
 use heyvl_num::{Ext, Frac};
 use heyvl_syntax::Span;
+use linear_form::nonlinear;
 use std::alloc::{AllocError, Global};
 
 fn place(from: u32) -> Span {

@@ -5,9 +5,9 @@ ghost use Rattle.heylo_formula.specs.Goals.{goal_of};
 ghost use Rattle.linear_form.specs.Paths.{IsPath};
 ghost use Rattle.linear_form.specs.PlainPaths.{path_of};
 
-use linear_form::{Ask, Atom, Lin, Taken, ask};
 use heylo_formula::{Cond, Form, Goal, Ty};
 use heyvl_num::{Ext, Frac};
+use linear_form::{Ask, Atom, Lin, Taken, ask};
 use std::alloc::{AllocError, Global};
 
 /// What stands at the end of a path. Three numbers are the coefficients of the variables 0 and 1 and the constant.

@@ -5,8 +5,8 @@ ghost use Rattle.linear_form.specs.Row.{IsRow};
 ghost use Rattle.heylo_formula.specs.Typing.{types_in};
 ghost use Rattle.linear_form.specs.RowLists.{is_numeric, IsNumericRow};
 
-use linear_elim::{Elim, eliminate};
 use heylo_formula::Ty;
+use linear_elim::{Elim, eliminate};
 use linear_form::Row;
 use std::alloc::{AllocError, Global};
 

@@ -3,9 +3,9 @@ ghost use Rattle.linear_form.specs.Lin.{AreNormal};
 ghost use Rattle.linear_form.specs.PlainPaths.{lin_of};
 
 use crate::fractions::{is_zero, zero};
-use linear_form::{Lin, Row, tightened};
 use heylo_formula::Ty;
 use heyvl_num::Frac;
+use linear_form::{Lin, Row, tightened};
 use std::alloc::{AllocError, Global};
 
 /// Numerator and denominator.
