@@ -1,9 +1,10 @@
 use crate::question_answers::Shown::{self, *};
 use crate::question_answers::{answer_of, flag, goal, infinity, is, number, x, y};
-use heylo_formula::{Cond, Form};
+use heylo_formula::{Cond, Form, Goal};
 use heyvl_num::{Ext, Frac};
 use heyvl_syntax::Span;
 use std::alloc::{AllocError, Global};
+use std::process::Abort;
 
 const PLACE: Span = Span { from: 0, to: 1 };
 
@@ -59,10 +60,35 @@ fn after(alloc: Global, form: Form, answers: &[bool]) -> Result<Shown, AllocErro
     answer_of(alloc, &goal(alloc, form, found), answers)
 }
 
+/// Whether this stands there after these answers.
+fn is_after(
+    alloc: Global,
+    by: Operator,
+    a: Part,
+    b: Part,
+    answers: &[bool],
+    wanted: Shown,
+) -> Result<bool, AllocError> {
+    Ok(is(after(alloc, joined(alloc, by, a, b)?, answers)?, wanted))
+}
+
+/// An operator, its parts, and what stands there.
+type Row = (Operator, Part, Part, Shown);
+
+/// What operators give that ask nothing.
+fn check_unasked(rt: &(impl Abort + AllocGlobal), rows: &[Row]) -> Result<(), AllocError> {
+    let alloc = rt.alloc();
+    for (by, a, b, value) in rows {
+        assert!(rt; is_after(alloc, *by, *a, *b, &[], *value)?);
+        // nothing was asked
+        assert!(rt; is_after(alloc, *by, *a, *b, &[true], TooManyAnswers)?);
+    }
+    Ok(())
+}
+
 /// 0, infinity and the variables, in operators that ask nothing.
 #[test]
 fn operators_that_ask_nothing(rt: HostRuntime) -> Result<(), AllocError> {
-    let alloc = rt.alloc();
     let table: [(Operator, Part, Part, Shown); 28] = [
         (Operator::Sum, Part::X, Part::Y, Value(1, 1, 0)),
         (Operator::Sum, Part::X, Part::Number(-3), Value(1, 0, -3)),
@@ -113,15 +139,20 @@ fn operators_that_ask_nothing(rt: HostRuntime) -> Result<(), AllocError> {
         ),
         (Operator::Cut, Part::X, Part::Infinity, Value(0, 0, 0)),
     ];
-    for (by, a, b, value) in table {
-        assert!(rt; is(after(alloc, joined(alloc, by, a, b)?, &[])?, value));
-        // nothing was asked
-        assert!(rt;
-            is(
-                after(alloc, joined(alloc, by, a, b)?, &[true])?,
-                TooManyAnswers
-            )
-        );
+    check_unasked(&rt, &table)
+}
+
+/// What operators ask that compare once, and what they give.
+fn check_asked(
+    rt: &(impl Abort + AllocGlobal),
+    rows: &[(Operator, Part, Part, Shown, Shown, Shown)],
+) -> Result<(), AllocError> {
+    let alloc = rt.alloc();
+    for (by, a, b, question, yes, no) in rows {
+        assert!(rt; is_after(alloc, *by, *a, *b, &[], *question)?);
+        assert!(rt; is_after(alloc, *by, *a, *b, &[true], *yes)?);
+        assert!(rt; is_after(alloc, *by, *a, *b, &[false], *no)?);
+        assert!(rt; is_after(alloc, *by, *a, *b, &[true, true], TooManyAnswers)?);
     }
     Ok(())
 }
@@ -129,7 +160,6 @@ fn operators_that_ask_nothing(rt: HostRuntime) -> Result<(), AllocError> {
 /// The question, the value where it holds, and the value where it doesn't.
 #[test]
 fn operators_that_compare(rt: HostRuntime) -> Result<(), AllocError> {
-    let alloc = rt.alloc();
     let table: [(Operator, Part, Part, Shown, Shown, Shown); 10] = [
         // y <= x
         (
@@ -217,24 +247,12 @@ fn operators_that_compare(rt: HostRuntime) -> Result<(), AllocError> {
             Value(0, 1, 0),
         ),
     ];
-    for (by, a, b, question, yes, no) in table {
-        assert!(rt; is(after(alloc, joined(alloc, by, a, b)?, &[])?, question));
-        assert!(rt; is(after(alloc, joined(alloc, by, a, b)?, &[true])?, yes));
-        assert!(rt; is(after(alloc, joined(alloc, by, a, b)?, &[false])?, no));
-        assert!(rt;
-            is(
-                after(alloc, joined(alloc, by, a, b)?, &[true, true])?,
-                TooManyAnswers
-            )
-        );
-    }
-    Ok(())
+    check_asked(&rt, &table)
 }
 
 /// A comparison without variables is answered at once.
 #[test]
 fn constants_are_compared_at_once(rt: HostRuntime) -> Result<(), AllocError> {
-    let alloc = rt.alloc();
     let two = Part::Number(2);
     let five = Part::Number(5);
     let table: [(Operator, Part, Part, Shown); 16] = [
@@ -256,16 +274,7 @@ fn constants_are_compared_at_once(rt: HostRuntime) -> Result<(), AllocError> {
         (Operator::Min, Part::X, Part::X, Value(1, 0, 0)),
         (Operator::Imply, Part::X, Part::X, Infinity),
     ];
-    for (by, a, b, value) in table {
-        assert!(rt; is(after(alloc, joined(alloc, by, a, b)?, &[])?, value));
-        assert!(rt;
-            is(
-                after(alloc, joined(alloc, by, a, b)?, &[true])?,
-                TooManyAnswers
-            )
-        );
-    }
-    Ok(())
+    check_unasked(&rt, &table)
 }
 
 fn scaled(alloc: Global, w: i128, a: Part) -> Result<Form, AllocError> {
@@ -276,108 +285,100 @@ fn scaled(alloc: Global, w: i128, a: Part) -> Result<Form, AllocError> {
     })
 }
 
+/// Answers, and what stands there after them.
+type Answered = (&'static [bool], Shown);
+
+/// What a goal asks, or is, after each of these answers.
+fn check_goal(
+    rt: &(impl Abort + AllocGlobal),
+    goal: &Goal,
+    rows: &[Answered],
+) -> Result<(), AllocError> {
+    for (answers, wanted) in rows {
+        assert!(rt; is(answer_of(rt.alloc(), goal, answers)?, *wanted));
+    }
+    Ok(())
+}
+
+/// What a form asks, or is, after each of these answers.
+fn check_form(
+    rt: &(impl Abort + AllocGlobal),
+    form: Form,
+    rows: &[Answered],
+) -> Result<(), AllocError> {
+    check_goal(rt, &goal(rt.alloc(), form, Form::Const(Ext::Inf)), rows)
+}
+
+/// A weight, a part, and their product.
+const SCALED: [(i128, Part, Shown); 4] = [
+    (3, Part::X, Value(3, 0, 0)),
+    (0, Part::X, Value(0, 0, 0)),
+    (3, Part::Infinity, Infinity),
+    (0, Part::Infinity, Value(0, 0, 0)),
+];
+
+fn check_scaled(
+    rt: &(impl Abort + AllocGlobal),
+    rows: &[(i128, Part, Shown)],
+) -> Result<(), AllocError> {
+    let alloc = rt.alloc();
+    for (weight, part, wanted) in rows {
+        assert!(rt; is(after(alloc, scaled(alloc, *weight, *part)?, &[])?, *wanted));
+    }
+    Ok(())
+}
+
+#[test]
+fn multiples(rt: HostRuntime) -> Result<(), AllocError> {
+    check_scaled(&rt, &SCALED)
+}
+
+/// What validate is of a part, and what covalidate asks, or is, of it.
+const VALIDATED: [(Part, Shown, Shown); 4] = [
+    (Part::X, Value(0, 0, 0), AtMost(1, 0, 0)),
+    (Part::Number(0), Value(0, 0, 0), Value(0, 0, 0)),
+    (Part::Number(2), Value(0, 0, 0), Infinity),
+    (Part::Infinity, Infinity, Infinity),
+];
+
+fn check_validated(
+    rt: &(impl Abort + AllocGlobal),
+    rows: &[(Part, Shown, Shown)],
+) -> Result<(), AllocError> {
+    let alloc = rt.alloc();
+    for (part, validate, covalidate) in rows {
+        let found = after(alloc, Form::Validate(form(alloc, *part)?), &[])?;
+        assert!(rt; is(found, *validate));
+        let found = after(alloc, Form::CoValidate(form(alloc, *part)?), &[])?;
+        assert!(rt; is(found, *covalidate));
+    }
+    Ok(())
+}
+
+const EMBEDDED: [Answered; 3] = [
+    (&[], Truth(3)),
+    (&[true], Infinity),
+    (&[false], Value(0, 0, 0)),
+];
+
 #[test]
 fn operators_of_one_part(rt: HostRuntime) -> Result<(), AllocError> {
     let alloc = rt.alloc();
-    assert!(rt;
-        is(
-            after(alloc, scaled(alloc, 3, Part::X)?, &[])?,
-            Value(3, 0, 0)
-        )
-    );
-    assert!(rt;
-        is(
-            after(alloc, scaled(alloc, 0, Part::X)?, &[])?,
-            Value(0, 0, 0)
-        )
-    );
-    assert!(rt;
-        is(
-            after(alloc, scaled(alloc, 3, Part::Infinity)?, &[])?,
-            Infinity
-        )
-    );
-    assert!(rt;
-        is(
-            after(alloc, scaled(alloc, 0, Part::Infinity)?, &[])?,
-            Value(0, 0, 0)
-        )
-    );
-    assert!(rt;
-        is(
-            after(alloc, Form::Validate(x(alloc)?), &[])?,
-            Value(0, 0, 0)
-        )
-    );
-    assert!(rt;
-        is(
-            after(alloc, Form::Validate(infinity(alloc)?), &[])?,
-            Infinity
-        )
-    );
-    assert!(rt;
-        is(
-            after(alloc, Form::CoValidate(x(alloc)?), &[])?,
-            AtMost(1, 0, 0)
-        )
-    );
-    assert!(rt;
-        is(
-            after(alloc, Form::CoValidate(x(alloc)?), &[true])?,
-            Value(0, 0, 0)
-        )
-    );
-    assert!(rt;
-        is(
-            after(alloc, Form::CoValidate(x(alloc)?), &[false])?,
-            Infinity
-        )
-    );
-    assert!(rt;
-        is(
-            after(alloc, Form::CoValidate(number(alloc, 0)?), &[])?,
-            Value(0, 0, 0)
-        )
-    );
-    assert!(rt;
-        is(
-            after(alloc, Form::CoValidate(number(alloc, 2)?), &[])?,
-            Infinity
-        )
-    );
-    assert!(rt;
-        is(
-            after(alloc, Form::CoValidate(infinity(alloc)?), &[])?,
-            Infinity
-        )
-    );
-    assert!(rt; is(after(alloc, Form::Embed(flag(alloc, 3)?), &[])?, Truth(3)));
-    assert!(rt;
-        is(
-            after(alloc, Form::Embed(flag(alloc, 3)?), &[true])?,
-            Infinity
-        )
-    );
-    assert!(rt;
-        is(
-            after(alloc, Form::Embed(flag(alloc, 3)?), &[false])?,
-            Value(0, 0, 0)
-        )
-    );
-    assert!(rt; is(after(alloc, Form::Iverson(flag(alloc, 3)?), &[])?, Truth(3)));
-    assert!(rt;
-        is(
-            after(alloc, Form::Iverson(flag(alloc, 3)?), &[true])?,
-            Value(0, 0, 1)
-        )
-    );
-    assert!(rt;
-        is(
-            after(alloc, Form::Iverson(flag(alloc, 3)?), &[false])?,
-            Value(0, 0, 0)
-        )
-    );
-    Ok(())
+    check_validated(&rt, &VALIDATED)?;
+    let covalidate = Form::CoValidate(x(alloc)?);
+    check_form(
+        &rt,
+        covalidate,
+        &[(&[true], Value(0, 0, 0)), (&[false], Infinity)],
+    )?;
+    let embed = Form::Embed(flag(alloc, 3)?);
+    check_form(&rt, embed, &EMBEDDED)?;
+    let iverson = Form::Iverson(flag(alloc, 3)?);
+    check_form(
+        &rt,
+        iverson,
+        &[(&[], Truth(3)), (&[true], YES), (&[false], NO)],
+    )
 }
 
 /// A condition, as the bracket of a goal: 1 where it holds, else 0.
@@ -389,209 +390,261 @@ fn constant(alloc: Global, holds: bool) -> Result<Box<Cond>, AllocError> {
     Ok(Box::new(alloc, Cond::Const(holds))?)
 }
 
-/// What a condition asks, or whether it holds, as 1 or 0, after these answers.
-fn tested(alloc: Global, test: Cond, answers: &[bool]) -> Result<Shown, AllocError> {
-    after(alloc, bracket(alloc, test)?, answers)
+/// What a condition asks, or whether it holds, as 1 or 0, after each of these answers.
+fn check_test(
+    rt: &(impl Abort + AllocGlobal),
+    test: Cond,
+    rows: &[Answered],
+) -> Result<(), AllocError> {
+    check_form(rt, bracket(rt.alloc(), test)?, rows)
 }
 
 const YES: Shown = Value(0, 0, 1);
 
 const NO: Shown = Value(0, 0, 0);
 
-#[test]
-fn comparisons(rt: HostRuntime) -> Result<(), AllocError> {
-    let alloc = rt.alloc();
-    assert!(rt;
-        is(
-            tested(alloc, Cond::Le(x(alloc)?, y(alloc)?), &[])?,
-            AtMost(1, -1, 0)
-        )
-    );
-    assert!(rt; is(tested(alloc, Cond::Le(x(alloc)?, y(alloc)?), &[true])?, YES));
-    assert!(rt; is(tested(alloc, Cond::Le(x(alloc)?, y(alloc)?), &[false])?, NO));
-    assert!(rt;
-        is(
-            tested(alloc, Cond::Lt(x(alloc)?, y(alloc)?), &[])?,
-            Below(1, -1, 0)
-        )
-    );
-    assert!(rt; is(tested(alloc, Cond::Lt(x(alloc)?, y(alloc)?), &[true])?, YES));
-    assert!(rt; is(tested(alloc, Cond::Lt(x(alloc)?, y(alloc)?), &[false])?, NO));
+/// A comparison of two parts.
+#[derive(Clone, Copy)]
+enum Comparison {
+    AtMost,
+    Below,
+    Equal,
+}
+
+fn compared(alloc: Global, by: Comparison, a: Part, b: Part) -> Result<Cond, AllocError> {
+    let left = form(alloc, a)?;
+    let right = form(alloc, b)?;
+    Ok(match by {
+        Comparison::AtMost => Cond::Le(left, right),
+        Comparison::Below => Cond::Lt(left, right),
+        Comparison::Equal => Cond::EqNum(left, right),
+    })
+}
+
+/// Comparisons, answers, and what stands there after them.
+const COMPARISONS: [(Comparison, Part, Part, &[bool], Shown); 18] = [
+    (Comparison::AtMost, Part::X, Part::Y, &[], AtMost(1, -1, 0)),
+    (Comparison::AtMost, Part::X, Part::Y, &[true], YES),
+    (Comparison::AtMost, Part::X, Part::Y, &[false], NO),
+    (Comparison::Below, Part::X, Part::Y, &[], Below(1, -1, 0)),
+    (Comparison::Below, Part::X, Part::Y, &[true], YES),
+    (Comparison::Below, Part::X, Part::Y, &[false], NO),
     // x = y: x <= y, and where that holds, y <= x
-    assert!(rt;
-        is(
-            tested(alloc, Cond::EqNum(x(alloc)?, y(alloc)?), &[])?,
-            AtMost(1, -1, 0)
-        )
-    );
-    assert!(rt;
-        is(
-            tested(alloc, Cond::EqNum(x(alloc)?, y(alloc)?), &[true])?,
-            AtMost(-1, 1, 0)
-        )
-    );
-    assert!(rt;
-        is(
-            tested(alloc, Cond::EqNum(x(alloc)?, y(alloc)?), &[true, true])?,
-            YES
-        )
-    );
-    assert!(rt;
-        is(
-            tested(alloc, Cond::EqNum(x(alloc)?, y(alloc)?), &[true, false])?,
-            NO
-        )
-    );
-    assert!(rt;
-        is(
-            tested(alloc, Cond::EqNum(x(alloc)?, y(alloc)?), &[false])?,
-            NO
-        )
-    );
-    // known without variables: 2 <= 2 and 2 = 2, and not 2 < 2, 3 <= 2 or 3 = 2
-    let two = number(alloc, 2)?;
-    assert!(rt; is(tested(alloc, Cond::Le(two, number(alloc, 2)?), &[])?, YES));
-    assert!(rt;
-        is(
-            tested(alloc, Cond::Lt(number(alloc, 2)?, number(alloc, 2)?), &[])?,
-            NO
-        )
-    );
-    assert!(rt;
-        is(
-            tested(alloc, Cond::Lt(number(alloc, 2)?, number(alloc, 3)?), &[])?,
-            YES
-        )
-    );
-    assert!(rt;
-        is(
-            tested(alloc, Cond::Le(number(alloc, 3)?, number(alloc, 2)?), &[])?,
-            NO
-        )
-    );
-    assert!(rt;
-        is(
-            tested(
-                alloc,
-                Cond::EqNum(number(alloc, 2)?, number(alloc, 2)?),
-                &[]
-            )?,
-            YES
-        )
-    );
-    assert!(rt;
-        is(
-            tested(
-                alloc,
-                Cond::EqNum(number(alloc, 3)?, number(alloc, 2)?),
-                &[]
-            )?,
-            NO
-        )
-    );
-    assert!(rt; is(tested(alloc, Cond::Lt(x(alloc)?, x(alloc)?), &[])?, NO));
+    (Comparison::Equal, Part::X, Part::Y, &[], AtMost(1, -1, 0)),
+    (
+        Comparison::Equal,
+        Part::X,
+        Part::Y,
+        &[true],
+        AtMost(-1, 1, 0),
+    ),
+    (Comparison::Equal, Part::X, Part::Y, &[true, true], YES),
+    (Comparison::Equal, Part::X, Part::Y, &[true, false], NO),
+    (Comparison::Equal, Part::X, Part::Y, &[false], NO),
+    // known without variables
+    (
+        Comparison::AtMost,
+        Part::Number(2),
+        Part::Number(2),
+        &[],
+        YES,
+    ),
+    (Comparison::Below, Part::Number(2), Part::Number(2), &[], NO),
+    (
+        Comparison::Below,
+        Part::Number(2),
+        Part::Number(3),
+        &[],
+        YES,
+    ),
+    (
+        Comparison::AtMost,
+        Part::Number(3),
+        Part::Number(2),
+        &[],
+        NO,
+    ),
+    (
+        Comparison::Equal,
+        Part::Number(2),
+        Part::Number(2),
+        &[],
+        YES,
+    ),
+    (Comparison::Equal, Part::Number(3), Part::Number(2), &[], NO),
+    (Comparison::Below, Part::X, Part::X, &[], NO),
+];
+
+fn check_comparisons(
+    rt: &(impl Abort + AllocGlobal),
+    rows: &[(Comparison, Part, Part, &[bool], Shown)],
+) -> Result<(), AllocError> {
+    let alloc = rt.alloc();
+    for (by, a, b, answers, wanted) in rows {
+        let test = bracket(alloc, compared(alloc, *by, *a, *b)?)?;
+        assert!(rt; is(after(alloc, test, answers)?, *wanted));
+    }
     Ok(())
 }
+
+#[test]
+fn comparisons(rt: HostRuntime) -> Result<(), AllocError> {
+    check_comparisons(&rt, &COMPARISONS)
+}
+
+const BOTH: [Answered; 4] = [
+    (&[], Truth(3)),
+    (&[false], NO),
+    (&[true], Truth(4)),
+    (&[true, true], YES),
+];
+
+const EITHER: [Answered; 3] = [(&[true], YES), (&[false], Truth(4)), (&[false, false], NO)];
+
+/// Both parts of `same` are asked.
+const SAME: [Answered; 3] = [
+    (&[false], Truth(4)),
+    (&[false, false], YES),
+    (&[true, false], NO),
+];
 
 /// The parts of a condition are asked from the left, and only where they are needed.
 #[test]
 fn conditions_of_flags(rt: HostRuntime) -> Result<(), AllocError> {
     let alloc = rt.alloc();
-    let and = Cond::And(flag(alloc, 3)?, flag(alloc, 4)?);
-    assert!(rt; is(tested(alloc, and, &[])?, Truth(3)));
-    let and = Cond::And(flag(alloc, 3)?, flag(alloc, 4)?);
-    assert!(rt; is(tested(alloc, and, &[false])?, NO));
-    let and = Cond::And(flag(alloc, 3)?, flag(alloc, 4)?);
-    assert!(rt; is(tested(alloc, and, &[true])?, Truth(4)));
-    let and = Cond::And(flag(alloc, 3)?, flag(alloc, 4)?);
-    assert!(rt; is(tested(alloc, and, &[true, true])?, YES));
-    let or = Cond::Or(flag(alloc, 3)?, flag(alloc, 4)?);
-    assert!(rt; is(tested(alloc, or, &[true])?, YES));
-    let or = Cond::Or(flag(alloc, 3)?, flag(alloc, 4)?);
-    assert!(rt; is(tested(alloc, or, &[false])?, Truth(4)));
-    let or = Cond::Or(flag(alloc, 3)?, flag(alloc, 4)?);
-    assert!(rt; is(tested(alloc, or, &[false, false])?, NO));
-    // both parts of `same` are asked
-    let same = Cond::Same(flag(alloc, 3)?, flag(alloc, 4)?);
-    assert!(rt; is(tested(alloc, same, &[false])?, Truth(4)));
-    let same = Cond::Same(flag(alloc, 3)?, flag(alloc, 4)?);
-    assert!(rt; is(tested(alloc, same, &[false, false])?, YES));
-    let same = Cond::Same(flag(alloc, 3)?, flag(alloc, 4)?);
-    assert!(rt; is(tested(alloc, same, &[true, false])?, NO));
-    let not = Cond::Not(flag(alloc, 3)?);
-    assert!(rt; is(tested(alloc, not, &[])?, Truth(3)));
-    let not = Cond::Not(flag(alloc, 3)?);
-    assert!(rt; is(tested(alloc, not, &[true])?, NO));
-    Ok(())
+    check_test(&rt, Cond::And(flag(alloc, 3)?, flag(alloc, 4)?), &BOTH)?;
+    check_test(&rt, Cond::Or(flag(alloc, 3)?, flag(alloc, 4)?), &EITHER)?;
+    check_test(&rt, Cond::Same(flag(alloc, 3)?, flag(alloc, 4)?), &SAME)?;
+    check_test(
+        &rt,
+        Cond::Not(flag(alloc, 3)?),
+        &[(&[], Truth(3)), (&[true], NO)],
+    )
 }
+
+const CHOSEN: [Answered; 5] = [
+    (&[], Truth(3)),
+    (&[true], Truth(4)),
+    (&[false], Truth(5)),
+    (&[true, true], YES),
+    (&[false, false], NO),
+];
 
 #[test]
 fn chosen_conditions(rt: HostRuntime) -> Result<(), AllocError> {
     let alloc = rt.alloc();
     let ite = Cond::Ite(flag(alloc, 3)?, flag(alloc, 4)?, flag(alloc, 5)?);
-    assert!(rt; is(tested(alloc, ite, &[])?, Truth(3)));
-    let ite = Cond::Ite(flag(alloc, 3)?, flag(alloc, 4)?, flag(alloc, 5)?);
-    assert!(rt; is(tested(alloc, ite, &[true])?, Truth(4)));
-    let ite = Cond::Ite(flag(alloc, 3)?, flag(alloc, 4)?, flag(alloc, 5)?);
-    assert!(rt; is(tested(alloc, ite, &[false])?, Truth(5)));
-    let ite = Cond::Ite(flag(alloc, 3)?, flag(alloc, 4)?, flag(alloc, 5)?);
-    assert!(rt; is(tested(alloc, ite, &[true, true])?, YES));
-    let ite = Cond::Ite(flag(alloc, 3)?, flag(alloc, 4)?, flag(alloc, 5)?);
-    assert!(rt; is(tested(alloc, ite, &[false, false])?, NO));
-    // a constant condition is known
-    let ite = Cond::Ite(constant(alloc, true)?, flag(alloc, 4)?, flag(alloc, 5)?);
-    assert!(rt; is(tested(alloc, ite, &[])?, Truth(4)));
-    let and = Cond::And(constant(alloc, false)?, flag(alloc, 4)?);
-    assert!(rt; is(tested(alloc, and, &[])?, NO));
-    let or = Cond::Or(constant(alloc, true)?, flag(alloc, 4)?);
-    assert!(rt; is(tested(alloc, or, &[])?, YES));
-    // a form is chosen, and the other one isn't looked at: min(x, y) where the flag is false
-    let least = Box::new(alloc, Form::Min(x(alloc)?, y(alloc)?))?;
-    let select = Form::Select(flag(alloc, 3)?, infinity(alloc)?, least);
-    assert!(rt; is(after(alloc, select, &[true])?, Infinity));
-    let least = Box::new(alloc, Form::Min(x(alloc)?, y(alloc)?))?;
-    let select = Form::Select(flag(alloc, 3)?, infinity(alloc)?, least);
-    assert!(rt; is(after(alloc, select, &[false])?, AtMost(1, -1, 0)));
-    let least = Box::new(alloc, Form::Min(x(alloc)?, y(alloc)?))?;
-    let select = Form::Select(flag(alloc, 3)?, infinity(alloc)?, least);
-    assert!(rt; is(after(alloc, select, &[false, false])?, Value(0, 1, 0)));
-    Ok(())
+    check_test(&rt, ite, &CHOSEN)
 }
 
-/// A Boolean variable is asked once in a goal, a comparison each time that it is needed.
+/// A constant condition is known.
+#[test]
+fn constant_conditions(rt: HostRuntime) -> Result<(), AllocError> {
+    let alloc = rt.alloc();
+    let ite = Cond::Ite(constant(alloc, true)?, flag(alloc, 4)?, flag(alloc, 5)?);
+    check_test(&rt, ite, &[(&[], Truth(4))])?;
+    check_test(
+        &rt,
+        Cond::And(constant(alloc, false)?, flag(alloc, 4)?),
+        &[(&[], NO)],
+    )?;
+    check_test(
+        &rt,
+        Cond::Or(constant(alloc, true)?, flag(alloc, 4)?),
+        &[(&[], YES)],
+    )
+}
+
+/// The lesser of x and y.
+fn lesser(alloc: Global) -> Result<Box<Form>, AllocError> {
+    let least = Form::Min(x(alloc)?, y(alloc)?);
+    Ok(Box::new(alloc, least)?)
+}
+
+const SELECTED: [Answered; 3] = [
+    (&[true], Infinity),
+    (&[false], AtMost(1, -1, 0)),
+    (&[false, false], Value(0, 1, 0)),
+];
+
+/// A form is chosen, and the other one isn't looked at: min(x, y) where the flag is false.
+#[test]
+fn chosen_forms(rt: HostRuntime) -> Result<(), AllocError> {
+    let alloc = rt.alloc();
+    let select = Form::Select(flag(alloc, 3)?, infinity(alloc)?, lesser(alloc)?);
+    check_form(&rt, select, &SELECTED)
+}
+
+/// A Boolean variable is asked once in a goal.
+#[test]
+fn flags_are_asked_once(rt: HostRuntime) -> Result<(), AllocError> {
+    let alloc = rt.alloc();
+    check_test(
+        &rt,
+        Cond::And(flag(alloc, 3)?, flag(alloc, 3)?),
+        &[(&[true], YES)],
+    )?;
+    let not = Box::new(alloc, Cond::Not(flag(alloc, 3)?))?;
+    check_test(&rt, Cond::And(flag(alloc, 3)?, not), &[(&[true], NO)])
+}
+
+/// The found form knows what the stated form has asked.
+#[test]
+fn both_forms_know_the_flags(rt: HostRuntime) -> Result<(), AllocError> {
+    let alloc = rt.alloc();
+    let found = bracket(alloc, Cond::And(flag(alloc, 3)?, flag(alloc, 4)?))?;
+    let upper = goal(alloc, bracket(alloc, Cond::Var(3))?, found);
+    check_goal(
+        &rt,
+        &upper,
+        &[(&[], Truth(3)), (&[true], Truth(4)), (&[false], NO)],
+    )
+}
+
+const TWICE: [Answered; 3] = [
+    (&[true], AtMost(1, -1, 0)),
+    (&[true, true], YES),
+    (&[true, false], NO),
+];
+
+/// A comparison is asked each time that it is needed: x <= y twice, with two answers.
 #[test]
 fn comparisons_are_asked_again(rt: HostRuntime) -> Result<(), AllocError> {
     let alloc = rt.alloc();
-    let twice = Cond::And(flag(alloc, 3)?, flag(alloc, 3)?);
-    assert!(rt; is(tested(alloc, twice, &[true])?, YES));
-    let not = Box::new(alloc, Cond::Not(flag(alloc, 3)?))?;
-    let never = Cond::And(flag(alloc, 3)?, not);
-    assert!(rt; is(tested(alloc, never, &[true])?, NO));
-    // the found form knows what the stated form has asked
-    let stated = bracket(alloc, Cond::Var(3))?;
-    let found = bracket(alloc, Cond::And(flag(alloc, 3)?, flag(alloc, 4)?))?;
-    let upper = goal(alloc, stated, found);
-    assert!(rt; is(answer_of(alloc, &upper, &[])?, Truth(3)));
-    assert!(rt; is(answer_of(alloc, &upper, &[true])?, Truth(4)));
-    assert!(rt; is(answer_of(alloc, &upper, &[false])?, NO));
-    // x <= y twice, with two answers
-    let left = Box::new(alloc, Cond::Le(x(alloc)?, y(alloc)?))?;
-    let right = Box::new(alloc, Cond::Le(x(alloc)?, y(alloc)?))?;
-    let twice = goal(alloc, bracket(alloc, Cond::And(left, right))?, Form::Var(0));
-    assert!(rt; is(answer_of(alloc, &twice, &[true])?, AtMost(1, -1, 0)));
-    assert!(rt; is(answer_of(alloc, &twice, &[true, true])?, YES));
-    assert!(rt; is(answer_of(alloc, &twice, &[true, false])?, NO));
-    // the stated form comes first: min(x, y) and then [4]
-    let least = Form::Min(x(alloc)?, y(alloc)?);
-    let both = goal(alloc, least, bracket(alloc, Cond::Var(4))?);
-    assert!(rt; is(answer_of(alloc, &both, &[])?, AtMost(1, -1, 0)));
-    assert!(rt; is(answer_of(alloc, &both, &[true])?, Truth(4)));
-    assert!(rt; is(answer_of(alloc, &both, &[true, false])?, Value(1, 0, 0)));
-    // both parts of 0 * max(x, y) are evaluated
-    let greatest = Box::new(alloc, Form::Max(x(alloc)?, y(alloc)?))?;
+    let left = Box::new(
+        alloc,
+        compared(alloc, Comparison::AtMost, Part::X, Part::Y)?,
+    )?;
+    let right = Box::new(
+        alloc,
+        compared(alloc, Comparison::AtMost, Part::X, Part::Y)?,
+    )?;
+    let twice = bracket(alloc, Cond::And(left, right))?;
+    check_goal(&rt, &goal(alloc, twice, Form::Var(0)), &TWICE)
+}
+
+const STATED_FIRST: [Answered; 3] = [
+    (&[], AtMost(1, -1, 0)),
+    (&[true], Truth(4)),
+    (&[true, false], Value(1, 0, 0)),
+];
+
+/// The stated form comes first: min(x, y) and then [4].
+#[test]
+fn the_stated_form_is_asked_first(rt: HostRuntime) -> Result<(), AllocError> {
+    let alloc = rt.alloc();
+    let found = bracket(alloc, Cond::Var(4))?;
+    let least = joined(alloc, Operator::Min, Part::X, Part::Y)?;
+    check_goal(&rt, &goal(alloc, least, found), &STATED_FIRST)
+}
+
+/// Both parts of 0 * max(x, y) are evaluated.
+#[test]
+fn both_factors_are_evaluated(rt: HostRuntime) -> Result<(), AllocError> {
+    let alloc = rt.alloc();
+    let greatest = Box::new(alloc, joined(alloc, Operator::Max, Part::X, Part::Y)?)?;
     let product = Form::Product(number(alloc, 0)?, greatest, PLACE);
-    assert!(rt; is(after(alloc, product, &[])?, AtMost(1, -1, 0)));
-    Ok(())
+    check_form(&rt, product, &[(&[], AtMost(1, -1, 0))])
 }
 
 /// 2^62, the least number that is too large.
@@ -599,10 +652,17 @@ const LARGE: i128 = 4611686018427387904;
 
 const LARGEST: i128 = 4611686018427387903;
 
+/// What stands there before anything is answered.
+fn check_values(rt: &(impl Abort + AllocGlobal), rows: &[Row]) -> Result<(), AllocError> {
+    for (by, a, b, value) in rows {
+        assert!(rt; is_after(rt.alloc(), *by, *a, *b, &[], *value)?);
+    }
+    Ok(())
+}
+
 /// Bits comes exactly at 2^62, in a value of a node and in a difference that is compared.
 #[test]
 fn numbers_reach_the_bound(rt: HostRuntime) -> Result<(), AllocError> {
-    let alloc = rt.alloc();
     let table: [(Operator, Part, Part, Shown); 15] = [
         (
             Operator::Sum,
@@ -667,62 +727,38 @@ fn numbers_reach_the_bound(rt: HostRuntime) -> Result<(), AllocError> {
             Value(0, 0, LARGEST),
         ),
     ];
-    for (by, a, b, value) in table {
-        assert!(rt; is(after(alloc, joined(alloc, by, a, b)?, &[])?, value));
-    }
-    Ok(())
+    check_values(&rt, &table)
 }
 
-/// Bits of constants, of multiples, and of parts that are not evaluated.
+/// Weights and parts at the bound, and their products: 2^62 times 0 is 0, and times infinity is infinity.
+const SCALED_AT_THE_BOUND: [(i128, Part, Shown); 5] = [
+    (LARGE, Part::X, Bits),
+    (LARGEST, Part::X, Value(LARGEST, 0, 0)),
+    (LARGE, Part::Number(0), Value(0, 0, 0)),
+    (LARGE, Part::Infinity, Infinity),
+    (0, Part::Number(LARGE), Bits),
+];
+
+#[test]
+fn multiples_at_the_bound(rt: HostRuntime) -> Result<(), AllocError> {
+    check_scaled(&rt, &SCALED_AT_THE_BOUND)
+}
+
+/// A number that is too large tells where it is evaluated, and not where it isn't.
 #[test]
 fn numbers_that_are_not_needed(rt: HostRuntime) -> Result<(), AllocError> {
     let alloc = rt.alloc();
     let large = form(alloc, Part::Number(LARGE))?;
     let select = Form::Select(flag(alloc, 3)?, large, x(alloc)?);
-    assert!(rt; is(after(alloc, select, &[false])?, Value(1, 0, 0)));
-    let large = form(alloc, Part::Number(LARGE))?;
-    let select = Form::Select(flag(alloc, 3)?, large, x(alloc)?);
-    assert!(rt; is(after(alloc, select, &[true])?, Bits));
-    assert!(rt; is(after(alloc, scaled(alloc, LARGE, Part::X)?, &[])?, Bits));
-    assert!(rt;
-        is(
-            after(alloc, scaled(alloc, LARGEST, Part::X)?, &[])?,
-            Value(LARGEST, 0, 0)
-        )
-    );
-    // 2^62 times 0 is 0, and times infinity is infinity
-    assert!(rt;
-        is(
-            after(alloc, scaled(alloc, LARGE, Part::Number(0))?, &[])?,
-            Value(0, 0, 0)
-        )
-    );
-    assert!(rt;
-        is(
-            after(alloc, scaled(alloc, LARGE, Part::Infinity)?, &[])?,
-            Infinity
-        )
-    );
-    assert!(rt;
-        is(
-            after(alloc, scaled(alloc, 0, Part::Number(LARGE))?, &[])?,
-            Bits
-        )
-    );
-    // x <= y comes before the bound that is met after it: the sum of 2^62 - 1 and 1 in the second part
-    let sum = Box::new(
-        alloc,
-        joined(alloc, Operator::Sum, Part::Number(LARGEST), Part::Number(1))?,
-    )?;
-    let least = Box::new(alloc, Form::Min(x(alloc)?, y(alloc)?))?;
-    let both = Form::Sum(least, sum);
-    assert!(rt; is(after(alloc, both, &[])?, AtMost(1, -1, 0)));
-    let sum = Box::new(
-        alloc,
-        joined(alloc, Operator::Sum, Part::Number(LARGEST), Part::Number(1))?,
-    )?;
-    let least = Box::new(alloc, Form::Min(x(alloc)?, y(alloc)?))?;
-    let both = Form::Sum(least, sum);
-    assert!(rt; is(after(alloc, both, &[true])?, Bits));
-    Ok(())
+    check_form(&rt, select, &[(&[false], Value(1, 0, 0)), (&[true], Bits)])
+}
+
+/// x <= y comes before the bound that is met after it: the sum of 2^62 - 1 and 1 in the second part.
+#[test]
+fn questions_before_the_bound(rt: HostRuntime) -> Result<(), AllocError> {
+    let alloc = rt.alloc();
+    let sum = joined(alloc, Operator::Sum, Part::Number(LARGEST), Part::Number(1))?;
+    let sum = Box::new(alloc, sum)?;
+    let both = Form::Sum(lesser(alloc)?, sum);
+    check_form(&rt, both, &[(&[], AtMost(1, -1, 0)), (&[true], Bits)])
 }

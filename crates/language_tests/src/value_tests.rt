@@ -3,6 +3,7 @@ use heyvl_num::{Ext, Frac};
 use heyvl_syntax::Span;
 use quant_algebra::{At, Held, goal_at, holds_at, value_at};
 use std::alloc::{AllocError, Global};
+use std::process::Abort;
 
 /// 2^127 - 1, the greatest number that a part of a fraction may be.
 const TOP: i128 = i128::MAX;
@@ -45,11 +46,64 @@ fn value(form: &Form) -> Parts {
     parts(value_at(form, &[]))
 }
 
+/// An operator of two values.
+#[derive(Clone, Copy)]
+enum Operator {
+    Sum,
+    Diff,
+    Cut,
+    Product,
+    Min,
+    Max,
+    Imply,
+    CoImply,
+}
+
+fn joined(alloc: Global, by: Operator, a: Parts, b: Parts) -> Result<Form, AllocError> {
+    let left = constant(alloc, a)?;
+    let right = constant(alloc, b)?;
+    Ok(match by {
+        Operator::Sum => Form::Sum(left, right),
+        Operator::Diff => Form::Diff(left, right),
+        Operator::Cut => Form::Cut(left, right),
+        Operator::Product => Form::Product(left, right, PLACE),
+        Operator::Min => Form::Min(left, right),
+        Operator::Max => Form::Max(left, right),
+        Operator::Imply => Form::Imply(left, right),
+        Operator::CoImply => Form::CoImply(left, right),
+    })
+}
+
+/// Whether the operator gives this.
+fn gives(
+    alloc: Global,
+    by: Operator,
+    a: Parts,
+    b: Parts,
+    wanted: Parts,
+) -> Result<bool, AllocError> {
+    Ok(is(value(&joined(alloc, by, a, b)?), wanted))
+}
+
+/// Two values, and then their sum, product, minimum, maximum, implication and coimplication.
+type Two = (Parts, Parts, Parts, Parts, Parts, Parts, Parts, Parts);
+
+fn check_two(rt: &(impl Abort + AllocGlobal), rows: &[Two]) -> Result<(), AllocError> {
+    let alloc = rt.alloc();
+    for (a, b, sum, product, min, max, imply, coimply) in rows {
+        assert!(rt; gives(alloc, Operator::Sum, *a, *b, *sum)?);
+        assert!(rt; gives(alloc, Operator::Product, *a, *b, *product)?);
+        assert!(rt; gives(alloc, Operator::Min, *a, *b, *min)?);
+        assert!(rt; gives(alloc, Operator::Max, *a, *b, *max)?);
+        assert!(rt; gives(alloc, Operator::Imply, *a, *b, *imply)?);
+        assert!(rt; gives(alloc, Operator::CoImply, *a, *b, *coimply)?);
+    }
+    Ok(())
+}
+
 #[test]
 fn operators_of_two_values(rt: HostRuntime) -> Result<(), AllocError> {
-    let alloc = rt.alloc();
-    // the two values, and then sum, product, minimum, maximum, implication and coimplication
-    let table: [(Parts, Parts, Parts, Parts, Parts, Parts, Parts, Parts); 10] = [
+    let table: [Two; 10] = [
         (
             (3, 1),
             (5, 1),
@@ -142,52 +196,26 @@ fn operators_of_two_values(rt: HostRuntime) -> Result<(), AllocError> {
             (0, 1),
         ),
     ];
-    for (a, b, sum, product, min, max, imply, coimply) in table {
-        assert!(rt;
-            is(
-                value(&Form::Sum(constant(alloc, a)?, constant(alloc, b)?)),
-                sum
-            )
-        );
-        assert!(rt;
-            is(
-                value(&Form::Product(constant(alloc, a)?, constant(alloc, b)?, PLACE)),
-                product
-            )
-        );
-        assert!(rt;
-            is(
-                value(&Form::Min(constant(alloc, a)?, constant(alloc, b)?)),
-                min
-            )
-        );
-        assert!(rt;
-            is(
-                value(&Form::Max(constant(alloc, a)?, constant(alloc, b)?)),
-                max
-            )
-        );
-        assert!(rt;
-            is(
-                value(&Form::Imply(constant(alloc, a)?, constant(alloc, b)?)),
-                imply
-            )
-        );
-        assert!(rt;
-            is(
-                value(&Form::CoImply(constant(alloc, a)?, constant(alloc, b)?)),
-                coimply
-            )
-        );
+    check_two(&rt, &table)
+}
+
+/// Two values, and then their plain and their truncated difference.
+type Difference = (Parts, Parts, Parts, Parts);
+
+fn check_differences(
+    rt: &(impl Abort + AllocGlobal),
+    rows: &[Difference],
+) -> Result<(), AllocError> {
+    for (a, b, difference, cut) in rows {
+        assert!(rt; gives(rt.alloc(), Operator::Diff, *a, *b, *difference)?);
+        assert!(rt; gives(rt.alloc(), Operator::Cut, *a, *b, *cut)?);
     }
     Ok(())
 }
 
 #[test]
 fn differences(rt: HostRuntime) -> Result<(), AllocError> {
-    let alloc = rt.alloc();
-    // the two values, and then the plain and the truncated difference
-    let table: [(Parts, Parts, Parts, Parts); 8] = [
+    let table: [Difference; 8] = [
         ((3, 1), (5, 1), (-2, 1), (0, 1)),
         ((0, 1), (0, 1), (0, 1), (0, 1)),
         ((5, 2), (0, 1), (5, 2), (5, 2)),
@@ -198,21 +226,7 @@ fn differences(rt: HostRuntime) -> Result<(), AllocError> {
         ((4, 1), (4, 1), (0, 1), (0, 1)),
         ((-TOP, 1), (1, 1), BITS, (0, 1)),
     ];
-    for (a, b, difference, cut) in table {
-        assert!(rt;
-            is(
-                value(&Form::Diff(constant(alloc, a)?, constant(alloc, b)?)),
-                difference
-            )
-        );
-        assert!(rt;
-            is(
-                value(&Form::Cut(constant(alloc, a)?, constant(alloc, b)?)),
-                cut
-            )
-        );
-    }
-    Ok(())
+    check_differences(&rt, &table)
 }
 
 #[test]
@@ -270,11 +284,42 @@ fn test_of(alloc: Global, held: Held) -> Result<Box<Cond>, AllocError> {
     }
 }
 
+/// A connective of two conditions.
+#[derive(Clone, Copy)]
+enum Connective {
+    And,
+    Or,
+    Same,
+}
+
+/// What the connective gives of conditions that give these.
+fn connected(alloc: Global, by: Connective, a: Held, b: Held) -> Result<Held, AllocError> {
+    let left = test_of(alloc, a)?;
+    let right = test_of(alloc, b)?;
+    let test = match by {
+        Connective::And => Cond::And(left, right),
+        Connective::Or => Cond::Or(left, right),
+        Connective::Same => Cond::Same(left, right),
+    };
+    Ok(holds_at(&test, &[]))
+}
+
+/// What the two parts give, and then what And, Or and Same give.
+type Connected = (Held, Held, Held, Held, Held);
+
+fn check_connected(rt: &(impl Abort + AllocGlobal), rows: &[Connected]) -> Result<(), AllocError> {
+    let alloc = rt.alloc();
+    for (a, b, and, or, same) in rows {
+        assert!(rt; connected(alloc, Connective::And, *a, *b)? == *and);
+        assert!(rt; connected(alloc, Connective::Or, *a, *b)? == *or);
+        assert!(rt; connected(alloc, Connective::Same, *a, *b)? == *same);
+    }
+    Ok(())
+}
+
 #[test]
 fn conditions_skip_what_decides_nothing(rt: HostRuntime) -> Result<(), AllocError> {
-    let alloc = rt.alloc();
-    // what the two parts give, and then what And, Or and Same give
-    let table: [(Held, Held, Held, Held, Held); 9] = [
+    let table: [Connected; 9] = [
         (Held::No, Held::No, Held::No, Held::No, Held::Yes),
         (Held::No, Held::Yes, Held::No, Held::Yes, Held::No),
         (Held::No, Held::Bits, Held::No, Held::Bits, Held::Bits),
@@ -285,15 +330,7 @@ fn conditions_skip_what_decides_nothing(rt: HostRuntime) -> Result<(), AllocErro
         (Held::Bits, Held::Yes, Held::Bits, Held::Bits, Held::Bits),
         (Held::Bits, Held::Bits, Held::Bits, Held::Bits, Held::Bits),
     ];
-    for (a, b, and, or, same) in table {
-        let both = Cond::And(test_of(alloc, a)?, test_of(alloc, b)?);
-        assert!(rt; holds_at(&both, &[]) == and);
-        let either = Cond::Or(test_of(alloc, a)?, test_of(alloc, b)?);
-        assert!(rt; holds_at(&either, &[]) == or);
-        let agree = Cond::Same(test_of(alloc, a)?, test_of(alloc, b)?);
-        assert!(rt; holds_at(&agree, &[]) == same);
-    }
-    Ok(())
+    check_connected(&rt, &table)
 }
 
 #[test]
@@ -384,21 +421,38 @@ fn variables_and_conditions(rt: HostRuntime) -> Result<(), AllocError> {
     assert!(rt; is(parts(value_at(&no, &state)), (0, 1)));
     let embedded = Form::Embed(Box::new(alloc, Cond::Var(0))?);
     assert!(rt; is(parts(value_at(&embedded, &state)), INFINITY));
-    // the two values, and whether the first is less, at most, or equal
-    let table: [(Parts, Parts, Parts, Parts, Parts); 3] = [
+    Ok(())
+}
+
+/// Whether the value of the condition's bracket is this.
+fn brackets(alloc: Global, test: Cond, wanted: Parts) -> Result<bool, AllocError> {
+    Ok(is(value(&Form::Iverson(Box::new(alloc, test)?)), wanted))
+}
+
+/// Two values, and whether the first is less, at most, or equal.
+type Compared = (Parts, Parts, Parts, Parts, Parts);
+
+fn check_compared(rt: &(impl Abort + AllocGlobal), rows: &[Compared]) -> Result<(), AllocError> {
+    let alloc = rt.alloc();
+    for (a, b, less, at_most, equal) in rows {
+        let test = Cond::Lt(constant(alloc, *a)?, constant(alloc, *b)?);
+        assert!(rt; brackets(alloc, test, *less)?);
+        let test = Cond::Le(constant(alloc, *a)?, constant(alloc, *b)?);
+        assert!(rt; brackets(alloc, test, *at_most)?);
+        let test = Cond::EqNum(constant(alloc, *a)?, constant(alloc, *b)?);
+        assert!(rt; brackets(alloc, test, *equal)?);
+    }
+    Ok(())
+}
+
+#[test]
+fn comparisons_of_values(rt: HostRuntime) -> Result<(), AllocError> {
+    let table: [Compared; 3] = [
         ((1, 2), (2, 3), (1, 1), (1, 1), (0, 1)),
         ((2, 3), (2, 3), (0, 1), (1, 1), (1, 1)),
         ((2, 3), (1, 2), (0, 1), (0, 1), (0, 1)),
     ];
-    for (a, b, less, at_most, equal) in table {
-        let test = Cond::Lt(constant(alloc, a)?, constant(alloc, b)?);
-        assert!(rt; is(value(&Form::Iverson(Box::new(alloc, test)?)), less));
-        let test = Cond::Le(constant(alloc, a)?, constant(alloc, b)?);
-        assert!(rt; is(value(&Form::Iverson(Box::new(alloc, test)?)), at_most));
-        let test = Cond::EqNum(constant(alloc, a)?, constant(alloc, b)?);
-        assert!(rt; is(value(&Form::Iverson(Box::new(alloc, test)?)), equal));
-    }
-    Ok(())
+    check_compared(&rt, &table)
 }
 
 #[test]
