@@ -1,2 +1,4 @@
 mod Matching
 pub mod exported
+mod ExampleTexts
+mod FaultExamples

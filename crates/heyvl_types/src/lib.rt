@@ -2,9 +2,16 @@
 #![tactic(auto)]
 
 mod acts;
+mod demands;
 mod laws;
+mod meanings;
+mod scopes;
+mod settings;
+mod stops;
 mod typed;
+mod weights;
 
 pub use acts::{Act, LoopAct};
 pub use laws::forward_meaning_matches_runs;
+pub use stops::ResolveStop;
 pub use typed::{TProc, Typed, VarInfo};
