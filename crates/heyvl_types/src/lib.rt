@@ -3,6 +3,7 @@
 
 mod acts;
 mod demands;
+mod expressions;
 mod laws;
 mod meanings;
 mod scopes;
