@@ -11,8 +11,7 @@ use Rattle.heyvl_syntax.specs.declared.statements.CheckKind.{CheckKind}
 use Rattle.heyvl_syntax.specs.declared.types.TypeName.{TypeName}
 use Rattle.heyvl_types.proofs.ExampleTexts.{block, fault, num, over, param, procedure, sp, var}
 use Rattle.heyvl_types.specs.Files.{first_fault}
-use Rattle.heyvl_types.specs.Literals.{literal_quotient, literal_value}
-use Rattle.heyvl_types.specs.Table.{inverse}
+use Rattle.heyvl_types.specs.Literals.{inverse_value, literal_quotient, literal_value}
 use Rattle.std.proofs.Common.{refl, replicate}
 use Rattle.std.specs.Prelude.{List, None, Option, Some, [], codes, false, true, ◌++◌, ◌∷◌, ◌≡◌, ℕ}
 
@@ -45,7 +44,7 @@ name_given_twice = refl
 
 -- H { x = 1/2 }
 types_do_not_agree : first_fault (h (Statement.assign (x ∷ []) (RightSide.plain (over 44 (num 1 43) (num 2 45))) (sp 39) ∷ [])) ≡ fault 12 39
-unfolding literal_value inverse ratio gcd gcd_steps
+unfolding literal_value inverse_value zeroʳ ratio gcd gcd_steps
 types_do_not_agree = refl
 
 -- coproc a(x: UInt) -> () pre x post 0 { x = 1 }
@@ -70,7 +69,7 @@ too_wide = refl
 
 -- H { x = 1/x }
 division : first_fault (h (Statement.assign (x ∷ []) (RightSide.plain (over 44 (num 1 43) (var x 45))) (sp 39) ∷ [])) ≡ fault 16 44
-unfolding literal_value inverse ratio gcd gcd_steps
+unfolding literal_value inverse_value zeroʳ ratio gcd gcd_steps
 division = refl
 
 -- coproc a() -> (x: UInt) post 0 { havoc x }

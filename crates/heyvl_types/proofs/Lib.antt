@@ -2,3 +2,5 @@ mod Matching
 pub mod exported
 mod ExampleTexts
 mod FaultExamples
+pub mod ScopeEntries
+pub mod LiteralFractions

@@ -20,6 +20,10 @@ is_written n = le_z (pos 0) n.digits && nat_le n.places 38
 unfoldable pub literal_value : Lit → Rational
 literal_value n = ratio n.digits (10 ^ n.places)
 
+-- One divided by what a literal writes that isn't 0.
+unfoldable pub inverse_value : Lit → Rational
+inverse_value n = ratio (pos (10 ^ n.places)) (unsigned_abs n.digits)
+
 -- The whole number that a literal writes, where it writes one.
 abbrev pub whole_value : Lit → Option ℤ
 whole_value n = if is_written n && ((literal_value n).den == 1) then Some (literal_value n).num else None

@@ -5,7 +5,7 @@ use Rattle.heylo_formula.specs.Formula.{Cond, Form}
 use Rattle.heylo_formula.specs.Typing.NumberType.{eureal, int, uint, ureal}
 use Rattle.heylo_formula.specs.Typing.{NumberType, is_unsigned, join}
 use Rattle.heylo_formula.specs.declared.types.Ty.{Ty}
-use Rattle.heyvl_num.specs.Rational.{Rational, ratio, zeroʳ}
+use Rattle.heyvl_num.specs.Rational.{Rational, zeroʳ}
 use Rattle.heyvl_num.specs.Value.Value.{finite, infinite}
 use Rattle.heyvl_num.specs.Value.{zeroᵛ}
 use Rattle.heyvl_syntax.specs.Expressions.{Expression}
@@ -14,11 +14,11 @@ use Rattle.heyvl_syntax.specs.declared.operators.BinaryOp.{BinaryOp}
 use Rattle.heyvl_syntax.specs.declared.operators.UnaryOp.{UnaryOp}
 use Rattle.heyvl_syntax.specs.declared.spans.Span.{Span}
 use Rattle.heyvl_syntax.specs.declared.types.TypeName.{TypeName}
-use Rattle.heyvl_types.specs.Literals.{is_written, is_zero_literal, literal_value}
+use Rattle.heyvl_types.specs.Literals.{inverse_value, is_written, is_zero_literal, literal_value}
 use Rattle.heyvl_types.specs.declared.demands.Demand.{Demand}
 use Rattle.heyvl_types.specs.declared.meanings.Kind.{Kind}
 use Rattle.heyvl_types.specs.declared.scopes.Local.{Local}
-use Rattle.std.specs.Prelude.{Bool, None, Option, Some, false, if◌then◌else◌, not, option_map, pos, true, unsigned_abs, ◌&&◌, ◌==◌, ◌^◌, ℕ}
+use Rattle.std.specs.Prelude.{Bool, None, Option, Some, false, if◌then◌else◌, not, option_map, true, ◌&&◌, ◌==◌, ℕ}
 
 -- What an expression becomes: a condition, which is of type Bool; a form with its type; or a variable of type Real, which has no
 -- join with any type.
@@ -143,24 +143,28 @@ binary op s (Meaning.number t a) (Meaning.number u b) = numbers op s t a u b
 binary op s (Meaning.number t a) Meaning.real = None
 binary op s Meaning.real y = None
 
--- What a divisor is: a number literal that isn't 0, or none.
-abbrev pub divisor : Expression → Option Lit
-divisor (Expression.number n s) = if is_written n && not (is_zero_literal n) then Some n else None
+-- One divided by a literal; nothing for one that is 0.
+abbrev pub inverse : Lit → Option Rational
+inverse n = if is_written n && not (is_zero_literal n) then Some (inverse_value n) else None
+
+-- One divided by a divisor, which is a number literal that isn't 0; nothing for every other expression.
+abbrev pub divisor : Expression → Option Rational
+divisor (Expression.number n s) = inverse n
 divisor e = None
 
--- One divided by the literal; 0 where there is none.
-unfoldable pub inverse : Option Lit → Rational
-inverse (Some n) = ratio (pos (10 ^ n.places)) (unsigned_abs n.digits)
-inverse None = zeroʳ
+-- The factor that stands for a division; 0 where the divisor is none.
+abbrev pub factor : Option Rational → Rational
+factor (Some q) = q
+factor None = zeroʳ
 
 -- `a / n`, which asks for a type of the left part alone.
-abbrev pub quotient : Option Lit → Meaning → Option Meaning
-quotient n (Meaning.number int a) = None
-quotient n (Meaning.number uint a) = Some (Meaning.number ureal (Form.scale (inverse n) a))
-quotient n (Meaning.number ureal a) = Some (Meaning.number ureal (Form.scale (inverse n) a))
-quotient n (Meaning.number eureal a) = Some (Meaning.number eureal (Form.scale (inverse n) a))
-quotient n (Meaning.truth g) = None
-quotient n Meaning.real = None
+abbrev pub quotient : Rational → Meaning → Option Meaning
+quotient q (Meaning.number int a) = None
+quotient q (Meaning.number uint a) = Some (Meaning.number ureal (Form.scale q a))
+quotient q (Meaning.number ureal a) = Some (Meaning.number ureal (Form.scale q a))
+quotient q (Meaning.number eureal a) = Some (Meaning.number eureal (Form.scale q a))
+quotient q (Meaning.truth g) = None
+quotient q Meaning.real = None
 
 -- `-a`
 abbrev pub negative : Meaning → Option Meaning

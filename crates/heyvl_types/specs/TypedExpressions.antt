@@ -5,7 +5,7 @@ use Rattle.heyvl_syntax.specs.declared.operators.BinaryOp.{BinaryOp}
 use Rattle.heyvl_syntax.specs.declared.spans.Span.{Span}
 use Rattle.heyvl_types.specs.Findings.{Finding, at}
 use Rattle.heyvl_types.specs.Scopes.{Scope, find, is_visible, with_local}
-use Rattle.heyvl_types.specs.Table.{Meaning, binary, bracket, choice, constant, divisor, embedding, given, infinity, literal, meets, quantified, quotient, unary, variable}
+use Rattle.heyvl_types.specs.Table.{Meaning, binary, bracket, choice, constant, divisor, embedding, factor, given, infinity, literal, meets, quantified, quotient, unary, variable}
 use Rattle.heyvl_types.specs.declared.demands.Demand.{Demand}
 use Rattle.heyvl_types.specs.declared.demands.Front.{Front}
 use Rattle.std.specs.Option.{is_none}
@@ -27,7 +27,7 @@ place (Expression.bound up x t a s) = s
 
 -- An operator between two operands, of which the second is looked at where it is a divisor.
 abbrev pub operated : BinaryOp → Span → Expression → Meaning → Meaning → Option Meaning
-operated BinaryOp.Slash s e x y = quotient (divisor e) x
+operated BinaryOp.Slash s e x y = quotient (factor (divisor e)) x
 operated op s e x y = binary op s x y
 
 -- What an expression becomes: nothing where a part becomes nothing, or where the condition of its row in the table fails.
@@ -62,8 +62,12 @@ lacks d None = true
 lacks d (Some m) = not (meets d m)
 
 -- A divisor that isn't a number literal other than 0.
+abbrev pub divides_by : BinaryOp → Expression → Bool
+divides_by BinaryOp.Slash b = is_none (divisor b)
+divides_by op b = false
+
 abbrev pub divides_wrong : Expression → Bool
-divides_wrong (Expression.binary BinaryOp.Slash a b s) = is_none (divisor b)
+divides_wrong (Expression.binary op a b s) = divides_by op b
 divides_wrong e = false
 
 -- Whether a quantifier may stand here.
