@@ -5,10 +5,10 @@ use Rattle.heyvl_num.specs.Value.{is_zero_num}
 use Rattle.heyvl_syntax.specs.declared.literals.Lit.{Lit}
 use Rattle.heyvl_types.specs.Literals.{inverse_value, is_written, is_zero_literal, literal_value}
 use Rattle.heyvl_types.specs.Table.{inverse}
-use Rattle.std.proofs.Common.{Bool, None, Option, Some, ap, arith, false, lit<, negsuc, pos, refl, suc, sym, true, zero, ◌&&◌, ◌*◌, ◌+◌, ◌-◌, ◌<◌, ◌^◌, ◌∙◌, ◌≡◌, ◌≤◌, ℕ, ℤ}
+use Rattle.std.proofs.Common.{Bool, None, Option, Some, ap, arith, false, lit<, negsuc, of_z, pos, refl, suc, sym, to_z, true, zero, ◌&&◌, ◌*◌, ◌+◌, ◌-◌, ◌<◌, ◌^◌, ◌∙◌, ◌≡◌, ◌≤◌, ℕ, ℤ}
 use Rattle.std.proofs.Math.Nat.{pow-suc}
 use Rattle.std.proofs.lemmas.Bool.{le-leb, leb-true}
-use Rattle.std.proofs.lemmas.Int.{ints}
+use Rattle.std.proofs.lemmas.Int.{fits_signed_from_abs, ints, to_z-of_z}
 use Rattle.std.specs.Int.{w128}
 use Rattle.std.specs.Int.Signed.{le_z}
 use Rattle.std.specs.Prelude.{FitsSigned, if◌then◌else◌, nat_le, nat_lt, not, unsigned_abs}
@@ -70,3 +70,7 @@ inverse_of_literal n h s =
     let w : le_z (pos 0) n.digits ≡ true = natural n.digits h in
     let z : is_zero_num n.digits ≡ false = positive n.digits h in
     rw (w, le-leb n.places 38 s, z) refl
+
+-- A power of ten as it is handed on.
+pub passed_power : (z : ℤ) (n : ℕ) → z ≡ pos (10 ^ n) → n ≤ 38 → to_z w128 (of_z w128 z) ≡ pos (10 ^ n)
+passed_power z n e h = rw e (to_z-of_z w128 (pos (10 ^ n)) (fits_signed_from_abs w128 (pos (10 ^ n)) (power_small n h)))

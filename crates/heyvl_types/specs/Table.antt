@@ -7,7 +7,6 @@ use Rattle.heylo_formula.specs.Typing.{NumberType, is_unsigned, join}
 use Rattle.heylo_formula.specs.declared.types.Ty.{Ty}
 use Rattle.heyvl_num.specs.Rational.{Rational, zeroʳ}
 use Rattle.heyvl_num.specs.Value.Value.{finite, infinite}
-use Rattle.heyvl_num.specs.Value.{zeroᵛ}
 use Rattle.heyvl_syntax.specs.Expressions.{Expression}
 use Rattle.heyvl_syntax.specs.declared.literals.Lit.{Lit}
 use Rattle.heyvl_syntax.specs.declared.operators.BinaryOp.{BinaryOp}
@@ -166,10 +165,14 @@ quotient q (Meaning.number eureal a) = Some (Meaning.number eureal (Form.scale q
 quotient q (Meaning.truth g) = None
 quotient q Meaning.real = None
 
+-- 0
+abbrev pub nought : Form
+nought = Form.number (finite zeroʳ)
+
 -- `-a`
 abbrev pub negative : Meaning → Option Meaning
-negative (Meaning.number int a) = Some (Meaning.number int (Form.difference (Form.number zeroᵛ) a))
-negative (Meaning.number uint a) = Some (Meaning.number int (Form.difference (Form.number zeroᵛ) a))
+negative (Meaning.number int a) = Some (Meaning.number int (Form.difference nought a))
+negative (Meaning.number uint a) = Some (Meaning.number int (Form.difference nought a))
 negative (Meaning.number ureal a) = None
 negative (Meaning.number eureal a) = None
 negative (Meaning.truth g) = None
@@ -178,7 +181,7 @@ negative Meaning.real = None
 -- `!a`
 abbrev pub negation : Meaning → Option Meaning
 negation (Meaning.truth g) = Some (Meaning.truth (Cond.not g))
-negation (Meaning.number t a) = extended (is_unsigned (Some t)) (Form.imply a (Form.number zeroᵛ))
+negation (Meaning.number t a) = extended (is_unsigned (Some t)) (Form.imply a nought)
 negation Meaning.real = None
 
 -- `~a`

@@ -263,6 +263,7 @@ fn after(next: u32) -> Result<u32, AllocError>
 }
 
 /// What an expression becomes where no quantifier may stand, or the first fault in it. The next variable has this number.
+#[tactic(none)]
 pub(crate) fn read(
     alloc: Global,
     scope: &Scope,
@@ -317,6 +318,7 @@ pub(crate) fn read(
 }
 
 /// What an expression becomes in whose front quantifiers may stand, or the first fault in it.
+#[tactic(none)]
 pub(crate) fn read_front(
     alloc: Global,
     scope: &mut Scope,

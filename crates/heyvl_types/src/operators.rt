@@ -4,11 +4,10 @@ ghost use Rattle.heylo_formula.specs.PlainTrees.{cond_of, form_of};
 ghost use Rattle.heylo_formula.specs.Formula.Cond.{ite, not};
 ghost use Rattle.heylo_formula.specs.Formula.Form.{difference, number, select};
 ghost use Rattle.heyvl_num.specs.Value.Value.{infinite};
-ghost use Rattle.heyvl_num.specs.Value.{zeroᵛ};
 ghost use Rattle.heylo_formula.specs.Typing.NumberType.{uint, ureal};
 ghost use Rattle.heylo_formula.specs.Typing.{is_unsigned, join};
 ghost use Rattle.heyvl_types.specs.Answers.{meaning_of};
-ghost use Rattle.heyvl_types.specs.Table.{binary, bound, bracket, choice, comparison, conegation, constant, declarable, embedding, extended, infinity, joined_numbers, kind_of, literal, minus, negation, negative, numbers, quantified, quotient, selected, truths, unary, variable};
+ghost use Rattle.heyvl_types.specs.Table.{binary, bound, bracket, choice, comparison, conegation, constant, declarable, embedding, extended, infinity, joined_numbers, kind_of, literal, minus, negation, negative, nought, numbers, quantified, quotient, selected, truths, unary, variable};
 ghost use Rattle.std.specs.Prelude.{◌==◌, ◌≡◌, IfOk, Some, if◌then◌else◌, option_map};
 
 use crate::literals::{literal_value, zero};
@@ -301,7 +300,7 @@ pub(crate) fn quotient(
 
 /// 0 as a form.
 fn nothing() -> Form
-    ensures { form_of result ≡ number zeroᵛ }
+    ensures { form_of result ≡ nought }
 {
     Form::Const(Ext::Fin(zero()))
 }
@@ -315,7 +314,7 @@ fn endless() -> Form
 
 /// `0 - a`
 fn opposite(alloc: Global, form: Form) -> Result<Form, AllocError>
-    ensures { IfOk result (λ made. form_of made ≡ difference (number zeroᵛ) (form_of form)) }
+    ensures { IfOk result (λ made. form_of made ≡ difference nought (form_of form)) }
 {
     let form = Box::new(alloc, form)?;
     Ok(Form::Diff(Box::new(alloc, nothing())?, form))
