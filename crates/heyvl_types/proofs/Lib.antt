@@ -4,3 +4,5 @@ mod ExampleTexts
 mod FaultExamples
 pub mod ScopeEntries
 pub mod LiteralFractions
+pub mod Reading
+pub mod TypedMeanings

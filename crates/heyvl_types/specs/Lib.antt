@@ -23,3 +23,4 @@ pub mod StatementRules
 pub mod StatementActs
 pub mod Files
 pub mod Answers
+pub mod ExpressionLaws

@@ -15,6 +15,6 @@ mod typed;
 mod weights;
 
 pub use acts::{Act, LoopAct};
-pub use laws::forward_meaning_matches_runs;
+pub use laws::{expressions_are_typed, forward_meaning_matches_runs};
 pub use stops::ResolveStop;
 pub use typed::{TProc, Typed, VarInfo};
