@@ -263,7 +263,6 @@ fn after(next: u32) -> Result<u32, AllocError>
 }
 
 /// What an expression becomes where no quantifier may stand, or the first fault in it. The next variable has this number.
-#[tactic(none)]
 pub(crate) fn read(
     alloc: Global,
     scope: &Scope,
