@@ -317,7 +317,6 @@ pub(crate) fn read(
 }
 
 /// What an expression becomes in whose front quantifiers may stand, or the first fault in it.
-#[tactic(none)]
 pub(crate) fn read_front(
     alloc: Global,
     scope: &mut Scope,
