@@ -3,3 +3,9 @@ mod Copying
 mod Finding
 mod ActExamples
 pub mod exported
+mod ExampleTexts
+mod FaultExamples
+pub mod ScopeEntries
+pub mod LiteralFractions
+pub mod Reading
+pub mod TypedMeanings

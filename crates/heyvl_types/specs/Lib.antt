@@ -11,3 +11,17 @@ pub mod Count
 pub mod Program
 pub mod WellTyped
 pub mod Rules
+pub mod Findings
+pub mod Scopes
+pub mod Literals
+pub mod Table
+pub mod TypedExpressions
+pub mod Variables
+pub mod Signatures
+pub mod RightSides
+pub mod LoopRules
+pub mod StatementRules
+pub mod StatementActs
+pub mod Files
+pub mod Answers
+pub mod ExpressionLaws

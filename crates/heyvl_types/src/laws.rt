@@ -1,5 +1,6 @@
 //! Laws of acts. Each function does nothing: its contract is the law.
 
+ghost use Rattle.heyvl_types.specs.ExpressionLaws as expressions;
 ghost use Rattle.heyvl_types.specs.Matching as matching;
 
 /// What a run asks of the forward meaning, whatever loops and calls mean: a list of acts after another means the one
@@ -12,4 +13,10 @@ pub fn forward_meaning_matches_runs()
     ensures anys { matching.AnysMatch }
     ensures picks { matching.PicksMatch }
     ensures checks { matching.ChecksMatch }
+{}
+
+/// What an expression becomes is well typed for the types of its scope and has its type, and it has at most twice as many
+/// nodes as the expression.
+pub fn expressions_are_typed()
+    ensures { expressions.ExpressionsAreTyped }
 {}

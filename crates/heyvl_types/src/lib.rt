@@ -1,13 +1,23 @@
-//! Typed trees of HeyVL: acts, what they mean, and the static rules that a file meets.
+//! Typed trees of HeyVL: acts, what they mean, names and types of expressions, and the static rules that a file meets.
 #![tactic(auto)]
 
 mod acts;
 mod copies;
+mod demands;
+mod expressions;
 mod laws;
+mod literals;
+mod meanings;
+mod operators;
 mod places;
+mod scopes;
+mod settings;
+mod stops;
 mod typed;
+mod weights;
 
 pub use acts::{Act, LoopAct};
-pub use laws::forward_meaning_matches_runs;
+pub use laws::{expressions_are_typed, forward_meaning_matches_runs};
 pub use places::act_at;
+pub use stops::ResolveStop;
 pub use typed::{TProc, Typed, VarInfo};

@@ -1,0 +1,23 @@
+-- What an answer says of a part of a text: a fault is the first finding, a result comes exactly where nothing is found.
+use Rattle.heylo_formula.specs.PlainTrees.{cond_of, form_of}
+use Rattle.heyvl_types.specs.Findings.{Finding, first}
+use Rattle.heyvl_types.specs.Table.{Meaning, kind_of}
+use Rattle.heyvl_types.specs.declared.meanings.Meaning as M
+use Rattle.heyvl_types.specs.declared.stops.ResolveStop.{ResolveStop}
+use Rattle.std.specs.Prelude.{Err, List, Ok, Option, Result, Some, [], ⊤, ◌∷◌, ◌≡◌}
+
+-- The plain meaning that a meaning in memory holds.
+abbrev pub meaning_of : M.Meaning → Meaning
+meaning_of (M.TheVariants.Truth g) = Meaning.truth (cond_of g)
+meaning_of (M.TheVariants.Number t a) = Meaning.number (kind_of t) (form_of a)
+meaning_of M.TheVariants.Real = Meaning.real
+
+-- The answer of what reads a part, seen as a plain value: Ok exactly where nothing is found, with this value; a fault is the first
+-- finding; want of memory says nothing.
+abbrev pub Gives : {A B : Type 0} → (A → B) → Result A ResolveStop → List Finding → B → Type 0
+Gives view (Ok a) found b = (found ≡ []) × (view a ≡ b)
+Gives view (Err (ResolveStop.Fault n s)) found b = first found ≡ Some (n, s)
+Gives view (Err (ResolveStop.Memory e)) found b = ⊤
+
+abbrev pub read : M.Meaning → Option Meaning
+read m = Some (meaning_of m)

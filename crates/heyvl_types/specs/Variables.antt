@@ -1,0 +1,81 @@
+-- The variables that a procedure declares: its parameters, those of its body in the order of the text, and those of the quantifiers
+-- in the fronts of its post clauses. A variable's number is its place among them.
+use Rattle.heylo_formula.specs.declared.types.Ty.{Ty}
+use Rattle.heyvl_syntax.specs.Expressions.{Expression}
+use Rattle.heyvl_syntax.specs.Statements.{Arms, Block, Statement}
+use Rattle.heyvl_syntax.specs.declared.procedures.Param.{Param}
+use Rattle.heyvl_syntax.specs.declared.types.TypeName.{TypeName}
+use Rattle.heyvl_types.specs.Acts.{Variable}
+use Rattle.heyvl_types.specs.Scopes.{Scope, with_local}
+use Rattle.heyvl_types.specs.Table.{declarable}
+use Rattle.std.specs.Prelude.{List, None, Option, Some, [], map, suc, ◌++◌, ◌∷◌, ℕ}
+
+-- A type that a variable may have; some type where there is none, which is a fault.
+abbrev pub type_or_bool : Option Ty → Ty
+type_or_bool (Some ty) = ty
+type_or_bool None = Ty.Bool
+
+abbrev pub declared : List ℕ → TypeName → Variable
+declared x t = record { name = x; ty = type_or_bool (declarable t) }
+
+abbrev pub parameters : List Param → List Variable
+parameters ps = map (λ p. declared p.name p.ty) ps
+
+abbrev mutual
+  pub locals : Statement → List Variable
+  locals (Statement.var x t r s) = declared x t ∷ []
+  locals (Statement.assign xs r s) = []
+  locals (Statement.check kind a s) = []
+  locals (Statement.validate co s) = []
+  locals (Statement.havoc co xs s) = []
+  locals (Statement.reward a s) = []
+  locals (Statement.branch arms other s) = locals_of_arms arms ++ locals_of_block other
+  locals (Statement.pick up a b s) = locals_of_block a ++ locals_of_block b
+  locals (Statement.loop rules g b s) = locals_of_block b
+
+  pub locals_of_block : Block → List Variable
+  locals_of_block Block.done = []
+  locals_of_block (Block.next s b) = locals s ++ locals_of_block b
+
+  pub locals_of_arms : Arms → List Variable
+  locals_of_arms Arms.no_arm = []
+  locals_of_arms (Arms.arm g b more) = locals_of_block b ++ locals_of_arms more
+
+abbrev pub locals_of_body : Option Block → List Variable
+locals_of_body None = []
+locals_of_body (Some b) = locals_of_block b
+
+-- Those of the quantifiers in the front of an expression: the quantifier that is the whole of it, and those in the front of its body.
+abbrev pub front_variables : Expression → List Variable
+front_variables (Expression.bound up x t a s) = declared x t ∷ front_variables a
+front_variables (Expression.number v s) = []
+front_variables (Expression.truth b s) = []
+front_variables (Expression.infinity s) = []
+front_variables (Expression.name x s) = []
+front_variables (Expression.group a s) = []
+front_variables (Expression.bracket a s) = []
+front_variables (Expression.embed a s) = []
+front_variables (Expression.unary op a s) = []
+front_variables (Expression.binary op a b s) = []
+front_variables (Expression.choice a b c s) = []
+
+abbrev pub fronts_variables : List Expression → List Variable
+fronts_variables [] = []
+fronts_variables (e ∷ es) = front_variables e ++ fronts_variables es
+
+-- What is visible behind a statement: it, and a variable that the statement declares, which has the number n.
+abbrev pub behind : ℕ → Scope → Statement → Scope
+behind n sc (Statement.var x t r s) = with_local x (record { number = n; ty = t }) sc
+behind n sc (Statement.assign xs r s) = sc
+behind n sc (Statement.check kind a s) = sc
+behind n sc (Statement.validate co s) = sc
+behind n sc (Statement.havoc co xs s) = sc
+behind n sc (Statement.reward a s) = sc
+behind n sc (Statement.branch arms other s) = sc
+behind n sc (Statement.pick up a b s) = sc
+behind n sc (Statement.loop rules g b s) = sc
+
+-- What is visible behind parameters, of which the first has the number n.
+abbrev pub behind_parameters : ℕ → Scope → List Param → Scope
+behind_parameters n sc [] = sc
+behind_parameters n sc (p ∷ ps) = behind_parameters (suc n) (with_local p.name (record { number = n; ty = p.ty }) sc) ps
