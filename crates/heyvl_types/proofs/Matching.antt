@@ -3,14 +3,13 @@ use Rattle.std.proofs.Common.{◌≡◌, ℕ, refl, ap, Bool, true, false, cond,
 use Prim.Native.Nat.{suc}
 use Rattle.heyvl_num.specs.Rational.{Rational}
 use Rattle.heyvl_num.specs.Value.{◌+ᵛ◌}
-use Rattle.heyvl_syntax.specs.declared.spans.Span.{Span}
 use Rattle.heylo_formula.specs.State.{Env}
 use Rattle.heylo_formula.specs.Choices.{Choices, left, right}
-use Rattle.heylo_formula.specs.Formula.{Form, Term}
-use Rattle.heylo_formula.specs.Meaning.{value, holds}
+use Rattle.heylo_formula.specs.Formula.{Term}
+use Rattle.heylo_formula.specs.Meaning.{holds}
 use Rattle.heylo_formula.specs.declared.values.Val.TheVariants.{Truth}
 use Rattle.heyvl_types.specs.Acts.{Act, Acts, Arms, join}
-use Rattle.heyvl_types.specs.Forward.{Post, OfLoops, OfCalls, part, parts, meant, meant_act, meant_arms}
+use Rattle.heyvl_types.specs.Forward.{Post, part, parts, meant, meant_act, meant_arms}
 use Rattle.heyvl_types.specs.Matching.{taken, summed, summed_parts, Reaches, ActsJoin, DrawsMatch, RewardsMatch, BranchesMatch, AnysMatch, PicksMatch, ChecksMatch}
 
 pub joined : ActsJoin

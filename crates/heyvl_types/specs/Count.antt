@@ -3,7 +3,7 @@
 -- becomes two checks, a havoc for each modified variable, a validation, and the copies of its body, each in an If of one
 -- arm and followed by a check; the last copy ends in one check more.
 -- Source: the encodings are this project's own, in the manner of latticed k-induction (Batz et al., CAV 2021).
-use Rattle.std.specs.Prelude.{ℕ, ◌+◌, ◌*◌, List, length}
+use Rattle.std.specs.Prelude.{ℕ, ◌+◌, ◌*◌, length}
 use Rattle.heyvl_types.specs.Acts.{Act, Acts, Arms}
 use Rattle.heyvl_types.specs.Modified.{modified}
 

@@ -1,5 +1,5 @@
 -- The variables that a loop modifies: those of its scope that are a target in its body.
-use Rattle.std.specs.Prelude.{ℕ, ◌==◌, Bool, true, false, ◌||◌, List, [], ◌∷◌, if◌then◌else◌}
+use Rattle.std.specs.Prelude.{ℕ, ◌==◌, Bool, false, ◌||◌, List, [], ◌∷◌, if◌then◌else◌}
 use Rattle.heyvl_types.specs.Acts.{Act, Acts, Arms}
 use Rattle.heyvl_types.specs.Visible.{among}
 

@@ -14,7 +14,7 @@ use Rattle.heyvl_types.specs.declared.acts.Act.TheFolds.{fold-Act, fold-LoopAct}
 use Rattle.heyvl_types.specs.declared.typed.VarInfo.{VarInfo}
 use Rattle.heyvl_types.specs.declared.typed.TProc.{TProc}
 use Rattle.heyvl_types.specs.declared.typed.Typed.{Typed}
-use Rattle.heyvl_types.specs.Acts.{Head, Act, Acts, Arms, Variable, TypedProcedure}
+use Rattle.heyvl_types.specs.Acts.{Act, Acts, Arms, Variable, TypedProcedure}
 
 abbrev pub joined : List Act → Acts
 joined [] = Acts.done

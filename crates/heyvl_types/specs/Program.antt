@@ -1,7 +1,7 @@
 -- Which procedures are programs, and which procedures one reaches by calls.
 -- Source: a HeyVL program without verification statements (Schroeer, Batz, Kaminski, Katoen, Matheja, OOPSLA 2023); that its
 -- choices are in the procedure's direction is this project's own rule.
-use Rattle.std.specs.Prelude.{◌≡◌, ◌+◌, ◌<◌, ℕ, ◌==◌, Bool, true, false, not, ◌||◌, ◌&&◌, List, [], ◌∷◌, Option, Some, None, length, if◌then◌else◌}
+use Rattle.std.specs.Prelude.{◌≡◌, ℕ, ◌==◌, Bool, true, false, not, ◌||◌, List, [], ◌∷◌, Option, Some, None, if◌then◌else◌}
 use Rattle.heyvl_syntax.specs.declared.spans.Span.{Span}
 use Rattle.heylo_formula.specs.Binders.{has_binder}
 use Rattle.heylo_formula.specs.Operators.{agree}

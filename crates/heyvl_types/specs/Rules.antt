@@ -1,11 +1,11 @@
 -- What the static rules demand of a typed file: each tree that names resolve to meets it, and whoever takes a typed tree asks
 -- for it. The rules of acts are stated for each act of a body, those inside others among them.
-use Rattle.std.specs.Prelude.{◌≡◌, ◌≤◌, ◌<◌, ◌+◌, ℕ, Bool, true, false, not, ◌&&◌, ◌||◌, List, [], ◌∷◌, ◌++◌, Option, Some, None, length, map}
+use Rattle.std.specs.Prelude.{◌≡◌, ◌≤◌, ◌<◌, ◌+◌, ℕ, Bool, true, false, not, ◌&&◌, ◌||◌, List, [], ◌∷◌, ◌++◌, Option, Some, None, length}
 use Prim.Native.Nat.{zero, suc}
-use Rattle.heyvl_num.specs.Rational.{Rational, zeroʳ, oneʳ, ◌≤ʳ◌, ◌<ʳ◌}
+use Rattle.heyvl_num.specs.Rational.{Rational, zeroʳ, oneʳ, ◌<ʳ◌}
 use Rattle.heyvl_num.specs.WeightedSums.{total_weight}
 use Rattle.heyvl_syntax.specs.declared.statements.CheckKind.{CheckKind}
-use Rattle.heylo_formula.specs.Formula.{Form, Cond, Term}
+use Rattle.heylo_formula.specs.Formula.{Form, Term}
 use Rattle.heylo_formula.specs.Binders.{has_binder}
 use Rattle.heylo_formula.specs.Extrema.{is_directed}
 use Rattle.heylo_formula.specs.Operators.{agree}

@@ -14,8 +14,8 @@ use Rattle.heylo_formula.specs.PlainTrees.{form_of, cond_of, term_of}
 use Rattle.heyvl_types.specs.declared.acts.Act as A
 use Rattle.heyvl_types.specs.declared.acts.LoopAct as L
 use Rattle.heyvl_types.specs.declared.acts.Act.TheFolds.{fold-roll-Act, fold-roll-LoopAct}
-use Rattle.heyvl_types.specs.Acts.{Head, Act, Acts, Arms}
-use Rattle.heyvl_types.specs.PlainActs.{joined, armed, layered_arm, parts_of, terms_of, rank_of, act_layer, loop_layer, act_of, acts_of, arm_of, arms_of, loop_of}
+use Rattle.heyvl_types.specs.Acts.{Head, Act, Arms}
+use Rattle.heyvl_types.specs.PlainActs.{armed, layered_arm, parts_of, terms_of, rank_of, act_of, acts_of, arms_of}
 
 pub set_act : (x : ℕ) (t : T.Term) (span : Span) → act_of (A.Set x t span) ≡ Act.set x (term_of t) span
 set_act x t span = ap act_of (sym (A.TheVariants.rolls-Set x t span)) ∙ fold-roll-Act _ _ _ _ _
