@@ -1,14 +1,14 @@
 -- Words with which worked texts are written as plain trees. A place is given by its first byte alone.
 use Rattle.heyvl_syntax.specs.Expressions.{Expression}
 use Rattle.heyvl_syntax.specs.Procedures.{Procedure}
-use Rattle.heyvl_syntax.specs.Statements.{Arms, Block, LoopRule, RightSide, Statement}
+use Rattle.heyvl_syntax.specs.Statements.{Block, Statement}
 use Rattle.heyvl_syntax.specs.declared.operators.BinaryOp.{BinaryOp}
 use Rattle.heyvl_syntax.specs.declared.procedures.Note.{Note}
 use Rattle.heyvl_syntax.specs.declared.procedures.Param.{Param}
 use Rattle.heyvl_syntax.specs.declared.spans.Span.{Span}
 use Rattle.heyvl_syntax.specs.declared.types.TypeName.{TypeName}
 use Rattle.heyvl_types.specs.Findings.{Finding}
-use Rattle.std.specs.Prelude.{Bool, List, None, Option, Some, [], false, pos, true, ◌∷◌, ℕ}
+use Rattle.std.specs.Prelude.{Bool, List, Option, Some, [], pos, ◌∷◌, ℕ}
 
 abbrev pub sp : ℕ → Span
 sp n = record { from = n; to = n }

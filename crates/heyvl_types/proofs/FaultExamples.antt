@@ -1,10 +1,9 @@
 -- The first fault of worked texts, computed.
 use Rattle.heyvl_num.specs.Gcd.{gcd, gcd_steps}
-use Rattle.heyvl_num.specs.Rational.{leqʳ, oneʳ, ratio, zeroʳ, ◌+ʳ◌}
+use Rattle.heyvl_num.specs.Rational.{leqʳ, oneʳ, ratio, zeroʳ}
 use Rattle.heyvl_syntax.specs.Expressions.{Expression}
 use Rattle.heyvl_syntax.specs.Procedures.{Procedure}
-use Rattle.heyvl_syntax.specs.Statements.{Arms, Block, LoopRule, RightSide, Statement}
-use Rattle.heyvl_syntax.specs.declared.operators.BinaryOp.{BinaryOp}
+use Rattle.heyvl_syntax.specs.Statements.{Block, LoopRule, RightSide, Statement}
 use Rattle.heyvl_syntax.specs.declared.procedures.Note.{Note}
 use Rattle.heyvl_syntax.specs.declared.procedures.Param.{Param}
 use Rattle.heyvl_syntax.specs.declared.statements.CheckKind.{CheckKind}
@@ -13,7 +12,7 @@ use Rattle.heyvl_types.proofs.ExampleTexts.{block, fault, num, over, param, proc
 use Rattle.heyvl_types.specs.Files.{first_fault}
 use Rattle.heyvl_types.specs.Literals.{inverse_value, literal_quotient, literal_value}
 use Rattle.std.proofs.Common.{refl, replicate}
-use Rattle.std.specs.Prelude.{List, None, Option, Some, [], codes, false, true, ◌++◌, ◌∷◌, ◌≡◌, ℕ}
+use Rattle.std.specs.Prelude.{List, None, Some, [], codes, false, true, ◌∷◌, ◌≡◌, ℕ}
 
 abbrev a : List ℕ
 a = codes "a"

@@ -1,17 +1,17 @@
 -- The code's fractions of literals: each fits.
 use Rattle.heyvl_num.specs.Exact.{exact_quotient, is_small, quotient, quotient_fits}
-use Rattle.heyvl_num.specs.Rational.{Rational, ratio, zeroʳ}
+use Rattle.heyvl_num.specs.Rational.{ratio, zeroʳ}
 use Rattle.heyvl_num.specs.Value.{is_zero_num}
 use Rattle.heyvl_syntax.specs.declared.literals.Lit.{Lit}
-use Rattle.heyvl_types.specs.Literals.{inverse_value, is_written, is_zero_literal, literal_value}
+use Rattle.heyvl_types.specs.Literals.{inverse_value, is_written, literal_value}
 use Rattle.heyvl_types.specs.Table.{inverse}
-use Rattle.std.proofs.Common.{Bool, None, Option, Some, ap, arith, false, lit<, negsuc, of_z, pos, refl, suc, sym, to_z, true, zero, ◌&&◌, ◌*◌, ◌+◌, ◌-◌, ◌<◌, ◌^◌, ◌∙◌, ◌≡◌, ◌≤◌, ℕ, ℤ}
+use Rattle.std.proofs.Common.{None, Some, arith, false, lit<, negsuc, of_z, pos, refl, suc, to_z, true, zero, ◌+◌, ◌-◌, ◌<◌, ◌^◌, ◌≡◌, ◌≤◌, ℕ, ℤ}
 use Rattle.std.proofs.Math.Nat.{pow-suc}
 use Rattle.std.proofs.lemmas.Bool.{le-leb, leb-true}
 use Rattle.std.proofs.lemmas.Int.{fits_signed_from_abs, ints, to_z-of_z}
 use Rattle.std.specs.Int.{w128}
 use Rattle.std.specs.Int.Signed.{le_z}
-use Rattle.std.specs.Prelude.{FitsSigned, if◌then◌else◌, nat_le, nat_lt, not, unsigned_abs}
+use Rattle.std.specs.Prelude.{FitsSigned, if◌then◌else◌, unsigned_abs}
 
 up : (d n m : ℕ) → d + n ≡ m → 10 ^ n ≤ 10 ^ m
 up zero n m e = let q : n ≡ m = omega (arith, e) in rw q (omega arith)

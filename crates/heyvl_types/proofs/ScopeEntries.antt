@@ -2,7 +2,7 @@
 use Rattle.heyvl_types.specs.Scopes.{Scope, entries_of, find, is_visible, numbers, with_local}
 use Rattle.heyvl_types.specs.declared.scopes.Local.{Local}
 use Rattle.indexmap.specs.IndexMap.{insert_entry}
-use Rattle.std.proofs.Common.{Bool, List, None, Option, Some, Vec, [], ap, false, map, refl, sym, take, true, ◌++◌, ◌∙◌, ◌≡◌, ◌∷◌, ℕ}
+use Rattle.std.proofs.Common.{Bool, List, Some, Vec, [], ap, false, map, refl, sym, take, true, ◌++◌, ◌∙◌, ◌≡◌, ◌∷◌, ℕ}
 use Rattle.std.specs.Cmp.Lexicographic.{pointwise}
 use Rattle.std.specs.List.{AllZip}
 use Rattle.std.specs.Map.{lookup, values_of}

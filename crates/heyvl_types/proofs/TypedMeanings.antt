@@ -20,10 +20,10 @@ use Rattle.heyvl_types.proofs.LiteralFractions.{power_positive}
 use Rattle.heyvl_types.specs.ExpressionLaws.{Agrees, IsTyped, size}
 use Rattle.heyvl_types.specs.Literals.{inverse_value, is_written, is_zero_literal, literal_value}
 use Rattle.heyvl_types.specs.Scopes.{Scope, find, with_local}
-use Rattle.heyvl_types.specs.Table.{Meaning, binary, bound, bracket, choice, comparison, conegation, declarable, divisor, embedding, extended, factor, given, infinity, inverse, joined_numbers, literal, minus, negation, negative, nought, numbers, quantified, quotient, selected, truths, unary, variable, variable_of}
+use Rattle.heyvl_types.specs.Table.{Meaning, binary, bound, bracket, choice, comparison, conegation, declarable, divisor, embedding, extended, factor, given, inverse, joined_numbers, literal, minus, negation, negative, nought, numbers, quantified, quotient, selected, truths, unary, variable, variable_of}
 use Rattle.heyvl_types.specs.TypedExpressions.{elaborate, operated}
 use Rattle.heyvl_types.specs.declared.scopes.Local.{Local}
-use Rattle.std.proofs.Common.{Bool, List, None, Option, Some, ap, arith, false, inl, inr, neg_ℤ, negsuc, option_map, pos, refl, suc, subst, sym, true, zero, ◌&&◌, ◌*◌, ◌+◌, ◌<◌, ◌==◌, ◌^◌, ◌∙◌, ◌≡◌, ◌≤◌, ◌⊎◌, ◌∷◌, [], ℕ, ℤ}
+use Rattle.std.proofs.Common.{Bool, List, None, Option, Some, ap, arith, false, inl, inr, negsuc, option_map, pos, refl, suc, subst, sym, true, zero, ◌&&◌, ◌*◌, ◌+◌, ◌<◌, ◌==◌, ◌^◌, ◌∙◌, ◌≡◌, ◌≤◌, ◌⊎◌, ◌∷◌, [], ℕ, ℤ}
 use Rattle.std.proofs.lemmas.Int.{ints}
 use Rattle.std.specs.Int.Signed.{le_z}
 use Rattle.std.specs.Prelude.{if◌then◌else◌, nat_le, not, unsigned_abs}
@@ -274,9 +274,11 @@ found_with x l (f ∷ fs) y m e = go (bytes_eq x f.0) (found_with x l fs y m) e
     first : (c : Bool) (r : Option Local) → (if c then Some l else find fs y) ≡ Some m → (l ≡ m) ⊎ ((if c then Some f.1 else find fs y) ≡ Some m)
     first true r h = inl (some_is l m h)
     first false r h = inr h
+
     later : (c : Bool) → (find (with_local x l fs) y ≡ Some m → (l ≡ m) ⊎ (find fs y ≡ Some m)) → (if c then Some f.1 else find (with_local x l fs) y) ≡ Some m → (l ≡ m) ⊎ ((if c then Some f.1 else find fs y) ≡ Some m)
     later true r h = inr h
     later false r h = r h
+
     go : (b : Bool) → (find (with_local x l fs) y ≡ Some m → (l ≡ m) ⊎ (find fs y ≡ Some m)) → find (if b then (f.0, l) ∷ fs else f ∷ with_local x l fs) y ≡ Some m → (l ≡ m) ⊎ ((if bytes_eq y f.0 then Some f.1 else find fs y) ≡ Some m)
     go true r h = first (bytes_eq y f.0) None h
     go false r h = later (bytes_eq y f.0) r h
@@ -293,6 +295,7 @@ agrees_inside types n sc x t ty d h = record { declared = λ y m e. p y m (found
     p : (y : List ℕ) (m : Local) → (record { number = n; ty = t } ≡ m) ⊎ (find sc y ≡ Some m) → declarable m.ty ≡ Some (retyped n ty types m.number)
     p y m (inl e) = rw (sym e, same_number n) d
     p y m (inr e) = rw (other_number n m.number (h.below y m e)) (h.declared y m e)
+
     q : (y : List ℕ) (m : Local) → (record { number = n; ty = t } ≡ m) ⊎ (find sc y ≡ Some m) → m.number < suc n
     q y m (inl e) = let i : n ≡ m.number = ap (λ l. l.number) e in omega (arith, i)
     q y m (inr e) = let i = h.below y m e in omega (arith, i)

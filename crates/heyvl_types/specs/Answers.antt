@@ -4,7 +4,7 @@ use Rattle.heyvl_types.specs.Findings.{Finding, first}
 use Rattle.heyvl_types.specs.Table.{Meaning, kind_of}
 use Rattle.heyvl_types.specs.declared.meanings.Meaning as M
 use Rattle.heyvl_types.specs.declared.stops.ResolveStop.{ResolveStop}
-use Rattle.std.specs.Prelude.{Err, List, Ok, Option, Result, Some, [], ⊤, ◌∷◌, ◌≡◌}
+use Rattle.std.specs.Prelude.{Err, List, Ok, Option, Result, Some, [], ⊤, ◌≡◌}
 
 -- The plain meaning that a meaning in memory holds.
 abbrev pub meaning_of : M.Meaning → Meaning

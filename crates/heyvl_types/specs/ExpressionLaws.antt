@@ -1,7 +1,6 @@
 -- The law of what expressions become: it is well typed, and it isn't much larger.
 use Rattle.heylo_formula.specs.Sizes.{nodes, nodes_in}
 use Rattle.heylo_formula.specs.Typing.{Types, is_well_typed, type_of}
-use Rattle.heylo_formula.specs.declared.types.Ty.{Ty}
 use Rattle.heyvl_syntax.specs.Expressions.{Expression}
 use Rattle.heyvl_syntax.specs.Sizes.{nodes as expression_nodes}
 use Rattle.heyvl_types.specs.Scopes.{Scope, find}

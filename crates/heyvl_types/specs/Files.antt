@@ -22,7 +22,7 @@ use Rattle.heyvl_types.specs.declared.demands.Front.{Front}
 use Rattle.heyvl_types.specs.declared.settings.Setting.{Setting}
 use Rattle.std.specs.List.{list_any}
 use Rattle.std.specs.Option.{is_none}
-use Rattle.std.specs.Prelude.{Bool, List, None, Option, Some, [], false, if◌then◌else◌, length, map, nat_lt, not, suc, true, ◌&&◌, ◌++◌, ◌+◌, ◌||◌, ◌∷◌, ℕ}
+use Rattle.std.specs.Prelude.{Bool, List, None, Option, Some, [], false, length, map, nat_lt, not, suc, true, ◌&&◌, ◌++◌, ◌+◌, ◌||◌, ◌∷◌, ℕ}
 use Rattle.std.specs.Str.{bytes_eq}
 
 -- ---- A procedure's head

@@ -9,7 +9,7 @@ use Rattle.heyvl_types.specs.TypedExpressions.{closed_findings, elaborate, lacks
 use Rattle.heyvl_types.specs.declared.demands.Demand.{Demand}
 use Rattle.std.specs.List.{list_any}
 use Rattle.std.specs.Option.{is_none}
-use Rattle.std.specs.Prelude.{Bool, List, [], false, not, true, ◌++◌, ◌+◌, ◌==◌, ◌||◌, ◌∷◌, ℕ, nat_le, ◌&&◌}
+use Rattle.std.specs.Prelude.{Bool, List, [], false, not, true, ◌++◌, ◌+◌, ◌==◌, ◌∷◌, ℕ, nat_le, ◌&&◌}
 
 -- What is found in the parts of a rule, and of rules in their order.
 abbrev pub rule_findings : ℕ → Scope → LoopRule → List Finding
@@ -74,7 +74,7 @@ copies_wrong (LoopRule.ranking e r s) = false
 -- The rules of a loop's own node. Whether a body that may stand under a ranking is the loop's is handed in.
 abbrev pub loop_rules : ℕ → Scope → List LoopRule → Bool → List (ℕ × Bool)
 loop_rules n sc rs rankable =
-    ( (12, list_any (is_no_formula n sc) rs)
+    ((12, list_any (is_no_formula n sc) rs)
     ∷ (15, list_any step_wrong rs)
     ∷ (16, list_any steps_over_zero rs)
     ∷ (18, rules_wrong rs)

@@ -208,7 +208,7 @@ calls_quantified called (RightSide.choose parts) = false
 -- a type can't be declared, and whether a target is an input, are handed in.
 abbrev pub right_rules : Bool → Called → ℕ → Scope → Bool → Bool → Bool → Bool → List (Option TypeName) → RightSide → List (ℕ × Bool)
 right_rules co called n sc unknown twice undeclarable input targets r =
-    ( (10, unknown || calls_unknown called r)
+    ((10, unknown || calls_unknown called r)
     ∷ (11, twice)
     ∷ (12, undeclarable || right_mismatches called n sc r targets)
     ∷ (13, input)

@@ -1,8 +1,6 @@
 -- Statements: the rules of each, and what is found against them.
 use Rattle.heylo_formula.specs.Operators.{agree}
-use Rattle.heyvl_syntax.specs.Expressions.{Expression}
 use Rattle.heyvl_syntax.specs.Statements.{Arms, Block, RightSide, Statement}
-use Rattle.heyvl_syntax.specs.declared.spans.Span.{Span}
 use Rattle.heyvl_syntax.specs.declared.statements.CheckKind.{CheckKind}
 use Rattle.heyvl_syntax.specs.declared.types.TypeName.{TypeName}
 use Rattle.heyvl_types.specs.Findings.{Finding, at}
@@ -112,7 +110,7 @@ validate_rules h bound co = (17, validates_against h.co co && bound) ∷ []
 
 abbrev pub havoc_rules : Setting → Scope → Bool → List (List ℕ) → List (ℕ × Bool)
 havoc_rules h sc co xs =
-    ( (10, any_unknown sc xs)
+    ((10, any_unknown sc xs)
     ∷ (11, any_twice xs)
     ∷ (13, any_input h.inputs sc xs)
     ∷ (17, havocs_against h.co co)

@@ -1,5 +1,4 @@
 -- Expressions with names and types: what each becomes, and what is found against it. The number n is that of the next variable.
-use Rattle.heylo_formula.specs.declared.types.Ty.{Ty}
 use Rattle.heyvl_syntax.specs.Expressions.{Expression}
 use Rattle.heyvl_syntax.specs.declared.operators.BinaryOp.{BinaryOp}
 use Rattle.heyvl_syntax.specs.declared.spans.Span.{Span}
@@ -84,7 +83,7 @@ is_misplaced f e = false
 -- The rules of an expression's own node.
 abbrev pub own : Front → Demand → ℕ → Scope → Expression → List Finding
 own f d n sc e = at (place e)
-    ( (10, is_unknown sc e)
+    ((10, is_unknown sc e)
     ∷ (11, is_given_twice sc e)
     ∷ (12, lacks d (elaborate n sc e))
     ∷ (16, divides_wrong e)

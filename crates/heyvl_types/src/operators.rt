@@ -67,7 +67,11 @@ pub(crate) fn declarable(name: TypeName) -> Option<Ty>
 fn kind_of_value(value: Frac) -> Kind
     ensures { kind_of result ≡ if value.den == 1 then uint else ureal }
 {
-    if value.den() == 1 { Kind::UInt } else { Kind::UReal }
+    if value.den() == 1 {
+        Kind::UInt
+    } else {
+        Kind::UReal
+    }
 }
 
 /// A number literal.
@@ -173,11 +177,9 @@ fn joined_numbers(
         BinaryOp::AtLeast => Ok(comparison(kind, Cond::Le(b, a))),
         BinaryOp::Cap => Ok(Some(Meaning::Number(kind, Form::Min(a, b)))),
         BinaryOp::Cup => Ok(Some(Meaning::Number(kind, Form::Max(a, b)))),
-        BinaryOp::And
-        | BinaryOp::Or
-        | BinaryOp::Imply
-        | BinaryOp::CoImply
-        | BinaryOp::Slash => Ok(None),
+        BinaryOp::And | BinaryOp::Or | BinaryOp::Imply | BinaryOp::CoImply | BinaryOp::Slash => Ok(
+            None,
+        ),
     }
 }
 
@@ -347,7 +349,10 @@ fn negation(alloc: Global, inner: Meaning) -> Result<Option<Meaning>, AllocError
         Meaning::Real => Ok(None),
         Meaning::Number(kind, form) => {
             let form = Box::new(alloc, form)?;
-            Ok(extended(unsigned(kind), Form::Imply(form, Box::new(alloc, nothing())?)))
+            Ok(extended(
+                unsigned(kind),
+                Form::Imply(form, Box::new(alloc, nothing())?),
+            ))
         }
     }
 }
@@ -361,7 +366,10 @@ fn conegation(alloc: Global, inner: Meaning) -> Result<Option<Meaning>, AllocErr
         Meaning::Real => Ok(None),
         Meaning::Number(kind, form) => {
             let form = Box::new(alloc, form)?;
-            Ok(extended(unsigned(kind), Form::CoImply(form, Box::new(alloc, endless())?)))
+            Ok(extended(
+                unsigned(kind),
+                Form::CoImply(form, Box::new(alloc, endless())?),
+            ))
         }
     }
 }
