@@ -140,11 +140,11 @@ mutual
   toward_act co s types (Act.reward f span) k v h g t1 e n d = both _ _ d (binder_free_directed co f h.1)
   toward_act co s types (Act.ifs arms o span) k v h g t1 e n d =
       toward_arms co (s || any_binds (in_order o)) types arms k (vp o k) (λ q. v (or_false s (any_binds (in_order o)) q).0) h.0 (each_first _ (inside_arms arms) (in_order o) e) (before co s (inside_arms arms) (in_order o) n) d
-        (toward_acts co s types o k v h.1 (each_second _ (inside_arms arms) (in_order o) e) (behind co s (inside_arms arms) (in_order o) n) d)
+      (toward_acts co s types o k v h.1 (each_second _ (inside_arms arms) (in_order o) e) (behind co s (inside_arms arms) (in_order o) n) d)
   toward_act co s types (Act.pick up a b span) k v h g t1 e n d =
       toward_pick co up (vp a k) (vp b k)
-        (toward_acts co (s || any_binds (in_order b)) types a k (λ q. v (or_false s (any_binds (in_order b)) q).0) h.0 (each_first _ (in_order a) (in_order b) e) (before co s (in_order a) (in_order b) n) d)
-        (toward_acts co s types b k v h.1 (each_second _ (in_order a) (in_order b) e) (behind co s (in_order a) (in_order b) n) d)
+      (toward_acts co (s || any_binds (in_order b)) types a k (λ q. v (or_false s (any_binds (in_order b)) q).0) h.0 (each_first _ (in_order a) (in_order b) e) (before co s (in_order a) (in_order b) n) d)
+      (toward_acts co s types b k v h.1 (each_second _ (in_order a) (in_order b) e) (behind co s (in_order a) (in_order b) n) d)
   toward_act co s types (Act.check kind f span) k v h g t1 e n d = toward_check co kind f k span h.1 g d
   toward_act co s types (Act.validate c span) k v h g t1 e n d = toward_validate co c k g d
   toward_act co s types (Act.loop l b) k v h g t1 e n d = absurd h
@@ -156,15 +156,15 @@ mutual
       let f = toward_acts co s types rest k v h.1 (each_second _ (inside a) (in_order rest) e.1) (behind co s (inside a) (in_order rest) n.1) d in
       let w : (s || any_binds (in_order rest)) ≡ false → has_binder (vp rest k) ≡ false = λ q. let o = or_false s (any_binds (in_order rest)) q in no_acts types rest k h.1 o.1 (v o.0) in
       toward_act co (s || any_binds (in_order rest)) types a (vp rest k) w h.0
-        (λ q. let o = or_false s (any_binds (inside a ++ in_order rest)) (n.0 q) in let l = binds_append (inside a) (in_order rest) o.1 in no_acts types rest k h.1 l.1 (v o.0))
-        e.0 (each_first _ (inside a) (in_order rest) e.1) (before co s (inside a) (in_order rest) n.1) f
+      (λ q. let o = or_false s (any_binds (inside a ++ in_order rest)) (n.0 q) in let l = binds_append (inside a) (in_order rest) o.1 in no_acts types rest k h.1 l.1 (v o.0))
+      e.0 (each_first _ (inside a) (in_order rest) e.1) (before co s (inside a) (in_order rest) n.1) f
 
   toward_arms : (co s : Bool) (types : Types) (arms : Arms) (k o : Form) → (s ≡ false → has_binder k ≡ false) → ArmsFit types arms → Each (ChoosesToward co) (inside_arms arms) → NothingBindsBehind co s (inside_arms arms) → is_directed co k ≡ true → is_directed co o ≡ true → is_directed co (vp_arms arms k o) ≡ true
   toward_arms co s types Arms.no_arm k o v h e n d f = f
   toward_arms co s types (Arms.arm g b more) k o v h e n d f =
       both _ _ (no _ (typed_plain types g h.0)) (both _ _
-        (toward_acts co (s || any_binds (inside_arms more)) types b k (λ q. v (or_false s (any_binds (inside_arms more)) q).0) h.1.0 (each_first _ (in_order b) (inside_arms more) e) (before co s (in_order b) (inside_arms more) n) d)
-        (toward_arms co s types more k o v h.1.1 (each_second _ (in_order b) (inside_arms more) e) (behind co s (in_order b) (inside_arms more) n) d f))
+      (toward_acts co (s || any_binds (inside_arms more)) types b k (λ q. v (or_false s (any_binds (inside_arms more)) q).0) h.1.0 (each_first _ (in_order b) (inside_arms more) e) (before co s (in_order b) (inside_arms more) n) d)
+      (toward_arms co s types more k o v h.1.1 (each_second _ (in_order b) (inside_arms more) e) (behind co s (in_order b) (inside_arms more) n) d f))
 
 pub generated_directed : (co : Bool) (types : Types) (acts : Acts) (post : Form) → ActsFit types acts → Each (ChoosesToward co) (in_order acts) → NothingBindsBehind co (has_binder post) (in_order acts) → is_directed co post ≡ true → is_directed co (vp acts post) ≡ true
 generated_directed co types acts post h e n d = toward_acts co (has_binder post) types acts post (λ q. q) h e n d

@@ -18,6 +18,6 @@ pub made_goal : (up : Bool) (stated found f : Form) (vs all : List VarInfo) (typ
 made_goal up stated found f vs all types names own h i j k l =
     let e = same_length vs in
     ap (λ g. made up stated g types names own) (h ∙ ap (λ n. prenexed n found) (sym e))
-      ∙ ap (λ t. made up stated (prenexed (length (types_of_variables vs)) found) t names own) (j ∙ ap types_of_variables i ∙ named_types vs (binders found))
-      ∙ ap (λ n. made up stated (prenexed (length (types_of_variables vs)) found) (types_of_variables vs ++ new_types (binders found)) n own) (k ∙ ap names_of_variables i)
-      ∙ ap (λ o. made up stated (prenexed (length (types_of_variables vs)) found) (types_of_variables vs ++ new_types (binders found)) (names_of_variables (named vs (binders found))) o) (l ∙ sym e)
+    ∙ ap (λ t. made up stated (prenexed (length (types_of_variables vs)) found) t names own) (j ∙ ap types_of_variables i ∙ named_types vs (binders found))
+    ∙ ap (λ n. made up stated (prenexed (length (types_of_variables vs)) found) (types_of_variables vs ++ new_types (binders found)) n own) (k ∙ ap names_of_variables i)
+    ∙ ap (λ o. made up stated (prenexed (length (types_of_variables vs)) found) (types_of_variables vs ++ new_types (binders found)) (names_of_variables (named vs (binders found))) o) (l ∙ sym e)

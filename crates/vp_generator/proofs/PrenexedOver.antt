@@ -61,8 +61,8 @@ mutual
   unbound_over (Form.select g a b) m n k h f x i =
       let s = second_below (binders_in g) (binders a ++ binders b) n k h in
       two _ _ x k (unbound_over_in g m n k (first_below (binders_in g) (binders a ++ binders b) n k h) (λ y j. f y (left_free (is_free_in y g) (is_free y a || is_free y b) j)) x)
-        (two _ _ x k (unbound_over a m (n + length (binders_in g)) k (first_below (binders a) (binders b) (n + length (binders_in g)) k s) (λ y j. f y (right_free (is_free_in y g) (is_free y a || is_free y b) (left_free (is_free y a) (is_free y b) j))) x)
-          (unbound_over b m (n + length (binders_in g) + length (binders a)) k (second_below (binders a) (binders b) (n + length (binders_in g)) k s) (λ y j. f y (right_free (is_free_in y g) (is_free y a || is_free y b) (right_free (is_free y a) (is_free y b) j))) x)) i
+      (two _ _ x k (unbound_over a m (n + length (binders_in g)) k (first_below (binders a) (binders b) (n + length (binders_in g)) k s) (λ y j. f y (right_free (is_free_in y g) (is_free y a || is_free y b) (left_free (is_free y a) (is_free y b) j))) x)
+      (unbound_over b m (n + length (binders_in g) + length (binders a)) k (second_below (binders a) (binders b) (n + length (binders_in g)) k s) (λ y j. f y (right_free (is_free_in y g) (is_free y a || is_free y b) (right_free (is_free y a) (is_free y b) j))) x)) i
   unbound_over (Form.bind up z name ty a) m n k h f x i = unbound_over a (renumbered z n m) (suc n) k (omega (arith, h)) (λ y j. inner y z n k m (is_free y a) (omega (arith, h)) (f y) j) x i
 
   pub unbound_over_in : (g : Cond) (m : Numbering) (n k : ℕ) → n + length (binders_in g) ≤ k → ((y : ℕ) → is_free_in y g ≡ true → m y < k) → IsOverIn k (unbound_in m n g)
@@ -78,5 +78,5 @@ mutual
   unbound_over_in (Cond.ite g a b) m n k h f x i =
       let s = second_below (binders_in g) (binders_in a ++ binders_in b) n k h in
       two _ _ x k (unbound_over_in g m n k (first_below (binders_in g) (binders_in a ++ binders_in b) n k h) (λ y j. f y (left_free (is_free_in y g) (is_free_in y a || is_free_in y b) j)) x)
-        (two _ _ x k (unbound_over_in a m (n + length (binders_in g)) k (first_below (binders_in a) (binders_in b) (n + length (binders_in g)) k s) (λ y j. f y (right_free (is_free_in y g) (is_free_in y a || is_free_in y b) (left_free (is_free_in y a) (is_free_in y b) j))) x)
-          (unbound_over_in b m (n + length (binders_in g) + length (binders_in a)) k (second_below (binders_in a) (binders_in b) (n + length (binders_in g)) k s) (λ y j. f y (right_free (is_free_in y g) (is_free_in y a || is_free_in y b) (right_free (is_free_in y a) (is_free_in y b) j))) x)) i
+      (two _ _ x k (unbound_over_in a m (n + length (binders_in g)) k (first_below (binders_in a) (binders_in b) (n + length (binders_in g)) k s) (λ y j. f y (right_free (is_free_in y g) (is_free_in y a || is_free_in y b) (left_free (is_free_in y a) (is_free_in y b) j))) x)
+      (unbound_over_in b m (n + length (binders_in g) + length (binders_in a)) k (second_below (binders_in a) (binders_in b) (n + length (binders_in g)) k s) (λ y j. f y (right_free (is_free_in y g) (is_free_in y a || is_free_in y b) (right_free (is_free_in y a) (is_free_in y b) j))) x)) i
