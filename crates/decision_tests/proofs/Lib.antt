@@ -1,1 +1,2 @@
 pub mod TestRows
+mod ZeroTests
