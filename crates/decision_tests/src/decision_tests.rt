@@ -276,30 +276,6 @@ fn products_of_two_variables(rt: HostRuntime) -> Result<(), Fail> {
     Ok(())
 }
 
-/// `x <= 0`, asked so often that the number of times doubles with each level.
-fn repeated(alloc: Global, levels: u32) -> Result<Cond, AllocError> {
-    if levels == 0 {
-        return at_most(alloc, Form::Var(0), number(0, 1));
-    }
-    let first = repeated(alloc, levels - 1)?;
-    both(alloc, first, repeated(alloc, levels - 1)?)
-}
-
-/// A goal that asks so often, and holds whatever is answered.
-fn asked(alloc: Global, levels: u32) -> Result<Goal, AllocError> {
-    let test = repeated(alloc, levels)?;
-    let stated = select(alloc, test, number(1, 1), number(1, 1))?;
-    upper(alloc, stated, number(1, 1), &[Ty::Int])
-}
-
-/// Each question but the first has an answer that no state gives.
-#[test]
-fn questions_that_come_again(rt: HostRuntime) -> Result<(), Fail> {
-    let alloc = rt.alloc();
-    assert!(rt; is_proved(&decision_of(alloc, &asked(alloc, 3)?)?, 9));
-    Ok(())
-}
-
 /// A multiple of a variable.
 fn multiple(alloc: Global, times: u32, x: u32) -> Result<Form, AllocError> {
     let place = Span { from: 0, to: 0 };
