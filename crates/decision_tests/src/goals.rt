@@ -5,6 +5,7 @@ use heyvl_num::{Ext, Frac};
 use heyvl_syntax::Span;
 use std::alloc::{AllocError, Global};
 
+/// A constant; infinity where there is no such fraction.
 pub fn number(num: i128, den: i128) -> Form {
     match Frac::new(num, den) {
         Some(x) => Form::Const(Ext::Fin(x)),
@@ -12,10 +13,12 @@ pub fn number(num: i128, den: i128) -> Form {
     }
 }
 
+/// Infinity as a form.
 pub fn infinity() -> Form {
     Form::Const(Ext::Inf)
 }
 
+/// The sum of two forms.
 pub fn sum(alloc: Global, left: Form, right: Form) -> Result<Form, AllocError> {
     let left = Box::new(alloc, left)?;
     Ok(Form::Sum(left, Box::new(alloc, right)?))
@@ -33,11 +36,13 @@ pub fn select(alloc: Global, test: Cond, holds: Form, fails: Form) -> Result<For
     Ok(Form::Select(test, holds, Box::new(alloc, fails)?))
 }
 
+/// Whether the first form is at most the second.
 pub fn at_most(alloc: Global, left: Form, right: Form) -> Result<Cond, AllocError> {
     let left = Box::new(alloc, left)?;
     Ok(Cond::Le(left, Box::new(alloc, right)?))
 }
 
+/// Whether both conditions hold.
 pub fn both(alloc: Global, left: Cond, right: Cond) -> Result<Cond, AllocError> {
     let left = Box::new(alloc, left)?;
     Ok(Cond::And(left, Box::new(alloc, right)?))
@@ -61,6 +66,7 @@ pub fn product(alloc: Global, left: Form, right: Form, span: Span) -> Result<For
     Ok(Form::Product(left, Box::new(alloc, right)?, span))
 }
 
+/// Whether the first form is below the second.
 pub fn below(alloc: Global, left: Form, right: Form) -> Result<Cond, AllocError> {
     let left = Box::new(alloc, left)?;
     Ok(Cond::Lt(left, Box::new(alloc, right)?))
