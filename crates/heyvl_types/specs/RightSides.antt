@@ -8,7 +8,7 @@ use Rattle.heyvl_syntax.specs.declared.types.TypeName.{TypeName}
 use Rattle.heyvl_types.specs.Findings.{Finding}
 use Rattle.heyvl_types.specs.Literals.{ends_wrong, integer, is_negative, is_over_zero, is_probability, is_weight_literal, weigh_wrong, weight}
 use Rattle.heyvl_types.specs.Scopes.{Scope}
-use Rattle.heyvl_types.specs.Signatures.{Called, Signature}
+use Rattle.heyvl_types.specs.Signatures.{Called, Signature, find_call}
 use Rattle.heyvl_types.specs.Table.{Meaning, given}
 use Rattle.heyvl_types.specs.TypedExpressions.{closed_findings, elaborate}
 use Rattle.heyvl_types.specs.declared.demands.Demand.{Demand}
@@ -126,7 +126,7 @@ any_output_mismatches (o ∷ os) (t ∷ ts) = mismatches_target (type_of_name o)
 
 -- A called procedure that isn't there.
 abbrev pub calls_unknown : Called → RightSide → Bool
-calls_unknown called (RightSide.call p arguments) = is_none (called p)
+calls_unknown called (RightSide.call p arguments) = is_none (find_call called p)
 calls_unknown called (RightSide.plain e) = false
 calls_unknown called (RightSide.flip p) = false
 calls_unknown called (RightSide.unif a b) = false
@@ -143,7 +143,7 @@ first_mismatches v (t ∷ ts) = mismatches_target v t
 -- Types don't agree: of a call an argument's with its input's or an output's with its target's, else that of the right side with the
 -- first target's.
 abbrev pub right_mismatches : Called → ℕ → Scope → RightSide → List (Option TypeName) → Bool
-right_mismatches called n sc (RightSide.call p arguments) targets = call_mismatches n sc (called p) arguments targets
+right_mismatches called n sc (RightSide.call p arguments) targets = call_mismatches n sc (find_call called p) arguments targets
 right_mismatches called n sc (RightSide.plain e) targets = first_mismatches (right_type n sc (RightSide.plain e)) targets
 right_mismatches called n sc (RightSide.flip p) targets = first_mismatches (right_type n sc (RightSide.flip p)) targets
 right_mismatches called n sc (RightSide.unif a b) targets = first_mismatches (right_type n sc (RightSide.unif a b)) targets
@@ -155,7 +155,7 @@ call_counts_wrong (Some p) arguments targets = not ((length arguments == length 
 
 -- A call has as many arguments as inputs and as many targets as outputs; another right side has one target.
 abbrev pub counts_wrong : Called → RightSide → List (Option TypeName) → Bool
-counts_wrong called (RightSide.call p arguments) targets = call_counts_wrong (called p) arguments targets
+counts_wrong called (RightSide.call p arguments) targets = call_counts_wrong (find_call called p) arguments targets
 counts_wrong called (RightSide.plain e) targets = not (length targets == 1)
 counts_wrong called (RightSide.flip p) targets = not (length targets == 1)
 counts_wrong called (RightSide.unif a b) targets = not (length targets == 1)
@@ -190,7 +190,7 @@ is_quantified (Some p) = p.quantified
 
 -- A call of a coproc by a proc, or of a proc by a coproc.
 abbrev pub calls_against : Bool → Called → RightSide → Bool
-calls_against co called (RightSide.call p arguments) = is_of_other_direction co (called p)
+calls_against co called (RightSide.call p arguments) = is_of_other_direction co (find_call called p)
 calls_against co called (RightSide.plain e) = false
 calls_against co called (RightSide.flip p) = false
 calls_against co called (RightSide.unif a b) = false
@@ -198,7 +198,7 @@ calls_against co called (RightSide.choose parts) = false
 
 -- A call of a procedure with a quantifier in a post clause.
 abbrev pub calls_quantified : Called → RightSide → Bool
-calls_quantified called (RightSide.call p arguments) = is_quantified (called p)
+calls_quantified called (RightSide.call p arguments) = is_quantified (find_call called p)
 calls_quantified called (RightSide.plain e) = false
 calls_quantified called (RightSide.flip p) = false
 calls_quantified called (RightSide.unif a b) = false

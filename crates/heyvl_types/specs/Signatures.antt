@@ -24,14 +24,25 @@ signature n p = record {
   quantified = list_any has_quantifier p.posts;
 }
 
--- Which procedure a name calls.
+-- The procedures that calls can name, each by its name, in the order of the text.
 abbrev pub Called : Type 0
-Called = List ℕ → Option Signature
+Called = List (List ℕ × Signature)
 
--- The first procedure of this name; the first of the list has the number n.
-abbrev pub called_from : ℕ → List Procedure → Called
-called_from n [] x = None
-called_from n (p ∷ ps) x = if bytes_eq x p.name then Some (signature n p) else called_from (suc n) ps x
+-- The procedure that a name calls.
+abbrev pub find_call : Called → List ℕ → Option Signature
+find_call [] x = None
+find_call (e ∷ es) x = if bytes_eq x e.0 then Some e.1 else find_call es x
 
+-- With one more procedure, unless there is one of its name.
+abbrev pub with_signature : List ℕ → Signature → Called → Called
+with_signature x p [] = (x, p) ∷ []
+with_signature x p (e ∷ es) = if bytes_eq x e.0 then e ∷ es else e ∷ with_signature x p es
+
+-- With more procedures, of which the first has the number n.
+abbrev pub with_signatures : ℕ → Called → List Procedure → Called
+with_signatures n c [] = c
+with_signatures n c (p ∷ ps) = with_signatures (suc n) (with_signature p.name (signature n p) c) ps
+
+-- The procedures of a file: of those with one name the first.
 abbrev pub called : List Procedure → Called
-called ps = called_from 0 ps
+called ps = with_signatures 0 [] ps

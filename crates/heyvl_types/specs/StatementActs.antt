@@ -11,7 +11,7 @@ use Rattle.heyvl_syntax.specs.declared.types.TypeName.{TypeName}
 use Rattle.heyvl_types.specs.Acts.{Act, Acts, Arms, join}
 use Rattle.heyvl_types.specs.Literals.{copies, integer, weight, weight_value}
 use Rattle.heyvl_types.specs.Scopes.{Scope, find, numbers}
-use Rattle.heyvl_types.specs.Signatures.{Called, Signature}
+use Rattle.heyvl_types.specs.Signatures.{Called, Signature, find_call}
 use Rattle.heyvl_types.specs.Table.{Meaning, declarable}
 use Rattle.heyvl_types.specs.TypedExpressions.{elaborate}
 use Rattle.heyvl_types.specs.Variables.{behind, locals, locals_of_arms, locals_of_block, type_or_bool}
@@ -89,7 +89,7 @@ assigned called n sc xs (RightSide.plain e) s = Act.set (first_or_zero xs) (term
 assigned called n sc xs (RightSide.flip p) s = Act.draw (first_or_zero xs) (flip_parts (weight_value (weight p))) s
 assigned called n sc xs (RightSide.unif a b) s = Act.draw (first_or_zero xs) (unif_parts (integer a) (integer b)) s
 assigned called n sc xs (RightSide.choose parts) s = Act.draw (first_or_zero xs) (choose_parts n sc parts) s
-assigned called n sc xs (RightSide.call p arguments) s = Act.call xs (callee (called p)) (terms n sc arguments) s
+assigned called n sc xs (RightSide.call p arguments) s = Act.call xs (callee (find_call called p)) (terms n sc arguments) s
 
 -- What gives the declared variable n its first value: what it is given, or any value in the procedure's direction.
 abbrev pub declared_act : Setting → Called → ℕ → Scope → TypeName → Option RightSide → Span → Act
