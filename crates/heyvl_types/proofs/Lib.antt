@@ -9,3 +9,4 @@ pub mod ScopeEntries
 pub mod LiteralFractions
 pub mod Reading
 pub mod TypedMeanings
+pub mod resolved
