@@ -1,2 +1,13 @@
 pub mod Findings
 pub mod InOrder
+pub mod Numbers
+pub mod Rows
+pub mod Quantifiers
+pub mod Callable
+pub mod Bindings
+pub mod Directions
+pub mod Growth
+pub mod Loops
+pub mod Sight
+pub mod Scopes
+pub mod Bodies
