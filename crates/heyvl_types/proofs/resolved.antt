@@ -1,8 +1,9 @@
 pub mod Findings
 pub mod InOrder
+pub mod Tests
 pub mod Numbers
 pub mod Rows
-pub mod Quantifiers
+pub mod Posts
 pub mod Callable
 pub mod Bindings
 pub mod Directions

@@ -20,8 +20,3 @@ pub fn forward_meaning_matches_runs()
 pub fn expressions_are_typed()
     ensures { expressions.ExpressionsAreTyped }
 {}
-
-/// Scratch.
-pub fn scratch()
-    ensures { expressions.ExpressionsAreTyped }
-{}

@@ -5,8 +5,9 @@ use Rattle.heyvl_syntax.specs.Statements.{Block, RightSide, Statement}
 use Rattle.heyvl_syntax.specs.declared.spans.Span.{Span}
 use Rattle.heyvl_syntax.specs.declared.statements.CheckKind.{CheckKind}
 use Rattle.heyvl_syntax.specs.declared.types.TypeName.{TypeName}
-use Rattle.heyvl_types.proofs.resolved.Findings.{all_kept, back_none, front_none, left_false, right_false}
+use Rattle.heyvl_types.proofs.resolved.Findings.{all_kept, back_none, front_none}
 use Rattle.heyvl_types.proofs.resolved.InOrder.{in_order_join}
+use Rattle.heyvl_types.proofs.resolved.Tests.{left_false, neither, right_false}
 use Rattle.heyvl_types.specs.Acts.{Act, Acts, acts_in}
 use Rattle.heyvl_types.specs.Files.{body_acts, body_findings}
 use Rattle.heyvl_types.specs.Places.{in_order, inside_arms}
@@ -23,8 +24,6 @@ use Rattle.std.proofs.Common.{Bool, List, None, Option, Some, [], append_assoc, 
 use Rattle.std.proofs.lemmas.List.{append-nil}
 use Rattle.std.specs.Prelude.{length, not, ◌&&◌, ◌||◌}
 
-neither : (a b : Bool) → a ≡ false → b ≡ false → (a || b) ≡ false
-neither a b p q = rw p q
 
 none_bind : (xs ys : List Act) → any_binds xs ≡ false → any_binds ys ≡ false → any_binds (xs ++ ys) ≡ false
 none_bind [] ys p q = q
@@ -69,12 +68,12 @@ module _ (h : Setting) (called : Called) where
     unbound_block n m sc Block.done u = refl
     unbound_block n m sc (Block.next s b) u =
         rw (in_order_join (statement_acts h called n m sc s) (block_acts h called (n + length (locals s)) (m + loops s) (behind n sc s) b))
-        (none_bind _ _ (unbound_statement n m sc s (left_false _ _ u)) (unbound_block (n + length (locals s)) (m + loops s) (behind n sc s) b (right_false _ _ u)))
+        (none_bind (in_order (statement_acts h called n m sc s)) (in_order (block_acts h called (n + length (locals s)) (m + loops s) (behind n sc s) b)) (unbound_statement n m sc s (left_false _ _ u)) (unbound_block (n + length (locals s)) (m + loops s) (behind n sc s) b (right_false _ _ u)))
 
     unbound_arms : (n m : ℕ) (sc : Scope) (arms : text.Arms) → arms_bind arms ≡ false → any_binds (inside_arms (arms_acts h called n m sc arms)) ≡ false
     unbound_arms n m sc text.Arms.no_arm u = refl
     unbound_arms n m sc (text.Arms.arm g b more) u =
-        none_bind _ _ (unbound_block n m sc b (left_false _ _ u)) (unbound_arms (n + length (locals_of_block b)) (m + loops_of_block b) sc more (right_false _ _ u))
+        none_bind (in_order (block_acts h called n m sc b)) (inside_arms (arms_acts h called (n + length (locals_of_block b)) (m + loops_of_block b) sc more)) (unbound_block n m sc b (left_false _ _ u)) (unbound_arms (n + length (locals_of_block b)) (m + loops_of_block b) sc more (right_false _ _ u))
 
 -- ---- Checks
 

@@ -5,14 +5,13 @@ use Rattle.heyvl_syntax.specs.declared.procedures.Param.{Param}
 use Rattle.heyvl_types.proofs.resolved.Bindings.{nothing_binds_behind}
 use Rattle.heyvl_types.proofs.resolved.Callable.{called_described}
 use Rattle.heyvl_types.proofs.resolved.Directions.{follows_body}
-use Rattle.heyvl_types.proofs.resolved.Findings.{back_none, front_none}
 use Rattle.heyvl_types.proofs.resolved.Growth.{counted_grow, numbers_of_parameters}
 use Rattle.heyvl_types.proofs.resolved.Loops.{meets_body}
 use Rattle.heyvl_types.proofs.resolved.Numbers.{counted_more, numbered_body}
-use Rattle.heyvl_types.proofs.resolved.Quantifiers.{free_post}
+use Rattle.heyvl_types.proofs.resolved.Posts.{free_post}
 use Rattle.heyvl_types.proofs.resolved.Scopes.{Mirrors, reads_body}
 use Rattle.heyvl_types.specs.Acts.{TypedProcedure, acts_in, variables}
-use Rattle.heyvl_types.specs.Files.{arity, body_findings, first_quantified, has_quantified_post, head_scope, input_scope, parameters_findings, procedure_findings, resolved, setting, typed}
+use Rattle.heyvl_types.specs.Files.{arity, body_findings, first_quantified, has_quantified_post, head_scope, input_scope, parameters_findings, resolved, setting, typed}
 use Rattle.heyvl_types.specs.Places.{in_order}
 use Rattle.heyvl_types.specs.Rules.{Each, FollowsDirection, GrowBelow, LoopsMeet, NothingBindsBehind, counted, loop_numbers}
 use Rattle.heyvl_types.specs.Scopes.{numbers}
@@ -32,14 +31,14 @@ length_of_parameters (p ∷ ps) = ap suc (length_of_parameters ps)
 
 inside_row : (n k y : ℕ) → n ≤ y → y < n + k → among (counted n k) y ≡ true
 inside_row n zero y p q = absurd (omega arith)
-inside_row n (suc k) y p q = go (n == y) refl
+inside_row n (suc k) y p q = go (n == y) refl (λ l. inside_row (suc n) k y l (omega arith))
   where
-    go : (b : Bool) → (n == y) ≡ b → (b || among (counted (suc n) k) y) ≡ true
-    go true e = refl
-    go false e = inside_row (suc n) k y (above n y p e) (omega arith)
-      where
-        above : (n y : ℕ) → n ≤ y → (n == y) ≡ false → suc n ≤ y
-        above n y p e = grind (arith, p, e)
+    above : (n y : ℕ) → n ≤ y → (n == y) ≡ false → suc n ≤ y
+    above n y p e = grind (arith, p, e)
+
+    go : (b : Bool) → (n == y) ≡ b → (suc n ≤ y → among (counted (suc n) k) y ≡ true) → (b || among (counted (suc n) k) y) ≡ true
+    go true e r = refl
+    go false e r = r (above n y p e)
 
 outside_row : (n k y : ℕ) → n + k ≤ y → among (counted n k) y ≡ false
 outside_row n zero y p = refl
@@ -57,19 +56,13 @@ first_numbers k y = go (cases_lt y k)
 
 -- ---- Procedures
 
-module _ (ps : List Procedure) (named : Bool) (p : Procedure) (found : procedure_findings (called ps) named p ≡ []) where
-  -- The typed procedure.
+-- A procedure of a file, where nothing is found in its inputs, its outputs and its body.
+module _ (ps : List Procedure) (p : Procedure)
+    (inputs_found : parameters_findings 0 [] p.inputs ≡ [])
+    (outputs_found : parameters_findings (length p.inputs) (input_scope p) p.outputs ≡ [])
+    (body_found : body_findings (setting p) (called ps) (has_quantified_post p) (arity p) (head_scope p) p.body ≡ []) where
   abbrev typed_one : TypedProcedure
   typed_one = typed (called ps) p
-
-  body_found : body_findings (setting p) (called ps) (has_quantified_post p) (arity p) (head_scope p) p.body ≡ []
-  body_found = back_none _ _ (front_none _ _ found)
-
-  outputs_found : parameters_findings (length p.inputs) (input_scope p) p.outputs ≡ []
-  outputs_found = back_none _ _ (front_none _ _ (front_none _ _ (front_none _ _ (front_none _ _ found))))
-
-  inputs_found : parameters_findings 0 [] p.inputs ≡ []
-  inputs_found = back_none _ _ (front_none _ _ (front_none _ _ (front_none _ _ (front_none _ _ (front_none _ _ found)))))
 
   head_numbers : numbers (head_scope p) ≡ counted 0 (arity p)
   head_numbers =

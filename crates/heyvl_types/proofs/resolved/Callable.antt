@@ -1,11 +1,11 @@
 -- What a call sees of a procedure holds of the typed procedure that its number names.
 use Rattle.heylo_formula.specs.Binders.{has_binder}
 use Rattle.heyvl_syntax.specs.Procedures.{Procedure}
-use Rattle.heyvl_types.proofs.resolved.Quantifiers.{free_post}
+use Rattle.heyvl_types.proofs.resolved.Posts.{free_post}
 use Rattle.heyvl_types.specs.Acts.{TypedProcedure, procedure_at}
 use Rattle.heyvl_types.specs.Files.{first_quantified, head_scope, resolved, typed}
 use Rattle.heyvl_types.specs.Signatures.{Called, Signature, called, find_call, signature, with_signature, with_signatures}
-use Rattle.std.proofs.Common.{Bool, List, None, Option, Some, [], ap, arith, false, inl, inr, map, refl, subst, suc, sym, true, zero, ◌+◌, ◌∙◌, ◌≡◌, ◌⊎◌, ◌∷◌, ℕ}
+use Rattle.std.proofs.Common.{Bool, List, None, Some, [], ap, arith, false, inl, inr, map, subst, suc, true, ◌+◌, ◌∙◌, ◌≡◌, ◌⊎◌, ◌∷◌, ℕ}
 use Rattle.std.specs.Prelude.{if◌then◌else◌}
 use Rattle.std.specs.Str.{bytes_eq}
 

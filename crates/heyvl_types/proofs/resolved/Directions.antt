@@ -5,8 +5,9 @@ use Rattle.heyvl_syntax.specs.Statements.{Block, RightSide, Statement}
 use Rattle.heyvl_syntax.specs.declared.spans.Span.{Span}
 use Rattle.heyvl_syntax.specs.declared.types.TypeName.{TypeName}
 use Rattle.heyvl_types.proofs.resolved.Callable.{Describes}
-use Rattle.heyvl_types.proofs.resolved.Findings.{all_kept, back_none, front_none, not_false, right_false}
+use Rattle.heyvl_types.proofs.resolved.Findings.{all_kept, back_none, front_none}
 use Rattle.heyvl_types.proofs.resolved.InOrder.{each_both, each_join}
+use Rattle.heyvl_types.proofs.resolved.Tests.{not_false, right_false}
 use Rattle.heyvl_types.specs.Acts.{Acts, TypedProcedure, acts_in, procedure_at}
 use Rattle.heyvl_types.specs.Files.{body_acts, body_findings}
 use Rattle.heyvl_types.specs.Findings.{at}
@@ -20,9 +21,9 @@ use Rattle.heyvl_types.specs.StatementRules.{any_twice, arms_bind, arms_findings
 use Rattle.heyvl_types.specs.Table.{declarable}
 use Rattle.heyvl_types.specs.Variables.{behind, locals, locals_of_arms, locals_of_block}
 use Rattle.heyvl_types.specs.declared.settings.Setting.{Setting}
-use Rattle.std.proofs.Common.{Bool, List, None, Option, Some, [], false, refl, suc, sym, true, ◌++◌, ◌+◌, ◌∙◌, ◌≡◌, ◌∷◌, ℕ}
+use Rattle.std.proofs.Common.{Bool, List, None, Option, Some, [], false, refl, suc, sym, true, ◌+◌, ◌∙◌, ◌≡◌, ◌∷◌, ℕ}
 use Rattle.std.specs.Option.{is_none}
-use Rattle.std.specs.Prelude.{length, not, ◌||◌}
+use Rattle.std.specs.Prelude.{length, ◌||◌}
 
 agreed : (a b : Bool) → agree a b ≡ true → b ≡ a
 agreed true b e = e

@@ -1,6 +1,6 @@
 -- Where nothing is found: nothing in any part of the findings, and each rule is kept.
 use Rattle.heyvl_syntax.specs.declared.spans.Span.{Span}
-use Rattle.heyvl_types.specs.Findings.{Finding, at}
+use Rattle.heyvl_types.specs.Findings.{at}
 use Rattle.heyvl_types.specs.Rules.{Each}
 use Rattle.std.proofs.Common.{Bool, List, [], false, refl, true, ◌∷◌, ◌++◌, ◌≡◌, ℕ}
 use Rattle.std.specs.Prelude.{if◌then◌else◌, not, ◌&&◌, ◌||◌}
@@ -20,11 +20,11 @@ IsKept rule = rule.1 ≡ false
 -- Each rule of the node is kept.
 pub all_kept : (s : Span) (rules : List (ℕ × Bool)) → at s rules ≡ [] → Each IsKept rules
 all_kept s [] e = tt
-all_kept s (rule ∷ rules) e = go rule.1 refl e
+all_kept s (rule ∷ rules) e = go rule.1 refl e (λ i. all_kept s rules i)
   where
-    go : (b : Bool) → rule.1 ≡ b → (if b then (rule.0, s) ∷ at s rules else at s rules) ≡ [] → Each IsKept (rule ∷ rules)
-    go true h i = absurd (cc)
-    go false h i = (h, all_kept s rules i)
+    go : (b : Bool) → rule.1 ≡ b → (if b then (rule.0, s) ∷ at s rules else at s rules) ≡ [] → (at s rules ≡ [] → Each IsKept rules) → Each IsKept (rule ∷ rules)
+    go true h i r = absurd (cc)
+    go false h i r = (h, r i)
 
 -- ---- Tests
 

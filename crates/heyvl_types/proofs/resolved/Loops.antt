@@ -7,9 +7,10 @@ use Rattle.heyvl_syntax.specs.declared.spans.Span.{Span}
 use Rattle.heyvl_syntax.specs.declared.statements.CheckKind.{CheckKind}
 use Rattle.heyvl_syntax.specs.declared.types.TypeName.{TypeName}
 use Rattle.heylo_formula.specs.Formula.{Form}
-use Rattle.heyvl_types.proofs.resolved.Findings.{all_kept, back_none, front_none, left_true, right_true}
+use Rattle.heyvl_types.proofs.resolved.Findings.{all_kept, back_none, front_none}
 use Rattle.heyvl_types.proofs.resolved.Growth.{grow_more, grown_behind}
 use Rattle.heyvl_types.proofs.resolved.InOrder.{each_both, each_join}
+use Rattle.heyvl_types.proofs.resolved.Tests.{left_true, right_true}
 use Rattle.heyvl_types.specs.Acts.{Act, Acts, TypedProcedure, Variable, acts_in, variables}
 use Rattle.heyvl_types.specs.Files.{body_acts, body_findings}
 use Rattle.heyvl_types.specs.Literals.{copies, whole_value}
@@ -25,7 +26,7 @@ use Rattle.heyvl_types.specs.TypedExpressions.{closed_findings, elaborate}
 use Rattle.heyvl_types.specs.Variables.{behind, locals, locals_of_arms, locals_of_block, locals_of_body}
 use Rattle.heyvl_types.specs.declared.demands.Demand.{Demand}
 use Rattle.heyvl_types.specs.declared.settings.Setting.{Setting}
-use Rattle.std.proofs.Common.{Bool, List, None, Option, Some, [], arith, false, refl, subst, suc, sym, true, ◌++◌, ◌+◌, ◌<◌, ◌≡◌, ◌≤◌, ◌∷◌, ℕ, ℤ}
+use Rattle.std.proofs.Common.{Bool, List, None, Option, Some, [], arith, false, refl, subst, suc, sym, true, ◌++◌, ◌+◌, ◌≡◌, ◌≤◌, ◌∷◌, ℕ, ℤ}
 use Rattle.std.proofs.lemmas.Int.{ints}
 use Rattle.std.proofs.lemmas.List.{length-append}
 use Rattle.std.specs.Int.Signed.{le_z}
@@ -206,6 +207,9 @@ module _ (p : TypedProcedure) (h : Setting) (called : Called) (co : p.co ≡ h.c
   back_fits : (n : ℕ) (xs ys : List Variable) → Fits n (length (xs ++ ys)) → Fits (n + length xs) (length ys)
   back_fits n xs ys l = let e = length-append xs ys in omega (arith, e, l)
 
+  below_all : (n more : ℕ) → Fits n more → n ≤ length (variables p)
+  below_all n more l = omega (arith, l)
+
   mutual
     meets_statement : (bound : Bool) (n m : ℕ) (sc : Scope) (s : Statement) → statement_findings h called bound n sc s ≡ [] → GrowBelow 0 n (numbers sc) → Fits n (length (locals s)) → Each (LoopsMeet p) (in_order (statement_acts h called n m sc s))
     meets_statement bound n m sc (Statement.var x t r s) f g l = meets_declared n sc t r s
@@ -229,8 +233,8 @@ module _ (p : TypedProcedure) (h : Setting) (called : Called) (co : p.co ≡ h.c
         (record {
             some_copy = k.some;
             few_copies = k.few;
-            scope = grow_more 0 n (length (variables p)) (numbers sc) i (omega arith);
-            ranked = ranked n sc rules _ (λ e. rankable_block h called n (suc m) sc b (implied _ _ own.1.1.1.1.1.0 e));
+            scope = grow_more 0 n (length (variables p)) (numbers sc) i (below_all n (length (locals_of_block b)) l);
+            ranked = ranked n sc rules _ (λ e. rankable_block h called n (suc m) sc b (implied (list_any is_ranking rules) (block_is_rankable b) own.1.1.1.1.1.0 e));
             nothing_against = subst (λ d. Each (Along d) (in_order (block_acts h called n (suc m) sc b))) (sym co) (along_block h called n (suc m) sc b inside);
         }, each_both (LoopsMeet p) _ [] (meets_block true n (suc m) sc b inside i l) tt)
 

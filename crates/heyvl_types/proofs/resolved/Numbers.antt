@@ -69,22 +69,35 @@ module _ (h : Setting) (called : Called) where
     numbered_statement n m sc (Statement.havoc co xs s) = none_havocked sc co xs s
     numbered_statement n m sc (Statement.reward a s) = refl
     numbered_statement n m sc (Statement.branch arms other s) =
-        rw append-nil (row m (loops_of_arms arms) (loops_of_block other) _ _ (numbered_arms n m sc arms) (numbered_block (n + length (locals_of_arms arms)) (m + loops_of_arms arms) sc other))
+        let i = n + length (locals_of_arms arms) in
+        let j = m + loops_of_arms arms in
+        let front = inside_arms (arms_acts h called n m sc arms) in
+        let back = in_order (block_acts h called i j sc other) in
+        ap loop_numbers (append-nil (front ++ back)) ∙ row m (loops_of_arms arms) (loops_of_block other) front back (numbered_arms n m sc arms) (numbered_block i j sc other)
     numbered_statement n m sc (Statement.pick up a b s) =
-        rw append-nil (row m (loops_of_block a) (loops_of_block b) _ _ (numbered_block n m sc a) (numbered_block (n + length (locals_of_block a)) (m + loops_of_block a) sc b))
+        let i = n + length (locals_of_block a) in
+        let j = m + loops_of_block a in
+        let front = in_order (block_acts h called n m sc a) in
+        let back = in_order (block_acts h called i j sc b) in
+        ap loop_numbers (append-nil (front ++ back)) ∙ row m (loops_of_block a) (loops_of_block b) front back (numbered_block n m sc a) (numbered_block i j sc b)
     numbered_statement n m sc (Statement.loop rules g b s) =
-        rw append-nil (ap (λ r. m ∷ r) (numbered_block n (suc m) sc b) ∙ first_number m (loops_of_block b))
+        ap (λ r. m ∷ loop_numbers r) (append-nil (in_order (block_acts h called n (suc m) sc b))) ∙ (ap (λ r. m ∷ r) (numbered_block n (suc m) sc b) ∙ first_number m (loops_of_block b))
 
     pub numbered_block : (n m : ℕ) (sc : Scope) (b : Block) → loop_numbers (in_order (block_acts h called n m sc b)) ≡ counted m (loops_of_block b)
     numbered_block n m sc Block.done = refl
     numbered_block n m sc (Block.next s b) =
-        ap loop_numbers (in_order_join (statement_acts h called n m sc s) _)
-        ∙ row m (loops s) (loops_of_block b) _ _ (numbered_statement n m sc s) (numbered_block (n + length (locals s)) (m + loops s) (behind n sc s) b)
+        let i = n + length (locals s) in
+        let j = m + loops s in
+        let front = statement_acts h called n m sc s in
+        let back = block_acts h called i j (behind n sc s) b in
+        ap loop_numbers (in_order_join front back) ∙ row m (loops s) (loops_of_block b) (in_order front) (in_order back) (numbered_statement n m sc s) (numbered_block i j (behind n sc s) b)
 
     numbered_arms : (n m : ℕ) (sc : Scope) (arms : text.Arms) → loop_numbers (inside_arms (arms_acts h called n m sc arms)) ≡ counted m (loops_of_arms arms)
     numbered_arms n m sc text.Arms.no_arm = refl
     numbered_arms n m sc (text.Arms.arm g b more) =
-        row m (loops_of_block b) (loops_of_arms more) _ _ (numbered_block n m sc b) (numbered_arms (n + length (locals_of_block b)) (m + loops_of_block b) sc more)
+        let i = n + length (locals_of_block b) in
+        let j = m + loops_of_block b in
+        row m (loops_of_block b) (loops_of_arms more) (in_order (block_acts h called n m sc b)) (inside_arms (arms_acts h called i j sc more)) (numbered_block n m sc b) (numbered_arms i j sc more)
 
   pub numbered_body : (n : ℕ) (sc : Scope) (b : Option Block) → loop_numbers (in_order (acts_in (body_acts h called n sc b))) ≡ counted 1 (loops_of_body b)
   numbered_body n sc None = refl

@@ -60,7 +60,7 @@ module _ (F : Form → Type 0) (C : Cond → Type 0) (k : Kept F C) where
   held_given None f p q = tt
   held_given (Some m) f p q = q m p
 
-  held_extended : (b : Bool) (a : Form) → F a → HoldsIn F C (extended b a)
+  pub held_extended : (b : Bool) (a : Form) → F a → HoldsIn F C (extended b a)
   held_extended true a p = p
   held_extended false a p = tt
 

@@ -1,15 +1,15 @@
 -- Typed acts read visible variables alone.
-use Rattle.heylo_formula.specs.Formula.{Cond, Form, Term}
 use Rattle.heyvl_num.specs.Rational.{Rational, ratio}
 use Rattle.heyvl_syntax.specs.Expressions.{Expression}
 use Rattle.heyvl_syntax.specs.Statements as text
 use Rattle.heyvl_syntax.specs.Statements.{Block, LoopRule, RightSide, Statement}
 use Rattle.heyvl_syntax.specs.declared.spans.Span.{Span}
 use Rattle.heyvl_syntax.specs.declared.types.TypeName.{TypeName}
-use Rattle.heyvl_types.proofs.resolved.Findings.{IsKept, all_kept, back_none, front_none, left_false, right_false}
+use Rattle.heyvl_types.proofs.resolved.Findings.{IsKept, all_kept, back_none, front_none}
 use Rattle.heyvl_types.proofs.resolved.Growth.{new_name, numbers_with}
 use Rattle.heyvl_types.proofs.resolved.Sight.{found_among, sees_condition, sees_form, sees_term}
-use Rattle.heyvl_types.specs.Acts.{Act, Acts, acts_in, join}
+use Rattle.heyvl_types.proofs.resolved.Tests.{left_false, right_false}
+use Rattle.heyvl_types.specs.Acts.{Acts, acts_in, join}
 use Rattle.heyvl_types.specs.Files.{body_acts, body_findings}
 use Rattle.heyvl_types.specs.Findings.{at}
 use Rattle.heyvl_types.specs.Literals.{integer, weight, weight_value}
@@ -18,8 +18,7 @@ use Rattle.heyvl_types.specs.Rules.{Each}
 use Rattle.heyvl_types.specs.Scopes.{Scope, any_unknown, find, is_visible, numbers, types_of_names, with_local}
 use Rattle.heyvl_types.specs.Signatures.{Called}
 use Rattle.heyvl_types.specs.StatementActs.{arms_acts, assigned, block_acts, choose_parts, declared_act, first_or_zero, flip_parts, havocs, integer_parts, invariant_of, loops, loops_of_arms, loops_of_block, number_or_zero, statement_acts, targets, terms, unif_parts}
-use Rattle.heyvl_types.specs.StatementRules.{arms_bind, arms_findings, assign_rules, block_binds, block_findings, havoc_rules, statement_findings, value_findings, var_rules}
-use Rattle.heyvl_types.specs.TypedExpressions.{elaborate}
+use Rattle.heyvl_types.specs.StatementRules.{arms_bind, arms_findings, assign_rules, block_binds, block_findings, havoc_rules, statement_findings, value_findings}
 use Rattle.heyvl_types.specs.Variables.{behind, locals, locals_of_arms, locals_of_block}
 use Rattle.heyvl_types.specs.Visible.{Scoped, ScopedAct, ScopedArms, Sees, SeesParts, SeesTerms, Visible, among, shown, shown_all, shown_by}
 use Rattle.heyvl_types.specs.declared.scopes.Local.{Local}
@@ -27,7 +26,7 @@ use Rattle.heyvl_types.specs.declared.settings.Setting.{Setting}
 use Rattle.std.proofs.Common.{Bool, List, None, Option, Some, [], ap, false, pos, refl, suc, sym, true, zero, ◌++◌, ◌+◌, ◌==◌, ◌∙◌, ◌≡◌, ◌∷◌, ℕ, ℤ}
 use Rattle.std.proofs.lemmas.Bool.{eqb-true}
 use Rattle.std.specs.Option.{is_none}
-use Rattle.std.specs.Prelude.{length, map, not, ◌+ℤ◌, ◌||◌}
+use Rattle.std.specs.Prelude.{length, not, unsigned_abs, ◌+ℤ◌, ◌-ℤ◌, ◌||◌}
 
 -- What is visible is what the scope holds.
 abbrev pub Mirrors : Visible → Scope → Type 0
@@ -98,7 +97,7 @@ integers_see v w a zero = tt
 integers_see v w a (suc n) = (λ y e. absurd (cc), integers_see v w (a +ℤ pos 1) n)
 
 unif_sees : (v : Visible) (a b : Option ℤ) → SeesParts v (unif_parts a b)
-unif_sees v (Some a) (Some b) = integers_see v _ a _
+unif_sees v (Some a) (Some b) = integers_see v (ratio (pos 1) (suc (unsigned_abs (b -ℤ a)))) a (suc (unsigned_abs (b -ℤ a)))
 unif_sees v (Some a) None = tt
 unif_sees v None b = tt
 

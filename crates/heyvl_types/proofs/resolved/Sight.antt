@@ -1,5 +1,5 @@
 -- The free variables of what an expression becomes are visible.
-use Rattle.heylo_formula.specs.Formula.{Cond, Form, Term}
+use Rattle.heylo_formula.specs.Formula.{Form, Term}
 use Rattle.heylo_formula.specs.Variables.{is_free, is_free_in}
 use Rattle.heylo_formula.specs.declared.types.Ty.{Ty}
 use Rattle.heyvl_syntax.specs.Expressions.{Expression}
@@ -11,7 +11,7 @@ use Rattle.heyvl_types.specs.Table.{Meaning, bound, declarable, given, quantifie
 use Rattle.heyvl_types.specs.TypedExpressions.{elaborate}
 use Rattle.heyvl_types.specs.Visible.{Sees, SeesCond, SeesTerm, Visible, among, shown}
 use Rattle.heyvl_types.specs.declared.scopes.Local.{Local}
-use Rattle.std.proofs.Common.{Bool, List, None, Option, Some, [], ap, arith, false, inl, inr, option_map, refl, suc, sym, true, ◌==◌, ◌∙◌, ◌≡◌, ◌⊎◌, ◌∷◌, ℕ}
+use Rattle.std.proofs.Common.{Bool, List, None, Option, Some, [], ap, arith, false, inl, inr, option_map, refl, suc, true, ◌==◌, ◌∙◌, ◌≡◌, ◌⊎◌, ◌∷◌, ℕ}
 use Rattle.std.proofs.lemmas.Bool.{eqb-true, or_left, or_right}
 use Rattle.std.specs.Prelude.{if◌then◌else◌, ◌||◌}
 use Rattle.std.specs.Str.{bytes_eq}

@@ -3,12 +3,11 @@ use Rattle.heylo_formula.specs.Binders.{has_binder, has_binder_in}
 use Rattle.heylo_formula.specs.Formula.{Cond, Form}
 use Rattle.heyvl_syntax.specs.Expressions.{Expression}
 use Rattle.heyvl_syntax.specs.declared.types.TypeName.{TypeName}
-use Rattle.heyvl_types.proofs.resolved.Findings.{left_false, right_false}
 use Rattle.heyvl_types.proofs.resolved.Rows.{HoldsIn, Kept, held_bracket, held_choice, held_embedding, held_form, held_given, held_literal, held_operated, held_unary}
+use Rattle.heyvl_types.proofs.resolved.Tests.{left_false, neither, right_false}
 use Rattle.heyvl_types.specs.Files.{clause, joined_with, post_forms}
 use Rattle.heyvl_types.specs.Scopes.{Scope, find}
-use Rattle.heyvl_types.specs.StatementActs.{form}
-use Rattle.heyvl_types.specs.Table.{Meaning, variable, variable_of}
+use Rattle.heyvl_types.specs.Table.{variable, variable_of}
 use Rattle.heyvl_types.specs.TypedExpressions.{elaborate, has_quantifier}
 use Rattle.heyvl_types.specs.Variables.{front_variables}
 use Rattle.heyvl_types.specs.declared.scopes.Local.{Local}
@@ -22,8 +21,6 @@ NoBinder f = has_binder f ≡ false
 abbrev pub NoBinderIn : Cond → Type 0
 NoBinderIn g = has_binder_in g ≡ false
 
-neither : (a b : Bool) → a ≡ false → b ≡ false → (a || b) ≡ false
-neither a b p q = rw p q
 
 none_of_three : (a b c : Bool) → a ≡ false → b ≡ false → c ≡ false → (a || (b || c)) ≡ false
 none_of_three a b c p q r = rw p (rw q r)
