@@ -4,3 +4,8 @@ pub mod Nodes
 pub mod Spreading
 pub mod Quantifiers
 pub mod Free
+pub mod Locals
+pub mod Walk
+pub mod Formulas
+pub mod Heads
+pub mod Clauses

@@ -20,8 +20,8 @@ IsKept rule = rule.1 ≡ false
 -- Each rule of the node is kept.
 pub all_kept : (s : Span) (rules : List (ℕ × Bool)) → at s rules ≡ [] → Each IsKept rules
 all_kept s [] e = tt
-all_kept s (rule ∷ rules) e = go rule.1 refl e
+all_kept s (rule ∷ rules) e = go rule.1 refl e (all_kept s rules)
   where
-    go : (b : Bool) → rule.1 ≡ b → (if b then (rule.0, s) ∷ at s rules else at s rules) ≡ [] → Each IsKept (rule ∷ rules)
-    go true h i = absurd (cc)
-    go false h i = (h, all_kept s rules i)
+    go : (b : Bool) → rule.1 ≡ b → (if b then (rule.0, s) ∷ at s rules else at s rules) ≡ [] → (at s rules ≡ [] → Each IsKept rules) → Each IsKept (rule ∷ rules)
+    go true h i more = absurd (cc)
+    go false h i more = (h, more i)

@@ -21,22 +21,22 @@ pub record Stands (vs : List Variable) (n : ℕ) (ls : List Variable) : Type 0 w
   pub whole : vs ≡ before ++ (ls ++ behind)
   pub number : n ≡ length before
 
-pub stands_front : (vs : List Variable) (n : ℕ) (as bs : List Variable) → Stands vs n (as ++ bs) → Stands vs n as
-stands_front vs n as bs h = record { before = h.before; behind = bs ++ h.behind; whole = h.whole ∙ ap (λ x. h.before ++ x) append_assoc; number = h.number }
+pub stands_front : (vs : List Variable) (n : ℕ) (ks ls : List Variable) → Stands vs n (ks ++ ls) → Stands vs n ks
+stands_front vs n ks ls h = record { before = h.before; behind = ls ++ h.behind; whole = h.whole ∙ ap (λ x. h.before ++ x) (append_assoc ks ls h.behind); number = h.number }
 
-pub stands_back : (vs : List Variable) (n : ℕ) (as bs : List Variable) → Stands vs n (as ++ bs) → Stands vs (n + length as) bs
-stands_back vs n as bs h = record {
-  before = h.before ++ as;
+pub stands_back : (vs : List Variable) (n : ℕ) (ks ls : List Variable) → Stands vs n (ks ++ ls) → Stands vs (n + length ks) ls
+stands_back vs n ks ls h = record {
+  before = h.before ++ ks;
   behind = h.behind;
-  whole = h.whole ∙ ap (λ x. h.before ++ x) append_assoc ∙ sym append_assoc;
-  number = let e = h.number in omega (arith, length-append h.before as);
+  whole = h.whole ∙ ap (λ x. h.before ++ x) (append_assoc ks ls h.behind) ∙ sym (append_assoc h.before ks (ls ++ h.behind));
+  number = let e = h.number in omega (arith, length-append h.before ks);
 }
 
 pub stands_next : (vs : List Variable) (n : ℕ) (v : Variable) (ls : List Variable) → Stands vs n (v ∷ ls) → Stands vs (suc n) ls
 stands_next vs n v ls h = record {
   before = h.before ++ (v ∷ []);
   behind = h.behind;
-  whole = h.whole ∙ sym append_assoc;
+  whole = h.whole ∙ sym (append_assoc h.before (v ∷ []) (ls ++ h.behind));
   number = let e = h.number in omega (arith, length-append h.before (v ∷ []));
 }
 

@@ -30,15 +30,13 @@ node_kept f d n sc (Expression.number v s) h = own_kept f d n sc _ h
 node_kept f d n sc (Expression.truth b s) h = own_kept f d n sc _ h
 node_kept f d n sc (Expression.infinity s) h = own_kept f d n sc _ h
 node_kept f d n sc (Expression.name x s) h = own_kept f d n sc _ h
-node_kept f d n sc (Expression.group a s) h = own_kept f d n sc (Expression.group a s) (back_none (findings Front.Closed Demand.Any n sc a) _ h)
-node_kept f d n sc (Expression.bracket a s) h = own_kept f d n sc (Expression.bracket a s) (back_none (findings Front.Closed Demand.Any n sc a) _ h)
-node_kept f d n sc (Expression.embed a s) h = own_kept f d n sc (Expression.embed a s) (back_none (findings Front.Closed Demand.Any n sc a) _ h)
-node_kept f d n sc (Expression.unary op a s) h = own_kept f d n sc (Expression.unary op a s) (back_none (findings Front.Closed Demand.Any n sc a) _ h)
-node_kept f d n sc (Expression.binary op a b s) h =
-    own_kept f d n sc (Expression.binary op a b s) (back_none (findings Front.Closed Demand.Any n sc b) _ (back_none (findings Front.Closed Demand.Any n sc a) _ h))
-node_kept f d n sc (Expression.choice a b c s) h =
-    own_kept f d n sc (Expression.choice a b c s) (back_none (findings Front.Closed Demand.Any n sc c) _ (back_none (findings Front.Closed Demand.Any n sc b) _ (back_none (findings Front.Closed Demand.Any n sc a) _ h)))
-node_kept f d n sc (Expression.bound up x t a s) h = own_kept f d n sc (Expression.bound up x t a s) (back_none (findings f Demand.Any _ _ a) _ h)
+node_kept f d n sc (Expression.group a s) h = own_kept f d n sc (Expression.group a s) (back_none _ _ h)
+node_kept f d n sc (Expression.bracket a s) h = own_kept f d n sc (Expression.bracket a s) (back_none _ _ h)
+node_kept f d n sc (Expression.embed a s) h = own_kept f d n sc (Expression.embed a s) (back_none _ _ h)
+node_kept f d n sc (Expression.unary op a s) h = own_kept f d n sc (Expression.unary op a s) (back_none _ _ h)
+node_kept f d n sc (Expression.binary op a b s) h = own_kept f d n sc (Expression.binary op a b s) (back_none _ _ h)
+node_kept f d n sc (Expression.choice a b c s) h = own_kept f d n sc (Expression.choice a b c s) (back_none _ _ h)
+node_kept f d n sc (Expression.bound up x t a s) h = own_kept f d n sc (Expression.bound up x t a s) (back_none _ _ h)
 
 -- What doesn't lack what is asked for is something that meets it.
 pub record Meeting (d : Demand) (o : Option Meaning) : Type 0 where

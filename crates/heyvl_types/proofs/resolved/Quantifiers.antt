@@ -21,21 +21,17 @@ closed_plain d n sc (Expression.number v s) h = refl
 closed_plain d n sc (Expression.truth b s) h = refl
 closed_plain d n sc (Expression.infinity s) h = refl
 closed_plain d n sc (Expression.name x s) h = refl
-closed_plain d n sc (Expression.group a s) h = closed_plain Demand.Any n sc a (front_none (findings Front.Closed Demand.Any n sc a) _ h)
-closed_plain d n sc (Expression.bracket a s) h = closed_plain Demand.Any n sc a (front_none (findings Front.Closed Demand.Any n sc a) _ h)
-closed_plain d n sc (Expression.embed a s) h = closed_plain Demand.Any n sc a (front_none (findings Front.Closed Demand.Any n sc a) _ h)
-closed_plain d n sc (Expression.unary op a s) h = closed_plain Demand.Any n sc a (front_none (findings Front.Closed Demand.Any n sc a) _ h)
+closed_plain d n sc (Expression.group a s) h = closed_plain Demand.Any n sc a (front_none _ _ h)
+closed_plain d n sc (Expression.bracket a s) h = closed_plain Demand.Any n sc a (front_none _ _ h)
+closed_plain d n sc (Expression.embed a s) h = closed_plain Demand.Any n sc a (front_none _ _ h)
+closed_plain d n sc (Expression.unary op a s) h = closed_plain Demand.Any n sc a (front_none _ _ h)
 closed_plain d n sc (Expression.binary op a b s) h =
-    or_from _ _ (closed_plain Demand.Any n sc a (front_none (findings Front.Closed Demand.Any n sc a) _ h))
-        (closed_plain Demand.Any n sc b (front_none (findings Front.Closed Demand.Any n sc b) _ (back_none (findings Front.Closed Demand.Any n sc a) _ h)))
+    let i = front_none _ _ h in or_from _ _ (closed_plain Demand.Any n sc a (front_none _ _ i)) (closed_plain Demand.Any n sc b (back_none _ _ i))
 closed_plain d n sc (Expression.choice a b c s) h =
-    let i = back_none (findings Front.Closed Demand.Any n sc a) _ h in
-    let p = closed_plain Demand.Any n sc a (front_none (findings Front.Closed Demand.Any n sc a) _ h) in
-    let q = closed_plain Demand.Any n sc b (front_none (findings Front.Closed Demand.Any n sc b) _ i) in
-    let r = closed_plain Demand.Any n sc c (front_none (findings Front.Closed Demand.Any n sc c) _ (back_none (findings Front.Closed Demand.Any n sc b) _ i)) in
-    rw (p, q, r) refl
-closed_plain d n sc (Expression.bound up x t a s) h =
-    let k = own_kept Front.Closed d n sc (Expression.bound up x t a s) (back_none (findings Front.Closed Demand.Any _ _ a) _ h) in absurd (let p = k.placed in cc)
+    let i = front_none _ _ h in
+    let j = front_none _ _ i in
+    or_from _ _ (or_from _ _ (closed_plain Demand.Any n sc a (front_none _ _ j)) (closed_plain Demand.Any n sc b (back_none _ _ j))) (closed_plain Demand.Any n sc c (back_none _ _ i))
+closed_plain d n sc (Expression.bound up x t a s) h = (own_kept Front.Closed d n sc (Expression.bound up x t a s) (back_none _ _ h)).placed
 
 pub binders_spread : Spreads has_binder has_binder_in
 binders_spread = record {
@@ -92,15 +88,11 @@ becomes_plain n sc (Expression.binary op a b s) m h e =
     let x = given_some (elaborate n sc a) (λ x. given (elaborate n sc b) (operated op s b x)) m e in
     let y = given_some (elaborate n sc b) (operated op s b x.0) m x.2 in
     fails_operated has_binder has_binder_in binders_spread op s b x.0 y.0 m (becomes_plain n sc a x.0 q.0 x.1) (becomes_plain n sc b y.0 q.1 y.1) y.2
-becomes_plain n sc (Expression.choice a b c s) m h e = go (has_quantifier a) (has_quantifier b) (has_quantifier c) refl refl refl h
-  where
-    go : (p q r : Bool) → has_quantifier a ≡ p → has_quantifier b ≡ q → has_quantifier c ≡ r → (p || q || r) ≡ false → IsPlain m
-    go false false false i j k l =
-        let x = given_some (elaborate n sc a) (λ x. given (elaborate n sc b) (λ y. given (elaborate n sc c) (choice x y))) m e in
-        let y = given_some (elaborate n sc b) (λ y. given (elaborate n sc c) (choice x.0 y)) m x.2 in
-        let z = given_some (elaborate n sc c) (choice x.0 y.0) m y.2 in
-        fails_choice has_binder has_binder_in binders_spread x.0 y.0 z.0 m (becomes_plain n sc a x.0 i x.1) (becomes_plain n sc b y.0 j y.1) (becomes_plain n sc c z.0 k z.1) z.2
-    go false false true i j k l = absurd (cc)
-    go false true r i j k l = absurd (cc)
-    go true q r i j k l = absurd (cc)
+becomes_plain n sc (Expression.choice a b c s) m h e =
+    let r = or_parts (has_quantifier a || has_quantifier b) (has_quantifier c) h in
+    let q = or_parts (has_quantifier a) (has_quantifier b) r.0 in
+    let x = given_some (elaborate n sc a) (λ x. given (elaborate n sc b) (λ y. given (elaborate n sc c) (choice x y))) m e in
+    let y = given_some (elaborate n sc b) (λ y. given (elaborate n sc c) (choice x.0 y)) m x.2 in
+    let z = given_some (elaborate n sc c) (choice x.0 y.0) m y.2 in
+    fails_choice has_binder has_binder_in binders_spread x.0 y.0 z.0 m (becomes_plain n sc a x.0 q.0 x.1) (becomes_plain n sc b y.0 q.1 y.1) (becomes_plain n sc c z.0 r.1 z.1) z.2
 becomes_plain n sc (Expression.bound up x t a s) m h e = absurd (cc)

@@ -15,7 +15,7 @@ use Rattle.heyvl_types.specs.Rules.{Each}
 use Rattle.heyvl_types.specs.RightSides.{right_findings}
 use Rattle.heyvl_types.specs.Scopes.{Scope}
 use Rattle.heyvl_types.specs.Signatures.{Called}
-use Rattle.heyvl_types.specs.StatementActs.{arms_acts, assigned, block_acts, declared_act, havocs, loops, loops_of_arms, loops_of_block, statement_acts}
+use Rattle.heyvl_types.specs.StatementActs.{arms_acts, assigned, block_acts, declared_act, havocs, loops, loops_of_arms, loops_of_block, statement_acts, targets}
 use Rattle.heyvl_types.specs.StatementRules.{arms_findings, block_binds, block_findings, arms_bind, statement_findings, value_findings, var_rules}
 use Rattle.heyvl_types.specs.LoopRules.{rules_findings}
 use Rattle.heyvl_types.specs.TypedExpressions.{closed_findings}
@@ -32,7 +32,7 @@ use Rattle.std.specs.Prelude.{◌||◌}
 pub var_declarable : (h : Setting) (c : Called) (n : ℕ) (sc : Scope) (x : List ℕ) (t : TypeName) (r : Option RightSide) (s : Span) → statement_findings h c false n sc (Statement.var x t r s) ≡ [] → is_none (declarable t) ≡ false
 var_declarable h c n sc x t None s e = (all_kept s (var_rules h c n sc x t None) e).1.0
 var_declarable h c n sc x t (Some r) s e =
-    let k = all_kept s (var_rules h c n sc x t (Some r)) (back_none (right_findings n sc r) _ e) in (or_parts (is_none (declarable t)) _ k.1.1.0).0
+    let k = all_kept s (var_rules h c n sc x t (Some r)) (back_none _ _ e) in (or_parts (is_none (declarable t)) _ k.1.1.0).0
 
 -- The acts of a list have the property, those inside them aside.
 abbrev pub Alone : (Act → Type 0) → Acts → Type 0
@@ -86,7 +86,7 @@ module _ (vs : List Variable) (h : Setting) (c : Called) where
     mutual
       pub each_statement : (bound : Bool) (n m : ℕ) (sc : Scope) (s : Statement) → Known n sc → Stands vs n (locals s) → statement_findings h c bound n sc s ≡ [] → Each P (in_order (statement_acts h c n m sc s))
       each_statement bound n m sc (Statement.var x t r s) k l e = each_one P _ (own bound n m sc (Statement.var x t r s) k l e).0 (nothing_inside_declared n sc t r s)
-      each_statement bound n m sc (Statement.assign xs r s) k l e = each_one P _ (own bound n m sc (Statement.assign xs r s) k l e).0 (nothing_inside n sc _ r s)
+      each_statement bound n m sc (Statement.assign xs r s) k l e = each_one P _ (own bound n m sc (Statement.assign xs r s) k l e).0 (nothing_inside n sc (targets sc xs) r s)
       each_statement bound n m sc (Statement.check kind a s) k l e = each_one P _ (own bound n m sc (Statement.check kind a s) k l e).0 tt
       each_statement bound n m sc (Statement.validate co s) k l e = each_one P _ (own bound n m sc (Statement.validate co s) k l e).0 tt
       each_statement bound n m sc (Statement.havoc co xs s) k l e = each_havoc sc co xs s (own bound n m sc (Statement.havoc co xs s) k l e)
@@ -94,30 +94,30 @@ module _ (vs : List Variable) (h : Setting) (c : Called) where
       each_statement bound n m sc (Statement.branch arms other s) k l e =
           each_one P _ (own bound n m sc (Statement.branch arms other s) k l e).0
               (each_both P (inside_arms (arms_acts h c n m sc arms)) _
-                  (each_arms (bound || block_binds other) n m sc arms k (stands_front vs n (locals_of_arms arms) _ l) (front_none (arms_findings h c (bound || block_binds other) n sc arms) _ e))
-                  (each_block bound (n + length (locals_of_arms arms)) (m + loops_of_arms arms) sc other (known_up n _ sc (omega arith) k) (stands_back vs n (locals_of_arms arms) _ l) (back_none (arms_findings h c (bound || block_binds other) n sc arms) _ e)))
+                  (each_arms (bound || block_binds other) n m sc arms k (stands_front vs n (locals_of_arms arms) _ l) (front_none _ _ e))
+                  (each_block bound (n + length (locals_of_arms arms)) (m + loops_of_arms arms) sc other (known_up n _ sc (omega arith) k) (stands_back vs n (locals_of_arms arms) _ l) (back_none _ _ e)))
       each_statement bound n m sc (Statement.pick up a b s) k l e =
           each_one P _ (own bound n m sc (Statement.pick up a b s) k l e).0
               (each_both P (in_order (block_acts h c n m sc a)) _
-                  (each_block (bound || block_binds b) n m sc a k (stands_front vs n (locals_of_block a) _ l) (front_none (block_findings h c (bound || block_binds b) n sc a) _ e))
-                  (each_block bound (n + length (locals_of_block a)) (m + loops_of_block a) sc b (known_up n _ sc (omega arith) k) (stands_back vs n (locals_of_block a) _ l) (back_none (block_findings h c (bound || block_binds b) n sc a) _ e)))
+                  (each_block (bound || block_binds b) n m sc a k (stands_front vs n (locals_of_block a) _ l) (front_none _ _ e))
+                  (each_block bound (n + length (locals_of_block a)) (m + loops_of_block a) sc b (known_up n _ sc (omega arith) k) (stands_back vs n (locals_of_block a) _ l) (back_none _ _ e)))
       each_statement bound n m sc (Statement.loop rules g b s) k l e =
           each_one P _ (own bound n m sc (Statement.loop rules g b s) k l e).0
-              (each_block true n (suc m) sc b k l (front_none (block_findings h c true n sc b) _ (back_none (closed_findings Demand.Truth n sc g) _ (back_none (rules_findings n sc rules) _ e))))
+              (each_block true n (suc m) sc b k l (back_none _ _ (front_none _ _ e)))
 
       pub each_block : (bound : Bool) (n m : ℕ) (sc : Scope) (b : Block) → Known n sc → Stands vs n (locals_of_block b) → block_findings h c bound n sc b ≡ [] → Each P (in_order (block_acts h c n m sc b))
       each_block bound n m sc Block.done k l e = tt
       each_block bound n m sc (Block.next s b) k l e =
-          let i = front_none (statement_findings h c (bound || block_binds b) n sc s) _ e in
+          let i = front_none _ _ e in
           let l0 = stands_front vs n (locals s) _ l in
           each_join P (statement_acts h c n m sc s) _
               (each_statement (bound || block_binds b) n m sc s k l0 i)
-              (each_block bound (n + length (locals s)) (m + loops s) (behind n sc s) b (known_behind (bound || block_binds b) n sc s k l0 i) (stands_back vs n (locals s) _ l) (back_none (statement_findings h c (bound || block_binds b) n sc s) _ e))
+              (each_block bound (n + length (locals s)) (m + loops s) (behind n sc s) b (known_behind (bound || block_binds b) n sc s k l0 i) (stands_back vs n (locals s) _ l) (back_none _ _ e))
 
       pub each_arms : (bound : Bool) (n m : ℕ) (sc : Scope) (arms : text.Arms) → Known n sc → Stands vs n (locals_of_arms arms) → arms_findings h c bound n sc arms ≡ [] → Each P (inside_arms (arms_acts h c n m sc arms))
       each_arms bound n m sc text.Arms.no_arm k l e = tt
       each_arms bound n m sc (text.Arms.arm g b more) k l e =
-          let i = back_none (closed_findings Demand.Truth n sc g) _ e in
+          let i = front_none (closed_findings Demand.Truth n sc g ++ block_findings h c (bound || arms_bind more) n sc b) _ e in
           each_both P (in_order (block_acts h c n m sc b)) _
-              (each_block (bound || arms_bind more) n m sc b k (stands_front vs n (locals_of_block b) _ l) (front_none (block_findings h c (bound || arms_bind more) n sc b) _ i))
-              (each_arms bound (n + length (locals_of_block b)) (m + loops_of_block b) sc more (known_up n _ sc (omega arith) k) (stands_back vs n (locals_of_block b) _ l) (back_none (block_findings h c (bound || arms_bind more) n sc b) _ i))
+              (each_block (bound || arms_bind more) n m sc b k (stands_front vs n (locals_of_block b) _ l) (back_none _ _ i))
+              (each_arms bound (n + length (locals_of_block b)) (m + loops_of_block b) sc more (known_up n _ sc (omega arith) k) (stands_back vs n (locals_of_block b) _ l) (back_none _ _ e))
