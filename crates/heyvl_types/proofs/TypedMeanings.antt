@@ -29,24 +29,24 @@ use Rattle.std.specs.Int.Signed.{le_z}
 use Rattle.std.specs.Prelude.{if◌then◌else◌, nat_le, not, unsigned_abs}
 use Rattle.std.specs.Str.{bytes_eq}
 
-some_is : {A : Type 0} (x y : A) → Some x ≡ Some y → x ≡ y
+pub some_is : {A : Type 0} (x y : A) → Some x ≡ Some y → x ≡ y
 some_is x y e = cc
 
-never : {A P : Type 0} (x : A) → None ≡ Some x → P
+pub never : {A P : Type 0} (x : A) → None ≡ Some x → P
 never x e = absurd (cc)
 
-become : {A : Type 0} (P : A → Type 0) (x m : A) → Some x ≡ Some m → P x → P m
+pub become : {A : Type 0} (P : A → Type 0) (x m : A) → Some x ≡ Some m → P x → P m
 become P x m e p = subst P (some_is x m e) p
 
-given_some : {A B : Type 0} (o : Option A) (f : A → Option B) (b : B) → given o f ≡ Some b → (a : A) × (o ≡ Some a) × (f a ≡ Some b)
+pub given_some : {A B : Type 0} (o : Option A) (f : A → Option B) (b : B) → given o f ≡ Some b → (a : A) × (o ≡ Some a) × (f a ≡ Some b)
 given_some None f b e = never b e
 given_some (Some a) f b e = (a, refl, e)
 
-map_some : {A B : Type 0} (o : Option A) (f : A → B) (b : B) → option_map f o ≡ Some b → (a : A) × (o ≡ Some a) × (Some (f a) ≡ Some b)
+pub map_some : {A B : Type 0} (o : Option A) (f : A → B) (b : B) → option_map f o ≡ Some b → (a : A) × (o ≡ Some a) × (Some (f a) ≡ Some b)
 map_some None f b e = never b e
 map_some (Some a) f b e = (a, refl, e)
 
-join_sym : (t u : NumberType) → join t u ≡ join u t
+pub join_sym : (t u : NumberType) → join t u ≡ join u t
 join_sym int int = refl
 join_sym int uint = refl
 join_sym int ureal = refl
@@ -263,7 +263,7 @@ good_bound types k n up ty Meaning.real m h e = never m e
 
 -- ---- Scopes
 
-found_with : (x : List ℕ) (l : Local) (sc : Scope) (y : List ℕ) (m : Local) → find (with_local x l sc) y ≡ Some m → (l ≡ m) ⊎ (find sc y ≡ Some m)
+pub found_with : (x : List ℕ) (l : Local) (sc : Scope) (y : List ℕ) (m : Local) → find (with_local x l sc) y ≡ Some m → (l ≡ m) ⊎ (find sc y ≡ Some m)
 found_with x l [] y m e = go (bytes_eq y x) e
   where
     go : (b : Bool) → (if b then Some l else None) ≡ Some m → (l ≡ m) ⊎ (None ≡ Some m)
@@ -283,10 +283,10 @@ found_with x l (f ∷ fs) y m e = go (bytes_eq x f.0) (found_with x l fs y m) e
     go true r h = first (bytes_eq y f.0) None h
     go false r h = later (bytes_eq y f.0) r h
 
-same_number : (n : ℕ) → (n == n) ≡ true
+pub same_number : (n : ℕ) → (n == n) ≡ true
 same_number n = grind arith
 
-other_number : (n m : ℕ) → m < n → (n == m) ≡ false
+pub other_number : (n m : ℕ) → m < n → (n == m) ≡ false
 other_number n m h = grind (arith, h)
 
 agrees_inside : (types : Types) (n : ℕ) (sc : Scope) (x : List ℕ) (t : TypeName) (ty : Ty) → declarable t ≡ Some ty → Agrees types n sc → Agrees (retyped n ty types) (suc n) (with_local x (record { number = n; ty = t }) sc)
@@ -305,7 +305,7 @@ agrees_inside types n sc x t ty d h = record { declared = λ y m e. p y m (found
 literal_type : (q : Rational) → leqʳ zeroʳ q ≡ true → constant_type (finite q) ≡ Some (if q.den == 1 then uint else ureal)
 literal_type q h = rw h refl
 
-literal_nonnegative : (n : Lit) → le_z (pos 0) n.digits ≡ true → leqʳ zeroʳ (literal_value n) ≡ true
+pub literal_nonnegative : (n : Lit) → le_z (pos 0) n.digits ≡ true → leqʳ zeroʳ (literal_value n) ≡ true
 unfolding literal_value
 literal_nonnegative n h = (ratio_nonnegative n.digits (10 ^ n.places) (power_positive n.places) (omega (arith, ints, h))).holds
 
@@ -317,7 +317,7 @@ good_literal types n m e = go (le_z (pos 0) n.digits) (nat_le n.places 38) refl 
     go true false h i = never m i
     go false b h i = never m i
 
-inverse_nonnegative : (n : Lit) → is_zero_num n.digits ≡ false → leqʳ zeroʳ (inverse_value n) ≡ true
+pub inverse_nonnegative : (n : Lit) → is_zero_num n.digits ≡ false → leqʳ zeroʳ (inverse_value n) ≡ true
 unfolding inverse_value
 inverse_nonnegative n h = (ratio_nonnegative (pos (10 ^ n.places)) (unsigned_abs n.digits) (above n.digits h) (omega (arith, ints))).holds
   where

@@ -1,5 +1,14 @@
 pub mod Findings
 pub mod InOrder
+pub mod Nodes
+pub mod Spreading
+pub mod Quantifiers
+pub mod Free
+pub mod Locals
+pub mod Walk
+pub mod Formulas
+pub mod Heads
+pub mod Clauses
 pub mod Tests
 pub mod Numbers
 pub mod Rows

@@ -2,6 +2,7 @@
 
 ghost use Rattle.heyvl_types.specs.ExpressionLaws as expressions;
 ghost use Rattle.heyvl_types.specs.Matching as matching;
+ghost use Rattle.heyvl_types.specs.ResolvedLaws as trees;
 
 /// What a run asks of the forward meaning, whatever loops and calls mean: a list of acts after another means the one
 /// before what the other means; and after each kind of act, choices for what follows are part of choices for the whole.
@@ -19,4 +20,9 @@ pub fn forward_meaning_matches_runs()
 /// nodes as the expression.
 pub fn expressions_are_typed()
     ensures { expressions.ExpressionsAreTyped }
+{}
+
+/// In a file in which nothing is found, each typed procedure meets the static rules.
+pub fn resolved_files_meet_the_rules()
+    ensures { trees.ResolvedMeetRules }
 {}
