@@ -11,7 +11,6 @@ pub mod Heads
 pub mod Clauses
 pub mod Tests
 pub mod Numbers
-pub mod Rows
 pub mod Posts
 pub mod Callable
 pub mod Bindings

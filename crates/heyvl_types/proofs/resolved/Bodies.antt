@@ -8,7 +8,7 @@ use Rattle.heyvl_types.proofs.resolved.Directions.{follows_body}
 use Rattle.heyvl_types.proofs.resolved.Growth.{counted_grow, numbers_of_parameters}
 use Rattle.heyvl_types.proofs.resolved.Loops.{meets_body}
 use Rattle.heyvl_types.proofs.resolved.Numbers.{counted_more, numbered_body}
-use Rattle.heyvl_types.proofs.resolved.Posts.{free_post}
+use Rattle.heyvl_types.proofs.resolved.Posts.{plain_post}
 use Rattle.heyvl_types.proofs.resolved.Scopes.{Mirrors, reads_body}
 use Rattle.heyvl_types.specs.Acts.{TypedProcedure, acts_in, variables}
 use Rattle.heyvl_types.specs.Files.{arity, body_findings, first_quantified, has_quantified_post, head_scope, input_scope, parameters_findings, resolved, setting, typed}
@@ -103,7 +103,7 @@ module _ (ps : List Procedure) (p : Procedure)
   directions_kept = follows_body (resolved ps) typed_one (setting p) (called ps) refl refl (called_described ps) (has_quantified_post p) (arity p) (head_scope p) p.body body_found
 
   pub binders_kept : NothingBindsBehind typed_one.co (has_binder typed_one.post) (in_order (acts_in typed_one.body))
-  binders_kept = nothing_binds_behind (setting p) (called ps) (has_binder typed_one.post) (has_quantified_post p) (arity p) (head_scope p) p.body body_found (λ q. free_post p.co (first_quantified p) (head_scope p) p.posts q)
+  binders_kept = nothing_binds_behind (setting p) (called ps) (has_binder typed_one.post) (has_quantified_post p) (arity p) (head_scope p) p.body body_found (λ q. plain_post p.co (first_quantified p) (head_scope p) p.posts q)
 
   pub scopes_kept : Scoped (interface typed_one) (acts_in typed_one.body)
   scopes_kept = reads_body (setting p) (called ps) (has_quantified_post p) (arity p) (head_scope p) (interface typed_one) p.body body_found head_mirrors

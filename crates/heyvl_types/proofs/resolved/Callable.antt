@@ -1,7 +1,7 @@
 -- What a call sees of a procedure holds of the typed procedure that its number names.
 use Rattle.heylo_formula.specs.Binders.{has_binder}
 use Rattle.heyvl_syntax.specs.Procedures.{Procedure}
-use Rattle.heyvl_types.proofs.resolved.Posts.{free_post}
+use Rattle.heyvl_types.proofs.resolved.Posts.{plain_post}
 use Rattle.heyvl_types.specs.Acts.{TypedProcedure, procedure_at}
 use Rattle.heyvl_types.specs.Files.{first_quantified, head_scope, resolved, typed}
 use Rattle.heyvl_types.specs.Signatures.{Called, Signature, called, find_call, signature, with_signature, with_signatures}
@@ -56,7 +56,7 @@ module _ (all : List TypedProcedure) (c : Called) where
   described : (n : ℕ) (p : Procedure) → procedure_at all n ≡ typed c p → Describes all (signature n p)
   described n p e = record {
     direction = ap (λ q. q.co) e;
-    plain = λ q. ap (λ r. has_binder r.post) e ∙ free_post p.co (first_quantified p) (head_scope p) p.posts q;
+    plain = λ q. ap (λ r. has_binder r.post) e ∙ plain_post p.co (first_quantified p) (head_scope p) p.posts q;
   }
 
   with_described : (n : ℕ) (p : Procedure) (d : Called) → procedure_at all n ≡ typed c p → AllDescribe d → AllDescribe (with_signature p.name (signature n p) d)
