@@ -24,7 +24,6 @@ use Rattle.std.proofs.Common.{Bool, List, None, Option, Some, [], append_assoc, 
 use Rattle.std.proofs.lemmas.List.{append-nil}
 use Rattle.std.specs.Prelude.{length, not, ◌&&◌, ◌||◌}
 
-
 none_bind : (xs ys : List Act) → any_binds xs ≡ false → any_binds ys ≡ false → any_binds (xs ++ ys) ≡ false
 none_bind [] ys p q = q
 none_bind (x ∷ xs) ys p q = neither _ _ (left_false _ _ p) (none_bind xs ys (right_false _ _ p) q)
@@ -132,23 +131,29 @@ module _ (h : Setting) (called : Called) (quantified : Bool) where
         let i = n + length (locals_of_arms arms) in
         let j = m + loops_of_arms arms in
         let front = inside_arms (arms_acts h called n m sc arms) in
-        let back = in_order (block_acts h called i j sc other) in
-        (λ e. absurd (cc), subst (NothingBindsBehind h.co quantified) (sym (inside_alone front back ys))
-            (behind_arms (bound || block_binds other) n m sc arms (back ++ ys) (front_none _ _ f)
-                (further bound (block_binds other) back ys (unbound_block h called i j sc other) u)
-                (behind_block bound i j sc other ys (back_none _ _ f) u p)))
+        let back = in_order (block_acts h called i j sc other) in (
+          λ e. absurd (cc),
+          subst (NothingBindsBehind h.co quantified) (sym (inside_alone front back ys))
+              (behind_arms (bound || block_binds other) n m sc arms (back ++ ys) (front_none _ _ f)
+              (further bound (block_binds other) back ys (unbound_block h called i j sc other) u)
+              (behind_block bound i j sc other ys (back_none _ _ f) u p)),
+        )
     behind_statement bound n m sc (Statement.pick up a b s) ys f u p =
         let i = n + length (locals_of_block a) in
         let j = m + loops_of_block a in
         let front = in_order (block_acts h called n m sc a) in
-        let back = in_order (block_acts h called i j sc b) in
-        (λ e. absurd (cc), subst (NothingBindsBehind h.co quantified) (sym (inside_alone front back ys))
-            (behind_block (bound || block_binds b) n m sc a (back ++ ys) (front_none _ _ f)
-                (further bound (block_binds b) back ys (unbound_block h called i j sc b) u)
-                (behind_block bound i j sc b ys (back_none _ _ f) u p)))
-    behind_statement bound n m sc (Statement.loop rules g b s) ys f u p =
-        (λ e. absurd (cc), subst (NothingBindsBehind h.co quantified) (sym (body_alone (in_order (block_acts h called n (suc m) sc b)) ys))
-            (behind_block true n (suc m) sc b ys (back_none _ _ (front_none _ _ f)) (λ e. absurd (cc)) p))
+        let back = in_order (block_acts h called i j sc b) in (
+          λ e. absurd (cc),
+          subst (NothingBindsBehind h.co quantified) (sym (inside_alone front back ys))
+              (behind_block (bound || block_binds b) n m sc a (back ++ ys) (front_none _ _ f)
+              (further bound (block_binds b) back ys (unbound_block h called i j sc b) u)
+              (behind_block bound i j sc b ys (back_none _ _ f) u p)),
+        )
+    behind_statement bound n m sc (Statement.loop rules g b s) ys f u p = (
+      λ e. absurd (cc),
+      subst (NothingBindsBehind h.co quantified) (sym (body_alone (in_order (block_acts h called n (suc m) sc b)) ys))
+          (behind_block true n (suc m) sc b ys (back_none _ _ (front_none _ _ f)) (λ e. absurd (cc)) p),
+    )
 
     behind_block : (bound : Bool) (n m : ℕ) (sc : Scope) (b : Block) (ys : List Act) → block_findings h called bound n sc b ≡ [] → Stands bound (in_order (block_acts h called n m sc b)) ys
     behind_block bound n m sc Block.done ys f u p = p
@@ -159,10 +164,10 @@ module _ (h : Setting) (called : Called) (quantified : Bool) where
         let front = in_order (statement_acts h called n m sc s) in
         let back = in_order (block_acts h called i j k b) in
         subst (λ acts. NothingBindsBehind h.co quantified (acts ++ ys)) (sym (in_order_join (statement_acts h called n m sc s) (block_acts h called i j k b)))
-            (subst (NothingBindsBehind h.co quantified) (sym (append_assoc front back ys))
-                (behind_statement (bound || block_binds b) n m sc s (back ++ ys) (front_none _ _ f)
-                    (further bound (block_binds b) back ys (unbound_block h called i j k b) u)
-                    (behind_block bound i j k b ys (back_none _ _ f) u p)))
+        (subst (NothingBindsBehind h.co quantified) (sym (append_assoc front back ys))
+        (behind_statement (bound || block_binds b) n m sc s (back ++ ys) (front_none _ _ f)
+        (further bound (block_binds b) back ys (unbound_block h called i j k b) u)
+        (behind_block bound i j k b ys (back_none _ _ f) u p)))
 
     behind_arms : (bound : Bool) (n m : ℕ) (sc : Scope) (arms : text.Arms) (ys : List Act) → arms_findings h called bound n sc arms ≡ [] → Stands bound (inside_arms (arms_acts h called n m sc arms)) ys
     behind_arms bound n m sc text.Arms.no_arm ys f u p = p
@@ -172,12 +177,12 @@ module _ (h : Setting) (called : Called) (quantified : Bool) where
         let front = in_order (block_acts h called n m sc b) in
         let back = inside_arms (arms_acts h called i j sc more) in
         subst (NothingBindsBehind h.co quantified) (sym (append_assoc front back ys))
-            (behind_block (bound || arms_bind more) n m sc b (back ++ ys) (back_none _ _ (front_none _ _ f))
-                (further bound (arms_bind more) back ys (unbound_arms h called i j sc more) u)
-                (behind_arms bound i j sc more ys (back_none _ _ f) u p))
+        (behind_block (bound || arms_bind more) n m sc b (back ++ ys) (back_none _ _ (front_none _ _ f))
+        (further bound (arms_bind more) back ys (unbound_arms h called i j sc more) u)
+        (behind_arms bound i j sc more ys (back_none _ _ f) u p))
 
   pub nothing_binds_behind : (bound : Bool) (n : ℕ) (sc : Scope) (b : Option Block) → body_findings h called bound n sc b ≡ [] → (bound ≡ false → quantified ≡ false) → NothingBindsBehind h.co quantified (in_order (acts_in (body_acts h called n sc b)))
   nothing_binds_behind bound n sc None f q = tt
   nothing_binds_behind bound n sc (Some b) f q =
       subst (NothingBindsBehind h.co quantified) (append-nil (in_order (block_acts h called n 1 sc b)))
-          (behind_block bound n 1 sc b [] f (λ e. neither quantified false (q e) refl) tt)
+      (behind_block bound n 1 sc b [] f (λ e. neither quantified false (q e) refl) tt)

@@ -218,39 +218,45 @@ module _ (p : TypedProcedure) (h : Setting) (called : Called) (co : p.co ≡ h.c
     meets_statement bound n m sc (Statement.validate up s) f g l = (tt, tt)
     meets_statement bound n m sc (Statement.havoc up xs s) f g l = meets_havocs sc up xs s
     meets_statement bound n m sc (Statement.reward a s) f g l = (tt, tt)
-    meets_statement bound n m sc (Statement.branch arms other s) f g l =
-        (tt, each_both (LoopsMeet p) _ [] (each_both (LoopsMeet p) _ _
-            (meets_arms (bound || block_binds other) n m sc arms (front_none _ _ f) g (front_fits n (locals_of_arms arms) (locals_of_block other) l))
-            (meets_block bound (n + length (locals_of_arms arms)) (m + loops_of_arms arms) sc other (back_none _ _ f) (grow_more 0 n _ (numbers sc) g (omega arith)) (back_fits n (locals_of_arms arms) (locals_of_block other) l))) tt)
-    meets_statement bound n m sc (Statement.pick up a b s) f g l =
-        (tt, each_both (LoopsMeet p) _ [] (each_both (LoopsMeet p) _ _
-            (meets_block (bound || block_binds b) n m sc a (front_none _ _ f) g (front_fits n (locals_of_block a) (locals_of_block b) l))
-            (meets_block bound (n + length (locals_of_block a)) (m + loops_of_block a) sc b (back_none _ _ f) (grow_more 0 n _ (numbers sc) g (omega arith)) (back_fits n (locals_of_block a) (locals_of_block b) l))) tt)
+    meets_statement bound n m sc (Statement.branch arms other s) f g l = (
+      tt,
+      each_both (LoopsMeet p) _ [] (each_both (LoopsMeet p) _ _
+          (meets_arms (bound || block_binds other) n m sc arms (front_none _ _ f) g (front_fits n (locals_of_arms arms) (locals_of_block other) l))
+          (meets_block bound (n + length (locals_of_arms arms)) (m + loops_of_arms arms) sc other (back_none _ _ f) (grow_more 0 n _ (numbers sc) g (omega arith)) (back_fits n (locals_of_arms arms) (locals_of_block other) l))) tt,
+    )
+    meets_statement bound n m sc (Statement.pick up a b s) f g l = (
+      tt,
+      each_both (LoopsMeet p) _ [] (each_both (LoopsMeet p) _ _
+          (meets_block (bound || block_binds b) n m sc a (front_none _ _ f) g (front_fits n (locals_of_block a) (locals_of_block b) l))
+          (meets_block bound (n + length (locals_of_block a)) (m + loops_of_block a) sc b (back_none _ _ f) (grow_more 0 n _ (numbers sc) g (omega arith)) (back_fits n (locals_of_block a) (locals_of_block b) l))) tt,
+    )
     meets_statement bound n m sc (Statement.loop rules g b s) f i l =
         let inside = back_none (rules_findings n sc rules ++ closed_findings Demand.Truth n sc g) _ (front_none _ _ f) in
         let own = all_kept s (loop_rules n sc rules (block_is_rankable b)) (back_none _ _ f) in
-        let k = few rules in
-        (record {
+        let k = few rules in (
+          record {
             some_copy = k.some;
             few_copies = k.few;
             scope = grow_more 0 n (length (variables p)) (numbers sc) i (below_all n (length (locals_of_block b)) l);
             ranked = ranked n sc rules _ (λ e. rankable_block h called n (suc m) sc b (implied (list_any is_ranking rules) (block_is_rankable b) own.1.1.1.1.1.0 e));
             nothing_against = subst (λ d. Each (Along d) (in_order (block_acts h called n (suc m) sc b))) (sym co) (along_block h called n (suc m) sc b inside);
-        }, each_both (LoopsMeet p) _ [] (meets_block true n (suc m) sc b inside i l) tt)
+          },
+          each_both (LoopsMeet p) _ [] (meets_block true n (suc m) sc b inside i l) tt,
+        )
 
     meets_block : (bound : Bool) (n m : ℕ) (sc : Scope) (b : Block) → block_findings h called bound n sc b ≡ [] → GrowBelow 0 n (numbers sc) → Fits n (length (locals_of_block b)) → Each (LoopsMeet p) (in_order (block_acts h called n m sc b))
     meets_block bound n m sc Block.done f g l = tt
     meets_block bound n m sc (Block.next s b) f g l =
         each_join (LoopsMeet p) (statement_acts h called n m sc s) _
-            (meets_statement (bound || block_binds b) n m sc s (front_none _ _ f) g (front_fits n (locals s) (locals_of_block b) l))
-            (meets_block bound (n + length (locals s)) (m + loops s) (behind n sc s) b (back_none _ _ f) (grown_behind h called (bound || block_binds b) n sc s (front_none _ _ f) g) (back_fits n (locals s) (locals_of_block b) l))
+        (meets_statement (bound || block_binds b) n m sc s (front_none _ _ f) g (front_fits n (locals s) (locals_of_block b) l))
+        (meets_block bound (n + length (locals s)) (m + loops s) (behind n sc s) b (back_none _ _ f) (grown_behind h called (bound || block_binds b) n sc s (front_none _ _ f) g) (back_fits n (locals s) (locals_of_block b) l))
 
     meets_arms : (bound : Bool) (n m : ℕ) (sc : Scope) (arms : text.Arms) → arms_findings h called bound n sc arms ≡ [] → GrowBelow 0 n (numbers sc) → Fits n (length (locals_of_arms arms)) → Each (LoopsMeet p) (inside_arms (arms_acts h called n m sc arms))
     meets_arms bound n m sc text.Arms.no_arm f g l = tt
     meets_arms bound n m sc (text.Arms.arm e b more) f g l =
         each_both (LoopsMeet p) _ _
-            (meets_block (bound || arms_bind more) n m sc b (back_none _ _ (front_none _ _ f)) g (front_fits n (locals_of_block b) (locals_of_arms more) l))
-            (meets_arms bound (n + length (locals_of_block b)) (m + loops_of_block b) sc more (back_none _ _ f) (grow_more 0 n _ (numbers sc) g (omega arith)) (back_fits n (locals_of_block b) (locals_of_arms more) l))
+        (meets_block (bound || arms_bind more) n m sc b (back_none _ _ (front_none _ _ f)) g (front_fits n (locals_of_block b) (locals_of_arms more) l))
+        (meets_arms bound (n + length (locals_of_block b)) (m + loops_of_block b) sc more (back_none _ _ f) (grow_more 0 n _ (numbers sc) g (omega arith)) (back_fits n (locals_of_block b) (locals_of_arms more) l))
 
   pub meets_body : (bound : Bool) (n : ℕ) (sc : Scope) (b : Option Block) → body_findings h called bound n sc b ≡ [] → GrowBelow 0 n (numbers sc) → Fits n (length (locals_of_body b)) → Each (LoopsMeet p) (in_order (acts_in (body_acts h called n sc b)))
   meets_body bound n sc None f g l = tt

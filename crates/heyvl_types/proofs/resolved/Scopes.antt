@@ -17,10 +17,10 @@ use Rattle.heyvl_types.specs.RightSides.{right_findings}
 use Rattle.heyvl_types.specs.Rules.{Each}
 use Rattle.heyvl_types.specs.Scopes.{Scope, any_unknown, find, is_visible, numbers, types_of_names, with_local}
 use Rattle.heyvl_types.specs.Signatures.{Called}
-use Rattle.heyvl_types.specs.StatementActs.{arms_acts, assigned, block_acts, choose_parts, declared_act, first_or_zero, flip_parts, havocs, integer_parts, invariant_of, loops, loops_of_arms, loops_of_block, number_or_zero, statement_acts, targets, terms, unif_parts}
+use Rattle.heyvl_types.specs.StatementActs.{arms_acts, assigned, block_acts, choose_parts, declared_act, first_or_zero, flip_parts, havocs, integer_parts, invariant_of, loops, loops_of_arms, loops_of_block, number_or_zero, ranking_of, statement_acts, targets, terms, unif_parts}
 use Rattle.heyvl_types.specs.StatementRules.{arms_bind, arms_findings, assign_rules, block_binds, block_findings, havoc_rules, statement_findings, value_findings}
 use Rattle.heyvl_types.specs.Variables.{behind, locals, locals_of_arms, locals_of_block}
-use Rattle.heyvl_types.specs.Visible.{Scoped, ScopedAct, ScopedArms, Sees, SeesParts, SeesTerms, Visible, among, shown, shown_all, shown_by}
+use Rattle.heyvl_types.specs.Visible.{Scoped, ScopedAct, ScopedArms, Sees, SeesParts, SeesRank, SeesTerms, Visible, among, shown, shown_all, shown_by}
 use Rattle.heyvl_types.specs.declared.scopes.Local.{Local}
 use Rattle.heyvl_types.specs.declared.settings.Setting.{Setting}
 use Rattle.std.proofs.Common.{Bool, List, None, Option, Some, [], ap, false, pos, refl, suc, sym, true, zero, ◌++◌, ◌+◌, ◌==◌, ◌∙◌, ◌≡◌, ◌∷◌, ℕ, ℤ}
@@ -129,6 +129,12 @@ module _ (v : Visible) (sc : Scope) (p : Mirrors v sc) where
   invariant_sees n (LoopRule.k_induction k i s ∷ rs) = sees_form sc v visible n i
   invariant_sees n (LoopRule.ranking e r s ∷ rs) = invariant_sees n rs
 
+  ranking_sees : (n : ℕ) (rules : List LoopRule) → SeesRank v (ranking_of n sc rules)
+  ranking_sees n [] = tt
+  ranking_sees n (LoopRule.ranking e r s ∷ rs) = sees_form sc v visible n r
+  ranking_sees n (LoopRule.invariant i s ∷ rs) = ranking_sees n rs
+  ranking_sees n (LoopRule.k_induction k i s ∷ rs) = ranking_sees n rs
+
 -- ---- What is visible behind an assignment
 
 module _ (h : Setting) (called : Called) where
@@ -185,7 +191,7 @@ module _ (h : Setting) (called : Called) where
         }
     reads_statement bound n m sc v (Statement.loop rules g b s) f p =
         record {
-          scoped = ((p, ((invariant_sees v sc p n rules, sees_condition sc v (visible v sc p) n g), reads_block true n (suc m) sc v b (back_none _ _ (front_none _ _ f)) p)), tt);
+          scoped = ((p, ((invariant_sees v sc p n rules, (sees_condition sc v (visible v sc p) n g, ranking_sees v sc p n rules)), reads_block true n (suc m) sc v b (back_none _ _ (front_none _ _ f)) p)), tt);
           after = p;
         }
 
@@ -194,7 +200,7 @@ module _ (h : Setting) (called : Called) where
     reads_block bound n m sc v (Block.next s b) f p =
         let r = reads_statement (bound || block_binds b) n m sc v s (front_none _ _ f) p in
         scoped_join (statement_acts h called n m sc s) _ v r.scoped
-            (reads_block bound (n + length (locals s)) (m + loops s) (behind n sc s) (shown_after (statement_acts h called n m sc s) v) b (back_none _ _ f) r.after)
+        (reads_block bound (n + length (locals s)) (m + loops s) (behind n sc s) (shown_after (statement_acts h called n m sc s) v) b (back_none _ _ f) r.after)
 
     reads_arms : (bound : Bool) (n m : ℕ) (sc : Scope) (v : Visible) (arms : text.Arms) → arms_findings h called bound n sc arms ≡ [] → Mirrors v sc → ScopedArms v (arms_acts h called n m sc arms)
     reads_arms bound n m sc v text.Arms.no_arm f p = tt
