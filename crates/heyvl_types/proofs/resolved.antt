@@ -9,3 +9,5 @@ pub mod Walk
 pub mod Formulas
 pub mod Heads
 pub mod Clauses
+pub mod Calls
+pub mod Targets
