@@ -9,10 +9,11 @@ pub mod Walk
 pub mod Formulas
 pub mod Heads
 pub mod Clauses
+pub mod Calls
+pub mod Targets
 pub mod Tests
 pub mod Numbers
 pub mod Posts
-pub mod Callable
 pub mod Bindings
 pub mod Directions
 pub mod Growth

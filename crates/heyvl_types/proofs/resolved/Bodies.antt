@@ -3,7 +3,7 @@ use Rattle.heylo_formula.specs.Binders.{has_binder}
 use Rattle.heyvl_syntax.specs.Procedures.{Procedure}
 use Rattle.heyvl_syntax.specs.declared.procedures.Param.{Param}
 use Rattle.heyvl_types.proofs.resolved.Bindings.{nothing_binds_behind}
-use Rattle.heyvl_types.proofs.resolved.Callable.{called_described}
+use Rattle.heyvl_types.proofs.resolved.Calls.{AreCallees}
 use Rattle.heyvl_types.proofs.resolved.Directions.{follows_body}
 use Rattle.heyvl_types.proofs.resolved.Growth.{counted_grow, numbers_of_parameters}
 use Rattle.heyvl_types.proofs.resolved.Loops.{meets_body}
@@ -99,8 +99,8 @@ module _ (ps : List Procedure) (p : Procedure)
           let e = length_of_parameters p.outputs in
           omega (arith, a, d, e)
 
-  pub directions_kept : Each (FollowsDirection (resolved ps) typed_one) (in_order (acts_in typed_one.body))
-  directions_kept = follows_body (resolved ps) typed_one (setting p) (called ps) refl refl (called_described ps) (has_quantified_post p) (arity p) (head_scope p) p.body body_found
+  pub directions_kept : AreCallees (called ps) (resolved ps) → Each (FollowsDirection (resolved ps) typed_one) (in_order (acts_in typed_one.body))
+  directions_kept callees = follows_body (resolved ps) typed_one (setting p) (called ps) refl refl callees (has_quantified_post p) (arity p) (head_scope p) p.body body_found
 
   pub binders_kept : NothingBindsBehind typed_one.co (has_binder typed_one.post) (in_order (acts_in typed_one.body))
   binders_kept = nothing_binds_behind (setting p) (called ps) (has_binder typed_one.post) (has_quantified_post p) (arity p) (head_scope p) p.body body_found (λ q. plain_post p.co (first_quantified p) (head_scope p) p.posts q)

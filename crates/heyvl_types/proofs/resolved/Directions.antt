@@ -1,15 +1,17 @@
 -- Typed acts follow the direction of their procedure.
+use Rattle.heylo_formula.specs.Binders.{has_binder}
 use Rattle.heylo_formula.specs.Operators.{agree}
 use Rattle.heyvl_syntax.specs.Statements as text
 use Rattle.heyvl_syntax.specs.Statements.{Block, RightSide, Statement}
 use Rattle.heyvl_syntax.specs.declared.spans.Span.{Span}
 use Rattle.heyvl_syntax.specs.declared.types.TypeName.{TypeName}
-use Rattle.heyvl_types.proofs.resolved.Callable.{Describes}
+use Rattle.heyvl_types.proofs.resolved.Calls.{AreCallees}
 use Rattle.heyvl_types.proofs.resolved.Findings.{all_kept, back_none, front_none}
 use Rattle.heyvl_types.proofs.resolved.InOrder.{each_both, each_join}
+use Rattle.heyvl_types.proofs.resolved.Posts.{plain_post}
 use Rattle.heyvl_types.proofs.resolved.Tests.{not_false, right_false}
 use Rattle.heyvl_types.specs.Acts.{Acts, TypedProcedure, acts_in, procedure_at}
-use Rattle.heyvl_types.specs.Files.{body_acts, body_findings}
+use Rattle.heyvl_types.specs.Files.{body_acts, body_findings, first_quantified, head_scope}
 use Rattle.heyvl_types.specs.Findings.{at}
 use Rattle.heyvl_types.specs.Places.{in_order, inside_arms}
 use Rattle.heyvl_types.specs.RightSides.{is_of_other_direction, is_quantified, right_rules}
@@ -21,7 +23,7 @@ use Rattle.heyvl_types.specs.StatementRules.{any_twice, arms_bind, arms_findings
 use Rattle.heyvl_types.specs.Table.{declarable}
 use Rattle.heyvl_types.specs.Variables.{behind, locals, locals_of_arms, locals_of_block}
 use Rattle.heyvl_types.specs.declared.settings.Setting.{Setting}
-use Rattle.std.proofs.Common.{Bool, List, None, Option, Some, [], false, refl, suc, sym, true, ◌+◌, ◌∙◌, ◌≡◌, ◌∷◌, ℕ}
+use Rattle.std.proofs.Common.{Bool, List, None, Option, Some, [], ap, false, refl, suc, sym, true, ◌+◌, ◌∙◌, ◌≡◌, ◌∷◌, ℕ}
 use Rattle.std.specs.Option.{is_none}
 use Rattle.std.specs.Prelude.{length, ◌||◌}
 
@@ -31,12 +33,15 @@ agreed false true e = absurd (cc)
 agreed false false e = refl
 
 -- A procedure of the file, with what its statements have to know of it.
-module _ (ps : List TypedProcedure) (p : TypedProcedure) (h : Setting) (called : Called) (co : p.co ≡ h.co) (weak : p.weak ≡ h.weak) (described : (x : List ℕ) (q : Signature) → find_call called x ≡ Some q → Describes ps q) where
+module _ (ps : List TypedProcedure) (p : TypedProcedure) (h : Setting) (called : Called) (co : p.co ≡ h.co) (weak : p.weak ≡ h.weak) (callees : AreCallees called ps) where
   callable : (f : List ℕ) (o : Option Signature) → find_call called f ≡ o → is_none o ≡ false → is_of_other_direction h.co o ≡ false → is_quantified o ≡ false → IsCallable p.co (procedure_at ps (callee o))
   callable f None e a b c = absurd (cc)
   callable f (Some q) e a b c =
-      let d = described f q e in
-      record { direction = d.direction ∙ (agreed h.co q.co (not_false _ b) ∙ sym co); plain = d.plain c }
+      let d = callees f q e in
+      record {
+        direction = ap (λ r. r.co) d.typed_is ∙ (ap (λ t. t.co) d.is ∙ (agreed h.co q.co (not_false _ b) ∙ sym co));
+        plain = ap (λ r. has_binder r.post) d.typed_is ∙ plain_post d.procedure.co (first_quantified d.procedure) (head_scope d.procedure) d.procedure.posts (ap (λ t. t.quantified) d.is ∙ c);
+      }
 
   follows_assigned : (n : ℕ) (sc : Scope) (unknown twice undeclarable input : Bool) (types : List (Option TypeName)) (xs : List ℕ) (r : RightSide) (s : Span) → at s (right_rules h.co called n sc unknown twice undeclarable input types r) ≡ [] → Each (FollowsDirection ps p) (in_order (Acts.next (assigned called n sc xs r s) Acts.done))
   follows_assigned n sc unknown twice undeclarable input types xs (RightSide.plain e) s f = (tt, tt)

@@ -1,6 +1,7 @@
 -- Forms, conditions and terms that expressions become read visible variables alone.
 use Rattle.heylo_formula.specs.Variables.{is_free, is_free_in}
 use Rattle.heyvl_syntax.specs.Expressions.{Expression}
+use Rattle.heyvl_types.proofs.TypedMeanings.{some_is}
 use Rattle.heyvl_types.proofs.resolved.Free.{IsHidden, IsWithout, becomes_without}
 use Rattle.heyvl_types.specs.Scopes.{Scope, find, numbers}
 use Rattle.heyvl_types.specs.StatementActs.{condition, form, term}
@@ -12,9 +13,6 @@ use Rattle.std.proofs.Common.{Bool, List, None, Option, Some, [], ap, arith, fal
 use Rattle.std.proofs.lemmas.Bool.{ne_eqb, or_left, or_right}
 use Rattle.std.specs.Prelude.{if◌then◌else◌, ◌||◌}
 use Rattle.std.specs.Str.{bytes_eq}
-
-some_is : (x y : Local) → Some x ≡ Some y → x ≡ y
-some_is x y e = cc
 
 same_number : (n : ℕ) → (n == n) ≡ true
 same_number n = grind arith
