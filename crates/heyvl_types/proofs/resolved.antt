@@ -11,3 +11,5 @@ pub mod Heads
 pub mod Clauses
 pub mod Calls
 pub mod Targets
+pub mod Types
+pub mod Weights
