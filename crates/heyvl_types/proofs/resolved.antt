@@ -13,3 +13,13 @@ pub mod Calls
 pub mod Targets
 pub mod Types
 pub mod Weights
+pub mod Tests
+pub mod Numbers
+pub mod Posts
+pub mod Bindings
+pub mod Directions
+pub mod Growth
+pub mod Loops
+pub mod Sight
+pub mod Scopes
+pub mod Bodies

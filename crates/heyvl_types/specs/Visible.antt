@@ -1,6 +1,6 @@
 -- Which variables are visible, and that acts read visible variables alone. A variable that a block declares is visible from
 -- the act that first gives it a value to the block's end, so it is written before it is read.
-use Rattle.std.specs.Prelude.{◌≡◌, ℕ, ◌==◌, Bool, true, false, ◌||◌, List, [], ◌∷◌, ◌++◌, length, leb}
+use Rattle.std.specs.Prelude.{◌≡◌, ℕ, ◌==◌, Bool, true, false, ◌||◌, List, [], ◌∷◌, ◌++◌, Option, Some, None, length, leb}
 use Prim.Native.Nat.{suc}
 use Rattle.heyvl_num.specs.Rational.{Rational}
 use Rattle.heylo_formula.specs.Formula.{Form, Cond, Term}
@@ -45,6 +45,11 @@ abbrev pub SeesParts : Visible → List (Rational × Term) → Type 0
 SeesParts v [] = Unit {0}
 SeesParts v (q ∷ qs) = SeesTerm v q.1 × SeesParts v qs
 
+-- A loop's ranking, where it has one.
+abbrev pub SeesRank : Visible → Option (Rational × Form) → Type 0
+SeesRank v None = Unit {0}
+SeesRank v (Some r) = Sees v r.1
+
 -- What is visible after the act.
 abbrev pub shown_by : Act → Visible → Visible
 shown_by (Act.set x t span) v = shown x v
@@ -68,7 +73,7 @@ abbrev mutual
   ScopedAct v (Act.pick up a b span) = Scoped v a × Scoped v b
   ScopedAct v (Act.check kind f span) = Sees v f
   ScopedAct v (Act.validate co span) = Unit {0}
-  ScopedAct v (Act.loop h b) = ((y : ℕ) → v y ≡ among h.scope y) × ((Sees v h.inv × SeesCond v h.guard) × Scoped v b)
+  ScopedAct v (Act.loop h b) = ((y : ℕ) → v y ≡ among h.scope y) × ((Sees v h.inv × (SeesCond v h.guard × SeesRank v h.rank)) × Scoped v b)
   ScopedAct v (Act.call xs p es span) = SeesTerms v es
 
   pub Scoped : Visible → Acts → Type 0

@@ -17,7 +17,9 @@ mod typed;
 mod weights;
 
 pub use acts::{Act, LoopAct};
-pub use laws::{expressions_are_typed, forward_meaning_matches_runs, resolved_files_meet_the_rules};
+pub use laws::{
+    expressions_are_typed, forward_meaning_matches_runs, resolved_files_meet_the_rules,
+};
 pub use places::act_at;
 pub use stops::ResolveStop;
 pub use typed::{TProc, Typed, VarInfo};

@@ -180,7 +180,7 @@ module _ (c : Called) (p : Procedure) (k : IsClean c p) where
   pub pre_held : IsHeld (types_in (type_list (typed c p).inputs)) (typed c p).pre
   pre_held =
       clause_holds _ (held_join _) p.co _
-          (each_pre _ (held_join _) (arity p) (input_scope p) (λ e h. closed_held _ (arity p) (input_scope p) (agrees_up (length p.inputs) (arity p) (input_scope p) (omega arith) inputs_known) e h) p.pres k.pres)
+      (each_pre _ (held_join _) (arity p) (input_scope p) (λ e h. closed_held _ (arity p) (input_scope p) (agrees_up (length p.inputs) (arity p) (input_scope p) (omega arith) inputs_known) e h) p.pres k.pres)
 
   pub pre_over : IsOver (length (typed c p).inputs) (typed c p).pre
   pre_over = clause_holds _ (over_join _) p.co _ (each_pre _ (over_join _) (arity p) (input_scope p) (λ e h. form_over _ (arity p) (input_scope p) inputs_below e) p.pres k.pres)
@@ -188,8 +188,8 @@ module _ (c : Called) (p : Procedure) (k : IsClean c p) where
   pub post_formula : IsFormula (types_in (type_list ((typed c p).inputs ++ (typed c p).outputs))) (typed c p).post
   post_formula =
       clause_holds _ (formulas_join _) p.co _
-          (each_post _ (formulas_join _) (front_of p.co) (arity p) (first_quantified p) (head_scope p) (omega arith)
-              (λ n e l h. front_formula _ n (head_scope p) (agrees_up (arity p) n (head_scope p) l head_known) e (front_of p.co) h) p.posts k.posts)
+      (each_post _ (formulas_join _) (front_of p.co) (arity p) (first_quantified p) (head_scope p) (omega arith)
+      (λ n e l h. front_formula _ n (head_scope p) (agrees_up (arity p) n (head_scope p) l head_known) e (front_of p.co) h) p.posts k.posts)
 
   pub post_over : IsOver (length ((typed c p).inputs ++ (typed c p).outputs)) (typed c p).post
   post_over = clause_holds _ (over_join _) p.co _ (each_post _ (over_join _) (front_of p.co) (arity p) (first_quantified p) (head_scope p) (omega arith) (λ n e l h. form_over _ n (head_scope p) head_below e) p.posts k.posts)
@@ -197,5 +197,5 @@ module _ (c : Called) (p : Procedure) (k : IsClean c p) where
   pub post_directed : is_directed p.co (typed c p).post ≡ true
   post_directed =
       clause_holds (IsDirected p.co) (directed_join p.co) p.co _
-          (each_post (IsDirected p.co) (directed_join p.co) (front_of p.co) (arity p) (first_quantified p) (head_scope p) (omega arith)
-              (λ n e l h. directed_meant p.co (elaborate n (head_scope p) e) (λ m i. becomes_directed p.co Demand.Formula n (head_scope p) e m h i)) p.posts k.posts)
+      (each_post (IsDirected p.co) (directed_join p.co) (front_of p.co) (arity p) (first_quantified p) (head_scope p) (omega arith)
+      (λ n e l h. directed_meant p.co (elaborate n (head_scope p) e) (λ m i. becomes_directed p.co Demand.Formula n (head_scope p) e m h i)) p.posts k.posts)

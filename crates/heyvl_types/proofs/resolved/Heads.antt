@@ -53,9 +53,10 @@ clean c named p e =
 
 pub all_clean : (c : Called) (names : List (List ℕ)) (ps : List Procedure) → procedures_findings c names ps ≡ [] → Each (IsClean c) ps
 all_clean c names [] e = tt
-all_clean c names (p ∷ ps) e =
-    (clean c (list_any (bytes_eq p.name) names) p (front_none (procedure_findings c (list_any (bytes_eq p.name) names) p) _ e),
-     all_clean c (names ++ p.name ∷ []) ps (back_none (procedure_findings c (list_any (bytes_eq p.name) names) p) _ e))
+all_clean c names (p ∷ ps) e = (
+  clean c (list_any (bytes_eq p.name) names) p (front_none (procedure_findings c (list_any (bytes_eq p.name) names) p) _ e),
+  all_clean c (names ++ p.name ∷ []) ps (back_none (procedure_findings c (list_any (bytes_eq p.name) names) p) _ e),
+)
 
 -- ---- Limits
 
@@ -101,7 +102,7 @@ agrees_behind vs n k sc [] h g s e = agrees_up n k sc (omega arith) g
 agrees_behind vs n k sc (q ∷ qs) h g s e =
     let d = (all_kept q.span ((11, is_visible sc q.name) ∷ (12, is_none (declarable q.ty)) ∷ []) (front_none (at q.span ((11, is_visible sc q.name) ∷ (12, is_none (declarable q.ty)) ∷ [])) _ e)).1.0 in
     agrees_behind vs (suc n) k _ qs (omega arith) (agrees_with n (suc n) sc q.name q.ty (omega arith) (declared_at vs n q.name q.ty (parameters qs) s d) g) (stands_next vs n _ (parameters qs) s)
-        (back_none (at q.span ((11, is_visible sc q.name) ∷ (12, is_none (declarable q.ty)) ∷ [])) _ e)
+    (back_none (at q.span ((11, is_visible sc q.name) ∷ (12, is_none (declarable q.ty)) ∷ [])) _ e)
 
 nothing_visible : (types : ℕ → Ty) → Agrees types 0 []
 nothing_visible types = record { declared = λ x l e. absurd (cc); below = λ x l e. absurd (cc) }

@@ -93,17 +93,17 @@ module _ (vs : List Variable) (h : Setting) (c : Called) where
       each_statement bound n m sc (Statement.reward a s) k l e = each_one P _ (own bound n m sc (Statement.reward a s) k l e).0 tt
       each_statement bound n m sc (Statement.branch arms other s) k l e =
           each_one P _ (own bound n m sc (Statement.branch arms other s) k l e).0
-              (each_both P (inside_arms (arms_acts h c n m sc arms)) _
-                  (each_arms (bound || block_binds other) n m sc arms k (stands_front vs n (locals_of_arms arms) _ l) (front_none _ _ e))
-                  (each_block bound (n + length (locals_of_arms arms)) (m + loops_of_arms arms) sc other (known_up n _ sc (omega arith) k) (stands_back vs n (locals_of_arms arms) _ l) (back_none _ _ e)))
+          (each_both P (inside_arms (arms_acts h c n m sc arms)) _
+          (each_arms (bound || block_binds other) n m sc arms k (stands_front vs n (locals_of_arms arms) _ l) (front_none _ _ e))
+          (each_block bound (n + length (locals_of_arms arms)) (m + loops_of_arms arms) sc other (known_up n _ sc (omega arith) k) (stands_back vs n (locals_of_arms arms) _ l) (back_none _ _ e)))
       each_statement bound n m sc (Statement.pick up a b s) k l e =
           each_one P _ (own bound n m sc (Statement.pick up a b s) k l e).0
-              (each_both P (in_order (block_acts h c n m sc a)) _
-                  (each_block (bound || block_binds b) n m sc a k (stands_front vs n (locals_of_block a) _ l) (front_none _ _ e))
-                  (each_block bound (n + length (locals_of_block a)) (m + loops_of_block a) sc b (known_up n _ sc (omega arith) k) (stands_back vs n (locals_of_block a) _ l) (back_none _ _ e)))
+          (each_both P (in_order (block_acts h c n m sc a)) _
+          (each_block (bound || block_binds b) n m sc a k (stands_front vs n (locals_of_block a) _ l) (front_none _ _ e))
+          (each_block bound (n + length (locals_of_block a)) (m + loops_of_block a) sc b (known_up n _ sc (omega arith) k) (stands_back vs n (locals_of_block a) _ l) (back_none _ _ e)))
       each_statement bound n m sc (Statement.loop rules g b s) k l e =
           each_one P _ (own bound n m sc (Statement.loop rules g b s) k l e).0
-              (each_block true n (suc m) sc b k l (back_none _ _ (front_none _ _ e)))
+          (each_block true n (suc m) sc b k l (back_none _ _ (front_none _ _ e)))
 
       pub each_block : (bound : Bool) (n m : ℕ) (sc : Scope) (b : Block) → Known n sc → Stands vs n (locals_of_block b) → block_findings h c bound n sc b ≡ [] → Each P (in_order (block_acts h c n m sc b))
       each_block bound n m sc Block.done k l e = tt
@@ -111,13 +111,13 @@ module _ (vs : List Variable) (h : Setting) (c : Called) where
           let i = front_none _ _ e in
           let l0 = stands_front vs n (locals s) _ l in
           each_join P (statement_acts h c n m sc s) _
-              (each_statement (bound || block_binds b) n m sc s k l0 i)
-              (each_block bound (n + length (locals s)) (m + loops s) (behind n sc s) b (known_behind (bound || block_binds b) n sc s k l0 i) (stands_back vs n (locals s) _ l) (back_none _ _ e))
+          (each_statement (bound || block_binds b) n m sc s k l0 i)
+          (each_block bound (n + length (locals s)) (m + loops s) (behind n sc s) b (known_behind (bound || block_binds b) n sc s k l0 i) (stands_back vs n (locals s) _ l) (back_none _ _ e))
 
       pub each_arms : (bound : Bool) (n m : ℕ) (sc : Scope) (arms : text.Arms) → Known n sc → Stands vs n (locals_of_arms arms) → arms_findings h c bound n sc arms ≡ [] → Each P (inside_arms (arms_acts h c n m sc arms))
       each_arms bound n m sc text.Arms.no_arm k l e = tt
       each_arms bound n m sc (text.Arms.arm g b more) k l e =
           let i = front_none (closed_findings Demand.Truth n sc g ++ block_findings h c (bound || arms_bind more) n sc b) _ e in
           each_both P (in_order (block_acts h c n m sc b)) _
-              (each_block (bound || arms_bind more) n m sc b k (stands_front vs n (locals_of_block b) _ l) (back_none _ _ i))
-              (each_arms bound (n + length (locals_of_block b)) (m + loops_of_block b) sc more (known_up n _ sc (omega arith) k) (stands_back vs n (locals_of_block b) _ l) (back_none _ _ e))
+          (each_block (bound || arms_bind more) n m sc b k (stands_front vs n (locals_of_block b) _ l) (back_none _ _ i))
+          (each_arms bound (n + length (locals_of_block b)) (m + loops_of_block b) sc more (known_up n _ sc (omega arith) k) (stands_back vs n (locals_of_block b) _ l) (back_none _ _ e))

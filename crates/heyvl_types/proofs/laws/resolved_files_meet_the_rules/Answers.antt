@@ -1,10 +1,38 @@
+use Rattle.heyvl_syntax.specs.Procedures.{Procedure}
 use Rattle.heyvl_types.proofs.laws.resolved_files_meet_the_rules.Goals as goal
-use Rattle.heyvl_types.proofs.resolved.Clauses.{pre_held}
-use Rattle.heyvl_types.proofs.resolved.Walk.{each_block}
-use Rattle.heyvl_types.proofs.resolved.Calls.{callees}
-use Rattle.heyvl_types.proofs.resolved.Targets.{own}
-use Rattle.heyvl_types.proofs.resolved.Types.{value_fits}
-use Rattle.heyvl_types.proofs.resolved.Weights.{step_above}
+use Rattle.heyvl_types.proofs.resolved.Bodies.{binders_kept, directions_kept, loops_kept, numbers_kept, scopes_kept}
+use Rattle.heyvl_types.proofs.resolved.Calls.{AreCallees, callees}
+use Rattle.heyvl_types.proofs.resolved.Clauses.{post_directed, post_formula, post_over, pre_held, pre_over}
+use Rattle.heyvl_types.proofs.resolved.Heads.{IsClean, all_clean, few_parameters, few_statements, few_variables}
+use Rattle.heyvl_types.specs.Files.{resolved, typed}
+use Rattle.heyvl_types.specs.Rules.{Each, MeetsRules}
+use Rattle.heyvl_types.specs.Signatures.{called}
+use Rattle.std.proofs.Common.{List, [], ◌∷◌, map}
+
+meets : (ps : List Procedure) (p : Procedure) → AreCallees (called ps) (resolved ps) → IsClean (called ps) p → MeetsRules (resolved ps) (typed (called ps) p)
+meets ps p callees k = record {
+  few_parameters = few_parameters (called ps) p k;
+  few_variables = few_variables (called ps) p k;
+  few_statements = few_statements (called ps) p k;
+  weak_is_proc = ?;
+  pre = pre_held (called ps) p k;
+  pre_over = pre_over (called ps) p k;
+  post = post_formula (called ps) p k;
+  post_over = post_over (called ps) p k;
+  post_directed = post_directed (called ps) p k;
+  targets = ?;
+  typed = ?;
+  weights = ?;
+  directions = directions_kept ps p k.inputs k.outputs k.body callees;
+  binders = binders_kept ps p k.inputs k.outputs k.body;
+  scopes = scopes_kept ps p k.inputs k.outputs k.body;
+  loops = loops_kept ps p k.inputs k.outputs k.body;
+  numbered = numbers_kept ps p k.inputs k.outputs k.body;
+}
+
+each_meets : (ps qs : List Procedure) → AreCallees (called ps) (resolved ps) → Each (IsClean (called ps)) qs → Each (MeetsRules (resolved ps)) (map (typed (called ps)) qs)
+each_meets ps [] c k = tt
+each_meets ps (q ∷ qs) c k = (meets ps q c k.0, each_meets ps qs c k.1)
 
 pub returns : goal.returns
-returns c = λ ps e. ?
+returns c = λ ps e. let k = all_clean (called ps) [] ps e in each_meets ps ps (callees ps k) k

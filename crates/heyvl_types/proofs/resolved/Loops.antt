@@ -1,0 +1,263 @@
+-- Each loop of a typed body meets the rules of loops.
+use Rattle.heyvl_syntax.specs.Expressions.{Expression}
+use Rattle.heyvl_syntax.specs.Statements as text
+use Rattle.heyvl_syntax.specs.Statements.{Block, LoopRule, RightSide, Statement}
+use Rattle.heyvl_syntax.specs.declared.literals.Lit.{Lit}
+use Rattle.heyvl_syntax.specs.declared.spans.Span.{Span}
+use Rattle.heyvl_syntax.specs.declared.statements.CheckKind.{CheckKind}
+use Rattle.heyvl_syntax.specs.declared.types.TypeName.{TypeName}
+use Rattle.heylo_formula.specs.Formula.{Form}
+use Rattle.heyvl_types.proofs.resolved.Findings.{all_kept, back_none, front_none}
+use Rattle.heyvl_types.proofs.resolved.Growth.{grow_more, grown_behind}
+use Rattle.heyvl_types.proofs.resolved.InOrder.{each_both, each_join}
+use Rattle.heyvl_types.proofs.resolved.Tests.{left_true, right_true}
+use Rattle.heyvl_types.specs.Acts.{Act, Acts, TypedProcedure, Variable, acts_in, variables}
+use Rattle.heyvl_types.specs.Files.{body_acts, body_findings}
+use Rattle.heyvl_types.specs.Literals.{copies, whole_value}
+use Rattle.heyvl_types.specs.LoopRules.{is_ranking, loop_rules, rules_findings}
+use Rattle.heyvl_types.specs.Places.{in_order, inside_arms}
+use Rattle.heyvl_types.specs.Rules.{Each, GrowBelow, LoopsMeet, RankedBodyIsPlain, is_against, is_rankable}
+use Rattle.heyvl_types.specs.Scopes.{Scope, numbers}
+use Rattle.heyvl_types.specs.Signatures.{Called}
+use Rattle.heyvl_types.specs.StatementActs.{arms_acts, assigned, block_acts, copies_of, declared_act, form, havocs, loops, loops_of_arms, loops_of_block, number_or_one, ranking_of, statement_acts, targets}
+use Rattle.heyvl_types.specs.StatementRules.{arms_are_rankable, arms_bind, arms_findings, block_binds, block_findings, block_is_rankable, calls_value, check_rules, checks_against, is_call, statement_findings, validate_rules, validates_against}
+use Rattle.heyvl_types.specs.StatementRules as text_rules
+use Rattle.heyvl_types.specs.TypedExpressions.{closed_findings, elaborate}
+use Rattle.heyvl_types.specs.Variables.{behind, locals, locals_of_arms, locals_of_block, locals_of_body}
+use Rattle.heyvl_types.specs.declared.demands.Demand.{Demand}
+use Rattle.heyvl_types.specs.declared.settings.Setting.{Setting}
+use Rattle.std.proofs.Common.{Bool, List, None, Option, Some, [], arith, false, refl, subst, suc, sym, true, ◌++◌, ◌+◌, ◌≡◌, ◌≤◌, ◌∷◌, ℕ, ℤ}
+use Rattle.std.proofs.lemmas.Int.{ints}
+use Rattle.std.proofs.lemmas.List.{length-append}
+use Rattle.std.specs.Int.Signed.{le_z}
+use Rattle.std.specs.List.{list_any}
+use Rattle.std.specs.Prelude.{if◌then◌else◌, length, not, pos, unsigned_abs, ◌&&◌, ◌||◌}
+
+-- ---- What may stand under a ranking
+
+abbrev Rankable : Act → Type 0
+Rankable a = is_rankable a ≡ true
+
+rankable_assigned : (called : Called) (n : ℕ) (sc : Scope) (xs : List ℕ) (r : RightSide) (s : Span) → not (is_call r) ≡ true → Each Rankable (in_order (Acts.next (assigned called n sc xs r s) Acts.done))
+rankable_assigned called n sc xs (RightSide.plain e) s u = (refl, tt)
+rankable_assigned called n sc xs (RightSide.flip p) s u = (refl, tt)
+rankable_assigned called n sc xs (RightSide.unif a b) s u = (refl, tt)
+rankable_assigned called n sc xs (RightSide.choose parts) s u = (refl, tt)
+rankable_assigned called n sc xs (RightSide.call p arguments) s u = absurd (cc)
+
+rankable_declared : (h : Setting) (called : Called) (n : ℕ) (sc : Scope) (t : TypeName) (r : Option RightSide) (s : Span) → not (calls_value r) ≡ true → Each Rankable (in_order (Acts.next (declared_act h called n sc t r s) Acts.done))
+rankable_declared h called n sc t None s u = (refl, tt)
+rankable_declared h called n sc t (Some r) s u = rankable_assigned called n sc (n ∷ []) r s u
+
+rankable_havocs : (sc : Scope) (co : Bool) (xs : List (List ℕ)) (s : Span) → Each Rankable (in_order (havocs sc co xs s))
+rankable_havocs sc co [] s = tt
+rankable_havocs sc co (x ∷ xs) s = (refl, rankable_havocs sc co xs s)
+
+module _ (h : Setting) (called : Called) where
+  mutual
+    rankable_statement : (n m : ℕ) (sc : Scope) (s : Statement) → text_rules.is_rankable s ≡ true → Each Rankable (in_order (statement_acts h called n m sc s))
+    rankable_statement n m sc (Statement.var x t r s) u = rankable_declared h called n sc t r s u
+    rankable_statement n m sc (Statement.assign xs r s) u = rankable_assigned called n sc (targets sc xs) r s u
+    rankable_statement n m sc (Statement.check kind a s) u = absurd (cc)
+    rankable_statement n m sc (Statement.validate co s) u = absurd (cc)
+    rankable_statement n m sc (Statement.havoc co xs s) u = rankable_havocs sc co xs s
+    rankable_statement n m sc (Statement.reward a s) u = (refl, tt)
+    rankable_statement n m sc (Statement.branch arms other s) u =
+        (refl, each_both Rankable _ [] (each_both Rankable _ _ (rankable_arms n m sc arms (left_true _ _ u)) (rankable_block (n + length (locals_of_arms arms)) (m + loops_of_arms arms) sc other (right_true _ _ u))) tt)
+    rankable_statement n m sc (Statement.pick up a b s) u =
+        (refl, each_both Rankable _ [] (each_both Rankable _ _ (rankable_block n m sc a (left_true _ _ u)) (rankable_block (n + length (locals_of_block a)) (m + loops_of_block a) sc b (right_true _ _ u))) tt)
+    rankable_statement n m sc (Statement.loop rules g b s) u = absurd (cc)
+
+    rankable_block : (n m : ℕ) (sc : Scope) (b : Block) → block_is_rankable b ≡ true → Each Rankable (in_order (block_acts h called n m sc b))
+    rankable_block n m sc Block.done u = tt
+    rankable_block n m sc (Block.next s b) u =
+        each_join Rankable (statement_acts h called n m sc s) _ (rankable_statement n m sc s (left_true _ _ u)) (rankable_block (n + length (locals s)) (m + loops s) (behind n sc s) b (right_true _ _ u))
+
+    rankable_arms : (n m : ℕ) (sc : Scope) (arms : text.Arms) → arms_are_rankable arms ≡ true → Each Rankable (inside_arms (arms_acts h called n m sc arms))
+    rankable_arms n m sc text.Arms.no_arm u = tt
+    rankable_arms n m sc (text.Arms.arm g b more) u =
+        each_both Rankable _ _ (rankable_block n m sc b (left_true _ _ u)) (rankable_arms (n + length (locals_of_block b)) (m + loops_of_block b) sc more (right_true _ _ u))
+
+-- ---- What stands in a loop
+
+bound_alone : (a : Bool) → (a && true) ≡ false → a ≡ false
+bound_alone true e = e
+bound_alone false e = refl
+
+along_check : (co : Bool) (kind : CheckKind) (f : Form) (s : Span) → (checks_against co kind && true) ≡ false → is_against co (Act.check kind f s) ≡ false
+along_check co CheckKind.Assert f s k = refl
+along_check co CheckKind.Assume f s k = bound_alone co k
+along_check co CheckKind.CoAssert f s k = refl
+along_check co CheckKind.CoAssume f s k = bound_alone (not co) k
+
+-- An act that is no check against the direction.
+abbrev Along : Bool → Act → Type 0
+Along co a = is_against co a ≡ false
+
+along_assigned : (co : Bool) (called : Called) (n : ℕ) (sc : Scope) (xs : List ℕ) (r : RightSide) (s : Span) → Each (Along co) (in_order (Acts.next (assigned called n sc xs r s) Acts.done))
+along_assigned co called n sc xs (RightSide.plain e) s = (refl, tt)
+along_assigned co called n sc xs (RightSide.flip p) s = (refl, tt)
+along_assigned co called n sc xs (RightSide.unif a b) s = (refl, tt)
+along_assigned co called n sc xs (RightSide.choose parts) s = (refl, tt)
+along_assigned co called n sc xs (RightSide.call p arguments) s = (refl, tt)
+
+along_declared : (co : Bool) (h : Setting) (called : Called) (n : ℕ) (sc : Scope) (t : TypeName) (r : Option RightSide) (s : Span) → Each (Along co) (in_order (Acts.next (declared_act h called n sc t r s) Acts.done))
+along_declared co h called n sc t None s = (refl, tt)
+along_declared co h called n sc t (Some r) s = along_assigned co called n sc (n ∷ []) r s
+
+along_havocs : (co : Bool) (sc : Scope) (up : Bool) (xs : List (List ℕ)) (s : Span) → Each (Along co) (in_order (havocs sc up xs s))
+along_havocs co sc up [] s = tt
+along_havocs co sc up (x ∷ xs) s = (refl, along_havocs co sc up xs s)
+
+module _ (h : Setting) (called : Called) where
+  mutual
+    along_statement : (n m : ℕ) (sc : Scope) (s : Statement) → statement_findings h called true n sc s ≡ [] → Each (Along h.co) (in_order (statement_acts h called n m sc s))
+    along_statement n m sc (Statement.var x t r s) f = along_declared h.co h called n sc t r s
+    along_statement n m sc (Statement.assign xs r s) f = along_assigned h.co called n sc (targets sc xs) r s
+    along_statement n m sc (Statement.check kind a s) f =
+        (along_check h.co kind (form (elaborate n sc a)) s (all_kept s (check_rules h true kind) (back_none (closed_findings Demand.Formula n sc a) _ f)).0, tt)
+    along_statement n m sc (Statement.validate co s) f = (bound_alone (validates_against h.co co) (all_kept s (validate_rules h true co) f).0, tt)
+    along_statement n m sc (Statement.havoc up xs s) f = along_havocs h.co sc up xs s
+    along_statement n m sc (Statement.reward a s) f = (refl, tt)
+    along_statement n m sc (Statement.branch arms other s) f =
+        (refl, each_both (Along h.co) _ [] (each_both (Along h.co) _ _ (along_arms n m sc arms (front_none _ _ f)) (along_block (n + length (locals_of_arms arms)) (m + loops_of_arms arms) sc other (back_none _ _ f))) tt)
+    along_statement n m sc (Statement.pick up a b s) f =
+        (refl, each_both (Along h.co) _ [] (each_both (Along h.co) _ _ (along_block n m sc a (front_none _ _ f)) (along_block (n + length (locals_of_block a)) (m + loops_of_block a) sc b (back_none _ _ f))) tt)
+    along_statement n m sc (Statement.loop rules g b s) f =
+        (refl, each_both (Along h.co) _ [] (along_block n (suc m) sc b (back_none _ _ (front_none _ _ f))) tt)
+
+    along_block : (n m : ℕ) (sc : Scope) (b : Block) → block_findings h called true n sc b ≡ [] → Each (Along h.co) (in_order (block_acts h called n m sc b))
+    along_block n m sc Block.done f = tt
+    along_block n m sc (Block.next s b) f =
+        each_join (Along h.co) (statement_acts h called n m sc s) _ (along_statement n m sc s (front_none _ _ f)) (along_block (n + length (locals s)) (m + loops s) (behind n sc s) b (back_none _ _ f))
+
+    along_arms : (n m : ℕ) (sc : Scope) (arms : text.Arms) → arms_findings h called true n sc arms ≡ [] → Each (Along h.co) (inside_arms (arms_acts h called n m sc arms))
+    along_arms n m sc text.Arms.no_arm f = tt
+    along_arms n m sc (text.Arms.arm g b more) f =
+        each_both (Along h.co) _ _ (along_block n m sc b (back_none _ _ (front_none _ _ f))) (along_arms (n + length (locals_of_block b)) (m + loops_of_block b) sc more (back_none _ _ f))
+
+-- ---- Numbers of copies and rankings
+
+pub record IsFew (k : ℕ) : Type 0 where
+  pub some : 1 ≤ k
+  pub few : k ≤ 16
+
+few_one : IsFew 1
+few_one = record { some = omega arith; few = omega arith }
+
+few_whole : (k : ℤ) (a b : Bool) → le_z (pos 1) k ≡ a → le_z k (pos 16) ≡ b → IsFew (number_or_one (if a && b then Some (unsigned_abs k) else None))
+few_whole k true true p q = record { some = omega (arith, ints, p); few = omega (arith, ints, p, q) }
+few_whole k true false p q = few_one
+few_whole k false b p q = few_one
+
+few_literal : (n : Lit) (s : Span) → IsFew (number_or_one (copies (Expression.number n s)))
+few_literal n s = go (whole_value n) refl
+  where
+    go : (o : Option ℤ) → whole_value n ≡ o → IsFew (number_or_one (copies (Expression.number n s)))
+    go None e = rw e few_one
+    go (Some k) e = rw e (few_whole k (le_z (pos 1) k) (le_z k (pos 16)) refl refl)
+
+few_copies : (e : Expression) → IsFew (number_or_one (copies e))
+few_copies (Expression.number n s) = few_literal n s
+few_copies e = few_one
+
+few : (rules : List LoopRule) → IsFew (copies_of rules)
+few [] = few_one
+few (LoopRule.invariant i s ∷ rs) = few_one
+few (LoopRule.k_induction k i s ∷ rs) = few_copies k
+few (LoopRule.ranking e r s ∷ rs) = few rs
+
+ranked : (n : ℕ) (sc : Scope) (rules : List LoopRule) (b : Acts) → (list_any is_ranking rules ≡ true → Each Rankable (in_order b)) → RankedBodyIsPlain (ranking_of n sc rules) b
+ranked n sc [] b p = tt
+ranked n sc (LoopRule.ranking e r s ∷ rs) b p = p refl
+ranked n sc (LoopRule.invariant i s ∷ rs) b p = ranked n sc rs b p
+ranked n sc (LoopRule.k_induction k i s ∷ rs) b p = ranked n sc rs b p
+
+implied : (a b : Bool) → (a && not b) ≡ false → a ≡ true → b ≡ true
+implied true true k e = refl
+implied true false k e = absurd (cc)
+implied false b k e = absurd (cc)
+
+-- ---- All loops
+
+-- A procedure, with what its statements have to know of it.
+module _ (p : TypedProcedure) (h : Setting) (called : Called) (co : p.co ≡ h.co) where
+  meets_assigned : (n : ℕ) (sc : Scope) (xs : List ℕ) (r : RightSide) (s : Span) → Each (LoopsMeet p) (in_order (Acts.next (assigned called n sc xs r s) Acts.done))
+  meets_assigned n sc xs (RightSide.plain e) s = (tt, tt)
+  meets_assigned n sc xs (RightSide.flip q) s = (tt, tt)
+  meets_assigned n sc xs (RightSide.unif a b) s = (tt, tt)
+  meets_assigned n sc xs (RightSide.choose parts) s = (tt, tt)
+  meets_assigned n sc xs (RightSide.call q arguments) s = (tt, tt)
+
+  meets_declared : (n : ℕ) (sc : Scope) (t : TypeName) (r : Option RightSide) (s : Span) → Each (LoopsMeet p) (in_order (Acts.next (declared_act h called n sc t r s) Acts.done))
+  meets_declared n sc t None s = (tt, tt)
+  meets_declared n sc t (Some r) s = meets_assigned n sc (n ∷ []) r s
+
+  meets_havocs : (sc : Scope) (up : Bool) (xs : List (List ℕ)) (s : Span) → Each (LoopsMeet p) (in_order (havocs sc up xs s))
+  meets_havocs sc up [] s = tt
+  meets_havocs sc up (x ∷ xs) s = (tt, meets_havocs sc up xs s)
+
+  -- The next variables are variables of the procedure.
+  abbrev Fits : ℕ → ℕ → Type 0
+  Fits n more = n + more ≤ length (variables p)
+
+  front_fits : (n : ℕ) (xs ys : List Variable) → Fits n (length (xs ++ ys)) → Fits n (length xs)
+  front_fits n xs ys l = let e = length-append xs ys in omega (arith, e, l)
+
+  back_fits : (n : ℕ) (xs ys : List Variable) → Fits n (length (xs ++ ys)) → Fits (n + length xs) (length ys)
+  back_fits n xs ys l = let e = length-append xs ys in omega (arith, e, l)
+
+  below_all : (n more : ℕ) → Fits n more → n ≤ length (variables p)
+  below_all n more l = omega (arith, l)
+
+  mutual
+    meets_statement : (bound : Bool) (n m : ℕ) (sc : Scope) (s : Statement) → statement_findings h called bound n sc s ≡ [] → GrowBelow 0 n (numbers sc) → Fits n (length (locals s)) → Each (LoopsMeet p) (in_order (statement_acts h called n m sc s))
+    meets_statement bound n m sc (Statement.var x t r s) f g l = meets_declared n sc t r s
+    meets_statement bound n m sc (Statement.assign xs r s) f g l = meets_assigned n sc (targets sc xs) r s
+    meets_statement bound n m sc (Statement.check kind a s) f g l = (tt, tt)
+    meets_statement bound n m sc (Statement.validate up s) f g l = (tt, tt)
+    meets_statement bound n m sc (Statement.havoc up xs s) f g l = meets_havocs sc up xs s
+    meets_statement bound n m sc (Statement.reward a s) f g l = (tt, tt)
+    meets_statement bound n m sc (Statement.branch arms other s) f g l = (
+      tt,
+      each_both (LoopsMeet p) _ [] (each_both (LoopsMeet p) _ _
+          (meets_arms (bound || block_binds other) n m sc arms (front_none _ _ f) g (front_fits n (locals_of_arms arms) (locals_of_block other) l))
+          (meets_block bound (n + length (locals_of_arms arms)) (m + loops_of_arms arms) sc other (back_none _ _ f) (grow_more 0 n _ (numbers sc) g (omega arith)) (back_fits n (locals_of_arms arms) (locals_of_block other) l))) tt,
+    )
+    meets_statement bound n m sc (Statement.pick up a b s) f g l = (
+      tt,
+      each_both (LoopsMeet p) _ [] (each_both (LoopsMeet p) _ _
+          (meets_block (bound || block_binds b) n m sc a (front_none _ _ f) g (front_fits n (locals_of_block a) (locals_of_block b) l))
+          (meets_block bound (n + length (locals_of_block a)) (m + loops_of_block a) sc b (back_none _ _ f) (grow_more 0 n _ (numbers sc) g (omega arith)) (back_fits n (locals_of_block a) (locals_of_block b) l))) tt,
+    )
+    meets_statement bound n m sc (Statement.loop rules g b s) f i l =
+        let inside = back_none (rules_findings n sc rules ++ closed_findings Demand.Truth n sc g) _ (front_none _ _ f) in
+        let own = all_kept s (loop_rules n sc rules (block_is_rankable b)) (back_none _ _ f) in
+        let k = few rules in (
+          record {
+            some_copy = k.some;
+            few_copies = k.few;
+            scope = grow_more 0 n (length (variables p)) (numbers sc) i (below_all n (length (locals_of_block b)) l);
+            ranked = ranked n sc rules _ (λ e. rankable_block h called n (suc m) sc b (implied (list_any is_ranking rules) (block_is_rankable b) own.1.1.1.1.1.0 e));
+            nothing_against = subst (λ d. Each (Along d) (in_order (block_acts h called n (suc m) sc b))) (sym co) (along_block h called n (suc m) sc b inside);
+          },
+          each_both (LoopsMeet p) _ [] (meets_block true n (suc m) sc b inside i l) tt,
+        )
+
+    meets_block : (bound : Bool) (n m : ℕ) (sc : Scope) (b : Block) → block_findings h called bound n sc b ≡ [] → GrowBelow 0 n (numbers sc) → Fits n (length (locals_of_block b)) → Each (LoopsMeet p) (in_order (block_acts h called n m sc b))
+    meets_block bound n m sc Block.done f g l = tt
+    meets_block bound n m sc (Block.next s b) f g l =
+        each_join (LoopsMeet p) (statement_acts h called n m sc s) _
+        (meets_statement (bound || block_binds b) n m sc s (front_none _ _ f) g (front_fits n (locals s) (locals_of_block b) l))
+        (meets_block bound (n + length (locals s)) (m + loops s) (behind n sc s) b (back_none _ _ f) (grown_behind h called (bound || block_binds b) n sc s (front_none _ _ f) g) (back_fits n (locals s) (locals_of_block b) l))
+
+    meets_arms : (bound : Bool) (n m : ℕ) (sc : Scope) (arms : text.Arms) → arms_findings h called bound n sc arms ≡ [] → GrowBelow 0 n (numbers sc) → Fits n (length (locals_of_arms arms)) → Each (LoopsMeet p) (inside_arms (arms_acts h called n m sc arms))
+    meets_arms bound n m sc text.Arms.no_arm f g l = tt
+    meets_arms bound n m sc (text.Arms.arm e b more) f g l =
+        each_both (LoopsMeet p) _ _
+        (meets_block (bound || arms_bind more) n m sc b (back_none _ _ (front_none _ _ f)) g (front_fits n (locals_of_block b) (locals_of_arms more) l))
+        (meets_arms bound (n + length (locals_of_block b)) (m + loops_of_block b) sc more (back_none _ _ f) (grow_more 0 n _ (numbers sc) g (omega arith)) (back_fits n (locals_of_block b) (locals_of_arms more) l))
+
+  pub meets_body : (bound : Bool) (n : ℕ) (sc : Scope) (b : Option Block) → body_findings h called bound n sc b ≡ [] → GrowBelow 0 n (numbers sc) → Fits n (length (locals_of_body b)) → Each (LoopsMeet p) (in_order (acts_in (body_acts h called n sc b)))
+  meets_body bound n sc None f g l = tt
+  meets_body bound n sc (Some b) f g l = meets_block bound n 1 sc b f g l
