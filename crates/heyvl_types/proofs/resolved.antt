@@ -11,6 +11,8 @@ pub mod Heads
 pub mod Clauses
 pub mod Calls
 pub mod Targets
+pub mod Types
+pub mod Weights
 pub mod Tests
 pub mod Numbers
 pub mod Posts
