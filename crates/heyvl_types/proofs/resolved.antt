@@ -23,3 +23,5 @@ pub mod Loops
 pub mod Sight
 pub mod Scopes
 pub mod Bodies
+pub mod Sizes
+pub mod SmallActs

@@ -26,3 +26,4 @@ pub mod Files
 pub mod Answers
 pub mod ExpressionLaws
 pub mod ResolvedLaws
+pub mod ResolvedSizes
