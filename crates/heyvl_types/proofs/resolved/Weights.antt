@@ -11,13 +11,20 @@ use Rattle.heyvl_syntax.specs.Statements.{RightSide, Statement}
 use Rattle.heyvl_syntax.specs.declared.literals.Lit.{Lit}
 use Rattle.heyvl_syntax.specs.declared.operators.BinaryOp.{BinaryOp}
 use Rattle.heyvl_syntax.specs.declared.spans.Span.{Span}
+use Rattle.heyvl_syntax.specs.declared.types.TypeName.{TypeName}
 use Rattle.heyvl_types.proofs.LiteralFractions.{power_positive}
 use Rattle.heyvl_types.proofs.TypedMeanings.{literal_nonnegative}
+use Rattle.heyvl_types.proofs.resolved.RightSides.{RightKept, assign_kept, var_kept}
+use Rattle.heyvl_types.proofs.resolved.Walk.{Alone, Locally}
+use Rattle.heyvl_types.specs.Acts.{Variable}
 use Rattle.heyvl_types.specs.Literals.{ends_wrong, integer, is_over_zero, is_probability, is_step, is_too_wide, is_written, is_zero_literal, literal_quotient, literal_value, sums_wrong, weigh_wrong, weight, weight_of_quotient, weight_of_value, weight_value}
-use Rattle.heyvl_types.specs.RightSides.{has_over_zero, literal_wrong, weights}
-use Rattle.heyvl_types.specs.Scopes.{Scope}
-use Rattle.heyvl_types.specs.StatementActs.{choose_parts, flip_parts, integer_parts, term, unif_parts}
+use Rattle.heyvl_types.specs.RightSides.{weights}
+use Rattle.heyvl_types.specs.Rules.{WeighsOne}
+use Rattle.heyvl_types.specs.Scopes.{Scope, types_of_names}
+use Rattle.heyvl_types.specs.Signatures.{Called}
+use Rattle.heyvl_types.specs.StatementActs.{assigned, choose_parts, flip_parts, havocs, integer_parts, targets, term, unif_parts}
 use Rattle.heyvl_types.specs.TypedExpressions.{elaborate}
+use Rattle.heyvl_types.specs.declared.settings.Setting.{Setting}
 use Rattle.heyvl_types.specs.declared.weights.Weight.TheVariants.{NotLiteral, OverZero, TooWide, Value}
 use Rattle.heyvl_types.specs.declared.weights.Weight.{Weight}
 use Rattle.std.proofs.Common.{Bool, List, None, Option, Some, [], ap, arith, false, negsuc, pos, refl, subst, suc, sym, true, zero, ◌*◌, ◌+◌, ◌<◌, ◌^◌, ◌∙◌, ◌∷◌, ◌≡◌, ◌≤◌, ℕ, ℤ}
@@ -125,3 +132,28 @@ module _ (n : ℕ) (sc : Scope) where
       rest : (a b : Bool) → a ≡ false → (not a && b) ≡ false → b ≡ false
       rest true b z q = absurd (cc)
       rest false b z q = q
+
+-- ---- Acts
+
+weighs_assigned : (c : Called) (n : ℕ) (sc : Scope) (xs : List ℕ) (ts : List (Option TypeName)) (r : RightSide) (s : Span) → RightKept c n sc ts r → WeighsOne (assigned c n sc xs r s)
+weighs_assigned c n sc xs ts (RightSide.plain e) s k = tt
+weighs_assigned c n sc xs ts (RightSide.flip p) s k = flip_one (weight_value (weight p))
+weighs_assigned c n sc xs ts (RightSide.unif a b) s k = unif_one (integer a) (integer b) k.literals
+weighs_assigned c n sc xs ts (RightSide.choose parts) s k = choose_one n sc parts k.literals k.divisors
+weighs_assigned c n sc xs ts (RightSide.call f es) s k = tt
+
+weighs_havocs : (sc : Scope) (co : Bool) (xs : List (List ℕ)) (s : Span) → Alone WeighsOne (havocs sc co xs s)
+weighs_havocs sc co [] s = tt
+weighs_havocs sc co (x ∷ xs) s = (tt, weighs_havocs sc co xs s)
+
+pub weighs : (vs : List Variable) (h : Setting) (c : Called) → Locally vs h c WeighsOne
+weighs vs h c bound n m sc (Statement.var x t None s) k l e = (tt, tt)
+weighs vs h c bound n m sc (Statement.var x t (Some r) s) k l e = (weighs_assigned c n sc (n ∷ []) (Some t ∷ []) r s (var_kept h c n sc bound x t r s e), tt)
+weighs vs h c bound n m sc (Statement.assign xs r s) k l e = (weighs_assigned c n sc (targets sc xs) (types_of_names sc xs) r s (assign_kept h c n sc bound xs r s e), tt)
+weighs vs h c bound n m sc (Statement.check kind a s) k l e = (tt, tt)
+weighs vs h c bound n m sc (Statement.validate co s) k l e = (tt, tt)
+weighs vs h c bound n m sc (Statement.havoc co xs s) k l e = weighs_havocs sc co xs s
+weighs vs h c bound n m sc (Statement.reward a s) k l e = (tt, tt)
+weighs vs h c bound n m sc (Statement.branch arms other s) k l e = (tt, tt)
+weighs vs h c bound n m sc (Statement.pick up a b s) k l e = (tt, tt)
+weighs vs h c bound n m sc (Statement.loop rules g b s) k l e = (tt, tt)
