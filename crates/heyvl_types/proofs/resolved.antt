@@ -15,6 +15,7 @@ pub mod RightSides
 pub mod Types
 pub mod Weights
 pub mod Draws
+pub mod TypedActs
 pub mod Tests
 pub mod Numbers
 pub mod Posts

@@ -3,7 +3,7 @@ use Rattle.heyvl_types.proofs.laws.resolved_files_meet_the_rules.Goals as goal
 use Rattle.heyvl_types.proofs.resolved.Bodies.{binders_kept, directions_kept, loops_kept, numbers_kept, scopes_kept}
 use Rattle.heyvl_types.proofs.resolved.Calls.{AreCallees, callees}
 use Rattle.heyvl_types.proofs.resolved.Clauses.{post_directed, post_formula, post_over, pre_held, pre_over}
-use Rattle.heyvl_types.proofs.resolved.Draws.{choose_drawn}
+use Rattle.heyvl_types.proofs.resolved.TypedActs.{typed_locally}
 use Rattle.heyvl_types.proofs.resolved.Targets.{own}
 use Rattle.heyvl_types.proofs.resolved.Weights.{weighs}
 use Rattle.heyvl_types.proofs.resolved.Heads.{IsClean, all_clean, few_parameters, few_statements, few_variables}
