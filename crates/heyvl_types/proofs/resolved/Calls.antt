@@ -50,7 +50,7 @@ with_signatures_are : (ps before rest : List Procedure) (n : ℕ) (c : Called) �
 with_signatures_are ps before [] n c w l h = h
 with_signatures_are ps before (p ∷ rest) n c w l h =
     with_signatures_are ps (before ++ (p ∷ [])) rest (suc n) (with_signature p.name (signature n p) c) (w ∙ sym (append_assoc before (p ∷ []) rest)) (omega (arith, l, length-append before (p ∷ [])))
-        (λ y t e. go y t (found_with p.name (signature n p) c y t e))
+    (λ y t e. go y t (found_with p.name (signature n p) c y t e))
   where
     go : (y : List ℕ) (t : Signature) → (signature n p ≡ t) ⊎ (find_call c y ≡ Some t) → IsSignature ps t
     go y t (inl e) = record { before = before; procedure = p; behind = rest; whole = w; is = ap (λ k. signature k p) (sym l) ∙ e }

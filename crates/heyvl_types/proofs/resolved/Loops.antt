@@ -8,9 +8,11 @@ use Rattle.heyvl_syntax.specs.declared.statements.CheckKind.{CheckKind}
 use Rattle.heyvl_syntax.specs.declared.types.TypeName.{TypeName}
 use Rattle.heylo_formula.specs.Formula.{Form}
 use Rattle.heyvl_types.proofs.resolved.Findings.{all_kept, back_none, front_none}
-use Rattle.heyvl_types.proofs.resolved.Growth.{grow_more, grown_behind}
+use Rattle.heyvl_types.proofs.resolved.Growth.{grow_more}
 use Rattle.heyvl_types.proofs.resolved.InOrder.{each_both, each_join}
+use Rattle.heyvl_types.proofs.resolved.Locals.{Stands, stands_within}
 use Rattle.heyvl_types.proofs.resolved.Tests.{left_true, right_true}
+use Rattle.heyvl_types.proofs.resolved.Walk.{Alone, Locally}
 use Rattle.heyvl_types.specs.Acts.{Act, Acts, TypedProcedure, Variable, acts_in, variables}
 use Rattle.heyvl_types.specs.Files.{body_acts, body_findings}
 use Rattle.heyvl_types.specs.Literals.{copies, whole_value}
@@ -182,82 +184,43 @@ implied false b k e = absurd (cc)
 
 -- A procedure, with what its statements have to know of it.
 module _ (p : TypedProcedure) (h : Setting) (called : Called) (co : p.co ≡ h.co) where
-  meets_assigned : (n : ℕ) (sc : Scope) (xs : List ℕ) (r : RightSide) (s : Span) → Each (LoopsMeet p) (in_order (Acts.next (assigned called n sc xs r s) Acts.done))
-  meets_assigned n sc xs (RightSide.plain e) s = (tt, tt)
-  meets_assigned n sc xs (RightSide.flip q) s = (tt, tt)
-  meets_assigned n sc xs (RightSide.unif a b) s = (tt, tt)
-  meets_assigned n sc xs (RightSide.choose parts) s = (tt, tt)
-  meets_assigned n sc xs (RightSide.call q arguments) s = (tt, tt)
+  meets_assigned : (n : ℕ) (sc : Scope) (xs : List ℕ) (r : RightSide) (s : Span) → LoopsMeet p (assigned called n sc xs r s)
+  meets_assigned n sc xs (RightSide.plain e) s = tt
+  meets_assigned n sc xs (RightSide.flip q) s = tt
+  meets_assigned n sc xs (RightSide.unif a b) s = tt
+  meets_assigned n sc xs (RightSide.choose parts) s = tt
+  meets_assigned n sc xs (RightSide.call q arguments) s = tt
 
-  meets_declared : (n : ℕ) (sc : Scope) (t : TypeName) (r : Option RightSide) (s : Span) → Each (LoopsMeet p) (in_order (Acts.next (declared_act h called n sc t r s) Acts.done))
-  meets_declared n sc t None s = (tt, tt)
+  meets_declared : (n : ℕ) (sc : Scope) (t : TypeName) (r : Option RightSide) (s : Span) → LoopsMeet p (declared_act h called n sc t r s)
+  meets_declared n sc t None s = tt
   meets_declared n sc t (Some r) s = meets_assigned n sc (n ∷ []) r s
 
-  meets_havocs : (sc : Scope) (up : Bool) (xs : List (List ℕ)) (s : Span) → Each (LoopsMeet p) (in_order (havocs sc up xs s))
+  meets_havocs : (sc : Scope) (up : Bool) (xs : List (List ℕ)) (s : Span) → Alone (LoopsMeet p) (havocs sc up xs s)
   meets_havocs sc up [] s = tt
   meets_havocs sc up (x ∷ xs) s = (tt, meets_havocs sc up xs s)
 
-  -- The next variables are variables of the procedure.
-  abbrev Fits : ℕ → ℕ → Type 0
-  Fits n more = n + more ≤ length (variables p)
+  scope_fits : (n : ℕ) (sc : Scope) (ls : List Variable) → GrowBelow 0 n (numbers sc) → Stands (variables p) n ls → GrowBelow 0 (length (variables p)) (numbers sc)
+  scope_fits n sc ls g l = grow_more 0 n (length (variables p)) (numbers sc) g (let i = stands_within (variables p) n ls l in omega (arith, i))
 
-  front_fits : (n : ℕ) (xs ys : List Variable) → Fits n (length (xs ++ ys)) → Fits n (length xs)
-  front_fits n xs ys l = let e = length-append xs ys in omega (arith, e, l)
-
-  back_fits : (n : ℕ) (xs ys : List Variable) → Fits n (length (xs ++ ys)) → Fits (n + length xs) (length ys)
-  back_fits n xs ys l = let e = length-append xs ys in omega (arith, e, l)
-
-  below_all : (n more : ℕ) → Fits n more → n ≤ length (variables p)
-  below_all n more l = omega (arith, l)
-
-  mutual
-    meets_statement : (bound : Bool) (n m : ℕ) (sc : Scope) (s : Statement) → statement_findings h called bound n sc s ≡ [] → GrowBelow 0 n (numbers sc) → Fits n (length (locals s)) → Each (LoopsMeet p) (in_order (statement_acts h called n m sc s))
-    meets_statement bound n m sc (Statement.var x t r s) f g l = meets_declared n sc t r s
-    meets_statement bound n m sc (Statement.assign xs r s) f g l = meets_assigned n sc (targets sc xs) r s
-    meets_statement bound n m sc (Statement.check kind a s) f g l = (tt, tt)
-    meets_statement bound n m sc (Statement.validate up s) f g l = (tt, tt)
-    meets_statement bound n m sc (Statement.havoc up xs s) f g l = meets_havocs sc up xs s
-    meets_statement bound n m sc (Statement.reward a s) f g l = (tt, tt)
-    meets_statement bound n m sc (Statement.branch arms other s) f g l = (
-      tt,
-      each_both (LoopsMeet p) _ [] (each_both (LoopsMeet p) _ _
-          (meets_arms (bound || block_binds other) n m sc arms (front_none _ _ f) g (front_fits n (locals_of_arms arms) (locals_of_block other) l))
-          (meets_block bound (n + length (locals_of_arms arms)) (m + loops_of_arms arms) sc other (back_none _ _ f) (grow_more 0 n _ (numbers sc) g (omega arith)) (back_fits n (locals_of_arms arms) (locals_of_block other) l))) tt,
-    )
-    meets_statement bound n m sc (Statement.pick up a b s) f g l = (
-      tt,
-      each_both (LoopsMeet p) _ [] (each_both (LoopsMeet p) _ _
-          (meets_block (bound || block_binds b) n m sc a (front_none _ _ f) g (front_fits n (locals_of_block a) (locals_of_block b) l))
-          (meets_block bound (n + length (locals_of_block a)) (m + loops_of_block a) sc b (back_none _ _ f) (grow_more 0 n _ (numbers sc) g (omega arith)) (back_fits n (locals_of_block a) (locals_of_block b) l))) tt,
-    )
-    meets_statement bound n m sc (Statement.loop rules g b s) f i l =
-        let inside = back_none (rules_findings n sc rules ++ closed_findings Demand.Truth n sc g) _ (front_none _ _ f) in
-        let own = all_kept s (loop_rules n sc rules (block_is_rankable b)) (back_none _ _ f) in
-        let k = few rules in (
-          record {
-            some_copy = k.some;
-            few_copies = k.few;
-            scope = grow_more 0 n (length (variables p)) (numbers sc) i (below_all n (length (locals_of_block b)) l);
-            ranked = ranked n sc rules _ (λ e. rankable_block h called n (suc m) sc b (implied (list_any is_ranking rules) (block_is_rankable b) own.1.1.1.1.1.0 e));
-            nothing_against = subst (λ d. Each (Along d) (in_order (block_acts h called n (suc m) sc b))) (sym co) (along_block h called n (suc m) sc b inside);
-          },
-          each_both (LoopsMeet p) _ [] (meets_block true n (suc m) sc b inside i l) tt,
-        )
-
-    meets_block : (bound : Bool) (n m : ℕ) (sc : Scope) (b : Block) → block_findings h called bound n sc b ≡ [] → GrowBelow 0 n (numbers sc) → Fits n (length (locals_of_block b)) → Each (LoopsMeet p) (in_order (block_acts h called n m sc b))
-    meets_block bound n m sc Block.done f g l = tt
-    meets_block bound n m sc (Block.next s b) f g l =
-        each_join (LoopsMeet p) (statement_acts h called n m sc s) _
-        (meets_statement (bound || block_binds b) n m sc s (front_none _ _ f) g (front_fits n (locals s) (locals_of_block b) l))
-        (meets_block bound (n + length (locals s)) (m + loops s) (behind n sc s) b (back_none _ _ f) (grown_behind h called (bound || block_binds b) n sc s (front_none _ _ f) g) (back_fits n (locals s) (locals_of_block b) l))
-
-    meets_arms : (bound : Bool) (n m : ℕ) (sc : Scope) (arms : text.Arms) → arms_findings h called bound n sc arms ≡ [] → GrowBelow 0 n (numbers sc) → Fits n (length (locals_of_arms arms)) → Each (LoopsMeet p) (inside_arms (arms_acts h called n m sc arms))
-    meets_arms bound n m sc text.Arms.no_arm f g l = tt
-    meets_arms bound n m sc (text.Arms.arm e b more) f g l =
-        each_both (LoopsMeet p) _ _
-        (meets_block (bound || arms_bind more) n m sc b (back_none _ _ (front_none _ _ f)) g (front_fits n (locals_of_block b) (locals_of_arms more) l))
-        (meets_arms bound (n + length (locals_of_block b)) (m + loops_of_block b) sc more (back_none _ _ f) (grow_more 0 n _ (numbers sc) g (omega arith)) (back_fits n (locals_of_block b) (locals_of_arms more) l))
-
-  pub meets_body : (bound : Bool) (n : ℕ) (sc : Scope) (b : Option Block) → body_findings h called bound n sc b ≡ [] → GrowBelow 0 n (numbers sc) → Fits n (length (locals_of_body b)) → Each (LoopsMeet p) (in_order (acts_in (body_acts h called n sc b)))
-  meets_body bound n sc None f g l = tt
-  meets_body bound n sc (Some b) f g l = meets_block bound n 1 sc b f g l
+  pub meets : Locally (variables p) h called (LoopsMeet p)
+  meets bound n m sc (Statement.var x t r s) k l f = (meets_declared n sc t r s, tt)
+  meets bound n m sc (Statement.assign xs r s) k l f = (meets_assigned n sc (targets sc xs) r s, tt)
+  meets bound n m sc (Statement.check kind a s) k l f = (tt, tt)
+  meets bound n m sc (Statement.validate up s) k l f = (tt, tt)
+  meets bound n m sc (Statement.havoc up xs s) k l f = meets_havocs sc up xs s
+  meets bound n m sc (Statement.reward a s) k l f = (tt, tt)
+  meets bound n m sc (Statement.branch arms other s) k l f = (tt, tt)
+  meets bound n m sc (Statement.pick up a b s) k l f = (tt, tt)
+  meets bound n m sc (Statement.loop rules g b s) k l f =
+      let inside = back_none (rules_findings n sc rules ++ closed_findings Demand.Truth n sc g) _ (front_none _ _ f) in
+      let own = all_kept s (loop_rules n sc rules (block_is_rankable b)) (back_none _ _ f) in
+      let i = few rules in (
+        record {
+          some_copy = i.some;
+          few_copies = i.few;
+          scope = scope_fits n sc (locals_of_block b) k.grows l;
+          ranked = ranked n sc rules _ (λ e. rankable_block h called n (suc m) sc b (implied (list_any is_ranking rules) (block_is_rankable b) own.1.1.1.1.1.0 e));
+          nothing_against = subst (λ d. Each (Along d) (in_order (block_acts h called n (suc m) sc b))) (sym co) (along_block h called n (suc m) sc b inside);
+        },
+        tt,
+      )

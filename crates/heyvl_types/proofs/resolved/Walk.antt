@@ -6,14 +6,15 @@ use Rattle.heyvl_syntax.specs.Statements as text
 use Rattle.heyvl_syntax.specs.declared.spans.Span.{Span}
 use Rattle.heyvl_syntax.specs.declared.types.TypeName.{TypeName}
 use Rattle.heyvl_types.proofs.resolved.Findings.{all_kept, back_none, front_none}
+use Rattle.heyvl_types.proofs.resolved.Growth.{grow_more, grown_behind}
 use Rattle.heyvl_types.proofs.resolved.InOrder.{each_both, each_join, each_one}
 use Rattle.heyvl_types.proofs.resolved.Locals.{Stands, agrees_up, agrees_with, declared_at, stands_back, stands_front}
 use Rattle.heyvl_types.specs.Acts.{Act, Acts, Variable, type_list}
 use Rattle.heyvl_types.specs.ExpressionLaws.{Agrees}
 use Rattle.heyvl_types.specs.Places.{in_order, inside, inside_arms}
-use Rattle.heyvl_types.specs.Rules.{Each}
+use Rattle.heyvl_types.specs.Rules.{Each, GrowBelow}
 use Rattle.heyvl_types.specs.RightSides.{right_findings}
-use Rattle.heyvl_types.specs.Scopes.{Scope}
+use Rattle.heyvl_types.specs.Scopes.{Scope, numbers}
 use Rattle.heyvl_types.specs.Signatures.{Called}
 use Rattle.heyvl_types.specs.StatementActs.{arms_acts, assigned, block_acts, declared_act, havocs, loops, loops_of_arms, loops_of_block, statement_acts, targets}
 use Rattle.heyvl_types.specs.StatementRules.{arms_findings, block_binds, block_findings, arms_bind, statement_findings, value_findings, var_rules}
@@ -40,19 +41,21 @@ Alone P Acts.done = Unit {0}
 Alone P (Acts.next a rest) = P a × Alone P rest
 
 module _ (vs : List Variable) (h : Setting) (c : Called) where
-  -- What is known where the next variable has this number: the visible variables are of their types in the list, and the inputs
-  -- have smaller numbers.
+  -- What is known where the next variable has this number: the visible variables are of their types in the list, the inputs
+  -- have smaller numbers, and the numbers of the scope grow.
   pub record Known (n : ℕ) (sc : Scope) : Type 0 where
     pub agrees : Agrees (types_in (type_list vs)) n sc
     pub inputs : h.inputs ≤ n
+    pub grows : GrowBelow 0 n (numbers sc)
 
   pub known_up : (n k : ℕ) (sc : Scope) → n ≤ k → Known n sc → Known k sc
-  known_up n k sc g e = record { agrees = agrees_up n k sc g e.agrees; inputs = let i = e.inputs in omega (arith, i, g) }
+  known_up n k sc g e = record { agrees = agrees_up n k sc g e.agrees; inputs = let i = e.inputs in omega (arith, i, g); grows = grow_more 0 n k (numbers sc) e.grows g }
 
   pub known_behind : (bound : Bool) (n : ℕ) (sc : Scope) (s : Statement) → Known n sc → Stands vs n (locals s) → statement_findings h c bound n sc s ≡ [] → Known (n + length (locals s)) (behind n sc s)
   known_behind bound n sc (Statement.var x t r s) k l e = record {
     agrees = agrees_with n (n + length (declared x t ∷ [])) sc x t (omega arith) (declared_at vs n x t [] l (var_declarable h c n sc x t r s e)) k.agrees;
     inputs = let i = k.inputs in omega (arith, i);
+    grows = grown_behind h c bound n sc (Statement.var x t r s) e k.grows;
   }
   known_behind bound n sc (Statement.assign xs r s) k l e = known_up n _ sc (omega arith) k
   known_behind bound n sc (Statement.check kind a s) k l e = known_up n _ sc (omega arith) k

@@ -1,36 +1,39 @@
 use Rattle.heyvl_syntax.specs.Procedures.{Procedure}
 use Rattle.heyvl_types.proofs.laws.resolved_files_meet_the_rules.Goals as goal
-use Rattle.heyvl_types.proofs.resolved.Bodies.{binders_kept, directions_kept, loops_kept, numbers_kept, scopes_kept}
+use Rattle.heyvl_types.proofs.resolved.Bodies.{binders_kept, directions_kept, each_act, loops_kept, numbers_kept, scopes_kept}
 use Rattle.heyvl_types.proofs.resolved.Calls.{AreCallees, callees}
 use Rattle.heyvl_types.proofs.resolved.Clauses.{post_directed, post_formula, post_over, pre_held, pre_over}
-use Rattle.heyvl_types.proofs.resolved.TypedActs.{typed_locally}
+use Rattle.heyvl_types.proofs.resolved.Heads.{IsClean, all_clean, few_parameters, few_statements, few_variables, length_parameters}
 use Rattle.heyvl_types.proofs.resolved.Targets.{own}
+use Rattle.heyvl_types.proofs.resolved.TypedActs.{typed_locally}
 use Rattle.heyvl_types.proofs.resolved.Weights.{weighs}
-use Rattle.heyvl_types.proofs.resolved.Heads.{IsClean, all_clean, few_parameters, few_statements, few_variables}
-use Rattle.heyvl_types.specs.Files.{resolved, typed}
-use Rattle.heyvl_types.specs.Rules.{Each, MeetsRules}
+use Rattle.heyvl_types.specs.Acts.{variables}
+use Rattle.heyvl_types.specs.Files.{is_wlp, resolved, setting, typed}
+use Rattle.heyvl_types.specs.Rules.{Each, HasOwnTargets, IsTypedAct, MeetsRules, WeighsOne}
 use Rattle.heyvl_types.specs.Signatures.{called}
-use Rattle.std.proofs.Common.{List, [], ◌∷◌, map}
+use Rattle.std.proofs.Common.{List, [], map, sym, ◌∷◌}
+use Rattle.std.proofs.lemmas.Bool.{and_parts, not-true}
+use Rattle.std.specs.Prelude.{not}
 
 meets : (ps : List Procedure) (p : Procedure) → AreCallees (called ps) (resolved ps) → IsClean (called ps) p → MeetsRules (resolved ps) (typed (called ps) p)
 meets ps p callees k = record {
   few_parameters = few_parameters (called ps) p k;
   few_variables = few_variables (called ps) p k;
   few_statements = few_statements (called ps) p k;
-  weak_is_proc = ?;
+  weak_is_proc = λ e. not-true p.co (and_parts (is_wlp p.note) (not p.co) e).1;
   pre = pre_held (called ps) p k;
   pre_over = pre_over (called ps) p k;
   post = post_formula (called ps) p k;
   post_over = post_over (called ps) p k;
   post_directed = post_directed (called ps) p k;
-  targets = ?;
-  typed = ?;
-  weights = ?;
-  directions = directions_kept ps p k.inputs k.outputs k.body callees;
-  binders = binders_kept ps p k.inputs k.outputs k.body;
-  scopes = scopes_kept ps p k.inputs k.outputs k.body;
-  loops = loops_kept ps p k.inputs k.outputs k.body;
-  numbered = numbers_kept ps p k.inputs k.outputs k.body;
+  targets = each_act ps p k (HasOwnTargets (typed (called ps) p)) (own (typed (called ps) p) (setting p) (called ps) (sym (length_parameters p.inputs)));
+  typed = each_act ps p k (IsTypedAct (resolved ps) (typed (called ps) p)) (typed_locally (resolved ps) (typed (called ps) p) (setting p) (called ps) callees);
+  weights = each_act ps p k WeighsOne (weighs (variables (typed (called ps) p)) (setting p) (called ps));
+  directions = directions_kept ps p k callees;
+  binders = binders_kept ps p k;
+  scopes = scopes_kept ps p k;
+  loops = loops_kept ps p k;
+  numbered = numbers_kept ps p k;
 }
 
 each_meets : (ps qs : List Procedure) → AreCallees (called ps) (resolved ps) → Each (IsClean (called ps)) qs → Each (MeetsRules (resolved ps)) (map (typed (called ps)) qs)
