@@ -1,6 +1,5 @@
 -- The acts of a procedure against which nothing is found are well typed.
 use Rattle.heylo_formula.specs.Typing.{Types}
-use Rattle.heyvl_num.specs.Rational.{Rational, zeroʳ, ◌<ʳ◌}
 use Rattle.heyvl_syntax.specs.Expressions.{Expression}
 use Rattle.heyvl_syntax.specs.Statements as text
 use Rattle.heyvl_syntax.specs.Statements.{LoopRule, RightSide, Statement}
@@ -10,37 +9,36 @@ use Rattle.heyvl_types.proofs.resolved.Calls.{AreCallees, IsCallee, parameters_d
 use Rattle.heyvl_types.proofs.resolved.Draws.{choose_drawn, flip_drawn, unif_drawn}
 use Rattle.heyvl_types.proofs.resolved.Findings.{all_kept, back_none, front_none}
 use Rattle.heyvl_types.proofs.resolved.Formulas.{closed_condition, closed_held, is_held}
-use Rattle.heyvl_types.proofs.resolved.Locals.{Stands, agrees_up, declared_at, type_at}
+use Rattle.heyvl_types.proofs.resolved.Locals.{agrees_up, declared_at, type_at}
 use Rattle.heyvl_types.proofs.resolved.Quantifiers.{closed_plain}
 use Rattle.heyvl_types.proofs.resolved.RightSides.{RightKept, assign_kept, targets_known, var_kept}
 use Rattle.heyvl_types.proofs.resolved.Targets.{AreOfTypes, IsOne, one_target, targets_typed}
 use Rattle.heyvl_types.proofs.resolved.Types.{arguments_fit, targets_fit, value_fits}
 use Rattle.heyvl_types.proofs.resolved.Walk.{Alone, Known, Locally, var_declarable}
 use Rattle.heyvl_types.proofs.resolved.Weights.{step_above}
-use Rattle.heyvl_types.specs.Acts.{Act, TypedProcedure, procedure_at, type_list, types_of, variables}
+use Rattle.heyvl_types.specs.Acts.{TypedProcedure, types_of, variables}
 use Rattle.heyvl_types.specs.ExpressionLaws.{Agrees}
-use Rattle.heyvl_types.specs.Files.{typed}
-use Rattle.heyvl_types.specs.Literals.{is_over_zero, weight, weight_value}
-use Rattle.heyvl_types.specs.LoopRules.{copies_wrong, count_of_invariants, count_of_rankings, is_no_formula, is_ranking, loop_rules, rules_findings, rules_wrong, step_wrong, steps_over_zero}
+use Rattle.heyvl_types.specs.Literals.{is_over_zero, weight}
+use Rattle.heyvl_types.specs.LoopRules.{count_of_invariants, count_of_rankings, is_no_formula, loop_rules, rules_findings, rules_wrong, step_wrong, steps_over_zero}
 use Rattle.heyvl_types.specs.RightSides.{any_argument_mismatches, any_output_mismatches, call_counts_wrong, call_mismatches, weight_findings}
-use Rattle.heyvl_types.specs.Rules.{ArgumentsFit, CallFits, Each, GuardsFit, IsTypedAct, LoopFits, RankFits, TargetsFit}
+use Rattle.heyvl_types.specs.Rules.{CallFits, Each, GuardsFit, IsTypedAct, LoopFits, RankFits}
 use Rattle.heyvl_types.specs.Scopes.{Scope, any_unknown, find, types_of_names}
-use Rattle.heyvl_types.specs.Signatures.{Called, Signature, find_call, signature}
-use Rattle.heyvl_types.specs.StatementActs.{arms_acts, assigned, callee, condition, form, havocs, invariant_of, loops_of_block, number_or_zero, ranking_of, statement_acts, targets, terms, type_of_local}
-use Rattle.heyvl_types.specs.StatementRules.{any_twice, arms_bind, arms_findings, block_findings, block_is_rankable, check_rules, havoc_rules, reward_rules, statement_findings}
+use Rattle.heyvl_types.specs.Signatures.{Called, Signature, find_call}
+use Rattle.heyvl_types.specs.StatementActs.{arms_acts, assigned, callee, condition, form, havocs, invariant_of, loops_of_block, number_or_zero, ranking_of, targets, terms, type_of_local}
+use Rattle.heyvl_types.specs.StatementRules.{arms_bind, arms_findings, block_findings, block_is_rankable, havoc_rules}
 use Rattle.heyvl_types.specs.Table.{declarable}
 use Rattle.heyvl_types.specs.TypedExpressions.{closed_findings, elaborate, lacks}
-use Rattle.heyvl_types.specs.Variables.{declared, locals, locals_of_block}
+use Rattle.heyvl_types.specs.Variables.{declared, locals_of_block}
 use Rattle.heyvl_types.specs.WellTyped.{IsHeld}
 use Rattle.heyvl_types.specs.declared.demands.Demand.{Demand}
 use Rattle.heyvl_types.specs.declared.scopes.Local.{Local}
 use Rattle.heyvl_types.specs.declared.settings.Setting.{Setting}
-use Rattle.std.proofs.Common.{Bool, List, None, Option, Some, [], ap, arith, false, length, refl, subst, suc, sym, true, ◌+◌, ◌++◌, ◌<◌, ◌==◌, ◌∙◌, ◌∷◌, ◌≡◌, ◌≤◌, ℕ}
+use Rattle.std.proofs.Common.{Bool, List, None, Option, Some, [], arith, false, length, refl, subst, sym, true, ◌+◌, ◌++◌, ◌==◌, ◌∙◌, ◌∷◌, ◌≡◌, ◌≤◌, ℕ}
 use Rattle.std.proofs.lemmas.Bool.{and_parts, eqb-true, not-false, or_parts}
 use Rattle.std.proofs.lemmas.List.{length-map}
 use Rattle.std.specs.List.{list_any}
 use Rattle.std.specs.Option.{is_none}
-use Rattle.std.specs.Prelude.{map, nat_le, not, ◌&&◌, ◌||◌}
+use Rattle.std.specs.Prelude.{nat_le, ◌||◌}
 
 -- ---- Calls
 

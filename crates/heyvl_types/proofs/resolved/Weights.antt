@@ -1,9 +1,9 @@
 -- The weights of draws against which nothing is found: none is negative, and they add up to 1.
 use Rattle.heylo_formula.specs.Formula.{Term}
-use Rattle.heyvl_num.proofs.exported.Rationals.{+ʳ-zero, +ʳ_assoc, +ʳ_comm, zero-+ʳ, ratio-+, ratio_nonnegative, ratio_same, ≤ʳ_antisym, ≤ʳ_refl}
-use Rattle.heyvl_num.proofs.exported.Signs.{difference_nonnegative, -ʳ-+ʳ}
+use Rattle.heyvl_num.proofs.exported.Rationals.{+ʳ-zero, +ʳ_assoc, +ʳ_left_comm, zero-+ʳ, ratio-+, ratio_nonnegative, ratio_same, ≤ʳ_antisym, ≤ʳ_refl}
+use Rattle.heyvl_num.proofs.exported.Signs.{+ʳ-neg}
 use Rattle.heyvl_num.proofs.exported.WeightedSums.{total_weight-cons, total_weight-empty}
-use Rattle.heyvl_num.specs.Rational.{Rational, leqʳ, oneʳ, ratio, zeroʳ, ◌+ʳ◌, ◌-ʳ◌, ◌<ʳ◌, ◌≤ʳ◌}
+use Rattle.heyvl_num.specs.Rational.{Rational, leqʳ, negʳ, oneʳ, ratio, zeroʳ, ◌+ʳ◌, ◌-ʳ◌, ◌<ʳ◌, ◌≤ʳ◌}
 use Rattle.heyvl_num.specs.Value.{is_zero_num}
 use Rattle.heyvl_num.specs.WeightedSums.{total_weight}
 use Rattle.heyvl_syntax.specs.Expressions.{Expression}
@@ -27,7 +27,7 @@ use Rattle.heyvl_types.specs.TypedExpressions.{elaborate}
 use Rattle.heyvl_types.specs.declared.settings.Setting.{Setting}
 use Rattle.heyvl_types.specs.declared.weights.Weight.TheVariants.{NotLiteral, OverZero, TooWide, Value}
 use Rattle.heyvl_types.specs.declared.weights.Weight.{Weight}
-use Rattle.std.proofs.Common.{Bool, List, None, Option, Some, [], ap, arith, false, negsuc, pos, refl, subst, suc, sym, true, zero, ◌*◌, ◌+◌, ◌<◌, ◌^◌, ◌∙◌, ◌∷◌, ◌≡◌, ◌≤◌, ℕ, ℤ}
+use Rattle.std.proofs.Common.{Bool, List, None, Option, Some, [], ap, arith, false, negsuc, pos, refl, suc, sym, true, zero, ◌*◌, ◌<◌, ◌^◌, ◌∙◌, ◌∷◌, ◌≡◌, ℕ, ℤ}
 use Rattle.std.proofs.Math.Nat.{mul-pos}
 use Rattle.std.proofs.lemmas.Bool.{and_parts, not-false, not-true, or_parts}
 use Rattle.std.proofs.lemmas.Int.{ints}
@@ -91,8 +91,12 @@ probability_small (Value q) h z = record { holds = not-false (leqʳ q oneʳ) h }
 
 -- ---- Sums
 
+completed : (q : Rational) → q +ʳ (oneʳ -ʳ q) ≡ oneʳ
+unfolding ◌-ʳ◌
+completed q = +ʳ_left_comm q oneʳ (negʳ q) ∙ ap (λ x. oneʳ +ʳ x) (+ʳ-neg q) ∙ +ʳ-zero oneʳ
+
 flip_one : (q : Rational) → total_weight (flip_parts q) ≡ oneʳ
-flip_one q = rw (total_weight-cons q _ _, total_weight-cons (oneʳ -ʳ q) _ [], total_weight-empty Term, +ʳ-zero (oneʳ -ʳ q), +ʳ_comm q (oneʳ -ʳ q)) (-ʳ-+ʳ oneʳ q)
+flip_one q = rw (total_weight-cons q _ _, total_weight-cons (oneʳ -ʳ q) _ [], total_weight-empty Term, +ʳ-zero (oneʳ -ʳ q)) (completed q)
 
 one_more : (n d : ℕ) → 0 < d → ratio (pos 1) d +ʳ ratio (pos n) d ≡ ratio (pos (suc n)) d
 one_more n d h = ratio-+ (pos 1) d (pos n) d h h ∙ ratio_same _ (d * d) (pos (suc n)) d (mul-pos h h) h (omega (arith, ints))
