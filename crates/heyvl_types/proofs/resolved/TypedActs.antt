@@ -90,9 +90,10 @@ module _ (p : TypedProcedure) (n : ℕ) (sc : Scope) (g : Agrees (types_of p) n 
       ranking_fits rules (back_none (closed_findings Demand.Any n sc i) _ h) (or_parts (lacks Demand.Formula (elaborate n sc i)) _ l).1 (or_parts false _ u).1 (or_parts false _ z).1
   ranking_fits (LoopRule.k_induction b i s ∷ rules) h l u z =
       ranking_fits rules (back_none (closed_findings Demand.Any n sc b ++ closed_findings Demand.Any n sc i) _ h) (or_parts (lacks Demand.Formula (elaborate n sc i)) _ l).1 (or_parts false _ u).1 (or_parts false _ z).1
-  ranking_fits (LoopRule.ranking e r s ∷ rules) h l u z =
-      (step_above (weight e) (or_parts (step_wrong (LoopRule.ranking e r s)) _ u).0 (or_parts (is_over_zero (weight e)) _ z).0,
-       formula_held (types_of p) n sc g r (back_none (weight_findings n sc e) _ (front_none (weight_findings n sc e ++ closed_findings Demand.Any n sc r) _ h)) (or_parts (lacks Demand.Formula (elaborate n sc r)) _ l).0)
+  ranking_fits (LoopRule.ranking e r s ∷ rules) h l u z = (
+    step_above (weight e) (or_parts (step_wrong (LoopRule.ranking e r s)) _ u).0 (or_parts (is_over_zero (weight e)) _ z).0,
+    formula_held (types_of p) n sc g r (back_none (weight_findings n sc e) _ (front_none (weight_findings n sc e ++ closed_findings Demand.Any n sc r) _ h)) (or_parts (lacks Demand.Formula (elaborate n sc r)) _ l).0,
+  )
 
   one_invariant : (rules : List LoopRule) → rules_wrong rules ≡ false → 1 ≤ count_of_invariants rules
   one_invariant rules h =
@@ -130,9 +131,10 @@ module _ (rs : List TypedProcedure) (p : TypedProcedure) (h : Setting) (c : Call
 
   guards_fit : (bound : Bool) (n m : ℕ) (sc : Scope) → Agrees (types_of p) n sc → (arms : text.Arms) → arms_findings h c bound n sc arms ≡ [] → GuardsFit p (arms_acts h c n m sc arms)
   guards_fit bound n m sc g text.Arms.no_arm e = tt
-  guards_fit bound n m sc g (text.Arms.arm q b more) e =
-      (closed_condition (types_of p) n sc g q (front_none _ _ (front_none (closed_findings Demand.Truth n sc q ++ block_findings h c (bound || arms_bind more) n sc b) _ e)),
-       guards_fit bound (n + length (locals_of_block b)) (m + loops_of_block b) sc (agrees_up n _ sc (omega arith) g) more (back_none _ _ e))
+  guards_fit bound n m sc g (text.Arms.arm q b more) e = (
+    closed_condition (types_of p) n sc g q (front_none _ _ (front_none (closed_findings Demand.Truth n sc q ++ block_findings h c (bound || arms_bind more) n sc b) _ e)),
+    guards_fit bound (n + length (locals_of_block b)) (m + loops_of_block b) sc (agrees_up n _ sc (omega arith) g) more (back_none _ _ e),
+  )
 
   loop_fits : (n : ℕ) (sc : Scope) → Agrees (types_of p) n sc → (rules : List LoopRule) (q : Expression) (rankable : Bool) (s : Span) → rules_findings n sc rules ≡ [] → closed_findings Demand.Truth n sc q ≡ [] → Each (λ rule. rule.1 ≡ false) (loop_rules n sc rules rankable) → (number k : ℕ) (scope : List ℕ) → LoopFits p (record { number = number; k = k; inv = invariant_of n sc rules; guard = condition (elaborate n sc q); rank = ranking_of n sc rules; scope = scope; span = s })
   loop_fits n sc g rules q rankable s e i kept number k scope = record {
