@@ -11,8 +11,11 @@ pub mod Heads
 pub mod Clauses
 pub mod Calls
 pub mod Targets
+pub mod RightSides
 pub mod Types
 pub mod Weights
+pub mod Draws
+pub mod TypedActs
 pub mod Tests
 pub mod Numbers
 pub mod Posts

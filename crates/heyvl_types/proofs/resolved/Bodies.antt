@@ -21,7 +21,7 @@ use Rattle.heyvl_types.specs.Scopes.{numbers}
 use Rattle.heyvl_types.specs.Signatures.{called}
 use Rattle.heyvl_types.specs.Variables.{locals_of_body, parameters}
 use Rattle.heyvl_types.specs.Visible.{Scoped, among, interface}
-use Rattle.std.proofs.Common.{Bool, List, None, Option, Some, [], ap, arith, false, inl, inr, refl, subst, suc, sym, true, zero, ◌++◌, ◌+◌, ◌<◌, ◌==◌, ◌∙◌, ◌≡◌, ◌≤◌, ◌⊎◌, ◌∷◌, ℕ}
+use Rattle.std.proofs.Common.{Bool, List, None, Option, Some, [], ap, arith, false, inl, inr, refl, subst, suc, sym, true, zero, ◌++◌, ◌+◌, ◌<◌, ◌==◌, ◌∙◌, ◌≡◌, ◌≤◌, ◌⊎◌, ℕ}
 use Rattle.std.proofs.lemmas.Bool.{cases_lt, le-leb, lt-leb}
 use Rattle.std.proofs.lemmas.List.{length-append}
 use Rattle.std.specs.Prelude.{leb, length, ◌||◌}

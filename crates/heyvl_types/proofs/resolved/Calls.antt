@@ -7,12 +7,11 @@ use Rattle.heyvl_types.proofs.resolved.Heads.{IsClean}
 use Rattle.heyvl_types.proofs.resolved.InOrder.{each_back}
 use Rattle.heyvl_types.specs.Acts.{TypedProcedure, procedure_at}
 use Rattle.heyvl_types.specs.Files.{parameters_findings, typed}
-use Rattle.heyvl_types.specs.Findings.{at}
 use Rattle.heyvl_types.specs.Rules.{Each}
 use Rattle.heyvl_types.specs.Scopes.{Scope, is_visible}
 use Rattle.heyvl_types.specs.Signatures.{Called, Signature, called, find_call, signature, with_signature, with_signatures}
 use Rattle.heyvl_types.specs.Table.{declarable}
-use Rattle.std.proofs.Common.{Bool, List, None, Option, Some, [], ap, append_assoc, arith, false, inl, inr, length, length-append, refl, subst, suc, sym, true, ◌+◌, ◌++◌, ◌<◌, ◌∙◌, ◌∷◌, ◌≡◌, ◌⊎◌, ℕ}
+use Rattle.std.proofs.Common.{Bool, List, None, Some, [], ap, append_assoc, arith, false, inl, inr, length, length-append, refl, subst, suc, sym, true, ◌++◌, ◌<◌, ◌∙◌, ◌∷◌, ◌≡◌, ◌⊎◌, ℕ}
 use Rattle.std.proofs.lemmas.List.{length-map}
 use Rattle.std.specs.Option.{is_none}
 use Rattle.std.specs.Prelude.{if◌then◌else◌, map}

@@ -5,7 +5,7 @@ use Rattle.heyvl_syntax.specs.Statements.{RightSide, Statement}
 use Rattle.heyvl_syntax.specs.declared.spans.Span.{Span}
 use Rattle.heyvl_syntax.specs.declared.types.TypeName.{TypeName}
 use Rattle.heyvl_types.proofs.resolved.Calls.{AreCallees}
-use Rattle.heyvl_types.proofs.resolved.Findings.{all_kept, back_none, front_none}
+use Rattle.heyvl_types.proofs.resolved.Findings.{all_kept, back_none}
 use Rattle.heyvl_types.proofs.resolved.Posts.{plain_post}
 use Rattle.heyvl_types.proofs.resolved.Tests.{not_false, right_false}
 use Rattle.heyvl_types.proofs.resolved.Walk.{Alone, Locally}
@@ -20,9 +20,8 @@ use Rattle.heyvl_types.specs.StatementActs.{assigned, callee, declared_act, havo
 use Rattle.heyvl_types.specs.StatementRules.{any_twice, assign_rules, havoc_rules, reward_rules, value_findings, var_rules}
 use Rattle.heyvl_types.specs.Table.{declarable}
 use Rattle.heyvl_types.specs.declared.settings.Setting.{Setting}
-use Rattle.std.proofs.Common.{Bool, List, None, Option, Some, [], ap, false, refl, suc, sym, true, ◌+◌, ◌∙◌, ◌≡◌, ◌∷◌, ℕ}
+use Rattle.std.proofs.Common.{Bool, List, None, Option, Some, [], ap, false, refl, sym, true, ◌∙◌, ◌≡◌, ◌∷◌, ℕ}
 use Rattle.std.specs.Option.{is_none}
-use Rattle.std.specs.Prelude.{length, ◌||◌}
 
 agreed : (a b : Bool) → agree a b ≡ true → b ≡ a
 agreed true b e = e

@@ -1,12 +1,11 @@
 -- What an expression becomes of which nothing is found where a formula or a condition is asked for.
-use Rattle.heylo_formula.specs.Formula.{Cond, Form}
-use Rattle.heylo_formula.specs.Typing.{IsFormula, Types, is_unsigned, is_well_typed}
+use Rattle.heylo_formula.specs.Typing.{IsFormula, Types, is_well_typed}
 use Rattle.heylo_formula.specs.Variables.{IsOver}
 use Rattle.heylo_formula.specs.Binders.{has_binder}
 use Rattle.heyvl_syntax.specs.Expressions.{Expression}
 use Rattle.heyvl_types.proofs.TypedMeanings.{good}
 use Rattle.heyvl_types.proofs.resolved.Free.{IsBelow, IsOverMeaning, becomes_over}
-use Rattle.heyvl_types.proofs.resolved.Nodes.{Meeting, meeting, node_kept}
+use Rattle.heyvl_types.proofs.resolved.Nodes.{meeting, node_kept}
 use Rattle.heyvl_types.proofs.resolved.Quantifiers.{IsPlain, becomes_plain, closed_plain}
 use Rattle.heyvl_types.specs.ExpressionLaws.{Agrees, IsTyped}
 use Rattle.heyvl_types.specs.Scopes.{Scope}

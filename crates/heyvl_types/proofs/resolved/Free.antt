@@ -1,5 +1,5 @@
 -- The free variables of what an expression becomes are visible.
-use Rattle.heylo_formula.specs.Formula.{Cond, Form}
+use Rattle.heylo_formula.specs.Formula.{Form}
 use Rattle.heylo_formula.specs.Typing.{is_unsigned}
 use Rattle.heylo_formula.specs.Variables.{IsOver, IsOverIn, is_free, is_free_in}
 use Rattle.heylo_formula.specs.declared.types.Ty.{Ty}

@@ -11,16 +11,16 @@ use Rattle.heyvl_types.specs.ExpressionLaws.{Agrees}
 use Rattle.heyvl_types.specs.Files.{arity, body_acts, body_findings, first_quantified, front_of, has_quantified_post, head_scope, input_scope, is_too_large, is_wlp, parameters_findings, posts_findings, pres_findings, procedure_findings, procedures_findings, setting, typed}
 use Rattle.heyvl_types.specs.Findings.{at}
 use Rattle.heyvl_types.specs.Rules.{Each}
-use Rattle.heyvl_types.specs.Scopes.{Scope, is_visible, with_local}
+use Rattle.heyvl_types.specs.Scopes.{Scope, is_visible}
 use Rattle.heyvl_types.specs.Signatures.{Called}
 use Rattle.heyvl_types.specs.Table.{declarable}
 use Rattle.heyvl_types.specs.Variables.{behind_parameters, declared, fronts_variables, locals_of_body, parameters}
-use Rattle.std.proofs.Common.{Bool, List, Some, [], append_assoc, arith, false, length, length-append, refl, suc, sym, true, ◌+◌, ◌++◌, ◌∷◌, ◌≡◌, ◌≤◌, ℕ}
+use Rattle.std.proofs.Common.{Bool, List, [], append_assoc, arith, false, length, length-append, refl, suc, sym, ◌+◌, ◌++◌, ◌∷◌, ◌≡◌, ◌≤◌, ℕ}
 use Rattle.std.proofs.lemmas.Bool.{ltb-false, or_parts}
 use Rattle.std.proofs.lemmas.List.{length-map}
 use Rattle.std.specs.List.{list_any}
 use Rattle.std.specs.Option.{is_none}
-use Rattle.std.specs.Prelude.{nat_lt, ◌&&◌, ◌||◌}
+use Rattle.std.specs.Prelude.{nat_lt, ◌&&◌}
 use Rattle.std.specs.Str.{bytes_eq}
 
 -- Nothing is found in any part of a procedure.

@@ -9,10 +9,8 @@ use Rattle.heyvl_types.specs.Scopes.{Scope, find, with_local}
 use Rattle.heyvl_types.specs.Table.{declarable}
 use Rattle.heyvl_types.specs.Variables.{declared, type_or_bool}
 use Rattle.heyvl_types.specs.declared.scopes.Local.{Local}
-use Rattle.std.proofs.Common.{List, None, Option, Some, [], ap, append_assoc, arith, false, inl, inr, length, length-append, refl, suc, subst, sym, ◌+◌, ◌++◌, ◌<◌, ◌∙◌, ◌∷◌, ◌≡◌, ◌≤◌, ◌⊎◌, ℕ}
-use Rattle.std.proofs.lemmas.List.{length-map}
+use Rattle.std.proofs.Common.{List, None, Option, Some, [], ap, append_assoc, arith, false, inl, inr, length, length-append, refl, suc, sym, ◌+◌, ◌++◌, ◌<◌, ◌∙◌, ◌∷◌, ◌≡◌, ◌≤◌, ◌⊎◌, ℕ}
 use Rattle.std.specs.Option.{is_none}
-use Rattle.std.specs.Prelude.{map, get_or}
 
 -- The variables stand in the list from this number on.
 pub record Stands (vs : List Variable) (n : ℕ) (ls : List Variable) : Type 0 where

@@ -13,8 +13,7 @@ use Rattle.heyvl_types.proofs.resolved.InOrder.{each_both, each_join}
 use Rattle.heyvl_types.proofs.resolved.Locals.{Stands, stands_within}
 use Rattle.heyvl_types.proofs.resolved.Tests.{left_true, right_true}
 use Rattle.heyvl_types.proofs.resolved.Walk.{Alone, Locally}
-use Rattle.heyvl_types.specs.Acts.{Act, Acts, TypedProcedure, Variable, acts_in, variables}
-use Rattle.heyvl_types.specs.Files.{body_acts, body_findings}
+use Rattle.heyvl_types.specs.Acts.{Act, Acts, TypedProcedure, Variable, variables}
 use Rattle.heyvl_types.specs.Literals.{copies, whole_value}
 use Rattle.heyvl_types.specs.LoopRules.{is_ranking, loop_rules, rules_findings}
 use Rattle.heyvl_types.specs.Places.{in_order, inside_arms}
@@ -25,15 +24,14 @@ use Rattle.heyvl_types.specs.StatementActs.{arms_acts, assigned, block_acts, cop
 use Rattle.heyvl_types.specs.StatementRules.{arms_are_rankable, arms_bind, arms_findings, block_binds, block_findings, block_is_rankable, calls_value, check_rules, checks_against, is_call, statement_findings, validate_rules, validates_against}
 use Rattle.heyvl_types.specs.StatementRules as text_rules
 use Rattle.heyvl_types.specs.TypedExpressions.{closed_findings, elaborate}
-use Rattle.heyvl_types.specs.Variables.{behind, locals, locals_of_arms, locals_of_block, locals_of_body}
+use Rattle.heyvl_types.specs.Variables.{behind, locals, locals_of_arms, locals_of_block}
 use Rattle.heyvl_types.specs.declared.demands.Demand.{Demand}
 use Rattle.heyvl_types.specs.declared.settings.Setting.{Setting}
 use Rattle.std.proofs.Common.{Bool, List, None, Option, Some, [], arith, false, refl, subst, suc, sym, true, ◌++◌, ◌+◌, ◌≡◌, ◌≤◌, ◌∷◌, ℕ, ℤ}
 use Rattle.std.proofs.lemmas.Int.{ints}
-use Rattle.std.proofs.lemmas.List.{length-append}
 use Rattle.std.specs.Int.Signed.{le_z}
 use Rattle.std.specs.List.{list_any}
-use Rattle.std.specs.Prelude.{if◌then◌else◌, length, not, pos, unsigned_abs, ◌&&◌, ◌||◌}
+use Rattle.std.specs.Prelude.{if◌then◌else◌, length, not, pos, unsigned_abs, ◌&&◌}
 
 -- ---- What may stand under a ranking
 

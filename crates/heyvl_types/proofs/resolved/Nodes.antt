@@ -1,8 +1,6 @@
 -- The rules of an expression's own node, where nothing is found against the expression.
 use Rattle.heyvl_syntax.specs.Expressions.{Expression}
-use Rattle.heyvl_types.proofs.resolved.Findings.{IsKept, all_kept, back_none}
-use Rattle.heyvl_types.specs.Findings.{at}
-use Rattle.heyvl_types.specs.Rules.{Each}
+use Rattle.heyvl_types.proofs.resolved.Findings.{all_kept, back_none}
 use Rattle.heyvl_types.specs.Scopes.{Scope}
 use Rattle.heyvl_types.specs.Table.{Meaning, meets}
 use Rattle.heyvl_types.specs.TypedExpressions.{divides_wrong, elaborate, findings, is_given_twice, is_misplaced, is_unknown, lacks, own, place}

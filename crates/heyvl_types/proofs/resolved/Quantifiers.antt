@@ -1,6 +1,5 @@
 -- An expression in which no quantifier may stand has none, and becomes what has no binder.
 use Rattle.heylo_formula.specs.Binders.{has_binder, has_binder_in}
-use Rattle.heylo_formula.specs.Formula.{Cond, Form}
 use Rattle.heyvl_syntax.specs.Expressions.{Expression}
 use Rattle.heyvl_syntax.specs.declared.types.TypeName.{TypeName}
 use Rattle.heyvl_types.proofs.TypedMeanings.{become, given_some, map_some}
@@ -9,10 +8,10 @@ use Rattle.heyvl_types.proofs.resolved.Nodes.{own_kept}
 use Rattle.heyvl_types.proofs.resolved.Spreading.{Fails, Spreads, fails_bracket, fails_choice, fails_embedding, fails_literal, fails_operated, fails_unary}
 use Rattle.heyvl_types.specs.Scopes.{Scope, find}
 use Rattle.heyvl_types.specs.Table.{Meaning, bracket, choice, embedding, given, unary, variable, variable_of}
-use Rattle.heyvl_types.specs.TypedExpressions.{closed_findings, elaborate, findings, has_quantifier, operated}
+use Rattle.heyvl_types.specs.TypedExpressions.{closed_findings, elaborate, has_quantifier, operated}
 use Rattle.heyvl_types.specs.declared.demands.Demand.{Demand}
 use Rattle.heyvl_types.specs.declared.demands.Front.{Front}
-use Rattle.std.proofs.Common.{Bool, Some, false, refl, true, ◌≡◌, [], ℕ}
+use Rattle.std.proofs.Common.{Some, false, refl, ◌≡◌, [], ℕ}
 use Rattle.std.specs.Prelude.{◌||◌}
 use Rattle.std.proofs.lemmas.Bool.{or_from, or_parts}
 

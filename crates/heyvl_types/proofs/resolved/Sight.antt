@@ -9,7 +9,7 @@ use Rattle.heyvl_types.specs.Table.{Meaning}
 use Rattle.heyvl_types.specs.TypedExpressions.{elaborate}
 use Rattle.heyvl_types.specs.Visible.{Sees, SeesCond, SeesTerm, Visible, among}
 use Rattle.heyvl_types.specs.declared.scopes.Local.{Local}
-use Rattle.std.proofs.Common.{Bool, List, None, Option, Some, [], ap, arith, false, refl, sym, true, ◌==◌, ◌∙◌, ◌≡◌, ◌∷◌, ℕ}
+use Rattle.std.proofs.Common.{Bool, List, None, Option, Some, [], ap, arith, false, refl, true, ◌==◌, ◌∙◌, ◌≡◌, ◌∷◌, ℕ}
 use Rattle.std.proofs.lemmas.Bool.{ne_eqb, or_left, or_right}
 use Rattle.std.specs.Prelude.{if◌then◌else◌, ◌||◌}
 use Rattle.std.specs.Str.{bytes_eq}

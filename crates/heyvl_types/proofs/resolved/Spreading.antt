@@ -15,7 +15,7 @@ use Rattle.heyvl_types.proofs.TypedMeanings.{become, given_some, map_some, never
 use Rattle.heyvl_types.specs.Literals.{is_written, literal_value}
 use Rattle.heyvl_types.specs.Table.{Meaning, binary, bracket, choice, comparison, conegation, divisor, embedding, extended, factor, given, joined_numbers, literal, minus, negation, negative, numbers, quotient, selected, truths, unary}
 use Rattle.heyvl_types.specs.TypedExpressions.{operated}
-use Rattle.std.proofs.Common.{Bool, Option, Some, None, false, refl, true, ◌≡◌}
+use Rattle.std.proofs.Common.{Bool, Option, Some, None, false, true, ◌≡◌}
 use Rattle.std.specs.Prelude.{if◌then◌else◌, ◌&&◌, ◌==◌}
 
 -- A form or a condition whose parts fail the tests fails them.

@@ -1,26 +1,24 @@
 -- What is given a value: variables of the procedure that are no inputs, of their declared types.
 use Rattle.heylo_formula.specs.Typing.{Types}
-use Rattle.heyvl_syntax.specs.Procedures.{Procedure}
 use Rattle.heyvl_syntax.specs.Statements.{RightSide, Statement}
 use Rattle.heyvl_syntax.specs.declared.spans.Span.{Span}
 use Rattle.heyvl_syntax.specs.declared.types.TypeName.{TypeName}
 use Rattle.heyvl_types.proofs.resolved.Findings.{all_kept, back_none}
-use Rattle.heyvl_types.proofs.resolved.Heads.{length_parameters}
 use Rattle.heyvl_types.proofs.resolved.Locals.{Stands, stands_within}
 use Rattle.heyvl_types.proofs.resolved.Walk.{Alone, Known, Locally}
-use Rattle.heyvl_types.specs.Acts.{Act, TypedProcedure, variables}
+use Rattle.heyvl_types.specs.Acts.{TypedProcedure, variables}
 use Rattle.heyvl_types.specs.ExpressionLaws.{Agrees}
 use Rattle.heyvl_types.specs.RightSides.{counts_wrong, right_findings}
 use Rattle.heyvl_types.specs.Rules.{Each, HasOwnTargets, IsOwn}
 use Rattle.heyvl_types.specs.Scopes.{Scope, any_input, any_unknown, find, is_input, types_of_names}
 use Rattle.heyvl_types.specs.Signatures.{Called}
-use Rattle.heyvl_types.specs.StatementActs.{assigned, declared_act, first_or_zero, havocs, number_or_zero, statement_acts, targets}
-use Rattle.heyvl_types.specs.StatementRules.{any_twice, assign_rules, havoc_rules, statement_findings, var_rules}
+use Rattle.heyvl_types.specs.StatementActs.{assigned, declared_act, first_or_zero, havocs, number_or_zero, targets}
+use Rattle.heyvl_types.specs.StatementRules.{assign_rules, havoc_rules}
 use Rattle.heyvl_types.specs.Table.{declarable}
-use Rattle.heyvl_types.specs.Variables.{declared, locals}
+use Rattle.heyvl_types.specs.Variables.{declared}
 use Rattle.heyvl_types.specs.declared.scopes.Local.{Local}
 use Rattle.heyvl_types.specs.declared.settings.Setting.{Setting}
-use Rattle.std.proofs.Common.{Bool, List, None, Option, Some, [], arith, false, length, refl, suc, true, ◌+◌, ◌<◌, ◌==◌, ◌∷◌, ◌≡◌, ◌≤◌, ℕ}
+use Rattle.std.proofs.Common.{Bool, List, None, Option, Some, [], arith, false, length, refl, suc, ◌==◌, ◌∷◌, ◌≡◌, ◌≤◌, ℕ}
 use Rattle.std.proofs.lemmas.Bool.{eqb-true, ltb-false, not-false, or_parts}
 use Rattle.std.proofs.lemmas.List.{length-map}
 use Rattle.std.specs.Option.{is_none}

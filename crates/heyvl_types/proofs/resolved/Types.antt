@@ -1,29 +1,27 @@
 -- Values that fit variables: what an expression becomes whose type doesn't mismatch that of a variable, the outputs of a call, and the
 -- parts of a draw.
-use Rattle.heylo_formula.specs.Formula.{Cond, Form, Term}
 use Rattle.heylo_formula.specs.Typing.NumberType.{eureal, int, uint, ureal}
 use Rattle.heylo_formula.specs.Typing.{NumberType, TermFits, Types, fits, is_bool, is_finite_type, join, number_type, widens}
 use Rattle.heylo_formula.specs.declared.types.Ty.{Ty}
 use Rattle.heyvl_syntax.specs.Expressions.{Expression}
 use Rattle.heyvl_syntax.specs.declared.procedures.Param.{Param}
 use Rattle.heyvl_syntax.specs.declared.types.TypeName.{TypeName}
-use Rattle.heyvl_types.proofs.TypedMeanings.{given_some, good, map_some, never, some_is}
+use Rattle.heyvl_types.proofs.TypedMeanings.{good, map_some, never, some_is}
 use Rattle.heyvl_types.proofs.resolved.Calls.{IsDeclared}
 use Rattle.heyvl_types.proofs.resolved.Locals.{type_declared}
 use Rattle.heyvl_types.proofs.resolved.Targets.{AreOfTypes}
 use Rattle.heyvl_types.specs.Acts.{TypedProcedure, type_list, types_of}
 use Rattle.heyvl_types.specs.ExpressionLaws.{Agrees, IsTyped}
-use Rattle.heyvl_types.specs.RightSides.{ValueType, any_argument_mismatches, any_output_mismatches, join_types, join_with, mismatches, mismatches_target, type_of_choices, type_of_expression, type_of_meaning, type_of_name}
+use Rattle.heyvl_types.specs.RightSides.{ValueType, any_argument_mismatches, any_output_mismatches, join_types, join_with, mismatches, type_of_choices, type_of_expression, type_of_meaning, type_of_name}
 use Rattle.heyvl_types.specs.Rules.{ArgumentsFit, Each, TargetsFit, widens_to}
 use Rattle.heyvl_types.specs.Scopes.{Scope}
 use Rattle.heyvl_types.specs.StatementActs.{term, terms}
 use Rattle.heyvl_types.specs.Table.{Meaning, declarable, given}
 use Rattle.heyvl_types.specs.TypedExpressions.{elaborate}
-use Rattle.heyvl_types.specs.Variables.{parameters, type_or_bool}
-use Rattle.std.proofs.Common.{Bool, List, None, Option, Some, [], ap, arith, false, length, refl, suc, subst, sym, true, ◌∙◌, ◌∷◌, ◌≡◌, ℕ}
+use Rattle.heyvl_types.specs.Variables.{parameters}
+use Rattle.std.proofs.Common.{List, None, Option, Some, [], arith, false, length, refl, subst, sym, true, ◌∷◌, ◌≡◌, ℕ}
 use Rattle.std.proofs.lemmas.Bool.{and_from, and_parts, not-false, not_from_true, or_parts}
-use Rattle.std.specs.Option.{is_none}
-use Rattle.std.specs.Prelude.{map, not, option_map, ◌&&◌}
+use Rattle.std.specs.Prelude.{map, not, ◌&&◌}
 
 -- ---- Types of values
 

@@ -13,18 +13,16 @@ use Rattle.heyvl_types.specs.Acts.{Act, Acts, Variable, type_list}
 use Rattle.heyvl_types.specs.ExpressionLaws.{Agrees}
 use Rattle.heyvl_types.specs.Places.{in_order, inside, inside_arms}
 use Rattle.heyvl_types.specs.Rules.{Each, GrowBelow}
-use Rattle.heyvl_types.specs.RightSides.{right_findings}
 use Rattle.heyvl_types.specs.Scopes.{Scope, numbers}
 use Rattle.heyvl_types.specs.Signatures.{Called}
 use Rattle.heyvl_types.specs.StatementActs.{arms_acts, assigned, block_acts, declared_act, havocs, loops, loops_of_arms, loops_of_block, statement_acts, targets}
-use Rattle.heyvl_types.specs.StatementRules.{arms_findings, block_binds, block_findings, arms_bind, statement_findings, value_findings, var_rules}
-use Rattle.heyvl_types.specs.LoopRules.{rules_findings}
+use Rattle.heyvl_types.specs.StatementRules.{arms_findings, block_binds, block_findings, arms_bind, statement_findings, var_rules}
 use Rattle.heyvl_types.specs.TypedExpressions.{closed_findings}
 use Rattle.heyvl_types.specs.Table.{declarable}
 use Rattle.heyvl_types.specs.Variables.{behind, declared, locals, locals_of_arms, locals_of_block}
 use Rattle.heyvl_types.specs.declared.demands.Demand.{Demand}
 use Rattle.heyvl_types.specs.declared.settings.Setting.{Setting}
-use Rattle.std.proofs.Common.{Bool, List, None, Option, Some, [], arith, false, length, refl, suc, true, ◌+◌, ◌++◌, ◌∷◌, ◌≡◌, ◌≤◌, ℕ}
+use Rattle.std.proofs.Common.{Bool, List, None, Option, Some, [], arith, false, length, suc, true, ◌+◌, ◌++◌, ◌∷◌, ◌≡◌, ◌≤◌, ℕ}
 use Rattle.std.proofs.lemmas.Bool.{or_parts}
 use Rattle.std.specs.Option.{is_none}
 use Rattle.std.specs.Prelude.{◌||◌}

@@ -6,8 +6,11 @@ use Rattle.heyvl_types.proofs.resolved.Clauses.{post_directed, post_formula, pos
 use Rattle.heyvl_types.proofs.resolved.Heads.{IsClean, all_clean, few_parameters, few_statements, few_variables, length_parameters}
 use Rattle.heyvl_types.proofs.resolved.SmallActs.{small_block}
 use Rattle.heyvl_types.proofs.resolved.Targets.{own}
+use Rattle.heyvl_types.proofs.resolved.TypedActs.{typed_locally}
+use Rattle.heyvl_types.proofs.resolved.Weights.{weighs}
+use Rattle.heyvl_types.specs.Acts.{variables}
 use Rattle.heyvl_types.specs.Files.{is_wlp, resolved, setting, typed}
-use Rattle.heyvl_types.specs.Rules.{Each, HasOwnTargets, MeetsRules}
+use Rattle.heyvl_types.specs.Rules.{Each, HasOwnTargets, IsTypedAct, MeetsRules, WeighsOne}
 use Rattle.heyvl_types.specs.Signatures.{called}
 use Rattle.std.proofs.Common.{List, [], map, sym, ◌∷◌}
 use Rattle.std.proofs.lemmas.Bool.{and_parts, not-true}
@@ -25,8 +28,8 @@ meets ps p callees k = record {
   post_over = post_over (called ps) p k;
   post_directed = post_directed (called ps) p k;
   targets = each_act ps p k (HasOwnTargets (typed (called ps) p)) (own (typed (called ps) p) (setting p) (called ps) (sym (length_parameters p.inputs)));
-  typed = ?;
-  weights = ?;
+  typed = each_act ps p k (IsTypedAct (resolved ps) (typed (called ps) p)) (typed_locally (resolved ps) (typed (called ps) p) (setting p) (called ps) callees);
+  weights = each_act ps p k WeighsOne (weighs (variables (typed (called ps) p)) (setting p) (called ps));
   directions = directions_kept ps p k callees;
   binders = binders_kept ps p k;
   scopes = scopes_kept ps p k;
