@@ -28,3 +28,4 @@ pub mod Scopes
 pub mod Bodies
 pub mod Sizes
 pub mod SmallActs
+pub mod SmallForms

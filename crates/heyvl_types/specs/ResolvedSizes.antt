@@ -1,5 +1,5 @@
 -- How large the forms and conditions of resolved trees are: the law of their sizes.
-use Rattle.heylo_formula.specs.Formula.{Form, Term}
+use Rattle.heylo_formula.specs.Formula.{Form}
 use Rattle.heylo_formula.specs.Sizes.{nodes, nodes_in, nodes_in_term}
 use Rattle.heyvl_num.specs.Rational.{Rational}
 use Rattle.heyvl_syntax.specs.Procedures.{Procedure}

@@ -3,6 +3,7 @@
 ghost use Rattle.heyvl_types.specs.ExpressionLaws as expressions;
 ghost use Rattle.heyvl_types.specs.Matching as matching;
 ghost use Rattle.heyvl_types.specs.ResolvedLaws as trees;
+ghost use Rattle.heyvl_types.specs.ResolvedSizes as sizes;
 
 /// What a run asks of the forward meaning, whatever loops and calls mean: a list of acts after another means the one
 /// before what the other means; and after each kind of act, choices for what follows are part of choices for the whole.
@@ -25,4 +26,10 @@ pub fn expressions_are_typed()
 /// In a file in which nothing is found, each typed procedure meets the static rules.
 pub fn resolved_files_meet_the_rules()
     ensures { trees.ResolvedMeetRules }
+{}
+
+/// In a file in which nothing is found, each form and condition of a typed procedure has at most twice as many nodes as the
+/// procedure's expressions, and 64 more.
+pub fn resolved_forms_are_small()
+    ensures { sizes.ResolvedFormsAreSmall }
 {}

@@ -19,6 +19,7 @@ mod weights;
 pub use acts::{Act, LoopAct};
 pub use laws::{
     expressions_are_typed, forward_meaning_matches_runs, resolved_files_meet_the_rules,
+    resolved_forms_are_small,
 };
 pub use places::act_at;
 pub use stops::ResolveStop;

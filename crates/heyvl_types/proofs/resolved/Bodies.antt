@@ -83,7 +83,7 @@ module _ (ps : List Procedure) (p : Procedure) (k : IsClean (called ps) p) where
           let e = length_parameters p.outputs in
           omega (arith, a, d, e)
 
-  head_known : Known (variables typed_one) (setting p) (called ps) (arity p) (head_scope p)
+  pub head_known : Known (variables typed_one) (setting p) (called ps) (arity p) (head_scope p)
   head_known = record { agrees = head_agrees (called ps) p k (variables typed_one) (head_stands (called ps) p); inputs = omega arith; grows = head_grows }
 
   -- What holds of the acts that each statement becomes alone holds of each act of the body.

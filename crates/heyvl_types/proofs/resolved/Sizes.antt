@@ -1,5 +1,4 @@
 -- How large the forms, conditions and terms of typed acts are, by the expressions that they come from.
-use Rattle.heylo_formula.specs.Formula.{Form, Term}
 use Rattle.heylo_formula.specs.Sizes.{nodes, nodes_in, nodes_in_term}
 use Rattle.heylo_formula.specs.Typing.{Types}
 use Rattle.heyvl_num.specs.Rational.{Rational}
@@ -9,12 +8,12 @@ use Rattle.heyvl_syntax.specs.Statements.{LoopRule, RightSide}
 use Rattle.heyvl_syntax.specs.declared.spans.Span.{Span}
 use Rattle.heyvl_types.proofs.TypedMeanings.{good}
 use Rattle.heyvl_types.specs.ExpressionLaws.{Agrees}
-use Rattle.heyvl_types.specs.Literals.{integer, weight, weight_value}
+use Rattle.heyvl_types.specs.Literals.{integer}
 use Rattle.heyvl_types.specs.ResolvedSizes.{ActWithin, RankWithin}
 use Rattle.heyvl_types.specs.Rules.{Each}
 use Rattle.heyvl_types.specs.Scopes.{Scope}
 use Rattle.heyvl_types.specs.Signatures.{Called}
-use Rattle.heyvl_types.specs.StatementActs.{assigned, choose_parts, condition, flip_parts, form, integer_parts, invariant_of, ranking_of, term, terms, unif_parts}
+use Rattle.heyvl_types.specs.StatementActs.{assigned, choose_parts, condition, form, integer_parts, invariant_of, ranking_of, term, terms, unif_parts}
 use Rattle.heyvl_types.specs.Table.{Meaning}
 use Rattle.heyvl_types.specs.TypedExpressions.{elaborate}
 use Rattle.std.proofs.Common.{List, None, Option, Some, [], arith, pos, refl, suc, zero, ◌*◌, ◌+◌, ◌≡◌, ◌≤◌, ◌∷◌, ℕ, ℤ}

@@ -1,6 +1,5 @@
 -- Each act of a body has forms and conditions that are small against the expressions of the body.
-use Rattle.heyvl_syntax.specs.Expressions.{Expression}
-use Rattle.heyvl_syntax.specs.Sizes.{nodes as expression_nodes, nodes_of_arms, nodes_of_block, nodes_of_body, nodes_of_optional, nodes_of_rule, nodes_of_statement}
+use Rattle.heyvl_syntax.specs.Sizes.{nodes_of_arms, nodes_of_block, nodes_of_optional, nodes_of_statement}
 use Rattle.heyvl_syntax.specs.Statements as text
 use Rattle.heyvl_syntax.specs.Statements.{Block, RightSide, Statement}
 use Rattle.heyvl_syntax.specs.declared.spans.Span.{Span}
@@ -10,8 +9,8 @@ use Rattle.heyvl_types.proofs.resolved.InOrder.{each_both, each_join}
 use Rattle.heyvl_types.proofs.resolved.Locals.{Stands, stands_back, stands_front}
 use Rattle.heyvl_types.proofs.resolved.Sizes.{assigned_small, condition_small, form_small, invariant_small, ranking_small}
 use Rattle.heyvl_types.proofs.resolved.Walk.{Known, known_behind, known_up}
-use Rattle.heyvl_types.specs.Acts.{Act, Acts, Variable}
-use Rattle.heyvl_types.specs.Places.{in_order, inside, inside_arms}
+use Rattle.heyvl_types.specs.Acts.{Acts, Variable}
+use Rattle.heyvl_types.specs.Places.{in_order, inside_arms}
 use Rattle.heyvl_types.specs.ResolvedSizes.{ActWithin, GuardsWithin}
 use Rattle.heyvl_types.specs.Rules.{Each}
 use Rattle.heyvl_types.specs.Scopes.{Scope}
@@ -20,8 +19,7 @@ use Rattle.heyvl_types.specs.StatementActs.{arms_acts, assigned, block_acts, dec
 use Rattle.heyvl_types.specs.StatementRules.{arms_bind, arms_findings, block_binds, block_findings, statement_findings}
 use Rattle.heyvl_types.specs.Variables.{behind, locals, locals_of_arms, locals_of_block}
 use Rattle.heyvl_types.specs.declared.settings.Setting.{Setting}
-use Rattle.std.proofs.Common.{Bool, List, None, Option, Some, [], arith, refl, suc, true, ◌*◌, ◌++◌, ◌+◌, ◌≡◌, ◌≤◌, ◌∷◌, ℕ}
-use Rattle.std.specs.List.{sum_by}
+use Rattle.std.proofs.Common.{Bool, List, None, Option, Some, [], arith, suc, true, ◌*◌, ◌+◌, ◌≡◌, ◌≤◌, ◌∷◌, ℕ}
 use Rattle.std.specs.Prelude.{length, ◌||◌}
 
 -- So many nodes are at most twice as many as these, and one more.
@@ -58,18 +56,23 @@ module _ (vs : List Variable) (h : Setting) (c : Called) (most : ℕ) where
     small_statement bound n m sc (Statement.validate up s) k z f l = (tt, tt)
     small_statement bound n m sc (Statement.havoc up xs s) k z f l = small_havocs sc up xs s
     small_statement bound n m sc (Statement.reward a s) k z f l = (let i = form_small _ n sc k.agrees a in omega (arith, i, l), tt)
-    small_statement bound n m sc (Statement.branch arms other s) k z f l =
-        (guards_small n m sc arms k (omega (arith, l)), each_both (ActWithin most) _ [] (each_both (ActWithin most) _ _
-            (small_arms (bound || block_binds other) n m sc arms k (stands_front vs n (locals_of_arms arms) (locals_of_block other) z) (front_none _ _ f) (omega (arith, l)))
-            (small_block bound (n + length (locals_of_arms arms)) (m + loops_of_arms arms) sc other (known_up vs h c n _ sc (omega arith) k) (stands_back vs n (locals_of_arms arms) (locals_of_block other) z) (back_none _ _ f) (omega (arith, l)))) tt)
-    small_statement bound n m sc (Statement.pick up a b s) k z f l =
-        (tt, each_both (ActWithin most) _ [] (each_both (ActWithin most) _ _
-            (small_block (bound || block_binds b) n m sc a k (stands_front vs n (locals_of_block a) (locals_of_block b) z) (front_none _ _ f) (omega (arith, l)))
-            (small_block bound (n + length (locals_of_block a)) (m + loops_of_block a) sc b (known_up vs h c n _ sc (omega arith) k) (stands_back vs n (locals_of_block a) (locals_of_block b) z) (back_none _ _ f) (omega (arith, l)))) tt)
+    small_statement bound n m sc (Statement.branch arms other s) k z f l = (
+      guards_small n m sc arms k (omega (arith, l)),
+      each_both (ActWithin most) _ [] (each_both (ActWithin most) _ _
+          (small_arms (bound || block_binds other) n m sc arms k (stands_front vs n (locals_of_arms arms) (locals_of_block other) z) (front_none _ _ f) (omega (arith, l)))
+          (small_block bound (n + length (locals_of_arms arms)) (m + loops_of_arms arms) sc other (known_up vs h c n _ sc (omega arith) k) (stands_back vs n (locals_of_arms arms) (locals_of_block other) z) (back_none _ _ f) (omega (arith, l)))) tt,
+    )
+    small_statement bound n m sc (Statement.pick up a b s) k z f l = (
+      tt,
+      each_both (ActWithin most) _ [] (each_both (ActWithin most) _ _
+          (small_block (bound || block_binds b) n m sc a k (stands_front vs n (locals_of_block a) (locals_of_block b) z) (front_none _ _ f) (omega (arith, l)))
+          (small_block bound (n + length (locals_of_block a)) (m + loops_of_block a) sc b (known_up vs h c n _ sc (omega arith) k) (stands_back vs n (locals_of_block a) (locals_of_block b) z) (back_none _ _ f) (omega (arith, l)))) tt,
+    )
     small_statement bound n m sc (Statement.loop rules g b s) k z f l =
-        let i = condition_small _ n sc k.agrees g in
-        ((invariant_small _ n sc k.agrees most rules (omega (arith, l)), (omega (arith, i, l), ranking_small _ n sc k.agrees most rules (omega (arith, l)))),
-            each_both (ActWithin most) _ [] (small_block true n (suc m) sc b k z (back_none _ _ (front_none _ _ f)) (omega (arith, l))) tt)
+        let i = condition_small _ n sc k.agrees g in (
+          (invariant_small _ n sc k.agrees most rules (omega (arith, l)), (omega (arith, i, l), ranking_small _ n sc k.agrees most rules (omega (arith, l)))),
+          each_both (ActWithin most) _ [] (small_block true n (suc m) sc b k z (back_none _ _ (front_none _ _ f)) (omega (arith, l))) tt,
+        )
 
     pub small_block : (bound : Bool) (n m : ℕ) (sc : Scope) (b : Block) → Known vs h c n sc → Stands vs n (locals_of_block b) → block_findings h c bound n sc b ≡ [] → Holds most (nodes_of_block b) → Each (ActWithin most) (in_order (block_acts h c n m sc b))
     small_block bound n m sc Block.done k z f l = tt
@@ -77,12 +80,12 @@ module _ (vs : List Variable) (h : Setting) (c : Called) (most : ℕ) where
         let d = front_none _ _ f in
         let y = stands_front vs n (locals s) (locals_of_block b) z in
         each_join (ActWithin most) (statement_acts h c n m sc s) _
-            (small_statement (bound || block_binds b) n m sc s k y d (omega (arith, l)))
-            (small_block bound (n + length (locals s)) (m + loops s) (behind n sc s) b (known_behind vs h c (bound || block_binds b) n sc s k y d) (stands_back vs n (locals s) (locals_of_block b) z) (back_none _ _ f) (omega (arith, l)))
+        (small_statement (bound || block_binds b) n m sc s k y d (omega (arith, l)))
+        (small_block bound (n + length (locals s)) (m + loops s) (behind n sc s) b (known_behind vs h c (bound || block_binds b) n sc s k y d) (stands_back vs n (locals s) (locals_of_block b) z) (back_none _ _ f) (omega (arith, l)))
 
     small_arms : (bound : Bool) (n m : ℕ) (sc : Scope) (arms : text.Arms) → Known vs h c n sc → Stands vs n (locals_of_arms arms) → arms_findings h c bound n sc arms ≡ [] → Holds most (nodes_of_arms arms) → Each (ActWithin most) (inside_arms (arms_acts h c n m sc arms))
     small_arms bound n m sc text.Arms.no_arm k z f l = tt
     small_arms bound n m sc (text.Arms.arm g b more) k z f l =
         each_both (ActWithin most) _ _
-            (small_block (bound || arms_bind more) n m sc b k (stands_front vs n (locals_of_block b) (locals_of_arms more) z) (back_none _ _ (front_none _ _ f)) (omega (arith, l)))
-            (small_arms bound (n + length (locals_of_block b)) (m + loops_of_block b) sc more (known_up vs h c n _ sc (omega arith) k) (stands_back vs n (locals_of_block b) (locals_of_arms more) z) (back_none _ _ f) (omega (arith, l)))
+        (small_block (bound || arms_bind more) n m sc b k (stands_front vs n (locals_of_block b) (locals_of_arms more) z) (back_none _ _ (front_none _ _ f)) (omega (arith, l)))
+        (small_arms bound (n + length (locals_of_block b)) (m + loops_of_block b) sc more (known_up vs h c n _ sc (omega arith) k) (stands_back vs n (locals_of_block b) (locals_of_arms more) z) (back_none _ _ f) (omega (arith, l)))

@@ -4,7 +4,6 @@ use Rattle.heyvl_types.proofs.resolved.Bodies.{binders_kept, directions_kept, ea
 use Rattle.heyvl_types.proofs.resolved.Calls.{AreCallees, callees}
 use Rattle.heyvl_types.proofs.resolved.Clauses.{post_directed, post_formula, post_over, pre_held, pre_over}
 use Rattle.heyvl_types.proofs.resolved.Heads.{IsClean, all_clean, few_parameters, few_statements, few_variables, length_parameters}
-use Rattle.heyvl_types.proofs.resolved.SmallActs.{small_block}
 use Rattle.heyvl_types.proofs.resolved.Targets.{own}
 use Rattle.heyvl_types.proofs.resolved.TypedActs.{typed_locally}
 use Rattle.heyvl_types.proofs.resolved.Weights.{weighs}

@@ -1,0 +1,17 @@
+use Rattle.heyvl_syntax.specs.Procedures.{Procedure}
+use Rattle.heyvl_syntax.specs.Sizes.{nodes_of_procedure}
+use Rattle.heyvl_types.proofs.laws.resolved_forms_are_small.Goals as goal
+use Rattle.heyvl_types.proofs.resolved.Heads.{IsClean, all_clean}
+use Rattle.heyvl_types.proofs.resolved.SmallForms.{forms_small}
+use Rattle.heyvl_types.specs.Files.{typed}
+use Rattle.heyvl_types.specs.ResolvedSizes.{FormsWithin}
+use Rattle.heyvl_types.specs.Rules.{Each}
+use Rattle.heyvl_types.specs.Signatures.{called}
+use Rattle.std.proofs.Common.{List, [], ◌*◌, ◌+◌, ◌∷◌}
+
+each_small : (ps qs : List Procedure) → Each (IsClean (called ps)) qs → Each (λ p. FormsWithin (2 * nodes_of_procedure p + 64) (typed (called ps) p)) qs
+each_small ps [] k = tt
+each_small ps (q ∷ qs) k = (forms_small ps q k.0, each_small ps qs k.1)
+
+pub returns : goal.returns
+returns c = λ ps e. each_small ps ps (all_clean (called ps) [] ps e)
