@@ -23,9 +23,11 @@ pub fn expressions_are_typed()
     ensures { expressions.ExpressionsAreTyped }
 {}
 
-/// In a file in which nothing is found, each typed procedure meets the static rules.
+/// In a file in which nothing is found, each typed procedure meets the static rules. A typed file that holds the typed procedures
+/// of such a file meets all of them, where there are at most 1,024 procedures and its numbers are in range.
 pub fn resolved_files_meet_the_rules()
-    ensures { trees.ResolvedMeetRules }
+    ensures procedures { trees.ResolvedProceduresMeetRules }
+    ensures files { trees.ResolvedFilesMeetRules }
 {}
 
 /// In a file in which nothing is found, each form and condition of a typed procedure has at most twice as many nodes as the

@@ -8,10 +8,12 @@ use Rattle.heyvl_types.proofs.resolved.Targets.{own}
 use Rattle.heyvl_types.proofs.resolved.TypedActs.{typed_locally}
 use Rattle.heyvl_types.proofs.resolved.Weights.{weighs}
 use Rattle.heyvl_types.specs.Acts.{variables}
-use Rattle.heyvl_types.specs.Files.{is_wlp, resolved, setting, typed}
+use Rattle.heyvl_types.specs.Files.{file_findings, is_wlp, resolved, setting, typed}
+use Rattle.heyvl_types.specs.PlainActs.{procedure_of}
 use Rattle.heyvl_types.specs.Rules.{Each, HasOwnTargets, IsTypedAct, MeetsRules, WeighsOne}
 use Rattle.heyvl_types.specs.Signatures.{called}
-use Rattle.std.proofs.Common.{List, [], map, sym, ◌∷◌}
+use Rattle.std.proofs.Common.{List, [], ap, arith, length, map, subst, sym, ◌∷◌, ◌≡◌}
+use Rattle.std.proofs.lemmas.List.{length-map}
 use Rattle.std.proofs.lemmas.Bool.{and_parts, not-true}
 use Rattle.std.specs.Prelude.{not}
 
@@ -40,5 +42,15 @@ each_meets : (ps qs : List Procedure) → AreCallees (called ps) (resolved ps) �
 each_meets ps [] c k = tt
 each_meets ps (q ∷ qs) c k = (meets ps q c k.0, each_meets ps qs c k.1)
 
-pub returns : goal.returns
-returns c = λ ps e. let k = all_clean (called ps) [] ps e in each_meets ps ps (callees ps k) k
+procedures_meet : (ps : List Procedure) → file_findings ps ≡ [] → Each (MeetsRules (resolved ps)) (resolved ps)
+procedures_meet ps e = let k = all_clean (called ps) [] ps e in each_meets ps ps (callees ps k) k
+
+pub returns-clause-procedures : goal.returns-clause-procedures
+returns-clause-procedures c = procedures_meet
+
+pub returns-clause-files : goal.returns-clause-files
+returns-clause-files c = λ ps t e few is counted. record {
+  few = let l = ap length is in omega (arith, few, l, length-map ps (typed (called ps)), length-map t.procs.items procedure_of);
+  counted = counted;
+  each = subst (λ rs. Each (MeetsRules rs) rs) (sym is) (procedures_meet ps e);
+}
