@@ -16,7 +16,6 @@ pub mod Types
 pub mod Weights
 pub mod Draws
 pub mod TypedActs
-pub mod Tests
 pub mod Numbers
 pub mod Posts
 pub mod Bindings

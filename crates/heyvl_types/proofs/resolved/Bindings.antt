@@ -7,7 +7,6 @@ use Rattle.heyvl_syntax.specs.declared.statements.CheckKind.{CheckKind}
 use Rattle.heyvl_syntax.specs.declared.types.TypeName.{TypeName}
 use Rattle.heyvl_types.proofs.resolved.Findings.{all_kept, back_none, front_none}
 use Rattle.heyvl_types.proofs.resolved.InOrder.{in_order_join}
-use Rattle.heyvl_types.proofs.resolved.Tests.{left_false, neither, right_false}
 use Rattle.heyvl_types.specs.Acts.{Act, Acts, acts_in}
 use Rattle.heyvl_types.specs.Files.{body_acts, body_findings}
 use Rattle.heyvl_types.specs.Places.{in_order, inside_arms}
@@ -21,12 +20,13 @@ use Rattle.heyvl_types.specs.Variables.{behind, locals, locals_of_arms, locals_o
 use Rattle.heyvl_types.specs.declared.demands.Demand.{Demand}
 use Rattle.heyvl_types.specs.declared.settings.Setting.{Setting}
 use Rattle.std.proofs.Common.{Bool, List, None, Option, Some, [], append_assoc, false, refl, subst, suc, sym, true, ◌++◌, ◌+◌, ◌≡◌, ◌∷◌, ℕ}
+use Rattle.std.proofs.lemmas.Bool.{or_from, or_parts}
 use Rattle.std.proofs.lemmas.List.{append-nil}
 use Rattle.std.specs.Prelude.{length, not, ◌&&◌, ◌||◌}
 
 none_bind : (xs ys : List Act) → any_binds xs ≡ false → any_binds ys ≡ false → any_binds (xs ++ ys) ≡ false
 none_bind [] ys p q = q
-none_bind (x ∷ xs) ys p q = neither _ _ (left_false _ _ p) (none_bind xs ys (right_false _ _ p) q)
+none_bind (x ∷ xs) ys p q = or_from _ _ (or_parts _ _ p).0 (none_bind xs ys (or_parts _ _ p).1 q)
 
 -- ---- Statements that don't bind become acts that don't
 
@@ -58,21 +58,21 @@ module _ (h : Setting) (called : Called) where
     unbound_statement n m sc (Statement.havoc co xs s) u = absurd (cc)
     unbound_statement n m sc (Statement.reward a s) u = refl
     unbound_statement n m sc (Statement.branch arms other s) u =
-        none_bind (inside_arms (arms_acts h called n m sc arms) ++ _) [] (none_bind (inside_arms (arms_acts h called n m sc arms)) _ (unbound_arms n m sc arms (left_false _ _ u)) (unbound_block (n + length (locals_of_arms arms)) (m + loops_of_arms arms) sc other (right_false _ _ u))) refl
+        none_bind (inside_arms (arms_acts h called n m sc arms) ++ _) [] (none_bind (inside_arms (arms_acts h called n m sc arms)) _ (unbound_arms n m sc arms (or_parts _ _ u).0) (unbound_block (n + length (locals_of_arms arms)) (m + loops_of_arms arms) sc other (or_parts _ _ u).1)) refl
     unbound_statement n m sc (Statement.pick up a b s) u =
-        none_bind (in_order (block_acts h called n m sc a) ++ _) [] (none_bind (in_order (block_acts h called n m sc a)) _ (unbound_block n m sc a (left_false _ _ u)) (unbound_block (n + length (locals_of_block a)) (m + loops_of_block a) sc b (right_false _ _ u))) refl
+        none_bind (in_order (block_acts h called n m sc a) ++ _) [] (none_bind (in_order (block_acts h called n m sc a)) _ (unbound_block n m sc a (or_parts _ _ u).0) (unbound_block (n + length (locals_of_block a)) (m + loops_of_block a) sc b (or_parts _ _ u).1)) refl
     unbound_statement n m sc (Statement.loop rules g b s) u = absurd (cc)
 
     unbound_block : (n m : ℕ) (sc : Scope) (b : Block) → block_binds b ≡ false → any_binds (in_order (block_acts h called n m sc b)) ≡ false
     unbound_block n m sc Block.done u = refl
     unbound_block n m sc (Block.next s b) u =
         rw (in_order_join (statement_acts h called n m sc s) (block_acts h called (n + length (locals s)) (m + loops s) (behind n sc s) b))
-        (none_bind (in_order (statement_acts h called n m sc s)) (in_order (block_acts h called (n + length (locals s)) (m + loops s) (behind n sc s) b)) (unbound_statement n m sc s (left_false _ _ u)) (unbound_block (n + length (locals s)) (m + loops s) (behind n sc s) b (right_false _ _ u)))
+        (none_bind (in_order (statement_acts h called n m sc s)) (in_order (block_acts h called (n + length (locals s)) (m + loops s) (behind n sc s) b)) (unbound_statement n m sc s (or_parts _ _ u).0) (unbound_block (n + length (locals s)) (m + loops s) (behind n sc s) b (or_parts _ _ u).1))
 
     unbound_arms : (n m : ℕ) (sc : Scope) (arms : text.Arms) → arms_bind arms ≡ false → any_binds (inside_arms (arms_acts h called n m sc arms)) ≡ false
     unbound_arms n m sc text.Arms.no_arm u = refl
     unbound_arms n m sc (text.Arms.arm g b more) u =
-        none_bind (in_order (block_acts h called n m sc b)) (inside_arms (arms_acts h called (n + length (locals_of_block b)) (m + loops_of_block b) sc more)) (unbound_block n m sc b (left_false _ _ u)) (unbound_arms (n + length (locals_of_block b)) (m + loops_of_block b) sc more (right_false _ _ u))
+        none_bind (in_order (block_acts h called n m sc b)) (inside_arms (arms_acts h called (n + length (locals_of_block b)) (m + loops_of_block b) sc more)) (unbound_block n m sc b (or_parts _ _ u).0) (unbound_arms (n + length (locals_of_block b)) (m + loops_of_block b) sc more (or_parts _ _ u).1)
 
 -- ---- Checks
 
@@ -96,8 +96,8 @@ module _ (h : Setting) (called : Called) (quantified : Bool) where
   -- Where acts of a text that doesn't bind stand before acts that don't, none of both binds.
   further : (bound more : Bool) (xs ys : List Act) → (more ≡ false → any_binds xs ≡ false) → (bound ≡ false → Unbound ys) → (bound || more) ≡ false → Unbound (xs ++ ys)
   further bound more xs ys p q e =
-      let u = q (left_false bound more e) in
-      neither quantified (any_binds (xs ++ ys)) (left_false quantified (any_binds ys) u) (none_bind xs ys (p (right_false bound more e)) (right_false quantified (any_binds ys) u))
+      let u = q (or_parts bound more e).0 in
+      or_from quantified (any_binds (xs ++ ys)) (or_parts quantified (any_binds ys) u).0 (none_bind xs ys (p (or_parts bound more e).1) (or_parts quantified (any_binds ys) u).1)
 
   behind_assigned : (n : ℕ) (sc : Scope) (xs : List ℕ) (r : RightSide) (s : Span) (ys : List Act) → NothingBindsBehind h.co quantified ys → NothingBindsBehind h.co quantified (in_order (Acts.next (assigned called n sc xs r s) Acts.done) ++ ys)
   behind_assigned n sc xs (RightSide.plain e) s ys p = (λ i. absurd (cc), p)
@@ -185,4 +185,4 @@ module _ (h : Setting) (called : Called) (quantified : Bool) where
   nothing_binds_behind bound n sc None f q = tt
   nothing_binds_behind bound n sc (Some b) f q =
       subst (NothingBindsBehind h.co quantified) (append-nil (in_order (block_acts h called n 1 sc b)))
-      (behind_block bound n 1 sc b [] f (λ e. neither quantified false (q e) refl) tt)
+      (behind_block bound n 1 sc b [] f (λ e. or_from quantified false (q e) refl) tt)

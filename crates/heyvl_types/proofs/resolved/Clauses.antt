@@ -57,7 +57,7 @@ module _ (Q : Form → Type 0) (J : IsJoined Q) where
   joined_holds true f (g ∷ gs) p q = joined_holds true (Form.max f g) gs (J.max f g p q.0) q.1
   joined_holds false f (g ∷ gs) p q = joined_holds false (Form.min f g) gs (J.min f g p q.0) q.1
 
-  clause_holds : (co : Bool) (fs : List Form) → Each Q fs → Q (clause co fs)
+  pub clause_holds : (co : Bool) (fs : List Form) → Each Q fs → Q (clause co fs)
   clause_holds true [] q = J.zero
   clause_holds false [] q = J.infinity
   clause_holds true (f ∷ fs) q = joined_holds true f fs q.0 q.1

@@ -7,7 +7,6 @@ use Rattle.heyvl_syntax.specs.declared.types.TypeName.{TypeName}
 use Rattle.heyvl_types.proofs.resolved.Calls.{AreCallees}
 use Rattle.heyvl_types.proofs.resolved.Findings.{all_kept, back_none}
 use Rattle.heyvl_types.proofs.resolved.Posts.{plain_post}
-use Rattle.heyvl_types.proofs.resolved.Tests.{not_false, right_false}
 use Rattle.heyvl_types.proofs.resolved.Walk.{Alone, Locally}
 use Rattle.heyvl_types.specs.Acts.{TypedProcedure, Variable, procedure_at}
 use Rattle.heyvl_types.specs.Files.{first_quantified, head_scope}
@@ -21,6 +20,7 @@ use Rattle.heyvl_types.specs.StatementRules.{any_twice, assign_rules, havoc_rule
 use Rattle.heyvl_types.specs.Table.{declarable}
 use Rattle.heyvl_types.specs.declared.settings.Setting.{Setting}
 use Rattle.std.proofs.Common.{Bool, List, None, Option, Some, [], ap, false, refl, sym, true, ◌∙◌, ◌≡◌, ◌∷◌, ℕ}
+use Rattle.std.proofs.lemmas.Bool.{not-false, or_parts}
 use Rattle.std.specs.Option.{is_none}
 
 agreed : (a b : Bool) → agree a b ≡ true → b ≡ a
@@ -35,7 +35,7 @@ module _ (ps : List TypedProcedure) (p : TypedProcedure) (h : Setting) (called :
   callable f (Some q) e a b c =
       let d = callees f q e in
       record {
-        direction = ap (λ r. r.co) d.typed_is ∙ (ap (λ t. t.co) d.is ∙ (agreed h.co q.co (not_false _ b) ∙ sym co));
+        direction = ap (λ r. r.co) d.typed_is ∙ (ap (λ t. t.co) d.is ∙ (agreed h.co q.co (not-false _ b) ∙ sym co));
         plain = ap (λ r. has_binder r.post) d.typed_is ∙ plain_post d.procedure.co (first_quantified d.procedure) (head_scope d.procedure) d.procedure.posts (ap (λ t. t.quantified) d.is ∙ c);
       }
 
@@ -46,7 +46,7 @@ module _ (ps : List TypedProcedure) (p : TypedProcedure) (h : Setting) (called :
   follows_assigned n sc unknown twice undeclarable input types xs (RightSide.choose parts) s f = tt
   follows_assigned n sc unknown twice undeclarable input types xs (RightSide.call q arguments) s f =
       let k = all_kept s (right_rules h.co called n sc unknown twice undeclarable input types (RightSide.call q arguments)) f in
-      callable q (find_call called q) refl (right_false unknown _ k.0) k.1.1.1.1.1.1.1.0 k.1.1.1.1.1.1.1.1.0
+      callable q (find_call called q) refl (or_parts unknown _ k.0).1 k.1.1.1.1.1.1.1.0 k.1.1.1.1.1.1.1.1.0
 
   follows_declared : (n : ℕ) (sc : Scope) (x : List ℕ) (t : TypeName) (r : Option RightSide) (s : Span) → at s (var_rules h called n sc x t r) ≡ [] → FollowsDirection ps p (declared_act h called n sc t r s)
   follows_declared n sc x t None s f = sym co
@@ -62,7 +62,7 @@ module _ (ps : List TypedProcedure) (p : TypedProcedure) (h : Setting) (called :
       (follows_assigned n sc (any_unknown sc xs) (any_twice xs) false (any_input h.inputs sc xs) (types_of_names sc xs) (targets sc xs) r s (back_none _ (at s (assign_rules h called n sc xs r)) f), tt)
   follows vs bound n m sc (Statement.check kind a s) k l f = (tt, tt)
   follows vs bound n m sc (Statement.validate up s) k l f = (tt, tt)
-  follows vs bound n m sc (Statement.havoc up xs s) k l f = follows_havocs sc up xs s (agreed h.co up (not_false _ (all_kept s (havoc_rules h sc up xs) f).1.1.1.0) ∙ sym co)
+  follows vs bound n m sc (Statement.havoc up xs s) k l f = follows_havocs sc up xs s (agreed h.co up (not-false _ (all_kept s (havoc_rules h sc up xs) f).1.1.1.0) ∙ sym co)
   follows vs bound n m sc (Statement.reward a s) k l f = (weak ∙ (all_kept s (reward_rules h) (back_none _ _ f)).0, tt)
   follows vs bound n m sc (Statement.branch arms other s) k l f = (tt, tt)
   follows vs bound n m sc (Statement.pick up a b s) k l f = (tt, tt)

@@ -11,7 +11,6 @@ use Rattle.heyvl_types.proofs.resolved.Findings.{all_kept, back_none, front_none
 use Rattle.heyvl_types.proofs.resolved.Growth.{grow_more}
 use Rattle.heyvl_types.proofs.resolved.InOrder.{each_both, each_join}
 use Rattle.heyvl_types.proofs.resolved.Locals.{Stands, stands_within}
-use Rattle.heyvl_types.proofs.resolved.Tests.{left_true, right_true}
 use Rattle.heyvl_types.proofs.resolved.Walk.{Alone, Locally}
 use Rattle.heyvl_types.specs.Acts.{Act, Acts, TypedProcedure, Variable, variables}
 use Rattle.heyvl_types.specs.Literals.{copies, whole_value}
@@ -28,6 +27,7 @@ use Rattle.heyvl_types.specs.Variables.{behind, locals, locals_of_arms, locals_o
 use Rattle.heyvl_types.specs.declared.demands.Demand.{Demand}
 use Rattle.heyvl_types.specs.declared.settings.Setting.{Setting}
 use Rattle.std.proofs.Common.{Bool, List, None, Option, Some, [], arith, false, refl, subst, suc, sym, true, ◌++◌, ◌+◌, ◌≡◌, ◌≤◌, ◌∷◌, ℕ, ℤ}
+use Rattle.std.proofs.lemmas.Bool.{and_parts}
 use Rattle.std.proofs.lemmas.Int.{ints}
 use Rattle.std.specs.Int.Signed.{le_z}
 use Rattle.std.specs.List.{list_any}
@@ -63,20 +63,20 @@ module _ (h : Setting) (called : Called) where
     rankable_statement n m sc (Statement.havoc co xs s) u = rankable_havocs sc co xs s
     rankable_statement n m sc (Statement.reward a s) u = (refl, tt)
     rankable_statement n m sc (Statement.branch arms other s) u =
-        (refl, each_both Rankable _ [] (each_both Rankable _ _ (rankable_arms n m sc arms (left_true _ _ u)) (rankable_block (n + length (locals_of_arms arms)) (m + loops_of_arms arms) sc other (right_true _ _ u))) tt)
+        (refl, each_both Rankable _ [] (each_both Rankable _ _ (rankable_arms n m sc arms (and_parts _ _ u).0) (rankable_block (n + length (locals_of_arms arms)) (m + loops_of_arms arms) sc other (and_parts _ _ u).1)) tt)
     rankable_statement n m sc (Statement.pick up a b s) u =
-        (refl, each_both Rankable _ [] (each_both Rankable _ _ (rankable_block n m sc a (left_true _ _ u)) (rankable_block (n + length (locals_of_block a)) (m + loops_of_block a) sc b (right_true _ _ u))) tt)
+        (refl, each_both Rankable _ [] (each_both Rankable _ _ (rankable_block n m sc a (and_parts _ _ u).0) (rankable_block (n + length (locals_of_block a)) (m + loops_of_block a) sc b (and_parts _ _ u).1)) tt)
     rankable_statement n m sc (Statement.loop rules g b s) u = absurd (cc)
 
     rankable_block : (n m : ℕ) (sc : Scope) (b : Block) → block_is_rankable b ≡ true → Each Rankable (in_order (block_acts h called n m sc b))
     rankable_block n m sc Block.done u = tt
     rankable_block n m sc (Block.next s b) u =
-        each_join Rankable (statement_acts h called n m sc s) _ (rankable_statement n m sc s (left_true _ _ u)) (rankable_block (n + length (locals s)) (m + loops s) (behind n sc s) b (right_true _ _ u))
+        each_join Rankable (statement_acts h called n m sc s) _ (rankable_statement n m sc s (and_parts _ _ u).0) (rankable_block (n + length (locals s)) (m + loops s) (behind n sc s) b (and_parts _ _ u).1)
 
     rankable_arms : (n m : ℕ) (sc : Scope) (arms : text.Arms) → arms_are_rankable arms ≡ true → Each Rankable (inside_arms (arms_acts h called n m sc arms))
     rankable_arms n m sc text.Arms.no_arm u = tt
     rankable_arms n m sc (text.Arms.arm g b more) u =
-        each_both Rankable _ _ (rankable_block n m sc b (left_true _ _ u)) (rankable_arms (n + length (locals_of_block b)) (m + loops_of_block b) sc more (right_true _ _ u))
+        each_both Rankable _ _ (rankable_block n m sc b (and_parts _ _ u).0) (rankable_arms (n + length (locals_of_block b)) (m + loops_of_block b) sc more (and_parts _ _ u).1)
 
 -- ---- What stands in a loop
 

@@ -8,7 +8,6 @@ use Rattle.heyvl_syntax.specs.declared.types.TypeName.{TypeName}
 use Rattle.heyvl_types.proofs.resolved.Findings.{IsKept, all_kept, back_none, front_none}
 use Rattle.heyvl_types.proofs.resolved.Growth.{new_name, numbers_with}
 use Rattle.heyvl_types.proofs.resolved.Sight.{found_among, sees_condition, sees_form, sees_term}
-use Rattle.heyvl_types.proofs.resolved.Tests.{left_false, right_false}
 use Rattle.heyvl_types.specs.Acts.{Acts, acts_in, join}
 use Rattle.heyvl_types.specs.Files.{body_acts, body_findings}
 use Rattle.heyvl_types.specs.Findings.{at}
@@ -24,7 +23,7 @@ use Rattle.heyvl_types.specs.Visible.{Scoped, ScopedAct, ScopedArms, Sees, SeesP
 use Rattle.heyvl_types.specs.declared.scopes.Local.{Local}
 use Rattle.heyvl_types.specs.declared.settings.Setting.{Setting}
 use Rattle.std.proofs.Common.{Bool, List, None, Option, Some, [], ap, false, pos, refl, suc, sym, true, zero, ◌++◌, ◌+◌, ◌==◌, ◌∙◌, ◌≡◌, ◌∷◌, ℕ, ℤ}
-use Rattle.std.proofs.lemmas.Bool.{eqb-true}
+use Rattle.std.proofs.lemmas.Bool.{eqb-true, or_parts}
 use Rattle.std.specs.Option.{is_none}
 use Rattle.std.specs.Prelude.{length, not, unsigned_abs, ◌+ℤ◌, ◌-ℤ◌, ◌||◌}
 
@@ -83,12 +82,12 @@ known_target sc x e = go (find sc x) refl e
 
 known_targets : (sc : Scope) (xs : List (List ℕ)) → any_unknown sc xs ≡ false → AllAmong sc (targets sc xs)
 known_targets sc [] e = tt
-known_targets sc (x ∷ xs) e = (known_target sc x (left_false _ _ e), known_targets sc xs (right_false _ _ e))
+known_targets sc (x ∷ xs) e = (known_target sc x (or_parts _ _ e).0, known_targets sc xs (or_parts _ _ e).1)
 
 -- The one target of a right side that is no call.
 one_target : (sc : Scope) (xs : List (List ℕ)) → any_unknown sc xs ≡ false → not (length (types_of_names sc xs) == 1) ≡ false → among (numbers sc) (first_or_zero (targets sc xs)) ≡ true
 one_target sc [] e i = absurd (cc)
-one_target sc (x ∷ xs) e i = known_target sc x (left_false _ _ e)
+one_target sc (x ∷ xs) e i = known_target sc x (or_parts _ _ e).0
 
 -- ---- Parts of acts
 
@@ -142,11 +141,11 @@ module _ (h : Setting) (called : Called) where
   shown_by_assigned n sc v xs r s f p = go r (all_kept s (assign_rules h called n sc xs r) f)
     where
       go : (r : RightSide) → Each IsKept (assign_rules h called n sc xs r) → Mirrors (shown_by (assigned called n sc (targets sc xs) r s) v) sc
-      go (RightSide.plain e) k = same_shown v sc _ p (one_target sc xs (left_false (any_unknown sc xs) false k.0) k.1.1.1.1.0)
-      go (RightSide.flip q) k = same_shown v sc _ p (one_target sc xs (left_false (any_unknown sc xs) false k.0) k.1.1.1.1.0)
-      go (RightSide.unif a b) k = same_shown v sc _ p (one_target sc xs (left_false (any_unknown sc xs) false k.0) k.1.1.1.1.0)
-      go (RightSide.choose parts) k = same_shown v sc _ p (one_target sc xs (left_false (any_unknown sc xs) false k.0) k.1.1.1.1.0)
-      go (RightSide.call q arguments) k = all_shown v sc (targets sc xs) p (known_targets sc xs (left_false (any_unknown sc xs) _ k.0))
+      go (RightSide.plain e) k = same_shown v sc _ p (one_target sc xs (or_parts (any_unknown sc xs) false k.0).0 k.1.1.1.1.0)
+      go (RightSide.flip q) k = same_shown v sc _ p (one_target sc xs (or_parts (any_unknown sc xs) false k.0).0 k.1.1.1.1.0)
+      go (RightSide.unif a b) k = same_shown v sc _ p (one_target sc xs (or_parts (any_unknown sc xs) false k.0).0 k.1.1.1.1.0)
+      go (RightSide.choose parts) k = same_shown v sc _ p (one_target sc xs (or_parts (any_unknown sc xs) false k.0).0 k.1.1.1.1.0)
+      go (RightSide.call q arguments) k = all_shown v sc (targets sc xs) p (known_targets sc xs (or_parts (any_unknown sc xs) _ k.0).0)
 
   shown_by_new : (n : ℕ) (sc : Scope) (v : Visible) (x : List ℕ) (t : TypeName) (r : RightSide) (s : Span) → is_visible sc x ≡ false → Mirrors v sc → Mirrors (shown_by (assigned called n sc (n ∷ []) r s) v) (with_local x (record { number = n; ty = t }) sc)
   shown_by_new n sc v x t (RightSide.plain e) s i p = new_shown v sc x (record { number = n; ty = t }) p i
@@ -167,7 +166,7 @@ module _ (h : Setting) (called : Called) where
   reads_havocs : (sc : Scope) (v : Visible) (co : Bool) (xs : List (List ℕ)) (s : Span) → any_unknown sc xs ≡ false → Mirrors v sc → Reads v (havocs sc co xs s) sc
   reads_havocs sc v co [] s e p = record { scoped = tt; after = p }
   reads_havocs sc v co (x ∷ xs) s e p =
-      let r = reads_havocs sc (shown (number_or_zero (find sc x)) v) co xs s (right_false _ _ e) (same_shown v sc _ p (known_target sc x (left_false _ _ e))) in
+      let r = reads_havocs sc (shown (number_or_zero (find sc x)) v) co xs s (or_parts _ _ e).1 (same_shown v sc _ p (known_target sc x (or_parts _ _ e).0)) in
       record { scoped = (tt, r.scoped); after = r.after }
 
   mutual
