@@ -155,7 +155,7 @@ module _ (h : Setting) (called : Called) (quantified : Bool) where
           (behind_block true n (suc m) sc b ys (back_none _ _ (front_none _ _ f)) (λ e. absurd (cc)) p),
     )
 
-    behind_block : (bound : Bool) (n m : ℕ) (sc : Scope) (b : Block) (ys : List Act) → block_findings h called bound n sc b ≡ [] → Stands bound (in_order (block_acts h called n m sc b)) ys
+    pub behind_block : (bound : Bool) (n m : ℕ) (sc : Scope) (b : Block) (ys : List Act) → block_findings h called bound n sc b ≡ [] → Stands bound (in_order (block_acts h called n m sc b)) ys
     behind_block bound n m sc Block.done ys f u p = p
     behind_block bound n m sc (Block.next s b) ys f u p =
         let i = n + length (locals s) in

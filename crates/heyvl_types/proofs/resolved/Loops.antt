@@ -4,9 +4,8 @@ use Rattle.heyvl_syntax.specs.Statements as text
 use Rattle.heyvl_syntax.specs.Statements.{Block, LoopRule, RightSide, Statement}
 use Rattle.heyvl_syntax.specs.declared.literals.Lit.{Lit}
 use Rattle.heyvl_syntax.specs.declared.spans.Span.{Span}
-use Rattle.heyvl_syntax.specs.declared.statements.CheckKind.{CheckKind}
 use Rattle.heyvl_syntax.specs.declared.types.TypeName.{TypeName}
-use Rattle.heylo_formula.specs.Formula.{Form}
+use Rattle.heyvl_types.proofs.resolved.Bindings.{behind_block}
 use Rattle.heyvl_types.proofs.resolved.Findings.{all_kept, back_none, front_none}
 use Rattle.heyvl_types.proofs.resolved.Growth.{grow_more}
 use Rattle.heyvl_types.proofs.resolved.InOrder.{each_both, each_join}
@@ -16,18 +15,19 @@ use Rattle.heyvl_types.specs.Acts.{Act, Acts, TypedProcedure, Variable, variable
 use Rattle.heyvl_types.specs.Literals.{copies, whole_value}
 use Rattle.heyvl_types.specs.LoopRules.{is_ranking, loop_rules, rules_findings}
 use Rattle.heyvl_types.specs.Places.{in_order, inside_arms}
-use Rattle.heyvl_types.specs.Rules.{Each, GrowBelow, LoopsMeet, RankedBodyIsPlain, is_against, is_rankable}
+use Rattle.heyvl_types.specs.Rules.{Each, GrowBelow, LoopsMeet, NothingBindsBehind, RankedBodyIsPlain, is_against, is_rankable}
 use Rattle.heyvl_types.specs.Scopes.{Scope, numbers}
 use Rattle.heyvl_types.specs.Signatures.{Called}
-use Rattle.heyvl_types.specs.StatementActs.{arms_acts, assigned, block_acts, copies_of, declared_act, form, havocs, loops, loops_of_arms, loops_of_block, number_or_one, ranking_of, statement_acts, targets}
+use Rattle.heyvl_types.specs.StatementActs.{arms_acts, assigned, block_acts, copies_of, declared_act, havocs, loops, loops_of_arms, loops_of_block, number_or_one, ranking_of, statement_acts, targets}
 use Rattle.heyvl_types.specs.StatementRules.{arms_are_rankable, arms_bind, arms_findings, block_binds, block_findings, block_is_rankable, calls_value, check_rules, checks_against, is_call, statement_findings, validate_rules, validates_against}
 use Rattle.heyvl_types.specs.StatementRules as text_rules
-use Rattle.heyvl_types.specs.TypedExpressions.{closed_findings, elaborate}
+use Rattle.heyvl_types.specs.TypedExpressions.{closed_findings}
 use Rattle.heyvl_types.specs.Variables.{behind, locals, locals_of_arms, locals_of_block}
 use Rattle.heyvl_types.specs.declared.demands.Demand.{Demand}
 use Rattle.heyvl_types.specs.declared.settings.Setting.{Setting}
 use Rattle.std.proofs.Common.{Bool, List, None, Option, Some, [], arith, false, refl, subst, suc, sym, true, ◌++◌, ◌+◌, ◌≡◌, ◌≤◌, ◌∷◌, ℕ, ℤ}
-use Rattle.std.proofs.lemmas.Bool.{and_parts}
+use Rattle.std.proofs.lemmas.Bool.{and_parts, false_from_ne_true}
+use Rattle.std.proofs.lemmas.List.{append-nil}
 use Rattle.std.proofs.lemmas.Int.{ints}
 use Rattle.std.specs.Int.Signed.{le_z}
 use Rattle.std.specs.List.{list_any}
@@ -80,61 +80,19 @@ module _ (h : Setting) (called : Called) where
 
 -- ---- What stands in a loop
 
-bound_alone : (a : Bool) → (a && true) ≡ false → a ≡ false
-bound_alone true e = e
-bound_alone false e = refl
-
-along_check : (co : Bool) (kind : CheckKind) (f : Form) (s : Span) → (checks_against co kind && true) ≡ false → is_against co (Act.check kind f s) ≡ false
-along_check co CheckKind.Assert f s k = refl
-along_check co CheckKind.Assume f s k = bound_alone co k
-along_check co CheckKind.CoAssert f s k = refl
-along_check co CheckKind.CoAssume f s k = bound_alone (not co) k
-
 -- An act that is no check against the direction.
 abbrev Along : Bool → Act → Type 0
 Along co a = is_against co a ≡ false
 
-along_assigned : (co : Bool) (called : Called) (n : ℕ) (sc : Scope) (xs : List ℕ) (r : RightSide) (s : Span) → Each (Along co) (in_order (Acts.next (assigned called n sc xs r s) Acts.done))
-along_assigned co called n sc xs (RightSide.plain e) s = (refl, tt)
-along_assigned co called n sc xs (RightSide.flip p) s = (refl, tt)
-along_assigned co called n sc xs (RightSide.unif a b) s = (refl, tt)
-along_assigned co called n sc xs (RightSide.choose parts) s = (refl, tt)
-along_assigned co called n sc xs (RightSide.call p arguments) s = (refl, tt)
+-- Where a quantifier stands behind all acts, none of them is against the direction.
+all_along : (co : Bool) (acts : List Act) → NothingBindsBehind co true acts → Each (Along co) acts
+all_along co [] p = tt
+all_along co (a ∷ rest) p = (false_from_ne_true (is_against co a) (λ e. let w : true ≡ false = p.0 e in cc), all_along co rest p.1)
 
-along_declared : (co : Bool) (h : Setting) (called : Called) (n : ℕ) (sc : Scope) (t : TypeName) (r : Option RightSide) (s : Span) → Each (Along co) (in_order (Acts.next (declared_act h called n sc t r s) Acts.done))
-along_declared co h called n sc t None s = (refl, tt)
-along_declared co h called n sc t (Some r) s = along_assigned co called n sc (n ∷ []) r s
-
-along_havocs : (co : Bool) (sc : Scope) (up : Bool) (xs : List (List ℕ)) (s : Span) → Each (Along co) (in_order (havocs sc up xs s))
-along_havocs co sc up [] s = tt
-along_havocs co sc up (x ∷ xs) s = (refl, along_havocs co sc up xs s)
-
-module _ (h : Setting) (called : Called) where
-  mutual
-    along_statement : (n m : ℕ) (sc : Scope) (s : Statement) → statement_findings h called true n sc s ≡ [] → Each (Along h.co) (in_order (statement_acts h called n m sc s))
-    along_statement n m sc (Statement.var x t r s) f = along_declared h.co h called n sc t r s
-    along_statement n m sc (Statement.assign xs r s) f = along_assigned h.co called n sc (targets sc xs) r s
-    along_statement n m sc (Statement.check kind a s) f =
-        (along_check h.co kind (form (elaborate n sc a)) s (all_kept s (check_rules h true kind) (back_none (closed_findings Demand.Formula n sc a) _ f)).0, tt)
-    along_statement n m sc (Statement.validate co s) f = (bound_alone (validates_against h.co co) (all_kept s (validate_rules h true co) f).0, tt)
-    along_statement n m sc (Statement.havoc up xs s) f = along_havocs h.co sc up xs s
-    along_statement n m sc (Statement.reward a s) f = (refl, tt)
-    along_statement n m sc (Statement.branch arms other s) f =
-        (refl, each_both (Along h.co) _ [] (each_both (Along h.co) _ _ (along_arms n m sc arms (front_none _ _ f)) (along_block (n + length (locals_of_arms arms)) (m + loops_of_arms arms) sc other (back_none _ _ f))) tt)
-    along_statement n m sc (Statement.pick up a b s) f =
-        (refl, each_both (Along h.co) _ [] (each_both (Along h.co) _ _ (along_block n m sc a (front_none _ _ f)) (along_block (n + length (locals_of_block a)) (m + loops_of_block a) sc b (back_none _ _ f))) tt)
-    along_statement n m sc (Statement.loop rules g b s) f =
-        (refl, each_both (Along h.co) _ [] (along_block n (suc m) sc b (back_none _ _ (front_none _ _ f))) tt)
-
-    along_block : (n m : ℕ) (sc : Scope) (b : Block) → block_findings h called true n sc b ≡ [] → Each (Along h.co) (in_order (block_acts h called n m sc b))
-    along_block n m sc Block.done f = tt
-    along_block n m sc (Block.next s b) f =
-        each_join (Along h.co) (statement_acts h called n m sc s) _ (along_statement n m sc s (front_none _ _ f)) (along_block (n + length (locals s)) (m + loops s) (behind n sc s) b (back_none _ _ f))
-
-    along_arms : (n m : ℕ) (sc : Scope) (arms : text.Arms) → arms_findings h called true n sc arms ≡ [] → Each (Along h.co) (inside_arms (arms_acts h called n m sc arms))
-    along_arms n m sc text.Arms.no_arm f = tt
-    along_arms n m sc (text.Arms.arm g b more) f =
-        each_both (Along h.co) _ _ (along_block n m sc b (back_none _ _ (front_none _ _ f))) (along_arms (n + length (locals_of_block b)) (m + loops_of_block b) sc more (back_none _ _ f))
+along_block : (h : Setting) (called : Called) (n m : ℕ) (sc : Scope) (b : Block) → block_findings h called true n sc b ≡ [] → Each (Along h.co) (in_order (block_acts h called n m sc b))
+along_block h called n m sc b f =
+    let acts = in_order (block_acts h called n m sc b) in
+    all_along h.co acts (subst (NothingBindsBehind h.co true) (append-nil acts) (behind_block h called true true n m sc b [] f (λ e. absurd (cc)) tt))
 
 -- ---- Numbers of copies and rankings
 
