@@ -116,12 +116,12 @@ fn bare_line(text: &[u8]) -> Option<Line>
     ensures found { IfSome result (λ l. IsBareLine (line_of l) × (text.now ≡ line_text (line_of l))) }
     ensures only { (l : LineValue) → IsBareLine l → text.now ≡ line_text l → option_map line_of result ≡ Some l }
 {
-    if text == b"caesar certificate 1".as_slice() {
-        Some(Line::Title)
-    } else if text == b"s".as_slice() {
+    if text == b"s".as_slice() {
         Some(Line::Split)
     } else if text == b"t".as_slice() {
         Some(Line::Plain)
+    } else if text == b"caesar certificate 1".as_slice() {
+        Some(Line::Title)
     } else if text == b"end".as_slice() {
         Some(Line::Last)
     } else {
@@ -134,7 +134,9 @@ pub fn read_line(alloc: Global, text: &[u8]) -> Result<Option<Line>, AllocError>
     ensures found { IfOk result (λ found. IfSome found (λ l. IsLine (line_of l) × (text.now ≡ line_text (line_of l)))) }
     ensures only { IfOk result (λ found. (l : LineValue) → IsLine l → text.now ≡ line_text l → option_map line_of found ≡ Some l) }
 {
-    if let Some(name) = text.strip_prefix(b"goal ".as_slice()) {
+    if let Some(line) = bare_line(text) {
+        Ok(Some(line))
+    } else if let Some(name) = text.strip_prefix(b"goal ".as_slice()) {
         Ok(match goal_name(name) {
             Some(name) => Some(Line::Goal(name)),
             None => None,
@@ -145,6 +147,6 @@ pub fn read_line(alloc: Global, text: &[u8]) -> Result<Option<Line>, AllocError>
             None => None,
         })
     } else {
-        Ok(bare_line(text))
+        Ok(None)
     }
 }

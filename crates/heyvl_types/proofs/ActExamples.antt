@@ -145,6 +145,11 @@ vacuous : forward (only (Act.check CheckKind.CoAssume (Form.embed (Cond.constant
 unfolding coimpliesᵛ leqᵛ ratio gcd gcd_steps zeroᵛ zeroʳ
 vacuous = refl
 
+-- The smaller of a UInt set to 1 and set to 2 is 1.
+smaller_block : shown (forward (only (Act.pick false (only (Act.set 2 (Term.number (at 1)) nowhere)) (only (Act.set 2 (Term.number (at 2)) nowhere)) nowhere)) (value (Form.variable 2)) state Choices.stop) ≡ Some (pos 1, 1)
+unfolding state ratio gcd gcd_steps leqʳ leqᵛ minᵛ
+smaller_block = refl
+
 -- ---- Places, modified variables, counts and lengths
 
 -- An If's arms come before its else, an act before those inside it.
