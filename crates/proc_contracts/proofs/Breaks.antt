@@ -1,5 +1,6 @@
 -- The first act that breaks a program, in lists of acts in a row.
 use Rattle.std.proofs.Common.{◌≡◌, ℕ, Bool, true, false, ◌<◌, ◌≤◌, ◌+◌, refl, ap, sym, ◌∙◌, List, [], ◌∷◌, ◌++◌, append_assoc, length, drop, get_or}
+use mathlib.Core.Bool.{beq, not}
 use Rattle.std.proofs.lemmas.List.{at_drop_more, drop_all}
 use Rattle.std.specs.Prelude.{Option, Some, None, Vec}
 use Rattle.std.specs.declared.alloc.Global.{Global}
@@ -70,11 +71,11 @@ arm_past co arms k e x lt is h = sym (ap (λ l. first_break co l) (next_arm arms
 pub if_start : (co : Bool) (a : A.Act) (arms : Vec (C.Cond × Vec A.Act Global) Global) (e : Vec A.Act Global) (span : Span) → a ≡ A.If arms e span → first_break co (arms_from arms.items 0 (in_order (acts_of e.items))) ≡ first_break co (act_of a ∷ inside (act_of a))
 if_start co a arms e span is = sym (ap (λ x. first_break co (act_of x ∷ inside (act_of x))) is ∙ ap (λ x. first_break co (x ∷ inside x)) (if_act arms e span))
 
-pub pick_start : (co : Bool) (a : A.Act) (up : Bool) (b d : Vec A.Act Global) (span : Span) → a ≡ A.Pick up b d span → co ≡ up → first_break co (in_order (acts_of b.items) ++ in_order (acts_of d.items)) ≡ first_break co (act_of a ∷ inside (act_of a))
+pub pick_start : (co : Bool) (a : A.Act) (up : Bool) (b d : Vec A.Act Global) (span : Span) → a ≡ A.Pick up b d span → not (beq co up) ≡ false → first_break co (in_order (acts_of b.items) ++ in_order (acts_of d.items)) ≡ first_break co (act_of a ∷ inside (act_of a))
 pick_start co a up b d span is same = sym (ap (λ x. first_break co (act_of x ∷ inside (act_of x))) is ∙ (ap (λ x. first_break co (x ∷ inside x)) (pick_act up b d span) ∙ agreeing co up (acts_of b.items) (acts_of d.items) span same))
   where
-    agreeing : (co up : Bool) (xs ys : Acts) (span : Span) → co ≡ up → first_break co (Act.pick up xs ys span ∷ (in_order xs ++ in_order ys)) ≡ first_break co (in_order xs ++ in_order ys)
+    agreeing : (co up : Bool) (xs ys : Acts) (span : Span) → not (beq co up) ≡ false → first_break co (Act.pick up xs ys span ∷ (in_order xs ++ in_order ys)) ≡ first_break co (in_order xs ++ in_order ys)
     agreeing true true xs ys span e = refl
     agreeing false false xs ys span e = refl
     agreeing true false xs ys span e = absurd (false≢true (sym e))
-    agreeing false true xs ys span e = absurd (false≢true e)
+    agreeing false true xs ys span e = absurd (false≢true (sym e))

@@ -2,7 +2,7 @@
 use Rattle.std.proofs.Common.{◌≡◌, ◌≢◌, ℕ, Bool, true, false, ◌||◌, ◌+◌, ◌<◌, ◌≤◌, ◌==◌, refl, ap, sym, subst, ◌∙◌, arith, List, [], ◌∷◌, ◌++◌, append_assoc, append-nil, length, get_or, set, take, drop, inl, inr, ⊎_elim, ◌⊎◌, replicate}
 use Prim.Native.Nat.{zero, suc}
 use Rattle.std.proofs.lemmas.Bool.{cases_eq, cases_Bool, eq-eqb, ne_eqb, or_cases, or_left, or_right, false≢true}
-use Rattle.std.proofs.lemmas.List.{length_push, length-set, get_or-set_same, get_or-set_other}
+use Rattle.std.proofs.lemmas.List.{length_push, length-set, get_or-set_same, get_or-set_other, take_more}
 use Rattle.heyvl_types.specs.Rules.{GrowBelow}
 use Rattle.heyvl_types.specs.Visible.{among}
 use Rattle.proc_contracts.proofs.Targets.{grow_earlier}
@@ -70,6 +70,9 @@ grew_more before after asked x g = record {
   behind = ap (λ l. l ++ x ∷ []) g.behind ∙ append_assoc before g.more (x ∷ []);
   exact = λ q. among_push after x q ∙ (ap (λ b. b || (x == q)) (g.exact q) ∙ (or_assoc (among before q) (among asked q) (x == q) ∙ ap (λ b. among before q || b) (sym (among_push asked x q))));
 }
+
+pub grew_next : (before after all : List ℕ) (k : ℕ) → k < length all → Grew before after (take k all ++ get_or all k 0 ∷ []) → Grew before after (take (k + 1) all)
+grew_next before after all k lt g = subst (λ l. Grew before after l) (sym (take_more all k 0 lt)) g
 
 -- ---- The numbers that are marked
 
