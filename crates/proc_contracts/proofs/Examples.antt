@@ -1,6 +1,6 @@
 -- What is modified, what is reached and what is a program, computed by hand on small procedures.
 use Rattle.std.proofs.Common.{◌≡◌, refl, ℕ, Bool, true, false, ◌==◌, ◌||◌, List, [], ◌∷◌, sym, subst, arith, ⊎_elim}
-use Rattle.std.specs.Prelude.{pos, Option, Some, None}
+use Rattle.std.specs.Prelude.{pos, Some, None}
 use Rattle.std.proofs.lemmas.Bool.{eqb-true, or_cases, false≢true}
 use Rattle.heyvl_num.specs.Rational.{ratio}
 use Rattle.heyvl_num.specs.Value.{oneᵛ}

@@ -1,7 +1,7 @@
 -- Numbers that are marked, and the list of them.
-use Rattle.std.proofs.Common.{◌≡◌, ◌≢◌, ℕ, Bool, true, false, ◌||◌, ◌+◌, ◌<◌, ◌≤◌, ◌==◌, refl, ap, sym, subst, ◌∙◌, arith, List, [], ◌∷◌, ◌++◌, append_assoc, append-nil, length, get_or, set, take, drop, inl, inr, ⊎_elim, ◌⊎◌, replicate}
+use Rattle.std.proofs.Common.{◌≡◌, ℕ, Bool, true, false, ◌||◌, ◌+◌, ◌<◌, ◌≤◌, ◌==◌, refl, ap, sym, subst, ◌∙◌, arith, List, [], ◌∷◌, ◌++◌, append_assoc, length, get_or, set, take, ⊎_elim, replicate}
 use Prim.Native.Nat.{zero, suc}
-use Rattle.std.proofs.lemmas.Bool.{cases_eq, cases_Bool, eq-eqb, ne_eqb, or_cases, or_left, or_right, false≢true}
+use Rattle.std.proofs.lemmas.Bool.{cases_eq, eq-eqb, ne_eqb, or_right, false≢true}
 use Rattle.std.proofs.lemmas.List.{length_push, length-set, get_or-set_same, get_or-set_other, take_more}
 use Rattle.heyvl_types.specs.Rules.{GrowBelow}
 use Rattle.heyvl_types.specs.Visible.{among}
@@ -51,9 +51,6 @@ mark_more marks list q m lt h = record {
 }
 
 -- ---- Lists that grow
-
-pub grew_none : (before : List ℕ) → Grew before before []
-grew_none before = record { more = []; behind = sym (append-nil before); exact = λ q. sym (or_false (among before q)) }
 
 -- One that was there already is asked for.
 pub grew_same : (before after asked : List ℕ) (x : ℕ) → Grew before after asked → among after x ≡ true → Grew before after (asked ++ x ∷ [])

@@ -1,5 +1,5 @@
 -- Marks of numbers, and lists of the numbers that are marked.
-use Rattle.std.specs.Prelude.{◌≡◌, ◌+◌, ℕ, Bool, true, false, ◌||◌, List, [], ◌∷◌, ◌++◌, if◌then◌else◌, get_or, length}
+use Rattle.std.specs.Prelude.{◌≡◌, ◌+◌, ℕ, Bool, true, false, ◌||◌, List, [], ◌∷◌, ◌++◌, get_or, length}
 use Prim.Native.Nat.{suc}
 use Rattle.heyvl_types.specs.Visible.{among}
 
