@@ -50,17 +50,28 @@ started ps p called marks list a m l g = record {
   closed = λ q r h c. absurd (false≢true h);
 }
 
+one_more : (list after called : List ℕ) (next x : ℕ) → next < length list → x ≡ get_or list next x → Grew list after called → take (next + 1) after ≡ take next list ++ x ∷ []
+one_more list after called next x lt is g = ap (λ xs. take (next + 1) xs) g.behind ∙ (take-append-le (next + 1) list g.more (omega (arith, lt)) ∙ (take_more list next x lt ∙ ap (λ y. take next list ++ y ∷ []) (sym is)))
+
+-- What the next of the list calls is added.
 pub further_on : (ps : List TypedProcedure) (p : ℕ) (marks after_marks : List Bool) (list after called : List ℕ) (next x : ℕ) → OnTheWay ps p marks list next → next < length list → x ≡ get_or list next x → AreCalled ps x called → AreMarked after_marks after → length after_marks ≡ length marks → Grew list after called → OnTheWay ps p after_marks after (next + 1)
 further_on ps p marks after_marks list after called next x w lt is a m l g = record {
   are_marked = m;
   sized = l ∙ w.sized;
   only = λ q h. ⊎_elim (λ old. w.only q old) (λ new. further ps p x q (w.only x (stands list next x lt is)) (sym (a.each q) ∙ new)) (or_cases (among list q) (among called q) (sym (g.exact q) ∙ h));
   first = λ r c. kept list after called r g (w.first r c);
-  closed = λ q r h c. ⊎_elim (λ old. kept list after called r g (w.closed q r old c)) (λ new. added list after called r g (a.each r ∙ subst (λ y. Calls ps y r) (sym (eqb-true x q new)) c)) (or_cases (among (take next list) q) (x == q) (sym (among_push (take next list) x q) ∙ (ap (λ xs. among xs q) (sym front) ∙ h)));
+  closed = λ q r h c. ⊎_elim (λ old. kept list after called r g (w.closed q r old c)) (λ new. added list after called r g (a.each r ∙ subst (λ y. Calls ps y r) (sym (eqb-true x q new)) c)) (or_cases (among (take next list) q) (x == q) (sym (among_push (take next list) x q) ∙ (ap (λ xs. among xs q) (sym (one_more list after called next x lt is g)) ∙ h)));
 }
-  where
-    front : take (next + 1) after ≡ take next list ++ x ∷ []
-    front = ap (λ xs. take (next + 1) xs) g.behind ∙ (take-append-le (next + 1) list g.more (omega (arith, lt)) ∙ (take_more list next x lt ∙ ap (λ y. take next list ++ y ∷ []) (sym is)))
+
+-- The one itself needs no second look.
+pub past_itself : (ps : List TypedProcedure) (p : ℕ) (marks : List Bool) (list : List ℕ) (next x : ℕ) → OnTheWay ps p marks list next → next < length list → x ≡ get_or list next x → x ≡ p → OnTheWay ps p marks list (next + 1)
+past_itself ps p marks list next x w lt is own = record {
+  are_marked = w.are_marked;
+  sized = w.sized;
+  only = w.only;
+  first = w.first;
+  closed = λ q r h c. ⊎_elim (λ old. w.closed q r old c) (λ new. w.first r (subst (λ y. Calls ps y r) (sym (eqb-true x q new) ∙ own) c)) (or_cases (among (take next list) q) (x == q) (sym (among_push (take next list) x q) ∙ (ap (λ xs. among xs q) (sym (take_more list next x lt ∙ ap (λ y. take next list ++ y ∷ []) (sym is))) ∙ h)));
+}
 
 pub finished : (ps : List TypedProcedure) (p : ℕ) (marks : List Bool) (list : List ℕ) (next : ℕ) → OnTheWay ps p marks list next → length list ≤ next → ReachIsMarked ps p marks
 finished ps p marks list next w over = record {

@@ -35,8 +35,11 @@ fn reached(alloc: Global, typed: &Typed, p: u32) -> Result<Vec<bool>, AllocError
     add_new(&mut marks, &mut order, &first)?;
     let mut next = 0;
     'calls: while next < order.len() {
-        let called = called_by(alloc, typed, order[next])?;
-        add_new(&mut marks, &mut order, &called)?;
+        let q = order[next];
+        if q != p {
+            let called = called_by(alloc, typed, q)?;
+            add_new(&mut marks, &mut order, &called)?;
+        }
         next += 1;
     }
     Ok(marks)
