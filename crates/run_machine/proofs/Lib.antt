@@ -6,6 +6,7 @@ mod Moves
 mod Branches
 mod Calls
 mod Draws
+mod Parts
 mod Places
 mod Positions
 mod Replies

@@ -1,6 +1,7 @@
 -- Stored configurations with other items and another state, as the definition moves them.
-use Rattle.std.proofs.Common.{◌≡◌, ℕ, ◌+◌, ◌<◌, ◌≤◌, ◌==◌, refl, ap, ap₂, sym, subst, ◌∙◌, arith, append_assoc, Bool, true, false, List, [], ◌∷◌, ◌++◌, length, map, reverse, drop, get_or}
-use Rattle.std.specs.Prelude.{set, if◌then◌else◌, Option, Some, None, is_some, Result, Ok, Err, IfOk}
+use Rattle.std.proofs.Common.{◌≡◌, ℕ, ◌+◌, ◌<◌, ◌≤◌, ◌==◌, ◌≢◌, ◌⊎◌, inl, inr, refl, ap, ap₂, sym, subst, ◌∙◌, arith, append_assoc, Bool, true, false, List, [], ◌∷◌, ◌++◌, length, map, reverse, drop, get_or}
+use Rattle.std.proofs.lemmas.Bool.Decides.{eqb_tells}
+use Rattle.std.specs.Prelude.{eqb, set, if◌then◌else◌, Option, Some, None, is_some, Result, Ok, Err, IfOk}
 use Prim.Native.Nat.{zero, suc}
 use Rattle.heyvl_num.specs.Rational.{Rational}
 use Rattle.heyvl_num.proofs.exported.Exactness.{exact_sumᵛ_some}
@@ -64,33 +65,55 @@ draws ps c x (q ∷ qs) g = ap₂ (λ e l. (q.0, e) ∷ l) (passes ps c _ g) (dr
 -- ---- Turns
 
 two_equal : (m n : ℕ) → m ≡ n → (m == n) ≡ true
-two_equal m n e = grind arith
+two_equal m n e = go (eqb_tells m n)
+  where
+    go : ((eqb m n ≡ true) × (m ≡ n)) ⊎ ((eqb m n ≡ false) × (m ≢ n)) → (m == n) ≡ true
+    go (inl k) = k.0
+    go (inr k) = absurd (k.1 e)
 
 two_apart : (m n : ℕ) → (m ≡ n → ⊥) → (m == n) ≡ false
-two_apart m n e = grind arith
+two_apart m n e = go (eqb_tells m n)
+  where
+    go : ((eqb m n ≡ true) × (m ≡ n)) ⊎ ((eqb m n ≡ false) × (m ≢ n)) → (m == n) ≡ false
+    go (inl k) = absurd (e k.1)
+    go (inr k) = k.0
+
+are_equal : (m n : ℕ) → (m == n) ≡ true → m ≡ n
+are_equal m n e = go (eqb_tells m n)
+  where
+    go : ((eqb m n ≡ true) × (m ≡ n)) ⊎ ((eqb m n ≡ false) × (m ≢ n)) → m ≡ n
+    go (inl k) = k.1
+    go (inr k) = absurd (let f = sym e ∙ k.0 in cc)
 
 read_same : (ts : List ℕ) (n v : ℕ) → n < length ts → get_or (set ts n v) n 0 ≡ v
 read_same [] n v h = absurd (omega (arith, h))
 read_same (t ∷ ts) zero v h = refl
 read_same (t ∷ ts) (suc n) v h = read_same ts n v (omega (arith, h))
 
-read_other : (ts : List ℕ) (n m v : ℕ) → (m == n) ≡ false → get_or (set ts n v) m 0 ≡ get_or ts m 0
+read_other : (ts : List ℕ) (n m v : ℕ) → (m ≡ n → ⊥) → get_or (set ts n v) m 0 ≡ get_or ts m 0
 read_other [] n m v h = refl
-read_other (t ∷ ts) zero zero v h = absurd (grind (arith, h))
+read_other (t ∷ ts) zero zero v h = absurd (h refl)
 read_other (t ∷ ts) zero (suc m) v h = refl
 read_other (t ∷ ts) (suc n) zero v h = refl
-read_other (t ∷ ts) (suc n) (suc m) v h = read_other ts n m v (grind (arith, h))
+read_other (t ∷ ts) (suc n) (suc m) v h = read_other ts n m v (λ e. h (ap suc e))
 
 -- The turns of a list in which the n-th has one more.
 turn_more : (ts : List ℕ) (n m : ℕ) → n < length ts → get_or (set ts n (get_or ts n 0 + 1)) m 0 ≡ (if m == n then 1 + get_or ts m 0 else get_or ts m 0)
-turn_more ts n m h = go (m == n) refl
+turn_more ts n m h = go (eqb_tells m n)
   where
-    go : (b : Bool) → (m == n) ≡ b → get_or (set ts n (get_or ts n 0 + 1)) m 0 ≡ (if m == n then 1 + get_or ts m 0 else get_or ts m 0)
-    go true e = let q : m ≡ n = grind (arith, e) in subst (λ k. get_or (set ts n (get_or ts n 0 + 1)) k 0 ≡ (if k == n then 1 + get_or ts k 0 else get_or ts k 0)) (sym q) (read_same ts n (get_or ts n 0 + 1) h ∙ (let r : get_or ts n 0 + 1 ≡ 1 + get_or ts n 0 = omega arith in r) ∙ ap (λ b. if b then 1 + get_or ts n 0 else get_or ts n 0) (sym (two_equal n n refl)))
-    go false e = read_other ts n m (get_or ts n 0 + 1) e ∙ ap (λ b. if b then 1 + get_or ts m 0 else get_or ts m 0) (sym e)
+    go : ((eqb m n ≡ true) × (m ≡ n)) ⊎ ((eqb m n ≡ false) × (m ≢ n)) → get_or (set ts n (get_or ts n 0 + 1)) m 0 ≡ (if m == n then 1 + get_or ts m 0 else get_or ts m 0)
+    go (inl k) = subst (λ j. get_or (set ts n (get_or ts n 0 + 1)) j 0 ≡ (if j == n then 1 + get_or ts j 0 else get_or ts j 0)) (sym k.1) (read_same ts n (get_or ts n 0 + 1) h ∙ (let r : get_or ts n 0 + 1 ≡ 1 + get_or ts n 0 = omega arith in r) ∙ ap (λ b. if b then 1 + get_or ts n 0 else get_or ts n 0) (sym (two_equal n n refl)))
+    go (inr k) = read_other ts n m (get_or ts n 0 + 1) k.1 ∙ ap (λ b. if b then 1 + get_or ts m 0 else get_or ts m 0) (sym k.0)
 
 same_after : (m n : ℕ) → (suc m == suc n) ≡ (m == n)
-same_after m n = grind arith
+same_after m n = go (eqb_tells m n)
+  where
+    go : ((eqb m n ≡ true) × (m ≡ n)) ⊎ ((eqb m n ≡ false) × (m ≢ n)) → (suc m == suc n) ≡ (m == n)
+    go (inl k) = two_equal (suc m) (suc n) (ap suc k.1) ∙ sym k.0
+    go (inr k) = two_apart (suc m) (suc n) (λ e. k.1 (before e)) ∙ sym k.0
+      where
+        before : suc m ≡ suc n → m ≡ n
+        before e = omega (arith, e)
 
 pub turns_more : (ts : List ℕ) (number m : ℕ) → 1 ≤ number → number ≤ length ts → turns_of (more_turns number ts) m ≡ one_more number (turns_of ts) m
 turns_more ts zero m one h = absurd (omega (arith, one))
@@ -101,7 +124,7 @@ turn_counted : (ts : List ℕ) (n m p start : ℕ) → (p ≡ start → (1 ≤ n
 turn_counted ts n m p start h = go (p == start) refl
   where
     go : (b : Bool) → (p == start) ≡ b → turns_of (if b then more_turns n ts else ts) m ≡ (if b then one_more n (turns_of ts) else turns_of ts) m
-    go true e = let k = h (grind (arith, e)) in turns_more ts n m k.0 k.1
+    go true e = let k = h (are_equal p start e) in turns_more ts n m k.0 k.1
     go false e = refl
 
 -- One turn of a loop begins.

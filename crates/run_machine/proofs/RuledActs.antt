@@ -1,8 +1,9 @@
 -- What the static rules say of an act that a place names.
-use Rattle.std.proofs.Common.{◌≡◌, ℕ, ◌+◌, ◌-◌, ◌≤◌, ◌<◌, ◌==◌, ◌||◌, refl, ap, sym, subst, ◌∙◌, arith, Bool, true, false, List, [], ◌∷◌, ◌++◌, length, map, take, drop}
+use Rattle.std.proofs.Common.{◌≡◌, ℕ, ◌+◌, ◌-◌, ◌≤◌, ◌<◌, ◌==◌, ◌≢◌, ◌||◌, ◌⊎◌, inl, inr, refl, ap, sym, subst, ◌∙◌, arith, Bool, true, false, List, [], ◌∷◌, ◌++◌, length, map, take, drop}
 use Rattle.std.proofs.lemmas.List.{length-append, length-take-le, length-drop, length-map}
 use Rattle.std.proofs.lemmas.Option.{none-some}
-use Rattle.std.specs.Prelude.{if◌then◌else◌, Option, Some, None}
+use Rattle.std.proofs.lemmas.Bool.Decides.{eqb_tells}
+use Rattle.std.specs.Prelude.{eqb, if◌then◌else◌, Option, Some, None}
 use Prim.Native.Nat.{zero, suc}
 use Rattle.heyvl_syntax.specs.declared.spans.Span.{Span}
 use Rattle.heylo_formula.specs.Binders.{has_binder}
@@ -106,7 +107,11 @@ unbroken p h = go p.body h
     go (Some acts) k = no_reason _ _ (first_break p.co (in_order acts)) k
 
 same_is : (n : ℕ) → (n == n) ≡ true
-same_is n = grind arith
+same_is n = go (eqb_tells n n)
+  where
+    go : ((eqb n n ≡ true) × (n ≡ n)) ⊎ ((eqb n n ≡ false) × (n ≢ n)) → (n == n) ≡ true
+    go (inl k) = k.0
+    go (inr k) = absurd (k.1 refl)
 
 or_right : (a b : Bool) → b ≡ true → (a || b) ≡ true
 or_right true b h = refl

@@ -1,6 +1,6 @@
 //! Calls and returns.
 
-ghost use Rattle.std.specs.Prelude.{◌≡◌, ◌<◌, ◌≤◌, ◌+◌, ◌++◌, ◌∷◌, [], ◌^◌, List, IfOk, OnOk, length, map, drop, true};
+ghost use Rattle.std.specs.Prelude.{◌≡◌, ◌<◌, ◌≤◌, ◌+◌, ◌++◌, ◌∷◌, [], ◌^◌, List, IfOk, OnOk, length, map, true};
 ghost use Rattle.heylo_formula.specs.State.{default as default_of, environment};
 ghost use Rattle.heyvl_types.specs.Acts.{procedure_at, type_list};
 ghost use Rattle.heyvl_types.specs.PlainActs.{procedure_of, procedures_of, terms_of, variable_of};
@@ -20,7 +20,7 @@ use crate::plain_steps::pass_step;
 use crate::starting::push_body;
 use crate::taking::default;
 use heylo_formula::{Term, Val};
-use heyvl_types::{TProc, Typed};
+use heyvl_types::{TProc, Typed, VarInfo};
 use std::alloc::{AllocError, Global};
 
 /// The step of a call that stands at this place.
@@ -67,12 +67,14 @@ fn enter(
     push_outs(&mut items, q, callee)?;
     push_body(&mut items, typed, q)?;
     items.push(Item::Back(p, place))?;
+    let mut state = values;
+    push_defaults(&mut state, &callee.vars[callee.inputs as usize..])?;
     let mut frames = copy_frames(alloc, &config.frames)?;
     frames.push(waiting(alloc, config)?)?;
     Ok(Config {
         proc: config.proc,
         items,
-        state: first_state(callee, values)?,
+        state,
         frames,
         reward: config.reward,
         turns: Vec::from_slice(alloc, &config.turns)?,
@@ -90,16 +92,14 @@ fn waiting(alloc: Global, config: &Config) -> Result<Frame, AllocError>
     })
 }
 
-/// The state in which a called procedure starts: its inputs have these values, every other variable is false or 0.
-fn first_state(callee: &TProc, values: Vec<Val>) -> Result<Vec<Val>, AllocError>
-    requires { IsSmall callee.now }
-    ensures { IfOk result (λ state. state.items ≡ values.items ++ map default_of (type_list (drop callee.now.inputs (map variable_of callee.now.vars.items)))) }
+/// Variables of a called procedure that are no inputs start with false or 0.
+fn push_defaults(state: &mut Vec<Val>, variables: &[VarInfo]) -> Result<(), AllocError>
+    ensures { OnOk result (state.new.items ≡ state.old.items ++ map default_of (type_list (map variable_of variables.now))) }
 {
-    let mut state = values;
-    for variable in &callee.vars[callee.inputs as usize..] {
+    for variable in variables {
         state.push(default(variable.ty))?;
     }
-    Ok(state)
+    Ok(())
 }
 
 /// One item for each output of a called procedure.

@@ -1,6 +1,6 @@
 //! The test of a loop.
 
-ghost use Rattle.std.specs.Prelude.{◌≡◌, ◌<◌, ◌≤◌, ◌+◌, ◌^◌, ℕ, IfOk, get_or, is_some, length};
+ghost use Rattle.std.specs.Prelude.{◌≡◌, ◌==◌, ◌<◌, ◌+◌, ◌^◌, ℕ, IfOk, get_or, is_some, length, if◌then◌else◌};
 ghost use Rattle.heylo_formula.specs.PlainTrees.{cond_of};
 ghost use Rattle.heyvl_types.specs.Places.{in_order};
 ghost use Rattle.heyvl_types.specs.PlainActs.{acts_of};
@@ -53,15 +53,26 @@ fn turned(
     requires few { (k : ℕ) → get_or config.now.turns.items k 0 < 2 ^ 31 }
     ensures { IfOk result (λ next. stored next ≡ turned_at (stored config.now) p place one.now.number (acts_of one.now.body.items)) }
 {
+    let turns = turns_after(alloc, config, p, one.number)?;
     let mut items = Vec::new(alloc);
     push_block(&mut items, p, place + 1, &one.body)?;
     items.push(Item::Turn(p, place))?;
     items.extend_from_slice(rest_of(config))?;
     let mut next = with_items(alloc, config, items)?;
-    if p == config.proc {
-        count_turn(&mut next.turns, one.number);
-    }
+    next.turns = turns;
     Ok(next)
+}
+
+/// The turns after one turn more of a loop of this procedure.
+fn turns_after(alloc: Global, config: &Config, p: u32, number: u32) -> Result<Vec<u64>, AllocError>
+    requires { (k : ℕ) → get_or config.now.turns.items k 0 < 2 ^ 31 }
+    ensures { IfOk result (λ turns. turns.items ≡ (if p == config.now.proc then more_turns number config.now.turns.items else config.now.turns.items)) }
+{
+    let mut turns = Vec::from_slice(alloc, &config.turns)?;
+    if p == config.proc {
+        count_turn(&mut turns, number);
+    }
+    Ok(turns)
 }
 
 /// One turn more of a loop; the loops are numbered from 1.

@@ -13,5 +13,5 @@ loop-part-preserved c =
     let meant = c.in-Some.ensures.meaning ∙ ap (λ s. term_value (term_of c.part-item.result.1) (environment s)) c.deref.ensures.value in
     record {
       fits = c.loop-part.invariant.fits ∙ parts_next c.args.config.now.state.items c.args.parts.now c.loop-part.part-index c.part-item.result c.in-Some.value c.loop-part-test.true c.part-item.is fits;
-      outcomes = c.loop-part.invariant.outcomes ∙ draw_more (stored c.args.config.now) c.args.x c.args.parts.now c.loop-part.part-index c.part-item.result c.loop-part.outcomes.items c.push.new.self.items c.in_ok-next.next c.in-Some.value c.loop-part-test.true c.part-item.is c.in_ok-push.ensures.items c.in_ok-next.ensures meant;
+      outcomes = c.loop-part.invariant.outcomes ∙ draw_more (stored c.args.config.now) c.args.x c.args.parts.now c.loop-part.part-index c.part-item.result c.loop-part.outcomes.items c.push.new.self.items c.in_ok-next-in-Some.next c.in-Some.value c.loop-part-test.true c.part-item.is c.in_ok-push-in-Some.ensures.items c.in_ok-next-in-Some.ensures meant;
     }
