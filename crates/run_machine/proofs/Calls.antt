@@ -86,7 +86,7 @@ enters ps c p place q xs es span vs g n =
 pub entered_config : (ps : List TypedProcedure) (c : Stored) (p place q : ℕ) (xs : List ℕ) (es : List Term) (span : Span) (vs : List Val) → Names ps p place (Act.call xs q es span) → ReachesPrograms ps q → IsState (procedure_at ps q) (first_state (procedure_at ps q) vs) → AreLists ps c.procedure p (behind c) c.state (reverse c.frames) → length c.turns ≡ (procedure_at ps c.procedure).loops → IsConfig ps (entered c p place q (procedure_at ps q) vs)
 entered_config ps c p place q xs es span vs n r st lists ts = record {
   running = q;
-  lists = subst (λ fs. AreLists ps c.procedure q _ (first_state (procedure_at ps q) vs) fs) (sym (reverse_more c.frames (behind c, c.state)))
+  lists = subst (λ fs. AreLists ps c.procedure q (out_items q (length (procedure_at ps q).inputs) (length (procedure_at ps q).outputs) ++ (numbered q 0 (acts_in (procedure_at ps q).body) ++ (Back p place ∷ []))) (first_state (procedure_at ps q) vs) fs) (sym (reverse_more c.frames (behind c, c.state)))
     ( p
     , ( record { front = callee_list ps q; place = place; targets = xs; arguments = es; span = span; ends = callee_ends ps p place q; names = n; runs = r; belong = each_append (IsItemOf ps q) _ _ (outs_belong ps q _ _ (omega arith) (let l = length-append (procedure_at ps q).inputs (procedure_at ps q).outputs in omega (arith, l))) (block_belongs ps q 0 (acts_in (procedure_at ps q).body) (text_stands ps q) (program_runs ps q r)) }
       , (st, lists) ) );
@@ -136,11 +136,17 @@ pub record Returning (ps : List TypedProcedure) (start p r : ℕ) (rest : List N
   pub state : IsState (procedure_at ps r) s
   pub waits : AreLists ps start p f.0 f.1 fs
 
+pub call_names : (ps : List TypedProcedure) (start n p place : ℕ) (rest : List Numbered) (s : List Val) (f : Lists) (fs : List Lists) (h : AreLists ps start n (Back p place ∷ rest) s (f ∷ fs)) → Names ps p place (Act.call h.1.0.targets n h.1.0.arguments h.1.0.span)
+call_names ps start n p place rest s f fs h =
+    let q = h.1.0 in
+    let l = last_item ps h.0 n p place rest q in
+    subst (λ m. Names ps m place (Act.call q.targets n q.arguments q.span)) l.caller (subst (λ k. Names ps h.0 k (Act.call q.targets n q.arguments q.span)) l.there q.names)
+
 pub returning : (ps : List TypedProcedure) (start n p place r : ℕ) (xs : List ℕ) (es : List Term) (span : Span) (rest : List Numbered) (s : List Val) (f : Lists) (fs : List Lists) → Names ps p place (Act.call xs r es span) → AreLists ps start n (Back p place ∷ rest) s (f ∷ fs) → Returning ps start p r rest s f fs
 returning ps start n p place r xs es span rest s f fs named h =
     let q = h.1.0 in
     let l = last_item ps h.0 n p place rest q in
-    let names : Names ps p place (Act.call q.targets n q.arguments q.span) = subst (λ m. Names ps m place (Act.call q.targets n q.arguments q.span)) l.caller (subst (λ k. Names ps h.0 k (Act.call q.targets n q.arguments q.span)) l.there q.names) in
+    let names : Names ps p place (Act.call q.targets n q.arguments q.span) = call_names ps start n p place rest s f fs h in
     let callee : n ≡ r = same_callee q.targets xs n r q.arguments es q.span span (sym names ∙ named) in
     record { alone = l.alone; state = subst (λ k. IsState (procedure_at ps k) s) callee h.1.1.0; waits = subst (λ m. AreLists ps start m f.0 f.1 fs) l.caller h.1.1.1 }
 
@@ -150,4 +156,4 @@ resumes ps c p place r xs es span f gs is e n h =
     ∙ sym (ap₂ (λ l fs. step_back ps is (config_of ps c) (callers ps l fs)) e h ∙ ap (λ t. sure (returned ps (config_of ps c) (record { items = items_of ps f.0; state = f.1; targets = t.0; callee = t.1 }) (callers ps f.0 gs))) (ap call_parts n))
 
 pub resumed_config : (ps : List TypedProcedure) (c : Stored) (p r : ℕ) (xs : List ℕ) (f : Lists) (gs : List Lists) → AreLists ps c.procedure p f.0 f.1 gs → IsState (procedure_at ps p) (set_all xs (outputs_of (procedure_at ps r) c.state) f.1) → length c.turns ≡ (procedure_at ps c.procedure).loops → IsConfig ps (resumed c xs (procedure_at ps r) (reverse gs) f)
-resumed_config ps c p r xs f gs lists st ts = record { running = p; lists = subst (λ l. AreLists ps c.procedure p f.0 _ l) (sym (reverse-reverse gs)) (lists_restate ps c.procedure p f.0 f.1 _ gs st lists); turns = ts }
+resumed_config ps c p r xs f gs lists st ts = record { running = p; lists = subst (λ l. AreLists ps c.procedure p f.0 (set_all xs (outputs_of (procedure_at ps r) c.state) f.1) l) (sym (reverse-reverse gs)) (lists_restate ps c.procedure p f.0 f.1 (set_all xs (outputs_of (procedure_at ps r) c.state) f.1) gs st lists); turns = ts }

@@ -12,6 +12,7 @@ mod Positions
 mod Replies
 mod Running
 mod Steps
+mod VariableTypes
 mod RuledActs
 mod TypedStates
 mod Procedures

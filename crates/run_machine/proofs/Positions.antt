@@ -29,11 +29,11 @@ record Opens (ps : List TypedProcedure) (m n : ℕ) (i : Numbered) (rest : List 
   called : IsCalled ps m n rest
 
 opens_list : (ps : List TypedProcedure) (m n : ℕ) (i : Numbered) (rest front : List Numbered) (q : IsCalled ps m n (i ∷ rest)) → NoReturn i → front ≡ q.front → Opens ps m n i rest
-opens_list ps m n i rest [] q no e = absurd (subst NoReturn (first_is i _ rest [] (q.ends ∙ ap (λ l. l ++ (Back m q.place ∷ [])) (sym e))) no)
+opens_list ps m n i rest [] q plain e = absurd (subst NoReturn (first_is i _ rest [] (q.ends ∙ ap (λ l. l ++ (Back m q.place ∷ [])) (sym e))) plain)
   where
     first_is : (x y : Numbered) (xs ys : List Numbered) → x ∷ xs ≡ y ∷ ys → x ≡ y
     first_is x y xs ys h = cc
-opens_list ps m n i rest (x ∷ front) q no e =
+opens_list ps m n i rest (x ∷ front) q plain e =
     let each = subst (Each (IsItemOf ps n)) (sym e) q.belong in
     let ends = q.ends ∙ ap (λ l. l ++ (Back m q.place ∷ [])) (sym e) in
     record { belongs = subst (IsItemOf ps n) (sym (first_is i x rest _ ends)) each.0; called = record { front = front; place = q.place; targets = q.targets; arguments = q.arguments; span = q.span; ends = rest_is i x rest _ ends; names = q.names; runs = q.runs; belong = each.1 } }
@@ -50,24 +50,24 @@ called_front ps m n (i ∷ front) rest h q = let k = called_front ps m n front r
 -- ---- Other items and another state
 
 lists_go : (ps : List TypedProcedure) (start n : ℕ) (i : Numbered) (rest front : List Numbered) (s t : List Val) (fs : List Lists) → NoReturn i → Each (IsItemOf ps n) front → IsState (procedure_at ps n) t → AreLists ps start n (i ∷ rest) s fs → AreLists ps start n (front ++ rest) t fs
-lists_go ps start n i rest front s t [] no each st h = (h.0, (each_append (IsItemOf ps n) front rest each h.1.0.1, st))
-lists_go ps start n i rest front s t (f ∷ fs) no each st h = (h.0, (called_front ps h.0 n front rest each (opens_list ps h.0 n i rest h.1.0.front h.1.0 no refl).called, (st, h.1.1.1)))
+lists_go ps start n i rest front s t [] plain each st h = (h.0, (each_append (IsItemOf ps n) front rest each h.1.0.1, st))
+lists_go ps start n i rest front s t (f ∷ fs) plain each st h = (h.0, (called_front ps h.0 n front rest each (opens_list ps h.0 n i rest h.1.0.front h.1.0 plain refl).called, (st, h.1.1.1)))
 
 pub lists_state : (ps : List TypedProcedure) (start n : ℕ) (is : List Numbered) (s : List Val) (fs : List Lists) → AreLists ps start n is s fs → IsState (procedure_at ps n) s
 lists_state ps start n is s [] h = h.1.1
 lists_state ps start n is s (f ∷ fs) h = h.1.1.0
 
 lists_first : (ps : List TypedProcedure) (start n : ℕ) (i : Numbered) (rest : List Numbered) (s : List Val) (fs : List Lists) → NoReturn i → AreLists ps start n (i ∷ rest) s fs → IsItemOf ps n i
-lists_first ps start n i rest s [] no h = h.1.0.0
-lists_first ps start n i rest s (f ∷ fs) no h = (opens_list ps h.0 n i rest h.1.0.front h.1.0 no refl).belongs
+lists_first ps start n i rest s [] plain h = h.1.0.0
+lists_first ps start n i rest s (f ∷ fs) plain h = (opens_list ps h.0 n i rest h.1.0.front h.1.0 plain refl).belongs
 
 goes_on : (front : List Numbered) (i j : Numbered) (rest : List Numbered) (f : Lists) (fs : List Lists) → rest ≡ front ++ (j ∷ []) → GoesOn (i ∷ rest) (f ∷ fs)
 goes_on [] i j rest f fs e = subst (λ l. GoesOn (i ∷ l) (f ∷ fs)) (sym e) tt
 goes_on (x ∷ front) i j rest f fs e = subst (λ l. GoesOn (i ∷ l) (f ∷ fs)) (sym e) tt
 
 lists_continue : (ps : List TypedProcedure) (start n : ℕ) (i : Numbered) (rest : List Numbered) (s : List Val) (fs : List Lists) → NoReturn i → AreLists ps start n (i ∷ rest) s fs → GoesOn (i ∷ rest) fs
-lists_continue ps start n i rest s [] no h = tt
-lists_continue ps start n i rest s (f ∷ fs) no h = let q = (opens_list ps h.0 n i rest h.1.0.front h.1.0 no refl).called in goes_on q.front i _ rest f fs q.ends
+lists_continue ps start n i rest s [] plain h = tt
+lists_continue ps start n i rest s (f ∷ fs) plain h = let q = (opens_list ps h.0 n i rest h.1.0.front h.1.0 plain refl).called in goes_on q.front i _ rest f fs q.ends
 
 pub last_is : (ps : List TypedProcedure) (front : List Numbered) (j : Numbered) → last_call ps (front ++ (j ∷ [])) ≡ call_of ps j
 last_is ps [] j = refl
@@ -91,14 +91,14 @@ pub record At (ps : List TypedProcedure) (c : Stored) (i : Numbered) (n : ℕ) :
   pub goes : (front : List Numbered) (t : List Val) → Each (IsItemOf ps n) front → IsState (procedure_at ps n) t → AreLists ps c.procedure n (front ++ behind c) t (reverse c.frames)
 
 pub position : (ps : List TypedProcedure) (c : Stored) (i : Numbered) (rest : List Numbered) (h : IsConfig ps c) → c.items ≡ i ∷ rest → NoReturn i → At ps c i h.running
-position ps c i rest h e no =
+position ps c i rest h e plain =
     let lists = subst (λ l. AreLists ps c.procedure h.running l c.state (reverse c.frames)) e h.lists in
     record {
-      continues = subst (λ l. GoesOn l (reverse c.frames)) (sym e) (lists_continue ps c.procedure h.running i rest c.state (reverse c.frames) no lists);
-      belongs = lists_first ps c.procedure h.running i rest c.state (reverse c.frames) no lists;
+      continues = subst (λ l. GoesOn l (reverse c.frames)) (sym e) (lists_continue ps c.procedure h.running i rest c.state (reverse c.frames) plain lists);
+      belongs = lists_first ps c.procedure h.running i rest c.state (reverse c.frames) plain lists;
       state = lists_state ps c.procedure h.running c.items c.state (reverse c.frames) h.lists;
       runs = lists_running ps c.procedure h.running c.items c.state (reverse c.frames) h.lists;
-      goes = λ front t each st. subst (λ l. AreLists ps c.procedure h.running (front ++ l) t (reverse c.frames)) (sym (ap (λ l. drop 1 l) e)) (lists_go ps c.procedure h.running i rest front c.state t (reverse c.frames) no each st lists);
+      goes = λ front t each st. subst (λ l. AreLists ps c.procedure h.running (front ++ l) t (reverse c.frames)) (sym (ap (λ l. drop 1 l) e)) (lists_go ps c.procedure h.running i rest front c.state t (reverse c.frames) plain each st lists);
     }
 
 -- The same lists with another state beside the items.

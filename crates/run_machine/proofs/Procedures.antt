@@ -42,12 +42,15 @@ missing [] n h = refl
 missing (r ∷ qs) zero h = cc
 missing (r ∷ qs) (suc n) h = missing qs n h
 
-pub text_stands : (ps : List TypedProcedure) (p : ℕ) → Stands (text ps p) 0 (in_order (acts_in (procedure_at ps p).body))
-text_stands ps p = go (nth ps p) refl
+pub text_is : (ps : List TypedProcedure) (p : ℕ) → text ps p ≡ in_order (acts_in (procedure_at ps p).body)
+text_is ps p = go (nth ps p) refl
   where
-    go : (o : Option TypedProcedure) → nth ps p ≡ o → Stands (text ps p) 0 (in_order (acts_in (procedure_at ps p).body))
-    go (Some q) e = subst (λ l. Stands l 0 (in_order (acts_in (procedure_at ps p).body))) (sym (ap acts_of_procedure e ∙ ap (λ r. in_order (acts_in r.body)) (sym (found ps p q e)))) (at_start (in_order (acts_in (procedure_at ps p).body)))
-    go None e = subst (λ r. Stands (text ps p) 0 (in_order (acts_in r.body))) (sym (missing ps p e)) (λ k a n. elim (none-some a n) [ ])
+    go : (o : Option TypedProcedure) → nth ps p ≡ o → text ps p ≡ in_order (acts_in (procedure_at ps p).body)
+    go (Some q) e = ap acts_of_procedure e ∙ ap (λ r. in_order (acts_in r.body)) (sym (found ps p q e))
+    go None e = ap acts_of_procedure e ∙ ap (λ r. in_order (acts_in r.body)) (sym (missing ps p e))
+
+pub text_stands : (ps : List TypedProcedure) (p : ℕ) → Stands (text ps p) 0 (in_order (acts_in (procedure_at ps p).body))
+text_stands ps p = subst (λ l. Stands l 0 (in_order (acts_in (procedure_at ps p).body))) (sym (text_is ps p)) (at_start (in_order (acts_in (procedure_at ps p).body)))
 
 -- The items of a procedure's body, from its first place on, name its acts.
 pub body_named : (ps : List TypedProcedure) (p : ℕ) (rest : List Numbered) → items_of ps (numbered p 0 (acts_in (procedure_at ps p).body) ++ rest) ≡ push (acts_in (procedure_at ps p).body) (items_of ps rest)

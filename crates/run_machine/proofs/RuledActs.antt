@@ -21,12 +21,9 @@ use Rattle.run_machine.specs.internal.Counts.{IsSmall}
 use Rattle.run_machine.proofs.Procedures.{found}
 
 pub each_nth : {A : Type 0} (P : A → Type 0) (xs : List A) (n : ℕ) (x : A) → Each P xs → nth xs n ≡ Some x → P x
-each_nth P [] n x h e = elim (none-some x e) [ ]
-each_nth P (y ∷ xs) zero x h e = subst P (same y x e) h.0
-  where
-    same : (y z : A) → Some y ≡ Some z → y ≡ z
-    same y z k = cc
-each_nth P (y ∷ xs) (suc n) x h e = each_nth P xs n x h.1 e
+each_nth {A = A} P [] n x h e = elim (none-some x e) [ ]
+each_nth {A = A} P (y ∷ xs) zero x h e = subst P (let k : y ≡ x = cc in k) h.0
+each_nth {A = A} P (y ∷ xs) (suc n) x h e = each_nth P xs n x h.1 e
 
 -- ---- Types and targets
 
@@ -128,11 +125,11 @@ runs_all ps co (Act.draw x qs span ∷ rest) h k = (tt, runs_all ps co rest h k)
 runs_all ps co (Act.any x up ty span ∷ rest) h k = (tt, runs_all ps co rest h k)
 runs_all ps co (Act.reward f span ∷ rest) h k = (tt, runs_all ps co rest h k)
 runs_all ps co (Act.ifs arms e span ∷ rest) h k = (tt, runs_all ps co rest h k)
-runs_all ps co (Act.pick up a b span ∷ rest) h k = go (agree co up) refl
+runs_all ps co (Act.pick up a b span ∷ rest) h k = go (agree co up) refl (λ l. runs_all ps co rest l k)
   where
-    go : (t : Bool) → agree co up ≡ t → Each (CanRun ps) (Act.pick up a b span ∷ rest)
-    go true e = (tt, runs_all ps co rest (rw e at h) k)
-    go false e = let l = rw e at h in absurd (cc)
+    go : (t : Bool) → agree co up ≡ t → (first_break co rest ≡ None → Each (CanRun ps) rest) → Each (CanRun ps) (Act.pick up a b span ∷ rest)
+    go true e more = (tt, more (rw e at h))
+    go false e more = let l = rw e at h in absurd (cc)
 runs_all ps co (Act.check kind f span ∷ rest) h k = absurd (cc)
 runs_all ps co (Act.validate up span ∷ rest) h k = absurd (cc)
 runs_all ps co (Act.call ys q es span ∷ rest) h k = (k q (or_left (q == q) (calls q rest) (same_is q)), runs_all ps co rest h (λ r e. k r (or_right (q == r) (calls r rest) e)))

@@ -32,24 +32,24 @@ block_belongs ps n place (Acts.next a rest) s r =
     , block_belongs ps n (place + suc (length (inside a))) rest (subst (λ m. Stands (text ps n) m (in_order rest)) (omega arith) (part_second (text ps n) (suc place) (inside a) (in_order rest) (part_rest (text ps n) place a (inside a ++ in_order rest) s))) (each_second (CanRun ps) (inside a) (in_order rest) r.1) )
 
 -- The block that an if takes.
+stands_apart : (xs : List Act) (n : ℕ) (b : Acts) (more : Arms) (e : Acts) → Stands xs n ((in_order b ++ inside_arms more) ++ in_order e) → Stands xs n (in_order b ++ (inside_arms more ++ in_order e))
+stands_apart xs n b more e h = subst (Stands xs n) (append_assoc (in_order b) (inside_arms more) (in_order e)) h
+
+one_stands : (xs : List Act) (n m : ℕ) (b d : Acts) (t : Bool) → Stands xs n (in_order b) → Stands xs m (in_order d) → Stands xs (if t then n else m) (in_order (if t then b else d))
+one_stands xs n m b d true h k = h
+one_stands xs n m b d false h k = k
+
 pub taken_stands : (xs : List Act) (n : ℕ) (arms : Arms) (e : Acts) (s : Env) → Stands xs n (inside_arms arms ++ in_order e) → Stands xs (taken_place n arms s) (in_order (taken arms e s))
 taken_stands xs n Arms.no_arm e s h = h
-taken_stands xs n (Arms.arm g b more) e s h = go (holds g s Choices.stop)
-  where
-    apart : Stands xs n (in_order b ++ (inside_arms more ++ in_order e))
-    apart = subst (Stands xs n) (append_assoc (in_order b) (inside_arms more) (in_order e)) h
+taken_stands xs n (Arms.arm g b more) e s h = one_stands xs n _ b _ (holds g s Choices.stop) (part_first xs n (in_order b) (inside_arms more ++ in_order e) (stands_apart xs n b more e h)) (taken_stands xs (n + length (in_order b)) more e s (part_second xs n (in_order b) (inside_arms more ++ in_order e) (stands_apart xs n b more e h)))
 
-    go : (t : Bool) → Stands xs (if t then n else taken_place (n + length (in_order b)) more s) (in_order (if t then b else taken more e s))
-    go true = part_first xs n (in_order b) (inside_arms more ++ in_order e) apart
-    go false = taken_stands xs (n + length (in_order b)) more e s (part_second xs n (in_order b) (inside_arms more ++ in_order e) apart)
+runs_apart : (ps : List TypedProcedure) (b : Acts) (more : Arms) (e : Acts) → Each (CanRun ps) ((in_order b ++ inside_arms more) ++ in_order e) → Each (CanRun ps) (in_order b ++ (inside_arms more ++ in_order e))
+runs_apart ps b more e h = subst (Each (CanRun ps)) (append_assoc (in_order b) (inside_arms more) (in_order e)) h
+
+one_runs : (ps : List TypedProcedure) (b d : Acts) (t : Bool) → Each (CanRun ps) (in_order b) → Each (CanRun ps) (in_order d) → Each (CanRun ps) (in_order (if t then b else d))
+one_runs ps b d true h k = h
+one_runs ps b d false h k = k
 
 pub taken_runs : (ps : List TypedProcedure) (arms : Arms) (e : Acts) (s : Env) → Each (CanRun ps) (inside_arms arms ++ in_order e) → Each (CanRun ps) (in_order (taken arms e s))
 taken_runs ps Arms.no_arm e s h = h
-taken_runs ps (Arms.arm g b more) e s h = go (holds g s Choices.stop)
-  where
-    apart : Each (CanRun ps) (in_order b ++ (inside_arms more ++ in_order e))
-    apart = subst (Each (CanRun ps)) (append_assoc (in_order b) (inside_arms more) (in_order e)) h
-
-    go : (t : Bool) → Each (CanRun ps) (in_order (if t then b else taken more e s))
-    go true = each_first (CanRun ps) (in_order b) (inside_arms more ++ in_order e) apart
-    go false = taken_runs ps more e s (each_second (CanRun ps) (in_order b) (inside_arms more ++ in_order e) apart)
+taken_runs ps (Arms.arm g b more) e s h = one_runs ps b _ (holds g s Choices.stop) (each_first (CanRun ps) (in_order b) (inside_arms more ++ in_order e) (runs_apart ps b more e h)) (taken_runs ps more e s (each_second (CanRun ps) (in_order b) (inside_arms more ++ in_order e) (runs_apart ps b more e h)))

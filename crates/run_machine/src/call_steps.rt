@@ -67,8 +67,8 @@ fn enter(
     push_outs(&mut items, q, callee)?;
     push_body(&mut items, typed, q)?;
     items.push(Item::Back(p, place))?;
-    let mut state = values;
-    push_defaults(&mut state, &callee.vars[callee.inputs as usize..])?;
+    let others = &callee.vars[callee.inputs as usize..];
+    let state = with_defaults(values, others)?;
     let mut frames = copy_frames(alloc, &config.frames)?;
     frames.push(waiting(alloc, config)?)?;
     Ok(Config {
@@ -92,14 +92,15 @@ fn waiting(alloc: Global, config: &Config) -> Result<Frame, AllocError>
     })
 }
 
-/// Variables of a called procedure that are no inputs start with false or 0.
-fn push_defaults(state: &mut Vec<Val>, variables: &[VarInfo]) -> Result<(), AllocError>
-    ensures { OnOk result (state.new.items ≡ state.old.items ++ map default_of (type_list (map variable_of variables.now))) }
+/// These values, and false or 0 for each of the other variables.
+fn with_defaults(values: Vec<Val>, others: &[VarInfo]) -> Result<Vec<Val>, AllocError>
+    ensures { IfOk result (λ state. state.items ≡ values.items ++ map default_of (type_list (map variable_of others.now))) }
 {
-    for variable in variables {
+    let mut state = values;
+    for variable in others {
         state.push(default(variable.ty))?;
     }
-    Ok(())
+    Ok(state)
 }
 
 /// One item for each output of a called procedure.

@@ -8,8 +8,8 @@ ghost use Rattle.run_machine.specs.ConfigConditions.{HasRoom, IsConfig};
 ghost use Rattle.run_machine.specs.Names.{HasFewActs, decision_of, stored};
 ghost use Rattle.run_machine.specs.Step.{Decision};
 ghost use Rattle.run_machine.specs.StepAnswers.{IsStep};
-ghost use Rattle.run_machine.specs.declared.configurations.Item.TheVariants.{Do, Turn, Out, Back};
-ghost use Rattle.run_machine.specs.internal.Comings.{ComesNext};
+ghost use Rattle.run_machine.specs.declared.configurations.Item.TheVariants.{Back};
+ghost use Rattle.run_machine.specs.internal.Comings.{ComesNext, IsAt, ReturnsNext};
 
 use crate::block_steps::{if_step, pick_step};
 use crate::call_steps::{back_step, call_step};
@@ -39,7 +39,7 @@ pub fn step(
     match config.items.first() {
         None => Ok(Stepped::Next(Vec::new(alloc))),
         Some(Item::Do(p, place)) => do_step(alloc, typed, config, *p, *place, decision),
-        Some(Item::Turn(p, place)) => turn_step(alloc, typed, config, *p, *place),
+        Some(Item::Turn(p, place)) => do_step(alloc, typed, config, *p, *place, decision),
         Some(Item::Out(q, x)) => {
             any_step(alloc, config, *x, type_of(typed, *q, *x), decision)
         }
@@ -47,7 +47,7 @@ pub fn step(
     }
 }
 
-/// The step of the act at this place.
+/// The step of the act, or of the test of the loop under way, at this place.
 fn do_step(
     alloc: Global,
     typed: &Typed,
@@ -60,7 +60,7 @@ fn do_step(
     requires few { HasFewActs (procedures_of typed.now) }
     requires config { IsConfig (procedures_of typed.now) (stored config.now) }
     requires room { HasRoom (stored config.now) }
-    requires first { config.now.items.items ≡ Do p place ∷ drop 1 config.now.items.items }
+    requires first { IsAt p place config.now.items.items }
     ensures { IfOk result (λ stepped. IsStep (procedures_of typed.now) (stored config.now) (decision_of decision.entry) stepped) }
 {
     match act_at(typed, p, place) {
@@ -101,27 +101,6 @@ fn act_step(
     }
 }
 
-/// The step of the test of the loop under way at this place.
-fn turn_step(
-    alloc: Global,
-    typed: &Typed,
-    config: &Config,
-    p: u32,
-    place: u32,
-) -> Result<Stepped, AllocError>
-    requires rules { MeetsAllRules typed.now }
-    requires few { HasFewActs (procedures_of typed.now) }
-    requires config { IsConfig (procedures_of typed.now) (stored config.now) }
-    requires room { HasRoom (stored config.now) }
-    requires first { config.now.items.items ≡ Turn p place ∷ drop 1 config.now.items.items }
-    ensures { IfOk result (λ stepped. (d : Decision) → IsStep (procedures_of typed.now) (stored config.now) d stepped) }
-{
-    match act_at(typed, p, place) {
-        Some(Act::Loop(one)) => test_step(alloc, config, p, place, one),
-        _ => unreachable!(),
-    }
-}
-
 /// The step of the return to the call at this place.
 fn return_step(
     alloc: Global,
@@ -136,7 +115,24 @@ fn return_step(
     ensures { IfOk result (λ stepped. (d : Decision) → IsStep (procedures_of typed.now) (stored config.now) d stepped) }
 {
     match act_at(typed, p, place) {
-        Some(Act::Call(targets, q, _, _)) => back_step(alloc, typed, config, targets, *q),
+        None => unreachable!(),
+        Some(act) => to_call(alloc, typed, config, act),
+    }
+}
+
+/// The step of the return to this call.
+fn to_call(
+    alloc: Global,
+    typed: &Typed,
+    config: &Config,
+    act: &Act,
+) -> Result<Stepped, AllocError>
+    requires rules { MeetsAllRules typed.now }
+    requires returns { ReturnsNext (procedures_of typed.now) (stored config.now) (act_of act.now) }
+    ensures { IfOk result (λ stepped. (d : Decision) → IsStep (procedures_of typed.now) (stored config.now) d stepped) }
+{
+    match act {
+        Act::Call(targets, q, _, _) => back_step(alloc, typed, config, targets, *q),
         _ => unreachable!(),
     }
 }
