@@ -181,7 +181,7 @@ if_is ps c d r p place arms other span h e =
 
 pub pick_is : (ps : List TypedProcedure) (c : Stored) (d : Decision) (r : Stepped) (p place : ℕ) (up : Bool) (a b : Acts) (span : Span) → ComesNext ps c p place (Act.pick up a b span) → reply_of r ≡ replied true (surely (asked (if side_of d then opened c p (place + 1) a else opened c p (place + 1 + length (in_order a)) b))) → IsStep ps c d r
 pick_is ps c d r p place up a b span h e =
-    one_step ps c d r (Do p place) (Item.act (Act.pick up a b span)) true (asked (if side_of d then opened c p (place + 1) a else opened c p (place + 1 + length (in_order a)) b)) k.first (ap act_item h.names) e refl (ap sure (moves_to (side_of d))) (record { asks = asks (side_of d); config = meets (side_of d) }, tt)
+    one_step ps c d r (Do p place) (Item.act (Act.pick up a b span)) true (asked (if side_of d then opened c p (place + 1) a else opened c p (place + 1 + length (in_order a)) b)) k.first (ap act_item h.names) e refl (ap sure (moves_to (side_of d))) (record { asks = asks (side_of d); config = meets (side_of d) })
   where
     k : Known ps c p place (Act.pick up a b span)
     k = known ps c p place (Act.pick up a b span) h tt
@@ -237,7 +237,7 @@ test_comes : (ps : List TypedProcedure) (c : Stored) (i : Numbered) (p place : �
 test_comes ps c i p place h b k = go (holds h.guard (environment c.state) Choices.stop)
   where
     again : Each (IsItemOf ps p) (Turn p place ∷ [])
-    again = ((refl, record { head = h; body = b; named = k.names; runs = k.runs }))
+    again = ((refl, record { head = h; body = b; named = k.names; runs = k.runs }), tt)
 
     go : (t : Bool) → Comes ps (c.made + 0) (oneʳ, (if t then turned_at c p place h.number b else going c (behind c) c.state))
     go true = record { asks = no_more c.made; config = record {
@@ -362,6 +362,23 @@ back_called ps c p place h f = go (reverse c.frames) (subst (λ l. AreLists ps c
 
 pub some_call : (ps : List TypedProcedure) (c : Stored) (p place : ℕ) → IsConfig ps c → c.items ≡ Back p place ∷ drop 1 c.items → act_named ps p place ≡ None → ⊥
 some_call ps c p place h f e = let k = back_called ps c p place h f in elim (none-some (Act.call k.targets k.callee k.arguments k.span) (sym e ∙ k.names)) [ ]
+
+-- The act is no call.
+abbrev NoCall : Act → Type 0
+NoCall (Act.call xs q es span) = ⊥
+NoCall (Act.set x t span) = Unit {0}
+NoCall (Act.draw x qs span) = Unit {0}
+NoCall (Act.any x up ty span) = Unit {0}
+NoCall (Act.reward f span) = Unit {0}
+NoCall (Act.ifs arms e span) = Unit {0}
+NoCall (Act.pick up a b span) = Unit {0}
+NoCall (Act.check kind f span) = Unit {0}
+NoCall (Act.validate co span) = Unit {0}
+NoCall (Act.loop h b) = Unit {0}
+
+-- A return comes to a call alone.
+pub to_no_other : (ps : List TypedProcedure) (c : Stored) (a : Act) → ReturnsNext ps c a → NoCall a → ⊥
+to_no_other ps c a h other = let k = back_called ps c h.p h.place h.config h.first in subst NoCall (same_act a (Act.call k.targets k.callee k.arguments k.span) (sym h.names ∙ k.names)) other
 
 -- The call to which a return comes: it is there, and the running procedure has a state.
 pub back_there : (ps : List TypedProcedure) (c : Stored) (q : ℕ) (xs : List ℕ) (es : List Term) (span : Span) → ReturnsNext ps c (Act.call xs q es span) → q < length ps

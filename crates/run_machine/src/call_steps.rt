@@ -1,6 +1,6 @@
 //! Calls and returns.
 
-ghost use Rattle.std.specs.Prelude.{◌≡◌, ◌<◌, ◌≤◌, ◌+◌, ◌++◌, ◌∷◌, [], ◌^◌, List, IfOk, OnOk, length, map, true};
+ghost use Rattle.std.specs.Prelude.{◌≡◌, ◌<◌, ◌≤◌, ◌+◌, ◌++◌, ◌∷◌, [], ◌^◌, List, IfOk, OnOk, drop, length, map, true};
 ghost use Rattle.heylo_formula.specs.State.{default as default_of, environment};
 ghost use Rattle.heyvl_types.specs.Acts.{procedure_at, type_list};
 ghost use Rattle.heyvl_types.specs.PlainActs.{procedure_of, procedures_of, terms_of, variable_of};
@@ -20,7 +20,7 @@ use crate::plain_steps::pass_step;
 use crate::starting::push_body;
 use crate::taking::default;
 use heylo_formula::{Term, Val};
-use heyvl_types::{TProc, Typed, VarInfo};
+use heyvl_types::{TProc, Typed};
 use std::alloc::{AllocError, Global};
 
 /// The step of a call that stands at this place.
@@ -67,8 +67,7 @@ fn enter(
     push_outs(&mut items, q, callee)?;
     push_body(&mut items, typed, q)?;
     items.push(Item::Back(p, place))?;
-    let others = &callee.vars[callee.inputs as usize..];
-    let state = with_defaults(values, others)?;
+    let state = first_state(callee, values)?;
     let mut frames = copy_frames(alloc, &config.frames)?;
     frames.push(waiting(alloc, config)?)?;
     Ok(Config {
@@ -92,12 +91,13 @@ fn waiting(alloc: Global, config: &Config) -> Result<Frame, AllocError>
     })
 }
 
-/// These values, and false or 0 for each of the other variables.
-fn with_defaults(values: Vec<Val>, others: &[VarInfo]) -> Result<Vec<Val>, AllocError>
-    ensures { IfOk result (λ state. state.items ≡ values.items ++ map default_of (type_list (map variable_of others.now))) }
+/// The state in which a called procedure starts: its inputs have these values, every other variable is false or 0.
+fn first_state(callee: &TProc, values: Vec<Val>) -> Result<Vec<Val>, AllocError>
+    requires { IsSmall callee.now }
+    ensures { IfOk result (λ state. state.items ≡ values.items ++ map default_of (type_list (map variable_of (drop callee.now.inputs callee.now.vars.items)))) }
 {
     let mut state = values;
-    for variable in others {
+    for variable in &callee.vars[callee.inputs as usize..] {
         state.push(default(variable.ty))?;
     }
     Ok(state)

@@ -133,7 +133,15 @@ fn to_call(
 {
     match act {
         Act::Call(targets, q, _, _) => back_step(alloc, typed, config, targets, *q),
-        _ => unreachable!(),
+        Act::Set(..) => unreachable!(),
+        Act::Draw(..) => unreachable!(),
+        Act::Any(..) => unreachable!(),
+        Act::Reward(..) => unreachable!(),
+        Act::If(..) => unreachable!(),
+        Act::Pick(..) => unreachable!(),
+        Act::Check(..) => unreachable!(),
+        Act::Validate(..) => unreachable!(),
+        Act::Loop(..) => unreachable!(),
     }
 }
 

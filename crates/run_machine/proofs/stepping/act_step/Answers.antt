@@ -44,7 +44,7 @@ pub returns-in-Set : goal.returns-in-Set
 returns-in-Set c = if_ok c.set_step.result _ _ (λ r h. set_is (procedures_of c.args.typed.now) (stored c.args.config.now) _ r c.args.p c.args.place c.in-Set.x (term_of c.in-Set.term) c.in-Set.field-2 (subst (ComesNext (procedures_of c.args.typed.now) (stored c.args.config.now) c.args.p c.args.place) (ap act_of c.in-Set.is ∙ set_act c.in-Set.x c.in-Set.term c.in-Set.field-2) c.requires.comes) h) c.set_step.ensures
 
 pub returns-in-Draw : goal.returns-in-Draw
-returns-in-Draw c = if_ok c.draw_step.result _ _ (λ r h. draw_is (procedures_of c.args.typed.now) (stored c.args.config.now) _ r c.args.p c.args.place c.in-Draw.x (parts_of c.in-Draw.parts.items) c.in-Draw.field-2 (subst (ComesNext (procedures_of c.args.typed.now) (stored c.args.config.now) c.args.p c.args.place) (ap act_of c.in-Draw.is ∙ draw_act c.in-Draw.x c.in-Draw.parts c.in-Draw.field-2) c.requires.comes) (subst (λ l. reply_of r ≡ replied (parts_fit (parts_of l) c.args.config.now.state.items) (stored_branches (stored c.args.config.now) c.in-Draw.x (parts_of l))) c.deref-in-Draw.ensures.value h)) c.draw_step.ensures
+returns-in-Draw c = if_ok c.draw_step.result _ _ (λ r h. draw_is (procedures_of c.args.typed.now) (stored c.args.config.now) _ r c.args.p c.args.place c.in-Draw.x (parts_of c.in-Draw.parts.items) c.in-Draw.field-2 (subst (ComesNext (procedures_of c.args.typed.now) (stored c.args.config.now) c.args.p c.args.place) (ap act_of c.in-Draw.is ∙ draw_act c.in-Draw.x c.in-Draw.parts c.in-Draw.field-2) c.requires.comes) (subst (λ l. reply_of r ≡ replied (parts_fit (parts_of l) c.args.config.now.state.items) (stored_branches (stored c.args.config.now) c.in-Draw.x (parts_of l))) c.deref.ensures.value h)) c.draw_step.ensures
 
 pub returns-in-Any : goal.returns-in-Any
 returns-in-Any c = if_ok c.any_step.result _ _ (λ r h. any_is (procedures_of c.args.typed.now) (stored c.args.config.now) _ r c.args.p c.args.place c.in-Any.x c.in-Any.field-1 c.in-Any.ty c.in-Any.field-3 (subst (ComesNext (procedures_of c.args.typed.now) (stored c.args.config.now) c.args.p c.args.place) (ap act_of c.in-Any.is ∙ any_act c.in-Any.x c.in-Any.field-1 c.in-Any.ty c.in-Any.field-3) c.requires.comes) h) c.any_step.ensures
