@@ -1,25 +1,24 @@
 -- Calls and returns of stored configurations, as the definition makes them.
-use Rattle.std.proofs.Common.{◌≡◌, ℕ, ◌+◌, ◌≤◌, ◌<◌, append_assoc, refl, ap, ap₂, sym, subst, ◌∙◌, arith, List, [], ◌∷◌, ◌++◌, length, map, reverse, drop}
+use Rattle.std.proofs.Common.{◌≡◌, ℕ, ◌+◌, ◌≤◌, append_assoc, refl, ap, ap₂, sym, subst, ◌∙◌, arith, List, [], ◌∷◌, ◌++◌, length, reverse}
 use Rattle.std.proofs.lemmas.List.{length-append, reverse-append, reverse-reverse}
 use Rattle.std.proofs.lemmas.Option.{none-some}
-use Rattle.std.specs.Prelude.{Option, Some, None}
+use Rattle.std.specs.Prelude.{Some}
 use Prim.Native.Nat.{zero, suc}
 use Rattle.heyvl_syntax.specs.declared.spans.Span.{Span}
 use Rattle.heylo_formula.specs.Formula.{Term}
-use Rattle.heylo_formula.specs.State.{environment}
 use Rattle.heylo_formula.specs.Typing.{types_in}
 use Rattle.heylo_formula.specs.declared.types.Ty.{Ty}
 use Rattle.heylo_formula.specs.declared.values.Val.{Val}
-use Rattle.heyvl_types.specs.Acts.{Act, Acts, TypedProcedure, acts_in, procedure_at, type_list, types_of, variables}
-use Rattle.heyvl_types.specs.Places.{nth, in_order}
-use Rattle.heyvl_types.specs.Rules.{Each, IsOwn}
-use Rattle.run_machine.specs.declared.configurations.Item.TheVariants.{Out, Back}
+use Rattle.heyvl_types.specs.Acts.{Act, TypedProcedure, acts_in, procedure_at, type_list, types_of}
+use Rattle.heyvl_types.specs.Places.{nth}
+use Rattle.heyvl_types.specs.Rules.{Each}
+use Rattle.run_machine.specs.declared.configurations.Item.TheVariants.{Back}
 use Rattle.run_machine.specs.Bound.{IsState}
-use Rattle.run_machine.specs.ConfigConditions.{ReachesPrograms, IsOutput, IsItemOf, IsCalled, AreLists, IsConfig}
-use Rattle.run_machine.specs.Configurations.{Item, Frame, Config, push, outs, callee_items, first_state, outputs_of, set_all}
-use Rattle.run_machine.specs.Names.{Names, Numbered, Lists, Stored, items_of, call_of, call_parts, last_call, callers, turns_of, config_of, numbered}
+use Rattle.run_machine.specs.ConfigConditions.{ReachesPrograms, IsItemOf, IsCalled, AreLists, IsConfig}
+use Rattle.run_machine.specs.Configurations.{Item, outs, callee_items, first_state, outputs_of, set_all}
+use Rattle.run_machine.specs.Names.{Names, Numbered, Lists, Stored, items_of, call_parts, last_call, callers, turns_of, config_of, numbered}
 use Rattle.run_machine.specs.Step.{called, returned, step_back, sure}
-use Rattle.run_machine.specs.internal.Places.{Continues, GoesOn}
+use Rattle.run_machine.specs.internal.Places.{Continues}
 use Rattle.run_machine.specs.internal.StoredSteps.{behind, out_items, entered, resumed}
 use Rattle.run_machine.proofs.Moves.{frames_kept}
 use Rattle.run_machine.proofs.Positions.{each_append, last_is, lists_restate}
@@ -86,10 +85,13 @@ enters ps c p place q xs es span vs g n =
 pub entered_config : (ps : List TypedProcedure) (c : Stored) (p place q : ℕ) (xs : List ℕ) (es : List Term) (span : Span) (vs : List Val) → Names ps p place (Act.call xs q es span) → ReachesPrograms ps q → IsState (procedure_at ps q) (first_state (procedure_at ps q) vs) → AreLists ps c.procedure p (behind c) c.state (reverse c.frames) → length c.turns ≡ (procedure_at ps c.procedure).loops → IsConfig ps (entered c p place q (procedure_at ps q) vs)
 entered_config ps c p place q xs es span vs n r st lists ts = record {
   running = q;
-  lists = subst (λ fs. AreLists ps c.procedure q (out_items q (length (procedure_at ps q).inputs) (length (procedure_at ps q).outputs) ++ (numbered q 0 (acts_in (procedure_at ps q).body) ++ (Back p place ∷ []))) (first_state (procedure_at ps q) vs) fs) (sym (reverse_more c.frames (behind c, c.state)))
-    ( p
-    , ( record { front = callee_list ps q; place = place; targets = xs; arguments = es; span = span; ends = callee_ends ps p place q; names = n; runs = r; belong = each_append (IsItemOf ps q) _ _ (outs_belong ps q _ _ (omega arith) (let l = length-append (procedure_at ps q).inputs (procedure_at ps q).outputs in omega (arith, l))) (block_belongs ps q 0 (acts_in (procedure_at ps q).body) (text_stands ps q) (program_runs ps q r)) }
-      , (st, lists) ) );
+  lists = subst (λ fs. AreLists ps c.procedure q (out_items q (length (procedure_at ps q).inputs) (length (procedure_at ps q).outputs) ++ (numbered q 0 (acts_in (procedure_at ps q).body) ++ (Back p place ∷ []))) (first_state (procedure_at ps q) vs) fs) (sym (reverse_more c.frames (behind c, c.state))) (
+    p,
+    (
+      record { front = callee_list ps q; place = place; targets = xs; arguments = es; span = span; ends = callee_ends ps p place q; names = n; runs = r; belong = each_append (IsItemOf ps q) _ _ (outs_belong ps q _ _ (omega arith) (let l = length-append (procedure_at ps q).inputs (procedure_at ps q).outputs in omega (arith, l))) (block_belongs ps q 0 (acts_in (procedure_at ps q).body) (text_stands ps q) (program_runs ps q r)) },
+      (st, lists),
+    ),
+  );
   turns = ts;
 }
 
@@ -112,6 +114,7 @@ last_item ps m n p place rest q = go q.front refl
   where
     back_caller : (a b i j : ℕ) → Back a i ≡ Back b j → b ≡ a
     back_caller a b i j h = cc
+
     back_place : (a b i j : ℕ) → Back a i ≡ Back b j → j ≡ i
     back_place a b i j h = cc
 

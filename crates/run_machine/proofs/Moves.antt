@@ -1,7 +1,7 @@
 -- Stored configurations with other items and another state, as the definition moves them.
-use Rattle.std.proofs.Common.{◌≡◌, ℕ, ◌+◌, ◌<◌, ◌≤◌, ◌==◌, ◌≢◌, ◌⊎◌, inl, inr, refl, ap, ap₂, sym, subst, ◌∙◌, arith, append_assoc, Bool, true, false, List, [], ◌∷◌, ◌++◌, length, map, reverse, drop, get_or}
+use Rattle.std.proofs.Common.{◌≡◌, ℕ, ◌+◌, ◌<◌, ◌≤◌, ◌==◌, ◌≢◌, ◌⊎◌, inl, inr, refl, ap, ap₂, sym, subst, ◌∙◌, arith, append_assoc, Bool, true, false, List, [], ◌∷◌, ◌++◌, length, reverse, drop, get_or}
 use Rattle.std.proofs.lemmas.Bool.Decides.{eqb_tells}
-use Rattle.std.specs.Prelude.{eqb, set, if◌then◌else◌, Option, Some, None, is_some, Result, Ok, Err, IfOk}
+use Rattle.std.specs.Prelude.{eqb, set, if◌then◌else◌, Option, Some, is_some, Result, Ok, Err, IfOk}
 use Prim.Native.Nat.{zero, suc}
 use Rattle.heyvl_num.specs.Rational.{Rational}
 use Rattle.heyvl_num.proofs.exported.Exactness.{exact_sumᵛ_some}
@@ -12,14 +12,13 @@ use Rattle.heylo_formula.specs.declared.values.Val.{Val}
 use Rattle.heyvl_types.specs.Acts.{Act, Acts, Head, TypedProcedure}
 use Rattle.heyvl_types.specs.Places.{in_order}
 use Rattle.quant_algebra.specs.ExactOperators.{and_then}
-use Rattle.run_machine.specs.declared.configurations.Item.TheVariants.{Do, Turn}
-use Rattle.run_machine.specs.BoundedStep.{limited, bounded}
-use Rattle.run_machine.specs.Configurations.{Item, Config, push, running}
-use Rattle.run_machine.specs.Step.{sure, moved, rewarded, branches, turned, counted, one_more, step_item, step, Decision}
-use Rattle.run_machine.specs.Names.{Numbered, Lists, Stored, turn_item, item_of, items_of, last_call, callers, turns_of, config_of, numbered, Names}
+use Rattle.run_machine.specs.declared.configurations.Item.TheVariants.{Turn}
+use Rattle.run_machine.specs.Configurations.{Item, push, running}
+use Rattle.run_machine.specs.Step.{moved, rewarded, branches, turned, one_more}
+use Rattle.run_machine.specs.Names.{Numbered, Lists, Stored, turn_item, items_of, last_call, callers, turns_of, config_of, numbered, Names}
 use Rattle.run_machine.specs.internal.Places.{Continues, GoesOn, Stands, text}
-use Rattle.run_machine.specs.internal.Replies.{Reply, replied, surely}
-use Rattle.run_machine.specs.internal.StoredSteps.{behind, going, assigned, stored_branches, collected, opened, more_turns, turned_at}
+use Rattle.run_machine.specs.internal.Replies.{replied, surely}
+use Rattle.run_machine.specs.internal.StoredSteps.{behind, going, stored_branches, collected, opened, more_turns, turned_at}
 use Rattle.run_machine.proofs.Places.{named_push}
 use Rattle.run_machine.proofs.Replies.{named}
 

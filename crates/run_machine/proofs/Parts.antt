@@ -6,7 +6,7 @@ use Prim.Native.Nat.{zero, suc}
 use Rattle.heylo_formula.specs.State.{default}
 use Rattle.heylo_formula.specs.declared.values.Val.{Val}
 use Rattle.heyvl_types.specs.declared.typed.TProc.{TProc}
-use Rattle.heyvl_types.specs.Acts.{Acts, TypedProcedure, Variable, acts_in, procedure_at, type_list}
+use Rattle.heyvl_types.specs.Acts.{Acts, acts_in, procedure_at, type_list}
 use Rattle.heyvl_types.specs.PlainActs.{procedure_of, variable_of}
 use Rattle.heyvl_types.specs.Rules.{Each}
 use Rattle.run_machine.specs.declared.configurations.Frame as F

@@ -1,8 +1,7 @@
 -- What is known of a configuration by its first item.
-use Rattle.std.proofs.Common.{◌≡◌, ℕ, ◌≤◌, refl, ap, sym, subst, ◌∙◌, arith, List, [], ◌∷◌, ◌++◌, length, reverse, drop}
-use Rattle.std.specs.Prelude.{Some}
+use Rattle.std.proofs.Common.{◌≡◌, ℕ, refl, ap, sym, subst, ◌∙◌, List, [], ◌∷◌, ◌++◌, reverse, drop}
 use Rattle.heylo_formula.specs.declared.values.Val.{Val}
-use Rattle.heyvl_types.specs.Acts.{Act, TypedProcedure, procedure_at}
+use Rattle.heyvl_types.specs.Acts.{TypedProcedure, procedure_at}
 use Rattle.heyvl_types.specs.Rules.{Each}
 use Rattle.run_machine.specs.declared.configurations.Item.TheVariants.{Do, Turn, Out, Back}
 use Rattle.run_machine.specs.Bound.{IsState}
@@ -40,6 +39,7 @@ opens_list ps m n i rest (x ∷ front) q plain e =
   where
     first_is : (y z : Numbered) (ys zs : List Numbered) → y ∷ ys ≡ z ∷ zs → y ≡ z
     first_is y z ys zs h = cc
+
     rest_is : (y z : Numbered) (ys zs : List Numbered) → y ∷ ys ≡ z ∷ zs → ys ≡ zs
     rest_is y z ys zs h = cc
 

@@ -1,5 +1,5 @@
 -- What a stored reply says of a step.
-use Rattle.std.proofs.Common.{◌≡◌, ℕ, ◌+◌, Bool, true, false, ◌||◌, nat_lt, refl, ap, ap₂, sym, subst, ◌∙◌, List, [], ◌∷◌, map, length, reverse}
+use Rattle.std.proofs.Common.{◌≡◌, ℕ, ◌+◌, Bool, true, false, ◌||◌, nat_lt, refl, ap, ap₂, sym, subst, ◌∙◌, List, [], ◌∷◌, map}
 use Rattle.std.specs.Prelude.{if◌then◌else◌}
 use Rattle.heyvl_num.specs.Rational.{Rational}
 use Rattle.heyvl_types.specs.Acts.{TypedProcedure}
@@ -7,13 +7,13 @@ use Rattle.heyvl_types.specs.Rules.{Each}
 use Rattle.run_machine.specs.declared.configurations.Config as C
 use Rattle.run_machine.specs.declared.configurations.Stepped.{Stepped}
 use Rattle.run_machine.specs.declared.configurations.Stepped.TheVariants.{Next, Deep, Bits}
-use Rattle.run_machine.specs.BoundedStep.{Answer, answer_of, any_deep, bounded, limited, outcomes_of, values_in, bounded_step, items_fit}
+use Rattle.run_machine.specs.BoundedStep.{Answer, answer_of, any_deep, bounded, outcomes_of, items_fit}
 use Rattle.run_machine.specs.ConfigConditions.{IsConfig}
 use Rattle.run_machine.specs.Configurations.{Config, Outcomes}
 use Rattle.run_machine.specs.Names.{Stored, stored, config_of, items_of}
 use Rattle.run_machine.specs.Step.{Decision, step}
 use Rattle.run_machine.specs.StepAnswers.{EachNext, IsStep, asked_by}
-use Rattle.run_machine.specs.internal.Replies.{StoredOutcomes, Reply, any_large, kept_small, replied, reply_of, stored_outcomes, stored_values}
+use Rattle.run_machine.specs.internal.Replies.{StoredOutcomes, Reply, any_large, replied, reply_of, stored_outcomes}
 use Rattle.run_machine.proofs.Depths.{all_values}
 
 abbrev pub named_outcome : List TypedProcedure → Rational × Stored → Rational × Config

@@ -1,8 +1,7 @@
 -- The acts of a block are named by its places, and a run takes them.
-use Rattle.std.proofs.Common.{◌≡◌, ℕ, ◌+◌, ◌≤◌, ◌<◌, append_assoc, refl, ap, sym, subst, ◌∙◌, arith, Bool, true, false, List, [], ◌∷◌, ◌++◌, length}
-use Rattle.std.proofs.lemmas.List.{length-append}
-use Rattle.std.specs.Prelude.{if◌then◌else◌, Option, Some, None}
-use Prim.Native.Nat.{zero, suc}
+use Rattle.std.proofs.Common.{ℕ, ◌+◌, append_assoc, refl, subst, arith, Bool, true, false, List, [], ◌∷◌, ◌++◌, length}
+use Rattle.std.specs.Prelude.{if◌then◌else◌}
+use Prim.Native.Nat.{suc}
 use Rattle.heylo_formula.specs.Choices.{Choices}
 use Rattle.heylo_formula.specs.Meaning.{holds}
 use Rattle.heylo_formula.specs.State.{Env}
@@ -11,7 +10,7 @@ use Rattle.heyvl_types.specs.Matching.{taken}
 use Rattle.heyvl_types.specs.Places.{in_order, inside, inside_arms}
 use Rattle.heyvl_types.specs.Rules.{Each}
 use Rattle.run_machine.specs.ConfigConditions.{CanRun, IsItemOf}
-use Rattle.run_machine.specs.Names.{Numbered, numbered}
+use Rattle.run_machine.specs.Names.{numbered}
 use Rattle.run_machine.specs.internal.Places.{Stands, text}
 use Rattle.run_machine.specs.internal.StoredSteps.{taken_place}
 use Rattle.run_machine.proofs.Places.{part_first, part_second, part_rest, part_head}
@@ -27,9 +26,10 @@ each_second P (x ∷ xs) ys h = each_second P xs ys h.1
 -- The items of a block belong to its procedure.
 pub block_belongs : (ps : List TypedProcedure) (n place : ℕ) (acts : Acts) → Stands (text ps n) place (in_order acts) → Each (CanRun ps) (in_order acts) → Each (IsItemOf ps n) (numbered n place acts)
 block_belongs ps n place Acts.done s r = tt
-block_belongs ps n place (Acts.next a rest) s r =
-    ( (refl, record { act = a; named = part_head (text ps n) place a (inside a ++ in_order rest) s; runs = (r.0, each_first (CanRun ps) (inside a) (in_order rest) r.1) })
-    , block_belongs ps n (place + suc (length (inside a))) rest (subst (λ m. Stands (text ps n) m (in_order rest)) (omega arith) (part_second (text ps n) (suc place) (inside a) (in_order rest) (part_rest (text ps n) place a (inside a ++ in_order rest) s))) (each_second (CanRun ps) (inside a) (in_order rest) r.1) )
+block_belongs ps n place (Acts.next a rest) s r = (
+  (refl, record { act = a; named = part_head (text ps n) place a (inside a ++ in_order rest) s; runs = (r.0, each_first (CanRun ps) (inside a) (in_order rest) r.1) }),
+  block_belongs ps n (place + suc (length (inside a))) rest (subst (λ m. Stands (text ps n) m (in_order rest)) (omega arith) (part_second (text ps n) (suc place) (inside a) (in_order rest) (part_rest (text ps n) place a (inside a ++ in_order rest) s))) (each_second (CanRun ps) (inside a) (in_order rest) r.1),
+)
 
 -- The block that an if takes.
 stands_apart : (xs : List Act) (n : ℕ) (b : Acts) (more : Arms) (e : Acts) → Stands xs n ((in_order b ++ inside_arms more) ++ in_order e) → Stands xs n (in_order b ++ (inside_arms more ++ in_order e))

@@ -1,7 +1,7 @@
 -- Each act's step on stored configurations is the definition's.
-use Rattle.std.proofs.Common.{◌≡◌, ℕ, ◌+◌, ◌==◌, ◌<◌, ◌≤◌, ◌^◌, ◌⊎◌, inl, inr, append_assoc, refl, ap, ap₂, sym, subst, ◌∙◌, arith, Bool, true, false, List, [], ◌∷◌, ◌++◌, length, map, reverse, drop, slice_get}
+use Rattle.std.proofs.Common.{◌≡◌, ℕ, ◌+◌, ◌==◌, ◌<◌, ◌≤◌, ◌^◌, inl, inr, append_assoc, refl, ap, sym, subst, ◌∙◌, arith, Bool, true, false, List, [], ◌∷◌, ◌++◌, length, reverse, drop, slice_get}
 use Rattle.std.proofs.lemmas.List.{length-append, length-set, reverse-append, reverse-reverse}
-use Rattle.std.specs.Prelude.{if◌then◌else◌, set, Some, None, is_some}
+use Rattle.std.specs.Prelude.{if◌then◌else◌, Some, None, is_some}
 use Prim.Native.Nat.{zero, suc}
 use Rattle.std.proofs.lemmas.Option.{none-some}
 use Rattle.heyvl_syntax.specs.declared.spans.Span.{Span}
@@ -26,12 +26,12 @@ use Rattle.quant_algebra.specs.ExactOperators.{and_then}
 use Rattle.run_machine.specs.declared.configurations.Item.TheVariants.{Do, Turn, Out, Back}
 use Rattle.run_machine.specs.declared.configurations.Stepped.{Stepped}
 use Rattle.run_machine.specs.Bound.{IsState}
-use Rattle.run_machine.specs.BoundedStep.{act_fits, item_fits, items_fit, exact_term, guards_fit, parts_fit, terms_fit}
+use Rattle.run_machine.specs.BoundedStep.{item_fits, items_fit, exact_term, guards_fit, parts_fit, terms_fit}
 use Rattle.run_machine.specs.ConfigConditions.{AreLists, CanRun, IsConfig, IsItemOf, IsOutput, NamesLoop}
-use Rattle.run_machine.specs.Configurations.{Item, Config, evaluate, push}
+use Rattle.run_machine.specs.Configurations.{Item, evaluate, push}
 use Rattle.run_machine.specs.Names.{HasFewActs, Names, Numbered, Lists, Stored, act_item, turn_item, item_of, items_of, config_of, numbered}
 use Rattle.run_machine.specs.Step.{Decision, sure, moved, turned, test, step, step_item, step_items, value_of, side_of}
-use Rattle.run_machine.specs.StepAnswers.{IsStep, asked_by, asked_by_act}
+use Rattle.run_machine.specs.StepAnswers.{IsStep, asked_by}
 use Rattle.run_machine.specs.internal.Comings.{ComesNext, IsAt, ReturnsNext}
 use Rattle.run_machine.specs.internal.Places.{Stands, text}
 use Rattle.run_machine.specs.internal.Replies.{StoredOutcomes, reply_of, replied, surely}
@@ -40,7 +40,7 @@ use Rattle.run_machine.proofs.Calls.{enters, entered_config, resumes, resumed_co
 use Rattle.run_machine.proofs.Moves.{collects, draws, opens, passes, turns_round}
 use Rattle.run_machine.proofs.Places.{inside_stands, part_first, part_head, part_rest, part_second}
 use Rattle.run_machine.proofs.Procedures.{text_is}
-use Rattle.run_machine.proofs.Positions.{At, NoReturn, each_append, lists_state, position}
+use Rattle.run_machine.proofs.Positions.{At, each_append, lists_state, position}
 use Rattle.run_machine.proofs.Replies.{Comes, is_step, named}
 use Rattle.run_machine.proofs.RuledActs.{Ruled, loop_range, ruled}
 use Rattle.run_machine.proofs.Running.{block_belongs, each_first, each_second, taken_runs, taken_stands}
@@ -240,11 +240,14 @@ test_comes ps c i p place h b k = go (holds h.guard (environment c.state) Choice
     again = ((refl, record { head = h; body = b; named = k.names; runs = k.runs }), tt)
 
     go : (t : Bool) → Comes ps (c.made + 0) (oneʳ, (if t then turned_at c p place h.number b else going c (behind c) c.state))
-    go true = record { asks = no_more c.made; config = record {
-      running = p;
-      lists = subst (λ l. AreLists ps c.procedure p l c.state (reverse c.frames)) (append_assoc (numbered p (place + 1) b) (Turn p place ∷ []) (behind c)) (k.at.goes (numbered p (place + 1) b ++ (Turn p place ∷ [])) c.state (each_append (IsItemOf ps p) (numbered p (place + 1) b) (Turn p place ∷ []) (block_belongs ps p (place + 1) b k.stands k.runs) again) k.at.state);
-      turns = turned_length p c.procedure h.number c.turns (p == c.procedure) ∙ k.turns;
-    } }
+    go true = record {
+      asks = no_more c.made;
+      config = record {
+        running = p;
+        lists = subst (λ l. AreLists ps c.procedure p l c.state (reverse c.frames)) (append_assoc (numbered p (place + 1) b) (Turn p place ∷ []) (behind c)) (k.at.goes (numbered p (place + 1) b ++ (Turn p place ∷ [])) c.state (each_append (IsItemOf ps p) (numbered p (place + 1) b) (Turn p place ∷ []) (block_belongs ps p (place + 1) b k.stands k.runs) again) k.at.state);
+        turns = turned_length p c.procedure h.number c.turns (p == c.procedure) ∙ k.turns;
+      };
+    }
     go false = record { asks = no_more c.made; config = goes ps c p i [] c.state k.at k.turns tt k.at.state }
 
 pub loop_is : (ps : List TypedProcedure) (c : Stored) (d : Decision) (r : Stepped) (p place : ℕ) (h : Head) (b : Acts) → ComesNext ps c p place (Act.loop h b) → reply_of r ≡ replied (is_some (exact_truth h.guard c.state)) (surely (tested c p place h.guard h.number b)) → IsStep ps c d r

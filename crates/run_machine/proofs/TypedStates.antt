@@ -2,12 +2,12 @@
 use Rattle.std.proofs.Common.{◌≡◌, ℕ, ◌≤◌, ◌<◌, ◌+◌, ◌==◌, ◌&&◌, refl, ap, sym, subst, ◌∙◌, arith, Bool, true, false, List, [], ◌∷◌, ◌++◌, length, map, take, drop}
 use Rattle.std.proofs.lemmas.List.{length-append}
 use Rattle.std.specs.Prelude.{set}
-use Prim.Native.Nat.{zero, suc}
-use Rattle.heyvl_num.specs.Rational.{Rational, zeroʳ, leqʳ}
+use Prim.Native.Nat.{suc}
+use Rattle.heyvl_num.specs.Rational.{zeroʳ, leqʳ}
 use Rattle.heylo_formula.specs.Formula.{Term}
 use Rattle.heylo_formula.specs.Meaning.{term_value}
 use Rattle.heylo_formula.specs.State.{has, default, environment, IsTyped}
-use Rattle.heylo_formula.specs.Typing.{types_in, TermFits}
+use Rattle.heylo_formula.specs.Typing.{TermFits}
 use Rattle.heylo_formula.specs.declared.types.Ty.{Ty}
 use Rattle.heylo_formula.specs.declared.values.Val.{Val}
 use Rattle.heylo_formula.specs.declared.values.Val.TheVariants.{Truth, Num}

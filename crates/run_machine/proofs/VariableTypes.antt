@@ -1,5 +1,5 @@
 -- The types of a procedure's variables, by number.
-use Rattle.std.proofs.Common.{◌≡◌, ℕ, ◌+◌, ◌<◌, ◌≤◌, refl, ap, sym, ◌∙◌, arith, List, [], ◌∷◌, ◌++◌, length, map, take, drop, get_or}
+use Rattle.std.proofs.Common.{◌≡◌, ℕ, ◌<◌, ◌≤◌, refl, ap, sym, ◌∙◌, arith, List, [], ◌∷◌, ◌++◌, length, map, take, drop, get_or}
 use Rattle.std.proofs.lemmas.List.{drop-drop, take-append-drop}
 use Prim.Native.Nat.{zero, suc}
 use Rattle.heylo_formula.specs.Typing.{types_in}

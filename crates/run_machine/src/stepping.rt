@@ -40,9 +40,7 @@ pub fn step(
         None => Ok(Stepped::Next(Vec::new(alloc))),
         Some(Item::Do(p, place)) => do_step(alloc, typed, config, *p, *place, decision),
         Some(Item::Turn(p, place)) => do_step(alloc, typed, config, *p, *place, decision),
-        Some(Item::Out(q, x)) => {
-            any_step(alloc, config, *x, type_of(typed, *q, *x), decision)
-        }
+        Some(Item::Out(q, x)) => { any_step(alloc, config, *x, type_of(typed, *q, *x), decision) }
         Some(Item::Back(p, place)) => return_step(alloc, typed, config, *p, *place),
     }
 }
@@ -121,12 +119,7 @@ fn return_step(
 }
 
 /// The step of the return to this call.
-fn to_call(
-    alloc: Global,
-    typed: &Typed,
-    config: &Config,
-    act: &Act,
-) -> Result<Stepped, AllocError>
+fn to_call(alloc: Global, typed: &Typed, config: &Config, act: &Act) -> Result<Stepped, AllocError>
     requires rules { MeetsAllRules typed.now }
     requires returns { ReturnsNext (procedures_of typed.now) (stored config.now) (act_of act.now) }
     ensures { IfOk result (λ stepped. (d : Decision) → IsStep (procedures_of typed.now) (stored config.now) d stepped) }

@@ -1,5 +1,5 @@
 -- What a step gives, as it is stored: configurations that name acts by their places. Private functions alone need this.
-use Rattle.std.specs.Prelude.{◌+◌, ℕ, Bool, true, false, ◌||◌, List, [], ◌∷◌, map, length, nat_lt, if◌then◌else◌}
+use Rattle.std.specs.Prelude.{◌+◌, ℕ, Bool, false, ◌||◌, List, [], ◌∷◌, map, length, nat_lt, if◌then◌else◌}
 use Rattle.heyvl_num.specs.Rational.{Rational, oneʳ}
 use Rattle.run_machine.specs.declared.configurations.Config as C
 use Rattle.run_machine.specs.declared.configurations.Stepped.{Stepped}

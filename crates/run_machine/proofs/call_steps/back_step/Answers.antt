@@ -1,4 +1,4 @@
-use Rattle.std.proofs.Common.{ap, ◌∙◌, sym, arith, length, map}
+use Rattle.std.proofs.Common.{ap, ◌∙◌, arith, length, map}
 use Rattle.heyvl_types.specs.PlainActs.{procedure_of}
 use Rattle.run_machine.specs.Configurations.{outputs_of, set_all}
 use Rattle.run_machine.specs.Names.{lists_of, stored}

@@ -1,8 +1,5 @@
-use Rattle.std.proofs.Common.{◌≡◌, ◌++◌, ap, ◌∙◌, map, drop}
-use Rattle.heylo_formula.specs.State.{default}
-use Rattle.heyvl_types.specs.Acts.{acts_in, procedure_at, type_list}
-use Rattle.heyvl_types.specs.PlainActs.{procedures_of, variable_of}
-use Rattle.run_machine.specs.Names.{lists_of, stored, numbered}
+use Rattle.std.proofs.Common.{◌++◌, ap, ◌∙◌, map}
+use Rattle.run_machine.specs.Names.{lists_of, stored}
 use Rattle.run_machine.specs.internal.StoredSteps.{out_items}
 use Rattle.run_machine.proofs.Parts.{entered_is}
 use Rattle.run_machine.proofs.call_steps.enter.Goals as goal

@@ -1,4 +1,3 @@
-use Rattle.std.proofs.Common.{arith}
 use Rattle.run_machine.proofs.Parts.{outs_next}
 use Rattle.run_machine.proofs.call_steps.push_outs.Goals as goal
 

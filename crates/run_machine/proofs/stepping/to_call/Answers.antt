@@ -1,9 +1,9 @@
-use Rattle.std.proofs.Common.{◌≡◌, ◌++◌, ◌∷◌, [], List, arith, ap, sym, subst, ◌∙◌, length, map, true}
+use Rattle.std.proofs.Common.{◌≡◌, arith, ap, subst, ◌∙◌, true}
 use Rattle.std.proofs.lemmas.List.{length-map}
 use Rattle.heyvl_types.specs.Acts.{procedure_at}
 use Rattle.heyvl_types.specs.PlainActs.{act_of, procedure_of, procedures_of, terms_of}
 use Rattle.heyvl_types.proofs.exported.PlainActsAre.{set_act, draw_act, any_act, reward_act, if_act, pick_act, check_act, validate_act, loop_act, call_act}
-use Rattle.run_machine.specs.Names.{Lists, stored}
+use Rattle.run_machine.specs.Names.{stored}
 use Rattle.run_machine.specs.internal.Comings.{ReturnsNext}
 use Rattle.run_machine.specs.internal.Replies.{reply_of, replied, surely}
 use Rattle.run_machine.specs.internal.StoredSteps.{resumed}
