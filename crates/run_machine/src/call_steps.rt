@@ -1,6 +1,6 @@
 //! Calls and returns.
 
-ghost use Rattle.std.specs.Prelude.{◌≡◌, ◌<◌, ◌≤◌, ◌+◌, ◌++◌, ◌∷◌, [], ◌^◌, List, IfOk, OnOk, drop, length, map, true};
+ghost use Rattle.std.specs.Prelude.{◌≡◌, ◌<◌, ◌≤◌, ◌+◌, ◌++◌, ◌∷◌, [], List, IfOk, OnOk, drop, length, map, true};
 ghost use Rattle.heylo_formula.specs.State.{default as default_of, environment};
 ghost use Rattle.heyvl_types.specs.Acts.{procedure_at, type_list};
 ghost use Rattle.heyvl_types.specs.PlainActs.{procedure_of, procedures_of, terms_of, variable_of};

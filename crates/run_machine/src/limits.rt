@@ -1,6 +1,6 @@
 //! The bound on the values of a configuration.
 
-ghost use Rattle.std.specs.Prelude.{◌≡◌, ◌+◌, IfOk, nat_lt, length, true};
+ghost use Rattle.std.specs.Prelude.{◌≡◌, IfOk, nat_lt, true};
 ghost use Rattle.heyvl_num.specs.Rational.{oneʳ};
 ghost use Rattle.run_machine.specs.Names.{stored};
 ghost use Rattle.run_machine.specs.internal.Replies.{reply_of, replied, stored_outcomes, stored_values, surely};

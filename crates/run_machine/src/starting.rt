@@ -1,6 +1,6 @@
 //! The first configuration of a run.
 
-ghost use Rattle.std.specs.Prelude.{◌≡◌, ◌<◌, ◌++◌, ◌^◌, ℕ, IfOk, OnOk, length, replicate};
+ghost use Rattle.std.specs.Prelude.{◌≡◌, ◌++◌, IfOk, OnOk, replicate};
 ghost use Rattle.heyvl_num.specs.Rational.{zeroʳ};
 ghost use Rattle.heyvl_types.specs.Acts.{acts_in, procedure_at};
 ghost use Rattle.heyvl_types.specs.PlainActs.{procedures_of};

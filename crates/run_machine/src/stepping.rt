@@ -1,6 +1,6 @@
 //! One step of a configuration.
 
-ghost use Rattle.std.specs.Prelude.{◌≡◌, ◌∷◌, List, IfOk, drop};
+ghost use Rattle.std.specs.Prelude.{◌≡◌, ◌∷◌, IfOk, drop};
 ghost use Rattle.heyvl_types.specs.Acts.{procedure_at, types_of};
 ghost use Rattle.heyvl_types.specs.PlainActs.{act_of, procedures_of};
 ghost use Rattle.heyvl_types.specs.Rules.{MeetsAllRules};

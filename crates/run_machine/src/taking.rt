@@ -1,6 +1,6 @@
 //! The step of a variable that takes any value.
 
-ghost use Rattle.std.specs.Prelude.{◌≡◌, ◌<◌, ◌+◌, ◌^◌, IfOk, true};
+ghost use Rattle.std.specs.Prelude.{◌≡◌, ◌<◌, ◌^◌, IfOk, true};
 ghost use Rattle.heyvl_num.specs.Rational.{zeroʳ, leqʳ};
 ghost use Rattle.heylo_formula.specs.State.{has as has_type, default as default_of, fit};
 ghost use Rattle.run_machine.specs.Names.{stored, decision_of};
