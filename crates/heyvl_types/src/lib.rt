@@ -2,6 +2,8 @@
 #![tactic(auto)]
 
 mod acts;
+mod assignments;
+mod calls;
 mod copies;
 mod demands;
 mod expressions;
@@ -10,6 +12,8 @@ mod literals;
 mod meanings;
 mod operators;
 mod places;
+mod quantifiers;
+mod rules;
 mod scopes;
 mod settings;
 mod stops;
