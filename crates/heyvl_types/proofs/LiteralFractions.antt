@@ -1,17 +1,19 @@
 -- The code's fractions of literals: each fits.
 use Rattle.heyvl_num.specs.Exact.{exact_quotient, is_small, quotient, quotient_fits}
-use Rattle.heyvl_num.specs.Rational.{ratio, zeroʳ}
+use Rattle.heyvl_num.proofs.exported.Integers.{*ℤ-one, one-*ℤ, zero_times}
+use Rattle.heyvl_num.specs.Gcd.{gcd, gcd_steps}
+use Rattle.heyvl_num.specs.Rational.{Rational, leqʳ, oneʳ, ratio, zeroʳ}
 use Rattle.heyvl_num.specs.Value.{is_zero_num}
 use Rattle.heyvl_syntax.specs.declared.literals.Lit.{Lit}
 use Rattle.heyvl_types.specs.Literals.{inverse_value, is_written, literal_value}
 use Rattle.heyvl_types.specs.Table.{inverse}
-use Rattle.std.proofs.Common.{None, Some, arith, false, lit<, negsuc, of_z, pos, refl, suc, to_z, true, zero, ◌+◌, ◌-◌, ◌<◌, ◌^◌, ◌≡◌, ◌≤◌, ℕ, ℤ}
+use Rattle.std.proofs.Common.{Bool, None, Some, ap₂, arith, false, lit<, negsuc, of_z, pos, refl, suc, sym, to_z, true, zero, ◌+◌, ◌-◌, ◌<◌, ◌^◌, ◌∙◌, ◌≡◌, ◌≤◌, ℕ, ℤ}
 use Rattle.std.proofs.Math.Nat.{pow-suc}
 use Rattle.std.proofs.lemmas.Bool.{le-leb, leb-true}
 use Rattle.std.proofs.lemmas.Int.{fits_signed_from_abs, ints, to_z-of_z}
 use Rattle.std.specs.Int.{w128}
 use Rattle.std.specs.Int.Signed.{le_z}
-use Rattle.std.specs.Prelude.{FitsSigned, if◌then◌else◌, unsigned_abs}
+use Rattle.std.specs.Prelude.{FitsSigned, if◌then◌else◌, nat_le, unsigned_abs, ◌&&◌}
 
 up : (d n m : ℕ) → d + n ≡ m → 10 ^ n ≤ 10 ^ m
 up zero n m e = let q : n ≡ m = omega (arith, e) in rw q (omega arith)
@@ -74,3 +76,37 @@ inverse_of_literal n h s =
 -- A power of ten as it is handed on.
 pub passed_power : (z : ℤ) (n : ℕ) → z ≡ pos (10 ^ n) → n ≤ 38 → to_z w128 (of_z w128 z) ≡ pos (10 ^ n)
 passed_power z n e h = rw e (to_z-of_z w128 (pos (10 ^ n)) (fits_signed_from_abs w128 (pos (10 ^ n)) (power_small n h)))
+
+-- The fraction of natural parts.
+pub positive_quotient : (a d : ℤ) → FitsSigned w128 a → FitsSigned w128 d → le_z (pos 0) a ≡ true → le_z (pos 1) d ≡ true → exact_quotient a d ≡ Some (ratio a (unsigned_abs d))
+positive_quotient (pos a) (pos d) f g h k = quotient_is a d (omega (arith, ints, f)) (omega (arith, leb-true 1 d k)) (omega (arith, ints, g))
+positive_quotient (pos a) (negsuc d) f g h k = absurd (cc)
+positive_quotient (negsuc a) d f g h k = absurd (cc)
+
+natural_num : (d : ℤ) (b : ℕ) → le_z (pos 0) d ≡ true → le_z (pos 0) (ratio d b).num ≡ true
+unfolding ratio
+natural_num d zero h = refl
+natural_num (pos d) (suc b) h = le-leb 0 _ (omega arith)
+natural_num (negsuc d) (suc b) h = absurd (cc)
+
+-- What a text can write isn't negative.
+pub written_natural : (n : Lit) (q : Rational) → Some q ≡ (if is_written n then Some (literal_value n) else None) → le_z (pos 0) q.num ≡ true
+unfolding literal_value
+written_natural n q e = go (le_z (pos 0) n.digits) (nat_le n.places 38) refl e
+  where
+    go : (a b : Bool) → le_z (pos 0) n.digits ≡ a → Some q ≡ (if a && b then Some (ratio n.digits (10 ^ n.places)) else None) → le_z (pos 0) q.num ≡ true
+    go true true h i = let k : q ≡ ratio n.digits (10 ^ n.places) = cc in rw k (natural_num n.digits (10 ^ n.places) h)
+    go true false h i = absurd (cc)
+    go false b h i = absurd (cc)
+
+pub at_most_one_is : (q : Rational) → le_z q.num (pos q.den) ≡ leqʳ q oneʳ
+unfolding leqʳ oneʳ ratio gcd gcd_steps
+at_most_one_is q = ap₂ le_z (sym (*ℤ-one q.num)) (sym (one-*ℤ (pos q.den)))
+
+pub at_most_zero_is : (q : Rational) → le_z q.num (pos 0) ≡ leqʳ q zeroʳ
+unfolding leqʳ zeroʳ ratio gcd gcd_steps
+at_most_zero_is q = ap₂ le_z (sym (*ℤ-one q.num)) (sym (zero_times (pos q.den)))
+
+-- Parts of fractions as they are handed on.
+pub passed_parts : (q : Rational) (a b n : ℤ) (d : ℕ) → FitsSigned w128 a → FitsSigned w128 b → a ≡ n → b ≡ pos d → q ≡ ratio (to_z w128 (of_z w128 a)) (unsigned_abs (to_z w128 (of_z w128 b))) → q ≡ ratio n d
+passed_parts q a b n d f g h k e = e ∙ ap₂ (λ (x : ℤ) (y : ℤ). ratio x (unsigned_abs y)) (to_z-of_z w128 a f ∙ h) (to_z-of_z w128 b g ∙ k)

@@ -4,9 +4,12 @@
 mod acts;
 mod assignments;
 mod calls;
+mod choices;
 mod copies;
 mod demands;
+mod draws;
 mod expressions;
+mod integers;
 mod laws;
 mod literals;
 mod meanings;
@@ -18,6 +21,8 @@ mod scopes;
 mod settings;
 mod stops;
 mod typed;
+mod value_types;
+mod values;
 mod weights;
 
 pub use acts::{Act, LoopAct};
