@@ -2,7 +2,7 @@
 use Rattle.heyvl_types.specs.Signatures.{Called, Signature, called_of, find_call, signature_of, with_signature}
 use Rattle.heyvl_types.specs.declared.calls.Signature as held
 use Rattle.indexmap.specs.IndexMap.{insert_entry}
-use Rattle.std.proofs.Common.{Bool, List, None, Option, Some, Vec, [], ap, false, option_map, refl, true, ◌∷◌, ◌≡◌, ℕ}
+use Rattle.std.proofs.Common.{Bool, List, None, Option, Some, Vec, [], ap, false, option_map, refl, sym, true, ◌∙◌, ◌∷◌, ◌≡◌, ℕ}
 use Rattle.std.specs.Borrow.{Bor}
 use Rattle.std.specs.Cmp.Lexicographic.{pointwise}
 use Rattle.std.specs.Map.{lookup}
@@ -50,3 +50,16 @@ kept x p (e ∷ es) h = go (bytes_eq x e.0) (kept x p es) h
 pub copied_signature : (r : Option (Bor held.Signature)) → option_map (λ f. signature_of f.now) r ≡ option_map signature_of (option_copied r)
 copied_signature None = refl
 copied_signature (Some f) = refl
+
+is_none_map : {A B : Type 0} (f : A → B) (r : Option A) → is_none (option_map f r) ≡ is_none r
+is_none_map f None = refl
+is_none_map f (Some x) = refl
+
+-- Whether a procedure is found, as the code tests it.
+pub found : (r : Option (Bor held.Signature)) (o : Option Signature) (b c : Bool) → option_map (λ f. signature_of f.now) r ≡ o → b ≡ is_none r → b ≡ c → is_none o ≡ c
+found r o b c e f g = ap is_none (sym e) ∙ is_none_map (λ (f : Bor held.Signature). signature_of f.now) r ∙ sym f ∙ g
+
+pub declared : (k : Bytes) (s : held.Signature) (es fs : List (Bytes × held.Signature)) (x : List ℕ) (p : Signature) (c : Called) → fs ≡ insert_entry same es k s → called_of es ≡ c → k.items ≡ x → signature_of s ≡ p → is_none (find_call c x) ≡ true → called_of fs ≡ with_signature x p c
+declared k s es fs x p c e v i j h =
+    let n : is_none (find_call (called_of es) k.items) ≡ true = ap (λ d. is_none (find_call d k.items)) v ∙ ap (λ y. is_none (find_call c y)) i ∙ h in
+    ap called_of e ∙ insert_entries k s es n ∙ ap (λ d. with_signature k.items (signature_of s) d) v ∙ ap (λ y. with_signature y (signature_of s) c) i ∙ ap (λ q. with_signature x q c) j

@@ -70,7 +70,7 @@ unfolding product_fits ◌*ʳ◌
 product_is_wide x y e f h =
     let p = positive_product x.den y.den x.positive y.positive in
     let l = product_lowest x y e f in
-    rw (ratio_num-lowest (x.num *ℤ y.num) (x.den * y.den) p l, ratio_den-lowest (x.num *ℤ y.num) (x.den * y.den) p l) (wide_parts _ _ h)
+    rw (ratio_num-lowest (x.num *ℤ y.num) (x.den * y.den) p l, ratio_den-lowest (x.num *ℤ y.num) (x.den * y.den) p l) (wide_parts (unsigned_abs (x.num *ℤ y.num)) (x.den * y.den) h)
 
 module _ (v w : Rational) where
   -- The factors after reducing.

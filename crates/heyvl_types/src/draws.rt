@@ -10,6 +10,7 @@ ghost use Rattle.heyvl_types.specs.StatementActs.{flip_parts, integer_parts, uni
 ghost use Rattle.std.specs.Int.Signed.{le_z};
 ghost use Rattle.std.specs.Prelude.{◌+ℤ◌, ◌+◌, ◌<◌, ◌^◌, ◌≡◌, ◌≤◌, IfOk, Some, false, pos, true, unsigned_abs};
 
+use crate::weights::fraction;
 use heylo_formula::{Cond, Form, Term};
 use heyvl_num::{Ext, Frac};
 use std::alloc::{AllocError, Global};
@@ -61,7 +62,7 @@ fn equal_weight(count: u32) -> Frac
     requires { 1 ≤ count }
     ensures { result ≡ ratio (pos 1) count }
 {
-    Frac::new(1, i128::from(count)).unwrap()
+    fraction(1, i128::from(count))
 }
 
 /// So many integers from the first one on, each with the same weight.

@@ -47,7 +47,7 @@ fn weight_of_value(value: Frac) -> Weight
 }
 
 /// The fraction of these parts.
-fn fraction(num: i128, den: i128) -> Frac
+pub(crate) fn fraction(num: i128, den: i128) -> Frac
     requires natural { le_z (pos 0) num ≡ true }
     requires positive { le_z (pos 1) den ≡ true }
     ensures { result ≡ ratio num (unsigned_abs den) }
