@@ -6,8 +6,8 @@ use Rattle.std.proofs.Common.{Bool, List, None, Option, Some, Vec, [], ap, false
 use Rattle.std.specs.Borrow.{Bor}
 use Rattle.std.specs.Cmp.Lexicographic.{pointwise}
 use Rattle.std.specs.Map.{lookup}
-use Rattle.std.specs.Option.{is_none, option_copied}
-use Rattle.std.specs.Prelude.{if◌then◌else◌, nat_eq}
+use Rattle.std.specs.Option.{is_none, is_some, option_copied}
+use Rattle.std.specs.Prelude.{if◌then◌else◌, nat_eq, not}
 use Rattle.std.specs.Str.{bytes_eq}
 use Rattle.std.specs.declared.alloc.Global.{Global}
 
@@ -55,9 +55,15 @@ is_none_map : {A B : Type 0} (f : A → B) (r : Option A) → is_none (option_ma
 is_none_map f None = refl
 is_none_map f (Some x) = refl
 
+none_is : {A : Type 0} (r : Option A) (b : Bool) → is_some r ≡ not b → is_none r ≡ b
+none_is None true e = refl
+none_is None false e = absurd (cc)
+none_is (Some x) true e = absurd (cc)
+none_is (Some x) false e = refl
+
 -- Whether a procedure is found, as the code tests it.
-pub found : (r : Option (Bor held.Signature)) (o : Option Signature) (b c : Bool) → option_map (λ f. signature_of f.now) r ≡ o → b ≡ is_none r → b ≡ c → is_none o ≡ c
-found r o b c e f g = ap is_none (sym e) ∙ is_none_map (λ (f : Bor held.Signature). signature_of f.now) r ∙ sym f ∙ g
+pub found : (r : Option (Bor held.Signature)) (o : Option Signature) (b c : Bool) → option_map (λ f. signature_of f.now) r ≡ o → is_some r ≡ not b → b ≡ c → is_none o ≡ c
+found r o b c e f g = ap is_none (sym e) ∙ is_none_map (λ (f : Bor held.Signature). signature_of f.now) r ∙ none_is r b f ∙ g
 
 pub declared : (k : Bytes) (s : held.Signature) (es fs : List (Bytes × held.Signature)) (x : List ℕ) (p : Signature) (c : Called) → fs ≡ insert_entry same es k s → called_of es ≡ c → k.items ≡ x → signature_of s ≡ p → is_none (find_call c x) ≡ true → called_of fs ≡ with_signature x p c
 declared k s es fs x p c e v i j h =

@@ -11,3 +11,4 @@ pub mod Reading
 pub mod TypedMeanings
 pub mod Coprime
 pub mod CallEntries
+pub mod IntegerParts

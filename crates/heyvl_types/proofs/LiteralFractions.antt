@@ -157,10 +157,10 @@ narrow_parts q h =
 
 lacks_small : (n : ℤ) (d : ℕ) → unsigned_abs n < 2 ^ 62 → d < 2 ^ 62 → (is_small (pos 1 *ℤ pos d) && is_small (n *ℤ pos 1) && is_small (pos 1 *ℤ pos d) && is_small (pos 1 *ℤ pos d -ℤ n *ℤ pos 1)) ≡ true
 lacks_small n d h k =
-    let k' : unsigned_abs (pos d) < 2 ^ 127 = omega arith in
-    let h' : unsigned_abs n < 2 ^ 127 = omega arith in
-    let l : unsigned_abs (pos d -ℤ n) < 2 ^ 127 = omega (arith, ints) in
-    rw (one-*ℤ (pos d), *ℤ-one n) (and_from _ _ (and_from _ _ (and_from _ _ (is_small_from (pos d) k') (is_small_from n h')) (is_small_from (pos d) k')) (is_small_from (pos d -ℤ n) l))
+    let a : unsigned_abs (pos 1 *ℤ pos d) < 2 ^ 127 = omega arith in
+    let b : unsigned_abs (n *ℤ pos 1) < 2 ^ 127 = rw (*ℤ-one n) (omega arith) in
+    let l : unsigned_abs (pos 1 *ℤ pos d -ℤ n *ℤ pos 1) < 2 ^ 127 = omega (arith, ints, *ℤ-one n) in
+    and_from _ _ (and_from _ _ (and_from _ _ (is_small_from (pos 1 *ℤ pos d) a) (is_small_from (n *ℤ pos 1) b)) (is_small_from (pos 1 *ℤ pos d) a)) (is_small_from (pos 1 *ℤ pos d -ℤ n *ℤ pos 1) l)
 
 lacks_fits : (q : Rational) → is_too_wide q ≡ false → difference_fits (ratio (pos 1) 1) q ≡ true
 unfolding difference_fits ratio gcd gcd_steps
