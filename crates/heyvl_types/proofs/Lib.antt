@@ -10,3 +10,6 @@ pub mod LiteralFractions
 pub mod Reading
 pub mod TypedMeanings
 pub mod resolved
+pub mod Coprime
+pub mod CallEntries
+pub mod IntegerParts

@@ -1,9 +1,11 @@
 -- What an answer says of a part of a text: a fault is the first finding, a result comes exactly where nothing is found.
 use Rattle.heylo_formula.specs.PlainTrees.{cond_of, form_of}
 use Rattle.heyvl_types.specs.Findings.{Finding, first}
+use Rattle.heyvl_types.specs.RightSides.{ValueType}
 use Rattle.heyvl_types.specs.Table.{Meaning, kind_of}
 use Rattle.heyvl_types.specs.declared.meanings.Meaning as M
 use Rattle.heyvl_types.specs.declared.stops.ResolveStop.{ResolveStop}
+use Rattle.heyvl_types.specs.declared.value_types.ValueType as V
 use Rattle.std.specs.Prelude.{Err, List, Ok, Option, Result, Some, [], ⊤, ◌≡◌}
 
 -- The plain meaning that a meaning in memory holds.
@@ -19,5 +21,16 @@ Gives view (Ok a) found b = (found ≡ []) × (view a ≡ b)
 Gives view (Err (ResolveStop.Fault n s)) found b = first found ≡ Some (n, s)
 Gives view (Err (ResolveStop.Memory e)) found b = ⊤
 
+-- The same of what only looks at a part.
+abbrev pub Tells : Result (Unit {0}) ResolveStop → List Finding → Type 0
+Tells (Ok u) found = found ≡ []
+Tells (Err (ResolveStop.Fault n s)) found = first found ≡ Some (n, s)
+Tells (Err (ResolveStop.Memory e)) found = ⊤
+
 abbrev pub read : M.Meaning → Option Meaning
 read m = Some (meaning_of m)
+
+-- The type that a type of the program stands for.
+abbrev pub value_type : V.ValueType → ValueType
+value_type V.TheVariants.Truth = ValueType.truth
+value_type (V.TheVariants.Number t) = ValueType.number (kind_of t)

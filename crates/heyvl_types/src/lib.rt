@@ -2,18 +2,27 @@
 #![tactic(auto)]
 
 mod acts;
+mod assignments;
+mod calls;
+mod choices;
 mod copies;
 mod demands;
+mod draws;
 mod expressions;
+mod integers;
 mod laws;
 mod literals;
 mod meanings;
 mod operators;
 mod places;
+mod quantifiers;
+mod rules;
 mod scopes;
 mod settings;
 mod stops;
 mod typed;
+mod value_types;
+mod values;
 mod weights;
 
 pub use acts::{Act, LoopAct};
