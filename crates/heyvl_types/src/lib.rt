@@ -2,12 +2,16 @@
 #![tactic(auto)]
 
 mod acts;
+mod bindings;
+mod blocks;
+mod calls;
 mod copies;
 mod demands;
 mod expressions;
 mod laws;
 mod literals;
 mod meanings;
+mod names;
 mod operators;
 mod places;
 mod scopes;
