@@ -2,20 +2,26 @@
 #![tactic(auto)]
 
 mod acts;
+mod assignments;
 mod bindings;
 mod blocks;
 mod calls;
 mod copies;
 mod demands;
 mod expressions;
+mod integers;
 mod laws;
 mod literals;
+mod loop_rules;
 mod meanings;
 mod names;
 mod operators;
 mod places;
+mod quantifiers;
+mod rules;
 mod scopes;
 mod settings;
+mod statements;
 mod stops;
 mod typed;
 mod weights;
