@@ -9,3 +9,5 @@ pub mod ScopeEntries
 pub mod LiteralFractions
 pub mod Reading
 pub mod TypedMeanings
+mod Rests
+mod Walks

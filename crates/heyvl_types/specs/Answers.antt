@@ -1,8 +1,9 @@
 -- What an answer says of a part of a text: a fault is the first finding, a result comes exactly where nothing is found.
 use Rattle.heylo_formula.specs.PlainTrees.{cond_of, form_of}
-use Rattle.heyvl_types.specs.Acts.{Acts}
+use Rattle.heylo_formula.specs.declared.forms.Cond as C
+use Rattle.heyvl_types.specs.Acts.{Acts, Arms}
 use Rattle.heyvl_types.specs.Findings.{Finding, first}
-use Rattle.heyvl_types.specs.PlainActs.{acts_of}
+use Rattle.heyvl_types.specs.PlainActs.{acts_of, arms_of}
 use Rattle.heyvl_types.specs.Table.{Meaning, kind_of}
 use Rattle.heyvl_types.specs.declared.acts.Act as A
 use Rattle.heyvl_types.specs.declared.meanings.Meaning as M
@@ -35,3 +36,6 @@ read m = Some (meaning_of m)
 -- The plain acts of acts in memory.
 abbrev pub acts_view : Vec A.Act Global → Acts
 acts_view acts = acts_of acts.items
+
+abbrev pub arms_view : Vec (C.Cond × Vec A.Act Global) Global → Arms
+arms_view arms = arms_of arms.items

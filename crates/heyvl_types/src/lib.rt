@@ -24,6 +24,7 @@ mod settings;
 mod statements;
 mod stops;
 mod typed;
+mod values;
 mod weights;
 
 pub use acts::{Act, LoopAct};
