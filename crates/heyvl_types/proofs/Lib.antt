@@ -11,3 +11,4 @@ pub mod Reading
 pub mod TypedMeanings
 mod Rests
 mod Walks
+mod LastPassing

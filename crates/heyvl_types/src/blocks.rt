@@ -29,57 +29,6 @@ use heylo_formula::Cond;
 use heyvl_syntax::{Arm, Expr, Rule, Span, Stmt};
 use std::alloc::Global;
 
-/// What an if becomes, or the first fault in it.
-#[cycle(reading)]
-fn read_if(
-    alloc: Global,
-    setting: Setting,
-    calls: &Calls,
-    bound: bool,
-    scope: &mut Scope,
-    vars: &mut Vec<VarInfo>,
-    loops: &mut u32,
-    all: &[Arm],
-    other: &[Stmt],
-    span: Span,
-) -> Result<Vec<Act>, ResolveStop>
-    ensures gives { Gives acts_view result (statement_findings setting calls.now bound (length vars.old.items) scope.old (Statement.branch (arms all.now) (block other.now) span)) (statement_acts setting calls.now (length vars.old.items) loops.old scope.old (Statement.branch (arms all.now) (block other.now) span)) }
-    ensures kept { OnOk result (scope.new ≡ scope.old) }
-    ensures listed { OnOk result (map variable_of vars.new.items ≡ map variable_of vars.old.items ++ locals (Statement.branch (arms all.now) (block other.now) span)) }
-    ensures numbered { OnOk result (loops.new ≡ loops.old + loops (Statement.branch (arms all.now) (block other.now) span)) }
-{
-    let arms_bound = bound || block_binds(other);
-    let made = read_arms(alloc, setting, calls, arms_bound, scope, vars, loops, all)?;
-    let other = read_block(alloc, setting, calls, bound, scope, vars, loops, other)?;
-    Ok(single(alloc, Act::If(made, other, span))?)
-}
-
-/// What a choice between two blocks becomes, or the first fault in it.
-#[cycle(reading)]
-fn read_pick(
-    alloc: Global,
-    setting: Setting,
-    calls: &Calls,
-    bound: bool,
-    scope: &mut Scope,
-    vars: &mut Vec<VarInfo>,
-    loops: &mut u32,
-    up: bool,
-    left: &[Stmt],
-    right: &[Stmt],
-    span: Span,
-) -> Result<Vec<Act>, ResolveStop>
-    ensures gives { Gives acts_view result (statement_findings setting calls.now bound (length vars.old.items) scope.old (Statement.pick up (block left.now) (block right.now) span)) (statement_acts setting calls.now (length vars.old.items) loops.old scope.old (Statement.pick up (block left.now) (block right.now) span)) }
-    ensures kept { OnOk result (scope.new ≡ scope.old) }
-    ensures listed { OnOk result (map variable_of vars.new.items ≡ map variable_of vars.old.items ++ locals (Statement.pick up (block left.now) (block right.now) span)) }
-    ensures numbered { OnOk result (loops.new ≡ loops.old + loops (Statement.pick up (block left.now) (block right.now) span)) }
-{
-    let left_bound = bound || block_binds(right);
-    let left = read_block(alloc, setting, calls, left_bound, scope, vars, loops, left)?;
-    let right = read_block(alloc, setting, calls, bound, scope, vars, loops, right)?;
-    Ok(single(alloc, Act::Pick(up, left, right, span))?)
-}
-
 /// What a loop becomes, or the first fault in it.
 #[cycle(reading)]
 fn read_loop(
@@ -199,12 +148,18 @@ fn read_statement(
         Stmt::Validate(co, span) => read_validate(alloc, setting, bound, *co, *span),
         Stmt::Havoc(co, names, span) => read_havoc(alloc, setting, scope, *co, names, *span),
         Stmt::Reward(amount, span) => read_reward(alloc, setting, scope, vars, amount, *span),
-        Stmt::If(all, other, span) => read_if(
-            alloc, setting, calls, bound, scope, vars, loops, all, other, *span,
-        ),
-        Stmt::Pick(up, left, right, span) => read_pick(
-            alloc, setting, calls, bound, scope, vars, loops, *up, left, right, *span,
-        ),
+        Stmt::If(all, other, span) => {
+            let arms_bound = bound || block_binds(other);
+            let made = read_arms(alloc, setting, calls, arms_bound, scope, vars, loops, all)?;
+            let other = read_block(alloc, setting, calls, bound, scope, vars, loops, other)?;
+            Ok(single(alloc, Act::If(made, other, *span))?)
+        }
+        Stmt::Pick(up, left, right, span) => {
+            let left_bound = bound || block_binds(right);
+            let left = read_block(alloc, setting, calls, left_bound, scope, vars, loops, left)?;
+            let right = read_block(alloc, setting, calls, bound, scope, vars, loops, right)?;
+            Ok(single(alloc, Act::Pick(*up, left, right, *span))?)
+        }
         Stmt::While(rules, guard, body, span) => read_loop(
             alloc, setting, calls, bound, scope, vars, loops, rules, guard, body, *span,
         ),

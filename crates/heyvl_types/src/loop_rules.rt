@@ -1,6 +1,8 @@
 //! What stands before a loop.
 
-ghost use Rattle.heylo_formula.specs.PlainTrees.{cond_of};
+ghost use Rattle.heylo_formula.specs.Formula.{Form as PlainForm};
+ghost use Rattle.heylo_formula.specs.PlainTrees.{cond_of, form_of};
+ghost use Rattle.heyvl_num.specs.Value.Value.{infinite};
 ghost use Rattle.heyvl_syntax.specs.Statements.{LoopRule, loop_rule, loop_rules};
 ghost use Rattle.heyvl_types.specs.Acts.{Act as Plain};
 ghost use Rattle.heyvl_types.specs.Answers.{Gives, Tells, acts_view, meaning_of, read};
@@ -10,7 +12,7 @@ ghost use Rattle.heyvl_types.specs.PlainActs.{act_of};
 ghost use Rattle.heyvl_types.specs.Scopes.{Scope as Visible, numbers};
 ghost use Rattle.heyvl_types.specs.StatementActs.{copies_of};
 ghost use Rattle.heyvl_types.specs.TypedExpressions.{elaborate};
-ghost use Rattle.heyvl_types.specs.internal.LoopHeads.{found_of, found_with, rules_found};
+ghost use Rattle.heyvl_types.specs.internal.LoopHeads.{found_of, found_with, or_invariant, rules_found};
 ghost use Rattle.std.specs.List.{list_any};
 ghost use Rattle.std.specs.Prelude.{◌&&◌, ◌≡◌, ◌∷◌, [], IfOk, List, Some, not, ℕ};
 
@@ -58,20 +60,20 @@ fn read_rule(alloc: Global, scope: &Scope, next: u32, rule: &Rule) -> Result<Mea
 }
 
 /// What is found with one more rule, whose formula has become this. An earlier rule of its kind stays.
-fn with_rule(found: Found, rule: &Rule, formula: Meaning) -> Found
-    ensures { (n : ℕ) (sc : Visible) (rs : List LoopRule) → elaborate n sc (formula (loop_rule rule.now)) ≡ Some (meaning_of formula) → found_with result n sc rs ≡ found_with found n sc (loop_rule rule.now ∷ rs) }
+fn with_rule(found: Found, rule: &Rule, made: Meaning) -> Found
+    ensures { (n : ℕ) (sc : Visible) (rs : List LoopRule) → elaborate n sc (formula (loop_rule rule.now)) ≡ Some (meaning_of made) → found_with result n sc rs ≡ found_with found n sc (loop_rule rule.now ∷ rs) }
 {
-    let misses = found.misses || !meets(Demand::Formula, &formula);
+    let misses = found.misses || !meets(Demand::Formula, &made);
     match rule {
         Rule::Ranking(step, _, _) => Found {
             invariant: found.invariant,
             rank: found
                 .rank
-                .or(Some((weight_value(weight_of(step)), form(formula)))),
+                .or(Some((weight_value(weight_of(step)), form(made)))),
             misses,
         },
         Rule::Invariant(_, _) | Rule::KInduction(_, _, _) => Found {
-            invariant: found.invariant.or(Some(form(formula))),
+            invariant: found.invariant.or(Some(form(made))),
             rank: found.rank,
             misses,
         },
@@ -232,6 +234,16 @@ pub(crate) fn told_of_loop(
     )
 }
 
+/// The invariant; some form where there is none.
+fn or_infinity(invariant: Option<Form>) -> Form
+    ensures { form_of result ≡ or_invariant invariant (PlainForm.number infinite) }
+{
+    match invariant {
+        Some(invariant) => invariant,
+        None => Form::Const(Ext::Inf),
+    }
+}
+
 /// The act of a loop whose rules give it this.
 pub(crate) fn loop_act(
     alloc: Global,
@@ -246,14 +258,10 @@ pub(crate) fn loop_act(
     ensures { IfOk result (λ act. act_of act ≡ Plain.loop (record { number = number; k = copies_of (loop_rules rules.now); inv = (found_of found).invariant; guard = cond_of guard; rank = (found_of found).rank; scope = numbers scope.now; span = span }) (acts_view body)) }
 {
     let scope = scope.numbers(alloc)?;
-    let inv = match found.invariant {
-        Some(invariant) => invariant,
-        None => Form::Const(Ext::Inf),
-    };
     let one = LoopAct {
         number,
         k: copies_of(rules),
-        inv,
+        inv: or_infinity(found.invariant),
         guard,
         body,
         rank: found.rank,

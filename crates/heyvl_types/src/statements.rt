@@ -13,7 +13,7 @@ ghost use Rattle.heyvl_types.specs.StatementRules.{assign_rules, check_rules, ch
 ghost use Rattle.heyvl_types.specs.TypedExpressions.{closed_findings, elaborate};
 ghost use Rattle.heyvl_types.specs.Variables.{declared, type_or_bool};
 ghost use Rattle.heyvl_types.specs.Table.{declarable};
-ghost use Rattle.std.specs.Prelude.{◌++◌, ◌≡◌, ◌∷◌, [], IfOk, OnOk, length, map, take};
+ghost use Rattle.std.specs.Prelude.{◌++◌, ◌≡◌, ◌∷◌, [], IfOk, OnOk, false, length, map, take};
 
 use crate::acts::Act;
 use crate::assignments::{read_assign, read_var};

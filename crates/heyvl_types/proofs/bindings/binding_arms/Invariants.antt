@@ -1,15 +1,10 @@
-use Rattle.heyvl_syntax.specs.Statements.{arms}
+use Rattle.heyvl_types.proofs.LastPassing.{FreeBehind, binds_arm}
 use Rattle.heyvl_types.proofs.bindings.binding_arms.Given as goal
-use Rattle.heyvl_types.specs.StatementRules.{arms_bind}
-use Rattle.std.proofs.Common.{drop, false, length, take, ◌≡◌, ◌≤◌}
+use Rattle.std.proofs.Common.{length}
 
 -- The rest is the first arms; behind it nothing binds.
 abbrev pub invariant-loop-last : goal.invariant-loop-last
-invariant-loop-last l = record {
-  first = l.rest ≡ take (length l.rest) l.all;
-  inside = length l.rest ≤ length l.all;
-  behind = arms_bind (arms (drop (length l.rest) l.all)) ≡ false;
-}
+invariant-loop-last l = FreeBehind binds_arm l.all l.rest
 
 abbrev pub decreases-loop-last : goal.decreases-loop-last
 decreases-loop-last l = length l.rest

@@ -6,7 +6,7 @@ use Rattle.std.proofs.Common.{drop, ◌+◌, ◌≡◌}
 -- What is counted and what is left is the whole.
 abbrev pub invariant-loop-rule : goal.invariant-loop-rule
 invariant-loop-rule l = record {
-  invariants = count_of_invariants (loop_rules l.rules) ≡ l.invariants + count_of_invariants (loop_rules (drop l.rule-index l.rules));
-  rankings = count_of_rankings (loop_rules l.rules) ≡ l.rankings + count_of_rankings (loop_rules (drop l.rule-index l.rules));
-  few = l.invariants + l.rankings ≡ l.rule-index;
+  invariants : count_of_invariants (loop_rules l.rules) ≡ l.invariants + count_of_invariants (loop_rules (drop l.rule-index l.rules));
+  rankings : count_of_rankings (loop_rules l.rules) ≡ l.rankings + count_of_rankings (loop_rules (drop l.rule-index l.rules));
+  few : l.invariants + l.rankings ≡ l.rule-index;
 }
