@@ -3,7 +3,8 @@ use Rattle.heyvl_syntax.specs.Statements.{arms, block, guarded, statement}
 use Rattle.heyvl_syntax.specs.declared.statements.Arm.{Arm}
 use Rattle.heyvl_syntax.specs.declared.statements.Stmt.{Stmt}
 use Rattle.heyvl_types.specs.StatementRules.{arms_bind, binds, block_binds}
-use Rattle.std.proofs.Common.{Bool, List, [], ap, append_assoc, append-nil, drop, false, length, refl, sym, true, ◌++◌, ◌+◌, ◌∙◌, ◌||◌, ◌≡◌, ◌∷◌, ℕ}
+use Rattle.std.proofs.Common.{Bool, List, [], ap, append_assoc, append-nil, drop, false, length, refl, arith, sym, true, ◌++◌, ◌+◌, ◌∙◌, ◌||◌, ◌≡◌, ◌∷◌, ℕ}
+use Rattle.std.proofs.lemmas.Bool.{le-ltb}
 use Rattle.std.specs.List.{list_any}
 use Rattle.std.specs.Prelude.{nat_lt}
 use Prim.Native.Nat.{zero, suc}
@@ -41,14 +42,14 @@ free_step p all rest front last f e h = record {
   free = or_false (p last) (list_any p f.behind) h f.free;
 }
 
+second_false : (a b : Bool) → (a || b) ≡ false → b ≡ false
+second_false true b h = absurd (cc)
+second_false false b h = h
+
 none_further : {X : Type 0} (p : X → Bool) (xs : List X) (i : ℕ) → list_any p xs ≡ false → list_any p (drop i xs) ≡ false
 none_further p xs zero h = h
 none_further p [] (suc i) h = refl
-none_further p (x ∷ xs) (suc i) h = go (p x) h
-  where
-    go : (b : Bool) → (b || list_any p xs) ≡ false → list_any p (drop i xs) ≡ false
-    go true k = absurd (cc)
-    go false k = none_further p xs i k
+none_further p (x ∷ xs) (suc i) h = none_further p xs i (second_false (p x) (list_any p xs) h)
 
 or_true : (a b : Bool) → b ≡ true → (a || b) ≡ true
 or_true true b h = refl
@@ -56,12 +57,15 @@ or_true false b h = h
 
 upto : {X : Type 0} (p : X → Bool) (front : List X) (last : X) (behind : List X) (i : ℕ) → p last ≡ true → list_any p behind ≡ false → list_any p (drop i (front ++ last ∷ behind)) ≡ nat_lt i (suc (length front))
 upto p [] last behind zero h k = ap (λ r. r || list_any p behind) h
-upto p [] last behind (suc i) h k = none_further p behind i k
+upto p [] last behind (suc i) h k = none_further p behind i k ∙ sym (le-ltb (suc i) 1 (omega arith))
 upto p (x ∷ front) last behind zero h k = or_true (p x) _ (upto p front last behind zero h k)
 upto p (x ∷ front) last behind (suc i) h k = upto p front last behind i h k
 
-pub last_passes : {X : Type 0} (p : X → Bool) (all rest front : List X) (last : X) (i : ℕ) → FreeBehind p all rest → rest ≡ front ++ last ∷ [] → p last ≡ true → list_any p (drop i all) ≡ nat_lt i (suc (length front))
-last_passes p all rest front last i f e h = ap (λ r. list_any p (drop i r)) (f.whole ∙ (ap (λ r. r ++ f.behind) e ∙ append_assoc front (last ∷ []) f.behind)) ∙ upto p front last f.behind i h f.free
+pub last_passes : {X : Type 0} (p : X → Bool) (all rest front : List X) (last : X) (i : ℕ) → FreeBehind p all rest → (rest ≡ front ++ last ∷ []) × (length front + 1 ≡ length rest) → p last ≡ true → list_any p (drop i all) ≡ nat_lt i (length rest)
+last_passes p all rest front last i f e h =
+    let n : suc (length front) ≡ length rest = let k = e.1 in omega (arith, k) in
+    ap (λ r. list_any p (drop i r)) (f.whole ∙ (ap (λ r. r ++ f.behind) e.0 ∙ append_assoc front (last ∷ []) f.behind)) ∙ (upto p front last f.behind i h f.free ∙ ap (λ m. nat_lt i m) n)
 
-pub none_passes : {X : Type 0} (p : X → Bool) (all : List X) (i : ℕ) → FreeBehind p all [] → list_any p (drop i all) ≡ nat_lt i 0
-none_passes p all i f = ap (λ r. list_any p (drop i r)) f.whole ∙ none_further p f.behind i f.free
+pub none_passes : {X : Type 0} (p : X → Bool) (all rest : List X) (i : ℕ) → FreeBehind p all rest → length rest ≡ 0 → list_any p (drop i all) ≡ nat_lt i 0
+none_passes p all [] i f e = ap (λ r. list_any p (drop i r)) f.whole ∙ (none_further p f.behind i f.free ∙ sym (le-ltb i 0 (omega arith)))
+none_passes p all (x ∷ rest) i f e = absurd (omega arith)

@@ -12,3 +12,5 @@ pub mod TypedMeanings
 mod Rests
 mod Walks
 mod LastPassing
+mod ReadRests
+mod RuleHeads

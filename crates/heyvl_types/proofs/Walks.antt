@@ -16,7 +16,7 @@ use Rattle.heyvl_types.specs.Variables.{behind, locals, locals_of_arms, locals_o
 use Rattle.heyvl_types.specs.declared.demands.Demand.{Demand}
 use Rattle.heyvl_types.specs.declared.settings.Setting.{Setting}
 use Rattle.heyvl_types.specs.declared.typed.VarInfo.{VarInfo}
-use Rattle.std.proofs.Common.{Bool, List, Some, [], add-assoc, ap, append_assoc, arith, length, map, refl, sym, take, ◌++◌, ◌+◌, ◌||◌, ◌∙◌, ◌≡◌, ◌∷◌, ◌≤◌, ℕ}
+use Rattle.std.proofs.Common.{Bool, List, Some, [], ap, append_assoc, arith, length, map, refl, sym, take, ◌++◌, ◌+◌, ◌||◌, ◌∙◌, ◌≡◌, ◌∷◌, ◌≤◌, ℕ}
 use Rattle.std.proofs.lemmas.List.{length-append, length-map}
 
 -- ---- Acts in a row
