@@ -5,17 +5,18 @@ use Rattle.heyvl_syntax.proofs.exported.PlainTreesAre.{plain_statements}
 use Rattle.heyvl_syntax.specs.Expressions.{expression}
 use Rattle.heyvl_syntax.specs.Statements as text
 use Rattle.heyvl_syntax.specs.Statements.{Block, arms, block, statement}
+use Rattle.heyvl_syntax.specs.declared.spans.Span.{Span}
 use Rattle.heyvl_syntax.specs.declared.statements.Arm.{Arm}
 use Rattle.heyvl_syntax.specs.declared.statements.Stmt.{Stmt}
-use Rattle.heyvl_types.proofs.Rests.{arms_end, arms_next, block_end, block_next}
-use Rattle.heyvl_types.proofs.Walks.{ArmsRead, BlockRead, arms_fault, arms_step, arms_then_none, block_fault, block_step, join_done}
+use Rattle.heyvl_types.proofs.Rests.{arms_end, arms_next, block_end, block_next, rest_next}
+use Rattle.heyvl_types.proofs.Walks.{ArmsRead, BlockRead, arms_fault, arms_step, arms_then_none, block_fault, block_step, join_assoc, join_done}
 use Rattle.heyvl_types.specs.Acts.{Act, Acts, Arms, join}
 use Rattle.heyvl_types.specs.Answers.{Gives, acts_view, arms_view}
 use Rattle.heyvl_types.specs.Findings.{first}
 use Rattle.heyvl_types.specs.PlainActs.{act_of, acts_of, arm_of, armed, variable_of}
-use Rattle.heyvl_types.specs.Scopes.{Scope}
+use Rattle.heyvl_types.specs.Scopes.{Scope, find}
 use Rattle.heyvl_types.specs.Signatures.{Called}
-use Rattle.heyvl_types.specs.StatementActs.{arms_acts, block_acts, condition, loops, loops_of_arms, loops_of_block, statement_acts}
+use Rattle.heyvl_types.specs.StatementActs.{arms_acts, block_acts, condition, havocs, loops, loops_of_arms, loops_of_block, number_or_zero, statement_acts, type_of_local}
 use Rattle.heyvl_types.specs.StatementRules.{arms_bind, arms_findings, block_binds, block_findings, statement_findings}
 use Rattle.heyvl_types.specs.TypedExpressions.{closed_findings, elaborate}
 use Rattle.heyvl_types.specs.Variables.{behind, locals, locals_of_arms, locals_of_block}
@@ -25,7 +26,7 @@ use Rattle.heyvl_types.specs.declared.settings.Setting.{Setting}
 use Rattle.heyvl_types.specs.declared.stops.ResolveStop.{ResolveStop}
 use Rattle.heyvl_types.specs.declared.typed.VarInfo.{VarInfo}
 use Rattle.std.proofs.Common.{Bool, Err, List, Vec, [], ap, append-nil, arith, drop, get_or, length, map, refl, subst, sym, take, tt, ◌++◌, ◌+◌, ◌<◌, ◌||◌, ◌∙◌, ◌≡◌, ◌∷◌, ◌≤◌, ℕ}
-use Rattle.std.proofs.lemmas.List.{map-append}
+use Rattle.std.proofs.lemmas.List.{drop_all, map-append}
 use Rattle.std.specs.declared.alloc.Global.{Global}
 
 acts_append : (xs ys : List A.Act) → acts_of (xs ++ ys) ≡ join (acts_of xs) (acts_of ys)
@@ -40,10 +41,10 @@ pub block_stops : (h : Setting) (called : Called) (bound : Bool) (ws : List VarI
 block_stops h called bound ws k wsc xs acts vs m sc i x inner (ResolveStop.Fault n s) d q b lt is o g = block_fault h called bound ws k wsc (block xs) acts vs m sc (statement x) (block (drop (i + 1) xs)) (n, s) (block_at h called bound ws k wsc xs acts vs m sc i x b lt is) (ap (λ t. first (statement_findings h called t (length vs) sc (statement x))) (sym o) ∙ g)
 block_stops h called bound ws k wsc xs acts vs m sc i x inner (ResolveStop.Memory e) d q b lt is o g = tt
 
-pub block_more : (h : Setting) (called : Called) (bound : Bool) (ws : List VarInfo) (k : ℕ) (wsc : Scope) (xs : List Stmt) (as more : List A.Act) (vs : List VarInfo) (m : ℕ) (sc : Scope) (i : ℕ) (x : Stmt) (inner : Bool) (us : List VarInfo) (j : ℕ) (tc : Scope) → BlockRead h called bound ws k wsc (block xs) (acts_of as) vs m sc (block (drop i xs)) → i < length xs → x ≡ get_or xs i x → inner ≡ (bound || block_binds (block (drop (i + 1) xs))) → (statement_findings h called inner (length vs) sc (statement x) ≡ []) × (acts_of more ≡ statement_acts h called (length vs) m sc (statement x)) → tc ≡ behind (length vs) sc (statement x) → take (length sc) tc ≡ sc → map variable_of us ≡ map variable_of vs ++ locals (statement x) → j ≡ m + loops (statement x) → BlockRead h called bound ws k wsc (block xs) (acts_of (as ++ more)) us j tc (block (drop (i + 1) xs))
-block_more h called bound ws k wsc xs as more vs m sc i x inner us j tc b lt is o g t p l c =
-    subst (λ a. BlockRead h called bound ws k wsc (block xs) a us j tc (block (drop (i + 1) xs))) (sym (acts_append as more))
-    (block_step h called bound ws k wsc (block xs) (acts_of as) vs m sc (statement x) (block (drop (i + 1) xs)) (acts_of more) us j tc (block_at h called bound ws k wsc xs (acts_of as) vs m sc i x b lt is) (ap (λ t. statement_findings h called t (length vs) sc (statement x)) (sym o) ∙ g.0) g.1 t p l c)
+pub block_more : (h : Setting) (called : Called) (bound : Bool) (ws : List VarInfo) (k : ℕ) (wsc : Scope) (xs : List Stmt) (made more : List A.Act) (vs : List VarInfo) (m : ℕ) (sc : Scope) (i : ℕ) (x : Stmt) (inner : Bool) (us : List VarInfo) (j : ℕ) (tc : Scope) → BlockRead h called bound ws k wsc (block xs) (acts_of made) vs m sc (block (drop i xs)) → i < length xs → x ≡ get_or xs i x → inner ≡ (bound || block_binds (block (drop (i + 1) xs))) → (statement_findings h called inner (length vs) sc (statement x) ≡ []) × (acts_of more ≡ statement_acts h called (length vs) m sc (statement x)) → tc ≡ behind (length vs) sc (statement x) → take (length sc) tc ≡ sc → map variable_of us ≡ map variable_of vs ++ locals (statement x) → j ≡ m + loops (statement x) → BlockRead h called bound ws k wsc (block xs) (acts_of (made ++ more)) us j tc (block (drop (i + 1) xs))
+block_more h called bound ws k wsc xs made more vs m sc i x inner us j tc b lt is o g t p l c =
+    subst (λ a. BlockRead h called bound ws k wsc (block xs) a us j tc (block (drop (i + 1) xs))) (sym (acts_append made more))
+    (block_step h called bound ws k wsc (block xs) (acts_of made) vs m sc (statement x) (block (drop (i + 1) xs)) (acts_of more) us j tc (block_at h called bound ws k wsc xs (acts_of made) vs m sc i x b lt is) (ap (λ t. statement_findings h called t (length vs) sc (statement x)) (sym o) ∙ g.0) g.1 t p l c)
 
 pub block_ends : (h : Setting) (called : Called) (bound : Bool) (ws : List VarInfo) (k : ℕ) (wsc : Scope) (xs : List Stmt) (acts : Acts) (vs : List VarInfo) (m : ℕ) (sc : Scope) (i : ℕ) → BlockRead h called bound ws k wsc (block xs) acts vs m sc (block (drop i xs)) → length xs ≤ i → BlockRead h called bound ws k wsc (block xs) acts vs m sc Block.done
 block_ends h called bound ws k wsc xs acts vs m sc i b over = subst (λ r. BlockRead h called bound ws k wsc (block xs) acts vs m sc r) (block_end xs i over) b
@@ -81,3 +82,12 @@ arms_list h called bound ws k sc whole done vs m b = sym (b.listed ∙ append-ni
 
 pub arms_number : (h : Setting) (called : Called) (bound : Bool) (ws : List VarInfo) (k : ℕ) (sc : Scope) (whole : text.Arms) (done : List (Cond × Acts)) (vs : List VarInfo) (m : ℕ) → ArmsRead h called bound ws k sc whole done vs m text.Arms.no_arm → m ≡ k + loops_of_arms whole
 arms_number h called bound ws k sc whole done vs m b = let e = b.numbered in omega (arith, e)
+
+-- ---- Havocs
+
+-- One variable more has any value.
+pub havoc_more : (sc : Scope) (co : Bool) (s : Span) (xs : List (List ℕ)) (i : ℕ) (x : List ℕ) (made : List A.Act) (one : A.Act) → havocs sc co xs s ≡ join (acts_of made) (havocs sc co (drop i xs) s) → i < length xs → x ≡ get_or xs i x → act_of one ≡ Act.any (number_or_zero (find sc x)) co (type_of_local (find sc x)) s → havocs sc co xs s ≡ join (acts_of (made ++ one ∷ [])) (havocs sc co (drop (i + 1) xs) s)
+havoc_more sc co s xs i x made one inv lt is a = inv ∙ (ap (λ r. join (acts_of made) r) (rest_next (λ r. havocs sc co r s) xs i x lt is) ∙ (ap (λ r. join (acts_of made) (Acts.next r (havocs sc co (drop (i + 1) xs) s))) (sym a) ∙ (sym (join_assoc (acts_of made) (Acts.next (act_of one) Acts.done) (havocs sc co (drop (i + 1) xs) s)) ∙ ap (λ r. join r (havocs sc co (drop (i + 1) xs) s)) (sym (acts_append made (one ∷ []))))))
+
+pub havoc_all : (sc : Scope) (co : Bool) (s : Span) (xs : List (List ℕ)) (i : ℕ) (made : List A.Act) → havocs sc co xs s ≡ join (acts_of made) (havocs sc co (drop i xs) s) → length xs ≤ i → acts_of made ≡ havocs sc co xs s
+havoc_all sc co s xs i made inv over = sym (inv ∙ (ap (λ r. join (acts_of made) (havocs sc co r s)) (drop_all i xs over) ∙ join_done (acts_of made)))

@@ -4,7 +4,7 @@ ghost use Rattle.heyvl_syntax.specs.Expressions.{expression};
 ghost use Rattle.heyvl_syntax.specs.Statements.{Statement, arms, block, loop_rules, statement};
 ghost use Rattle.heyvl_types.specs.Answers.{Gives, acts_view, arms_view};
 ghost use Rattle.heyvl_types.specs.PlainActs.{arm_of, variable_of};
-ghost use Rattle.heyvl_types.specs.StatementActs.{arms_acts, block_acts, condition, loops, loops_of_arms, loops_of_block, statement_acts};
+ghost use Rattle.heyvl_types.specs.StatementActs.{arms_acts, block_acts, condition, loops as loops_of, loops_of_arms, loops_of_block, statement_acts};
 ghost use Rattle.heyvl_types.specs.StatementRules.{arms_findings, block_findings, statement_findings};
 ghost use Rattle.heyvl_types.specs.TypedExpressions.{closed_findings, elaborate};
 ghost use Rattle.heyvl_types.specs.Variables.{behind, locals, locals_of_arms, locals_of_block};
@@ -47,7 +47,7 @@ fn read_loop(
     ensures gives { Gives acts_view result (statement_findings setting calls.now bound (length vars.old.items) scope.old (Statement.loop (loop_rules rules.now) (expression guard.now) (block body.now) span)) (statement_acts setting calls.now (length vars.old.items) loops.old scope.old (Statement.loop (loop_rules rules.now) (expression guard.now) (block body.now) span)) }
     ensures kept { OnOk result (scope.new ≡ scope.old) }
     ensures listed { OnOk result (map variable_of vars.new.items ≡ map variable_of vars.old.items ++ locals (Statement.loop (loop_rules rules.now) (expression guard.now) (block body.now) span)) }
-    ensures numbered { OnOk result (loops.new ≡ loops.old + loops (Statement.loop (loop_rules rules.now) (expression guard.now) (block body.now) span)) }
+    ensures numbered { OnOk result (loops.new ≡ loops.old + loops_of (Statement.loop (loop_rules rules.now) (expression guard.now) (block body.now) span)) }
 {
     let number = *loops;
     *loops = after(number)?;
@@ -111,7 +111,8 @@ fn read_arms(
     let binding = binding_arms(all);
     let mut made = Vec::with_capacity(alloc, all.len())?;
     for (i, arm) in all.iter().enumerate() {
-        let arm_bound = bound || i + 1 < binding;
+        let behind = i + 1;
+        let arm_bound = bound || behind < binding;
         made.push(read_arm(alloc, setting, calls, arm_bound, scope, vars, loops, arm)?)?;
     }
     Ok(made)
@@ -133,7 +134,7 @@ fn read_statement(
     ensures shown { OnOk result (scope.new ≡ behind (length vars.old.items) scope.old (statement one.now)) }
     ensures kept { OnOk result (take (length scope.old) scope.new ≡ scope.old) }
     ensures listed { OnOk result (map variable_of vars.new.items ≡ map variable_of vars.old.items ++ locals (statement one.now)) }
-    ensures numbered { OnOk result (loops.new ≡ loops.old + loops (statement one.now)) }
+    ensures numbered { OnOk result (loops.new ≡ loops.old + loops_of (statement one.now)) }
 {
     match one {
         Stmt::Var(name, ty, right, span) => {
@@ -188,7 +189,8 @@ pub(crate) fn read_block(
     let binding = binding_statements(statements);
     let mut acts = Vec::new(alloc);
     for (i, one) in statements.iter().enumerate() {
-        let one_bound = bound || i + 1 < binding;
+        let behind = i + 1;
+        let one_bound = bound || behind < binding;
         let mut made = read_statement(alloc, setting, calls, one_bound, scope, vars, loops, one)?;
         acts.append(&mut made)?;
     }

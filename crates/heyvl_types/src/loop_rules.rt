@@ -63,7 +63,8 @@ fn read_rule(alloc: Global, scope: &Scope, next: u32, rule: &Rule) -> Result<Mea
 fn with_rule(found: Found, rule: &Rule, made: Meaning) -> Found
     ensures { (n : ℕ) (sc : Visible) (rs : List LoopRule) → elaborate n sc (formula (loop_rule rule.now)) ≡ Some (meaning_of made) → found_with result n sc rs ≡ found_with found n sc (loop_rule rule.now ∷ rs) }
 {
-    let misses = found.misses || !meets(Demand::Formula, &made);
+    let fits = meets(Demand::Formula, &made);
+    let misses = found.misses || !fits;
     match rule {
         Rule::Ranking(step, _, _) => Found {
             invariant: found.invariant,
