@@ -13,3 +13,8 @@ pub mod resolved
 pub mod Coprime
 pub mod CallEntries
 pub mod IntegerParts
+mod Rests
+mod Walks
+mod LastPassing
+mod ReadRests
+mod RuleHeads

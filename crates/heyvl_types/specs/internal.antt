@@ -1,1 +1,2 @@
 pub mod RightSideParts
+pub mod LoopHeads

@@ -3,6 +3,8 @@
 
 mod acts;
 mod assignments;
+mod bindings;
+mod blocks;
 mod calls;
 mod choices;
 mod copies;
@@ -12,13 +14,16 @@ mod expressions;
 mod integers;
 mod laws;
 mod literals;
+mod loop_rules;
 mod meanings;
+mod names;
 mod operators;
 mod places;
 mod quantifiers;
 mod rules;
 mod scopes;
 mod settings;
+mod statements;
 mod stops;
 mod typed;
 mod value_types;
