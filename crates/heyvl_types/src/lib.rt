@@ -5,6 +5,7 @@ mod acts;
 mod copies;
 mod demands;
 mod expressions;
+mod files;
 mod laws;
 mod literals;
 mod meanings;
@@ -17,6 +18,7 @@ mod typed;
 mod weights;
 
 pub use acts::{Act, LoopAct};
+pub use files::resolve;
 pub use laws::{expressions_are_typed, forward_meaning_matches_runs};
 pub use places::act_at;
 pub use stops::ResolveStop;
