@@ -1,6 +1,8 @@
 mod Matching
 mod Copying
 mod Finding
+pub mod Targets
+pub mod Counts
 mod ActExamples
 pub mod exported
 mod ExampleTexts

@@ -2,6 +2,7 @@
 #![tactic(auto)]
 
 mod acts;
+mod counts;
 mod copies;
 mod demands;
 mod expressions;
@@ -14,6 +15,7 @@ mod places;
 mod scopes;
 mod settings;
 mod stops;
+mod targets;
 mod typed;
 mod weights;
 
