@@ -19,5 +19,11 @@ Gives view (Ok a) found b = (found ≡ []) × (view a ≡ b)
 Gives view (Err (ResolveStop.Fault n s)) found b = first found ≡ Some (n, s)
 Gives view (Err (ResolveStop.Memory e)) found b = ⊤
 
+-- The same of what only looks at a part.
+abbrev pub Tells : Result (Unit {0}) ResolveStop → List Finding → Type 0
+Tells (Ok u) found = found ≡ []
+Tells (Err (ResolveStop.Fault n s)) found = first found ≡ Some (n, s)
+Tells (Err (ResolveStop.Memory e)) found = ⊤
+
 abbrev pub read : M.Meaning → Option Meaning
 read m = Some (meaning_of m)

@@ -2,8 +2,10 @@
 #![tactic(auto)]
 
 mod acts;
-mod counts;
+mod assignments;
+mod calls;
 mod copies;
+mod counts;
 mod demands;
 mod expressions;
 mod files;
@@ -12,6 +14,8 @@ mod literals;
 mod meanings;
 mod operators;
 mod places;
+mod quantifiers;
+mod rules;
 mod scopes;
 mod settings;
 mod stops;
