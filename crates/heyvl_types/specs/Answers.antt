@@ -1,10 +1,14 @@
 -- What an answer says of a part of a text: a fault is the first finding, a result comes exactly where nothing is found.
 use Rattle.heylo_formula.specs.PlainTrees.{cond_of, form_of}
+use Rattle.heyvl_types.specs.Acts.{Acts}
 use Rattle.heyvl_types.specs.Findings.{Finding, first}
+use Rattle.heyvl_types.specs.PlainActs.{acts_of}
 use Rattle.heyvl_types.specs.Table.{Meaning, kind_of}
+use Rattle.heyvl_types.specs.declared.acts.Act as A
 use Rattle.heyvl_types.specs.declared.meanings.Meaning as M
 use Rattle.heyvl_types.specs.declared.stops.ResolveStop.{ResolveStop}
-use Rattle.std.specs.Prelude.{Err, List, Ok, Option, Result, Some, [], ⊤, ◌≡◌}
+use Rattle.std.specs.Prelude.{Err, List, Ok, Option, Result, Some, Vec, [], ⊤, ◌≡◌}
+use Rattle.std.specs.declared.alloc.Global.{Global}
 
 -- The plain meaning that a meaning in memory holds.
 abbrev pub meaning_of : M.Meaning → Meaning
@@ -27,3 +31,7 @@ Tells (Err (ResolveStop.Memory e)) found = ⊤
 
 abbrev pub read : M.Meaning → Option Meaning
 read m = Some (meaning_of m)
+
+-- The plain acts of acts in memory.
+abbrev pub acts_view : Vec A.Act Global → Acts
+acts_view acts = acts_of acts.items

@@ -25,3 +25,4 @@ pub mod StatementActs
 pub mod Files
 pub mod Answers
 pub mod ExpressionLaws
+pub mod internal

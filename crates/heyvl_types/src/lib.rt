@@ -3,17 +3,23 @@
 
 mod acts;
 mod assignments;
+mod blocks;
 mod calls;
+mod clauses;
 mod copies;
 mod counts;
 mod demands;
 mod expressions;
 mod files;
+mod fronts;
 mod laws;
 mod literals;
+mod locals;
 mod meanings;
 mod operators;
+mod parameters;
 mod places;
+mod procedures;
 mod quantifiers;
 mod rules;
 mod scopes;

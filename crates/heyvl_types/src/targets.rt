@@ -2,6 +2,7 @@
 
 ghost use Rattle.heyvl_types.specs.Modified.{is_target_of, is_target_of_act, modified};
 ghost use Rattle.heyvl_types.specs.PlainActs.{act_of, acts_of};
+ghost use Rattle.heyvl_types.specs.Visible.{among};
 ghost use Rattle.std.specs.Prelude.{◌≡◌, length};
 
 use crate::acts::Act;
@@ -41,8 +42,15 @@ fn is_target_of_act(x: u32, act: &Act) -> bool
         Act::Check(_, _, _) => false,
         Act::Validate(_, _) => false,
         Act::Loop(one) => is_target(x, &one.body),
-        Act::Call(targets, _, _, _) => targets.iter().any(|y| *y == x),
+        Act::Call(targets, _, _, _) => is_among(x, targets),
     }
+}
+
+/// Whether the variable is among these.
+fn is_among(x: u32, targets: &[u32]) -> bool
+    ensures { result ≡ among targets.now x }
+{
+    targets.contains(&x)
 }
 
 /// How many variables of a scope acts give a value.

@@ -1,4 +1,4 @@
-use Rattle.heyvl_types.proofs.Counts.{Counts, acts_left, arms_left}
+use Rattle.heyvl_types.proofs.CountsLeft.{Counts, acts_left, arms_left}
 use Rattle.heyvl_types.proofs.counts.+counting.Given as goal
 use Rattle.heyvl_types.specs.Count.{count_of, count_of_act}
 use Rattle.heyvl_types.specs.PlainActs.{act_of, acts_of}

@@ -1,4 +1,4 @@
-use Rattle.heyvl_types.proofs.Targets.{arms_from}
+use Rattle.heyvl_types.proofs.TargetSteps.{arms_from}
 use Rattle.heyvl_types.proofs.targets.+targets.Given as goal
 use Rattle.heyvl_types.specs.Modified.{is_target_of, is_target_of_act}
 use Rattle.heyvl_types.specs.PlainActs.{act_of, acts_of}

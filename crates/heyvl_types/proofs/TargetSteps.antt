@@ -8,6 +8,7 @@ use Rattle.heyvl_types.specs.PlainActs.{act_of, acts_of, arms_of}
 use Rattle.heyvl_types.specs.Visible.{among}
 use Rattle.heyvl_types.specs.declared.acts.Act as A
 use Rattle.std.proofs.Common.{Bool, List, [], ap, arith, cond, drop, false, get_or, length, refl, sym, true, ◌+◌, ◌++◌, ◌<◌, ◌∙◌, ◌≡◌, ◌≤◌, ◌∷◌, ℕ}
+use Rattle.std.proofs.lemmas.List.Recursion.{is_count_by}
 use Rattle.std.proofs.lemmas.List.{at_drop_more, drop_all}
 use Rattle.std.specs.List.{list_any}
 use Rattle.std.specs.Prelude.{Vec, count_by, if◌then◌else◌, ◌==◌, ◌||◌}
@@ -52,10 +53,9 @@ pub among_any : (x : ℕ) (ys : List ℕ) → list_any (λ y. y == x) ys ≡ amo
 among_any x [] = refl
 among_any x (y ∷ ys) = ap (λ r. (y == x) || r) (among_any x ys)
 
-pub modified_count : (xs : List ℕ) (b : Acts) → count_by (λ x. is_target_of x b) xs ≡ length (modified xs b)
-modified_count [] b = refl
-modified_count (x ∷ xs) b = go (is_target_of x b) (modified_count xs b)
+pub modified_count : (xs : List ℕ) (b : Acts) → length (modified xs b) ≡ count_by (λ x. is_target_of x b) xs
+modified_count xs b = is_count_by (λ ys. length (modified ys b)) (λ x. is_target_of x b) refl (λ x ys. one_more (is_target_of x b) x (modified ys b)) xs
   where
-    go : (t : Bool) → count_by (λ y. is_target_of y b) xs ≡ length (modified xs b) → cond t 1 0 + count_by (λ y. is_target_of y b) xs ≡ length (if t then x ∷ modified xs b else modified xs b)
-    go true h = omega (arith, h)
-    go false h = omega (arith, h)
+    one_more : (t : Bool) (x : ℕ) (ys : List ℕ) → length (if t then x ∷ ys else ys) ≡ cond t (1 + length ys) (length ys)
+    one_more true x ys = omega arith
+    one_more false x ys = refl

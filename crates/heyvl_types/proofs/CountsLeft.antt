@@ -1,10 +1,13 @@
 -- Counts that stand still at a ceiling, of acts and arms in a row.
 use Rattle.heylo_formula.specs.declared.forms.Cond as C
 use Rattle.heyvl_syntax.specs.declared.spans.Span.{Span}
-use Rattle.heyvl_types.proofs.exported.PlainActsAre.{if_act}
+use Rattle.heyvl_types.proofs.exported.PlainActsAre.{head_of, if_act}
+use Rattle.heyvl_types.specs.Acts.{Act}
 use Rattle.heyvl_types.specs.Count.{count_of, count_of_act, count_of_arms}
-use Rattle.heyvl_types.specs.PlainActs.{act_of, acts_of, arms_of}
+use Rattle.heyvl_types.specs.PlainActs.{act_of, acts_of, arms_of, loop_of}
 use Rattle.heyvl_types.specs.declared.acts.Act as A
+use Rattle.heyvl_types.specs.declared.acts.Act.TheFolds.{fold-roll-LoopAct}
+use Rattle.heyvl_types.specs.declared.acts.LoopAct as L
 use Rattle.std.proofs.Common.{List, [], ap, arith, drop, get_or, length, refl, sym, ◌*◌, ◌+◌, ◌<◌, ◌^◌, ◌∙◌, ◌≡◌, ◌≤◌, ◌-◌, ◌∷◌, ℕ}
 use Rattle.std.proofs.lemmas.List.{at_drop_more, drop_all}
 use Rattle.std.specs.Prelude.{Vec, min}
@@ -55,5 +58,12 @@ finished all total left c h = let s = c.same in let b = c.below in omega (arith,
 pub capped_self : (total : ℕ) → total ≤ 1025 → total ≡ min 1025 total
 capped_self total h = omega arith
 
-pub both_capped : (left right m n : ℕ) → left ≡ min 1025 m → right ≡ min 1025 n → min 1025 (min (left + right) (2 ^ 64 - 1)) ≡ min 1025 (m + n)
-both_capped left right m n a b = omega arith
+-- A loop, and a call.
+pub loop_plain : (l : L.LoopAct) → loop_of l ≡ Act.loop (head_of l) (acts_of l.body.items)
+loop_plain l = fold-roll-LoopAct _ _ _ _ _
+
+pub loop_full : (counted m copies : ℕ) → counted ≡ min 1025 (4 + copies) → 1025 ≤ counted → 1025 ≡ min 1025 (4 + (m + copies))
+loop_full counted m copies e h = omega arith
+
+pub loop_counted : (m copies : ℕ) → min 1025 ((4 + copies) + m) ≡ min 1025 (4 + (m + copies))
+loop_counted m copies = ap (min 1025) (omega arith)
