@@ -12,12 +12,11 @@ ghost use Rattle.std.specs.Prelude.{◌≡◌, ◌∷◌, [], IfOk, OnOk, map, o
 use crate::demands::{Demand, Front};
 use crate::expressions::{read, read_front};
 use crate::fronts::behind_front;
-use crate::literals::zero;
 use crate::meanings::Meaning;
+use crate::operators::{endless, nothing};
 use crate::scopes::Scope;
 use crate::stops::ResolveStop;
 use heylo_formula::Form;
-use heyvl_num::Ext;
 use heyvl_syntax::Expr;
 use std::alloc::{AllocError, Global};
 
@@ -26,9 +25,9 @@ fn form(meaning: Meaning) -> Form
     ensures { form_of result ≡ form (Some (meaning_of meaning)) }
 {
     match meaning {
-        Meaning::Truth(_) => Form::Const(Ext::Inf),
+        Meaning::Truth(_) => endless(),
         Meaning::Number(_, form) => form,
-        Meaning::Real => Form::Const(Ext::Inf),
+        Meaning::Real => endless(),
     }
 }
 
@@ -44,9 +43,9 @@ fn no_clause(co: bool) -> Form
     ensures { form_of result ≡ clause co [] }
 {
     if co {
-        Form::Const(Ext::Fin(zero()))
+        nothing()
     } else {
-        Form::Const(Ext::Inf)
+        endless()
     }
 }
 
