@@ -19,3 +19,5 @@ pub mod ScopeEntries
 pub mod LiteralFractions
 pub mod Reading
 pub mod TypedMeanings
+pub mod Coprime
+pub mod CallEntries

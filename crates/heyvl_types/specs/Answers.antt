@@ -3,10 +3,12 @@ use Rattle.heylo_formula.specs.PlainTrees.{cond_of, form_of}
 use Rattle.heyvl_types.specs.Acts.{Acts}
 use Rattle.heyvl_types.specs.Findings.{Finding, first}
 use Rattle.heyvl_types.specs.PlainActs.{acts_of}
+use Rattle.heyvl_types.specs.RightSides.{ValueType}
 use Rattle.heyvl_types.specs.Table.{Meaning, kind_of}
 use Rattle.heyvl_types.specs.declared.acts.Act as A
 use Rattle.heyvl_types.specs.declared.meanings.Meaning as M
 use Rattle.heyvl_types.specs.declared.stops.ResolveStop.{ResolveStop}
+use Rattle.heyvl_types.specs.declared.value_types.ValueType as V
 use Rattle.std.specs.Prelude.{Err, List, Ok, Option, Result, Some, Vec, [], ⊤, ◌≡◌}
 use Rattle.std.specs.declared.alloc.Global.{Global}
 
@@ -35,3 +37,8 @@ read m = Some (meaning_of m)
 -- The plain acts of acts in memory.
 abbrev pub acts_view : Vec A.Act Global → Acts
 acts_view acts = acts_of acts.items
+
+-- The type that a type of the program stands for.
+abbrev pub value_type : V.ValueType → ValueType
+value_type V.TheVariants.Truth = ValueType.truth
+value_type (V.TheVariants.Number t) = ValueType.number (kind_of t)
