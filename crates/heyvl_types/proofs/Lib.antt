@@ -1,6 +1,16 @@
 mod Matching
 mod Copying
 mod Finding
+pub mod TargetSteps
+pub mod Earlier
+pub mod Parts
+pub mod ParameterSteps
+pub mod ClauseForms
+pub mod PreAndPost
+pub mod LocalsLeft
+pub mod ProcedureParts
+pub mod ProcedureList
+pub mod CountsLeft
 mod ActExamples
 pub mod exported
 mod ExampleTexts

@@ -1,2 +1,4 @@
+pub mod Clauses
+pub mod Earlier
 pub mod RightSideParts
 pub mod LoopHeads
