@@ -6,8 +6,8 @@ mod assignments;
 mod bindings;
 mod blocks;
 mod calls;
-mod clauses;
 mod choices;
+mod clauses;
 mod copies;
 mod counts;
 mod demands;
@@ -18,8 +18,8 @@ mod fronts;
 mod integers;
 mod laws;
 mod literals;
-mod loop_rules;
 mod locals;
+mod loop_rules;
 mod meanings;
 mod names;
 mod operators;
@@ -39,12 +39,11 @@ mod values;
 mod weights;
 
 pub use acts::{Act, LoopAct};
+pub use files::resolve;
 pub use laws::{
     expressions_are_typed, forward_meaning_matches_runs, resolved_files_meet_the_rules,
     resolved_forms_are_small,
 };
-pub use files::resolve;
-pub use laws::{expressions_are_typed, forward_meaning_matches_runs};
 pub use places::act_at;
 pub use stops::ResolveStop;
 pub use typed::{TProc, Typed, VarInfo};
