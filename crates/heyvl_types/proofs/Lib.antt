@@ -12,3 +12,4 @@ pub mod TypedMeanings
 pub mod Coprime
 pub mod CallEntries
 pub mod IntegerParts
+pub mod WeightSums

@@ -21,8 +21,8 @@ mod scopes;
 mod settings;
 mod stops;
 mod typed;
+mod typed_values;
 mod value_types;
-mod values;
 mod weights;
 
 pub use acts::{Act, LoopAct};
