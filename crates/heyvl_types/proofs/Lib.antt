@@ -28,3 +28,4 @@ mod Walks
 mod LastPassing
 mod ReadRests
 mod RuleHeads
+pub mod WeightSums

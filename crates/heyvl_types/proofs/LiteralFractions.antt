@@ -143,14 +143,14 @@ quotient_weight n m q f e g = go (is_written n) (is_written m) (is_zero_literal 
 
 -- ---- Whole numbers and what they lack
 
-is_small_from : (z : ℤ) → unsigned_abs z < 2 ^ 127 → is_small z ≡ true
+pub is_small_from : (z : ℤ) → unsigned_abs z < 2 ^ 127 → is_small z ≡ true
 is_small_from z h = le-leb (suc (unsigned_abs z)) (2 ^ 127) (omega arith)
 
 pub whole_quotient : (a : ℤ) → unsigned_abs a < 2 ^ 127 → exact_quotient a (pos 1) ≡ Some (ratio a 1)
 unfolding exact_quotient quotient_fits quotient
 whole_quotient a h = rw (is_small_from a h) refl
 
-narrow_parts : (q : Rational) → is_too_wide q ≡ false → (unsigned_abs q.num < 2 ^ 62) × (q.den < 2 ^ 62)
+pub narrow_parts : (q : Rational) → is_too_wide q ≡ false → (unsigned_abs q.num < 2 ^ 62) × (q.den < 2 ^ 62)
 narrow_parts q h =
     let p = and_parts _ _ (not-false (nat_lt (unsigned_abs q.num) (2 ^ 62) && nat_lt q.den (2 ^ 62)) h) in
     (ltb-true (unsigned_abs q.num) (2 ^ 62) p.0, ltb-true q.den (2 ^ 62) p.1)

@@ -17,7 +17,7 @@ use crate::literals::zero;
 use crate::scopes::Scope;
 use crate::stops::ResolveStop;
 use crate::value_types::ValueType;
-use crate::values::{Value, read_value};
+use crate::typed_values::{Value, read_value};
 use crate::weights::{
     is_over_zero, is_probability, is_too_wide, is_weight_literal, weight_of, weight_value,
 };

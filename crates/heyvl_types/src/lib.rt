@@ -34,8 +34,8 @@ mod statements;
 mod stops;
 mod targets;
 mod typed;
+mod typed_values;
 mod value_types;
-mod values;
 mod weights;
 
 pub use acts::{Act, LoopAct};

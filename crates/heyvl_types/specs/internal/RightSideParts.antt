@@ -9,8 +9,8 @@ use Rattle.heyvl_types.specs.RightSides.{ValueType, join_types, type_of_expressi
 use Rattle.heyvl_types.specs.Scopes.{Scope}
 use Rattle.heyvl_types.specs.Table.{given}
 use Rattle.heyvl_types.specs.declared.choices.Choices.{Choices}
-use Rattle.heyvl_types.specs.declared.values.Value.{Value}
-use Rattle.heyvl_types.specs.declared.values.Values.{Values}
+use Rattle.heyvl_types.specs.declared.typed_values.Value.{Value}
+use Rattle.heyvl_types.specs.declared.typed_values.Values.{Values}
 use Rattle.std.specs.Prelude.{List, None, Option, [], map, option_map, ◌∷◌, ℕ}
 
 -- The types of values, where they have one that a variable may be given.
