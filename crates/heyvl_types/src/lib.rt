@@ -36,6 +36,7 @@ mod targets;
 mod typed;
 mod typed_values;
 mod value_types;
+mod values;
 mod weights;
 
 pub use acts::{Act, LoopAct};
