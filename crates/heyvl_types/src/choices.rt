@@ -19,7 +19,7 @@ use crate::stops::ResolveStop;
 use crate::value_types::ValueType;
 use crate::typed_values::{Value, read_value};
 use crate::weights::{
-    is_over_zero, is_probability, is_too_wide, is_weight_literal, weight_of, weight_value,
+    at_least_one, at_most_one, is_over_zero, is_probability, is_too_wide, is_weight_literal, weight_of, weight_value,
 };
 use heylo_formula::Term;
 use heyvl_num::Frac;
@@ -114,7 +114,7 @@ fn sum(left: Frac, right: Frac) -> Option<Frac>
 fn is_one(value: Frac) -> bool
     ensures { result ≡ leqʳ value oneʳ && leqʳ oneʳ value }
 {
-    value.num() == value.den()
+    at_most_one(value) && at_least_one(value)
 }
 
 /// Whether the weights don't add up to 1, or the sum of the first ones is too wide.

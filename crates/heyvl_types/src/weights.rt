@@ -172,8 +172,15 @@ pub(crate) fn is_over_zero(weight: Weight) -> bool
     }
 }
 
+/// Whether a fraction is at least 1.
+pub(crate) fn at_least_one(value: Frac) -> bool
+    ensures { result ≡ leqʳ oneʳ value }
+{
+    value.den() <= value.num()
+}
+
 /// Whether a fraction is at most 1.
-fn at_most_one(value: Frac) -> bool
+pub(crate) fn at_most_one(value: Frac) -> bool
     ensures { result ≡ leqʳ value oneʳ }
 {
     value.num() <= value.den()
