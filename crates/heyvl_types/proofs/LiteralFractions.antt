@@ -105,6 +105,10 @@ pub at_most_one_is : (q : Rational) → le_z q.num (pos q.den) ≡ leqʳ q oneʳ
 unfolding leqʳ oneʳ ratio gcd gcd_steps
 at_most_one_is q = ap₂ le_z (sym (*ℤ-one q.num)) (sym (one-*ℤ (pos q.den)))
 
+pub at_least_one_is : (q : Rational) → le_z (pos q.den) q.num ≡ leqʳ oneʳ q
+unfolding leqʳ oneʳ ratio gcd gcd_steps
+at_least_one_is q = ap₂ le_z (sym (one-*ℤ (pos q.den))) (sym (*ℤ-one q.num))
+
 pub at_most_zero_is : (q : Rational) → le_z q.num (pos 0) ≡ leqʳ q zeroʳ
 unfolding leqʳ zeroʳ ratio gcd gcd_steps
 at_most_zero_is q = ap₂ le_z (sym (*ℤ-one q.num)) (sym (zero_times (pos q.den)))
