@@ -42,11 +42,7 @@ fn front_of(co: bool) -> Front
 fn no_clause(co: bool) -> Form
     ensures { form_of result ≡ clause co [] }
 {
-    if co {
-        nothing()
-    } else {
-        endless()
-    }
+    if co { nothing() } else { endless() }
 }
 
 /// Two clauses joined: the greater in a coproc, the lesser in a proc.

@@ -2,8 +2,7 @@ use Rattle.heyvl_syntax.specs.Procedures.{procedures}
 use Rattle.heyvl_types.proofs.ProcedureList.{Reads}
 use Rattle.heyvl_types.proofs.files.resolve.Given as goal
 use Rattle.heyvl_types.specs.PlainActs.{procedure_of}
-use Rattle.heyvl_types.specs.Signatures.{called}
-use Rattle.std.proofs.Common.{map, ◌≡◌}
+use Rattle.std.proofs.Common.{map}
 
 abbrev pub invariant-loop-proc : goal.invariant-loop-proc
-invariant-loop-proc l = record { calls : l.calls ≡ called (procedures l.file); reads : Reads (procedures l.file) l.proc-index l.number (map procedure_of l.procs.items) }
+invariant-loop-proc l = Reads (procedures l.file) l.proc-index l.number (map procedure_of l.procs.items)
