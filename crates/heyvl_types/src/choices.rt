@@ -1,21 +1,44 @@
-//! The weights of a choose.
+//! Weights in texts.
 
 ghost use Rattle.heyvl_num.specs.Rational.{leqʳ, oneʳ, zeroʳ, ◌+ʳ◌};
+ghost use Rattle.heyvl_syntax.specs.Expressions.{expression};
 ghost use Rattle.heyvl_syntax.specs.Statements.{choices};
+ghost use Rattle.heyvl_types.specs.Answers.{Tells};
 ghost use Rattle.heyvl_types.specs.Literals.{is_over_zero, is_probability, is_too_wide, sums_wrong, weigh_wrong, weight_value};
-ghost use Rattle.heyvl_types.specs.RightSides.{weights};
+ghost use Rattle.heyvl_types.specs.RightSides.{weight_findings, weights};
 ghost use Rattle.std.specs.List.{list_any};
 ghost use Rattle.std.specs.Prelude.{◌&&◌, ◌≡◌, None, Some, false, if◌then◌else◌, not};
 
+use crate::demands::Demand;
+use crate::expressions::read;
 use crate::literals::zero;
+use crate::scopes::Scope;
+use crate::stops::ResolveStop;
 use crate::weights::{
-    at_least_one, at_most_one, is_over_zero, is_probability, is_too_wide, weight_of, weight_value,
+    at_least_one, at_most_one, is_over_zero, is_probability, is_too_wide, is_weight_literal, weight_of, weight_value,
 };
 use heyvl_num::Frac;
 use heyvl_syntax::Expr;
+use std::alloc::Global;
 
 /// The most choices that a choose may have.
 const MAX_CHOICES: usize = 16;
+
+/// The first fault in what stands where a weight is asked for. A weight literal has none.
+pub(crate) fn read_weight(
+    alloc: Global,
+    scope: &Scope,
+    next: u32,
+    e: &Expr,
+) -> Result<(), ResolveStop>
+    ensures { Tells result (weight_findings next scope.now (expression e.now)) }
+{
+    if is_weight_literal(weight_of(e)) {
+        return Ok(());
+    }
+    read(alloc, scope, next, e, Demand::Any)?;
+    Ok(())
+}
 
 /// Whether one of the weights isn't a probability.
 fn any_improbable(all: &[(Expr, Expr)]) -> bool

@@ -186,5 +186,40 @@ pub(crate) fn read_procedure(
 ) -> Result<TProc, ResolveStop>
     ensures { Gives procedure_of result (procedure_findings calls.now named (procedure proc.now)) (typed calls.now (procedure proc.now)) }
 {
-    Err(ResolveStop::Memory(AllocError))
+    check_name(named, proc)?;
+    let Head {
+        inputs,
+        mut all,
+        mut vars,
+        count,
+        arity,
+    } = read_head(alloc, proc)?;
+    let clauses = read_clauses(alloc, &inputs, &mut all, arity, proc)?;
+    let setting = Setting {
+        co: proc.co,
+        weak: is_wlp(proc.note) && !proc.co,
+        inputs: count,
+    };
+    let bound = any_quantified(&proc.posts);
+    let body = read_body(
+        alloc, setting, calls, bound, &mut all, &mut vars, &proc.body,
+    )?;
+    list_fronts(alloc, &mut vars, &proc.posts)?;
+    if is_too_large(proc, arity, vars.len(), &body.acts) {
+        return Err(ResolveStop::Fault(24, proc.span));
+    }
+    let outputs = arity.checked_sub(count).ok_or(AllocError)?;
+    Ok(TProc {
+        name: proc.name.copy(alloc)?,
+        co: proc.co,
+        weak: setting.weak,
+        vars,
+        inputs: count,
+        outputs,
+        pre: clauses.pre,
+        post: clauses.post,
+        body: body.acts,
+        loops: body.loops,
+        span: proc.span,
+    })
 }
