@@ -1,11 +1,13 @@
-//! Weights in texts.
+//! The choices of a choose: weights and values.
 
 ghost use Rattle.heyvl_num.specs.Rational.{leqʳ, oneʳ, zeroʳ, ◌+ʳ◌};
 ghost use Rattle.heyvl_syntax.specs.Expressions.{expression};
 ghost use Rattle.heyvl_syntax.specs.Statements.{choices};
-ghost use Rattle.heyvl_types.specs.Answers.{Tells};
+ghost use Rattle.heyvl_types.specs.Answers.{Gives, Tells};
 ghost use Rattle.heyvl_types.specs.Literals.{is_over_zero, is_probability, is_too_wide, sums_wrong, weigh_wrong, weight_value};
-ghost use Rattle.heyvl_types.specs.RightSides.{weight_findings, weights};
+ghost use Rattle.heyvl_types.specs.RightSides.{choices_findings, weight_findings, weights};
+ghost use Rattle.heyvl_types.specs.StatementActs.{choose_parts};
+ghost use Rattle.heyvl_types.specs.internal.RightSideParts.{choices_of, types_of_choices};
 ghost use Rattle.std.specs.List.{list_any};
 ghost use Rattle.std.specs.Prelude.{◌&&◌, ◌≡◌, None, Some, false, if◌then◌else◌, not};
 
@@ -14,12 +16,23 @@ use crate::expressions::read;
 use crate::literals::zero;
 use crate::scopes::Scope;
 use crate::stops::ResolveStop;
+use crate::typed_values::{Value, read_value};
+use crate::value_types::ValueType;
 use crate::weights::{
-    at_least_one, at_most_one, is_over_zero, is_probability, is_too_wide, is_weight_literal, weight_of, weight_value,
+    at_least_one, at_most_one, is_over_zero, is_probability, is_too_wide, is_weight_literal,
+    weight_of, weight_value,
 };
+use heylo_formula::Term;
 use heyvl_num::Frac;
 use heyvl_syntax::Expr;
 use std::alloc::Global;
+
+/// Values with their weights in their order, and beside them the types of the values.
+#[derive(Drop)]
+pub(crate) struct Choices {
+    pub(crate) parts: Vec<(Frac, Term)>,
+    pub(crate) types: Vec<Option<ValueType>>,
+}
 
 /// The most choices that a choose may have.
 const MAX_CHOICES: usize = 16;
@@ -38,6 +51,26 @@ pub(crate) fn read_weight(
     }
     read(alloc, scope, next, e, Demand::Any)?;
     Ok(())
+}
+
+/// What choices become, or the first fault in their parts.
+pub(crate) fn read_choices(
+    alloc: Global,
+    scope: &Scope,
+    next: u32,
+    all: &[(Expr, Expr)],
+) -> Result<Choices, ResolveStop>
+    ensures { Gives choices_of result (choices_findings next scope.now (choices all.now)) (choose_parts next scope.now (choices all.now), types_of_choices next scope.now (choices all.now)) }
+{
+    let mut parts = Vec::with_capacity(alloc, all.len())?;
+    let mut types = Vec::with_capacity(alloc, all.len())?;
+    for (likely, e) in all {
+        read_weight(alloc, scope, next, likely)?;
+        let Value { term, ty } = read_value(alloc, scope, next, e)?;
+        parts.push((weight_value(weight_of(likely)), term))?;
+        types.push(ty)?;
+    }
+    Ok(Choices { parts, types })
 }
 
 /// Whether one of the weights isn't a probability.
