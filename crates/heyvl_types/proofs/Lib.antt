@@ -28,4 +28,5 @@ mod Walks
 mod LastPassing
 mod ReadRests
 mod RuleHeads
+mod RightRules
 pub mod WeightSums

@@ -27,6 +27,7 @@ mod parameters;
 mod places;
 mod procedures;
 mod quantifiers;
+mod right_sides;
 mod rules;
 mod scopes;
 mod settings;
