@@ -9,7 +9,7 @@ use Rattle.heyvl_syntax.specs.declared.types.TypeName.{TypeName}
 use Rattle.heyvl_types.specs.Answers.{Gives}
 use Rattle.heyvl_types.specs.Findings.{Finding, at}
 use Rattle.heyvl_types.specs.PlainActs.{act_of}
-use Rattle.heyvl_types.specs.RightSides.{ValueType, any_argument_mismatches, any_output_mismatches, call_counts_wrong, call_mismatches, first_mismatches, has_over_zero, is_of_other_direction, is_quantified, join_types, join_with, literal_wrong, mismatches, right_findings, right_rules, right_type, type_of_choices, type_of_expression}
+use Rattle.heyvl_types.specs.RightSides.{ValueType, any_argument_mismatches, any_output_mismatches, call_counts_wrong, call_mismatches, first_mismatches, has_over_zero, is_of_other_direction, is_quantified, join_types, join_with, literal_wrong, mismatches, right_findings, right_rules, type_of_choices, type_of_expression}
 use Rattle.heyvl_types.specs.Scopes.{Scope}
 use Rattle.heyvl_types.specs.Signatures.{Called, Signature, find_call}
 use Rattle.heyvl_types.specs.StatementActs.{assigned}
@@ -86,13 +86,3 @@ call_gives r co called n sc t right x es all s e i g =
     subst (λ y. Gives act_of r (right_findings n sc (right_side y) ++ at s (RulesOf co called n sc t (right_side y))) (assigned called n sc t.numbers.items (right_side y) s)) (sym e)
     (subst (λ l. Gives act_of r (right_findings n sc (RightSide.call x (expressions l)) ++ at s (RulesOf co called n sc t (RightSide.call x (expressions l)))) (assigned called n sc t.numbers.items (RightSide.call x (expressions l)) s)) i
     (gives_same act_of r _ (right_findings n sc (RightSide.call x (expressions es)) ++ at s (RulesOf co called n sc t (RightSide.call x (expressions es)))) (assigned called n sc t.numbers.items (RightSide.call x (expressions es)) s) (ap (λ f. right_findings n sc (RightSide.call x (expressions es)) ++ f) (calls_rules co called n sc t x (expressions es) s)) g))
-
--- The same for targets of which it is told what the rules ask.
-pub targets_give : (r : Result A.Act ResolveStop) (co : Bool) (called : Called) (n : ℕ) (sc : Scope) (t : Targets) (u w d i : Bool) (ts : List (Option TypeName)) (xs : List ℕ) (right : RightSide) (s : Span) → t.unknown ≡ u → t.twice ≡ w → t.undeclarable ≡ d → t.input ≡ i → t.types.items ≡ ts → t.numbers.items ≡ xs → Gives act_of r (right_findings n sc right ++ at s (RulesOf co called n sc t right)) (assigned called n sc t.numbers.items right s) → Gives act_of r (right_findings n sc right ++ at s (right_rules co called n sc u w d i ts right)) (assigned called n sc xs right s)
-targets_give r co called n sc t u w d i ts xs right s eu ew ed ei et en g =
-    subst (λ x. Gives act_of r (right_findings n sc right ++ at s (right_rules co called n sc u w d i ts right)) (assigned called n sc x right s)) en
-    (subst (λ x. Gives act_of r (right_findings n sc right ++ at s (right_rules co called n sc u w d i x right)) (assigned called n sc t.numbers.items right s)) et
-    (subst (λ x. Gives act_of r (right_findings n sc right ++ at s (right_rules co called n sc u w d x t.types.items right)) (assigned called n sc t.numbers.items right s)) ei
-    (subst (λ x. Gives act_of r (right_findings n sc right ++ at s (right_rules co called n sc u w x t.input t.types.items right)) (assigned called n sc t.numbers.items right s)) ed
-    (subst (λ x. Gives act_of r (right_findings n sc right ++ at s (right_rules co called n sc u x t.undeclarable t.input t.types.items right)) (assigned called n sc t.numbers.items right s)) ew
-    (subst (λ x. Gives act_of r (right_findings n sc right ++ at s (right_rules co called n sc x t.twice t.undeclarable t.input t.types.items right)) (assigned called n sc t.numbers.items right s)) eu g)))))

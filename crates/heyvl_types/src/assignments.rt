@@ -1,12 +1,12 @@
 //! Declarations and assignments.
 
 ghost use Rattle.heyvl_syntax.specs.Statements.{optional_right, right_side};
+ghost use Rattle.heyvl_types.specs.Acts.Act.{any};
 ghost use Rattle.heyvl_types.specs.Answers.{Gives};
 ghost use Rattle.heyvl_types.specs.Findings.{at};
 ghost use Rattle.heyvl_types.specs.PlainActs.{act_of};
 ghost use Rattle.heyvl_types.specs.RightSides.{right_findings};
-ghost use Rattle.heyvl_types.specs.Acts.Act.{any};
-ghost use Rattle.heyvl_types.specs.Scopes.{any_input, any_unknown, find, is_visible, types_of_names};
+ghost use Rattle.heyvl_types.specs.Scopes.{any_input, any_unknown, is_visible, types_of_names};
 ghost use Rattle.heyvl_types.specs.StatementActs.{assigned, declared_act, number_or_zero, targets};
 ghost use Rattle.heyvl_types.specs.StatementRules.{any_twice, assign_rules, value_findings, var_rules};
 ghost use Rattle.heyvl_types.specs.Table.{declarable};
@@ -38,7 +38,7 @@ fn number_or_zero(local: Option<Local>) -> u32
 }
 
 /// The declared type of a visible variable.
-fn type_of_local(local: Option<Local>) -> Option<TypeName>
+fn declared_type(local: Option<Local>) -> Option<TypeName>
     ensures { result ≡ option_map (λ found. found.ty) local }
 {
     match local {
@@ -60,7 +60,7 @@ fn assigned_targets(
     let mut types = Vec::with_capacity(alloc, names.len())?;
     let mut numbers = Vec::with_capacity(alloc, names.len())?;
     for name in names {
-        types.push(type_of_local(scope.find(name)))?;
+        types.push(declared_type(scope.find(name)))?;
         numbers.push(number_or_zero(scope.find(name)))?;
     }
     Ok(Targets {

@@ -17,6 +17,7 @@ use Rattle.std.specs.Prelude.{List, None, Option, [], map, option_map, ◌∷◌
 abbrev pub Types : Type 0
 Types = List (Option ValueType)
 
+-- The plain term and type of a value; those of values, and of the values of a choose with their weights.
 abbrev pub value_of : Value → Term × Option ValueType
 value_of v = (term_of v.term, option_map value_type v.ty)
 
@@ -26,6 +27,7 @@ values_of v = (terms_of v.terms.items, map (option_map value_type) v.types.items
 abbrev pub choices_of : Choices → List (Rational × Term) × Types
 choices_of c = (parts_of c.parts.items, map (option_map value_type) c.types.items)
 
+-- The types of expressions, and of the values of a choose.
 abbrev pub types_of : ℕ → Scope → List Expression → Types
 types_of n sc es = map (type_of_expression n sc) es
 

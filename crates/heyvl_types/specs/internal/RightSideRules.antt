@@ -25,10 +25,12 @@ value_rules t v literal zero =
     ∷ (16, zero)
     ∷ [])
 
+-- Of a called procedure, whether an argument or an output doesn't match; nothing is said where there is none.
 abbrev pub arguments_mismatch : Option Signature → Types → List (Option TypeName) → Bool
 arguments_mismatch None arguments targets = false
 arguments_mismatch (Some p) arguments targets = any_mismatches arguments p.inputs || any_output_mismatches p.outputs targets
 
+-- Of a called procedure, whether there are not as many arguments as inputs, or targets as outputs.
 abbrev pub counts_differ : Option Signature → Types → List (Option TypeName) → Bool
 counts_differ None arguments targets = false
 counts_differ (Some p) arguments targets = not ((length arguments == length p.inputs) && (length targets == length p.outputs))

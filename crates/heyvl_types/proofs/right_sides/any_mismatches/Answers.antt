@@ -3,7 +3,7 @@ use Rattle.heyvl_types.proofs.right_sides.any_mismatches.Goals as goal
 use Rattle.heyvl_types.specs.Answers.{value_type}
 use Rattle.heyvl_types.specs.internal.RightSideParts.{Types}
 use Rattle.heyvl_types.specs.internal.RightSideRules.{any_mismatches}
-use Rattle.std.proofs.Common.{Bool, List, [], drop, false, length, map, option_map, refl, sym, ◌∙◌, ◌≡◌, ◌∷◌}
+use Rattle.std.proofs.Common.{List, [], drop, false, length, map, option_map, refl, sym, ◌∙◌, ◌≡◌, ◌∷◌}
 
 -- Where no input is left, no pair is left.
 none_left : (vs : Types) (ts : List TypeName) → length ts ≡ 0 → any_mismatches vs ts ≡ false
