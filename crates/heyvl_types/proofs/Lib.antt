@@ -29,3 +29,5 @@ mod LastPassing
 mod ReadRests
 mod RuleHeads
 pub mod WeightSums
+mod Declaring
+mod Havocs
