@@ -30,3 +30,5 @@ mod ReadRests
 mod RuleHeads
 mod RightRules
 pub mod WeightSums
+mod Declaring
+mod Havocs
