@@ -25,7 +25,7 @@ use Rattle.heyvl_types.specs.declared.demands.Demand.{Demand}
 use Rattle.heyvl_types.specs.declared.settings.Setting.{Setting}
 use Rattle.heyvl_types.specs.declared.stops.ResolveStop.{ResolveStop}
 use Rattle.heyvl_types.specs.declared.typed.VarInfo.{VarInfo}
-use Rattle.std.proofs.Common.{Bool, Err, List, Vec, [], ap, append-nil, arith, drop, get_or, length, map, refl, subst, sym, take, tt, ◌++◌, ◌+◌, ◌<◌, ◌||◌, ◌∙◌, ◌≡◌, ◌∷◌, ◌≤◌, ℕ}
+use Rattle.std.proofs.Common.{Bool, Err, List, Vec, [], ap, append-nil, arith, drop, get_or, length, map, refl, subst, sym, take, ◌++◌, ◌+◌, ◌<◌, ◌||◌, ◌∙◌, ◌≡◌, ◌∷◌, ◌≤◌, ℕ}
 use Rattle.std.proofs.lemmas.List.{drop_all, map-append}
 use Rattle.std.specs.declared.alloc.Global.{Global}
 

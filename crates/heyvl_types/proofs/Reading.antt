@@ -3,7 +3,7 @@ use Rattle.heyvl_syntax.specs.declared.spans.Span.{Span}
 use Rattle.heyvl_types.specs.Answers.{Gives, Tells}
 use Rattle.heyvl_types.specs.Findings.{Finding, at, first}
 use Rattle.heyvl_types.specs.declared.stops.ResolveStop.{ResolveStop}
-use Rattle.std.proofs.Common.{Bool, Err, List, Some, [], ap, false, refl, true, tt, ◌++◌, ◌∙◌, ◌∷◌, ◌≡◌, ℕ}
+use Rattle.std.proofs.Common.{Bool, Err, List, Some, [], ap, false, refl, true, ◌++◌, ◌∙◌, ◌∷◌, ◌≡◌, ℕ}
 
 -- Of two rules of a node, where the first isn't broken and the second is.
 pub second_broken : (s : Span) (m n : ℕ) (a b : Bool) → at s ((m, a) ∷ []) ≡ [] → b ≡ true → first (at s ((m, a) ∷ (n, b) ∷ [])) ≡ Some (n, s)

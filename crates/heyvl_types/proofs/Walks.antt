@@ -30,8 +30,8 @@ join_assoc Acts.done b c = refl
 join_assoc (Acts.next a more) b c = ap (λ r. Acts.next a r) (join_assoc more b c)
 
 -- The number of variables after more of them.
-counted : (vs ws : List VarInfo) (ls : List Variable) → map variable_of ws ≡ map variable_of vs ++ ls → length ws ≡ length vs + length ls
-counted vs ws ls e = sym (length-map variable_of ws) ∙ ap length e ∙ length-append (map variable_of vs) ls ∙ ap (λ n. n + length ls) (length-map variable_of vs)
+pub counted : (vs ws : List VarInfo) (ls : List Variable) → map variable_of ws ≡ map variable_of vs ++ ls → length ws ≡ length vs + length ls
+counted vs ws ls e = sym (length-map ws variable_of) ∙ (ap length e ∙ (length-append (map variable_of vs) ls ∙ ap (λ n. n + length ls) (length-map vs variable_of)))
 
 -- ---- Scopes
 
@@ -110,7 +110,7 @@ pub arms_step : (h : Setting) (called : Called) (bound : Bool) (ws : List VarInf
 arms_step h called bound ws k sc whole done vs m g b rest x us j r f a l c =
     let n = counted vs us (locals_of_block b) l in
     record {
-      found = r.found ∙ (sym (append_assoc (closed_findings Demand.Truth (length vs) sc g) (block_findings h called (bound || arms_bind rest) (length vs) sc b) _) ∙ (ap (λ y. y ++ arms_findings h called bound (length vs + length (locals_of_block b)) sc rest) f ∙ ap (λ y. arms_findings h called bound y sc rest) (sym n)));
+      found = r.found ∙ (ap (λ y. y ++ arms_findings h called bound (length vs + length (locals_of_block b)) sc rest) f ∙ ap (λ y. arms_findings h called bound y sc rest) (sym n));
       made = r.made ∙ (ap (λ y. arms_then done (Arms.arm y.0 y.1 (arms_acts h called (length vs + length (locals_of_block b)) (m + loops_of_block b) sc rest))) (sym a) ∙ (sym (arms_then_one done x _) ∙ (ap (λ y. arms_then (done ++ x ∷ []) (arms_acts h called y (m + loops_of_block b) sc rest)) (sym n) ∙ ap (λ y. arms_then (done ++ x ∷ []) (arms_acts h called (length us) y sc rest)) (sym c))));
       listed = r.listed ∙ (sym (append_assoc (map variable_of vs) (locals_of_block b) (locals_of_arms rest)) ∙ ap (λ y. y ++ locals_of_arms rest) (sym l));
       numbered = let e = r.numbered in omega (arith, e, c);
@@ -118,4 +118,4 @@ arms_step h called bound ws k sc whole done vs m g b rest x us j r f a l c =
 
 -- A fault in the next arm is the first in the whole.
 pub arms_fault : (h : Setting) (called : Called) (bound : Bool) (ws : List VarInfo) (k : ℕ) (sc : Scope) (whole : text.Arms) (done : List (Cond × Acts)) (vs : List VarInfo) (m : ℕ) (g : Expression) (b : Block) (rest : text.Arms) (f : Finding) → ArmsRead h called bound ws k sc whole done vs m (text.Arms.arm g b rest) → first (closed_findings Demand.Truth (length vs) sc g ++ block_findings h called (bound || arms_bind rest) (length vs) sc b) ≡ Some f → first (arms_findings h called bound (length ws) sc whole) ≡ Some f
-arms_fault h called bound ws k sc whole done vs m g b rest f r e = ap first (r.found ∙ sym (append_assoc (closed_findings Demand.Truth (length vs) sc g) (block_findings h called (bound || arms_bind rest) (length vs) sc b) _)) ∙ first_of_first _ _ f e
+arms_fault h called bound ws k sc whole done vs m g b rest f r e = ap first r.found ∙ first_of_first (closed_findings Demand.Truth (length vs) sc g ++ block_findings h called (bound || arms_bind rest) (length vs) sc b) (arms_findings h called bound (length vs + length (locals_of_block b)) sc rest) f e
