@@ -27,6 +27,7 @@ mod Rests
 mod Walks
 mod LastPassing
 mod ReadRests
+mod Nested
 mod RuleHeads
 pub mod WeightSums
 mod Declaring
