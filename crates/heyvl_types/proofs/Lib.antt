@@ -28,7 +28,6 @@ mod Walks
 mod LastPassing
 mod ReadRests
 mod Nested
-mod RuleHeads
 pub mod WeightSums
 mod Declaring
 mod Havocs
