@@ -4,7 +4,7 @@ use Rattle.heyvl_syntax.specs.declared.statements.Arm.{Arm}
 use Rattle.heyvl_syntax.specs.declared.statements.Stmt.{Stmt}
 use Rattle.heyvl_types.specs.StatementRules.{arms_bind, binds, block_binds}
 use Rattle.std.proofs.Common.{Bool, List, [], ap, append_assoc, append-nil, drop, false, length, refl, arith, sym, true, ◌++◌, ◌+◌, ◌∙◌, ◌||◌, ◌≡◌, ◌∷◌, ℕ}
-use Rattle.std.proofs.lemmas.Bool.{le-ltb}
+use Rattle.std.proofs.lemmas.Bool.{le-ltb, lt-ltb, ltb-false, ltb-true}
 use Rattle.std.specs.List.{list_any}
 use Rattle.std.specs.Prelude.{nat_lt}
 use Prim.Native.Nat.{zero, suc}
@@ -55,11 +55,18 @@ or_true : (a b : Bool) → b ≡ true → (a || b) ≡ true
 or_true true b h = refl
 or_true false b h = h
 
+same_truth : (a b : Bool) → (a ≡ true → b ≡ true) → (a ≡ false → b ≡ false) → a ≡ b
+same_truth true b f g = sym (f refl)
+same_truth false b f g = sym (g refl)
+
+less_more : (i n : ℕ) → nat_lt i n ≡ nat_lt (suc i) (suc n)
+less_more i n = same_truth (nat_lt i n) (nat_lt (suc i) (suc n)) (λ e. lt-ltb (suc i) (suc n) (omega (arith, ltb-true i n e))) (λ e. le-ltb (suc i) (suc n) (omega (arith, ltb-false i n e)))
+
 upto : {X : Type 0} (p : X → Bool) (front : List X) (last : X) (behind : List X) (i : ℕ) → p last ≡ true → list_any p behind ≡ false → list_any p (drop i (front ++ last ∷ behind)) ≡ nat_lt i (suc (length front))
 upto p [] last behind zero h k = ap (λ r. r || list_any p behind) h
 upto p [] last behind (suc i) h k = none_further p behind i k ∙ sym (le-ltb (suc i) 1 (omega arith))
-upto p (x ∷ front) last behind zero h k = or_true (p x) _ (upto p front last behind zero h k)
-upto p (x ∷ front) last behind (suc i) h k = upto p front last behind i h k
+upto p (x ∷ front) last behind zero h k = or_true (p x) _ (upto p front last behind zero h k ∙ lt-ltb zero (suc (length front)) (omega arith)) ∙ sym (lt-ltb zero (suc (suc (length front))) (omega arith))
+upto p (x ∷ front) last behind (suc i) h k = upto p front last behind i h k ∙ less_more i (suc (length front))
 
 pub last_passes : {X : Type 0} (p : X → Bool) (all rest front : List X) (last : X) (i : ℕ) → FreeBehind p all rest → (rest ≡ front ++ last ∷ []) × (length front + 1 ≡ length rest) → p last ≡ true → list_any p (drop i all) ≡ nat_lt i (length rest)
 last_passes p all rest front last i f e h =

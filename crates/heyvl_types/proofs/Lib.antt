@@ -29,6 +29,7 @@ mod LastPassing
 mod ReadRests
 mod RuleHeads
 mod RightRules
+mod Nested
 pub mod WeightSums
 mod Declaring
 mod Havocs

@@ -5,41 +5,30 @@ use Rattle.heyvl_syntax.proofs.exported.PlainTreesAre.{plain_statements}
 use Rattle.heyvl_syntax.specs.Expressions.{expression}
 use Rattle.heyvl_syntax.specs.Statements as text
 use Rattle.heyvl_syntax.specs.Statements.{Block, arms, block, statement}
-use Rattle.heyvl_syntax.specs.declared.spans.Span.{Span}
 use Rattle.heyvl_syntax.specs.declared.statements.Arm.{Arm}
 use Rattle.heyvl_syntax.specs.declared.statements.Stmt.{Stmt}
-use Rattle.heyvl_types.proofs.Rests.{arms_end, arms_next, block_end, block_next, rest_next}
-use Rattle.heyvl_types.proofs.Walks.{ArmsRead, BlockRead, arms_fault, arms_step, arms_then_none, block_fault, block_step, join_assoc, join_done}
-use Rattle.heyvl_types.specs.Acts.{Act, Acts, Arms, join}
-use Rattle.heyvl_types.specs.Answers.{Gives, acts_view, arms_view}
-use Rattle.heyvl_types.specs.Findings.{first}
-use Rattle.heyvl_types.specs.PlainActs.{act_of, acts_of, arm_of, armed, variable_of}
-use Rattle.heyvl_types.specs.Scopes.{Scope, find}
+use Rattle.heyvl_types.proofs.Havocs.{acts_append, join_done}
+use Rattle.heyvl_types.proofs.Rests.{arms_end, arms_next, block_end, block_next}
+use Rattle.heyvl_types.proofs.Walks.{ArmsRead, BlockRead, arms_step, arms_then_none, block_step}
+use Rattle.heyvl_types.specs.Acts.{Acts}
+use Rattle.heyvl_types.specs.PlainActs.{acts_of, arm_of, armed, variable_of}
+use Rattle.heyvl_types.specs.Scopes.{Scope}
 use Rattle.heyvl_types.specs.Signatures.{Called}
-use Rattle.heyvl_types.specs.StatementActs.{arms_acts, block_acts, condition, havocs, loops, loops_of_arms, loops_of_block, number_or_zero, statement_acts, type_of_local}
+use Rattle.heyvl_types.specs.StatementActs.{arms_acts, block_acts, condition, loops, loops_of_block, statement_acts}
 use Rattle.heyvl_types.specs.StatementRules.{arms_bind, arms_findings, block_binds, block_findings, statement_findings}
 use Rattle.heyvl_types.specs.TypedExpressions.{closed_findings, elaborate}
-use Rattle.heyvl_types.specs.Variables.{behind, locals, locals_of_arms, locals_of_block}
+use Rattle.heyvl_types.specs.Variables.{behind, locals, locals_of_block}
 use Rattle.heyvl_types.specs.declared.acts.Act as A
 use Rattle.heyvl_types.specs.declared.demands.Demand.{Demand}
 use Rattle.heyvl_types.specs.declared.settings.Setting.{Setting}
-use Rattle.heyvl_types.specs.declared.stops.ResolveStop.{ResolveStop}
 use Rattle.heyvl_types.specs.declared.typed.VarInfo.{VarInfo}
-use Rattle.std.proofs.Common.{Bool, Err, List, Vec, [], ap, append-nil, arith, drop, get_or, length, map, refl, subst, sym, take, tt, ◌++◌, ◌+◌, ◌<◌, ◌||◌, ◌∙◌, ◌≡◌, ◌∷◌, ◌≤◌, ℕ}
-use Rattle.std.proofs.lemmas.List.{drop_all, map-append}
+use Rattle.std.proofs.Common.{Bool, List, Vec, [], ap, drop, get_or, length, map, subst, sym, take, ◌++◌, ◌+◌, ◌<◌, ◌||◌, ◌∙◌, ◌≡◌, ◌∷◌, ◌≤◌, ℕ}
+use Rattle.std.proofs.lemmas.List.{map-append}
 use Rattle.std.specs.declared.alloc.Global.{Global}
-
-acts_append : (xs ys : List A.Act) → acts_of (xs ++ ys) ≡ join (acts_of xs) (acts_of ys)
-acts_append [] ys = refl
-acts_append (x ∷ xs) ys = ap (λ r. Acts.next (act_of x) r) (acts_append xs ys)
 
 -- The next statement is one that is left.
 pub block_at : (h : Setting) (called : Called) (bound : Bool) (ws : List VarInfo) (k : ℕ) (wsc : Scope) (xs : List Stmt) (acts : Acts) (vs : List VarInfo) (m : ℕ) (sc : Scope) (i : ℕ) (x : Stmt) → BlockRead h called bound ws k wsc (block xs) acts vs m sc (block (drop i xs)) → i < length xs → x ≡ get_or xs i x → BlockRead h called bound ws k wsc (block xs) acts vs m sc (Block.next (statement x) (block (drop (i + 1) xs)))
 block_at h called bound ws k wsc xs acts vs m sc i x b lt is = subst (λ r. BlockRead h called bound ws k wsc (block xs) acts vs m sc r) (block_next xs i x lt is) b
-
-pub block_stops : (h : Setting) (called : Called) (bound : Bool) (ws : List VarInfo) (k : ℕ) (wsc : Scope) (xs : List Stmt) (acts : Acts) (vs : List VarInfo) (m : ℕ) (sc : Scope) (i : ℕ) (x : Stmt) (inner : Bool) (e : ResolveStop) (d q : Acts) → BlockRead h called bound ws k wsc (block xs) acts vs m sc (block (drop i xs)) → i < length xs → x ≡ get_or xs i x → inner ≡ (bound || block_binds (block (drop (i + 1) xs))) → Gives acts_view (Err e) (statement_findings h called inner (length vs) sc (statement x)) d → Gives acts_view (Err e) (block_findings h called bound (length ws) wsc (block xs)) q
-block_stops h called bound ws k wsc xs acts vs m sc i x inner (ResolveStop.Fault n s) d q b lt is o g = block_fault h called bound ws k wsc (block xs) acts vs m sc (statement x) (block (drop (i + 1) xs)) (n, s) (block_at h called bound ws k wsc xs acts vs m sc i x b lt is) (ap (λ t. first (statement_findings h called t (length vs) sc (statement x))) (sym o) ∙ g)
-block_stops h called bound ws k wsc xs acts vs m sc i x inner (ResolveStop.Memory e) d q b lt is o g = tt
 
 pub block_more : (h : Setting) (called : Called) (bound : Bool) (ws : List VarInfo) (k : ℕ) (wsc : Scope) (xs : List Stmt) (made more : List A.Act) (vs : List VarInfo) (m : ℕ) (sc : Scope) (i : ℕ) (x : Stmt) (inner : Bool) (us : List VarInfo) (j : ℕ) (tc : Scope) → BlockRead h called bound ws k wsc (block xs) (acts_of made) vs m sc (block (drop i xs)) → i < length xs → x ≡ get_or xs i x → inner ≡ (bound || block_binds (block (drop (i + 1) xs))) → (statement_findings h called inner (length vs) sc (statement x) ≡ []) × (acts_of more ≡ statement_acts h called (length vs) m sc (statement x)) → tc ≡ behind (length vs) sc (statement x) → take (length sc) tc ≡ sc → map variable_of us ≡ map variable_of vs ++ locals (statement x) → j ≡ m + loops (statement x) → BlockRead h called bound ws k wsc (block xs) (acts_of (made ++ more)) us j tc (block (drop (i + 1) xs))
 block_more h called bound ws k wsc xs made more vs m sc i x inner us j tc b lt is o g t p l c =
@@ -53,18 +42,8 @@ block_ends h called bound ws k wsc xs acts vs m sc i b over = subst (λ r. Block
 pub block_gives : (h : Setting) (called : Called) (bound : Bool) (ws : List VarInfo) (k : ℕ) (wsc : Scope) (whole : Block) (acts : Acts) (vs : List VarInfo) (m : ℕ) (sc : Scope) → BlockRead h called bound ws k wsc whole acts vs m sc Block.done → (block_findings h called bound (length ws) wsc whole ≡ []) × (acts ≡ block_acts h called (length ws) k wsc whole)
 block_gives h called bound ws k wsc whole acts vs m sc b = (b.found, sym (b.made ∙ join_done acts))
 
-pub block_lists : (h : Setting) (called : Called) (bound : Bool) (ws : List VarInfo) (k : ℕ) (wsc : Scope) (whole : Block) (acts : Acts) (vs : List VarInfo) (m : ℕ) (sc : Scope) → BlockRead h called bound ws k wsc whole acts vs m sc Block.done → map variable_of vs ≡ map variable_of ws ++ locals_of_block whole
-block_lists h called bound ws k wsc whole acts vs m sc b = sym (b.listed ∙ append-nil (map variable_of vs))
-
-pub block_numbers : (h : Setting) (called : Called) (bound : Bool) (ws : List VarInfo) (k : ℕ) (wsc : Scope) (whole : Block) (acts : Acts) (vs : List VarInfo) (m : ℕ) (sc : Scope) → BlockRead h called bound ws k wsc whole acts vs m sc Block.done → m ≡ k + loops_of_block whole
-block_numbers h called bound ws k wsc whole acts vs m sc b = let e = b.numbered in omega (arith, e)
-
 pub arms_at : (h : Setting) (called : Called) (bound : Bool) (ws : List VarInfo) (k : ℕ) (sc : Scope) (xs : List Arm) (done : List (Cond × Acts)) (vs : List VarInfo) (m : ℕ) (i : ℕ) (x : Arm) → ArmsRead h called bound ws k sc (arms xs) done vs m (arms (drop i xs)) → i < length xs → x ≡ get_or xs i x → ArmsRead h called bound ws k sc (arms xs) done vs m (text.Arms.arm (expression x.guard) (block x.body.items) (arms (drop (i + 1) xs)))
 arms_at h called bound ws k sc xs done vs m i x b lt is = subst (λ r. ArmsRead h called bound ws k sc (arms xs) done vs m r) (arms_next xs i x lt is ∙ ap (λ a. text.Arms.arm a.0 a.1 (arms (drop (i + 1) xs))) (plain_statements.guarded x)) b
-
-pub arms_stop : (h : Setting) (called : Called) (bound : Bool) (ws : List VarInfo) (k : ℕ) (sc : Scope) (xs : List Arm) (done : List (Cond × Acts)) (vs : List VarInfo) (m : ℕ) (i : ℕ) (x : Arm) (inner : Bool) (e : ResolveStop) (d : Cond × Acts) (q : Arms) → ArmsRead h called bound ws k sc (arms xs) done vs m (arms (drop i xs)) → i < length xs → x ≡ get_or xs i x → inner ≡ (bound || arms_bind (arms (drop (i + 1) xs))) → Gives arm_of (Err e) (closed_findings Demand.Truth (length vs) sc (expression x.guard) ++ block_findings h called inner (length vs) sc (block x.body.items)) d → Gives arms_view (Err e) (arms_findings h called bound (length ws) sc (arms xs)) q
-arms_stop h called bound ws k sc xs done vs m i x inner (ResolveStop.Fault n s) d q b lt is o g = arms_fault h called bound ws k sc (arms xs) done vs m (expression x.guard) (block x.body.items) (arms (drop (i + 1) xs)) (n, s) (arms_at h called bound ws k sc xs done vs m i x b lt is) (ap (λ t. first (closed_findings Demand.Truth (length vs) sc (expression x.guard) ++ block_findings h called t (length vs) sc (block x.body.items))) (sym o) ∙ g)
-arms_stop h called bound ws k sc xs done vs m i x inner (ResolveStop.Memory e) d q b lt is o g = tt
 
 pub arms_more : (h : Setting) (called : Called) (bound : Bool) (ws : List VarInfo) (k : ℕ) (sc : Scope) (xs : List Arm) (made : List (C.Cond × Vec A.Act Global)) (one : C.Cond × Vec A.Act Global) (vs : List VarInfo) (m : ℕ) (i : ℕ) (x : Arm) (inner : Bool) (us : List VarInfo) (j : ℕ) → ArmsRead h called bound ws k sc (arms xs) (map arm_of made) vs m (arms (drop i xs)) → i < length xs → x ≡ get_or xs i x → inner ≡ (bound || arms_bind (arms (drop (i + 1) xs))) → (closed_findings Demand.Truth (length vs) sc (expression x.guard) ++ block_findings h called inner (length vs) sc (block x.body.items) ≡ []) × (arm_of one ≡ (condition (elaborate (length vs) sc (expression x.guard)), block_acts h called (length vs) m sc (block x.body.items))) → map variable_of us ≡ map variable_of vs ++ locals_of_block (block x.body.items) → j ≡ m + loops_of_block (block x.body.items) → ArmsRead h called bound ws k sc (arms xs) (map arm_of (made ++ one ∷ [])) us j (arms (drop (i + 1) xs))
 arms_more h called bound ws k sc xs made one vs m i x inner us j b lt is o g l c =
@@ -76,18 +55,3 @@ arms_end_read h called bound ws k sc xs done vs m i b over = subst (λ r. ArmsRe
 
 pub arms_give : (h : Setting) (called : Called) (bound : Bool) (ws : List VarInfo) (k : ℕ) (sc : Scope) (whole : text.Arms) (done : List (Cond × Acts)) (vs : List VarInfo) (m : ℕ) → ArmsRead h called bound ws k sc whole done vs m text.Arms.no_arm → (arms_findings h called bound (length ws) sc whole ≡ []) × (armed done ≡ arms_acts h called (length ws) k sc whole)
 arms_give h called bound ws k sc whole done vs m b = (b.found, sym (b.made ∙ arms_then_none done))
-
-pub arms_list : (h : Setting) (called : Called) (bound : Bool) (ws : List VarInfo) (k : ℕ) (sc : Scope) (whole : text.Arms) (done : List (Cond × Acts)) (vs : List VarInfo) (m : ℕ) → ArmsRead h called bound ws k sc whole done vs m text.Arms.no_arm → map variable_of vs ≡ map variable_of ws ++ locals_of_arms whole
-arms_list h called bound ws k sc whole done vs m b = sym (b.listed ∙ append-nil (map variable_of vs))
-
-pub arms_number : (h : Setting) (called : Called) (bound : Bool) (ws : List VarInfo) (k : ℕ) (sc : Scope) (whole : text.Arms) (done : List (Cond × Acts)) (vs : List VarInfo) (m : ℕ) → ArmsRead h called bound ws k sc whole done vs m text.Arms.no_arm → m ≡ k + loops_of_arms whole
-arms_number h called bound ws k sc whole done vs m b = let e = b.numbered in omega (arith, e)
-
--- ---- Havocs
-
--- One variable more has any value.
-pub havoc_more : (sc : Scope) (co : Bool) (s : Span) (xs : List (List ℕ)) (i : ℕ) (x : List ℕ) (made : List A.Act) (one : A.Act) → havocs sc co xs s ≡ join (acts_of made) (havocs sc co (drop i xs) s) → i < length xs → x ≡ get_or xs i x → act_of one ≡ Act.any (number_or_zero (find sc x)) co (type_of_local (find sc x)) s → havocs sc co xs s ≡ join (acts_of (made ++ one ∷ [])) (havocs sc co (drop (i + 1) xs) s)
-havoc_more sc co s xs i x made one inv lt is a = inv ∙ (ap (λ r. join (acts_of made) r) (rest_next (λ r. havocs sc co r s) xs i x lt is) ∙ (ap (λ r. join (acts_of made) (Acts.next r (havocs sc co (drop (i + 1) xs) s))) (sym a) ∙ (sym (join_assoc (acts_of made) (Acts.next (act_of one) Acts.done) (havocs sc co (drop (i + 1) xs) s)) ∙ ap (λ r. join r (havocs sc co (drop (i + 1) xs) s)) (sym (acts_append made (one ∷ []))))))
-
-pub havoc_all : (sc : Scope) (co : Bool) (s : Span) (xs : List (List ℕ)) (i : ℕ) (made : List A.Act) → havocs sc co xs s ≡ join (acts_of made) (havocs sc co (drop i xs) s) → length xs ≤ i → acts_of made ≡ havocs sc co xs s
-havoc_all sc co s xs i made inv over = sym (inv ∙ (ap (λ r. join (acts_of made) (havocs sc co r s)) (drop_all i xs over) ∙ join_done (acts_of made)))

@@ -1,9 +1,9 @@
 -- How answers of parts make the answer of the whole.
 use Rattle.heyvl_syntax.specs.declared.spans.Span.{Span}
-use Rattle.heyvl_types.specs.Answers.{Gives, Tells}
+use Rattle.heyvl_types.specs.Answers.{Gives}
 use Rattle.heyvl_types.specs.Findings.{Finding, at, first}
 use Rattle.heyvl_types.specs.declared.stops.ResolveStop.{ResolveStop}
-use Rattle.std.proofs.Common.{Bool, Err, List, Some, [], ap, false, refl, true, tt, ◌++◌, ◌∙◌, ◌∷◌, ◌≡◌, ℕ}
+use Rattle.std.proofs.Common.{Bool, Err, List, Some, [], ap, false, refl, true, ◌++◌, ◌∙◌, ◌∷◌, ◌≡◌, ℕ}
 
 -- Of two rules of a node, where the first isn't broken and the second is.
 pub second_broken : (s : Span) (m n : ℕ) (a b : Bool) → at s ((m, a) ∷ []) ≡ [] → b ≡ true → first (at s ((m, a) ∷ (n, b) ∷ [])) ≡ Some (n, s)
@@ -28,8 +28,3 @@ stops_first v w (ResolveStop.Memory e) xs ys b d h = tt
 pub stops_second : {A B C D : Type 0} (v : A → B) (w : C → D) (e : ResolveStop) (xs ys : List Finding) (b : B) (d : D) → xs ≡ [] → Gives v (Err e) ys b → Gives w (Err e) (xs ++ ys) d
 stops_second v w (ResolveStop.Fault n s) xs ys b d none h = first_of_second xs ys (n, s) none h
 stops_second v w (ResolveStop.Memory e) xs ys b d none h = tt
-
--- The same of what only looks at a part, where the second part is the last.
-pub tells_second : {C D : Type 0} (w : C → D) (e : ResolveStop) (xs ys : List Finding) (d : D) → xs ≡ [] → Tells (Err e) ys → Gives w (Err e) (xs ++ ys) d
-tells_second w (ResolveStop.Fault n s) xs ys d none h = first_of_second xs ys (n, s) none h
-tells_second w (ResolveStop.Memory e) xs ys d none h = tt

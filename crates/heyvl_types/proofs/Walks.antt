@@ -3,9 +3,8 @@ use Rattle.heylo_formula.specs.Formula.{Cond}
 use Rattle.heyvl_syntax.specs.Expressions.{Expression}
 use Rattle.heyvl_syntax.specs.Statements.{Block, Statement}
 use Rattle.heyvl_syntax.specs.Statements as text
-use Rattle.heyvl_types.proofs.Reading.{first_of_first}
-use Rattle.heyvl_types.specs.Acts.{Act, Acts, Arms, Variable, join}
-use Rattle.heyvl_types.specs.Findings.{Finding, first}
+use Rattle.heyvl_types.proofs.Havocs.{join_assoc}
+use Rattle.heyvl_types.specs.Acts.{Acts, Arms, Variable, join}
 use Rattle.heyvl_types.specs.PlainActs.{armed, variable_of}
 use Rattle.heyvl_types.specs.Scopes.{Scope}
 use Rattle.heyvl_types.specs.Signatures.{Called}
@@ -16,22 +15,12 @@ use Rattle.heyvl_types.specs.Variables.{behind, locals, locals_of_arms, locals_o
 use Rattle.heyvl_types.specs.declared.demands.Demand.{Demand}
 use Rattle.heyvl_types.specs.declared.settings.Setting.{Setting}
 use Rattle.heyvl_types.specs.declared.typed.VarInfo.{VarInfo}
-use Rattle.std.proofs.Common.{Bool, List, Some, [], ap, append_assoc, arith, length, map, refl, sym, take, ◌++◌, ◌+◌, ◌||◌, ◌∙◌, ◌≡◌, ◌∷◌, ◌≤◌, ℕ}
+use Rattle.std.proofs.Common.{Bool, List, [], ap, append_assoc, arith, length, map, refl, sym, take, ◌++◌, ◌+◌, ◌||◌, ◌∙◌, ◌≡◌, ◌∷◌, ℕ}
 use Rattle.std.proofs.lemmas.List.{length-append, length-map}
 
--- ---- Acts in a row
-
-pub join_done : (a : Acts) → join a Acts.done ≡ a
-join_done Acts.done = refl
-join_done (Acts.next a more) = ap (λ r. Acts.next a r) (join_done more)
-
-pub join_assoc : (a b c : Acts) → join (join a b) c ≡ join a (join b c)
-join_assoc Acts.done b c = refl
-join_assoc (Acts.next a more) b c = ap (λ r. Acts.next a r) (join_assoc more b c)
-
 -- The number of variables after more of them.
-counted : (vs ws : List VarInfo) (ls : List Variable) → map variable_of ws ≡ map variable_of vs ++ ls → length ws ≡ length vs + length ls
-counted vs ws ls e = sym (length-map variable_of ws) ∙ ap length e ∙ length-append (map variable_of vs) ls ∙ ap (λ n. n + length ls) (length-map variable_of vs)
+pub counted : (vs ws : List VarInfo) (ls : List Variable) → map variable_of ws ≡ map variable_of vs ++ ls → length ws ≡ length vs + length ls
+counted vs ws ls e = sym (length-map ws variable_of) ∙ (ap length e ∙ (length-append (map variable_of vs) ls ∙ ap (λ n. n + length ls) (length-map vs variable_of)))
 
 -- ---- Scopes
 
@@ -57,13 +46,6 @@ pub record BlockRead (h : Setting) (called : Called) (bound : Bool) (ws : List V
   pub numbered : k + loops_of_block whole ≡ m + loops_of_block rest
   pub kept : take (length whole_scope) sc ≡ whole_scope
 
-all_scope : (sc : Scope) → take (length sc) sc ≡ sc
-all_scope [] = refl
-all_scope (x ∷ sc) = ap (λ r. x ∷ r) (all_scope sc)
-
-pub block_start : (h : Setting) (called : Called) (bound : Bool) (ws : List VarInfo) (k : ℕ) (sc : Scope) (whole : Block) → BlockRead h called bound ws k sc whole Acts.done ws k sc whole
-block_start h called bound ws k sc whole = record { found = refl; made = refl; listed = refl; numbered = refl; kept = all_scope sc }
-
 -- One statement more is read.
 pub block_step : (h : Setting) (called : Called) (bound : Bool) (ws : List VarInfo) (k : ℕ) (wsc : Scope) (whole : Block) (acts : Acts) (vs : List VarInfo) (m : ℕ) (sc : Scope) (s : Statement) (rest : Block) (more : Acts) (us : List VarInfo) (j : ℕ) (tc : Scope) → BlockRead h called bound ws k wsc whole acts vs m sc (Block.next s rest) → statement_findings h called (bound || block_binds rest) (length vs) sc s ≡ [] → more ≡ statement_acts h called (length vs) m sc s → tc ≡ behind (length vs) sc s → take (length sc) tc ≡ sc → map variable_of us ≡ map variable_of vs ++ locals s → j ≡ m + loops s → BlockRead h called bound ws k wsc whole (join acts more) us j tc rest
 block_step h called bound ws k wsc whole acts vs m sc s rest more us j tc b f a t p l c =
@@ -75,10 +57,6 @@ block_step h called bound ws k wsc whole acts vs m sc s rest more us j tc b f a 
       numbered = let e = b.numbered in omega (arith, e, c);
       kept = still_first wsc sc tc b.kept p;
     }
-
--- A fault in the next statement is the first in the whole.
-pub block_fault : (h : Setting) (called : Called) (bound : Bool) (ws : List VarInfo) (k : ℕ) (wsc : Scope) (whole : Block) (acts : Acts) (vs : List VarInfo) (m : ℕ) (sc : Scope) (s : Statement) (rest : Block) (f : Finding) → BlockRead h called bound ws k wsc whole acts vs m sc (Block.next s rest) → first (statement_findings h called (bound || block_binds rest) (length vs) sc s) ≡ Some f → first (block_findings h called bound (length ws) wsc whole) ≡ Some f
-block_fault h called bound ws k wsc whole acts vs m sc s rest f b e = ap first b.found ∙ first_of_first _ _ f e
 
 -- ---- Arms
 
@@ -102,20 +80,13 @@ arms_then_one : (xs : List (Cond × Acts)) (x : Cond × Acts) (rest : Arms) → 
 arms_then_one [] x rest = refl
 arms_then_one (y ∷ xs) x rest = ap (λ r. Arms.arm y.0 y.1 r) (arms_then_one xs x rest)
 
-pub arms_start : (h : Setting) (called : Called) (bound : Bool) (ws : List VarInfo) (k : ℕ) (sc : Scope) (whole : text.Arms) → ArmsRead h called bound ws k sc whole [] ws k whole
-arms_start h called bound ws k sc whole = record { found = refl; made = refl; listed = refl; numbered = refl }
-
 -- One arm more is read.
 pub arms_step : (h : Setting) (called : Called) (bound : Bool) (ws : List VarInfo) (k : ℕ) (sc : Scope) (whole : text.Arms) (done : List (Cond × Acts)) (vs : List VarInfo) (m : ℕ) (g : Expression) (b : Block) (rest : text.Arms) (x : Cond × Acts) (us : List VarInfo) (j : ℕ) → ArmsRead h called bound ws k sc whole done vs m (text.Arms.arm g b rest) → closed_findings Demand.Truth (length vs) sc g ++ block_findings h called (bound || arms_bind rest) (length vs) sc b ≡ [] → x ≡ (condition (elaborate (length vs) sc g), block_acts h called (length vs) m sc b) → map variable_of us ≡ map variable_of vs ++ locals_of_block b → j ≡ m + loops_of_block b → ArmsRead h called bound ws k sc whole (done ++ x ∷ []) us j rest
 arms_step h called bound ws k sc whole done vs m g b rest x us j r f a l c =
     let n = counted vs us (locals_of_block b) l in
     record {
-      found = r.found ∙ (sym (append_assoc (closed_findings Demand.Truth (length vs) sc g) (block_findings h called (bound || arms_bind rest) (length vs) sc b) _) ∙ (ap (λ y. y ++ arms_findings h called bound (length vs + length (locals_of_block b)) sc rest) f ∙ ap (λ y. arms_findings h called bound y sc rest) (sym n)));
+      found = r.found ∙ (ap (λ y. y ++ arms_findings h called bound (length vs + length (locals_of_block b)) sc rest) f ∙ ap (λ y. arms_findings h called bound y sc rest) (sym n));
       made = r.made ∙ (ap (λ y. arms_then done (Arms.arm y.0 y.1 (arms_acts h called (length vs + length (locals_of_block b)) (m + loops_of_block b) sc rest))) (sym a) ∙ (sym (arms_then_one done x _) ∙ (ap (λ y. arms_then (done ++ x ∷ []) (arms_acts h called y (m + loops_of_block b) sc rest)) (sym n) ∙ ap (λ y. arms_then (done ++ x ∷ []) (arms_acts h called (length us) y sc rest)) (sym c))));
       listed = r.listed ∙ (sym (append_assoc (map variable_of vs) (locals_of_block b) (locals_of_arms rest)) ∙ ap (λ y. y ++ locals_of_arms rest) (sym l));
       numbered = let e = r.numbered in omega (arith, e, c);
     }
-
--- A fault in the next arm is the first in the whole.
-pub arms_fault : (h : Setting) (called : Called) (bound : Bool) (ws : List VarInfo) (k : ℕ) (sc : Scope) (whole : text.Arms) (done : List (Cond × Acts)) (vs : List VarInfo) (m : ℕ) (g : Expression) (b : Block) (rest : text.Arms) (f : Finding) → ArmsRead h called bound ws k sc whole done vs m (text.Arms.arm g b rest) → first (closed_findings Demand.Truth (length vs) sc g ++ block_findings h called (bound || arms_bind rest) (length vs) sc b) ≡ Some f → first (arms_findings h called bound (length ws) sc whole) ≡ Some f
-arms_fault h called bound ws k sc whole done vs m g b rest f r e = ap first (r.found ∙ sym (append_assoc (closed_findings Demand.Truth (length vs) sc g) (block_findings h called (bound || arms_bind rest) (length vs) sc b) _)) ∙ first_of_first _ _ f e

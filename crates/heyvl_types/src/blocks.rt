@@ -1,7 +1,7 @@
 //! Statements in which others stand, and blocks.
 
 ghost use Rattle.heyvl_syntax.specs.Expressions.{expression};
-ghost use Rattle.heyvl_syntax.specs.Statements.{Statement, arms, block, loop_rules, statement};
+ghost use Rattle.heyvl_syntax.specs.Statements.{arms, block, statement};
 ghost use Rattle.heyvl_types.specs.Answers.{Gives, acts_view, arms_view};
 ghost use Rattle.heyvl_types.specs.PlainActs.{arm_of, variable_of};
 ghost use Rattle.heyvl_types.specs.StatementActs.{arms_acts, block_acts, condition, loops as loops_of, loops_of_arms, loops_of_block, statement_acts};
@@ -11,11 +11,11 @@ ghost use Rattle.heyvl_types.specs.Variables.{behind, locals, locals_of_arms, lo
 ghost use Rattle.std.specs.Prelude.{◌++◌, ◌+◌, ◌≡◌, OnOk, length, map, take};
 
 use crate::acts::Act;
-use crate::bindings::{binding_arms, binding_statements, block_binds, block_is_rankable};
+use crate::bindings::{binding_arms, binding_statements, block_binds};
 use crate::calls::Calls;
 use crate::demands::Demand;
 use crate::expressions::{after, read};
-use crate::loop_rules::{loop_act, read_rules, told_of_loop};
+use crate::loops::{close_loop, read_head};
 use crate::scopes::Scope;
 use crate::settings::Setting;
 use crate::statements::{
@@ -26,48 +26,8 @@ use crate::stops::ResolveStop;
 use crate::typed::VarInfo;
 use crate::values::condition;
 use heylo_formula::Cond;
-use heyvl_syntax::{Arm, Expr, Rule, Span, Stmt};
+use heyvl_syntax::{Arm, Stmt};
 use std::alloc::Global;
-
-/// What a loop becomes, or the first fault in it.
-#[cycle(reading)]
-fn read_loop(
-    alloc: Global,
-    setting: Setting,
-    calls: &Calls,
-    bound: bool,
-    scope: &mut Scope,
-    vars: &mut Vec<VarInfo>,
-    loops: &mut u32,
-    rules: &[Rule],
-    guard: &Expr,
-    body: &[Stmt],
-    span: Span,
-) -> Result<Vec<Act>, ResolveStop>
-    ensures gives { Gives acts_view result (statement_findings setting calls.now bound (length vars.old.items) scope.old (Statement.loop (loop_rules rules.now) (expression guard.now) (block body.now) span)) (statement_acts setting calls.now (length vars.old.items) loops.old scope.old (Statement.loop (loop_rules rules.now) (expression guard.now) (block body.now) span)) }
-    ensures kept { OnOk result (scope.new ≡ scope.old) }
-    ensures listed { OnOk result (map variable_of vars.new.items ≡ map variable_of vars.old.items ++ locals (Statement.loop (loop_rules rules.now) (expression guard.now) (block body.now) span)) }
-    ensures numbered { OnOk result (loops.new ≡ loops.old + loops_of (Statement.loop (loop_rules rules.now) (expression guard.now) (block body.now) span)) }
-{
-    let number = *loops;
-    *loops = after(number)?;
-    let next = next_number(vars)?;
-    let found = read_rules(alloc, scope, next, rules)?;
-    let guard = read(alloc, scope, next, guard, Demand::Truth)?;
-    let made = read_block(alloc, setting, calls, true, scope, vars, loops, body)?;
-    told_of_loop(rules, found.misses, block_is_rankable(body), span)?;
-    let act = loop_act(
-        alloc,
-        number,
-        rules,
-        found,
-        condition(guard),
-        scope,
-        made,
-        span,
-    )?;
-    Ok(single(alloc, act)?)
-}
 
 /// What an arm becomes, or the first fault in it.
 #[cycle(reading)]
@@ -161,9 +121,13 @@ fn read_statement(
             let right = read_block(alloc, setting, calls, bound, scope, vars, loops, right)?;
             Ok(single(alloc, Act::Pick(*up, left, right, *span))?)
         }
-        Stmt::While(rules, guard, body, span) => read_loop(
-            alloc, setting, calls, bound, scope, vars, loops, rules, guard, body, *span,
-        ),
+        Stmt::While(rules, guard, body, span) => {
+            let number = *loops;
+            *loops = after(number)?;
+            let (found, guard) = read_head(alloc, scope, vars, rules, guard)?;
+            let made = read_block(alloc, setting, calls, true, scope, vars, loops, body)?;
+            close_loop(alloc, number, rules, found, guard, scope, made, body, *span)
+        }
     }
 }
 

@@ -20,6 +20,7 @@ mod laws;
 mod literals;
 mod locals;
 mod loop_rules;
+mod loops;
 mod meanings;
 mod names;
 mod operators;

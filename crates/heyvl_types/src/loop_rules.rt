@@ -17,6 +17,7 @@ ghost use Rattle.std.specs.List.{list_any};
 ghost use Rattle.std.specs.Prelude.{◌&&◌, ◌≡◌, ◌∷◌, [], IfOk, List, Some, not, ℕ};
 
 use crate::acts::{Act, LoopAct};
+use crate::choices::read_weight;
 use crate::demands::Demand;
 use crate::expressions::{meets, read};
 use crate::integers::copies;
@@ -25,7 +26,6 @@ use crate::rules::told;
 use crate::scopes::Scope;
 use crate::stops::ResolveStop;
 use crate::values::form;
-use crate::choices::read_weight;
 use crate::weights::{is_over_zero, is_step, weight_of, weight_value};
 use heylo_formula::{Cond, Form};
 use heyvl_num::{Ext, Frac};

@@ -1,6 +1,7 @@
 -- What has been found in the rules before a loop, rule by rule. The crate's own functions alone speak of it.
-use Rattle.heylo_formula.specs.Formula.{Form}
-use Rattle.heylo_formula.specs.PlainTrees.{form_of}
+use Rattle.heylo_formula.specs.Formula.{Cond, Form}
+use Rattle.heylo_formula.specs.PlainTrees.{cond_of, form_of}
+use Rattle.heylo_formula.specs.declared.forms.Cond as C
 use Rattle.heylo_formula.specs.declared.forms.Form as F
 use Rattle.heyvl_num.specs.Rational.{Rational}
 use Rattle.heyvl_num.specs.Value.Value.{infinite}
@@ -39,3 +40,7 @@ found_with f n sc rs = record { invariant = or_invariant f.invariant (invariant_
 -- What is found already.
 abbrev pub found_of : memory.Found → Found
 found_of f = record { invariant = or_invariant f.invariant (Form.number infinite); rank = rank_of f.rank; misses = f.misses }
+
+-- The same, and the guard behind the rules.
+abbrev pub head_of : memory.Found × C.Cond → Found × Cond
+head_of x = (found_of x.0, cond_of x.1)
