@@ -2,3 +2,4 @@ pub mod Clauses
 pub mod Earlier
 pub mod RightSideParts
 pub mod LoopHeads
+pub mod ProcedureParts
