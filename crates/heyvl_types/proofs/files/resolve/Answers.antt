@@ -25,8 +25,8 @@ loop-proc-preserved c =
     let found = rw c.in_ok-calls.ensures at c.in_ok-read_procedure.ensures.gives in
     record {
       reads = goes_on (procedures c.args.file.now) k c.loop-proc.number c.in_ok-number.number (map procedure_of c.loop-proc.procs.items) _ (procedure c.proc-item.result) c.is_before-named.result c.loop-proc.invariant.reads here
-      found.0 (search rules)
-      (ap (map procedure_of) c.in_ok-push.ensures.items ∙ map-append procedure_of c.loop-proc.procs.items (c.in_ok-read_procedure.field-0 ∷ []) ∙ ap (λ t. map procedure_of c.loop-proc.procs.items ++ t ∷ []) found.1);
+          found.0 (search rules)
+          (ap (map procedure_of) c.in_ok-push.ensures.items ∙ map-append procedure_of c.loop-proc.procs.items (c.in_ok-read_procedure.field-0 ∷ []) ∙ ap (λ t. map procedure_of c.loop-proc.procs.items ++ t ∷ []) found.1);
       counted = subst (Each IsCounted) (sym c.in_ok-push.ensures.items) (each_more IsCounted c.loop-proc.procs.items c.in_ok-read_procedure.field-0 c.loop-proc.invariant.counted c.in_ok-read_procedure.ensures.counted);
     }
 
