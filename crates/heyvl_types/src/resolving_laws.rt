@@ -1,4 +1,4 @@
-//! Laws of resolved files. Each function does nothing: its contract is the law.
+//! Laws of resolved files. A law is the contract of a function that does nothing.
 
 ghost use Rattle.heyvl_types.specs.ResolvedLaws as trees;
 
