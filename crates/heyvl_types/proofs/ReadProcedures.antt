@@ -7,7 +7,7 @@ use Rattle.heyvl_types.proofs.ProcedureParts.{regroup, the_inputs, the_locals, t
 use Rattle.heyvl_types.specs.Acts.{Acts, Variable}
 use Rattle.heyvl_types.specs.Answers.{Gives, Tells}
 use Rattle.heyvl_types.specs.Files.{arity, body_acts, body_findings, clause, first_quantified, front_of, has_quantified_post, head_scope, input_scope, is_too_large, is_wlp, loops_of_body, parameters_findings, post_forms, posts_findings, pre_forms, pres_findings, procedure_findings, setting, typed}
-use Rattle.heyvl_types.specs.Findings.{Finding, at, first}
+use Rattle.heyvl_types.specs.Findings.{Finding, at}
 use Rattle.heyvl_types.specs.PlainActs.{procedure_of, variable_of}
 use Rattle.heyvl_types.specs.Rules.{IsCounted}
 use Rattle.heyvl_types.specs.Scopes.{Scope}
@@ -18,7 +18,7 @@ use Rattle.heyvl_types.specs.declared.stops.ResolveStop.{ResolveStop}
 use Rattle.heyvl_types.specs.declared.typed.TProc.{TProc}
 use Rattle.heyvl_types.specs.declared.typed.VarInfo.{VarInfo}
 use Rattle.heyvl_types.specs.internal.ProcedureParts.{is_larger, with_parts}
-use Rattle.std.proofs.Common.{Bool, Err, List, Some, [], ap, append_assoc, arith, drop, false, length, length-append, map, refl, sym, take, true, ◌+◌, ◌++◌, ◌∙◌, ◌≡◌, ◌≤◌, ◌∷◌, ℕ}
+use Rattle.std.proofs.Common.{Bool, Err, List, [], ap, append_assoc, arith, drop, false, length, length-append, map, sym, take, true, ◌+◌, ◌++◌, ◌∙◌, ◌≡◌, ◌≤◌, ◌∷◌, ℕ}
 use Rattle.std.proofs.lemmas.List.{length-map}
 use Rattle.std.specs.Prelude.{IfOk, Ok, Option, Result, Vec, not, ◌&&◌}
 use Rattle.std.specs.declared.alloc.Global.{Global}
@@ -71,7 +71,7 @@ from_body called named p n inner all r h = from_clauses called named p r.named_w
 body_with : (h : Setting) (called : Called) (bound : Bool) (p : Procedure) (n : ℕ) (all : Scope) → h ≡ setting p → bound ≡ has_quantified_post p → n ≡ arity p → all ≡ head_scope p → body_part (setting p) called (has_quantified_post p) (arity p) (head_scope p) p ≡ body_part h called bound n all p
 body_with h called bound p n all e f g i = cc
 
-pub acts_with : (h : Setting) (called : Called) (p : Procedure) (n : ℕ) (all : Scope) → h ≡ setting p → n ≡ arity p → all ≡ head_scope p → body_acts h called n all p.body ≡ body_acts (setting p) called (arity p) (head_scope p) p.body
+acts_with : (h : Setting) (called : Called) (p : Procedure) (n : ℕ) (all : Scope) → h ≡ setting p → n ≡ arity p → all ≡ head_scope p → body_acts h called n all p.body ≡ body_acts (setting p) called (arity p) (head_scope p) p.body
 acts_with h called p n all e g i = cc
 
 from_own : (called : Called) (named : Bool) (p : Procedure) (n m : ℕ) (inner all : Scope) (h : Setting) (bound : Bool) → HeadIs named p n inner all → clauses_part n inner all p ≡ [] → h ≡ setting p → bound ≡ has_quantified_post p → m ≡ arity p → body_part h called bound m all p ≡ [] → procedure_findings called named p ≡ own_part called p
@@ -93,12 +93,6 @@ bad_body v w e called named p n m inner all h bound c d r none hs bs ms g = stop
 
 -- ---- The procedure's own node
 
-own_broken : (called : Called) (p : Procedure) → is_too_large called p ≡ true → own_part called p ≡ (24, p.span) ∷ []
-own_broken called p h = ap (λ b. at p.span ((24, b) ∷ [])) h
-
-own_kept : (called : Called) (p : Procedure) → is_too_large called p ≡ false → own_part called p ≡ []
-own_kept called p h = ap (λ b. at p.span ((24, b) ∷ [])) h
-
 is_large : (called : Called) (p : Procedure) (n vars : ℕ) (acts : Option Acts) → n ≡ arity p → vars ≡ first_quantified p + length (fronts_variables p.posts) → acts ≡ body_acts (setting p) called (arity p) (head_scope p) p.body → is_larger p n vars acts ≡ is_too_large called p
 is_large called p n vars acts e f g = ap (λ i. is_larger p i vars acts) e ∙ ap (λ i. is_larger p (arity p) i acts) f ∙ ap (λ l. is_larger p (arity p) (first_quantified p + length (fronts_variables p.posts)) l) g
 
@@ -116,7 +110,7 @@ variables_of p = (parameters p.inputs ++ parameters p.outputs) ++ (locals_of_bod
 pub all_variables : (p : Procedure) (old new : List Variable) → old ≡ (parameters p.inputs ++ parameters p.outputs) ++ locals_of_body p.body → new ≡ old ++ fronts_variables p.posts → new ≡ variables_of p
 all_variables p old new e f = f ∙ ap (λ l. l ++ fronts_variables p.posts) e ∙ append_assoc (parameters p.inputs ++ parameters p.outputs) (locals_of_body p.body) (fronts_variables p.posts)
 
-pub so_many : (p : Procedure) (vars : List VarInfo) → map variable_of vars ≡ variables_of p → length vars ≡ first_quantified p + length (fronts_variables p.posts)
+so_many : (p : Procedure) (vars : List VarInfo) → map variable_of vars ≡ variables_of p → length vars ≡ first_quantified p + length (fronts_variables p.posts)
 so_many p vars e =
     let a = length-append (parameters p.inputs ++ parameters p.outputs) (locals_of_body p.body ++ fronts_variables p.posts) in
     let b = length-append (parameters p.inputs) (parameters p.outputs) in
