@@ -9,6 +9,7 @@ pub mod ClauseForms
 pub mod PreAndPost
 pub mod LocalsLeft
 pub mod ProcedureParts
+pub mod ReadProcedures
 pub mod ProcedureList
 pub mod CountsLeft
 mod ActExamples

@@ -3,3 +3,4 @@ pub mod Earlier
 pub mod RightSideParts
 pub mod LoopHeads
 pub mod RightSideRules
+pub mod ProcedureParts

@@ -4,9 +4,10 @@ ghost use Rattle.heyvl_syntax.specs.Procedures.{procedure, procedures};
 ghost use Rattle.heyvl_types.specs.Answers.{Gives};
 ghost use Rattle.heyvl_types.specs.Files.{file_findings, procedures_findings, resolved, typed};
 ghost use Rattle.heyvl_types.specs.PlainActs.{procedure_of, procedures_of};
+ghost use Rattle.heyvl_types.specs.Rules.{Each, IsCounted};
 ghost use Rattle.heyvl_types.specs.Signatures.{find_call};
 ghost use Rattle.heyvl_types.specs.internal.Earlier.{is_before};
-ghost use Rattle.std.specs.Prelude.{◌≡◌};
+ghost use Rattle.std.specs.Prelude.{◌≡◌, IfOk};
 
 use crate::calls::{Calls, calls_of};
 use crate::procedures::read_procedure;
@@ -27,7 +28,8 @@ fn is_before(calls: &Calls, number: u32, name: &Name) -> bool
 
 /// The typed tree of a file, or its first static fault.
 pub fn resolve(alloc: Global, file: &File) -> Result<Typed, ResolveStop>
-    ensures { Gives procedures_of result (file_findings (procedures file.now)) (resolved (procedures file.now)) }
+    ensures gives { Gives procedures_of result (file_findings (procedures file.now)) (resolved (procedures file.now)) }
+    ensures counted { IfOk result (λ typed. Each IsCounted typed.procs.items) }
 {
     let calls = calls_of(alloc, &file.procs)?;
     let mut procs = Vec::with_capacity(alloc, file.procs.len())?;

@@ -29,6 +29,7 @@ mod places;
 mod procedures;
 mod quantifiers;
 mod right_sides;
+mod resolving_laws;
 mod rules;
 mod scopes;
 mod settings;
@@ -48,5 +49,6 @@ pub use laws::{
     resolved_forms_are_small,
 };
 pub use places::act_at;
+pub use resolving_laws::{resolved_trees_meet_the_rules, resolving_is_unique};
 pub use stops::ResolveStop;
 pub use typed::{TProc, Typed, VarInfo};

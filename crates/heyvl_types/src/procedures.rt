@@ -8,7 +8,9 @@ ghost use Rattle.heyvl_types.specs.Answers.{Gives, Tells};
 ghost use Rattle.heyvl_types.specs.Count.{count_of};
 ghost use Rattle.heyvl_types.specs.Files.{arity, body_acts, body_findings, clause, front_of, head_scope, input_scope, is_wlp, loops_of_body, parameters_findings, post_forms, posts_findings, pre_forms, pres_findings, procedure_findings, typed};
 ghost use Rattle.heyvl_types.specs.Findings.{at};
+ghost use Rattle.heyvl_types.specs.internal.ProcedureParts.{is_larger, with_parts};
 ghost use Rattle.heyvl_types.specs.PlainActs.{body_of, procedure_of, variable_of};
+ghost use Rattle.heyvl_types.specs.Rules.{IsCounted};
 ghost use Rattle.heyvl_types.specs.Variables.{locals_of_body, parameters};
 ghost use Rattle.std.specs.Prelude.{◌&&◌, ◌++◌, ◌+◌, ◌||◌, ◌≡◌, ◌∷◌, [], IfOk, OnOk, length, map, nat_lt, not};
 
@@ -40,7 +42,9 @@ struct Head {
     vars: Vec<VarInfo>,
     /// How many inputs there are.
     count: u32,
-    /// How many inputs and outputs there are.
+    /// How many outputs there are.
+    outputs: u32,
+    /// How many of both there are.
     arity: u32,
 }
 
@@ -70,6 +74,17 @@ fn is_wlp(note: Option<Note>) -> bool
     }
 }
 
+/// What the statements of a procedure with so many inputs have to know of it.
+fn setting_of(proc: &Proc, inputs: u32) -> Setting
+    ensures { result ≡ record { co = proc.now.co; weak = is_wlp proc.now.note && not proc.now.co; inputs = inputs } }
+{
+    Setting {
+        co: proc.co,
+        weak: is_wlp(proc.note) && !proc.co,
+        inputs,
+    }
+}
+
 /// The rules of a procedure's name and note. Whether an earlier procedure has its name is handed in.
 fn check_name(named: bool, proc: &Proc) -> Result<(), ResolveStop>
     ensures { Tells result (at proc.now.span ((11, named) ∷ []) ++ at proc.now.span ((17, is_wlp proc.now.note && proc.now.co) ∷ [])) }
@@ -90,17 +105,20 @@ fn read_head(alloc: Global, proc: &Proc) -> Result<Head, ResolveStop>
     ensures all { IfOk result (λ head. head.all ≡ head_scope (procedure proc.now)) }
     ensures vars { IfOk result (λ head. map variable_of head.vars.items ≡ parameters proc.now.inputs.items ++ parameters proc.now.outputs.items) }
     ensures count { IfOk result (λ head. head.count ≡ length proc.now.inputs.items) }
+    ensures outputs { IfOk result (λ head. head.outputs ≡ length proc.now.outputs.items) }
 {
     let mut inputs = Scope::new(alloc);
     let mut vars = Vec::new(alloc);
     let count = read_parameters(alloc, &mut inputs, &mut vars, 0, &proc.inputs)?;
     let mut all = inputs.copy()?;
     let arity = read_parameters(alloc, &mut all, &mut vars, count, &proc.outputs)?;
+    let outputs = arity.checked_sub(count).ok_or(AllocError)?;
     Ok(Head {
         inputs,
         all,
         vars,
         count,
+        outputs,
         arity,
     })
 }
@@ -168,13 +186,44 @@ fn has_too_many_statements(body: &Option<Vec<Act>>) -> bool
 
 /// Whether a procedure with so many parameters and variables is too large.
 fn is_too_large(proc: &Proc, arity: u32, vars: usize, body: &Option<Vec<Act>>) -> bool
-    ensures { result ≡ (nat_lt 16 arity || nat_lt 64 (length (expressions proc.now.pres.items)) || nat_lt 64 (length (expressions proc.now.posts.items)) || nat_lt 256 vars || nat_lt 1024 (count_of (acts_in (body_of body.now)))) }
+    ensures { result ≡ is_larger (procedure proc.now) arity vars (body_of body.now) }
 {
     arity > 16
         || proc.pres.len() > 64
         || proc.posts.len() > 64
         || vars > 256
         || has_too_many_statements(body)
+}
+
+/// The typed procedure of these parts, or the fault of one that is too large.
+fn put_together(
+    alloc: Global,
+    proc: &Proc,
+    inputs: u32,
+    outputs: u32,
+    vars: Vec<VarInfo>,
+    clauses: Clauses,
+    body: Body,
+) -> Result<TProc, ResolveStop>
+    ensures gives { Gives procedure_of result (at proc.now.span ((24, is_larger (procedure proc.now) (inputs + outputs) (length vars.items) (body_of body.acts)) ∷ [])) (with_parts (procedure proc.now) inputs outputs (map variable_of vars.items) (form_of clauses.pre) (form_of clauses.post) (body_of body.acts) body.loops) }
+    ensures counted { IfOk result (λ typed. (typed.inputs ≡ inputs) × (typed.outputs ≡ outputs) × (typed.vars ≡ vars)) }
+{
+    if is_too_large(proc, plus(inputs, outputs)?, vars.len(), &body.acts) {
+        return Err(ResolveStop::Fault(24, proc.span));
+    }
+    Ok(TProc {
+        name: proc.name.copy(alloc)?,
+        co: proc.co,
+        weak: is_wlp(proc.note) && !proc.co,
+        vars,
+        inputs,
+        outputs,
+        pre: clauses.pre,
+        post: clauses.post,
+        body: body.acts,
+        loops: body.loops,
+        span: proc.span,
+    })
 }
 
 /// What a procedure becomes, or the first fault in it. Whether an earlier procedure has its name is handed in.
@@ -184,7 +233,8 @@ pub(crate) fn read_procedure(
     named: bool,
     proc: &Proc,
 ) -> Result<TProc, ResolveStop>
-    ensures { Gives procedure_of result (procedure_findings calls.now named (procedure proc.now)) (typed calls.now (procedure proc.now)) }
+    ensures gives { Gives procedure_of result (procedure_findings calls.now named (procedure proc.now)) (typed calls.now (procedure proc.now)) }
+    ensures counted { IfOk result (λ typed. IsCounted typed) }
 {
     check_name(named, proc)?;
     let Head {
@@ -192,34 +242,15 @@ pub(crate) fn read_procedure(
         mut all,
         mut vars,
         count,
+        outputs,
         arity,
     } = read_head(alloc, proc)?;
     let clauses = read_clauses(alloc, &inputs, &mut all, arity, proc)?;
-    let setting = Setting {
-        co: proc.co,
-        weak: is_wlp(proc.note) && !proc.co,
-        inputs: count,
-    };
+    let setting = setting_of(proc, count);
     let bound = any_quantified(&proc.posts);
     let body = read_body(
         alloc, setting, calls, bound, &mut all, &mut vars, &proc.body,
     )?;
     list_fronts(alloc, &mut vars, &proc.posts)?;
-    if is_too_large(proc, arity, vars.len(), &body.acts) {
-        return Err(ResolveStop::Fault(24, proc.span));
-    }
-    let outputs = arity.checked_sub(count).ok_or(AllocError)?;
-    Ok(TProc {
-        name: proc.name.copy(alloc)?,
-        co: proc.co,
-        weak: setting.weak,
-        vars,
-        inputs: count,
-        outputs,
-        pre: clauses.pre,
-        post: clauses.post,
-        body: body.acts,
-        loops: body.loops,
-        span: proc.span,
-    })
+    put_together(alloc, proc, count, outputs, vars, clauses, body)
 }
