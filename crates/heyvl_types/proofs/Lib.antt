@@ -1,6 +1,17 @@
 mod Matching
 mod Copying
 mod Finding
+pub mod TargetSteps
+pub mod Earlier
+pub mod Parts
+pub mod ParameterSteps
+pub mod ClauseForms
+pub mod PreAndPost
+pub mod LocalsLeft
+pub mod ProcedureParts
+pub mod ReadProcedures
+pub mod ProcedureList
+pub mod CountsLeft
 mod ActExamples
 pub mod exported
 mod ExampleTexts
@@ -10,3 +21,16 @@ pub mod LiteralFractions
 pub mod Reading
 pub mod TypedMeanings
 pub mod resolved
+pub mod Coprime
+pub mod CallEntries
+pub mod IntegerParts
+mod Rests
+mod Walks
+mod LastPassing
+mod ReadRests
+mod RuleHeads
+mod RightRules
+mod Nested
+pub mod WeightSums
+mod Declaring
+mod Havocs

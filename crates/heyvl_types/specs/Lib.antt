@@ -27,3 +27,4 @@ pub mod Answers
 pub mod ExpressionLaws
 pub mod ResolvedLaws
 pub mod ResolvedSizes
+pub mod internal

@@ -23,7 +23,7 @@ use heyvl_syntax::{BinaryOp, Expr, Name, Span, TypeName, UnaryOp};
 use std::alloc::{AllocError, Global};
 
 /// Whether an expression has a type that is asked for.
-fn meets(demand: Demand, made: &Meaning) -> bool
+pub(crate) fn meets(demand: Demand, made: &Meaning) -> bool
     ensures { result ≡ meets demand (meaning_of made.now) }
 {
     match (demand, made) {
@@ -256,7 +256,7 @@ fn inside(alloc: Global, scope: &Scope, name: &Name, local: Local) -> Result<Sco
 }
 
 /// The number after this one.
-fn after(next: u32) -> Result<u32, AllocError>
+pub(crate) fn after(next: u32) -> Result<u32, AllocError>
     ensures { IfOk result (λ number. number ≡ suc next) }
 {
     next.checked_add(1).ok_or(AllocError)

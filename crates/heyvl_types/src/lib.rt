@@ -2,25 +2,53 @@
 #![tactic(auto)]
 
 mod acts;
+mod assignments;
+mod bindings;
+mod blocks;
+mod calls;
+mod choices;
+mod clauses;
 mod copies;
+mod counts;
 mod demands;
+mod draws;
 mod expressions;
+mod files;
+mod fronts;
+mod integers;
 mod laws;
 mod literals;
+mod locals;
+mod loop_rules;
+mod loops;
 mod meanings;
+mod names;
 mod operators;
+mod parameters;
 mod places;
+mod procedures;
+mod quantifiers;
+mod right_sides;
+mod resolving_laws;
+mod rules;
 mod scopes;
 mod settings;
+mod statements;
 mod stops;
+mod targets;
 mod typed;
+mod typed_values;
+mod value_types;
+mod values;
 mod weights;
 
 pub use acts::{Act, LoopAct};
+pub use files::resolve;
 pub use laws::{
     expressions_are_typed, forward_meaning_matches_runs, resolved_files_meet_the_rules,
     resolved_forms_are_small,
 };
 pub use places::act_at;
+pub use resolving_laws::{resolved_trees_meet_the_rules, resolving_is_unique};
 pub use stops::ResolveStop;
 pub use typed::{TProc, Typed, VarInfo};

@@ -2,7 +2,7 @@
 
 ghost use Rattle.heyvl_syntax.specs.Expressions.{expression};
 ghost use Rattle.heyvl_num.specs.Rational.{ratio, zeroʳ};
-ghost use Rattle.heyvl_types.specs.Literals.{is_written, literal_value};
+ghost use Rattle.heyvl_types.specs.Literals.{is_written, literal_of, literal_value};
 ghost use Rattle.heyvl_types.specs.Table.{divisor, inverse};
 ghost use Rattle.std.specs.Int.Signed.{le_z};
 ghost use Rattle.std.specs.Prelude.{◌≡◌, ◌^◌, ◌≤◌, None, Some, if◌then◌else◌, pos, true, unsigned_abs};
@@ -69,8 +69,27 @@ pub(crate) fn divisor(e: &Expr) -> Option<Frac>
     }
 }
 
+/// The literal that an expression is.
+pub(crate) fn number(e: &Expr) -> Option<Lit>
+    ensures { result ≡ literal_of (expression e.now) }
+{
+    match e {
+        Expr::Number(literal, _) => Some(*literal),
+        Expr::Truth(_, _)
+        | Expr::Infinity(_)
+        | Expr::Name(_, _)
+        | Expr::Group(_, _)
+        | Expr::Bracket(_, _)
+        | Expr::Embed(_, _)
+        | Expr::Unary(_, _, _)
+        | Expr::Binary(_, _, _, _)
+        | Expr::Choice(_, _, _, _)
+        | Expr::Bound(_, _, _, _, _) => None,
+    }
+}
+
 /// One divided by a literal, or None for a literal that is 0 or that no text can write.
-fn inverse(number: Lit) -> Option<Frac>
+pub(crate) fn inverse(number: Lit) -> Option<Frac>
     ensures { result ≡ inverse number }
 {
     if number.digits >= 1 && number.places <= MAX_PLACES {

@@ -301,14 +301,14 @@ pub(crate) fn quotient(
 }
 
 /// 0 as a form.
-fn nothing() -> Form
+pub(crate) fn nothing() -> Form
     ensures { form_of result ≡ nought }
 {
     Form::Const(Ext::Fin(zero()))
 }
 
 /// Infinity as a form.
-fn endless() -> Form
+pub(crate) fn endless() -> Form
     ensures { form_of result ≡ number infinite }
 {
     Form::Const(Ext::Inf)

@@ -1,0 +1,10 @@
+use Rattle.heyvl_types.proofs.LastPassing.{FreeBehind, binds_one}
+use Rattle.heyvl_types.proofs.bindings.binding_statements.Given as goal
+use Rattle.std.proofs.Common.{length}
+
+-- The rest is the first statements; behind it nothing binds.
+abbrev pub invariant-loop-last : goal.invariant-loop-last
+invariant-loop-last l = FreeBehind binds_one l.statements l.rest
+
+abbrev pub decreases-loop-last : goal.decreases-loop-last
+decreases-loop-last l = length l.rest

@@ -1,0 +1,8 @@
+use Rattle.heylo_formula.specs.PlainTrees.{form_of}
+use Rattle.heyvl_types.proofs.ClauseForms.{Reads}
+use Rattle.heyvl_types.proofs.PreAndPost.{posts}
+use Rattle.heyvl_types.proofs.clauses.read_post_forms.Given as goal
+use Rattle.std.proofs.Common.{map, ◌≡◌}
+
+abbrev pub invariant-loop-e : goal.invariant-loop-e
+invariant-loop-e l = record { kept : l.scope ≡ l.fn.scope; reads : Reads (posts l.co l.fn.scope) l.all l.first l.e-index l.next (map form_of l.forms.items) }

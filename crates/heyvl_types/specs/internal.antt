@@ -1,0 +1,6 @@
+pub mod Clauses
+pub mod Earlier
+pub mod RightSideParts
+pub mod LoopHeads
+pub mod RightSideRules
+pub mod ProcedureParts

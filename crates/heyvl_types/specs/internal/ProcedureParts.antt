@@ -1,0 +1,32 @@
+-- A procedure put together from its parts, whatever they are. The crate's own functions alone speak of it.
+use Rattle.heylo_formula.specs.Formula.{Form}
+use Rattle.heyvl_syntax.specs.Procedures.{Procedure}
+use Rattle.heyvl_types.specs.Acts.{Acts, TypedProcedure, Variable, acts_in}
+use Rattle.heyvl_types.specs.Count.{count_of}
+use Rattle.heyvl_types.specs.Files.{is_wlp}
+use Rattle.std.specs.Prelude.{Bool, List, Option, drop, length, nat_lt, not, take, ◌&&◌, ◌+◌, ◌||◌, ℕ}
+
+-- Whether a procedure with so many parameters and variables, and with this body, is too large.
+abbrev pub is_larger : Procedure → ℕ → ℕ → Option Acts → Bool
+is_larger p parameters vars body =
+    nat_lt 16 parameters
+    || nat_lt 64 (length p.pres)
+    || nat_lt 64 (length p.posts)
+    || nat_lt 256 vars
+    || nat_lt 1024 (count_of (acts_in body))
+
+-- Of the variables so many are inputs, and so many of the next are outputs.
+abbrev pub with_parts : Procedure → ℕ → ℕ → List Variable → Form → Form → Option Acts → ℕ → TypedProcedure
+with_parts p inputs outputs vars pre post body loops = record {
+  name = p.name;
+  co = p.co;
+  weak = is_wlp p.note && not p.co;
+  inputs = take inputs vars;
+  outputs = take outputs (drop inputs vars);
+  locals = drop (inputs + outputs) vars;
+  pre = pre;
+  post = post;
+  body = body;
+  loops = loops;
+  span = p.span;
+}

@@ -1,0 +1,43 @@
+//! Files: the typed procedures of a file, or its first fault.
+
+ghost use Rattle.heyvl_syntax.specs.Procedures.{procedure, procedures};
+ghost use Rattle.heyvl_types.specs.Answers.{Gives};
+ghost use Rattle.heyvl_types.specs.Files.{file_findings, procedures_findings, resolved, typed};
+ghost use Rattle.heyvl_types.specs.PlainActs.{procedure_of, procedures_of};
+ghost use Rattle.heyvl_types.specs.Rules.{Each, IsCounted};
+ghost use Rattle.heyvl_types.specs.Signatures.{find_call};
+ghost use Rattle.heyvl_types.specs.internal.Earlier.{is_before};
+ghost use Rattle.std.specs.Prelude.{◌≡◌, IfOk};
+
+use crate::calls::{Calls, calls_of};
+use crate::procedures::read_procedure;
+use crate::stops::ResolveStop;
+use crate::typed::Typed;
+use heyvl_syntax::{File, Name};
+use std::alloc::{AllocError, Global};
+
+/// Whether a name calls a procedure before the one with this number.
+fn is_before(calls: &Calls, number: u32, name: &Name) -> bool
+    ensures { result ≡ is_before number (find_call calls.now name.now) }
+{
+    match calls.find(name) {
+        None => false,
+        Some(found) => found.number < number,
+    }
+}
+
+/// The typed tree of a file, or its first static fault.
+pub fn resolve(alloc: Global, file: &File) -> Result<Typed, ResolveStop>
+    ensures gives { Gives procedures_of result (file_findings (procedures file.now)) (resolved (procedures file.now)) }
+    ensures counted { IfOk result (λ typed. Each IsCounted typed.procs.items) }
+{
+    let calls = calls_of(alloc, &file.procs)?;
+    let mut procs = Vec::with_capacity(alloc, file.procs.len())?;
+    let mut number = 0_u32;
+    for proc in &file.procs {
+        let named = is_before(&calls, number, &proc.name);
+        procs.push(read_procedure(alloc, &calls, named, proc)?)?;
+        number = number.checked_add(1).ok_or(AllocError)?;
+    }
+    Ok(Typed { procs })
+}

@@ -1,0 +1,68 @@
+//! The variables of the quantifiers in the fronts of post clauses.
+
+ghost use Rattle.heyvl_syntax.specs.Expressions.{expression, expressions};
+ghost use Rattle.heyvl_types.specs.PlainActs.{variable_of};
+ghost use Rattle.heyvl_types.specs.Variables.{front_variables, fronts_variables};
+ghost use Rattle.std.specs.Prelude.{◌++◌, ◌+◌, ◌≡◌, IfOk, OnOk, length, map};
+
+use crate::parameters::declared;
+use crate::typed::VarInfo;
+use heyvl_syntax::Expr;
+use std::alloc::{AllocError, Global};
+
+/// The number behind the variables of a front, of which the first has this number.
+pub(crate) fn behind_front(first: u32, e: &Expr) -> Result<u32, AllocError>
+    ensures { IfOk result (λ next. next ≡ first + length (front_variables (expression e.now))) }
+{
+    match e {
+        Expr::Bound(_, _, _, inner, _) => {
+            behind_front(first.checked_add(1).ok_or(AllocError)?, inner)
+        }
+        Expr::Number(_, _)
+        | Expr::Truth(_, _)
+        | Expr::Infinity(_)
+        | Expr::Name(_, _)
+        | Expr::Group(_, _)
+        | Expr::Bracket(_, _)
+        | Expr::Embed(_, _)
+        | Expr::Unary(_, _, _)
+        | Expr::Binary(_, _, _, _)
+        | Expr::Choice(_, _, _, _) => Ok(first),
+    }
+}
+
+/// The variables of a front behind others.
+fn list_front(alloc: Global, vars: &mut Vec<VarInfo>, e: &Expr) -> Result<(), AllocError>
+    ensures { OnOk result (map variable_of vars.new.items ≡ map variable_of vars.old.items ++ front_variables (expression e.now)) }
+{
+    match e {
+        Expr::Bound(_, name, ty, inner, _) => {
+            vars.push(declared(alloc, name, *ty)?)?;
+            list_front(alloc, vars, inner)
+        }
+        Expr::Number(_, _)
+        | Expr::Truth(_, _)
+        | Expr::Infinity(_)
+        | Expr::Name(_, _)
+        | Expr::Group(_, _)
+        | Expr::Bracket(_, _)
+        | Expr::Embed(_, _)
+        | Expr::Unary(_, _, _)
+        | Expr::Binary(_, _, _, _)
+        | Expr::Choice(_, _, _, _) => Ok(()),
+    }
+}
+
+/// The variables of the fronts of these expressions behind others.
+pub(crate) fn list_fronts(
+    alloc: Global,
+    vars: &mut Vec<VarInfo>,
+    all: &[Expr],
+) -> Result<(), AllocError>
+    ensures { OnOk result (map variable_of vars.new.items ≡ map variable_of vars.old.items ++ fronts_variables (expressions all.now)) }
+{
+    for e in all {
+        list_front(alloc, vars, e)?;
+    }
+    Ok(())
+}

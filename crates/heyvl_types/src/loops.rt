@@ -1,0 +1,65 @@
+//! A loop without its body: what its rules and its guard give, and the act that a body makes of them.
+
+ghost use Rattle.heylo_formula.specs.PlainTrees.{cond_of};
+ghost use Rattle.heyvl_syntax.specs.Expressions.{expression};
+ghost use Rattle.heyvl_syntax.specs.Statements.{block, loop_rules};
+ghost use Rattle.heyvl_types.specs.Acts.{Act as Plain, Acts};
+ghost use Rattle.heyvl_types.specs.Answers.{Gives, acts_view};
+ghost use Rattle.heyvl_types.specs.Findings.{at};
+ghost use Rattle.heyvl_types.specs.LoopRules.{copies_wrong, is_ranking, rules_findings, rules_wrong, step_wrong, steps_over_zero};
+ghost use Rattle.heyvl_types.specs.Scopes.{numbers};
+ghost use Rattle.heyvl_types.specs.StatementActs.{condition, copies_of};
+ghost use Rattle.heyvl_types.specs.StatementRules.{block_is_rankable};
+ghost use Rattle.heyvl_types.specs.TypedExpressions.{closed_findings, elaborate};
+ghost use Rattle.heyvl_types.specs.internal.LoopHeads.{found_of, head_of, rules_found};
+ghost use Rattle.std.specs.List.{list_any};
+ghost use Rattle.std.specs.Prelude.{◌&&◌, ◌++◌, ◌∷◌, [], length, not};
+
+use crate::acts::Act;
+use crate::bindings::block_is_rankable;
+use crate::demands::Demand;
+use crate::expressions::read;
+use crate::loop_rules::{Found, loop_act, read_rules, told_of_loop};
+use crate::scopes::Scope;
+use crate::statements::{next_number, single};
+use crate::stops::ResolveStop;
+use crate::typed::VarInfo;
+use crate::values::condition;
+use heylo_formula::Cond;
+use heyvl_syntax::{Expr, Rule, Span, Stmt};
+use std::alloc::Global;
+
+/// What the rules and the guard of a loop become, or the first fault in them.
+pub(crate) fn read_head(
+    alloc: Global,
+    scope: &Scope,
+    vars: &[VarInfo],
+    rules: &[Rule],
+    guard: &Expr,
+) -> Result<(Found, Cond), ResolveStop>
+    ensures { Gives head_of result (rules_findings (length vars.now) scope.now (loop_rules rules.now) ++ closed_findings Demand.Truth (length vars.now) scope.now (expression guard.now)) (rules_found (length vars.now) scope.now (loop_rules rules.now), condition (elaborate (length vars.now) scope.now (expression guard.now))) }
+{
+    let next = next_number(vars)?;
+    let found = read_rules(alloc, scope, next, rules)?;
+    let guard = read(alloc, scope, next, guard, Demand::Truth)?;
+    Ok((found, condition(guard)))
+}
+
+/// The act of a loop whose body has become these acts, or the first of the loop's own rules that is broken.
+pub(crate) fn close_loop(
+    alloc: Global,
+    number: u32,
+    rules: &[Rule],
+    found: Found,
+    guard: Cond,
+    scope: &Scope,
+    made: Vec<Act>,
+    body: &[Stmt],
+    span: Span,
+) -> Result<Vec<Act>, ResolveStop>
+    ensures { Gives acts_view result (at span ((12, (found_of found).misses) ∷ (15, list_any step_wrong (loop_rules rules.now)) ∷ (16, list_any steps_over_zero (loop_rules rules.now)) ∷ (18, rules_wrong (loop_rules rules.now)) ∷ (19, list_any copies_wrong (loop_rules rules.now)) ∷ (22, list_any is_ranking (loop_rules rules.now) && not (block_is_rankable (block body.now))) ∷ [])) (Acts.next (Plain.loop (record { number = number; k = copies_of (loop_rules rules.now); inv = (found_of found).invariant; guard = cond_of guard; rank = (found_of found).rank; scope = numbers scope.now; span = span }) (acts_view made)) Acts.done) }
+{
+    told_of_loop(rules, found.misses, block_is_rankable(body), span)?;
+    let act = loop_act(alloc, number, rules, found, guard, scope, made, span)?;
+    Ok(single(alloc, act)?)
+}

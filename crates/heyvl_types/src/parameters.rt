@@ -1,0 +1,87 @@
+//! Parameters: the variables that a procedure's head declares.
+
+ghost use Rattle.heyvl_types.specs.Answers.{Gives, Tells};
+ghost use Rattle.heyvl_types.specs.Files.{parameters_findings};
+ghost use Rattle.heyvl_types.specs.Findings.{at};
+ghost use Rattle.heyvl_types.specs.PlainActs.{variable_of};
+ghost use Rattle.heyvl_types.specs.Scopes.{is_visible, with_local};
+ghost use Rattle.heyvl_types.specs.Table.{declarable};
+ghost use Rattle.heyvl_types.specs.Variables.{behind_parameters, declared, parameters};
+ghost use Rattle.std.specs.Option.{is_none};
+ghost use Rattle.std.specs.Prelude.{◌++◌, ◌+◌, ◌≡◌, ◌∷◌, [], IfOk, OnOk, length, map, suc};
+
+use crate::operators::declarable;
+use crate::scopes::{Local, Scope};
+use crate::stops::ResolveStop;
+use crate::typed::VarInfo;
+use heylo_formula::Ty;
+use heyvl_syntax::{Name, Param, TypeName};
+use std::alloc::{AllocError, Global};
+
+/// The variable of a declaration: where its type is none that a variable may have, which is a fault, of some type.
+pub(crate) fn declared(alloc: Global, name: &Name, ty: TypeName) -> Result<VarInfo, AllocError>
+    ensures { IfOk result (λ made. variable_of made ≡ declared name.now ty) }
+{
+    Ok(VarInfo {
+        name: name.copy(alloc)?,
+        ty: match declarable(ty) {
+            Some(ty) => ty,
+            None => Ty::Bool,
+        },
+    })
+}
+
+/// The first broken rule of a parameter.
+fn check_parameter(scope: &Scope, param: &Param) -> Result<(), ResolveStop>
+    ensures { Tells result (at param.now.span ((11, is_visible scope.now param.now.name) ∷ (12, is_none (declarable param.now.ty)) ∷ [])) }
+{
+    if scope.sees(&param.name) {
+        return Err(ResolveStop::Fault(11, param.span));
+    }
+    if declarable(param.ty).is_none() {
+        return Err(ResolveStop::Fault(12, param.span));
+    }
+    Ok(())
+}
+
+/// One more parameter, with this number. What is returned is the number behind it.
+fn read_parameter(
+    alloc: Global,
+    scope: &mut Scope,
+    vars: &mut Vec<VarInfo>,
+    number: u32,
+    param: &Param,
+) -> Result<u32, ResolveStop>
+    ensures gives { Gives (λ next. next) result (at param.now.span ((11, is_visible scope.old param.now.name) ∷ (12, is_none (declarable param.now.ty)) ∷ [])) (suc number) }
+    ensures shown { OnOk result (scope.new ≡ with_local param.now.name (record { number = number; ty = param.now.ty }) scope.old) }
+    ensures listed { OnOk result (map variable_of vars.new.items ≡ map variable_of vars.old.items ++ declared param.now.name param.now.ty ∷ []) }
+{
+    check_parameter(scope, param)?;
+    let local = Local {
+        number,
+        ty: param.ty,
+    };
+    scope.declare(alloc, &param.name, local)?;
+    vars.push(declared(alloc, &param.name, param.ty)?)?;
+    let next = number.checked_add(1).ok_or(AllocError)?;
+    Ok(next)
+}
+
+/// More parameters, of which the first has this number. What is returned is the number behind them.
+pub(crate) fn read_parameters(
+    alloc: Global,
+    scope: &mut Scope,
+    vars: &mut Vec<VarInfo>,
+    first: u32,
+    params: &[Param],
+) -> Result<u32, ResolveStop>
+    ensures gives { Gives (λ next. next) result (parameters_findings first scope.old params.now) (first + length params.now) }
+    ensures shown { OnOk result (scope.new ≡ behind_parameters first scope.old params.now) }
+    ensures listed { OnOk result (map variable_of vars.new.items ≡ map variable_of vars.old.items ++ parameters params.now) }
+{
+    let mut next = first;
+    for param in params {
+        next = read_parameter(alloc, scope, vars, next, param)?;
+    }
+    Ok(next)
+}

@@ -1,0 +1,256 @@
+//! Procedures.
+
+ghost use Rattle.heylo_formula.specs.PlainTrees.{form_of};
+ghost use Rattle.heyvl_syntax.specs.Expressions.{expressions};
+ghost use Rattle.heyvl_syntax.specs.Procedures.{optional_block, procedure};
+ghost use Rattle.heyvl_types.specs.Acts.{acts_in};
+ghost use Rattle.heyvl_types.specs.Answers.{Gives, Tells};
+ghost use Rattle.heyvl_types.specs.Count.{count_of};
+ghost use Rattle.heyvl_types.specs.Files.{arity, body_acts, body_findings, clause, front_of, head_scope, input_scope, is_wlp, loops_of_body, parameters_findings, post_forms, posts_findings, pre_forms, pres_findings, procedure_findings, typed};
+ghost use Rattle.heyvl_types.specs.Findings.{at};
+ghost use Rattle.heyvl_types.specs.internal.ProcedureParts.{is_larger, with_parts};
+ghost use Rattle.heyvl_types.specs.PlainActs.{body_of, procedure_of, variable_of};
+ghost use Rattle.heyvl_types.specs.Rules.{IsCounted};
+ghost use Rattle.heyvl_types.specs.Variables.{locals_of_body, parameters};
+ghost use Rattle.std.specs.Prelude.{◌&&◌, ◌++◌, ◌+◌, ◌||◌, ◌≡◌, ◌∷◌, [], IfOk, OnOk, length, map, nat_lt, not};
+
+use crate::acts::Act;
+use crate::blocks::read_block;
+use crate::calls::Calls;
+use crate::clauses::{read_posts, read_pres};
+use crate::counts::count;
+use crate::fronts::list_fronts;
+use crate::locals::{count_locals, plus};
+use crate::parameters::read_parameters;
+use crate::quantifiers::any_quantified;
+use crate::scopes::Scope;
+use crate::settings::Setting;
+use crate::stops::ResolveStop;
+use crate::typed::{TProc, VarInfo};
+use heylo_formula::Form;
+use heyvl_syntax::{Note, Proc, Stmt};
+use std::alloc::{AllocError, Global};
+
+/// What the head of a procedure declares.
+#[derive(Drop)]
+struct Head {
+    /// What the pre clauses see.
+    inputs: Scope,
+    /// What the post clauses and the body see.
+    all: Scope,
+    /// The variables of the inputs and the outputs.
+    vars: Vec<VarInfo>,
+    /// How many inputs there are.
+    count: u32,
+    /// How many outputs there are.
+    outputs: u32,
+    /// How many of both there are.
+    arity: u32,
+}
+
+/// The clauses of a procedure.
+#[derive(Drop)]
+struct Clauses {
+    pre: Form,
+    post: Form,
+}
+
+/// The body of a procedure.
+#[derive(Drop)]
+struct Body {
+    acts: Option<Vec<Act>>,
+    loops: u32,
+}
+
+/// Whether a note is `@wlp`.
+fn is_wlp(note: Option<Note>) -> bool
+    ensures { result ≡ is_wlp note }
+{
+    match note {
+        Some(Note::Wlp) => true,
+        Some(Note::Wp) => false,
+        Some(Note::Ert) => false,
+        None => false,
+    }
+}
+
+/// What the statements of a procedure with so many inputs have to know of it.
+fn setting_of(proc: &Proc, inputs: u32) -> Setting
+    ensures { result ≡ record { co = proc.now.co; weak = is_wlp proc.now.note && not proc.now.co; inputs = inputs } }
+{
+    Setting {
+        co: proc.co,
+        weak: is_wlp(proc.note) && !proc.co,
+        inputs,
+    }
+}
+
+/// The rules of a procedure's name and note. Whether an earlier procedure has its name is handed in.
+fn check_name(named: bool, proc: &Proc) -> Result<(), ResolveStop>
+    ensures { Tells result (at proc.now.span ((11, named) ∷ []) ++ at proc.now.span ((17, is_wlp proc.now.note && proc.now.co) ∷ [])) }
+{
+    if named {
+        return Err(ResolveStop::Fault(11, proc.span));
+    }
+    if is_wlp(proc.note) && proc.co {
+        return Err(ResolveStop::Fault(17, proc.span));
+    }
+    Ok(())
+}
+
+/// The inputs and outputs of a procedure, or the first fault in them.
+fn read_head(alloc: Global, proc: &Proc) -> Result<Head, ResolveStop>
+    ensures gives { Gives (λ head. head.arity) result (parameters_findings 0 [] proc.now.inputs.items ++ parameters_findings (length proc.now.inputs.items) (input_scope (procedure proc.now)) proc.now.outputs.items) (arity (procedure proc.now)) }
+    ensures inputs { IfOk result (λ head. head.inputs ≡ input_scope (procedure proc.now)) }
+    ensures all { IfOk result (λ head. head.all ≡ head_scope (procedure proc.now)) }
+    ensures vars { IfOk result (λ head. map variable_of head.vars.items ≡ parameters proc.now.inputs.items ++ parameters proc.now.outputs.items) }
+    ensures count { IfOk result (λ head. head.count ≡ length proc.now.inputs.items) }
+    ensures outputs { IfOk result (λ head. head.outputs ≡ length proc.now.outputs.items) }
+{
+    let mut inputs = Scope::new(alloc);
+    let mut vars = Vec::new(alloc);
+    let count = read_parameters(alloc, &mut inputs, &mut vars, 0, &proc.inputs)?;
+    let mut all = inputs.copy()?;
+    let arity = read_parameters(alloc, &mut all, &mut vars, count, &proc.outputs)?;
+    let outputs = arity.checked_sub(count).ok_or(AllocError)?;
+    Ok(Head {
+        inputs,
+        all,
+        vars,
+        count,
+        outputs,
+        arity,
+    })
+}
+
+/// The clauses of a procedure, or the first fault in them. The pre clauses see the inputs, the post clauses the outputs too.
+fn read_clauses(
+    alloc: Global,
+    inputs: &Scope,
+    all: &mut Scope,
+    arity: u32,
+    proc: &Proc,
+) -> Result<Clauses, ResolveStop>
+    ensures gives { Gives (λ clauses. form_of clauses.pre) result (pres_findings arity inputs.now (expressions proc.now.pres.items) ++ posts_findings (front_of proc.now.co) (arity + length (locals_of_body (optional_block proc.now.body))) all.old (expressions proc.now.posts.items)) (clause proc.now.co (pre_forms arity inputs.now (expressions proc.now.pres.items))) }
+    ensures post { IfOk result (λ clauses. form_of clauses.post ≡ clause proc.now.co (post_forms (arity + length (locals_of_body (optional_block proc.now.body))) all.old (expressions proc.now.posts.items))) }
+    ensures kept { OnOk result (all.new ≡ all.old) }
+{
+    let pre = read_pres(alloc, inputs, arity, proc.co, &proc.pres)?;
+    let quantified = plus(arity, count_locals(&proc.body)?)?;
+    let post = read_posts(alloc, all, quantified, proc.co, &proc.posts)?;
+    Ok(Clauses { pre, post })
+}
+
+/// The body of a procedure, or the first fault in it.
+fn read_body(
+    alloc: Global,
+    setting: Setting,
+    calls: &Calls,
+    bound: bool,
+    scope: &mut Scope,
+    vars: &mut Vec<VarInfo>,
+    body: &Option<Vec<Stmt>>,
+) -> Result<Body, ResolveStop>
+    ensures gives { Gives (λ made. body_of made.acts) result (body_findings setting calls.now bound (length vars.old.items) scope.old (optional_block body.now)) (body_acts setting calls.now (length vars.old.items) scope.old (optional_block body.now)) }
+    ensures loops { IfOk result (λ made. made.loops ≡ loops_of_body (optional_block body.now)) }
+    ensures declared { OnOk result (map variable_of vars.new.items ≡ map variable_of vars.old.items ++ locals_of_body (optional_block body.now)) }
+{
+    match body {
+        None => Ok(Body {
+            acts: None,
+            loops: 0,
+        }),
+        Some(statements) => {
+            let mut next = 1;
+            let acts = read_block(
+                alloc, setting, calls, bound, scope, vars, &mut next, statements,
+            )?;
+            let loops = next.checked_sub(1).ok_or(AllocError)?;
+            Ok(Body {
+                acts: Some(acts),
+                loops,
+            })
+        }
+    }
+}
+
+/// Whether the encoding of a body has too many statements.
+fn has_too_many_statements(body: &Option<Vec<Act>>) -> bool
+    ensures { result ≡ nat_lt 1024 (count_of (acts_in (body_of body.now))) }
+{
+    match body {
+        None => false,
+        Some(acts) => count(acts) > 1024,
+    }
+}
+
+/// Whether a procedure with so many parameters and variables is too large.
+fn is_too_large(proc: &Proc, arity: u32, vars: usize, body: &Option<Vec<Act>>) -> bool
+    ensures { result ≡ is_larger (procedure proc.now) arity vars (body_of body.now) }
+{
+    arity > 16
+        || proc.pres.len() > 64
+        || proc.posts.len() > 64
+        || vars > 256
+        || has_too_many_statements(body)
+}
+
+/// The typed procedure of these parts, or the fault of one that is too large.
+fn put_together(
+    alloc: Global,
+    proc: &Proc,
+    inputs: u32,
+    outputs: u32,
+    vars: Vec<VarInfo>,
+    clauses: Clauses,
+    body: Body,
+) -> Result<TProc, ResolveStop>
+    ensures gives { Gives procedure_of result (at proc.now.span ((24, is_larger (procedure proc.now) (inputs + outputs) (length vars.items) (body_of body.acts)) ∷ [])) (with_parts (procedure proc.now) inputs outputs (map variable_of vars.items) (form_of clauses.pre) (form_of clauses.post) (body_of body.acts) body.loops) }
+    ensures counted { IfOk result (λ typed. (typed.inputs ≡ inputs) × (typed.outputs ≡ outputs) × (typed.vars ≡ vars)) }
+{
+    if is_too_large(proc, plus(inputs, outputs)?, vars.len(), &body.acts) {
+        return Err(ResolveStop::Fault(24, proc.span));
+    }
+    Ok(TProc {
+        name: proc.name.copy(alloc)?,
+        co: proc.co,
+        weak: is_wlp(proc.note) && !proc.co,
+        vars,
+        inputs,
+        outputs,
+        pre: clauses.pre,
+        post: clauses.post,
+        body: body.acts,
+        loops: body.loops,
+        span: proc.span,
+    })
+}
+
+/// What a procedure becomes, or the first fault in it. Whether an earlier procedure has its name is handed in.
+pub(crate) fn read_procedure(
+    alloc: Global,
+    calls: &Calls,
+    named: bool,
+    proc: &Proc,
+) -> Result<TProc, ResolveStop>
+    ensures gives { Gives procedure_of result (procedure_findings calls.now named (procedure proc.now)) (typed calls.now (procedure proc.now)) }
+    ensures counted { IfOk result (λ typed. IsCounted typed) }
+{
+    check_name(named, proc)?;
+    let Head {
+        inputs,
+        mut all,
+        mut vars,
+        count,
+        outputs,
+        arity,
+    } = read_head(alloc, proc)?;
+    let clauses = read_clauses(alloc, &inputs, &mut all, arity, proc)?;
+    let setting = setting_of(proc, count);
+    let bound = any_quantified(&proc.posts);
+    let body = read_body(
+        alloc, setting, calls, bound, &mut all, &mut vars, &proc.body,
+    )?;
+    list_fronts(alloc, &mut vars, &proc.posts)?;
+    put_together(alloc, proc, count, outputs, vars, clauses, body)
+}

@@ -1,0 +1,19 @@
+//! The rules of a node.
+
+ghost use Rattle.heyvl_types.specs.Answers.{Tells};
+ghost use Rattle.heyvl_types.specs.Findings.{at};
+
+use crate::stops::ResolveStop;
+use heyvl_syntax::Span;
+
+/// The first of these rules that is broken, at this place. Each rule is its number and whether it is broken.
+pub(crate) fn told(span: Span, rules: &[(u8, bool)]) -> Result<(), ResolveStop>
+    ensures { Tells result (at span rules.now) }
+{
+    for (number, broken) in rules {
+        if *broken {
+            return Err(ResolveStop::Fault(*number, span));
+        }
+    }
+    Ok(())
+}

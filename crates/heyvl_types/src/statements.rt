@@ -1,0 +1,230 @@
+//! Statements in which no others stand.
+
+ghost use Rattle.heyvl_syntax.specs.Expressions.{expression};
+ghost use Rattle.heyvl_syntax.specs.Statements.{optional_right, right_side};
+ghost use Rattle.heyvl_types.specs.Acts.{Act as Plain, Acts};
+ghost use Rattle.heyvl_types.specs.Answers.{Gives, acts_view};
+ghost use Rattle.heyvl_types.specs.Findings.{at};
+ghost use Rattle.heyvl_types.specs.PlainActs.{act_of, variable_of};
+ghost use Rattle.heyvl_types.specs.Scopes.{find, is_visible, with_local};
+ghost use Rattle.heyvl_types.specs.StatementActs.{assigned, declared_act, form, havocs, number_or_zero, targets, type_of_local};
+ghost use Rattle.heyvl_types.specs.RightSides.{right_findings};
+ghost use Rattle.heyvl_types.specs.StatementRules.{assign_rules, check_rules, checks_against, havoc_rules, havocs_against, reward_rules, validate_rules, validates_against, value_findings, var_rules};
+ghost use Rattle.heyvl_types.specs.TypedExpressions.{closed_findings, elaborate};
+ghost use Rattle.heyvl_types.specs.Variables.{declared, type_or_bool};
+ghost use Rattle.heyvl_types.specs.Table.{declarable};
+ghost use Rattle.std.specs.Prelude.{◌++◌, ◌≡◌, ◌∷◌, [], IfOk, OnOk, false, length, map, take};
+
+use crate::acts::Act;
+use crate::assignments::{read_assign, read_var};
+use crate::calls::Calls;
+use crate::demands::Demand;
+use crate::expressions::read;
+use crate::names::{any_input, any_twice, any_unknown};
+use crate::operators::declarable;
+use crate::rules::told;
+use crate::scopes::{Local, Scope};
+use crate::settings::Setting;
+use crate::stops::ResolveStop;
+use crate::typed::VarInfo;
+use crate::values::form;
+use heylo_formula::Ty;
+use heyvl_syntax::{CheckKind, Expr, Name, Right, Span, TypeName};
+use std::alloc::{AllocError, Global};
+
+/// This act alone.
+pub(crate) fn single(alloc: Global, act: Act) -> Result<Vec<Act>, AllocError>
+    ensures { IfOk result (λ acts. acts_view acts ≡ Acts.next (act_of act) Acts.done) }
+{
+    let mut acts = Vec::with_capacity(alloc, 1)?;
+    acts.push(act)?;
+    Ok(acts)
+}
+
+/// The number of the next variable.
+pub(crate) fn next_number(vars: &[VarInfo]) -> Result<u32, AllocError>
+    ensures { IfOk result (λ number. number ≡ length vars.now) }
+{
+    u32::try_from(vars.len()).ok().ok_or(AllocError)
+}
+
+/// An assume in a coproc, a coassume in a proc.
+fn checks_against(co: bool, kind: CheckKind) -> bool
+    ensures { result ≡ checks_against co kind }
+{
+    match kind {
+        CheckKind::Assert | CheckKind::CoAssert => false,
+        CheckKind::Assume => co,
+        CheckKind::CoAssume => !co,
+    }
+}
+
+/// What a check becomes, or the first fault in it.
+pub(crate) fn read_check(
+    alloc: Global,
+    setting: Setting,
+    bound: bool,
+    scope: &Scope,
+    vars: &[VarInfo],
+    kind: CheckKind,
+    claim: &Expr,
+    span: Span,
+) -> Result<Vec<Act>, ResolveStop>
+    ensures { Gives acts_view result (closed_findings Demand.Formula (length vars.now) scope.now (expression claim.now) ++ at span (check_rules setting bound kind)) (Acts.next (Plain.check kind (form (elaborate (length vars.now) scope.now (expression claim.now))) span) Acts.done) }
+{
+    let claim = read(alloc, scope, next_number(vars)?, claim, Demand::Formula)?;
+    told(span, &[(17, checks_against(setting.co, kind) && bound)])?;
+    Ok(single(alloc, Act::Check(kind, form(claim), span))?)
+}
+
+/// What a validation becomes, or its fault.
+pub(crate) fn read_validate(
+    alloc: Global,
+    setting: Setting,
+    bound: bool,
+    co: bool,
+    span: Span,
+) -> Result<Vec<Act>, ResolveStop>
+    ensures { Gives acts_view result (at span (validate_rules setting bound co)) (Acts.next (Plain.validate co span) Acts.done) }
+{
+    told(span, &[(17, setting.co != co && bound)])?;
+    Ok(single(alloc, Act::Validate(co, span))?)
+}
+
+/// What a reward becomes, or the first fault in it.
+pub(crate) fn read_reward(
+    alloc: Global,
+    setting: Setting,
+    scope: &Scope,
+    vars: &[VarInfo],
+    amount: &Expr,
+    span: Span,
+) -> Result<Vec<Act>, ResolveStop>
+    ensures { Gives acts_view result (closed_findings Demand.Formula (length vars.now) scope.now (expression amount.now) ++ at span (reward_rules setting)) (Acts.next (Plain.reward (form (elaborate (length vars.now) scope.now (expression amount.now))) span) Acts.done) }
+{
+    let amount = read(alloc, scope, next_number(vars)?, amount, Demand::Formula)?;
+    told(span, &[(20, setting.weak)])?;
+    Ok(single(alloc, Act::Reward(form(amount), span))?)
+}
+
+/// The type that a variable of this declared type has; some type where it may have none.
+fn type_or_bool(ty: TypeName) -> Ty
+    ensures { result ≡ type_or_bool (declarable ty) }
+{
+    match declarable(ty) {
+        Some(ty) => ty,
+        None => Ty::Bool,
+    }
+}
+
+/// Any value for the variable of this name.
+fn arbitrary(scope: &Scope, co: bool, name: &Name, span: Span) -> Act
+    ensures { act_of result ≡ Plain.any (number_or_zero (find scope.now name.now)) co (type_of_local (find scope.now name.now)) span }
+{
+    match scope.find(name) {
+        Some(local) => Act::Any(local.number, co, type_or_bool(local.ty), span),
+        None => Act::Any(0, co, Ty::Bool, span),
+    }
+}
+
+/// Any value for each of these variables, one after the other.
+fn havocs(
+    alloc: Global,
+    scope: &Scope,
+    co: bool,
+    names: &[Name],
+    span: Span,
+) -> Result<Vec<Act>, AllocError>
+    ensures { IfOk result (λ acts. acts_view acts ≡ havocs scope.now co names.now span) }
+{
+    let mut acts = Vec::with_capacity(alloc, names.len())?;
+    for name in names {
+        acts.push(arbitrary(scope, co, name, span))?;
+    }
+    Ok(acts)
+}
+
+/// What a havoc becomes, or its first fault.
+pub(crate) fn read_havoc(
+    alloc: Global,
+    setting: Setting,
+    scope: &Scope,
+    co: bool,
+    names: &[Name],
+    span: Span,
+) -> Result<Vec<Act>, ResolveStop>
+    ensures { Gives acts_view result (at span (havoc_rules setting scope.now co names.now)) (havocs scope.now co names.now span) }
+{
+    told(
+        span,
+        &[
+            (10, any_unknown(scope, names)),
+            (11, any_twice(names)),
+            (13, any_input(setting.inputs, scope, names)),
+            (17, setting.co != co),
+        ],
+    )?;
+    Ok(havocs(alloc, scope, co, names, span)?)
+}
+
+/// One more variable, which is visible from here on.
+pub(crate) fn declare(
+    alloc: Global,
+    scope: &mut Scope,
+    vars: &mut Vec<VarInfo>,
+    next: u32,
+    name: &Name,
+    ty: TypeName,
+) -> Result<(), AllocError>
+    ensures shown { OnOk result (scope.new ≡ with_local name.now (record { number = next; ty = ty }) scope.old) }
+    ensures last { OnOk result (is_visible scope.old name.now ≡ false → take (length scope.old) scope.new ≡ scope.old) }
+    ensures listed { OnOk result (map variable_of vars.new.items ≡ map variable_of vars.old.items ++ declared name.now ty ∷ []) }
+{
+    scope.declare(alloc, name, Local { number: next, ty })?;
+    vars.push(VarInfo {
+        name: name.copy(alloc)?,
+        ty: type_or_bool(ty),
+    })?;
+    Ok(())
+}
+
+/// What a declaration becomes, or the first fault in it. Its variable is visible from here on.
+pub(crate) fn read_declaration(
+    alloc: Global,
+    setting: Setting,
+    calls: &Calls,
+    scope: &mut Scope,
+    vars: &mut Vec<VarInfo>,
+    name: &Name,
+    ty: TypeName,
+    right: &Option<Right>,
+    span: Span,
+) -> Result<Vec<Act>, ResolveStop>
+    ensures gives { Gives acts_view result (value_findings (length vars.old.items) scope.old (optional_right right.now) ++ at span (var_rules setting calls.now (length vars.old.items) scope.old name.now ty (optional_right right.now))) (Acts.next (declared_act setting calls.now (length vars.old.items) scope.old ty (optional_right right.now) span) Acts.done) }
+    ensures shown { OnOk result (scope.new ≡ with_local name.now (record { number = length vars.old.items; ty = ty }) scope.old) }
+    ensures kept { OnOk result (take (length scope.old) scope.new ≡ scope.old) }
+    ensures listed { OnOk result (map variable_of vars.new.items ≡ map variable_of vars.old.items ++ declared name.now ty ∷ []) }
+{
+    let next = next_number(vars)?;
+    let act = read_var(alloc, setting, calls, scope, next, name, ty, right, span)?;
+    declare(alloc, scope, vars, next, name, ty)?;
+    Ok(single(alloc, act)?)
+}
+
+/// What an assignment becomes, or the first fault in it.
+pub(crate) fn read_targets(
+    alloc: Global,
+    setting: Setting,
+    calls: &Calls,
+    scope: &Scope,
+    vars: &[VarInfo],
+    names: &Vec<Name>,
+    right: &Right,
+    span: Span,
+) -> Result<Vec<Act>, ResolveStop>
+    ensures { Gives acts_view result (right_findings (length vars.now) scope.now (right_side right.now) ++ at span (assign_rules setting calls.now (length vars.now) scope.now names.now.items (right_side right.now))) (Acts.next (assigned calls.now (length vars.now) scope.now (targets scope.now names.now.items) (right_side right.now) span) Acts.done) }
+{
+    let next = next_number(vars)?;
+    let act = read_assign(alloc, setting, calls, scope, next, names, right, span)?;
+    Ok(single(alloc, act)?)
+}
