@@ -16,9 +16,8 @@ use Rattle.heyvl_tool.specs.Replies.{IsFaultlessReply, IsReplyTo, IsSourceReply,
 use Rattle.heyvl_tool.specs.Responses.{reply_of}
 use Rattle.heyvl_tool.specs.declared.responses.Response.{Response}
 use Rattle.heyvl_tool.specs.declared.requests.Settings.{Settings}
-use Rattle.heyvl_types.specs.Files.{file_findings, first_fault}
-use Rattle.heyvl_types.specs.Findings.{first}
-use Rattle.std.proofs.Common.{Err, IfOk, List, Ok, Result, Some, [], ap, subst, ◌≡◌, ℕ}
+use Rattle.heyvl_types.specs.Files.{first_fault}
+use Rattle.std.proofs.Common.{Err, IfOk, List, None, Ok, Result, Some, subst, ◌≡◌, ℕ}
 use Rattle.std.specs.declared.alloc.AllocError.{AllocError}
 
 -- Bytes whose tokens spell no procedure of the first form are no file of it.
@@ -37,10 +36,10 @@ pub reply_by_fault : (settings : Settings) (bytes : List ℕ) (number : ℕ) (pl
 reply_by_fault settings bytes number place (Ok x) fault said = source number place fault said
 reply_by_fault settings bytes number place (Err e) fault said = tt
 
--- What is said of a file without a fault is what `verify` says of a file in which nothing is found.
-pub reply_without_fault : (bytes : List ℕ) (tokens : List Token) (file : List SourceProcedure) (r : Result Response AllocError) → file_findings file ≡ []
+-- What is said of a file without a fault is what `verify` says of a file without a static one.
+pub reply_without_fault : (bytes : List ℕ) (tokens : List Token) (file : List SourceProcedure) (r : Result Response AllocError) → first_fault file ≡ None
     → IfOk r (λ x. (bs : List ℕ) → Lexes 0 bs tokens → IsFaultlessReply bs (reply_of x)) → IfOk r (λ x. Lexes 0 bytes tokens → IsVerifyReply bytes file (reply_of x))
-reply_without_fault bytes tokens file (Ok x) none said = λ lexes. faultless (ap first none) (said bytes lexes)
+reply_without_fault bytes tokens file (Ok x) none said = λ lexes. faultless none (said bytes lexes)
 reply_without_fault bytes tokens file (Err e) none said = tt
 
 -- The line on the first static fault is what `verify` says of a file with it.

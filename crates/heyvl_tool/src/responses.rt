@@ -6,6 +6,7 @@ ghost use Rattle.heyvl_tool.specs.Limits.{IsWithinLimits};
 ghost use Rattle.heyvl_tool.specs.Procedure.{procedure};
 ghost use Rattle.heyvl_tool.specs.Replies.{IsFaultlessReply, IsReplyTo, IsSourceReply, IsVerdictOn, IsVerifyReply, form_not_built_yet, message, printed, source_fault};
 ghost use Rattle.heyvl_tool.specs.Responses.{reply_of, text_bytes};
+ghost use Rattle.heyvl_types.specs.Files.{first_fault};
 ghost use Rattle.std.specs.Prelude.{IfOk, List, [], length, ◌<◌, ◌^◌, ◌∷◌, ◌≡◌, ℕ};
 
 use crate::faults::{source_fault_line, token_place};
@@ -115,6 +116,17 @@ fn source_fault(
     })
 }
 
+/// The first static fault of a file.
+fn static_fault(alloc: Global, file: &File) -> Result<Option<(u8, Span)>, AllocError>
+    ensures { IfOk result (λ fault. fault ≡ first_fault (procedures file.now)) }
+{
+    match resolve(alloc, file) {
+        Ok(_) => Ok(None),
+        Err(ResolveStop::Fault(number, place)) => Ok(Some((number, place))),
+        Err(ResolveStop::Memory(error)) => Err(error),
+    }
+}
+
 /// What `verify` says of the file that these bytes spell by these tokens.
 fn verify_file(
     alloc: Global,
@@ -125,10 +137,9 @@ fn verify_file(
     requires { length bytes.now < 2 ^ 31 }
     ensures { IfOk result (λ response. Lexes 0 bytes.now tokens.now → IsVerifyReply bytes.now (procedures file.now) (reply_of response)) }
 {
-    match resolve(alloc, file) {
-        Ok(_) => verify_tokens(alloc, tokens),
-        Err(ResolveStop::Fault(number, place)) => source_fault(alloc, bytes, number, place),
-        Err(ResolveStop::Memory(error)) => Err(error),
+    match static_fault(alloc, file)? {
+        Some((number, place)) => source_fault(alloc, bytes, number, place),
+        None => verify_tokens(alloc, tokens),
     }
 }
 
