@@ -44,7 +44,7 @@ told_finding : (bytes : List ℕ) (reply : Reply) (n m : ℕ) (p q : Span) → r
 told_finding bytes reply n m p q e f = one_finding n m p q (sym (ap (λ (r : Reply). r.fault) e) ∙ f)
 
 not_source : (reply : Reply) (fault : Fault) (number : ℕ) (place : Span) → reply.fault ≡ fault → reply.fault ≡ faults.Source number place → (fault ≡ faults.Source number place → ⊥) → ⊥
-not_source reply fault number place e f no = no (sym e ∙ f)
+not_source reply fault number place e f differs = differs (sym e ∙ f)
 
 pub told_there : ToldFaultsAreThere
 told_there name bytes number place reply (source n p found e) is =
@@ -61,7 +61,7 @@ told_there name bytes number place reply (sound file within (faultless none (ear
 
 -- A reply that says something else.
 not_early : (reply : Reply) (fault : Fault) → reply.fault ≡ fault → reply ≡ form_not_built_yet → (fault ≡ faults.Early → ⊥) → ⊥
-not_early reply fault e is no = no (sym e ∙ ap (λ (r : Reply). r.fault) is)
+not_early reply fault e is differs = differs (sym e ∙ ap (λ (r : Reply). r.fault) is)
 
 only_others : SourcesHaveNoFault → SpellingIsUnique → (name bytes : List ℕ) (file : List SourceProcedure) (reply : Reply) → IsSource bytes file
     → IsReplyTo (Verify name) bytes reply → reply ≡ form_not_built_yet → (first_fault file ≡ None) × IsOtherFile bytes
@@ -79,7 +79,7 @@ others_early clean unique name bytes file reply is (source n p found e) (none, o
 others_early clean unique name bytes file reply is (sound other also (static n p found e)) (none, others) =
     absurd (no_fault_is_none (n, p) (sym none ∙ same_fault unique bytes other file also is ∙ found))
 others_early clean unique name bytes file reply is (sound other also (faultless nothing (verified q at on))) (none, others) = absurd (others q at)
-others_early clean unique name bytes file reply is (sound other also (faultless nothing (early no e))) (none, others) = e
+others_early clean unique name bytes file reply is (sound other also (faultless nothing (early apart e))) (none, others) = e
 
 pub early_others : SourcesHaveNoFault → SpellingIsUnique → OtherFilesAreEarly
 early_others clean unique name bytes file reply is said = (only_others clean unique name bytes file reply is said, others_early clean unique name bytes file reply is said)

@@ -13,6 +13,7 @@ use Rattle.heyvl_tool.specs.Replies.{IsVerifyReply, message}
 use Rattle.heyvl_tool.specs.declared.outcomes.Fault.TheVariants.{Source}
 use Rattle.heyvl_types.specs.Files.{first_fault}
 use Rattle.heyvl_types.specs.Literals.{inverse_value, literal_quotient, literal_value}
+use Rattle.std.specs.Fmt.{digits}
 use Rattle.std.proofs.Common.{List, None, Some, [], codes, false, pos, refl, true, ◌+◌, ◌≡◌, ◌∷◌, ℕ}
 
 abbrev at : ℕ → ℕ → Span
@@ -54,6 +55,7 @@ unfolding literal_value ratio gcd gcd_steps
 h_is_on_the_wrong_side = refl
 
 h_is_told : IsVerifyReply havocking h (message (Source 17 (at 41 48)) (codes "1:42: fault 17: statement on the wrong side\n"))
+unfolding digits
 h_is_told = static 17 (at 41 48) h_is_on_the_wrong_side refl
 
 -- coproc coin() -> (b: Bool) pre 1/2 post [b] { b = flip(1/2) }
@@ -66,6 +68,7 @@ coin_has_no_fault = refl
 
 -- A place in a later line.
 later_line : source_fault_line (codes "coproc a() -> ()\n\n  coproc a() -> ()\n") 11 (at 20 36) ≡ codes "3:3: fault 11: name given twice\n"
+unfolding digits
 later_line = refl
 
 texts :
