@@ -13,8 +13,8 @@ use Rattle.heyvl_tool.specs.Replies.{IsVerifyReply, message}
 use Rattle.heyvl_tool.specs.declared.outcomes.Fault.TheVariants.{Source}
 use Rattle.heyvl_types.specs.Files.{first_fault}
 use Rattle.heyvl_types.specs.Literals.{inverse_value, literal_quotient, literal_value}
-use Rattle.std.specs.Fmt.{digits}
 use Rattle.std.proofs.Common.{List, None, Some, [], codes, false, pos, refl, true, ◌+◌, ◌≡◌, ◌∷◌, ℕ}
+use Rattle.std.specs.Fmt.{digits}
 
 abbrev at : ℕ → ℕ → Span
 at from to = record { from = from; to = to }

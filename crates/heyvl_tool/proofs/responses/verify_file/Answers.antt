@@ -1,7 +1,7 @@
+use Rattle.heyvl_syntax.specs.Procedures.{procedures}
 use Rattle.heyvl_tool.proofs.FileLemmas.{reply_by_static_fault, reply_without_fault}
 use Rattle.heyvl_tool.proofs.responses.verify_file.Goals as goal
 use Rattle.heyvl_types.specs.Files.{first_fault}
-use Rattle.heyvl_syntax.specs.Procedures.{procedures}
 use Rattle.std.proofs.Common.{None, Some, sym, ◌≡◌}
 
 pub returns-in-Some : goal.returns-in-Some
