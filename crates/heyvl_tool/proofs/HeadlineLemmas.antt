@@ -14,8 +14,9 @@ use Rattle.heyvl_tool.specs.Procedure.{Procedure}
 use Rattle.heyvl_tool.specs.Replies.{Call, HasCause, IsDelivered, IsReplyTo, Reply, Writing}
 use Rattle.heyvl_tool.specs.declared.outcomes.Outcome.{Outcome}
 use Rattle.heyvl_tool.specs.Replies.HasCause.{by_words, by_source, by_length, by_bytes}
+use Rattle.heyvl_tool.specs.Replies.IsFaultlessReply.{early, verified}
 use Rattle.heyvl_tool.specs.Replies.IsReplyTo.{sound, source}
-use Rattle.heyvl_tool.specs.Replies.IsVerifyReply.{early, verified}
+use Rattle.heyvl_tool.specs.Replies.IsVerifyReply.{faultless, static}
 use Rattle.heyvl_tool.specs.Verdict.{IsVerdict}
 use Rattle.heyvl_tool.specs.Words.{AskFor, file_of}
 use Rattle.heyvl_tool.specs.declared.requests.Settings.TheVariants.{Verify}
@@ -43,8 +44,9 @@ the_report answers a name e reported =
 
 headline_of_bytes : (name bytes : List ℕ) (reply : Reply) (answers : List Answer) → IsReplyTo (Verify name) bytes reply → answers ≡ reply.answers → IsHeadline bytes answers
 headline_of_bytes name bytes reply answers (source number place fault e) is p file reported = absurd (no_report answers p.name (is ∙ ap (λ (r : Reply). r.answers) e) reported)
-headline_of_bytes name bytes reply answers (sound tree within (early other e)) is p file reported = absurd (other p file)
-headline_of_bytes name bytes reply answers (sound tree within (verified q found on)) is p file reported =
+headline_of_bytes name bytes reply answers (sound tree within (static number place fault e)) is p file reported = absurd (no_report answers p.name (is ∙ ap (λ (r : Reply). r.answers) e) reported)
+headline_of_bytes name bytes reply answers (sound tree within (faultless none (early other e))) is p file reported = absurd (other p file)
+headline_of_bytes name bytes reply answers (sound tree within (faultless none (verified q found on))) is p file reported =
     let bounded : IsBounded (program q) = subst (λ (v : Verdict). IsVerdict (program q) v) (the_report answers on.answer p.name (is ∙ ap (λ (r : Reply). r.answers) on.is_reply) reported) on.verdict in
     subst (λ (o : Procedure). IsBounded (program o)) (one_file bytes q p found file) bounded
 

@@ -21,6 +21,7 @@ pub mod Report
 pub mod Words
 pub mod CommandLine
 pub mod FaultTexts
+pub mod FaultLaws
 pub mod Files
 pub mod Replies
 pub mod SourceUses

@@ -1,5 +1,5 @@
 -- What a call of the tool answers, and what it writes.
-use Rattle.std.specs.Prelude.{◌≡◌, ◌⊎◌, ℕ, ◌+◌, ◌<◌, ◌≤◌, Bool, true, false, cond, List, [], ◌∷◌, length, take, codes, Option, IfSome}
+use Rattle.std.specs.Prelude.{◌≡◌, ◌⊎◌, ℕ, ◌+◌, ◌<◌, ◌≤◌, Bool, true, false, cond, List, [], ◌∷◌, length, take, codes, None, Option, Some, IfSome}
 use Rattle.std.specs.List.{list_any}
 use Rattle.heyvl_io.specs.Bytes.{with_appended}
 use Rattle.heyvl_io.specs.Faults.{Rose}
@@ -22,6 +22,7 @@ use Rattle.heyvl_print.specs.Canonical.{canonical_text}
 use Rattle.heyvl_syntax.specs.Procedures.{Procedure as SourceProcedure}
 use Rattle.heyvl_syntax.specs.SourceFaults.{IsSource, IsSourceFault}
 use Rattle.heyvl_syntax.specs.declared.spans.Span.{Span}
+use Rattle.heyvl_types.specs.Files.{first_fault}
 
 -- The answer to a call, before it is written.
 pub record Reply : Type 0 where
@@ -68,7 +69,7 @@ pub record IsVerdictOn (procedure : Procedure) (reply : Reply) : Type 0 where
   pub verdict : IsVerdict (program procedure) answer.verdict
   pub is_reply : reply ≡ record { fault = faults.Nothing; answers = answer ∷ []; output = report_text (procedure ∷ []) (answer ∷ []) }
 
--- The line on the first fault of a file, in place of answers.
+-- The line on a fault of a file, in place of answers.
 abbrev pub source_fault : List ℕ → ℕ → Span → Reply
 source_fault bytes number place = message (faults.Source number place) (source_fault_line bytes number place)
 
@@ -76,15 +77,21 @@ source_fault bytes number place = message (faults.Source number place) (source_f
 abbrev pub printed : List SourceProcedure → Reply
 printed file = record { fault = faults.Nothing; answers = []; output = canonical_text file }
 
--- What `verify` says of the bytes of a file that has none of the faults 1 to 6: the verdict on a file of the first form, and of
--- any other file that it can't be verified yet.
-pub data IsVerifyReply (bytes : List ℕ) (reply : Reply) : Type 0 where
-  verified : (procedure : Procedure) → IsFile bytes procedure → IsVerdictOn procedure reply → IsVerifyReply bytes reply
-  early : IsOtherFile bytes → reply ≡ form_not_built_yet → IsVerifyReply bytes reply
+-- What `verify` says of the bytes of a file that has no fault: the verdict on a file of the first form, and of any other file that
+-- it can't be verified yet.
+pub data IsFaultlessReply (bytes : List ℕ) (reply : Reply) : Type 0 where
+  verified : (procedure : Procedure) → IsFile bytes procedure → IsVerdictOn procedure reply → IsFaultlessReply bytes reply
+  early : IsOtherFile bytes → reply ≡ form_not_built_yet → IsFaultlessReply bytes reply
+
+-- What `verify` says of the bytes that spell a file and have none of the faults 1 to 6: the first static fault of the file, or else
+-- what it says of a file that has no fault.
+pub data IsVerifyReply (bytes : List ℕ) (file : List SourceProcedure) (reply : Reply) : Type 0 where
+  static : (number : ℕ) (place : Span) → first_fault file ≡ Some (number, place) → reply ≡ source_fault bytes number place → IsVerifyReply bytes file reply
+  faultless : first_fault file ≡ None → IsFaultlessReply bytes reply → IsVerifyReply bytes file reply
 
 -- What a command says of the bytes that spell a file and have none of the faults 1 to 6.
 abbrev pub IsSourceReply : Settings → List ℕ → List SourceProcedure → Reply → Type 0
-IsSourceReply (commands.Verify name) bytes file reply = IsVerifyReply bytes reply
+IsSourceReply (commands.Verify name) bytes file reply = IsVerifyReply bytes file reply
 IsSourceReply (commands.Print name) bytes file reply = reply ≡ printed file
 
 -- What a command says of a file with these bytes: their first fault of 1 to 6, or else what it says of the file that they spell.

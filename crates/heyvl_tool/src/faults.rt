@@ -1,16 +1,17 @@
-//! The line on a file that has one of the faults 1 to 6.
+//! The line on a file that has a fault.
 
+ghost use Rattle.heyvl_syntax.specs.Places.{place_at};
 ghost use Rattle.heyvl_syntax.specs.SourceFaults.{token_place};
-ghost use Rattle.heyvl_tool.specs.FaultTexts.{fault_text, source_fault_line};
-ghost use Rattle.std.specs.Prelude.{IfOk, OnOk, decimal, length, ◌++◌, ◌<◌, ◌^◌, ◌≡◌, ◌≤◌};
+ghost use Rattle.heyvl_tool.specs.FaultTexts.{fault_text, source_fault_line, source_text, static_text};
+ghost use Rattle.std.specs.Prelude.{IfOk, OnOk, decimal, length, ◌++◌, ◌<◌, ◌^◌, ◌≡◌};
 
-use heyvl_syntax::{Span, Token, place_at};
+use heyvl_syntax::{Place, Span, Token, place_at};
 use itoa::Buffer;
 use std::alloc::{AllocError, Global};
 
-/// The text of a fault.
-fn fault_text(number: u8) -> &'static [u8]
-    ensures { result.now ≡ fault_text number }
+/// The text of a fault of bytes, tokens or grammar.
+fn source_text(number: u8) -> &'static [u8]
+    ensures { result.now ≡ source_text number }
 {
     match number {
         1 => b"no token here",
@@ -19,6 +20,40 @@ fn fault_text(number: u8) -> &'static [u8]
         4 => b"unexpected token or end of file",
         5 => b"nested too deeply",
         _ => b"too many procedures",
+    }
+}
+
+/// The text of a static fault.
+fn static_text(number: u8) -> &'static [u8]
+    ensures { result.now ≡ static_text number }
+{
+    match number {
+        10 => b"unknown name",
+        11 => b"name given twice",
+        12 => b"types do not agree",
+        13 => b"input assigned",
+        14 => b"wrong number of values",
+        15 => b"literal out of range",
+        16 => b"division",
+        17 => b"statement on the wrong side",
+        18 => b"loop without one rule",
+        19 => b"k out of range",
+        20 => b"reward in a weak procedure",
+        21 => b"call against the direction",
+        22 => b"ranking body",
+        23 => b"quantifier out of place",
+        _ => b"procedure too large",
+    }
+}
+
+/// The text of a fault.
+fn fault_text(number: u8) -> &'static [u8]
+    ensures { result.now ≡ fault_text number }
+{
+    if number < 10 {
+        source_text(number)
+    } else {
+        static_text(number)
     }
 }
 
@@ -43,6 +78,19 @@ pub fn token_place(bytes: &[u8], tokens: &[Token], index: u32) -> Span
     }
 }
 
+/// The line and column at which a span begins. One that begins behind the bytes counts as their end.
+fn begins_at(bytes: &[u8], span: Span) -> Place
+    requires { length bytes.now < 2 ^ 31 }
+    ensures { result ≡ place_at bytes.now span.from }
+{
+    let end = bytes.len() as u32;
+    if span.from < end {
+        place_at(bytes, span.from)
+    } else {
+        place_at(bytes, end)
+    }
+}
+
 /// `LINE:COLUMN: fault NUMBER: TEXT`, for a fault of a file with these bytes.
 pub fn source_fault_line(
     alloc: Global,
@@ -50,11 +98,10 @@ pub fn source_fault_line(
     number: u8,
     place: Span,
 ) -> Result<Vec<u8>, AllocError>
-    requires inside { place.from ≤ length bytes.now }
-    requires short { length bytes.now < 2 ^ 31 }
+    requires { length bytes.now < 2 ^ 31 }
     ensures { IfOk result (λ text. text.items ≡ source_fault_line bytes.now number place) }
 {
-    let place = place_at(bytes, place.from);
+    let place = begins_at(bytes, place);
     let mut text = Vec::new(alloc);
     write_number(&mut text, place.line)?;
     text.extend_from_slice(b":")?;

@@ -4,15 +4,17 @@ ghost use Rattle.heyvl_syntax.specs.Procedures.{procedures};
 ghost use Rattle.heyvl_syntax.specs.Tokens.{Lexes};
 ghost use Rattle.heyvl_tool.specs.Limits.{IsWithinLimits};
 ghost use Rattle.heyvl_tool.specs.Procedure.{procedure};
-ghost use Rattle.heyvl_tool.specs.Replies.{IsReplyTo, IsSourceReply, IsVerdictOn, IsVerifyReply, form_not_built_yet, message, printed, source_fault};
+ghost use Rattle.heyvl_tool.specs.Replies.{IsFaultlessReply, IsReplyTo, IsSourceReply, IsVerdictOn, IsVerifyReply, form_not_built_yet, message, printed, source_fault};
 ghost use Rattle.heyvl_tool.specs.Responses.{reply_of, text_bytes};
-ghost use Rattle.std.specs.Prelude.{IfOk, List, [], length, ◌<◌, ◌^◌, ◌∷◌, ◌≡◌, ◌≤◌, ℕ};
+ghost use Rattle.heyvl_types.specs.Files.{first_fault};
+ghost use Rattle.std.specs.Prelude.{IfOk, List, [], length, ◌<◌, ◌^◌, ◌∷◌, ◌≡◌, ℕ};
 
 use crate::faults::{source_fault_line, token_place};
 use crate::{Answer, Fault, FirstForm, Settings, decide, read_first_form, report};
 use heyvl_parse::{ParseStop, parse};
 use heyvl_print::print;
 use heyvl_syntax::{File, LexStop, Name, Span, Token, lex};
+use heyvl_types::{ResolveStop, resolve};
 use std::alloc::{AllocError, Global};
 
 /// What is written: a fixed text, or one that was made.
@@ -71,9 +73,9 @@ fn verify(alloc: Global, form: FirstForm) -> Result<Response, AllocError>
     })
 }
 
-/// What `verify` says of the bytes that have these tokens.
+/// What `verify` says of the bytes of a file without a fault that have these tokens.
 fn verify_tokens(alloc: Global, tokens: &[Token]) -> Result<Response, AllocError>
-    ensures { IfOk result (λ response. (bytes : List ℕ) → Lexes 0 bytes tokens.now → IsVerifyReply bytes (reply_of response)) }
+    ensures { IfOk result (λ response. (bytes : List ℕ) → Lexes 0 bytes tokens.now → IsFaultlessReply bytes (reply_of response)) }
 {
     match read_first_form(alloc, tokens)? {
         Some(form) => verify(alloc, form),
@@ -104,8 +106,7 @@ fn source_fault(
     number: u8,
     place: Span,
 ) -> Result<Response, AllocError>
-    requires inside { place.from ≤ length bytes.now }
-    requires short { length bytes.now < 2 ^ 31 }
+    requires { length bytes.now < 2 ^ 31 }
     ensures { IfOk result (λ response. reply_of response ≡ source_fault bytes.now number place) }
 {
     Ok(Response {
@@ -115,17 +116,46 @@ fn source_fault(
     })
 }
 
-/// What a command says of a file that these tokens spell.
-fn respond_to_file(
+/// The first static fault of a file.
+fn static_fault(alloc: Global, file: &File) -> Result<Option<(u8, Span)>, AllocError>
+    ensures { IfOk result (λ fault. fault ≡ first_fault (procedures file.now)) }
+{
+    match resolve(alloc, file) {
+        Ok(_) => Ok(None),
+        Err(ResolveStop::Fault(number, place)) => Ok(Some((number, place))),
+        Err(ResolveStop::Memory(error)) => Err(error),
+    }
+}
+
+/// What `verify` says of the file that these bytes spell by these tokens.
+fn verify_file(
     alloc: Global,
-    settings: &Settings,
+    bytes: &[u8],
     tokens: &[Token],
     file: &File,
 ) -> Result<Response, AllocError>
-    ensures { IfOk result (λ response. (bytes : List ℕ) → Lexes 0 bytes tokens.now → IsSourceReply settings.now bytes (procedures file.now) (reply_of response)) }
+    requires { length bytes.now < 2 ^ 31 }
+    ensures { IfOk result (λ response. Lexes 0 bytes.now tokens.now → IsVerifyReply bytes.now (procedures file.now) (reply_of response)) }
+{
+    match static_fault(alloc, file)? {
+        Some((number, place)) => source_fault(alloc, bytes, number, place),
+        None => verify_tokens(alloc, tokens),
+    }
+}
+
+/// What a command says of the file that these bytes spell by these tokens.
+fn respond_to_file(
+    alloc: Global,
+    settings: &Settings,
+    bytes: &[u8],
+    tokens: &[Token],
+    file: &File,
+) -> Result<Response, AllocError>
+    requires { length bytes.now < 2 ^ 31 }
+    ensures { IfOk result (λ response. Lexes 0 bytes.now tokens.now → IsSourceReply settings.now bytes.now (procedures file.now) (reply_of response)) }
 {
     match settings {
-        Settings::Verify(_) => verify_tokens(alloc, tokens),
+        Settings::Verify(_) => verify_file(alloc, bytes, tokens, file),
         Settings::Print(_) => print_file(alloc, file),
     }
 }
@@ -141,7 +171,7 @@ pub fn respond(alloc: Global, settings: &Settings, bytes: &[u8]) -> Result<Respo
         Err(LexStop::Memory(error)) => return Err(error),
     };
     match parse(alloc, &tokens) {
-        Ok(file) => respond_to_file(alloc, settings, &tokens, &file),
+        Ok(file) => respond_to_file(alloc, settings, bytes, &tokens, &file),
         Err(ParseStop::Fault(number, index)) => {
             let place = token_place(bytes, &tokens, index);
             source_fault(alloc, bytes, number, place)

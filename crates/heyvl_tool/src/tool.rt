@@ -17,7 +17,8 @@ use std::alloc::{AllocError, Global};
 pub const FILE_LIMIT: usize = 1_048_576;
 
 /// Does what the words ask for: `verify FILE` reads the file from the source, and writes the report of its answers to
-/// the sink; `print FILE` writes the canonical text of the file. A file with one of the faults 1 to 6 is refused by both.
+/// the sink; `print FILE` writes the canonical text of the file. A file with one of the faults 1 to 6 is refused by both, and one
+/// with a static fault by `verify`.
 pub fn run_tool<F: Source, K: Sink>(
     alloc: Global,
     words: &Vec<String>,

@@ -1,4 +1,3 @@
-use Rattle.heyvl_syntax.proofs.exported.FaultPlaces.{fault_inside}
 use Rattle.heyvl_syntax.proofs.exported.InOrder.{tokens_few}
 use Rattle.heyvl_syntax.specs.Procedures.{procedures}
 use Rattle.heyvl_syntax.specs.SourceFaults.{IsTokenFault, token_place}
@@ -9,11 +8,6 @@ use Rattle.heyvl_tool.proofs.responses.respond.Goals as goal
 use Rattle.heyvl_tool.specs.Replies.{IsSourceReply}
 use Rattle.heyvl_tool.specs.Responses.{reply_of}
 use Rattle.std.proofs.Common.{IfOk, List, ap, arith, inl, inr, subst, ◌∙◌, ◌≡◌, ℕ}
-
-pub source_fault-requires-clause-inside : goal.source_fault-requires-clause-inside
-source_fault-requires-clause-inside c =
-    let stops : Stops 0 c.args.bytes.now c.in-Err-Fault.number c.in-Err-Fault.place = rw c.in-Err-Fault.field-0-is at c.in-Err-Fault.ensures.fault in
-    fault_inside c.args.bytes.now c.in-Err-Fault.number c.in-Err-Fault.place (inl stops)
 
 pub returns-in-Err-Fault : goal.returns-in-Err-Fault
 returns-in-Err-Fault c =
@@ -29,18 +23,10 @@ pub returns-in-Ok-parse : goal.returns-in-Ok-parse
 returns-in-Ok-parse c =
     let found = rw c.deref.ensures.value at c.in-Ok-parse.ensures.found in
     let said =
-    subst (λ (ts : List Token). IfOk c.respond_to_file.result (λ x. (bs : List ℕ) → Lexes 0 bs ts → IsSourceReply c.args.settings.now bs (procedures c.in-Ok-parse.file) (reply_of x)))
+    subst (λ (ts : List Token). IfOk c.respond_to_file.result (λ x. Lexes 0 c.args.bytes.now ts → IsSourceReply c.args.settings.now c.args.bytes.now (procedures c.in-Ok-parse.file) (reply_of x)))
     c.deref-in-Ok-parse.ensures.value c.respond_to_file.ensures in
     reply_by_file c.args.settings.now c.args.bytes.now c.in-Ok.tokens.items (procedures c.in-Ok-parse.file) _
     (record { tokens = c.in-Ok.tokens.items; lexes = c.in-Ok.ensures.found; within = found.0; is_file = found.1 }) c.in-Ok.ensures.found said
-
-pub source_fault-requires-in-Err-Fault-parse-clause-inside : goal.source_fault-requires-in-Err-Fault-parse-clause-inside
-source_fault-requires-in-Err-Fault-parse-clause-inside c =
-    let stop : IsTokenFault c.deref.result.now c.in-Err-Fault-parse.number c.in-Err-Fault-parse.index = rw c.in-Err-Fault-parse.field-0-is at c.in-Err-Fault-parse.ensures.fault in
-    let fault : IsTokenFault c.in-Ok.tokens.items c.in-Err-Fault-parse.number c.in-Err-Fault-parse.index = subst (λ (ts : List Token). IsTokenFault ts c.in-Err-Fault-parse.number c.in-Err-Fault-parse.index) c.deref.ensures.value stop in
-    let place : c.token_place-place.result ≡ token_place c.args.bytes.now c.in-Ok.tokens.items c.in-Err-Fault-parse.index =
-    c.token_place-place.ensures ∙ ap (λ (ts : List Token). token_place c.args.bytes.now ts c.in-Err-Fault-parse.index) c.deref-in-Err-Fault-parse.ensures.value in
-    fault_inside c.args.bytes.now c.in-Err-Fault-parse.number c.token_place-place.result (inr (c.in-Ok.tokens.items, c.in-Err-Fault-parse.index, c.in-Ok.ensures.found, fault, place))
 
 pub returns-in-Err-Fault-parse : goal.returns-in-Err-Fault-parse
 returns-in-Err-Fault-parse c =

@@ -3,7 +3,7 @@ use Rattle.heyvl_tool.proofs.responses.verify_tokens.Goals as goal
 use Rattle.heyvl_tool.specs.Grammar.{Spells}
 use Rattle.heyvl_tool.specs.Limits.{IsWithinLimits}
 use Rattle.heyvl_tool.specs.Procedure.{Procedure, procedure}
-use Rattle.heyvl_tool.specs.Replies.IsVerifyReply.{early}
+use Rattle.heyvl_tool.specs.Replies.IsFaultlessReply.{early}
 
 pub returns-in-Some : goal.returns-in-Some
 returns-in-Some c =
