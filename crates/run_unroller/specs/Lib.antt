@@ -1,0 +1,6 @@
+pub mod Scripts
+pub mod RunLists
+pub mod Causes
+pub mod Totals
+pub mod Unrolling
+pub mod internal

@@ -1,0 +1,22 @@
+//! What stops a list of runs.
+
+use heyvl_num::Frac;
+use run_machine::Config;
+
+/// Why a list of runs can't be made.
+#[derive(Clone, Copy, Debug)]
+pub(crate) enum Cause {
+    /// It would have more runs than it may.
+    Full,
+    /// A configuration would have more values than it may.
+    Deep,
+    /// A number doesn't fit.
+    Bits,
+}
+
+/// The list after a step, or what stops it.
+#[derive(Drop)]
+pub(crate) enum Grown {
+    Runs(Vec<(Frac, Config)>),
+    Stopped(Cause),
+}

@@ -1,0 +1,11 @@
+//! Runs of HeyVL programs, unrolled for a number of steps, and their sums.
+#![tactic(auto)]
+
+mod answers;
+mod causes;
+mod lists;
+mod totals;
+mod unrolling;
+
+pub use answers::{Sums, Unrolled};
+pub use unrolling::unroll;

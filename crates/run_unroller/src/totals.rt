@@ -1,0 +1,1 @@
+//! The sums of a list of runs.
