@@ -1,8 +1,8 @@
 -- What the step of one run brings.
-use Rattle.std.proofs.Common.{◌≡◌, ℕ, ◌+◌, ◌==◌, refl, ap, ap₂, sym, subst, ◌∙◌, Bool, true, false, List, [], ◌∷◌, length, map}
+use Rattle.std.proofs.Common.{◌≡◌, ℕ, ◌+◌, ◌==◌, refl, ap, ap₂, sym, subst, ◌∙◌, Bool, true, false, List, [], ◌∷◌, ◌++◌, append_assoc, length, map}
 use Rattle.std.specs.Prelude.{Option, Some, None, Result, Ok, Err, IfOk, if◌then◌else◌}
 use Rattle.heyvl_num.specs.Rational.{Rational, oneʳ, ◌*ʳ◌}
-use Rattle.heyvl_num.specs.WeightedSums.{scaled}
+use Rattle.heyvl_num.specs.WeightedSums.{scaled, joined}
 use Rattle.heyvl_num.proofs.exported.Rationals.{*ʳ-one}
 use Rattle.heyvl_types.specs.Acts.{TypedProcedure}
 use Rattle.heyvl_types.specs.Rules.{Each}
@@ -14,8 +14,8 @@ use Rattle.run_machine.specs.Names.{Numbered, stored, config_of, items_of}
 use Rattle.run_machine.specs.Step.{Decision, step}
 use Rattle.run_machine.specs.StepAnswers.{asked_by}
 use Rattle.run_unroller.specs.declared.causes.Cause.{Cause}
-use Rattle.run_unroller.specs.Causes.{joins, brought, brought_by}
-use Rattle.run_unroller.specs.RunLists.{Run, RunList, came, follow, followed, run_of, runs_of}
+use Rattle.run_unroller.specs.Causes.{joins, brought, brought_by, all_brought}
+use Rattle.run_unroller.specs.RunLists.{Run, RunList, came, follow, followed, after_step, run_of, runs_of}
 use Rattle.run_unroller.specs.Scripts.{entry}
 use Rattle.run_unroller.specs.internal.Extensions.{Extends}
 
@@ -74,3 +74,22 @@ running_joins ps script old new w c xs cause n e m h =
     let marks : brought ps script (items_of ps c.items.items) w (run_at ps c) ≡ map (joins w) (runs_of ps xs) = brought_running ps script w c c.items.items refl n ∙ ap (brought_by w) (sym e) ∙ same_marks ps w xs in
     let list : follow ps script (run_at ps c) ≡ runs_of ps xs = follow_running ps script c c.items.items refl n ∙ ap (map (came (c.made + asked_by (items_of ps c.items.items)))) (sym (next_is_step ps (config_of ps (stored c)) (entry script c.made) (outcomes_of ps xs) e)) ∙ came_made ps (c.made + asked_by (items_of ps c.items.items)) xs m in
     subst (λ l. Extends ps old new l (scaled w (follow ps script (run_at ps c))) cause) (sym marks) (subst (λ l. Extends ps old new (map (joins w) (runs_of ps xs)) (scaled w l) cause) (sym list) h)
+
+-- The runs of a list, one by one.
+pub brought_next : (ps : List TypedProcedure) (script : List Decide) (zs : List (Rational × C.Config)) (x : Rational × C.Config) (ys : List (Rational × C.Config)) → zs ≡ x ∷ ys → all_brought ps script (runs_of ps zs) ≡ brought ps script (items_of ps x.1.items.items) x.0 (run_at ps x.1) ++ all_brought ps script (runs_of ps ys)
+brought_next ps script zs x ys e = ap (λ l. all_brought ps script (runs_of ps l)) e
+
+joined-cons : (ps : List TypedProcedure) (script : List Decide) (x : Rational × C.Config) (ys : List (Rational × C.Config)) → after_step ps script (runs_of ps (x ∷ ys)) ≡ scaled x.0 (follow ps script (run_at ps x.1)) ++ after_step ps script (runs_of ps ys)
+unfolding joined
+joined-cons ps script x ys = refl
+
+pub joined-none : (ps : List TypedProcedure) (script : List Decide) → after_step ps script [] ≡ []
+unfolding joined
+joined-none ps script = refl
+
+pub runs_follow : (ps : List TypedProcedure) (script : List Decide) (zs : List (Rational × C.Config)) (x : Rational × C.Config) (ys old new : List (Rational × C.Config)) → zs ≡ x ∷ ys → runs_of ps new ≡ runs_of ps old ++ scaled x.0 (follow ps script (run_at ps x.1)) → runs_of ps old ++ after_step ps script (runs_of ps zs) ≡ runs_of ps new ++ after_step ps script (runs_of ps ys)
+runs_follow ps script zs x ys old new e n =
+    ap (λ l. runs_of ps old ++ after_step ps script (runs_of ps l)) e
+    ∙ ap (λ l. runs_of ps old ++ l) (joined-cons ps script x ys)
+    ∙ sym (append_assoc (runs_of ps old) (scaled x.0 (follow ps script (run_at ps x.1))) (after_step ps script (runs_of ps ys)))
+    ∙ ap (λ l. l ++ after_step ps script (runs_of ps ys)) (sym n)
