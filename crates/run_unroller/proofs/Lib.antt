@@ -1,3 +1,4 @@
 mod Joining
 mod Following
 mod StepGrowth
+mod Stopping

@@ -20,3 +20,10 @@ pub(crate) enum Grown {
     Runs(Vec<(Frac, Config)>),
     Stopped(Cause),
 }
+
+/// The list after some steps, or what stops it, and at which step.
+#[derive(Drop)]
+pub(crate) enum Reached {
+    Runs(Vec<(Frac, Config)>),
+    Stopped(Cause, u32),
+}

@@ -3,9 +3,10 @@
 
 mod answers;
 mod causes;
+mod copies;
 mod lists;
 mod totals;
 mod unrolling;
 
 pub use answers::{Sums, Unrolled};
-pub use unrolling::unroll;
+
