@@ -2,3 +2,5 @@ mod Joining
 mod Following
 mod StepGrowth
 mod Stopping
+mod Adding
+mod Finding

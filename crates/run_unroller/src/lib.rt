@@ -6,7 +6,10 @@ mod causes;
 mod copies;
 mod lists;
 mod totals;
+mod turns;
 mod unrolling;
+mod values;
+mod weights;
 
 pub use answers::{Sums, Unrolled};
 
