@@ -1,18 +1,18 @@
 -- Sums of runs, one run after another.
-use Rattle.std.proofs.Common.{◌≡◌, ℕ, ◌+◌, ◌<◌, refl, ap, sym, ◌∙◌, List, [], ◌∷◌, get_or, length, drop}
+use Rattle.std.proofs.Common.{◌≡◌, ℕ, ◌+◌, ◌<◌, refl, ap, sym, ◌∙◌, ◌-◌, arith, List, [], ◌∷◌, ◌++◌, get_or, length, drop}
 use Rattle.std.proofs.lemmas.List.{at_drop_more}
 use Rattle.std.specs.Prelude.{Option, Some, None}
 use Prim.Native.Nat.{zero, suc}
 use Rattle.heyvl_num.specs.Rational.{Rational}
 use Rattle.heyvl_num.specs.Value.{Value}
-use Rattle.heyvl_num.specs.Exact.{exact_sum}
+use Rattle.heyvl_num.specs.Exact.{exact_sum, exact_product}
 use Rattle.heyvl_types.specs.Acts.{TypedProcedure}
 use Rattle.quant_algebra.specs.ExactOperators.{and_then}
 use Rattle.run_machine.specs.declared.configurations.Config as C
 use Rattle.run_machine.specs.Configurations.{Item}
-use Rattle.run_machine.specs.Names.{Numbered, items_of}
+use Rattle.run_machine.specs.Names.{items_of}
 use Rattle.run_unroller.specs.RunLists.{Run, RunList, run_of, runs_of}
-use Rattle.run_unroller.specs.Totals.{added, added_fractions, added_weights, and_one, and_one_fraction, ended, if_ended, if_running, running}
+use Rattle.run_unroller.specs.Totals.{added, all_turns, turns_total, added_fractions, added_weights, and_one, and_one_fraction, ended, if_ended, if_running, running}
 
 -- Where there is no sum so far, there is none.
 pub added-none : (f : Run → Option Value) (xs : RunList) → added f None xs ≡ None
@@ -59,15 +59,18 @@ running_next ps so_far now runs i r lt is e =
     ∙ one_running so_far (run_of ps r) (running (runs_of ps (drop (i + 1) runs))) (items_of ps r.1.items.items)
     ∙ ap (λ o. added_weights o (running (runs_of ps (drop (i + 1) runs)))) (sym e)
 
--- A run that has ended adds its value and no weight; another adds its weight and no value.
-pub ended_one : (ps : List TypedProcedure) (f : Run → Option Value) (so_far : Option Value) (r : Rational × C.Config) → r.1.items.items ≡ [] → added f so_far (ended (run_of ps r ∷ [])) ≡ and_one so_far r.0 (f (run_of ps r).1)
-ended_one ps f so_far r e = ap (λ l. added f so_far (if_ended (items_of ps l) (run_of ps r) [])) e
+-- The product and the sum of one run more.
+pub fraction_one : (s w v t : Rational) (o : Option Rational) → t ≡ v → o ≡ exact_product w t → and_then o (λ x. exact_sum s x) ≡ and_one_fraction (Some s) w v
+fraction_one s w v t o e h = ap (λ p. and_then p (λ x. exact_sum s x)) (h ∙ ap (exact_product w) e)
 
-pub ended_weight : (ps : List TypedProcedure) (so_far : Option Rational) (r : Rational × C.Config) → r.1.items.items ≡ [] → added_weights so_far (running (run_of ps r ∷ [])) ≡ so_far
-ended_weight ps so_far r e = ap (λ l. added_weights so_far (if_running (items_of ps l) (run_of ps r) [])) e
+stays_none : (rs : RunList) (m k : ℕ) → all_turns m rs ≡ None → all_turns (m + k) rs ≡ None
+stays_none rs m zero h = ap (λ n. all_turns n rs) (let e : m + 0 ≡ m = omega arith in e) ∙ h
+stays_none rs m (suc k) h =
+    ap (λ n. all_turns n rs) (let e : m + suc k ≡ suc (m + k) = omega arith in e)
+    ∙ ap (λ o. and_then o (λ ts. and_then (turns_total (suc (m + k)) rs) (λ t. Some (ts ++ (t ∷ []))))) (stays_none rs m k h)
 
-pub running_one : (ps : List TypedProcedure) (f : Run → Option Value) (so_far : Option Value) (r : Rational × C.Config) (j : Numbered) (js : List Numbered) → r.1.items.items ≡ j ∷ js → added f so_far (ended (run_of ps r ∷ [])) ≡ so_far
-running_one ps f so_far r j js e = ap (λ l. added f so_far (if_ended (items_of ps l) (run_of ps r) [])) e
-
-pub running_weight : (ps : List TypedProcedure) (so_far : Option Rational) (r : Rational × C.Config) (j : Numbered) (js : List Numbered) → r.1.items.items ≡ j ∷ js → added_weights so_far (running (run_of ps r ∷ [])) ≡ and_then so_far (λ s. exact_sum s r.0)
-running_weight ps so_far r j js e = ap (λ l. added_weights so_far (if_running (items_of ps l) (run_of ps r) [])) e
+-- Where the turns of one loop have no sum, the list has none.
+pub no_sum : (rs : RunList) (ts : List Rational) (m n : ℕ) → all_turns m rs ≡ Some ts → None ≡ turns_total (suc m) rs → m < n → None ≡ all_turns n rs
+no_sum rs ts m n h e l =
+    let next : all_turns (suc m) rs ≡ None = ap (λ o. and_then o (λ us. and_then (turns_total (suc m) rs) (λ t. Some (us ++ (t ∷ []))))) h ∙ ap (λ o. and_then o (λ t. Some (ts ++ (t ∷ [])))) (sym e) in
+    sym (ap (λ k. all_turns k rs) (let h : n ≡ suc m + (n - suc m) = omega (arith, l) in h) ∙ stays_none rs (suc m) (n - suc m) next)
