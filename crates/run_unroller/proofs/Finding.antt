@@ -1,6 +1,6 @@
 -- Procedures by number, and numbers of turns.
-use Rattle.std.proofs.Common.{◌≡◌, ℕ, ◌+◌, ◌<◌, ◌≤◌, ◌^◌, refl, ap, sym, ◌∙◌, arith, List, [], ◌∷◌, length, map, get_or, Bool, true, false, ◌&&◌}
-use Rattle.std.specs.Prelude.{Option, Some, None, pos, nat_lt, if◌then◌else◌}
+use Rattle.std.proofs.Common.{◌≡◌, ℕ, ◌<◌, ◌≤◌, ◌^◌, refl, ap, sym, arith, List, [], ◌∷◌, length, map, get_or, true, ◌&&◌}
+use Rattle.std.specs.Prelude.{Some, None, pos, nat_lt, if◌then◌else◌}
 use Prim.Native.Nat.{zero, suc}
 use Rattle.heyvl_num.specs.Rational.{Rational, ratio, zeroʳ}
 use Rattle.heyvl_num.specs.Value.{zeroᵛ}

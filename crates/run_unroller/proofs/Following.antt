@@ -1,21 +1,21 @@
 -- What the step of one run brings.
 use Rattle.std.proofs.Common.{◌≡◌, ℕ, ◌+◌, ◌==◌, refl, ap, ap₂, sym, subst, ◌∙◌, Bool, true, false, List, [], ◌∷◌, ◌++◌, append_assoc, length, map}
-use Rattle.std.specs.Prelude.{Option, Some, None, Result, Ok, Err, IfOk, if◌then◌else◌}
-use Rattle.heyvl_num.specs.Rational.{Rational, oneʳ, ◌*ʳ◌}
+use Rattle.std.specs.Prelude.{Option, None, Result, Ok, Err, IfOk, if◌then◌else◌}
+use Rattle.heyvl_num.specs.Rational.{Rational, oneʳ}
 use Rattle.heyvl_num.specs.WeightedSums.{scaled, joined}
 use Rattle.heyvl_num.proofs.exported.Rationals.{*ʳ-one}
 use Rattle.heyvl_types.specs.Acts.{TypedProcedure}
 use Rattle.heyvl_types.specs.Rules.{Each}
 use Rattle.run_machine.specs.declared.configurations.Config as C
 use Rattle.run_machine.specs.declared.configurations.Decide.{Decide}
-use Rattle.run_machine.specs.BoundedStep.{Answer, any_deep, limited, bounded, bounded_step, outcomes_of}
+use Rattle.run_machine.specs.BoundedStep.{Answer, any_deep, bounded, bounded_step, outcomes_of}
 use Rattle.run_machine.specs.Configurations.{Config, Outcomes}
 use Rattle.run_machine.specs.Names.{Numbered, stored, config_of, items_of}
 use Rattle.run_machine.specs.Step.{Decision, step}
 use Rattle.run_machine.specs.StepAnswers.{asked_by}
 use Rattle.run_unroller.specs.declared.causes.Cause.{Cause}
 use Rattle.run_unroller.specs.Causes.{joins, brought, brought_by, all_brought}
-use Rattle.run_unroller.specs.RunLists.{Run, RunList, came, follow, followed, after_step, run_of, runs_of}
+use Rattle.run_unroller.specs.RunLists.{Run, came, follow, followed, after_step, run_of, runs_of}
 use Rattle.run_unroller.specs.Scripts.{entry}
 use Rattle.run_unroller.specs.internal.Extensions.{Extends}
 

@@ -1,5 +1,5 @@
 -- Outcomes that join a list of runs, one by one.
-use Rattle.std.proofs.Common.{◌≡◌, ℕ, refl, ap, sym, ◌∙◌, subst, arith, ◌==◌, Bool, true, false, List, [], ◌∷◌, ◌++◌, length, map, append_assoc}
+use Rattle.std.proofs.Common.{◌≡◌, ℕ, refl, ap, sym, ◌∙◌, arith, ◌==◌, Bool, true, false, List, [], ◌∷◌, ◌++◌, length, map, append_assoc}
 use Rattle.std.specs.Prelude.{Option, Some, None, is_some, if◌then◌else◌}
 use Rattle.heyvl_num.specs.Rational.{Rational, ◌*ʳ◌}
 use Rattle.heyvl_num.specs.Exact.{exact_product}
@@ -9,9 +9,8 @@ use Rattle.heyvl_types.specs.Acts.{TypedProcedure}
 use Rattle.run_machine.specs.declared.configurations.Config as C
 use Rattle.run_unroller.specs.declared.causes.Cause.{Cause}
 use Rattle.run_unroller.specs.declared.causes.Cause.TheVariants.{Bits}
-use Rattle.run_unroller.specs.Causes.{first_cause, joins}
-use Rattle.run_unroller.specs.RunLists.{Run, RunList, run_of, runs_of}
-use Rattle.run_unroller.specs.internal.Extensions.{Extends}
+use Rattle.run_unroller.specs.Causes.{joins}
+use Rattle.run_unroller.specs.RunLists.{Run, run_of, runs_of}
 
 -- A list of length 0 is empty.
 pub nothing_left : {A : Type 0} (n : ℕ) (xs : List A) → n ≡ length xs → n ≡ 0 → xs ≡ []

@@ -1,21 +1,20 @@
 -- A step makes at most one turn of each loop more, and asks for at most one decision.
-use Rattle.std.proofs.Common.{◌≡◌, ℕ, ◌+◌, ◌≤◌, ◌==◌, refl, ap, sym, subst, ◌∙◌, arith, Bool, true, false, List, [], ◌∷◌, map}
+use Rattle.std.proofs.Common.{◌≡◌, ℕ, ◌+◌, ◌≤◌, ◌==◌, sym, subst, arith, Bool, true, false, List, [], ◌∷◌}
 use Prim.Native.Nat.{suc}
-use Rattle.std.specs.Prelude.{if◌then◌else◌, set}
+use Rattle.std.specs.Prelude.{if◌then◌else◌}
 use Rattle.heyvl_num.specs.Rational.{Rational}
 use Rattle.heylo_formula.specs.Formula.{Term}
 use Rattle.heylo_formula.specs.Choices.{Choices}
 use Rattle.heylo_formula.specs.Meaning.{holds}
 use Rattle.heylo_formula.specs.State.{environment}
-use Rattle.heyvl_types.specs.Acts.{Act, Acts, Head, TypedProcedure}
+use Rattle.heyvl_types.specs.Acts.{Act, TypedProcedure}
 use Rattle.heyvl_types.specs.Rules.{Each}
 use Rattle.run_machine.specs.declared.configurations.Config as C
-use Rattle.run_machine.specs.declared.configurations.Stepped.TheVariants.{Next}
 use Rattle.run_machine.specs.BoundedStep.{outcomes_of}
-use Rattle.run_machine.specs.Configurations.{Item, Frame, Config, Outcomes, running}
+use Rattle.run_machine.specs.Configurations.{Item, Frame, Config, running}
 use Rattle.run_machine.specs.ConfigConditions.{IsConfig}
-use Rattle.run_machine.specs.Names.{Stored, stored, config_of, turns_of}
-use Rattle.run_machine.specs.Step.{Decision, sure, moved, turned, counted, one_more, branches, test, step_act, step_back, step_items, step}
+use Rattle.run_machine.specs.Names.{Stored, stored, config_of}
+use Rattle.run_machine.specs.Step.{Decision, sure, moved, turned, one_more, branches, step_act, step_back, step_items, step}
 use Rattle.run_machine.specs.StepAnswers.{asked_by}
 use Rattle.run_unroller.specs.internal.Growth.{Within, AllWithin}
 

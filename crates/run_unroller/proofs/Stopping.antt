@@ -1,5 +1,5 @@
 -- Steps of a list of runs, one after another, up to one that is stopped.
-use Rattle.std.proofs.Common.{◌≡◌, ℕ, ◌+◌, ◌-◌, ◌≤◌, ◌<◌, ◌^◌, refl, ap, sym, subst, ◌∙◌, arith, add-one, List, [], ◌∷◌, get_or}
+use Rattle.std.proofs.Common.{◌≡◌, ℕ, ◌+◌, ◌-◌, ◌≤◌, ◌<◌, ◌^◌, ap, sym, ◌∙◌, arith, List, [], ◌∷◌}
 use Rattle.std.specs.Prelude.{Option, Some, None}
 use Prim.Native.Nat.{zero, suc}
 use Rattle.heyvl_num.specs.Rational.{Rational}
@@ -11,7 +11,7 @@ use Rattle.run_machine.specs.ConfigConditions.{HasRoom, IsConfig}
 use Rattle.run_machine.specs.Names.{stored, turns_of}
 use Rattle.run_unroller.specs.declared.causes.Cause.{Cause}
 use Rattle.run_unroller.specs.Causes.{at_step, first_stop, or_else, step_cause}
-use Rattle.run_unroller.specs.RunLists.{RunList, after, after_step, runs_of}
+use Rattle.run_unroller.specs.RunLists.{RunList, after, after_step}
 use Rattle.run_unroller.specs.internal.Growth.{AllWithin}
 
 few_turns : (n : ℕ) (ts : List ℕ) → ((k : ℕ) → turns_of ts k ≤ n) → n < 2 ^ 31 → Each (λ t. t < 2 ^ 31) ts

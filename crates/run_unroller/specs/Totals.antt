@@ -1,6 +1,6 @@
 -- The sums of a list of runs, as the program adds them: from 0 on, in the order of the list, with exact fractions.
 -- Source: this project's own.
-use Rattle.std.specs.Prelude.{ℕ, List, [], ◌∷◌, ◌++◌, Option, Some, None, pos}
+use Rattle.std.specs.Prelude.{ℕ, List, [], ◌∷◌, ◌++◌, Option, Some, pos}
 use Prim.Native.Nat.{zero, suc}
 use Rattle.heyvl_num.specs.Rational.{Rational, ratio, zeroʳ}
 use Rattle.heyvl_num.specs.Value.{Value, zeroᵛ}

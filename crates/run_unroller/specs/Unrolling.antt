@@ -5,16 +5,15 @@ use Rattle.heyvl_num.specs.Extended as extended
 use Rattle.heylo_formula.specs.declared.values.Val.{Val}
 use Rattle.heyvl_types.specs.Acts.{TypedProcedure, procedure_at}
 use Rattle.run_machine.specs.declared.configurations.Decide.{Decide}
-use Rattle.run_machine.specs.Bound.{IsState}
 use Rattle.run_machine.specs.ConfigConditions.{IsConfig}
-use Rattle.run_machine.specs.Configurations.{Config, begin}
+use Rattle.run_machine.specs.Configurations.{begin}
 use Rattle.run_machine.specs.Names.{Stored, config_of}
 use Rattle.run_unroller.specs.declared.answers.Sums.{Sums}
 use Rattle.run_unroller.specs.declared.answers.Unrolled.{Unrolled}
 use Rattle.run_unroller.specs.declared.answers.Unrolled.TheVariants as answer
 use Rattle.run_unroller.specs.declared.causes.Cause.{Cause}
 use Rattle.run_unroller.specs.declared.causes.Cause.TheVariants.{Full, Deep, Bits}
-use Rattle.run_unroller.specs.RunLists.{RunList, begun, after}
+use Rattle.run_unroller.specs.RunLists.{RunList, after}
 use Rattle.run_unroller.specs.Causes.{first_stop}
 use Rattle.run_unroller.specs.Totals.{Totals, totals}
 

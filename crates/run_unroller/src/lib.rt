@@ -12,4 +12,4 @@ mod values;
 mod weights;
 
 pub use answers::{Sums, Unrolled};
-
+pub use unrolling::unroll;

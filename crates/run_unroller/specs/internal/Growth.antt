@@ -1,6 +1,5 @@
 -- How far turns and decisions can have come in so many steps. Private functions alone need this.
 use Rattle.std.specs.Prelude.{◌≤◌, ℕ, List}
-use Prim.Native.Nat.{suc}
 use Rattle.heyvl_num.specs.Rational.{Rational}
 use Rattle.heyvl_types.specs.Acts.{TypedProcedure}
 use Rattle.heyvl_types.specs.Rules.{Each}

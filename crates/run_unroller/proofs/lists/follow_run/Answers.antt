@@ -1,4 +1,4 @@
-use Rattle.std.proofs.Common.{ap, sym, ◌∙◌, subst}
+use Rattle.std.proofs.Common.{ap, ◌∙◌, subst}
 use Prim.Native.Nat.{suc}
 use Rattle.heyvl_types.specs.PlainActs.{procedures_of}
 use Rattle.run_machine.specs.Names.{config_of, decision_of, items_of, stored}

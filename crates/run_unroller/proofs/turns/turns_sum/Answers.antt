@@ -2,8 +2,6 @@ use Rattle.std.proofs.Common.{ap, sym, ◌∙◌, ◌+◌, drop}
 use Prim.Native.Nat.{suc}
 use Rattle.std.specs.Prelude.{Some, None, pos}
 use Rattle.heyvl_num.specs.Rational.{ratio}
-use Rattle.heyvl_num.specs.Exact.{exact_sum}
-use Rattle.quant_algebra.specs.ExactOperators.{and_then}
 use Rattle.run_machine.specs.Names.{turns_of as turns_in}
 use Rattle.run_unroller.specs.RunLists.{runs_of}
 use Rattle.run_unroller.specs.Totals.{added_fractions, turns_of}
