@@ -4,4 +4,4 @@ mod StepGrowth
 mod Stopping
 mod Adding
 mod Finding
-mod Whole
+mod Trees

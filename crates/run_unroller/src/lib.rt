@@ -4,6 +4,7 @@
 mod answers;
 mod causes;
 mod copies;
+mod laws;
 mod lists;
 mod totals;
 mod turns;
@@ -12,4 +13,5 @@ mod values;
 mod weights;
 
 pub use answers::{Sums, Unrolled};
+pub use laws::lists_are_runs;
 pub use unrolling::unroll;
