@@ -5,3 +5,4 @@ mod Stopping
 mod Adding
 mod Finding
 mod Trees
+mod SumsOfRuns

@@ -2,7 +2,17 @@
 
 ghost use Rattle.run_unroller.specs.UnrollLaws as law;
 
+use quant_algebra::exact_values_are_meant;
+
 /// The list after some steps has the runs of the definition, for the scheduler whose nodes carry the script's entries.
 pub fn lists_are_runs()
     ensures { law.ListsAreRuns }
 {}
+
+/// What is added up over a list of runs are the sums of the definition.
+pub fn totals_are_sums()
+    ensures values { law.TotalsAreSums }
+    ensures turns { law.TurnsAreSums }
+{
+    exact_values_are_meant();
+}

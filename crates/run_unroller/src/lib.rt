@@ -13,5 +13,5 @@ mod values;
 mod weights;
 
 pub use answers::{Sums, Unrolled};
-pub use laws::lists_are_runs;
+pub use laws::{lists_are_runs, totals_are_sums};
 pub use unrolling::unroll;
