@@ -6,3 +6,4 @@ mod Adding
 mod Finding
 mod Trees
 mod SumsOfRuns
+mod Examples

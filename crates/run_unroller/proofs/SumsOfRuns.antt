@@ -1,7 +1,7 @@
 -- What the program adds up are the sums over runs.
-use Rattle.std.proofs.Common.{◌≡◌, ℕ, refl, ap, ap₂, sym, ◌∙◌, Bool, true, false, List, [], ◌∷◌, ◌++◌, map}
-use Rattle.std.specs.Prelude.{Option, Some, None, IfSome, pos}
-use Rattle.heyvl_num.specs.Rational.{Rational, ratio, zeroʳ, oneʳ, ◌+ʳ◌, ◌*ʳ◌}
+use Rattle.std.proofs.Common.{◌≡◌, ℕ, refl, ap, ap₂, sym, ◌∙◌, true, false, List, [], ◌∷◌}
+use Rattle.std.specs.Prelude.{Option, Some, None, IfSome}
+use Rattle.heyvl_num.specs.Rational.{Rational, zeroʳ, ◌+ʳ◌, ◌*ʳ◌}
 use Rattle.heyvl_num.specs.Value.{Value, zeroᵛ, oneᵛ, ◌+ᵛ◌, ◌*ᵛ◌}
 use Rattle.heyvl_num.specs.Value.Value.{finite}
 use Rattle.heyvl_num.specs.Exact.{exact_sum, exact_product}
@@ -16,10 +16,10 @@ use Rattle.heylo_formula.specs.State.{environment}
 use Rattle.heyvl_types.specs.Acts.{TypedProcedure}
 use Rattle.quant_algebra.specs.ExactOperators.{and_then}
 use Rattle.quant_algebra.specs.Laws.{ExactValuesAreMeant}
-use Rattle.run_machine.specs.Configurations.{Config, Item}
+use Rattle.run_machine.specs.Configurations.{Item}
 use Rattle.run_machine.specs.Sums.{ended as ended_value, sum_of, turns_in, turns_sum, worth}
 use Rattle.run_unroller.specs.RunLists.{Run, RunList}
-use Rattle.run_unroller.specs.Totals.{Totals, added, added_fractions, added_weights, all_turns, and_one, and_one_fraction, ended, if_ended, if_running, post_of, post_total, reward_of, reward_total, running, running_total, totals, turns_of, turns_total}
+use Rattle.run_unroller.specs.Totals.{Totals, added, added_fractions, added_weights, all_turns, and_one, ended, if_ended, if_running, post_of, post_total, reward_of, reward_total, running, running_total, totals, turns_of, turns_total}
 use Rattle.run_unroller.specs.UnrollLaws.{outcome, outcomes}
 use Rattle.run_unroller.proofs.Adding.{added-none, fractions-none, weights-none}
 
@@ -53,9 +53,11 @@ added_is f g m s (x ∷ xs) v e = at_value (λ u h. added_is f g m u xs v h) (f 
         ∙ ap (λ a. a +ᵛ weighted_sum g xs) (exact_sumᵛ_some s z u k ∙ ap (λ a. s +ᵛ a) (q ∙ ap (λ a. finite x.0 *ᵛ a) p))
         ∙ +ᵛ_assoc s (finite x.0 *ᵛ g x.1) (weighted_sum g xs)
         ∙ ap (λ a. s +ᵛ a) (sym (sum-cons g x xs))
+
     at_product : ((u : Value) → added f (Some u) xs ≡ Some v → v ≡ u +ᵛ weighted_sum g xs) → (y : Value) (o : Option Value) → y ≡ g x.1 → o ≡ exact_productᵛ (finite x.0) y → added f (and_then o (λ z. exact_sumᵛ s z)) xs ≡ Some v → v ≡ s +ᵛ weighted_sum g (x ∷ xs)
     at_product more y None p k h = elim (no_value v (sym (added-none f xs) ∙ h)) [ ]
     at_product more y (Some z) p k h = at_sum more y z (exact_sumᵛ s z) p (exact_productᵛ_some (finite x.0) y z k) refl h
+
     at_value : ((u : Value) → added f (Some u) xs ≡ Some v → v ≡ u +ᵛ weighted_sum g xs) → (o : Option Value) → IfSome o (λ v. v ≡ g x.1) → added f (and_one (Some s) x.0 o) xs ≡ Some v → v ≡ s +ᵛ weighted_sum g (x ∷ xs)
     at_value more None p h = elim (no_value v (sym (added-none f xs) ∙ h)) [ ]
     at_value more (Some y) p h = at_product more y (exact_productᵛ (finite x.0) y) p refl h
@@ -79,6 +81,7 @@ fractions_are f s (x ∷ xs) t e = at_product (λ u h. fractions_are f u xs t h)
         ∙ ap (λ a. a +ᵛ weighted_sum (λ r. finite (f r)) xs) (finite_sum s (x.0 *ʳ f x.1) ∙ ap (λ a. finite s +ᵛ a) (sym (finite-* x.0 (f x.1))))
         ∙ +ᵛ_assoc (finite s) (finite x.0 *ᵛ finite (f x.1)) (weighted_sum (λ r. finite (f r)) xs)
         ∙ ap (λ a. finite s +ᵛ a) (sym (sum-cons (λ r. finite (f r)) x xs))
+
     at_product : ((u : Rational) → added_fractions f (Some u) xs ≡ Some t → finite t ≡ finite u +ᵛ weighted_sum (λ r. finite (f r)) xs) → (o : Option Rational) → o ≡ exact_product x.0 (f x.1) → added_fractions f (and_then o (λ z. exact_sum s z)) xs ≡ Some t → finite t ≡ finite s +ᵛ weighted_sum (λ r. finite (f r)) (x ∷ xs)
     at_product more None k h = elim (no_value t (sym (fractions-none f xs) ∙ h)) [ ]
     at_product more (Some z) k h = at_sum more z (exact_sum s z) (exact_product_some x.0 (f x.1) z k) refl h
@@ -170,12 +173,15 @@ parts p rs t e = at_post (post_total p.post rs) refl e
     at_turns a b w (Some ts) h k l g =
         let same : record { post = a; reward = b; running = w; turns = ts } ≡ t = cc in
         record { post = h ∙ ap (λ (u : Totals). Some u.post) same; reward = k ∙ ap (λ (u : Totals). Some u.reward) same; running = l ∙ ap (λ (u : Totals). Some u.running) same }
+
     at_running : (a b : Value) (o : Option Rational) → post_total p.post rs ≡ Some a → reward_total rs ≡ Some b → running_total rs ≡ o → and_then o (λ running. and_then (all_turns p.loops rs) (λ turns. Some (record { post = a; reward = b; running = running; turns = turns }))) ≡ Some t → Parts p rs t
     at_running a b None h k l g = elim (no_value t g) [ ]
     at_running a b (Some w) h k l g = at_turns a b w (all_turns p.loops rs) h k l g
+
     at_reward : (a : Value) (o : Option Value) → post_total p.post rs ≡ Some a → reward_total rs ≡ o → and_then o (λ reward. and_then (running_total rs) (λ running. and_then (all_turns p.loops rs) (λ turns. Some (record { post = a; reward = reward; running = running; turns = turns })))) ≡ Some t → Parts p rs t
     at_reward a None h k g = elim (no_value t g) [ ]
     at_reward a (Some b) h k g = at_running a b (running_total rs) h k refl g
+
     at_post : (o : Option Value) → post_total p.post rs ≡ o → and_then o (λ post. and_then (reward_total rs) (λ reward. and_then (running_total rs) (λ running. and_then (all_turns p.loops rs) (λ turns. Some (record { post = post; reward = reward; running = running; turns = turns }))))) ≡ Some t → Parts p rs t
     at_post None h g = elim (no_value t g) [ ]
     at_post (Some a) h g = at_reward a (reward_total rs) h refl g

@@ -1,5 +1,5 @@
 -- The list after n steps has the runs under the script's scheduler.
-use Rattle.std.proofs.Common.{◌≡◌, ℕ, ◌+◌, refl, ap, ap₂, sym, subst, ◌∙◌, List, [], ◌∷◌, ◌++◌, append_assoc, append-nil, map}
+use Rattle.std.proofs.Common.{◌≡◌, ℕ, ◌+◌, refl, ap, ap₂, sym, ◌∙◌, List, [], ◌∷◌, ◌++◌, append_assoc, append-nil, map}
 use Prim.Native.Nat.{zero, suc}
 use Rattle.heyvl_num.specs.Rational.{Rational, oneʳ, ◌*ʳ◌}
 use Rattle.heyvl_num.specs.WeightedSums.{scaled, joined}
@@ -7,12 +7,12 @@ use Rattle.heyvl_num.proofs.exported.Rationals.{one-*ʳ, *ʳ-one, *ʳ_assoc}
 use Rattle.heyvl_types.specs.Acts.{TypedProcedure}
 use Rattle.run_machine.specs.declared.configurations.Decide.{Decide}
 use Rattle.run_machine.specs.Configurations.{Config, Item, Outcomes}
-use Rattle.run_machine.specs.Scheduler.{Tree, Forest}
+use Rattle.run_machine.specs.Scheduler.{Tree}
 use Rattle.run_machine.specs.Step.{step, step_items}
 use Rattle.run_machine.specs.StepAnswers.{asked_by}
 use Rattle.run_machine.specs.Runs.{runs, spread, onward}
 use Rattle.run_machine.proofs.exported.Equations.{runs-zero, runs-next}
-use Rattle.run_unroller.specs.RunLists.{Run, RunList, after, after_step, begun, came, follow, followed}
+use Rattle.run_unroller.specs.RunLists.{Run, RunList, after, after_step, came, follow, followed}
 use Rattle.run_unroller.specs.ScriptTrees.{forest, scripted}
 use Rattle.run_unroller.specs.Scripts.{entry}
 use Rattle.run_unroller.specs.UnrollLaws.{outcome, outcomes}

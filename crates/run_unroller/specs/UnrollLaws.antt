@@ -1,5 +1,5 @@
 -- Laws of unrolled runs.
-use Rattle.std.specs.Prelude.{◌≡◌, ℕ, Bool, true, false, List, map, Some}
+use Rattle.std.specs.Prelude.{◌≡◌, ℕ, true, false, List, map, Some}
 use Rattle.heyvl_num.specs.Rational.{Rational}
 use Rattle.heyvl_num.specs.Value.{◌+ᵛ◌}
 use Rattle.heyvl_num.specs.Value.Value.{finite}

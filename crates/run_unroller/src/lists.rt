@@ -102,10 +102,7 @@ fn append_all(
 }
 
 /// The run joins the list, or finds it full.
-fn append(
-    next: &mut Vec<(Frac, Config)>,
-    run: (Frac, Config),
-) -> Result<Option<Cause>, AllocError>
+fn append(next: &mut Vec<(Frac, Config)>, run: (Frac, Config)) -> Result<Option<Cause>, AllocError>
     ensures joined { IfOk result (λ cause. (ps : List TypedProcedure) → Extends ps next.old.items next.new.items (None ∷ []) (run_of ps run ∷ []) cause) }
     ensures within { (ps : List TypedProcedure) (n : ℕ) → AllWithin ps n next.old.items → Within ps n (stored run.1) → IfOk result (λ _. AllWithin ps n next.new.items) }
 {

@@ -36,7 +36,12 @@ pub(crate) fn sums(
     };
     match all_turns(alloc, loops_of(typed, p), runs)? {
         None => Ok(None),
-        Some(turns) => Ok(Some(Sums { post, reward, running, turns })),
+        Some(turns) => Ok(Some(Sums {
+            post,
+            reward,
+            running,
+            turns,
+        })),
     }
 }
 
