@@ -1,5 +1,6 @@
 -- What the program adds up are the sums over runs.
-use Rattle.std.proofs.Common.{◌≡◌, ℕ, refl, ap, ap₂, sym, ◌∙◌, true, false, List, [], ◌∷◌}
+use Rattle.std.proofs.Common.{◌≡◌, ℕ, ◌+◌, refl, ap, ap₂, sym, subst, arith, ◌∙◌, true, false, List, [], ◌∷◌, ◌++◌, length, length-append}
+use Prim.Native.Nat.{zero, suc}
 use Rattle.std.specs.Prelude.{Option, Some, None, IfSome}
 use Rattle.heyvl_num.specs.Rational.{Rational, zeroʳ, ◌+ʳ◌, ◌*ʳ◌}
 use Rattle.heyvl_num.specs.Value.{Value, zeroᵛ, oneᵛ, ◌+ᵛ◌, ◌*ᵛ◌}
@@ -13,14 +14,21 @@ use Rattle.heylo_formula.specs.Choices.{Choices}
 use Rattle.heylo_formula.specs.Formula.{Form}
 use Rattle.heylo_formula.specs.Meaning.{value}
 use Rattle.heylo_formula.specs.State.{environment}
-use Rattle.heyvl_types.specs.Acts.{TypedProcedure}
+use Rattle.heyvl_types.specs.Acts.{TypedProcedure, procedure_at}
 use Rattle.quant_algebra.specs.ExactOperators.{and_then}
 use Rattle.quant_algebra.specs.Laws.{ExactValuesAreMeant}
-use Rattle.run_machine.specs.Configurations.{Item}
+use Rattle.run_machine.specs.Configurations.{Config, Item, Outcomes}
 use Rattle.run_machine.specs.Sums.{ended as ended_value, sum_of, turns_in, turns_sum, worth}
-use Rattle.run_unroller.specs.RunLists.{Run, RunList}
+use Rattle.run_unroller.specs.RunLists.{Run, RunList, after, begun}
 use Rattle.run_unroller.specs.Totals.{Totals, added, added_fractions, added_weights, all_turns, and_one, ended, if_ended, if_running, post_of, post_total, reward_of, reward_total, running, running_total, totals, turns_of, turns_total}
-use Rattle.run_unroller.specs.UnrollLaws.{outcome, outcomes}
+use Rattle.run_machine.specs.declared.configurations.Decide.{Decide}
+use Rattle.run_machine.specs.Runs.{runs}
+use Rattle.run_unroller.specs.declared.causes.Cause.{Cause}
+use Rattle.run_unroller.specs.Causes.{first_stop}
+use Rattle.run_unroller.specs.ScriptTrees.{scripted}
+use Rattle.run_unroller.specs.Unrolling.{Unrolling, stop_or, sums_or, unrolled}
+use Rattle.run_unroller.specs.UnrollLaws.{AreSums, AreTurns, TotalsAreSums, outcome, outcomes}
+use Rattle.run_unroller.proofs.Trees.{lists_are_runs}
 use Rattle.run_unroller.proofs.Adding.{added-none, fractions-none, weights-none}
 
 no_value : {A : Type 0} (v : A) → None ≡ Some v → ⊥
@@ -155,8 +163,34 @@ zero_first : (v : Value) → finite zeroʳ +ᵛ v ≡ v
 unfolding zeroᵛ
 zero_first v = zero-+ᵛ v
 
-pub turns_are : (number : ℕ) (rs : RunList) (t : Rational) → turns_total number rs ≡ Some t → turns_sum number (outcomes rs) ≡ finite t
+turns_are : (number : ℕ) (rs : RunList) (t : Rational) → turns_total number rs ≡ Some t → turns_sum number (outcomes rs) ≡ finite t
 turns_are number rs t e = same_turns number rs ∙ sym (fractions_are (turns_of number) zeroʳ rs t e ∙ zero_first (weighted_sum (λ r. finite (turns_of number r)) rs))
+
+-- One loop more.
+turns_more : (number : ℕ) (cs : Outcomes) (ts : List Rational) (t : Rational) → AreTurns number ts cs → turns_sum (number + length ts) cs ≡ finite t → AreTurns number (ts ++ (t ∷ [])) cs
+turns_more number cs [] t h e = (ap (λ n. turns_sum n cs) (let z : number ≡ number + 0 = omega arith in z) ∙ e, tt)
+turns_more number cs (u ∷ us) t h e = (h.0, turns_more (suc number) cs us t h.1 (ap (λ n. turns_sum n cs) (let z : suc number + length us ≡ number + suc (length us) = omega arith in z) ∙ e))
+
+record Counted (n : ℕ) (rs : RunList) (ts : List Rational) : Type 0 where
+  turns : AreTurns 1 ts (outcomes rs)
+  loops : length ts ≡ n
+
+counted : (n : ℕ) (rs : RunList) (ts : List Rational) → all_turns n rs ≡ Some ts → Counted n rs ts
+counted zero rs ts e =
+    let none : [] ≡ ts = cc in
+    subst (Counted zero rs) none (record { turns = tt; loops = refl })
+counted (suc n) rs ts e = at_others (λ us h. counted n rs us h) (all_turns n rs) refl e
+  where
+    at_one : (us : List Rational) (o : Option Rational) → Counted n rs us → turns_total (suc n) rs ≡ o → and_then o (λ t. Some (us ++ (t ∷ []))) ≡ Some ts → Counted (suc n) rs ts
+    at_one us None h k g = elim (no_value ts g) [ ]
+    at_one us (Some t) h k g =
+        let same : us ++ (t ∷ []) ≡ ts = cc in
+        let at : turns_sum (1 + length us) (outcomes rs) ≡ finite t = ap (λ m. turns_sum m (outcomes rs)) (let l = h.loops in let z : 1 + length us ≡ suc n = omega (arith, l) in z) ∙ turns_are (suc n) rs t k in
+        subst (Counted (suc n) rs) same (record { turns = turns_more 1 (outcomes rs) us t h.turns at; loops = let l = h.loops in length-append us (t ∷ []) ∙ (let z : length us + 1 ≡ suc n = omega (arith, l) in z) })
+
+    at_others : ((us : List Rational) → all_turns n rs ≡ Some us → Counted n rs us) → (o : Option (List Rational)) → all_turns n rs ≡ o → and_then o (λ us. and_then (turns_total (suc n) rs) (λ t. Some (us ++ (t ∷ [])))) ≡ Some ts → Counted (suc n) rs ts
+    at_others more None h g = elim (no_value ts g) [ ]
+    at_others more (Some us) h g = at_one us (turns_total (suc n) rs) (more us h) refl g
 
 -- ---- The totals
 
@@ -164,19 +198,20 @@ record Parts (p : TypedProcedure) (rs : RunList) (t : Totals) : Type 0 where
   post : post_total p.post rs ≡ Some t.post
   reward : reward_total rs ≡ Some t.reward
   running : running_total rs ≡ Some t.running
+  turns : all_turns p.loops rs ≡ Some t.turns
 
 parts : (p : TypedProcedure) (rs : RunList) (t : Totals) → totals p rs ≡ Some t → Parts p rs t
 parts p rs t e = at_post (post_total p.post rs) refl e
   where
-    at_turns : (a b : Value) (w : Rational) (o : Option (List Rational)) → post_total p.post rs ≡ Some a → reward_total rs ≡ Some b → running_total rs ≡ Some w → and_then o (λ turns. Some (record { post = a; reward = b; running = w; turns = turns })) ≡ Some t → Parts p rs t
-    at_turns a b w None h k l g = elim (no_value t g) [ ]
-    at_turns a b w (Some ts) h k l g =
+    at_turns : (a b : Value) (w : Rational) (o : Option (List Rational)) → post_total p.post rs ≡ Some a → reward_total rs ≡ Some b → running_total rs ≡ Some w → all_turns p.loops rs ≡ o → and_then o (λ turns. Some (record { post = a; reward = b; running = w; turns = turns })) ≡ Some t → Parts p rs t
+    at_turns a b w None h k l j g = elim (no_value t g) [ ]
+    at_turns a b w (Some ts) h k l j g =
         let same : record { post = a; reward = b; running = w; turns = ts } ≡ t = cc in
-        record { post = h ∙ ap (λ (u : Totals). Some u.post) same; reward = k ∙ ap (λ (u : Totals). Some u.reward) same; running = l ∙ ap (λ (u : Totals). Some u.running) same }
+        record { post = h ∙ ap (λ (u : Totals). Some u.post) same; reward = k ∙ ap (λ (u : Totals). Some u.reward) same; running = l ∙ ap (λ (u : Totals). Some u.running) same; turns = j ∙ ap (λ (u : Totals). Some u.turns) same }
 
     at_running : (a b : Value) (o : Option Rational) → post_total p.post rs ≡ Some a → reward_total rs ≡ Some b → running_total rs ≡ o → and_then o (λ running. and_then (all_turns p.loops rs) (λ turns. Some (record { post = a; reward = b; running = running; turns = turns }))) ≡ Some t → Parts p rs t
     at_running a b None h k l g = elim (no_value t g) [ ]
-    at_running a b (Some w) h k l g = at_turns a b w (all_turns p.loops rs) h k l g
+    at_running a b (Some w) h k l g = at_turns a b w (all_turns p.loops rs) h k l refl g
 
     at_reward : (a : Value) (o : Option Value) → post_total p.post rs ≡ Some a → reward_total rs ≡ o → and_then o (λ reward. and_then (running_total rs) (λ running. and_then (all_turns p.loops rs) (λ turns. Some (record { post = a; reward = reward; running = running; turns = turns })))) ≡ Some t → Parts p rs t
     at_reward a None h k g = elim (no_value t g) [ ]
@@ -186,10 +221,21 @@ parts p rs t e = at_post (post_total p.post rs) refl e
     at_post None h g = elim (no_value t g) [ ]
     at_post (Some a) h g = at_reward a (reward_total rs) h refl g
 
-pub totals_are : ExactValuesAreMeant → (p : TypedProcedure) (rs : RunList) (t : Totals) → totals p rs ≡ Some t → (sum_of true p.post (outcomes rs) ≡ t.reward +ᵛ t.post) × (sum_of false p.post (outcomes rs) ≡ t.post +ᵛ finite t.running)
+pub totals_are : ExactValuesAreMeant → (p : TypedProcedure) (rs : RunList) (t : Totals) → totals p rs ≡ Some t → AreSums p (outcomes rs) t
 totals_are m p rs t e =
     let q = parts p rs t e in
     let post : t.post ≡ weighted_sum (post_in p.post) (ended rs) = total_is (post_of p.post) (post_in p.post) (λ r. m p.post r.0.state) (ended rs) t.post q.post in
     let reward : t.reward ≡ weighted_sum reward_in rs = total_is reward_of reward_in (λ r. refl) rs t.reward q.reward in
     let weight : finite t.running ≡ weighted_sum one (running rs) = weights_are zeroʳ (running rs) t.running q.running ∙ zero_first (weighted_sum one (running rs)) in
-    (upper_sum p.post rs ∙ sym (ap₂ (λ a b. a +ᵛ b) reward post), weak_sum p.post rs ∙ sym (ap₂ (λ a b. a +ᵛ b) post weight))
+    let turns = counted p.loops rs t.turns q.turns in
+    record { upper = upper_sum p.post rs ∙ sym (ap₂ (λ a b. a +ᵛ b) reward post); weak = weak_sum p.post rs ∙ sym (ap₂ (λ a b. a +ᵛ b) post weight); turns = turns.turns; loops = turns.loops }
+
+-- Sums that are given are the totals of the list after the steps.
+sums_given : (o : Option (Cause × ℕ)) (q : Option Totals) (n : ℕ) (t : Totals) → stop_or o (sums_or n q) ≡ Unrolling.sums t → q ≡ Some t
+sums_given (Some stop) q n t e = absurd (cc)
+sums_given None (Some u) n t e = cc
+sums_given None None n t e = absurd (cc)
+
+pub unrolled_are : TotalsAreSums → (ps : List TypedProcedure) (p : ℕ) (script : List Decide) (n : ℕ) (c : Config) (t : Totals) → unrolled ps p script n (begun c) ≡ Unrolling.sums t → AreSums (procedure_at ps p) (runs ps n c (scripted ps script n 0 c)) t
+unrolled_are m ps p script n c t e =
+    subst (λ l. AreSums (procedure_at ps p) l t) (sym (lists_are_runs ps script n 0 c)) (m (procedure_at ps p) (after ps script n (begun c)) t (sums_given (first_stop ps script n (begun c)) (totals (procedure_at ps p) (after ps script n (begun c))) (n + 1) t e))

@@ -11,8 +11,14 @@ pub fn lists_are_runs()
 
 /// What is added up over a list of runs are the sums of the definition.
 pub fn totals_are_sums()
-    ensures values { law.TotalsAreSums }
-    ensures turns { law.TurnsAreSums }
+    ensures { law.TotalsAreSums }
 {
     exact_values_are_meant();
+}
+
+/// The sums that unrolling gives are those of the runs under the script's scheduler.
+pub fn unrolled_sums_are_meant()
+    ensures { law.UnrolledSumsAreMeant }
+{
+    totals_are_sums();
 }
