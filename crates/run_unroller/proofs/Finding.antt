@@ -31,7 +31,3 @@ same_some x y e = cc
 pub zero_value : (x : Rational) → x ≡ zeroʳ → zeroᵛ ≡ finite x
 unfolding zeroᵛ
 zero_value x e = ap finite (sym e)
-
-pub no_turns : ratio (pos 0) 1 ≡ zeroʳ
-unfolding zeroʳ
-no_turns = refl

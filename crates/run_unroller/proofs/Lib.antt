@@ -4,6 +4,7 @@ mod StepGrowth
 mod Stopping
 mod Adding
 mod Finding
+mod Whole
 mod Trees
 mod SumsOfRuns
 mod Examples

@@ -16,6 +16,7 @@ use crate::answers::Unrolled;
 use crate::causes::{Cause, Grown, Reached};
 use crate::copies::copy_config;
 use crate::lists::after_step;
+use crate::numbers::one;
 use crate::totals::sums;
 use heyvl_num::Frac;
 use heyvl_types::Typed;
@@ -42,10 +43,7 @@ pub fn unroll(
     let runs = only(alloc, start)?;
     match after(alloc, typed, script, runs, n)? {
         Reached::Stopped(cause, step) => Ok(stopped(cause, step)),
-        Reached::Runs(list) => {
-            let answer = added(alloc, typed, p, &list, n)?;
-            Ok(answer)
-        }
+        Reached::Runs(list) => added(alloc, typed, p, &list, n),
     }
 }
 
@@ -98,12 +96,6 @@ fn only(alloc: Global, start: &Config) -> Result<Vec<(Frac, Config)>, AllocError
     let mut runs = Vec::new(alloc);
     runs.push((one(), copy_config(alloc, start)?))?;
     Ok(runs)
-}
-
-fn one() -> Frac
-    ensures { result ≡ oneʳ }
-{
-    Frac::new(1, 1).unwrap()
 }
 
 /// The answer where this stops the step of this number.

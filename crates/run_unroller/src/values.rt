@@ -2,13 +2,13 @@
 
 ghost use Rattle.std.specs.Prelude.{◌≡◌, ◌∷◌, List, [], Some, option_map};
 ghost use Rattle.heyvl_num.specs.Extended.{value_of};
-ghost use Rattle.heyvl_num.specs.Rational.{zeroʳ};
 ghost use Rattle.heyvl_types.specs.Acts.{TypedProcedure, procedure_at};
 ghost use Rattle.heyvl_types.specs.PlainActs.{procedures_of};
 ghost use Rattle.quant_algebra.specs.ExactMeaning.{exact_value};
 ghost use Rattle.run_unroller.specs.RunLists.{run_of, runs_of};
 ghost use Rattle.run_unroller.specs.Totals.{added, and_one, ended, post_of, post_total, reward_total};
 
+use crate::numbers::zero;
 use heylo_formula::Val;
 use heyvl_num::{Ext, Frac};
 use heyvl_types::Typed;
@@ -67,10 +67,4 @@ fn and_value(sum: &Ext, weight: &Frac, value: &Ext) -> Option<Ext>
 {
     let product = Ext::Fin(*weight).mul(value)?;
     sum.add(&product)
-}
-
-fn zero() -> Frac
-    ensures { result ≡ zeroʳ }
-{
-    Frac::new(0, 1).unwrap()
 }

@@ -1,11 +1,11 @@
 //! The weight of the runs that haven't ended.
 
 ghost use Rattle.std.specs.Prelude.{◌≡◌, ◌∷◌, List, [], Some};
-ghost use Rattle.heyvl_num.specs.Rational.{zeroʳ};
 ghost use Rattle.heyvl_types.specs.Acts.{TypedProcedure};
 ghost use Rattle.run_unroller.specs.RunLists.{run_of, runs_of};
 ghost use Rattle.run_unroller.specs.Totals.{added_weights, running, running_total};
 
+use crate::numbers::zero;
 use heyvl_num::Frac;
 use run_machine::Config;
 
@@ -28,10 +28,4 @@ fn and_weight(sum: &Frac, run: &(Frac, Config)) -> Option<Frac>
         return Some(*sum);
     }
     sum.add(&run.0)
-}
-
-fn zero() -> Frac
-    ensures { result ≡ zeroʳ }
-{
-    Frac::new(0, 1).unwrap()
 }

@@ -6,11 +6,10 @@ use Rattle.run_machine.specs.Names.{turns_of as turns_in}
 use Rattle.run_unroller.specs.RunLists.{runs_of}
 use Rattle.run_unroller.specs.Totals.{added_fractions, turns_of}
 use Rattle.run_unroller.proofs.Adding.{fraction_next, fraction_one, fractions-none}
-use Rattle.run_unroller.proofs.Finding.{no_turns}
 use Rattle.run_unroller.proofs.turns.turns_sum.Goals as goal
 
 pub loop-run-init : goal.loop-run-init
-loop-run-init c = λ ps. ap (λ z. added_fractions (turns_of (suc c.args.index)) (Some z) (runs_of ps c.args.runs.now)) (sym (c.whole-sum.ensures ∙ no_turns))
+loop-run-init c = λ ps. ap (λ z. added_fractions (turns_of (suc c.args.index)) (Some z) (runs_of ps c.args.runs.now)) (sym c.zero-sum.ensures)
 
 pub returns-in_err-product : goal.returns-in_err-product
 returns-in_err-product c = λ ps.

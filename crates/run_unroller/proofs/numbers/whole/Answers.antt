@@ -6,7 +6,7 @@ use Rattle.std.proofs.lemmas.Bool.{lt-ltb}
 use Rattle.heyvl_num.specs.Rational.{ratio}
 use Rattle.heyvl_num.specs.Exact.{exact_quotient}
 use Rattle.run_unroller.proofs.Finding.{same_some, whole_quotient}
-use Rattle.run_unroller.proofs.turns.whole.Goals as goal
+use Rattle.run_unroller.proofs.numbers.whole.Goals as goal
 
 quotient_is : (n : ℕ) → n < 2 ^ 64 → exact_quotient (to_z w128 n) (pos 1) ≡ Some (ratio (pos n) 1)
 quotient_is n l =

@@ -2,7 +2,7 @@ use Rattle.std.proofs.Common.{◌≡◌, sym, ◌∙◌, refl, rules}
 use Rattle.std.specs.Prelude.{Some, pos}
 use Rattle.heyvl_num.specs.Rational.{Rational, oneʳ}
 use Rattle.heyvl_num.specs.Exact.{exact_quotient, quotient_fits, quotient}
-use Rattle.run_unroller.proofs.unrolling.one.Goals as goal
+use Rattle.run_unroller.proofs.numbers.one.Goals as goal
 
 the_quotient : exact_quotient (pos 1) (pos 1) ≡ Some oneʳ
 unfolding exact_quotient quotient_fits quotient oneʳ

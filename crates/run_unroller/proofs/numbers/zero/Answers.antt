@@ -2,7 +2,7 @@ use Rattle.std.proofs.Common.{◌≡◌, sym, ◌∙◌, refl, rules}
 use Rattle.std.specs.Prelude.{Some, pos}
 use Rattle.heyvl_num.specs.Rational.{Rational, zeroʳ}
 use Rattle.heyvl_num.specs.Exact.{exact_quotient, quotient_fits, quotient}
-use Rattle.run_unroller.proofs.weights.zero.Goals as goal
+use Rattle.run_unroller.proofs.numbers.zero.Goals as goal
 
 the_quotient : exact_quotient (pos 0) (pos 1) ≡ Some zeroʳ
 unfolding exact_quotient quotient_fits quotient zeroʳ
