@@ -1,0 +1,10 @@
+mod Joining
+mod Following
+mod StepGrowth
+mod Stopping
+mod Adding
+mod Finding
+mod Whole
+mod Trees
+mod SumsOfRuns
+mod Examples

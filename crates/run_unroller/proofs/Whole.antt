@@ -1,0 +1,21 @@
+-- The first list of runs, and the answer after its steps.
+use Rattle.std.proofs.Common.{◌≡◌, ℕ, ◌+◌, ap, sym, ◌∙◌, List, [], ◌∷◌}
+use Rattle.std.specs.Prelude.{None}
+use Rattle.heyvl_num.specs.Rational.{oneʳ}
+use Rattle.heyvl_types.specs.Acts.{TypedProcedure, procedure_at}
+use Rattle.run_machine.specs.declared.configurations.Decide.{Decide}
+use Rattle.run_machine.specs.Names.{Stored, config_of}
+use Rattle.run_unroller.specs.Causes.{first_stop}
+use Rattle.run_unroller.specs.RunLists.{RunList, after, begun}
+use Rattle.run_unroller.specs.Totals.{totals}
+use Rattle.run_unroller.specs.Unrolling.{Begins, Unrolling, stop_or, sums_or, unrolled}
+
+-- No decision was asked for yet.
+pub is_begun : (ps : List TypedProcedure) (p : ℕ) (c : Stored) (rs : RunList) → Begins ps p c → rs ≡ (oneʳ, (config_of ps c, c.made)) ∷ [] → rs ≡ begun (config_of ps c)
+is_begun ps p c rs b e = e ∙ ap (λ m. (oneʳ, (config_of ps c, m)) ∷ []) b.made
+
+-- Where no step is stopped, the answer is that of the adding.
+pub summed_answer : (ps : List TypedProcedure) (p : ℕ) (script : List Decide) (n : ℕ) (rs bs list : RunList) (u : Unrolling) → rs ≡ bs → first_stop ps script n rs ≡ None → list ≡ after ps script n rs → u ≡ sums_or (n + 1) (totals (procedure_at ps p) list) → u ≡ unrolled ps p script n bs
+summed_answer ps p script n rs bs list u b e l h =
+    h ∙ ap (λ xs. sums_or (n + 1) (totals (procedure_at ps p) xs)) (l ∙ ap (after ps script n) b)
+    ∙ ap (λ o. stop_or o (sums_or (n + 1) (totals (procedure_at ps p) (after ps script n bs)))) (sym e ∙ ap (first_stop ps script n) b)

@@ -1,0 +1,14 @@
+use Rattle.std.proofs.Common.{◌≡◌, None}
+use Rattle.heyvl_types.specs.PlainActs.{procedures_of}
+use Rattle.run_unroller.specs.Causes.{first_stop}
+use Rattle.run_unroller.specs.RunLists.{after, runs_of}
+use Rattle.run_unroller.specs.internal.Growth.{AllWithin}
+use Rattle.run_unroller.proofs.unrolling.after.Given as goal
+
+-- No step up to now was stopped, and the list is that after them.
+abbrev pub invariant-loop-made : goal.invariant-loop-made
+invariant-loop-made l = record {
+  free : first_stop (procedures_of l.typed) l.script l.made (runs_of (procedures_of l.typed) l.fn.start.items) ≡ None;
+  list : runs_of (procedures_of l.typed) l.runs.items ≡ after (procedures_of l.typed) l.script l.made (runs_of (procedures_of l.typed) l.fn.start.items);
+  within : AllWithin (procedures_of l.typed) l.made l.runs.items;
+}

@@ -1,0 +1,46 @@
+-- Laws of unrolled runs.
+use Rattle.std.specs.Prelude.{◌≡◌, ℕ, true, false, List, [], ◌∷◌, length, map, Some}
+use Prim.Native.Nat.{suc}
+use Rattle.heyvl_num.specs.Rational.{Rational}
+use Rattle.heyvl_num.specs.Value.{◌+ᵛ◌}
+use Rattle.heyvl_num.specs.Value.Value.{finite}
+use Rattle.heyvl_types.specs.Acts.{TypedProcedure, procedure_at}
+use Rattle.run_machine.specs.declared.configurations.Decide.{Decide}
+use Rattle.run_machine.specs.Configurations.{Config, Outcomes}
+use Rattle.run_machine.specs.Runs.{runs}
+use Rattle.run_machine.specs.Sums.{sum_of, turns_sum}
+use Rattle.run_unroller.specs.RunLists.{Run, RunList, after, begun}
+use Rattle.run_unroller.specs.ScriptTrees.{scripted}
+use Rattle.run_unroller.specs.Totals.{Totals, totals}
+use Rattle.run_unroller.specs.Unrolling.{Unrolling, unrolled}
+
+-- The outcomes of runs, without their counts of decisions.
+abbrev pub outcome : Rational × Run → Rational × Config
+outcome x = (x.0, x.1.0)
+
+abbrev pub outcomes : RunList → Outcomes
+outcomes rs = map outcome rs
+
+-- The list after n steps has the runs of n steps under the script's scheduler, in their order.
+abbrev pub ListsAreRuns : Type 0
+ListsAreRuns = (ps : List TypedProcedure) (script : List Decide) (n : ℕ) (c : Config) → runs ps n c (scripted ps script n 0 c) ≡ outcomes (after ps script n (begun c))
+
+-- These are the expected turns of the loops from a number on.
+abbrev pub AreTurns : ℕ → List Rational → Outcomes → Type 0
+AreTurns number [] cs = Unit {0}
+AreTurns number (t ∷ ts) cs = (turns_sum number cs ≡ finite t) × AreTurns (suc number) ts cs
+
+-- The totals are the sums of these runs of the procedure: the upper sum is the reward and the post, the weak sum the post and
+-- what is running, and each loop of the procedure has its expected turns.
+pub record AreSums (p : TypedProcedure) (cs : Outcomes) (t : Totals) : Type 0 where
+  pub upper : sum_of true p.post cs ≡ t.reward +ᵛ t.post
+  pub weak : sum_of false p.post cs ≡ t.post +ᵛ finite t.running
+  pub turns : AreTurns 1 t.turns cs
+  pub loops : length t.turns ≡ p.loops
+
+abbrev pub TotalsAreSums : Type 0
+TotalsAreSums = (p : TypedProcedure) (rs : RunList) (t : Totals) → totals p rs ≡ Some t → AreSums p (outcomes rs) t
+
+-- Where nothing stops them, the sums are those of the runs under the script's scheduler.
+abbrev pub UnrolledSumsAreMeant : Type 0
+UnrolledSumsAreMeant = (ps : List TypedProcedure) (p : ℕ) (script : List Decide) (n : ℕ) (c : Config) (t : Totals) → unrolled ps p script n (begun c) ≡ Unrolling.sums t → AreSums (procedure_at ps p) (runs ps n c (scripted ps script n 0 c)) t

@@ -1,0 +1,51 @@
+-- What unrolling gives: the sums of the list after the steps, or what stops it first. The adding counts as one step more.
+-- Source: this project's own.
+use Rattle.std.specs.Prelude.{◌≡◌, ◌+◌, ℕ, List, Option, Some, None, replicate}
+use Rattle.heyvl_num.specs.Extended as extended
+use Rattle.heylo_formula.specs.declared.values.Val.{Val}
+use Rattle.heyvl_types.specs.Acts.{TypedProcedure, procedure_at}
+use Rattle.run_machine.specs.declared.configurations.Decide.{Decide}
+use Rattle.run_machine.specs.ConfigConditions.{IsConfig}
+use Rattle.run_machine.specs.Configurations.{begin}
+use Rattle.run_machine.specs.Names.{Stored, config_of}
+use Rattle.run_unroller.specs.declared.answers.Sums.{Sums}
+use Rattle.run_unroller.specs.declared.answers.Unrolled.{Unrolled}
+use Rattle.run_unroller.specs.declared.answers.Unrolled.TheVariants as answer
+use Rattle.run_unroller.specs.declared.causes.Cause.{Cause}
+use Rattle.run_unroller.specs.declared.causes.Cause.TheVariants.{Full, Deep, Bits}
+use Rattle.run_unroller.specs.RunLists.{RunList, after}
+use Rattle.run_unroller.specs.Causes.{first_stop}
+use Rattle.run_unroller.specs.Totals.{Totals, totals}
+
+pub data Unrolling : Type 0 where
+  sums : Totals → Unrolling
+  stopped : Cause → ℕ → Unrolling
+
+abbrev pub sums_or : ℕ → Option Totals → Unrolling
+sums_or n (Some t) = Unrolling.sums t
+sums_or n None = Unrolling.stopped Bits n
+
+abbrev pub stop_or : Option (Cause × ℕ) → Unrolling → Unrolling
+stop_or (Some stop) u = Unrolling.stopped stop.0 stop.1
+stop_or None u = u
+
+abbrev pub unrolled : List TypedProcedure → ℕ → List Decide → ℕ → RunList → Unrolling
+unrolled ps p script n rs = stop_or (first_stop ps script n rs) (sums_or (n + 1) (totals (procedure_at ps p) (after ps script n rs)))
+
+-- What the program's answer stands for.
+abbrev pub totals_of : Sums → Totals
+totals_of s = record { post = extended.value_of s.post; reward = extended.value_of s.reward; running = s.running; turns = s.turns.items }
+
+abbrev pub unrolling_of : Unrolled → Unrolling
+unrolling_of (answer.Sums s) = Unrolling.sums (totals_of s)
+unrolling_of (answer.Full n) = Unrolling.stopped Full n
+unrolling_of (answer.Deep n) = Unrolling.stopped Deep n
+unrolling_of (answer.Bits n) = Unrolling.stopped Bits n
+
+-- A configuration that the procedure begins with, in some state.
+pub record Begins (ps : List TypedProcedure) (p : ℕ) (c : Stored) : Type 0 where
+  pub state : List Val
+  pub first : config_of ps c ≡ begin ps p state
+  pub turns : c.turns ≡ replicate (procedure_at ps p).loops 0
+  pub made : c.made ≡ 0
+  pub config : IsConfig ps c

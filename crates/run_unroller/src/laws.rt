@@ -1,0 +1,24 @@
+//! Laws of unrolled runs. Each function's contract is the law.
+
+ghost use Rattle.run_unroller.specs.UnrollLaws as law;
+
+use quant_algebra::exact_values_are_meant;
+
+/// The list after some steps has the runs of the definition, for the scheduler whose nodes carry the script's entries.
+pub fn lists_are_runs()
+    ensures { law.ListsAreRuns }
+{}
+
+/// What is added up over a list of runs are the sums of the definition.
+pub fn totals_are_sums()
+    ensures { law.TotalsAreSums }
+{
+    exact_values_are_meant();
+}
+
+/// The sums that unrolling gives are those of the runs under the script's scheduler.
+pub fn unrolled_sums_are_meant()
+    ensures { law.UnrolledSumsAreMeant }
+{
+    totals_are_sums();
+}

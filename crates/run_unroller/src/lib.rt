@@ -1,0 +1,18 @@
+//! Runs of HeyVL programs, unrolled for a number of steps, and their sums.
+#![tactic(auto)]
+
+mod answers;
+mod causes;
+mod copies;
+mod laws;
+mod lists;
+mod numbers;
+mod totals;
+mod turns;
+mod unrolling;
+mod values;
+mod weights;
+
+pub use answers::{Sums, Unrolled};
+pub use laws::{lists_are_runs, totals_are_sums, unrolled_sums_are_meant};
+pub use unrolling::unroll;

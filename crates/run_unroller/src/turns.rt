@@ -1,0 +1,54 @@
+//! The turns of loops, over all runs.
+
+ghost use Rattle.std.specs.Prelude.{◌≡◌, List, IfOk, option_map, pos};
+ghost use Prim.Native.Nat.{suc};
+ghost use Rattle.heyvl_num.specs.Rational.{ratio};
+ghost use Rattle.heyvl_types.specs.Acts.{TypedProcedure};
+ghost use Rattle.run_machine.specs.Names.{turns_of};
+ghost use Rattle.run_unroller.specs.RunLists.{runs_of};
+ghost use Rattle.run_unroller.specs.Totals.{all_turns as all_turns_of, turns_total};
+
+use crate::numbers::{whole, zero};
+use heyvl_num::Frac;
+use run_machine::Config;
+use std::alloc::{AllocError, Global};
+
+/// The turns of each of so many loops.
+pub(crate) fn all_turns(
+    alloc: Global,
+    loops: u32,
+    runs: &[(Frac, Config)],
+) -> Result<Option<Vec<Frac>>, AllocError>
+    ensures { IfOk result (λ turns. (ps : List TypedProcedure) → option_map (λ ts. ts.items) turns ≡ all_turns_of loops (runs_of ps runs.now)) }
+{
+    let mut turns = Vec::new(alloc);
+    for index in 0..loops {
+        match turns_sum(index, runs) {
+            None => return Ok(None),
+            Some(sum) => turns.push(sum)?,
+        }
+    }
+    Ok(Some(turns))
+}
+
+/// The turns of the loop that comes after so many others.
+fn turns_sum(index: u32, runs: &[(Frac, Config)]) -> Option<Frac>
+    ensures { (ps : List TypedProcedure) → result ≡ turns_total (suc index) (runs_of ps runs.now) }
+{
+    let mut sum = zero();
+    for run in runs {
+        let product = run.0.mul(&turns_at(&run.1, index))?;
+        sum = sum.add(&product)?;
+    }
+    Some(sum)
+}
+
+/// The turns of this loop in one run; none where the loop isn't there.
+fn turns_at(config: &Config, index: u32) -> Frac
+    ensures { result ≡ ratio (pos (turns_of config.now.turns.items (suc index))) 1 }
+{
+    match config.turns.get(index as usize) {
+        None => whole(0),
+        Some(turns) => whole(*turns),
+    }
+}

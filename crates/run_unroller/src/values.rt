@@ -1,0 +1,70 @@
+//! Sums of values of runs, each times its weight.
+
+ghost use Rattle.std.specs.Prelude.{◌≡◌, ◌∷◌, List, [], Some, option_map};
+ghost use Rattle.heyvl_num.specs.Extended.{value_of};
+ghost use Rattle.heyvl_types.specs.Acts.{TypedProcedure, procedure_at};
+ghost use Rattle.heyvl_types.specs.PlainActs.{procedures_of};
+ghost use Rattle.quant_algebra.specs.ExactMeaning.{exact_value};
+ghost use Rattle.run_unroller.specs.RunLists.{run_of, runs_of};
+ghost use Rattle.run_unroller.specs.Totals.{added, and_one, ended, post_of, post_total, reward_total};
+
+use crate::numbers::zero;
+use heylo_formula::Val;
+use heyvl_num::{Ext, Frac};
+use heyvl_types::Typed;
+use quant_algebra::{At, value_at};
+use run_machine::Config;
+
+/// The post of the runs that have ended.
+pub(crate) fn post_sum(typed: &Typed, p: u32, runs: &[(Frac, Config)]) -> Option<Ext>
+    ensures { option_map value_of result ≡ post_total (procedure_at (procedures_of typed.now) p).post (runs_of (procedures_of typed.now) runs.now) }
+{
+    let mut sum = Ext::Fin(zero());
+    for run in runs {
+        sum = and_post(typed, p, &sum, run)?;
+    }
+    Some(sum)
+}
+
+/// The sum and the post of one run more, times its weight, where the run has ended.
+fn and_post(typed: &Typed, p: u32, sum: &Ext, run: &(Frac, Config)) -> Option<Ext>
+    ensures { option_map value_of result ≡ added (post_of (procedure_at (procedures_of typed.now) p).post) (Some (value_of sum.now)) (ended (run_of (procedures_of typed.now) run.now ∷ [])) }
+{
+    if !run.1.items.is_empty() {
+        return Some(*sum);
+    }
+    let post = post_at(typed, p, &run.1.state)?;
+    and_value(sum, &run.0, &post)
+}
+
+/// The procedure's post in a state; 0 where it isn't there.
+fn post_at(typed: &Typed, p: u32, state: &[Val]) -> Option<Ext>
+    ensures { option_map value_of result ≡ exact_value (procedure_at (procedures_of typed.now) p).post state.now }
+{
+    match typed.procs.get(p as usize) {
+        None => Some(Ext::Fin(zero())),
+        Some(procedure) => match value_at(&procedure.post, state) {
+            At::Value(value) => Some(value),
+            At::Bits => None,
+        },
+    }
+}
+
+/// The rewards of all runs.
+pub(crate) fn reward_sum(runs: &[(Frac, Config)]) -> Option<Ext>
+    ensures { (ps : List TypedProcedure) → option_map value_of result ≡ reward_total (runs_of ps runs.now) }
+{
+    let mut sum = Ext::Fin(zero());
+    for run in runs {
+        sum = and_value(&sum, &run.0, &run.1.reward)?;
+    }
+    Some(sum)
+}
+
+/// The sum and the value of one run more, times its weight.
+fn and_value(sum: &Ext, weight: &Frac, value: &Ext) -> Option<Ext>
+    ensures { option_map value_of result ≡ and_one (Some (value_of sum.now)) weight.now (Some (value_of value.now)) }
+{
+    let product = Ext::Fin(*weight).mul(value)?;
+    sum.add(&product)
+}
