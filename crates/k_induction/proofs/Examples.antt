@@ -1,6 +1,5 @@
 -- The copies of small loops, written out by hand.
 use Rattle.std.proofs.Common.{◌≡◌, refl, true, false, [], ◌∷◌, pos}
-use Rattle.std.specs.Prelude.{List}
 use Rattle.heyvl_num.specs.Rational.{Rational, ratio}
 use Rattle.heyvl_num.specs.Value.{oneᵛ}
 use Rattle.heyvl_num.specs.Value.Value.{finite}
