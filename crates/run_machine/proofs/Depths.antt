@@ -6,11 +6,8 @@ use Rattle.heyvl_num.specs.Rational.{Rational}
 use Rattle.run_machine.specs.declared.configurations.Config as C
 use Rattle.run_machine.specs.declared.configurations.Frame as F
 use Rattle.run_machine.specs.Names.{Numbered, Lists, lists_of, callers, stored, config_of, Stored}
-use Rattle.run_machine.specs.BoundedStep.{frame_values, values_in, any_deep, outcomes_of}
-
-abbrev pub list_values : List Lists → ℕ
-list_values [] = 0
-list_values (f ∷ fs) = length f.1 + list_values fs
+use Rattle.run_machine.specs.BoundedStep.{frame_values, values_in}
+use Rattle.run_machine.specs.internal.Replies.{any_large, list_values, stored_outcomes, stored_values}
 
 callers_values : (ps : List TypedProcedure) (above : List Numbered) (fs : List Lists) → frame_values (callers ps above fs) ≡ list_values fs
 callers_values ps above [] = refl
@@ -24,7 +21,7 @@ reverse_values : (fs : List Lists) → list_values (reverse fs) ≡ list_values 
 reverse_values [] = refl
 reverse_values (f ∷ fs) = ap list_values (reverse-append (f ∷ []) fs) ∙ (append_values (reverse fs) (f ∷ []) ∙ (let h = reverse_values fs in omega (arith, h)))
 
-pub all_values : (ps : List TypedProcedure) (c : Stored) → values_in (config_of ps c) ≡ length c.state + list_values c.frames
+pub all_values : (ps : List TypedProcedure) (c : Stored) → values_in (config_of ps c) ≡ stored_values c
 all_values ps c = ap (λ n. length c.state + n) (callers_values ps c.items (reverse c.frames) ∙ reverse_values c.frames)
 
 -- The values of the frames from the k-th on.
@@ -44,11 +41,11 @@ pub at_most : (v : ℕ) → v ≤ 512 → false ≡ nat_lt 512 v
 at_most v h = grind arith
 
 -- Whether one of the outcomes from the k-th on has too many values.
-pub deep_next : (ps : List TypedProcedure) (xs : List (Rational × C.Config)) (k : ℕ) (x : Rational × C.Config) → k < length xs → x ≡ get_or xs k x → any_deep (outcomes_of ps (drop k xs)) ≡ (nat_lt 512 (values_in (config_of ps (stored x.1))) || any_deep (outcomes_of ps (drop (k + 1) xs)))
-deep_next ps xs k x lt is = at_drop_more (λ l. any_deep (outcomes_of ps l)) xs k x lt ∙ ap (λ y. nat_lt 512 (values_in (config_of ps (stored y.1))) || any_deep (outcomes_of ps (drop (k + 1) xs))) (sym is)
+pub large_next : (xs : List (Rational × C.Config)) (k : ℕ) (x : Rational × C.Config) → k < length xs → x ≡ get_or xs k x → any_large (stored_outcomes (drop k xs)) ≡ (nat_lt 512 (stored_values (stored x.1)) || any_large (stored_outcomes (drop (k + 1) xs)))
+large_next xs k x lt is = at_drop_more (λ l. any_large (stored_outcomes l)) xs k x lt ∙ ap (λ y. nat_lt 512 (stored_values (stored y.1)) || any_large (stored_outcomes (drop (k + 1) xs))) (sym is)
 
-pub deep_none : (ps : List TypedProcedure) (xs : List (Rational × C.Config)) (k : ℕ) → length xs ≤ k → any_deep (outcomes_of ps (drop k xs)) ≡ false
-deep_none ps xs k over = ap (λ l. any_deep (outcomes_of ps l)) (drop_all k xs over)
+pub large_none : (xs : List (Rational × C.Config)) (k : ℕ) → length xs ≤ k → any_large (stored_outcomes (drop k xs)) ≡ false
+large_none xs k over = ap (λ l. any_large (stored_outcomes l)) (drop_all k xs over)
 
 pub either_true : (a b : Bool) → true ≡ a → (a || b) ≡ true
 either_true true b h = refl

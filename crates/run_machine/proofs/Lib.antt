@@ -1,8 +1,20 @@
 mod BlockSizes
 mod Depths
 mod Examples
+mod FirstConfigs
 mod Moves
+mod Branches
+mod Calls
+mod Draws
+mod Parts
 mod Places
+mod Positions
+mod Replies
+mod Running
+mod Steps
+mod VariableTypes
+mod RuledActs
+mod TypedStates
 mod Procedures
 mod RunSteps
 pub mod exported

@@ -6,7 +6,7 @@ use Prim.Native.Nat.{zero, suc}
 use Rattle.heyvl_types.specs.Acts.{Act, Acts, Arms, TypedProcedure, acts_in}
 use Rattle.heyvl_types.specs.Places.{nth, in_order, inside, inside_arms, acts_of_procedure, act_named}
 use Rattle.run_machine.specs.Configurations.{Item, push}
-use Rattle.run_machine.specs.Continuing.{Stands, text}
+use Rattle.run_machine.specs.internal.Places.{Stands, text}
 use Rattle.run_machine.specs.Names.{Numbered, items_of, act_item, numbered}
 
 nth_first : (xs ys : List Act) (n : ℕ) (a : Act) → nth xs n ≡ Some a → nth (xs ++ ys) n ≡ Some a

@@ -13,7 +13,7 @@ use Rattle.heyvl_num.specs.Value.Value.{finite}
 use Rattle.heylo_formula.specs.declared.values.Val.{Val}
 use Rattle.run_machine.specs.Configurations.{push, begin}
 use Rattle.run_machine.specs.Names.{Numbered, Lists, items_of, callers, turns_of, config_of, numbered}
-use Rattle.run_machine.specs.Continuing.{Stands}
+use Rattle.run_machine.specs.internal.Places.{Stands, text}
 use Rattle.run_machine.proofs.Places.{named_push}
 
 pub procedure_there : (xs : List TProc) (p : ℕ) (x : TProc) → slice_get xs p ≡ Some x → procedure_at (map procedure_of xs) p ≡ procedure_of x
@@ -32,23 +32,29 @@ procedure_missing (y ∷ xs) (suc p) h = procedure_missing xs p h
 at_start : (acts : List Act) → Stands acts 0 acts
 at_start acts k a e = ap (λ m. nth acts m) (zero-add k) ∙ e
 
+pub found : (qs : List TypedProcedure) (n : ℕ) (q : TypedProcedure) → nth qs n ≡ Some q → procedure_at qs n ≡ q
+found [] n q h = elim (none-some q h) [ ]
+found (r ∷ qs) zero q h = cc
+found (r ∷ qs) (suc n) q h = found qs n q h
+
+missing : (qs : List TypedProcedure) (n : ℕ) → nth qs n ≡ None → procedure_at qs n ≡ nobody
+missing [] n h = refl
+missing (r ∷ qs) zero h = cc
+missing (r ∷ qs) (suc n) h = missing qs n h
+
+pub text_is : (ps : List TypedProcedure) (p : ℕ) → text ps p ≡ in_order (acts_in (procedure_at ps p).body)
+text_is ps p = go (nth ps p) refl
+  where
+    go : (o : Option TypedProcedure) → nth ps p ≡ o → text ps p ≡ in_order (acts_in (procedure_at ps p).body)
+    go (Some q) e = ap acts_of_procedure e ∙ ap (λ r. in_order (acts_in r.body)) (sym (found ps p q e))
+    go None e = ap acts_of_procedure e ∙ ap (λ r. in_order (acts_in r.body)) (sym (missing ps p e))
+
+pub text_stands : (ps : List TypedProcedure) (p : ℕ) → Stands (text ps p) 0 (in_order (acts_in (procedure_at ps p).body))
+text_stands ps p = subst (λ l. Stands l 0 (in_order (acts_in (procedure_at ps p).body))) (sym (text_is ps p)) (at_start (in_order (acts_in (procedure_at ps p).body)))
+
 -- The items of a procedure's body, from its first place on, name its acts.
 pub body_named : (ps : List TypedProcedure) (p : ℕ) (rest : List Numbered) → items_of ps (numbered p 0 (acts_in (procedure_at ps p).body) ++ rest) ≡ push (acts_in (procedure_at ps p).body) (items_of ps rest)
-body_named ps p rest = go (nth ps p) refl
-  where
-    found : (qs : List TypedProcedure) (n : ℕ) (q : TypedProcedure) → nth qs n ≡ Some q → procedure_at qs n ≡ q
-    found [] n q h = elim (none-some q h) [ ]
-    found (r ∷ qs) zero q h = cc
-    found (r ∷ qs) (suc n) q h = found qs n q h
-
-    missing : (qs : List TypedProcedure) (n : ℕ) → nth qs n ≡ None → procedure_at qs n ≡ nobody
-    missing [] n h = refl
-    missing (r ∷ qs) zero h = cc
-    missing (r ∷ qs) (suc n) h = missing qs n h
-
-    go : (o : Option TypedProcedure) → nth ps p ≡ o → items_of ps (numbered p 0 (acts_in (procedure_at ps p).body) ++ rest) ≡ push (acts_in (procedure_at ps p).body) (items_of ps rest)
-    go (Some q) e = named_push ps p 0 (acts_in (procedure_at ps p).body) rest (subst (λ l. Stands l 0 (in_order (acts_in (procedure_at ps p).body))) (sym (ap acts_of_procedure e ∙ ap (λ r. in_order (acts_in r.body)) (sym (found ps p q e)))) (at_start (in_order (acts_in (procedure_at ps p).body))))
-    go None e = subst (λ r. items_of ps (numbered p 0 (acts_in r.body) ++ rest) ≡ push (acts_in r.body) (items_of ps rest)) (sym (missing ps p e)) refl
+body_named ps p rest = named_push ps p 0 (acts_in (procedure_at ps p).body) rest (text_stands ps p)
 
 pub found_at : (xs : List TProc) (p : ℕ) (x : TProc) → p < length xs → x ≡ get_or xs p x → procedure_at (map procedure_of xs) p ≡ procedure_of x
 found_at [] p x lt is = absurd (omega (arith, lt))

@@ -7,4 +7,6 @@ pub mod Bound
 pub mod RunLaws
 pub mod Names
 pub mod BoundedStep
-pub mod Continuing
+pub mod ConfigConditions
+pub mod StepAnswers
+pub mod internal

@@ -1,37 +1,101 @@
 //! The steps that put the acts of a block in front.
 
-ghost use Rattle.std.specs.Prelude.{◌≡◌, ◌<◌, ◌+◌, ◌^◌, List, IfOk, drop, length, true};
-ghost use Rattle.heyvl_types.specs.Acts.{TypedProcedure};
-ghost use Rattle.heyvl_types.specs.Places.{in_order};
-ghost use Rattle.heyvl_types.specs.PlainActs.{acts_of};
-ghost use Rattle.run_machine.specs.BoundedStep.{answer_of, bounded};
-ghost use Rattle.run_machine.specs.Configurations.{push};
-ghost use Rattle.run_machine.specs.Continuing.{Continues, Stands, text};
-ghost use Rattle.run_machine.specs.Names.{stored, config_of, items_of};
-ghost use Rattle.run_machine.specs.Step.{sure, moved};
+ghost use Rattle.std.specs.Prelude.{◌≡◌, ◌<◌, ◌+◌, ◌^◌, IfOk, length, true, if◌then◌else◌};
+ghost use Rattle.heylo_formula.specs.State.{environment};
+ghost use Rattle.heyvl_types.specs.Matching.{taken};
+ghost use Rattle.heyvl_types.specs.Places.{in_order, inside_arms};
+ghost use Rattle.heyvl_types.specs.PlainActs.{acts_of, arms_of};
+ghost use Rattle.run_machine.specs.BoundedStep.{guards_fit};
+ghost use Rattle.run_machine.specs.Names.{stored, decision_of};
+ghost use Rattle.run_machine.specs.Step.{side_of};
+ghost use Rattle.run_machine.specs.internal.Replies.{reply_of, replied, surely};
+ghost use Rattle.run_machine.specs.internal.StoredSteps.{asked, opened, taken_place};
 
-use crate::blocks::push_block;
-use crate::configurations::{Config, Stepped};
+use crate::blocks::{push_block, size};
+use crate::configurations::{Config, Decide, Stepped};
 use crate::copies::{rest_of, with_items};
 use crate::limits::for_sure;
+use heylo_formula::Cond;
 use heyvl_types::Act;
+use quant_algebra::{Held, holds_at};
 use std::alloc::{AllocError, Global};
 
-/// The acts of a block, whose first stands at this place, come before the rest.
-pub(crate) fn block_step(
+/// The configuration in which the acts of a block, whose first stands at this place, come before the rest.
+fn with_block(
     alloc: Global,
     config: &Config,
     p: u32,
     place: u32,
     acts: &[Act],
-) -> Result<Stepped, AllocError>
-    requires continues { Continues (stored config.now) }
-    requires few { place + length (in_order (acts_of acts.now)) < 2 ^ 31 }
-    ensures { IfOk result (λ stepped. (ps : List TypedProcedure) → Stands (text ps p) place (in_order (acts_of acts.now)) → answer_of ps stepped ≡ bounded true (sure (moved (config_of ps (stored config.now)) (push (acts_of acts.now) (items_of ps (drop 1 config.now.items.items))) config.now.state.items))) }
+) -> Result<Config, AllocError>
+    requires { place + length (in_order (acts_of acts.now)) < 2 ^ 31 }
+    ensures { IfOk result (λ next. stored next ≡ opened (stored config.now) p place (acts_of acts.now)) }
 {
     let mut items = Vec::new(alloc);
     push_block(&mut items, p, place, acts)?;
     items.extend_from_slice(rest_of(config))?;
-    let next = with_items(alloc, config, items)?;
+    with_items(alloc, config, items)
+}
+
+/// The step of an if whose first block stands at this place: the block of the first arm whose guard holds, or the last
+/// block, comes before the rest.
+pub(crate) fn if_step(
+    alloc: Global,
+    config: &Config,
+    p: u32,
+    place: u32,
+    arms: &[(Cond, Vec<Act>)],
+    other: &[Act],
+) -> Result<Stepped, AllocError>
+    requires { place + length (inside_arms (arms_of arms.now)) + length (in_order (acts_of other.now)) < 2 ^ 31 }
+    ensures { IfOk result (λ stepped. reply_of stepped ≡ replied (guards_fit (arms_of arms.now) config.now.state.items) (surely (opened (stored config.now) p (taken_place place (arms_of arms.now) (environment config.now.state.items)) (taken (arms_of arms.now) (acts_of other.now) (environment config.now.state.items))))) }
+{
+    let mut at = place;
+    for arm in arms {
+        match holds_at(&arm.0, &config.state) {
+            Held::Bits => return Ok(Stepped::Bits),
+            Held::Yes => {
+                let next = with_block(alloc, config, p, at, &arm.1)?;
+                return for_sure(alloc, next);
+            }
+            Held::No => at += size(&arm.1),
+        }
+    }
+    let next = with_block(alloc, config, p, at, other)?;
     for_sure(alloc, next)
+}
+
+/// The step of a pick whose left block stands at this place.
+pub(crate) fn pick_step(
+    alloc: Global,
+    config: &Config,
+    p: u32,
+    place: u32,
+    left: &[Act],
+    right: &[Act],
+    decision: Option<&Decide>,
+) -> Result<Stepped, AllocError>
+    requires few { config.now.made < 2 ^ 31 }
+    requires small { place + length (in_order (acts_of left.now)) + length (in_order (acts_of right.now)) < 2 ^ 31 }
+    ensures { IfOk result (λ stepped. reply_of stepped ≡ replied true (surely (asked (if side_of (decision_of decision.entry) then opened (stored config.now) p place (acts_of left.now) else opened (stored config.now) p (place + length (in_order (acts_of left.now))) (acts_of right.now))))) }
+{
+    let mut next = if goes_left(decision) {
+        with_block(alloc, config, p, place, left)?
+    } else {
+        with_block(alloc, config, p, place + size(left), right)?
+    };
+    next.made += 1;
+    for_sure(alloc, next)
+}
+
+/// Whether the left side is decided; it is where none is.
+fn goes_left(decision: Option<&Decide>) -> bool
+    ensures { result ≡ side_of (decision_of decision.entry) }
+{
+    match decision {
+        None => true,
+        Some(Decide::Left) => true,
+        Some(Decide::Right) => false,
+        Some(Decide::Give(_)) => true,
+    }
 }

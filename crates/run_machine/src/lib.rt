@@ -3,15 +3,19 @@
 
 mod block_steps;
 mod blocks;
+mod call_steps;
 mod configurations;
 mod copies;
 mod evaluation;
 mod laws;
 mod limits;
+mod loop_steps;
 mod plain_steps;
 mod starting;
+mod stepping;
 mod taking;
 
 pub use configurations::{Config, Decide, Frame, Item, Stepped};
 pub use laws::{decisions_decide_steps, runs_continue, steps_weigh_one};
 pub use starting::begin;
+pub use stepping::step;

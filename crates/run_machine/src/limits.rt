@@ -1,11 +1,9 @@
 //! The bound on the values of a configuration.
 
-ghost use Rattle.std.specs.Prelude.{◌≡◌, ◌+◌, IfOk, List, map, nat_lt, length};
-ghost use Rattle.heyvl_types.specs.Acts.{TypedProcedure};
+ghost use Rattle.std.specs.Prelude.{◌≡◌, IfOk, nat_lt, true};
 ghost use Rattle.heyvl_num.specs.Rational.{oneʳ};
-ghost use Rattle.run_machine.specs.Step.{sure};
-ghost use Rattle.run_machine.specs.Names.{stored, config_of};
-ghost use Rattle.run_machine.specs.BoundedStep.{answer_of, limited as limited_of, outcomes_of, values_in};
+ghost use Rattle.run_machine.specs.Names.{stored};
+ghost use Rattle.run_machine.specs.internal.Replies.{reply_of, replied, stored_outcomes, stored_values, surely};
 
 use crate::configurations::{Config, Stepped};
 use heyvl_num::Frac;
@@ -16,7 +14,7 @@ const MOST_VALUES: usize = 512;
 
 /// Whether all frames and the state have more values than they may.
 fn is_deep(config: &Config) -> bool
-    ensures { (ps : List TypedProcedure) → result ≡ nat_lt 512 (values_in (config_of ps (stored config.now))) }
+    ensures { result ≡ nat_lt 512 (stored_values (stored config.now)) }
 {
     if config.state.len() > MOST_VALUES {
         return true;
@@ -33,7 +31,7 @@ fn is_deep(config: &Config) -> bool
 
 /// These outcomes, or Deep where one of them has too many values.
 pub(crate) fn limited(outcomes: Vec<(Frac, Config)>) -> Stepped
-    ensures { (ps : List TypedProcedure) → answer_of ps result ≡ limited_of (outcomes_of ps outcomes.items) }
+    ensures { reply_of result ≡ replied true (stored_outcomes outcomes.items) }
 {
     for outcome in &outcomes {
         if is_deep(&outcome.1) {
@@ -45,7 +43,7 @@ pub(crate) fn limited(outcomes: Vec<(Frac, Config)>) -> Stepped
 
 /// The one outcome, for sure.
 pub(crate) fn for_sure(alloc: Global, next: Config) -> Result<Stepped, AllocError>
-    ensures { IfOk result (λ stepped. (ps : List TypedProcedure) → answer_of ps stepped ≡ limited_of (sure (config_of ps (stored next)))) }
+    ensures { IfOk result (λ stepped. reply_of stepped ≡ replied true (surely (stored next))) }
 {
     let mut outcomes = Vec::new(alloc);
     outcomes.push((one(), next))?;

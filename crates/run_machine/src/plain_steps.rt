@@ -1,20 +1,19 @@
 //! The steps of the acts that hold no others.
 
-ghost use Rattle.std.specs.Prelude.{◌≡◌, List, IfOk, is_some, set, drop, true};
+ghost use Rattle.std.specs.Prelude.{◌≡◌, IfOk, is_some, true};
 ghost use Rattle.heylo_formula.specs.PlainTrees.{form_of, term_of};
 ghost use Rattle.heylo_formula.specs.Choices.{Choices};
 ghost use Rattle.heylo_formula.specs.Meaning.{term_value, value};
-ghost use Rattle.heylo_formula.specs.State.{environment, fit};
+ghost use Rattle.heylo_formula.specs.State.{environment};
 ghost use Rattle.heyvl_num.specs.ExactValues.{exact_sumᵛ};
 ghost use Rattle.heyvl_num.specs.Extended.{value_of as number_of};
-ghost use Rattle.heyvl_types.specs.Acts.{TypedProcedure};
 ghost use Rattle.heyvl_types.specs.PlainActs.{parts_of};
 ghost use Rattle.quant_algebra.specs.ExactMeaning.{exact_value};
 ghost use Rattle.quant_algebra.specs.ExactOperators.{and_then};
-ghost use Rattle.run_machine.specs.BoundedStep.{answer_of, bounded, exact_term, parts_fit};
-ghost use Rattle.run_machine.specs.Continuing.{Continues};
-ghost use Rattle.run_machine.specs.Names.{stored, config_of, items_of};
-ghost use Rattle.run_machine.specs.Step.{sure, moved, rewarded, branches};
+ghost use Rattle.run_machine.specs.BoundedStep.{exact_term, parts_fit};
+ghost use Rattle.run_machine.specs.Names.{stored};
+ghost use Rattle.run_machine.specs.internal.Replies.{reply_of, replied, surely};
+ghost use Rattle.run_machine.specs.internal.StoredSteps.{assigned, behind, collected, going, stored_branches};
 
 use crate::configurations::{Config, Stepped};
 use crate::copies::without_first;
@@ -25,6 +24,14 @@ use heyvl_num::Frac;
 use quant_algebra::{At, value_at};
 use std::alloc::{AllocError, Global};
 
+/// The step that passes over the first item.
+pub(crate) fn pass_step(alloc: Global, config: &Config) -> Result<Stepped, AllocError>
+    ensures { IfOk result (λ stepped. reply_of stepped ≡ replied true (surely (going (stored config.now) (behind (stored config.now)) config.now.state.items))) }
+{
+    let next = without_first(alloc, config)?;
+    for_sure(alloc, next)
+}
+
 /// The step of an assignment.
 pub(crate) fn set_step(
     alloc: Global,
@@ -32,33 +39,25 @@ pub(crate) fn set_step(
     x: u32,
     term: &Term,
 ) -> Result<Stepped, AllocError>
-    requires { Continues (stored config.now) }
-    ensures { IfOk result (λ stepped. (ps : List TypedProcedure) → answer_of ps stepped ≡ bounded (is_some (exact_term (term_of term.now) config.now.state.items)) (sure (moved (config_of ps (stored config.now)) (items_of ps (drop 1 config.now.items.items)) (set config.now.state.items x (term_value (term_of term.now) (environment config.now.state.items)))))) }
+    ensures { IfOk result (λ stepped. reply_of stepped ≡ replied (is_some (exact_term (term_of term.now) config.now.state.items)) (surely (assigned (stored config.now) x (term_value (term_of term.now) (environment config.now.state.items))))) }
 {
     match term_at(term, &config.state) {
         None => Ok(Stepped::Bits),
-        Some(value) => value_step(alloc, config, x, value),
+        Some(value) => {
+            let next = with_value(alloc, config, x, value)?;
+            for_sure(alloc, next)
+        }
     }
 }
 
-/// The variable takes the value, and the first item is done.
-pub(crate) fn value_step(
+/// The configuration in which the variable has the value and the first item is done.
+pub(crate) fn with_value(
     alloc: Global,
     config: &Config,
     x: u32,
     value: Val,
-) -> Result<Stepped, AllocError>
-    requires { Continues (stored config.now) }
-    ensures { IfOk result (λ stepped. (ps : List TypedProcedure) → answer_of ps stepped ≡ bounded true (sure (moved (config_of ps (stored config.now)) (items_of ps (drop 1 config.now.items.items)) (set config.now.state.items x value)))) }
-{
-    let next = with_value(alloc, config, x, value)?;
-    for_sure(alloc, next)
-}
-
-/// The configuration in which the variable has the value and the first item is done.
-fn with_value(alloc: Global, config: &Config, x: u32, value: Val) -> Result<Config, AllocError>
-    requires { Continues (stored config.now) }
-    ensures { IfOk result (λ next. (ps : List TypedProcedure) → config_of ps (stored next) ≡ moved (config_of ps (stored config.now)) (items_of ps (drop 1 config.now.items.items)) (set config.now.state.items x value)) }
+) -> Result<Config, AllocError>
+    ensures { IfOk result (λ next. stored next ≡ assigned (stored config.now) x value) }
 {
     let mut next = without_first(alloc, config)?;
     assign(&mut next.state, x, value);
@@ -72,8 +71,7 @@ pub(crate) fn draw_step(
     x: u32,
     parts: &[(Frac, Term)],
 ) -> Result<Stepped, AllocError>
-    requires { Continues (stored config.now) }
-    ensures { IfOk result (λ stepped. (ps : List TypedProcedure) → answer_of ps stepped ≡ bounded (parts_fit (parts_of parts.now) config.now.state.items) (branches (config_of ps (stored config.now)) (items_of ps (drop 1 config.now.items.items)) x (parts_of parts.now))) }
+    ensures { IfOk result (λ stepped. reply_of stepped ≡ replied (parts_fit (parts_of parts.now) config.now.state.items) (stored_branches (stored config.now) x (parts_of parts.now))) }
 {
     let mut outcomes = Vec::new(alloc);
     for part in parts {
@@ -94,8 +92,7 @@ pub(crate) fn reward_step(
     config: &Config,
     form: &Form,
 ) -> Result<Stepped, AllocError>
-    requires { Continues (stored config.now) }
-    ensures { IfOk result (λ stepped. (ps : List TypedProcedure) → answer_of ps stepped ≡ bounded (is_some (and_then (exact_value (form_of form.now) config.now.state.items) (λ v. exact_sumᵛ (number_of config.now.reward) v))) (sure (rewarded (config_of ps (stored config.now)) (items_of ps (drop 1 config.now.items.items)) (value (form_of form.now) (environment config.now.state.items) Choices.stop)))) }
+    ensures { IfOk result (λ stepped. reply_of stepped ≡ replied (is_some (and_then (exact_value (form_of form.now) config.now.state.items) (λ v. exact_sumᵛ (number_of config.now.reward) v))) (surely (collected (stored config.now) (value (form_of form.now) (environment config.now.state.items) Choices.stop)))) }
 {
     let collected = match value_at(form, &config.state) {
         At::Bits => return Ok(Stepped::Bits),

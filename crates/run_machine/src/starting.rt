@@ -1,9 +1,11 @@
 //! The first configuration of a run.
 
-ghost use Rattle.std.specs.Prelude.{◌≡◌, ◌<◌, ◌++◌, ◌^◌, ℕ, IfOk, OnOk, length, replicate};
+ghost use Rattle.std.specs.Prelude.{◌≡◌, ◌++◌, IfOk, OnOk, replicate};
 ghost use Rattle.heyvl_num.specs.Rational.{zeroʳ};
 ghost use Rattle.heyvl_types.specs.Acts.{acts_in, procedure_at};
 ghost use Rattle.heyvl_types.specs.PlainActs.{procedures_of};
+ghost use Rattle.run_machine.specs.Bound.{IsState};
+ghost use Rattle.run_machine.specs.ConfigConditions.{IsConfig, ReachesPrograms};
 ghost use Rattle.run_machine.specs.Configurations.{begin as begin_of};
 ghost use Rattle.run_machine.specs.Names.{HasFewActs, stored, config_of, numbered};
 
@@ -21,6 +23,7 @@ pub fn begin(alloc: Global, typed: &Typed, p: u32, state: &[Val]) -> Result<Conf
     ensures first { IfOk result (λ first. config_of (procedures_of typed.now) (stored first) ≡ begin_of (procedures_of typed.now) p state.now) }
     ensures turns { IfOk result (λ first. first.turns.items ≡ replicate (procedure_at (procedures_of typed.now) p).loops 0) }
     ensures made { IfOk result (λ first. first.made ≡ 0) }
+    ensures config { ReachesPrograms (procedures_of typed.now) p → IsState (procedure_at (procedures_of typed.now) p) state.now → IfOk result (λ first. IsConfig (procedures_of typed.now) (stored first)) }
 {
     let mut items = Vec::new(alloc);
     push_body(&mut items, typed, p)?;

@@ -1,18 +1,16 @@
-//! The steps that take a decision.
+//! The step of a variable that takes any value.
 
-ghost use Rattle.std.specs.Prelude.{◌≡◌, ◌<◌, ◌+◌, ◌^◌, List, IfOk, drop, set, true};
+ghost use Rattle.std.specs.Prelude.{◌≡◌, ◌<◌, ◌^◌, IfOk, true};
 ghost use Rattle.heyvl_num.specs.Rational.{zeroʳ, leqʳ};
 ghost use Rattle.heylo_formula.specs.State.{has as has_type, default as default_of, fit};
-ghost use Rattle.heyvl_types.specs.Acts.{TypedProcedure};
-ghost use Rattle.run_machine.specs.BoundedStep.{answer_of, bounded};
-ghost use Rattle.run_machine.specs.Continuing.{Continues};
-ghost use Rattle.run_machine.specs.Names.{stored, config_of, items_of, decision_of};
-ghost use Rattle.run_machine.specs.Step.{sure, moved, value_of};
+ghost use Rattle.run_machine.specs.Names.{stored, decision_of};
+ghost use Rattle.run_machine.specs.Step.{value_of};
+ghost use Rattle.run_machine.specs.internal.Replies.{reply_of, replied, surely};
+ghost use Rattle.run_machine.specs.internal.StoredSteps.{asked, assigned};
 
 use crate::configurations::{Config, Decide, Stepped};
-use crate::copies::without_first;
-use crate::evaluation::assign;
 use crate::limits::for_sure;
+use crate::plain_steps::with_value;
 use heylo_formula::{Ty, Val};
 use heyvl_num::Frac;
 use std::alloc::{AllocError, Global};
@@ -25,12 +23,10 @@ pub(crate) fn any_step(
     ty: Ty,
     decision: Option<&Decide>,
 ) -> Result<Stepped, AllocError>
-    requires continues { Continues (stored config.now) }
-    requires few { config.now.made < 2 ^ 31 }
-    ensures { IfOk result (λ stepped. (ps : List TypedProcedure) → answer_of ps stepped ≡ bounded true (sure (moved (config_of ps (stored config.now)) (items_of ps (drop 1 config.now.items.items)) (set config.now.state.items x (fit ty (value_of (decision_of decision.entry))))))) }
+    requires { config.now.made < 2 ^ 31 }
+    ensures { IfOk result (λ stepped. reply_of stepped ≡ replied true (surely (asked (assigned (stored config.now) x (fit ty (value_of (decision_of decision.entry))))))) }
 {
-    let mut next = without_first(alloc, config)?;
-    assign(&mut next.state, x, fitting(ty, decision));
+    let mut next = with_value(alloc, config, x, fitting(ty, decision))?;
     next.made += 1;
     for_sure(alloc, next)
 }

@@ -1,7 +1,6 @@
-use Rattle.std.proofs.Common.{◌≡◌, List, drop}
-use Rattle.heyvl_types.specs.Acts.{TypedProcedure}
-use Rattle.run_machine.specs.BoundedStep.{any_deep, outcomes_of}
+use Rattle.std.proofs.Common.{◌≡◌, drop}
+use Rattle.run_machine.specs.internal.Replies.{any_large, stored_outcomes}
 use Rattle.run_machine.proofs.limits.limited.Given as goal
 
 abbrev pub invariant-loop-outcome : goal.invariant-loop-outcome
-invariant-loop-outcome l = (ps : List TypedProcedure) → any_deep (outcomes_of ps l.outcome-items) ≡ any_deep (outcomes_of ps (drop l.outcome-index l.outcome-items))
+invariant-loop-outcome l = any_large (stored_outcomes l.outcome-items) ≡ any_large (stored_outcomes (drop l.outcome-index l.outcome-items))

@@ -1,0 +1,6 @@
+mod Breaks
+mod Targets
+mod CalledProcedures
+mod Marks
+mod Walk
+mod Examples

@@ -1,0 +1,12 @@
+-- The list of the procedures that one reaches.
+use Rattle.std.specs.Prelude.{◌≡◌, ℕ, true, List, length}
+use Rattle.heyvl_types.specs.Acts.{TypedProcedure}
+use Rattle.heyvl_types.specs.Program.{Reaches}
+use Rattle.heyvl_types.specs.Rules.{GrowBelow}
+use Rattle.heyvl_types.specs.Visible.{among}
+
+-- Each procedure that this one reaches, and no other, by number and once.
+pub record AreReached (ps : List TypedProcedure) (p : ℕ) (found : List ℕ) : Type 0 where
+  pub growing : GrowBelow 0 (length ps) found
+  pub all : (q : ℕ) → Reaches ps p q → among found q ≡ true
+  pub only : (q : ℕ) → among found q ≡ true → Reaches ps p q

@@ -1,0 +1,52 @@
+//! Whether a formula has a binder.
+
+ghost use Rattle.heylo_formula.specs.Binders.{has_binder, has_binder_in};
+ghost use Rattle.heylo_formula.specs.PlainTrees.{cond_of, form_of};
+ghost use Rattle.std.specs.Prelude.{◌≡◌};
+
+use heylo_formula::{Cond, Form};
+
+/// Whether a binder stands anywhere in the formula.
+#[cycle(quantifiers)]
+pub(crate) fn has_binder(form: &Form) -> bool
+    ensures { result ≡ has_binder (form_of form.now) }
+{
+    match form {
+        Form::Const(_) => false,
+        Form::Var(_) => false,
+        Form::Sum(a, b) => has_binder(a) || has_binder(b),
+        Form::Diff(a, b) => has_binder(a) || has_binder(b),
+        Form::Cut(a, b) => has_binder(a) || has_binder(b),
+        Form::Scale(_, a) => has_binder(a),
+        Form::Product(a, b, _) => has_binder(a) || has_binder(b),
+        Form::Min(a, b) => has_binder(a) || has_binder(b),
+        Form::Max(a, b) => has_binder(a) || has_binder(b),
+        Form::Imply(a, b) => has_binder(a) || has_binder(b),
+        Form::CoImply(a, b) => has_binder(a) || has_binder(b),
+        Form::Validate(a) => has_binder(a),
+        Form::CoValidate(a) => has_binder(a),
+        Form::Embed(g) => has_binder_in(g),
+        Form::Iverson(g) => has_binder_in(g),
+        Form::Select(g, a, b) => has_binder_in(g) || (has_binder(a) || has_binder(b)),
+        Form::Bind(_, _, _, _, _) => true,
+    }
+}
+
+/// Whether a binder stands anywhere in the condition.
+#[cycle(quantifiers)]
+fn has_binder_in(cond: &Cond) -> bool
+    ensures { result ≡ has_binder_in (cond_of cond.now) }
+{
+    match cond {
+        Cond::Const(_) => false,
+        Cond::Var(_) => false,
+        Cond::Not(g) => has_binder_in(g),
+        Cond::And(g, h) => has_binder_in(g) || has_binder_in(h),
+        Cond::Or(g, h) => has_binder_in(g) || has_binder_in(h),
+        Cond::Same(g, h) => has_binder_in(g) || has_binder_in(h),
+        Cond::Le(a, b) => has_binder(a) || has_binder(b),
+        Cond::Lt(a, b) => has_binder(a) || has_binder(b),
+        Cond::EqNum(a, b) => has_binder(a) || has_binder(b),
+        Cond::Ite(g, h, k) => has_binder_in(g) || (has_binder_in(h) || has_binder_in(k)),
+    }
+}

@@ -1,0 +1,44 @@
+-- What the program's step gives: the answer of the definition, one decision more where one is asked for, and configurations
+-- that meet the condition again.
+use Rattle.std.specs.Prelude.{◌≡◌, ◌+◌, ℕ, List, [], ◌∷◌}
+use Rattle.heyvl_types.specs.Acts.{Act, TypedProcedure}
+use Rattle.heyvl_types.specs.Rules.{Each}
+use Rattle.run_machine.specs.declared.configurations.Stepped.{Stepped}
+use Rattle.run_machine.specs.declared.configurations.Stepped.TheVariants.{Next, Deep, Bits}
+use Rattle.run_machine.specs.BoundedStep.{answer_of, bounded_step}
+use Rattle.run_machine.specs.ConfigConditions.{IsConfig}
+use Rattle.run_machine.specs.Configurations.{Item}
+use Rattle.run_machine.specs.Names.{Stored, stored, items_of, config_of}
+use Rattle.run_machine.specs.Step.{Decision}
+
+-- The predicate holds of each configuration that may come next.
+abbrev pub EachNext : (Stored → Type 0) → Stepped → Type 0
+EachNext P (Next outcomes) = Each (λ x. P (stored x.1)) outcomes.items
+EachNext P Deep = Unit {0}
+EachNext P Bits = Unit {0}
+
+-- How many decisions an act asks for, whether or not one is made.
+abbrev pub asked_by_act : Act → ℕ
+asked_by_act (Act.any x up ty span) = 1
+asked_by_act (Act.pick up a b span) = 1
+asked_by_act (Act.set x t span) = 0
+asked_by_act (Act.draw x qs span) = 0
+asked_by_act (Act.reward f span) = 0
+asked_by_act (Act.ifs arms e span) = 0
+asked_by_act (Act.check kind f span) = 0
+asked_by_act (Act.validate co span) = 0
+asked_by_act (Act.loop h b) = 0
+asked_by_act (Act.call xs p es span) = 0
+
+abbrev pub asked_by : List Item → ℕ
+asked_by [] = 0
+asked_by (Item.act a ∷ is) = asked_by_act a
+asked_by (Item.turn h b ∷ is) = 0
+asked_by (Item.out x ty ∷ is) = 1
+asked_by (Item.back ∷ is) = 0
+
+-- The answer to a configuration under a decision.
+pub record IsStep (ps : List TypedProcedure) (c : Stored) (d : Decision) (stepped : Stepped) : Type 0 where
+  pub answer : answer_of ps stepped ≡ bounded_step ps (config_of ps c) d
+  pub made : EachNext (λ e. e.made ≡ c.made + asked_by (items_of ps c.items)) stepped
+  pub configs : EachNext (IsConfig ps) stepped

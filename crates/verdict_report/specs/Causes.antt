@@ -1,0 +1,47 @@
+-- Why nothing is known of a goal, as a report shows it. The texts are this project's own.
+use Rattle.heyvl_num.specs.Rational.{Rational}
+use Rattle.heyvl_syntax.specs.Places.{column_of, line_of}
+use Rattle.heylo_formula.specs.declared.values.Val.{Val}
+use Rattle.linear_elim.specs.declared.answers.Broken.{Broken}
+use Rattle.linear_elim.specs.declared.answers.Cause.{Cause}
+use Rattle.linear_elim.specs.declared.answers.Cause.TheVariants.{Depth, Nodes, Nonlinear, Cells, Rows, Bits, Fraction}
+use Rattle.std.specs.Prelude.{Bool, List, [], codes, decimal, false, true, ◌++◌, ◌∷◌, ℕ}
+use Rattle.verdict_report.specs.Settings.{Names, fraction_text, settings_text, variable_text}
+
+-- `LINE:COLUMN` of the byte with this number.
+abbrev pub place_text : List ℕ → ℕ → List ℕ
+place_text bytes at = decimal (line_of bytes at) ++ codes ":" ++ decimal (column_of bytes at)
+
+-- Whether an end belongs to the interval.
+abbrev pub low_mark : Bool → List ℕ
+low_mark true = codes "["
+low_mark false = codes "("
+
+abbrev pub high_mark : Bool → List ℕ
+high_mark true = codes "]"
+high_mark false = codes ")"
+
+-- The interval between two ends, each of which may belong to it.
+abbrev pub interval_text : Bool → Rational → Rational → Bool → List ℕ
+interval_text low_in low high high_in = low_mark low_in ++ fraction_text low ++ codes ", " ++ fraction_text high ++ high_mark high_in
+
+-- The values that were chosen before, where there are some.
+abbrev pub earlier_text : Names → List (ℕ × Val) → List ℕ
+earlier_text n [] = []
+earlier_text n (p ∷ ps) = codes " where " ++ settings_text n (p ∷ ps)
+
+abbrev pub broken_text : Names → Broken → List ℕ
+broken_text n b = codes "fraction " ++ variable_text n b.var ++ codes " in " ++ interval_text b.low_in b.low b.high b.high_in ++ earlier_text n b.earlier.items
+
+-- So many variables were eliminated.
+abbrev pub step_text : ℕ → List ℕ
+step_text step = codes "rows at step " ++ decimal step
+
+abbrev pub cause_text : List ℕ → Names → Cause → List ℕ
+cause_text bytes n Depth = codes "depth"
+cause_text bytes n Nodes = codes "nodes"
+cause_text bytes n (Nonlinear span) = codes "nonlinear at " ++ place_text bytes span.from
+cause_text bytes n (Cells count) = codes "cells"
+cause_text bytes n (Rows step count) = step_text step
+cause_text bytes n Bits = codes "bits"
+cause_text bytes n (Fraction b) = broken_text n b

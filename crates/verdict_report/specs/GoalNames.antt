@@ -1,0 +1,30 @@
+-- The names of the variables of a goal that was made.
+use Rattle.heylo_formula.specs.declared.goals.GoalId.{GoalId}
+use Rattle.heylo_formula.specs.declared.goals.GoalId.TheVariants.{Main, Pre, Post, Invariant, Ranking}
+use Rattle.heylo_formula.specs.declared.goals.Made.{Made}
+use Rattle.heylo_formula.specs.declared.goals.Made.TheVariants as made
+use Rattle.std.specs.Prelude.{Bool, List, [], false, if◌then◌else◌, true, ◌&&◌, ◌==◌, ◌∷◌, ℕ}
+use Rattle.verdict_report.specs.Settings.{Names, named_by}
+use Rattle.verdict_report.specs.declared.answers.NamedGoal.{NamedGoal}
+
+-- Whether two are the same goal of a procedure.
+abbrev pub is_same : GoalId → GoalId → Bool
+is_same Main Main = true
+is_same Pre Pre = true
+is_same Post Post = true
+is_same (Invariant n) (Invariant m) = n == m
+is_same (Ranking n) (Ranking m) = n == m
+is_same i j = false
+
+abbrev pub no_names : Names
+no_names = named_by [] 0
+
+abbrev pub names_of_made : Made → Names
+names_of_made (made.Goal g) = named_by g.names.items g.own
+names_of_made made.Depth = no_names
+names_of_made made.Nodes = no_names
+
+-- The names of the variables of the procedure's goal among those that were made.
+abbrev pub names_of : ℕ → GoalId → List NamedGoal → Names
+names_of p id [] = no_names
+names_of p id (g ∷ gs) = if (g.proc == p) && is_same g.id id then names_of_made g.made else names_of p id gs

@@ -1,0 +1,9 @@
+pub mod Settings
+pub mod States
+pub mod Causes
+pub mod LoopScopes
+pub mod GoalNames
+pub mod Verdicts
+pub mod Reports
+pub mod Placed
+pub mod internal

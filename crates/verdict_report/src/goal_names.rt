@@ -1,0 +1,40 @@
+//! The names of the variables of a goal that was made.
+
+ghost use Rattle.std.specs.Prelude.{◌≡◌};
+ghost use Rattle.verdict_report.specs.GoalNames.{is_same, names_of};
+ghost use Rattle.verdict_report.specs.Settings.{named_by};
+
+use crate::answers::NamedGoal;
+use heylo_formula::{GoalId, Made};
+use heyvl_syntax::Name;
+
+/// Whether two are the same goal of a procedure.
+fn is_same(first: GoalId, second: GoalId) -> bool
+    ensures { result ≡ is_same first second }
+{
+    match (first, second) {
+        (GoalId::Main, GoalId::Main) => true,
+        (GoalId::Pre, GoalId::Pre) => true,
+        (GoalId::Post, GoalId::Post) => true,
+        (GoalId::Invariant(n), GoalId::Invariant(m)) => n == m,
+        (GoalId::Ranking(n), GoalId::Ranking(m)) => n == m,
+        _ => false,
+    }
+}
+
+/// The names of the variables of the procedure's goal among those that were made, and how many of the first weren't binders.
+pub(crate) fn names_of(made: &[NamedGoal], proc: u32, id: GoalId) -> (&[Name], u32)
+    ensures { named_by result.0.now result.1 ≡ names_of proc id made.now }
+{
+    let mut rest = made;
+    'made: while let Some((goal, more)) = rest.split_first() {
+        if goal.proc == proc && is_same(goal.id, id) {
+            return match &goal.made {
+                Made::Goal(goal) => (&goal.names, goal.own),
+                Made::Depth | Made::Nodes => (&[], 0),
+            };
+        }
+        rest = more;
+    }
+    (&[], 0)
+}

@@ -1,0 +1,15 @@
+//! What is answered of the procedures of a file, and the text of the answers.
+#![tactic(auto)]
+
+mod answers;
+mod causes;
+mod goal_names;
+mod loops;
+mod numbers;
+mod reports;
+mod settings;
+mod states;
+mod verdicts;
+
+pub use answers::{Answer, LoopAnswer, Miss, NamedGoal, RankVerdict, Verdict};
+pub use reports::report;

@@ -1,0 +1,108 @@
+//! The variables that a goal's state shows.
+
+ghost use Rattle.heyvl_types.specs.Acts.{acts_in};
+ghost use Rattle.heyvl_types.specs.Places.{in_order, inside};
+ghost use Rattle.heyvl_types.specs.PlainActs.{act_of, acts_of, procedure_of};
+ghost use Rattle.heyvl_types.specs.Rules.{IsCounted, counted};
+ghost use Rattle.std.specs.Prelude.{◌≡◌, ◌≤◌, ◌+◌, ◌∷◌, IfOk};
+ghost use Rattle.verdict_report.specs.LoopScopes.{always_shown, interface_numbers, loop_scope, scope_of_loop};
+ghost use Rattle.verdict_report.specs.internal.Slices.{lent};
+
+use heylo_formula::GoalId;
+use heyvl_types::{Act, TProc};
+use std::alloc::{AllocError, Global};
+
+/// The first numbers, so many.
+fn first_numbers(alloc: Global, count: u32) -> Result<Vec<u32>, AllocError>
+    ensures { IfOk result (λ all. all.items ≡ counted 0 count) }
+{
+    let mut all = Vec::new(alloc);
+    let mut number = 0;
+    while number < count {
+        all.push(number)?;
+        number += 1;
+    }
+    Ok(all)
+}
+
+/// The inputs and outputs of a procedure.
+fn interface_numbers(alloc: Global, procedure: &TProc) -> Result<Vec<u32>, AllocError>
+    requires counted { IsCounted procedure.now }
+    requires few { procedure.now.inputs + procedure.now.outputs ≤ 16 }
+    ensures { IfOk result (λ all. all.items ≡ interface_numbers (procedure_of procedure.now)) }
+{
+    first_numbers(alloc, procedure.inputs + procedure.outputs)
+}
+
+/// The variables of a procedure that are shown of each state of this goal.
+pub(crate) fn always_shown(
+    alloc: Global,
+    procedure: &TProc,
+    id: GoalId,
+) -> Result<Vec<u32>, AllocError>
+    requires counted { IsCounted procedure.now }
+    requires few { procedure.now.inputs + procedure.now.outputs ≤ 16 }
+    ensures { IfOk result (λ all. all.items ≡ always_shown (procedure_of procedure.now) id) }
+{
+    match id {
+        GoalId::Main | GoalId::Pre | GoalId::Post => interface_numbers(alloc, procedure),
+        GoalId::Invariant(number) | GoalId::Ranking(number) => {
+            Vec::from_slice(alloc, scope_of_loop(procedure, number))
+        }
+    }
+}
+
+/// The variables that are visible at the procedure's loop with this number; none where it has no such loop.
+fn scope_of_loop(procedure: &TProc, number: u32) -> &[u32]
+    ensures { result.now ≡ scope_of_loop (procedure_of procedure.now) number }
+{
+    match &procedure.body {
+        None => &[],
+        Some(acts) => match scope_among(acts, number) {
+            None => &[],
+            Some(scope) => scope,
+        },
+    }
+}
+
+/// The variables that are visible at the loop with this number, where it is among these acts and those inside them.
+#[cycle(seeking)]
+fn scope_among(acts: &[Act], number: u32) -> Option<&[u32]>
+    ensures { lent result ≡ loop_scope number (in_order (acts_of acts.now)) }
+{
+    for act in acts {
+        if let Some(scope) = scope_from(act, number) {
+            return Some(scope);
+        }
+    }
+    None
+}
+
+/// The same of one act and those inside it.
+#[cycle(seeking)]
+fn scope_from(act: &Act, number: u32) -> Option<&[u32]>
+    ensures { lent result ≡ loop_scope number (act_of act.now ∷ inside (act_of act.now)) }
+{
+    match act {
+        Act::If(arms, other, _) => {
+            for arm in arms {
+                if let Some(scope) = scope_among(&arm.1, number) {
+                    return Some(scope);
+                }
+            }
+            scope_among(other, number)
+        }
+        Act::Pick(_, first, second, _) => match scope_among(first, number) {
+            Some(scope) => Some(scope),
+            None => scope_among(second, number),
+        },
+        Act::Loop(one) => {
+            if one.number == number {
+                Some(&one.scope)
+            } else {
+                scope_among(&one.body, number)
+            }
+        }
+        _ => None,
+    }
+}

@@ -1,0 +1,55 @@
+//! Numbers and places in a report.
+
+ghost use Rattle.std.specs.Prelude.{◌≡◌, ◌++◌, ◌<◌, ◌^◌, ◌≤◌, OnOk, length};
+ghost use Rattle.verdict_report.specs.Causes.{place_text};
+ghost use Rattle.verdict_report.specs.Settings.{fraction_text, value_text};
+
+use heylo_formula::Val;
+use heyvl_num::Frac;
+use heyvl_syntax::place_at;
+use itoa::{Buffer, Integer};
+use std::alloc::AllocError;
+
+/// Puts the number's decimal digits behind the text.
+pub(crate) fn write_number<I: Integer>(text: &mut Vec<u8>, number: I) -> Result<(), AllocError>
+    ensures { OnOk result (text.new.items ≡ text.old.items ++ I.text number) }
+{
+    let mut buffer = Buffer::new();
+    Ok(text.extend_from_slice(buffer.format(number).as_bytes())?)
+}
+
+/// Puts a fraction behind the text.
+pub(crate) fn write_fraction(text: &mut Vec<u8>, fraction: Frac) -> Result<(), AllocError>
+    ensures { OnOk result (text.new.items ≡ text.old.items ++ fraction_text fraction) }
+{
+    write_number(text, fraction.num())?;
+    if fraction.den() == 1 {
+        Ok(())
+    } else {
+        text.push(b'/')?;
+        write_number(text, fraction.den())
+    }
+}
+
+/// Puts a variable's value behind the text.
+pub(crate) fn write_value(text: &mut Vec<u8>, value: Val) -> Result<(), AllocError>
+    ensures { OnOk result (text.new.items ≡ text.old.items ++ value_text value) }
+{
+    match value {
+        Val::Truth(true) => Ok(text.extend_from_slice(b"true")?),
+        Val::Truth(false) => Ok(text.extend_from_slice(b"false")?),
+        Val::Num(fraction) => write_fraction(text, fraction),
+    }
+}
+
+/// Puts the line and column of a byte behind the text.
+pub(crate) fn write_place(text: &mut Vec<u8>, bytes: &[u8], at: u32) -> Result<(), AllocError>
+    requires inside { at ≤ length bytes.now }
+    requires short { length bytes.now < 2 ^ 31 }
+    ensures { OnOk result (text.new.items ≡ text.old.items ++ place_text bytes.now at) }
+{
+    let place = place_at(bytes, at);
+    write_number(text, place.line)?;
+    text.push(b':')?;
+    write_number(text, place.column)
+}

@@ -1,0 +1,87 @@
+//! Variables and their values in a report. The names are those of a goal's variables, by number; those from `own` on were
+//! binders.
+
+ghost use Rattle.std.specs.Prelude.{◌≡◌, ◌++◌, OnOk};
+ghost use Rattle.verdict_report.specs.Settings.{mark_text, more_settings_text, named_by, setting_text, settings_text, variable_text};
+
+use crate::numbers::{write_number, write_value};
+use heylo_formula::Val;
+use heyvl_syntax::Name;
+use std::alloc::AllocError;
+
+/// Puts behind the text what tells a variable that was a binder from others of its name.
+fn write_mark(text: &mut Vec<u8>, own: u32, var: u32) -> Result<(), AllocError>
+    ensures { OnOk result (text.new.items ≡ text.old.items ++ mark_text own var) }
+{
+    if var < own {
+        Ok(())
+    } else {
+        text.push(b'\'')?;
+        write_number(text, u64::from(var - own) + 1)
+    }
+}
+
+/// Puts a variable's name behind the text.
+pub(crate) fn write_variable(
+    text: &mut Vec<u8>,
+    names: &[Name],
+    own: u32,
+    var: u32,
+) -> Result<(), AllocError>
+    ensures { OnOk result (text.new.items ≡ text.old.items ++ variable_text (named_by names.now own) var) }
+{
+    if let Some(name) = names.get(var as usize) {
+        text.extend_from_slice(name.as_bytes())?;
+    }
+    write_mark(text, own, var)
+}
+
+/// Puts a variable with its value behind the text.
+fn write_setting(
+    text: &mut Vec<u8>,
+    names: &[Name],
+    own: u32,
+    setting: (u32, Val),
+) -> Result<(), AllocError>
+    ensures { OnOk result (text.new.items ≡ text.old.items ++ setting_text (named_by names.now own) setting) }
+{
+    write_variable(text, names, own, setting.0)?;
+    text.extend_from_slice(b" = ")?;
+    write_value(text, setting.1)
+}
+
+/// Puts variables with their values behind the text, each after a comma.
+fn write_more(
+    text: &mut Vec<u8>,
+    names: &[Name],
+    own: u32,
+    settings: &[(u32, Val)],
+) -> Result<(), AllocError>
+    ensures { OnOk result (text.new.items ≡ text.old.items ++ more_settings_text (named_by names.now own) settings.now) }
+{
+    let mut rest = settings;
+    'settings: while let Some((setting, more)) = rest.split_first() {
+        text.extend_from_slice(b", ")?;
+        write_setting(text, names, own, *setting)?;
+        rest = more;
+    }
+    Ok(())
+}
+
+/// Puts variables with their values behind the text, with commas between them.
+pub(crate) fn write_settings(
+    text: &mut Vec<u8>,
+    names: &[Name],
+    own: u32,
+    settings: &[(u32, Val)],
+) -> Result<(), AllocError>
+    ensures { OnOk result (text.new.items ≡ text.old.items ++ settings_text (named_by names.now own) settings.now) }
+{
+    match settings.split_first() {
+        None => Ok(()),
+        Some((setting, more)) => {
+            write_setting(text, names, own, *setting)?;
+            write_more(text, names, own, more)
+        }
+    }
+}
