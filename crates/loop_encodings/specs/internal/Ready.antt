@@ -22,7 +22,8 @@ pub record IsCallee (q : TProc) : Type 0 where
   pub pre : extent (form_of q.pre) ≤ 16
   pub post : extent (form_of q.post) ≤ 16
 
--- A call has a procedure, and as many targets as it has outputs and arguments as it has inputs.
+-- A call names a procedure of the file, with an argument for each input and a target for each output. The procedure has few of
+-- these, and its pre and post are over their numbers.
 pub record IsCall (ps : List TypedProcedure) (xs : List ℕ) (q : ℕ) (es : List Term) : Type 0 where
   pub there : q < length ps
   pub arguments : length es ≡ length (procedure_at ps q).inputs
