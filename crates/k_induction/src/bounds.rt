@@ -1,0 +1,60 @@
+//! Acts that encodings make: checks of a bound, and acts under a condition. Upward is a coproc's direction.
+
+ghost use Rattle.heylo_formula.specs.PlainTrees.{cond_of, form_of};
+ghost use Rattle.heyvl_types.specs.Acts.Act.{check as plain_check};
+ghost use Rattle.heyvl_types.specs.PlainActs.{act_of, acts_of};
+ghost use Rattle.k_induction.specs.Copies.{if_holds, may, meets, must};
+ghost use Rattle.std.specs.Prelude.{IfOk, ◌≡◌};
+
+use heylo_formula::{Cond, Form};
+use heyvl_syntax::{CheckKind, Span};
+use heyvl_types::Act;
+use std::alloc::{AllocError, Global};
+
+/// The check by which a bound is shown.
+pub fn must(up: bool) -> CheckKind
+    ensures { result ≡ must up }
+{
+    if up {
+        CheckKind::CoAssert
+    } else {
+        CheckKind::Assert
+    }
+}
+
+/// The check by which a bound is taken as given.
+pub fn may(up: bool) -> CheckKind
+    ensures { result ≡ may up }
+{
+    if up {
+        CheckKind::CoAssume
+    } else {
+        CheckKind::Assume
+    }
+}
+
+/// The check that keeps the better of a bound and what follows.
+pub fn meets(up: bool) -> CheckKind
+    ensures { result ≡ meets up }
+{
+    if up {
+        CheckKind::Assert
+    } else {
+        CheckKind::CoAssert
+    }
+}
+
+/// The check of a copy of the formula.
+pub fn stated(alloc: Global, kind: CheckKind, form: &Form, span: Span) -> Result<Act, AllocError>
+    ensures { IfOk result (λ made. act_of made ≡ plain_check kind (form_of form.now) span) }
+{
+    Ok(Act::Check(kind, form.copy(alloc)?, span))
+}
+
+/// The acts where the condition holds, else nothing.
+pub fn if_holds(alloc: Global, guard: &Cond, acts: Vec<Act>, span: Span) -> Result<Act, AllocError>
+    ensures { IfOk result (λ made. act_of made ≡ if_holds span (cond_of guard.now) (acts_of acts.items)) }
+{
+    let arms = vec![in alloc; (guard.copy(alloc)?, acts)]?;
+    Ok(Act::If(arms, Vec::new(alloc), span))
+}

@@ -1,0 +1,11 @@
+pub mod Appending
+pub mod OwnVariables
+pub mod CallSteps
+pub mod Steps
+pub mod ActSteps
+pub mod Weights
+pub mod Counts
+pub mod FromRules
+pub mod EncodedTypes
+pub mod Bodies
+pub mod Examples

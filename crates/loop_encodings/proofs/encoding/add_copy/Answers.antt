@@ -1,0 +1,5 @@
+use Rattle.loop_encodings.proofs.Appending.{last_one}
+use Rattle.loop_encodings.proofs.encoding.add_copy.Goals as goal
+
+pub returns : goal.returns
+returns c = last_one _ _ _ _ c.in_ok-push.ensures.items c.in_ok-copy.ensures

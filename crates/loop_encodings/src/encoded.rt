@@ -1,0 +1,11 @@
+//! The encoding of a body.
+
+use heyvl_types::{Act, VarInfo};
+
+/// Acts without loops and calls, and the variables over which they are.
+#[derive(Drop)]
+pub struct Encoded {
+    pub acts: Vec<Act>,
+    /// The procedure's variables, and then the fresh ones.
+    pub vars: Vec<VarInfo>,
+}
