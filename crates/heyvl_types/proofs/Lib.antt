@@ -28,7 +28,6 @@ mod Rests
 mod Walks
 mod LastPassing
 mod ReadRests
-mod RuleHeads
 mod RightRules
 mod Nested
 pub mod WeightSums
