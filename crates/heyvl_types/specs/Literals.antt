@@ -70,6 +70,13 @@ is_over_zero NotLiteral = false
 is_over_zero TooWide = false
 is_over_zero (Value q) = false
 
+-- A weight literal that isn't too wide. A divisor that is 0 breaks another rule.
+abbrev pub is_usable : Weight → Bool
+is_usable NotLiteral = false
+is_usable OverZero = true
+is_usable TooWide = false
+is_usable (Value q) = true
+
 -- From 0 to 1. A divisor that is 0 breaks another rule.
 abbrev pub is_probability : Weight → Bool
 is_probability NotLiteral = false
@@ -96,10 +103,10 @@ abbrev pub sums_wrong : Rational → List Weight → Bool
 sums_wrong sum [] = not (leqʳ sum oneʳ && leqʳ oneʳ sum)
 sums_wrong sum (w ∷ ws) = is_too_wide (sum +ʳ weight_value w) || sums_wrong (sum +ʳ weight_value w) ws
 
--- Whether these can't be the weights of a choice: one isn't a probability, there are more than 16, or, where no divisor is 0,
+-- Whether these can't be the weights of a choice: one is no weight literal or too wide, there are more than 16, or, where no divisor is 0,
 -- they don't add up to 1, or a sum of the first ones is too wide.
 abbrev pub weigh_wrong : List Weight → Bool
-weigh_wrong ws = list_any (λ w. not (is_probability w)) ws || nat_lt 16 (length ws) || (not (list_any is_over_zero ws) && sums_wrong zeroʳ ws)
+weigh_wrong ws = list_any (λ w. not (is_usable w)) ws || nat_lt 16 (length ws) || (not (list_any is_over_zero ws) && sums_wrong zeroʳ ws)
 
 -- An integer literal: a whole number, or one with a minus before it.
 abbrev pub integer : Expression → Option ℤ

@@ -4,7 +4,7 @@ ghost use Rattle.heyvl_num.specs.Rational.{leqʳ, oneʳ, zeroʳ, ◌+ʳ◌};
 ghost use Rattle.heyvl_syntax.specs.Expressions.{expression};
 ghost use Rattle.heyvl_syntax.specs.Statements.{choices};
 ghost use Rattle.heyvl_types.specs.Answers.{Gives, Tells};
-ghost use Rattle.heyvl_types.specs.Literals.{is_over_zero, is_probability, is_too_wide, sums_wrong, weigh_wrong};
+ghost use Rattle.heyvl_types.specs.Literals.{is_over_zero, is_too_wide, is_usable, sums_wrong, weigh_wrong};
 ghost use Rattle.heyvl_types.specs.RightSides.{choices_findings, weight_findings, weights};
 ghost use Rattle.heyvl_types.specs.StatementActs.{choose_parts};
 ghost use Rattle.heyvl_types.specs.internal.RightSideParts.{choices_of, types_of_choices};
@@ -19,7 +19,7 @@ use crate::stops::ResolveStop;
 use crate::typed_values::{Value, read_value};
 use crate::value_types::ValueType;
 use crate::weights::{
-    at_least_one, at_most_one, is_over_zero, is_probability, is_too_wide, is_weight_literal,
+    at_least_one, at_most_one, is_over_zero, is_too_wide, is_usable, is_weight_literal,
     weight_of, weight_value,
 };
 use heylo_formula::Term;
@@ -73,12 +73,12 @@ pub(crate) fn read_choices(
     Ok(Choices { parts, types })
 }
 
-/// Whether one of the weights isn't a probability.
-fn any_improbable(all: &[(Expr, Expr)]) -> bool
-    ensures { result ≡ list_any (λ w. not (is_probability w)) (weights (choices all.now)) }
+/// Whether one of the weights is no weight literal, or too wide.
+fn any_unusable(all: &[(Expr, Expr)]) -> bool
+    ensures { result ≡ list_any (λ w. not (is_usable w)) (weights (choices all.now)) }
 {
     for (likely, _) in all {
-        if !is_probability(weight_of(likely)) {
+        if !is_usable(weight_of(likely)) {
             return true;
         }
     }
@@ -132,5 +132,5 @@ fn sums_wrong(all: &[(Expr, Expr)]) -> bool
 pub(crate) fn weigh_wrong(all: &[(Expr, Expr)]) -> bool
     ensures { result ≡ weigh_wrong (weights (choices all.now)) }
 {
-    any_improbable(all) || all.len() > MAX_CHOICES || !any_over_zero(all) && sums_wrong(all)
+    any_unusable(all) || all.len() > MAX_CHOICES || !any_over_zero(all) && sums_wrong(all)
 }

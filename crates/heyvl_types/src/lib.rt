@@ -51,4 +51,5 @@ pub use laws::{
 pub use places::act_at;
 pub use resolving_laws::{resolved_trees_meet_the_rules, resolving_is_unique};
 pub use stops::ResolveStop;
+pub use targets::is_target;
 pub use typed::{TProc, Typed, VarInfo};

@@ -9,7 +9,7 @@ use crate::acts::Act;
 
 /// Whether acts give the variable a value.
 #[cycle(targets)]
-pub(crate) fn is_target(x: u32, acts: &[Act]) -> bool
+pub fn is_target(x: u32, acts: &[Act]) -> bool
     ensures { result ≡ is_target_of x (acts_of acts.now) }
 {
     for act in acts {

@@ -4,7 +4,7 @@ ghost use Rattle.heyvl_num.specs.Rational.{leqʳ, oneʳ, ratio, zeroʳ, ◌*ʳ�
 ghost use Rattle.heyvl_syntax.specs.Expressions.{Expression, expression};
 ghost use Rattle.heyvl_syntax.specs.declared.operators.BinaryOp.{BinaryOp as Operator};
 ghost use Rattle.heyvl_syntax.specs.declared.spans.Span.{Span as Place};
-ghost use Rattle.heyvl_types.specs.Literals.{is_over_zero, is_probability, is_step, is_too_wide, is_weight_literal, is_written, literal_value, weight, weight_of_quotient, weight_of_value, weight_value};
+ghost use Rattle.heyvl_types.specs.Literals.{is_over_zero, is_probability, is_step, is_too_wide, is_usable, is_weight_literal, is_written, literal_value, weight, weight_of_quotient, weight_of_value, weight_value};
 ghost use Rattle.std.specs.Int.Signed.{le_z};
 ghost use Rattle.std.specs.Prelude.{◌&&◌, ◌≡◌, false, if◌then◌else◌, pos, true, unsigned_abs};
 
@@ -191,6 +191,18 @@ fn at_most_zero(value: Frac) -> bool
     ensures { result ≡ leqʳ value zeroʳ }
 {
     value.num() <= 0
+}
+
+/// Whether it is a weight literal that isn't too wide. A divisor that is 0 breaks another rule.
+pub(crate) fn is_usable(weight: Weight) -> bool
+    ensures { result ≡ is_usable weight }
+{
+    match weight {
+        Weight::NotLiteral => false,
+        Weight::OverZero => true,
+        Weight::TooWide => false,
+        Weight::Value(_) => true,
+    }
 }
 
 /// Whether it is from 0 to 1. A divisor that is 0 breaks another rule.

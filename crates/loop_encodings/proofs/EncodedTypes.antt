@@ -81,7 +81,7 @@ abbrev Front : ℕ → Types → Types → Type 0
 Front n types types' = (y : ℕ) → y < n → types y ≡ types' y
 
 -- What is visible is one of the first variables.
-abbrev Bounded : ℕ → Visible → Type 0
+abbrev pub Bounded : ℕ → Visible → Type 0
 Bounded n v = (y : ℕ) → v y ≡ true → y < n
 
 term_on : (n : ℕ) (v : Visible) (types types' : Types) (ty : Ty) (t : Term) → Front n types types' → Bounded n v → SeesTerm v t → TermFits types' ty t → TermFits types ty t
@@ -117,10 +117,10 @@ read_fits m Ty.UReal Ty.UReal types e w = (refl, ap (λ t. fits (number_type t) 
 
 -- ---- What is visible
 
-shown_bounded : (n x : ℕ) (v : Visible) → x < n → Bounded n v → Bounded n (shown x v)
+pub shown_bounded : (n x : ℕ) (v : Visible) → x < n → Bounded n v → Bounded n (shown x v)
 shown_bounded n x v l b y h = ⊎_elim (λ e. let q : x ≡ y = grind arith in subst (λ z. z < n) q l) (λ e. b y e) (or_cases (x == y) (v y) h)
 
-shown_all_bounded : (p : TypedProcedure) (xs : List ℕ) (v : Visible) → Each (IsOwn p) xs → Bounded (length (variables p)) v → Bounded (length (variables p)) (shown_all xs v)
+pub shown_all_bounded : (p : TypedProcedure) (xs : List ℕ) (v : Visible) → Each (IsOwn p) xs → Bounded (length (variables p)) v → Bounded (length (variables p)) (shown_all xs v)
 shown_all_bounded p [] v o b = b
 shown_all_bounded p (x ∷ xs) v o b = shown_all_bounded p xs (shown x v) o.1 (shown_bounded (length (variables p)) x v o.0.below b)
 
@@ -184,7 +184,7 @@ module _ (ps : List TypedProcedure) (rules : (q : ℕ) → q < length ps → Mee
         ),
       )
 
-  after_bounded : (a : Act) (v : Visible) → IsFine ps p a → Bounded (length (variables p)) v → Bounded (length (variables p)) (shown_by a v)
+  pub after_bounded : (a : Act) (v : Visible) → IsFine ps p a → Bounded (length (variables p)) v → Bounded (length (variables p)) (shown_by a v)
   after_bounded (Act.set x t span) v f b = shown_bounded (length (variables p)) x v f.0.0.below b
   after_bounded (Act.draw x qs span) v f b = shown_bounded (length (variables p)) x v f.0.0.below b
   after_bounded (Act.any x d ty span) v f b = shown_bounded (length (variables p)) x v f.0.0.below b
@@ -239,7 +239,7 @@ module _ (ps : List TypedProcedure) (rules : (q : ℕ) → q < length ps → Mee
     )
 
 -- The inputs and outputs are among the variables.
-interface_bounded : (p : TypedProcedure) → Bounded (length (variables p)) (interface p)
+pub interface_bounded : (p : TypedProcedure) → Bounded (length (variables p)) (interface p)
 interface_bounded p y h =
     let a = length-append p.inputs p.outputs in
     let b = length-append p.inputs (p.outputs ++ p.locals) in

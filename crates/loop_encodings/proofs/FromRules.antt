@@ -100,7 +100,7 @@ counted_at [] q x h lt is = absurd (omega (arith, lt))
 counted_at (y ∷ rest) zero x h lt is = subst IsCounted (sym is) h.0
 counted_at (y ∷ rest) (suc q) x h lt is = counted_at rest q x h.1 (omega (arith, lt)) is
 
-each_procedure : (ps rest : List TypedProcedure) (q : ℕ) → Each (MeetsRules ps) rest → q < length rest → MeetsRules ps (procedure_at rest q)
+pub each_procedure : (ps rest : List TypedProcedure) (q : ℕ) → Each (MeetsRules ps) rest → q < length rest → MeetsRules ps (procedure_at rest q)
 each_procedure ps [] q h lt = absurd (omega (arith, lt))
 each_procedure ps (y ∷ rest) zero h lt = h.0
 each_procedure ps (y ∷ rest) (suc q) h lt = each_procedure ps rest q h.1 (omega (arith, lt))

@@ -9,3 +9,25 @@ pub mod FromRules
 pub mod EncodedTypes
 pub mod Bodies
 pub mod Examples
+pub mod RunValues
+pub mod ProgramStates
+pub mod Monotone
+pub mod ScopedMeaning
+pub mod LoopTurns
+pub mod Kept
+pub mod Claims
+pub mod EncodedMeaning
+pub mod EncodedBounds
+pub mod PlainOccurrences
+pub mod EncodedOver
+pub mod EncodedBinders
+pub mod ModifiedVariables
+pub mod RuledPrograms
+pub mod ProgramReasons
+pub mod CalledProcedures
+pub mod SmallFormulas
+pub mod ShownBounds
+pub mod ViolationActs
+pub mod ViolationTrees
+pub mod Violations
+mod ViolationExamples

@@ -1,1 +1,4 @@
 pub mod Ready
+pub mod Contracts
+pub mod Programs
+pub mod EncodedPrograms

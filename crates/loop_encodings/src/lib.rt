@@ -4,8 +4,10 @@
 mod calls;
 mod encoded;
 mod encoding;
+mod laws;
 mod loops;
 mod variables;
 
 pub use encoded::Encoded;
 pub use encoding::encode;
+pub use laws::{broken_goals_break_bounds, encodings_are_over_their_variables, shown_bounds_hold};

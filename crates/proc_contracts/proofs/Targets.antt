@@ -32,7 +32,3 @@ left found scope i x b lt is t = ap (λ l. found ++ l) (sym (at_drop_more (λ l.
 -- What is found in the whole scope.
 pub all_modified : (found scope : List ℕ) (i : ℕ) (b : Acts) → length scope ≤ i → found ++ modified (drop i scope) b ≡ modified scope b → found ≡ modified scope b
 all_modified found scope i b over h = sym (ap (λ l. found ++ modified l b) (drop_all i scope over) ∙ append-nil found) ∙ h
-
--- An `if` gives a value what its arms or its last block give one.
-pub if_start : (x : ℕ) (a : A.Act) (arms : Vec (C.Cond × Vec A.Act Global) Global) (e : Vec A.Act Global) (span : Span) → a ≡ A.If arms e span → (is_target_of_arms x (arms_of arms.items) || is_target_of x (acts_of e.items)) ≡ is_target_of_act x (act_of a)
-if_start x a arms e span is = sym (ap (λ y. is_target_of_act x (act_of y)) is ∙ ap (λ y. is_target_of_act x y) (if_act arms e span))

@@ -18,7 +18,7 @@ use Rattle.heylo_formula.specs.Typing.{NumberType, Types, number_type, fits, joi
 use Rattle.heylo_formula.specs.declared.types.Ty.{Ty}
 use Rattle.heylo_formula.specs.declared.values.Val.{Val}
 use Rattle.heylo_formula.specs.declared.values.Val.TheVariants.{Truth, Num}
-use Rattle.heylo_formula.proofs.TypedValues.{nonnegative_value}
+pub use Rattle.heylo_formula.proofs.TypedValues.{nonnegative_value}
 
 pub whole_difference : (x y : Value) → IsWhole x → IsWhole y → IsWhole (differenceᵛ x y)
 unfolding differenceᵛ

@@ -17,7 +17,7 @@ use Rattle.heyvl_types.proofs.TypedMeanings.{literal_nonnegative}
 use Rattle.heyvl_types.proofs.resolved.RightSides.{RightKept, assign_kept, var_kept}
 use Rattle.heyvl_types.proofs.resolved.Walk.{Alone, Locally}
 use Rattle.heyvl_types.specs.Acts.{Variable}
-use Rattle.heyvl_types.specs.Literals.{ends_wrong, integer, is_over_zero, is_probability, is_step, is_too_wide, is_written, is_zero_literal, literal_quotient, literal_value, sums_wrong, weigh_wrong, weight, weight_of_quotient, weight_of_value, weight_value}
+use Rattle.heyvl_types.specs.Literals.{ends_wrong, integer, is_over_zero, is_probability, is_step, is_too_wide, is_usable, is_written, is_zero_literal, literal_quotient, literal_value, sums_wrong, weigh_wrong, weight, weight_of_quotient, weight_of_value, weight_value}
 use Rattle.heyvl_types.specs.RightSides.{weights}
 use Rattle.heyvl_types.specs.Rules.{WeighsOne}
 use Rattle.heyvl_types.specs.Scopes.{Scope, types_of_names}
@@ -130,7 +130,7 @@ module _ (n : ℕ) (sc : Scope) where
 
   choose_one : (ps : List (Expression × Expression)) → weigh_wrong (weights ps) ≡ false → list_any is_over_zero (weights ps) ≡ false → total_weight (choose_parts n sc ps) ≡ oneʳ
   choose_one ps h z =
-      let q = (or_parts (list_any (λ w. not (is_probability w)) (weights ps) || nat_lt 16 (length (weights ps))) _ h).1 in
+      let q = (or_parts (list_any (λ w. not (is_usable w)) (weights ps) || nat_lt 16 (length (weights ps))) _ h).1 in
       sym (zero-+ʳ _) ∙ sums_one zeroʳ ps (rest (list_any is_over_zero (weights ps)) (sums_wrong zeroʳ (weights ps)) z q)
     where
       rest : (a b : Bool) → a ≡ false → (not a && b) ≡ false → b ≡ false

@@ -1,0 +1,71 @@
+-- The goals of a procedure's bound, and when each of them holds: over all states and, for what its forms and its encoding
+-- leave open, all choices.
+-- Source: the verification condition of a HeyVL procedure (Schroeer, Batz, Kaminski, Katoen, Matheja, OOPSLA 2023); that the
+-- formulas of a weak proc are at most 1 is asked of probabilities.
+use Rattle.std.specs.Prelude.{ℕ, ◌==◌, List, [], ◌∷◌, Option, Some, None, map, if◌then◌else◌}
+use Rattle.heyvl_num.specs.Value.{oneᵛ, ◌≤ᵛ◌}
+use Rattle.heylo_formula.specs.Choices.{Choices}
+use Rattle.heylo_formula.specs.Formula.{Form}
+use Rattle.heylo_formula.specs.Goals.{Compares}
+use Rattle.heylo_formula.specs.Meaning.{value}
+use Rattle.heylo_formula.specs.State.{environment, IsTyped}
+use Rattle.heylo_formula.specs.declared.goals.GoalId.{GoalId}
+use Rattle.heylo_formula.specs.declared.goals.GoalId.TheVariants.{Main, Pre, Post, Invariant, Ranking}
+use Rattle.heylo_formula.specs.declared.types.Ty.{Ty}
+use Rattle.heylo_formula.specs.declared.values.Val.{Val}
+use Rattle.heyvl_types.specs.Acts.{Act, Acts, TypedProcedure, variables, type_list, acts_in}
+use Rattle.heyvl_types.specs.Forward.{forward}
+use Rattle.heyvl_types.specs.Places.{in_order}
+use Rattle.heyvl_types.specs.Rules.{Each, loop_numbers}
+use Rattle.loop_encodings.specs.Encoding.{all_variables, encoding}
+
+-- The goals: of a procedure with a body the main one, and of a weak proc also that its pre, its post and each invariant are at
+-- most 1.
+abbrev pub bound_goals : TypedProcedure → List GoalId
+bound_goals p = goals p.body
+  where
+    weak_goals : Acts → List GoalId
+    weak_goals acts = Pre ∷ (Post ∷ map Invariant (loop_numbers (in_order acts)))
+
+    goals : Option Acts → List GoalId
+    goals None = []
+    goals (Some acts) = Main ∷ (if p.weak then weak_goals acts else [])
+
+-- The invariant of the loop with this number among the acts.
+abbrev pub invariant_in : ℕ → List Act → Option Form
+invariant_in n [] = None
+invariant_in n (Act.loop h b ∷ rest) = if h.number == n then Some h.inv else invariant_in n rest
+invariant_in n (Act.set x t span ∷ rest) = invariant_in n rest
+invariant_in n (Act.draw x qs span ∷ rest) = invariant_in n rest
+invariant_in n (Act.any x up ty span ∷ rest) = invariant_in n rest
+invariant_in n (Act.reward f span ∷ rest) = invariant_in n rest
+invariant_in n (Act.ifs arms e span ∷ rest) = invariant_in n rest
+invariant_in n (Act.pick up a b span ∷ rest) = invariant_in n rest
+invariant_in n (Act.check kind f span ∷ rest) = invariant_in n rest
+invariant_in n (Act.validate co span ∷ rest) = invariant_in n rest
+invariant_in n (Act.call xs q es span ∷ rest) = invariant_in n rest
+
+-- At most 1 in each state of these types, whatever is chosen.
+abbrev pub IsAtMostOne : List Ty → Form → Type 0
+IsAtMostOne tys f = (s : List Val) (c : Choices) → IsTyped tys s → value f (environment s) c ≤ᵛ oneᵛ
+
+-- The main goal: in each state, the pre bounds what the encoded body makes of the post, whatever is chosen; from above in a
+-- coproc, from below in a proc.
+abbrev pub IsBounded : List TypedProcedure → TypedProcedure → Type 0
+IsBounded ps p = (s : List Val) (c : Choices) → IsTyped (type_list (all_variables ps p)) s → Compares p.co (value p.pre (environment s) Choices.stop) (forward (encoding ps p) (value p.post) (environment s) c)
+
+-- When the goal of the procedure holds. What a ranking asks is no goal of a bound.
+abbrev pub GoalHolds : List TypedProcedure → TypedProcedure → GoalId → Type 0
+GoalHolds ps p Main = IsBounded ps p
+GoalHolds ps p Pre = IsAtMostOne (type_list (variables p)) p.pre
+GoalHolds ps p Post = IsAtMostOne (type_list (variables p)) p.post
+GoalHolds ps p (Invariant n) = small (invariant_in n (in_order (acts_in p.body)))
+  where
+    small : Option Form → Type 0
+    small None = Unit {0}
+    small (Some f) = IsAtMostOne (type_list (variables p)) f
+GoalHolds ps p (Ranking n) = Unit {0}
+
+-- All goals of its bound hold.
+abbrev pub BoundGoalsHold : List TypedProcedure → TypedProcedure → Type 0
+BoundGoalsHold ps p = Each (GoalHolds ps p) (bound_goals p)
