@@ -1,0 +1,17 @@
+pub mod Each
+pub mod RankedBodies
+pub mod UpwardMeaning
+pub mod Turns
+pub mod TurnsBound
+pub mod FoundLoops
+pub mod Weights
+pub mod Raising
+pub mod BinderFree
+pub mod FoundForms
+pub mod Names
+pub mod OwnVariables
+pub mod MadeRankings
+pub mod PrenexedSizes
+pub mod ReadVariables
+pub mod GoalsOfRankings
+pub mod Examples

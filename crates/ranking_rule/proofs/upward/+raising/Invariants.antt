@@ -1,0 +1,20 @@
+use Rattle.std.proofs.Common.{◌≡◌, ◌+◌}
+use Rattle.heyvl_types.specs.Acts.{Act}
+use Rattle.heyvl_types.specs.PlainActs.{act_of, acts_of, arms_of}
+use Rattle.ranking_rule.proofs.Raising.{ArmTurns, Turns}
+use Rattle.ranking_rule.proofs.Weights.{weight, weight_of}
+use Rattle.ranking_rule.proofs.upward.+raising.Given as goal
+
+abbrev pub decreases-upward : goal.decreases-upward
+decreases-upward l = 1 + weight_of (acts_of l.acts.now)
+
+abbrev pub decreases-add_upward : goal.decreases-add_upward
+decreases-add_upward l = weight (act_of l.act.now)
+
+-- What is made and what is left, taken upward, are all.
+abbrev pub invariant-upward-loop-act : goal.invariant-upward-loop-act
+invariant-upward-loop-act l = Turns l.acts l.raised.items l.act-index
+
+-- The same for arms; and the act is the If of these arms.
+abbrev pub invariant-add_upward-loop-arm : goal.invariant-add_upward-loop-arm
+invariant-add_upward-loop-arm l = ArmTurns l.arm-items l.blocks.items l.arm-index × (act_of l.act ≡ Act.ifs (arms_of l.arm-items) (acts_of l.other.items) l.span)

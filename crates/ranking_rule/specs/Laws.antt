@@ -1,0 +1,35 @@
+-- The laws of rankings.
+use Rattle.std.specs.Prelude.{◌↔◌, ◌<◌, ◌^◌, ℕ, List, length}
+use Rattle.heylo_formula.specs.Goals.{Goal, Holds}
+use Rattle.heylo_formula.specs.Sizes.{nodes}
+use Rattle.heylo_formula.specs.TypedGoals.{IsGoal}
+use Rattle.heyvl_types.specs.Acts.{TypedProcedure, procedure_at}
+use Rattle.heyvl_types.specs.ResolvedSizes.{FormsWithin}
+use Rattle.heyvl_types.specs.Rules.{MeetsRules}
+use Rattle.run_machine.specs.Bound.{RankedBy}
+use Rattle.ranking_rule.specs.Rankings.{RankedLoop, IsRanking}
+use Rattle.vp_generator.specs.Limits.{IsSmall}
+use Rattle.ranking_rule.specs.RankingGoals.{generated, goal}
+
+-- A ranking bounds the expected turns of its loop, under every scheduler and for every number of steps: of a coproc, of a proc,
+-- and of a procedure that is no program.
+abbrev pub RankingsBoundTurns : Type 0
+RankingsBoundTurns = (ps : List TypedProcedure) (p n : ℕ) (l : RankedLoop (procedure_at ps p) n) → MeetsRules ps (procedure_at ps p) → IsRanking (procedure_at ps p) l.head l.body l.rank → RankedBy ps p l.head l.body l.rank
+
+-- The goal of a ranking holds exactly where it is a ranking.
+abbrev pub RankingGoalsHold : Type 0
+RankingGoalsHold = (ps : List TypedProcedure) (p : TypedProcedure) (n : ℕ) (l : RankedLoop p n) → MeetsRules ps p → IsRanking p l.head l.body l.rank ↔ Holds (goal p l.head l.body l.rank)
+
+-- It is a goal.
+abbrev pub RankingGoalsAreGoals : Type 0
+RankingGoalsAreGoals = (ps : List TypedProcedure) (p : TypedProcedure) (n : ℕ) (l : RankedLoop p n) → MeetsRules ps p → IsGoal (goal p l.head l.body l.rank)
+
+-- A goal with few nodes and few variables.
+pub record IsFew (g : Goal) : Type 0 where
+  pub stated : nodes g.stated < 2 ^ 29
+  pub found : nodes g.found < 2 ^ 29
+  pub variables : length g.types < 2 ^ 31
+
+-- It has few of them where the forms of the procedure have, and the generated form is within its limits.
+abbrev pub RankingGoalsAreFew : Type 0
+RankingGoalsAreFew = (ps : List TypedProcedure) (p : TypedProcedure) (n : ℕ) (l : RankedLoop p n) → MeetsRules ps p → FormsWithin (2 ^ 27) p → IsSmall (generated l.body l.rank) → IsFew (goal p l.head l.body l.rank)

@@ -1,0 +1,5 @@
+pub mod Upward
+pub mod Rankings
+pub mod RankingGoals
+pub mod Laws
+pub mod internal

@@ -1,0 +1,46 @@
+-- Rankings of loops: while the guard holds, the ranking is at least the step and what it is worth after the body.
+-- Source: expected running times by ranking functions, as upper bounds of a loop's turns; this form is the project's own.
+use Rattle.std.specs.Prelude.{◌≡◌, ◌==◌, ℕ, List, [], ◌∷◌, Option, Some, None, if◌then◌else◌}
+use Rattle.heyvl_num.specs.Rational.{Rational}
+use Rattle.heyvl_num.specs.Value.{Value, zeroᵛ, ◌+ᵛ◌, ◌≤ᵛ◌}
+use Rattle.heyvl_num.specs.Value.Value.{finite}
+use Rattle.heylo_formula.specs.Choices.{Choices}
+use Rattle.heylo_formula.specs.Formula.{Form}
+use Rattle.heylo_formula.specs.Meaning.{value, holds}
+use Rattle.heylo_formula.specs.State.{Env, environment}
+use Rattle.heylo_formula.specs.declared.values.Val.{Val}
+use Rattle.heyvl_types.specs.Acts.{Head, Act, Acts, TypedProcedure, acts_in}
+use Rattle.heyvl_types.specs.Forward.{forward}
+use Rattle.heyvl_types.specs.Places.{in_order}
+use Rattle.run_machine.specs.Bound.{IsState}
+use Rattle.ranking_rule.specs.Upward.{upward}
+
+-- The loop with this number among the acts: its head and its body.
+abbrev pub loop_in : ℕ → List Act → Option (Head × Acts)
+loop_in n [] = None
+loop_in n (Act.loop h b ∷ rest) = if h.number == n then Some (h, b) else loop_in n rest
+loop_in n (Act.set x t span ∷ rest) = loop_in n rest
+loop_in n (Act.draw x qs span ∷ rest) = loop_in n rest
+loop_in n (Act.any x up ty span ∷ rest) = loop_in n rest
+loop_in n (Act.reward f span ∷ rest) = loop_in n rest
+loop_in n (Act.ifs arms e span ∷ rest) = loop_in n rest
+loop_in n (Act.pick up a b span ∷ rest) = loop_in n rest
+loop_in n (Act.check kind f span ∷ rest) = loop_in n rest
+loop_in n (Act.validate co span ∷ rest) = loop_in n rest
+loop_in n (Act.call xs q es span ∷ rest) = loop_in n rest
+
+-- The loop with this number of the procedure's body, which has a ranking: the step and the formula.
+pub record RankedLoop (p : TypedProcedure) (n : ℕ) : Type 0 where
+  pub head : Head
+  pub body : Acts
+  pub rank : Rational × Form
+  pub named : loop_in n (in_order (acts_in p.body)) ≡ Some (head, body)
+  pub ranked : head.rank ≡ Some rank
+
+-- The step and what the ranking is worth after the body, where the guard holds; else 0.
+abbrev pub after_turn : Head → Acts → Rational × Form → Env → Choices → Value
+after_turn h b r s c = if holds h.guard s Choices.stop then finite r.0 +ᵛ forward (upward b) (value r.1) s c else zeroᵛ
+
+-- In each state of the procedure the ranking is at least what it is after a turn, whatever is chosen.
+abbrev pub IsRanking : TypedProcedure → Head → Acts → Rational × Form → Type 0
+IsRanking p h b r = (s : List Val) (c : Choices) → IsState p s → after_turn h b r (environment s) c ≤ᵛ value r.1 (environment s) Choices.stop

@@ -1,0 +1,10 @@
+//! Rankings of loops: their goals, and what a ranking says of runs.
+#![tactic(auto)]
+
+mod goals;
+mod laws;
+mod loops;
+mod upward;
+
+pub use goals::ranking_goal;
+pub use laws::{ranking_goals_say_rankings, rankings_bound_turns};

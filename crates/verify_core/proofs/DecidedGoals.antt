@@ -1,0 +1,46 @@
+-- The goals that are made of a procedure of a file that meets the rules can be decided.
+use Rattle.std.proofs.Common.{◌<◌, ◌≤◌, ◌^◌, ℕ, sym, subst, arith, List, [], ◌∷◌, length}
+use Rattle.std.specs.Prelude.{Result, Ok, Err, IfOk}
+use Rattle.heylo_formula.specs.Sizes.{nodes}
+use Rattle.heylo_formula.specs.declared.goals.GoalId.{GoalId}
+use Rattle.heylo_formula.specs.declared.goals.GoalId.TheVariants.{Main, Pre, Post, Invariant, Ranking}
+use Rattle.heylo_formula.specs.declared.goals.Made.{Made}
+use Rattle.heylo_formula.specs.declared.goals.Made.TheVariants as made
+use Rattle.heyvl_types.specs.Acts.{TypedProcedure, procedure_at}
+use Rattle.heyvl_types.specs.ResolvedSizes.{FormsWithin}
+use Rattle.heyvl_types.specs.Rules.{Each, MeetsRules}
+use Rattle.loop_encodings.specs.EncodingLaws.{EncodingIsOver}
+use Rattle.verdict_report.specs.declared.answers.NamedGoal.{NamedGoal}
+use Rattle.vp_generator.specs.Laws.{GeneratedFormIsFormula}
+use Rattle.vp_generator.specs.Over.{GeneratedFormIsOver}
+use Rattle.vp_generator.specs.PrenexedGoals.{PrenexedGoalsAreGoals}
+use Rattle.verify_core.specs.Questions.{AreGoals, IsMadeOf, Question, question}
+use Rattle.verify_core.specs.Decidable.{CanDecide, IsDecidable}
+use Rattle.verify_core.proofs.AskedGoals.{IsProper, goal_is, goal_small, proper}
+use Rattle.verify_core.proofs.FromRules.{each_at}
+
+pub if_both : {A E : Type 0} (r : Result A E) (P Q R : A → Type 0) → ((x : A) → P x → Q x → R x) → IfOk r P → IfOk r Q → IfOk r R
+if_both (Ok x) P Q R f h k = f x h k
+if_both (Err e) P Q R f h k = tt
+
+decidable : PrenexedGoalsAreGoals → (q : Question) (m : Made) → IsProper q → nodes q.stated ≤ 2 ^ 27 → IsMadeOf q m → CanDecide m
+decidable goals q (made.Goal g) h s m =
+    let i = goal_is goals q h in
+    let k = goal_small q h m.1 s in
+    subst IsDecidable (sym m.0) (record { typed = i.typed; over = i.over; stated = k.stated; found = k.found; variables = k.variables })
+decidable goals q made.Depth h s m = tt
+decidable goals q made.Nodes h s m = tt
+
+module _ (goals : PrenexedGoalsAreGoals) (formula : GeneratedFormIsFormula) (over : GeneratedFormIsOver) (encoded : EncodingIsOver) (ps : List TypedProcedure) (rules : Each (MeetsRules ps) ps) (small : Each (FormsWithin (2 ^ 27)) ps) (p : ℕ) (there : p < length ps) where
+  stated_small : (id : GoalId) → nodes (question ps (procedure_at ps p) id).stated ≤ 2 ^ 27
+  stated_small Main = (each_at (FormsWithin (2 ^ 27)) ps p small there).pre
+  stated_small Pre = omega arith
+  stated_small Post = omega arith
+  stated_small (Invariant n) = omega arith
+  stated_small (Ranking n) = omega arith
+
+  pub each_can : (ids : List GoalId) (gs : List NamedGoal) → AreGoals ps p ids gs → Each (λ (g : NamedGoal). CanDecide g.made) gs
+  each_can [] [] h = tt
+  each_can [] (g ∷ gs) h = absurd h
+  each_can (i ∷ ids) [] h = absurd h
+  each_can (i ∷ ids) (g ∷ gs) h = (decidable goals (question ps (procedure_at ps p) i) g.made (proper formula over encoded ps rules p there i) (stated_small i) h.0.made, each_can ids gs h.1)

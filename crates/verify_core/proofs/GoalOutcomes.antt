@@ -1,0 +1,122 @@
+-- What comes of decided goals, goal by goal.
+use Rattle.std.proofs.Common.{◌≡◌, ℕ, refl, sym, ap, ◌∙◌, append_assoc, append-nil, Bool, true, false, List, [], ◌∷◌, ◌++◌, map, length, subst}
+use Rattle.std.specs.Prelude.{Option, Some, None}
+use Rattle.farkas_check.specs.declared.trees.GoalCert.{GoalCert}
+use Rattle.heylo_formula.specs.declared.goals.GoalId.{GoalId}
+use Rattle.heylo_formula.specs.declared.values.Val.{Val}
+use Rattle.heyvl_types.specs.Rules.{Each}
+use Rattle.linear_elim.specs.declared.answers.Cause.{Cause}
+use Rattle.region_split.specs.declared.decisions.Decision.{Decision}
+use Rattle.region_split.specs.declared.decisions.Decision.TheVariants as decision
+use Rattle.verdict_report.specs.declared.answers.NamedGoal.{NamedGoal}
+use Rattle.verify_core.specs.Decided.{DecidedGoal, all_proved, all_told, certificate, certificates, first_falsified, first_unknown, first_with, is_falsified, listed, or_else, told}
+use Rattle.verify_core.specs.declared.deciding.Decided as declared
+use Rattle.verify_core.specs.declared.outcomes.Outcome.{Outcome}
+use Rattle.verify_core.specs.declared.outcomes.Outcome.TheVariants.{Proved, Falsified, Unknown}
+use Rattle.verify_core.specs.internal.Outcomes.{both, outcome, outcome_of, told_by, unless_falsified}
+use Rattle.verify_core.specs.internal.Settled.{IsSettled, plain}
+use Rattle.verify_core.specs.internal.Verdicts.{all_told_by}
+
+-- A list of length 0 is empty.
+pub nothing_left : {A : Type 0} (n : ℕ) (xs : List A) → n ≡ length xs → n ≡ 0 → xs ≡ []
+nothing_left n [] e z = refl
+nothing_left n (x ∷ xs) e z = absurd (cc)
+
+-- ---- Decisions so far
+
+abbrev pub goals_of : List declared.Decided → List NamedGoal
+goals_of ds = map (λ (d : DecidedGoal). d.goal) (map plain ds)
+
+goals_push : (xs : List declared.Decided) (d : declared.Decided) (us : List NamedGoal) → goals_of (xs ++ (d ∷ [])) ++ us ≡ goals_of xs ++ (d.goal ∷ us)
+goals_push [] d us = refl
+goals_push (x ∷ xs) d us = ap (λ l. x.goal ∷ l) (goals_push xs d us)
+
+pub goals_next : (xs ys : List declared.Decided) (d : declared.Decided) (zs us all : List NamedGoal) → ys ≡ xs ++ (d ∷ []) → zs ≡ d.goal ∷ us → goals_of xs ++ zs ≡ all → goals_of ys ++ us ≡ all
+goals_next xs ys d zs us all e z h = ap (λ l. goals_of l ++ us) e ∙ goals_push xs d us ∙ ap (λ l. goals_of xs ++ l) (sym z) ∙ h
+
+settled_push : (xs : List declared.Decided) (d : declared.Decided) → Each IsSettled (map plain xs) → IsSettled (plain d) → Each IsSettled (map plain (xs ++ (d ∷ [])))
+settled_push [] d h k = (k, tt)
+settled_push (x ∷ xs) d h k = (h.0, settled_push xs d h.1 k)
+
+pub settled_next : (xs ys : List declared.Decided) (d : declared.Decided) → ys ≡ xs ++ (d ∷ []) → Each IsSettled (map plain xs) → IsSettled (plain d) → Each IsSettled (map plain ys)
+settled_next xs ys d e h k = subst (λ l. Each IsSettled (map plain l)) (sym e) (settled_push xs d h k)
+
+pub all_goals : (xs : List declared.Decided) (zs all : List NamedGoal) → zs ≡ [] → goals_of xs ++ zs ≡ all → goals_of xs ≡ all
+all_goals xs zs all z h = sym (append-nil (goals_of xs)) ∙ ap (λ l. goals_of xs ++ l) (sym z) ∙ h
+
+-- ---- Outcomes so far
+
+unless_twice : (g h : NamedGoal) (c d : Cause) (o : Outcome) → unless_falsified g c o ≡ unless_falsified g c (unless_falsified h d o)
+unless_twice g h c d Proved = refl
+unless_twice g h c d (Falsified k s) = refl
+unless_twice g h c d (Unknown k e) = refl
+
+both_assoc : (a b c : Outcome) → both (both a b) c ≡ both a (both b c)
+both_assoc Proved b c = refl
+both_assoc (Falsified g s) b c = refl
+both_assoc (Unknown g e) Proved c = refl
+both_assoc (Unknown g e) (Falsified h s) c = refl
+both_assoc (Unknown g e) (Unknown h d) c = unless_twice g h e d c
+
+both_proved : (a : Outcome) → both a Proved ≡ a
+both_proved Proved = refl
+both_proved (Falsified g s) = refl
+both_proved (Unknown g c) = refl
+
+pub outcome_next : (zs ys : List declared.Decided) (x : declared.Decided) (a b c all : Outcome) → zs ≡ x ∷ ys → b ≡ outcome_of (plain x) → c ≡ both a b → both a (outcome (map plain zs)) ≡ all → both c (outcome (map plain ys)) ≡ all
+outcome_next zs ys x a b c all z e f h =
+    ap (λ o. both o (outcome (map plain ys))) f ∙ both_assoc a b (outcome (map plain ys)) ∙ ap (λ o. both a (both o (outcome (map plain ys)))) e ∙ ap (λ l. both a (outcome (map plain l))) (sym z) ∙ h
+
+pub outcome_last : (zs : List declared.Decided) (a all : Outcome) → zs ≡ [] → both a (outcome (map plain zs)) ≡ all → a ≡ all
+outcome_last zs a all z h = sym (both_proved a) ∙ ap (λ l. both a (outcome (map plain l))) (sym z) ∙ h
+
+pub certs_next : (zs ys : List declared.Decided) (x : declared.Decided) (cs ds all : List GoalCert) → zs ≡ x ∷ ys → ds ≡ cs ++ certificate (plain x) → cs ++ certificates (map plain zs) ≡ all → ds ++ certificates (map plain ys) ≡ all
+certs_next zs ys x cs ds all z e h =
+    ap (λ l. l ++ certificates (map plain ys)) e ∙ append_assoc cs (certificate (plain x)) (certificates (map plain ys)) ∙ ap (λ l. cs ++ certificates (map plain l)) (sym z) ∙ h
+
+pub certs_last : (zs : List declared.Decided) (cs all : List GoalCert) → zs ≡ [] → cs ++ certificates (map plain zs) ≡ all → cs ≡ all
+certs_last zs cs all z h = sym (append-nil cs) ∙ ap (λ l. cs ++ certificates (map plain l)) (sym z) ∙ h
+
+-- ---- What an outcome says of the goals
+
+abbrev pub is_all : Outcome → Bool
+is_all Proved = true
+is_all (Falsified g s) = false
+is_all (Unknown g c) = false
+
+abbrev pub falsified_by : Outcome → Option (GoalId × List Val)
+falsified_by Proved = None
+falsified_by (Falsified g s) = Some (g.id, s.items)
+falsified_by (Unknown g c) = None
+
+abbrev falsified_goal : Outcome → Option NamedGoal
+falsified_goal Proved = None
+falsified_goal (Falsified g s) = Some g
+falsified_goal (Unknown g c) = None
+
+abbrev pub unknown_by : Outcome → Option (GoalId × Cause)
+unknown_by Proved = None
+unknown_by (Falsified g s) = None
+unknown_by (Unknown g c) = Some (g.id, c)
+
+pub record Describes (ds : List DecidedGoal) (o : Outcome) : Type 0 where
+  pub all : all_proved ds ≡ is_all o
+  pub falsified : first_falsified ds ≡ falsified_by o
+  pub falsified_first : first_with is_falsified ds ≡ falsified_goal o
+  pub unknown : falsified_by o ≡ None → first_unknown ds ≡ unknown_by o
+  pub told_goal : told ds ≡ told_by o
+
+describes_more : (g : NamedGoal) (d : Decision) (ds : List DecidedGoal) (o : Outcome) → Describes ds o → Describes (record { goal = g; decision = d } ∷ ds) (both (outcome_of (record { goal = g; decision = d })) o)
+describes_more g (decision.Proved t) ds o h = record { all = h.all; falsified = h.falsified; falsified_first = h.falsified_first; unknown = h.unknown; told_goal = h.told_goal }
+describes_more g (decision.Falsified s) ds o h = record { all = refl; falsified = refl; falsified_first = refl; unknown = λ e. absurd (cc); told_goal = refl }
+describes_more g (decision.Unknown c) ds Proved h = record { all = refl; falsified = h.falsified; falsified_first = h.falsified_first; unknown = λ _. refl; told_goal = ap (λ x. or_else x (Some g)) h.falsified_first }
+describes_more g (decision.Unknown c) ds (Falsified k s) h = record { all = refl; falsified = h.falsified; falsified_first = h.falsified_first; unknown = λ e. absurd (cc); told_goal = ap (λ x. or_else x (Some g)) h.falsified_first }
+describes_more g (decision.Unknown c) ds (Unknown k e) h = record { all = refl; falsified = h.falsified; falsified_first = h.falsified_first; unknown = λ _. refl; told_goal = ap (λ x. or_else x (Some g)) h.falsified_first }
+
+pub describes : (ds : List DecidedGoal) → Describes ds (outcome ds)
+describes [] = record { all = refl; falsified = refl; falsified_first = refl; unknown = λ _. refl; told_goal = refl }
+describes (d ∷ ds) = describes_more d.goal d.decision ds (outcome ds) (describes ds)
+
+pub told_all : (table : List (List DecidedGoal)) → all_told_by (map outcome table) ≡ all_told table
+told_all [] = refl
+told_all (ds ∷ rest) = ap (λ x. listed x ++ all_told_by (map outcome rest)) (sym (describes ds).told_goal) ∙ ap (λ l. listed (told ds) ++ l) (told_all rest)

@@ -1,0 +1,63 @@
+-- What is made of two forms over variables is what the question asks for: the names and types of the variables are the same.
+use Rattle.std.proofs.Common.{◌≡◌, ℕ, ◌<◌, refl, sym, ap, ◌∙◌, arith, List, [], ◌∷◌, ◌++◌, append_assoc, map, length, get_or}
+use Rattle.std.proofs.lemmas.List.{append-nil}
+use Prim.Native.Nat.{zero, suc}
+use Rattle.heylo_formula.specs.BinderNames.{Binder, binders}
+use Rattle.heylo_formula.specs.declared.goals.Made.{Made}
+use Rattle.heylo_formula.specs.declared.goals.Made.TheVariants as made
+use Rattle.heyvl_types.specs.Acts.{type_list}
+use Rattle.heyvl_types.specs.PlainActs.{variable_of}
+use Rattle.heyvl_types.specs.declared.typed.VarInfo.{VarInfo}
+use Rattle.vp_generator.specs.PrenexedGoals.{IsMade, names_of_variables, prenexed_goal, types_of_variables}
+use Rattle.vp_generator.specs.Scopes.{AreNamed, name_of, named}
+use Rattle.verify_core.specs.Questions.{IsMadeOf, Question, all_names, names}
+
+same_names : (vs : List VarInfo) → names (map variable_of vs) ≡ names_of_variables vs
+same_names [] = refl
+same_names (v ∷ vs) = ap (λ l. v.name ∷ l) (same_names vs)
+
+same_types : (vs : List VarInfo) → type_list (map variable_of vs) ≡ types_of_variables vs
+same_types [] = refl
+same_types (v ∷ vs) = ap (λ l. v.ty ∷ l) (same_types vs)
+
+name_at : (vs extra : List VarInfo) (x : ℕ) → x < length vs → name_of (vs ++ extra) x ≡ get_or (names_of_variables vs) x []
+name_at [] extra x l = absurd (omega (arith, l))
+name_at (v ∷ vs) extra zero l = refl
+name_at (v ∷ vs) extra (suc x) l = name_at vs extra x (omega (arith, l))
+
+name_behind : (vs : List VarInfo) (v : VarInfo) → names_of_variables (vs ++ v ∷ []) ≡ names_of_variables vs ++ v.name ∷ []
+name_behind [] v = refl
+name_behind (u ∷ vs) v = ap (λ l. u.name ∷ l) (name_behind vs v)
+
+abbrev binder_name : List VarInfo → Binder → List ℕ
+binder_name vs b = get_or (names_of_variables vs) b.0 []
+
+named_names : (vs extra : List VarInfo) (bs : List Binder) → AreNamed (length vs) bs → names_of_variables (named (vs ++ extra) bs) ≡ names_of_variables (vs ++ extra) ++ map (λ b. binder_name vs b) bs
+named_names vs extra [] h = sym (append-nil (names_of_variables (vs ++ extra)))
+named_names vs extra (b ∷ bs) h =
+    ap (λ l. names_of_variables (named l bs)) (append_assoc vs extra (new ∷ []))
+    ∙ (named_names vs (extra ++ new ∷ []) bs h.1
+    ∙ (ap (λ l. names_of_variables l ++ map (λ c. binder_name vs c) bs) (sym (append_assoc vs extra (new ∷ [])))
+    ∙ (ap (λ l. l ++ map (λ c. binder_name vs c) bs) (name_behind (vs ++ extra) new ∙ ap (λ x. names_of_variables (vs ++ extra) ++ x ∷ []) (name_at vs extra b.0 h.0))
+    ∙ append_assoc (names_of_variables (vs ++ extra)) (binder_name vs b ∷ []) (map (λ c. binder_name vs c) bs))))
+  where
+    new : VarInfo
+    new = record { name = name_of (vs ++ extra) b.0; ty = b.1 }
+
+all_are_named : (vs : List VarInfo) (bs : List Binder) → AreNamed (length vs) bs → names_of_variables (named vs bs) ≡ names_of_variables vs ++ map (λ b. binder_name vs b) bs
+all_are_named vs bs h = ap (λ l. names_of_variables (named l bs)) (sym (append-nil vs)) ∙ (named_names vs [] bs h ∙ ap (λ l. names_of_variables l ++ map (λ b. binder_name vs b) bs) (append-nil vs))
+
+-- What is made of the two forms of a question over its variables is made of the question.
+pub made_of : (q : Question) (vs : List VarInfo) (made : Made) → map variable_of vs ≡ q.variables → AreNamed (length vs) (binders q.found) → IsMade q.upper q.stated q.found vs made → IsMadeOf q made
+made_of q vs (made.Goal g) e n h = (h.0 ∙ (ap (λ t. prenexed_goal q.upper t (names_of_variables (named vs (binders q.found))) q.stated q.found) types ∙ ap (λ l. prenexed_goal q.upper (type_list q.variables) l q.stated q.found) all), h.1)
+  where
+    types : types_of_variables vs ≡ type_list q.variables
+    types = sym (same_types vs) ∙ ap type_list e
+
+    own : names_of_variables vs ≡ names q.variables
+    own = sym (same_names vs) ∙ ap names e
+
+    all : names_of_variables (named vs (binders q.found)) ≡ all_names q
+    all = all_are_named vs (binders q.found) n ∙ ap (λ l. l ++ map (λ (b : Binder). get_or l b.0 []) (binders q.found)) own
+made_of q vs made.Depth e n h = h
+made_of q vs made.Nodes e n h = h

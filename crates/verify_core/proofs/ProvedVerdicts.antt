@@ -1,0 +1,96 @@
+-- The verdicts by what comes of the goals, and the answers of a file.
+use Rattle.std.proofs.Common.{◌≡◌, ◌<◌, ◌≤◌, ◌+◌, ◌||◌, ℕ, refl, sym, ap, ◌∙◌, subst, append_assoc, append-nil, Bool, true, false, not, List, [], ◌∷◌, ◌++◌, map, drop, length}
+use Rattle.std.proofs.Math.Numerals.{add-one}
+use Rattle.std.proofs.Math.Seq.{drop-nil}
+use Rattle.std.proofs.lemmas.List.{drop_all}
+use Rattle.std.specs.Prelude.{Option, Some, None, if◌then◌else◌}
+use Prim.Native.Nat.{zero, suc}
+use Rattle.heyvl_syntax.specs.declared.spans.Span.{Span}
+use Rattle.heylo_formula.specs.Binders.{has_binder}
+use Rattle.heyvl_types.specs.Acts.{Acts, TypedProcedure, procedure_at}
+use Rattle.heyvl_types.specs.Places.{in_order}
+use Rattle.heyvl_types.specs.Program.{Reason, first_break, reason_of_break, why_no_program}
+use Rattle.proc_contracts.specs.Reasons.{plain}
+use Rattle.proc_contracts.specs.declared.reasons.WhyNot.{WhyNot}
+use Rattle.verdict_report.specs.declared.answers.Answer.{Answer}
+use Rattle.verdict_report.specs.declared.answers.NamedGoal.{NamedGoal}
+use Rattle.verdict_report.specs.declared.answers.Verdict.{Verdict}
+use Rattle.verify_core.specs.Answered.{AreAnswers, IsAnswer, IsVerdict}
+use Rattle.verify_core.specs.Decided.{DecidedGoal, all_proved, decided_at, first_falsified, first_unknown, listed}
+use Rattle.verify_core.specs.declared.outcomes.Outcome.{Outcome}
+use Rattle.verify_core.specs.internal.Outcomes.{outcome, told_by}
+use Rattle.verify_core.specs.internal.Verdicts.{all_told_by, verdict_for}
+use Rattle.verify_core.specs.declared.outcomes.Outcome.TheVariants.{Proved}
+use Rattle.verify_core.proofs.GoalOutcomes.{describes, falsified_by, is_all, unknown_by}
+use Rattle.verify_core.proofs.Rows.{drop_next, drop_none}
+
+-- ---- One verdict
+
+pub all_are_proved : (ds : List DecidedGoal) (o : Outcome) → o ≡ outcome ds → o ≡ Proved → all_proved ds ≡ true
+all_are_proved ds o e f = (describes ds).all ∙ ap is_all (sym e ∙ f)
+
+pub falsified_here : (ds : List DecidedGoal) (o p : Outcome) → o ≡ outcome ds → o ≡ p → first_falsified ds ≡ falsified_by p
+falsified_here ds o p e f = (describes ds).falsified ∙ ap falsified_by (sym e ∙ f)
+
+pub unknown_here : (ds : List DecidedGoal) (o p : Outcome) → o ≡ outcome ds → o ≡ p → falsified_by p ≡ None → first_unknown ds ≡ unknown_by p
+unknown_here ds o p e f n = (describes ds).unknown (ap falsified_by (sym e ∙ f) ∙ n) ∙ ap unknown_by (sym e ∙ f)
+
+no_body_why : (p : TypedProcedure) → p.body ≡ None → why_no_program p ≡ Some Reason.no_body
+no_body_why p e = rw e refl
+
+other_why : (a b : Bool) (o : Option Span) → (if a then Some Reason.no_wlp else (if b then Some Reason.quantifier else reason_of_break o)) ≡ Some Reason.no_body → ⊥
+other_why true b o e = cc
+other_why false true o e = cc
+other_why false false (Some s) e = cc
+other_why false false None e = cc
+
+why_no_body : (p : TypedProcedure) (b : Option Acts) → p.body ≡ b → why_no_program p ≡ Some Reason.no_body → p.body ≡ None
+why_no_body p None e h = e
+why_no_body p (Some acts) e h = absurd (other_why (not (p.co || p.weak)) (has_binder p.post) (first_break p.co (in_order acts)) (rw e at h))
+
+pub unclosed_verdict : (ps : List TypedProcedure) (table : List (List DecidedGoal)) (p : ℕ) (why : WhyNot) (v : Verdict) → Some (plain why) ≡ why_no_program (procedure_at ps p) → v ≡ verdict_for why → all_proved (decided_at table p) ≡ true → IsVerdict ps table p v
+unclosed_verdict ps table p why v e f h = subst (IsVerdict ps table p) (sym f) (by why e)
+  where
+    by : (w : WhyNot) → Some (plain w) ≡ why_no_program (procedure_at ps p) → IsVerdict ps table p (verdict_for w)
+    by WhyNot.NoBody k = why_no_body (procedure_at ps p) (procedure_at ps p).body refl (sym k)
+    by WhyNot.NoWlp k = (h, ((λ n. let z : Some Reason.no_wlp ≡ Some Reason.no_body = k ∙ no_body_why (procedure_at ps p) n in cc), sym k))
+    by WhyNot.Quantifier k = (h, ((λ n. let z : Some Reason.quantifier ≡ Some Reason.no_body = k ∙ no_body_why (procedure_at ps p) n in cc), sym k))
+    by (WhyNot.Statement span) k = (h, ((λ n. let z : Some (Reason.statement span) ≡ Some Reason.no_body = k ∙ no_body_why (procedure_at ps p) n in cc), sym k))
+
+-- ---- All answers
+
+pub head_outcome : (table : List (List DecidedGoal)) (p : ℕ) (x : Outcome) (ys : List Outcome) → drop p (map outcome table) ≡ x ∷ ys → x ≡ outcome (decided_at table p)
+head_outcome [] p x ys e = absurd (let z : ◌≡◌ {A = List Outcome} [] (x ∷ ys) = sym (drop-nil p) ∙ e in cc)
+head_outcome (r ∷ rs) zero x ys e = cc
+head_outcome (r ∷ rs) (suc p) x ys e = head_outcome rs p x ys e
+
+drop_tail : {A : Type 0} (os : List A) (p : ℕ) (x : A) (ys : List A) → drop p os ≡ x ∷ ys → drop (suc p) os ≡ ys
+drop_tail {A} [] p x ys e = absurd (let z : ◌≡◌ {A = List A} [] (x ∷ ys) = sym (drop-nil p) ∙ e in cc)
+drop_tail (o ∷ os) zero x ys e = drop_none os ∙ tail_of o x os ys e
+  where
+    tail_of : {A : Type 0} (a b : A) (cs ds : List A) → a ∷ cs ≡ b ∷ ds → cs ≡ ds
+    tail_of a b cs ds e = cc
+drop_tail (o ∷ os) (suc p) x ys e = drop_tail os p x ys e
+
+pub left_next : (os zs ys : List Outcome) (p : ℕ) (x : Outcome) → zs ≡ drop p os → zs ≡ x ∷ ys → ys ≡ drop (p + 1) os
+left_next os zs ys p x e f = sym (ap (λ n. drop n os) (add-one p) ∙ drop_tail os p x ys (sym e ∙ f))
+
+abbrev pub AnswersTo : List TypedProcedure → List (List DecidedGoal) → ℕ → List Answer → Type 0
+AnswersTo ps table p all = (more : List Answer) → AreAnswers ps table p (drop p ps) more → AreAnswers ps table 0 ps (all ++ more)
+
+pub no_answers : (ps : List TypedProcedure) (table : List (List DecidedGoal)) (all : List Answer) → all ≡ [] → AnswersTo ps table 0 all
+no_answers ps table all e more h = subst (λ r. AreAnswers ps table 0 ps (r ++ more)) (sym e) (subst (λ l. AreAnswers ps table 0 l more) (drop_none ps) h)
+
+pub next_answers : (ps : List TypedProcedure) (table : List (List DecidedGoal)) (p : ℕ) (all us : List Answer) (a : Answer) → p < length ps → us ≡ all ++ (a ∷ []) → AnswersTo ps table p all → IsAnswer ps table p a → AnswersTo ps table (p + 1) us
+next_answers ps table p all us a l e h k more m =
+    let there : AreAnswers ps table (suc p) (drop (suc p) ps) more = subst (λ i. AreAnswers ps table i (drop i ps) more) (add-one p) m in
+    subst (λ r. AreAnswers ps table 0 ps (r ++ more)) (sym e) (subst (AreAnswers ps table 0 ps) (sym (append_assoc all (a ∷ []) more)) (h (a ∷ more) (subst (λ r. AreAnswers ps table p r (a ∷ more)) (sym (drop_next ps p l)) (k, there))))
+
+pub all_answers : (ps : List TypedProcedure) (table : List (List DecidedGoal)) (p : ℕ) (all : List Answer) → length ps ≤ p → AnswersTo ps table p all → AreAnswers ps table 0 ps all
+all_answers ps table p all l h = subst (AreAnswers ps table 0 ps) (append-nil all) (h [] (subst (λ r. AreAnswers ps table p r []) (sym (drop_all p ps l)) tt))
+
+pub told_next : (zs ys : List Outcome) (x : Outcome) (ms ns all : List NamedGoal) → zs ≡ x ∷ ys → ns ≡ ms ++ listed (told_by x) → ms ++ all_told_by zs ≡ all → ns ++ all_told_by ys ≡ all
+told_next zs ys x ms ns all z e h = ap (λ l. l ++ all_told_by ys) e ∙ append_assoc ms (listed (told_by x)) (all_told_by ys) ∙ ap (λ l. ms ++ all_told_by l) (sym z) ∙ h
+
+pub told_last : (zs : List Outcome) (ms all : List NamedGoal) → zs ≡ [] → ms ++ all_told_by zs ≡ all → ms ≡ all
+told_last zs ms all z h = sym (append-nil ms) ∙ ap (λ l. ms ++ all_told_by l) (sym z) ∙ h

@@ -1,0 +1,13 @@
+use Rattle.std.proofs.Common.{◌≡◌, map, ◌++◌}
+use Rattle.std.specs.Vec.Iter.{into_iter_items}
+use Rattle.verify_core.specs.Decided.{certificates}
+use Rattle.verify_core.specs.internal.Outcomes.{both, outcome}
+use Rattle.verify_core.specs.internal.Settled.{plain}
+use Rattle.verify_core.proofs.outcomes.gather.Given as goal
+
+-- What came so far and what comes of the goals that are left are what comes of all.
+abbrev pub invariant-loop-one : goal.invariant-loop-one
+invariant-loop-one l = record {
+  outcome : both l.sum (outcome (map plain (into_iter_items l.one-iterator))) ≡ outcome (map plain l.fn.decided.items);
+  certs : l.certs.items ++ certificates (map plain (into_iter_items l.one-iterator)) ≡ l.initial.certs.items ++ certificates (map plain l.fn.decided.items);
+}

@@ -1,0 +1,9 @@
+pub mod Questions
+pub mod PostBinders
+pub mod Decidable
+pub mod Decided
+pub mod Answered
+pub mod Headline
+pub mod Places
+pub mod GoalLaws
+pub mod internal

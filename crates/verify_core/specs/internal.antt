@@ -1,0 +1,6 @@
+pub mod Asked
+pub mod Settled
+pub mod Outcomes
+pub mod Rows
+pub mod Marks
+pub mod Verdicts

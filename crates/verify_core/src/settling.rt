@@ -1,0 +1,59 @@
+//! What comes of the goals of each procedure of a file.
+
+ghost use Rattle.heyvl_types.specs.PlainActs.{procedures_of};
+ghost use Rattle.heyvl_types.specs.ResolvedSizes.{FormsWithin};
+ghost use Rattle.heyvl_types.specs.Rules.{Each, MeetsAllRules};
+ghost use Rattle.std.specs.Prelude.{IfOk, [], length, ◌<◌, ◌^◌, ◌≡◌};
+ghost use Rattle.verify_core.specs.PostBinders.{HasNamedBinders};
+ghost use Rattle.verify_core.specs.internal.Rows.{AreSettled, IsRow};
+
+use crate::deciding::decide_all;
+use crate::making::goals;
+use crate::outcomes::{Outcome, gather};
+use farkas_check::GoalCert;
+use heyvl_types::Typed;
+use loop_encodings::encodings_are_over_their_variables;
+use std::alloc::{AllocError, Global};
+use vp_generator::{generated_form_means_acts, prenexed_goals_speak_of_choices};
+
+/// What comes of the goals of each procedure, in the order of the file, with the certificates of the goals that are proved.
+pub(crate) fn settle(
+    alloc: Global,
+    typed: &Typed,
+    certs: &mut Vec<GoalCert>,
+) -> Result<Vec<Outcome>, AllocError>
+    requires rules { MeetsAllRules typed.now }
+    requires named { Each HasNamedBinders (procedures_of typed.now) }
+    requires small { Each (FormsWithin (2 ^ 27)) (procedures_of typed.now) }
+    requires none { certs.old.items ≡ [] }
+    ensures { IfOk result (λ all. AreSettled (procedures_of typed.now) all.items certs.new.items) }
+{
+    let mut all = Vec::new(alloc);
+    let count = typed.procs.len() as u32;
+    for p in 0..count {
+        let next = settle_one(alloc, typed, p, certs)?;
+        all.push(next)?;
+    }
+    Ok(all)
+}
+
+/// What comes of the goals of one procedure. The certificates are appended.
+fn settle_one(
+    alloc: Global,
+    typed: &Typed,
+    p: u32,
+    certs: &mut Vec<GoalCert>,
+) -> Result<Outcome, AllocError>
+    requires there { p < length typed.now.procs.items }
+    requires rules { MeetsAllRules typed.now }
+    requires named { Each HasNamedBinders (procedures_of typed.now) }
+    requires small { Each (FormsWithin (2 ^ 27)) (procedures_of typed.now) }
+    ensures { IfOk result (λ o. IsRow (procedures_of typed.now) p certs.old.items o certs.new.items) }
+{
+    generated_form_means_acts();
+    prenexed_goals_speak_of_choices();
+    encodings_are_over_their_variables();
+    let all = goals(alloc, typed, p)?;
+    let decided = decide_all(alloc, all)?;
+    gather(decided, certs)
+}
