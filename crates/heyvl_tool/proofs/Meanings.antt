@@ -1,128 +1,271 @@
--- Procedures within the limits: their programs are fair, and the forward meaning is the expected value of the block.
-use Rattle.std.proofs.Common.{◌≡◌, ℕ, ◌≤◌, ◌<◌, ◌+◌, ◌-◌, ◌*◌, refl, sym, ap, ap₂, ◌∙◌, subst, Bool, true, false, cond, arith, length}
-use Rattle.std.proofs.Math.IntN.{pos, ◌+ℤ◌, ◌*ℤ◌, neg_ℤ}
-use Rattle.std.proofs.Math.Path.{fun_ext}
-use Rattle.std.proofs.Math.Nat.{mul-pos}
-use borrow.Author.Differences.{ints}
-use Rattle.heyvl_num.specs.Rational.{Rational, ratio, zeroʳ, oneʳ, ◌+ʳ◌, ◌-ʳ◌, ◌≤ʳ◌}
-use Rattle.heyvl_num.specs.Value.{Value, zeroᵛ, oneᵛ, ◌+ᵛ◌, ◌*ᵛ◌, ◌≤ᵛ◌}
+-- What holds of forms and conditions where it holds of their parts holds of what the table of expressions makes: row by row.
+use Rattle.heylo_formula.specs.Formula.{Cond, Form}
+use Rattle.heylo_formula.specs.Typing.{NumberType, is_unsigned, join}
+use Rattle.heylo_formula.specs.declared.types.Ty.{Ty}
+use Rattle.heyvl_num.specs.Rational.{Rational}
 use Rattle.heyvl_num.specs.Value.Value.{finite}
-use Rattle.heyvl_num.proofs.exported.Rationals.{ratio_nonnegative, ratio_same, ratio-+, ratio-neg, +ʳ-zero}
-use Rattle.heyvl_num.proofs.exported.Values.{finite-+, finite-*, +ᵛ-zero, finite_nonnegative, order_finite, finite_order, zero-≤ᵛ-one, zero-≤ᵛ-zero}
-use Rattle.heyvl_tool.specs.declared.answers.Val.TheVariants.{Truth}
-use Rattle.heyvl_tool.specs.declared.first_form.Constant.{Constant}
-use Rattle.heyvl_tool.specs.declared.first_form.Constant.TheVariants.{Whole, Quotient}
-use Rattle.heyvl_tool.specs.State.{State, get, put, truth_of}
-use Rattle.heyvl_tool.specs.Formula.{value}
-use Rattle.heyvl_tool.specs.Procedure.{Statement, Block, Procedure}
-use Rattle.heyvl_tool.specs.Limits.{IsConstant, IsProbability, IsStatement, IsBlock, IsWithinLimits}
-use Rattle.heyvl_tool.specs.Meaning.{constant_value, flip_parts, act_of, acts_of, program}
-use Rattle.heyvl_tool.specs.Expectation.{before_statement, expectation, post_value}
-use Rattle.heyvl_tool.specs.Room.{divisor}
-use Rattle.heyvl_tool.specs.Bound.{IsBoundedAt}
-use Rattle.heyvl_tool.proofs.Forward.{forward_act, forward, total, HasWeights, IsFair, IsFairAct}
-use Rattle.heyvl_tool.proofs.Bounds.{IsFairProgram, bounded-forward, forward-bounded}
+use Rattle.heyvl_num.specs.Value.{Value}
+use Rattle.heyvl_syntax.specs.Expressions.{Expression}
+use Rattle.heyvl_syntax.specs.declared.literals.Lit.{Lit}
+use Rattle.heyvl_syntax.specs.declared.operators.BinaryOp.TheVariants as ops
+use Rattle.heyvl_syntax.specs.declared.operators.BinaryOp.{BinaryOp}
+use Rattle.heyvl_syntax.specs.declared.operators.UnaryOp.TheVariants as prefixes
+use Rattle.heyvl_syntax.specs.declared.operators.UnaryOp.{UnaryOp}
+use Rattle.heyvl_syntax.specs.declared.spans.Span.{Span}
+use Rattle.heyvl_syntax.specs.declared.types.TypeName.TheVariants as types
+use Rattle.heyvl_syntax.specs.declared.types.TypeName.{TypeName}
+use Rattle.heyvl_types.specs.Literals.{is_written, literal_value}
+use Rattle.heyvl_types.specs.Scopes.{Scope, find}
+use Rattle.heyvl_types.specs.Table.{Meaning, binary, bound, bracket, choice, comparison, declarable, divisor, embedding, extended, factor, given, joined_numbers, literal, minus, numbers, quantified, quotient, selected, truths, unary, variable, variable_of}
+use Rattle.heyvl_types.specs.TypedExpressions.{operated}
+use Rattle.std.proofs.Common.{Bool, List, None, Option, Some, false, if◌then◌else◌, option_map, true, ◌==◌, ℕ}
 
-constant_nonnegative : (c : Constant) → IsConstant c → zeroʳ ≤ʳ constant_value c
-constant_nonnegative (Whole n) h = ratio_nonnegative (pos n) 1 (omega arith) (omega (arith, ints))
-constant_nonnegative (Quotient n d) h = ratio_nonnegative (pos n) d h.2 (omega (arith, ints))
+-- It holds of a form and a condition where it holds of the parts, and of a product where something holds of its place; of binders it
+-- says nothing.
+pub record Spreads (F : Form → Type 0) (G : Cond → Type 0) (P : Span → Type 0) : Type 0 where
+  pub number : (v : Value) → F (Form.number v)
+  pub variable : (x : ℕ) → F (Form.variable x)
+  pub sum : (a b : Form) → F a → F b → F (Form.sum a b)
+  pub difference : (a b : Form) → F a → F b → F (Form.difference a b)
+  pub cut : (a b : Form) → F a → F b → F (Form.cut a b)
+  pub scale : (q : Rational) (a : Form) → F a → F (Form.scale q a)
+  pub product : (a b : Form) (s : Span) → P s → F a → F b → F (Form.product a b s)
+  pub min : (a b : Form) → F a → F b → F (Form.min a b)
+  pub max : (a b : Form) → F a → F b → F (Form.max a b)
+  pub imply : (a b : Form) → F a → F b → F (Form.imply a b)
+  pub co_imply : (a b : Form) → F a → F b → F (Form.co_imply a b)
+  pub embed : (g : Cond) → G g → F (Form.embed g)
+  pub iverson : (g : Cond) → G g → F (Form.iverson g)
+  pub select : (g : Cond) (a b : Form) → G g → F a → F b → F (Form.select g a b)
+  pub constant : (b : Bool) → G (Cond.constant b)
+  pub flag : (x : ℕ) → G (Cond.flag x)
+  pub not : (g : Cond) → G g → G (Cond.not g)
+  pub and : (g f : Cond) → G g → G f → G (Cond.and g f)
+  pub or : (g f : Cond) → G g → G f → G (Cond.or g f)
+  pub same : (g f : Cond) → G g → G f → G (Cond.same g f)
+  pub le : (a b : Form) → F a → F b → G (Cond.le a b)
+  pub lt : (a b : Form) → F a → F b → G (Cond.lt a b)
+  pub equal : (a b : Form) → F a → F b → G (Cond.equal a b)
+  pub ite : (g f e : Cond) → G g → G f → G e → G (Cond.ite g f e)
 
--- a probability, and what is left of 1, as fractions of one divisor
-pub record Chance (p : Rational) (d : ℕ) : Type 0 where
-  pub n : ℕ
-  pub m : ℕ
-  pub some : 0 < d
-  pub small : d ≤ 16
-  pub sums : n + m ≡ d
-  pub yes : p ≡ ratio (pos n) d
-  pub no : oneʳ -ʳ p ≡ ratio (pos m) d
+module _ (F : Form → Type 0) (G : Cond → Type 0) where
+  abbrev pub HoldsOf : Meaning → Type 0
+  HoldsOf (Meaning.truth g) = G g
+  HoldsOf (Meaning.number t a) = F a
+  HoldsOf Meaning.real = Unit {0}
 
--- a constant as a fraction
-pub record Amount (r : Rational) (d : ℕ) : Type 0 where
-  pub n : ℕ
-  pub few : n ≤ 16
-  pub some : 0 < d
-  pub small : d ≤ 16
-  pub is : r ≡ ratio (pos n) d
+  -- Where it becomes something, it holds of that.
+  abbrev pub Holds : Option Meaning → Type 0
+  Holds None = Unit {0}
+  Holds (Some m) = HoldsOf m
 
-pub amount : (c : Constant) → IsConstant c → Amount (constant_value c) (divisor c)
-amount (Whole n) h = record { n = n; few = h; some = omega arith; small = omega arith; is = refl }
-amount (Quotient n d) h = record { n = n; few = h.0; some = h.2; small = h.1; is = refl }
+  -- ---- Parts
 
-minus : (n m d : ℕ) → n + m ≡ d → 0 < d → oneʳ -ʳ ratio (pos n) d ≡ ratio (pos m) d
-unfolding oneʳ ◌-ʳ◌
-minus n m d e p =
-    let above : pos 1 *ℤ pos d +ℤ neg_ℤ (pos n) *ℤ pos 1 ≡ pos m = omega (arith, ints) in
-    let below : d ≡ 1 * d = omega arith in
-    ap (λ x. ratio (pos 1) 1 +ʳ x) (ratio-neg (pos n) d p) ∙ ratio-+ (pos 1) 1 (neg_ℤ (pos n)) d (omega arith) p ∙ ap₂ ratio above (sym below)
+  given_holds : (o : Option Meaning) (f : Meaning → Option Meaning) → Holds o → ((m : Meaning) → HoldsOf m → Holds (f m)) → Holds (given o f)
+  given_holds None f h k = tt
+  given_holds (Some m) f h k = k m h
 
-some_rest : (n d : ℕ) → n ≤ d → n + (d - n) ≡ d
-some_rest n d h = omega arith
+  given_any : {A : Type 0} (o : Option A) (f : A → Option Meaning) → ((x : A) → Holds (f x)) → Holds (given o f)
+  given_any None f k = tt
+  given_any (Some x) f k = k x
 
-pub chance : (c : Constant) → IsProbability c → Chance (constant_value c) (divisor c)
-chance (Whole n) h = record { n = n; m = 1 - n; some = omega arith; small = omega arith; sums = some_rest n 1 h; yes = refl; no = minus n (1 - n) 1 (some_rest n 1 h) (omega arith) }
-chance (Quotient n d) h = record { n = n; m = d - n; some = h.2; small = h.1; sums = some_rest n d h.0; yes = refl; no = minus n (d - n) d (some_rest n d h.0) h.2 }
+  mapped : {A : Type 0} (f : A → Meaning) → ((x : A) → HoldsOf (f x)) → (o : Option A) → Holds (option_map f o)
+  mapped f k None = tt
+  mapped f k (Some x) = k x
 
-ratio_pos : (n d : ℕ) → 0 < d → zeroʳ ≤ʳ ratio (pos n) d
-ratio_pos n d p = ratio_nonnegative (pos n) d p (omega (arith, ints))
+  where_true : (b : Bool) (m : Meaning) → HoldsOf m → Holds (if b then Some m else None)
+  where_true true m h = h
+  where_true false m h = tt
 
-whole : (n m d : ℕ) → n + m ≡ d → 0 < d → ratio (pos n) d +ʳ (ratio (pos m) d +ʳ zeroʳ) ≡ oneʳ
-unfolding oneʳ
-whole n m d e p =
-    let above : (pos n *ℤ pos d +ℤ pos m *ℤ pos d) *ℤ pos 1 ≡ pos 1 *ℤ pos (d * d) = omega (arith, ints, ap (λ x. x * d) e) in
-    ap (λ x. ratio (pos n) d +ʳ x) (+ʳ-zero _) ∙ ratio-+ (pos n) d (pos m) d p p ∙ ratio_same _ _ _ _ (mul-pos p p) (omega arith) above
+  extended_holds : (b : Bool) (a : Form) → F a → Holds (extended b a)
+  extended_holds true a h = h
+  extended_holds false a h = tt
 
-pub flip_weights : (c : Constant) → IsProbability c → HasWeights (flip_parts (constant_value c)) × (total (flip_parts (constant_value c)) ≡ oneʳ)
-flip_weights c h = let k = chance c h in ((rw k.yes (ratio_pos k.n (divisor c) k.some), (rw k.no (ratio_pos k.m (divisor c) k.some), tt)), rw (k.yes, minus k.n k.m (divisor c) k.sums k.some) (whole k.n k.m (divisor c) k.sums k.some))
+  -- ---- Quantifiers
 
-if_value : (t : Bool) (x y : Rational) (v w : Value) → v ≡ finite x → w ≡ finite y → cond t v w ≡ finite (cond t x y)
-if_value true x y v w e f = e
-if_value false x y v w e f = f
+  module _ (up : Bool) (n : ℕ) (B : (ty : Ty) (a : Form) → F a → F (Form.bind up n n ty a)) where
+    bound_holds : (ty : Ty) (m : Meaning) → HoldsOf m → Holds (bound up n ty m)
+    bound_holds ty (Meaning.number t a) h = extended_holds (is_unsigned (Some t)) (Form.bind up n n ty a) (B ty a h)
+    bound_holds ty (Meaning.truth g) h = tt
+    bound_holds ty Meaning.real h = tt
 
-mutual
-  act_value : (a : Statement) (k : State → Rational) (s : State) → forward_act (act_of a) (λ t. finite (k t)) s ≡ finite (before_statement a k s)
-  act_value (Statement.flip x p) k s = ap (λ v. (finite (constant_value p) *ᵛ finite (k (put x (Truth true) s))) +ᵛ v) (+ᵛ-zero _) ∙ ap₂ (λ v w. v +ᵛ w) (finite-* _ _) (finite-* _ _) ∙ finite-+ _ _
-  act_value (Statement.set x b) k s = refl
-  act_value (Statement.reward r) k s = finite-+ _ _
-  act_value (Statement.branch x a b) k s = if_value (truth_of (get x s)) _ _ _ _ (block_value a k s) (block_value b k s)
+    pub quantified_holds : (t : TypeName) (o : Option Meaning) → Holds o → Holds (given o (quantified up n t))
+    quantified_holds t o h = given_holds o (quantified up n t) h (λ m p. given_any (declarable t) (λ ty. bound up n ty m) (λ ty. bound_holds ty m p))
 
-  block_value : (b : Block) (k : State → Rational) (s : State) → forward (acts_of b) (λ t. finite (k t)) s ≡ finite (expectation b k s)
-  block_value Block.done k s = refl
-  block_value (Block.next a b) k s = ap (λ (f : State → Value). forward_act (act_of a) f s) (fun_ext (λ t. block_value b k t)) ∙ act_value a (expectation b k) s
+  module _ (P : Span → Type 0) (S : Spreads F G P) where
+    -- ---- Rows of the table
 
-mutual
-  fair_statement : (v : ℕ) (a : Statement) → IsStatement v a → IsFairAct (act_of a)
-  fair_statement v (Statement.flip x p) h = flip_weights p h.1
-  fair_statement v (Statement.set x b) h = tt
-  fair_statement v (Statement.reward r) h = λ s. finite_nonnegative _ (constant_nonnegative r h)
-  fair_statement v (Statement.branch x a b) h = ((fair_block v a h.1, tt), fair_block v b h.2)
+    minus_holds : (t : NumberType) (a b : Form) → F a → F b → Holds (minus t a b)
+    minus_holds NumberType.int a b h k = S.difference a b h k
+    minus_holds NumberType.uint a b h k = S.cut a b h k
+    minus_holds NumberType.ureal a b h k = S.cut a b h k
+    minus_holds NumberType.eureal a b h k = tt
 
-  fair_block : (v : ℕ) (b : Block) → IsBlock v b → IsFair (acts_of b)
-  fair_block v Block.done h = tt
-  fair_block v (Block.next a b) h = (fair_statement v a h.0, fair_block v b h.1)
+    comparison_holds : (t : NumberType) (g : Cond) → G g → Holds (comparison t g)
+    comparison_holds NumberType.int g h = h
+    comparison_holds NumberType.uint g h = h
+    comparison_holds NumberType.ureal g h = h
+    comparison_holds NumberType.eureal g h = tt
 
-iverson_nonnegative : (t : Bool) → zeroᵛ ≤ᵛ cond t oneᵛ zeroᵛ
-iverson_nonnegative true = zero-≤ᵛ-one
-iverson_nonnegative false = zero-≤ᵛ-zero
+    joined_holds : (op : BinaryOp) (s : Span) (a b : Form) (t : NumberType) → P s → F a → F b → Holds (joined_numbers op s a b t)
+    joined_holds ops.Plus s a b t l h k = S.sum a b h k
+    joined_holds ops.Star s a b t l h k = S.product a b s l h k
+    joined_holds ops.Minus s a b t l h k = minus_holds t a b h k
+    joined_holds ops.Same s a b t l h k = comparison_holds t (Cond.equal a b) (S.equal a b h k)
+    joined_holds ops.Differ s a b t l h k = comparison_holds t (Cond.not (Cond.equal a b)) (S.not _ (S.equal a b h k))
+    joined_holds ops.Less s a b t l h k = comparison_holds t (Cond.lt a b) (S.lt a b h k)
+    joined_holds ops.AtMost s a b t l h k = comparison_holds t (Cond.le a b) (S.le a b h k)
+    joined_holds ops.More s a b t l h k = comparison_holds t (Cond.lt b a) (S.lt b a k h)
+    joined_holds ops.AtLeast s a b t l h k = comparison_holds t (Cond.le b a) (S.le b a k h)
+    joined_holds ops.Cap s a b t l h k = S.min a b h k
+    joined_holds ops.Cup s a b t l h k = S.max a b h k
+    joined_holds ops.And s a b t l h k = tt
+    joined_holds ops.Or s a b t l h k = tt
+    joined_holds ops.Imply s a b t l h k = tt
+    joined_holds ops.CoImply s a b t l h k = tt
+    joined_holds ops.Slash s a b t l h k = tt
 
-iverson_finite : (t : Bool) → cond t oneᵛ zeroᵛ ≡ finite (cond t oneʳ zeroʳ)
-unfolding oneᵛ zeroᵛ
-iverson_finite true = refl
-iverson_finite false = refl
+    with_join : (op : BinaryOp) (s : Span) (t : NumberType) (a : Form) (u : NumberType) (b : Form) → P s → F a → F b → Holds (given (join t u) (joined_numbers op s a b))
+    with_join op s t a u b l h k = given_any (join t u) (joined_numbers op s a b) (λ j. joined_holds op s a b j l h k)
 
-pub fair_program : (p : Procedure) → IsWithinLimits p → IsFairProgram (program p)
-fair_program p h = (fair_block (length p.outputs) p.body h.body, λ s. iverson_nonnegative (truth_of (get p.post s)))
+    numbers_hold : (op : BinaryOp) (s : Span) (t : NumberType) (a : Form) (u : NumberType) (b : Form) → P s → F a → F b → Holds (numbers op s t a u b)
+    numbers_hold ops.Imply s t a u b l h k = extended_holds _ (Form.imply a b) (S.imply a b h k)
+    numbers_hold ops.CoImply s t a u b l h k = extended_holds _ (Form.co_imply a b) (S.co_imply a b h k)
+    numbers_hold ops.Plus s t a u b l h k = with_join ops.Plus s t a u b l h k
+    numbers_hold ops.Star s t a u b l h k = with_join ops.Star s t a u b l h k
+    numbers_hold ops.Minus s t a u b l h k = with_join ops.Minus s t a u b l h k
+    numbers_hold ops.Same s t a u b l h k = with_join ops.Same s t a u b l h k
+    numbers_hold ops.Differ s t a u b l h k = with_join ops.Differ s t a u b l h k
+    numbers_hold ops.Less s t a u b l h k = with_join ops.Less s t a u b l h k
+    numbers_hold ops.AtMost s t a u b l h k = with_join ops.AtMost s t a u b l h k
+    numbers_hold ops.More s t a u b l h k = with_join ops.More s t a u b l h k
+    numbers_hold ops.AtLeast s t a u b l h k = with_join ops.AtLeast s t a u b l h k
+    numbers_hold ops.Cap s t a u b l h k = with_join ops.Cap s t a u b l h k
+    numbers_hold ops.Cup s t a u b l h k = with_join ops.Cup s t a u b l h k
+    numbers_hold ops.And s t a u b l h k = with_join ops.And s t a u b l h k
+    numbers_hold ops.Or s t a u b l h k = with_join ops.Or s t a u b l h k
+    numbers_hold ops.Slash s t a u b l h k = with_join ops.Slash s t a u b l h k
 
-expected : (p : Procedure) (s : State) → forward (acts_of p.body) (value (program p).post) s ≡ finite (expectation p.body (post_value p.post) s)
-expected p s = ap (λ (f : State → Value). forward (acts_of p.body) f s) (fun_ext (λ t. iverson_finite (truth_of (get p.post t)))) ∙ block_value p.body (post_value p.post) s
+    truths_hold : (op : BinaryOp) (g f : Cond) → G g → G f → Holds (truths op g f)
+    truths_hold ops.Same g f h k = S.same g f h k
+    truths_hold ops.Differ g f h k = S.not _ (S.same g f h k)
+    truths_hold ops.And g f h k = S.and g f h k
+    truths_hold ops.Or g f h k = S.or g f h k
+    truths_hold ops.Imply g f h k = S.or (Cond.not g) f (S.not g h) k
+    truths_hold ops.CoImply g f h k = tt
+    truths_hold ops.Cup g f h k = tt
+    truths_hold ops.Cap g f h k = tt
+    truths_hold ops.Less g f h k = tt
+    truths_hold ops.AtMost g f h k = tt
+    truths_hold ops.More g f h k = tt
+    truths_hold ops.AtLeast g f h k = tt
+    truths_hold ops.Plus g f h k = tt
+    truths_hold ops.Minus g f h k = tt
+    truths_hold ops.Star g f h k = tt
+    truths_hold ops.Slash g f h k = tt
 
--- The bound holds over all runs exactly where the expected value is at most the pre.
-pub bounded-expected : (p : Procedure) → IsWithinLimits p → (s : State) → IsBoundedAt (program p) s → expectation p.body (post_value p.post) s ≤ʳ constant_value p.pre
-bounded-expected p h s b = finite_order _ _ (subst (λ v. v ≤ᵛ finite (constant_value p.pre)) (expected p s) (bounded-forward (program p) (fair_program p h) s b))
+    binary_holds : (op : BinaryOp) (s : Span) (x y : Meaning) → P s → HoldsOf x → HoldsOf y → Holds (binary op s x y)
+    binary_holds op s (Meaning.truth g) (Meaning.truth f) l h k = truths_hold op g f h k
+    binary_holds op s (Meaning.truth g) (Meaning.number u b) l h k = tt
+    binary_holds op s (Meaning.truth g) Meaning.real l h k = tt
+    binary_holds op s (Meaning.number t a) (Meaning.truth f) l h k = tt
+    binary_holds op s (Meaning.number t a) (Meaning.number u b) l h k = numbers_hold op s t a u b l h k
+    binary_holds op s (Meaning.number t a) Meaning.real l h k = tt
+    binary_holds op s Meaning.real y l h k = tt
 
-pub expected-bounded : (p : Procedure) → IsWithinLimits p → (s : State) → expectation p.body (post_value p.post) s ≤ʳ constant_value p.pre → IsBoundedAt (program p) s
-expected-bounded p h s b = forward-bounded (program p) (fair_program p h) s (subst (λ v. v ≤ᵛ finite (constant_value p.pre)) (sym (expected p s)) (order_finite _ _ b))
+    quotient_holds : (q : Rational) (x : Meaning) → HoldsOf x → Holds (quotient q x)
+    quotient_holds q (Meaning.number NumberType.int a) h = tt
+    quotient_holds q (Meaning.number NumberType.uint a) h = S.scale q a h
+    quotient_holds q (Meaning.number NumberType.ureal a) h = S.scale q a h
+    quotient_holds q (Meaning.number NumberType.eureal a) h = S.scale q a h
+    quotient_holds q (Meaning.truth g) h = tt
+    quotient_holds q Meaning.real h = tt
 
--- what a fraction of at most 1 leaves of 1
-pub rest_of : (n d : ℕ) → n ≤ d → 0 < d → oneʳ -ʳ ratio (pos n) d ≡ ratio (pos (d - n)) d
-rest_of n d h p = minus n (d - n) d (some_rest n d h) p
+    operated_holds : (op : BinaryOp) (s : Span) (b : Expression) (x y : Meaning) → P s → HoldsOf x → HoldsOf y → Holds (operated op s b x y)
+    operated_holds ops.Slash s b x y l h k = quotient_holds (factor (divisor b)) x h
+    operated_holds ops.Plus s b x y l h k = binary_holds ops.Plus s x y l h k
+    operated_holds ops.Star s b x y l h k = binary_holds ops.Star s x y l h k
+    operated_holds ops.Minus s b x y l h k = binary_holds ops.Minus s x y l h k
+    operated_holds ops.Same s b x y l h k = binary_holds ops.Same s x y l h k
+    operated_holds ops.Differ s b x y l h k = binary_holds ops.Differ s x y l h k
+    operated_holds ops.Less s b x y l h k = binary_holds ops.Less s x y l h k
+    operated_holds ops.AtMost s b x y l h k = binary_holds ops.AtMost s x y l h k
+    operated_holds ops.More s b x y l h k = binary_holds ops.More s x y l h k
+    operated_holds ops.AtLeast s b x y l h k = binary_holds ops.AtLeast s x y l h k
+    operated_holds ops.Cap s b x y l h k = binary_holds ops.Cap s x y l h k
+    operated_holds ops.Cup s b x y l h k = binary_holds ops.Cup s x y l h k
+    operated_holds ops.And s b x y l h k = binary_holds ops.And s x y l h k
+    operated_holds ops.Or s b x y l h k = binary_holds ops.Or s x y l h k
+    operated_holds ops.Imply s b x y l h k = binary_holds ops.Imply s x y l h k
+    operated_holds ops.CoImply s b x y l h k = binary_holds ops.CoImply s x y l h k
+
+    unary_holds : (op : UnaryOp) (x : Meaning) → HoldsOf x → Holds (unary op x)
+    unary_holds prefixes.Not (Meaning.truth g) h = S.not g h
+    unary_holds prefixes.Not (Meaning.number t a) h = extended_holds (is_unsigned (Some t)) (Form.imply a _) (S.imply a _ h (S.number _))
+    unary_holds prefixes.Not Meaning.real h = tt
+    unary_holds prefixes.Minus (Meaning.number NumberType.int a) h = S.difference _ a (S.number _) h
+    unary_holds prefixes.Minus (Meaning.number NumberType.uint a) h = S.difference _ a (S.number _) h
+    unary_holds prefixes.Minus (Meaning.number NumberType.ureal a) h = tt
+    unary_holds prefixes.Minus (Meaning.number NumberType.eureal a) h = tt
+    unary_holds prefixes.Minus (Meaning.truth g) h = tt
+    unary_holds prefixes.Minus Meaning.real h = tt
+    unary_holds prefixes.Tilde (Meaning.number t a) h = extended_holds (is_unsigned (Some t)) (Form.co_imply a _) (S.co_imply a _ h (S.number _))
+    unary_holds prefixes.Tilde (Meaning.truth g) h = tt
+    unary_holds prefixes.Tilde Meaning.real h = tt
+
+    bracket_holds : (x : Meaning) → HoldsOf x → Holds (bracket x)
+    bracket_holds (Meaning.truth g) h = S.iverson g h
+    bracket_holds (Meaning.number t a) h = tt
+    bracket_holds Meaning.real h = tt
+
+    embedding_holds : (x : Meaning) → HoldsOf x → Holds (embedding x)
+    embedding_holds (Meaning.truth g) h = S.embed g h
+    embedding_holds (Meaning.number t a) h = tt
+    embedding_holds Meaning.real h = tt
+
+    selected_holds : (g : Cond) (x y : Meaning) → G g → HoldsOf x → HoldsOf y → Holds (selected g x y)
+    selected_holds g (Meaning.truth f) (Meaning.truth e) c h k = S.ite g f e c h k
+    selected_holds g (Meaning.number t a) (Meaning.number u b) c h k = mapped (λ j. Meaning.number j (Form.select g a b)) (λ j. S.select g a b c h k) (join t u)
+    selected_holds g (Meaning.truth f) (Meaning.number u b) c h k = tt
+    selected_holds g (Meaning.truth f) Meaning.real c h k = tt
+    selected_holds g (Meaning.number t a) (Meaning.truth e) c h k = tt
+    selected_holds g (Meaning.number t a) Meaning.real c h k = tt
+    selected_holds g Meaning.real y c h k = tt
+
+    choice_holds : (x y z : Meaning) → HoldsOf x → HoldsOf y → HoldsOf z → Holds (choice x y z)
+    choice_holds (Meaning.truth g) y z h k l = selected_holds g y z h k l
+    choice_holds (Meaning.number t a) y z h k l = tt
+    choice_holds Meaning.real y z h k l = tt
+
+    pub literal_holds : (v : Lit) → Holds (literal v)
+    literal_holds v = where_true (is_written v) (Meaning.number (if (literal_value v).den == 1 then NumberType.uint else NumberType.ureal) (Form.number (finite (literal_value v)))) (S.number _)
+
+    variable_holds : (t : TypeName) (x : ℕ) → HoldsOf (variable_of t x)
+    variable_holds types.Bool x = S.flag x
+    variable_holds types.Int x = S.variable x
+    variable_holds types.UInt x = S.variable x
+    variable_holds types.UReal x = S.variable x
+    variable_holds types.EUReal x = S.variable x
+    variable_holds types.Real x = tt
+
+    -- ---- Expressions
+
+    pub name_holds : (sc : Scope) (x : List ℕ) → Holds (option_map variable (find sc x))
+    name_holds sc x = mapped variable (λ l. variable_holds l.ty l.number) (find sc x)
+
+    pub bracketed_holds : (o : Option Meaning) → Holds o → Holds (given o bracket)
+    bracketed_holds o h = given_holds o bracket h bracket_holds
+
+    pub embedded_holds : (o : Option Meaning) → Holds o → Holds (given o embedding)
+    embedded_holds o h = given_holds o embedding h embedding_holds
+
+    pub prefixed_holds : (op : UnaryOp) (o : Option Meaning) → Holds o → Holds (given o (unary op))
+    prefixed_holds op o h = given_holds o (unary op) h (unary_holds op)
+
+    pub infixed_holds : (op : BinaryOp) (s : Span) (b : Expression) (o p : Option Meaning) → P s → Holds o → Holds p → Holds (given o (λ x. given p (operated op s b x)))
+    infixed_holds op s b o p l h k = given_holds o (λ x. given p (operated op s b x)) h (λ x i. given_holds p (operated op s b x) k (λ y j. operated_holds op s b x y l i j))
+
+    pub chosen_holds : (o p q : Option Meaning) → Holds o → Holds p → Holds q → Holds (given o (λ x. given p (λ y. given q (choice x y))))
+    chosen_holds o p q h k l =
+        given_holds o (λ x. given p (λ y. given q (choice x y))) h
+        (λ x i. given_holds p (λ y. given q (choice x y)) k (λ y j. given_holds q (choice x y) l (λ z e. choice_holds x y z i j e)))

@@ -1,31 +1,27 @@
--- What a user may rely on where a report says `verified`.
-use Rattle.std.specs.Prelude.{◌≡◌, ℕ, List, Any, IfSome, length}
-use Rattle.heyvl_tool.specs.declared.answers.Answer.{Answer}
-use Rattle.heyvl_tool.specs.declared.answers.Verdict.TheVariants.{Verified}
-use Rattle.heyvl_tool.specs.Bound.{IsBounded}
-use Rattle.heyvl_tool.specs.Files.{IsFile}
-use Rattle.heyvl_tool.specs.Meaning.{program}
-use Rattle.heyvl_tool.specs.Procedure.{Procedure}
+-- What a user may rely on where a report says `verified` or `not verified`.
+use Rattle.std.specs.Prelude.{◌≡◌, ℕ, List, IfSome, None, length}
+use Rattle.heyvl_syntax.specs.Procedures.{Procedure}
+use Rattle.heyvl_syntax.specs.SourceFaults.{IsSource}
 use Rattle.heyvl_tool.specs.Replies.{Call, IsDelivered, IsReplyTo, Reply, Writing}
 use Rattle.heyvl_tool.specs.declared.outcomes.Outcome.{Outcome}
 use Rattle.heyvl_tool.specs.declared.requests.Settings.TheVariants.{Verify}
-
--- The procedure of this name is reported verified.
-abbrev pub IsReportedVerified : List Answer → List ℕ → Type 0
-IsReportedVerified answers name = Any (λ a. (a.name ≡ name) × (a.verdict ≡ Verified)) answers
-
--- Each coproc of the file that is reported verified has, from every initial state, under every scheduler and for every n,
--- reward and post over runs of at most n steps, weighted exactly, at most its pre.
-abbrev pub IsHeadline : List ℕ → List Answer → Type 0
-IsHeadline bytes answers = (p : Procedure) → IsFile bytes p → IsReportedVerified answers p.name → IsBounded (program p)
+use Rattle.heyvl_types.specs.Files.{first_fault, resolved}
+use Rattle.verify_core.specs.Headline.{IsHeadline}
 
 -- The outcome of `verify FILE` is what is said of the bytes that were read, which are those that the source holds where it tells
--- them, and for these bytes and the answers of the outcome the headline holds.
-pub record IsVerifiedFrom (file : List ℕ) (made : Call) (done : Writing) (outcome : Outcome) : Type 0 where
+-- them. These bytes spell a file without a fault, and of its procedures the answers of the outcome promise: each coproc that is
+-- reported verified has, from every initial state, under every scheduler and for every n, reward and post over runs of at most n
+-- steps, weighted exactly, at most its pre; each weak proc that is reported verified has post so weighted, plus the weight still
+-- running, at least its pre; and each program without loops and calls whose bound is reported as not verified has runs that break it,
+-- from the initial state that is shown.
+pub record IsVerifiedFrom (name : List ℕ) (made : Call) (done : Writing) (outcome : Outcome) : Type 0 where
   pub bytes : List ℕ
-  pub held : IfSome (made.holds file) (λ held. bytes ≡ held)
+  pub held : IfSome (made.holds name) (λ held. bytes ≡ held)
   pub taken : made.taken ≡ length bytes
   pub reply : Reply
-  pub said : IsReplyTo (Verify file) bytes reply
+  pub said : IsReplyTo (Verify name) bytes reply
   pub is_delivered : IsDelivered reply done outcome
-  pub headline : IsHeadline bytes outcome.answers.items
+  pub file : List Procedure
+  pub spelled : IsSource bytes file
+  pub faultless : first_fault file ≡ None
+  pub headline : IsHeadline (resolved file) outcome.answers.items

@@ -1,28 +1,28 @@
 -- What a call of the tool answers, and what it writes.
-use Rattle.std.specs.Prelude.{◌≡◌, ◌⊎◌, ℕ, ◌+◌, ◌<◌, ◌≤◌, Bool, true, false, cond, List, [], ◌∷◌, length, take, codes, None, Option, Some, IfSome}
-use Rattle.std.specs.List.{list_any}
+use Rattle.std.specs.Prelude.{◌≡◌, ◌⊎◌, ℕ, ◌+◌, ◌<◌, ◌≤◌, true, false, List, [], length, take, codes, None, Option, Some, IfSome}
+use Rattle.farkas_check.specs.declared.trees.GoalCert.{GoalCert}
 use Rattle.heyvl_io.specs.Bytes.{with_appended}
 use Rattle.heyvl_io.specs.Faults.{Rose}
-use Rattle.heyvl_tool.specs.declared.answers.Answer.{Answer}
-use Rattle.heyvl_tool.specs.declared.answers.Verdict.{Verdict}
-use Rattle.heyvl_tool.specs.declared.answers.Verdict.TheVariants.{Verified, NotVerified}
+use Rattle.heyvl_tool.specs.Built.{is_built}
 use Rattle.heyvl_tool.specs.declared.outcomes.Fault.{Fault}
 use Rattle.heyvl_tool.specs.declared.outcomes.Fault.TheVariants as faults
 use Rattle.heyvl_tool.specs.declared.outcomes.Outcome.{Outcome}
-use Rattle.heyvl_tool.specs.Files.{IsFile, IsOtherFile}
-use Rattle.heyvl_tool.specs.Meaning.{program}
-use Rattle.heyvl_tool.specs.Procedure.{Procedure}
-use Rattle.heyvl_tool.specs.Report.{report_text}
-use Rattle.heyvl_tool.specs.Verdict.{IsVerdict}
+use Rattle.heyvl_tool.specs.Statuses.{answers_status}
 use Rattle.heyvl_tool.specs.FaultTexts.{source_fault_line}
 use Rattle.heyvl_tool.specs.Words.{AskFor, IsUsage, file_of}
 use Rattle.heyvl_tool.specs.declared.requests.Settings.TheVariants as commands
 use Rattle.heyvl_tool.specs.declared.requests.Settings.{Settings}
 use Rattle.heyvl_print.specs.Canonical.{canonical_text}
-use Rattle.heyvl_syntax.specs.Procedures.{Procedure as SourceProcedure}
+use Rattle.heyvl_syntax.specs.Procedures.{Procedure}
 use Rattle.heyvl_syntax.specs.SourceFaults.{IsSource, IsSourceFault}
 use Rattle.heyvl_syntax.specs.declared.spans.Span.{Span}
-use Rattle.heyvl_types.specs.Files.{first_fault}
+use Rattle.heyvl_types.specs.Acts.{TypedProcedure}
+use Rattle.heyvl_types.specs.Files.{first_fault, resolved}
+use Rattle.verdict_report.specs.Reports.{report_text}
+use Rattle.verdict_report.specs.declared.answers.Answer.{Answer}
+use Rattle.verdict_report.specs.declared.answers.NamedGoal.{NamedGoal}
+use Rattle.verify_core.specs.Answered.{IsAnswered as AreAnswered}
+use Rattle.verify_core.specs.Headline.{IsHeadline}
 
 -- The answer to a call, before it is written.
 pub record Reply : Type 0 where
@@ -62,42 +62,44 @@ file_too_long = message (faults.TooLong 0) (codes "file too long\n")
 abbrev pub form_not_built_yet : Reply
 form_not_built_yet = message faults.Early (codes "form not built yet\n")
 
--- The one answer is the verdict on the procedure, and the output is the report of this very answer.
-pub record IsVerdictOn (procedure : Procedure) (reply : Reply) : Type 0 where
-  pub answer : Answer
-  pub name : answer.name ≡ procedure.name
-  pub verdict : IsVerdict (program procedure) answer.verdict
-  pub is_reply : reply ≡ record { fault = faults.Nothing; answers = answer ∷ []; output = report_text (procedure ∷ []) (answer ∷ []) }
-
 -- The line on a fault of a file, in place of answers.
 abbrev pub source_fault : List ℕ → ℕ → Span → Reply
 source_fault bytes number place = message (faults.Source number place) (source_fault_line bytes number place)
 
 -- The canonical text of a file, without answers.
-abbrev pub printed : List SourceProcedure → Reply
+abbrev pub printed : List Procedure → Reply
 printed file = record { fault = faults.Nothing; answers = []; output = canonical_text file }
 
--- What `verify` says of the bytes of a file that has no fault: the verdict on a file of the first form, and of any other file that
--- it can't be verified yet.
-pub data IsFaultlessReply (bytes : List ℕ) (reply : Reply) : Type 0 where
-  verified : (procedure : Procedure) → IsFile bytes procedure → IsVerdictOn procedure reply → IsFaultlessReply bytes reply
-  early : IsOtherFile bytes → reply ≡ form_not_built_yet → IsFaultlessReply bytes reply
+-- The report on a file with these bytes, which has become these typed procedures: the answers are those of their goals, they keep
+-- what the headline promises, and the output is the text of these very answers.
+pub record IsReport (bytes : List ℕ) (file : List TypedProcedure) (reply : Reply) : Type 0 where
+  pub made : List NamedGoal
+  pub certs : List GoalCert
+  pub answered : AreAnswered file reply.answers made certs
+  pub headline : IsHeadline file reply.answers
+  pub is_reply : reply ≡ record { fault = faults.Nothing; answers = reply.answers; output = report_text bytes file reply.answers made }
+
+-- What `verify` says of the bytes of a file that has no fault and has become these typed procedures: the report, or of a file with an
+-- act that can't be verified yet only this.
+pub data IsFaultlessReply (bytes : List ℕ) (file : List TypedProcedure) (reply : Reply) : Type 0 where
+  reported : is_built file ≡ true → IsReport bytes file reply → IsFaultlessReply bytes file reply
+  early : is_built file ≡ false → reply ≡ form_not_built_yet → IsFaultlessReply bytes file reply
 
 -- What `verify` says of the bytes that spell a file and have none of the faults 1 to 6: the first static fault of the file, or else
 -- what it says of a file that has no fault.
-pub data IsVerifyReply (bytes : List ℕ) (file : List SourceProcedure) (reply : Reply) : Type 0 where
+pub data IsVerifyReply (bytes : List ℕ) (file : List Procedure) (reply : Reply) : Type 0 where
   static : (number : ℕ) (place : Span) → first_fault file ≡ Some (number, place) → reply ≡ source_fault bytes number place → IsVerifyReply bytes file reply
-  faultless : first_fault file ≡ None → IsFaultlessReply bytes reply → IsVerifyReply bytes file reply
+  faultless : first_fault file ≡ None → IsFaultlessReply bytes (resolved file) reply → IsVerifyReply bytes file reply
 
 -- What a command says of the bytes that spell a file and have none of the faults 1 to 6.
-abbrev pub IsSourceReply : Settings → List ℕ → List SourceProcedure → Reply → Type 0
+abbrev pub IsSourceReply : Settings → List ℕ → List Procedure → Reply → Type 0
 IsSourceReply (commands.Verify name) bytes file reply = IsVerifyReply bytes file reply
 IsSourceReply (commands.Print name) bytes file reply = reply ≡ printed file
 
 -- What a command says of a file with these bytes: their first fault of 1 to 6, or else what it says of the file that they spell.
 pub data IsReplyTo (settings : Settings) (bytes : List ℕ) (reply : Reply) : Type 0 where
   source : (number : ℕ) (place : Span) → IsSourceFault bytes number place → reply ≡ source_fault bytes number place → IsReplyTo settings bytes reply
-  sound : (file : List SourceProcedure) → IsSource bytes file → IsSourceReply settings bytes file reply → IsReplyTo settings bytes reply
+  sound : (file : List Procedure) → IsSource bytes file → IsSourceReply settings bytes file reply → IsReplyTo settings bytes reply
 
 -- The reply has its cause: the words are no command; the source failed; the file is longer than the limit; or the whole
 -- file was read, and this is said of its bytes.
@@ -111,16 +113,9 @@ pub data HasCause (made : Call) (reply : Reply) : Type 0 where
       → IfSome (made.holds (file_of settings)) (λ held. bytes ≡ held) → made.taken ≡ length bytes → length bytes ≤ file_limit
       → IsReplyTo settings bytes reply → HasCause made reply
 
-abbrev pub is_refuted : Verdict → Bool
-is_refuted Verified = false
-is_refuted (NotVerified goal s) = true
-
-abbrev pub some_refuted : List Answer → Bool
-some_refuted answers = list_any (λ a. is_refuted a.verdict) answers
-
 -- The exit status.
 abbrev pub status_of : Fault → List Answer → ℕ
-status_of faults.Nothing answers = cond (some_refuted answers) 1 0
+status_of faults.Nothing answers = answers_status answers
 status_of faults.Usage answers = 4
 status_of (faults.Read n) answers = 5
 status_of (faults.TooLong n) answers = 3

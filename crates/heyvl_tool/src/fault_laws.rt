@@ -18,8 +18,8 @@ pub fn told_faults_are_there()
     ensures { ToldFaultsAreThere }
 {}
 
-/// Of bytes that spell a file `verify` says that it can't be verified yet exactly where the file has no static fault and isn't of
-/// the first form.
+/// Of bytes that spell a file `verify` says that it can't be verified yet exactly where the file has no static fault and an act of
+/// those that can't.
 pub fn other_files_are_early()
     ensures { OtherFilesAreEarly }
 {

@@ -1,7 +1,7 @@
 //! What a call of the tool comes to.
 
-use crate::Answer;
 use heyvl_syntax::Span;
+use verdict_report::Answer;
 
 /// Why a call didn't do what its words ask for, or `Nothing`. A `u8` is the number of the file among the words, from 0.
 #[derive(Clone, Copy, Debug, PartialEq, Eq)]
@@ -16,7 +16,7 @@ pub enum Fault {
     TooLong(u8),
     /// The file has the fault of this number, which stands there.
     Source(u8, Span),
-    /// The file isn't of a form that is verified so far.
+    /// The file has an act that can't be verified yet.
     Early,
     /// The sink failed. It replaces every other fault.
     Write,
@@ -27,10 +27,11 @@ pub enum Fault {
 /// What a call of the tool comes to.
 #[derive(Drop)]
 pub struct Outcome {
-    /// The exit status: 0 done; 1 some goal fails in a state; 3 the file is refused; 4 usage; 5 read; 6 write; 7 memory.
+    /// The exit status: 0 done; 1 some bound or ranking is false; 2 else some is left open; 3 the file is refused; 4 usage; 5 read;
+    /// 6 write; 7 memory.
     pub status: u8,
     pub fault: Fault,
-    /// One answer per procedure, in the order of the file.
+    /// One answer per procedure, in the order of the file, where the report was made.
     pub answers: Vec<Answer>,
     /// How many bytes were written.
     pub written: u64,

@@ -1,21 +1,24 @@
 //! What is answered to a call, before it is written.
 
 ghost use Rattle.heyvl_syntax.specs.Procedures.{procedures};
-ghost use Rattle.heyvl_syntax.specs.Tokens.{Lexes};
-ghost use Rattle.heyvl_tool.specs.Limits.{IsWithinLimits};
-ghost use Rattle.heyvl_tool.specs.Procedure.{procedure};
-ghost use Rattle.heyvl_tool.specs.Replies.{IsFaultlessReply, IsReplyTo, IsSourceReply, IsVerdictOn, IsVerifyReply, form_not_built_yet, message, printed, source_fault};
+ghost use Rattle.heyvl_syntax.specs.SourceFaults.{IsSource};
+ghost use Rattle.heyvl_tool.specs.Replies.{IsFaultlessReply, IsReplyTo, IsSourceReply, IsVerifyReply, file_limit, form_not_built_yet, message, printed, source_fault};
 ghost use Rattle.heyvl_tool.specs.Responses.{reply_of, text_bytes};
-ghost use Rattle.heyvl_types.specs.Files.{first_fault};
-ghost use Rattle.std.specs.Prelude.{IfOk, List, [], length, ◌<◌, ◌^◌, ◌∷◌, ◌≡◌, ℕ};
+ghost use Rattle.heyvl_types.specs.PlainActs.{procedures_of};
+ghost use Rattle.heyvl_tool.specs.TypedFiles.{IsReady};
+ghost use Rattle.std.specs.Prelude.{IfOk, [], length, ◌<◌, ◌^◌, ◌≡◌, ◌≤◌};
 
+use crate::built::is_built;
 use crate::faults::{source_fault_line, token_place};
-use crate::{Answer, Fault, FirstForm, Settings, decide, read_first_form, report};
+use crate::typed_files::typed_file;
+use crate::{Fault, Settings};
 use heyvl_parse::{ParseStop, parse};
 use heyvl_print::print;
-use heyvl_syntax::{File, LexStop, Name, Span, Token, lex};
-use heyvl_types::{ResolveStop, resolve};
+use heyvl_syntax::{File, LexStop, Span, lex};
+use heyvl_types::{ResolveStop, Typed};
 use std::alloc::{AllocError, Global};
+use verdict_report::{Answer, report};
+use verify_core::verify;
 
 /// What is written: a fixed text, or one that was made.
 #[derive(Drop)]
@@ -55,34 +58,6 @@ pub fn refusal(alloc: Global, fault: Fault, text: &'static [u8]) -> Response
     }
 }
 
-fn verify(alloc: Global, form: FirstForm) -> Result<Response, AllocError>
-    requires { IsWithinLimits (procedure form) }
-    ensures { IfOk result (λ response. IsVerdictOn (procedure form) (reply_of response)) }
-{
-    let answer = Answer {
-        name: Name::new(alloc, form.name.as_bytes())?,
-        verdict: decide(alloc, &form)?,
-    };
-    let forms = [form];
-    let answers = vec![in alloc; answer]?;
-    let text = report(alloc, &forms, &answers)?;
-    Ok(Response {
-        fault: Fault::Nothing,
-        answers,
-        text: Text::Made(text),
-    })
-}
-
-/// What `verify` says of the bytes of a file without a fault that have these tokens.
-fn verify_tokens(alloc: Global, tokens: &[Token]) -> Result<Response, AllocError>
-    ensures { IfOk result (λ response. (bytes : List ℕ) → Lexes 0 bytes tokens.now → IsFaultlessReply bytes (reply_of response)) }
-{
-    match read_first_form(alloc, tokens)? {
-        Some(form) => verify(alloc, form),
-        None => Ok(not_built_yet(alloc)),
-    }
-}
-
 fn not_built_yet(alloc: Global) -> Response
     ensures { reply_of result ≡ form_not_built_yet }
 {
@@ -116,53 +91,57 @@ fn source_fault(
     })
 }
 
-/// The first static fault of a file.
-fn static_fault(alloc: Global, file: &File) -> Result<Option<(u8, Span)>, AllocError>
-    ensures { IfOk result (λ fault. fault ≡ first_fault (procedures file.now)) }
+/// The report on a file with these bytes, which has become this typed tree, or that it can't be verified yet.
+fn verify_typed(alloc: Global, bytes: &[u8], typed: &Typed) -> Result<Response, AllocError>
+    requires short { length bytes.now < 2 ^ 31 }
+    requires ready { IsReady bytes.now typed.now }
+    ensures { IfOk result (λ response. IsFaultlessReply bytes.now (procedures_of typed.now) (reply_of response)) }
 {
-    match resolve(alloc, file) {
-        Ok(_) => Ok(None),
-        Err(ResolveStop::Fault(number, place)) => Ok(Some((number, place))),
+    if !is_built(typed) {
+        return Ok(not_built_yet(alloc));
+    }
+    let whole = verify(alloc, typed)?;
+    let text = report(alloc, bytes, typed, &whole.answers, &whole.made)?;
+    Ok(Response {
+        fault: Fault::Nothing,
+        answers: whole.answers,
+        text: Text::Made(text),
+    })
+}
+
+/// What `verify` says of the file that these bytes spell.
+fn verify_file(alloc: Global, bytes: &[u8], file: &File) -> Result<Response, AllocError>
+    requires short { length bytes.now ≤ file_limit }
+    requires spelled { IsSource bytes.now (procedures file.now) }
+    ensures { IfOk result (λ response. IsVerifyReply bytes.now (procedures file.now) (reply_of response)) }
+{
+    match typed_file(alloc, file) {
+        Ok(typed) => verify_typed(alloc, bytes, &typed),
+        Err(ResolveStop::Fault(number, place)) => source_fault(alloc, bytes, number, place),
         Err(ResolveStop::Memory(error)) => Err(error),
     }
 }
 
-/// What `verify` says of the file that these bytes spell by these tokens.
-fn verify_file(
-    alloc: Global,
-    bytes: &[u8],
-    tokens: &[Token],
-    file: &File,
-) -> Result<Response, AllocError>
-    requires { length bytes.now < 2 ^ 31 }
-    ensures { IfOk result (λ response. Lexes 0 bytes.now tokens.now → IsVerifyReply bytes.now (procedures file.now) (reply_of response)) }
-{
-    match static_fault(alloc, file)? {
-        Some((number, place)) => source_fault(alloc, bytes, number, place),
-        None => verify_tokens(alloc, tokens),
-    }
-}
-
-/// What a command says of the file that these bytes spell by these tokens.
+/// What a command says of the file that these bytes spell.
 fn respond_to_file(
     alloc: Global,
     settings: &Settings,
     bytes: &[u8],
-    tokens: &[Token],
     file: &File,
 ) -> Result<Response, AllocError>
-    requires { length bytes.now < 2 ^ 31 }
-    ensures { IfOk result (λ response. Lexes 0 bytes.now tokens.now → IsSourceReply settings.now bytes.now (procedures file.now) (reply_of response)) }
+    requires short { length bytes.now ≤ file_limit }
+    requires spelled { IsSource bytes.now (procedures file.now) }
+    ensures { IfOk result (λ response. IsSourceReply settings.now bytes.now (procedures file.now) (reply_of response)) }
 {
     match settings {
-        Settings::Verify(_) => verify_file(alloc, bytes, tokens, file),
+        Settings::Verify(_) => verify_file(alloc, bytes, file),
         Settings::Print(_) => print_file(alloc, file),
     }
 }
 
-/// What a command says of a file with these bytes.
+/// What a command says of a file with these bytes, which are no more than a file may have.
 pub fn respond(alloc: Global, settings: &Settings, bytes: &[u8]) -> Result<Response, AllocError>
-    requires { length bytes.now < 2 ^ 31 }
+    requires { length bytes.now ≤ file_limit }
     ensures { IfOk result (λ response. IsReplyTo settings.now bytes.now (reply_of response)) }
 {
     let tokens = match lex(alloc, bytes) {
@@ -171,7 +150,7 @@ pub fn respond(alloc: Global, settings: &Settings, bytes: &[u8]) -> Result<Respo
         Err(LexStop::Memory(error)) => return Err(error),
     };
     match parse(alloc, &tokens) {
-        Ok(file) => respond_to_file(alloc, settings, bytes, &tokens, &file),
+        Ok(file) => respond_to_file(alloc, settings, bytes, &file),
         Err(ParseStop::Fault(number, index)) => {
             let place = token_place(bytes, &tokens, index);
             source_fault(alloc, bytes, number, place)

@@ -1,7 +1,7 @@
 //! The top call.
 
 ghost use Rattle.heyvl_tool.specs.Headline.{IsVerifiedFrom};
-ghost use Rattle.heyvl_tool.specs.Replies.{HasCause, IsAnswered, IsDelivered, IsOutOfMemory, call, is_refuted, some_refuted, status_of, writing};
+ghost use Rattle.heyvl_tool.specs.Replies.{HasCause, IsAnswered, IsDelivered, IsOutOfMemory, call, status_of, writing};
 ghost use Rattle.heyvl_tool.specs.Responses.{reply_of};
 ghost use Rattle.heyvl_tool.specs.SourceUses.{IsReadOnce, IsUntouched, use_of};
 ghost use Rattle.heyvl_tool.specs.Words.{AskFor, IsUsage, file_of};
@@ -9,9 +9,11 @@ ghost use Rattle.heyvl_tool.specs.declared.requests.Settings.{Settings};
 ghost use Rattle.std.specs.Prelude.{IfOk, IsErr, List, [], map, string_bytes, ◌≡◌, ◌≢◌, ◌≤◌, ◌⊎◌, ℕ};
 
 use crate::responses::refusal;
-use crate::{Answer, Fault, Outcome, Response, Settings, SettingsStop, Verdict, respond, settings};
+use crate::statuses::answers_status;
+use crate::{Fault, Outcome, Response, Settings, SettingsStop, respond, settings};
 use heyvl_io::{ReadStop, Sink, Source, read_all, write_all};
 use std::alloc::{AllocError, Global};
+use verdict_report::Answer;
 
 /// The most bytes that a file may have.
 pub const FILE_LIMIT: usize = 1_048_576;
@@ -29,8 +31,8 @@ pub fn run_tool<F: Source, K: Sink>(
         (writing (K.written sink.old) (K.written sink.new) (K.faults sink.old) (K.faults sink.new)) result
         ⊎ IsOutOfMemory (writing (K.written sink.old) (K.written sink.new) (K.faults sink.old) (K.faults sink.new)) result }
 
-    // What `verified` means, for the bytes that were read: those that the source holds, where it tells them. Any source may be
-    // meant, also one that tells nothing.
+    // What `verified` and `not verified` mean, for the bytes that were read: those that the source holds, where it tells them. Any
+    // source may be meant, also one that tells nothing.
     ensures verified { (file : List ℕ) → AskFor (map string_bytes words.now.items) (Settings.Verify file) → result.answers.items ≢ []
         → IsVerifiedFrom file (call (map string_bytes words.now.items) (F.holds source.old) (F.faults source.old) (F.faults source.new) (F.taken source.new))
         (writing (K.written sink.old) (K.written sink.new) (K.faults sink.old) (K.faults sink.new)) result }
@@ -128,24 +130,12 @@ fn deliver<K: Sink>(response: Response, sink: &mut K) -> Outcome
     }
 }
 
-fn is_refuted(verdict: &Verdict) -> bool
-    ensures { result ≡ is_refuted verdict.now }
-{
-    matches!(verdict, Verdict::NotVerified(_, _))
-}
-
-fn is_some_refuted(answers: &[Answer]) -> bool
-    ensures { result ≡ some_refuted answers.now }
-{
-    answers.iter().any(|answer| is_refuted(&answer.verdict))
-}
-
 /// The exit status.
 fn status(fault: Fault, answers: &[Answer]) -> u8
     ensures { result ≡ status_of fault answers.now }
 {
     match fault {
-        Fault::Nothing => { if is_some_refuted(answers) { 1 } else { 0 } }
+        Fault::Nothing => answers_status(answers),
         Fault::TooLong(_) | Fault::Source(_, _) | Fault::Early => 3,
         Fault::Usage => 4,
         Fault::Read(_) => 5,

@@ -4,8 +4,6 @@
 #[cfg(test)]
 mod device_tests;
 #[cfg(test)]
-mod first_form_tests;
-#[cfg(test)]
 mod long_files;
 #[cfg(test)]
 mod run_tests;

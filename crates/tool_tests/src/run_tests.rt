@@ -81,7 +81,7 @@ const UNPRINTED_COIN: &str = "coproc coin()->(b:Bool)pre 0.50 post[b]{b=flip(1/2
 type Row = (&'static [&'static str], &'static str, u8, &'static str);
 
 /// A row for each command and each kind of answer; the cases of the built program hold the rest.
-const ROWS: [Row; 7] = [
+const ROWS: [Row; 17] = [
     (&["verify", "f"], COIN, 0, COIN_REPORT),
     (
         &["verify", "f"],
@@ -95,12 +95,57 @@ const ROWS: [Row; 7] = [
         0,
         "pay: verified\n1 procedures\n",
     ),
+    (&["verify", "f"], "", 0, "0 procedures\n"),
     (
         &["verify", "f"],
         "coproc n(x: UInt) -> () pre x post 0 { }",
-        3,
-        NOT_BUILT,
+        0,
+        "n: verified\n1 procedures\n",
     ),
+    (
+        &["verify", "f"],
+        "@wlp proc big() -> () pre 1 post 2 { }",
+        1,
+        "big: not verified (post at most 1): any state\n1 procedures\n",
+    ),
+    (
+        &["verify", "f"],
+        "coproc guess() -> (x: Bool, y: Bool) pre 1/2 post [x == y] { x = flip(1/2) cohavoc y }",
+        1,
+        "guess: not verified (bound): x = false, y = false, y'1 = true\n1 procedures\n",
+    ),
+    (
+        &["verify", "f"],
+        "coproc mul(x: UInt, y: UInt) -> (z: UInt) pre x*y post z { z = x*y }",
+        2,
+        "mul: unknown (bound): nonlinear at 1:48\n1 procedures\n",
+    ),
+    (
+        &["verify", "f"],
+        "coproc vac() -> () pre 0 post 5 { coassume ?(true) }",
+        0,
+        "vac: valid (1:35 is no program statement)\n1 procedures\n",
+    ),
+    (
+        &["verify", "f"],
+        "coproc a() -> (x: UInt) pre 1 post x { x = b() }\ncoproc b() -> (y: UInt) pre 1 post y { y = 2 }",
+        1,
+        "a: conditional on b\nb: not verified (bound): y = 0\n2 procedures\n",
+    ),
+    (
+        &["verify", "f"],
+        "coproc a() -> (x: UInt) pre 1 post x { x = b() }\ncoproc b() -> (y: UInt) pre 1 post y",
+        2,
+        "a: conditional on b\nb: no body\n2 procedures\n",
+    ),
+    (
+        &["verify", "f"],
+        "@wlp proc spin() -> () pre 1 post 0 { @invariant(1) while true { } }",
+        0,
+        "spin: verified\n1 procedures\n",
+    ),
+    (&["verify", "f"], WALK, 0, "walk: verified\n1 procedures\n"),
+    (&["verify", "f"], RANKED_WALK, 3, NOT_BUILT),
     (
         &["verify", "f"],
         "coproc coin(",
@@ -110,6 +155,12 @@ const ROWS: [Row; 7] = [
     (&["verify"], COIN, 4, USAGE),
     (&["verify", "g"], COIN, 5, "read fault\n"),
 ];
+
+/// An expected cost, with a loop.
+const WALK: &str = "coproc walk(init: UInt) -> () pre 2*init post 0 { var x: UInt = init @invariant(2*x) while x > 0 { reward 1 var d: Bool = flip(1/2) if d { x = x - 1 } else { } } }";
+
+/// The same with a ranking, which isn't verified yet.
+const RANKED_WALK: &str = "coproc walk(init: UInt) -> () pre 2*init post 0 { var x: UInt = init @invariant(2*x) @ranking(1, 2*x) while x > 0 { reward 1 var d: Bool = flip(1/2) if d { x = x - 1 } else { } } }";
 
 fn check_rows(rt: &(impl Abort + AllocGlobal), rows: &[Row]) -> Result<(), Fail> {
     for (words, file, status, written) in rows {
@@ -167,7 +218,7 @@ fn a_long_file_is_refused(rt: HostRuntime) -> Result<(), Fail> {
     let alloc = rt.alloc();
     let words = words_of(alloc, &["verify", "f"])?;
     for (length, status, text) in [
-        (FILE_LIMIT, 3, NOT_BUILT),
+        (FILE_LIMIT, 0, "0 procedures\n"),
         (FILE_LIMIT + 1, 3, "file too long\n"),
     ] {
         let bytes = vec![in alloc; b' '; length]?;

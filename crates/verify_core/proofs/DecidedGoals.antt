@@ -1,6 +1,5 @@
 -- The goals that are made of a procedure of a file that meets the rules can be decided.
 use Rattle.std.proofs.Common.{◌<◌, ◌≤◌, ◌^◌, ℕ, sym, subst, arith, List, [], ◌∷◌, length}
-use Rattle.std.specs.Prelude.{Result, Ok, Err, IfOk}
 use Rattle.heylo_formula.specs.Sizes.{nodes}
 use Rattle.heylo_formula.specs.declared.goals.GoalId.{GoalId}
 use Rattle.heylo_formula.specs.declared.goals.GoalId.TheVariants.{Main, Pre, Post, Invariant, Ranking}
@@ -18,10 +17,6 @@ use Rattle.verify_core.specs.Questions.{AreGoals, IsMadeOf, Question, question}
 use Rattle.verify_core.specs.Decidable.{CanDecide, IsDecidable}
 use Rattle.verify_core.proofs.AskedGoals.{IsProper, goal_is, goal_small, proper}
 use Rattle.verify_core.proofs.FromRules.{each_at}
-
-pub if_both : {A E : Type 0} (r : Result A E) (P Q R : A → Type 0) → ((x : A) → P x → Q x → R x) → IfOk r P → IfOk r Q → IfOk r R
-if_both (Ok x) P Q R f h k = f x h k
-if_both (Err e) P Q R f h k = tt
 
 decidable : PrenexedGoalsAreGoals → (q : Question) (m : Made) → IsProper q → nodes q.stated ≤ 2 ^ 27 → IsMadeOf q m → CanDecide m
 decidable goals q (made.Goal g) h s m =

@@ -77,6 +77,3 @@ bound_made x vs all f one made e d o n h = made_of (one_bound (procedure_of x) f
   where
     variables_are : map variable_of vs ≡ variables (procedure_of x)
     variables_are = e ∙ (ap (λ l. map variable_of l) d ∙ sym (own_variables x))
-
-pub bound_named : (x : TProc) (vs all : List VarInfo) (f : Form) → map variable_of vs ≡ map variable_of all → all ≡ x.vars.items → AreNamed (length x.vars.items) (binders f) → AreNamed (length vs) (binders f)
-bound_named x vs all f e d n = subst (λ k. AreNamed k (binders f)) (sym (as_many vs _ e ∙ (length-map all variable_of ∙ ap (λ (l : List VarInfo). length l) d))) n

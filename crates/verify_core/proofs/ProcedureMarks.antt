@@ -56,13 +56,6 @@ next_mark ps os i x b ms ns all l k e f g h =
 
 -- ---- The first mark
 
-pub next_unmarked : (ms : List Bool) (ns : List ℕ) (i : ℕ) (all : Option ℕ) → i < length ns → get_or ms (get_or ns i 0) false ≡ false → first_marked ms (drop i ns) ≡ all → first_marked ms (drop (i + 1) ns) ≡ all
-next_unmarked ms ns i all l e h =
-    ap (λ n. first_marked ms (drop n ns)) (add-one i) ∙ sym (ap (first_marked ms) (drop-cons ns i 0 l) ∙ ap (λ b. if b then Some (get_or ns i 0) else first_marked ms (drop (suc i) ns)) e) ∙ h
-
-pub found_marked : (ms : List Bool) (ns : List ℕ) (i : ℕ) (all : Option ℕ) → i < length ns → get_or ms (get_or ns i 0) false ≡ true → first_marked ms (drop i ns) ≡ all → Some (get_or ns i 0) ≡ all
-found_marked ms ns i all l e h = sym (ap (first_marked ms) (drop-cons ns i 0 l) ∙ ap (λ b. if b then Some (get_or ns i 0) else first_marked ms (drop (suc i) ns)) e) ∙ h
-
 among_within : (from n : ℕ) (xs : List ℕ) (r : ℕ) → GrowBelow from n xs → among xs r ≡ true → (from ≤ r) × (r < n)
 among_within from n [] r h e = absurd (false≢true e)
 among_within from n (x ∷ xs) r h e = ⊎_elim (λ ne. here ne) (λ k. let m = among_within (suc x) n xs r h.1 k in let a = m.0 in let b = h.0.0 in (omega (arith, a, b), m.1)) (or_cases (x == r) (among xs r) e)

@@ -1,25 +1,18 @@
 -- The verdicts by what comes of the goals, and the answers of a file.
-use Rattle.std.proofs.Common.{◌≡◌, ◌<◌, ◌≤◌, ◌+◌, ◌||◌, ℕ, refl, sym, ap, ◌∙◌, subst, append_assoc, append-nil, Bool, true, false, not, List, [], ◌∷◌, ◌++◌, map, drop, length}
+use Rattle.std.proofs.Common.{◌≡◌, ◌<◌, ◌≤◌, ◌+◌, ℕ, sym, ap, ◌∙◌, subst, append_assoc, append-nil, true, List, [], ◌∷◌, ◌++◌, map, drop, length}
 use Rattle.std.proofs.Math.Numerals.{add-one}
 use Rattle.std.proofs.Math.Seq.{drop-nil}
 use Rattle.std.proofs.lemmas.List.{drop_all}
-use Rattle.std.specs.Prelude.{Option, Some, None, if◌then◌else◌}
+use Rattle.std.specs.Prelude.{None}
 use Prim.Native.Nat.{zero, suc}
-use Rattle.heyvl_syntax.specs.declared.spans.Span.{Span}
-use Rattle.heylo_formula.specs.Binders.{has_binder}
-use Rattle.heyvl_types.specs.Acts.{Acts, TypedProcedure, procedure_at}
-use Rattle.heyvl_types.specs.Places.{in_order}
-use Rattle.heyvl_types.specs.Program.{Reason, first_break, reason_of_break, why_no_program}
-use Rattle.proc_contracts.specs.Reasons.{plain}
-use Rattle.proc_contracts.specs.declared.reasons.WhyNot.{WhyNot}
+use Rattle.heyvl_types.specs.Acts.{TypedProcedure}
 use Rattle.verdict_report.specs.declared.answers.Answer.{Answer}
 use Rattle.verdict_report.specs.declared.answers.NamedGoal.{NamedGoal}
-use Rattle.verdict_report.specs.declared.answers.Verdict.{Verdict}
-use Rattle.verify_core.specs.Answered.{AreAnswers, IsAnswer, IsVerdict}
+use Rattle.verify_core.specs.Answered.{AreAnswers, IsAnswer}
 use Rattle.verify_core.specs.Decided.{DecidedGoal, all_proved, decided_at, first_falsified, first_unknown, listed}
 use Rattle.verify_core.specs.declared.outcomes.Outcome.{Outcome}
 use Rattle.verify_core.specs.internal.Outcomes.{outcome, told_by}
-use Rattle.verify_core.specs.internal.Verdicts.{all_told_by, verdict_for}
+use Rattle.verify_core.specs.internal.Verdicts.{all_told_by}
 use Rattle.verify_core.specs.declared.outcomes.Outcome.TheVariants.{Proved}
 use Rattle.verify_core.proofs.GoalOutcomes.{describes, falsified_by, is_all, unknown_by}
 use Rattle.verify_core.proofs.Rows.{drop_next, drop_none}
@@ -34,28 +27,6 @@ falsified_here ds o p e f = (describes ds).falsified ∙ ap falsified_by (sym e 
 
 pub unknown_here : (ds : List DecidedGoal) (o p : Outcome) → o ≡ outcome ds → o ≡ p → falsified_by p ≡ None → first_unknown ds ≡ unknown_by p
 unknown_here ds o p e f n = (describes ds).unknown (ap falsified_by (sym e ∙ f) ∙ n) ∙ ap unknown_by (sym e ∙ f)
-
-no_body_why : (p : TypedProcedure) → p.body ≡ None → why_no_program p ≡ Some Reason.no_body
-no_body_why p e = rw e refl
-
-other_why : (a b : Bool) (o : Option Span) → (if a then Some Reason.no_wlp else (if b then Some Reason.quantifier else reason_of_break o)) ≡ Some Reason.no_body → ⊥
-other_why true b o e = cc
-other_why false true o e = cc
-other_why false false (Some s) e = cc
-other_why false false None e = cc
-
-why_no_body : (p : TypedProcedure) (b : Option Acts) → p.body ≡ b → why_no_program p ≡ Some Reason.no_body → p.body ≡ None
-why_no_body p None e h = e
-why_no_body p (Some acts) e h = absurd (other_why (not (p.co || p.weak)) (has_binder p.post) (first_break p.co (in_order acts)) (rw e at h))
-
-pub unclosed_verdict : (ps : List TypedProcedure) (table : List (List DecidedGoal)) (p : ℕ) (why : WhyNot) (v : Verdict) → Some (plain why) ≡ why_no_program (procedure_at ps p) → v ≡ verdict_for why → all_proved (decided_at table p) ≡ true → IsVerdict ps table p v
-unclosed_verdict ps table p why v e f h = subst (IsVerdict ps table p) (sym f) (by why e)
-  where
-    by : (w : WhyNot) → Some (plain w) ≡ why_no_program (procedure_at ps p) → IsVerdict ps table p (verdict_for w)
-    by WhyNot.NoBody k = why_no_body (procedure_at ps p) (procedure_at ps p).body refl (sym k)
-    by WhyNot.NoWlp k = (h, ((λ n. let z : Some Reason.no_wlp ≡ Some Reason.no_body = k ∙ no_body_why (procedure_at ps p) n in cc), sym k))
-    by WhyNot.Quantifier k = (h, ((λ n. let z : Some Reason.quantifier ≡ Some Reason.no_body = k ∙ no_body_why (procedure_at ps p) n in cc), sym k))
-    by (WhyNot.Statement span) k = (h, ((λ n. let z : Some (Reason.statement span) ≡ Some Reason.no_body = k ∙ no_body_why (procedure_at ps p) n in cc), sym k))
 
 -- ---- All answers
 

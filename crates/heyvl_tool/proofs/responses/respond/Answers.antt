@@ -1,13 +1,12 @@
 use Rattle.heyvl_syntax.proofs.exported.InOrder.{tokens_few}
 use Rattle.heyvl_syntax.specs.Procedures.{procedures}
-use Rattle.heyvl_syntax.specs.SourceFaults.{IsTokenFault, token_place}
-use Rattle.heyvl_syntax.specs.Tokens.{Lexes, Stops}
+use Rattle.heyvl_syntax.specs.Grammar.{IsFile}
+use Rattle.heyvl_syntax.specs.SourceFaults.{IsTokenFault, IsWithinLimits, token_place}
+use Rattle.heyvl_syntax.specs.Tokens.{Stops}
 use Rattle.heyvl_syntax.specs.declared.tokens.Token.{Token}
 use Rattle.heyvl_tool.proofs.FileLemmas.{reply_by_fault, reply_by_file}
 use Rattle.heyvl_tool.proofs.responses.respond.Goals as goal
-use Rattle.heyvl_tool.specs.Replies.{IsSourceReply}
-use Rattle.heyvl_tool.specs.Responses.{reply_of}
-use Rattle.std.proofs.Common.{IfOk, List, ap, arith, inl, inr, subst, ◌∙◌, ◌≡◌, ℕ}
+use Rattle.std.proofs.Common.{List, ap, arith, inl, inr, subst, ◌∙◌, ◌≡◌}
 
 pub returns-in-Err-Fault : goal.returns-in-Err-Fault
 returns-in-Err-Fault c =
@@ -19,14 +18,16 @@ parse-requires c =
     let few = tokens_few c.args.bytes.now c.in-Ok.tokens.items c.in-Ok.ensures.found in
     rw c.deref.ensures.value (omega arith)
 
+pub respond_to_file-requires-clause-spelled : goal.respond_to_file-requires-clause-spelled
+respond_to_file-requires-clause-spelled c =
+    let found : IsWithinLimits c.in-Ok.tokens.items × IsFile (procedures c.in-Ok-parse.file) c.in-Ok.tokens.items = rw c.deref.ensures.value at c.in-Ok-parse.ensures.found in
+    record { tokens = c.in-Ok.tokens.items; lexes = c.in-Ok.ensures.found; within = found.0; is_file = found.1 }
+
 pub returns-in-Ok-parse : goal.returns-in-Ok-parse
 returns-in-Ok-parse c =
-    let found = rw c.deref.ensures.value at c.in-Ok-parse.ensures.found in
-    let said =
-    subst (λ (ts : List Token). IfOk c.respond_to_file.result (λ x. Lexes 0 c.args.bytes.now ts → IsSourceReply c.args.settings.now c.args.bytes.now (procedures c.in-Ok-parse.file) (reply_of x)))
-    c.deref-in-Ok-parse.ensures.value c.respond_to_file.ensures in
-    reply_by_file c.args.settings.now c.args.bytes.now c.in-Ok.tokens.items (procedures c.in-Ok-parse.file) _
-    (record { tokens = c.in-Ok.tokens.items; lexes = c.in-Ok.ensures.found; within = found.0; is_file = found.1 }) c.in-Ok.ensures.found said
+    let found : IsWithinLimits c.in-Ok.tokens.items × IsFile (procedures c.in-Ok-parse.file) c.in-Ok.tokens.items = rw c.deref.ensures.value at c.in-Ok-parse.ensures.found in
+    reply_by_file c.args.settings.now c.args.bytes.now (procedures c.in-Ok-parse.file) _
+    (record { tokens = c.in-Ok.tokens.items; lexes = c.in-Ok.ensures.found; within = found.0; is_file = found.1 }) c.respond_to_file.ensures
 
 pub returns-in-Err-Fault-parse : goal.returns-in-Err-Fault-parse
 returns-in-Err-Fault-parse c =

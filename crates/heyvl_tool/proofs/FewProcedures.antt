@@ -1,0 +1,62 @@
+-- A file within the limits has at most 1,024 procedures.
+use Rattle.heylo_formula.specs.Formula.{Form}
+use Rattle.heylo_formula.specs.Sizes.{nodes_in_term}
+use Rattle.heyvl_num.specs.Rational.{Rational}
+use Rattle.heyvl_syntax.specs.Grammar.{IsFile, IsProc, proc_key}
+use Rattle.heyvl_syntax.specs.Procedures.{Procedure}
+use Rattle.heyvl_syntax.specs.Productions.{IsEach, IsKey}
+use Rattle.heyvl_syntax.specs.Sizes.{expression_nodes, nodes_of_procedure}
+use Rattle.heyvl_syntax.specs.SourceFaults.{IsWithinLimits, is_procedure_key, procedure_count}
+use Rattle.heyvl_syntax.specs.declared.tokens.Token.{Token}
+use Rattle.heyvl_types.specs.Acts.{Act, Arms, TypedProcedure, acts_in}
+use Rattle.heyvl_types.specs.Places.{in_order}
+use Rattle.heyvl_types.specs.ResolvedSizes.{ActWithin, FormsWithin, GuardsWithin, RankWithin}
+use Rattle.heyvl_types.specs.Rules.{Each}
+use Rattle.std.proofs.Common.{Bool, List, None, Option, Some, [], ap, arith, cond, false, length, refl, true, ◌++◌, ◌+◌, ◌∷◌, ◌∙◌, ◌≡◌, ◌≤◌, ℕ}
+use Rattle.std.proofs.lemmas.List.Recursion.{is_count_by}
+use Rattle.std.proofs.lemmas.List.Sums.{sum_by-cons}
+
+-- How many of the tokens are `proc` or `coproc`.
+keys : List Token → ℕ
+keys [] = 0
+keys (t ∷ ts) = cond (is_procedure_key t.kind) (1 + keys ts) (keys ts)
+
+keys_counted : (ts : List Token) → keys ts ≡ procedure_count ts
+unfolding keys
+keys_counted ts = is_count_by keys (λ t. is_procedure_key t.kind) refl (λ t more. refl) ts
+
+keys_both : (xs ys : List Token) → keys (xs ++ ys) ≡ keys xs + keys ys
+unfolding keys
+keys_both [] ys = omega arith
+keys_both (t ∷ xs) ys = rw (keys_both xs ys) (added (is_procedure_key t.kind) (keys xs) (keys ys))
+  where
+    added : (b : Bool) (n m : ℕ) → cond b (1 + (n + m)) (n + m) ≡ cond b (1 + n) n + m
+    added true n m = omega arith
+    added false n m = refl
+
+one_key : (co : Bool) (ts : List Token) → IsKey (proc_key co) ts → keys ts ≡ 1
+unfolding keys
+one_key true ts h = rw h.1 refl
+one_key false ts h = rw h.1 refl
+
+some_key : (p : Procedure) (ts : List Token) → IsProc p ts → 1 ≤ keys ts
+some_key p ts ((note, behind, n, (key, rest, k, more, e2), e1), s) =
+    let front : keys ts ≡ keys note + keys behind = ap keys e1 ∙ keys_both note behind in
+    let back : keys behind ≡ keys key + keys rest = ap keys e2 ∙ keys_both key rest in
+    let one = one_key p.co key k in
+    omega (arith, front, back, one)
+
+each_has_key : (file : List Procedure) (ts : List Token) → IsEach IsProc file ts → length file ≤ keys ts
+each_has_key [] ts h = omega arith
+each_has_key (p ∷ ps) ts (front, back, is, rest, e) =
+    let both : keys ts ≡ keys front + keys back = ap keys e ∙ keys_both front back in
+    let one = some_key p front is in
+    let more = each_has_key ps back rest in
+    omega (arith, both, one, more)
+
+pub few_procedures : (file : List Procedure) (tokens : List Token) → IsWithinLimits tokens → IsFile file tokens → length file ≤ 1024
+few_procedures file tokens within is =
+    let some = each_has_key file tokens is in
+    let same = keys_counted tokens in
+    let few = within.uncrowded in
+    omega (arith, some, same, few)

@@ -1,7 +1,0 @@
-use Rattle.heyvl_tool.specs.Procedure.{Statement}
-use Rattle.heyvl_tool.specs.Expectation.{before_statement}
-use Rattle.heyvl_tool.specs.Numbering.{state_at, AreEntries, value_in}
-use Rattle.heyvl_tool.proofs.expectation.before_flip.Given as goal
-
-abbrev pub invariant-loop-state : goal.invariant-loop-state
-invariant-loop-state l = AreEntries l.state (λ n. before_statement (Statement.flip l.variable l.chance) (value_in l.after) (state_at l.outputs n)) l.before.items
