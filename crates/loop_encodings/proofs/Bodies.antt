@@ -1,6 +1,5 @@
 -- The body of a procedure of a file that meets the rules, and its encoding.
 use Rattle.std.proofs.Common.{◌≡◌, ◌≤◌, ◌<◌, ◌+◌, ◌^◌, ℕ, sym, ap, subst, ◌∙◌, arith, List, [], ◌++◌, length, get_or}
-use Rattle.std.proofs.lemmas.List.{length-map}
 use Rattle.heylo_formula.specs.Typing.{IsFormula, types_in}
 use Rattle.heyvl_types.specs.Acts.{Acts, TypedProcedure, Variable, acts_in, procedure_at, type_list, variables}
 use Rattle.heyvl_types.specs.Count.{count_of}
@@ -15,7 +14,7 @@ use Rattle.loop_encodings.specs.Fresh.{fresh}
 use Rattle.loop_encodings.specs.internal.Ready.{AreReady, plain_variables}
 use Rattle.loop_encodings.proofs.Counts.{counted, few}
 use Rattle.loop_encodings.proofs.EncodedTypes.{encoding_fits, post_fits}
-use Rattle.loop_encodings.proofs.FromRules.{all_fine, procedure_is, ready_acts, rules_at}
+use Rattle.loop_encodings.proofs.FromRules.{all_fine, is_there, procedure_is, ready_acts, rules_at}
 use Rattle.loop_encodings.proofs.OwnVariables.{own_variables}
 
 -- What the encoding begins with: the procedure's variables.
@@ -27,7 +26,7 @@ module _ (typed : Typed) (p : ℕ) (x : TProc) (rules : MeetsAllRules typed) (lt
   here = procedure_is typed.procs.items p x lt is
 
   meets_there : MeetsRules (procedures_of typed) (procedure_at (procedures_of typed) p)
-  meets_there = rules_at typed p rules (subst (λ n. p < n) (sym (length-map typed.procs.items procedure_of)) lt)
+  meets_there = rules_at typed p rules (is_there typed p lt)
 
   meets : MeetsRules (procedures_of typed) (procedure_of x)
   meets = subst (λ y. MeetsRules (procedures_of typed) y) here meets_there

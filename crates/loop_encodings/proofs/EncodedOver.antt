@@ -1,5 +1,5 @@
 -- What encodings are over: the procedure's own variables and the fresh ones.
-use Rattle.std.proofs.Common.{◌≡◌, ◌≤◌, ◌<◌, ◌+◌, ◌==◌, ℕ, refl, sym, ◌∙◌, arith, Bool, true, List, [], ◌∷◌, ◌++◌, length}
+use Rattle.std.proofs.Common.{◌≡◌, ◌≤◌, ◌<◌, ◌+◌, ◌==◌, ℕ, sym, ◌∙◌, arith, Bool, true, List, [], ◌∷◌, ◌++◌, length}
 use Rattle.std.proofs.lemmas.List.{length-append, length-map}
 use Prim.Native.Nat.{zero, suc}
 use Rattle.heyvl_num.specs.Rational.{Rational}
@@ -145,7 +145,7 @@ module _ (ps : List TypedProcedure) (rules : (q : ℕ) → q < length ps → Mee
     over_acts (Acts.next a rest) v f b o m l =
         join_over n (encoded_act ps p m a) _
         (over_act a v f.0 (each_first (IsFine ps p) (inside a) (in_order rest) f.1) b o.0 m (omega (arith, l, length-append (fresh_of_act ps a) (fresh ps rest))))
-        (over_acts rest (shown_by a v) (each_second (IsFine ps p) (inside a) (in_order rest) f.1) (after_bounded ps rules p (types_of p) (λ y k. refl) a v f.0 b) o.1 (m + length (fresh_of_act ps a)) (omega (arith, l, length-append (fresh_of_act ps a) (fresh ps rest))))
+        (over_acts rest (shown_by a v) (each_second (IsFine ps p) (inside a) (in_order rest) f.1) (after_bounded ps p a v f.0 b) o.1 (m + length (fresh_of_act ps a)) (omega (arith, l, length-append (fresh_of_act ps a) (fresh ps rest))))
 
     over_arms : (arms : Arms) (v : Visible) → GuardsFit p arms → Each (IsFine ps p) (inside_arms arms) → Bounded (length (variables p)) v → ScopedArms v arms → (m : ℕ) → m + length (fresh_of_arms ps arms) ≤ n → ArmsAreOver n (encoded_arms ps p m arms)
     over_arms Arms.no_arm v g f b o m l = tt

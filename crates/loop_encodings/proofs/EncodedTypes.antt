@@ -70,7 +70,7 @@ from_end : (us vs : List Variable) → TypesFrom (length us) vs (types_in (type_
 from_end [] vs = from_zero vs
 from_end (u ∷ us) vs = from_shift (length us) vs (us ++ vs) u (from_end us vs)
 
-front_same : (us vs : List Variable) (y : ℕ) → y < length us → types_in (type_list (us ++ vs)) y ≡ types_in (type_list us) y
+pub front_same : (us vs : List Variable) (y : ℕ) → y < length us → types_in (type_list (us ++ vs)) y ≡ types_in (type_list us) y
 front_same [] vs y l = absurd (omega (arith, l))
 front_same (u ∷ us) vs zero l = refl
 front_same (u ∷ us) vs (suc y) l = front_same us vs y (omega (arith, l))
@@ -123,6 +123,18 @@ shown_bounded n x v l b y h = ⊎_elim (λ e. let q : x ≡ y = grind arith in s
 pub shown_all_bounded : (p : TypedProcedure) (xs : List ℕ) (v : Visible) → Each (IsOwn p) xs → Bounded (length (variables p)) v → Bounded (length (variables p)) (shown_all xs v)
 shown_all_bounded p [] v o b = b
 shown_all_bounded p (x ∷ xs) v o b = shown_all_bounded p xs (shown x v) o.1 (shown_bounded (length (variables p)) x v o.0.below b)
+
+pub after_bounded : (ps : List TypedProcedure) (p : TypedProcedure) (a : Act) (v : Visible) → IsFine ps p a → Bounded (length (variables p)) v → Bounded (length (variables p)) (shown_by a v)
+after_bounded ps p (Act.set x t span) v f b = shown_bounded (length (variables p)) x v f.0.0.below b
+after_bounded ps p (Act.draw x qs span) v f b = shown_bounded (length (variables p)) x v f.0.0.below b
+after_bounded ps p (Act.any x d ty span) v f b = shown_bounded (length (variables p)) x v f.0.0.below b
+after_bounded ps p (Act.reward g span) v f b = b
+after_bounded ps p (Act.ifs arms e span) v f b = b
+after_bounded ps p (Act.pick d a c span) v f b = b
+after_bounded ps p (Act.check kind g span) v f b = b
+after_bounded ps p (Act.validate co span) v f b = b
+after_bounded ps p (Act.loop k c) v f b = b
+after_bounded ps p (Act.call xs q es span) v f b = shown_all_bounded p xs v f.0.0 b
 
 -- ---- The parts of an encoding
 
@@ -184,18 +196,6 @@ module _ (ps : List TypedProcedure) (rules : (q : ℕ) → q < length ps → Mee
         ),
       )
 
-  pub after_bounded : (a : Act) (v : Visible) → IsFine ps p a → Bounded (length (variables p)) v → Bounded (length (variables p)) (shown_by a v)
-  after_bounded (Act.set x t span) v f b = shown_bounded (length (variables p)) x v f.0.0.below b
-  after_bounded (Act.draw x qs span) v f b = shown_bounded (length (variables p)) x v f.0.0.below b
-  after_bounded (Act.any x d ty span) v f b = shown_bounded (length (variables p)) x v f.0.0.below b
-  after_bounded (Act.reward g span) v f b = b
-  after_bounded (Act.ifs arms e span) v f b = b
-  after_bounded (Act.pick d a c span) v f b = b
-  after_bounded (Act.check kind g span) v f b = b
-  after_bounded (Act.validate co span) v f b = b
-  after_bounded (Act.loop k c) v f b = b
-  after_bounded (Act.call xs q es span) v f b = shown_all_bounded p xs v f.0.0 b
-
   mutual
     fits_act : (a : Act) (v : Visible) → IsFine ps p a → Each (IsFine ps p) (inside a) → Bounded (length (variables p)) v → ScopedAct v a → (m : ℕ) → TypesFrom m (fresh_of_act ps a) types → ActsFit types (encoded_act ps p m a)
     fits_act (Act.set x t span) v f i b o m h = (subst (λ u. TermFits types u t) (sym (front x f.0.0.below)) (term_on (length (variables p)) v types (types_of p) (types_of p x) t front b o f.0.1), tt)
@@ -226,7 +226,7 @@ module _ (ps : List TypedProcedure) (rules : (q : ℕ) → q < length ps → Mee
     fits_acts (Acts.next a rest) v f b o m h =
         join_fits types (encoded_act ps p m a) _
         (fits_act a v f.0 (each_first (IsFine ps p) (inside a) (in_order rest) f.1) b o.0 m (from_first m (fresh_of_act ps a) (fresh ps rest) types h))
-        (fits_acts rest (shown_by a v) (each_second (IsFine ps p) (inside a) (in_order rest) f.1) (after_bounded a v f.0 b) o.1 (m + length (fresh_of_act ps a)) (from_second m (fresh_of_act ps a) (fresh ps rest) types h))
+        (fits_acts rest (shown_by a v) (each_second (IsFine ps p) (inside a) (in_order rest) f.1) (after_bounded ps p a v f.0 b) o.1 (m + length (fresh_of_act ps a)) (from_second m (fresh_of_act ps a) (fresh ps rest) types h))
 
     fits_arms : (arms : Arms) (v : Visible) → GuardsFit p arms → Each (IsFine ps p) (inside_arms arms) → Bounded (length (variables p)) v → ScopedArms v arms → (m : ℕ) → TypesFrom m (fresh_of_arms ps arms) types → ArmsFit types (encoded_arms ps p m arms)
     fits_arms Arms.no_arm v g f b o m h = tt

@@ -29,6 +29,11 @@ pub each_two : {A : Type 0} (P Q : A → Type 0) (xs : List A) → Each P xs →
 each_two P Q [] h k = tt
 each_two P Q (x ∷ xs) h k = ((h.0, k.0), each_two P Q xs h.1 k.1)
 
+pub each_at : (P : TypedProcedure → Type 0) (ps : List TypedProcedure) (p : ℕ) → Each P ps → p < length ps → P (procedure_at ps p)
+each_at P [] p h lt = absurd (omega (arith, lt))
+each_at P (q ∷ ps) zero h lt = h.0
+each_at P (q ∷ ps) (suc p) h lt = each_at P ps p h.1 (omega (arith, lt))
+
 -- What the rules say of an act.
 abbrev pub IsFine : List TypedProcedure → TypedProcedure → Act → Type 0
 IsFine ps p a = (HasOwnTargets p a × IsTypedAct ps p a) × (LoopsMeet p a × FollowsDirection ps p a)
@@ -90,6 +95,9 @@ module _ (ps : List TypedProcedure) (p : TypedProcedure) (rules : (q : ℕ) → 
 
 -- ---- The procedures of a file
 
+pub is_there : (typed : Typed) (q : ℕ) → q < length typed.procs.items → q < length (procedures_of typed)
+is_there typed q lt = subst (λ n. q < n) (sym (length-map typed.procs.items procedure_of)) lt
+
 pub procedure_is : (procs : List TProc) (q : ℕ) (x : TProc) → q < length procs → x ≡ get_or procs q x → procedure_at (map procedure_of procs) q ≡ procedure_of x
 procedure_is [] q x lt is = absurd (omega (arith, lt))
 procedure_is (y ∷ rest) zero x lt is = ap procedure_of (sym is)
@@ -101,9 +109,7 @@ counted_at (y ∷ rest) zero x h lt is = subst IsCounted (sym is) h.0
 counted_at (y ∷ rest) (suc q) x h lt is = counted_at rest q x h.1 (omega (arith, lt)) is
 
 pub each_procedure : (ps rest : List TypedProcedure) (q : ℕ) → Each (MeetsRules ps) rest → q < length rest → MeetsRules ps (procedure_at rest q)
-each_procedure ps [] q h lt = absurd (omega (arith, lt))
-each_procedure ps (y ∷ rest) zero h lt = h.0
-each_procedure ps (y ∷ rest) (suc q) h lt = each_procedure ps rest q h.1 (omega (arith, lt))
+each_procedure ps rest q h lt = each_at (MeetsRules ps) rest q h lt
 
 pub rules_at : (typed : Typed) (q : ℕ) → MeetsAllRules typed → q < length (procedures_of typed) → MeetsRules (procedures_of typed) (procedure_at (procedures_of typed) q)
 rules_at typed q h lt = each_procedure (procedures_of typed) (procedures_of typed) q h.each lt

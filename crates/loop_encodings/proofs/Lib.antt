@@ -38,3 +38,4 @@ mod WrongEncodingsTooStrong
 pub mod LawExamples
 mod LawExamplesOfChoices
 mod LawExamplesOfLoops
+pub mod exported

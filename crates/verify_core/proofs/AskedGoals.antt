@@ -29,8 +29,9 @@ use Rattle.vp_generator.specs.Over.{GeneratedFormIsOver}
 use Rattle.vp_generator.specs.Prenexed.{new_types}
 use Rattle.vp_generator.specs.PrenexedGoals.{PrenexedGoalsAreGoals}
 use Rattle.verify_core.specs.Questions.{Question, all_names, form_or_zero, goal, names, one_bound, question}
-use Rattle.verify_core.proofs.EncodedTypes.{encoding_fits, front_same, post_fits}
-use Rattle.verify_core.proofs.FromRules.{all_fine, each_at, few_fresh}
+use Rattle.loop_encodings.proofs.exported.EncodedTypes.{encoding_fits, front_same, post_fits}
+use Rattle.loop_encodings.proofs.exported.Counts.{few_fresh}
+use Rattle.loop_encodings.proofs.exported.FromRules.{each_at}
 use Rattle.verify_core.proofs.InvariantsOver.{IsInvariantOver, invariants_over}
 use Rattle.verify_core.proofs.PrenexedSizes.{nodes_unbound}
 
@@ -105,11 +106,11 @@ own_front : (p : TypedProcedure) → variables p ≡ (p.inputs ++ p.outputs) ++ 
 own_front p = sym (append_assoc p.inputs p.outputs p.locals)
 
 -- Few variables.
-pub few_variables : (ps : List TypedProcedure) (p : TypedProcedure) → MeetsRules ps p → length (all_variables ps p) ≤ 1280
-few_variables ps p meets =
+pub few_variables : (ps : List TypedProcedure) (p : TypedProcedure) → ((q : ℕ) → q < length ps → MeetsRules ps (procedure_at ps q)) → MeetsRules ps p → length (all_variables ps p) ≤ 1280
+few_variables ps p rules meets =
     let a = meets.few_variables in
     let b = meets.few_statements in
-    let f = few_fresh ps p (acts_in p.body) (all_fine ps p meets) in
+    let f = few_fresh ps p rules meets in
     let l = length-append (variables p) (fresh ps (acts_in p.body)) in
     omega (arith, a, b, f, l)
 
@@ -128,7 +129,7 @@ module _ (formula : GeneratedFormIsFormula) (over : GeneratedFormIsOver) (encode
         stated_over = over_types (all_variables ps q) q.pre pre_over;
         found_over = over_types (all_variables ps q) (vp (encoding ps q) q.post) (over (length (all_variables ps q)) (encoding ps q) q.post (encoded ps p rules there) post_over);
         plain = meets.pre.1;
-        few = few_variables ps q meets;
+        few = few_variables ps q (λ r l. each_at (MeetsRules ps) ps r rules l) meets;
       }
 
   pub proper : (id : GoalId) → IsProper (question ps (procedure_at ps p) id)

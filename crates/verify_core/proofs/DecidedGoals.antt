@@ -16,7 +16,7 @@ use Rattle.vp_generator.specs.PrenexedGoals.{PrenexedGoalsAreGoals}
 use Rattle.verify_core.specs.Questions.{AreGoals, IsMadeOf, Question, question}
 use Rattle.verify_core.specs.Decidable.{CanDecide, IsDecidable}
 use Rattle.verify_core.proofs.AskedGoals.{IsProper, goal_is, goal_small, proper}
-use Rattle.verify_core.proofs.FromRules.{each_at}
+use Rattle.loop_encodings.proofs.exported.FromRules.{each_at}
 
 decidable : PrenexedGoalsAreGoals → (q : Question) (m : Made) → IsProper q → nodes q.stated ≤ 2 ^ 27 → IsMadeOf q m → CanDecide m
 decidable goals q (made.Goal g) h s m =

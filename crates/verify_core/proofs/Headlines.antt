@@ -44,8 +44,8 @@ use Rattle.verify_core.specs.GoalLaws.{MadeGoalsSayBounds}
 use Rattle.verify_core.specs.Headline.{IsBrokenFrom, IsHeadline, IsVerdictOn}
 use Rattle.verify_core.specs.Questions.{IsGoalOf, IsMadeOf, Question, all_names, goal, question}
 use Rattle.verify_core.specs.internal.Settled.{IsSettled, TellsOf}
-use Rattle.verify_core.proofs.EncodedTypes.{encoding_fits}
-use Rattle.verify_core.proofs.FromRules.{each_at, each_first, each_second}
+use Rattle.loop_encodings.proofs.exported.EncodedTypes.{encoding_fits}
+use Rattle.loop_encodings.proofs.exported.FromRules.{each_at, each_first, each_second}
 use Rattle.verify_core.proofs.Rows.{row_at, settled_at}
 use Rattle.vp_generator.specs.Generated.{vp}
 use Rattle.vp_generator.specs.Laws.{GeneratedFormMeansActs}

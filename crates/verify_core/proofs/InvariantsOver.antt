@@ -1,52 +1,13 @@
--- What is visible at an act, and the invariants of loops, are over the procedure's variables.
-use Rattle.std.proofs.Common.{◌≡◌, ◌<◌, ◌==◌, ℕ, subst, arith, true, List, [], ◌∷◌, ◌++◌, length, ⊎_elim, leb}
-use Rattle.std.proofs.lemmas.Bool.{or_cases}
-use Rattle.std.proofs.lemmas.Bool.Decides.{leb_tells}
-use Rattle.std.proofs.lemmas.List.{length-append}
-use Prim.Native.Nat.{suc}
+-- The invariants of loops are over the procedure's variables.
+use Rattle.std.proofs.Common.{ℕ, List, length}
 use Rattle.heylo_formula.specs.Variables.{IsOver}
 use Rattle.heyvl_types.specs.Acts.{Act, Acts, Arms, TypedProcedure, acts_in, variables}
 use Rattle.heyvl_types.specs.Places.{in_order, inside, inside_arms}
-use Rattle.heyvl_types.specs.Rules.{Each, IsOwn, MeetsRules}
-use Rattle.heyvl_types.specs.Visible.{Scoped, ScopedAct, ScopedArms, Visible, interface, shown, shown_all, shown_by}
-use Rattle.verify_core.proofs.FromRules.{IsFine, all_fine, each_both, each_first, each_second}
-
--- What is visible is one of the first variables.
-abbrev pub Bounded : ℕ → Visible → Type 0
-Bounded n v = (y : ℕ) → v y ≡ true → y < n
-
-shown_bounded : (n x : ℕ) (v : Visible) → x < n → Bounded n v → Bounded n (shown x v)
-shown_bounded n x v l b y h = ⊎_elim (λ e. let q : x ≡ y = grind arith in subst (λ z. z < n) q l) (λ e. b y e) (or_cases (x == y) (v y) h)
-
-shown_all_bounded : (p : TypedProcedure) (xs : List ℕ) (v : Visible) → Each (IsOwn p) xs → Bounded (length (variables p)) v → Bounded (length (variables p)) (shown_all xs v)
-shown_all_bounded p [] v o b = b
-shown_all_bounded p (x ∷ xs) v o b = shown_all_bounded p xs (shown x v) o.1 (shown_bounded (length (variables p)) x v o.0.below b)
-
--- The inputs and outputs are among the variables.
-pub interface_bounded : (p : TypedProcedure) → Bounded (length (variables p)) (interface p)
-interface_bounded p y h =
-    let a = length-append p.inputs p.outputs in
-    let b = length-append p.inputs (p.outputs ++ p.locals) in
-    let c = length-append p.outputs p.locals in
-    let l : y < length (p.inputs ++ p.outputs) = below y (length (p.inputs ++ p.outputs)) h in
-    omega (arith, a, b, c, l)
-  where
-    below : (y n : ℕ) → leb (suc y) n ≡ true → y < n
-    below y n h = grind (arith, leb_tells (suc y) n)
-
-pub after_bounded : (ps : List TypedProcedure) (p : TypedProcedure) (a : Act) (v : Visible) → IsFine ps p a → Bounded (length (variables p)) v → Bounded (length (variables p)) (shown_by a v)
-after_bounded ps p (Act.set x t span) v f b = shown_bounded (length (variables p)) x v f.0.0.below b
-after_bounded ps p (Act.draw x qs span) v f b = shown_bounded (length (variables p)) x v f.0.0.below b
-after_bounded ps p (Act.any x d ty span) v f b = shown_bounded (length (variables p)) x v f.0.0.below b
-after_bounded ps p (Act.reward g span) v f b = b
-after_bounded ps p (Act.ifs arms e span) v f b = b
-after_bounded ps p (Act.pick d a c span) v f b = b
-after_bounded ps p (Act.check kind g span) v f b = b
-after_bounded ps p (Act.validate co span) v f b = b
-after_bounded ps p (Act.loop k c) v f b = b
-after_bounded ps p (Act.call xs q es span) v f b = shown_all_bounded p xs v f.0.0 b
-
--- ---- Invariants
+use Rattle.heyvl_types.specs.Rules.{Each, MeetsRules}
+use Rattle.heyvl_types.specs.Visible.{Scoped, ScopedAct, ScopedArms, Visible, interface, shown_by}
+use Rattle.loop_encodings.proofs.exported.EncodedTypes.{Bounded, after_bounded, interface_bounded}
+use Rattle.loop_encodings.proofs.exported.FromRules.{IsFine, all_fine, each_first, each_second}
+use Rattle.verify_core.proofs.EachOf.{each_both}
 
 -- The invariant of an act that is a loop is over the first n variables.
 abbrev pub IsInvariantOver : ℕ → Act → Type 0

@@ -1,7 +1,5 @@
-mod FromRules
-mod OwnVariables
+mod EachOf
 mod InvariantsOver
-mod EncodedTypes
 mod PrenexedSizes
 mod MadeGoals
 mod AskedBounds

@@ -24,10 +24,10 @@ use Rattle.vp_generator.specs.Scopes.{AreNamed, GeneratedFormIsNamed}
 use Rattle.verify_core.specs.PostBinders.{HasNamedBinders}
 use Rattle.verify_core.specs.Questions.{IsMadeOf, one_bound, question}
 use Rattle.verify_core.proofs.AskedGoals.{few_variables}
-use Rattle.verify_core.proofs.EncodedTypes.{encoding_fits}
-use Rattle.verify_core.proofs.FromRules.{each_at, is_there, procedure_is, rules_at}
+use Rattle.loop_encodings.proofs.exported.EncodedTypes.{encoding_fits}
+use Rattle.loop_encodings.proofs.exported.FromRules.{each_at, is_there, procedure_is, rules_at}
 use Rattle.verify_core.proofs.MadeGoals.{made_of}
-use Rattle.verify_core.proofs.OwnVariables.{own_length, own_variables}
+use Rattle.loop_encodings.proofs.exported.OwnVariables.{own_length, own_variables}
 
 pub named_more : (m n : ℕ) (bs : List Binder) → m ≤ n → AreNamed m bs → AreNamed n bs
 named_more m n [] l h = tt
@@ -48,7 +48,7 @@ module _ (typed : Typed) (p : ℕ) (x : TProc) (rules : MeetsAllRules typed) (lt
 
   module _ (vs : List VarInfo) (all : map variable_of vs ≡ all_variables (procedures_of typed) (procedure_at (procedures_of typed) p)) where
     pub main_few : length vs < 2 ^ 30
-    main_few = let a = few_variables (procedures_of typed) (procedure_at (procedures_of typed) p) (rules_at typed p rules (is_there typed p lt)) in let b = as_many vs _ all in omega (arith, a, b)
+    main_few = let a = few_variables (procedures_of typed) (procedure_at (procedures_of typed) p) (λ r k. rules_at typed r rules k) (rules_at typed p rules (is_there typed p lt)) in let b = as_many vs _ all in omega (arith, a, b)
 
     module _ (acts : List A.Act) (encodes : acts_of acts ≡ encoding (procedures_of typed) (procedure_at (procedures_of typed) p)) (post : F.Form) (copied : form_of post ≡ form_of x.post) where
       pub generated : vp (acts_of acts) (form_of post) ≡ vp (encoding (procedures_of typed) (procedure_at (procedures_of typed) p)) (procedure_at (procedures_of typed) p).post

@@ -26,8 +26,8 @@ use Rattle.vp_generator.specs.PrenexedGoals.{HoldsByChoices, PrenexedGoalsSpeakO
 use Rattle.verify_core.specs.GoalLaws.{MadeGoalsSayBounds}
 use Rattle.verify_core.specs.Questions.{Question, all_names, form_or_zero, goal, question}
 use Rattle.verify_core.proofs.AskedGoals.{IsProper, proper}
-use Rattle.verify_core.proofs.EncodedTypes.{encoding_fits}
-use Rattle.verify_core.proofs.FromRules.{each_at}
+use Rattle.loop_encodings.proofs.exported.EncodedTypes.{encoding_fits}
+use Rattle.loop_encodings.proofs.exported.FromRules.{each_at}
 
 both_ways : {A B C : Type 0} → A ↔ B → A ↔ C → B ↔ C
 both_ways f g = ((λ b. g.0 (f.1 b)), (λ c. f.0 (g.1 c)))

@@ -20,7 +20,8 @@ use Rattle.loop_encodings.specs.Encoding.{any_block, encoded, encoded_act, encod
 use Rattle.loop_encodings.specs.Fresh.{fresh, fresh_of_act, fresh_of_arms}
 use Rattle.verify_core.specs.Places.{ActStands, CondStands, FormStands, GuardsStand, StandsWithin, TermStands}
 use Rattle.verify_core.specs.Questions.{Question, form_or_zero, goal, question}
-use Rattle.verify_core.proofs.FromRules.{each_both, each_first, each_second}
+use Rattle.loop_encodings.proofs.exported.FromRules.{each_first, each_second}
+use Rattle.verify_core.proofs.EachOf.{each_both}
 use Rattle.verify_core.proofs.StandingForms.{or_stands, product_stands, shifted_stands, unbound_stands, vp_stands}
 
 abbrev pub Stand : ℕ → Acts → Type 0

@@ -17,7 +17,7 @@ use Rattle.heyvl_types.specs.Places.{in_order, inside, inside_arms}
 use Rattle.heyvl_types.specs.Rules.{Each}
 use Rattle.linear_form.specs.Nonlinear.{first_product, first_product_in, has_variable, product_at}
 use Rattle.verify_core.specs.Places.{ActStands, CondStands, FormStands, GuardsStand, TermStands}
-use Rattle.verify_core.proofs.FromRules.{each_first, each_second}
+use Rattle.loop_encodings.proofs.exported.FromRules.{each_first, each_second}
 use Rattle.vp_generator.specs.Generated.{check_form, draw_form, part_form, pick_form, sum_of_parts, validate_form, vp, vp_act, vp_arms}
 use Rattle.vp_generator.specs.Prenexed.{Numbering, renumbered, unbound, unbound_in}
 

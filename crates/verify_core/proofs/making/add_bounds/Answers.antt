@@ -8,7 +8,7 @@ use Rattle.vp_generator.specs.Scopes.{AreNamed}
 use Rattle.verify_core.specs.internal.Asked.{IsAsked, plain}
 use Rattle.verify_core.proofs.ListedGoals.{pushed_goal}
 use Rattle.verify_core.proofs.MainGoals.{few_own, here}
-use Rattle.verify_core.proofs.OwnVariables.{own_length}
+use Rattle.loop_encodings.proofs.exported.OwnVariables.{own_length}
 use Rattle.verify_core.proofs.making.add_bounds.Goals as goal
 
 pub bound_goal-requires-clause-few : goal.bound_goal-requires-clause-few

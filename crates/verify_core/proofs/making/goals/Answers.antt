@@ -9,7 +9,7 @@ use Rattle.verify_core.specs.PostBinders.{HasNamedBinders}
 use Rattle.verify_core.specs.Questions.{AreGoals}
 use Rattle.verify_core.specs.internal.Asked.{Asked, IsAsked, asked, plain}
 use Rattle.verify_core.proofs.AskedBounds.{each_is_asked}
-use Rattle.verify_core.proofs.FromRules.{each_at, is_there, rules_at}
+use Rattle.loop_encodings.proofs.exported.FromRules.{each_at, is_there, rules_at}
 use Rattle.verify_core.proofs.ListedGoals.{main_first, not_weak, with_bounds, without_body}
 use Rattle.verify_core.proofs.MainGoals.{here}
 use Rattle.verify_core.proofs.making.goals.Goals as goal

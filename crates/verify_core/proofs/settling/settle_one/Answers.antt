@@ -7,7 +7,7 @@ use Rattle.verify_core.specs.internal.Outcomes.{outcome}
 use Rattle.verify_core.specs.internal.Rows.{IsRow}
 use Rattle.verify_core.specs.internal.Settled.{plain}
 use Rattle.verify_core.proofs.DecidedGoals.{each_can}
-use Rattle.verify_core.proofs.FromRules.{is_there}
+use Rattle.loop_encodings.proofs.exported.FromRules.{is_there}
 use Rattle.verify_core.proofs.Rows.{both_ok, row_of}
 use Rattle.verify_core.proofs.settling.settle_one.Goals as goal
 

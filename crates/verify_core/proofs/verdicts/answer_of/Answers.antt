@@ -1,6 +1,6 @@
 use Rattle.std.proofs.Common.{ap, sym, ◌∙◌}
 use Rattle.heyvl_types.specs.Acts.{TypedProcedure}
-use Rattle.verify_core.proofs.FromRules.{procedure_is}
+use Rattle.loop_encodings.proofs.exported.FromRules.{procedure_is}
 use Rattle.verify_core.proofs.verdicts.answer_of.Goals as goal
 
 pub returns-clause-answer : goal.returns-clause-answer

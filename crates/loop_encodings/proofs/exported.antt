@@ -1,0 +1,5 @@
+-- Lemmas that are meant for the proofs of other crates. All else in proofs/ is private to this crate.
+pub mod OwnVariables
+pub mod FromRules
+pub mod Counts
+pub mod EncodedTypes
