@@ -1,20 +1,11 @@
 -- A file within the limits has at most 1,024 procedures.
-use Rattle.heylo_formula.specs.Formula.{Form}
-use Rattle.heylo_formula.specs.Sizes.{nodes_in_term}
-use Rattle.heyvl_num.specs.Rational.{Rational}
 use Rattle.heyvl_syntax.specs.Grammar.{IsFile, IsProc, proc_key}
 use Rattle.heyvl_syntax.specs.Procedures.{Procedure}
 use Rattle.heyvl_syntax.specs.Productions.{IsEach, IsKey}
-use Rattle.heyvl_syntax.specs.Sizes.{expression_nodes, nodes_of_procedure}
 use Rattle.heyvl_syntax.specs.SourceFaults.{IsWithinLimits, is_procedure_key, procedure_count}
 use Rattle.heyvl_syntax.specs.declared.tokens.Token.{Token}
-use Rattle.heyvl_types.specs.Acts.{Act, Arms, TypedProcedure, acts_in}
-use Rattle.heyvl_types.specs.Places.{in_order}
-use Rattle.heyvl_types.specs.ResolvedSizes.{ActWithin, FormsWithin, GuardsWithin, RankWithin}
-use Rattle.heyvl_types.specs.Rules.{Each}
-use Rattle.std.proofs.Common.{Bool, List, None, Option, Some, [], ap, arith, cond, false, length, refl, true, ◌++◌, ◌+◌, ◌∷◌, ◌∙◌, ◌≡◌, ◌≤◌, ℕ}
+use Rattle.std.proofs.Common.{Bool, List, [], ap, arith, cond, false, length, refl, true, ◌++◌, ◌+◌, ◌∷◌, ◌∙◌, ◌≡◌, ◌≤◌, ℕ}
 use Rattle.std.proofs.lemmas.List.Recursion.{is_count_by}
-use Rattle.std.proofs.lemmas.List.Sums.{sum_by-cons}
 
 -- How many of the tokens are `proc` or `coproc`.
 keys : List Token → ℕ

@@ -1,28 +1,21 @@
 -- What a report and the answers ask of a typed file.
 use Rattle.farkas_check.specs.declared.trees.GoalCert.{GoalCert}
-use Rattle.heyvl_syntax.proofs.exported.FewNodes.{few_nodes}
-use Rattle.heyvl_syntax.proofs.exported.InOrder.{tokens_few}
 use Rattle.heyvl_syntax.specs.Procedures.{Procedure}
-use Rattle.heyvl_syntax.specs.Sizes.{nodes_of_procedure}
 use Rattle.heyvl_syntax.specs.SourceFaults.{IsSource}
 use Rattle.heyvl_tool.proofs.Complete.{one_for_each}
 use Rattle.heyvl_tool.proofs.FewProcedures.{few_procedures}
-use Rattle.heyvl_tool.specs.Replies.{file_limit}
-use Rattle.heyvl_types.specs.Acts.{TypedProcedure}
 use Rattle.heyvl_types.specs.Files.{resolved, typed}
 use Rattle.heyvl_types.specs.PlainActs.{procedure_of, procedures_of}
-use Rattle.heyvl_types.specs.ResolvedSizes.{FormsWithin}
 use Rattle.heyvl_types.specs.Rules.{Each, MeetsAllRules}
 use Rattle.heyvl_types.specs.Signatures.{called}
 use Rattle.heyvl_types.specs.declared.typed.Typed.{Typed}
-use Rattle.std.proofs.Common.{List, ap, arith, length, subst, sym, ◌*◌, ◌+◌, ◌<◌, ◌∙◌, ◌≡◌, ◌≤◌, ℕ}
+use Rattle.std.proofs.Common.{List, ap, arith, length, ◌<◌, ◌∙◌, ◌≡◌, ◌≤◌, ℕ}
 use Rattle.std.proofs.lemmas.List.{length-map}
 use Rattle.std.specs.Prelude.{◌^◌}
 use Rattle.verdict_report.specs.Placed.{CanReport, IsAnswerPlaced}
 use Rattle.verdict_report.specs.declared.answers.Answer.{Answer}
 use Rattle.verdict_report.specs.declared.answers.NamedGoal.{NamedGoal}
 use Rattle.verify_core.specs.Answered.{IsAnswered}
-use Rattle.verify_core.specs.Places.{StandsWithin}
 
 -- The answers of a file can be reported.
 pub can_report : (bytes : List ℕ) (tree : Typed) (answers : List Answer) (made : List NamedGoal) (certs : List GoalCert) → length bytes < 2 ^ 31 → MeetsAllRules tree
