@@ -157,10 +157,12 @@ const ROWS: [Row; 17] = [
 ];
 
 /// An expected cost, with a loop.
-const WALK: &str = "coproc walk(init: UInt) -> () pre 2*init post 0 { var x: UInt = init @invariant(2*x) while x > 0 { reward 1 var d: Bool = flip(1/2) if d { x = x - 1 } else { } } }";
+const WALK: &str =
+    "coproc walk(init: UInt) -> () pre 2*init post 0 { var x: UInt = init @invariant(2*x) while x > 0 { reward 1 var d: Bool = flip(1/2) if d { x = x - 1 } else { } } }";
 
 /// The same with a ranking, which isn't verified yet.
-const RANKED_WALK: &str = "coproc walk(init: UInt) -> () pre 2*init post 0 { var x: UInt = init @invariant(2*x) @ranking(1, 2*x) while x > 0 { reward 1 var d: Bool = flip(1/2) if d { x = x - 1 } else { } } }";
+const RANKED_WALK: &str =
+    "coproc walk(init: UInt) -> () pre 2*init post 0 { var x: UInt = init @invariant(2*x) @ranking(1, 2*x) while x > 0 { reward 1 var d: Bool = flip(1/2) if d { x = x - 1 } else { } } }";
 
 fn check_rows(rt: &(impl Abort + AllocGlobal), rows: &[Row]) -> Result<(), Fail> {
     for (words, file, status, written) in rows {
