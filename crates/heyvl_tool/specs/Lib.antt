@@ -10,5 +10,12 @@ pub mod Statuses
 pub mod Replies
 pub mod SourceUses
 pub mod Responses
+pub mod ScriptLines
+pub mod Scripts
+pub mod ScriptNames
+pub mod RunTexts
+pub mod RunStarts
+pub mod RunReplies
+pub mod RunCalls
 pub mod Headline
 pub mod Completeness

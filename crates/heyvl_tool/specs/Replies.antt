@@ -121,6 +121,10 @@ status_of (faults.Read n) answers = 5
 status_of (faults.TooLong n) answers = 3
 status_of (faults.Source number place) answers = 3
 status_of faults.Early answers = 3
+status_of (faults.Script line) answers = 3
+status_of faults.NoProcedure answers = 3
+status_of (faults.NotProgram p) answers = 3
+status_of (faults.Run stop) answers = 8
 status_of faults.Write answers = 6
 status_of faults.Memory answers = 7
 

@@ -1,5 +1,6 @@
 //! What a call of the tool comes to.
 
+use crate::RunStop;
 use heyvl_syntax::Span;
 use verdict_report::Answer;
 
@@ -18,6 +19,14 @@ pub enum Fault {
     Source(u8, Span),
     /// The file has an act that can't be verified yet.
     Early,
+    /// The first line of the script that breaks the rules, from 1.
+    Script(u32),
+    /// The file has no procedure of this name.
+    NoProcedure,
+    /// The procedure of this number, which the run would reach, is no program.
+    NotProgram(u32),
+    /// The run was stopped.
+    Run(RunStop),
     /// The sink failed. It replaces every other fault.
     Write,
     /// There is no memory for the work.
@@ -27,8 +36,8 @@ pub enum Fault {
 /// What a call of the tool comes to.
 #[derive(Drop)]
 pub struct Outcome {
-    /// The exit status: 0 done; 1 some bound or ranking is false; 2 else some is left open; 3 the file is refused; 4 usage; 5 read;
-    /// 6 write; 7 memory.
+    /// The exit status: 0 done; 1 some bound or ranking is false; 2 else some is left open; 3 the file or the script is refused; 4 usage;
+    /// 5 read; 6 write; 7 memory; 8 the run was stopped.
     pub status: u8,
     pub fault: Fault,
     /// One answer per procedure, in the order of the file, where the report was made.

@@ -75,7 +75,7 @@ fn print_file(alloc: Global, file: &File) -> Result<Response, AllocError>
 }
 
 /// The line on a fault of a file with these bytes.
-fn source_fault(
+pub(crate) fn source_fault(
     alloc: Global,
     bytes: &[u8],
     number: u8,

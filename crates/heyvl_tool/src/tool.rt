@@ -137,9 +137,11 @@ fn status(fault: Fault, answers: &[Answer]) -> u8
     match fault {
         Fault::Nothing => answers_status(answers),
         Fault::TooLong(_) | Fault::Source(_, _) | Fault::Early => 3,
+        Fault::Script(_) | Fault::NoProcedure | Fault::NotProgram(_) => 3,
         Fault::Usage => 4,
         Fault::Read(_) => 5,
         Fault::Write => 6,
         Fault::Memory => 7,
+        Fault::Run(_) => 8,
     }
 }

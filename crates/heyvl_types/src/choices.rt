@@ -19,8 +19,8 @@ use crate::stops::ResolveStop;
 use crate::typed_values::{Value, read_value};
 use crate::value_types::ValueType;
 use crate::weights::{
-    at_least_one, at_most_one, is_over_zero, is_too_wide, is_usable, is_weight_literal,
-    weight_of, weight_value,
+    at_least_one, at_most_one, is_over_zero, is_too_wide, is_usable, is_weight_literal, weight_of,
+    weight_value,
 };
 use heylo_formula::Term;
 use heyvl_num::Frac;

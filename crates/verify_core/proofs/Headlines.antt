@@ -204,7 +204,7 @@ mutual
 
 -- ---- The answers
 
-program_there : (ps : List TypedProcedure) (q : ℕ) → IsProgram (procedure_at ps q) → q < length ps
+pub program_there : (ps : List TypedProcedure) (q : ℕ) → IsProgram (procedure_at ps q) → q < length ps
 program_there [] q h = absurd (cc)
 program_there (p ∷ ps) zero h = omega arith
 program_there (p ∷ ps) (suc q) h = let k = program_there ps q h in omega (arith, k)

@@ -17,3 +17,11 @@ mod Headlines
 mod StandingForms
 mod StandingActs
 mod PlacedAnswers
+mod CertOrder
+mod CheckedGoals
+mod ReachedVerdicts
+mod CheckedFiles
+mod CertifiedBounds
+mod PlacedChecks
+mod ServedGoals
+mod AcceptedProofs

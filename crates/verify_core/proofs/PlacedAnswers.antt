@@ -102,7 +102,7 @@ reason_by : (n : ℕ) (p : TypedProcedure) (b : Option Acts) (s : Span) → p.bo
 reason_by n p None s e h k = absurd (let z : ◌≡◌ {A = Option Reason} (Some Reason.no_body) (Some (Reason.statement s)) = rw e at k in cc)
 reason_by n p (Some acts) s e h k = break_stands n p.co (in_order acts) s (subst (λ b. Each (ActStands n) (in_order (acts_in b))) e h) (which_break (not (p.co || p.weak)) (has_binder p.post) (first_break p.co (in_order acts)) s (rw e at k))
 
-reason_placed : (n : ℕ) (p : TypedProcedure) (why : WhyNot) → StandsWithin n p → why_no_program p ≡ Some (plain why) → IsReasonPlaced n why
+pub reason_placed : (n : ℕ) (p : TypedProcedure) (why : WhyNot) → StandsWithin n p → why_no_program p ≡ Some (plain why) → IsReasonPlaced n why
 reason_placed n p WhyNot.NoBody h e = tt
 reason_placed n p WhyNot.NoWlp h e = tt
 reason_placed n p WhyNot.Quantifier h e = tt

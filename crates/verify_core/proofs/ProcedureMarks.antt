@@ -56,14 +56,14 @@ next_mark ps os i x b ms ns all l k e f g h =
 
 -- ---- The first mark
 
-among_within : (from n : ℕ) (xs : List ℕ) (r : ℕ) → GrowBelow from n xs → among xs r ≡ true → (from ≤ r) × (r < n)
+pub among_within : (from n : ℕ) (xs : List ℕ) (r : ℕ) → GrowBelow from n xs → among xs r ≡ true → (from ≤ r) × (r < n)
 among_within from n [] r h e = absurd (false≢true e)
 among_within from n (x ∷ xs) r h e = ⊎_elim (λ ne. here ne) (λ k. let m = among_within (suc x) n xs r h.1 k in let a = m.0 in let b = h.0.0 in (omega (arith, a, b), m.1)) (or_cases (x == r) (among xs r) e)
   where
     here : (x == r) ≡ true → (from ≤ r) × (r < n)
     here k = ⊎_elim (λ q. subst (λ y. (from ≤ y) × (y < n)) q h.0) (λ q. absurd (false≢true (sym (ne_eqb x r q) ∙ k))) (cases_eq x r)
 
-record IsFirst (ms : List Bool) (found : List ℕ) (q : ℕ) : Type 0 where
+pub record IsFirst (ms : List Bool) (found : List ℕ) (q : ℕ) : Type 0 where
   pub listed : among found q ≡ true
   pub marked : get_or ms q false ≡ true
   pub before : (r : ℕ) → r < q → among found r ≡ true → get_or ms r false ≡ false
@@ -93,7 +93,7 @@ first_by : (ms : List Bool) (from n x : ℕ) (xs : List ℕ) (q : ℕ) (b : Bool
 first_by ms from n x xs q true k h e f = subst (IsFirst ms (x ∷ xs)) (sym (same_number q x (e ∙ ap (λ b. if b then Some x else first_marked ms xs) k))) (first_here ms from n x xs h k)
 first_by ms from n x xs q false k h e f = first_later ms x q xs k (f (e ∙ ap (λ b. if b then Some x else first_marked ms xs) k))
 
-is_first : (ms : List Bool) (from n : ℕ) (found : List ℕ) (q : ℕ) → GrowBelow from n found → Some q ≡ first_marked ms found → IsFirst ms found q
+pub is_first : (ms : List Bool) (from n : ℕ) (found : List ℕ) (q : ℕ) → GrowBelow from n found → Some q ≡ first_marked ms found → IsFirst ms found q
 is_first ms from n [] q h e = absurd (cc)
 is_first ms from n (x ∷ xs) q h e = first_by ms from n x xs q (get_or ms x false) refl h e (λ k. is_first ms (suc x) n xs q h.1 k)
 
@@ -101,7 +101,7 @@ none_by : (ms : List Bool) (x : ℕ) (xs : List ℕ) (r : ℕ) (b : Bool) → ge
 none_by ms x xs r true m e k f = absurd (let z : None ≡ Some x = e ∙ ap (λ b. if b then Some x else first_marked ms xs) m in cc)
 none_by ms x xs r false m e k f = ⊎_elim (λ y. ⊎_elim (λ z. subst (λ y. get_or ms y false ≡ false) z m) (λ z. absurd (false≢true (sym (ne_eqb x r z) ∙ y))) (cases_eq x r)) (λ y. f (e ∙ ap (λ b. if b then Some x else first_marked ms xs) m) y) (or_cases (x == r) (among xs r) k)
 
-none_marked : (ms : List Bool) (found : List ℕ) (r : ℕ) → None ≡ first_marked ms found → among found r ≡ true → get_or ms r false ≡ false
+pub none_marked : (ms : List Bool) (found : List ℕ) (r : ℕ) → None ≡ first_marked ms found → among found r ≡ true → get_or ms r false ≡ false
 none_marked ms [] r e k = absurd (false≢true k)
 none_marked ms (x ∷ xs) r e k = none_by ms x xs r (get_or ms x false) refl e k (none_marked ms xs r)
 

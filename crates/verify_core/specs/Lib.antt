@@ -6,4 +6,7 @@ pub mod Answered
 pub mod Headline
 pub mod Places
 pub mod GoalLaws
+pub mod Checked
+pub mod CheckedAnswers
+pub mod CheckedProofs
 pub mod internal

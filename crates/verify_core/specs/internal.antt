@@ -4,3 +4,4 @@ pub mod Outcomes
 pub mod Rows
 pub mod Marks
 pub mod Verdicts
+pub mod Checking

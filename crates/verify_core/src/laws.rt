@@ -1,8 +1,11 @@
 //! The laws. Each function does nothing: its contract is the law.
 
+ghost use Rattle.verify_core.specs.CheckedProofs.{ProofsAreAccepted, ProvedGoalsAreAccepted};
 ghost use Rattle.verify_core.specs.GoalLaws.{MadeGoalsSayBounds};
 
+use farkas_check::certificates_are_told_apart;
 use loop_encodings::encodings_are_over_their_variables;
+use region_split::walk_trees_certify;
 use vp_generator::{generated_form_means_acts, prenexed_goals_speak_of_choices};
 
 /// A goal that is made holds exactly where the goal of the bound holds by its definition.
@@ -12,4 +15,14 @@ pub fn made_goals_say_bounds()
     generated_form_means_acts();
     prenexed_goals_speak_of_choices();
     encodings_are_over_their_variables();
+}
+
+/// The certificates that decisions give are in the order of a text, each goal that is proved with a tree is accepted by them, and
+/// nothing is found against it.
+pub fn proved_goals_are_accepted()
+    ensures accepted { ProofsAreAccepted }
+    ensures nothing_missed { ProvedGoalsAreAccepted }
+{
+    walk_trees_certify();
+    certificates_are_told_apart();
 }

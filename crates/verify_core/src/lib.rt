@@ -2,17 +2,22 @@
 #![tactic(auto)]
 
 mod asking;
+mod certified;
+mod checking;
 mod deciding;
 mod laws;
 mod making;
 mod marks;
 mod outcomes;
+mod reaching;
+mod searching;
 mod settling;
 mod verdicts;
 mod verifying;
 mod whole;
 
-pub use laws::made_goals_say_bounds;
+pub use certified::check_all;
+pub use laws::{made_goals_say_bounds, proved_goals_are_accepted};
 pub use making::goals;
 pub use verifying::verify;
 pub use whole::Whole;

@@ -114,7 +114,7 @@ fn proved_verdict(
 }
 
 /// The verdict on a procedure whose goals are proved, and that is no program.
-fn verdict_for(why: WhyNot) -> Verdict
+pub(crate) fn verdict_for(why: WhyNot) -> Verdict
     ensures { result ≡ verdict_for why }
 {
     match why {

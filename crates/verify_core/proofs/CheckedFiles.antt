@@ -1,0 +1,170 @@
+-- The answers of a file from the verdicts on its procedures by themselves.
+use Rattle.std.proofs.Common.{◌≡◌, ℕ, ◌+◌, ◌<◌, Bool, true, false, not, refl, ap, sym, subst, ◌∙◌, arith, List, [], ◌∷◌, get_or, length, map, None}
+use Prim.Native.Nat.{zero, suc}
+use Rattle.std.proofs.lemmas.List.{length-map}
+use Rattle.farkas_check.specs.declared.trees.GoalCert.{GoalCert}
+use Rattle.heyvl_types.specs.Acts.{TypedProcedure, procedure_at}
+use Rattle.heyvl_types.specs.Program.{IsProgram, why_no_program}
+use Rattle.verdict_report.specs.declared.answers.Answer.{Answer}
+use Rattle.verdict_report.specs.declared.answers.Verdict.{Verdict}
+use Rattle.verdict_report.specs.declared.answers.Verdict.TheVariants as verdict
+use Rattle.verify_core.specs.Checked.{CheckedGoal, IsCertified, IsCheckedTable, checked_at, first_miss}
+use Rattle.verify_core.specs.CheckedAnswers.{AreCheckedAnswers, IsCheckedAnswer, IsCheckedFile, IsCheckedVerdict}
+use Rattle.verify_core.specs.internal.Checking.{AreMarkedAnswers, AreOwn, IsMarkedAnswer, IsMarkedBy, IsOwn, IsOwnVerdict, IsReachingVerdict, IsUnmarked, is_unverified, is_verified}
+
+-- ---- The table
+
+-- The verdicts by a table.
+record HasTable (ps : List TypedProcedure) (certs : List GoalCert) (k : ℕ) (qs : List TypedProcedure) (vs : List Verdict) : Type 0 where
+  table : List (List CheckedGoal)
+  checked : IsCheckedTable ps certs k qs table
+  sized : length vs ≡ length qs
+  own : (j : ℕ) (d : Verdict) → j < length vs → IsOwnVerdict (procedure_at qs j) (checked_at table j) (get_or vs j d)
+
+with_more : (ps : List TypedProcedure) (certs : List GoalCert) (k : ℕ) (q : TypedProcedure) (qs : List TypedProcedure) (v : Verdict) (vs : List Verdict) → IsOwn ps certs k q v → HasTable ps certs (suc k) qs vs → HasTable ps certs k (q ∷ qs) (v ∷ vs)
+with_more ps certs k q qs v vs h rest = record { table = h.checked ∷ rest.table; checked = (h.are, rest.checked); sized = ap (λ n. suc n) rest.sized; own = at }
+  where
+    at : (j : ℕ) (d : Verdict) → j < length (v ∷ vs) → IsOwnVerdict (procedure_at (q ∷ qs) j) (checked_at (h.checked ∷ rest.table) j) (get_or (v ∷ vs) j d)
+    at zero d l = h.verdict
+    at (suc j) d l = rest.own j d (omega (arith, l))
+
+has_table : (ps : List TypedProcedure) (certs : List GoalCert) (k : ℕ) (qs : List TypedProcedure) (vs : List Verdict) → AreOwn ps certs k qs vs → HasTable ps certs k qs vs
+has_table ps certs k [] [] h = record { table = []; checked = tt; sized = refl; own = λ j d l. absurd (omega (arith, l)) }
+has_table ps certs k [] (v ∷ vs) h = absurd h
+has_table ps certs k (q ∷ qs) [] h = absurd h
+has_table ps certs k (q ∷ qs) (v ∷ vs) h = with_more ps certs k q qs v vs h.0 (has_table ps certs (suc k) qs vs h.1)
+
+-- ---- Marks
+
+mark_at : (vs : List Verdict) (q : ℕ) (d : Verdict) → q < length vs → get_or (map is_unverified vs) q false ≡ is_unverified (get_or vs q d)
+mark_at [] q d l = absurd (omega (arith, l))
+mark_at (v ∷ vs) zero d l = refl
+mark_at (v ∷ vs) (suc q) d l = mark_at vs q d (omega (arith, l))
+
+verified_by : (b : Bool) → not b ≡ false → b ≡ true
+verified_by true e = refl
+verified_by false e = cc
+
+unverified_by : (b : Bool) → not b ≡ true → b ≡ false
+unverified_by false e = refl
+unverified_by true e = cc
+
+pub marks_sized : (vs : List Verdict) → length (map is_unverified vs) ≡ length vs
+marks_sized vs = length-map vs is_unverified
+
+accepted : (p : TypedProcedure) (cs : List CheckedGoal) (v : Verdict) → IsOwnVerdict p cs v → is_verified v ≡ true → (first_miss cs ≡ None) × IsProgram p
+accepted p cs verdict.Verified h e = h
+accepted p cs verdict.NoBody h e = cc
+accepted p cs (verdict.Unchecked id miss) h e = cc
+accepted p cs (verdict.Valid why) h e = cc
+accepted p cs (verdict.NotVerified id s) h e = cc
+accepted p cs (verdict.Unknown id c) h e = cc
+accepted p cs (verdict.Conditional q) h e = cc
+
+not_accepted : (p : TypedProcedure) (cs : List CheckedGoal) (v : Verdict) → IsOwnVerdict p cs v → is_verified v ≡ false → first_miss cs ≡ None → IsProgram p → ⊥
+not_accepted p cs verdict.Verified h e f g = cc
+not_accepted p cs verdict.NoBody h e f g = apart (sym (ap (λ x. why_no_program (record p { body = x })) h) ∙ g)
+  where
+    apart : why_no_program (record p { body = None }) ≡ None → ⊥
+    apart h = cc
+not_accepted p cs (verdict.Unchecked id miss) h e f g = cc
+not_accepted p cs (verdict.Valid why) h e f g = let a = h.1.1 in cc (a, g)
+not_accepted p cs (verdict.NotVerified id s) h e f g = h
+not_accepted p cs (verdict.Unknown id c) h e f g = h
+not_accepted p cs (verdict.Conditional q) h e f g = h
+
+certified_by : (ps : List TypedProcedure) (certs : List GoalCert) (vs : List Verdict) (t : HasTable ps certs 0 ps vs) (q : ℕ) → q < length vs → is_verified (get_or vs q verdict.NoBody) ≡ true → IsCertified ps t.table q
+certified_by ps certs vs t q l e =
+    let h = accepted (procedure_at ps q) (checked_at t.table q) (get_or vs q verdict.NoBody) (t.own q verdict.NoBody l) e in
+    record { accepted = h.0; program = h.1 }
+
+certified : (ps : List TypedProcedure) (certs : List GoalCert) (vs : List Verdict) (t : HasTable ps certs 0 ps vs) (q : ℕ) → IsUnmarked (map is_unverified vs) q → IsCertified ps t.table q
+certified ps certs vs t q u =
+    let l = subst (λ n. q < n) (marks_sized vs) u.within in
+    certified_by ps certs vs t q l (verified_by (is_verified (get_or vs q verdict.NoBody)) (sym (mark_at vs q verdict.NoBody l) ∙ u.unmarked))
+
+not_certified : (ps : List TypedProcedure) (certs : List GoalCert) (vs : List Verdict) (t : HasTable ps certs 0 ps vs) (q : ℕ) → q < length vs → get_or (map is_unverified vs) q false ≡ true → IsCertified ps t.table q → ⊥
+not_certified ps certs vs t q l e c = not_accepted (procedure_at ps q) (checked_at t.table q) (get_or vs q verdict.NoBody) (t.own q verdict.NoBody l) (unverified_by (is_verified (get_or vs q verdict.NoBody)) (sym (mark_at vs q verdict.NoBody l) ∙ e)) c.accepted c.program
+
+-- ---- Verdicts
+
+same_verdict : (ps : List TypedProcedure) (table : List (List CheckedGoal)) (p : ℕ) (v : Verdict) → IsOwnVerdict (procedure_at ps p) (checked_at table p) v → is_verified v ≡ false → IsCheckedVerdict ps table p v
+same_verdict ps table p verdict.Verified h e = cc
+same_verdict ps table p verdict.NoBody h e = h
+same_verdict ps table p (verdict.Unchecked id miss) h e = h
+same_verdict ps table p (verdict.Valid why) h e = h
+same_verdict ps table p (verdict.NotVerified id s) h e = h
+same_verdict ps table p (verdict.Unknown id c) h e = h
+same_verdict ps table p (verdict.Conditional q) h e = absurd h
+
+reaching_verdict : (ps : List TypedProcedure) (certs : List GoalCert) (vs : List Verdict) (t : HasTable ps certs 0 ps vs) (p : ℕ) (v : Verdict) → IsCertified ps t.table p → IsReachingVerdict ps (map is_unverified vs) p v → IsCheckedVerdict ps t.table p v
+reaching_verdict ps certs vs t p (verdict.Conditional q) c h = (
+  c,
+  record {
+    reached = h.reached;
+    uncertified = not_certified ps certs vs t q (subst (λ n. q < n) (marks_sized vs) h.within) h.marked;
+    certified_before = λ r l k. certified ps certs vs t r (h.unmarked_before r l k);
+  },
+)
+reaching_verdict ps certs vs t p verdict.Verified c h = (c, λ q k. certified ps certs vs t q (h q k))
+reaching_verdict ps certs vs t p verdict.NoBody c h = absurd h
+reaching_verdict ps certs vs t p (verdict.Unchecked id miss) c h = absurd h
+reaching_verdict ps certs vs t p (verdict.Valid why) c h = absurd h
+reaching_verdict ps certs vs t p (verdict.NotVerified id s) c h = h
+reaching_verdict ps certs vs t p (verdict.Unknown id k) c h = h
+
+marked_verdict : (ps : List TypedProcedure) (certs : List GoalCert) (vs : List Verdict) (t : HasTable ps certs 0 ps vs) (p : ℕ) (own v : Verdict) (b : Bool) → is_verified own ≡ b → (is_verified own ≡ true → IsCertified ps t.table p) → IsOwnVerdict (procedure_at ps p) (checked_at t.table p) own → IsMarkedBy ps (map is_unverified vs) p own v b → IsCheckedVerdict ps t.table p v
+marked_verdict ps certs vs t p own v true e c o h = reaching_verdict ps certs vs t p v (c e) h
+marked_verdict ps certs vs t p own v false e c o h = subst (λ x. IsCheckedVerdict ps t.table p x) (sym h) (same_verdict ps t.table p own o e)
+
+answer_of : (ps : List TypedProcedure) (certs : List GoalCert) (vs : List Verdict) (t : HasTable ps certs 0 ps vs) (p : ℕ) (a : Answer) → p < length vs → IsMarkedAnswer ps (map is_unverified vs) p (get_or vs p verdict.NoBody) a → IsCheckedAnswer ps t.table p a
+answer_of ps certs vs t p a l h = record {
+  name = h.name;
+  verdict = marked_verdict ps certs vs t p (get_or vs p verdict.NoBody) a.verdict (is_verified (get_or vs p verdict.NoBody)) refl (certified_by ps certs vs t p l) (t.own p verdict.NoBody l) h.verdict;
+  loops = h.loops;
+}
+
+-- ---- The file
+
+answer_at : (ps : List TypedProcedure) (marks : List Bool) (k : ℕ) (vs : List Verdict) (answers : List Answer) → AreMarkedAnswers ps marks k vs answers → (j : ℕ) (d : Answer) → j < length answers → IsMarkedAnswer ps marks (k + j) (get_or vs j verdict.NoBody) (get_or answers j d)
+answer_at ps marks k [] [] h j d l = absurd (omega (arith, l))
+answer_at ps marks k [] (a ∷ answers) h j d l = absurd h
+answer_at ps marks k (v ∷ vs) [] h j d l = absurd h
+answer_at ps marks k (v ∷ vs) (a ∷ answers) h zero d l = let e : k ≡ k + 0 = omega arith in subst (λ n. IsMarkedAnswer ps marks n v a) e h.0
+answer_at ps marks k (v ∷ vs) (a ∷ answers) h (suc j) d l = let e : suc k + j ≡ k + suc j = omega arith in subst (λ n. IsMarkedAnswer ps marks n (get_or vs j verdict.NoBody) (get_or answers j d)) e (answer_at ps marks (suc k) vs answers h.1 j d (omega (arith, l)))
+
+answers_sized : (ps : List TypedProcedure) (marks : List Bool) (k : ℕ) (vs : List Verdict) (answers : List Answer) → AreMarkedAnswers ps marks k vs answers → length answers ≡ length vs
+answers_sized ps marks k [] [] h = refl
+answers_sized ps marks k [] (a ∷ answers) h = absurd h
+answers_sized ps marks k (v ∷ vs) [] h = absurd h
+answers_sized ps marks k (v ∷ vs) (a ∷ answers) h = ap (λ n. suc n) (answers_sized ps marks (suc k) vs answers h.1)
+
+answers_from : (ps : List TypedProcedure) (table : List (List CheckedGoal)) (k : ℕ) (qs : List TypedProcedure) (answers : List Answer) → length answers ≡ length qs → ((j : ℕ) (d : Answer) → j < length answers → IsCheckedAnswer ps table (k + j) (get_or answers j d)) → AreCheckedAnswers ps table k qs answers
+answers_from ps table k [] [] e f = tt
+answers_from ps table k [] (a ∷ answers) e f = cc
+answers_from ps table k (q ∷ qs) [] e f = cc
+answers_from ps table k (q ∷ qs) (a ∷ answers) e f = (first, answers_from ps table (suc k) qs answers (omega (arith, e)) others)
+  where
+    first : IsCheckedAnswer ps table k a
+    first = let same : k + 0 ≡ k = omega arith in subst (λ n. IsCheckedAnswer ps table n a) same (f 0 a (omega arith))
+
+    others : (j : ℕ) (d : Answer) → j < length answers → IsCheckedAnswer ps table (suc k + j) (get_or answers j d)
+    others j d l = let same : k + suc j ≡ suc k + j = omega arith in subst (λ n. IsCheckedAnswer ps table n (get_or answers j d)) same (f (suc j) d (omega (arith, l)))
+
+pub checked_file : (ps : List TypedProcedure) (certs : List GoalCert) (vs : List Verdict) (answers : List Answer) → AreOwn ps certs 0 ps vs → AreMarkedAnswers ps (map is_unverified vs) 0 vs answers → IsCheckedFile ps certs answers
+checked_file ps certs vs answers o m = record {
+  table = t.table;
+  checked = t.checked;
+  answers_of = answers_from ps t.table 0 ps answers (answers_sized ps (map is_unverified vs) 0 vs answers m ∙ t.sized) each;
+}
+  where
+    t : HasTable ps certs 0 ps vs
+    t = has_table ps certs 0 ps vs o
+
+    each : (j : ℕ) (d : Answer) → j < length answers → IsCheckedAnswer ps t.table (0 + j) (get_or answers j d)
+    each j d l =
+        let none : 0 + j ≡ j = omega arith in
+        subst (λ n. IsCheckedAnswer ps t.table n (get_or answers j d)) (sym none) (answer_of ps certs vs t j (get_or answers j d) (subst (λ n. j < n) (answers_sized ps (map is_unverified vs) 0 vs answers m) l) (subst (λ n. IsMarkedAnswer ps (map is_unverified vs) n (get_or vs j verdict.NoBody) (get_or answers j d)) none (answer_at ps (map is_unverified vs) 0 vs answers m j d l)))
+
+pub own_sized : (ps : List TypedProcedure) (certs : List GoalCert) (k : ℕ) (qs : List TypedProcedure) (vs : List Verdict) → AreOwn ps certs k qs vs → length vs ≡ length qs
+own_sized ps certs k qs vs h = (has_table ps certs k qs vs h).sized

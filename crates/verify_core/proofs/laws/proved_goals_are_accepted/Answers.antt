@@ -1,0 +1,9 @@
+use Rattle.verify_core.proofs.AcceptedProofs.{proved_goals_are_accepted}
+use Rattle.verify_core.proofs.ServedGoals.{proofs_are_accepted}
+use Rattle.verify_core.proofs.laws.proved_goals_are_accepted.Goals as goal
+
+pub returns-clause-accepted : goal.returns-clause-accepted
+returns-clause-accepted c = proofs_are_accepted c.walk_trees_certify.ensures.certify
+
+pub returns-clause-nothing_missed : goal.returns-clause-nothing_missed
+returns-clause-nothing_missed c = proved_goals_are_accepted c.walk_trees_certify.ensures.certify c.certificates_are_told_apart.ensures.never_both

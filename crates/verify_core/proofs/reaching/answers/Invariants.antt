@@ -1,0 +1,11 @@
+use Rattle.std.proofs.Common.{◌≡◌, length}
+use Rattle.heyvl_types.specs.PlainActs.{procedures_of}
+use Rattle.verify_core.specs.internal.Checking.{AreMarkedAnswers}
+use Rattle.verify_core.proofs.reaching.answers.Given as goal
+
+-- The same for the verdicts that have been taken.
+abbrev pub invariant-loop-verdict : goal.invariant-loop-verdict
+invariant-loop-verdict l = record {
+  counted : l.p ≡ length l.yielded;
+  so_far : AreMarkedAnswers (procedures_of l.typed) l.marks.items 0 l.yielded l.answers.items;
+}

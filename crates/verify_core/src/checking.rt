@@ -1,0 +1,128 @@
+//! The verdict on each procedure by the certificates of its own goals.
+
+ghost use Rattle.cert_text.specs.Certificates.{IsGrowingAfter, certificates_of};
+ghost use Rattle.farkas_check.specs.Trees.{tree_of};
+ghost use Rattle.heyvl_types.specs.Acts.{procedure_at};
+ghost use Rattle.heyvl_types.specs.PlainActs.{procedures_of};
+ghost use Rattle.heyvl_types.specs.Rules.{Each, MeetsAllRules};
+ghost use Rattle.std.specs.Prelude.{IfOk, List, None, length, ◌<◌, ◌≡◌};
+ghost use Rattle.verify_core.specs.Checked.{CheckedGoal, IsMissOf, first_miss, missed};
+ghost use Rattle.verify_core.specs.Decided.{or_else};
+ghost use Rattle.verify_core.specs.PostBinders.{HasNamedBinders};
+ghost use Rattle.verify_core.specs.internal.Checking.{AreOwn, IsFirstMiss, IsFound, IsOwn, IsOwnVerdict};
+
+use crate::making::goals;
+use crate::searching::tree_for;
+use crate::verdicts::verdict_for;
+use farkas_check::{Checked, GoalCert, Tree, check};
+use heylo_formula::{GoalId, Made};
+use heyvl_types::Typed;
+use proc_contracts::not_program;
+use std::alloc::{AllocError, Global};
+use verdict_report::{Miss, NamedGoal, Verdict};
+
+// ---- A goal
+
+/// Why the certificates don't prove the goal, if they don't.
+fn miss_of(alloc: Global, certs: &[GoalCert], goal: &NamedGoal) -> Result<Option<Miss>, AllocError>
+    requires order { IsGrowingAfter None (certificates_of certs.now) }
+    ensures { IfOk result (λ miss. IsMissOf certs.now goal.now miss) }
+{
+    match tree_for(certs, goal.proc, goal.id) {
+        Some(tree) => found(alloc, &goal.made, tree),
+        None => Ok(Some(Miss::Absent)),
+    }
+}
+
+/// Where the tree is refused first, if it is no certificate of what was made. It is refused at the root where there is no goal.
+fn found(alloc: Global, made: &Made, tree: &Tree) -> Result<Option<Miss>, AllocError>
+    ensures { IfOk result (λ miss. IsFound made.now (tree_of tree.now) miss) }
+{
+    let Made::Goal(goal) = made else {
+        return Ok(Some(Miss::Place(Vec::new(alloc))));
+    };
+    Ok(match check(alloc, goal, tree)? {
+        Checked::Yes => None,
+        Checked::No(way) => Some(Miss::Place(way)),
+    })
+}
+
+// ---- A procedure
+
+/// The first of the goals that isn't accepted, and why.
+fn first_miss(
+    alloc: Global,
+    certs: &[GoalCert],
+    goals: &[NamedGoal],
+) -> Result<Option<(GoalId, Miss)>, AllocError>
+    requires order { IsGrowingAfter None (certificates_of certs.now) }
+    ensures { IfOk result (λ first. IsFirstMiss certs.now goals.now first) }
+{
+    let mut first = None;
+    for goal in goals {
+        first = earlier(first, goal.id, miss_of(alloc, certs, goal)?);
+    }
+    Ok(first)
+}
+
+/// The first one, if there is one, or else that of the goal.
+fn earlier(first: Option<(GoalId, Miss)>, id: GoalId, miss: Option<Miss>) -> Option<(GoalId, Miss)>
+    ensures { result ≡ or_else first (missed id miss) }
+{
+    match (first, miss) {
+        (Some(first), _) => Some(first),
+        (None, Some(miss)) => Some((id, miss)),
+        (None, None) => None,
+    }
+}
+
+/// The verdict on a procedure by its own goals and its kind.
+fn own_verdict(
+    alloc: Global,
+    typed: &Typed,
+    certs: &[GoalCert],
+    p: u32,
+) -> Result<Verdict, AllocError>
+    requires there { p < length typed.now.procs.items }
+    requires rules { MeetsAllRules typed.now }
+    requires named { Each HasNamedBinders (procedures_of typed.now) }
+    requires order { IsGrowingAfter None (certificates_of certs.now) }
+    ensures { IfOk result (λ own. IsOwn (procedures_of typed.now) certs.now p (procedure_at (procedures_of typed.now) p) own) }
+{
+    let all = goals(alloc, typed, p)?;
+    match first_miss(alloc, certs, &all)? {
+        Some((id, miss)) => Ok(Verdict::Unchecked(id, miss)),
+        None => Ok(by_kind(typed, p)),
+    }
+}
+
+/// The verdict on a procedure whose goals are accepted, by its kind.
+fn by_kind(typed: &Typed, p: u32) -> Verdict
+    requires there { p < length typed.now.procs.items }
+    ensures { (checked : List CheckedGoal) → first_miss checked ≡ None → IsOwnVerdict (procedure_at (procedures_of typed.now) p) checked result }
+{
+    match not_program(typed, p) {
+        Some(why) => verdict_for(why),
+        None => Verdict::Verified,
+    }
+}
+
+// ---- A file
+
+/// The verdicts on the procedures, each by its own goals and its kind.
+pub(crate) fn own_verdicts(
+    alloc: Global,
+    typed: &Typed,
+    certs: &[GoalCert],
+) -> Result<Vec<Verdict>, AllocError>
+    requires rules { MeetsAllRules typed.now }
+    requires named { Each HasNamedBinders (procedures_of typed.now) }
+    requires order { IsGrowingAfter None (certificates_of certs.now) }
+    ensures { IfOk result (λ own. AreOwn (procedures_of typed.now) certs.now 0 (procedures_of typed.now) own.items) }
+{
+    let mut own = Vec::new(alloc);
+    for p in 0..typed.procs.len() {
+        own.push(own_verdict(alloc, typed, certs, p as u32)?)?;
+    }
+    Ok(own)
+}
