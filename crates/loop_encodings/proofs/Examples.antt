@@ -8,13 +8,13 @@ use Rattle.heyvl_syntax.specs.declared.spans.Span.{Span}
 use Rattle.heyvl_syntax.specs.declared.statements.CheckKind.{CheckKind}
 use Rattle.heylo_formula.specs.Formula.{Form, Cond, Term}
 use Rattle.heylo_formula.specs.declared.types.Ty.{Ty}
-use Rattle.heyvl_types.specs.Acts.{Act, Acts, Arms, TypedProcedure, Variable, nobody}
+use Rattle.heyvl_types.specs.Acts.{Head, Act, Acts, Arms, TypedProcedure, Variable, nobody}
 use Rattle.loop_encodings.specs.Encoding.{all_variables, encoding}
 
-abbrev here : Span
+abbrev pub here : Span
 here = record { from = 3; to = 9 }
 
-abbrev at : Span
+abbrev pub at : Span
 at = record { from = 1; to = 2 }
 
 abbrev listed : List Act → Acts
@@ -27,10 +27,10 @@ when g acts = Act.ifs (Arms.arm g (listed acts) Arms.no_arm) Acts.done here
 abbrev one : Form
 one = Form.number oneᵛ
 
-abbrev whole : Rational → Form
+abbrev pub whole : Rational → Form
 whole q = Form.number (finite q)
 
-abbrev half : Rational
+abbrev pub half : Rational
 half = ratio (pos 1) 2
 
 abbrev coassert : Form → Act
@@ -52,7 +52,7 @@ no_more = coassume (Form.embed (Cond.constant true))
 abbrev no_more_down : Act
 no_more_down = assume (Form.embed (Cond.constant false))
 
-abbrev named : ℕ → Ty → Variable
+abbrev pub named : ℕ → Ty → Variable
 named n ty = record { name = n ∷ []; ty = ty }
 
 -- ---- The geometric loop: 0 is init_c, 1 is c, 2 is cont and 3 is stop
@@ -90,22 +90,26 @@ geometric_loop = refl
 
 -- ---- The hop: 0 is x
 
-abbrev x_is : Rational → Cond
+abbrev pub x_is : Rational → Cond
 x_is q = Cond.equal (Form.variable 0) (whole q)
 
-abbrev hop_guard : Cond
+abbrev pub hop_guard : Cond
 hop_guard = Cond.or (x_is (ratio (pos 1) 1)) (x_is (ratio (pos 2) 1))
 
-abbrev hop_invariant : Form
+abbrev pub hop_invariant : Form
 hop_invariant = Form.select (x_is (ratio (pos 1) 1)) (whole half) (Form.select (x_is (ratio (pos 2) 1)) one (Form.iverson (x_is (ratio (pos 3) 1))))
 
-abbrev hop_step : Act
+abbrev pub hop_step : Act
 hop_step = Act.ifs (Arms.arm (x_is (ratio (pos 1) 1)) (listed (Act.set 0 (Term.number (whole (ratio (pos 2) 1))) at ∷ [])) Arms.no_arm) (listed (Act.draw 0 ((half, Term.number (whole (ratio (pos 0) 1))) ∷ (half, Term.number (whole (ratio (pos 3) 1))) ∷ []) at ∷ [])) at
+
+-- With so many copies.
+abbrev pub hop_head : ℕ → Head
+hop_head k = record { number = 1; k = k; inv = hop_invariant; guard = hop_guard; rank = None; scope = 0 ∷ []; span = here }
 
 abbrev hop : ℕ → TypedProcedure
 hop k = record nobody {
   outputs = named 20 Ty.UInt ∷ [];
-  body = Some (listed (Act.loop (record { number = 1; k = k; inv = hop_invariant; guard = hop_guard; rank = None; scope = 0 ∷ []; span = here }) (listed (hop_step ∷ [])) ∷ []));
+  body = Some (listed (Act.loop (hop_head k) (listed (hop_step ∷ [])) ∷ []));
 }
 
 abbrev before_hop : Act → Acts

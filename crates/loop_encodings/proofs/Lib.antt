@@ -30,4 +30,11 @@ pub mod ShownBounds
 pub mod ViolationActs
 pub mod ViolationTrees
 pub mod Violations
+pub mod SmallPrograms
 mod ViolationExamples
+mod WrongGoals
+mod WrongEncodings
+mod WrongEncodingsTooStrong
+pub mod LawExamples
+mod LawExamplesOfChoices
+mod LawExamplesOfLoops

@@ -1,50 +1,24 @@
 -- Broken bounds of small programs, computed by hand, and as the law gives them.
-use Rattle.std.proofs.Common.{◌≡◌, ◌≤◌, refl, ap, ◌∙◌, ℕ, true, false, List, [], ◌∷◌, arith}
+use Rattle.std.proofs.Common.{◌≡◌, ◌≤◌, refl, ℕ, true, false, [], ◌∷◌, arith}
 use Rattle.std.specs.Prelude.{Some}
-use Rattle.heyvl_num.specs.Rational.{ratio, zeroʳ, oneʳ, halfʳ, leqʳ, ◌+ʳ◌, ◌*ʳ◌, ◌≤ʳ◌}
+use Rattle.heyvl_num.specs.Rational.{ratio, zeroʳ, oneʳ, halfʳ, leqʳ, ◌+ʳ◌, ◌*ʳ◌}
 use Rattle.heyvl_num.specs.Value.{zeroᵛ, oneᵛ, leqᵛ, ◌+ᵛ◌, ◌*ᵛ◌, ◌≤ᵛ◌}
 use Rattle.heyvl_num.specs.Value.Value.{finite}
 use Rattle.heyvl_num.specs.ValueOperators.{maxᵛ}
-use Rattle.heyvl_num.specs.WeightedSums.{total_weight, weighted_sum, scaled}
-use Rattle.heyvl_num.proofs.exported.Rationals.{+ʳ-zero}
-use Rattle.heyvl_num.proofs.exported.Signs.{halves}
-use Rattle.heyvl_num.proofs.exported.WeightedSums.{total_weight-empty, total_weight-cons}
-use Rattle.heyvl_syntax.specs.declared.spans.Span.{Span}
+use Rattle.heyvl_num.specs.WeightedSums.{weighted_sum, scaled}
 use Rattle.heylo_formula.specs.Choices.{Choices}
-use Rattle.heylo_formula.specs.Formula.{Form, Cond, Term}
-use Rattle.heylo_formula.specs.Typing.{types_in}
-use Rattle.heylo_formula.specs.declared.types.Ty.{Ty}
+use Rattle.heylo_formula.specs.Formula.{Form, Cond}
 use Rattle.heylo_formula.specs.declared.values.Val.TheVariants.{Truth}
 use Rattle.heyvl_types.specs.Acts.{Act, Acts, TypedProcedure, nobody}
 use Rattle.heyvl_types.specs.Rules.{MeetsRules}
-use Rattle.heyvl_types.specs.WellTyped.{IsHeld}
 use Rattle.run_machine.specs.Configurations.{begin}
 use Rattle.run_machine.specs.Runs.{runs}
 use Rattle.run_machine.specs.Scheduler.{Tree, Forest}
 use Rattle.run_machine.specs.Step.{Decision}
 use Rattle.run_machine.specs.Sums.{sum_of}
 use Rattle.loop_encodings.specs.Law.{IsBroken}
+use Rattle.loop_encodings.proofs.SmallPrograms.{nowhere, only, flag_named, zero_form, one_form, zero_held, one_held, coin, half_from_zero, fair_weighs_one}
 use Rattle.loop_encodings.proofs.Violations.{broken}
-
-abbrev nowhere : Span
-nowhere = record { from = 0; to = 0 }
-
-abbrev only : Act → Acts
-only a = Acts.next a Acts.done
-
-abbrev zero_form : Form
-zero_form = Form.number zeroᵛ
-
-abbrev one_form : Form
-one_form = Form.number oneᵛ
-
-zero_held : (tys : List Ty) → IsHeld (types_in tys) zero_form
-unfolding zeroᵛ zeroʳ ratio leqʳ
-zero_held tys = (refl, refl)
-
-one_held : (tys : List Ty) → IsHeld (types_in tys) one_form
-unfolding oneᵛ oneʳ zeroʳ ratio leqʳ
-one_held tys = (refl, refl)
 
 -- ---- A coproc with the pre 0 and the post 0 that may collect a reward of 1
 
@@ -101,10 +75,10 @@ abbrev flipping : TypedProcedure
 flipping = record nobody {
   co = false;
   weak = true;
-  outputs = record { name = 1 ∷ []; ty = Ty.Bool } ∷ [];
+  outputs = flag_named 1 ∷ [];
   pre = one_form;
   post = Form.iverson (Cond.flag 0);
-  body = Some (only (Act.draw 0 ((halfʳ, Term.truth (Cond.constant true)) ∷ (halfʳ, Term.truth (Cond.constant false)) ∷ []) nowhere));
+  body = Some (only (Act.draw 0 coin nowhere));
 }
 
 -- Before the draw nothing is lost, and with it a half.
@@ -115,13 +89,6 @@ before_the_draw = refl
 after_the_draw : sum_of false flipping.post (runs (flipping ∷ []) 1 (begin (flipping ∷ []) 0 (Truth false ∷ [])) Tree.leaf) ≡ finite halfʳ
 unfolding runs weighted_sum scaled halfʳ ◌+ᵛ◌ ◌*ᵛ◌ zeroᵛ oneᵛ zeroʳ oneʳ ◌+ʳ◌ ◌*ʳ◌ ratio
 after_the_draw = refl
-
-half_from_zero : zeroʳ ≤ʳ halfʳ
-unfolding halfʳ zeroʳ ratio leqʳ
-half_from_zero = record { holds = refl }
-
-two_halves : total_weight ((halfʳ, Term.truth (Cond.constant true)) ∷ (halfʳ, Term.truth (Cond.constant false)) ∷ []) ≡ oneʳ
-two_halves = total_weight-cons halfʳ _ _ ∙ (ap (λ w. halfʳ +ʳ w) (total_weight-cons halfʳ _ [] ∙ (ap (λ w. halfʳ +ʳ w) (total_weight-empty Term) ∙ +ʳ-zero halfʳ)) ∙ halves)
 
 flipping_meets : MeetsRules (flipping ∷ []) flipping
 flipping_meets = record {
@@ -136,7 +103,7 @@ flipping_meets = record {
   post_directed = refl;
   targets = (record { no_input = omega arith; below = omega arith }, tt);
   typed = (((half_from_zero, (refl, refl)), ((half_from_zero, (refl, refl)), tt)), tt);
-  weights = (two_halves, tt);
+  weights = (fair_weighs_one _ _, tt);
   directions = (tt, tt);
   binders = ((λ e. absurd (cc)), tt);
   scopes = (((λ y e. absurd (cc)), ((λ y e. absurd (cc)), tt)), tt);
