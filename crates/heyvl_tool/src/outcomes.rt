@@ -5,6 +5,7 @@ use heyvl_syntax::Span;
 use verdict_report::Answer;
 
 /// Why a call didn't do what its words ask for, or `Nothing`. A `u8` is the number of the file among the words, from 0.
+/// `Script`, `NoProcedure`, `NotProgram` and `Run` come of `answer_run` alone, which no word asks for yet.
 #[derive(Clone, Copy, Debug, PartialEq, Eq)]
 pub enum Fault {
     /// It did what its words ask for.
