@@ -9,6 +9,7 @@ use Rattle.farkas_check.specs.declared.trees.GoalCert.{GoalCert}
 use Rattle.heylo_formula.specs.Goals.{Holds}
 use Rattle.heylo_formula.specs.TypedGoals.{IsTypedGoal}
 use Rattle.heylo_formula.specs.declared.goals.GoalId.{GoalId}
+use Rattle.heylo_formula.specs.declared.goals.GoalId.TheVariants.{Main}
 use Rattle.heylo_formula.specs.declared.goals.Made.{Made}
 use Rattle.heylo_formula.specs.declared.goals.Made.TheVariants as made
 use Rattle.heyvl_types.specs.Acts.{TypedProcedure, procedure_at}
@@ -17,12 +18,13 @@ use Rattle.loop_encodings.specs.BoundGoals.{GoalHolds, bound_goals}
 use Rattle.loop_encodings.specs.Law.{IsShown, ShownBoundsHold}
 use Rattle.verdict_report.specs.declared.answers.Answer.{Answer}
 use Rattle.verdict_report.specs.declared.answers.Miss.{Miss}
-use Rattle.verdict_report.specs.declared.answers.Verdict.TheVariants.{Verified}
+use Rattle.verdict_report.specs.declared.answers.Verdict.{Verdict}
+use Rattle.verdict_report.specs.declared.answers.Verdict.TheVariants.{NotVerified, Verified}
 use Rattle.verify_core.specs.Checked.{AreChecked, Certifies, CheckedGoal, IsCertified, IsCheckedTable, IsMissOf, checked_at, first_miss, missed}
 use Rattle.verify_core.specs.CheckedAnswers.{AreCheckedAnswers, IsCheckedAnswer, IsCheckedFile, IsCheckedVerdict}
 use Rattle.verify_core.specs.Decided.{or_else}
 use Rattle.verify_core.specs.GoalLaws.{MadeGoalsSayBounds}
-use Rattle.verify_core.specs.Headline.{VerifiedBoundsHold}
+use Rattle.verify_core.specs.Headline.{FalsifiedBoundsBreak, IsVerdictOn, VerifiedBoundsHold}
 use Rattle.verify_core.specs.Questions.{IsMadeOf, Question, goal, question}
 use Rattle.verify_core.proofs.Headlines.{program_there}
 
@@ -68,20 +70,28 @@ shown law say ps certs table q rules typed t c =
 
 -- ---- Answers
 
-answer_behind : (ps : List TypedProcedure) (table : List (List CheckedGoal)) (k : ℕ) (qs : List TypedProcedure) (before : List Answer) (a : Answer) (behind : List Answer) → AreCheckedAnswers ps table k qs (before ++ a ∷ behind) → IsCheckedAnswer ps table (k + length before) a
-answer_behind ps table k [] [] a behind h = absurd h
-answer_behind ps table k (q ∷ qs) [] a behind h = let same : k ≡ k + 0 = omega arith in subst (λ n. IsCheckedAnswer ps table n a) same h.0
-answer_behind ps table k [] (b ∷ before) a behind h = absurd h
-answer_behind ps table k (q ∷ qs) (b ∷ before) a behind h = let same : suc k + length before ≡ k + length (b ∷ before) = omega arith in subst (λ n. IsCheckedAnswer ps table n a) same (answer_behind ps table (suc k) qs before a behind h.1)
+pub answer_behind : (ps : List TypedProcedure) (table ranks : List (List CheckedGoal)) (k : ℕ) (qs : List TypedProcedure) (before : List Answer) (a : Answer) (behind : List Answer) → AreCheckedAnswers ps table ranks k qs (before ++ a ∷ behind) → IsCheckedAnswer ps table ranks (k + length before) a
+answer_behind ps table ranks k [] [] a behind h = absurd h
+answer_behind ps table ranks k (q ∷ qs) [] a behind h = let same : k ≡ k + 0 = omega arith in subst (λ n. IsCheckedAnswer ps table ranks n a) same h.0
+answer_behind ps table ranks k [] (b ∷ before) a behind h = absurd h
+answer_behind ps table ranks k (q ∷ qs) (b ∷ before) a behind h = let same : suc k + length before ≡ k + length (b ∷ before) = omega arith in subst (λ n. IsCheckedAnswer ps table ranks n a) same (answer_behind ps table ranks (suc k) qs before a behind h.1)
+
+said : (ps : List TypedProcedure) (certs : List GoalCert) (answers : List Answer) (file : IsCheckedFile ps certs answers) (p : ℕ) (v : Verdict) → IsVerdictOn answers p v → IsCheckedVerdict ps file.table p v
+said ps certs answers file p v on =
+    let a : IsCheckedAnswer ps file.table file.ranks (0 + length on.before) on.answer = answer_behind ps file.table file.ranks 0 ps on.before on.answer on.behind (subst (λ l. AreCheckedAnswers ps file.table file.ranks 0 ps l) on.all file.answers_of) in
+    let place : 0 + length on.before ≡ p = let e = on.place in omega (arith, e) in
+    let b : IsCheckedAnswer ps file.table file.ranks p on.answer = subst (λ n. IsCheckedAnswer ps file.table file.ranks n on.answer) place a in
+    subst (λ x. IsCheckedVerdict ps file.table p x) on.verdict b.verdict
 
 -- The bounds of the verified procedures hold.
 pub certified_bounds_hold : ShownBoundsHold → CertifiedGoalsHold → MadeGoalsSayBounds → (ps : List TypedProcedure) (certs : List GoalCert) (answers : List Answer) → Each (MeetsRules ps) ps → ((p : ℕ) → p < length ps → AreTyped ps p) → IsCheckedFile ps certs answers → VerifiedBoundsHold ps answers
 certified_bounds_hold bounds law say ps certs answers rules typed file p on =
-    let a : IsCheckedAnswer ps file.table (0 + length on.before) on.answer = answer_behind ps file.table 0 ps on.before on.answer on.behind (subst (λ l. AreCheckedAnswers ps file.table 0 ps l) on.all file.answers_of) in
-    let place : 0 + length on.before ≡ p = let e = on.place in omega (arith, e) in
-    let b : IsCheckedAnswer ps file.table p on.answer = subst (λ n. IsCheckedAnswer ps file.table n on.answer) place a in
-    let v : IsCheckedVerdict ps file.table p Verified = subst (λ x. IsCheckedVerdict ps file.table p x) on.verdict b.verdict in
+    let v : IsCheckedVerdict ps file.table p Verified = said ps certs answers file p Verified on in
     bounds ps p rules (program_there ps p v.0.program) (record {
       itself = shown law say ps certs file.table p rules typed file.checked v.0;
       reached = λ q h. shown law say ps certs file.table q rules typed file.checked (v.1 q h);
     })
+
+-- No bound is falsified by certificates.
+pub none_falsified : (ps : List TypedProcedure) (certs : List GoalCert) (answers : List Answer) → IsCheckedFile ps certs answers → FalsifiedBoundsBreak ps answers
+none_falsified ps certs answers file p s on program straight = absurd (said ps certs answers file p (NotVerified Main s) on)

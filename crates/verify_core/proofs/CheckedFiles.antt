@@ -10,7 +10,10 @@ use Rattle.verdict_report.specs.declared.answers.Verdict.{Verdict}
 use Rattle.verdict_report.specs.declared.answers.Verdict.TheVariants as verdict
 use Rattle.verify_core.specs.Checked.{CheckedGoal, IsCertified, IsCheckedTable, checked_at, first_miss}
 use Rattle.verify_core.specs.CheckedAnswers.{AreCheckedAnswers, IsCheckedAnswer, IsCheckedFile, IsCheckedVerdict}
+use Rattle.verify_core.specs.CheckedRankings.{AreRankingsAnswered, AreRankingsChecked, IsCheckedRankTable}
+use Rattle.verify_core.specs.Rankings.{ranked_loops}
 use Rattle.verify_core.specs.internal.Checking.{AreMarkedAnswers, AreOwn, IsMarkedAnswer, IsMarkedBy, IsOwn, IsOwnVerdict, IsReachingVerdict, IsUnmarked, is_unverified, is_verified}
+use Rattle.verify_core.specs.internal.OwnRankings.{AreOwnRankings}
 
 -- ---- The table
 
@@ -117,54 +120,91 @@ marked_verdict : (ps : List TypedProcedure) (certs : List GoalCert) (vs : List V
 marked_verdict ps certs vs t p own v true e c o h = reaching_verdict ps certs vs t p v (c e) h
 marked_verdict ps certs vs t p own v false e c o h = subst (λ x. IsCheckedVerdict ps t.table p x) (sym h) (same_verdict ps t.table p own o e)
 
-answer_of : (ps : List TypedProcedure) (certs : List GoalCert) (vs : List Verdict) (t : HasTable ps certs 0 ps vs) (p : ℕ) (a : Answer) → p < length vs → IsMarkedAnswer ps (map is_unverified vs) p (get_or vs p verdict.NoBody) a → IsCheckedAnswer ps t.table p a
-answer_of ps certs vs t p a l h = record {
-  name = h.name;
-  verdict = marked_verdict ps certs vs t p (get_or vs p verdict.NoBody) a.verdict (is_verified (get_or vs p verdict.NoBody)) refl (certified_by ps certs vs t p l) (t.own p verdict.NoBody l) h.verdict;
-  loops = h.loops;
+-- ---- Rankings
+
+-- The answers on rankings by a table.
+record HasRanks (ps : List TypedProcedure) (certs : List GoalCert) (k : ℕ) (qs : List TypedProcedure) (answers : List Answer) : Type 0 where
+  ranks : List (List CheckedGoal)
+  checked : IsCheckedRankTable ps certs k qs ranks
+  answered : (j : ℕ) (d : Answer) → j < length answers → AreRankingsAnswered (ranked_loops (procedure_at qs j)) (checked_at ranks j) (get_or answers j d).loops.items
+
+with_rankings : (ps : List TypedProcedure) (certs : List GoalCert) (k : ℕ) (q : TypedProcedure) (qs : List TypedProcedure) (a : Answer) (answers : List Answer) → procedure_at ps k ≡ q → AreOwnRankings ps certs k a.loops.items → HasRanks ps certs (suc k) qs answers → HasRanks ps certs k (q ∷ qs) (a ∷ answers)
+with_rankings ps certs k q qs a answers e h rest = record {
+  ranks = h.checked ∷ rest.ranks;
+  checked = (subst (λ x. AreRankingsChecked ps certs k (ranked_loops x) h.checked) e h.are, rest.checked);
+  answered = at;
 }
+  where
+    at : (j : ℕ) (d : Answer) → j < length (a ∷ answers) → AreRankingsAnswered (ranked_loops (procedure_at (q ∷ qs) j)) (checked_at (h.checked ∷ rest.ranks) j) (get_or (a ∷ answers) j d).loops.items
+    at zero d l = subst (λ x. AreRankingsAnswered (ranked_loops x) h.checked a.loops.items) e h.answered
+    at (suc j) d l = rest.answered j d (omega (arith, l))
+
+has_ranks : (ps : List TypedProcedure) (certs : List GoalCert) (marks : List Bool) (k : ℕ) (qs : List TypedProcedure) (vs : List Verdict) (answers : List Answer) → ((j : ℕ) → procedure_at ps (k + j) ≡ procedure_at qs j) → length vs ≡ length qs → AreMarkedAnswers ps certs marks k vs answers → HasRanks ps certs k qs answers
+has_ranks ps certs marks k [] [] [] f e m = record { ranks = []; checked = tt; answered = λ j d l. absurd (omega (arith, l)) }
+has_ranks ps certs marks k [] [] (a ∷ answers) f e m = absurd m
+has_ranks ps certs marks k [] (v ∷ vs) answers f e m = absurd (omega (arith, e))
+has_ranks ps certs marks k (q ∷ qs) [] answers f e m = absurd (omega (arith, e))
+has_ranks ps certs marks k (q ∷ qs) (v ∷ vs) [] f e m = absurd m
+has_ranks ps certs marks k (q ∷ qs) (v ∷ vs) (a ∷ answers) f e m = with_rankings ps certs k q qs a answers here m.0.loops (has_ranks ps certs marks (suc k) qs vs answers others (omega (arith, e)) m.1)
+  where
+    here : procedure_at ps k ≡ q
+    here = let same : k + 0 ≡ k = omega arith in subst (λ n. procedure_at ps n ≡ q) same (f 0)
+
+    others : (j : ℕ) → procedure_at ps (suc k + j) ≡ procedure_at qs j
+    others j = let same : k + suc j ≡ suc k + j = omega arith in subst (λ n. procedure_at ps n ≡ procedure_at qs j) same (f (suc j))
 
 -- ---- The file
 
-answer_at : (ps : List TypedProcedure) (marks : List Bool) (k : ℕ) (vs : List Verdict) (answers : List Answer) → AreMarkedAnswers ps marks k vs answers → (j : ℕ) (d : Answer) → j < length answers → IsMarkedAnswer ps marks (k + j) (get_or vs j verdict.NoBody) (get_or answers j d)
-answer_at ps marks k [] [] h j d l = absurd (omega (arith, l))
-answer_at ps marks k [] (a ∷ answers) h j d l = absurd h
-answer_at ps marks k (v ∷ vs) [] h j d l = absurd h
-answer_at ps marks k (v ∷ vs) (a ∷ answers) h zero d l = let e : k ≡ k + 0 = omega arith in subst (λ n. IsMarkedAnswer ps marks n v a) e h.0
-answer_at ps marks k (v ∷ vs) (a ∷ answers) h (suc j) d l = let e : suc k + j ≡ k + suc j = omega arith in subst (λ n. IsMarkedAnswer ps marks n (get_or vs j verdict.NoBody) (get_or answers j d)) e (answer_at ps marks (suc k) vs answers h.1 j d (omega (arith, l)))
+answer_at : (ps : List TypedProcedure) (certs : List GoalCert) (marks : List Bool) (k : ℕ) (vs : List Verdict) (answers : List Answer) → AreMarkedAnswers ps certs marks k vs answers → (j : ℕ) (d : Answer) → j < length answers → IsMarkedAnswer ps certs marks (k + j) (get_or vs j verdict.NoBody) (get_or answers j d)
+answer_at ps certs marks k [] [] h j d l = absurd (omega (arith, l))
+answer_at ps certs marks k [] (a ∷ answers) h j d l = absurd h
+answer_at ps certs marks k (v ∷ vs) [] h j d l = absurd h
+answer_at ps certs marks k (v ∷ vs) (a ∷ answers) h zero d l = let e : k ≡ k + 0 = omega arith in subst (λ n. IsMarkedAnswer ps certs marks n v a) e h.0
+answer_at ps certs marks k (v ∷ vs) (a ∷ answers) h (suc j) d l = let e : suc k + j ≡ k + suc j = omega arith in subst (λ n. IsMarkedAnswer ps certs marks n (get_or vs j verdict.NoBody) (get_or answers j d)) e (answer_at ps certs marks (suc k) vs answers h.1 j d (omega (arith, l)))
 
-answers_sized : (ps : List TypedProcedure) (marks : List Bool) (k : ℕ) (vs : List Verdict) (answers : List Answer) → AreMarkedAnswers ps marks k vs answers → length answers ≡ length vs
-answers_sized ps marks k [] [] h = refl
-answers_sized ps marks k [] (a ∷ answers) h = absurd h
-answers_sized ps marks k (v ∷ vs) [] h = absurd h
-answers_sized ps marks k (v ∷ vs) (a ∷ answers) h = ap (λ n. suc n) (answers_sized ps marks (suc k) vs answers h.1)
+answers_sized : (ps : List TypedProcedure) (certs : List GoalCert) (marks : List Bool) (k : ℕ) (vs : List Verdict) (answers : List Answer) → AreMarkedAnswers ps certs marks k vs answers → length answers ≡ length vs
+answers_sized ps certs marks k [] [] h = refl
+answers_sized ps certs marks k [] (a ∷ answers) h = absurd h
+answers_sized ps certs marks k (v ∷ vs) [] h = absurd h
+answers_sized ps certs marks k (v ∷ vs) (a ∷ answers) h = ap (λ n. suc n) (answers_sized ps certs marks (suc k) vs answers h.1)
 
-answers_from : (ps : List TypedProcedure) (table : List (List CheckedGoal)) (k : ℕ) (qs : List TypedProcedure) (answers : List Answer) → length answers ≡ length qs → ((j : ℕ) (d : Answer) → j < length answers → IsCheckedAnswer ps table (k + j) (get_or answers j d)) → AreCheckedAnswers ps table k qs answers
-answers_from ps table k [] [] e f = tt
-answers_from ps table k [] (a ∷ answers) e f = cc
-answers_from ps table k (q ∷ qs) [] e f = cc
-answers_from ps table k (q ∷ qs) (a ∷ answers) e f = (first, answers_from ps table (suc k) qs answers (omega (arith, e)) others)
+answers_from : (ps : List TypedProcedure) (table ranks : List (List CheckedGoal)) (k : ℕ) (qs : List TypedProcedure) (answers : List Answer) → length answers ≡ length qs → ((j : ℕ) (d : Answer) → j < length answers → IsCheckedAnswer ps table ranks (k + j) (get_or answers j d)) → AreCheckedAnswers ps table ranks k qs answers
+answers_from ps table ranks k [] [] e f = tt
+answers_from ps table ranks k [] (a ∷ answers) e f = cc
+answers_from ps table ranks k (q ∷ qs) [] e f = cc
+answers_from ps table ranks k (q ∷ qs) (a ∷ answers) e f = (first, answers_from ps table ranks (suc k) qs answers (omega (arith, e)) others)
   where
-    first : IsCheckedAnswer ps table k a
-    first = let same : k + 0 ≡ k = omega arith in subst (λ n. IsCheckedAnswer ps table n a) same (f 0 a (omega arith))
+    first : IsCheckedAnswer ps table ranks k a
+    first = let same : k + 0 ≡ k = omega arith in subst (λ n. IsCheckedAnswer ps table ranks n a) same (f 0 a (omega arith))
 
-    others : (j : ℕ) (d : Answer) → j < length answers → IsCheckedAnswer ps table (suc k + j) (get_or answers j d)
-    others j d l = let same : k + suc j ≡ suc k + j = omega arith in subst (λ n. IsCheckedAnswer ps table n (get_or answers j d)) same (f (suc j) d (omega (arith, l)))
+    others : (j : ℕ) (d : Answer) → j < length answers → IsCheckedAnswer ps table ranks (suc k + j) (get_or answers j d)
+    others j d l = let same : k + suc j ≡ suc k + j = omega arith in subst (λ n. IsCheckedAnswer ps table ranks n (get_or answers j d)) same (f (suc j) d (omega (arith, l)))
 
-pub checked_file : (ps : List TypedProcedure) (certs : List GoalCert) (vs : List Verdict) (answers : List Answer) → AreOwn ps certs 0 ps vs → AreMarkedAnswers ps (map is_unverified vs) 0 vs answers → IsCheckedFile ps certs answers
+pub checked_file : (ps : List TypedProcedure) (certs : List GoalCert) (vs : List Verdict) (answers : List Answer) → AreOwn ps certs 0 ps vs → AreMarkedAnswers ps certs (map is_unverified vs) 0 vs answers → IsCheckedFile ps certs answers
 checked_file ps certs vs answers o m = record {
   table = t.table;
+  ranks = r.ranks;
   checked = t.checked;
-  answers_of = answers_from ps t.table 0 ps answers (answers_sized ps (map is_unverified vs) 0 vs answers m ∙ t.sized) each;
+  ranks_checked = r.checked;
+  answers_of = answers_from ps t.table r.ranks 0 ps answers (answers_sized ps certs (map is_unverified vs) 0 vs answers m ∙ t.sized) each;
 }
   where
     t : HasTable ps certs 0 ps vs
     t = has_table ps certs 0 ps vs o
 
-    each : (j : ℕ) (d : Answer) → j < length answers → IsCheckedAnswer ps t.table (0 + j) (get_or answers j d)
+    r : HasRanks ps certs 0 ps answers
+    r = has_ranks ps certs (map is_unverified vs) 0 ps vs answers (λ j. let none : 0 + j ≡ j = omega arith in ap (λ n. procedure_at ps n) none) t.sized m
+
+    each : (j : ℕ) (d : Answer) → j < length answers → IsCheckedAnswer ps t.table r.ranks (0 + j) (get_or answers j d)
     each j d l =
         let none : 0 + j ≡ j = omega arith in
-        subst (λ n. IsCheckedAnswer ps t.table n (get_or answers j d)) (sym none) (answer_of ps certs vs t j (get_or answers j d) (subst (λ n. j < n) (answers_sized ps (map is_unverified vs) 0 vs answers m) l) (subst (λ n. IsMarkedAnswer ps (map is_unverified vs) n (get_or vs j verdict.NoBody) (get_or answers j d)) none (answer_at ps (map is_unverified vs) 0 vs answers m j d l)))
+        let marked = subst (λ n. IsMarkedAnswer ps certs (map is_unverified vs) n (get_or vs j verdict.NoBody) (get_or answers j d)) none (answer_at ps certs (map is_unverified vs) 0 vs answers m j d l) in
+        let below = subst (λ n. j < n) (answers_sized ps certs (map is_unverified vs) 0 vs answers m) l in
+        subst (λ n. IsCheckedAnswer ps t.table r.ranks n (get_or answers j d)) (sym none) (record {
+          name = marked.name;
+          verdict = marked_verdict ps certs vs t j (get_or vs j verdict.NoBody) (get_or answers j d).verdict (is_verified (get_or vs j verdict.NoBody)) refl (certified_by ps certs vs t j below) (t.own j verdict.NoBody below) marked.verdict;
+          loops = r.answered j d l;
+        })
 
 pub own_sized : (ps : List TypedProcedure) (certs : List GoalCert) (k : ℕ) (qs : List TypedProcedure) (vs : List Verdict) → AreOwn ps certs k qs vs → length vs ≡ length qs
 own_sized ps certs k qs vs h = (has_table ps certs k qs vs h).sized

@@ -1,19 +1,23 @@
 -- What comes of decided goals, goal by goal.
 use Rattle.std.proofs.Common.{◌≡◌, ℕ, refl, sym, ap, ◌∙◌, append_assoc, append-nil, Bool, true, false, List, [], ◌∷◌, ◌++◌, map, length, subst}
-use Rattle.std.specs.Prelude.{Option, Some, None}
+use Rattle.std.specs.Prelude.{Option, Some, None, if◌then◌else◌}
 use Rattle.farkas_check.specs.declared.trees.GoalCert.{GoalCert}
 use Rattle.heylo_formula.specs.declared.goals.GoalId.{GoalId}
 use Rattle.heylo_formula.specs.declared.values.Val.{Val}
+use Rattle.heyvl_types.specs.Acts.{TypedProcedure}
 use Rattle.heyvl_types.specs.Rules.{Each}
 use Rattle.linear_elim.specs.declared.answers.Cause.{Cause}
 use Rattle.region_split.specs.declared.decisions.Decision.{Decision}
 use Rattle.region_split.specs.declared.decisions.Decision.TheVariants as decision
+use Rattle.verdict_report.specs.declared.answers.LoopAnswer.{LoopAnswer}
 use Rattle.verdict_report.specs.declared.answers.NamedGoal.{NamedGoal}
-use Rattle.verify_core.specs.Decided.{DecidedGoal, all_proved, all_told, certificate, certificates, first_falsified, first_unknown, first_with, is_falsified, listed, or_else, told}
+use Rattle.verify_core.specs.Decided.{DecidedGoal, all_proved, certificate, certificates, first_falsified, first_unknown, first_with, is_falsified, is_proved, listed, or_else, told}
+use Rattle.verify_core.specs.DecidedRankings.{told_in_file, told_rankings}
 use Rattle.verify_core.specs.declared.deciding.Decided as declared
 use Rattle.verify_core.specs.declared.outcomes.Outcome.{Outcome}
 use Rattle.verify_core.specs.declared.outcomes.Outcome.TheVariants.{Proved, Falsified, Unknown}
-use Rattle.verify_core.specs.internal.Outcomes.{both, outcome, outcome_of, told_by, unless_falsified}
+use Rattle.verify_core.specs.declared.outcomes.ProcedureOutcome.{ProcedureOutcome}
+use Rattle.verify_core.specs.internal.Outcomes.{AreOutcomes, both, loop_answer, outcome, outcome_of, told_by, unless_falsified}
 use Rattle.verify_core.specs.internal.Settled.{IsSettled, plain}
 use Rattle.verify_core.specs.internal.Verdicts.{all_told_by}
 
@@ -117,6 +121,44 @@ pub describes : (ds : List DecidedGoal) → Describes ds (outcome ds)
 describes [] = record { all = refl; falsified = refl; falsified_first = refl; unknown = λ _. refl; told_goal = refl }
 describes (d ∷ ds) = describes_more d.goal d.decision ds (outcome ds) (describes ds)
 
-pub told_all : (table : List (List DecidedGoal)) → all_told_by (map outcome table) ≡ all_told table
-told_all [] = refl
-told_all (ds ∷ rest) = ap (λ x. listed x ++ all_told_by (map outcome rest)) (sym (describes ds).told_goal) ∙ ap (λ l. listed (told ds) ++ l) (told_all rest)
+-- ---- What is told
+
+pub told_all : (ps : List TypedProcedure) (table ranks : List (List DecidedGoal)) (os : List ProcedureOutcome) → AreOutcomes ps table ranks os → all_told_by os ≡ told_in_file table ranks
+told_all [] [] [] [] h = refl
+told_all [] [] [] (o ∷ os) h = absurd h
+told_all [] [] (rs ∷ ranks) os h = absurd h
+told_all [] (ds ∷ table) ranks os h = absurd h
+told_all (p ∷ ps) [] ranks os h = absurd h
+told_all (p ∷ ps) (ds ∷ table) [] os h = absurd h
+told_all (p ∷ ps) (ds ∷ table) (rs ∷ ranks) [] h = absurd h
+told_all (p ∷ ps) (ds ∷ table) (rs ∷ ranks) (o ∷ os) h =
+    ap (λ x. (listed x ++ o.rankings.told.items) ++ all_told_by os) (ap told_by h.0.bound ∙ sym (describes ds).told_goal)
+    ∙ (ap (λ l. (listed (told ds) ++ l) ++ all_told_by os) h.0.rankings.told
+    ∙ ap (λ l. (listed (told ds) ++ told_rankings rs) ++ l) (told_all ps table ranks os h.1))
+
+-- ---- Rankings so far
+
+told_of_one : (g : NamedGoal) (d : Decision) (more : List NamedGoal) → listed (told_by (outcome_of (record { goal = g; decision = d }))) ++ more ≡ (if is_proved d then more else g ∷ more)
+told_of_one g (decision.Proved t) more = refl
+told_of_one g (decision.Falsified s) more = refl
+told_of_one g (decision.Unknown c) more = refl
+
+pub told_next : (zs ys : List declared.Decided) (x : declared.Decided) (gs hs all : List NamedGoal) → zs ≡ x ∷ ys → hs ≡ gs ++ listed (told_by (outcome_of (plain x))) → gs ++ told_rankings (map plain zs) ≡ all → hs ++ told_rankings (map plain ys) ≡ all
+told_next zs ys x gs hs all z e h =
+    ap (λ l. l ++ told_rankings (map plain ys)) e
+    ∙ (append_assoc gs (listed (told_by (outcome_of (plain x)))) (told_rankings (map plain ys))
+    ∙ (ap (λ l. gs ++ l) (told_of_one x.goal x.decision (told_rankings (map plain ys)))
+    ∙ (ap (λ l. gs ++ told_rankings (map plain l)) (sym z) ∙ h)))
+
+pub told_last : (zs : List declared.Decided) (gs all : List NamedGoal) → zs ≡ [] → gs ++ told_rankings (map plain zs) ≡ all → gs ≡ all
+told_last zs gs all z h = sym (append-nil gs) ∙ ap (λ l. gs ++ told_rankings (map plain l)) (sym z) ∙ h
+
+pub answers_next : (zs ys : List declared.Decided) (x : declared.Decided) (ls us all : List LoopAnswer) (a : LoopAnswer) → zs ≡ x ∷ ys → a ≡ loop_answer (plain x) → us ≡ ls ++ (a ∷ []) → ls ++ map loop_answer (map plain zs) ≡ all → us ++ map loop_answer (map plain ys) ≡ all
+answers_next zs ys x ls us all a z e f h =
+    ap (λ l. l ++ map loop_answer (map plain ys)) f
+    ∙ (append_assoc ls (a ∷ []) (map loop_answer (map plain ys))
+    ∙ (ap (λ b. ls ++ (b ∷ map loop_answer (map plain ys))) e
+    ∙ (ap (λ l. ls ++ map loop_answer (map plain l)) (sym z) ∙ h)))
+
+pub answers_last : (zs : List declared.Decided) (ls all : List LoopAnswer) → zs ≡ [] → ls ++ map loop_answer (map plain zs) ≡ all → ls ≡ all
+answers_last zs ls all z h = sym (append-nil ls) ∙ ap (λ l. ls ++ map loop_answer (map plain l)) (sym z) ∙ h

@@ -40,13 +40,17 @@ use Rattle.verdict_report.specs.declared.answers.Verdict.{Verdict}
 use Rattle.verdict_report.specs.declared.answers.Verdict.TheVariants.{Verified, NotVerified}
 use Rattle.verify_core.specs.Answered.{AreAnswers, IsAnswer, IsClosed, IsVerdict}
 use Rattle.verify_core.specs.Decided.{AreDecided, DecidedGoal, IsDecisionOf, IsTable, all_proved, decided_at, falsified, first_falsified, is_proved, or_else}
+use Rattle.verify_core.specs.DecidedRankings.{IsRankTable}
 use Rattle.verify_core.specs.GoalLaws.{MadeGoalsSayBounds}
 use Rattle.verify_core.specs.Headline.{IsBrokenFrom, IsHeadline, IsVerdictOn}
 use Rattle.verify_core.specs.Questions.{IsGoalOf, IsMadeOf, Question, all_names, goal, question}
+use Rattle.verify_core.specs.Rankings.{ranked_loops}
 use Rattle.verify_core.specs.internal.Settled.{IsSettled, TellsOf}
 use Rattle.loop_encodings.proofs.exported.EncodedTypes.{encoding_fits}
 use Rattle.loop_encodings.proofs.exported.FromRules.{each_at, each_first, each_second}
-use Rattle.verify_core.proofs.Rows.{row_at, settled_at}
+use Rattle.ranking_rule.specs.Laws.{RankingGoalsHold, RankingsBoundTurns}
+use Rattle.verify_core.proofs.RankedLoops.{ranked_loop}
+use Rattle.verify_core.proofs.Rows.{rank_row_at, row_at, settled_at}
 use Rattle.vp_generator.specs.Generated.{vp}
 use Rattle.vp_generator.specs.Laws.{GeneratedFormMeansActs}
 use Rattle.vp_generator.specs.Over.{GeneratedFormIsOver}
@@ -209,37 +213,45 @@ program_there [] q h = absurd (cc)
 program_there (p ∷ ps) zero h = omega arith
 program_there (p ∷ ps) (suc q) h = let k = program_there ps q h in omega (arith, k)
 
-record IsAnswered_at (ps : List TypedProcedure) (table : List (List DecidedGoal)) (k : ℕ) (count : ℕ) (n : ℕ) (a : Answer) : Type 0 where
-  pub answer : IsAnswer ps table (k + n) a
+record IsAnswered_at (ps : List TypedProcedure) (table ranks : List (List DecidedGoal)) (k : ℕ) (count : ℕ) (n : ℕ) (a : Answer) : Type 0 where
+  pub answer : IsAnswer ps table ranks (k + n) a
   pub there : n < count
 
-answer_from : (ps : List TypedProcedure) (table : List (List DecidedGoal)) (k : ℕ) (qs : List TypedProcedure) (before behind : List Answer) (a : Answer) → AreAnswers ps table k qs (before ++ (a ∷ behind)) → IsAnswered_at ps table k (length qs) (length before) a
-answer_from ps table k [] [] behind a h = absurd h
-answer_from ps table k [] (b ∷ bs) behind a h = absurd h
-answer_from ps table k (q ∷ qs) [] behind a h = record { answer = subst (λ i. IsAnswer ps table i a) (plain k) h.0; there = omega arith }
+answer_from : (ps : List TypedProcedure) (table ranks : List (List DecidedGoal)) (k : ℕ) (qs : List TypedProcedure) (before behind : List Answer) (a : Answer) → AreAnswers ps table ranks k qs (before ++ (a ∷ behind)) → IsAnswered_at ps table ranks k (length qs) (length before) a
+answer_from ps table ranks k [] [] behind a h = absurd h
+answer_from ps table ranks k [] (b ∷ bs) behind a h = absurd h
+answer_from ps table ranks k (q ∷ qs) [] behind a h = record { answer = subst (λ i. IsAnswer ps table ranks i a) (plain k) h.0; there = omega arith }
   where
     plain : (k : ℕ) → k ≡ k + zero
     plain k = omega arith
-answer_from ps table k (q ∷ qs) (b ∷ bs) behind a h =
-    let r = answer_from ps table (suc k) qs bs behind a h.1 in
+answer_from ps table ranks k (q ∷ qs) (b ∷ bs) behind a h =
+    let r = answer_from ps table ranks (suc k) qs bs behind a h.1 in
     let l = r.there in
-    record { answer = subst (λ i. IsAnswer ps table i a) (step k (length bs)) r.answer; there = omega (arith, l) }
+    record { answer = subst (λ i. IsAnswer ps table ranks i a) (step k (length bs)) r.answer; there = omega (arith, l) }
   where
     step : (k n : ℕ) → suc k + n ≡ k + suc n
     step k n = omega arith
+
+record IsAnsweredAt (ps : List TypedProcedure) (table ranks : List (List DecidedGoal)) (p : ℕ) (a : Answer) : Type 0 where
+  pub answer : IsAnswer ps table ranks p a
+  pub there : p < length ps
+
+answered : (ps : List TypedProcedure) (table ranks : List (List DecidedGoal)) (all before behind : List Answer) (a : Answer) (p : ℕ) → AreAnswers ps table ranks 0 ps all → all ≡ before ++ (a ∷ behind) → length before ≡ p → IsAnsweredAt ps table ranks p a
+answered ps table ranks all before behind a p h e place =
+    let r = answer_from ps table ranks 0 ps before behind a (subst (AreAnswers ps table ranks 0 ps) e h) in
+    record { answer = subst (λ i. IsAnswer ps table ranks i a) (first (length before) ∙ place) r.answer; there = subst (λ i. i < length ps) place r.there }
+  where
+    first : (n : ℕ) → 0 + n ≡ n
+    first n = omega arith
 
 record Said (ps : List TypedProcedure) (table : List (List DecidedGoal)) (p : ℕ) (v : Verdict) : Type 0 where
   pub verdict : IsVerdict ps table p v
   pub there : p < length ps
 
-said : (ps : List TypedProcedure) (table : List (List DecidedGoal)) (answers : List Answer) (p : ℕ) (v : Verdict) → AreAnswers ps table 0 ps answers → IsVerdictOn answers p v → Said ps table p v
-said ps table answers p v h on =
-    let r = answer_from ps table 0 ps on.before on.behind on.answer (subst (AreAnswers ps table 0 ps) on.all h) in
-    let e : 0 + length on.before ≡ p = first (length on.before) ∙ on.place in
-    record { verdict = subst (IsVerdict ps table p) on.verdict (subst (λ i. IsVerdict ps table i on.answer.verdict) e r.answer.verdict); there = subst (λ i. i < length ps) on.place r.there }
-  where
-    first : (n : ℕ) → 0 + n ≡ n
-    first n = omega arith
+said : (ps : List TypedProcedure) (table ranks : List (List DecidedGoal)) (answers : List Answer) (p : ℕ) (v : Verdict) → AreAnswers ps table ranks 0 ps answers → IsVerdictOn answers p v → Said ps table p v
+said ps table ranks answers p v h on =
+    let r = answered ps table ranks answers on.before on.behind on.answer p h on.all on.place in
+    record { verdict = subst (IsVerdict ps table p) on.verdict r.answer.verdict; there = r.there }
 
 module _ (same : MadeGoalsSayBounds) (shown_bounds : ShownBoundsHold) (broken_goals : BrokenGoalsBreakBounds) (over : EncodingIsOver) (means : GeneratedFormMeansActs) (generated_over : GeneratedFormIsOver) (choices : ValuesAreChoices) (ps : List TypedProcedure) (table : List (List DecidedGoal)) (rules : Each (MeetsRules ps) ps) (decided : IsTable ps 0 ps table) (settled : Each (Each IsSettled) table) where
   shown : (q : ℕ) → IsClosed ps table q → IsShown ps q
@@ -281,8 +293,11 @@ module _ (same : MadeGoalsSayBounds) (shown_bounds : ShownBoundsHold) (broken_go
         broken = λ n k. broken_goals ps p r f.choices rules l program straight f.state (λ h. f.fails (subst (λ x. Compares q.co (value q.pre (environment r) Choices.stop) x) (sym there) h)) n k;
       }
 
-  pub headline : (answers : List Answer) → AreAnswers ps table 0 ps answers → IsHeadline ps answers
-  headline answers h = record {
-    verified = λ p on. let k = said ps table answers p Verified h on in shown_bounds ps p rules k.there (record { itself = shown p k.verdict.0; reached = λ q m. shown q (k.verdict.1 q m) });
-    falsified = λ p s on program straight. let k = said ps table answers p (NotVerified Main s) h on in broken p s.items k.there k.verdict program straight;
+  pub headline : RankingsBoundTurns → RankingGoalsHold → (ranks : List (List DecidedGoal)) → IsRankTable ps 0 ps ranks → Each (Each IsSettled) ranks → (answers : List Answer) → AreAnswers ps table ranks 0 ps answers → IsHeadline ps answers
+  headline bound hold ranks ranked ranks_settled answers h = record {
+    verified = λ p on. let k = said ps table ranks answers p Verified h on in shown_bounds ps p rules k.there (record { itself = shown p k.verdict.0; reached = λ q m. shown q (k.verdict.1 q m) });
+    ranked = λ p n on.
+        let r = answered ps table ranks answers on.before on.behind on.answer p h on.all on.place in
+        ranked_loop bound hold ps p n (ranked_loops (procedure_at ps p)) (decided_at ranks p) on.answer.loops.items on.line rules r.there (rank_row_at ps ranks p r.there ranked) (settled_at ranks p ranks_settled) r.answer.loops on.listed on.number on.verdict;
+    falsified = λ p s on program straight. let k = said ps table ranks answers p (NotVerified Main s) h on in broken p s.items k.there k.verdict program straight;
   }

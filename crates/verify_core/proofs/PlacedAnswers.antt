@@ -22,19 +22,25 @@ use Rattle.proc_contracts.specs.Reasons.{plain}
 use Rattle.proc_contracts.specs.declared.reasons.WhyNot.{WhyNot}
 use Rattle.region_split.specs.declared.decisions.Decision.{Decision}
 use Rattle.region_split.specs.declared.decisions.Decision.TheVariants.{Proved, Falsified, Unknown}
-use Rattle.verdict_report.specs.Placed.{IsAnswerPlaced, IsCausePlaced, IsReasonPlaced, IsVerdictPlaced}
+use Rattle.ranking_rule.specs.RankingGoals as ranking
+use Rattle.ranking_rule.specs.Rankings.{RankedLoop}
+use Rattle.verdict_report.specs.Placed.{IsAnswerPlaced, IsCausePlaced, IsLoopPlaced, IsRankPlaced, IsReasonPlaced, IsVerdictPlaced}
 use Rattle.verdict_report.specs.declared.answers.Answer.{Answer}
 use Rattle.verdict_report.specs.declared.answers.LoopAnswer.{LoopAnswer}
 use Rattle.verdict_report.specs.declared.answers.NamedGoal.{NamedGoal}
 use Rattle.verdict_report.specs.declared.answers.Verdict.{Verdict}
 use Rattle.verdict_report.specs.declared.answers.Verdict.TheVariants as verdict
-use Rattle.verdict_report.specs.Placed.{IsLoopPlaced}
+use Rattle.verdict_report.specs.declared.answers.RankVerdict.{RankVerdict}
+use Rattle.verdict_report.specs.declared.answers.RankVerdict.TheVariants as rank
 use Rattle.verify_core.specs.Answered.{AreAnswers, IsVerdict}
 use Rattle.verify_core.specs.Decided.{AreDecided, DecidedGoal, IsDecisionOf, IsTable, decided_at, first_unknown, or_else, unknown}
+use Rattle.verify_core.specs.DecidedRankings.{AreRanked, AreRankingsDecided, IsRankTable, IsRankVerdict, IsRankingDecided}
 use Rattle.verify_core.specs.Places.{ActStands, StandsWithin}
 use Rattle.verify_core.specs.Questions.{IsGoalOf, IsMadeOf, Question, goal, question}
-use Rattle.verify_core.proofs.Rows.{row_at}
+use Rattle.verify_core.specs.Rankings.{ranked_loops}
+use Rattle.verify_core.proofs.Rows.{rank_row_at, row_at}
 use Rattle.verify_core.proofs.StandingActs.{goal_stands, stands_at}
+use Rattle.verify_core.proofs.StandingRankings.{ranking_stands}
 
 -- ---- Causes
 
@@ -144,17 +150,54 @@ verdict_placed n ps table p (verdict.Unknown id c) r d s l h = row_placed n ps p
 verdict_placed n ps table p verdict.NoBody r d s l h = tt
 verdict_placed n ps table p (verdict.Unchecked id miss) r d s l h = absurd h
 
-none_placed : (n : ℕ) (loops : List LoopAnswer) → loops ≡ [] → Each (IsLoopPlaced n) loops
-none_placed n loops e = subst (Each (IsLoopPlaced n)) (sym e) tt
+-- ---- Rankings
 
-placed_from : (n : ℕ) (ps : List TypedProcedure) (table : List (List DecidedGoal)) (k : ℕ) (qs : List TypedProcedure) (answers : List Answer) → Each (MeetsRules ps) ps → IsTable ps 0 ps table → Each (StandsWithin n) ps → k + length qs ≡ length ps → AreAnswers ps table k qs answers → Each (IsAnswerPlaced n (length ps)) answers
-placed_from n ps table k [] [] r d s e h = tt
-placed_from n ps table k [] (a ∷ rest) r d s e h = absurd h
-placed_from n ps table k (q ∷ qs) [] r d s e h = absurd h
-placed_from n ps table k (q ∷ qs) (a ∷ rest) r d s e h = (record { verdict = verdict_placed n ps table k a.verdict r d s (omega (arith, e)) h.0.verdict; loops = none_placed n a.loops.items h.0.loops }, placed_from n ps table (suc k) qs rest r d s (omega (arith, e)) h.1)
+made_placed : (n : ℕ) (p : TypedProcedure) (k : ℕ) (l : RankedLoop p k) (m : Made) (c : Cause) → ((s : Span) → nonlinear_product (ranking.goal p l.head l.body l.rank) ≡ Some s → s.from ≤ n) → ranking.IsMadeOf p l.head l.body l.rank m → IsDecisionOf m (Unknown c) → IsCausePlaced n c
+made_placed n p k l (made.Goal g) cause.Depth f h d = tt
+made_placed n p k l (made.Goal g) cause.Nodes f h d = tt
+made_placed n p k l (made.Goal g) (cause.Nonlinear s) f h d = f s (subst (λ (x : Goal). nonlinear_product x ≡ Some s) h.0 d)
+made_placed n p k l (made.Goal g) (cause.Cells count) f h d = tt
+made_placed n p k l (made.Goal g) (cause.Rows step count) f h d = tt
+made_placed n p k l (made.Goal g) cause.Bits f h d = tt
+made_placed n p k l (made.Goal g) (cause.Fraction b) f h d = tt
+made_placed n p k l made.Depth c f h d = subst (IsCausePlaced n) (sym (same_cause c cause.Depth d)) tt
+made_placed n p k l made.Nodes c f h d = subst (IsCausePlaced n) (sym (same_cause c cause.Nodes d)) tt
 
-pub answers_placed : (n : ℕ) (ps : List TypedProcedure) (table : List (List DecidedGoal)) (answers : List Answer) → Each (MeetsRules ps) ps → IsTable ps 0 ps table → Each (StandsWithin n) ps → AreAnswers ps table 0 ps answers → Each (IsAnswerPlaced n (length ps)) answers
-answers_placed n ps table answers r d s h = placed_from n ps table 0 ps answers r d s (first (length ps)) h
+unknown_is : (d : Decision) (c : Cause) → IsRankVerdict d (rank.Unknown c) → d ≡ Unknown c
+unknown_is (Proved t) c h = h
+unknown_is (Falsified s) c h = h
+unknown_is (Unknown b) c h = h
+
+rank_placed : (n : ℕ) (ps : List TypedProcedure) (p k : ℕ) (d : DecidedGoal) (r : RankVerdict) → Each (StandsWithin n) ps → IsRankingDecided ps p k d → IsRankVerdict d.decision r → IsRankPlaced n r
+rank_placed n ps p k d rank.Ranked s h v = tt
+rank_placed n ps p k d (rank.NotRanked t) s h v = tt
+rank_placed n ps p k d (rank.Unknown c) s h v = let l = h.goal.ranked in made_placed n (procedure_at ps p) k l d.goal.made c (λ t e. ranking_stands n ps p k l t s e) h.goal.made (subst (IsDecisionOf d.goal.made) (unknown_is d.decision c v) h.decision)
+rank_placed n ps p k d (rank.Unchecked miss) s h v = tt
+
+loops_placed : (n : ℕ) (ps : List TypedProcedure) (p : ℕ) (ns : List ℕ) (ds : List DecidedGoal) (ls : List LoopAnswer) → Each (StandsWithin n) ps → AreRankingsDecided ps p ns ds → AreRanked ns ds ls → Each (IsLoopPlaced n) ls
+loops_placed n ps p [] ds [] s h r = tt
+loops_placed n ps p [] ds (l ∷ ls) s h r = absurd r
+loops_placed n ps p (k ∷ ns) ds [] s h r = absurd r
+loops_placed n ps p (k ∷ ns) [] (l ∷ ls) s h r = absurd r
+loops_placed n ps p (k ∷ ns) (d ∷ ds) (l ∷ ls) s h r = (rank_placed n ps p k d l.rank s h.0 r.1.0, loops_placed n ps p ns ds ls s h.1 r.1.1)
+
+-- ---- A file
+
+placed_from : (n : ℕ) (ps : List TypedProcedure) (table ranks : List (List DecidedGoal)) (k : ℕ) (qs : List TypedProcedure) (answers : List Answer) → Each (MeetsRules ps) ps → IsTable ps 0 ps table → IsRankTable ps 0 ps ranks → Each (StandsWithin n) ps → k + length qs ≡ length ps → AreAnswers ps table ranks k qs answers → Each (IsAnswerPlaced n (length ps)) answers
+placed_from n ps table ranks k [] [] r d t s e h = tt
+placed_from n ps table ranks k [] (a ∷ rest) r d t s e h = absurd h
+placed_from n ps table ranks k (q ∷ qs) [] r d t s e h = absurd h
+placed_from n ps table ranks k (q ∷ qs) (a ∷ rest) r d t s e h =
+    let l : k < length ps = omega (arith, e) in (
+      record {
+        verdict = verdict_placed n ps table k a.verdict r d s l h.0.verdict;
+        loops = loops_placed n ps k (ranked_loops (procedure_at ps k)) (decided_at ranks k) a.loops.items s (rank_row_at ps ranks k l t) h.0.loops;
+      },
+      placed_from n ps table ranks (suc k) qs rest r d t s (omega (arith, e)) h.1,
+    )
+
+pub answers_placed : (n : ℕ) (ps : List TypedProcedure) (table ranks : List (List DecidedGoal)) (answers : List Answer) → Each (MeetsRules ps) ps → IsTable ps 0 ps table → IsRankTable ps 0 ps ranks → Each (StandsWithin n) ps → AreAnswers ps table ranks 0 ps answers → Each (IsAnswerPlaced n (length ps)) answers
+answers_placed n ps table ranks answers r d t s h = placed_from n ps table ranks 0 ps answers r d t s (first (length ps)) h
   where
     first : (k : ℕ) → 0 + k ≡ k
     first k = omega arith

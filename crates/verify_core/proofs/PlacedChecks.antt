@@ -1,15 +1,21 @@
 -- The places and procedures that the answers by certificates name are there.
-use Rattle.std.proofs.Common.{◌≡◌, ℕ, ◌<◌, Bool, true, false, sym, subst, List, [], ◌∷◌, length}
+use Rattle.std.proofs.Common.{◌≡◌, ℕ, ◌<◌, Bool, true, false, sym, subst, List, [], ◌∷◌, length, Option}
 use Prim.Native.Nat.{suc}
 use Rattle.farkas_check.specs.declared.trees.GoalCert.{GoalCert}
-use Rattle.heyvl_types.specs.Acts.{TypedProcedure}
+use Rattle.heyvl_types.specs.Acts.{TypedProcedure, procedure_at}
 use Rattle.heyvl_types.specs.Rules.{Each}
-use Rattle.verdict_report.specs.Placed.{IsAnswerPlaced, IsLoopPlaced, IsVerdictPlaced}
+use Rattle.verdict_report.specs.Placed.{IsAnswerPlaced, IsLoopPlaced, IsRankPlaced, IsVerdictPlaced}
 use Rattle.verdict_report.specs.declared.answers.Answer.{Answer}
+use Rattle.verdict_report.specs.declared.answers.LoopAnswer.{LoopAnswer}
+use Rattle.verdict_report.specs.declared.answers.Miss.{Miss}
+use Rattle.verdict_report.specs.declared.answers.RankVerdict.{RankVerdict}
+use Rattle.verdict_report.specs.declared.answers.RankVerdict.TheVariants as rank
 use Rattle.verdict_report.specs.declared.answers.Verdict.{Verdict}
 use Rattle.verdict_report.specs.declared.answers.Verdict.TheVariants as verdict
 use Rattle.verify_core.specs.Checked.{CheckedGoal}
+use Rattle.verify_core.specs.CheckedRankings.{AreRankingsAnswered, IsRankingAnswer}
 use Rattle.verify_core.specs.Places.{StandsWithin}
+use Rattle.verify_core.specs.Rankings.{ranked_loops}
 use Rattle.verify_core.specs.internal.Checking.{AreMarkedAnswers, AreOwn, IsMarkedBy, IsOwnVerdict, IsReachingVerdict, is_verified}
 use Rattle.verify_core.proofs.PlacedAnswers.{reason_placed}
 
@@ -35,7 +41,21 @@ marked_placed : (n count : ℕ) (ps : List TypedProcedure) (marks : List Bool) (
 marked_placed n count ps marks p own v true e o h = reaching_placed n count ps marks p v e h
 marked_placed n count ps marks p own v false e o h = subst (λ x. IsVerdictPlaced n count x) (sym h) o
 
-pub placed_answers : (n count : ℕ) (ps : List TypedProcedure) (certs : List GoalCert) (marks : List Bool) (k : ℕ) (qs : List TypedProcedure) (vs : List Verdict) (answers : List Answer) → length marks ≡ count → Each (StandsWithin n) qs → AreOwn ps certs k qs vs → AreMarkedAnswers ps marks k vs answers → Each (IsAnswerPlaced n count) answers
+-- A ranking's verdict names no place.
+loop_placed : (n : ℕ) (m : Option Miss) (v : RankVerdict) → IsRankingAnswer m v → IsRankPlaced n v
+loop_placed n m rank.Ranked h = tt
+loop_placed n m (rank.NotRanked s) h = tt
+loop_placed n m (rank.Unknown c) h = absurd h
+loop_placed n m (rank.Unchecked miss) h = tt
+
+loops_placed : (n : ℕ) (ns : List ℕ) (cs : List CheckedGoal) (loops : List LoopAnswer) → AreRankingsAnswered ns cs loops → Each (IsLoopPlaced n) loops
+loops_placed n ns cs [] h = tt
+loops_placed n [] [] (l ∷ loops) h = absurd h
+loops_placed n [] (c ∷ cs) (l ∷ loops) h = absurd h
+loops_placed n (k ∷ ns) [] (l ∷ loops) h = absurd h
+loops_placed n (k ∷ ns) (c ∷ cs) (l ∷ loops) h = (loop_placed n c.miss l.rank h.1.0, loops_placed n ns cs loops h.1.1)
+
+pub placed_answers : (n count : ℕ) (ps : List TypedProcedure) (certs : List GoalCert) (marks : List Bool) (k : ℕ) (qs : List TypedProcedure) (vs : List Verdict) (answers : List Answer) → length marks ≡ count → Each (StandsWithin n) qs → AreOwn ps certs k qs vs → AreMarkedAnswers ps certs marks k vs answers → Each (IsAnswerPlaced n count) answers
 placed_answers n count ps certs marks k [] [] [] e s o m = tt
 placed_answers n count ps certs marks k [] [] (a ∷ answers) e s o m = absurd m
 placed_answers n count ps certs marks k [] (v ∷ vs) answers e s o m = absurd o
@@ -44,7 +64,7 @@ placed_answers n count ps certs marks k (q ∷ qs) (v ∷ vs) [] e s o m = absur
 placed_answers n count ps certs marks k (q ∷ qs) (v ∷ vs) (a ∷ answers) e s o m = (
   record {
     verdict = marked_placed n count ps marks k v a.verdict (is_verified v) e (own_placed n count q o.0.checked v s.0 o.0.verdict) m.0.verdict;
-    loops = subst (λ l. Each (IsLoopPlaced n) l) (sym m.0.loops) tt;
+    loops = loops_placed n (ranked_loops (procedure_at ps k)) m.0.loops.checked a.loops.items m.0.loops.answered;
   },
   placed_answers n count ps certs marks (suc k) qs vs answers e s.1 o.1 m.1,
 )

@@ -1,5 +1,5 @@
 -- The marks tell which procedures are open, and the first mark is the first open procedure that is reached.
-use Rattle.std.proofs.Common.{◌≡◌, ◌<◌, ◌≤◌, ◌+◌, ◌==◌, ◌||◌, ℕ, refl, sym, ap, ◌∙◌, subst, append_assoc, arith, Bool, true, false, List, [], ◌∷◌, ◌++◌, map, drop, length, get_or, ⊎_elim}
+use Rattle.std.proofs.Common.{◌≡◌, ◌<◌, ◌≤◌, ◌+◌, ◌==◌, ◌||◌, ℕ, refl, sym, ap, ◌∙◌, subst, append_assoc, arith, Bool, true, false, List, [], ◌∷◌, ◌++◌, drop, length, get_or, ⊎_elim}
 use Rattle.std.proofs.Math.Numerals.{add-one}
 use Rattle.std.proofs.Math.Seq.{drop-cons}
 use Rattle.std.proofs.lemmas.Bool.{cases_eq, eq-eqb, ne_eqb, or_cases, false≢true}
@@ -15,8 +15,9 @@ use Rattle.verify_core.specs.Answered.{IsClosed, IsFirstOpen}
 use Rattle.verify_core.specs.Decided.{DecidedGoal, IsOpen, all_proved, decided_at}
 use Rattle.verify_core.specs.declared.outcomes.Outcome.{Outcome}
 use Rattle.verify_core.specs.declared.outcomes.Outcome.TheVariants.{Proved, Falsified, Unknown}
+use Rattle.verify_core.specs.declared.outcomes.ProcedureOutcome.{ProcedureOutcome}
 use Rattle.verify_core.specs.internal.Marks.{AreMarks, IsMark, first_marked, is_open, marks}
-use Rattle.verify_core.specs.internal.Outcomes.{outcome}
+use Rattle.verify_core.specs.internal.Outcomes.{AreOutcomes, outcome}
 use Rattle.verify_core.proofs.GoalOutcomes.{describes, is_all}
 use Rattle.verify_core.proofs.Rows.{drop_next, drop_none}
 
@@ -31,27 +32,29 @@ is_mark ps table q Proved e = proved_mark ps table q (why_no_program (procedure_
 is_mark ps table q (Falsified g s) e = inr ((describes (decided_at table q)).all ∙ ap is_all e)
 is_mark ps table q (Unknown g c) e = inr ((describes (decided_at table q)).all ∙ ap is_all e)
 
-mark_at : (qs : List TypedProcedure) (table : List (List DecidedGoal)) (q : ℕ) → q < length qs → length table ≡ length qs → get_or (marks qs (map outcome table)) q false ≡ is_open (procedure_at qs q) (outcome (decided_at table q))
-mark_at [] table q l e = absurd (omega arith)
-mark_at (p ∷ qs) [] q l e = absurd (omega (arith, e))
-mark_at (p ∷ qs) (r ∷ rs) zero l e = refl
-mark_at (p ∷ qs) (r ∷ rs) (suc q) l e = mark_at qs rs q (omega arith) (omega (arith, e))
+mark_at : (qs : List TypedProcedure) (table ranks : List (List DecidedGoal)) (os : List ProcedureOutcome) (q : ℕ) → q < length qs → AreOutcomes qs table ranks os → get_or (marks qs os) q false ≡ is_open (procedure_at qs q) (outcome (decided_at table q))
+mark_at [] table ranks os q l h = absurd (omega arith)
+mark_at (p ∷ qs) [] ranks os q l h = absurd h
+mark_at (p ∷ qs) (r ∷ table) [] os q l h = absurd h
+mark_at (p ∷ qs) (r ∷ table) (t ∷ ranks) [] q l h = absurd h
+mark_at (p ∷ qs) (r ∷ table) (t ∷ ranks) (o ∷ os) zero l h = ap (is_open p) h.0.bound
+mark_at (p ∷ qs) (r ∷ table) (t ∷ ranks) (o ∷ os) (suc q) l h = mark_at qs table ranks os q (omega arith) h.1
 
-pub are_marks : (ps : List TypedProcedure) (table : List (List DecidedGoal)) (ms : List Bool) → length table ≡ length ps → ms ≡ marks ps (map outcome table) → AreMarks ps table ms
-are_marks ps table ms e f q l = subst (IsMark ps table q) (sym (ap (λ m. get_or m q false) f ∙ mark_at ps table q l e)) (is_mark ps table q (outcome (decided_at table q)) refl)
+pub are_marks : (ps : List TypedProcedure) (table ranks : List (List DecidedGoal)) (os : List ProcedureOutcome) (ms : List Bool) → AreOutcomes ps table ranks os → ms ≡ marks ps os → AreMarks ps table ms
+are_marks ps table ranks os ms h f q l = subst (IsMark ps table q) (sym (ap (λ m. get_or m q false) f ∙ mark_at ps table ranks os q l h)) (is_mark ps table q (outcome (decided_at table q)) refl)
 
-pub marks_length : (ps : List TypedProcedure) (os : List Outcome) → length os ≡ length ps → length (marks ps os) ≡ length ps
+pub marks_length : (ps : List TypedProcedure) (os : List ProcedureOutcome) → length os ≡ length ps → length (marks ps os) ≡ length ps
 marks_length [] os e = refl
 marks_length (p ∷ ps) [] e = e
 marks_length (p ∷ ps) (o ∷ os) e = ap suc (marks_length ps os (omega (arith, e)))
 
-pub no_marks : (ps : List TypedProcedure) (os : List Outcome) (ms : List Bool) → ms ≡ [] → ms ++ marks (drop 0 ps) (drop 0 os) ≡ marks ps os
+pub no_marks : (ps : List TypedProcedure) (os : List ProcedureOutcome) (ms : List Bool) → ms ≡ [] → ms ++ marks (drop 0 ps) (drop 0 os) ≡ marks ps os
 no_marks ps os ms e = ap (λ l. l ++ marks (drop 0 ps) (drop 0 os)) e ∙ ap (λ l. marks l (drop 0 os)) (drop_none ps) ∙ ap (λ l. marks ps l) (drop_none os)
 
-pub next_mark : (ps : List TypedProcedure) (os : List Outcome) (i : ℕ) (x : Outcome) (b : Bool) (ms ns all : List Bool) → i < length ps → i < length os → x ≡ get_or os i x → b ≡ is_open (procedure_at ps i) x → ns ≡ ms ++ (b ∷ []) → ms ++ marks (drop i ps) (drop i os) ≡ all → ns ++ marks (drop (i + 1) ps) (drop (i + 1) os) ≡ all
+pub next_mark : (ps : List TypedProcedure) (os : List ProcedureOutcome) (i : ℕ) (x : ProcedureOutcome) (b : Bool) (ms ns all : List Bool) → i < length ps → i < length os → x ≡ get_or os i x → b ≡ is_open (procedure_at ps i) x.bound → ns ≡ ms ++ (b ∷ []) → ms ++ marks (drop i ps) (drop i os) ≡ all → ns ++ marks (drop (i + 1) ps) (drop (i + 1) os) ≡ all
 next_mark ps os i x b ms ns all l k e f g h =
     let there : drop i os ≡ x ∷ drop (suc i) os = drop-cons os i x k ∙ ap (λ o. o ∷ drop (suc i) os) (sym e) in
-    let first : marks (drop i ps) (drop i os) ≡ is_open (procedure_at ps i) x ∷ marks (drop (suc i) ps) (drop (suc i) os) = ap (λ l. marks l (drop i os)) (drop_next ps i l) ∙ ap (λ l. marks (procedure_at ps i ∷ drop (suc i) ps) l) there in
+    let first : marks (drop i ps) (drop i os) ≡ is_open (procedure_at ps i) x.bound ∷ marks (drop (suc i) ps) (drop (suc i) os) = ap (λ l. marks l (drop i os)) (drop_next ps i l) ∙ ap (λ l. marks (procedure_at ps i ∷ drop (suc i) ps) l) there in
     ap (λ n. ns ++ marks (drop n ps) (drop n os)) (add-one i) ∙ ap (λ l. l ++ marks (drop (suc i) ps) (drop (suc i) os)) g ∙ append_assoc ms (b ∷ []) (marks (drop (suc i) ps) (drop (suc i) os)) ∙ ap (λ a. ms ++ (a ∷ marks (drop (suc i) ps) (drop (suc i) os))) f ∙ ap (λ l. ms ++ l) (sym first) ∙ h
 
 -- ---- The first mark

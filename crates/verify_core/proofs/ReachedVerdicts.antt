@@ -2,6 +2,7 @@
 use Rattle.std.proofs.Common.{◌≡◌, ℕ, ◌+◌, ◌<◌, Bool, true, false, subst, arith, List, [], ◌∷◌, ◌++◌, length}
 use Rattle.std.specs.Prelude.{Some, None}
 use Prim.Native.Nat.{suc}
+use Rattle.farkas_check.specs.declared.trees.GoalCert.{GoalCert}
 use Rattle.heyvl_types.specs.Acts.{TypedProcedure}
 use Rattle.heyvl_types.specs.Program.{Reaches}
 use Rattle.heyvl_types.specs.Visible.{among}
@@ -33,11 +34,11 @@ module _ (ps : List TypedProcedure) (p : ℕ) (marks : List Bool) (found : List 
 
 -- ---- Answers
 
-pub answers_more : (ps : List TypedProcedure) (marks : List Bool) (k : ℕ) (vs : List Verdict) (more : List Answer) (n : ℕ) (v : Verdict) (a : Answer) → AreMarkedAnswers ps marks k vs more → n ≡ k + length vs → IsMarkedAnswer ps marks n v a → AreMarkedAnswers ps marks k (vs ++ v ∷ []) (more ++ a ∷ [])
-answers_more ps marks k [] [] n v a h e i = let same : n ≡ k = omega (arith, e) in (subst (λ m. IsMarkedAnswer ps marks m v a) same i, tt)
-answers_more ps marks k [] (b ∷ more) n v a h e i = absurd h
-answers_more ps marks k (w ∷ vs) [] n v a h e i = absurd h
-answers_more ps marks k (w ∷ vs) (b ∷ more) n v a h e i = (h.0, answers_more ps marks (suc k) vs more n v a h.1 (omega (arith, e)) i)
+pub answers_more : (ps : List TypedProcedure) (certs : List GoalCert) (marks : List Bool) (k : ℕ) (vs : List Verdict) (more : List Answer) (n : ℕ) (v : Verdict) (a : Answer) → AreMarkedAnswers ps certs marks k vs more → n ≡ k + length vs → IsMarkedAnswer ps certs marks n v a → AreMarkedAnswers ps certs marks k (vs ++ v ∷ []) (more ++ a ∷ [])
+answers_more ps certs marks k [] [] n v a h e i = let same : n ≡ k = omega (arith, e) in (subst (λ m. IsMarkedAnswer ps certs marks m v a) same i, tt)
+answers_more ps certs marks k [] (b ∷ more) n v a h e i = absurd h
+answers_more ps certs marks k (w ∷ vs) [] n v a h e i = absurd h
+answers_more ps certs marks k (w ∷ vs) (b ∷ more) n v a h e i = (h.0, answers_more ps certs marks (suc k) vs more n v a h.1 (omega (arith, e)) i)
 
 pub marked_verdict : (ps : List TypedProcedure) (marks : List Bool) (p : ℕ) (own v : Verdict) → is_verified own ≡ true → IsReachingVerdict ps marks p v → IsMarkedVerdict ps marks p own v
 marked_verdict ps marks p own v e h = of_mark (is_verified own) e

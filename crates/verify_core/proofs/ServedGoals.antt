@@ -1,7 +1,8 @@
 -- The certificates of decided goals: their order, and the goals that they serve.
-use Rattle.std.proofs.Common.{◌≡◌, ℕ, ◌<◌, Bool, true, false, refl, ap, sym, subst, ◌∙◌, arith, List, [], ◌∷◌, ◌++◌, length, map, slice_index_or, Option, None, Some, IsTrue}
+use Rattle.std.proofs.Common.{◌≡◌, ℕ, ◌<◌, ◌≤◌, Bool, true, false, refl, ap, sym, subst, ◌∙◌, append_assoc, append-nil, arith, List, [], ◌∷◌, ◌++◌, length, map, slice_index_or, Option, None, Some, IsTrue, if◌then◌else◌}
 use Prim.Native.Nat.{zero, suc}
 use Rattle.std.specs.List.{Contains}
+use Rattle.std.specs.Option.{is_some}
 use Rattle.std.proofs.lemmas.Bool.Decides.{nat_tests}
 use Rattle.cert_text.specs.Certificates.{IsGrowingAfter, certificates_of, may_follow, precedes}
 use Rattle.cert_text.specs.declared.goal_names.GoalName.{GoalName}
@@ -10,10 +11,10 @@ use Rattle.farkas_check.specs.declared.trees.GoalCert.{GoalCert}
 use Rattle.farkas_check.specs.declared.trees.Tree.{Tree}
 use Rattle.heylo_formula.specs.Goals.{goal_of}
 use Rattle.heylo_formula.specs.declared.goals.GoalId.{GoalId}
-use Rattle.heylo_formula.specs.declared.goals.GoalId.TheVariants.{Main, Pre, Post, Invariant}
+use Rattle.heylo_formula.specs.declared.goals.GoalId.TheVariants.{Main, Pre, Post, Invariant, Ranking}
 use Rattle.heylo_formula.specs.declared.goals.Made.{Made}
 use Rattle.heylo_formula.specs.declared.goals.Made.TheVariants as made
-use Rattle.heyvl_types.specs.Acts.{Acts, TypedProcedure, acts_in}
+use Rattle.heyvl_types.specs.Acts.{Act, Acts, TypedProcedure, acts_in}
 use Rattle.heyvl_types.specs.Places.{in_order}
 use Rattle.heyvl_types.specs.Rules.{Each, MeetsRules, counted, loop_numbers}
 use Rattle.loop_encodings.specs.BoundGoals.{bound_goals}
@@ -23,7 +24,9 @@ use Rattle.region_split.specs.declared.decisions.Decision.TheVariants.{Proved, F
 use Rattle.verdict_report.specs.declared.answers.NamedGoal.{NamedGoal}
 use Rattle.verify_core.specs.Checked.{Certifies}
 use Rattle.verify_core.specs.CheckedProofs.{IsServed, ProofsAreAccepted}
-use Rattle.verify_core.specs.Decided.{AreDecided, DecidedGoal, IsDecisionOf, IsTable, all_certificates, certificate, certificates}
+use Rattle.verify_core.specs.Decided.{AreDecided, DecidedGoal, IsDecisionOf, IsTable, certificate, certificates}
+use Rattle.verify_core.specs.DecidedRankings.{AreRankingsDecided, IsRankTable, certified_in_file}
+use Rattle.verify_core.specs.Rankings.{ranked_in, ranked_loops}
 use Rattle.verify_core.proofs.CertOrder.{precedes_onward}
 
 -- ---- The order
@@ -63,11 +66,35 @@ one_goal k id g (Proved None) cs rest o ids p i c b f = f o (skipped k o (goal_n
 one_goal k id g (Falsified s) cs rest o ids p i c b f = f o (skipped k o (goal_name k id) ids c.0 c.1) b
 one_goal k id g (Unknown u) cs rest o ids p i c b f = f o (skipped k o (goal_name k id) ids c.0 c.1) b
 
-of_procedure : (ps : List TypedProcedure) (k : ℕ) (ids : List GoalId) (ds : List DecidedGoal) (rest : List GoalCert) (o : Option GoalName) → AreDecided ps k ids ds → IsChain k o ids → IsBelow (suc k) o → ((l : Option GoalName) → IsBelow (suc k) l → IsGrowingAfter l (certificates_of rest)) → IsGrowingAfter o (certificates_of (certificates ds ++ rest))
-of_procedure ps k [] [] rest o h c b f = f o b
-of_procedure ps k [] (d ∷ ds) rest o h c b f = absurd h
-of_procedure ps k (id ∷ ids) [] rest o h c b f = absurd h
-of_procedure ps k (id ∷ ids) (d ∷ ds) rest o h c b f = one_goal k id d.goal d.decision (certificates ds) rest o ids h.0.goal.proc h.0.goal.id_of c b (λ l x y. of_procedure ps k ids ds rest l h.1 x y f)
+-- Goals of the procedure with these ids.
+abbrev AreNamed : ℕ → List GoalId → List DecidedGoal → Type 0
+AreNamed k [] [] = Unit {0}
+AreNamed k [] (d ∷ ds) = ⊥
+AreNamed k (id ∷ ids) [] = ⊥
+AreNamed k (id ∷ ids) (d ∷ ds) = ((d.goal.proc ≡ k) × (d.goal.id ≡ id)) × AreNamed k ids ds
+
+bounds_named : (ps : List TypedProcedure) (k : ℕ) (ids : List GoalId) (ds : List DecidedGoal) → AreDecided ps k ids ds → AreNamed k ids ds
+bounds_named ps k [] [] h = tt
+bounds_named ps k [] (d ∷ ds) h = absurd h
+bounds_named ps k (id ∷ ids) [] h = absurd h
+bounds_named ps k (id ∷ ids) (d ∷ ds) h = ((h.0.goal.proc, h.0.goal.id_of), bounds_named ps k ids ds h.1)
+
+rankings_named : (ps : List TypedProcedure) (k : ℕ) (ns : List ℕ) (ds : List DecidedGoal) → AreRankingsDecided ps k ns ds → AreNamed k (map Ranking ns) ds
+rankings_named ps k [] [] h = tt
+rankings_named ps k [] (d ∷ ds) h = absurd h
+rankings_named ps k (n ∷ ns) [] h = absurd h
+rankings_named ps k (n ∷ ns) (d ∷ ds) h = ((h.0.goal.proc, h.0.goal.id_of), rankings_named ps k ns ds h.1)
+
+-- Some goals, and those that come later.
+of_goals : (k : ℕ) (ids later : List GoalId) (ds : List DecidedGoal) (rest : List GoalCert) (o : Option GoalName) → AreNamed k ids ds → IsChain k o (ids ++ later) → IsBelow (suc k) o → ((l : Option GoalName) → IsChain k l later → IsBelow (suc k) l → IsGrowingAfter l (certificates_of rest)) → IsGrowingAfter o (certificates_of (certificates ds ++ rest))
+of_goals k [] later [] rest o h c b f = f o c b
+of_goals k [] later (d ∷ ds) rest o h c b f = absurd h
+of_goals k (id ∷ ids) later [] rest o h c b f = absurd h
+of_goals k (id ∷ ids) later (d ∷ ds) rest o h c b f = one_goal k id d.goal d.decision (certificates ds) rest o (ids ++ later) h.0.0 h.0.1 c b (λ l x y. of_goals k ids later ds rest l h.1 x y f)
+
+-- The goals of its bound, and those of its rankings.
+of_procedure : (k : ℕ) (ids later : List GoalId) (ds rs : List DecidedGoal) (rest : List GoalCert) (o : Option GoalName) → AreNamed k ids ds → AreNamed k later rs → IsChain k o (ids ++ later) → IsBelow (suc k) o → ((l : Option GoalName) → IsBelow (suc k) l → IsGrowingAfter l (certificates_of rest)) → IsGrowingAfter o (certificates_of ((certificates ds ++ certificates rs) ++ rest))
+of_procedure k ids later ds rs rest o h r c b f = subst (λ cs. IsGrowingAfter o (certificates_of cs)) (sym (append_assoc (certificates ds) (certificates rs) rest)) (of_goals k ids later ds (certificates rs ++ rest) o h c b (λ l x y. of_goals k later [] rs rest l r (subst (λ is. IsChain k l is) (sym (append-nil later)) x) y (λ m z w. f m w)))
 
 -- ---- The goals of a procedure grow
 
@@ -100,11 +127,85 @@ chain ps k o q h b = of_body q.body refl
     of_body None e = subst (λ x. IsChain k o (bound_goals (record q { body = x }))) (sym e) tt
     of_body (Some acts) e = subst (λ x. IsChain k o (bound_goals (record q { body = x }))) (sym e) (of_weak acts q.weak (subst (λ x. loop_numbers (in_order (acts_in x)) ≡ counted 1 q.loops) e h.numbered))
 
-of_file : (ps : List TypedProcedure) (k : ℕ) (qs : List TypedProcedure) (table : List (List DecidedGoal)) (o : Option GoalName) → Each (MeetsRules ps) qs → IsTable ps k qs table → IsBelow k o → IsGrowingAfter o (certificates_of (all_certificates table))
-of_file ps k [] [] o r h b = tt
-of_file ps k [] (ds ∷ table) o r h b = absurd h
-of_file ps k (q ∷ qs) [] o r h b = absurd h
-of_file ps k (q ∷ qs) (ds ∷ table) o r h b = of_procedure ps k (bound_goals q) ds (all_certificates table) o h.0 (chain ps k o q r.0 b) (below_next k o b) (λ l x. of_file ps (suc k) qs table l r.1 h.1 x)
+-- ---- Rankings behind them
+
+-- Any ranking may come after this goal.
+abbrev IsBeforeRankings : ℕ → GoalId → Type 0
+IsBeforeRankings k id = (n : ℕ) → IsTrue (may_follow (Some (goal_name k id)) (goal_name k (Ranking n)))
+
+main_before : (k : ℕ) → IsBeforeRankings k Main
+main_before k n = grind (arith, nat_tests)
+
+pre_before : (k : ℕ) → IsBeforeRankings k Pre
+pre_before k n = grind (arith, nat_tests)
+
+post_before : (k : ℕ) → IsBeforeRankings k Post
+post_before k n = grind (arith, nat_tests)
+
+invariant_before : (k m : ℕ) → IsBeforeRankings k (Invariant m)
+invariant_before k m n = grind (arith, nat_tests)
+
+invariants_before : (k : ℕ) (ns : List ℕ) → Each (IsBeforeRankings k) (map Invariant ns)
+invariants_before k [] = tt
+invariants_before k (m ∷ ns) = (invariant_before k m, invariants_before k ns)
+
+bounds_before : (k : ℕ) (q : TypedProcedure) → Each (IsBeforeRankings k) (bound_goals q)
+bounds_before k q = of_body q.body refl
+  where
+    of_weak : (acts : Acts) (w : Bool) → Each (IsBeforeRankings k) (bound_goals (record q { body = Some acts; weak = w }))
+    of_weak acts true = (main_before k, (pre_before k, (post_before k, invariants_before k (loop_numbers (in_order acts)))))
+    of_weak acts false = (main_before k, tt)
+
+    of_body : (body : Option Acts) → q.body ≡ body → Each (IsBeforeRankings k) (bound_goals q)
+    of_body None e = subst (λ x. Each (IsBeforeRankings k) (bound_goals (record q { body = x }))) (sym e) tt
+    of_body (Some acts) e = subst (λ x. Each (IsBeforeRankings k) (bound_goals (record q { body = x }))) (sym e) (of_weak acts q.weak)
+
+later_ranking : (k m n : ℕ) → m < n → IsTrue (may_follow (Some (goal_name k (Ranking m))) (goal_name k (Ranking n)))
+later_ranking k m n l = grind (arith, nat_tests)
+
+one_loop : (k : ℕ) (o : Option GoalName) (n : ℕ) (ranked : Bool) (ns : List ℕ) → IsTrue (may_follow o (goal_name k (Ranking n))) → IsChain k (Some (goal_name k (Ranking n))) (map Ranking ns) → IsChain k o (map Ranking ns) → IsChain k o (map Ranking (if ranked then n ∷ ns else ns))
+one_loop k o n true ns a b c = (a, b)
+one_loop k o n false ns a b c = c
+
+first_counted : (x from : ℕ) (xs : List ℕ) (n : ℕ) → x ∷ xs ≡ from ∷ counted (suc from) n → x ≡ from
+first_counted x from xs n e = cc
+
+others_counted : (x from : ℕ) (xs : List ℕ) (n : ℕ) → x ∷ xs ≡ from ∷ counted (suc from) n → xs ≡ counted (suc from) n
+others_counted x from xs n e = cc
+
+-- The rankings of acts whose loops are numbered from this number on, which may come after the latest goal.
+rankings : (k : ℕ) (o : Option GoalName) (acts : List Act) (from n : ℕ) → loop_numbers acts ≡ counted from n → ((m : ℕ) → from ≤ m → IsTrue (may_follow o (goal_name k (Ranking m)))) → IsChain k o (map Ranking (ranked_in acts))
+rankings k o [] from n e f = tt
+rankings k o (Act.loop h b ∷ rest) from zero e f = absurd (cc)
+rankings k o (Act.loop h b ∷ rest) from (suc n) e f =
+    let first : h.number ≡ from = first_counted h.number from (loop_numbers rest) n e in
+    let others : loop_numbers rest ≡ counted (suc from) n = others_counted h.number from (loop_numbers rest) n e in
+    one_loop k o h.number (is_some h.rank) (ranked_in rest) (f h.number (omega (arith, first))) (rankings k (Some (goal_name k (Ranking h.number))) rest (suc from) n others (λ m l. later_ranking k h.number m (omega (arith, first, l)))) (rankings k o rest (suc from) n others (λ m l. f m (omega (arith, l))))
+rankings k o (Act.set x t span ∷ rest) from n e f = rankings k o rest from n e f
+rankings k o (Act.draw x qs span ∷ rest) from n e f = rankings k o rest from n e f
+rankings k o (Act.any x up ty span ∷ rest) from n e f = rankings k o rest from n e f
+rankings k o (Act.reward r span ∷ rest) from n e f = rankings k o rest from n e f
+rankings k o (Act.ifs arms x span ∷ rest) from n e f = rankings k o rest from n e f
+rankings k o (Act.pick up a b span ∷ rest) from n e f = rankings k o rest from n e f
+rankings k o (Act.check kind r span ∷ rest) from n e f = rankings k o rest from n e f
+rankings k o (Act.validate co span ∷ rest) from n e f = rankings k o rest from n e f
+rankings k o (Act.call xs q es span ∷ rest) from n e f = rankings k o rest from n e f
+
+rankings_behind : (k : ℕ) (o : Option GoalName) (ids : List GoalId) (acts : List Act) (n : ℕ) → loop_numbers acts ≡ counted 1 n → IsChain k o ids → Each (IsBeforeRankings k) ids → ((m : ℕ) → IsTrue (may_follow o (goal_name k (Ranking m)))) → IsChain k o (ids ++ map Ranking (ranked_in acts))
+rankings_behind k o [] acts n e c r f = rankings k o acts 1 n e (λ m l. f m)
+rankings_behind k o (id ∷ ids) acts n e c r f = (c.0, rankings_behind k (Some (goal_name k id)) ids acts n e c.1 r.1 r.0)
+
+whole_chain : (ps : List TypedProcedure) (k : ℕ) (o : Option GoalName) (q : TypedProcedure) → MeetsRules ps q → IsBelow k o → IsChain k o (bound_goals q ++ map Ranking (ranked_loops q))
+whole_chain ps k o q h b = rankings_behind k o (bound_goals q) (in_order (acts_in q.body)) q.loops h.numbered (chain ps k o q h b) (bounds_before k q) (λ n. follows_later k o (Ranking n) b)
+
+-- ---- The file
+
+of_file : (ps : List TypedProcedure) (k : ℕ) (qs : List TypedProcedure) (table ranks : List (List DecidedGoal)) (o : Option GoalName) → Each (MeetsRules ps) qs → IsTable ps k qs table → IsRankTable ps k qs ranks → IsBelow k o → IsGrowingAfter o (certificates_of (certified_in_file table ranks))
+of_file ps k [] [] ranks o r h t b = tt
+of_file ps k [] (ds ∷ table) ranks o r h t b = absurd h
+of_file ps k (q ∷ qs) [] ranks o r h t b = absurd h
+of_file ps k (q ∷ qs) (ds ∷ table) [] o r h t b = absurd t
+of_file ps k (q ∷ qs) (ds ∷ table) (rs ∷ ranks) o r h t b = of_procedure k (bound_goals q) (map Ranking (ranked_loops q)) ds rs (certified_in_file table ranks) o (bounds_named ps k (bound_goals q) ds h.0) (rankings_named ps k (ranked_loops q) rs t.0) (whole_chain ps k o q r.0 b) (below_next k o b) (λ l x. of_file ps (suc k) qs table ranks l r.1 h.1 t.1 x)
 
 -- ---- The goals that they serve
 
@@ -143,20 +244,41 @@ one_served law certs g d h f t e = record {
     cert : GoalCert
     cert = record { proc = g.proc; id = g.id; tree = t }
 
-all_served : TreesCertify → (ps : List TypedProcedure) (certs : List GoalCert) (k : ℕ) (ids : List GoalId) (ds : List DecidedGoal) → AreDecided ps k ids ds → ((c : GoalCert) → Contains (certificates ds) c → Contains certs c) → Each (IsServed certs) ds
-all_served law ps certs k [] [] h f = tt
-all_served law ps certs k [] (d ∷ ds) h f = absurd h
-all_served law ps certs k (id ∷ ids) [] h f = absurd h
-all_served law ps certs k (id ∷ ids) (d ∷ ds) h f = (one_served law certs d.goal d.decision h.0.decision (λ c x. f c (contains_left (certificate d) (certificates ds) c x)), all_served law ps certs k ids ds h.1 (λ c x. f c (contains_right (certificate d) (certificates ds) c x)))
+abbrev HasDecision : DecidedGoal → Type 0
+HasDecision d = IsDecisionOf d.goal.made d.decision
 
-table_served : TreesCertify → (ps : List TypedProcedure) (certs : List GoalCert) (k : ℕ) (qs : List TypedProcedure) (table : List (List DecidedGoal)) → IsTable ps k qs table → ((c : GoalCert) → Contains (all_certificates table) c → Contains certs c) → Each (Each (IsServed certs)) table
-table_served law ps certs k [] [] h f = tt
-table_served law ps certs k [] (ds ∷ table) h f = absurd h
-table_served law ps certs k (q ∷ qs) [] h f = absurd h
-table_served law ps certs k (q ∷ qs) (ds ∷ table) h f = (all_served law ps certs k (bound_goals q) ds h.0 (λ c x. f c (contains_left (certificates ds) (all_certificates table) c x)), table_served law ps certs (suc k) qs table h.1 (λ c x. f c (contains_right (certificates ds) (all_certificates table) c x)))
+bounds_decided : (ps : List TypedProcedure) (k : ℕ) (ids : List GoalId) (ds : List DecidedGoal) → AreDecided ps k ids ds → Each HasDecision ds
+bounds_decided ps k [] [] h = tt
+bounds_decided ps k [] (d ∷ ds) h = absurd h
+bounds_decided ps k (id ∷ ids) [] h = absurd h
+bounds_decided ps k (id ∷ ids) (d ∷ ds) h = (h.0.decision, bounds_decided ps k ids ds h.1)
+
+rankings_decided : (ps : List TypedProcedure) (k : ℕ) (ns : List ℕ) (ds : List DecidedGoal) → AreRankingsDecided ps k ns ds → Each HasDecision ds
+rankings_decided ps k [] [] h = tt
+rankings_decided ps k [] (d ∷ ds) h = absurd h
+rankings_decided ps k (n ∷ ns) [] h = absurd h
+rankings_decided ps k (n ∷ ns) (d ∷ ds) h = (h.0.decision, rankings_decided ps k ns ds h.1)
+
+all_served : TreesCertify → (certs : List GoalCert) (ds : List DecidedGoal) → Each HasDecision ds → ((c : GoalCert) → Contains (certificates ds) c → Contains certs c) → Each (IsServed certs) ds
+all_served law certs [] h f = tt
+all_served law certs (d ∷ ds) h f = (one_served law certs d.goal d.decision h.0 (λ c x. f c (contains_left (certificate d) (certificates ds) c x)), all_served law certs ds h.1 (λ c x. f c (contains_right (certificate d) (certificates ds) c x)))
+
+-- The goals of bounds, and those of rankings.
+tables_served : TreesCertify → (ps : List TypedProcedure) (certs : List GoalCert) (k : ℕ) (qs : List TypedProcedure) (table ranks : List (List DecidedGoal)) → IsTable ps k qs table → IsRankTable ps k qs ranks → ((c : GoalCert) → Contains (certified_in_file table ranks) c → Contains certs c) → Each (Each (IsServed certs)) table × Each (Each (IsServed certs)) ranks
+tables_served law ps certs k [] [] [] h t f = (tt, tt)
+tables_served law ps certs k [] [] (rs ∷ ranks) h t f = absurd t
+tables_served law ps certs k [] (ds ∷ table) ranks h t f = absurd h
+tables_served law ps certs k (q ∷ qs) [] ranks h t f = absurd h
+tables_served law ps certs k (q ∷ qs) (ds ∷ table) [] h t f = absurd t
+tables_served law ps certs k (q ∷ qs) (ds ∷ table) (rs ∷ ranks) h t f =
+    let own = certificates ds ++ certificates rs in
+    let rest = certified_in_file table ranks in
+    let others = tables_served law ps certs (suc k) qs table ranks h.1 t.1 (λ c x. f c (contains_right own rest c x)) in (
+      (all_served law certs ds (bounds_decided ps k (bound_goals q) ds h.0) (λ c x. f c (contains_left own rest c (contains_left (certificates ds) (certificates rs) c x))), others.0),
+      (all_served law certs rs (rankings_decided ps k (ranked_loops q) rs t.0) (λ c x. f c (contains_left own rest c (contains_right (certificates ds) (certificates rs) c x))), others.1),
+    )
 
 pub proofs_are_accepted : TreesCertify → ProofsAreAccepted
-proofs_are_accepted law ps table rules h = record {
-  order = of_file ps 0 ps table None rules h tt;
-  accepted = table_served law ps (all_certificates table) 0 ps table h (λ c x. x);
-}
+proofs_are_accepted law ps table ranks rules h t =
+    let served = tables_served law ps (certified_in_file table ranks) 0 ps table ranks h t (λ c x. x) in
+    record { order = of_file ps 0 ps table ranks None rules h t tt; accepted = served.0; ranked = served.1 }

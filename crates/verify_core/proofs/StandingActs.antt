@@ -116,7 +116,7 @@ mutual
       (h, each_both (ActStands n) (in_order (encoded ps p m a) ++ in_order (encoded ps p (m + length (fresh ps a)) b)) [] one tt)
   encoded_stands_in n ps p s m (Act.check kind f span) h k = (h, tt)
   encoded_stands_in n ps p s m (Act.validate co span) h k = (h, tt)
-  encoded_stands_in n ps p s m (Act.loop h b) l k = loop_stands n p.co (types_of p) h (modified h.scope b) (encoded ps p m b) l.0 l.1.0 l.1.1 (encoded_stands n ps p s m b k)
+  encoded_stands_in n ps p s m (Act.loop h b) l k = loop_stands n p.co (types_of p) h (modified h.scope b) (encoded ps p m b) l.0 l.1.0 l.1.1.0 (encoded_stands n ps p s m b k)
   encoded_stands_in n ps p s m (Act.call xs q es span) h k = call_stands n p.co span m xs (procedure_at ps q) es h.0 (stands_at n ps q s) h.1
 
   encoded_stands_arms : (n : ℕ) (ps : List TypedProcedure) (p : TypedProcedure) → Each (StandsWithin n) ps → (m : ℕ) (arms : Arms) → Each (ActStands n) (inside_arms arms) → Each (ActStands n) (inside_arms (encoded_arms ps p m arms))

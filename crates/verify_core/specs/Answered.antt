@@ -9,7 +9,9 @@ use Rattle.verdict_report.specs.declared.answers.Answer.{Answer}
 use Rattle.verdict_report.specs.declared.answers.NamedGoal.{NamedGoal}
 use Rattle.verdict_report.specs.declared.answers.Verdict.{Verdict}
 use Rattle.verdict_report.specs.declared.answers.Verdict.TheVariants as verdict
-use Rattle.verify_core.specs.Decided.{DecidedGoal, IsTable, IsOpen, decided_at, first_falsified, first_unknown, all_proved, all_told, all_certificates}
+use Rattle.verify_core.specs.Decided.{DecidedGoal, IsTable, IsOpen, decided_at, first_falsified, first_unknown, all_proved}
+use Rattle.verify_core.specs.DecidedRankings.{AreRanked, IsRankTable, certified_in_file, told_in_file}
+use Rattle.verify_core.specs.Rankings.{ranked_loops}
 
 -- The procedure is a program, and its goals are proved.
 pub record IsClosed (ps : List TypedProcedure) (table : List (List DecidedGoal)) (p : ℕ) : Type 0 where
@@ -34,24 +36,26 @@ IsVerdict ps table p (verdict.Conditional q) = IsClosed ps table p × IsFirstOpe
 IsVerdict ps table p verdict.Verified = IsClosed ps table p × ((q : ℕ) → Reaches ps p q → IsClosed ps table q)
 IsVerdict ps table p (verdict.Unchecked id miss) = ⊥
 
--- The answer on the procedure with the number p. Rankings aren't answered.
-pub record IsAnswer (ps : List TypedProcedure) (table : List (List DecidedGoal)) (p : ℕ) (a : Answer) : Type 0 where
+-- The answer on the procedure with the number p: a verdict by the goals of bounds, and one on each ranking by its own goal alone.
+pub record IsAnswer (ps : List TypedProcedure) (table ranks : List (List DecidedGoal)) (p : ℕ) (a : Answer) : Type 0 where
   pub name : a.name ≡ (procedure_at ps p).name
   pub verdict : IsVerdict ps table p a.verdict
-  pub loops : a.loops.items ≡ []
+  pub loops : AreRanked (ranked_loops (procedure_at ps p)) (decided_at ranks p) a.loops.items
 
 -- One answer for each procedure, from the number p on.
-abbrev pub AreAnswers : List TypedProcedure → List (List DecidedGoal) → ℕ → List TypedProcedure → List Answer → Type 0
-AreAnswers ps table p [] [] = Unit {0}
-AreAnswers ps table p [] (a ∷ rest) = ⊥
-AreAnswers ps table p (q ∷ qs) [] = ⊥
-AreAnswers ps table p (q ∷ qs) (a ∷ rest) = IsAnswer ps table p a × AreAnswers ps table (suc p) qs rest
+abbrev pub AreAnswers : List TypedProcedure → List (List DecidedGoal) → List (List DecidedGoal) → ℕ → List TypedProcedure → List Answer → Type 0
+AreAnswers ps table ranks p [] [] = Unit {0}
+AreAnswers ps table ranks p [] (a ∷ rest) = ⊥
+AreAnswers ps table ranks p (q ∷ qs) [] = ⊥
+AreAnswers ps table ranks p (q ∷ qs) (a ∷ rest) = IsAnswer ps table ranks p a × AreAnswers ps table ranks (suc p) qs rest
 
--- What is answered of a file: for some decisions of its goals the answers are theirs, the goals that are told are those whose
--- state or cause is in an answer, and the certificates are those of the proved goals.
+-- What is answered of a file: for some decisions of its goals, those of bounds and those of rankings, the answers are theirs, the
+-- goals that are told are those whose state or cause is in an answer, and the certificates are those of the proved goals.
 pub record IsAnswered (ps : List TypedProcedure) (answers : List Answer) (made : List NamedGoal) (certs : List GoalCert) : Type 0 where
   pub table : List (List DecidedGoal)
+  pub ranks : List (List DecidedGoal)
   pub decided : IsTable ps 0 ps table
-  pub answers_of : AreAnswers ps table 0 ps answers
-  pub made_of : made ≡ all_told table
-  pub certs_of : certs ≡ all_certificates table
+  pub ranks_decided : IsRankTable ps 0 ps ranks
+  pub answers_of : AreAnswers ps table ranks 0 ps answers
+  pub made_of : made ≡ told_in_file table ranks
+  pub certs_of : certs ≡ certified_in_file table ranks

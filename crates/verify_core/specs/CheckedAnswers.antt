@@ -8,6 +8,8 @@ use Rattle.proc_contracts.specs.Reasons.{plain}
 use Rattle.verdict_report.specs.declared.answers.Answer.{Answer}
 use Rattle.verdict_report.specs.declared.answers.Verdict.{Verdict}
 use Rattle.verdict_report.specs.declared.answers.Verdict.TheVariants as verdict
+use Rattle.verify_core.specs.CheckedRankings.{AreRankingsAnswered, IsCheckedRankTable}
+use Rattle.verify_core.specs.Rankings.{ranked_loops}
 use Rattle.verify_core.specs.Checked.{CheckedGoal, IsCertified, IsCheckedTable, checked_at, first_miss}
 
 -- The first procedure of the file that this one reaches and whose bound isn't shown by certificates of its own goals: it is no
@@ -28,21 +30,23 @@ IsCheckedVerdict ps table p verdict.Verified = IsCertified ps table p × ((q : �
 IsCheckedVerdict ps table p (verdict.NotVerified id s) = ⊥
 IsCheckedVerdict ps table p (verdict.Unknown id c) = ⊥
 
--- The answer on the procedure with the number p. Rankings aren't answered.
-pub record IsCheckedAnswer (ps : List TypedProcedure) (table : List (List CheckedGoal)) (p : ℕ) (a : Answer) : Type 0 where
+-- The answer on the procedure with the number p: a verdict by the goals of bounds, and one on each ranking by its own goal alone.
+pub record IsCheckedAnswer (ps : List TypedProcedure) (table ranks : List (List CheckedGoal)) (p : ℕ) (a : Answer) : Type 0 where
   pub name : a.name ≡ (procedure_at ps p).name
   pub verdict : IsCheckedVerdict ps table p a.verdict
-  pub loops : a.loops.items ≡ []
+  pub loops : AreRankingsAnswered (ranked_loops (procedure_at ps p)) (checked_at ranks p) a.loops.items
 
 -- One answer for each procedure, from the number p on.
-abbrev pub AreCheckedAnswers : List TypedProcedure → List (List CheckedGoal) → ℕ → List TypedProcedure → List Answer → Type 0
-AreCheckedAnswers ps table p [] [] = Unit {0}
-AreCheckedAnswers ps table p [] (a ∷ rest) = ⊥
-AreCheckedAnswers ps table p (q ∷ qs) [] = ⊥
-AreCheckedAnswers ps table p (q ∷ qs) (a ∷ rest) = IsCheckedAnswer ps table p a × AreCheckedAnswers ps table (suc p) qs rest
+abbrev pub AreCheckedAnswers : List TypedProcedure → List (List CheckedGoal) → List (List CheckedGoal) → ℕ → List TypedProcedure → List Answer → Type 0
+AreCheckedAnswers ps table ranks p [] [] = Unit {0}
+AreCheckedAnswers ps table ranks p [] (a ∷ rest) = ⊥
+AreCheckedAnswers ps table ranks p (q ∷ qs) [] = ⊥
+AreCheckedAnswers ps table ranks p (q ∷ qs) (a ∷ rest) = IsCheckedAnswer ps table ranks p a × AreCheckedAnswers ps table ranks (suc p) qs rest
 
 -- What certificates answer of a file: for what they say of its goals the answers are theirs.
 pub record IsCheckedFile (ps : List TypedProcedure) (certs : List GoalCert) (answers : List Answer) : Type 0 where
   pub table : List (List CheckedGoal)
+  pub ranks : List (List CheckedGoal)
   pub checked : IsCheckedTable ps certs 0 ps table
-  pub answers_of : AreCheckedAnswers ps table 0 ps answers
+  pub ranks_checked : IsCheckedRankTable ps certs 0 ps ranks
+  pub answers_of : AreCheckedAnswers ps table ranks 0 ps answers

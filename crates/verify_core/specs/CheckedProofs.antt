@@ -7,19 +7,22 @@ use Rattle.heyvl_types.specs.Acts.{TypedProcedure}
 use Rattle.heyvl_types.specs.Rules.{Each, MeetsRules}
 use Rattle.region_split.specs.declared.decisions.Decision.TheVariants.{Proved}
 use Rattle.verify_core.specs.Checked.{CheckedGoal, IsCheckedTable, IsGoalAccepted}
-use Rattle.verify_core.specs.Decided.{DecidedGoal, IsTable, all_certificates}
+use Rattle.verify_core.specs.CheckedRankings.{IsCheckedRankTable}
+use Rattle.verify_core.specs.Decided.{DecidedGoal, IsTable}
+use Rattle.verify_core.specs.DecidedRankings.{IsRankTable, certified_in_file}
 
 -- Where the goal is proved, with a tree, the list has a certificate of it.
 abbrev pub IsServed : List GoalCert → DecidedGoal → Type 0
 IsServed certs d = (t : Tree) → d.decision ≡ Proved (Some t) → IsGoalAccepted certs d.goal
 
 -- The certificates of decided goals are in the order of a text, and serve each of these.
-pub record AreServed (table : List (List DecidedGoal)) : Type 0 where
-  pub order : IsGrowingAfter None (certificates_of (all_certificates table))
-  pub accepted : Each (Each (IsServed (all_certificates table))) table
+pub record AreServed (table ranks : List (List DecidedGoal)) : Type 0 where
+  pub order : IsGrowingAfter None (certificates_of (certified_in_file table ranks))
+  pub accepted : Each (Each (IsServed (certified_in_file table ranks))) table
+  pub ranked : Each (Each (IsServed (certified_in_file table ranks))) ranks
 
 abbrev pub ProofsAreAccepted : Type 0
-ProofsAreAccepted = (ps : List TypedProcedure) (table : List (List DecidedGoal)) → Each (MeetsRules ps) ps → IsTable ps 0 ps table → AreServed table
+ProofsAreAccepted = (ps : List TypedProcedure) (table ranks : List (List DecidedGoal)) → Each (MeetsRules ps) ps → IsTable ps 0 ps table → IsRankTable ps 0 ps ranks → AreServed table ranks
 
 -- Of each goal that is proved with a tree, nothing is missed.
 abbrev pub NothingIsMissed : List DecidedGoal → List CheckedGoal → Type 0
@@ -35,6 +38,9 @@ NothingIsMissedThroughout [] (cs ∷ checked) = ⊥
 NothingIsMissedThroughout (ds ∷ table) [] = ⊥
 NothingIsMissedThroughout (ds ∷ table) (cs ∷ checked) = NothingIsMissed ds cs × NothingIsMissedThroughout table checked
 
--- What decisions prove, their certificates show.
+-- What decisions prove, their certificates show: of bounds, and of rankings.
 abbrev pub ProvedGoalsAreAccepted : Type 0
-ProvedGoalsAreAccepted = (ps : List TypedProcedure) (table : List (List DecidedGoal)) (checked : List (List CheckedGoal)) → Each (MeetsRules ps) ps → IsTable ps 0 ps table → IsCheckedTable ps (all_certificates table) 0 ps checked → NothingIsMissedThroughout table checked
+ProvedGoalsAreAccepted = (ps : List TypedProcedure) (table ranks : List (List DecidedGoal)) (checked : List (List CheckedGoal)) → Each (MeetsRules ps) ps → IsTable ps 0 ps table → IsRankTable ps 0 ps ranks → IsCheckedTable ps (certified_in_file table ranks) 0 ps checked → NothingIsMissedThroughout table checked
+
+abbrev pub ProvedRankingsAreAccepted : Type 0
+ProvedRankingsAreAccepted = (ps : List TypedProcedure) (table ranks : List (List DecidedGoal)) (checked : List (List CheckedGoal)) → Each (MeetsRules ps) ps → IsTable ps 0 ps table → IsRankTable ps 0 ps ranks → IsCheckedRankTable ps (certified_in_file table ranks) 0 ps checked → NothingIsMissedThroughout ranks checked

@@ -116,11 +116,6 @@ abbrev pub listed : Option NamedGoal → List NamedGoal
 listed (Some g) = g ∷ []
 listed None = []
 
--- The goals that are told, procedure by procedure.
-abbrev pub all_told : List (List DecidedGoal) → List NamedGoal
-all_told [] = []
-all_told (ds ∷ rest) = listed (told ds) ++ all_told rest
-
 -- The certificates of the proved goals, but for trees that are too deep.
 abbrev pub certificate : DecidedGoal → List GoalCert
 certificate d = of_decision d.decision
@@ -137,7 +132,3 @@ certificate d = of_decision d.decision
 abbrev pub certificates : List DecidedGoal → List GoalCert
 certificates [] = []
 certificates (d ∷ ds) = certificate d ++ certificates ds
-
-abbrev pub all_certificates : List (List DecidedGoal) → List GoalCert
-all_certificates [] = []
-all_certificates (ds ∷ rest) = certificates ds ++ all_certificates rest

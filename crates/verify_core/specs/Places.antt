@@ -1,5 +1,6 @@
 -- Where the parts of a typed procedure stand: each place that an answer may name is within the text. This project's own.
-use Rattle.std.specs.Prelude.{◌≤◌, ℕ}
+use Rattle.std.specs.Prelude.{◌≤◌, ℕ, Option, Some, None}
+use Rattle.heyvl_num.specs.Rational.{Rational}
 use Rattle.heylo_formula.specs.Formula.{Form, Cond, Term}
 use Rattle.heyvl_types.specs.Acts.{Act, Arms, TypedProcedure, acts_in}
 use Rattle.heyvl_types.specs.Places.{in_order}
@@ -46,6 +47,10 @@ abbrev pub GuardsStand : ℕ → Arms → Type 0
 GuardsStand n Arms.no_arm = Unit {0}
 GuardsStand n (Arms.arm g b more) = CondStands n g × GuardsStand n more
 
+abbrev pub RankStands : ℕ → Option (Rational × Form) → Type 0
+RankStands n None = Unit {0}
+RankStands n (Some r) = FormStands n r.1
+
 -- An act begins within so many bytes, and so do the products in its forms; those of acts inside it aside.
 abbrev pub ActStands : ℕ → Act → Type 0
 ActStands n (Act.set x t span) = (span.from ≤ n) × TermStands n t
@@ -56,7 +61,7 @@ ActStands n (Act.ifs arms e span) = (span.from ≤ n) × GuardsStand n arms
 ActStands n (Act.pick up a b span) = span.from ≤ n
 ActStands n (Act.check kind f span) = (span.from ≤ n) × FormStands n f
 ActStands n (Act.validate co span) = span.from ≤ n
-ActStands n (Act.loop h b) = (h.span.from ≤ n) × (FormStands n h.inv × CondStands n h.guard)
+ActStands n (Act.loop h b) = (h.span.from ≤ n) × (FormStands n h.inv × (CondStands n h.guard × RankStands n h.rank))
 ActStands n (Act.call xs q es span) = (span.from ≤ n) × Each (TermStands n) es
 
 -- The procedure's statements and the products in its forms begin within so many bytes.

@@ -4,4 +4,5 @@ pub mod Outcomes
 pub mod Rows
 pub mod Marks
 pub mod Verdicts
+pub mod OwnRankings
 pub mod Checking

@@ -1,4 +1,4 @@
-//! The verdict on each procedure by the certificates of its own goals.
+//! The verdict on each procedure, and on each ranking, by the certificates of their own goals.
 
 ghost use Rattle.cert_text.specs.Certificates.{IsGrowingAfter, certificates_of};
 ghost use Rattle.farkas_check.specs.Trees.{tree_of};
@@ -7,19 +7,22 @@ ghost use Rattle.heyvl_types.specs.PlainActs.{procedures_of};
 ghost use Rattle.heyvl_types.specs.Rules.{Each, MeetsAllRules};
 ghost use Rattle.std.specs.Prelude.{IfOk, List, None, length, ◌<◌, ◌≡◌};
 ghost use Rattle.verify_core.specs.Checked.{CheckedGoal, IsMissOf, first_miss, missed};
+ghost use Rattle.verify_core.specs.CheckedRankings.{IsRankingAnswer};
 ghost use Rattle.verify_core.specs.Decided.{or_else};
 ghost use Rattle.verify_core.specs.PostBinders.{HasNamedBinders};
 ghost use Rattle.verify_core.specs.internal.Checking.{AreOwn, IsFirstMiss, IsFound, IsOwn, IsOwnVerdict};
+ghost use Rattle.verify_core.specs.internal.OwnRankings.{AreLoopAnswers, AreOwnRankings, IsLoopAnswer};
 
-use crate::making::goals;
-use crate::searching::tree_for;
+use crate::making::bounds;
+use crate::rankings::rankings;
+use crate::searching::{loop_of, tree_for};
 use crate::verdicts::verdict_for;
 use farkas_check::{Checked, GoalCert, Tree, check};
 use heylo_formula::{GoalId, Made};
 use heyvl_types::Typed;
 use proc_contracts::not_program;
 use std::alloc::{AllocError, Global};
-use verdict_report::{Miss, NamedGoal, Verdict};
+use verdict_report::{LoopAnswer, Miss, NamedGoal, RankVerdict, Verdict};
 
 // ---- A goal
 
@@ -76,7 +79,7 @@ fn earlier(first: Option<(GoalId, Miss)>, id: GoalId, miss: Option<Miss>) -> Opt
     }
 }
 
-/// The verdict on a procedure by its own goals and its kind.
+/// The verdict on a procedure by the goals of its own bound and its kind.
 fn own_verdict(
     alloc: Global,
     typed: &Typed,
@@ -89,7 +92,7 @@ fn own_verdict(
     requires order { IsGrowingAfter None (certificates_of certs.now) }
     ensures { IfOk result (λ own. IsOwn (procedures_of typed.now) certs.now p (procedure_at (procedures_of typed.now) p) own) }
 {
-    let all = goals(alloc, typed, p)?;
+    let all = bounds(alloc, typed, p)?;
     match first_miss(alloc, certs, &all)? {
         Some((id, miss)) => Ok(Verdict::Unchecked(id, miss)),
         None => Ok(by_kind(typed, p)),
@@ -104,6 +107,66 @@ fn by_kind(typed: &Typed, p: u32) -> Verdict
     match not_program(typed, p) {
         Some(why) => verdict_for(why),
         None => Verdict::Verified,
+    }
+}
+
+// ---- The rankings of a procedure
+
+/// The verdicts on the rankings of a procedure, each by the certificate of its own goal alone.
+pub(crate) fn own_rankings(
+    alloc: Global,
+    typed: &Typed,
+    certs: &[GoalCert],
+    p: u32,
+) -> Result<Vec<LoopAnswer>, AllocError>
+    requires there { p < length typed.now.procs.items }
+    requires rules { MeetsAllRules typed.now }
+    requires order { IsGrowingAfter None (certificates_of certs.now) }
+    ensures { IfOk result (λ loops. AreOwnRankings (procedures_of typed.now) certs.now p loops.items) }
+{
+    let all = rankings(alloc, typed, p)?;
+    loop_answers(alloc, certs, &all)
+}
+
+/// The answers for the goals of rankings.
+fn loop_answers(
+    alloc: Global,
+    certs: &[GoalCert],
+    goals: &[NamedGoal],
+) -> Result<Vec<LoopAnswer>, AllocError>
+    requires order { IsGrowingAfter None (certificates_of certs.now) }
+    ensures { IfOk result (λ loops. AreLoopAnswers certs.now goals.now loops.items) }
+{
+    let mut loops = Vec::new(alloc);
+    for goal in goals {
+        loops.push(loop_answer(alloc, certs, goal)?)?;
+    }
+    Ok(loops)
+}
+
+/// The answer for the goal of a ranking.
+fn loop_answer(
+    alloc: Global,
+    certs: &[GoalCert],
+    goal: &NamedGoal,
+) -> Result<LoopAnswer, AllocError>
+    requires order { IsGrowingAfter None (certificates_of certs.now) }
+    ensures { IfOk result (λ answer. IsLoopAnswer certs.now goal.now answer) }
+{
+    let miss = miss_of(alloc, certs, goal)?;
+    Ok(LoopAnswer {
+        number: loop_of(goal.id),
+        rank: rank_for(miss),
+    })
+}
+
+/// The verdict on a ranking by what is missed of its goal.
+fn rank_for(miss: Option<Miss>) -> RankVerdict
+    ensures { IsRankingAnswer miss result }
+{
+    match miss {
+        Some(miss) => RankVerdict::Unchecked(miss),
+        None => RankVerdict::Ranked,
     }
 }
 

@@ -1,6 +1,6 @@
 //! The laws. Each function does nothing: its contract is the law.
 
-ghost use Rattle.verify_core.specs.CheckedProofs.{ProofsAreAccepted, ProvedGoalsAreAccepted};
+ghost use Rattle.verify_core.specs.CheckedProofs.{ProofsAreAccepted, ProvedGoalsAreAccepted, ProvedRankingsAreAccepted};
 ghost use Rattle.verify_core.specs.GoalLaws.{MadeGoalsSayBounds};
 
 use farkas_check::certificates_are_told_apart;
@@ -17,11 +17,12 @@ pub fn made_goals_say_bounds()
     encodings_are_over_their_variables();
 }
 
-/// The certificates that decisions give are in the order of a text, each goal that is proved with a tree is accepted by them, and
-/// nothing is found against it.
+/// The certificates that decisions give are in the order of a text, each goal that is proved with a tree, of a bound or of a
+/// ranking, is accepted by them, and nothing is found against it.
 pub fn proved_goals_are_accepted()
     ensures accepted { ProofsAreAccepted }
     ensures nothing_missed { ProvedGoalsAreAccepted }
+    ensures no_ranking_missed { ProvedRankingsAreAccepted }
 {
     walk_trees_certify();
     certificates_are_told_apart();

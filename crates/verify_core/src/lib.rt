@@ -9,6 +9,8 @@ mod laws;
 mod making;
 mod marks;
 mod outcomes;
+mod ranking_outcomes;
+mod rankings;
 mod reaching;
 mod searching;
 mod settling;

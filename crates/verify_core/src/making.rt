@@ -13,10 +13,12 @@ ghost use Rattle.loop_encodings.specs.BoundGoals.{bound_goals};
 ghost use Rattle.std.specs.Prelude.{IfOk, List, length, map, ◌++◌, ◌<◌, ◌≡◌, ◌^◌};
 ghost use Rattle.verify_core.specs.PostBinders.{HasNamedBinders};
 ghost use Rattle.verify_core.specs.Questions.{AreGoals, IsMadeOf, one_bound, question};
+ghost use Rattle.verify_core.specs.Rankings.{AreAllGoals};
 ghost use Rattle.verify_core.specs.internal.Asked.{IsAsked, plain};
 ghost use Rattle.vp_generator.specs.Scopes.{AreNamed};
 
 use crate::asking::{Asked, asked_of};
+use crate::rankings::rankings;
 use heylo_formula::{Form, GoalId, Made, what_substitution_gives};
 use heyvl_num::{Ext, Frac};
 use heyvl_types::{TProc, Typed, VarInfo};
@@ -25,9 +27,23 @@ use std::alloc::{AllocError, Global};
 use verdict_report::NamedGoal;
 use vp_generator::{VpStop, generated_form_means_acts, goal_of_forms, vp};
 
-/// The goals of the procedure's bound: none without a body; else the main one and, for a weak proc, that its pre, its post and
-/// each of its invariants, in the order of the text, are at most 1. Want of memory is the one error.
+/// The goals of the procedure: none without a body; else those of its bound, and then one for each of its rankings, in the order
+/// of the text. Want of memory is the one error.
 pub fn goals(alloc: Global, typed: &Typed, p: u32) -> Result<Vec<NamedGoal>, AllocError>
+    requires there { p < length typed.now.procs.items }
+    requires rules { MeetsAllRules typed.now }
+    requires named { Each HasNamedBinders (procedures_of typed.now) }
+    ensures { IfOk result (λ all. AreAllGoals (procedures_of typed.now) p all.items) }
+{
+    let mut all = bounds(alloc, typed, p)?;
+    let mut ranked = rankings(alloc, typed, p)?;
+    all.append(&mut ranked)?;
+    Ok(all)
+}
+
+/// The goals of the procedure's bound: none without a body; else the main one and, for a weak proc, that its pre, its post and
+/// each of its invariants, in the order of the text, are at most 1.
+pub(crate) fn bounds(alloc: Global, typed: &Typed, p: u32) -> Result<Vec<NamedGoal>, AllocError>
     requires there { p < length typed.now.procs.items }
     requires rules { MeetsAllRules typed.now }
     requires named { Each HasNamedBinders (procedures_of typed.now) }

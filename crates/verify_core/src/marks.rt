@@ -6,7 +6,7 @@ ghost use Rattle.std.specs.List.{All};
 ghost use Rattle.std.specs.Prelude.{IfOk, length, ◌<◌, ◌≡◌, ◌≤◌};
 ghost use Rattle.verify_core.specs.internal.Marks.{first_marked, is_open, marks};
 
-use crate::outcomes::Outcome;
+use crate::outcomes::{Outcome, ProcedureOutcome};
 use heyvl_types::Typed;
 use proc_contracts::not_program;
 use std::alloc::{AllocError, Global};
@@ -15,7 +15,7 @@ use std::alloc::{AllocError, Global};
 pub(crate) fn open_procedures(
     alloc: Global,
     typed: &Typed,
-    outcomes: &[Outcome],
+    outcomes: &[ProcedureOutcome],
 ) -> Result<Vec<bool>, AllocError>
     requires few { length typed.now.procs.items ≤ 1024 }
     requires each { length outcomes.now ≡ length typed.now.procs.items }
@@ -24,7 +24,7 @@ pub(crate) fn open_procedures(
     let mut all = Vec::new(alloc);
     let mut p: u32 = 0;
     for one in outcomes {
-        let mark = is_open(typed, p, one);
+        let mark = is_open(typed, p, &one.bound);
         all.push(mark)?;
         p += 1;
     }

@@ -6,6 +6,7 @@ ghost use Rattle.verify_core.specs.internal.Outcomes.{both, outcome, outcome_of,
 ghost use Rattle.verify_core.specs.internal.Settled.{plain};
 
 use crate::deciding::Decided;
+use crate::ranking_outcomes::RankingOutcome;
 use farkas_check::GoalCert;
 use heylo_formula::Val;
 use linear_elim::Cause;
@@ -14,6 +15,15 @@ use std::alloc::AllocError;
 use verdict_report::NamedGoal;
 
 /// What comes of the goals of a procedure.
+#[derive(Drop)]
+pub(crate) struct ProcedureOutcome {
+    /// Of those of its bound.
+    pub(crate) bound: Outcome,
+    /// Of those of its rankings.
+    pub(crate) rankings: RankingOutcome,
+}
+
+/// What comes of the goals of a bound.
 #[derive(Drop)]
 pub(crate) enum Outcome {
     /// All are proved.
@@ -40,8 +50,8 @@ pub(crate) fn gather(
     Ok(sum)
 }
 
-/// What comes of one goal.
-fn outcome_of(one: Decided, certs: &mut Vec<GoalCert>) -> Result<Outcome, AllocError>
+/// What comes of one goal. Its certificate is appended, where it is proved.
+pub(crate) fn outcome_of(one: Decided, certs: &mut Vec<GoalCert>) -> Result<Outcome, AllocError>
     ensures outcome { IfOk result (λ o. o ≡ outcome_of (plain one)) }
     ensures certs { OnOk result (certs.new.items ≡ certs.old.items ++ certificate (plain one)) }
 {

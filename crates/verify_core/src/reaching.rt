@@ -1,31 +1,37 @@
-//! The answers of procedures from the verdicts on each by itself.
+//! The answers of procedures from the verdicts on each by itself, with those on their rankings.
 
+ghost use Rattle.cert_text.specs.Certificates.{IsGrowingAfter, certificates_of};
 ghost use Rattle.heyvl_types.specs.PlainActs.{procedures_of};
 ghost use Rattle.heyvl_types.specs.Rules.{MeetsAllRules};
-ghost use Rattle.std.specs.Prelude.{IfOk, length, map, ◌<◌, ◌≡◌};
+ghost use Rattle.std.specs.Prelude.{IfOk, None, length, map, ◌<◌, ◌≡◌};
 ghost use Rattle.verify_core.specs.internal.Checking.{AreMarkedAnswers, IsMarkedAnswer, IsReachingVerdict, is_unverified, is_verified};
 
+use crate::checking::own_rankings;
 use crate::marks::first_marked;
+use farkas_check::GoalCert;
 use heyvl_types::Typed;
 use proc_contracts::reach;
 use std::alloc::{AllocError, Global};
 use verdict_report::{Answer, Verdict};
 
-/// The answers: the verdicts, but for the procedures that are verified by themselves and reach one that isn't.
+/// The answers: the verdicts, but for the procedures that are verified by themselves and reach one that isn't. A ranking is
+/// answered by its own goal alone.
 pub(crate) fn answers(
     alloc: Global,
     typed: &Typed,
+    certs: &[GoalCert],
     own: Vec<Verdict>,
 ) -> Result<Vec<Answer>, AllocError>
     requires each { length own.items ≡ length typed.now.procs.items }
     requires rules { MeetsAllRules typed.now }
-    ensures { IfOk result (λ answers. AreMarkedAnswers (procedures_of typed.now) (map is_unverified own.items) 0 own.items answers.items) }
+    requires order { IsGrowingAfter None (certificates_of certs.now) }
+    ensures { IfOk result (λ answers. AreMarkedAnswers (procedures_of typed.now) certs.now (map is_unverified own.items) 0 own.items answers.items) }
 {
     let marks = marks(alloc, &own)?;
     let mut answers = Vec::new(alloc);
     let mut p: u32 = 0;
     for verdict in own {
-        answers.push(answer(alloc, typed, p, verdict, &marks)?)?;
+        answers.push(answer(alloc, typed, certs, p, verdict, &marks)?)?;
         p += 1;
     }
     Ok(answers)
@@ -55,6 +61,7 @@ fn is_verified(verdict: &Verdict) -> bool
 fn answer(
     alloc: Global,
     typed: &Typed,
+    certs: &[GoalCert],
     p: u32,
     own: Verdict,
     marks: &[bool],
@@ -62,7 +69,8 @@ fn answer(
     requires there { p < length typed.now.procs.items }
     requires each { length marks.now ≡ length typed.now.procs.items }
     requires rules { MeetsAllRules typed.now }
-    ensures { IfOk result (λ answer. IsMarkedAnswer (procedures_of typed.now) marks.now p own answer) }
+    requires order { IsGrowingAfter None (certificates_of certs.now) }
+    ensures { IfOk result (λ answer. IsMarkedAnswer (procedures_of typed.now) certs.now marks.now p own answer) }
 {
     let verdict = if is_verified(&own) {
         reaching_verdict(alloc, typed, p, marks)?
@@ -72,7 +80,7 @@ fn answer(
     Ok(Answer {
         name: typed.procs[p as usize].name.copy(alloc)?,
         verdict,
-        loops: Vec::new(alloc),
+        loops: own_rankings(alloc, typed, certs, p)?,
     })
 }
 

@@ -23,7 +23,7 @@ fn kind_rank(id: GoalId) -> u8
 }
 
 /// The number of the goal's loop, or 0 where it has none.
-fn loop_of(id: GoalId) -> u32
+pub(crate) fn loop_of(id: GoalId) -> u32
     ensures { result ≡ loop_of id }
 {
     match id {

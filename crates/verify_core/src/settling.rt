@@ -5,14 +5,17 @@ ghost use Rattle.heyvl_types.specs.ResolvedSizes.{FormsWithin};
 ghost use Rattle.heyvl_types.specs.Rules.{Each, MeetsAllRules};
 ghost use Rattle.std.specs.Prelude.{IfOk, [], length, ◌<◌, ◌^◌, ◌≡◌};
 ghost use Rattle.verify_core.specs.PostBinders.{HasNamedBinders};
-ghost use Rattle.verify_core.specs.internal.Rows.{AreSettled, IsRow};
+ghost use Rattle.verify_core.specs.internal.Rows.{AreSettled, IsBoundRow, IsRankingRow, IsRow};
 
 use crate::deciding::decide_all;
-use crate::making::goals;
-use crate::outcomes::{Outcome, gather};
+use crate::making::bounds;
+use crate::outcomes::{Outcome, ProcedureOutcome, gather};
+use crate::ranking_outcomes::{RankingOutcome, gather_rankings};
+use crate::rankings::rankings;
 use farkas_check::GoalCert;
 use heyvl_types::Typed;
 use loop_encodings::encodings_are_over_their_variables;
+use ranking_rule::ranking_goals_say_rankings;
 use std::alloc::{AllocError, Global};
 use vp_generator::{generated_form_means_acts, prenexed_goals_speak_of_choices};
 
@@ -21,7 +24,7 @@ pub(crate) fn settle(
     alloc: Global,
     typed: &Typed,
     certs: &mut Vec<GoalCert>,
-) -> Result<Vec<Outcome>, AllocError>
+) -> Result<Vec<ProcedureOutcome>, AllocError>
     requires rules { MeetsAllRules typed.now }
     requires named { Each HasNamedBinders (procedures_of typed.now) }
     requires small { Each (FormsWithin (2 ^ 27)) (procedures_of typed.now) }
@@ -43,17 +46,53 @@ fn settle_one(
     typed: &Typed,
     p: u32,
     certs: &mut Vec<GoalCert>,
-) -> Result<Outcome, AllocError>
+) -> Result<ProcedureOutcome, AllocError>
     requires there { p < length typed.now.procs.items }
     requires rules { MeetsAllRules typed.now }
     requires named { Each HasNamedBinders (procedures_of typed.now) }
     requires small { Each (FormsWithin (2 ^ 27)) (procedures_of typed.now) }
     ensures { IfOk result (λ o. IsRow (procedures_of typed.now) p certs.old.items o certs.new.items) }
 {
+    let bound = settle_bound(alloc, typed, p, certs)?;
+    let rankings = settle_rankings(alloc, typed, p, certs)?;
+    Ok(ProcedureOutcome { bound, rankings })
+}
+
+/// What comes of the goals of a procedure's bound. The certificates are appended.
+fn settle_bound(
+    alloc: Global,
+    typed: &Typed,
+    p: u32,
+    certs: &mut Vec<GoalCert>,
+) -> Result<Outcome, AllocError>
+    requires there { p < length typed.now.procs.items }
+    requires rules { MeetsAllRules typed.now }
+    requires named { Each HasNamedBinders (procedures_of typed.now) }
+    requires small { Each (FormsWithin (2 ^ 27)) (procedures_of typed.now) }
+    ensures { IfOk result (λ o. IsBoundRow (procedures_of typed.now) p certs.old.items o certs.new.items) }
+{
     generated_form_means_acts();
     prenexed_goals_speak_of_choices();
     encodings_are_over_their_variables();
-    let all = goals(alloc, typed, p)?;
+    let all = bounds(alloc, typed, p)?;
     let decided = decide_all(alloc, all)?;
     gather(decided, certs)
+}
+
+/// What comes of the goals of a procedure's rankings. The certificates are appended.
+fn settle_rankings(
+    alloc: Global,
+    typed: &Typed,
+    p: u32,
+    certs: &mut Vec<GoalCert>,
+) -> Result<RankingOutcome, AllocError>
+    requires there { p < length typed.now.procs.items }
+    requires rules { MeetsAllRules typed.now }
+    requires small { Each (FormsWithin (2 ^ 27)) (procedures_of typed.now) }
+    ensures { IfOk result (λ o. IsRankingRow (procedures_of typed.now) p certs.old.items o certs.new.items) }
+{
+    ranking_goals_say_rankings();
+    let all = rankings(alloc, typed, p)?;
+    let decided = decide_all(alloc, all)?;
+    gather_rankings(alloc, decided, certs)
 }

@@ -1,16 +1,17 @@
 //! The answers, by what comes of the goals of the procedures.
 
+ghost use Rattle.heyvl_types.specs.Acts.{procedure_at};
 ghost use Rattle.heyvl_types.specs.PlainActs.{procedures_of};
 ghost use Rattle.heyvl_types.specs.Rules.{MeetsAllRules};
-ghost use Rattle.std.specs.Prelude.{IfOk, List, OnOk, length, map, true, ◌++◌, ◌<◌, ◌≡◌};
+ghost use Rattle.std.specs.Prelude.{IfOk, List, OnOk, length, true, ◌++◌, ◌<◌, ◌≡◌};
 ghost use Rattle.verify_core.specs.Answered.{AreAnswers, IsAnswer, IsClosed, IsVerdict};
 ghost use Rattle.verify_core.specs.Decided.{DecidedGoal, all_proved, decided_at, listed};
 ghost use Rattle.verify_core.specs.internal.Marks.{AreMarks};
-ghost use Rattle.verify_core.specs.internal.Outcomes.{outcome, told_by};
+ghost use Rattle.verify_core.specs.internal.Outcomes.{AreOutcomes, IsOutcome, outcome, told_by, told_of};
 ghost use Rattle.verify_core.specs.internal.Verdicts.{all_told_by, verdict_for};
 
 use crate::marks::first_marked;
-use crate::outcomes::Outcome;
+use crate::outcomes::{Outcome, ProcedureOutcome};
 use heyvl_types::Typed;
 use proc_contracts::{WhyNot, not_program, reach};
 use std::alloc::{AllocError, Global};
@@ -20,14 +21,14 @@ use verdict_report::{Answer, NamedGoal, Verdict};
 pub(crate) fn answers(
     alloc: Global,
     typed: &Typed,
-    outcomes: Vec<Outcome>,
+    outcomes: Vec<ProcedureOutcome>,
     marks: &[bool],
     made: &mut Vec<NamedGoal>,
 ) -> Result<Vec<Answer>, AllocError>
     requires rules { MeetsAllRules typed.now }
     requires each { length outcomes.items ≡ length typed.now.procs.items }
     requires marked { length marks.now ≡ length typed.now.procs.items }
-    ensures answers { (table : List (List DecidedGoal)) → outcomes.items ≡ map outcome table → AreMarks (procedures_of typed.now) table marks.now → IfOk result (λ all. AreAnswers (procedures_of typed.now) table 0 (procedures_of typed.now) all.items) }
+    ensures answers { (table ranks : List (List DecidedGoal)) → AreOutcomes (procedures_of typed.now) table ranks outcomes.items → AreMarks (procedures_of typed.now) table marks.now → IfOk result (λ all. AreAnswers (procedures_of typed.now) table ranks 0 (procedures_of typed.now) all.items) }
     ensures made { OnOk result (made.new.items ≡ made.old.items ++ all_told_by outcomes.items) }
 {
     let mut all = Vec::new(alloc);
@@ -40,28 +41,30 @@ pub(crate) fn answers(
     Ok(all)
 }
 
-/// The answer on a procedure. The goal that is told, if one is, is appended.
+/// The answer on a procedure. The goals that are told are appended.
 fn answer_of(
     alloc: Global,
     typed: &Typed,
     p: u32,
-    found: Outcome,
+    found: ProcedureOutcome,
     marks: &[bool],
     made: &mut Vec<NamedGoal>,
 ) -> Result<Answer, AllocError>
     requires there { p < length typed.now.procs.items }
     requires rules { MeetsAllRules typed.now }
     requires marked { length marks.now ≡ length typed.now.procs.items }
-    ensures answer { (table : List (List DecidedGoal)) → found ≡ outcome (decided_at table p) → AreMarks (procedures_of typed.now) table marks.now → IfOk result (λ a. IsAnswer (procedures_of typed.now) table p a) }
-    ensures made { OnOk result (made.new.items ≡ made.old.items ++ listed (told_by found)) }
+    ensures answer { (table ranks : List (List DecidedGoal)) → IsOutcome (procedure_at (procedures_of typed.now) p) (decided_at table p) (decided_at ranks p) found → AreMarks (procedures_of typed.now) table marks.now → IfOk result (λ a. IsAnswer (procedures_of typed.now) table ranks p a) }
+    ensures made { OnOk result (made.new.items ≡ made.old.items ++ told_of found) }
 {
     let name = typed.procs[p as usize].name.copy(alloc)?;
-    let verdict = verdict_of(alloc, typed, p, found, marks, made)?;
-    let loops = Vec::new(alloc);
+    let rankings = found.rankings;
+    let verdict = verdict_of(alloc, typed, p, found.bound, marks, made)?;
+    let mut told = rankings.told;
+    made.append(&mut told)?;
     Ok(Answer {
         name,
         verdict,
-        loops,
+        loops: rankings.loops,
     })
 }
 

@@ -19,6 +19,7 @@ use heyvl_types::Typed;
 use loop_encodings::{
     broken_goals_break_bounds, encodings_are_over_their_variables, shown_bounds_hold,
 };
+use ranking_rule::{ranking_goals_say_rankings, rankings_bound_turns};
 use std::alloc::{AllocError, Global};
 use vp_generator::{generated_form_means_acts, prenexed_form_means_choices};
 
@@ -38,6 +39,8 @@ pub fn verify(alloc: Global, typed: &Typed) -> Result<Whole, AllocError>
     encodings_are_over_their_variables();
     generated_form_means_acts();
     prenexed_form_means_choices();
+    ranking_goals_say_rankings();
+    rankings_bound_turns();
     let mut certs = Vec::new(alloc);
     let outcomes = settle(alloc, typed, &mut certs)?;
     let marks = open_procedures(alloc, typed, &outcomes)?;

@@ -19,6 +19,7 @@ use Rattle.verdict_report.specs.declared.answers.NamedGoal.{NamedGoal}
 use Rattle.verdict_report.specs.declared.answers.Verdict.{Verdict}
 use Rattle.verdict_report.specs.declared.answers.Verdict.TheVariants as verdict
 use Rattle.verify_core.specs.Checked.{AreChecked, Certifies, CheckedGoal, IsMissOf, IsRefusedAt, first_miss}
+use Rattle.verify_core.specs.internal.OwnRankings.{AreOwnRankings}
 
 abbrev pub name_of : GoalCert → GoalName
 name_of c = record { proc = c.proc; id = c.id }
@@ -106,14 +107,14 @@ IsMarkedBy ps marks p own v false = v ≡ own
 abbrev pub IsMarkedVerdict : List TypedProcedure → List Bool → ℕ → Verdict → Verdict → Type 0
 IsMarkedVerdict ps marks p own v = IsMarkedBy ps marks p own v (is_verified own)
 
-pub record IsMarkedAnswer (ps : List TypedProcedure) (marks : List Bool) (p : ℕ) (own : Verdict) (a : Answer) : Type 0 where
+pub record IsMarkedAnswer (ps : List TypedProcedure) (certs : List GoalCert) (marks : List Bool) (p : ℕ) (own : Verdict) (a : Answer) : Type 0 where
   pub name : a.name ≡ (procedure_at ps p).name
   pub verdict : IsMarkedVerdict ps marks p own a.verdict
-  pub loops : a.loops.items ≡ []
+  pub loops : AreOwnRankings ps certs p a.loops.items
 
 -- One answer for each verdict, from the number p on.
-abbrev pub AreMarkedAnswers : List TypedProcedure → List Bool → ℕ → List Verdict → List Answer → Type 0
-AreMarkedAnswers ps marks p [] [] = Unit {0}
-AreMarkedAnswers ps marks p [] (a ∷ rest) = ⊥
-AreMarkedAnswers ps marks p (v ∷ vs) [] = ⊥
-AreMarkedAnswers ps marks p (v ∷ vs) (a ∷ rest) = IsMarkedAnswer ps marks p v a × AreMarkedAnswers ps marks (suc p) vs rest
+abbrev pub AreMarkedAnswers : List TypedProcedure → List GoalCert → List Bool → ℕ → List Verdict → List Answer → Type 0
+AreMarkedAnswers ps certs marks p [] [] = Unit {0}
+AreMarkedAnswers ps certs marks p [] (a ∷ rest) = ⊥
+AreMarkedAnswers ps certs marks p (v ∷ vs) [] = ⊥
+AreMarkedAnswers ps certs marks p (v ∷ vs) (a ∷ rest) = IsMarkedAnswer ps certs marks p v a × AreMarkedAnswers ps certs marks (suc p) vs rest

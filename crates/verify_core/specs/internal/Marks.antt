@@ -6,6 +6,7 @@ use Rattle.verify_core.specs.Answered.{IsClosed}
 use Rattle.verify_core.specs.Decided.{DecidedGoal, IsOpen}
 use Rattle.verify_core.specs.declared.outcomes.Outcome.{Outcome}
 use Rattle.verify_core.specs.declared.outcomes.Outcome.TheVariants.{Proved, Falsified, Unknown}
+use Rattle.verify_core.specs.declared.outcomes.ProcedureOutcome.{ProcedureOutcome}
 
 -- It is no program, or not all of its goals are proved.
 abbrev pub is_open : TypedProcedure → Outcome → Bool
@@ -14,10 +15,10 @@ is_open p (Falsified g s) = true
 is_open p (Unknown g c) = true
 
 -- The marks of procedures by what comes of their goals.
-abbrev pub marks : List TypedProcedure → List Outcome → List Bool
+abbrev pub marks : List TypedProcedure → List ProcedureOutcome → List Bool
 marks [] os = []
 marks (p ∷ ps) [] = []
-marks (p ∷ ps) (o ∷ os) = is_open p o ∷ marks ps os
+marks (p ∷ ps) (o ∷ os) = is_open p o.bound ∷ marks ps os
 
 abbrev pub IsMark : List TypedProcedure → List (List DecidedGoal) → ℕ → Bool → Type 0
 IsMark ps table q true = IsOpen ps table q

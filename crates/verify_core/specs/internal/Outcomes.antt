@@ -1,12 +1,23 @@
 -- What comes of decided goals.
-use Rattle.std.specs.Prelude.{List, [], ◌∷◌, Option, Some, None}
+use Rattle.std.specs.Prelude.{◌≡◌, List, [], ◌∷◌, ◌++◌, Option, Some, None}
+use Rattle.cert_text.specs.Certificates.{loop_of}
+use Rattle.heyvl_types.specs.Acts.{TypedProcedure}
 use Rattle.linear_elim.specs.declared.answers.Cause.{Cause}
 use Rattle.region_split.specs.declared.decisions.Decision.{Decision}
 use Rattle.region_split.specs.declared.decisions.Decision.TheVariants as decision
+use Rattle.verdict_report.specs.declared.answers.LoopAnswer.{LoopAnswer}
 use Rattle.verdict_report.specs.declared.answers.NamedGoal.{NamedGoal}
-use Rattle.verify_core.specs.Decided.{DecidedGoal}
+use Rattle.verdict_report.specs.declared.answers.RankVerdict.{RankVerdict}
+use Rattle.verdict_report.specs.declared.answers.RankVerdict.TheVariants as rank
+use Rattle.verify_core.specs.Decided.{DecidedGoal, listed}
+use Rattle.verify_core.specs.DecidedRankings.{AreRanked, told_rankings}
+use Rattle.verify_core.specs.Rankings.{ranked_loops}
 use Rattle.verify_core.specs.declared.outcomes.Outcome.{Outcome}
 use Rattle.verify_core.specs.declared.outcomes.Outcome.TheVariants.{Proved, Falsified, Unknown}
+use Rattle.verify_core.specs.declared.outcomes.ProcedureOutcome.{ProcedureOutcome}
+use Rattle.verify_core.specs.declared.ranking_outcomes.RankingOutcome.{RankingOutcome}
+
+-- ---- Goals of bounds
 
 abbrev pub outcome_of : DecidedGoal → Outcome
 outcome_of d = by d.decision
@@ -36,3 +47,40 @@ abbrev pub told_by : Outcome → Option NamedGoal
 told_by Proved = None
 told_by (Falsified g s) = Some g
 told_by (Unknown g c) = Some g
+
+-- ---- Goals of rankings
+
+abbrev pub rank_by : Outcome → RankVerdict
+rank_by Proved = rank.Ranked
+rank_by (Falsified g s) = rank.NotRanked s
+rank_by (Unknown g c) = rank.Unknown c
+
+abbrev pub loop_answer : DecidedGoal → LoopAnswer
+loop_answer d = record { number = loop_of d.goal.id; rank = rank_by (outcome_of d) }
+
+-- What comes of the goals of a procedure's rankings.
+pub record IsRankingOutcome (p : TypedProcedure) (rs : List DecidedGoal) (o : RankingOutcome) : Type 0 where
+  pub loops : AreRanked (ranked_loops p) rs o.loops.items
+  pub told : o.told.items ≡ told_rankings rs
+
+-- ---- All goals
+
+-- What comes of the goals of a procedure: of those of its bound, and of those of its rankings.
+pub record IsOutcome (p : TypedProcedure) (ds rs : List DecidedGoal) (o : ProcedureOutcome) : Type 0 where
+  pub bound : o.bound ≡ outcome ds
+  pub rankings : IsRankingOutcome p rs o.rankings
+
+-- So of each procedure.
+abbrev pub AreOutcomes : List TypedProcedure → List (List DecidedGoal) → List (List DecidedGoal) → List ProcedureOutcome → Type 0
+AreOutcomes [] [] [] [] = Unit {0}
+AreOutcomes [] [] [] (o ∷ os) = ⊥
+AreOutcomes [] [] (rs ∷ ranks) os = ⊥
+AreOutcomes [] (ds ∷ table) ranks os = ⊥
+AreOutcomes (p ∷ ps) [] ranks os = ⊥
+AreOutcomes (p ∷ ps) (ds ∷ table) [] os = ⊥
+AreOutcomes (p ∷ ps) (ds ∷ table) (rs ∷ ranks) [] = ⊥
+AreOutcomes (p ∷ ps) (ds ∷ table) (rs ∷ ranks) (o ∷ os) = IsOutcome p ds rs o × AreOutcomes ps table ranks os
+
+-- The goals that are told of a procedure.
+abbrev pub told_of : ProcedureOutcome → List NamedGoal
+told_of o = listed (told_by o.bound) ++ o.rankings.told.items

@@ -4,9 +4,8 @@ use Rattle.proc_contracts.specs.declared.reasons.WhyNot.{WhyNot}
 use Rattle.verdict_report.specs.declared.answers.NamedGoal.{NamedGoal}
 use Rattle.verdict_report.specs.declared.answers.Verdict.{Verdict}
 use Rattle.verdict_report.specs.declared.answers.Verdict.TheVariants.{NoBody, Valid}
-use Rattle.verify_core.specs.Decided.{listed}
-use Rattle.verify_core.specs.declared.outcomes.Outcome.{Outcome}
-use Rattle.verify_core.specs.internal.Outcomes.{told_by}
+use Rattle.verify_core.specs.declared.outcomes.ProcedureOutcome.{ProcedureOutcome}
+use Rattle.verify_core.specs.internal.Outcomes.{told_of}
 
 -- Where all goals are proved, and the procedure is no program.
 abbrev pub verdict_for : WhyNot → Verdict
@@ -16,6 +15,6 @@ verdict_for WhyNot.Quantifier = Valid WhyNot.Quantifier
 verdict_for (WhyNot.Statement span) = Valid (WhyNot.Statement span)
 
 -- The goals that are told, procedure by procedure.
-abbrev pub all_told_by : List Outcome → List NamedGoal
+abbrev pub all_told_by : List ProcedureOutcome → List NamedGoal
 all_told_by [] = []
-all_told_by (o ∷ os) = listed (told_by o) ++ all_told_by os
+all_told_by (o ∷ os) = told_of o ++ all_told_by os

@@ -5,7 +5,8 @@ use Rattle.heyvl_types.specs.PlainActs.{procedure_of, procedures_of}
 use Rattle.verify_core.specs.Questions.{question}
 use Rattle.verify_core.specs.internal.Checking.{is_unverified}
 use Rattle.verify_core.proofs.AskedGoals.{goal_is, proper}
-use Rattle.verify_core.proofs.CertifiedBounds.{certified_bounds_hold}
+use Rattle.verify_core.proofs.CertifiedBounds.{certified_bounds_hold, none_falsified}
+use Rattle.verify_core.proofs.CertifiedRankings.{certified_rankings_bound}
 use Rattle.verify_core.proofs.CheckedFiles.{checked_file, marks_sized, own_sized}
 use Rattle.verify_core.proofs.PlacedChecks.{placed_answers}
 use Rattle.verify_core.proofs.certified.check_all.Goals as goal
@@ -23,10 +24,16 @@ returns-clause-placed c = λ bytes stands.
     let sized = marks_sized own ∙ (own_sized ps c.args.certs.now 0 ps own c.in_ok-own.ensures ∙ length-map c.args.typed.now.procs.items procedure_of) in
     placed_answers bytes (length c.args.typed.now.procs.items) ps c.args.certs.now (map is_unverified own) 0 ps own c.in_ok-answers.answers.items sized stands c.in_ok-own.ensures c.in_ok-answers.ensures
 
-pub returns-clause-verified : goal.returns-clause-verified
-returns-clause-verified c =
+pub returns-clause-headline : goal.returns-clause-headline
+returns-clause-headline c =
     let ps = procedures_of c.args.typed.now in
+    let certs = c.args.certs.now in
     let answers = c.in_ok-answers.answers.items in
-    certified_bounds_hold c.shown_bounds_hold.ensures c.certified_goals_hold.ensures c.made_goals_say_bounds.ensures ps c.args.certs.now answers c.requires.rules.each
-    (λ p l id. (goal_is c.prenexed_goals_speak_of_choices.ensures.goals (question ps (procedure_at ps p) id) (proper c.generated_form_means_acts.ensures.typed c.generated_form_means_acts.ensures.over c.encodings_are_over_their_variables.ensures.over ps c.requires.rules.each p l id)).typed)
-    (checked_file ps c.args.certs.now c.in_ok-own.own.items answers c.in_ok-own.ensures c.in_ok-answers.ensures)
+    let file = checked_file ps certs c.in_ok-own.own.items answers c.in_ok-own.ensures c.in_ok-answers.ensures in
+    record {
+      verified = certified_bounds_hold c.shown_bounds_hold.ensures c.certified_goals_hold.ensures c.made_goals_say_bounds.ensures ps certs answers c.requires.rules.each
+          (λ p l id. (goal_is c.prenexed_goals_speak_of_choices.ensures.goals (question ps (procedure_at ps p) id) (proper c.generated_form_means_acts.ensures.typed c.generated_form_means_acts.ensures.over c.encodings_are_over_their_variables.ensures.over ps c.requires.rules.each p l id)).typed)
+          file;
+      ranked = certified_rankings_bound c.certified_goals_hold.ensures c.ranking_goals_say_rankings.ensures.goals c.ranking_goals_say_rankings.ensures.holds c.rankings_bound_turns.ensures ps certs c.requires.rules.each answers file;
+      falsified = none_falsified ps certs answers file;
+    }

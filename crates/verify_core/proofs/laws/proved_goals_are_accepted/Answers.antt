@@ -1,4 +1,4 @@
-use Rattle.verify_core.proofs.AcceptedProofs.{proved_goals_are_accepted}
+use Rattle.verify_core.proofs.AcceptedProofs.{proved_goals_are_accepted, proved_rankings_are_accepted}
 use Rattle.verify_core.proofs.ServedGoals.{proofs_are_accepted}
 use Rattle.verify_core.proofs.laws.proved_goals_are_accepted.Goals as goal
 
@@ -7,3 +7,6 @@ returns-clause-accepted c = proofs_are_accepted c.walk_trees_certify.ensures.cer
 
 pub returns-clause-nothing_missed : goal.returns-clause-nothing_missed
 returns-clause-nothing_missed c = proved_goals_are_accepted c.walk_trees_certify.ensures.certify c.certificates_are_told_apart.ensures.never_both
+
+pub returns-clause-no_ranking_missed : goal.returns-clause-no_ranking_missed
+returns-clause-no_ranking_missed c = proved_rankings_are_accepted c.walk_trees_certify.ensures.certify c.certificates_are_told_apart.ensures.never_both

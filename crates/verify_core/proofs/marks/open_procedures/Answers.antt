@@ -16,7 +16,7 @@ loop-one-preserved c =
     let l : i < length ps = omega (arith, length-map c.args.typed.now.procs.items procedure_of) in
     record {
       place = omega arith;
-      marks = next_mark ps c.args.outcomes.now i c.one-item.result _ _ _ _ l c.loop-one-test.true c.one-item.is (c.is_open-mark.ensures ∙ ap (λ n. is_open (procedure_at ps n) c.one-item.result) c.loop-one.invariant.place) c.in_ok-push.ensures.items c.loop-one.invariant.marks;
+      marks = next_mark ps c.args.outcomes.now i c.one-item.result _ _ _ _ l c.loop-one-test.true c.one-item.is (c.is_open-mark.ensures ∙ ap (λ n. is_open (procedure_at ps n) c.one-item.result.bound) c.loop-one.invariant.place) c.in_ok-push.ensures.items c.loop-one.invariant.marks;
     }
 
 pub returns : goal.returns

@@ -13,5 +13,5 @@ returns c = record {
     | then-is_verified+in_ok-verdict w ↦ marked_verdict (procedures_of c.args.typed.now) c.args.marks.now c.args.p c.args.own c.if-is_verified.verdict (sym c.is_verified.ensures ∙ w.if-is_verified.true) (subst (λ v. IsReachingVerdict (procedures_of c.args.typed.now) c.args.marks.now c.args.p v) (sym w.verdict-is) w.in_ok-verdict.ensures)
     | else-is_verified w ↦ own_again (procedures_of c.args.typed.now) c.args.marks.now c.args.p c.args.own c.if-is_verified.verdict (sym c.is_verified.ensures ∙ w.if-is_verified.false) w.verdict-is
   ];
-  loops = c.new.ensures.items;
+  loops = c.in_ok-own_rankings.ensures;
 }

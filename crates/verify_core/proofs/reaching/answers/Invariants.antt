@@ -7,5 +7,5 @@ use Rattle.verify_core.proofs.reaching.answers.Given as goal
 abbrev pub invariant-loop-verdict : goal.invariant-loop-verdict
 invariant-loop-verdict l = record {
   counted : l.p ≡ length l.yielded;
-  so_far : AreMarkedAnswers (procedures_of l.typed) l.marks.items 0 l.yielded l.answers.items;
+  so_far : AreMarkedAnswers (procedures_of l.typed) l.certs l.marks.items 0 l.yielded l.answers.items;
 }

@@ -1,4 +1,4 @@
-use Rattle.std.proofs.Common.{ap, arith, rules, sym, ◌∙◌, ◌≡◌, ◌<◌, ◌≤◌, length, drop, ◌∷◌}
+use Rattle.std.proofs.Common.{ap, arith, rules, sym, ◌∙◌, ◌≡◌, ◌<◌, ◌≤◌, length, ◌∷◌}
 use Rattle.std.proofs.lemmas.List.{length-map}
 use Rattle.std.specs.Vec.Iter.{into_iter_items}
 use Rattle.heyvl_types.specs.PlainActs.{procedure_of, procedures_of}
@@ -10,7 +10,7 @@ pub loop-one-init : goal.loop-one-init
 loop-one-init c = record {
   count = search rules;
   left = cc;
-  answers = λ table e m. no_answers (procedures_of c.args.typed.now) table _ (search rules);
+  answers = λ table ranks o m. no_answers (procedures_of c.args.typed.now) table ranks _ (search rules);
   made = search rules;
 }
 
@@ -24,7 +24,7 @@ loop-one-preserved c =
     record {
       count = omega (arith, one);
       left = left_next c.args.outcomes.items _ ys c.loop-one.p c.in-Some.one c.loop-one.invariant.left more;
-      answers = λ table e m. next_answers ps table c.loop-one.p _ c.push.new.self.items _ l c.in_ok-push.ensures.items (c.loop-one.invariant.answers table e m) (c.in_ok-answer.ensures.answer table (head_outcome table c.loop-one.p c.in-Some.one ys (ap (drop c.loop-one.p) (sym e) ∙ sym c.loop-one.invariant.left ∙ more)) m);
+      answers = λ table ranks o m. next_answers ps table ranks c.loop-one.p _ c.push.new.self.items _ l c.in_ok-push.ensures.items (c.loop-one.invariant.answers table ranks o m) (c.in_ok-answer.ensures.answer table ranks (head_outcome ps table ranks c.args.outcomes.items c.loop-one.p c.in-Some.one ys (sym c.loop-one.invariant.left ∙ more) o) m);
       made = told_next _ ys c.in-Some.one _ _ _ more c.in_ok-answer.ensures.made c.loop-one.invariant.made;
     }
 
@@ -33,7 +33,7 @@ returns-clause-answers c =
     let ps = procedures_of c.args.typed.now in
     let none : length (into_iter_items c.loop-one.one-iterator) ≡ 0 = ap length (nothing_left _ (into_iter_items c.loop-one.one-iterator) c.loop-one.one-iterator.rest.ok.0 c.in-None.ensures.steps.0) in
     let l : length ps ≤ c.loop-one.p = omega (arith, length-map c.args.typed.now.procs.items procedure_of, none) in
-    λ table e m. all_answers ps table c.loop-one.p _ l (c.loop-one.invariant.answers table e m)
+    λ table ranks o m. all_answers ps table ranks c.loop-one.p _ l (c.loop-one.invariant.answers table ranks o m)
 
 pub returns-clause-made : goal.returns-clause-made
 returns-clause-made c = told_last _ c.loop-one.made.items _ (nothing_left _ (into_iter_items c.loop-one.one-iterator) c.loop-one.one-iterator.rest.ok.0 c.in-None.ensures.steps.0) c.loop-one.invariant.made

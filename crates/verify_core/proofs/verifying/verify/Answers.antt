@@ -34,11 +34,11 @@ returns-clause-placed c =
     let s = c.in_ok-outcomes.ensures in
     let all = c.in_ok-answers.answers.items in
     let are = answers_of_table ps c.in_ok-outcomes.outcomes.items c.settle.new.certs.items c.deref-2.result.now all s (c.deref-2.ensures.value ∙ c.in_ok-marks.ensures ∙ ap (marks ps) c.deref.ensures.value) c.in_ok-answers.ensures.answers in
-    λ n h. subst (λ k. Each (IsAnswerPlaced n k) all) (length-map c.args.typed.now.procs.items procedure_of) (answers_placed n ps s.table all c.requires.rules.each s.decided h are)
+    λ n h. subst (λ k. Each (IsAnswerPlaced n k) all) (length-map c.args.typed.now.procs.items procedure_of) (answers_placed n ps s.table s.ranks all c.requires.rules.each s.decided s.ranked h are)
 
 pub returns-clause-headline : goal.returns-clause-headline
 returns-clause-headline c =
     let ps = procedures_of c.args.typed.now in
     let s = c.in_ok-outcomes.ensures in
     let all = c.in_ok-answers.answers.items in
-    headline c.made_goals_say_bounds.ensures c.shown_bounds_hold.ensures c.broken_goals_break_bounds.ensures c.encodings_are_over_their_variables.ensures.over c.generated_form_means_acts.ensures.value c.generated_form_means_acts.ensures.over c.prenexed_form_means_choices.ensures.found ps s.table c.requires.rules.each s.decided s.settled all (answers_of_table ps c.in_ok-outcomes.outcomes.items c.settle.new.certs.items c.deref-2.result.now all s (c.deref-2.ensures.value ∙ c.in_ok-marks.ensures ∙ ap (marks ps) c.deref.ensures.value) c.in_ok-answers.ensures.answers)
+    headline c.made_goals_say_bounds.ensures c.shown_bounds_hold.ensures c.broken_goals_break_bounds.ensures c.encodings_are_over_their_variables.ensures.over c.generated_form_means_acts.ensures.value c.generated_form_means_acts.ensures.over c.prenexed_form_means_choices.ensures.found ps s.table c.requires.rules.each s.decided s.settled c.rankings_bound_turns.ensures c.ranking_goals_say_rankings.ensures.holds s.ranks s.ranked s.ranks_settled all (answers_of_table ps c.in_ok-outcomes.outcomes.items c.settle.new.certs.items c.deref-2.result.now all s (c.deref-2.ensures.value ∙ c.in_ok-marks.ensures ∙ ap (marks ps) c.deref.ensures.value) c.in_ok-answers.ensures.answers)

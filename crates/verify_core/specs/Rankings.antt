@@ -1,0 +1,51 @@
+-- The goals of the rankings of a procedure's loops, and all goals of a procedure. This project's own.
+use Rattle.std.specs.Prelude.{◌≡◌, ℕ, List, [], ◌∷◌, ◌++◌, if◌then◌else◌}
+use Rattle.std.specs.Option.{is_some}
+use Rattle.heylo_formula.specs.declared.goals.GoalId.TheVariants.{Ranking}
+use Rattle.heyvl_types.specs.Acts.{Act, TypedProcedure, acts_in, procedure_at}
+use Rattle.heyvl_types.specs.Places.{in_order}
+use Rattle.loop_encodings.specs.BoundGoals.{bound_goals}
+use Rattle.ranking_rule.specs.RankingGoals.{IsMadeOf}
+use Rattle.ranking_rule.specs.Rankings.{RankedLoop}
+use Rattle.verdict_report.specs.declared.answers.NamedGoal.{NamedGoal}
+use Rattle.verify_core.specs.Questions.{AreGoals}
+
+-- The numbers of the loops with a ranking among the acts, in their order.
+abbrev pub ranked_in : List Act → List ℕ
+ranked_in [] = []
+ranked_in (Act.loop h b ∷ rest) = if is_some h.rank then h.number ∷ ranked_in rest else ranked_in rest
+ranked_in (Act.set x t span ∷ rest) = ranked_in rest
+ranked_in (Act.draw x qs span ∷ rest) = ranked_in rest
+ranked_in (Act.any x up ty span ∷ rest) = ranked_in rest
+ranked_in (Act.reward f span ∷ rest) = ranked_in rest
+ranked_in (Act.ifs arms e span ∷ rest) = ranked_in rest
+ranked_in (Act.pick up a b span ∷ rest) = ranked_in rest
+ranked_in (Act.check kind f span ∷ rest) = ranked_in rest
+ranked_in (Act.validate co span ∷ rest) = ranked_in rest
+ranked_in (Act.call xs q es span ∷ rest) = ranked_in rest
+
+-- The numbers of the procedure's loops with a ranking, in the order of the text, an outer loop before those inside it.
+abbrev pub ranked_loops : TypedProcedure → List ℕ
+ranked_loops p = ranked_in (in_order (acts_in p.body))
+
+-- The goal of the ranking of the loop n of the procedure with the number p.
+pub record IsRankingGoal (ps : List TypedProcedure) (p n : ℕ) (g : NamedGoal) : Type 0 where
+  pub proc : g.proc ≡ p
+  pub id_of : g.id ≡ Ranking n
+  pub ranked : RankedLoop (procedure_at ps p) n
+  pub made : IsMadeOf (procedure_at ps p) ranked.head ranked.body ranked.rank g.made
+
+-- The goals of the rankings of these loops, in their order.
+abbrev pub AreRankingGoals : List TypedProcedure → ℕ → List ℕ → List NamedGoal → Type 0
+AreRankingGoals ps p [] [] = Unit {0}
+AreRankingGoals ps p [] (g ∷ gs) = ⊥
+AreRankingGoals ps p (n ∷ ns) [] = ⊥
+AreRankingGoals ps p (n ∷ ns) (g ∷ gs) = IsRankingGoal ps p n g × AreRankingGoals ps p ns gs
+
+-- All goals of a procedure: first those of its bound, and then one for each of its rankings.
+pub record AreAllGoals (ps : List TypedProcedure) (p : ℕ) (all : List NamedGoal) : Type 0 where
+  pub bounds : List NamedGoal
+  pub rankings : List NamedGoal
+  pub all_are : all ≡ bounds ++ rankings
+  pub bound : AreGoals ps p (bound_goals (procedure_at ps p)) bounds
+  pub ranked : AreRankingGoals ps p (ranked_loops (procedure_at ps p)) rankings
