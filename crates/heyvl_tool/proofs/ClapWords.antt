@@ -4,15 +4,15 @@ use Rattle.clap.specs.Faults.{entered_fault, level_fault, walk_fault}
 use Rattle.clap.specs.Kinds.{Kinds, or_else}
 use Rattle.clap.specs.Simple.{Shape, built, built_leaf, inherited, names_of}
 use Rattle.clap.specs.Walk.{Held, Names, Walk, nothing_held, walk, walk_from, walked}
-use Rattle.clap.specs.Words.{Row, Rule, Text, fault_of, first_of, is_simple, is_simple_and_free, subcommand_of, takes}
-use Rattle.std.proofs.Common.{Bool, List, None, Option, Some, [], ap, append-nil, arith, codes, eqb, false, fold, not, option_map, refl, subst, sym, true, ◌++◌, ◌&&◌, ◌∙◌, ◌∷◌, ◌≡◌, ℕ}
+use Rattle.clap.specs.Words.{Row, Rule, Text, fault_of, is_simple, is_simple_and_free, subcommand_of, takes}
+use Rattle.std.proofs.Common.{Bool, List, Option, Some, [], ap, append-nil, codes, eqb, false, fold, not, refl, subst, sym, true, ◌++◌, ◌&&◌, ◌∙◌, ◌∷◌, ◌≡◌, ℕ}
 use Rattle.std.proofs.lemmas.List.{append_assoc}
 use Rattle.std.specs.Cmp.Lexicographic.{same_text}
 use Rattle.std.specs.List.{list_all}
 use Rattle.std.specs.Str.{bytes_eq}
-use Rattle.heyvl_tool.specs.CommandLine.{IsMet, command_and_file, file_command, met_for, tool}
-use Rattle.heyvl_tool.specs.Words.{AskFor, is_file_word}
-use Rattle.heyvl_tool.specs.declared.requests.Settings.TheVariants.{Print, Verify}
+use Rattle.heyvl_tool.specs.CommandLine.{IsFound, IsMet, check_names, command, file_names, run_names, tool}
+use Rattle.heyvl_tool.specs.Words.{AskFor, arguments_of, command_of, is_argument, words_of}
+use Rattle.heyvl_tool.specs.declared.requests.Settings.TheVariants.{Certify, Check, Print, Run, Verify}
 use Rattle.heyvl_tool.specs.declared.requests.Settings.{Settings}
 
 pub tool_is_simple : is_simple tool ≡ true
@@ -23,39 +23,77 @@ pub tool_is_free : is_simple_and_free tool ≡ true
 unfolding clap_on_literals
 tool_is_free = refl
 
--- The two names of commands.
-abbrev pub command_word : Bool → Text
-command_word true = codes "verify"
-command_word false = codes "print"
+-- A word that begins with something else than `-`.
+data IsPlain : Text → Type 0 where
+  plain : (b : ℕ) (bs : List ℕ) → eqb b 45 ≡ false → IsPlain (b ∷ bs)
 
-no_hyphen : (b : ℕ) → not (eqb b 45) ≡ true → eqb b 45 ≡ false
-no_hyphen b h = by (eqb b 45) refl h
+is_plain : (word : Text) → is_argument word ≡ true → IsPlain word
+is_plain [] h = absurd (cc)
+is_plain (b ∷ bs) h = plain b bs (by (eqb b 45) refl h)
   where
     by : (t : Bool) → eqb b 45 ≡ t → not t ≡ true → eqb b 45 ≡ false
     by true e n = absurd (cc)
     by false e n = e
 
--- A command with its file is taken.
-takes_file : (c : Bool) (b : ℕ) (bs : List ℕ) → eqb b 45 ≡ false → takes tool (command_word c ∷ (b ∷ bs) ∷ []) ≡ true
+both : (a b : Bool) → a && b ≡ true → (a ≡ true) × (b ≡ true)
+both true b h = (refl, h)
+both false b h = absurd (cc)
+
+are_plain : (word : Text) (rest : List Text) → list_all is_argument (word ∷ rest) ≡ true → IsPlain word × (list_all is_argument rest ≡ true)
+are_plain word rest h = let (one, others) = both (is_argument word) (list_all is_argument rest) h in (is_plain word one, others)
+
+-- ---- What is asked for is taken, for what it is
+
+takes_file : (f : Text) → IsPlain f → (takes tool (codes "verify" ∷ f ∷ []) ≡ true) × (takes tool (codes "print" ∷ f ∷ []) ≡ true) × (takes tool (codes "certify" ∷ f ∷ []) ≡ true)
 unfolding clap_on_literals
-takes_file true b bs h = simp h
-takes_file false b bs h = simp h
+takes_file f (plain b bs h) = (simp h, simp h, simp h)
 
-pub takes_call : (c : Bool) (file : Text) → is_file_word file ≡ true → takes tool (command_word c ∷ file ∷ []) ≡ true
-takes_call c [] h = absurd (cc)
-takes_call c (b ∷ bs) h = takes_file c b bs (no_hyphen b h)
-
--- What it is taken for.
-reads_file : (c : Bool) (b : ℕ) (bs : List ℕ) → eqb b 45 ≡ false → command_and_file (subcommand_of tool (command_word c ∷ (b ∷ bs) ∷ [])) ≡ Some (command_word c, Some (b ∷ bs))
+takes_run : (f p s : Text) → IsPlain f → IsPlain p → IsPlain s → takes tool (codes "run" ∷ f ∷ p ∷ s ∷ []) ≡ true
 unfolding clap_on_literals
-reads_file true b bs h = simp h
-reads_file false b bs h = simp h
+takes_run f p s (plain b bs h) (plain e es k) (plain i is l) = simp (h, k, l)
 
-pub reads_call : (c : Bool) (file : Text) → is_file_word file ≡ true → command_and_file (subcommand_of tool (command_word c ∷ file ∷ [])) ≡ Some (command_word c, Some file)
-reads_call c [] h = absurd (cc)
-reads_call c (b ∷ bs) h = reads_file c b bs (no_hyphen b h)
+takes_check : (f c : Text) → IsPlain f → IsPlain c → takes tool (codes "check" ∷ f ∷ c ∷ []) ≡ true
+unfolding clap_on_literals
+takes_check f c (plain b bs h) (plain e es k) = simp (h, k)
 
--- Where the walk has met a subcommand, the further words go to it.
+pub takes_asked : (words : List Text) (settings : Settings) → AskFor words settings → takes tool words ≡ true
+takes_asked words settings asked = ap (λ (ws : List Text). takes tool ws) asked.words_are ∙ taken settings asked.arguments
+  where
+    taken : (s : Settings) → list_all is_argument (arguments_of s) ≡ true → takes tool (words_of s) ≡ true
+    taken (Verify f) h = (takes_file f (are_plain f [] h).0).0
+    taken (Print f) h = (takes_file f (are_plain f [] h).0).1
+    taken (Run f p s) h =
+        let (first, more) = are_plain f (p ∷ s ∷ []) h in
+        let (second, last) = are_plain p (s ∷ []) more in
+        takes_run f p s first second (are_plain s [] last).0
+    taken (Certify f) h = (takes_file f (are_plain f [] h).0).2
+    taken (Check f c) h = let (first, last) = are_plain f (c ∷ []) h in takes_check f c first (are_plain c [] last).0
+
+finds_file : (f : Text) → IsPlain f → IsFound (Verify f) (subcommand_of tool (codes "verify" ∷ f ∷ [])) × IsFound (Print f) (subcommand_of tool (codes "print" ∷ f ∷ []))
+    × IsFound (Certify f) (subcommand_of tool (codes "certify" ∷ f ∷ []))
+unfolding clap_on_literals
+finds_file f (plain b bs h) = (simp h, simp h, simp h)
+
+finds_run : (f p s : Text) → IsPlain f → IsPlain p → IsPlain s → IsFound (Run f p s) (subcommand_of tool (codes "run" ∷ f ∷ p ∷ s ∷ []))
+unfolding clap_on_literals
+finds_run f p s (plain b bs h) (plain e es k) (plain i is l) = simp (h, k, l)
+
+finds_check : (f c : Text) → IsPlain f → IsPlain c → IsFound (Check f c) (subcommand_of tool (codes "check" ∷ f ∷ c ∷ []))
+unfolding clap_on_literals
+finds_check f c (plain b bs h) (plain e es k) = simp (h, k)
+
+finds_asked : (s : Settings) → list_all is_argument (arguments_of s) ≡ true → IsFound s (subcommand_of tool (words_of s))
+finds_asked (Verify f) h = (finds_file f (are_plain f [] h).0).0
+finds_asked (Print f) h = (finds_file f (are_plain f [] h).0).1
+finds_asked (Run f p s) h =
+    let (first, more) = are_plain f (p ∷ s ∷ []) h in
+    let (second, last) = are_plain p (s ∷ []) more in
+    finds_run f p s first second (are_plain s [] last).0
+finds_asked (Certify f) h = (finds_file f (are_plain f [] h).0).2
+finds_asked (Check f c) h = let (first, last) = are_plain f (c ∷ []) h in finds_check f c first (are_plain c [] last).0
+
+-- ---- Where a command is met, the words behind it go to it
+
 stopped_on : (rules : List Rule) (names : Names) (w : Walk) (name : Text) (seen more : List Text) → w.stopped ≡ Some (name, seen) →
     (fold (walked rules names) w more).stopped ≡ Some (name, seen ++ more)
 unfolding walked
@@ -64,13 +102,27 @@ stopped_on rules names w name seen (m ∷ more) h =
     stopped_on rules names (walked rules names w m) name (seen ++ m ∷ []) more (rw h refl)
     ∙ ap (λ (ts : List Text). Some (name, ts)) (append_assoc seen (m ∷ []) more)
 
-stop_at : List Text → Option (Text × List Text)
-stop_at words = (walk (built tool).top.rules (names_of (built tool)) nothing_held words).stopped
+-- The five commands, with the names of their arguments.
+data IsCommand : Text → List Text → Type 0 where
+  verify : IsCommand (codes "verify") file_names
+  print : IsCommand (codes "print") file_names
+  run : IsCommand (codes "run") run_names
+  certify : IsCommand (codes "certify") file_names
+  check : IsCommand (codes "check") check_names
 
-meets_call : (c : Bool) (more : List Text) → stop_at (command_word c ∷ more) ≡ Some (command_word c, more)
-unfolding clap_on_literals stop_at
-meets_call true more = stopped_on (built tool).top.rules (names_of (built tool)) (walked (built tool).top.rules (names_of (built tool)) (walk_from nothing_held) (codes "verify")) (codes "verify") [] more refl
-meets_call false more = stopped_on (built tool).top.rules (names_of (built tool)) (walked (built tool).top.rules (names_of (built tool)) (walk_from nothing_held) (codes "print")) (codes "print") [] more refl
+after : List Text → Walk
+after words = walk (built tool).top.rules (names_of (built tool)) nothing_held words
+
+meets : (name : Text) (names : List Text) → IsCommand name names → (more : List Text) → (after (name ∷ more)).stopped ≡ Some (name, more)
+unfolding clap_on_literals after
+meets name names is more = stopped_on (built tool).top.rules (names_of (built tool)) (after (name ∷ [])) name [] more (stops name names is)
+  where
+    stops : (name : Text) (names : List Text) → IsCommand name names → (after (name ∷ [])).stopped ≡ Some (name, [])
+    stops name names verify = refl
+    stops name names print = refl
+    stops name names run = refl
+    stops name names certify = refl
+    stops name names check = refl
 
 left_empty : (ks js : Kinds) → or_else ks js ≡ [] → ks ≡ []
 left_empty [] js h = refl
@@ -87,139 +139,143 @@ walk_empty s names h words has below none = left_empty (walk_fault s names (walk
 below_empty : (s : Shape) (names : Names) (h : Held) (words : List Text) (has : Bool) (below : Kinds) → level_fault s names h words has below ≡ [] → below ≡ []
 below_empty s names h words has below none = left_empty below _ (right_empty (walk_fault s names (walk_from h) words) _ none)
 
-sub : Bool → Shape
-sub true = built_leaf (inherited (built tool).top (file_command (codes "verify")).top)
-sub false = built_leaf (inherited (built tool).top (file_command (codes "print")).top)
+-- A command of the tool, and what it finds wrong with the words behind it.
+leaf : Text → List Text → Shape
+leaf name names = built_leaf (inherited (built tool).top (command name names).top)
 
-enters_call : (c : Bool) (more : List Text) → fault_of tool (command_word c ∷ more) ≡ [] → walk_fault (sub c) [] (walk_from nothing_held) more ≡ []
-unfolding clap_on_literals stop_at sub
-enters_call true more none =
-    let below : entered_fault (built tool) (stop_at (codes "verify" ∷ more)) ≡ [] = below_empty (built tool).top (names_of (built tool)) nothing_held (codes "verify" ∷ more) _ _ none in
-    let inside : entered_fault (built tool) (Some (codes "verify", more)) ≡ [] = subst (λ (o : Option (Text × List Text)). entered_fault (built tool) o ≡ []) (meets_call true more) below in
-    walk_empty (sub true) [] nothing_held more false [] inside
-enters_call false more none =
-    let below : entered_fault (built tool) (stop_at (codes "print" ∷ more)) ≡ [] = below_empty (built tool).top (names_of (built tool)) nothing_held (codes "print" ∷ more) _ _ none in
-    let inside : entered_fault (built tool) (Some (codes "print", more)) ≡ [] = subst (λ (o : Option (Text × List Text)). entered_fault (built tool) o ≡ []) (meets_call false more) below in
-    walk_empty (sub false) [] nothing_held more false [] inside
+leaf_fault : Text → List Text → List Text → Kinds
+leaf_fault name names words = level_fault (leaf name names) [] nothing_held words false []
 
--- A third word is refused.
-third_word : (c : Bool) (b : ℕ) (bs : List ℕ) (e : ℕ) (es : List ℕ) (more : List Text) → eqb b 45 ≡ false → eqb e 45 ≡ false →
-    walk_fault (sub c) [] (walk_from nothing_held) ((b ∷ bs) ∷ (e ∷ es) ∷ more) ≡ [] → ⊥
-unfolding clap_on_literals sub
-third_word true b bs e es more h k none = let no = simp (h, k) at none in cc
-third_word false b bs e es more h k none = let no = simp (h, k) at none in cc
+enters : (name : Text) (names : List Text) → IsCommand name names → (more : List Text) → fault_of tool (name ∷ more) ≡ [] → leaf_fault name names more ≡ []
+unfolding clap_on_literals after leaf leaf_fault
+enters name names is more none =
+    let below : entered_fault (built tool) (after (name ∷ more)).stopped ≡ [] = below_empty (built tool).top (names_of (built tool)) nothing_held (name ∷ more) _ _ none in
+    by name names is more (subst (λ (o : Option (Text × List Text)). entered_fault (built tool) o ≡ []) (meets name names is more) below)
+  where
+    by : (name : Text) (names : List Text) → IsCommand name names → (more : List Text) → entered_fault (built tool) (Some (name, more)) ≡ [] → leaf_fault name names more ≡ []
+    by name names verify more inside = inside
+    by name names print more inside = inside
+    by name names run more inside = inside
+    by name names certify more inside = inside
+    by name names check more inside = inside
 
--- A command without a file is refused.
-no_file : (c : Bool) → fault_of tool (command_word c ∷ []) ≡ [] → ⊥
-unfolding clap_on_literals
-no_file true none = cc
-no_file false none = cc
+-- ---- A command refuses a word too few, and a word too many
+
+wants_file : (name : Text) (words : List Text) → list_all is_argument words ≡ true → leaf_fault name file_names words ≡ [] → (f : Text) × (words ≡ f ∷ [])
+unfolding clap_on_literals leaf leaf_fault
+wants_file name [] h none = absurd (cc)
+wants_file name (f ∷ []) h none = (f, refl)
+wants_file name (f ∷ x ∷ more) h none =
+    let (first, rest) = are_plain f (x ∷ more) h in
+    absurd (extra f x more first (are_plain x more rest).0 (walk_empty (leaf name file_names) [] nothing_held (f ∷ x ∷ more) false [] none))
+  where
+    extra : (f x : Text) (more : List Text) → IsPlain f → IsPlain x → walk_fault (leaf name file_names) [] (walk_from nothing_held) (f ∷ x ∷ more) ≡ [] → ⊥
+    extra f x more (plain b bs h) (plain e es k) none = let no = simp (h, k) at none in cc
+
+wants_run : (name : Text) (words : List Text) → list_all is_argument words ≡ true → leaf_fault name run_names words ≡ [] → (f p s : Text) × (words ≡ f ∷ p ∷ s ∷ [])
+unfolding clap_on_literals leaf leaf_fault
+wants_run name [] h none = absurd (cc)
+wants_run name (f ∷ []) h none = absurd (fewest f (are_plain f [] h).0 none)
+  where
+    fewest : (f : Text) → IsPlain f → leaf_fault name run_names (f ∷ []) ≡ [] → ⊥
+    fewest f (plain b bs h) none = let no = simp h at none in cc
+wants_run name (f ∷ p ∷ []) h none = let (first, last) = are_plain f (p ∷ []) h in absurd (few f p first (are_plain p [] last).0 none)
+  where
+    few : (f p : Text) → IsPlain f → IsPlain p → leaf_fault name run_names (f ∷ p ∷ []) ≡ [] → ⊥
+    few f p (plain b bs h) (plain e es k) none = let no = simp (h, k) at none in cc
+wants_run name (f ∷ p ∷ s ∷ []) h none = (f, p, s, refl)
+wants_run name (f ∷ p ∷ s ∷ x ∷ more) h none =
+    let (first, rest) = are_plain f (p ∷ s ∷ x ∷ more) h in
+    let (second, last) = are_plain p (s ∷ x ∷ more) rest in
+    let (third, end) = are_plain s (x ∷ more) last in
+    absurd (extra f p s x more first second third (are_plain x more end).0 (walk_empty (leaf name run_names) [] nothing_held (f ∷ p ∷ s ∷ x ∷ more) false [] none))
+  where
+    extra : (f p s x : Text) (more : List Text) → IsPlain f → IsPlain p → IsPlain s → IsPlain x →
+        walk_fault (leaf name run_names) [] (walk_from nothing_held) (f ∷ p ∷ s ∷ x ∷ more) ≡ [] → ⊥
+    extra f p s x more (plain b bs h) (plain e es k) (plain i is l) (plain o os m) none = let no = simp (h, k, l, m) at none in cc
+
+wants_check : (name : Text) (words : List Text) → list_all is_argument words ≡ true → leaf_fault name check_names words ≡ [] → (f c : Text) × (words ≡ f ∷ c ∷ [])
+unfolding clap_on_literals leaf leaf_fault
+wants_check name [] h none = absurd (cc)
+wants_check name (f ∷ []) h none = absurd (few f (are_plain f [] h).0 none)
+  where
+    few : (f : Text) → IsPlain f → leaf_fault name check_names (f ∷ []) ≡ [] → ⊥
+    few f (plain b bs h) none = let no = simp h at none in cc
+wants_check name (f ∷ c ∷ []) h none = (f, c, refl)
+wants_check name (f ∷ c ∷ x ∷ more) h none =
+    let (first, rest) = are_plain f (c ∷ x ∷ more) h in
+    let (second, last) = are_plain c (x ∷ more) rest in
+    absurd (extra f c x more first second (are_plain x more last).0 (walk_empty (leaf name check_names) [] nothing_held (f ∷ c ∷ x ∷ more) false [] none))
+  where
+    extra : (f c x : Text) (more : List Text) → IsPlain f → IsPlain c → IsPlain x → walk_fault (leaf name check_names) [] (walk_from nothing_held) (f ∷ c ∷ x ∷ more) ≡ [] → ⊥
+    extra f c x more (plain b bs h) (plain e es k) (plain i is l) none = let no = simp (h, k, l) at none in cc
+
+-- ---- What is taken was asked for
 
 no_words : fault_of tool [] ≡ [] → ⊥
 unfolding clap_on_literals
 no_words none = cc
 
--- Another first word is refused.
-other_word : (b : ℕ) (bs : List ℕ) (more : List Text) → eqb b 45 ≡ false → bytes_eq (codes "verify") (b ∷ bs) ≡ false → bytes_eq (codes "print") (b ∷ bs) ≡ false →
-    fault_of tool ((b ∷ bs) ∷ more) ≡ [] → ⊥
+-- A first word that is no command is refused.
+other_word : (word : Text) (more : List Text) → IsPlain word → bytes_eq (codes "verify") word ≡ false → bytes_eq (codes "print") word ≡ false → bytes_eq (codes "run") word ≡ false →
+    bytes_eq (codes "certify") word ≡ false → bytes_eq (codes "check") word ≡ false → fault_of tool (word ∷ more) ≡ [] → ⊥
 unfolding clap_on_literals
-other_word b bs more h v p none =
-    let walk_none : walk_fault (built tool).top (names_of (built tool)) (walk_from nothing_held) ((b ∷ bs) ∷ more) ≡ [] = walk_empty (built tool).top (names_of (built tool)) nothing_held ((b ∷ bs) ∷ more) _ _ none in
-    let no = simp (h, v, p) at walk_none in
+other_word word more (plain b bs h) v p r c k none =
+    let walk_none : walk_fault (built tool).top (names_of (built tool)) (walk_from nothing_held) (word ∷ more) ≡ [] = walk_empty (built tool).top (names_of (built tool)) nothing_held (word ∷ more) _ _ none in
+    let no = simp (h, v, p, r, c, k) at walk_none in
     cc
 
-both : (a b : Bool) → a && b ≡ true → (a ≡ true) × (b ≡ true)
-both true b h = (refl, h)
-both false b h = absurd (cc)
+Spell : List Text → Type 0
+Spell words = (s : Settings) × (words ≡ words_of s)
 
-IsCall : List Text → Type 0
-IsCall words = (c : Bool) × (file : Text) × (words ≡ command_word c ∷ file ∷ [])
+command_spells : (name : Text) (names : List Text) → IsCommand name names → (rest : List Text) → list_all is_argument rest ≡ true → leaf_fault name names rest ≡ [] → Spell (name ∷ rest)
+unfolding Spell
+command_spells name names verify rest h none = let (f, e) = wants_file name rest h none in (Verify f, ap (λ (ws : List Text). name ∷ ws) e)
+command_spells name names print rest h none = let (f, e) = wants_file name rest h none in (Print f, ap (λ (ws : List Text). name ∷ ws) e)
+command_spells name names run rest h none = let (f, p, s, e) = wants_run name rest h none in (Run f p s, ap (λ (ws : List Text). name ∷ ws) e)
+command_spells name names certify rest h none = let (f, e) = wants_file name rest h none in (Certify f, ap (λ (ws : List Text). name ∷ ws) e)
+command_spells name names check rest h none = let (f, c, e) = wants_check name rest h none in (Check f c, ap (λ (ws : List Text). name ∷ ws) e)
 
-one_file : (c : Bool) (rest : List Text) → list_all is_file_word rest ≡ true → fault_of tool (command_word c ∷ rest) ≡ [] → IsCall (command_word c ∷ rest)
-unfolding IsCall
-one_file c [] plain none = absurd (no_file c none)
-one_file c (f ∷ []) plain none = (c, f, refl)
-one_file c ([] ∷ g ∷ more) plain none = absurd (cc)
-one_file c ((b ∷ bs) ∷ [] ∷ more) plain none = let h = both (not (eqb b 45)) false plain in absurd (cc)
-one_file c ((b ∷ bs) ∷ (e ∷ es) ∷ more) plain none =
-    let h = both (not (eqb b 45)) (not (eqb e 45) && list_all is_file_word more) plain in
-    let k = both (not (eqb e 45)) (list_all is_file_word more) h.1 in
-    absurd (third_word c b bs e es more (no_hyphen b h.0) (no_hyphen e k.0) (enters_call c ((b ∷ bs) ∷ (e ∷ es) ∷ more) none))
+-- So does a word that is equal to a command's, with what is behind it.
+equal_spells : (name word : Text) (names : List Text) → IsCommand name names → bytes_eq name word ≡ true → (rest : List Text) → list_all is_argument rest ≡ true →
+    fault_of tool (word ∷ rest) ≡ [] → Spell (word ∷ rest)
+equal_spells name word names is e rest h none =
+    let same : word ≡ name = sym (same_text name word (sym e)) in
+    let inside = enters name names is rest (subst (λ (w : Text). fault_of tool (w ∷ rest) ≡ []) same none) in
+    subst (λ (w : Text). Spell (w ∷ rest)) (sym same) (command_spells name names is rest h inside)
 
-first_word : (b : ℕ) (bs : List ℕ) (rest : List Text) → not (eqb b 45) ≡ true → list_all is_file_word rest ≡ true →
-    (v p : Bool) → bytes_eq (codes "verify") (b ∷ bs) ≡ v → bytes_eq (codes "print") (b ∷ bs) ≡ p → fault_of tool ((b ∷ bs) ∷ rest) ≡ [] → IsCall ((b ∷ bs) ∷ rest)
-first_word b bs rest h plain true p e d none =
-    let same : codes "verify" ≡ b ∷ bs = same_text (codes "verify") (b ∷ bs) (sym e) in
-    subst (λ (w : Text). IsCall (w ∷ rest)) same (one_file true rest plain (subst (λ (w : Text). fault_of tool (w ∷ rest) ≡ []) (sym same) none))
-first_word b bs rest h plain false true e d none =
-    let same : codes "print" ≡ b ∷ bs = same_text (codes "print") (b ∷ bs) (sym d) in
-    subst (λ (w : Text). IsCall (w ∷ rest)) same (one_file false rest plain (subst (λ (w : Text). fault_of tool (w ∷ rest) ≡ []) (sym same) none))
-first_word b bs rest h plain false false e d none = absurd (other_word b bs rest (no_hyphen b h) e d none)
+first_word : (word : Text) (rest : List Text) → IsPlain word → list_all is_argument rest ≡ true →
+    (v p r c k : Bool) → bytes_eq (codes "verify") word ≡ v → bytes_eq (codes "print") word ≡ p → bytes_eq (codes "run") word ≡ r → bytes_eq (codes "certify") word ≡ c →
+    bytes_eq (codes "check") word ≡ k → fault_of tool (word ∷ rest) ≡ [] → Spell (word ∷ rest)
+first_word word rest w h true p r c k ev ep er ec ek none = equal_spells (codes "verify") word _ verify ev rest h none
+first_word word rest w h false true r c k ev ep er ec ek none = equal_spells (codes "print") word _ print ep rest h none
+first_word word rest w h false false true c k ev ep er ec ek none = equal_spells (codes "run") word _ run er rest h none
+first_word word rest w h false false false true k ev ep er ec ek none = equal_spells (codes "certify") word _ certify ec rest h none
+first_word word rest w h false false false false true ev ep er ec ek none = equal_spells (codes "check") word _ check ek rest h none
+first_word word rest w h false false false false false ev ep er ec ek none = absurd (other_word word rest w ev ep er ec ek none)
 
-pub words_are_call : (words : List Text) → list_all is_file_word words ≡ true → fault_of tool words ≡ [] → (c : Bool) × (file : Text) × (words ≡ command_word c ∷ file ∷ [])
-unfolding IsCall
-words_are_call [] plain none = absurd (no_words none)
-words_are_call ([] ∷ rest) plain none = absurd (cc)
-words_are_call ((b ∷ bs) ∷ rest) plain none =
-    let h = both (not (eqb b 45)) (list_all is_file_word rest) plain in
-    first_word b bs rest h.0 h.1 (bytes_eq (codes "verify") (b ∷ bs)) (bytes_eq (codes "print") (b ∷ bs)) refl refl none
+words_spell : (words : List Text) → list_all is_argument words ≡ true → fault_of tool words ≡ [] → Spell words
+words_spell [] h none = absurd (no_words none)
+words_spell (word ∷ rest) h none =
+    let (first, more) = are_plain word rest h in
+    first_word word rest first more _ _ _ _ _ refl refl refl refl refl none
 
 -- What is met where the words are taken.
-pub met_of : (words : List Text) (met : Option (Text × List Row)) → list_all is_file_word words ≡ true → fault_of tool words ≡ [] → met ≡ subcommand_of tool words → IsMet words met
-met_of words met plain none same =
-    let (c, file, words_are) = words_are_call words plain none in
-    let fine : is_file_word file ≡ true = file_is_fine c file (subst (λ (ws : List Text). list_all is_file_word ws ≡ true) words_are plain) in
-    let read : command_and_file met ≡ Some (command_word c, Some file) =
-    ap command_and_file (same ∙ ap (λ (ws : List Text). subcommand_of tool ws) words_are) ∙ reads_call c file fine in
-    asked c file words met words_are fine read
+pub met_of : (words : List Text) (met : Option (Text × List Row)) → list_all is_argument words ≡ true → fault_of tool words ≡ [] → met ≡ subcommand_of tool words → IsMet words met
+unfolding Spell
+met_of words met h none same =
+    let (s, words_are) = words_spell words h none in
+    let arguments = (are_plain (command_of s) (arguments_of s) (subst (λ (ws : List Text). list_all is_argument ws ≡ true) words_are h)).1 in
+    let met_is : met ≡ subcommand_of tool (words_of s) = same ∙ ap (λ (ws : List Text). subcommand_of tool ws) words_are in
+    (s, record { words_are = words_are; arguments = arguments }, subst (λ (o : Option (Text × List Row)). IsFound s o) (sym met_is) (finds_asked s arguments))
+
+-- Words that ask for something may all be arguments.
+pub plain_asked : (words : List Text) (settings : Settings) → AskFor words settings → list_all is_argument words ≡ true
+plain_asked words settings asked = ap (λ (ws : List Text). list_all is_argument ws) asked.words_are ∙ plain_words settings asked.arguments
   where
-    file_is_fine : (c : Bool) (file : Text) → list_all is_file_word (command_word c ∷ file ∷ []) ≡ true → is_file_word file ≡ true
-    file_is_fine true file h = (both (is_file_word file) true h).0
-    file_is_fine false file h = (both (is_file_word file) true h).0
-
-    asked : (c : Bool) (file : Text) (words : List Text) (met : Option (Text × List Row)) → words ≡ command_word c ∷ file ∷ [] → is_file_word file ≡ true →
-        command_and_file met ≡ Some (command_word c, Some file) → IsMet words met
-    asked true file words met w f r = (Verify file, record { words_are = w; file_word = f }, r)
-    asked false file words met w f r = (Print file, record { words_are = w; file_word = f }, r)
-
--- What is asked for is taken.
-pub takes_asked : (words : List Text) (settings : Settings) → AskFor words settings → takes tool words ≡ true
-takes_asked words (Verify file) asked = ap (λ (ws : List Text). takes tool ws) asked.words_are ∙ takes_call true file asked.file_word
-takes_asked words (Print file) asked = ap (λ (ws : List Text). takes tool ws) asked.words_are ∙ takes_call false file asked.file_word
-
--- The command that was met and its file, by the parts that are read.
-pub met_parts : {B : Type 0} (o : Option B) (N : B → Text) (R : B → List Row) (settings : Settings) (name : Text) (rows : List Row) →
-    command_and_file (option_map (λ b. (N b, R b)) o) ≡ met_for settings → Some name ≡ option_map N o → Some rows ≡ option_map (λ (p : Text × List Row). p.1) (option_map (λ b. (N b, R b)) o) →
-    Some (name, first_of (codes "FILE") rows) ≡ met_for settings
-met_parts None N R settings name rows e n r = absurd (cc)
-met_parts (Some b) N R settings name rows e n r =
-    let same_name : name ≡ N b = cc in
-    let same_rows : rows ≡ R b = cc in
-    rw (same_name, same_rows) e
-
-same_inside : {X : Type 0} (x y : X) → Some x ≡ Some y → x ≡ y
-same_inside x y e = cc
-
-same_parts : (p q : Text × Option Text) → Some p ≡ Some q → (p.0 ≡ q.0) × (p.1 ≡ q.1)
-same_parts p q e = let same = same_inside p q e in (ap (λ (p : Text × Option Text). p.0) same, ap (λ (p : Text × Option Text). p.1) same)
-
-pub is_verify : (settings : Settings) (name file : Text) → Some (name, Some file) ≡ met_for settings → name ≡ codes "verify" → Verify file ≡ settings
-is_verify (Verify f) name file e n = let some = (same_parts (name, Some file) (codes "verify", Some f) e).1 in let same : file ≡ f = cc in ap Verify same
-is_verify (Print f) name file e n =
-    let print = (same_parts (name, Some file) (codes "print", Some f) e).0 in
-    let no : codes "verify" ≡ codes "print" = cc in
-    let digits : ◌≡◌ {A = ℕ} 118 112 = cc in
-    absurd (omega arith)
-
-pub is_print : (settings : Settings) (name file : Text) → Some (name, Some file) ≡ met_for settings → (name ≡ codes "verify" → ⊥) → Print file ≡ settings
-is_print (Verify f) name file e n = absurd (n (same_parts (name, Some file) (codes "verify", Some f) e).0)
-is_print (Print f) name file e n = let some = (same_parts (name, Some file) (codes "print", Some f) e).1 in let same : file ≡ f = cc in ap Print same
-
-pub no_file_met : (settings : Settings) (name : Text) → Some (name, None) ≡ met_for settings → ⊥
-no_file_met (Verify f) name e = let no = (same_parts (name, None) (codes "verify", Some f) e).1 in cc
-no_file_met (Print f) name e = let no = (same_parts (name, None) (codes "print", Some f) e).1 in cc
-
--- Words that ask for something may all name files.
-pub plain_asked : (words : List Text) (settings : Settings) → AskFor words settings → list_all is_file_word words ≡ true
-plain_asked words (Verify file) asked = ap (λ (ws : List Text). list_all is_file_word ws) asked.words_are ∙ ap (λ t. t && true) asked.file_word
-plain_asked words (Print file) asked = ap (λ (ws : List Text). list_all is_file_word ws) asked.words_are ∙ ap (λ t. t && true) asked.file_word
+    plain_words : (s : Settings) → list_all is_argument (arguments_of s) ≡ true → list_all is_argument (words_of s) ≡ true
+    plain_words (Verify f) h = h
+    plain_words (Print f) h = h
+    plain_words (Run f p s) h = h
+    plain_words (Certify f) h = h
+    plain_words (Check f c) h = h

@@ -4,7 +4,7 @@ use Rattle.heyvl_syntax.specs.Procedures.{Procedure}
 use Rattle.heyvl_syntax.specs.SourceFaults.{IsSource}
 use Rattle.heyvl_tool.proofs.Reporting.{few_typed}
 use Rattle.heyvl_tool.specs.FileLaws.{FilesHaveFewActs, FilesHaveNamedBinders, FilesHaveSmallForms, FilesStandWithin}
-use Rattle.heyvl_tool.specs.Replies.{file_limit}
+use Rattle.heyvl_tool.specs.Calls.{file_limit}
 use Rattle.heyvl_tool.specs.TypedFiles.{IsReady}
 use Rattle.heyvl_types.specs.Acts.{TypedProcedure}
 use Rattle.heyvl_types.specs.ResolvedLaws.{IsAnswer, ResolvedTreesMeetRules}

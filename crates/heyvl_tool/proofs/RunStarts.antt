@@ -10,7 +10,7 @@ use Rattle.heyvl_tool.specs.RunStarts.{IsFirstNoProgram, start_state, start_valu
 use Rattle.heyvl_tool.specs.RunReplies.{runs_by}
 use Rattle.heyvl_tool.specs.Scripts.{Script, known_of}
 use Rattle.heyvl_types.specs.Acts.{TypedProcedure, Variable, procedure_at, type_list, variables}
-use Rattle.heyvl_types.specs.Program.{IsProgram, Reaches, why_no_program}
+use Rattle.heyvl_types.specs.Program.{IsProgram, why_no_program}
 use Rattle.heyvl_types.specs.PlainActs.{procedure_of, variable_of}
 use Rattle.heyvl_types.specs.Rules.{Each, GrowBelow, IsCounted}
 use Rattle.heyvl_types.specs.declared.typed.TProc.{TProc}
@@ -24,7 +24,7 @@ use Rattle.run_machine.specs.Names.{Stored, config_of}
 use Rattle.run_machine.specs.declared.configurations.Decide.{Decide}
 use Rattle.run_unroller.specs.RunLists.{begun}
 use Rattle.run_unroller.specs.Unrolling.{Begins, Unrolling, unrolled}
-use Rattle.std.proofs.Common.{Bool, IfSome, List, MatchOption, None, Option, Some, [], ap, ap₂, append_assoc, arith, cond, drop, false, get_or, inl, inr, is_some, length, map, refl, replicate, subst, sym, take, take-add, true, unwrap_or, ◌+◌, ◌++◌, ◌<◌, ◌==◌, ◌||◌, ◌∙◌, ◌∷◌, ◌≡◌, ◌≢◌, ◌≤◌, ◌⊎◌, ℕ}
+use Rattle.std.proofs.Common.{Bool, IfSome, List, MatchOption, None, Option, Some, [], ap, ap₂, append_assoc, arith, drop, false, get_or, inl, inr, is_some, length, map, refl, replicate, subst, sym, take, take-add, true, unwrap_or, ◌+◌, ◌++◌, ◌<◌, ◌==◌, ◌||◌, ◌∙◌, ◌∷◌, ◌≡◌, ◌≢◌, ◌≤◌, ◌⊎◌, ℕ}
 use Rattle.std.proofs.lemmas.Bool.Decides.{eqb_tells, nat_tests}
 use Rattle.std.proofs.lemmas.List.Elements.{All-cons, All-nil}
 use Rattle.std.proofs.lemmas.List.{drop-map, take-map}

@@ -20,11 +20,11 @@ use Rattle.heyvl_types.specs.Places.{in_order, inside_arms}
 use Rattle.heyvl_types.specs.Rules.{Each}
 use Rattle.heyvl_types.specs.Scopes.{Scope}
 use Rattle.heyvl_types.specs.Signatures.{Called}
-use Rattle.heyvl_types.specs.StatementActs.{arms_acts, assigned, block_acts, choose_parts, declared_act, havocs, integer_parts, invariant_of, loops, loops_of_arms, loops_of_block, statement_acts, targets, terms, unif_parts}
+use Rattle.heyvl_types.specs.StatementActs.{arms_acts, assigned, block_acts, choose_parts, declared_act, havocs, integer_parts, invariant_of, loops, loops_of_arms, loops_of_block, ranking_of, statement_acts, targets, terms, unif_parts}
 use Rattle.heyvl_types.specs.TypedExpressions.{elaborate}
 use Rattle.heyvl_types.specs.Variables.{behind, locals, locals_of_arms, locals_of_block}
 use Rattle.std.proofs.Common.{Bool, List, None, Option, Some, [], inl, inr, length, suc, zero, ℤ, pos, unsigned_abs, ◌+ℤ◌, ◌-ℤ◌, ◌+◌, ◌++◌, ◌∷◌, ◌≡◌, ◌≤◌, ◌⊎◌, ℕ}
-use Rattle.verify_core.specs.Places.{ActStands, FormStands, GuardsStand, TermStands}
+use Rattle.verify_core.specs.Places.{ActStands, FormStands, GuardsStand, RankStands, TermStands}
 
 -- ---- Acts
 
@@ -121,20 +121,28 @@ module _ (n : ℕ) where
   abbrev RuleStands : LoopRule → Type 0
   RuleStands (LoopRule.invariant i s) = ExpressionStands n i
   RuleStands (LoopRule.k_induction k i s) = ExpressionStands n i
-  RuleStands (LoopRule.ranking e r s) = Unit {0}
+  RuleStands (LoopRule.ranking e r s) = ExpressionStands n r
 
   rule : (r : LoopRule) → Gives n (IsRule r) (RuleStands r)
   rule (LoopRule.invariant i s) = record { reads = λ ts h x. (within (any _ before any _ before any _ before full i before any _) ts h x.0).1.1.1.0 }
   rule (LoopRule.k_induction k i s) = record {
     reads = λ ts h x. (within (any _ before any _ before any _ before any _ before any _ before full i before any _) ts h x.0).1.1.1.1.1.0;
   }
-  rule (LoopRule.ranking e r s) = any _
+  rule (LoopRule.ranking e r s) = record {
+    reads = λ ts h x. (within (any _ before any _ before any _ before any _ before any _ before full r before any _) ts h x.0).1.1.1.1.1.0;
+  }
 
   invariant_stands : (k : ℕ) (sc : Scope) (rs : List LoopRule) → Each RuleStands rs → FormStands n (invariant_of k sc rs)
   invariant_stands k sc [] h = tt
   invariant_stands k sc (LoopRule.invariant i s ∷ rs) h = form_stands n (elaborate k sc i) (h.0 k sc)
   invariant_stands k sc (LoopRule.k_induction m i s ∷ rs) h = form_stands n (elaborate k sc i) (h.0 k sc)
   invariant_stands k sc (LoopRule.ranking e r s ∷ rs) h = invariant_stands k sc rs h.1
+
+  ranking_stands : (k : ℕ) (sc : Scope) (rs : List LoopRule) → Each RuleStands rs → RankStands n (ranking_of k sc rs)
+  ranking_stands k sc [] h = tt
+  ranking_stands k sc (LoopRule.ranking e r s ∷ rs) h = form_stands n (elaborate k sc r) (h.0 k sc)
+  ranking_stands k sc (LoopRule.invariant i s ∷ rs) h = ranking_stands k sc rs h.1
+  ranking_stands k sc (LoopRule.k_induction m i s ∷ rs) h = ranking_stands k sc rs h.1
 
   -- ---- Statements
 
@@ -192,7 +200,7 @@ module _ (n : ℕ) where
 
     loop_stands : (rules : List LoopRule) (g : Expression) (b : Block) (s : Span) → s.from ≤ n → Each RuleStands rules → ExpressionStands n g → BlockStands b → StatementStands (Statement.loop rules g b s)
     loop_stands rules g b s l rs guard body k m sc = (
-      (tt, (l, (invariant_stands k sc rules rs, condition_stands n (elaborate k sc g) (guard k sc)))),
+      (tt, (l, (invariant_stands k sc rules rs, (condition_stands n (elaborate k sc g) (guard k sc), ranking_stands k sc rules rs)))),
       each_both (IsSpelled n) (in_order (block_acts (setting q) c k (suc m) sc b)) [] (body k (suc m) sc) tt,
     )
 

@@ -1,15 +1,9 @@
--- Worked answers: the status of each verdict, alone and beside others, and which acts keep a file from being verified.
-use Rattle.heyvl_num.specs.Rational.{Rational, oneʳ}
-use Rattle.heyvl_num.specs.Value.{zeroᵛ}
-use Rattle.heylo_formula.specs.Formula.{Cond, Form}
+-- Worked answers: the status of each verdict, alone and beside others.
 use Rattle.heylo_formula.specs.declared.goals.GoalId.TheVariants.{Main, Post}
-use Rattle.heyvl_syntax.specs.declared.spans.Span.{Span}
-use Rattle.heyvl_tool.specs.Built.{is_built}
 use Rattle.heyvl_tool.specs.Statuses.{answers_status, is_rank_open, is_rank_refuted}
-use Rattle.heyvl_types.specs.Acts.{Act, Acts, Arms, TypedProcedure, nobody}
 use Rattle.linear_elim.specs.declared.answers.Cause.TheVariants.{Bits}
 use Rattle.proc_contracts.specs.declared.reasons.WhyNot.TheVariants as why
-use Rattle.std.proofs.Common.{None, Option, Some, [], false, refl, true, ◌∷◌, ◌≡◌}
+use Rattle.std.proofs.Common.{[], false, refl, true, ◌∷◌, ◌≡◌}
 use Rattle.std.specs.Prelude.{Vec}
 use Rattle.std.specs.declared.alloc.Global.{Global}
 use Rattle.verdict_report.specs.declared.answers.Answer.{Answer}
@@ -44,29 +38,3 @@ module _ (none : Vec LoopAnswer Global) (no_loops : none.items ≡ []) (state : 
 
 rankings : (is_rank_refuted rank.Ranked ≡ false) × (is_rank_open rank.Ranked ≡ false) × (is_rank_refuted (rank.Unknown Bits) ≡ false) × (is_rank_open (rank.Unknown Bits) ≡ true) × (is_rank_open (rank.Unchecked Absent) ≡ true)
 rankings = (refl, refl, refl, refl, refl)
-
--- ---- Files
-
-abbrev here : Span
-here = record { from = 0; to = 0 }
-
-abbrev loop : Option (Rational × Form) → Act
-loop r = Act.loop (record { number = 1; k = 1; inv = Form.number zeroᵛ; guard = Cond.constant true; rank = r; scope = []; span = here }) Acts.done
-
-abbrev ranking : Option (Rational × Form)
-ranking = Some (oneʳ, Form.number zeroᵛ)
-
-abbrev with_body : Acts → TypedProcedure
-with_body acts = record nobody { body = Some acts }
-
-abbrev one : Act → Acts
-one a = Acts.next a Acts.done
-
--- An empty file, one without a body, one with a loop and a call; then one with a ranking, in the open, inside an if, and in a later
--- procedure.
-built :
-    (is_built [] ≡ true) × (is_built (nobody ∷ []) ≡ true) × (is_built (with_body (Acts.next (loop None) (one (Act.call [] 0 [] here))) ∷ []) ≡ true)
-    × (is_built (with_body (one (loop ranking)) ∷ []) ≡ false)
-    × (is_built (with_body (one (Act.ifs (Arms.arm (Cond.constant true) (one (loop ranking)) Arms.no_arm) Acts.done here)) ∷ []) ≡ false)
-    × (is_built (nobody ∷ with_body (one (loop None)) ∷ with_body (one (loop ranking)) ∷ []) ≡ false)
-built = (refl, refl, refl, refl, refl, refl)

@@ -8,8 +8,9 @@ use Rattle.heyvl_syntax.specs.declared.operators.BinaryOp.{BinaryOp}
 use Rattle.heyvl_syntax.specs.declared.spans.Span.{Span}
 use Rattle.heyvl_syntax.specs.declared.types.TypeName.{TypeName}
 use Rattle.heyvl_tool.specs.FaultTexts.{fault_text, source_fault_line}
-use Rattle.heyvl_tool.specs.Replies.IsVerifyReply.{static}
-use Rattle.heyvl_tool.specs.Replies.{IsVerifyReply, message}
+use Rattle.heyvl_tool.specs.Messages.{message}
+use Rattle.heyvl_tool.specs.Replies.IsTypedReply.{static}
+use Rattle.heyvl_tool.specs.Replies.{IsReport, IsTypedReply}
 use Rattle.heyvl_tool.specs.declared.outcomes.Fault.TheVariants.{Source}
 use Rattle.heyvl_types.specs.Files.{first_fault}
 use Rattle.heyvl_types.specs.Literals.{inverse_value, literal_quotient, literal_value}
@@ -54,7 +55,7 @@ h_is_on_the_wrong_side : first_fault h ≡ Some (17, at 41 48)
 unfolding literal_value ratio gcd gcd_steps
 h_is_on_the_wrong_side = refl
 
-h_is_told : IsVerifyReply havocking h (message (Source 17 (at 41 48)) (codes "1:42: fault 17: statement on the wrong side\n"))
+h_is_told : IsTypedReply (IsReport havocking) havocking h (message (Source 17 (at 41 48)) (codes "1:42: fault 17: statement on the wrong side\n"))
 unfolding digits
 h_is_told = static 17 (at 41 48) h_is_on_the_wrong_side refl
 

@@ -2,10 +2,9 @@
 use Rattle.heylo_formula.specs.declared.types.Ty.{Ty}
 use Rattle.heylo_formula.specs.declared.values.Val.TheVariants.{Num, Truth}
 use Rattle.heyvl_num.specs.Gcd.{gcd, gcd_steps}
-use Rattle.heyvl_num.specs.Rational.{leqʳ, oneʳ, ratio, zeroʳ}
+use Rattle.heyvl_num.specs.Rational.{leqʳ, ratio, zeroʳ}
 use Rattle.heyvl_tool.specs.Scripts.{Known, Reading, read_script}
-use Rattle.heyvl_types.specs.Acts.{Variable}
-use Rattle.run_machine.specs.declared.configurations.Decide.TheVariants.{Give, Left, Right}
+use Rattle.run_machine.specs.declared.configurations.Decide.TheVariants.{Give, Left}
 use Rattle.std.proofs.Common.{List, None, Some, [], codes, false, neg_ℤ, pos, refl, true, ◌++◌, ◌∷◌, ◌≡◌, ℕ}
 
 -- The inputs and the output of `coproc a(n: UInt, b: Bool, t: UReal, i: Int) -> (x: UInt)`, whose body may have a local variable u.

@@ -1,25 +1,30 @@
--- What a user may rely on where a report says `verified` or `not verified`.
-use Rattle.std.specs.Prelude.{◌≡◌, ℕ, List, IfSome, None, length}
+-- What a user may rely on where a report says `verified`, `ranked` or `not verified`.
+use Rattle.std.specs.Prelude.{◌≡◌, ℕ, List, IfSome, None}
 use Rattle.heyvl_syntax.specs.Procedures.{Procedure}
 use Rattle.heyvl_syntax.specs.SourceFaults.{IsSource}
-use Rattle.heyvl_tool.specs.Replies.{Call, IsDelivered, IsReplyTo, Reply, Writing}
+use Rattle.heyvl_tool.specs.Calls.{Call, Holds}
+use Rattle.heyvl_tool.specs.Messages.{Reply}
+use Rattle.heyvl_tool.specs.Replies.{IsDelivered, IsReplyTo, Writing}
+use Rattle.heyvl_tool.specs.Words.{file_of, second_of}
 use Rattle.heyvl_tool.specs.declared.outcomes.Outcome.{Outcome}
-use Rattle.heyvl_tool.specs.declared.requests.Settings.TheVariants.{Verify}
+use Rattle.heyvl_tool.specs.declared.requests.Settings.{Settings}
 use Rattle.heyvl_types.specs.Files.{first_fault, resolved}
 use Rattle.verify_core.specs.Headline.{IsHeadline}
 
--- The outcome of `verify FILE` is what is said of the bytes that were read, which are those that the source holds where it tells
--- them. These bytes spell a file without a fault, and of its procedures the answers of the outcome promise: each coproc that is
--- reported verified has, from every initial state, under every scheduler and for every n, reward and post over runs of at most n
--- steps, weighted exactly, at most its pre; each weak proc that is reported verified has post so weighted, plus the weight still
--- running, at least its pre; and each program without loops and calls whose bound is reported as not verified has runs that break it,
--- from the initial state that is shown.
-pub record IsVerifiedFrom (name : List ℕ) (made : Call) (done : Writing) (outcome : Outcome) : Type 0 where
+-- The outcome of a command is what is said of the bytes that were read of its file, and of its second text, which are those that the
+-- source holds where it tells them. These bytes spell a file without a fault, and of its procedures the answers of the outcome
+-- promise: each coproc that is reported verified has, from every initial state, under every scheduler and for every n, reward and post
+-- over runs of at most n steps, weighted exactly, at most its pre; each weak proc that is reported verified has post so weighted, plus
+-- the weight still running, at least its pre; each loop that is reported ranked has expected turns within n steps, times its step, at
+-- most its ranking; and each program without loops and calls whose bound is reported as not verified has runs that break it, from the
+-- initial state that is shown.
+pub record IsVerifiedFrom (settings : Settings) (made : Call) (done : Writing) (outcome : Outcome) : Type 0 where
   pub bytes : List ℕ
-  pub held : IfSome (made.holds name) (λ held. bytes ≡ held)
-  pub taken : made.taken ≡ length bytes
+  pub held : Holds made.names (file_of settings) bytes
+  pub second : List ℕ
+  pub second_held : IfSome (second_of settings) (λ name. Holds made.names name second)
   pub reply : Reply
-  pub said : IsReplyTo (Verify name) bytes reply
+  pub said : IsReplyTo settings bytes second reply
   pub is_delivered : IsDelivered reply done outcome
   pub file : List Procedure
   pub spelled : IsSource bytes file

@@ -5,10 +5,13 @@ pub mod FaultTexts
 pub mod FaultLaws
 pub mod FileLaws
 pub mod TypedFiles
-pub mod Built
 pub mod Statuses
+pub mod Messages
+pub mod Calls
+pub mod CertificateReplies
 pub mod Replies
 pub mod SourceUses
+pub mod StartLaws
 pub mod Responses
 pub mod ScriptLines
 pub mod Scripts
@@ -16,6 +19,5 @@ pub mod ScriptNames
 pub mod RunTexts
 pub mod RunStarts
 pub mod RunReplies
-pub mod RunCalls
 pub mod Headline
 pub mod Completeness

@@ -1,21 +1,23 @@
 -- What a call of the tool answers, and what it writes.
-use Rattle.std.specs.Prelude.{◌≡◌, ◌⊎◌, ℕ, ◌+◌, ◌<◌, ◌≤◌, true, false, List, [], length, take, codes, None, Option, Some, IfSome}
+use Rattle.std.specs.Prelude.{◌≡◌, ◌⊎◌, ℕ, ◌<◌, List, [], length, take, codes, None, Option, Some}
 use Rattle.farkas_check.specs.declared.trees.GoalCert.{GoalCert}
 use Rattle.heyvl_io.specs.Bytes.{with_appended}
 use Rattle.heyvl_io.specs.Faults.{Rose}
-use Rattle.heyvl_tool.specs.Built.{is_built}
-use Rattle.heyvl_tool.specs.declared.outcomes.Fault.{Fault}
-use Rattle.heyvl_tool.specs.declared.outcomes.Fault.TheVariants as faults
-use Rattle.heyvl_tool.specs.declared.outcomes.Outcome.{Outcome}
-use Rattle.heyvl_tool.specs.Statuses.{answers_status}
-use Rattle.heyvl_tool.specs.FaultTexts.{source_fault_line}
-use Rattle.heyvl_tool.specs.Words.{AskFor, IsUsage, file_of}
-use Rattle.heyvl_tool.specs.declared.requests.Settings.TheVariants as commands
-use Rattle.heyvl_tool.specs.declared.requests.Settings.{Settings}
 use Rattle.heyvl_print.specs.Canonical.{canonical_text}
 use Rattle.heyvl_syntax.specs.Procedures.{Procedure}
 use Rattle.heyvl_syntax.specs.SourceFaults.{IsSource, IsSourceFault}
 use Rattle.heyvl_syntax.specs.declared.spans.Span.{Span}
+use Rattle.heyvl_tool.specs.Calls.{Call, IsReadReply, Moment, Names}
+use Rattle.heyvl_tool.specs.CertificateReplies.{IsCertification, IsCheckReply}
+use Rattle.heyvl_tool.specs.Messages.{Reply, message, source_fault}
+use Rattle.heyvl_tool.specs.RunReplies.{IsRunReply}
+use Rattle.heyvl_tool.specs.Statuses.{answers_status}
+use Rattle.heyvl_tool.specs.Words.{AskFor, IsUsage, file_of, second_of}
+use Rattle.heyvl_tool.specs.declared.outcomes.Fault.{Fault}
+use Rattle.heyvl_tool.specs.declared.outcomes.Fault.TheVariants as faults
+use Rattle.heyvl_tool.specs.declared.outcomes.Outcome.{Outcome}
+use Rattle.heyvl_tool.specs.declared.requests.Settings.TheVariants as commands
+use Rattle.heyvl_tool.specs.declared.requests.Settings.{Settings}
 use Rattle.heyvl_types.specs.Acts.{TypedProcedure}
 use Rattle.heyvl_types.specs.Files.{first_fault, resolved}
 use Rattle.verdict_report.specs.Reports.{report_text}
@@ -24,47 +26,10 @@ use Rattle.verdict_report.specs.declared.answers.NamedGoal.{NamedGoal}
 use Rattle.verify_core.specs.Answered.{IsAnswered as AreAnswered}
 use Rattle.verify_core.specs.Headline.{IsHeadline}
 
--- The answer to a call, before it is written.
-pub record Reply : Type 0 where
-  pub fault : Fault
-  pub answers : List Answer
-  pub output : List ℕ
-
--- The words of a call, what its source tells of the files, how often the source had failed before and after the call,
--- and how many bytes were taken from the file.
-pub record Call : Type 0 where
-  pub words : List (List ℕ)
-  pub holds : List ℕ → Option (List ℕ)
-  pub faults_before : ℕ
-  pub faults_after : ℕ
-  pub taken : ℕ
-
-abbrev pub call : List (List ℕ) → (List ℕ → Option (List ℕ)) → ℕ → ℕ → ℕ → Call
-call words holds before after taken = record { words = words; holds = holds; faults_before = before; faults_after = after; taken = taken }
-
--- The most bytes that a file may have.
-abbrev pub file_limit : ℕ
-file_limit = 1048576
-
--- A fixed text in place of answers.
-abbrev pub message : Fault → List ℕ → Reply
-message fault text = record { fault = fault; answers = []; output = text }
+-- ---- What is said of a file
 
 abbrev pub usage : Reply
-usage = message faults.Usage (codes "usage: caesar verify FILE | print FILE\n")
-
-abbrev pub read_fault : Reply
-read_fault = message (faults.Read 0) (codes "read fault\n")
-
-abbrev pub file_too_long : Reply
-file_too_long = message (faults.TooLong 0) (codes "file too long\n")
-
-abbrev pub form_not_built_yet : Reply
-form_not_built_yet = message faults.Early (codes "form not built yet\n")
-
--- The line on a fault of a file, in place of answers.
-abbrev pub source_fault : List ℕ → ℕ → Span → Reply
-source_fault bytes number place = message (faults.Source number place) (source_fault_line bytes number place)
+usage = message faults.Usage (codes "usage: caesar verify FILE | print FILE | run FILE PROC SCRIPT | certify FILE | check FILE CERT\n")
 
 -- The canonical text of a file, without answers.
 abbrev pub printed : List Procedure → Reply
@@ -79,39 +44,49 @@ pub record IsReport (bytes : List ℕ) (file : List TypedProcedure) (reply : Rep
   pub headline : IsHeadline file reply.answers
   pub is_reply : reply ≡ record { fault = faults.Nothing; answers = reply.answers; output = report_text bytes file reply.answers made }
 
--- What `verify` says of the bytes of a file that has no fault and has become these typed procedures: the report, or of a file with an
--- act that can't be verified yet only this.
-pub data IsFaultlessReply (bytes : List ℕ) (file : List TypedProcedure) (reply : Reply) : Type 0 where
-  reported : is_built file ≡ true → IsReport bytes file reply → IsFaultlessReply bytes file reply
-  early : is_built file ≡ false → reply ≡ form_not_built_yet → IsFaultlessReply bytes file reply
+-- What is said of the bytes that spell a file and have none of the faults 1 to 6: the first static fault of the file, or else what
+-- is said of its typed procedures.
+pub data IsTypedReply (Says : List TypedProcedure → Reply → Type 0) (bytes : List ℕ) (file : List Procedure) (reply : Reply) : Type 0 where
+  static : (number : ℕ) (place : Span) → first_fault file ≡ Some (number, place) → reply ≡ source_fault bytes number place → IsTypedReply Says bytes file reply
+  faultless : first_fault file ≡ None → Says (resolved file) reply → IsTypedReply Says bytes file reply
 
--- What `verify` says of the bytes that spell a file and have none of the faults 1 to 6: the first static fault of the file, or else
--- what it says of a file that has no fault.
-pub data IsVerifyReply (bytes : List ℕ) (file : List Procedure) (reply : Reply) : Type 0 where
-  static : (number : ℕ) (place : Span) → first_fault file ≡ Some (number, place) → reply ≡ source_fault bytes number place → IsVerifyReply bytes file reply
-  faultless : first_fault file ≡ None → IsFaultlessReply bytes (resolved file) reply → IsVerifyReply bytes file reply
+-- What a command says of the typed procedures of a file without a fault with these bytes, and of its second text, if it has one.
+-- `print` says nothing of them.
+abbrev pub Says : Settings → List ℕ → List ℕ → List TypedProcedure → Reply → Type 0
+Says (commands.Verify name) bytes second file reply = IsReport bytes file reply
+Says (commands.Print name) bytes second file reply = ⊥
+Says (commands.Run name procedure script) bytes second file reply = IsRunReply procedure file second reply
+Says (commands.Certify name) bytes second file reply = IsCertification file reply
+Says (commands.Check name certificates) bytes second file reply = IsCheckReply bytes file second reply
 
--- What a command says of the bytes that spell a file and have none of the faults 1 to 6.
-abbrev pub IsSourceReply : Settings → List ℕ → List Procedure → Reply → Type 0
-IsSourceReply (commands.Verify name) bytes file reply = IsVerifyReply bytes file reply
-IsSourceReply (commands.Print name) bytes file reply = reply ≡ printed file
+-- What a command says of the bytes that spell a file and have none of the faults 1 to 6: `print` its canonical text, and every other
+-- the first static fault or else what it says of the typed procedures.
+abbrev pub IsSourceReply : Settings → List ℕ → List ℕ → List Procedure → Reply → Type 0
+IsSourceReply (commands.Print name) bytes second file reply = reply ≡ printed file
+IsSourceReply settings bytes second file reply = IsTypedReply (Says settings bytes second) bytes file reply
 
--- What a command says of a file with these bytes: their first fault of 1 to 6, or else what it says of the file that they spell.
-pub data IsReplyTo (settings : Settings) (bytes : List ℕ) (reply : Reply) : Type 0 where
-  source : (number : ℕ) (place : Span) → IsSourceFault bytes number place → reply ≡ source_fault bytes number place → IsReplyTo settings bytes reply
-  sound : (file : List Procedure) → IsSource bytes file → IsSourceReply settings bytes file reply → IsReplyTo settings bytes reply
+-- What a command says of a file with these bytes, and of its second text: the first of the faults 1 to 6 of the file, or else what it
+-- says of the file that the bytes spell.
+pub data IsReplyTo (settings : Settings) (bytes second : List ℕ) (reply : Reply) : Type 0 where
+  source : (number : ℕ) (place : Span) → IsSourceFault bytes number place → reply ≡ source_fault bytes number place → IsReplyTo settings bytes second reply
+  sound : (file : List Procedure) → IsSource bytes file → IsSourceReply settings bytes second file reply → IsReplyTo settings bytes second reply
 
--- The reply has its cause: the words are no command; the source failed; the file is longer than the limit; or the whole
--- file was read, and this is said of its bytes.
+-- ---- What is answered to a call
+
+-- The answer of a command once its file was read: of a command with one file at once, of one with a second text when that was read
+-- too.
+abbrev pub IsRestReply : Settings → Names → Moment → Option (List ℕ) → List ℕ → Moment → Reply → Type 0
+IsRestReply settings names after None bytes between reply = (between ≡ after) × IsReplyTo settings bytes [] reply
+IsRestReply settings names after (Some name) bytes between reply = IsReadReply 1 names name (λ second now r. (now ≡ after) × IsReplyTo settings bytes second r) between after reply
+
+-- The reply has its cause: the words are no command; or it is what the command answers, from the reading of its file on.
 pub data HasCause (made : Call) (reply : Reply) : Type 0 where
   by_words : IsUsage made.words → reply ≡ usage → HasCause made reply
-  by_source : (settings : Settings) → AskFor made.words settings → Rose made.faults_before made.faults_after
-      → made.taken ≤ file_limit → reply ≡ read_fault → HasCause made reply
-  by_length : (settings : Settings) → AskFor made.words settings → made.taken ≡ file_limit + 1
-      → IfSome (made.holds (file_of settings)) (λ held. file_limit < length held) → reply ≡ file_too_long → HasCause made reply
-  by_bytes : (settings : Settings) → AskFor made.words settings → (bytes : List ℕ)
-      → IfSome (made.holds (file_of settings)) (λ held. bytes ≡ held) → made.taken ≡ length bytes → length bytes ≤ file_limit
-      → IsReplyTo settings bytes reply → HasCause made reply
+  by_command : (settings : Settings) → AskFor made.words settings
+      → IsReadReply 0 made.names (file_of settings) (IsRestReply settings made.names made.after (second_of settings)) made.before made.after reply
+      → HasCause made reply
+
+-- ---- What is written
 
 -- The exit status.
 abbrev pub status_of : Fault → List Answer → ℕ
@@ -120,7 +95,7 @@ status_of faults.Usage answers = 4
 status_of (faults.Read n) answers = 5
 status_of (faults.TooLong n) answers = 3
 status_of (faults.Source number place) answers = 3
-status_of faults.Early answers = 3
+status_of (faults.Cert line) answers = 3
 status_of (faults.Script line) answers = 3
 status_of faults.NoProcedure answers = 3
 status_of (faults.NotProgram p) answers = 3

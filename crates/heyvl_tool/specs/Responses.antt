@@ -3,7 +3,7 @@ use Rattle.std.specs.Prelude.{ℕ, List}
 use Rattle.heyvl_tool.specs.declared.responses.Response.{Response}
 use Rattle.heyvl_tool.specs.declared.responses.Text.{Text}
 use Rattle.heyvl_tool.specs.declared.responses.Text.TheVariants.{Fixed, Made}
-use Rattle.heyvl_tool.specs.Replies.{Reply}
+use Rattle.heyvl_tool.specs.Messages.{Reply}
 
 abbrev pub text_bytes : Text → List ℕ
 text_bytes (Fixed bytes) = bytes.now

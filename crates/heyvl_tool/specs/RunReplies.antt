@@ -1,8 +1,5 @@
 -- What `run` says of a file without a fault and a script.
-use Rattle.heyvl_syntax.specs.Procedures.{Procedure as SourceProcedure}
-use Rattle.heyvl_syntax.specs.SourceFaults.{IsSource, IsSourceFault}
-use Rattle.heyvl_syntax.specs.declared.spans.Span.{Span}
-use Rattle.heyvl_tool.specs.Replies.{Reply, message, source_fault}
+use Rattle.heyvl_tool.specs.Messages.{Reply, message}
 use Rattle.heyvl_tool.specs.RunStarts.{IsFirstNoProgram, known_at, procedure_named, start_state}
 use Rattle.heyvl_tool.specs.RunTexts.{no_procedure_text, no_program_text, script_fault_text, stop_text, sums_text}
 use Rattle.heyvl_tool.specs.Scripts.Reading.{breaks, says}
@@ -10,7 +7,6 @@ use Rattle.heyvl_tool.specs.Scripts.{Script, read_script}
 use Rattle.heyvl_tool.specs.declared.outcomes.Fault.TheVariants as faults
 use Rattle.heyvl_tool.specs.declared.run_stops.RunStop.TheVariants as stops
 use Rattle.heyvl_types.specs.Acts.{TypedProcedure, procedure_at}
-use Rattle.heyvl_types.specs.Files.{first_fault, resolved}
 use Rattle.run_machine.specs.ConfigConditions.{ReachesPrograms}
 use Rattle.run_machine.specs.Configurations.{begin}
 use Rattle.run_unroller.specs.RunLists.{begun}
@@ -59,14 +55,3 @@ pub data IsRunReply (name : List ℕ) (ps : List TypedProcedure) (script : List 
   by_name : (s : Script) → read_script (known_at ps (procedure_named name ps)) script ≡ says s → procedure_named name ps ≡ None → reply ≡ no_procedure → IsRunReply name ps script reply
   by_program : (s : Script) → read_script (known_at ps (procedure_named name ps)) script ≡ says s → (p : ℕ) → procedure_named name ps ≡ Some p → (q : ℕ) → IsFirstNoProgram ps p q → reply ≡ no_program ps q → IsRunReply name ps script reply
   by_run : (s : Script) → read_script (known_at ps (procedure_named name ps)) script ≡ says s → (p : ℕ) → procedure_named name ps ≡ Some p → ReachesPrograms ps p → TellsRun ps p s reply → IsRunReply name ps script reply
-
--- The reply to `run` on a file of these bytes that spell a file and have none of the faults 1 to 6: the first static fault of the
--- file, or else what is said of a file without a fault.
-pub data IsRunSourceReply (name bytes : List ℕ) (file : List SourceProcedure) (script : List ℕ) (reply : Reply) : Type 0 where
-  static : (number : ℕ) (place : Span) → first_fault file ≡ Some (number, place) → reply ≡ source_fault bytes number place → IsRunSourceReply name bytes file script reply
-  faultless : first_fault file ≡ None → IsRunReply name (resolved file) script reply → IsRunSourceReply name bytes file script reply
-
--- The reply to `run` on a file of these bytes: their first fault of 1 to 6, or else what is said of the file that they spell.
-pub data IsRunReplyTo (name bytes script : List ℕ) (reply : Reply) : Type 0 where
-  source : (number : ℕ) (place : Span) → IsSourceFault bytes number place → reply ≡ source_fault bytes number place → IsRunReplyTo name bytes script reply
-  sound : (file : List SourceProcedure) → IsSource bytes file → IsRunSourceReply name bytes file script reply → IsRunReplyTo name bytes script reply

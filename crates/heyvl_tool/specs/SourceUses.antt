@@ -1,27 +1,19 @@
 -- What a call may do to the source that it is handed.
-use Rattle.heyvl_io.specs.Order.{Order, order_after}
-use Rattle.heyvl_tool.specs.Replies.{file_limit}
-use Rattle.std.specs.Prelude.{List, ◌+◌, ◌≡◌, ◌≤◌, ◌⊎◌, ℕ}
+use Rattle.heyvl_io.specs.Order.{order_after}
+use Rattle.heyvl_tool.specs.Calls.{IsStarted, Moment, Names, file_limit}
+use Rattle.std.specs.Prelude.{List, None, Option, Some, ◌+◌, ◌≡◌, ◌≤◌, ◌⊎◌, ℕ}
 
--- The order of starts of a source, and how many bytes were taken since the last start.
-pub record Use : Type 0 where
-  pub order : Order
-  pub taken : ℕ
+-- Of the words' names the file was started, once, and then perhaps the second one, where there is one, once; and nothing else.
+abbrev pub IsStartedInTurn : Names → List ℕ → Option (List ℕ) → Moment → Moment → Type 0
+IsStartedInTurn names file None before after = IsStarted names file before after
+IsStartedInTurn names file (Some second) before after = IsStarted names file before after ⊎ (after.order ≡ order_after names.order second (order_after names.order file before.order))
 
-abbrev pub use_of : Order → ℕ → Use
-use_of order taken = record { order = order; taken = taken }
-
--- The file was started, once, and nothing else; and at most one byte more was taken than a file may have.
-pub record IsReadOnce (names : List (List ℕ)) (file : List ℕ) (before after : Use) : Type 0 where
-  pub started : after.order ≡ order_after names file before.order
-  pub few : after.taken ≤ file_limit + 1
-
--- The file was started, once, and then perhaps the script, once, and nothing else; and of the last one that was started at most one
--- byte more was taken than a file may have.
-pub record IsReadInTurn (names : List (List ℕ)) (file script : List ℕ) (before after : Use) : Type 0 where
-  pub started : (after.order ≡ order_after names file before.order) ⊎ (after.order ≡ order_after names script (order_after names file before.order))
+-- So it was, and of the last one that was started at most one byte more was taken than a file may have.
+pub record IsReadInTurn (names : Names) (file : List ℕ) (second : Option (List ℕ)) (before after : Moment) : Type 0 where
+  pub started : IsStartedInTurn names file second before after
   pub few : after.taken ≤ file_limit + 1
 
 -- Nothing was started, and nothing taken.
-abbrev pub IsUntouched : Use → Use → Type 0
-IsUntouched before after = after ≡ before
+pub record IsUntouched (before after : Moment) : Type 0 where
+  pub order : after.order ≡ before.order
+  pub taken : after.taken ≡ before.taken

@@ -1,10 +1,11 @@
 //! The commands and their words.
 
-ghost use Rattle.clap.specs.Words.{app_of, rule_of, subcommand_rows_of};
+ghost use Rattle.clap.specs.Words.{app_of, first_of, found_of, rule_of, rows_of, subcommand_rows_of};
+ghost use Rattle.clap.specs.declared.builder.command.Command.TheViews.{out-Command};
 ghost use Rattle.std.specs.List.{list_all};
-ghost use Rattle.std.specs.Prelude.{Bool, IfErr, IfOk, List, MatchResult, Some, codes, false, map, string_bytes, true, ◌∷◌, ◌≡◌, ℕ};
-ghost use Rattle.heyvl_tool.specs.CommandLine.{IsMemory, IsMet, command_and_file, file_rule, met_for, tool};
-ghost use Rattle.heyvl_tool.specs.Words.{AskFor, IsSettingsStop, is_file_word};
+ghost use Rattle.std.specs.Prelude.{IfErr, IfOk, List, MatchResult, Some, false, map, string_bytes, true, ◌≡◌, ℕ};
+ghost use Rattle.heyvl_tool.specs.CommandLine.{IsFound, IsMemory, IsMet, argument, command, tool};
+ghost use Rattle.heyvl_tool.specs.Words.{AskFor, IsSettingsStop, is_argument};
 ghost use Rattle.heyvl_tool.specs.declared.requests.Settings.{Settings};
 
 use crate::{Settings, SettingsStop, Word};
@@ -12,8 +13,8 @@ use clap::error::ErrorKind;
 use clap::{Arg, ArgAction, ArgMatches, Command};
 use std::alloc::{AllocError, Global};
 
-fn is_file_word(word: &str) -> bool
-    ensures { result ≡ is_file_word word.now }
+fn is_argument(word: &str) -> bool
+    ensures { result ≡ is_argument word.now }
 {
     match word.as_bytes() {
         [] => false,
@@ -21,39 +22,55 @@ fn is_file_word(word: &str) -> bool
     }
 }
 
-fn are_file_words(words: &[String]) -> bool
-    ensures { result ≡ list_all (λ word. is_file_word (string_bytes word)) words.now }
+fn are_arguments(words: &[String]) -> bool
+    ensures { result ≡ list_all (λ word. is_argument (string_bytes word)) words.now }
 {
-    words.iter().all(|word| is_file_word(word.as_str()))
+    words.iter().all(|word| is_argument(word.as_str()))
 }
 
-/// The one argument of a command: its file.
-fn file_arg<'a>(alloc: Global) -> Arg<'a>
-    ensures rule { rule_of result ≡ file_rule }
+/// An argument of this name: it has one value, and is not left out.
+fn argument<'a>(alloc: Global, name: &'a str) -> Arg<'a>
+    ensures rule { rule_of result ≡ argument name.entry.now }
     ensures local { result.global ≡ false }
 {
-    Arg::new(alloc, "FILE")
-        .action(ArgAction::Set)
-        .required(true)
+    Arg::new(alloc, name).action(ArgAction::Set).required(true)
+}
+
+/// A command that has arguments of these names, in order.
+fn command<'a>(
+    alloc: Global,
+    name: &'a str,
+    arguments: &[&'a str],
+) -> Result<Command<'a>, AllocError>
+    ensures shape { IfOk result (λ made. app_of made ≡ command name.entry.now (map (λ argument. argument.now) arguments.now)) }
+    ensures local { IfOk result (λ made. (out-Command made).has_globals ≡ false) }
+{
+    let mut made = Command::new(alloc, name);
+    for &name in arguments {
+        made = made.arg(argument(alloc, name))?;
+    }
+    Ok(made)
 }
 
 /// The tool with its commands.
 fn tool<'a>(alloc: Global) -> Result<Command<'a>, AllocError>
     ensures { IfOk result (λ command. app_of command ≡ tool) }
 {
-    let verify = Command::new(alloc, "verify").arg(file_arg(alloc))?;
-    let print = Command::new(alloc, "print").arg(file_arg(alloc))?;
-    let bare = Command::new(alloc, "caesar")
+    Command::new(alloc, "caesar")
         .no_binary_name(true)
         .disable_help_flag(true)
         .disable_help_subcommand(true)
-        .subcommand_required(true);
-    bare.subcommand(verify)?.subcommand(print)
+        .subcommand_required(true)
+        .subcommand(command(alloc, "verify", &["FILE"])?)?
+        .subcommand(command(alloc, "print", &["FILE"])?)?
+        .subcommand(command(alloc, "run", &["FILE", "PROC", "SCRIPT"])?)?
+        .subcommand(command(alloc, "certify", &["FILE"])?)?
+        .subcommand(command(alloc, "check", &["FILE", "CERT"])?)
 }
 
-/// What `clap` makes of words that may all name files.
+/// What `clap` makes of words that may all be arguments.
 fn matches_of<'a>(alloc: Global, words: &'a [String]) -> Result<ArgMatches<'a>, SettingsStop>
-    requires { list_all (λ word. is_file_word (string_bytes word)) words.now ≡ true }
+    requires { list_all (λ word. is_argument (string_bytes word)) words.now ≡ true }
     ensures met { IfOk result (λ matches. IsMet (map string_bytes words.entry.now) (subcommand_rows_of matches)) }
     ensures stop { IfErr result (λ stop. IsSettingsStop (map string_bytes words.entry.now) stop) }
 {
@@ -69,32 +86,63 @@ fn matches_of<'a>(alloc: Global, words: &'a [String]) -> Result<ArgMatches<'a>, 
     }
 }
 
-/// The command that was met, with its file.
+/// The word that the argument of this name was given.
+fn value(alloc: Global, matches: &ArgMatches<'_>, name: &str) -> Result<Word, SettingsStop>
+    ensures { (text : List ℕ) → first_of name.now (rows_of (found_of matches.now)) ≡ Some text
+        → MatchResult result (λ word. word ≡ text) (λ stop. IsMemory stop) }
+{
+    let Some(text) = matches.get_str(name) else {
+        return Err(SettingsStop::Usage);
+    };
+    Ok(Word::new(alloc, text)?)
+}
+
+/// The command of this name, with the words that its arguments were given.
+fn command_met(
+    alloc: Global,
+    name: &str,
+    matches: &ArgMatches<'_>,
+) -> Result<Settings, SettingsStop>
+    ensures { (settings : Settings) → IsFound settings (Some (name.now, rows_of (found_of matches.now)))
+        → MatchResult result (λ found. found ≡ settings) (λ stop. IsMemory stop) }
+{
+    match name {
+        "verify" => Ok(Settings::Verify(value(alloc, matches, "FILE")?)),
+        "print" => Ok(Settings::Print(value(alloc, matches, "FILE")?)),
+        "run" => {
+            let file = value(alloc, matches, "FILE")?;
+            let procedure = value(alloc, matches, "PROC")?;
+            let script = value(alloc, matches, "SCRIPT")?;
+            Ok(Settings::Run(file, procedure, script))
+        }
+        "certify" => Ok(Settings::Certify(value(alloc, matches, "FILE")?)),
+        "check" => {
+            let file = value(alloc, matches, "FILE")?;
+            let certificates = value(alloc, matches, "CERT")?;
+            Ok(Settings::Check(file, certificates))
+        }
+        _ => Err(SettingsStop::Usage),
+    }
+}
+
+/// The command that was met, with its words.
 fn met(alloc: Global, matches: &ArgMatches<'_>) -> Result<Settings, SettingsStop>
-    ensures { (settings : Settings) → command_and_file (subcommand_rows_of matches.now) ≡ met_for settings
+    ensures { (settings : Settings) → IsFound settings (subcommand_rows_of matches.now)
         → MatchResult result (λ found. found ≡ settings) (λ stop. IsMemory stop) }
 {
     let Some((name, inner)) = matches.subcommand() else {
         return Err(SettingsStop::Usage);
     };
-    let Some(file) = inner.get_str("FILE") else {
-        return Err(SettingsStop::Usage);
-    };
-    let file = Word::new(alloc, file)?;
-    if name == "verify" {
-        Ok(Settings::Verify(file))
-    } else {
-        Ok(Settings::Print(file))
-    }
+    command_met(alloc, name, inner)
 }
 
-/// What the words ask for: `verify FILE` or `print FILE`, where the word for the file isn't empty and doesn't begin with `-`.
-/// All other words are usage.
+/// What the words ask for: `verify FILE`, `print FILE`, `run FILE PROC SCRIPT`, `certify FILE` or `check FILE CERT`, where no word behind
+/// the command is empty or begins with `-`. All other words are usage.
 pub fn settings(alloc: Global, words: &Vec<String>) -> Result<Settings, SettingsStop>
     ensures asked { IfOk result (λ settings. AskFor (map string_bytes words.now.items) settings) }
     ensures stop { IfErr result (λ stop. IsSettingsStop (map string_bytes words.now.items) stop) }
 {
-    if !are_file_words(words) {
+    if !are_arguments(words) {
         return Err(SettingsStop::Usage);
     }
     let matches = matches_of(alloc, words)?;

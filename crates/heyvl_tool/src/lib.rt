@@ -1,7 +1,7 @@
 //! The top call of Caesar, and what belongs to its commands.
 #![tactic(auto)]
 
-mod built;
+mod certificates;
 mod commands;
 mod completeness;
 mod fault_laws;
@@ -14,15 +14,18 @@ mod responses;
 mod run_stops;
 mod running;
 mod script;
+mod start_laws;
 mod statuses;
 mod tool;
 mod typed_files;
 mod words;
 
-pub use built::is_built;
 pub use commands::settings;
-pub use completeness::verify_is_complete;
-pub use fault_laws::{other_files_are_early, static_faults_are_told, told_faults_are_there};
+pub use completeness::{
+    commands_are_complete, files_are_certified, files_are_checked, files_are_verified,
+    programs_are_run,
+};
+pub use fault_laws::{static_faults_are_told, told_faults_are_there};
 pub use file_laws::{
     files_have_few_acts, files_have_named_binders, files_have_small_forms, files_stand_within,
 };
@@ -32,7 +35,7 @@ pub use print_laws::{printed_text_prints_itself, spelling_is_unique};
 pub use requests::{Settings, SettingsStop};
 pub use responses::{Response, Text, respond};
 pub use run_stops::RunStop;
-pub use running::answer_run;
+pub use start_laws::starts_are_counted;
 pub use tool::{FILE_LIMIT, run_tool};
 pub use verdict_report::{Answer, LoopAnswer, Miss, NamedGoal, RankVerdict, Verdict};
 pub use words::Word;

@@ -4,8 +4,7 @@ use crate::RunStop;
 use heyvl_syntax::Span;
 use verdict_report::Answer;
 
-/// Why a call didn't do what its words ask for, or `Nothing`. A `u8` is the number of the file among the words, from 0.
-/// `Script`, `NoProcedure`, `NotProgram` and `Run` come of `answer_run` alone, which no word asks for yet.
+/// Why a call didn't do what its words ask for, or `Nothing`. A `u8` is the number of a file among those that the words name, from 0.
 #[derive(Clone, Copy, Debug, PartialEq, Eq)]
 pub enum Fault {
     /// It did what its words ask for.
@@ -18,8 +17,8 @@ pub enum Fault {
     TooLong(u8),
     /// The file has the fault of this number, which stands there.
     Source(u8, Span),
-    /// The file has an act that can't be verified yet.
-    Early,
+    /// The first line of the certificates that breaks the rules, from 1.
+    Cert(u32),
     /// The first line of the script that breaks the rules, from 1.
     Script(u32),
     /// The file has no procedure of this name.
@@ -37,7 +36,7 @@ pub enum Fault {
 /// What a call of the tool comes to.
 #[derive(Drop)]
 pub struct Outcome {
-    /// The exit status: 0 done; 1 some bound or ranking is false; 2 else some is left open; 3 the file or the script is refused; 4 usage;
+    /// The exit status: 0 done; 1 some bound or ranking is false; 2 else some is left open; 3 the file, the script or the certificates are refused; 4 usage;
     /// 5 read; 6 write; 7 memory; 8 the run was stopped.
     pub status: u8,
     pub fault: Fault,

@@ -2,14 +2,18 @@
 
 ghost use Rattle.heyvl_syntax.specs.Procedures.{procedures};
 ghost use Rattle.heyvl_syntax.specs.SourceFaults.{IsSource};
-ghost use Rattle.heyvl_tool.specs.Replies.{IsFaultlessReply, IsReplyTo, IsSourceReply, IsVerifyReply, file_limit, form_not_built_yet, message, printed, source_fault};
+ghost use Rattle.heyvl_tool.specs.Calls.{file_limit};
+ghost use Rattle.heyvl_tool.specs.FaultLaws.{tells_static};
+ghost use Rattle.heyvl_tool.specs.Messages.{message, source_fault};
+ghost use Rattle.heyvl_tool.specs.Replies.{IsReplyTo, IsReport, IsSourceReply, Says, printed};
 ghost use Rattle.heyvl_tool.specs.Responses.{reply_of, text_bytes};
-ghost use Rattle.heyvl_types.specs.PlainActs.{procedures_of};
 ghost use Rattle.heyvl_tool.specs.TypedFiles.{IsReady};
-ghost use Rattle.std.specs.Prelude.{IfOk, [], length, ◌<◌, ◌^◌, ◌≡◌, ◌≤◌};
+ghost use Rattle.heyvl_types.specs.PlainActs.{procedures_of};
+ghost use Rattle.std.specs.Prelude.{IfOk, length, true, ◌<◌, ◌^◌, ◌≡◌, ◌≤◌};
 
-use crate::built::is_built;
+use crate::certificates::{certify_typed, check_typed};
 use crate::faults::{source_fault_line, token_place};
+use crate::running::run_typed;
 use crate::typed_files::typed_file;
 use crate::{Fault, Settings};
 use heyvl_parse::{ParseStop, parse};
@@ -58,24 +62,26 @@ pub fn refusal(alloc: Global, fault: Fault, text: &'static [u8]) -> Response
     }
 }
 
-fn not_built_yet(alloc: Global) -> Response
-    ensures { reply_of result ≡ form_not_built_yet }
+/// A text that was made, in place of answers.
+pub(crate) fn message(alloc: Global, fault: Fault, text: Vec<u8>) -> Response
+    ensures { reply_of result ≡ message fault text.items }
 {
-    refusal(alloc, Fault::Early, b"form not built yet\n")
+    Response {
+        fault,
+        answers: Vec::new(alloc),
+        text: Text::Made(text),
+    }
 }
 
 fn print_file(alloc: Global, file: &File) -> Result<Response, AllocError>
     ensures { IfOk result (λ response. reply_of response ≡ printed (procedures file.now)) }
 {
-    Ok(Response {
-        fault: Fault::Nothing,
-        answers: Vec::new(alloc),
-        text: Text::Made(print(alloc, file)?),
-    })
+    let text = print(alloc, file)?;
+    Ok(message(alloc, Fault::Nothing, text))
 }
 
 /// The line on a fault of a file with these bytes.
-pub(crate) fn source_fault(
+fn source_fault(
     alloc: Global,
     bytes: &[u8],
     number: u8,
@@ -84,22 +90,16 @@ pub(crate) fn source_fault(
     requires { length bytes.now < 2 ^ 31 }
     ensures { IfOk result (λ response. reply_of response ≡ source_fault bytes.now number place) }
 {
-    Ok(Response {
-        fault: Fault::Source(number, place),
-        answers: Vec::new(alloc),
-        text: Text::Made(source_fault_line(alloc, bytes, number, place)?),
-    })
+    let text = source_fault_line(alloc, bytes, number, place)?;
+    Ok(message(alloc, Fault::Source(number, place), text))
 }
 
-/// The report on a file with these bytes, which has become this typed tree, or that it can't be verified yet.
+/// The report on a file with these bytes, which has become this typed tree.
 fn verify_typed(alloc: Global, bytes: &[u8], typed: &Typed) -> Result<Response, AllocError>
     requires short { length bytes.now < 2 ^ 31 }
     requires ready { IsReady bytes.now typed.now }
-    ensures { IfOk result (λ response. IsFaultlessReply bytes.now (procedures_of typed.now) (reply_of response)) }
+    ensures { IfOk result (λ response. IsReport bytes.now (procedures_of typed.now) (reply_of response)) }
 {
-    if !is_built(typed) {
-        return Ok(not_built_yet(alloc));
-    }
     let whole = verify(alloc, typed)?;
     let text = report(alloc, bytes, typed, &whole.answers, &whole.made)?;
     Ok(Response {
@@ -109,40 +109,67 @@ fn verify_typed(alloc: Global, bytes: &[u8], typed: &Typed) -> Result<Response, 
     })
 }
 
-/// What `verify` says of the file that these bytes spell.
-fn verify_file(alloc: Global, bytes: &[u8], file: &File) -> Result<Response, AllocError>
+/// What a command says of a file without a fault with these bytes, which has become this typed tree, and of its second text, if it
+/// has one.
+fn respond_typed(
+    alloc: Global,
+    settings: &Settings,
+    bytes: &[u8],
+    second: &[u8],
+    typed: &Typed,
+) -> Result<Response, AllocError>
     requires short { length bytes.now ≤ file_limit }
-    requires spelled { IsSource bytes.now (procedures file.now) }
-    ensures { IfOk result (λ response. IsVerifyReply bytes.now (procedures file.now) (reply_of response)) }
+    requires short_second { length second.now ≤ file_limit }
+    requires ready { IsReady bytes.now typed.now }
+    requires asks { tells_static settings.now ≡ true }
+    ensures { IfOk result (λ response. Says settings.now bytes.now second.now (procedures_of typed.now) (reply_of response)) }
 {
+    match settings {
+        Settings::Verify(_) => verify_typed(alloc, bytes, typed),
+        Settings::Print(_) => unreachable!(),
+        Settings::Run(_, procedure, _) => {
+            let name = procedure.as_str().as_bytes();
+            run_typed(alloc, typed, name, second)
+        }
+        Settings::Certify(_) => certify_typed(alloc, typed),
+        Settings::Check(_, _) => check_typed(alloc, bytes, typed, second),
+    }
+}
+
+/// What a command says of the file that these bytes spell, and of its second text, if it has one.
+fn respond_to_file(
+    alloc: Global,
+    settings: &Settings,
+    bytes: &[u8],
+    second: &[u8],
+    file: &File,
+) -> Result<Response, AllocError>
+    requires short { length bytes.now ≤ file_limit }
+    requires short_second { length second.now ≤ file_limit }
+    requires spelled { IsSource bytes.now (procedures file.now) }
+    ensures { IfOk result (λ response. IsSourceReply settings.now bytes.now second.now (procedures file.now) (reply_of response)) }
+{
+    if let Settings::Print(_) = settings {
+        return print_file(alloc, file);
+    }
     match typed_file(alloc, file) {
-        Ok(typed) => verify_typed(alloc, bytes, &typed),
+        Ok(typed) => respond_typed(alloc, settings, bytes, second, &typed),
         Err(ResolveStop::Fault(number, place)) => source_fault(alloc, bytes, number, place),
         Err(ResolveStop::Memory(error)) => Err(error),
     }
 }
 
-/// What a command says of the file that these bytes spell.
-fn respond_to_file(
+/// What a command says of a file with these bytes, and of its second text, if it has one. Either has at most as many bytes as a
+/// file may have.
+pub fn respond(
     alloc: Global,
     settings: &Settings,
     bytes: &[u8],
-    file: &File,
+    second: &[u8],
 ) -> Result<Response, AllocError>
     requires short { length bytes.now ≤ file_limit }
-    requires spelled { IsSource bytes.now (procedures file.now) }
-    ensures { IfOk result (λ response. IsSourceReply settings.now bytes.now (procedures file.now) (reply_of response)) }
-{
-    match settings {
-        Settings::Verify(_) => verify_file(alloc, bytes, file),
-        Settings::Print(_) => print_file(alloc, file),
-    }
-}
-
-/// What a command says of a file with these bytes, which are no more than a file may have.
-pub fn respond(alloc: Global, settings: &Settings, bytes: &[u8]) -> Result<Response, AllocError>
-    requires { length bytes.now ≤ file_limit }
-    ensures { IfOk result (λ response. IsReplyTo settings.now bytes.now (reply_of response)) }
+    requires short_second { length second.now ≤ file_limit }
+    ensures { IfOk result (λ response. IsReplyTo settings.now bytes.now second.now (reply_of response)) }
 {
     let tokens = match lex(alloc, bytes) {
         Ok(tokens) => tokens,
@@ -150,7 +177,7 @@ pub fn respond(alloc: Global, settings: &Settings, bytes: &[u8]) -> Result<Respo
         Err(LexStop::Memory(error)) => return Err(error),
     };
     match parse(alloc, &tokens) {
-        Ok(file) => respond_to_file(alloc, settings, bytes, &file),
+        Ok(file) => respond_to_file(alloc, settings, bytes, second, &file),
         Err(ParseStop::Fault(number, index)) => {
             let place = token_place(bytes, &tokens, index);
             source_fault(alloc, bytes, number, place)

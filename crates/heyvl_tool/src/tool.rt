@@ -1,12 +1,13 @@
 //! The top call.
 
+ghost use Rattle.heyvl_tool.specs.Calls.{IsReadReply, IsStarted, Moment, call, file_limit, moment, names_of};
 ghost use Rattle.heyvl_tool.specs.Headline.{IsVerifiedFrom};
-ghost use Rattle.heyvl_tool.specs.Replies.{HasCause, IsAnswered, IsDelivered, IsOutOfMemory, call, status_of, writing};
+ghost use Rattle.heyvl_tool.specs.Replies.{HasCause, IsAnswered, IsDelivered, IsOutOfMemory, IsRestReply, status_of, writing};
 ghost use Rattle.heyvl_tool.specs.Responses.{reply_of};
-ghost use Rattle.heyvl_tool.specs.SourceUses.{IsReadOnce, IsUntouched, use_of};
-ghost use Rattle.heyvl_tool.specs.Words.{AskFor, IsUsage, file_of};
+ghost use Rattle.heyvl_tool.specs.SourceUses.{IsReadInTurn, IsUntouched};
+ghost use Rattle.heyvl_tool.specs.Words.{AskFor, IsUsage, file_of, second_of};
 ghost use Rattle.heyvl_tool.specs.declared.requests.Settings.{Settings};
-ghost use Rattle.std.specs.Prelude.{IfOk, IsErr, List, [], map, string_bytes, ◌≡◌, ◌≢◌, ◌≤◌, ◌⊎◌, ℕ};
+ghost use Rattle.std.specs.Prelude.{IfOk, IsErr, List, Some, [], length, map, string_bytes, ◌≡◌, ◌≢◌, ◌≤◌, ◌⊎◌, ℕ};
 
 use crate::responses::refusal;
 use crate::statuses::answers_status;
@@ -18,33 +19,40 @@ use verdict_report::Answer;
 /// The most bytes that a file may have.
 pub const FILE_LIMIT: usize = 1_048_576;
 
-/// Does what the words ask for: `verify FILE` reads the file from the source, and writes the report of its answers to
-/// the sink; `print FILE` writes the canonical text of the file. A file with one of the faults 1 to 6 is refused by both, and one
-/// with a static fault by `verify`.
+/// Does what the words ask for: reads the file from the source, and then the script or the certificates where the command has them,
+/// and writes one text to the sink. `verify FILE` writes the report of the file's answers, `print FILE` its canonical text,
+/// `run FILE PROC SCRIPT` the sums over runs, `certify FILE` the certificates of the file's proved goals, and `check FILE CERT`
+/// the report by certificates. A file with one of the faults 1 to 6 is refused by each, and one with a static fault by all but
+/// `print`.
 pub fn run_tool<F: Source, K: Sink>(
     alloc: Global,
     words: &Vec<String>,
     source: &mut F,
     sink: &mut K,
 ) -> Outcome
-    ensures answered { IsAnswered (call (map string_bytes words.now.items) (F.holds source.old) (F.faults source.old) (F.faults source.new) (F.taken source.new))
+    ensures answered { IsAnswered (call (map string_bytes words.now.items) (names_of (F.names source.old) (F.holds source.old))
+        (moment (F.order source.old) (F.taken source.old) (F.faults source.old))
+        (moment (F.order source.new) (F.taken source.new) (F.faults source.new)))
         (writing (K.written sink.old) (K.written sink.new) (K.faults sink.old) (K.faults sink.new)) result
         ⊎ IsOutOfMemory (writing (K.written sink.old) (K.written sink.new) (K.faults sink.old) (K.faults sink.new)) result }
 
-    // What `verified` and `not verified` mean, for the bytes that were read: those that the source holds, where it tells them. Any
-    // source may be meant, also one that tells nothing.
-    ensures verified { (file : List ℕ) → AskFor (map string_bytes words.now.items) (Settings.Verify file) → result.answers.items ≢ []
-        → IsVerifiedFrom file (call (map string_bytes words.now.items) (F.holds source.old) (F.faults source.old) (F.faults source.new) (F.taken source.new))
+    // What the answers mean, for the bytes that were read: those that the source holds, where it tells them. Any source may be
+    // meant, also one that tells nothing.
+    ensures verified { (settings : Settings) → AskFor (map string_bytes words.now.items) settings → result.answers.items ≢ []
+        → IsVerifiedFrom settings (call (map string_bytes words.now.items) (names_of (F.names source.old) (F.holds source.old))
+        (moment (F.order source.old) (F.taken source.old) (F.faults source.old))
+        (moment (F.order source.new) (F.taken source.new) (F.faults source.new)))
         (writing (K.written sink.old) (K.written sink.new) (K.faults sink.old) (K.faults sink.new)) result }
 
-    // For words that are no command nothing is started. Else the file of the words is started, once, and nothing else, but
+    // For words that are no command nothing is started. Else the names of the words are started in their order, and nothing else, but
     // where there was no memory for the words.
     ensures no_start { IsUsage (map string_bytes words.now.items)
-        → IsUntouched (use_of (F.order source.old) (F.taken source.old)) (use_of (F.order source.new) (F.taken source.new)) }
+        → IsUntouched (moment (F.order source.old) (F.taken source.old) (F.faults source.old)) (moment (F.order source.new) (F.taken source.new) (F.faults source.new)) }
     ensures start { (settings : Settings) → AskFor (map string_bytes words.now.items) settings
-        → IsReadOnce (F.names source.old) (file_of settings) (use_of (F.order source.old) (F.taken source.old)) (use_of (F.order source.new) (F.taken source.new))
-        ⊎ ((result.fault ≡ Fault.Memory)
-        × IsUntouched (use_of (F.order source.old) (F.taken source.old)) (use_of (F.order source.new) (F.taken source.new))) }
+        → IsReadInTurn (names_of (F.names source.old) (F.holds source.old)) (file_of settings) (second_of settings)
+        (moment (F.order source.old) (F.taken source.old) (F.faults source.old))
+        (moment (F.order source.new) (F.taken source.new) (F.faults source.new))
+        ⊎ ((result.fault ≡ Fault.Memory) × IsUntouched (moment (F.order source.old) (F.taken source.old) (F.faults source.old)) (moment (F.order source.new) (F.taken source.new) (F.faults source.new))) }
     ensures source_names { F.names source.new ≡ F.names source.old }
     ensures source_holds { F.holds source.new ≡ F.holds source.old }
     ensures source_count { F.faults source.old ≤ F.faults source.new }
@@ -67,12 +75,17 @@ fn response_to<F: Source>(
     words: &Vec<String>,
     source: &mut F,
 ) -> Result<Response, AllocError>
-    ensures cause { IfOk result (λ response. HasCause (call (map string_bytes words.now.items) (F.holds source.old) (F.faults source.old) (F.faults source.new) (F.taken source.new)) (reply_of response)) }
+    ensures cause { IfOk result (λ response. HasCause (call (map string_bytes words.now.items) (names_of (F.names source.old) (F.holds source.old))
+        (moment (F.order source.old) (F.taken source.old) (F.faults source.old))
+        (moment (F.order source.new) (F.taken source.new) (F.faults source.new)))
+        (reply_of response)) }
     ensures no_start { IsUsage (map string_bytes words.now.items)
-        → IsUntouched (use_of (F.order source.old) (F.taken source.old)) (use_of (F.order source.new) (F.taken source.new)) }
+        → IsUntouched (moment (F.order source.old) (F.taken source.old) (F.faults source.old)) (moment (F.order source.new) (F.taken source.new) (F.faults source.new)) }
     ensures start { (settings : Settings) → AskFor (map string_bytes words.now.items) settings
-        → IsReadOnce (F.names source.old) (file_of settings) (use_of (F.order source.old) (F.taken source.old)) (use_of (F.order source.new) (F.taken source.new))
-        ⊎ (IsErr result × IsUntouched (use_of (F.order source.old) (F.taken source.old)) (use_of (F.order source.new) (F.taken source.new))) }
+        → IsReadInTurn (names_of (F.names source.old) (F.holds source.old)) (file_of settings) (second_of settings)
+        (moment (F.order source.old) (F.taken source.old) (F.faults source.old))
+        (moment (F.order source.new) (F.taken source.new) (F.faults source.new))
+        ⊎ (IsErr result × IsUntouched (moment (F.order source.old) (F.taken source.old) (F.faults source.old)) (moment (F.order source.new) (F.taken source.new) (F.faults source.new))) }
     ensures names { F.names source.new ≡ F.names source.old }
     ensures holds { F.holds source.new ≡ F.holds source.old }
     ensures count { F.faults source.old ≤ F.faults source.new }
@@ -82,29 +95,87 @@ fn response_to<F: Source>(
         Err(SettingsStop::Usage) => Ok(refusal(
             alloc,
             Fault::Usage,
-            b"usage: caesar verify FILE | print FILE\n",
+            b"usage: caesar verify FILE | print FILE | run FILE PROC SCRIPT | certify FILE | check FILE CERT\n",
         )),
         Err(SettingsStop::Memory(error)) => Err(error),
     }
 }
 
-/// The answer to a command, before it is written.
+/// The answer to a command, before it is written. The file is read first.
 fn answer_to<F: Source>(
     alloc: Global,
     settings: &Settings,
     source: &mut F,
 ) -> Result<Response, AllocError>
-    ensures cause { IfOk result (λ response. (words : List (List ℕ)) → AskFor words settings.now
-        → HasCause (call words (F.holds source.old) (F.faults source.old) (F.faults source.new) (F.taken source.new)) (reply_of response)) }
-    ensures once { IsReadOnce (F.names source.old) (file_of settings.now) (use_of (F.order source.old) (F.taken source.old)) (use_of (F.order source.new) (F.taken source.new)) }
+    ensures answer { IfOk result (λ response. IsReadReply 0 (names_of (F.names source.old) (F.holds source.old)) (file_of settings.now)
+        (IsRestReply settings.now (names_of (F.names source.old) (F.holds source.old)) (moment (F.order source.new) (F.taken source.new) (F.faults source.new)) (second_of settings.now))
+        (moment (F.order source.old) (F.taken source.old) (F.faults source.old))
+        (moment (F.order source.new) (F.taken source.new) (F.faults source.new)) (reply_of response)) }
+    ensures turn { IsReadInTurn (names_of (F.names source.old) (F.holds source.old)) (file_of settings.now) (second_of settings.now)
+        (moment (F.order source.old) (F.taken source.old) (F.faults source.old))
+        (moment (F.order source.new) (F.taken source.new) (F.faults source.new)) }
     ensures names { F.names source.new ≡ F.names source.old }
     ensures holds { F.holds source.new ≡ F.holds source.old }
     ensures count { F.faults source.old ≤ F.faults source.new }
 {
     match read_all(alloc, source, settings.file(), FILE_LIMIT) {
-        Ok(bytes) => respond(alloc, settings, &bytes),
+        Ok(bytes) => answer_rest(alloc, settings, &bytes, source),
         Err(ReadStop::Failed) => Ok(refusal(alloc, Fault::Read(0), b"read fault\n")),
         Err(ReadStop::TooLong) => Ok(refusal(alloc, Fault::TooLong(0), b"file too long\n")),
+        Err(ReadStop::Memory(error)) => Err(error),
+    }
+}
+
+/// The answer to a command whose file has these bytes. The second text is read where the command has one.
+fn answer_rest<F: Source>(
+    alloc: Global,
+    settings: &Settings,
+    bytes: &[u8],
+    source: &mut F,
+) -> Result<Response, AllocError>
+    requires short { length bytes.now ≤ file_limit }
+    requires few { F.taken source.old ≤ file_limit }
+    ensures answer { IfOk result (λ response. IsRestReply settings.now (names_of (F.names source.old) (F.holds source.old))
+        (moment (F.order source.new) (F.taken source.new) (F.faults source.new)) (second_of settings.now)
+        bytes.now (moment (F.order source.old) (F.taken source.old) (F.faults source.old)) (reply_of response)) }
+    ensures turn { (file : List ℕ) (start : Moment) → IsStarted (names_of (F.names source.old) (F.holds source.old)) file start
+        (moment (F.order source.old) (F.taken source.old) (F.faults source.old))
+        → IsReadInTurn (names_of (F.names source.old) (F.holds source.old)) file (second_of settings.now) start
+        (moment (F.order source.new) (F.taken source.new) (F.faults source.new)) }
+    ensures names { F.names source.new ≡ F.names source.old }
+    ensures holds { F.holds source.new ≡ F.holds source.old }
+    ensures count { F.faults source.old ≤ F.faults source.new }
+{
+    match settings.second() {
+        Some(name) => answer_second(alloc, settings, bytes, name, source),
+        None => respond(alloc, settings, bytes, &[]),
+    }
+}
+
+/// The answer to a command whose file has these bytes, and whose second text has this name.
+fn answer_second<F: Source>(
+    alloc: Global,
+    settings: &Settings,
+    bytes: &[u8],
+    name: &str,
+    source: &mut F,
+) -> Result<Response, AllocError>
+    requires short { length bytes.now ≤ file_limit }
+    ensures answer { IfOk result (λ response. IsRestReply settings.now (names_of (F.names source.old) (F.holds source.old))
+        (moment (F.order source.new) (F.taken source.new) (F.faults source.new)) (Some name.now)
+        bytes.now (moment (F.order source.old) (F.taken source.old) (F.faults source.old)) (reply_of response)) }
+    ensures turn { (file : List ℕ) (start : Moment) → IsStarted (names_of (F.names source.old) (F.holds source.old)) file start
+        (moment (F.order source.old) (F.taken source.old) (F.faults source.old))
+        → IsReadInTurn (names_of (F.names source.old) (F.holds source.old)) file (Some name.now) start
+        (moment (F.order source.new) (F.taken source.new) (F.faults source.new)) }
+    ensures names { F.names source.new ≡ F.names source.old }
+    ensures holds { F.holds source.new ≡ F.holds source.old }
+    ensures count { F.faults source.old ≤ F.faults source.new }
+{
+    match read_all(alloc, source, name, FILE_LIMIT) {
+        Ok(second) => respond(alloc, settings, bytes, &second),
+        Err(ReadStop::Failed) => Ok(refusal(alloc, Fault::Read(1), b"read fault\n")),
+        Err(ReadStop::TooLong) => Ok(refusal(alloc, Fault::TooLong(1), b"file too long\n")),
         Err(ReadStop::Memory(error)) => Err(error),
     }
 }
@@ -136,7 +207,7 @@ fn status(fault: Fault, answers: &[Answer]) -> u8
 {
     match fault {
         Fault::Nothing => answers_status(answers),
-        Fault::TooLong(_) | Fault::Source(_, _) | Fault::Early => 3,
+        Fault::TooLong(_) | Fault::Source(_, _) | Fault::Cert(_) => 3,
         Fault::Script(_) | Fault::NoProcedure | Fault::NotProgram(_) => 3,
         Fault::Usage => 4,
         Fault::Read(_) => 5,

@@ -2,10 +2,12 @@
 #![tactic(auto)]
 
 #[cfg(test)]
+mod call_tests;
+#[cfg(test)]
+mod certificate_tests;
+#[cfg(test)]
 mod device_tests;
 #[cfg(test)]
 mod long_files;
-#[cfg(test)]
-mod run_tests;
 #[cfg(test)]
 mod short_writes;

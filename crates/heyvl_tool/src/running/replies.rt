@@ -1,6 +1,5 @@
 //! What `run` says of a file without a fault and a script.
 
-ghost use Rattle.heyvl_tool.specs.Replies.{message};
 ghost use Rattle.heyvl_tool.specs.Responses.{reply_of};
 ghost use Rattle.heyvl_tool.specs.RunReplies.{IsRunReply, TellsRun, no_program as no_program_reply, run_reply, script_fault as script_fault_reply};
 ghost use Rattle.heyvl_tool.specs.RunStarts.{known_at, procedure_named};
@@ -13,7 +12,7 @@ ghost use Rattle.run_machine.specs.ConfigConditions.{ReachesPrograms};
 ghost use Rattle.run_machine.specs.Names.{HasFewActs};
 ghost use Rattle.std.specs.Prelude.{IfOk, IfSome, List, Some, length, ◌<◌, ◌^◌, ◌≡◌, ◌≤◌, ℕ};
 
-use crate::responses::{Response, Text, refusal};
+use crate::responses::{Response, message, refusal};
 use crate::running::procedures::{first_no_program, procedure, procedure_named};
 use crate::running::starts::{known_variables, start_state};
 use crate::running::texts::{no_program_text, script_fault_text, stop_text, sums_text};
@@ -23,17 +22,6 @@ use heyvl_types::{Typed, VarInfo};
 use run_machine::begin;
 use run_unroller::{Unrolled, unroll};
 use std::alloc::{AllocError, Global};
-
-/// A text in place of answers.
-fn message(alloc: Global, fault: Fault, text: Vec<u8>) -> Response
-    ensures { reply_of result ≡ message fault text.items }
-{
-    Response {
-        fault,
-        answers: Vec::new(alloc),
-        text: Text::Made(text),
-    }
-}
 
 /// What is said of a script with a fault in this line.
 fn script_fault(alloc: Global, line: u32) -> Result<Response, AllocError>

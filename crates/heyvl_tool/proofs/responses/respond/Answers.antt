@@ -11,7 +11,7 @@ use Rattle.std.proofs.Common.{List, ap, arith, inl, inr, subst, ◌∙◌, ◌�
 pub returns-in-Err-Fault : goal.returns-in-Err-Fault
 returns-in-Err-Fault c =
     let stops : Stops 0 c.args.bytes.now c.in-Err-Fault.number c.in-Err-Fault.place = rw c.in-Err-Fault.field-0-is at c.in-Err-Fault.ensures.fault in
-    reply_by_fault c.args.settings.now c.args.bytes.now c.in-Err-Fault.number c.in-Err-Fault.place _ (inl stops) c.source_fault.ensures
+    reply_by_fault c.args.settings.now c.args.bytes.now c.args.second.now c.in-Err-Fault.number c.in-Err-Fault.place _ (inl stops) c.source_fault.ensures
 
 pub parse-requires : goal.parse-requires
 parse-requires c =
@@ -26,7 +26,7 @@ respond_to_file-requires-clause-spelled c =
 pub returns-in-Ok-parse : goal.returns-in-Ok-parse
 returns-in-Ok-parse c =
     let found : IsWithinLimits c.in-Ok.tokens.items × IsFile (procedures c.in-Ok-parse.file) c.in-Ok.tokens.items = rw c.deref.ensures.value at c.in-Ok-parse.ensures.found in
-    reply_by_file c.args.settings.now c.args.bytes.now (procedures c.in-Ok-parse.file) _
+    reply_by_file c.args.settings.now c.args.bytes.now c.args.second.now (procedures c.in-Ok-parse.file) _
     (record { tokens = c.in-Ok.tokens.items; lexes = c.in-Ok.ensures.found; within = found.0; is_file = found.1 }) c.respond_to_file.ensures
 
 pub returns-in-Err-Fault-parse : goal.returns-in-Err-Fault-parse
@@ -35,5 +35,5 @@ returns-in-Err-Fault-parse c =
     let fault : IsTokenFault c.in-Ok.tokens.items c.in-Err-Fault-parse.number c.in-Err-Fault-parse.index = subst (λ (ts : List Token). IsTokenFault ts c.in-Err-Fault-parse.number c.in-Err-Fault-parse.index) c.deref.ensures.value stop in
     let place : c.token_place-place.result ≡ token_place c.args.bytes.now c.in-Ok.tokens.items c.in-Err-Fault-parse.index =
     c.token_place-place.ensures ∙ ap (λ (ts : List Token). token_place c.args.bytes.now ts c.in-Err-Fault-parse.index) c.deref-in-Err-Fault-parse.ensures.value in
-    reply_by_fault c.args.settings.now c.args.bytes.now c.in-Err-Fault-parse.number c.token_place-place.result _
+    reply_by_fault c.args.settings.now c.args.bytes.now c.args.second.now c.in-Err-Fault-parse.number c.token_place-place.result _
     (inr (c.in-Ok.tokens.items, c.in-Err-Fault-parse.index, c.in-Ok.ensures.found, fault, place)) c.source_fault-in-Err-Fault-parse.ensures

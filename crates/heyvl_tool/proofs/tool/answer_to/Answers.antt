@@ -1,28 +1,24 @@
-use Rattle.heyvl_tool.proofs.CallLemmas.{cause_by_bytes, within_limit}
+use Rattle.heyvl_tool.proofs.CallLemmas.{file_read, turned}
 use Rattle.heyvl_tool.proofs.tool.answer_to.Goals as goal
-use Rattle.heyvl_tool.specs.Replies.HasCause.{by_length, by_source}
-use Rattle.heyvl_tool.specs.Replies.{IsReplyTo, file_limit}
-use Rattle.heyvl_tool.specs.Responses.{reply_of}
-use Rattle.std.proofs.Common.{Err, IfOk, IfSome, List, ap, length, rules, subst, ◌<◌, ◌≡◌, ℕ}
+use Rattle.heyvl_tool.specs.Calls.{IsRead, file_limit, moment, names_of}
+use Rattle.std.proofs.Common.{ap₂, length, rules, ◌≡◌, ◌≤◌}
 
-pub returns-in-Ok-clause-cause : goal.returns-in-Ok-clause-cause
-returns-in-Ok-clause-cause g c =
-    let held : IfSome _ (λ held. c.in-Ok.bytes.items ≡ held) =
-    subst (λ (f : List ℕ). IfSome (g.F.Source.holds c.args.source.now f) (λ held. c.in-Ok.bytes.items ≡ held)) c.file.ensures c.in-Ok.ensures.bytes in
-    let said = subst (λ (bs : List ℕ). IfOk c.respond.result (λ x. IsReplyTo c.args.settings.now bs (reply_of x))) c.deref.ensures.value c.respond.ensures in
-    cause_by_bytes (g.F.Source.holds c.args.source.now) _ _ _ c.args.settings.now c.in-Ok.bytes.items c.respond.result held (search rules) (search rules) said
+pub returns-in-Ok-clause-answer : goal.returns-in-Ok-clause-answer
+returns-in-Ok-clause-answer g c =
+    let taken : g.F.Source.taken c.read_all.new.source ≡ length c.in-Ok.bytes.items = search rules in
+    let short : length c.in-Ok.bytes.items ≤ file_limit = search rules in
+    let read : IsRead (names_of (g.F.Source.names c.args.source.now) (g.F.Source.holds c.args.source.now)) c.file.result.now c.in-Ok.bytes.items
+    (moment (g.F.Source.order c.args.source.now) (g.F.Source.taken c.args.source.now) (g.F.Source.faults c.args.source.now))
+    (moment (g.F.Source.order c.read_all.new.source) (g.F.Source.taken c.read_all.new.source) (g.F.Source.faults c.read_all.new.source)) =
+    record { started = c.read_all.ensures.order; faults = c.read_all.ensures.count; holds = c.in-Ok.ensures.bytes; taken = taken; short = short } in
+    file_read c.args.settings.now (names_of (g.F.Source.names c.args.source.now) (g.F.Source.holds c.args.source.now)) (names_of (g.F.Source.names c.read_all.new.source) (g.F.Source.holds c.read_all.new.source))
+    c.file.result.now c.in-Ok.bytes.items c.deref.result.now _ _ _ c.answer_rest.result
+    (ap₂ names_of c.read_all.ensures.names c.read_all.ensures.holds) c.deref.ensures.value c.file.ensures read c.answer_rest.ensures.answer
 
-pub returns-in-Err-Failed-clause-cause : goal.returns-in-Err-Failed-clause-cause
-returns-in-Err-Failed-clause-cause g c words asks =
-    by_source c.args.settings.now asks
-    (c.in-Err-Failed.ensures.failed (ap Err c.in-Err-Failed.field-0-is))
-    (within_limit _ c.read_all.ensures.taken (λ e. let long = c.in-Err-Failed.ensures.too_long.1 e in cc (c.in-Err-Failed.field-0-is, long)))
-    c.refusal.ensures
-
-pub returns-in-Err-TooLong-clause-cause : goal.returns-in-Err-TooLong-clause-cause
-returns-in-Err-TooLong-clause-cause g c words asks =
-    by_length c.args.settings.now asks
-    (c.in-Err-TooLong.ensures.too_long.0 (ap Err c.in-Err-TooLong.field-0-is))
-    (subst (λ (f : List ℕ). IfSome (g.F.Source.holds c.args.source.now f) (λ held. file_limit < length held)) c.file.ensures
-    (c.in-Err-TooLong.ensures.longer (ap Err c.in-Err-TooLong.field-0-is)))
-    c.refusal-in-Err-TooLong.ensures
+pub returns-in-Ok-clause-turn : goal.returns-in-Ok-clause-turn
+returns-in-Ok-clause-turn g c =
+    turned c.args.settings.now (names_of (g.F.Source.names c.args.source.now) (g.F.Source.holds c.args.source.now)) (names_of (g.F.Source.names c.read_all.new.source) (g.F.Source.holds c.read_all.new.source)) c.file.result.now
+    (moment (g.F.Source.order c.args.source.now) (g.F.Source.taken c.args.source.now) (g.F.Source.faults c.args.source.now))
+    (moment (g.F.Source.order c.read_all.new.source) (g.F.Source.taken c.read_all.new.source) (g.F.Source.faults c.read_all.new.source))
+    (moment (g.F.Source.order c.answer_rest.new.source) (g.F.Source.taken c.answer_rest.new.source) (g.F.Source.faults c.answer_rest.new.source))
+    (ap₂ names_of c.read_all.ensures.names c.read_all.ensures.holds) c.file.ensures c.read_all.ensures.order c.answer_rest.ensures.turn

@@ -2,4 +2,4 @@ use Rattle.heyvl_tool.proofs.HeadlineLemmas.{verified_from}
 use Rattle.heyvl_tool.proofs.tool.run_tool.Goals as goal
 
 pub returns-in-Ok-clause-verified : goal.returns-in-Ok-clause-verified
-returns-in-Ok-clause-verified g c file asks some = verified_from file _ _ _ _ c.in-Ok.ensures.cause c.deliver.ensures.delivered asks some
+returns-in-Ok-clause-verified g c settings asks some = verified_from settings _ _ _ _ c.in-Ok.ensures.cause c.deliver.ensures.delivered asks some

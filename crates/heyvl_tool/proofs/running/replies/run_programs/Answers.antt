@@ -6,7 +6,7 @@ use Rattle.heyvl_types.specs.Acts.{procedure_at}
 use Rattle.heyvl_types.specs.PlainActs.{procedures_of}
 use Rattle.run_machine.specs.Names.{config_of, stored}
 use Rattle.run_unroller.specs.Unrolling.{unrolling_of}
-use Rattle.std.proofs.Common.{ap, ap₂, ◌∙◌, ◌≡◌}
+use Rattle.std.proofs.Common.{ap₂, ◌∙◌, ◌≡◌}
 use Rattle.std.proofs.lemmas.Result.{IfOk-weaker}
 
 pub unroll-requires-clause-begins : goal.unroll-requires-clause-begins

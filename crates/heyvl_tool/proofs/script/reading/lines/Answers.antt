@@ -1,7 +1,6 @@
 use Rattle.heyvl_tool.proofs.ScriptReading.{few_parts}
 use Rattle.heyvl_tool.proofs.script.reading.lines.Goals as goal
 use Rattle.std.proofs.Common.{Bool, Vec, length, map, ◌+◌, ◌==◌, ◌≡◌, ◌≤◌, ℕ, List}
-use Rattle.std.specs.Borrow.{Bor}
 use Rattle.std.specs.List.{slice_split}
 use Rattle.std.specs.Prelude.{IfOk, Result}
 
