@@ -15,6 +15,8 @@ mod dropped_ends;
 #[cfg(test)]
 mod elimination_tests;
 #[cfg(test)]
+mod finding_tests;
+#[cfg(test)]
 mod fractions;
 #[cfg(test)]
 mod goals;

@@ -130,7 +130,7 @@ fn terms_of(alloc: Global, given: Given) -> Result<Vec<(u32, i64)>, AllocError> 
     Ok(terms)
 }
 
-fn rows_of(alloc: Global, given: &[Given]) -> Result<Vec<Row>, AllocError>
+pub fn rows_of(alloc: Global, given: &[Given]) -> Result<Vec<Row>, AllocError>
     ensures { IfOk result (λ v. All IsRow v.items) }
 {
     let mut rows: Vec<Row> = Vec::new(alloc);

@@ -31,4 +31,5 @@ pub mod Pasts
 pub mod Greedily
 pub mod ChoiceRuns
 pub mod StepRows
+pub mod SpotRows
 pub mod exported

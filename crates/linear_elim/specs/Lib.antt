@@ -4,4 +4,5 @@ pub mod Elimination
 pub mod Laws
 pub mod ChoiceNumbers
 pub mod Answers
+pub mod Findings
 pub mod internal

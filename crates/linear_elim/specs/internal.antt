@@ -3,3 +3,4 @@ pub mod Picks
 pub mod Turns
 pub mod Outcomes
 pub mod Fingerprints
+pub mod Spots

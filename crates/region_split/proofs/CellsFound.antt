@@ -11,7 +11,7 @@ use Rattle.linear_form.specs.Cells.{IsCell, IsFalseCell}
 use Rattle.linear_elim.specs.Answers.{ends_of}
 use Rattle.linear_elim.specs.declared.answers.Broken.{Broken}
 use Rattle.region_split.specs.Decisions.{with_truths, IsPointOf, IsBreakOf, Breaks, IsFirstPoint, IsFirstBreak}
-use Rattle.region_split.specs.internal.Seen.{IsPointAt, IsBreakAt}
+use Rattle.region_split.specs.internal.Seen.{IsPointAt, IsBreakAt, IsMetAt}
 use Rattle.region_split.specs.internal.Progress.{HoldsAt, IsFound}
 use Rattle.region_split.specs.declared.found.Found.{Found}
 use Rattle.region_split.specs.declared.found.Found.TheVariants.{Nothing, Break, Point}
@@ -25,6 +25,9 @@ holds_not_false g ps (inr r) f = r.unsolvable (subst IsSolvable (same_rows g ps 
 
 pub point_is_false : (g : Goal) (ps : List Taken) (point : List Val) → IsCell g ps → (IsPlainAt g ps → ⊥) → IsPointAt g ps true point → IsFalseCell g ps
 point_is_false g ps point c n p = record { cell = c; not_plain = n; rows = p.rows; are_rows = p.are_rows; solvable = p.solvable }
+
+pub met_is_false : (g : Goal) (ps : List Taken) → IsCell g ps → (IsPlainAt g ps → ⊥) → IsMetAt g ps true → IsFalseCell g ps
+met_is_false g ps c n p = record { cell = c; not_plain = n; rows = p.rows; are_rows = p.are_rows; solvable = p.solvable }
 
 pub break_is_false : (g : Goal) (ps : List Taken) (b : Broken) → IsCell g ps → (IsPlainAt g ps → ⊥) → IsBreakAt g ps true b → IsFalseCell g ps
 break_is_false g ps b c n p = record { cell = c; not_plain = n; rows = p.rows; are_rows = p.are_rows; solvable = p.broken.solvable }

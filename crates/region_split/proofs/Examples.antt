@@ -1,7 +1,6 @@
 -- The walks of two goals without questions, worked out by hand: one holds plainly, the other fails.
-use Rattle.std.proofs.Common.{◌≡◌, ℕ, List, [], ◌∷◌, refl, sym, ◌∙◌, arith, Bool, true, false}
-use Rattle.std.specs.Prelude.{ℤ, negsuc, Option, Some, None}
-use Rattle.std.specs.List.{All}
+use Rattle.std.proofs.Common.{◌≡◌, [], ◌∷◌, refl, sym, ◌∙◌, arith, true}
+use Rattle.std.specs.Prelude.{negsuc, Some, None}
 use Rattle.std.proofs.lemmas.List.Elements.{All-nil, All-cons}
 use Rattle.heyvl_num.specs.Gcd.{gcd, gcd_steps}
 use Rattle.heyvl_num.specs.Rational.{ratio, zeroʳ, oneʳ, leqʳ, ◌+ʳ◌, ◌*ʳ◌}
@@ -11,7 +10,7 @@ use Rattle.heyvl_num.specs.Value.Value.{finite, infinite}
 use Rattle.heylo_formula.specs.Formula.{Form}
 use Rattle.heylo_formula.specs.Goals.{Goal}
 use Rattle.heylo_formula.specs.declared.types.Ty.{Ty}
-use Rattle.linear_form.specs.Lin.{constant, variable, minus_oneʳ, plus, minus, scaled, fits, is_sized}
+use Rattle.linear_form.specs.Lin.{variable, minus_oneʳ, plus, minus, scaled, fits, is_sized}
 use Rattle.linear_form.specs.Query.Query.{done}
 use Rattle.linear_form.specs.Questions.{Ends, zero, one}
 use Rattle.linear_form.specs.Paths.{end_at}
@@ -21,11 +20,11 @@ use Rattle.linear_form.specs.Solutions.{sum_of, MeetsAt, IsSolvable}
 use Rattle.linear_form.specs.Tightening.{tightened}
 use Rattle.linear_form.specs.VariableOrder.{order_of}
 use Rattle.linear_form.specs.GreedyPoint.{Chooses}
-use Rattle.linear_form.specs.Cells.{IsKept, IsFront, IsCell, IsFalseCell}
+use Rattle.linear_form.specs.Cells.{IsKept, IsFront, IsFalseCell}
 use Rattle.farkas_check.specs.Trees.{Tree}
-use Rattle.region_split.specs.Walk.{AreCells, AreBefore, IsReached, IsSettled, IsWalked}
+use Rattle.region_split.specs.Walk.{AreCells, AreBefore, IsReached, IsSettled}
 use Rattle.region_split.specs.WalkTree.{IsWalkTree, depth}
-use Rattle.region_split.specs.Decisions.{IsFirstPoint, IsFalsified}
+use Rattle.region_split.specs.Decisions.{IsFalsified}
 
 -- infinity is at least x
 abbrev plain_goal : Goal

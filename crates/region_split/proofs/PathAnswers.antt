@@ -12,6 +12,8 @@ use Rattle.linear_form.specs.PathRows.{rows_of, denial, denial_at}
 use Rattle.linear_form.specs.PlainPaths.{linear_of}
 use Rattle.linear_form.specs.Row.{Row}
 use Rattle.linear_form.specs.Asked.{Answers}
+use Rattle.linear_form.specs.Solutions.{IsSolvable}
+use Rattle.linear_form.specs.Combination.{IsContradiction}
 use Rattle.linear_form.specs.GreedyPoint.{IsGreedyPoint}
 use Rattle.linear_form.specs.Cells.{IsDropped, IsKept}
 use Rattle.linear_form.specs.declared.asking.Ask as K
@@ -25,7 +27,7 @@ use Rattle.linear_elim.specs.declared.answers.Cause.TheVariants.{Bits, Rows}
 use Rattle.farkas_check.specs.Accepted.{has_denied, IsRefutedWith}
 use Rattle.region_split.specs.Walk.{IsReached}
 use Rattle.region_split.specs.Decisions.{Eliminates, IsLarge}
-use Rattle.region_split.specs.internal.Seen.{MayLook, EndsWalk, IsPointAt, IsBreakAt, IsDroppedBy}
+use Rattle.region_split.specs.internal.Seen.{MayLook, EndsWalk, IsPointAt, IsBreakAt, IsMetAt, IsDroppedBy}
 
 -- ---- What the elimination answers
 
@@ -46,6 +48,20 @@ pub no_rows : (g : Goal) (ps : List Taken) (denied : Bool) → rows_of g ps deni
 no_rows g ps false e cells r m linear = (linear, IsLarge.in_rows ps cells r e)
 no_rows g ps true e cells r m linear = (linear, IsLarge.in_cell ps cells r m.0 m.1.0 e)
 
+-- ---- What is found of rows
+
+pub refuted_rows : (g : Goal) (ps : List Taken) (denied : Bool) (rows : List Row) (ms : List (ℕ × ℕ)) → rows_of g ps denied ≡ Some rows → IsContradiction ms rows → IsRefutedWith g ps denied ms
+refuted_rows g ps denied rows ms e h = record { rows = rows; are_rows = e; contradiction = h }
+
+pub met_rows : (g : Goal) (ps : List Taken) (denied : Bool) (rows : List Row) → rows_of g ps denied ≡ Some rows → IsSolvable rows → IsMetAt g ps denied
+met_rows g ps denied rows e h = record { rows = rows; are_rows = e; solvable = h }
+
+pub met_by_point : (g : Goal) (ps : List Taken) (denied : Bool) (point : List Val) → IsPointAt g ps denied point → IsMetAt g ps denied
+met_by_point g ps denied point p = record { rows = p.rows; are_rows = p.are_rows; solvable = p.solvable }
+
+pub met_by_break : (g : Goal) (ps : List Taken) (denied : Bool) (b : Broken) → IsBreakAt g ps denied b → IsMetAt g ps denied
+met_by_break g ps denied b p = record { rows = p.rows; are_rows = p.are_rows; solvable = p.broken.solvable }
+
 -- ---- Paths that are dropped, and paths that are not
 
 pub same_rows : (g : Goal) (ps : List Taken) (denied : Bool) (rows others : List Row) → rows_of g ps denied ≡ Some rows → rows_of g ps denied ≡ Some others → rows ≡ others
@@ -54,11 +70,8 @@ same_rows g ps denied rows others e f = let k = sym e ∙ f in cc
 pub is_dropped : (g : Goal) (ps : List Taken) (ms : List (ℕ × ℕ)) → IsRefutedWith g ps false ms → IsDropped g ps
 is_dropped g ps ms r = record { rows = r.rows; are_rows = r.are_rows; unsolvable = contradiction_unsolvable ms r.rows r.contradiction }
 
-pub kept_by_point : (g : Goal) (ps : List Taken) (point : List Val) → IsPointAt g ps false point → IsKept g ps
-kept_by_point g ps point p = record { rows = p.rows; are_rows = p.are_rows; solvable = p.solvable }
-
-pub kept_by_break : (g : Goal) (ps : List Taken) (b : Broken) → IsBreakAt g ps false b → IsKept g ps
-kept_by_break g ps b p = record { rows = p.rows; are_rows = p.are_rows; solvable = p.broken.solvable }
+pub kept_where_met : (g : Goal) (ps : List Taken) → IsMetAt g ps false → IsKept g ps
+kept_where_met g ps p = record { rows = p.rows; are_rows = p.are_rows; solvable = p.solvable }
 
 -- ---- What is asked
 

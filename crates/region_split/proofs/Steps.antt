@@ -22,14 +22,14 @@ use Rattle.region_split.specs.Walk.{IsReached}
 use Rattle.region_split.specs.Decisions.{HasCells, IsBreakOf, IsCause}
 use Rattle.heylo_formula.specs.TypedGoals.{IsTypedGoal}
 use Rattle.region_split.proofs.TypedBreaks.{break_of}
-use Rattle.region_split.specs.internal.Seen.{EndsWalk, IsEnd, IsDroppedBy, IsPointAt, IsBreakAt}
+use Rattle.region_split.specs.internal.Seen.{EndsWalk, IsEnd, IsDroppedBy, IsPointAt, IsBreakAt, IsMetAt}
 use Rattle.region_split.specs.internal.Progress.{HoldsAt, AreShort, IsGrown, IsBranch, HasBefore, IsAfter, IsNextFront, IsFound, IsWalk, IsFinishedWalk, IsJudgedCell, rest_of, left_of}
 use Rattle.region_split.specs.declared.growth.Grown.{Grown}
 use Rattle.region_split.specs.declared.found.Found.{Found}
 use Rattle.region_split.specs.declared.walk.Walk.{Walk}
 use Rattle.region_split.proofs.Climbing.{taken, in_first, in_second, after_second, before_second, after_start, left_second, left_first, rest_below, rest_up}
 use Rattle.region_split.proofs.CellOrder.{front_path, stands_front, reached, cell_here, many_cells}
-use Rattle.region_split.proofs.CellsFound.{found_holds, point_is_false, break_is_false}
+use Rattle.region_split.proofs.CellsFound.{found_holds, point_is_false, break_is_false, met_is_false, point_longer}
 use Rattle.region_split.proofs.Leaves.{leaf_of, dropped_leaf, plain_leaf, refuted_leaf, refuted_holds, false_leaf, dropped_finished, cell_finished}
 
 -- ---- Paths that the program holds
@@ -148,6 +148,12 @@ pub point_cell : (g : Goal) (ps : List Taken) (found next : Found) (plain : Bool
 point_cell g ps found next plain point h e k p f =
     let i = point_is_false g ps point (cell_here g ps plain h e) (not_plain_there g ps plain e k) p in
     judged g ps found next None None refl (false_leaf g ps plain e i) (λ cells j. f cells j i p)
+
+-- a further false cell, where a point is known
+pub further_cell : (g : Goal) (ps : List Taken) (plain : Bool) (point : Vec Val Global) → IsFront g ps → IsEnd g ps plain → plain ≡ false → IsMetAt g ps true → IsJudgedCell g ps (Found.Point point) (Found.Point point) None
+further_cell g ps plain point h e k p =
+    let i = met_is_false g ps (cell_here g ps plain h e) (not_plain_there g ps plain e k) p in
+    judged g ps (Found.Point point) (Found.Point point) None None refl (false_leaf g ps plain e i) (λ cells j. point_longer g cells ps point.items j)
 
 pub break_cell : (g : Goal) (ps : List Taken) (found next : Found) (plain : Bool) (b : Broken) → IsTypedGoal g → IsFront g ps → IsEnd g ps plain → plain ≡ false → IsBreakAt g ps true b → ((cells : List (List Taken)) (ps : List Taken) → IsFound g cells found → IsFalseCell g ps → IsBreakOf g ps b → IsFound g (cells ++ (ps ∷ [])) next) → IsJudgedCell g ps found next None
 break_cell g ps found next plain b t h e k p f =

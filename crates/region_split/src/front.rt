@@ -10,9 +10,9 @@ ghost use Rattle.farkas_check.specs.Accepted.{has_denied, IsRefutedWith};
 ghost use Rattle.region_split.specs.internal.Seen.{IsSeen};
 
 use crate::moving::{comparisons, moved, places};
-use crate::solving::{Solved, solve};
+use crate::solving::{Settled, settle};
 use heylo_formula::Goal;
-use linear_elim::Cause;
+use linear_elim::{Cause, Spot};
 use linear_form::{Ask, Atom, RowList, Taken, ask, denied_rows_are_more, holds_plainly, rows};
 use std::alloc::{AllocError, Global};
 
@@ -29,18 +29,22 @@ pub enum Front {
     Unknown(Cause),
 }
 
-/// What stands at a path. Want of memory is the one error.
-pub fn look(alloc: Global, goal: &Goal, path: &[Taken]) -> Result<Front, AllocError>
+/// What stands at a path. A point that is known to meet other rows is tried first. Want of memory is the one error.
+pub fn look(
+    alloc: Global,
+    goal: &Goal,
+    path: &[Taken],
+    known: &mut Spot,
+) -> Result<Front, AllocError>
     requires path { IsPath (goal_of goal.now) (path_of path.now) }
     requires typed { IsTypedGoal (goal_of goal.now) }
     requires short { length path.now + 1 + length goal.now.vars.items < 2 ^ 32 }
     ensures { IfOk result (λ f. IsSeen (goal_of goal.now) (path_of path.now) f) }
 {
-    match solve(alloc, goal, path, false)? {
-        Solved::Refuted(multipliers) => dropped(alloc, goal, path, multipliers),
-        Solved::Point(_) => kept(alloc, goal, path),
-        Solved::Break(_) => kept(alloc, goal, path),
-        Solved::Unknown(cause) => Ok(Front::Unknown(cause)),
+    match settle(alloc, goal, path, false, known)? {
+        Settled::Refuted(multipliers) => dropped(alloc, goal, path, multipliers),
+        Settled::Met => kept(alloc, goal, path),
+        Settled::Unknown(cause) => Ok(Front::Unknown(cause)),
     }
 }
 

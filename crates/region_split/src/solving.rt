@@ -3,17 +3,19 @@
 ghost use Rattle.std.specs.Prelude.{◌≡◌, ◌<◌, ◌+◌, ◌^◌, List, length, Bool, IfOk, Some};
 ghost use Rattle.heylo_formula.specs.Goals.{Goal as PlainGoal, goal_of};
 ghost use Rattle.linear_form.specs.Query.{Taken as PlainTaken};
-ghost use Rattle.linear_form.specs.Row.{Row};
+ghost use Rattle.linear_form.specs.Row.{Row as PlainRow, IsRow};
+ghost use Rattle.linear_form.specs.RowLists.{IsNumericRow};
+ghost use Rattle.std.specs.List.{All};
 ghost use Rattle.linear_form.specs.Paths.{IsPath};
 ghost use Rattle.linear_form.specs.PathRows.{rows_of};
 ghost use Rattle.linear_form.specs.PlainPaths.{path_of};
 ghost use Rattle.heylo_formula.specs.TypedGoals.{IsTypedGoal};
 ghost use Rattle.linear_elim.specs.Answers.{IsAnswer};
-ghost use Rattle.region_split.specs.internal.Seen.{IsSolved};
+ghost use Rattle.region_split.specs.internal.Seen.{IsSolved, IsSettledAs};
 
-use heylo_formula::{Goal, Val};
-use linear_elim::{Broken, Cause, Elim, eliminate};
-use linear_form::{RowList, Taken, rows};
+use heylo_formula::{Goal, Ty, Val};
+use linear_elim::{Broken, Cause, Elim, Finding, Spot, eliminate, find};
+use linear_form::{Row, RowList, Taken, rows};
 use std::alloc::{AllocError, Global};
 
 /// What the rows of a path come to.
@@ -29,22 +31,128 @@ pub enum Solved {
     Unknown(Cause),
 }
 
-/// Solves the rows of a path, the denied goal among them where it is asked for. Want of memory is the one error.
-pub fn solve(alloc: Global, goal: &Goal, path: &[Taken], denied: bool) -> Result<Solved, AllocError>
+/// Whether some fractions meet the rows of a path.
+#[derive(Drop)]
+pub enum Settled {
+    /// None do: multipliers by row index, which combine them to a contradiction.
+    Refuted(Vec<(u32, u64)>),
+    /// Some do.
+    Met,
+    /// There are too many rows, or a number is too great.
+    Unknown(Cause),
+}
+
+/// Solves the rows of a path, the denied goal among them where it is asked for. A point that is known to meet other rows is tried
+/// first. Want of memory is the one error.
+pub fn solve(
+    alloc: Global,
+    goal: &Goal,
+    path: &[Taken],
+    denied: bool,
+    known: &Spot,
+) -> Result<Solved, AllocError>
     requires path { IsPath (goal_of goal.now) (path_of path.now) }
     requires typed { IsTypedGoal (goal_of goal.now) }
     requires short { length path.now + 1 + length goal.now.vars.items < 2 ^ 32 }
     ensures { IfOk result (λ s. IsSolved (goal_of goal.now) (path_of path.now) denied s) }
 {
     match rows(alloc, goal, path, denied)? {
-        RowList::Rows(list) => Ok(told(eliminate(alloc, &list, &goal.vars)?)),
+        RowList::Rows(list) => Ok(solve_found(alloc, &list, &goal.vars, known)?),
         RowList::Bits => Ok(Solved::Unknown(Cause::Bits)),
     }
 }
 
+/// Whether some fractions meet the rows of a path, the denied goal among them where it is asked for. A point that is known to meet
+/// other rows is tried first, and one that is found takes its place. Want of memory is the one error.
+pub fn settle(
+    alloc: Global,
+    goal: &Goal,
+    path: &[Taken],
+    denied: bool,
+    known: &mut Spot,
+) -> Result<Settled, AllocError>
+    requires path { IsPath (goal_of goal.now) (path_of path.now) }
+    requires typed { IsTypedGoal (goal_of goal.now) }
+    requires short { length path.now + 1 + length goal.now.vars.items < 2 ^ 32 }
+    ensures { IfOk result (λ s. IsSettledAs (goal_of goal.now) (path_of path.now) denied s) }
+{
+    match rows(alloc, goal, path, denied)? {
+        RowList::Rows(list) => Ok(settle_found(alloc, &list, &goal.vars, known)?),
+        RowList::Bits => Ok(Settled::Unknown(Cause::Bits)),
+    }
+}
+
+/// Puts a point that was found in the place of the one that was known.
+fn renew(known: &mut Spot, found: Option<Spot>) {
+    if let Some(spot) = found {
+        *known = spot;
+    }
+}
+
+/// Whether some fractions meet the rows, where they are solved.
+fn settled_by(solved: Solved) -> Settled
+    ensures { (g : PlainGoal) (ps : List PlainTaken) (denied : Bool) → IsSolved g ps denied solved → IsSettledAs g ps denied result }
+{
+    match solved {
+        Solved::Refuted(multipliers) => Settled::Refuted(multipliers),
+        Solved::Point(_) => Settled::Met,
+        Solved::Break(_) => Settled::Met,
+        Solved::Unknown(cause) => Settled::Unknown(cause),
+    }
+}
+
+/// Solves rows: by what is found of them, else by eliminating. Want of memory is the one error.
+fn solve_found(alloc: Global, list: &[Row], vars: &[Ty], known: &Spot) -> Result<Solved, AllocError>
+    requires rows { All IsRow list.now }
+    requires numeric { All (IsNumericRow vars.now) list.now }
+    requires few { length list.now < 2 ^ 32 }
+    requires few_variables { length vars.now < 2 ^ 32 }
+    ensures { (g : PlainGoal) (ps : List PlainTaken) (denied : Bool) → rows_of g ps denied ≡ Some list.now → g.types ≡ vars.now → IfOk result (λ s. IsSolved g ps denied s) }
+{
+    match find(alloc, list, vars.len(), known)? {
+        Finding::Refuted(multipliers) => Ok(Solved::Refuted(multipliers)),
+        Finding::Met(_) => solve_rows(alloc, list, vars),
+        Finding::Open => solve_rows(alloc, list, vars),
+    }
+}
+
+/// Whether some fractions meet rows: by what is found of them, else by eliminating. Want of memory is the one error.
+fn settle_found(
+    alloc: Global,
+    list: &[Row],
+    vars: &[Ty],
+    known: &mut Spot,
+) -> Result<Settled, AllocError>
+    requires rows { All IsRow list.now }
+    requires numeric { All (IsNumericRow vars.now) list.now }
+    requires few { length list.now < 2 ^ 32 }
+    requires few_variables { length vars.now < 2 ^ 32 }
+    ensures { (g : PlainGoal) (ps : List PlainTaken) (denied : Bool) → rows_of g ps denied ≡ Some list.now → g.types ≡ vars.now → IfOk result (λ s. IsSettledAs g ps denied s) }
+{
+    match find(alloc, list, vars.len(), known)? {
+        Finding::Refuted(multipliers) => Ok(Settled::Refuted(multipliers)),
+        Finding::Met(found) => {
+            renew(known, found);
+            Ok(Settled::Met)
+        }
+        Finding::Open => Ok(settled_by(solve_rows(alloc, list, vars)?)),
+    }
+}
+
+/// Eliminates rows. Want of memory is the one error.
+fn solve_rows(alloc: Global, list: &[Row], vars: &[Ty]) -> Result<Solved, AllocError>
+    requires rows { All IsRow list.now }
+    requires numeric { All (IsNumericRow vars.now) list.now }
+    requires few { length list.now < 2 ^ 32 }
+    requires few_variables { length vars.now < 2 ^ 32 }
+    ensures { (g : PlainGoal) (ps : List PlainTaken) (denied : Bool) → rows_of g ps denied ≡ Some list.now → g.types ≡ vars.now → IfOk result (λ s. IsSolved g ps denied s) }
+{
+    Ok(told(eliminate(alloc, list, vars)?))
+}
+
 /// What the answer of the elimination says of a path whose rows it was asked for.
 fn told(answer: Elim) -> Solved
-    ensures { (g : PlainGoal) (ps : List PlainTaken) (denied : Bool) (list : List Row) → rows_of g ps denied ≡ Some list → IsAnswer list g.types answer → IsSolved g ps denied result }
+    ensures { (g : PlainGoal) (ps : List PlainTaken) (denied : Bool) (list : List PlainRow) → rows_of g ps denied ≡ Some list → IsAnswer list g.types answer → IsSolved g ps denied result }
 {
     match answer {
         Elim::NoSolution(multipliers) => Solved::Refuted(multipliers),

@@ -19,7 +19,7 @@ use crate::front::{Front, look};
 use crate::growth::Grown;
 use farkas_check::Tree;
 use heylo_formula::Goal;
-use linear_elim::Cause;
+use linear_elim::{Cause, Spot};
 use linear_form::{Atom, Taken};
 use std::alloc::{AllocError, Global};
 
@@ -58,26 +58,27 @@ pub fn walked(alloc: Global, goal: &Goal) -> Result<Decision, AllocError>
         count: 0,
         found: Found::Nothing,
     };
+    let mut known = Spot::origin(alloc);
     'walk: loop {
-        match visit(alloc, goal, walk)? {
+        match visit(alloc, goal, walk, &mut known)? {
             Step::On(next) => walk = next,
             Step::Done(decision) => return Ok(decision),
         }
     }
 }
 
-/// Looks at the path of the walk, and goes on to the next one.
-fn visit(alloc: Global, goal: &Goal, walk: Walk) -> Result<Step, AllocError>
+/// Looks at the path of the walk, and goes on to the next one. The point met the rows of an earlier path.
+fn visit(alloc: Global, goal: &Goal, walk: Walk, known: &mut Spot) -> Result<Step, AllocError>
     requires typed { IsTypedGoal (goal_of goal.now) }
     requires short { AreShort (goal_of goal.now) }
     requires linear { nonlinear_product (goal_of goal.now) ≡ None }
     requires stands { IsWalk (goal_of goal.now) walk }
     ensures { IfOk result (λ s. IsStep (goal_of goal.now) (path_of walk.path.items) s) }
 {
-    match look(alloc, goal, &walk.path)? {
+    match look(alloc, goal, &walk.path, known)? {
         Front::Dropped(multipliers) => finish(alloc, walk, leaf(Tree::Farkas(multipliers))),
         Front::Question(atom) => deeper(walk, atom),
-        Front::End(plain) => end(alloc, goal, walk, plain),
+        Front::End(plain) => end(alloc, goal, walk, plain, known),
         Front::Unknown(cause) => Ok(Step::Done(Decision::Unknown(cause))),
     }
 }
@@ -91,7 +92,13 @@ fn deeper(mut walk: Walk, atom: Atom) -> Result<Step, AllocError>
 }
 
 /// Counts a cell and looks at it.
-fn end(alloc: Global, goal: &Goal, walk: Walk, plain: bool) -> Result<Step, AllocError>
+fn end(
+    alloc: Global,
+    goal: &Goal,
+    walk: Walk,
+    plain: bool,
+    known: &mut Spot,
+) -> Result<Step, AllocError>
     requires typed { IsTypedGoal (goal_of goal.now) }
     requires short { AreShort (goal_of goal.now) }
     requires linear { nonlinear_product (goal_of goal.now) ≡ None }
@@ -108,7 +115,7 @@ fn end(alloc: Global, goal: &Goal, walk: Walk, plain: bool) -> Result<Step, Allo
     if count >= MOST_CELLS {
         return Ok(Step::Done(Decision::Unknown(Cause::Cells(MOST_CELLS + 1))));
     }
-    match judge(alloc, goal, &path, found, plain)? {
+    match judge(alloc, goal, &path, found, plain, known)? {
         Cell::Judged(found, tree) => {
             let next = Walk {
                 path,

@@ -21,6 +21,8 @@ use Rattle.region_split.specs.Decisions.{IsCause}
 use Rattle.region_split.specs.declared.solving.Solved.{Solved}
 use Rattle.region_split.specs.declared.solving.Solved.TheVariants.{Refuted, Point, Break}
 use Rattle.region_split.specs.declared.solving.Solved.TheVariants as S
+use Rattle.region_split.specs.declared.solving.Settled.{Settled}
+use Rattle.region_split.specs.declared.solving.Settled.TheVariants as D
 use Rattle.region_split.specs.declared.front.Front.{Front}
 use Rattle.region_split.specs.declared.front.Front.TheVariants.{Dropped, Question, End, Unknown}
 
@@ -52,6 +54,17 @@ IsSolved g ps denied (Refuted ms) = IsRefutedWith g ps denied ms.items
 IsSolved g ps denied (Point point) = IsPointAt g ps denied point.items
 IsSolved g ps denied (Break b) = IsBreakAt g ps denied b
 IsSolved g ps denied (S.Unknown cause) = EndsWalk g ps denied cause
+
+-- There are rows of the path, and some fractions meet them.
+pub record IsMetAt (g : Goal) (ps : List Taken) (denied : Bool) : Type 0 where
+  pub rows : List Row
+  pub are_rows : rows_of g ps denied ≡ Some rows
+  pub solvable : IsSolvable rows
+
+abbrev pub IsSettledAs : Goal → List Taken → Bool → Settled → Type 0
+IsSettledAs g ps denied (D.Refuted ms) = IsRefutedWith g ps denied ms.items
+IsSettledAs g ps denied D.Met = IsMetAt g ps denied
+IsSettledAs g ps denied (D.Unknown cause) = EndsWalk g ps denied cause
 
 -- The path is dropped, and a certificate takes these multipliers there.
 pub record IsDroppedBy (g : Goal) (ps : List Taken) (ms : List (ℕ × ℕ)) : Type 0 where

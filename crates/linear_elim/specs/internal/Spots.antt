@@ -1,0 +1,13 @@
+-- Points that are given by a list of numbers over one denominator.
+use Rattle.std.specs.Prelude.{ℕ, List, ℤ, pos, ◌+ℤ◌, ◌*ℤ◌, get_or}
+use Rattle.linear_form.specs.Terms.{sum_at}
+use Rattle.linear_form.specs.Points.{IsBelow}
+use Rattle.linear_form.specs.Row.{Row}
+
+-- A variable's value times the denominator, 0 beyond the list.
+abbrev pub top_at : List ℤ → ℕ → ℤ
+top_at tops x = get_or tops x (pos 0)
+
+-- The values meet the row.
+pub record IsMetBy (below : ℕ) (tops : List ℤ) (r : Row) : Type 0 where
+  pub met : IsBelow r.strict (sum_at (top_at tops) r.terms +ℤ (r.rest *ℤ pos below))

@@ -1,0 +1,104 @@
+//! Points over one common denominator, and the rows that they meet.
+ghost use Rattle.std.specs.Prelude.{◌≡◌, ◌+ℤ◌, ◌*ℤ◌, ℕ, ℤ, pos, true, IfSome, IsTrue};
+ghost use Rattle.linear_form.specs.Terms.{sum_at};
+ghost use Rattle.linear_form.specs.Points.{IsBelow};
+ghost use Rattle.linear_form.specs.Solutions.{IsSolvable};
+ghost use Rattle.linear_elim.specs.internal.Spots.{top_at, IsMetBy};
+
+use linear_form::{Row, solutions_of_rows};
+use std::alloc::Global;
+
+/// A point: each variable's value times the common denominator, and 0 beyond the list.
+#[derive(Drop)]
+pub struct Spot {
+    pub below: u64,
+    pub tops: Vec<i64>,
+}
+
+impl Spot {
+    /// The point at which each variable is 0.
+    pub fn origin(alloc: Global) -> Spot {
+        Spot {
+            below: 1,
+            tops: Vec::new(alloc),
+        }
+    }
+}
+
+fn top_of(tops: &[i64], x: u32) -> i64
+    ensures { result ≡ top_at tops.now x }
+{
+    match tops.get(x as usize) {
+        Some(top) => *top,
+        None => 0,
+    }
+}
+
+/// A sum with a product added to it; None where one of them is too great.
+fn with_product(sum: i128, a: i128, b: i128) -> Option<i128>
+    ensures { IfSome result (λ z. z ≡ sum +ℤ (a *ℤ b)) }
+{
+    let product = a.checked_mul(b)?;
+    sum.checked_add(product)
+}
+
+/// A variable's term at a point, times its denominator, and a sum; None where a number is too great.
+fn with_term(tops: &[i64], x: u32, c: i64, sum: i128) -> Option<i128>
+    ensures { IfSome result (λ z. z ≡ (c *ℤ top_at tops.now x) +ℤ sum) }
+{
+    let top = top_of(tops, x);
+    let product = i128::from(c).checked_mul(i128::from(top))?;
+    product.checked_add(sum)
+}
+
+/// The sum of the terms at a point, times its denominator; None where it is too great.
+#[tactic(auto, unfolding(linear_form::specs::Terms::sum_at))]
+fn terms_at(terms: &[(u32, i64)], tops: &[i64]) -> Option<i128>
+    ensures { IfSome result (λ z. z ≡ sum_at (top_at tops.now) terms.now) }
+{
+    match terms.split_first() {
+        None => Some(0),
+        Some((term, others)) => {
+            let sum = terms_at(others, tops)?;
+            with_term(tops, term.0, term.1, sum)
+        }
+    }
+}
+
+/// Whether a left side is below 0 or, where it isn't strict, at most 0.
+fn is_below(strict: bool, left: i128) -> bool
+    ensures { result ≡ true → IsBelow strict left }
+{
+    if strict { left < 0 } else { left <= 0 }
+}
+
+/// Whether a point is known to meet a row.
+fn is_met(row: &Row, below: u64, tops: &[i64]) -> bool
+    ensures { result ≡ true → IsMetBy below tops.now row.now }
+{
+    let Some(sum) = terms_at(&row.terms, tops) else {
+        return false;
+    };
+    let Some(left) = with_product(sum, i128::from(row.rest), i128::from(below)) else {
+        return false;
+    };
+    is_below(row.strict, left)
+}
+
+/// Whether a point is known to meet the rows.
+pub(crate) fn are_met(rows: &[Row], spot: &Spot) -> bool
+    ensures { IsTrue result → IsSolvable rows.now }
+{
+    if spot.below == 0 {
+        return false;
+    }
+    let mut rest = rows;
+    'rows: while let Some((row, others)) = rest.split_first() {
+        if !is_met(row, spot.below, &spot.tops) {
+            return false;
+        }
+        rest = others;
+    }
+    solutions_of_rows();
+    true
+}
