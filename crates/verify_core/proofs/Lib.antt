@@ -31,3 +31,4 @@ mod CertifiedRankings
 mod PlacedChecks
 mod ServedGoals
 mod AcceptedProofs
+mod HeadlineExamples

@@ -1,10 +1,10 @@
 -- Where the goal of a ranking stands: within the text, where the procedures do.
 use Rattle.std.proofs.Common.{◌≡◌, ◌≤◌, ℕ, subst, List, ◌++◌, length}
-use Rattle.std.specs.Prelude.{Option, Some, None}
+use Rattle.std.specs.Prelude.{Option, Some}
 use Rattle.heyvl_num.specs.Rational.{Rational}
 use Rattle.heyvl_syntax.specs.declared.spans.Span.{Span}
 use Rattle.heylo_formula.specs.Formula.{Form}
-use Rattle.heyvl_types.specs.Acts.{Act, Acts, Arms, TypedProcedure, acts_in, procedure_at, type_list, variables}
+use Rattle.heyvl_types.specs.Acts.{Act, Acts, Arms, TypedProcedure, procedure_at, type_list, variables}
 use Rattle.heyvl_types.specs.Places.{in_order, inside, inside_arms}
 use Rattle.heyvl_types.specs.Rules.{Each}
 use Rattle.linear_form.specs.Nonlinear.{first_product, nonlinear_product}

@@ -11,7 +11,7 @@ use heyvl_types::Typed;
 use proc_contracts::not_program;
 use std::alloc::{AllocError, Global};
 
-/// For each procedure, whether it is no program or not all of its goals are proved.
+/// For each procedure, whether it is no program or not all goals of its bound are proved.
 pub(crate) fn open_procedures(
     alloc: Global,
     typed: &Typed,
@@ -31,7 +31,7 @@ pub(crate) fn open_procedures(
     Ok(all)
 }
 
-/// Whether the procedure is no program, or not all of its goals are proved.
+/// Whether the procedure is no program, or not all goals of its bound are proved.
 fn is_open(typed: &Typed, p: u32, outcome: &Outcome) -> bool
     requires { p < length typed.now.procs.items }
     ensures { result ≡ is_open (procedure_at (procedures_of typed.now) p) outcome.now }

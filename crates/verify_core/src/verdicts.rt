@@ -68,7 +68,7 @@ fn answer_of(
     })
 }
 
-/// The verdict on a procedure. The goal that is told, if one is, is appended.
+/// The verdict on a procedure, by the goals of its bound alone. The goal that is told, if one is, is appended.
 fn verdict_of(
     alloc: Global,
     typed: &Typed,
@@ -98,7 +98,7 @@ fn verdict_of(
     }
 }
 
-/// The verdict on a procedure whose goals are proved.
+/// The verdict on a procedure whose bound's goals are proved.
 fn proved_verdict(
     alloc: Global,
     typed: &Typed,
@@ -116,7 +116,7 @@ fn proved_verdict(
     }
 }
 
-/// The verdict on a procedure whose goals are proved, and that is no program.
+/// The verdict on a procedure whose bound's goals are proved, and that is no program.
 pub(crate) fn verdict_for(why: WhyNot) -> Verdict
     ensures { result ≡ verdict_for why }
 {
@@ -128,7 +128,7 @@ pub(crate) fn verdict_for(why: WhyNot) -> Verdict
     }
 }
 
-/// The verdict on a program whose goals are proved.
+/// The verdict on a program whose bound's goals are proved.
 fn closed_verdict(
     alloc: Global,
     typed: &Typed,

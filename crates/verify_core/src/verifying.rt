@@ -23,8 +23,8 @@ use ranking_rule::{ranking_goals_say_rankings, rankings_bound_turns};
 use std::alloc::{AllocError, Global};
 use vp_generator::{generated_form_means_acts, prenexed_form_means_choices};
 
-/// The answers of the file's procedures, each by its own goals, its kind and the procedures that it reaches. Want of memory is
-/// the one error.
+/// The answers of the file's procedures: on each bound by its own goals, the procedure's kind and the procedures that it reaches;
+/// on each ranking by its own goal alone. Want of memory is the one error.
 pub fn verify(alloc: Global, typed: &Typed) -> Result<Whole, AllocError>
     requires rules { MeetsAllRules typed.now }
     requires named { Each HasNamedBinders (procedures_of typed.now) }

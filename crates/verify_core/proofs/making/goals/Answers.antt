@@ -1,4 +1,3 @@
-use Rattle.heyvl_types.specs.PlainActs.{procedures_of}
 use Rattle.verify_core.proofs.making.goals.Goals as goal
 
 pub returns : goal.returns

@@ -1,7 +1,6 @@
-use Rattle.std.proofs.Common.{ap, append_assoc, ◌++◌, ◌∷◌, [], ◌∙◌}
+use Rattle.std.proofs.Common.{ap, append_assoc, ◌++◌, ◌∙◌}
 use Rattle.std.proofs.lemmas.Result.{IfOk-equal}
 use Rattle.heyvl_types.specs.declared.acts.LoopAct.{LoopAct}
-use Rattle.heyvl_types.specs.Acts.{Act}
 use Rattle.heyvl_types.specs.Places.{in_order}
 use Rattle.heyvl_types.specs.PlainActs.{acts_of}
 use Rattle.verify_core.specs.Rankings.{ranked_in}

@@ -1,4 +1,4 @@
-use Rattle.std.proofs.Common.{ap, append_assoc, subst, sym, ◌∙◌, ◌++◌}
+use Rattle.std.proofs.Common.{ap, append_assoc, sym, ◌∙◌, ◌++◌}
 use Rattle.heyvl_types.specs.Acts.{TypedProcedure}
 use Rattle.loop_encodings.proofs.exported.FromRules.{procedure_is}
 use Rattle.verify_core.specs.Decided.{listed}
