@@ -1,7 +1,7 @@
 -- How a reply has its cause, from what reading gave; and what the words ask for.
 use Rattle.heyvl_io.specs.Faults.{Rose}
 use Rattle.heyvl_tool.specs.Calls.IsReadReply.{by_bytes, by_length, by_source}
-use Rattle.heyvl_tool.specs.Calls.{Call, Holds, IsRead, IsReadReply, IsStarted, Moment, Names, file_limit, file_too_long, read_fault}
+use Rattle.heyvl_tool.specs.Calls.{AreRead, Call, IsRead, IsReadReply, IsStarted, Moment, Names, file_limit, file_too_long, read_fault}
 use Rattle.heyvl_tool.specs.Messages.{Reply}
 use Rattle.heyvl_tool.specs.Replies.HasCause.{by_command, by_words}
 use Rattle.heyvl_tool.specs.Replies.{HasCause, IsReplyTo, IsRestReply}
@@ -73,24 +73,25 @@ turned settings names later name before between after same named started turn =
 pub data CameTo (settings : Settings) (second : Option (List ℕ)) (made : Call) (reply : Reply) : Type 0 where
   failed : (k : ℕ) → Rose made.before.faults made.after.faults → reply ≡ read_fault k → CameTo settings second made reply
   too_long : (k : ℕ) → made.after.taken ≡ file_limit + 1 → reply ≡ file_too_long k → CameTo settings second made reply
-  said : (bytes text : List ℕ) → Holds made.names (file_of settings) bytes → IfSome second (λ name. Holds made.names name text) → IsReplyTo settings bytes text reply → CameTo settings second made reply
+  said : (bytes text : List ℕ) → AreRead made.names (file_of settings) second bytes text made.before made.after → IsReplyTo settings bytes text reply → CameTo settings second made reply
 
 rose_later : (a b c : ℕ) → a ≤ b → Rose b c → Rose a c
 rose_later a b c le (inl lt) = inl (omega arith)
 rose_later a b c le (inr top) = inr top
 
-rest_came : (settings : Settings) (second : Option (List ℕ)) (made : Call) (bytes : List ℕ) (between : Moment) (reply : Reply) → made.before.faults ≤ between.faults → Holds made.names (file_of settings) bytes
+rest_came : (settings : Settings) (second : Option (List ℕ)) (made : Call) (bytes : List ℕ) (between : Moment) (reply : Reply) → IsRead made.names (file_of settings) bytes made.before between
     → IsRestReply settings made.names made.after second bytes between reply → CameTo settings second made reply
-rest_came settings None made bytes between reply le holds rest = said bytes [] holds tt rest.1
-rest_came settings (Some name) made bytes between reply le holds (by_source started rose few e) = failed 1 (rose_later made.before.faults between.faults made.after.faults le rose) e
-rest_came settings (Some name) made bytes between reply le holds (by_length started taken longer e) = too_long 1 taken e
-rest_came settings (Some name) made bytes between reply le holds (by_bytes now text read rest) = said bytes text holds read.holds rest.1
+rest_came settings None made bytes between reply first rest = said bytes [] (record { between = between; file_read = first; second_read = (rest.0, refl) }) rest.1
+rest_came settings (Some name) made bytes between reply first (by_source started rose few e) = failed 1 (rose_later made.before.faults between.faults made.after.faults first.faults rose) e
+rest_came settings (Some name) made bytes between reply first (by_length started taken longer e) = too_long 1 taken e
+rest_came settings (Some name) made bytes between reply first (by_bytes now text read rest) =
+    said bytes text (record { between = between; file_read = first; second_read = subst (λ (m : Moment). IsRead made.names name text between m) rest.0 read }) rest.1
 
 came_from : (settings : Settings) (made : Call) (reply : Reply) → IsReadReply 0 made.names (file_of settings) (IsRestReply settings made.names made.after (second_of settings)) made.before made.after reply
     → CameTo settings (second_of settings) made reply
 came_from settings made reply (by_source started rose few e) = failed 0 rose e
 came_from settings made reply (by_length started taken longer e) = too_long 0 taken e
-came_from settings made reply (by_bytes between bytes read rest) = rest_came settings (second_of settings) made bytes between reply read.faults read.holds rest
+came_from settings made reply (by_bytes between bytes read rest) = rest_came settings (second_of settings) made bytes between reply read rest
 
 -- What a reply that has its cause came from, where the words ask for a command.
 pub came_to : (settings : Settings) (made : Call) (reply : Reply) → AskFor made.words settings → HasCause made reply → CameTo settings (second_of settings) made reply

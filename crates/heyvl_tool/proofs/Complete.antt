@@ -72,14 +72,13 @@ from_came : (settings : Settings) (made : Call) (done : Writing) (outcome : Outc
     → IsComplete settings made done outcome
 from_came settings made done outcome reply well (failed k rose e) delivered = absurd (well.source rose)
 from_came settings made done outcome reply well (too_long k taken e) delivered = let short = well.short in absurd (omega (arith, taken, short))
-from_came settings made done outcome reply well (said bytes second held second_held replied) delivered = by delivered.delivered
+from_came settings made done outcome reply well (said bytes second read replied) delivered = by delivered.delivered
   where
     by : IsWritten reply done outcome ⊎ IsCut reply done outcome → IsComplete settings made done outcome
     by (inl written) = record {
       bytes = bytes;
-      held = held;
       second = second;
-      second_held = second_held;
+      read = read;
       reply = reply;
       said = replied;
       written = written;

@@ -61,13 +61,12 @@ from_came : (settings : Settings) (made : Call) (done : Writing) (outcome : Outc
     → IsVerifiedFrom settings made done outcome
 from_came settings made done outcome reply (failed k rose e) delivered some = absurd (no_message reply _ e (λ none. some (delivered.answers ∙ none)) refl)
 from_came settings made done outcome reply (too_long k taken e) delivered some = absurd (no_message reply _ e (λ none. some (delivered.answers ∙ none)) refl)
-from_came settings made done outcome reply (said bytes second held second_held replied) delivered some =
+from_came settings made done outcome reply (said bytes second read replied) delivered some =
     let p = promised settings bytes second reply replied (λ none. some (delivered.answers ∙ none)) in
     record {
       bytes = bytes;
-      held = held;
       second = second;
-      second_held = second_held;
+      read = read;
       reply = reply;
       said = replied;
       is_delivered = delivered;

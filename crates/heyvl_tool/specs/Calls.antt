@@ -3,7 +3,7 @@ use Rattle.heyvl_io.specs.Faults.{Rose}
 use Rattle.heyvl_io.specs.Order.{Order, order_after}
 use Rattle.heyvl_tool.specs.Messages.{Reply, message}
 use Rattle.heyvl_tool.specs.declared.outcomes.Fault.TheVariants as faults
-use Rattle.std.specs.Prelude.{IfSome, List, Option, codes, length, ◌+◌, ◌<◌, ◌≡◌, ◌≤◌, ℕ}
+use Rattle.std.specs.Prelude.{IfSome, List, None, Option, Some, [], codes, length, ◌+◌, ◌<◌, ◌≡◌, ◌≤◌, ℕ}
 
 -- The most bytes that a file may have.
 abbrev pub file_limit : ℕ
@@ -52,6 +52,17 @@ pub record IsRead (names : Names) (name bytes : List ℕ) (before after : Moment
   pub holds : Holds names name bytes
   pub taken : after.taken ≡ length bytes
   pub short : length bytes ≤ file_limit
+
+-- After the file the second text was read, where there is one; where there is none nothing more was read.
+abbrev pub IsSecondRead : Names → Option (List ℕ) → List ℕ → Moment → Moment → Type 0
+IsSecondRead names None text before after = (before ≡ after) × (text ≡ [])
+IsSecondRead names (Some name) text before after = IsRead names name text before after
+
+-- The file was read, and then the second text, where there is one; these are the bytes of both.
+pub record AreRead (names : Names) (file : List ℕ) (second : Option (List ℕ)) (bytes text : List ℕ) (before after : Moment) : Type 0 where
+  pub between : Moment
+  pub file_read : IsRead names file bytes before between
+  pub second_read : IsSecondRead names second text between after
 
 abbrev pub read_fault : ℕ → Reply
 read_fault k = message (faults.Read k) (codes "read fault\n")

@@ -2,7 +2,7 @@
 use Rattle.heyvl_io.specs.Faults.{Rose}
 use Rattle.heyvl_syntax.specs.Procedures.{Procedure}
 use Rattle.heyvl_syntax.specs.SourceFaults.{IsSource}
-use Rattle.heyvl_tool.specs.Calls.{Call, Holds, file_limit}
+use Rattle.heyvl_tool.specs.Calls.{AreRead, Call, file_limit}
 use Rattle.heyvl_tool.specs.CertificateReplies.{IsCertification, IsCheckReport}
 use Rattle.heyvl_tool.specs.Messages.{Reply}
 use Rattle.heyvl_tool.specs.Replies.{IsAnswered, IsOutOfMemory, IsReplyTo, IsReport, IsWritten, Writing, status_of}
@@ -18,7 +18,7 @@ use Rattle.heyvl_tool.specs.declared.requests.Settings.{Settings}
 use Rattle.heyvl_types.specs.Acts.{TypedProcedure}
 use Rattle.heyvl_types.specs.Files.{first_fault, resolved}
 use Rattle.run_machine.specs.ConfigConditions.{ReachesPrograms}
-use Rattle.std.specs.Prelude.{IfSome, List, None, Some, length, ◌≡◌, ◌≢◌, ◌≤◌, ◌⊎◌, ℕ}
+use Rattle.std.specs.Prelude.{List, None, Some, length, ◌≡◌, ◌≢◌, ◌≤◌, ◌⊎◌, ℕ}
 use Rattle.cert_text.specs.Certificates.{certificates_of}
 use Rattle.cert_text.specs.Texts.{Spells}
 use Rattle.farkas_check.specs.declared.trees.GoalCert.{GoalCert}
@@ -34,9 +34,8 @@ pub record WentWell (made : Call) (done : Writing) (outcome : Outcome) : Type 0 
 -- says of them was written whole, and the answers and the status are those of this reply.
 pub record IsComplete (settings : Settings) (made : Call) (done : Writing) (outcome : Outcome) : Type 0 where
   pub bytes : List ℕ
-  pub held : Holds made.names (file_of settings) bytes
   pub second : List ℕ
-  pub second_held : IfSome (second_of settings) (λ name. Holds made.names name second)
+  pub read : AreRead made.names (file_of settings) (second_of settings) bytes second made.before made.after
   pub reply : Reply
   pub said : IsReplyTo settings bytes second reply
   pub written : IsWritten reply done outcome

@@ -1,8 +1,8 @@
 -- What a user may rely on where a report says `verified`, `ranked` or `not verified`.
-use Rattle.std.specs.Prelude.{◌≡◌, ℕ, List, IfSome, None}
+use Rattle.std.specs.Prelude.{◌≡◌, ℕ, List, None}
 use Rattle.heyvl_syntax.specs.Procedures.{Procedure}
 use Rattle.heyvl_syntax.specs.SourceFaults.{IsSource}
-use Rattle.heyvl_tool.specs.Calls.{Call, Holds}
+use Rattle.heyvl_tool.specs.Calls.{AreRead, Call}
 use Rattle.heyvl_tool.specs.Messages.{Reply}
 use Rattle.heyvl_tool.specs.Replies.{IsDelivered, IsReplyTo, Writing}
 use Rattle.heyvl_tool.specs.Words.{file_of, second_of}
@@ -20,9 +20,8 @@ use Rattle.verify_core.specs.Headline.{IsHeadline}
 -- initial state that is shown.
 pub record IsVerifiedFrom (settings : Settings) (made : Call) (done : Writing) (outcome : Outcome) : Type 0 where
   pub bytes : List ℕ
-  pub held : Holds made.names (file_of settings) bytes
   pub second : List ℕ
-  pub second_held : IfSome (second_of settings) (λ name. Holds made.names name second)
+  pub read : AreRead made.names (file_of settings) (second_of settings) bytes second made.before made.after
   pub reply : Reply
   pub said : IsReplyTo settings bytes second reply
   pub is_delivered : IsDelivered reply done outcome
