@@ -130,6 +130,7 @@ fn terms_of(alloc: Global, given: Given) -> Result<Vec<(u32, i64)>, AllocError> 
     Ok(terms)
 }
 
+/// The rows of a table, each brought to what the library takes.
 pub fn rows_of(alloc: Global, given: &[Given]) -> Result<Vec<Row>, AllocError>
     ensures { IfOk result (λ v. All IsRow v.items) }
 {
