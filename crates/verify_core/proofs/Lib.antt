@@ -32,3 +32,4 @@ mod PlacedChecks
 mod ServedGoals
 mod AcceptedProofs
 mod HeadlineExamples
+mod RankingExamples
