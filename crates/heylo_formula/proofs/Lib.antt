@@ -12,7 +12,6 @@ mod Examples
 pub mod SubstitutionTypes
 pub mod SubstitutionBinders
 pub mod OneMeaning
-pub mod ShiftedTrees
 pub mod StandingCounts
 pub mod FiniteChoices
 pub mod exported

@@ -7,7 +7,6 @@ mod forms;
 mod goals;
 mod laws;
 mod occurrences;
-mod pairs;
 mod renaming;
 mod shifting;
 mod sizes;

@@ -1,4 +1,4 @@
-//! Renaming of variables.
+//! Renaming of variables. Boxes are made in calls of their own, so that each level of a deep tree takes little stack.
 
 ghost use Rattle.std.specs.Prelude.{◌≡◌, false, IfOk};
 ghost use Rattle.heylo_formula.specs.PlainTrees.{form_of, cond_of};
@@ -18,59 +18,86 @@ impl Form {
             Form::Const(v) => Ok(Form::Const(*v)),
             Form::Var(x) => Ok(Form::Var(if from == *x { to } else { *x })),
             Form::Sum(a, b) => {
-                let left = Box::new(alloc, a.rename(alloc, from, to)?)?;
-                Ok(Form::Sum(left, Box::new(alloc, b.rename(alloc, from, to)?)?))
+                let (left, right) = Form::rename_both(alloc, a, b, from, to)?;
+                Ok(Form::Sum(left, right))
             }
             Form::Diff(a, b) => {
-                let left = Box::new(alloc, a.rename(alloc, from, to)?)?;
-                Ok(Form::Diff(left, Box::new(alloc, b.rename(alloc, from, to)?)?))
+                let (left, right) = Form::rename_both(alloc, a, b, from, to)?;
+                Ok(Form::Diff(left, right))
             }
             Form::Cut(a, b) => {
-                let left = Box::new(alloc, a.rename(alloc, from, to)?)?;
-                Ok(Form::Cut(left, Box::new(alloc, b.rename(alloc, from, to)?)?))
+                let (left, right) = Form::rename_both(alloc, a, b, from, to)?;
+                Ok(Form::Cut(left, right))
             }
-            Form::Scale(w, a) => Ok(Form::Scale(*w, Box::new(alloc, a.rename(alloc, from, to)?)?)),
+            Form::Scale(w, a) => Ok(Form::Scale(*w, a.rename_boxed(alloc, from, to)?)),
             Form::Product(a, b, span) => {
-                let left = Box::new(alloc, a.rename(alloc, from, to)?)?;
-                Ok(Form::Product(left, Box::new(alloc, b.rename(alloc, from, to)?)?, *span))
+                let (left, right) = Form::rename_both(alloc, a, b, from, to)?;
+                Ok(Form::Product(left, right, *span))
             }
             Form::Min(a, b) => {
-                let left = Box::new(alloc, a.rename(alloc, from, to)?)?;
-                Ok(Form::Min(left, Box::new(alloc, b.rename(alloc, from, to)?)?))
+                let (left, right) = Form::rename_both(alloc, a, b, from, to)?;
+                Ok(Form::Min(left, right))
             }
             Form::Max(a, b) => {
-                let left = Box::new(alloc, a.rename(alloc, from, to)?)?;
-                Ok(Form::Max(left, Box::new(alloc, b.rename(alloc, from, to)?)?))
+                let (left, right) = Form::rename_both(alloc, a, b, from, to)?;
+                Ok(Form::Max(left, right))
             }
             Form::Imply(a, b) => {
-                let left = Box::new(alloc, a.rename(alloc, from, to)?)?;
-                Ok(Form::Imply(left, Box::new(alloc, b.rename(alloc, from, to)?)?))
+                let (left, right) = Form::rename_both(alloc, a, b, from, to)?;
+                Ok(Form::Imply(left, right))
             }
             Form::CoImply(a, b) => {
-                let left = Box::new(alloc, a.rename(alloc, from, to)?)?;
-                Ok(Form::CoImply(left, Box::new(alloc, b.rename(alloc, from, to)?)?))
+                let (left, right) = Form::rename_both(alloc, a, b, from, to)?;
+                Ok(Form::CoImply(left, right))
             }
-            Form::Validate(a) => Ok(Form::Validate(Box::new(alloc, a.rename(alloc, from, to)?)?)),
-            Form::CoValidate(a) => Ok(Form::CoValidate(Box::new(
-                alloc,
-                a.rename(alloc, from, to)?,
-            )?)),
-            Form::Embed(g) => Ok(Form::Embed(Box::new(alloc, g.rename(alloc, from, to)?)?)),
-            Form::Iverson(g) => Ok(Form::Iverson(Box::new(alloc, g.rename(alloc, from, to)?)?)),
+            Form::Validate(a) => Ok(Form::Validate(a.rename_boxed(alloc, from, to)?)),
+            Form::CoValidate(a) => Ok(Form::CoValidate(a.rename_boxed(alloc, from, to)?)),
+            Form::Embed(g) => Ok(Form::Embed(g.rename_boxed(alloc, from, to)?)),
+            Form::Iverson(g) => Ok(Form::Iverson(g.rename_boxed(alloc, from, to)?)),
             Form::Select(g, a, b) => {
-                let test = Box::new(alloc, g.rename(alloc, from, to)?)?;
-                let left = Box::new(alloc, a.rename(alloc, from, to)?)?;
-                Ok(Form::Select(test, left, Box::new(alloc, b.rename(alloc, from, to)?)?))
+                let test = g.rename_boxed(alloc, from, to)?;
+                let (left, right) = Form::rename_both(alloc, a, b, from, to)?;
+                Ok(Form::Select(test, left, right))
             }
             Form::Bind(up, y, name, ty, a) => {
                 let body = if from == *y {
-                    a.copy(alloc)?
+                    a.copy_boxed(alloc)?
                 } else {
-                    a.rename(alloc, from, to)?
+                    a.rename_boxed(alloc, from, to)?
                 };
-                Ok(Form::Bind(*up, *y, *name, *ty, Box::new(alloc, body)?))
+                Ok(Form::Bind(*up, *y, *name, *ty, body))
             }
         }
+    }
+
+    /// The renamed tree, in a box.
+    #[cycle(renaming)]
+    #[inline(never)]
+    pub(crate) fn rename_boxed(
+        &self,
+        alloc: Global,
+        from: u32,
+        to: u32,
+    ) -> Result<Box<Form>, AllocError>
+        ensures { IfOk result (λ boxed. form_of boxed.value ≡ renamed from to (form_of self.now)) }
+    {
+        Ok(Box::new(alloc, self.rename(alloc, from, to)?)?)
+    }
+
+    /// Both renamed trees, each in a box.
+    #[cycle(renaming)]
+    #[inline(never)]
+    fn rename_both(
+        alloc: Global,
+        left: &Form,
+        right: &Form,
+        from: u32,
+        to: u32,
+    ) -> Result<(Box<Form>, Box<Form>), AllocError>
+        ensures { IfOk result (λ both. (form_of both.0.value ≡ renamed from to (form_of left.now)) × (form_of both.1.value ≡ renamed from to (form_of right.now))) }
+    {
+        let first = left.rename_boxed(alloc, from, to)?;
+        Ok((first, right.rename_boxed(alloc, from, to)?))
     }
 }
 
@@ -83,36 +110,61 @@ impl Cond {
         match self {
             Cond::Const(b) => Ok(Cond::Const(*b)),
             Cond::Var(x) => Ok(Cond::Var(if from == *x { to } else { *x })),
-            Cond::Not(g) => Ok(Cond::Not(Box::new(alloc, g.rename(alloc, from, to)?)?)),
+            Cond::Not(g) => Ok(Cond::Not(g.rename_boxed(alloc, from, to)?)),
             Cond::And(g, h) => {
-                let left = Box::new(alloc, g.rename(alloc, from, to)?)?;
-                Ok(Cond::And(left, Box::new(alloc, h.rename(alloc, from, to)?)?))
+                let (left, right) = Cond::rename_both(alloc, g, h, from, to)?;
+                Ok(Cond::And(left, right))
             }
             Cond::Or(g, h) => {
-                let left = Box::new(alloc, g.rename(alloc, from, to)?)?;
-                Ok(Cond::Or(left, Box::new(alloc, h.rename(alloc, from, to)?)?))
+                let (left, right) = Cond::rename_both(alloc, g, h, from, to)?;
+                Ok(Cond::Or(left, right))
             }
             Cond::Same(g, h) => {
-                let left = Box::new(alloc, g.rename(alloc, from, to)?)?;
-                Ok(Cond::Same(left, Box::new(alloc, h.rename(alloc, from, to)?)?))
+                let (left, right) = Cond::rename_both(alloc, g, h, from, to)?;
+                Ok(Cond::Same(left, right))
             }
             Cond::Le(a, b) => {
-                let left = Box::new(alloc, a.rename(alloc, from, to)?)?;
-                Ok(Cond::Le(left, Box::new(alloc, b.rename(alloc, from, to)?)?))
+                let (left, right) = Form::rename_both(alloc, a, b, from, to)?;
+                Ok(Cond::Le(left, right))
             }
             Cond::Lt(a, b) => {
-                let left = Box::new(alloc, a.rename(alloc, from, to)?)?;
-                Ok(Cond::Lt(left, Box::new(alloc, b.rename(alloc, from, to)?)?))
+                let (left, right) = Form::rename_both(alloc, a, b, from, to)?;
+                Ok(Cond::Lt(left, right))
             }
             Cond::EqNum(a, b) => {
-                let left = Box::new(alloc, a.rename(alloc, from, to)?)?;
-                Ok(Cond::EqNum(left, Box::new(alloc, b.rename(alloc, from, to)?)?))
+                let (left, right) = Form::rename_both(alloc, a, b, from, to)?;
+                Ok(Cond::EqNum(left, right))
             }
             Cond::Ite(g, h, k) => {
-                let test = Box::new(alloc, g.rename(alloc, from, to)?)?;
-                let left = Box::new(alloc, h.rename(alloc, from, to)?)?;
-                Ok(Cond::Ite(test, left, Box::new(alloc, k.rename(alloc, from, to)?)?))
+                let test = g.rename_boxed(alloc, from, to)?;
+                let (left, right) = Cond::rename_both(alloc, h, k, from, to)?;
+                Ok(Cond::Ite(test, left, right))
             }
         }
+    }
+
+    /// The renamed tree, in a box.
+    #[cycle(renaming)]
+    #[inline(never)]
+    fn rename_boxed(&self, alloc: Global, from: u32, to: u32) -> Result<Box<Cond>, AllocError>
+        ensures { IfOk result (λ boxed. cond_of boxed.value ≡ renamed_in from to (cond_of self.now)) }
+    {
+        Ok(Box::new(alloc, self.rename(alloc, from, to)?)?)
+    }
+
+    /// Both renamed trees, each in a box.
+    #[cycle(renaming)]
+    #[inline(never)]
+    fn rename_both(
+        alloc: Global,
+        left: &Cond,
+        right: &Cond,
+        from: u32,
+        to: u32,
+    ) -> Result<(Box<Cond>, Box<Cond>), AllocError>
+        ensures { IfOk result (λ both. (cond_of both.0.value ≡ renamed_in from to (cond_of left.now)) × (cond_of both.1.value ≡ renamed_in from to (cond_of right.now))) }
+    {
+        let first = left.rename_boxed(alloc, from, to)?;
+        Ok((first, right.rename_boxed(alloc, from, to)?))
     }
 }

@@ -1,4 +1,5 @@
-//! Substitution for a variable, which renames a binder that would capture.
+//! Substitution for a variable, which renames a binder that would capture. Boxes are made in calls of their own, so that each
+//! level of a deep tree takes little stack.
 
 ghost use Rattle.std.specs.Prelude.{◌≡◌, ◌+◌, ◌<◌, ◌^◌, IfOk, cond, ◌==◌, ◌||◌, ◌&&◌};
 ghost use Rattle.heylo_formula.specs.Variables.{is_free, occurs, occurs_in_term};
@@ -54,85 +55,93 @@ impl Form {
             Form::Const(v) => Ok(Form::Const(*v)),
             Form::Var(x) => form_for(alloc, *x, var, with),
             Form::Sum(a, b) => {
-                let left = Box::new(alloc, a.with_term(alloc, var, with)?)?;
-                Ok(Form::Sum(left, Box::new(alloc, b.with_term(alloc, var, with)?)?))
+                let (left, right) = Form::with_term_both(alloc, a, b, var, with)?;
+                Ok(Form::Sum(left, right))
             }
             Form::Diff(a, b) => {
-                let left = Box::new(alloc, a.with_term(alloc, var, with)?)?;
-                Ok(Form::Diff(left, Box::new(alloc, b.with_term(alloc, var, with)?)?))
+                let (left, right) = Form::with_term_both(alloc, a, b, var, with)?;
+                Ok(Form::Diff(left, right))
             }
             Form::Cut(a, b) => {
-                let left = Box::new(alloc, a.with_term(alloc, var, with)?)?;
-                Ok(Form::Cut(left, Box::new(alloc, b.with_term(alloc, var, with)?)?))
+                let (left, right) = Form::with_term_both(alloc, a, b, var, with)?;
+                Ok(Form::Cut(left, right))
             }
-            Form::Scale(w, a) => Ok(Form::Scale(
-                *w,
-                Box::new(alloc, a.with_term(alloc, var, with)?)?,
-            )),
+            Form::Scale(w, a) => Ok(Form::Scale(*w, a.with_term_boxed(alloc, var, with)?)),
             Form::Product(a, b, span) => {
-                let left = Box::new(alloc, a.with_term(alloc, var, with)?)?;
-                Ok(Form::Product(
-                    left,
-                    Box::new(alloc, b.with_term(alloc, var, with)?)?,
-                    *span,
-                ))
+                let (left, right) = Form::with_term_both(alloc, a, b, var, with)?;
+                Ok(Form::Product(left, right, *span))
             }
             Form::Min(a, b) => {
-                let left = Box::new(alloc, a.with_term(alloc, var, with)?)?;
-                Ok(Form::Min(left, Box::new(alloc, b.with_term(alloc, var, with)?)?))
+                let (left, right) = Form::with_term_both(alloc, a, b, var, with)?;
+                Ok(Form::Min(left, right))
             }
             Form::Max(a, b) => {
-                let left = Box::new(alloc, a.with_term(alloc, var, with)?)?;
-                Ok(Form::Max(left, Box::new(alloc, b.with_term(alloc, var, with)?)?))
+                let (left, right) = Form::with_term_both(alloc, a, b, var, with)?;
+                Ok(Form::Max(left, right))
             }
             Form::Imply(a, b) => {
-                let left = Box::new(alloc, a.with_term(alloc, var, with)?)?;
-                Ok(Form::Imply(left, Box::new(alloc, b.with_term(alloc, var, with)?)?))
+                let (left, right) = Form::with_term_both(alloc, a, b, var, with)?;
+                Ok(Form::Imply(left, right))
             }
             Form::CoImply(a, b) => {
-                let left = Box::new(alloc, a.with_term(alloc, var, with)?)?;
-                Ok(Form::CoImply(left, Box::new(alloc, b.with_term(alloc, var, with)?)?))
+                let (left, right) = Form::with_term_both(alloc, a, b, var, with)?;
+                Ok(Form::CoImply(left, right))
             }
-            Form::Validate(a) => Ok(Form::Validate(Box::new(
-                alloc,
-                a.with_term(alloc, var, with)?,
-            )?)),
-            Form::CoValidate(a) => Ok(Form::CoValidate(Box::new(
-                alloc,
-                a.with_term(alloc, var, with)?,
-            )?)),
-            Form::Embed(g) => Ok(Form::Embed(Box::new(alloc, g.with_term(alloc, var, with)?)?)),
-            Form::Iverson(g) => Ok(Form::Iverson(Box::new(alloc, g.with_term(alloc, var, with)?)?)),
+            Form::Validate(a) => Ok(Form::Validate(a.with_term_boxed(alloc, var, with)?)),
+            Form::CoValidate(a) => Ok(Form::CoValidate(a.with_term_boxed(alloc, var, with)?)),
+            Form::Embed(g) => Ok(Form::Embed(g.with_term_boxed(alloc, var, with)?)),
+            Form::Iverson(g) => Ok(Form::Iverson(g.with_term_boxed(alloc, var, with)?)),
             Form::Select(g, a, b) => {
-                let test = Box::new(alloc, g.with_term(alloc, var, with)?)?;
-                let left = Box::new(alloc, a.with_term(alloc, var, with)?)?;
-                Ok(Form::Select(test, left, Box::new(alloc, b.with_term(alloc, var, with)?)?))
+                let test = g.with_term_boxed(alloc, var, with)?;
+                let (left, right) = Form::with_term_both(alloc, a, b, var, with)?;
+                Ok(Form::Select(test, left, right))
             }
             Form::Bind(up, y, name, ty, a) => {
                 if var == *y {
-                    return Ok(Form::Bind(*up, *y, *name, *ty, Box::new(alloc, a.copy(alloc)?)?));
+                    return Ok(Form::Bind(*up, *y, *name, *ty, a.copy_boxed(alloc)?));
                 }
                 if captures(*y, with, a, var) {
                     let number = fresh_number(a, with);
-                    let body = a.rename(alloc, *y, number)?;
+                    let body = a.rename_boxed(alloc, *y, number)?;
                     Ok(Form::Bind(
                         *up,
                         number,
                         *name,
                         *ty,
-                        Box::new(alloc, body.with_term(alloc, var, with)?)?,
+                        body.with_term_boxed(alloc, var, with)?,
                     ))
                 } else {
-                    Ok(Form::Bind(
-                        *up,
-                        *y,
-                        *name,
-                        *ty,
-                        Box::new(alloc, a.with_term(alloc, var, with)?)?,
-                    ))
+                    Ok(Form::Bind(*up, *y, *name, *ty, a.with_term_boxed(alloc, var, with)?))
                 }
             }
         }
+    }
+
+    /// The form that `with_term` gives, in a box.
+    #[cycle(putting)]
+    #[inline(never)]
+    fn with_term_boxed(&self, alloc: Global, var: u32, with: &Term) -> Result<Box<Form>, AllocError>
+        requires { nodes (form_of self.now) + nodes_in_term (term_of with.now) < 2 ^ 31 }
+        ensures { IfOk result (λ boxed. form_of boxed.value ≡ subst var (term_of with.now) (form_of self.now)) }
+    {
+        Ok(Box::new(alloc, self.with_term(alloc, var, with)?)?)
+    }
+
+    /// The forms that `with_term` gives for both, each in a box.
+    #[cycle(putting)]
+    #[inline(never)]
+    fn with_term_both(
+        alloc: Global,
+        left: &Form,
+        right: &Form,
+        var: u32,
+        with: &Term,
+    ) -> Result<(Box<Form>, Box<Form>), AllocError>
+        requires { nodes (form_of left.now) + nodes (form_of right.now) + nodes_in_term (term_of with.now) < 2 ^ 31 }
+        ensures { IfOk result (λ both. (form_of both.0.value ≡ subst var (term_of with.now) (form_of left.now)) × (form_of both.1.value ≡ subst var (term_of with.now) (form_of right.now))) }
+    {
+        let first = left.with_term_boxed(alloc, var, with)?;
+        Ok((first, right.with_term_boxed(alloc, var, with)?))
     }
 }
 
@@ -145,37 +154,64 @@ impl Cond {
         match self {
             Cond::Const(b) => Ok(Cond::Const(*b)),
             Cond::Var(x) => cond_for(alloc, *x, var, with),
-            Cond::Not(g) => Ok(Cond::Not(Box::new(alloc, g.with_term(alloc, var, with)?)?)),
+            Cond::Not(g) => Ok(Cond::Not(g.with_term_boxed(alloc, var, with)?)),
             Cond::And(g, h) => {
-                let left = Box::new(alloc, g.with_term(alloc, var, with)?)?;
-                Ok(Cond::And(left, Box::new(alloc, h.with_term(alloc, var, with)?)?))
+                let (left, right) = Cond::with_term_both(alloc, g, h, var, with)?;
+                Ok(Cond::And(left, right))
             }
             Cond::Or(g, h) => {
-                let left = Box::new(alloc, g.with_term(alloc, var, with)?)?;
-                Ok(Cond::Or(left, Box::new(alloc, h.with_term(alloc, var, with)?)?))
+                let (left, right) = Cond::with_term_both(alloc, g, h, var, with)?;
+                Ok(Cond::Or(left, right))
             }
             Cond::Same(g, h) => {
-                let left = Box::new(alloc, g.with_term(alloc, var, with)?)?;
-                Ok(Cond::Same(left, Box::new(alloc, h.with_term(alloc, var, with)?)?))
+                let (left, right) = Cond::with_term_both(alloc, g, h, var, with)?;
+                Ok(Cond::Same(left, right))
             }
             Cond::Le(a, b) => {
-                let left = Box::new(alloc, a.with_term(alloc, var, with)?)?;
-                Ok(Cond::Le(left, Box::new(alloc, b.with_term(alloc, var, with)?)?))
+                let (left, right) = Form::with_term_both(alloc, a, b, var, with)?;
+                Ok(Cond::Le(left, right))
             }
             Cond::Lt(a, b) => {
-                let left = Box::new(alloc, a.with_term(alloc, var, with)?)?;
-                Ok(Cond::Lt(left, Box::new(alloc, b.with_term(alloc, var, with)?)?))
+                let (left, right) = Form::with_term_both(alloc, a, b, var, with)?;
+                Ok(Cond::Lt(left, right))
             }
             Cond::EqNum(a, b) => {
-                let left = Box::new(alloc, a.with_term(alloc, var, with)?)?;
-                Ok(Cond::EqNum(left, Box::new(alloc, b.with_term(alloc, var, with)?)?))
+                let (left, right) = Form::with_term_both(alloc, a, b, var, with)?;
+                Ok(Cond::EqNum(left, right))
             }
             Cond::Ite(g, h, k) => {
-                let test = Box::new(alloc, g.with_term(alloc, var, with)?)?;
-                let left = Box::new(alloc, h.with_term(alloc, var, with)?)?;
-                Ok(Cond::Ite(test, left, Box::new(alloc, k.with_term(alloc, var, with)?)?))
+                let test = g.with_term_boxed(alloc, var, with)?;
+                let (left, right) = Cond::with_term_both(alloc, h, k, var, with)?;
+                Ok(Cond::Ite(test, left, right))
             }
         }
+    }
+
+    /// The condition that `with_term` gives, in a box.
+    #[cycle(putting)]
+    #[inline(never)]
+    fn with_term_boxed(&self, alloc: Global, var: u32, with: &Term) -> Result<Box<Cond>, AllocError>
+        requires { nodes_in (cond_of self.now) + nodes_in_term (term_of with.now) < 2 ^ 31 }
+        ensures { IfOk result (λ boxed. cond_of boxed.value ≡ subst_in var (term_of with.now) (cond_of self.now)) }
+    {
+        Ok(Box::new(alloc, self.with_term(alloc, var, with)?)?)
+    }
+
+    /// The conditions that `with_term` gives for both, each in a box.
+    #[cycle(putting)]
+    #[inline(never)]
+    fn with_term_both(
+        alloc: Global,
+        left: &Cond,
+        right: &Cond,
+        var: u32,
+        with: &Term,
+    ) -> Result<(Box<Cond>, Box<Cond>), AllocError>
+        requires { nodes_in (cond_of left.now) + nodes_in (cond_of right.now) + nodes_in_term (term_of with.now) < 2 ^ 31 }
+        ensures { IfOk result (λ both. (cond_of both.0.value ≡ subst_in var (term_of with.now) (cond_of left.now)) × (cond_of both.1.value ≡ subst_in var (term_of with.now) (cond_of right.now))) }
+    {
+        let first = left.with_term_boxed(alloc, var, with)?;
+        Ok((first, right.with_term_boxed(alloc, var, with)?))
     }
 }
 

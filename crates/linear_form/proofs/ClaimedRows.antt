@@ -16,10 +16,12 @@ use Rattle.heylo_formula.specs.Typing.{Types}
 use Rattle.linear_form.specs.Solutions.{sum_of, IsBelowZero, MeetsAt}
 use Rattle.linear_form.specs.Lin.{Terms, total}
 use Rattle.linear_form.specs.Query.{is_negative}
-use Rattle.linear_form.specs.ClaimLaws.{IsClaimed, AllClaimed, AreNonzero, AllNonzero}
+use Rattle.linear_form.specs.ClaimLaws.{IsClaimed, AllClaimed}
+use Rattle.linear_form.specs.internal.Nonzero.{AreNonzero, AllNonzero}
 use Rattle.linear_form.specs.PathRows.{with_row, all_tightened}
 use Rattle.linear_form.specs.Row.{Row}
-use Rattle.linear_form.specs.Tightening.{Claim, sign_of, rounded, are_whole, tight_row, tightened, factor, whole_terms, AreWholeTimes}
+use Rattle.linear_form.specs.Tightening.{Claim, sign_of, rounded, are_whole, tight_row, tightened, factor, whole_terms}
+use Rattle.linear_form.specs.internal.WholeTimes.{AreWholeTimes}
 use Rattle.linear_form.proofs.TightRows.{IsPositive, keeps_sign, positive_ratio, positive-*, factor_positive, factor_whole, value_scaled, further_whole, cleared, zero_row, taken_row}
 
 abbrev numbers : Env → ℕ → Rational

@@ -18,10 +18,11 @@ use Rattle.linear_form.proofs.Narrow.{small, num_less, den_less, seen}
 use Rattle.heyvl_num.specs.Value.{is_zeroʳ, is_zero_num}
 use Rattle.heyvl_num.proofs.exported.Rationals.{ratio_parts, ratio_den, ratio_same, ratio-*, *ʳ_assoc, ratio_equal_cross}
 use Rattle.linear_form.specs.Lin.{Terms, fits, AreNormal}
-use Rattle.linear_form.specs.ClaimLaws.{AreNonzero}
+use Rattle.linear_form.specs.internal.Nonzero.{AreNonzero}
 use Rattle.linear_form.specs.Terms.{is_narrow}
 use Rattle.heyvl_num.proofs.exported.Values.{is_zero-*, is_zero-one}
-use Rattle.linear_form.specs.Tightening.{sign_of, common_multiple, common_divisor, factor, whole_terms, all_narrow, AreWholeTimes}
+use Rattle.linear_form.specs.Tightening.{sign_of, common_multiple, common_divisor, factor, whole_terms, all_narrow}
+use Rattle.linear_form.specs.internal.WholeTimes.{AreWholeTimes}
 use Rattle.linear_form.specs.internal.Operator.{small_product, narrow_value}
 use Rattle.linear_form.proofs.Products.{product_none, product_some}
 use Rattle.linear_form.proofs.TightRows.{whole-*, Denominators, multiple_positive, lcm_left, lcm_right, common_denominators, divisor_positive, factor_whole, factor_positive, IsPositive, abs_positive, whole_back, product_whole, cleared}

@@ -17,7 +17,7 @@ use Rattle.linear_form.specs.Questions.{Linear, Ends, sized, asked, is_below, ev
 use Rattle.linear_form.specs.Paths.{walk, Path, IsPath, end_at}
 use Rattle.heylo_formula.specs.Typing.{types_in}
 use Rattle.linear_form.specs.Tightening.{Claim}
-use Rattle.linear_form.specs.ClaimLaws.{AllNonzero}
+use Rattle.linear_form.specs.internal.Nonzero.{AllNonzero}
 use Rattle.linear_form.specs.PathRows.{claim, negated, answer_claims, path_claims, below_claim, listed, denial_at, is_unsigned_type, occurs_in_claims, sign_claims, claims_of}
 use Rattle.linear_form.specs.internal.NormalPaths.{IsNormalAtom, IsNormalPath}
 use Rattle.linear_form.specs.QuestionLaws.{EachResult}

@@ -11,8 +11,9 @@ use Rattle.linear_form.specs.Row.{Row}
 use Rattle.linear_form.specs.Lin.{Lin, Terms, AreNormal, fits, all_fit, is_sized}
 use Rattle.linear_form.specs.Terms.{is_narrow}
 use Rattle.linear_form.specs.internal.Operator.{narrow_value}
-use Rattle.linear_form.specs.ClaimLaws.{AreNonzero}
-use Rattle.linear_form.specs.Tightening.{Claim, tightened, tight_row, sign_of, rounded, are_whole, factor, whole_terms, all_narrow, constant_fits, AreWholeTimes}
+use Rattle.linear_form.specs.internal.Nonzero.{AreNonzero}
+use Rattle.linear_form.specs.Tightening.{Claim, tightened, tight_row, sign_of, rounded, are_whole, factor, whole_terms, all_narrow, constant_fits}
+use Rattle.linear_form.specs.internal.WholeTimes.{AreWholeTimes}
 use Rattle.linear_form.proofs.TightRows.{factor_whole}
 use Rattle.linear_form.proofs.Factors.{times_wide, normal_nonzero}
 

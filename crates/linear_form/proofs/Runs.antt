@@ -143,3 +143,10 @@ after_false ps q t u i j b e a k = ap (λ q. along ps q i) e ∙ run_after ps t 
 
 pub after_true : (ps : List Taken) (q : Query Bool) (t u : Query Bool) (i j : ℕ) (b : Bool) → q ≡ next t (λ t. cond t (done true) u) → along ps t i ≡ value b j → b ≡ true → along ps q i ≡ value b j
 after_true ps q t u i j b e a k = ap (λ q. along ps q i) e ∙ run_after ps t _ i j b a ∙ ap (λ b. along ps (cond b (done true) u) j) k ∙ run_done ps true j ∙ ap (λ b. value b j) (sym k)
+
+-- the same questions, told otherwise
+pub gives_as : (r : Result Found Stop) (ps : List Taken) (q q' : Query Linear) (i : ℕ) → q ≡ q' → Gives r (along ps q' i) → Gives r (along ps q i)
+gives_as r ps q q' i e g = subst (λ q. Gives r (along ps q i)) (sym e) g
+
+pub tells_as : (r : Result Tested Stop) (ps : List Taken) (q q' : Query Bool) (i : ℕ) → q ≡ q' → Tells r (along ps q' i) → Tells r (along ps q i)
+tells_as r ps q q' i e g = subst (λ q. Tells r (along ps q i)) (sym e) g

@@ -24,12 +24,14 @@ use Rattle.heylo_formula.specs.declared.values.Val.TheVariants.{Truth, Num}
 use Rattle.linear_form.specs.Solutions.{sum_of, IsBelowZero, MeetsAt}
 use Rattle.linear_form.specs.Lin.{Terms, total}
 use Rattle.linear_form.specs.Query.{is_negative}
-use Rattle.linear_form.specs.ClaimLaws.{IsClaimed, AllClaimed, AreNonzero, AllNonzero}
+use Rattle.linear_form.specs.ClaimLaws.{IsClaimed, AllClaimed}
+use Rattle.linear_form.specs.internal.Nonzero.{AreNonzero, AllNonzero}
 use Rattle.linear_form.specs.PathRows.{with_row, all_tightened}
 use Rattle.linear_form.specs.Row.{Row}
 use Rattle.std.specs.List.{All}
 use Rattle.std.proofs.lemmas.List.Elements.{All-nil, All-cons}
-use Rattle.linear_form.specs.Tightening.{Claim, sign_of, rounded, are_whole, is_integral, tight_row, tightened, common_multiple, common_divisor, factor, whole_terms, AreWholeTimes}
+use Rattle.linear_form.specs.Tightening.{Claim, sign_of, rounded, are_whole, is_integral, tight_row, tightened, common_multiple, common_divisor, factor, whole_terms}
+use Rattle.linear_form.specs.internal.WholeTimes.{AreWholeTimes}
 
 -- ---- Whole numbers among the fractions
 

@@ -13,7 +13,8 @@ use Rattle.heyvl_num.proofs.exported.Integers.{one-*ℤ}
 use Rattle.linear_form.specs.Terms.{coefficient, IsNormal, put_term, add_terms}
 use Rattle.std.specs.Int.RustNames.{int_div}
 use Rattle.heyvl_num.specs.Gcd.{gcd}
-use Rattle.linear_form.specs.Merging.{scaled_terms, merged_terms, are_wide, are_narrow, IsNextTerm}
+use Rattle.linear_form.specs.Merging.{scaled_terms, merged_terms, are_wide, are_narrow}
+use Rattle.linear_form.specs.internal.NextTerms.{IsNextTerm}
 use Rattle.linear_form.specs.Divisors.{common, divided_terms}
 use Rattle.linear_form.proofs.Normal.{coefficient-cons, coefficient-nil, head_coef, take_first, take_second, take_both}
 

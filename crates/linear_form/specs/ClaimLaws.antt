@@ -1,9 +1,9 @@
 -- What is proved of the claims of a path.
-use Rattle.std.specs.Prelude.{◌≡◌, List, [], ◌∷◌, true, false, pos, Some}
+use Rattle.std.specs.Prelude.{◌≡◌, List, [], ◌∷◌, true, false, Some}
 use Rattle.heylo_formula.specs.Goals.{Goal, HoldsIn}
 use Rattle.heylo_formula.specs.State.{Env, IsTyped, environment, number_of}
 use Rattle.heylo_formula.specs.declared.values.Val.{Val}
-use Rattle.linear_form.specs.Lin.{at, Terms}
+use Rattle.linear_form.specs.Lin.{at}
 use Rattle.linear_form.specs.Query.{Taken, is_negative}
 use Rattle.linear_form.specs.Paths.{IsPath, Agrees}
 use Rattle.heylo_formula.specs.TypedGoals.{IsTypedGoal}
@@ -20,15 +20,6 @@ pub record IsClaimed (s : Env) (k : Claim) : Type 0 where
 abbrev pub AllClaimed : Env → List Claim → Type 0
 AllClaimed s [] = Unit {0}
 AllClaimed s (k ∷ ks) = IsClaimed s k × AllClaimed s ks
-
--- No coefficient is 0.
-abbrev pub AreNonzero : Terms → Type 0
-AreNonzero [] = Unit {0}
-AreNonzero (t ∷ ts) = (t.1.num ≡ pos 0 → ⊥) × AreNonzero ts
-
-abbrev pub AllNonzero : List Claim → Type 0
-AllNonzero [] = Unit {0}
-AllNonzero (k ∷ ks) = AreNonzero k.left.terms × AllNonzero ks
 
 -- What the answers of a path claim, and the signs of unsigned variables, holds in each state of the right types that agrees with
 -- the path.

@@ -1,6 +1,6 @@
 -- What the calls on lists of terms give.
-use Rattle.std.specs.Prelude.{◌≡◌, ℕ, ◌<◌, ◌≤◌, ◌+◌, Bool, true, ◌&&◌, List, [], ◌∷◌, map, ℤ, pos, ◌*ℤ◌, drop, length}
-use Rattle.linear_form.specs.Terms.{IsNormal, add_terms, put_term, is_wide, is_narrow}
+use Rattle.std.specs.Prelude.{ℕ, Bool, true, ◌&&◌, List, [], ◌∷◌, map, ℤ, pos, ◌*ℤ◌}
+use Rattle.linear_form.specs.Terms.{add_terms, is_wide, is_narrow}
 
 -- Each coefficient times p.
 abbrev pub scaled_terms : ℤ → List (ℕ × ℤ) → List (ℕ × ℤ)
@@ -9,15 +9,6 @@ scaled_terms p ts = map (λ (t : ℕ × ℤ). (t.0, p *ℤ t.1)) ts
 -- The sum of two sums.
 abbrev pub merged_terms : List (ℕ × ℤ) → List (ℕ × ℤ) → List (ℕ × ℤ)
 merged_terms ts us = add_terms (pos 1) ts us
-
--- The term (v, c) comes first from the places i and j, and k and l are the places after it.
-pub record IsNextTerm (ts : List (ℕ × ℤ)) (i : ℕ) (us : List (ℕ × ℤ)) (j v : ℕ) (c : ℤ) (k l : ℕ) : Type 0 where
-  pub split : merged_terms (drop i ts) (drop j us) ≡ put_term v c (merged_terms (drop k ts) (drop l us))
-  pub left_normal : IsNormal (drop k ts)
-  pub right_normal : IsNormal (drop l us)
-  pub left_within : k ≤ length ts
-  pub right_within : l ≤ length us
-  pub further : i + j < k + l
 
 -- Whether p times each coefficient is below 2^126 in absolute value.
 unfoldable pub are_wide : ℤ → List (ℕ × ℤ) → Bool

@@ -1,6 +1,6 @@
 -- Inequalities with fractions, and the rows with whole numbers that they are tightened to. This project's own; rounding a
 -- constant over whole variables is Gomory's and Chvatal's.
-use Rattle.std.specs.Prelude.{◌≡◌, ℕ, ◌*◌, ◌/◌, List, [], ◌∷◌, map, ℤ, pos, negsuc, ◌+ℤ◌, unsigned_abs, Bool, true, false, ◌&&◌, Option, Some, None, if◌then◌else◌}
+use Rattle.std.specs.Prelude.{ℕ, ◌*◌, ◌/◌, List, [], ◌∷◌, map, ℤ, pos, negsuc, ◌+ℤ◌, unsigned_abs, Bool, true, false, ◌&&◌, Option, Some, None, if◌then◌else◌}
 use Prim.Native.Nat.{zero, suc}
 use Rattle.heyvl_num.specs.Gcd.{gcd}
 use Rattle.heyvl_num.specs.Rational.{Rational, ratio, ◌*ʳ◌}
@@ -34,11 +34,6 @@ factor ts = ratio (pos (common_multiple ts)) (common_divisor (common_multiple ts
 -- The terms times a number that makes them whole.
 abbrev pub whole_terms : Rational → Terms → List (ℕ × ℤ)
 whole_terms w ts = map (λ t. (t.0, (w *ʳ t.1).num)) ts
-
--- Times a number, each coefficient is whole.
-abbrev pub AreWholeTimes : Rational → Terms → Type 0
-AreWholeTimes w [] = Unit {0}
-AreWholeTimes w (t ∷ ts) = ((w *ʳ t.1).den ≡ 1) × AreWholeTimes w ts
 
 abbrev pub is_integral : Ty → Bool
 is_integral Ty.Bool = false

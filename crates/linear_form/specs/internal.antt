@@ -6,3 +6,7 @@ pub mod Seen
 pub mod Columns
 pub mod FurtherRows
 pub mod NormalPaths
+pub mod Nonzero
+pub mod NextTerms
+pub mod Nodes
+pub mod WholeTimes

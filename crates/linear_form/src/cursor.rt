@@ -97,6 +97,7 @@ fn known_truth(x: u32, path: &[Taken], count: usize) -> Option<bool>
 }
 
 /// The truth of a Boolean variable: known where the path has decided it before this place, else asked.
+#[inline(never)]
 pub fn truth(x: u32, path: &[Taken], at: usize) -> Result<Tested, Stop>
     ensures { Tells result (along (path_of path.now) (ask (PlainAtom.truth x) (done true) (done false)) at) }
 {

@@ -13,6 +13,7 @@ mod lin;
 mod linear_terms;
 mod multiples;
 mod multipliers;
+mod nodes;
 mod numbers;
 mod operators;
 mod path_laws;

@@ -446,6 +446,7 @@ pub(crate) fn co_validate(
 
 /// A constant.
 #[tactic(auto, unfolding(crate::specs::internal::Run::along))]
+#[inline(never)]
 pub(crate) fn number(alloc: Global, v: &Ext, at: usize) -> Result<Found, Stop>
     ensures { (ps : List PlainTaken) → Gives result (along ps (tree.sized (tree.number (value_of v.now))) at) }
 {

@@ -2,3 +2,4 @@ pub mod ExactOperators
 pub mod ExactMeaning
 pub mod Laws
 pub mod NumbersInUse
+pub mod internal

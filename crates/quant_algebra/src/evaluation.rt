@@ -1,4 +1,5 @@
-//! Values of formulas, truth of conditions, and goals, in a given state.
+//! Values of formulas, truth of conditions, and goals, in a given state. Nodes of one shape have a function of their own, so
+//! that a level of a deep form takes little of the stack.
 
 ghost use Rattle.std.specs.Prelude.{◌≡◌, ◌↔◌, true, option_map, IfSome};
 ghost use Rattle.heyvl_num.specs.Value.Value.{finite};
@@ -8,13 +9,13 @@ ghost use Rattle.heylo_formula.specs.Goals.{goal_of, HoldsIn};
 ghost use Rattle.heylo_formula.specs.Choices.{Choices};
 ghost use Rattle.heylo_formula.specs.Meaning.{value as form_value, holds};
 ghost use Rattle.heylo_formula.specs.State.{get, truth_of, number_of, environment};
+ghost use Rattle.quant_algebra.specs.ExactOperators.{and_then};
 ghost use Rattle.quant_algebra.specs.ExactMeaning.{at_of, held_of, exact_value, exact_truth, exact_goal};
+ghost use Rattle.quant_algebra.specs.internal.Nodes.{exact_binary, exact_unary, exact_comparison};
 
 use crate::answers::{At, Held};
-use crate::operators::{
-    at_most, coimplies, covalidate, cut, difference, equal, implies, less, max, min, one, scale,
-    validate, zero,
-};
+use crate::nodes::{Binary, Comparison, Unary, is_so, of_value, of_values};
+use crate::operators::{at_most, one, zero};
 use heylo_formula::{Cond, Form, Goal, Val};
 use heyvl_num::Ext;
 
@@ -96,6 +97,7 @@ fn flag(x: u32, state: &[Val]) -> bool
     }
 }
 
+/// The value of a form.
 #[cycle(evaluating)]
 fn value(form: &Form, state: &[Val]) -> Option<Ext>
     ensures { option_map value_of result ≡ exact_value (form_of form.now) state.now }
@@ -103,49 +105,17 @@ fn value(form: &Form, state: &[Val]) -> Option<Ext>
     match form {
         Form::Const(v) => Some(*v),
         Form::Var(x) => Some(number(*x, state)),
-        Form::Sum(a, b) => {
-            let x = value(a, state)?;
-            let y = value(b, state)?;
-            x.add(&y)
-        }
-        Form::Diff(a, b) => {
-            let x = value(a, state)?;
-            let y = value(b, state)?;
-            difference(&x, &y)
-        }
-        Form::Cut(a, b) => {
-            let x = value(a, state)?;
-            let y = value(b, state)?;
-            cut(&x, &y)
-        }
-        Form::Scale(w, a) => scale(w, &value(a, state)?),
-        Form::Product(a, b, _) => {
-            let x = value(a, state)?;
-            let y = value(b, state)?;
-            x.mul(&y)
-        }
-        Form::Min(a, b) => {
-            let x = value(a, state)?;
-            let y = value(b, state)?;
-            min(&x, &y)
-        }
-        Form::Max(a, b) => {
-            let x = value(a, state)?;
-            let y = value(b, state)?;
-            max(&x, &y)
-        }
-        Form::Imply(a, b) => {
-            let x = value(a, state)?;
-            let y = value(b, state)?;
-            implies(&x, &y)
-        }
-        Form::CoImply(a, b) => {
-            let x = value(a, state)?;
-            let y = value(b, state)?;
-            coimplies(&x, &y)
-        }
-        Form::Validate(a) => Some(validate(&value(a, state)?)),
-        Form::CoValidate(a) => Some(covalidate(&value(a, state)?)),
+        Form::Sum(a, b) => two_parts(Binary::Sum, a, b, state),
+        Form::Diff(a, b) => two_parts(Binary::Difference, a, b, state),
+        Form::Cut(a, b) => two_parts(Binary::Cut, a, b, state),
+        Form::Scale(w, a) => one_part(&Unary::Scale(*w), a, state),
+        Form::Product(a, b, _) => two_parts(Binary::Product, a, b, state),
+        Form::Min(a, b) => two_parts(Binary::Min, a, b, state),
+        Form::Max(a, b) => two_parts(Binary::Max, a, b, state),
+        Form::Imply(a, b) => two_parts(Binary::Imply, a, b, state),
+        Form::CoImply(a, b) => two_parts(Binary::CoImply, a, b, state),
+        Form::Validate(a) => one_part(&Unary::Validate, a, state),
+        Form::CoValidate(a) => one_part(&Unary::CoValidate, a, state),
         Form::Embed(g) => if truth(g, state)? {
             Some(Ext::Inf)
         } else {
@@ -165,6 +135,28 @@ fn value(form: &Form, state: &[Val]) -> Option<Ext>
     }
 }
 
+/// Two forms, and an operator on their values.
+#[cycle(evaluating)]
+#[inline(never)]
+fn two_parts(operator: Binary, a: &Form, b: &Form, state: &[Val]) -> Option<Ext>
+    ensures { option_map value_of result ≡ and_then (exact_value (form_of a.now) state.now) (λ x. and_then (exact_value (form_of b.now) state.now) (λ y. exact_binary operator x y)) }
+{
+    let x = value(a, state)?;
+    let y = value(b, state)?;
+    of_values(operator, &x, &y)
+}
+
+/// A form, and an operator on its value.
+#[cycle(evaluating)]
+#[inline(never)]
+fn one_part(operator: &Unary, a: &Form, state: &[Val]) -> Option<Ext>
+    ensures { option_map value_of result ≡ and_then (exact_value (form_of a.now) state.now) (λ x. exact_unary operator.now x) }
+{
+    let x = value(a, state)?;
+    of_value(operator, &x)
+}
+
+/// Whether a condition holds.
 #[cycle(evaluating)]
 fn truth(cond: &Cond, state: &[Val]) -> Option<bool>
     ensures { result ≡ exact_truth (cond_of cond.now) state.now }
@@ -188,25 +180,24 @@ fn truth(cond: &Cond, state: &[Val]) -> Option<bool>
             let right = truth(h, state)?;
             Some(left == right)
         }
-        Cond::Le(a, b) => {
-            let x = value(a, state)?;
-            let y = value(b, state)?;
-            at_most(&x, &y)
-        }
-        Cond::Lt(a, b) => {
-            let x = value(a, state)?;
-            let y = value(b, state)?;
-            less(&x, &y)
-        }
-        Cond::EqNum(a, b) => {
-            let x = value(a, state)?;
-            let y = value(b, state)?;
-            equal(&x, &y)
-        }
+        Cond::Le(a, b) => compared(Comparison::AtMost, a, b, state),
+        Cond::Lt(a, b) => compared(Comparison::Less, a, b, state),
+        Cond::EqNum(a, b) => compared(Comparison::Equal, a, b, state),
         Cond::Ite(g, h, k) => if truth(g, state)? {
             truth(h, state)
         } else {
             truth(k, state)
         },
     }
+}
+
+/// Two forms, and a comparison of their values.
+#[cycle(evaluating)]
+#[inline(never)]
+fn compared(operator: Comparison, a: &Form, b: &Form, state: &[Val]) -> Option<bool>
+    ensures { result ≡ and_then (exact_value (form_of a.now) state.now) (λ x. and_then (exact_value (form_of b.now) state.now) (λ y. exact_comparison operator x y)) }
+{
+    let x = value(a, state)?;
+    let y = value(b, state)?;
+    is_so(operator, &x, &y)
 }

@@ -4,6 +4,7 @@
 mod answers;
 mod evaluation;
 mod laws;
+mod nodes;
 mod operators;
 
 pub use answers::{At, Held};

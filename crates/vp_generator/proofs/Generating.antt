@@ -11,7 +11,8 @@ use Rattle.heyvl_types.specs.declared.acts.Act as A
 use Rattle.heyvl_types.specs.Acts.{Act}
 use Rattle.vp_generator.specs.Generated.{vp, vp_act, vp_arms}
 use Rattle.vp_generator.specs.Limits.{IsSmall}
-use Rattle.vp_generator.specs.Fit.{AreFit, IsFit, ArmsAreFit}
+use Rattle.vp_generator.specs.Fit.{AreFit}
+use Rattle.vp_generator.specs.internal.Fitting.{IsFit, ArmsAreFit}
 use Rattle.heyvl_types.specs.WellTyped.{ActsFit, ArmsFit}
 use Rattle.vp_generator.proofs.GeneratedTypes.{act_type}
 use Rattle.heyvl_types.specs.PlainActs.{act_of, acts_of, arms_of}

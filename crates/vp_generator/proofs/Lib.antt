@@ -18,3 +18,4 @@ mod BinderCounts
 mod MadeGoals
 mod GeneratedOver
 mod TypedParts
+mod ScopeNumbers

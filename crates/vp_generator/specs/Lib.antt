@@ -9,3 +9,4 @@ pub mod PrenexedGoals
 pub mod PrenexLaws
 pub mod Directed
 pub mod Over
+pub mod internal

@@ -1,7 +1,6 @@
 -- What the code that removes binders keeps: the numbers of the variables that are bound around a form.
 use Rattle.std.specs.Prelude.{◌<◌, slice_index_or, ◌++◌, ℕ, List, [], ◌∷◌}
 use Rattle.heylo_formula.specs.BinderNames.{Binder, binders}
-use Rattle.vp_generator.specs.Prenexed.{Numbering, renumbered}
 use Rattle.heyvl_types.specs.declared.typed.VarInfo.{VarInfo}
 use Rattle.heylo_formula.specs.declared.types.Ty.TheVariants.{Bool}
 use Rattle.heylo_formula.specs.Formula.{Form}
@@ -9,11 +8,6 @@ use Rattle.heylo_formula.specs.Typing.{Types}
 use Rattle.heyvl_types.specs.Acts.{Act, Acts, Arms}
 use Rattle.vp_generator.specs.Generated.{vp}
 use Rattle.heyvl_types.specs.WellTyped.{ActsFit}
-
--- The number of a variable under binders that are listed with their new numbers, the innermost first.
-abbrev pub number_in : List (ℕ × ℕ) → Numbering
-number_in [] = λ y. y
-number_in (p ∷ ps) = renumbered p.0 p.1 (number_in ps)
 
 -- Each binder has the name of one of the first n variables.
 abbrev pub AreNamed : ℕ → List Binder → Type 0

@@ -7,7 +7,7 @@ ghost use Rattle.heylo_formula.specs.Sizes.{nodes};
 ghost use Rattle.heylo_formula.specs.Substitution.{subst};
 ghost use Rattle.vp_generator.specs.Generated.{pick_form, check_form, validate_form};
 ghost use Rattle.vp_generator.specs.Limits.{IsSmall};
-ghost use Rattle.vp_generator.specs.Fit.{TermIsFit};
+ghost use Rattle.vp_generator.specs.internal.Fitting.{TermIsFit};
 ghost use Rattle.vp_generator.specs.Answers.{IsAnswer};
 
 use crate::limits::{DEEPEST, MOST_NODES};

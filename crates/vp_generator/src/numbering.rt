@@ -4,56 +4,44 @@ ghost use Rattle.std.specs.Prelude.{◌≡◌, ◌+◌, ◌<◌, ◌^◌, ◌++�
 ghost use Prim.Native.Nat.{suc};
 ghost use Rattle.heylo_formula.specs.Formula.{Form as plain, Cond as plain_cond};
 ghost use Rattle.heylo_formula.specs.PlainTrees.{form_of, cond_of};
-ghost use Rattle.vp_generator.specs.Prenexed.{prenexed, unbound, unbound_in};
+ghost use Rattle.vp_generator.specs.Prenexed.{prenexed, renumbered, unbound, unbound_in};
 ghost use Rattle.heylo_formula.specs.BinderNames.{binders, binders_in};
-ghost use Rattle.vp_generator.specs.Scopes.{number_in, AreNamed, named};
+ghost use Rattle.vp_generator.specs.Scopes.{AreNamed, named};
+ghost use Rattle.vp_generator.specs.internal.Lookup.{number_in};
 
 use crate::prenexed::Prenex;
 use heylo_formula::{Cond, Form, Ty};
 use heyvl_types::VarInfo;
 use std::alloc::{AllocError, Global};
 
-/// The number of a variable under binders that are listed with their new numbers, the innermost first.
+/// The number of a variable under binders that are listed with their new numbers, the innermost last.
 fn number_in(scope: &[(u32, u32)], var: u32) -> u32
     ensures { result ≡ number_in scope.now var }
 {
     let mut rest = scope;
-    'binders: while let Some((first, more)) = rest.split_first() {
-        if first.0 == var {
-            return first.1;
+    'binders: while let Some((last, outer)) = rest.split_last() {
+        if last.0 == var {
+            return last.1;
         }
-        rest = more;
+        rest = outer;
     }
     var
 }
 
-/// The scope of a binder's body.
-fn with_binder(
-    alloc: Global,
-    scope: &[(u32, u32)],
-    var: u32,
-    number: u32,
-) -> Result<Vec<(u32, u32)>, AllocError>
-    ensures { IfOk result (λ s. s.items ≡ (var, number) ∷ scope.now) }
-{
-    let mut inner = Vec::new(alloc);
-    inner.push((var, number))?;
-    inner.extend_from_slice(scope)?;
-    Ok(inner)
-}
-
-/// The form without binders, which are added to those that were found. The first one found has the number `first`.
+/// The form without binders, which are added to those that were found. The first one found has the number `first`. The scope is
+/// as before, where nothing fails.
 #[cycle(unbinding)]
 fn form_unbound(
     alloc: Global,
     form: &Form,
-    scope: &[(u32, u32)],
+    scope: &mut Vec<(u32, u32)>,
     first: u32,
     found: &mut Vec<(u32, Ty)>,
 ) -> Result<Form, AllocError>
     requires { first + length found.now.items + length (binders (form_of form.now)) < 2 ^ 31 }
-    ensures tree { IfOk result (λ g. form_of g ≡ unbound (number_in scope.now) (first + length found.old.items) (form_of form.now)) }
+    ensures tree { IfOk result (λ g. form_of g ≡ unbound (number_in scope.old.items) (first + length found.old.items) (form_of form.now)) }
     ensures found { IfOk result (λ g. found.new.items ≡ found.old.items ++ binders (form_of form.now)) }
+    ensures scope { IfOk result (λ _. scope.new.items ≡ scope.old.items) }
 {
     match form {
         Form::Const(v) => Ok(Form::Const(*v)),
@@ -104,13 +92,14 @@ fn form_unbound(
 fn cond_unbound(
     alloc: Global,
     cond: &Cond,
-    scope: &[(u32, u32)],
+    scope: &mut Vec<(u32, u32)>,
     first: u32,
     found: &mut Vec<(u32, Ty)>,
 ) -> Result<Cond, AllocError>
     requires { first + length found.now.items + length (binders_in (cond_of cond.now)) < 2 ^ 31 }
-    ensures tree { IfOk result (λ g. cond_of g ≡ unbound_in (number_in scope.now) (first + length found.old.items) (cond_of cond.now)) }
+    ensures tree { IfOk result (λ g. cond_of g ≡ unbound_in (number_in scope.old.items) (first + length found.old.items) (cond_of cond.now)) }
     ensures found { IfOk result (λ g. found.new.items ≡ found.old.items ++ binders_in (cond_of cond.now)) }
+    ensures scope { IfOk result (λ _. scope.new.items ≡ scope.old.items) }
 {
     match cond {
         Cond::Const(b) => Ok(Cond::Const(*b)),
@@ -148,13 +137,14 @@ fn cond_unbound(
 fn one(
     alloc: Global,
     a: &Form,
-    scope: &[(u32, u32)],
+    scope: &mut Vec<(u32, u32)>,
     first: u32,
     found: &mut Vec<(u32, Ty)>,
 ) -> Result<Box<Form>, AllocError>
     requires { first + length found.now.items + length (binders (form_of a.now)) < 2 ^ 31 }
-    ensures tree { IfOk result (λ g. form_of g.value ≡ unbound (number_in scope.now) (first + length found.old.items) (form_of a.now)) }
+    ensures tree { IfOk result (λ g. form_of g.value ≡ unbound (number_in scope.old.items) (first + length found.old.items) (form_of a.now)) }
     ensures found { IfOk result (λ g. found.new.items ≡ found.old.items ++ binders (form_of a.now)) }
+    ensures scope { IfOk result (λ _. scope.new.items ≡ scope.old.items) }
 {
     Ok(Box::new(alloc, form_unbound(alloc, a, scope, first, found)?)?)
 }
@@ -163,13 +153,14 @@ fn one(
 fn one_in(
     alloc: Global,
     g: &Cond,
-    scope: &[(u32, u32)],
+    scope: &mut Vec<(u32, u32)>,
     first: u32,
     found: &mut Vec<(u32, Ty)>,
 ) -> Result<Box<Cond>, AllocError>
     requires { first + length found.now.items + length (binders_in (cond_of g.now)) < 2 ^ 31 }
-    ensures tree { IfOk result (λ r. cond_of r.value ≡ unbound_in (number_in scope.now) (first + length found.old.items) (cond_of g.now)) }
+    ensures tree { IfOk result (λ r. cond_of r.value ≡ unbound_in (number_in scope.old.items) (first + length found.old.items) (cond_of g.now)) }
     ensures found { IfOk result (λ r. found.new.items ≡ found.old.items ++ binders_in (cond_of g.now)) }
+    ensures scope { IfOk result (λ _. scope.new.items ≡ scope.old.items) }
 {
     Ok(Box::new(alloc, cond_unbound(alloc, g, scope, first, found)?)?)
 }
@@ -179,14 +170,15 @@ fn both(
     alloc: Global,
     a: &Form,
     b: &Form,
-    scope: &[(u32, u32)],
+    scope: &mut Vec<(u32, u32)>,
     first: u32,
     found: &mut Vec<(u32, Ty)>,
 ) -> Result<(Box<Form>, Box<Form>), AllocError>
     requires { first + length found.now.items + length (binders (form_of a.now) ++ binders (form_of b.now)) < 2 ^ 31 }
-    ensures left { IfOk result (λ r. form_of r.0.value ≡ unbound (number_in scope.now) (first + length found.old.items) (form_of a.now)) }
-    ensures right { IfOk result (λ r. form_of r.1.value ≡ unbound (number_in scope.now) (first + length found.old.items + length (binders (form_of a.now))) (form_of b.now)) }
+    ensures left { IfOk result (λ r. form_of r.0.value ≡ unbound (number_in scope.old.items) (first + length found.old.items) (form_of a.now)) }
+    ensures right { IfOk result (λ r. form_of r.1.value ≡ unbound (number_in scope.old.items) (first + length found.old.items + length (binders (form_of a.now))) (form_of b.now)) }
     ensures found { IfOk result (λ r. found.new.items ≡ found.old.items ++ (binders (form_of a.now) ++ binders (form_of b.now))) }
+    ensures scope { IfOk result (λ _. scope.new.items ≡ scope.old.items) }
 {
     let left = one(alloc, a, scope, first, found)?;
     let right = one(alloc, b, scope, first, found)?;
@@ -198,14 +190,15 @@ fn both_in(
     alloc: Global,
     g: &Cond,
     h: &Cond,
-    scope: &[(u32, u32)],
+    scope: &mut Vec<(u32, u32)>,
     first: u32,
     found: &mut Vec<(u32, Ty)>,
 ) -> Result<(Box<Cond>, Box<Cond>), AllocError>
     requires { first + length found.now.items + length (binders_in (cond_of g.now) ++ binders_in (cond_of h.now)) < 2 ^ 31 }
-    ensures left { IfOk result (λ r. cond_of r.0.value ≡ unbound_in (number_in scope.now) (first + length found.old.items) (cond_of g.now)) }
-    ensures right { IfOk result (λ r. cond_of r.1.value ≡ unbound_in (number_in scope.now) (first + length found.old.items + length (binders_in (cond_of g.now))) (cond_of h.now)) }
+    ensures left { IfOk result (λ r. cond_of r.0.value ≡ unbound_in (number_in scope.old.items) (first + length found.old.items) (cond_of g.now)) }
+    ensures right { IfOk result (λ r. cond_of r.1.value ≡ unbound_in (number_in scope.old.items) (first + length found.old.items + length (binders_in (cond_of g.now))) (cond_of h.now)) }
     ensures found { IfOk result (λ r. found.new.items ≡ found.old.items ++ (binders_in (cond_of g.now) ++ binders_in (cond_of h.now))) }
+    ensures scope { IfOk result (λ _. scope.new.items ≡ scope.old.items) }
 {
     let left = one_in(alloc, g, scope, first, found)?;
     let right = one_in(alloc, h, scope, first, found)?;
@@ -218,13 +211,14 @@ fn choice(
     g: &Cond,
     a: &Form,
     b: &Form,
-    scope: &[(u32, u32)],
+    scope: &mut Vec<(u32, u32)>,
     first: u32,
     found: &mut Vec<(u32, Ty)>,
 ) -> Result<Form, AllocError>
     requires { first + length found.now.items + length (binders (plain.select (cond_of g.now) (form_of a.now) (form_of b.now))) < 2 ^ 31 }
-    ensures tree { IfOk result (λ r. form_of r ≡ unbound (number_in scope.now) (first + length found.old.items) (plain.select (cond_of g.now) (form_of a.now) (form_of b.now))) }
+    ensures tree { IfOk result (λ r. form_of r ≡ unbound (number_in scope.old.items) (first + length found.old.items) (plain.select (cond_of g.now) (form_of a.now) (form_of b.now))) }
     ensures found { IfOk result (λ r. found.new.items ≡ found.old.items ++ binders (plain.select (cond_of g.now) (form_of a.now) (form_of b.now))) }
+    ensures scope { IfOk result (λ _. scope.new.items ≡ scope.old.items) }
 {
     let test = one_in(alloc, g, scope, first, found)?;
     let (left, right) = both(alloc, a, b, scope, first, found)?;
@@ -237,13 +231,14 @@ fn choice_in(
     g: &Cond,
     h: &Cond,
     k: &Cond,
-    scope: &[(u32, u32)],
+    scope: &mut Vec<(u32, u32)>,
     first: u32,
     found: &mut Vec<(u32, Ty)>,
 ) -> Result<Cond, AllocError>
     requires { first + length found.now.items + length (binders_in (plain_cond.ite (cond_of g.now) (cond_of h.now) (cond_of k.now))) < 2 ^ 31 }
-    ensures tree { IfOk result (λ r. cond_of r ≡ unbound_in (number_in scope.now) (first + length found.old.items) (plain_cond.ite (cond_of g.now) (cond_of h.now) (cond_of k.now))) }
+    ensures tree { IfOk result (λ r. cond_of r ≡ unbound_in (number_in scope.old.items) (first + length found.old.items) (plain_cond.ite (cond_of g.now) (cond_of h.now) (cond_of k.now))) }
     ensures found { IfOk result (λ r. found.new.items ≡ found.old.items ++ binders_in (plain_cond.ite (cond_of g.now) (cond_of h.now) (cond_of k.now))) }
+    ensures scope { IfOk result (λ _. scope.new.items ≡ scope.old.items) }
 {
     let test = one_in(alloc, g, scope, first, found)?;
     let (left, right) = both_in(alloc, h, k, scope, first, found)?;
@@ -256,17 +251,21 @@ fn body(
     var: u32,
     binder: (u32, Ty),
     a: &Form,
-    scope: &[(u32, u32)],
+    scope: &mut Vec<(u32, u32)>,
     first: u32,
     found: &mut Vec<(u32, Ty)>,
 ) -> Result<Form, AllocError>
     requires { first + length found.now.items + length (binder ∷ binders (form_of a.now)) < 2 ^ 31 }
-    ensures tree { IfOk result (λ r. form_of r ≡ unbound (number_in ((var, first + length found.old.items) ∷ scope.now)) (suc (first + length found.old.items)) (form_of a.now)) }
+    ensures tree { IfOk result (λ r. form_of r ≡ unbound (renumbered var (first + length found.old.items) (number_in scope.old.items)) (suc (first + length found.old.items)) (form_of a.now)) }
     ensures found { IfOk result (λ r. found.new.items ≡ found.old.items ++ (binder ∷ binders (form_of a.now))) }
+    ensures scope { IfOk result (λ _. scope.new.items ≡ scope.old.items) }
 {
-    let inner = with_binder(alloc, scope, var, first + found.len() as u32)?;
+    let outer = scope.len();
+    scope.push((var, first + found.len() as u32))?;
     found.push(binder)?;
-    form_unbound(alloc, a, &inner, first, found)
+    let without = form_unbound(alloc, a, scope, first, found)?;
+    scope.truncate(outer);
+    Ok(without)
 }
 
 /// The form with a variable of its own for each occurrence of a binder, added to the variables.
@@ -276,8 +275,9 @@ pub fn prenex(alloc: Global, form: Form, vars: Vec<VarInfo>) -> Result<Prenex, A
     ensures tree { IfOk result (λ p. form_of p.form ≡ prenexed (length vars.items) (form_of form)) }
     ensures vars { IfOk result (λ p. p.vars.items ≡ named vars.items (binders (form_of form))) }
 {
+    let mut scope = Vec::new(alloc);
     let mut found = Vec::new(alloc);
-    let without = form_unbound(alloc, &form, &[], vars.len() as u32, &mut found)?;
+    let without = form_unbound(alloc, &form, &mut scope, vars.len() as u32, &mut found)?;
     let all = with_vars(alloc, vars, &found)?;
     Ok(Prenex {
         form: without,

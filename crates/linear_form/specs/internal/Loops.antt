@@ -1,7 +1,8 @@
 -- What the loops over terms keep.
 use Rattle.std.specs.Prelude.{◌≡◌, ℕ, ℤ, List, ◌++◌, true}
 use Rattle.heyvl_num.specs.Rational.{Rational, ratio, ◌*ʳ◌}
-use Rattle.linear_form.specs.Tightening.{whole_terms, all_narrow, AreWholeTimes}
+use Rattle.linear_form.specs.Tightening.{whole_terms, all_narrow}
+use Rattle.linear_form.specs.internal.WholeTimes.{AreWholeTimes}
 use Rattle.linear_form.specs.Lin.{Terms, all_fit, times, more, merged, AreNormal}
 use Rattle.linear_form.specs.internal.FitTerms.{IsFitAt, AreFitAt}
 

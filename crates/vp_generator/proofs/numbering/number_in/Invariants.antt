@@ -1,5 +1,5 @@
 use Rattle.std.proofs.Common.{◌≡◌, length}
-use Rattle.vp_generator.specs.Scopes.{number_in}
+use Rattle.vp_generator.specs.internal.Lookup.{number_in}
 use Rattle.vp_generator.proofs.numbering.number_in.Given as goal
 
 abbrev pub invariant-binders : goal.invariant-binders
