@@ -1,5 +1,5 @@
 -- Where the last token of a text ends.
-use Rattle.heyvl_parse.specs.Reading.{end_of}
+use Rattle.heyvl_parse.specs.internal.Reading.{end_of}
 use Rattle.heyvl_syntax.specs.Expressions.{Expression}
 use Rattle.heyvl_syntax.specs.Grammar.{IsExpr}
 use Rattle.heyvl_syntax.specs.Productions.{IsAt, IsOne, extent, last_end, ◌then◌}

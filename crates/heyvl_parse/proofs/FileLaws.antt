@@ -3,12 +3,12 @@ use Rattle.heyvl_parse.proofs.Lawful.{Laws, each_laws, either_first, either_seco
 use Rattle.heyvl_parse.proofs.Local.{Local, LocalAt, local_bind}
 use Rattle.heyvl_parse.proofs.ProcedureLaws.{on_procedure, procedure_laws}
 use Rattle.heyvl_parse.proofs.Right.{Right, RightAt, right_bind}
-use Rattle.heyvl_parse.specs.Combinators.{each, either, no_kind, starts}
-use Rattle.heyvl_parse.specs.FileReading.{begins, ended, file, is_proc, procs}
-use Rattle.heyvl_parse.specs.Files.{IsFileStop}
-use Rattle.heyvl_parse.specs.Procedures.{procedure}
-use Rattle.heyvl_parse.specs.Reading.{Bad, Got, Read, is_mark, ◌>>=◌}
-use Rattle.heyvl_parse.specs.Results.{Fails, Gives}
+use Rattle.heyvl_parse.specs.internal.Combinators.{each, either, no_kind, starts}
+use Rattle.heyvl_parse.specs.internal.FileReading.{begins, ended, file, is_proc, procs}
+use Rattle.heyvl_parse.specs.internal.FileStops.{IsFileStop}
+use Rattle.heyvl_parse.specs.internal.Procedures.{procedure}
+use Rattle.heyvl_parse.specs.internal.Reading.{Bad, Got, Read, is_mark, ◌>>=◌}
+use Rattle.heyvl_parse.specs.internal.Results.{Fails, Gives}
 use Rattle.heyvl_parse.specs.declared.stops.PartStop.TheVariants.{Fault, Memory}
 use Rattle.heyvl_parse.specs.declared.stops.PartStop.{PartStop}
 use Rattle.heyvl_syntax.specs.Grammar.{IsBlock, IsFile, IsNote, IsProc, proc_key}

@@ -1,10 +1,10 @@
 -- The laws of a reader, and how they go over to what is put together from readers.
 use Rattle.heyvl_parse.proofs.Complete.{Quiet}
 use Rattle.heyvl_parse.proofs.Local.{Local, LocalAt, Moves, local_bind, local_got, local_mapped, local_one, local_pair, local_reading}
-use Rattle.heyvl_parse.proofs.Refusals.{reads}
+use Rattle.heyvl_parse.proofs.Readings.{reads}
 use Rattle.heyvl_parse.proofs.Right.{Holds, Pair, Right, RightAt, Some_text, is_mark_true, nowhere, right_as, right_bind, right_map, right_one, right_pair, right_reading, some_expr}
-use Rattle.heyvl_parse.specs.Combinators.{cons, each, each_if, either, is_operator, is_there, kind, lead, list, list0, list_if, no_kind, optional, refuse, sign, some_if, spanned, starts, taken, trail, with_front}
-use Rattle.heyvl_parse.specs.Reading.{Bad, Got, Out, Read, Whole, is_mark, mapped, one, operator_at, operator_of, pair, placed, ranked, reading, ◌>>=◌}
+use Rattle.heyvl_parse.specs.internal.Combinators.{cons, each, each_if, either, is_operator, is_there, kind, lead, list, list0, list_if, no_kind, optional, refuse, sign, some_if, spanned, starts, taken, trail, with_front}
+use Rattle.heyvl_parse.specs.internal.Reading.{Bad, Got, Out, Read, Whole, is_mark, mapped, one, operator_at, operator_of, pair, placed, ranked, reading, ◌>>=◌}
 use Rattle.heyvl_syntax.proofs.exported.Sequences.{then_assoc}
 use Rattle.heyvl_syntax.specs.Grammar.{IsFull}
 use Rattle.heyvl_syntax.specs.Productions.{IsAt, IsEach, IsList, IsList0, IsMark, IsMore, IsNothing, IsOne, IsOptional, at, extent, ◌then◌}
@@ -121,7 +121,7 @@ mapped_laws {A} {B} {n} {P} {s} {f} h R lf into out = record {
   complete = λ y text rest r len quiet. let (x, same, p) = out y text r in rw (lf.complete x text rest p len quiet) (ap (λ z. Got z rest) (sym same));
 }
 
-lead_is : {A : Type 0} (test : TokenKind → Bool) (f : List Token → Read A) (ts : List Token) → lead test f ts ≡ mapped (λ p. p.1) (pair (sign test) f) ts
+pub lead_is : {A : Type 0} (test : TokenKind → Bool) (f : List Token → Read A) (ts : List Token) → lead test f ts ≡ mapped (λ p. p.1) (pair (sign test) f) ts
 lead_is {A} test f ts = go (sign test ts)
   where
     last : (s : Span) (res : Read A) → res ≡ (let w : Read (Span × A) = res >>= λ y r'. Got (s, y) r' in w >>= λ p r. Got p.1 r)

@@ -6,11 +6,12 @@ mod EachLoop
 mod Ends
 mod FileLaws
 mod Fuel
+mod Keys
 mod Lawful
 mod Local
 mod ParseClauses
 mod ProcedureLaws
-mod Refusals
+mod Readings
 mod Right
 mod RightLaws
 mod StatementLaws

@@ -3,11 +3,11 @@ use Rattle.heyvl_parse.proofs.Complete.{Quiet, mark_same}
 use Rattle.heyvl_parse.proofs.Ends.{last_of}
 use Rattle.heyvl_parse.proofs.Lawful.{Both, IsTest, Laws, chosen_local, lead_laws, list0_laws, list_laws, local_same, mapped_laws, pair_free, pair_laws, right_same, some_both, some_list, some_list0, starts_first, starts_second, trail_laws}
 use Rattle.heyvl_parse.proofs.Local.{AllLocal, Local, LocalAt, Moves, local_bind, local_got, local_mapped, local_more, local_one, local_pair, local_reading}
-use Rattle.heyvl_parse.proofs.Refusals.{reads}
+use Rattle.heyvl_parse.proofs.Readings.{reads}
 use Rattle.heyvl_parse.proofs.Right.{Right, RightAt, Some_text, is_mark_true, nowhere, right_as, right_map, right_reading, right_word, some_expr, some_word}
-use Rattle.heyvl_parse.specs.Combinators.{either, is_key, is_operator, is_there, is_word, lead, list, list0, no_kind, starts, trail}
-use Rattle.heyvl_parse.specs.Reading.{Bad, Got, Out, Read, Reader, Whole, full, is_mark, mapped, more, operator_of, pair, placed, ranked, reading, word, ◌>>=◌}
-use Rattle.heyvl_parse.specs.Rights.{arguments, call, call_tree, called_behind, choose, enclosed_expr, expr, flip, is_a_word, is_call, key_right, kind_right, no_call, right, right_by, right_if, right_start, two, unif, unif_tree, weighted, weights}
+use Rattle.heyvl_parse.specs.internal.Combinators.{either, is_key, is_operator, is_there, is_word, lead, list, list0, no_kind, starts, trail}
+use Rattle.heyvl_parse.specs.internal.Reading.{Bad, Got, Out, Read, Reader, Whole, full, is_mark, mapped, more, operator_of, pair, placed, ranked, reading, word, ◌>>=◌}
+use Rattle.heyvl_parse.specs.internal.Rights.{arguments, call, call_tree, called_behind, choose, enclosed_expr, expr, flip, is_a_word, is_call, key_right, kind_right, no_call, right, right_by, right_if, right_start, two, unif, unif_tree, weighted, weights}
 use Rattle.heyvl_parse.specs.declared.rights.RightStart.TheVariants as starts_as
 use Rattle.heyvl_parse.specs.declared.rights.RightStart.{RightStart}
 use Rattle.heyvl_syntax.specs.Expressions.{Expression}

@@ -1,13 +1,13 @@
 -- The laws of the readers of rules, statements and blocks.
-use Rattle.heyvl_parse.proofs.Lawful.{Both, IsTest, Laws, apart, chosen_local, each_laws, either_first, either_second, laws_less, laws_same, laws_stop, lead_laws, lead_more, list_laws, local_front, local_refuse, local_same, mapped_laws, optional_laws, pair_free, pair_laws, some_both, some_each, some_list, spanned_laws, starts_first, starts_front, starts_same, starts_second, trail_laws}
+use Rattle.heyvl_parse.proofs.Lawful.{Both, IsTest, Laws, apart, chosen_local, each_laws, either_first, either_second, laws_less, laws_same, laws_stop, lead_is, lead_laws, lead_more, list_laws, local_front, local_refuse, local_same, mapped_laws, optional_laws, pair_free, pair_laws, some_both, some_each, some_list, spanned_laws, starts_first, starts_front, starts_same, starts_second, trail_laws}
 use Rattle.heyvl_parse.proofs.Local.{Local, LocalAt, local_bind, local_got, local_mapped, local_one}
 use Rattle.heyvl_parse.proofs.Right.{Holds, Right, RightAt, Some_text, is_mark_true, nowhere, right_as, right_bind, right_map, right_one, right_type, some_type, some_word}
 use Rattle.heyvl_parse.proofs.RightLaws.{IsBarred, IsTwo, Takes, anything, arguments_laws, barred, call_laws, call_local, ended_by, enclosed_laws, expr_laws, key_test, led, mark_test, on_right, picked_by, right_laws, some_enclosed, some_full, some_lead, some_right, some_two, takes_call, takes_mapped, two_laws, within_local, word_laws}
-use Rattle.heyvl_parse.specs.Combinators.{cons, each, either, is_key, is_operator, is_there, is_word, kind, lead, list, no_kind, optional, refuse, spanned, starts, with_front}
-use Rattle.heyvl_parse.specs.Loops.{RuleParts, kind_rule, rule, rule_by, rule_parts, rule_start, rule_tree, rules, word_rule}
-use Rattle.heyvl_parse.specs.Reading.{Bad, Got, Out, Read, Whole, is_mark, mapped, pair, reading, type_name, word, ◌>>=◌}
-use Rattle.heyvl_parse.specs.Rights.{call, call_tree, enclosed_expr, expr, is_call, right, two}
-use Rattle.heyvl_parse.specs.Statements.{BlockReader, IfParts, Links, Looped, Next, alone, arm, assign_tree, assigned, assigned_if, behind_else, behind_if, braced, branched, by_key, check_tree, checked, declared, else_by, else_if, entry, fronted, further, given, havoc_tree, havocked, if_by, if_parts, if_tree, is_opening, is_pick, key_check, key_havoc, key_opening, key_pick, key_reward, key_validate, kind_opening, link, link_by, links, loop_tree, looped, mark_opening, opening, opens, otherwise, picked, reward_tree, rewarded, skip, stmt, stmt_by, stmts, var_tree}
+use Rattle.heyvl_parse.specs.internal.Combinators.{cons, each, either, is_key, is_operator, is_there, is_word, kind, lead, list, no_kind, optional, refuse, sign, spanned, starts, with_front}
+use Rattle.heyvl_parse.specs.internal.Loops.{RuleParts, kind_rule, rule, rule_by, rule_parts, rule_start, rule_tree, rules, word_rule}
+use Rattle.heyvl_parse.specs.internal.Reading.{Bad, Got, Out, Read, Whole, is_mark, mapped, pair, reading, type_name, word, ◌>>=◌}
+use Rattle.heyvl_parse.specs.internal.Rights.{call, call_tree, enclosed_expr, expr, is_call, right, two}
+use Rattle.heyvl_parse.specs.internal.Statements.{BlockReader, IfParts, Links, Looped, Next, alone, arm, assign_tree, assigned, assigned_if, behind_else, behind_if, braced, branched, by_key, check_tree, checked, declared, else_by, else_if, entry, fronted, further, given, havoc_tree, havocked, if_by, if_parts, if_tree, is_opening, is_pick, is_reward, key_check, key_havoc, key_opening, key_pick, key_validate, kind_opening, link, link_by, links, loop_tree, looped, mark_opening, opening, opens, otherwise, picked, rewarded, skip, stmt, stmt_by, stmts, var_tree}
 use Rattle.heyvl_parse.specs.declared.loops.RuleStart.TheVariants as rule_starts
 use Rattle.heyvl_parse.specs.declared.loops.RuleStart.{RuleStart}
 use Rattle.heyvl_parse.specs.declared.statements.Opening.TheVariants as openings
@@ -15,7 +15,7 @@ use Rattle.heyvl_parse.specs.declared.statements.Opening.{Opening}
 use Rattle.heyvl_syntax.proofs.exported.Sequences.{then_assoc, then_map}
 use Rattle.heyvl_syntax.specs.Expressions.{Expression}
 use Rattle.heyvl_syntax.specs.Grammar.{IsAssign, IsBlock, IsBraced, IsElse, IsElseIfs, IsFull, IsGiven, IsIf, IsRight, IsRule, IsStmt, IsStmts, IsType, check_key, havoc_key, pick_key, validate_key}
-use Rattle.heyvl_syntax.specs.Productions.{AreSemis, IsEach, IsKey, IsList, IsMark, IsMore, IsName, IsNothing, IsOne, IsOptional, at, extent, ◌or◌, ◌then◌}
+use Rattle.heyvl_syntax.specs.Productions.{AreSemis, IsAt, IsEach, IsKey, IsList, IsMark, IsMore, IsName, IsNothing, IsOne, IsOptional, at, extent, ◌or◌, ◌then◌}
 use Rattle.heyvl_syntax.specs.Statements.{Arms, Block, LoopRule, RightSide, Statement, arms_of, block_of}
 use Rattle.heyvl_syntax.specs.declared.keys.Key.TheVariants as keys
 use Rattle.heyvl_syntax.specs.declared.keys.Key.{Key}
@@ -78,10 +78,6 @@ check_laws n = kind_laws n (by_key key_check) (λ k. kinds.Key (check_key k)) (b
     same checks.CoAssert = refl
     same checks.CoAssume = refl
 
-abbrev reward_key : Bool → Key
-reward_key true = keys.Tick
-reward_key false = keys.Reward
-
 pub two_keys : (n : ℕ) (of : Key → Option Bool) (back : Bool → Key) → ((key : Key) → OfKind (λ b. kinds.Key (back b)) (kinds.Key key) (of key)) → of (back true) ≡ Some true → of (back false) ≡ Some false → Laws n (λ b. IsKey (back b)) no_kind (kind (by_key of))
 two_keys n of back sound top other = kind_laws n (by_key of) (λ b. kinds.Key (back b)) (by_key_sound of (λ b. kinds.Key (back b)) sound) same true
   where
@@ -105,13 +101,28 @@ havoc_laws n = two_keys n key_havoc havoc_key sound refl refl
     sound keys.CoHavoc = refl
     sound _ = tt
 
-reward_laws : (n : ℕ) → Laws n (λ b. IsKey (reward_key b)) no_kind (kind (by_key key_reward))
-reward_laws n = two_keys n key_reward reward_key sound refl refl
+-- The word of a reward.
+abbrev pub IsRewardWord : Span → List Token → Type 0
+IsRewardWord s = IsAt (kinds.Key keys.Reward) s or IsAt (kinds.Key keys.Tick) s
+
+reward_laws : (n : ℕ) → Laws n IsRewardWord no_kind (sign is_reward)
+reward_laws n = record {
+  right = right_one IsRewardWord (λ t. cond (is_reward t.kind) (Some t.span) None) holds (nowhere, at (kinds.Key keys.Tick) nowhere ∷ [], inr refl);
+  local = local_one (λ t. cond (is_reward t.kind) (Some t.span) None);
+  complete = λ s text rest h len quiet. got s text rest h;
+}
   where
-    sound : (key : Key) → OfKind (λ b. kinds.Key (reward_key b)) (kinds.Key key) (key_reward key)
-    sound keys.Reward = refl
-    sound keys.Tick = refl
-    sound _ = tt
+    got : (s : Span) (text rest : List Token) → IsRewardWord s text → sign is_reward (text ++ rest) ≡ Got s rest
+    got s text rest (inl e) = rw e refl
+    got s text rest (inr e) = rw e refl
+
+    holds : (t : Token) → Holds IsRewardWord t (cond (is_reward t.kind) (Some t.span) None)
+    holds t = pick (is_key keys.Reward t.kind) (is_key keys.Tick t.kind) refl refl
+      where
+        pick : (one two : Bool) → is_key keys.Reward t.kind ≡ one → is_key keys.Tick t.kind ≡ two → Holds IsRewardWord t (cond (cond one true two) (Some t.span) None)
+        pick true two e f = inl (ap (λ k. at k t.span ∷ []) ((key_test keys.Reward).only t.kind e))
+        pick false true e f = inr (ap (λ k. at k t.span ∷ []) ((key_test keys.Tick).only t.kind f))
+        pick false false e f = tt
 
 pick_laws : (n : ℕ) → Laws n (λ b. IsKey (pick_key b)) no_kind (kind (by_key key_pick))
 pick_laws n = two_keys n key_pick pick_key sound refl refl
@@ -219,8 +230,19 @@ checked_laws n = pair_free (check_laws n) (expr_laws n) some_full
 havocked_laws : (n : ℕ) → Laws n (Both (λ b. IsKey (havoc_key b)) (IsList IsName)) (either no_kind (is_mark marks.Comma)) (havocked n)
 havocked_laws n = pair_free (havoc_laws n) (names_laws n) (some_list some_word)
 
-rewarded_laws : (n : ℕ) → Laws n (Both (λ b. IsKey (reward_key b)) IsFull) is_operator (rewarded n)
-rewarded_laws n = pair_free (reward_laws n) (expr_laws n) some_full
+abbrev pub IsRewarded : Expression → List Token → Type 0
+IsRewarded a = (IsKey keys.Reward or IsKey keys.Tick) then IsFull a
+
+rewarded_laws : (n : ℕ) → Laws n IsRewarded is_operator (rewarded n)
+rewarded_laws n = laws_same (rewarded n) (lead_is is_reward (expr n)) (mapped_laws (λ p. p.1) IsRewarded (pair_free (reward_laws n) (expr_laws n) some_full) into out)
+  where
+    into : (p : Span × Expression) (text : List Token) → Both IsRewardWord IsFull p text → IsRewarded p.1 text
+    into (s, a) text (one, two, inl h, q, e) = (one, two, inl (s, h), q, e)
+    into (s, a) text (one, two, inr h, q, e) = (one, two, inr (s, h), q, e)
+
+    out : (a : Expression) (text : List Token) → IsRewarded a text → (p : Span × Expression) × (a ≡ p.1) × Both IsRewardWord IsFull p text
+    out a text (one, two, inl (s, h), q, e) = ((s, a), refl, (one, two, inl h, q, e))
+    out a text (one, two, inr (s, h), q, e) = ((s, a), refl, (one, two, inr h, q, e))
 
 -- Rules.
 is_word_true : (name : List ℕ) (k : TokenKind) → is_word name k ≡ true → k ≡ kinds.Word name
@@ -646,8 +668,8 @@ module _ (n : ℕ) (block : BlockReader) (lb : Laws n IsBlock no_kind block) whe
   havocs_laws : Laws n (Made havoc_tree (Both (λ b. IsKey (havoc_key b)) (IsList IsName))) on_stmt (spanned havoc_tree (havocked n))
   havocs_laws = laws_stop on_stmt on_comma (made_laws havoc_tree (havocked_laws n))
 
-  rewards_laws : Laws n (Made reward_tree (Both (λ b. IsKey (reward_key b)) IsFull)) on_stmt (spanned reward_tree (rewarded n))
-  rewards_laws = laws_stop on_stmt on_operator (made_laws reward_tree (rewarded_laws n))
+  rewards_laws : Laws n (Made Statement.reward IsRewarded) on_stmt (spanned Statement.reward (rewarded n))
+  rewards_laws = laws_stop on_stmt on_operator (made_laws Statement.reward (rewarded_laws n))
 
   ifs_laws : Laws n (Made if_tree (λ p. IsKey keys.If then IsIfParts n block lb p)) on_stmt (spanned if_tree (if_parts n block))
   ifs_laws = laws_stop on_stmt on_else (made_laws if_tree (if_laws n block lb))
@@ -657,10 +679,6 @@ module _ (n : ℕ) (block : BlockReader) (lb : Laws n IsBlock no_kind block) whe
 
   some_stmt : Some_text IsStmt
   some_stmt = (Statement.validate true nowhere, at (kinds.Key keys.CoValidate) nowhere ∷ [], ((nowhere, refl), refl))
-
-  reward_either : (b : Bool) (text : List Token) → IsKey (reward_key b) text → (IsKey keys.Reward or IsKey keys.Tick) text
-  reward_either true text h = inr h
-  reward_either false text h = inl h
 
   into_if : (p : IfParts) (text : List Token) → (IsKey keys.If then IsIfParts n block lb p) text → IsStmt (if_tree p (extent text)) text
   into_if (IfParts.picking p) text h = (h, refl)
@@ -688,7 +706,7 @@ module _ (n : ℕ) (block : BlockReader) (lb : Laws n IsBlock no_kind block) whe
   into_stmt openings.Check ts = right_as _ IsStmt ts _ (λ y text (x, same, h). rw same (h, refl)) (checks_laws.right ts)
   into_stmt openings.Validate ts = right_as _ IsStmt ts _ (λ y text (x, same, h). rw same (h, refl)) (validates_laws.right ts)
   into_stmt openings.Havoc ts = right_as _ IsStmt ts _ (λ y text (x, same, h). rw same (h, refl)) (havocs_laws.right ts)
-  into_stmt openings.Reward ts = right_as _ IsStmt ts _ (λ y text (x, same, (one, two, key, h, e)). rw same ((one, two, reward_either x.0 one key, h, e), refl)) (rewards_laws.right ts)
+  into_stmt openings.Reward ts = right_as _ IsStmt ts _ (λ y text (x, same, h). rw same (h, refl)) (rewards_laws.right ts)
   into_stmt openings.If ts = right_as _ IsStmt ts _ (λ y text (x, same, h). rw same (into_if x text h)) (ifs_laws.right ts)
   into_stmt openings.Loop ts = right_as _ IsStmt ts _ (λ y text (x, same, h). rw same (h, refl)) (loops_laws.right ts)
   into_stmt openings.Other ts = let (x, text, h) = some_stmt in ([], text, x, refl, h)
@@ -744,9 +762,9 @@ module _ (n : ℕ) (block : BlockReader) (lb : Laws n IsBlock no_kind block) whe
       let (s, back, inner, e) = led _ (kinds.Key (havoc_key co)) text rest h in
       (openings.Havoc, rw e (havoc_opens co), refl, λ len quiet. havocs_laws.complete (Statement.havoc co xs p) text rest ((co, xs), rw place refl, h) len quiet)
   opening_of (Statement.reward a p) text rest ((one, two, inl (s, key), h, e), place) =
-      (openings.Reward, rw (e, key) refl, refl, λ len quiet. rewards_laws.complete (Statement.reward a p) text rest ((false, a), rw place refl, (one, two, (s, key), h, e)) len quiet)
+      (openings.Reward, rw (e, key) refl, refl, λ len quiet. rewards_laws.complete (Statement.reward a p) text rest (a, rw place refl, (one, two, inl (s, key), h, e)) len quiet)
   opening_of (Statement.reward a p) text rest ((one, two, inr (s, key), h, e), place) =
-      (openings.Reward, rw (e, key) refl, refl, λ len quiet. rewards_laws.complete (Statement.reward a p) text rest ((true, a), rw place refl, (one, two, (s, key), h, e)) len quiet)
+      (openings.Reward, rw (e, key) refl, refl, λ len quiet. rewards_laws.complete (Statement.reward a p) text rest (a, rw place refl, (one, two, inr (s, key), h, e)) len quiet)
   opening_of (Statement.branch arms other p) text rest h =
       let (x, same, parts) = from_branch arms other p text h in
       let (s, back, inner, e) = led _ (kinds.Key keys.If) text rest parts in

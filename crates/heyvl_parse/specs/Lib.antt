@@ -1,11 +1,3 @@
-pub mod Combinators
-pub mod Counting
-pub mod FileReading
 pub mod Files
-pub mod Loops
-pub mod Parts
-pub mod Procedures
-pub mod Reading
-pub mod Results
-pub mod Rights
-pub mod Statements
+pub mod Laws
+pub mod internal

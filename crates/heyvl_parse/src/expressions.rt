@@ -1,11 +1,10 @@
 //! The parser of expressions.
 
-ghost use Rattle.heyvl_parse.specs.Parts.{IsMemory, IsPartStop, IsRead, NoOperator};
-ghost use Rattle.heyvl_parse.specs.Reading.{Full, Whole, bound, choice, climbed, enclosed, end_of, operand, prefixed, reach, reading, started};
-ghost use Rattle.heyvl_parse.specs.Results.{Gives};
+ghost use Rattle.heyvl_parse.specs.internal.Reading.{Full, Whole, bound, choice, climbed, enclosed, end_of, operand, prefixed, reach, reading, started};
+ghost use Rattle.heyvl_parse.specs.internal.Results.{Gives};
 ghost use Rattle.heyvl_syntax.specs.declared.tokens.Token.{Token};
 ghost use Rattle.heyvl_syntax.specs.Expressions.{Expression, expression};
-ghost use Rattle.std.specs.Prelude.{IfErr, IfOk, List, MatchResult, length, ◌<◌, ◌≡◌, ◌≤◌, ◌+◌, ℕ};
+ghost use Rattle.std.specs.Prelude.{IfOk, List, length, ◌<◌, ◌≡◌, ◌≤◌, ◌+◌, ℕ};
 
 use crate::operators::{next_level, operator_within, ranks};
 use crate::starts::{Start, key_start, mark_start, quantifier_at};
@@ -48,6 +47,7 @@ fn end_of(expr: &Expr) -> u32
 
 /// The expression at the front, and the tokens behind it.
 #[cycle(expressions)]
+#[inline(always)]
 pub(crate) fn whole(alloc: Global, tokens: &[Token]) -> Result<(Expr, &[Token]), PartStop>
     ensures value { (n : ℕ) → length tokens.now < n → Gives (λ x. expression x.0) (λ x. x.1.now) result (reading n Whole tokens.now) }
     ensures shorter { IfOk result (λ x. length x.1.now < length tokens.now) }
@@ -60,6 +60,7 @@ pub(crate) fn whole(alloc: Global, tokens: &[Token]) -> Result<(Expr, &[Token]),
 
 /// What stands behind a quantifier.
 #[cycle(expressions)]
+#[inline(never)]
 fn bound(
     alloc: Global,
     up: bool,
@@ -80,6 +81,7 @@ fn bound(
 
 /// An expression of at most this rank without quantifiers in front.
 #[cycle(expressions)]
+#[inline(never)]
 fn full(alloc: Global, rank: u8, tokens: &[Token]) -> Result<(Expr, &[Token]), PartStop>
     ensures value { (n : ℕ) → length tokens.now < n → Gives (λ x. expression x.0) (λ x. x.1.now) result (reading n (Full rank) tokens.now) }
     ensures shorter { IfOk result (λ x. length x.1.now < length tokens.now) }
@@ -90,6 +92,7 @@ fn full(alloc: Global, rank: u8, tokens: &[Token]) -> Result<(Expr, &[Token]), P
 
 /// The expression of at most this rank that begins with this operand: rank by rank, from those that bind tightest.
 #[cycle(expressions)]
+#[inline(never)]
 fn climbed(
     alloc: Global,
     rank: u8,
@@ -112,6 +115,7 @@ fn climbed(
 }
 
 /// The operator between its operands.
+#[inline(never)]
 fn joined(
     alloc: Global,
     op: BinaryOp,
@@ -127,6 +131,7 @@ fn joined(
 
 /// An operand of a prefix operator, or an atom.
 #[cycle(expressions)]
+#[inline(always)]
 fn operand(alloc: Global, tokens: &[Token]) -> Result<(Expr, &[Token]), PartStop>
     ensures value { (n : ℕ) → length tokens.now < n → Gives (λ x. expression x.0) (λ x. x.1.now) result (reading n (Full 0) tokens.now) }
     ensures shorter { IfOk result (λ x. length x.1.now < length tokens.now) }
@@ -142,6 +147,7 @@ fn operand(alloc: Global, tokens: &[Token]) -> Result<(Expr, &[Token]), PartStop
 
 /// What stands behind the key or mark at this place.
 #[cycle(expressions)]
+#[inline(always)]
 fn started(
     alloc: Global,
     start: Start,
@@ -175,6 +181,7 @@ fn started(
 
 /// An expression, the place of the mark that closes it, and the tokens behind that.
 #[cycle(expressions)]
+#[inline(always)]
 fn enclosed(
     alloc: Global,
     close: Mark,
@@ -190,6 +197,7 @@ fn enclosed(
 
 /// The operand of the prefix operator at this place.
 #[cycle(expressions)]
+#[inline(never)]
 fn prefixed(
     alloc: Global,
     op: UnaryOp,
@@ -206,6 +214,7 @@ fn prefixed(
 
 /// The parts of the `ite` at this place.
 #[cycle(expressions)]
+#[inline(never)]
 fn choice(alloc: Global, place: Span, tokens: &[Token]) -> Result<(Expr, &[Token]), PartStop>
     ensures value { (n : ℕ) → length tokens.now < n → Gives (λ x. expression x.0) (λ x. x.1.now) result (choice (reading n) place tokens.now) }
     ensures shorter { IfOk result (λ x. length x.1.now < length tokens.now) }
@@ -219,18 +228,4 @@ fn choice(alloc: Global, place: Span, tokens: &[Token]) -> Result<(Expr, &[Token
     let test = test.boxed(alloc)?;
     let yes = yes.boxed(alloc)?;
     Ok((Expr::Choice(test, yes, other, reach(place, close.to)), rest))
-}
-
-/// The expression at the front and the tokens behind it, for tests. It has no limit of its own. A fault is told by how many tokens are left
-/// from it on; `Memory` comes where there is no memory for the tree.
-#[cfg(test)]
-pub(crate) fn read_expr(alloc: Global, tokens: &[Token]) -> Result<(Expr, &[Token]), PartStop>
-    // The tokens before the rest spell the tree.
-    ensures found { IfOk result (λ x. IsRead tokens.now (expression x.0) x.1.now) }
-    // What is spelled before a rest that doesn't go on with it is read, unless memory runs out.
-    ensures only { (tree : Expression) (rest : List Token) → IsRead tokens.now tree rest → NoOperator rest → MatchResult result (λ x. (expression x.0 ≡ tree) × (x.1.now ≡ rest)) IsMemory }
-    // A fault stands at the index where the tokens are refused.
-    ensures fault { IfErr result (λ e. IsPartStop tokens.now e) }
-{
-    whole(alloc, tokens)
 }

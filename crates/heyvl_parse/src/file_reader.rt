@@ -1,10 +1,10 @@
 //! The parser of files up to the point where nothing goes on.
 
-ghost use Rattle.heyvl_parse.specs.Statements.{braced, stmts};
-ghost use Rattle.heyvl_parse.specs.Combinators.{starts};
-ghost use Rattle.heyvl_parse.specs.FileReading.{begins, file, procs};
-ghost use Rattle.heyvl_parse.specs.Files.{IsFileStop};
-ghost use Rattle.heyvl_parse.specs.Results.{Gives};
+ghost use Rattle.heyvl_parse.specs.internal.Statements.{braced, stmts};
+ghost use Rattle.heyvl_parse.specs.internal.Combinators.{starts};
+ghost use Rattle.heyvl_parse.specs.internal.FileReading.{begins, file, procs};
+ghost use Rattle.heyvl_parse.specs.internal.FileStops.{IsFileStop};
+ghost use Rattle.heyvl_parse.specs.internal.Results.{Gives};
 ghost use Rattle.heyvl_syntax.specs.Grammar.{IsFile};
 ghost use Rattle.heyvl_syntax.specs.Procedures.{procedure, procedures};
 ghost use Rattle.std.specs.Prelude.{[], IfErr, IfOk, length, map, ◌<◌, ◌≡◌, ◌≤◌, ℕ};

@@ -1,7 +1,6 @@
 //! Laws of the reading of expressions and files.
 
-ghost use Rattle.heyvl_parse.specs.Files.{FileIsUnique};
-ghost use Rattle.heyvl_parse.specs.Parts.{ExpressionIsUnique};
+ghost use Rattle.heyvl_parse.specs.Laws.{ExpressionIsUnique, FileIsUnique};
 
 /// Tokens spell at most one expression.
 pub fn expression_is_unique()

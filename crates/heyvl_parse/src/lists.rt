@@ -1,18 +1,26 @@
 //! The parser of lists of expressions and of names.
 
-ghost use Rattle.heyvl_parse.specs.Combinators.{lead, list, list0};
-ghost use Rattle.heyvl_parse.specs.Reading.{is_mark, word};
-ghost use Rattle.heyvl_parse.specs.Results.{Gives};
-ghost use Rattle.heyvl_parse.specs.Rights.{arguments, expr};
+ghost use Rattle.heyvl_parse.specs.internal.Combinators.{lead, list, list0};
+ghost use Rattle.heyvl_parse.specs.internal.Reading.{is_mark, word};
+ghost use Rattle.heyvl_parse.specs.internal.Results.{Gives};
+ghost use Rattle.heyvl_parse.specs.internal.Rights.{arguments, expr};
 ghost use Rattle.heyvl_syntax.specs.Expressions.{expression, expressions};
 ghost use Rattle.heyvl_syntax.specs.declared.marks.Mark.TheVariants as marks;
-ghost use Rattle.std.specs.Prelude.{IfOk, length, ◌<◌, ◌≡◌, ◌≤◌, ℕ};
+ghost use Rattle.std.specs.Prelude.{[], IfOk, OnOk, length, ◌++◌, ◌<◌, ◌∷◌, ◌≡◌, ◌≤◌, ℕ};
 
 use crate::expressions::whole;
 use crate::stops::PartStop;
 use crate::tokens::{expect, starts_mark, word};
 use heyvl_syntax::{Expr, Mark, Name, Token};
-use std::alloc::Global;
+use std::alloc::{AllocError, Global};
+
+/// Puts the item behind the others. In a function of its own, so that a reader that calls itself has no room for it on the stack.
+#[inline(never)]
+pub(crate) fn put<T: Drop>(items: &mut Vec<T>, item: T) -> Result<(), AllocError>
+    ensures { OnOk result (items.new.items ≡ items.old.items ++ (item ∷ [])) }
+{
+    Ok(items.push(item)?)
+}
 
 /// A `,` and an expression.
 fn further(alloc: Global, tokens: &[Token]) -> Result<(Expr, &[Token]), PartStop>
@@ -76,7 +84,7 @@ pub(crate) fn names(alloc: Global, tokens: &[Token]) -> Result<(Vec<Name>, &[Tok
     ensures shorter { IfOk result (λ x. length x.1.now < length tokens.now) }
 {
     let (first, mut rest) = word(alloc, tokens)?;
-    let mut found = Vec::new(alloc);
+    let mut found = Vec::with_capacity(alloc, 1)?;
     found.push(first)?;
     'items: while starts_mark(Mark::Comma, rest) {
         let (one, behind) = further_name(alloc, rest)?;

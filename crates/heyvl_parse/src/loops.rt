@@ -1,8 +1,8 @@
 //! The parser of the rules of loops.
 
-ghost use Rattle.heyvl_parse.specs.Combinators.{is_word, lead, sign};
-ghost use Rattle.heyvl_parse.specs.Loops.{kind_rule, rule, rule_start, rules, word_rule};
-ghost use Rattle.heyvl_parse.specs.Results.{Gives};
+ghost use Rattle.heyvl_parse.specs.internal.Combinators.{is_word, lead, sign};
+ghost use Rattle.heyvl_parse.specs.internal.Loops.{kind_rule, rule, rule_start, rules, word_rule};
+ghost use Rattle.heyvl_parse.specs.internal.Results.{Gives};
 ghost use Rattle.heyvl_syntax.specs.Statements.{loop_rule, loop_rules};
 ghost use Rattle.std.specs.Prelude.{IfOk, length, ◌<◌, ◌≡◌, ◌≤◌, ℕ};
 
@@ -62,6 +62,7 @@ fn rule_start(tokens: &[Token]) -> RuleStart
 }
 
 /// The rule at the front.
+#[inline(never)]
 fn rule(alloc: Global, tokens: &[Token]) -> Result<(Rule, &[Token]), PartStop>
     ensures value { (n : ℕ) → length tokens.now < n → Gives (λ x. loop_rule x.0) (λ x. x.1.now) result (rule n tokens.now) }
     ensures shorter { IfOk result (λ x. length x.1.now < length tokens.now) }
@@ -94,6 +95,7 @@ fn rule(alloc: Global, tokens: &[Token]) -> Result<(Rule, &[Token]), PartStop>
 }
 
 /// The rules at the front.
+#[inline(never)]
 pub(crate) fn rules(alloc: Global, tokens: &[Token]) -> Result<(Vec<Rule>, &[Token]), PartStop>
     ensures value { (n : ℕ) → length tokens.now < n → Gives (λ x. loop_rules x.0.items) (λ x. x.1.now) result (rules n tokens.now) }
     ensures shorter { IfOk result (λ x. length x.1.now ≤ length tokens.now) }

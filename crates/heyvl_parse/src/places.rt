@@ -1,6 +1,6 @@
 //! The places of what was read.
 
-ghost use Rattle.heyvl_parse.specs.Combinators.{taken};
+ghost use Rattle.heyvl_parse.specs.internal.Combinators.{taken};
 ghost use Rattle.heyvl_syntax.specs.Productions.{extent, first_byte, last_end};
 ghost use Rattle.std.specs.Prelude.{◌≡◌};
 

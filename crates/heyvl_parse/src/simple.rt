@@ -1,9 +1,9 @@
 //! The parser of the statements that hold no block.
 
-ghost use Rattle.heyvl_parse.specs.Combinators.{kind, list, optional, spanned, starts};
-ghost use Rattle.heyvl_parse.specs.Reading.{is_mark, pair, word};
-ghost use Rattle.heyvl_parse.specs.Results.{Gives};
-ghost use Rattle.heyvl_parse.specs.Statements.{assign_tree, assigned, by_key, check_tree, checked, declared, given, havoc_tree, havocked, is_pick, key_check, key_havoc, key_pick, key_reward, key_validate, reward_tree, rewarded, var_tree};
+ghost use Rattle.heyvl_parse.specs.internal.Combinators.{kind, list, optional, sign, spanned, starts};
+ghost use Rattle.heyvl_parse.specs.internal.Reading.{is_mark, pair, word};
+ghost use Rattle.heyvl_parse.specs.internal.Results.{Gives};
+ghost use Rattle.heyvl_parse.specs.internal.Statements.{assign_tree, assigned, by_key, check_tree, checked, declared, given, havoc_tree, havocked, is_pick, is_reward, key_check, key_havoc, key_pick, key_validate, rewarded, var_tree};
 ghost use Rattle.heyvl_syntax.specs.Statements.{Statement, optional_right, right_side, statement};
 ghost use Rattle.heyvl_syntax.specs.declared.marks.Mark.TheVariants as marks;
 ghost use Rattle.std.specs.Prelude.{IfOk, length, ◌<◌, ◌≡◌, ◌≤◌, ℕ};
@@ -13,24 +13,22 @@ use crate::lists::names;
 use crate::places::span_between;
 use crate::rights::{call, is_call, right};
 use crate::stops::PartStop;
-use crate::tokens::{expect, expect_key, next, starts_mark, type_name, word};
-use heyvl_syntax::{CheckKind, Key, Mark, Name, Right, Stmt, Token, TokenKind};
+use crate::tokens::{
+    expect, expect_key, is_key, key_at, known, next, starts_mark, type_name, word,
+};
+use heyvl_syntax::{CheckKind, Key, Mark, Name, Right, Span, Stmt, Token, TokenKind};
 use std::alloc::Global;
 
-fn check_of(kind: &TokenKind) -> Option<CheckKind>
-    ensures { result ≡ by_key key_check kind.now }
+/// Which check a key begins.
+fn check_of(key: Key) -> Option<CheckKind>
+    ensures { result ≡ key_check key }
 {
-    match kind {
-        TokenKind::Key(key) => match key {
-            Key::Assert => Some(CheckKind::Assert),
-            Key::Assume => Some(CheckKind::Assume),
-            Key::CoAssert => Some(CheckKind::CoAssert),
-            Key::CoAssume => Some(CheckKind::CoAssume),
-            _ => None,
-        },
-        TokenKind::Word(_) => None,
-        TokenKind::Number(_) => None,
-        TokenKind::Mark(_) => None,
+    match key {
+        Key::Assert => Some(CheckKind::Assert),
+        Key::Assume => Some(CheckKind::Assume),
+        Key::CoAssert => Some(CheckKind::CoAssert),
+        Key::CoAssume => Some(CheckKind::CoAssume),
+        _ => None,
     }
 }
 
@@ -39,25 +37,17 @@ fn check_word(tokens: &[Token]) -> Result<(CheckKind, &[Token]), PartStop>
     ensures value { Gives (λ x. x.0) (λ x. x.1.now) result (kind (by_key key_check) tokens.now) }
     ensures shorter { IfOk result (λ x. length x.1.now < length tokens.now) }
 {
-    let (token, rest) = next(tokens)?;
-    match check_of(&token.kind) {
-        Some(found) => Ok((found, rest)),
-        None => Err(PartStop::Fault(tokens.len())),
-    }
+    let (key, rest) = key_at(tokens)?;
+    known(check_of(key), tokens, rest)
 }
 
-fn validate_of(kind: &TokenKind) -> Option<bool>
-    ensures { result ≡ by_key key_validate kind.now }
+fn validate_of(key: Key) -> Option<bool>
+    ensures { result ≡ key_validate key }
 {
-    match kind {
-        TokenKind::Key(key) => match key {
-            Key::Validate => Some(false),
-            Key::CoValidate => Some(true),
-            _ => None,
-        },
-        TokenKind::Word(_) => None,
-        TokenKind::Number(_) => None,
-        TokenKind::Mark(_) => None,
+    match key {
+        Key::Validate => Some(false),
+        Key::CoValidate => Some(true),
+        _ => None,
     }
 }
 
@@ -66,25 +56,17 @@ fn validate_word(tokens: &[Token]) -> Result<(bool, &[Token]), PartStop>
     ensures value { Gives (λ x. x.0) (λ x. x.1.now) result (kind (by_key key_validate) tokens.now) }
     ensures shorter { IfOk result (λ x. length x.1.now < length tokens.now) }
 {
-    let (token, rest) = next(tokens)?;
-    match validate_of(&token.kind) {
-        Some(found) => Ok((found, rest)),
-        None => Err(PartStop::Fault(tokens.len())),
-    }
+    let (key, rest) = key_at(tokens)?;
+    known(validate_of(key), tokens, rest)
 }
 
-fn havoc_of(kind: &TokenKind) -> Option<bool>
-    ensures { result ≡ by_key key_havoc kind.now }
+fn havoc_of(key: Key) -> Option<bool>
+    ensures { result ≡ key_havoc key }
 {
-    match kind {
-        TokenKind::Key(key) => match key {
-            Key::Havoc => Some(false),
-            Key::CoHavoc => Some(true),
-            _ => None,
-        },
-        TokenKind::Word(_) => None,
-        TokenKind::Number(_) => None,
-        TokenKind::Mark(_) => None,
+    match key {
+        Key::Havoc => Some(false),
+        Key::CoHavoc => Some(true),
+        _ => None,
     }
 }
 
@@ -93,64 +75,57 @@ fn havoc_word(tokens: &[Token]) -> Result<(bool, &[Token]), PartStop>
     ensures value { Gives (λ x. x.0) (λ x. x.1.now) result (kind (by_key key_havoc) tokens.now) }
     ensures shorter { IfOk result (λ x. length x.1.now < length tokens.now) }
 {
-    let (token, rest) = next(tokens)?;
-    match havoc_of(&token.kind) {
-        Some(found) => Ok((found, rest)),
-        None => Err(PartStop::Fault(tokens.len())),
-    }
+    let (key, rest) = key_at(tokens)?;
+    known(havoc_of(key), tokens, rest)
 }
 
-fn reward_of(kind: &TokenKind) -> Option<bool>
-    ensures { result ≡ by_key key_reward kind.now }
+fn is_reward(kind: &TokenKind) -> bool
+    ensures { result ≡ is_reward kind.now }
 {
-    match kind {
-        TokenKind::Key(key) => match key {
-            Key::Reward => Some(false),
-            Key::Tick => Some(true),
-            _ => None,
-        },
-        TokenKind::Word(_) => None,
-        TokenKind::Number(_) => None,
-        TokenKind::Mark(_) => None,
-    }
+    is_key(Key::Reward, kind) || is_key(Key::Tick, kind)
 }
 
-/// True for `tick` and false for `reward` at the front, and the tokens behind it.
-fn reward_word(tokens: &[Token]) -> Result<(bool, &[Token]), PartStop>
-    ensures value { Gives (λ x. x.0) (λ x. x.1.now) result (kind (by_key key_reward) tokens.now) }
+/// The place of `reward` or `tick`, one of which has to stand at the front, and the tokens behind it.
+fn reward_word(tokens: &[Token]) -> Result<(Span, &[Token]), PartStop>
+    ensures value { Gives (λ x. x.0) (λ x. x.1.now) result (sign is_reward tokens.now) }
     ensures shorter { IfOk result (λ x. length x.1.now < length tokens.now) }
 {
     let (token, rest) = next(tokens)?;
-    match reward_of(&token.kind) {
-        Some(found) => Ok((found, rest)),
-        None => Err(PartStop::Fault(tokens.len())),
+    if is_reward(&token.kind) {
+        Ok((token.span, rest))
+    } else {
+        Err(PartStop::Fault(tokens.len()))
     }
 }
 
-fn pick_of(kind: &TokenKind) -> Option<bool>
-    ensures { result ≡ by_key key_pick kind.now }
+fn pick_of(key: Key) -> Option<bool>
+    ensures { result ≡ key_pick key }
 {
-    match kind {
-        TokenKind::Key(key) => match key {
-            Key::Cap => Some(false),
-            Key::Cup => Some(true),
-            _ => None,
-        },
-        TokenKind::Word(_) => None,
-        TokenKind::Number(_) => None,
-        TokenKind::Mark(_) => None,
+    match key {
+        Key::Cap => Some(false),
+        Key::Cup => Some(true),
+        _ => None,
     }
 }
 
-/// True for `\cup` and false for `\cap` at the front, and the tokens behind it.
+/// True for `\\cup` and false for `\\cap` at the front, and the tokens behind it.
 pub(crate) fn pick_word(tokens: &[Token]) -> Result<(bool, &[Token]), PartStop>
     ensures value { Gives (λ x. x.0) (λ x. x.1.now) result (kind (by_key key_pick) tokens.now) }
     ensures shorter { IfOk result (λ x. length x.1.now < length tokens.now) }
 {
-    let (token, rest) = next(tokens)?;
-    match pick_of(&token.kind) {
-        Some(found) => Ok((found, rest)),
-        None => Err(PartStop::Fault(tokens.len())),
+    let (key, rest) = key_at(tokens)?;
+    known(pick_of(key), tokens, rest)
+}
+
+/// Whether a token of this kind is `\cap` or `\cup`.
+fn is_pick(kind: &TokenKind) -> bool
+    ensures { result ≡ is_pick kind.now }
+{
+    match kind {
+        TokenKind::Key(key) => pick_of(*key).is_some(),
+        TokenKind::Word(_) => false,
+        TokenKind::Number(_) => false,
+        TokenKind::Mark(_) => false,
     }
 }
 
@@ -160,7 +135,7 @@ pub(crate) fn starts_pick(tokens: &[Token]) -> bool
 {
     match tokens.split_first() {
         None => false,
-        Some((token, _)) => pick_of(&token.kind).is_some(),
+        Some((token, _)) => is_pick(&token.kind),
     }
 }
 
@@ -186,6 +161,7 @@ fn value(alloc: Global, tokens: &[Token]) -> Result<(Option<Right>, &[Token]), P
 }
 
 /// A `var` statement.
+#[inline(never)]
 pub(crate) fn var(alloc: Global, tokens: &[Token]) -> Result<(Stmt, &[Token]), PartStop>
     ensures value { (n : ℕ) → length tokens.now < n → Gives (λ x. statement x.0) (λ x. x.1.now) result (spanned var_tree (declared n) tokens.now) }
     ensures shorter { IfOk result (λ x. length x.1.now < length tokens.now) }
@@ -221,6 +197,7 @@ fn assignment(alloc: Global, tokens: &[Token]) -> Result<((Vec<Name>, Right), &[
 }
 
 /// A statement that is an assignment or a call.
+#[inline(never)]
 pub(crate) fn assign(alloc: Global, tokens: &[Token]) -> Result<(Stmt, &[Token]), PartStop>
     ensures value { (n : ℕ) → length tokens.now < n → Gives (λ x. statement x.0) (λ x. x.1.now) result (spanned assign_tree (assigned n) tokens.now) }
     ensures shorter { IfOk result (λ x. length x.1.now < length tokens.now) }
@@ -233,6 +210,7 @@ pub(crate) fn assign(alloc: Global, tokens: &[Token]) -> Result<(Stmt, &[Token])
 }
 
 /// A check.
+#[inline(never)]
 pub(crate) fn check(alloc: Global, tokens: &[Token]) -> Result<(Stmt, &[Token]), PartStop>
     ensures value { (n : ℕ) → length tokens.now < n → Gives (λ x. statement x.0) (λ x. x.1.now) result (spanned check_tree (checked n) tokens.now) }
     ensures shorter { IfOk result (λ x. length x.1.now < length tokens.now) }
@@ -243,6 +221,7 @@ pub(crate) fn check(alloc: Global, tokens: &[Token]) -> Result<(Stmt, &[Token]),
 }
 
 /// `validate` or `covalidate`.
+#[inline(never)]
 pub(crate) fn validate(tokens: &[Token]) -> Result<(Stmt, &[Token]), PartStop>
     ensures value { Gives (λ x. statement x.0) (λ x. x.1.now) result (spanned Statement.validate (kind (by_key key_validate)) tokens.now) }
     ensures shorter { IfOk result (λ x. length x.1.now < length tokens.now) }
@@ -252,6 +231,7 @@ pub(crate) fn validate(tokens: &[Token]) -> Result<(Stmt, &[Token]), PartStop>
 }
 
 /// `havoc` or `cohavoc` of names.
+#[inline(never)]
 pub(crate) fn havoc(alloc: Global, tokens: &[Token]) -> Result<(Stmt, &[Token]), PartStop>
     ensures value { (n : ℕ) → length tokens.now < n → Gives (λ x. statement x.0) (λ x. x.1.now) result (spanned havoc_tree (havocked n) tokens.now) }
     ensures shorter { IfOk result (λ x. length x.1.now < length tokens.now) }
@@ -262,8 +242,9 @@ pub(crate) fn havoc(alloc: Global, tokens: &[Token]) -> Result<(Stmt, &[Token]),
 }
 
 /// `reward` or `tick`.
+#[inline(never)]
 pub(crate) fn reward(alloc: Global, tokens: &[Token]) -> Result<(Stmt, &[Token]), PartStop>
-    ensures value { (n : ℕ) → length tokens.now < n → Gives (λ x. statement x.0) (λ x. x.1.now) result (spanned reward_tree (rewarded n) tokens.now) }
+    ensures value { (n : ℕ) → length tokens.now < n → Gives (λ x. statement x.0) (λ x. x.1.now) result (spanned Statement.reward (rewarded n) tokens.now) }
     ensures shorter { IfOk result (λ x. length x.1.now < length tokens.now) }
 {
     let (_, rest) = reward_word(tokens)?;

@@ -1,12 +1,13 @@
 //! The parser of statements and blocks.
 
-ghost use Rattle.heyvl_parse.specs.Combinators.{spanned, starts};
-ghost use Rattle.heyvl_parse.specs.Results.{Gives};
-ghost use Rattle.heyvl_parse.specs.Statements.{Shortens, arm, braced, branched, if_parts, if_tree, is_opening, key_opening, kind_opening, link, loop_tree, looped, mark_opening, next_of, opening, opens, otherwise, picked, skip, stmt, stmts};
+ghost use Rattle.heyvl_parse.specs.internal.Combinators.{spanned, starts};
+ghost use Rattle.heyvl_parse.specs.internal.Results.{Gives};
+ghost use Rattle.heyvl_parse.specs.internal.Statements.{Shortens, arm, braced, branched, if_parts, if_tree, is_opening, key_opening, kind_opening, link, loop_tree, looped, mark_opening, next_of, opening, opens, otherwise, picked, skip, stmt, stmts};
 ghost use Rattle.heyvl_syntax.specs.Statements.{block, guarded, statement};
 ghost use Rattle.std.specs.Prelude.{IfOk, length, map, suc, ◌<◌, ◌≡◌, ◌≤◌, ℕ};
 
 use crate::expressions::whole;
+use crate::lists::put;
 use crate::loops::rules;
 use crate::places::span_between;
 use crate::simple::{assign, check, havoc, pick_word, reward, starts_pick, validate, var};
@@ -132,6 +133,7 @@ fn skip(tokens: &[Token]) -> &[Token]
 
 /// The statements of a block, with its braces.
 #[cycle(statements)]
+#[inline(always)]
 pub(crate) fn block(alloc: Global, tokens: &[Token]) -> Result<(Vec<Stmt>, &[Token]), PartStop>
     ensures value { (n : ℕ) → length tokens.now ≤ n → Gives (λ x. block x.0.items) (λ x. x.1.now) result (braced (stmts n) tokens.now) }
     ensures shorter { IfOk result (λ x. length x.1.now < length tokens.now) }
@@ -144,6 +146,7 @@ pub(crate) fn block(alloc: Global, tokens: &[Token]) -> Result<(Vec<Stmt>, &[Tok
 
 /// The statements at the front, as far as they go.
 #[cycle(statements)]
+#[inline(never)]
 fn statements(alloc: Global, tokens: &[Token]) -> Result<(Vec<Stmt>, &[Token]), PartStop>
     ensures value { (n : ℕ) → length tokens.now < n → Gives (λ x. block x.0.items) (λ x. x.1.now) result (stmts n tokens.now) }
     ensures shorter { IfOk result (λ x. length x.1.now ≤ length tokens.now) }
@@ -152,7 +155,7 @@ fn statements(alloc: Global, tokens: &[Token]) -> Result<(Vec<Stmt>, &[Token]), 
     let mut rest = tokens;
     'items: while starts_statement(rest) {
         let (one, behind) = stmt(alloc, rest)?;
-        found.push(one)?;
+        put(&mut found, one)?;
         rest = skip(behind);
     }
     Ok((found, rest))
@@ -160,6 +163,7 @@ fn statements(alloc: Global, tokens: &[Token]) -> Result<(Vec<Stmt>, &[Token]), 
 
 /// The statement at the front.
 #[cycle(statements)]
+#[inline(always)]
 fn stmt(alloc: Global, tokens: &[Token]) -> Result<(Stmt, &[Token]), PartStop>
     ensures value { (n : ℕ) → length tokens.now ≤ n → Gives (λ x. statement x.0) (λ x. x.1.now) result (stmt (suc n) (braced (stmts n)) tokens.now) }
     ensures shorter { IfOk result (λ x. length x.1.now < length tokens.now) }
@@ -179,6 +183,7 @@ fn stmt(alloc: Global, tokens: &[Token]) -> Result<(Stmt, &[Token]), PartStop>
 
 /// An `if`.
 #[cycle(statements)]
+#[inline(never)]
 fn if_at(alloc: Global, tokens: &[Token]) -> Result<(Stmt, &[Token]), PartStop>
     ensures value { (n : ℕ) → length tokens.now ≤ n → Gives (λ x. statement x.0) (λ x. x.1.now) result (spanned if_tree (if_parts (suc n) (braced (stmts n))) tokens.now) }
     ensures shorter { IfOk result (λ x. length x.1.now < length tokens.now) }
@@ -197,6 +202,7 @@ fn if_at(alloc: Global, tokens: &[Token]) -> Result<(Stmt, &[Token]), PartStop>
 
 /// What stands behind the `if` of a choice of two blocks.
 #[cycle(statements)]
+#[inline(never)]
 fn picked(
     alloc: Global,
     tokens: &[Token],
@@ -212,6 +218,7 @@ fn picked(
 
 /// The block behind `else`, or none where there is no `else`.
 #[cycle(statements)]
+#[inline(always)]
 fn otherwise(alloc: Global, tokens: &[Token]) -> Result<(Vec<Stmt>, &[Token]), PartStop>
     ensures value { (n : ℕ) → length tokens.now ≤ n → Gives (λ x. block x.0.items) (λ x. x.1.now) result (otherwise (braced (stmts n)) tokens.now) }
     ensures shorter { IfOk result (λ x. length x.1.now ≤ length tokens.now) }
@@ -225,6 +232,7 @@ fn otherwise(alloc: Global, tokens: &[Token]) -> Result<(Vec<Stmt>, &[Token]), P
 
 /// A guard and its block.
 #[cycle(statements)]
+#[inline(always)]
 fn arm(alloc: Global, tokens: &[Token]) -> Result<(Arm, &[Token]), PartStop>
     ensures value { (n : ℕ) → length tokens.now ≤ n → Gives (λ x. guarded x.0) (λ x. x.1.now) result (arm (suc n) (braced (stmts n)) tokens.now) }
     ensures shorter { IfOk result (λ x. length x.1.now < length tokens.now) }
@@ -236,19 +244,20 @@ fn arm(alloc: Global, tokens: &[Token]) -> Result<(Arm, &[Token]), PartStop>
 
 /// The arms of an `if`, and what stands behind the last `else`.
 #[cycle(statements)]
+#[inline(never)]
 fn branched(alloc: Global, tokens: &[Token]) -> Result<((Vec<Arm>, Vec<Stmt>), &[Token]), PartStop>
     ensures value { (n : ℕ) → length tokens.now ≤ n → Gives (λ x. (map guarded x.0.0.items, block x.0.1.items)) (λ x. x.1.now) result (branched (suc n) (braced (stmts n)) tokens.now) }
     ensures shorter { IfOk result (λ x. length x.1.now < length tokens.now) }
 {
     let (first, mut rest) = arm(alloc, tokens)?;
-    let mut found = Vec::new(alloc);
-    found.push(first)?;
+    let mut found = Vec::with_capacity(alloc, 1)?;
+    put(&mut found, first)?;
     'arms: loop {
         let (one, behind) = link_at(alloc, rest)?;
         match one {
             Link::Last(last) => return Ok(((found, last), behind)),
             Link::Again(arm) => {
-                found.push(arm)?;
+                put(&mut found, arm)?;
                 rest = behind;
             }
         }
@@ -257,6 +266,7 @@ fn branched(alloc: Global, tokens: &[Token]) -> Result<((Vec<Arm>, Vec<Stmt>), &
 
 /// What stands behind an arm.
 #[cycle(statements)]
+#[inline(always)]
 fn link_at(alloc: Global, tokens: &[Token]) -> Result<(Link, &[Token]), PartStop>
     ensures value { (n : ℕ) → length tokens.now ≤ n → Gives (λ x. next_of x.0) (λ x. x.1.now) result (link (suc n) (braced (stmts n)) tokens.now) }
     ensures shorter { IfOk result (λ x. Shortens x.0 (length x.1.now) (length tokens.now)) }
@@ -276,6 +286,7 @@ fn link_at(alloc: Global, tokens: &[Token]) -> Result<(Link, &[Token]), PartStop
 
 /// A loop with its rules.
 #[cycle(statements)]
+#[inline(never)]
 fn looped(alloc: Global, tokens: &[Token]) -> Result<(Stmt, &[Token]), PartStop>
     ensures value { (n : ℕ) → length tokens.now ≤ n → Gives (λ x. statement x.0) (λ x. x.1.now) result (spanned loop_tree (looped (suc n) (braced (stmts n))) tokens.now) }
     ensures shorter { IfOk result (λ x. length x.1.now < length tokens.now) }

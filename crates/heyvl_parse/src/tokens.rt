@@ -1,9 +1,10 @@
 //! Ways to take the token at the front of others.
 
-ghost use Rattle.heyvl_parse.specs.Combinators.{is_key, is_word, sign, starts};
-ghost use Rattle.heyvl_parse.specs.Reading.{expect, is_mark, next, type_name, type_of, word};
-ghost use Rattle.heyvl_parse.specs.Results.{Gives};
-ghost use Rattle.std.specs.Prelude.{IfOk, length, ◌+◌, ◌<◌, ◌≡◌};
+ghost use Rattle.heyvl_parse.specs.internal.Combinators.{is_key, is_word, kind, sign, starts};
+ghost use Rattle.heyvl_parse.specs.internal.Reading.{expect, given, is_mark, next, type_name, type_of, word};
+ghost use Rattle.heyvl_parse.specs.internal.Results.{Gives};
+ghost use Rattle.heyvl_parse.specs.internal.Statements.{by_key};
+ghost use Rattle.std.specs.Prelude.{IfOk, Some, length, ◌+◌, ◌<◌, ◌≡◌};
 
 use crate::stops::PartStop;
 use heyvl_syntax::{Key, Mark, Name, Span, Token, TokenKind, TypeName};
@@ -90,7 +91,7 @@ pub(crate) fn type_name(tokens: &[Token]) -> Result<(TypeName, &[Token]), PartSt
     }
 }
 
-fn is_key(key: Key, kind: &TokenKind) -> bool
+pub(crate) fn is_key(key: Key, kind: &TokenKind) -> bool
     ensures { result ≡ is_key key kind.now }
 {
     match kind {
@@ -98,6 +99,35 @@ fn is_key(key: Key, kind: &TokenKind) -> bool
         TokenKind::Word(_) => false,
         TokenKind::Number(_) => false,
         TokenKind::Mark(_) => false,
+    }
+}
+
+/// The key at the front, and the tokens behind it.
+pub(crate) fn key_at(tokens: &[Token]) -> Result<(Key, &[Token]), PartStop>
+    ensures value { Gives (λ x. x.0) (λ x. x.1.now) result (kind (by_key Some) tokens.now) }
+    ensures shorter { IfOk result (λ x. length x.1.now < length tokens.now) }
+{
+    let (token, rest) = next(tokens)?;
+    match &token.kind {
+        TokenKind::Key(key) => Ok((*key, rest)),
+        TokenKind::Word(_) => Err(PartStop::Fault(tokens.len())),
+        TokenKind::Number(_) => Err(PartStop::Fault(tokens.len())),
+        TokenKind::Mark(_) => Err(PartStop::Fault(tokens.len())),
+    }
+}
+
+/// What the token at the front is known to say, with the tokens behind it, or a fault at that token.
+pub(crate) fn known<'a, T>(
+    said: Option<T>,
+    tokens: &[Token],
+    rest: &'a [Token],
+) -> Result<(T, &'a [Token]), PartStop>
+    ensures value { Gives (λ x. x.0) (λ x. x.1.now) result (given said tokens.now rest.now) }
+    ensures rest { IfOk result (λ x. x.1.now ≡ rest.now) }
+{
+    match said {
+        Some(said) => Ok((said, rest)),
+        None => Err(PartStop::Fault(tokens.len())),
     }
 }
 

@@ -2,7 +2,7 @@ use Rattle.heyvl_parse.proofs.Climbing.{climb_ends, climb_on, climb_stops, full_
 use Rattle.heyvl_parse.proofs.Fuel.{by_fuel}
 use Rattle.heyvl_parse.proofs.expressions.+expressions.Goals as goal
 use Rattle.std.proofs.Common.{Bor, Err, List, Ok, arith, length, refl, rules, suc, ◌<◌}
-use Rattle.heyvl_parse.specs.Results.{Gives}
+use Rattle.heyvl_parse.specs.internal.Results.{Gives}
 use Rattle.heyvl_syntax.specs.Expressions.{expression}
 use Rattle.heyvl_syntax.specs.declared.expressions.Expr.{Expr}
 use Rattle.heyvl_syntax.specs.declared.tokens.Token.{Token}

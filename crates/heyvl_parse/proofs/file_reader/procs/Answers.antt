@@ -1,8 +1,8 @@
 use Rattle.heyvl_parse.proofs.EachLoop.{loop_done, loop_fails, loop_init, loop_more}
 use Rattle.heyvl_parse.proofs.file_reader.procs.Goals as goal
-use Rattle.heyvl_parse.specs.Statements.{braced, stmts}
-use Rattle.heyvl_parse.specs.FileReading.{begins, procs}
-use Rattle.heyvl_parse.specs.Procedures.{procedure}
+use Rattle.heyvl_parse.specs.internal.Statements.{braced, stmts}
+use Rattle.heyvl_parse.specs.internal.FileReading.{begins, procs}
+use Rattle.heyvl_parse.specs.internal.Procedures.{procedure}
 use Rattle.heyvl_syntax.specs.Procedures.{procedure as tree_of}
 use Rattle.std.proofs.Common.{arith, map, sym, ◌<◌}
 use Rattle.std.proofs.lemmas.Grind.{common_steps}

@@ -1,8 +1,8 @@
 use Rattle.heyvl_parse.proofs.StatementLaws.{block_laws}
 use Rattle.heyvl_parse.proofs.FileLaws.{fault_clause, file_laws, found_clause}
 use Rattle.heyvl_parse.proofs.file_reader.spelled.Goals as goal
-use Rattle.heyvl_parse.specs.Statements.{braced, stmts}
-use Rattle.heyvl_parse.specs.FileReading.{file}
+use Rattle.heyvl_parse.specs.internal.Statements.{braced, stmts}
+use Rattle.heyvl_parse.specs.internal.FileReading.{file}
 
 pub returns-clause-found : goal.returns-clause-found
 returns-clause-found c = found_clause (λ n. file (braced (stmts n)) n) (λ n. file_laws (block_laws n)) c.args.tokens.now c.file.result c.file.ensures.value

@@ -1,4 +1,4 @@
-use Rattle.heyvl_parse.proofs.Refusals.{unique}
+use Rattle.heyvl_parse.proofs.Readings.{unique}
 use Rattle.heyvl_parse.proofs.laws.expression_is_unique.Goals as goal
 
 pub returns : goal.returns

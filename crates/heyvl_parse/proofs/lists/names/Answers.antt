@@ -1,8 +1,8 @@
 use Rattle.heyvl_parse.proofs.EachLoop.{loop_done, loop_fails, loop_first, loop_more}
 use Rattle.heyvl_parse.proofs.lists.names.Goals as goal
-use Rattle.heyvl_parse.specs.Combinators.{lead, list}
-use Rattle.heyvl_parse.specs.Reading.{is_mark, word}
-use Rattle.heyvl_parse.specs.Rights.{expr, weighted}
+use Rattle.heyvl_parse.specs.internal.Combinators.{lead, list}
+use Rattle.heyvl_parse.specs.internal.Reading.{is_mark, word}
+use Rattle.heyvl_parse.specs.internal.Rights.{expr, weighted}
 use Rattle.heyvl_syntax.specs.Expressions.{expression, expressions}
 use Rattle.heyvl_syntax.specs.Statements.{choices}
 use Rattle.heyvl_syntax.specs.declared.marks.Mark.TheVariants as marks
@@ -13,7 +13,7 @@ use Rattle.std.proofs.lemmas.List.{map-append}
 pub items-init : goal.items-init
 items-init c = record {
   shorter = omega (arith, c.in_ok-first.ensures.shorter);
-  same = λ n h. rw (c.in_ok-push.ensures.items, c.new-found.ensures.items) (loop_first (is_mark marks.Comma) (lead (is_mark marks.Comma) word) (word) n c.args.tokens.now c.in_ok-first.rest.now (c.in_ok-first.first) (omega (arith, c.in_ok-first.ensures.shorter)) (c.in_ok-first.ensures.value));
+  same = λ n h. rw (c.in_ok-push.ensures.items, c.in_ok-found.ensures.items) (loop_first (is_mark marks.Comma) (lead (is_mark marks.Comma) word) (word) n c.args.tokens.now c.in_ok-first.rest.now (c.in_ok-first.first) (omega (arith, c.in_ok-first.ensures.shorter)) (c.in_ok-first.ensures.value));
 }
 
 pub items-preserved : goal.items-preserved

@@ -2,8 +2,8 @@ use Rattle.heyvl_parse.proofs.StatementLaws.{block_laws}
 use Rattle.heyvl_parse.proofs.FileLaws.{file_laws, file_unique}
 use Rattle.heyvl_parse.proofs.ParseClauses.{few, only_fault, only_file}
 use Rattle.heyvl_parse.proofs.parsing.parse.Goals as goal
-use Rattle.heyvl_parse.specs.Statements.{braced, stmts}
-use Rattle.heyvl_parse.specs.FileReading.{file}
+use Rattle.heyvl_parse.specs.internal.Statements.{braced, stmts}
+use Rattle.heyvl_parse.specs.internal.FileReading.{file}
 
 pub returns-clause-only : goal.returns-clause-only
 returns-clause-only c = only_file c.args.tokens.now (file_unique (λ n. file (braced (stmts n)) n) (λ n. file_laws (block_laws n))) c.file_or_fault.result c.file_or_fault.ensures.found c.file_or_fault.ensures.fault

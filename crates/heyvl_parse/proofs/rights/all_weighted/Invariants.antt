@@ -1,8 +1,8 @@
 use Rattle.heyvl_parse.proofs.EachLoop.{Rest}
 use Rattle.heyvl_parse.proofs.rights.all_weighted.Given as goal
-use Rattle.heyvl_parse.specs.Combinators.{lead, list}
-use Rattle.heyvl_parse.specs.Reading.{is_mark, word}
-use Rattle.heyvl_parse.specs.Rights.{expr, weighted}
+use Rattle.heyvl_parse.specs.internal.Combinators.{lead, list}
+use Rattle.heyvl_parse.specs.internal.Reading.{is_mark, word}
+use Rattle.heyvl_parse.specs.internal.Rights.{expr, weighted}
 use Rattle.heyvl_syntax.specs.Expressions.{expression, expressions}
 use Rattle.heyvl_syntax.specs.Statements.{choices}
 use Rattle.heyvl_syntax.specs.declared.marks.Mark.TheVariants as marks

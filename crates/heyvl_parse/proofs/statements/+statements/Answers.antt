@@ -2,10 +2,10 @@ use Rattle.heyvl_parse.proofs.ChainLoop.{chain_done, chain_fails, chain_first, c
 use Rattle.heyvl_parse.proofs.EachLoop.{loop_done, loop_fails, loop_init, loop_more}
 use Rattle.heyvl_parse.proofs.Fuel.{by_fuel}
 use Rattle.heyvl_parse.proofs.statements.+statements.Goals as goal
-use Rattle.heyvl_parse.specs.Combinators.{each}
-use Rattle.heyvl_parse.specs.Reading.{Got, Read, mapped, ◌>>=◌}
-use Rattle.heyvl_parse.specs.Results.{Fails}
-use Rattle.heyvl_parse.specs.Statements.{braced, branched, entry, is_opening, next_of, skip, stmt, stmts}
+use Rattle.heyvl_parse.specs.internal.Combinators.{each}
+use Rattle.heyvl_parse.specs.internal.Reading.{Got, Read, mapped, ◌>>=◌}
+use Rattle.heyvl_parse.specs.internal.Results.{Fails}
+use Rattle.heyvl_parse.specs.internal.Statements.{braced, branched, entry, is_opening, next_of, skip, stmt, stmts}
 use Rattle.heyvl_parse.specs.declared.stops.PartStop.TheVariants.{Fault, Memory}
 use Rattle.heyvl_parse.specs.declared.stops.PartStop.{PartStop}
 use Rattle.heyvl_syntax.proofs.exported.PlainTreesAre.{plain_statements}
@@ -71,7 +71,7 @@ statements-items-init t c = record { shorter = omega arith; same = λ n h. rw c.
 pub statements-items-preserved : goal.statements-items-preserved
 statements-items-preserved t c = record {
   shorter = omega (arith, c.in_ok-one.ensures.shorter, c.skip-rest.ensures.shorter, c.items.invariant.shorter);
-  same = λ n h. rw (c.in_ok-push.ensures.items, map-append statement, c.skip-rest.ensures.value) (loop_more is_opening (entry (suc n) (braced (stmts n))) (each is_opening (entry (suc n) (braced (stmts n))) (suc n) c.args.tokens.now) c.items.rest.now (skip c.in_ok-one.behind.now) (map statement c.items.found.items) (statement c.in_ok-one.one) (c.items.invariant.same n h) (sym c.items-test.ensures) (entry_got n c.items.rest.now c.in_ok-one.behind.now (statement c.in_ok-one.one) (c.in_ok-one.ensures.value n (omega (arith, c.items.invariant.shorter)))) (rw (← c.skip-rest.ensures.value) (omega (arith, c.in_ok-one.ensures.shorter, c.skip-rest.ensures.shorter))));
+  same = λ n h. rw (c.in_ok-put.ensures, map-append statement, c.skip-rest.ensures.value) (loop_more is_opening (entry (suc n) (braced (stmts n))) (each is_opening (entry (suc n) (braced (stmts n))) (suc n) c.args.tokens.now) c.items.rest.now (skip c.in_ok-one.behind.now) (map statement c.items.found.items) (statement c.in_ok-one.one) (c.items.invariant.same n h) (sym c.items-test.ensures) (entry_got n c.items.rest.now c.in_ok-one.behind.now (statement c.in_ok-one.one) (c.in_ok-one.ensures.value n (omega (arith, c.items.invariant.shorter)))) (rw (← c.skip-rest.ensures.value) (omega (arith, c.in_ok-one.ensures.shorter, c.skip-rest.ensures.shorter))));
 }
 
 pub statements-returns-in_err-one-clause-value : goal.statements-returns-in_err-one-clause-value
@@ -85,7 +85,7 @@ statements-returns-clause-value t c = by_fuel _ _ (λ n h.
 pub branched-arms-init : goal.branched-arms-init
 branched-arms-init t c = record {
   shorter = omega (arith, c.in_ok-first.ensures.shorter);
-  same = λ n h. rw (c.in_ok-push.ensures.items, c.new-found.ensures.items) (chain_first (suc n) (braced (stmts n)) c.args.tokens.now c.in_ok-first.rest.now (guarded c.in_ok-first.first) (omega (arith, c.in_ok-first.ensures.shorter)) (c.in_ok-first.ensures.value n h));
+  same = λ n h. rw (c.in_ok-put.ensures, c.in_ok-found.ensures.items) (chain_first (suc n) (braced (stmts n)) c.args.tokens.now c.in_ok-first.rest.now (guarded c.in_ok-first.first) (omega (arith, c.in_ok-first.ensures.shorter)) (c.in_ok-first.ensures.value n h));
 }
 
 pub branched-arms-preserved : goal.branched-arms-preserved
@@ -93,7 +93,7 @@ branched-arms-preserved t c =
     let less : length c.in_ok-one.behind.now < length c.arms.rest.now = rw c.in-Again.is at c.in_ok-one.ensures.shorter in
     record {
       shorter = omega (arith, c.arms.invariant.shorter);
-      same = λ n h. rw (c.in_ok-push-in-Again.ensures.items, map-append guarded) (chain_more (suc n) (braced (stmts n)) (branched (suc n) (braced (stmts n)) c.args.tokens.now) c.arms.rest.now c.in_ok-one.behind.now (map guarded c.arms.found.items) (guarded c.in-Again.arm) (c.arms.invariant.same n h) (c.in_ok-one.ensures.value n (omega (arith, c.arms.invariant.shorter)) ∙ ap (λ x. Got (next_of x) c.in_ok-one.behind.now) c.in-Again.is) less);
+      same = λ n h. rw (c.in_ok-put-in-Again.ensures, map-append guarded) (chain_more (suc n) (braced (stmts n)) (branched (suc n) (braced (stmts n)) c.args.tokens.now) c.arms.rest.now c.in_ok-one.behind.now (map guarded c.arms.found.items) (guarded c.in-Again.arm) (c.arms.invariant.same n h) (c.in_ok-one.ensures.value n (omega (arith, c.arms.invariant.shorter)) ∙ ap (λ x. Got (next_of x) c.in_ok-one.behind.now) c.in-Again.is) less);
     }
 
 pub branched-returns-in_err-one-clause-value : goal.branched-returns-in_err-one-clause-value

@@ -1,5 +1,5 @@
 use Rattle.heyvl_parse.proofs.statements.skip.Given as goal
-use Rattle.heyvl_parse.specs.Statements.{skip}
+use Rattle.heyvl_parse.specs.internal.Statements.{skip}
 use Rattle.std.proofs.Common.{length, ◌≡◌, ◌≤◌}
 
 abbrev pub invariant-semis : goal.invariant-semis

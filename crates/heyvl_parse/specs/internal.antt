@@ -1,0 +1,10 @@
+pub mod Combinators
+pub mod Counting
+pub mod FileReading
+pub mod Loops
+pub mod Procedures
+pub mod Reading
+pub mod Results
+pub mod Rights
+pub mod Statements
+pub mod FileStops
