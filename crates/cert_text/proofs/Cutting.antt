@@ -9,8 +9,8 @@ use Rattle.std.proofs.lemmas.Str.Parse.{IsNumeralModel, numerals_by_value, tells
 use Rattle.cert_text.specs.declared.goal_names.GoalName.{GoalName}
 use Rattle.heylo_formula.specs.declared.goals.GoalId.{GoalId}
 use Rattle.cert_text.specs.Lines.{multipliers_text}
-use Rattle.cert_text.specs.Reading.{IsMultiplier}
-use Rattle.cert_text.specs.Words.{IsFreeOf, IsEndOrAt}
+use Rattle.cert_text.specs.internal.Reading.{IsMultiplier}
+use Rattle.cert_text.specs.internal.Words.{IsFreeOf, IsEndOrAt}
 
 pub free_from_all : (mark : ℕ) (bs : List ℕ) → All (λ b. b ≢ mark) bs → IsFreeOf mark bs
 free_from_all mark [] all = tt

@@ -6,7 +6,7 @@ use Rattle.farkas_check.specs.declared.trees.Tree as T
 use Rattle.farkas_check.specs.declared.trees.GoalCert.{GoalCert}
 use Rattle.cert_text.specs.declared.goal_names.GoalName.{GoalName}
 use Rattle.cert_text.specs.Certificates.{Certificate, certificate_of, certificates_of}
-use Rattle.cert_text.specs.Reading.{Filled, whole, between, filled_state}
+use Rattle.cert_text.specs.internal.Reading.{Filled, whole, between, filled_state}
 
 pub made_whole : (certs pushed : List GoalCert) (name : GoalName) (t : T.Tree) (f : Filled) → f ≡ whole (tree_of t)
     → pushed ≡ certs ++ (record { proc = name.proc; id = name.id; tree = t }) ∷ []

@@ -7,10 +7,11 @@ use Rattle.farkas_check.specs.Trees.{Tree}
 use Rattle.heylo_formula.specs.declared.goals.GoalId.{GoalId}
 use Rattle.heylo_formula.specs.declared.goals.GoalId.TheVariants as ids
 use Rattle.cert_text.specs.Certificates.{Certificate, HasMultipliers, IsWritable, AreWritable, loop_of}
-use Rattle.cert_text.specs.Lines.{Line, title, goal, split, farkas, plain, last, line_text, id_text, multipliers_text, IsLine}
+use Rattle.cert_text.specs.Lines.{Line, title, goal, split, farkas, plain, last, line_text, id_text, multipliers_text}
+use Rattle.cert_text.specs.internal.WholeLines.{IsLine}
 use Rattle.cert_text.specs.Texts.{tree_lines, goals_lines, certificate_lines, closed, Spells, AreFirstLines, IsFirstFault}
-use Rattle.cert_text.specs.Reading.{State, start, done, next, run, IsRising}
-use Rattle.cert_text.specs.Words.{IsFreeOf}
+use Rattle.cert_text.specs.internal.Reading.{State, start, done, next, run, IsRising}
+use Rattle.cert_text.specs.internal.Words.{IsFreeOf}
 use Rattle.cert_text.proofs.Cutting.{IsFreeOf-append, IsFreeOf-decimal, line_feed_is_no_digit, multiplier_free, cut_once, free_from_all}
 use Rattle.cert_text.proofs.Multipliers.{rising_from_multipliers}
 use Rattle.cert_text.proofs.Walk.{run-append, first_lines, no_first_lines, end_of, whole_list}

@@ -5,9 +5,10 @@ use Rattle.std.specs.List.{AllByRecursion}
 use Rattle.farkas_check.specs.Trees.{Tree}
 use Rattle.cert_text.specs.declared.goal_names.GoalName.{GoalName}
 use Rattle.cert_text.specs.Certificates.{Certificate, may_follow, IsGrowingAfter, IsNumbered, HasMultipliers, depth, IsWritable, AreWritable}
-use Rattle.cert_text.specs.Lines.{Line, title, goal, split, farkas, plain, last, IsLine}
+use Rattle.cert_text.specs.Lines.{Line, title, goal, split, farkas, plain, last}
+use Rattle.cert_text.specs.internal.WholeLines.{IsLine}
 use Rattle.cert_text.specs.Texts.{tree_lines, goals_lines, certificate_lines}
-use Rattle.cert_text.specs.Reading.{Open, Filled, whole, part, fill, State, start, between, inside, done, filled_state, next, advance, run}
+use Rattle.cert_text.specs.internal.Reading.{Open, Filled, whole, part, fill, State, start, between, inside, done, filled_state, next, advance, run}
 
 -- Lines that are run one after another.
 

@@ -3,6 +3,4 @@ pub mod Lines
 pub mod Texts
 pub mod TextLaws
 pub mod Stops
-pub mod Words
-pub mod Reading
-pub mod Ends
+pub mod internal

@@ -3,7 +3,6 @@ use Rattle.std.specs.Prelude.{ℕ, List, [], ◌∷◌, ◌++◌, codes, decimal
 use Rattle.heylo_formula.specs.declared.goals.GoalId.{GoalId}
 use Rattle.heylo_formula.specs.declared.goals.GoalId.TheVariants.{Main, Pre, Post, Invariant, Ranking}
 use Rattle.cert_text.specs.declared.goal_names.GoalName.{GoalName}
-use Rattle.cert_text.specs.Certificates.{IsNumbered, AreMultipliers}
 
 -- The title; a goal, whose tree follows; a node of a tree; the end.
 pub data Line : Type 0 where
@@ -39,12 +38,3 @@ line_text split = codes "s"
 line_text (farkas ms) = 102 ∷ multipliers_text ms
 line_text plain = codes "t"
 line_text last = codes "end"
-
--- The numbers of the line are within their bounds.
-abbrev pub IsLine : Line → Type 0
-IsLine title = Unit {0}
-IsLine (goal n) = IsNumbered n
-IsLine split = Unit {0}
-IsLine (farkas ms) = AreMultipliers ms
-IsLine plain = Unit {0}
-IsLine last = Unit {0}

@@ -5,8 +5,9 @@ ghost use Rattle.std.specs.Option.{option_map};
 ghost use Rattle.heylo_formula.specs.declared.goals.GoalId.{GoalId as GoalIdValue};
 ghost use Rattle.cert_text.specs.declared.goal_names.GoalName.{GoalName as GoalNameValue};
 ghost use Rattle.cert_text.specs.Certificates.{loop_of, IsNumbered, AreMultipliers};
-ghost use Rattle.cert_text.specs.Lines.{Line as LineValue, id_text, line_text, multiplier_text, multipliers_text, IsLine};
-ghost use Rattle.cert_text.specs.Reading.{line_of, IsMultiplier, IsRising, IsBareLine};
+ghost use Rattle.cert_text.specs.Lines.{Line as LineValue, id_text, line_text, multiplier_text, multipliers_text};
+ghost use Rattle.cert_text.specs.internal.WholeLines.{IsLine};
+ghost use Rattle.cert_text.specs.internal.Reading.{line_of, IsMultiplier, IsRising, IsBareLine};
 
 use crate::goal_names::GoalName;
 use crate::numbers::{number, short_number};

@@ -1,18 +1,19 @@
 //! Reading certificates.
 
-ghost use Rattle.std.specs.Prelude.{◌≡◌, ◌<◌, ◌^◌, ⊤, ℕ, List, IfErr, IfOk, MatchResult, length};
+ghost use Rattle.std.specs.Prelude.{◌≡◌, ◌<◌, ◌^◌, ⊤, ℕ, List, IfErr, IfOk, MatchOption, MatchResult, length};
 ghost use Rattle.cert_text.specs.Certificates.{Certificate, certificates_of};
 ghost use Rattle.cert_text.specs.Texts.{IsFirstFault, Spells};
 ghost use Rattle.cert_text.specs.Stops.{IsMemory, IsStop, IsFaultOrMemory};
-ghost use Rattle.cert_text.specs.Reading.{state_of};
-ghost use Rattle.cert_text.specs.Ends.{IsWhole};
+ghost use Rattle.cert_text.specs.internal.Reading.{state_of};
+ghost use Rattle.cert_text.specs.internal.Ends.{IsWhole};
+ghost use Rattle.cert_text.specs.internal.Steps.{IsStep, IsStuck};
 
 use crate::lines::read_line;
-use crate::reading::{Reading, next};
+use crate::reading::{Place, Reading, next, next_plain, next_split, unread};
 use crate::stops::CertStop;
 use crate::words::cut;
 use farkas_check::GoalCert;
-use std::alloc::Global;
+use std::alloc::{AllocError, Global};
 
 /// The list of certificates that has this text: its goals grow strictly, and its trees are at most 1,000 deep. Fails with the
 /// first line that isn't allowed where no list has this text, and otherwise for want of memory alone.
@@ -25,23 +26,64 @@ pub fn read_cert(alloc: Global, bytes: &[u8]) -> Result<Vec<GoalCert>, CertStop>
     ensures only_fault { (line : ℕ) → IsFirstFault bytes.now line
         → MatchResult result (λ _. ⊥) (λ stop. IsFaultOrMemory line stop) }
 {
-    let mut reading = Reading::Start;
+    let mut reading = unread(alloc);
     let mut rest = bytes;
     let mut number: u32 = 1;
     'lines: loop {
-        let (line, behind) = cut(rest, b'\n');
-        let Some((_, behind)) = behind.split_first() else {
-            return whole(reading, line, number);
-        };
-        let Some(line) = read_line(alloc, line)? else {
-            return Err(CertStop::Fault(number));
-        };
-        match next(alloc, reading, line)? {
-            Some(more) => reading = more,
-            None => return Err(CertStop::Fault(number)),
+        match first_line(alloc, &mut reading, rest)? {
+            Some(behind) => rest = behind,
+            None => return whole(reading, rest, number),
         }
-        rest = behind;
         number += 1;
+    }
+}
+
+/// Reads the first line. Gives what stands behind it, or nothing where no line is closed or the first one isn't allowed.
+fn first_line<'a>(
+    alloc: Global,
+    reading: &mut Reading,
+    rest: &'a [u8],
+) -> Result<Option<&'a [u8]>, AllocError>
+    ensures { IfOk result (λ found. MatchOption found (IsStuck (state_of reading.old) (state_of reading.new) rest.now)
+        (λ behind. IsStep (state_of reading.old) (state_of reading.new) rest.now behind.now)) }
+{
+    if let Some(behind) = rest.strip_prefix(b"s\n".as_slice()) {
+        if next_split(reading)? {
+            Ok(Some(behind))
+        } else {
+            Ok(None)
+        }
+    } else if let Some(behind) = rest.strip_prefix(b"t\n".as_slice()) {
+        if next_plain(alloc, reading)? {
+            Ok(Some(behind))
+        } else {
+            Ok(None)
+        }
+    } else {
+        longer_line(alloc, reading, rest)
+    }
+}
+
+/// The same of any line.
+fn longer_line<'a>(
+    alloc: Global,
+    reading: &mut Reading,
+    rest: &'a [u8],
+) -> Result<Option<&'a [u8]>, AllocError>
+    ensures { IfOk result (λ found. MatchOption found (IsStuck (state_of reading.old) (state_of reading.new) rest.now)
+        (λ behind. IsStep (state_of reading.old) (state_of reading.new) rest.now behind.now)) }
+{
+    let (line, behind) = cut(rest, b'\n');
+    let Some((_, behind)) = behind.split_first() else {
+        return Ok(None);
+    };
+    let Some(line) = read_line(alloc, line)? else {
+        return Ok(None);
+    };
+    if next(alloc, reading, line)? {
+        Ok(Some(behind))
+    } else {
+        Ok(None)
     }
 }
 
@@ -49,8 +91,8 @@ pub fn read_cert(alloc: Global, bytes: &[u8]) -> Result<Vec<GoalCert>, CertStop>
 fn whole(reading: Reading, rest: &[u8], number: u32) -> Result<Vec<GoalCert>, CertStop>
     ensures { IsWhole (state_of reading) rest.now number result }
 {
-    match reading {
-        Reading::Done(certs) if rest.is_empty() => Ok(certs),
+    match reading.place {
+        Place::Done if rest.is_empty() => Ok(reading.certs),
         _ => Err(CertStop::Fault(number)),
     }
 }

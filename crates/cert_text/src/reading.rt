@@ -1,141 +1,189 @@
 //! What has been read of a text of certificates.
 
 ghost use Rattle.std.specs.Prelude.{◌≡◌, IfOk};
-ghost use Rattle.std.specs.Option.{option_map};
-ghost use Rattle.farkas_check.specs.Trees.{tree_of, Tree as TreeValue};
-ghost use Rattle.farkas_check.specs.Trees.Tree.{split as split_tree};
+ghost use Rattle.farkas_check.specs.Trees.{tree_of};
 ghost use Rattle.cert_text.specs.Certificates.{certificates_of};
-ghost use Rattle.cert_text.specs.Reading.{fill, filled_of, filled_state, line_of, next, open_of, start, between, inside, state_of};
+ghost use Rattle.cert_text.specs.Lines.{farkas as farkas_line, goal as goal_line, last as last_line, plain as plain_line, split as split_line, title as title_line};
+ghost use Rattle.cert_text.specs.internal.Reading.{after, fill, filled_of, filled_state, line_of, next, open_of, start, state_of};
 
 use crate::goal_names::{GoalName, may_follow};
 use crate::lines::Line;
 use farkas_check::{GoalCert, Tree};
 use std::alloc::{AllocError, Global};
 
-/// The certificates read so far, and what may come next.
-#[derive(Drop)]
-pub enum Reading {
-    /// Nothing was read; the title.
+/// What may come next.
+#[derive(Clone, Copy)]
+pub enum Place {
+    /// The title.
     Start,
     /// A goal behind the latest one, or the end.
-    Between(Vec<GoalCert>, Option<GoalName>),
-    /// A part of the goal's tree. The questions on the way to its place, from the root, each with its first tree where the
-    /// place stands in its second.
-    Inside(Vec<GoalCert>, GoalName, Vec<Option<Tree>>),
+    Between(Option<GoalName>),
+    /// A part of this goal's tree.
+    Inside(GoalName),
     /// Nothing.
-    Done(Vec<GoalCert>),
+    Done,
 }
 
-/// The tree of a question with these two parts.
-fn joined(alloc: Global, first: Tree, second: Tree) -> Result<Tree, AllocError>
-    ensures { IfOk result (λ tree. tree_of tree ≡ split_tree (tree_of first) (tree_of second)) }
+/// The certificates read so far, and what may come next.
+#[derive(Drop)]
+pub struct Reading {
+    pub place: Place,
+    pub certs: Vec<GoalCert>,
+    /// Inside a tree, the questions on the way to the open place, from the root, each with its first tree where the place
+    /// stands in its second.
+    pub questions: Vec<Option<Box<Tree>>>,
+}
+
+/// A reading of which nothing was read.
+pub fn unread(alloc: Global) -> Reading
+    ensures { state_of result ≡ start }
 {
-    Ok(Tree::Split(Box::new(alloc, first)?, Box::new(alloc, second)?))
+    Reading {
+        place: Place::Start,
+        certs: Vec::new(alloc),
+        questions: Vec::new(alloc),
+    }
 }
 
 /// Puts the tree at the open place. Gives the whole tree where no other place is open then.
 fn fill(
     alloc: Global,
-    questions: &mut Vec<Option<Tree>>,
+    questions: &mut Vec<Option<Box<Tree>>>,
     tree: Tree,
 ) -> Result<Option<Tree>, AllocError>
     ensures { IfOk result (λ whole. fill (open_of questions.old.items) (tree_of tree) ≡ filled_of whole questions.new.items) }
 {
     let mut part = tree;
     while let Some(question) = questions.pop() {
+        let boxed = Box::new(alloc, part)?;
         match question {
             None => {
-                questions.push(Some(part))?;
+                questions.push(Some(boxed))?;
                 return Ok(None);
             }
-            Some(first) => part = joined(alloc, first, part)?,
+            Some(first) => part = Tree::Split(first, boxed),
         }
     }
     Ok(Some(part))
 }
 
-/// The reading with a leaf at the open place.
-fn with_leaf(
+/// Puts a leaf at the open place of the goal's tree.
+fn put_leaf(
     alloc: Global,
-    mut certs: Vec<GoalCert>,
+    reading: &mut Reading,
     name: GoalName,
-    mut questions: Vec<Option<Tree>>,
     leaf: Tree,
-) -> Result<Reading, AllocError>
-    ensures { IfOk result (λ r. state_of r ≡ filled_state (certificates_of certs.items) name (fill (open_of questions.items) (tree_of leaf))) }
+) -> Result<(), AllocError>
+    ensures { IfOk result (λ _. state_of reading.new ≡ filled_state (certificates_of reading.old.certs.items) name (fill (open_of reading.old.questions.items) (tree_of leaf))) }
 {
-    match fill(alloc, &mut questions, leaf)? {
-        None => Ok(Reading::Inside(certs, name, questions)),
+    match fill(alloc, &mut reading.questions, leaf)? {
+        None => reading.place = Place::Inside(name),
         Some(tree) => {
-            certs.push(GoalCert {
+            reading.certs.push(GoalCert {
                 proc: name.proc,
                 id: name.id,
                 tree,
             })?;
-            Ok(Reading::Between(certs, Some(name)))
+            reading.place = Place::Between(Some(name));
         }
     }
+    Ok(())
 }
 
-/// The reading with the title, or none where the line is another one.
-fn after_start(alloc: Global, line: &Line) -> Option<Reading>
-    ensures { option_map state_of result ≡ next start (line_of line.now) }
+/// Goes on by a question, where one is allowed.
+pub fn next_split(reading: &mut Reading) -> Result<bool, AllocError>
+    ensures { IfOk result (λ allowed. after allowed (state_of reading.new) ≡ next (state_of reading.old) split_line) }
 {
-    match line {
-        Line::Title => Some(Reading::Between(Vec::new(alloc), None)),
-        _ => None,
+    match reading.place {
+        Place::Inside(_) if reading.questions.len() < 999 => {
+            reading.questions.push(None)?;
+            Ok(true)
+        }
+        _ => Ok(false),
     }
 }
 
-/// The reading with a goal or the end, or none where the line is another one or the goal doesn't grow.
-fn after_goal(
+/// Goes on by a leaf that holds plainly, where one is allowed.
+pub fn next_plain(alloc: Global, reading: &mut Reading) -> Result<bool, AllocError>
+    ensures { IfOk result (λ allowed. after allowed (state_of reading.new) ≡ next (state_of reading.old) plain_line) }
+{
+    match reading.place {
+        Place::Inside(name) => {
+            put_leaf(alloc, reading, name, Tree::Plain)?;
+            Ok(true)
+        }
+        _ => Ok(false),
+    }
+}
+
+/// Goes on by a leaf with multipliers, where one is allowed.
+fn next_farkas(
     alloc: Global,
-    certs: Vec<GoalCert>,
-    latest: Option<GoalName>,
-    line: &Line,
-) -> Option<Reading>
-    ensures { option_map state_of result ≡ next (between (certificates_of certs.items) latest) (line_of line.now) }
+    reading: &mut Reading,
+    multipliers: Vec<(u32, u64)>,
+) -> Result<bool, AllocError>
+    ensures { IfOk result (λ allowed. after allowed (state_of reading.new) ≡ next (state_of reading.old) (farkas_line multipliers.items)) }
 {
-    match line {
-        Line::Goal(name) if may_follow(latest, *name) => {
-            Some(Reading::Inside(certs, *name, Vec::new(alloc)))
+    match reading.place {
+        Place::Inside(name) => {
+            put_leaf(alloc, reading, name, Tree::Farkas(multipliers))?;
+            Ok(true)
         }
-        Line::Last => Some(Reading::Done(certs)),
-        _ => None,
+        _ => Ok(false),
     }
 }
 
-/// The reading with a node of a tree, or none where the line is another one or a part of it would be too deep.
-fn in_tree(
-    alloc: Global,
-    certs: Vec<GoalCert>,
-    name: GoalName,
-    mut questions: Vec<Option<Tree>>,
-    line: Line,
-) -> Result<Option<Reading>, AllocError>
-    ensures { IfOk result (λ found. option_map state_of found ≡ next (inside (certificates_of certs.items) name (open_of questions.items)) (line_of line)) }
+/// Goes on by the title, where it is allowed.
+fn next_title(alloc: Global, reading: &mut Reading) -> bool
+    ensures { after result (state_of reading.new) ≡ next (state_of reading.old) title_line }
 {
-    match line {
-        Line::Split if questions.len() < 999 => {
-            questions.push(None)?;
-            Ok(Some(Reading::Inside(certs, name, questions)))
+    match reading.place {
+        Place::Start => {
+            reading.certs = Vec::new(alloc);
+            reading.place = Place::Between(None);
+            true
         }
-        Line::Farkas(multipliers) => {
-            Ok(Some(with_leaf(alloc, certs, name, questions, Tree::Farkas(multipliers))?))
-        }
-        Line::Plain => Ok(Some(with_leaf(alloc, certs, name, questions, Tree::Plain)?)),
-        _ => Ok(None),
+        _ => false,
     }
 }
 
-/// The reading with the line, or none where the line isn't allowed.
-pub fn next(alloc: Global, reading: Reading, line: Line) -> Result<Option<Reading>, AllocError>
-    ensures { IfOk result (λ found. option_map state_of found ≡ next (state_of reading) (line_of line)) }
+/// Goes on by a goal, where it is allowed and grows.
+fn next_goal(reading: &mut Reading, name: GoalName) -> bool
+    ensures { after result (state_of reading.new) ≡ next (state_of reading.old) (goal_line name) }
 {
-    match reading {
-        Reading::Start => Ok(after_start(alloc, &line)),
-        Reading::Between(certs, latest) => Ok(after_goal(alloc, certs, latest, &line)),
-        Reading::Inside(certs, name, questions) => in_tree(alloc, certs, name, questions, line),
-        Reading::Done(_) => Ok(None),
+    match reading.place {
+        Place::Between(latest) if may_follow(latest, name) => {
+            reading.questions.clear();
+            reading.place = Place::Inside(name);
+            true
+        }
+        _ => false,
+    }
+}
+
+/// Goes on by the end, where it is allowed.
+fn next_last(reading: &mut Reading) -> bool
+    ensures { after result (state_of reading.new) ≡ next (state_of reading.old) last_line }
+{
+    match reading.place {
+        Place::Between(_) => {
+            reading.place = Place::Done;
+            true
+        }
+        _ => false,
+    }
+}
+
+/// Goes on by the line, where it is allowed.
+pub fn next(alloc: Global, reading: &mut Reading, line: Line) -> Result<bool, AllocError>
+    ensures { IfOk result (λ allowed. after allowed (state_of reading.new) ≡ next (state_of reading.old) (line_of line)) }
+{
+    match line {
+        Line::Title => Ok(next_title(alloc, reading)),
+        Line::Goal(name) => Ok(next_goal(reading, name)),
+        Line::Split => next_split(reading),
+        Line::Farkas(multipliers) => next_farkas(alloc, reading, multipliers),
+        Line::Plain => next_plain(alloc, reading),
+        Line::Last => Ok(next_last(reading)),
     }
 }

@@ -1,7 +1,7 @@
 //! Parts of a text up to a mark.
 
 ghost use Rattle.std.specs.Prelude.{◌≡◌, ◌++◌, ◌≢◌, All};
-ghost use Rattle.cert_text.specs.Words.{IsEndOrAt};
+ghost use Rattle.cert_text.specs.internal.Words.{IsEndOrAt};
 
 /// The bytes before the first mark, or all where there is none, and those from it on.
 pub fn cut(bytes: &[u8], mark: u8) -> (&[u8], &[u8])

@@ -1,6 +1,6 @@
 use Rattle.std.proofs.Common.{vec_len, ◌≡◌}
 use Rattle.farkas_check.specs.Trees.{tree_of}
-use Rattle.cert_text.specs.Reading.{fill, open_of}
+use Rattle.cert_text.specs.internal.Reading.{fill, open_of}
 use Rattle.cert_text.proofs.reading.fill.Given as goal
 
 abbrev pub decreases-loop-question : goal.decreases-loop-question

@@ -1,0 +1,14 @@
+-- What is answered at the end of a text: a tool of the reader's proof, which no public clause cites.
+use Rattle.std.specs.Prelude.{◌≡◌, ℕ, List, [], Result, Ok, Err, Vec}
+use Rattle.std.specs.Global.{Global}
+use Rattle.farkas_check.specs.declared.trees.GoalCert.{GoalCert}
+use Rattle.cert_text.specs.declared.stops.CertStop.{CertStop}
+use Rattle.cert_text.specs.declared.stops.CertStop.TheVariants.{Fault, Memory}
+use Rattle.cert_text.specs.Certificates.{Certificate, certificates_of}
+use Rattle.cert_text.specs.internal.Reading.{State, done}
+
+-- The certificates of an end with nothing left, or the fault of this line, where it is no such end.
+abbrev pub IsWhole : State → List ℕ → ℕ → Result (Vec GoalCert Global) CertStop → Type 0
+IsWhole s rest number (Ok certs) = (s ≡ done (certificates_of certs.items)) × (rest ≡ [])
+IsWhole s rest number (Err (Fault line)) = (line ≡ number) × ((cs : List Certificate) → s ≡ done cs → rest ≡ [] → ⊥)
+IsWhole s rest number (Err (Memory error)) = ⊥
