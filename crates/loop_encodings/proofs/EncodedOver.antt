@@ -26,16 +26,21 @@ use Rattle.loop_encodings.proofs.EncodedTypes.{Bounded, after_bounded, interface
 use Rattle.loop_encodings.proofs.FromRules.{IsFine, all_fine, each_first, each_procedure, each_second}
 use Rattle.loop_encodings.proofs.PlainOccurrences.{occurs_free, occurs_free_in}
 
+-- Each number in the terms is below n.
+abbrev pub TermsAreOver : ℕ → List Term → Type 0
+TermsAreOver n [] = Unit {0}
+TermsAreOver n (e ∷ es) = TermIsOver n e × TermsAreOver n es
+
 -- ---- What sees the first variables alone
 
 module _ (n : ℕ) (v : Visible) (b : Bounded n v) where
-  sees_over : (f : Form) → Sees v f → IsOver n f
+  pub sees_over : (f : Form) → Sees v f → IsOver n f
   sees_over f o y e = b y (o y e)
 
-  sees_over_in : (g : Cond) → SeesCond v g → IsOverIn n g
+  pub sees_over_in : (g : Cond) → SeesCond v g → IsOverIn n g
   sees_over_in g o y e = b y (o y e)
 
-  term_over : (types : Types) (ty : Ty) (t : Term) → TermFits types ty t → SeesTerm v t → TermIsOver n t
+  pub term_over : (types : Types) (ty : Ty) (t : Term) → TermFits types ty t → SeesTerm v t → TermIsOver n t
   term_over types ty (Term.truth g) f o y e = b y (o y (sym (occurs_free_in y g (term_plain types ty (Term.truth g) f)) ∙ e))
   term_over types ty (Term.number a) f o y e = b y (o y (sym (occurs_free y a (term_plain types ty (Term.number a) f).0) ∙ e))
 
@@ -43,24 +48,28 @@ module _ (n : ℕ) (v : Visible) (b : Bounded n v) where
   parts_over types x [] f o = tt
   parts_over types x (q ∷ qs) f o = (term_over types (types x) q.1 f.0.1 o.0, parts_over types x qs f.1 o.1)
 
-  draw_over : (types : Types) (x : ℕ) (qs : List (Rational × Term)) → DrawFits types x qs → SeesParts v qs → PartsAreOver n qs
+  pub draw_over : (types : Types) (x : ℕ) (qs : List (Rational × Term)) → DrawFits types x qs → SeesParts v qs → PartsAreOver n qs
   draw_over types x [] f o = absurd f
   draw_over types x (q ∷ qs) f o = parts_over types x (q ∷ qs) f o
 
-  sets_over : (p : TypedProcedure) (span : Span) (m : ℕ) (ts : List Ty) (es : List Term) (r : Acts) → ArgumentsFit p ts es → SeesTerms v es → ActsAreOver n r → ActsAreOver n (sets span m es r)
-  sets_over p span m ts [] r f o h = h
-  sets_over p span m [] (e ∷ es) r f o h = absurd f
-  sets_over p span m (t ∷ ts) (e ∷ es) r f o h = (term_over (types_of p) t e f.0 o.0, sets_over p span (suc m) ts es r f.1 o.1 h)
+  pub terms_over : (p : TypedProcedure) (ts : List Ty) (es : List Term) → ArgumentsFit p ts es → SeesTerms v es → TermsAreOver n es
+  terms_over p ts [] f o = tt
+  terms_over p [] (e ∷ es) f o = absurd f
+  terms_over p (t ∷ ts) (e ∷ es) f o = (term_over (types_of p) t e f.0 o.0, terms_over p ts es f.1 o.1)
 
 -- ---- The parts of an encoding
 
 module _ (n : ℕ) where
-  more_over : (i : ℕ) (f : Form) → i ≤ n → IsOver i f → IsOver n f
+  pub more_over : (i : ℕ) (f : Form) → i ≤ n → IsOver i f → IsOver n f
   more_over i f l o y e = let q : y < i = o y e in omega (arith, q, l)
 
   join_over : (a b : Acts) → ActsAreOver n a → ActsAreOver n b → ActsAreOver n (join a b)
   join_over Acts.done b h k = k
   join_over (Acts.next a rest) b h k = (h.0, join_over rest b h.1 k)
+
+  sets_over : (span : Span) (m : ℕ) (es : List Term) (r : Acts) → TermsAreOver n es → ActsAreOver n r → ActsAreOver n (sets span m es r)
+  sets_over span m [] r t h = h
+  sets_over span m (e ∷ es) r t h = (t.0, sets_over span (suc m) es r t.1 h)
 
   any_over : (up : Bool) (span : Span) (m : ℕ) (ts : List Ty) (r : Acts) → ActsAreOver n r → ActsAreOver n (any_block up span m ts r)
   any_over up span m [] r h = h
@@ -104,7 +113,7 @@ module _ (ps : List TypedProcedure) (rules : (q : ℕ) → q < length ps → Mee
       let r = rules q f.0.1.there in
       let e = length-append (procedure_at ps q).inputs (procedure_at ps q).outputs in
       let g = length-map (procedure_at ps q).outputs (λ (x : Variable). x.ty) in
-      sets_over n v (wider v b) p span m (type_list (procedure_at ps q).inputs) es _ f.0.1.arguments o (
+      sets_over n span m es _ (terms_over n v (wider v b) p (type_list (procedure_at ps q).inputs) es f.0.1.arguments o) (
         more_over n (m + length (procedure_at ps q).inputs) (shifted m (procedure_at ps q).pre) (omega (arith, l, e)) (shifted_over m (length (procedure_at ps q).inputs) (procedure_at ps q).pre r.pre_over),
         any_over n p.co span _ (type_list (procedure_at ps q).outputs) _ (
           tt,

@@ -20,6 +20,12 @@ pub mod EncodedMeaning
 pub mod EncodedBounds
 pub mod PlainOccurrences
 pub mod EncodedOver
+pub mod SubstitutedVariables
+pub mod PrenexedVariables
+pub mod FreeVariables
+pub mod GeneratedOverOwn
+pub mod FreshVariables
+mod FreshExamples
 pub mod EncodedBinders
 pub mod ModifiedVariables
 pub mod RuledPrograms

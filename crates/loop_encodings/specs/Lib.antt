@@ -1,6 +1,7 @@
 pub mod Fresh
 pub mod Encoding
 pub mod EncodingLaws
+pub mod FreshLaws
 pub mod BoundGoals
 pub mod Law
 pub mod internal
