@@ -1,16 +1,14 @@
 -- The loop that a number names, in lists of acts in a row.
-use Rattle.std.proofs.Common.{◌≡◌, ℕ, Bool, true, false, cond, ◌<◌, ◌+◌, ◌==◌, refl, ap, sym, ◌∙◌, List, [], ◌∷◌, ◌++◌, append_assoc, length, drop, get_or}
-use Rattle.std.proofs.lemmas.List.{at_drop_more}
+use Rattle.std.proofs.Common.{◌≡◌, ℕ, Bool, true, false, cond, ◌<◌, ◌+◌, ◌==◌, refl, ap, sym, ◌∙◌, List, [], ◌∷◌, ◌++◌, length, get_or}
 use Rattle.std.specs.Prelude.{Option, Some, None, Vec}
 use Rattle.std.specs.declared.alloc.Global.{Global}
-use Rattle.heyvl_syntax.specs.declared.spans.Span.{Span}
 use Rattle.heylo_formula.specs.declared.forms.Cond as C
-use Rattle.heyvl_types.proofs.exported.PlainActsAre.{if_act, pick_act}
 use Rattle.heyvl_types.specs.Acts.{Head, Act, Acts}
-use Rattle.heyvl_types.specs.Places.{in_order, inside, inside_arms}
-use Rattle.heyvl_types.specs.PlainActs.{act_of, acts_of, arms_of}
+use Rattle.heyvl_types.specs.Places.{in_order, inside}
+use Rattle.heyvl_types.specs.PlainActs.{act_of, acts_of}
 use Rattle.heyvl_types.specs.declared.acts.Act as A
 use Rattle.ranking_rule.specs.Rankings.{loop_in}
+use Rattle.ranking_rule.proofs.ActsInOrder.{acts_from, arms_from, next_act, next_arm}
 
 abbrev Found : Type 0
 Found = Option (Head × Acts)
@@ -44,19 +42,6 @@ found_first n xs ys l h = sym (both n xs ys ∙ ap (λ o. or_else o (loop_in n y
 pub past_first : (n : ℕ) (xs ys : List Act) → None ≡ loop_in n xs → loop_in n (xs ++ ys) ≡ loop_in n ys
 past_first n xs ys h = both n xs ys ∙ ap (λ o. or_else o (loop_in n ys)) (sym h)
 
--- The rest of a loop over acts, and over arms.
-abbrev pub acts_from : List A.Act → ℕ → List Act
-acts_from acts k = in_order (acts_of (drop k acts))
-
-abbrev pub arms_from : List (C.Cond × Vec A.Act Global) → ℕ → List Act → List Act
-arms_from arms k e = inside_arms (arms_of (drop k arms)) ++ e
-
-next_act : (acts : List A.Act) (k : ℕ) (x : A.Act) → k < length acts → x ≡ get_or acts k x → acts_from acts k ≡ (act_of x ∷ inside (act_of x)) ++ acts_from acts (k + 1)
-next_act acts k x lt is = at_drop_more (λ l. in_order (acts_of l)) acts k x lt ∙ ap (λ y. (act_of y ∷ inside (act_of y)) ++ acts_from acts (k + 1)) (sym is)
-
-next_arm : (arms : List (C.Cond × Vec A.Act Global)) (k : ℕ) (e : List Act) (x : C.Cond × Vec A.Act Global) → k < length arms → x ≡ get_or arms k x → arms_from arms k e ≡ in_order (acts_of x.1.items) ++ arms_from arms (k + 1) e
-next_arm arms k e x lt is = at_drop_more (λ l. inside_arms (arms_of l) ++ e) arms k x lt ∙ (ap (λ y. (in_order (acts_of y.1.items) ++ inside_arms (arms_of (drop (k + 1) arms))) ++ e) (sym is) ∙ append_assoc (in_order (acts_of x.1.items)) (inside_arms (arms_of (drop (k + 1) arms))) e)
-
 pub act_found : (n : ℕ) (acts : List A.Act) (k : ℕ) (x : A.Act) (l : Head × Acts) → k < length acts → x ≡ get_or acts k x → Some l ≡ loop_in n (act_of x ∷ inside (act_of x)) → Some l ≡ loop_in n (acts_from acts k)
 act_found n acts k x l lt is h = found_first n (act_of x ∷ inside (act_of x)) (acts_from acts (k + 1)) l h ∙ ap (λ l. loop_in n l) (sym (next_act acts k x lt is))
 
@@ -68,10 +53,3 @@ arm_found n arms k e x l lt is h = found_first n (in_order (acts_of x.1.items)) 
 
 pub arm_past : (n : ℕ) (arms : List (C.Cond × Vec A.Act Global)) (k : ℕ) (e : List Act) (x : C.Cond × Vec A.Act Global) → k < length arms → x ≡ get_or arms k x → None ≡ loop_in n (in_order (acts_of x.1.items)) → loop_in n (arms_from arms (k + 1) e) ≡ loop_in n (arms_from arms k e)
 arm_past n arms k e x lt is h = sym (ap (λ l. loop_in n l) (next_arm arms k e x lt is) ∙ past_first n (in_order (acts_of x.1.items)) (arms_from arms (k + 1) e) h)
-
--- An act and those inside it, as parts.
-pub if_start : (n : ℕ) (a : A.Act) (arms : Vec (C.Cond × Vec A.Act Global) Global) (e : Vec A.Act Global) (span : Span) → a ≡ A.If arms e span → loop_in n (arms_from arms.items 0 (in_order (acts_of e.items))) ≡ loop_in n (act_of a ∷ inside (act_of a))
-if_start n a arms e span is = sym (ap (λ x. loop_in n (act_of x ∷ inside (act_of x))) is ∙ ap (λ x. loop_in n (x ∷ inside x)) (if_act arms e span))
-
-pub pick_start : (n : ℕ) (a : A.Act) (up : Bool) (b d : Vec A.Act Global) (span : Span) → a ≡ A.Pick up b d span → loop_in n (in_order (acts_of b.items) ++ in_order (acts_of d.items)) ≡ loop_in n (act_of a ∷ inside (act_of a))
-pick_start n a up b d span is = sym (ap (λ x. loop_in n (act_of x ∷ inside (act_of x))) is ∙ ap (λ x. loop_in n (x ∷ inside x)) (pick_act up b d span))

@@ -26,13 +26,16 @@ use Rattle.vp_generator.specs.Over.{GeneratedFormIsOver}
 use Rattle.vp_generator.specs.Prenexed.{new_types}
 use Rattle.vp_generator.specs.PrenexedGoals.{HoldsByChoices, PrenexedGoalsSpeakOfChoices, PrenexedGoalsAreGoals}
 use Rattle.ranking_rule.specs.Laws.{RankingGoalsHold, RankingGoalsAreGoals, RankingGoalsAreFew}
-use Rattle.ranking_rule.specs.RankingGoals.{all_names, found, generated, names}
+use Rattle.ranking_rule.specs.MadeGoals.{all_names}
+use Rattle.ranking_rule.specs.RankingGoals.{found, generated}
 use Rattle.ranking_rule.specs.Rankings.{RankedLoop, IsRanking, after_turn}
 use Rattle.ranking_rule.specs.Upward.{upward}
 use Rattle.ranking_rule.proofs.FoundForms.{found_binders}
+use Rattle.ranking_rule.proofs.MadeGoals.{all_names_length, new_types_length}
 use Rattle.ranking_rule.proofs.MadeRankings.{guard_plain}
 use Rattle.ranking_rule.proofs.PrenexedSizes.{nodes_unbound}
-use Rattle.ranking_rule.proofs.RankedBodies.{body_acts, loop_fits, of_loop, rank_fits, upward_fit}
+use Rattle.ranking_rule.proofs.RankedActs.{of_head}
+use Rattle.ranking_rule.proofs.RankedBodies.{body_acts, loop_fits, rank_fits, upward_fit}
 use Rattle.ranking_rule.proofs.UpwardMeaning.{behind}
 use Rattle.ranking_rule.proofs.ReadVariables.{body_over, guard_over, ranking_over}
 
@@ -81,34 +84,22 @@ module _ (ps : List TypedProcedure) (p : TypedProcedure) (n : ℕ) (l : RankedLo
   found_formula : GeneratedFormIsFormula → IsFormula (types_in (type_list (variables p))) (found l.head l.body l.rank)
   found_formula law = guarded (is_well_typed (types_of p) l.head.guard) (joined (joined (constant_type (finite l.rank.0)) (type_of (types_of p) (generated l.body l.rank))) (constant_type zeroᵛ)) (loop_fits ps p n l rules).guard (joins (joined (constant_type (finite l.rank.0)) (type_of (types_of p) (generated l.body l.rank))) (constant_type zeroᵛ) (joins (constant_type (finite l.rank.0)) (type_of (types_of p) (generated l.body l.rank)) (constant_unsigned l.rank.0 (<ʳ-≤ʳ zeroʳ l.rank.0 (rank_fits ps p n l rules).0)) (law (types_of p) (upward l.body) l.rank.1 (upward_fit ps p l.body (body_acts ps p n l rules)) (rank_fits ps p n l rules).1.0)) zero_unsigned)
 
-  names_length : length (all_names (variables p) (found l.head l.body l.rank)) ≡ length (type_list (variables p)) + length (binders (found l.head l.body l.rank))
-  names_length =
-      let a = length-append (names (variables p)) (map (λ (b : Binder). get_or (names (variables p)) b.0 []) (binders (found l.head l.body l.rank))) in
-      let b = length-map (variables p) (λ (v : Variable). v.name) in
-      let d = length-map (binders (found l.head l.body l.rank)) (λ (b : Binder). get_or (names (variables p)) b.0 []) in
-      let e = as_many in
-      omega (arith, a, b, d, e)
-
 pub goals_hold : GeneratedFormMeansActs → GeneratedFormIsOver → PrenexedGoalsSpeakOfChoices → RankingGoalsHold
 goals_hold means over speak ps p n l rules =
     let k = speak true (type_list (variables p)) (all_names (variables p) (found l.head l.body l.rank)) l.rank.1 (found l.head l.body l.rank) (stated_over ps p n l rules) (found_over ps p n l rules over) in
     ((λ h. k.0 (by_choices ps p n l rules means h)), (λ h. from_choices ps p n l rules means (k.1 h)))
 
 pub goals_are_goals : GeneratedFormIsFormula → GeneratedFormIsOver → PrenexedGoalsAreGoals → RankingGoalsAreGoals
-goals_are_goals formula over are ps p n l rules = are true (type_list (variables p)) (all_names (variables p) (found l.head l.body l.rank)) l.rank.1 (found l.head l.body l.rank) (rank_fits ps p n l rules).1.0 (found_formula ps p n l rules formula) (stated_over ps p n l rules) (found_over ps p n l rules over) (rank_fits ps p n l rules).1.1 (names_length ps p n l rules)
+goals_are_goals formula over are ps p n l rules = are true (type_list (variables p)) (all_names (variables p) (found l.head l.body l.rank)) l.rank.1 (found l.head l.body l.rank) (rank_fits ps p n l rules).1.0 (found_formula ps p n l rules formula) (stated_over ps p n l rules) (found_over ps p n l rules over) (rank_fits ps p n l rules).1.1 (all_names_length (variables p) (found l.head l.body l.rank))
 
 -- ---- Sizes
-
-types_length : (bs : List Binder) → length (new_types bs) ≡ length bs
-types_length [] = refl
-types_length (b ∷ bs) = let h = types_length bs in omega (arith, h)
 
 rank_within : (most : ℕ) (o : Option (Rational × Form)) (r : Rational × Form) → o ≡ Some r → RankWithin most o → nodes r.1 ≤ most
 rank_within most o r e h = subst (RankWithin most) e h
 
 pub goals_are_few : RankingGoalsAreFew
 goals_are_few ps p n l rules within small =
-    let w = of_loop (ActWithin (2 ^ 27)) n l.head l.body (in_order (acts_in p.body)) l.named within.acts in
+    let w = of_head (ActWithin (2 ^ 27)) p n l within.acts in
     let g = w.1.0 in
     let r = rank_within (2 ^ 27) l.head.rank l.rank l.ranked w.1.1 in
     let v = small.few in
@@ -116,7 +107,7 @@ goals_are_few ps p n l rules within small =
     let m = nodes_unbound (λ x. x) (length (type_list (variables p))) (found l.head l.body l.rank) in
     let b = ap (λ (bs : List Binder). length bs) (found_binders l.head l.body l.rank (guard_plain ps p n l rules)) in
     let t = length-append (type_list (variables p)) (new_types (binders (found l.head l.body l.rank))) in
-    let d = types_length (binders (found l.head l.body l.rank)) in
+    let d = new_types_length (binders (found l.head l.body l.rank)) in
     let e = as_many ps p n l rules in
     let q = rules.few_variables in
     record {

@@ -27,16 +27,17 @@ use Rattle.heyvl_types.specs.declared.typed.Typed.{Typed}
 use Rattle.heyvl_types.specs.declared.typed.VarInfo.{VarInfo}
 use Rattle.vp_generator.specs.Fit.{AreFit}
 use Rattle.vp_generator.specs.Generated.{vp}
-use Rattle.vp_generator.specs.PrenexedGoals.{IsMade, names_of_variables, prenexed_goal, types_of_variables}
-use Rattle.vp_generator.specs.Scopes.{AreNamed, AnysAreBelow, AnysAreBelow_in, GeneratedFormIsNamed, named}
-use Rattle.ranking_rule.specs.RankingGoals.{IsMadeOf, all_names, found, generated, goal, names}
+use Rattle.vp_generator.specs.PrenexedGoals.{IsMade, prenexed_goal}
+use Rattle.vp_generator.specs.Scopes.{AreNamed, AnysAreBelow, AnysAreBelow_in, GeneratedFormIsNamed}
+use Rattle.ranking_rule.specs.MadeGoals.{IsMadeWithin, all_names, goal_over, names}
+use Rattle.ranking_rule.specs.RankingGoals.{IsMadeOf, found, generated, goal}
 use Rattle.ranking_rule.specs.Rankings.{RankedLoop, loop_in}
 use Rattle.ranking_rule.specs.Upward.{upward, upward_next, upward_arms}
 use Rattle.ranking_rule.specs.internal.Lent.{loop_of}
 use Rattle.ranking_rule.specs.internal.Tested.{IsTested, with_test}
 use Rattle.ranking_rule.proofs.Each.{each_first, each_second}
 use Rattle.ranking_rule.proofs.FoundForms.{found_binders, goal_found}
-use Rattle.ranking_rule.proofs.Names.{all_are_named, same_names, same_types}
+use Rattle.ranking_rule.proofs.MadeGoals.{is_made_within}
 use Rattle.ranking_rule.proofs.OwnVariables.{own_variables}
 use Rattle.ranking_rule.proofs.RankedBodies.{IsTurnAct, body_acts, loop_fits, rank_fits, upward_fit}
 
@@ -81,27 +82,21 @@ module _ (ps : List TypedProcedure) (p : TypedProcedure) (n : ℕ) (l : RankedLo
 
 -- ---- What is made
 
-made_goal : (p : TypedProcedure) (h : Head) (b : Acts) (r : Rational × Form) (vs : List VarInfo) → has_binder_in h.guard ≡ false → map variable_of vs ≡ variables p → AreNamed (length vs) (binders (generated b r)) → with_test h.guard r.0 (prenexed_goal true (types_of_variables vs) (names_of_variables (named vs (binders (generated b r)))) r.1 (generated b r)) ≡ goal p h b r
-made_goal p h b r vs g e n =
-    goal_found h b r g (types_of_variables vs) (names_of_variables (named vs (binders (generated b r))))
-    ∙ (ap (λ t. prenexed_goal true t (names_of_variables (named vs (binders (generated b r)))) r.1 (found h b r)) types
-    ∙ ap (λ l. prenexed_goal true (type_list (variables p)) l r.1 (found h b r)) all)
-  where
-    types : types_of_variables vs ≡ type_list (variables p)
-    types = sym (same_types vs) ∙ ap type_list e
+-- The goal over the generated form, with the guard, is the ranking's.
+made_goal : (p : TypedProcedure) (h : Head) (b : Acts) (r : Rational × Form) → has_binder_in h.guard ≡ false → with_test h.guard r.0 (goal_over true (variables p) r.1 (generated b r)) ≡ goal p h b r
+made_goal p h b r g =
+    goal_found h b r g (type_list (variables p)) (all_names (variables p) (generated b r))
+    ∙ ap (λ (bs : List Binder). prenexed_goal true (type_list (variables p)) (names (variables p) ++ map (λ (b : Binder). get_or (names (variables p)) b.0 []) bs) r.1 (found h b r)) (sym (found_binders h b r g))
 
-    own : names_of_variables vs ≡ names (variables p)
-    own = sym (same_names vs) ∙ ap names e
+tested_made : (p : TypedProcedure) (h : Head) (b : Acts) (r : Rational × Form) (before after : Made) → has_binder_in h.guard ≡ false → IsMadeWithin (generated b r) (goal_over true (variables p) r.1 (generated b r)) before → IsTested h.guard r.0 before after → IsMadeOf p h b r after
+tested_made p h b r (made.Goal x) (made.Goal y) g m t = (t ∙ (ap (λ (z : Goal). with_test h.guard r.0 z) m.0 ∙ made_goal p h b r g), m.1)
+tested_made p h b r (made.Goal x) made.Depth g m t = absurd t
+tested_made p h b r (made.Goal x) made.Nodes g m t = absurd t
+tested_made p h b r made.Depth after g m t = subst (IsMadeOf p h b r) (sym t) m
+tested_made p h b r made.Nodes after g m t = subst (IsMadeOf p h b r) (sym t) m
 
-    all : names_of_variables (named vs (binders (generated b r))) ≡ all_names (variables p) (found h b r)
-    all = all_are_named vs (binders (generated b r)) n ∙ (ap (λ l. l ++ map (λ (b : Binder). get_or l b.0 []) (binders (generated b r))) own ∙ ap (λ bs. names (variables p) ++ map (λ (b : Binder). get_or (names (variables p)) b.0 []) bs) (sym (found_binders h b r g)))
-
-pub made_of : (p : TypedProcedure) (h : Head) (b : Acts) (r : Rational × Form) (vs : List VarInfo) (before after : Made) → has_binder_in h.guard ≡ false → map variable_of vs ≡ variables p → AreNamed (length vs) (binders (generated b r)) → IsMade true r.1 (generated b r) vs before → IsTested h.guard r.0 before after → IsMadeOf p h b r after
-made_of p h b r vs (made.Goal x) (made.Goal y) g e n m t = (t ∙ (ap (λ (z : Goal). with_test h.guard r.0 z) m.0 ∙ made_goal p h b r vs g e n), m.1)
-made_of p h b r vs (made.Goal x) made.Depth g e n m t = absurd t
-made_of p h b r vs (made.Goal x) made.Nodes g e n m t = absurd t
-made_of p h b r vs made.Depth after g e n m t = subst (IsMadeOf p h b r) (sym t) m
-made_of p h b r vs made.Nodes after g e n m t = subst (IsMadeOf p h b r) (sym t) m
+made_of : (p : TypedProcedure) (h : Head) (b : Acts) (r : Rational × Form) (vs : List VarInfo) (before after : Made) → has_binder_in h.guard ≡ false → map variable_of vs ≡ variables p → AreNamed (length vs) (binders (generated b r)) → IsMade true r.1 (generated b r) vs before → IsTested h.guard r.0 before after → IsMadeOf p h b r after
+made_of p h b r vs before after g e n m t = tested_made p h b r before after g (is_made_within true vs (variables p) r.1 (generated b r) before e n m) t
 
 pub each_ok : {A E : Type 0} (P Q : A → Type 0) (r : Result A E) → ((x : A) → P x → Q x) → IfOk r P → IfOk r Q
 each_ok P Q (Ok x) f h = f x h

@@ -1,74 +1,16 @@
 -- What the static rules say of a loop with a ranking and of the acts of its body.
-use Rattle.std.proofs.Common.{◌≡◌, ℕ, subst, Bool, true, false, cond, List, [], ◌∷◌, ◌==◌}
+use Rattle.std.proofs.Common.{◌≡◌, ℕ, subst, true, List}
 use Rattle.std.specs.Prelude.{Option, Some, None}
 use Rattle.heyvl_num.specs.Rational.{Rational}
 use Rattle.heylo_formula.specs.Formula.{Form}
-use Rattle.heyvl_types.specs.Acts.{Head, Act, Acts, Arms, TypedProcedure, acts_in, types_of}
+use Rattle.heyvl_types.specs.Acts.{Act, Acts, Arms, TypedProcedure, types_of}
 use Rattle.heyvl_types.specs.Places.{in_order, inside, inside_arms}
 use Rattle.heyvl_types.specs.Rules.{Each, HasOwnTargets, IsTypedAct, WeighsOne, LoopsMeet, LoopFits, LoopMeets, RankFits, RankedBodyIsPlain, is_rankable, GuardsFit, MeetsRules}
 use Rattle.heyvl_types.specs.WellTyped.{ActsFit, ArmsFit}
 use Rattle.ranking_rule.specs.Upward.{upward, upward_next, upward_arms}
-use Rattle.ranking_rule.specs.Rankings.{loop_in, RankedLoop}
-use Rattle.ranking_rule.proofs.Each.{each_first, each_second, each_append, each_two}
-
--- ---- What holds of each act holds of those inside each
-
-module _ (P : Act → Type 0) where
-  abbrev Inside : Act → Type 0
-  Inside a = Each P (inside a)
-
-  mutual
-    pub all_inside : (acts : Acts) → Each P (in_order acts) → Each Inside (in_order acts)
-    all_inside Acts.done h = tt
-    all_inside (Acts.next a rest) h = let i = each_first P (inside a) (in_order rest) h.1 in (i, each_append Inside (inside a) (in_order rest) (act_inside a i) (all_inside rest (each_second P (inside a) (in_order rest) h.1)))
-
-    act_inside : (a : Act) → Each P (inside a) → Each Inside (inside a)
-    act_inside (Act.set x t span) h = tt
-    act_inside (Act.draw x qs span) h = tt
-    act_inside (Act.any x up ty span) h = tt
-    act_inside (Act.reward f span) h = tt
-    act_inside (Act.ifs arms e span) h = each_append Inside (inside_arms arms) (in_order e) (arms_inside arms (each_first P (inside_arms arms) (in_order e) h)) (all_inside e (each_second P (inside_arms arms) (in_order e) h))
-    act_inside (Act.pick up a b span) h = each_append Inside (in_order a) (in_order b) (all_inside a (each_first P (in_order a) (in_order b) h)) (all_inside b (each_second P (in_order a) (in_order b) h))
-    act_inside (Act.check kind f span) h = tt
-    act_inside (Act.validate co span) h = tt
-    act_inside (Act.loop k b) h = all_inside b h
-    act_inside (Act.call xs q es span) h = tt
-
-    arms_inside : (arms : Arms) → Each P (inside_arms arms) → Each Inside (inside_arms arms)
-    arms_inside Arms.no_arm h = tt
-    arms_inside (Arms.arm g b more) h = each_append Inside (in_order b) (inside_arms more) (all_inside b (each_first P (in_order b) (inside_arms more) h)) (arms_inside more (each_second P (in_order b) (inside_arms more) h))
-
--- ---- The loop that a number names
-
-abbrev this_loop : Head → Acts → Option (Head × Acts)
-this_loop h b = Some (h, b)
-
-same_loop : (h k : Head) (b c : Acts) (P : Act → Type 0) → this_loop k c ≡ this_loop h b → P (Act.loop k c) → P (Act.loop h b)
-same_loop h k b c P e i = subst (λ (x : Option (Head × Acts)). at x) e i
-  where
-    at : Option (Head × Acts) → Type 0
-    at None = Unit {0}
-    at (Some x) = P (Act.loop x.0 x.1)
-
-one_or_other : (t : Bool) (h k : Head) (b c : Acts) (o : Option (Head × Acts)) (P : Act → Type 0) → cond t (this_loop k c) o ≡ this_loop h b → P (Act.loop k c) → (o ≡ this_loop h b → P (Act.loop h b)) → P (Act.loop h b)
-one_or_other true h k b c o P e i more = same_loop h k b c P e i
-one_or_other false h k b c o P e i more = more e
-
-pub of_loop : (P : Act → Type 0) (n : ℕ) (h : Head) (b : Acts) (xs : List Act) → loop_in n xs ≡ this_loop h b → Each P xs → P (Act.loop h b)
-of_loop P n h b [] e i = absurd (cc)
-of_loop P n h b (Act.loop k c ∷ xs) e i = one_or_other (k.number == n) h k b c (loop_in n xs) P e i.0 (λ q. of_loop P n h b xs q i.1)
-of_loop P n h b (Act.set x t span ∷ xs) e i = of_loop P n h b xs e i.1
-of_loop P n h b (Act.draw x qs span ∷ xs) e i = of_loop P n h b xs e i.1
-of_loop P n h b (Act.any x up ty span ∷ xs) e i = of_loop P n h b xs e i.1
-of_loop P n h b (Act.reward f span ∷ xs) e i = of_loop P n h b xs e i.1
-of_loop P n h b (Act.ifs arms el span ∷ xs) e i = of_loop P n h b xs e i.1
-of_loop P n h b (Act.pick up x y span ∷ xs) e i = of_loop P n h b xs e i.1
-of_loop P n h b (Act.check kind f span ∷ xs) e i = of_loop P n h b xs e i.1
-of_loop P n h b (Act.validate co span ∷ xs) e i = of_loop P n h b xs e i.1
-of_loop P n h b (Act.call ys q es span ∷ xs) e i = of_loop P n h b xs e i.1
-
-pub of_body : (P : Act → Type 0) (p : TypedProcedure) (n : ℕ) (l : RankedLoop p n) → Each P (in_order (acts_in p.body)) → Each P (in_order l.body)
-of_body P p n l i = of_loop (Inside P) n l.head l.body (in_order (acts_in p.body)) l.named (all_inside P (acts_in p.body) i)
+use Rattle.ranking_rule.specs.Rankings.{RankedLoop}
+use Rattle.ranking_rule.proofs.Each.{each_first, each_second, each_two}
+use Rattle.ranking_rule.proofs.RankedActs.{of_body, of_head}
 
 -- ---- A loop with a ranking
 
@@ -85,13 +27,13 @@ ranked_fits p o r e h = subst (RankFits p) e h
 
 module _ (ps : List TypedProcedure) (p : TypedProcedure) (n : ℕ) (l : RankedLoop p n) (rules : MeetsRules ps p) where
   pub loop_fits : LoopFits p l.head
-  loop_fits = of_loop (IsTypedAct ps p) n l.head l.body (in_order (acts_in p.body)) l.named rules.typed
+  loop_fits = of_head (IsTypedAct ps p) p n l rules.typed
 
   pub rank_fits : RankFits p (Some l.rank)
   rank_fits = ranked_fits p l.head.rank l.rank l.ranked loop_fits.rank
 
   loop_meets : LoopMeets p l.head l.body
-  loop_meets = of_loop (LoopsMeet p) n l.head l.body (in_order (acts_in p.body)) l.named rules.loops
+  loop_meets = of_head (LoopsMeet p) p n l rules.loops
 
   pub body_acts : Each (IsTurnAct ps p) (in_order l.body)
   body_acts = each_two (λ a. HasOwnTargets p a × IsTypedAct ps p a) (λ a. WeighsOne a × (is_rankable a ≡ true)) (in_order l.body) (each_two (HasOwnTargets p) (IsTypedAct ps p) (in_order l.body) (of_body (HasOwnTargets p) p n l rules.targets) (of_body (IsTypedAct ps p) p n l rules.typed)) (each_two WeighsOne (λ a. is_rankable a ≡ true) (in_order l.body) (of_body WeighsOne p n l rules.weights) (ranked_plain l.head.rank l.rank l.body l.ranked loop_meets.ranked))

@@ -1,4 +1,4 @@
--- What the body of a loop, its guard and its ranking read is over the procedure's variables.
+-- What acts read is over the procedure's variables, and so are the body of a loop with a ranking, its guard and its ranking.
 use Rattle.std.proofs.Common.{◌≡◌, ◌<◌, ◌==◌, ◌||◌, ℕ, refl, sym, ap₂, ◌∙◌, subst, arith, Bool, true, false, List, [], ◌∷◌, ◌++◌, length, ⊎_elim, leb}
 use Rattle.std.proofs.lemmas.Bool.{or_cases}
 use Rattle.std.proofs.lemmas.Bool.Decides.{leb_tells}
@@ -22,7 +22,7 @@ use Rattle.vp_generator.specs.Over.{TermIsOver, PartsAreOver, ActsAreOver, ArmsA
 use Rattle.ranking_rule.specs.Rankings.{RankedLoop}
 use Rattle.ranking_rule.specs.Upward.{upward, upward_next, upward_arms}
 use Rattle.ranking_rule.proofs.Each.{each_first, each_second, each_append, each_two}
-use Rattle.ranking_rule.proofs.RankedBodies.{of_body, of_loop}
+use Rattle.ranking_rule.proofs.RankedActs.{of_body, of_head}
 
 -- ---- Without a binder each number that occurs is free
 
@@ -96,7 +96,7 @@ abbrev RankIsOver : ℕ → Option (Rational × Form) → Type 0
 RankIsOver n None = Unit {0}
 RankIsOver n (Some r) = IsOver n r.1
 
--- the acts inside it aside, and the arguments of calls
+-- What an act reads is over the first n variables: the acts inside it aside, and the arguments of calls.
 abbrev pub ReadsFirst : ℕ → Act → Type 0
 ReadsFirst n (Act.set x t span) = TermIsOver n t
 ReadsFirst n (Act.draw x qs span) = PartsAreOver n qs
@@ -106,7 +106,7 @@ ReadsFirst n (Act.ifs arms e span) = GuardsAreOver n arms
 ReadsFirst n (Act.pick up a b span) = Unit {0}
 ReadsFirst n (Act.check kind f span) = IsOver n f
 ReadsFirst n (Act.validate co span) = Unit {0}
-ReadsFirst n (Act.loop h b) = IsOverIn n h.guard × RankIsOver n h.rank
+ReadsFirst n (Act.loop h b) = IsOver n h.inv × (IsOverIn n h.guard × RankIsOver n h.rank)
 ReadsFirst n (Act.call xs q es span) = Unit {0}
 
 abbrev IsFine : List TypedProcedure → TypedProcedure → Act → Type 0
@@ -171,7 +171,7 @@ module _ (ps : List TypedProcedure) (p : TypedProcedure) where
     reads_act (Act.pick d x y span) v f i b o = (tt, each_append Reads (in_order x) (in_order y) (reads_acts x v (each_first Fine (in_order x) (in_order y) i) b o.0) (reads_acts y v (each_second Fine (in_order x) (in_order y) i) b o.1))
     reads_act (Act.check kind g span) v f i b o = (sees_over count v b g o, tt)
     reads_act (Act.validate co span) v f i b o = (tt, tt)
-    reads_act (Act.loop k c) v f i b o = ((sees_over_in count v b k.guard o.1.0.1.0, rank_over count v b k.rank o.1.0.1.1), reads_acts c v i b o.1.1)
+    reads_act (Act.loop k c) v f i b o = ((sees_over count v b k.inv o.1.0.0, (sees_over_in count v b k.guard o.1.0.1.0, rank_over count v b k.rank o.1.0.1.1)), reads_acts c v i b o.1.1)
     reads_act (Act.call xs q es span) v f i b o = (tt, tt)
 
     reads_acts : (acts : Acts) (v : Visible) → Each Fine (in_order acts) → Bounded count v → Scoped v acts → Each Reads (in_order acts)
@@ -184,7 +184,7 @@ module _ (ps : List TypedProcedure) (p : TypedProcedure) where
     reads_arms Arms.no_arm v f b o = tt
     reads_arms (Arms.arm t c more) v f b o = each_append Reads (in_order c) (inside_arms more) (reads_acts c v (each_first Fine (in_order c) (inside_arms more) f) b o.1.0) (reads_arms more v (each_second Fine (in_order c) (inside_arms more) f) b o.1.1)
 
-  all_read : MeetsRules ps p → Each Reads (in_order (acts_in p.body))
+  pub all_read : MeetsRules ps p → Each Reads (in_order (acts_in p.body))
   all_read meets = reads_acts (acts_in p.body) (interface p) (each_two (HasOwnTargets p) (IsTypedAct ps p) (in_order (acts_in p.body)) meets.targets meets.typed) (interface_bounded p) meets.scopes
 
 -- ---- Acts that are taken upward
@@ -221,13 +221,13 @@ some_rank n o r e h = subst (RankIsOver n) e h
 
 module _ (ps : List TypedProcedure) (p : TypedProcedure) (n : ℕ) (l : RankedLoop p n) (rules : MeetsRules ps p) where
   loop_reads : ReadsFirst (length (variables p)) (Act.loop l.head l.body)
-  loop_reads = of_loop (ReadsFirst (length (variables p))) n l.head l.body (in_order (acts_in p.body)) l.named (all_read ps p rules)
+  loop_reads = of_head (ReadsFirst (length (variables p))) p n l (all_read ps p rules)
 
   pub guard_over : IsOverIn (length (variables p)) l.head.guard
-  guard_over = loop_reads.0
+  guard_over = loop_reads.1.0
 
   pub ranking_over : IsOver (length (variables p)) l.rank.1
-  ranking_over = some_rank (length (variables p)) l.head.rank l.rank l.ranked loop_reads.1
+  ranking_over = some_rank (length (variables p)) l.head.rank l.rank l.ranked loop_reads.1.1
 
   pub body_over : ActsAreOver (length (variables p)) (upward l.body)
   body_over = upward_over (length (variables p)) l.body (of_body (ReadsFirst (length (variables p))) p n l (all_read ps p rules))

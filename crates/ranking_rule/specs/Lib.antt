@@ -1,5 +1,6 @@
 pub mod Upward
 pub mod Rankings
+pub mod MadeGoals
 pub mod RankingGoals
 pub mod Laws
 pub mod internal

@@ -1,13 +1,12 @@
 -- What decisions prove, their certificates show: the one tree for a goal is a certificate, and isn't refused.
-use Rattle.std.proofs.Common.{◌≡◌, ℕ, refl, ap, sym, subst, ◌∙◌, arith, List, [], ◌∷◌, None, Some, Option, Bool}
+use Rattle.std.proofs.Common.{◌≡◌, ℕ, refl, ap, sym, subst, ◌∙◌, List, [], ◌∷◌, None, Some, Option, Bool}
 use Prim.Native.Nat.{suc}
+use Rattle.std.specs.List.{AllZip}
 use Rattle.cert_text.specs.Certificates.{IsGrowingAfter, certificates_of}
-use Rattle.heyvl_num.specs.Rational.{Rational}
 use Rattle.farkas_check.specs.Accepted.{IsNoCertificate}
 use Rattle.farkas_check.specs.CertificateLaws.{NeverBoth}
 use Rattle.farkas_check.specs.Trees.{Tree}
 use Rattle.farkas_check.specs.declared.trees.GoalCert.{GoalCert}
-use Rattle.heylo_formula.specs.Formula.{Form}
 use Rattle.heylo_formula.specs.Goals.{goal_of}
 use Rattle.heylo_formula.specs.declared.goals.GoalId.{GoalId}
 use Rattle.heylo_formula.specs.declared.goals.Made.{Made}
@@ -21,37 +20,16 @@ use Rattle.region_split.specs.DecisionLaws.{TreesCertify}
 use Rattle.verdict_report.specs.declared.answers.Miss.{Miss}
 use Rattle.verdict_report.specs.declared.answers.Miss.TheVariants.{Absent, Place}
 use Rattle.verdict_report.specs.declared.answers.NamedGoal.{NamedGoal}
-use Rattle.verify_core.specs.Checked.{AreChecked, Certifies, CheckedGoal, HasTree, IsChecked, IsCheckedTable, IsGoalAccepted, IsMissOf, IsRefusedAt}
+use Rattle.verify_core.specs.Checked.{Certifies, CheckedGoal, HasMiss, HasTree, IsGoalAccepted, IsMissOf, IsRefusedAt}
 use Rattle.verify_core.specs.CheckedProofs.{IsServed, NothingIsMissed, NothingIsMissedThroughout, ProvedGoalsAreAccepted, ProvedRankingsAreAccepted}
-use Rattle.verify_core.specs.CheckedRankings.{AreRankingsChecked, IsCheckedRankTable, IsRankingChecked}
-use Rattle.verify_core.specs.Decided.{AreDecided, DecidedGoal, IsDecided, IsTable}
-use Rattle.verify_core.specs.DecidedRankings.{AreRankingsDecided, IsRankTable, IsRankingDecided, certified_in_file}
-use Rattle.verify_core.specs.Questions.{IsMadeOf, Question, question}
-use Rattle.verify_core.specs.Rankings.{ranked_loops}
+use Rattle.verify_core.specs.Decided.{DecidedGoal, HasDecision}
+use Rattle.verify_core.specs.DecidedRankings.{certified_in_file}
+use Rattle.verify_core.specs.Numbered.{AllNumbered}
+use Rattle.verify_core.specs.Questions.{IsGoalOf, goal, question}
+use Rattle.verify_core.specs.Rankings.{IsRankingGoal, ranked_loops}
 use Rattle.verify_core.proofs.CertOrder.{one_tree}
+use Rattle.verify_core.proofs.MadeGoals.{AreAlike, made_alike}
 use Rattle.verify_core.proofs.ServedGoals.{proofs_are_accepted}
-
--- Where the first is a goal, the second is the same one.
-abbrev AreAlike : Made → Made → Type 0
-AreAlike (made.Goal g) (made.Goal h) = goal_of g ≡ goal_of h
-AreAlike (made.Goal g) made.Depth = ⊥
-AreAlike (made.Goal g) made.Nodes = ⊥
-AreAlike made.Depth n = Unit {0}
-AreAlike made.Nodes n = Unit {0}
-
-bounds_alike : (q : Question) (m n : Made) → IsMadeOf q m → IsMadeOf q n → AreAlike m n
-bounds_alike q (made.Goal g) (made.Goal h) a b = a.0 ∙ sym b.0
-bounds_alike q (made.Goal g) made.Depth a b = let s = a.1.shallow in omega (arith, s, b)
-bounds_alike q (made.Goal g) made.Nodes a b = let s = a.1.few in omega (arith, s, b)
-bounds_alike q made.Depth n a b = tt
-bounds_alike q made.Nodes n a b = tt
-
-rankings_alike : (p : TypedProcedure) (h : Head) (b : Acts) (r : Rational × Form) (m n : Made) → ranking.IsMadeOf p h b r m → ranking.IsMadeOf p h b r n → AreAlike m n
-rankings_alike p h b r (made.Goal g) (made.Goal k) x y = x.0 ∙ sym y.0
-rankings_alike p h b r (made.Goal g) made.Depth x y = let s = x.1.shallow in omega (arith, s, y)
-rankings_alike p h b r (made.Goal g) made.Nodes x y = let s = x.1.few in omega (arith, s, y)
-rankings_alike p h b r made.Depth n x y = tt
-rankings_alike p h b r made.Nodes n x y = tt
 
 same_some : {A : Type 0} (a b : A) → Some a ≡ Some b → a ≡ b
 same_some a b e = cc
@@ -90,61 +68,41 @@ no_miss law certs g c o x y a (Some (Place way)) e =
     let same = one_tree certs c.goal.proc c.goal.id r.tree a.tree o r.has has in
     absurd (never_refused law g.made c.goal.made a.tree way.items x.alike a.certifies (subst (λ t. IsRefusedAt c.goal.made t way.items) same r.refused))
 
-one_bound : (ps : List TypedProcedure) (certs : List GoalCert) (k : ℕ) (id : GoalId) (d : DecidedGoal) (c : CheckedGoal) → IsDecided ps k id d → IsChecked ps certs k id c → AreOneGoal d.goal c.goal
-one_bound ps certs k id d c x y = record {
-  proc = x.goal.proc ∙ sym y.goal.proc;
-  id_of = x.goal.id_of ∙ sym y.goal.id_of;
-  alike = bounds_alike (question ps (procedure_at ps k) id) d.goal.made c.goal.made x.goal.made y.goal.made;
-}
+bound_same : (ps : List TypedProcedure) (k : ℕ) (id : GoalId) (g h : NamedGoal) → IsGoalOf ps k id g → IsGoalOf ps k id h → AreOneGoal g h
+bound_same ps k id g h x y =
+    let q = question ps (procedure_at ps k) id in
+    record { proc = x.proc ∙ sym y.proc; id_of = x.id_of ∙ sym y.id_of; alike = made_alike q.found (goal q) g.made h.made x.made y.made }
 
-one_ranking : (ps : List TypedProcedure) (certs : List GoalCert) (k n : ℕ) (d : DecidedGoal) (c : CheckedGoal) → IsRankingDecided ps k n d → IsRankingChecked ps certs k n c → AreOneGoal d.goal c.goal
-one_ranking ps certs k n d c x y =
+ranking_same : (ps : List TypedProcedure) (k n : ℕ) (g h : NamedGoal) → IsRankingGoal ps k n g → IsRankingGoal ps k n h → AreOneGoal g h
+ranking_same ps k n g h x y =
     let p = procedure_at ps k in
-    let l = x.goal.ranked in
-    record {
-      proc = x.goal.proc ∙ sym y.goal.proc;
-      id_of = x.goal.id_of ∙ sym y.goal.id_of;
-      alike = rankings_alike p l.head l.body l.rank d.goal.made c.goal.made x.goal.made (same_loop p n y.goal.ranked l c.goal.made y.goal.made);
-    }
+    let l = x.ranked in
+    record { proc = x.proc ∙ sym y.proc; id_of = x.id_of ∙ sym y.id_of; alike = made_alike (ranking.generated l.body l.rank) (ranking.goal p l.head l.body l.rank) g.made h.made x.made (same_loop p n y.ranked l h.made y.made) }
 
-none_missed : NeverBoth → (ps : List TypedProcedure) (certs : List GoalCert) (k : ℕ) (ids : List GoalId) (ds : List DecidedGoal) (cs : List CheckedGoal) → IsGrowingAfter None (certificates_of certs) → AreDecided ps k ids ds → AreChecked ps certs k ids cs → Each (IsServed certs) ds → NothingIsMissed ds cs
-none_missed law ps certs k [] [] [] g x y s = tt
-none_missed law ps certs k [] [] (c ∷ cs) g x y s = absurd y
-none_missed law ps certs k [] (d ∷ ds) cs g x y s = absurd x
-none_missed law ps certs k (id ∷ ids) [] cs g x y s = absurd x
-none_missed law ps certs k (id ∷ ids) (d ∷ ds) [] g x y s = absurd y
-none_missed law ps certs k (id ∷ ids) (d ∷ ds) (c ∷ cs) g x y s = ((λ t e. no_miss law certs d.goal c g (one_bound ps certs k id d c x.0 y.0) y.0.miss (s.0 t e) c.miss refl), none_missed law ps certs k ids ds cs g x.1 y.1 s.1)
+-- ---- The goals of a procedure, and of a file
 
-no_ranking_missed : NeverBoth → (ps : List TypedProcedure) (certs : List GoalCert) (k : ℕ) (ns : List ℕ) (ds : List DecidedGoal) (cs : List CheckedGoal) → IsGrowingAfter None (certificates_of certs) → AreRankingsDecided ps k ns ds → AreRankingsChecked ps certs k ns cs → Each (IsServed certs) ds → NothingIsMissed ds cs
-no_ranking_missed law ps certs k [] [] [] g x y s = tt
-no_ranking_missed law ps certs k [] [] (c ∷ cs) g x y s = absurd y
-no_ranking_missed law ps certs k [] (d ∷ ds) cs g x y s = absurd x
-no_ranking_missed law ps certs k (n ∷ ns) [] cs g x y s = absurd x
-no_ranking_missed law ps certs k (n ∷ ns) (d ∷ ds) [] g x y s = absurd y
-no_ranking_missed law ps certs k (n ∷ ns) (d ∷ ds) (c ∷ cs) g x y s = ((λ t e. no_miss law certs d.goal c g (one_ranking ps certs k n d c x.0 y.0) y.0.miss (s.0 t e) c.miss refl), no_ranking_missed law ps certs k ns ds cs g x.1 y.1 s.1)
+none_missed : {I : Type 0} (law : NeverBoth) (Is : I → NamedGoal → Type 0) → ((i : I) (g h : NamedGoal) → Is i g → Is i h → AreOneGoal g h) → (certs : List GoalCert) (is : List I) (ds : List DecidedGoal) (cs : List CheckedGoal) → IsGrowingAfter None (certificates_of certs) → AllZip (λ i (d : DecidedGoal). HasDecision (Is i) d) is ds → AllZip (λ i (c : CheckedGoal). HasMiss (Is i) certs c) is cs → Each (IsServed certs) ds → NothingIsMissed ds cs
+none_missed law Is same certs [] [] [] g x y s = tt
+none_missed law Is same certs [] [] (c ∷ cs) g x y s = absurd y
+none_missed law Is same certs [] (d ∷ ds) cs g x y s = absurd x
+none_missed law Is same certs (i ∷ is) [] cs g x y s = absurd x
+none_missed law Is same certs (i ∷ is) (d ∷ ds) [] g x y s = absurd y
+none_missed law Is same certs (i ∷ is) (d ∷ ds) (c ∷ cs) g x y s = ((λ t e. no_miss law certs d.goal c g (same i d.goal c.goal x.0.goal y.0.goal) y.0.miss (s.0 t e) c.miss refl), none_missed law Is same certs is ds cs g x.1 y.1 s.1)
 
-none_missed_throughout : NeverBoth → (ps : List TypedProcedure) (certs : List GoalCert) (k : ℕ) (qs : List TypedProcedure) (table : List (List DecidedGoal)) (checked : List (List CheckedGoal)) → IsGrowingAfter None (certificates_of certs) → IsTable ps k qs table → IsCheckedTable ps certs k qs checked → Each (Each (IsServed certs)) table → NothingIsMissedThroughout table checked
-none_missed_throughout law ps certs k [] [] [] g x y s = tt
-none_missed_throughout law ps certs k [] [] (cs ∷ checked) g x y s = absurd y
-none_missed_throughout law ps certs k [] (ds ∷ table) checked g x y s = absurd x
-none_missed_throughout law ps certs k (q ∷ qs) [] checked g x y s = absurd x
-none_missed_throughout law ps certs k (q ∷ qs) (ds ∷ table) [] g x y s = absurd y
-none_missed_throughout law ps certs k (q ∷ qs) (ds ∷ table) (cs ∷ checked) g x y s = (none_missed law ps certs k (bound_goals q) ds cs g x.0 y.0 s.0, none_missed_throughout law ps certs (suc k) qs table checked g x.1 y.1 s.1)
-
-no_ranking_missed_throughout : NeverBoth → (ps : List TypedProcedure) (certs : List GoalCert) (k : ℕ) (qs : List TypedProcedure) (ranks : List (List DecidedGoal)) (checked : List (List CheckedGoal)) → IsGrowingAfter None (certificates_of certs) → IsRankTable ps k qs ranks → IsCheckedRankTable ps certs k qs checked → Each (Each (IsServed certs)) ranks → NothingIsMissedThroughout ranks checked
-no_ranking_missed_throughout law ps certs k [] [] [] g x y s = tt
-no_ranking_missed_throughout law ps certs k [] [] (cs ∷ checked) g x y s = absurd y
-no_ranking_missed_throughout law ps certs k [] (ds ∷ ranks) checked g x y s = absurd x
-no_ranking_missed_throughout law ps certs k (q ∷ qs) [] checked g x y s = absurd x
-no_ranking_missed_throughout law ps certs k (q ∷ qs) (ds ∷ ranks) [] g x y s = absurd y
-no_ranking_missed_throughout law ps certs k (q ∷ qs) (ds ∷ ranks) (cs ∷ checked) g x y s = (no_ranking_missed law ps certs k (ranked_loops q) ds cs g x.0 y.0 s.0, no_ranking_missed_throughout law ps certs (suc k) qs ranks checked g x.1 y.1 s.1)
+none_missed_throughout : {I : Type 0} (law : NeverBoth) (Is : ℕ → I → NamedGoal → Type 0) (goals : TypedProcedure → List I) → ((k : ℕ) (i : I) (g h : NamedGoal) → Is k i g → Is k i h → AreOneGoal g h) → (certs : List GoalCert) (k : ℕ) (qs : List TypedProcedure) (table : List (List DecidedGoal)) (checked : List (List CheckedGoal)) → IsGrowingAfter None (certificates_of certs) → AllNumbered (λ n q (ds : List DecidedGoal). AllZip (λ i (d : DecidedGoal). HasDecision (Is n i) d) (goals q) ds) k qs table → AllNumbered (λ n q (cs : List CheckedGoal). AllZip (λ i (c : CheckedGoal). HasMiss (Is n i) certs c) (goals q) cs) k qs checked → Each (Each (IsServed certs)) table → NothingIsMissedThroughout table checked
+none_missed_throughout law Is goals same certs k [] [] [] g x y s = tt
+none_missed_throughout law Is goals same certs k [] [] (cs ∷ checked) g x y s = absurd y
+none_missed_throughout law Is goals same certs k [] (ds ∷ table) checked g x y s = absurd x
+none_missed_throughout law Is goals same certs k (q ∷ qs) [] checked g x y s = absurd x
+none_missed_throughout law Is goals same certs k (q ∷ qs) (ds ∷ table) [] g x y s = absurd y
+none_missed_throughout law Is goals same certs k (q ∷ qs) (ds ∷ table) (cs ∷ checked) g x y s = (none_missed law (Is k) (same k) certs (goals q) ds cs g x.0 y.0 s.0, none_missed_throughout law Is goals same certs (suc k) qs table checked g x.1 y.1 s.1)
 
 pub proved_goals_are_accepted : TreesCertify → NeverBoth → ProvedGoalsAreAccepted
 proved_goals_are_accepted trees law ps table ranks checked rules x r y =
     let served = proofs_are_accepted trees ps table ranks rules x r in
-    none_missed_throughout law ps (certified_in_file table ranks) 0 ps table checked served.order x y served.accepted
+    none_missed_throughout law (IsGoalOf ps) bound_goals (bound_same ps) (certified_in_file table ranks) 0 ps table checked served.order x y served.accepted
 
 pub proved_rankings_are_accepted : TreesCertify → NeverBoth → ProvedRankingsAreAccepted
 proved_rankings_are_accepted trees law ps table ranks checked rules x r y =
     let served = proofs_are_accepted trees ps table ranks rules x r in
-    no_ranking_missed_throughout law ps (certified_in_file table ranks) 0 ps ranks checked served.order r y served.ranked
+    none_missed_throughout law (IsRankingGoal ps) ranked_loops (ranking_same ps) (certified_in_file table ranks) 0 ps ranks checked served.order r y served.ranked

@@ -1,13 +1,12 @@
 -- The goal of a question is typed, over its variables and small, as its decision asks.
-use Rattle.std.proofs.Common.{◌≡◌, ◌<◌, ◌≤◌, ◌+◌, ◌^◌, ℕ, refl, sym, ap, ◌∙◌, subst, arith, true, false, List, [], ◌∷◌, ◌++◌, append_assoc, length, map, get_or, ◌==◌}
+use Rattle.std.proofs.Common.{◌≡◌, ◌<◌, ◌≤◌, ◌+◌, ◌^◌, ℕ, refl, sym, ap, ◌∙◌, subst, arith, true, false, List, [], ◌∷◌, ◌++◌, append_assoc, length, ◌==◌}
 use Rattle.std.specs.Prelude.{Some, if◌then◌else◌}
 use Rattle.std.proofs.lemmas.List.{length-append, length-map}
 use Rattle.heyvl_num.specs.Rational.{zeroʳ, oneʳ, ratio, leqʳ}
 use Rattle.heyvl_num.specs.Value.{zeroᵛ, oneᵛ}
-use Rattle.heylo_formula.specs.BinderNames.{Binder, binders}
+use Rattle.heylo_formula.specs.BinderNames.{binders}
 use Rattle.heylo_formula.specs.Binders.{has_binder}
 use Rattle.heylo_formula.specs.Formula.{Form}
-use Rattle.heylo_formula.specs.Goals.{Goal}
 use Rattle.heylo_formula.specs.Sizes.{nodes}
 use Rattle.heylo_formula.specs.TypedGoals.{IsGoal}
 use Rattle.heylo_formula.specs.Typing.{IsFormula, Types, is_unsigned, types_in}
@@ -28,12 +27,15 @@ use Rattle.vp_generator.specs.Limits.{IsSmall}
 use Rattle.vp_generator.specs.Over.{GeneratedFormIsOver}
 use Rattle.vp_generator.specs.Prenexed.{new_types}
 use Rattle.vp_generator.specs.PrenexedGoals.{PrenexedGoalsAreGoals}
-use Rattle.verify_core.specs.Questions.{Question, all_names, form_or_zero, goal, names, one_bound, question}
+use Rattle.ranking_rule.specs.Laws.{IsFew}
+use Rattle.ranking_rule.specs.MadeGoals.{all_names}
+use Rattle.verify_core.specs.Questions.{Question, form_or_zero, goal, one_bound, question}
 use Rattle.loop_encodings.proofs.exported.EncodedTypes.{encoding_fits, front_same, post_fits}
 use Rattle.loop_encodings.proofs.exported.Counts.{few_fresh}
 use Rattle.loop_encodings.proofs.exported.FromRules.{each_at}
-use Rattle.verify_core.proofs.InvariantsOver.{IsInvariantOver, invariants_over}
-use Rattle.verify_core.proofs.PrenexedSizes.{nodes_unbound}
+use Rattle.ranking_rule.proofs.exported.ReadVariables.{ReadsFirst, all_read}
+use Rattle.ranking_rule.proofs.exported.MadeGoals.{all_names_length, new_types_length}
+use Rattle.ranking_rule.proofs.exported.PrenexedSizes.{nodes_unbound}
 
 -- ---- What a question asks of its formulas
 
@@ -81,9 +83,9 @@ proper_bound p f few h o = record {
 }
 
 -- An invariant of the acts is a formula over the procedure's variables.
-proper_invariant : (ps : List TypedProcedure) (p : TypedProcedure) (n : ℕ) (acts : List Act) → Each (IsTypedAct ps p) acts → Each (IsInvariantOver (length (variables p))) acts → IsFormula (types_of p) (form_or_zero (invariant_in n acts)) × IsOver (length (variables p)) (form_or_zero (invariant_in n acts))
+proper_invariant : (ps : List TypedProcedure) (p : TypedProcedure) (n : ℕ) (acts : List Act) → Each (IsTypedAct ps p) acts → Each (ReadsFirst (length (variables p))) acts → IsFormula (types_of p) (form_or_zero (invariant_in n acts)) × IsOver (length (variables p)) (form_or_zero (invariant_in n acts))
 proper_invariant ps p n [] t o = (zero_unsigned (types_of p), λ y e. absurd (cc))
-proper_invariant ps p n (Act.loop h b ∷ rest) t o = elim (h.number == n) as (λ c. IsFormula (types_of p) (form_or_zero (if c then Some h.inv else invariant_in n rest)) × IsOver (length (variables p)) (form_or_zero (if c then Some h.inv else invariant_in n rest))) [ true ↦ (t.0.inv.0, o.0) | false ↦ proper_invariant ps p n rest t.1 o.1 ]
+proper_invariant ps p n (Act.loop h b ∷ rest) t o = elim (h.number == n) as (λ c. IsFormula (types_of p) (form_or_zero (if c then Some h.inv else invariant_in n rest)) × IsOver (length (variables p)) (form_or_zero (if c then Some h.inv else invariant_in n rest))) [ true ↦ (t.0.inv.0, o.0.0) | false ↦ proper_invariant ps p n rest t.1 o.1 ]
 proper_invariant ps p n (Act.set x u span ∷ rest) t o = proper_invariant ps p n rest t.1 o.1
 proper_invariant ps p n (Act.draw x qs span ∷ rest) t o = proper_invariant ps p n rest t.1 o.1
 proper_invariant ps p n (Act.any x up ty span ∷ rest) t o = proper_invariant ps p n rest t.1 o.1
@@ -136,37 +138,17 @@ module _ (formula : GeneratedFormIsFormula) (over : GeneratedFormIsOver) (encode
   proper Main = proper_main
   proper Pre = proper_bound (procedure_at ps p) (procedure_at ps p).pre meets.few_variables (formula_front (procedure_at ps p).inputs _ (procedure_at ps p).pre meets.pre_over meets.pre.0) (over_front (procedure_at ps p).inputs _ (procedure_at ps p).pre meets.pre_over)
   proper Post = proper_bound (procedure_at ps p) (procedure_at ps p).post meets.few_variables (subst (λ l. IsFormula (types_in (type_list l)) (procedure_at ps p).post) (sym (own_front (procedure_at ps p))) (formula_front ((procedure_at ps p).inputs ++ (procedure_at ps p).outputs) _ (procedure_at ps p).post meets.post_over meets.post)) (subst (λ l. IsOver (length l) (procedure_at ps p).post) (sym (own_front (procedure_at ps p))) (over_front ((procedure_at ps p).inputs ++ (procedure_at ps p).outputs) _ (procedure_at ps p).post meets.post_over))
-  proper (Invariant n) = let h = proper_invariant ps (procedure_at ps p) n (in_order (acts_in (procedure_at ps p).body)) meets.typed (invariants_over ps (procedure_at ps p) meets) in proper_bound (procedure_at ps p) (form_or_zero (invariant_in n (in_order (acts_in (procedure_at ps p).body)))) meets.few_variables h.0 h.1
+  proper (Invariant n) = let h = proper_invariant ps (procedure_at ps p) n (in_order (acts_in (procedure_at ps p).body)) meets.typed (all_read ps (procedure_at ps p) meets) in proper_bound (procedure_at ps p) (form_or_zero (invariant_in n (in_order (acts_in (procedure_at ps p).body)))) meets.few_variables h.0 h.1
   proper (Ranking n) = proper_bound (procedure_at ps p) (Form.number zeroᵛ) meets.few_variables (zero_unsigned (types_of (procedure_at ps p))) (λ y e. absurd (cc))
 
 -- ---- Goals
 
-names_length : (vs : List Variable) → length (names vs) ≡ length vs
-names_length vs = length-map vs (λ (v : Variable). v.name)
-
 -- The goal of a proper question is a goal.
 pub goal_is : PrenexedGoalsAreGoals → (q : Question) → IsProper q → IsGoal (goal q)
-goal_is goals q h = goals q.upper (type_list q.variables) (all_names q) q.stated q.found h.stated h.found h.stated_over h.found_over h.plain named
-  where
-    named : length (all_names q) ≡ length (type_list q.variables) + length (binders q.found)
-    named =
-        let a = length-append (names q.variables) (map (λ (b : Binder). get_or (names q.variables) b.0 []) (binders q.found)) in
-        let b = length-map (binders q.found) (λ (b : Binder). get_or (names q.variables) b.0 []) in
-        let c = names_length q.variables in
-        let d = types_length q.variables in
-        omega (arith, a, b, c, d)
+goal_is goals q h = goals q.upper (type_list q.variables) (all_names q.variables q.found) q.stated q.found h.stated h.found h.stated_over h.found_over h.plain (all_names_length q.variables q.found)
 
 -- It is small, where the found form passes no limit and the stated one is small.
-pub record IsSmallGoal (g : Goal) : Type 0 where
-  pub stated : nodes g.stated < 2 ^ 29
-  pub found : nodes g.found < 2 ^ 29
-  pub variables : length g.types < 2 ^ 31
-
-new_types_length : (bs : List Binder) → length (new_types bs) ≡ length bs
-new_types_length [] = refl
-new_types_length (b ∷ bs) = let h = new_types_length bs in omega (arith, h)
-
-pub goal_small : (q : Question) → IsProper q → IsSmall q.found → nodes q.stated ≤ 2 ^ 27 → IsSmallGoal (goal q)
+pub goal_small : (q : Question) → IsProper q → IsSmall q.found → nodes q.stated ≤ 2 ^ 27 → IsFew (goal q)
 goal_small q h s l =
     let n = nodes_unbound (λ x. x) (length (type_list q.variables)) q.found in
     let k = s.few in

@@ -8,12 +8,14 @@ use Rattle.heyvl_types.specs.Program.{IsProgram, why_no_program}
 use Rattle.verdict_report.specs.declared.answers.Answer.{Answer}
 use Rattle.verdict_report.specs.declared.answers.Verdict.{Verdict}
 use Rattle.verdict_report.specs.declared.answers.Verdict.TheVariants as verdict
-use Rattle.verify_core.specs.Checked.{CheckedGoal, IsCertified, IsCheckedTable, checked_at, first_miss}
+use Rattle.verify_core.specs.Checked.{CheckedGoal, IsCertified, IsCheckedTable, first_miss}
 use Rattle.verify_core.specs.CheckedAnswers.{AreCheckedAnswers, IsCheckedAnswer, IsCheckedFile, IsCheckedVerdict}
 use Rattle.verify_core.specs.CheckedRankings.{AreRankingsAnswered, AreRankingsChecked, IsCheckedRankTable}
+use Rattle.verify_core.specs.Numbered.{row_at}
 use Rattle.verify_core.specs.Rankings.{ranked_loops}
 use Rattle.verify_core.specs.internal.Checking.{AreMarkedAnswers, AreOwn, IsMarkedAnswer, IsMarkedBy, IsOwn, IsOwnVerdict, IsReachingVerdict, IsUnmarked, is_unverified, is_verified}
 use Rattle.verify_core.specs.internal.OwnRankings.{AreOwnRankings}
+use Rattle.verify_core.proofs.SideBySide.{numbered_at, numbered_length}
 
 -- ---- The table
 
@@ -22,12 +24,12 @@ record HasTable (ps : List TypedProcedure) (certs : List GoalCert) (k : ℕ) (qs
   table : List (List CheckedGoal)
   checked : IsCheckedTable ps certs k qs table
   sized : length vs ≡ length qs
-  own : (j : ℕ) (d : Verdict) → j < length vs → IsOwnVerdict (procedure_at qs j) (checked_at table j) (get_or vs j d)
+  own : (j : ℕ) (d : Verdict) → j < length vs → IsOwnVerdict (procedure_at qs j) (row_at table j) (get_or vs j d)
 
 with_more : (ps : List TypedProcedure) (certs : List GoalCert) (k : ℕ) (q : TypedProcedure) (qs : List TypedProcedure) (v : Verdict) (vs : List Verdict) → IsOwn ps certs k q v → HasTable ps certs (suc k) qs vs → HasTable ps certs k (q ∷ qs) (v ∷ vs)
 with_more ps certs k q qs v vs h rest = record { table = h.checked ∷ rest.table; checked = (h.are, rest.checked); sized = ap (λ n. suc n) rest.sized; own = at }
   where
-    at : (j : ℕ) (d : Verdict) → j < length (v ∷ vs) → IsOwnVerdict (procedure_at (q ∷ qs) j) (checked_at (h.checked ∷ rest.table) j) (get_or (v ∷ vs) j d)
+    at : (j : ℕ) (d : Verdict) → j < length (v ∷ vs) → IsOwnVerdict (procedure_at (q ∷ qs) j) (row_at (h.checked ∷ rest.table) j) (get_or (v ∷ vs) j d)
     at zero d l = h.verdict
     at (suc j) d l = rest.own j d (omega (arith, l))
 
@@ -78,7 +80,7 @@ not_accepted p cs (verdict.Conditional q) h e f g = h
 
 certified_by : (ps : List TypedProcedure) (certs : List GoalCert) (vs : List Verdict) (t : HasTable ps certs 0 ps vs) (q : ℕ) → q < length vs → is_verified (get_or vs q verdict.NoBody) ≡ true → IsCertified ps t.table q
 certified_by ps certs vs t q l e =
-    let h = accepted (procedure_at ps q) (checked_at t.table q) (get_or vs q verdict.NoBody) (t.own q verdict.NoBody l) e in
+    let h = accepted (procedure_at ps q) (row_at t.table q) (get_or vs q verdict.NoBody) (t.own q verdict.NoBody l) e in
     record { accepted = h.0; program = h.1 }
 
 certified : (ps : List TypedProcedure) (certs : List GoalCert) (vs : List Verdict) (t : HasTable ps certs 0 ps vs) (q : ℕ) → IsUnmarked (map is_unverified vs) q → IsCertified ps t.table q
@@ -87,11 +89,11 @@ certified ps certs vs t q u =
     certified_by ps certs vs t q l (verified_by (is_verified (get_or vs q verdict.NoBody)) (sym (mark_at vs q verdict.NoBody l) ∙ u.unmarked))
 
 not_certified : (ps : List TypedProcedure) (certs : List GoalCert) (vs : List Verdict) (t : HasTable ps certs 0 ps vs) (q : ℕ) → q < length vs → get_or (map is_unverified vs) q false ≡ true → IsCertified ps t.table q → ⊥
-not_certified ps certs vs t q l e c = not_accepted (procedure_at ps q) (checked_at t.table q) (get_or vs q verdict.NoBody) (t.own q verdict.NoBody l) (unverified_by (is_verified (get_or vs q verdict.NoBody)) (sym (mark_at vs q verdict.NoBody l) ∙ e)) c.accepted c.program
+not_certified ps certs vs t q l e c = not_accepted (procedure_at ps q) (row_at t.table q) (get_or vs q verdict.NoBody) (t.own q verdict.NoBody l) (unverified_by (is_verified (get_or vs q verdict.NoBody)) (sym (mark_at vs q verdict.NoBody l) ∙ e)) c.accepted c.program
 
 -- ---- Verdicts
 
-same_verdict : (ps : List TypedProcedure) (table : List (List CheckedGoal)) (p : ℕ) (v : Verdict) → IsOwnVerdict (procedure_at ps p) (checked_at table p) v → is_verified v ≡ false → IsCheckedVerdict ps table p v
+same_verdict : (ps : List TypedProcedure) (table : List (List CheckedGoal)) (p : ℕ) (v : Verdict) → IsOwnVerdict (procedure_at ps p) (row_at table p) v → is_verified v ≡ false → IsCheckedVerdict ps table p v
 same_verdict ps table p verdict.Verified h e = cc
 same_verdict ps table p verdict.NoBody h e = h
 same_verdict ps table p (verdict.Unchecked id miss) h e = h
@@ -116,7 +118,7 @@ reaching_verdict ps certs vs t p (verdict.Valid why) c h = absurd h
 reaching_verdict ps certs vs t p (verdict.NotVerified id s) c h = h
 reaching_verdict ps certs vs t p (verdict.Unknown id k) c h = h
 
-marked_verdict : (ps : List TypedProcedure) (certs : List GoalCert) (vs : List Verdict) (t : HasTable ps certs 0 ps vs) (p : ℕ) (own v : Verdict) (b : Bool) → is_verified own ≡ b → (is_verified own ≡ true → IsCertified ps t.table p) → IsOwnVerdict (procedure_at ps p) (checked_at t.table p) own → IsMarkedBy ps (map is_unverified vs) p own v b → IsCheckedVerdict ps t.table p v
+marked_verdict : (ps : List TypedProcedure) (certs : List GoalCert) (vs : List Verdict) (t : HasTable ps certs 0 ps vs) (p : ℕ) (own v : Verdict) (b : Bool) → is_verified own ≡ b → (is_verified own ≡ true → IsCertified ps t.table p) → IsOwnVerdict (procedure_at ps p) (row_at t.table p) own → IsMarkedBy ps (map is_unverified vs) p own v b → IsCheckedVerdict ps t.table p v
 marked_verdict ps certs vs t p own v true e c o h = reaching_verdict ps certs vs t p v (c e) h
 marked_verdict ps certs vs t p own v false e c o h = subst (λ x. IsCheckedVerdict ps t.table p x) (sym h) (same_verdict ps t.table p own o e)
 
@@ -126,7 +128,7 @@ marked_verdict ps certs vs t p own v false e c o h = subst (λ x. IsCheckedVerdi
 record HasRanks (ps : List TypedProcedure) (certs : List GoalCert) (k : ℕ) (qs : List TypedProcedure) (answers : List Answer) : Type 0 where
   ranks : List (List CheckedGoal)
   checked : IsCheckedRankTable ps certs k qs ranks
-  answered : (j : ℕ) (d : Answer) → j < length answers → AreRankingsAnswered (ranked_loops (procedure_at qs j)) (checked_at ranks j) (get_or answers j d).loops.items
+  answered : (j : ℕ) (d : Answer) → j < length answers → AreRankingsAnswered (ranked_loops (procedure_at qs j)) (row_at ranks j) (get_or answers j d).loops.items
 
 with_rankings : (ps : List TypedProcedure) (certs : List GoalCert) (k : ℕ) (q : TypedProcedure) (qs : List TypedProcedure) (a : Answer) (answers : List Answer) → procedure_at ps k ≡ q → AreOwnRankings ps certs k a.loops.items → HasRanks ps certs (suc k) qs answers → HasRanks ps certs k (q ∷ qs) (a ∷ answers)
 with_rankings ps certs k q qs a answers e h rest = record {
@@ -135,7 +137,7 @@ with_rankings ps certs k q qs a answers e h rest = record {
   answered = at;
 }
   where
-    at : (j : ℕ) (d : Answer) → j < length (a ∷ answers) → AreRankingsAnswered (ranked_loops (procedure_at (q ∷ qs) j)) (checked_at (h.checked ∷ rest.ranks) j) (get_or (a ∷ answers) j d).loops.items
+    at : (j : ℕ) (d : Answer) → j < length (a ∷ answers) → AreRankingsAnswered (ranked_loops (procedure_at (q ∷ qs) j)) (row_at (h.checked ∷ rest.ranks) j) (get_or (a ∷ answers) j d).loops.items
     at zero d l = subst (λ x. AreRankingsAnswered (ranked_loops x) h.checked a.loops.items) e h.answered
     at (suc j) d l = rest.answered j d (omega (arith, l))
 
@@ -155,19 +157,6 @@ has_ranks ps certs marks k (q ∷ qs) (v ∷ vs) (a ∷ answers) f e m = with_ra
 
 -- ---- The file
 
-answer_at : (ps : List TypedProcedure) (certs : List GoalCert) (marks : List Bool) (k : ℕ) (vs : List Verdict) (answers : List Answer) → AreMarkedAnswers ps certs marks k vs answers → (j : ℕ) (d : Answer) → j < length answers → IsMarkedAnswer ps certs marks (k + j) (get_or vs j verdict.NoBody) (get_or answers j d)
-answer_at ps certs marks k [] [] h j d l = absurd (omega (arith, l))
-answer_at ps certs marks k [] (a ∷ answers) h j d l = absurd h
-answer_at ps certs marks k (v ∷ vs) [] h j d l = absurd h
-answer_at ps certs marks k (v ∷ vs) (a ∷ answers) h zero d l = let e : k ≡ k + 0 = omega arith in subst (λ n. IsMarkedAnswer ps certs marks n v a) e h.0
-answer_at ps certs marks k (v ∷ vs) (a ∷ answers) h (suc j) d l = let e : suc k + j ≡ k + suc j = omega arith in subst (λ n. IsMarkedAnswer ps certs marks n (get_or vs j verdict.NoBody) (get_or answers j d)) e (answer_at ps certs marks (suc k) vs answers h.1 j d (omega (arith, l)))
-
-answers_sized : (ps : List TypedProcedure) (certs : List GoalCert) (marks : List Bool) (k : ℕ) (vs : List Verdict) (answers : List Answer) → AreMarkedAnswers ps certs marks k vs answers → length answers ≡ length vs
-answers_sized ps certs marks k [] [] h = refl
-answers_sized ps certs marks k [] (a ∷ answers) h = absurd h
-answers_sized ps certs marks k (v ∷ vs) [] h = absurd h
-answers_sized ps certs marks k (v ∷ vs) (a ∷ answers) h = ap (λ n. suc n) (answers_sized ps certs marks (suc k) vs answers h.1)
-
 answers_from : (ps : List TypedProcedure) (table ranks : List (List CheckedGoal)) (k : ℕ) (qs : List TypedProcedure) (answers : List Answer) → length answers ≡ length qs → ((j : ℕ) (d : Answer) → j < length answers → IsCheckedAnswer ps table ranks (k + j) (get_or answers j d)) → AreCheckedAnswers ps table ranks k qs answers
 answers_from ps table ranks k [] [] e f = tt
 answers_from ps table ranks k [] (a ∷ answers) e f = cc
@@ -186,7 +175,7 @@ checked_file ps certs vs answers o m = record {
   ranks = r.ranks;
   checked = t.checked;
   ranks_checked = r.checked;
-  answers_of = answers_from ps t.table r.ranks 0 ps answers (answers_sized ps certs (map is_unverified vs) 0 vs answers m ∙ t.sized) each;
+  answers_of = answers_from ps t.table r.ranks 0 ps answers (sized ∙ t.sized) each;
 }
   where
     t : HasTable ps certs 0 ps vs
@@ -195,11 +184,14 @@ checked_file ps certs vs answers o m = record {
     r : HasRanks ps certs 0 ps answers
     r = has_ranks ps certs (map is_unverified vs) 0 ps vs answers (λ j. let none : 0 + j ≡ j = omega arith in ap (λ n. procedure_at ps n) none) t.sized m
 
+    sized : length answers ≡ length vs
+    sized = numbered_length (IsMarkedAnswer ps certs (map is_unverified vs)) 0 vs answers m
+
     each : (j : ℕ) (d : Answer) → j < length answers → IsCheckedAnswer ps t.table r.ranks (0 + j) (get_or answers j d)
     each j d l =
         let none : 0 + j ≡ j = omega arith in
-        let marked = subst (λ n. IsMarkedAnswer ps certs (map is_unverified vs) n (get_or vs j verdict.NoBody) (get_or answers j d)) none (answer_at ps certs (map is_unverified vs) 0 vs answers m j d l) in
-        let below = subst (λ n. j < n) (answers_sized ps certs (map is_unverified vs) 0 vs answers m) l in
+        let marked = subst (λ n. IsMarkedAnswer ps certs (map is_unverified vs) n (get_or vs j verdict.NoBody) (get_or answers j d)) none (numbered_at (IsMarkedAnswer ps certs (map is_unverified vs)) 0 vs answers j verdict.NoBody d l m) in
+        let below = subst (λ n. j < n) sized l in
         subst (λ n. IsCheckedAnswer ps t.table r.ranks n (get_or answers j d)) (sym none) (record {
           name = marked.name;
           verdict = marked_verdict ps certs vs t j (get_or vs j verdict.NoBody) (get_or answers j d).verdict (is_verified (get_or vs j verdict.NoBody)) refl (certified_by ps certs vs t j below) (t.own j verdict.NoBody below) marked.verdict;
@@ -207,4 +199,4 @@ checked_file ps certs vs answers o m = record {
         })
 
 pub own_sized : (ps : List TypedProcedure) (certs : List GoalCert) (k : ℕ) (qs : List TypedProcedure) (vs : List Verdict) → AreOwn ps certs k qs vs → length vs ≡ length qs
-own_sized ps certs k qs vs h = (has_table ps certs k qs vs h).sized
+own_sized ps certs k qs vs h = numbered_length (IsOwn ps certs) k qs vs h

@@ -1,6 +1,7 @@
 -- Goals that are checked one after the other, and the verdict on a procedure by its own goals and its kind.
 use Rattle.std.proofs.Common.{◌≡◌, ℕ, ◌+◌, ◌<◌, Bool, true, false, refl, ap, sym, subst, ◌∙◌, arith, List, [], ◌∷◌, ◌++◌, get_or, length, map, take, Option, Some, None, if◌then◌else◌}
 use Prim.Native.Nat.{zero, suc}
+use Rattle.std.specs.List.{AllZip}
 use Rattle.std.proofs.lemmas.List.{take_more}
 use Rattle.heyvl_syntax.specs.declared.spans.Span.{Span}
 use Rattle.farkas_check.specs.declared.trees.GoalCert.{GoalCert}
@@ -15,10 +16,10 @@ use Rattle.proc_contracts.specs.declared.reasons.WhyNot.TheVariants as why
 use Rattle.verdict_report.specs.declared.answers.Miss.{Miss}
 use Rattle.verdict_report.specs.declared.answers.NamedGoal.{NamedGoal}
 use Rattle.verdict_report.specs.declared.answers.Verdict.{Verdict}
-use Rattle.verify_core.specs.Checked.{AreChecked, CheckedGoal, IsMissOf, first_miss, missed}
+use Rattle.verify_core.specs.Checked.{CheckedGoal, HasMiss, IsMissOf, first_miss, missed}
 use Rattle.verify_core.specs.Decided.{or_else}
-use Rattle.verify_core.specs.Questions.{AreGoals}
-use Rattle.verify_core.specs.internal.Checking.{AreOwn, IsFirstMiss, IsOwn, IsOwnVerdict}
+use Rattle.verify_core.specs.Questions.{AreGoals, IsGoalOf}
+use Rattle.verify_core.specs.internal.Checking.{IsFirstMiss, IsOwn, IsOwnVerdict}
 use Rattle.verify_core.specs.internal.Verdicts.{verdict_for}
 
 -- ---- One after the other
@@ -59,16 +60,16 @@ one_more certs gs first g miss h m = record {
 
 -- ---- A procedure
 
-are_checked : (ps : List TypedProcedure) (certs : List GoalCert) (p : ℕ) (ids : List GoalId) (cs : List CheckedGoal) → AreGoals ps p ids (map (λ (x : CheckedGoal). x.goal) cs) → Each (λ (x : CheckedGoal). IsMissOf certs x.goal x.miss) cs → AreChecked ps certs p ids cs
-are_checked ps certs p [] [] g m = tt
-are_checked ps certs p [] (c ∷ cs) g m = g
-are_checked ps certs p (id ∷ ids) [] g m = g
-are_checked ps certs p (id ∷ ids) (c ∷ cs) g m = (record { goal = g.0; miss = m.0 }, are_checked ps certs p ids cs g.1 m.1)
+all_checked : {I : Type 0} (Is : I → NamedGoal → Type 0) (certs : List GoalCert) (is : List I) (cs : List CheckedGoal) → AllZip Is is (map (λ (x : CheckedGoal). x.goal) cs) → Each (λ (x : CheckedGoal). IsMissOf certs x.goal x.miss) cs → AllZip (λ i (c : CheckedGoal). HasMiss (Is i) certs c) is cs
+all_checked Is certs [] [] g m = tt
+all_checked Is certs [] (c ∷ cs) g m = g
+all_checked Is certs (i ∷ is) [] g m = g
+all_checked Is certs (i ∷ is) (c ∷ cs) g m = (record { goal = g.0; miss = m.0 }, all_checked Is certs is cs g.1 m.1)
 
 pub own : (ps : List TypedProcedure) (certs : List GoalCert) (p : ℕ) (gs : List NamedGoal) (first : Option (GoalId × Miss)) (v : Verdict) → AreGoals ps p (bound_goals (procedure_at ps p)) gs → IsFirstMiss certs gs first → ((cs : List CheckedGoal) → first_miss cs ≡ first → IsOwnVerdict (procedure_at ps p) cs v) → IsOwn ps certs p (procedure_at ps p) v
 own ps certs p gs first v g h f = record {
   checked = h.checked;
-  are = are_checked ps certs p (bound_goals (procedure_at ps p)) h.checked (subst (λ l. AreGoals ps p (bound_goals (procedure_at ps p)) l) (sym h.goals_of) g) h.misses;
+  are = all_checked (IsGoalOf ps p) certs (bound_goals (procedure_at ps p)) h.checked (subst (λ l. AreGoals ps p (bound_goals (procedure_at ps p)) l) (sym h.goals_of) g) h.misses;
   verdict = f h.checked h.first;
 }
 
@@ -102,12 +103,6 @@ of_reason p why.Quantifier cs e f = (f, (λ b. no_other p _ b e (λ h. cc), sym 
 of_reason p (why.Statement s) cs e f = (f, (λ b. no_other p _ b e (λ h. cc), sym e))
 
 -- ---- All procedures
-
-pub own_more : (ps : List TypedProcedure) (certs : List GoalCert) (k : ℕ) (qs : List TypedProcedure) (vs : List Verdict) (n : ℕ) (q : TypedProcedure) (v : Verdict) → AreOwn ps certs k qs vs → n ≡ k + length qs → IsOwn ps certs n q v → AreOwn ps certs k (qs ++ q ∷ []) (vs ++ v ∷ [])
-own_more ps certs k [] [] n q v h e i = let same : n ≡ k = omega (arith, e) in (subst (λ m. IsOwn ps certs m q v) same i, tt)
-own_more ps certs k [] (w ∷ vs) n q v h e i = absurd h
-own_more ps certs k (x ∷ qs) [] n q v h e i = absurd h
-own_more ps certs k (x ∷ qs) (w ∷ vs) n q v h e i = (h.0, own_more ps certs (suc k) qs vs n q v h.1 (omega (arith, e)) i)
 
 pub take_procedures : (ps : List TypedProcedure) (p : ℕ) → p < length ps → take (p + 1) ps ≡ take p ps ++ procedure_at ps p ∷ []
 take_procedures ps p l = take_more ps p nobody l ∙ ap (λ x. take p ps ++ x ∷ []) (here ps p)

@@ -2,8 +2,7 @@
 use Rattle.std.proofs.Common.{◌≡◌, ◌<◌, ◌+◌, ℕ, refl, sym, ap, ◌∙◌, subst, append-nil, arith, Bool, true, false, List, [], ◌∷◌, ◌++◌, length, get_or, take}
 use Rattle.std.proofs.lemmas.Bool.{false≢true}
 use Rattle.std.proofs.lemmas.List.{length-append, length-map}
-use Rattle.std.specs.Prelude.{◌&&◌, Some, Vec}
-use Rattle.std.specs.declared.alloc.Global.{Global}
+use Rattle.std.specs.Prelude.{◌&&◌, Some}
 use Prim.Native.Nat.{zero, suc}
 use Rattle.heylo_formula.proofs.exported.Agreement.{same_on}
 use Rattle.heylo_formula.specs.BinderNames.{Binder, binders}
@@ -16,8 +15,6 @@ use Rattle.heylo_formula.specs.Typing.{types_in}
 use Rattle.heylo_formula.specs.Variables.{IsOver}
 use Rattle.heylo_formula.specs.declared.goals.GoalId.{GoalId}
 use Rattle.heylo_formula.specs.declared.goals.GoalId.TheVariants.{Main}
-use Rattle.heylo_formula.specs.declared.goals.Made.{Made}
-use Rattle.heylo_formula.specs.declared.goals.Made.TheVariants as made
 use Rattle.heylo_formula.specs.declared.types.Ty.{Ty}
 use Rattle.heylo_formula.specs.declared.values.Val.{Val}
 use Rattle.heylo_formula.specs.declared.values.Val.TheVariants.{Truth}
@@ -39,18 +36,22 @@ use Rattle.verdict_report.specs.declared.answers.NamedGoal.{NamedGoal}
 use Rattle.verdict_report.specs.declared.answers.Verdict.{Verdict}
 use Rattle.verdict_report.specs.declared.answers.Verdict.TheVariants.{Verified, NotVerified}
 use Rattle.verify_core.specs.Answered.{AreAnswers, IsAnswer, IsClosed, IsVerdict}
-use Rattle.verify_core.specs.Decided.{AreDecided, DecidedGoal, IsDecisionOf, IsTable, all_proved, decided_at, falsified, first_falsified, is_proved, or_else}
+use Rattle.verify_core.specs.Decided.{AreDecided, DecidedGoal, IsDecisionOf, IsTable, all_proved, falsified, first_falsified, is_proved, or_else}
 use Rattle.verify_core.specs.DecidedRankings.{IsRankTable}
 use Rattle.verify_core.specs.GoalLaws.{MadeGoalsSayBounds}
 use Rattle.verify_core.specs.Headline.{IsBrokenFrom, IsHeadline, IsVerdictOn}
-use Rattle.verify_core.specs.Questions.{IsGoalOf, IsMadeOf, Question, all_names, goal, question}
+use Rattle.verify_core.specs.Numbered.{row_at}
+use Rattle.verify_core.specs.Questions.{IsGoalOf, goal, question}
 use Rattle.verify_core.specs.Rankings.{ranked_loops}
 use Rattle.verify_core.specs.internal.Settled.{IsSettled, TellsOf}
 use Rattle.loop_encodings.proofs.exported.EncodedTypes.{encoding_fits}
 use Rattle.loop_encodings.proofs.exported.FromRules.{each_at, each_first, each_second}
 use Rattle.ranking_rule.specs.Laws.{RankingGoalsHold, RankingsBoundTurns}
+use Rattle.ranking_rule.specs.MadeGoals.{all_names}
+use Rattle.verify_core.proofs.MadeGoals.{falsified_fails, proved_holds}
 use Rattle.verify_core.proofs.RankedLoops.{ranked_loop}
-use Rattle.verify_core.proofs.Rows.{rank_row_at, row_at, settled_at}
+use Rattle.verify_core.proofs.Rows.{bounds_at, rankings_at, settled_at}
+use Rattle.verify_core.proofs.SideBySide.{IsPlaced, placed}
 use Rattle.vp_generator.specs.Generated.{vp}
 use Rattle.vp_generator.specs.Laws.{GeneratedFormMeansActs}
 use Rattle.vp_generator.specs.Over.{GeneratedFormIsOver}
@@ -59,17 +60,6 @@ use Rattle.vp_generator.specs.Prenexed.{new_types, prenexed}
 use Rattle.vp_generator.specs.PrenexedGoals.{prenexed_goal}
 
 -- ---- Proved goals hold
-
-proved_holds : (q : Question) (m : Made) (d : Decision) → IsMadeOf q m → IsDecisionOf m d → TellsOf m d → is_proved d ≡ true → Holds (goal q)
-proved_holds q (made.Goal g) (Proved t) h k m e = subst (λ (g : Goal). Holds g) h.0 m
-proved_holds q (made.Goal g) (Falsified s) h k m e = absurd (false≢true e)
-proved_holds q (made.Goal g) (Unknown c) h k m e = absurd (false≢true e)
-proved_holds q made.Depth (Proved t) h k m e = absurd (cc)
-proved_holds q made.Depth (Falsified s) h k m e = absurd (false≢true e)
-proved_holds q made.Depth (Unknown c) h k m e = absurd (false≢true e)
-proved_holds q made.Nodes (Proved t) h k m e = absurd (cc)
-proved_holds q made.Nodes (Falsified s) h k m e = absurd (false≢true e)
-proved_holds q made.Nodes (Unknown c) h k m e = absurd (false≢true e)
 
 and_both : (a b : Bool) → (a && b) ≡ true → (a ≡ true) × (b ≡ true)
 and_both true b e = (refl, e)
@@ -81,18 +71,13 @@ row_holds ps p [] (d ∷ ds) h s e = absurd h
 row_holds ps p (id ∷ ids) [] h s e = absurd h
 row_holds ps p (id ∷ ids) (d ∷ ds) h s e =
     let k = and_both (is_proved d.decision) (all_proved ds) e in
-    (proved_holds (question ps (procedure_at ps p) id) d.goal.made d.decision h.0.goal.made s.0.decision s.0.meaning k.0, row_holds ps p ids ds h.1 s.1 k.1)
+    (proved_holds (question ps (procedure_at ps p) id).found (goal (question ps (procedure_at ps p) id)) d.goal.made d.decision h.0.goal.made s.0.decision s.0.meaning k.0, row_holds ps p ids ds h.1 s.1 k.1)
 
 each_there : {A : Type 0} (P Q : A → Type 0) (xs : List A) → ((x : A) → P x → Q x) → Each P xs → Each Q xs
 each_there P Q [] f h = tt
 each_there P Q (x ∷ xs) f h = (f x h.0, each_there P Q xs f h.1)
 
 -- ---- Falsified goals fail
-
-falsified_fails : (q : Question) (m : Made) (s : Vec Val Global) → IsMadeOf q m → IsDecisionOf m (Falsified s) → TellsOf m (Falsified s) → Fails (goal q) s.items
-falsified_fails q (made.Goal g) s h k t = subst (λ (g : Goal). Fails g s.items) h.0 t
-falsified_fails q made.Depth s h k t = absurd (cc)
-falsified_fails q made.Nodes s h k t = absurd (cc)
 
 same_some : {A : Type 0} (a b : A) → Some a ≡ Some b → a ≡ b
 same_some a b e = cc
@@ -102,7 +87,7 @@ fails_by ps p i id s g (Proved t) ds h k m e f = f e
 fails_by ps p i id s g (Unknown c) ds h k m e f = f e
 fails_by ps p i id s g (Falsified t) ds h k m e f =
     let w : ◌≡◌ {A = GoalId × List Val} (g.id, t.items) (id, s) = same_some _ _ e in
-    let there = falsified_fails (question ps (procedure_at ps p) i) g.made t h.made k m in
+    let there = falsified_fails (question ps (procedure_at ps p) i).found (goal (question ps (procedure_at ps p) i)) g.made t h.made k m in
     subst (λ (x : GoalId × List Val). Fails (goal (question ps (procedure_at ps p) x.0)) x.1) w (subst (λ j. Fails (goal (question ps (procedure_at ps p) j)) t.items) (sym h.id_of) there)
 
 row_fails : (ps : List TypedProcedure) (p : ℕ) (ids : List GoalId) (row : List DecidedGoal) (id : GoalId) (s : List Val) → AreDecided ps p ids row → Each IsSettled row → first_falsified row ≡ Some (id, s) → Fails (goal (question ps (procedure_at ps p) id)) s
@@ -213,36 +198,8 @@ program_there [] q h = absurd (cc)
 program_there (p ∷ ps) zero h = omega arith
 program_there (p ∷ ps) (suc q) h = let k = program_there ps q h in omega (arith, k)
 
-record IsAnswered_at (ps : List TypedProcedure) (table ranks : List (List DecidedGoal)) (k : ℕ) (count : ℕ) (n : ℕ) (a : Answer) : Type 0 where
-  pub answer : IsAnswer ps table ranks (k + n) a
-  pub there : n < count
-
-answer_from : (ps : List TypedProcedure) (table ranks : List (List DecidedGoal)) (k : ℕ) (qs : List TypedProcedure) (before behind : List Answer) (a : Answer) → AreAnswers ps table ranks k qs (before ++ (a ∷ behind)) → IsAnswered_at ps table ranks k (length qs) (length before) a
-answer_from ps table ranks k [] [] behind a h = absurd h
-answer_from ps table ranks k [] (b ∷ bs) behind a h = absurd h
-answer_from ps table ranks k (q ∷ qs) [] behind a h = record { answer = subst (λ i. IsAnswer ps table ranks i a) (plain k) h.0; there = omega arith }
-  where
-    plain : (k : ℕ) → k ≡ k + zero
-    plain k = omega arith
-answer_from ps table ranks k (q ∷ qs) (b ∷ bs) behind a h =
-    let r = answer_from ps table ranks (suc k) qs bs behind a h.1 in
-    let l = r.there in
-    record { answer = subst (λ i. IsAnswer ps table ranks i a) (step k (length bs)) r.answer; there = omega (arith, l) }
-  where
-    step : (k n : ℕ) → suc k + n ≡ k + suc n
-    step k n = omega arith
-
-record IsAnsweredAt (ps : List TypedProcedure) (table ranks : List (List DecidedGoal)) (p : ℕ) (a : Answer) : Type 0 where
-  pub answer : IsAnswer ps table ranks p a
-  pub there : p < length ps
-
-answered : (ps : List TypedProcedure) (table ranks : List (List DecidedGoal)) (all before behind : List Answer) (a : Answer) (p : ℕ) → AreAnswers ps table ranks 0 ps all → all ≡ before ++ (a ∷ behind) → length before ≡ p → IsAnsweredAt ps table ranks p a
-answered ps table ranks all before behind a p h e place =
-    let r = answer_from ps table ranks 0 ps before behind a (subst (AreAnswers ps table ranks 0 ps) e h) in
-    record { answer = subst (λ i. IsAnswer ps table ranks i a) (first (length before) ∙ place) r.answer; there = subst (λ i. i < length ps) place r.there }
-  where
-    first : (n : ℕ) → 0 + n ≡ n
-    first n = omega arith
+answered : (ps : List TypedProcedure) (table ranks : List (List DecidedGoal)) (all before behind : List Answer) (a : Answer) (p : ℕ) → AreAnswers ps table ranks 0 ps all → all ≡ before ++ (a ∷ behind) → length before ≡ p → IsPlaced (IsAnswer ps table ranks) (length ps) p p a
+answered ps table ranks all before behind a p h e place = placed (IsAnswer ps table ranks) ps all before behind a p h e place
 
 record Said (ps : List TypedProcedure) (table : List (List DecidedGoal)) (p : ℕ) (v : Verdict) : Type 0 where
   pub verdict : IsVerdict ps table p v
@@ -251,7 +208,7 @@ record Said (ps : List TypedProcedure) (table : List (List DecidedGoal)) (p : �
 said : (ps : List TypedProcedure) (table ranks : List (List DecidedGoal)) (answers : List Answer) (p : ℕ) (v : Verdict) → AreAnswers ps table ranks 0 ps answers → IsVerdictOn answers p v → Said ps table p v
 said ps table ranks answers p v h on =
     let r = answered ps table ranks answers on.before on.behind on.answer p h on.all on.place in
-    record { verdict = subst (IsVerdict ps table p) on.verdict r.answer.verdict; there = r.there }
+    record { verdict = subst (IsVerdict ps table p) on.verdict r.is.verdict; there = r.there }
 
 module _ (same : MadeGoalsSayBounds) (shown_bounds : ShownBoundsHold) (broken_goals : BrokenGoalsBreakBounds) (over : EncodingIsOver) (means : GeneratedFormMeansActs) (generated_over : GeneratedFormIsOver) (choices : ValuesAreChoices) (ps : List TypedProcedure) (table : List (List DecidedGoal)) (rules : Each (MeetsRules ps) ps) (decided : IsTable ps 0 ps table) (settled : Each (Each IsSettled) table) where
   shown : (q : ℕ) → IsClosed ps table q → IsShown ps q
@@ -259,10 +216,10 @@ module _ (same : MadeGoalsSayBounds) (shown_bounds : ShownBoundsHold) (broken_go
       let l = program_there ps q h.program in
       record {
         program = h.program;
-        goals = each_there (λ id. Holds (goal (question ps (procedure_at ps q) id))) (GoalHolds ps (procedure_at ps q)) (bound_goals (procedure_at ps q)) (λ id. (same ps q id rules l).0) (row_holds ps q (bound_goals (procedure_at ps q)) (decided_at table q) (row_at ps table q l decided) (settled_at table q settled) h.proved);
+        goals = each_there (λ id. Holds (goal (question ps (procedure_at ps q) id))) (GoalHolds ps (procedure_at ps q)) (bound_goals (procedure_at ps q)) (λ id. (same ps q id rules l).0) (row_holds ps q (bound_goals (procedure_at ps q)) (row_at table q) (bounds_at ps table q l decided) (settled_at table q settled) h.proved);
       }
 
-  main_fails : (p : ℕ) (s : List Val) → p < length ps → first_falsified (decided_at table p) ≡ Some (Main, s) → FailsIn (procedure_at ps p).co (type_list (all_variables ps (procedure_at ps p))) (procedure_at ps p).pre (vp (encoding ps (procedure_at ps p)) (procedure_at ps p).post) (take (length (type_list (all_variables ps (procedure_at ps p)))) s)
+  main_fails : (p : ℕ) (s : List Val) → p < length ps → first_falsified (row_at table p) ≡ Some (Main, s) → FailsIn (procedure_at ps p).co (type_list (all_variables ps (procedure_at ps p))) (procedure_at ps p).pre (vp (encoding ps (procedure_at ps p)) (procedure_at ps p).post) (take (length (type_list (all_variables ps (procedure_at ps p)))) s)
   main_fails p s l e =
       let q = procedure_at ps p in
       let vs = all_variables ps q in
@@ -276,9 +233,9 @@ module _ (same : MadeGoalsSayBounds) (shown_bounds : ShownBoundsHold) (broken_go
       let pre_over : IsOver (length (type_list vs)) q.pre = λ x k. let m = meets.pre_over x k in omega (arith, m, a, b, d) in
       let post_over : IsOver (length vs) q.post = λ x k. let m = meets.post_over x k in omega (arith, m, b, d, f, g) in
       let found_over : IsOver (length (type_list vs)) found = subst (λ n. IsOver n found) (sym a) (generated_over (length vs) (encoding ps q) q.post (over ps p rules l) post_over) in
-      fails_in choices q.co (type_list vs) (all_names (question ps q Main)) q.pre found pre_over found_over s (row_fails ps p (bound_goals q) (decided_at table p) Main s (row_at ps table p l decided) (settled_at table p settled) e)
+      fails_in choices q.co (type_list vs) (all_names vs found) q.pre found pre_over found_over s (row_fails ps p (bound_goals q) (row_at table p) Main s (bounds_at ps table p l decided) (settled_at table p settled) e)
 
-  broken : (p : ℕ) (s : List Val) → p < length ps → first_falsified (decided_at table p) ≡ Some (Main, s) → IsProgram (procedure_at ps p) → Each IsStraight (in_order (acts_in (procedure_at ps p).body)) → IsBrokenFrom ps p (take (length (variables (procedure_at ps p))) s)
+  broken : (p : ℕ) (s : List Val) → p < length ps → first_falsified (row_at table p) ≡ Some (Main, s) → IsProgram (procedure_at ps p) → Each IsStraight (in_order (acts_in (procedure_at ps p).body)) → IsBrokenFrom ps p (take (length (variables (procedure_at ps p))) s)
   broken p s l e program straight =
       let q = procedure_at ps p in
       let acts = acts_in q.body in
@@ -298,6 +255,6 @@ module _ (same : MadeGoalsSayBounds) (shown_bounds : ShownBoundsHold) (broken_go
     verified = λ p on. let k = said ps table ranks answers p Verified h on in shown_bounds ps p rules k.there (record { itself = shown p k.verdict.0; reached = λ q m. shown q (k.verdict.1 q m) });
     ranked = λ p n on.
         let r = answered ps table ranks answers on.before on.behind on.answer p h on.all on.place in
-        ranked_loop bound hold ps p n (ranked_loops (procedure_at ps p)) (decided_at ranks p) on.answer.loops.items on.line rules r.there (rank_row_at ps ranks p r.there ranked) (settled_at ranks p ranks_settled) r.answer.loops on.listed on.number on.verdict;
+        ranked_loop bound hold ps p n (ranked_loops (procedure_at ps p)) (row_at ranks p) on.answer.loops.items on.line rules r.there (rankings_at ps ranks p r.there ranked) (settled_at ranks p ranks_settled) r.is.loops on.listed on.number on.verdict;
     falsified = λ p s on program straight. let k = said ps table ranks answers p (NotVerified Main s) h on in broken p s.items k.there k.verdict program straight;
   }

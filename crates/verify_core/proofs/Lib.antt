@@ -1,18 +1,17 @@
-mod EachOf
-mod InvariantsOver
-mod PrenexedSizes
+mod SideBySide
+mod ActWalks
 mod MadeGoals
 mod AskedBounds
 mod AskedGoals
 mod MainGoals
 mod ListedGoals
 mod SaidBounds
+mod FreshVariables
 mod DecidedGoals
 mod GoalOutcomes
 mod Rows
 mod ProcedureMarks
 mod RankedNumbers
-mod RankedActs
 mod RankedLoops
 mod ProvedVerdicts
 mod FileAnswers
@@ -33,3 +32,4 @@ mod ServedGoals
 mod AcceptedProofs
 mod HeadlineExamples
 mod RankingExamples
+mod CheckedExamples

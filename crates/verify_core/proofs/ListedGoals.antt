@@ -19,12 +19,7 @@ use Rattle.verify_core.specs.Questions.{AreGoals, IsGoalOf, IsMadeOf, one_bound,
 use Rattle.verify_core.specs.declared.asking.Asked as declared
 use Rattle.verify_core.specs.internal.Asked.{Asked, IsAsked, asked, plain}
 use Rattle.verify_core.proofs.AskedBounds.{asked_ids}
-
-goals_push : (ps : List TypedProcedure) (p : ℕ) (ids : List GoalId) (gs : List NamedGoal) (id : GoalId) (g : NamedGoal) → AreGoals ps p ids gs → IsGoalOf ps p id g → AreGoals ps p (ids ++ id ∷ []) (gs ++ g ∷ [])
-goals_push ps p [] [] id g h k = (k, tt)
-goals_push ps p [] (x ∷ gs) id g h k = absurd h
-goals_push ps p (i ∷ ids) [] id g h k = absurd h
-goals_push ps p (i ∷ ids) (x ∷ gs) id g h k = (h.0, goals_push ps p ids gs id g h.1 k)
+use Rattle.verify_core.proofs.SideBySide.{zip_more}
 
 ids_more : (ids : List GoalId) (ys : List declared.Asked) (y : declared.Asked) → (ids ++ map (λ (a : Asked). a.0) (map plain ys)) ++ y.id ∷ [] ≡ ids ++ map (λ (a : Asked). a.0) (map plain (ys ++ y ∷ []))
 ids_more ids ys y = append_assoc ids (map (λ (a : Asked). a.0) (map plain ys)) (y.id ∷ []) ∙ ap (λ l. ids ++ l) (sym (ap (λ l. map (λ (a : Asked). a.0) l) (map-append plain ys (y ∷ [])) ∙ map-append (λ (a : Asked). a.0) (map plain ys) (plain y ∷ [])))
@@ -34,7 +29,7 @@ pub pushed_goal : (ps : List TypedProcedure) (p : ℕ) (x : TProc) (before after
 pushed_goal ps p x before after g ids ys y here a i j m e h =
     subst (λ l. AreGoals ps p (ids ++ map (λ (b : Asked). b.0) (map plain (ys ++ y ∷ []))) l) (sym e) (
     subst (λ l. AreGoals ps p l (before ++ g ∷ [])) (ids_more ids ys y) (
-    goals_push ps p (ids ++ map (λ (b : Asked). b.0) (map plain ys)) before y.id g h (record { proc = i; id_of = j; made = subst (λ q. IsMadeOf q g.made) (sym (a.asks ∙ ap (λ (q : TypedProcedure). one_bound q (form_of y.form)) here)) m })))
+    zip_more (IsGoalOf ps p) (ids ++ map (λ (b : Asked). b.0) (map plain ys)) before y.id g h (record { proc = i; id_of = j; made = subst (λ q. IsMadeOf q g.made) (sym (a.asks ∙ ap (λ (q : TypedProcedure). one_bound q (form_of y.form)) here)) m })))
 
 -- ---- Which goals there are
 

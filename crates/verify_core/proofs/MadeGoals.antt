@@ -1,63 +1,95 @@
--- What is made of two forms over variables is what the question asks for: the names and types of the variables are the same.
-use Rattle.std.proofs.Common.{◌≡◌, ℕ, ◌<◌, refl, sym, ap, ◌∙◌, arith, List, [], ◌∷◌, ◌++◌, append_assoc, map, length, get_or}
-use Rattle.std.proofs.lemmas.List.{append-nil}
-use Prim.Native.Nat.{zero, suc}
-use Rattle.heylo_formula.specs.BinderNames.{Binder, binders}
+-- What is made of a goal, and what its decision or its certificate says of the goal.
+use Rattle.std.proofs.Common.{◌≡◌, ◌≤◌, ℕ, sym, ◌∙◌, subst, arith, true, Bool, List}
+use Rattle.std.proofs.lemmas.Bool.{false≢true}
+use Rattle.std.specs.Prelude.{Some, Vec}
+use Rattle.std.specs.declared.alloc.Global.{Global}
+use Rattle.heyvl_syntax.specs.declared.spans.Span.{Span}
+use Rattle.farkas_check.specs.Accepted.{IsCertificate}
+use Rattle.farkas_check.specs.CertificateLaws.{CertifiedGoalsHold}
+use Rattle.farkas_check.specs.Trees.{Tree}
+use Rattle.heylo_formula.specs.Formula.{Form}
+use Rattle.heylo_formula.specs.Goals.{Goal, Holds, goal_of}
+use Rattle.heylo_formula.specs.TypedGoals.{IsGoal, IsTypedGoal}
 use Rattle.heylo_formula.specs.declared.goals.Made.{Made}
 use Rattle.heylo_formula.specs.declared.goals.Made.TheVariants as made
-use Rattle.heyvl_types.specs.Acts.{type_list}
-use Rattle.heyvl_types.specs.PlainActs.{variable_of}
-use Rattle.heyvl_types.specs.declared.typed.VarInfo.{VarInfo}
-use Rattle.vp_generator.specs.PrenexedGoals.{IsMade, names_of_variables, prenexed_goal, types_of_variables}
-use Rattle.vp_generator.specs.Scopes.{AreNamed, name_of, named}
-use Rattle.verify_core.specs.Questions.{IsMadeOf, Question, all_names, names}
+use Rattle.heylo_formula.specs.declared.values.Val.{Val}
+use Rattle.linear_elim.specs.declared.answers.Cause.{Cause}
+use Rattle.linear_elim.specs.declared.answers.Cause.TheVariants as cause
+use Rattle.linear_form.specs.Nonlinear.{nonlinear_product}
+use Rattle.ranking_rule.specs.Laws.{IsFew}
+use Rattle.ranking_rule.specs.MadeGoals.{IsMadeWithin}
+use Rattle.region_split.specs.Meanings.{Fails}
+use Rattle.region_split.specs.declared.decisions.Decision.{Decision}
+use Rattle.region_split.specs.declared.decisions.Decision.TheVariants.{Proved, Falsified, Unknown}
+use Rattle.verdict_report.specs.Placed.{IsCausePlaced}
+use Rattle.vp_generator.specs.Limits.{IsSmall}
+use Rattle.verify_core.specs.Checked.{Certifies}
+use Rattle.verify_core.specs.Decided.{IsDecisionOf, is_proved}
+use Rattle.verify_core.specs.internal.Decidable.{CanDecide, IsDecidable}
+use Rattle.verify_core.specs.internal.Settled.{TellsOf}
 
-same_names : (vs : List VarInfo) → names (map variable_of vs) ≡ names_of_variables vs
-same_names [] = refl
-same_names (v ∷ vs) = ap (λ l. v.name ∷ l) (same_names vs)
+-- ---- What may be made
 
-same_types : (vs : List VarInfo) → type_list (map variable_of vs) ≡ types_of_variables vs
-same_types [] = refl
-same_types (v ∷ vs) = ap (λ l. v.ty ∷ l) (same_types vs)
+-- It can be decided.
+pub decidable : (f : Form) (g : Goal) (m : Made) → IsGoal g → (IsSmall f → IsFew g) → IsMadeWithin f g m → CanDecide m
+decidable f g (made.Goal x) i few h =
+    let k = few h.1 in
+    subst IsDecidable (sym h.0) (record { typed = i.typed; over = i.over; stated = k.stated; found = k.found; variables = k.variables })
+decidable f g made.Depth i few h = tt
+decidable f g made.Nodes i few h = tt
 
-name_at : (vs extra : List VarInfo) (x : ℕ) → x < length vs → name_of (vs ++ extra) x ≡ get_or (names_of_variables vs) x []
-name_at [] extra x l = absurd (omega (arith, l))
-name_at (v ∷ vs) extra zero l = refl
-name_at (v ∷ vs) extra (suc x) l = name_at vs extra x (omega (arith, l))
+-- Where the first is a goal, the second is the same one.
+abbrev pub AreAlike : Made → Made → Type 0
+AreAlike (made.Goal g) (made.Goal h) = goal_of g ≡ goal_of h
+AreAlike (made.Goal g) made.Depth = ⊥
+AreAlike (made.Goal g) made.Nodes = ⊥
+AreAlike made.Depth n = Unit {0}
+AreAlike made.Nodes n = Unit {0}
 
-name_behind : (vs : List VarInfo) (v : VarInfo) → names_of_variables (vs ++ v ∷ []) ≡ names_of_variables vs ++ v.name ∷ []
-name_behind [] v = refl
-name_behind (u ∷ vs) v = ap (λ l. u.name ∷ l) (name_behind vs v)
+-- The same is made twice.
+pub made_alike : (f : Form) (g : Goal) (m n : Made) → IsMadeWithin f g m → IsMadeWithin f g n → AreAlike m n
+made_alike f g (made.Goal x) (made.Goal y) a b = a.0 ∙ sym b.0
+made_alike f g (made.Goal x) made.Depth a b = let s = a.1.shallow in omega (arith, s, b)
+made_alike f g (made.Goal x) made.Nodes a b = let s = a.1.few in omega (arith, s, b)
+made_alike f g made.Depth n a b = tt
+made_alike f g made.Nodes n a b = tt
 
-abbrev binder_name : List VarInfo → Binder → List ℕ
-binder_name vs b = get_or (names_of_variables vs) b.0 []
+-- ---- By its decision
 
-named_names : (vs extra : List VarInfo) (bs : List Binder) → AreNamed (length vs) bs → names_of_variables (named (vs ++ extra) bs) ≡ names_of_variables (vs ++ extra) ++ map (λ b. binder_name vs b) bs
-named_names vs extra [] h = sym (append-nil (names_of_variables (vs ++ extra)))
-named_names vs extra (b ∷ bs) h =
-    ap (λ l. names_of_variables (named l bs)) (append_assoc vs extra (new ∷ []))
-    ∙ (named_names vs (extra ++ new ∷ []) bs h.1
-    ∙ (ap (λ l. names_of_variables l ++ map (λ c. binder_name vs c) bs) (sym (append_assoc vs extra (new ∷ [])))
-    ∙ (ap (λ l. l ++ map (λ c. binder_name vs c) bs) (name_behind (vs ++ extra) new ∙ ap (λ x. names_of_variables (vs ++ extra) ++ x ∷ []) (name_at vs extra b.0 h.0))
-    ∙ append_assoc (names_of_variables (vs ++ extra)) (binder_name vs b ∷ []) (map (λ c. binder_name vs c) bs))))
-  where
-    new : VarInfo
-    new = record { name = name_of (vs ++ extra) b.0; ty = b.1 }
+pub proved_holds : (f : Form) (g : Goal) (m : Made) (d : Decision) → IsMadeWithin f g m → IsDecisionOf m d → TellsOf m d → is_proved d ≡ true → Holds g
+proved_holds f g (made.Goal x) (Proved t) h k m e = subst (λ (y : Goal). Holds y) h.0 m
+proved_holds f g (made.Goal x) (Falsified s) h k m e = absurd (false≢true e)
+proved_holds f g (made.Goal x) (Unknown c) h k m e = absurd (false≢true e)
+proved_holds f g made.Depth (Proved t) h k m e = absurd (cc)
+proved_holds f g made.Depth (Falsified s) h k m e = absurd (false≢true e)
+proved_holds f g made.Depth (Unknown c) h k m e = absurd (false≢true e)
+proved_holds f g made.Nodes (Proved t) h k m e = absurd (cc)
+proved_holds f g made.Nodes (Falsified s) h k m e = absurd (false≢true e)
+proved_holds f g made.Nodes (Unknown c) h k m e = absurd (false≢true e)
 
-all_are_named : (vs : List VarInfo) (bs : List Binder) → AreNamed (length vs) bs → names_of_variables (named vs bs) ≡ names_of_variables vs ++ map (λ b. binder_name vs b) bs
-all_are_named vs bs h = ap (λ l. names_of_variables (named l bs)) (sym (append-nil vs)) ∙ (named_names vs [] bs h ∙ ap (λ l. names_of_variables l ++ map (λ b. binder_name vs b) bs) (append-nil vs))
+pub falsified_fails : (f : Form) (g : Goal) (m : Made) (s : Vec Val Global) → IsMadeWithin f g m → IsDecisionOf m (Falsified s) → TellsOf m (Falsified s) → Fails g s.items
+falsified_fails f g (made.Goal x) s h k t = subst (λ (y : Goal). Fails y s.items) h.0 t
+falsified_fails f g made.Depth s h k t = absurd (cc)
+falsified_fails f g made.Nodes s h k t = absurd (cc)
 
--- What is made of the two forms of a question over its variables is made of the question.
-pub made_of : (q : Question) (vs : List VarInfo) (made : Made) → map variable_of vs ≡ q.variables → AreNamed (length vs) (binders q.found) → IsMade q.upper q.stated q.found vs made → IsMadeOf q made
-made_of q vs (made.Goal g) e n h = (h.0 ∙ (ap (λ t. prenexed_goal q.upper t (names_of_variables (named vs (binders q.found))) q.stated q.found) types ∙ ap (λ l. prenexed_goal q.upper (type_list q.variables) l q.stated q.found) all), h.1)
-  where
-    types : types_of_variables vs ≡ type_list q.variables
-    types = sym (same_types vs) ∙ ap type_list e
+same_cause : (c d : Cause) → ◌≡◌ {A = Decision} (Unknown c) (Unknown d) → c ≡ d
+same_cause c d e = cc
 
-    own : names_of_variables vs ≡ names q.variables
-    own = sym (same_names vs) ∙ ap names e
+-- The place that the cause names is in the text, where the goal's first product is.
+pub cause_placed : (n : ℕ) (f : Form) (g : Goal) (m : Made) (c : Cause) → ((s : Span) → nonlinear_product g ≡ Some s → s.from ≤ n) → IsMadeWithin f g m → IsDecisionOf m (Unknown c) → IsCausePlaced n c
+cause_placed n f g (made.Goal x) cause.Depth w h k = tt
+cause_placed n f g (made.Goal x) cause.Nodes w h k = tt
+cause_placed n f g (made.Goal x) (cause.Nonlinear s) w h k = w s (subst (λ (y : Goal). nonlinear_product y ≡ Some s) h.0 k)
+cause_placed n f g (made.Goal x) (cause.Cells count) w h k = tt
+cause_placed n f g (made.Goal x) (cause.Rows step count) w h k = tt
+cause_placed n f g (made.Goal x) cause.Bits w h k = tt
+cause_placed n f g (made.Goal x) (cause.Fraction b) w h k = tt
+cause_placed n f g made.Depth c w h k = subst (IsCausePlaced n) (sym (same_cause c cause.Depth k)) tt
+cause_placed n f g made.Nodes c w h k = subst (IsCausePlaced n) (sym (same_cause c cause.Nodes k)) tt
 
-    all : names_of_variables (named vs (binders q.found)) ≡ all_names q
-    all = all_are_named vs (binders q.found) n ∙ ap (λ l. l ++ map (λ (b : Binder). get_or l b.0 []) (binders q.found)) own
-made_of q vs made.Depth e n h = h
-made_of q vs made.Nodes e n h = h
+-- ---- By its certificate
+
+pub certified_holds : CertifiedGoalsHold → (f : Form) (g : Goal) (m : Made) (t : Tree) → IsTypedGoal g → IsMadeWithin f g m → Certifies m t → Holds g
+certified_holds law f g (made.Goal x) t s h c = law g t s (subst (λ y. IsCertificate y t) h.0 c)
+certified_holds law f g made.Depth t s h c = absurd c
+certified_holds law f g made.Nodes t s h c = absurd c

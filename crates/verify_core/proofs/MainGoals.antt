@@ -22,11 +22,11 @@ use Rattle.vp_generator.specs.Generated.{vp}
 use Rattle.vp_generator.specs.PrenexedGoals.{IsMade}
 use Rattle.vp_generator.specs.Scopes.{AreNamed, GeneratedFormIsNamed}
 use Rattle.verify_core.specs.PostBinders.{HasNamedBinders}
-use Rattle.verify_core.specs.Questions.{IsMadeOf, one_bound, question}
+use Rattle.verify_core.specs.Questions.{IsMadeOf, Question, one_bound, question}
 use Rattle.verify_core.proofs.AskedGoals.{few_variables}
 use Rattle.loop_encodings.proofs.exported.EncodedTypes.{encoding_fits}
 use Rattle.loop_encodings.proofs.exported.FromRules.{each_at, is_there, procedure_is, rules_at}
-use Rattle.verify_core.proofs.MadeGoals.{made_of}
+use Rattle.ranking_rule.proofs.exported.MadeGoals.{is_made_within}
 use Rattle.loop_encodings.proofs.exported.OwnVariables.{own_length, own_variables}
 
 pub named_more : (m n : ℕ) (bs : List Binder) → m ≤ n → AreNamed m bs → AreNamed n bs
@@ -35,6 +35,9 @@ named_more m n (b ∷ bs) l h = (let k = h.0 in omega (arith, l, k), named_more 
 
 as_many : (vs : List VarInfo) (us : List Variable) → map variable_of vs ≡ us → length vs ≡ length us
 as_many vs us e = sym (length-map vs variable_of) ∙ ap (λ (l : List Variable). length l) e
+
+made_of : (q : Question) (vs : List VarInfo) (made : Made) → map variable_of vs ≡ q.variables → AreNamed (length vs) (binders q.found) → IsMade q.upper q.stated q.found vs made → IsMadeOf q made
+made_of q vs made e n h = is_made_within q.upper vs q.variables q.stated q.found made e n h
 
 module _ (typed : Typed) (p : ℕ) (x : TProc) (rules : MeetsAllRules typed) (lt : p < length typed.procs.items) (is : x ≡ get_or typed.procs.items p x) where
   abbrev ps : List TypedProcedure

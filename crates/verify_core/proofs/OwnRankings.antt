@@ -1,5 +1,5 @@
 -- The answers on the rankings of a procedure, one after the other.
-use Rattle.std.proofs.Common.{ℕ, ap, ◌∙◌, List, [], ◌∷◌, ◌++◌}
+use Rattle.std.proofs.Common.{ℕ, ap, ◌∙◌, List, [], ◌∷◌}
 use Rattle.cert_text.specs.Certificates.{loop_of}
 use Rattle.farkas_check.specs.declared.trees.GoalCert.{GoalCert}
 use Rattle.heyvl_types.specs.Acts.{TypedProcedure, procedure_at}
@@ -9,12 +9,6 @@ use Rattle.verify_core.specs.Checked.{CheckedGoal}
 use Rattle.verify_core.specs.CheckedRankings.{AreRankingsAnswered, AreRankingsChecked}
 use Rattle.verify_core.specs.Rankings.{AreRankingGoals, IsRankingGoal, ranked_loops}
 use Rattle.verify_core.specs.internal.OwnRankings.{AreLoopAnswers, AreOwnRankings, IsLoopAnswer}
-
-pub loop_behind : (certs : List GoalCert) (gs : List NamedGoal) (ls : List LoopAnswer) (g : NamedGoal) (l : LoopAnswer) → AreLoopAnswers certs gs ls → IsLoopAnswer certs g l → AreLoopAnswers certs (gs ++ g ∷ []) (ls ++ l ∷ [])
-loop_behind certs [] [] g l h a = (a, tt)
-loop_behind certs [] (x ∷ ls) g l h a = absurd h
-loop_behind certs (x ∷ gs) [] g l h a = absurd h
-loop_behind certs (x ∷ gs) (y ∷ ls) g l h a = (h.0, loop_behind certs gs ls g l h.1 a)
 
 -- The checked goals of the rankings of these loops, and the answers by them.
 record HasRow (ps : List TypedProcedure) (certs : List GoalCert) (p : ℕ) (ns : List ℕ) (loops : List LoopAnswer) : Type 0 where
@@ -26,11 +20,11 @@ one_more : (ps : List TypedProcedure) (certs : List GoalCert) (p n : ℕ) (ns : 
 one_more ps certs p n ns g l ls h a rest = record {
   checked = (record { goal = g; miss = a.miss }) ∷ rest.checked;
   are = (record { goal = h; miss = a.is_miss }, rest.are);
-  answered = (a.number ∙ ap (λ i. loop_of i) h.id_of, (a.verdict, rest.answered));
+  answered = ((a.number ∙ ap (λ i. loop_of i) h.id_of, rest.answered.0), (a.verdict, rest.answered.1));
 }
 
 row : (ps : List TypedProcedure) (certs : List GoalCert) (p : ℕ) (ns : List ℕ) (gs : List NamedGoal) (ls : List LoopAnswer) → AreRankingGoals ps p ns gs → AreLoopAnswers certs gs ls → HasRow ps certs p ns ls
-row ps certs p [] [] [] h a = record { checked = []; are = tt; answered = tt }
+row ps certs p [] [] [] h a = record { checked = []; are = tt; answered = (tt, tt) }
 row ps certs p [] [] (l ∷ ls) h a = absurd a
 row ps certs p [] (g ∷ gs) ls h a = absurd h
 row ps certs p (n ∷ ns) [] ls h a = absurd h

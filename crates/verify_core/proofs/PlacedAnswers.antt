@@ -1,29 +1,24 @@
 -- What the answers of a file name is in its text, where the procedures stand within it.
 use Rattle.std.proofs.Common.{◌≡◌, ◌<◌, ◌≤◌, ◌+◌, ◌==◌, ◌||◌, ℕ, refl, sym, ap, ◌∙◌, subst, arith, Bool, true, false, not, List, [], ◌∷◌, length, ⊎_elim}
 use Rattle.std.proofs.lemmas.Bool.{cases_eq, false≢true, ne_eqb, or_cases}
+use Rattle.std.specs.List.{AllZip}
 use Rattle.std.specs.Prelude.{Option, Some, None, if◌then◌else◌}
 use Prim.Native.Nat.{zero, suc}
 use Rattle.heyvl_syntax.specs.declared.spans.Span.{Span}
 use Rattle.heylo_formula.specs.Binders.{has_binder}
-use Rattle.heylo_formula.specs.Goals.{Goal}
 use Rattle.heylo_formula.specs.declared.goals.GoalId.{GoalId}
-use Rattle.heylo_formula.specs.declared.goals.Made.{Made}
-use Rattle.heylo_formula.specs.declared.goals.Made.TheVariants as made
 use Rattle.heyvl_types.specs.Acts.{Act, Acts, TypedProcedure, acts_in, procedure_at}
 use Rattle.heyvl_types.specs.Places.{in_order}
 use Rattle.heyvl_types.specs.Program.{Reaches, Reason, calls, first_break, reason_of_break, why_no_program}
 use Rattle.heyvl_types.specs.Program.Reaches.{directly, onward}
 use Rattle.heyvl_types.specs.Rules.{Each, IsTypedAct, MeetsRules}
 use Rattle.linear_elim.specs.declared.answers.Cause.{Cause}
-use Rattle.linear_elim.specs.declared.answers.Cause.TheVariants as cause
-use Rattle.linear_form.specs.Nonlinear.{nonlinear_product}
 use Rattle.loop_encodings.specs.BoundGoals.{bound_goals}
 use Rattle.proc_contracts.specs.Reasons.{plain}
 use Rattle.proc_contracts.specs.declared.reasons.WhyNot.{WhyNot}
 use Rattle.region_split.specs.declared.decisions.Decision.{Decision}
 use Rattle.region_split.specs.declared.decisions.Decision.TheVariants.{Proved, Falsified, Unknown}
 use Rattle.ranking_rule.specs.RankingGoals as ranking
-use Rattle.ranking_rule.specs.Rankings.{RankedLoop}
 use Rattle.verdict_report.specs.Placed.{IsAnswerPlaced, IsCausePlaced, IsLoopPlaced, IsRankPlaced, IsReasonPlaced, IsVerdictPlaced}
 use Rattle.verdict_report.specs.declared.answers.Answer.{Answer}
 use Rattle.verdict_report.specs.declared.answers.LoopAnswer.{LoopAnswer}
@@ -33,12 +28,14 @@ use Rattle.verdict_report.specs.declared.answers.Verdict.TheVariants as verdict
 use Rattle.verdict_report.specs.declared.answers.RankVerdict.{RankVerdict}
 use Rattle.verdict_report.specs.declared.answers.RankVerdict.TheVariants as rank
 use Rattle.verify_core.specs.Answered.{AreAnswers, IsVerdict}
-use Rattle.verify_core.specs.Decided.{AreDecided, DecidedGoal, IsDecisionOf, IsTable, decided_at, first_unknown, or_else, unknown}
-use Rattle.verify_core.specs.DecidedRankings.{AreRanked, AreRankingsDecided, IsRankTable, IsRankVerdict, IsRankingDecided}
+use Rattle.verify_core.specs.Decided.{AreDecided, DecidedGoal, IsDecisionOf, IsTable, first_unknown, or_else, unknown}
+use Rattle.verify_core.specs.DecidedRankings.{AreRankingsDecided, IsRankTable, IsRankVerdict, IsRankingDecided}
 use Rattle.verify_core.specs.Places.{ActStands, StandsWithin}
-use Rattle.verify_core.specs.Questions.{IsGoalOf, IsMadeOf, Question, goal, question}
+use Rattle.verify_core.specs.Numbered.{row_at}
+use Rattle.verify_core.specs.Questions.{IsGoalOf, goal, question}
 use Rattle.verify_core.specs.Rankings.{ranked_loops}
-use Rattle.verify_core.proofs.Rows.{rank_row_at, row_at}
+use Rattle.verify_core.proofs.MadeGoals.{cause_placed}
+use Rattle.verify_core.proofs.Rows.{bounds_at, rankings_at}
 use Rattle.verify_core.proofs.StandingActs.{goal_stands, stands_at}
 use Rattle.verify_core.proofs.StandingRankings.{ranking_stands}
 
@@ -47,26 +44,12 @@ use Rattle.verify_core.proofs.StandingRankings.{ranking_stands}
 same_some : {A : Type 0} (a b : A) → Some a ≡ Some b → a ≡ b
 same_some a b e = cc
 
-same_cause : (c d : Cause) → ◌≡◌ {A = Decision} (Unknown c) (Unknown d) → c ≡ d
-same_cause c d e = cc
-
-cause_placed : (n : ℕ) (q : Question) (m : Made) (c : Cause) → ((s : Span) → nonlinear_product (goal q) ≡ Some s → s.from ≤ n) → IsMadeOf q m → IsDecisionOf m (Unknown c) → IsCausePlaced n c
-cause_placed n q (made.Goal g) cause.Depth f h k = tt
-cause_placed n q (made.Goal g) cause.Nodes f h k = tt
-cause_placed n q (made.Goal g) (cause.Nonlinear s) f h k = f s (subst (λ (x : Goal). nonlinear_product x ≡ Some s) h.0 k)
-cause_placed n q (made.Goal g) (cause.Cells count) f h k = tt
-cause_placed n q (made.Goal g) (cause.Rows step count) f h k = tt
-cause_placed n q (made.Goal g) cause.Bits f h k = tt
-cause_placed n q (made.Goal g) (cause.Fraction b) f h k = tt
-cause_placed n q made.Depth c f h k = subst (IsCausePlaced n) (sym (same_cause c cause.Depth k)) tt
-cause_placed n q made.Nodes c f h k = subst (IsCausePlaced n) (sym (same_cause c cause.Nodes k)) tt
-
 unknown_by : (n : ℕ) (ps : List TypedProcedure) (p : ℕ) (i id : GoalId) (c : Cause) (g : NamedGoal) (d : Decision) (ds : List DecidedGoal) → Each (StandsWithin n) ps → IsGoalOf ps p i g → IsDecisionOf g.made d → or_else (unknown g.id d) (first_unknown ds) ≡ Some (id, c) → (first_unknown ds ≡ Some (id, c) → IsCausePlaced n c) → IsCausePlaced n c
 unknown_by n ps p i id c g (Proved t) ds s h k e f = f e
 unknown_by n ps p i id c g (Falsified t) ds s h k e f = f e
 unknown_by n ps p i id c g (Unknown d) ds s h k e f =
     let w : ◌≡◌ {A = GoalId × Cause} (g.id, d) (id, c) = same_some _ _ e in
-    subst (IsCausePlaced n) (ap (λ (x : GoalId × Cause). x.1) w) (cause_placed n (question ps (procedure_at ps p) i) g.made d (λ r m. goal_stands n ps p i r s m) h.made k)
+    subst (IsCausePlaced n) (ap (λ (x : GoalId × Cause). x.1) w) (cause_placed n (question ps (procedure_at ps p) i).found (goal (question ps (procedure_at ps p) i)) g.made d (λ r m. goal_stands n ps p i r s m) h.made k)
 
 row_placed : (n : ℕ) (ps : List TypedProcedure) (p : ℕ) (ids : List GoalId) (row : List DecidedGoal) (id : GoalId) (c : Cause) → Each (StandsWithin n) ps → AreDecided ps p ids row → first_unknown row ≡ Some (id, c) → IsCausePlaced n c
 row_placed n ps p [] [] id c s h e = absurd (cc)
@@ -146,22 +129,11 @@ verdict_placed n ps table p verdict.Verified r d s l h = tt
 verdict_placed n ps table p (verdict.Valid why) r d s l h = reason_placed n (procedure_at ps p) why (stands_at n ps p s) h.1.1
 verdict_placed n ps table p (verdict.Conditional q) r d s l h = reached_there ps p q r h.1.reached
 verdict_placed n ps table p (verdict.NotVerified id t) r d s l h = tt
-verdict_placed n ps table p (verdict.Unknown id c) r d s l h = row_placed n ps p (bound_goals (procedure_at ps p)) (decided_at table p) id c s (row_at ps table p l d) h.1
+verdict_placed n ps table p (verdict.Unknown id c) r d s l h = row_placed n ps p (bound_goals (procedure_at ps p)) (row_at table p) id c s (bounds_at ps table p l d) h.1
 verdict_placed n ps table p verdict.NoBody r d s l h = tt
 verdict_placed n ps table p (verdict.Unchecked id miss) r d s l h = absurd h
 
 -- ---- Rankings
-
-made_placed : (n : ℕ) (p : TypedProcedure) (k : ℕ) (l : RankedLoop p k) (m : Made) (c : Cause) → ((s : Span) → nonlinear_product (ranking.goal p l.head l.body l.rank) ≡ Some s → s.from ≤ n) → ranking.IsMadeOf p l.head l.body l.rank m → IsDecisionOf m (Unknown c) → IsCausePlaced n c
-made_placed n p k l (made.Goal g) cause.Depth f h d = tt
-made_placed n p k l (made.Goal g) cause.Nodes f h d = tt
-made_placed n p k l (made.Goal g) (cause.Nonlinear s) f h d = f s (subst (λ (x : Goal). nonlinear_product x ≡ Some s) h.0 d)
-made_placed n p k l (made.Goal g) (cause.Cells count) f h d = tt
-made_placed n p k l (made.Goal g) (cause.Rows step count) f h d = tt
-made_placed n p k l (made.Goal g) cause.Bits f h d = tt
-made_placed n p k l (made.Goal g) (cause.Fraction b) f h d = tt
-made_placed n p k l made.Depth c f h d = subst (IsCausePlaced n) (sym (same_cause c cause.Depth d)) tt
-made_placed n p k l made.Nodes c f h d = subst (IsCausePlaced n) (sym (same_cause c cause.Nodes d)) tt
 
 unknown_is : (d : Decision) (c : Cause) → IsRankVerdict d (rank.Unknown c) → d ≡ Unknown c
 unknown_is (Proved t) c h = h
@@ -171,15 +143,14 @@ unknown_is (Unknown b) c h = h
 rank_placed : (n : ℕ) (ps : List TypedProcedure) (p k : ℕ) (d : DecidedGoal) (r : RankVerdict) → Each (StandsWithin n) ps → IsRankingDecided ps p k d → IsRankVerdict d.decision r → IsRankPlaced n r
 rank_placed n ps p k d rank.Ranked s h v = tt
 rank_placed n ps p k d (rank.NotRanked t) s h v = tt
-rank_placed n ps p k d (rank.Unknown c) s h v = let l = h.goal.ranked in made_placed n (procedure_at ps p) k l d.goal.made c (λ t e. ranking_stands n ps p k l t s e) h.goal.made (subst (IsDecisionOf d.goal.made) (unknown_is d.decision c v) h.decision)
+rank_placed n ps p k d (rank.Unknown c) s h v = let l = h.goal.ranked in cause_placed n (ranking.generated l.body l.rank) (ranking.goal (procedure_at ps p) l.head l.body l.rank) d.goal.made c (λ t e. ranking_stands n ps p k l t s e) h.goal.made (subst (IsDecisionOf d.goal.made) (unknown_is d.decision c v) h.decision)
 rank_placed n ps p k d (rank.Unchecked miss) s h v = tt
 
-loops_placed : (n : ℕ) (ps : List TypedProcedure) (p : ℕ) (ns : List ℕ) (ds : List DecidedGoal) (ls : List LoopAnswer) → Each (StandsWithin n) ps → AreRankingsDecided ps p ns ds → AreRanked ns ds ls → Each (IsLoopPlaced n) ls
-loops_placed n ps p [] ds [] s h r = tt
-loops_placed n ps p [] ds (l ∷ ls) s h r = absurd r
-loops_placed n ps p (k ∷ ns) ds [] s h r = absurd r
-loops_placed n ps p (k ∷ ns) [] (l ∷ ls) s h r = absurd r
-loops_placed n ps p (k ∷ ns) (d ∷ ds) (l ∷ ls) s h r = (rank_placed n ps p k d l.rank s h.0 r.1.0, loops_placed n ps p ns ds ls s h.1 r.1.1)
+loops_placed : (n : ℕ) (ps : List TypedProcedure) (p : ℕ) (ns : List ℕ) (ds : List DecidedGoal) (ls : List LoopAnswer) → Each (StandsWithin n) ps → AreRankingsDecided ps p ns ds → AllZip (λ (d : DecidedGoal) (l : LoopAnswer). IsRankVerdict d.decision l.rank) ds ls → Each (IsLoopPlaced n) ls
+loops_placed n ps p ns ds [] s h r = tt
+loops_placed n ps p ns [] (l ∷ ls) s h r = absurd r
+loops_placed n ps p [] (d ∷ ds) (l ∷ ls) s h r = absurd h
+loops_placed n ps p (k ∷ ns) (d ∷ ds) (l ∷ ls) s h r = (rank_placed n ps p k d l.rank s h.0 r.0, loops_placed n ps p ns ds ls s h.1 r.1)
 
 -- ---- A file
 
@@ -191,7 +162,7 @@ placed_from n ps table ranks k (q ∷ qs) (a ∷ rest) r d t s e h =
     let l : k < length ps = omega (arith, e) in (
       record {
         verdict = verdict_placed n ps table k a.verdict r d s l h.0.verdict;
-        loops = loops_placed n ps k (ranked_loops (procedure_at ps k)) (decided_at ranks k) a.loops.items s (rank_row_at ps ranks k l t) h.0.loops;
+        loops = loops_placed n ps k (ranked_loops (procedure_at ps k)) (row_at ranks k) a.loops.items s (rankings_at ps ranks k l t) h.0.loops.1;
       },
       placed_from n ps table ranks (suc k) qs rest r d t s (omega (arith, e)) h.1,
     )

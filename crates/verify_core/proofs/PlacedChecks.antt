@@ -18,6 +18,7 @@ use Rattle.verify_core.specs.Places.{StandsWithin}
 use Rattle.verify_core.specs.Rankings.{ranked_loops}
 use Rattle.verify_core.specs.internal.Checking.{AreMarkedAnswers, AreOwn, IsMarkedBy, IsOwnVerdict, IsReachingVerdict, is_verified}
 use Rattle.verify_core.proofs.PlacedAnswers.{reason_placed}
+use Rattle.verify_core.proofs.SideBySide.{zip_seconds}
 
 own_placed : (n count : ℕ) (p : TypedProcedure) (cs : List CheckedGoal) (v : Verdict) → StandsWithin n p → IsOwnVerdict p cs v → IsVerdictPlaced n count v
 own_placed n count p cs verdict.Verified s h = tt
@@ -49,11 +50,7 @@ loop_placed n m (rank.Unknown c) h = absurd h
 loop_placed n m (rank.Unchecked miss) h = tt
 
 loops_placed : (n : ℕ) (ns : List ℕ) (cs : List CheckedGoal) (loops : List LoopAnswer) → AreRankingsAnswered ns cs loops → Each (IsLoopPlaced n) loops
-loops_placed n ns cs [] h = tt
-loops_placed n [] [] (l ∷ loops) h = absurd h
-loops_placed n [] (c ∷ cs) (l ∷ loops) h = absurd h
-loops_placed n (k ∷ ns) [] (l ∷ loops) h = absurd h
-loops_placed n (k ∷ ns) (c ∷ cs) (l ∷ loops) h = (loop_placed n c.miss l.rank h.1.0, loops_placed n ns cs loops h.1.1)
+loops_placed n ns cs loops h = zip_seconds (λ (c : CheckedGoal) (l : LoopAnswer). IsRankingAnswer c.miss l.rank) (IsLoopPlaced n) cs loops (λ c l r. loop_placed n c.miss l.rank r) h.1
 
 pub placed_answers : (n count : ℕ) (ps : List TypedProcedure) (certs : List GoalCert) (marks : List Bool) (k : ℕ) (qs : List TypedProcedure) (vs : List Verdict) (answers : List Answer) → length marks ≡ count → Each (StandsWithin n) qs → AreOwn ps certs k qs vs → AreMarkedAnswers ps certs marks k vs answers → Each (IsAnswerPlaced n count) answers
 placed_answers n count ps certs marks k [] [] [] e s o m = tt

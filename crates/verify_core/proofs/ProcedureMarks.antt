@@ -12,7 +12,8 @@ use Rattle.heyvl_types.specs.Rules.{GrowBelow}
 use Rattle.heyvl_types.specs.Visible.{among}
 use Rattle.proc_contracts.specs.Reached.{AreReached}
 use Rattle.verify_core.specs.Answered.{IsClosed, IsFirstOpen}
-use Rattle.verify_core.specs.Decided.{DecidedGoal, IsOpen, all_proved, decided_at}
+use Rattle.verify_core.specs.Decided.{DecidedGoal, IsOpen, all_proved}
+use Rattle.verify_core.specs.Numbered.{row_at}
 use Rattle.verify_core.specs.declared.outcomes.Outcome.{Outcome}
 use Rattle.verify_core.specs.declared.outcomes.Outcome.TheVariants.{Proved, Falsified, Unknown}
 use Rattle.verify_core.specs.declared.outcomes.ProcedureOutcome.{ProcedureOutcome}
@@ -23,16 +24,16 @@ use Rattle.verify_core.proofs.Rows.{drop_next, drop_none}
 
 -- ---- The marks
 
-proved_mark : (ps : List TypedProcedure) (table : List (List DecidedGoal)) (q : ℕ) (w : Option Reason) → all_proved (decided_at table q) ≡ true → why_no_program (procedure_at ps q) ≡ w → IsMark ps table q (is_some w)
+proved_mark : (ps : List TypedProcedure) (table : List (List DecidedGoal)) (q : ℕ) (w : Option Reason) → all_proved (row_at table q) ≡ true → why_no_program (procedure_at ps q) ≡ w → IsMark ps table q (is_some w)
 proved_mark ps table q (Some r) h e = inl (λ k. absurd (cc))
 proved_mark ps table q None h e = record { proved = h; program = e }
 
-is_mark : (ps : List TypedProcedure) (table : List (List DecidedGoal)) (q : ℕ) (o : Outcome) → outcome (decided_at table q) ≡ o → IsMark ps table q (is_open (procedure_at ps q) o)
-is_mark ps table q Proved e = proved_mark ps table q (why_no_program (procedure_at ps q)) ((describes (decided_at table q)).all ∙ ap is_all e) refl
-is_mark ps table q (Falsified g s) e = inr ((describes (decided_at table q)).all ∙ ap is_all e)
-is_mark ps table q (Unknown g c) e = inr ((describes (decided_at table q)).all ∙ ap is_all e)
+is_mark : (ps : List TypedProcedure) (table : List (List DecidedGoal)) (q : ℕ) (o : Outcome) → outcome (row_at table q) ≡ o → IsMark ps table q (is_open (procedure_at ps q) o)
+is_mark ps table q Proved e = proved_mark ps table q (why_no_program (procedure_at ps q)) ((describes (row_at table q)).all ∙ ap is_all e) refl
+is_mark ps table q (Falsified g s) e = inr ((describes (row_at table q)).all ∙ ap is_all e)
+is_mark ps table q (Unknown g c) e = inr ((describes (row_at table q)).all ∙ ap is_all e)
 
-mark_at : (qs : List TypedProcedure) (table ranks : List (List DecidedGoal)) (os : List ProcedureOutcome) (q : ℕ) → q < length qs → AreOutcomes qs table ranks os → get_or (marks qs os) q false ≡ is_open (procedure_at qs q) (outcome (decided_at table q))
+mark_at : (qs : List TypedProcedure) (table ranks : List (List DecidedGoal)) (os : List ProcedureOutcome) (q : ℕ) → q < length qs → AreOutcomes qs table ranks os → get_or (marks qs os) q false ≡ is_open (procedure_at qs q) (outcome (row_at table q))
 mark_at [] table ranks os q l h = absurd (omega arith)
 mark_at (p ∷ qs) [] ranks os q l h = absurd h
 mark_at (p ∷ qs) (r ∷ table) [] os q l h = absurd h
@@ -41,7 +42,7 @@ mark_at (p ∷ qs) (r ∷ table) (t ∷ ranks) (o ∷ os) zero l h = ap (is_open
 mark_at (p ∷ qs) (r ∷ table) (t ∷ ranks) (o ∷ os) (suc q) l h = mark_at qs table ranks os q (omega arith) h.1
 
 pub are_marks : (ps : List TypedProcedure) (table ranks : List (List DecidedGoal)) (os : List ProcedureOutcome) (ms : List Bool) → AreOutcomes ps table ranks os → ms ≡ marks ps os → AreMarks ps table ms
-are_marks ps table ranks os ms h f q l = subst (IsMark ps table q) (sym (ap (λ m. get_or m q false) f ∙ mark_at ps table ranks os q l h)) (is_mark ps table q (outcome (decided_at table q)) refl)
+are_marks ps table ranks os ms h f q l = subst (IsMark ps table q) (sym (ap (λ m. get_or m q false) f ∙ mark_at ps table ranks os q l h)) (is_mark ps table q (outcome (row_at table q)) refl)
 
 pub marks_length : (ps : List TypedProcedure) (os : List ProcedureOutcome) → length os ≡ length ps → length (marks ps os) ≡ length ps
 marks_length [] os e = refl

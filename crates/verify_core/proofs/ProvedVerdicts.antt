@@ -9,7 +9,8 @@ use Rattle.heyvl_types.specs.Acts.{TypedProcedure, procedure_at}
 use Rattle.verdict_report.specs.declared.answers.Answer.{Answer}
 use Rattle.verdict_report.specs.declared.answers.NamedGoal.{NamedGoal}
 use Rattle.verify_core.specs.Answered.{AreAnswers, IsAnswer}
-use Rattle.verify_core.specs.Decided.{DecidedGoal, all_proved, decided_at, first_falsified, first_unknown}
+use Rattle.verify_core.specs.Decided.{DecidedGoal, all_proved, first_falsified, first_unknown}
+use Rattle.verify_core.specs.Numbered.{row_at}
 use Rattle.verify_core.specs.declared.outcomes.Outcome.{Outcome}
 use Rattle.verify_core.specs.declared.outcomes.ProcedureOutcome.{ProcedureOutcome}
 use Rattle.verify_core.specs.internal.Outcomes.{AreOutcomes, IsOutcome, outcome, told_of}
@@ -31,7 +32,7 @@ unknown_here ds o p e f n = (describes ds).unknown (ap falsified_by (sym e ∙ f
 
 -- ---- All answers
 
-pub head_outcome : (ps : List TypedProcedure) (table ranks : List (List DecidedGoal)) (os : List ProcedureOutcome) (p : ℕ) (x : ProcedureOutcome) (ys : List ProcedureOutcome) → drop p os ≡ x ∷ ys → AreOutcomes ps table ranks os → IsOutcome (procedure_at ps p) (decided_at table p) (decided_at ranks p) x
+pub head_outcome : (ps : List TypedProcedure) (table ranks : List (List DecidedGoal)) (os : List ProcedureOutcome) (p : ℕ) (x : ProcedureOutcome) (ys : List ProcedureOutcome) → drop p os ≡ x ∷ ys → AreOutcomes ps table ranks os → IsOutcome (procedure_at ps p) (row_at table p) (row_at ranks p) x
 head_outcome ps table ranks [] p x ys e h = absurd (let z : ◌≡◌ {A = List ProcedureOutcome} [] (x ∷ ys) = sym (drop-nil p) ∙ e in cc)
 head_outcome [] [] [] (o ∷ os) p x ys e h = absurd h
 head_outcome [] [] (s ∷ ranks) (o ∷ os) p x ys e h = absurd h

@@ -1,25 +1,23 @@
 -- A ranking whose goal holds bounds the turns of its loop.
 use Rattle.std.proofs.Common.{◌≡◌, ℕ, ◌<◌, sym, subst, arith, true, List, [], ◌∷◌, length, slice_index_or}
-use Rattle.std.proofs.lemmas.Bool.{false≢true}
 use Rattle.std.specs.List.{Contains}
 use Prim.Native.Nat.{zero, suc}
-use Rattle.heylo_formula.specs.Goals.{Goal, Holds}
-use Rattle.heylo_formula.specs.declared.goals.Made.{Made}
-use Rattle.heylo_formula.specs.declared.goals.Made.TheVariants as made
+use Rattle.heylo_formula.specs.Goals.{Holds}
 use Rattle.heyvl_types.specs.Acts.{TypedProcedure, procedure_at}
 use Rattle.heyvl_types.specs.Rules.{Each, MeetsRules}
 use Rattle.loop_encodings.proofs.exported.FromRules.{each_at}
 use Rattle.ranking_rule.specs.Laws.{RankingGoalsHold, RankingsBoundTurns}
-use Rattle.ranking_rule.specs.RankingGoals.{IsMadeOf, goal}
+use Rattle.ranking_rule.specs.RankingGoals.{generated, goal}
 use Rattle.ranking_rule.specs.Rankings.{RankedLoop}
 use Rattle.region_split.specs.declared.decisions.Decision.{Decision}
 use Rattle.region_split.specs.declared.decisions.Decision.TheVariants.{Proved, Falsified, Unknown}
 use Rattle.verdict_report.specs.declared.answers.LoopAnswer.{LoopAnswer}
 use Rattle.verdict_report.specs.declared.answers.RankVerdict.TheVariants.{Ranked}
-use Rattle.verify_core.specs.Decided.{DecidedGoal, IsDecisionOf, is_proved}
+use Rattle.verify_core.specs.Decided.{DecidedGoal, is_proved}
 use Rattle.verify_core.specs.DecidedRankings.{AreRanked, AreRankingsDecided, IsRankVerdict, IsRankingDecided}
 use Rattle.verify_core.specs.Headline.{IsRankedLoop}
-use Rattle.verify_core.specs.internal.Settled.{IsSettled, TellsOf}
+use Rattle.verify_core.specs.internal.Settled.{IsSettled}
+use Rattle.verify_core.proofs.MadeGoals.{proved_holds}
 
 -- ---- From the goal
 
@@ -31,34 +29,22 @@ turns_bounded bound hold ps p n l rules there h =
 
 -- ---- From its decision
 
-ranking_holds : (p : TypedProcedure) (n : ℕ) (l : RankedLoop p n) (m : Made) (d : Decision) → IsMadeOf p l.head l.body l.rank m → IsDecisionOf m d → TellsOf m d → is_proved d ≡ true → Holds (goal p l.head l.body l.rank)
-ranking_holds p n l (made.Goal g) (Proved t) h k m e = subst (λ (g : Goal). Holds g) h.0 m
-ranking_holds p n l (made.Goal g) (Falsified s) h k m e = absurd (false≢true e)
-ranking_holds p n l (made.Goal g) (Unknown c) h k m e = absurd (false≢true e)
-ranking_holds p n l made.Depth (Proved t) h k m e = absurd (cc)
-ranking_holds p n l made.Depth (Falsified s) h k m e = absurd (false≢true e)
-ranking_holds p n l made.Depth (Unknown c) h k m e = absurd (false≢true e)
-ranking_holds p n l made.Nodes (Proved t) h k m e = absurd (cc)
-ranking_holds p n l made.Nodes (Falsified s) h k m e = absurd (false≢true e)
-ranking_holds p n l made.Nodes (Unknown c) h k m e = absurd (false≢true e)
-
 -- The decision of the goal of the loop that an answer is on.
-pub record IsDecidedAt (ps : List TypedProcedure) (p : ℕ) (a : LoopAnswer) : Type 0 where
+record IsDecidedAt (ps : List TypedProcedure) (p : ℕ) (a : LoopAnswer) : Type 0 where
   pub decided : DecidedGoal
   pub is_of : IsRankingDecided ps p a.number decided
   pub settled : IsSettled decided
   pub verdict : IsRankVerdict decided.decision a.rank
 
-decided_at_place : (ps : List TypedProcedure) (p : ℕ) (ns : List ℕ) (ds : List DecidedGoal) (ls : List LoopAnswer) (k : ℕ) (a : LoopAnswer) → AreRankingsDecided ps p ns ds → Each IsSettled ds → AreRanked ns ds ls → k < length ls → slice_index_or ls k a ≡ a → IsDecidedAt ps p a
-decided_at_place ps p [] ds [] k a h s r l e = absurd (omega (arith, l))
-decided_at_place ps p [] ds (x ∷ ls) k a h s r l e = absurd r
-decided_at_place ps p (n ∷ ns) ds [] k a h s r l e = absurd r
-decided_at_place ps p (n ∷ ns) [] (x ∷ ls) k a h s r l e = absurd r
-decided_at_place ps p (n ∷ ns) (d ∷ ds) (x ∷ ls) zero a h s r l e = subst (λ (y : LoopAnswer). IsDecidedAt ps p y) e (record { decided = d; is_of = subst (λ m. IsRankingDecided ps p m d) (sym r.0) h.0; settled = s.0; verdict = r.1.0 })
-decided_at_place ps p (n ∷ ns) (d ∷ ds) (x ∷ ls) (suc k) a h s r l e = decided_at_place ps p ns ds ls k a h.1 s.1 r.1.1 (omega (arith, l)) e
+at_place : (ps : List TypedProcedure) (p : ℕ) (ns : List ℕ) (ds : List DecidedGoal) (ls : List LoopAnswer) (k : ℕ) (a : LoopAnswer) → AreRankingsDecided ps p ns ds → Each IsSettled ds → AreRanked ns ds ls → k < length ls → slice_index_or ls k a ≡ a → IsDecidedAt ps p a
+at_place ps p ns ds [] k a h s r l e = absurd (omega (arith, l))
+at_place ps p [] ds (x ∷ ls) k a h s r l e = absurd r.0
+at_place ps p (n ∷ ns) [] (x ∷ ls) k a h s r l e = absurd h
+at_place ps p (n ∷ ns) (d ∷ ds) (x ∷ ls) zero a h s r l e = subst (λ (y : LoopAnswer). IsDecidedAt ps p y) e (record { decided = d; is_of = subst (λ m. IsRankingDecided ps p m d) (sym r.0.0) h.0; settled = s.0; verdict = r.1.0 })
+at_place ps p (n ∷ ns) (d ∷ ds) (x ∷ ls) (suc k) a h s r l e = at_place ps p ns ds ls k a h.1 s.1 (r.0.1, r.1.1) (omega (arith, l)) e
 
-pub decided_of : (ps : List TypedProcedure) (p : ℕ) (ns : List ℕ) (ds : List DecidedGoal) (ls : List LoopAnswer) (a : LoopAnswer) → AreRankingsDecided ps p ns ds → Each IsSettled ds → AreRanked ns ds ls → Contains ls a → IsDecidedAt ps p a
-decided_of ps p ns ds ls a h s r c = decided_at_place ps p ns ds ls c.0 a h s r c.1 c.2
+decided_of : (ps : List TypedProcedure) (p : ℕ) (ns : List ℕ) (ds : List DecidedGoal) (ls : List LoopAnswer) (a : LoopAnswer) → AreRankingsDecided ps p ns ds → Each IsSettled ds → AreRanked ns ds ls → Contains ls a → IsDecidedAt ps p a
+decided_of ps p ns ds ls a h s r c = at_place ps p ns ds ls c.0 a h s r c.1 c.2
 
 proved_by : (d : Decision) → IsRankVerdict d Ranked → is_proved d ≡ true
 proved_by (Proved t) h = h
@@ -71,5 +57,6 @@ ranked_loop bound hold ps p n ns ds ls a rules there h s r c e v =
     let d = decided_of ps p ns ds ls a h s r c in
     let g = d.is_of.goal in
     let proved = proved_by d.decided.decision (subst (IsRankVerdict d.decided.decision) v d.verdict) in
-    let holds = ranking_holds (procedure_at ps p) a.number g.ranked d.decided.goal.made d.decided.decision g.made d.settled.decision d.settled.meaning proved in
+    let l = g.ranked in
+    let holds = proved_holds (generated l.body l.rank) (goal (procedure_at ps p) l.head l.body l.rank) d.decided.goal.made d.decided.decision g.made d.settled.decision d.settled.meaning proved in
     subst (IsRankedLoop ps p) e (turns_bounded bound hold ps p a.number g.ranked rules there holds)

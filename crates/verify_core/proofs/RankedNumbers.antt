@@ -1,25 +1,23 @@
 -- The numbers of the loops with a ranking: the walk over acts, and the loops that they name.
-use Rattle.std.proofs.Common.{◌≡◌, ℕ, Bool, true, false, cond, ◌<◌, ◌≤◌, ◌+◌, ◌==◌, refl, ap, sym, subst, ◌∙◌, arith, List, [], ◌∷◌, ◌++◌, append_assoc, append-nil, length, get_or, drop}
+use Rattle.std.proofs.Common.{◌≡◌, ℕ, Bool, true, false, cond, ◌≤◌, ◌==◌, refl, ap, sym, subst, ◌∙◌, arith, List, [], ◌∷◌, ◌++◌, append_assoc, append-nil}
 use Rattle.std.specs.Option.{is_some}
-use Rattle.std.specs.Prelude.{Option, Some, None, Vec, if◌then◌else◌}
+use Rattle.std.specs.Prelude.{Option, Some, None, if◌then◌else◌}
 use Rattle.std.specs.declared.alloc.Global.{Global}
 use Rattle.std.specs.declared.boxed.Box.{Box}
-use Rattle.std.proofs.lemmas.List.{at_drop_more}
 use Prim.Native.Nat.{zero, suc}
 use Rattle.heyvl_num.specs.Rational.{Rational}
-use Rattle.heyvl_syntax.specs.declared.spans.Span.{Span}
 use Rattle.heylo_formula.specs.Formula.{Form}
-use Rattle.heylo_formula.specs.declared.forms.Cond as C
 use Rattle.heyvl_types.specs.Acts.{Act, Acts, Head, TypedProcedure, acts_in}
-use Rattle.heyvl_types.specs.PlainActs.{act_of, acts_of, arms_of}
-use Rattle.heyvl_types.specs.Places.{in_order, inside, inside_arms}
+use Rattle.heyvl_types.specs.PlainActs.{act_of, acts_of}
+use Rattle.heyvl_types.specs.Places.{in_order, inside}
 use Rattle.heyvl_types.specs.Rules.{Each, MeetsRules, counted, loop_numbers}
 use Rattle.heyvl_types.specs.declared.acts.Act as A
 use Rattle.heyvl_types.specs.declared.acts.LoopAct.{LoopAct}
-use Rattle.heyvl_types.proofs.exported.PlainActsAre.{head_of, if_act, loop_act, pick_act}
+use Rattle.heyvl_types.proofs.exported.PlainActsAre.{head_of, loop_act}
 use Rattle.ranking_rule.specs.Rankings.{RankedLoop, loop_in}
 use Rattle.verdict_report.specs.declared.answers.NamedGoal.{NamedGoal}
 use Rattle.verify_core.specs.Rankings.{AreRankingGoals, IsRankingGoal, ranked_in, ranked_loops}
+use Rattle.verify_core.proofs.ActWalks.{IsFirst, further, other_number, own_number, same_from}
 
 -- ---- The walk
 
@@ -40,27 +38,6 @@ ranked_append (Act.check kind f span ∷ rest) ys = ranked_append rest ys
 ranked_append (Act.validate co span ∷ rest) ys = ranked_append rest ys
 ranked_append (Act.call xs q es span ∷ rest) ys = ranked_append rest ys
 
-pub next_ranked : (before after : List ℕ) (acts : List A.Act) (k : ℕ) (a : A.Act) → k < length acts → a ≡ get_or acts k a → after ≡ before ++ ranked_in (act_of a ∷ inside (act_of a)) → after ++ ranked_in (in_order (acts_of (drop (k + 1) acts))) ≡ before ++ ranked_in (in_order (acts_of (drop k acts)))
-next_ranked before after acts k a lt is h =
-    ap (λ l. l ++ ranked_in (in_order (acts_of (drop (k + 1) acts)))) h
-    ∙ (append_assoc before (ranked_in (act_of a ∷ inside (act_of a))) (ranked_in (in_order (acts_of (drop (k + 1) acts))))
-    ∙ ap (λ l. before ++ l) (sym (at_drop_more (λ l. ranked_in (in_order (acts_of l))) acts k a lt ∙ (ap (λ y. ranked_in ((act_of y ∷ inside (act_of y)) ++ in_order (acts_of (drop (k + 1) acts)))) (sym is) ∙ ranked_append (act_of a ∷ inside (act_of a)) (in_order (acts_of (drop (k + 1) acts)))))))
-
-abbrev pub arms_from : List (C.Cond × Vec A.Act Global) → ℕ → List Act → List Act
-arms_from arms k e = inside_arms (arms_of (drop k arms)) ++ e
-
-pub next_arm_ranked : (before after : List ℕ) (arms : List (C.Cond × Vec A.Act Global)) (k : ℕ) (e : List Act) (a : C.Cond × Vec A.Act Global) → k < length arms → a ≡ get_or arms k a → after ≡ before ++ ranked_in (in_order (acts_of a.1.items)) → after ++ ranked_in (arms_from arms (k + 1) e) ≡ before ++ ranked_in (arms_from arms k e)
-next_arm_ranked before after arms k e a lt is h =
-    ap (λ l. l ++ ranked_in (arms_from arms (k + 1) e)) h
-    ∙ (append_assoc before (ranked_in (in_order (acts_of a.1.items))) (ranked_in (arms_from arms (k + 1) e))
-    ∙ ap (λ l. before ++ l) (sym (at_drop_more (λ l. ranked_in (inside_arms (arms_of l) ++ e)) arms k a lt ∙ (ap (λ y. ranked_in ((in_order (acts_of y.1.items) ++ inside_arms (arms_of (drop (k + 1) arms))) ++ e)) (sym is) ∙ (ap ranked_in (append_assoc (in_order (acts_of a.1.items)) (inside_arms (arms_of (drop (k + 1) arms))) e) ∙ ranked_append (in_order (acts_of a.1.items)) (arms_from arms (k + 1) e))))))
-
-pub if_ranked : (a : A.Act) (arms : Vec (C.Cond × Vec A.Act Global) Global) (e : Vec A.Act Global) (span : Span) → a ≡ A.If arms e span → ranked_in (arms_from arms.items 0 (in_order (acts_of e.items))) ≡ ranked_in (act_of a ∷ inside (act_of a))
-if_ranked a arms e span is = sym (ap (λ x. ranked_in (act_of x ∷ inside (act_of x))) is ∙ ap (λ x. ranked_in (x ∷ inside x)) (if_act arms e span))
-
-pub pick_ranked : (a : A.Act) (up : Bool) (b d : Vec A.Act Global) (span : Span) → a ≡ A.Pick up b d span → ranked_in (in_order (acts_of b.items)) ++ ranked_in (in_order (acts_of d.items)) ≡ ranked_in (act_of a ∷ inside (act_of a))
-pick_ranked a up b d span is = sym (ap (λ x. ranked_in (act_of x ∷ inside (act_of x))) is ∙ (ap (λ x. ranked_in (x ∷ inside x)) (pick_act up b d span) ∙ ranked_append (in_order (acts_of b.items)) (in_order (acts_of d.items))))
-
 -- A loop by itself.
 abbrev pub alone : LoopAct → List Act
 alone l = Act.loop (head_of l) (acts_of l.body.items) ∷ []
@@ -70,40 +47,18 @@ loop_ranked a l is = sym (ap (λ x. ranked_in (act_of x ∷ inside (act_of x))) 
 
 -- ---- The loops that they name
 
--- A loop of this number among the acts, which has a ranking, and no loop of a lower number is meant.
-record IsRankedFrom (from : ℕ) (acts : List Act) (n : ℕ) : Type 0 where
-  pub head : Head
-  pub body : Acts
+-- The loop that the number finds has this number, and a ranking.
+record HasRanking (m : ℕ) (l : Head × Acts) (n : ℕ) : Type 0 where
+  pub number : m ≡ n
   pub rank : Rational × Form
-  pub least : from ≤ n
-  pub named : loop_in n acts ≡ Some (head, body)
-  pub ranked : head.rank ≡ Some rank
+  pub ranked : l.0.rank ≡ Some rank
 
--- Behind an act that is no loop.
-same_from : (from : ℕ) (acts more : List Act) (ns : List ℕ) → ((n : ℕ) → loop_in n more ≡ loop_in n acts) → Each (IsRankedFrom from acts) ns → Each (IsRankedFrom from more) ns
-same_from from acts more [] e h = tt
-same_from from acts more (n ∷ ns) e h = (record { head = h.0.head; body = h.0.body; rank = h.0.rank; least = h.0.least; named = e n ∙ h.0.named; ranked = h.0.ranked }, same_from from acts more ns e h.1)
-
--- Behind a loop of a lower number.
-further : (from : ℕ) (acts more : List Act) (ns : List ℕ) → ((n : ℕ) → suc from ≤ n → loop_in n more ≡ loop_in n acts) → Each (IsRankedFrom (suc from) acts) ns → Each (IsRankedFrom from more) ns
-further from acts more [] e h = tt
-further from acts more (n ∷ ns) e h = (record { head = h.0.head; body = h.0.body; rank = h.0.rank; least = let l = h.0.least in omega (arith, l); named = e n h.0.least ∙ h.0.named; ranked = h.0.ranked }, further from acts more ns e h.1)
-
-other_number : (from n : ℕ) (l : Head × Acts) (rest : Option (Head × Acts)) → suc from ≤ n → cond (from == n) (Some l) rest ≡ rest
-other_number from n l rest lt = ap (λ b. cond b (Some l) rest) (different from n lt)
-  where
-    different : (m n : ℕ) → suc m ≤ n → (m == n) ≡ false
-    different m n l = grind arith
-
-own_number : (n : ℕ) (l : Head × Acts) (rest : Option (Head × Acts)) → cond (n == n) (Some l) rest ≡ Some l
-own_number n l rest = ap (λ b. cond b (Some l) rest) (same n)
-  where
-    same : (n : ℕ) → (n == n) ≡ true
-    same n = grind arith
+abbrev IsRankedFrom : ℕ → List Act → ℕ → Type 0
+IsRankedFrom from acts n = IsFirst loop_in HasRanking from acts n
 
 one_more : (from : ℕ) (h : Head) (b : Acts) (rest : List Act) (o : Option (Rational × Form)) → h.number ≡ from → h.rank ≡ o → Each (IsRankedFrom from (Act.loop h b ∷ rest)) (ranked_in rest) → Each (IsRankedFrom from (Act.loop h b ∷ rest)) (if is_some o then h.number ∷ ranked_in rest else ranked_in rest)
 one_more from h b rest None e r k = k
-one_more from h b rest (Some x) e r k = (record { head = h; body = b; rank = x; least = omega (arith, e); named = own_number h.number (h, b) (loop_in h.number rest); ranked = r }, k)
+one_more from h b rest (Some x) e r k = (record { number = h.number; item = (h, b); least = omega (arith, e); found = own_number h.number (h, b) (loop_in h.number rest); says = record { number = refl; rank = x; ranked = r } }, k)
 
 ranked_from : (from n : ℕ) (acts : List Act) → loop_numbers acts ≡ counted from n → Each (IsRankedFrom from acts) (ranked_in acts)
 ranked_from from n [] e = tt
@@ -111,20 +66,20 @@ ranked_from from zero (Act.loop h b ∷ rest) e = absurd (cc)
 ranked_from from (suc n) (Act.loop h b ∷ rest) e =
     let k : h.number ≡ from = cc in
     let r : loop_numbers rest ≡ counted (suc from) n = cc in
-    one_more from h b rest h.rank k refl (further from rest (Act.loop h b ∷ rest) (ranked_in rest) (λ m l. ap (λ i. cond (i == m) (Some (h, b)) (loop_in m rest)) k ∙ other_number from m (h, b) (loop_in m rest) l) (ranked_from (suc from) n rest r))
-ranked_from from n (Act.set x u span ∷ rest) e = same_from from rest (Act.set x u span ∷ rest) (ranked_in rest) (λ m. refl) (ranked_from from n rest e)
-ranked_from from n (Act.draw x qs span ∷ rest) e = same_from from rest (Act.draw x qs span ∷ rest) (ranked_in rest) (λ m. refl) (ranked_from from n rest e)
-ranked_from from n (Act.any x up ty span ∷ rest) e = same_from from rest (Act.any x up ty span ∷ rest) (ranked_in rest) (λ m. refl) (ranked_from from n rest e)
-ranked_from from n (Act.reward f span ∷ rest) e = same_from from rest (Act.reward f span ∷ rest) (ranked_in rest) (λ m. refl) (ranked_from from n rest e)
-ranked_from from n (Act.ifs arms f span ∷ rest) e = same_from from rest (Act.ifs arms f span ∷ rest) (ranked_in rest) (λ m. refl) (ranked_from from n rest e)
-ranked_from from n (Act.pick up a b span ∷ rest) e = same_from from rest (Act.pick up a b span ∷ rest) (ranked_in rest) (λ m. refl) (ranked_from from n rest e)
-ranked_from from n (Act.check kind f span ∷ rest) e = same_from from rest (Act.check kind f span ∷ rest) (ranked_in rest) (λ m. refl) (ranked_from from n rest e)
-ranked_from from n (Act.validate co span ∷ rest) e = same_from from rest (Act.validate co span ∷ rest) (ranked_in rest) (λ m. refl) (ranked_from from n rest e)
-ranked_from from n (Act.call xs q es span ∷ rest) e = same_from from rest (Act.call xs q es span ∷ rest) (ranked_in rest) (λ m. refl) (ranked_from from n rest e)
+    one_more from h b rest h.rank k refl (further loop_in HasRanking from rest (Act.loop h b ∷ rest) (ranked_in rest) (λ m l. ap (λ i. cond (i == m) (Some (h, b)) (loop_in m rest)) k ∙ other_number from m (h, b) (loop_in m rest) l) (ranked_from (suc from) n rest r))
+ranked_from from n (Act.set x u span ∷ rest) e = same_from loop_in HasRanking from rest (Act.set x u span ∷ rest) (ranked_in rest) (λ m. refl) (ranked_from from n rest e)
+ranked_from from n (Act.draw x qs span ∷ rest) e = same_from loop_in HasRanking from rest (Act.draw x qs span ∷ rest) (ranked_in rest) (λ m. refl) (ranked_from from n rest e)
+ranked_from from n (Act.any x up ty span ∷ rest) e = same_from loop_in HasRanking from rest (Act.any x up ty span ∷ rest) (ranked_in rest) (λ m. refl) (ranked_from from n rest e)
+ranked_from from n (Act.reward f span ∷ rest) e = same_from loop_in HasRanking from rest (Act.reward f span ∷ rest) (ranked_in rest) (λ m. refl) (ranked_from from n rest e)
+ranked_from from n (Act.ifs arms f span ∷ rest) e = same_from loop_in HasRanking from rest (Act.ifs arms f span ∷ rest) (ranked_in rest) (λ m. refl) (ranked_from from n rest e)
+ranked_from from n (Act.pick up a b span ∷ rest) e = same_from loop_in HasRanking from rest (Act.pick up a b span ∷ rest) (ranked_in rest) (λ m. refl) (ranked_from from n rest e)
+ranked_from from n (Act.check kind f span ∷ rest) e = same_from loop_in HasRanking from rest (Act.check kind f span ∷ rest) (ranked_in rest) (λ m. refl) (ranked_from from n rest e)
+ranked_from from n (Act.validate co span ∷ rest) e = same_from loop_in HasRanking from rest (Act.validate co span ∷ rest) (ranked_in rest) (λ m. refl) (ranked_from from n rest e)
+ranked_from from n (Act.call xs q es span ∷ rest) e = same_from loop_in HasRanking from rest (Act.call xs q es span ∷ rest) (ranked_in rest) (λ m. refl) (ranked_from from n rest e)
 
 each_loop : (p : TypedProcedure) (from : ℕ) (ns : List ℕ) → Each (IsRankedFrom from (in_order (acts_in p.body))) ns → Each (RankedLoop p) ns
 each_loop p from [] h = tt
-each_loop p from (n ∷ ns) h = (record { head = h.0.head; body = h.0.body; rank = h.0.rank; named = h.0.named; ranked = h.0.ranked }, each_loop p from ns h.1)
+each_loop p from (n ∷ ns) h = (record { head = h.0.item.0; body = h.0.item.1; rank = h.0.says.rank; named = subst (λ m. loop_in m (in_order (acts_in p.body)) ≡ Some h.0.item) h.0.says.number h.0.found; ranked = h.0.says.ranked }, each_loop p from ns h.1)
 
 -- Each number names a loop with a ranking.
 pub each_ranked : (ps : List TypedProcedure) (p : TypedProcedure) → MeetsRules ps p → Each (RankedLoop p) (ranked_loops p)

@@ -34,12 +34,6 @@ module _ (ps : List TypedProcedure) (p : ℕ) (marks : List Bool) (found : List 
 
 -- ---- Answers
 
-pub answers_more : (ps : List TypedProcedure) (certs : List GoalCert) (marks : List Bool) (k : ℕ) (vs : List Verdict) (more : List Answer) (n : ℕ) (v : Verdict) (a : Answer) → AreMarkedAnswers ps certs marks k vs more → n ≡ k + length vs → IsMarkedAnswer ps certs marks n v a → AreMarkedAnswers ps certs marks k (vs ++ v ∷ []) (more ++ a ∷ [])
-answers_more ps certs marks k [] [] n v a h e i = let same : n ≡ k = omega (arith, e) in (subst (λ m. IsMarkedAnswer ps certs marks m v a) same i, tt)
-answers_more ps certs marks k [] (b ∷ more) n v a h e i = absurd h
-answers_more ps certs marks k (w ∷ vs) [] n v a h e i = absurd h
-answers_more ps certs marks k (w ∷ vs) (b ∷ more) n v a h e i = (h.0, answers_more ps certs marks (suc k) vs more n v a h.1 (omega (arith, e)) i)
-
 pub marked_verdict : (ps : List TypedProcedure) (marks : List Bool) (p : ℕ) (own v : Verdict) → is_verified own ≡ true → IsReachingVerdict ps marks p v → IsMarkedVerdict ps marks p own v
 marked_verdict ps marks p own v e h = of_mark (is_verified own) e
   where

@@ -2,21 +2,23 @@
 use Rattle.std.proofs.Common.{◌≡◌, ◌<◌, ◌≤◌, ◌+◌, ℕ, refl, sym, ap, ◌∙◌, subst, append_assoc, append-nil, arith, List, [], ◌∷◌, ◌++◌, map, drop, length}
 use Rattle.std.proofs.Math.Numerals.{add-one}
 use Rattle.std.proofs.lemmas.List.{drop_all}
+use Rattle.std.specs.List.{AllZip}
 use Rattle.std.specs.Prelude.{IfOk, OnOk, Result, Ok, Err}
 use Prim.Native.Nat.{zero, suc}
 use Rattle.cert_text.specs.Certificates.{loop_of}
 use Rattle.farkas_check.specs.declared.trees.GoalCert.{GoalCert}
-use Rattle.heylo_formula.specs.declared.goals.GoalId.{GoalId}
 use Rattle.heyvl_types.specs.Acts.{TypedProcedure, procedure_at}
 use Rattle.heyvl_types.specs.Rules.{Each}
 use Rattle.loop_encodings.specs.BoundGoals.{bound_goals}
 use Rattle.region_split.specs.declared.decisions.Decision.{Decision}
 use Rattle.region_split.specs.declared.decisions.Decision.TheVariants as decision
+use Rattle.verdict_report.specs.declared.answers.LoopAnswer.{LoopAnswer}
 use Rattle.verdict_report.specs.declared.answers.NamedGoal.{NamedGoal}
-use Rattle.verify_core.specs.Decided.{AreDecided, DecidedGoal, IsTable, certificates, decided_at}
+use Rattle.verify_core.specs.Decided.{AreDecided, DecidedGoal, HasDecision, IsTable, certificates}
 use Rattle.verify_core.specs.DecidedRankings.{AreRanked, AreRankingsDecided, IsRankTable, IsRankVerdict, certified_in_file, told_rankings}
-use Rattle.verify_core.specs.Questions.{AreGoals}
-use Rattle.verify_core.specs.Rankings.{AreRankingGoals, ranked_loops}
+use Rattle.verify_core.specs.Numbered.{row_at}
+use Rattle.verify_core.specs.Questions.{AreGoals, IsGoalOf}
+use Rattle.verify_core.specs.Rankings.{AreRankingGoals, IsRankingGoal, ranked_loops}
 use Rattle.verify_core.specs.declared.deciding.Decided as declared
 use Rattle.verify_core.specs.declared.outcomes.Outcome.{Outcome}
 use Rattle.verify_core.specs.declared.outcomes.ProcedureOutcome.{ProcedureOutcome}
@@ -25,45 +27,47 @@ use Rattle.verify_core.specs.internal.Outcomes.{AreOutcomes, loop_answer, outcom
 use Rattle.verify_core.specs.internal.Rows.{AreSettled, AreSettledTo, IsBoundRow, IsRankingRow, IsRow}
 use Rattle.verify_core.specs.internal.Settled.{IsSettled, plain}
 use Rattle.verify_core.proofs.GoalOutcomes.{goals_of}
+use Rattle.verify_core.proofs.SideBySide.{row_of}
 
 -- ---- One row
 
-are_decided : (ps : List TypedProcedure) (p : ℕ) (ids : List GoalId) (row : List DecidedGoal) → AreGoals ps p ids (map (λ (d : DecidedGoal). d.goal) row) → Each IsSettled row → AreDecided ps p ids row
-are_decided ps p [] [] h s = tt
-are_decided ps p [] (d ∷ ds) h s = absurd h
-are_decided ps p (id ∷ ids) [] h s = absurd h
-are_decided ps p (id ∷ ids) (d ∷ ds) h s = (record { goal = h.0; decision = s.0.decision }, are_decided ps p ids ds h.1 s.1)
+all_decided : {I : Type 0} (Is : I → NamedGoal → Type 0) (is : List I) (row : List DecidedGoal) → AllZip Is is (map (λ (d : DecidedGoal). d.goal) row) → Each IsSettled row → AllZip (λ i (d : DecidedGoal). HasDecision (Is i) d) is row
+all_decided Is [] [] h s = tt
+all_decided Is [] (d ∷ ds) h s = absurd h
+all_decided Is (i ∷ is) [] h s = absurd h
+all_decided Is (i ∷ is) (d ∷ ds) h s = (record { goal = h.0; decision = s.0.decision }, all_decided Is is ds h.1 s.1)
 
 pub bound_row : (ps : List TypedProcedure) (p : ℕ) (all : List declared.Decided) (made : List NamedGoal) (before after : List GoalCert) (o : Outcome) → AreGoals ps p (bound_goals (procedure_at ps p)) made → goals_of all ≡ made → Each IsSettled (map plain all) → o ≡ outcome (map plain all) → after ≡ before ++ certificates (map plain all) → IsBoundRow ps p before o after
 bound_row ps p all made before after o h e s f k = record {
   row = map plain all;
-  decided = are_decided ps p (bound_goals (procedure_at ps p)) (map plain all) (subst (AreGoals ps p (bound_goals (procedure_at ps p))) (sym e) h) s;
+  decided = all_decided (IsGoalOf ps p) (bound_goals (procedure_at ps p)) (map plain all) (subst (AreGoals ps p (bound_goals (procedure_at ps p))) (sym e) h) s;
   settled = s;
   outcome_of = f;
   certs = k;
 }
-
-rankings_decided : (ps : List TypedProcedure) (p : ℕ) (ns : List ℕ) (row : List DecidedGoal) → AreRankingGoals ps p ns (map (λ (d : DecidedGoal). d.goal) row) → Each IsSettled row → AreRankingsDecided ps p ns row
-rankings_decided ps p [] [] h s = tt
-rankings_decided ps p [] (d ∷ ds) h s = absurd h
-rankings_decided ps p (n ∷ ns) [] h s = absurd h
-rankings_decided ps p (n ∷ ns) (d ∷ ds) h s = (record { goal = h.0; decision = s.0.decision }, rankings_decided ps p ns ds h.1 s.1)
 
 rank_verdict : (g : NamedGoal) (d : Decision) → IsRankVerdict d (rank_by (outcome_of (record { goal = g; decision = d })))
 rank_verdict g (decision.Proved t) = refl
 rank_verdict g (decision.Falsified s) = refl
 rank_verdict g (decision.Unknown c) = refl
 
+numbers_are : (ps : List TypedProcedure) (p : ℕ) (ns : List ℕ) (row : List DecidedGoal) → AreRankingsDecided ps p ns row → AllZip (λ (n : ℕ) (l : LoopAnswer). l.number ≡ n) ns (map loop_answer row)
+numbers_are ps p [] [] h = tt
+numbers_are ps p [] (d ∷ ds) h = absurd h
+numbers_are ps p (n ∷ ns) [] h = absurd h
+numbers_are ps p (n ∷ ns) (d ∷ ds) h = (ap loop_of h.0.goal.id_of, numbers_are ps p ns ds h.1)
+
+verdicts_are : (row : List DecidedGoal) → AllZip (λ (d : DecidedGoal) (l : LoopAnswer). IsRankVerdict d.decision l.rank) row (map loop_answer row)
+verdicts_are [] = tt
+verdicts_are (d ∷ ds) = (rank_verdict d.goal d.decision, verdicts_are ds)
+
 are_ranked : (ps : List TypedProcedure) (p : ℕ) (ns : List ℕ) (row : List DecidedGoal) → AreRankingsDecided ps p ns row → AreRanked ns row (map loop_answer row)
-are_ranked ps p [] [] h = tt
-are_ranked ps p [] (d ∷ ds) h = absurd h
-are_ranked ps p (n ∷ ns) [] h = absurd h
-are_ranked ps p (n ∷ ns) (d ∷ ds) h = (ap loop_of h.0.goal.id_of, (rank_verdict d.goal d.decision, are_ranked ps p ns ds h.1))
+are_ranked ps p ns row h = (numbers_are ps p ns row h, verdicts_are row)
 
 pub ranking_row : (ps : List TypedProcedure) (p : ℕ) (all : List declared.Decided) (made : List NamedGoal) (before after : List GoalCert) (o : RankingOutcome) → AreRankingGoals ps p (ranked_loops (procedure_at ps p)) made → goals_of all ≡ made → Each IsSettled (map plain all) → o.loops.items ≡ map loop_answer (map plain all) → o.told.items ≡ told_rankings (map plain all) → after ≡ before ++ certificates (map plain all) → IsRankingRow ps p before o after
 ranking_row ps p all made before after o h e s f t k =
     let ns = ranked_loops (procedure_at ps p) in
-    let d = rankings_decided ps p ns (map plain all) (subst (AreRankingGoals ps p ns) (sym e) h) s in
+    let d = all_decided (IsRankingGoal ps p) ns (map plain all) (subst (AreRankingGoals ps p ns) (sym e) h) s in
     record {
       row = map plain all;
       decided = d;
@@ -175,43 +179,14 @@ outcomes_length (p ∷ ps) (ds ∷ table) [] os h = absurd h
 outcomes_length (p ∷ ps) (ds ∷ table) (rs ∷ ranks) [] h = absurd h
 outcomes_length (p ∷ ps) (ds ∷ table) (rs ∷ ranks) (o ∷ os) h = ap suc (outcomes_length ps table ranks os h.1)
 
-row_from : (ps : List TypedProcedure) (k : ℕ) (qs : List TypedProcedure) (table : List (List DecidedGoal)) (n : ℕ) → n < length qs → IsTable ps k qs table → AreDecided ps (k + n) (bound_goals (procedure_at qs n)) (decided_at table n)
-row_from ps k [] table n l h = absurd (omega arith)
-row_from ps k (q ∷ qs) [] n l h = absurd h
-row_from ps k (q ∷ qs) (r ∷ rs) zero l h = subst (λ i. AreDecided ps i (bound_goals q) r) (plain_zero k) h.0
-  where
-    plain_zero : (k : ℕ) → k ≡ k + zero
-    plain_zero k = omega arith
-row_from ps k (q ∷ qs) (r ∷ rs) (suc n) l h = subst (λ i. AreDecided ps i (bound_goals (procedure_at qs n)) (decided_at rs n)) (step k n) (row_from ps (suc k) qs rs n (omega arith) h.1)
-  where
-    step : (k n : ℕ) → suc k + n ≡ k + suc n
-    step k n = omega arith
+-- The decided goals of a procedure's bound, and those of its rankings.
+pub bounds_at : (ps : List TypedProcedure) (table : List (List DecidedGoal)) (p : ℕ) → p < length ps → IsTable ps 0 ps table → AreDecided ps p (bound_goals (procedure_at ps p)) (row_at table p)
+bounds_at ps table p l h = row_of (λ k (q : TypedProcedure) (ds : List DecidedGoal). AreDecided ps k (bound_goals q) ds) ps table p l h
 
-pub row_at : (ps : List TypedProcedure) (table : List (List DecidedGoal)) (p : ℕ) → p < length ps → IsTable ps 0 ps table → AreDecided ps p (bound_goals (procedure_at ps p)) (decided_at table p)
-row_at ps table p l h = subst (λ i. AreDecided ps i (bound_goals (procedure_at ps p)) (decided_at table p)) (first p) (row_from ps 0 ps table p l h)
-  where
-    first : (p : ℕ) → 0 + p ≡ p
-    first p = omega arith
+pub rankings_at : (ps : List TypedProcedure) (ranks : List (List DecidedGoal)) (p : ℕ) → p < length ps → IsRankTable ps 0 ps ranks → AreRankingsDecided ps p (ranked_loops (procedure_at ps p)) (row_at ranks p)
+rankings_at ps ranks p l h = row_of (λ k (q : TypedProcedure) (ds : List DecidedGoal). AreRankingsDecided ps k (ranked_loops q) ds) ps ranks p l h
 
-rank_row_from : (ps : List TypedProcedure) (k : ℕ) (qs : List TypedProcedure) (ranks : List (List DecidedGoal)) (n : ℕ) → n < length qs → IsRankTable ps k qs ranks → AreRankingsDecided ps (k + n) (ranked_loops (procedure_at qs n)) (decided_at ranks n)
-rank_row_from ps k [] ranks n l h = absurd (omega arith)
-rank_row_from ps k (q ∷ qs) [] n l h = absurd h
-rank_row_from ps k (q ∷ qs) (r ∷ rs) zero l h = subst (λ i. AreRankingsDecided ps i (ranked_loops q) r) (plain_zero k) h.0
-  where
-    plain_zero : (k : ℕ) → k ≡ k + zero
-    plain_zero k = omega arith
-rank_row_from ps k (q ∷ qs) (r ∷ rs) (suc n) l h = subst (λ i. AreRankingsDecided ps i (ranked_loops (procedure_at qs n)) (decided_at rs n)) (step k n) (rank_row_from ps (suc k) qs rs n (omega arith) h.1)
-  where
-    step : (k n : ℕ) → suc k + n ≡ k + suc n
-    step k n = omega arith
-
-pub rank_row_at : (ps : List TypedProcedure) (ranks : List (List DecidedGoal)) (p : ℕ) → p < length ps → IsRankTable ps 0 ps ranks → AreRankingsDecided ps p (ranked_loops (procedure_at ps p)) (decided_at ranks p)
-rank_row_at ps ranks p l h = subst (λ i. AreRankingsDecided ps i (ranked_loops (procedure_at ps p)) (decided_at ranks p)) (first p) (rank_row_from ps 0 ps ranks p l h)
-  where
-    first : (p : ℕ) → 0 + p ≡ p
-    first p = omega arith
-
-pub settled_at : (table : List (List DecidedGoal)) (p : ℕ) → Each (Each IsSettled) table → Each IsSettled (decided_at table p)
+pub settled_at : (table : List (List DecidedGoal)) (p : ℕ) → Each (Each IsSettled) table → Each IsSettled (row_at table p)
 settled_at [] p h = tt
 settled_at (r ∷ rs) zero h = h.0
 settled_at (r ∷ rs) (suc p) h = settled_at rs p h.1

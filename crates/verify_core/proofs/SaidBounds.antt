@@ -23,8 +23,9 @@ use Rattle.loop_encodings.specs.EncodingLaws.{EncodingIsOver}
 use Rattle.vp_generator.specs.Laws.{GeneratedFormIsFormula, GeneratedFormMeansActs}
 use Rattle.vp_generator.specs.Over.{GeneratedFormIsOver}
 use Rattle.vp_generator.specs.PrenexedGoals.{HoldsByChoices, PrenexedGoalsSpeakOfChoices}
+use Rattle.ranking_rule.specs.MadeGoals.{all_names}
 use Rattle.verify_core.specs.GoalLaws.{MadeGoalsSayBounds}
-use Rattle.verify_core.specs.Questions.{Question, all_names, form_or_zero, goal, question}
+use Rattle.verify_core.specs.Questions.{Question, form_or_zero, goal, question}
 use Rattle.verify_core.proofs.AskedGoals.{IsProper, proper}
 use Rattle.loop_encodings.proofs.exported.EncodedTypes.{encoding_fits}
 use Rattle.loop_encodings.proofs.exported.FromRules.{each_at}
@@ -34,7 +35,7 @@ both_ways f g = ((λ b. g.0 (f.1 b)), (λ c. f.0 (g.1 c)))
 
 module _ (speak : PrenexedGoalsSpeakOfChoices) (means : GeneratedFormMeansActs) (formula : GeneratedFormIsFormula) (over : GeneratedFormIsOver) (encoded : EncodingIsOver) where
   by_choices : (q : Question) → IsProper q → HoldsByChoices q.upper (type_list q.variables) q.stated q.found ↔ Holds (goal q)
-  by_choices q h = speak q.upper (type_list q.variables) (all_names q) q.stated q.found h.stated_over h.found_over
+  by_choices q h = speak q.upper (type_list q.variables) (all_names q.variables q.found) q.stated q.found h.stated_over h.found_over
 
   module _ (ps : List TypedProcedure) (rules : Each (MeetsRules ps) ps) (p : ℕ) (there : p < length ps) where
     fits : ActsFit (types_in (type_list (all_variables ps (procedure_at ps p)))) (encoding ps (procedure_at ps p))

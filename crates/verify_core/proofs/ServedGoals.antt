@@ -1,7 +1,7 @@
 -- The certificates of decided goals: their order, and the goals that they serve.
 use Rattle.std.proofs.Common.{◌≡◌, ℕ, ◌<◌, ◌≤◌, Bool, true, false, refl, ap, sym, subst, ◌∙◌, append_assoc, append-nil, arith, List, [], ◌∷◌, ◌++◌, length, map, slice_index_or, Option, None, Some, IsTrue, if◌then◌else◌}
 use Prim.Native.Nat.{zero, suc}
-use Rattle.std.specs.List.{Contains}
+use Rattle.std.specs.List.{AllZip, Contains}
 use Rattle.std.specs.Option.{is_some}
 use Rattle.std.proofs.lemmas.Bool.Decides.{nat_tests}
 use Rattle.cert_text.specs.Certificates.{IsGrowingAfter, certificates_of, may_follow, precedes}
@@ -24,10 +24,12 @@ use Rattle.region_split.specs.declared.decisions.Decision.TheVariants.{Proved, F
 use Rattle.verdict_report.specs.declared.answers.NamedGoal.{NamedGoal}
 use Rattle.verify_core.specs.Checked.{Certifies}
 use Rattle.verify_core.specs.CheckedProofs.{IsServed, ProofsAreAccepted}
-use Rattle.verify_core.specs.Decided.{AreDecided, DecidedGoal, IsDecisionOf, IsTable, certificate, certificates}
+use Rattle.verify_core.specs.Decided.{AreDecided, DecidedGoal, HasDecision, IsDecisionOf, IsTable, certificate, certificates}
 use Rattle.verify_core.specs.DecidedRankings.{AreRankingsDecided, IsRankTable, certified_in_file}
-use Rattle.verify_core.specs.Rankings.{ranked_in, ranked_loops}
+use Rattle.verify_core.specs.Questions.{IsGoalOf}
+use Rattle.verify_core.specs.Rankings.{IsRankingGoal, ranked_in, ranked_loops}
 use Rattle.verify_core.proofs.CertOrder.{precedes_onward}
+use Rattle.verify_core.proofs.SideBySide.{zip_seconds}
 
 -- ---- The order
 
@@ -68,10 +70,7 @@ one_goal k id g (Unknown u) cs rest o ids p i c b f = f o (skipped k o (goal_nam
 
 -- Goals of the procedure with these ids.
 abbrev AreNamed : ℕ → List GoalId → List DecidedGoal → Type 0
-AreNamed k [] [] = Unit {0}
-AreNamed k [] (d ∷ ds) = ⊥
-AreNamed k (id ∷ ids) [] = ⊥
-AreNamed k (id ∷ ids) (d ∷ ds) = ((d.goal.proc ≡ k) × (d.goal.id ≡ id)) × AreNamed k ids ds
+AreNamed k ids ds = AllZip (λ id (d : DecidedGoal). (d.goal.proc ≡ k) × (d.goal.id ≡ id)) ids ds
 
 bounds_named : (ps : List TypedProcedure) (k : ℕ) (ids : List GoalId) (ds : List DecidedGoal) → AreDecided ps k ids ds → AreNamed k ids ds
 bounds_named ps k [] [] h = tt
@@ -244,22 +243,13 @@ one_served law certs g d h f t e = record {
     cert : GoalCert
     cert = record { proc = g.proc; id = g.id; tree = t }
 
-abbrev HasDecision : DecidedGoal → Type 0
-HasDecision d = IsDecisionOf d.goal.made d.decision
+abbrev IsDecidedBy : DecidedGoal → Type 0
+IsDecidedBy d = IsDecisionOf d.goal.made d.decision
 
-bounds_decided : (ps : List TypedProcedure) (k : ℕ) (ids : List GoalId) (ds : List DecidedGoal) → AreDecided ps k ids ds → Each HasDecision ds
-bounds_decided ps k [] [] h = tt
-bounds_decided ps k [] (d ∷ ds) h = absurd h
-bounds_decided ps k (id ∷ ids) [] h = absurd h
-bounds_decided ps k (id ∷ ids) (d ∷ ds) h = (h.0.decision, bounds_decided ps k ids ds h.1)
+all_decided : {I : Type 0} (Is : I → NamedGoal → Type 0) (is : List I) (ds : List DecidedGoal) → AllZip (λ i (d : DecidedGoal). HasDecision (Is i) d) is ds → Each IsDecidedBy ds
+all_decided Is is ds h = zip_seconds (λ i (d : DecidedGoal). HasDecision (Is i) d) IsDecidedBy is ds (λ i d k. k.decision) h
 
-rankings_decided : (ps : List TypedProcedure) (k : ℕ) (ns : List ℕ) (ds : List DecidedGoal) → AreRankingsDecided ps k ns ds → Each HasDecision ds
-rankings_decided ps k [] [] h = tt
-rankings_decided ps k [] (d ∷ ds) h = absurd h
-rankings_decided ps k (n ∷ ns) [] h = absurd h
-rankings_decided ps k (n ∷ ns) (d ∷ ds) h = (h.0.decision, rankings_decided ps k ns ds h.1)
-
-all_served : TreesCertify → (certs : List GoalCert) (ds : List DecidedGoal) → Each HasDecision ds → ((c : GoalCert) → Contains (certificates ds) c → Contains certs c) → Each (IsServed certs) ds
+all_served : TreesCertify → (certs : List GoalCert) (ds : List DecidedGoal) → Each IsDecidedBy ds → ((c : GoalCert) → Contains (certificates ds) c → Contains certs c) → Each (IsServed certs) ds
 all_served law certs [] h f = tt
 all_served law certs (d ∷ ds) h f = (one_served law certs d.goal d.decision h.0 (λ c x. f c (contains_left (certificate d) (certificates ds) c x)), all_served law certs ds h.1 (λ c x. f c (contains_right (certificate d) (certificates ds) c x)))
 
@@ -274,8 +264,8 @@ tables_served law ps certs k (q ∷ qs) (ds ∷ table) (rs ∷ ranks) h t f =
     let own = certificates ds ++ certificates rs in
     let rest = certified_in_file table ranks in
     let others = tables_served law ps certs (suc k) qs table ranks h.1 t.1 (λ c x. f c (contains_right own rest c x)) in (
-      (all_served law certs ds (bounds_decided ps k (bound_goals q) ds h.0) (λ c x. f c (contains_left own rest c (contains_left (certificates ds) (certificates rs) c x))), others.0),
-      (all_served law certs rs (rankings_decided ps k (ranked_loops q) rs t.0) (λ c x. f c (contains_left own rest c (contains_right (certificates ds) (certificates rs) c x))), others.1),
+      (all_served law certs ds (all_decided (IsGoalOf ps k) (bound_goals q) ds h.0) (λ c x. f c (contains_left own rest c (contains_left (certificates ds) (certificates rs) c x))), others.0),
+      (all_served law certs rs (all_decided (IsRankingGoal ps k) (ranked_loops q) rs t.0) (λ c x. f c (contains_left own rest c (contains_right (certificates ds) (certificates rs) c x))), others.1),
     )
 
 pub proofs_are_accepted : TreesCertify → ProofsAreAccepted

@@ -21,7 +21,7 @@ use Rattle.loop_encodings.specs.Fresh.{fresh, fresh_of_act, fresh_of_arms}
 use Rattle.verify_core.specs.Places.{ActStands, CondStands, FormStands, GuardsStand, StandsWithin, TermStands}
 use Rattle.verify_core.specs.Questions.{Question, form_or_zero, goal, question}
 use Rattle.loop_encodings.proofs.exported.FromRules.{each_first, each_second}
-use Rattle.verify_core.proofs.EachOf.{each_both}
+use Rattle.ranking_rule.proofs.exported.Each.{each_append}
 use Rattle.verify_core.proofs.StandingForms.{or_stands, product_stands, shifted_stands, unbound_stands, vp_stands}
 
 abbrev pub Stand : ℕ → Acts → Type 0
@@ -29,7 +29,7 @@ Stand n acts = Each (ActStands n) (in_order acts)
 
 join_stands : (n : ℕ) (acts more : Acts) → Stand n acts → Stand n more → Stand n (join acts more)
 join_stands n Acts.done more h k = k
-join_stands n (Acts.next a rest) more h k = (h.0, each_both (ActStands n) (inside a) (in_order (join rest more)) (each_first (ActStands n) (inside a) (in_order rest) h.1) (join_stands n rest more (each_second (ActStands n) (inside a) (in_order rest) h.1) k))
+join_stands n (Acts.next a rest) more h k = (h.0, each_append (ActStands n) (inside a) (in_order (join rest more)) (each_first (ActStands n) (inside a) (in_order rest) h.1) (join_stands n rest more (each_second (ActStands n) (inside a) (in_order rest) h.1) k))
 
 -- ---- Calls
 
@@ -73,9 +73,9 @@ tested_acts span g acts = Acts.next (if_holds span g acts) Acts.done
 
 if_stands_acts : (n : ℕ) (span : Span) (g : Cond) (acts : Acts) → span.from ≤ n → CondStands n g → Stand n acts → Stand n (tested_acts span g acts)
 if_stands_acts n span g acts l h k =
-    let one = each_both (ActStands n) (in_order acts) [] k tt in
-    let two = each_both (ActStands n) (in_order acts ++ []) [] one tt in
-    ((l, (h, tt)), each_both (ActStands n) ((in_order acts ++ []) ++ []) [] two tt)
+    let one = each_append (ActStands n) (in_order acts) [] k tt in
+    let two = each_append (ActStands n) (in_order acts ++ []) [] one tt in
+    ((l, (h, tt)), each_append (ActStands n) ((in_order acts ++ []) ++ []) [] two tt)
 
 copies_stand : (n : ℕ) (up : Bool) (span : Span) (g : Cond) (inv : Form) (body : Acts) (k : ℕ) → span.from ≤ n → CondStands n g → FormStands n inv → Stand n body → Stand n (copies up span g inv body k)
 copies_stand n up span g inv body zero l h i b = tt
@@ -109,11 +109,11 @@ mutual
   encoded_stands_in n ps p s m (Act.any x up ty span) h k = (h, tt)
   encoded_stands_in n ps p s m (Act.reward f span) h k = (h, tt)
   encoded_stands_in n ps p s m (Act.ifs arms e span) h k =
-      let one = each_both (ActStands n) (inside_arms (encoded_arms ps p m arms)) (in_order (encoded ps p (m + length (fresh_of_arms ps arms)) e)) (encoded_stands_arms n ps p s m arms (each_first (ActStands n) (inside_arms arms) (in_order e) k)) (encoded_stands n ps p s (m + length (fresh_of_arms ps arms)) e (each_second (ActStands n) (inside_arms arms) (in_order e) k)) in
-      ((h.0, guards_stand n ps p m arms h.1), each_both (ActStands n) (inside_arms (encoded_arms ps p m arms) ++ in_order (encoded ps p (m + length (fresh_of_arms ps arms)) e)) [] one tt)
+      let one = each_append (ActStands n) (inside_arms (encoded_arms ps p m arms)) (in_order (encoded ps p (m + length (fresh_of_arms ps arms)) e)) (encoded_stands_arms n ps p s m arms (each_first (ActStands n) (inside_arms arms) (in_order e) k)) (encoded_stands n ps p s (m + length (fresh_of_arms ps arms)) e (each_second (ActStands n) (inside_arms arms) (in_order e) k)) in
+      ((h.0, guards_stand n ps p m arms h.1), each_append (ActStands n) (inside_arms (encoded_arms ps p m arms) ++ in_order (encoded ps p (m + length (fresh_of_arms ps arms)) e)) [] one tt)
   encoded_stands_in n ps p s m (Act.pick up a b span) h k =
-      let one = each_both (ActStands n) (in_order (encoded ps p m a)) (in_order (encoded ps p (m + length (fresh ps a)) b)) (encoded_stands n ps p s m a (each_first (ActStands n) (in_order a) (in_order b) k)) (encoded_stands n ps p s (m + length (fresh ps a)) b (each_second (ActStands n) (in_order a) (in_order b) k)) in
-      (h, each_both (ActStands n) (in_order (encoded ps p m a) ++ in_order (encoded ps p (m + length (fresh ps a)) b)) [] one tt)
+      let one = each_append (ActStands n) (in_order (encoded ps p m a)) (in_order (encoded ps p (m + length (fresh ps a)) b)) (encoded_stands n ps p s m a (each_first (ActStands n) (in_order a) (in_order b) k)) (encoded_stands n ps p s (m + length (fresh ps a)) b (each_second (ActStands n) (in_order a) (in_order b) k)) in
+      (h, each_append (ActStands n) (in_order (encoded ps p m a) ++ in_order (encoded ps p (m + length (fresh ps a)) b)) [] one tt)
   encoded_stands_in n ps p s m (Act.check kind f span) h k = (h, tt)
   encoded_stands_in n ps p s m (Act.validate co span) h k = (h, tt)
   encoded_stands_in n ps p s m (Act.loop h b) l k = loop_stands n p.co (types_of p) h (modified h.scope b) (encoded ps p m b) l.0 l.1.0 l.1.1.0 (encoded_stands n ps p s m b k)
@@ -121,7 +121,7 @@ mutual
 
   encoded_stands_arms : (n : ℕ) (ps : List TypedProcedure) (p : TypedProcedure) → Each (StandsWithin n) ps → (m : ℕ) (arms : Arms) → Each (ActStands n) (inside_arms arms) → Each (ActStands n) (inside_arms (encoded_arms ps p m arms))
   encoded_stands_arms n ps p s m Arms.no_arm k = tt
-  encoded_stands_arms n ps p s m (Arms.arm g b more) k = each_both (ActStands n) (in_order (encoded ps p m b)) (inside_arms (encoded_arms ps p (m + length (fresh ps b)) more)) (encoded_stands n ps p s m b (each_first (ActStands n) (in_order b) (inside_arms more) k)) (encoded_stands_arms n ps p s (m + length (fresh ps b)) more (each_second (ActStands n) (in_order b) (inside_arms more) k))
+  encoded_stands_arms n ps p s m (Arms.arm g b more) k = each_append (ActStands n) (in_order (encoded ps p m b)) (inside_arms (encoded_arms ps p (m + length (fresh ps b)) more)) (encoded_stands n ps p s m b (each_first (ActStands n) (in_order b) (inside_arms more) k)) (encoded_stands_arms n ps p s (m + length (fresh ps b)) more (each_second (ActStands n) (in_order b) (inside_arms more) k))
 
 -- ---- Questions
 

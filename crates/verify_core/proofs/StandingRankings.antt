@@ -13,8 +13,8 @@ use Rattle.ranking_rule.specs.RankingGoals.{found, goal}
 use Rattle.ranking_rule.specs.Rankings.{RankedLoop}
 use Rattle.ranking_rule.specs.Upward.{upward, upward_arms, upward_next}
 use Rattle.verify_core.specs.Places.{ActStands, FormStands, GuardsStand, RankStands, StandsWithin}
-use Rattle.verify_core.proofs.EachOf.{each_both}
-use Rattle.verify_core.proofs.RankedActs.{of_body, of_head}
+use Rattle.ranking_rule.proofs.exported.Each.{each_append}
+use Rattle.ranking_rule.proofs.exported.RankedActs.{of_body, of_head}
 use Rattle.verify_core.proofs.StandingActs.{Stand, stands_at}
 use Rattle.verify_core.proofs.StandingForms.{or_stands, product_stands, unbound_stands, vp_stands}
 
@@ -35,19 +35,19 @@ mutual
   next_stands n (Act.any x up ty span) rest h i k = (h, k)
   next_stands n (Act.reward f span) rest h i k = k
   next_stands n (Act.ifs arms e span) rest h i k =
-      let one = each_both (ActStands n) (inside_arms (upward_arms arms)) (in_order (upward e)) (arms_stand n arms (each_first (ActStands n) (inside_arms arms) (in_order e) i)) (upward_stands n e (each_second (ActStands n) (inside_arms arms) (in_order e) i)) in
-      ((h.0, guards_stand n arms h.1), each_both (ActStands n) (inside_arms (upward_arms arms) ++ in_order (upward e)) (in_order rest) one k)
+      let one = each_append (ActStands n) (inside_arms (upward_arms arms)) (in_order (upward e)) (arms_stand n arms (each_first (ActStands n) (inside_arms arms) (in_order e) i)) (upward_stands n e (each_second (ActStands n) (inside_arms arms) (in_order e) i)) in
+      ((h.0, guards_stand n arms h.1), each_append (ActStands n) (inside_arms (upward_arms arms) ++ in_order (upward e)) (in_order rest) one k)
   next_stands n (Act.pick up a b span) rest h i k =
-      let one = each_both (ActStands n) (in_order (upward a)) (in_order (upward b)) (upward_stands n a (each_first (ActStands n) (in_order a) (in_order b) i)) (upward_stands n b (each_second (ActStands n) (in_order a) (in_order b) i)) in
-      (h, each_both (ActStands n) (in_order (upward a) ++ in_order (upward b)) (in_order rest) one k)
+      let one = each_append (ActStands n) (in_order (upward a)) (in_order (upward b)) (upward_stands n a (each_first (ActStands n) (in_order a) (in_order b) i)) (upward_stands n b (each_second (ActStands n) (in_order a) (in_order b) i)) in
+      (h, each_append (ActStands n) (in_order (upward a) ++ in_order (upward b)) (in_order rest) one k)
   next_stands n (Act.check kind f span) rest h i k = (h, k)
   next_stands n (Act.validate co span) rest h i k = (h, k)
-  next_stands n (Act.loop g b) rest h i k = (h, each_both (ActStands n) (in_order b) (in_order rest) i k)
+  next_stands n (Act.loop g b) rest h i k = (h, each_append (ActStands n) (in_order b) (in_order rest) i k)
   next_stands n (Act.call xs q es span) rest h i k = (h, k)
 
   arms_stand : (n : ℕ) (arms : Arms) → Each (ActStands n) (inside_arms arms) → Each (ActStands n) (inside_arms (upward_arms arms))
   arms_stand n Arms.no_arm i = tt
-  arms_stand n (Arms.arm g b more) i = each_both (ActStands n) (in_order (upward b)) (inside_arms (upward_arms more)) (upward_stands n b (each_first (ActStands n) (in_order b) (inside_arms more) i)) (arms_stand n more (each_second (ActStands n) (in_order b) (inside_arms more) i))
+  arms_stand n (Arms.arm g b more) i = each_append (ActStands n) (in_order (upward b)) (inside_arms (upward_arms more)) (upward_stands n b (each_first (ActStands n) (in_order b) (inside_arms more) i)) (arms_stand n more (each_second (ActStands n) (in_order b) (inside_arms more) i))
 
 -- ---- The goal
 

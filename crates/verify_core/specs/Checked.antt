@@ -1,7 +1,6 @@
 -- The goals of a file with what certificates say of them, and what follows from this for a procedure. This project's own.
-use Rattle.std.specs.Prelude.{◌≡◌, ℕ, Bool, List, [], ◌∷◌, Option, Some, None, get_or}
-use Prim.Native.Nat.{suc}
-use Rattle.std.specs.List.{Contains}
+use Rattle.std.specs.Prelude.{◌≡◌, ℕ, Bool, List, [], ◌∷◌, Option, Some, None}
+use Rattle.std.specs.List.{AllZip, Contains}
 use Rattle.farkas_check.specs.Accepted.{IsCertificate, IsNoCertificate}
 use Rattle.farkas_check.specs.Trees.{Tree, tree_of}
 use Rattle.farkas_check.specs.declared.trees.GoalCert.{GoalCert}
@@ -16,6 +15,7 @@ use Rattle.verdict_report.specs.declared.answers.Miss.{Miss}
 use Rattle.verdict_report.specs.declared.answers.Miss.TheVariants.{Absent, Place}
 use Rattle.verdict_report.specs.declared.answers.NamedGoal.{NamedGoal}
 use Rattle.verify_core.specs.Decided.{or_else}
+use Rattle.verify_core.specs.Numbered.{AllNumbered, row_at}
 use Rattle.verify_core.specs.Questions.{IsGoalOf}
 
 -- The list has this tree for the goal of a procedure.
@@ -62,26 +62,20 @@ pub record CheckedGoal : Type 0 where
   pub goal : NamedGoal
   pub miss : Option Miss
 
-pub record IsChecked (ps : List TypedProcedure) (certs : List GoalCert) (p : ℕ) (id : GoalId) (c : CheckedGoal) : Type 0 where
-  pub goal : IsGoalOf ps p id c.goal
+-- The goal is such a one, and this is why the certificates don't prove it, if they don't.
+pub record HasMiss (Is : NamedGoal → Type 0) (certs : List GoalCert) (c : CheckedGoal) : Type 0 where
+  pub goal : Is c.goal
   pub miss : IsMissOf certs c.goal c.miss
 
+abbrev pub IsChecked : List TypedProcedure → List GoalCert → ℕ → GoalId → CheckedGoal → Type 0
+IsChecked ps certs p id c = HasMiss (IsGoalOf ps p id) certs c
+
 abbrev pub AreChecked : List TypedProcedure → List GoalCert → ℕ → List GoalId → List CheckedGoal → Type 0
-AreChecked ps certs p [] [] = Unit {0}
-AreChecked ps certs p [] (c ∷ cs) = ⊥
-AreChecked ps certs p (id ∷ ids) [] = ⊥
-AreChecked ps certs p (id ∷ ids) (c ∷ cs) = IsChecked ps certs p id c × AreChecked ps certs p ids cs
+AreChecked ps certs p ids cs = AllZip (IsChecked ps certs p) ids cs
 
 -- The checked goals of the procedures of a file, from the number p on; each list has the goals of one procedure's bound.
 abbrev pub IsCheckedTable : List TypedProcedure → List GoalCert → ℕ → List TypedProcedure → List (List CheckedGoal) → Type 0
-IsCheckedTable ps certs p [] [] = Unit {0}
-IsCheckedTable ps certs p [] (cs ∷ rest) = ⊥
-IsCheckedTable ps certs p (q ∷ qs) [] = ⊥
-IsCheckedTable ps certs p (q ∷ qs) (cs ∷ rest) = AreChecked ps certs p (bound_goals q) cs × IsCheckedTable ps certs (suc p) qs rest
-
--- The checked goals of a procedure, by its number.
-abbrev pub checked_at : List (List CheckedGoal) → ℕ → List CheckedGoal
-checked_at table p = get_or table p []
+IsCheckedTable ps certs p qs table = AllNumbered (λ k (q : TypedProcedure) (cs : List CheckedGoal). AreChecked ps certs k (bound_goals q) cs) p qs table
 
 -- A goal that isn't accepted, and why.
 abbrev pub missed : GoalId → Option Miss → Option (GoalId × Miss)
@@ -95,5 +89,5 @@ first_miss (c ∷ cs) = or_else (missed c.goal.id c.miss) (first_miss cs)
 
 -- The procedure is a program, and each of its goals has a certificate.
 pub record IsCertified (ps : List TypedProcedure) (table : List (List CheckedGoal)) (p : ℕ) : Type 0 where
-  pub accepted : first_miss (checked_at table p) ≡ None
+  pub accepted : first_miss (row_at table p) ≡ None
   pub program : IsProgram (procedure_at ps p)

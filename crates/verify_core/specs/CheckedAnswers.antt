@@ -1,6 +1,5 @@
 -- What is answered of the procedures of a file, from certificates of their goals. This project's own.
-use Rattle.std.specs.Prelude.{◌≡◌, ◌<◌, ℕ, List, [], ◌∷◌, Some, None}
-use Prim.Native.Nat.{suc}
+use Rattle.std.specs.Prelude.{◌≡◌, ◌<◌, ℕ, List, Some, None}
 use Rattle.farkas_check.specs.declared.trees.GoalCert.{GoalCert}
 use Rattle.heyvl_types.specs.Acts.{TypedProcedure, procedure_at}
 use Rattle.heyvl_types.specs.Program.{Reaches, why_no_program}
@@ -9,8 +8,9 @@ use Rattle.verdict_report.specs.declared.answers.Answer.{Answer}
 use Rattle.verdict_report.specs.declared.answers.Verdict.{Verdict}
 use Rattle.verdict_report.specs.declared.answers.Verdict.TheVariants as verdict
 use Rattle.verify_core.specs.CheckedRankings.{AreRankingsAnswered, IsCheckedRankTable}
+use Rattle.verify_core.specs.Numbered.{AllNumbered, row_at}
 use Rattle.verify_core.specs.Rankings.{ranked_loops}
-use Rattle.verify_core.specs.Checked.{CheckedGoal, IsCertified, IsCheckedTable, checked_at, first_miss}
+use Rattle.verify_core.specs.Checked.{CheckedGoal, IsCertified, IsCheckedTable, first_miss}
 
 -- The first procedure of the file that this one reaches and whose bound isn't shown by certificates of its own goals: it is no
 -- program, or one of its goals isn't accepted.
@@ -23,8 +23,8 @@ pub record IsFirstUncertified (ps : List TypedProcedure) (table : List (List Che
 -- program; else the first procedure that it reaches whose bound isn't shown; else it is verified.
 abbrev pub IsCheckedVerdict : List TypedProcedure → List (List CheckedGoal) → ℕ → Verdict → Type 0
 IsCheckedVerdict ps table p verdict.NoBody = (procedure_at ps p).body ≡ None
-IsCheckedVerdict ps table p (verdict.Unchecked id miss) = first_miss (checked_at table p) ≡ Some (id, miss)
-IsCheckedVerdict ps table p (verdict.Valid why) = (first_miss (checked_at table p) ≡ None) × (((procedure_at ps p).body ≡ None → ⊥) × (why_no_program (procedure_at ps p) ≡ Some (plain why)))
+IsCheckedVerdict ps table p (verdict.Unchecked id miss) = first_miss (row_at table p) ≡ Some (id, miss)
+IsCheckedVerdict ps table p (verdict.Valid why) = (first_miss (row_at table p) ≡ None) × (((procedure_at ps p).body ≡ None → ⊥) × (why_no_program (procedure_at ps p) ≡ Some (plain why)))
 IsCheckedVerdict ps table p (verdict.Conditional q) = IsCertified ps table p × IsFirstUncertified ps table p q
 IsCheckedVerdict ps table p verdict.Verified = IsCertified ps table p × ((q : ℕ) → Reaches ps p q → IsCertified ps table q)
 IsCheckedVerdict ps table p (verdict.NotVerified id s) = ⊥
@@ -34,14 +34,11 @@ IsCheckedVerdict ps table p (verdict.Unknown id c) = ⊥
 pub record IsCheckedAnswer (ps : List TypedProcedure) (table ranks : List (List CheckedGoal)) (p : ℕ) (a : Answer) : Type 0 where
   pub name : a.name ≡ (procedure_at ps p).name
   pub verdict : IsCheckedVerdict ps table p a.verdict
-  pub loops : AreRankingsAnswered (ranked_loops (procedure_at ps p)) (checked_at ranks p) a.loops.items
+  pub loops : AreRankingsAnswered (ranked_loops (procedure_at ps p)) (row_at ranks p) a.loops.items
 
 -- One answer for each procedure, from the number p on.
 abbrev pub AreCheckedAnswers : List TypedProcedure → List (List CheckedGoal) → List (List CheckedGoal) → ℕ → List TypedProcedure → List Answer → Type 0
-AreCheckedAnswers ps table ranks p [] [] = Unit {0}
-AreCheckedAnswers ps table ranks p [] (a ∷ rest) = ⊥
-AreCheckedAnswers ps table ranks p (q ∷ qs) [] = ⊥
-AreCheckedAnswers ps table ranks p (q ∷ qs) (a ∷ rest) = IsCheckedAnswer ps table ranks p a × AreCheckedAnswers ps table ranks (suc p) qs rest
+AreCheckedAnswers ps table ranks p qs answers = AllNumbered (λ k (q : TypedProcedure) (a : Answer). IsCheckedAnswer ps table ranks k a) p qs answers
 
 -- What certificates answer of a file: for what they say of its goals the answers are theirs.
 pub record IsCheckedFile (ps : List TypedProcedure) (certs : List GoalCert) (answers : List Answer) : Type 0 where

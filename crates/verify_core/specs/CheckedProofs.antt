@@ -1,5 +1,6 @@
 -- What is proved of a file's goals is accepted by certificates. This project's own.
-use Rattle.std.specs.Prelude.{◌≡◌, List, [], ◌∷◌, None, Some}
+use Rattle.std.specs.List.{AllZip}
+use Rattle.std.specs.Prelude.{◌≡◌, List, None, Some}
 use Rattle.cert_text.specs.Certificates.{IsGrowingAfter, certificates_of}
 use Rattle.farkas_check.specs.declared.trees.GoalCert.{GoalCert}
 use Rattle.farkas_check.specs.declared.trees.Tree.{Tree}
@@ -24,19 +25,16 @@ pub record AreServed (table ranks : List (List DecidedGoal)) : Type 0 where
 abbrev pub ProofsAreAccepted : Type 0
 ProofsAreAccepted = (ps : List TypedProcedure) (table ranks : List (List DecidedGoal)) → Each (MeetsRules ps) ps → IsTable ps 0 ps table → IsRankTable ps 0 ps ranks → AreServed table ranks
 
--- Of each goal that is proved with a tree, nothing is missed.
-abbrev pub NothingIsMissed : List DecidedGoal → List CheckedGoal → Type 0
-NothingIsMissed [] [] = Unit {0}
-NothingIsMissed [] (c ∷ cs) = ⊥
-NothingIsMissed (d ∷ ds) [] = ⊥
-NothingIsMissed (d ∷ ds) (c ∷ cs) = ((t : Tree) → d.decision ≡ Proved (Some t) → c.miss ≡ None) × NothingIsMissed ds cs
+-- Where the goal is proved, with a tree, nothing is missed of it.
+abbrev pub IsNotMissed : DecidedGoal → CheckedGoal → Type 0
+IsNotMissed d c = (t : Tree) → d.decision ≡ Proved (Some t) → c.miss ≡ None
 
--- So in each procedure.
+-- So of each goal of a procedure, and so in each procedure.
+abbrev pub NothingIsMissed : List DecidedGoal → List CheckedGoal → Type 0
+NothingIsMissed ds cs = AllZip IsNotMissed ds cs
+
 abbrev pub NothingIsMissedThroughout : List (List DecidedGoal) → List (List CheckedGoal) → Type 0
-NothingIsMissedThroughout [] [] = Unit {0}
-NothingIsMissedThroughout [] (cs ∷ checked) = ⊥
-NothingIsMissedThroughout (ds ∷ table) [] = ⊥
-NothingIsMissedThroughout (ds ∷ table) (cs ∷ checked) = NothingIsMissed ds cs × NothingIsMissedThroughout table checked
+NothingIsMissedThroughout table checked = AllZip NothingIsMissed table checked
 
 -- What decisions prove, their certificates show: of bounds, and of rankings.
 abbrev pub ProvedGoalsAreAccepted : Type 0

@@ -1,6 +1,6 @@
 -- The goals of a file with their decisions, and what follows from these for a procedure. This project's own.
-use Rattle.std.specs.Prelude.{◌≡◌, ◌⊎◌, ℕ, Bool, true, false, ◌&&◌, List, [], ◌∷◌, ◌++◌, Option, Some, None, get_or, if◌then◌else◌}
-use Prim.Native.Nat.{suc}
+use Rattle.std.specs.List.{AllZip}
+use Rattle.std.specs.Prelude.{◌≡◌, ◌⊎◌, ℕ, Bool, true, false, ◌&&◌, List, [], ◌∷◌, ◌++◌, Option, Some, None, if◌then◌else◌}
 use Rattle.farkas_check.specs.declared.trees.GoalCert.{GoalCert}
 use Rattle.farkas_check.specs.declared.trees.Tree.{Tree}
 use Rattle.heylo_formula.specs.Goals.{goal_of}
@@ -17,6 +17,7 @@ use Rattle.region_split.specs.Decisions.{IsDecision}
 use Rattle.region_split.specs.declared.decisions.Decision.{Decision}
 use Rattle.region_split.specs.declared.decisions.Decision.TheVariants.{Proved, Falsified, Unknown}
 use Rattle.verdict_report.specs.declared.answers.NamedGoal.{NamedGoal}
+use Rattle.verify_core.specs.Numbered.{AllNumbered, row_at}
 use Rattle.verify_core.specs.Questions.{IsGoalOf}
 
 -- A goal, or the limit that its form passes, and what is decided of it.
@@ -30,26 +31,20 @@ IsDecisionOf (made.Goal g) d = IsDecision (goal_of g) d
 IsDecisionOf made.Depth d = d ≡ Unknown cause.Depth
 IsDecisionOf made.Nodes d = d ≡ Unknown cause.Nodes
 
-pub record IsDecided (ps : List TypedProcedure) (p : ℕ) (id : GoalId) (d : DecidedGoal) : Type 0 where
-  pub goal : IsGoalOf ps p id d.goal
+-- The goal is such a one, and this is a decision of it.
+pub record HasDecision (Is : NamedGoal → Type 0) (d : DecidedGoal) : Type 0 where
+  pub goal : Is d.goal
   pub decision : IsDecisionOf d.goal.made d.decision
 
+abbrev pub IsDecided : List TypedProcedure → ℕ → GoalId → DecidedGoal → Type 0
+IsDecided ps p id d = HasDecision (IsGoalOf ps p id) d
+
 abbrev pub AreDecided : List TypedProcedure → ℕ → List GoalId → List DecidedGoal → Type 0
-AreDecided ps p [] [] = Unit {0}
-AreDecided ps p [] (d ∷ ds) = ⊥
-AreDecided ps p (id ∷ ids) [] = ⊥
-AreDecided ps p (id ∷ ids) (d ∷ ds) = IsDecided ps p id d × AreDecided ps p ids ds
+AreDecided ps p ids ds = AllZip (IsDecided ps p) ids ds
 
 -- The decided goals of the procedures of a file, from the number p on; each list has the goals of one procedure's bound.
 abbrev pub IsTable : List TypedProcedure → ℕ → List TypedProcedure → List (List DecidedGoal) → Type 0
-IsTable ps p [] [] = Unit {0}
-IsTable ps p [] (ds ∷ rest) = ⊥
-IsTable ps p (q ∷ qs) [] = ⊥
-IsTable ps p (q ∷ qs) (ds ∷ rest) = AreDecided ps p (bound_goals q) ds × IsTable ps (suc p) qs rest
-
--- The decided goals of a procedure, by its number.
-abbrev pub decided_at : List (List DecidedGoal) → ℕ → List DecidedGoal
-decided_at table p = get_or table p []
+IsTable ps p qs table = AllNumbered (λ k (q : TypedProcedure) (ds : List DecidedGoal). AreDecided ps k (bound_goals q) ds) p qs table
 
 -- ---- One procedure
 
@@ -110,7 +105,7 @@ told ds = or_else (first_with is_falsified ds) (first_with is_unknown ds)
 
 -- Its bound isn't shown by its own goals: it is no program, or one of its goals isn't proved.
 abbrev pub IsOpen : List TypedProcedure → List (List DecidedGoal) → ℕ → Type 0
-IsOpen ps table q = (IsProgram (procedure_at ps q) → ⊥) ⊎ (all_proved (decided_at table q) ≡ false)
+IsOpen ps table q = (IsProgram (procedure_at ps q) → ⊥) ⊎ (all_proved (row_at table q) ≡ false)
 
 abbrev pub listed : Option NamedGoal → List NamedGoal
 listed (Some g) = g ∷ []

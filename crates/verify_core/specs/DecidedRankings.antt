@@ -1,6 +1,6 @@
 -- The goals of a file's rankings with their decisions, and what is told and certified of all goals of a file. This project's own.
+use Rattle.std.specs.List.{AllZip}
 use Rattle.std.specs.Prelude.{◌≡◌, ℕ, List, [], ◌∷◌, ◌++◌, if◌then◌else◌, true}
-use Prim.Native.Nat.{suc}
 use Rattle.farkas_check.specs.declared.trees.GoalCert.{GoalCert}
 use Rattle.heyvl_types.specs.Acts.{TypedProcedure}
 use Rattle.verdict_report.specs.declared.answers.LoopAnswer.{LoopAnswer}
@@ -9,20 +9,18 @@ use Rattle.verdict_report.specs.declared.answers.RankVerdict.{RankVerdict}
 use Rattle.verdict_report.specs.declared.answers.RankVerdict.TheVariants as rank
 use Rattle.region_split.specs.declared.decisions.Decision.{Decision}
 use Rattle.region_split.specs.declared.decisions.Decision.TheVariants.{Proved, Falsified, Unknown}
-use Rattle.verify_core.specs.Decided.{DecidedGoal, IsDecisionOf, certificates, is_proved, listed, told}
+use Rattle.verify_core.specs.Decided.{DecidedGoal, HasDecision, certificates, is_proved, listed, told}
+use Rattle.verify_core.specs.LoopVerdicts.{LoopsAreAnswered}
+use Rattle.verify_core.specs.Numbered.{AllNumbered}
 use Rattle.verify_core.specs.Rankings.{IsRankingGoal, ranked_loops}
 
 -- ---- The rankings of a procedure
 
-pub record IsRankingDecided (ps : List TypedProcedure) (p n : ℕ) (d : DecidedGoal) : Type 0 where
-  pub goal : IsRankingGoal ps p n d.goal
-  pub decision : IsDecisionOf d.goal.made d.decision
+abbrev pub IsRankingDecided : List TypedProcedure → ℕ → ℕ → DecidedGoal → Type 0
+IsRankingDecided ps p n d = HasDecision (IsRankingGoal ps p n) d
 
 abbrev pub AreRankingsDecided : List TypedProcedure → ℕ → List ℕ → List DecidedGoal → Type 0
-AreRankingsDecided ps p [] [] = Unit {0}
-AreRankingsDecided ps p [] (d ∷ ds) = ⊥
-AreRankingsDecided ps p (n ∷ ns) [] = ⊥
-AreRankingsDecided ps p (n ∷ ns) (d ∷ ds) = IsRankingDecided ps p n d × AreRankingsDecided ps p ns ds
+AreRankingsDecided ps p ns ds = AllZip (IsRankingDecided ps p) ns ds
 
 -- The verdict on a ranking, by the decision of its goal alone.
 abbrev pub IsRankVerdict : Decision → RankVerdict → Type 0
@@ -35,11 +33,7 @@ IsRankVerdict d (rank.Unchecked miss) = ⊥
 
 -- One answer for each of these loops, by the decision of its goal.
 abbrev pub AreRanked : List ℕ → List DecidedGoal → List LoopAnswer → Type 0
-AreRanked [] ds [] = Unit {0}
-AreRanked [] ds (l ∷ ls) = ⊥
-AreRanked (n ∷ ns) ds [] = ⊥
-AreRanked (n ∷ ns) [] (l ∷ ls) = ⊥
-AreRanked (n ∷ ns) (d ∷ ds) (l ∷ ls) = (l.number ≡ n) × (IsRankVerdict d.decision l.rank × AreRanked ns ds ls)
+AreRanked ns ds ls = LoopsAreAnswered (λ (d : DecidedGoal) r. IsRankVerdict d.decision r) ns ds ls
 
 -- The goals of rankings whose state or cause is told: those that aren't proved.
 abbrev pub told_rankings : List DecidedGoal → List NamedGoal
@@ -50,10 +44,7 @@ told_rankings (d ∷ ds) = if is_proved d.decision then told_rankings ds else d.
 
 -- The decided goals of the rankings, a list for each procedure from the number p on.
 abbrev pub IsRankTable : List TypedProcedure → ℕ → List TypedProcedure → List (List DecidedGoal) → Type 0
-IsRankTable ps p [] [] = Unit {0}
-IsRankTable ps p [] (ds ∷ rest) = ⊥
-IsRankTable ps p (q ∷ qs) [] = ⊥
-IsRankTable ps p (q ∷ qs) (ds ∷ rest) = AreRankingsDecided ps p (ranked_loops q) ds × IsRankTable ps (suc p) qs rest
+IsRankTable ps p qs table = AllNumbered (λ k (q : TypedProcedure) (ds : List DecidedGoal). AreRankingsDecided ps k (ranked_loops q) ds) p qs table
 
 -- The goals that are told, procedure by procedure, those of its bound before those of its rankings.
 abbrev pub told_in_file : List (List DecidedGoal) → List (List DecidedGoal) → List NamedGoal

@@ -1,13 +1,15 @@
+pub mod Numbered
+pub mod LoopVerdicts
 pub mod Questions
 pub mod PostBinders
 pub mod Rankings
-pub mod Decidable
 pub mod Decided
 pub mod DecidedRankings
 pub mod Answered
 pub mod Headline
 pub mod Places
 pub mod GoalLaws
+pub mod FreshVariables
 pub mod Checked
 pub mod CheckedRankings
 pub mod CheckedAnswers

@@ -1,5 +1,6 @@
 -- The goals of the rankings of a procedure's loops, and all goals of a procedure. This project's own.
 use Rattle.std.specs.Prelude.{◌≡◌, ℕ, List, [], ◌∷◌, ◌++◌, if◌then◌else◌}
+use Rattle.std.specs.List.{AllZip}
 use Rattle.std.specs.Option.{is_some}
 use Rattle.heylo_formula.specs.declared.goals.GoalId.TheVariants.{Ranking}
 use Rattle.heyvl_types.specs.Acts.{Act, TypedProcedure, acts_in, procedure_at}
@@ -37,10 +38,7 @@ pub record IsRankingGoal (ps : List TypedProcedure) (p n : ℕ) (g : NamedGoal) 
 
 -- The goals of the rankings of these loops, in their order.
 abbrev pub AreRankingGoals : List TypedProcedure → ℕ → List ℕ → List NamedGoal → Type 0
-AreRankingGoals ps p [] [] = Unit {0}
-AreRankingGoals ps p [] (g ∷ gs) = ⊥
-AreRankingGoals ps p (n ∷ ns) [] = ⊥
-AreRankingGoals ps p (n ∷ ns) (g ∷ gs) = IsRankingGoal ps p n g × AreRankingGoals ps p ns gs
+AreRankingGoals ps p ns gs = AllZip (IsRankingGoal ps p) ns gs
 
 -- All goals of a procedure: first those of its bound, and then one for each of its rankings.
 pub record AreAllGoals (ps : List TypedProcedure) (p : ℕ) (all : List NamedGoal) : Type 0 where

@@ -6,3 +6,4 @@ pub mod Marks
 pub mod Verdicts
 pub mod OwnRankings
 pub mod Checking
+pub mod Decidable

@@ -2,7 +2,7 @@
 
 ghost use Rattle.heyvl_types.specs.Rules.{Each};
 ghost use Rattle.std.specs.Prelude.{IfOk, map, ◌≡◌};
-ghost use Rattle.verify_core.specs.Decidable.{CanDecide};
+ghost use Rattle.verify_core.specs.internal.Decidable.{CanDecide};
 ghost use Rattle.verify_core.specs.Decided.{IsDecisionOf};
 ghost use Rattle.verify_core.specs.internal.Settled.{IsSettled, TellsOf, plain};
 

@@ -1,10 +1,11 @@
 //! The laws. Each function does nothing: its contract is the law.
 
 ghost use Rattle.verify_core.specs.CheckedProofs.{ProofsAreAccepted, ProvedGoalsAreAccepted, ProvedRankingsAreAccepted};
+ghost use Rattle.verify_core.specs.FreshVariables as new;
 ghost use Rattle.verify_core.specs.GoalLaws.{MadeGoalsSayBounds};
 
 use farkas_check::certificates_are_told_apart;
-use loop_encodings::encodings_are_over_their_variables;
+use loop_encodings::{encodings_are_over_their_variables, main_goals_lack_fresh_variables};
 use region_split::walk_trees_certify;
 use vp_generator::{generated_form_means_acts, prenexed_goals_speak_of_choices};
 
@@ -15,6 +16,14 @@ pub fn made_goals_say_bounds()
     generated_form_means_acts();
     prenexed_goals_speak_of_choices();
     encodings_are_over_their_variables();
+}
+
+/// In a main goal that is made, the fresh variables of the encoding are counted among the goal's own, and occur in neither form.
+pub fn made_goals_lack_fresh_variables()
+    ensures counted { new.MadeGoalsCountFreshVariables }
+    ensures lacking { new.MadeGoalsLackFreshVariables }
+{
+    main_goals_lack_fresh_variables();
 }
 
 /// The certificates that decisions give are in the order of a text, each goal that is proved with a tree, of a bound or of a

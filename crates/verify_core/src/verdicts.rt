@@ -5,7 +5,8 @@ ghost use Rattle.heyvl_types.specs.PlainActs.{procedures_of};
 ghost use Rattle.heyvl_types.specs.Rules.{MeetsAllRules};
 ghost use Rattle.std.specs.Prelude.{IfOk, List, OnOk, length, true, ◌++◌, ◌<◌, ◌≡◌};
 ghost use Rattle.verify_core.specs.Answered.{AreAnswers, IsAnswer, IsClosed, IsVerdict};
-ghost use Rattle.verify_core.specs.Decided.{DecidedGoal, all_proved, decided_at, listed};
+ghost use Rattle.verify_core.specs.Decided.{DecidedGoal, all_proved, listed};
+ghost use Rattle.verify_core.specs.Numbered.{row_at};
 ghost use Rattle.verify_core.specs.internal.Marks.{AreMarks};
 ghost use Rattle.verify_core.specs.internal.Outcomes.{AreOutcomes, IsOutcome, outcome, told_by, told_of};
 ghost use Rattle.verify_core.specs.internal.Verdicts.{all_told_by, verdict_for};
@@ -53,7 +54,7 @@ fn answer_of(
     requires there { p < length typed.now.procs.items }
     requires rules { MeetsAllRules typed.now }
     requires marked { length marks.now ≡ length typed.now.procs.items }
-    ensures answer { (table ranks : List (List DecidedGoal)) → IsOutcome (procedure_at (procedures_of typed.now) p) (decided_at table p) (decided_at ranks p) found → AreMarks (procedures_of typed.now) table marks.now → IfOk result (λ a. IsAnswer (procedures_of typed.now) table ranks p a) }
+    ensures answer { (table ranks : List (List DecidedGoal)) → IsOutcome (procedure_at (procedures_of typed.now) p) (row_at table p) (row_at ranks p) found → AreMarks (procedures_of typed.now) table marks.now → IfOk result (λ a. IsAnswer (procedures_of typed.now) table ranks p a) }
     ensures made { OnOk result (made.new.items ≡ made.old.items ++ told_of found) }
 {
     let name = typed.procs[p as usize].name.copy(alloc)?;
@@ -80,7 +81,7 @@ fn verdict_of(
     requires there { p < length typed.now.procs.items }
     requires rules { MeetsAllRules typed.now }
     requires marked { length marks.now ≡ length typed.now.procs.items }
-    ensures verdict { (table : List (List DecidedGoal)) → found ≡ outcome (decided_at table p) → AreMarks (procedures_of typed.now) table marks.now → IfOk result (λ v. IsVerdict (procedures_of typed.now) table p v) }
+    ensures verdict { (table : List (List DecidedGoal)) → found ≡ outcome (row_at table p) → AreMarks (procedures_of typed.now) table marks.now → IfOk result (λ v. IsVerdict (procedures_of typed.now) table p v) }
     ensures made { OnOk result (made.new.items ≡ made.old.items ++ listed (told_by found)) }
 {
     match found {
@@ -108,7 +109,7 @@ fn proved_verdict(
     requires there { p < length typed.now.procs.items }
     requires rules { MeetsAllRules typed.now }
     requires marked { length marks.now ≡ length typed.now.procs.items }
-    ensures { (table : List (List DecidedGoal)) → all_proved (decided_at table p) ≡ true → AreMarks (procedures_of typed.now) table marks.now → IfOk result (λ v. IsVerdict (procedures_of typed.now) table p v) }
+    ensures { (table : List (List DecidedGoal)) → all_proved (row_at table p) ≡ true → AreMarks (procedures_of typed.now) table marks.now → IfOk result (λ v. IsVerdict (procedures_of typed.now) table p v) }
 {
     match not_program(typed, p) {
         Some(why) => Ok(verdict_for(why)),

@@ -1,6 +1,5 @@
 -- What certificates answer of each procedure by itself: tools of the check's proof, which no public clause cites.
-use Rattle.std.specs.Prelude.{◌≡◌, ◌<◌, ◌≤◌, ℕ, Bool, true, false, not, List, [], ◌∷◌, Option, Some, None, get_or, length, map, slice_index_or}
-use Prim.Native.Nat.{suc}
+use Rattle.std.specs.Prelude.{◌≡◌, ◌<◌, ◌≤◌, ℕ, Bool, true, false, not, List, Option, Some, None, get_or, length, map, slice_index_or}
 use Rattle.cert_text.specs.Certificates.{precedes}
 use Rattle.cert_text.specs.declared.goal_names.GoalName.{GoalName}
 use Rattle.farkas_check.specs.Trees.{Tree}
@@ -19,6 +18,7 @@ use Rattle.verdict_report.specs.declared.answers.NamedGoal.{NamedGoal}
 use Rattle.verdict_report.specs.declared.answers.Verdict.{Verdict}
 use Rattle.verdict_report.specs.declared.answers.Verdict.TheVariants as verdict
 use Rattle.verify_core.specs.Checked.{AreChecked, Certifies, CheckedGoal, IsMissOf, IsRefusedAt, first_miss}
+use Rattle.verify_core.specs.Numbered.{AllNumbered}
 use Rattle.verify_core.specs.internal.OwnRankings.{AreOwnRankings}
 
 abbrev pub name_of : GoalCert → GoalName
@@ -60,10 +60,7 @@ pub record IsOwn (ps : List TypedProcedure) (certs : List GoalCert) (p : ℕ) (p
 
 -- One verdict for each procedure, from the number p on, by its own goals and its kind.
 abbrev pub AreOwn : List TypedProcedure → List GoalCert → ℕ → List TypedProcedure → List Verdict → Type 0
-AreOwn ps certs p [] [] = Unit {0}
-AreOwn ps certs p [] (v ∷ vs) = ⊥
-AreOwn ps certs p (q ∷ qs) [] = ⊥
-AreOwn ps certs p (q ∷ qs) (v ∷ vs) = IsOwn ps certs p q v × AreOwn ps certs (suc p) qs vs
+AreOwn ps certs p qs vs = AllNumbered (IsOwn ps certs) p qs vs
 
 -- Its goals are accepted, and it is a program.
 abbrev pub is_verified : Verdict → Bool
@@ -114,7 +111,4 @@ pub record IsMarkedAnswer (ps : List TypedProcedure) (certs : List GoalCert) (ma
 
 -- One answer for each verdict, from the number p on.
 abbrev pub AreMarkedAnswers : List TypedProcedure → List GoalCert → List Bool → ℕ → List Verdict → List Answer → Type 0
-AreMarkedAnswers ps certs marks p [] [] = Unit {0}
-AreMarkedAnswers ps certs marks p [] (a ∷ rest) = ⊥
-AreMarkedAnswers ps certs marks p (v ∷ vs) [] = ⊥
-AreMarkedAnswers ps certs marks p (v ∷ vs) (a ∷ rest) = IsMarkedAnswer ps certs marks p v a × AreMarkedAnswers ps certs marks (suc p) vs rest
+AreMarkedAnswers ps certs marks p vs answers = AllNumbered (IsMarkedAnswer ps certs marks) p vs answers

@@ -1,5 +1,6 @@
 -- What certificates answer of the rankings of a procedure: tools of the check's proof, which no public clause cites.
-use Rattle.std.specs.Prelude.{◌≡◌, ℕ, List, [], ◌∷◌, Option}
+use Rattle.std.specs.List.{AllZip}
+use Rattle.std.specs.Prelude.{◌≡◌, ℕ, List, Option}
 use Rattle.cert_text.specs.Certificates.{loop_of}
 use Rattle.farkas_check.specs.declared.trees.GoalCert.{GoalCert}
 use Rattle.heyvl_types.specs.Acts.{TypedProcedure, procedure_at}
@@ -19,10 +20,7 @@ pub record IsLoopAnswer (certs : List GoalCert) (g : NamedGoal) (l : LoopAnswer)
 
 -- One answer for each goal.
 abbrev pub AreLoopAnswers : List GoalCert → List NamedGoal → List LoopAnswer → Type 0
-AreLoopAnswers certs [] [] = Unit {0}
-AreLoopAnswers certs [] (l ∷ ls) = ⊥
-AreLoopAnswers certs (g ∷ gs) [] = ⊥
-AreLoopAnswers certs (g ∷ gs) (l ∷ ls) = IsLoopAnswer certs g l × AreLoopAnswers certs gs ls
+AreLoopAnswers certs gs ls = AllZip (IsLoopAnswer certs) gs ls
 
 -- The answers on the rankings of the procedure with the number p, each by what certificates say of its own goal.
 pub record AreOwnRankings (ps : List TypedProcedure) (certs : List GoalCert) (p : ℕ) (loops : List LoopAnswer) : Type 0 where

@@ -2,8 +2,9 @@ use Rattle.std.proofs.Common.{◌≡◌, ◌<◌, ◌++◌, ◌∷◌, [], arith
 use Rattle.std.proofs.lemmas.List.{length-map, length-take-le}
 use Rattle.heyvl_types.specs.Acts.{procedure_at}
 use Rattle.heyvl_types.specs.PlainActs.{procedure_of, procedures_of}
-use Rattle.verify_core.specs.internal.Checking.{AreOwn}
-use Rattle.verify_core.proofs.CheckedGoals.{own_more, take_procedures}
+use Rattle.verify_core.specs.internal.Checking.{AreOwn, IsOwn}
+use Rattle.verify_core.proofs.CheckedGoals.{take_procedures}
+use Rattle.verify_core.proofs.SideBySide.{numbered_more}
 use Rattle.verify_core.proofs.checking.own_verdicts.Goals as goal
 
 pub loop-p-preserved : goal.loop-p-preserved
@@ -17,4 +18,4 @@ loop-p-preserved c =
     let len = c.len-p-end.ensures in
     let below : p < length ps = omega (arith, sizes, long, test, len) in
     let seen : length (take p ps) ≡ p = length-take-le p ps (omega (arith, below)) in
-    subst (λ l. AreOwn ps certs 0 l c.push.new.self.items) (sym (take_procedures ps p below)) (subst (λ l. AreOwn ps certs 0 (take p ps ++ procedure_at ps p ∷ []) l) (sym c.in_ok-push.ensures.items) (own_more ps certs 0 (take p ps) c.loop-p.own.items p (procedure_at ps p) c.in_ok-own_verdict.field-0 c.loop-p.invariant (omega (arith, seen)) c.in_ok-own_verdict.ensures))
+    subst (λ l. AreOwn ps certs 0 l c.push.new.self.items) (sym (take_procedures ps p below)) (subst (λ l. AreOwn ps certs 0 (take p ps ++ procedure_at ps p ∷ []) l) (sym c.in_ok-push.ensures.items) (numbered_more (IsOwn ps certs) 0 (take p ps) c.loop-p.own.items p (procedure_at ps p) c.in_ok-own_verdict.field-0 c.loop-p.invariant (omega (arith, seen)) c.in_ok-own_verdict.ensures))

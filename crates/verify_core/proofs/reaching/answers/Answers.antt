@@ -2,7 +2,7 @@ use Rattle.std.proofs.Common.{◌++◌, ◌∷◌, [], arith, subst, sym}
 use Rattle.std.proofs.lemmas.List.{length_push}
 use Rattle.heyvl_types.specs.PlainActs.{procedures_of}
 use Rattle.verify_core.specs.internal.Checking.{AreMarkedAnswers, IsMarkedAnswer}
-use Rattle.verify_core.proofs.ReachedVerdicts.{answers_more}
+use Rattle.verify_core.proofs.SideBySide.{numbered_more}
 use Rattle.verify_core.proofs.reaching.answers.Goals as goal
 
 pub loop-verdict-preserved : goal.loop-verdict-preserved
@@ -15,5 +15,5 @@ loop-verdict-preserved c =
     let one : IsMarkedAnswer ps certs marks c.loop-verdict.p c.in-Some.verdict c.in_ok-answer.field-0 = subst (λ m. IsMarkedAnswer ps certs m c.loop-verdict.p c.in-Some.verdict c.in_ok-answer.field-0) c.deref-in-loop-verdict.ensures.value c.in_ok-answer.ensures in
     record {
       counted = omega (arith, pushed, counted);
-      so_far = subst (λ l. AreMarkedAnswers ps certs marks 0 (c.loop-verdict.yielded ++ c.in-Some.verdict ∷ []) l) (sym c.in_ok-push.ensures.items) (answers_more ps certs marks 0 c.loop-verdict.yielded c.loop-verdict.answers.items c.loop-verdict.p c.in-Some.verdict c.in_ok-answer.field-0 c.loop-verdict.invariant.so_far (omega (arith, counted)) one);
+      so_far = subst (λ l. AreMarkedAnswers ps certs marks 0 (c.loop-verdict.yielded ++ c.in-Some.verdict ∷ []) l) (sym c.in_ok-push.ensures.items) (numbered_more (IsMarkedAnswer ps certs marks) 0 c.loop-verdict.yielded c.loop-verdict.answers.items c.loop-verdict.p c.in-Some.verdict c.in_ok-answer.field-0 c.loop-verdict.invariant.so_far (omega (arith, counted)) one);
     }

@@ -1,0 +1,33 @@
+-- The fresh variables of an encoding in the main goals that are made. This project's own.
+use Rattle.std.specs.Prelude.{◌≡◌, ◌<◌, ◌+◌, ℕ, false, List, length}
+use Rattle.heylo_formula.specs.PlainTrees.{form_of}
+use Rattle.heylo_formula.specs.Variables.{occurs}
+use Rattle.heylo_formula.specs.declared.goals.GoalId.TheVariants.{Main}
+use Rattle.heylo_formula.specs.declared.goals.Made.{Made}
+use Rattle.heylo_formula.specs.declared.goals.Made.TheVariants as made
+use Rattle.heyvl_types.specs.Acts.{TypedProcedure, acts_in, procedure_at, variables}
+use Rattle.heyvl_types.specs.Rules.{Each, MeetsRules}
+use Rattle.loop_encodings.specs.Fresh.{fresh}
+use Rattle.loop_encodings.specs.FreshLaws.{IsFreshNumber}
+use Rattle.verdict_report.specs.declared.answers.NamedGoal.{NamedGoal}
+use Rattle.verify_core.specs.Questions.{IsGoalOf}
+
+-- The goal has so many own variables, where one is made.
+abbrev pub OwnsSoMany : ℕ → Made → Type 0
+OwnsSoMany n (made.Goal g) = g.own ≡ n
+OwnsSoMany n made.Depth = Unit {0}
+OwnsSoMany n made.Nodes = Unit {0}
+
+-- The number occurs in neither form of the goal, where one is made.
+abbrev pub Lacks : ℕ → Made → Type 0
+Lacks x (made.Goal g) = (occurs x (form_of g.stated) ≡ false) × (occurs x (form_of g.found) ≡ false)
+Lacks x made.Depth = Unit {0}
+Lacks x made.Nodes = Unit {0}
+
+-- The own variables of a main goal are the procedure's and the fresh ones of its encoding.
+abbrev pub MadeGoalsCountFreshVariables : Type 0
+MadeGoalsCountFreshVariables = (ps : List TypedProcedure) (p : ℕ) (g : NamedGoal) → IsGoalOf ps p Main g → OwnsSoMany (length (variables (procedure_at ps p)) + length (fresh ps (acts_in (procedure_at ps p).body))) g.made
+
+-- In a file that meets the rules, the fresh variables of a procedure's encoding occur in neither form of its main goal.
+abbrev pub MadeGoalsLackFreshVariables : Type 0
+MadeGoalsLackFreshVariables = (ps : List TypedProcedure) (p : ℕ) (g : NamedGoal) (x : ℕ) → Each (MeetsRules ps) ps → p < length ps → IsGoalOf ps p Main g → IsFreshNumber ps (procedure_at ps p) x → Lacks x g.made
