@@ -10,7 +10,8 @@ use Rattle.std.proofs.lemmas.List.{append_assoc}
 use Rattle.std.specs.Cmp.Lexicographic.{same_text}
 use Rattle.std.specs.List.{list_all}
 use Rattle.std.specs.Str.{bytes_eq}
-use Rattle.heyvl_tool.specs.CommandLine.{IsFound, IsMet, check_names, command, file_names, run_names, tool}
+use Rattle.heyvl_tool.specs.CommandLine.{check_names, command, file_names, run_names, tool}
+use Rattle.heyvl_tool.specs.internal.Met.{IsFound, IsMet}
 use Rattle.heyvl_tool.specs.Words.{AskFor, arguments_of, command_of, is_argument, words_of}
 use Rattle.heyvl_tool.specs.declared.requests.Settings.TheVariants.{Certify, Check, Print, Run, Verify}
 use Rattle.heyvl_tool.specs.declared.requests.Settings.{Settings}

@@ -5,7 +5,7 @@ use Rattle.heyvl_syntax.specs.SourceFaults.{IsSource}
 use Rattle.heyvl_tool.proofs.Reporting.{few_typed}
 use Rattle.heyvl_tool.specs.FileLaws.{FilesHaveFewActs, FilesHaveNamedBinders, FilesHaveSmallForms, FilesStandWithin}
 use Rattle.heyvl_tool.specs.Calls.{file_limit}
-use Rattle.heyvl_tool.specs.TypedFiles.{IsReady}
+use Rattle.heyvl_tool.specs.internal.TypedFiles.{IsReady}
 use Rattle.heyvl_types.specs.Acts.{TypedProcedure}
 use Rattle.heyvl_types.specs.ResolvedLaws.{IsAnswer, ResolvedTreesMeetRules}
 use Rattle.heyvl_types.specs.ResolvedSizes.{FormsWithin}

@@ -119,3 +119,46 @@ read_few known n s (line ∷ more) u h e = pick (allowed known s (said line)) re
 -- A script says at most 10,000 steps.
 pub script_few : (known : Known) (bytes : List ℕ) (s : Script) → read_script known bytes ≡ says s → HasFewSteps s
 script_few known bytes s e = read_few known 1 blank (script_lines bytes) s tt e
+
+-- ---- A script says how many steps
+
+abbrev pub SaysSteps : Script → Type 0
+SaysSteps s = (n : ℕ) × (s.steps ≡ Some n)
+
+still_says : (s : Script) (line : Line) → SaysSteps s → SaysSteps (with_line s line)
+still_says s (Line.steps n) h = (n, refl)
+still_says s (Line.set name value) h = h
+still_says s (Line.decide d) h = h
+
+allowed_says : (known : Known) (s : Script) (o : Option Line) (t : Script) → SaysSteps s → allowed known s o ≡ Some t → SaysSteps t
+allowed_says known s None t h e = cc
+allowed_says known s (Some line) t h e = pick (may_follow known s line) e
+  where
+    pick : (b : Bool) → cond b (Some (with_line s line)) None ≡ Some t → SaysSteps t
+    pick true k = let same : with_line s line ≡ t = cc in subst SaysSteps same (still_says s line h)
+    pick false k = cc
+
+rest_says : (known : Known) (n : ℕ) (s : Script) (lines : List (List ℕ)) (u : Script) → SaysSteps s → read_lines known n s lines ≡ says u → SaysSteps u
+rest_says known n s [] u h e = let same : s ≡ u = cc in subst SaysSteps same h
+rest_says known n s (line ∷ more) u h e = pick (allowed known s (said line)) (λ t k g. rest_says known (n + 1) t more u (allowed_says known s (said line) t h k) g) refl e
+  where
+    pick : (o : Option Script) → ((t : Script) → allowed known s (said line) ≡ Some t → read_lines known (n + 1) t more ≡ says u → SaysSteps u) → allowed known s (said line) ≡ o → read_on n o (λ t. read_lines known (n + 1) t more) ≡ says u → SaysSteps u
+    pick (Some t) rest k g = rest t k g
+    pick None rest k g = cc
+
+-- The first line says it.
+first_says : (known : Known) (o : Option Line) (more : List (List ℕ)) (u : Script) → read_on 1 (allowed known blank o) (λ t. read_lines known (1 + 1) t more) ≡ says u → SaysSteps u
+first_says known None more u e = cc
+first_says known (Some (Line.steps n)) more u e = rest_says known 2 (with_line blank (Line.steps n)) more u (n, refl) e
+first_says known (Some (Line.set name value)) more u e = cc
+first_says known (Some (Line.decide d)) more u e = cc
+
+lines_say : (known : Known) (lines : List (List ℕ)) (u : Script) → 0 < length lines → read_lines known 1 blank lines ≡ says u → SaysSteps u
+lines_say known [] u some e = absurd (omega (arith, some))
+lines_say known (line ∷ more) u some e = first_says known (said line) more u e
+
+-- A script that keeps the rules says how many steps.
+pub script_says_steps : (known : Known) (bytes : List ℕ) (s : Script) → read_script known bytes ≡ says s → SaysSteps s
+script_says_steps known bytes s e =
+    let some = length-slice_split (λ b. b == 10) (without_last_feed bytes) in
+    lines_say known (script_lines bytes) s (omega (arith, some)) e

@@ -45,13 +45,13 @@ over_b name pre output post statement end =
     }
     ∷ []
 
-abbrev havocking : List ℕ
+abbrev pub havocking : List ℕ
 havocking = codes "coproc h() -> (b: Bool) pre 1 post [b] { havoc b }"
 
-abbrev h : List Procedure
+abbrev pub h : List Procedure
 h = over_b (codes "h") (whole 1 28) 15 35 (Statement.havoc false (b ∷ []) (at 41 48)) 50
 
-h_is_on_the_wrong_side : first_fault h ≡ Some (17, at 41 48)
+pub h_is_on_the_wrong_side : first_fault h ≡ Some (17, at 41 48)
 unfolding literal_value ratio gcd gcd_steps
 h_is_on_the_wrong_side = refl
 

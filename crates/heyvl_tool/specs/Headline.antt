@@ -1,14 +1,26 @@
--- What a user may rely on where a report says `verified`, `ranked` or `not verified`.
-use Rattle.std.specs.Prelude.{◌≡◌, ℕ, List, None}
+-- What a user may rely on where a report says `verified`, `ranked` or `not verified`, and where a run tells numbers.
+use Rattle.std.specs.Prelude.{◌≡◌, ℕ, List, None, Some}
 use Rattle.heyvl_syntax.specs.Procedures.{Procedure}
 use Rattle.heyvl_syntax.specs.SourceFaults.{IsSource}
 use Rattle.heyvl_tool.specs.Calls.{AreRead, Call}
-use Rattle.heyvl_tool.specs.Messages.{Reply}
-use Rattle.heyvl_tool.specs.Replies.{IsDelivered, IsReplyTo, Writing}
+use Rattle.heyvl_tool.specs.Messages.{Reply, message}
+use Rattle.heyvl_tool.specs.Replies.{IsDelivered, IsReplyTo, IsWritten, Writing}
+use Rattle.heyvl_tool.specs.RunStarts.{procedure_named, start_state}
+use Rattle.heyvl_tool.specs.RunTexts.{sums_text}
+use Rattle.heyvl_tool.specs.Scripts.Reading.{says}
+use Rattle.heyvl_tool.specs.Scripts.{Script, known_of, read_script}
 use Rattle.heyvl_tool.specs.Words.{file_of, second_of}
+use Rattle.heyvl_tool.specs.declared.outcomes.Fault.TheVariants.{Nothing}
 use Rattle.heyvl_tool.specs.declared.outcomes.Outcome.{Outcome}
 use Rattle.heyvl_tool.specs.declared.requests.Settings.{Settings}
+use Rattle.heyvl_types.specs.Acts.{TypedProcedure, procedure_at}
 use Rattle.heyvl_types.specs.Files.{first_fault, resolved}
+use Rattle.run_machine.specs.ConfigConditions.{ReachesPrograms}
+use Rattle.run_machine.specs.Configurations.{Config, Outcomes, begin}
+use Rattle.run_machine.specs.Runs.{runs}
+use Rattle.run_unroller.specs.ScriptTrees.{scripted}
+use Rattle.run_unroller.specs.Totals.{Totals}
+use Rattle.run_unroller.specs.UnrollLaws.{AreSums}
 use Rattle.verify_core.specs.Headline.{IsHeadline}
 
 -- The outcome of a command is what is said of the bytes that were read of its file, and of its second text, which are those that the
@@ -29,3 +41,37 @@ pub record IsVerifiedFrom (settings : Settings) (made : Call) (done : Writing) (
   pub spelled : IsSource bytes file
   pub faultless : first_fault file ≡ None
   pub headline : IsHeadline (resolved file) outcome.answers.items
+
+-- ---- Runs
+
+-- What a procedure begins with by a script: its body, in the state that the script sets.
+abbrev pub start_by : List TypedProcedure → ℕ → Script → Config
+start_by ps p s = begin ps p (start_state (procedure_at ps p) s.settings)
+
+-- Its runs of at most n steps, each with its probability, under the scheduler that decides by the script.
+abbrev pub scripted_runs : List TypedProcedure → ℕ → Script → ℕ → Outcomes
+scripted_runs ps p s n = runs ps n (start_by ps p s) (scripted ps s.decisions n 0 (start_by ps p s))
+
+-- Numbers were written, whole and nothing else, and they are sums over runs. The bytes that were read, of the file and of the
+-- script, are those that the source holds where it tells them. They spell a file without a fault, in which a procedure has the name
+-- that was asked for, and it and all that it reaches are programs; and a script that keeps the rules, which says a number of steps. Over
+-- the runs of the procedure of at most so many steps, from the state that the script sets and under its scheduler, weighted exactly,
+-- the numbers are the post of the runs that have ended, the reward of all runs, the weight of those that have not ended, and the turns
+-- of each loop.
+pub record IsSummedFrom (name procedure script : List ℕ) (made : Call) (done : Writing) (outcome : Outcome) : Type 0 where
+  pub bytes : List ℕ
+  pub text : List ℕ
+  pub read : AreRead made.names name (Some script) bytes text made.before made.after
+  pub file : List Procedure
+  pub spelled : IsSource bytes file
+  pub faultless : first_fault file ≡ None
+  pub number : ℕ
+  pub named : procedure_named procedure (resolved file) ≡ Some number
+  pub programs : ReachesPrograms (resolved file) number
+  pub said : Script
+  pub keeps_rules : read_script (Some (known_of (procedure_at (resolved file) number))) text ≡ says said
+  pub steps : ℕ
+  pub says_steps : said.steps ≡ Some steps
+  pub numbers : Totals
+  pub sums : AreSums (procedure_at (resolved file) number) (scripted_runs (resolved file) number said steps) numbers
+  pub written : IsWritten (message Nothing (sums_text numbers)) done outcome

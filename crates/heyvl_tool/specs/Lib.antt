@@ -4,7 +4,6 @@ pub mod CommandLine
 pub mod FaultTexts
 pub mod FaultLaws
 pub mod FileLaws
-pub mod TypedFiles
 pub mod Statuses
 pub mod Messages
 pub mod Calls
@@ -15,9 +14,9 @@ pub mod StartLaws
 pub mod Responses
 pub mod ScriptLines
 pub mod Scripts
-pub mod ScriptNames
 pub mod RunTexts
 pub mod RunStarts
 pub mod RunReplies
 pub mod Headline
 pub mod Completeness
+pub mod internal

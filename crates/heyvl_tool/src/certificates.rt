@@ -4,7 +4,7 @@ ghost use Rattle.cert_text.specs.Certificates.{IsGrowingAfter, certificates_of};
 ghost use Rattle.cert_text.specs.Texts.{Spells};
 ghost use Rattle.heyvl_tool.specs.CertificateReplies.{IsCertification, IsCheckReply, IsCheckReport, certificate_fault};
 ghost use Rattle.heyvl_tool.specs.Responses.{reply_of};
-ghost use Rattle.heyvl_tool.specs.TypedFiles.{IsReady};
+ghost use Rattle.heyvl_tool.specs.internal.TypedFiles.{IsReady};
 ghost use Rattle.heyvl_types.specs.PlainActs.{procedures_of};
 ghost use Rattle.heyvl_types.specs.ResolvedSizes.{FormsWithin};
 ghost use Rattle.heyvl_types.specs.Rules.{Each, MeetsAllRules};

@@ -4,7 +4,8 @@ ghost use Rattle.clap.specs.Words.{app_of, first_of, found_of, rule_of, rows_of,
 ghost use Rattle.clap.specs.declared.builder.command.Command.TheViews.{out-Command};
 ghost use Rattle.std.specs.List.{list_all};
 ghost use Rattle.std.specs.Prelude.{IfErr, IfOk, List, MatchResult, Some, false, map, string_bytes, true, ◌≡◌, ℕ};
-ghost use Rattle.heyvl_tool.specs.CommandLine.{IsFound, IsMemory, IsMet, argument, command, tool};
+ghost use Rattle.heyvl_tool.specs.CommandLine.{argument, command, tool};
+ghost use Rattle.heyvl_tool.specs.internal.Met.{IsFound, IsMemory, IsMet};
 ghost use Rattle.heyvl_tool.specs.Words.{AskFor, IsSettingsStop, is_argument};
 ghost use Rattle.heyvl_tool.specs.declared.requests.Settings.{Settings};
 

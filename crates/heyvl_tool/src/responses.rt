@@ -7,7 +7,7 @@ ghost use Rattle.heyvl_tool.specs.FaultLaws.{tells_static};
 ghost use Rattle.heyvl_tool.specs.Messages.{message, source_fault};
 ghost use Rattle.heyvl_tool.specs.Replies.{IsReplyTo, IsReport, IsSourceReply, Says, printed};
 ghost use Rattle.heyvl_tool.specs.Responses.{reply_of, text_bytes};
-ghost use Rattle.heyvl_tool.specs.TypedFiles.{IsReady};
+ghost use Rattle.heyvl_tool.specs.internal.TypedFiles.{IsReady};
 ghost use Rattle.heyvl_types.specs.PlainActs.{procedures_of};
 ghost use Rattle.std.specs.Prelude.{IfOk, length, true, ◌<◌, ◌^◌, ◌≡◌, ◌≤◌};
 

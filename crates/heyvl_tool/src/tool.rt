@@ -1,7 +1,7 @@
 //! The top call.
 
 ghost use Rattle.heyvl_tool.specs.Calls.{IsReadReply, IsStarted, Moment, call, file_limit, moment, names_of};
-ghost use Rattle.heyvl_tool.specs.Headline.{IsVerifiedFrom};
+ghost use Rattle.heyvl_tool.specs.Headline.{IsSummedFrom, IsVerifiedFrom};
 ghost use Rattle.heyvl_tool.specs.Replies.{HasCause, IsAnswered, IsDelivered, IsOutOfMemory, IsRestReply, status_of, writing};
 ghost use Rattle.heyvl_tool.specs.Responses.{reply_of};
 ghost use Rattle.heyvl_tool.specs.SourceUses.{IsReadInTurn, IsUntouched};
@@ -13,6 +13,7 @@ use crate::responses::refusal;
 use crate::statuses::answers_status;
 use crate::{Fault, Outcome, Response, Settings, SettingsStop, respond, settings};
 use heyvl_io::{ReadStop, Sink, Source, read_all, write_all};
+use run_unroller::unrolled_sums_are_meant;
 use std::alloc::{AllocError, Global};
 use verdict_report::Answer;
 
@@ -44,6 +45,15 @@ pub fn run_tool<F: Source, K: Sink>(
         (moment (F.order source.new) (F.taken source.new) (F.faults source.new)))
         (writing (K.written sink.old) (K.written sink.new) (K.faults sink.old) (K.faults sink.new)) result }
 
+    // What the numbers of a run mean, for the same bytes: where `run` comes to an end without a fault, it wrote the sums of the definition
+    // of runs, and nothing else.
+    ensures summed { (file procedure script : List ℕ) → AskFor (map string_bytes words.now.items) (Settings.Run file procedure script)
+        → result.fault ≡ Fault.Nothing
+        → IsSummedFrom file procedure script (call (map string_bytes words.now.items) (names_of (F.names source.old) (F.holds source.old))
+        (moment (F.order source.old) (F.taken source.old) (F.faults source.old))
+        (moment (F.order source.new) (F.taken source.new) (F.faults source.new)))
+        (writing (K.written sink.old) (K.written sink.new) (K.faults sink.old) (K.faults sink.new)) result }
+
     // For words that are no command nothing is started. Else the names of the words are started in their order, and nothing else, but
     // where there was no memory for the words.
     ensures no_start { IsUsage (map string_bytes words.now.items)
@@ -58,6 +68,7 @@ pub fn run_tool<F: Source, K: Sink>(
     ensures source_count { F.faults source.old ≤ F.faults source.new }
     ensures sink_count { K.faults sink.old ≤ K.faults sink.new }
 {
+    unrolled_sums_are_meant();
     match response_to(alloc, words, source) {
         Ok(response) => deliver(response, sink),
         Err(_) => Outcome {

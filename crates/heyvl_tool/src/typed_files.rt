@@ -3,7 +3,7 @@
 ghost use Rattle.heyvl_syntax.specs.Procedures.{procedures};
 ghost use Rattle.heyvl_syntax.specs.SourceFaults.{IsSource};
 ghost use Rattle.heyvl_tool.specs.Calls.{file_limit};
-ghost use Rattle.heyvl_tool.specs.TypedFiles.{IsReady};
+ghost use Rattle.heyvl_tool.specs.internal.TypedFiles.{IsReady};
 ghost use Rattle.heyvl_types.specs.Answers.{Gives};
 ghost use Rattle.heyvl_types.specs.Files.{file_findings, resolved};
 ghost use Rattle.heyvl_types.specs.PlainActs.{procedures_of};

@@ -11,7 +11,8 @@ use Rattle.quant_algebra.specs.ExactOperators.{and_then}
 use Rattle.run_machine.specs.declared.configurations.Config as C
 use Rattle.run_machine.specs.Configurations.{Item}
 use Rattle.run_machine.specs.Names.{items_of}
-use Rattle.run_unroller.specs.RunLists.{Run, RunList, run_of, runs_of}
+use Rattle.run_unroller.specs.RunLists.{Run, RunList}
+use Rattle.run_unroller.specs.internal.RunViews.{run_of, runs_of}
 use Rattle.run_unroller.specs.Totals.{added, all_turns, turns_total, added_fractions, added_weights, and_one, and_one_fraction, ended, if_ended, if_running, running}
 
 -- Where there is no sum so far, there is none.

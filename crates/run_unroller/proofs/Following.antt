@@ -15,7 +15,8 @@ use Rattle.run_machine.specs.Step.{Decision, step}
 use Rattle.run_machine.specs.StepAnswers.{asked_by}
 use Rattle.run_unroller.specs.declared.causes.Cause.{Cause}
 use Rattle.run_unroller.specs.Causes.{joins, brought, brought_by, all_brought}
-use Rattle.run_unroller.specs.RunLists.{Run, came, follow, followed, after_step, run_of, runs_of}
+use Rattle.run_unroller.specs.RunLists.{Run, came, follow, followed, after_step}
+use Rattle.run_unroller.specs.internal.RunViews.{run_of, runs_of}
 use Rattle.run_unroller.specs.Scripts.{entry}
 use Rattle.run_unroller.specs.internal.Extensions.{Extends}
 

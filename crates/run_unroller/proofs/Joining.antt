@@ -10,7 +10,8 @@ use Rattle.run_machine.specs.declared.configurations.Config as C
 use Rattle.run_unroller.specs.declared.causes.Cause.{Cause}
 use Rattle.run_unroller.specs.declared.causes.Cause.TheVariants.{Bits}
 use Rattle.run_unroller.specs.Causes.{joins}
-use Rattle.run_unroller.specs.RunLists.{Run, run_of, runs_of}
+use Rattle.run_unroller.specs.RunLists.{Run}
+use Rattle.run_unroller.specs.internal.RunViews.{run_of, runs_of}
 
 -- A list of length 0 is empty.
 pub nothing_left : {A : Type 0} (n : ℕ) (xs : List A) → n ≡ length xs → n ≡ 0 → xs ≡ []

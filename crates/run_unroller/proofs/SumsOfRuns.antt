@@ -9,7 +9,7 @@ use Rattle.heyvl_num.specs.Exact.{exact_sum, exact_product}
 use Rattle.heyvl_num.specs.ExactValues.{exact_sumᵛ, exact_productᵛ}
 use Rattle.heyvl_num.specs.WeightedSums.{weighted_sum}
 use Rattle.heyvl_num.proofs.exported.Exactness.{exact_sum_some, exact_product_some, exact_sumᵛ_some, exact_productᵛ_some}
-use Rattle.heyvl_num.proofs.exported.Values.{+ᵛ-zero, zero-+ᵛ, +ᵛ_assoc, +ᵛ_left_comm, scale-+ᵛ, finite-*, finite_sum, *ᵛ-one}
+use Rattle.heyvl_num.proofs.exported.Values.{+ᵛ-zero, zero-+ᵛ, +ᵛ_assoc, +ᵛ_left_comm, scale-+ᵛ, finite-*, finite_sum, *ᵛ-one, *ᵛ-zero}
 use Rattle.heylo_formula.specs.Choices.{Choices}
 use Rattle.heylo_formula.specs.Formula.{Form}
 use Rattle.heylo_formula.specs.Meaning.{value}
@@ -27,7 +27,7 @@ use Rattle.run_unroller.specs.declared.causes.Cause.{Cause}
 use Rattle.run_unroller.specs.Causes.{first_stop}
 use Rattle.run_unroller.specs.ScriptTrees.{scripted}
 use Rattle.run_unroller.specs.Unrolling.{Unrolling, stop_or, sums_or, unrolled}
-use Rattle.run_unroller.specs.UnrollLaws.{AreSums, AreTurns, TotalsAreSums, outcome, outcomes}
+use Rattle.run_unroller.specs.UnrollLaws.{AreSums, AreTurns, TotalsAreSums, outcome, outcomes, unfinished}
 use Rattle.run_unroller.proofs.Trees.{lists_are_runs}
 use Rattle.run_unroller.proofs.Adding.{added-none, fractions-none, weights-none}
 
@@ -155,6 +155,30 @@ weak_sum : (post : Form) (xs : RunList) → sum_of false post (outcomes xs) ≡ 
 weak_sum post [] = sum-empty (worth false post) ∙ sym (ap₂ (λ a b. a +ᵛ b) (sum-empty (post_in post)) (sum-empty one) ∙ +ᵛ-zero zeroᵛ)
 weak_sum post (x ∷ xs) = sum-cons (worth false post) (outcome x) (outcomes xs) ∙ weak_one post x (ended xs) (running xs) x.1.0.items (sum_of false post (outcomes xs)) (weak_sum post xs)
 
+-- A run whose part is 0 adds nothing.
+nothing_added : (w : Rational) (v : Value) → (finite w *ᵛ zeroᵛ) +ᵛ v ≡ v
+nothing_added w v = ap (λ a. a +ᵛ v) (*ᵛ-zero (finite w)) ∙ zero-+ᵛ v
+
+post_of_one : (post : Form) (x : Rational × Run) (xs : RunList) (is : List Item) (rest : Value) → rest ≡ weighted_sum (post_in post) xs → (finite x.0 *ᵛ ended_value true post is x.1.0.state) +ᵛ rest ≡ weighted_sum (post_in post) (if_ended is x xs)
+post_of_one post x xs [] rest e = ap (λ a. (finite x.0 *ᵛ post_in post x.1) +ᵛ a) e ∙ sym (sum-cons (post_in post) x xs)
+post_of_one post x xs (i ∷ is) rest e = nothing_added x.0 rest ∙ e
+
+post_sum : (post : Form) (xs : RunList) → weighted_sum (λ (c : Config). ended_value true post c.items c.state) (outcomes xs) ≡ weighted_sum (post_in post) (ended xs)
+post_sum post [] = sum-empty (λ (c : Config). ended_value true post c.items c.state) ∙ sym (sum-empty (post_in post))
+post_sum post (x ∷ xs) = sum-cons (λ (c : Config). ended_value true post c.items c.state) (outcome x) (outcomes xs) ∙ post_of_one post x (ended xs) x.1.0.items (weighted_sum (λ (c : Config). ended_value true post c.items c.state) (outcomes xs)) (post_sum post xs)
+
+reward_sum : (xs : RunList) → weighted_sum (λ (c : Config). c.reward) (outcomes xs) ≡ weighted_sum reward_in xs
+reward_sum [] = sum-empty (λ (c : Config). c.reward) ∙ sym (sum-empty reward_in)
+reward_sum (x ∷ xs) = sum-cons (λ (c : Config). c.reward) (outcome x) (outcomes xs) ∙ ap (λ a. (finite x.0 *ᵛ x.1.0.reward) +ᵛ a) (reward_sum xs) ∙ sym (sum-cons reward_in x xs)
+
+weight_of_one : (x : Rational × Run) (xs : RunList) (is : List Item) (rest : Value) → rest ≡ weighted_sum one xs → (finite x.0 *ᵛ unfinished is) +ᵛ rest ≡ weighted_sum one (if_running is x xs)
+weight_of_one x xs [] rest e = nothing_added x.0 rest ∙ e
+weight_of_one x xs (i ∷ is) rest e = ap (λ a. (finite x.0 *ᵛ oneᵛ) +ᵛ a) e ∙ sym (sum-cons one x xs)
+
+running_sum : (xs : RunList) → weighted_sum (λ (c : Config). unfinished c.items) (outcomes xs) ≡ weighted_sum one (running xs)
+running_sum [] = sum-empty (λ (c : Config). unfinished c.items) ∙ sym (sum-empty one)
+running_sum (x ∷ xs) = sum-cons (λ (c : Config). unfinished c.items) (outcome x) (outcomes xs) ∙ weight_of_one x (running xs) x.1.0.items (weighted_sum (λ (c : Config). unfinished c.items) (outcomes xs)) (running_sum xs)
+
 same_turns : (number : ℕ) (xs : RunList) → turns_sum number (outcomes xs) ≡ weighted_sum (λ r. finite (turns_of number r)) xs
 same_turns number [] = sum-empty (turns_in number) ∙ sym (sum-empty (λ r. finite (turns_of number r)))
 same_turns number (x ∷ xs) = sum-cons (turns_in number) (outcome x) (outcomes xs) ∙ ap (λ a. (finite x.0 *ᵛ turns_in number x.1.0) +ᵛ a) (same_turns number xs) ∙ sym (sum-cons (λ r. finite (turns_of number r)) x xs)
@@ -228,7 +252,15 @@ totals_are m p rs t e =
     let reward : t.reward ≡ weighted_sum reward_in rs = total_is reward_of reward_in (λ r. refl) rs t.reward q.reward in
     let weight : finite t.running ≡ weighted_sum one (running rs) = weights_are zeroʳ (running rs) t.running q.running ∙ zero_first (weighted_sum one (running rs)) in
     let turns = counted p.loops rs t.turns q.turns in
-    record { upper = upper_sum p.post rs ∙ sym (ap₂ (λ a b. a +ᵛ b) reward post); weak = weak_sum p.post rs ∙ sym (ap₂ (λ a b. a +ᵛ b) post weight); turns = turns.turns; loops = turns.loops }
+    record {
+      post = post_sum p.post rs ∙ sym post;
+      reward = reward_sum rs ∙ sym reward;
+      running = running_sum rs ∙ sym weight;
+      upper = upper_sum p.post rs ∙ sym (ap₂ (λ a b. a +ᵛ b) reward post);
+      weak = weak_sum p.post rs ∙ sym (ap₂ (λ a b. a +ᵛ b) post weight);
+      turns = turns.turns;
+      loops = turns.loops;
+    }
 
 -- Sums that are given are the totals of the list after the steps.
 sums_given : (o : Option (Cause × ℕ)) (q : Option Totals) (n : ℕ) (t : Totals) → stop_or o (sums_or n q) ≡ Unrolling.sums t → q ≡ Some t

@@ -6,10 +6,8 @@ use Prim.Native.Nat.{zero, suc}
 use Rattle.heyvl_num.specs.Rational.{Rational, oneʳ}
 use Rattle.heyvl_num.specs.WeightedSums.{joined}
 use Rattle.heyvl_types.specs.Acts.{TypedProcedure}
-use Rattle.run_machine.specs.declared.configurations.Config as C
 use Rattle.run_machine.specs.declared.configurations.Decide.{Decide}
 use Rattle.run_machine.specs.Configurations.{Item, Config}
-use Rattle.run_machine.specs.Names.{config_of, stored}
 use Rattle.run_machine.specs.Step.{step}
 use Rattle.run_machine.specs.StepAnswers.{asked_by}
 use Rattle.run_unroller.specs.Scripts.{entry}
@@ -45,10 +43,3 @@ after ps script (suc n) rs = after_step ps script (after ps script n rs)
 -- The one run that has just begun.
 abbrev pub begun : Config → RunList
 begun c = (oneʳ, (c, 0)) ∷ []
-
--- The runs that the program holds.
-abbrev pub run_of : List TypedProcedure → Rational × C.Config → Rational × Run
-run_of ps x = (x.0, (config_of ps (stored x.1), x.1.made))
-
-abbrev pub runs_of : List TypedProcedure → List (Rational × C.Config) → RunList
-runs_of ps xs = map (run_of ps) xs

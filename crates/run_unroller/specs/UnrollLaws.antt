@@ -2,13 +2,14 @@
 use Rattle.std.specs.Prelude.{◌≡◌, ℕ, true, false, List, [], ◌∷◌, length, map, Some}
 use Prim.Native.Nat.{suc}
 use Rattle.heyvl_num.specs.Rational.{Rational}
-use Rattle.heyvl_num.specs.Value.{◌+ᵛ◌}
+use Rattle.heyvl_num.specs.Value.{Value, zeroᵛ, oneᵛ, ◌+ᵛ◌}
 use Rattle.heyvl_num.specs.Value.Value.{finite}
+use Rattle.heyvl_num.specs.WeightedSums.{weighted_sum}
 use Rattle.heyvl_types.specs.Acts.{TypedProcedure, procedure_at}
 use Rattle.run_machine.specs.declared.configurations.Decide.{Decide}
-use Rattle.run_machine.specs.Configurations.{Config, Outcomes}
+use Rattle.run_machine.specs.Configurations.{Config, Item, Outcomes}
 use Rattle.run_machine.specs.Runs.{runs}
-use Rattle.run_machine.specs.Sums.{sum_of, turns_sum}
+use Rattle.run_machine.specs.Sums.{ended, sum_of, turns_sum}
 use Rattle.run_unroller.specs.RunLists.{Run, RunList, after, begun}
 use Rattle.run_unroller.specs.ScriptTrees.{scripted}
 use Rattle.run_unroller.specs.Totals.{Totals, totals}
@@ -30,9 +31,18 @@ abbrev pub AreTurns : ℕ → List Rational → Outcomes → Type 0
 AreTurns number [] cs = Unit {0}
 AreTurns number (t ∷ ts) cs = (turns_sum number cs ≡ finite t) × AreTurns (suc number) ts cs
 
--- The totals are the sums of these runs of the procedure: the upper sum is the reward and the post, the weak sum the post and
--- what is running, and each loop of the procedure has its expected turns.
+-- 1 of a run that has something left to do, and 0 of one that has ended.
+abbrev pub unfinished : List Item → Value
+unfinished [] = zeroᵛ
+unfinished (i ∷ is) = oneᵛ
+
+-- The totals are the sums of these runs of the procedure, each by its weight: the post is that of the runs that have ended, the
+-- reward that of all runs, what is running the weight of those that have not ended, and each loop of the procedure has its expected
+-- turns. So the upper sum is the reward and the post, and the weak sum the post and what is running.
 pub record AreSums (p : TypedProcedure) (cs : Outcomes) (t : Totals) : Type 0 where
+  pub post : weighted_sum (λ (c : Config). ended true p.post c.items c.state) cs ≡ t.post
+  pub reward : weighted_sum (λ (c : Config). c.reward) cs ≡ t.reward
+  pub running : weighted_sum (λ (c : Config). unfinished c.items) cs ≡ finite t.running
   pub upper : sum_of true p.post cs ≡ t.reward +ᵛ t.post
   pub weak : sum_of false p.post cs ≡ t.post +ᵛ finite t.running
   pub turns : AreTurns 1 t.turns cs

@@ -1,2 +1,3 @@
 pub mod Extensions
 pub mod Growth
+pub mod RunViews

@@ -3,7 +3,7 @@
 ghost use Rattle.std.specs.Prelude.{◌≡◌, IfOk, option_map};
 ghost use Rattle.heyvl_types.specs.Acts.{procedure_at};
 ghost use Rattle.heyvl_types.specs.PlainActs.{procedures_of};
-ghost use Rattle.run_unroller.specs.RunLists.{runs_of};
+ghost use Rattle.run_unroller.specs.internal.RunViews.{runs_of};
 ghost use Rattle.run_unroller.specs.Totals.{totals};
 ghost use Rattle.run_unroller.specs.Unrolling.{totals_of};
 

@@ -5,7 +5,7 @@ ghost use Prim.Native.Nat.{suc};
 ghost use Rattle.heyvl_num.specs.Rational.{ratio};
 ghost use Rattle.heyvl_types.specs.Acts.{TypedProcedure};
 ghost use Rattle.run_machine.specs.Names.{turns_of};
-ghost use Rattle.run_unroller.specs.RunLists.{runs_of};
+ghost use Rattle.run_unroller.specs.internal.RunViews.{runs_of};
 ghost use Rattle.run_unroller.specs.Totals.{all_turns as all_turns_of, turns_total};
 
 use crate::numbers::{whole, zero};

@@ -5,7 +5,7 @@ ghost use Rattle.heyvl_num.specs.Extended.{value_of};
 ghost use Rattle.heyvl_types.specs.Acts.{TypedProcedure, procedure_at};
 ghost use Rattle.heyvl_types.specs.PlainActs.{procedures_of};
 ghost use Rattle.quant_algebra.specs.ExactMeaning.{exact_value};
-ghost use Rattle.run_unroller.specs.RunLists.{run_of, runs_of};
+ghost use Rattle.run_unroller.specs.internal.RunViews.{run_of, runs_of};
 ghost use Rattle.run_unroller.specs.Totals.{added, and_one, ended, post_of, post_total, reward_total};
 
 use crate::numbers::zero;

@@ -2,7 +2,7 @@
 
 ghost use Rattle.std.specs.Prelude.{◌≡◌, ◌∷◌, List, [], Some};
 ghost use Rattle.heyvl_types.specs.Acts.{TypedProcedure};
-ghost use Rattle.run_unroller.specs.RunLists.{run_of, runs_of};
+ghost use Rattle.run_unroller.specs.internal.RunViews.{run_of, runs_of};
 ghost use Rattle.run_unroller.specs.Totals.{added_weights, running, running_total};
 
 use crate::numbers::zero;

@@ -3,7 +3,7 @@
 ghost use Rattle.heyvl_tool.specs.Responses.{reply_of};
 ghost use Rattle.heyvl_tool.specs.RunReplies.{IsRunReply, TellsRun, no_program as no_program_reply, run_reply, script_fault as script_fault_reply};
 ghost use Rattle.heyvl_tool.specs.RunStarts.{known_at, procedure_named};
-ghost use Rattle.heyvl_tool.specs.ScriptNames.{known_in, script_of};
+ghost use Rattle.heyvl_tool.specs.internal.ScriptNames.{known_in, script_of};
 ghost use Rattle.heyvl_tool.specs.Scripts.Reading.{says};
 ghost use Rattle.heyvl_tool.specs.Scripts.{read_script};
 ghost use Rattle.heyvl_types.specs.PlainActs.{procedures_of};

@@ -3,7 +3,7 @@
 ghost use Rattle.heyvl_num.specs.Rational.{ratio};
 ghost use Rattle.heyvl_syntax.specs.Literals.{with_digit};
 ghost use Rattle.heyvl_tool.specs.ScriptLines.{are_digits, below, decision, line_of_parts, natural, number_of_parts, pair_line, quotient, said, script_number, script_value, triple_line, value_limit, whole};
-ghost use Rattle.heyvl_tool.specs.ScriptNames.{line_of};
+ghost use Rattle.heyvl_tool.specs.internal.ScriptNames.{line_of};
 ghost use Rattle.heyvl_tool.specs.ScriptLines.Line.{decide, steps};
 ghost use Rattle.std.specs.Char.{is_ascii_digit};
 ghost use Rattle.std.specs.List.{list_all, slice_split};

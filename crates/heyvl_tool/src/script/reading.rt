@@ -1,7 +1,7 @@
 //! Reading a script.
 
 ghost use Rattle.heyvl_tool.specs.ScriptLines.{said as said_of, script_lines, without_last_feed};
-ghost use Rattle.heyvl_tool.specs.ScriptNames.{IsScriptStop, known_in, line_of, script_of};
+ghost use Rattle.heyvl_tool.specs.internal.ScriptNames.{IsScriptStop, known_in, line_of, script_of};
 ghost use Rattle.heyvl_tool.specs.Scripts.Reading.{says};
 ghost use Rattle.heyvl_tool.specs.Scripts.{allowed, blank, is_set, may_follow, may_set, read_script as reading_of, takes as takes_value, with_line};
 ghost use Rattle.heyvl_tool.specs.declared.script.reading.ScriptStop.TheVariants.{Memory};

@@ -9,7 +9,8 @@ use Rattle.run_unroller.specs.declared.causes.Grown.{Grown}
 use Rattle.run_unroller.specs.declared.causes.Grown.TheVariants.{Runs, Stopped}
 use Rattle.run_unroller.specs.declared.causes.Reached.{Reached}
 use Rattle.run_unroller.specs.declared.causes.Reached.TheVariants as reached
-use Rattle.run_unroller.specs.RunLists.{RunList, runs_of, after_step, after}
+use Rattle.run_unroller.specs.RunLists.{RunList, after_step, after}
+use Rattle.run_unroller.specs.internal.RunViews.{runs_of}
 use Rattle.run_unroller.specs.Causes.{first_cause, step_cause, first_stop}
 
 -- What was brought has joined the list, or has stopped it.

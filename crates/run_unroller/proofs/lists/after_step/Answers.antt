@@ -6,7 +6,8 @@ use Rattle.heyvl_types.specs.Rules.{Each}
 use Rattle.run_machine.specs.ConfigConditions.{HasRoom, IsConfig}
 use Rattle.run_machine.specs.Names.{items_of, stored}
 use Rattle.run_unroller.specs.Causes.{all_brought, brought, first_cause}
-use Rattle.run_unroller.specs.RunLists.{after_step, follow, runs_of}
+use Rattle.run_unroller.specs.RunLists.{after_step, follow}
+use Rattle.run_unroller.specs.internal.RunViews.{runs_of}
 use Rattle.run_unroller.specs.internal.Extensions.{Extends}
 use Rattle.run_unroller.specs.internal.Growth.{AllWithin}
 use Rattle.run_unroller.proofs.Following.{brought_next, joined-none, run_at, runs_follow}

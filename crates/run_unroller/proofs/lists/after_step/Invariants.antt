@@ -6,7 +6,8 @@ use Rattle.heyvl_types.specs.Rules.{Each}
 use Rattle.run_machine.specs.ConfigConditions.{HasRoom, IsConfig}
 use Rattle.run_machine.specs.Names.{stored}
 use Rattle.run_unroller.specs.Causes.{all_brought, first_cause, step_cause}
-use Rattle.run_unroller.specs.RunLists.{after_step, runs_of}
+use Rattle.run_unroller.specs.RunLists.{after_step}
+use Rattle.run_unroller.specs.internal.RunViews.{runs_of}
 use Rattle.run_unroller.specs.internal.Growth.{AllWithin}
 use Rattle.run_unroller.proofs.lists.after_step.Given as goal
 

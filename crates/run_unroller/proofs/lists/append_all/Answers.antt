@@ -3,7 +3,7 @@ use Rattle.std.specs.Vec.Iter.{into_iter_items}
 use Rattle.heyvl_num.specs.WeightedSums.{scaled}
 use Rattle.heyvl_types.specs.Acts.{TypedProcedure}
 use Rattle.run_unroller.specs.Causes.{first_cause, joins}
-use Rattle.run_unroller.specs.RunLists.{run_of, runs_of}
+use Rattle.run_unroller.specs.internal.RunViews.{run_of, runs_of}
 use Rattle.run_unroller.specs.internal.Extensions.{Extends}
 use Rattle.run_unroller.specs.internal.Growth.{AllWithin}
 use Rattle.run_unroller.proofs.Joining.{nothing_left, marks_next, list_next, runs_none}

@@ -5,7 +5,7 @@ use Rattle.heyvl_num.specs.WeightedSums.{scaled}
 use Rattle.heyvl_types.specs.Acts.{TypedProcedure}
 use Rattle.run_unroller.specs.declared.causes.Cause.{Cause}
 use Rattle.run_unroller.specs.Causes.{first_cause, joins}
-use Rattle.run_unroller.specs.RunLists.{runs_of}
+use Rattle.run_unroller.specs.internal.RunViews.{runs_of}
 use Rattle.run_unroller.specs.internal.Growth.{AllWithin}
 use Rattle.run_unroller.proofs.lists.append_all.Given as goal
 

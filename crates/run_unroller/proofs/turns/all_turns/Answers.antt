@@ -1,4 +1,4 @@
-use Rattle.run_unroller.specs.RunLists.{runs_of}
+use Rattle.run_unroller.specs.internal.RunViews.{runs_of}
 use Rattle.run_unroller.proofs.Adding.{no_sum}
 use Rattle.run_unroller.proofs.turns.all_turns.Goals as goal
 

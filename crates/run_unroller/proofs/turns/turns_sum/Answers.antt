@@ -3,7 +3,7 @@ use Prim.Native.Nat.{suc}
 use Rattle.std.specs.Prelude.{Some, None, pos}
 use Rattle.heyvl_num.specs.Rational.{ratio}
 use Rattle.run_machine.specs.Names.{turns_of as turns_in}
-use Rattle.run_unroller.specs.RunLists.{runs_of}
+use Rattle.run_unroller.specs.internal.RunViews.{runs_of}
 use Rattle.run_unroller.specs.Totals.{added_fractions, turns_of}
 use Rattle.run_unroller.proofs.Adding.{fraction_next, fraction_one, fractions-none}
 use Rattle.run_unroller.proofs.turns.turns_sum.Goals as goal

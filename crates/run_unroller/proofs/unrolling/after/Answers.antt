@@ -1,7 +1,7 @@
 use Rattle.std.proofs.Common.{arith, ◌≡◌, ◌+◌, ◌∙◌, subst}
 use Prim.Native.Nat.{suc}
 use Rattle.heyvl_types.specs.PlainActs.{procedures_of}
-use Rattle.run_unroller.specs.RunLists.{runs_of}
+use Rattle.run_unroller.specs.internal.RunViews.{runs_of}
 use Rattle.run_unroller.specs.internal.Extensions.{IsAfterStep}
 use Rattle.run_unroller.specs.internal.Growth.{AllWithin, GrownWithin}
 use Rattle.run_unroller.proofs.Stopping.{goes_on, one_more, stops, within_configs, within_rooms}

@@ -1,7 +1,8 @@
 use Rattle.std.proofs.Common.{◌≡◌, None}
 use Rattle.heyvl_types.specs.PlainActs.{procedures_of}
 use Rattle.run_unroller.specs.Causes.{first_stop}
-use Rattle.run_unroller.specs.RunLists.{after, runs_of}
+use Rattle.run_unroller.specs.RunLists.{after}
+use Rattle.run_unroller.specs.internal.RunViews.{runs_of}
 use Rattle.run_unroller.specs.internal.Growth.{AllWithin}
 use Rattle.run_unroller.proofs.unrolling.after.Given as goal
 

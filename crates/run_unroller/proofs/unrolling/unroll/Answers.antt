@@ -1,7 +1,8 @@
 use Rattle.std.proofs.Common.{ap, ◌∙◌, subst}
 use Rattle.heyvl_types.specs.PlainActs.{procedures_of}
 use Rattle.run_machine.specs.Names.{config_of, stored}
-use Rattle.run_unroller.specs.RunLists.{begun, runs_of}
+use Rattle.run_unroller.specs.RunLists.{begun}
+use Rattle.run_unroller.specs.internal.RunViews.{runs_of}
 use Rattle.run_unroller.specs.Unrolling.{unrolling_of}
 use Rattle.run_unroller.specs.internal.Extensions.{IsAfter}
 use Rattle.run_unroller.proofs.Following.{if_ok}

@@ -1,7 +1,7 @@
 use Rattle.std.proofs.Common.{ap, sym, ◌∙◌, ◌+◌, drop}
 use Rattle.std.specs.Prelude.{Some, None, option_map}
 use Rattle.heyvl_num.specs.Extended.{value_of}
-use Rattle.run_unroller.specs.RunLists.{runs_of}
+use Rattle.run_unroller.specs.internal.RunViews.{runs_of}
 use Rattle.run_unroller.specs.Totals.{added, reward_of}
 use Rattle.run_unroller.proofs.Adding.{added-none, value_next}
 use Rattle.run_unroller.proofs.Finding.{zero_value}

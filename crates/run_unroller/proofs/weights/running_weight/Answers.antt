@@ -1,6 +1,6 @@
 use Rattle.std.proofs.Common.{sym, ◌∙◌, ◌+◌, drop}
 use Rattle.std.specs.Prelude.{Some, None}
-use Rattle.run_unroller.specs.RunLists.{runs_of}
+use Rattle.run_unroller.specs.internal.RunViews.{runs_of}
 use Rattle.run_unroller.specs.Totals.{running}
 use Rattle.run_unroller.proofs.Adding.{running_next, weights-none}
 use Rattle.run_unroller.proofs.weights.running_weight.Goals as goal

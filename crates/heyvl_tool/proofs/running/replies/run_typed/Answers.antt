@@ -2,7 +2,7 @@ use Rattle.heyvl_tool.proofs.ScriptReading.{script_few}
 use Rattle.heyvl_tool.proofs.running.replies.run_typed.Goals as goal
 use Rattle.heyvl_tool.specs.RunReplies.IsRunReply.{by_name, by_script}
 use Rattle.heyvl_tool.specs.RunStarts.{known_at, procedure_named}
-use Rattle.heyvl_tool.specs.ScriptNames.{known_in, script_of}
+use Rattle.heyvl_tool.specs.internal.ScriptNames.{known_in, script_of}
 use Rattle.heyvl_tool.specs.Scripts.Reading.{breaks, says}
 use Rattle.heyvl_tool.specs.Scripts.{read_script}
 use Rattle.heyvl_types.specs.PlainActs.{procedures_of}

@@ -1,6 +1,6 @@
 use Rattle.heyvl_tool.proofs.ScriptReading.{texts}
 use Rattle.heyvl_tool.proofs.script.reading.read_script.Given as goal
-use Rattle.heyvl_tool.specs.ScriptNames.{known_in, script_of}
+use Rattle.heyvl_tool.specs.internal.ScriptNames.{known_in, script_of}
 use Rattle.heyvl_tool.specs.Scripts.{read_lines, read_script}
 use Rattle.std.proofs.Common.{drop, length, ◌+◌, ◌≡◌, ◌≤◌}
 

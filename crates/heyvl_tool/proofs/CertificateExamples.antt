@@ -1,0 +1,195 @@
+-- Worked replies of `certify` and `check`, on a file with one procedure that has no body, and on an empty text.
+use Rattle.cert_text.specs.Certificates.{Certificate, certificates_of}
+use Rattle.cert_text.specs.Texts.{AreFirstLines, IsFirstFault, Spells, text_of}
+use Rattle.farkas_check.specs.declared.trees.GoalCert.{GoalCert}
+use Rattle.heyvl_num.specs.Value.{zeroᵛ}
+use Rattle.heylo_formula.specs.Formula.{Form}
+use Rattle.heylo_formula.specs.declared.goals.GoalId.TheVariants.{Main}
+use Rattle.heylo_formula.specs.declared.values.Val.{Val}
+use Rattle.heyvl_syntax.specs.declared.spans.Span.{Span}
+use Rattle.heyvl_tool.proofs.WorkedFaults.{h, h_is_on_the_wrong_side, havocking}
+use Rattle.heyvl_tool.specs.CertificateReplies.IsCheckReply.{by_certificates, by_line}
+use Rattle.heyvl_tool.specs.CertificateReplies.{IsCertification, IsCheckReply, IsCheckReport, certificate_fault}
+use Rattle.heyvl_tool.specs.Messages.{Reply, message}
+use Rattle.heyvl_tool.specs.Replies.IsTypedReply.{faultless, static}
+use Rattle.heyvl_tool.specs.Replies.{IsSourceReply, IsTypedReply, status_of}
+use Rattle.heyvl_tool.specs.declared.outcomes.Fault.TheVariants as faults
+use Rattle.heyvl_tool.specs.declared.outcomes.Fault.{Fault}
+use Rattle.heyvl_tool.specs.declared.requests.Settings.TheVariants.{Check}
+use Rattle.heyvl_types.specs.Acts.{TypedProcedure, procedure_at}
+use Rattle.heyvl_types.specs.Findings.{Finding}
+use Rattle.heyvl_types.specs.Program.{IsProgram}
+use Rattle.std.proofs.Common.{List, None, Option, Some, [], ap, arith, codes, length, refl, subst, sym, true, false, ◌++◌, ◌∙◌, ◌∷◌, ◌≡◌, ℕ}
+use Rattle.std.specs.Fmt.{digits}
+use Rattle.std.specs.List.{Contains}
+use Rattle.std.specs.Prelude.{Vec}
+use Rattle.std.specs.declared.alloc.Global.{Global}
+use Rattle.verdict_report.specs.Reports.{report_text}
+use Rattle.verdict_report.specs.declared.answers.Answer.{Answer}
+use Rattle.verdict_report.specs.declared.answers.LoopAnswer.{LoopAnswer}
+use Rattle.verdict_report.specs.declared.answers.RankVerdict.TheVariants.{Ranked}
+use Rattle.verdict_report.specs.declared.answers.Verdict.TheVariants.{NoBody, NotVerified, Verified}
+use Rattle.verdict_report.specs.declared.answers.Verdict.{Verdict}
+use Rattle.verify_core.specs.Answered.{IsAnswered as AreAnswered}
+use Rattle.verify_core.specs.CheckedAnswers.{IsCheckedFile}
+use Rattle.verify_core.specs.Headline.{IsHeadline, IsVerdictOn, IsVerdictOnLoop}
+
+-- ---- A file: `coproc f() -> ()`
+
+abbrev file_bytes : List ℕ
+file_bytes = codes "coproc f() -> ()\n"
+
+abbrev f : TypedProcedure
+f = record { name = codes "f"; co = true; weak = false; inputs = []; outputs = []; locals = []; pre = Form.number zeroᵛ; post = Form.number zeroᵛ; body = None; loops = 0; span = record { from = 0; to = 16 } }
+
+abbrev file : List TypedProcedure
+file = f ∷ []
+
+-- ---- A text of certificates at fault
+
+no_text_has_no_line : (next behind : List ℕ) → [] ≡ next ++ 10 ∷ behind → ⊥
+no_text_has_no_line [] behind e = cc
+no_text_has_no_line (b ∷ bs) behind e = cc
+
+-- An empty text lacks the title.
+empty_fault : IsFirstFault [] 1
+empty_fault = record {
+  before = [];
+  rest = [];
+  parts = refl;
+  place = refl;
+  allowed = record { certificates = []; others = codes "caesar certificate 1" ∷ codes "end" ∷ []; writable = record { growing = tt; each = tt }; front = refl };
+  refused = λ next behind e lines. no_text_has_no_line next behind e;
+  unfinished = λ cs spells. let text = ap length spells.text in omega (arith, text);
+}
+
+abbrev empty_reply : Reply
+empty_reply = message (faults.Cert 1) (codes "certificate line 1: fault\n")
+
+empty_is_told : IsCheckReply file_bytes file [] empty_reply
+unfolding digits
+empty_is_told = by_line 1 empty_fault refl
+
+empty_status : status_of (faults.Cert 1) [] ≡ 3
+empty_status = refl
+
+-- No report is made by it.
+no_report_of_empty : (reply : Reply) → IsCheckReport file_bytes file [] reply → ⊥
+no_report_of_empty reply report = empty_fault.unfinished (certificates_of report.certs) report.spelled
+
+-- ---- A static fault of FILE comes before a fault of the certificates
+
+abbrev wrong_side : Finding
+wrong_side = (17, record { from = 41; to = 48 })
+
+told_source : (number other : ℕ) (place at : Span) → ◌≡◌ {A = Option Finding} (Some (number, place)) (Some (other, at)) → faults.Source number place ≡ faults.Source other at
+told_source number other place at e = let same : ◌≡◌ {A = Finding} (number, place) (other, at) = cc in ap (λ (finding : Finding). faults.Source finding.0 finding.1) same
+
+no_finding : (finding : Finding) → ◌≡◌ {A = Option Finding} None (Some finding) → ⊥
+no_finding finding e = cc
+
+static_only : (text : List ℕ) (reply : Reply) → IsSourceReply (Check (codes "a") (codes "s")) havocking text h reply → reply.fault ≡ faults.Source wrong_side.0 wrong_side.1
+static_only text reply (static number place fault e) = ap (λ (r : Reply). r.fault) e ∙ told_source number wrong_side.0 place wrong_side.1 (sym fault ∙ h_is_on_the_wrong_side)
+static_only text reply (faultless none says) = absurd (no_finding wrong_side (sym none ∙ h_is_on_the_wrong_side))
+
+not_a_certificate_fault : (place : Span) → faults.Cert 1 ≡ faults.Source 17 place → ⊥
+not_a_certificate_fault place e = cc
+
+no_certificate_fault : (text : List ℕ) → IsSourceReply (Check (codes "a") (codes "s")) havocking text h (certificate_fault 1) → ⊥
+no_certificate_fault text told = not_a_certificate_fault _ (static_only text (certificate_fault 1) told)
+
+-- ---- Reports and certificates of the file
+
+-- Of answers with this vector of loops.
+module _ (none : Vec LoopAnswer Global) (no_loops : none.items ≡ []) where
+  answer : Verdict → Answer
+  answer v = record { name = codes "f"; verdict = v; loops = none }
+
+  abbrev one : Verdict → List Answer
+  one v = answer v ∷ []
+
+  -- What stands in a list of one.
+  only : (x y : Answer) (before behind : List Answer) → x ∷ [] ≡ before ++ (y ∷ behind) → y ≡ x
+  only x y [] behind e = cc
+  only x y (b ∷ []) behind e = cc
+  only x y (b ∷ (c ∷ more)) behind e = cc
+
+  verdict_is : (v w : Verdict) (p : ℕ) → IsVerdictOn (one v) p w → v ≡ w
+  unfolding answer
+  verdict_is v w p on = sym (ap (λ (x : Answer). x.verdict) (only (answer v) on.answer on.before on.behind on.all)) ∙ on.verdict
+
+  none_listed : (line : LoopAnswer) (items : List LoopAnswer) → items ≡ [] → Contains items line → ⊥
+  none_listed line items e (k, inside, is) = let few = ap length e in omega (arith, few, inside)
+
+  not_verified : NoBody ≡ Verified → ⊥
+  not_verified e = cc
+
+  not_falsified : (state : Vec Val Global) → NoBody ≡ NotVerified Main state → ⊥
+  not_falsified state e = cc
+
+  -- That there is no body promises nothing.
+  promises_nothing : IsHeadline file (one NoBody)
+  unfolding answer
+  promises_nothing = record {
+    verified = λ p on. absurd (not_verified (verdict_is NoBody Verified p on));
+    ranked = λ p n on. absurd (none_listed on.line on.answer.loops.items (ap (λ (x : Answer). x.loops.items) (only (answer NoBody) on.answer on.before on.behind on.all) ∙ no_loops) on.listed);
+    falsified = λ p state on program straight. absurd (not_falsified state (verdict_is NoBody (NotVerified Main state) p on));
+  }
+
+  -- `certify` writes the title and the end.
+  certified : IsCertification file (record { fault = faults.Nothing; answers = one NoBody; output = codes "caesar certificate 1\nend\n" })
+  unfolding answer
+  certified = record {
+    made = [];
+    certs = [];
+    answered =
+        record {
+          table = [] ∷ [];
+          ranks = [] ∷ [];
+          decided = (tt, tt);
+          ranks_decided = (tt, tt);
+          answers_of = (record { name = refl; verdict = refl; loops = rw no_loops (tt, tt) }, tt);
+          made_of = refl;
+          certs_of = refl;
+        };
+    headline = promises_nothing;
+    is_reply = refl;
+  }
+
+  -- It never says that the procedure is verified.
+  has_no_program : IsProgram (procedure_at file 0) → ⊥
+  has_no_program e = cc
+
+  not_certified : (output : List ℕ) → IsCertification file (record { fault = faults.Nothing; answers = one Verified; output = output }) → ⊥
+  unfolding answer
+  not_certified output made = has_no_program made.answered.answers_of.0.verdict.0.program
+
+  -- `check` writes the report of the same answers.
+  abbrev reported : Reply
+  reported = record { fault = faults.Nothing; answers = one NoBody; output = codes "f: no body\n1 procedures\n" }
+
+  report_is : report_text file_bytes file (one NoBody) [] ≡ codes "f: no body\n1 procedures\n"
+  unfolding answer digits
+  report_is = rw no_loops refl
+
+  checked : IsCheckReply file_bytes file (codes "caesar certificate 1\nend\n") reported
+  unfolding answer
+  checked = by_certificates (record {
+    certs = [];
+    spelled = record { writable = record { growing = tt; each = tt }; text = refl };
+    checked =
+        record {
+          table = [] ∷ [];
+          ranks = [] ∷ [];
+          checked = (tt, tt);
+          ranks_checked = (tt, tt);
+          answers_of = (record { name = refl; verdict = refl; loops = rw no_loops (tt, tt) }, tt);
+        };
+    headline = promises_nothing;
+    is_reply = ap (λ (text : List ℕ). record { fault = faults.Nothing; answers = one NoBody; output = text }) (sym report_is);
+  })
+
+  -- The status is 0.
+  checked_status : status_of reported.fault reported.answers ≡ 0
+  unfolding answer
+  checked_status = rw no_loops refl
