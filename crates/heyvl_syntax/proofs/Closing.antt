@@ -1,6 +1,6 @@
 -- The first `*/`.
 use Rattle.heyvl_syntax.specs.Comments.{closes_at}
-use Rattle.heyvl_syntax.specs.Fronts.{close_from}
+use Rattle.heyvl_syntax.specs.internal.Fronts.{close_from}
 use Rattle.std.proofs.Common.{Bool, List, None, Some, [], arith, cond, false, refl, suc, true, zero, ◌+◌, ◌<◌, ◌∷◌, ◌≡◌, ℕ}
 
 closes_nowhere : (k : ℕ) → closes_at [] k ≡ false

@@ -1,5 +1,5 @@
 -- Numbers that digits write, and the limit of literals.
-use Rattle.heyvl_syntax.specs.Fronts.{below_limit}
+use Rattle.heyvl_syntax.specs.internal.Fronts.{below_limit}
 use Rattle.heyvl_syntax.specs.Literals.{fraction, is_too_large, whole, with_digit, without_last_zeros}
 use Rattle.std.proofs.Common.{Bool, List, None, Some, [], ap, arith, cond, drop, false, fold, get_or, length, nat_eq, nat_le, nat_lt, refl, true, ◌&&◌, ◌++◌, ◌+◌, ◌<◌, ◌^◌, ◌∷◌, ◌≡◌, ◌≤◌, ℕ}
 use Rattle.std.proofs.lemmas.Bool.Decides.{nat_tests}

@@ -6,7 +6,7 @@ use Rattle.heyvl_syntax.proofs.Starts.{BeginsBy, digit_opens_no_word, opens_word
 use Rattle.heyvl_syntax.proofs.Tables.{key_text_of, mark_longest, mark_starts, no_key_text, no_mark_starts}
 use Rattle.heyvl_syntax.specs.Bytes.{is_letter, is_line_feed, is_white, is_word_byte}
 use Rattle.heyvl_syntax.specs.Comments.{IsBlockComment, IsLineComment, closes_at, opens_block, opens_comment, opens_line}
-use Rattle.heyvl_syntax.specs.Fronts.{IsInside, block_front, first_close, front_of, key_of, mark_front, mark_of, number_front, number_len, number_text, word_front, word_text}
+use Rattle.heyvl_syntax.specs.internal.Fronts.{IsInside, block_front, first_close, front_of, key_of, mark_front, mark_of, number_front, number_len, number_text, word_front, word_text}
 use Rattle.heyvl_syntax.specs.Literals.{is_too_large, literal}
 use Rattle.heyvl_syntax.specs.Marks.{mark_text}
 use Rattle.heyvl_syntax.specs.Tokens.{IsFault, IsLongest, IsToken, IsTokenOf, IsWhite, is_beyond_limits}

@@ -2,7 +2,7 @@
 use Rattle.heyvl_syntax.proofs.Runs.{and_left, and_right, not_true, passes-le_run, run_passes, run_stops}
 use Rattle.heyvl_syntax.proofs.Starts.{BeginsBy, digit_no_white, digit_opens_no_word, letter_opens_word, opens_word, token_begins, word_no_white}
 use Rattle.heyvl_syntax.specs.Bytes.{is_point, is_white, is_word_byte}
-use Rattle.heyvl_syntax.specs.Fronts.{fraction_len, number_len, with_point}
+use Rattle.heyvl_syntax.specs.internal.Fronts.{fraction_len, number_len, with_point}
 use Rattle.heyvl_syntax.specs.Literals.{IsDigits, IsNumber}
 use Rattle.heyvl_syntax.specs.Marks.{mark_text}
 use Rattle.heyvl_syntax.specs.Tokens.{IsToken}

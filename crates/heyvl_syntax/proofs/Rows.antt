@@ -1,6 +1,6 @@
 -- Worked rows of the definitions of tokens, computed.
 
-use Rattle.heyvl_syntax.specs.Fronts.{front_of}
+use Rattle.heyvl_syntax.specs.internal.Fronts.{front_of}
 use Rattle.heyvl_syntax.specs.Literals.{is_too_large, literal}
 use Rattle.heyvl_syntax.specs.Places.{place_at}
 use Rattle.heyvl_syntax.specs.declared.fronts.Front.TheVariants as fronts

@@ -1,6 +1,6 @@
 -- One more part of the bytes, and the end of them.
 use Rattle.heyvl_syntax.proofs.FrontIs.{IsFront, front-is}
-use Rattle.heyvl_syntax.specs.Fronts.{front_of}
+use Rattle.heyvl_syntax.specs.internal.Fronts.{front_of}
 use Rattle.heyvl_syntax.specs.Tokens.{Lexes, Stops, comment, span_of, token, white}
 use Rattle.heyvl_syntax.specs.declared.fronts.Front.TheVariants as fronts
 use Rattle.heyvl_syntax.specs.declared.fronts.Front.{Front}

@@ -1,6 +1,6 @@
 -- What a look-up in the lists of keys and marks finds.
 use Rattle.heyvl_syntax.proofs.Runs.{and_left, and_right}
-use Rattle.heyvl_syntax.specs.Fronts.{all_keys, key_of, keys_from, mark_of, marks_by_length, marks_from}
+use Rattle.heyvl_syntax.specs.internal.Fronts.{all_keys, key_of, keys_from, mark_of, marks_by_length, marks_from}
 use Rattle.heyvl_syntax.specs.Keys.{key_text}
 use Rattle.heyvl_syntax.specs.Marks.{mark_text}
 use Rattle.heyvl_syntax.specs.declared.keys.Key.TheVariants as keys

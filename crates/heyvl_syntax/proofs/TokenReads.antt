@@ -6,7 +6,7 @@ use Rattle.heyvl_syntax.proofs.Steps.{front_was, lexes_token, made}
 use Rattle.heyvl_syntax.proofs.Tables.{key_read, key_text_of}
 use Rattle.heyvl_syntax.specs.Bytes.{ends_word, is_letter, is_point, is_white, is_word_byte}
 use Rattle.heyvl_syntax.specs.Comments.{opens_block, opens_line}
-use Rattle.heyvl_syntax.specs.Fronts.{front_of, key_of, fraction_len, number_front, number_len, number_text, with_point, word_front, word_text}
+use Rattle.heyvl_syntax.specs.internal.Fronts.{front_of, key_of, fraction_len, number_front, number_len, number_text, with_point, word_front, word_text}
 use Rattle.heyvl_syntax.specs.Grammar.{prefix}
 use Rattle.heyvl_syntax.specs.Keys.{key_text}
 use Rattle.heyvl_syntax.specs.Literals.{IsNumber, is_too_large, literal}

@@ -1,7 +1,7 @@
 -- Bytes are split, or there is a leftmost fault.
 use Rattle.heyvl_syntax.proofs.FrontIs.{IsFront, front-inside, front-is}
 use Rattle.heyvl_syntax.proofs.Steps.{lexes_blank, lexes_end, lexes_token, made, stops_blank, stops_here, stops_token}
-use Rattle.heyvl_syntax.specs.Fronts.{front_of}
+use Rattle.heyvl_syntax.specs.internal.Fronts.{front_of}
 use Rattle.heyvl_syntax.specs.Tokens.{Lexes, Stops, span_of}
 use Rattle.heyvl_syntax.specs.declared.fronts.Front.TheVariants as fronts
 use Rattle.heyvl_syntax.specs.declared.fronts.Front.{Front}

@@ -1,7 +1,7 @@
 pub mod Bytes
 pub mod Comments
 pub mod Expressions
-pub mod Fronts
+pub mod internal
 pub mod Grammar
 pub mod Keys
 pub mod Literals

@@ -1,6 +1,6 @@
 //! Comments.
 
-ghost use Rattle.heyvl_syntax.specs.Fronts.{first_close};
+ghost use Rattle.heyvl_syntax.specs.internal.Fronts.{first_close};
 ghost use Rattle.std.specs.Prelude.{◌+◌, ◌≡◌, ◌≤◌, IfSome, length};
 
 /// How many bytes stand before the first `*/`, or None where there is none.

@@ -1,7 +1,7 @@
 //! What stands at the front of bytes.
 
 ghost use Rattle.heyvl_syntax.specs.Bytes.{is_letter};
-ghost use Rattle.heyvl_syntax.specs.Fronts.{IsInside, block_front, first_close, front_of, key_of, mark_front, mark_of, number_front, number_text, word_front, word_text};
+ghost use Rattle.heyvl_syntax.specs.internal.Fronts.{IsInside, block_front, first_close, front_of, key_of, mark_front, mark_of, number_front, number_text, word_front, word_text};
 ghost use Rattle.std.specs.Prelude.{◌+◌, ◌<◌, ◌≡◌, ◌≤◌, IfOk, drop, length};
 
 use crate::bytes::{is_letter, is_white, line_len, word_len};

@@ -1,6 +1,6 @@
 //! The reserved words of HeyVL.
 
-ghost use Rattle.heyvl_syntax.specs.Fronts.{key_of, keys_from};
+ghost use Rattle.heyvl_syntax.specs.internal.Fronts.{key_of, keys_from};
 ghost use Rattle.heyvl_syntax.specs.Keys.{key_text};
 ghost use Rattle.std.specs.Cmp.Lexicographic.{pointwise};
 ghost use Rattle.std.specs.List.{find};

@@ -1,7 +1,7 @@
 //! Number literals.
 
 ghost use Rattle.heyvl_syntax.specs.Bytes.{is_point};
-ghost use Rattle.heyvl_syntax.specs.Fronts.{below_limit, number_len};
+ghost use Rattle.heyvl_syntax.specs.internal.Fronts.{below_limit, number_len};
 ghost use Rattle.heyvl_syntax.specs.Literals.{fraction, is_too_large, literal, whole, with_digit, without_last_zeros};
 ghost use Rattle.std.specs.List.{position_or_len};
 ghost use Rattle.std.specs.Prelude.{◌+◌, ◌<◌, ◌^◌, ◌≡◌, ◌≤◌, cond, fold, length};

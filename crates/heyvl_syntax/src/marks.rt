@@ -1,6 +1,6 @@
 //! The marks of HeyVL.
 
-ghost use Rattle.heyvl_syntax.specs.Fronts.{mark_of, marks_from};
+ghost use Rattle.heyvl_syntax.specs.internal.Fronts.{mark_of, marks_from};
 ghost use Rattle.heyvl_syntax.specs.Marks.{mark_text};
 ghost use Rattle.std.specs.List.{find, starts_with};
 ghost use Rattle.std.specs.Prelude.{◌≡◌, nat_eq};

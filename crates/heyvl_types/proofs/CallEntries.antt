@@ -1,5 +1,6 @@
 -- The procedures that calls can name as the tables of names that hold them.
-use Rattle.heyvl_types.specs.Signatures.{Called, Signature, called_of, find_call, signature_of, with_signature}
+use Rattle.heyvl_types.specs.Signatures.{Called, Signature, find_call, with_signature}
+use Rattle.heyvl_types.specs.internal.Views.{called_of, signature_of}
 use Rattle.heyvl_types.specs.declared.calls.Signature as held
 use Rattle.indexmap.specs.IndexMap.{insert_entry}
 use Rattle.std.proofs.Common.{Bool, List, None, Option, Some, Vec, [], ap, false, option_map, refl, sym, true, ◌∙◌, ◌∷◌, ◌≡◌, ℕ}

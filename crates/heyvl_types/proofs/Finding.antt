@@ -13,7 +13,7 @@ use Rattle.heyvl_types.specs.Acts.{Act}
 use Rattle.heyvl_types.proofs.exported.PlainActsAre.{if_act, pick_act}
 use Rattle.heyvl_types.specs.PlainActs.{act_of, acts_of, arms_of}
 use Rattle.heyvl_types.specs.Places.{nth, in_order, inside, inside_arms}
-use Rattle.heyvl_types.specs.Finding.{Finds, Behind}
+use Rattle.heyvl_types.specs.internal.Finding.{Finds, Behind}
 
 nth_first : (xs ys : List Act) (n : ℕ) (x : Act) → nth xs n ≡ Some x → nth (xs ++ ys) n ≡ Some x
 nth_first [] ys n x h = elim (none-some x h) [ ]

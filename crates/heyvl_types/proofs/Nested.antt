@@ -6,7 +6,8 @@ use Rattle.heyvl_syntax.specs.declared.spans.Span.{Span}
 use Rattle.heyvl_types.proofs.Reading.{stops_first, stops_second}
 use Rattle.heyvl_types.proofs.Walks.{counted}
 use Rattle.heyvl_types.specs.Acts.{Act, Acts, Arms, Variable}
-use Rattle.heyvl_types.specs.Answers.{Gives, acts_view}
+use Rattle.heyvl_types.specs.Answers.{Gives}
+use Rattle.heyvl_types.specs.internal.Views.{acts_view}
 use Rattle.heyvl_types.specs.Findings.{Finding, at}
 use Rattle.heyvl_types.specs.LoopRules.{loop_rules, rules_findings}
 use Rattle.heyvl_types.specs.PlainActs.{variable_of}

@@ -5,7 +5,8 @@ use Rattle.heyvl_syntax.specs.declared.procedures.Param.{Param}
 use Rattle.heyvl_types.proofs.Parts.{behind, stops, stops_at, tells_stop}
 use Rattle.heyvl_types.proofs.ProcedureParts.{regroup, the_inputs, the_locals, the_outputs}
 use Rattle.heyvl_types.specs.Acts.{Acts, Variable}
-use Rattle.heyvl_types.specs.Answers.{Gives, Tells}
+use Rattle.heyvl_types.specs.Answers.{Gives}
+use Rattle.heyvl_types.specs.internal.Lookings.{Tells}
 use Rattle.heyvl_types.specs.Files.{arity, body_acts, body_findings, clause, first_quantified, front_of, has_quantified_post, head_scope, input_scope, is_too_large, is_wlp, loops_of_body, parameters_findings, post_forms, posts_findings, pre_forms, pres_findings, procedure_findings, setting, typed}
 use Rattle.heyvl_types.specs.Findings.{Finding, at}
 use Rattle.heyvl_types.specs.PlainActs.{procedure_of, variable_of}

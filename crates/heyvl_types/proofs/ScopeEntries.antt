@@ -1,5 +1,6 @@
 -- Scopes as the tables of names that hold them.
-use Rattle.heyvl_types.specs.Scopes.{Scope, entries_of, find, is_visible, numbers, with_local}
+use Rattle.heyvl_types.specs.Scopes.{Scope, find, is_visible, numbers, with_local}
+use Rattle.heyvl_types.specs.internal.Views.{entries_of}
 use Rattle.heyvl_types.specs.declared.scopes.Local.{Local}
 use Rattle.indexmap.specs.IndexMap.{insert_entry}
 use Rattle.std.proofs.Common.{Bool, List, Some, Vec, [], ap, false, map, refl, sym, take, true, ◌++◌, ◌∙◌, ◌≡◌, ◌∷◌, ℕ}

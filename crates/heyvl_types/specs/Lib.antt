@@ -3,7 +3,6 @@ pub mod PlainActs
 pub mod Forward
 pub mod Matching
 pub mod Places
-pub mod Finding
 pub mod Length
 pub mod Visible
 pub mod Modified

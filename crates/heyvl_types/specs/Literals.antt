@@ -16,11 +16,6 @@ use Rattle.std.specs.Prelude.{Bool, List, None, Option, Some, [], false, if◌th
 abbrev pub is_written : Lit → Bool
 is_written n = le_z (pos 0) n.digits && nat_le n.places 38
 
--- The literal that an expression is.
-abbrev pub literal_of : Expression → Option Lit
-literal_of (Expression.number n s) = Some n
-literal_of e = None
-
 -- The number that a literal writes.
 unfoldable pub literal_value : Lit → Rational
 literal_value n = ratio n.digits (10 ^ n.places)

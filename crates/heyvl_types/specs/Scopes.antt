@@ -3,16 +3,11 @@
 use Rattle.heyvl_syntax.specs.declared.types.TypeName.{TypeName}
 use Rattle.heyvl_types.specs.declared.scopes.Local.{Local}
 use Rattle.std.specs.Option.{is_none, is_some}
-use Rattle.std.specs.Prelude.{Bool, List, None, Option, Some, Vec, [], false, if◌then◌else◌, map, nat_lt, option_map, ◌||◌, ◌∷◌, ℕ}
+use Rattle.std.specs.Prelude.{Bool, List, None, Option, Some, [], false, if◌then◌else◌, map, nat_lt, option_map, ◌||◌, ◌∷◌, ℕ}
 use Rattle.std.specs.Str.{bytes_eq}
-use Rattle.std.specs.declared.alloc.Global.{Global}
 
 abbrev pub Scope : Type 0
 Scope = List (List ℕ × Local)
-
--- The scope that the entries of a table of names hold.
-abbrev pub entries_of : List (Vec ℕ Global × Local) → Scope
-entries_of es = map (λ e. (e.0.items, e.1)) es
 
 -- The variable of this name.
 abbrev pub find : Scope → List ℕ → Option Local

@@ -2,11 +2,9 @@
 use Rattle.heyvl_syntax.specs.Procedures.{Procedure}
 use Rattle.heyvl_syntax.specs.declared.types.TypeName.{TypeName}
 use Rattle.heyvl_types.specs.TypedExpressions.{has_quantifier}
-use Rattle.heyvl_types.specs.declared.calls.Signature as held
 use Rattle.std.specs.List.{list_any}
-use Rattle.std.specs.Prelude.{Bool, List, None, Option, Some, Vec, [], if◌then◌else◌, map, suc, ◌∷◌, ℕ}
+use Rattle.std.specs.Prelude.{Bool, List, None, Option, Some, [], if◌then◌else◌, map, suc, ◌∷◌, ℕ}
 use Rattle.std.specs.Str.{bytes_eq}
-use Rattle.std.specs.declared.alloc.Global.{Global}
 
 -- A procedure as a call sees it: its number, whether it is a coproc, the types of its inputs and outputs, and whether a quantifier
 -- stands in a post clause.
@@ -16,10 +14,6 @@ pub record Signature : Type 0 where
   pub inputs : List TypeName
   pub outputs : List TypeName
   pub quantified : Bool
-
--- The signature that the program holds.
-abbrev pub signature_of : held.Signature → Signature
-signature_of s = record { number = s.number; co = s.co; inputs = s.inputs.items; outputs = s.outputs.items; quantified = s.quantified }
 
 abbrev pub signature : ℕ → Procedure → Signature
 signature n p = record {
@@ -33,10 +27,6 @@ signature n p = record {
 -- The procedures that calls can name, each by its name, in the order of the text.
 abbrev pub Called : Type 0
 Called = List (List ℕ × Signature)
-
--- The procedures that the entries of a table of names hold.
-abbrev pub called_of : List (Vec ℕ Global × held.Signature) → Called
-called_of es = map (λ e. (e.0.items, signature_of e.1)) es
 
 -- The procedure that a name calls.
 abbrev pub find_call : Called → List ℕ → Option Signature

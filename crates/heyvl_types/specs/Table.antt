@@ -15,7 +15,6 @@ use Rattle.heyvl_syntax.specs.declared.spans.Span.{Span}
 use Rattle.heyvl_syntax.specs.declared.types.TypeName.{TypeName}
 use Rattle.heyvl_types.specs.Literals.{inverse_value, is_written, is_zero_literal, literal_value}
 use Rattle.heyvl_types.specs.declared.demands.Demand.{Demand}
-use Rattle.heyvl_types.specs.declared.meanings.Kind.{Kind}
 use Rattle.heyvl_types.specs.declared.scopes.Local.{Local}
 use Rattle.std.specs.Prelude.{Bool, None, Option, Some, false, if◌then◌else◌, not, option_map, true, ◌&&◌, ◌==◌, ℕ}
 
@@ -25,12 +24,6 @@ pub data Meaning : Type 0 where
   truth : Cond → Meaning
   number : NumberType → Form → Meaning
   real : Meaning
-
-abbrev pub kind_of : Kind → NumberType
-kind_of Kind.Int = int
-kind_of Kind.UInt = uint
-kind_of Kind.UReal = ureal
-kind_of Kind.EUReal = eureal
 
 abbrev pub given : {A B : Type 0} → Option A → (A → Option B) → Option B
 given None f = None

@@ -4,3 +4,6 @@ pub mod RightSideParts
 pub mod LoopHeads
 pub mod RightSideRules
 pub mod ProcedureParts
+pub mod Views
+pub mod Lookings
+pub mod Finding

@@ -2,7 +2,8 @@
 
 ghost use Rattle.heyvl_syntax.specs.Expressions.{expression};
 ghost use Rattle.heyvl_syntax.specs.Statements.{arms, block, statement};
-ghost use Rattle.heyvl_types.specs.Answers.{Gives, acts_view, arms_view};
+ghost use Rattle.heyvl_types.specs.Answers.{Gives};
+ghost use Rattle.heyvl_types.specs.internal.Views.{acts_view, arms_view};
 ghost use Rattle.heyvl_types.specs.PlainActs.{arm_of, variable_of};
 ghost use Rattle.heyvl_types.specs.StatementActs.{arms_acts, block_acts, condition, loops as loops_of, loops_of_arms, loops_of_block, statement_acts};
 ghost use Rattle.heyvl_types.specs.StatementRules.{arms_findings, block_findings, statement_findings};

@@ -1,7 +1,8 @@
 //! What a call sees of the procedures of a file.
 
 ghost use Rattle.heyvl_syntax.specs.Procedures.{procedure};
-ghost use Rattle.heyvl_types.specs.Signatures.{Called, called, called_of, find_call, signature, signature_of, with_signature};
+ghost use Rattle.heyvl_types.specs.Signatures.{Called, called, find_call, signature, with_signature};
+ghost use Rattle.heyvl_types.specs.internal.Views.{called_of, signature_of};
 ghost use Rattle.std.specs.Prelude.{◌≡◌, [], IfOk, OnOk, map, option_map};
 
 use crate::quantifiers::any_quantified;

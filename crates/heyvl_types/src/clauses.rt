@@ -2,7 +2,8 @@
 
 ghost use Rattle.heylo_formula.specs.PlainTrees.{form_of};
 ghost use Rattle.heyvl_syntax.specs.Expressions.{expression, expressions};
-ghost use Rattle.heyvl_types.specs.Answers.{Gives, meaning_of};
+ghost use Rattle.heyvl_types.specs.Answers.{Gives};
+ghost use Rattle.heyvl_types.specs.internal.Views.{meaning_of};
 ghost use Rattle.heyvl_types.specs.Files.{clause, front_of, joined_with, post_forms, posts_findings, pre_forms, pres_findings};
 ghost use Rattle.heyvl_types.specs.StatementActs.{form};
 ghost use Rattle.heyvl_types.specs.internal.Clauses.{joined_behind};

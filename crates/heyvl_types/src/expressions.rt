@@ -1,7 +1,8 @@
 //! Expressions.
 
 ghost use Rattle.heyvl_syntax.specs.Expressions.{expression, Expression};
-ghost use Rattle.heyvl_types.specs.Answers.{Gives, meaning_of, read};
+ghost use Rattle.heyvl_types.specs.Answers.{Gives};
+ghost use Rattle.heyvl_types.specs.internal.Views.{meaning_of, read};
 ghost use Rattle.heyvl_types.specs.Findings.{at};
 ghost use Rattle.heyvl_types.specs.Scopes.{with_local};
 ghost use Rattle.heyvl_types.specs.Table.{binary, bracket, choice, embedding, factor, meets, quantified, quotient, unary};

@@ -2,7 +2,8 @@
 
 ghost use Rattle.heyvl_syntax.specs.Expressions.{expression};
 ghost use Rattle.heyvl_num.specs.Rational.{ratio, zeroʳ};
-ghost use Rattle.heyvl_types.specs.Literals.{is_written, literal_of, literal_value};
+ghost use Rattle.heyvl_types.specs.Literals.{is_written, literal_value};
+ghost use Rattle.heyvl_types.specs.internal.Views.{literal_of};
 ghost use Rattle.heyvl_types.specs.Table.{divisor, inverse};
 ghost use Rattle.std.specs.Int.Signed.{le_z};
 ghost use Rattle.std.specs.Prelude.{◌≡◌, ◌^◌, ◌≤◌, None, Some, if◌then◌else◌, pos, true, unsigned_abs};

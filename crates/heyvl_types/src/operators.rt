@@ -6,8 +6,9 @@ ghost use Rattle.heylo_formula.specs.Formula.Form.{difference, number, select};
 ghost use Rattle.heyvl_num.specs.Value.Value.{infinite};
 ghost use Rattle.heylo_formula.specs.Typing.NumberType.{uint, ureal};
 ghost use Rattle.heylo_formula.specs.Typing.{is_unsigned, join};
-ghost use Rattle.heyvl_types.specs.Answers.{meaning_of};
-ghost use Rattle.heyvl_types.specs.Table.{binary, bound, bracket, choice, comparison, conegation, constant, declarable, embedding, extended, infinity, joined_numbers, kind_of, literal, minus, negation, negative, nought, numbers, quantified, quotient, selected, truths, unary, variable};
+ghost use Rattle.heyvl_types.specs.internal.Views.{meaning_of};
+ghost use Rattle.heyvl_types.specs.Table.{binary, bound, bracket, choice, comparison, conegation, constant, declarable, embedding, extended, infinity, joined_numbers, literal, minus, negation, negative, nought, numbers, quantified, quotient, selected, truths, unary, variable};
+ghost use Rattle.heyvl_types.specs.internal.Views.{kind_of};
 ghost use Rattle.std.specs.Prelude.{◌==◌, ◌≡◌, IfOk, Some, if◌then◌else◌, option_map};
 
 use crate::literals::{literal_value, zero};

@@ -1,6 +1,6 @@
 //! The act at a place: its number in the text of its procedure's body, an act before those inside it.
 
-ghost use Rattle.heyvl_types.specs.Finding.{Finds};
+ghost use Rattle.heyvl_types.specs.internal.Finding.{Finds};
 ghost use Rattle.heyvl_types.specs.Places.{act_named, held, in_order, inside};
 ghost use Rattle.heyvl_types.specs.PlainActs.{act_of, acts_of, procedures_of};
 ghost use Rattle.std.specs.Prelude.{◌≡◌, ◌∷◌};

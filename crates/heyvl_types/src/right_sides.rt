@@ -2,12 +2,14 @@
 
 ghost use Rattle.heyvl_syntax.specs.Expressions.{expression, expressions};
 ghost use Rattle.heyvl_syntax.specs.Statements.{RightSide, choices, right_side};
-ghost use Rattle.heyvl_types.specs.Answers.{Gives, value_type};
+ghost use Rattle.heyvl_types.specs.Answers.{Gives};
+ghost use Rattle.heyvl_types.specs.internal.Views.{value_type};
 ghost use Rattle.heyvl_types.specs.Findings.{at};
 ghost use Rattle.heyvl_types.specs.PlainActs.{act_of, parts_of};
 ghost use Rattle.heyvl_types.specs.Literals.{ends_wrong};
 ghost use Rattle.heyvl_types.specs.RightSides.{any_output_mismatches, first_mismatches, has_over_zero, literal_wrong, right_findings, right_rules, right_type};
-ghost use Rattle.heyvl_types.specs.Signatures.{find_call, signature_of};
+ghost use Rattle.heyvl_types.specs.Signatures.{find_call};
+ghost use Rattle.heyvl_types.specs.internal.Views.{signature_of};
 ghost use Rattle.heyvl_types.specs.StatementActs.{assigned, callee, first_or_zero, unif_parts};
 ghost use Rattle.heyvl_types.specs.internal.RightSideParts.{join_all, types_of, types_of_choices};
 ghost use Rattle.heyvl_types.specs.internal.RightSideRules.{any_mismatches, call_rules, value_rules};

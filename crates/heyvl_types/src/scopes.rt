@@ -1,6 +1,7 @@
 //! The variables that are visible.
 
-ghost use Rattle.heyvl_types.specs.Scopes.{Scope as Plain, entries_of, find, is_visible, numbers, with_local};
+ghost use Rattle.heyvl_types.specs.Scopes.{Scope as Plain, find, is_visible, numbers, with_local};
+ghost use Rattle.heyvl_types.specs.internal.Views.{entries_of};
 ghost use Rattle.std.specs.Prelude.{◌++◌, ◌≡◌, ◌∷◌, [], IfOk, OnOk, false, length, take};
 
 use heyvl_syntax::{Name, TypeName};

@@ -3,7 +3,8 @@
 ghost use Rattle.heyvl_syntax.specs.Expressions.{expression};
 ghost use Rattle.heyvl_syntax.specs.Statements.{optional_right, right_side};
 ghost use Rattle.heyvl_types.specs.Acts.{Act as Plain, Acts};
-ghost use Rattle.heyvl_types.specs.Answers.{Gives, acts_view};
+ghost use Rattle.heyvl_types.specs.Answers.{Gives};
+ghost use Rattle.heyvl_types.specs.internal.Views.{acts_view};
 ghost use Rattle.heyvl_types.specs.Findings.{at};
 ghost use Rattle.heyvl_types.specs.PlainActs.{act_of, variable_of};
 ghost use Rattle.heyvl_types.specs.Scopes.{find, is_visible, with_local};

@@ -2,7 +2,8 @@
 
 ghost use Rattle.heylo_formula.specs.PlainTrees.{term_of};
 ghost use Rattle.heyvl_syntax.specs.Expressions.{expression, expressions};
-ghost use Rattle.heyvl_types.specs.Answers.{Gives, meaning_of, value_type};
+ghost use Rattle.heyvl_types.specs.Answers.{Gives};
+ghost use Rattle.heyvl_types.specs.internal.Views.{meaning_of, value_type};
 ghost use Rattle.heyvl_types.specs.RightSides.{all_findings, type_of_expression};
 ghost use Rattle.heyvl_types.specs.StatementActs.{term, terms};
 ghost use Rattle.heyvl_types.specs.TypedExpressions.{closed_findings, elaborate};

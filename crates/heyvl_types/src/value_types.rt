@@ -1,8 +1,8 @@
 //! The types of values that may be given to variables.
 
-ghost use Rattle.heyvl_types.specs.Answers.{meaning_of, value_type};
+ghost use Rattle.heyvl_types.specs.internal.Views.{meaning_of, value_type};
 ghost use Rattle.heyvl_types.specs.RightSides.{join_types, mismatches, mismatches_target, type_of_integers, type_of_meaning, type_of_name, widens_to};
-ghost use Rattle.heyvl_types.specs.Table.{kind_of};
+ghost use Rattle.heyvl_types.specs.internal.Views.{kind_of};
 ghost use Rattle.heylo_formula.specs.Typing.{is_finite_type, widens};
 ghost use Rattle.std.specs.Prelude.{◌≡◌, ◌&&◌, Some, option_map};
 

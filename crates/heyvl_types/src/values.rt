@@ -1,7 +1,7 @@
 //! The forms and conditions of what expressions become.
 
 ghost use Rattle.heylo_formula.specs.PlainTrees.{cond_of, form_of};
-ghost use Rattle.heyvl_types.specs.Answers.{meaning_of};
+ghost use Rattle.heyvl_types.specs.internal.Views.{meaning_of};
 ghost use Rattle.heyvl_types.specs.StatementActs.{condition, form};
 ghost use Rattle.std.specs.Prelude.{◌≡◌, Some};
 

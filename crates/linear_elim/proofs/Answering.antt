@@ -12,7 +12,8 @@ use Rattle.linear_form.proofs.exported.Combinations.{contradiction_unmet}
 use Rattle.linear_elim.specs.Joins.{Derived}
 use Rattle.linear_elim.specs.Elimination as plain
 use Rattle.linear_elim.specs.Elimination.{Step, multipliers}
-use Rattle.linear_elim.specs.Answers.{eliminated, IsTooGreat, IsEliminated, IsAnswer, Settles}
+use Rattle.linear_elim.specs.Answers.{eliminated, IsTooGreat, IsAnswer, Settles}
+use Rattle.linear_elim.specs.internal.Eliminations.{IsEliminated}
 use Rattle.linear_elim.specs.declared.answers.Elim.{Elim}
 use Rattle.linear_elim.specs.declared.answers.Elim.TheVariants.{NoSolution, Point, Fraction, Rows, Bits}
 use Rattle.linear_elim.proofs.Certificates.{contradicts}

@@ -16,7 +16,8 @@ use Rattle.linear_form.proofs.exported.Sums.{sum_at-nil, sum_at-cons}
 use Rattle.linear_form.specs.Points.{IsMetSomewhere}
 use Rattle.linear_form.proofs.exported.Combinations.{unmet}
 use Rattle.linear_form.proofs.exported.Moves.{only, coefficient-is}
-use Rattle.linear_elim.specs.Joins.{Derived, is_above_zero, any_at, Follows}
+use Rattle.linear_elim.specs.Joins.{Derived, is_above_zero}
+use Rattle.linear_elim.specs.internal.DerivedRows.{any_at, Follows}
 use Rattle.linear_elim.specs.Steps.{has_terms, is_contradiction}
 use Rattle.linear_elim.specs.Elimination.{multipliers}
 use Rattle.linear_elim.proofs.Shares.{ArePositive}

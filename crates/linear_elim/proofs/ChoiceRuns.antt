@@ -20,7 +20,8 @@ use Rattle.linear_elim.specs.ChoiceNumbers.{end_of, end_fits}
 use Rattle.linear_elim.specs.internal.ChoiceSteps.{IsTightest}
 use Rattle.linear_elim.specs.internal.Picks.{between, IsPicked, IsNextPick, IsDerivedStep}
 use Rattle.linear_elim.specs.internal.Picks.IsNextPick.{great_end, between_ends}
-use Rattle.linear_elim.specs.Answers.{IsEliminated, IsTooGreat, IsBreak}
+use Rattle.linear_elim.specs.Answers.{IsTooGreat, IsBreak}
+use Rattle.linear_elim.specs.internal.Eliminations.{IsEliminated}
 use Rattle.linear_elim.specs.declared.answers.Broken.{Broken}
 use Rattle.linear_elim.specs.declared.ends.Side.TheVariants.{Low, High}
 use Rattle.linear_elim.specs.declared.picking.Pick.{Pick}

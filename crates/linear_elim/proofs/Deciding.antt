@@ -12,7 +12,8 @@ use Rattle.linear_form.specs.Points.{Point, Meets, IsMetSomewhere, AgreesBut}
 use Rattle.linear_form.specs.Combination.{row_at}
 use Rattle.linear_form.proofs.exported.Sums.{sum_at-cons, sum_at-nil}
 use Rattle.linear_form.proofs.exported.Between.{All-both}
-use Rattle.linear_elim.specs.Joins.{Derived, is_above_zero, join, any_at, Follows}
+use Rattle.linear_elim.specs.Joins.{Derived, is_above_zero, join}
+use Rattle.linear_elim.specs.internal.DerivedRows.{any_at, Follows}
 use Rattle.linear_elim.specs.Steps.{lowers, uppers, kept, pairs, eliminate_one, has_terms, tidied, is_contradiction, contradiction, step_fits}
 use Rattle.linear_elim.specs.Elimination.{Step, step_of, gathered, Outcome, after_step, ended_by, unless_many, run, start, elimination}
 use Rattle.linear_elim.specs.Elimination.Outcome.{refuted, standing, too_many, too_great}

@@ -5,7 +5,8 @@ use Rattle.std.proofs.lemmas.Bool.Decides.{nat_tests}
 use Prim.Native.Nat.{suc}
 use Rattle.linear_elim.specs.Joins.{Derived}
 use Rattle.linear_elim.specs.Steps.{step_fits, eliminate_one, tidied, contradiction}
-use Rattle.linear_elim.specs.Elimination.{Step, Gathered, Outcome, gathered, step_of, after_step, after_all, ended_by, unless_many, run}
+use Rattle.linear_elim.specs.Elimination.{Step, Gathered, Outcome, gathered, step_of, after_step, ended_by, unless_many, run}
+use Rattle.linear_elim.specs.internal.Gathering.{after_all}
 use Rattle.linear_elim.specs.Elimination.Outcome.{refuted, standing, too_many, too_great}
 
 all_refuted : (ss : List Step) (c : Derived) → after_all ss (refuted c) ≡ refuted c

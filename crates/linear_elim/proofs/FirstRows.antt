@@ -9,9 +9,11 @@ use Rattle.linear_form.specs.Terms.{IsNormal, IsOver}
 use Rattle.linear_form.specs.Row.{Row, IsRow}
 use Rattle.linear_form.proofs.exported.Between.{All-both}
 use Rattle.linear_form.proofs.exported.Fractions.{solvable_is}
-use Rattle.linear_elim.specs.Joins.{Derived, IsDerived}
+use Rattle.linear_elim.specs.Joins.{Derived}
+use Rattle.linear_elim.specs.internal.DerivedRows.{IsDerived}
 use Rattle.linear_elim.specs.Steps.{tidied, contradiction}
-use Rattle.linear_elim.specs.Elimination.{Step, Gathered, after_all, run, own, start, found_after, rows_after, found_all, rows_all, elimination}
+use Rattle.linear_elim.specs.Elimination.{Step, Gathered, run, own, start, elimination}
+use Rattle.linear_elim.specs.internal.Gathering.{after_all, found_after, rows_after, found_all, rows_all}
 use Rattle.linear_elim.specs.internal.Outcomes.{outcome_of, Decided}
 use Rattle.linear_elim.specs.declared.elimination.Outcome.{Outcome}
 use Rattle.linear_elim.specs.declared.elimination.Outcome.TheVariants.{Refuted, Standing, TooMany, TooGreat}

@@ -30,7 +30,8 @@ use Rattle.linear_elim.specs.ChoiceNumbers.IsNextTooGreat.{in_an_end, in_a_value
 use Rattle.linear_elim.specs.internal.ChoiceSteps.{IsTightest}
 use Rattle.linear_elim.specs.internal.Picks.{between, IsPicked, IsNextPick}
 use Rattle.linear_elim.specs.internal.Picks.IsNextPick.{great_end, between_ends}
-use Rattle.linear_elim.specs.Answers.{IsEliminated, IsTooGreat, MeetsAll, AreNarrow}
+use Rattle.linear_elim.specs.Answers.{IsTooGreat, MeetsAll, AreNarrow}
+use Rattle.linear_elim.specs.internal.Eliminations.{IsEliminated}
 use Rattle.linear_elim.specs.Answers.IsTooGreat.{in_a_choice}
 use Rattle.linear_elim.specs.declared.ends.Side.TheVariants.{Low, High}
 use Rattle.linear_elim.specs.declared.picking.Pick.{Pick}

@@ -7,7 +7,7 @@ use Rattle.std.proofs.Math.Seq.{drop-cons}
 use Rattle.std.proofs.lemmas.List.{drop_all}
 use Rattle.linear_elim.specs.Joins.{Derived, join, join_fits}
 use Rattle.linear_elim.specs.Steps.{fits_each, pairs_fit, joins, pairs, put_row, strongest, has_terms, tidied, is_contradiction, contradiction, lowers, uppers, kept, eliminate_one}
-use Rattle.linear_elim.specs.Elimination.{or_else, found_after, rows_after, found_all, rows_all}
+use Rattle.linear_elim.specs.internal.Gathering.{or_else, found_after, rows_after, found_all, rows_all}
 
 pub rest_item : {A : Type 0} (xs : List A) (i : ℕ) (x : A) → i < length xs → x ≡ get_or xs i x → drop i xs ≡ x ∷ drop (i + 1) xs
 rest_item xs i x l e = drop-cons xs i x l ∙ ap₂ (λ y n. y ∷ drop n xs) (sym e) (next i)

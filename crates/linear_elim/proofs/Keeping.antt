@@ -8,7 +8,8 @@ use Rattle.std.proofs.lemmas.Bool.Decides.{nat_tests}
 use Rattle.linear_form.specs.Terms.{IsNormal, add_terms, is_narrow}
 use Rattle.linear_form.specs.Merging.{are_narrow}
 use Rattle.linear_form.proofs.exported.Normal.{add-normal}
-use Rattle.linear_elim.specs.Joins.{Derived, IsDerived, size, lowest, join, join_fits, derived_fits, joined_row, joined_shares, joined_over, share_divisor}
+use Rattle.linear_elim.specs.Joins.{Derived, size, lowest, join, join_fits, derived_fits, joined_row, joined_shares, joined_over, share_divisor}
+use Rattle.linear_elim.specs.internal.DerivedRows.{IsDerived}
 use Rattle.linear_elim.specs.Steps.{lowers, uppers, kept, joins, pairs, fits_each, pairs_fit, step_fits, eliminate_one, tidied}
 use Rattle.linear_elim.proofs.Lowest.{lowest-is}
 use Rattle.linear_elim.proofs.Shapes.{rows_normal, lowest-normal, divided-normal}

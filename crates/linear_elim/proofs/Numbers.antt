@@ -11,7 +11,8 @@ use Rattle.std.proofs.lemmas.Bool.Decides.{nat_tests}
 use Rattle.linear_form.specs.Terms.{is_wide}
 use Rattle.linear_form.specs.Merging.{mixed_terms, are_wide}
 use Rattle.linear_form.specs.Divisors.{divisor}
-use Rattle.linear_elim.specs.Joins.{Derived, size, lowest, mixed_row, join, joined_over, derived_parts, parts_fit}
+use Rattle.linear_elim.specs.Joins.{Derived, size, lowest, mixed_row, join, joined_over}
+use Rattle.linear_elim.specs.internal.DerivedRows.{derived_parts, parts_fit}
 
 pub wide_sum : (a b p q : ℤ) → a ≡ p → b ≡ q → unsigned_abs p < 2 ^ 124 → unsigned_abs q < 2 ^ 124 → to_z w128 (of_z w128 (to_z w128 (of_z w128 a) +ℤ to_z w128 (of_z w128 b))) ≡ p +ℤ q
 wide_sum a b p q e h k l = rw (e, h) (plain p q k l)

@@ -5,7 +5,8 @@ use Rattle.std.proofs.lemmas.List.{get_or_default}
 use Rattle.std.specs.Prelude.{ℤ}
 use Prim.Native.Nat.{zero, suc}
 use Rattle.linear_elim.specs.Joins.{Derived}
-use Rattle.linear_elim.specs.Steps.{same_terms, is_stronger, put_row, IsPlace}
+use Rattle.linear_elim.specs.Steps.{same_terms, is_stronger, put_row}
+use Rattle.linear_elim.specs.internal.Places.{IsPlace}
 use Rattle.linear_elim.proofs.Tidying.{same_terms-is}
 
 pub lengths_differ : (a b : List (ℕ × ℤ)) → (length a ≡ length b → ⊥) → false ≡ same_terms a b

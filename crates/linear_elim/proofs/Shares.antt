@@ -15,7 +15,8 @@ use Rattle.linear_form.specs.Combination.{row_at}
 use Rattle.linear_form.proofs.exported.Sums.{sum_at-nil, sum_at-add}
 use Rattle.linear_form.proofs.exported.Normal.{add-normal, add-all}
 use Rattle.linear_form.specs.Divisors.{common, divisor, divided_terms}
-use Rattle.linear_elim.specs.Joins.{is_above_zero, row_divisor, lowest, size, mixed_row, mixed_shares, joined_row, joined_shares, joined_over, share_divisor, join, any_at, Derived, Follows}
+use Rattle.linear_elim.specs.Joins.{is_above_zero, row_divisor, lowest, size, mixed_row, mixed_shares, joined_row, joined_shares, joined_over, share_divisor, join, Derived}
+use Rattle.linear_elim.specs.internal.DerivedRows.{any_at, Follows}
 use Rattle.linear_elim.proofs.Lowest.{lowest-is, sum_at-divided, times_back, or_one-divides, common-divides, or_one-positive, DividesAll}
 use Rattle.linear_elim.proofs.Shapes.{cancel, divided-normal, divided-all}
 

@@ -9,7 +9,7 @@ use Rattle.heyvl_num.specs.Value.{is_zero_num}
 use Rattle.linear_form.specs.Terms.{coefficient}
 use Rattle.linear_elim.specs.Joins.{Derived, is_below_zero, is_above_zero}
 use Rattle.linear_elim.specs.Steps.{lowers, uppers, kept}
-use Rattle.linear_elim.specs.Elimination.{found_after, rows_after, found_all, rows_all}
+use Rattle.linear_elim.specs.internal.Gathering.{found_after, rows_after, found_all, rows_all}
 use Rattle.linear_elim.proofs.Joining.{found-append, rows-append}
 
 filter_yes : (p : Derived → Bool) (xs : List Derived) (r : Derived) → p r ≡ true → filter p (xs ++ r ∷ []) ≡ filter p xs ++ r ∷ []

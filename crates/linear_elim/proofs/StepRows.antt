@@ -5,7 +5,8 @@ use Prim.Native.Nat.{suc}
 use Rattle.std.specs.List.{All}
 use Rattle.std.proofs.lemmas.List.Elements.{All-nil, All-cons, All-filter}
 use Rattle.linear_form.specs.Row.{Row, IsRow}
-use Rattle.linear_elim.specs.Joins.{Derived, IsDerived}
+use Rattle.linear_elim.specs.Joins.{Derived}
+use Rattle.linear_elim.specs.internal.DerivedRows.{IsDerived}
 use Rattle.linear_elim.specs.Steps.{eliminate_one, tidied, contradiction, step_fits}
 use Rattle.linear_elim.specs.Elimination.{Step, step_of, gathered, after_step, ended_by, unless_many, run, start, elimination}
 use Rattle.linear_elim.specs.Elimination.Outcome.{standing, too_many, too_great}

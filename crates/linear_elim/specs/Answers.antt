@@ -7,9 +7,8 @@ use Rattle.heylo_formula.specs.declared.types.Ty.{Ty}
 use Rattle.heylo_formula.specs.declared.values.Val.{Val}
 use Rattle.heylo_formula.specs.declared.values.Val.TheVariants.{Num}
 use Rattle.linear_form.specs.Lin.{fits}
-use Rattle.linear_form.specs.Terms.{coefficient, IsOver}
-use Rattle.linear_form.specs.Row.{Row, IsRow}
-use Rattle.linear_form.specs.RowLists.{IsNumericRow}
+use Rattle.linear_form.specs.Terms.{coefficient}
+use Rattle.linear_form.specs.Row.{Row}
 use Rattle.linear_form.specs.Solutions.{MeetsAt, IsSolvable}
 use Rattle.linear_form.specs.Combination.{IsContradiction, IsWideThroughout}
 use Rattle.linear_form.specs.VariableOrder.{order_of}
@@ -69,13 +68,6 @@ IsAnswer rows vars (Point point) = IsGreedyPoint rows vars point.items × MeetsA
 IsAnswer rows vars (Fraction b) = IsBreak rows vars b
 IsAnswer rows vars (Rows steps count) = eliminated rows vars ≡ plain.Outcome.too_many steps count
 IsAnswer rows vars Bits = IsTooGreat rows vars
-
--- The rows, over numbers, stand after these steps.
-pub record IsEliminated (rows : List Row) (vars : List Ty) (steps : List Step) : Type 0 where
-  pub are_rows : All IsRow rows
-  pub numeric : All (IsNumericRow vars) rows
-  pub over : All (λ r. IsOver (order_of rows (length vars)) r.terms) rows
-  pub standing : eliminated rows vars ≡ plain.Outcome.standing steps
 
 -- Multipliers come only where no fractions meet the rows, and a point or a break of the choice only where some do. So where
 -- there aren't too many rows and no number is too great, multipliers come exactly where the rows aren't solvable.

@@ -4,7 +4,7 @@ use Rattle.std.specs.Prelude.{ℕ, List, [], ◌∷◌, length, map, unsigned_ab
 use Prim.Native.Nat.{suc}
 use Rattle.linear_form.specs.Row.{Row}
 use Rattle.linear_elim.specs.Joins.{Derived}
-use Rattle.linear_elim.specs.Steps.{lowers, uppers, tidied, has_terms, put_row, is_contradiction, contradiction, step_fits, eliminate_one}
+use Rattle.linear_elim.specs.Steps.{lowers, uppers, tidied, contradiction, step_fits, eliminate_one}
 
 -- The rows of a variable's step that bound it, from below and from above.
 pub record Step : Type 0 where
@@ -34,35 +34,12 @@ after_step s (standing ss) = standing (s ∷ ss)
 after_step s (too_many n c) = too_many n c
 after_step s too_great = too_great
 
-unfoldable pub after_all : List Step → Outcome → Outcome
-after_all [] o = o
-after_all (s ∷ ss) o = after_step s (after_all ss o)
-
 abbrev pub ended_by : Option Derived → Outcome → Outcome
 ended_by None o = o
 ended_by (Some c) o = refuted c
 
 abbrev pub unless_many : ℕ → List Derived → Outcome → Outcome
 unless_many n rows o = cond (ltb 4096 (length rows)) (too_many n (length rows)) o
-
--- What was found, and the rows, once another row is put in.
-abbrev pub or_else : Option Derived → Option Derived → Option Derived
-or_else None o = o
-or_else (Some c) o = Some c
-
-abbrev pub found_after : Derived → Option Derived → Option Derived
-found_after r o = or_else o (cond (is_contradiction r.row) (Some r) None)
-
-abbrev pub rows_after : Derived → List Derived → List Derived
-rows_after r ks = cond (has_terms r.row.terms) (put_row r ks) ks
-
-unfoldable pub found_all : List Derived → Option Derived → Option Derived
-found_all [] o = o
-found_all (d ∷ ds) o = found_all ds (found_after d o)
-
-unfoldable pub rows_all : List Derived → List Derived → List Derived
-rows_all [] ks = ks
-rows_all (d ∷ ds) ks = rows_all ds (rows_after d ks)
 
 abbrev pub step_of : ℕ → List Derived → Step
 step_of x rows = record { var = x; lows = lowers x rows; ups = uppers x rows }

@@ -1,14 +1,12 @@
 -- Rows made of the first rows, and the join of two rows in which a variable vanishes (Fourier and Motzkin). Each row keeps how
 -- often it takes which first row.
-use Rattle.std.specs.Prelude.{◌≡◌, ℕ, ◌<◌, ◌*◌, ◌^◌, ◌/◌, List, [], ◌∷◌, length, ℤ, pos, negsuc, ◌+ℤ◌, ◌*ℤ◌, unsigned_abs, Bool, true, false, ◌||◌, ◌&&◌}
+use Rattle.std.specs.Prelude.{ℕ, ◌*◌, ◌^◌, ◌/◌, List, ℤ, pos, negsuc, ◌+ℤ◌, ◌*ℤ◌, unsigned_abs, Bool, true, false, ◌||◌, ◌&&◌}
 use Rattle.std.specs.Int.RustNames.{int_div}
-use Rattle.std.specs.List.{All}
 use Prim.Native.Nat.{zero, suc}
-use Rattle.linear_form.specs.Terms.{sum_at, coefficient, IsNormal, is_narrow, is_wide}
+use Rattle.linear_form.specs.Terms.{coefficient, is_narrow, is_wide}
 use Rattle.linear_form.specs.Merging.{mixed_terms, are_wide, are_narrow}
 use Rattle.linear_form.specs.Divisors.{divisor, divided_terms}
-use Rattle.linear_form.specs.Row.{Row, IsRow}
-use Rattle.linear_form.specs.Combination.{row_at}
+use Rattle.linear_form.specs.Row.{Row}
 
 -- `over` times the row is the sum of the first rows, each as often as its share says. Shares are pairs of an index and a
 -- multiplier.
@@ -70,32 +68,3 @@ derived_fits r = row_fits r.row && are_narrow r.shares && is_narrow (pos r.over)
 -- No product on the way to the join's shares reaches 2^126, and no number of the join reaches 2^62.
 abbrev pub join_fits : ℕ → Derived → Derived → Bool
 join_fits x l u = are_wide (pos (size x u * u.over)) l.shares && are_wide (pos (size x l * l.over)) u.shares && is_wide (pos (joined_over x l u)) && derived_fits (join x l u)
-
--- A first row is used that f says yes to.
-unfoldable pub any_at : (ℕ → Bool) → List (ℕ × ℤ) → Bool
-any_at f [] = false
-any_at f (t ∷ ts) = f t.0 || any_at f ts
-
--- The row follows from the first rows by its shares.
-pub record Follows (first : List Row) (r : Derived) : Type 0 where
-  pub positive : 0 < r.over
-  pub shares_normal : IsNormal r.shares
-  pub shares_positive : All (λ s. is_above_zero s.1 ≡ true) r.shares
-  pub shares_within : All (λ s. s.0 < length first) r.shares
-  pub sums : (f : ℕ → ℤ) → pos r.over *ℤ sum_at f r.row.terms ≡ sum_at (λ i. sum_at f (row_at first i).terms) r.shares
-  pub rest : pos r.over *ℤ r.row.rest ≡ sum_at (λ i. (row_at first i).rest) r.shares
-  pub strict : r.row.strict ≡ any_at (λ i. (row_at first i).strict) r.shares
-
--- A derived row as the code keeps it.
-pub record IsDerived (r : Derived) : Type 0 where
-  pub is_row : IsRow r.row
-  pub shares_normal : IsNormal r.shares
-  pub over_positive : 0 < r.over
-  pub over_narrow : r.over < 2 ^ 62
-
--- A derived row from its parts before they are divided.
-abbrev pub derived_parts : List (ℕ × ℤ) → ℤ → Bool → ℕ → List (ℕ × ℤ) → ℕ → Derived
-derived_parts ts c s g ms o = record { row = record { terms = divided_terms g ts; rest = int_div c (pos g); strict = s }; shares = divided_terms (divisor ms o) ms; over = o / divisor ms o }
-
-abbrev pub parts_fit : Derived → Bool
-parts_fit d = are_narrow d.row.terms && is_narrow d.row.rest && are_narrow d.shares && is_narrow (pos d.over)

@@ -1,5 +1,5 @@
 -- One step of elimination, and the rules that keep the rows few.
-use Rattle.std.specs.Prelude.{◌≡◌, ℕ, ◌<◌, ◌≤◌, length, get_or, List, [], ◌∷◌, ◌++◌, map, ℤ, pos, negsuc, Bool, true, false, cond, eqb, ◌||◌, ◌&&◌, not, Option, Some, None}
+use Rattle.std.specs.Prelude.{ℕ, List, [], ◌∷◌, ◌++◌, map, ℤ, pos, negsuc, Bool, true, false, cond, eqb, ◌||◌, ◌&&◌, not, Option, Some, None}
 use Rattle.std.specs.List.{filter}
 use Rattle.std.specs.Int.Signed.{lt_z}
 use Rattle.heyvl_num.specs.Value.{is_zero_num}
@@ -82,9 +82,3 @@ is_contradiction r = not (has_terms r.terms) && (lt_z (pos 0) r.rest || (is_zero
 unfoldable pub contradiction : List Derived → Option Derived
 contradiction [] = None
 contradiction (r ∷ rs) = cond (is_contradiction r.row) (Some r) (contradiction rs)
-
--- The place of the first row with the same terms as r, or the number of rows.
-pub record IsPlace (r : Derived) (ks : List Derived) (i : ℕ) : Type 0 where
-  pub within : i ≤ length ks
-  pub before : (j : ℕ) → j < i → same_terms (get_or ks j r).row.terms r.row.terms ≡ false
-  pub here : i < length ks → same_terms (get_or ks i r).row.terms r.row.terms ≡ true

@@ -4,3 +4,7 @@ pub mod Turns
 pub mod Outcomes
 pub mod Fingerprints
 pub mod Spots
+pub mod Eliminations
+pub mod Gathering
+pub mod DerivedRows
+pub mod Places

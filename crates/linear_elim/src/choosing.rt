@@ -6,7 +6,8 @@ ghost use Rattle.linear_form.specs.Row.{Row};
 ghost use Rattle.linear_form.specs.GreedyPoint.{value_for, IsStateOf};
 ghost use Rattle.heylo_formula.specs.Typing.{types_in};
 ghost use Rattle.linear_elim.specs.internal.Picks.{IsNextPick, IsDerivedStep};
-ghost use Rattle.linear_elim.specs.Answers.{IsEliminated, IsAnswer};
+ghost use Rattle.linear_elim.specs.Answers.{IsAnswer};
+ghost use Rattle.linear_elim.specs.internal.Eliminations.{IsEliminated};
 
 use crate::answers::{Broken, Elim};
 use crate::ends::{End, Side, tightest, value_of};

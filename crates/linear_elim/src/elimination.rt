@@ -1,8 +1,9 @@
 //! The whole elimination, one variable after the other.
 ghost use Rattle.std.specs.Prelude.{◌≡◌, ◌<◌, ◌+◌, ◌^◌, ℕ, length, IfOk};
 ghost use Rattle.std.specs.List.{All};
-ghost use Rattle.linear_elim.specs.Joins.{IsDerived};
-ghost use Rattle.linear_elim.specs.Elimination.{run, after_all};
+ghost use Rattle.linear_elim.specs.internal.DerivedRows.{IsDerived};
+ghost use Rattle.linear_elim.specs.Elimination.{run};
+ghost use Rattle.linear_elim.specs.internal.Gathering.{after_all};
 ghost use Rattle.linear_elim.specs.internal.Outcomes.{outcome_of, gathering_of};
 
 use crate::gathering::Gathering;

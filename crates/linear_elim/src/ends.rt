@@ -7,7 +7,7 @@ ghost use Rattle.heyvl_num.specs.Exact.{exact_product, exact_quotient};
 ghost use Rattle.linear_form.specs.Lin.{fits as number_fits};
 ghost use Rattle.linear_form.specs.Row.{IsRow};
 ghost use Rattle.linear_form.specs.GreedyPoint.{End as EndValue, chosen_value};
-ghost use Rattle.linear_elim.specs.Joins.{IsDerived};
+ghost use Rattle.linear_elim.specs.internal.DerivedRows.{IsDerived};
 ghost use Rattle.linear_elim.specs.ChoiceNumbers.{added, sum_without as exact_sum_without, end_of, end_fits};
 ghost use Rattle.linear_elim.specs.internal.ChoiceSteps.{IsWithin, narrow_end, IsTightest};
 

@@ -1,8 +1,9 @@
 //! The rules that keep the rows few.
 ghost use Rattle.std.specs.Prelude.{◌≡◌, ◌<◌, ◌≤◌, ◌++◌, ◌∷◌, [], ℕ, IfOk, length, not};
-ghost use Rattle.linear_elim.specs.Steps.{same_terms, is_stronger, is_contradiction, has_terms, put_row, IsPlace};
+ghost use Rattle.linear_elim.specs.Steps.{same_terms, is_stronger, is_contradiction, has_terms, put_row};
+ghost use Rattle.linear_elim.specs.internal.Places.{IsPlace};
 ghost use Rattle.linear_elim.specs.internal.Fingerprints.{ArePlaces};
-ghost use Rattle.linear_elim.specs.Elimination.{found_after, rows_after};
+ghost use Rattle.linear_elim.specs.internal.Gathering.{found_after, rows_after};
 
 use crate::fingerprints::fingerprint;
 use crate::joins::Derived;

@@ -5,7 +5,8 @@ ghost use Rattle.linear_form.specs.Terms.{coefficient, is_narrow, is_wide};
 ghost use Rattle.linear_form.specs.Merging.{mixed_terms, are_wide, are_narrow};
 ghost use Rattle.linear_form.specs.Divisors.{divisor, divided_terms};
 ghost use Rattle.linear_form.specs.Row.{IsRow};
-ghost use Rattle.linear_elim.specs.Joins.{Derived as DerivedValue, IsDerived, is_below_zero, is_above_zero, join, join_fits, derived_parts, parts_fit, size};
+ghost use Rattle.linear_elim.specs.Joins.{Derived as DerivedValue, is_below_zero, is_above_zero, join, join_fits, size};
+ghost use Rattle.linear_elim.specs.internal.DerivedRows.{IsDerived, derived_parts, parts_fit};
 
 use linear_form::{Row, coefficient_of, divided, divisor_of, mixed, narrow_quotient};
 use std::alloc::{AllocError, Global};

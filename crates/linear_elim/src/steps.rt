@@ -2,10 +2,12 @@
 ghost use Rattle.std.specs.Prelude.{◌≡◌, ◌&&◌, [], true, IfOk, IfSome, is_some};
 ghost use Rattle.std.specs.List.{All};
 ghost use Rattle.linear_form.specs.Terms.{coefficient};
-ghost use Rattle.linear_elim.specs.Joins.{IsDerived, is_below_zero, is_above_zero};
+ghost use Rattle.linear_elim.specs.Joins.{is_below_zero, is_above_zero};
+ghost use Rattle.linear_elim.specs.internal.DerivedRows.{IsDerived};
 ghost use Rattle.linear_elim.specs.Steps.{lowers, uppers, kept, fits_each, pairs_fit, joins, pairs, eliminate_one, step_fits, contradiction, tidied};
 ghost use Rattle.linear_elim.specs.internal.Fingerprints.{ArePlaces};
-ghost use Rattle.linear_elim.specs.Elimination.{Step as StepValue, step_of, found_all, rows_all};
+ghost use Rattle.linear_elim.specs.Elimination.{Step as StepValue, step_of};
+ghost use Rattle.linear_elim.specs.internal.Gathering.{found_all, rows_all};
 
 use crate::gathering::Gathering;
 use crate::joins::{Derived, joined};

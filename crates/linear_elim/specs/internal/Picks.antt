@@ -7,7 +7,7 @@ use Rattle.heyvl_num.specs.Rounding.{whole}
 use Rattle.linear_form.specs.Lin.{fits}
 use Rattle.linear_form.specs.RowLists.{is_numeric}
 use Rattle.linear_form.specs.GreedyPoint.{End, Interval, IsInside, IsChoice, IsBroken}
-use Rattle.linear_elim.specs.Joins.{IsDerived}
+use Rattle.linear_elim.specs.internal.DerivedRows.{IsDerived}
 use Rattle.linear_elim.specs.Elimination.{Step}
 use Rattle.linear_elim.specs.ChoiceNumbers.{end_of, end_fits}
 use Rattle.linear_elim.specs.internal.ChoiceSteps.{IsWithin, IsTightest}

@@ -1,5 +1,5 @@
 use Rattle.heyvl_syntax.proofs.comments.first_close.Given as goal
-use Rattle.heyvl_syntax.specs.Fronts.{close_from}
+use Rattle.heyvl_syntax.specs.internal.Fronts.{close_from}
 use Rattle.std.proofs.Common.{length, ◌+◌, ◌≡◌}
 
 abbrev pub invariant-bytes : goal.invariant-bytes

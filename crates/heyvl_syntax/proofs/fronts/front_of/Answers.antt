@@ -1,6 +1,6 @@
 use Rattle.heyvl_syntax.proofs.FrontIs.{front-inside, front-is}
 use Rattle.heyvl_syntax.proofs.fronts.front_of.Goals as goal
-use Rattle.heyvl_syntax.specs.Fronts.{IsInside, front_of}
+use Rattle.heyvl_syntax.specs.internal.Fronts.{IsInside, front_of}
 use Rattle.heyvl_syntax.specs.declared.fronts.Front.{Front}
 use Rattle.std.proofs.Common.{Err, IfOk, List, Ok, Result, length, subst, sym, ℕ, ◌≡◌}
 use Rattle.std.specs.declared.alloc.AllocError.{AllocError}

@@ -1,6 +1,6 @@
 use Rattle.heyvl_syntax.proofs.Tables.{none_kept}
 use Rattle.heyvl_syntax.proofs.keys.keys_from.Goals as goal
-use Rattle.heyvl_syntax.specs.Fronts.{all_keys, keys_from}
+use Rattle.heyvl_syntax.specs.internal.Fronts.{all_keys, keys_from}
 use Rattle.heyvl_syntax.specs.Keys.{key_text}
 use Rattle.std.proofs.Common.{[], ap, arith, false, nat_eq, not, refl, sym, true, ◌∷◌, ◌≡◌, ℕ}
 use Rattle.std.proofs.lemmas.Bool.Decides.{nat_tests}

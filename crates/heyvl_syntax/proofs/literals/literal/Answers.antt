@@ -1,7 +1,7 @@
 use Rattle.heyvl_syntax.proofs.Digits.{kept_in_limit, too_large_whole}
 use Rattle.heyvl_syntax.proofs.literals.literal.Goals as goal
 use Rattle.std.proofs.Common.{None, Some, sym, ◌∙◌, ◌≡◌}
-use Rattle.heyvl_syntax.specs.Fronts.{below_limit}
+use Rattle.heyvl_syntax.specs.internal.Fronts.{below_limit}
 use Rattle.heyvl_syntax.specs.Literals.{fraction, whole, with_digit, without_last_zeros}
 use Rattle.std.specs.List.{fold}
 

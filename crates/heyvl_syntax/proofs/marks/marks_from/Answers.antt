@@ -1,6 +1,6 @@
 use Rattle.heyvl_syntax.proofs.Tables.{none_kept}
 use Rattle.heyvl_syntax.proofs.marks.marks_from.Goals as goal
-use Rattle.heyvl_syntax.specs.Fronts.{marks_by_length, marks_from}
+use Rattle.heyvl_syntax.specs.internal.Fronts.{marks_by_length, marks_from}
 use Rattle.heyvl_syntax.specs.Marks.{mark_text}
 use Rattle.std.proofs.Common.{[], ap, arith, false, nat_eq, not, refl, sym, true, ◌∷◌, ◌≡◌, ℕ}
 use Rattle.std.proofs.lemmas.Bool.Decides.{nat_tests}

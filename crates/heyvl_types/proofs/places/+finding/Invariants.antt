@@ -2,7 +2,7 @@ use Rattle.heyvl_types.proofs.places.+finding.Given as goal
 use Rattle.heyvl_types.proofs.Finding.{acts_from, arms_from}
 use Rattle.heyvl_types.specs.PlainActs.{act_of, acts_of}
 use Rattle.heyvl_types.specs.Places.{in_order, inside}
-use Rattle.heyvl_types.specs.Finding.{Behind}
+use Rattle.heyvl_types.specs.internal.Finding.{Behind}
 
 -- The place is in the rest, by the number that is left.
 abbrev pub invariant-among-loop-act : goal.invariant-among-loop-act

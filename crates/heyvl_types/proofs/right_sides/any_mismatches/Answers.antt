@@ -1,6 +1,6 @@
 use Rattle.heyvl_syntax.specs.declared.types.TypeName.{TypeName}
 use Rattle.heyvl_types.proofs.right_sides.any_mismatches.Goals as goal
-use Rattle.heyvl_types.specs.Answers.{value_type}
+use Rattle.heyvl_types.specs.internal.Views.{value_type}
 use Rattle.heyvl_types.specs.internal.RightSideParts.{Types}
 use Rattle.heyvl_types.specs.internal.RightSideRules.{any_mismatches}
 use Rattle.std.proofs.Common.{List, [], drop, false, length, map, option_map, refl, sym, ◌∙◌, ◌≡◌, ◌∷◌}

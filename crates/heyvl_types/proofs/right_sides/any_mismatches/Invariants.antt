@@ -1,5 +1,5 @@
 use Rattle.heyvl_types.proofs.right_sides.any_mismatches.Given as goal
-use Rattle.heyvl_types.specs.Answers.{value_type}
+use Rattle.heyvl_types.specs.internal.Views.{value_type}
 use Rattle.heyvl_types.specs.internal.RightSideRules.{any_mismatches}
 use Rattle.std.proofs.Common.{drop, map, option_map, ◌≡◌}
 

@@ -1,6 +1,6 @@
 use Rattle.heyvl_types.proofs.typed_values.join_all.Given as goal
 use Rattle.heyvl_types.specs.internal.RightSideParts.{join_more}
-use Rattle.heyvl_types.specs.Answers.{value_type}
+use Rattle.heyvl_types.specs.internal.Views.{value_type}
 use Rattle.std.proofs.Common.{drop, map, option_map, ◌≡◌}
 
 -- The join with those that are left is that of all.

@@ -4,7 +4,7 @@ use Rattle.heyvl_types.specs.PlainActs.{terms_of}
 use Rattle.heyvl_types.specs.RightSides.{all_findings}
 use Rattle.heyvl_types.specs.StatementActs.{terms}
 use Rattle.heyvl_types.specs.internal.RightSideParts.{types_of}
-use Rattle.heyvl_types.specs.Answers.{value_type}
+use Rattle.heyvl_types.specs.internal.Views.{value_type}
 use Rattle.std.proofs.Common.{drop, map, option_map, take, ◌≡◌}
 
 -- Nothing is found so far, and what was read is what the expressions become that were visited.

@@ -1,6 +1,6 @@
 use Rattle.std.proofs.Common.{rules, arith, subst, sym, ◌∙◌}
 use Rattle.std.specs.List.{All}
-use Rattle.linear_elim.specs.Joins.{IsDerived}
+use Rattle.linear_elim.specs.internal.DerivedRows.{IsDerived}
 use Rattle.linear_elim.specs.internal.Outcomes.{gathering_of, outcome_of}
 use Rattle.linear_elim.proofs.Finishing.{none_left, ends_found, ends_many, ends_standing, ends_great, goes_on, ok_same}
 use Rattle.linear_elim.proofs.Keeping.{step-derived}

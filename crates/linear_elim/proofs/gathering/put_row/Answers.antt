@@ -1,5 +1,5 @@
 use Rattle.std.proofs.Common.{subst, sym, ◌∙◌, length, ap}
-use Rattle.linear_elim.specs.Steps.{IsPlace}
+use Rattle.linear_elim.specs.internal.Places.{IsPlace}
 use Rattle.linear_elim.proofs.Places.{put_last, put_stronger, put_weaker}
 use Rattle.linear_elim.proofs.Fingerprinting.{replaced}
 use Rattle.linear_elim.proofs.gathering.put_row.Goals as goal

@@ -1,6 +1,6 @@
 use Rattle.std.proofs.Common.{sym, subst, ◌∙◌}
 use Rattle.std.specs.List.{All}
-use Rattle.linear_elim.specs.Joins.{IsDerived}
+use Rattle.linear_elim.specs.internal.DerivedRows.{IsDerived}
 use Rattle.linear_elim.proofs.Numbers.{ok_map}
 use Rattle.linear_elim.proofs.FirstRows.{first-derived, decided, started}
 use Rattle.linear_elim.proofs.starting.contradiction_or_steps.Goals as goal

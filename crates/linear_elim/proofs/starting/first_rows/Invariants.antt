@@ -1,7 +1,8 @@
 use Rattle.std.proofs.Common.{◌≡◌, drop, []}
 use Rattle.std.specs.Prelude.{None}
 use Rattle.linear_elim.specs.internal.Fingerprints.{ArePlaces}
-use Rattle.linear_elim.specs.Elimination.{start, found_all, rows_all}
+use Rattle.linear_elim.specs.Elimination.{start}
+use Rattle.linear_elim.specs.internal.Gathering.{found_all, rows_all}
 use Rattle.linear_elim.proofs.starting.first_rows.Given as goal
 
 abbrev pub invariant-loop-i : goal.invariant-loop-i

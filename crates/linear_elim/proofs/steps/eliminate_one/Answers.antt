@@ -2,7 +2,8 @@ use Rattle.std.proofs.Common.{◌≡◌, sym, subst, ◌∙◌, true}
 use Rattle.std.specs.List.{All}
 use Rattle.std.proofs.lemmas.List.Elements.{All-filter, filter_passes}
 use Rattle.linear_form.specs.Terms.{coefficient}
-use Rattle.linear_elim.specs.Joins.{IsDerived, is_below_zero, is_above_zero}
+use Rattle.linear_elim.specs.Joins.{is_below_zero, is_above_zero}
+use Rattle.linear_elim.specs.internal.DerivedRows.{IsDerived}
 use Rattle.linear_elim.proofs.Joining.{step_found, step_rows}
 use Rattle.linear_elim.proofs.steps.eliminate_one.Goals as goal
 

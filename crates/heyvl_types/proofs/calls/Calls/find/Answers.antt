@@ -1,6 +1,7 @@
 use Rattle.heyvl_types.proofs.CallEntries.{copied_signature, find_entries}
 use Rattle.heyvl_types.proofs.calls.Calls.find.Goals as goal
-use Rattle.heyvl_types.specs.Signatures.{find_call, signature_of}
+use Rattle.heyvl_types.specs.Signatures.{find_call}
+use Rattle.heyvl_types.specs.internal.Views.{signature_of}
 use Rattle.std.proofs.Common.{ap, option_map, ◌∙◌}
 
 pub returns : goal.returns

@@ -1,6 +1,7 @@
 use Rattle.heyvl_types.proofs.ScopeEntries.{insert_entries, last_local}
 use Rattle.heyvl_types.proofs.scopes.Scope.declare.Goals as goal
-use Rattle.heyvl_types.specs.Scopes.{entries_of, with_local}
+use Rattle.heyvl_types.specs.Scopes.{with_local}
+use Rattle.heyvl_types.specs.internal.Views.{entries_of}
 use Rattle.std.proofs.Common.{ap, ◌∙◌}
 
 pub returns-clause-shown : goal.returns-clause-shown

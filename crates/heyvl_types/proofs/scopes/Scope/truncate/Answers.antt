@@ -1,6 +1,6 @@
 use Rattle.heyvl_types.proofs.ScopeEntries.{take_entries}
 use Rattle.heyvl_types.proofs.scopes.Scope.truncate.Goals as goal
-use Rattle.heyvl_types.specs.Scopes.{entries_of}
+use Rattle.heyvl_types.specs.internal.Views.{entries_of}
 use Rattle.std.proofs.Common.{ap, take, ◌∙◌}
 
 pub returns : goal.returns

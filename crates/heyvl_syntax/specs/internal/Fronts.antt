@@ -1,0 +1,117 @@
+-- What stands at the front of bytes, computed.
+use Rattle.heyvl_syntax.specs.Bytes.{is_letter, is_line_feed, is_point, is_white, is_word_byte}
+use Rattle.heyvl_syntax.specs.Comments.{closes_at, opens_block, opens_line}
+use Rattle.heyvl_syntax.specs.Keys.{key_text}
+use Rattle.heyvl_syntax.specs.Literals.{is_too_large, literal}
+use Rattle.heyvl_syntax.specs.Marks.{mark_text}
+use Rattle.heyvl_syntax.specs.declared.fronts.Front.TheVariants as fronts
+use Rattle.heyvl_syntax.specs.declared.fronts.Front.{Front}
+use Rattle.heyvl_syntax.specs.declared.keys.Key.TheVariants as keys
+use Rattle.heyvl_syntax.specs.declared.keys.Key.{Key}
+use Rattle.heyvl_syntax.specs.declared.marks.Mark.TheVariants as marks
+use Rattle.heyvl_syntax.specs.declared.marks.Mark.{Mark}
+use Rattle.heyvl_syntax.specs.declared.tokens.TokenKind.TheVariants as kinds
+use Rattle.std.specs.Char.{is_ascii_digit}
+use Rattle.std.specs.Cmp.Lexicographic.{pointwise}
+use Rattle.std.specs.List.{find, position_or_len, prefix_len, starts_with}
+use Rattle.std.specs.Prelude.{Bool, List, None, Option, Some, [], cond, false, drop, filter, length, nat_eq, nat_lt, suc, take, true, zero, ◌+◌, ◌==◌, ◌^◌, ◌||◌, ◌∷◌, ◌<◌, ◌≤◌, ℕ}
+
+-- The keys, in the language's order.
+abbrev pub all_keys : List Key
+all_keys =
+    keys.Proc ∷ keys.CoProc ∷ keys.Pre ∷ keys.Post ∷ keys.Var ∷ keys.If ∷ keys.Else ∷ keys.While ∷ keys.Assert
+    ∷ keys.Assume ∷ keys.CoAssert ∷ keys.CoAssume ∷ keys.Havoc ∷ keys.CoHavoc ∷ keys.Validate ∷ keys.CoValidate
+    ∷ keys.Reward ∷ keys.Tick ∷ keys.TrueWord ∷ keys.FalseWord ∷ keys.BoolWord ∷ keys.IntWord ∷ keys.UIntWord
+    ∷ keys.URealWord ∷ keys.EURealWord ∷ keys.RealWord ∷ keys.Ite ∷ keys.Flip ∷ keys.Unif ∷ keys.Choose ∷ keys.Sup
+    ∷ keys.Inf ∷ keys.Cap ∷ keys.Cup ∷ keys.Infty ∷ []
+
+-- The marks, the longer ones first.
+abbrev pub marks_by_length : List Mark
+marks_by_length =
+    marks.CoImply ∷ marks.Imply ∷ marks.Same ∷ marks.Differ ∷ marks.AtMost ∷ marks.AtLeast ∷ marks.AndAnd ∷ marks.OrOr
+    ∷ marks.Arrow ∷ marks.ParenLeft ∷ marks.ParenRight ∷ marks.BraceLeft ∷ marks.BraceRight ∷ marks.BracketLeft
+    ∷ marks.BracketRight ∷ marks.Comma ∷ marks.Colon ∷ marks.Semi ∷ marks.Dot ∷ marks.Assign ∷ marks.Less ∷ marks.More
+    ∷ marks.Plus ∷ marks.Minus ∷ marks.Star ∷ marks.Slash ∷ marks.Bang ∷ marks.Tilde ∷ marks.Question ∷ marks.AtSign
+    ∷ []
+
+-- The keys that begin with this byte.
+abbrev pub keys_from : ℕ → List Key
+keys_from first = filter (λ key. starts_with nat_eq (key_text key) (first ∷ [])) all_keys
+
+-- The key with this text.
+abbrev pub key_of : List ℕ → Option Key
+key_of text = find (λ key. pointwise nat_eq text (key_text key)) all_keys
+
+-- The marks that begin with this byte, the longer ones first.
+abbrev pub marks_from : ℕ → List Mark
+marks_from first = filter (λ mark. starts_with nat_eq (mark_text mark) (first ∷ [])) marks_by_length
+
+-- The longest mark at the front.
+abbrev pub mark_of : List ℕ → Option Mark
+mark_of bytes = find (λ mark. starts_with nat_eq bytes (mark_text mark)) marks_by_length
+
+-- The first place at which `*/` stands, where n bytes stand before these.
+abbrev pub close_from : ℕ → List ℕ → Option ℕ
+close_from n [] = None
+close_from n (b ∷ bs) = cond (closes_at (b ∷ bs) 0) (Some n) (close_from (n + 1) bs)
+
+abbrev pub first_close : List ℕ → Option ℕ
+first_close bytes = close_from 0 bytes
+
+abbrev pub block_front : Option ℕ → Front
+block_front None = fronts.Fault 2 2
+block_front (Some inner) = fronts.Blank (2 + inner + 2)
+
+-- A text of a letter, `_` or `\` with the letters, digits and `_` behind it; whether its first byte begins a word.
+abbrev pub word_front : Bool → List ℕ → Option Key → Front
+word_front begins text (Some key) = fronts.Token (kinds.Key key) (length text)
+word_front true text None = fronts.Token (kinds.Word text) (length text)
+word_front false text None = fronts.Fault 1 1
+
+-- A point and digits, as far as they stand at the front.
+abbrev pub with_point : ℕ → ℕ
+with_point zero = 0
+with_point (suc n) = suc (suc n)
+
+abbrev pub fraction_len : List ℕ → ℕ
+fraction_len [] = 0
+fraction_len (b ∷ bs) = cond (is_point b) (with_point (prefix_len is_ascii_digit bs)) 0
+
+abbrev pub number_len : List ℕ → ℕ
+number_len bytes =
+    prefix_len is_ascii_digit bytes + fraction_len (drop (prefix_len is_ascii_digit bytes) bytes)
+
+-- A number below 2^127.
+abbrev pub below_limit : ℕ → Option ℕ
+below_limit n = cond (nat_lt n (2 ^ 127)) (Some n) None
+
+abbrev pub number_front : List ℕ → Front
+number_front text =
+    cond (is_too_large text) (fronts.Fault 3 (length text)) (fronts.Token (kinds.Number (literal text)) (length text))
+
+abbrev pub mark_front : Option Mark → Front
+mark_front None = fronts.Fault 1 1
+mark_front (Some mark) = fronts.Token (kinds.Mark mark) (length (mark_text mark))
+
+abbrev pub word_text : List ℕ → List ℕ
+word_text [] = []
+word_text (b ∷ bs) = take (suc (prefix_len is_word_byte bs)) (b ∷ bs)
+
+abbrev pub number_text : List ℕ → List ℕ
+number_text bytes = take (number_len bytes) bytes
+
+abbrev pub front_of : List ℕ → Front
+front_of [] = fronts.End
+front_of (b ∷ bs) =
+    cond (is_white b) (fronts.Blank 1)
+    (cond (opens_line (b ∷ bs)) (fronts.Blank (position_or_len is_line_feed (b ∷ bs)))
+    (cond (opens_block (b ∷ bs)) (block_front (first_close (drop 2 (b ∷ bs))))
+    (cond (is_letter b || b == 92) (word_front (is_letter b) (word_text (b ∷ bs)) (key_of (word_text (b ∷ bs))))
+    (cond (is_ascii_digit b) (number_front (number_text (b ∷ bs))) (mark_front (mark_of (b ∷ bs)))))))
+
+-- The front has at least one and at most this many bytes.
+abbrev pub IsInside : ℕ → Front → Type 0
+IsInside len fronts.End = Unit {0}
+IsInside len (fronts.Blank n) = (0 < n) × (n ≤ len)
+IsInside len (fronts.Token kind n) = (0 < n) × (n ≤ len)
+IsInside len (fronts.Fault number n) = (0 < n) × (n ≤ len)

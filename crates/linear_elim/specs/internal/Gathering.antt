@@ -1,0 +1,29 @@
+-- Rows as they are gathered and the steps put before the rest, one at a time.
+use Rattle.linear_elim.specs.Elimination.{Step, Outcome, after_step}
+use Rattle.linear_elim.specs.Joins.{Derived}
+use Rattle.linear_elim.specs.Steps.{has_terms, put_row, is_contradiction}
+use Rattle.std.specs.Prelude.{List, [], ◌∷◌, cond, Option, Some, None}
+
+-- The steps put before those of the rest.
+unfoldable pub after_all : List Step → Outcome → Outcome
+after_all [] o = o
+after_all (s ∷ ss) o = after_step s (after_all ss o)
+
+-- What was found, and the rows, once another row is put in.
+abbrev pub or_else : Option Derived → Option Derived → Option Derived
+or_else None o = o
+or_else (Some c) o = Some c
+
+abbrev pub found_after : Derived → Option Derived → Option Derived
+found_after r o = or_else o (cond (is_contradiction r.row) (Some r) None)
+
+abbrev pub rows_after : Derived → List Derived → List Derived
+rows_after r ks = cond (has_terms r.row.terms) (put_row r ks) ks
+
+unfoldable pub found_all : List Derived → Option Derived → Option Derived
+found_all [] o = o
+found_all (d ∷ ds) o = found_all ds (found_after d o)
+
+unfoldable pub rows_all : List Derived → List Derived → List Derived
+rows_all [] ks = ks
+rows_all (d ∷ ds) ks = rows_all ds (rows_after d ks)
