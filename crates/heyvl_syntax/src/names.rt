@@ -1,25 +1,56 @@
 //! Names.
 
+ghost use Rattle.heyvl_syntax.specs.internal.Spellings.{spelled};
 ghost use Rattle.std.proofs.Common.{rules};
 ghost use Rattle.std.specs.Cmp.Lexicographic.{pointwise};
 ghost use Rattle.std.specs.Cmp.Rules.{comparing, hashing};
 ghost use Rattle.std.specs.Hash as fed;
-ghost use Rattle.std.specs.Prelude.{◌≡◌, IfOk, List, nat_eq, ℕ};
+ghost use Rattle.std.specs.Prelude.{◌≡◌, ◌≤◌, IfOk, List, length, nat_eq, ℕ};
 
 use std::alloc::{AllocError, Global};
 use std::hash::{Hash, Hasher};
 use std::marker::Model;
 
+/// How many bytes a name keeps in place.
+const IN_PLACE: usize = 22;
+
+/// The bytes of a name.
+#[derive(Drop)]
+pub(crate) enum Spelling {
+    /// As many bytes of the array as the number says.
+    Short(u8, [u8; IN_PLACE]),
+    /// More bytes than the array has.
+    Long(Box<Vec<u8>>),
+}
+
+/// The spelling of a text that fits in place.
+fn short_spelling(text: &[u8]) -> Spelling
+    requires { length text.now ≤ 22 }
+    ensures { spelled result ≡ text.now }
+{
+    let mut kept = [0; IN_PLACE];
+    kept[..text.len()].copy_from_slice(text);
+    Spelling::Short(text.len() as u8, kept)
+}
+
+/// The spelling of a text of any length.
+fn long_spelling(alloc: Global, text: &[u8]) -> Result<Spelling, AllocError>
+    ensures { IfOk result (λ spelling. spelled spelling ≡ text.now) }
+{
+    let bytes = Vec::from_slice(alloc, text)?;
+    Ok(Spelling::Long(Box::new(alloc, bytes)?))
+}
+
 /// A name: a list of bytes.
 #[derive(Drop)]
 pub struct Name {
-    bytes: Vec<u8>,
+    spelling: Spelling,
 }
 
 impl Model for Name {
     ghost Value = { List ℕ };
 
-    ghost view = { λ name. name.bytes.items };
+    ghost view = { λ name. spelled name.spelling };
 }
 
 impl PartialEq for Name {
@@ -28,7 +59,7 @@ impl PartialEq for Name {
     ghost laws = { Prim.search (comparing, rules) };
 
     fn eq(&self, other: &Name) -> bool {
-        self.bytes == other.bytes
+        self.as_bytes() == other.as_bytes()
     }
 }
 
@@ -42,7 +73,7 @@ impl Hash for Name {
     ghost respects_eq = { Prim.search (hashing, rules) };
 
     fn hash<H: Hasher>(&self, state: &mut H) {
-        self.bytes.hash(state);
+        self.as_bytes().hash(state);
     }
 }
 
@@ -51,23 +82,39 @@ impl Name {
     pub fn new(alloc: Global, bytes: &[u8]) -> Result<Name, AllocError>
         ensures { IfOk result (λ name. name ≡ bytes.now) }
     {
-        Ok(Name {
-            bytes: Vec::from_slice(alloc, bytes)?,
-        })
+        if bytes.len() <= IN_PLACE {
+            Ok(Name {
+                spelling: short_spelling(bytes),
+            })
+        } else {
+            Ok(Name {
+                spelling: long_spelling(alloc, bytes)?,
+            })
+        }
     }
 
     /// A name of its own that is equal to this one.
     pub fn copy(&self, alloc: Global) -> Result<Name, AllocError>
         ensures { IfOk result (λ copied. copied ≡ self.now) }
     {
-        Name::new(alloc, self.as_bytes())
+        match &self.spelling {
+            Spelling::Short(len, kept) => Ok(Name {
+                spelling: Spelling::Short(*len, *kept),
+            }),
+            Spelling::Long(bytes) => Ok(Name {
+                spelling: long_spelling(alloc, bytes.as_slice())?,
+            }),
+        }
     }
 
     /// The bytes of the name.
     pub fn as_bytes(&self) -> &[u8]
         ensures { result.now ≡ self.now }
     {
-        self.bytes.as_slice()
+        match &self.spelling {
+            Spelling::Short(len, kept) => &kept[..usize::from(*len).min(IN_PLACE)],
+            Spelling::Long(bytes) => bytes.as_slice(),
+        }
     }
 
     /// Copies of these names, in their order.
