@@ -5,6 +5,7 @@ use heyvl_num::{Ext, Frac};
 use heyvl_syntax::Span;
 
 /// A formula of HeyLo: a tree that has a number, or infinity, as its value in each state. Variables go by number.
+#[derive(Drop)]
 #[cycle(forms)]
 pub enum Form {
     Const(Ext),
@@ -58,44 +59,3 @@ pub enum Cond {
     /// The second condition where the first holds, else the third.
     Ite(Box<Cond>, Box<Cond>, Box<Cond>),
 }
-
-impl Drop for Form {
-    /// The parts end in calls of their own, so that each level of a deep form takes little stack.
-    #[cycle(dropping)]
-    fn drop(self) {
-        match self {
-            Form::Const(_) | Form::Var(_) => {}
-            Form::Sum(a, b)
-            | Form::Diff(a, b)
-            | Form::Cut(a, b)
-            | Form::Product(a, b, _)
-            | Form::Min(a, b)
-            | Form::Max(a, b)
-            | Form::Imply(a, b)
-            | Form::CoImply(a, b) => {
-                end_form(a);
-                end_form(b);
-            }
-            Form::Scale(_, a)
-            | Form::Validate(a)
-            | Form::CoValidate(a)
-            | Form::Bind(_, _, _, _, a) => end_form(a),
-            Form::Embed(g) | Form::Iverson(g) => end_cond(g),
-            Form::Select(g, a, b) => {
-                end_cond(g);
-                end_form(a);
-                end_form(b);
-            }
-        }
-    }
-}
-
-/// Ends a form in a box.
-#[cycle(dropping)]
-#[inline(never)]
-fn end_form(_form: Box<Form>) {}
-
-/// Ends a condition in a box.
-#[cycle(dropping)]
-#[inline(never)]
-fn end_cond(_cond: Box<Cond>) {}
