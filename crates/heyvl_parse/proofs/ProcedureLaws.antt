@@ -3,7 +3,7 @@ use Rattle.heyvl_parse.proofs.Lawful.{Both, IsTest, Laws, each_laws, either_firs
 use Rattle.heyvl_parse.proofs.Local.{local_one}
 use Rattle.heyvl_parse.proofs.Right.{Holds, Right, RightAt, Some_text, nowhere, right_one, right_type, some_type, some_word}
 use Rattle.heyvl_parse.proofs.RightLaws.{expr_laws, key_test, mark_test, some_full, some_lead, word_laws}
-use Rattle.heyvl_parse.proofs.StatementLaws.{OfKind, kind_laws, led_starts, type_laws}
+use Rattle.heyvl_parse.proofs.KeyLaws.{OfKind, kind_laws, led_starts, type_laws}
 use Rattle.heyvl_parse.specs.internal.Combinators.{each, either, is_operator, is_there, kind, lead, list0, no_kind, optional, spanned, starts, trail}
 use Rattle.heyvl_parse.specs.internal.Procedures.{Parts, clause, clause_by, clause_of, clause_tree, clauses, divide, divided, is_clause, key_clause, key_proc, note, note_of, opening, param, param_tree, params, proc_of, procedure, procedure_tree, promise, signature, word_note}
 use Rattle.heyvl_parse.specs.internal.Reading.{Got, Read, is_mark, mapped, pair, type_name, word}

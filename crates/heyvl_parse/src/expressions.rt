@@ -220,12 +220,8 @@ fn choice(alloc: Global, place: Span, tokens: &[Token]) -> Result<(Expr, &[Token
     ensures shorter { IfOk result (λ x. length x.1.now < length tokens.now) }
 {
     let (_, rest) = expect(Mark::ParenLeft, tokens)?;
-    let (test, rest) = whole(alloc, rest)?;
-    let (_, rest) = expect(Mark::Comma, rest)?;
-    let (yes, rest) = whole(alloc, rest)?;
-    let (_, rest) = expect(Mark::Comma, rest)?;
+    let (test, _, rest) = enclosed(alloc, Mark::Comma, rest)?;
+    let (yes, _, rest) = enclosed(alloc, Mark::Comma, rest)?;
     let (other, close, rest) = enclosed(alloc, Mark::ParenRight, rest)?;
-    let test = test.boxed(alloc)?;
-    let yes = yes.boxed(alloc)?;
     Ok((Expr::Choice(test, yes, other, reach(place, close.to)), rest))
 }

@@ -293,10 +293,9 @@ fn looped(alloc: Global, tokens: &[Token]) -> Result<(Stmt, &[Token]), PartStop>
 {
     let (rules, rest) = rules(alloc, tokens)?;
     let (_, rest) = expect_key(Key::While, rest)?;
-    let (guard, rest) = whole(alloc, rest)?;
-    let (body, rest) = block(alloc, rest)?;
+    let (arm, rest) = arm(alloc, rest)?;
     Ok((
-        Stmt::While(rules, guard, body, span_between(tokens, rest)),
+        Stmt::While(rules, arm.guard, arm.body, span_between(tokens, rest)),
         rest,
     ))
 }

@@ -1,8 +1,11 @@
+use Rattle.heyvl_parse.proofs.Choices.{choice_is}
 use Rattle.heyvl_parse.proofs.Climbing.{climb_ends, climb_on, climb_stops, full_climbed, leads_first, next_within, passed}
 use Rattle.heyvl_parse.proofs.Fuel.{by_fuel}
 use Rattle.heyvl_parse.proofs.expressions.+expressions.Goals as goal
 use Rattle.std.proofs.Common.{Bor, Err, List, Ok, arith, length, refl, rules, suc, ◌<◌}
+use Rattle.heyvl_parse.specs.internal.Reading.{reading}
 use Rattle.heyvl_parse.specs.internal.Results.{Gives}
+use Rattle.heyvl_syntax.proofs.exported.PlainTreesAre.{plain_expressions}
 use Rattle.heyvl_syntax.specs.Expressions.{expression}
 use Rattle.heyvl_syntax.specs.declared.expressions.Expr.{Expr}
 use Rattle.heyvl_syntax.specs.declared.tokens.Token.{Token}
@@ -70,3 +73,60 @@ whole-returns-in-None-clause-value t c = by_fuel _ _ (λ m h. rw c.in-None.ensur
 pub whole-returns-in-Some-clause-value : goal.whole-returns-in-Some-clause-value
 whole-returns-in-Some-clause-value t c = by_fuel _ _ (λ m h.
     rw c.in-Some.ensures.value (c.bound.ensures.value m (omega (arith, c.in-Some.ensures.shorter))))
+
+pub choice-returns-in_err-rest-clause-value : goal.choice-returns-in_err-rest-clause-value
+choice-returns-in_err-rest-clause-value t c = λ n h. rw (choice_is (reading n) c.args.place c.args.tokens.now) (grind (arith, common_steps, c.in_err-rest.ensures.value))
+
+pub choice-returns-in_err-test-clause-value : goal.choice-returns-in_err-test-clause-value
+choice-returns-in_err-test-clause-value t c = λ n h. rw (choice_is (reading n) c.args.place c.args.tokens.now, c.in_ok-rest.ensures.value) (grind (arith, common_steps, c.in_err-test.ensures.value n (omega (arith, c.in_ok-rest.ensures.shorter))))
+
+pub choice-returns-in_err-yes-clause-value : goal.choice-returns-in_err-yes-clause-value
+choice-returns-in_err-yes-clause-value t c = λ n h. rw (choice_is (reading n) c.args.place c.args.tokens.now, c.in_ok-rest.ensures.value, c.in_ok-test.ensures.value n (omega (arith, c.in_ok-rest.ensures.shorter))) (grind (arith, common_steps, c.in_err-yes.ensures.value n (omega (arith, c.in_ok-rest.ensures.shorter, c.in_ok-test.ensures.shorter))))
+
+pub choice-returns-in_err-other-clause-value : goal.choice-returns-in_err-other-clause-value
+choice-returns-in_err-other-clause-value t c = λ n h. rw (choice_is (reading n) c.args.place c.args.tokens.now, c.in_ok-rest.ensures.value, c.in_ok-test.ensures.value n (omega (arith, c.in_ok-rest.ensures.shorter)), c.in_ok-yes.ensures.value n (omega (arith, c.in_ok-rest.ensures.shorter, c.in_ok-test.ensures.shorter))) (grind (arith, common_steps, c.in_err-other.ensures.value n (omega (arith, c.in_ok-rest.ensures.shorter, c.in_ok-test.ensures.shorter, c.in_ok-yes.ensures.shorter))))
+
+pub choice-returns-clause-value : goal.choice-returns-clause-value
+choice-returns-clause-value t c = λ n h. rw (choice_is (reading n) c.args.place c.args.tokens.now, c.in_ok-rest.ensures.value, c.in_ok-test.ensures.value n (omega (arith, c.in_ok-rest.ensures.shorter)), c.in_ok-yes.ensures.value n (omega (arith, c.in_ok-rest.ensures.shorter, c.in_ok-test.ensures.shorter)), c.in_ok-other.ensures.value n (omega (arith, c.in_ok-rest.ensures.shorter, c.in_ok-test.ensures.shorter, c.in_ok-yes.ensures.shorter))) (rw (plain_expressions.choice c.in_ok-test.test c.in_ok-yes.yes c.in_ok-other.other c.reach.result, c.reach.ensures) refl)
+
+pub choice-returns-clause-shorter : goal.choice-returns-clause-shorter
+choice-returns-clause-shorter t c = omega (arith, c.in_ok-rest.ensures.shorter, c.in_ok-test.ensures.shorter, c.in_ok-yes.ensures.shorter, c.in_ok-other.ensures.shorter)
+
+pub bound-returns-in_err-name-clause-value : goal.bound-returns-in_err-name-clause-value
+bound-returns-in_err-name-clause-value t c = λ n h. grind (arith, common_steps, c.in_err-name.ensures.value)
+
+pub bound-returns-in_err-rest-clause-value : goal.bound-returns-in_err-rest-clause-value
+bound-returns-in_err-rest-clause-value t c = λ n h. rw (c.in_ok-name.ensures.value) (grind (arith, common_steps, c.in_err-rest.ensures.value))
+
+pub bound-returns-in_err-ty-clause-value : goal.bound-returns-in_err-ty-clause-value
+bound-returns-in_err-ty-clause-value t c = λ n h. rw (c.in_ok-name.ensures.value, c.in_ok-rest.ensures.value) (grind (arith, common_steps, c.in_err-ty.ensures.value))
+
+pub bound-returns-in_err-rest-2-clause-value : goal.bound-returns-in_err-rest-2-clause-value
+bound-returns-in_err-rest-2-clause-value t c = λ n h. rw (c.in_ok-name.ensures.value, c.in_ok-rest.ensures.value, c.in_ok-ty.ensures.value) (grind (arith, common_steps, c.in_err-rest-2.ensures.value))
+
+pub bound-returns-in_err-inner-clause-value : goal.bound-returns-in_err-inner-clause-value
+bound-returns-in_err-inner-clause-value t c = λ n h. rw (c.in_ok-name.ensures.value, c.in_ok-rest.ensures.value, c.in_ok-ty.ensures.value, c.in_ok-rest-2.ensures.value) (grind (arith, common_steps, c.in_err-inner.ensures.value n (omega (arith, c.in_ok-name.ensures.shorter, c.in_ok-rest.ensures.shorter, c.in_ok-ty.ensures.shorter, c.in_ok-rest-2.ensures.shorter))))
+
+pub bound-returns-clause-shorter : goal.bound-returns-clause-shorter
+bound-returns-clause-shorter t c = omega (arith, c.in_ok-name.ensures.shorter, c.in_ok-rest.ensures.shorter, c.in_ok-ty.ensures.shorter, c.in_ok-rest-2.ensures.shorter, c.in_ok-inner.ensures.shorter)
+
+pub enclosed-returns-in_err-inner-clause-value : goal.enclosed-returns-in_err-inner-clause-value
+enclosed-returns-in_err-inner-clause-value t c = λ n h. grind (arith, common_steps, c.in_err-inner.ensures.value n (omega arith))
+
+pub enclosed-returns-in_err-place-clause-value : goal.enclosed-returns-in_err-place-clause-value
+enclosed-returns-in_err-place-clause-value t c = λ n h. rw (c.in_ok-inner.ensures.value n (omega arith)) (grind (arith, common_steps, c.in_err-place.ensures.value))
+
+pub enclosed-returns-clause-value : goal.enclosed-returns-clause-value
+enclosed-returns-clause-value t c = λ n h. rw (c.in_ok-inner.ensures.value n (omega arith), c.in_ok-place.ensures.value) (rw c.in_ok-boxed.ensures refl)
+
+pub enclosed-returns-clause-shorter : goal.enclosed-returns-clause-shorter
+enclosed-returns-clause-shorter t c = omega (arith, c.in_ok-inner.ensures.shorter, c.in_ok-place.ensures.shorter)
+
+pub prefixed-returns-in_err-inner-clause-value : goal.prefixed-returns-in_err-inner-clause-value
+prefixed-returns-in_err-inner-clause-value t c = λ n h. grind (arith, common_steps, c.in_err-inner.ensures.value n (omega arith))
+
+pub prefixed-returns-clause-value : goal.prefixed-returns-clause-value
+prefixed-returns-clause-value t c = λ n h. rw (c.in_ok-inner.ensures.value n (omega arith)) (rw (plain_expressions.unary c.args.op c.in_ok-boxed.field-0 c.reach-place.result, c.in_ok-boxed.ensures, c.reach-place.ensures, c.end_of.ensures) refl)
+
+pub prefixed-returns-clause-shorter : goal.prefixed-returns-clause-shorter
+prefixed-returns-clause-shorter t c = omega (arith, c.in_ok-inner.ensures.shorter)

@@ -1,4 +1,4 @@
-use Rattle.heyvl_parse.proofs.StatementLaws.{block_laws}
+use Rattle.heyvl_parse.proofs.BlockLaws.{block_laws}
 use Rattle.heyvl_parse.proofs.FileLaws.{fault_clause, file_laws, found_clause}
 use Rattle.heyvl_parse.proofs.file_reader.spelled.Goals as goal
 use Rattle.heyvl_parse.specs.internal.Statements.{braced, stmts}

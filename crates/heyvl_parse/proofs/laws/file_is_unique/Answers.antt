@@ -1,4 +1,4 @@
-use Rattle.heyvl_parse.proofs.StatementLaws.{block_laws}
+use Rattle.heyvl_parse.proofs.BlockLaws.{block_laws}
 use Rattle.heyvl_parse.proofs.FileLaws.{file_laws, file_unique}
 use Rattle.heyvl_parse.proofs.laws.file_is_unique.Goals as goal
 use Rattle.heyvl_parse.specs.internal.Statements.{braced, stmts}

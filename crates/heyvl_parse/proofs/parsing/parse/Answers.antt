@@ -1,4 +1,4 @@
-use Rattle.heyvl_parse.proofs.StatementLaws.{block_laws}
+use Rattle.heyvl_parse.proofs.BlockLaws.{block_laws}
 use Rattle.heyvl_parse.proofs.FileLaws.{file_laws, file_unique}
 use Rattle.heyvl_parse.proofs.ParseClauses.{few, only_fault, only_file}
 use Rattle.heyvl_parse.proofs.parsing.parse.Goals as goal

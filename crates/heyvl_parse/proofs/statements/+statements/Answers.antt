@@ -27,14 +27,11 @@ block-returns-clause-value t c = λ n h. rw (c.in_ok-rest.ensures.value, c.in_ok
 pub looped-returns-in_err-rest-clause-value : goal.looped-returns-in_err-rest-clause-value
 looped-returns-in_err-rest-clause-value t c = λ n h. rw (c.in_ok-rules.ensures.value (suc n) (omega arith)) (grind (arith, common_steps, c.in_err-rest.ensures.value))
 
-pub looped-returns-in_err-guard-clause-value : goal.looped-returns-in_err-guard-clause-value
-looped-returns-in_err-guard-clause-value t c = λ n h. rw (c.in_ok-rules.ensures.value (suc n) (omega arith), c.in_ok-rest.ensures.value) (grind (arith, common_steps, c.in_err-guard.ensures.value (suc n) (omega (arith, c.in_ok-rules.ensures.shorter, c.in_ok-rest.ensures.shorter))))
-
-pub looped-returns-in_err-body-clause-value : goal.looped-returns-in_err-body-clause-value
-looped-returns-in_err-body-clause-value t c = λ n h. rw (c.in_ok-rules.ensures.value (suc n) (omega arith), c.in_ok-rest.ensures.value, c.in_ok-guard.ensures.value (suc n) (omega (arith, c.in_ok-rules.ensures.shorter, c.in_ok-rest.ensures.shorter))) (grind (arith, common_steps, c.in_err-body.ensures.value n (omega (arith, c.in_ok-rules.ensures.shorter, c.in_ok-rest.ensures.shorter, c.in_ok-guard.ensures.shorter))))
+pub looped-returns-in_err-arm-clause-value : goal.looped-returns-in_err-arm-clause-value
+looped-returns-in_err-arm-clause-value t c = λ n h. rw (c.in_ok-rules.ensures.value (suc n) (omega arith), c.in_ok-rest.ensures.value) (grind (arith, common_steps, c.in_err-arm.ensures.value n (omega (arith, c.in_ok-rules.ensures.shorter, c.in_ok-rest.ensures.shorter))))
 
 pub looped-returns-clause-value : goal.looped-returns-clause-value
-looped-returns-clause-value t c = λ n h. rw (c.in_ok-rules.ensures.value (suc n) (omega arith), c.in_ok-rest.ensures.value, c.in_ok-guard.ensures.value (suc n) (omega (arith, c.in_ok-rules.ensures.shorter, c.in_ok-rest.ensures.shorter)), c.in_ok-body.ensures.value n (omega (arith, c.in_ok-rules.ensures.shorter, c.in_ok-rest.ensures.shorter, c.in_ok-guard.ensures.shorter))) (rw (plain_statements.loop c.in_ok-rules.rules c.in_ok-guard.guard c.in_ok-body.body c.span_between.result, c.span_between.ensures) refl)
+looped-returns-clause-value t c = λ n h. rw (c.in_ok-rules.ensures.value (suc n) (omega arith), c.in_ok-rest.ensures.value, c.in_ok-arm.ensures.value n (omega (arith, c.in_ok-rules.ensures.shorter, c.in_ok-rest.ensures.shorter))) (rw (plain_statements.loop c.in_ok-rules.rules c.in_ok-arm.arm.guard c.in_ok-arm.arm.body c.span_between.result, c.span_between.ensures) (rw plain_statements.guarded refl))
 
 pub picked-returns-in_err-left-clause-value : goal.picked-returns-in_err-left-clause-value
 picked-returns-in_err-left-clause-value t c = λ n h. rw (c.in_ok-up.ensures.value) (grind (arith, common_steps, c.in_err-left.ensures.value n (omega (arith, c.in_ok-up.ensures.shorter))))
