@@ -9,7 +9,7 @@ use Rattle.std.specs.List.{All}
 use Rattle.std.proofs.lemmas.List.Elements.{All-nil, All-cons, All-head, All-tail}
 use Rattle.linear_form.specs.Row.{Row}
 use Rattle.linear_form.specs.Combination.{row_at, combined, IsContradiction}
-use Rattle.linear_form.specs.internal.Columns.{number_in, AreMultipliers, IsBeyond, Vanishes, IsUnmet}
+use Rattle.linear_form.specs.internal.Columns.{number_in, AreMultipliers, IsBeyondAt, Vanishes, IsUnmet}
 use Rattle.linear_form.specs.declared.multipliers.Column.TheVariants.{Coefficient}
 use Rattle.linear_form.specs.Terms.{coefficient}
 use Rattle.linear_form.proofs.Normal.{coefficient-cons, coefficient-nil}
@@ -34,41 +34,41 @@ next_place i = omega arith
 pub beyond_step : (ts : List (ℕ × ℤ)) (i bound more : ℕ) (d : ℕ × ℤ) → i < length ts → All (λ t. t.0 < bound) (take i ts) → bound ≤ more → (get_or ts i d).0 < more → All (λ t. t.0 < more) (take (i + 1) ts)
 beyond_step ts i bound more d l h a b = subst (λ n. All (λ t. t.0 < more) (take n ts)) (next_place i) (all_next (λ t. t.0 < bound) (λ t. t.0 < more) ts i d l h (λ t e. omega (arith, e, a)) b)
 
-raised : (bound more : ℕ) (r : Row) → bound ≤ more → IsBeyond bound r → IsBeyond more r
-raised bound more r a h = record { below = go r.terms h.below }
-  where
-    go : (ts : List (ℕ × ℤ)) → All (λ t. t.0 < bound) ts → All (λ t. t.0 < more) ts
-    go [] k = All-nil _
-    go (t ∷ ts) k = let e = All-head (λ t. t.0 < bound) t ts k in All-cons (λ t. t.0 < more) t ts (omega (arith, e, a)) (go ts (All-tail (λ t. t.0 < bound) t ts k))
+all_raised : (bound more : ℕ) (ts : List (ℕ × ℤ)) → bound ≤ more → All (λ t. t.0 < bound) ts → All (λ t. t.0 < more) ts
+all_raised bound more [] a h = All-nil _
+all_raised bound more (t ∷ ts) a h = let e = All-head (λ t. t.0 < bound) t ts h in All-cons (λ t. t.0 < more) t ts (omega (arith, e, a)) (all_raised bound more ts a (All-tail (λ t. t.0 < bound) t ts h))
 
-pub rows_step : (rows : List Row) (i bound other more : ℕ) (d : Row) → i < length rows → All (IsBeyond bound) (take i rows) → bound ≤ more → other ≤ more → All (λ t. t.0 < other) (get_or rows i d).terms → All (IsBeyond more) (take (i + 1) rows)
-rows_step rows i bound other more d l h a b k = subst (λ n. All (IsBeyond more) (take n rows)) (next_place i) (all_next (IsBeyond bound) (IsBeyond more) rows i d l h (λ r e. raised bound more r a e) (raised other more (get_or rows i d) b (record { below = k })))
+raised : (bound more : ℕ) (rows : List Row) (m : ℕ × ℕ) → bound ≤ more → IsBeyondAt bound rows m → IsBeyondAt more rows m
+raised bound more rows m a h = record { below = all_raised bound more (row_at rows m.0).terms a h.below }
+
+pub rows_step : (rows : List Row) (ms : List (ℕ × ℕ)) (i bound other more : ℕ) (d : ℕ × ℕ) → i < length ms → All (IsBeyondAt bound rows) (take i ms) → bound ≤ more → other ≤ more → All (λ t. t.0 < other) (row_at rows (get_or ms i d).0).terms → All (IsBeyondAt more rows) (take (i + 1) ms)
+rows_step rows ms i bound other more d l h a b k = subst (λ n. All (IsBeyondAt more rows) (take n ms)) (next_place i) (all_next (IsBeyondAt bound rows) (IsBeyondAt more rows) ms i d l h (λ m e. raised bound more rows m a e) (raised other more rows (get_or ms i d) b (record { below = k })))
 
 absent : (x bound : ℕ) (ts : List (ℕ × ℤ)) → bound ≤ x → All (λ t. t.0 < bound) ts → coefficient x ts ≡ pos 0
 absent x bound [] a h = coefficient-nil x
 absent x bound (t ∷ ts) a h = let e = All-head (λ t. t.0 < bound) t ts h in coefficient-cons x t ts ∙ ap (λ b. cond b t.1 (pos 0) +ℤ coefficient x ts) (differ t.0 x (λ k. absurd (omega (arith, e, a, k)))) ∙ drop_zero (coefficient x ts) ∙ absent x bound ts a (All-tail (λ t. t.0 < bound) t ts h)
 
-absent_at : (x bound : ℕ) (rows : List Row) (i : ℕ) → bound ≤ x → All (IsBeyond bound) rows → coefficient x (row_at rows i).terms ≡ pos 0
-absent_at x bound [] i a h = coefficient-nil x
-absent_at x bound (r ∷ rows) zero a h = absent x bound r.terms a (All-head (IsBeyond bound) r rows h).below
-absent_at x bound (r ∷ rows) (suc i) a h = absent_at x bound rows i a (All-tail (IsBeyond bound) r rows h)
-
 times_zero : (m : ℤ) → (m *ℤ pos 0) +ℤ pos 0 ≡ pos 0
 times_zero m = rw (*ℤ-zero m) refl
 
-all_absent : (x bound : ℕ) (ms : List (ℕ × ℕ)) (rows : List Row) → bound ≤ x → All (IsBeyond bound) rows → combined (number_in (Coefficient x)) ms rows ≡ pos 0
+all_absent : (x bound : ℕ) (ms : List (ℕ × ℕ)) (rows : List Row) → bound ≤ x → All (IsBeyondAt bound rows) ms → combined (number_in (Coefficient x)) ms rows ≡ pos 0
 unfolding combined
 all_absent x bound [] rows a h = refl
-all_absent x bound (m ∷ ms) rows a h = ap₂ (λ y z. (pos m.1 *ℤ y) +ℤ z) (absent_at x bound rows m.0 a h) (all_absent x bound ms rows a h) ∙ times_zero (pos m.1)
+all_absent x bound (m ∷ ms) rows a h = ap₂ (λ y z. (pos m.1 *ℤ y) +ℤ z) (absent x bound (row_at rows m.0).terms a (All-head (IsBeyondAt bound rows) m ms h).below) (all_absent x bound ms rows a (All-tail (IsBeyondAt bound rows) m ms h)) ∙ times_zero (pos m.1)
 
--- A variable beyond all of the rows' vanishes.
-pub beyond_vanishes : (x bound : ℕ) (ms : List (ℕ × ℕ)) (rows : List Row) → bound ≤ x → All (IsBeyond bound) rows → Vanishes x ms rows
+all_taken : {X : Type 0} (P : X → Type 0) (xs : List X) (k : ℕ) → All P xs → All P (take k xs)
+all_taken P xs zero h = All-nil P
+all_taken P [] (suc k) h = All-nil P
+all_taken P (x ∷ xs) (suc k) h = All-cons P x (take k xs) (All-head P x xs h) (all_taken P xs k (All-tail P x xs h))
+
+-- A variable beyond those of the rows that are used vanishes.
+pub beyond_vanishes : (x bound : ℕ) (ms : List (ℕ × ℕ)) (rows : List Row) → bound ≤ x → All (IsBeyondAt bound rows) ms → Vanishes x ms rows
 beyond_vanishes x bound ms rows a h = record {
-  wide = record { wide = λ k. subst (λ z. unsigned_abs z < 2 ^ 126) (sym (all_absent x bound (take k ms) rows a h)) (omega arith) };
+  wide = record { wide = λ k. subst (λ z. unsigned_abs z < 2 ^ 126) (sym (all_absent x bound (take k ms) rows a (all_taken (IsBeyondAt bound rows) ms k h))) (omega arith) };
   zero = all_absent x bound ms rows a h;
 }
 
-pub vanish_all : (bound : ℕ) (ms : List (ℕ × ℕ)) (rows : List Row) → All (IsBeyond bound) rows → ((x : ℕ) → x < bound → Vanishes x ms rows) → (x : ℕ) → Vanishes x ms rows
+pub vanish_all : (bound : ℕ) (ms : List (ℕ × ℕ)) (rows : List Row) → All (IsBeyondAt bound rows) ms → ((x : ℕ) → x < bound → Vanishes x ms rows) → (x : ℕ) → Vanishes x ms rows
 vanish_all bound ms rows h k x = go (ltb x bound) refl
   where
     under : (v w : ℕ) → ltb v w ≡ true → v < w

@@ -111,24 +111,24 @@ variable_kept x = record { sized = variable_sized x; normal = (is_zero-one, (tt,
 picked : (a : Lin) (strict : Bool) (x y : Linear) → IsKeptValue x → IsKeptValue y → EachResult IsKeptValue (next (is_below a strict) (λ t. done (cond t x y)))
 picked a strict x y h k = each_after (is_below a strict) _ IsKeptValue (λ t. of_two IsKeptValue t x y h k)
 
-sum_kept : (x y : Linear) → IsKeptValue x → IsKeptValue y → EachResult IsKeptValue (q.sum x y)
+pub sum_kept : (x y : Linear) → IsKeptValue x → IsKeptValue y → EachResult IsKeptValue (q.sum x y)
 sum_kept (Some a) (Some b) h k = sized_kept (plus a b) (plus_normal a b h.normal)
 sum_kept (Some a) None h k = tt
 sum_kept None (Some b) h k = tt
 sum_kept None None h k = tt
 
-difference_kept : (x y : Linear) → IsKeptValue x → IsKeptValue y → EachResult IsKeptValue (q.difference x y)
+pub difference_kept : (x y : Linear) → IsKeptValue x → IsKeptValue y → EachResult IsKeptValue (q.difference x y)
 difference_kept (Some a) (Some b) h k = sized_kept (minus a b) (minus_normal a b h.normal)
 difference_kept (Some a) None h k = zero_kept
 difference_kept None y h k = tt
 
-cut_kept : (x y : Linear) → IsKeptValue x → IsKeptValue y → EachResult IsKeptValue (q.cut x y)
+pub cut_kept : (x y : Linear) → IsKeptValue x → IsKeptValue y → EachResult IsKeptValue (q.cut x y)
 cut_kept (Some a) (Some b) h k = each_after (is_below (minus b a) false) _ IsKeptValue (λ t. of_two (EachResult IsKeptValue) t (sized (Some (minus a b))) (done q.zero) (sized_kept (minus a b) (minus_normal a b h.normal)) zero_kept)
 cut_kept (Some a) None h k = zero_kept
 cut_kept None (Some b) h k = tt
 cut_kept None None h k = zero_kept
 
-scale_kept : (w : Rational) (x : Linear) → IsKeptValue x → EachResult IsKeptValue (q.scale w x)
+pub scale_kept : (w : Rational) (x : Linear) → IsKeptValue x → EachResult IsKeptValue (q.scale w x)
 scale_kept w (Some a) h = sized_kept (scaled w a) (scaled_normal w a h.normal)
 scale_kept w None h = of_two IsKeptValue (is_zeroʳ w) q.zero None zero_kept tt
 
@@ -137,45 +137,45 @@ finite_product_kept [] us a b h k = sized_kept (scaled a.rest b) (scaled_normal 
 finite_product_kept (t ∷ ts) [] a b h k = sized_kept (scaled b.rest a) (scaled_normal b.rest a h)
 finite_product_kept (t ∷ ts) (u ∷ us) a b h k = tt
 
-product_kept : (x y : Linear) → IsKeptValue x → IsKeptValue y → EachResult IsKeptValue (q.product x y)
+pub product_kept : (x y : Linear) → IsKeptValue x → IsKeptValue y → EachResult IsKeptValue (q.product x y)
 product_kept (Some a) (Some b) h k = finite_product_kept a.terms b.terms a b h.normal k.normal
 product_kept (Some a) None h k = picked a false q.zero None zero_kept tt
 product_kept None (Some b) h k = picked b false q.zero None zero_kept tt
 product_kept None None h k = tt
 
-min_kept : (x y : Linear) → IsKeptValue x → IsKeptValue y → EachResult IsKeptValue (q.min x y)
+pub min_kept : (x y : Linear) → IsKeptValue x → IsKeptValue y → EachResult IsKeptValue (q.min x y)
 min_kept (Some a) (Some b) h k = picked (minus a b) false (Some a) (Some b) h k
 min_kept (Some a) None h k = h
 min_kept None (Some b) h k = k
 min_kept None None h k = tt
 
-max_kept : (x y : Linear) → IsKeptValue x → IsKeptValue y → EachResult IsKeptValue (q.max x y)
+pub max_kept : (x y : Linear) → IsKeptValue x → IsKeptValue y → EachResult IsKeptValue (q.max x y)
 max_kept (Some a) (Some b) h k = picked (minus a b) false (Some b) (Some a) k h
 max_kept (Some a) None h k = tt
 max_kept None (Some b) h k = tt
 max_kept None None h k = tt
 
-imply_kept : (x y : Linear) → IsKeptValue x → IsKeptValue y → EachResult IsKeptValue (q.imply x y)
+pub imply_kept : (x y : Linear) → IsKeptValue x → IsKeptValue y → EachResult IsKeptValue (q.imply x y)
 imply_kept (Some a) (Some b) h k = picked (minus a b) false None (Some b) tt k
 imply_kept (Some a) None h k = tt
 imply_kept None (Some b) h k = k
 imply_kept None None h k = tt
 
-co_imply_kept : (x y : Linear) → IsKeptValue x → IsKeptValue y → EachResult IsKeptValue (q.co_imply x y)
+pub co_imply_kept : (x y : Linear) → IsKeptValue x → IsKeptValue y → EachResult IsKeptValue (q.co_imply x y)
 co_imply_kept (Some a) (Some b) h k = picked (minus b a) false q.zero (Some b) zero_kept k
 co_imply_kept (Some a) None h k = tt
 co_imply_kept None (Some b) h k = zero_kept
 co_imply_kept None None h k = zero_kept
 
-validate_kept : (x : Linear) → IsKeptValue x → IsKeptValue (q.validate x)
+pub validate_kept : (x : Linear) → IsKeptValue x → IsKeptValue (q.validate x)
 validate_kept (Some a) h = zero_kept
 validate_kept None h = tt
 
-co_validate_kept : (x : Linear) → IsKeptValue x → EachResult IsKeptValue (q.co_validate x)
+pub co_validate_kept : (x : Linear) → IsKeptValue x → EachResult IsKeptValue (q.co_validate x)
 co_validate_kept (Some a) h = picked a false q.zero None zero_kept tt
 co_validate_kept None h = tt
 
-number_kept : (v : Value) → EachResult IsKeptValue (sized (q.number v))
+pub number_kept : (v : Value) → EachResult IsKeptValue (sized (q.number v))
 number_kept (finite x) = sized_kept (constant x) tt
 number_kept infinite = tt
 

@@ -41,13 +41,20 @@ pub mod Narrow
 mod KeptParts
 mod Products
 mod OperatorRuns
-mod Asks
 mod Positions
 mod PartialSums
 mod Coefficients
 mod RowsOfClaims
 mod SignRows
 mod FoundRows
+mod Assembled
+mod Parts
+mod GoingOn
+mod KeptOperators
+mod Resuming
+mod GrowingRows
+pub mod PathRowSteps
+pub mod PlaceRuns
 mod GreedyChoices
 mod GreedyUnique
 pub mod exported

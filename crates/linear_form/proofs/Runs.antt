@@ -4,17 +4,16 @@ use Prim.Native.Nat.{zero, suc}
 use Rattle.std.specs.Prelude.{Option, Some, None, Result, Err}
 use Rattle.linear_form.specs.Query.{Query, Atom, Taken, next, known}
 use Rattle.linear_form.specs.Query.Query.{done, bits, ask}
-use Rattle.linear_form.specs.Questions.{Linear, Ends}
+use Rattle.linear_form.specs.Questions.{Linear}
 use Rattle.linear_form.specs.QuestionLaws.{EachResult}
 use Rattle.linear_form.specs.internal.Run.{Evaluation, along, turned, heard, onward}
 use Rattle.linear_form.specs.internal.Run.Evaluation.{value, decide}
 use Rattle.linear_form.specs.PlainPaths.{path_of}
-use Rattle.linear_form.specs.internal.Seen.{Stops, Gives, GivesBoth, Tells}
+use Rattle.linear_form.specs.internal.Seen.{Stops, Gives, Tells}
 use Rattle.linear_form.specs.declared.paths.Taken as T
 use Rattle.linear_form.specs.declared.cursor.Stop as S
 use Rattle.linear_form.specs.declared.cursor.Stop.{Stop}
 use Rattle.linear_form.specs.declared.cursor.Found.{Found}
-use Rattle.linear_form.specs.declared.cursor.Pair.{Pair}
 use Rattle.linear_form.specs.declared.cursor.Tested.{Tested}
 
 turned_onward : {A B : Type 0} (ps : List Taken) (q : Atom) (y n : Evaluation A) (y' n' : Evaluation B) (f : A → ℕ → Evaluation B) → y' ≡ onward y f → n' ≡ onward n f → turned ps q y' n' ≡ onward (turned ps q y n) f
@@ -110,43 +109,5 @@ run_result ps (ask (Atom.truth x) y n) P i a j h e = heard_result (known x (take
 pub gives_first : {A : Type 0} (r : Result Found Stop) (e : Stop) (ps : List Taken) (q : Query Linear) (t : Query A) (f : A → Query Linear) (i : ℕ) → r ≡ Err e → q ≡ next t f → Stops e (along ps t i) → Gives r (along ps q i)
 gives_first r e ps q t f i h k g = rw (h, k) (stops_first e ps t f i g)
 
-pub tells_first : {A : Type 0} (r : Result Tested Stop) (e : Stop) (ps : List Taken) (q : Query Bool) (t : Query A) (f : A → Query Bool) (i : ℕ) → r ≡ Err e → q ≡ next t f → Stops e (along ps t i) → Tells r (along ps q i)
-tells_first r e ps q t f i h k g = rw (h, k) (stops_first e ps t f i g)
-
-pub both_first : {A : Type 0} (r : Result Pair Stop) (e : Stop) (ps : List Taken) (q : Query Ends) (t : Query A) (f : A → Query Ends) (i : ℕ) → r ≡ Err e → q ≡ next t f → Stops e (along ps t i) → GivesBoth r (along ps q i)
-both_first r e ps q t f i h k g = rw (h, k) (stops_first e ps t f i g)
-
-pub both_second : {A B : Type 0} (r : Result Pair Stop) (e : Stop) (ps : List Taken) (t : Query A) (u : Query B) (f : A → B → Query Ends) (i j : ℕ) (x : A) → r ≡ Err e → along ps t i ≡ value x j → Stops e (along ps u j) → GivesBoth r (along ps (next t (λ x. next u (λ y. f x y))) i)
-both_second r e ps t u f i j x h a g = rw h (stops_second e ps t u f i j x a g)
-
--- after a truth that is known
-pub gives_after : (r : Result Found Stop) (ps : List Taken) (q : Query Linear) (t : Query Bool) (f : Bool → Query Linear) (i j : ℕ) (b b' : Bool) → q ≡ next t f → along ps t i ≡ value b j → b ≡ b' → Gives r (along ps (f b') j) → Gives r (along ps q i)
-gives_after r ps q t f i j b b' e a k g = subst (λ o. Gives r o) (sym (ap (λ q. along ps q i) e ∙ run_after ps t f i j b a ∙ ap (λ b. along ps (f b) j) k)) g
-
-pub tells_after : (r : Result Tested Stop) (ps : List Taken) (q : Query Bool) (t : Query Bool) (f : Bool → Query Bool) (i j : ℕ) (b b' : Bool) → q ≡ next t f → along ps t i ≡ value b j → b ≡ b' → Tells r (along ps (f b') j) → Tells r (along ps q i)
-tells_after r ps q t f i j b b' e a k g = subst (λ o. Tells r o) (sym (ap (λ q. along ps q i) e ∙ run_after ps t f i j b a ∙ ap (λ b. along ps (f b) j) k)) g
-
 pub gives_second : {A B : Type 0} (r : Result Found Stop) (e : Stop) (ps : List Taken) (q : Query Linear) (t : Query A) (u : Query B) (f : A → B → Query Linear) (i j : ℕ) (x : A) → r ≡ Err e → q ≡ next t (λ x. next u (λ y. f x y)) → along ps t i ≡ value x j → Stops e (along ps u j) → Gives r (along ps q i)
 gives_second r e ps q t u f i j x h k a g = rw (h, k) (stops_second e ps t u f i j x a g)
-
-pub tells_second : {A B : Type 0} (r : Result Tested Stop) (e : Stop) (ps : List Taken) (q : Query Bool) (t : Query A) (u : Query B) (f : A → B → Query Bool) (i j : ℕ) (x : A) → r ≡ Err e → q ≡ next t (λ x. next u (λ y. f x y)) → along ps t i ≡ value x j → Stops e (along ps u j) → Tells r (along ps q i)
-tells_second r e ps q t u f i j x h k a g = rw (h, k) (stops_second e ps t u f i j x a g)
-
-pub gives_two : {A B : Type 0} (r : Result Found Stop) (ps : List Taken) (q : Query Linear) (t : Query A) (u : Query B) (f : A → B → Query Linear) (i j k : ℕ) (x : A) (y : B) → q ≡ next t (λ x. next u (λ y. f x y)) → along ps t i ≡ value x j → along ps u j ≡ value y k → Gives r (along ps (f x y) k) → Gives r (along ps q i)
-gives_two r ps q t u f i j k x y e a b g = subst (λ o. Gives r o) (sym (ap (λ q. along ps q i) e ∙ run_two ps t u f i j k x y a b)) g
-
-pub tells_two : {A B : Type 0} (r : Result Tested Stop) (ps : List Taken) (q : Query Bool) (t : Query A) (u : Query B) (f : A → B → Query Bool) (i j k : ℕ) (x : A) (y : B) → q ≡ next t (λ x. next u (λ y. f x y)) → along ps t i ≡ value x j → along ps u j ≡ value y k → Tells r (along ps (f x y) k) → Tells r (along ps q i)
-tells_two r ps q t u f i j k x y e a b g = subst (λ o. Tells r o) (sym (ap (λ q. along ps q i) e ∙ run_two ps t u f i j k x y a b)) g
-
-pub after_false : (ps : List Taken) (q : Query Bool) (t u : Query Bool) (i j : ℕ) (b : Bool) → q ≡ next t (λ t. cond t u (done false)) → along ps t i ≡ value b j → b ≡ false → along ps q i ≡ value b j
-after_false ps q t u i j b e a k = ap (λ q. along ps q i) e ∙ run_after ps t _ i j b a ∙ ap (λ b. along ps (cond b u (done false)) j) k ∙ run_done ps false j ∙ ap (λ b. value b j) (sym k)
-
-pub after_true : (ps : List Taken) (q : Query Bool) (t u : Query Bool) (i j : ℕ) (b : Bool) → q ≡ next t (λ t. cond t (done true) u) → along ps t i ≡ value b j → b ≡ true → along ps q i ≡ value b j
-after_true ps q t u i j b e a k = ap (λ q. along ps q i) e ∙ run_after ps t _ i j b a ∙ ap (λ b. along ps (cond b (done true) u) j) k ∙ run_done ps true j ∙ ap (λ b. value b j) (sym k)
-
--- the same questions, told otherwise
-pub gives_as : (r : Result Found Stop) (ps : List Taken) (q q' : Query Linear) (i : ℕ) → q ≡ q' → Gives r (along ps q' i) → Gives r (along ps q i)
-gives_as r ps q q' i e g = subst (λ q. Gives r (along ps q i)) (sym e) g
-
-pub tells_as : (r : Result Tested Stop) (ps : List Taken) (q q' : Query Bool) (i : ℕ) → q ≡ q' → Tells r (along ps q' i) → Tells r (along ps q i)
-tells_as r ps q q' i e g = subst (λ q. Tells r (along ps q i)) (sym e) g

@@ -15,3 +15,4 @@ pub mod Truths
 pub mod UnsignedRows
 pub mod GreedyChoices
 pub mod AnsweredPaths
+pub mod Places

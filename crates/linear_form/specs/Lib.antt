@@ -22,6 +22,7 @@ pub mod Merging
 pub mod Divisors
 pub mod ClaimLaws
 pub mod RowLists
+pub mod Places
 pub mod RowListLaws
 pub mod PathLaws
 pub mod PointLaws

@@ -1,12 +1,12 @@
 -- What is proved of the rows of a path.
-use Rattle.std.specs.Prelude.{◌≡◌, ℕ, List, [], ◌∷◌, ◌++◌, length, Bool, true, false, Some, is_some}
+use Rattle.std.specs.Prelude.{◌≡◌, ℕ, ◌+◌, List, take, [], ◌∷◌, ◌++◌, length, Bool, true, false, Some, is_some}
 use Rattle.std.specs.List.{All, Contains}
 use Rattle.heylo_formula.specs.Goals.{Goal}
-use Rattle.linear_form.specs.Query.{Taken}
+use Rattle.linear_form.specs.Query.{Atom, Taken, onto}
 use Rattle.linear_form.specs.Paths.{IsPath, end_at}
-use Rattle.linear_form.specs.PathRows.{path_claims, denial_at, rows_of}
+use Rattle.linear_form.specs.PathRows.{path_claims, answer_claims, denial_at, rows_of}
 use Rattle.linear_form.specs.Row.{Row}
-use Rattle.linear_form.specs.RowLists.{IsNumericRow}
+use Rattle.linear_form.specs.RowLists.{IsNumericRow, ArePathRows}
 use Rattle.linear_form.specs.Solutions.{IsSolvable}
 use Rattle.heylo_formula.specs.TypedGoals.{IsTypedGoal}
 
@@ -43,3 +43,15 @@ DeniedRowsAreMore = (g : Goal) (ps : List Taken) (rows denied : List Row) → ro
 -- So they are solvable where those are.
 abbrev pub DeniedRowsAreStronger : Type 0
 DeniedRowsAreStronger = (g : Goal) (ps : List Taken) (rows denied : List Row) → rows_of g ps false ≡ Some rows → rows_of g ps true ≡ Some denied → IsSolvable denied → IsSolvable rows
+
+-- There is a row for each comparison.
+abbrev pub PathRowsAreCounted : Type 0
+PathRowsAreCounted = (g : Goal) (ps : List Taken) (rows : List Row) → ArePathRows g ps rows → length rows ≡ length (path_claims ps)
+
+-- The rows of a shorter path come first.
+abbrev pub FirstPathRows : Type 0
+FirstPathRows = (g : Goal) (ps qs : List Taken) (rows : List Row) → ArePathRows g (ps ++ qs) rows → ArePathRows g ps (take (length (path_claims ps)) rows)
+
+-- One more answer has one more row, or none where it is to the truth of a variable.
+abbrev pub LastPathRow : Type 0
+LastPathRow = (ps : List Taken) (q : Atom) (held : Bool) → length (path_claims (onto ps q held)) ≡ length (path_claims ps) + length (answer_claims q held)

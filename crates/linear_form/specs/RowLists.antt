@@ -1,8 +1,11 @@
 -- The rows that the program gives, and rows over numbers.
-use Rattle.std.specs.Prelude.{◌≡◌, ℕ, List, length, Option, Some, None, Bool, true, not}
+use Rattle.std.specs.Prelude.{◌≡◌, ℕ, List, [], ◌∷◌, ◌++◌, take, length, Option, Some, None, Bool, true, not}
 use Rattle.std.specs.List.{All}
 use Rattle.heylo_formula.specs.declared.types.Ty.{Ty}
+use Rattle.heylo_formula.specs.Goals.{Goal}
 use Rattle.linear_form.specs.Row.{Row, IsRow}
+use Rattle.linear_form.specs.Query.{Taken}
+use Rattle.linear_form.specs.PathRows.{all_tightened, path_claims}
 use Rattle.heylo_formula.specs.Typing.{types_in, is_bool}
 use Rattle.linear_form.specs.declared.path_rows.RowList.{RowList}
 use Rattle.linear_form.specs.declared.path_rows.RowList.TheVariants.{Rows, Bits}
@@ -32,3 +35,19 @@ AreNumericRows types Bits = Unit {0}
 abbrev pub count_of : RowList → ℕ
 count_of (Rows rows) = length rows.items
 count_of Bits = 0
+
+-- The rows are those of the comparisons of the path, in order, as they were answered.
+pub record ArePathRows (g : Goal) (ps : List Taken) (rows : List Row) : Type 0 where
+  pub are_rows : all_tightened (types_in g.types) (path_claims ps) ≡ Some rows
+
+-- The rows are those of the comparisons of the path without its last answer.
+pub record LackLastRow (g : Goal) (ps : List Taken) (rows : List Row) : Type 0 where
+  pub before : List Taken
+  pub last : Taken
+  pub split : ps ≡ before ++ (last ∷ [])
+  pub are_rows : ArePathRows g before rows
+
+-- The rows begin with these.
+abbrev pub StartsWith : List Row → RowList → Type 0
+StartsWith first (Rows rows) = take (length first) rows.items ≡ first
+StartsWith first Bits = Unit {0}

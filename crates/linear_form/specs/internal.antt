@@ -9,4 +9,6 @@ pub mod NormalPaths
 pub mod Nonzero
 pub mod NextTerms
 pub mod Nodes
+pub mod Places
+pub mod Steps
 pub mod WholeTimes

@@ -2,19 +2,14 @@
 
 ghost use Rattle.std.specs.Prelude.{IfOk};
 ghost use Rattle.heylo_formula.specs.Goals.{goal_of};
-ghost use Rattle.heylo_formula.specs.PlainTrees.{form_of};
-ghost use Rattle.linear_form.specs.Questions.{evaluate, both};
 ghost use Rattle.linear_form.specs.Paths.{IsPath, end_at};
-ghost use Rattle.linear_form.specs.Query.{Query};
-ghost use Rattle.linear_form.specs.internal.Run.{along};
 ghost use Rattle.linear_form.specs.PlainPaths.{path_of};
 ghost use Rattle.linear_form.specs.Asked.{Answers};
-ghost use Rattle.linear_form.specs.internal.Seen.{GivesBoth};
 
 use crate::asking::Ask;
-use crate::cursor::{Pair, Stop};
-use crate::evaluation::value;
+use crate::going_on::{begin, go_on};
 use crate::paths::Taken;
+use crate::places::Reached;
 use heylo_formula::Goal;
 use std::alloc::{AllocError, Global};
 
@@ -25,23 +20,8 @@ pub fn ask(alloc: Global, goal: &Goal, path: &[Taken]) -> Result<Ask, AllocError
     requires { IsPath (goal_of goal.now) (path_of path.now) }
     ensures { IfOk result (λ a. Answers a (end_at (goal_of goal.now) (path_of path.now))) }
 {
-    match ends(alloc, goal, path) {
-        Ok(pair) => Ok(Ask::End(pair.left, pair.right)),
-        Err(Stop::Decide(atom)) => Ok(Ask::Decide(atom)),
-        Err(Stop::Bits) => Ok(Ask::Bits),
-        Err(Stop::Memory(e)) => Err(e),
-    }
-}
-
-/// The values of both forms, evaluated along the path from its start, the stated form first.
-fn ends(alloc: Global, goal: &Goal, path: &[Taken]) -> Result<Pair, Stop>
-    ensures { GivesBoth result (along (path_of path.now) (both (evaluate (form_of goal.now.stated)) (evaluate (form_of goal.now.found)) (λ x y. Query.done (x, y))) 0) }
-{
-    let x = value(alloc, &goal.stated, path, 0)?;
-    let y = value(alloc, &goal.found, path, x.next)?;
-    Ok(Pair {
-        left: x.value,
-        right: y.value,
-        next: y.next,
-    })
+    let place = begin(alloc, goal)?;
+    let reached = go_on(alloc, goal, &place, path)?;
+    let Reached { ask, place: _ } = reached;
+    Ok(ask)
 }

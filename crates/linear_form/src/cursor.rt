@@ -18,14 +18,6 @@ pub struct Found {
     pub next: usize,
 }
 
-/// Two values, and the place where the path goes on.
-#[derive(Drop)]
-pub struct Pair {
-    pub left: Option<Lin>,
-    pub right: Option<Lin>,
-    pub next: usize,
-}
-
 /// A truth value, and the place where the path goes on.
 #[derive(Clone, Copy)]
 pub struct Tested {

@@ -4,7 +4,7 @@ ghost use Rattle.std.specs.Prelude.{◌≡◌, IfOk, true};
 ghost use Rattle.heyvl_num.specs.Rational.{zeroʳ};
 ghost use Rattle.linear_form.specs.Lin.{all_fit, fits as number_fits, is_sized as lin_is_sized, constant as constant_lin, variable as variable_lin, plus as lin_plus, minus as lin_minus, scaled as lin_scaled, times as times_terms};
 ghost use Rattle.linear_form.specs.internal.Run.{IsKept};
-ghost use Rattle.linear_form.specs.PlainPaths.{lin_of};
+ghost use Rattle.linear_form.specs.PlainPaths.{lin_of, linear_of};
 
 use crate::linear_terms::merged;
 use crate::numbers::{fits, is_zero, minus_one, one, product, sum, zero};
@@ -111,4 +111,26 @@ pub(crate) fn minus(alloc: Global, a: &Lin, b: &Lin) -> Result<Lin, AllocError>
 {
     let down = scaled(alloc, &minus_one(), b)?;
     plus(alloc, a, &down)
+}
+
+/// The same value again.
+fn copy(alloc: Global, a: &Lin) -> Result<Lin, AllocError>
+    ensures { IfOk result (λ c. lin_of c ≡ lin_of a.now) }
+{
+    let mut terms = Vec::new(alloc);
+    terms.extend_from_slice(&a.terms)?;
+    Ok(Lin {
+        terms,
+        rest: a.rest,
+    })
+}
+
+/// The same value again, where None stands for infinity.
+pub(crate) fn copy_value(alloc: Global, a: &Option<Lin>) -> Result<Option<Lin>, AllocError>
+    ensures { IfOk result (λ c. linear_of c ≡ linear_of a.now) }
+{
+    match a {
+        None => Ok(None),
+        Some(value) => Ok(Some(copy(alloc, value)?)),
+    }
 }

@@ -6,7 +6,7 @@ ghost use Rattle.std.specs.Option.{SomeIff};
 ghost use Rattle.linear_form.specs.Terms.{coefficient};
 ghost use Rattle.linear_form.specs.Row.{IsRow};
 ghost use Rattle.linear_form.specs.Combination.{row_at, combined, uses_strict, IsWideThroughout, IsContradiction};
-ghost use Rattle.linear_form.specs.internal.Columns.{number_in, AreMultipliers, IsBeyond, Vanishes, IsUnmet};
+ghost use Rattle.linear_form.specs.internal.Columns.{number_in, AreMultipliers, IsBeyondAt, Vanishes, IsUnmet};
 
 use crate::row::Row;
 use crate::terms::coefficient_of;
@@ -123,13 +123,15 @@ fn beyond(terms: &[(u32, i64)]) -> u64
     least
 }
 
-/// A number beyond all variables of the rows.
-fn beyond_all(rows: &[Row]) -> u64
-    ensures above { All (IsBeyond result) rows.now }
+/// A number beyond all variables of the rows that are used.
+fn beyond_used(rows: &[Row], multipliers: &[(u32, u64)]) -> u64
+    requires multipliers { AreMultipliers (length rows.now) multipliers.now }
+    ensures above { All (IsBeyondAt result rows.now) multipliers.now }
     ensures within { result ≤ 2 ^ 32 }
 {
     let mut least = 0;
-    for row in rows {
+    for &(index, _) in multipliers {
+        let row = &rows[index as usize];
         least = greater(least, beyond(&row.terms));
     }
     least
@@ -153,7 +155,7 @@ fn all_vanish(rows: &[Row], multipliers: &[(u32, u64)]) -> bool
     requires multipliers { AreMultipliers (length rows.now) multipliers.now }
     ensures { IsTrue result ↔ ((x : ℕ) → Vanishes x multipliers.now rows.now) }
 {
-    for variable in 0..beyond_all(rows) {
+    for variable in 0..beyond_used(rows, multipliers) {
         if !vanishes(rows, multipliers, variable as u32) {
             return false;
         }

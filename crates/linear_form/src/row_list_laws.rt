@@ -14,3 +14,10 @@ pub fn denied_rows_are_more()
     ensures solvable { law.DeniedRowsAreStronger }
     ensures places { law.DeniedGoalMakesRoom }
 {}
+
+/// The rows of a path's comparisons begin with those of each shorter path: there is one for each comparison that is answered.
+pub fn path_rows_grow()
+    ensures counted { law.PathRowsAreCounted }
+    ensures first { law.FirstPathRows }
+    ensures last { law.LastPathRow }
+{}

@@ -3,7 +3,7 @@ use Rattle.std.specs.Prelude.{ℕ, ◌≡◌, ◌⊎◌, ◌<◌, ◌^◌, List,
 use Rattle.std.specs.List.{All}
 use Rattle.linear_form.specs.Terms.{coefficient}
 use Rattle.linear_form.specs.Row.{Row}
-use Rattle.linear_form.specs.Combination.{IsGrowing, IsWideThroughout, combined, uses_strict}
+use Rattle.linear_form.specs.Combination.{IsGrowing, IsWideThroughout, combined, row_at, uses_strict}
 use Rattle.linear_form.specs.declared.multipliers.Column.{Column}
 use Rattle.linear_form.specs.declared.multipliers.Column.TheVariants.{Constant, Coefficient}
 
@@ -19,9 +19,9 @@ pub record AreMultipliers (count : ℕ) (ms : List (ℕ × ℕ)) : Type 0 where
   pub positive : All (λ m. 0 < m.1) ms
   pub narrow : All (λ m. m.1 < 2 ^ 62) ms
 
--- Each variable of the row is below a number.
-pub record IsBeyond (bound : ℕ) (r : Row) : Type 0 where
-  pub below : All (λ t. t.0 < bound) r.terms
+-- Each variable of the row that a multiplier takes is below a number.
+pub record IsBeyondAt (bound : ℕ) (rows : List Row) (m : ℕ × ℕ) : Type 0 where
+  pub below : All (λ t. t.0 < bound) (row_at rows m.0).terms
 
 -- A variable's coefficients add up to 0, and no partial sum is too large.
 pub record Vanishes (x : ℕ) (ms : List (ℕ × ℕ)) (rows : List Row) : Type 0 where

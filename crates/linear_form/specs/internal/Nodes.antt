@@ -40,16 +40,3 @@ abbrev pub after_first : Connective → Query Bool → Bool → Query Bool
 after_first Connective.And h t = if t then h else done false
 after_first Connective.Or h t = if t then done true else h
 after_first Connective.Same h t = next h (λ u. done (agree t u))
-
-abbrev pub connected : Connective → Query Bool → Query Bool → Query Bool
-connected o g h = next g (after_first o h)
-
--- A condition, and the value of its truth.
-abbrev pub truth_value : OfTruth → Query Bool → Query Linear
-truth_value o g = next g (λ t. done (of_truth o t))
-
-abbrev pub chosen : {A : Type 0} → Query Bool → Query A → Query A → Query A
-chosen g a b = next g (λ t. if t then a else b)
-
-abbrev pub denied : Query Bool → Query Bool
-denied g = next g (λ t. done (not t))

@@ -1,10 +1,9 @@
 -- What the program's evaluation gives, told in plain words.
 use Rattle.std.specs.Prelude.{◌≡◌, Bool, Result, Ok, Err}
-use Rattle.linear_form.specs.Questions.{Linear, Ends}
+use Rattle.linear_form.specs.Questions.{Linear}
 use Rattle.linear_form.specs.internal.Run.{Evaluation}
 use Rattle.linear_form.specs.PlainPaths.{linear_of, atom_of}
 use Rattle.linear_form.specs.declared.cursor.Found as F
-use Rattle.linear_form.specs.declared.cursor.Pair as P
 use Rattle.linear_form.specs.declared.cursor.Tested as B
 use Rattle.linear_form.specs.declared.cursor.Stop as S
 
@@ -17,10 +16,6 @@ Stops (S.TheVariants.Memory e) o = Unit {0}
 abbrev pub Gives : Result F.Found S.Stop → Evaluation Linear → Type 0
 Gives (Ok r) o = o ≡ Evaluation.value (linear_of r.value) r.next
 Gives (Err e) o = Stops e o
-
-abbrev pub GivesBoth : Result P.Pair S.Stop → Evaluation Ends → Type 0
-GivesBoth (Ok r) o = o ≡ Evaluation.value (linear_of r.left, linear_of r.right) r.next
-GivesBoth (Err e) o = Stops e o
 
 abbrev pub Tells : Result B.Tested S.Stop → Evaluation Bool → Type 0
 Tells (Ok r) o = o ≡ Evaluation.value r.holds r.next

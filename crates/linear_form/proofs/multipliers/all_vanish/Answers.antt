@@ -6,4 +6,4 @@ pub loop-variable-preserved : goal.loop-variable-preserved
 loop-variable-preserved c = below_more _ _ c.loop-variable.invariant (search rules)
 
 pub returns : goal.returns
-returns c = (λ h. vanish_all _ _ _ c.beyond_all-variable-end.ensures.above (λ x l. c.loop-variable.invariant x (omega (arith, l, c.loop-variable-test.false))), λ h. refl)
+returns c = (λ h. vanish_all _ _ _ c.beyond_used-variable-end.ensures.above (λ x l. c.loop-variable.invariant x (omega (arith, l, c.loop-variable-test.false))), λ h. refl)

@@ -1,0 +1,15 @@
+use Rattle.heylo_formula.specs.Goals.{goal_of}
+use Rattle.linear_form.specs.PlainPaths.{path_of}
+use Rattle.linear_form.proofs.RowParts.{ok_then}
+use Rattle.linear_form.proofs.NormalClaims.{answers_normal}
+use Rattle.linear_form.proofs.GrowingRows.{last_normal, never_empty, next_rows}
+use Rattle.linear_form.proofs.growing_rows.next_row.Goals as goal
+
+pub with_answer-requires : goal.with_answer-requires
+with_answer-requires c = last_normal c.args.path.now c.in-Some.field-0-1.now c.in-Some.taken.now c.in-Some.ensures.cases.0 (answers_normal (goal_of c.args.goal.now) (path_of c.args.path.now) c.requires.path)
+
+pub returns-in-None : goal.returns-in-None
+returns-in-None c = absurd (never_empty (goal_of c.args.goal.now) c.args.path.now c.args.rows.items c.in-None.ensures.cases c.requires.rows)
+
+pub returns-in-Some : goal.returns-in-Some
+returns-in-Some c = ok_then c.with_answer.result _ _ (λ r h. next_rows (goal_of c.args.goal.now) c.deref.result.now c.args.path.now c.in-Some.field-0-1.now c.in-Some.taken.now c.args.rows.items r c.deref.ensures.value c.in-Some.ensures.cases.0 c.requires.rows h) c.with_answer.ensures

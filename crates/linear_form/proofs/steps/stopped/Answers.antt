@@ -1,0 +1,12 @@
+use Rattle.std.proofs.Common.{subst}
+use Rattle.linear_form.specs.internal.Places.{asked_by}
+use Rattle.linear_form.specs.internal.Run.{along}
+use Rattle.linear_form.specs.internal.Seen.{Stops}
+use Rattle.linear_form.proofs.GoingOn.{decides, through_large}
+use Rattle.linear_form.proofs.steps.stopped.Goals as goal
+
+pub returns-in-Decide : goal.returns-in-Decide
+returns-in-Decide c = λ ps w h. decides ps w c.in-Decide.atom c.args.place (subst (λ s. Stops s (along ps (asked_by c.args.place.focus) c.args.place.at)) c.in-Decide.is h) c.requires.focus c.requires.frames
+
+pub returns-in-Bits : goal.returns-in-Bits
+returns-in-Bits c = λ ps w h. through_large ps (asked_by c.args.place.focus) c.args.place.frames.items c.args.place.at (subst (λ s. Stops s (along ps (asked_by c.args.place.focus) c.args.place.at)) c.in-Bits.is h)

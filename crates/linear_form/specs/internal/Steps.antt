@@ -1,0 +1,52 @@
+-- One step of an evaluation.
+use Rattle.std.specs.Prelude.{◌≡◌, ◌≤◌, ◌<◌, ℕ, List, take, length}
+use Rattle.linear_form.specs.Query.{Query, Taken}
+use Rattle.linear_form.specs.Questions.{Ends}
+use Rattle.linear_form.specs.PlainPaths.{atom_of, linear_of}
+use Rattle.linear_form.specs.internal.Run.{Evaluation, along}
+use Rattle.linear_form.specs.internal.Places.{Result, result_of, resumed, asked_by, left_at, through, weight, IsKeptOutcome, IsKeptFocus, IsKeptFrame, AreKeptFrames}
+use Rattle.linear_form.specs.declared.places.Place.{Place}
+use Rattle.linear_form.specs.declared.places.Frame.{Frame}
+use Rattle.linear_form.specs.declared.places.Focus.{Focus}
+use Rattle.linear_form.specs.declared.places.Outcome.{Outcome}
+use Rattle.linear_form.specs.declared.steps.Step as S
+
+-- From a place in a path with some questions left, the evaluation comes to another place, on each path with the answers up to
+-- that place.
+pub record Moves (ps : List Taken) (q : Query Ends) (i : ℕ) (p : Place) : Type 0 where
+  pub within : i ≤ length ps → p.at ≤ length ps
+  pub behind : i ≤ p.at
+  pub left : (qs : List Taken) → take p.at qs ≡ take p.at ps → along qs q i ≡ along qs (left_at p) p.at
+  pub kept_focus : IsKeptFocus p.focus
+  pub kept_frames : AreKeptFrames p.frames.items
+
+-- What a step gives: another place with less to do, or what the evaluation along the path comes to.
+abbrev pub Steps : List Taken → Query Ends → ℕ → ℕ → S.Step → Type 0
+Steps ps q i w (S.TheVariants.On p) = Moves ps q i p × (weight p < w)
+Steps ps q i w (S.TheVariants.Asks a p) = (along ps q i ≡ Evaluation.decide (atom_of a)) × Moves ps q i p
+Steps ps q i w (S.TheVariants.Ends x y) = along ps q i ≡ Evaluation.value (linear_of x, linear_of y) i
+Steps ps q i w S.TheVariants.Bits = along ps q i ≡ Evaluation.bits
+
+-- Frames that ask the same.
+pub record AreAlike (old new : List Frame) : Type 0 where
+  pub same : (q : Query Result) → through q new ≡ through q old
+  pub kept : AreKeptFrames old → AreKeptFrames new
+
+-- A frame that asks the same.
+pub record IsAlike (old new : Frame) : Type 0 where
+  pub same : resumed new ≡ resumed old
+  pub kept : IsKeptFrame old → IsKeptFrame new
+
+pub record IsSameOutcome (old new : Outcome) : Type 0 where
+  pub same : result_of new ≡ result_of old
+  pub kept : IsKeptOutcome old → IsKeptOutcome new
+
+pub record IsSameFocus (old new : Focus) : Type 0 where
+  pub same : asked_by new ≡ asked_by old
+  pub kept : IsKeptFocus old → IsKeptFocus new
+
+pub record IsSamePlace (old new : Place) : Type 0 where
+  pub left : left_at new ≡ left_at old
+  pub at : new.at ≡ old.at
+  pub kept_focus : IsKeptFocus old.focus → IsKeptFocus new.focus
+  pub kept_frames : AreKeptFrames old.frames.items → AreKeptFrames new.frames.items

@@ -1,0 +1,66 @@
+//! An evaluation of a goal, and the place from which it goes on.
+
+ghost use Rattle.std.specs.Prelude.{◌≡◌, [], IfOk};
+ghost use Rattle.heylo_formula.specs.Goals.{goal_of};
+ghost use Rattle.linear_form.specs.Asked.{Answers};
+ghost use Rattle.linear_form.specs.Paths.{IsPath, end_at};
+ghost use Rattle.linear_form.specs.Places.{IsOn};
+ghost use Rattle.linear_form.specs.PlainPaths.{path_of};
+
+use crate::asking::Ask;
+use crate::paths::Taken;
+use crate::places::{Focus, Frame, Place, Reached, Two, copy_place};
+use crate::steps::{Step, advance};
+use heylo_formula::Goal;
+use std::alloc::{AllocError, Global};
+
+/// The evaluation before the first question: the stated form, and then the found one.
+pub fn begin<'a>(alloc: Global, goal: &'a Goal) -> Result<Place<'a>, AllocError>
+    ensures { IfOk result (λ p. IsOn (goal_of goal.now) [] p) }
+{
+    let mut frames = Vec::new(alloc);
+    frames.push(Frame::Left(Two::Ends, &goal.found))?;
+    Ok(Place {
+        focus: Focus::Form(&goal.stated),
+        frames,
+        at: 0,
+    })
+}
+
+/// What stands at the end of a path, and a place to go on from. It is evaluated anew from the start, and the place is the
+/// beginning. Want of memory is the one error.
+pub fn go_on<'a>(
+    alloc: Global,
+    goal: &'a Goal,
+    place: &Place<'a>,
+    path: &[Taken],
+) -> Result<Reached<'a>, AllocError>
+    requires path { IsPath (goal_of goal.now) (path_of path.now) }
+    requires on { IsOn (goal_of goal.now) (path_of path.now) place.now }
+    ensures asked { IfOk result (λ r. Answers r.ask (end_at (goal_of goal.now) (path_of path.now))) }
+    ensures on { IfOk result (λ r. IsOn (goal_of goal.now) (path_of path.now) r.place) }
+{
+    let mut now = copy_place(alloc, place)?;
+    'steps: loop {
+        match advance(alloc, now, path)? {
+            Step::On(next) => now = next,
+            Step::Asks(atom, place) => {
+                return Ok(Reached {
+                    ask: Ask::Decide(atom),
+                    place,
+                });
+            }
+            Step::Ends(stated, found) => return ended(alloc, goal, Ask::End(stated, found)),
+            Step::Bits => return ended(alloc, goal, Ask::Bits),
+        }
+    }
+}
+
+/// Where no question is left, the evaluation stands at the beginning again.
+fn ended<'a>(alloc: Global, goal: &'a Goal, ask: Ask) -> Result<Reached<'a>, AllocError>
+    ensures same { IfOk result (λ r. r.ask ≡ ask) }
+    ensures on { IfOk result (λ r. IsOn (goal_of goal.now) [] r.place) }
+{
+    let place = begin(alloc, goal)?;
+    Ok(Reached { ask, place })
+}

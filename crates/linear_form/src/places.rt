@@ -1,0 +1,143 @@
+//! Places: evaluations of a goal that stand somewhere on a path, and can go on from there.
+
+ghost use Rattle.std.specs.Prelude.{IfOk};
+ghost use Rattle.linear_form.specs.internal.Steps.{AreAlike, IsAlike, IsSamePlace, IsSameFocus, IsSameOutcome};
+
+use crate::asking::Ask;
+use crate::lin::{Lin, copy_value};
+use crate::nodes::{Binary, Comparison, Connective, OfTruth, Unary};
+use heylo_formula::{Cond, Form};
+use std::alloc::{AllocError, Global};
+
+/// An evaluation of a goal that stands at a place of a path: what is evaluated next, what waits for it, and how many answers
+/// of the path are behind it.
+#[derive(Drop)]
+pub struct Place<'a> {
+    pub(crate) focus: Focus<'a>,
+    /// What waits, the last one for the focus.
+    pub(crate) frames: Vec<Frame<'a>>,
+    pub(crate) at: usize,
+}
+
+/// What stands at the end of a path, and the place that the evaluation has reached.
+#[derive(Drop)]
+pub struct Reached<'a> {
+    pub ask: Ask,
+    pub place: Place<'a>,
+}
+
+/// What a part of a goal comes to: a value, a truth, or the values of both forms.
+#[derive(Drop)]
+pub(crate) enum Outcome {
+    Number(Option<Lin>),
+    Truth(bool),
+    Ends(Option<Lin>, Option<Lin>),
+}
+
+/// What is done with two values.
+#[derive(Clone, Copy)]
+pub(crate) enum Two {
+    Value(Binary),
+    Test(Comparison),
+    /// They are the values of the two forms of the goal.
+    Ends,
+}
+
+/// What is evaluated next.
+#[derive(Drop)]
+pub(crate) enum Focus<'a> {
+    Form(&'a Form),
+    Cond(&'a Cond),
+    Given(Outcome),
+    One(Unary<'a>, Option<Lin>),
+    Two(Two, Option<Lin>, Option<Lin>),
+}
+
+/// What waits for the outcome of a part.
+#[derive(Drop)]
+pub(crate) enum Frame<'a> {
+    /// The left value, and then this right form.
+    Left(Two, &'a Form),
+    /// The right value; this is the left one.
+    Right(Two, Option<Lin>),
+    One(Unary<'a>),
+    OfTruth(OfTruth),
+    /// A truth that chooses a form.
+    Select(&'a Form, &'a Form),
+    Not,
+    /// The first truth, and then this condition where it is needed.
+    First(Connective, &'a Cond),
+    /// The second truth; this is the first one.
+    Same(bool),
+    /// A truth that chooses a condition.
+    Choose(&'a Cond, &'a Cond),
+}
+
+/// The same place again.
+pub(crate) fn copy_place<'a>(alloc: Global, place: &Place<'a>) -> Result<Place<'a>, AllocError>
+    ensures { IfOk result (IsSamePlace place.now) }
+{
+    let focus = copy_focus(alloc, &place.focus)?;
+    let frames = copy_frames(alloc, &place.frames)?;
+    Ok(Place {
+        focus,
+        frames,
+        at: place.at,
+    })
+}
+
+fn copy_focus<'a>(alloc: Global, focus: &Focus<'a>) -> Result<Focus<'a>, AllocError>
+    ensures { IfOk result (IsSameFocus focus.now) }
+{
+    match focus {
+        Focus::Form(form) => Ok(Focus::Form(*form)),
+        Focus::Cond(cond) => Ok(Focus::Cond(*cond)),
+        Focus::Given(outcome) => Ok(Focus::Given(copy_outcome(alloc, outcome)?)),
+        Focus::One(operator, x) => Ok(Focus::One(*operator, copy_value(alloc, x)?)),
+        Focus::Two(operator, x, y) => {
+            let left = copy_value(alloc, x)?;
+            let right = copy_value(alloc, y)?;
+            Ok(Focus::Two(*operator, left, right))
+        }
+    }
+}
+
+fn copy_outcome(alloc: Global, outcome: &Outcome) -> Result<Outcome, AllocError>
+    ensures { IfOk result (IsSameOutcome outcome.now) }
+{
+    match outcome {
+        Outcome::Number(x) => Ok(Outcome::Number(copy_value(alloc, x)?)),
+        Outcome::Truth(t) => Ok(Outcome::Truth(*t)),
+        Outcome::Ends(x, y) => {
+            let left = copy_value(alloc, x)?;
+            let right = copy_value(alloc, y)?;
+            Ok(Outcome::Ends(left, right))
+        }
+    }
+}
+
+fn copy_frame<'a>(alloc: Global, frame: &Frame<'a>) -> Result<Frame<'a>, AllocError>
+    ensures { IfOk result (IsAlike frame.now) }
+{
+    match frame {
+        Frame::Left(operator, b) => Ok(Frame::Left(*operator, *b)),
+        Frame::Right(operator, x) => Ok(Frame::Right(*operator, copy_value(alloc, x)?)),
+        Frame::One(operator) => Ok(Frame::One(*operator)),
+        Frame::OfTruth(operator) => Ok(Frame::OfTruth(*operator)),
+        Frame::Select(a, b) => Ok(Frame::Select(*a, *b)),
+        Frame::Not => Ok(Frame::Not),
+        Frame::First(operator, h) => Ok(Frame::First(*operator, *h)),
+        Frame::Same(t) => Ok(Frame::Same(*t)),
+        Frame::Choose(g, h) => Ok(Frame::Choose(*g, *h)),
+    }
+}
+
+fn copy_frames<'a>(alloc: Global, frames: &[Frame<'a>]) -> Result<Vec<Frame<'a>>, AllocError>
+    ensures { IfOk result (λ v. AreAlike frames.now v.items) }
+{
+    let mut made = Vec::new(alloc);
+    for frame in frames {
+        made.push(copy_frame(alloc, frame)?)?;
+    }
+    Ok(made)
+}
