@@ -9,5 +9,5 @@ use Rattle.linear_elim.specs.declared.finding.Finding.TheVariants.{Refuted, Met,
 -- Multipliers combine the rows to a contradiction, and a point comes only where some fractions meet the rows.
 abbrev pub IsFinding : List Row → Finding → Type 0
 IsFinding rows (Refuted ms) = IsContradiction ms.items rows
-IsFinding rows (Met spot) = IsSolvable rows
+IsFinding rows Met = IsSolvable rows
 IsFinding rows Open = Unit {0}

@@ -1,6 +1,6 @@
 -- Rows made of the first rows, and the join of two rows in which a variable vanishes (Fourier and Motzkin). Each row keeps how
 -- often it takes which first row.
-use Rattle.std.specs.Prelude.{ℕ, ◌*◌, ◌^◌, ◌/◌, List, ℤ, pos, negsuc, ◌+ℤ◌, ◌*ℤ◌, unsigned_abs, Bool, true, false, ◌||◌, ◌&&◌}
+use Rattle.std.specs.Prelude.{ℕ, ◌*◌, ◌/◌, List, ℤ, pos, negsuc, ◌+ℤ◌, ◌*ℤ◌, unsigned_abs, Bool, true, false, ◌||◌, ◌&&◌}
 use Rattle.std.specs.Int.RustNames.{int_div}
 use Prim.Native.Nat.{zero, suc}
 use Rattle.linear_form.specs.Terms.{coefficient, is_narrow, is_wide}

@@ -1,3 +1,4 @@
+pub mod Spots
 pub mod Joins
 pub mod Steps
 pub mod Elimination
@@ -5,4 +6,5 @@ pub mod Laws
 pub mod ChoiceNumbers
 pub mod Answers
 pub mod Findings
+pub mod Searches
 pub mod internal

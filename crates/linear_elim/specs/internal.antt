@@ -3,7 +3,6 @@ pub mod Picks
 pub mod Turns
 pub mod Outcomes
 pub mod Fingerprints
-pub mod Spots
 pub mod Eliminations
 pub mod Gathering
 pub mod DerivedRows

@@ -12,7 +12,7 @@ use std::alloc::{AllocError, Global};
 use std::collections::HashMap;
 
 /// Whether two rows have the same terms.
-fn have_same_terms(a: &[(u32, i64)], b: &[(u32, i64)]) -> bool
+pub(crate) fn have_same_terms(a: &[(u32, i64)], b: &[(u32, i64)]) -> bool
     ensures { result ≡ same_terms a.now b.now }
 {
     if a.len() != b.len() {

@@ -252,6 +252,14 @@ fn first_line(alloc: Global, width: usize, place: usize, number: i64) -> Result<
     })
 }
 
+/// Whether a row that isn't met is taken before the one that was found.
+fn is_before(i: usize, constant: i128, found: Option<usize>, most: i128, hasty: bool) -> bool {
+    match found {
+        None => true,
+        Some(other) => { if hasty { constant > most } else { i < other } }
+    }
+}
+
 impl Tableau {
     fn new(alloc: Global, count: usize) -> Result<Tableau, AllocError> {
         Ok(Tableau {
@@ -279,10 +287,17 @@ impl Tableau {
         Ok(())
     }
 
-    fn put_variables(&mut self, rows: &[Row]) -> Result<(), AllocError> {
-        for row in rows {
-            for &(x, _) in &row.terms {
-                self.put_variable(x)?;
+    fn put_variables_of(&mut self, row: &Row) -> Result<(), AllocError> {
+        for &(x, _) in &row.terms {
+            self.put_variable(x)?;
+        }
+        Ok(())
+    }
+
+    fn put_variables(&mut self, rows: &[Row], chosen: &[usize]) -> Result<(), AllocError> {
+        for &i in chosen {
+            if let Some(row) = rows.get(i) {
+                self.put_variables_of(row)?;
             }
         }
         Ok(())
@@ -297,10 +312,12 @@ impl Tableau {
         }
     }
 
-    fn put_signs(&mut self, rows: &[Row]) {
-        for (i, row) in rows.iter().enumerate() {
-            if let (Some(x), Ok(index)) = (sign_of(row), u32::try_from(i)) {
-                self.put_sign(x, index);
+    fn put_signs(&mut self, rows: &[Row], chosen: &[usize]) {
+        for &i in chosen {
+            if let Some(row) = rows.get(i) {
+                if let (Some(x), Ok(index)) = (sign_of(row), u32::try_from(i)) {
+                    self.put_sign(x, index);
+                }
             }
         }
     }
@@ -329,19 +346,23 @@ impl Tableau {
         Some(Side { constant, small })
     }
 
-    /// A row that isn't met: the first one, or in haste the one that is missed by most.
-    fn violated(&self, rows: &[Row], hasty: bool) -> Result<Option<usize>, TooGreat> {
+    /// A row that isn't met: that of the least index, or in haste the one that is missed by most.
+    fn violated(
+        &self,
+        rows: &[Row],
+        chosen: &[usize],
+        hasty: bool,
+    ) -> Result<Option<usize>, TooGreat> {
         let mut found: Option<usize> = None;
         let mut most: i128 = 0;
-        for (i, row) in rows.iter().enumerate() {
-            let Some(side) = self.side(row) else {
-                return Err(TooGreat);
-            };
-            if !side.is_met() && (found.is_none() || side.constant > most) {
-                found = Some(i);
-                most = side.constant;
-                if !hasty {
-                    return Ok(found);
+        for &i in chosen {
+            if let Some(row) = rows.get(i) {
+                let Some(side) = self.side(row) else {
+                    return Err(TooGreat);
+                };
+                if !side.is_met() && is_before(i, side.constant, found, most, hasty) {
+                    found = Some(i);
+                    most = side.constant;
                 }
             }
         }
@@ -414,11 +435,11 @@ impl Tableau {
     }
 
     /// The greatest value of the small number at which each row is met, at most 1: a numerator and a denominator.
-    fn small(&self, rows: &[Row]) -> Option<(i64, i64)> {
+    fn small(&self, rows: &[Row], chosen: &[usize]) -> Option<(i64, i64)> {
         let mut top: i64 = 1;
         let mut below: i64 = 1;
-        for row in rows {
-            let side = self.side(row)?;
+        for &i in chosen {
+            let side = self.side(rows.get(i)?)?;
             if side.small > 0 {
                 let constant = i64::try_from(side.constant.checked_neg()?).ok()?;
                 let slope = i64::try_from(side.small).ok()?;
@@ -432,8 +453,13 @@ impl Tableau {
     }
 
     /// The tableau's point. None where a number is too great.
-    fn point(&self, alloc: Global, rows: &[Row]) -> Result<Option<Spot>, AllocError> {
-        let Some((top, below)) = self.small(rows) else {
+    fn point(
+        &self,
+        alloc: Global,
+        rows: &[Row],
+        chosen: &[usize],
+    ) -> Result<Option<Spot>, AllocError> {
+        let Some((top, below)) = self.small(rows, chosen) else {
             return Ok(None);
         };
         let mut tops: Vec<i64> = Vec::new(alloc);
@@ -476,10 +502,15 @@ impl Tableau {
 }
 
 /// The tableau in which each variable is 0.
-fn first_tableau(alloc: Global, rows: &[Row], count: usize) -> Result<Tableau, AllocError> {
+fn first_tableau(
+    alloc: Global,
+    rows: &[Row],
+    chosen: &[usize],
+    count: usize,
+) -> Result<Tableau, AllocError> {
     let mut tableau = Tableau::new(alloc, count)?;
-    tableau.put_variables(rows)?;
-    tableau.put_signs(rows);
+    tableau.put_variables(rows, chosen)?;
+    tableau.put_signs(rows, chosen);
     tableau.put_lines(alloc)?;
     Ok(tableau)
 }
@@ -498,13 +529,14 @@ fn take_turn(
     alloc: Global,
     tableau: &mut Tableau,
     rows: &[Row],
+    chosen: &[usize],
     hasty: bool,
 ) -> Result<Turn, AllocError> {
-    let Ok(violated) = tableau.violated(rows, hasty) else {
+    let Ok(violated) = tableau.violated(rows, chosen, hasty) else {
         return Ok(Turn::Done(Proposal::Nothing));
     };
     let Some(at) = violated else {
-        return Ok(Turn::Done(match tableau.point(alloc, rows)? {
+        return Ok(Turn::Done(match tableau.point(alloc, rows, chosen)? {
             Some(spot) => Proposal::Point(spot),
             None => Proposal::Nothing,
         }));
@@ -526,11 +558,16 @@ fn take_turn(
     }
 }
 
-/// Proposes multipliers or a point for rows over variables below a number. Want of memory is the one error.
-pub(crate) fn propose(alloc: Global, rows: &[Row], count: usize) -> Result<Proposal, AllocError> {
-    let mut tableau = first_tableau(alloc, rows, count)?;
+/// Proposes multipliers or a point for the chosen ones of rows over variables below a number. Want of memory is the one error.
+pub(crate) fn propose(
+    alloc: Global,
+    rows: &[Row],
+    chosen: &[usize],
+    count: usize,
+) -> Result<Proposal, AllocError> {
+    let mut tableau = first_tableau(alloc, rows, chosen, count)?;
     for turns in 0..MOST_EXCHANGES {
-        match take_turn(alloc, &mut tableau, rows, turns < HASTY_EXCHANGES)? {
+        match take_turn(alloc, &mut tableau, rows, chosen, turns < HASTY_EXCHANGES)? {
             Turn::On => {}
             Turn::Done(proposal) => return Ok(proposal),
         }

@@ -1,9 +1,9 @@
 //! Points over one common denominator, and the rows that they meet.
-ghost use Rattle.std.specs.Prelude.{◌≡◌, ◌+ℤ◌, ◌*ℤ◌, ℕ, ℤ, pos, true, IfSome, IsTrue};
+ghost use Rattle.std.specs.Prelude.{◌≡◌, ◌+ℤ◌, ◌*ℤ◌, ◌<◌, ◌≤◌, ℕ, ℤ, pos, true, IfSome, length, take};
 ghost use Rattle.linear_form.specs.Terms.{sum_at};
 ghost use Rattle.linear_form.specs.Points.{IsBelow};
 ghost use Rattle.linear_form.specs.Solutions.{IsSolvable};
-ghost use Rattle.linear_elim.specs.internal.Spots.{top_at, IsMetBy};
+ghost use Rattle.linear_elim.specs.Spots.{top_at, IsMetBy, AreMetBy};
 
 use linear_form::{Row, solutions_of_rows};
 use std::alloc::Global;
@@ -17,7 +17,9 @@ pub struct Spot {
 
 impl Spot {
     /// The point at which each variable is 0.
-    pub fn origin(alloc: Global) -> Spot {
+    pub fn origin(alloc: Global) -> Spot
+        ensures { result.below ≡ 1 }
+    {
         Spot {
             below: 1,
             tops: Vec::new(alloc),
@@ -35,7 +37,7 @@ fn top_of(tops: &[i64], x: u32) -> i64
 }
 
 /// A sum with a product added to it; None where one of them is too great.
-fn with_product(sum: i128, a: i128, b: i128) -> Option<i128>
+pub(crate) fn with_product(sum: i128, a: i128, b: i128) -> Option<i128>
     ensures { IfSome result (λ z. z ≡ sum +ℤ (a *ℤ b)) }
 {
     let product = a.checked_mul(b)?;
@@ -73,7 +75,7 @@ fn is_below(strict: bool, left: i128) -> bool
 }
 
 /// Whether a point is known to meet a row.
-fn is_met(row: &Row, below: u64, tops: &[i64]) -> bool
+pub(crate) fn is_met(row: &Row, below: u64, tops: &[i64]) -> bool
     ensures { result ≡ true → IsMetBy below tops.now row.now }
 {
     let Some(sum) = terms_at(&row.terms, tops) else {
@@ -85,20 +87,25 @@ fn is_met(row: &Row, below: u64, tops: &[i64]) -> bool
     is_below(row.strict, left)
 }
 
-/// Whether a point is known to meet the rows.
-pub(crate) fn are_met(rows: &[Row], spot: &Spot) -> bool
-    ensures { IsTrue result → IsSolvable rows.now }
+/// How many of the first rows a point is known to meet, where it meets as many as these.
+pub(crate) fn met_from(rows: &[Row], spot: &Spot, from: usize) -> usize
+    requires { from ≤ length rows.now }
+    ensures within { result ≤ length rows.now }
+    ensures met { AreMetBy spot.now.below spot.now.tops.items (take from rows.now) → AreMetBy spot.now.below spot.now.tops.items (take result rows.now) }
 {
-    if spot.below == 0 {
-        return false;
-    }
-    let mut rest = rows;
-    'rows: while let Some((row, others)) = rest.split_first() {
-        if !is_met(row, spot.below, &spot.tops) {
-            return false;
+    for i in from..rows.len() {
+        if !is_met(&rows[i], spot.below, &spot.tops) {
+            return i;
         }
-        rest = others;
     }
+    rows.len()
+}
+
+/// Rows that a point meets are solvable.
+pub(crate) fn solved_by(spot: &Spot, rows: &[Row])
+    requires positive { 0 < spot.now.below }
+    requires met { AreMetBy spot.now.below spot.now.tops.items rows.now }
+    ensures { IsSolvable rows.now }
+{
     solutions_of_rows();
-    true
 }

@@ -7,7 +7,7 @@ use Rattle.linear_form.specs.Row.{Row, IsRow}
 use Rattle.linear_form.specs.Terms.{sum_at, IsNormal, is_narrow}
 use Rattle.std.specs.Int.RustNames.{int_div}
 use Rattle.std.specs.List.{All}
-use Rattle.std.specs.Prelude.{◌≡◌, ℕ, ◌<◌, ◌*◌, ◌^◌, ◌/◌, List, [], ◌∷◌, length, ℤ, pos, ◌*ℤ◌, Bool, true, false, ◌||◌, ◌&&◌}
+use Rattle.std.specs.Prelude.{◌≡◌, ℕ, ◌<◌, ◌^◌, ◌/◌, List, [], ◌∷◌, length, ℤ, pos, ◌*ℤ◌, Bool, true, false, ◌||◌, ◌&&◌}
 
 -- A first row is used that f says yes to.
 unfoldable pub any_at : (ℕ → Bool) → List (ℕ × ℤ) → Bool

@@ -1,5 +1,6 @@
--- Points that are given by a list of numbers over one denominator.
+-- Points that are given by a list of numbers over one denominator. Source: linear arithmetic over the rationals.
 use Rattle.std.specs.Prelude.{ℕ, List, ℤ, pos, ◌+ℤ◌, ◌*ℤ◌, get_or}
+use Rattle.std.specs.List.{All}
 use Rattle.linear_form.specs.Terms.{sum_at}
 use Rattle.linear_form.specs.Points.{IsBelow}
 use Rattle.linear_form.specs.Row.{Row}
@@ -11,3 +12,7 @@ top_at tops x = get_or tops x (pos 0)
 -- The values meet the row.
 pub record IsMetBy (below : ℕ) (tops : List ℤ) (r : Row) : Type 0 where
   pub met : IsBelow r.strict (sum_at (top_at tops) r.terms +ℤ (r.rest *ℤ pos below))
+
+-- The values meet each row.
+abbrev pub AreMetBy : ℕ → List ℤ → List Row → Type 0
+AreMetBy below tops rows = All (IsMetBy below tops) rows

@@ -1,0 +1,191 @@
+//! The rows of a path that a search makes use of: of those with the same terms the tightest one. Nothing rests on the choice: what is
+//! found by it is tested.
+use crate::gathering::have_same_terms;
+use crate::pairs::clash;
+use linear_form::Row;
+use std::alloc::{AllocError, Global};
+
+/// What was changed when a row was listed: its index, its place in the list, and the row that stood there before.
+#[derive(Clone, Copy)]
+struct Change {
+    row: usize,
+    place: usize,
+    before: Option<usize>,
+}
+
+/// The indexes of the tightest rows of a path, how they came to be listed, and how many rows were looked at.
+#[derive(Drop)]
+pub struct Listing {
+    listed: Vec<usize>,
+    changes: Vec<Change>,
+    looked: usize,
+}
+
+/// Whether a row's constant says more than that of another with the same terms.
+fn is_tighter(row: &Row, other: &Row) -> bool {
+    row.rest > other.rest || (row.rest == other.rest && row.strict && !other.strict)
+}
+
+/// The place at which a row with the same terms is listed.
+fn place_of(listed: &[usize], rows: &[Row], row: &Row) -> Option<usize> {
+    for place in 0..listed.len() {
+        if let Some(other) = rows.get(listed[place]) {
+            if have_same_terms(&other.terms, &row.terms) {
+                return Some(place);
+            }
+        }
+    }
+    None
+}
+
+impl Listing {
+    /// No row yet.
+    pub fn new(alloc: Global) -> Listing {
+        Listing {
+            listed: Vec::new(alloc),
+            changes: Vec::new(alloc),
+            looked: 0,
+        }
+    }
+
+    /// Takes back the last change.
+    fn undo(&mut self) {
+        if let Some(change) = self.changes.pop() {
+            match change.before {
+                None => {
+                    self.listed.pop();
+                }
+                Some(row) => {
+                    if let Some(listed) = self.listed.get_mut(change.place) {
+                        *listed = row;
+                    }
+                }
+            }
+        }
+    }
+
+    /// Whether the last change listed a row from a place on.
+    fn is_beyond(&self, len: usize) -> bool {
+        match self.changes.last() {
+            Some(change) => change.row >= len,
+            None => false,
+        }
+    }
+
+    /// Forgets the rows from a place on.
+    pub fn truncate(&mut self, len: usize) {
+        for _ in 0..self.changes.len() {
+            if !self.is_beyond(len) {
+                break;
+            }
+            self.undo();
+        }
+        if self.looked > len {
+            self.looked = len;
+        }
+    }
+
+    /// Lists a row, unless one that says as much is listed.
+    fn put(&mut self, rows: &[Row], index: usize) -> Result<(), AllocError> {
+        let Some(row) = rows.get(index) else {
+            return Ok(());
+        };
+        match place_of(&self.listed, rows, row) {
+            None => {
+                self.changes.push(Change {
+                    row: index,
+                    place: self.listed.len(),
+                    before: None,
+                })?;
+                self.listed.push(index)?;
+                Ok(())
+            }
+            Some(place) => self.tighten(rows, row, index, place),
+        }
+    }
+
+    /// Lists a row in the place of another, where it says more.
+    fn tighten(
+        &mut self,
+        rows: &[Row],
+        row: &Row,
+        index: usize,
+        place: usize,
+    ) -> Result<(), AllocError> {
+        if let Some(listed) = self.listed.get_mut(place) {
+            if let Some(other) = rows.get(*listed) {
+                if is_tighter(row, other) {
+                    self.changes.push(Change {
+                        row: index,
+                        place,
+                        before: Some(*listed),
+                    })?;
+                    *listed = index;
+                }
+            }
+        }
+        Ok(())
+    }
+
+    /// Lists the rows before a place that weren't looked at.
+    pub fn look(&mut self, rows: &[Row], kept: usize) -> Result<(), AllocError> {
+        for index in self.looked..kept {
+            self.put(rows, index)?;
+        }
+        self.looked = kept;
+        Ok(())
+    }
+
+    /// Multipliers of a row and a listed one that may combine them to a contradiction.
+    pub fn against(
+        &self,
+        alloc: Global,
+        rows: &[Row],
+        index: usize,
+    ) -> Result<Option<Vec<(u32, u64)>>, AllocError> {
+        if let Some(row) = rows.get(index) {
+            for &other in &self.listed {
+                if let Some(listed) = rows.get(other) {
+                    if let Some((p, q)) = clash(row, listed) {
+                        return multipliers_of(alloc, index, p, other, q);
+                    }
+                }
+            }
+        }
+        Ok(None)
+    }
+
+    /// The listed rows, and those from a place on.
+    pub fn chosen(&self, alloc: Global, kept: usize, len: usize) -> Result<Vec<usize>, AllocError> {
+        let mut chosen: Vec<usize> = Vec::new(alloc);
+        for &index in &self.listed {
+            chosen.push(index)?;
+        }
+        for index in kept..len {
+            chosen.push(index)?;
+        }
+        Ok(chosen)
+    }
+}
+
+/// The multipliers of two rows, the lesser index first.
+fn multipliers_of(
+    alloc: Global,
+    i: usize,
+    p: u64,
+    j: usize,
+    q: u64,
+) -> Result<Option<Vec<(u32, u64)>>, AllocError> {
+    let (Ok(first), Ok(second)) = (u32::try_from(i), u32::try_from(j)) else {
+        return Ok(None);
+    };
+    let mut multipliers: Vec<(u32, u64)> = Vec::new(alloc);
+    if i < j {
+        multipliers.push((first, p))?;
+        multipliers.push((second, q))?;
+    } else {
+        multipliers.push((second, q))?;
+        multipliers.push((first, p))?;
+    }
+    Ok(Some(multipliers))
+}
