@@ -21,7 +21,8 @@ use Rattle.farkas_check.specs.declared.trees.Tree.TheFolds.{fold-roll-Tree}
 use Rattle.region_split.specs.Walk.{AreCells, IsRefutedCell, IsSettled}
 use Rattle.region_split.specs.WalkTree.{IsWalkTree, depth}
 use Rattle.region_split.specs.internal.Seen.{IsEnd, IsDroppedBy}
-use Rattle.region_split.specs.internal.Progress.{HoldsAt, IsGrownTree, IsDeep, IsGrown, HasWholeTree, IsBranch, IsAfter, IsFound, IsWalk, IsFinishedWalk}
+use Rattle.region_split.specs.internal.Trails.{StandsAt}
+use Rattle.region_split.specs.internal.Progress.{HoldsAt, IsGrownTree, IsDeep, IsGrown, HasWholeTree, IsBranch, IsAfter, IsFound, IsStandingWalk, IsFinishedWalk}
 use Rattle.region_split.specs.declared.growth.Grown.{Grown}
 use Rattle.region_split.specs.declared.walk.Walk.{Walk}
 use Rattle.region_split.proofs.CellsFound.{holds_not_false}
@@ -126,20 +127,27 @@ whole_deep g h = record { tree = h.tree; is_tree = h.is_tree; is_given = h.deep 
 
 -- ---- Finished branches of a walk
 
-pub dropped_finished : (g : Goal) (w : Walk) (tree : Option Grown) → IsWalk g w → IsBranch g (path_of w.path.items) [] tree → IsFinishedWalk g w tree
-dropped_finished g w tree h b = record {
-  all = h.before;
-  after = record { before = h.before; here = []; whole = append-nil h.before; stands = h.stands; branch = b };
-  found = h.found;
-  counted = h.counted;
-  few = h.few;
-}
+pub dropped_finished : (g : Goal) (w : Walk) (tree : Option Grown) → IsStandingWalk g w → IsBranch g (path_of w.trail.path.items) [] tree → IsFinishedWalk g w tree
+dropped_finished g w tree h b =
+    let i = h.come in
+    record {
+      stands = h.stands;
+      all = i.before;
+      after = record { before = i.before; here = []; whole = append-nil i.before; stands = i.stands; branch = b };
+      found = i.found;
+      counted = i.counted;
+      few = i.few;
+    }
 
-pub cell_finished : (g : Goal) (w next : Walk) (tree : Option Grown) → IsWalk g w → w.count < 4096 → next.count ≡ w.count + 1 → next.path ≡ w.path → next.trees ≡ w.trees → IsBranch g (path_of w.path.items) (path_of w.path.items ∷ []) tree → ((cells : List (List Taken)) → IsFound g cells w.found → IsFound g (cells ++ (path_of w.path.items ∷ [])) next.found) → IsFinishedWalk g next tree
-cell_finished g w next tree h l k p t b f = record {
-  all = h.before ++ (path_of w.path.items ∷ []);
-  after = subst (λ v. IsAfter g (path_of v.items) next.trees.items (h.before ++ (path_of w.path.items ∷ [])) tree) (sym p) (subst (λ v. IsAfter g (path_of w.path.items) v.items (h.before ++ (path_of w.path.items ∷ [])) tree) (sym t) (record { before = h.before; here = path_of w.path.items ∷ []; whole = refl; stands = h.stands; branch = b }));
-  found = f h.before h.found;
-  counted = let a = length-append h.before (path_of w.path.items ∷ []) in let c = h.counted in omega (arith, a, c, k);
-  few = omega arith;
-}
+pub cell_finished : (g : Goal) (w next : Walk) (tree : Option Grown) → IsStandingWalk g w → w.count < 4096 → next.count ≡ w.count + 1 → StandsAt g (path_of w.trail.path.items) next.trail → next.trees ≡ w.trees → IsBranch g (path_of w.trail.path.items) (path_of w.trail.path.items ∷ []) tree → ((cells : List (List Taken)) → IsFound g cells w.found → IsFound g (cells ++ (path_of w.trail.path.items ∷ [])) next.found) → IsFinishedWalk g next tree
+cell_finished g w next tree h l k s t b f =
+    let i = h.come in
+    let ps = path_of w.trail.path.items in
+    record {
+      stands = s.stands;
+      all = i.before ++ (ps ∷ []);
+      after = subst (λ qs. IsAfter g qs next.trees.items (i.before ++ (ps ∷ [])) tree) (sym s.path) (subst (λ v. IsAfter g ps v.items (i.before ++ (ps ∷ [])) tree) (sym t) (record { before = i.before; here = ps ∷ []; whole = refl; stands = i.stands; branch = b }));
+      found = f i.before i.found;
+      counted = let a = length-append i.before (ps ∷ []) in let c = i.counted in omega (arith, a, c, k);
+      few = omega arith;
+    }

@@ -1,3 +1,4 @@
+mod Trails
 mod PathAnswers
 mod Moved
 mod Climbing

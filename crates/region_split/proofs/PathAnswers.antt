@@ -1,6 +1,6 @@
 -- What the rows of a path come to, and what stands at a path.
 use Rattle.std.proofs.Common.{◌≡◌, ℕ, List, Bool, true, false, refl, sym, ◌∙◌, ap, subst}
-use Rattle.std.specs.Prelude.{Option, Some, None, is_some, is_none, not}
+use Rattle.std.specs.Prelude.{Option, Some, None, is_some, is_none, not, IsTrue, ◌↔◌}
 use Rattle.heylo_formula.specs.Goals.{Goal}
 use Rattle.heylo_formula.specs.State.{environment, number_of}
 use Rattle.heylo_formula.specs.declared.values.Val.{Val}
@@ -9,13 +9,14 @@ use Rattle.linear_form.specs.Query.Query.{done, bits, ask}
 use Rattle.linear_form.specs.Questions.{Ends}
 use Rattle.linear_form.specs.Paths.{end_at}
 use Rattle.linear_form.specs.PathRows.{rows_of, denial, denial_at}
-use Rattle.linear_form.specs.PlainPaths.{linear_of}
+use Rattle.linear_form.specs.PlainPaths.{linear_of, atom_of}
+use Rattle.linear_form.specs.Tightening.{Claim}
 use Rattle.linear_form.specs.Row.{Row}
 use Rattle.linear_form.specs.Asked.{Answers}
 use Rattle.linear_form.specs.Solutions.{IsSolvable}
 use Rattle.linear_form.specs.Combination.{IsContradiction}
 use Rattle.linear_form.specs.GreedyPoint.{IsGreedyPoint}
-use Rattle.linear_form.specs.Cells.{IsDropped, IsKept}
+use Rattle.linear_form.specs.Cells.{IsDropped, IsKept, GoesOn}
 use Rattle.linear_form.specs.declared.asking.Ask as K
 use Rattle.linear_form.specs.declared.paths.Atom as A
 use Rattle.linear_form.specs.declared.lin.Lin as L
@@ -27,7 +28,7 @@ use Rattle.linear_elim.specs.declared.answers.Cause.TheVariants.{Bits, Rows}
 use Rattle.farkas_check.specs.Accepted.{has_denied, IsRefutedWith}
 use Rattle.region_split.specs.Walk.{IsReached}
 use Rattle.region_split.specs.Decisions.{Eliminates, IsLarge}
-use Rattle.region_split.specs.internal.Seen.{MayLook, EndsWalk, IsPointAt, IsBreakAt, IsMetAt, IsDroppedBy}
+use Rattle.region_split.specs.internal.Seen.{MayLook, EndsWalk, IsPointAt, IsBreakAt, IsMetAt, IsDroppedBy, IsEnd}
 
 -- ---- What the elimination answers
 
@@ -82,6 +83,47 @@ is_bits (ask q y n) h = absurd h
 
 pub bits_there : (g : Goal) (ps : List Taken) → IsKept g ps → Answers K.TheVariants.Bits (end_at g ps) → EndsWalk g ps false Bits
 bits_there g ps k a cells r m linear = (linear, IsLarge.in_values ps cells r k (is_bits (end_at g ps) a))
+
+-- the next question
+pub question_there : (g : Goal) (ps : List Taken) (q : A.Atom) → IsKept g ps → Answers (K.TheVariants.Decide q) (end_at g ps) → GoesOn g ps (atom_of q)
+question_there g ps q k a = go (end_at g ps) refl a
+  where
+    go : (t : Query Ends) → end_at g ps ≡ t → Answers (K.TheVariants.Decide q) t → GoesOn g ps (atom_of q)
+    go (done e) h b = absurd b
+    go bits h b = absurd b
+    go (ask r y n) h b = subst (GoesOn g ps) (sym b) (record { kept = k; asks = record { yes = y; no = n; question = h } })
+
+none_where : (b : Bool) (o : Option Claim) → b ≡ is_none o → IsTrue b → o ≡ None
+none_where b None h t = refl
+none_where true (Some k) h t = absurd (cc)
+none_where false (Some k) h t = absurd (cc)
+
+true_where : (b : Bool) (o : Option Claim) → b ≡ is_none o → o ≡ None → IsTrue b
+true_where true o h e = refl
+true_where false None h e = absurd (cc)
+true_where false (Some k) h e = absurd (cc)
+
+ends_there : (x y : Option L.Lin) (t : Query Ends) → Answers (K.TheVariants.End x y) t → t ≡ done (linear_of x, linear_of y)
+ends_there x y (done e) a = ap done (sym a)
+ends_there x y bits a = absurd a
+ends_there x y (ask q r n) a = absurd a
+
+-- an end
+pub end_there : (g : Goal) (ps : List Taken) (x y : Option L.Lin) (plain : Bool) → IsKept g ps → Answers (K.TheVariants.End x y) (end_at g ps) → plain ≡ is_none (denial g.upper (linear_of x, linear_of y)) → IsEnd g ps plain
+end_there g ps x y plain k a h =
+    let e = ends_there x y (end_at g ps) a in
+    record {
+      kept = k;
+      ends = (linear_of x, linear_of y);
+      at_end = e;
+      holds_plainly = (
+        λ t. record { ends = (linear_of x, linear_of y); at_end = e; plain = none_where plain (denial g.upper (linear_of x, linear_of y)) h t },
+        λ p. true_where plain (denial g.upper (linear_of x, linear_of y)) h (ap (denial g.upper) (same_ends p.ends (linear_of x, linear_of y) (sym e ∙ p.at_end)) ∙ p.plain),
+      );
+    }
+  where
+    same_ends : (d f : Ends) → done f ≡ done d → f ≡ d
+    same_ends d f q = cc
 
 undenied_bits : (upper : Bool) (t : Query Ends) → Answers K.TheVariants.Bits t → is_some (denial_at upper t) ≡ false
 undenied_bits upper t a = ap (λ s. is_some (denial_at upper s)) (is_bits t a)

@@ -1,9 +1,9 @@
 -- How a walk goes on from its path.
 use Rattle.std.proofs.Common.{◌≡◌, ℕ, ◌+◌, ◌<◌, ◌≤◌, ◌^◌, List, [], ◌∷◌, ◌++◌, length, refl, sym, ap, ◌∙◌, subst, arith, Vec, Global, Bool, true, false, inl}
-use Rattle.std.specs.Prelude.{Option, Some, None, option_to_list}
+use Rattle.std.specs.Prelude.{Option, Some, None, Result, IfOk, option_to_list}
 use Rattle.std.specs.Option.{option_flatten}
 use Rattle.std.proofs.lemmas.List.Elements.{All-nil}
-use Rattle.std.proofs.lemmas.List.{map-append, length-map}
+use Rattle.std.proofs.lemmas.List.{length-map}
 use Rattle.heylo_formula.specs.Goals.{Goal}
 use Rattle.heylo_formula.specs.declared.values.Val.{Val}
 use Rattle.linear_form.specs.Query.{Atom, Taken, onto}
@@ -23,10 +23,13 @@ use Rattle.region_split.specs.Decisions.{HasCells, IsBreakOf, IsCause}
 use Rattle.heylo_formula.specs.TypedGoals.{IsTypedGoal}
 use Rattle.region_split.proofs.TypedBreaks.{break_of}
 use Rattle.region_split.specs.internal.Seen.{EndsWalk, IsEnd, IsDroppedBy, IsPointAt, IsBreakAt, IsMetAt}
-use Rattle.region_split.specs.internal.Progress.{HoldsAt, AreShort, IsGrown, IsBranch, HasBefore, IsAfter, IsNextFront, IsFound, IsWalk, IsFinishedWalk, IsJudgedCell, rest_of, left_of}
+use Rattle.region_split.specs.internal.Trails.{Comes, ComesBy, Stands, StandsAt}
+use Rattle.region_split.specs.internal.Progress.{HoldsAt, AreShort, IsGrown, IsBranch, HasBefore, IsAfter, HasRisen, IsNextFront, IsFound, HasCome, IsWalk, IsStandingWalk, IsFinishedWalk, IsStep, IsJudgedCell, rest_of, left_of}
 use Rattle.region_split.specs.declared.growth.Grown.{Grown}
 use Rattle.region_split.specs.declared.found.Found.{Found}
+use Rattle.region_split.specs.declared.trail.Trail.{Trail}
 use Rattle.region_split.specs.declared.walk.Walk.{Walk}
+use Rattle.region_split.specs.declared.walk.Step.{Step}
 use Rattle.region_split.proofs.Climbing.{taken, in_first, in_second, after_second, before_second, after_start, left_second, left_first, rest_below, rest_up}
 use Rattle.region_split.proofs.CellOrder.{front_path, stands_front, reached, cell_here, many_cells}
 use Rattle.region_split.proofs.CellsFound.{found_holds, point_is_false, break_is_false, met_is_false, point_longer}
@@ -34,103 +37,140 @@ use Rattle.region_split.proofs.Leaves.{leaf_of, dropped_leaf, plain_leaf, refute
 
 -- ---- Paths that the program holds
 
-pub path_onto : (xs ys : List T.Taken) (p : T.Taken) (b : Bool) → ys ≡ xs ++ (p ∷ []) → p.held ≡ b → path_of ys ≡ onto (path_of xs) (atom_of p.atom) b
-path_onto xs ys p b e h = ap path_of e ∙ map-append taken_of xs (p ∷ []) ∙ ap (λ c. path_of xs ++ (taken (atom_of p.atom) c ∷ [])) h
+pub path_onto : (xs ys : List Taken) (p : T.Taken) (b : Bool) → ys ≡ xs ++ (taken_of p ∷ []) → p.held ≡ b → ys ≡ onto xs (atom_of p.atom) b
+path_onto xs ys p b e h = e ∙ ap (λ c. xs ++ (taken (atom_of p.atom) c ∷ [])) h
 
 -- ---- Going up
 
-pub next_branch : (g : Goal) (all : List (List Taken)) (start path xs next : List T.Taken) (trees more : List (Option Grown)) (tree : Option Grown) (p q : T.Taken) → IsAfter g (path_of path) trees all tree → rest_of (questions g) (path_of path) ≡ rest_of (questions g) (path_of start) → path ≡ xs ++ (p ∷ []) → p.held ≡ true → next ≡ xs ++ (q ∷ []) → q.atom ≡ p.atom → q.held ≡ false → more ≡ trees ++ (tree ∷ []) → IsNextFront g (path_of start) all (path_of next) more
-next_branch g all start path xs next trees more tree p q a r e h f k l m =
-    let b = path_onto xs path p true e h in
-    let c : path_of next ≡ onto (path_of xs) (atom_of p.atom) false = path_onto xs next q false f l ∙ ap (λ x. onto (path_of xs) (atom_of x) false) k in
-    let d = subst (λ ps. IsAfter g ps trees all tree) b a in
-    let s = in_first g (onto (path_of xs) (atom_of p.atom) true) (path_of xs) (atom_of p.atom) d.before trees refl d.stands in
-    let n = left_second g (path_of xs) (atom_of p.atom) s.goes_on in
+pub next_branch : (g : Goal) (all : List (List Taken)) (from : List Taken) (t before next : Trail) (trees more : List (Option Grown)) (tree : Option Grown) (p q : T.Taken) → HasRisen g all from t trees tree → path_of t.path.items ≡ path_of before.path.items ++ (taken_of p ∷ []) → p.held ≡ true → ComesBy g before q next → q.atom ≡ p.atom → q.held ≡ false → more ≡ trees ++ (tree ∷ []) → Comes g next × IsNextFront g from all (path_of next.path.items) more
+next_branch g all from t before next trees more tree p q r e h n k l m =
+    let xs = path_of before.path.items in
+    let b = path_onto xs (path_of t.path.items) p true e h in
+    let c : path_of next.path.items ≡ onto xs (atom_of p.atom) false = path_onto xs (path_of next.path.items) q false n.path l ∙ ap (λ x. onto xs (atom_of x) false) k in
+    let d = subst (λ ps. IsAfter g ps trees all tree) b r.after in
+    let s = in_first g (onto xs (atom_of p.atom) true) xs (atom_of p.atom) d.before trees refl d.stands in
+    let o = left_second g xs (atom_of p.atom) s.goes_on in
     let u = ap (rest_of (questions g)) b in
-    let v = rest_below g (path_of start) in
+    let v = rest_below g from in
     let w = ap (left_of g) c in
-    record {
-      stands = subst (λ ps. HasBefore g ps all more) (sym c) (subst (λ ts. HasBefore g (onto (path_of xs) (atom_of p.atom) false) all ts) (sym m) (before_second g (path_of xs) (atom_of p.atom) trees all tree d));
-      less = omega (arith, n, u, v, w, r);
-    }
+    let x = r.rest in (
+      n.comes,
+      record {
+        stands = subst (λ ps. HasBefore g ps all more) (sym c) (subst (λ ts. HasBefore g (onto xs (atom_of p.atom) false) all ts) (sym m) (before_second g xs (atom_of p.atom) trees all tree d));
+        less = omega (arith, o, u, v, w, x);
+      },
+    )
 
 last_tree : (trees others : List (Option Grown)) (left : Option (Option Grown)) (known : List (Option Grown)) (tree : Option Grown) → known ++ (tree ∷ []) ≡ trees → (left ≡ None → length trees ≡ 0) → trees ≡ others ++ option_to_list left → trees ≡ others ++ (option_flatten left ∷ [])
 last_tree trees others (Some t) known tree k n e = e
 last_tree trees others None [] tree k n e = let l = n refl in let m = ap length k in absurd (omega (arith, l, m))
 last_tree trees others None (x ∷ known) tree k n e = let l = n refl in let m : length (x ∷ (known ++ (tree ∷ []))) ≡ length trees = ap length k in absurd (omega (arith, l, m))
 
-pub question_finished : (g : Goal) (all : List (List Taken)) (start path xs : List T.Taken) (trees others : List (Option Grown)) (tree joined : Option Grown) (left : Option (Option Grown)) (flat : Option Grown) (p : T.Taken) → IsAfter g (path_of path) trees all tree → rest_of (questions g) (path_of path) ≡ rest_of (questions g) (path_of start) → path ≡ xs ++ (p ∷ []) → p.held ≡ false → (left ≡ None → length trees ≡ 0) → trees ≡ others ++ option_to_list left → flat ≡ option_flatten left → ((ps : List Taken) (q : Atom) → GoesOn g ps q → IsGrown g (onto ps q true) flat → IsGrown g (onto ps q false) tree → IsGrown g ps joined) → IsAfter g (path_of xs) others all joined × (rest_of (questions g) (path_of xs) ≡ rest_of (questions g) (path_of start))
-question_finished g all start path xs trees others tree joined left flat p a r e h n f k j =
-    let b = path_onto xs path p false e h in
-    let d = subst (λ ps. IsAfter g ps trees all tree) b a in
-    let s = in_second g (onto (path_of xs) (atom_of p.atom) false) (path_of xs) (atom_of p.atom) d.before trees refl d.stands in
-    let t = last_tree trees others left s.others s.tree s.whole_trees n f in
-    (after_second g (path_of xs) (atom_of p.atom) trees others all (option_flatten left) tree joined d t (λ m x y. j (path_of xs) (atom_of p.atom) m (subst (IsGrown g (onto (path_of xs) (atom_of p.atom) true)) (sym k) x) y), sym (rest_up g (path_of xs) (atom_of p.atom) s.goes_on) ∙ sym (ap (rest_of (questions g)) b) ∙ r)
+pub question_finished : (g : Goal) (all : List (List Taken)) (from : List Taken) (t before : Trail) (trees others : List (Option Grown)) (tree joined : Option Grown) (left : Option (Option Grown)) (flat : Option Grown) (p : T.Taken) → HasRisen g all from t trees tree → Stands g before → path_of t.path.items ≡ path_of before.path.items ++ (taken_of p ∷ []) → p.held ≡ false → (left ≡ None → length trees ≡ 0) → trees ≡ others ++ option_to_list left → flat ≡ option_flatten left → ((ps : List Taken) (q : Atom) → GoesOn g ps q → IsGrown g (onto ps q true) flat → IsGrown g (onto ps q false) tree → IsGrown g ps joined) → HasRisen g all from before others joined
+question_finished g all from t before trees others tree joined left flat p r z e h n f k j =
+    let xs = path_of before.path.items in
+    let b = path_onto xs (path_of t.path.items) p false e h in
+    let d = subst (λ ps. IsAfter g ps trees all tree) b r.after in
+    let s = in_second g (onto xs (atom_of p.atom) false) xs (atom_of p.atom) d.before trees refl d.stands in
+    let u = last_tree trees others left s.others s.tree s.whole_trees n f in
+    record {
+      stands = z;
+      after = after_second g xs (atom_of p.atom) trees others all (option_flatten left) tree joined d u (λ m x y. j xs (atom_of p.atom) m (subst (IsGrown g (onto xs (atom_of p.atom) true)) (sym k) x) y);
+      rest = sym (rest_up g xs (atom_of p.atom) s.goes_on) ∙ sym (ap (rest_of (questions g)) b) ∙ r.rest;
+    }
 
-no_items : {A : Type 0} (xs : List A) → length xs ≡ 0 → xs ≡ []
-no_items [] e = refl
-no_items (x ∷ xs) e = absurd (omega (arith, e))
-
-pub all_finished : (g : Goal) (all : List (List Taken)) (path : List T.Taken) (trees : List (Option Grown)) (tree : Option Grown) → IsAfter g (path_of path) trees all tree → length path ≡ 0 → IsBranch g [] all tree
-all_finished g all path trees tree a e = after_start g trees all tree (subst (λ ps. IsAfter g (path_of ps) trees all tree) (no_items path e) a)
+pub all_finished : (g : Goal) (all : List (List Taken)) (from : List Taken) (t : Trail) (trees : List (Option Grown)) (tree : Option Grown) → HasRisen g all from t trees tree → path_of t.path.items ≡ [] → IsBranch g [] all tree
+all_finished g all from t trees tree r e = after_start g trees all tree (subst (λ ps. IsAfter g ps trees all tree) e r.after)
 
 -- ---- Going down
 
-pub deeper_walk : (g : Goal) (w next : Walk) (p : T.Taken) → IsWalk g w → GoesOn g (path_of w.path.items) (atom_of p.atom) → next.path.items ≡ w.path.items ++ (p ∷ []) → p.held ≡ true → next.trees.items ≡ w.trees.items → next.count ≡ w.count → next.found ≡ w.found → IsWalk g next × (left_of g (path_of next.path.items) < left_of g (path_of w.path.items))
-deeper_walk g w next p h k e b t n f =
-    let c = path_onto w.path.items next.path.items p true e b in
-    let l = left_first g (path_of w.path.items) (atom_of p.atom) k in
-    let m = ap (left_of g) c in (
+pub deeper_walk : (g : Goal) (w next : Walk) (p : T.Taken) → IsStandingWalk g w → GoesOn g (path_of w.trail.path.items) (atom_of p.atom) → ComesBy g w.trail p next.trail → p.held ≡ true → next.trees ≡ w.trees → next.count ≡ w.count → next.found ≡ w.found → IsWalk g next × (left_of g (path_of next.trail.path.items) < left_of g (path_of w.trail.path.items))
+deeper_walk g w next p h k o b t n f =
+    let ps = path_of w.trail.path.items in
+    let c = path_onto ps (path_of next.trail.path.items) p true o.path b in
+    let l = left_first g ps (atom_of p.atom) k in
+    let m = ap (left_of g) c in
+    let i = h.come in (
       record {
-        before = h.before;
-        stands = subst (λ ps. HasBefore g ps h.before next.trees.items) (sym c) (subst (λ ts. HasBefore g (onto (path_of w.path.items) (atom_of p.atom) true) h.before ts) (sym t) (HasBefore.first (path_of w.path.items) (atom_of p.atom) h.before w.trees.items k h.stands));
-        found = subst (IsFound g h.before) (sym f) h.found;
-        counted = h.counted ∙ sym n;
-        few = let i = h.few in omega (arith, i, n);
+        comes = o.comes;
+        come = record {
+          before = i.before;
+          stands = subst (λ qs. HasBefore g qs i.before next.trees.items) (sym c) (subst (λ ts. HasBefore g (onto ps (atom_of p.atom) true) i.before ts.items) (sym t) (HasBefore.first ps (atom_of p.atom) i.before w.trees.items k i.stands));
+          found = subst (IsFound g i.before) (sym f) i.found;
+          counted = i.counted ∙ sym n;
+          few = let j = i.few in omega (arith, j, n);
+        };
       },
       omega (arith, l, m),
     )
 
-pub next_walk : (g : Goal) (w next : Walk) (tree : Option Grown) (h : IsFinishedWalk g w tree) → IsNextFront g (path_of w.path.items) h.all (path_of next.path.items) next.trees.items → next.count ≡ w.count → next.found ≡ w.found → IsWalk g next × (left_of g (path_of next.path.items) < left_of g (path_of w.path.items))
-next_walk g w next tree h k n f = (
+pub next_walk : (g : Goal) (w next : Walk) (tree : Option Grown) (h : IsFinishedWalk g w tree) → Comes g next.trail → IsNextFront g (path_of w.trail.path.items) h.all (path_of next.trail.path.items) next.trees.items → next.count ≡ w.count → next.found ≡ w.found → IsWalk g next × (left_of g (path_of next.trail.path.items) < left_of g (path_of w.trail.path.items))
+next_walk g w next tree h c k n f = (
   record {
-    before = h.all;
-    stands = k.stands;
-    found = subst (IsFound g h.all) (sym f) h.found;
-    counted = h.counted ∙ sym n;
-    few = let i = h.few in omega (arith, i, n);
+    comes = c;
+    come = record {
+      before = h.all;
+      stands = k.stands;
+      found = subst (IsFound g h.all) (sym f) h.found;
+      counted = h.counted ∙ sym n;
+      few = let i = h.few in omega (arith, i, n);
+    };
   },
   k.less,
 )
 
 -- ---- Where a walk stands
 
-pub walk_front : (g : Goal) (w : Walk) → IsWalk g w → IsFront g (path_of w.path.items)
-walk_front g w h = stands_front g (path_of w.path.items) h.before w.trees.items h.stands
+pub come_front : (g : Goal) (ps : List Taken) (w : Walk) → HasCome g ps w → IsFront g ps
+come_front g ps w h = stands_front g ps h.before w.trees.items h.stands
 
-pub walk_path : (g : Goal) (w : Walk) → IsWalk g w → IsPath g (path_of w.path.items)
-walk_path g w h = front_path g (path_of w.path.items) (walk_front g w h)
+pub come_path : (g : Goal) (ps : List Taken) (w : Walk) → HasCome g ps w → IsPath g ps
+come_path g ps w h = front_path g ps (come_front g ps w h)
 
-walk_reached : (g : Goal) (w : Walk) (h : IsWalk g w) → IsReached g (path_of w.path.items) h.before
-walk_reached g w h = let c = h.counted in let f = h.few in reached g (path_of w.path.items) h.before w.trees.items h.stands (omega (arith, c, f))
+come_reached : (g : Goal) (ps : List Taken) (w : Walk) (h : HasCome g ps w) → IsReached g ps h.before
+come_reached g ps w h = let c = h.counted in let f = h.few in reached g ps h.before w.trees.items h.stands (omega (arith, c, f))
+
+-- the walk once its trail stands at the front
+abbrev pub with_trail : Walk → Trail → Walk
+with_trail w t = record { trail = t; trees = w.trees; count = w.count; found = w.found }
+
+pub standing : (g : Goal) (w : Walk) (t : Trail) → IsWalk g w → StandsAt g (path_of w.trail.path.items) t → IsStandingWalk g (with_trail w t)
+standing g w t h s =
+    let i = h.come in
+    record {
+      stands = s.stands;
+      come = subst (λ ps. HasCome g ps (with_trail w t)) (sym s.path) (record {
+        before = i.before;
+        stands = i.stands;
+        found = i.found;
+        counted = i.counted;
+        few = i.few;
+      });
+    }
+
+pub here : (g : Goal) (t : Trail) → Stands g t → StandsAt g (path_of t.path.items) t
+here g t s = record { stands = s; path = refl }
+
+pub step_from : {E : Type 0} (g : Goal) (ps qs : List Taken) (r : Result Step E) → qs ≡ ps → IfOk r (λ s. IsStep g qs s) → IfOk r (λ s. IsStep g ps s)
+step_from g ps qs r e h = subst (λ xs. IfOk r (λ s. IsStep g xs s)) e h
 
 -- the cause of a front, and that of a cell
-pub front_ends : (g : Goal) (w : Walk) (cause : Cause) → nonlinear_product g ≡ None → IsWalk g w → EndsWalk g (path_of w.path.items) false cause → IsCause g cause
-front_ends g w cause l h r = r h.before (walk_reached g w h) tt l
+pub front_ends : (g : Goal) (ps : List Taken) (w : Walk) (cause : Cause) → nonlinear_product g ≡ None → HasCome g ps w → EndsWalk g ps false cause → IsCause g cause
+front_ends g ps w cause l h r = r h.before (come_reached g ps w h) tt l
 
-pub cell_ends : (g : Goal) (w : Walk) (plain : Bool) (cause : Cause) → nonlinear_product g ≡ None → IsWalk g w → IsEnd g (path_of w.path.items) plain → w.count < 4096 → (IsPlainAt g (path_of w.path.items) → ⊥) → EndsWalk g (path_of w.path.items) true cause → IsCause g cause
-cell_ends g w plain cause l h e f n r = r h.before (walk_reached g w h) (let c = h.counted in omega (arith, c, f), (cell_here g (path_of w.path.items) plain (walk_front g w h) e, n)) l
+pub cell_ends : (g : Goal) (ps : List Taken) (w : Walk) (plain : Bool) (cause : Cause) → nonlinear_product g ≡ None → HasCome g ps w → IsEnd g ps plain → w.count < 4096 → (IsPlainAt g ps → ⊥) → EndsWalk g ps true cause → IsCause g cause
+cell_ends g ps w plain cause l h e f n r = r h.before (come_reached g ps w h) (let c = h.counted in omega (arith, c, f), (cell_here g ps plain (come_front g ps w h) e, n)) l
 
 pub walk_short : (g : Goal) (ps : List T.Taken) → AreShort g → IsPath g (path_of ps) → length ps + 1 + length g.types < 2 ^ 32
 walk_short g ps s p = let l = length-map ps taken_of in let h = s (path_of ps) p in omega (arith, l, h)
 
-pub dropped_walk : (g : Goal) (w : Walk) (ms : Vec (ℕ × ℕ) Global) (tree : Option Grown) → tree ≡ leaf_of (F.Farkas ms) → IsWalk g w → IsDroppedBy g (path_of w.path.items) ms.items → IsFinishedWalk g w tree
-dropped_walk g w ms tree e h d = subst (IsFinishedWalk g w) (sym e) (dropped_finished g w _ h (dropped_leaf g (path_of w.path.items) ms d))
+pub dropped_walk : (g : Goal) (w : Walk) (ms : Vec (ℕ × ℕ) Global) (tree : Option Grown) → tree ≡ leaf_of (F.Farkas ms) → IsStandingWalk g w → IsDroppedBy g (path_of w.trail.path.items) ms.items → IsFinishedWalk g w tree
+dropped_walk g w ms tree e h d = subst (IsFinishedWalk g w) (sym e) (dropped_finished g w _ h (dropped_leaf g (path_of w.trail.path.items) ms d))
 
 -- ---- Another cell
 
-pub all_counted : (g : Goal) (w : Walk) (plain : Bool) → IsWalk g w → IsEnd g (path_of w.path.items) plain → 4096 ≤ w.count → HasCells g 4097
-all_counted g w plain h e l = let c = h.counted in let f = h.few in many_cells g (path_of w.path.items) h.before w.trees.items plain h.stands e (omega (arith, c, f))
+pub all_counted : (g : Goal) (ps : List Taken) (w : Walk) (plain : Bool) → HasCome g ps w → IsEnd g ps plain → 4096 ≤ w.count → HasCells g 4097
+all_counted g ps w plain h e l = let c = h.counted in let f = h.few in many_cells g ps h.before w.trees.items plain h.stands e (omega (arith, c, f))
 
 pub not_plain_there : (g : Goal) (ps : List Taken) (plain : Bool) → IsEnd g ps plain → plain ≡ false → IsPlainAt g ps → ⊥
 not_plain_there g ps plain e k p = let m = e.holds_plainly.1 p in let n : true ≡ false = sym m ∙ k in absurd (cc)
@@ -161,18 +201,21 @@ break_cell g ps found next plain b t h e k p f =
     let o = break_of g ps b t (front_path g ps h) p in
     judged g ps found next None None refl (false_leaf g ps plain e i) (λ cells j. f cells ps j i o)
 
-pub cell_walk : (g : Goal) (w next : Walk) (found : Found) (tree : Option Grown) → IsWalk g w → w.count < 4096 → next.count ≡ w.count + 1 → next.path ≡ w.path → next.trees ≡ w.trees → next.found ≡ found → IsJudgedCell g (path_of w.path.items) w.found found tree → IsFinishedWalk g next tree
-cell_walk g w next found tree h l k p t f j = cell_finished g w next tree h l k p t j.branch (λ cells i. subst (IsFound g (cells ++ (path_of w.path.items ∷ []))) (sym f) (j.shown cells i))
+pub cell_walk : (g : Goal) (w next : Walk) (found : Found) (tree : Option Grown) → IsStandingWalk g w → w.count < 4096 → StandsAt g (path_of w.trail.path.items) next.trail → next.count ≡ w.count + 1 → next.trees ≡ w.trees → next.found ≡ found → IsJudgedCell g (path_of w.trail.path.items) w.found found tree → IsFinishedWalk g next tree
+cell_walk g w next found tree h l s k t f j = cell_finished g w next tree h l k s t j.branch (λ cells i. subst (IsFound g (cells ++ (path_of w.trail.path.items ∷ []))) (sym f) (j.shown cells i))
 
 -- ---- The start
 
-pub start_walk : (g : Goal) (w : Walk) → w.path.items ≡ [] → w.trees.items ≡ [] → w.count ≡ 0 → w.found ≡ Found.Nothing → IsWalk g w
-start_walk g w e t n f = record {
-  before = [];
-  stands = subst (λ ps. HasBefore g (path_of ps) [] w.trees.items) (sym e) (subst (HasBefore g [] []) (sym t) HasBefore.start);
-  found = subst (IsFound g []) (sym f) (All-nil (HoldsAt g));
-  counted = sym n;
-  few = omega (arith, n);
+pub start_walk : (g : Goal) (w : Walk) → Comes g w.trail → path_of w.trail.path.items ≡ [] → w.trees.items ≡ [] → w.count ≡ 0 → w.found ≡ Found.Nothing → IsWalk g w
+start_walk g w c e t n f = record {
+  comes = c;
+  come = record {
+    before = [];
+    stands = subst (λ ps. HasBefore g ps [] w.trees.items) (sym e) (subst (HasBefore g [] []) (sym t) HasBefore.start);
+    found = subst (IsFound g []) (sym f) (All-nil (HoldsAt g));
+    counted = sym n;
+    few = omega (arith, n);
+  };
 }
 
 -- the greedy point has a value for each variable

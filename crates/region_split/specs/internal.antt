@@ -1,3 +1,4 @@
 pub mod Moving
+pub mod Trails
 pub mod Seen
 pub mod Progress

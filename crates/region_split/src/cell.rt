@@ -1,11 +1,13 @@
 //! What a cell of the walk shows.
 
-ghost use Rattle.std.specs.Prelude.{◌≡◌, ◌<◌, ◌+◌, ◌^◌, length, IfOk, Some, false};
+ghost use Rattle.std.specs.Prelude.{◌≡◌, ◌<◌, ◌+◌, ◌^◌, take, length, IfOk, Some, true, false};
+ghost use Rattle.std.specs.List.{All};
 ghost use Rattle.heylo_formula.specs.Goals.{goal_of};
 ghost use Rattle.linear_form.specs.Cells.{IsFront};
 ghost use Rattle.linear_form.specs.PlainPaths.{path_of};
 ghost use Rattle.heylo_formula.specs.TypedGoals.{IsTypedGoal};
-ghost use Rattle.region_split.specs.internal.Seen.{IsEnd};
+ghost use Rattle.linear_elim.specs.Searches.{Remembers};
+ghost use Rattle.region_split.specs.internal.Seen.{IsEnd, AreRowsAt};
 ghost use Rattle.region_split.specs.internal.Progress.{IsJudged};
 ghost use Rattle.region_split.specs.declared.found.Found.TheVariants.{Point as PointFound};
 
@@ -14,8 +16,8 @@ use crate::growth::Grown;
 use crate::solving::{Settled, Solved, settle, solve};
 use farkas_check::Tree;
 use heylo_formula::{Goal, Val};
-use linear_elim::{Cause, Spot};
-use linear_form::Taken;
+use linear_elim::{Cause, Search};
+use linear_form::{Row, Taken};
 use std::alloc::{AllocError, Global};
 
 /// What a cell of the walk shows.
@@ -34,29 +36,32 @@ pub fn leaf(tree: Tree) -> Option<Grown>
     Some(Grown { tree, depth: 1 })
 }
 
-/// Looks at a cell, once the cells before it have shown this. Its greedy point is chosen only where none is known. Want of memory is
-/// the one error.
+/// Looks at a cell that isn't plain, with the rows of its denied goal, once the cells before it have shown this. Its greedy point is
+/// chosen only where none is known. Want of memory is the one error.
 pub fn judge(
     alloc: Global,
     goal: &Goal,
     path: &[Taken],
+    list: &[Row],
+    kept: usize,
     found: Found,
-    plain: bool,
-    known: &mut Spot,
+    search: &mut Search,
 ) -> Result<Cell, AllocError>
     requires front { IsFront (goal_of goal.now) (path_of path.now) }
     requires typed { IsTypedGoal (goal_of goal.now) }
     requires short { length path.now + 1 + length goal.now.vars.items < 2 ^ 32 }
-    requires at_end { IsEnd (goal_of goal.now) (path_of path.now) plain }
-    ensures { IfOk result (λ c. IsJudged (goal_of goal.now) (path_of path.now) found c) }
+    requires at_end { IsEnd (goal_of goal.now) (path_of path.now) false }
+    requires rows { AreRowsAt (goal_of goal.now) (path_of path.now) true list.now }
+    requires remembered { Remembers search.old list.now }
+    ensures judged { IfOk result (λ c. IsJudged (goal_of goal.now) (path_of path.now) found c) }
+    ensures remembered { Remembers search.new (take kept list.now) }
 {
-    if plain {
-        return Ok(Cell::Judged(found, leaf(Tree::Plain)));
-    }
     match found {
-        Found::Nothing => judge_open(alloc, goal, path, Found::Nothing, plain, known),
-        Found::Break(broken) => judge_open(alloc, goal, path, Found::Break(broken), plain, known),
-        Found::Point(point) => judge_further(alloc, goal, path, point, plain, known),
+        Found::Nothing => judge_open(alloc, goal, path, list, kept, Found::Nothing, search),
+        Found::Break(broken) => {
+            judge_open(alloc, goal, path, list, kept, Found::Break(broken), search)
+        }
+        Found::Point(point) => judge_further(alloc, goal, path, list, kept, point, search),
     }
 }
 
@@ -65,18 +70,21 @@ fn judge_open(
     alloc: Global,
     goal: &Goal,
     path: &[Taken],
+    list: &[Row],
+    kept: usize,
     found: Found,
-    plain: bool,
-    known: &Spot,
+    search: &mut Search,
 ) -> Result<Cell, AllocError>
     requires front { IsFront (goal_of goal.now) (path_of path.now) }
     requires typed { IsTypedGoal (goal_of goal.now) }
     requires short { length path.now + 1 + length goal.now.vars.items < 2 ^ 32 }
-    requires at_end { IsEnd (goal_of goal.now) (path_of path.now) plain }
-    requires not_plain { plain ≡ false }
-    ensures { IfOk result (λ c. IsJudged (goal_of goal.now) (path_of path.now) found c) }
+    requires at_end { IsEnd (goal_of goal.now) (path_of path.now) false }
+    requires rows { AreRowsAt (goal_of goal.now) (path_of path.now) true list.now }
+    requires remembered { Remembers search.old list.now }
+    ensures judged { IfOk result (λ c. IsJudged (goal_of goal.now) (path_of path.now) found c) }
+    ensures remembered { Remembers search.new (take kept list.now) }
 {
-    match solve(alloc, goal, path, true, known)? {
+    match solve(alloc, list, kept, &goal.vars, search)? {
         Solved::Refuted(multipliers) => Ok(Cell::Judged(found, leaf(Tree::Farkas(multipliers)))),
         Solved::Point(point) => Ok(Cell::Judged(with_point(alloc, found, path, point)?, None)),
         Solved::Break(broken) => Ok(Cell::Judged(with_break(found, broken), None)),
@@ -89,18 +97,21 @@ fn judge_further(
     alloc: Global,
     goal: &Goal,
     path: &[Taken],
+    list: &[Row],
+    kept: usize,
     point: Vec<Val>,
-    plain: bool,
-    known: &mut Spot,
+    search: &mut Search,
 ) -> Result<Cell, AllocError>
     requires front { IsFront (goal_of goal.now) (path_of path.now) }
     requires typed { IsTypedGoal (goal_of goal.now) }
     requires short { length path.now + 1 + length goal.now.vars.items < 2 ^ 32 }
-    requires at_end { IsEnd (goal_of goal.now) (path_of path.now) plain }
-    requires not_plain { plain ≡ false }
-    ensures { IfOk result (λ c. IsJudged (goal_of goal.now) (path_of path.now) (PointFound point) c) }
+    requires at_end { IsEnd (goal_of goal.now) (path_of path.now) false }
+    requires rows { AreRowsAt (goal_of goal.now) (path_of path.now) true list.now }
+    requires remembered { Remembers search.old list.now }
+    ensures judged { IfOk result (λ c. IsJudged (goal_of goal.now) (path_of path.now) (PointFound point) c) }
+    ensures remembered { Remembers search.new (take kept list.now) }
 {
-    match settle(alloc, goal, path, true, known)? {
+    match settle(alloc, list, kept, &goal.vars, search)? {
         Settled::Refuted(multipliers) => Ok(Cell::Judged(
             Found::Point(point),
             leaf(Tree::Farkas(multipliers)),

@@ -12,6 +12,7 @@ mod growth;
 mod moving;
 mod points;
 mod solving;
+mod trail;
 mod walk;
 
 pub use deciding::decide;

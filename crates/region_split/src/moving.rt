@@ -1,39 +1,12 @@
 //! Multipliers of rows that stand among others.
 
-ghost use Rattle.std.specs.Prelude.{◌≡◌, ◌↔◌, ◌<◌, ◌^◌, Bool, IsTrue, IfOk, length, if◌then◌else◌};
+ghost use Rattle.std.specs.Prelude.{◌≡◌, ◌↔◌, ◌<◌, ◌≤◌, ◌+◌, ◌^◌, IsTrue, IfOk, drop, length};
 ghost use Rattle.std.specs.List.{All};
-ghost use Rattle.linear_form.specs.PathRows.{answer_claims, path_claims};
-ghost use Rattle.linear_form.specs.PlainPaths.{path_of, atom_of};
-ghost use Rattle.linear_form.specs.RowListLaws.{MakesRoom};
-ghost use Rattle.region_split.specs.internal.Moving.{AreFirst, ArePlacesSoFar, ArePlaces, moved_all};
+ghost use Rattle.linear_form.specs.RowListLaws.{StandAmong};
+ghost use Rattle.region_split.specs.internal.Moving.{ArePlaces, place_of, moved_all};
 
-use linear_form::{Atom, Row, Taken};
+use linear_form::Row;
 use std::alloc::{AllocError, Global};
-
-/// Whether an answer has a row.
-fn is_comparison(atom: &Atom) -> bool
-    ensures { (held : Bool) → length (answer_claims (atom_of atom.now) held) ≡ (if result then 1 else 0) }
-{
-    match atom {
-        Atom::Truth(_) => false,
-        Atom::Row(_, _) => true,
-    }
-}
-
-/// How many of the answers are to comparisons.
-pub fn comparisons(path: &[Taken]) -> usize
-    ensures { result ≡ length (path_claims (path_of path.now)) }
-{
-    let mut count = 0;
-    let mut rest = path;
-    'path: while let Some((taken, others)) = rest.split_first() {
-        if is_comparison(&taken.atom) {
-            count += 1;
-        }
-        rest = others;
-    }
-    count
-}
 
 /// Whether the terms are the same.
 fn are_same_terms(a: &[(u32, i64)], b: &[(u32, i64)]) -> bool
@@ -59,31 +32,21 @@ fn is_same_row(a: &Row, b: &Row) -> bool
     a.rest == b.rest && a.strict == b.strict && are_same_terms(&a.terms, &b.terms)
 }
 
-/// The numbers below a count.
-fn first_places(alloc: Global, count: usize) -> Result<Vec<u32>, AllocError>
-    requires { count < 2 ^ 32 }
-    ensures { IfOk result (λ v. AreFirst count v.items) }
-{
-    let mut places: Vec<u32> = Vec::new(alloc);
-    for i in 0..count {
-        places.push(i as u32)?;
-    }
-    Ok(places)
-}
-
-/// The places of all rows, where those of the first ones are known and the others stand from a place on.
-fn further_places(
+/// The places of rows that stand among others from a place on.
+pub fn places(
+    alloc: Global,
     rows: &[Row],
     more: &[Row],
-    mut places: Vec<u32>,
     from: usize,
 ) -> Result<Vec<u32>, AllocError>
-    requires so_far { ArePlacesSoFar rows.now more.now places.items from }
+    requires inside { from ≤ length more.now }
+    requires among { StandAmong rows.now (drop from more.now) }
     requires few { length more.now < 2 ^ 32 }
-    ensures { IfOk result (λ v. ArePlaces rows.now more.now v.items) }
+    ensures { IfOk result (λ v. ArePlaces from rows.now more.now v.items) }
 {
+    let mut places: Vec<u32> = Vec::new(alloc);
     let mut at = from;
-    'signs: while places.len() < rows.len() {
+    'others: while places.len() < rows.len() {
         if is_same_row(&rows[places.len()], &more[at]) {
             places.push(at as u32)?;
         }
@@ -92,34 +55,28 @@ fn further_places(
     Ok(places)
 }
 
-/// The places that the rows have once the denied goal is among them: the first so many keep theirs, and the next one is the
-/// denied goal's.
-pub fn places(
-    alloc: Global,
-    rows: &[Row],
-    more: &[Row],
-    kept: usize,
-) -> Result<Vec<u32>, AllocError>
-    requires room { MakesRoom kept rows.now more.now }
-    requires few { length more.now < 2 ^ 32 }
-    ensures { IfOk result (λ v. ArePlaces rows.now more.now v.items) }
+/// Where a row stands, once the first rows, as many as are kept, stay where they were and the others stand at these places.
+fn place(index: u32, kept: usize, places: &[u32]) -> u32
+    requires { index < kept + length places.now }
+    ensures { result ≡ place_of kept places.now index }
 {
-    let first = first_places(alloc, kept)?;
-    further_places(rows, more, first, kept + 1)
+    let i = index as usize;
+    if i < kept { index } else { places[i - kept] }
 }
 
 /// The multipliers with the places of their rows as indexes.
 pub fn moved(
     alloc: Global,
     multipliers: &[(u32, u64)],
+    kept: usize,
     places: &[u32],
 ) -> Result<Vec<(u32, u64)>, AllocError>
-    requires { All (λ m. m.0 < length places.now) multipliers.now }
-    ensures { IfOk result (λ v. v.items ≡ moved_all places.now multipliers.now) }
+    requires { All (λ m. m.0 < kept + length places.now) multipliers.now }
+    ensures { IfOk result (λ v. v.items ≡ moved_all (place_of kept places.now) multipliers.now) }
 {
     let mut out: Vec<(u32, u64)> = Vec::new(alloc);
     for &(index, multiplier) in multipliers {
-        out.push((places[index as usize], multiplier))?;
+        out.push((place(index, kept, places), multiplier))?;
     }
     Ok(out)
 }

@@ -1,21 +1,19 @@
 //! What the rows of a path come to.
 
-ghost use Rattle.std.specs.Prelude.{◌≡◌, ◌<◌, ◌+◌, ◌^◌, List, length, Bool, IfOk, Some};
-ghost use Rattle.heylo_formula.specs.Goals.{Goal as PlainGoal, goal_of};
+ghost use Rattle.std.specs.Prelude.{◌≡◌, ◌<◌, ◌^◌, List, take, length, Bool, IfOk, Some};
+ghost use Rattle.heylo_formula.specs.Goals.{Goal as PlainGoal};
 ghost use Rattle.linear_form.specs.Query.{Taken as PlainTaken};
 ghost use Rattle.linear_form.specs.Row.{Row as PlainRow, IsRow};
 ghost use Rattle.linear_form.specs.RowLists.{IsNumericRow};
 ghost use Rattle.std.specs.List.{All};
-ghost use Rattle.linear_form.specs.Paths.{IsPath};
 ghost use Rattle.linear_form.specs.PathRows.{rows_of};
-ghost use Rattle.linear_form.specs.PlainPaths.{path_of};
-ghost use Rattle.heylo_formula.specs.TypedGoals.{IsTypedGoal};
+ghost use Rattle.linear_elim.specs.Searches.{Remembers};
 ghost use Rattle.linear_elim.specs.Answers.{IsAnswer};
 ghost use Rattle.region_split.specs.internal.Seen.{IsSolved, IsSettledAs};
 
-use heylo_formula::{Goal, Ty, Val};
-use linear_elim::{Broken, Cause, Elim, Finding, Spot, eliminate, find};
-use linear_form::{Row, RowList, Taken, rows};
+use heylo_formula::{Ty, Val};
+use linear_elim::{Broken, Cause, Elim, Finding, Search, eliminate};
+use linear_form::Row;
 use std::alloc::{AllocError, Global};
 
 /// What the rows of a path come to.
@@ -42,53 +40,6 @@ pub enum Settled {
     Unknown(Cause),
 }
 
-/// Solves the rows of a path, the denied goal among them where it is asked for. A point that is known to meet other rows is tried
-/// first. Want of memory is the one error.
-pub fn solve(
-    alloc: Global,
-    goal: &Goal,
-    path: &[Taken],
-    denied: bool,
-    known: &Spot,
-) -> Result<Solved, AllocError>
-    requires path { IsPath (goal_of goal.now) (path_of path.now) }
-    requires typed { IsTypedGoal (goal_of goal.now) }
-    requires short { length path.now + 1 + length goal.now.vars.items < 2 ^ 32 }
-    ensures { IfOk result (λ s. IsSolved (goal_of goal.now) (path_of path.now) denied s) }
-{
-    match rows(alloc, goal, path, denied)? {
-        RowList::Rows(list) => Ok(solve_found(alloc, &list, &goal.vars, known)?),
-        RowList::Bits => Ok(Solved::Unknown(Cause::Bits)),
-    }
-}
-
-/// Whether some fractions meet the rows of a path, the denied goal among them where it is asked for. A point that is known to meet
-/// other rows is tried first, and one that is found takes its place. Want of memory is the one error.
-pub fn settle(
-    alloc: Global,
-    goal: &Goal,
-    path: &[Taken],
-    denied: bool,
-    known: &mut Spot,
-) -> Result<Settled, AllocError>
-    requires path { IsPath (goal_of goal.now) (path_of path.now) }
-    requires typed { IsTypedGoal (goal_of goal.now) }
-    requires short { length path.now + 1 + length goal.now.vars.items < 2 ^ 32 }
-    ensures { IfOk result (λ s. IsSettledAs (goal_of goal.now) (path_of path.now) denied s) }
-{
-    match rows(alloc, goal, path, denied)? {
-        RowList::Rows(list) => Ok(settle_found(alloc, &list, &goal.vars, known)?),
-        RowList::Bits => Ok(Settled::Unknown(Cause::Bits)),
-    }
-}
-
-/// Puts a point that was found in the place of the one that was known.
-fn renew(known: &mut Spot, found: Option<Spot>) {
-    if let Some(spot) = found {
-        *known = spot;
-    }
-}
-
 /// Whether some fractions meet the rows, where they are solved.
 fn settled_by(solved: Solved) -> Settled
     ensures { (g : PlainGoal) (ps : List PlainTaken) (denied : Bool) → IsSolved g ps denied solved → IsSettledAs g ps denied result }
@@ -101,40 +52,50 @@ fn settled_by(solved: Solved) -> Settled
     }
 }
 
-/// Solves rows: by what is found of them, else by eliminating. Want of memory is the one error.
-fn solve_found(alloc: Global, list: &[Row], vars: &[Ty], known: &Spot) -> Result<Solved, AllocError>
+/// Solves rows: by what is found of them, else by eliminating. The search remembers the first rows, as many as are kept. Want of
+/// memory is the one error.
+pub fn solve(
+    alloc: Global,
+    list: &[Row],
+    kept: usize,
+    vars: &[Ty],
+    search: &mut Search,
+) -> Result<Solved, AllocError>
     requires rows { All IsRow list.now }
     requires numeric { All (IsNumericRow vars.now) list.now }
     requires few { length list.now < 2 ^ 32 }
     requires few_variables { length vars.now < 2 ^ 32 }
-    ensures { (g : PlainGoal) (ps : List PlainTaken) (denied : Bool) → rows_of g ps denied ≡ Some list.now → g.types ≡ vars.now → IfOk result (λ s. IsSolved g ps denied s) }
+    requires remembered { Remembers search.old list.now }
+    ensures solved { (g : PlainGoal) (ps : List PlainTaken) (denied : Bool) → rows_of g ps denied ≡ Some list.now → g.types ≡ vars.now → IfOk result (λ s. IsSolved g ps denied s) }
+    ensures remembered { Remembers search.new (take kept list.now) }
 {
-    match find(alloc, list, vars.len(), known)? {
+    match search.find(alloc, list, kept, vars.len())? {
         Finding::Refuted(multipliers) => Ok(Solved::Refuted(multipliers)),
-        Finding::Met(_) => solve_rows(alloc, list, vars),
+        Finding::Met => solve_rows(alloc, list, vars),
         Finding::Open => solve_rows(alloc, list, vars),
     }
 }
 
-/// Whether some fractions meet rows: by what is found of them, else by eliminating. Want of memory is the one error.
-fn settle_found(
+/// Whether some fractions meet rows: by what is found of them, else by eliminating. The search remembers the first rows, as many as
+/// are kept. Want of memory is the one error.
+pub fn settle(
     alloc: Global,
     list: &[Row],
+    kept: usize,
     vars: &[Ty],
-    known: &mut Spot,
+    search: &mut Search,
 ) -> Result<Settled, AllocError>
     requires rows { All IsRow list.now }
     requires numeric { All (IsNumericRow vars.now) list.now }
     requires few { length list.now < 2 ^ 32 }
     requires few_variables { length vars.now < 2 ^ 32 }
-    ensures { (g : PlainGoal) (ps : List PlainTaken) (denied : Bool) → rows_of g ps denied ≡ Some list.now → g.types ≡ vars.now → IfOk result (λ s. IsSettledAs g ps denied s) }
+    requires remembered { Remembers search.old list.now }
+    ensures settled { (g : PlainGoal) (ps : List PlainTaken) (denied : Bool) → rows_of g ps denied ≡ Some list.now → g.types ≡ vars.now → IfOk result (λ s. IsSettledAs g ps denied s) }
+    ensures remembered { Remembers search.new (take kept list.now) }
 {
-    match find(alloc, list, vars.len(), known)? {
+    match search.find(alloc, list, kept, vars.len())? {
         Finding::Refuted(multipliers) => Ok(Settled::Refuted(multipliers)),
-        Finding::Met(found) => {
-            renew(known, found);
-            Ok(Settled::Met)
-        }
+        Finding::Met => Ok(Settled::Met),
         Finding::Open => Ok(settled_by(solve_rows(alloc, list, vars)?)),
     }
 }

@@ -1,6 +1,6 @@
 //! The walk through the questions of a goal.
 
-ghost use Rattle.std.specs.Prelude.{◌≡◌, ◌<◌, ◌≤◌, ℕ, List, [], length, IfOk, Some, None};
+ghost use Rattle.std.specs.Prelude.{◌≡◌, ◌<◌, ◌≤◌, ℕ, List, [], length, IfOk, Some, None, false};
 ghost use Rattle.heylo_formula.specs.Goals.{Goal as PlainGoal, goal_of};
 ghost use Rattle.linear_form.specs.PlainPaths.{path_of, atom_of};
 ghost use Rattle.linear_form.specs.Query.{Taken as PlainTaken};
@@ -8,29 +8,31 @@ ghost use Rattle.linear_form.specs.Nonlinear.{nonlinear_product};
 ghost use Rattle.heylo_formula.specs.TypedGoals.{IsTypedGoal};
 ghost use Rattle.region_split.specs.Decisions.{IsDecision};
 ghost use Rattle.linear_form.specs.Cells.{GoesOn};
-ghost use Rattle.region_split.specs.internal.Seen.{IsEnd};
-ghost use Rattle.region_split.specs.internal.Progress.{AreShort, IsWalk, IsFinishedWalk, IsStep, IsFound, IsBranch, IsGrown, HasWholeTree};
+ghost use Rattle.linear_form.specs.Places.{IsOn};
+ghost use Rattle.region_split.specs.internal.Seen.{IsEndOf};
+ghost use Rattle.region_split.specs.internal.Progress.{AreShort, IsWalk, IsStandingWalk, IsFinishedWalk, IsStep, IsFound, IsBranch, IsGrown, HasWholeTree};
 
 use crate::backing::{Up, climb};
 use crate::cell::{Cell, judge, leaf};
 use crate::decisions::Decision;
 use crate::found::Found;
-use crate::front::{Front, look};
+use crate::front::{End, Front, look};
 use crate::growth::Grown;
+use crate::trail::{Trail, first_rows, onward, start};
 use farkas_check::Tree;
 use heylo_formula::Goal;
-use linear_elim::{Cause, Spot};
-use linear_form::{Atom, Taken};
+use linear_elim::Cause;
+use linear_form::{Atom, Place, RowList, Taken, with_denied_goal};
 use std::alloc::{AllocError, Global};
 
 /// More cells than these end a walk.
 const MOST_CELLS: u32 = 4096;
 
-/// Where a walk stands: the path, the trees of the finished branches to its left, how many cells there were before, and what
+/// Where a walk stands: its trail, the trees of the finished branches to its left, how many cells there were before, and what
 /// they have shown.
 #[derive(Drop)]
-pub struct Walk {
-    pub path: Vec<Taken>,
+pub struct Walk<'a> {
+    pub trail: Trail<'a>,
     pub trees: Vec<Option<Grown>>,
     pub count: u32,
     pub found: Found,
@@ -38,9 +40,9 @@ pub struct Walk {
 
 /// What one path comes to.
 #[derive(Drop)]
-pub enum Step {
+pub enum Step<'a> {
     /// The walk goes on.
-    On(Walk),
+    On(Walk<'a>),
     /// The goal is decided.
     Done(Decision),
 }
@@ -53,72 +55,157 @@ pub fn walked(alloc: Global, goal: &Goal) -> Result<Decision, AllocError>
     ensures { IfOk result (λ d. IsDecision (goal_of goal.now) d) }
 {
     let mut walk = Walk {
-        path: Vec::new(alloc),
+        trail: start(alloc, goal)?,
         trees: Vec::new(alloc),
         count: 0,
         found: Found::Nothing,
     };
-    let mut known = Spot::origin(alloc);
     'walk: loop {
-        match visit(alloc, goal, walk, &mut known)? {
+        match visit(alloc, goal, walk)? {
             Step::On(next) => walk = next,
             Step::Done(decision) => return Ok(decision),
         }
     }
 }
 
-/// Looks at the path of the walk, and goes on to the next one. The point met the rows of an earlier path.
-fn visit(alloc: Global, goal: &Goal, walk: Walk, known: &mut Spot) -> Result<Step, AllocError>
+/// Looks at the front that the walk comes to, and goes on to the next one.
+fn visit<'a>(alloc: Global, goal: &'a Goal, walk: Walk<'a>) -> Result<Step<'a>, AllocError>
     requires typed { IsTypedGoal (goal_of goal.now) }
     requires short { AreShort (goal_of goal.now) }
     requires linear { nonlinear_product (goal_of goal.now) ≡ None }
-    requires stands { IsWalk (goal_of goal.now) walk }
-    ensures { IfOk result (λ s. IsStep (goal_of goal.now) (path_of walk.path.items) s) }
-{
-    match look(alloc, goal, &walk.path, known)? {
-        Front::Dropped(multipliers) => finish(alloc, walk, leaf(Tree::Farkas(multipliers))),
-        Front::Question(atom) => deeper(walk, atom),
-        Front::End(plain) => end(alloc, goal, walk, plain, known),
-        Front::Unknown(cause) => Ok(Step::Done(Decision::Unknown(cause))),
-    }
-}
-
-/// Goes on to the branch in which the atom of a question holds.
-fn deeper(mut walk: Walk, atom: Atom) -> Result<Step, AllocError>
-    ensures { (g : PlainGoal) → IsWalk g walk → GoesOn g (path_of walk.path.items) (atom_of atom) → IfOk result (λ s. IsStep g (path_of walk.path.items) s) }
-{
-    walk.path.push(Taken { atom, held: true })?;
-    Ok(Step::On(walk))
-}
-
-/// Counts a cell and looks at it.
-fn end(
-    alloc: Global,
-    goal: &Goal,
-    walk: Walk,
-    plain: bool,
-    known: &mut Spot,
-) -> Result<Step, AllocError>
-    requires typed { IsTypedGoal (goal_of goal.now) }
-    requires short { AreShort (goal_of goal.now) }
-    requires linear { nonlinear_product (goal_of goal.now) ≡ None }
-    requires stands { IsWalk (goal_of goal.now) walk }
-    requires at_end { IsEnd (goal_of goal.now) (path_of walk.path.items) plain }
-    ensures { IfOk result (λ s. IsStep (goal_of goal.now) (path_of walk.path.items) s) }
+    requires comes { IsWalk (goal_of goal.now) walk }
+    ensures { IfOk result (λ s. IsStep (goal_of goal.now) (path_of walk.entry.trail.path.items) s) }
 {
     let Walk {
-        path,
+        trail,
         trees,
         count,
         found,
     } = walk;
-    if count >= MOST_CELLS {
+    match look(alloc, goal, trail)? {
+        Front::Dropped(trail, multipliers) => {
+            let next = Walk {
+                trail,
+                trees,
+                count,
+                found,
+            };
+            finish(alloc, next, leaf(Tree::Farkas(multipliers)))
+        }
+        Front::Question(trail, atom, place) => {
+            let next = Walk {
+                trail,
+                trees,
+                count,
+                found,
+            };
+            deeper(next, atom, place)
+        }
+        Front::End(trail, ends) => {
+            let next = Walk {
+                trail,
+                trees,
+                count,
+                found,
+            };
+            end(alloc, goal, next, ends)
+        }
+        Front::Unknown(cause) => Ok(Step::Done(Decision::Unknown(cause))),
+    }
+}
+
+/// Goes on to the branch in which the atom of a question holds, which this evaluation asks.
+fn deeper<'a>(walk: Walk<'a>, atom: Atom, place: Place<'a>) -> Result<Step<'a>, AllocError>
+    ensures { (g : PlainGoal) → IsStandingWalk g walk.entry → GoesOn g (path_of walk.entry.trail.path.items) (atom_of atom) → IsOn g (path_of walk.entry.trail.path.items) place.entry → IfOk result (λ s. IsStep g (path_of walk.entry.trail.path.items) s) }
+{
+    let Walk {
+        trail,
+        trees,
+        count,
+        found,
+    } = walk;
+    Ok(Step::On(Walk {
+        trail: onward(trail, Taken { atom, held: true }, place)?,
+        trees,
+        count,
+        found,
+    }))
+}
+
+/// Counts a cell and looks at it.
+fn end<'a>(alloc: Global, goal: &'a Goal, walk: Walk<'a>, ends: End) -> Result<Step<'a>, AllocError>
+    requires typed { IsTypedGoal (goal_of goal.now) }
+    requires short { AreShort (goal_of goal.now) }
+    requires linear { nonlinear_product (goal_of goal.now) ≡ None }
+    requires stands { IsStandingWalk (goal_of goal.now) walk }
+    requires at_end { IsEndOf (goal_of goal.now) (path_of walk.trail.path.items) ends }
+    ensures { IfOk result (λ s. IsStep (goal_of goal.now) (path_of walk.entry.trail.path.items) s) }
+{
+    if walk.count >= MOST_CELLS {
         return Ok(Step::Done(Decision::Unknown(Cause::Cells(MOST_CELLS + 1))));
     }
-    match judge(alloc, goal, &path, found, plain, known)? {
+    if !ends.plain {
+        return denied_end(alloc, goal, walk, ends);
+    }
+    let Walk {
+        trail,
+        trees,
+        count,
+        found,
+    } = walk;
+    let next = Walk {
+        trail,
+        trees,
+        count: count + 1,
+        found,
+    };
+    finish(alloc, next, leaf(Tree::Plain))
+}
+
+/// Looks at a cell that isn't plain.
+fn denied_end<'a>(
+    alloc: Global,
+    goal: &'a Goal,
+    walk: Walk<'a>,
+    ends: End,
+) -> Result<Step<'a>, AllocError>
+    requires typed { IsTypedGoal (goal_of goal.now) }
+    requires short { AreShort (goal_of goal.now) }
+    requires linear { nonlinear_product (goal_of goal.now) ≡ None }
+    requires stands { IsStandingWalk (goal_of goal.now) walk }
+    requires at_end { IsEndOf (goal_of goal.now) (path_of walk.trail.path.items) ends }
+    requires not_plain { ends.plain ≡ false }
+    requires few { walk.count < 4096 }
+    ensures { IfOk result (λ s. IsStep (goal_of goal.now) (path_of walk.entry.trail.path.items) s) }
+{
+    let Walk {
+        trail,
+        trees,
+        count,
+        found,
+    } = walk;
+    let Trail {
+        path,
+        places,
+        rows,
+        mut search,
+    } = trail;
+    let kept = rows.len();
+    let RowList::Rows(list) = with_denied_goal(alloc, goal, &path, &ends.stated, &ends.found, rows)?
+    else {
+        return Ok(Step::Done(Decision::Unknown(Cause::Bits)));
+    };
+    let cell = judge(alloc, goal, &path, &list, kept, found, &mut search)?;
+    let trail = Trail {
+        path,
+        places,
+        rows: first_rows(list, kept),
+        search,
+    };
+    match cell {
         Cell::Judged(found, tree) => {
             let next = Walk {
-                path,
+                trail,
                 trees,
                 count: count + 1,
                 found,
@@ -130,18 +217,18 @@ fn end(
 }
 
 /// Goes up from a finished path, whose tree this is, and on to the next one.
-fn finish(alloc: Global, walk: Walk, tree: Option<Grown>) -> Result<Step, AllocError>
-    ensures { (g : PlainGoal) → nonlinear_product g ≡ None → IsFinishedWalk g walk tree → IfOk result (λ s. IsStep g (path_of walk.path.items) s) }
+fn finish<'a>(alloc: Global, walk: Walk<'a>, tree: Option<Grown>) -> Result<Step<'a>, AllocError>
+    ensures { (g : PlainGoal) → nonlinear_product g ≡ None → IsFinishedWalk g walk.entry tree → IfOk result (λ s. IsStep g (path_of walk.entry.trail.path.items) s) }
 {
     let Walk {
-        path,
+        trail,
         trees,
         count,
         found,
     } = walk;
-    match climb(alloc, path, trees, tree)? {
-        Up::Next(path, trees) => Ok(Step::On(Walk {
-            path,
+    match climb(alloc, trail, trees, tree)? {
+        Up::Next(trail, trees) => Ok(Step::On(Walk {
+            trail,
             trees,
             count,
             found,

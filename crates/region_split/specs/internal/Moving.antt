@@ -1,29 +1,37 @@
 -- Rows that stand among others, and multipliers whose indexes are moved with them.
-use Rattle.std.specs.Prelude.{◌≡◌, ℕ, ◌≤◌, ◌<◌, List, map, length, drop, get_or}
+use Rattle.std.specs.Prelude.{◌≡◌, ℕ, ◌-◌, ◌≤◌, ◌<◌, ltb, List, map, length, drop, get_or, if◌then◌else◌}
 use Rattle.linear_form.specs.Row.{Row}
 use Rattle.linear_form.specs.Combination.{row_at}
 use Rattle.linear_form.specs.RowListLaws.{StandAmong}
 
--- The numbers below a count, in order.
-pub record AreFirst (count : ℕ) (places : List ℕ) : Type 0 where
-  pub each : length places ≡ count
-  pub own : (k : ℕ) → k < count → get_or places k 0 ≡ k
-
--- The places of the first rows, all below one from which on the other rows stand.
-pub record ArePlacesSoFar (rows more : List Row) (places : List ℕ) (at : ℕ) : Type 0 where
+-- The places of the first rows, from one place on and all below another, from which on the other rows stand.
+pub record ArePlacesSoFar (from : ℕ) (rows more : List Row) (places : List ℕ) (at : ℕ) : Type 0 where
   pub some : length places ≤ length rows
+  pub begun : from ≤ at
   pub inside : at ≤ length more
+  pub beyond : (k : ℕ) → k < length places → from ≤ get_or places k 0
   pub below : (k : ℕ) → k < length places → get_or places k 0 < at
   pub same : (k : ℕ) → k < length places → row_at more (get_or places k 0) ≡ row_at rows k
   pub grow : (j k : ℕ) → j < k → k < length places → get_or places j 0 < get_or places k 0
   pub others : StandAmong (drop (length places) rows) (drop at more)
 
--- The place of each row among the others: places grow, and the same row stands there.
-pub record ArePlaces (rows more : List Row) (places : List ℕ) : Type 0 where
+-- The place of each row among the others from a place on: places grow, and the same row stands there.
+pub record ArePlaces (from : ℕ) (rows more : List Row) (places : List ℕ) : Type 0 where
   pub each : length places ≡ length rows
+  pub beyond : (k : ℕ) → k < length rows → from ≤ get_or places k 0
   pub within : (k : ℕ) → k < length rows → get_or places k 0 < length more
   pub same : (k : ℕ) → k < length rows → row_at more (get_or places k 0) ≡ row_at rows k
   pub grow : (j k : ℕ) → j < k → k < length rows → get_or places j 0 < get_or places k 0
 
-abbrev pub moved_all : List ℕ → List (ℕ × ℕ) → List (ℕ × ℕ)
-moved_all places ms = map (λ (m : ℕ × ℕ). (get_or places m.0 0, m.1)) ms
+-- Where each row of a list stands in another one: places grow, and the same row stands there.
+pub record IsMove (rows more : List Row) (at : ℕ → ℕ) : Type 0 where
+  pub within : (k : ℕ) → k < length rows → at k < length more
+  pub same : (k : ℕ) → k < length rows → row_at more (at k) ≡ row_at rows k
+  pub grow : (j k : ℕ) → j < k → k < length rows → at j < at k
+
+-- The first rows stay where they are, and the others stand at these places.
+abbrev pub place_of : ℕ → List ℕ → ℕ → ℕ
+place_of kept places k = if ltb k kept then k else get_or places (k - kept) 0
+
+abbrev pub moved_all : (ℕ → ℕ) → List (ℕ × ℕ) → List (ℕ × ℕ)
+moved_all at ms = map (λ (m : ℕ × ℕ). (at m.0, m.1)) ms

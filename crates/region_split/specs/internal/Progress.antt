@@ -16,11 +16,13 @@ use Rattle.region_split.specs.Walk.{IsRefutedCell, AreCells}
 use Rattle.region_split.specs.WalkTree.{IsWalkTree, depth}
 use Rattle.region_split.specs.Decisions.{IsFirstPoint, IsFirstBreak, IsGiven, IsDecision}
 use Rattle.region_split.specs.internal.Seen.{EndsWalk}
+use Rattle.region_split.specs.internal.Trails.{Comes, Stands}
 use Rattle.region_split.specs.declared.growth.Grown.{Grown}
 use Rattle.region_split.specs.declared.found.Found.{Found}
 use Rattle.region_split.specs.declared.found.Found.TheVariants.{Nothing, Break, Point}
 use Rattle.region_split.specs.declared.cell.Cell.{Cell}
 use Rattle.region_split.specs.declared.cell.Cell.TheVariants.{Judged, Unknown}
+use Rattle.region_split.specs.declared.trail.Trail.{Trail}
 use Rattle.region_split.specs.declared.backing.Up.{Up}
 use Rattle.region_split.specs.declared.backing.Up.TheVariants.{Next, Whole}
 use Rattle.region_split.specs.declared.walk.Walk.{Walk}
@@ -119,28 +121,46 @@ pub record IsNextFront (g : Goal) (ps : List Taken) (all : List (List Taken)) (p
   pub less : left_of g path < left_of g ps
 
 abbrev pub IsUp : Goal → List Taken → List (List Taken) → Up → Type 0
-IsUp g ps all (Next path trees) = IsNextFront g ps all (path_of path.items) trees.items
+IsUp g ps all (Next t trees) = Comes g t × IsNextFront g ps all (path_of t.path.items) trees.items
 IsUp g ps all (Whole tree) = IsBranch g [] all tree
+
+-- Where a way up from a path has come to: all these cells lie up to the branch at which the trail stands now.
+pub record HasRisen (g : Goal) (all : List (List Taken)) (from : List Taken) (t : Trail) (trees : List (Option Grown)) (tree : Option Grown) : Type 0 where
+  pub stands : Stands g t
+  pub after : IsAfter g (path_of t.path.items) trees all tree
+  pub rest : rest_of (questions g) (path_of t.path.items) ≡ rest_of (questions g) from
 
 -- The paths of the goal are so short that their rows can be counted.
 abbrev pub AreShort : Goal → Type 0
 AreShort g = (ps : List Taken) → IsPath g ps → length ps + 1 + length g.types < 2 ^ 32
 
-pub record IsWalk (g : Goal) (w : Walk) : Type 0 where
+-- The walk has come to a path: what lies before it.
+pub record HasCome (g : Goal) (ps : List Taken) (w : Walk) : Type 0 where
   pub before : List (List Taken)
-  pub stands : HasBefore g (path_of w.path.items) before w.trees.items
+  pub stands : HasBefore g ps before w.trees.items
   pub found : IsFound g before w.found
   pub counted : length before ≡ w.count
   pub few : w.count ≤ 4096
 
+-- A walk that comes to a front.
+pub record IsWalk (g : Goal) (w : Walk) : Type 0 where
+  pub come : HasCome g (path_of w.trail.path.items) w
+  pub comes : Comes g w.trail
+
+-- A walk that stands at a front.
+pub record IsStandingWalk (g : Goal) (w : Walk) : Type 0 where
+  pub come : HasCome g (path_of w.trail.path.items) w
+  pub stands : Stands g w.trail
+
 -- A walk whose last branch is finished, with the branch's tree.
 pub record IsFinishedWalk (g : Goal) (w : Walk) (tree : Option Grown) : Type 0 where
+  pub stands : Stands g w.trail
   pub all : List (List Taken)
-  pub after : IsAfter g (path_of w.path.items) w.trees.items all tree
+  pub after : IsAfter g (path_of w.trail.path.items) w.trees.items all tree
   pub found : IsFound g all w.found
   pub counted : length all ≡ w.count
   pub few : w.count ≤ 4096
 
 abbrev pub IsStep : Goal → List Taken → Step → Type 0
-IsStep g ps (On w) = IsWalk g w × (left_of g (path_of w.path.items) < left_of g ps)
+IsStep g ps (On w) = IsWalk g w × (left_of g (path_of w.trail.path.items) < left_of g ps)
 IsStep g ps (Done d) = IsDecision g d

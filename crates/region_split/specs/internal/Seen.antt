@@ -1,5 +1,5 @@
 -- What the program finds at a path of the walk.
-use Rattle.std.specs.Prelude.{◌≡◌, ◌↔◌, ℕ, ◌<◌, List, length, Bool, true, false, Some, None, IsTrue}
+use Rattle.std.specs.Prelude.{◌≡◌, ◌↔◌, ℕ, ◌<◌, ◌^◌, List, length, Bool, true, false, Some, None, IsTrue}
 use Rattle.heylo_formula.specs.Goals.{Goal}
 use Rattle.heylo_formula.specs.declared.values.Val.{Val}
 use Rattle.linear_form.specs.Query.{Query, Taken}
@@ -8,7 +8,11 @@ use Rattle.linear_form.specs.Paths.{end_at}
 use Rattle.linear_form.specs.PathRows.{rows_of, IsPlainAt}
 use Rattle.linear_form.specs.PlainPaths.{atom_of}
 use Rattle.linear_form.specs.Nonlinear.{nonlinear_product}
-use Rattle.linear_form.specs.Row.{Row}
+use Rattle.std.specs.List.{All}
+use Rattle.linear_form.specs.Row.{Row, IsRow}
+use Rattle.linear_form.specs.RowLists.{IsNumericRow}
+use Rattle.linear_form.specs.Asked.{Answers}
+use Rattle.linear_form.specs.declared.asking.Ask as K
 use Rattle.linear_form.specs.Solutions.{IsSolvable}
 use Rattle.linear_form.specs.GreedyPoint.{IsGreedyPoint}
 use Rattle.linear_form.specs.Cells.{IsDropped, IsKept, GoesOn, IsCell}
@@ -23,8 +27,18 @@ use Rattle.region_split.specs.declared.solving.Solved.TheVariants.{Refuted, Poin
 use Rattle.region_split.specs.declared.solving.Solved.TheVariants as S
 use Rattle.region_split.specs.declared.solving.Settled.{Settled}
 use Rattle.region_split.specs.declared.solving.Settled.TheVariants as D
+use Rattle.linear_form.specs.Places.{IsOn}
+use Rattle.region_split.specs.internal.Trails.{StandsAt}
+use Rattle.region_split.specs.declared.front.End as E
 use Rattle.region_split.specs.declared.front.Front.{Front}
 use Rattle.region_split.specs.declared.front.Front.TheVariants.{Dropped, Question, End, Unknown}
+
+-- The rows of the path, such that they can be solved.
+pub record AreRowsAt (g : Goal) (ps : List Taken) (denied : Bool) (rows : List Row) : Type 0 where
+  pub are_rows : rows_of g ps denied ≡ Some rows
+  pub normal : All IsRow rows
+  pub numeric : All (IsNumericRow g.types) rows
+  pub few : length rows < 2 ^ 32
 
 -- The rows of the path are solvable, and this is their greedy point.
 pub record IsPointAt (g : Goal) (ps : List Taken) (denied : Bool) (point : List Val) : Type 0 where
@@ -78,8 +92,13 @@ pub record IsEnd (g : Goal) (ps : List Taken) (plain : Bool) : Type 0 where
   pub at_end : end_at g ps ≡ Query.done ends
   pub holds_plainly : IsTrue plain ↔ IsPlainAt g ps
 
+-- The same, with the values of the two forms there.
+pub record IsEndOf (g : Goal) (ps : List Taken) (e : E.End) : Type 0 where
+  pub is_end : IsEnd g ps e.plain
+  pub values : Answers (K.TheVariants.End e.stated e.found) (end_at g ps)
+
 abbrev pub IsSeen : Goal → List Taken → Front → Type 0
-IsSeen g ps (Dropped ms) = IsDroppedBy g ps ms.items
-IsSeen g ps (Question q) = GoesOn g ps (atom_of q)
-IsSeen g ps (End plain) = IsEnd g ps plain
+IsSeen g ps (Dropped t ms) = StandsAt g ps t × IsDroppedBy g ps ms.items
+IsSeen g ps (Question t q p) = StandsAt g ps t × (GoesOn g ps (atom_of q) × IsOn g ps p)
+IsSeen g ps (End t e) = StandsAt g ps t × IsEndOf g ps e
 IsSeen g ps (Unknown cause) = EndsWalk g ps false cause

@@ -1,18 +1,26 @@
+use Rattle.std.proofs.Common.{sym, subst, refl, true, false}
+use Rattle.std.specs.List.{All}
 use Rattle.heylo_formula.specs.Goals.{goal_of}
 use Rattle.linear_form.specs.PlainPaths.{path_of}
+use Rattle.linear_form.specs.RowLists.{IsNumericRow}
 use Rattle.region_split.specs.declared.found.Found.{Found}
-use Rattle.region_split.proofs.CellOrder.{front_path}
 use Rattle.region_split.proofs.Steps.{refuted_cell, further_cell, not_plain_there}
 use Rattle.region_split.proofs.cell.judge_further.Goals as goal
 
-pub settle-requires-clause-path : goal.settle-requires-clause-path
-settle-requires-clause-path c = front_path (goal_of c.args.goal.now) (path_of c.args.path.now) c.requires.front
+pub settle-requires-clause-numeric : goal.settle-requires-clause-numeric
+settle-requires-clause-numeric c = subst (λ ts. All (IsNumericRow ts) c.args.list.now) (sym c.deref.ensures.value) c.requires.rows.numeric
 
-pub returns-in-Refuted : goal.returns-in-Refuted
-returns-in-Refuted c = refuted_cell (goal_of c.args.goal.now) (path_of c.args.path.now) (Found.Point c.args.point) c.args.plain c.in-Refuted.multipliers c.leaf.result c.leaf.ensures c.requires.at_end c.requires.not_plain (rw c.in-Refuted.is at c.in_ok-multipliers.ensures)
+pub returns-in-Refuted-clause-judged : goal.returns-in-Refuted-clause-judged
+returns-in-Refuted-clause-judged c =
+    let h = c.in_ok-multipliers.ensures.settled (goal_of c.args.goal.now) (path_of c.args.path.now) true c.requires.rows.are_rows (sym c.deref.ensures.value) in
+    refuted_cell (goal_of c.args.goal.now) (path_of c.args.path.now) (Found.Point c.args.point) false c.in-Refuted.multipliers c.leaf.result c.leaf.ensures c.requires.at_end refl (rw c.in-Refuted.is at h)
 
-pub returns-in-Met : goal.returns-in-Met
-returns-in-Met c = further_cell (goal_of c.args.goal.now) (path_of c.args.path.now) c.args.plain c.args.point c.requires.front c.requires.at_end c.requires.not_plain (rw c.in-Met.is at c.in_ok-multipliers.ensures)
+pub returns-in-Met-clause-judged : goal.returns-in-Met-clause-judged
+returns-in-Met-clause-judged c =
+    let h = c.in_ok-multipliers.ensures.settled (goal_of c.args.goal.now) (path_of c.args.path.now) true c.requires.rows.are_rows (sym c.deref.ensures.value) in
+    further_cell (goal_of c.args.goal.now) (path_of c.args.path.now) false c.args.point c.requires.front c.requires.at_end refl (rw c.in-Met.is at h)
 
-pub returns-in-Unknown : goal.returns-in-Unknown
-returns-in-Unknown c = (not_plain_there (goal_of c.args.goal.now) (path_of c.args.path.now) c.args.plain c.requires.at_end c.requires.not_plain, rw c.in-Unknown.is at c.in_ok-multipliers.ensures)
+pub returns-in-Unknown-clause-judged : goal.returns-in-Unknown-clause-judged
+returns-in-Unknown-clause-judged c =
+    let h = c.in_ok-multipliers.ensures.settled (goal_of c.args.goal.now) (path_of c.args.path.now) true c.requires.rows.are_rows (sym c.deref.ensures.value) in
+    (not_plain_there (goal_of c.args.goal.now) (path_of c.args.path.now) false c.requires.at_end refl, rw c.in-Unknown.is at h)

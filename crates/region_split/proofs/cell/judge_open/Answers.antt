@@ -1,27 +1,36 @@
-use Rattle.std.proofs.Common.{arith}
+use Rattle.std.proofs.Common.{arith, sym, subst, refl, true, false}
+use Rattle.std.specs.List.{All}
 use Rattle.heylo_formula.specs.Goals.{goal_of}
 use Rattle.linear_form.specs.PlainPaths.{path_of}
-use Rattle.region_split.proofs.CellOrder.{front_path}
+use Rattle.linear_form.specs.RowLists.{IsNumericRow}
 use Rattle.region_split.proofs.Steps.{refuted_cell, point_cell, break_cell, point_length, not_plain_there}
 use Rattle.region_split.proofs.cell.judge_open.Goals as goal
 
+pub solve-requires-clause-numeric : goal.solve-requires-clause-numeric
+solve-requires-clause-numeric c = subst (λ ts. All (IsNumericRow ts) c.args.list.now) (sym c.deref.ensures.value) c.requires.rows.numeric
+
 pub with_point-requires : goal.with_point-requires
 with_point-requires c =
-    let p = point_length (goal_of c.args.goal.now) (path_of c.args.path.now) _ c.in-Point.point.items (rw c.in-Point.is at c.in_ok-multipliers.ensures) in
+    let p = point_length (goal_of c.args.goal.now) (path_of c.args.path.now) _ c.in-Point.point.items (rw c.in-Point.is at (c.in_ok-multipliers.ensures.solved (goal_of c.args.goal.now) (path_of c.args.path.now) true c.requires.rows.are_rows (sym c.deref.ensures.value))) in
     let s = c.requires.short in
     omega (arith, p, s)
 
-pub returns-in-Refuted : goal.returns-in-Refuted
-returns-in-Refuted c = refuted_cell (goal_of c.args.goal.now) (path_of c.args.path.now) c.args.found c.args.plain c.in-Refuted.multipliers c.leaf.result c.leaf.ensures c.requires.at_end c.requires.not_plain (rw c.in-Refuted.is at c.in_ok-multipliers.ensures)
+pub returns-in-Refuted-clause-judged : goal.returns-in-Refuted-clause-judged
+returns-in-Refuted-clause-judged c =
+    let h = c.in_ok-multipliers.ensures.solved (goal_of c.args.goal.now) (path_of c.args.path.now) true c.requires.rows.are_rows (sym c.deref.ensures.value) in
+    refuted_cell (goal_of c.args.goal.now) (path_of c.args.path.now) c.args.found false c.in-Refuted.multipliers c.leaf.result c.leaf.ensures c.requires.at_end refl (rw c.in-Refuted.is at h)
 
-pub returns-in_ok-with_point-in-Point : goal.returns-in_ok-with_point-in-Point
-returns-in_ok-with_point-in-Point c = point_cell (goal_of c.args.goal.now) (path_of c.args.path.now) c.args.found _ c.args.plain c.in-Point.point.items c.requires.front c.requires.at_end c.requires.not_plain (rw c.in-Point.is at c.in_ok-multipliers.ensures) (λ cells j i p. c.in_ok-with_point-in-Point.ensures (goal_of c.args.goal.now) cells j i p)
+pub returns-in_ok-with_point-in-Point-clause-judged : goal.returns-in_ok-with_point-in-Point-clause-judged
+returns-in_ok-with_point-in-Point-clause-judged c =
+    let h = c.in_ok-multipliers.ensures.solved (goal_of c.args.goal.now) (path_of c.args.path.now) true c.requires.rows.are_rows (sym c.deref.ensures.value) in
+    point_cell (goal_of c.args.goal.now) (path_of c.args.path.now) c.args.found _ false c.in-Point.point.items c.requires.front c.requires.at_end refl (rw c.in-Point.is at h) (λ cells j i p. c.in_ok-with_point-in-Point.ensures (goal_of c.args.goal.now) cells j i p)
 
-pub returns-in-Break : goal.returns-in-Break
-returns-in-Break c = break_cell (goal_of c.args.goal.now) (path_of c.args.path.now) c.args.found _ c.args.plain c.in-Break.broken c.requires.typed c.requires.front c.requires.at_end c.requires.not_plain (rw c.in-Break.is at c.in_ok-multipliers.ensures) (λ cells ps j i p. c.with_break.ensures (goal_of c.args.goal.now) cells ps j i p)
+pub returns-in-Break-clause-judged : goal.returns-in-Break-clause-judged
+returns-in-Break-clause-judged c =
+    let h = c.in_ok-multipliers.ensures.solved (goal_of c.args.goal.now) (path_of c.args.path.now) true c.requires.rows.are_rows (sym c.deref.ensures.value) in
+    break_cell (goal_of c.args.goal.now) (path_of c.args.path.now) c.args.found _ false c.in-Break.broken c.requires.typed c.requires.front c.requires.at_end refl (rw c.in-Break.is at h) (λ cells ps j i p. c.with_break.ensures (goal_of c.args.goal.now) cells ps j i p)
 
-pub solve-requires-clause-path : goal.solve-requires-clause-path
-solve-requires-clause-path c = front_path (goal_of c.args.goal.now) (path_of c.args.path.now) c.requires.front
-
-pub returns-in-Unknown : goal.returns-in-Unknown
-returns-in-Unknown c = (not_plain_there (goal_of c.args.goal.now) (path_of c.args.path.now) c.args.plain c.requires.at_end c.requires.not_plain, rw c.in-Unknown.is at c.in_ok-multipliers.ensures)
+pub returns-in-Unknown-clause-judged : goal.returns-in-Unknown-clause-judged
+returns-in-Unknown-clause-judged c =
+    let h = c.in_ok-multipliers.ensures.solved (goal_of c.args.goal.now) (path_of c.args.path.now) true c.requires.rows.are_rows (sym c.deref.ensures.value) in
+    (not_plain_there (goal_of c.args.goal.now) (path_of c.args.path.now) false c.requires.at_end refl, rw c.in-Unknown.is at h)

@@ -1,7 +1,36 @@
+use Rattle.std.proofs.Common.{refl, sym, subst}
 use Rattle.heylo_formula.specs.Goals.{goal_of}
+use Rattle.linear_form.specs.Asked.{Answers}
+use Rattle.linear_form.specs.Paths.{IsPath, end_at}
 use Rattle.linear_form.specs.PlainPaths.{path_of}
-use Rattle.region_split.proofs.PathAnswers.{bits_there}
+use Rattle.linear_form.specs.Places.{IsOn}
+use Rattle.region_split.specs.internal.Trails.{ArePlaces}
+use Rattle.region_split.proofs.PathAnswers.{bits_there, question_there, end_there}
+use Rattle.region_split.proofs.Steps.{here}
 use Rattle.region_split.proofs.front.kept.Goals as goal
 
-pub returns-in-Bits : goal.returns-in-Bits
-returns-in-Bits c k = bits_there (goal_of c.args.goal.now) (path_of c.args.path.now) k (rw c.in-Bits.is at c.in_ok-atom.ensures)
+pub reached-requires-clause-path : goal.reached-requires-clause-path
+reached-requires-clause-path c = subst (λ xs. IsPath (goal_of c.args.goal.now) (path_of xs)) (sym c.deref.ensures.value) c.requires.path
+
+pub reached-requires-clause-places : goal.reached-requires-clause-places
+reached-requires-clause-places c = subst (λ xs. ArePlaces (goal_of c.args.goal.now) (path_of xs) c.deref-2.result.now) (sym c.deref.ensures.value) (subst (λ ys. ArePlaces (goal_of c.args.goal.now) (path_of c.args.trail.path.items) ys) (sym c.deref-2.ensures.value) c.requires.stands.places)
+
+pub returns : goal.returns
+returns c k =
+    let g = goal_of c.args.goal.now in
+    let a = subst (λ xs. Answers c.in_ok-ask.field-0.ask (end_at g (path_of xs))) c.deref.ensures.value c.in_ok-ask.ensures.asked in
+    bits_there g (path_of c.args.trail.path.items) k (rw c.in-Bits.is at a)
+
+pub returns-in-Decide : goal.returns-in-Decide
+returns-in-Decide c k =
+    let g = goal_of c.args.goal.now in
+    let a = subst (λ xs. Answers c.in_ok-ask.field-0.ask (end_at g (path_of xs))) c.deref.ensures.value c.in_ok-ask.ensures.asked in
+    let o = subst (λ xs. IsOn g (path_of xs) c.in_ok-ask.field-0.place) c.deref.ensures.value c.in_ok-ask.ensures.on in
+    (here g c.args.trail c.requires.stands, (question_there g (path_of c.args.trail.path.items) c.in-Decide.atom k (rw c.in-Decide.is at a), o))
+
+pub returns-in-End : goal.returns-in-End
+returns-in-End c k =
+    let g = goal_of c.args.goal.now in
+    let a = subst (λ xs. Answers c.in_ok-ask.field-0.ask (end_at g (path_of xs))) c.deref.ensures.value c.in_ok-ask.ensures.asked in
+    let b = rw c.in-End.is at a in
+    (here g c.args.trail c.requires.stands, record { is_end = end_there g (path_of c.args.trail.path.items) c.in-End.stated c.in-End.found c.holds_plainly-plain.result k b c.holds_plainly-plain.ensures; values = b })

@@ -1,21 +1,5 @@
-use Rattle.std.proofs.Common.{sym, subst, ap, ◌∙◌}
-use Rattle.std.specs.Prelude.{Some}
-use Rattle.std.specs.List.{All}
-use Rattle.heylo_formula.specs.Goals.{goal_of}
-use Rattle.linear_form.specs.PlainPaths.{path_of}
-use Rattle.linear_form.specs.RowLists.{IsNumericRow}
-use Rattle.region_split.proofs.PathAnswers.{no_rows}
+use Rattle.region_split.proofs.PathAnswers.{refuted_rows}
 use Rattle.region_split.proofs.solving.solve.Goals as goal
 
-pub solve_found-requires-clause-numeric : goal.solve_found-requires-clause-numeric
-solve_found-requires-clause-numeric c =
-    let h = rw c.in-Rows.is at (c.in_ok-list.ensures.numeric c.requires.typed) in
-    subst (λ ts. All (IsNumericRow ts) c.deref.result.now) (sym c.deref-in-Rows.ensures.value) (subst (λ rs. All (IsNumericRow c.args.goal.now.vars.items) rs) (sym c.deref.ensures.value) h)
-
-pub returns-in_ok-solve_found-in-Rows : goal.returns-in_ok-solve_found-in-Rows
-returns-in_ok-solve_found-in-Rows c =
-    let e = rw c.in-Rows.is at c.in_ok-list.ensures.rows in
-    c.in_ok-solve_found-in-Rows.ensures (goal_of c.args.goal.now) (path_of c.args.path.now) c.args.denied (e ∙ ap Some (sym c.deref.ensures.value)) (sym c.deref-in-Rows.ensures.value)
-
-pub returns-in-Bits : goal.returns-in-Bits
-returns-in-Bits c = no_rows (goal_of c.args.goal.now) (path_of c.args.path.now) c.args.denied (rw c.in-Bits.is at c.in_ok-list.ensures.rows)
+pub returns-in-Refuted-clause-solved : goal.returns-in-Refuted-clause-solved
+returns-in-Refuted-clause-solved c g ps denied e t = refuted_rows g ps denied c.args.list.now c.in-Refuted.multipliers.items e (rw c.in-Refuted.is at c.in_ok-multipliers.ensures.finding)

@@ -1,23 +1,54 @@
 use Rattle.std.proofs.Common.{sym, subst, false}
 use Rattle.heylo_formula.specs.Goals.{goal_of}
-use Rattle.linear_form.specs.Paths.{IsPath}
-use Rattle.linear_form.specs.PlainPaths.{path_of}
-use Rattle.region_split.specs.internal.Seen.{IsDroppedBy, EndsWalk}
-use Rattle.region_split.proofs.Steps.{walk_path, walk_short, dropped_walk, front_ends}
+use Rattle.linear_form.specs.Cells.{GoesOn}
+use Rattle.linear_form.specs.PlainPaths.{path_of, atom_of}
+use Rattle.linear_form.specs.Places.{IsOn}
+use Rattle.region_split.specs.internal.Seen.{IsDroppedBy, IsEndOf, EndsWalk}
+use Rattle.region_split.proofs.Steps.{come_path, walk_short, standing, with_trail, step_from, dropped_walk, front_ends}
 use Rattle.region_split.proofs.walk.visit.Goals as goal
 
 pub look-requires-clause-path : goal.look-requires-clause-path
-look-requires-clause-path c = subst (λ ps. IsPath (goal_of c.args.goal.now) (path_of ps)) (sym c.deref.ensures.value) (walk_path (goal_of c.args.goal.now) c.args.walk c.requires.stands)
+look-requires-clause-path c = come_path (goal_of c.args.goal.now) (path_of c.args.walk.trail.path.items) c.args.walk c.requires.comes.come
 
 pub look-requires-clause-short : goal.look-requires-clause-short
-look-requires-clause-short c = walk_short (goal_of c.args.goal.now) c.deref.result.now c.requires.short (subst (λ ps. IsPath (goal_of c.args.goal.now) (path_of ps)) (sym c.deref.ensures.value) (walk_path (goal_of c.args.goal.now) c.args.walk c.requires.stands))
+look-requires-clause-short c = walk_short (goal_of c.args.goal.now) c.args.walk.trail.path.items c.requires.short (come_path (goal_of c.args.goal.now) (path_of c.args.walk.trail.path.items) c.args.walk c.requires.comes.come)
+
+pub look-requires-clause-comes : goal.look-requires-clause-comes
+look-requires-clause-comes c = c.requires.comes.comes
 
 pub returns-in-Dropped : goal.returns-in-Dropped
 returns-in-Dropped c =
-    let r = subst (λ ps. IsDroppedBy (goal_of c.args.goal.now) (path_of ps) c.in-Dropped.multipliers.items) c.deref.ensures.value (rw c.in-Dropped.is at c.in_ok-multipliers.ensures) in
-    c.finish.ensures (goal_of c.args.goal.now) c.requires.linear (dropped_walk (goal_of c.args.goal.now) c.args.walk c.in-Dropped.multipliers c.leaf.result c.leaf.ensures c.requires.stands r)
+    let g = goal_of c.args.goal.now in
+    let r = rw c.in-Dropped.is at c.in_ok-trail.ensures in
+    let w = with_trail c.args.walk c.in-Dropped.trail in
+    step_from g (path_of c.args.walk.trail.path.items) (path_of c.in-Dropped.trail.path.items) c.finish.result r.0.path (c.finish.ensures g c.requires.linear (dropped_walk g w c.in-Dropped.multipliers c.leaf.result c.leaf.ensures (standing g c.args.walk c.in-Dropped.trail c.requires.comes r.0) (subst (λ ps. IsDroppedBy g ps c.in-Dropped.multipliers.items) (sym r.0.path) r.1)))
+
+pub returns-in-Question : goal.returns-in-Question
+returns-in-Question c =
+    let g = goal_of c.args.goal.now in
+    let r = rw c.in-Question.is at c.in_ok-trail.ensures in
+    step_from g (path_of c.args.walk.trail.path.items) (path_of c.in-Question.trail.path.items) c.deeper.result r.0.path (c.deeper.ensures g (standing g c.args.walk c.in-Question.trail c.requires.comes r.0) (subst (λ ps. GoesOn g ps (atom_of c.in-Question.atom)) (sym r.0.path) r.1.0) (subst (λ ps. IsOn g ps c.in-Question.place) (sym r.0.path) r.1.1))
+
+pub end-requires-clause-stands : goal.end-requires-clause-stands
+end-requires-clause-stands c =
+    let g = goal_of c.args.goal.now in
+    let r = rw c.in-End.is at c.in_ok-trail.ensures in
+    standing g c.args.walk c.in-End.trail c.requires.comes r.0
+
+pub end-requires-clause-at_end : goal.end-requires-clause-at_end
+end-requires-clause-at_end c =
+    let g = goal_of c.args.goal.now in
+    let r = rw c.in-End.is at c.in_ok-trail.ensures in
+    subst (λ ps. IsEndOf g ps c.in-End.ends) (sym r.0.path) r.1
+
+pub returns-in-End : goal.returns-in-End
+returns-in-End c =
+    let g = goal_of c.args.goal.now in
+    let r = rw c.in-End.is at c.in_ok-trail.ensures in
+    step_from g (path_of c.args.walk.trail.path.items) (path_of c.in-End.trail.path.items) c.end.result r.0.path c.end.ensures
 
 pub returns-in-Unknown : goal.returns-in-Unknown
 returns-in-Unknown c =
-    let r = subst (λ ps. EndsWalk (goal_of c.args.goal.now) (path_of ps) false c.in-Unknown.cause) c.deref.ensures.value (rw c.in-Unknown.is at c.in_ok-multipliers.ensures) in
-    front_ends (goal_of c.args.goal.now) c.args.walk c.in-Unknown.cause c.requires.linear c.requires.stands r
+    let g = goal_of c.args.goal.now in
+    let r = rw c.in-Unknown.is at c.in_ok-trail.ensures in
+    front_ends g (path_of c.args.walk.trail.path.items) c.args.walk c.in-Unknown.cause c.requires.linear c.requires.comes.come r

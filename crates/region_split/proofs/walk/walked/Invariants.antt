@@ -7,4 +7,4 @@ abbrev pub invariant-walk : goal.invariant-walk
 invariant-walk l = IsWalk (goal_of l.goal) l.walk
 
 abbrev pub decreases-walk : goal.decreases-walk
-decreases-walk l = left_of (goal_of l.goal) (path_of l.walk.path.items)
+decreases-walk l = left_of (goal_of l.goal) (path_of l.walk.trail.path.items)

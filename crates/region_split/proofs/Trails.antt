@@ -1,0 +1,186 @@
+-- What stands along a path, when an answer comes to it and when the last one is taken off.
+use Rattle.std.proofs.Common.{◌≡◌, ℕ, ◌+◌, ◌-◌, ◌<◌, ◌≤◌, List, [], ◌∷◌, ◌++◌, length, take, drop, refl, sym, ap, ◌∙◌, subst, arith, length-append, false}
+use Rattle.std.specs.Prelude.{Option, Some, None, slice_get}
+use Rattle.std.proofs.lemmas.List.{map-append, take-append-drop, take-take, length-take}
+use Rattle.heylo_formula.specs.Goals.{Goal}
+use Rattle.heylo_formula.specs.Typing.{Types, types_in}
+use Rattle.linear_form.specs.Query.{Taken}
+use Rattle.linear_form.specs.PathRows.{path_claims, answer_claims, all_tightened, with_row, rows_of}
+use Rattle.linear_form.specs.Tightening.{Claim, tightened}
+use Rattle.linear_form.specs.PlainPaths.{path_of, taken_of, atom_of}
+use Rattle.linear_form.specs.Row.{Row}
+use Rattle.linear_form.specs.declared.paths.Taken as T
+use Rattle.linear_form.proofs.exported.Places.{place_stays, rows_counted, path_rows_first, claims_counted}
+use Rattle.linear_elim.proofs.exported.Remembering.{remembers_more}
+use Rattle.linear_form.specs.RowLists.{ArePathRows, LackLastRow}
+use Rattle.linear_form.specs.Places.{IsOn}
+use Rattle.linear_elim.specs.Searches.{Remembers}
+use Rattle.linear_form.specs.declared.places.Place.{Place}
+use Rattle.linear_elim.specs.declared.search.Search.{Search}
+use Rattle.region_split.specs.declared.trail.Trail.{Trail}
+use Rattle.region_split.specs.internal.Trails.{ArePlaces, AreRowsSoFar, Comes, Stands, StandsAt, ComesBy, StoodBefore}
+use Rattle.region_split.proofs.Climbing.{snoc_first, snoc_last, snoc_not_empty}
+
+-- ---- Evaluations
+
+-- the last one stands on the path
+pub record HasLast (g : Goal) (ps : List Taken) (places : List Place) : Type 0 where
+  pub before : List Place
+  pub last : Place
+  pub split : places ≡ before ++ (last ∷ [])
+  pub on : IsOn g ps last
+
+pub has_last : (g : Goal) (ps : List Taken) (places : List Place) → ArePlaces g ps places → HasLast g ps places
+has_last g _ _ (ArePlaces.start p h) = record { before = []; last = p; split = refl; on = h }
+has_last g _ _ (ArePlaces.answer ps t places p a h) = record { before = places; last = p; split = refl; on = place_stays g ps (t ∷ []) p h }
+
+slice_last : (before : List Place) (p : Place) → slice_get (before ++ (p ∷ [])) (length before) ≡ Some p
+slice_last [] p = refl
+slice_last (x ∷ xs) p = slice_last xs p
+
+-- as it is read
+pub last_on : (g : Goal) (ps : List Taken) (places : List Place) (p : Place) → ArePlaces g ps places → Some p ≡ slice_get places (length places - 1) → IsOn g ps p
+last_on g ps places p a e =
+    let l = has_last g ps places a in
+    let i = ap length l.split ∙ length-append l.before (l.last ∷ []) in
+    let n : length places - 1 ≡ length l.before = omega (arith, i) in
+    let f : Some p ≡ Some l.last = e ∙ ap (λ j. slice_get places j) n ∙ ap (λ qs. slice_get qs (length l.before)) l.split ∙ slice_last l.before l.last in
+    let k : l.last ≡ p = cc in
+    subst (IsOn g ps) k l.on
+
+-- taken off with the last answer
+pub record Shorter (g : Goal) (ps : List Taken) (places : List Place) (p : Place) : Type 0 where
+  pub are_places : ArePlaces g ps places
+  pub on : IsOn g ps p
+
+pub shorter_places : (g : Goal) (qs ps : List Taken) (t : Taken) (all places : List Place) (p : Place) → ArePlaces g qs all → qs ≡ ps ++ (t ∷ []) → all ≡ places ++ (p ∷ []) → Shorter g ps places p
+shorter_places g _ ps t _ places p (ArePlaces.start q h) e f = absurd (snoc_not_empty ps t e)
+shorter_places g _ ps t _ places p (ArePlaces.answer rs u others q a h) e f =
+    let i : rs ≡ ps = snoc_first rs ps u t e in
+    let j : others ≡ places = snoc_first others places q p f in
+    let k : q ≡ p = snoc_last others places q p f in
+    record {
+      are_places = subst (λ xs. ArePlaces g ps xs) j (subst (λ xs. ArePlaces g xs others) i a);
+      on = subst (λ x. IsOn g ps x) k (subst (λ xs. IsOn g xs q) i h);
+    }
+
+-- ---- Rows
+
+pub same_path_rows : (g : Goal) (ps : List Taken) (rows others : List Row) → ArePathRows g ps rows → ArePathRows g ps others → rows ≡ others
+same_path_rows g ps rows others h k = let e = sym h.are_rows ∙ k.are_rows in cc
+
+-- the rows of a path begin with those of a shorter one, which is what a search remembers
+pub first_path_rows : (g : Goal) (ps qs : List Taken) (rows more : List Row) → ArePathRows g ps rows → ArePathRows g (ps ++ qs) more → more ≡ rows ++ drop (length rows) more
+first_path_rows g ps qs rows more h k =
+    let e = same_path_rows g ps rows (take (length (path_claims ps)) more) h (path_rows_first g ps qs more k) in
+    let c = rows_counted g ps rows h in
+    let f : take (length rows) more ≡ rows = ap (λ n. take n more) c ∙ sym e in
+    sym (take-append-drop (length rows) more) ∙ ap (λ xs. xs ++ drop (length rows) more) f
+
+remembers_longer : (g : Goal) (ps qs : List Taken) (s : Search) (rows more : List Row) → ArePathRows g ps rows → ArePathRows g (ps ++ qs) more → Remembers s rows → Remembers s more
+remembers_longer g ps qs s rows more h k r = subst (Remembers s) (sym (first_path_rows g ps qs rows more h k)) (remembers_more s rows (drop (length rows) more) r)
+
+pub remembers_last : (g : Goal) (ps : List Taken) (s : Search) (rows more : List Row) → AreRowsSoFar g ps rows → ArePathRows g ps more → Remembers s rows → Remembers s more
+remembers_last g _ s _ more AreRowsSoFar.start k r = remembers_longer g [] [] s [] more (record { are_rows = refl }) k r
+remembers_last g ps s rows more (AreRowsSoFar.answer _ _ l) k r = remembers_longer g l.before (l.last ∷ []) s rows more l.are_rows (subst (λ xs. ArePathRows g xs more) l.split k) r
+
+-- ---- Rows that can't be stated
+
+unstated_first : (types : Types) (ks js : List Claim) → all_tightened types ks ≡ None → all_tightened types (ks ++ js) ≡ None
+unstated_first types [] js e = absurd (cc)
+unstated_first types (k ∷ ks) js e = go (tightened types k) (all_tightened types ks) e (unstated_first types ks js)
+  where
+    go : (r : Option Row) (rows : Option (List Row)) → with_row r rows ≡ None → (rows ≡ None → all_tightened types (ks ++ js) ≡ None) → with_row r (all_tightened types (ks ++ js)) ≡ None
+    go None rows f i = refl
+    go (Some r) None f i = ap (with_row (Some r)) (i refl)
+    go (Some r) (Some rows) f i = absurd (cc)
+
+pub unstated_path : (g : Goal) (ps : List Taken) → all_tightened (types_in g.types) (path_claims ps) ≡ None → rows_of g ps false ≡ None
+unstated_path g ps e = unstated_first (types_in g.types) (path_claims ps ++ []) _ (unstated_first (types_in g.types) (path_claims ps) [] e)
+
+-- ---- Trails
+
+-- without its last answer
+pub stood_before : (g : Goal) (t before : Trail) (answer : T.Taken) (place : Place) (left count : ℕ) → Stands g t → t.path.items ≡ before.path.items ++ (answer ∷ []) → t.places.items ≡ before.places.items ++ (place ∷ []) → length (answer_claims (atom_of answer.atom) answer.held) ≡ count → left ≡ length t.rows.items - count → before.rows.items ≡ take left t.rows.items → Remembers before.search before.rows.items → StoodBefore g t before answer place
+stood_before g t before answer place left count h p q n l r m =
+    let ps = path_of before.path.items in
+    let e : path_of t.path.items ≡ ps ++ (taken_of answer ∷ []) = ap path_of p ∙ map-append taken_of before.path.items (answer ∷ []) in
+    let s = shorter_places g (path_of t.path.items) ps (taken_of answer) t.places.items before.places.items place h.places e q in
+    let k = subst (λ qs. ArePathRows g qs t.rows.items) e h.rows in
+    let a = rows_counted g (ps ++ (taken_of answer ∷ [])) t.rows.items k in
+    let b = claims_counted ps (atom_of answer.atom) answer.held in
+    let c : length (path_claims ps) ≡ left = omega (arith, a, b, n, l) in
+    let d = subst (λ j. ArePathRows g ps (take j t.rows.items)) c (path_rows_first g ps (taken_of answer ∷ []) t.rows.items k) in
+    record {
+      stands = record { places = s.are_places; rows = subst (ArePathRows g ps) (sym r) d; remembers = m };
+      asked = s.on;
+      path = e;
+    }
+
+-- there is an evaluation
+pub no_places : (g : Goal) (t : Trail) → Stands g t → length t.places.items ≡ 0 → ⊥
+no_places g t h e = let l = has_last g (path_of t.path.items) t.places.items h.places in let i = ap length l.split ∙ length-append l.before (l.last ∷ []) in absurd (omega (arith, e, i))
+
+-- with one more answer
+pub comes_by : (g : Goal) (t next : Trail) (answer : T.Taken) (place : Place) → Stands g t → IsOn g (path_of t.path.items) place → next.path.items ≡ t.path.items ++ (answer ∷ []) → next.places.items ≡ t.places.items ++ (place ∷ []) → next.rows ≡ t.rows → next.search ≡ t.search → ComesBy g t answer next
+comes_by g t next answer place h o p q r s =
+    let ps = path_of t.path.items in
+    let e : path_of next.path.items ≡ ps ++ (taken_of answer ∷ []) = ap path_of p ∙ map-append taken_of t.path.items (answer ∷ []) in
+    record {
+      path = e;
+      comes = record {
+        places = subst (λ qs. ArePlaces g qs next.places.items) (sym e) (subst (ArePlaces g (ps ++ (taken_of answer ∷ []))) (sym q) (ArePlaces.answer ps (taken_of answer) t.places.items place h.places o));
+        rows = AreRowsSoFar.answer (path_of next.path.items) next.rows.items (record { before = ps; last = taken_of answer; split = e; are_rows = subst (λ v. ArePathRows g ps v.items) (sym r) h.rows });
+        remembers = subst (λ x. Remembers x next.rows.items) (sym s) (subst (λ v. Remembers t.search v.items) (sym r) h.remembers);
+      };
+    }
+
+-- before the first question
+pub comes_first : (g : Goal) (t : Trail) (p : Place) → IsOn g [] p → t.path.items ≡ [] → t.places.items ≡ p ∷ [] → t.rows.items ≡ [] → ((rows : List Row) → Remembers t.search rows) → Comes g t
+comes_first g t p o e q r m =
+    let a = ap path_of e in
+    record {
+      places = subst (λ ps. ArePlaces g ps t.places.items) (sym a) (subst (ArePlaces g []) (sym q) (ArePlaces.start p o));
+      rows = subst (λ ps. AreRowsSoFar g ps t.rows.items) (sym a) (subst (AreRowsSoFar g []) (sym r) AreRowsSoFar.start);
+      remembers = m t.rows.items;
+    }
+
+-- once the last answer has its row
+pub stands_with : (g : Goal) (t next : Trail) → Comes g t → ArePathRows g (path_of t.path.items) next.rows.items → next.path ≡ t.path → next.places ≡ t.places → next.search ≡ t.search → Stands g next
+stands_with g t next h k p q s = record {
+  places = subst (λ v. ArePlaces g (path_of v.items) next.places.items) (sym p) (subst (λ v. ArePlaces g (path_of t.path.items) v.items) (sym q) h.places);
+  rows = subst (λ v. ArePathRows g (path_of v.items) next.rows.items) (sym p) k;
+  remembers = subst (λ x. Remembers x next.rows.items) (sym s) (remembers_last g (path_of t.path.items) t.search t.rows.items next.rows.items h.rows k h.remembers);
+}
+
+-- behind a look, once the rows that hold only there are gone
+pub stands_again : (g : Goal) (t next : Trail) (list : List Row) → Stands g t → take (length t.rows.items) list ≡ t.rows.items → next.path ≡ t.path → next.places ≡ t.places → next.rows.items ≡ take (length t.rows.items) list → Remembers next.search (take (length t.rows.items) list) → StandsAt g (path_of t.path.items) next
+stands_again g t next list h f p q r m = record {
+  path = ap (λ v. path_of v.items) p;
+  stands = record {
+    places = subst (λ v. ArePlaces g (path_of v.items) next.places.items) (sym p) (subst (λ v. ArePlaces g (path_of t.path.items) v.items) (sym q) h.places);
+    rows = subst (λ v. ArePathRows g (path_of v.items) next.rows.items) (sym p) (subst (ArePathRows g (path_of t.path.items)) (sym (r ∙ f)) h.rows);
+    remembers = subst (Remembers next.search) (sym r) m;
+  };
+}
+
+pub looked : (g : Goal) (t next : Trail) (list held : List Row) (kept : ℕ) → Stands g t → kept ≡ length t.rows.items → take (length t.rows.items) list ≡ t.rows.items → held ≡ list → next.path ≡ t.path → next.places ≡ t.places → next.rows.items ≡ take kept list → Remembers next.search (take kept held) → StandsAt g (path_of t.path.items) next
+looked g t next list held kept h e f d p q r m = stands_again g t next list h f p q (r ∙ ap (λ k. take k list) e) (subst (λ k. Remembers next.search (take k list)) e (subst (λ xs. Remembers next.search (take kept xs)) d m))
+
+-- the same where no search looked
+pub again : (g : Goal) (t next : Trail) (list : List Row) (kept : ℕ) → Stands g t → kept ≡ length t.rows.items → take (length t.rows.items) list ≡ t.rows.items → next.path ≡ t.path → next.places ≡ t.places → next.rows.items ≡ take kept list → next.search ≡ t.search → StandsAt g (path_of t.path.items) next
+again g t next list kept h e f p q r s = looked g t next list list kept h e f refl p q r (subst (λ x. Remembers x (take kept list)) (sym s) (subst (Remembers t.search) (sym (ap (λ k. take k list) e ∙ f)) h.remembers))
+
+pub two_parts : (list a b : List Row) (kept : ℕ) → a ≡ take kept list → b ≡ drop kept list → list ≡ a ++ b
+two_parts list a b kept e f = sym (take-append-drop kept list) ∙ ap (λ xs. xs ++ drop kept list) (sym e) ∙ ap (λ ys. a ++ ys) (sym f)
+
+pub starts_length : (rows list : List Row) (kept : ℕ) → take (length rows) list ≡ rows → kept ≡ length rows → kept ≤ length list
+starts_length rows list kept f e = let k = ap length f in let l = length-take (length rows) list in omega (arith, k, l, e)
+
+-- what the search remembers of the rows of a path it remembers of these and more
+pub remembers_list : (s : Search) (rows list : List Row) → Remembers s rows → take (length rows) list ≡ rows → Remembers s list
+remembers_list s rows list r f = subst (Remembers s) (sym (sym (take-append-drop (length rows) list) ∙ ap (λ xs. xs ++ drop (length rows) list) f)) (remembers_more s rows (drop (length rows) list) r)
+
+-- the same rows again
+pub taken_twice : (rows : List Row) (left : ℕ) → take left rows ≡ take left (take left rows)
+taken_twice rows left = sym (take-take left left rows (omega arith))

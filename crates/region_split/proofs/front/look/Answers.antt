@@ -1,0 +1,28 @@
+use Rattle.std.proofs.Common.{◌≡◌, refl, sym, subst, false}
+use Rattle.std.specs.Prelude.{Some, None}
+use Rattle.heylo_formula.specs.Goals.{goal_of}
+use Rattle.heylo_formula.specs.Typing.{types_in}
+use Rattle.linear_form.specs.Paths.{IsPath}
+use Rattle.linear_form.specs.PathRows.{all_tightened, path_claims}
+use Rattle.linear_form.specs.PlainPaths.{path_of}
+use Rattle.region_split.specs.internal.Trails.{AreRowsSoFar}
+use Rattle.region_split.proofs.Trails.{stands_with, unstated_path}
+use Rattle.region_split.proofs.PathAnswers.{no_rows}
+use Rattle.region_split.proofs.front.look.Goals as goal
+
+pub with_last_row-requires-clause-path : goal.with_last_row-requires-clause-path
+with_last_row-requires-clause-path c = subst (λ xs. IsPath (goal_of c.args.goal.now) (path_of xs)) (sym c.deref.ensures.value) c.requires.path
+
+pub with_last_row-requires-clause-rows : goal.with_last_row-requires-clause-rows
+with_last_row-requires-clause-rows c = subst (λ xs. AreRowsSoFar (goal_of c.args.goal.now) (path_of xs) c.args.trail.rows.items) (sym c.deref.ensures.value) c.requires.comes.rows
+
+pub look_there-requires-clause-stands : goal.look_there-requires-clause-stands
+look_there-requires-clause-stands c =
+    let g = goal_of c.args.goal.now in
+    stands_with g c.args.trail _ c.requires.comes (record { are_rows = subst (λ xs. all_tightened (types_in g.types) (path_claims (path_of xs)) ≡ Some c.in-Rows.rows.items) c.deref.ensures.value (rw c.in-Rows.is at c.in_ok-rows.ensures) }) refl refl refl
+
+pub returns : goal.returns
+returns c =
+    let g = goal_of c.args.goal.now in
+    let ps = path_of c.args.trail.path.items in
+    no_rows g ps false (unstated_path g ps (subst (λ xs. all_tightened (types_in g.types) (path_claims (path_of xs)) ≡ None) c.deref.ensures.value (rw c.in-Bits.is at c.in_ok-rows.ensures)))

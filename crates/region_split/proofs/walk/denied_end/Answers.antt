@@ -1,0 +1,74 @@
+use Rattle.std.proofs.Common.{◌≡◌, refl, sym, ap, ◌∙◌, subst, take, length, arith, true, false}
+use Rattle.std.specs.Prelude.{Some, None}
+use Rattle.heylo_formula.specs.Goals.{goal_of}
+use Rattle.linear_form.specs.Asked.{Answers}
+use Rattle.linear_form.specs.Paths.{IsPath, end_at}
+use Rattle.linear_form.specs.PathRows.{rows_of, IsPlainAt}
+use Rattle.linear_form.specs.PlainPaths.{path_of}
+use Rattle.linear_form.specs.Cells.{IsFront}
+use Rattle.linear_form.specs.declared.asking.Ask as K
+use Rattle.linear_elim.specs.declared.answers.Cause.TheVariants.{Bits}
+use Rattle.linear_form.specs.RowLists.{ArePathRows}
+use Rattle.linear_elim.specs.Searches.{Remembers}
+use Rattle.region_split.specs.internal.Seen.{AreRowsAt, EndsWalk, IsEnd}
+use Rattle.region_split.specs.internal.Progress.{IsJudgedCell}
+use Rattle.region_split.proofs.PathAnswers.{no_rows}
+use Rattle.region_split.proofs.Trails.{looked, remembers_list}
+use Rattle.region_split.proofs.Steps.{cell_walk, cell_ends, come_front, come_path, not_plain_there, step_from, walk_short}
+use Rattle.region_split.proofs.walk.denied_end.Goals as goal
+
+pub with_denied_goal-requires-clause-path : goal.with_denied_goal-requires-clause-path
+with_denied_goal-requires-clause-path c = subst (λ xs. IsPath (goal_of c.args.goal.now) (path_of xs)) (sym c.deref.ensures.value) (come_path (goal_of c.args.goal.now) (path_of c.args.walk.trail.path.items) c.args.walk c.requires.stands.come)
+
+pub with_denied_goal-requires-clause-ends : goal.with_denied_goal-requires-clause-ends
+with_denied_goal-requires-clause-ends c = subst (λ xs. Answers (K.TheVariants.End c.args.ends.stated c.args.ends.found) (end_at (goal_of c.args.goal.now) (path_of xs))) (sym c.deref.ensures.value) c.requires.at_end.values
+
+pub with_denied_goal-requires-clause-rows : goal.with_denied_goal-requires-clause-rows
+with_denied_goal-requires-clause-rows c = subst (λ xs. ArePathRows (goal_of c.args.goal.now) (path_of xs) c.args.walk.trail.rows.items) (sym c.deref.ensures.value) c.requires.stands.stands.rows
+
+pub returns-in_default : goal.returns-in_default
+returns-in_default c =
+    let g = goal_of c.args.goal.now in
+    let ps = path_of c.args.walk.trail.path.items in
+    cell_ends g ps c.args.walk c.args.ends.plain Bits c.requires.linear c.requires.stands.come c.requires.at_end.is_end c.requires.few (not_plain_there g ps c.args.ends.plain c.requires.at_end.is_end c.requires.not_plain) (no_rows g ps true (subst (λ xs. rows_of g (path_of xs) true ≡ None) c.deref.ensures.value (rw c.in_default.is at c.in_ok-list.ensures.rows)))
+
+pub judge-requires-clause-front : goal.judge-requires-clause-front
+judge-requires-clause-front c = subst (λ xs. IsFront (goal_of c.args.goal.now) (path_of xs)) (sym c.deref-2.ensures.value) (come_front (goal_of c.args.goal.now) (path_of c.args.walk.trail.path.items) c.args.walk c.requires.stands.come)
+
+pub judge-requires-clause-short : goal.judge-requires-clause-short
+judge-requires-clause-short c = walk_short (goal_of c.args.goal.now) c.deref-2.result.now c.requires.short (subst (λ xs. IsPath (goal_of c.args.goal.now) (path_of xs)) (sym c.deref-2.ensures.value) (come_path (goal_of c.args.goal.now) (path_of c.args.walk.trail.path.items) c.args.walk c.requires.stands.come))
+
+pub judge-requires-clause-at_end : goal.judge-requires-clause-at_end
+judge-requires-clause-at_end c = subst (λ xs. IsEnd (goal_of c.args.goal.now) (path_of xs) false) (sym c.deref-2.ensures.value) (subst (IsEnd (goal_of c.args.goal.now) (path_of c.args.walk.trail.path.items)) c.requires.not_plain c.requires.at_end.is_end)
+
+pub judge-requires-clause-rows : goal.judge-requires-clause-rows
+judge-requires-clause-rows c =
+    let g = goal_of c.args.goal.now in
+    let a = rw c.in-Rows.is at c.in_ok-list.ensures.few in
+    let w = walk_short g c.deref.result.now c.requires.short (subst (λ xs. IsPath g (path_of xs)) (sym c.deref.ensures.value) (come_path g (path_of c.args.walk.trail.path.items) c.args.walk c.requires.stands.come)) in
+    subst (AreRowsAt g (path_of c.deref-2.result.now) true) (sym c.deref-3.ensures.value) (subst (λ xs. AreRowsAt g (path_of xs) true c.in-Rows.list.items) (c.deref.ensures.value ∙ sym c.deref-2.ensures.value) (record {
+      are_rows = rw c.in-Rows.is at c.in_ok-list.ensures.rows;
+      normal = rw c.in-Rows.is at c.in_ok-list.ensures.normal;
+      numeric = rw c.in-Rows.is at (c.in_ok-list.ensures.numeric c.requires.typed);
+      few = omega (arith, a, w);
+    }))
+
+pub judge-requires-clause-remembered : goal.judge-requires-clause-remembered
+judge-requires-clause-remembered c = subst (Remembers c.args.walk.trail.search) (sym c.deref-3.ensures.value) (remembers_list c.args.walk.trail.search c.args.walk.trail.rows.items c.in-Rows.list.items c.requires.stands.stands.remembers (rw c.in-Rows.is at c.in_ok-list.ensures.first))
+
+pub returns-in-Judged : goal.returns-in-Judged
+returns-in-Judged c =
+    let g = goal_of c.args.goal.now in
+    let ps = path_of c.args.walk.trail.path.items in
+    let n = c.len-kept.ensures in
+    let o = c.args.walk.trail.rows.ok.0 in
+    let t = looked g c.args.walk.trail _ c.in-Rows.list.items c.deref-3.result.now c.len-kept.result c.requires.stands.stands (omega (arith, n, o)) (rw c.in-Rows.is at c.in_ok-list.ensures.first) c.deref-3.ensures.value refl refl c.first_rows.ensures c.in_ok-cell.ensures.remembered in
+    let j = subst (λ xs. IsJudgedCell g (path_of xs) c.args.walk.found c.in-Judged.found c.in-Judged.tree) c.deref-2.ensures.value (rw c.in-Judged.is at c.in_ok-cell.ensures.judged) in
+    c.finish.ensures g c.requires.linear (cell_walk g c.args.walk _ c.in-Judged.found c.in-Judged.tree c.requires.stands c.requires.few t refl refl refl j)
+
+pub returns : goal.returns
+returns c =
+    let g = goal_of c.args.goal.now in
+    let ps = path_of c.args.walk.trail.path.items in
+    let r = subst (λ xs. (IsPlainAt g (path_of xs) → ⊥) × EndsWalk g (path_of xs) true c.in-Unknown.cause) c.deref-2.ensures.value (rw c.in-Unknown.is at c.in_ok-cell.ensures.judged) in
+    cell_ends g ps c.args.walk c.args.ends.plain c.in-Unknown.cause c.requires.linear c.requires.stands.come c.requires.at_end.is_end c.requires.few r.0 r.1
