@@ -1,5 +1,5 @@
 -- Whether a numerator is 0.
-use Rattle.std.proofs.Common.{◌≡◌, ℕ, refl, sym, ap, ◌∙◌, arith, Bool, true, false, nat_eq, to_z, of_z, FitsSigned}
+use Rattle.std.proofs.Common.{◌≡◌, refl, sym, ap, ◌∙◌, arith, Bool, true, false, nat_eq, of_z, FitsSigned}
 use Rattle.std.proofs.Math.IntN.{ℤ, pos, negsuc}
 use Rattle.std.specs.Int.{w128}
 use Prim.Native.Nat.{zero, suc}

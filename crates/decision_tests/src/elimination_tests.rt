@@ -1,213 +1,110 @@
-ghost use Rattle.std.specs.Prelude.{IfOk};
-ghost use Rattle.std.specs.List.{All};
-ghost use Rattle.linear_form.specs.Row.{IsRow};
+//! What elimination finds of rows, worked out by hand.
 
-use crate::test_rows::{Given, answer, at_most, found};
-use heylo_formula::Ty;
-use linear_elim::Elim;
-use linear_form::Row;
+use crate::answers::{Kind, check_lines, given};
 use std::alloc::{AllocError, Global};
-use std::test::Fail;
 
-/// Whether these multipliers refute the rows.
-fn is_refuted(
-    alloc: Global,
-    rows: &[Given],
-    vars: &[Ty],
-    wanted: &[(u32, u64)],
-) -> Result<bool, AllocError> {
-    let Elim::NoSolution(multipliers) = found(alloc, rows, vars)? else {
-        return Ok(false);
-    };
-    if multipliers.len() != wanted.len() {
-        return Ok(false);
-    }
-    for i in 0..wanted.len() {
-        let (index, multiplier) = wanted[i];
-        let (other_index, other) = multipliers[i];
-        if index != other_index || multiplier != other {
-            return Ok(false);
-        }
-    }
-    Ok(true)
-}
+/// Rows that nothing meets, with multipliers, and rows whose joins reach the bound.
+const REFUTED: &str = "\
+# `x - 1 <= 0` and `-x + 2 <= 0` add up to `1 <= 0`
+1x0 -1 <=0 -1x0 2 <=0 ; i => refuted 0:1 1:1
+# `x < 0` and `-x < 0` touch at 0, which meets neither
+1x0 0 <0 -1x0 0 <0 ; r => refuted 0:1 1:1
+1x0 0 <0 -1x0 0 <=0 ; r => refuted 0:1 1:1
+# `0 <= 0` is no contradiction, and of two contradictions the first one counts
+0 <=0 0 <0 1 <=0 ;  => refuted 1:1
+-1 <0 1 <=0 0 <0 ;  => refuted 1:1
+# of rows with equal coefficients the one with the greatest constant stays, a strict one before another, else the first
+# x <= 0, x < 0 and 0 <= x
+1x0 0 <=0 1x0 0 <0 -1x0 0 <=0 ; i => refuted 1:1 2:1
+# x <= 5, x <= 1 and 2 <= x
+1x0 -5 <=0 1x0 -1 <=0 -1x0 2 <=0 ; i => refuted 1:1 2:1
+# x <= 1, x < 2 and 3 <= x
+1x0 -1 <=0 1x0 -2 <0 -1x0 3 <=0 ; i => refuted 0:1 2:1
+# `x <= 1` twice, and `2 <= x`
+1x0 -1 <=0 1x0 -1 <=0 -1x0 2 <=0 ; i => refuted 0:1 2:1
+# rows with other terms and the same fingerprint are kept side by side: twice the factor of the fingerprints, and 1 more, is
+# 4354685564936845355 modulo 2^64; z <= 0, that times x <= 0 twice, the second time with a greater constant, and 1 <= z
+1x2 0 <=0 4354685564936845355x0 0 <=0 4354685564936845355x0 1 <=0 -1x2 1 <=0 ; iii => refuted 0:1 3:1
+# each row is taken as often as the other's coefficient says, and the multipliers are in lowest terms
+# 3 times 2x - 1 <= 0 and twice -3x + 3 <= 0 add up to 3 <= 0
+2x0 -1 <=0 -3x0 3 <=0 ; r => refuted 0:3 1:2
+# 2x + 2 <= 0 and -2x <= 0
+2x0 2 <=0 -2x0 0 <=0 ; r => refuted 0:1 1:1
+# `x <= y`, `y <= z` and `z < x`: no two of the rows contradict each other
+1x0 -1x1 0 <=0 1x1 -1x2 0 <=0 -1x0 1x2 0 <0 ; iru => refuted 0:1 1:1 2:1
+# twice `-x + 2^61*y <= 0` and `2x + 1 <= 0` add up to `2^62*y + 1 <= 0`
+-1x0 2305843009213693952x1 0 <=0 2x0 1 <=0 1x1 0 <=0 ; ii => bits";
 
-fn is_bits(alloc: Global, rows: &[Given], vars: &[Ty]) -> Result<bool, AllocError> {
-    match found(alloc, rows, vars)? {
-        Elim::Bits => Ok(true),
-        _ => Ok(false),
-    }
-}
+/// Rows that are met, with the point, or with the first variable that has no whole number.
+const POINTS: &str = "\
+# `-2x + y <= 0`, `2x + y - 2 <= 0` and `-y + 1 <= 0`: y is 1, and then x is 1/2
+-2x0 1x1 0 <=0 2x0 1x1 -2 <=0 -1x1 1 <=0 ; ii => broken x0 [1/2 1/2] x1 1
+# `0 < x` and `x < 1`: the ends are whole, and aren't inside
+-1x0 0 <0 1x0 -1 <0 ; u => broken x0 (0 1)
+# where 0 is inside, it is taken: 0 <= 0, x <= 0 and 0 <= x, x <= 5
+0 <=0 ; i => point 0
+1x0 0 <=0 -1x0 0 <=0 ; i => point 0
+1x0 -5 <=0 ; r => point 0
+# the whole number that is nearest to 0: -3/2 <= x <= -1/2, 5/2 <= x, 3 < x, x < -3
+-2x0 -3 <=0 2x0 1 <=0 ; i => point -1
+-2x0 5 <=0 ; u => point 3
+-1x0 3 <0 ; i => point 4
+1x0 3 <0 ; i => point -4
+# the near end where it is inside, else the middle: 1/2 <= x < 2, 1 < x <= 2, 1 < x < 2, -2 < x < -1
+-2x0 1 <=0 1x0 -2 <0 ; r => point 1/2
+-1x0 1 <0 1x0 -2 <=0 ; r => point 3/2
+-1x0 1 <0 1x0 -2 <0 ; r => point 3/2
+-1x0 -2 <0 1x0 1 <0 ; r => point -3/2
+# the only end where it is inside, else 1 past it: 3 <= x, 5/2 < x, x <= -3, x < -5/2
+-1x0 3 <=0 ; r => point 3
+-2x0 5 <0 ; r => point 7/2
+1x0 3 <=0 ; r => point -3
+2x0 5 <0 ; r => point -7/2
+# `1 <= x + y` and `x <= 5`: y occurs in one row and is eliminated first, so x is chosen first
+-1x0 -1x1 1 <=0 1x0 -5 <=0 ; rr => point 0 1
+# `(2^62 - 2)*y + 1 <= 0` stands after the step on x
+-1x0 2305843009213693951x1 0 <=0 2x0 1 <=0 1x1 0 <=0 ; ii => point -1 -1
+# variables without rows are 0, and false where they are Booleans
+-1x1 7 <=0 ; birb => point false 7 0 false
+# from 1/2 to 3/2: the near end where it is inside, else the middle; and 0 where it is inside
+-2x0 1 <=0 2x0 -3 <=0 ; r => point 1/2
+-2x0 1 <0 2x0 -3 <=0 ; r => point 1
+-2x0 0 <=0 2x0 -3 <=0 ; r => point 0
+# from 1/2 to 5/2 it is 1, above 1 it is 2, and from -5/2 to below -1 it is -2; between 1 and 2 there is none
+-2x0 1 <=0 2x0 -5 <=0 ; i => point 1
+-2x0 2 <0 2x0 -5 <=0 ; u => point 2
+-2x0 -5 <=0 2x0 2 <0 ; i => point -2
+-2x0 2 <0 2x0 -4 <0 ; i => broken x0 (1 2)";
 
-/// `x - 1 <= 0` and `-x + 2 <= 0` add up to `1 <= 0`.
 #[test]
-fn bounds_that_cross(rt: HostRuntime) -> Result<(), Fail> {
-    let alloc = rt.alloc();
-    let rows = [(1, 0, 0, -1, false), (-1, 0, 0, 2, false)];
-    assert!(rt; is_refuted(alloc, &rows, &[Ty::Int], &[(0, 1), (1, 1)])?);
-    Ok(())
-}
-
-/// `x < 0` and `-x < 0` touch at 0, which meets neither.
-#[test]
-fn strict_rows_that_touch(rt: HostRuntime) -> Result<(), Fail> {
-    let alloc = rt.alloc();
-    let rows = [(1, 0, 0, 0, true), (-1, 0, 0, 0, true)];
-    assert!(rt; is_refuted(alloc, &rows, &[Ty::UReal], &[(0, 1), (1, 1)])?);
-    let rows = [(1, 0, 0, 0, true), (-1, 0, 0, 0, false)];
-    assert!(rt; is_refuted(alloc, &rows, &[Ty::UReal], &[(0, 1), (1, 1)])?);
-    Ok(())
-}
-
-/// `0 <= 0` is no contradiction, and of two contradictions the first one counts.
-#[test]
-fn rows_without_variables(rt: HostRuntime) -> Result<(), Fail> {
-    let alloc = rt.alloc();
-    let rows = [(0, 0, 0, 0, false), (0, 0, 0, 0, true), (0, 0, 0, 1, false)];
-    assert!(rt; is_refuted(alloc, &rows, &[], &[(1, 1)])?);
-    let rows = [(0, 0, 0, -1, true), (0, 0, 0, 1, false), (0, 0, 0, 0, true)];
-    assert!(rt; is_refuted(alloc, &rows, &[], &[(1, 1)])?);
-    Ok(())
-}
-
-/// Of rows with equal coefficients the one with the greatest constant stays, a strict one before another, else the first.
-#[test]
-fn rows_with_equal_coefficients(rt: HostRuntime) -> Result<(), Fail> {
-    let alloc = rt.alloc();
-    // x <= 0, x < 0 and 0 <= x
-    let rows = [
-        (1, 0, 0, 0, false),
-        (1, 0, 0, 0, true),
-        (-1, 0, 0, 0, false),
-    ];
-    assert!(rt; is_refuted(alloc, &rows, &[Ty::Int], &[(1, 1), (2, 1)])?);
-    // x <= 5, x <= 1 and 2 <= x
-    let rows = [
-        (1, 0, 0, -5, false),
-        (1, 0, 0, -1, false),
-        (-1, 0, 0, 2, false),
-    ];
-    assert!(rt; is_refuted(alloc, &rows, &[Ty::Int], &[(1, 1), (2, 1)])?);
-    // x <= 1, x < 2 and 3 <= x
-    let rows = [
-        (1, 0, 0, -1, false),
-        (1, 0, 0, -2, true),
-        (-1, 0, 0, 3, false),
-    ];
-    assert!(rt; is_refuted(alloc, &rows, &[Ty::Int], &[(0, 1), (2, 1)])?);
-    Ok(())
-}
-
-/// `x <= 1` twice, and `2 <= x`.
-#[test]
-fn equal_rows(rt: HostRuntime) -> Result<(), Fail> {
-    let alloc = rt.alloc();
-    let rows = [
-        (1, 0, 0, -1, false),
-        (1, 0, 0, -1, false),
-        (-1, 0, 0, 2, false),
-    ];
-    assert!(rt; is_refuted(alloc, &rows, &[Ty::Int], &[(0, 1), (2, 1)])?);
-    Ok(())
-}
-
-/// Rows with other terms and the same fingerprint are kept side by side: twice the factor of the fingerprints, and 1 more, is
-/// 4354685564936845355 modulo 2^64.
-#[test]
-fn rows_with_equal_fingerprints(rt: HostRuntime) -> Result<(), Fail> {
-    let alloc = rt.alloc();
-    let great = 4_354_685_564_936_845_355;
-    // z <= 0, great * x <= 0 twice, the second time with a greater constant, and 1 <= z
-    let rows = [
-        (0, 0, 1, 0, false),
-        (great, 0, 0, 0, false),
-        (great, 0, 0, 1, false),
-        (0, 0, -1, 1, false),
-    ];
-    let vars = [Ty::Int, Ty::Int, Ty::Int];
-    assert!(rt; is_refuted(alloc, &rows, &vars, &[(0, 1), (3, 1)])?);
-    Ok(())
-}
-
-/// Each row is taken as often as the other's coefficient says, and the multipliers are in lowest terms.
-#[test]
-fn multipliers_in_lowest_terms(rt: HostRuntime) -> Result<(), Fail> {
-    let alloc = rt.alloc();
-    // 3 times 2x - 1 <= 0 and twice -3x + 3 <= 0 add up to 3 <= 0
-    let rows = [(2, 0, 0, -1, false), (-3, 0, 0, 3, false)];
-    assert!(rt; is_refuted(alloc, &rows, &[Ty::UReal], &[(0, 3), (1, 2)])?);
-    // 2x + 2 <= 0 and -2x <= 0
-    let rows = [(2, 0, 0, 2, false), (-2, 0, 0, 0, false)];
-    assert!(rt; is_refuted(alloc, &rows, &[Ty::UReal], &[(0, 1), (1, 1)])?);
-    Ok(())
-}
-
-/// `x <= y`, `y <= z` and `z < x`: no two of the rows contradict each other.
-#[test]
-fn a_circle_of_rows(rt: HostRuntime) -> Result<(), Fail> {
-    let alloc = rt.alloc();
-    let vars = [Ty::Int, Ty::UReal, Ty::UInt];
-    let rows = [
-        (1, -1, 0, 0, false),
-        (0, 1, -1, 0, false),
-        (-1, 0, 1, 0, true),
-    ];
-    assert!(rt; is_refuted(alloc, &rows, &vars, &[(0, 1), (1, 1), (2, 1)])?);
-    Ok(())
-}
-
-/// Twice `-x + 2^61*y <= 0` and `2x + 1 <= 0` add up to `2^62*y + 1 <= 0`.
-#[test]
-fn a_coefficient_reaches_its_bound(rt: HostRuntime) -> Result<(), Fail> {
-    let alloc = rt.alloc();
-    let rows = [
-        (-1, 2305843009213693952, 0, 0, false),
-        (2, 0, 0, 1, false),
-        (0, 1, 0, 0, false),
-    ];
-    assert!(rt; is_bits(alloc, &rows, &[Ty::Int, Ty::Int])?);
-    Ok(())
+fn eliminations(rt: HostRuntime) -> Result<(), AllocError> {
+    check_lines(&rt, Kind::Elimination, REFUTED)?;
+    check_lines(&rt, Kind::Elimination, POINTS)
 }
 
 /// For each i from 1 the row `-x + i*y + z <= 0`, and for each j from 1 the row `x + 66*j*y + z <= 0`.
-fn crossing(alloc: Global, lowers: u32, uppers: u32) -> Result<Vec<Row>, AllocError>
-    ensures { IfOk result (λ v. All IsRow v.items) }
-{
-    let mut rows: Vec<Row> = Vec::new(alloc);
-    for i in 0..lowers {
-        rows = at_most(alloc, rows, &[(0, -1), (1, i64::from(i) + 1), (2, 1)], 0)?;
+fn crossing(alloc: Global, lowers: u64, uppers: u64) -> Result<String, AllocError> {
+    let mut text = String::new(alloc);
+    for i in 0..lowers.min(100) {
+        let times = i + 1;
+        text.push_str(format!(in alloc; "-1x0 {times}x1 1x2 0 <=0 ")?.as_str())?;
     }
-    for j in 0..uppers {
-        rows = at_most(
-            alloc,
-            rows,
-            &[(0, 1), (1, 66 * (i64::from(j) + 1)), (2, 1)],
-            0,
-        )?;
+    for j in 0..uppers.min(100) {
+        let times = 66 * (j + 1);
+        text.push_str(format!(in alloc; "1x0 {times}x1 1x2 0 <=0 ")?.as_str())?;
     }
-    Ok(rows)
-}
-
-/// How many steps were done and how many rows there are, where they are too many.
-fn counts(found: &Elim) -> (u32, u32) {
-    match found {
-        Elim::Rows(steps, count) => (*steps, *count),
-        _ => (0, 0),
-    }
+    text.push_str("; iii")?;
+    Ok(text)
 }
 
 /// The joins of 65 rows and 65 rows, with different coefficients of y, are 4,225 rows; those of 65 and 64 are 4,160.
 #[test]
-fn too_many_rows(rt: HostRuntime) -> Result<(), Fail> {
+fn too_many_rows(rt: HostRuntime) -> Result<(), AllocError> {
     let alloc = rt.alloc();
-    let vars = [Ty::Int, Ty::Int, Ty::Int];
-    let rows = crossing(alloc, 65, 65)?;
-    let (steps, count) = counts(&answer(alloc, &rows, &vars)?);
-    assert_eq!(rt; steps, 1);
-    assert_eq!(rt; count, 4225);
-    let rows = crossing(alloc, 65, 64)?;
-    let (steps, count) = counts(&answer(alloc, &rows, &vars)?);
-    assert_eq!(rt; steps, 1);
-    assert_eq!(rt; count, 4160);
+    for (uppers, wanted) in [(65, "rows 1 4225"), (64, "rows 1 4160")] {
+        let rows = crossing(alloc, 65, uppers)?;
+        let found = given(alloc, Kind::Elimination, rows.as_str())?;
+        assert!(rt; found.as_str() == wanted, "{uppers}");
+    }
     Ok(())
 }

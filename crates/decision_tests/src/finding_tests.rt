@@ -1,54 +1,35 @@
 //! What is found of rows before anything is eliminated.
-use crate::test_rows::{Given, rows_of};
-use linear_elim::{Finding, Spot, find};
+
+use crate::answers::{Kind, check_lines};
+use crate::test_rows::rows_of;
+use crate::texts::text_of;
+use linear_elim::{Finding, Search};
 use std::alloc::{AllocError, Global};
-use std::test::Fail;
 
-/// Whether multipliers are found, as many as these.
-fn is_refuted_by(alloc: Global, given: &[Given], count: usize) -> Result<bool, AllocError> {
-    let rows = rows_of(alloc, given)?;
-    match find(alloc, &rows, 3, &Spot::origin(alloc))? {
-        Finding::Refuted(multipliers) => Ok(multipliers.len() == count),
-        Finding::Met(_) => Ok(false),
-        Finding::Open => Ok(false),
+/// How many multipliers are found, or whether a point is.
+pub fn finding(alloc: Global, text: &str) -> Result<String, AllocError> {
+    let rows = rows_of(alloc, text)?;
+    let mut search = Search::new(alloc);
+    match search.find(alloc, &rows, rows.len(), 3)? {
+        Finding::Refuted(multipliers) => {
+            let count = multipliers.len();
+            format!(in alloc; "refuted by {count}")
+        }
+        Finding::Met => text_of(alloc, "met"),
+        Finding::Open => text_of(alloc, "open"),
     }
 }
 
-/// Whether a point is found that isn't the origin.
-fn is_met_elsewhere(alloc: Global, given: &[Given]) -> Result<bool, AllocError> {
-    let rows = rows_of(alloc, given)?;
-    match find(alloc, &rows, 3, &Spot::origin(alloc))? {
-        Finding::Refuted(_) => Ok(false),
-        Finding::Met(spot) => Ok(spot.is_some()),
-        Finding::Open => Ok(false),
-    }
-}
+const FINDINGS: &str = "\
+# bounds that cross, strict rows that touch, and a cycle of three variables
+1x0 -1 <=0 -1x0 2 <=0 => refuted by 2
+1x0 0 <0 -1x0 0 <=0 => refuted by 2
+1x0 -1x1 0 <=0 1x1 -1x2 0 <0 -1x0 1x2 0 <=0 => refuted by 3
+# a strict bound, and three variables in order
+-1x0 0 <0 3x0 -1 <0 => met
+2x0 -1x1 1 <=0 1x1 -3x2 0 <0 -1x0 0 <=0 => met";
 
-/// Bounds that cross, strict rows that touch, and a cycle of three variables.
 #[test]
-fn refuted_rows(rt: HostRuntime) -> Result<(), Fail> {
-    let alloc = rt.alloc();
-    assert!(rt; is_refuted_by(alloc, &[(1, 0, 0, -1, false), (-1, 0, 0, 2, false)], 2)?);
-    assert!(rt; is_refuted_by(alloc, &[(1, 0, 0, 0, true), (-1, 0, 0, 0, false)], 2)?);
-    let cycle = [
-        (1, -1, 0, 0, false),
-        (0, 1, -1, 0, true),
-        (-1, 0, 1, 0, false),
-    ];
-    assert!(rt; is_refuted_by(alloc, &cycle, 3)?);
-    Ok(())
-}
-
-/// A strict bound, and three variables in order.
-#[test]
-fn met_rows(rt: HostRuntime) -> Result<(), Fail> {
-    let alloc = rt.alloc();
-    assert!(rt; is_met_elsewhere(alloc, &[(-1, 0, 0, 0, true), (3, 0, 0, -1, true)])?);
-    let order = [
-        (2, -1, 0, 1, false),
-        (0, 1, -3, 0, true),
-        (-1, 0, 0, 0, false),
-    ];
-    assert!(rt; is_met_elsewhere(alloc, &order)?);
-    Ok(())
+fn findings(rt: HostRuntime) -> Result<(), AllocError> {
+    check_lines(&rt, Kind::Finding, FINDINGS)
 }

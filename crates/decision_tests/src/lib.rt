@@ -1,11 +1,11 @@
-//! Tests of the decision of goals, over the public calls of the crates that make it: questions, rows, elimination, certificates
-//! and the walk.
+//! Tests of numbers, formulas and values, and of the decision of goals, over the public calls of the crates that make them. Each line
+//! of a text is a test.
 #![tactic(auto)]
 
 #[cfg(test)]
-mod checking_tests;
+mod answers;
 #[cfg(test)]
-mod choosing_tests;
+mod checking_tests;
 #[cfg(test)]
 mod contradiction_tests;
 #[cfg(test)]
@@ -17,17 +17,21 @@ mod elimination_tests;
 #[cfg(test)]
 mod finding_tests;
 #[cfg(test)]
+mod forms;
+#[cfg(test)]
+mod formula_tests;
+#[cfg(test)]
 mod fractions;
 #[cfg(test)]
-mod goals;
+mod linear_texts;
+#[cfg(test)]
+mod number_tests;
 #[cfg(test)]
 mod path_row_tests;
 #[cfg(test)]
-mod point_tests;
+mod paths;
 #[cfg(test)]
 mod product_tests;
-#[cfg(test)]
-mod question_answers;
 #[cfg(test)]
 mod question_tests;
 #[cfg(test)]
@@ -35,4 +39,10 @@ mod test_goals;
 #[cfg(test)]
 mod test_rows;
 #[cfg(test)]
+mod texts;
+#[cfg(test)]
 mod tightening_tests;
+#[cfg(test)]
+mod tree_texts;
+#[cfg(test)]
+mod value_tests;

@@ -5,6 +5,7 @@ ghost use Rattle.linear_form.specs.Row.{IsRow};
 ghost use Rattle.heylo_formula.specs.Typing.{types_in};
 ghost use Rattle.linear_form.specs.RowLists.{is_numeric, IsNumericRow};
 
+use crate::texts::{coefficient, index};
 use heylo_formula::Ty;
 use linear_elim::{Elim, eliminate};
 use linear_form::Row;
@@ -97,54 +98,23 @@ pub fn answer(alloc: Global, rows: &[Row], vars: &[Ty]) -> Result<Elim, AllocErr
     eliminate(alloc, rows, vars)
 }
 
-/// The rows, and one more: the sum of the terms and the number is at most 0.
-pub fn at_most(
-    alloc: Global,
-    mut rows: Vec<Row>,
-    terms: &[(u32, i64)],
-    rest: i64,
-) -> Result<Vec<Row>, AllocError>
-    requires { All IsRow rows.items }
-    ensures { IfOk result (λ v. All IsRow v.items) }
-{
-    rows.push(row(alloc, terms, rest, false)?)?;
-    Ok(rows)
-}
-
-/// A row of three variables: their coefficients, the constant, and whether it is strict.
-pub type Given = (i64, i64, i64, i64, bool);
-
-/// The terms whose coefficients aren't 0.
-fn terms_of(alloc: Global, given: Given) -> Result<Vec<(u32, i64)>, AllocError> {
-    let (x, y, z, _, _) = given;
-    let mut terms: Vec<(u32, i64)> = Vec::new(alloc);
-    if x != 0 {
-        terms.push((0, x))?;
-    }
-    if y != 0 {
-        terms.push((1, y))?;
-    }
-    if z != 0 {
-        terms.push((2, z))?;
-    }
-    Ok(terms)
-}
-
-/// The rows of a table, each brought to what the library takes.
-pub fn rows_of(alloc: Global, given: &[Given]) -> Result<Vec<Row>, AllocError>
+/// The rows of a text, each brought to what the library takes; want of memory where one isn't that.
+pub fn rows_of(alloc: Global, text: &str) -> Result<Vec<Row>, AllocError>
     ensures { IfOk result (λ v. All IsRow v.items) }
 {
     let mut rows: Vec<Row> = Vec::new(alloc);
-    for &one in given {
-        let terms = terms_of(alloc, one)?;
-        let (_, _, _, rest, strict) = one;
-        rows.push(row(alloc, &terms, rest, strict)?)?;
+    let mut terms: Vec<(u32, i64)> = Vec::new(alloc);
+    let mut rest: i64 = 0;
+    for word in text.split_whitespace() {
+        if word == "<=0" || word == "<0" {
+            rows.push(row(alloc, &terms, rest, word == "<0")?)?;
+            terms = Vec::new(alloc);
+            rest = 0;
+        } else if let Some((times, variable)) = word.split_once('x') {
+            terms.push((index(variable)?, coefficient(times)?))?;
+        } else {
+            rest = coefficient(word)?;
+        }
     }
     Ok(rows)
-}
-
-/// What is found of these rows.
-pub fn found(alloc: Global, given: &[Given], vars: &[Ty]) -> Result<Elim, AllocError> {
-    let rows = rows_of(alloc, given)?;
-    answer(alloc, &rows, vars)
 }

@@ -2,5 +2,5 @@ use Rattle.std.specs.List.{All}
 use Rattle.linear_form.specs.Row.{IsRow}
 use Rattle.decision_tests.proofs.test_rows.rows_of.Given as goal
 
-abbrev pub invariant-loop-one : goal.invariant-loop-one
-invariant-loop-one l = All IsRow l.rows.items
+abbrev pub invariant-loop-word : goal.invariant-loop-word
+invariant-loop-word l = All IsRow l.rows.items

@@ -2,7 +2,7 @@ use Rattle.std.proofs.Common.{length}
 use Rattle.heylo_formula.specs.Goals.{goal_of}
 use Rattle.linear_form.specs.Paths.{IsPath}
 use Rattle.linear_form.specs.PlainPaths.{path_of}
-use Rattle.decision_tests.proofs.question_answers.path_with.Given as goal
+use Rattle.decision_tests.proofs.paths.path_with.Given as goal
 
 abbrev pub invariant-answers : goal.invariant-answers
 invariant-answers l = IsPath (goal_of l.fn.goal) (path_of l.path.items)

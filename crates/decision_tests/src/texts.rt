@@ -1,0 +1,118 @@
+//! How the lines of tests are written: columns, numbers, types and answers.
+
+use heylo_formula::Ty;
+use heyvl_num::Frac;
+use std::alloc::{AllocError, Global};
+
+/// What stands before the first such mark, and what stands behind it; all of the text where there is none.
+pub fn cut(text: &str, mark: char) -> (&str, &str) {
+    match text.split_once(mark) {
+        Some((first, rest)) => (first.trim(), rest.trim()),
+        None => (text.trim(), ""),
+    }
+}
+
+/// A whole number; want of memory where the word is none, as with the numbers below.
+pub fn whole(word: &str) -> Result<i128, AllocError> {
+    match word.parse::<i128>() {
+        Ok(n) => Ok(n),
+        Err(_) => Err(AllocError),
+    }
+}
+
+/// A number of a row.
+pub fn coefficient(word: &str) -> Result<i64, AllocError> {
+    match word.parse::<i64>() {
+        Ok(n) => Ok(n),
+        Err(_) => Err(AllocError),
+    }
+}
+
+/// The number of a variable or a row.
+pub fn index(word: &str) -> Result<u32, AllocError> {
+    match word.parse::<u32>() {
+        Ok(n) => Ok(n),
+        Err(_) => Err(AllocError),
+    }
+}
+
+fn multiplier(word: &str) -> Result<u64, AllocError> {
+    match word.parse::<u64>() {
+        Ok(n) => Ok(n),
+        Err(_) => Err(AllocError),
+    }
+}
+
+/// A fraction, as `-1/2` or `3`.
+pub fn fraction(word: &str) -> Result<Frac, AllocError> {
+    let (num, den) = cut(word, '/');
+    let den = if den.is_empty() { 1 } else { whole(den)? };
+    match Frac::new(whole(num)?, den) {
+        Some(x) => Ok(x),
+        None => Err(AllocError),
+    }
+}
+
+/// The type of a letter: b is Bool, i is Int, u is UInt, and r is UReal.
+fn type_of(letter: u8) -> Ty {
+    match letter {
+        b'b' => Ty::Bool,
+        b'i' => Ty::Int,
+        b'u' => Ty::UInt,
+        _ => Ty::UReal,
+    }
+}
+
+/// The types of the variables, a letter for each.
+pub fn types_of(alloc: Global, text: &str) -> Result<Vec<Ty>, AllocError> {
+    let mut types = Vec::new(alloc);
+    for letter in text.bytes() {
+        types.push(type_of(letter))?;
+    }
+    Ok(types)
+}
+
+/// Answers to questions, a letter for each: t where the question holds, f where it fails.
+pub fn answers_of(alloc: Global, text: &str) -> Result<Vec<bool>, AllocError> {
+    let mut answers = Vec::new(alloc);
+    for letter in text.bytes() {
+        answers.push(letter == b't')?;
+    }
+    Ok(answers)
+}
+
+/// Indexes of rows with their multipliers, as `0:1 2:3`.
+pub fn multipliers_of(alloc: Global, text: &str) -> Result<Vec<(u32, u64)>, AllocError> {
+    let mut multipliers = Vec::new(alloc);
+    for word in text.split_whitespace() {
+        let (row, times) = cut(word, ':');
+        multipliers.push((index(row)?, multiplier(times)?))?;
+    }
+    Ok(multipliers)
+}
+
+/// The text of its own.
+pub fn text_of(alloc: Global, text: &str) -> Result<String, AllocError> {
+    String::from_str(alloc, text)
+}
+
+pub fn write_fraction(alloc: Global, x: &Frac, text: &mut String) -> Result<(), AllocError> {
+    let num = x.num();
+    let den = x.den();
+    text.push_str(format!(in alloc; "{num}")?.as_str())?;
+    if den != 1 {
+        text.push_str(format!(in alloc; "/{den}")?.as_str())?;
+    }
+    Ok(())
+}
+
+pub fn write_multipliers(
+    alloc: Global,
+    multipliers: &[(u32, u64)],
+    text: &mut String,
+) -> Result<(), AllocError> {
+    for (row, times) in multipliers {
+        text.push_str(format!(in alloc; "{row}:{times} ")?.as_str())?;
+    }
+    Ok(())
+}
