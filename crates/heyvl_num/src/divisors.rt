@@ -10,10 +10,10 @@ pub fn gcd(a: u128, b: u128) -> u128
 {
     let mut x = a;
     let mut y = b;
-    while y != 0 {
+    while y > 1 {
         let rest = x % y;
         x = y;
         y = rest;
     }
-    x
+    if y == 1 { 1 } else { x }
 }
