@@ -53,6 +53,7 @@ mod GoingOn
 mod KeptOperators
 mod Resuming
 mod GrowingRows
+mod FirstRows
 pub mod PathRowSteps
 pub mod PlaceRuns
 mod GreedyChoices

@@ -14,6 +14,7 @@ use Rattle.heylo_formula.specs.Formula.{Form, Cond}
 use Rattle.heylo_formula.specs.Goals.{Goal}
 use Rattle.heylo_formula.specs.declared.types.Ty.{Ty}
 use Rattle.linear_form.specs.Row.{Row}
+use Rattle.linear_form.specs.Occurrences.{first_row}
 use Rattle.linear_form.specs.Lin.{variable, minus_oneʳ, plus, minus, scaled, fits, is_sized}
 use Rattle.linear_form.specs.Terms.{coefficient}
 use Rattle.linear_form.specs.Combination.{combined}
@@ -131,3 +132,11 @@ asks_at_the_start = record { yes = done (zero, one); no = done (one, one); quest
 front : IsFront natural (negative true)
 unfolding negative
 front = IsFront.answer [] (Atom.row (variable 0) true) true IsFront.start (record { kept = start_is_kept; asks = asks_at_the_start })
+
+-- 0 occurs in two of these rows, 1 in the last two, 2 in none, and 3 in the last one
+three_rows : List Row
+three_rows = row 0 (pos 1) (pos 0) false ∷ (row_of_two (pos 1) (pos 2) (pos 5) false ∷ (record { terms = (1, pos 1) ∷ ((3, pos 1) ∷ []); rest = pos 0; strict = true } ∷ []))
+
+first_rows : (first_row 0 0 three_rows ≡ Some (0, 0)) × (first_row 1 0 three_rows ≡ Some (1, 1)) × (first_row 2 0 three_rows ≡ None) × (first_row 3 0 three_rows ≡ Some (3, 2))
+unfolding three_rows row row_of_two
+first_rows = (refl, refl, refl, refl)

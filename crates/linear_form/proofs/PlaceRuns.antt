@@ -3,8 +3,9 @@ use Rattle.std.proofs.Common.{◌≡◌, List, [], ◌∷◌, ◌++◌, sym, ap,
 use Rattle.std.proofs.lemmas.List.{take-append-le, length-append}
 use Rattle.heylo_formula.specs.Goals.{Goal}
 use Rattle.linear_form.specs.Query.{Taken}
+use Rattle.linear_form.specs.Questions.{all_questions}
 use Rattle.linear_form.specs.internal.Run.{along}
-use Rattle.linear_form.specs.internal.Places.{asked_by, all_of, through, IsKeptFocus, IsKeptFrame, AreKeptFrames}
+use Rattle.linear_form.specs.internal.Places.{asked_by, through, IsKeptFocus, IsKeptFrame, AreKeptFrames}
 use Rattle.linear_form.specs.Places.{IsOn}
 use Rattle.linear_form.specs.declared.places.Place.{Place}
 use Rattle.linear_form.specs.declared.places.Frame.{Frame}
@@ -18,7 +19,7 @@ place_stays g ps qs p h = record {
 }
 
 -- before the first question
-pub begins : (g : Goal) (p : Place) (before : List Frame) (f : Frame) → p.at ≡ 0 → p.frames.items ≡ before ++ (f ∷ []) → before ≡ [] → through (asked_by p.focus) (f ∷ []) ≡ all_of g → IsKeptFocus p.focus → IsKeptFrame f → IsOn g [] p
+pub begins : (g : Goal) (p : Place) (before : List Frame) (f : Frame) → p.at ≡ 0 → p.frames.items ≡ before ++ (f ∷ []) → before ≡ [] → through (asked_by p.focus) (f ∷ []) ≡ all_questions g → IsKeptFocus p.focus → IsKeptFrame f → IsOn g [] p
 begins g p before f a i n e h k = let j : p.frames.items ≡ f ∷ [] = i ∙ ap (λ fs. fs ++ (f ∷ [])) n in record {
   within = omega (arith, a);
   left = λ qs m. ap₂ (λ t i. along qs t i) (sym e ∙ ap (through (asked_by p.focus)) (sym j)) (sym a);

@@ -12,7 +12,7 @@ use Rattle.linear_form.specs.PlainPaths.{atom_of, linear_of}
 use Rattle.linear_form.specs.internal.Nodes.{after_first}
 use Rattle.linear_form.specs.internal.Run.{Evaluation, along}
 use Rattle.linear_form.specs.internal.Places as places
-use Rattle.linear_form.specs.internal.Places.{told, result_of, asked_by, resumed, ended, through, left_at, weight, focus_weight, frames_weight, frame_weight, IsKeptFocus, IsKeptFrame, AreKeptFrames}
+use Rattle.linear_form.specs.internal.Places.{told, result_of, asked_by, resumed, ended, through, left_at, weight, focus_weight, frames_weight, frame_weight, IsKeptFrame, AreKeptFrames}
 use Rattle.linear_form.specs.internal.Steps.{Steps, AreAlike, IsAlike, IsSamePlace}
 use Rattle.linear_form.specs.Places.{IsOn}
 use Rattle.linear_form.specs.declared.lin.Lin.{Lin}

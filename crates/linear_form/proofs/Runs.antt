@@ -9,12 +9,11 @@ use Rattle.linear_form.specs.QuestionLaws.{EachResult}
 use Rattle.linear_form.specs.internal.Run.{Evaluation, along, turned, heard, onward}
 use Rattle.linear_form.specs.internal.Run.Evaluation.{value, decide}
 use Rattle.linear_form.specs.PlainPaths.{path_of}
-use Rattle.linear_form.specs.internal.Seen.{Stops, Gives, Tells}
+use Rattle.linear_form.specs.internal.Seen.{Stops, Gives}
 use Rattle.linear_form.specs.declared.paths.Taken as T
 use Rattle.linear_form.specs.declared.cursor.Stop as S
 use Rattle.linear_form.specs.declared.cursor.Stop.{Stop}
 use Rattle.linear_form.specs.declared.cursor.Found.{Found}
-use Rattle.linear_form.specs.declared.cursor.Tested.{Tested}
 
 turned_onward : {A B : Type 0} (ps : List Taken) (q : Atom) (y n : Evaluation A) (y' n' : Evaluation B) (f : A → ℕ → Evaluation B) → y' ≡ onward y f → n' ≡ onward n f → turned ps q y' n' ≡ onward (turned ps q y n) f
 turned_onward [] q y n y' n' f h k = refl
@@ -46,10 +45,6 @@ run_bits ps i = refl
 
 pub run_after : {A C : Type 0} (ps : List Taken) (t : Query A) (f : A → Query C) (i j : ℕ) (x : A) → along ps t i ≡ value x j → along ps (next t f) i ≡ along ps (f x) j
 run_after ps t f i j x h = run_next ps t f i ∙ ap (λ z. onward z (λ x j. along ps (f x) j)) h
-
--- two parts, and what comes of them
-pub run_two : {A B C : Type 0} (ps : List Taken) (t : Query A) (u : Query B) (f : A → B → Query C) (i j k : ℕ) (x : A) (y : B) → along ps t i ≡ value x j → along ps u j ≡ value y k → along ps (next t (λ x. next u (λ y. f x y))) i ≡ along ps (f x y) k
-run_two ps t u f i j k x y h g = run_after ps t _ i j x h ∙ run_after ps u _ j k y g
 
 -- where the first part stops, all stops
 pub stops_first : {A C : Type 0} (e : Stop) (ps : List Taken) (t : Query A) (f : A → Query C) (i : ℕ) → Stops e (along ps t i) → Stops e (along ps (next t f) i)

@@ -13,7 +13,7 @@ use Rattle.heyvl_num.specs.Rational.{Rational, ratio, zeroʳ, oneʳ, ◌+ʳ◌, 
 use Rattle.heyvl_num.specs.Rounding.{whole, floorʳ, ceilʳ}
 use Rattle.heyvl_num.proofs.exported.Integers.{*ℤ-one, *ℤ-neg, neg-*ℤ}
 use Rattle.heyvl_num.proofs.exported.Rationals as fraction
-use Rattle.heyvl_num.proofs.exported.Rationals.{ratio_parts, ratio_den, ratio_same, ratio-*, ratio-+, ratio-≤, ≤ʳ_trans, *ʳ_mono, *ʳ_assoc, *ʳ-zero, *ʳ-one, one-*ʳ, *ʳ-+ʳ, +ʳ_comm, +ʳ_mono, ≤ʳ_refl, ratio_nonnegative, cross_order, order_cross, *ʳ_nonnegative, zero-+ʳ}
+use Rattle.heyvl_num.proofs.exported.Rationals.{ratio_parts, ratio_den, ratio_same, ratio-*, ratio-+, ratio-≤, ≤ʳ_trans, *ʳ_mono, *ʳ_assoc, *ʳ-zero, one-*ʳ, *ʳ-+ʳ, +ʳ_comm, +ʳ_mono, ≤ʳ_refl, ratio_nonnegative, cross_order, order_cross, *ʳ_nonnegative, zero-+ʳ}
 use Rattle.heyvl_num.proofs.exported.Roundings.{floor-is, ceil-is}
 use Rattle.heyvl_num.proofs.exported.Signs.{≤ʳ-+ʳ_cancel}
 use Rattle.heylo_formula.specs.State.{Env, number_of, has}

@@ -4,6 +4,7 @@ pub mod Points
 pub mod Solutions
 pub mod Combination
 pub mod VariableOrder
+pub mod Occurrences
 pub mod RowLaws
 pub mod GreedyPoint
 pub mod GreedyLaws

@@ -187,6 +187,10 @@ abbrev mutual
 abbrev pub Ends : Type 0
 Ends = Linear × Linear
 
--- The stated form and then the found one; a Boolean is asked once.
+-- What the stated form of a goal asks, and then what the found one does. A Boolean may be asked twice.
+abbrev pub all_questions : Goal → Query Ends
+all_questions g = both (evaluate g.stated) (evaluate g.found) (λ x y. done (x, y))
+
+-- The same, where a Boolean is asked once.
 abbrev pub questions : Goal → Query Ends
-questions g = once [] (next (evaluate g.stated) (λ x. next (evaluate g.found) (λ y. done (x, y))))
+questions g = once [] (all_questions g)

@@ -4,6 +4,7 @@ pub mod Operator
 pub mod Run
 pub mod Seen
 pub mod Columns
+pub mod FirstRows
 pub mod FurtherRows
 pub mod NormalPaths
 pub mod Nonzero

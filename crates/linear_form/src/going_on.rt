@@ -1,4 +1,4 @@
-//! An evaluation of a goal, and the place from which it goes on.
+//! How an evaluation of a goal begins, and how it goes on along a path.
 
 ghost use Rattle.std.specs.Prelude.{◌≡◌, [], IfOk};
 ghost use Rattle.heylo_formula.specs.Goals.{goal_of};
@@ -14,7 +14,7 @@ use crate::steps::{Step, advance};
 use heylo_formula::Goal;
 use std::alloc::{AllocError, Global};
 
-/// The evaluation before the first question: the stated form, and then the found one.
+/// The evaluation before the first question: the stated form, and then the found one. Want of memory is the one error.
 pub fn begin<'a>(alloc: Global, goal: &'a Goal) -> Result<Place<'a>, AllocError>
     ensures { IfOk result (λ p. IsOn (goal_of goal.now) [] p) }
 {
@@ -27,8 +27,8 @@ pub fn begin<'a>(alloc: Global, goal: &'a Goal) -> Result<Place<'a>, AllocError>
     })
 }
 
-/// What stands at the end of a path, and a place to go on from. It is evaluated anew from the start, and the place is the
-/// beginning. Want of memory is the one error.
+/// What stands at the end of a path, evaluated on from a place on it. The place that is reached is the one where the next
+/// question stands, or the beginning where none is left. Want of memory is the one error.
 pub fn go_on<'a>(
     alloc: Global,
     goal: &'a Goal,

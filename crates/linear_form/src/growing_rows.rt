@@ -5,6 +5,7 @@ ghost use Rattle.heylo_formula.specs.Goals.{goal_of};
 ghost use Rattle.heylo_formula.specs.TypedGoals.{IsTypedGoal};
 ghost use Rattle.heylo_formula.specs.Typing.{types_in};
 ghost use Rattle.linear_form.specs.Asked.{Answers};
+ghost use Rattle.linear_form.specs.Occurrences.{AreOccurrences};
 ghost use Rattle.linear_form.specs.Paths.{IsPath, end_at};
 ghost use Rattle.linear_form.specs.PathRows.{rows_of, all_tightened, path_claims, listed, denial_at};
 ghost use Rattle.linear_form.specs.PlainPaths.{path_of};
@@ -14,10 +15,11 @@ ghost use Rattle.linear_form.specs.declared.asking.Ask.TheVariants.{End};
 
 use crate::further_rows::{with_answer, with_below};
 use crate::lin::Lin;
+use crate::occurrences::Occurrences;
 use crate::path_rows::RowList;
 use crate::paths::Taken;
 use crate::row::Row;
-use crate::signs::with_signs;
+use crate::signs::{with_noted_signs, with_signs};
 use heylo_formula::Goal;
 use std::alloc::{AllocError, Global};
 
@@ -39,23 +41,25 @@ pub fn next_row(
     }
 }
 
-/// The rows of a path without the denied goal, from those of its comparisons, which stand first. Want of memory is the one
-/// error.
+/// The rows of a path without the denied goal, from those of its comparisons, which stand first, and from where the variables
+/// occur in these. Want of memory is the one error.
 pub fn with_signs_of_path(
     alloc: Global,
     goal: &Goal,
     path: &[Taken],
     rows: Vec<Row>,
+    occurrences: &Occurrences,
 ) -> Result<RowList, AllocError>
     requires path { IsPath (goal_of goal.now) (path_of path.now) }
     requires rows { ArePathRows (goal_of goal.now) (path_of path.now) rows.items }
+    requires occurrences { AreOccurrences (length goal.now.vars.items) rows.items occurrences.now }
     ensures rows { IfOk result (λ r. Lists r (rows_of (goal_of goal.now) (path_of path.now) false)) }
     ensures normal { IfOk result (λ r. AreRows r) }
     ensures numeric { IsTypedGoal (goal_of goal.now) → IfOk result (λ r. AreNumericRows (goal_of goal.now).types r) }
     ensures few { IfOk result (λ r. count_of r ≤ length path.now + 1 + length goal.now.vars.items) }
     ensures first { IfOk result (λ r. StartsWith rows.items r) }
 {
-    with_signs(alloc, &goal.vars, rows)
+    with_noted_signs(alloc, &goal.vars, rows, occurrences)
 }
 
 /// The rows of a path with the denied goal, from those of its comparisons, which stand first, and from the values of the two

@@ -1,16 +1,17 @@
 //! The signs of unsigned variables.
 
-ghost use Rattle.std.specs.Prelude.{◌≡◌, ℕ, Some, None, IfOk, map, length, false, eqb, if◌then◌else◌};
-ghost use Rattle.std.specs.List.{list_any};
+ghost use Rattle.std.specs.Prelude.{◌≡◌, ◌<◌, List, IfOk, map, length, false};
 ghost use Rattle.linear_form.specs.Lin.{variable as variable_lin};
 ghost use Rattle.linear_form.specs.PathRows.{claim, negated, is_unsigned_type};
 ghost use Rattle.linear_form.specs.internal.FurtherRows.{rows_with, unsigned_in, all_unsigned_in};
-ghost use Rattle.linear_form.specs.VariableOrder.{occurs_in_row};
+ghost use Rattle.linear_form.specs.Occurrences.{AreOccurrences};
+ghost use Rattle.linear_form.specs.Row.{Row as PlainRow};
 ghost use Rattle.linear_form.specs.RowLists.{Lists};
 ghost use Rattle.heylo_formula.specs.Typing.{types_in};
 
 use crate::further_rows::with_negated;
 use crate::lin::variable;
+use crate::occurrences::Occurrences;
 use crate::path_rows::RowList;
 use crate::row::Row;
 use heylo_formula::Ty;
@@ -29,51 +30,28 @@ fn is_unsigned(types: &[Ty], x: usize) -> bool
     }
 }
 
-/// The variable, where a term has it.
-fn found_in_terms(terms: &[(u32, i64)], x: usize) -> Option<u32>
-    ensures { result ≡ (if list_any (λ t. eqb t.0 x) terms.now then Some x else None) }
-{
-    let mut rest = terms;
-    'terms: while let Some((term, others)) = rest.split_first() {
-        if term.0 as usize == x {
-            return Some(term.0);
-        }
-        rest = others;
-    }
-    None
-}
-
-/// The variable, where it occurs_in_row in the rows.
-fn found_in_rows(rows: &[Row], x: usize) -> Option<u32>
-    ensures { result ≡ (if list_any (occurs_in_row x) rows.now then Some x else None) }
-{
-    for row in rows {
-        match found_in_terms(&row.terms, x) {
-            None => {}
-            Some(variable) => return Some(variable),
-        }
-    }
-    None
-}
-
-/// The variable, where it is unsigned and occurs_in_row in the rows.
-fn unsigned_variable(types: &[Ty], rows: &[Row], x: usize) -> Option<u32>
-    ensures { result ≡ unsigned_in (types_in types.now) rows.now x }
+/// The variable, where it is unsigned and occurs in the rows of which these occurrences are.
+fn unsigned_variable(types: &[Ty], occurrences: &Occurrences, x: usize) -> Option<u32>
+    ensures { (rows : List PlainRow) → AreOccurrences (length types.now) rows occurrences.now → x < length types.now → result ≡ unsigned_in (types_in types.now) rows x }
 {
     if is_unsigned(types, x) {
-        found_in_rows(rows, x)
+        occurrences.variable(x)
     } else {
         None
     }
 }
 
-/// The unsigned variables that occur in the rows, by number.
-fn unsigned_variables(alloc: Global, types: &[Ty], rows: &[Row]) -> Result<Vec<u32>, AllocError>
-    ensures { IfOk result (λ v. v.items ≡ all_unsigned_in (types_in types.now) rows.now (length types.now)) }
+/// The unsigned variables that occur in the rows of which these occurrences are, by number.
+fn unsigned_variables(
+    alloc: Global,
+    types: &[Ty],
+    occurrences: &Occurrences,
+) -> Result<Vec<u32>, AllocError>
+    ensures { (rows : List PlainRow) → AreOccurrences (length types.now) rows occurrences.now → IfOk result (λ v. v.items ≡ all_unsigned_in (types_in types.now) rows (length types.now)) }
 {
     let mut variables = Vec::new(alloc);
     for x in 0..types.len() {
-        match unsigned_variable(types, rows, x) {
+        match unsigned_variable(types, occurrences, x) {
             None => {}
             Some(variable) => variables.push(variable)?,
         }
@@ -103,10 +81,25 @@ fn with_signs_of(
     Ok(RowList::Rows(made))
 }
 
-/// The rows, and after them that no unsigned variable that occurs_in_row in them is negative.
+/// The rows, and after them that no unsigned variable that occurs in them is negative.
 pub(crate) fn with_signs(alloc: Global, types: &[Ty], rows: Vec<Row>) -> Result<RowList, AllocError>
     ensures { IfOk result (λ r. Lists r (rows_with (types_in types.now) rows.items (map (λ x. claim (negated (variable_lin x)) false) (all_unsigned_in (types_in types.now) rows.items (length types.now))))) }
 {
-    let variables = unsigned_variables(alloc, types, &rows)?;
+    let mut occurrences = Occurrences::new(alloc, types.len())?;
+    occurrences.note(&rows, 0);
+    with_noted_signs(alloc, types, rows, &occurrences)
+}
+
+/// The same, where the occurrences of variables in the rows are noted.
+pub(crate) fn with_noted_signs(
+    alloc: Global,
+    types: &[Ty],
+    rows: Vec<Row>,
+    occurrences: &Occurrences,
+) -> Result<RowList, AllocError>
+    requires { AreOccurrences (length types.now) rows.items occurrences.now }
+    ensures { IfOk result (λ r. Lists r (rows_with (types_in types.now) rows.items (map (λ x. claim (negated (variable_lin x)) false) (all_unsigned_in (types_in types.now) rows.items (length types.now))))) }
+{
+    let variables = unsigned_variables(alloc, types, occurrences)?;
     with_signs_of(alloc, types, rows, &variables)
 }

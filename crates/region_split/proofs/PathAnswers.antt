@@ -1,6 +1,6 @@
 -- What the rows of a path come to, and what stands at a path.
 use Rattle.std.proofs.Common.{◌≡◌, ℕ, List, Bool, true, false, refl, sym, ◌∙◌, ap, subst}
-use Rattle.std.specs.Prelude.{Option, Some, None, is_some, is_none, not, IsTrue, ◌↔◌}
+use Rattle.std.specs.Prelude.{Option, Some, None, is_some, is_none, not, IsTrue}
 use Rattle.heylo_formula.specs.Goals.{Goal}
 use Rattle.heylo_formula.specs.State.{environment, number_of}
 use Rattle.heylo_formula.specs.declared.values.Val.{Val}

@@ -1,5 +1,5 @@
 -- What stands along a path, when an answer comes to it and when the last one is taken off.
-use Rattle.std.proofs.Common.{◌≡◌, ℕ, ◌+◌, ◌-◌, ◌<◌, ◌≤◌, List, [], ◌∷◌, ◌++◌, length, take, drop, refl, sym, ap, ◌∙◌, subst, arith, length-append, false}
+use Rattle.std.proofs.Common.{◌≡◌, ℕ, ◌+◌, ◌-◌, ◌≤◌, List, [], ◌∷◌, ◌++◌, length, take, drop, refl, sym, ap, ◌∙◌, subst, arith, length-append, false}
 use Rattle.std.specs.Prelude.{Option, Some, None, slice_get}
 use Rattle.std.proofs.lemmas.List.{map-append, take-append-drop, take-take, length-take}
 use Rattle.heylo_formula.specs.Goals.{Goal}
@@ -12,8 +12,9 @@ use Rattle.linear_form.specs.Row.{Row}
 use Rattle.linear_form.specs.declared.paths.Taken as T
 use Rattle.linear_form.proofs.exported.Places.{place_stays, rows_counted, path_rows_first, claims_counted}
 use Rattle.linear_elim.proofs.exported.Remembering.{remembers_more}
-use Rattle.linear_form.specs.RowLists.{ArePathRows, LackLastRow}
+use Rattle.linear_form.specs.RowLists.{ArePathRows}
 use Rattle.linear_form.specs.Places.{IsOn}
+use Rattle.linear_form.specs.Occurrences.{AreOccurrences}
 use Rattle.linear_elim.specs.Searches.{Remembers}
 use Rattle.linear_form.specs.declared.places.Place.{Place}
 use Rattle.linear_elim.specs.declared.search.Search.{Search}
@@ -70,12 +71,18 @@ pub same_path_rows : (g : Goal) (ps : List Taken) (rows others : List Row) → A
 same_path_rows g ps rows others h k = let e = sym h.are_rows ∙ k.are_rows in cc
 
 -- the rows of a path begin with those of a shorter one, which is what a search remembers
-pub first_path_rows : (g : Goal) (ps qs : List Taken) (rows more : List Row) → ArePathRows g ps rows → ArePathRows g (ps ++ qs) more → more ≡ rows ++ drop (length rows) more
-first_path_rows g ps qs rows more h k =
+shorter_rows : (g : Goal) (ps qs : List Taken) (rows more : List Row) → ArePathRows g ps rows → ArePathRows g (ps ++ qs) more → take (length rows) more ≡ rows
+shorter_rows g ps qs rows more h k =
     let e = same_path_rows g ps rows (take (length (path_claims ps)) more) h (path_rows_first g ps qs more k) in
-    let c = rows_counted g ps rows h in
-    let f : take (length rows) more ≡ rows = ap (λ n. take n more) c ∙ sym e in
-    sym (take-append-drop (length rows) more) ∙ ap (λ xs. xs ++ drop (length rows) more) f
+    ap (λ n. take n more) (rows_counted g ps rows h) ∙ sym e
+
+pub first_path_rows : (g : Goal) (ps qs : List Taken) (rows more : List Row) → ArePathRows g ps rows → ArePathRows g (ps ++ qs) more → more ≡ rows ++ drop (length rows) more
+first_path_rows g ps qs rows more h k = sym (take-append-drop (length rows) more) ∙ ap (λ xs. xs ++ drop (length rows) more) (shorter_rows g ps qs rows more h k)
+
+-- those so far stand first
+pub rows_so_far : (g : Goal) (ps : List Taken) (rows more : List Row) (noted : ℕ) → AreRowsSoFar g ps rows → ArePathRows g ps more → noted ≡ length rows → take noted more ≡ rows
+rows_so_far g _ _ more noted AreRowsSoFar.start k e = ap (λ n. take n more) e
+rows_so_far g ps rows more noted (AreRowsSoFar.answer _ _ l) k e = ap (λ n. take n more) e ∙ shorter_rows g l.before (l.last ∷ []) rows more l.are_rows (subst (λ xs. ArePathRows g xs more) l.split k)
 
 remembers_longer : (g : Goal) (ps qs : List Taken) (s : Search) (rows more : List Row) → ArePathRows g ps rows → ArePathRows g (ps ++ qs) more → Remembers s rows → Remembers s more
 remembers_longer g ps qs s rows more h k r = subst (Remembers s) (sym (first_path_rows g ps qs rows more h k)) (remembers_more s rows (drop (length rows) more) r)
@@ -101,8 +108,8 @@ unstated_path g ps e = unstated_first (types_in g.types) (path_claims ps ++ []) 
 -- ---- Trails
 
 -- without its last answer
-pub stood_before : (g : Goal) (t before : Trail) (answer : T.Taken) (place : Place) (left count : ℕ) → Stands g t → t.path.items ≡ before.path.items ++ (answer ∷ []) → t.places.items ≡ before.places.items ++ (place ∷ []) → length (answer_claims (atom_of answer.atom) answer.held) ≡ count → left ≡ length t.rows.items - count → before.rows.items ≡ take left t.rows.items → Remembers before.search before.rows.items → StoodBefore g t before answer place
-stood_before g t before answer place left count h p q n l r m =
+pub stood_before : (g : Goal) (t before : Trail) (answer : T.Taken) (place : Place) (left count : ℕ) → Stands g t → t.path.items ≡ before.path.items ++ (answer ∷ []) → t.places.items ≡ before.places.items ++ (place ∷ []) → length (answer_claims (atom_of answer.atom) answer.held) ≡ count → left ≡ length t.rows.items - count → before.rows.items ≡ take left t.rows.items → AreOccurrences (length g.types) before.rows.items before.occurrences → Remembers before.search before.rows.items → StoodBefore g t before answer place
+stood_before g t before answer place left count h p q n l r o m =
     let ps = path_of before.path.items in
     let e : path_of t.path.items ≡ ps ++ (taken_of answer ∷ []) = ap path_of p ∙ map-append taken_of before.path.items (answer ∷ []) in
     let s = shorter_places g (path_of t.path.items) ps (taken_of answer) t.places.items before.places.items place h.places e q in
@@ -112,7 +119,7 @@ stood_before g t before answer place left count h p q n l r m =
     let c : length (path_claims ps) ≡ left = omega (arith, a, b, n, l) in
     let d = subst (λ j. ArePathRows g ps (take j t.rows.items)) c (path_rows_first g ps (taken_of answer ∷ []) t.rows.items k) in
     record {
-      stands = record { places = s.are_places; rows = subst (ArePathRows g ps) (sym r) d; remembers = m };
+      stands = record { places = s.are_places; rows = subst (ArePathRows g ps) (sym r) d; occurrences = o; remembers = m };
       asked = s.on;
       path = e;
     }
@@ -122,8 +129,8 @@ pub no_places : (g : Goal) (t : Trail) → Stands g t → length t.places.items 
 no_places g t h e = let l = has_last g (path_of t.path.items) t.places.items h.places in let i = ap length l.split ∙ length-append l.before (l.last ∷ []) in absurd (omega (arith, e, i))
 
 -- with one more answer
-pub comes_by : (g : Goal) (t next : Trail) (answer : T.Taken) (place : Place) → Stands g t → IsOn g (path_of t.path.items) place → next.path.items ≡ t.path.items ++ (answer ∷ []) → next.places.items ≡ t.places.items ++ (place ∷ []) → next.rows ≡ t.rows → next.search ≡ t.search → ComesBy g t answer next
-comes_by g t next answer place h o p q r s =
+pub comes_by : (g : Goal) (t next : Trail) (answer : T.Taken) (place : Place) → Stands g t → IsOn g (path_of t.path.items) place → next.path.items ≡ t.path.items ++ (answer ∷ []) → next.places.items ≡ t.places.items ++ (place ∷ []) → next.rows ≡ t.rows → next.occurrences ≡ t.occurrences → next.search ≡ t.search → ComesBy g t answer next
+comes_by g t next answer place h o p q r n s =
     let ps = path_of t.path.items in
     let e : path_of next.path.items ≡ ps ++ (taken_of answer ∷ []) = ap path_of p ∙ map-append taken_of t.path.items (answer ∷ []) in
     record {
@@ -131,45 +138,49 @@ comes_by g t next answer place h o p q r s =
       comes = record {
         places = subst (λ qs. ArePlaces g qs next.places.items) (sym e) (subst (ArePlaces g (ps ++ (taken_of answer ∷ []))) (sym q) (ArePlaces.answer ps (taken_of answer) t.places.items place h.places o));
         rows = AreRowsSoFar.answer (path_of next.path.items) next.rows.items (record { before = ps; last = taken_of answer; split = e; are_rows = subst (λ v. ArePathRows g ps v.items) (sym r) h.rows });
+        occurrences = subst (λ x. AreOccurrences (length g.types) next.rows.items x) (sym n) (subst (λ v. AreOccurrences (length g.types) v.items t.occurrences) (sym r) h.occurrences);
         remembers = subst (λ x. Remembers x next.rows.items) (sym s) (subst (λ v. Remembers t.search v.items) (sym r) h.remembers);
       };
     }
 
 -- before the first question
-pub comes_first : (g : Goal) (t : Trail) (p : Place) → IsOn g [] p → t.path.items ≡ [] → t.places.items ≡ p ∷ [] → t.rows.items ≡ [] → ((rows : List Row) → Remembers t.search rows) → Comes g t
-comes_first g t p o e q r m =
+pub comes_first : (g : Goal) (t : Trail) (p : Place) → IsOn g [] p → t.path.items ≡ [] → t.places.items ≡ p ∷ [] → t.rows.items ≡ [] → AreOccurrences (length g.types) [] t.occurrences → ((rows : List Row) → Remembers t.search rows) → Comes g t
+comes_first g t p o e q r n m =
     let a = ap path_of e in
     record {
       places = subst (λ ps. ArePlaces g ps t.places.items) (sym a) (subst (ArePlaces g []) (sym q) (ArePlaces.start p o));
       rows = subst (λ ps. AreRowsSoFar g ps t.rows.items) (sym a) (subst (AreRowsSoFar g []) (sym r) AreRowsSoFar.start);
+      occurrences = subst (λ rows. AreOccurrences (length g.types) rows t.occurrences) (sym r) n;
       remembers = m t.rows.items;
     }
 
 -- once the last answer has its row
-pub stands_with : (g : Goal) (t next : Trail) → Comes g t → ArePathRows g (path_of t.path.items) next.rows.items → next.path ≡ t.path → next.places ≡ t.places → next.search ≡ t.search → Stands g next
-stands_with g t next h k p q s = record {
+pub stands_with : (g : Goal) (t next : Trail) → Comes g t → ArePathRows g (path_of t.path.items) next.rows.items → next.path ≡ t.path → next.places ≡ t.places → AreOccurrences (length g.types) next.rows.items next.occurrences → next.search ≡ t.search → Stands g next
+stands_with g t next h k p q o s = record {
   places = subst (λ v. ArePlaces g (path_of v.items) next.places.items) (sym p) (subst (λ v. ArePlaces g (path_of t.path.items) v.items) (sym q) h.places);
   rows = subst (λ v. ArePathRows g (path_of v.items) next.rows.items) (sym p) k;
+  occurrences = o;
   remembers = subst (λ x. Remembers x next.rows.items) (sym s) (remembers_last g (path_of t.path.items) t.search t.rows.items next.rows.items h.rows k h.remembers);
 }
 
 -- behind a look, once the rows that hold only there are gone
-pub stands_again : (g : Goal) (t next : Trail) (list : List Row) → Stands g t → take (length t.rows.items) list ≡ t.rows.items → next.path ≡ t.path → next.places ≡ t.places → next.rows.items ≡ take (length t.rows.items) list → Remembers next.search (take (length t.rows.items) list) → StandsAt g (path_of t.path.items) next
-stands_again g t next list h f p q r m = record {
+pub stands_again : (g : Goal) (t next : Trail) (list : List Row) → Stands g t → take (length t.rows.items) list ≡ t.rows.items → next.path ≡ t.path → next.places ≡ t.places → next.rows.items ≡ take (length t.rows.items) list → next.occurrences ≡ t.occurrences → Remembers next.search (take (length t.rows.items) list) → StandsAt g (path_of t.path.items) next
+stands_again g t next list h f p q r o m = record {
   path = ap (λ v. path_of v.items) p;
   stands = record {
     places = subst (λ v. ArePlaces g (path_of v.items) next.places.items) (sym p) (subst (λ v. ArePlaces g (path_of t.path.items) v.items) (sym q) h.places);
     rows = subst (λ v. ArePathRows g (path_of v.items) next.rows.items) (sym p) (subst (ArePathRows g (path_of t.path.items)) (sym (r ∙ f)) h.rows);
+    occurrences = subst (λ x. AreOccurrences (length g.types) next.rows.items x) (sym o) (subst (λ rows. AreOccurrences (length g.types) rows t.occurrences) (sym (r ∙ f)) h.occurrences);
     remembers = subst (Remembers next.search) (sym r) m;
   };
 }
 
-pub looked : (g : Goal) (t next : Trail) (list held : List Row) (kept : ℕ) → Stands g t → kept ≡ length t.rows.items → take (length t.rows.items) list ≡ t.rows.items → held ≡ list → next.path ≡ t.path → next.places ≡ t.places → next.rows.items ≡ take kept list → Remembers next.search (take kept held) → StandsAt g (path_of t.path.items) next
-looked g t next list held kept h e f d p q r m = stands_again g t next list h f p q (r ∙ ap (λ k. take k list) e) (subst (λ k. Remembers next.search (take k list)) e (subst (λ xs. Remembers next.search (take kept xs)) d m))
+pub looked : (g : Goal) (t next : Trail) (list held : List Row) (kept : ℕ) → Stands g t → kept ≡ length t.rows.items → take (length t.rows.items) list ≡ t.rows.items → held ≡ list → next.path ≡ t.path → next.places ≡ t.places → next.rows.items ≡ take kept list → next.occurrences ≡ t.occurrences → Remembers next.search (take kept held) → StandsAt g (path_of t.path.items) next
+looked g t next list held kept h e f d p q r o m = stands_again g t next list h f p q (r ∙ ap (λ k. take k list) e) o (subst (λ k. Remembers next.search (take k list)) e (subst (λ xs. Remembers next.search (take kept xs)) d m))
 
 -- the same where no search looked
-pub again : (g : Goal) (t next : Trail) (list : List Row) (kept : ℕ) → Stands g t → kept ≡ length t.rows.items → take (length t.rows.items) list ≡ t.rows.items → next.path ≡ t.path → next.places ≡ t.places → next.rows.items ≡ take kept list → next.search ≡ t.search → StandsAt g (path_of t.path.items) next
-again g t next list kept h e f p q r s = looked g t next list list kept h e f refl p q r (subst (λ x. Remembers x (take kept list)) (sym s) (subst (Remembers t.search) (sym (ap (λ k. take k list) e ∙ f)) h.remembers))
+pub again : (g : Goal) (t next : Trail) (list : List Row) (kept : ℕ) → Stands g t → kept ≡ length t.rows.items → take (length t.rows.items) list ≡ t.rows.items → next.path ≡ t.path → next.places ≡ t.places → next.rows.items ≡ take kept list → next.occurrences ≡ t.occurrences → next.search ≡ t.search → StandsAt g (path_of t.path.items) next
+again g t next list kept h e f p q r o s = looked g t next list list kept h e f refl p q r o (subst (λ x. Remembers x (take kept list)) (sym s) (subst (Remembers t.search) (sym (ap (λ k. take k list) e ∙ f)) h.remembers))
 
 pub two_parts : (list a b : List Row) (kept : ℕ) → a ≡ take kept list → b ≡ drop kept list → list ≡ a ++ b
 two_parts list a b kept e f = sym (take-append-drop kept list) ∙ ap (λ xs. xs ++ drop kept list) (sym e) ∙ ap (λ ys. a ++ ys) (sym f)

@@ -1,7 +1,6 @@
 //! What a cell of the walk shows.
 
 ghost use Rattle.std.specs.Prelude.{◌≡◌, ◌<◌, ◌+◌, ◌^◌, take, length, IfOk, Some, true, false};
-ghost use Rattle.std.specs.List.{All};
 ghost use Rattle.heylo_formula.specs.Goals.{goal_of};
 ghost use Rattle.linear_form.specs.Cells.{IsFront};
 ghost use Rattle.linear_form.specs.PlainPaths.{path_of};

@@ -60,14 +60,18 @@ pub fn look<'a>(alloc: Global, goal: &'a Goal, trail: Trail<'a>) -> Result<Front
         path,
         places,
         rows,
+        mut occurrences,
         search,
     } = trail;
+    let noted = rows.len();
     match with_last_row(alloc, goal, &path, rows)? {
         RowList::Rows(rows) => {
+            occurrences.note(&rows, noted);
             let standing = Trail {
                 path,
                 places,
                 rows,
+                occurrences,
                 search,
             };
             look_there(alloc, goal, standing)
@@ -106,10 +110,11 @@ fn look_there<'a>(alloc: Global, goal: &'a Goal, trail: Trail<'a>) -> Result<Fro
         path,
         places,
         rows,
+        occurrences,
         mut search,
     } = trail;
     let kept_rows = rows.len();
-    let RowList::Rows(list) = with_signs_of_path(alloc, goal, &path, rows)? else {
+    let RowList::Rows(list) = with_signs_of_path(alloc, goal, &path, rows, &occurrences)? else {
         return Ok(Front::Unknown(Cause::Bits));
     };
     let settled = settle(alloc, &list, kept_rows, &goal.vars, &mut search)?;
@@ -119,6 +124,7 @@ fn look_there<'a>(alloc: Global, goal: &'a Goal, trail: Trail<'a>) -> Result<Fro
         path,
         places,
         rows,
+        occurrences,
         search,
     };
     match settled {
@@ -222,6 +228,7 @@ fn dropped_end<'a>(
         path,
         places: asked,
         rows,
+        occurrences,
         search,
     } = trail;
     let kept_rows = rows.len();
@@ -235,6 +242,7 @@ fn dropped_end<'a>(
         path,
         places: asked,
         rows: first_rows(more, kept_rows),
+        occurrences,
         search,
     };
     Ok(Front::Dropped(standing, moved_all))

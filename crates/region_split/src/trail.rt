@@ -9,7 +9,7 @@ ghost use Rattle.region_split.specs.internal.Trails.{Comes, Stands, IsBack, IsSh
 
 use heylo_formula::Goal;
 use linear_elim::Search;
-use linear_form::{Atom, Place, Row, Taken, begin};
+use linear_form::{Atom, Occurrences, Place, Row, Taken, begin};
 use std::alloc::{AllocError, Global};
 
 /// The path of a walk, and what is kept along it.
@@ -21,6 +21,8 @@ pub struct Trail<'a> {
     pub places: Vec<Place<'a>>,
     /// The rows of the answers, in order.
     pub rows: Vec<Row>,
+    /// Where the variables occur first in these rows.
+    pub occurrences: Occurrences,
     /// What was found of the rows.
     pub search: Search,
 }
@@ -44,6 +46,7 @@ pub fn start<'a>(alloc: Global, goal: &'a Goal) -> Result<Trail<'a>, AllocError>
         path: Vec::new(alloc),
         places,
         rows: Vec::new(alloc),
+        occurrences: Occurrences::new(alloc, goal.vars.len())?,
         search: Search::new(alloc),
     })
 }
@@ -61,6 +64,7 @@ pub fn onward<'a>(
         mut path,
         mut places,
         rows,
+        occurrences,
         search,
     } = trail;
     path.push(answer)?;
@@ -69,6 +73,7 @@ pub fn onward<'a>(
         path,
         places,
         rows,
+        occurrences,
         search,
     })
 }
@@ -92,6 +97,7 @@ pub fn back<'a>(trail: Trail<'a>) -> Retreat<'a>
         mut path,
         mut places,
         mut rows,
+        mut occurrences,
         mut search,
     } = trail;
     let Some(answer) = path.pop() else {
@@ -102,12 +108,14 @@ pub fn back<'a>(trail: Trail<'a>) -> Retreat<'a>
     };
     let left = rows.len().saturating_sub(row_count(&answer.atom));
     rows.truncate(left);
+    occurrences.truncate(left);
     search.truncate(left);
     Retreat::To(
         Trail {
             path,
             places,
             rows,
+            occurrences,
             search,
         },
         answer,

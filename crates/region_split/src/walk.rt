@@ -1,6 +1,6 @@
 //! The walk through the questions of a goal.
 
-ghost use Rattle.std.specs.Prelude.{◌≡◌, ◌<◌, ◌≤◌, ℕ, List, [], length, IfOk, Some, None, false};
+ghost use Rattle.std.specs.Prelude.{◌≡◌, ◌<◌, ◌≤◌, List, [], length, IfOk, Some, None, false};
 ghost use Rattle.heylo_formula.specs.Goals.{Goal as PlainGoal, goal_of};
 ghost use Rattle.linear_form.specs.PlainPaths.{path_of, atom_of};
 ghost use Rattle.linear_form.specs.Query.{Taken as PlainTaken};
@@ -188,6 +188,7 @@ fn denied_end<'a>(
         path,
         places,
         rows,
+        occurrences,
         mut search,
     } = trail;
     let kept = rows.len();
@@ -200,6 +201,7 @@ fn denied_end<'a>(
         path,
         places,
         rows: first_rows(list, kept),
+        occurrences,
         search,
     };
     match cell {

@@ -16,7 +16,7 @@ followed_by rows None = None
 abbrev pub rows_with : Types → List Row → List Claim → Option (List Row)
 rows_with types rows ks = followed_by rows (all_tightened types ks)
 
--- A variable, where it is unsigned and occurs_in_row in the rows.
+-- A variable, where it is unsigned and occurs in the rows.
 abbrev pub unsigned_in : Types → List Row → ℕ → Option ℕ
 unsigned_in types rows x = if is_unsigned_type (types x) && list_any (occurs_in_row x) rows then Some x else None
 

@@ -3,10 +3,9 @@ use Rattle.std.specs.Prelude.{ℕ, ◌+◌, ◌*◌, List, [], ◌∷◌, Bool, 
 use Rattle.heylo_formula.specs.PlainTrees.{form_of, cond_of}
 use Rattle.heylo_formula.specs.Sizes.{nodes, nodes_in}
 use Rattle.heylo_formula.specs.Operators.{agree}
-use Rattle.heylo_formula.specs.Goals.{Goal}
 use Rattle.linear_form.specs.Query.{Query, next}
 use Rattle.linear_form.specs.Query.Query.{done, bits}
-use Rattle.linear_form.specs.Questions.{Linear, Ends, evaluate, test, both}
+use Rattle.linear_form.specs.Questions.{Linear, Ends, evaluate, test}
 use Rattle.linear_form.specs.PlainPaths.{linear_of}
 use Rattle.linear_form.specs.internal.Nodes.{binary, unary, comparison, of_truth, after_first}
 use Rattle.linear_form.specs.internal.Run.{IsKeptValue}
@@ -87,10 +86,6 @@ through q fs = next (framed q fs) ended
 -- What a place has left to ask.
 abbrev pub left_at : Place → Query Ends
 left_at p = through (asked_by p.focus) p.frames.items
-
--- What a goal asks. A Boolean may be asked twice.
-abbrev pub all_of : Goal → Query Ends
-all_of g = both (evaluate g.stated) (evaluate g.found) (λ x y. done (x, y))
 
 -- ---- The values that are kept have terms that grow, and small numbers
 

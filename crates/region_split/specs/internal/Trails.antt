@@ -1,8 +1,10 @@
--- The trail of a walk: along its path stand the evaluations, the rows of the answers, and what was found of these rows.
+-- The trail of a walk: along its path stand the evaluations, the rows of the answers, where the variables occur in these, and what was
+-- found of them.
 use Rattle.std.specs.Prelude.{◌≡◌, ◌<◌, List, [], ◌∷◌, ◌++◌, length}
 use Rattle.heylo_formula.specs.Goals.{Goal}
 use Rattle.linear_form.specs.Query.{Taken}
 use Rattle.linear_form.specs.Row.{Row}
+use Rattle.linear_form.specs.Occurrences.{AreOccurrences}
 use Rattle.linear_form.specs.PlainPaths.{path_of, taken_of}
 use Rattle.linear_form.specs.declared.paths.Taken as T
 use Rattle.linear_form.specs.RowLists.{ArePathRows, LackLastRow}
@@ -27,12 +29,14 @@ pub data AreRowsSoFar (g : Goal) : List Taken → List Row → Type 0 where
 pub record Comes (g : Goal) (t : Trail) : Type 0 where
   pub places : ArePlaces g (path_of t.path.items) t.places.items
   pub rows : AreRowsSoFar g (path_of t.path.items) t.rows.items
+  pub occurrences : AreOccurrences (length g.types) t.rows.items t.occurrences
   pub remembers : Remembers t.search t.rows.items
 
 -- The trail stands at a front: each comparison of its path has its row.
 pub record Stands (g : Goal) (t : Trail) : Type 0 where
   pub places : ArePlaces g (path_of t.path.items) t.places.items
   pub rows : ArePathRows g (path_of t.path.items) t.rows.items
+  pub occurrences : AreOccurrences (length g.types) t.rows.items t.occurrences
   pub remembers : Remembers t.search t.rows.items
 
 -- The trail stands at this path.

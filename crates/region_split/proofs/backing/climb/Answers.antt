@@ -1,4 +1,4 @@
-use Rattle.std.proofs.Common.{rules, arith, refl, false}
+use Rattle.std.proofs.Common.{arith, refl, false}
 use Rattle.linear_form.specs.PlainPaths.{path_of}
 use Rattle.region_split.proofs.Steps.{next_branch, question_finished, all_finished}
 use Rattle.region_split.proofs.backing.climb.Goals as goal

@@ -1,4 +1,4 @@
-use Rattle.std.proofs.Common.{◌≡◌, refl, sym, subst, false}
+use Rattle.std.proofs.Common.{◌≡◌, ◌∙◌, ap, arith, length, refl, sym, subst, take, false}
 use Rattle.std.specs.Prelude.{Some, None}
 use Rattle.heylo_formula.specs.Goals.{goal_of}
 use Rattle.heylo_formula.specs.Typing.{types_in}
@@ -6,7 +6,9 @@ use Rattle.linear_form.specs.Paths.{IsPath}
 use Rattle.linear_form.specs.PathRows.{all_tightened, path_claims}
 use Rattle.linear_form.specs.PlainPaths.{path_of}
 use Rattle.region_split.specs.internal.Trails.{AreRowsSoFar}
-use Rattle.region_split.proofs.Trails.{stands_with, unstated_path}
+use Rattle.linear_form.specs.Occurrences.{AreOccurrences}
+use Rattle.linear_form.specs.RowLists.{ArePathRows}
+use Rattle.region_split.proofs.Trails.{rows_so_far, stands_with, unstated_path}
 use Rattle.region_split.proofs.PathAnswers.{no_rows}
 use Rattle.region_split.proofs.front.look.Goals as goal
 
@@ -19,7 +21,13 @@ with_last_row-requires-clause-rows c = subst (λ xs. AreRowsSoFar (goal_of c.arg
 pub look_there-requires-clause-stands : goal.look_there-requires-clause-stands
 look_there-requires-clause-stands c =
     let g = goal_of c.args.goal.now in
-    stands_with g c.args.trail _ c.requires.comes (record { are_rows = subst (λ xs. all_tightened (types_in g.types) (path_claims (path_of xs)) ≡ Some c.in-Rows.rows.items) c.deref.ensures.value (rw c.in-Rows.is at c.in_ok-rows.ensures) }) refl refl refl
+    let n = c.len-noted.ensures in
+    let l = c.args.trail.rows.ok.0 in
+    let k : ArePathRows g (path_of c.args.trail.path.items) c.in-Rows.rows.items = record { are_rows = subst (λ xs. all_tightened (types_in g.types) (path_claims (path_of xs)) ≡ Some c.in-Rows.rows.items) c.deref.ensures.value (rw c.in-Rows.is at c.in_ok-rows.ensures) } in
+    let e = rows_so_far g (path_of c.args.trail.path.items) c.args.trail.rows.items c.in-Rows.rows.items c.len-noted.result c.requires.comes.rows k (omega (arith, n, l)) in
+    let d = c.deref-in-Rows.ensures.value in
+    let before = subst (λ rows. AreOccurrences (length g.types) rows c.args.trail.occurrences) (sym (ap (take c.len-noted.result) d ∙ e)) c.requires.comes.occurrences in
+    stands_with g c.args.trail _ c.requires.comes k refl refl (subst (λ rows. AreOccurrences (length g.types) rows c.note.new.self) d (c.note.ensures (length g.types) before)) refl
 
 pub returns : goal.returns
 returns c =

@@ -1,5 +1,5 @@
-use Rattle.std.proofs.Common.{◌≡◌, refl, sym, ap, ◌∙◌, subst, take, length, arith, true, false}
-use Rattle.std.specs.Prelude.{Some, None}
+use Rattle.std.proofs.Common.{◌≡◌, refl, sym, ◌∙◌, subst, arith, true, false}
+use Rattle.std.specs.Prelude.{None}
 use Rattle.heylo_formula.specs.Goals.{goal_of}
 use Rattle.linear_form.specs.Asked.{Answers}
 use Rattle.linear_form.specs.Paths.{IsPath, end_at}
@@ -14,7 +14,7 @@ use Rattle.region_split.specs.internal.Seen.{AreRowsAt, EndsWalk, IsEnd}
 use Rattle.region_split.specs.internal.Progress.{IsJudgedCell}
 use Rattle.region_split.proofs.PathAnswers.{no_rows}
 use Rattle.region_split.proofs.Trails.{looked, remembers_list}
-use Rattle.region_split.proofs.Steps.{cell_walk, cell_ends, come_front, come_path, not_plain_there, step_from, walk_short}
+use Rattle.region_split.proofs.Steps.{cell_walk, cell_ends, come_front, come_path, not_plain_there, walk_short}
 use Rattle.region_split.proofs.walk.denied_end.Goals as goal
 
 pub with_denied_goal-requires-clause-path : goal.with_denied_goal-requires-clause-path
@@ -62,7 +62,7 @@ returns-in-Judged c =
     let ps = path_of c.args.walk.trail.path.items in
     let n = c.len-kept.ensures in
     let o = c.args.walk.trail.rows.ok.0 in
-    let t = looked g c.args.walk.trail _ c.in-Rows.list.items c.deref-3.result.now c.len-kept.result c.requires.stands.stands (omega (arith, n, o)) (rw c.in-Rows.is at c.in_ok-list.ensures.first) c.deref-3.ensures.value refl refl c.first_rows.ensures c.in_ok-cell.ensures.remembered in
+    let t = looked g c.args.walk.trail _ c.in-Rows.list.items c.deref-3.result.now c.len-kept.result c.requires.stands.stands (omega (arith, n, o)) (rw c.in-Rows.is at c.in_ok-list.ensures.first) c.deref-3.ensures.value refl refl c.first_rows.ensures refl c.in_ok-cell.ensures.remembered in
     let j = subst (λ xs. IsJudgedCell g (path_of xs) c.args.walk.found c.in-Judged.found c.in-Judged.tree) c.deref-2.ensures.value (rw c.in-Judged.is at c.in_ok-cell.ensures.judged) in
     c.finish.ensures g c.requires.linear (cell_walk g c.args.walk _ c.in-Judged.found c.in-Judged.tree c.requires.stands c.requires.few t refl refl refl j)
 

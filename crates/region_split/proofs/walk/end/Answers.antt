@@ -2,7 +2,6 @@ use Rattle.std.proofs.Common.{◌≡◌, refl, true, arith}
 use Rattle.std.proofs.lemmas.Grind.{common_steps}
 use Rattle.heylo_formula.specs.Goals.{goal_of}
 use Rattle.linear_form.specs.PlainPaths.{path_of}
-use Rattle.region_split.specs.internal.Seen.{IsEnd}
 use Rattle.region_split.proofs.Steps.{all_counted, cell_walk, plain_cell, here}
 use Rattle.region_split.proofs.walk.end.Goals as goal
 

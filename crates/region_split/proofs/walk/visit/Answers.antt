@@ -1,9 +1,9 @@
-use Rattle.std.proofs.Common.{sym, subst, false}
+use Rattle.std.proofs.Common.{sym, subst}
 use Rattle.heylo_formula.specs.Goals.{goal_of}
 use Rattle.linear_form.specs.Cells.{GoesOn}
 use Rattle.linear_form.specs.PlainPaths.{path_of, atom_of}
 use Rattle.linear_form.specs.Places.{IsOn}
-use Rattle.region_split.specs.internal.Seen.{IsDroppedBy, IsEndOf, EndsWalk}
+use Rattle.region_split.specs.internal.Seen.{IsDroppedBy, IsEndOf}
 use Rattle.region_split.proofs.Steps.{come_path, walk_short, standing, with_trail, step_from, dropped_walk, front_ends}
 use Rattle.region_split.proofs.walk.visit.Goals as goal
 
