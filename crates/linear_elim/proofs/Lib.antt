@@ -32,4 +32,6 @@ pub mod Greedily
 pub mod ChoiceRuns
 pub mod StepRows
 pub mod SpotRows
+pub mod SpotExamples
+pub mod KnownRows
 pub mod exported

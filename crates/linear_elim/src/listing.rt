@@ -2,8 +2,16 @@
 //! found by it is tested.
 use crate::gathering::have_same_terms;
 use crate::pairs::clash;
+use crate::row_shapes::Shape;
 use linear_form::Row;
 use std::alloc::{AllocError, Global};
+
+/// The index of a row that is listed, and the row's shape.
+#[derive(Clone, Copy)]
+struct Listed {
+    row: usize,
+    shape: Shape,
+}
 
 /// What was changed when a row was listed: its index, its place in the list, and the row that stood there before.
 #[derive(Clone, Copy)]
@@ -13,10 +21,10 @@ struct Change {
     before: Option<usize>,
 }
 
-/// The indexes of the tightest rows of a path, how they came to be listed, and how many rows were looked at.
+/// The tightest rows of a path, how they came to be listed, and how many rows were looked at.
 #[derive(Drop)]
 pub struct Listing {
-    listed: Vec<usize>,
+    listed: Vec<Listed>,
     changes: Vec<Change>,
     looked: usize,
 }
@@ -26,13 +34,19 @@ fn is_tighter(row: &Row, other: &Row) -> bool {
     row.rest > other.rest || (row.rest == other.rest && row.strict && !other.strict)
 }
 
+/// Whether a listed row has the same terms as a row of this shape.
+fn is_alike(listed: Listed, rows: &[Row], row: &Row, shape: Shape) -> bool {
+    match rows.get(listed.row) {
+        Some(other) => listed.shape.is_like(shape) && have_same_terms(&other.terms, &row.terms),
+        None => false,
+    }
+}
+
 /// The place at which a row with the same terms is listed.
-fn place_of(listed: &[usize], rows: &[Row], row: &Row) -> Option<usize> {
+fn place_of(listed: &[Listed], rows: &[Row], row: &Row, shape: Shape) -> Option<usize> {
     for place in 0..listed.len() {
-        if let Some(other) = rows.get(listed[place]) {
-            if have_same_terms(&other.terms, &row.terms) {
-                return Some(place);
-            }
+        if is_alike(listed[place], rows, row, shape) {
+            return Some(place);
         }
     }
     None
@@ -57,7 +71,7 @@ impl Listing {
                 }
                 Some(row) => {
                     if let Some(listed) = self.listed.get_mut(change.place) {
-                        *listed = row;
+                        listed.row = row;
                     }
                 }
             }
@@ -90,14 +104,15 @@ impl Listing {
         let Some(row) = rows.get(index) else {
             return Ok(());
         };
-        match place_of(&self.listed, rows, row) {
+        let shape = Shape::of(row);
+        match place_of(&self.listed, rows, row, shape) {
             None => {
                 self.changes.push(Change {
                     row: index,
                     place: self.listed.len(),
                     before: None,
                 })?;
-                self.listed.push(index)?;
+                self.listed.push(Listed { row: index, shape })?;
                 Ok(())
             }
             Some(place) => self.tighten(rows, row, index, place),
@@ -113,14 +128,14 @@ impl Listing {
         place: usize,
     ) -> Result<(), AllocError> {
         if let Some(listed) = self.listed.get_mut(place) {
-            if let Some(other) = rows.get(*listed) {
+            if let Some(other) = rows.get(listed.row) {
                 if is_tighter(row, other) {
                     self.changes.push(Change {
                         row: index,
                         place,
-                        before: Some(*listed),
+                        before: Some(listed.row),
                     })?;
-                    *listed = index;
+                    listed.row = index;
                 }
             }
         }
@@ -143,12 +158,14 @@ impl Listing {
         rows: &[Row],
         index: usize,
     ) -> Result<Option<Vec<(u32, u64)>>, AllocError> {
-        if let Some(row) = rows.get(index) {
-            for &other in &self.listed {
-                if let Some(listed) = rows.get(other) {
-                    if let Some((p, q)) = clash(row, listed) {
-                        return multipliers_of(alloc, index, p, other, q);
-                    }
+        let Some(row) = rows.get(index) else {
+            return Ok(None);
+        };
+        let shape = Shape::of(row);
+        for &other in &self.listed {
+            if other.shape.is_opposite(shape) {
+                if let Some((p, q)) = clash_at(row, rows, other.row) {
+                    return multipliers_of(alloc, index, p, other.row, q);
                 }
             }
         }
@@ -158,14 +175,19 @@ impl Listing {
     /// The listed rows, and those from a place on.
     pub fn chosen(&self, alloc: Global, kept: usize, len: usize) -> Result<Vec<usize>, AllocError> {
         let mut chosen: Vec<usize> = Vec::new(alloc);
-        for &index in &self.listed {
-            chosen.push(index)?;
+        for listed in &self.listed {
+            chosen.push(listed.row)?;
         }
         for index in kept..len {
             chosen.push(index)?;
         }
         Ok(chosen)
     }
+}
+
+/// How often a row and the one at an index are taken so that they seem to contradict each other; None where they don't.
+fn clash_at(row: &Row, rows: &[Row], index: usize) -> Option<(u64, u64)> {
+    clash(row, rows.get(index)?)
 }
 
 /// The multipliers of two rows, the lesser index first.

@@ -1,29 +1,25 @@
 //! A search for quick answers along a path, which remembers what it found of the path's rows.
-ghost use Rattle.std.specs.Prelude.{◌≡◌, List, IfOk, take, min};
+ghost use Rattle.std.specs.Prelude.{◌≡◌, ◌≤◌, List, IfOk, length, take};
 ghost use Rattle.std.specs.List.{All};
 ghost use Rattle.linear_form.specs.Row.{Row as PlainRow, IsRow};
 ghost use Rattle.linear_elim.specs.Findings.{IsFinding};
-ghost use Rattle.linear_elim.specs.Searches.{Remembers};
+ghost use Rattle.linear_elim.specs.Spots.{AreMetBy};
+ghost use Rattle.linear_elim.specs.Searches.{IsKnown, Remembers};
 
 use crate::finding::{Finding, refuted_by};
+use crate::known::{KnownPoint, least, truncate_each};
 use crate::listing::Listing;
 use crate::simplex::{Proposal, propose};
 use crate::spots::{Spot, is_met, met_from, solved_by};
 use linear_form::Row;
 use std::alloc::{AllocError, Global};
 
-/// The lesser of two numbers.
-fn least(a: usize, b: usize) -> usize
-    ensures { result ≡ min a b }
-{
-    if a < b { a } else { b }
-}
-
-/// What is remembered of the rows of a path: a point, how many of the first rows it is known to meet, and the tightest rows.
+/// What is remembered of the rows of a path: the point in use, those that were in use before it and aren't known to meet as many
+/// rows, the oldest first, and the tightest rows.
 #[derive(Drop)]
 pub struct Search {
-    known: Spot,
-    met: usize,
+    known: KnownPoint,
+    earlier: Vec<KnownPoint>,
     listing: Listing,
 }
 
@@ -63,8 +59,11 @@ impl Search {
         ensures { (rows : List PlainRow) → Remembers result rows }
     {
         Search {
-            known: Spot::origin(alloc),
-            met: 0,
+            known: KnownPoint {
+                spot: Spot::origin(alloc),
+                met: 0,
+            },
+            earlier: Vec::new(alloc),
             listing: Listing::new(alloc),
         }
     }
@@ -73,8 +72,71 @@ impl Search {
     pub fn truncate(&mut self, len: usize)
         ensures { (before after : List PlainRow) → Remembers self.old before → take len before ≡ take len after → Remembers self.new after }
     {
-        self.met = least(self.met, len);
+        self.forget(len);
         self.listing.truncate(len);
+    }
+
+    /// Forgets that the points meet rows from a place on, and goes back to the oldest of those that are as good then.
+    fn forget(&mut self, len: usize)
+        ensures { (before after : List PlainRow) → Remembers self.old before → take len before ≡ take len after → Remembers self.new after }
+    {
+        self.known.truncate(len);
+        truncate_each(&mut self.earlier, len);
+        self.go_back();
+    }
+
+    /// Takes up the oldest of the points that are known to meet as many rows as the one in use: it may meet what that one misses.
+    fn go_back(&mut self)
+        ensures { (rows : List PlainRow) → Remembers self.old rows → Remembers self.new rows }
+    {
+        for _ in 0..self.earlier.len() {
+            if !self.is_matched() {
+                break;
+            }
+            self.take_up();
+        }
+    }
+
+    /// Whether the point that was in use before is known to meet as many rows as the one in use.
+    fn is_matched(&self) -> bool {
+        match self.earlier.last() {
+            Some(point) => point.met >= self.known.met,
+            None => false,
+        }
+    }
+
+    /// Takes up the point that was in use before.
+    fn take_up(&mut self)
+        ensures { (rows : List PlainRow) → Remembers self.old rows → Remembers self.new rows }
+    {
+        if let Some(point) = self.earlier.pop() {
+            self.known = point;
+        }
+    }
+
+    /// Takes a point into use. The one before it is kept where it isn't known to meet as many rows, so there are no more points than
+    /// rows. Want of memory is the one error.
+    fn put(&mut self, point: KnownPoint) -> Result<(), AllocError>
+        ensures { (rows : List PlainRow) → Remembers self.old rows → IsKnown rows point → Remembers self.new rows }
+    {
+        let before = std::mem::replace(&mut self.known, point);
+        if before.met < self.known.met {
+            self.earlier.push(before)?;
+        }
+        Ok(())
+    }
+
+    /// How many of the first rows the point in use meets. The search remembers those that are kept.
+    fn advance(&mut self, rows: &[Row], kept: usize) -> usize
+        requires { Remembers self.old rows.now }
+        ensures within { result ≤ length rows.now }
+        ensures met { AreMetBy self.new.known.spot.below self.new.known.spot.tops.items (take result rows.now) }
+        ensures remembered { Remembers self.new (take kept rows.now) }
+    {
+        self.forget(kept);
+        let met = met_from(rows, &self.known.spot, self.known.met);
+        self.known.met = least(met, kept);
+        met
     }
 
     /// Finds a point that meets rows over variables below a number, or multipliers that combine them to a contradiction, or nothing:
@@ -92,35 +154,37 @@ impl Search {
         ensures finding { IfOk result (λ f. IsFinding rows.now f) }
         ensures remembered { Remembers self.new (take kept rows.now) }
     {
-        let met = met_from(rows, &self.known, self.met);
-        self.met = least(met, kept);
+        let met = self.advance(rows, kept);
         if met == rows.len() {
-            solved_by(&self.known, rows);
+            solved_by(&self.known.spot, rows);
             return Ok(Finding::Met);
         }
         self.listing.look(rows, least(kept, rows.len()))?;
-        if let Some(multipliers) = pair_of(alloc, rows, &self.listing, &self.known, met)? {
+        if let Some(multipliers) = pair_of(alloc, rows, &self.listing, &self.known.spot, met)? {
             return Ok(refuted_by(rows, multipliers));
         }
         match proposed(alloc, rows, &self.listing, kept, count)? {
             Proposal::Multipliers(multipliers) => Ok(refuted_by(rows, multipliers)),
-            Proposal::Point(spot) => Ok(self.with_point(rows, kept, spot)),
+            Proposal::Point(spot) => self.with_point(rows, kept, spot),
             Proposal::Nothing => Ok(Finding::Open),
         }
     }
 
-    /// Takes a point that meets the rows in the place of the one that is known.
-    fn with_point(&mut self, rows: &[Row], kept: usize, spot: Spot) -> Finding
+    /// Takes a point into use that meets the rows. Want of memory is the one error.
+    fn with_point(&mut self, rows: &[Row], kept: usize, spot: Spot) -> Result<Finding, AllocError>
         requires remembered { Remembers self.old (take kept rows.now) }
-        ensures finding { IsFinding rows.now result }
+        ensures finding { IfOk result (λ f. IsFinding rows.now f) }
         ensures remembered { Remembers self.new (take kept rows.now) }
     {
-        if spot.below == 0 || met_from(rows, &spot, 0) < rows.len() {
-            return Finding::Open;
+        let met = met_from(rows, &spot, 0);
+        if spot.below == 0 || met < rows.len() {
+            return Ok(Finding::Open);
         }
         solved_by(&spot, rows);
-        self.known = spot;
-        self.met = least(kept, rows.len());
-        Finding::Met
+        self.put(KnownPoint {
+            spot,
+            met: least(met, kept),
+        })?;
+        Ok(Finding::Met)
     }
 }

@@ -70,22 +70,20 @@ fn sign_of(row: &Row) -> Option<u32> {
     if c == -1 { Some(x) } else { None }
 }
 
-/// A sum with a product added to it.
-fn with_product(sum: i128, a: i64, b: i64) -> Option<i128> {
-    let product = i128::from(a).checked_mul(i128::from(b))?;
-    sum.checked_add(product)
+/// A sum with a product added to it. Beyond 128 bits it wraps: then what is proposed fails its test.
+fn with_product(sum: i128, a: i64, b: i64) -> i128 {
+    sum.wrapping_add(i128::from(a).wrapping_mul(i128::from(b)))
 }
 
 /// A number with a product added to it.
 fn plus_product(sum: i64, a: i64, b: i64) -> Option<i64> {
-    i64::try_from(with_product(i128::from(sum), a, b)?).ok()
+    i64::try_from(with_product(i128::from(sum), a, b)).ok()
 }
 
 /// a * p - c * q, divided.
 fn exchanged(a: i64, p: i64, c: i64, q: i64, over: i64) -> Option<i64> {
-    let left = i128::from(a).checked_mul(i128::from(p))?;
-    let right = i128::from(c).checked_mul(i128::from(q))?;
-    let difference = left.checked_sub(right)?;
+    let left = i128::from(a).wrapping_mul(i128::from(p));
+    let difference = left.wrapping_sub(i128::from(c).wrapping_mul(i128::from(q)));
     let quotient = if over == 1 {
         difference
     } else {
@@ -171,8 +169,8 @@ impl Line {
 
     /// The value times the denominators, where the small number is top / below.
     fn value(&self, top: i64, below: i64) -> Option<i64> {
-        let sum = with_product(0, self.constant, below)?;
-        i64::try_from(with_product(sum, self.small, top)?).ok()
+        let sum = with_product(0, self.constant, below);
+        i64::try_from(with_product(sum, self.small, top)).ok()
     }
 
     /// The line with the other sign. False where a number is too great.
@@ -334,14 +332,14 @@ impl Tableau {
         Ok(())
     }
 
-    /// A row's left side at the tableau's point.
+    /// A row's left side at the tableau's point. None where a variable has no line.
     fn side(&self, row: &Row) -> Option<Side> {
-        let mut constant = with_product(0, row.rest, self.over)?;
+        let mut constant = with_product(0, row.rest, self.over);
         let mut small: i128 = if row.strict { i128::from(self.over) } else { 0 };
         for &(x, c) in &row.terms {
             let line = self.lines.get(self.place(x)?)?;
-            constant = with_product(constant, c, line.constant)?;
-            small = with_product(small, c, line.small)?;
+            constant = with_product(constant, c, line.constant);
+            small = with_product(small, c, line.small);
         }
         Some(Side { constant, small })
     }
@@ -443,7 +441,7 @@ impl Tableau {
             if side.small > 0 {
                 let constant = i64::try_from(side.constant.checked_neg()?).ok()?;
                 let slope = i64::try_from(side.small).ok()?;
-                if with_product(0, constant, below)? < with_product(0, top, slope)? {
+                if with_product(0, constant, below) < with_product(0, top, slope) {
                     top = constant;
                     below = slope;
                 }
