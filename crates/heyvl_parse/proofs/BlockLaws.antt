@@ -5,13 +5,13 @@ use Rattle.heyvl_parse.proofs.Local.{Local, LocalAt, local_bind}
 use Rattle.heyvl_parse.proofs.Right.{Right, Some_text, is_mark_true, nowhere}
 use Rattle.heyvl_parse.proofs.RightLaws.{mark_test}
 use Rattle.heyvl_parse.proofs.StatementLaws.{on_stmt, stmt_begins, stmt_laws}
-use Rattle.heyvl_parse.specs.internal.Combinators.{either, kind, no_kind, starts}
+use Rattle.heyvl_parse.specs.internal.Combinators.{either, no_kind, starts}
 use Rattle.heyvl_parse.specs.internal.Reading.{Bad, Got, Out, Read, is_mark, ◌>>=◌}
-use Rattle.heyvl_parse.specs.internal.Rights.{right, two}
+use Rattle.heyvl_parse.specs.internal.Rights.{two}
 use Rattle.heyvl_parse.specs.internal.Statements.{BlockReader, braced, entry, is_opening, key_opening, mark_opening, opens, skip, stmt, stmts}
 use Rattle.heyvl_syntax.proofs.exported.Sequences.{then_assoc}
 use Rattle.heyvl_syntax.specs.Grammar.{IsBlock, IsStmt, IsStmts}
-use Rattle.heyvl_syntax.specs.Productions.{AreSemis, IsEach, at, ◌or◌, ◌then◌}
+use Rattle.heyvl_syntax.specs.Productions.{AreSemis, IsEach, at, ◌then◌}
 use Rattle.heyvl_syntax.specs.Statements.{Block, Statement, block_of}
 use Rattle.heyvl_syntax.specs.declared.keys.Key.TheVariants as keys
 use Rattle.heyvl_syntax.specs.declared.keys.Key.{Key}

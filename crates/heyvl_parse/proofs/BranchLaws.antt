@@ -7,17 +7,16 @@ use Rattle.heyvl_parse.proofs.RightLaws.{IsBarred, anything, barred, ended_by, e
 use Rattle.heyvl_parse.proofs.RuleLaws.{rules_laws}
 use Rattle.heyvl_parse.specs.internal.Combinators.{either, is_key, is_operator, is_there, lead, no_kind, starts}
 use Rattle.heyvl_parse.specs.internal.Reading.{Bad, Got, Out, Read, Whole, is_mark, mapped, pair, reading, ◌>>=◌}
-use Rattle.heyvl_parse.specs.internal.Rights.{right, two}
+use Rattle.heyvl_parse.specs.internal.Rights.{two}
 use Rattle.heyvl_parse.specs.internal.Statements.{BlockReader, IfParts, Links, Looped, Next, arm, behind_else, behind_if, branched, else_by, else_if, fronted, further, if_by, if_parts, is_pick, key_pick, link, link_by, links, looped, otherwise, picked}
 use Rattle.heyvl_syntax.proofs.exported.Sequences.{then_assoc, then_map}
 use Rattle.heyvl_syntax.specs.Expressions.{Expression}
 use Rattle.heyvl_syntax.specs.Grammar.{IsBlock, IsElse, IsElseIfs, IsFull, IsRule, pick_key}
-use Rattle.heyvl_syntax.specs.Productions.{IsEach, IsKey, at, ◌or◌, ◌then◌}
+use Rattle.heyvl_syntax.specs.Productions.{IsEach, IsKey, at, ◌then◌}
 use Rattle.heyvl_syntax.specs.Statements.{Block, arms_of}
 use Rattle.heyvl_syntax.specs.declared.keys.Key.TheVariants as keys
 use Rattle.heyvl_syntax.specs.declared.keys.Key.{Key}
 use Rattle.heyvl_syntax.specs.declared.marks.Mark.TheVariants as marks
-use Rattle.heyvl_syntax.specs.declared.marks.Mark.{Mark}
 use Rattle.heyvl_syntax.specs.declared.tokens.Token.{Token}
 use Rattle.heyvl_syntax.specs.declared.tokens.TokenKind.TheVariants as kinds
 use Rattle.std.proofs.Common.{Bool, List, [], ap, append_assoc, arith, false, inl, inr, length, length-append, refl, subst, suc, sym, true, zero, ◌++◌, ◌<◌, ◌∙◌, ◌∷◌, ◌≡◌, ◌≤◌, ℕ}

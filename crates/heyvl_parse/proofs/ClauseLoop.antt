@@ -1,8 +1,8 @@
 -- The loop over the clauses of a procedure, which keeps the pre and the post clauses apart.
 use Rattle.heyvl_parse.proofs.EachLoop.{Rest, loop_done, loop_fails, loop_init, loop_more}
-use Rattle.heyvl_parse.specs.internal.Combinators.{each, kind, starts}
+use Rattle.heyvl_parse.specs.internal.Combinators.{kind, starts}
 use Rattle.heyvl_parse.specs.internal.Procedures.{clause, clause_by, clause_of, clause_tree, clauses, divide, divided, is_clause}
-use Rattle.heyvl_parse.specs.internal.Reading.{Bad, Got, Out, Read, mapped, pair}
+use Rattle.heyvl_parse.specs.internal.Reading.{Got, Read, mapped, pair}
 use Rattle.heyvl_parse.specs.internal.Results.{Fails}
 use Rattle.heyvl_parse.specs.internal.Rights.{expr}
 use Rattle.heyvl_parse.specs.declared.stops.PartStop.TheVariants.{Fault, Memory}
@@ -10,7 +10,7 @@ use Rattle.heyvl_parse.specs.declared.stops.PartStop.{PartStop}
 use Rattle.heyvl_syntax.specs.Expressions.{Expression}
 use Rattle.heyvl_syntax.specs.Grammar.{Clause, posts, pres}
 use Rattle.heyvl_syntax.specs.declared.tokens.Token.{Token}
-use Rattle.std.proofs.Common.{Bool, List, [], ap, arith, false, length, refl, sym, true, ◌++◌, ◌<◌, ◌∙◌, ◌∷◌, ◌≡◌, ℕ}
+use Rattle.std.proofs.Common.{Bool, List, [], ap, false, length, refl, true, ◌++◌, ◌<◌, ◌∙◌, ◌∷◌, ◌≡◌, ℕ}
 use Rattle.std.proofs.lemmas.List.{append-nil}
 
 pres_append : (cs ds : List Clause) → pres (cs ++ ds) ≡ pres cs ++ pres ds

@@ -1,19 +1,18 @@
 -- The laws of the reader of files, given those of the reader of blocks; and where tokens that it refuses are refused.
-use Rattle.heyvl_parse.proofs.Lawful.{Laws, each_laws, either_first, either_second, starts_first, starts_second}
+use Rattle.heyvl_parse.proofs.Lawful.{Laws, each_laws}
 use Rattle.heyvl_parse.proofs.Local.{Local, LocalAt, local_bind}
 use Rattle.heyvl_parse.proofs.ProcedureLaws.{on_procedure, procedure_laws}
 use Rattle.heyvl_parse.proofs.Right.{Right, RightAt, right_bind}
-use Rattle.heyvl_parse.specs.internal.Combinators.{each, either, no_kind, starts}
-use Rattle.heyvl_parse.specs.internal.FileReading.{begins, ended, file, is_proc, procs}
+use Rattle.heyvl_parse.specs.internal.Combinators.{either, no_kind, starts}
+use Rattle.heyvl_parse.specs.internal.FileReading.{begins, ended, file, procs}
 use Rattle.heyvl_parse.specs.internal.FileStops.{IsFileStop}
-use Rattle.heyvl_parse.specs.internal.Procedures.{procedure}
-use Rattle.heyvl_parse.specs.internal.Reading.{Bad, Got, Read, is_mark, ◌>>=◌}
+use Rattle.heyvl_parse.specs.internal.Reading.{Bad, Got, Read}
 use Rattle.heyvl_parse.specs.internal.Results.{Fails, Gives}
 use Rattle.heyvl_parse.specs.declared.stops.PartStop.TheVariants.{Fault, Memory}
 use Rattle.heyvl_parse.specs.declared.stops.PartStop.{PartStop}
 use Rattle.heyvl_syntax.specs.Grammar.{IsBlock, IsFile, IsNote, IsProc, proc_key}
 use Rattle.heyvl_syntax.specs.Procedures.{Procedure, procedures}
-use Rattle.heyvl_syntax.specs.Productions.{IsEach, IsKey, IsOptional, at, ◌then◌}
+use Rattle.heyvl_syntax.specs.Productions.{IsKey, IsOptional, ◌then◌}
 use Rattle.heyvl_syntax.specs.SourceFaults.{IsBeginning, IsUnexpected}
 use Rattle.heyvl_syntax.specs.Statements.{Block}
 use Rattle.heyvl_syntax.specs.declared.keys.Key.TheVariants as keys

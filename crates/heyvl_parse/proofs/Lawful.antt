@@ -1,21 +1,17 @@
 -- The laws of a reader, and how they go over to what is put together from readers.
-use Rattle.heyvl_parse.proofs.Complete.{Quiet}
-use Rattle.heyvl_parse.proofs.Local.{Local, LocalAt, Moves, local_bind, local_got, local_mapped, local_one, local_pair, local_reading}
-use Rattle.heyvl_parse.proofs.Readings.{reads}
-use Rattle.heyvl_parse.proofs.Right.{Holds, Pair, Right, RightAt, Some_text, is_mark_true, nowhere, right_as, right_bind, right_map, right_one, right_pair, right_reading, some_expr}
-use Rattle.heyvl_parse.specs.internal.Combinators.{cons, each, each_if, either, is_operator, is_there, kind, lead, list, list0, list_if, no_kind, optional, refuse, sign, some_if, spanned, starts, taken, trail, with_front}
-use Rattle.heyvl_parse.specs.internal.Reading.{Bad, Got, Out, Read, Whole, is_mark, mapped, one, operator_at, operator_of, pair, placed, ranked, reading, ◌>>=◌}
+use Rattle.heyvl_parse.proofs.Local.{Local, LocalAt, Moves, local_bind, local_got, local_mapped, local_one, local_pair}
+use Rattle.heyvl_parse.proofs.Right.{Holds, Pair, Right, RightAt, Some_text, is_mark_true, nowhere, right_as, right_bind, right_map, right_one, right_pair}
+use Rattle.heyvl_parse.specs.internal.Combinators.{cons, each, each_if, either, lead, list, list0, list_if, no_kind, optional, refuse, sign, some_if, spanned, starts, taken, trail, with_front}
+use Rattle.heyvl_parse.specs.internal.Reading.{Bad, Got, Out, Read, is_mark, mapped, one, pair, ◌>>=◌}
 use Rattle.heyvl_syntax.proofs.exported.Sequences.{then_assoc}
-use Rattle.heyvl_syntax.specs.Grammar.{IsFull}
-use Rattle.heyvl_syntax.specs.Productions.{IsAt, IsEach, IsList, IsList0, IsMark, IsMore, IsNothing, IsOne, IsOptional, at, extent, ◌then◌}
+use Rattle.heyvl_syntax.specs.Productions.{IsAt, IsEach, IsList, IsList0, IsMark, IsMore, IsOne, IsOptional, at, extent, ◌then◌}
 use Rattle.heyvl_syntax.specs.declared.marks.Mark.TheVariants as marks
 use Rattle.heyvl_syntax.specs.declared.marks.Mark.{Mark}
-use Rattle.heyvl_syntax.specs.declared.operators.BinaryOp.{BinaryOp}
 use Rattle.heyvl_syntax.specs.declared.spans.Span.{Span}
 use Rattle.heyvl_syntax.specs.declared.tokens.Token.{Token}
 use Rattle.heyvl_syntax.specs.declared.tokens.TokenKind.TheVariants as kinds
 use Rattle.heyvl_syntax.specs.declared.tokens.TokenKind.{TokenKind}
-use Rattle.std.proofs.Common.{Bool, List, None, Option, Some, [], ap, append_assoc, arith, cond, false, length, length-append, refl, subst, suc, sym, take, true, zero, ◌++◌, ◌+◌, ◌-◌, ◌<◌, ◌∙◌, ◌∷◌, ◌≡◌, ◌≤◌, ℕ}
+use Rattle.std.proofs.Common.{Bool, List, None, Option, Some, [], ap, append_assoc, arith, cond, false, length, length-append, refl, subst, suc, sym, true, zero, ◌++◌, ◌-◌, ◌<◌, ◌∙◌, ◌∷◌, ◌≡◌, ◌≤◌, ℕ}
 use Rattle.std.proofs.Math.Seq.{take-append_seam}
 use Rattle.std.proofs.lemmas.List.{append-nil}
 

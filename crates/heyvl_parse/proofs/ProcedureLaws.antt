@@ -1,17 +1,16 @@
 -- The laws of the reader of procedures, given those of the reader of blocks.
-use Rattle.heyvl_parse.proofs.Lawful.{Both, IsTest, Laws, each_laws, either_first, either_second, lead_laws, list0_laws, mapped_laws, optional_laws, laws_stop, pair_free, pair_laws, some_both, some_each, some_list0, spanned_laws, starts_first, starts_second}
-use Rattle.heyvl_parse.proofs.Local.{local_one}
-use Rattle.heyvl_parse.proofs.Right.{Holds, Right, RightAt, Some_text, nowhere, right_one, right_type, some_type, some_word}
-use Rattle.heyvl_parse.proofs.RightLaws.{expr_laws, key_test, mark_test, some_full, some_lead, word_laws}
+use Rattle.heyvl_parse.proofs.Lawful.{Both, Laws, each_laws, either_second, lead_laws, list0_laws, mapped_laws, optional_laws, laws_stop, pair_free, pair_laws, some_both, spanned_laws, starts_first}
+use Rattle.heyvl_parse.proofs.Right.{Some_text, nowhere, some_type, some_word}
+use Rattle.heyvl_parse.proofs.RightLaws.{expr_laws, mark_test, some_full, some_lead, word_laws}
 use Rattle.heyvl_parse.proofs.KeyLaws.{OfKind, kind_laws, led_starts, type_laws}
-use Rattle.heyvl_parse.specs.internal.Combinators.{each, either, is_operator, is_there, kind, lead, list0, no_kind, optional, spanned, starts, trail}
-use Rattle.heyvl_parse.specs.internal.Procedures.{Parts, clause, clause_by, clause_of, clause_tree, clauses, divide, divided, is_clause, key_clause, key_proc, note, note_of, opening, param, param_tree, params, proc_of, procedure, procedure_tree, promise, signature, word_note}
-use Rattle.heyvl_parse.specs.internal.Reading.{Got, Read, is_mark, mapped, pair, type_name, word}
+use Rattle.heyvl_parse.specs.internal.Combinators.{either, is_operator, kind, lead, no_kind, starts}
+use Rattle.heyvl_parse.specs.internal.Procedures.{Parts, clause, clause_by, clause_of, clause_tree, clauses, divide, divided, is_clause, key_clause, key_proc, note, note_of, opening, param, param_tree, params, proc_of, procedure, procedure_tree, promise, signature}
+use Rattle.heyvl_parse.specs.internal.Reading.{Read, is_mark, pair, type_name, word}
 use Rattle.heyvl_parse.specs.internal.Rights.{expr}
 use Rattle.heyvl_syntax.specs.Expressions.{Expression}
-use Rattle.heyvl_syntax.specs.Grammar.{Clause, IsBlock, IsClause, IsClauses, IsFull, IsNote, IsParam, IsProc, IsType, note_word, posts, pres, proc_key, type_key}
+use Rattle.heyvl_syntax.specs.Grammar.{Clause, IsBlock, IsClause, IsClauses, IsFull, IsNote, IsParam, IsProc, IsType, note_word, posts, pres, proc_key}
 use Rattle.heyvl_syntax.specs.Procedures.{Procedure}
-use Rattle.heyvl_syntax.specs.Productions.{IsEach, IsKey, IsList0, IsMark, IsName, IsNothing, IsOne, IsOptional, at, extent, ◌then◌}
+use Rattle.heyvl_syntax.specs.Productions.{IsEach, IsKey, IsList0, IsMark, IsName, IsOne, IsOptional, at, extent, ◌then◌}
 use Rattle.heyvl_syntax.specs.Statements.{Block}
 use Rattle.heyvl_syntax.specs.declared.keys.Key.TheVariants as keys
 use Rattle.heyvl_syntax.specs.declared.keys.Key.{Key}
@@ -22,10 +21,8 @@ use Rattle.heyvl_syntax.specs.declared.procedures.Param.{Param}
 use Rattle.heyvl_syntax.specs.declared.tokens.Token.{Token}
 use Rattle.heyvl_syntax.specs.declared.tokens.TokenKind.TheVariants as kinds
 use Rattle.heyvl_syntax.specs.declared.tokens.TokenKind.{TokenKind}
-use Rattle.heyvl_syntax.specs.declared.types.TypeName.TheVariants as types
 use Rattle.heyvl_syntax.specs.declared.types.TypeName.{TypeName}
-use Rattle.std.proofs.Common.{Bool, List, None, Option, Some, [], ap, append_assoc, arith, codes, cond, false, length, nat_eq, refl, subst, sym, true, ◌++◌, ◌<◌, ◌∙◌, ◌∷◌, ◌≡◌, ℕ}
-use Rattle.std.proofs.lemmas.List.{append-nil}
+use Rattle.std.proofs.Common.{Bool, List, None, Option, Some, [], ap, append_assoc, arith, codes, cond, false, nat_eq, refl, sym, true, ◌++◌, ◌∷◌, ◌≡◌, ℕ}
 use Rattle.std.specs.Cmp.Lexicographic.{pointwise, same_text}
 
 -- What follows a token that begins a text.

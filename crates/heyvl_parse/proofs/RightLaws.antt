@@ -1,17 +1,17 @@
 -- The laws of the readers of expressions and right sides.
 use Rattle.heyvl_parse.proofs.Complete.{Quiet, mark_same}
 use Rattle.heyvl_parse.proofs.Ends.{last_of}
-use Rattle.heyvl_parse.proofs.Lawful.{Both, IsTest, Laws, chosen_local, lead_laws, list0_laws, list_laws, local_same, mapped_laws, pair_free, pair_laws, right_same, some_both, some_list, some_list0, starts_first, starts_second, trail_laws}
-use Rattle.heyvl_parse.proofs.Local.{AllLocal, Local, LocalAt, Moves, local_bind, local_got, local_mapped, local_more, local_one, local_pair, local_reading}
+use Rattle.heyvl_parse.proofs.Lawful.{IsTest, Laws, chosen_local, lead_laws, list0_laws, list_laws, local_same, pair_free, pair_laws, some_both, some_list, starts_first, starts_second, trail_laws}
+use Rattle.heyvl_parse.proofs.Local.{AllLocal, Local, LocalAt, Moves, local_bind, local_got, local_mapped, local_more, local_one, local_reading}
 use Rattle.heyvl_parse.proofs.Readings.{reads}
-use Rattle.heyvl_parse.proofs.Right.{Right, RightAt, Some_text, is_mark_true, nowhere, right_as, right_map, right_reading, right_word, some_expr, some_word}
-use Rattle.heyvl_parse.specs.internal.Combinators.{either, is_key, is_operator, is_there, is_word, lead, list, list0, no_kind, starts, trail}
+use Rattle.heyvl_parse.proofs.Right.{Right, RightAt, Some_text, is_mark_true, nowhere, right_map, right_reading, right_word, some_expr}
+use Rattle.heyvl_parse.specs.internal.Combinators.{either, is_key, is_operator, is_there, lead, no_kind, starts}
 use Rattle.heyvl_parse.specs.internal.Reading.{Bad, Got, Out, Read, Reader, Whole, full, is_mark, mapped, more, operator_of, pair, placed, ranked, reading, word, ◌>>=◌}
-use Rattle.heyvl_parse.specs.internal.Rights.{arguments, call, call_tree, called_behind, choose, enclosed_expr, expr, flip, is_a_word, is_call, key_right, kind_right, no_call, right, right_by, right_if, right_start, two, unif, unif_tree, weighted, weights}
+use Rattle.heyvl_parse.specs.internal.Rights.{arguments, call, call_tree, called_behind, enclosed_expr, expr, is_a_word, is_call, key_right, kind_right, no_call, right, right_by, right_if, right_start, two, unif_tree, weighted, weights}
 use Rattle.heyvl_parse.specs.declared.rights.RightStart.TheVariants as starts_as
 use Rattle.heyvl_parse.specs.declared.rights.RightStart.{RightStart}
 use Rattle.heyvl_syntax.specs.Expressions.{Expression}
-use Rattle.heyvl_syntax.specs.Grammar.{IsCall, IsExpr, IsFull, IsRight, IsWeighted}
+use Rattle.heyvl_syntax.specs.Grammar.{IsCall, IsFull, IsRight, IsWeighted}
 use Rattle.heyvl_syntax.specs.Productions.{IsKey, IsList, IsList0, IsMark, IsName, IsOne, at, ◌then◌}
 use Rattle.heyvl_syntax.specs.Statements.{RightSide}
 use Rattle.heyvl_syntax.specs.contracts.keys.Key.{the_type as the_keys}
@@ -24,9 +24,7 @@ use Rattle.heyvl_syntax.specs.declared.spans.Span.{Span}
 use Rattle.heyvl_syntax.specs.declared.tokens.Token.{Token}
 use Rattle.heyvl_syntax.specs.declared.tokens.TokenKind.TheVariants as kinds
 use Rattle.heyvl_syntax.specs.declared.tokens.TokenKind.{TokenKind}
-use Rattle.std.proofs.Common.{Bool, List, None, Option, Some, [], ap, append_assoc, arith, false, length, length-append, refl, subst, suc, sym, true, zero, ◌++◌, ◌<◌, ◌∙◌, ◌∷◌, ◌≡◌, ◌≤◌, ℕ}
-use Rattle.std.proofs.lemmas.List.{append-nil}
-use Rattle.std.specs.Cmp.Lexicographic.{pointwise, same_text}
+use Rattle.std.proofs.Common.{Bool, List, None, Option, Some, [], ap, arith, false, length, length-append, refl, subst, suc, sym, true, zero, ◌++◌, ◌<◌, ◌∙◌, ◌∷◌, ◌≡◌, ◌≤◌, ℕ}
 use denote.Enum.Bare.{same_true}
 
 pub mark_test : (m : Mark) → IsTest (kinds.Mark m) (is_mark m)

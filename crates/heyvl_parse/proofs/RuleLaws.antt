@@ -10,13 +10,11 @@ use Rattle.heyvl_parse.specs.declared.loops.RuleStart.{RuleStart}
 use Rattle.heyvl_parse.specs.internal.Combinators.{either, is_word, lead, no_kind, starts}
 use Rattle.heyvl_parse.specs.internal.Loops.{RuleParts, rule, rule_by, rule_parts, rule_start, rule_tree, rules}
 use Rattle.heyvl_parse.specs.internal.Reading.{Got, is_mark}
-use Rattle.heyvl_parse.specs.internal.Rights.{enclosed_expr, right, two}
+use Rattle.heyvl_parse.specs.internal.Rights.{enclosed_expr, two}
 use Rattle.heyvl_syntax.specs.Grammar.{IsFull, IsRule}
-use Rattle.heyvl_syntax.specs.Productions.{IsEach, IsMark, IsName, ◌or◌, ◌then◌}
+use Rattle.heyvl_syntax.specs.Productions.{IsEach, IsMark, IsName, ◌then◌}
 use Rattle.heyvl_syntax.specs.Statements.{LoopRule}
-use Rattle.heyvl_syntax.specs.declared.keys.Key.{Key}
 use Rattle.heyvl_syntax.specs.declared.marks.Mark.TheVariants as marks
-use Rattle.heyvl_syntax.specs.declared.marks.Mark.{Mark}
 use Rattle.heyvl_syntax.specs.declared.tokens.Token.{Token}
 use Rattle.heyvl_syntax.specs.declared.tokens.TokenKind.TheVariants as kinds
 use Rattle.heyvl_syntax.specs.declared.tokens.TokenKind.{TokenKind}

@@ -6,7 +6,7 @@ use Rattle.heyvl_parse.proofs.Right.{Right, Some_text, right_as, right_map, some
 use Rattle.heyvl_parse.proofs.RightLaws.{Takes, anything, call_laws, call_local, ended_by, expr_laws, key_test, led, mark_test, on_right, picked_by, right_laws, some_full, some_lead, some_right, takes_call, takes_mapped, within_local, word_laws}
 use Rattle.heyvl_parse.specs.internal.Combinators.{each, either, is_operator, lead, list, no_kind, starts, with_front}
 use Rattle.heyvl_parse.specs.internal.Reading.{Got, is_mark, mapped, pair, word, ◌>>=◌}
-use Rattle.heyvl_parse.specs.internal.Rights.{call, expr, is_call, right, two}
+use Rattle.heyvl_parse.specs.internal.Rights.{call, expr, is_call, two}
 use Rattle.heyvl_parse.specs.internal.Statements.{alone, assigned, assigned_if, checked, declared, given, havocked, is_reward, rewarded}
 use Rattle.heyvl_syntax.specs.Expressions.{Expression}
 use Rattle.heyvl_syntax.specs.Grammar.{IsAssign, IsFull, IsGiven, IsRight, IsType, check_key, havoc_key}
@@ -14,7 +14,6 @@ use Rattle.heyvl_syntax.specs.Productions.{IsKey, IsList, IsMark, IsName, IsOpti
 use Rattle.heyvl_syntax.specs.Statements.{RightSide}
 use Rattle.heyvl_syntax.specs.declared.keys.Key.TheVariants as keys
 use Rattle.heyvl_syntax.specs.declared.marks.Mark.TheVariants as marks
-use Rattle.heyvl_syntax.specs.declared.marks.Mark.{Mark}
 use Rattle.heyvl_syntax.specs.declared.spans.Span.{Span}
 use Rattle.heyvl_syntax.specs.declared.tokens.Token.{Token}
 use Rattle.heyvl_syntax.specs.declared.tokens.TokenKind.TheVariants as kinds

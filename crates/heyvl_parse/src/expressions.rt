@@ -46,10 +46,20 @@ fn end_of(expr: &Expr) -> u32
 }
 
 /// The expression at the front, and the tokens behind it.
-#[cycle(expressions)]
 #[inline(always)]
 pub(crate) fn whole(alloc: Global, tokens: &[Token]) -> Result<(Expr, &[Token]), PartStop>
     ensures value { (n : ℕ) → length tokens.now < n → Gives (λ x. expression x.0) (λ x. x.1.now) result (reading n Whole tokens.now) }
+    ensures shorter { IfOk result (λ x. length x.1.now < length tokens.now) }
+{
+    let (found, rest) = boxed(alloc, tokens)?;
+    Ok((Box::into_inner(found), rest))
+}
+
+/// The expression at the front in a box, which keeps small what the readers that call each other have on the stack.
+#[cycle(expressions)]
+#[inline(always)]
+fn boxed(alloc: Global, tokens: &[Token]) -> Result<(Box<Expr>, &[Token]), PartStop>
+    ensures value { (n : ℕ) → length tokens.now < n → Gives (λ x. expression x.0.value) (λ x. x.1.now) result (reading n Whole tokens.now) }
     ensures shorter { IfOk result (λ x. length x.1.now < length tokens.now) }
 {
     match quantifier_at(tokens) {
@@ -66,27 +76,29 @@ fn bound(
     up: bool,
     place: Span,
     tokens: &[Token],
-) -> Result<(Expr, &[Token]), PartStop>
-    ensures value { (n : ℕ) → length tokens.now < n → Gives (λ x. expression x.0) (λ x. x.1.now) result (bound (reading n) up place tokens.now) }
+) -> Result<(Box<Expr>, &[Token]), PartStop>
+    ensures value { (n : ℕ) → length tokens.now < n → Gives (λ x. expression x.0.value) (λ x. x.1.now) result (bound (reading n) up place tokens.now) }
     ensures shorter { IfOk result (λ x. length x.1.now < length tokens.now) }
 {
     let (name, rest) = word(alloc, tokens)?;
     let (_, rest) = expect(Mark::Colon, rest)?;
     let (ty, rest) = type_name(rest)?;
     let (_, rest) = expect(Mark::Dot, rest)?;
-    let (inner, rest) = whole(alloc, rest)?;
+    let (inner, rest) = boxed(alloc, rest)?;
     let place = reach(place, end_of(&inner));
-    Ok((Expr::Bound(up, name, ty, inner.boxed(alloc)?, place), rest))
+    let found = Expr::Bound(up, name, ty, inner, place);
+    Ok((found.boxed(alloc)?, rest))
 }
 
 /// An expression of at most this rank without quantifiers in front.
 #[cycle(expressions)]
 #[inline(never)]
-fn full(alloc: Global, rank: u8, tokens: &[Token]) -> Result<(Expr, &[Token]), PartStop>
-    ensures value { (n : ℕ) → length tokens.now < n → Gives (λ x. expression x.0) (λ x. x.1.now) result (reading n (Full rank) tokens.now) }
+fn full(alloc: Global, rank: u8, tokens: &[Token]) -> Result<(Box<Expr>, &[Token]), PartStop>
+    ensures value { (n : ℕ) → length tokens.now < n → Gives (λ x. expression x.0.value) (λ x. x.1.now) result (reading n (Full rank) tokens.now) }
     ensures shorter { IfOk result (λ x. length x.1.now < length tokens.now) }
 {
     let (first, rest) = operand(alloc, tokens)?;
+    let first = first.boxed(alloc)?;
     climbed(alloc, rank, first, rest)
 }
 
@@ -96,10 +108,10 @@ fn full(alloc: Global, rank: u8, tokens: &[Token]) -> Result<(Expr, &[Token]), P
 fn climbed(
     alloc: Global,
     rank: u8,
-    first: Expr,
+    first: Box<Expr>,
     tokens: &[Token],
-) -> Result<(Expr, &[Token]), PartStop>
-    ensures value { (n m : ℕ) → length tokens.now < n → length tokens.now < m → Gives (λ x. expression x.0) (λ x. x.1.now) result (climbed (reading n) (reading m) rank 1 (expression first) tokens.now) }
+) -> Result<(Box<Expr>, &[Token]), PartStop>
+    ensures value { (n m : ℕ) → length tokens.now < n → length tokens.now < m → Gives (λ x. expression x.0.value) (λ x. x.1.now) result (climbed (reading n) (reading m) rank 1 (expression first.value) tokens.now) }
     ensures shorter { IfOk result (λ x. length x.1.now ≤ length tokens.now) }
 {
     let mut left = first;
@@ -119,14 +131,13 @@ fn climbed(
 fn joined(
     alloc: Global,
     op: BinaryOp,
-    left: Expr,
-    right: Expr,
+    left: Box<Expr>,
+    right: Box<Expr>,
     place: Span,
-) -> Result<Expr, AllocError>
-    ensures { IfOk result (λ both. expression both ≡ Expression.binary op (expression left) (expression right) place) }
+) -> Result<Box<Expr>, AllocError>
+    ensures { IfOk result (λ both. expression both.value ≡ Expression.binary op (expression left.value) (expression right.value) place) }
 {
-    let left = left.boxed(alloc)?;
-    Ok(Expr::Binary(op, left, right.boxed(alloc)?, place))
+    Expr::Binary(op, left, right, place).boxed(alloc)
 }
 
 /// An operand of a prefix operator, or an atom.
@@ -190,9 +201,9 @@ fn enclosed(
     ensures value { (n : ℕ) → length tokens.now < n → Gives (λ x. (expression x.0.value, x.1)) (λ x. x.2.now) result (enclosed (reading n) close tokens.now) }
     ensures shorter { IfOk result (λ x. length x.2.now < length tokens.now) }
 {
-    let (inner, rest) = whole(alloc, tokens)?;
+    let (inner, rest) = boxed(alloc, tokens)?;
     let (place, rest) = expect(close, rest)?;
-    Ok((inner.boxed(alloc)?, place, rest))
+    Ok((inner, place, rest))
 }
 
 /// The operand of the prefix operator at this place.

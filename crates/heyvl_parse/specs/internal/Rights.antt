@@ -1,5 +1,5 @@
 -- Reading right sides.
-use Rattle.heyvl_parse.specs.internal.Combinators.{is_key, kind, lead, list, list0, starts, trail}
+use Rattle.heyvl_parse.specs.internal.Combinators.{is_key, lead, list, list0, starts, trail}
 use Rattle.heyvl_parse.specs.internal.Reading.{Read, Whole, is_mark, mapped, pair, reading, word}
 use Rattle.heyvl_parse.specs.declared.rights.RightStart.TheVariants as starts_as
 use Rattle.heyvl_parse.specs.declared.rights.RightStart.{RightStart}

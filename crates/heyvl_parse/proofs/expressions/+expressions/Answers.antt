@@ -2,7 +2,7 @@ use Rattle.heyvl_parse.proofs.Choices.{choice_is}
 use Rattle.heyvl_parse.proofs.Climbing.{climb_ends, climb_on, climb_stops, full_climbed, leads_first, next_within, passed}
 use Rattle.heyvl_parse.proofs.Fuel.{by_fuel}
 use Rattle.heyvl_parse.proofs.expressions.+expressions.Goals as goal
-use Rattle.std.proofs.Common.{Bor, Err, List, Ok, arith, length, refl, rules, suc, ◌<◌}
+use Rattle.std.proofs.Common.{Bor, Box, Err, Global, List, Ok, arith, refl, suc}
 use Rattle.heyvl_parse.specs.internal.Reading.{reading}
 use Rattle.heyvl_parse.specs.internal.Results.{Gives}
 use Rattle.heyvl_syntax.proofs.exported.PlainTreesAre.{plain_expressions}
@@ -17,22 +17,22 @@ full-returns-in_err-first-clause-value t c = by_fuel _ _ (λ m h.
 
 pub full-returns-clause-value : goal.full-returns-clause-value
 full-returns-clause-value t c = by_fuel _ _ (λ m h.
-    rw (full_climbed, c.in_ok-first.ensures.value (suc m) (omega arith))
+    rw (full_climbed, c.in_ok-first.ensures.value (suc m) (omega arith), ← c.in_ok-first-2.ensures)
     (c.climbed.ensures.value m m (omega (arith, c.in_ok-first.ensures.shorter)) (omega (arith, c.in_ok-first.ensures.shorter))))
 
 pub climbed-operators-init : goal.climbed-operators-init
 climbed-operators-init t c = record {
   shorter = omega arith;
   level = omega arith;
-  leads = leads_first (λ x. expression x.0) (λ x. x.1.now) c.args.rank (expression c.args.first) c.args.tokens.now;
+  leads = leads_first (λ x. expression x.0.value) (λ x. x.1.now) c.args.rank (expression c.args.first.value) c.args.tokens.now;
 }
 
 pub climbed-operators-preserved : goal.climbed-operators-preserved
 climbed-operators-preserved t c = record {
   shorter = omega (arith, c.operators.invariant.shorter, c.in-Some.ensures.shorter, c.in_ok-right.ensures.shorter);
   level = rw c.next_level-level.ensures (next_within c.operators.level c.args.rank c.in-Some.op c.in-Some.place c.operators.rest.now c.in-Some.behind.now c.in-Some.ensures.value);
-  leads = λ result holds. c.operators.invariant.leads result (climb_on (λ r. Gives (λ x. expression x.0) (λ x. x.1.now) result r)
-      c.operators.level c.args.rank c.in-Some.op (expression c.operators.left) (expression c.in_ok-right.right) c.in-Some.place
+  leads = λ result holds. c.operators.invariant.leads result (climb_on (λ r. Gives (λ x. expression x.0.value) (λ x. x.1.now) result r)
+      c.operators.level c.args.rank c.in-Some.op (expression c.operators.left.value) (expression c.in_ok-right.right.value) c.in-Some.place
       c.operators.rest.now c.in-Some.behind.now c.in_ok-right.behind.now c.in-Some.ensures.value c.in-Some.ensures.shorter c.in_ok-right.ensures.shorter
       (λ m h. rw (← c.ranks.ensures.right) (c.in_ok-right.ensures.value m h))
       (rw (c.next_level-level.ensures, c.in_ok-left.ensures) at holds));
@@ -42,7 +42,7 @@ pub climbed-returns-in_err-right-clause-value : goal.climbed-returns-in_err-righ
 climbed-returns-in_err-right-clause-value t c = λ n m a b.
     rw (passed _ _ c.from_residual.ensures)
     (c.operators.invariant.leads (Err c.in_err-right.field-0.0)
-    (climb_stops c.in_err-right.field-0.0 c.operators.level c.args.rank c.in-Some.op (expression c.operators.left) c.in-Some.place
+    (climb_stops c.in_err-right.field-0.0 c.operators.level c.args.rank c.in-Some.op (expression c.operators.left.value) c.in-Some.place
     c.operators.rest.now c.in-Some.behind.now c.in-Some.ensures.value c.in-Some.ensures.shorter
     (λ k h. rw (← c.ranks.ensures.right) (c.in_err-right.ensures.value k h)))
     n m a b)
@@ -50,8 +50,8 @@ climbed-returns-in_err-right-clause-value t c = λ n m a b.
 pub climbed-returns-clause-value : goal.climbed-returns-clause-value
 climbed-returns-clause-value t c = λ n m a b.
     c.operators.invariant.leads (Ok (c.operators.left, c.operators.rest))
-    (climb_ends (λ r. Gives (λ (x : Expr × Bor (List Token)). expression x.0) (λ x. x.1.now) (Ok (c.operators.left, c.operators.rest)) r)
-    c.operators.level c.args.rank (expression c.operators.left) c.operators.rest.now c.in_default.ensures.value c.operators.invariant.level refl)
+    (climb_ends (λ r. Gives (λ (x : Box Expr Global × Bor (List Token)). expression x.0.value) (λ x. x.1.now) (Ok (c.operators.left, c.operators.rest)) r)
+    c.operators.level c.args.rank (expression c.operators.left.value) c.operators.rest.now c.in_default.ensures.value c.operators.invariant.level refl)
     n m a b
 
 pub operand-returns-in-Key-clause-value : goal.operand-returns-in-Key-clause-value
@@ -67,11 +67,11 @@ operand-returns-in-Mark-clause-value t c = by_fuel _ _ (λ m h.
 pub started-returns-in-Choice-clause-value : goal.started-returns-in-Choice-clause-value
 started-returns-in-Choice-clause-value t c = λ n h all e. rw c.in-Choice.is (c.choice.ensures.value n h)
 
-pub whole-returns-in-None-clause-value : goal.whole-returns-in-None-clause-value
-whole-returns-in-None-clause-value t c = by_fuel _ _ (λ m h. rw c.in-None.ensures.value (c.full.ensures.value (suc m) (omega arith)))
+pub boxed-returns-in-None-clause-value : goal.boxed-returns-in-None-clause-value
+boxed-returns-in-None-clause-value t c = by_fuel _ _ (λ m h. rw c.in-None.ensures.value (c.full.ensures.value (suc m) (omega arith)))
 
-pub whole-returns-in-Some-clause-value : goal.whole-returns-in-Some-clause-value
-whole-returns-in-Some-clause-value t c = by_fuel _ _ (λ m h.
+pub boxed-returns-in-Some-clause-value : goal.boxed-returns-in-Some-clause-value
+boxed-returns-in-Some-clause-value t c = by_fuel _ _ (λ m h.
     rw c.in-Some.ensures.value (c.bound.ensures.value m (omega (arith, c.in-Some.ensures.shorter))))
 
 pub choice-returns-in_err-rest-clause-value : goal.choice-returns-in_err-rest-clause-value
@@ -117,7 +117,7 @@ pub enclosed-returns-in_err-place-clause-value : goal.enclosed-returns-in_err-pl
 enclosed-returns-in_err-place-clause-value t c = λ n h. rw (c.in_ok-inner.ensures.value n (omega arith)) (grind (arith, common_steps, c.in_err-place.ensures.value))
 
 pub enclosed-returns-clause-value : goal.enclosed-returns-clause-value
-enclosed-returns-clause-value t c = λ n h. rw (c.in_ok-inner.ensures.value n (omega arith), c.in_ok-place.ensures.value) (rw c.in_ok-boxed.ensures refl)
+enclosed-returns-clause-value t c = λ n h. rw (c.in_ok-inner.ensures.value n (omega arith), c.in_ok-place.ensures.value) refl
 
 pub enclosed-returns-clause-shorter : goal.enclosed-returns-clause-shorter
 enclosed-returns-clause-shorter t c = omega (arith, c.in_ok-inner.ensures.shorter, c.in_ok-place.ensures.shorter)

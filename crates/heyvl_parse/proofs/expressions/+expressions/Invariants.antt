@@ -3,10 +3,10 @@ use Rattle.heyvl_parse.proofs.expressions.+expressions.Given as goal
 use Rattle.heyvl_syntax.specs.Expressions.{expression}
 use Rattle.heyvl_syntax.specs.declared.expressions.Expr.{Expr}
 use Rattle.heyvl_syntax.specs.declared.tokens.Token.{Token}
-use Rattle.std.proofs.Common.{Bor, List, length, suc, ◌*◌, ◌+◌, ◌≤◌}
+use Rattle.std.proofs.Common.{Bor, Box, Global, List, length, suc, ◌*◌, ◌+◌, ◌≤◌}
 
-abbrev pub decreases-whole : goal.decreases-whole
-decreases-whole l = 20 * length l.tokens.now + 12
+abbrev pub decreases-boxed : goal.decreases-boxed
+decreases-boxed l = 20 * length l.tokens.now + 12
 
 abbrev pub decreases-bound : goal.decreases-bound
 decreases-bound l = 20 * length l.tokens.now + 13
@@ -21,7 +21,7 @@ abbrev pub invariant-climbed-operators : goal.invariant-climbed-operators
 invariant-climbed-operators l = record {
   shorter : length l.rest ≤ length l.tokens;
   level : l.level ≤ suc l.rank;
-  leads : Leads (λ (x : Expr × Bor (List Token)). expression x.0) (λ x. x.1.now) l.rank (expression l.fn.first) l.tokens l.level (expression l.left) l.rest;
+  leads : Leads (λ (x : Box Expr Global × Bor (List Token)). expression x.0.value) (λ x. x.1.now) l.rank (expression l.fn.first.value) l.tokens l.level (expression l.left.value) l.rest;
 }
 
 abbrev pub decreases-climbed-operators : goal.decreases-climbed-operators

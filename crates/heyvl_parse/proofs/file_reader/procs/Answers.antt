@@ -4,7 +4,7 @@ use Rattle.heyvl_parse.specs.internal.Statements.{braced, stmts}
 use Rattle.heyvl_parse.specs.internal.FileReading.{begins, procs}
 use Rattle.heyvl_parse.specs.internal.Procedures.{procedure}
 use Rattle.heyvl_syntax.specs.Procedures.{procedure as tree_of}
-use Rattle.std.proofs.Common.{arith, map, sym, ◌<◌}
+use Rattle.std.proofs.Common.{arith, map, sym}
 use Rattle.std.proofs.lemmas.Grind.{common_steps}
 use Rattle.std.proofs.lemmas.List.{map-append}
 

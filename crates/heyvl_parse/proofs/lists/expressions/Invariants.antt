@@ -1,12 +1,11 @@
 use Rattle.heyvl_parse.proofs.EachLoop.{Rest}
 use Rattle.heyvl_parse.proofs.lists.expressions.Given as goal
 use Rattle.heyvl_parse.specs.internal.Combinators.{lead, list}
-use Rattle.heyvl_parse.specs.internal.Reading.{is_mark, word}
-use Rattle.heyvl_parse.specs.internal.Rights.{expr, weighted}
-use Rattle.heyvl_syntax.specs.Expressions.{expression, expressions}
-use Rattle.heyvl_syntax.specs.Statements.{choices}
+use Rattle.heyvl_parse.specs.internal.Reading.{is_mark}
+use Rattle.heyvl_parse.specs.internal.Rights.{expr}
+use Rattle.heyvl_syntax.specs.Expressions.{expressions}
 use Rattle.heyvl_syntax.specs.declared.marks.Mark.TheVariants as marks
-use Rattle.std.proofs.Common.{length, map, ◌<◌, ◌≤◌, ℕ}
+use Rattle.std.proofs.Common.{length, ◌<◌, ℕ}
 
 abbrev pub invariant-items : goal.invariant-items
 invariant-items l = record {

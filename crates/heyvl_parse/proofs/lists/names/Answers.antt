@@ -2,13 +2,9 @@ use Rattle.heyvl_parse.proofs.EachLoop.{loop_done, loop_fails, loop_first, loop_
 use Rattle.heyvl_parse.proofs.lists.names.Goals as goal
 use Rattle.heyvl_parse.specs.internal.Combinators.{lead, list}
 use Rattle.heyvl_parse.specs.internal.Reading.{is_mark, word}
-use Rattle.heyvl_parse.specs.internal.Rights.{expr, weighted}
-use Rattle.heyvl_syntax.specs.Expressions.{expression, expressions}
-use Rattle.heyvl_syntax.specs.Statements.{choices}
 use Rattle.heyvl_syntax.specs.declared.marks.Mark.TheVariants as marks
-use Rattle.std.proofs.Common.{arith, map, sym, ◌<◌}
+use Rattle.std.proofs.Common.{arith, sym}
 use Rattle.std.proofs.lemmas.Grind.{common_steps}
-use Rattle.std.proofs.lemmas.List.{map-append}
 
 pub items-init : goal.items-init
 items-init c = record {

@@ -1,6 +1,6 @@
 use Rattle.heyvl_parse.proofs.Ends.{ends_nowhere, ends_with}
 use Rattle.heyvl_parse.proofs.places.last_end.Goals as goal
-use Rattle.std.proofs.Common.{arith, sym}
+use Rattle.std.proofs.Common.{sym}
 
 pub returns-in-None : goal.returns-in-None
 returns-in-None c = sym (ends_nowhere c.args.tokens.now c.in-None.ensures.cases)

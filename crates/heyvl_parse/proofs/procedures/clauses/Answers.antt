@@ -2,7 +2,7 @@ use Rattle.heyvl_parse.proofs.ClauseLoop.{clauses_done, clauses_fail, clauses_in
 use Rattle.heyvl_parse.proofs.procedures.clauses.Goals as goal
 use Rattle.heyvl_parse.specs.internal.Reading.{Got}
 use Rattle.heyvl_syntax.specs.Expressions.{expression, expressions}
-use Rattle.std.proofs.Common.{ap, arith, refl, sym, ◌<◌, ◌∙◌}
+use Rattle.std.proofs.Common.{ap, arith, sym, ◌∙◌}
 use Rattle.std.proofs.lemmas.Grind.{common_steps}
 use Rattle.std.proofs.lemmas.List.{map-append}
 

@@ -1,5 +1,5 @@
 use Rattle.heyvl_parse.proofs.procedures.signature.Goals as goal
-use Rattle.std.proofs.Common.{arith, refl, ◌<◌}
+use Rattle.std.proofs.Common.{arith, refl}
 use Rattle.std.proofs.lemmas.Grind.{common_steps}
 
 pub returns-in_err-name-clause-value : goal.returns-in_err-name-clause-value

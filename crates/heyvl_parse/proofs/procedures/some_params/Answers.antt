@@ -4,9 +4,8 @@ use Rattle.heyvl_parse.specs.internal.Combinators.{lead, list}
 use Rattle.heyvl_parse.specs.internal.Procedures.{param}
 use Rattle.heyvl_parse.specs.internal.Reading.{is_mark}
 use Rattle.heyvl_syntax.specs.declared.marks.Mark.TheVariants as marks
-use Rattle.std.proofs.Common.{arith, map, sym, ◌<◌}
+use Rattle.std.proofs.Common.{arith, sym}
 use Rattle.std.proofs.lemmas.Grind.{common_steps}
-use Rattle.std.proofs.lemmas.List.{map-append}
 
 pub items-init : goal.items-init
 items-init c = record {

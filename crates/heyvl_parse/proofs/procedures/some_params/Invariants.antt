@@ -4,7 +4,7 @@ use Rattle.heyvl_parse.specs.internal.Combinators.{lead, list}
 use Rattle.heyvl_parse.specs.internal.Procedures.{param}
 use Rattle.heyvl_parse.specs.internal.Reading.{is_mark}
 use Rattle.heyvl_syntax.specs.declared.marks.Mark.TheVariants as marks
-use Rattle.std.proofs.Common.{length, map, ◌<◌, ◌≤◌, ℕ}
+use Rattle.std.proofs.Common.{length, ◌<◌, ℕ}
 
 abbrev pub invariant-items : goal.invariant-items
 invariant-items l = record {

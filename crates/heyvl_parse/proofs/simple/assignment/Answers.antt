@@ -1,5 +1,4 @@
 use Rattle.heyvl_parse.proofs.simple.assignment.Goals as goal
-use Rattle.std.proofs.Common.{◌<◌}
 
 pub returns-clause-value : goal.returns-clause-value
 returns-clause-value c = λ n h. rw (← c.if-is_call.ensures) (c.targets.ensures.value n h)

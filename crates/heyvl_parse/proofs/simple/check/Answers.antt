@@ -1,5 +1,5 @@
 use Rattle.heyvl_parse.proofs.simple.check.Goals as goal
-use Rattle.std.proofs.Common.{arith, refl, ◌<◌}
+use Rattle.std.proofs.Common.{arith, refl}
 use Rattle.std.proofs.lemmas.Grind.{common_steps}
 use Rattle.heyvl_syntax.proofs.exported.PlainTreesAre.{plain_statements}
 

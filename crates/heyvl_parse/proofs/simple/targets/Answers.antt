@@ -1,5 +1,5 @@
 use Rattle.heyvl_parse.proofs.simple.targets.Goals as goal
-use Rattle.std.proofs.Common.{arith, refl, ◌<◌}
+use Rattle.std.proofs.Common.{arith, refl}
 use Rattle.std.proofs.lemmas.Grind.{common_steps}
 
 pub returns-in_err-value-clause-value : goal.returns-in_err-value-clause-value

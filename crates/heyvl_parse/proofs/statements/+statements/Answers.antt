@@ -3,15 +3,15 @@ use Rattle.heyvl_parse.proofs.EachLoop.{loop_done, loop_fails, loop_init, loop_m
 use Rattle.heyvl_parse.proofs.Fuel.{by_fuel}
 use Rattle.heyvl_parse.proofs.statements.+statements.Goals as goal
 use Rattle.heyvl_parse.specs.internal.Combinators.{each}
-use Rattle.heyvl_parse.specs.internal.Reading.{Got, Read, mapped, ◌>>=◌}
+use Rattle.heyvl_parse.specs.internal.Reading.{Got, ◌>>=◌}
 use Rattle.heyvl_parse.specs.internal.Results.{Fails}
 use Rattle.heyvl_parse.specs.internal.Statements.{braced, branched, entry, is_opening, next_of, skip, stmt, stmts}
 use Rattle.heyvl_parse.specs.declared.stops.PartStop.TheVariants.{Fault, Memory}
 use Rattle.heyvl_parse.specs.declared.stops.PartStop.{PartStop}
 use Rattle.heyvl_syntax.proofs.exported.PlainTreesAre.{plain_statements}
-use Rattle.heyvl_syntax.specs.Statements.{Block, Statement, block, block_of, guarded, statement}
+use Rattle.heyvl_syntax.specs.Statements.{Statement, block, block_of, guarded, statement}
 use Rattle.heyvl_syntax.specs.declared.tokens.Token.{Token}
-use Rattle.std.proofs.Common.{List, ap, arith, length, map, refl, suc, sym, ◌<◌, ◌∙◌, ◌≡◌, ◌≤◌, ℕ}
+use Rattle.std.proofs.Common.{List, ap, arith, length, map, refl, suc, sym, ◌<◌, ◌∙◌, ◌≡◌, ℕ}
 use Rattle.std.proofs.lemmas.Grind.{common_steps}
 use Rattle.std.proofs.lemmas.List.{map-append}
 
