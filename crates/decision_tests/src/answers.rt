@@ -182,7 +182,7 @@ fn certificate_text(
     let mut text = String::new(alloc);
     write_letters(tree, &mut text)?;
     text.push_str(" ")?;
-    write_leaf(alloc, tree, leaf, &mut text)?;
+    write_leaf(tree, leaf, &mut text)?;
     if !matches!(check(alloc, goal, tree)?, Checked::Yes) {
         text.push_str("refused")?;
     }

@@ -2,6 +2,7 @@
 
 use crate::answers::{Kind, check_lines, given};
 use std::alloc::{AllocError, Global};
+use std::fmt::Write;
 
 /// How many leaves the certificate of a goal has that holds, and whether it is accepted; else where the goal fails, or why nothing is
 /// known of it.
@@ -76,11 +77,11 @@ fn crossing(alloc: Global, lowers: u64, uppers: u64) -> Result<String, AllocErro
     let mut text = String::from_str(alloc, "true ")?;
     for i in 0..lowers.min(100) {
         let times = i + 1;
-        text.push_str(format!(in alloc; "{times} y * v2 + x <= and ")?.as_str())?;
+        write!(text, "{times} y * v2 + x <= and ")?;
     }
     for j in 0..uppers.min(100) {
         let times = 66 * (j + 1);
-        text.push_str(format!(in alloc; "x {times} y * v2 + + 0 <= and ")?.as_str())?;
+        write!(text, "x {times} y * v2 + + 0 <= and ")?;
     }
     text.push_str("0 1 select 1 ; iii")?;
     Ok(text)

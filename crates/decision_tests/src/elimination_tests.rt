@@ -2,6 +2,7 @@
 
 use crate::answers::{Kind, check_lines, given};
 use std::alloc::{AllocError, Global};
+use std::fmt::Write;
 
 /// Rows that nothing meets, with multipliers, and rows whose joins reach the bound.
 const REFUTED: &str = "\
@@ -87,11 +88,11 @@ fn crossing(alloc: Global, lowers: u64, uppers: u64) -> Result<String, AllocErro
     let mut text = String::new(alloc);
     for i in 0..lowers.min(100) {
         let times = i + 1;
-        text.push_str(format!(in alloc; "-1x0 {times}x1 1x2 0 <=0 ")?.as_str())?;
+        write!(text, "-1x0 {times}x1 1x2 0 <=0 ")?;
     }
     for j in 0..uppers.min(100) {
         let times = 66 * (j + 1);
-        text.push_str(format!(in alloc; "1x0 {times}x1 1x2 0 <=0 ")?.as_str())?;
+        write!(text, "1x0 {times}x1 1x2 0 <=0 ")?;
     }
     text.push_str("; iii")?;
     Ok(text)

@@ -6,13 +6,14 @@ use heylo_formula::Val;
 use linear_elim::{Broken, Cause, Elim};
 use linear_form::{Ask, Atom, Lin, Row};
 use std::alloc::{AllocError, Global};
+use std::fmt::Write;
 
-fn write_lin(alloc: Global, value: &Lin, text: &mut String) -> Result<(), AllocError> {
+fn write_lin(value: &Lin, text: &mut String) -> Result<(), AllocError> {
     for (variable, coefficient) in value.terms.as_slice() {
-        write_fraction(alloc, coefficient, text)?;
-        text.push_str(format!(in alloc; "x{variable} ")?.as_str())?;
+        write_fraction(coefficient, text)?;
+        write!(text, "x{variable} ")?;
     }
-    write_fraction(alloc, &value.rest, text)
+    write_fraction(&value.rest, text)
 }
 
 fn sign(strict: bool) -> &'static str {
@@ -24,7 +25,7 @@ fn atom_text(alloc: Global, atom: &Atom) -> Result<String, AllocError> {
         Atom::Truth(x) => format!(in alloc; "b{x}"),
         Atom::Row(value, strict) => {
             let mut text = String::new(alloc);
-            write_lin(alloc, value, &mut text)?;
+            write_lin(value, &mut text)?;
             text.push_str(sign(*strict))?;
             Ok(text)
         }
@@ -33,7 +34,7 @@ fn atom_text(alloc: Global, atom: &Atom) -> Result<String, AllocError> {
 
 fn value_text(alloc: Global, value: &Lin) -> Result<String, AllocError> {
     let mut text = text_of(alloc, "= ")?;
-    write_lin(alloc, value, &mut text)?;
+    write_lin(value, &mut text)?;
     Ok(text)
 }
 
@@ -47,12 +48,12 @@ pub fn ask_text(alloc: Global, ask: &Ask) -> Result<String, AllocError> {
     }
 }
 
-fn write_row(alloc: Global, row: &Row, text: &mut String) -> Result<(), AllocError> {
+fn write_row(row: &Row, text: &mut String) -> Result<(), AllocError> {
     for (variable, coefficient) in row.terms.as_slice() {
-        text.push_str(format!(in alloc; "{coefficient}x{variable} ")?.as_str())?;
+        write!(text, "{coefficient}x{variable} ")?;
     }
     let rest = row.rest;
-    text.push_str(format!(in alloc; "{rest}")?.as_str())?;
+    write!(text, "{rest}")?;
     text.push_str(sign(row.strict))
 }
 
@@ -60,14 +61,14 @@ fn write_row(alloc: Global, row: &Row, text: &mut String) -> Result<(), AllocErr
 pub fn rows_text(alloc: Global, rows: &[Row]) -> Result<String, AllocError> {
     let mut text = String::new(alloc);
     for row in rows {
-        write_row(alloc, row, &mut text)?;
+        write_row(row, &mut text)?;
     }
     Ok(text)
 }
 
-fn write_value(alloc: Global, value: &Val, text: &mut String) -> Result<(), AllocError> {
+fn write_value(value: &Val, text: &mut String) -> Result<(), AllocError> {
     match value {
-        Val::Num(x) => write_fraction(alloc, x, text)?,
+        Val::Num(x) => write_fraction(x, text)?,
         Val::Truth(true) => text.push_str("true")?,
         Val::Truth(false) => text.push_str("false")?,
     }
@@ -78,7 +79,7 @@ fn write_value(alloc: Global, value: &Val, text: &mut String) -> Result<(), Allo
 pub fn point_text(alloc: Global, word: &str, point: &[Val]) -> Result<String, AllocError> {
     let mut text = text_of(alloc, word)?;
     for value in point {
-        write_value(alloc, value, &mut text)?;
+        write_value(value, &mut text)?;
     }
     Ok(text)
 }
@@ -88,20 +89,20 @@ fn broken_text(alloc: Global, broken: &Broken) -> Result<String, AllocError> {
     let var = broken.var;
     let mut text = format!(in alloc; "broken x{var} ")?;
     text.push_str(if broken.low_in { "[" } else { "(" })?;
-    write_fraction(alloc, &broken.low, &mut text)?;
+    write_fraction(&broken.low, &mut text)?;
     text.push_str(" ")?;
-    write_fraction(alloc, &broken.high, &mut text)?;
+    write_fraction(&broken.high, &mut text)?;
     text.push_str(if broken.high_in { "]" } else { ")" })?;
     for (variable, value) in broken.earlier.as_slice() {
-        text.push_str(format!(in alloc; " x{variable} ")?.as_str())?;
-        write_value(alloc, value, &mut text)?;
+        write!(text, " x{variable} ")?;
+        write_value(value, &mut text)?;
     }
     Ok(text)
 }
 
 fn refuted_text(alloc: Global, multipliers: &[(u32, u64)]) -> Result<String, AllocError> {
     let mut text = text_of(alloc, "refuted ")?;
-    write_multipliers(alloc, multipliers, &mut text)?;
+    write_multipliers(multipliers, &mut text)?;
     Ok(text)
 }
 

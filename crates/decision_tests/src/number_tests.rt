@@ -9,7 +9,7 @@ use std::cmp::Ordering;
 
 fn fraction_text(alloc: Global, x: &Frac) -> Result<String, AllocError> {
     let mut text = String::new(alloc);
-    write_fraction(alloc, x, &mut text)?;
+    write_fraction(x, &mut text)?;
     Ok(text)
 }
 

@@ -3,6 +3,7 @@
 use heylo_formula::Ty;
 use heyvl_num::Frac;
 use std::alloc::{AllocError, Global};
+use std::fmt::Write;
 
 /// What stands before the first such mark, and what stands behind it; all of the text where there is none.
 pub fn cut(text: &str, mark: char) -> (&str, &str) {
@@ -81,12 +82,17 @@ pub fn answers_of(alloc: Global, text: &str) -> Result<Vec<bool>, AllocError> {
     Ok(answers)
 }
 
+/// The index of a row with its multiplier, as `2:3`.
+fn multiple(word: &str) -> Result<(u32, u64), AllocError> {
+    let (row, times) = cut(word, ':');
+    Ok((index(row)?, multiplier(times)?))
+}
+
 /// Indexes of rows with their multipliers, as `0:1 2:3`.
 pub fn multipliers_of(alloc: Global, text: &str) -> Result<Vec<(u32, u64)>, AllocError> {
     let mut multipliers = Vec::new(alloc);
     for word in text.split_whitespace() {
-        let (row, times) = cut(word, ':');
-        multipliers.push((index(row)?, multiplier(times)?))?;
+        multipliers.push(multiple(word)?)?;
     }
     Ok(multipliers)
 }
@@ -96,23 +102,21 @@ pub fn text_of(alloc: Global, text: &str) -> Result<String, AllocError> {
     String::from_str(alloc, text)
 }
 
-pub fn write_fraction(alloc: Global, x: &Frac, text: &mut String) -> Result<(), AllocError> {
+/// Writes a fraction behind a text, as `fraction` reads it.
+pub fn write_fraction(x: &Frac, text: &mut String) -> Result<(), AllocError> {
     let num = x.num();
     let den = x.den();
-    text.push_str(format!(in alloc; "{num}")?.as_str())?;
+    write!(text, "{num}")?;
     if den != 1 {
-        text.push_str(format!(in alloc; "/{den}")?.as_str())?;
+        write!(text, "/{den}")?;
     }
     Ok(())
 }
 
-pub fn write_multipliers(
-    alloc: Global,
-    multipliers: &[(u32, u64)],
-    text: &mut String,
-) -> Result<(), AllocError> {
+/// Writes indexes of rows with their multipliers behind a text, as `multipliers_of` reads them, each with a space behind it.
+pub fn write_multipliers(multipliers: &[(u32, u64)], text: &mut String) -> Result<(), AllocError> {
     for (row, times) in multipliers {
-        text.push_str(format!(in alloc; "{row}:{times} ")?.as_str())?;
+        write!(text, "{row}:{times} ")?;
     }
     Ok(())
 }

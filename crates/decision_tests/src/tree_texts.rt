@@ -79,22 +79,17 @@ pub fn write_letters(tree: &Tree, text: &mut String) -> Result<(), AllocError> {
 }
 
 /// The multipliers of the leaf with this number, among those that have any.
-pub fn write_leaf(
-    alloc: Global,
-    tree: &Tree,
-    leaf: u32,
-    text: &mut String,
-) -> Result<(), AllocError> {
+pub fn write_leaf(tree: &Tree, leaf: u32, text: &mut String) -> Result<(), AllocError> {
     match tree {
         Tree::Split(holds, fails) => {
             let before = certified(holds);
             if leaf < before {
-                write_leaf(alloc, holds, leaf, text)
+                write_leaf(holds, leaf, text)
             } else {
-                write_leaf(alloc, fails, leaf - before, text)
+                write_leaf(fails, leaf - before, text)
             }
         }
-        Tree::Farkas(multipliers) => write_multipliers(alloc, multipliers, text),
+        Tree::Farkas(multipliers) => write_multipliers(multipliers, text),
         Tree::Plain => Ok(()),
     }
 }

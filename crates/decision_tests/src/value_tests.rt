@@ -28,7 +28,7 @@ fn value_text(alloc: Global, value: &At) -> Result<String, AllocError> {
     match value {
         At::Value(Ext::Fin(x)) => {
             let mut text = String::new(alloc);
-            write_fraction(alloc, x, &mut text)?;
+            write_fraction(x, &mut text)?;
             Ok(text)
         }
         At::Value(Ext::Inf) => text_of(alloc, "inf"),

@@ -3,6 +3,7 @@
 use heyvl_parse::parse;
 use heyvl_syntax::{BinaryOp, Expr, File, LexStop, Lit, Name, Span, Token, TypeName, UnaryOp, lex};
 use std::alloc::{AllocError, Global};
+use std::fmt::Write;
 use std::process::Abort;
 use std::test::Fail;
 
@@ -109,78 +110,72 @@ fn prefix(op: UnaryOp) -> &'static str {
     }
 }
 
-fn write_number(alloc: Global, lit: Lit, text: &mut String) -> Result<(), AllocError> {
+fn write_number(lit: Lit, text: &mut String) -> Result<(), AllocError> {
     let digits = lit.digits;
-    text.push_str(format!(in alloc; "{digits}")?.as_str())?;
+    write!(text, "{digits}")?;
     if lit.places != 0 {
         let places = lit.places;
-        text.push_str(format!(in alloc; "e{places}")?.as_str())?;
+        write!(text, "e{places}")?;
     }
     Ok(())
 }
 
-fn write_binder(
-    alloc: Global,
-    up: bool,
-    name: &Name,
-    ty: TypeName,
-    text: &mut String,
-) -> Result<(), AllocError> {
+fn write_binder(up: bool, name: &Name, ty: TypeName, text: &mut String) -> Result<(), AllocError> {
     let key = if up { "sup" } else { "inf" };
     let name = text_of(name);
-    text.push_str(format!(in alloc; "{{{key} {name}: {ty:?}. ")?.as_str())?;
+    write!(text, "{{{key} {name}: {ty:?}. ")?;
     Ok(())
 }
 
 /// Appends the tree with braces around each operator and quantifier.
-fn write_tree(alloc: Global, expr: &Expr, text: &mut String) -> Result<(), AllocError> {
+fn write_tree(expr: &Expr, text: &mut String) -> Result<(), AllocError> {
     match expr {
-        Expr::Number(lit, _) => write_number(alloc, *lit, text)?,
+        Expr::Number(lit, _) => write_number(*lit, text)?,
         Expr::Truth(truth, _) => text.push_str(if *truth { "true" } else { "false" })?,
         Expr::Infinity(_) => text.push_str("\\infty")?,
         Expr::Name(name, _) => text.push_str(text_of(name))?,
         Expr::Group(inner, _) => {
             text.push_str("(")?;
-            write_tree(alloc, inner, text)?;
+            write_tree(inner, text)?;
             text.push_str(")")?;
         }
         Expr::Bracket(inner, _) => {
             text.push_str("[")?;
-            write_tree(alloc, inner, text)?;
+            write_tree(inner, text)?;
             text.push_str("]")?;
         }
         Expr::Embed(inner, _) => {
             text.push_str("?(")?;
-            write_tree(alloc, inner, text)?;
+            write_tree(inner, text)?;
             text.push_str(")")?;
         }
         Expr::Unary(op, inner, _) => {
             text.push_str("{")?;
             text.push_str(prefix(*op))?;
-            write_tree(alloc, inner, text)?;
+            write_tree(inner, text)?;
             text.push_str("}")?;
         }
         Expr::Binary(op, left, right, _) => {
             text.push_str("{")?;
-            write_tree(alloc, left, text)?;
+            write_tree(left, text)?;
             text.push_str(" ")?;
             text.push_str(sign(*op))?;
             text.push_str(" ")?;
-            write_tree(alloc, right, text)?;
+            write_tree(right, text)?;
             text.push_str("}")?;
         }
         Expr::Choice(test, left, right, _) => {
             text.push_str("ite(")?;
-            write_tree(alloc, test, text)?;
+            write_tree(test, text)?;
             text.push_str(", ")?;
-            write_tree(alloc, left, text)?;
+            write_tree(left, text)?;
             text.push_str(", ")?;
-            write_tree(alloc, right, text)?;
+            write_tree(right, text)?;
             text.push_str(")")?;
         }
         Expr::Bound(up, name, ty, inner, _) => {
-            write_binder(alloc, *up, name, *ty, text)?;
-            write_tree(alloc, inner, text)?;
+            write_binder(*up, name, *ty, text)?;
+            write_tree(inner, text)?;
             text.push_str("}")?;
         }
     }
@@ -240,11 +235,11 @@ fn shown(alloc: Global, text: &str) -> Result<String, Fail> {
     let file = file_of(alloc, text)?;
     let mut shown = String::new(alloc);
     if let Some(expr) = clause(&file) {
-        write_tree(alloc, expr, &mut shown)?;
+        write_tree(expr, &mut shown)?;
         let place = place(expr);
         let from = place.from.saturating_sub(HEAD.len() as u32);
         let to = place.to.saturating_sub(HEAD.len() as u32);
-        shown.push_str(format!(in alloc; " {from}..{to}")?.as_str())?;
+        write!(shown, " {from}..{to}")?;
     }
     Ok(shown)
 }

@@ -3,6 +3,7 @@
 use heyvl_parse::{ParseStop, parse};
 use heyvl_syntax::{Expr, File, LexStop, Name, Note, Param, Proc, Token, lex};
 use std::alloc::{AllocError, Global};
+use std::fmt::Write;
 use std::process::Abort;
 use std::test::Fail;
 
@@ -45,12 +46,12 @@ fn note_of(note: Option<Note>) -> &'static str {
     }
 }
 
-fn write_params(alloc: Global, params: &[Param], text: &mut String) -> Result<(), AllocError> {
+fn write_params(params: &[Param], text: &mut String) -> Result<(), AllocError> {
     for param in params {
         let name = text_of(&param.name);
         let ty = param.ty;
         let span = param.span;
-        text.push_str(format!(in alloc; "{name}: {ty:?} {span}, ")?.as_str())?;
+        write!(text, "{name}: {ty:?} {span}, ")?;
     }
     Ok(())
 }
@@ -67,31 +68,31 @@ fn write_names(exprs: &[Expr], text: &mut String) -> Result<(), AllocError> {
     Ok(())
 }
 
-fn write_procedure(alloc: Global, found: &Proc, text: &mut String) -> Result<(), AllocError> {
+fn write_procedure(found: &Proc, text: &mut String) -> Result<(), AllocError> {
     text.push_str(note_of(found.note))?;
     text.push_str(if found.co { "coproc " } else { "proc " })?;
     text.push_str(text_of(&found.name))?;
     text.push_str("(")?;
-    write_params(alloc, &found.inputs, text)?;
+    write_params(&found.inputs, text)?;
     text.push_str(") -> (")?;
-    write_params(alloc, &found.outputs, text)?;
+    write_params(&found.outputs, text)?;
     text.push_str(") pre")?;
     write_names(&found.pres, text)?;
     text.push_str(" post")?;
     write_names(&found.posts, text)?;
     if let Some(body) = &found.body {
         let statements = body.len();
-        text.push_str(format!(in alloc; " {{{statements}}}")?.as_str())?;
+        write!(text, " {{{statements}}}")?;
     }
     let span = found.span;
-    text.push_str(format!(in alloc; " {span};")?.as_str())?;
+    write!(text, " {span};")?;
     Ok(())
 }
 
 fn write_file(alloc: Global, file: &File) -> Result<String, AllocError> {
     let mut text = String::new(alloc);
     for found in &file.procs {
-        write_procedure(alloc, found, &mut text)?;
+        write_procedure(found, &mut text)?;
     }
     Ok(text)
 }

@@ -2,13 +2,14 @@
 
 use heyvl_syntax::{LexStop, Token, TokenKind, lex, place_at};
 use std::alloc::{AllocError, Global};
+use std::fmt::Write;
 use std::process::Abort;
 
 /// One line of text per token, or the fault.
 fn show(alloc: Global, lexed: Result<Vec<Token>, LexStop>) -> Result<String, AllocError> {
     let mut text = String::new(alloc);
     match lexed {
-        Err(stop) => text.push_str(format!(in alloc; "{stop}")?.as_str())?,
+        Err(stop) => write!(text, "{stop}")?,
         Ok(tokens) => {
             for token in &tokens {
                 let kind = match &token.kind {
@@ -25,7 +26,7 @@ fn show(alloc: Global, lexed: Result<Vec<Token>, LexStop>) -> Result<String, All
                     TokenKind::Mark(mark) => format!(in alloc; "mark {mark:?}")?,
                 };
                 let span = token.span;
-                text.push_str(format!(in alloc; "{kind} {span}; ")?.as_str())?;
+                write!(text, "{kind} {span}; ")?;
             }
         }
     }
