@@ -10,8 +10,8 @@ use Rattle.heyvl_syntax.specs.internal.Fronts.{IsInside, block_front, first_clos
 use Rattle.heyvl_syntax.specs.Literals.{is_too_large, literal}
 use Rattle.heyvl_syntax.specs.Marks.{mark_text}
 use Rattle.heyvl_syntax.specs.Tokens.{IsFault, IsLongest, IsToken, IsTokenOf, IsWhite, is_beyond_limits}
-use Rattle.heyvl_syntax.specs.declared.fronts.Front.TheVariants as fronts
-use Rattle.heyvl_syntax.specs.declared.fronts.Front.{Front}
+use Rattle.heyvl_syntax.specs.internal.Found as fronts
+use Rattle.heyvl_syntax.specs.internal.Found.{Found}
 use Rattle.heyvl_syntax.specs.declared.keys.Key.{Key}
 use Rattle.heyvl_syntax.specs.declared.marks.Mark.{Mark}
 use Rattle.heyvl_syntax.specs.declared.tokens.TokenKind.TheVariants as kinds
@@ -26,7 +26,7 @@ use Rattle.std.specs.Cmp.Lexicographic.{pointwise, same_text}
 use Rattle.std.specs.List.{position_or_len, prefix_len, starts_with}
 
 -- The front says what stands there.
-abbrev pub IsFront : List ℕ → Front → Type 0
+abbrev pub IsFront : List ℕ → Found → Type 0
 IsFront bytes fronts.End = bytes ≡ []
 IsFront bytes (fronts.Blank n) = (IsWhite bytes × (n ≡ 1)) ⊎ (IsLineComment bytes n ⊎ IsBlockComment bytes n)
 IsFront bytes (fronts.Token kind n) =
@@ -151,7 +151,7 @@ mark-is b bs None o d w c h = nothing_at b bs w c none
         cc
 
 -- By the first byte.
-abbrev front_by : Bool → Bool → Bool → Bool → Bool → ℕ → List ℕ → Front
+abbrev front_by : Bool → Bool → Bool → Bool → Bool → ℕ → List ℕ → Found
 front_by white line block word digit b bs =
     cond white (fronts.Blank 1)
     (cond line (fronts.Blank (position_or_len is_line_feed (b ∷ bs)))
@@ -189,7 +189,7 @@ pub longest_some : (bytes : List ℕ) (kind : TokenKind) (n : ℕ) → IsLongest
 longest_some bytes kind zero longest = let begins = token_begins kind [] bytes longest.token.1 in let no = begins.same in absurd (cc)
 longest_some bytes kind (suc n) longest = omega arith
 
-pub front-inside : (bytes : List ℕ) (front : Front) → IsFront bytes front → IsInside (length bytes) front
+pub front-inside : (bytes : List ℕ) (front : Found) → IsFront bytes front → IsInside (length bytes) front
 front-inside bytes fronts.End h = tt
 front-inside [] (fronts.Blank n) (inl (white, one)) = absurd white
 front-inside (b ∷ bs) (fronts.Blank n) (inl (white, one)) = (omega (arith, one), omega (arith, one))

@@ -4,7 +4,7 @@ use Rattle.heyvl_syntax.proofs.SmallLiterals.{literal_in_limits}
 use Rattle.heyvl_syntax.specs.Literals.{IsInLimits}
 use Rattle.heyvl_syntax.specs.TokenLaws.{HasSmallLiteral, StandInOrder}
 use Rattle.heyvl_syntax.specs.Tokens.{IsPart, IsToken, Lexes, Part, Splits, comment, is_beyond_limits, token, tokens_of, white}
-use Rattle.heyvl_syntax.specs.declared.fronts.Front.TheVariants as fronts
+use Rattle.heyvl_syntax.specs.internal.Found as fronts
 use Rattle.heyvl_syntax.specs.declared.literals.Lit.{Lit}
 use Rattle.heyvl_syntax.specs.declared.spans.Span.{Span}
 use Rattle.heyvl_syntax.specs.declared.tokens.Token.{Token}

@@ -3,6 +3,8 @@ mod Digits
 mod ExpressionRows
 mod FaultPlaces
 mod FewNodes
+mod FrontFits
+mod FrontHere
 mod FrontIs
 mod InOrder
 mod LoadRows

@@ -2,8 +2,8 @@
 use Rattle.heyvl_syntax.proofs.FrontIs.{IsFront, front-is}
 use Rattle.heyvl_syntax.specs.internal.Fronts.{front_of}
 use Rattle.heyvl_syntax.specs.Tokens.{Lexes, Stops, comment, span_of, token, white}
-use Rattle.heyvl_syntax.specs.declared.fronts.Front.TheVariants as fronts
-use Rattle.heyvl_syntax.specs.declared.fronts.Front.{Front}
+use Rattle.heyvl_syntax.specs.internal.Found as fronts
+use Rattle.heyvl_syntax.specs.internal.Found.{Found}
 use Rattle.heyvl_syntax.specs.declared.spans.Span.{Span}
 use Rattle.heyvl_syntax.specs.declared.tokens.Token.{Token}
 use Rattle.heyvl_syntax.specs.declared.tokens.TokenKind.{TokenKind}
@@ -13,8 +13,8 @@ use Rattle.std.proofs.Common.{List, [], ap, append_assoc, drop, inl, inr, refl, 
 abbrev pub made : TokenKind → ℕ → ℕ → Token
 made kind place n = record { kind = kind; span = span_of place n }
 
-pub front_was : (bytes : List ℕ) (found front : Front) → found ≡ front_of bytes → found ≡ front → IsFront bytes front
-front_was bytes found front value is = subst (λ (f : Front). IsFront bytes f) (sym value ∙ is) (front-is bytes)
+pub front_was : (bytes : List ℕ) (found front : Found) → found ≡ front_of bytes → found ≡ front → IsFront bytes front
+front_was bytes found front value is = subst (λ (f : Found). IsFront bytes f) (sym value ∙ is) (front-is bytes)
 
 pub lexes_end : (place : ℕ) (bytes : List ℕ) → IsFront bytes fronts.End → Lexes place bytes []
 lexes_end place bytes empty = record { parts = []; splits = empty; are_tokens = refl }

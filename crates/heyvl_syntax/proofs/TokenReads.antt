@@ -12,8 +12,8 @@ use Rattle.heyvl_syntax.specs.Keys.{key_text}
 use Rattle.heyvl_syntax.specs.Literals.{IsNumber, is_too_large, literal}
 use Rattle.heyvl_syntax.specs.Marks.{mark_text}
 use Rattle.heyvl_syntax.specs.Tokens.{IsWord, Lexes}
-use Rattle.heyvl_syntax.specs.declared.fronts.Front.TheVariants as fronts
-use Rattle.heyvl_syntax.specs.declared.fronts.Front.{Front}
+use Rattle.heyvl_syntax.specs.internal.Found as fronts
+use Rattle.heyvl_syntax.specs.internal.Found.{Found}
 use Rattle.heyvl_syntax.specs.declared.keys.Key.{Key}
 use Rattle.heyvl_syntax.specs.declared.marks.Mark.TheVariants as marks
 use Rattle.heyvl_syntax.specs.declared.marks.Mark.{Mark}
@@ -193,10 +193,10 @@ no_block_digit b bs d = pick (opens_block (b ∷ bs)) refl
     pick true h = let e = block_first b bs h in let no : is_ascii_digit 47 ≡ true = subst (λ (z : ℕ). is_ascii_digit z ≡ true) e d in absurd (cc)
     pick false h = refl
 
-skip : (x : Bool) (a c r : Front) → x ≡ false → c ≡ r → cond x a c ≡ r
+skip : (x : Bool) (a c r : Found) → x ≡ false → c ≡ r → cond x a c ≡ r
 skip x a c r e f = rw e f
 
-take_it : (x : Bool) (a c r : Front) → x ≡ true → a ≡ r → cond x a c ≡ r
+take_it : (x : Bool) (a c r : Found) → x ≡ true → a ≡ r → cond x a c ≡ r
 take_it x a c r e f = rw e f
 
 small_front : (text : List ℕ) → is_too_large text ≡ false → number_front text ≡ fronts.Token (kinds.Number (literal text)) (length text)

@@ -3,8 +3,8 @@ use Rattle.heyvl_syntax.proofs.FrontIs.{IsFront, front-inside, front-is}
 use Rattle.heyvl_syntax.proofs.Steps.{lexes_blank, lexes_end, lexes_token, made, stops_blank, stops_here, stops_token}
 use Rattle.heyvl_syntax.specs.internal.Fronts.{front_of}
 use Rattle.heyvl_syntax.specs.Tokens.{Lexes, Stops, span_of}
-use Rattle.heyvl_syntax.specs.declared.fronts.Front.TheVariants as fronts
-use Rattle.heyvl_syntax.specs.declared.fronts.Front.{Front}
+use Rattle.heyvl_syntax.specs.internal.Found as fronts
+use Rattle.heyvl_syntax.specs.internal.Found.{Found}
 use Rattle.heyvl_syntax.specs.declared.spans.Span.{Span}
 use Rattle.heyvl_syntax.specs.declared.tokens.Token.{Token}
 use Rattle.heyvl_syntax.specs.declared.tokens.TokenKind.{TokenKind}
@@ -24,7 +24,7 @@ after_token : (place n : ℕ) (kind : TokenKind) (bytes : List ℕ) → IsFront 
 after_token place n kind bytes front (split tokens rest) = split (made kind place n ∷ tokens) (lexes_token place n kind bytes front tokens rest)
 after_token place n kind bytes front (stopped number span rest) = stopped number span (stops_token place n kind bytes front number span rest)
 
-step : (place : ℕ) (bytes : List ℕ) (front : Front) → IsFront bytes front → ((n : ℕ) → 0 < n → n ≤ length bytes → Outcome (place + n) (drop n bytes)) → Outcome place bytes
+step : (place : ℕ) (bytes : List ℕ) (front : Found) → IsFront bytes front → ((n : ℕ) → 0 < n → n ≤ length bytes → Outcome (place + n) (drop n bytes)) → Outcome place bytes
 step place bytes fronts.End h rest = split [] (lexes_end place bytes h)
 step place bytes (fronts.Blank n) h rest =
     let inside = front-inside bytes (fronts.Blank n) h in

@@ -1,12 +1,14 @@
 //! The tokens of bytes.
 
 ghost use Rattle.heyvl_syntax.specs.Tokens.{IsFaultOrMemory, IsMemory, IsStop, Lexes, Stops, span_of};
+ghost use Rattle.heyvl_syntax.specs.internal.Fronts.{token_of};
 ghost use Rattle.heyvl_syntax.specs.declared.spans.Span.{Span};
 ghost use Rattle.heyvl_syntax.specs.declared.tokens.Token.{Token};
 ghost use Rattle.std.specs.Prelude.{◌+◌, ◌<◌, ◌^◌, ◌≡◌, ℕ, IfErr, IfOk, List, MatchResult, length};
 
 use crate::fronts::{Front, front_of};
-use crate::{LexStop, Span, Token};
+use crate::literals::literal;
+use crate::{LexStop, Name, Span, Token, TokenKind};
 use std::alloc::Global;
 
 /// The n bytes from a place on.
@@ -20,6 +22,17 @@ fn span_of(place: usize, n: usize) -> Span
     }
 }
 
+/// The token of this kind that the n bytes from a place on are.
+fn token_of(kind: TokenKind, place: usize, n: usize) -> Token
+    requires { place + n < 2 ^ 32 }
+    ensures { result ≡ token_of kind place n }
+{
+    Token {
+        kind,
+        span: span_of(place, n),
+    }
+}
+
 /// The tokens or the leftmost fault, part by part.
 fn lex_parts(alloc: Global, bytes: &[u8]) -> Result<Vec<Token>, LexStop>
     requires { length bytes.now < 2 ^ 31 }
@@ -30,7 +43,7 @@ fn lex_parts(alloc: Global, bytes: &[u8]) -> Result<Vec<Token>, LexStop>
     let mut place = 0;
     let mut rest = bytes;
     'parts: loop {
-        match front_of(alloc, rest)? {
+        match front_of(rest) {
             Front::End => return Ok(tokens),
             Front::Fault(number, n) => return Err(LexStop::Fault(number, span_of(place, n))),
             Front::Blank(n) => {
@@ -38,11 +51,30 @@ fn lex_parts(alloc: Global, bytes: &[u8]) -> Result<Vec<Token>, LexStop>
                 let (_, behind) = rest.split_at(n);
                 rest = behind;
             }
-            Front::Token(kind, n) => {
-                tokens.push(Token {
-                    kind,
-                    span: span_of(place, n),
-                })?;
+            Front::Word(n) => {
+                let name = Name::of_front(alloc, rest, n)?;
+                tokens.push(token_of(TokenKind::Word(name), place, n))?;
+                place += n;
+                let (_, behind) = rest.split_at(n);
+                rest = behind;
+            }
+            Front::Number(n) => {
+                let (text, behind) = rest.split_at(n);
+                match literal(text) {
+                    None => return Err(LexStop::Fault(3, span_of(place, n))),
+                    Some(number) => tokens.push(token_of(TokenKind::Number(number), place, n))?,
+                }
+                place += n;
+                rest = behind;
+            }
+            Front::Key(key, n) => {
+                tokens.push(token_of(TokenKind::Key(key), place, n))?;
+                place += n;
+                let (_, behind) = rest.split_at(n);
+                rest = behind;
+            }
+            Front::Mark(mark, n) => {
+                tokens.push(token_of(TokenKind::Mark(mark), place, n))?;
                 place += n;
                 let (_, behind) = rest.split_at(n);
                 rest = behind;

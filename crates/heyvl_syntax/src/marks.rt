@@ -1,9 +1,9 @@
 //! The marks of HeyVL.
 
-ghost use Rattle.heyvl_syntax.specs.internal.Fronts.{mark_of, marks_from};
+ghost use Rattle.heyvl_syntax.specs.internal.Fronts.{mark_of};
 ghost use Rattle.heyvl_syntax.specs.Marks.{mark_text};
-ghost use Rattle.std.specs.List.{find, starts_with};
-ghost use Rattle.std.specs.Prelude.{◌≡◌, nat_eq};
+ghost use Rattle.std.specs.List.{starts_with};
+ghost use Rattle.std.specs.Prelude.{Some, cond, nat_eq, ◌∷◌, ◌≡◌};
 
 /// A mark, in the order of the language's list of marks.
 #[derive(Clone, Copy, Debug, PartialEq, Eq)]
@@ -80,46 +80,53 @@ impl Mark {
     }
 }
 
-/// The marks that begin with this byte, the longer ones first.
-fn marks_from(first: u8) -> &'static [Mark]
-    ensures { result.now ≡ marks_from first }
+/// This mark where its rest stands at the front, or else the shorter one.
+fn longer(bytes: &[u8], rest: &[u8], mark: Mark, shorter: Option<Mark>) -> Option<Mark>
+    ensures { result ≡ cond (starts_with nat_eq bytes.now rest.now) (Some mark) shorter }
 {
-    match first {
-        b'(' => &[Mark::ParenLeft],
-        b')' => &[Mark::ParenRight],
-        b'{' => &[Mark::BraceLeft],
-        b'}' => &[Mark::BraceRight],
-        b'[' => &[Mark::BracketLeft],
-        b']' => &[Mark::BracketRight],
-        b',' => &[Mark::Comma],
-        b':' => &[Mark::Colon],
-        b';' => &[Mark::Semi],
-        b'.' => &[Mark::Dot],
-        b'=' => &[Mark::Imply, Mark::Same, Mark::Assign],
-        b'!' => &[Mark::Differ, Mark::Bang],
-        b'<' => &[Mark::CoImply, Mark::AtMost, Mark::Less],
-        b'>' => &[Mark::AtLeast, Mark::More],
-        b'+' => &[Mark::Plus],
-        b'-' => &[Mark::Arrow, Mark::Minus],
-        b'*' => &[Mark::Star],
-        b'/' => &[Mark::Slash],
-        b'&' => &[Mark::AndAnd],
-        b'|' => &[Mark::OrOr],
-        b'~' => &[Mark::Tilde],
-        b'?' => &[Mark::Question],
-        b'@' => &[Mark::AtSign],
-        _ => &[],
+    if bytes.starts_with(rest) {
+        Some(mark)
+    } else {
+        shorter
     }
 }
 
-/// The first of these marks that stands at the front, or None where none does.
-fn mark_among(marks: &[Mark], bytes: &[u8]) -> Option<Mark>
-    ensures { result ≡ find (λ mark. starts_with nat_eq bytes.now (mark_text mark)) marks.now }
+/// The longest mark of this byte and those behind it, or None where there is none.
+fn mark_from(first: u8, behind: &[u8]) -> Option<Mark>
+    ensures { result ≡ mark_of (first ∷ behind.now) }
 {
-    marks
-        .iter()
-        .copied()
-        .find(|mark| bytes.starts_with(mark.text()))
+    match first {
+        b'(' => Some(Mark::ParenLeft),
+        b')' => Some(Mark::ParenRight),
+        b'{' => Some(Mark::BraceLeft),
+        b'}' => Some(Mark::BraceRight),
+        b'[' => Some(Mark::BracketLeft),
+        b']' => Some(Mark::BracketRight),
+        b',' => Some(Mark::Comma),
+        b':' => Some(Mark::Colon),
+        b';' => Some(Mark::Semi),
+        b'.' => Some(Mark::Dot),
+        b'=' => {
+            let shorter = longer(behind, b"=", Mark::Same, Some(Mark::Assign));
+            longer(behind, b"=>", Mark::Imply, shorter)
+        }
+        b'!' => longer(behind, b"=", Mark::Differ, Some(Mark::Bang)),
+        b'<' => {
+            let shorter = longer(behind, b"=", Mark::AtMost, Some(Mark::Less));
+            longer(behind, b"==", Mark::CoImply, shorter)
+        }
+        b'>' => longer(behind, b"=", Mark::AtLeast, Some(Mark::More)),
+        b'+' => Some(Mark::Plus),
+        b'-' => longer(behind, b">", Mark::Arrow, Some(Mark::Minus)),
+        b'*' => Some(Mark::Star),
+        b'/' => Some(Mark::Slash),
+        b'&' => longer(behind, b"&", Mark::AndAnd, None),
+        b'|' => longer(behind, b"|", Mark::OrOr, None),
+        b'~' => Some(Mark::Tilde),
+        b'?' => Some(Mark::Question),
+        b'@' => Some(Mark::AtSign),
+        _ => None,
+    }
 }
 
 /// The longest mark at the front, or None where there is none.
@@ -128,6 +135,6 @@ pub(crate) fn mark_of(bytes: &[u8]) -> Option<Mark>
 {
     match bytes.split_first() {
         None => None,
-        Some((first, _)) => mark_among(marks_from(*first), bytes),
+        Some((first, behind)) => mark_from(*first, behind),
     }
 }

@@ -5,7 +5,7 @@ ghost use Rattle.std.proofs.Common.{rules};
 ghost use Rattle.std.specs.Cmp.Lexicographic.{pointwise};
 ghost use Rattle.std.specs.Cmp.Rules.{comparing, hashing};
 ghost use Rattle.std.specs.Hash as fed;
-ghost use Rattle.std.specs.Prelude.{◌≡◌, ◌≤◌, IfOk, List, length, nat_eq, ℕ};
+ghost use Rattle.std.specs.Prelude.{◌≡◌, ◌≤◌, IfOk, List, length, nat_eq, take, ℕ};
 
 use std::alloc::{AllocError, Global};
 use std::hash::{Hash, Hasher};
@@ -31,6 +31,19 @@ fn short_spelling(text: &[u8]) -> Spelling
     let mut kept = [0; IN_PLACE];
     kept[..text.len()].copy_from_slice(text);
     Spelling::Short(text.len() as u8, kept)
+}
+
+/// The spelling of the first n bytes, which fit in place. Where more bytes stand there, as many as the array has are
+/// kept, for these are moved at once.
+fn front_spelling(bytes: &[u8], n: usize) -> Spelling
+    requires inside { n ≤ length bytes.now }
+    requires short { n ≤ 22 }
+    ensures { spelled result ≡ take n bytes.now }
+{
+    match bytes.first_chunk::<IN_PLACE>() {
+        None => short_spelling(&bytes[..n]),
+        Some(kept) => Spelling::Short(n as u8, *kept),
+    }
 }
 
 /// The spelling of a text of any length.
@@ -89,6 +102,22 @@ impl Name {
         } else {
             Ok(Name {
                 spelling: long_spelling(alloc, bytes)?,
+            })
+        }
+    }
+
+    /// The name that the first n bytes spell.
+    pub(crate) fn of_front(alloc: Global, bytes: &[u8], n: usize) -> Result<Name, AllocError>
+        requires { n ≤ length bytes.now }
+        ensures { IfOk result (λ name. name ≡ take n bytes.now) }
+    {
+        if n <= IN_PLACE {
+            Ok(Name {
+                spelling: front_spelling(bytes, n),
+            })
+        } else {
+            Ok(Name {
+                spelling: long_spelling(alloc, &bytes[..n])?,
             })
         }
     }

@@ -4,13 +4,18 @@ use Rattle.heyvl_syntax.specs.Comments.{closes_at, opens_block, opens_line}
 use Rattle.heyvl_syntax.specs.Keys.{key_text}
 use Rattle.heyvl_syntax.specs.Literals.{is_too_large, literal}
 use Rattle.heyvl_syntax.specs.Marks.{mark_text}
-use Rattle.heyvl_syntax.specs.declared.fronts.Front.TheVariants as fronts
+use Rattle.heyvl_syntax.specs.internal.Found as fronts
+use Rattle.heyvl_syntax.specs.internal.Found.{Found}
+use Rattle.heyvl_syntax.specs.Tokens.{span_of}
+use Rattle.heyvl_syntax.specs.declared.fronts.Front.TheVariants as shapes
 use Rattle.heyvl_syntax.specs.declared.fronts.Front.{Front}
 use Rattle.heyvl_syntax.specs.declared.keys.Key.TheVariants as keys
 use Rattle.heyvl_syntax.specs.declared.keys.Key.{Key}
 use Rattle.heyvl_syntax.specs.declared.marks.Mark.TheVariants as marks
 use Rattle.heyvl_syntax.specs.declared.marks.Mark.{Mark}
+use Rattle.heyvl_syntax.specs.declared.tokens.Token.{Token}
 use Rattle.heyvl_syntax.specs.declared.tokens.TokenKind.TheVariants as kinds
+use Rattle.heyvl_syntax.specs.declared.tokens.TokenKind.{TokenKind}
 use Rattle.std.specs.Char.{is_ascii_digit}
 use Rattle.std.specs.Cmp.Lexicographic.{pointwise}
 use Rattle.std.specs.List.{find, position_or_len, prefix_len, starts_with}
@@ -58,12 +63,12 @@ close_from n (b ∷ bs) = cond (closes_at (b ∷ bs) 0) (Some n) (close_from (n 
 abbrev pub first_close : List ℕ → Option ℕ
 first_close bytes = close_from 0 bytes
 
-abbrev pub block_front : Option ℕ → Front
+abbrev pub block_front : Option ℕ → Found
 block_front None = fronts.Fault 2 2
 block_front (Some inner) = fronts.Blank (2 + inner + 2)
 
 -- A text of a letter, `_` or `\` with the letters, digits and `_` behind it; whether its first byte begins a word.
-abbrev pub word_front : Bool → List ℕ → Option Key → Front
+abbrev pub word_front : Bool → List ℕ → Option Key → Found
 word_front begins text (Some key) = fronts.Token (kinds.Key key) (length text)
 word_front true text None = fronts.Token (kinds.Word text) (length text)
 word_front false text None = fronts.Fault 1 1
@@ -85,11 +90,11 @@ number_len bytes =
 abbrev pub below_limit : ℕ → Option ℕ
 below_limit n = cond (nat_lt n (2 ^ 127)) (Some n) None
 
-abbrev pub number_front : List ℕ → Front
+abbrev pub number_front : List ℕ → Found
 number_front text =
     cond (is_too_large text) (fronts.Fault 3 (length text)) (fronts.Token (kinds.Number (literal text)) (length text))
 
-abbrev pub mark_front : Option Mark → Front
+abbrev pub mark_front : Option Mark → Found
 mark_front None = fronts.Fault 1 1
 mark_front (Some mark) = fronts.Token (kinds.Mark mark) (length (mark_text mark))
 
@@ -100,7 +105,19 @@ word_text (b ∷ bs) = take (suc (prefix_len is_word_byte bs)) (b ∷ bs)
 abbrev pub number_text : List ℕ → List ℕ
 number_text bytes = take (number_len bytes) bytes
 
-abbrev pub front_of : List ℕ → Front
+-- What stands at the front of bytes that `/` begins.
+abbrev pub slash_front : List ℕ → Found
+slash_front bytes =
+    cond (opens_line bytes) (fronts.Blank (position_or_len is_line_feed bytes))
+    (cond (opens_block bytes) (block_front (first_close (drop 2 bytes))) (mark_front (mark_of bytes)))
+
+-- The token at the front of bytes that this one begins.
+abbrev pub token_front : ℕ → List ℕ → Found
+token_front b bytes =
+    cond (is_letter b || b == 92) (word_front (is_letter b) (word_text bytes) (key_of (word_text bytes)))
+    (cond (is_ascii_digit b) (number_front (number_text bytes)) (mark_front (mark_of bytes)))
+
+abbrev pub front_of : List ℕ → Found
 front_of [] = fronts.End
 front_of (b ∷ bs) =
     cond (is_white b) (fronts.Blank 1)
@@ -109,9 +126,39 @@ front_of (b ∷ bs) =
     (cond (is_letter b || b == 92) (word_front (is_letter b) (word_text (b ∷ bs)) (key_of (word_text (b ∷ bs))))
     (cond (is_ascii_digit b) (number_front (number_text (b ∷ bs))) (mark_front (mark_of (b ∷ bs)))))))
 
+-- What stands at the front of these bytes, by its kind and length.
+abbrev pub found_of : List ℕ → Front → Found
+found_of bytes shapes.End = fronts.End
+found_of bytes (shapes.Blank n) = fronts.Blank n
+found_of bytes (shapes.Word n) = fronts.Token (kinds.Word (take n bytes)) (length (take n bytes))
+found_of bytes (shapes.Number n) = number_front (take n bytes)
+found_of bytes (shapes.Key key n) = fronts.Token (kinds.Key key) n
+found_of bytes (shapes.Mark mark n) = fronts.Token (kinds.Mark mark) n
+found_of bytes (shapes.Fault number n) = fronts.Fault number n
+
 -- The front has at least one and at most this many bytes.
-abbrev pub IsInside : ℕ → Front → Type 0
+abbrev pub IsInside : ℕ → Found → Type 0
 IsInside len fronts.End = Unit {0}
 IsInside len (fronts.Blank n) = (0 < n) × (n ≤ len)
 IsInside len (fronts.Token kind n) = (0 < n) × (n ≤ len)
 IsInside len (fronts.Fault number n) = (0 < n) × (n ≤ len)
+
+-- The token of this kind that the n bytes from a place on are.
+abbrev pub token_of : TokenKind → ℕ → ℕ → Token
+token_of kind place n = record { kind = kind; span = span_of place n }
+
+-- A front of bytes of this length, whose text is among them.
+abbrev pub IsWithin : ℕ → Front → Type 0
+IsWithin len (shapes.Word n) = n ≤ len
+IsWithin len (shapes.Number n) = n ≤ len
+IsWithin len front = Unit {0}
+
+-- The front has at least one and at most this many bytes.
+abbrev pub FitsIn : ℕ → Front → Type 0
+FitsIn len shapes.End = Unit {0}
+FitsIn len (shapes.Blank n) = (0 < n) × (n ≤ len)
+FitsIn len (shapes.Word n) = (0 < n) × (n ≤ len)
+FitsIn len (shapes.Number n) = (0 < n) × (n ≤ len)
+FitsIn len (shapes.Key key n) = (0 < n) × (n ≤ len)
+FitsIn len (shapes.Mark mark n) = (0 < n) × (n ≤ len)
+FitsIn len (shapes.Fault number n) = (0 < n) × (n ≤ len)
