@@ -1,6 +1,7 @@
 pub mod Dependence
 pub mod FreshNumbers
 pub mod RenamedValues
+pub mod SameRenaming
 pub mod SubstitutionValues
 pub mod SubstitutionSteps
 pub mod Mirrors

@@ -58,28 +58,21 @@ impl Form {
         match self {
             Form::Const(_) => 1,
             Form::Var(x) => if var == *x { form } else { 1 },
-            Form::Sum(a, b) => above(both(a.counted(var, form, cond), b.counted(var, form, cond))),
-            Form::Diff(a, b) => above(both(a.counted(var, form, cond), b.counted(var, form, cond))),
-            Form::Cut(a, b) => above(both(a.counted(var, form, cond), b.counted(var, form, cond))),
-            Form::Scale(_, a) => above(a.counted(var, form, cond)),
-            Form::Product(a, b, _) => above(both(
+            Form::Sum(a, b)
+            | Form::Diff(a, b)
+            | Form::Cut(a, b)
+            | Form::Product(a, b, _)
+            | Form::Min(a, b)
+            | Form::Max(a, b)
+            | Form::Imply(a, b)
+            | Form::CoImply(a, b) => above(both(
                 a.counted(var, form, cond),
                 b.counted(var, form, cond),
             )),
-            Form::Min(a, b) => above(both(a.counted(var, form, cond), b.counted(var, form, cond))),
-            Form::Max(a, b) => above(both(a.counted(var, form, cond), b.counted(var, form, cond))),
-            Form::Imply(a, b) => above(both(
-                a.counted(var, form, cond),
-                b.counted(var, form, cond),
+            Form::Scale(_, a) | Form::Validate(a) | Form::CoValidate(a) => above(a.counted(
+                var, form, cond,
             )),
-            Form::CoImply(a, b) => above(both(
-                a.counted(var, form, cond),
-                b.counted(var, form, cond),
-            )),
-            Form::Validate(a) => above(a.counted(var, form, cond)),
-            Form::CoValidate(a) => above(a.counted(var, form, cond)),
-            Form::Embed(g) => above(g.counted(var, form, cond)),
-            Form::Iverson(g) => above(g.counted(var, form, cond)),
+            Form::Embed(g) | Form::Iverson(g) => above(g.counted(var, form, cond)),
             Form::Select(g, a, b) => above(both(
                 g.counted(var, form, cond),
                 both(a.counted(var, form, cond), b.counted(var, form, cond)),
@@ -90,7 +83,7 @@ impl Form {
                 } else {
                     a.counted(var, form, cond)
                 })
-            }
+            },
         }
     }
 }
@@ -107,12 +100,11 @@ impl Cond {
             Cond::Const(_) => 1,
             Cond::Var(x) => if var == *x { cond } else { 1 },
             Cond::Not(g) => above(g.counted(var, form, cond)),
-            Cond::And(g, h) => above(both(g.counted(var, form, cond), h.counted(var, form, cond))),
-            Cond::Or(g, h) => above(both(g.counted(var, form, cond), h.counted(var, form, cond))),
-            Cond::Same(g, h) => above(both(g.counted(var, form, cond), h.counted(var, form, cond))),
-            Cond::Le(a, b) => above(both(a.counted(var, form, cond), b.counted(var, form, cond))),
-            Cond::Lt(a, b) => above(both(a.counted(var, form, cond), b.counted(var, form, cond))),
-            Cond::EqNum(a, b) => above(both(
+            Cond::And(g, h) | Cond::Or(g, h) | Cond::Same(g, h) => above(both(
+                g.counted(var, form, cond),
+                h.counted(var, form, cond),
+            )),
+            Cond::Le(a, b) | Cond::Lt(a, b) | Cond::EqNum(a, b) => above(both(
                 a.counted(var, form, cond),
                 b.counted(var, form, cond),
             )),

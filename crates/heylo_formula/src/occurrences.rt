@@ -16,19 +16,16 @@ impl Form {
         match self {
             Form::Const(_) => false,
             Form::Var(y) => var == *y,
-            Form::Sum(a, b) => a.free(var) || b.free(var),
-            Form::Diff(a, b) => a.free(var) || b.free(var),
-            Form::Cut(a, b) => a.free(var) || b.free(var),
-            Form::Scale(_, a) => a.free(var),
-            Form::Product(a, b, _) => a.free(var) || b.free(var),
-            Form::Min(a, b) => a.free(var) || b.free(var),
-            Form::Max(a, b) => a.free(var) || b.free(var),
-            Form::Imply(a, b) => a.free(var) || b.free(var),
-            Form::CoImply(a, b) => a.free(var) || b.free(var),
-            Form::Validate(a) => a.free(var),
-            Form::CoValidate(a) => a.free(var),
-            Form::Embed(g) => g.free(var),
-            Form::Iverson(g) => g.free(var),
+            Form::Sum(a, b)
+            | Form::Diff(a, b)
+            | Form::Cut(a, b)
+            | Form::Product(a, b, _)
+            | Form::Min(a, b)
+            | Form::Max(a, b)
+            | Form::Imply(a, b)
+            | Form::CoImply(a, b) => a.free(var) || b.free(var),
+            Form::Scale(_, a) | Form::Validate(a) | Form::CoValidate(a) => a.free(var),
+            Form::Embed(g) | Form::Iverson(g) => g.free(var),
             Form::Select(g, a, b) => g.free(var) || (a.free(var) || b.free(var)),
             Form::Bind(_, y, _, _, a) => if var == *y { false } else { a.free(var) },
         }
@@ -45,12 +42,8 @@ impl Cond {
             Cond::Const(_) => false,
             Cond::Var(y) => var == *y,
             Cond::Not(g) => g.free(var),
-            Cond::And(g, h) => g.free(var) || h.free(var),
-            Cond::Or(g, h) => g.free(var) || h.free(var),
-            Cond::Same(g, h) => g.free(var) || h.free(var),
-            Cond::Le(a, b) => a.free(var) || b.free(var),
-            Cond::Lt(a, b) => a.free(var) || b.free(var),
-            Cond::EqNum(a, b) => a.free(var) || b.free(var),
+            Cond::And(g, h) | Cond::Or(g, h) | Cond::Same(g, h) => g.free(var) || h.free(var),
+            Cond::Le(a, b) | Cond::Lt(a, b) | Cond::EqNum(a, b) => a.free(var) || b.free(var),
             Cond::Ite(g, h, k) => g.free(var) || (h.free(var) || k.free(var)),
         }
     }
@@ -65,19 +58,16 @@ impl Form {
         match self {
             Form::Const(_) => false,
             Form::Var(y) => var == *y,
-            Form::Sum(a, b) => a.occurs(var) || b.occurs(var),
-            Form::Diff(a, b) => a.occurs(var) || b.occurs(var),
-            Form::Cut(a, b) => a.occurs(var) || b.occurs(var),
-            Form::Scale(_, a) => a.occurs(var),
-            Form::Product(a, b, _) => a.occurs(var) || b.occurs(var),
-            Form::Min(a, b) => a.occurs(var) || b.occurs(var),
-            Form::Max(a, b) => a.occurs(var) || b.occurs(var),
-            Form::Imply(a, b) => a.occurs(var) || b.occurs(var),
-            Form::CoImply(a, b) => a.occurs(var) || b.occurs(var),
-            Form::Validate(a) => a.occurs(var),
-            Form::CoValidate(a) => a.occurs(var),
-            Form::Embed(g) => g.occurs(var),
-            Form::Iverson(g) => g.occurs(var),
+            Form::Sum(a, b)
+            | Form::Diff(a, b)
+            | Form::Cut(a, b)
+            | Form::Product(a, b, _)
+            | Form::Min(a, b)
+            | Form::Max(a, b)
+            | Form::Imply(a, b)
+            | Form::CoImply(a, b) => a.occurs(var) || b.occurs(var),
+            Form::Scale(_, a) | Form::Validate(a) | Form::CoValidate(a) => a.occurs(var),
+            Form::Embed(g) | Form::Iverson(g) => g.occurs(var),
             Form::Select(g, a, b) => g.occurs(var) || (a.occurs(var) || b.occurs(var)),
             Form::Bind(_, y, _, _, a) => var == *y || a.occurs(var),
         }
@@ -94,12 +84,8 @@ impl Cond {
             Cond::Const(_) => false,
             Cond::Var(y) => var == *y,
             Cond::Not(g) => g.occurs(var),
-            Cond::And(g, h) => g.occurs(var) || h.occurs(var),
-            Cond::Or(g, h) => g.occurs(var) || h.occurs(var),
-            Cond::Same(g, h) => g.occurs(var) || h.occurs(var),
-            Cond::Le(a, b) => a.occurs(var) || b.occurs(var),
-            Cond::Lt(a, b) => a.occurs(var) || b.occurs(var),
-            Cond::EqNum(a, b) => a.occurs(var) || b.occurs(var),
+            Cond::And(g, h) | Cond::Or(g, h) | Cond::Same(g, h) => g.occurs(var) || h.occurs(var),
+            Cond::Le(a, b) | Cond::Lt(a, b) | Cond::EqNum(a, b) => a.occurs(var) || b.occurs(var),
             Cond::Ite(g, h, k) => g.occurs(var) || (h.occurs(var) || k.occurs(var)),
         }
     }

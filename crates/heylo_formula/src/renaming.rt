@@ -1,6 +1,6 @@
 //! Renaming of variables. Boxes are made in calls of their own, so that each level of a deep tree takes little stack.
 
-ghost use Rattle.std.specs.Prelude.{◌≡◌, false, IfOk};
+ghost use Rattle.std.specs.Prelude.{◌≡◌, ◌==◌, false, IfOk, if◌then◌else◌};
 ghost use Rattle.heylo_formula.specs.PlainTrees.{form_of, cond_of};
 ghost use Rattle.heylo_formula.specs.Variables.{occurs, occurs_in};
 ghost use Rattle.heylo_formula.specs.Substitution.{renamed, renamed_in};
@@ -59,14 +59,13 @@ impl Form {
                 let (left, right) = Form::rename_both(alloc, a, b, from, to)?;
                 Ok(Form::Select(test, left, right))
             }
-            Form::Bind(up, y, name, ty, a) => {
-                let body = if from == *y {
-                    a.copy_boxed(alloc)?
-                } else {
-                    a.rename_boxed(alloc, from, to)?
-                };
-                Ok(Form::Bind(*up, *y, *name, *ty, body))
-            }
+            Form::Bind(up, y, name, ty, a) => Ok(Form::Bind(
+                *up,
+                *y,
+                *name,
+                *ty,
+                a.rename_boxed(alloc, under(*y, from, to), to)?,
+            )),
         }
     }
 
@@ -167,4 +166,12 @@ impl Cond {
         let first = left.rename_boxed(alloc, from, to)?;
         Ok((first, right.rename_boxed(alloc, from, to)?))
     }
+}
+
+/// The variable that is renamed in the body of a binder: where the binder binds it, it isn't free there, and another is renamed
+/// to itself.
+fn under(bound: u32, from: u32, to: u32) -> u32
+    ensures { result ≡ (if from == bound then to else from) }
+{
+    if from == bound { to } else { from }
 }

@@ -16,23 +16,21 @@ impl Form {
         ensures { result ≡ min (2 ^ 63) (nodes (form_of self.now)) }
     {
         match self {
-            Form::Const(_) => 1,
-            Form::Var(_) => 1,
-            Form::Sum(a, b) => above(both(a.nodes(), b.nodes())),
-            Form::Diff(a, b) => above(both(a.nodes(), b.nodes())),
-            Form::Cut(a, b) => above(both(a.nodes(), b.nodes())),
-            Form::Scale(_, a) => above(a.nodes()),
-            Form::Product(a, b, _) => above(both(a.nodes(), b.nodes())),
-            Form::Min(a, b) => above(both(a.nodes(), b.nodes())),
-            Form::Max(a, b) => above(both(a.nodes(), b.nodes())),
-            Form::Imply(a, b) => above(both(a.nodes(), b.nodes())),
-            Form::CoImply(a, b) => above(both(a.nodes(), b.nodes())),
-            Form::Validate(a) => above(a.nodes()),
-            Form::CoValidate(a) => above(a.nodes()),
-            Form::Embed(g) => above(g.nodes()),
-            Form::Iverson(g) => above(g.nodes()),
+            Form::Const(_) | Form::Var(_) => 1,
+            Form::Sum(a, b)
+            | Form::Diff(a, b)
+            | Form::Cut(a, b)
+            | Form::Product(a, b, _)
+            | Form::Min(a, b)
+            | Form::Max(a, b)
+            | Form::Imply(a, b)
+            | Form::CoImply(a, b) => above(both(a.nodes(), b.nodes())),
+            Form::Scale(_, a)
+            | Form::Validate(a)
+            | Form::CoValidate(a)
+            | Form::Bind(_, _, _, _, a) => above(a.nodes()),
+            Form::Embed(g) | Form::Iverson(g) => above(g.nodes()),
             Form::Select(g, a, b) => above(both(g.nodes(), both(a.nodes(), b.nodes()))),
-            Form::Bind(_, _, _, _, a) => above(a.nodes()),
         }
     }
 }
@@ -44,15 +42,16 @@ impl Cond {
         ensures { result ≡ min (2 ^ 63) (nodes_in (cond_of self.now)) }
     {
         match self {
-            Cond::Const(_) => 1,
-            Cond::Var(_) => 1,
+            Cond::Const(_) | Cond::Var(_) => 1,
             Cond::Not(g) => above(g.nodes()),
-            Cond::And(g, h) => above(both(g.nodes(), h.nodes())),
-            Cond::Or(g, h) => above(both(g.nodes(), h.nodes())),
-            Cond::Same(g, h) => above(both(g.nodes(), h.nodes())),
-            Cond::Le(a, b) => above(both(a.nodes(), b.nodes())),
-            Cond::Lt(a, b) => above(both(a.nodes(), b.nodes())),
-            Cond::EqNum(a, b) => above(both(a.nodes(), b.nodes())),
+            Cond::And(g, h) | Cond::Or(g, h) | Cond::Same(g, h) => above(both(
+                g.nodes(),
+                h.nodes(),
+            )),
+            Cond::Le(a, b) | Cond::Lt(a, b) | Cond::EqNum(a, b) => above(both(
+                a.nodes(),
+                b.nodes(),
+            )),
             Cond::Ite(g, h, k) => above(both(g.nodes(), both(h.nodes(), k.nodes()))),
         }
     }
@@ -65,23 +64,21 @@ impl Form {
         ensures { result ≡ min (2 ^ 63) (depth (form_of self.now)) }
     {
         match self {
-            Form::Const(_) => 1,
-            Form::Var(_) => 1,
-            Form::Sum(a, b) => above(a.depth().max(b.depth())),
-            Form::Diff(a, b) => above(a.depth().max(b.depth())),
-            Form::Cut(a, b) => above(a.depth().max(b.depth())),
-            Form::Scale(_, a) => above(a.depth()),
-            Form::Product(a, b, _) => above(a.depth().max(b.depth())),
-            Form::Min(a, b) => above(a.depth().max(b.depth())),
-            Form::Max(a, b) => above(a.depth().max(b.depth())),
-            Form::Imply(a, b) => above(a.depth().max(b.depth())),
-            Form::CoImply(a, b) => above(a.depth().max(b.depth())),
-            Form::Validate(a) => above(a.depth()),
-            Form::CoValidate(a) => above(a.depth()),
-            Form::Embed(g) => above(g.depth()),
-            Form::Iverson(g) => above(g.depth()),
+            Form::Const(_) | Form::Var(_) => 1,
+            Form::Sum(a, b)
+            | Form::Diff(a, b)
+            | Form::Cut(a, b)
+            | Form::Product(a, b, _)
+            | Form::Min(a, b)
+            | Form::Max(a, b)
+            | Form::Imply(a, b)
+            | Form::CoImply(a, b) => above(a.depth().max(b.depth())),
+            Form::Scale(_, a)
+            | Form::Validate(a)
+            | Form::CoValidate(a)
+            | Form::Bind(_, _, _, _, a) => above(a.depth()),
+            Form::Embed(g) | Form::Iverson(g) => above(g.depth()),
             Form::Select(g, a, b) => above(g.depth().max(a.depth().max(b.depth()))),
-            Form::Bind(_, _, _, _, a) => above(a.depth()),
         }
     }
 }
@@ -93,15 +90,10 @@ impl Cond {
         ensures { result ≡ min (2 ^ 63) (depth_in (cond_of self.now)) }
     {
         match self {
-            Cond::Const(_) => 1,
-            Cond::Var(_) => 1,
+            Cond::Const(_) | Cond::Var(_) => 1,
             Cond::Not(g) => above(g.depth()),
-            Cond::And(g, h) => above(g.depth().max(h.depth())),
-            Cond::Or(g, h) => above(g.depth().max(h.depth())),
-            Cond::Same(g, h) => above(g.depth().max(h.depth())),
-            Cond::Le(a, b) => above(a.depth().max(b.depth())),
-            Cond::Lt(a, b) => above(a.depth().max(b.depth())),
-            Cond::EqNum(a, b) => above(a.depth().max(b.depth())),
+            Cond::And(g, h) | Cond::Or(g, h) | Cond::Same(g, h) => above(g.depth().max(h.depth())),
+            Cond::Le(a, b) | Cond::Lt(a, b) | Cond::EqNum(a, b) => above(a.depth().max(b.depth())),
             Cond::Ite(g, h, k) => above(g.depth().max(h.depth().max(k.depth()))),
         }
     }

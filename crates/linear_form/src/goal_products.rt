@@ -20,23 +20,19 @@ fn has_variable(form: &Form) -> bool
     ensures { result ≡ form_has_variable (form_of form.now) }
 {
     match form {
-        Form::Const(_) => false,
+        Form::Const(_) | Form::Embed(_) | Form::Iverson(_) => false,
         Form::Var(_) => true,
-        Form::Sum(a, b) => has_variable(a) || has_variable(b),
-        Form::Diff(a, b) => has_variable(a) || has_variable(b),
-        Form::Cut(a, b) => has_variable(a) || has_variable(b),
-        Form::Scale(_, a) => has_variable(a),
-        Form::Product(a, b, _) => has_variable(a) || has_variable(b),
-        Form::Min(a, b) => has_variable(a) || has_variable(b),
-        Form::Max(a, b) => has_variable(a) || has_variable(b),
-        Form::Imply(a, b) => has_variable(a) || has_variable(b),
-        Form::CoImply(a, b) => has_variable(a) || has_variable(b),
-        Form::Validate(a) => has_variable(a),
-        Form::CoValidate(a) => has_variable(a),
-        Form::Embed(_) => false,
-        Form::Iverson(_) => false,
-        Form::Select(_, a, b) => has_variable(a) || has_variable(b),
-        Form::Bind(_, _, _, _, a) => has_variable(a),
+        Form::Sum(a, b)
+        | Form::Diff(a, b)
+        | Form::Cut(a, b)
+        | Form::Product(a, b, _)
+        | Form::Min(a, b)
+        | Form::Max(a, b)
+        | Form::Imply(a, b)
+        | Form::CoImply(a, b)
+        | Form::Select(_, a, b) => has_variable(a) || has_variable(b),
+        Form::Scale(_, a) | Form::Validate(a) | Form::CoValidate(a) | Form::Bind(_, _, _, _, a) =>
+            has_variable(a),
     }
 }
 
@@ -55,23 +51,19 @@ fn in_form(form: &Form) -> Option<Span>
     ensures { result ≡ first_product (form_of form.now) }
 {
     match form {
-        Form::Const(_) => None,
-        Form::Var(_) => None,
-        Form::Sum(a, b) => in_form(a).or(in_form(b)),
-        Form::Diff(a, b) => in_form(a).or(in_form(b)),
-        Form::Cut(a, b) => in_form(a).or(in_form(b)),
-        Form::Scale(_, a) => in_form(a),
+        Form::Const(_) | Form::Var(_) => None,
+        Form::Sum(a, b)
+        | Form::Diff(a, b)
+        | Form::Cut(a, b)
+        | Form::Min(a, b)
+        | Form::Max(a, b)
+        | Form::Imply(a, b)
+        | Form::CoImply(a, b) => in_form(a).or(in_form(b)),
+        Form::Scale(_, a) | Form::Validate(a) | Form::CoValidate(a) | Form::Bind(_, _, _, _, a) =>
+            in_form(a),
         Form::Product(a, b, span) => in_form(a).or(here(a, b, *span).or(in_form(b))),
-        Form::Min(a, b) => in_form(a).or(in_form(b)),
-        Form::Max(a, b) => in_form(a).or(in_form(b)),
-        Form::Imply(a, b) => in_form(a).or(in_form(b)),
-        Form::CoImply(a, b) => in_form(a).or(in_form(b)),
-        Form::Validate(a) => in_form(a),
-        Form::CoValidate(a) => in_form(a),
-        Form::Embed(g) => in_cond(g),
-        Form::Iverson(g) => in_cond(g),
+        Form::Embed(g) | Form::Iverson(g) => in_cond(g),
         Form::Select(g, a, b) => in_cond(g).or(in_form(a).or(in_form(b))),
-        Form::Bind(_, _, _, _, a) => in_form(a),
     }
 }
 
@@ -80,15 +72,10 @@ fn in_cond(cond: &Cond) -> Option<Span>
     ensures { result ≡ first_product_in (cond_of cond.now) }
 {
     match cond {
-        Cond::Const(_) => None,
-        Cond::Var(_) => None,
+        Cond::Const(_) | Cond::Var(_) => None,
         Cond::Not(g) => in_cond(g),
-        Cond::And(g, h) => in_cond(g).or(in_cond(h)),
-        Cond::Or(g, h) => in_cond(g).or(in_cond(h)),
-        Cond::Same(g, h) => in_cond(g).or(in_cond(h)),
-        Cond::Le(a, b) => in_form(a).or(in_form(b)),
-        Cond::Lt(a, b) => in_form(a).or(in_form(b)),
-        Cond::EqNum(a, b) => in_form(a).or(in_form(b)),
+        Cond::And(g, h) | Cond::Or(g, h) | Cond::Same(g, h) => in_cond(g).or(in_cond(h)),
+        Cond::Le(a, b) | Cond::Lt(a, b) | Cond::EqNum(a, b) => in_form(a).or(in_form(b)),
         Cond::Ite(g, h, k) => in_cond(g).or(in_cond(h).or(in_cond(k))),
     }
 }

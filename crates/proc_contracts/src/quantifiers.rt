@@ -12,21 +12,17 @@ pub(crate) fn has_binder(form: &Form) -> bool
     ensures { result ≡ has_binder (form_of form.now) }
 {
     match form {
-        Form::Const(_) => false,
-        Form::Var(_) => false,
-        Form::Sum(a, b) => has_binder(a) || has_binder(b),
-        Form::Diff(a, b) => has_binder(a) || has_binder(b),
-        Form::Cut(a, b) => has_binder(a) || has_binder(b),
-        Form::Scale(_, a) => has_binder(a),
-        Form::Product(a, b, _) => has_binder(a) || has_binder(b),
-        Form::Min(a, b) => has_binder(a) || has_binder(b),
-        Form::Max(a, b) => has_binder(a) || has_binder(b),
-        Form::Imply(a, b) => has_binder(a) || has_binder(b),
-        Form::CoImply(a, b) => has_binder(a) || has_binder(b),
-        Form::Validate(a) => has_binder(a),
-        Form::CoValidate(a) => has_binder(a),
-        Form::Embed(g) => has_binder_in(g),
-        Form::Iverson(g) => has_binder_in(g),
+        Form::Const(_) | Form::Var(_) => false,
+        Form::Sum(a, b)
+        | Form::Diff(a, b)
+        | Form::Cut(a, b)
+        | Form::Product(a, b, _)
+        | Form::Min(a, b)
+        | Form::Max(a, b)
+        | Form::Imply(a, b)
+        | Form::CoImply(a, b) => has_binder(a) || has_binder(b),
+        Form::Scale(_, a) | Form::Validate(a) | Form::CoValidate(a) => has_binder(a),
+        Form::Embed(g) | Form::Iverson(g) => has_binder_in(g),
         Form::Select(g, a, b) => has_binder_in(g) || (has_binder(a) || has_binder(b)),
         Form::Bind(_, _, _, _, _) => true,
     }
@@ -38,15 +34,10 @@ fn has_binder_in(cond: &Cond) -> bool
     ensures { result ≡ has_binder_in (cond_of cond.now) }
 {
     match cond {
-        Cond::Const(_) => false,
-        Cond::Var(_) => false,
+        Cond::Const(_) | Cond::Var(_) => false,
         Cond::Not(g) => has_binder_in(g),
-        Cond::And(g, h) => has_binder_in(g) || has_binder_in(h),
-        Cond::Or(g, h) => has_binder_in(g) || has_binder_in(h),
-        Cond::Same(g, h) => has_binder_in(g) || has_binder_in(h),
-        Cond::Le(a, b) => has_binder(a) || has_binder(b),
-        Cond::Lt(a, b) => has_binder(a) || has_binder(b),
-        Cond::EqNum(a, b) => has_binder(a) || has_binder(b),
+        Cond::And(g, h) | Cond::Or(g, h) | Cond::Same(g, h) => has_binder_in(g) || has_binder_in(h),
+        Cond::Le(a, b) | Cond::Lt(a, b) | Cond::EqNum(a, b) => has_binder(a) || has_binder(b),
         Cond::Ite(g, h, k) => has_binder_in(g) || (has_binder_in(h) || has_binder_in(k)),
     }
 }
