@@ -1,5 +1,5 @@
 -- The loop over items, for every kind of item.
-use Rattle.heyvl_parse.specs.internal.Combinators.{cons, each, starts, with_front}
+use Rattle.heyvl_parse.specs.internal.Combinators.{added, cons, each, starts, with_front}
 use Rattle.heyvl_parse.specs.internal.Reading.{Bad, Got, Out, Read}
 use Rattle.heyvl_parse.specs.internal.Results.{Fails}
 use Rattle.heyvl_parse.specs.declared.stops.PartStop.TheVariants.{Fault, Memory}
@@ -33,6 +33,17 @@ pub loop_more : {A : Type 0} (test : TokenKind → Bool) (f : List Token → Rea
 loop_more test f all ts r before x (zero, lt, same) on e short = absurd (omega arith)
 loop_more test f all ts r before x (suc k, lt, same) on e short = (k, omega arith, same ∙ rw (on, e) (front_front before (x ∷ []) (each test f k r)))
 
+pub loop_added : {A : Type 0} (test : TokenKind → Bool) (f : List Token → Read A) (all : Read (List A)) (ts r : List Token) (before after : List A) → Rest test f all before ts → starts test ts ≡ true → added before (f ts) ≡ Got after r → length r < length ts → Rest test f all after r
+loop_added {A} test f all ts r before after rest on e short = go (f ts) refl e
+  where
+    go : (found : Read A) → f ts ≡ found → added before found ≡ Got after r → Rest test f all after r
+    go (Got x r') is same =
+        let items : before ++ (x ∷ []) ≡ after = cc in
+        let left : r' ≡ r = cc in
+        rw (← items) (loop_more test f all ts r before x rest on (rw left at is) short)
+    go (Bad r') is same = absurd (cc)
+    go Out is same = absurd (cc)
+
 pub loop_done : {A : Type 0} (test : TokenKind → Bool) (f : List Token → Read A) (all : Read (List A)) (ts : List Token) (before : List A) → Rest test f all before ts → starts test ts ≡ false → all ≡ Got before ts
 loop_done test f all ts before (zero, lt, same) off = absurd (omega arith)
 loop_done test f all ts before (suc k, lt, same) off = same ∙ rw (off, append-nil before) refl
@@ -41,3 +52,9 @@ pub loop_fails : {A : Type 0} (test : TokenKind → Bool) (f : List Token → Re
 loop_fails test f all (Memory error) ts before rest on fails = tt
 loop_fails test f all (Fault left) ts before (zero, lt, same) on fails = absurd (omega arith)
 loop_fails test f all (Fault left) ts before (suc k, lt, same) on (r, bad, len) = (r, same ∙ rw (on, bad) refl, len)
+
+pub added_fails : {A : Type 0} (e : PartStop) (before : List A) (found : Read A) → Fails e (added before found) → Fails e found
+added_fails (Memory error) before found f = tt
+added_fails (Fault left) before (Got x r) (rest, same, len) = absurd (cc)
+added_fails (Fault left) before (Bad r) (rest, same, len) = let left : r ≡ rest = cc in (rest, ap Bad left, len)
+added_fails (Fault left) before Out (rest, same, len) = absurd (cc)

@@ -12,6 +12,7 @@ mod Fuel
 mod KeyLaws
 mod Keys
 mod Lawful
+mod LeafLaws
 mod Local
 mod ParseClauses
 mod PlacedLaws

@@ -1,6 +1,7 @@
 pub mod Combinators
 pub mod Counting
 pub mod FileReading
+pub mod Leaves
 pub mod Loops
 pub mod Procedures
 pub mod Reading

@@ -6,6 +6,7 @@ ghost use Rattle.heyvl_syntax.specs.declared.tokens.Token.{Token};
 ghost use Rattle.heyvl_syntax.specs.Expressions.{Expression, expression};
 ghost use Rattle.std.specs.Prelude.{IfOk, List, length, ◌<◌, ◌≡◌, ◌≤◌, ◌+◌, ℕ};
 
+use crate::leaves::{is_alone, leaf};
 use crate::operators::{next_level, operator_within, ranks};
 use crate::starts::{Start, key_start, mark_start, quantifier_at};
 use crate::stops::PartStop;
@@ -46,11 +47,14 @@ fn end_of(expr: &Expr) -> u32
 }
 
 /// The expression at the front, and the tokens behind it.
-#[inline(always)]
+#[inline(never)]
 pub(crate) fn whole(alloc: Global, tokens: &[Token]) -> Result<(Expr, &[Token]), PartStop>
     ensures value { (n : ℕ) → length tokens.now < n → Gives (λ x. expression x.0) (λ x. x.1.now) result (reading n Whole tokens.now) }
     ensures shorter { IfOk result (λ x. length x.1.now < length tokens.now) }
 {
+    if is_alone(tokens) {
+        return leaf(alloc, tokens);
+    }
     let (found, rest) = boxed(alloc, tokens)?;
     Ok((Box::into_inner(found), rest))
 }

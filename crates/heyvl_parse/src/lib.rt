@@ -7,6 +7,7 @@ mod effects;
 mod expressions;
 mod file_reader;
 mod laws;
+mod leaves;
 mod limits;
 mod lists;
 mod loops;

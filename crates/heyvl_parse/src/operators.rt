@@ -59,7 +59,7 @@ pub(crate) fn next_level(op: BinaryOp) -> u8
 }
 
 /// The operator that a token is.
-fn operator_of(kind: &TokenKind) -> Option<BinaryOp>
+pub(crate) fn operator_of(kind: &TokenKind) -> Option<BinaryOp>
     ensures { result ≡ operator_of kind.now }
 {
     match kind {

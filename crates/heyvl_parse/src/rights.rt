@@ -212,6 +212,7 @@ fn no_call(alloc: Global, tokens: &[Token]) -> Result<(Right, &[Token]), PartSto
 }
 
 /// A right side. A word that `(` follows is a call.
+#[inline(never)]
 pub(crate) fn right(alloc: Global, tokens: &[Token]) -> Result<(Right, &[Token]), PartStop>
     ensures value { (n : ℕ) → length tokens.now < n → Gives (λ x. right_side x.0) (λ x. x.1.now) result (right n tokens.now) }
     ensures shorter { IfOk result (λ x. length x.1.now < length tokens.now) }

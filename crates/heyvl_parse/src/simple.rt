@@ -1,14 +1,17 @@
-//! The parser of the statements that hold no block.
+//! The parser of the statements that hold no block. Each is put behind those before it: room is made first, and the statement is built
+//! in its place.
 
-ghost use Rattle.heyvl_parse.specs.internal.Combinators.{kind, list, optional, sign, spanned, starts};
-ghost use Rattle.heyvl_parse.specs.internal.Reading.{is_mark, pair, word};
+ghost use Rattle.heyvl_parse.specs.internal.Combinators.{added, kind, optional, sign, spanned, starts};
+ghost use Rattle.heyvl_parse.specs.internal.Reading.{is_mark, mapped};
 ghost use Rattle.heyvl_parse.specs.internal.Results.{Gives};
-ghost use Rattle.heyvl_parse.specs.internal.Statements.{assign_tree, assigned, by_key, check_tree, checked, declared, given, havoc_tree, havocked, is_pick, is_reward, key_check, key_havoc, key_pick, key_validate, rewarded, var_tree};
+ghost use Rattle.heyvl_parse.specs.internal.Rights.{call, right};
+ghost use Rattle.heyvl_parse.specs.internal.Statements.{alone, assign_tree, assigned, by_key, check_tree, checked, declared, given, havoc_tree, havocked, is_pick, is_reward, key_check, key_havoc, key_pick, key_validate, rewarded, valued, var_tree};
 ghost use Rattle.heyvl_syntax.specs.Statements.{Statement, optional_right, right_side, statement};
 ghost use Rattle.heyvl_syntax.specs.declared.marks.Mark.TheVariants as marks;
-ghost use Rattle.std.specs.Prelude.{IfOk, length, ◌<◌, ◌≡◌, ◌≤◌, ℕ};
+ghost use Rattle.std.specs.Prelude.{IfOk, length, map, ◌<◌, ◌≡◌, ◌≤◌, ℕ};
 
 use crate::expressions::whole;
+use crate::leaves::{is_alone, leaf};
 use crate::lists::names;
 use crate::places::span_between;
 use crate::rights::{call, is_call, right};
@@ -160,94 +163,150 @@ fn value(alloc: Global, tokens: &[Token]) -> Result<(Option<Right>, &[Token]), P
     Ok((None, tokens))
 }
 
-/// A `var` statement.
+/// Puts a `var` statement behind the others, and gives the tokens behind it.
 #[inline(never)]
-pub(crate) fn var(alloc: Global, tokens: &[Token]) -> Result<(Stmt, &[Token]), PartStop>
-    ensures value { (n : ℕ) → length tokens.now < n → Gives (λ x. statement x.0) (λ x. x.1.now) result (spanned var_tree (declared n) tokens.now) }
-    ensures shorter { IfOk result (λ x. length x.1.now < length tokens.now) }
+pub(crate) fn var<'a>(
+    alloc: Global,
+    found: &mut Vec<Stmt>,
+    tokens: &'a [Token],
+) -> Result<&'a [Token], PartStop>
+    ensures value { (n : ℕ) → length tokens.now < n → Gives (λ _. map statement found.new.items) (λ rest. rest.now) result (added (map statement found.old.items) (spanned var_tree (declared n) tokens.now)) }
+    ensures shorter { IfOk result (λ rest. length rest.now < length tokens.now) }
 {
+    found.reserve(1)?;
     let (_, rest) = expect_key(Key::Var, tokens)?;
     let (name, rest) = word(alloc, rest)?;
     let (_, rest) = expect(Mark::Colon, rest)?;
     let (ty, rest) = type_name(rest)?;
     let (given, rest) = value(alloc, rest)?;
-    Ok((Stmt::Var(name, ty, given, span_between(tokens, rest)), rest))
+    found.push_reserved(Stmt::Var(name, ty, given, span_between(tokens, rest)));
+    Ok(rest)
 }
 
-/// Targets, `=` and a right side.
-fn targets(alloc: Global, tokens: &[Token]) -> Result<((Vec<Name>, Right), &[Token]), PartStop>
-    ensures value { (n : ℕ) → length tokens.now < n → Gives (λ x. (x.0.0.items, right_side x.0.1)) (λ x. x.1.now) result (pair (list word n) (given n) tokens.now) }
-    ensures shorter { IfOk result (λ x. length x.1.now < length tokens.now) }
+/// Puts a call alone, which has no targets, behind the others, and gives the tokens behind it.
+#[inline(never)]
+fn call_alone<'a>(
+    alloc: Global,
+    found: &mut Vec<Stmt>,
+    tokens: &'a [Token],
+) -> Result<&'a [Token], PartStop>
+    ensures value { (n : ℕ) → length tokens.now < n → Gives (λ _. map statement found.new.items) (λ rest. rest.now) result (added (map statement found.old.items) (spanned assign_tree (mapped alone (call n)) tokens.now)) }
+    ensures shorter { IfOk result (λ rest. length rest.now < length tokens.now) }
 {
-    let (targets, rest) = names(alloc, tokens)?;
-    let (value, rest) = given(alloc, rest)?;
-    Ok(((targets, value), rest))
+    found.reserve(1)?;
+    let (made, rest) = call(alloc, tokens)?;
+    let right = Right::Call(made.0, made.1);
+    found.push_reserved(Stmt::Assign(Vec::new(alloc), right, span_between(tokens, rest)));
+    Ok(rest)
 }
 
-/// An assignment, or a call alone, which has no targets.
-fn assignment(alloc: Global, tokens: &[Token]) -> Result<((Vec<Name>, Right), &[Token]), PartStop>
-    ensures value { (n : ℕ) → length tokens.now < n → Gives (λ x. (x.0.0.items, right_side x.0.1)) (λ x. x.1.now) result (assigned n tokens.now) }
-    ensures shorter { IfOk result (λ x. length x.1.now < length tokens.now) }
+/// Puts an assignment to these targets, which stand at the front of the tokens, behind the others. Its right side is what `side` begins
+/// with, and the tokens behind that are given.
+#[inline(never)]
+fn assign_right<'a>(
+    alloc: Global,
+    found: &mut Vec<Stmt>,
+    targets: Vec<Name>,
+    tokens: &[Token],
+    side: &'a [Token],
+) -> Result<&'a [Token], PartStop>
+    ensures value { (n : ℕ) → length side.now < n → Gives (λ _. map statement found.new.items) (λ rest. rest.now) result (added (map statement found.old.items) (valued targets.items tokens.now (right n side.now))) }
+    ensures shorter { IfOk result (λ rest. length rest.now < length side.now) }
+{
+    found.reserve(1)?;
+    let (value, rest) = right(alloc, side)?;
+    let place = span_between(tokens, rest);
+    found.push_reserved(Stmt::Assign(targets, value, place));
+    Ok(rest)
+}
+
+/// Puts a statement that is an assignment or a call behind the others, and gives the tokens behind it.
+#[inline(never)]
+pub(crate) fn assign<'a>(
+    alloc: Global,
+    found: &mut Vec<Stmt>,
+    tokens: &'a [Token],
+) -> Result<&'a [Token], PartStop>
+    ensures value { (n : ℕ) → length tokens.now < n → Gives (λ _. map statement found.new.items) (λ rest. rest.now) result (added (map statement found.old.items) (spanned assign_tree (assigned n) tokens.now)) }
+    ensures shorter { IfOk result (λ rest. length rest.now < length tokens.now) }
 {
     if is_call(tokens) {
-        let (made, rest) = call(alloc, tokens)?;
-        return Ok(((Vec::new(alloc), Right::Call(made.0, made.1)), rest));
+        return call_alone(alloc, found, tokens);
     }
-    targets(alloc, tokens)
+    found.reserve(1)?;
+    let (targets, rest) = names(alloc, tokens)?;
+    let (_, side) = expect(Mark::Assign, rest)?;
+    if is_alone(side) {
+        let (value, rest) = leaf(alloc, side)?;
+        let place = span_between(tokens, rest);
+        found.push_reserved(Stmt::Assign(targets, Right::Plain(value), place));
+        return Ok(rest);
+    }
+    assign_right(alloc, found, targets, tokens, side)
 }
 
-/// A statement that is an assignment or a call.
+/// Puts a check behind the others, and gives the tokens behind it.
 #[inline(never)]
-pub(crate) fn assign(alloc: Global, tokens: &[Token]) -> Result<(Stmt, &[Token]), PartStop>
-    ensures value { (n : ℕ) → length tokens.now < n → Gives (λ x. statement x.0) (λ x. x.1.now) result (spanned assign_tree (assigned n) tokens.now) }
-    ensures shorter { IfOk result (λ x. length x.1.now < length tokens.now) }
+pub(crate) fn check<'a>(
+    alloc: Global,
+    found: &mut Vec<Stmt>,
+    tokens: &'a [Token],
+) -> Result<&'a [Token], PartStop>
+    ensures value { (n : ℕ) → length tokens.now < n → Gives (λ _. map statement found.new.items) (λ rest. rest.now) result (added (map statement found.old.items) (spanned check_tree (checked n) tokens.now)) }
+    ensures shorter { IfOk result (λ rest. length rest.now < length tokens.now) }
 {
-    let (parts, rest) = assignment(alloc, tokens)?;
-    Ok((
-        Stmt::Assign(parts.0, parts.1, span_between(tokens, rest)),
-        rest,
-    ))
-}
-
-/// A check.
-#[inline(never)]
-pub(crate) fn check(alloc: Global, tokens: &[Token]) -> Result<(Stmt, &[Token]), PartStop>
-    ensures value { (n : ℕ) → length tokens.now < n → Gives (λ x. statement x.0) (λ x. x.1.now) result (spanned check_tree (checked n) tokens.now) }
-    ensures shorter { IfOk result (λ x. length x.1.now < length tokens.now) }
-{
+    found.reserve(1)?;
     let (kind, rest) = check_word(tokens)?;
     let (claim, rest) = whole(alloc, rest)?;
-    Ok((Stmt::Check(kind, claim, span_between(tokens, rest)), rest))
+    found.push_reserved(Stmt::Check(kind, claim, span_between(tokens, rest)));
+    Ok(rest)
 }
 
-/// `validate` or `covalidate`.
+/// Puts `validate` or `covalidate` behind the others, and gives the tokens behind it.
 #[inline(never)]
-pub(crate) fn validate(tokens: &[Token]) -> Result<(Stmt, &[Token]), PartStop>
-    ensures value { Gives (λ x. statement x.0) (λ x. x.1.now) result (spanned Statement.validate (kind (by_key key_validate)) tokens.now) }
-    ensures shorter { IfOk result (λ x. length x.1.now < length tokens.now) }
+pub(crate) fn validate<'a>(
+    found: &mut Vec<Stmt>,
+    tokens: &'a [Token],
+) -> Result<&'a [Token], PartStop>
+    ensures value { Gives (λ _. map statement found.new.items) (λ rest. rest.now) result (added (map statement found.old.items) (spanned Statement.validate (kind (by_key key_validate)) tokens.now)) }
+    ensures shorter { IfOk result (λ rest. length rest.now < length tokens.now) }
 {
+    found.reserve(1)?;
     let (co, rest) = validate_word(tokens)?;
-    Ok((Stmt::Validate(co, span_between(tokens, rest)), rest))
+    found.push_reserved(Stmt::Validate(co, span_between(tokens, rest)));
+    Ok(rest)
 }
 
-/// `havoc` or `cohavoc` of names.
+/// Puts `havoc` or `cohavoc` of names behind the others, and gives the tokens behind it.
 #[inline(never)]
-pub(crate) fn havoc(alloc: Global, tokens: &[Token]) -> Result<(Stmt, &[Token]), PartStop>
-    ensures value { (n : ℕ) → length tokens.now < n → Gives (λ x. statement x.0) (λ x. x.1.now) result (spanned havoc_tree (havocked n) tokens.now) }
-    ensures shorter { IfOk result (λ x. length x.1.now < length tokens.now) }
+pub(crate) fn havoc<'a>(
+    alloc: Global,
+    found: &mut Vec<Stmt>,
+    tokens: &'a [Token],
+) -> Result<&'a [Token], PartStop>
+    ensures value { (n : ℕ) → length tokens.now < n → Gives (λ _. map statement found.new.items) (λ rest. rest.now) result (added (map statement found.old.items) (spanned havoc_tree (havocked n) tokens.now)) }
+    ensures shorter { IfOk result (λ rest. length rest.now < length tokens.now) }
 {
+    found.reserve(1)?;
     let (co, rest) = havoc_word(tokens)?;
     let (targets, rest) = names(alloc, rest)?;
-    Ok((Stmt::Havoc(co, targets, span_between(tokens, rest)), rest))
+    found.push_reserved(Stmt::Havoc(co, targets, span_between(tokens, rest)));
+    Ok(rest)
 }
 
-/// `reward` or `tick`.
+/// Puts `reward` or `tick` behind the others, and gives the tokens behind it.
 #[inline(never)]
-pub(crate) fn reward(alloc: Global, tokens: &[Token]) -> Result<(Stmt, &[Token]), PartStop>
-    ensures value { (n : ℕ) → length tokens.now < n → Gives (λ x. statement x.0) (λ x. x.1.now) result (spanned Statement.reward (rewarded n) tokens.now) }
-    ensures shorter { IfOk result (λ x. length x.1.now < length tokens.now) }
+pub(crate) fn reward<'a>(
+    alloc: Global,
+    found: &mut Vec<Stmt>,
+    tokens: &'a [Token],
+) -> Result<&'a [Token], PartStop>
+    ensures value { (n : ℕ) → length tokens.now < n → Gives (λ _. map statement found.new.items) (λ rest. rest.now) result (added (map statement found.old.items) (spanned Statement.reward (rewarded n) tokens.now)) }
+    ensures shorter { IfOk result (λ rest. length rest.now < length tokens.now) }
 {
+    found.reserve(1)?;
     let (_, rest) = reward_word(tokens)?;
     let (amount, rest) = whole(alloc, rest)?;
-    Ok((Stmt::Reward(amount, span_between(tokens, rest)), rest))
+    found.push_reserved(Stmt::Reward(amount, span_between(tokens, rest)));
+    Ok(rest)
 }

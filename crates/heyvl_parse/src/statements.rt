@@ -1,10 +1,10 @@
 //! The parser of statements and blocks.
 
-ghost use Rattle.heyvl_parse.specs.internal.Combinators.{spanned, starts};
+ghost use Rattle.heyvl_parse.specs.internal.Combinators.{added, spanned, starts};
 ghost use Rattle.heyvl_parse.specs.internal.Results.{Gives};
-ghost use Rattle.heyvl_parse.specs.internal.Statements.{Shortens, arm, braced, branched, if_parts, if_tree, is_opening, key_opening, kind_opening, link, loop_tree, looped, mark_opening, next_of, opening, opens, otherwise, picked, skip, stmt, stmts};
-ghost use Rattle.heyvl_syntax.specs.Statements.{block, guarded, statement};
-ghost use Rattle.std.specs.Prelude.{IfOk, length, map, suc, ◌<◌, ◌≡◌, ◌≤◌, ℕ};
+ghost use Rattle.heyvl_parse.specs.internal.Statements.{IfParts, Shortens, arm, braced, branched, if_parts, if_tree, is_opening, key_opening, kind_opening, link, loop_tree, looped, mark_opening, next_of, opening, opens, otherwise, picked, skip, stmt, stmts};
+ghost use Rattle.heyvl_syntax.specs.Statements.{block, guarded, loop_rules, statement};
+ghost use Rattle.std.specs.Prelude.{[], IfOk, OnOk, length, map, suc, ◌++◌, ◌<◌, ◌∷◌, ◌≡◌, ◌≤◌, ℕ};
 
 use crate::expressions::whole;
 use crate::lists::put;
@@ -13,8 +13,8 @@ use crate::places::span_between;
 use crate::simple::{assign, check, havoc, pick_word, reward, starts_pick, validate, var};
 use crate::stops::PartStop;
 use crate::tokens::{expect, expect_key, starts_key, starts_mark};
-use heyvl_syntax::{Arm, Key, Mark, Stmt, Token, TokenKind};
-use std::alloc::Global;
+use heyvl_syntax::{Arm, Key, Mark, Rule, Span, Stmt, Token, TokenKind};
+use std::alloc::{AllocError, Global};
 
 /// Which statement begins with a token.
 #[derive(Clone, Copy, Debug)]
@@ -154,50 +154,100 @@ fn statements(alloc: Global, tokens: &[Token]) -> Result<(Vec<Stmt>, &[Token]), 
     let mut found = Vec::new(alloc);
     let mut rest = tokens;
     'items: while starts_statement(rest) {
-        let (one, behind) = stmt(alloc, rest)?;
-        put(&mut found, one)?;
+        let behind = stmt(alloc, &mut found, rest)?;
         rest = skip(behind);
     }
     Ok((found, rest))
 }
 
-/// The statement at the front.
+/// Puts the statement at the front behind the others, and gives the tokens behind it.
 #[cycle(statements)]
 #[inline(always)]
-fn stmt(alloc: Global, tokens: &[Token]) -> Result<(Stmt, &[Token]), PartStop>
-    ensures value { (n : ℕ) → length tokens.now ≤ n → Gives (λ x. statement x.0) (λ x. x.1.now) result (stmt (suc n) (braced (stmts n)) tokens.now) }
-    ensures shorter { IfOk result (λ x. length x.1.now < length tokens.now) }
+fn stmt<'a>(
+    alloc: Global,
+    found: &mut Vec<Stmt>,
+    tokens: &'a [Token],
+) -> Result<&'a [Token], PartStop>
+    ensures value { (n : ℕ) → length tokens.now ≤ n → Gives (λ _. map statement found.new.items) (λ rest. rest.now) result (added (map statement found.old.items) (stmt (suc n) (braced (stmts n)) tokens.now)) }
+    ensures shorter { IfOk result (λ rest. length rest.now < length tokens.now) }
 {
     match opening_at(tokens) {
-        Opening::Var => var(alloc, tokens),
-        Opening::Assign => assign(alloc, tokens),
-        Opening::Check => check(alloc, tokens),
-        Opening::Validate => validate(tokens),
-        Opening::Havoc => havoc(alloc, tokens),
-        Opening::Reward => reward(alloc, tokens),
-        Opening::If => if_at(alloc, tokens),
-        Opening::Loop => looped(alloc, tokens),
+        Opening::Var => var(alloc, found, tokens),
+        Opening::Assign => assign(alloc, found, tokens),
+        Opening::Check => check(alloc, found, tokens),
+        Opening::Validate => validate(found, tokens),
+        Opening::Havoc => havoc(alloc, found, tokens),
+        Opening::Reward => reward(alloc, found, tokens),
+        Opening::If => if_at(alloc, found, tokens),
+        Opening::Loop => looped(alloc, found, tokens),
         Opening::Other => Err(PartStop::Fault(tokens.len())),
     }
 }
 
-/// An `if`.
+/// Puts an `if` of these parts behind the others. In a function of its own, so that a reader that calls itself has no room for it on
+/// the stack.
+#[inline(never)]
+fn put_if(
+    found: &mut Vec<Stmt>,
+    parts: (Vec<Arm>, Vec<Stmt>),
+    place: Span,
+) -> Result<(), AllocError>
+    ensures { OnOk result (map statement found.new.items ≡ map statement found.old.items ++ (if_tree (IfParts.branching (map guarded parts.0.items, block parts.1.items)) place ∷ [])) }
+{
+    found.reserve(1)?;
+    found.push_reserved(Stmt::If(parts.0, parts.1, place));
+    Ok(())
+}
+
+/// Puts a choice of two blocks behind the others.
+#[inline(never)]
+fn put_pick(
+    found: &mut Vec<Stmt>,
+    parts: (bool, Vec<Stmt>, Vec<Stmt>),
+    place: Span,
+) -> Result<(), AllocError>
+    ensures { OnOk result (map statement found.new.items ≡ map statement found.old.items ++ (if_tree (IfParts.picking (parts.0, (block parts.1.items, block parts.2.items))) place ∷ [])) }
+{
+    found.reserve(1)?;
+    found.push_reserved(Stmt::Pick(parts.0, parts.1, parts.2, place));
+    Ok(())
+}
+
+/// Puts a loop with these rules, this guard and this body behind the others.
+#[inline(never)]
+fn put_while(
+    found: &mut Vec<Stmt>,
+    rules: Vec<Rule>,
+    arm: Arm,
+    place: Span,
+) -> Result<(), AllocError>
+    ensures { OnOk result (map statement found.new.items ≡ map statement found.old.items ++ (loop_tree (loop_rules rules.items, guarded arm) place ∷ [])) }
+{
+    found.reserve(1)?;
+    found.push_reserved(Stmt::While(rules, arm.guard, arm.body, place));
+    Ok(())
+}
+
+/// Puts an `if` behind the others, and gives the tokens behind it.
 #[cycle(statements)]
 #[inline(never)]
-fn if_at(alloc: Global, tokens: &[Token]) -> Result<(Stmt, &[Token]), PartStop>
-    ensures value { (n : ℕ) → length tokens.now ≤ n → Gives (λ x. statement x.0) (λ x. x.1.now) result (spanned if_tree (if_parts (suc n) (braced (stmts n))) tokens.now) }
-    ensures shorter { IfOk result (λ x. length x.1.now < length tokens.now) }
+fn if_at<'a>(
+    alloc: Global,
+    found: &mut Vec<Stmt>,
+    tokens: &'a [Token],
+) -> Result<&'a [Token], PartStop>
+    ensures value { (n : ℕ) → length tokens.now ≤ n → Gives (λ _. map statement found.new.items) (λ rest. rest.now) result (added (map statement found.old.items) (spanned if_tree (if_parts (suc n) (braced (stmts n))) tokens.now)) }
+    ensures shorter { IfOk result (λ rest. length rest.now < length tokens.now) }
 {
     let (_, rest) = expect_key(Key::If, tokens)?;
     if starts_pick(rest) {
         let (parts, rest) = picked(alloc, rest)?;
-        return Ok((
-            Stmt::Pick(parts.0, parts.1, parts.2, span_between(tokens, rest)),
-            rest,
-        ));
+        put_pick(found, parts, span_between(tokens, rest))?;
+        return Ok(rest);
     }
     let (parts, rest) = branched(alloc, rest)?;
-    Ok((Stmt::If(parts.0, parts.1, span_between(tokens, rest)), rest))
+    put_if(found, parts, span_between(tokens, rest))?;
+    Ok(rest)
 }
 
 /// What stands behind the `if` of a choice of two blocks.
@@ -284,18 +334,20 @@ fn link_at(alloc: Global, tokens: &[Token]) -> Result<(Link, &[Token]), PartStop
     Ok((Link::Again(one), rest))
 }
 
-/// A loop with its rules.
+/// Puts a loop with its rules behind the others, and gives the tokens behind it.
 #[cycle(statements)]
 #[inline(never)]
-fn looped(alloc: Global, tokens: &[Token]) -> Result<(Stmt, &[Token]), PartStop>
-    ensures value { (n : ℕ) → length tokens.now ≤ n → Gives (λ x. statement x.0) (λ x. x.1.now) result (spanned loop_tree (looped (suc n) (braced (stmts n))) tokens.now) }
-    ensures shorter { IfOk result (λ x. length x.1.now < length tokens.now) }
+fn looped<'a>(
+    alloc: Global,
+    found: &mut Vec<Stmt>,
+    tokens: &'a [Token],
+) -> Result<&'a [Token], PartStop>
+    ensures value { (n : ℕ) → length tokens.now ≤ n → Gives (λ _. map statement found.new.items) (λ rest. rest.now) result (added (map statement found.old.items) (spanned loop_tree (looped (suc n) (braced (stmts n))) tokens.now)) }
+    ensures shorter { IfOk result (λ rest. length rest.now < length tokens.now) }
 {
     let (rules, rest) = rules(alloc, tokens)?;
     let (_, rest) = expect_key(Key::While, rest)?;
     let (arm, rest) = arm(alloc, rest)?;
-    Ok((
-        Stmt::While(rules, arm.guard, arm.body, span_between(tokens, rest)),
-        rest,
-    ))
+    put_while(found, rules, arm, span_between(tokens, rest))?;
+    Ok(rest)
 }

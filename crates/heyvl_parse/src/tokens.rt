@@ -21,7 +21,7 @@ pub(crate) fn next(tokens: &[Token]) -> Result<(&Token, &[Token]), PartStop>
     }
 }
 
-fn is_mark(mark: Mark, kind: &TokenKind) -> bool
+pub(crate) fn is_mark(mark: Mark, kind: &TokenKind) -> bool
     ensures { result ≡ is_mark mark kind.now }
 {
     match kind {
@@ -46,6 +46,7 @@ pub(crate) fn expect(mark: Mark, tokens: &[Token]) -> Result<(Span, &[Token]), P
 }
 
 /// The word at the front, and the tokens behind it.
+#[inline(always)]
 pub(crate) fn word(alloc: Global, tokens: &[Token]) -> Result<(Name, &[Token]), PartStop>
     ensures value { Gives (λ x. x.0) (λ x. x.1.now) result (word tokens.now) }
     ensures shorter { IfOk result (λ x. length x.1.now < length tokens.now) }

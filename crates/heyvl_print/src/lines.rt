@@ -14,6 +14,7 @@ use heyvl_syntax::{Expr, Name, Right, Rule, TypeName};
 use std::alloc::AllocError;
 
 /// Puts the names behind the text, with commas between.
+#[inline(always)]
 fn print_names(text: &mut Vec<u8>, names: &[Name]) -> Result<(), AllocError>
     ensures { OnOk result (text.new.items ≡ text.old.items ++ text_of (separated comma word names.now)) }
 {
@@ -63,6 +64,7 @@ fn print_call(text: &mut Vec<u8>, name: &Name, arguments: &[Expr]) -> Result<(),
 }
 
 /// Puts what a variable is given behind the text.
+#[inline(always)]
 fn print_right(text: &mut Vec<u8>, right: &Right) -> Result<(), AllocError>
     ensures { OnOk result (text.new.items ≡ text.old.items ++ text_of (right_pieces (right_side right.now))) }
 {
@@ -103,6 +105,7 @@ fn print_given(text: &mut Vec<u8>, given: &Option<Right>) -> Result<(), AllocErr
 }
 
 /// Puts `x, y = ` behind the text, or nothing where there is no target.
+#[inline(always)]
 fn print_targets(text: &mut Vec<u8>, targets: &[Name]) -> Result<(), AllocError>
     ensures { OnOk result (text.new.items ≡ text.old.items ++ text_of (target_pieces targets.now)) }
 {

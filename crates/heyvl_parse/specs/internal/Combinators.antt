@@ -91,6 +91,12 @@ with_front before (Got xs r) = Got (before ++ xs) r
 with_front before (Bad r) = Bad r
 with_front before Out = Out
 
+-- An item behind those before it.
+abbrev pub added : {A : Type 0} → List A → Read A → Read (List A)
+added before (Got x r) = Got (before ++ (x ∷ [])) r
+added before (Bad r) = Bad r
+added before Out = Out
+
 -- An item and then others.
 abbrev pub cons : {A : Type 0} → (List Token → Read A) → (List Token → Read (List A)) → List Token → Read (List A)
 cons f g ts = f ts >>= λ x r. with_front (x ∷ []) (g r)

@@ -1,6 +1,6 @@
 -- Reading statements and blocks.
 use Prim.Native.Nat.{suc, zero}
-use Rattle.heyvl_parse.specs.internal.Combinators.{each, either, is_key, is_there, kind, lead, list, optional, refuse, spanned, starts, trail}
+use Rattle.heyvl_parse.specs.internal.Combinators.{each, either, is_key, is_there, kind, lead, list, optional, refuse, spanned, starts, taken, trail}
 use Rattle.heyvl_parse.specs.internal.Loops.{rules}
 use Rattle.heyvl_parse.specs.internal.Reading.{Bad, Got, Out, Read, is_mark, mapped, pair, type_name, word, ◌>>=◌}
 use Rattle.heyvl_parse.specs.internal.Rights.{call, call_tree, expr, is_call, right}
@@ -9,6 +9,7 @@ use Rattle.heyvl_parse.specs.declared.statements.Link.{Link}
 use Rattle.heyvl_parse.specs.declared.statements.Opening.TheVariants as openings
 use Rattle.heyvl_parse.specs.declared.statements.Opening.{Opening}
 use Rattle.heyvl_syntax.specs.Expressions.{Expression}
+use Rattle.heyvl_syntax.specs.Productions.{extent}
 use Rattle.heyvl_syntax.specs.Statements.{Block, LoopRule, RightSide, Statement, arms_of, block, block_of, guarded}
 use Rattle.heyvl_syntax.specs.declared.keys.Key.TheVariants as keys
 use Rattle.heyvl_syntax.specs.declared.keys.Key.{Key}
@@ -47,6 +48,10 @@ assigned n ts = assigned_if n (is_call ts) ts
 
 abbrev pub assign_tree : List (List ℕ) × RightSide → Span → Statement
 assign_tree p s = Statement.assign p.0 p.1 s
+
+-- An assignment of what was read to these targets, at the place of what stands before the rest.
+abbrev pub valued : List (List ℕ) → List Token → Read RightSide → Read Statement
+valued targets ts read = read >>= λ x r. Got (assign_tree (targets, x) (extent (taken ts r))) r
 
 abbrev pub key_check : Key → Option CheckKind
 key_check keys.Assert = Some checks.Assert

@@ -1,10 +1,12 @@
 use Rattle.heyvl_parse.proofs.simple.reward.Goals as goal
 use Rattle.std.proofs.Common.{arith, refl}
 use Rattle.std.proofs.lemmas.Grind.{common_steps}
+use Rattle.std.proofs.lemmas.List.{map-append}
 use Rattle.heyvl_syntax.proofs.exported.PlainTreesAre.{plain_statements}
+use Rattle.heyvl_syntax.specs.Statements.{statement}
 
 pub returns-in_err-amount-clause-value : goal.returns-in_err-amount-clause-value
 returns-in_err-amount-clause-value c = λ n h. rw (c.in_ok-rest.ensures.value) (grind (arith, common_steps, c.in_err-amount.ensures.value n (omega (arith, c.in_ok-rest.ensures.shorter))))
 
 pub returns-clause-value : goal.returns-clause-value
-returns-clause-value c = λ n h. rw (c.in_ok-rest.ensures.value, c.in_ok-amount.ensures.value n (omega (arith, c.in_ok-rest.ensures.shorter))) (rw (plain_statements.reward c.in_ok-amount.amount c.span_between.result, c.span_between.ensures) refl)
+returns-clause-value c = λ n h. rw (c.in_ok-rest.ensures.value, c.in_ok-amount.ensures.value n (omega (arith, c.in_ok-rest.ensures.shorter)), c.push_reserved.ensures.items, c.in_ok-reserve.ensures.items, map-append statement) (rw (plain_statements.reward c.in_ok-amount.amount c.span_between.result, c.span_between.ensures) refl)

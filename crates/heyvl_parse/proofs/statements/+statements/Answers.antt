@@ -1,9 +1,9 @@
 use Rattle.heyvl_parse.proofs.ChainLoop.{chain_done, chain_fails, chain_first, chain_more}
-use Rattle.heyvl_parse.proofs.EachLoop.{loop_done, loop_fails, loop_init, loop_more}
+use Rattle.heyvl_parse.proofs.EachLoop.{added_fails, loop_added, loop_done, loop_fails, loop_init}
 use Rattle.heyvl_parse.proofs.Fuel.{by_fuel}
 use Rattle.heyvl_parse.proofs.statements.+statements.Goals as goal
-use Rattle.heyvl_parse.specs.internal.Combinators.{each}
-use Rattle.heyvl_parse.specs.internal.Reading.{Got, ◌>>=◌}
+use Rattle.heyvl_parse.specs.internal.Combinators.{added, each}
+use Rattle.heyvl_parse.specs.internal.Reading.{Bad, Got, Out, Read, ◌>>=◌}
 use Rattle.heyvl_parse.specs.internal.Results.{Fails}
 use Rattle.heyvl_parse.specs.internal.Statements.{braced, branched, entry, is_opening, next_of, skip, stmt, stmts}
 use Rattle.heyvl_parse.specs.declared.stops.PartStop.TheVariants.{Fault, Memory}
@@ -31,7 +31,7 @@ pub looped-returns-in_err-arm-clause-value : goal.looped-returns-in_err-arm-clau
 looped-returns-in_err-arm-clause-value t c = λ n h. rw (c.in_ok-rules.ensures.value (suc n) (omega arith), c.in_ok-rest.ensures.value) (grind (arith, common_steps, c.in_err-arm.ensures.value n (omega (arith, c.in_ok-rules.ensures.shorter, c.in_ok-rest.ensures.shorter))))
 
 pub looped-returns-clause-value : goal.looped-returns-clause-value
-looped-returns-clause-value t c = λ n h. rw (c.in_ok-rules.ensures.value (suc n) (omega arith), c.in_ok-rest.ensures.value, c.in_ok-arm.ensures.value n (omega (arith, c.in_ok-rules.ensures.shorter, c.in_ok-rest.ensures.shorter))) (rw (plain_statements.loop c.in_ok-rules.rules c.in_ok-arm.arm.guard c.in_ok-arm.arm.body c.span_between.result, c.span_between.ensures) (rw plain_statements.guarded refl))
+looped-returns-clause-value t c = λ n h. rw (c.in_ok-rules.ensures.value (suc n) (omega arith), c.in_ok-rest.ensures.value, c.in_ok-arm.ensures.value n (omega (arith, c.in_ok-rules.ensures.shorter, c.in_ok-rest.ensures.shorter)), c.in_ok-put_while.ensures, c.span_between.ensures) refl
 
 pub picked-returns-in_err-left-clause-value : goal.picked-returns-in_err-left-clause-value
 picked-returns-in_err-left-clause-value t c = λ n h. rw (c.in_ok-up.ensures.value) (grind (arith, common_steps, c.in_err-left.ensures.value n (omega (arith, c.in_ok-up.ensures.shorter))))
@@ -48,8 +48,13 @@ arm-returns-in_err-body-clause-value t c = λ n h. rw (c.in_ok-guard.ensures.val
 pub arm-returns-clause-value : goal.arm-returns-clause-value
 arm-returns-clause-value t c = λ n h. rw (c.in_ok-guard.ensures.value (suc n) (omega arith), c.in_ok-body.ensures.value n (omega (arith, c.in_ok-guard.ensures.shorter))) (rw plain_statements.guarded refl)
 
-entry_got : (n : ℕ) (ts r : List Token) (x : Statement) → stmt (suc n) (braced (stmts n)) ts ≡ Got x r → entry (suc n) (braced (stmts n)) ts ≡ Got x (skip r)
-entry_got n ts r x e = ap (λ z. z >>= λ x r. Got x (skip r)) e
+added_skip : (before : List Statement) (s : Read Statement) → added before (s >>= λ x r. Got x (skip r)) ≡ (added before s >>= λ xs r. Got xs (skip r))
+added_skip before (Got x r) = refl
+added_skip before (Bad r) = refl
+added_skip before Out = refl
+
+entry_added : (n : ℕ) (ts r : List Token) (before after : List Statement) → added before (stmt (suc n) (braced (stmts n)) ts) ≡ Got after r → added before (entry (suc n) (braced (stmts n)) ts) ≡ Got after (skip r)
+entry_added n ts r before after e = added_skip before (stmt (suc n) (braced (stmts n)) ts) ∙ ap (λ z. z >>= λ xs r. Got xs (skip r)) e
 
 entry_fails : (e : PartStop) (n : ℕ) (ts : List Token) → Fails e (stmt (suc n) (braced (stmts n)) ts) → Fails e (entry (suc n) (braced (stmts n)) ts)
 entry_fails (Memory error) n ts f = tt
@@ -67,13 +72,13 @@ statements-items-init t c = record { shorter = omega arith; same = λ n h. rw c.
 
 pub statements-items-preserved : goal.statements-items-preserved
 statements-items-preserved t c = record {
-  shorter = omega (arith, c.in_ok-one.ensures.shorter, c.skip-rest.ensures.shorter, c.items.invariant.shorter);
-  same = λ n h. rw (c.in_ok-put.ensures, map-append statement, c.skip-rest.ensures.value) (loop_more is_opening (entry (suc n) (braced (stmts n))) (each is_opening (entry (suc n) (braced (stmts n))) (suc n) c.args.tokens.now) c.items.rest.now (skip c.in_ok-one.behind.now) (map statement c.items.found.items) (statement c.in_ok-one.one) (c.items.invariant.same n h) (sym c.items-test.ensures) (entry_got n c.items.rest.now c.in_ok-one.behind.now (statement c.in_ok-one.one) (c.in_ok-one.ensures.value n (omega (arith, c.items.invariant.shorter)))) (rw (← c.skip-rest.ensures.value) (omega (arith, c.in_ok-one.ensures.shorter, c.skip-rest.ensures.shorter))));
+  shorter = omega (arith, c.in_ok-behind.ensures.shorter, c.skip-rest.ensures.shorter, c.items.invariant.shorter);
+  same = λ n h. rw c.skip-rest.ensures.value (loop_added is_opening (entry (suc n) (braced (stmts n))) (each is_opening (entry (suc n) (braced (stmts n))) (suc n) c.args.tokens.now) c.items.rest.now (skip c.in_ok-behind.behind.now) (map statement c.items.found.items) _ (c.items.invariant.same n h) (sym c.items-test.ensures) (entry_added n c.items.rest.now c.in_ok-behind.behind.now (map statement c.items.found.items) _ (c.in_ok-behind.ensures.value n (omega (arith, c.items.invariant.shorter)))) (rw (← c.skip-rest.ensures.value) (omega (arith, c.in_ok-behind.ensures.shorter, c.skip-rest.ensures.shorter))));
 }
 
-pub statements-returns-in_err-one-clause-value : goal.statements-returns-in_err-one-clause-value
-statements-returns-in_err-one-clause-value t c = by_fuel _ _ (λ n h.
-    grind (arith, common_steps, made_fails c.in_err-one.field-0.0 n c.args.tokens.now (loop_fails is_opening (entry (suc n) (braced (stmts n))) (each is_opening (entry (suc n) (braced (stmts n))) (suc n) c.args.tokens.now) c.in_err-one.field-0.0 c.items.rest.now (map statement c.items.found.items) (c.items.invariant.same n h) (sym c.items-test.ensures) (entry_fails c.in_err-one.field-0.0 n c.items.rest.now (c.in_err-one.ensures.value n (omega (arith, c.items.invariant.shorter)))))))
+pub statements-returns-in_err-behind-clause-value : goal.statements-returns-in_err-behind-clause-value
+statements-returns-in_err-behind-clause-value t c = by_fuel _ _ (λ n h.
+    grind (arith, common_steps, made_fails c.in_err-behind.field-0.0 n c.args.tokens.now (loop_fails is_opening (entry (suc n) (braced (stmts n))) (each is_opening (entry (suc n) (braced (stmts n))) (suc n) c.args.tokens.now) c.in_err-behind.field-0.0 c.items.rest.now (map statement c.items.found.items) (c.items.invariant.same n h) (sym c.items-test.ensures) (entry_fails c.in_err-behind.field-0.0 n c.items.rest.now (added_fails c.in_err-behind.field-0.0 (map statement c.items.found.items) _ (c.in_err-behind.ensures.value n (omega (arith, c.items.invariant.shorter))))))))
 
 pub statements-returns-clause-value : goal.statements-returns-clause-value
 statements-returns-clause-value t c = by_fuel _ _ (λ n h.
@@ -134,8 +139,11 @@ if_at-returns-in_err-parts-clause-value t c = λ n h.
 
 pub if_at-returns-then-starts_pick-clause-value : goal.if_at-returns-then-starts_pick-clause-value
 if_at-returns-then-starts_pick-clause-value t c = λ n h.
-    rw (c.in_ok-rest.ensures.value, ← c.if-starts_pick.ensures, c.in_ok-parts.ensures.value n (omega (arith, c.in_ok-rest.ensures.shorter)))
-    (rw (plain_statements.pick c.in_ok-parts.parts.0 c.in_ok-parts.parts.1 c.in_ok-parts.parts.2 c.span_between.result, c.span_between.ensures) refl)
+    rw (c.in_ok-rest.ensures.value, ← c.if-starts_pick.ensures, c.in_ok-parts.ensures.value n (omega (arith, c.in_ok-rest.ensures.shorter)), c.in_ok-put_pick.ensures, c.span_between.ensures) refl
+
+pub if_at-returns-clause-value : goal.if_at-returns-clause-value
+if_at-returns-clause-value t c = λ n h.
+    rw (c.in_ok-rest.ensures.value, ← c.if-starts_pick.ensures, c.in_ok-parts-2.ensures.value n (omega (arith, c.in_ok-rest.ensures.shorter)), c.in_ok-put_if.ensures, c.span_between-2.ensures) refl
 
 pub arm-returns-in_err-guard-clause-value : goal.arm-returns-in_err-guard-clause-value
 arm-returns-in_err-guard-clause-value t c = λ n h. grind (arith, common_steps, c.in_err-guard.ensures.value (suc n) (omega arith))

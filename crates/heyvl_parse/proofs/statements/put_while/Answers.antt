@@ -1,0 +1,8 @@
+use Rattle.heyvl_parse.proofs.statements.put_while.Goals as goal
+use Rattle.std.proofs.Common.{refl}
+use Rattle.std.proofs.lemmas.List.{map-append}
+use Rattle.heyvl_syntax.proofs.exported.PlainTreesAre.{plain_statements}
+use Rattle.heyvl_syntax.specs.Statements.{statement}
+
+pub returns : goal.returns
+returns c = rw (c.push_reserved.ensures.items, c.in_ok-reserve.ensures.items, map-append statement) (rw (plain_statements.loop c.args.rules c.args.arm.guard c.args.arm.body c.args.place) (rw plain_statements.guarded refl))
