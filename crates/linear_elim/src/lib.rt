@@ -13,6 +13,7 @@ mod gathering;
 mod joins;
 mod known;
 mod laws;
+mod lines;
 mod listing;
 mod ordering;
 mod pairs;
@@ -24,6 +25,7 @@ mod simplex;
 mod spots;
 mod starting;
 mod steps;
+mod tableau;
 
 pub use answers::{Broken, Cause, Elim};
 pub use eliminating::eliminate;

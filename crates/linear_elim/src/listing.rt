@@ -21,12 +21,13 @@ struct Change {
     before: Option<usize>,
 }
 
-/// The tightest rows of a path, how they came to be listed, and how many rows were looked at.
+/// The tightest rows of a path, how they came to be listed, how many rows were looked at, and which were chosen last.
 #[derive(Drop)]
 pub struct Listing {
     listed: Vec<Listed>,
     changes: Vec<Change>,
     looked: usize,
+    pub(crate) chosen: Vec<usize>,
 }
 
 /// Whether a row's constant says more than that of another with the same terms.
@@ -59,6 +60,7 @@ impl Listing {
             listed: Vec::new(alloc),
             changes: Vec::new(alloc),
             looked: 0,
+            chosen: Vec::new(alloc),
         }
     }
 
@@ -172,16 +174,16 @@ impl Listing {
         Ok(None)
     }
 
-    /// The listed rows, and those from a place on.
-    pub fn chosen(&self, alloc: Global, kept: usize, len: usize) -> Result<Vec<usize>, AllocError> {
-        let mut chosen: Vec<usize> = Vec::new(alloc);
+    /// Chooses the listed rows, and those from a place on.
+    pub fn choose(&mut self, kept: usize, len: usize) -> Result<(), AllocError> {
+        self.chosen.clear();
         for listed in &self.listed {
-            chosen.push(listed.row)?;
+            self.chosen.push(listed.row)?;
         }
         for index in kept..len {
-            chosen.push(index)?;
+            self.chosen.push(index)?;
         }
-        Ok(chosen)
+        Ok(())
     }
 }
 

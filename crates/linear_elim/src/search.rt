@@ -9,18 +9,19 @@ ghost use Rattle.linear_elim.specs.Searches.{IsKnown, Remembers};
 use crate::finding::{Finding, refuted_by};
 use crate::known::{KnownPoint, least, truncate_each};
 use crate::listing::Listing;
-use crate::simplex::{Proposal, propose};
+use crate::simplex::{Proposal, Simplex};
 use crate::spots::{Spot, is_met, met_from, solved_by};
 use linear_form::Row;
 use std::alloc::{AllocError, Global};
 
 /// What is remembered of the rows of a path: the point in use, those that were in use before it and aren't known to meet as many
-/// rows, the oldest first, and the tightest rows.
+/// rows, the oldest first, the tightest rows, and what is left of the last simplex.
 #[derive(Drop)]
 pub struct Search {
     known: KnownPoint,
     earlier: Vec<KnownPoint>,
     listing: Listing,
+    simplex: Simplex,
 }
 
 /// Multipliers of two rows that may combine them to a contradiction: a listed one, and one from a place on that the point misses.
@@ -41,18 +42,6 @@ fn pair_of(
     Ok(None)
 }
 
-/// What a simplex over the listed rows and those that hold only here proposes.
-fn proposed(
-    alloc: Global,
-    rows: &[Row],
-    listing: &Listing,
-    kept: usize,
-    count: usize,
-) -> Result<Proposal, AllocError> {
-    let chosen = listing.chosen(alloc, kept, rows.len())?;
-    propose(alloc, rows, &chosen, count)
-}
-
 impl Search {
     /// Nothing is known of any rows but the point at which each variable is 0.
     pub fn new(alloc: Global) -> Search
@@ -65,6 +54,7 @@ impl Search {
             },
             earlier: Vec::new(alloc),
             listing: Listing::new(alloc),
+            simplex: Simplex::new(alloc),
         }
     }
 
@@ -74,6 +64,7 @@ impl Search {
     {
         self.forget(len);
         self.listing.truncate(len);
+        self.simplex.truncate(len);
     }
 
     /// Forgets that the points meet rows from a place on, and goes back to the oldest of those that are as good then.
@@ -163,11 +154,29 @@ impl Search {
         if let Some(multipliers) = pair_of(alloc, rows, &self.listing, &self.known.spot, met)? {
             return Ok(refuted_by(rows, multipliers));
         }
-        match proposed(alloc, rows, &self.listing, kept, count)? {
+        match self.proposed(alloc, rows, kept, count)? {
             Proposal::Multipliers(multipliers) => Ok(refuted_by(rows, multipliers)),
             Proposal::Point(spot) => self.with_point(rows, kept, spot),
             Proposal::Nothing => Ok(Finding::Open),
         }
+    }
+
+    /// What a simplex over the listed rows and those that hold only here proposes.
+    fn proposed(
+        &mut self,
+        alloc: Global,
+        rows: &[Row],
+        kept: usize,
+        count: usize,
+    ) -> Result<Proposal, AllocError>
+        ensures { (before : List PlainRow) → Remembers self.old before → Remembers self.new before }
+    {
+        self.listing.choose(kept, rows.len())?;
+        let proposal = self
+            .simplex
+            .propose(alloc, rows, &self.listing.chosen, count)?;
+        self.simplex.truncate(kept);
+        Ok(proposal)
     }
 
     /// Takes a point into use that meets the rows. Want of memory is the one error.
