@@ -1,6 +1,6 @@
 //! What is decided of goals, worked out by hand.
 
-use crate::answers::{Kind, check_lines, given};
+use crate::answers::{Kind, OfGoal, check_lines, given};
 use std::alloc::{AllocError, Global};
 use std::fmt::Write;
 
@@ -52,23 +52,23 @@ inf inf ;  ; 0 => t";
 
 #[test]
 fn cells_of_comparisons(rt: HostRuntime) -> Result<(), AllocError> {
-    check_lines(&rt, Kind::Decision, COMPARISONS)
+    check_lines(&rt, Kind::Goal(OfGoal::Decision), COMPARISONS)
 }
 
 #[test]
 fn cells_of_booleans(rt: HostRuntime) -> Result<(), AllocError> {
-    check_lines(&rt, Kind::Decision, BOOLEANS)
+    check_lines(&rt, Kind::Goal(OfGoal::Decision), BOOLEANS)
 }
 
 #[test]
 fn too_many_cells(rt: HostRuntime) -> Result<(), AllocError> {
-    check_lines(&rt, Kind::Decision, MORE)
+    check_lines(&rt, Kind::Goal(OfGoal::Decision), MORE)
 }
 
 #[test]
 fn decisions(rt: HostRuntime) -> Result<(), AllocError> {
-    check_lines(&rt, Kind::Decision, FEW)?;
-    check_lines(&rt, Kind::Certificate, CERTIFICATES)
+    check_lines(&rt, Kind::Goal(OfGoal::Decision), FEW)?;
+    check_lines(&rt, Kind::Goal(OfGoal::Certificate), CERTIFICATES)
 }
 
 /// States 0 where `i*y + z <= x` for each i from 1 up to a number, and `x + 66*j*y + z <= 0` for each j from 1 up to another, and
@@ -92,7 +92,7 @@ fn crossing(alloc: Global, lowers: u64, uppers: u64) -> Result<String, AllocErro
 fn rows_that_are_too_many(rt: HostRuntime) -> Result<(), AllocError> {
     let alloc = rt.alloc();
     let goal = crossing(alloc, 65, 64)?;
-    let found = given(alloc, Kind::Decision, goal.as_str())?;
+    let found = given(alloc, Kind::Goal(OfGoal::Decision), goal.as_str())?;
     assert!(rt; found.as_str() == "rows 1 4160");
     Ok(())
 }

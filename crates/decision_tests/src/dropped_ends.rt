@@ -1,6 +1,6 @@
 //! Goals with ends that no state reaches: the certificates that `decide` gives there, worked out by hand.
 
-use crate::answers::{Kind, check_lines};
+use crate::answers::{Kind, OfGoal, check_lines};
 use std::alloc::AllocError;
 
 /// The first of the stated sums where the first two comparisons hold, else the second one, is at least the first of the found sums
@@ -46,5 +46,5 @@ const ROWS: &str = "\
 
 #[test]
 fn certificates_of_dropped_ends(rt: HostRuntime) -> Result<(), AllocError> {
-    check_lines(&rt, Kind::Certificate, ROWS)
+    check_lines(&rt, Kind::Goal(OfGoal::Certificate), ROWS)
 }

@@ -1,6 +1,6 @@
 //! What elimination finds of rows, worked out by hand.
 
-use crate::answers::{Kind, check_lines, given};
+use crate::answers::{Kind, OfRows, check_lines, given};
 use std::alloc::{AllocError, Global};
 use std::fmt::Write;
 
@@ -79,8 +79,8 @@ const POINTS: &str = "\
 
 #[test]
 fn eliminations(rt: HostRuntime) -> Result<(), AllocError> {
-    check_lines(&rt, Kind::Elimination, REFUTED)?;
-    check_lines(&rt, Kind::Elimination, POINTS)
+    check_lines(&rt, Kind::Rows(OfRows::Elimination), REFUTED)?;
+    check_lines(&rt, Kind::Rows(OfRows::Elimination), POINTS)
 }
 
 /// For each i from 1 the row `-x + i*y + z <= 0`, and for each j from 1 the row `x + 66*j*y + z <= 0`.
@@ -104,7 +104,7 @@ fn too_many_rows(rt: HostRuntime) -> Result<(), AllocError> {
     let alloc = rt.alloc();
     for (uppers, wanted) in [(65, "rows 1 4225"), (64, "rows 1 4160")] {
         let rows = crossing(alloc, 65, uppers)?;
-        let found = given(alloc, Kind::Elimination, rows.as_str())?;
+        let found = given(alloc, Kind::Rows(OfRows::Elimination), rows.as_str())?;
         assert!(rt; found.as_str() == wanted, "{uppers}");
     }
     Ok(())

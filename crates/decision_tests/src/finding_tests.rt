@@ -1,22 +1,22 @@
 //! What is found of rows before anything is eliminated.
 
-use crate::answers::{Kind, check_lines};
+use crate::answers::{Kind, OfRows, check_lines};
 use crate::test_rows::rows_of;
-use crate::texts::text_of;
 use linear_elim::{Finding, Search};
 use std::alloc::{AllocError, Global};
+use std::fmt::Write;
 
-/// How many multipliers are found, or whether a point is.
-pub fn finding(alloc: Global, text: &str) -> Result<String, AllocError> {
-    let rows = rows_of(alloc, text)?;
+/// Writes how many multipliers are found, or whether a point is.
+pub fn write_finding(alloc: Global, rows: &str, text: &mut String) -> Result<(), AllocError> {
+    let rows = rows_of(alloc, rows)?;
     let mut search = Search::new(alloc);
     match search.find(alloc, &rows, rows.len(), 3)? {
         Finding::Refuted(multipliers) => {
             let count = multipliers.len();
-            format!(in alloc; "refuted by {count}")
+            write!(text, "refuted by {count}")
         }
-        Finding::Met => text_of(alloc, "met"),
-        Finding::Open => text_of(alloc, "open"),
+        Finding::Met => text.push_str("met"),
+        Finding::Open => text.push_str("open"),
     }
 }
 
@@ -31,5 +31,5 @@ const FINDINGS: &str = "\
 
 #[test]
 fn findings(rt: HostRuntime) -> Result<(), AllocError> {
-    check_lines(&rt, Kind::Finding, FINDINGS)
+    check_lines(&rt, Kind::Rows(OfRows::Finding), FINDINGS)
 }

@@ -1,71 +1,92 @@
 //! Forms with a binder: substitution, renaming and sizes, worked out by hand.
 
-use crate::answers::{Kind, check_lines};
-use crate::forms::{form_of, test_of};
-use crate::texts::{cut, index, text_of};
-use heylo_formula::{Form, Term};
+use crate::answers::{Kind, OfCondition, OfForm, check_lines};
+use crate::forms::form_of;
+use crate::texts::{cut, index};
+use heylo_formula::{Cond, Form, Term};
 use std::alloc::{AllocError, Global};
+use std::fmt::Write;
 
-/// The two variables of a sum.
-fn sum_text(alloc: Global, bound: u32, name: u32, body: &Form) -> Result<String, AllocError> {
+/// Writes the two variables of a sum behind the number and the name of its binder.
+fn write_sum(bound: u32, name: u32, body: &Form, text: &mut String) -> Result<(), AllocError> {
     match body {
         Form::Sum(a, b) => match (&**a, &**b) {
-            (Form::Var(x), Form::Var(y)) => format!(in alloc; "{bound} {name} {x} {y}"),
-            _ => text_of(alloc, "other"),
+            (Form::Var(x), Form::Var(y)) => write!(text, "{bound} {name} {x} {y}"),
+            _ => text.push_str("other"),
         },
-        _ => text_of(alloc, "other"),
+        _ => text.push_str("other"),
     }
 }
 
-/// A binder over a sum of two variables: its number, its name, and the two variables.
-fn binder_text(alloc: Global, form: &Form) -> Result<String, AllocError> {
+/// Writes a binder over a sum of two variables: its number, its name, and the two variables.
+fn write_binder(form: &Form, text: &mut String) -> Result<(), AllocError> {
     match form {
-        Form::Bind(_, bound, name, _, body) => sum_text(alloc, *bound, *name, body),
-        _ => text_of(alloc, "other"),
+        Form::Bind(_, bound, name, _, body) => write_sum(*bound, *name, body, text),
+        _ => text.push_str("other"),
     }
 }
 
-/// The form, with another one in place of a variable.
-pub fn substitution(alloc: Global, text: &str) -> Result<String, AllocError> {
-    let (form, text) = cut(text, ';');
-    let (variable, with) = cut(text, ';');
-    let form = form_of(alloc, form)?;
-    let with = Term::Num(form_of(alloc, with)?);
+fn write_substituted(
+    alloc: Global,
+    form: &Form,
+    variable: u32,
+    with: &Term,
+    text: &mut String,
+) -> Result<(), AllocError> {
     if form.nodes() >= 1 << 30 || with.nodes() >= 1 << 30 {
         return Err(AllocError);
     }
-    let mut text = binder_text(alloc, &form.subst(alloc, index(variable)?, &with)?)?;
+    write_binder(&form.subst(alloc, variable, with)?, text)?;
     text.push_str(" of ")?;
-    text.push_str(binder_text(alloc, &form)?.as_str())?;
-    Ok(text)
+    write_binder(form, text)
 }
 
-/// The form, with another variable in place of one.
-pub fn renaming(alloc: Global, text: &str) -> Result<String, AllocError> {
-    let (form, text) = cut(text, ';');
-    let (from, to) = cut(text, ';');
-    let form = form_of(alloc, form)?;
-    binder_text(alloc, &form.rename(alloc, index(from)?, index(to)?)?)
+/// Writes the form with another one in place of a variable, and the form itself.
+pub fn write_substitution(
+    alloc: Global,
+    form: &Form,
+    rest: &str,
+    text: &mut String,
+) -> Result<(), AllocError> {
+    let (variable, with) = cut(rest, ';');
+    let variable = index(variable)?;
+    write_substituted(
+        alloc,
+        form,
+        variable,
+        &Term::Num(form_of(alloc, with)?),
+        text,
+    )
 }
 
-/// Whether a variable is free in the form, whether it occurs, how many nodes there are, and how deep the form is.
-pub fn size(alloc: Global, text: &str) -> Result<String, AllocError> {
-    let (form, variable) = cut(text, ';');
-    let form = form_of(alloc, form)?;
+/// Writes the form with another variable in place of one.
+pub fn write_renaming(
+    alloc: Global,
+    form: &Form,
+    rest: &str,
+    text: &mut String,
+) -> Result<(), AllocError> {
+    let (from, to) = cut(rest, ';');
+    let from = index(from)?;
+    let to = index(to)?;
+    write_binder(&form.rename(alloc, from, to)?, text)
+}
+
+/// Writes whether a variable is free in the form, whether it occurs, how many nodes there are, and how deep the form is.
+pub fn write_size(form: &Form, variable: &str, text: &mut String) -> Result<(), AllocError> {
     let variable = index(variable)?;
     let free = form.free(variable);
     let occurs = form.occurs(variable);
     let nodes = form.nodes();
     let depth = form.depth();
-    format!(in alloc; "{free} {occurs} {nodes} {depth}")
+    write!(text, "{free} {occurs} {nodes} {depth}")
 }
 
-/// How many nodes a condition has, and how deep it is.
-pub fn test_size(alloc: Global, text: &str) -> Result<String, AllocError> {
-    let test = test_of(alloc, text)?;
-    let nodes = test.nodes();
-    let depth = test.depth();
-    format!(in alloc; "{nodes} {depth}")
+/// Writes how many nodes a condition has, and how deep it is.
+pub fn write_condition_size(condition: &Cond, text: &mut String) -> Result<(), AllocError> {
+    let nodes = condition.nodes();
+    let depth = condition.depth();
+    write!(text, "{nodes} {depth}")
 }
 
 /// The binder's number, the sum, the variable replaced and the form put in; then the number, the name and the sum,
@@ -89,8 +110,12 @@ v0 v1 + bind:1 ; 2 => false false 4 3";
 
 #[test]
 fn formulas(rt: HostRuntime) -> Result<(), AllocError> {
-    check_lines(&rt, Kind::Substitution, SUBSTITUTIONS)?;
-    check_lines(&rt, Kind::Renaming, RENAMINGS)?;
-    check_lines(&rt, Kind::Size, SIZES)?;
-    check_lines(&rt, Kind::TestSize, "v0 v1 + bind:1 x <= => 6 4")
+    check_lines(&rt, Kind::Form(OfForm::Substitution), SUBSTITUTIONS)?;
+    check_lines(&rt, Kind::Form(OfForm::Renaming), RENAMINGS)?;
+    check_lines(&rt, Kind::Form(OfForm::Size), SIZES)?;
+    check_lines(
+        &rt,
+        Kind::Condition(OfCondition::Size),
+        "v0 v1 + bind:1 x <= => 6 4",
+    )
 }

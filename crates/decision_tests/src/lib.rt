@@ -23,6 +23,8 @@ mod formula_tests;
 #[cfg(test)]
 mod fractions;
 #[cfg(test)]
+mod goal_answers;
+#[cfg(test)]
 mod linear_texts;
 #[cfg(test)]
 mod number_tests;

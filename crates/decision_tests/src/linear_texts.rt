@@ -1,11 +1,11 @@
 //! Linear values, rows, points and what is found of rows, as texts. `2x0 -1x1 3 <=0` is the row that twice the variable 0, less the
 //! variable 1, and 3 are at most 0; with `<0` it is strict.
 
-use crate::texts::{text_of, write_fraction, write_multipliers};
+use crate::texts::{write_fraction, write_multipliers};
 use heylo_formula::Val;
 use linear_elim::{Broken, Cause, Elim};
 use linear_form::{Ask, Atom, Lin, Row};
-use std::alloc::{AllocError, Global};
+use std::alloc::AllocError;
 use std::fmt::Write;
 
 fn write_lin(value: &Lin, text: &mut String) -> Result<(), AllocError> {
@@ -20,35 +20,31 @@ fn sign(strict: bool) -> &'static str {
     if strict { " <0 " } else { " <=0 " }
 }
 
-fn atom_text(alloc: Global, atom: &Atom) -> Result<String, AllocError> {
+fn write_atom(atom: &Atom, text: &mut String) -> Result<(), AllocError> {
     match atom {
-        Atom::Truth(x) => format!(in alloc; "b{x}"),
+        Atom::Truth(x) => write!(text, "b{x}"),
         Atom::Row(value, strict) => {
-            let mut text = String::new(alloc);
-            write_lin(value, &mut text)?;
-            text.push_str(sign(*strict))?;
-            Ok(text)
+            write_lin(value, text)?;
+            text.push_str(sign(*strict))
         }
     }
 }
 
-fn value_text(alloc: Global, value: &Lin) -> Result<String, AllocError> {
-    let mut text = text_of(alloc, "= ")?;
-    write_lin(value, &mut text)?;
-    Ok(text)
-}
-
-/// What is asked next, or what the stated form is at the end.
-pub fn ask_text(alloc: Global, ask: &Ask) -> Result<String, AllocError> {
+/// Writes what is asked next, or what the stated form is at the end.
+pub fn write_ask(ask: &Ask, text: &mut String) -> Result<(), AllocError> {
     match ask {
-        Ask::Decide(atom) => atom_text(alloc, atom),
-        Ask::End(Some(value), _) => value_text(alloc, value),
-        Ask::End(None, _) => text_of(alloc, "= inf"),
-        Ask::Bits => text_of(alloc, "bits"),
+        Ask::Decide(atom) => write_atom(atom, text),
+        Ask::End(Some(value), _) => {
+            text.push_str("= ")?;
+            write_lin(value, text)
+        }
+        Ask::End(None, _) => text.push_str("= inf"),
+        Ask::Bits => text.push_str("bits"),
     }
 }
 
-fn write_row(row: &Row, text: &mut String) -> Result<(), AllocError> {
+/// Writes a row.
+pub fn write_row(row: &Row, text: &mut String) -> Result<(), AllocError> {
     for (variable, coefficient) in row.terms.as_slice() {
         write!(text, "{coefficient}x{variable} ")?;
     }
@@ -57,13 +53,12 @@ fn write_row(row: &Row, text: &mut String) -> Result<(), AllocError> {
     text.push_str(sign(row.strict))
 }
 
-/// The rows, one behind the other.
-pub fn rows_text(alloc: Global, rows: &[Row]) -> Result<String, AllocError> {
-    let mut text = String::new(alloc);
+/// Writes the rows, one behind the other.
+pub fn write_rows(rows: &[Row], text: &mut String) -> Result<(), AllocError> {
     for row in rows {
-        write_row(row, &mut text)?;
+        write_row(row, text)?;
     }
-    Ok(text)
+    Ok(())
 }
 
 fn write_value(value: &Val, text: &mut String) -> Result<(), AllocError> {
@@ -75,57 +70,61 @@ fn write_value(value: &Val, text: &mut String) -> Result<(), AllocError> {
     text.push_str(" ")
 }
 
-/// A state, behind a word.
-pub fn point_text(alloc: Global, word: &str, point: &[Val]) -> Result<String, AllocError> {
-    let mut text = text_of(alloc, word)?;
+/// Writes a state, behind a word.
+pub fn write_point(word: &str, point: &[Val], text: &mut String) -> Result<(), AllocError> {
+    text.push_str(word)?;
     for value in point {
-        write_value(value, &mut text)?;
+        write_value(value, text)?;
     }
-    Ok(text)
+    Ok(())
 }
 
-/// The variable, the ends between which it has no whole number, each with whether it is inside, and the values chosen before.
-fn broken_text(alloc: Global, broken: &Broken) -> Result<String, AllocError> {
-    let var = broken.var;
-    let mut text = format!(in alloc; "broken x{var} ")?;
+/// Writes the ends of an interval, each with whether it is inside.
+fn write_interval(broken: &Broken, text: &mut String) -> Result<(), AllocError> {
     text.push_str(if broken.low_in { "[" } else { "(" })?;
-    write_fraction(&broken.low, &mut text)?;
+    write_fraction(&broken.low, text)?;
     text.push_str(" ")?;
-    write_fraction(&broken.high, &mut text)?;
-    text.push_str(if broken.high_in { "]" } else { ")" })?;
+    write_fraction(&broken.high, text)?;
+    text.push_str(if broken.high_in { "]" } else { ")" })
+}
+
+/// Writes the variable, the ends between which it has no whole number, and the values chosen before.
+fn write_broken(broken: &Broken, text: &mut String) -> Result<(), AllocError> {
+    let var = broken.var;
+    write!(text, "broken x{var} ")?;
+    write_interval(broken, text)?;
     for (variable, value) in broken.earlier.as_slice() {
         write!(text, " x{variable} ")?;
-        write_value(value, &mut text)?;
+        write_value(value, text)?;
     }
-    Ok(text)
+    Ok(())
 }
 
-fn refuted_text(alloc: Global, multipliers: &[(u32, u64)]) -> Result<String, AllocError> {
-    let mut text = text_of(alloc, "refuted ")?;
-    write_multipliers(multipliers, &mut text)?;
-    Ok(text)
+fn write_refuted(multipliers: &[(u32, u64)], text: &mut String) -> Result<(), AllocError> {
+    text.push_str("refuted ")?;
+    write_multipliers(multipliers, text)
 }
 
-/// What is found of rows.
-pub fn elim_text(alloc: Global, found: &Elim) -> Result<String, AllocError> {
+/// Writes what is found of rows.
+pub fn write_elim(found: &Elim, text: &mut String) -> Result<(), AllocError> {
     match found {
-        Elim::NoSolution(multipliers) => refuted_text(alloc, multipliers),
-        Elim::Point(point) => point_text(alloc, "point ", point),
-        Elim::Fraction(broken) => broken_text(alloc, broken),
-        Elim::Rows(steps, count) => format!(in alloc; "rows {steps} {count}"),
-        Elim::Bits => text_of(alloc, "bits"),
+        Elim::NoSolution(multipliers) => write_refuted(multipliers, text),
+        Elim::Point(point) => write_point("point ", point, text),
+        Elim::Fraction(broken) => write_broken(broken, text),
+        Elim::Rows(steps, count) => write!(text, "rows {steps} {count}"),
+        Elim::Bits => text.push_str("bits"),
     }
 }
 
-/// Why nothing is known of a goal.
-pub fn cause_text(alloc: Global, cause: &Cause) -> Result<String, AllocError> {
+/// Writes why nothing is known of a goal.
+pub fn write_cause(cause: &Cause, text: &mut String) -> Result<(), AllocError> {
     match cause {
-        Cause::Depth => text_of(alloc, "depth"),
-        Cause::Nodes => text_of(alloc, "nodes"),
-        Cause::Nonlinear(place) => format!(in alloc; "nonlinear at {place}"),
-        Cause::Cells(count) => format!(in alloc; "cells {count}"),
-        Cause::Rows(steps, count) => format!(in alloc; "rows {steps} {count}"),
-        Cause::Bits => text_of(alloc, "bits"),
-        Cause::Fraction(broken) => broken_text(alloc, broken),
+        Cause::Depth => text.push_str("depth"),
+        Cause::Nodes => text.push_str("nodes"),
+        Cause::Nonlinear(place) => write!(text, "nonlinear at {place}"),
+        Cause::Cells(count) => write!(text, "cells {count}"),
+        Cause::Rows(steps, count) => write!(text, "rows {steps} {count}"),
+        Cause::Bits => text.push_str("bits"),
+        Cause::Fraction(broken) => write_broken(broken, text),
     }
 }

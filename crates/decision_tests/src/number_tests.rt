@@ -2,21 +2,17 @@
 //! same.
 
 use crate::answers::{Kind, check_lines};
-use crate::texts::{cut, fraction, text_of, whole, write_fraction};
+use crate::texts::{cut, fraction, whole, write_fraction};
 use heyvl_num::{Ext, Frac, gcd};
-use std::alloc::{AllocError, Global};
+use std::alloc::AllocError;
 use std::cmp::Ordering;
+use std::fmt::Write;
 
-fn fraction_text(alloc: Global, x: &Frac) -> Result<String, AllocError> {
-    let mut text = String::new(alloc);
-    write_fraction(x, &mut text)?;
-    Ok(text)
-}
-
-fn shown(alloc: Global, found: Option<Frac>) -> Result<String, AllocError> {
+/// Writes a number, or that there is none.
+fn write_found(found: Option<Frac>, text: &mut String) -> Result<(), AllocError> {
     match &found {
-        Some(x) => fraction_text(alloc, x),
-        None => text_of(alloc, "none"),
+        Some(x) => write_fraction(x, text),
+        None => text.push_str("none"),
     }
 }
 
@@ -27,17 +23,11 @@ fn extended(word: &str) -> Result<Ext, AllocError> {
     }
 }
 
-fn extended_text(alloc: Global, value: &Ext) -> Result<String, AllocError> {
-    match value {
-        Ext::Fin(x) => fraction_text(alloc, x),
-        Ext::Inf => text_of(alloc, "inf"),
-    }
-}
-
-fn shown_extended(alloc: Global, found: Option<Ext>) -> Result<String, AllocError> {
+fn write_extended(found: Option<Ext>, text: &mut String) -> Result<(), AllocError> {
     match &found {
-        Some(value) => extended_text(alloc, value),
-        None => text_of(alloc, "none"),
+        Some(Ext::Fin(x)) => write_fraction(x, text),
+        Some(Ext::Inf) => text.push_str("inf"),
+        None => text.push_str("none"),
     }
 }
 
@@ -57,56 +47,61 @@ fn unsigned(word: &str) -> Result<u128, AllocError> {
     }
 }
 
-fn divisor(alloc: Global, first: &str, second: &str) -> Result<String, AllocError> {
+fn write_divisor(first: &str, second: &str, text: &mut String) -> Result<(), AllocError> {
     let found = gcd(unsigned(first)?, unsigned(second)?);
-    format!(in alloc; "{found}")
+    write!(text, "{found}")
 }
 
-fn floor(alloc: Global, word: &str) -> Result<String, AllocError> {
-    let found = fraction(word)?.floor();
-    format!(in alloc; "{found}")
-}
-
-fn ceil(alloc: Global, word: &str) -> Result<String, AllocError> {
-    let found = fraction(word)?.ceil();
-    format!(in alloc; "{found}")
-}
-
-/// What an operation of two fractions gives.
-fn of_fractions(alloc: Global, by: &str, first: &str, second: &str) -> Result<String, AllocError> {
+/// Writes what an operation of two fractions gives.
+fn write_of_fractions(
+    by: &str,
+    first: &str,
+    second: &str,
+    text: &mut String,
+) -> Result<(), AllocError> {
     let x = fraction(first)?;
     let y = fraction(second)?;
     match by {
-        "add" => shown(alloc, x.add(&y)),
-        "sub" => shown(alloc, x.sub(&y)),
-        "mul" => shown(alloc, x.mul(&y)),
-        "compare" => text_of(alloc, order(x.compare(&y))),
-        _ => text_of(alloc, "no operation"),
+        "add" => write_found(x.add(&y), text),
+        "sub" => write_found(x.sub(&y), text),
+        "mul" => write_found(x.mul(&y), text),
+        "compare" => text.push_str(order(x.compare(&y))),
+        _ => text.push_str("no operation"),
     }
 }
 
-/// What an operation of two extended numbers gives.
-fn of_extended(alloc: Global, by: &str, first: &str, second: &str) -> Result<String, AllocError> {
+fn write_rounded(by: &str, word: &str, text: &mut String) -> Result<(), AllocError> {
+    let x = fraction(word)?;
+    let found = if by == "floor" { x.floor() } else { x.ceil() };
+    write!(text, "{found}")
+}
+
+/// Writes what an operation of two extended numbers gives.
+fn write_of_extended(
+    by: &str,
+    first: &str,
+    second: &str,
+    text: &mut String,
+) -> Result<(), AllocError> {
     let x = extended(first)?;
     let y = extended(second)?;
     match by {
-        "+" => shown_extended(alloc, x.add(&y)),
-        "*" => shown_extended(alloc, x.mul(&y)),
-        _ => text_of(alloc, order(x.compare(&y))),
+        "+" => write_extended(x.add(&y), text),
+        "*" => write_extended(x.mul(&y), text),
+        _ => text.push_str(order(x.compare(&y))),
     }
 }
 
-/// What an operation gives, as `add 1/2 1/3`; `+`, `*` and `?` are sums, products and comparisons of extended numbers.
-pub fn operation(alloc: Global, text: &str) -> Result<String, AllocError> {
-    let (by, text) = cut(text, ' ');
-    let (first, second) = cut(text, ' ');
+/// Writes what an operation gives, as `add 1/2 1/3`; `+`, `*` and `?` are sums, products and comparisons of extended numbers.
+pub fn write_operation(asked: &str, text: &mut String) -> Result<(), AllocError> {
+    let (by, rest) = cut(asked, ' ');
+    let (first, second) = cut(rest, ' ');
     match by {
-        "new" => shown(alloc, Frac::new(whole(first)?, whole(second)?)),
-        "floor" => floor(alloc, first),
-        "ceil" => ceil(alloc, first),
-        "gcd" => divisor(alloc, first, second),
-        "+" | "*" | "?" => of_extended(alloc, by, first, second),
-        _ => of_fractions(alloc, by, first, second),
+        "new" => write_found(Frac::new(whole(first)?, whole(second)?), text),
+        "floor" | "ceil" => write_rounded(by, first, text),
+        "gcd" => write_divisor(first, second, text),
+        "+" | "*" | "?" => write_of_extended(by, first, second, text),
+        _ => write_of_fractions(by, first, second, text),
     }
 }
 

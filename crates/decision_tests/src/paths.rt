@@ -29,18 +29,19 @@ pub fn extended(
     }
 }
 
-/// The path with these answers to the goal's questions, or None where there are fewer questions.
+/// The path with these answers to the goal's questions, a letter for each: t where the question holds, f where it fails. None where
+/// there are fewer questions.
 pub fn path_with(
     alloc: Global,
     goal: &Goal,
-    answers: &[bool],
+    answers: &str,
 ) -> Result<Option<Vec<Taken>>, AllocError>
     ensures { IfOk result (λ o. IfSome o (λ ps. IsPath (goal_of goal.now) (path_of ps.items))) }
 {
     let mut path = Vec::new(alloc);
-    let mut rest = answers;
-    'answers: while let Some((held, others)) = rest.split_first() {
-        match extended(alloc, goal, path, *held)? {
+    let mut rest = answers.as_bytes();
+    'answers: while let Some((letter, others)) = rest.split_first() {
+        match extended(alloc, goal, path, *letter == b't')? {
             None => return Ok(None),
             Some(longer) => path = longer,
         }

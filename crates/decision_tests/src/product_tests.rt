@@ -1,6 +1,6 @@
 //! Products of two variables, with the place of the operator of the first one.
 
-use crate::answers::{Kind, check_lines};
+use crate::answers::{Kind, OfGoal, check_lines};
 use std::alloc::AllocError;
 
 const PRODUCTS: &str = "\
@@ -16,5 +16,5 @@ x y *5 x <= [] x *2 x => 5..6";
 
 #[test]
 fn first_nonlinear_products(rt: HostRuntime) -> Result<(), AllocError> {
-    check_lines(&rt, Kind::Product, PRODUCTS)
+    check_lines(&rt, Kind::Goal(OfGoal::Product), PRODUCTS)
 }

@@ -73,17 +73,8 @@ pub fn types_of(alloc: Global, text: &str) -> Result<Vec<Ty>, AllocError> {
     Ok(types)
 }
 
-/// Answers to questions, a letter for each: t where the question holds, f where it fails.
-pub fn answers_of(alloc: Global, text: &str) -> Result<Vec<bool>, AllocError> {
-    let mut answers = Vec::new(alloc);
-    for letter in text.bytes() {
-        answers.push(letter == b't')?;
-    }
-    Ok(answers)
-}
-
 /// The index of a row with its multiplier, as `2:3`.
-fn multiple(word: &str) -> Result<(u32, u64), AllocError> {
+pub fn multiple(word: &str) -> Result<(u32, u64), AllocError> {
     let (row, times) = cut(word, ':');
     Ok((index(row)?, multiplier(times)?))
 }
@@ -95,11 +86,6 @@ pub fn multipliers_of(alloc: Global, text: &str) -> Result<Vec<(u32, u64)>, Allo
         multipliers.push(multiple(word)?)?;
     }
     Ok(multipliers)
-}
-
-/// The text of its own.
-pub fn text_of(alloc: Global, text: &str) -> Result<String, AllocError> {
-    String::from_str(alloc, text)
 }
 
 /// Writes a fraction behind a text, as `fraction` reads it.

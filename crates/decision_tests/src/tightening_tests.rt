@@ -6,8 +6,8 @@ ghost use Rattle.linear_form.specs.PlainPaths.{lin_of};
 
 use crate::answers::{Kind, check_lines};
 use crate::fractions::is_zero;
-use crate::linear_texts::rows_text;
-use crate::texts::{cut, fraction, text_of, types_of};
+use crate::linear_texts::write_row;
+use crate::texts::{cut, fraction, types_of};
 use heylo_formula::Ty;
 use heyvl_num::Frac;
 use linear_form::{Lin, tightened};
@@ -36,16 +36,16 @@ fn line_of(alloc: Global, text: &str) -> Result<Lin, AllocError>
     line(alloc, fraction(first)?, fraction(second)?, fraction(rest)?)
 }
 
-/// The row of a linear value; x has the type of the letter, and y is a UInt.
-pub fn tightening(alloc: Global, text: &str) -> Result<String, AllocError> {
-    let (value, text) = cut(text, ';');
-    let (ty, sign) = cut(text, ';');
+/// Writes the row of a linear value; x has the type of the letter, and y is a UInt.
+pub fn write_tightened(alloc: Global, asked: &str, text: &mut String) -> Result<(), AllocError> {
+    let (value, rest) = cut(asked, ';');
+    let (ty, sign) = cut(rest, ';');
     let mut types = types_of(alloc, ty)?;
     types.push(Ty::UInt)?;
     let value = line_of(alloc, value)?;
     match tightened(alloc, &types, &value, sign == "<")? {
-        Some(row) => rows_text(alloc, &[row]),
-        None => text_of(alloc, "bits"),
+        Some(row) => write_row(&row, text),
+        None => text.push_str("bits"),
     }
 }
 

@@ -1,6 +1,6 @@
 //! Certificates as texts.
 
-use crate::texts::{multipliers_of, write_multipliers};
+use crate::texts::{multiple, write_multipliers};
 use farkas_check::Tree;
 use std::alloc::{AllocError, Global};
 
@@ -23,9 +23,8 @@ fn split(alloc: Global, trees: &mut Vec<Tree>) -> Result<(), AllocError> {
 fn leaf(alloc: Global, text: &str) -> Result<Tree, AllocError> {
     let mut multipliers = Vec::new(alloc);
     for part in text.split(',') {
-        let more = multipliers_of(alloc, part)?;
-        for (row, times) in more.as_slice() {
-            multipliers.push((*row, *times))?;
+        if !part.is_empty() {
+            multipliers.push(multiple(part)?)?;
         }
     }
     Ok(Tree::Farkas(multipliers))

@@ -1,11 +1,10 @@
 //! The values of forms, worked out by hand.
 
-use crate::answers::{Kind, check_lines};
-use crate::forms::{goal_of, test_of};
-use crate::texts::{cut, fraction, text_of, write_fraction};
-use heylo_formula::Val;
+use crate::answers::{Kind, OfCondition, OfForm, OfGoal, check_lines};
+use crate::texts::{fraction, write_fraction};
+use heylo_formula::{Form, Val};
 use heyvl_num::Ext;
-use quant_algebra::{At, Held, goal_at, holds_at, value_at};
+use quant_algebra::{At, Held, value_at};
 use std::alloc::{AllocError, Global};
 
 fn val(word: &str) -> Result<Val, AllocError> {
@@ -24,44 +23,32 @@ fn state_of(alloc: Global, text: &str) -> Result<Vec<Val>, AllocError> {
     Ok(state)
 }
 
-fn value_text(alloc: Global, value: &At) -> Result<String, AllocError> {
+fn write_at(value: &At, text: &mut String) -> Result<(), AllocError> {
     match value {
-        At::Value(Ext::Fin(x)) => {
-            let mut text = String::new(alloc);
-            write_fraction(x, &mut text)?;
-            Ok(text)
-        }
-        At::Value(Ext::Inf) => text_of(alloc, "inf"),
-        At::Bits => text_of(alloc, "bits"),
+        At::Value(Ext::Fin(x)) => write_fraction(x, text),
+        At::Value(Ext::Inf) => text.push_str("inf"),
+        At::Bits => text.push_str("bits"),
     }
 }
 
-/// The value of a form in a state.
-pub fn value(alloc: Global, text: &str) -> Result<String, AllocError> {
-    let (form, state) = cut(text, ';');
-    let goal = goal_of(alloc, form, "")?;
+/// Writes the value of a form in a state.
+pub fn write_value(
+    alloc: Global,
+    form: &Form,
+    state: &str,
+    text: &mut String,
+) -> Result<(), AllocError> {
     let state = state_of(alloc, state)?;
-    value_text(alloc, &value_at(&goal.stated, &state))
+    write_at(&value_at(form, &state), text)
 }
 
-fn held(held: Held) -> &'static str {
+/// The word for whether something holds.
+pub fn held(held: Held) -> &'static str {
     match held {
         Held::No => "no",
         Held::Yes => "yes",
         Held::Bits => "bits",
     }
-}
-
-/// Whether a condition without variables holds.
-pub fn truth(alloc: Global, text: &str) -> Result<String, AllocError> {
-    let test = test_of(alloc, text)?;
-    text_of(alloc, held(holds_at(&test, &[])))
-}
-
-/// Whether a goal without variables holds.
-pub fn goal_truth(alloc: Global, text: &str) -> Result<String, AllocError> {
-    let goal = goal_of(alloc, text, "")?;
-    text_of(alloc, held(goal_at(&goal, &[])))
 }
 
 /// Operators of two values. 1/2^63 and 1/2^64 can be compared, and have no difference in 127 bits.
@@ -241,9 +228,9 @@ lower inf 2 => no
 
 #[test]
 fn values(rt: HostRuntime) -> Result<(), AllocError> {
-    check_lines(&rt, Kind::Value, TWO)?;
-    check_lines(&rt, Kind::Value, ONE)?;
-    check_lines(&rt, Kind::Value, CHOSEN)?;
-    check_lines(&rt, Kind::Truth, CONDITIONS)?;
-    check_lines(&rt, Kind::GoalTruth, GOALS)
+    check_lines(&rt, Kind::Form(OfForm::Value), TWO)?;
+    check_lines(&rt, Kind::Form(OfForm::Value), ONE)?;
+    check_lines(&rt, Kind::Form(OfForm::Value), CHOSEN)?;
+    check_lines(&rt, Kind::Condition(OfCondition::Truth), CONDITIONS)?;
+    check_lines(&rt, Kind::Goal(OfGoal::Truth), GOALS)
 }

@@ -1,121 +1,44 @@
-//! Texts of files with the indexes at which they are refused, or what they hold, all by hand.
+//! Texts of files with the procedures that they spell, all by hand.
 
-use heyvl_parse::parse;
-use heyvl_syntax::{File, LexStop, Stmt, Token, lex};
-use std::alloc::Global;
-use std::test::Fail;
+use crate::lines::{Kind, check_lines};
+use std::alloc::AllocError;
 
-fn tokens_of(alloc: Global, text: &str) -> Result<Vec<Token>, Fail> {
-    if text.len() > 10_000 {
-        return Err("too long".into());
-    }
-    match lex(alloc, text.as_bytes()) {
-        Ok(tokens) => Ok(tokens),
-        Err(LexStop::Fault(_, _)) => Ok(Vec::new(alloc)),
-        Err(LexStop::Memory(error)) => Err(error.into()),
-    }
-}
+/// Procedures with the expressions of their clauses, how many statements their bodies have, and the places; and what the first
+/// statement is.
+const FILES: &str = "\
+proc f() -> () gives proc f() -> () pre post 0..14;
+ gives
+/* a */ coproc f() -> () {} gives coproc f() -> () pre post {0} 8..27;
+@wp coproc g(x: Int, y: EUReal) -> (z: Bool) pre x post z pre y {} gives @wp coproc g(x: Int 13..19, y: EUReal 21..30, ) -> (z: Bool 36..43, ) pre x y post z {0} 0..66;
+@wlp proc f() -> () @ert proc f() -> () gives @wlp proc f() -> () pre post 0..19; @ert proc f() -> () pre post 20..39;
+proc f() -> () post a post b gives proc f() -> () pre post a b 0..28;
+proc wp(ert: Real) -> () gives proc wp(ert: Real 8..17, ) -> () pre post 0..24;
+@ert coproc f(x: UInt, y: Bool) -> (z: Int) post a pre b { } gives @ert coproc f(x: UInt 14..21, y: Bool 23..30, ) -> (z: Int 36..42, ) pre b post a {0} 0..60;
+proc f() -> () { f() ; ; x, y = f(a, b) var z: Int var w: Bool = true; validate } coproc g() -> () gives proc f() -> () pre post {5} 0..81; coproc g() -> () pre post 82..98; assign 17..20;
+coproc f() -> () { if a { x = 1 } else if b { x = 2 } else { x = 3 } if \\cap { } else { tick 1 } @invariant(a) @ranking(1, b) while c { x = flip(1/2); y = choose { 1/2: a, 1/2: b } } havoc x, y coassume a } gives coproc f() -> () pre post {5} 0..206; if 2 1 19..68; assign 26..31;";
 
-/// Texts that are files: how many procedures they have, and how many statements the first body has.
-const FILES: [(&str, usize, usize); 5] = [
-    ("", 0, 0),
-    ("proc f() -> ()", 1, 0),
-    (
-        "@ert coproc f(x: UInt, y: Bool) -> (z: Int) post a pre b { }",
-        1,
-        0,
-    ),
-    (
-        "proc f() -> () { f() ; ; x, y = f(a, b) var z: Int var w: Bool = true; validate } coproc g() -> ()",
-        2,
-        5,
-    ),
-    (
-        "coproc f() -> () { if a { x = 1 } else if b { x = 2 } else { x = 3 } if \\cap { } else { tick 1 } @invariant(a) @ranking(1, b) while c { x = flip(1/2); y = choose { 1/2: a, 1/2: b } } havoc x, y coassume a }",
-        1,
-        5,
-    ),
-];
-
-fn statements(file: &File) -> usize {
-    match file.procs.first() {
-        None => 0,
-        Some(procedure) => match &procedure.body {
-            None => 0,
-            Some(body) => body.len(),
-        },
-    }
-}
-
-#[test]
-fn reads_files(rt: HostRuntime) -> Result<(), Fail> {
-    let alloc = rt.alloc();
-    for (text, procedures, count) in FILES {
-        let tokens = tokens_of(alloc, text)?;
-        if tokens.len() < 2000 {
-            match parse(alloc, &tokens) {
-                Ok(file) => {
-                    assert_eq!(rt; file.procs.len(), procedures, "{text}");
-                    assert_eq!(rt; statements(&file), count, "{text}");
-                }
-                Err(_) => assert_eq!(rt; 1, 0, "{text}"),
-            }
-        }
-    }
-    Ok(())
-}
-
-/// The first statement of the first body.
-fn first_statement(file: &File) -> Option<&Stmt> {
-    file.procs.first()?.body.as_ref()?.first()
-}
-
-/// The place of a procedure and that of a statement, which ends with its last token and not with the semicolon behind it.
-#[test]
-fn places_end_with_the_last_token(rt: HostRuntime) -> Result<(), Fail> {
-    let alloc = rt.alloc();
-    let tokens = tokens_of(alloc, "proc f() -> () { x = 1 ; }")?;
-    if tokens.len() < 2000 {
-        match parse(alloc, &tokens) {
-            Ok(file) => {
-                let spans = match (file.procs.first(), first_statement(&file)) {
-                    (Some(procedure), Some(Stmt::Assign(_, _, span))) => {
-                        Some((procedure.span.from, procedure.span.to, span.from, span.to))
-                    }
-                    _ => None,
-                };
-                assert_eq!(rt; spans, Some((0, 26, 17, 22)));
-            }
-            Err(_) => assert_eq!(rt; 1, 0),
-        }
-    }
-    Ok(())
-}
+/// A statement ends with its last token and not with the semicolon behind it.
+const ENDS: &str =
+    "proc f() -> () { x = 1 ; } gives proc f() -> () pre post {1} 0..26; assign 17..22;";
 
 /// An else belongs to the if whose block it follows.
+const ELSE: &str =
+    "proc f() -> () { if a { if b { } else { x = 1 } } } gives proc f() -> () pre post {1} 0..51; if 1 0 17..49; if 1 1 24..47;";
+
+/// A branch in a loop.
+const LOOP: &str =
+    "@ert coproc p(a: Bool) -> () { @invariant(1) while true { if a { } else { x = flip(1) } } } gives @ert coproc p(a: Bool 14..21, ) -> () pre post {1} 0..91; while 1 1 31..89; if 1 1 58..87;";
+
 #[test]
-fn else_belongs_to_the_inner_if(rt: HostRuntime) -> Result<(), Fail> {
-    let alloc = rt.alloc();
-    let tokens = tokens_of(alloc, "proc f() -> () { if a { if b { } else { x = 1 } } }")?;
-    if tokens.len() < 2000 {
-        match parse(alloc, &tokens) {
-            Ok(file) => {
-                let sizes = match first_statement(&file) {
-                    Some(Stmt::If(arms, other, _)) => match arms.first() {
-                        Some(arm) => match arm.body.first() {
-                            Some(Stmt::If(inner, last, _)) => {
-                                Some((arms.len(), other.len(), inner.len(), last.len()))
-                            }
-                            _ => None,
-                        },
-                        None => None,
-                    },
-                    _ => None,
-                };
-                assert_eq!(rt; sizes, Some((1, 0, 1, 1)));
-            }
-            Err(_) => assert_eq!(rt; 1, 0),
-        }
-    }
-    Ok(())
+fn reads_files(rt: HostRuntime) -> Result<(), AllocError> {
+    check_lines(&rt, Kind::File, FILES)?;
+    check_lines(&rt, Kind::File, ENDS)?;
+    check_lines(&rt, Kind::File, ELSE)?;
+    check_lines(&rt, Kind::File, LOOP)
+}
+
+#[test]
+fn copies_files(rt: HostRuntime) -> Result<(), AllocError> {
+    check_lines(&rt, Kind::Copy, FILES)?;
+    check_lines(&rt, Kind::Copy, LOOP)
 }

@@ -1,15 +1,18 @@
-//! Tests of the language, over the public calls that no command reaches: tokens, trees, places and copies.
+//! Tests of the language, over the public calls that no command reaches: tokens, trees, places and copies. Each line of a text is a
+//! test.
 #![tactic(auto)]
 
-#[cfg(test)]
-mod copy_tests;
 #[cfg(test)]
 mod expression_tests;
 #[cfg(test)]
 mod file_tests;
 #[cfg(test)]
-mod limit_tests;
+mod file_texts;
 #[cfg(test)]
-mod procedure_tests;
+mod lines;
 #[cfg(test)]
 mod token_tests;
+#[cfg(test)]
+mod token_texts;
+#[cfg(test)]
+mod tree_texts;

@@ -1,137 +1,153 @@
-//! Rows of bytes with their tokens, written by hand.
+//! Bytes with their tokens, written by hand.
 
-use heyvl_syntax::{LexStop, Token, TokenKind, lex, place_at};
+use crate::lines::{Kind, check_lines};
+use crate::token_texts::write_lexed;
+use heyvl_syntax::{lex, place_at};
 use std::alloc::{AllocError, Global};
 use std::fmt::Write;
 use std::process::Abort;
 
-/// One line of text per token, or the fault.
-fn show(alloc: Global, lexed: Result<Vec<Token>, LexStop>) -> Result<String, AllocError> {
-    let mut text = String::new(alloc);
-    match lexed {
-        Err(stop) => write!(text, "{stop}")?,
-        Ok(tokens) => {
-            for token in &tokens {
-                let kind = match &token.kind {
-                    TokenKind::Word(name) => {
-                        let name = std::str::from_utf8(name.as_bytes()).unwrap_or("?");
-                        format!(in alloc; "word {name}")?
-                    }
-                    TokenKind::Number(lit) => {
-                        let digits = lit.digits;
-                        let places = lit.places;
-                        format!(in alloc; "number {digits}/{places}")?
-                    }
-                    TokenKind::Key(key) => format!(in alloc; "key {key:?}")?,
-                    TokenKind::Mark(mark) => format!(in alloc; "mark {mark:?}")?,
-                };
-                let span = token.span;
-                write!(text, "{kind} {span}; ")?;
-            }
-        }
-    }
-    Ok(text)
+/// Texts with their tokens or the fault.
+const TEXTS: &str = "\
+a\rb gives word a 0..1; word b 2..3;
+ gives
+\0 gives fault 1 at the bytes 0..1
+a \0 gives fault 1 at the bytes 2..3
+a#\0 gives fault 1 at the bytes 1..2
+ä gives fault 1 at the bytes 0..1
+// a gives
+// gives
+a// gives word a 0..1;
+/**/ gives
+/***/b gives word b 5..6;
+/*/ gives fault 2 at the bytes 0..2
+/*/*/ gives
+/* a gives fault 2 at the bytes 0..2
+a /* b * gives fault 2 at the bytes 2..4
+/* /* */ gives
+/* /* */ */ gives mark Star 9..10; mark Slash 10..11;
+/* // */b gives word b 8..9;
+a/b gives word a 0..1; mark Slash 1..2; word b 2..3;
+0.50 gives number 5/1 0..4;
+1.0 gives number 1/0 0..3;
+007 gives number 7/0 0..3;
+10 gives number 10/0 0..2;
+0.00 gives number 0/0 0..4;
+1. gives number 1/0 0..1; mark Dot 1..2;
+.5 gives mark Dot 0..1; number 5/0 1..2;
+1.5.25 gives number 15/1 0..3; mark Dot 3..4; number 25/0 4..6;
+1a gives number 1/0 0..1; word a 1..2;
+170141183460469231731687303715884105727 gives number 170141183460469231731687303715884105727/0 0..39;
+ 170141183460469231731687303715884105728 gives fault 3 at the bytes 1..40
+17014118346046923173168730371588410572.8 gives fault 3 at the bytes 0..40
+0.00000000000000000000000000000000000001 gives number 1/38 0..40;
+0.000000000000000000000000000000000000000 gives fault 3 at the bytes 0..41
+0.00000000000000000000000000000000000000 gives number 0/0 0..40;
+000000000000000000000000000000000000000001.5 gives number 15/1 0..44;
+a<==b gives word a 0..1; mark CoImply 1..4; word b 4..5;
+a<=b gives word a 0..1; mark AtMost 1..3; word b 3..4;
+a<= =b gives word a 0..1; mark AtMost 1..3; mark Assign 4..5; word b 5..6;
+==> gives mark Imply 0..3;
+== > gives mark Same 0..2; mark More 3..4;
+->- > gives mark Arrow 0..2; mark Minus 2..3; mark More 4..5;
+\\cap\\cup \\infty gives key Cap 0..4; key Cup 4..8; key Infty 9..15;
+\\capx gives fault 1 at the bytes 0..1
+\\cap_ gives fault 1 at the bytes 0..1
+# /* 170141183460469231731687303715884105728 gives fault 1 at the bytes 0..1
+proc procs _ _1 Sup gives key Proc 0..4; word procs 5..10; word _ 11..12; word _1 13..15; word Sup 16..19;";
+
+/// Each key word.
+const KEYS: &str = "\
+proc gives key Proc 0..4;
+coproc gives key CoProc 0..6;
+pre gives key Pre 0..3;
+post gives key Post 0..4;
+var gives key Var 0..3;
+if gives key If 0..2;
+else gives key Else 0..4;
+while gives key While 0..5;
+assert gives key Assert 0..6;
+assume gives key Assume 0..6;
+coassert gives key CoAssert 0..8;
+coassume gives key CoAssume 0..8;
+havoc gives key Havoc 0..5;
+cohavoc gives key CoHavoc 0..7;
+validate gives key Validate 0..8;
+covalidate gives key CoValidate 0..10;
+reward gives key Reward 0..6;
+tick gives key Tick 0..4;
+true gives key TrueWord 0..4;
+false gives key FalseWord 0..5;
+Bool gives key BoolWord 0..4;
+Int gives key IntWord 0..3;
+UInt gives key UIntWord 0..4;
+UReal gives key URealWord 0..5;
+EUReal gives key EURealWord 0..6;
+Real gives key RealWord 0..4;
+ite gives key Ite 0..3;
+flip gives key Flip 0..4;
+unif gives key Unif 0..4;
+choose gives key Choose 0..6;
+sup gives key Sup 0..3;
+inf gives key Inf 0..3;
+\\cap gives key Cap 0..4;
+\\cup gives key Cup 0..4;
+\\infty gives key Infty 0..6;";
+
+/// Each mark.
+const MARKS: &str = "\
+( gives mark ParenLeft 0..1;
+) gives mark ParenRight 0..1;
+{ gives mark BraceLeft 0..1;
+} gives mark BraceRight 0..1;
+[ gives mark BracketLeft 0..1;
+] gives mark BracketRight 0..1;
+, gives mark Comma 0..1;
+: gives mark Colon 0..1;
+; gives mark Semi 0..1;
+. gives mark Dot 0..1;
+= gives mark Assign 0..1;
+== gives mark Same 0..2;
+!= gives mark Differ 0..2;
+< gives mark Less 0..1;
+<= gives mark AtMost 0..2;
+<== gives mark CoImply 0..3;
+> gives mark More 0..1;
+>= gives mark AtLeast 0..2;
++ gives mark Plus 0..1;
+- gives mark Minus 0..1;
+* gives mark Star 0..1;
+/ gives mark Slash 0..1;
+&& gives mark AndAnd 0..2;
+|| gives mark OrOr 0..2;
+! gives mark Bang 0..1;
+~ gives mark Tilde 0..1;
+==> gives mark Imply 0..3;
+-> gives mark Arrow 0..2;
+? gives mark Question 0..1;
+@ gives mark AtSign 0..1;";
+
+#[test]
+fn reads_texts(rt: HostRuntime) -> Result<(), AllocError> {
+    check_lines(&rt, Kind::Tokens, TEXTS)?;
+    check_lines(&rt, Kind::Tokens, KEYS)?;
+    check_lines(&rt, Kind::Tokens, MARKS)
 }
 
-/// Bytes, and their tokens or the fault.
-const ROWS: [(&[u8], &str); 50] = [
-    (b"", ""),
+/// Bytes with line feeds, or such that are no text, and their tokens.
+const ROWS: [(&[u8], &str); 4] = [
     (b" \t\r\n", ""),
-    (b"a\rb", "word a 0..1; word b 2..3; "),
-    (b"\0", "fault 1 at the bytes 0..1"),
-    (b"a \0", "fault 1 at the bytes 2..3"),
-    (b"a#\0", "fault 1 at the bytes 1..2"),
-    (b"\xC3\xA4", "fault 1 at the bytes 0..1"),
     (b"a//\xC3\xA4\xFF\0\nb", "word a 0..1; word b 8..9; "),
     (b"a/*\xC3\xA4\xFF\0*/b", "word a 0..1; word b 9..10; "),
-    (b"// a", ""),
-    (b"//", ""),
-    (b"a//", "word a 0..1; "),
     (b"///* \nb", "word b 6..7; "),
-    (b"/**/", ""),
-    (b"/***/b", "word b 5..6; "),
-    (b"/*/", "fault 2 at the bytes 0..2"),
-    (b"/*/*/", ""),
-    (b"/* a", "fault 2 at the bytes 0..2"),
-    (b"a /* b *", "fault 2 at the bytes 2..4"),
-    (b"/* /* */", ""),
-    (b"/* /* */ */", "mark Star 9..10; mark Slash 10..11; "),
-    (b"/* // */b", "word b 8..9; "),
-    (b"a/b", "word a 0..1; mark Slash 1..2; word b 2..3; "),
-    (b"0.50", "number 5/1 0..4; "),
-    (b"1.0", "number 1/0 0..3; "),
-    (b"007", "number 7/0 0..3; "),
-    (b"10", "number 10/0 0..2; "),
-    (b"0.00", "number 0/0 0..4; "),
-    (b"1.", "number 1/0 0..1; mark Dot 1..2; "),
-    (b".5", "mark Dot 0..1; number 5/0 1..2; "),
-    (
-        b"1.5.25",
-        "number 15/1 0..3; mark Dot 3..4; number 25/0 4..6; ",
-    ),
-    (b"1a", "number 1/0 0..1; word a 1..2; "),
-    (
-        b"170141183460469231731687303715884105727",
-        "number 170141183460469231731687303715884105727/0 0..39; ",
-    ),
-    (
-        b" 170141183460469231731687303715884105728",
-        "fault 3 at the bytes 1..40",
-    ),
-    (
-        b"17014118346046923173168730371588410572.8",
-        "fault 3 at the bytes 0..40",
-    ),
-    (
-        b"0.00000000000000000000000000000000000001",
-        "number 1/38 0..40; ",
-    ),
-    (
-        b"0.000000000000000000000000000000000000000",
-        "fault 3 at the bytes 0..41",
-    ),
-    (
-        b"0.00000000000000000000000000000000000000",
-        "number 0/0 0..40; ",
-    ),
-    (
-        b"000000000000000000000000000000000000000001.5",
-        "number 15/1 0..44; ",
-    ),
-    (b"a<==b", "word a 0..1; mark CoImply 1..4; word b 4..5; "),
-    (b"a<=b", "word a 0..1; mark AtMost 1..3; word b 3..4; "),
-    (
-        b"a<= =b",
-        "word a 0..1; mark AtMost 1..3; mark Assign 4..5; word b 5..6; ",
-    ),
-    (b"==>", "mark Imply 0..3; "),
-    (b"== >", "mark Same 0..2; mark More 3..4; "),
-    (
-        b"->- >",
-        "mark Arrow 0..2; mark Minus 2..3; mark More 4..5; ",
-    ),
-    (
-        b"\\cap\\cup \\infty",
-        "key Cap 0..4; key Cup 4..8; key Infty 9..15; ",
-    ),
-    (b"\\capx", "fault 1 at the bytes 0..1"),
-    (b"\\cap_", "fault 1 at the bytes 0..1"),
-    (
-        b"# /* 170141183460469231731687303715884105728",
-        "fault 1 at the bytes 0..1",
-    ),
-    (
-        b"proc procs _ _1 Sup",
-        "key Proc 0..4; word procs 5..10; word _ 11..12; word _1 13..15; word Sup 16..19; ",
-    ),
 ];
 
 fn check_rows(rt: &(impl Abort + AllocGlobal), rows: &[(&[u8], &str)]) -> Result<(), AllocError> {
     let alloc = rt.alloc();
-    for (bytes, want) in rows {
-        assert!(rt; bytes.len() < 100);
-        let got = show(alloc, lex(alloc, bytes))?;
-        assert_eq!(rt; got.as_str(), *want);
+    for (bytes, wanted) in rows {
+        let mut found = String::new(alloc);
+        write_lexed(alloc, bytes, &mut found)?;
+        assert!(rt; found.as_str() == *wanted, "{wanted}");
     }
     Ok(())
 }
@@ -176,67 +192,38 @@ fn alone(byte: u8) -> &'static str {
 fn reads_each_byte(rt: HostRuntime) -> Result<(), AllocError> {
     let alloc = rt.alloc();
     for byte in 0..=255u8 {
-        let got = show(alloc, lex(alloc, &[byte]))?;
-        assert!(rt; got.as_str().starts_with(alone(byte)), "at {byte}");
+        let mut found = String::new(alloc);
+        write_lexed(alloc, &[byte], &mut found)?;
+        assert!(rt; found.as_str().starts_with(alone(byte)), "at {byte}");
     }
     Ok(())
 }
 
-#[test]
-fn reads_each_key_and_mark(rt: HostRuntime) -> Result<(), AllocError> {
-    let alloc = rt.alloc();
-    let keys =
-        "proc coproc pre post var if else while assert assume coassert coassume havoc cohavoc validate covalidate \
-        reward tick true false Bool Int UInt UReal EUReal Real ite flip unif choose sup inf \\cap \\cup \\infty";
-    let marks = "( ) { } [ ] , : ; . = == != < <= <== > >= + - * / && || ! ~ ==> -> ? @";
-    let names =
-        "Proc CoProc Pre Post Var If Else While Assert Assume CoAssert CoAssume Havoc CoHavoc Validate CoValidate \
-        Reward Tick TrueWord FalseWord BoolWord IntWord UIntWord URealWord EURealWord RealWord Ite Flip Unif Choose Sup \
-        Inf Cap Cup Infty";
-    let signs =
-        "ParenLeft ParenRight BraceLeft BraceRight BracketLeft BracketRight Comma Colon Semi Dot Assign Same \
-        Differ Less AtMost CoImply More AtLeast Plus Minus Star Slash AndAnd OrOr Bang Tilde Imply Arrow Question AtSign";
-    for (text, name) in keys.split_whitespace().zip(names.split_whitespace()) {
-        let end = text.len();
-        let want = format!(in alloc; "key {name} 0..{end}; ")?;
-        let got = show(alloc, lex(alloc, text.as_bytes()))?;
-        assert_eq!(rt; got.as_str(), want.as_str());
-    }
-    for (text, name) in marks.split_whitespace().zip(signs.split_whitespace()) {
-        let end = text.len();
-        let want = format!(in alloc; "mark {name} 0..{end}; ")?;
-        let got = show(alloc, lex(alloc, text.as_bytes()))?;
-        assert_eq!(rt; got.as_str(), want.as_str());
-    }
-    Ok(())
-}
-
+/// The place of each byte, and of the end.
 #[test]
 fn shows_places(rt: HostRuntime) -> Result<(), AllocError> {
-    let alloc = rt.alloc();
-    let rows = [
-        (0, "1:1"),
-        (1, "1:2"),
-        (2, "1:3"),
-        (3, "2:1"),
-        (4, "3:1"),
-        (5, "3:2"),
-        (6, "3:3"),
-    ];
-    for (index, want) in rows {
+    let mut found = String::new(rt.alloc());
+    for index in 0..7 {
         let place = place_at(b"ab\n\n\xFFc", index);
-        let got = format!(in alloc; "{place}")?;
-        assert_eq!(rt; got.as_str(), want);
+        write!(found, "{place} ")?;
     }
+    assert!(rt; found.as_str() == "1:1 1:2 1:3 2:1 3:1 3:2 3:3 ");
     Ok(())
+}
+
+/// How many tokens so many equal bytes are; want of memory where they are none.
+fn count(alloc: Global, byte: u8) -> Result<usize, AllocError> {
+    let bytes = vec![in alloc; byte; 1 << 20]?;
+    match lex(alloc, &bytes) {
+        Ok(tokens) => Ok(tokens.len()),
+        Err(_) => Err(AllocError),
+    }
 }
 
 #[test]
 fn reads_long_files(rt: HostRuntime) -> Result<(), AllocError> {
     let alloc = rt.alloc();
-    let slashes = vec![in alloc; b'/'; 1 << 20]?;
-    assert!(rt; lex(alloc, &slashes).is_ok_and(|tokens| tokens.is_empty()));
-    let less = vec![in alloc; b'<'; 1 << 20]?;
-    assert!(rt; lex(alloc, &less).is_ok_and(|tokens| tokens.len() == 1 << 20));
+    assert!(rt; count(alloc, b'/')? == 0);
+    assert!(rt; count(alloc, b'<')? == 1 << 20);
     Ok(())
 }

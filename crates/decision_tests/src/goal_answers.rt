@@ -1,0 +1,147 @@
+//! What the libraries give for goals.
+
+use crate::linear_texts::{write_ask, write_cause, write_point, write_rows};
+use crate::paths::path_with;
+use crate::test_goals::decision_of;
+use crate::texts::{cut, index};
+use crate::tree_texts::{leaves, tree_of, write_leaf, write_letters};
+use farkas_check::{Checked, Tree, check};
+use heylo_formula::Goal;
+use linear_form::{RowList, ask, nonlinear, rows};
+use region_split::Decision;
+use std::alloc::{AllocError, Global};
+use std::fmt::Write;
+
+/// Writes what stands behind these answers to the goal's questions.
+pub fn write_question(
+    alloc: Global,
+    goal: &Goal,
+    answers: &str,
+    text: &mut String,
+) -> Result<(), AllocError> {
+    match path_with(alloc, goal, answers)? {
+        Some(path) => write_ask(&ask(alloc, goal, &path)?, text),
+        None => text.push_str("none"),
+    }
+}
+
+/// `answers ; +`: writes the rows of the path, with the denied goal where there is a plus sign.
+pub fn write_path_rows(
+    alloc: Global,
+    goal: &Goal,
+    rest: &str,
+    text: &mut String,
+) -> Result<(), AllocError> {
+    let (answers, denied) = cut(rest, ';');
+    let Some(path) = path_with(alloc, goal, answers)? else {
+        return text.push_str("none");
+    };
+    match rows(alloc, goal, &path, denied == "+")? {
+        RowList::Rows(list) => write_rows(&list, text),
+        RowList::Bits => text.push_str("bits"),
+    }
+}
+
+/// Writes where the first product of two variables stands.
+pub fn write_product(goal: &Goal, text: &mut String) -> Result<(), AllocError> {
+    match nonlinear(goal) {
+        Some(place) => write!(text, "{place}"),
+        None => text.push_str("none"),
+    }
+}
+
+fn write_refusal(answers: &[bool], text: &mut String) -> Result<(), AllocError> {
+    text.push_str("no ")?;
+    for answer in answers {
+        text.push_str(if *answer { "t" } else { "f" })?;
+    }
+    Ok(())
+}
+
+fn write_checked(
+    alloc: Global,
+    goal: &Goal,
+    tree: &Tree,
+    text: &mut String,
+) -> Result<(), AllocError> {
+    match check(alloc, goal, tree)? {
+        Checked::Yes => text.push_str("yes"),
+        Checked::No(answers) => write_refusal(&answers, text),
+    }
+}
+
+/// Writes whether a certificate is accepted, or after which answers it is refused.
+pub fn write_check(
+    alloc: Global,
+    goal: &Goal,
+    tree: &str,
+    text: &mut String,
+) -> Result<(), AllocError> {
+    write_checked(alloc, goal, &tree_of(alloc, tree)?, text)
+}
+
+fn write_proved(
+    alloc: Global,
+    goal: &Goal,
+    tree: &Tree,
+    text: &mut String,
+) -> Result<(), AllocError> {
+    let count = leaves(tree);
+    write!(text, "proved {count} ")?;
+    if count <= 100 {
+        write_checked(alloc, goal, tree, text)?;
+    }
+    Ok(())
+}
+
+fn write_decided(
+    alloc: Global,
+    goal: &Goal,
+    decision: &Decision,
+    text: &mut String,
+) -> Result<(), AllocError> {
+    match decision {
+        Decision::Proved(Some(tree)) => write_proved(alloc, goal, tree, text),
+        Decision::Proved(None) => text.push_str("proved"),
+        Decision::Falsified(point) => write_point("fails at ", point, text),
+        Decision::Unknown(cause) => write_cause(cause, text),
+    }
+}
+
+/// Writes what is decided, and whether a certificate of at most 100 leaves is accepted.
+pub fn write_decision(alloc: Global, goal: &Goal, text: &mut String) -> Result<(), AllocError> {
+    match &decision_of(alloc, goal)? {
+        Some(decision) => write_decided(alloc, goal, decision, text),
+        None => text.push_str("none"),
+    }
+}
+
+fn write_tree(
+    alloc: Global,
+    goal: &Goal,
+    tree: &Tree,
+    leaf: u32,
+    text: &mut String,
+) -> Result<(), AllocError> {
+    write_letters(tree, text)?;
+    text.push_str(" ")?;
+    write_leaf(tree, leaf, text)?;
+    match check(alloc, goal, tree)? {
+        Checked::Yes => Ok(()),
+        Checked::No(_) => text.push_str("refused"),
+    }
+}
+
+/// Writes the letters of the certificate's nodes, and the multipliers of the leaf with this number.
+pub fn write_certificate(
+    alloc: Global,
+    goal: &Goal,
+    leaf: &str,
+    text: &mut String,
+) -> Result<(), AllocError> {
+    let leaf = index(leaf)?;
+    match &decision_of(alloc, goal)? {
+        Some(Decision::Proved(Some(tree))) => write_tree(alloc, goal, tree, leaf, text),
+        _ => text.push_str("none"),
+    }
+}

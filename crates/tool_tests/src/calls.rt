@@ -1,0 +1,119 @@
+//! Calls of the tool over devices in memory, and what words ask for.
+
+use crate::sinks::sink_of;
+use crate::texts::{cut, numbers_of, write_bytes};
+use heyvl_io::{MemSink, MemSource};
+use heyvl_tool::{Outcome, Settings, run_tool, settings};
+use std::alloc::{AllocError, Global};
+use std::fmt::Write;
+
+const COIN: &str = "coproc coin() -> (b: Bool) pre 1/2 post [b] { b = flip(1/2) }";
+
+/// The coin, written closely.
+const CLOSE_COIN: &str = "coproc coin()->(b:Bool)pre 0.50 post[b]{b=flip(1/2);}";
+
+/// The certificate of the coin.
+const COIN_CERT: &str = "caesar certificate 1\ngoal 0 main\nf 0:1\nend\n";
+
+fn file_named(name: &str) -> &'static str {
+    match name {
+        "coin" => COIN,
+        "close coin" => CLOSE_COIN,
+        _ => "",
+    }
+}
+
+/// The words of a text, with commas between them.
+pub fn words_of(alloc: Global, text: &str) -> Result<Vec<String>, AllocError> {
+    let mut words = Vec::new(alloc);
+    for word in text.split(',') {
+        words.push(String::from_str(alloc, word)?)?;
+    }
+    Ok(words)
+}
+
+fn file_of(alloc: Global, name: &str, bytes: &[u8]) -> Result<(String, Vec<u8>), AllocError> {
+    let name = String::from_str(alloc, name)?;
+    Ok((name, Vec::from_slice(alloc, bytes)?))
+}
+
+/// A source whose names `f` and `c` hold these bytes, of which a read gives at most 64, and these calls fail.
+pub fn source_of(
+    alloc: Global,
+    file: &[u8],
+    second: &[u8],
+    fail: Vec<u64>,
+) -> Result<MemSource, AllocError> {
+    let mut files = Vec::new(alloc);
+    files.push(file_of(alloc, "f", file)?)?;
+    files.push(file_of(alloc, "c", second)?)?;
+    Ok(MemSource::new(files, 64, fail))
+}
+
+/// Writes the status, the fault, how many answers there are, how many bytes were written, how many texts were read, and the bytes.
+fn write_outcome(
+    outcome: &Outcome,
+    source: &MemSource,
+    sink: &MemSink,
+    text: &mut String,
+) -> Result<(), AllocError> {
+    let status = outcome.status;
+    let fault = outcome.fault;
+    let answers = outcome.answers.len();
+    let written = outcome.written;
+    let order = source.order;
+    write!(text, "{status} {fault:?} {answers} {written} {order:?} ")?;
+    write_bytes(&sink.bytes, text)
+}
+
+/// Calls the tool, and writes what it comes to.
+pub fn write_run(
+    alloc: Global,
+    words: &str,
+    source: &mut MemSource,
+    sink: &mut MemSink,
+    text: &mut String,
+) -> Result<(), AllocError> {
+    let words = words_of(alloc, words)?;
+    let outcome = run_tool(alloc, &words, source, sink);
+    write_outcome(&outcome, source, sink, text)
+}
+
+/// `words ; file ; calls ; most ; calls`: what the tool comes to over a file and the certificate of the coin, where these calls of the
+/// source fail, a write takes at most so many bytes, and these writes fail.
+pub fn write_call(alloc: Global, asked: &str, text: &mut String) -> Result<(), AllocError> {
+    let (words, rest) = cut(asked, ';');
+    let (file, rest) = cut(rest, ';');
+    let (fail, rest) = cut(rest, ';');
+    let (most, stop) = cut(rest, ';');
+    let file = file_named(file).as_bytes();
+    let mut source = source_of(alloc, file, COIN_CERT.as_bytes(), numbers_of(alloc, fail)?)?;
+    let mut sink = sink_of(alloc, "64", most, stop)?;
+    write_run(alloc, words, &mut source, &mut sink, text)
+}
+
+/// The word of a command.
+fn command(settings: &Settings) -> &'static str {
+    match settings {
+        Settings::Verify(_) => "verify",
+        Settings::Print(_) => "print",
+        Settings::Run(_, _, _) => "run",
+        Settings::Certify(_) => "certify",
+        Settings::Check(_, _) => "check",
+    }
+}
+
+fn write_settings(settings: &Settings, text: &mut String) -> Result<(), AllocError> {
+    let command = command(settings);
+    let file = settings.file();
+    let second = settings.second().unwrap_or("none");
+    write!(text, "{command} [{file}] [{second}]")
+}
+
+/// `words`: the command that they ask for, its file and its second text.
+pub fn write_asked(alloc: Global, asked: &str, text: &mut String) -> Result<(), AllocError> {
+    match settings(alloc, &words_of(alloc, asked)?) {
+        Ok(settings) => write_settings(&settings, text),
+        Err(_) => text.push_str("no command"),
+    }
+}
