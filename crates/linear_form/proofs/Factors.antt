@@ -147,6 +147,14 @@ quotient_is k x w n e = go x.num n (ratio_equal_cross (w.num *ℤ x.num) (w.den 
     go (pos (suc m)) n h = ratio_same (k *ℤ pos x.den) (suc m) w.num w.den (zero-lt-suc m) w.positive (up k w.num (pos (suc m)) x.den w.den h) ∙ ratio_parts w
     go (negsuc m) n h = ratio_same (neg_ℤ (k *ℤ pos x.den)) (suc m) w.num w.den (zero-lt-suc m) w.positive (minus (k *ℤ pos x.den) (pos w.den) (w.num *ℤ pos (suc m)) (up k w.num (negsuc m) x.den w.den h ∙ down w.num m)) ∙ ratio_parts w
 
+same_bits : (k n : ℤ) → FitsSigned w128 k → FitsSigned w128 n → of_z w128 k ≡ of_z w128 n → k ≡ n
+same_bits k n f g e = omega (arith, ints)
+
+-- The numerator of a fraction over it is the denominator.
+pub own_quotient : (k n : ℤ) (x w q : Rational) → FitsSigned w128 k → FitsSigned w128 n → n ≡ x.num → of_z w128 k ≡ of_z w128 n → q ≡ whole (pos x.den) → is_zeroʳ x ≡ false → w *ʳ x ≡ whole k → q ≡ w
+unfolding whole
+own_quotient k n x w q f g e b d z h = d ∙ sym (quotient_is k x (whole (pos x.den)) z (sym (cleared x) ∙ ap whole (sym e ∙ sym (same_bits k n f g b)))) ∙ quotient_is k x w z h
+
 -- ---- Sizes
 
 wide_product : (k e : ℤ) → unsigned_abs k < 2 ^ 62 → unsigned_abs e < 2 ^ 62 → unsigned_abs (k *ℤ e) < 2 ^ 124

@@ -1,7 +1,7 @@
 -- Evaluations that go on from a place, step by step.
 use Rattle.std.proofs.Common.{◌≡◌, ℕ, ◌+◌, ◌*◌, ◌<◌, ◌≤◌, List, [], ◌∷◌, ◌++◌, refl, sym, ap, ap₂, ◌∙◌, subst, arith, Bool, true, false, cond, take, drop, length}
 use Prim.Native.Nat.{zero, suc}
-use Rattle.std.specs.Prelude.{Option, Some, None, Result, IfOk}
+use Rattle.std.specs.Prelude.{Option, Some, None, Result, Ok, Err, IfOk}
 use Rattle.heylo_formula.specs.Goals.{Goal}
 use Rattle.linear_form.specs.Query.{Query, Atom, Taken, next, known}
 use Rattle.linear_form.specs.Query.Query.{done, bits, ask}
@@ -23,7 +23,6 @@ use Rattle.linear_form.specs.internal.Seen.{Stops}
 use Rattle.linear_form.specs.declared.cursor.Stop.{Stop}
 use Rattle.linear_form.specs.Questions.{Linear}
 use Rattle.linear_form.proofs.Runs.{run_next, stops_first}
-use Rattle.linear_form.proofs.KeptOperators.{valued_run, told_run}
 
 -- ---- What is found on a path is found on each path with the same answers so far
 
@@ -156,7 +155,7 @@ weight_push (g ∷ fs) f = let e = weight_push fs f in omega (arith, e)
 -- ---- Steps
 
 -- nothing is asked
-pub stays : (ps : List Taken) (q : Query Ends) (i w : ℕ) (p : Place) → q ≡ left_at p → p.at ≡ i → weight p < w → IsKeptFocus p.focus → AreKeptFrames p.frames.items → Steps ps q i w (S.TheVariants.On p)
+pub stays : (ps : List Taken) (q : Query Ends) (i w : ℕ) (p : Place) → q ≡ left_at p → p.at ≡ i → weight p < w → IsKeptFocus p.focus → AreKeptFrames p.frames.items → Steps ps q i w p S.TheVariants.On
 stays ps q i w p e a l h k = (
   record {
     within = λ n. omega (arith, n, a);
@@ -168,32 +167,45 @@ stays ps q i w p e a l h k = (
   l,
 )
 
--- something is asked, and the path has the answers
-pub found : (ps : List Taken) (q : Query places.Result) (fs : List Frame) (i j w : ℕ) (x : places.Result) (p : Place) → along ps q i ≡ value x j → left_at p ≡ through (done x) fs → p.at ≡ j → weight p < w → IsKeptFocus p.focus → AreKeptFrames p.frames.items → Steps ps (through q fs) i w (S.TheVariants.On p)
+-- a step from what is found on the path
+composed : (ps : List Taken) (t : Query places.Result) (fs : List Frame) (i j : ℕ) (x : places.Result) (p : Place) → along ps t i ≡ value x j → Moves ps (through (done x) fs) j p → Moves ps (through t fs) i p
 unfolding along
-found ps q fs i j w x p e f a l h k = (
-  record {
-    within = λ n. let m = loc.within n in omega (arith, m, a);
-    behind = let m = loc.behind in omega (arith, m, a);
-    left = λ qs m. through_run qs q (done x) fs i j (loc.same qs (subst (λ n. take n qs ≡ take n ps) a m)) ∙ ap₂ (λ t n. along qs t n) (sym f) (sym a);
-    kept_focus = h;
-    kept_frames = k;
-  },
-  l,
-)
+composed ps t fs i j x p e m = record {
+  within = λ n. m.within (loc.within n);
+  behind = let k = loc.behind in let l = m.behind in omega (arith, k, l);
+  left = λ qs n. through_run qs t (done x) fs i j (loc.same qs (less_taken ps qs j p.at m.behind n)) ∙ m.left qs n;
+  kept_focus = m.kept_focus;
+  kept_frames = m.kept_frames;
+}
   where
-    loc : Local ps q i j x
-    loc = local ps q i j x e
+    loc : Local ps t i j x
+    loc = local ps t i j x e
+
+step_after : (s : S.Step) (ps : List Taken) (t : Query places.Result) (fs : List Frame) (i j w : ℕ) (x : places.Result) (p : Place) → along ps t i ≡ value x j → frames_weight fs < w → Steps ps (through (done x) fs) j (frames_weight fs) p s → Steps ps (through t fs) i w p s
+unfolding along
+step_after S.TheVariants.On ps t fs i j w x p e l h = (composed ps t fs i j x p e h.0, let k = h.1 in omega (arith, k, l))
+step_after (S.TheVariants.Asks a) ps t fs i j w x p e l h = (through_run ps t (done x) fs i j e ∙ h.0, composed ps t fs i j x p e h.1)
+step_after (S.TheVariants.Ends y z) ps t fs i j w x p e l h = (h.0, through_run ps t (done x) fs i j e ∙ h.1)
+step_after S.TheVariants.Bits ps t fs i j w x p e l h = through_run ps t (done x) fs i j e ∙ h
+
+pub after_found : {E : Type 0} (r : Result S.Step E) (ps : List Taken) (t : Query places.Result) (fs : List Frame) (i j w : ℕ) (x : places.Result) (p : Place) → along ps t i ≡ value x j → frames_weight fs < w → IfOk r (Steps ps (through (done x) fs) j (frames_weight fs) p) → IfOk r (Steps ps (through t fs) i w p)
+after_found (Ok s) ps t fs i j w x p e l h = step_after s ps t fs i j w x p e l h
+after_found (Err m) ps t fs i j w x p e l h = h
+
+-- a step with more to do at first
+wider : (s : S.Step) (ps : List Taken) (q : Query Ends) (i v w : ℕ) (p : Place) → v ≤ w → Steps ps q i v p s → Steps ps q i w p s
+wider S.TheVariants.On ps q i v w p l h = (h.0, let k = h.1 in omega (arith, k, l))
+wider (S.TheVariants.Asks a) ps q i v w p l h = h
+wider (S.TheVariants.Ends y z) ps q i v w p l h = h
+wider S.TheVariants.Bits ps q i v w p l h = h
+
+pub with_more : {E : Type 0} (r : Result S.Step E) (ps : List Taken) (q : Query Ends) (i v w : ℕ) (p : Place) → v ≤ w → IfOk r (Steps ps q i v p) → IfOk r (Steps ps q i w p)
+with_more (Ok s) ps q i v w p l h = wider s ps q i v w p l h
+with_more (Err m) ps q i v w p l h = h
 
 -- the place itself
 pub here : (ps : List Taken) (p : Place) → IsKeptFocus p.focus → AreKeptFrames p.frames.items → Moves ps (left_at p) p.at p
 here ps p h k = record { within = λ n. n; behind = omega arith; left = λ qs m. refl; kept_focus = h; kept_frames = k }
-
-pub steps_as : {E : Type 0} (r : Result S.Step E) (ps : List Taken) (q q' : Query Ends) (i w : ℕ) → q ≡ q' → IfOk r (Steps ps q' i w) → IfOk r (Steps ps q i w)
-steps_as r ps q q' i w e h = subst (λ t. IfOk r (Steps ps t i w)) (sym e) h
-
-pub framed_as : {E : Type 0} (r : Result S.Step E) (ps : List Taken) (q q' : Query places.Result) (fs : List Frame) (i w : ℕ) → q ≡ q' → IfOk r (Steps ps (through q' fs) i w) → IfOk r (Steps ps (through q fs) i w)
-framed_as r ps q q' fs i w e h = steps_as r ps (through q fs) (through q' fs) i w (ap (λ t. through t fs) e) h
 
 -- ---- Places on a path
 
@@ -206,55 +218,49 @@ moved g ps p p' h m = record {
 }
 
 -- a frame waits for the outcome of the focus
-pub pushed : (ps : List Taken) (fs : List Frame) (f : Frame) (i w : ℕ) (p : Place) → p.frames.items ≡ fs ++ (f ∷ []) → p.at ≡ i → places.focus_weight p.focus + frame_weight f + frames_weight fs < w → IsKeptFocus p.focus → IsKeptFrame f → AreKeptFrames fs → Steps ps (through (next (places.asked_by p.focus) (resumed f)) fs) i w (S.TheVariants.On p)
+pub pushed : (ps : List Taken) (fs : List Frame) (f : Frame) (i w : ℕ) (p : Place) → p.frames.items ≡ fs ++ (f ∷ []) → p.at ≡ i → places.focus_weight p.focus + frame_weight f + frames_weight fs < w → IsKeptFocus p.focus → IsKeptFrame f → AreKeptFrames fs → Steps ps (through (next (places.asked_by p.focus) (resumed f)) fs) i w p S.TheVariants.On
 pushed ps fs f i w p e a l h k m = stays ps _ i w p (sym (ap (through (places.asked_by p.focus)) e ∙ through_push (places.asked_by p.focus) fs f)) a (let n : frames_weight p.frames.items ≡ frame_weight f + frames_weight fs = ap frames_weight e ∙ weight_push fs f in omega (arith, n, l)) h (subst AreKeptFrames (sym e) (kept_push fs f m k))
 
 -- where the evaluation stops, it stays
-pub decides : (ps : List Taken) (w : ℕ) (a : A.Atom) (p : Place) → along ps (places.asked_by p.focus) p.at ≡ decide (atom_of a) → IsKeptFocus p.focus → AreKeptFrames p.frames.items → Steps ps (left_at p) p.at w (S.TheVariants.Asks a p)
+pub decides : (ps : List Taken) (w : ℕ) (a : A.Atom) (p : Place) → along ps (places.asked_by p.focus) p.at ≡ decide (atom_of a) → IsKeptFocus p.focus → AreKeptFrames p.frames.items → Steps ps (left_at p) p.at w p (S.TheVariants.Asks a)
 decides ps w a p e h k = (through_decide ps (places.asked_by p.focus) p.frames.items p.at (atom_of a) e, here ps p h k)
 
 -- ---- The parts of forms and conditions
 
-pub form_arm : {E : Type 0} (r : Result S.Step E) (ps : List Taken) (f f' : Form) (q : Query places.Result) (fs : List Frame) (i n : ℕ) → f ≡ f' → valued (evaluate f') ≡ q → ((w : ℕ) → n < w → IfOk r (Steps ps (through q fs) i w)) → n < 4 * nodes f' + frames_weight fs → IfOk r (Steps ps (through (valued (evaluate f)) fs) i (4 * nodes f + frames_weight fs))
-form_arm r ps f f' q fs i n e g h l = subst (λ f. IfOk r (Steps ps (through (valued (evaluate f)) fs) i (4 * nodes f + frames_weight fs))) (sym e) (subst (λ q. IfOk r (Steps ps (through q fs) i (4 * nodes f' + frames_weight fs))) (sym g) (h (4 * nodes f' + frames_weight fs) l))
+pub form_arm : {E : Type 0} (r : Result S.Step E) (ps : List Taken) (p : Place) (f f' : Form) (q : Query places.Result) (fs : List Frame) (i n : ℕ) → f ≡ f' → valued (evaluate f') ≡ q → ((w : ℕ) → n < w → IfOk r (Steps ps (through q fs) i w p)) → n < 4 * nodes f' + frames_weight fs → IfOk r (Steps ps (through (valued (evaluate f)) fs) i (4 * nodes f + frames_weight fs) p)
+form_arm r ps p f f' q fs i n e g h l = subst (λ f. IfOk r (Steps ps (through (valued (evaluate f)) fs) i (4 * nodes f + frames_weight fs) p)) (sym e) (subst (λ q. IfOk r (Steps ps (through q fs) i (4 * nodes f' + frames_weight fs) p)) (sym g) (h (4 * nodes f' + frames_weight fs) l))
 
-pub cond_arm : {E : Type 0} (r : Result S.Step E) (ps : List Taken) (f f' : Cond) (q : Query places.Result) (fs : List Frame) (i n : ℕ) → f ≡ f' → told (test f') ≡ q → ((w : ℕ) → n < w → IfOk r (Steps ps (through q fs) i w)) → n < 4 * nodes_in f' + frames_weight fs → IfOk r (Steps ps (through (told (test f)) fs) i (4 * nodes_in f + frames_weight fs))
-cond_arm r ps f f' q fs i n e g h l = subst (λ f. IfOk r (Steps ps (through (told (test f)) fs) i (4 * nodes_in f + frames_weight fs))) (sym e) (subst (λ q. IfOk r (Steps ps (through q fs) i (4 * nodes_in f' + frames_weight fs))) (sym g) (h (4 * nodes_in f' + frames_weight fs) l))
+pub cond_arm : {E : Type 0} (r : Result S.Step E) (ps : List Taken) (p : Place) (f f' : Cond) (q : Query places.Result) (fs : List Frame) (i n : ℕ) → f ≡ f' → told (test f') ≡ q → ((w : ℕ) → n < w → IfOk r (Steps ps (through q fs) i w p)) → n < 4 * nodes_in f' + frames_weight fs → IfOk r (Steps ps (through (told (test f)) fs) i (4 * nodes_in f + frames_weight fs) p)
+cond_arm r ps p f f' q fs i n e g h l = subst (λ f. IfOk r (Steps ps (through (told (test f)) fs) i (4 * nodes_in f + frames_weight fs) p)) (sym e) (subst (λ q. IfOk r (Steps ps (through q fs) i (4 * nodes_in f' + frames_weight fs) p)) (sym g) (h (4 * nodes_in f' + frames_weight fs) l))
 
-pub form_leaf : {E : Type 0} (r : Result S.Step E) (ps : List Taken) (f f' : Form) (q : Query places.Result) (fs : List Frame) (i : ℕ) → f ≡ f' → valued (evaluate f') ≡ q → ((w : ℕ) → frames_weight fs < w → IfOk r (Steps ps (through q fs) i w)) → nodes f' ≡ 1 → IfOk r (Steps ps (through (valued (evaluate f)) fs) i (4 * nodes f + frames_weight fs))
-form_leaf r ps f f' q fs i e g h n = form_arm r ps f f' q fs i (frames_weight fs) e g h (omega (arith, n))
+pub form_leaf : {E : Type 0} (r : Result S.Step E) (ps : List Taken) (p : Place) (f f' : Form) (q : Query places.Result) (fs : List Frame) (i : ℕ) → f ≡ f' → valued (evaluate f') ≡ q → ((w : ℕ) → frames_weight fs < w → IfOk r (Steps ps (through q fs) i w p)) → nodes f' ≡ 1 → IfOk r (Steps ps (through (valued (evaluate f)) fs) i (4 * nodes f + frames_weight fs) p)
+form_leaf r ps p f f' q fs i e g h n = form_arm r ps p f f' q fs i (frames_weight fs) e g h (omega (arith, n))
 
-pub form_two : {E : Type 0} (r : Result S.Step E) (ps : List Taken) (f f' : Form) (a b : Form) (q : Query places.Result) (fs : List Frame) (i : ℕ) → f ≡ f' → valued (evaluate f') ≡ q → ((w : ℕ) → 4 * nodes a + (3 + 4 * nodes b) + frames_weight fs < w → IfOk r (Steps ps (through q fs) i w)) → nodes f' ≡ 1 + (nodes a + nodes b) → IfOk r (Steps ps (through (valued (evaluate f)) fs) i (4 * nodes f + frames_weight fs))
-form_two r ps f f' a b q fs i e g h n = form_arm r ps f f' q fs i (4 * nodes a + (3 + 4 * nodes b) + frames_weight fs) e g h (omega (arith, n))
+pub form_two : {E : Type 0} (r : Result S.Step E) (ps : List Taken) (p : Place) (f f' : Form) (a b : Form) (q : Query places.Result) (fs : List Frame) (i : ℕ) → f ≡ f' → valued (evaluate f') ≡ q → ((w : ℕ) → 4 * nodes a + (3 + 4 * nodes b) + frames_weight fs < w → IfOk r (Steps ps (through q fs) i w p)) → nodes f' ≡ 1 + (nodes a + nodes b) → IfOk r (Steps ps (through (valued (evaluate f)) fs) i (4 * nodes f + frames_weight fs) p)
+form_two r ps p f f' a b q fs i e g h n = form_arm r ps p f f' q fs i (4 * nodes a + (3 + 4 * nodes b) + frames_weight fs) e g h (omega (arith, n))
 
-pub form_one : {E : Type 0} (r : Result S.Step E) (ps : List Taken) (f f' : Form) (a : Form) (q : Query places.Result) (fs : List Frame) (i : ℕ) → f ≡ f' → valued (evaluate f') ≡ q → ((w : ℕ) → 4 * nodes a + 2 + frames_weight fs < w → IfOk r (Steps ps (through q fs) i w)) → nodes f' ≡ 1 + nodes a → IfOk r (Steps ps (through (valued (evaluate f)) fs) i (4 * nodes f + frames_weight fs))
-form_one r ps f f' a q fs i e g h n = form_arm r ps f f' q fs i (4 * nodes a + 2 + frames_weight fs) e g h (omega (arith, n))
+pub form_one : {E : Type 0} (r : Result S.Step E) (ps : List Taken) (p : Place) (f f' : Form) (a : Form) (q : Query places.Result) (fs : List Frame) (i : ℕ) → f ≡ f' → valued (evaluate f') ≡ q → ((w : ℕ) → 4 * nodes a + 2 + frames_weight fs < w → IfOk r (Steps ps (through q fs) i w p)) → nodes f' ≡ 1 + nodes a → IfOk r (Steps ps (through (valued (evaluate f)) fs) i (4 * nodes f + frames_weight fs) p)
+form_one r ps p f f' a q fs i e g h n = form_arm r ps p f f' q fs i (4 * nodes a + 2 + frames_weight fs) e g h (omega (arith, n))
 
-pub form_truth : {E : Type 0} (r : Result S.Step E) (ps : List Taken) (f f' : Form) (g' : Cond) (q : Query places.Result) (fs : List Frame) (i : ℕ) → f ≡ f' → valued (evaluate f') ≡ q → ((w : ℕ) → 4 * nodes_in g' + 1 + frames_weight fs < w → IfOk r (Steps ps (through q fs) i w)) → nodes f' ≡ 1 + nodes_in g' → IfOk r (Steps ps (through (valued (evaluate f)) fs) i (4 * nodes f + frames_weight fs))
-form_truth r ps f f' g' q fs i e g h n = form_arm r ps f f' q fs i (4 * nodes_in g' + 1 + frames_weight fs) e g h (omega (arith, n))
+pub form_truth : {E : Type 0} (r : Result S.Step E) (ps : List Taken) (p : Place) (f f' : Form) (g' : Cond) (q : Query places.Result) (fs : List Frame) (i : ℕ) → f ≡ f' → valued (evaluate f') ≡ q → ((w : ℕ) → 4 * nodes_in g' + 1 + frames_weight fs < w → IfOk r (Steps ps (through q fs) i w p)) → nodes f' ≡ 1 + nodes_in g' → IfOk r (Steps ps (through (valued (evaluate f)) fs) i (4 * nodes f + frames_weight fs) p)
+form_truth r ps p f f' g' q fs i e g h n = form_arm r ps p f f' q fs i (4 * nodes_in g' + 1 + frames_weight fs) e g h (omega (arith, n))
 
-pub form_chosen : {E : Type 0} (r : Result S.Step E) (ps : List Taken) (f f' : Form) (g' : Cond) (a b : Form) (q : Query places.Result) (fs : List Frame) (i : ℕ) → f ≡ f' → valued (evaluate f') ≡ q → ((w : ℕ) → 4 * nodes_in g' + (1 + (4 * nodes a + 4 * nodes b)) + frames_weight fs < w → IfOk r (Steps ps (through q fs) i w)) → nodes f' ≡ 1 + (nodes_in g' + (nodes a + nodes b)) → IfOk r (Steps ps (through (valued (evaluate f)) fs) i (4 * nodes f + frames_weight fs))
-form_chosen r ps f f' g' a b q fs i e g h n = form_arm r ps f f' q fs i (4 * nodes_in g' + (1 + (4 * nodes a + 4 * nodes b)) + frames_weight fs) e g h (omega (arith, n))
+pub form_chosen : {E : Type 0} (r : Result S.Step E) (ps : List Taken) (p : Place) (f f' : Form) (g' : Cond) (a b : Form) (q : Query places.Result) (fs : List Frame) (i : ℕ) → f ≡ f' → valued (evaluate f') ≡ q → ((w : ℕ) → 4 * nodes_in g' + (1 + (4 * nodes a + 4 * nodes b)) + frames_weight fs < w → IfOk r (Steps ps (through q fs) i w p)) → nodes f' ≡ 1 + (nodes_in g' + (nodes a + nodes b)) → IfOk r (Steps ps (through (valued (evaluate f)) fs) i (4 * nodes f + frames_weight fs) p)
+form_chosen r ps p f f' g' a b q fs i e g h n = form_arm r ps p f f' q fs i (4 * nodes_in g' + (1 + (4 * nodes a + 4 * nodes b)) + frames_weight fs) e g h (omega (arith, n))
 
-pub cond_two : {E : Type 0} (r : Result S.Step E) (ps : List Taken) (f f' : Cond) (a b : Form) (q : Query places.Result) (fs : List Frame) (i : ℕ) → f ≡ f' → told (test f') ≡ q → ((w : ℕ) → 4 * nodes a + (3 + 4 * nodes b) + frames_weight fs < w → IfOk r (Steps ps (through q fs) i w)) → nodes_in f' ≡ 1 + (nodes a + nodes b) → IfOk r (Steps ps (through (told (test f)) fs) i (4 * nodes_in f + frames_weight fs))
-cond_two r ps f f' a b q fs i e g h n = cond_arm r ps f f' q fs i (4 * nodes a + (3 + 4 * nodes b) + frames_weight fs) e g h (omega (arith, n))
+pub cond_two : {E : Type 0} (r : Result S.Step E) (ps : List Taken) (p : Place) (f f' : Cond) (a b : Form) (q : Query places.Result) (fs : List Frame) (i : ℕ) → f ≡ f' → told (test f') ≡ q → ((w : ℕ) → 4 * nodes a + (3 + 4 * nodes b) + frames_weight fs < w → IfOk r (Steps ps (through q fs) i w p)) → nodes_in f' ≡ 1 + (nodes a + nodes b) → IfOk r (Steps ps (through (told (test f)) fs) i (4 * nodes_in f + frames_weight fs) p)
+cond_two r ps p f f' a b q fs i e g h n = cond_arm r ps p f f' q fs i (4 * nodes a + (3 + 4 * nodes b) + frames_weight fs) e g h (omega (arith, n))
 
-pub cond_one : {E : Type 0} (r : Result S.Step E) (ps : List Taken) (f f' : Cond) (a : Cond) (q : Query places.Result) (fs : List Frame) (i : ℕ) → f ≡ f' → told (test f') ≡ q → ((w : ℕ) → 4 * nodes_in a + 1 + frames_weight fs < w → IfOk r (Steps ps (through q fs) i w)) → nodes_in f' ≡ 1 + nodes_in a → IfOk r (Steps ps (through (told (test f)) fs) i (4 * nodes_in f + frames_weight fs))
-cond_one r ps f f' a q fs i e g h n = cond_arm r ps f f' q fs i (4 * nodes_in a + 1 + frames_weight fs) e g h (omega (arith, n))
+pub cond_one : {E : Type 0} (r : Result S.Step E) (ps : List Taken) (p : Place) (f f' : Cond) (a : Cond) (q : Query places.Result) (fs : List Frame) (i : ℕ) → f ≡ f' → told (test f') ≡ q → ((w : ℕ) → 4 * nodes_in a + 1 + frames_weight fs < w → IfOk r (Steps ps (through q fs) i w p)) → nodes_in f' ≡ 1 + nodes_in a → IfOk r (Steps ps (through (told (test f)) fs) i (4 * nodes_in f + frames_weight fs) p)
+cond_one r ps p f f' a q fs i e g h n = cond_arm r ps p f f' q fs i (4 * nodes_in a + 1 + frames_weight fs) e g h (omega (arith, n))
 
-pub cond_both : {E : Type 0} (r : Result S.Step E) (ps : List Taken) (f f' : Cond) (a b : Cond) (q : Query places.Result) (fs : List Frame) (i : ℕ) → f ≡ f' → told (test f') ≡ q → ((w : ℕ) → 4 * nodes_in a + (2 + 4 * nodes_in b) + frames_weight fs < w → IfOk r (Steps ps (through q fs) i w)) → nodes_in f' ≡ 1 + (nodes_in a + nodes_in b) → IfOk r (Steps ps (through (told (test f)) fs) i (4 * nodes_in f + frames_weight fs))
-cond_both r ps f f' a b q fs i e g h n = cond_arm r ps f f' q fs i (4 * nodes_in a + (2 + 4 * nodes_in b) + frames_weight fs) e g h (omega (arith, n))
+pub cond_both : {E : Type 0} (r : Result S.Step E) (ps : List Taken) (p : Place) (f f' : Cond) (a b : Cond) (q : Query places.Result) (fs : List Frame) (i : ℕ) → f ≡ f' → told (test f') ≡ q → ((w : ℕ) → 4 * nodes_in a + (2 + 4 * nodes_in b) + frames_weight fs < w → IfOk r (Steps ps (through q fs) i w p)) → nodes_in f' ≡ 1 + (nodes_in a + nodes_in b) → IfOk r (Steps ps (through (told (test f)) fs) i (4 * nodes_in f + frames_weight fs) p)
+cond_both r ps p f f' a b q fs i e g h n = cond_arm r ps p f f' q fs i (4 * nodes_in a + (2 + 4 * nodes_in b) + frames_weight fs) e g h (omega (arith, n))
 
-pub cond_chosen : {E : Type 0} (r : Result S.Step E) (ps : List Taken) (f f' : Cond) (a b d : Cond) (q : Query places.Result) (fs : List Frame) (i : ℕ) → f ≡ f' → told (test f') ≡ q → ((w : ℕ) → 4 * nodes_in a + (1 + (4 * nodes_in b + 4 * nodes_in d)) + frames_weight fs < w → IfOk r (Steps ps (through q fs) i w)) → nodes_in f' ≡ 1 + (nodes_in a + (nodes_in b + nodes_in d)) → IfOk r (Steps ps (through (told (test f)) fs) i (4 * nodes_in f + frames_weight fs))
-cond_chosen r ps f f' a b d q fs i e g h n = cond_arm r ps f f' q fs i (4 * nodes_in a + (1 + (4 * nodes_in b + 4 * nodes_in d)) + frames_weight fs) e g h (omega (arith, n))
+pub cond_chosen : {E : Type 0} (r : Result S.Step E) (ps : List Taken) (p : Place) (f f' : Cond) (a b d : Cond) (q : Query places.Result) (fs : List Frame) (i : ℕ) → f ≡ f' → told (test f') ≡ q → ((w : ℕ) → 4 * nodes_in a + (1 + (4 * nodes_in b + 4 * nodes_in d)) + frames_weight fs < w → IfOk r (Steps ps (through q fs) i w p)) → nodes_in f' ≡ 1 + (nodes_in a + (nodes_in b + nodes_in d)) → IfOk r (Steps ps (through (told (test f)) fs) i (4 * nodes_in f + frames_weight fs) p)
+cond_chosen r ps p f f' a b d q fs i e g h n = cond_arm r ps p f f' q fs i (4 * nodes_in a + (1 + (4 * nodes_in b + 4 * nodes_in d)) + frames_weight fs) e g h (omega (arith, n))
 
 -- ---- Operators
-
-pub found_value : (ps : List Taken) (t t' : Query Linear) (fs : List Frame) (i j w : ℕ) (x : Linear) (p : Place) → t ≡ t' → along ps t' i ≡ value x j → left_at p ≡ through (done (places.Result.number x)) fs → p.at ≡ j → weight p < w → IsKeptFocus p.focus → AreKeptFrames p.frames.items → Steps ps (through (valued t) fs) i w (S.TheVariants.On p)
-found_value ps t t' fs i j w x p k e f a l h m = found ps (valued t) fs i j w (places.Result.number x) p (valued_run ps t i j x (ap (λ t. along ps t i) k ∙ e)) f a l h m
-
-pub found_truth : (ps : List Taken) (t t' : Query Bool) (fs : List Frame) (i j w : ℕ) (b : Bool) (p : Place) → t ≡ t' → along ps t' i ≡ value b j → left_at p ≡ through (done (places.Result.truth b)) fs → p.at ≡ j → weight p < w → IsKeptFocus p.focus → AreKeptFrames p.frames.items → Steps ps (through (told t) fs) i w (S.TheVariants.On p)
-found_truth ps t t' fs i j w b p k e f a l h m = found ps (told t) fs i j w (places.Result.truth b) p (told_run ps t i j b (ap (λ t. along ps t i) k ∙ e)) f a l h m
 
 pub stops_valued : (e : Stop) (ps : List Taken) (t t' : Query Linear) (i : ℕ) → t ≡ t' → Stops e (along ps t' i) → Stops e (along ps (valued t) i)
 stops_valued e ps t t' i k h = stops_first e ps t _ i (subst (λ t. Stops e (along ps t i)) (sym k) h)

@@ -12,7 +12,13 @@ use Rattle.linear_form.specs.internal.Places.{Result, valued, told}
 use Rattle.linear_form.specs.declared.nodes.Binary.{Binary}
 use Rattle.linear_form.specs.declared.nodes.Unary as U
 use Rattle.linear_form.specs.declared.nodes.OfTruth.{OfTruth}
-use Rattle.linear_form.proofs.Runs.{run_after, run_done}
+use Rattle.std.specs.Prelude as M
+use Rattle.std.specs.Prelude.{Ok, Err, IfOk}
+use Rattle.linear_form.specs.PlainPaths.{linear_of}
+use Rattle.linear_form.specs.internal.Seen.{Gives}
+use Rattle.linear_form.specs.declared.cursor.Found.{Found}
+use Rattle.linear_form.specs.declared.cursor.Stop.{Stop}
+use Rattle.linear_form.proofs.Runs.{run_after, run_done, run_result}
 use Rattle.linear_form.proofs.KeptValues.{zero_kept, one_kept, sum_kept, difference_kept, cut_kept, scale_kept, product_kept, min_kept, max_kept, imply_kept, co_imply_kept, validate_kept, co_validate_kept}
 
 pub binary_kept : (o : Binary) (x y : Linear) → IsKeptValue x → IsKeptValue y → EachResult IsKeptValue (binary o x y)
@@ -47,3 +53,8 @@ agree_is true true = refl
 agree_is true false = refl
 agree_is false true = refl
 agree_is false false = refl
+
+-- what an operator gives is kept
+pub all_kept : (r : M.Result Found Stop) (q : Query Linear) (ps : List Taken) (i : ℕ) → EachResult IsKeptValue q → Gives r (along ps q i) → IfOk r (λ f. IsKeptValue (linear_of f.value))
+all_kept (Ok f) q ps i h g = run_result ps q IsKeptValue i (linear_of f.value) f.next h g
+all_kept (Err e) q ps i h g = tt

@@ -20,7 +20,7 @@ use Rattle.linear_form.proofs.EachResults.{each_next, each_after, each_both, of_
 
 -- ---- Terms
 
-above_less : (m n : ℕ) (ts : Terms) → m < n → IsAbove n ts → IsAbove m ts
+pub above_less : (m n : ℕ) (ts : Terms) → m < n → IsAbove n ts → IsAbove m ts
 above_less m n [] h k = tt
 above_less m n (t ∷ ts) h k = (omega arith, above_less m n ts h k.1)
 

@@ -39,17 +39,21 @@ mod PathEnds
 mod KeptValues
 pub mod Narrow
 mod KeptParts
+mod MergedTerms
 mod Products
+mod WholeFractions
 mod OperatorRuns
 mod Positions
 mod PartialSums
 mod Coefficients
 mod RowsOfClaims
 mod SignRows
+mod SignClaims
 mod FoundRows
 mod Assembled
 mod Parts
 mod GoingOn
+mod DirectValues
 mod KeptOperators
 mod Resuming
 mod GrowingRows

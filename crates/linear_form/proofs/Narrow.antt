@@ -62,7 +62,7 @@ pub den_less : (x : Rational) → fits x ≡ true → x.den < 2 ^ 62
 unfolding fits
 den_less x h = narrow_less (pos x.den) (and_right (is_narrow x.num) _ h)
 
-product_less : (a b : ℤ) → unsigned_abs a < 2 ^ 62 → unsigned_abs b < 2 ^ 62 → unsigned_abs (a *ℤ b) < 2 ^ 124
+pub product_less : (a b : ℤ) → unsigned_abs a < 2 ^ 62 → unsigned_abs b < 2 ^ 62 → unsigned_abs (a *ℤ b) < 2 ^ 124
 product_less a b p q = rw (unsigned_abs-mul a b) (mul-lt (unsigned_abs a) (unsigned_abs b) (2 ^ 62) (2 ^ 62) p q)
 
 small_product : (a b : ℤ) → unsigned_abs a < 2 ^ 62 → unsigned_abs b < 2 ^ 62 → is_small (a *ℤ b) ≡ true

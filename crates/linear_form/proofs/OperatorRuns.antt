@@ -1,5 +1,5 @@
 -- Evaluation of the operators along a path.
-use Rattle.std.proofs.Common.{◌≡◌, ℕ, ◌+◌, List, [], ◌∷◌, refl, Bool, true, false, drop}
+use Rattle.std.proofs.Common.{◌≡◌, ℕ, ◌+◌, List, [], ◌∷◌, refl, sym, subst, Bool, true, false, drop}
 use Rattle.std.specs.Prelude.{Some, None}
 use Rattle.linear_form.specs.Lin.{Lin, Terms, is_sized}
 use Rattle.linear_form.specs.Query.{Atom, Taken, is_negative}
@@ -9,6 +9,10 @@ use Rattle.linear_form.specs.Questions.{Linear}
 use Rattle.linear_form.specs.internal.Operator.{has_no_terms}
 use Rattle.linear_form.specs.internal.Run.{Evaluation, along, turned}
 use Rattle.linear_form.specs.internal.Run.Evaluation.{value}
+use Rattle.linear_form.specs.internal.Seen.{Gives}
+use Rattle.std.specs.Prelude.{Result}
+use Rattle.linear_form.specs.declared.cursor.Found.{Found}
+use Rattle.linear_form.specs.declared.cursor.Stop.{Stop}
 
 pub run_sized : (ps : List Taken) (a : Lin) (i : ℕ) → is_sized a ≡ true → along ps (q.sized (Some a)) i ≡ value (Some a) i
 unfolding along
@@ -78,3 +82,6 @@ unfolding along
 finite_product_large ps [] us a b i e f = absurd (cc)
 finite_product_large ps (t ∷ ts) [] a b i e f = absurd (cc)
 finite_product_large ps (t ∷ ts) (u ∷ us) a b i e f = refl
+
+pub gives_as : (r : Result Found Stop) (o o' : Evaluation Linear) → o ≡ o' → Gives r o' → Gives r o
+gives_as r o o' e h = subst (λ o. Gives r o) (sym e) h

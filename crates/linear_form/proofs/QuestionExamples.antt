@@ -19,7 +19,6 @@ use Rattle.linear_form.specs.Questions.{Linear, zero, one, sum, difference, cut,
 use Rattle.linear_form.specs.declared.nodes.OfTruth.{OfTruth}
 use Rattle.linear_form.specs.declared.places.Focus.TheVariants as Focus
 use Rattle.linear_form.specs.declared.places.Frame.TheVariants as Frame
-use Rattle.linear_form.specs.declared.places.Outcome.TheVariants as Outcome
 use Rattle.linear_form.specs.declared.places.Place.{Place}
 use Rattle.linear_form.specs.declared.places.Two.{Two}
 use Rattle.linear_form.specs.internal.Places.{asked_by, ended, left_at, of_number, of_two, through, valued, IsKeptFocus, AreKeptFrames}
@@ -149,7 +148,7 @@ three = record { atom = Atom.truth 3; held = true }
 -- a place at which 3 holds, and both what is done with this truth and the found form still wait
 record IsBehindThree (p : Place) (found : Bor F.Form) : Type 0 where
   at : p.at ≡ 1
-  focus : p.focus ≡ Focus.Given (Outcome.Truth true)
+  focus : p.focus ≡ Focus.Truth true
   frames : p.frames.items ≡ Frame.Left Two.Ends found ∷ (Frame.OfTruth OfTruth.Iverson ∷ [])
   waits : form_of found.now ≡ later_goal.found
 

@@ -12,7 +12,7 @@ use Rattle.linear_form.specs.PlainPaths.{atom_of, linear_of}
 use Rattle.linear_form.specs.internal.Nodes.{after_first}
 use Rattle.linear_form.specs.internal.Run.{Evaluation, along}
 use Rattle.linear_form.specs.internal.Places as places
-use Rattle.linear_form.specs.internal.Places.{told, result_of, asked_by, resumed, ended, through, left_at, weight, focus_weight, frames_weight, frame_weight, IsKeptFrame, AreKeptFrames}
+use Rattle.linear_form.specs.internal.Places.{told, asked_by, framed, resumed, ended, through, left_at, weight, focus_weight, frames_weight, frame_weight, IsKeptFrame, AreKeptFrames}
 use Rattle.linear_form.specs.internal.Steps.{Steps, AreAlike, IsAlike, IsSamePlace}
 use Rattle.linear_form.specs.Places.{IsOn}
 use Rattle.linear_form.specs.declared.lin.Lin.{Lin}
@@ -22,21 +22,19 @@ use Rattle.linear_form.specs.declared.places.Reached.{Reached}
 use Rattle.linear_form.specs.declared.places.Frame as W
 use Rattle.linear_form.specs.declared.places.Frame.{Frame}
 use Rattle.linear_form.specs.declared.places.Focus.{Focus}
-use Rattle.linear_form.specs.declared.places.Focus as F
-use Rattle.linear_form.specs.declared.places.Outcome as O
 use Rattle.linear_form.specs.declared.asking.Ask.{Ask}
 use Rattle.linear_form.specs.declared.asking.Ask as K
 use Rattle.linear_form.specs.declared.paths.Atom as A
 use Rattle.linear_form.specs.declared.steps.Step as S
-use Rattle.linear_form.proofs.Runs.{run_bits}
+use Rattle.linear_form.proofs.Runs.{run_bits, run_done}
 use Rattle.linear_form.proofs.PathEnds.{goal_end, answer_end, answer_decide, answer_bits}
 use Rattle.linear_form.proofs.PlaceRuns.{place_stays}
 use Rattle.linear_form.proofs.GoingOn.{through_push, kept_push, kept_pop, weight_push, through_large}
 
 -- ---- An outcome, and the frame that waits for it
 
-pub popped : {E : Type 0} (r : Result S.Step E) (ps : List Taken) (o : places.Result) (all fs : List Frame) (f : Frame) (i : ℕ) → all ≡ fs ++ (f ∷ []) → IfOk r (Steps ps (through (resumed f o) fs) i (frame_weight f + frames_weight fs)) → IfOk r (Steps ps (through (done o) all) i (frames_weight all))
-popped r ps o all fs f i e h = subst (λ l. IfOk r (Steps ps (through (done o) l) i (frames_weight l))) (sym e) (subst (λ t. IfOk r (Steps ps t i (frames_weight (fs ++ (f ∷ []))))) (sym (through_push (done o) fs f)) (subst (λ n. IfOk r (Steps ps (through (resumed f o) fs) i n)) (sym (weight_push fs f)) h))
+pub popped : {E : Type 0} (r : Result S.Step E) (ps : List Taken) (p : Place) (o : places.Result) (all fs : List Frame) (f : Frame) (i : ℕ) → all ≡ fs ++ (f ∷ []) → IfOk r (Steps ps (through (resumed f o) fs) i (frame_weight f + frames_weight fs) p) → IfOk r (Steps ps (through (done o) all) i (frames_weight all) p)
+popped r ps p o all fs f i e h = subst (λ l. IfOk r (Steps ps (through (done o) l) i (frames_weight l) p)) (sym e) (subst (λ t. IfOk r (Steps ps t i (frames_weight (fs ++ (f ∷ []))) p)) (sym (through_push (done o) fs f)) (subst (λ n. IfOk r (Steps ps (through (resumed f o) fs) i n p)) (sym (weight_push fs f)) h))
 
 pub kept_all : (all fs : List Frame) (f : Frame) → all ≡ fs ++ (f ∷ []) → AreKeptFrames all → AreKeptFrames fs × IsKeptFrame f
 kept_all all fs f e h = kept_pop fs f (subst AreKeptFrames e h)
@@ -56,42 +54,46 @@ no_ends (W.TheVariants.First o h) e = refl
 no_ends (W.TheVariants.Same t) e = refl
 no_ends (W.TheVariants.Choose g h) e = refl
 
-pub no_frame_takes_ends : (ps : List Taken) (f : Frame) (o : O.Outcome) (x y : Option Lin) (fs : List Frame) (i : ℕ) → o ≡ O.TheVariants.Ends x y → along ps (through (resumed f (result_of o)) fs) i ≡ Evaluation.bits
-no_frame_takes_ends ps f o x y fs i e = nothing_waits ps (resumed f (result_of o)) fs i (ap (λ o. resumed f (result_of o)) e ∙ no_ends f (linear_of x, linear_of y))
+-- nothing takes the values of both forms
+ends_wait : (f : Frame) (fs : List Frame) (e : Ends) → framed (done (places.Result.ends e)) (f ∷ fs) ≡ bits
+ends_wait f [] e = no_ends f e
+ends_wait f (g ∷ fs) e = ap (λ q. next q (resumed f)) (ends_wait g fs e)
 
-pub for_outcome : {E : Type 0} (r : Result S.Step E) (ps : List Taken) (f : Frame) (o o' : O.Outcome) (fs : List Frame) (i w : ℕ) → o ≡ o' → IfOk r (Steps ps (through (resumed f (result_of o')) fs) i w) → IfOk r (Steps ps (through (resumed f (result_of o)) fs) i w)
-for_outcome r ps f o o' fs i w e h = subst (λ o. IfOk r (Steps ps (through (resumed f (result_of o)) fs) i w)) (sym e) h
+pub ends_are_last : (ps : List Taken) (e : Ends) (all : List Frame) (i : ℕ) → length all ≡ 0 → (j : ℕ) × (along ps (through (done (places.Result.ends e)) all) i ≡ Evaluation.value e j)
+ends_are_last ps e [] i n = (i, run_done ps e i)
+ends_are_last ps e (f ∷ fs) i n = absurd (omega (arith, n))
 
-pub for_frame : {E : Type 0} (r : Result S.Step E) (ps : List Taken) (f f' : Frame) (o o' : places.Result) (fs : List Frame) (i : ℕ) → f ≡ f' → o ≡ o' → IfOk r (Steps ps (through (resumed f' o') fs) i (frame_weight f' + frames_weight fs)) → IfOk r (Steps ps (through (resumed f o) fs) i (frame_weight f + frames_weight fs))
-for_frame r ps f f' o o' fs i e k h = subst (λ f. IfOk r (Steps ps (through (resumed f o) fs) i (frame_weight f + frames_weight fs))) (sym e) (subst (λ o. IfOk r (Steps ps (through (resumed f' o) fs) i (frame_weight f' + frames_weight fs))) (sym k) h)
+pub ends_are_waited_for : (ps : List Taken) (e : Ends) (all : List Frame) (i : ℕ) → 0 < length all → along ps (through (done (places.Result.ends e)) all) i ≡ Evaluation.bits
+ends_are_waited_for ps e [] i n = absurd (omega (arith, n))
+ends_are_waited_for ps e (f ∷ fs) i n = ap (λ q. along ps (next q ended) i) (ends_wait f fs e) ∙ run_bits ps i
 
-pub for_second : {E : Type 0} (r : Result S.Step E) (ps : List Taken) (c c' : Connective) (t b : Bool) (q : Query Bool) (fs : List Frame) (i w : ℕ) → c ≡ c' → t ≡ b → IfOk r (Steps ps (through (told (after_first c' q b)) fs) i w) → IfOk r (Steps ps (through (told (after_first c q t)) fs) i w)
-for_second r ps c c' t b q fs i w e k h = subst (λ c. IfOk r (Steps ps (through (told (after_first c q t)) fs) i w)) (sym e) (subst (λ t. IfOk r (Steps ps (through (told (after_first c' q t)) fs) i w)) (sym k) h)
+-- a value or a truth is no end
+pub nothing_takes : (ps : List Taken) (o : places.Result) (all : List Frame) (i : ℕ) → ended o ≡ bits → length all ≡ 0 → along ps (through (done o) all) i ≡ Evaluation.bits
+nothing_takes ps o [] i e n = ap (λ q. along ps q i) e ∙ run_bits ps i
+nothing_takes ps o (f ∷ fs) i e n = absurd (omega (arith, n))
 
-pub for_query : {E : Type 0} (r : Result S.Step E) (ps : List Taken) (q q' : Query places.Result) (fs : List Frame) (i w : ℕ) → q ≡ q' → IfOk r (Steps ps (through q' fs) i w) → IfOk r (Steps ps (through q fs) i w)
-for_query r ps q q' fs i w e h = subst (λ q. IfOk r (Steps ps (through q fs) i w)) (sym e) h
+pub for_frame : {E : Type 0} (r : Result S.Step E) (ps : List Taken) (p : Place) (f f' : Frame) (o o' : places.Result) (fs : List Frame) (i : ℕ) → f ≡ f' → o ≡ o' → IfOk r (Steps ps (through (resumed f' o') fs) i (frame_weight f' + frames_weight fs) p) → IfOk r (Steps ps (through (resumed f o) fs) i (frame_weight f + frames_weight fs) p)
+for_frame r ps p f f' o o' fs i e k h = subst (λ f. IfOk r (Steps ps (through (resumed f o) fs) i (frame_weight f + frames_weight fs) p)) (sym e) (subst (λ o. IfOk r (Steps ps (through (resumed f' o) fs) i (frame_weight f' + frames_weight fs) p)) (sym k) h)
 
-pub frame_step : (s : S.Step) (ps : List Taken) (f f' : Frame) (o o' : places.Result) (fs : List Frame) (i : ℕ) → f ≡ f' → o ≡ o' → Steps ps (through (resumed f' o') fs) i (frame_weight f' + frames_weight fs) s → Steps ps (through (resumed f o) fs) i (frame_weight f + frames_weight fs) s
-frame_step s ps f f' o o' fs i e k h = subst (λ f. Steps ps (through (resumed f o) fs) i (frame_weight f + frames_weight fs) s) (sym e) (subst (λ o. Steps ps (through (resumed f' o) fs) i (frame_weight f' + frames_weight fs) s) (sym k) h)
+pub for_second : {E : Type 0} (r : Result S.Step E) (ps : List Taken) (p : Place) (c c' : Connective) (t b : Bool) (q : Query Bool) (fs : List Frame) (i w : ℕ) → c ≡ c' → t ≡ b → IfOk r (Steps ps (through (told (after_first c' q b)) fs) i w p) → IfOk r (Steps ps (through (told (after_first c q t)) fs) i w p)
+for_second r ps p c c' t b q fs i w e k h = subst (λ c. IfOk r (Steps ps (through (told (after_first c q t)) fs) i w p)) (sym e) (subst (λ t. IfOk r (Steps ps (through (told (after_first c' q t)) fs) i w p)) (sym k) h)
 
-pub second_step : (s : S.Step) (ps : List Taken) (c c' : Connective) (t b : Bool) (q : Query Bool) (fs : List Frame) (i w : ℕ) → c ≡ c' → t ≡ b → Steps ps (through (told (after_first c' q b)) fs) i w s → Steps ps (through (told (after_first c q t)) fs) i w s
-second_step s ps c c' t b q fs i w e k h = subst (λ c. Steps ps (through (told (after_first c q t)) fs) i w s) (sym e) (subst (λ t. Steps ps (through (told (after_first c' q t)) fs) i w s) (sym k) h)
+pub for_query : {E : Type 0} (r : Result S.Step E) (ps : List Taken) (p : Place) (q q' : Query places.Result) (fs : List Frame) (i w : ℕ) → q ≡ q' → IfOk r (Steps ps (through q' fs) i w p) → IfOk r (Steps ps (through q fs) i w p)
+for_query r ps p q q' fs i w e h = subst (λ q. IfOk r (Steps ps (through q fs) i w p)) (sym e) h
 
-pub query_step : (s : S.Step) (ps : List Taken) (q q' : Query places.Result) (fs : List Frame) (i w : ℕ) → q ≡ q' → Steps ps (through q' fs) i w s → Steps ps (through q fs) i w s
-query_step s ps q q' fs i w e h = subst (λ q. Steps ps (through q fs) i w s) (sym e) h
+pub frame_step : (s : S.Step) (ps : List Taken) (p : Place) (f f' : Frame) (o o' : places.Result) (fs : List Frame) (i : ℕ) → f ≡ f' → o ≡ o' → Steps ps (through (resumed f' o') fs) i (frame_weight f' + frames_weight fs) p s → Steps ps (through (resumed f o) fs) i (frame_weight f + frames_weight fs) p s
+frame_step s ps p f f' o o' fs i e k h = subst (λ f. Steps ps (through (resumed f o) fs) i (frame_weight f + frames_weight fs) p s) (sym e) (subst (λ o. Steps ps (through (resumed f' o) fs) i (frame_weight f' + frames_weight fs) p s) (sym k) h)
 
--- no frame is left
-pub at_the_last : (s : S.Step) (ps : List Taken) (o : places.Result) (all : List Frame) (i : ℕ) → length all ≡ 0 → Steps ps (next (done o) ended) i 0 s → Steps ps (through (done o) all) i (frames_weight all) s
-at_the_last s ps o [] i e h = h
-at_the_last s ps o (f ∷ fs) i e h = absurd (omega (arith, e))
+pub second_step : (s : S.Step) (ps : List Taken) (p : Place) (c c' : Connective) (t b : Bool) (q : Query Bool) (fs : List Frame) (i w : ℕ) → c ≡ c' → t ≡ b → Steps ps (through (told (after_first c' q b)) fs) i w p s → Steps ps (through (told (after_first c q t)) fs) i w p s
+second_step s ps p c c' t b q fs i w e k h = subst (λ c. Steps ps (through (told (after_first c q t)) fs) i w p s) (sym e) (subst (λ t. Steps ps (through (told (after_first c' q t)) fs) i w p s) (sym k) h)
+
+pub query_step : (s : S.Step) (ps : List Taken) (p : Place) (q q' : Query places.Result) (fs : List Frame) (i w : ℕ) → q ≡ q' → Steps ps (through q' fs) i w p s → Steps ps (through q fs) i w p s
+query_step s ps p q q' fs i w e h = subst (λ q. Steps ps (through q fs) i w p s) (sym e) h
 
 -- ---- One step from a place
 
-pub for_focus : {E : Type 0} (r : Result S.Step E) (ps : List Taken) (p : Place) (f : Focus) → p.focus ≡ f → IfOk r (Steps ps (through (asked_by f) p.frames.items) p.at (focus_weight f + frames_weight p.frames.items)) → IfOk r (Steps ps (left_at p) p.at (weight p))
-for_focus r ps p f e h = subst (λ f. IfOk r (Steps ps (through (asked_by f) p.frames.items) p.at (focus_weight f + frames_weight p.frames.items))) (sym e) h
-
-pub for_given : {E : Type 0} (r : Result S.Step E) (ps : List Taken) (p : Place) (o : O.Outcome) → p.focus ≡ F.TheVariants.Given o → IfOk r (Steps ps (through (done (result_of o)) p.frames.items) p.at (frames_weight p.frames.items)) → IfOk r (Steps ps (left_at p) p.at (weight p))
-for_given r ps p o e h = let k : frames_weight p.frames.items ≡ 0 + frames_weight p.frames.items = omega arith in for_focus r ps p (F.TheVariants.Given o) e (subst (λ n. IfOk r (Steps ps (through (done (result_of o)) p.frames.items) p.at n)) k h)
+pub for_focus : {E : Type 0} (r : Result S.Step E) (ps : List Taken) (p p' : Place) (f : Focus) → p.focus ≡ f → IfOk r (Steps ps (through (asked_by f) p.frames.items) p.at (focus_weight f + frames_weight p.frames.items) p') → IfOk r (Steps ps (left_at p) p.at (weight p) p')
+for_focus r ps p p' f e h = subst (λ f. IfOk r (Steps ps (through (asked_by f) p.frames.items) p.at (focus_weight f + frames_weight p.frames.items) p')) (sym e) h
 
 -- ---- Places that are copied
 
@@ -120,8 +122,8 @@ copied g ps p p' s h = record {
 pub on_decides : (g : Goal) (ps : List Taken) (p : Place) (a : A.Atom) → IsPath g ps → IsOn g ps p → along ps (left_at p) p.at ≡ Evaluation.decide (atom_of a) → Answers (K.TheVariants.Decide a) (end_at g ps)
 on_decides g ps p a w h e = answer_decide a (end_at g ps) (goal_end g ps (Evaluation.decide (atom_of a)) w (h.left ps refl ∙ e))
 
-pub on_ends : (g : Goal) (ps : List Taken) (p : Place) (x y : Option Lin) → IsPath g ps → IsOn g ps p → along ps (left_at p) p.at ≡ Evaluation.value (linear_of x, linear_of y) p.at → Answers (K.TheVariants.End x y) (end_at g ps)
-on_ends g ps p x y w h e = answer_end x y p.at (end_at g ps) (goal_end g ps (Evaluation.value (linear_of x, linear_of y) p.at) w (h.left ps refl ∙ e))
+pub on_ends : (g : Goal) (ps : List Taken) (p : Place) (x y : Option Lin) (j : ℕ) → IsPath g ps → IsOn g ps p → along ps (left_at p) p.at ≡ Evaluation.value (linear_of x, linear_of y) j → Answers (K.TheVariants.End x y) (end_at g ps)
+on_ends g ps p x y j w h e = answer_end x y j (end_at g ps) (goal_end g ps (Evaluation.value (linear_of x, linear_of y) j) w (h.left ps refl ∙ e))
 
 pub on_bits : (g : Goal) (ps : List Taken) (p : Place) → IsPath g ps → IsOn g ps p → along ps (left_at p) p.at ≡ Evaluation.bits → Answers K.TheVariants.Bits (end_at g ps)
 on_bits g ps p w h e = answer_bits (end_at g ps) (goal_end g ps Evaluation.bits w (h.left ps refl ∙ e))

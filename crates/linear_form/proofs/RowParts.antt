@@ -157,6 +157,14 @@ sized_terms ts c h = go (fits c) h
     go true h = h
     go false h = absurd (cc)
 
+pub sized_rest : (ts : Terms) (c : Rational) → is_sized (record { terms = ts; rest = c }) ≡ true → fits c ≡ true
+unfolding is_sized
+sized_rest ts c h = go (fits c) h
+  where
+    go : (b : Bool) → (b && all_fit ts) ≡ true → b ≡ true
+    go true h = refl
+    go false h = absurd (cc)
+
 sign_narrow : (z : ℤ) → is_narrow (sign_of z) ≡ true
 sign_narrow (pos zero) = refl
 sign_narrow (pos (suc n)) = refl

@@ -1,5 +1,5 @@
 -- The rows of claims, one after the other.
-use Rattle.std.proofs.Common.{◌≡◌, ℕ, List, [], ◌∷◌, ◌++◌, map, refl, sym, ap, ap₂, ◌∙◌, subst, append_assoc, Bool, false, cond, ◌&&◌}
+use Rattle.std.proofs.Common.{◌≡◌, List, [], ◌∷◌, ◌++◌, refl, sym, ap, ap₂, ◌∙◌, subst, append_assoc, Bool, false, cond, ◌&&◌}
 use Rattle.std.specs.Prelude.{Option, Some, None}
 use Rattle.std.proofs.lemmas.List.{append-nil}
 use Rattle.heylo_formula.specs.Typing.{Types}
@@ -82,15 +82,6 @@ first_normal p others rest e h = (subst (λ z. IsNormalPath (path_of z)) e h).0
 
 pub others_normal : (p : T.Taken) (others rest : List T.Taken) → rest ≡ p ∷ others → IsNormalPath (path_of rest) → IsNormalPath (path_of others)
 others_normal p others rest e h = (subst (λ z. IsNormalPath (path_of z)) e h).1
-
-pub claim_step : (types : Types) (f : ℕ → Claim) (o : Option (List Row)) (rows made : List Row) (x : ℕ) (others rest : List ℕ) → rest ≡ x ∷ others → o ≡ rows_with types rows (map f rest) → rows_with types rows (f x ∷ []) ≡ Some made → o ≡ rows_with types made (map f others)
-claim_step types f o rows made x others rest e h k = h ∙ ap (λ z. rows_with types rows (map f z)) e ∙ then_more types rows made (f x ∷ []) (map f others) k
-
-pub claim_lost : (types : Types) (f : ℕ → Claim) (o : Option (List Row)) (rows : List Row) (x : ℕ) (others rest : List ℕ) → rest ≡ x ∷ others → o ≡ rows_with types rows (map f rest) → rows_with types rows (f x ∷ []) ≡ None → o ≡ None
-claim_lost types f o rows x others rest e h k = h ∙ ap (λ z. rows_with types rows (map f z)) e ∙ then_none types rows (f x ∷ []) (map f others) k
-
-pub claims_done : (types : Types) (f : ℕ → Claim) (o : Option (List Row)) (rows : List Row) (rest : List ℕ) → rest ≡ [] → o ≡ rows_with types rows (map f rest) → o ≡ Some rows
-claims_done types f o rows rest e h = h ∙ ap (λ z. rows_with types rows (map f z)) e ∙ no_more types rows
 
 -- ---- Negation keeps sizes
 

@@ -47,7 +47,7 @@ pub whole-* : (a b : ℤ) → whole a *ʳ whole b ≡ whole (a *ℤ b)
 unfolding whole
 whole-* a b = ratio-* a 1 b 1 (lit< tt) (lit< tt)
 
-whole-+ : (a b : ℤ) → whole a +ʳ whole b ≡ whole (a +ℤ b)
+pub whole-+ : (a b : ℤ) → whole a +ʳ whole b ≡ whole (a +ℤ b)
 unfolding whole
 whole-+ a b = ratio-+ a 1 b 1 (lit< tt) (lit< tt) ∙ ap (λ z. ratio z 1) (ap₂ (λ x y. x +ℤ y) (*ℤ-one a) (*ℤ-one b))
 

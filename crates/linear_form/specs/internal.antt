@@ -1,8 +1,8 @@
 pub mod Loops
-pub mod FitTerms
 pub mod Operator
 pub mod Run
 pub mod Seen
+pub mod Direct
 pub mod Columns
 pub mod FirstRows
 pub mod FurtherRows

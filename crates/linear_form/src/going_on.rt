@@ -42,12 +42,12 @@ pub fn go_on<'a>(
 {
     let mut now = copy_place(alloc, place)?;
     'steps: loop {
-        match advance(alloc, now, path)? {
-            Step::On(next) => now = next,
-            Step::Asks(atom, place) => {
+        match advance(alloc, &mut now, path)? {
+            Step::On => {}
+            Step::Asks(atom) => {
                 return Ok(Reached {
                     ask: Ask::Decide(atom),
-                    place,
+                    place: now,
                 });
             }
             Step::Ends(stated, found) => return ended(alloc, goal, Ask::End(stated, found)),

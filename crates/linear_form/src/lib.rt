@@ -5,6 +5,7 @@ mod answering;
 mod asking;
 mod claim_laws;
 mod cursor;
+mod direct;
 mod further_rows;
 mod goal_products;
 mod going_on;

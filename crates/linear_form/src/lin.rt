@@ -7,7 +7,7 @@ ghost use Rattle.linear_form.specs.internal.Run.{IsKept};
 ghost use Rattle.linear_form.specs.PlainPaths.{lin_of, linear_of};
 
 use crate::linear_terms::merged;
-use crate::numbers::{fits, is_zero, minus_one, one, product, sum, zero};
+use crate::numbers::{fits, is_zero, one, product, signed, sum, zero};
 use heyvl_num::Frac;
 use std::alloc::{AllocError, Global};
 
@@ -65,7 +65,7 @@ pub(crate) fn plus(alloc: Global, a: &Lin, b: &Lin) -> Result<Lin, AllocError>
     requires right { IsKept (lin_of b.now) }
     ensures { IfOk result (λ c. lin_of c ≡ lin_plus (lin_of a.now) (lin_of b.now)) }
 {
-    let terms = merged(alloc, &b.terms, &a.terms)?;
+    let terms = merged(alloc, &b.terms, false, &a.terms)?;
     Ok(Lin {
         terms,
         rest: sum(&a.rest, &b.rest),
@@ -94,7 +94,7 @@ fn times(alloc: Global, w: &Frac, terms: &[(u32, Frac)]) -> Result<Vec<(u32, Fra
     requires coefficients { all_fit terms.now ≡ true }
     ensures { IfOk result (λ v. v.items ≡ times_terms w.now terms.now) }
 {
-    let mut made = Vec::new(alloc);
+    let mut made = Vec::with_capacity(alloc, terms.len())?;
     let mut rest = terms;
     'terms: while let Some((term, others)) = rest.split_first() {
         made.push((term.0, product(w, &term.1)))?;
@@ -103,18 +103,20 @@ fn times(alloc: Global, w: &Frac, terms: &[(u32, Frac)]) -> Result<Vec<(u32, Fra
     Ok(made)
 }
 
-#[tactic(auto, unfolding(crate::specs::Lin::minus))]
 pub(crate) fn minus(alloc: Global, a: &Lin, b: &Lin) -> Result<Lin, AllocError>
     requires left { IsKept (lin_of a.now) }
     requires right { IsKept (lin_of b.now) }
     ensures { IfOk result (λ c. lin_of c ≡ lin_minus (lin_of a.now) (lin_of b.now)) }
 {
-    let down = scaled(alloc, &minus_one(), b)?;
-    plus(alloc, a, &down)
+    let terms = merged(alloc, &b.terms, true, &a.terms)?;
+    Ok(Lin {
+        terms,
+        rest: sum(&a.rest, &signed(&b.rest, true)),
+    })
 }
 
 /// The same value again.
-fn copy(alloc: Global, a: &Lin) -> Result<Lin, AllocError>
+pub(crate) fn copy(alloc: Global, a: &Lin) -> Result<Lin, AllocError>
     ensures { IfOk result (λ c. lin_of c ≡ lin_of a.now) }
 {
     let mut terms = Vec::new(alloc);

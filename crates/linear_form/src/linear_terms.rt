@@ -1,61 +1,52 @@
 //! Terms of linear values, by growing variable number.
 
 ghost use Rattle.std.specs.Prelude.{◌≡◌, ◌++◌, [], IfOk, true};
-ghost use Rattle.linear_form.specs.Lin.{all_fit, fits as number_fits, unless_zero, more, merged as merged_terms, AreNormal};
-ghost use Rattle.linear_form.specs.internal.FitTerms.{IsFitAt, AreFitAt};
+ghost use Rattle.linear_form.specs.Lin.{all_fit, unless_zero, merged as merged_terms, AreNormal};
+ghost use Rattle.linear_form.specs.internal.Operator.{signed_terms};
 
-use crate::numbers::{is_zero, sum};
+use crate::numbers::{is_zero, signed, sum};
 use heyvl_num::Frac;
 use std::alloc::{AllocError, Global};
 
-/// Each term of the first list put into the second.
+/// The sum of two lists of terms or, downward, the second without the first.
 pub(crate) fn merged(
     alloc: Global,
     from: &[(u32, Frac)],
+    downward: bool,
     into: &[(u32, Frac)],
 ) -> Result<Vec<(u32, Frac)>, AllocError>
     requires normal { AreNormal from.now }
     requires from_fits { all_fit from.now ≡ true }
     requires into_fits { all_fit into.now ≡ true }
-    ensures { IfOk result (λ v. v.items ≡ merged_terms from.now into.now) }
+    ensures { IfOk result (λ v. v.items ≡ merged_terms (signed_terms downward from.now) into.now) }
 {
-    let mut made = Vec::from_slice(alloc, into)?;
-    let mut rest = from;
-    'terms: while let Some((term, others)) = rest.split_first() {
-        made = with_term(alloc, &made, term.0, &term.1)?;
-        rest = others;
-    }
-    Ok(made)
-}
-
-/// The terms with one term more.
-fn with_term(
-    alloc: Global,
-    terms: &[(u32, Frac)],
-    x: u32,
-    c: &Frac,
-) -> Result<Vec<(u32, Frac)>, AllocError>
-    requires coefficient { number_fits c.now ≡ true }
-    requires place { IsFitAt x terms.now }
-    ensures { IfOk result (λ v. v.items ≡ more x c.now terms.now) }
-{
-    let mut made = Vec::new(alloc);
-    let mut rest = terms;
-    'terms: while let Some((term, others)) = rest.split_first() {
-        if x == term.0 {
-            push_term(&mut made, x, sum(&term.1, c))?;
-            made.extend_from_slice(others)?;
-            return Ok(made);
+    let mut made = Vec::with_capacity(alloc, from.len().saturating_add(into.len()))?;
+    let mut left = from;
+    let mut right = into;
+    'terms: while let Some((term, others)) = left.split_first() {
+        let x = term.0;
+        let new = signed(&term.1, downward);
+        match right.split_first() {
+            None => {
+                made.push((x, new))?;
+                left = others;
+            }
+            Some((old, further)) => {
+                if old.0 < x {
+                    made.push(*old)?;
+                    right = further;
+                } else if x < old.0 {
+                    made.push((x, new))?;
+                    left = others;
+                } else {
+                    push_term(&mut made, x, sum(&old.1, &new))?;
+                    left = others;
+                    right = further;
+                }
+            }
         }
-        if x < term.0 {
-            push_term(&mut made, x, *c)?;
-            made.extend_from_slice(rest)?;
-            return Ok(made);
-        }
-        made.push(*term)?;
-        rest = others;
     }
-    push_term(&mut made, x, *c)?;
+    made.extend_from_slice(right)?;
     Ok(made)
 }
 

@@ -1,19 +1,34 @@
 //! Multiples of linear values by any fraction, where they are below 2^62.
 
 ghost use Rattle.std.specs.Prelude.{◌≡◌, IfOk, MatchOption, true, false};
+ghost use Rattle.heyvl_num.specs.Exact.{exact_product};
 ghost use Rattle.linear_form.specs.internal.Run.{IsKept};
 ghost use Rattle.linear_form.specs.Lin.{all_fit, fits as number_fits, is_sized as lin_is_sized, scaled as lin_scaled, times as times_terms};
 ghost use Rattle.linear_form.specs.internal.Operator.{small_product as product_of};
 ghost use Rattle.linear_form.specs.PlainPaths.{lin_of};
 
 use crate::lin::{Lin, constant};
-use crate::numbers::{fits, is_zero, zero};
+use crate::numbers::{fits, fitting, is_one, is_zero, product, zero};
 use heyvl_num::Frac;
 use std::alloc::{AllocError, Global};
 
-/// The product with a fraction below 2^62, where it is below 2^62 too. It is reduced crosswise before it is made, so that no
-/// product on the way is too large for what it stands for.
+/// The product with a fraction below 2^62, where it is below 2^62 too.
 pub(crate) fn small_product(w: &Frac, c: &Frac) -> Option<Frac>
+    requires { number_fits c.now ≡ true }
+    ensures { result ≡ product_of w.now c.now }
+{
+    if is_one(w) {
+        Some(*c)
+    } else if fits(w) {
+        fitting(product(w, c))
+    } else {
+        crosswise_product(w, c)
+    }
+}
+
+/// The same for any fraction: it is reduced crosswise before it is made, so that no product on the way is too large for what it
+/// stands for.
+fn crosswise_product(w: &Frac, c: &Frac) -> Option<Frac>
     requires { number_fits c.now ≡ true }
     ensures { result ≡ product_of w.now c.now }
 {
@@ -26,6 +41,18 @@ pub(crate) fn small_product(w: &Frac, c: &Frac) -> Option<Frac>
     if fits(&product) { Some(product) } else { None }
 }
 
+/// The product with a fraction below 2^62, or None where a whole number that it is computed from is too large.
+pub(crate) fn exact_multiple(w: &Frac, c: &Frac) -> Option<Frac>
+    requires { number_fits c.now ≡ true }
+    ensures { result ≡ exact_product w.now c.now }
+{
+    if fits(w) {
+        Some(product(w, c))
+    } else {
+        w.mul(c)
+    }
+}
+
 /// Each term times a number, where all coefficients are below 2^62.
 fn small_terms(
     alloc: Global,
@@ -35,7 +62,7 @@ fn small_terms(
     requires { all_fit terms.now ≡ true }
     ensures { IfOk result (λ o. MatchOption o (all_fit (times_terms w.now terms.now) ≡ false) (λ v. (v.items ≡ times_terms w.now terms.now) × (all_fit (times_terms w.now terms.now) ≡ true))) }
 {
-    let mut made = Vec::new(alloc);
+    let mut made = Vec::with_capacity(alloc, terms.len())?;
     let mut rest = terms;
     'terms: while let Some((term, others)) = rest.split_first() {
         match small_product(w, &term.1) {

@@ -47,6 +47,9 @@ fn added(sum: i128, multiplier: u64, number: i64) -> Option<i128>
     requires number_narrow { unsigned_abs number < 2 ^ 62 }
     ensures { SomeIff result (unsigned_abs (sum +ℤ (pos multiplier *ℤ number)) < 2 ^ 126) (sum +ℤ (pos multiplier *ℤ number)) }
 {
+    if number == 0 {
+        return Some(sum);
+    }
     let more = multiple(multiplier, number);
     let next = sum + more;
     if next.unsigned_abs() < 1 << 126 {

@@ -65,14 +65,14 @@ pub(crate) enum Connective {
 pub(crate) fn of_values(
     alloc: Global,
     operator: Binary,
-    a: Option<Lin>,
-    b: Option<Lin>,
+    a: &Option<Lin>,
+    b: &Option<Lin>,
     path: &[Taken],
     at: usize,
 ) -> Result<Found, Stop>
-    requires left { IsKeptValue (linear_of a) }
-    requires right { IsKeptValue (linear_of b) }
-    ensures { Gives result (along (path_of path.now) (binary operator (linear_of a) (linear_of b)) at) }
+    requires left { IsKeptValue (linear_of a.now) }
+    requires right { IsKeptValue (linear_of b.now) }
+    ensures { Gives result (along (path_of path.now) (binary operator (linear_of a.now) (linear_of b.now)) at) }
 {
     match operator {
         Binary::Sum => sum(alloc, a, b, path, at),
@@ -91,12 +91,12 @@ pub(crate) fn of_values(
 pub(crate) fn of_value(
     alloc: Global,
     operator: Unary<'_>,
-    a: Option<Lin>,
+    a: &Option<Lin>,
     path: &[Taken],
     at: usize,
 ) -> Result<Found, Stop>
-    requires { IsKeptValue (linear_of a) }
-    ensures { Gives result (along (path_of path.now) (unary operator.entry (linear_of a)) at) }
+    requires { IsKeptValue (linear_of a.now) }
+    ensures { Gives result (along (path_of path.now) (unary operator.entry (linear_of a.now)) at) }
 {
     match operator {
         Unary::Scale(w) => scale(alloc, w, a, at),

@@ -1,10 +1,11 @@
 //! Fractions below 2^62, whose sums and products are exact.
 
-ghost use Rattle.std.specs.Prelude.{◌≡◌, true};
+ghost use Rattle.std.specs.Prelude.{◌≡◌, ◌==◌, ◌&&◌, true, if◌then◌else◌};
 ghost use Rattle.heyvl_num.specs.Rational.{zeroʳ, oneʳ, ◌+ʳ◌, ◌*ʳ◌};
 ghost use Rattle.heyvl_num.specs.Value.{is_zeroʳ};
 ghost use Rattle.linear_form.specs.Terms.{is_narrow};
 ghost use Rattle.linear_form.specs.Lin.{minus_oneʳ, fits as number_fits};
+ghost use Rattle.linear_form.specs.internal.Operator.{signed_number};
 ghost use Rattle.linear_form.specs.Query.{is_negative as number_is_negative};
 
 use heyvl_num::Frac;
@@ -58,7 +59,71 @@ pub(crate) fn is_negative(x: &Frac, strict: bool) -> bool
     if strict { x.num() < 0 } else { x.num() <= 0 }
 }
 
+/// The number, where it is below 2^62.
+pub(crate) fn fitting(x: Frac) -> Option<Frac>
+    ensures { result ≡ (if number_fits x then Some x else None) }
+{
+    if fits(&x) { Some(x) } else { None }
+}
+
+/// Whether the number is 1.
+pub(crate) fn is_one(x: &Frac) -> bool
+    ensures { result ≡ true → x.now ≡ oneʳ }
+{
+    is_whole(x) && x.num() == 1
+}
+
+fn is_whole(x: &Frac) -> bool
+    ensures { result ≡ (x.now.den == 1) }
+{
+    x.den() == 1
+}
+
+fn are_whole(x: &Frac, y: &Frac) -> bool
+    ensures { result ≡ ((x.now.den == 1) && (y.now.den == 1)) }
+{
+    is_whole(x) && is_whole(y)
+}
+
+/// The number or, downward, its negative.
+pub(crate) fn signed(x: &Frac, downward: bool) -> Frac
+    requires { number_fits x.now ≡ true }
+    ensures { result ≡ signed_number downward x.now }
+{
+    if downward {
+        product(&minus_one(), x)
+    } else {
+        *x
+    }
+}
+
+/// The sum, which is cheap where one of the two is 0 or both are whole.
 pub(crate) fn sum(x: &Frac, y: &Frac) -> Frac
+    requires left { number_fits x.now ≡ true }
+    requires right { number_fits y.now ≡ true }
+    ensures { result ≡ x.now +ʳ y.now }
+{
+    if are_whole(x, y) {
+        whole_sum(x, y)
+    } else if is_zero(y) {
+        *x
+    } else if is_zero(x) {
+        *y
+    } else {
+        any_sum(x, y)
+    }
+}
+
+fn whole_sum(x: &Frac, y: &Frac) -> Frac
+    requires left { number_fits x.now ≡ true }
+    requires right { number_fits y.now ≡ true }
+    requires whole { ((x.now.den == 1) && (y.now.den == 1)) ≡ true }
+    ensures { result ≡ x.now +ʳ y.now }
+{
+    Frac::new(x.num() + y.num(), 1).unwrap()
+}
+
+fn any_sum(x: &Frac, y: &Frac) -> Frac
     requires left { number_fits x.now ≡ true }
     requires right { number_fits y.now ≡ true }
     ensures { result ≡ x.now +ʳ y.now }
@@ -66,7 +131,31 @@ pub(crate) fn sum(x: &Frac, y: &Frac) -> Frac
     x.add(y).unwrap()
 }
 
+/// The product, which is cheap where the second is 0 or both are whole.
 pub(crate) fn product(x: &Frac, y: &Frac) -> Frac
+    requires left { number_fits x.now ≡ true }
+    requires right { number_fits y.now ≡ true }
+    ensures { result ≡ x.now *ʳ y.now }
+{
+    if are_whole(x, y) {
+        whole_product(x, y)
+    } else if is_zero(y) {
+        *y
+    } else {
+        any_product(x, y)
+    }
+}
+
+fn whole_product(x: &Frac, y: &Frac) -> Frac
+    requires left { number_fits x.now ≡ true }
+    requires right { number_fits y.now ≡ true }
+    requires whole { ((x.now.den == 1) && (y.now.den == 1)) ≡ true }
+    ensures { result ≡ x.now *ʳ y.now }
+{
+    Frac::new(x.num() * y.num(), 1).unwrap()
+}
+
+fn any_product(x: &Frac, y: &Frac) -> Frac
     requires left { number_fits x.now ≡ true }
     requires right { number_fits y.now ≡ true }
     ensures { result ≡ x.now *ʳ y.now }

@@ -6,13 +6,13 @@ ghost use Rattle.heyvl_num.specs.Value.{is_zeroʳ};
 ghost use Rattle.linear_form.specs.Query.{Taken as PlainTaken};
 ghost use Rattle.linear_form.specs.Questions as tree;
 ghost use Rattle.linear_form.specs.internal.Operator.{has_no_terms};
-ghost use Rattle.linear_form.specs.internal.Run.{along, IsKept, IsKeptValue};
+ghost use Rattle.linear_form.specs.internal.Run.{along, Evaluation, IsKept, IsKeptValue};
 ghost use Rattle.linear_form.specs.PlainPaths.{lin_of, linear_of, path_of};
 ghost use Rattle.linear_form.specs.internal.Seen.{Gives, Tells};
 ghost use Rattle.heyvl_num.specs.Extended.{value_of};
 
 use crate::cursor::{Found, Stop, Tested, answered};
-use crate::lin::{Lin, constant, is_sized, minus, plus, scaled};
+use crate::lin::{Lin, constant, copy, copy_value, is_sized, minus, plus, scaled};
 use crate::multiples::small_multiple;
 use crate::numbers::{is_negative, is_zero, one, zero};
 use crate::paths::{Atom, Taken};
@@ -85,6 +85,16 @@ fn unit(alloc: Global) -> Option<Lin>
     Some(constant(alloc, one()))
 }
 
+/// The value again.
+fn same(alloc: Global, a: &Option<Lin>, at: usize) -> Result<Found, Stop>
+    ensures { Gives result (Evaluation.value (linear_of a.now) at) }
+{
+    Ok(Found {
+        value: copy_value(alloc, a)?,
+        next: at,
+    })
+}
+
 /// 0 where a factor of infinity is at most 0, else infinity.
 fn zero_or_infinity(alloc: Global, a: Lin, path: &[Taken], at: usize) -> Result<Found, Stop>
     ensures { Gives result (along (path_of path.now) (tree.infinite_product (lin_of a)) at) }
@@ -101,6 +111,14 @@ fn zero_or_infinity(alloc: Global, a: Lin, path: &[Taken], at: usize) -> Result<
             next: test.next,
         })
     }
+}
+
+/// The product of infinity with a linear value.
+fn infinite_product(alloc: Global, a: &Lin, path: &[Taken], at: usize) -> Result<Found, Stop>
+    ensures { Gives result (along (path_of path.now) (tree.infinite_product (lin_of a.now)) at) }
+{
+    let factor = copy(alloc, a)?;
+    zero_or_infinity(alloc, factor, path, at)
 }
 
 /// The product of two linear values, one of which is constant.
@@ -123,14 +141,14 @@ fn finite_product(alloc: Global, a: &Lin, b: &Lin, path: &[Taken], at: usize) ->
 #[tactic(auto, unfolding(crate::specs::internal::Run::along))]
 pub(crate) fn sum(
     alloc: Global,
-    a: Option<Lin>,
-    b: Option<Lin>,
+    a: &Option<Lin>,
+    b: &Option<Lin>,
     path: &[Taken],
     at: usize,
 ) -> Result<Found, Stop>
-    requires left { IsKeptValue (linear_of a) }
-    requires right { IsKeptValue (linear_of b) }
-    ensures { Gives result (along (path_of path.now) (tree.sum (linear_of a) (linear_of b)) at) }
+    requires left { IsKeptValue (linear_of a.now) }
+    requires right { IsKeptValue (linear_of b.now) }
+    ensures { Gives result (along (path_of path.now) (tree.sum (linear_of a.now) (linear_of b.now)) at) }
 {
     match a {
         None => Ok(Found {
@@ -143,7 +161,7 @@ pub(crate) fn sum(
                 next: at,
             }),
             Some(y) => {
-                let total = plus(alloc, &x, &y)?;
+                let total = plus(alloc, x, y)?;
                 sized(total, at)
             }
         },
@@ -153,14 +171,14 @@ pub(crate) fn sum(
 #[tactic(auto, unfolding(crate::specs::internal::Run::along))]
 pub(crate) fn difference(
     alloc: Global,
-    a: Option<Lin>,
-    b: Option<Lin>,
+    a: &Option<Lin>,
+    b: &Option<Lin>,
     path: &[Taken],
     at: usize,
 ) -> Result<Found, Stop>
-    requires left { IsKeptValue (linear_of a) }
-    requires right { IsKeptValue (linear_of b) }
-    ensures { Gives result (along (path_of path.now) (tree.difference (linear_of a) (linear_of b)) at) }
+    requires left { IsKeptValue (linear_of a.now) }
+    requires right { IsKeptValue (linear_of b.now) }
+    ensures { Gives result (along (path_of path.now) (tree.difference (linear_of a.now) (linear_of b.now)) at) }
 {
     match a {
         None => Ok(Found {
@@ -173,7 +191,7 @@ pub(crate) fn difference(
                 next: at,
             }),
             Some(y) => {
-                let left = minus(alloc, &x, &y)?;
+                let left = minus(alloc, x, y)?;
                 sized(left, at)
             }
         },
@@ -183,14 +201,14 @@ pub(crate) fn difference(
 #[tactic(auto, unfolding(crate::specs::internal::Run::along))]
 pub(crate) fn cut(
     alloc: Global,
-    a: Option<Lin>,
-    b: Option<Lin>,
+    a: &Option<Lin>,
+    b: &Option<Lin>,
     path: &[Taken],
     at: usize,
 ) -> Result<Found, Stop>
-    requires left { IsKeptValue (linear_of a) }
-    requires right { IsKeptValue (linear_of b) }
-    ensures { Gives result (along (path_of path.now) (tree.cut (linear_of a) (linear_of b)) at) }
+    requires left { IsKeptValue (linear_of a.now) }
+    requires right { IsKeptValue (linear_of b.now) }
+    ensures { Gives result (along (path_of path.now) (tree.cut (linear_of a.now) (linear_of b.now)) at) }
 {
     match a {
         None => match b {
@@ -209,9 +227,9 @@ pub(crate) fn cut(
                 next: at,
             }),
             Some(y) => {
-                let test = compare(alloc, &y, &x, false, path, at)?;
+                let test = compare(alloc, y, x, false, path, at)?;
                 if test.holds {
-                    let left = minus(alloc, &x, &y)?;
+                    let left = minus(alloc, x, y)?;
                     sized(left, test.next)
                 } else {
                     Ok(Found {
@@ -227,14 +245,14 @@ pub(crate) fn cut(
 #[tactic(auto, unfolding(crate::specs::internal::Run::along))]
 pub(crate) fn product(
     alloc: Global,
-    a: Option<Lin>,
-    b: Option<Lin>,
+    a: &Option<Lin>,
+    b: &Option<Lin>,
     path: &[Taken],
     at: usize,
 ) -> Result<Found, Stop>
-    requires left { IsKeptValue (linear_of a) }
-    requires right { IsKeptValue (linear_of b) }
-    ensures { Gives result (along (path_of path.now) (tree.product (linear_of a) (linear_of b)) at) }
+    requires left { IsKeptValue (linear_of a.now) }
+    requires right { IsKeptValue (linear_of b.now) }
+    ensures { Gives result (along (path_of path.now) (tree.product (linear_of a.now) (linear_of b.now)) at) }
 {
     match a {
         None => match b {
@@ -242,45 +260,36 @@ pub(crate) fn product(
                 value: None,
                 next: at,
             }),
-            Some(y) => zero_or_infinity(alloc, y, path, at)
+            Some(y) => infinite_product(alloc, y, path, at)
         },
         Some(x) => match b {
-            None => zero_or_infinity(alloc, x, path, at),
-            Some(y) => { finite_product(alloc, &x, &y, path, at) }
+            None => infinite_product(alloc, x, path, at),
+            Some(y) => { finite_product(alloc, x, y, path, at) }
         },
     }
 }
 
 pub(crate) fn min(
     alloc: Global,
-    a: Option<Lin>,
-    b: Option<Lin>,
+    a: &Option<Lin>,
+    b: &Option<Lin>,
     path: &[Taken],
     at: usize,
 ) -> Result<Found, Stop>
-    requires left { IsKeptValue (linear_of a) }
-    requires right { IsKeptValue (linear_of b) }
-    ensures { Gives result (along (path_of path.now) (tree.min (linear_of a) (linear_of b)) at) }
+    requires left { IsKeptValue (linear_of a.now) }
+    requires right { IsKeptValue (linear_of b.now) }
+    ensures { Gives result (along (path_of path.now) (tree.min (linear_of a.now) (linear_of b.now)) at) }
 {
     match a {
-        None => Ok(Found { value: b, next: at }),
+        None => same(alloc, b, at),
         Some(x) => match b {
-            None => Ok(Found {
-                value: Some(x),
-                next: at,
-            }),
+            None => same(alloc, a, at),
             Some(y) => {
-                let least = compare(alloc, &x, &y, false, path, at)?;
+                let least = compare(alloc, x, y, false, path, at)?;
                 if least.holds {
-                    Ok(Found {
-                        value: Some(x),
-                        next: least.next,
-                    })
+                    same(alloc, a, least.next)
                 } else {
-                    Ok(Found {
-                        value: Some(y),
-                        next: least.next,
-                    })
+                    same(alloc, b, least.next)
                 }
             }
         },
@@ -289,14 +298,14 @@ pub(crate) fn min(
 
 pub(crate) fn max(
     alloc: Global,
-    a: Option<Lin>,
-    b: Option<Lin>,
+    a: &Option<Lin>,
+    b: &Option<Lin>,
     path: &[Taken],
     at: usize,
 ) -> Result<Found, Stop>
-    requires left { IsKeptValue (linear_of a) }
-    requires right { IsKeptValue (linear_of b) }
-    ensures { Gives result (along (path_of path.now) (tree.max (linear_of a) (linear_of b)) at) }
+    requires left { IsKeptValue (linear_of a.now) }
+    requires right { IsKeptValue (linear_of b.now) }
+    ensures { Gives result (along (path_of path.now) (tree.max (linear_of a.now) (linear_of b.now)) at) }
 {
     match a {
         None => Ok(Found {
@@ -309,17 +318,11 @@ pub(crate) fn max(
                 next: at,
             }),
             Some(y) => {
-                let test = compare(alloc, &x, &y, false, path, at)?;
+                let test = compare(alloc, x, y, false, path, at)?;
                 if test.holds {
-                    Ok(Found {
-                        value: Some(y),
-                        next: test.next,
-                    })
+                    same(alloc, b, test.next)
                 } else {
-                    Ok(Found {
-                        value: Some(x),
-                        next: test.next,
-                    })
+                    same(alloc, a, test.next)
                 }
             }
         },
@@ -328,34 +331,31 @@ pub(crate) fn max(
 
 pub(crate) fn imply(
     alloc: Global,
-    a: Option<Lin>,
-    b: Option<Lin>,
+    a: &Option<Lin>,
+    b: &Option<Lin>,
     path: &[Taken],
     at: usize,
 ) -> Result<Found, Stop>
-    requires left { IsKeptValue (linear_of a) }
-    requires right { IsKeptValue (linear_of b) }
-    ensures { Gives result (along (path_of path.now) (tree.imply (linear_of a) (linear_of b)) at) }
+    requires left { IsKeptValue (linear_of a.now) }
+    requires right { IsKeptValue (linear_of b.now) }
+    ensures { Gives result (along (path_of path.now) (tree.imply (linear_of a.now) (linear_of b.now)) at) }
 {
     match a {
-        None => Ok(Found { value: b, next: at }),
+        None => same(alloc, b, at),
         Some(x) => match b {
             None => Ok(Found {
                 value: None,
                 next: at,
             }),
             Some(y) => {
-                let test = compare(alloc, &x, &y, false, path, at)?;
+                let test = compare(alloc, x, y, false, path, at)?;
                 if test.holds {
                     Ok(Found {
                         value: None,
                         next: test.next,
                     })
                 } else {
-                    Ok(Found {
-                        value: Some(y),
-                        next: test.next,
-                    })
+                    same(alloc, b, test.next)
                 }
             }
         },
@@ -364,14 +364,14 @@ pub(crate) fn imply(
 
 pub(crate) fn co_imply(
     alloc: Global,
-    a: Option<Lin>,
-    b: Option<Lin>,
+    a: &Option<Lin>,
+    b: &Option<Lin>,
     path: &[Taken],
     at: usize,
 ) -> Result<Found, Stop>
-    requires left { IsKeptValue (linear_of a) }
-    requires right { IsKeptValue (linear_of b) }
-    ensures { Gives result (along (path_of path.now) (tree.co_imply (linear_of a) (linear_of b)) at) }
+    requires left { IsKeptValue (linear_of a.now) }
+    requires right { IsKeptValue (linear_of b.now) }
+    ensures { Gives result (along (path_of path.now) (tree.co_imply (linear_of a.now) (linear_of b.now)) at) }
 {
     match a {
         None => Ok(Found {
@@ -384,17 +384,14 @@ pub(crate) fn co_imply(
                 next: at,
             }),
             Some(y) => {
-                let test = compare(alloc, &y, &x, false, path, at)?;
+                let test = compare(alloc, y, x, false, path, at)?;
                 if test.holds {
                     Ok(Found {
                         value: nothing(alloc),
                         next: test.next,
                     })
                 } else {
-                    Ok(Found {
-                        value: Some(y),
-                        next: test.next,
-                    })
+                    same(alloc, b, test.next)
                 }
             }
         },
@@ -416,8 +413,8 @@ pub(crate) fn iverson(alloc: Global, holds: bool) -> Option<Lin>
 }
 
 /// Infinity where the value is infinity, else 0.
-pub(crate) fn validate(alloc: Global, a: Option<Lin>) -> Option<Lin>
-    ensures { linear_of result ≡ tree.validate (linear_of a) }
+pub(crate) fn validate(alloc: Global, a: &Option<Lin>) -> Option<Lin>
+    ensures { linear_of result ≡ tree.validate (linear_of a.now) }
 {
     match a {
         None => None,
@@ -429,18 +426,18 @@ pub(crate) fn validate(alloc: Global, a: Option<Lin>) -> Option<Lin>
 #[tactic(auto, unfolding(crate::specs::internal::Run::along))]
 pub(crate) fn co_validate(
     alloc: Global,
-    a: Option<Lin>,
+    a: &Option<Lin>,
     path: &[Taken],
     at: usize,
 ) -> Result<Found, Stop>
-    ensures { Gives result (along (path_of path.now) (tree.co_validate (linear_of a)) at) }
+    ensures { Gives result (along (path_of path.now) (tree.co_validate (linear_of a.now)) at) }
 {
     match a {
         None => Ok(Found {
             value: None,
             next: at,
         }),
-        Some(x) => zero_or_infinity(alloc, x, path, at),
+        Some(x) => infinite_product(alloc, x, path, at),
     }
 }
 
@@ -481,16 +478,16 @@ fn finite_multiple(alloc: Global, w: &Frac, a: &Lin, at: usize) -> Result<Found,
 }
 
 /// A multiple of a value.
-pub(crate) fn scale(alloc: Global, w: &Frac, a: Option<Lin>, at: usize) -> Result<Found, Stop>
-    requires { IsKeptValue (linear_of a) }
-    ensures { (ps : List PlainTaken) → Gives result (along ps (tree.scale w.now (linear_of a)) at) }
+pub(crate) fn scale(alloc: Global, w: &Frac, a: &Option<Lin>, at: usize) -> Result<Found, Stop>
+    requires { IsKeptValue (linear_of a.now) }
+    ensures { (ps : List PlainTaken) → Gives result (along ps (tree.scale w.now (linear_of a.now)) at) }
 {
     match a {
         None => Ok(Found {
             value: infinite_multiple(alloc, w),
             next: at,
         }),
-        Some(x) => finite_multiple(alloc, w, &x, at),
+        Some(x) => finite_multiple(alloc, w, x, at),
     }
 }
 

@@ -1,7 +1,7 @@
 //! Places: evaluations of a goal that stand somewhere on a path, and can go on from there.
 
 ghost use Rattle.std.specs.Prelude.{IfOk};
-ghost use Rattle.linear_form.specs.internal.Steps.{AreAlike, IsAlike, IsSamePlace, IsSameFocus, IsSameOutcome};
+ghost use Rattle.linear_form.specs.internal.Steps.{AreAlike, IsAlike, IsSamePlace, IsSameFocus};
 
 use crate::asking::Ask;
 use crate::lin::{Lin, copy_value};
@@ -26,14 +26,6 @@ pub struct Reached<'a> {
     pub place: Place<'a>,
 }
 
-/// What a part of a goal comes to: a value, a truth, or the values of both forms.
-#[derive(Drop)]
-pub(crate) enum Outcome {
-    Number(Option<Lin>),
-    Truth(bool),
-    Ends(Option<Lin>, Option<Lin>),
-}
-
 /// What is done with two values.
 #[derive(Clone, Copy)]
 pub(crate) enum Two {
@@ -48,7 +40,7 @@ pub(crate) enum Two {
 pub(crate) enum Focus<'a> {
     Form(&'a Form),
     Cond(&'a Cond),
-    Given(Outcome),
+    Truth(bool),
     One(Unary<'a>, Option<Lin>),
     Two(Two, Option<Lin>, Option<Lin>),
 }
@@ -92,26 +84,12 @@ fn copy_focus<'a>(alloc: Global, focus: &Focus<'a>) -> Result<Focus<'a>, AllocEr
     match focus {
         Focus::Form(form) => Ok(Focus::Form(*form)),
         Focus::Cond(cond) => Ok(Focus::Cond(*cond)),
-        Focus::Given(outcome) => Ok(Focus::Given(copy_outcome(alloc, outcome)?)),
+        Focus::Truth(t) => Ok(Focus::Truth(*t)),
         Focus::One(operator, x) => Ok(Focus::One(*operator, copy_value(alloc, x)?)),
         Focus::Two(operator, x, y) => {
             let left = copy_value(alloc, x)?;
             let right = copy_value(alloc, y)?;
             Ok(Focus::Two(*operator, left, right))
-        }
-    }
-}
-
-fn copy_outcome(alloc: Global, outcome: &Outcome) -> Result<Outcome, AllocError>
-    ensures { IfOk result (IsSameOutcome outcome.now) }
-{
-    match outcome {
-        Outcome::Number(x) => Ok(Outcome::Number(copy_value(alloc, x)?)),
-        Outcome::Truth(t) => Ok(Outcome::Truth(*t)),
-        Outcome::Ends(x, y) => {
-            let left = copy_value(alloc, x)?;
-            let right = copy_value(alloc, y)?;
-            Ok(Outcome::Ends(left, right))
         }
     }
 }
@@ -135,7 +113,7 @@ fn copy_frame<'a>(alloc: Global, frame: &Frame<'a>) -> Result<Frame<'a>, AllocEr
 fn copy_frames<'a>(alloc: Global, frames: &[Frame<'a>]) -> Result<Vec<Frame<'a>>, AllocError>
     ensures { IfOk result (λ v. AreAlike frames.now v.items) }
 {
-    let mut made = Vec::new(alloc);
+    let mut made = Vec::with_capacity(alloc, frames.len())?;
     for frame in frames {
         made.push(copy_frame(alloc, frame)?)?;
     }

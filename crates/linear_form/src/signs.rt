@@ -3,14 +3,12 @@
 ghost use Rattle.std.specs.Prelude.{◌≡◌, ◌<◌, List, IfOk, map, length, false};
 ghost use Rattle.linear_form.specs.Lin.{variable as variable_lin};
 ghost use Rattle.linear_form.specs.PathRows.{claim, negated, is_unsigned_type};
-ghost use Rattle.linear_form.specs.internal.FurtherRows.{rows_with, unsigned_in, all_unsigned_in};
+ghost use Rattle.linear_form.specs.internal.FurtherRows.{rows_with, unsigned_in, all_unsigned_in, sign_row as plain_sign_row};
 ghost use Rattle.linear_form.specs.Occurrences.{AreOccurrences};
 ghost use Rattle.linear_form.specs.Row.{Row as PlainRow};
 ghost use Rattle.linear_form.specs.RowLists.{Lists};
 ghost use Rattle.heylo_formula.specs.Typing.{types_in};
 
-use crate::further_rows::with_negated;
-use crate::lin::variable;
 use crate::occurrences::Occurrences;
 use crate::path_rows::RowList;
 use crate::row::Row;
@@ -41,44 +39,17 @@ fn unsigned_variable(types: &[Ty], occurrences: &Occurrences, x: usize) -> Optio
     }
 }
 
-/// The unsigned variables that occur in the rows of which these occurrences are, by number.
-fn unsigned_variables(
-    alloc: Global,
-    types: &[Ty],
-    occurrences: &Occurrences,
-) -> Result<Vec<u32>, AllocError>
-    ensures { (rows : List PlainRow) → AreOccurrences (length types.now) rows occurrences.now → IfOk result (λ v. v.items ≡ all_unsigned_in (types_in types.now) rows (length types.now)) }
+/// The row by which a variable isn't negative.
+fn sign_row(alloc: Global, x: u32) -> Result<Row, AllocError>
+    ensures { IfOk result (λ r. r ≡ plain_sign_row x) }
 {
-    let mut variables = Vec::new(alloc);
-    for x in 0..types.len() {
-        match unsigned_variable(types, occurrences, x) {
-            None => {}
-            Some(variable) => variables.push(variable)?,
-        }
-    }
-    Ok(variables)
-}
-
-/// The rows, and after them that none of these variables is negative.
-fn with_signs_of(
-    alloc: Global,
-    types: &[Ty],
-    rows: Vec<Row>,
-    variables: &[u32],
-) -> Result<RowList, AllocError>
-    ensures { IfOk result (λ r. Lists r (rows_with (types_in types.now) rows.items (map (λ x. claim (negated (variable_lin x)) false) variables.now))) }
-{
-    let mut made = rows;
-    let mut rest = variables;
-    'variables: while let Some((x, others)) = rest.split_first() {
-        let positive = variable(alloc, *x)?;
-        match with_negated(alloc, types, made, &positive, false)? {
-            RowList::Bits => return Ok(RowList::Bits),
-            RowList::Rows(more) => made = more,
-        }
-        rest = others;
-    }
-    Ok(RowList::Rows(made))
+    let mut terms = Vec::with_capacity(alloc, 1)?;
+    terms.push((x, -1))?;
+    Ok(Row {
+        terms,
+        rest: 0,
+        strict: false,
+    })
 }
 
 /// The rows, and after them that no unsigned variable that occurs in them is negative.
@@ -100,6 +71,12 @@ pub(crate) fn with_noted_signs(
     requires { AreOccurrences (length types.now) rows.items occurrences.now }
     ensures { IfOk result (λ r. Lists r (rows_with (types_in types.now) rows.items (map (λ x. claim (negated (variable_lin x)) false) (all_unsigned_in (types_in types.now) rows.items (length types.now))))) }
 {
-    let variables = unsigned_variables(alloc, types, occurrences)?;
-    with_signs_of(alloc, types, rows, &variables)
+    let mut made = rows;
+    for x in 0..types.len() {
+        match unsigned_variable(types, occurrences, x) {
+            None => {}
+            Some(variable) => made.push(sign_row(alloc, variable)?)?,
+        }
+    }
+    Ok(RowList::Rows(made))
 }

@@ -1,22 +1,24 @@
 //! The steps of an evaluation: a form or a condition is taken apart, an operator is run, or a frame gets what it waits for.
 
-ghost use Rattle.std.specs.Prelude.{◌≡◌, ◌<◌, ◌+◌, ◌*◌, ℕ, List, Some, IfOk, if◌then◌else◌};
+ghost use Rattle.std.specs.Prelude.{Bool, ◌≡◌, ◌<◌, ◌≤◌, ◌+◌, ◌*◌, ℕ, List, Some, IfOk, if◌then◌else◌};
 ghost use Rattle.heyvl_num.specs.Extended.{value_of};
 ghost use Rattle.heylo_formula.specs.Formula.{Form as PlainForm, Cond as PlainCond};
 ghost use Rattle.heylo_formula.specs.PlainTrees.{form_of, cond_of};
 ghost use Rattle.heylo_formula.specs.Sizes.{nodes, nodes_in};
 ghost use Rattle.linear_form.specs.Lin.{variable as variable_lin};
-ghost use Rattle.linear_form.specs.Query.{Taken as PlainTaken, next};
+ghost use Rattle.linear_form.specs.Query.{Query, Taken as PlainTaken, next};
 ghost use Rattle.linear_form.specs.Query.Query.{done};
-ghost use Rattle.linear_form.specs.Questions.{evaluate, test};
-ghost use Rattle.linear_form.specs.PlainPaths.{path_of, linear_of};
-ghost use Rattle.linear_form.specs.internal.Nodes.{unary, binary, comparison, after_first};
-ghost use Rattle.linear_form.specs.internal.Run.{along, IsKeptValue};
-ghost use Rattle.linear_form.specs.internal.Seen.{Stops};
-ghost use Rattle.linear_form.specs.internal.Places.{Result as Outcomes, result_of, valued, told, of_two, of_number, of_bool, resumed, asked_by, ended, through, left_at, weight, focus_weight, frame_weight, frames_weight, IsKeptOutcome, IsKeptFocus, IsKeptFrame, AreKeptFrames};
+ghost use Rattle.linear_form.specs.Questions.{Linear, evaluate, test};
+ghost use Rattle.linear_form.specs.PlainPaths.{path_of, lin_of, linear_of};
+ghost use Rattle.linear_form.specs.internal.Nodes.{unary, after_first};
+ghost use Rattle.linear_form.specs.internal.Run.{along, IsKept, IsKeptValue};
+ghost use Rattle.linear_form.specs.internal.Seen.{Gives, Tells, Stops};
+ghost use Rattle.linear_form.specs.internal.Places.{Result as Outcomes, valued, told, of_two, of_number, of_bool, resumed, asked_by, through, left_at, weight, focus_weight, frame_weight, frames_weight, IsKeptFocus, IsKeptFrame, AreKeptFrames};
 ghost use Rattle.linear_form.specs.internal.Steps.{Steps};
+ghost use Rattle.linear_form.specs.declared.places.Place.{Place as PlainPlace};
 
-use crate::cursor::{Stop, truth};
+use crate::cursor::{Found, Stop, Tested, truth};
+use crate::direct::direct;
 use crate::lin::{Lin, copy_value, variable};
 use crate::nodes::{
     Binary, Comparison, Connective, OfTruth, Unary, comparison_of, of_known_truth, of_value,
@@ -24,17 +26,18 @@ use crate::nodes::{
 };
 use crate::operators::number;
 use crate::paths::{Atom, Taken};
-use crate::places::{Focus, Frame, Outcome, Place, Two};
+use crate::places::{Focus, Frame, Place, Two};
 use heylo_formula::{Cond, Form};
 use heyvl_num::Ext;
 use std::alloc::{AllocError, Global};
 
 /// What one step of an evaluation gives.
 #[derive(Drop)]
-pub(crate) enum Step<'a> {
-    On(Place<'a>),
+pub(crate) enum Step {
+    /// The evaluation goes on.
+    On,
     /// The path doesn't answer this question, which is asked at the place.
-    Asks(Atom, Place<'a>),
+    Asks(Atom),
     /// The values of both forms.
     Ends(Option<Lin>, Option<Lin>),
     Bits,
@@ -43,463 +46,176 @@ pub(crate) enum Step<'a> {
 /// One step on from a place.
 pub(crate) fn advance<'a>(
     alloc: Global,
-    place: Place<'a>,
+    place: &mut Place<'a>,
     path: &[Taken],
-) -> Result<Step<'a>, AllocError>
-    requires focus { IsKeptFocus place.focus }
-    requires frames { AreKeptFrames place.frames.items }
-    ensures { IfOk result (Steps (path_of path.now) (left_at place.entry) place.entry.at (weight place.entry)) }
+) -> Result<Step, AllocError>
+    requires focus { IsKeptFocus place.old.focus }
+    requires frames { AreKeptFrames place.old.frames.items }
+    ensures { IfOk result (Steps (path_of path.now) (left_at place.old) place.old.at (weight place.old) place.new) }
 {
-    let Place { focus, frames, at } = place;
-    match focus {
-        Focus::Form(form) => take_apart(alloc, form, frames, at),
-        Focus::Cond(cond) => take_apart_condition(cond, frames, path, at),
-        Focus::Given(outcome) => give(alloc, outcome, frames, at),
-        Focus::One(operator, x) => of_one(alloc, operator, x, frames, path, at),
-        Focus::Two(operator, x, y) => of_both(alloc, operator, x, y, frames, path, at),
+    let at = place.at;
+    match &place.focus {
+        Focus::Form(form) => {
+            let form = *form;
+            take_apart(alloc, place, form)
+        }
+        Focus::Cond(cond) => {
+            let cond = *cond;
+            take_apart_condition(alloc, place, cond, path)
+        }
+        Focus::Truth(t) => {
+            let t = *t;
+            truth_given(alloc, place, t)
+        }
+        Focus::One(operator, x) => {
+            let found = of_value(alloc, *operator, x, path, at);
+            value_found(place, found)
+        }
+        Focus::Two(operator, x, y) => match *operator {
+            Two::Value(binary) => {
+                let found = of_values(alloc, binary, x, y, path, at);
+                value_found(place, found)
+            }
+            Two::Test(comparison) => {
+                let tested = comparison_of(alloc, comparison, x, y, path, at);
+                truth_found(alloc, place, tested)
+            }
+            Two::Ends => {
+                let stated = copy_value(alloc, x)?;
+                let found = copy_value(alloc, y)?;
+                Ok(at_the_end(&place.frames, stated, found))
+            }
+        },
     }
+}
+
+/// Goes on with this.
+fn on<'a>(place: &mut Place<'a>, focus: Focus<'a>) -> Step
+    requires focus { IsKeptFocus focus }
+    requires frames { AreKeptFrames place.old.frames.items }
+    ensures { (ps : List PlainTaken) (w : ℕ) → focus_weight focus.entry + frames_weight place.old.frames.items < w → Steps ps (through (asked_by focus.entry) place.old.frames.items) place.old.at w place.new result }
+{
+    place.focus = focus;
+    Step::On
+}
+
+/// Goes on with the first where the truth holds, else with the second.
+fn chosen<'a>(place: &mut Place<'a>, t: bool, yes: Focus<'a>, no: Focus<'a>) -> Step
+    requires yes { IsKeptFocus yes }
+    requires no { IsKeptFocus no }
+    requires frames { AreKeptFrames place.old.frames.items }
+    ensures { (ps : List PlainTaken) (w : ℕ) → focus_weight yes.entry + focus_weight no.entry + frames_weight place.old.frames.items < w → Steps ps (through (if t then asked_by yes.entry else asked_by no.entry) place.old.frames.items) place.old.at w place.new result }
+{
+    if t { on(place, yes) } else { on(place, no) }
 }
 
 /// Goes on with a part, while a frame waits for its outcome.
-fn under<'a>(
-    mut frames: Vec<Frame<'a>>,
-    frame: Frame<'a>,
-    focus: Focus<'a>,
-    at: usize,
-) -> Result<Step<'a>, AllocError>
+fn under<'a>(place: &mut Place<'a>, frame: Frame<'a>, focus: Focus<'a>) -> Result<Step, AllocError>
     requires focus { IsKeptFocus focus }
     requires frame { IsKeptFrame frame }
-    requires frames { AreKeptFrames frames.items }
-    ensures { (ps : List PlainTaken) (w : ℕ) → focus_weight focus.entry + frame_weight frame.entry + frames_weight frames.entry.items < w → IfOk result (Steps ps (through (next (asked_by focus.entry) (resumed frame.entry)) frames.entry.items) at w) }
+    requires frames { AreKeptFrames place.old.frames.items }
+    ensures { (ps : List PlainTaken) (w : ℕ) → focus_weight focus.entry + frame_weight frame.entry + frames_weight place.old.frames.items < w → IfOk result (Steps ps (through (next (asked_by focus.entry) (resumed frame.entry)) place.old.frames.items) place.old.at w place.new) }
 {
-    frames.push(frame)?;
-    Ok(Step::On(Place { focus, frames, at }))
+    place.frames.push(frame)?;
+    place.focus = focus;
+    Ok(Step::On)
 }
 
-/// The left one of two forms, and then the right one and an operator on their values.
-fn two_parts<'a>(
-    operator: Two,
-    a: &'a Form,
-    b: &'a Form,
-    frames: Vec<Frame<'a>>,
-    at: usize,
-) -> Result<Step<'a>, AllocError>
-    requires frames { AreKeptFrames frames.items }
-    ensures { (ps : List PlainTaken) (w : ℕ) → 4 * nodes (form_of a.now) + (3 + 4 * nodes (form_of b.now)) + frames_weight frames.entry.items < w → IfOk result (Steps ps (through (next (valued (evaluate (form_of a.now))) (of_number (λ x. next (valued (evaluate (form_of b.now))) (of_number (of_two operator x))))) frames.entry.items) at w) }
-{
-    under(frames, Frame::Left(operator, b), Focus::Form(a), at)
-}
-
-/// A form, and then an operator on its value.
-fn one_part<'a>(
-    operator: Unary<'a>,
-    a: &'a Form,
-    frames: Vec<Frame<'a>>,
-    at: usize,
-) -> Result<Step<'a>, AllocError>
-    requires frames { AreKeptFrames frames.items }
-    ensures { (ps : List PlainTaken) (w : ℕ) → 4 * nodes (form_of a.now) + 2 + frames_weight frames.entry.items < w → IfOk result (Steps ps (through (next (valued (evaluate (form_of a.now))) (of_number (λ x. valued (unary operator.entry x)))) frames.entry.items) at w) }
-{
-    under(frames, Frame::One(operator), Focus::Form(a), at)
-}
-
-/// A condition, while a frame waits for its truth.
-fn condition<'a>(
-    frame: Frame<'a>,
-    g: &'a Cond,
-    frames: Vec<Frame<'a>>,
-    at: usize,
-) -> Result<Step<'a>, AllocError>
-    requires frame { IsKeptFrame frame }
-    requires frames { AreKeptFrames frames.items }
-    ensures { (ps : List PlainTaken) (w : ℕ) → 4 * nodes_in (cond_of g.now) + frame_weight frame.entry + frames_weight frames.entry.items < w → IfOk result (Steps ps (through (next (told (test (cond_of g.now))) (resumed frame.entry)) frames.entry.items) at w) }
-{
-    under(frames, frame, Focus::Cond(g), at)
-}
-
-/// A condition, and then the form that it chooses.
-fn chosen_form<'a>(
-    g: &'a Cond,
-    a: &'a Form,
-    b: &'a Form,
-    frames: Vec<Frame<'a>>,
-    at: usize,
-) -> Result<Step<'a>, AllocError>
-    requires frames { AreKeptFrames frames.items }
-    ensures { (ps : List PlainTaken) (w : ℕ) → 4 * nodes_in (cond_of g.now) + (1 + (4 * nodes (form_of a.now) + 4 * nodes (form_of b.now))) + frames_weight frames.entry.items < w → IfOk result (Steps ps (through (next (told (test (cond_of g.now))) (of_bool (λ t. valued (if t then evaluate (form_of a.now) else evaluate (form_of b.now))))) frames.entry.items) at w) }
-{
-    condition(Frame::Select(a, b), g, frames, at)
-}
-
-/// A condition, and then the second one under a connective, where it is needed.
-fn two_conditions<'a>(
-    operator: Connective,
-    g: &'a Cond,
-    h: &'a Cond,
-    frames: Vec<Frame<'a>>,
-    at: usize,
-) -> Result<Step<'a>, AllocError>
-    requires frames { AreKeptFrames frames.items }
-    ensures { (ps : List PlainTaken) (w : ℕ) → 4 * nodes_in (cond_of g.now) + (2 + 4 * nodes_in (cond_of h.now)) + frames_weight frames.entry.items < w → IfOk result (Steps ps (through (next (told (test (cond_of g.now))) (of_bool (λ t. told (after_first operator (test (cond_of h.now)) t)))) frames.entry.items) at w) }
-{
-    condition(Frame::First(operator, h), g, frames, at)
-}
-
-/// A condition, and then the condition that it chooses.
-fn chosen_condition<'a>(
-    g: &'a Cond,
-    h: &'a Cond,
-    k: &'a Cond,
-    frames: Vec<Frame<'a>>,
-    at: usize,
-) -> Result<Step<'a>, AllocError>
-    requires frames { AreKeptFrames frames.items }
-    ensures { (ps : List PlainTaken) (w : ℕ) → 4 * nodes_in (cond_of g.now) + (1 + (4 * nodes_in (cond_of h.now) + 4 * nodes_in (cond_of k.now))) + frames_weight frames.entry.items < w → IfOk result (Steps ps (through (next (told (test (cond_of g.now))) (of_bool (λ t. told (if t then test (cond_of h.now) else test (cond_of k.now))))) frames.entry.items) at w) }
-{
-    condition(Frame::Choose(h, k), g, frames, at)
-}
-
-/// A form, taken apart: its first part, while a frame waits for its outcome, or its value where it has no parts.
-#[inline(never)]
-fn take_apart<'a>(
-    alloc: Global,
-    form: &'a Form,
-    frames: Vec<Frame<'a>>,
-    at: usize,
-) -> Result<Step<'a>, AllocError>
-    requires frames { AreKeptFrames frames.items }
-    ensures { (ps : List PlainTaken) → IfOk result (Steps ps (through (valued (evaluate (form_of form.now))) frames.entry.items) at (4 * nodes (form_of form.now) + frames_weight frames.entry.items)) }
-{
-    match form {
-        Form::Const(v) => constant(alloc, form, v, frames, at),
-        Form::Var(x) => variable_value(alloc, *x, frames, at),
-        Form::Sum(a, b) => two_parts(Two::Value(Binary::Sum), a, b, frames, at),
-        Form::Diff(a, b) => two_parts(Two::Value(Binary::Difference), a, b, frames, at),
-        Form::Cut(a, b) => two_parts(Two::Value(Binary::Cut), a, b, frames, at),
-        Form::Product(a, b, _) => two_parts(Two::Value(Binary::Product), a, b, frames, at),
-        Form::Min(a, b) => two_parts(Two::Value(Binary::Min), a, b, frames, at),
-        Form::Max(a, b) => two_parts(Two::Value(Binary::Max), a, b, frames, at),
-        Form::Imply(a, b) => two_parts(Two::Value(Binary::Imply), a, b, frames, at),
-        Form::CoImply(a, b) => two_parts(Two::Value(Binary::CoImply), a, b, frames, at),
-        Form::Scale(w, a) => one_part(Unary::Scale(w), a, frames, at),
-        Form::Validate(a) => one_part(Unary::Validate, a, frames, at),
-        Form::CoValidate(a) => one_part(Unary::CoValidate, a, frames, at),
-        Form::Embed(g) => condition(Frame::OfTruth(OfTruth::Embed), g, frames, at),
-        Form::Iverson(g) => condition(Frame::OfTruth(OfTruth::Iverson), g, frames, at),
-        Form::Select(g, a, b) => chosen_form(g, a, b, frames, at),
-        Form::Bind(_, _, _, _, _) => Ok(Step::Bits),
-    }
-}
-
-/// The value of a constant, the form that stands there.
-fn constant<'a>(
-    alloc: Global,
-    form: &'a Form,
-    v: &Ext,
-    frames: Vec<Frame<'a>>,
-    at: usize,
-) -> Result<Step<'a>, AllocError>
-    requires is { form_of form.now ≡ PlainForm.number (value_of v.now) }
-    requires frames { AreKeptFrames frames.items }
-    ensures { (ps : List PlainTaken) → IfOk result (Steps ps (through (valued (evaluate (form_of form.now))) frames.entry.items) at (4 * nodes (form_of form.now) + frames_weight frames.entry.items)) }
-{
-    match number(alloc, v, at) {
-        Ok(found) => Ok(Step::On(Place {
-            focus: Focus::Given(Outcome::Number(found.value)),
-            frames,
-            at: found.next,
-        })),
-        Err(stop) => stopped(
-            stop,
-            Place {
-                focus: Focus::Form(form),
-                frames,
-                at,
-            },
-        ),
-    }
-}
-
-/// The value of a variable.
-fn variable_value<'a>(
-    alloc: Global,
-    x: u32,
-    frames: Vec<Frame<'a>>,
-    at: usize,
-) -> Result<Step<'a>, AllocError>
-    requires frames { AreKeptFrames frames.items }
-    ensures { (ps : List PlainTaken) (w : ℕ) → frames_weight frames.entry.items < w → IfOk result (Steps ps (through (done (Outcomes.number (Some (variable_lin x)))) frames.entry.items) at w) }
-{
-    let value = variable(alloc, x)?;
-    Ok(Step::On(Place {
-        focus: Focus::Given(Outcome::Number(Some(value))),
-        frames,
-        at,
-    }))
-}
-
-/// A condition, taken apart: its first part, while a frame waits for its outcome, or its truth where it has no parts.
-#[inline(never)]
-fn take_apart_condition<'a>(
-    cond: &'a Cond,
-    frames: Vec<Frame<'a>>,
-    path: &[Taken],
-    at: usize,
-) -> Result<Step<'a>, AllocError>
-    requires frames { AreKeptFrames frames.items }
-    ensures { IfOk result (Steps (path_of path.now) (through (told (test (cond_of cond.now))) frames.entry.items) at (4 * nodes_in (cond_of cond.now) + frames_weight frames.entry.items)) }
-{
-    match cond {
-        Cond::Const(b) => Ok(Step::On(Place {
-            focus: Focus::Given(Outcome::Truth(*b)),
-            frames,
-            at,
-        })),
-        Cond::Var(x) => flag(cond, *x, frames, path, at),
-        Cond::Not(g) => condition(Frame::Not, g, frames, at),
-        Cond::And(g, h) => two_conditions(Connective::And, g, h, frames, at),
-        Cond::Or(g, h) => two_conditions(Connective::Or, g, h, frames, at),
-        Cond::Same(g, h) => two_conditions(Connective::Same, g, h, frames, at),
-        Cond::Le(a, b) => two_parts(Two::Test(Comparison::AtMost), a, b, frames, at),
-        Cond::Lt(a, b) => two_parts(Two::Test(Comparison::Less), a, b, frames, at),
-        Cond::EqNum(a, b) => two_parts(Two::Test(Comparison::Equal), a, b, frames, at),
-        Cond::Ite(g, h, k) => chosen_condition(g, h, k, frames, at),
-    }
-}
-
-/// The truth of a Boolean variable, the condition that stands there.
-fn flag<'a>(
-    cond: &'a Cond,
-    x: u32,
-    frames: Vec<Frame<'a>>,
-    path: &[Taken],
-    at: usize,
-) -> Result<Step<'a>, AllocError>
-    requires is { cond_of cond.now ≡ PlainCond.flag x }
-    requires frames { AreKeptFrames frames.items }
-    ensures { IfOk result (Steps (path_of path.now) (through (told (test (cond_of cond.now))) frames.entry.items) at (4 * nodes_in (cond_of cond.now) + frames_weight frames.entry.items)) }
-{
-    match truth(x, path, at) {
-        Ok(tested) => Ok(Step::On(Place {
-            focus: Focus::Given(Outcome::Truth(tested.holds)),
-            frames,
-            at: tested.next,
-        })),
-        Err(stop) => stopped(
-            stop,
-            Place {
-                focus: Focus::Cond(cond),
-                frames,
-                at,
-            },
-        ),
-    }
-}
-
-/// An evaluation that stops at a place, where it goes on once the path is longer.
-fn stopped<'a>(stop: Stop, place: Place<'a>) -> Result<Step<'a>, AllocError>
-    requires focus { IsKeptFocus place.focus }
-    requires frames { AreKeptFrames place.frames.items }
-    ensures { (ps : List PlainTaken) (w : ℕ) → Stops stop (along ps (asked_by place.entry.focus) place.entry.at) → IfOk result (Steps ps (left_at place.entry) place.entry.at w) }
+/// Where the evaluation stops, the place stays.
+fn stopped(stop: Stop) -> Result<Step, AllocError>
+    ensures { (ps : List PlainTaken) (w : ℕ) (p : PlainPlace) → IsKeptFocus p.focus → AreKeptFrames p.frames.items → Stops stop (along ps (asked_by p.focus) p.at) → IfOk result (Steps ps (left_at p) p.at w p) }
 {
     match stop {
-        Stop::Decide(atom) => Ok(Step::Asks(atom, place)),
+        Stop::Decide(atom) => Ok(Step::Asks(atom)),
         Stop::Bits => Ok(Step::Bits),
         Stop::Memory(e) => Err(e),
     }
 }
 
-/// An operator on one value.
-#[inline(never)]
-fn of_one<'a>(
+/// What an operator gives that is run at a place.
+fn value_found<'a>(place: &mut Place<'a>, found: Result<Found, Stop>) -> Result<Step, AllocError>
+    requires value { IfOk found (λ f. IsKeptValue (linear_of f.value)) }
+    requires focus { IsKeptFocus place.old.focus }
+    requires frames { AreKeptFrames place.old.frames.items }
+    ensures { (ps : List PlainTaken) (q : Query Linear) (w : ℕ) → asked_by place.old.focus ≡ valued q → Gives found (along ps q place.old.at) → frames_weight place.old.frames.items < w → IfOk result (Steps ps (left_at place.old) place.old.at w place.new) }
+{
+    match found {
+        Ok(found) => {
+            place.at = found.next;
+            value_given(place, found.value)
+        }
+        Err(stop) => stopped(stop),
+    }
+}
+
+/// What a test tells that is run at a place.
+fn truth_found<'a>(
     alloc: Global,
-    operator: Unary<'a>,
-    x: Option<Lin>,
-    frames: Vec<Frame<'a>>,
-    path: &[Taken],
-    at: usize,
-) -> Result<Step<'a>, AllocError>
+    place: &mut Place<'a>,
+    tested: Result<Tested, Stop>,
+) -> Result<Step, AllocError>
+    requires focus { IsKeptFocus place.old.focus }
+    requires frames { AreKeptFrames place.old.frames.items }
+    ensures { (ps : List PlainTaken) (q : Query Bool) (w : ℕ) → asked_by place.old.focus ≡ told q → Tells tested (along ps q place.old.at) → frames_weight place.old.frames.items < w → IfOk result (Steps ps (left_at place.old) place.old.at w place.new) }
+{
+    match tested {
+        Ok(tested) => {
+            place.at = tested.next;
+            truth_given(alloc, place, tested.holds)
+        }
+        Err(stop) => stopped(stop),
+    }
+}
+
+/// The values of both forms, where no frame waits for them.
+fn at_the_end(frames: &[Frame<'_>], stated: Option<Lin>, found: Option<Lin>) -> Step
+    ensures { (ps : List PlainTaken) (i w : ℕ) (p : PlainPlace) → Steps ps (through (done (Outcomes.ends (linear_of stated, linear_of found))) frames.now) i w p result }
+{
+    if frames.is_empty() {
+        Step::Ends(stated, found)
+    } else {
+        Step::Bits
+    }
+}
+
+/// A value, for the frame that waits for it.
+fn value_given<'a>(place: &mut Place<'a>, x: Option<Lin>) -> Result<Step, AllocError>
     requires value { IsKeptValue (linear_of x) }
-    requires frames { AreKeptFrames frames.items }
-    ensures { IfOk result (Steps (path_of path.now) (through (valued (unary operator.entry (linear_of x))) frames.entry.items) at (1 + frames_weight frames.entry.items)) }
+    requires frames { AreKeptFrames place.old.frames.items }
+    ensures { (ps : List PlainTaken) → IfOk result (Steps ps (through (done (Outcomes.number (linear_of x))) place.old.frames.items) place.old.at (frames_weight place.old.frames.items) place.new) }
 {
-    let operand = copy_value(alloc, &x)?;
-    match of_value(alloc, operator, operand, path, at) {
-        Ok(found) => Ok(Step::On(Place {
-            focus: Focus::Given(Outcome::Number(found.value)),
-            frames,
-            at: found.next,
-        })),
-        Err(stop) => stopped(
-            stop,
-            Place {
-                focus: Focus::One(operator, x),
-                frames,
-                at,
-            },
-        ),
+    match place.frames.pop() {
+        None => Ok(Step::Bits),
+        Some(frame) => resume_value(place, frame, x),
     }
 }
 
-/// What is done with two values.
-fn of_both<'a>(
-    alloc: Global,
-    operator: Two,
-    x: Option<Lin>,
-    y: Option<Lin>,
-    frames: Vec<Frame<'a>>,
-    path: &[Taken],
-    at: usize,
-) -> Result<Step<'a>, AllocError>
-    requires left { IsKeptValue (linear_of x) }
-    requires right { IsKeptValue (linear_of y) }
-    requires frames { AreKeptFrames frames.items }
-    ensures { IfOk result (Steps (path_of path.now) (through (of_two operator (linear_of x) (linear_of y)) frames.entry.items) at (1 + frames_weight frames.entry.items)) }
+/// A truth, for the frame that waits for it.
+fn truth_given<'a>(alloc: Global, place: &mut Place<'a>, t: bool) -> Result<Step, AllocError>
+    requires frames { AreKeptFrames place.old.frames.items }
+    ensures { (ps : List PlainTaken) → IfOk result (Steps ps (through (done (Outcomes.truth t)) place.old.frames.items) place.old.at (frames_weight place.old.frames.items) place.new) }
 {
-    match operator {
-        Two::Value(binary) => value_of_both(alloc, binary, x, y, frames, path, at),
-        Two::Test(comparison) => test_of_both(alloc, comparison, x, y, frames, path, at),
-        Two::Ends => Ok(Step::On(Place {
-            focus: Focus::Given(Outcome::Ends(x, y)),
-            frames,
-            at,
-        })),
-    }
-}
-
-/// An operator on two values.
-#[inline(never)]
-fn value_of_both<'a>(
-    alloc: Global,
-    operator: Binary,
-    x: Option<Lin>,
-    y: Option<Lin>,
-    frames: Vec<Frame<'a>>,
-    path: &[Taken],
-    at: usize,
-) -> Result<Step<'a>, AllocError>
-    requires left { IsKeptValue (linear_of x) }
-    requires right { IsKeptValue (linear_of y) }
-    requires frames { AreKeptFrames frames.items }
-    ensures { IfOk result (Steps (path_of path.now) (through (valued (binary operator (linear_of x) (linear_of y))) frames.entry.items) at (1 + frames_weight frames.entry.items)) }
-{
-    let left = copy_value(alloc, &x)?;
-    let right = copy_value(alloc, &y)?;
-    match of_values(alloc, operator, left, right, path, at) {
-        Ok(found) => Ok(Step::On(Place {
-            focus: Focus::Given(Outcome::Number(found.value)),
-            frames,
-            at: found.next,
-        })),
-        Err(stop) => stopped(
-            stop,
-            Place {
-                focus: Focus::Two(Two::Value(operator), x, y),
-                frames,
-                at,
-            },
-        ),
-    }
-}
-
-/// A comparison of two values.
-#[inline(never)]
-fn test_of_both<'a>(
-    alloc: Global,
-    operator: Comparison,
-    x: Option<Lin>,
-    y: Option<Lin>,
-    frames: Vec<Frame<'a>>,
-    path: &[Taken],
-    at: usize,
-) -> Result<Step<'a>, AllocError>
-    requires left { IsKeptValue (linear_of x) }
-    requires right { IsKeptValue (linear_of y) }
-    requires frames { AreKeptFrames frames.items }
-    ensures { IfOk result (Steps (path_of path.now) (through (told (comparison operator (linear_of x) (linear_of y))) frames.entry.items) at (1 + frames_weight frames.entry.items)) }
-{
-    match comparison_of(alloc, operator, &x, &y, path, at) {
-        Ok(tested) => Ok(Step::On(Place {
-            focus: Focus::Given(Outcome::Truth(tested.holds)),
-            frames,
-            at: tested.next,
-        })),
-        Err(stop) => stopped(
-            stop,
-            Place {
-                focus: Focus::Two(Two::Test(operator), x, y),
-                frames,
-                at,
-            },
-        ),
-    }
-}
-
-/// An outcome, for the frame that waits for it, or at the end.
-fn give<'a>(
-    alloc: Global,
-    outcome: Outcome,
-    mut frames: Vec<Frame<'a>>,
-    at: usize,
-) -> Result<Step<'a>, AllocError>
-    requires outcome { IsKeptOutcome outcome }
-    requires frames { AreKeptFrames frames.items }
-    ensures { (ps : List PlainTaken) → IfOk result (Steps ps (through (done (result_of outcome)) frames.entry.items) at (frames_weight frames.entry.items)) }
-{
-    match frames.pop() {
-        None => Ok(at_the_end(outcome)),
-        Some(frame) => resume(alloc, outcome, frame, frames, at),
-    }
-}
-
-/// What a whole goal comes to. An outcome of one of its parts never stands there.
-fn at_the_end<'a>(outcome: Outcome) -> Step<'a>
-    ensures { (ps : List PlainTaken) (i : ℕ) → Steps ps (next (done (result_of outcome)) ended) i 0 result }
-{
-    match outcome {
-        Outcome::Ends(x, y) => Step::Ends(x, y),
-        Outcome::Number(_) => Step::Bits,
-        Outcome::Truth(_) => Step::Bits,
-    }
-}
-
-/// An outcome for the frame that waited for it.
-fn resume<'a>(
-    alloc: Global,
-    outcome: Outcome,
-    frame: Frame<'a>,
-    frames: Vec<Frame<'a>>,
-    at: usize,
-) -> Result<Step<'a>, AllocError>
-    requires outcome { IsKeptOutcome outcome }
-    requires frame { IsKeptFrame frame }
-    requires frames { AreKeptFrames frames.items }
-    ensures { (ps : List PlainTaken) → IfOk result (Steps ps (through (resumed frame.entry (result_of outcome)) frames.entry.items) at (frame_weight frame.entry + frames_weight frames.entry.items)) }
-{
-    match outcome {
-        Outcome::Number(x) => resume_value(x, frame, frames, at),
-        Outcome::Truth(t) => resume_truth(alloc, t, frame, frames, at),
-        Outcome::Ends(_, _) => Ok(Step::Bits),
+    match place.frames.pop() {
+        None => Ok(Step::Bits),
+        Some(frame) => resume_truth(alloc, place, &frame, t),
     }
 }
 
 /// A value for the frame that waited for it.
-#[inline(never)]
 fn resume_value<'a>(
-    x: Option<Lin>,
+    place: &mut Place<'a>,
     frame: Frame<'a>,
-    frames: Vec<Frame<'a>>,
-    at: usize,
-) -> Result<Step<'a>, AllocError>
+    x: Option<Lin>,
+) -> Result<Step, AllocError>
     requires value { IsKeptValue (linear_of x) }
     requires frame { IsKeptFrame frame }
-    requires frames { AreKeptFrames frames.items }
-    ensures { (ps : List PlainTaken) → IfOk result (Steps ps (through (resumed frame.entry (Outcomes.number (linear_of x))) frames.entry.items) at (frame_weight frame.entry + frames_weight frames.entry.items)) }
+    requires frames { AreKeptFrames place.old.frames.items }
+    ensures { (ps : List PlainTaken) → IfOk result (Steps ps (through (resumed frame.entry (Outcomes.number (linear_of x))) place.old.frames.items) place.old.at (frame_weight frame.entry + frames_weight place.old.frames.items) place.new) }
 {
     match frame {
-        Frame::Left(operator, b) => under(frames, Frame::Right(operator, x), Focus::Form(b), at),
-        Frame::Right(operator, a) => Ok(on(Focus::Two(operator, a, x), frames, at)),
-        Frame::One(operator) => Ok(on(Focus::One(operator, x), frames, at)),
+        Frame::Left(operator, b) => under(place, Frame::Right(operator, x), Focus::Form(b)),
+        Frame::Right(operator, a) => Ok(on(place, Focus::Two(operator, a, x))),
+        Frame::One(operator) => Ok(on(place, Focus::One(operator, x))),
         Frame::OfTruth(_) => Ok(Step::Bits),
         Frame::Select(_, _) => Ok(Step::Bits),
         Frame::Not => Ok(Step::Bits),
@@ -510,37 +226,22 @@ fn resume_value<'a>(
 }
 
 /// A truth for the frame that waited for it.
-#[inline(never)]
 fn resume_truth<'a>(
     alloc: Global,
+    place: &mut Place<'a>,
+    frame: &Frame<'a>,
     t: bool,
-    frame: Frame<'a>,
-    frames: Vec<Frame<'a>>,
-    at: usize,
-) -> Result<Step<'a>, AllocError>
-    requires frame { IsKeptFrame frame }
-    requires frames { AreKeptFrames frames.items }
-    ensures { (ps : List PlainTaken) → IfOk result (Steps ps (through (resumed frame.entry (Outcomes.truth t)) frames.entry.items) at (frame_weight frame.entry + frames_weight frames.entry.items)) }
+) -> Result<Step, AllocError>
+    requires frames { AreKeptFrames place.old.frames.items }
+    ensures { (ps : List PlainTaken) → IfOk result (Steps ps (through (resumed frame.now (Outcomes.truth t)) place.old.frames.items) place.old.at (frame_weight frame.now + frames_weight place.old.frames.items) place.new) }
 {
     match frame {
-        Frame::OfTruth(operator) => Ok(on(
-            Focus::Given(Outcome::Number(of_known_truth(alloc, operator, t))),
-            frames,
-            at,
-        )),
-        Frame::Select(a, b) => if t {
-            Ok(on(Focus::Form(a), frames, at))
-        } else {
-            Ok(on(Focus::Form(b), frames, at))
-        },
-        Frame::Not => Ok(on(Focus::Given(Outcome::Truth(!t)), frames, at)),
-        Frame::First(operator, h) => second(operator, t, h, frames, at),
-        Frame::Same(first) => Ok(on(Focus::Given(Outcome::Truth(first == t)), frames, at)),
-        Frame::Choose(g, h) => if t {
-            Ok(on(Focus::Cond(g), frames, at))
-        } else {
-            Ok(on(Focus::Cond(h), frames, at))
-        },
+        Frame::OfTruth(operator) => value_given(place, of_known_truth(alloc, *operator, t)),
+        Frame::Select(a, b) => Ok(chosen(place, t, Focus::Form(*a), Focus::Form(*b))),
+        Frame::Not => Ok(on(place, Focus::Truth(!t))),
+        Frame::First(operator, h) => second(place, *operator, t, *h),
+        Frame::Same(first) => Ok(on(place, Focus::Truth(*first == t))),
+        Frame::Choose(g, h) => Ok(chosen(place, t, Focus::Cond(*g), Focus::Cond(*h))),
         Frame::Left(_, _) => Ok(Step::Bits),
         Frame::Right(_, _) => Ok(Step::Bits),
         Frame::One(_) => Ok(Step::Bits),
@@ -549,35 +250,233 @@ fn resume_truth<'a>(
 
 /// The second condition under a connective, where its truth is needed.
 fn second<'a>(
+    place: &mut Place<'a>,
     operator: Connective,
     t: bool,
     h: &'a Cond,
-    frames: Vec<Frame<'a>>,
-    at: usize,
-) -> Result<Step<'a>, AllocError>
-    requires frames { AreKeptFrames frames.items }
-    ensures { (ps : List PlainTaken) → IfOk result (Steps ps (through (told (after_first operator (test (cond_of h.now)) t)) frames.entry.items) at (2 + 4 * nodes_in (cond_of h.now) + frames_weight frames.entry.items)) }
+) -> Result<Step, AllocError>
+    requires frames { AreKeptFrames place.old.frames.items }
+    ensures { (ps : List PlainTaken) → IfOk result (Steps ps (through (told (after_first operator (test (cond_of h.now)) t)) place.old.frames.items) place.old.at (2 + 4 * nodes_in (cond_of h.now) + frames_weight place.old.frames.items) place.new) }
 {
     match operator {
         Connective::And => if t {
-            Ok(on(Focus::Cond(h), frames, at))
+            Ok(on(place, Focus::Cond(h)))
         } else {
-            Ok(on(Focus::Given(Outcome::Truth(false)), frames, at))
+            Ok(on(place, Focus::Truth(false)))
         },
         Connective::Or => if t {
-            Ok(on(Focus::Given(Outcome::Truth(true)), frames, at))
+            Ok(on(place, Focus::Truth(true)))
         } else {
-            Ok(on(Focus::Cond(h), frames, at))
+            Ok(on(place, Focus::Cond(h)))
         },
-        Connective::Same => under(frames, Frame::Same(t), Focus::Cond(h), at),
+        Connective::Same => under(place, Frame::Same(t), Focus::Cond(h)),
     }
 }
 
-/// Goes on with this.
-fn on<'a>(focus: Focus<'a>, frames: Vec<Frame<'a>>, at: usize) -> Step<'a>
-    requires focus { IsKeptFocus focus }
-    requires frames { AreKeptFrames frames.items }
-    ensures { (ps : List PlainTaken) (w : ℕ) → focus_weight focus.entry + frames_weight frames.entry.items < w → Steps ps (through (asked_by focus.entry) frames.entry.items) at w result }
+/// The left one of two forms, and then the right one and an operator on their values.
+fn two_parts<'a>(
+    place: &mut Place<'a>,
+    operator: Two,
+    a: &'a Form,
+    b: &'a Form,
+) -> Result<Step, AllocError>
+    requires frames { AreKeptFrames place.old.frames.items }
+    ensures { (ps : List PlainTaken) (w : ℕ) → 4 * nodes (form_of a.now) + (3 + 4 * nodes (form_of b.now)) + frames_weight place.old.frames.items < w → IfOk result (Steps ps (through (next (valued (evaluate (form_of a.now))) (of_number (λ x. next (valued (evaluate (form_of b.now))) (of_number (of_two operator x))))) place.old.frames.items) place.old.at w place.new) }
 {
-    Step::On(Place { focus, frames, at })
+    under(place, Frame::Left(operator, b), Focus::Form(a))
+}
+
+/// Two forms, and then a comparison of their values. A form that asks nothing has its value at once.
+fn compared<'a>(
+    alloc: Global,
+    place: &mut Place<'a>,
+    operator: Comparison,
+    a: &'a Form,
+    b: &'a Form,
+) -> Result<Step, AllocError>
+    requires frames { AreKeptFrames place.old.frames.items }
+    ensures { (ps : List PlainTaken) (w : ℕ) → 4 * nodes (form_of a.now) + (3 + 4 * nodes (form_of b.now)) + frames_weight place.old.frames.items < w → IfOk result (Steps ps (through (next (valued (evaluate (form_of a.now))) (of_number (λ x. next (valued (evaluate (form_of b.now))) (of_number (of_two (Two.Test operator) x))))) place.old.frames.items) place.old.at w place.new) }
+{
+    match direct(alloc, a)? {
+        None => two_parts(place, Two::Test(operator), a, b),
+        Some(x) => compared_with(alloc, place, operator, x, b),
+    }
+}
+
+/// The right one of two forms that are compared, where the left one has its value.
+fn compared_with<'a>(
+    alloc: Global,
+    place: &mut Place<'a>,
+    operator: Comparison,
+    x: Lin,
+    b: &'a Form,
+) -> Result<Step, AllocError>
+    requires left { IsKept (lin_of x) }
+    requires frames { AreKeptFrames place.old.frames.items }
+    ensures { (ps : List PlainTaken) (w : ℕ) → 3 + 4 * nodes (form_of b.now) + frames_weight place.old.frames.items < w → IfOk result (Steps ps (through (next (valued (evaluate (form_of b.now))) (of_number (of_two (Two.Test operator) (Some (lin_of x))))) place.old.frames.items) place.old.at w place.new) }
+{
+    match direct(alloc, b)? {
+        None => under(
+            place,
+            Frame::Right(Two::Test(operator), Some(x)),
+            Focus::Form(b),
+        ),
+        Some(y) => Ok(on(place, Focus::Two(Two::Test(operator), Some(x), Some(y)))),
+    }
+}
+
+/// A form, and then an operator on its value.
+fn one_part<'a>(place: &mut Place<'a>, operator: Unary<'a>, a: &'a Form) -> Result<Step, AllocError>
+    requires frames { AreKeptFrames place.old.frames.items }
+    ensures { (ps : List PlainTaken) (w : ℕ) → 4 * nodes (form_of a.now) + 2 + frames_weight place.old.frames.items < w → IfOk result (Steps ps (through (next (valued (evaluate (form_of a.now))) (of_number (λ x. valued (unary operator.entry x)))) place.old.frames.items) place.old.at w place.new) }
+{
+    under(place, Frame::One(operator), Focus::Form(a))
+}
+
+/// A condition, while a frame waits for its truth.
+fn condition<'a>(place: &mut Place<'a>, frame: Frame<'a>, g: &'a Cond) -> Result<Step, AllocError>
+    requires frame { IsKeptFrame frame }
+    requires frames { AreKeptFrames place.old.frames.items }
+    ensures { (ps : List PlainTaken) (w : ℕ) → 4 * nodes_in (cond_of g.now) + frame_weight frame.entry + frames_weight place.old.frames.items < w → IfOk result (Steps ps (through (next (told (test (cond_of g.now))) (resumed frame.entry)) place.old.frames.items) place.old.at w place.new) }
+{
+    under(place, frame, Focus::Cond(g))
+}
+
+/// A condition, and then the form that it chooses.
+fn chosen_form<'a>(
+    place: &mut Place<'a>,
+    g: &'a Cond,
+    a: &'a Form,
+    b: &'a Form,
+) -> Result<Step, AllocError>
+    requires frames { AreKeptFrames place.old.frames.items }
+    ensures { (ps : List PlainTaken) (w : ℕ) → 4 * nodes_in (cond_of g.now) + (1 + (4 * nodes (form_of a.now) + 4 * nodes (form_of b.now))) + frames_weight place.old.frames.items < w → IfOk result (Steps ps (through (next (told (test (cond_of g.now))) (of_bool (λ t. valued (if t then evaluate (form_of a.now) else evaluate (form_of b.now))))) place.old.frames.items) place.old.at w place.new) }
+{
+    condition(place, Frame::Select(a, b), g)
+}
+
+/// A condition, and then the second one under a connective, where it is needed.
+fn two_conditions<'a>(
+    place: &mut Place<'a>,
+    operator: Connective,
+    g: &'a Cond,
+    h: &'a Cond,
+) -> Result<Step, AllocError>
+    requires frames { AreKeptFrames place.old.frames.items }
+    ensures { (ps : List PlainTaken) (w : ℕ) → 4 * nodes_in (cond_of g.now) + (2 + 4 * nodes_in (cond_of h.now)) + frames_weight place.old.frames.items < w → IfOk result (Steps ps (through (next (told (test (cond_of g.now))) (of_bool (λ t. told (after_first operator (test (cond_of h.now)) t)))) place.old.frames.items) place.old.at w place.new) }
+{
+    condition(place, Frame::First(operator, h), g)
+}
+
+/// A condition, and then the condition that it chooses.
+fn chosen_condition<'a>(
+    place: &mut Place<'a>,
+    g: &'a Cond,
+    h: &'a Cond,
+    k: &'a Cond,
+) -> Result<Step, AllocError>
+    requires frames { AreKeptFrames place.old.frames.items }
+    ensures { (ps : List PlainTaken) (w : ℕ) → 4 * nodes_in (cond_of g.now) + (1 + (4 * nodes_in (cond_of h.now) + 4 * nodes_in (cond_of k.now))) + frames_weight place.old.frames.items < w → IfOk result (Steps ps (through (next (told (test (cond_of g.now))) (of_bool (λ t. told (if t then test (cond_of h.now) else test (cond_of k.now))))) place.old.frames.items) place.old.at w place.new) }
+{
+    condition(place, Frame::Choose(h, k), g)
+}
+
+/// A form, taken apart: its first part, while a frame waits for its outcome, or its value where it has no parts.
+#[inline(never)]
+fn take_apart<'a>(alloc: Global, place: &mut Place<'a>, form: &'a Form) -> Result<Step, AllocError>
+    requires asked { asked_by place.old.focus ≡ valued (evaluate (form_of form.now)) }
+    requires focus { IsKeptFocus place.old.focus }
+    requires frames { AreKeptFrames place.old.frames.items }
+    ensures { (ps : List PlainTaken) → IfOk result (Steps ps (through (valued (evaluate (form_of form.now))) place.old.frames.items) place.old.at (4 * nodes (form_of form.now) + frames_weight place.old.frames.items) place.new) }
+{
+    match form {
+        Form::Const(v) => constant(alloc, place, form, v),
+        Form::Var(x) => variable_value(alloc, place, *x),
+        Form::Sum(a, b) => two_parts(place, Two::Value(Binary::Sum), a, b),
+        Form::Diff(a, b) => two_parts(place, Two::Value(Binary::Difference), a, b),
+        Form::Cut(a, b) => two_parts(place, Two::Value(Binary::Cut), a, b),
+        Form::Product(a, b, _) => two_parts(place, Two::Value(Binary::Product), a, b),
+        Form::Min(a, b) => two_parts(place, Two::Value(Binary::Min), a, b),
+        Form::Max(a, b) => two_parts(place, Two::Value(Binary::Max), a, b),
+        Form::Imply(a, b) => two_parts(place, Two::Value(Binary::Imply), a, b),
+        Form::CoImply(a, b) => two_parts(place, Two::Value(Binary::CoImply), a, b),
+        Form::Scale(w, a) => one_part(place, Unary::Scale(w), a),
+        Form::Validate(a) => one_part(place, Unary::Validate, a),
+        Form::CoValidate(a) => one_part(place, Unary::CoValidate, a),
+        Form::Embed(g) => condition(place, Frame::OfTruth(OfTruth::Embed), g),
+        Form::Iverson(g) => condition(place, Frame::OfTruth(OfTruth::Iverson), g),
+        Form::Select(g, a, b) => chosen_form(place, g, a, b),
+        Form::Bind(_, _, _, _, _) => Ok(Step::Bits),
+    }
+}
+
+/// The value of a constant, the form that stands there.
+fn constant<'a>(
+    alloc: Global,
+    place: &mut Place<'a>,
+    form: &'a Form,
+    v: &Ext,
+) -> Result<Step, AllocError>
+    requires is { form_of form.now ≡ PlainForm.number (value_of v.now) }
+    requires asked { asked_by place.old.focus ≡ valued (evaluate (form_of form.now)) }
+    requires focus { IsKeptFocus place.old.focus }
+    requires frames { AreKeptFrames place.old.frames.items }
+    ensures { (ps : List PlainTaken) → IfOk result (Steps ps (through (valued (evaluate (form_of form.now))) place.old.frames.items) place.old.at (4 * nodes (form_of form.now) + frames_weight place.old.frames.items) place.new) }
+{
+    let found = number(alloc, v, place.at);
+    value_found(place, found)
+}
+
+/// The value of a variable.
+fn variable_value<'a>(alloc: Global, place: &mut Place<'a>, x: u32) -> Result<Step, AllocError>
+    requires frames { AreKeptFrames place.old.frames.items }
+    ensures { (ps : List PlainTaken) (w : ℕ) → frames_weight place.old.frames.items < w → IfOk result (Steps ps (through (done (Outcomes.number (Some (variable_lin x)))) place.old.frames.items) place.old.at w place.new) }
+{
+    let value = variable(alloc, x)?;
+    value_given(place, Some(value))
+}
+
+/// A condition, taken apart: its first part, while a frame waits for its outcome, or its truth where it has no parts.
+#[inline(never)]
+fn take_apart_condition<'a>(
+    alloc: Global,
+    place: &mut Place<'a>,
+    cond: &'a Cond,
+    path: &[Taken],
+) -> Result<Step, AllocError>
+    requires asked { asked_by place.old.focus ≡ told (test (cond_of cond.now)) }
+    requires focus { IsKeptFocus place.old.focus }
+    requires frames { AreKeptFrames place.old.frames.items }
+    ensures { IfOk result (Steps (path_of path.now) (through (told (test (cond_of cond.now))) place.old.frames.items) place.old.at (4 * nodes_in (cond_of cond.now) + frames_weight place.old.frames.items) place.new) }
+{
+    match cond {
+        Cond::Const(b) => Ok(on(place, Focus::Truth(*b))),
+        Cond::Var(x) => flag(alloc, place, cond, *x, path),
+        Cond::Not(g) => condition(place, Frame::Not, g),
+        Cond::And(g, h) => two_conditions(place, Connective::And, g, h),
+        Cond::Or(g, h) => two_conditions(place, Connective::Or, g, h),
+        Cond::Same(g, h) => two_conditions(place, Connective::Same, g, h),
+        Cond::Le(a, b) => compared(alloc, place, Comparison::AtMost, a, b),
+        Cond::Lt(a, b) => compared(alloc, place, Comparison::Less, a, b),
+        Cond::EqNum(a, b) => compared(alloc, place, Comparison::Equal, a, b),
+        Cond::Ite(g, h, k) => chosen_condition(place, g, h, k),
+    }
+}
+
+/// The truth of a Boolean variable, the condition that stands there.
+fn flag<'a>(
+    alloc: Global,
+    place: &mut Place<'a>,
+    cond: &'a Cond,
+    x: u32,
+    path: &[Taken],
+) -> Result<Step, AllocError>
+    requires is { cond_of cond.now ≡ PlainCond.flag x }
+    requires asked { asked_by place.old.focus ≡ told (test (cond_of cond.now)) }
+    requires focus { IsKeptFocus place.old.focus }
+    requires frames { AreKeptFrames place.old.frames.items }
+    ensures { IfOk result (Steps (path_of path.now) (through (told (test (cond_of cond.now))) place.old.frames.items) place.old.at (4 * nodes_in (cond_of cond.now) + frames_weight place.old.frames.items) place.new) }
+{
+    let tested = truth(x, path, place.at);
+    truth_found(alloc, place, tested)
 }

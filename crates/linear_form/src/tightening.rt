@@ -12,15 +12,35 @@ ghost use Rattle.linear_form.specs.internal.Operator.{narrow_value};
 ghost use Rattle.linear_form.specs.PlainPaths.{lin_of};
 
 use crate::lin::{Lin, is_sized};
-use crate::multiples::small_product;
+use crate::multiples::{exact_multiple, small_product};
 use crate::numbers::BOUND;
 use crate::row::Row;
 use heylo_formula::Ty;
 use heyvl_num::Frac;
 use std::alloc::{AllocError, Global};
 
-/// A whole number over a fraction that isn't 0.
+/// A whole number over a fraction that isn't 0, which is cheap where the number is the fraction's numerator.
 fn quotient(k: i128, x: &Frac) -> Frac
+    requires narrow { unsigned_abs k < 2 ^ 62 }
+    requires sized { number_fits x.now ≡ true }
+    requires nonzero { is_zeroʳ x.now ≡ false }
+    ensures { (w : Rational) → w *ʳ x.now ≡ whole k → result ≡ w }
+{
+    if k == x.num() {
+        denominator(x)
+    } else {
+        any_quotient(k, x)
+    }
+}
+
+fn denominator(x: &Frac) -> Frac
+    requires { number_fits x.now ≡ true }
+    ensures { result ≡ whole (pos x.now.den) }
+{
+    Frac::new(x.den(), 1).unwrap()
+}
+
+fn any_quotient(k: i128, x: &Frac) -> Frac
     requires narrow { unsigned_abs k < 2 ^ 62 }
     requires sized { number_fits x.now ≡ true }
     requires nonzero { is_zeroʳ x.now ≡ false }
@@ -101,7 +121,7 @@ fn coefficients(
     requires whole { AreWholeTimes factor.now terms.now }
     ensures { IfOk result (λ o. MatchOption o (all_narrow (whole_terms (ratio scale 1 *ʳ factor.now) terms.now) ≡ false) (λ v. (v.items ≡ whole_terms (ratio scale 1 *ʳ factor.now) terms.now) × (all_narrow (whole_terms (ratio scale 1 *ʳ factor.now) terms.now) ≡ true))) }
 {
-    let mut made = Vec::new(alloc);
+    let mut made = Vec::with_capacity(alloc, terms.len())?;
     let mut rest = terms;
     'terms: while let Some((term, others)) = rest.split_first() {
         match coefficient(factor, scale, &term.1) {
@@ -193,7 +213,7 @@ fn terms_tightened(
 {
     match factor_of(terms) {
         None => Ok(None),
-        Some(factor) => match factor.mul(constant) {
+        Some(factor) => match exact_multiple(&factor, constant) {
             None => Ok(None),
             Some(multiple) => {
                 if are_whole(types, terms) {

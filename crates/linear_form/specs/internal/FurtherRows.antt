@@ -1,5 +1,5 @@
 -- Rows, and further ones after them.
-use Rattle.std.specs.Prelude.{ℕ, List, [], ◌∷◌, ◌++◌, ◌&&◌, Option, Some, None, if◌then◌else◌}
+use Rattle.std.specs.Prelude.{ℕ, pos, negsuc, false, List, [], ◌∷◌, ◌++◌, ◌&&◌, Option, Some, None, if◌then◌else◌}
 use Rattle.std.specs.List.{list_any}
 use Prim.Native.Nat.{zero, suc}
 use Rattle.heylo_formula.specs.Typing.{Types}
@@ -19,6 +19,10 @@ rows_with types rows ks = followed_by rows (all_tightened types ks)
 -- A variable, where it is unsigned and occurs in the rows.
 abbrev pub unsigned_in : Types → List Row → ℕ → Option ℕ
 unsigned_in types rows x = if is_unsigned_type (types x) && list_any (occurs_in_row x) rows then Some x else None
+
+-- The row by which a variable isn't negative.
+abbrev pub sign_row : ℕ → Row
+sign_row x = record { terms = (x, negsuc 0) ∷ []; rest = pos 0; strict = false }
 
 abbrev pub one_more : List ℕ → Option ℕ → List ℕ
 one_more xs (Some x) = xs ++ (x ∷ [])

@@ -1,24 +1,20 @@
 -- What the loops over terms keep.
-use Rattle.std.specs.Prelude.{◌≡◌, ℕ, ℤ, List, ◌++◌, true}
+use Rattle.std.specs.Prelude.{◌≡◌, ℕ, ℤ, List, ◌++◌, Bool, true}
 use Rattle.heyvl_num.specs.Rational.{Rational, ratio, ◌*ʳ◌}
 use Rattle.linear_form.specs.Tightening.{whole_terms, all_narrow}
 use Rattle.linear_form.specs.internal.WholeTimes.{AreWholeTimes}
-use Rattle.linear_form.specs.Lin.{Terms, all_fit, times, more, merged, AreNormal}
-use Rattle.linear_form.specs.internal.FitTerms.{IsFitAt, AreFitAt}
+use Rattle.linear_form.specs.Lin.{Terms, all_fit, times, merged, AreNormal}
+use Rattle.linear_form.specs.internal.Operator.{signed_terms}
 
 pub record IsTimesSoFar (w : Rational) (terms made rest : Terms) : Type 0 where
   pub whole : times w terms ≡ made ++ times w rest
   pub fits : all_fit rest ≡ true
 
-pub record IsMoreSoFar (x : ℕ) (c : Rational) (terms made rest : Terms) : Type 0 where
-  pub whole : more x c terms ≡ made ++ more x c rest
-  pub fits : IsFitAt x rest
-
-pub record IsMergedSoFar (us ts made rest : Terms) : Type 0 where
-  pub whole : merged us ts ≡ merged rest made
-  pub normal : AreNormal rest
-  pub rest_fits : all_fit rest ≡ true
-  pub made_fits : AreFitAt rest made
+pub record IsMergedSoFar (downward : Bool) (us ts made left right : Terms) : Type 0 where
+  pub whole : merged (signed_terms downward us) ts ≡ made ++ merged (signed_terms downward left) right
+  pub normal : AreNormal left
+  pub left_fits : all_fit left ≡ true
+  pub right_fits : all_fit right ≡ true
 
 pub record IsSmallSoFar (w : Rational) (terms made rest : Terms) : Type 0 where
   pub whole : times w terms ≡ made ++ times w rest

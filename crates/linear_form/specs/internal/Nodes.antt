@@ -1,5 +1,5 @@
 -- What the operators of nodes ask of the values and truths of their parts, under the program's names for them.
-use Rattle.std.specs.Prelude.{Bool, true, false, not, None, if◌then◌else◌}
+use Rattle.std.specs.Prelude.{Bool, true, false, None, if◌then◌else◌}
 use Rattle.heylo_formula.specs.Operators.{agree}
 use Rattle.linear_form.specs.Query.{Query, next}
 use Rattle.linear_form.specs.Query.Query.{done}

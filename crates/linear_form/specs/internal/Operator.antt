@@ -2,7 +2,7 @@
 use Rattle.std.specs.Prelude.{ℤ, Bool, true, false, Option, Some, None, if◌then◌else◌, [], ◌∷◌}
 use Rattle.heyvl_num.specs.Rational.{Rational, ◌*ʳ◌}
 use Rattle.linear_form.specs.Terms.{is_narrow}
-use Rattle.linear_form.specs.Lin.{Terms, fits}
+use Rattle.linear_form.specs.Lin.{Terms, times, minus_oneʳ, fits}
 
 abbrev pub has_no_terms : Terms → Bool
 has_no_terms [] = true
@@ -15,3 +15,12 @@ small_product w c = if fits (w *ʳ c) then Some (w *ʳ c) else None
 -- A whole number, where it is below the bound.
 abbrev pub narrow_value : ℤ → Option ℤ
 narrow_value z = if is_narrow z then Some z else None
+
+-- A number or, downward, its negative; and so each coefficient of some terms.
+abbrev pub signed_number : Bool → Rational → Rational
+signed_number true c = minus_oneʳ *ʳ c
+signed_number false c = c
+
+abbrev pub signed_terms : Bool → Terms → Terms
+signed_terms true ts = times minus_oneʳ ts
+signed_terms false ts = ts

@@ -11,7 +11,6 @@ use Rattle.linear_form.specs.internal.Nodes.{binary, unary, comparison, of_truth
 use Rattle.linear_form.specs.internal.Run.{IsKeptValue}
 use Rattle.linear_form.specs.declared.places.Place.{Place}
 use Rattle.linear_form.specs.declared.places.Two.{Two}
-use Rattle.linear_form.specs.declared.places.Outcome as O
 use Rattle.linear_form.specs.declared.places.Focus as F
 use Rattle.linear_form.specs.declared.places.Frame as W
 
@@ -20,11 +19,6 @@ pub data Result : Type 0 where
   number : Linear → Result
   truth : Bool → Result
   ends : Ends → Result
-
-abbrev pub result_of : O.Outcome → Result
-result_of (O.TheVariants.Number x) = Result.number (linear_of x)
-result_of (O.TheVariants.Truth t) = Result.truth t
-result_of (O.TheVariants.Ends x y) = Result.ends (linear_of x, linear_of y)
 
 abbrev pub valued : Query Linear → Query Result
 valued q = next q (λ x. done (Result.number x))
@@ -65,7 +59,7 @@ resumed (W.TheVariants.Choose g h) = of_bool (λ t. told (if t then test (cond_o
 abbrev pub asked_by : F.Focus → Query Result
 asked_by (F.TheVariants.Form f) = valued (evaluate (form_of f.now))
 asked_by (F.TheVariants.Cond g) = told (test (cond_of g.now))
-asked_by (F.TheVariants.Given o) = done (result_of o)
+asked_by (F.TheVariants.Truth t) = done (Result.truth t)
 asked_by (F.TheVariants.One o x) = valued (unary o (linear_of x))
 asked_by (F.TheVariants.Two o x y) = of_two o (linear_of x) (linear_of y)
 
@@ -89,15 +83,10 @@ left_at p = through (asked_by p.focus) p.frames.items
 
 -- ---- The values that are kept have terms that grow, and small numbers
 
-abbrev pub IsKeptOutcome : O.Outcome → Type 0
-IsKeptOutcome (O.TheVariants.Number x) = IsKeptValue (linear_of x)
-IsKeptOutcome (O.TheVariants.Truth t) = Unit {0}
-IsKeptOutcome (O.TheVariants.Ends x y) = Unit {0}
-
 abbrev pub IsKeptFocus : F.Focus → Type 0
 IsKeptFocus (F.TheVariants.Form f) = Unit {0}
 IsKeptFocus (F.TheVariants.Cond g) = Unit {0}
-IsKeptFocus (F.TheVariants.Given o) = IsKeptOutcome o
+IsKeptFocus (F.TheVariants.Truth t) = Unit {0}
 IsKeptFocus (F.TheVariants.One o x) = IsKeptValue (linear_of x)
 IsKeptFocus (F.TheVariants.Two o x y) = IsKeptValue (linear_of x) × IsKeptValue (linear_of y)
 
@@ -121,7 +110,7 @@ AreKeptFrames (f ∷ fs) = IsKeptFrame f × AreKeptFrames fs
 abbrev pub focus_weight : F.Focus → ℕ
 focus_weight (F.TheVariants.Form f) = 4 * nodes (form_of f.now)
 focus_weight (F.TheVariants.Cond g) = 4 * nodes_in (cond_of g.now)
-focus_weight (F.TheVariants.Given o) = 0
+focus_weight (F.TheVariants.Truth t) = 0
 focus_weight (F.TheVariants.One o x) = 1
 focus_weight (F.TheVariants.Two o x y) = 1
 

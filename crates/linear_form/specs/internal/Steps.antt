@@ -4,11 +4,10 @@ use Rattle.linear_form.specs.Query.{Query, Taken}
 use Rattle.linear_form.specs.Questions.{Ends}
 use Rattle.linear_form.specs.PlainPaths.{atom_of, linear_of}
 use Rattle.linear_form.specs.internal.Run.{Evaluation, along}
-use Rattle.linear_form.specs.internal.Places.{Result, result_of, resumed, asked_by, left_at, through, weight, IsKeptOutcome, IsKeptFocus, IsKeptFrame, AreKeptFrames}
+use Rattle.linear_form.specs.internal.Places.{Result, resumed, asked_by, left_at, through, weight, IsKeptFocus, IsKeptFrame, AreKeptFrames}
 use Rattle.linear_form.specs.declared.places.Place.{Place}
 use Rattle.linear_form.specs.declared.places.Frame.{Frame}
 use Rattle.linear_form.specs.declared.places.Focus.{Focus}
-use Rattle.linear_form.specs.declared.places.Outcome.{Outcome}
 use Rattle.linear_form.specs.declared.steps.Step as S
 
 -- From a place in a path with some questions left, the evaluation comes to another place, on each path with the answers up to
@@ -21,11 +20,11 @@ pub record Moves (ps : List Taken) (q : Query Ends) (i : ℕ) (p : Place) : Type
   pub kept_frames : AreKeptFrames p.frames.items
 
 -- What a step gives: another place with less to do, or what the evaluation along the path comes to.
-abbrev pub Steps : List Taken → Query Ends → ℕ → ℕ → S.Step → Type 0
-Steps ps q i w (S.TheVariants.On p) = Moves ps q i p × (weight p < w)
-Steps ps q i w (S.TheVariants.Asks a p) = (along ps q i ≡ Evaluation.decide (atom_of a)) × Moves ps q i p
-Steps ps q i w (S.TheVariants.Ends x y) = along ps q i ≡ Evaluation.value (linear_of x, linear_of y) i
-Steps ps q i w S.TheVariants.Bits = along ps q i ≡ Evaluation.bits
+abbrev pub Steps : List Taken → Query Ends → ℕ → ℕ → Place → S.Step → Type 0
+Steps ps q i w p S.TheVariants.On = Moves ps q i p × (weight p < w)
+Steps ps q i w p (S.TheVariants.Asks a) = (along ps q i ≡ Evaluation.decide (atom_of a)) × Moves ps q i p
+Steps ps q i w p (S.TheVariants.Ends x y) = (j : ℕ) × (along ps q i ≡ Evaluation.value (linear_of x, linear_of y) j)
+Steps ps q i w p S.TheVariants.Bits = along ps q i ≡ Evaluation.bits
 
 -- Frames that ask the same.
 pub record AreAlike (old new : List Frame) : Type 0 where
@@ -36,10 +35,6 @@ pub record AreAlike (old new : List Frame) : Type 0 where
 pub record IsAlike (old new : Frame) : Type 0 where
   pub same : resumed new ≡ resumed old
   pub kept : IsKeptFrame old → IsKeptFrame new
-
-pub record IsSameOutcome (old new : Outcome) : Type 0 where
-  pub same : result_of new ≡ result_of old
-  pub kept : IsKeptOutcome old → IsKeptOutcome new
 
 pub record IsSameFocus (old new : Focus) : Type 0 where
   pub same : asked_by new ≡ asked_by old

@@ -1,13 +1,25 @@
-use Rattle.std.proofs.Common.{ap, ◌∙◌, sym, subst}
-use Rattle.linear_form.specs.Lin.{fits, scaled}
-use Rattle.linear_form.specs.internal.Run.{IsKept}
+use Rattle.std.proofs.Common.{ap, ap₂, ◌∙◌}
+use Rattle.linear_form.specs.Lin.{all_fit, fits, merged, times, minus_oneʳ}
 use Rattle.linear_form.specs.PlainPaths.{lin_of}
-use Rattle.linear_form.proofs.Narrow.{minus_one_fits}
-use Rattle.linear_form.proofs.KeptParts.{negated_kept}
+use Rattle.linear_form.proofs.Narrow.{fits_negated}
+use Rattle.linear_form.proofs.KeptParts.{rest_fits, terms_fit}
+use Rattle.linear_form.proofs.MergedTerms.{difference_made}
 use Rattle.linear_form.proofs.lin.minus.Goals as goal
 
-pub scaled-requires-clause-factor : goal.scaled-requires-clause-factor
-scaled-requires-clause-factor c = ap fits c.minus_one.ensures ∙ minus_one_fits
+pub merged-requires-clause-from_fits : goal.merged-requires-clause-from_fits
+merged-requires-clause-from_fits c = ap all_fit c.deref.ensures.value ∙ terms_fit (lin_of c.args.b.now) c.requires.right
 
-pub plus-requires-clause-right : goal.plus-requires-clause-right
-plus-requires-clause-right c = subst IsKept (sym (c.in_ok-down.ensures ∙ ap (λ w. scaled w (lin_of c.args.b.now)) c.minus_one.ensures)) (negated_kept (lin_of c.args.b.now) c.requires.right)
+pub merged-requires-clause-into_fits : goal.merged-requires-clause-into_fits
+merged-requires-clause-into_fits c = ap all_fit c.deref-2.ensures.value ∙ terms_fit (lin_of c.args.a.now) c.requires.left
+
+pub sum-requires-clause-left : goal.sum-requires-clause-left
+sum-requires-clause-left c = rest_fits (lin_of c.args.a.now) c.requires.left
+
+pub signed-requires : goal.signed-requires
+signed-requires c = rest_fits (lin_of c.args.b.now) c.requires.right
+
+pub sum-requires-clause-right : goal.sum-requires-clause-right
+sum-requires-clause-right c = ap fits c.signed.ensures ∙ fits_negated c.args.b.now.rest ∙ rest_fits (lin_of c.args.b.now) c.requires.right
+
+pub returns : goal.returns
+returns c = difference_made (lin_of c.args.a.now) (lin_of c.args.b.now) _ c.sum.result c.signed.result (c.in_ok-terms.ensures ∙ ap₂ (λ b a. merged (times minus_oneʳ b) a) c.deref.ensures.value c.deref-2.ensures.value) c.signed.ensures c.sum.ensures

@@ -1,11 +1,9 @@
-use Rattle.std.proofs.Common.{◌≡◌, sym, ◌∙◌, rules}
-use Rattle.std.specs.Prelude.{Some}
-use Rattle.heyvl_num.specs.Rational.{◌+ʳ◌}
-use Rattle.linear_form.proofs.Narrow.{the_sum, same}
+use Rattle.std.proofs.Common.{sym, ◌∙◌}
+use Rattle.linear_form.proofs.WholeFractions.{zero_left, zero_right}
 use Rattle.linear_form.proofs.numbers.sum.Goals as goal
 
-pub unwrap-requires : goal.unwrap-requires
-unwrap-requires c = let e : c.add.result ≡ Some (c.args.x.now +ʳ c.args.y.now) = c.add.ensures ∙ the_sum c.args.x.now c.args.y.now c.requires.left c.requires.right in rw e (search rules)
+pub returns-then-is_zero : goal.returns-then-is_zero
+returns-then-is_zero c = zero_right c.args.x.now c.args.y.now (sym c.is_zero.ensures ∙ c.if-is_zero.true)
 
-pub returns : goal.returns
-returns c = same c.unwrap.result _ (sym c.unwrap.ensures ∙ c.add.ensures ∙ the_sum c.args.x.now c.args.y.now c.requires.left c.requires.right)
+pub returns-then-is_zero-2 : goal.returns-then-is_zero-2
+returns-then-is_zero-2 c = zero_left c.args.x.now c.args.y.now (sym c.is_zero-else-is_zero.ensures ∙ c.if-is_zero-2.true)

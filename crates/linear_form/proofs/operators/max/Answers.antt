@@ -1,6 +1,9 @@
 use Rattle.std.proofs.Common.{◌∙◌, rules, refl}
 use Rattle.linear_form.proofs.Runs.{gives_first, run_done, run_after}
-use Rattle.linear_form.proofs.OperatorRuns.{max_none}
+use Rattle.linear_form.specs.PlainPaths.{path_of, linear_of}
+use Rattle.linear_form.specs.Questions as q
+use Rattle.linear_form.specs.internal.Run.{along}
+use Rattle.linear_form.proofs.OperatorRuns.{max_none, gives_as}
 use Rattle.linear_form.proofs.operators.max.Goals as goal
 
 pub returns-in_err-test-in-Some-b : goal.returns-in_err-test-in-Some-b
@@ -13,7 +16,7 @@ pub returns-in-None-b : goal.returns-in-None-b
 returns-in-None-b c = rw (c.in-Some.is, c.in-None-b.is) (run_done _ _ _)
 
 pub returns-then-test : goal.returns-then-test
-returns-then-test c = rw (c.in-Some.is, c.in-Some-b.is) (run_after _ _ _ _ _ _ c.in_ok-test-in-Some-b.ensures ∙ rw c.if-test.true (run_done _ _ _))
+returns-then-test c = gives_as c.same.result (along (path_of c.args.path.now) (q.max (linear_of c.args.a.now) (linear_of c.args.b.now)) c.args.at) _ (rw (c.in-Some.is, c.in-Some-b.is) (run_after _ _ _ _ _ _ c.in_ok-test-in-Some-b.ensures ∙ rw c.if-test.true (run_done _ _ _))) c.same.ensures
 
 pub returns-else-test : goal.returns-else-test
-returns-else-test c = rw (c.in-Some.is, c.in-Some-b.is) (run_after _ _ _ _ _ _ c.in_ok-test-in-Some-b.ensures ∙ rw c.if-test.false (run_done _ _ _))
+returns-else-test c = gives_as c.same-else-test.result (along (path_of c.args.path.now) (q.max (linear_of c.args.a.now) (linear_of c.args.b.now)) c.args.at) _ (rw (c.in-Some.is, c.in-Some-b.is) (run_after _ _ _ _ _ _ c.in_ok-test-in-Some-b.ensures ∙ rw c.if-test.false (run_done _ _ _))) c.same-else-test.ensures

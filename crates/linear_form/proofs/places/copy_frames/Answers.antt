@@ -5,7 +5,7 @@ use Rattle.linear_form.proofs.Resuming.{alike_start, alike_next}
 use Rattle.linear_form.proofs.places.copy_frames.Goals as goal
 
 pub loop-frame-init : goal.loop-frame-init
-loop-frame-init c = subst (λ fs. AreAlike [] fs) (sym c.new-made.ensures.items) alike_start
+loop-frame-init c = subst (λ fs. AreAlike [] fs) (sym c.in_ok-made.ensures.items) alike_start
 
 pub loop-frame-preserved : goal.loop-frame-preserved
 loop-frame-preserved c = alike_next c.args.frames.now c.loop-frame.frame-index c.loop-frame.made.items c.push.new.self.items c.frame-item.result c.in_ok-copy_frame.field-0 c.loop-frame-test.true c.frame-item.is c.in_ok-push.ensures.items c.loop-frame.invariant c.in_ok-copy_frame.ensures

@@ -1,12 +1,11 @@
+use Rattle.std.proofs.Common.{arith}
+use Rattle.std.proofs.lemmas.Bool.Decides.{nat_tests}
 use Rattle.linear_form.specs.PlainPaths.{linear_of}
-use Rattle.linear_form.proofs.Runs.{run_done, run_bits}
+use Rattle.linear_form.proofs.Resuming.{ends_are_last, ends_are_waited_for}
 use Rattle.linear_form.proofs.steps.at_the_end.Goals as goal
 
-pub returns-in-Ends : goal.returns-in-Ends
-returns-in-Ends c = λ ps i. rw c.in-Ends.is (run_done ps (linear_of c.in-Ends.x, linear_of c.in-Ends.y) i)
+pub returns-then-is_empty : goal.returns-then-is_empty
+returns-then-is_empty c = λ ps i w p. ends_are_last ps (linear_of c.args.stated, linear_of c.args.found) c.args.frames.now i (grind (arith, nat_tests))
 
-pub returns-in-Number : goal.returns-in-Number
-returns-in-Number c = λ ps i. rw c.in-Number.is (run_bits ps i)
-
-pub returns : goal.returns
-returns c = λ ps i. rw c.in-Truth.is (run_bits ps i)
+pub returns-else-is_empty : goal.returns-else-is_empty
+returns-else-is_empty c = λ ps i w p. ends_are_waited_for ps (linear_of c.args.stated, linear_of c.args.found) c.args.frames.now i (grind (arith, nat_tests))

@@ -1,16 +1,16 @@
-use Rattle.std.proofs.Common.{◌≡◌, refl, arith, ap}
+use Rattle.std.proofs.Common.{◌≡◌, [], ap, sym, arith, ◌∙◌}
 use Rattle.heyvl_num.specs.Extended.{value_of}
 use Rattle.heylo_formula.specs.PlainTrees.{form_of}
 use Rattle.heylo_formula.specs.Sizes.{nodes}
 use Rattle.linear_form.specs.Questions.{evaluate, sized, number}
-use Rattle.linear_form.specs.internal.Run.{IsKeptValue}
+use Rattle.linear_form.specs.internal.Places.{valued}
 use Rattle.linear_form.proofs.KeptValues.{number_kept}
-use Rattle.linear_form.proofs.Runs.{run_result}
-use Rattle.linear_form.proofs.GoingOn.{found_value, stops_valued}
+use Rattle.linear_form.proofs.KeptOperators.{all_kept}
+use Rattle.linear_form.proofs.Resuming.{for_query}
 use Rattle.linear_form.proofs.steps.constant.Goals as goal
 
-pub returns-in-Ok : goal.returns-in-Ok
-returns-in-Ok c = λ ps. let n : nodes (form_of c.args.form.now) ≡ 1 = ap nodes c.requires.is in found_value ps _ (sized (number (value_of c.args.v.now))) c.args.frames.items _ _ _ _ _ (ap evaluate c.requires.is) (c.in-Ok.ensures ps) refl refl (omega (arith, n)) (run_result ps _ IsKeptValue _ _ _ (number_kept (value_of c.args.v.now)) (c.in-Ok.ensures ps)) c.requires.frames
+pub value_found-requires-clause-value : goal.value_found-requires-clause-value
+value_found-requires-clause-value c = all_kept c.number-found.result (sized (number (value_of c.args.v.now))) [] c.args.place.now.at (number_kept (value_of c.args.v.now)) (c.number-found.ensures [])
 
-pub returns-in-Err : goal.returns-in-Err
-returns-in-Err c = λ ps. c.stopped.ensures ps _ (stops_valued c.in-Err.stop ps _ (sized (number (value_of c.args.v.now))) _ (ap evaluate c.requires.is) (c.in-Err.ensures ps))
+pub returns : goal.returns
+returns c = λ ps. let n : nodes (form_of c.args.form.now) ≡ 1 = ap nodes c.requires.is in for_query c.value_found.result ps _ _ _ c.args.place.now.frames.items c.args.place.now.at _ (sym c.requires.asked) (c.value_found.ensures ps (sized (number (value_of c.args.v.now))) _ (c.requires.asked ∙ ap (λ f. valued (evaluate f)) c.requires.is) (c.number-found.ensures ps) (omega (arith, n)))

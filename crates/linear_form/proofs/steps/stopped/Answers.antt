@@ -6,7 +6,7 @@ use Rattle.linear_form.proofs.GoingOn.{decides, through_large}
 use Rattle.linear_form.proofs.steps.stopped.Goals as goal
 
 pub returns-in-Decide : goal.returns-in-Decide
-returns-in-Decide c = λ ps w h. decides ps w c.in-Decide.atom c.args.place (subst (λ s. Stops s (along ps (asked_by c.args.place.focus) c.args.place.at)) c.in-Decide.is h) c.requires.focus c.requires.frames
+returns-in-Decide c = λ ps w p k m h. decides ps w c.in-Decide.atom p (subst (λ s. Stops s (along ps (asked_by p.focus) p.at)) c.in-Decide.is h) k m
 
 pub returns-in-Bits : goal.returns-in-Bits
-returns-in-Bits c = λ ps w h. through_large ps (asked_by c.args.place.focus) c.args.place.frames.items c.args.place.at (subst (λ s. Stops s (along ps (asked_by c.args.place.focus) c.args.place.at)) c.in-Bits.is h)
+returns-in-Bits c = λ ps w p k m h. through_large ps (asked_by p.focus) p.frames.items p.at (subst (λ s. Stops s (along ps (asked_by p.focus) p.at)) c.in-Bits.is h)

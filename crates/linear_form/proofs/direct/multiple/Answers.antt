@@ -1,0 +1,6 @@
+use Rattle.linear_form.specs.PlainPaths.{lin_of}
+use Rattle.linear_form.proofs.DirectValues.{multiple_given}
+use Rattle.linear_form.proofs.direct.multiple.Goals as goal
+
+pub returns : goal.returns
+returns c = multiple_given c.small_multiple.result c.args.w.now (lin_of c.args.x.now) c.requires.normal c.small_multiple.ensures

@@ -1,0 +1,19 @@
+-- Trees of questions that are values.
+use Rattle.std.specs.Prelude.{◌≡◌, Option, Some, None}
+use Rattle.linear_form.specs.Query.{Query}
+use Rattle.linear_form.specs.Query.Query.{done}
+use Rattle.linear_form.specs.Questions.{Linear}
+use Rattle.linear_form.specs.PlainPaths.{lin_of}
+use Rattle.linear_form.specs.internal.Run.{IsKept}
+use Rattle.linear_form.specs.declared.lin.Lin as L
+use Rattle.linear_form.specs.Lin.{Lin}
+
+-- The tree asks nothing, and gives this value.
+pub record Yields (q : Query Linear) (a : Lin) : Type 0 where
+  pub asks_nothing : q ≡ done (Some a)
+  pub kept : IsKept a
+
+-- Where there is a value, the tree gives it.
+abbrev pub MayGive : Query Linear → Option L.Lin → Type 0
+MayGive q None = Unit {0}
+MayGive q (Some a) = Yields q (lin_of a)
