@@ -72,6 +72,16 @@ goes_on ss now n xs ys x g h s k m e a l f t p q r =
     next : (n : ℕ) → n + 1 ≡ suc n
     next n = omega arith
 
+found_next : (ss : List Step) (n : ℕ) (xs ys : List ℕ) (x : ℕ) (g : Gathered) (k : ℕ) (c : Derived) → xs ≡ x ∷ ys → g.found ≡ None → k ≡ length g.rows → k ≤ 4096 → true ≡ step_fits x g.rows → Some c ≡ contradiction (eliminate_one x g.rows) → refuted c ≡ after_all ss (run n xs g)
+found_next ss n xs ys x g k c m e a l f h = ends_found (ss ++ step_of x g.rows ∷ []) (n + 1) ys (gathered (eliminate_one x g.rows)) c (sym h) ∙ goes_on ss (ss ++ step_of x g.rows ∷ []) n xs ys x g (gathered (eliminate_one x g.rows)) (step_of x g.rows) k m e a l f refl refl refl refl
+
+many_next : (ss : List Step) (n : ℕ) (xs ys : List ℕ) (x : ℕ) (g : Gathered) (k c : ℕ) → xs ≡ x ∷ ys → g.found ≡ None → k ≡ length g.rows → k ≤ 4096 → true ≡ step_fits x g.rows → None ≡ contradiction (eliminate_one x g.rows) → c ≡ length (tidied (eliminate_one x g.rows)) → 4096 < c → too_many (n + 1) c ≡ after_all ss (run n xs g)
+many_next ss n xs ys x g k c m e a l f h i j = ends_many (ss ++ step_of x g.rows ∷ []) (n + 1) ys (gathered (eliminate_one x g.rows)) c (sym h) i j ∙ goes_on ss (ss ++ step_of x g.rows ∷ []) n xs ys x g (gathered (eliminate_one x g.rows)) (step_of x g.rows) k m e a l f refl refl refl refl
+
+pub ends_next : (ss : List Step) (n : ℕ) (xs ys : List ℕ) (x : ℕ) (g : Gathered) (k c : ℕ) (o : Option Derived) (r : Outcome) → xs ≡ x ∷ ys → g.found ≡ None → k ≡ length g.rows → k ≤ 4096 → (true ≡ step_fits x g.rows) × (o ≡ contradiction (eliminate_one x g.rows)) × (c ≡ length (tidied (eliminate_one x g.rows))) × (4096 < c) → ((d : Derived) → o ≡ Some d → r ≡ refuted d) → (o ≡ None → r ≡ too_many (n + 1) c) → r ≡ after_all ss (run n xs g)
+ends_next ss n xs ys x g k c None r m e a l h f t = t refl ∙ many_next ss n xs ys x g k c m e a l h.0 h.1 h.2 h.3
+ends_next ss n xs ys x g k c (Some d) r m e a l h f t = f d refl ∙ found_next ss n xs ys x g k d m e a l h.0 h.1
+
 pub none_left : (xs : List ℕ) → length xs ≡ 0 → xs ≡ []
 none_left [] e = refl
 none_left (x ∷ xs) e = absurd (omega (arith, e))

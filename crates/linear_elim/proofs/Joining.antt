@@ -1,12 +1,13 @@
 -- How the joins of a step are put in, one after the other.
-use Rattle.std.proofs.Common.{◌≡◌, ℕ, ◌+◌, ◌<◌, ◌≤◌, List, [], ◌∷◌, ◌++◌, length, get_or, drop, refl, sym, ap, ap₂, ◌∙◌, arith, Bool, true, false, cond, ◌&&◌}
-use Rattle.std.specs.Prelude.{Option, Some, None}
+use Rattle.std.proofs.Common.{◌≡◌, ℕ, ◌+◌, ◌<◌, ◌≤◌, not, List, [], ◌∷◌, ◌++◌, length, get_or, drop, refl, sym, ap, ap₂, ◌∙◌, arith, Bool, true, false, cond, ◌&&◌}
+use Rattle.std.specs.Prelude.{Option, Some, None, is_some}
 use Rattle.std.specs.List.{filter}
 use Prim.Native.Nat.{suc}
 use Rattle.std.proofs.Math.Seq.{drop-cons}
 use Rattle.std.proofs.lemmas.List.{drop_all}
 use Rattle.linear_elim.specs.Joins.{Derived, join, join_fits}
-use Rattle.linear_elim.specs.Steps.{fits_each, pairs_fit, joins, pairs, put_row, strongest, has_terms, tidied, is_contradiction, contradiction, lowers, uppers, kept, eliminate_one}
+use Rattle.linear_elim.specs.Steps.{fits_each, pairs_fit, joins, pairs, put_row, strongest, has_terms, tidied, is_contradiction, contradiction, lowers, uppers, kept, step_fits, eliminate_one}
+use Rattle.linear_elim.specs.Elimination.{step_of}
 use Rattle.linear_elim.specs.internal.Gathering.{or_else, found_after, rows_after, found_all, rows_all}
 
 pub rest_item : {A : Type 0} (xs : List A) (i : ℕ) (x : A) → i < length xs → x ≡ get_or xs i x → drop i xs ≡ x ∷ drop (i + 1) xs
@@ -121,3 +122,21 @@ step_found x rows ls us o now e h k n = n ∙ ap₂ (λ ps qs. found_all (pairs 
 
 pub step_rows : (x : ℕ) (rows ls us ks now : List Derived) → ls ≡ lowers x rows → us ≡ uppers x rows → ks ≡ rows_all (kept x rows) [] → now ≡ rows_all (pairs x ls us) ks → now ≡ tidied (eliminate_one x rows)
 step_rows x rows ls us ks now e h k n = n ∙ ap₂ (λ ps qs. rows_all (pairs x ps qs) ks) e h ∙ ap (rows_all (pairs x (lowers x rows) (uppers x rows))) k ∙ sym (rows-append (kept x rows) (pairs x (lowers x rows) (uppers x rows)) []) ∙ rows_none (eliminate_one x rows)
+
+-- ---- What a step gives
+
+step_fit : (x : ℕ) (rows ls us : List Derived) (b : Bool) → ls ≡ lowers x rows → us ≡ uppers x rows → b ≡ pairs_fit x ls us → b ≡ true → true ≡ step_fits x rows
+step_fit x rows ls us b e h f t = sym t ∙ f ∙ ap₂ (pairs_fit x) e h
+
+step_same : (x : ℕ) (rows ls us : List Derived) → ls ≡ lowers x rows → us ≡ uppers x rows → record { var = x; lows = ls; ups = us } ≡ step_of x rows
+step_same x rows ls us e h = rw (e, h) refl
+
+none_there : (o : Option Derived) (b : Bool) → is_some o ≡ not b → b ≡ true → o ≡ None
+none_there None b e h = refl
+none_there (Some d) b e h = absurd (cc)
+
+pub step_kept : (x : ℕ) (rows ls us lows ups ks now : List Derived) (o found : Option Derived) (b : Bool) → ls ≡ lowers x rows → us ≡ uppers x rows → lows ≡ lowers x rows → ups ≡ uppers x rows → o ≡ found_all (kept x rows) None → ks ≡ rows_all (kept x rows) [] → b ≡ pairs_fit x ls us → b ≡ true → found ≡ found_all (pairs x ls us) o → now ≡ rows_all (pairs x ls us) ks → (true ≡ step_fits x rows) × (record { var = x; lows = lows; ups = ups } ≡ step_of x rows) × (found ≡ contradiction (eliminate_one x rows)) × (now ≡ tidied (eliminate_one x rows))
+step_kept x rows ls us lows ups ks now o found b e h l u k r f t n m = (step_fit x rows ls us b e h f t, step_same x rows lows ups l u, step_found x rows ls us o found e h k n, step_rows x rows ls us ks now e h r m)
+
+pub step_counted : (x : ℕ) (rows ls us ks : List Derived) (o found : Option Derived) (n : ℕ) (b : Bool) → ls ≡ lowers x rows → us ≡ uppers x rows → o ≡ found_all (kept x rows) None → ks ≡ rows_all (kept x rows) [] → is_some o ≡ not b → b ≡ true → (pairs_fit x ls us ≡ true) × (found ≡ found_all (pairs x ls us) None) × (n ≡ length (rows_all (pairs x ls us) ks)) → 4096 < n → (true ≡ step_fits x rows) × (found ≡ contradiction (eliminate_one x rows)) × (n ≡ length (tidied (eliminate_one x rows))) × (4096 < n)
+step_counted x rows ls us ks o found n b e h k r i t c l = (step_fit x rows ls us true e h (sym c.0) refl, step_found x rows ls us None found e h (sym (none_there o b i t) ∙ k) c.1, c.2 ∙ ap length (step_rows x rows ls us ks (rows_all (pairs x ls us) ks) e h r refl), l)

@@ -34,4 +34,7 @@ pub mod StepRows
 pub mod SpotRows
 pub mod SpotExamples
 pub mod KnownRows
+pub mod CountedTerms
+pub mod Mixed
+pub mod SmallJoins
 pub mod exported

@@ -7,3 +7,6 @@ pub mod Eliminations
 pub mod Gathering
 pub mod DerivedRows
 pub mod Places
+pub mod Counting
+pub mod Afters
+pub mod SmallRows

@@ -6,7 +6,7 @@ ghost use Rattle.linear_elim.specs.internal.Fingerprints.{hashed, fingerprint};
 const MULTIPLIER: u64 = 0x9e37_79b9_7f4a_7c15;
 
 /// A number once another is hashed into it.
-fn hashed(number: u64, next: u64) -> u64
+pub(crate) fn hashed(number: u64, next: u64) -> u64
     ensures { result ≡ hashed number next }
 {
     number.wrapping_mul(MULTIPLIER).wrapping_add(next)

@@ -56,7 +56,7 @@ fn is_stronger_than(r: &Derived, k: &Derived) -> bool
 }
 
 /// Whether nothing meets the row since no variable is left in it.
-fn contradicts(r: &Derived) -> bool
+pub(crate) fn contradicts(r: &Derived) -> bool
     ensures { result ≡ is_contradiction r.now.row }
 {
     let row = &r.row;
@@ -147,7 +147,8 @@ pub struct Gathering {
     pub(crate) places: HashMap<u64, usize>,
 }
 
-fn has_no_terms(r: &Derived) -> bool
+/// Whether no variable is left in the row.
+pub(crate) fn has_no_terms(r: &Derived) -> bool
     ensures { result ≡ not (has_terms r.now.row.terms) }
 {
     let row = &r.row;

@@ -48,7 +48,7 @@ fn product(a: u64, b: u64) -> i128
 
 impl Derived {
     /// The coefficient of x, without its sign.
-    fn size(&self, x: u32) -> u64
+    pub(crate) fn size(&self, x: u32) -> u64
         requires { IsDerived self.now }
         ensures value { result ≡ size x self.now }
         ensures narrow { result < 2 ^ 62 }

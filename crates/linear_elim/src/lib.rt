@@ -3,6 +3,7 @@
 
 mod answers;
 mod choosing;
+mod counting;
 mod eliminating;
 mod elimination;
 mod ends;
@@ -22,10 +23,13 @@ mod refuting;
 mod row_shapes;
 mod search;
 mod simplex;
+mod small_joins;
 mod spots;
 mod starting;
 mod steps;
 mod tableau;
+mod tables;
+mod watched;
 
 pub use answers::{Broken, Cause, Elim};
 pub use eliminating::eliminate;

@@ -3,13 +3,15 @@ use heyvl_num::gcd;
 use std::alloc::AllocError;
 
 /// A value that depends on the columns of a tableau: what they stand for, each as often as its number says and 0 times beyond the list,
-/// a constant, and a small positive number so many times, over a denominator above 0.
+/// a constant, and a small positive number so many times, over a denominator above 0; and whether it has changed since its value was
+/// found.
 #[derive(Drop)]
 pub(crate) struct Line {
     pub(crate) numbers: Vec<i64>,
     pub(crate) constant: i64,
     pub(crate) small: i64,
     pub(crate) over: i64,
+    pub(crate) changed: bool,
 }
 
 /// A value at the point of a tableau, times a denominator: a constant, and how often a small positive number is added.
@@ -27,6 +29,11 @@ impl Value {
             small: 0,
         }
     }
+
+    /// Whether two values are the same.
+    pub(crate) fn is_same(self, other: Value) -> bool {
+        self.constant == other.constant && self.small == other.small
+    }
 }
 
 /// a * p - c * q. None where a number is too great.
@@ -39,6 +46,15 @@ fn plus_product(sum: i64, a: i64, b: i64) -> Option<i64> {
     sum.checked_add(a.checked_mul(b)?)
 }
 
+/// How often a number goes into another. None where it is 0 or the quotient is too great.
+pub(crate) fn quotient(a: i64, b: i64) -> Option<i64> {
+    if a == b && a > 0 {
+        Some(1)
+    } else {
+        a.checked_div(b)
+    }
+}
+
 /// The greatest number that divides both. None where it is too great.
 fn common_divisor(a: i64, b: i64) -> Option<i64> {
     if a == 1 || b == 1 {
@@ -49,6 +65,9 @@ fn common_divisor(a: i64, b: i64) -> Option<i64> {
 
 /// The least number above 0 that both divide, where they are above 0. None where it is too great.
 pub(crate) fn common_multiple(a: i64, b: i64) -> Option<i64> {
+    if b == 1 || a == b {
+        return Some(a);
+    }
     if a.checked_rem(b)? == 0 {
         return Some(a);
     }
@@ -59,18 +78,50 @@ pub(crate) fn common_multiple(a: i64, b: i64) -> Option<i64> {
 fn in_lowest_terms(p: i64, c: i64) -> Option<(i64, i64)> {
     let common = common_divisor(p, c)?;
     let signed = if p < 0 { common.checked_neg()? } else { common };
+    if signed == 1 {
+        return Some((p, c));
+    }
+    if signed == -1 {
+        return Some((p.checked_neg()?, c.checked_neg()?));
+    }
     Some((p.checked_div(signed)?, c.checked_div(signed)?))
 }
 
-/// Puts c times the numbers into others. False where a number is too great.
+/// Puts c times the numbers into others, which are at least as many. False where a number is too great.
 fn add_numbers(sums: &mut [i64], c: i64, numbers: &[i64]) -> bool {
-    for i in 0..sums.len() {
-        if let Some(number) = numbers.get(i) {
-            if *number != 0 {
-                let Some(next) = plus_product(sums[i], c, *number) else {
+    for (i, &number) in numbers.iter().enumerate() {
+        if number != 0 {
+            if let Some(sum) = sums.get_mut(i) {
+                let Some(next) = plus_product(*sum, c, number) else {
                     return false;
                 };
-                sums[i] = next;
+                *sum = next;
+            }
+        }
+    }
+    true
+}
+
+/// Takes p times each number. False where a number is too great.
+fn scale_numbers(numbers: &mut [i64], p: i64) -> bool {
+    for i in 0..numbers.len() {
+        let Some(next) = numbers[i].checked_mul(p) else {
+            return false;
+        };
+        numbers[i] = next;
+    }
+    true
+}
+
+/// Takes c times the numbers off others, which are at least as many. False where a number is too great.
+fn take_numbers(sums: &mut [i64], c: i64, numbers: &[i64]) -> bool {
+    for (i, &number) in numbers.iter().enumerate() {
+        if number != 0 {
+            if let Some(sum) = sums.get_mut(i) {
+                let Some(next) = difference(*sum, 1, c, number) else {
+                    return false;
+                };
+                *sum = next;
             }
         }
     }
@@ -79,19 +130,7 @@ fn add_numbers(sums: &mut [i64], c: i64, numbers: &[i64]) -> bool {
 
 /// Takes p times each number, and c times another less. False where a number is too great.
 fn mix_numbers(numbers: &mut [i64], p: i64, c: i64, others: &[i64]) -> bool {
-    for i in 0..numbers.len() {
-        let q = match others.get(i) {
-            Some(number) => *number,
-            None => 0,
-        };
-        if q != 0 || p != 1 {
-            let Some(next) = difference(numbers[i], p, c, q) else {
-                return false;
-            };
-            numbers[i] = next;
-        }
-    }
-    true
+    (p == 1 || scale_numbers(numbers, p)) && take_numbers(numbers, c, others)
 }
 
 /// The greatest number that divides a number and each of others. None where it is too great.
@@ -193,7 +232,13 @@ impl Line {
 
     /// The value at the tableau's point, times a denominator that the line's one divides. None where a number is too great.
     pub(crate) fn value(&self, over: i64) -> Option<Value> {
-        let factor = over.checked_div(self.over)?;
+        let factor = quotient(over, self.over)?;
+        if factor == 1 {
+            return Some(Value {
+                constant: self.constant,
+                small: self.small,
+            });
+        }
         Some(Value {
             constant: self.constant.checked_mul(factor)?,
             small: self.small.checked_mul(factor)?,
@@ -228,6 +273,7 @@ impl Line {
         let Some(own) = c.checked_mul(pivot.over) else {
             return Ok(false);
         };
+        self.changed = true;
         self.widen(pivot.numbers.len())?;
         let mixed = self.mix(p, c, pivot);
         self.put(place, own);

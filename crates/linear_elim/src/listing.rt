@@ -3,13 +3,14 @@
 use crate::gathering::have_same_terms;
 use crate::pairs::clash;
 use crate::row_shapes::Shape;
+use crate::watched::Watched;
 use linear_form::Row;
 use std::alloc::{AllocError, Global};
 
-/// The index of a row that is listed, and the row's shape.
+/// A row that is listed, and its shape.
 #[derive(Clone, Copy)]
 struct Listed {
-    row: usize,
+    row: Watched,
     shape: Shape,
 }
 
@@ -18,7 +19,7 @@ struct Listed {
 struct Change {
     row: usize,
     place: usize,
-    before: Option<usize>,
+    before: Option<Watched>,
 }
 
 /// The tightest rows of a path, how they came to be listed, how many rows were looked at, and which were chosen last.
@@ -27,7 +28,7 @@ pub struct Listing {
     listed: Vec<Listed>,
     changes: Vec<Change>,
     looked: usize,
-    pub(crate) chosen: Vec<usize>,
+    pub(crate) chosen: Vec<Watched>,
 }
 
 /// Whether a row's constant says more than that of another with the same terms.
@@ -37,7 +38,7 @@ fn is_tighter(row: &Row, other: &Row) -> bool {
 
 /// Whether a listed row has the same terms as a row of this shape.
 fn is_alike(listed: Listed, rows: &[Row], row: &Row, shape: Shape) -> bool {
-    match rows.get(listed.row) {
+    match rows.get(listed.row.index) {
         Some(other) => listed.shape.is_like(shape) && have_same_terms(&other.terms, &row.terms),
         None => false,
     }
@@ -114,7 +115,10 @@ impl Listing {
                     place: self.listed.len(),
                     before: None,
                 })?;
-                self.listed.push(Listed { row: index, shape })?;
+                self.listed.push(Listed {
+                    row: Watched::of(index, row),
+                    shape,
+                })?;
                 Ok(())
             }
             Some(place) => self.tighten(rows, row, index, place),
@@ -130,14 +134,14 @@ impl Listing {
         place: usize,
     ) -> Result<(), AllocError> {
         if let Some(listed) = self.listed.get_mut(place) {
-            if let Some(other) = rows.get(listed.row) {
+            if let Some(other) = rows.get(listed.row.index) {
                 if is_tighter(row, other) {
                     self.changes.push(Change {
                         row: index,
                         place,
                         before: Some(listed.row),
                     })?;
-                    listed.row = index;
+                    listed.row = Watched::of(index, row);
                 }
             }
         }
@@ -166,8 +170,8 @@ impl Listing {
         let shape = Shape::of(row);
         for &other in &self.listed {
             if other.shape.is_opposite(shape) {
-                if let Some((p, q)) = clash_at(row, rows, other.row) {
-                    return multipliers_of(alloc, index, p, other.row, q);
+                if let Some((p, q)) = clash_at(row, rows, other.row.index) {
+                    return multipliers_of(alloc, index, p, other.row.index, q);
                 }
             }
         }
@@ -175,13 +179,13 @@ impl Listing {
     }
 
     /// Chooses the listed rows, and those from a place on.
-    pub fn choose(&mut self, kept: usize, len: usize) -> Result<(), AllocError> {
+    pub fn choose(&mut self, rows: &[Row], kept: usize) -> Result<(), AllocError> {
         self.chosen.clear();
         for listed in &self.listed {
             self.chosen.push(listed.row)?;
         }
-        for index in kept..len {
-            self.chosen.push(index)?;
+        for index in kept..rows.len() {
+            self.chosen.push(Watched::of(index, &rows[index]))?;
         }
         Ok(())
     }
@@ -203,7 +207,7 @@ fn multipliers_of(
     let (Ok(first), Ok(second)) = (u32::try_from(i), u32::try_from(j)) else {
         return Ok(None);
     };
-    let mut multipliers: Vec<(u32, u64)> = Vec::new(alloc);
+    let mut multipliers: Vec<(u32, u64)> = Vec::with_capacity(alloc, 2)?;
     if i < j {
         multipliers.push((first, p))?;
         multipliers.push((second, q))?;

@@ -40,6 +40,9 @@ fn is_unmet(a: &Row, p: i64, b: &Row, q: i64) -> bool {
 
 /// Two numbers divided by their greatest common divisor.
 fn in_lowest_terms(p: u64, q: u64) -> Option<(u64, u64)> {
+    if p == 1 || q == 1 {
+        return Some((p, q));
+    }
     let common = gcd(u128::from(p), u128::from(q));
     let first = u128::from(p).checked_div(common)?;
     let second = u128::from(q).checked_div(common)?;

@@ -171,7 +171,7 @@ impl Search {
     ) -> Result<Proposal, AllocError>
         ensures { (before : List PlainRow) → Remembers self.old before → Remembers self.new before }
     {
-        self.listing.choose(kept, rows.len())?;
+        self.listing.choose(rows, kept)?;
         let proposal = self
             .simplex
             .propose(alloc, rows, &self.listing.chosen, count)?;

@@ -4,6 +4,7 @@ use crate::ends::TooGreat;
 use crate::lines::Line;
 use crate::spots::Spot;
 use crate::tableau::{Head, Tableau};
+use crate::watched::{Watched, sign_of};
 use heyvl_num::gcd;
 use linear_form::Row;
 use std::alloc::{AllocError, Global};
@@ -42,15 +43,6 @@ pub(crate) struct Simplex {
     signs: Vec<u32>,
 }
 
-/// The variable of which a row says that it isn't negative, and nothing else.
-fn sign_of(row: &Row) -> Option<u32> {
-    if row.strict || row.rest != 0 || row.terms.len() != 1 {
-        return None;
-    }
-    let &(x, c) = row.terms.first()?;
-    if c == -1 { Some(x) } else { None }
-}
-
 /// A row's multiplier, without its sign.
 fn put_share(shares: &mut Vec<u64>, row: u32, number: i64) {
     if let Some(share) = shares.get_mut(row as usize) {
@@ -69,10 +61,21 @@ fn common_divisor(shares: &[u64]) -> u64 {
     common
 }
 
+/// How many numbers are above 0.
+fn count_positive(shares: &[u64]) -> usize {
+    let mut count: usize = 0;
+    for &share in shares {
+        if share > 0 {
+            count = count.saturating_add(1);
+        }
+    }
+    count
+}
+
 /// The multipliers above 0, with their rows, in lowest terms.
 fn in_lowest_terms(alloc: Global, shares: &[u64]) -> Result<Vec<(u32, u64)>, AllocError> {
     let common = common_divisor(shares);
-    let mut multipliers: Vec<(u32, u64)> = Vec::new(alloc);
+    let mut multipliers: Vec<(u32, u64)> = Vec::with_capacity(alloc, count_positive(shares))?;
     for (i, &share) in shares.iter().enumerate() {
         if share > 0 {
             if let (Ok(row), Some(multiplier)) = (u32::try_from(i), share.checked_div(common)) {
@@ -93,22 +96,20 @@ fn is_before(i: usize, constant: i128, found: Option<usize>, most: i128, hasty: 
 
 /// A row that isn't met at the tableau's point: that of the least index, or in haste the one that is missed by most.
 fn violated(
-    tableau: &Tableau,
+    tableau: &mut Tableau,
     rows: &[Row],
-    chosen: &[usize],
+    watched: &[Watched],
     hasty: bool,
 ) -> Result<Option<usize>, TooGreat> {
     let mut found: Option<usize> = None;
     let mut most: i128 = 0;
-    for &i in chosen {
-        if let Some(row) = rows.get(i) {
-            let Some(side) = tableau.side(row) else {
-                return Err(TooGreat);
-            };
-            if !side.is_met() && is_before(i, side.constant, found, most, hasty) {
-                found = Some(i);
-                most = side.constant;
-            }
+    for &row in watched {
+        let Some(side) = tableau.side_at(rows, row) else {
+            return Err(TooGreat);
+        };
+        if !side.is_met() && is_before(row.index, side.constant, found, most, hasty) {
+            found = Some(row.index);
+            most = side.constant;
         }
     }
     Ok(found)
@@ -139,15 +140,18 @@ impl Simplex {
         Ok(())
     }
 
-    /// Notes of which variables the chosen rows say that they aren't negative.
-    fn note_signs(&mut self, rows: &[Row], chosen: &[usize]) {
-        for &i in chosen {
-            if let Some(row) = rows.get(i) {
-                if let (Some(x), Ok(index)) = (sign_of(row), u32::try_from(i)) {
-                    if let Some(sign) = self.signs.get_mut(x as usize) {
-                        *sign = index.saturating_add(1);
-                    }
-                }
+    /// Notes that the row at an index says that a variable isn't negative.
+    fn note_sign(&mut self, x: u32, index: u32) {
+        if let Some(sign) = self.signs.get_mut(x as usize) {
+            *sign = index.saturating_add(1);
+        }
+    }
+
+    /// Notes of which variables the rows say that they aren't negative.
+    fn note_signs(&mut self, chosen: &[Watched]) {
+        for row in chosen {
+            if let (Some(x), Ok(index)) = (row.sign, u32::try_from(row.index)) {
+                self.note_sign(x, index);
             }
         }
     }
@@ -166,25 +170,43 @@ impl Simplex {
         }
     }
 
-    /// Gives each variable of a row a column and a line.
-    fn put_variables_of(&mut self, alloc: Global, row: &Row) -> Result<(), AllocError> {
-        for &(x, _) in &row.terms {
+    /// Gives a variable a column and a line.
+    fn put_variable(&mut self, alloc: Global, x: u32) -> Result<(), AllocError> {
+        if !self.tableau.has_line(x) {
             let is_signed = self.sign(x).is_some();
             self.tableau.put_variable(alloc, x, is_signed)?;
         }
         Ok(())
     }
 
-    /// Gives each variable of the chosen rows a column and a line.
+    /// Gives each variable of the row at an index a column and a line.
+    fn put_variables_of(
+        &mut self,
+        alloc: Global,
+        rows: &[Row],
+        index: usize,
+    ) -> Result<(), AllocError> {
+        if !self.tableau.is_noted(index) {
+            if let Some(row) = rows.get(index) {
+                for &(x, _) in &row.terms {
+                    self.put_variable(alloc, x)?;
+                }
+            }
+        }
+        Ok(())
+    }
+
+    /// Gives each variable of the rows a column and a line.
     fn put_variables(
         &mut self,
         alloc: Global,
         rows: &[Row],
-        chosen: &[usize],
+        chosen: &[Watched],
     ) -> Result<(), AllocError> {
-        for &i in chosen {
-            if let Some(row) = rows.get(i) {
-                self.put_variables_of(alloc, row)?;
+        for row in chosen {
+            match row.sign {
+                Some(x) => self.put_variable(alloc, x)?,
+                None => self.put_variables_of(alloc, rows, row.index)?,
             }
         }
         Ok(())
@@ -229,8 +251,8 @@ impl Simplex {
         in_lowest_terms(alloc, &shares)
     }
 
-    /// What the tableau's point comes to, which meets the chosen rows.
-    fn met(&self, alloc: Global, rows: &[Row], chosen: &[usize]) -> Result<Proposal, AllocError> {
+    /// What the tableau's point comes to, which meets the rows.
+    fn met(&self, alloc: Global, rows: &[Row], chosen: &[Watched]) -> Result<Proposal, AllocError> {
         match self.tableau.point(alloc, rows, chosen)? {
             Some(spot) => Ok(Proposal::Point(spot)),
             None => Ok(Proposal::Nothing),
@@ -260,18 +282,18 @@ impl Simplex {
         }
     }
 
-    /// Exchanges a column for a row that isn't met, if there is one.
+    /// Exchanges a column for a row that isn't met, if there is one, after so many exchanges.
     fn take_turn(
         &mut self,
         alloc: Global,
         rows: &[Row],
-        chosen: &[usize],
-        hasty: bool,
+        chosen: &[Watched],
+        turns: u32,
     ) -> Result<Turn, AllocError> {
-        if !self.tableau.evaluate() {
+        if !self.tableau.evaluate(turns == 0) {
             return Ok(Turn::Done(Proposal::Nothing));
         }
-        match violated(&self.tableau, rows, chosen, hasty) {
+        match violated(&mut self.tableau, rows, chosen, turns < HASTY_EXCHANGES) {
             Err(TooGreat) => Ok(Turn::Done(Proposal::Nothing)),
             Ok(None) => Ok(Turn::Done(self.met(alloc, rows, chosen)?)),
             Ok(Some(at)) => self.exchange(alloc, rows, at),
@@ -283,13 +305,13 @@ impl Simplex {
         &mut self,
         alloc: Global,
         rows: &[Row],
-        chosen: &[usize],
+        chosen: &[Watched],
         count: usize,
     ) -> Result<Proposal, AllocError> {
-        self.tableau.reserve(count)?;
+        self.tableau.reserve(count, rows.len())?;
         self.put_variables(alloc, rows, chosen)?;
         for turns in 0..MOST_EXCHANGES {
-            match self.take_turn(alloc, rows, chosen, turns < HASTY_EXCHANGES)? {
+            match self.take_turn(alloc, rows, chosen, turns)? {
                 Turn::On => {}
                 Turn::Done(Proposal::Nothing) => break,
                 Turn::Done(proposal) => return Ok(proposal),
@@ -305,11 +327,11 @@ impl Simplex {
         &mut self,
         alloc: Global,
         rows: &[Row],
-        chosen: &[usize],
+        chosen: &[Watched],
         count: usize,
     ) -> Result<Proposal, AllocError> {
         self.reset_signs(count)?;
-        self.note_signs(rows, chosen);
+        self.note_signs(chosen);
         if !self.tableau.is_empty() {
             let proposal = self.go_on(alloc, rows, chosen, count)?;
             if !matches!(proposal, Proposal::Nothing) {

@@ -54,17 +54,17 @@ fn with_term(tops: &[i64], x: u32, c: i64, sum: i128) -> Option<i128>
 }
 
 /// The sum of the terms at a point, times its denominator; None where it is too great.
-#[tactic(auto, unfolding(linear_form::specs::Terms::sum_at))]
 fn terms_at(terms: &[(u32, i64)], tops: &[i64]) -> Option<i128>
     ensures { IfSome result (λ z. z ≡ sum_at (top_at tops.now) terms.now) }
 {
-    match terms.split_first() {
-        None => Some(0),
-        Some((term, others)) => {
-            let sum = terms_at(others, tops)?;
-            with_term(tops, term.0, term.1, sum)
-        }
+    let mut sum: i128 = 0;
+    for &(x, c) in terms {
+        let Some(next) = with_term(tops, x, c, sum) else {
+            return None;
+        };
+        sum = next;
     }
+    Some(sum)
 }
 
 /// Whether a left side is below 0 or, where it isn't strict, at most 0.

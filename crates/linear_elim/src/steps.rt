@@ -1,14 +1,15 @@
 //! One step of elimination.
-ghost use Rattle.std.specs.Prelude.{◌≡◌, ◌&&◌, [], true, IfOk, IfSome, is_some};
+ghost use Rattle.std.specs.Prelude.{◌≡◌, [], true, IfOk};
 ghost use Rattle.std.specs.List.{All};
 ghost use Rattle.linear_form.specs.Terms.{coefficient};
 ghost use Rattle.linear_elim.specs.Joins.{is_below_zero, is_above_zero};
+ghost use Rattle.linear_elim.specs.internal.Afters.{IsAfter};
 ghost use Rattle.linear_elim.specs.internal.DerivedRows.{IsDerived};
-ghost use Rattle.linear_elim.specs.Steps.{lowers, uppers, kept, fits_each, pairs_fit, joins, pairs, eliminate_one, step_fits, contradiction, tidied};
+ghost use Rattle.linear_elim.specs.Steps.{lowers, uppers, kept, fits_each, pairs_fit, joins, pairs};
 ghost use Rattle.linear_elim.specs.internal.Fingerprints.{ArePlaces};
-ghost use Rattle.linear_elim.specs.Elimination.{Step as StepValue, step_of};
 ghost use Rattle.linear_elim.specs.internal.Gathering.{found_all, rows_all};
 
+use crate::counting::{Counted, count_rows};
 use crate::gathering::Gathering;
 use crate::joins::{Derived, joined};
 use linear_form::coefficient_of;
@@ -24,6 +25,8 @@ pub struct Step {
 }
 
 impl Model for Step {
+    ghost use Rattle.linear_elim.specs.Elimination.{Step as StepValue};
+
     ghost Value = { StepValue };
 
     ghost view = { λ s. record { var = s.var; lows = s.lows.items; ups = s.ups.items } };
@@ -125,26 +128,43 @@ fn split_by(alloc: Global, rows: Vec<Derived>, x: u32) -> Result<Split, AllocErr
     Ok(Split { lows, ups, rest })
 }
 
-/// One step: the rows that bound x, and the rows after it. None where a join doesn't fit.
-pub fn eliminate_one(
-    alloc: Global,
-    rows: Vec<Derived>,
-    x: u32,
-) -> Result<Option<(Step, Gathering)>, AllocError>
+/// What a step gives: that a join doesn't fit; the rows that bound the variable, and the rows after it; or, where these are more
+/// than 4,096, the first contradiction and how many they are.
+pub enum After {
+    Great,
+    Few(Step, Gathering),
+    Many(Option<Derived>, usize),
+}
+
+/// Whether so many rows and so many others have more joins than are kept without being counted first.
+fn have_many(lows: usize, ups: usize) -> bool {
+    lows.saturating_mul(ups) > 32768
+}
+
+/// One step. Where there are many joins they are counted, and kept only if there are few different ones.
+pub fn eliminate_one(alloc: Global, rows: Vec<Derived>, x: u32) -> Result<After, AllocError>
     requires { All IsDerived rows.items }
-    ensures fits { IfOk result (λ o. is_some o ≡ step_fits x rows.items) }
-    ensures step { IfOk result (λ o. IfSome o (λ p. p.0 ≡ step_of x rows.items)) }
-    ensures found { IfOk result (λ o. IfSome o (λ p. p.1.found ≡ contradiction (eliminate_one x rows.items))) }
-    ensures rows { IfOk result (λ o. IfSome o (λ p. p.1.rows.items ≡ tidied (eliminate_one x rows.items))) }
+    ensures { IfOk result (λ o. IsAfter x rows.items o) }
 {
     let Split {
         lows,
         ups,
         mut rest,
     } = split_by(alloc, rows, x)?;
+    if rest.found.is_none() && have_many(lows.len(), ups.len()) {
+        match count_rows(alloc, x, &lows, &ups, &rest.rows)? {
+            Counted::Great => return Ok(After::Great),
+            Counted::Rows(found, count) => {
+                if count > 4096 {
+                    return Ok(After::Many(found, count));
+                }
+            }
+            Counted::Uncounted => {}
+        }
+    }
     if join_all(alloc, x, &lows, &ups, &mut rest)? {
-        Ok(Some((Step { var: x, lows, ups }, rest)))
+        Ok(After::Few(Step { var: x, lows, ups }, rest))
     } else {
-        Ok(None)
+        Ok(After::Great)
     }
 }

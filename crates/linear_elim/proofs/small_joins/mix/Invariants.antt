@@ -1,0 +1,11 @@
+use Rattle.std.proofs.Common.{◌≡◌, ◌++◌, ◌+◌, ◌-◌, ◌≤◌, drop, length}
+use Rattle.std.specs.Prelude.{pos}
+use Rattle.linear_form.specs.Terms.{IsNormal}
+use Rattle.linear_form.specs.Merging.{mixed_terms}
+use Rattle.linear_elim.proofs.small_joins.mix.Given as goal
+
+abbrev pub invariant-loop-i : goal.invariant-loop-i
+invariant-loop-i l = record { left_within : l.i ≤ length l.a; right_within : l.j ≤ length l.b; left_rest : IsNormal (drop l.i l.a); right_rest : IsNormal (drop l.j l.b); so_far : l.out.items ++ mixed_terms (pos l.p) (drop l.i l.a) (pos l.q) (drop l.j l.b) ≡ mixed_terms (pos l.p) l.a (pos l.q) l.b }
+
+abbrev pub decreases-loop-i : goal.decreases-loop-i
+decreases-loop-i l = (length l.a + length l.b) - (l.i + l.j)

@@ -1,0 +1,23 @@
+-- Rows whose numbers are small: each number on the way to their join fits.
+use Rattle.linear_elim.specs.Joins.{Derived}
+use Rattle.linear_form.specs.Merging.{mixed_terms}
+use Rattle.linear_form.specs.Terms.{IsNormal, put_term}
+use Rattle.std.specs.List.{All}
+use Rattle.std.specs.Prelude.{◌≡◌, ℕ, ◌<◌, ◌≤◌, ◌+◌, ◌^◌, List, ℤ, pos, unsigned_abs, drop, length}
+
+-- Each number is below 2^20 in absolute value.
+pub record IsSmall (r : Derived) : Type 0 where
+  pub terms : All (λ t. unsigned_abs t.1 < 2 ^ 20) r.row.terms
+  pub rest : unsigned_abs r.row.rest < 2 ^ 20
+  pub shares : All (λ s. unsigned_abs s.1 < 2 ^ 20) r.shares
+  pub over : r.over < 2 ^ 20
+
+-- The term (v, c) of p times the first terms and q times the second comes first from the places i and j, and k and l are the
+-- places after it.
+pub record IsNextMixed (p : ℕ) (ts : List (ℕ × ℤ)) (i q : ℕ) (us : List (ℕ × ℤ)) (j v : ℕ) (c : ℤ) (k l : ℕ) : Type 0 where
+  pub split : mixed_terms (pos p) (drop i ts) (pos q) (drop j us) ≡ put_term v c (mixed_terms (pos p) (drop k ts) (pos q) (drop l us))
+  pub left_normal : IsNormal (drop k ts)
+  pub right_normal : IsNormal (drop l us)
+  pub left_within : k ≤ length ts
+  pub right_within : l ≤ length us
+  pub further : i + j < k + l
