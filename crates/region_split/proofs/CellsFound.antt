@@ -81,7 +81,7 @@ point_longer g cells ps point f = record {
 -- another cell at which the goal holds
 pub found_holds : (g : Goal) (cells : List (List Taken)) (ps : List Taken) (found : Found) → IsFound g cells found → HoldsAt g ps → IsFound g (cells ++ (ps ∷ [])) found
 found_holds g cells ps Nothing f h = All-push (HoldsAt g) cells ps f h
-found_holds g cells ps (Break b) f h = break_longer g cells ps b f (λ k. absurd (holds_not_false g ps h k))
+found_holds g cells ps (Break b) f h = break_longer g cells ps b.value f (λ k. absurd (holds_not_false g ps h k))
 found_holds g cells ps (Point p) f h = point_longer g cells ps p.items f
 
 -- another cell that breaks

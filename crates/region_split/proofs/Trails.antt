@@ -108,7 +108,7 @@ unstated_path g ps e = unstated_first (types_in g.types) (path_claims ps ++ []) 
 -- ---- Trails
 
 -- without its last answer
-pub stood_before : (g : Goal) (t before : Trail) (answer : T.Taken) (place : Place) (left count : ℕ) → Stands g t → t.path.items ≡ before.path.items ++ (answer ∷ []) → t.places.items ≡ before.places.items ++ (place ∷ []) → length (answer_claims (atom_of answer.atom) answer.held) ≡ count → left ≡ length t.rows.items - count → before.rows.items ≡ take left t.rows.items → AreOccurrences (length g.types) before.rows.items before.occurrences → Remembers before.search before.rows.items → StoodBefore g t before answer place
+pub stood_before : (g : Goal) (t before : Trail) (answer : T.Taken) (place : Place) (left count : ℕ) → Stands g t → t.path.items ≡ before.path.items ++ (answer ∷ []) → t.places.items ≡ before.places.items ++ (place ∷ []) → length (answer_claims (atom_of answer.atom) answer.held) ≡ count → left ≡ length t.rows.items - count → before.rows.items ≡ take left t.rows.items → AreOccurrences (length g.types) before.rows.items before.occurrences → Remembers before.search.value before.rows.items → StoodBefore g t before answer place
 stood_before g t before answer place left count h p q n l r o m =
     let ps = path_of before.path.items in
     let e : path_of t.path.items ≡ ps ++ (taken_of answer ∷ []) = ap path_of p ∙ map-append taken_of before.path.items (answer ∷ []) in
@@ -139,12 +139,12 @@ comes_by g t next answer place h o p q r n s =
         places = subst (λ qs. ArePlaces g qs next.places.items) (sym e) (subst (ArePlaces g (ps ++ (taken_of answer ∷ []))) (sym q) (ArePlaces.answer ps (taken_of answer) t.places.items place h.places o));
         rows = AreRowsSoFar.answer (path_of next.path.items) next.rows.items (record { before = ps; last = taken_of answer; split = e; are_rows = subst (λ v. ArePathRows g ps v.items) (sym r) h.rows });
         occurrences = subst (λ x. AreOccurrences (length g.types) next.rows.items x) (sym n) (subst (λ v. AreOccurrences (length g.types) v.items t.occurrences) (sym r) h.occurrences);
-        remembers = subst (λ x. Remembers x next.rows.items) (sym s) (subst (λ v. Remembers t.search v.items) (sym r) h.remembers);
+        remembers = subst (λ x. Remembers x.value next.rows.items) (sym s) (subst (λ v. Remembers t.search.value v.items) (sym r) h.remembers);
       };
     }
 
 -- before the first question
-pub comes_first : (g : Goal) (t : Trail) (p : Place) → IsOn g [] p → t.path.items ≡ [] → t.places.items ≡ p ∷ [] → t.rows.items ≡ [] → AreOccurrences (length g.types) [] t.occurrences → ((rows : List Row) → Remembers t.search rows) → Comes g t
+pub comes_first : (g : Goal) (t : Trail) (p : Place) → IsOn g [] p → t.path.items ≡ [] → t.places.items ≡ p ∷ [] → t.rows.items ≡ [] → AreOccurrences (length g.types) [] t.occurrences → ((rows : List Row) → Remembers t.search.value rows) → Comes g t
 comes_first g t p o e q r n m =
     let a = ap path_of e in
     record {
@@ -160,27 +160,27 @@ stands_with g t next h k p q o s = record {
   places = subst (λ v. ArePlaces g (path_of v.items) next.places.items) (sym p) (subst (λ v. ArePlaces g (path_of t.path.items) v.items) (sym q) h.places);
   rows = subst (λ v. ArePathRows g (path_of v.items) next.rows.items) (sym p) k;
   occurrences = o;
-  remembers = subst (λ x. Remembers x next.rows.items) (sym s) (remembers_last g (path_of t.path.items) t.search t.rows.items next.rows.items h.rows k h.remembers);
+  remembers = subst (λ x. Remembers x.value next.rows.items) (sym s) (remembers_last g (path_of t.path.items) t.search.value t.rows.items next.rows.items h.rows k h.remembers);
 }
 
 -- behind a look, once the rows that hold only there are gone
-pub stands_again : (g : Goal) (t next : Trail) (list : List Row) → Stands g t → take (length t.rows.items) list ≡ t.rows.items → next.path ≡ t.path → next.places ≡ t.places → next.rows.items ≡ take (length t.rows.items) list → next.occurrences ≡ t.occurrences → Remembers next.search (take (length t.rows.items) list) → StandsAt g (path_of t.path.items) next
+pub stands_again : (g : Goal) (t next : Trail) (list : List Row) → Stands g t → take (length t.rows.items) list ≡ t.rows.items → next.path ≡ t.path → next.places ≡ t.places → next.rows.items ≡ take (length t.rows.items) list → next.occurrences ≡ t.occurrences → Remembers next.search.value (take (length t.rows.items) list) → StandsAt g (path_of t.path.items) next
 stands_again g t next list h f p q r o m = record {
   path = ap (λ v. path_of v.items) p;
   stands = record {
     places = subst (λ v. ArePlaces g (path_of v.items) next.places.items) (sym p) (subst (λ v. ArePlaces g (path_of t.path.items) v.items) (sym q) h.places);
     rows = subst (λ v. ArePathRows g (path_of v.items) next.rows.items) (sym p) (subst (ArePathRows g (path_of t.path.items)) (sym (r ∙ f)) h.rows);
     occurrences = subst (λ x. AreOccurrences (length g.types) next.rows.items x) (sym o) (subst (λ rows. AreOccurrences (length g.types) rows t.occurrences) (sym (r ∙ f)) h.occurrences);
-    remembers = subst (Remembers next.search) (sym r) m;
+    remembers = subst (Remembers next.search.value) (sym r) m;
   };
 }
 
-pub looked : (g : Goal) (t next : Trail) (list held : List Row) (kept : ℕ) → Stands g t → kept ≡ length t.rows.items → take (length t.rows.items) list ≡ t.rows.items → held ≡ list → next.path ≡ t.path → next.places ≡ t.places → next.rows.items ≡ take kept list → next.occurrences ≡ t.occurrences → Remembers next.search (take kept held) → StandsAt g (path_of t.path.items) next
-looked g t next list held kept h e f d p q r o m = stands_again g t next list h f p q (r ∙ ap (λ k. take k list) e) o (subst (λ k. Remembers next.search (take k list)) e (subst (λ xs. Remembers next.search (take kept xs)) d m))
+pub looked : (g : Goal) (t next : Trail) (list held : List Row) (kept : ℕ) → Stands g t → kept ≡ length t.rows.items → take (length t.rows.items) list ≡ t.rows.items → held ≡ list → next.path ≡ t.path → next.places ≡ t.places → next.rows.items ≡ take kept list → next.occurrences ≡ t.occurrences → Remembers next.search.value (take kept held) → StandsAt g (path_of t.path.items) next
+looked g t next list held kept h e f d p q r o m = stands_again g t next list h f p q (r ∙ ap (λ k. take k list) e) o (subst (λ k. Remembers next.search.value (take k list)) e (subst (λ xs. Remembers next.search.value (take kept xs)) d m))
 
 -- the same where no search looked
 pub again : (g : Goal) (t next : Trail) (list : List Row) (kept : ℕ) → Stands g t → kept ≡ length t.rows.items → take (length t.rows.items) list ≡ t.rows.items → next.path ≡ t.path → next.places ≡ t.places → next.rows.items ≡ take kept list → next.occurrences ≡ t.occurrences → next.search ≡ t.search → StandsAt g (path_of t.path.items) next
-again g t next list kept h e f p q r o s = looked g t next list list kept h e f refl p q r o (subst (λ x. Remembers x (take kept list)) (sym s) (subst (Remembers t.search) (sym (ap (λ k. take k list) e ∙ f)) h.remembers))
+again g t next list kept h e f p q r o s = looked g t next list list kept h e f refl p q r o (subst (λ x. Remembers x.value (take kept list)) (sym s) (subst (Remembers t.search.value) (sym (ap (λ k. take k list) e ∙ f)) h.remembers))
 
 pub two_parts : (list a b : List Row) (kept : ℕ) → a ≡ take kept list → b ≡ drop kept list → list ≡ a ++ b
 two_parts list a b kept e f = sym (take-append-drop kept list) ∙ ap (λ xs. xs ++ drop kept list) (sym e) ∙ ap (λ ys. a ++ ys) (sym f)

@@ -86,7 +86,7 @@ fn judge_open(
     match solve(alloc, list, kept, &goal.vars, search)? {
         Solved::Refuted(multipliers) => Ok(Cell::Judged(found, leaf(Tree::Farkas(multipliers)))),
         Solved::Point(point) => Ok(Cell::Judged(with_point(alloc, found, path, point)?, None)),
-        Solved::Break(broken) => Ok(Cell::Judged(with_break(found, broken), None)),
+        Solved::Break(broken) => Ok(Cell::Judged(with_break(alloc, found, broken)?, None)),
         Solved::Unknown(cause) => Ok(Cell::Unknown(cause)),
     }
 }

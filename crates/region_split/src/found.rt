@@ -21,7 +21,7 @@ pub enum Found {
     /// The goal holds in each cell.
     Nothing,
     /// The first false cell breaks so, and so does each other false cell.
-    Break(Broken),
+    Break(Box<Broken>),
     /// The point of the first false cell that doesn't break.
     Point(Vec<Val>),
 }
@@ -43,13 +43,13 @@ pub fn with_point(
     }
 }
 
-/// What is shown once another cell is false and breaks so.
-pub fn with_break(found: Found, broken: Broken) -> Found
-    ensures { (g : PlainGoal) (cells : List (List PlainTaken)) (ps : List PlainTaken) → IsFound g cells found → IsFalseCell g ps → IsBreakOf g ps broken → IsFound g (cells ++ (ps ∷ [])) result }
+/// What is shown once another cell is false and breaks so. Want of memory is the one error.
+pub fn with_break(alloc: Global, found: Found, broken: Broken) -> Result<Found, AllocError>
+    ensures { (g : PlainGoal) (cells : List (List PlainTaken)) (ps : List PlainTaken) → IsFound g cells found → IsFalseCell g ps → IsBreakOf g ps broken → IfOk result (λ f. IsFound g (cells ++ (ps ∷ [])) f) }
 {
     match found {
-        Found::Nothing => Found::Break(broken),
-        Found::Break(first) => Found::Break(first),
-        Found::Point(first) => Found::Point(first),
+        Found::Nothing => Ok(Found::Break(Box::new(alloc, broken)?)),
+        Found::Break(first) => Ok(Found::Break(first)),
+        Found::Point(first) => Ok(Found::Point(first)),
     }
 }

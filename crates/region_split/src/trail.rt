@@ -24,7 +24,7 @@ pub struct Trail<'a> {
     /// Where the variables occur first in these rows.
     pub occurrences: Occurrences,
     /// What was found of the rows.
-    pub search: Search,
+    pub search: Box<Search>,
 }
 
 /// What is left of a trail once its last answer is taken off.
@@ -47,7 +47,7 @@ pub fn start<'a>(alloc: Global, goal: &'a Goal) -> Result<Trail<'a>, AllocError>
         places,
         rows: Vec::new(alloc),
         occurrences: Occurrences::new(alloc, goal.vars.len())?,
-        search: Search::new(alloc),
+        search: Box::new(alloc, Search::new(alloc))?,
     })
 }
 

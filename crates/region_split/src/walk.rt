@@ -245,7 +245,7 @@ fn decided(found: Found, tree: Option<Grown>) -> Decision
 {
     match found {
         Found::Nothing => Decision::Proved(whole(tree)),
-        Found::Break(broken) => Decision::Unknown(Cause::Fraction(broken)),
+        Found::Break(broken) => Decision::Unknown(Cause::Fraction(Box::into_inner(broken))),
         Found::Point(point) => Decision::Falsified(point),
     }
 }

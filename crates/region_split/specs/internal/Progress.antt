@@ -61,7 +61,7 @@ HoldsAt g ps = IsPlainAt g ps ⊎ IsRefutedCell g ps
 
 abbrev pub IsFound : Goal → List (List Taken) → Found → Type 0
 IsFound g cells Nothing = All (HoldsAt g) cells
-IsFound g cells (Break b) = IsFirstBreak g cells b
+IsFound g cells (Break b) = IsFirstBreak g cells b.value
 IsFound g cells (Point point) = IsFirstPoint g cells point.items
 
 -- ---- Where the walk stands

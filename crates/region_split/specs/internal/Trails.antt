@@ -30,14 +30,14 @@ pub record Comes (g : Goal) (t : Trail) : Type 0 where
   pub places : ArePlaces g (path_of t.path.items) t.places.items
   pub rows : AreRowsSoFar g (path_of t.path.items) t.rows.items
   pub occurrences : AreOccurrences (length g.types) t.rows.items t.occurrences
-  pub remembers : Remembers t.search t.rows.items
+  pub remembers : Remembers t.search.value t.rows.items
 
 -- The trail stands at a front: each comparison of its path has its row.
 pub record Stands (g : Goal) (t : Trail) : Type 0 where
   pub places : ArePlaces g (path_of t.path.items) t.places.items
   pub rows : ArePathRows g (path_of t.path.items) t.rows.items
   pub occurrences : AreOccurrences (length g.types) t.rows.items t.occurrences
-  pub remembers : Remembers t.search t.rows.items
+  pub remembers : Remembers t.search.value t.rows.items
 
 -- The trail stands at this path.
 pub record StandsAt (g : Goal) (ps : List Taken) (t : Trail) : Type 0 where

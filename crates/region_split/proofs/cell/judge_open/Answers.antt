@@ -25,10 +25,10 @@ returns-in_ok-with_point-in-Point-clause-judged c =
     let h = c.in_ok-multipliers.ensures.solved (goal_of c.args.goal.now) (path_of c.args.path.now) true c.requires.rows.are_rows (sym c.deref.ensures.value) in
     point_cell (goal_of c.args.goal.now) (path_of c.args.path.now) c.args.found _ false c.in-Point.point.items c.requires.front c.requires.at_end refl (rw c.in-Point.is at h) (λ cells j i p. c.in_ok-with_point-in-Point.ensures (goal_of c.args.goal.now) cells j i p)
 
-pub returns-in-Break-clause-judged : goal.returns-in-Break-clause-judged
-returns-in-Break-clause-judged c =
+pub returns-in_ok-with_break-in-Break-clause-judged : goal.returns-in_ok-with_break-in-Break-clause-judged
+returns-in_ok-with_break-in-Break-clause-judged c =
     let h = c.in_ok-multipliers.ensures.solved (goal_of c.args.goal.now) (path_of c.args.path.now) true c.requires.rows.are_rows (sym c.deref.ensures.value) in
-    break_cell (goal_of c.args.goal.now) (path_of c.args.path.now) c.args.found _ false c.in-Break.broken c.requires.typed c.requires.front c.requires.at_end refl (rw c.in-Break.is at h) (λ cells ps j i p. c.with_break.ensures (goal_of c.args.goal.now) cells ps j i p)
+    break_cell (goal_of c.args.goal.now) (path_of c.args.path.now) c.args.found _ false c.in-Break.broken c.requires.typed c.requires.front c.requires.at_end refl (rw c.in-Break.is at h) (λ cells ps j i p. c.in_ok-with_break-in-Break.ensures (goal_of c.args.goal.now) cells ps j i p)
 
 pub returns-in-Unknown-clause-judged : goal.returns-in-Unknown-clause-judged
 returns-in-Unknown-clause-judged c =

@@ -37,7 +37,7 @@ settle-requires-clause-few c =
     omega (arith, a, b, d, s)
 
 pub settle-requires-clause-remembered : goal.settle-requires-clause-remembered
-settle-requires-clause-remembered c = subst (Remembers c.args.trail.search) (sym c.deref-2.ensures.value) (remembers_list c.args.trail.search c.args.trail.rows.items c.in-Rows.list.items c.requires.stands.remembers (rw c.in-Rows.is at c.in_ok-list.ensures.first))
+settle-requires-clause-remembered c = subst (λ s. Remembers s c.deref-2.result.now) (sym c.deref_mut.ensures.value) (subst (Remembers c.args.trail.search.value) (sym c.deref-2.ensures.value) (remembers_list c.args.trail.search.value c.args.trail.rows.items c.in-Rows.list.items c.requires.stands.remembers (rw c.in-Rows.is at c.in_ok-list.ensures.first)))
 
 pub split_off-requires : goal.split_off-requires
 split_off-requires c =

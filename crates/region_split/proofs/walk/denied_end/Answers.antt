@@ -54,7 +54,7 @@ judge-requires-clause-rows c =
     }))
 
 pub judge-requires-clause-remembered : goal.judge-requires-clause-remembered
-judge-requires-clause-remembered c = subst (Remembers c.args.walk.trail.search) (sym c.deref-3.ensures.value) (remembers_list c.args.walk.trail.search c.args.walk.trail.rows.items c.in-Rows.list.items c.requires.stands.stands.remembers (rw c.in-Rows.is at c.in_ok-list.ensures.first))
+judge-requires-clause-remembered c = subst (λ s. Remembers s c.deref-3.result.now) (sym c.deref_mut.ensures.value) (subst (Remembers c.args.walk.trail.search.value) (sym c.deref-3.ensures.value) (remembers_list c.args.walk.trail.search.value c.args.walk.trail.rows.items c.in-Rows.list.items c.requires.stands.stands.remembers (rw c.in-Rows.is at c.in_ok-list.ensures.first)))
 
 pub returns-in-Judged : goal.returns-in-Judged
 returns-in-Judged c =
