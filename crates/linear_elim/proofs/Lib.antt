@@ -37,4 +37,5 @@ pub mod KnownRows
 pub mod CountedTerms
 pub mod Mixed
 pub mod SmallJoins
+pub mod JoinNumbers
 pub mod exported

@@ -39,12 +39,12 @@ product_nonzero (suc a) (pos zero) h n e = n refl
 product_nonzero (suc a) (pos (suc b)) h n e = let m : 0 < suc a * suc b = mul-pos (omega arith) (omega arith) in omega (arith, ints, m, e)
 product_nonzero (suc a) (negsuc b) h n e = omega (arith, ints, e)
 
-put_nonzero : (v : ℕ) (c : ℤ) (ts : List (ℕ × ℤ)) → (c ≡ pos 0 → ⊥) → put_term v c ts ≡ (v, c) ∷ ts
+pub put_nonzero : (v : ℕ) (c : ℤ) (ts : List (ℕ × ℤ)) → (c ≡ pos 0 → ⊥) → put_term v c ts ≡ (v, c) ∷ ts
 put_nonzero v (pos zero) ts n = absurd (n refl)
 put_nonzero v (pos (suc a)) ts n = refl
 put_nonzero v (negsuc a) ts n = refl
 
-put_append : (v : ℕ) (c : ℤ) (ms : List (ℕ × ℤ)) → put_term v c [] ++ ms ≡ put_term v c ms
+pub put_append : (v : ℕ) (c : ℤ) (ms : List (ℕ × ℤ)) → put_term v c [] ++ ms ≡ put_term v c ms
 put_append v (pos zero) ms = refl
 put_append v (pos (suc n)) ms = refl
 put_append v (negsuc n) ms = refl
@@ -85,7 +85,7 @@ from ts i d l = drop-cons ts i d l ∙ ap (λ n. get_or ts i d ∷ drop n ts) (n
     next : (i : ℕ) → suc i ≡ i + 1
     next i = omega arith
 
-drop_end : (ts : List (ℕ × ℤ)) (i : ℕ) → length ts ≤ i → drop i ts ≡ []
+pub drop_end : (ts : List (ℕ × ℤ)) (i : ℕ) → length ts ≤ i → drop i ts ≡ []
 drop_end ts i h = drop_all i ts h
 
 all_above : (v : ℕ) (ts : List (ℕ × ℤ)) (i : ℕ) (d : ℕ × ℤ) → i < length ts → IsNormal (drop i ts) → v < (get_or ts i d).0 → All (λ t. v < t.0) (drop i ts)
@@ -133,7 +133,7 @@ both_level p ts i q us j d c o l m k n h e = record { split = go (get_or ts i d)
 pub step_so_far : (old now m k f : List (ℕ × ℤ)) (v : ℕ) (c : ℤ) → now ≡ old ++ put_term v c [] → m ≡ put_term v c k → old ++ m ≡ f → now ++ k ≡ f
 step_so_far old now m k f v c e h g = ap (λ xs. xs ++ k) e ∙ append_assoc old (put_term v c []) k ∙ ap (λ xs. old ++ xs) (put_append v c k ∙ sym h) ∙ g
 
-mixed-none : (p q : ℤ) → mixed_terms p [] q [] ≡ []
+pub mixed-none : (p q : ℤ) → mixed_terms p [] q [] ≡ []
 unfolding add_terms
 mixed-none p q = refl
 

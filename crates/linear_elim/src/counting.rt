@@ -1,18 +1,20 @@
 //! The joins of a step, counted. Of many rows only the first contradiction is kept, and how many others there are.
 ghost use Rattle.std.specs.Prelude.{◌≡◌, ◌<◌, ◌∷◌, ◌++◌, [], ℕ, List, ℤ, true, Some, IfOk, IfSome, SomeIff, length};
 ghost use Rattle.std.specs.List.{All};
-ghost use Rattle.linear_form.specs.Terms.{coefficient};
-ghost use Rattle.linear_elim.specs.Joins.{Derived as DerivedValue, is_below_zero, is_above_zero, join, join_fits};
-ghost use Rattle.linear_elim.specs.Steps.{has_terms, fits_each, pairs_fit, joins, pairs};
-ghost use Rattle.linear_elim.specs.internal.Counting.{nth, terms_at, puts, all_terms, AreDifferent, IsTable, IsCounting, IsCounted};
-ghost use Rattle.linear_elim.specs.internal.DerivedRows.{IsDerived};
+ghost use Rattle.linear_elim.specs.Joins.{join_fits};
+ghost use Rattle.linear_elim.specs.Steps.{fits_each, pairs_fit, joins, pairs};
+ghost use Rattle.linear_elim.specs.internal.Counting.{nth, terms_at, puts, all_terms, join_at, AreDifferent, IsSplit, IsNumberOf, AreNumbersOf, IsTable, IsCounted, Puts, Counts};
+ghost use Rattle.linear_elim.specs.internal.Fingerprints.{fingerprint};
 ghost use Rattle.linear_elim.specs.internal.Gathering.{found_after, found_all};
 ghost use Rattle.linear_elim.specs.internal.SmallRows.{IsSmall};
 
+use crate::fingerprints::fingerprint;
 use crate::gathering::{contradicts, has_no_terms};
+use crate::join_numbers::join_number;
 use crate::joins::{Derived, joined};
-use crate::small_joins::{both_small, join_terms};
-use crate::tables::{Table, put};
+use crate::small_joins::both_small;
+use crate::steps::Step;
+use crate::tables::{Name, Table, put};
 use std::alloc::{AllocError, Global};
 
 /// What is known of the joins of a step once they are counted: that one doesn't fit; or the first contradiction, and how many
@@ -30,67 +32,92 @@ struct Counting {
     table: Table,
 }
 
-/// A number that names a row in a table, or None where it is too great for one.
-fn index_of(i: usize) -> Option<u16>
-    ensures { SomeIff result (i < 65535) i }
+/// A name with these two numbers, or None where one is too great.
+fn name_of(i: usize, j: usize) -> Option<Name>
+    ensures low { IfSome result (λ n. n.low ≡ i) }
+    ensures up { IfSome result (λ n. n.up ≡ j) }
 {
-    if i < 65535 { Some(i as u16) } else { None }
+    if i >= 65536 {
+        return None;
+    }
+    if j >= 65536 {
+        return None;
+    }
+    Some(Name {
+        low: i as u16,
+        up: j as u16,
+    })
 }
 
 /// Puts in the terms of the rows that are kept. False where that can't be done.
 fn count_kept(
     alloc: Global,
-    x: u32,
-    lows: &[Derived],
-    ups: &[Derived],
+    step: &Step,
     kept: &[Derived],
     table: &mut Table,
 ) -> Result<bool, AllocError>
-    requires lows_derived { All IsDerived lows.now }
-    requires ups_derived { All IsDerived ups.now }
-    requires lower { All (λ l. is_below_zero (coefficient x l.row.terms) ≡ true) lows.now }
-    requires upper { All (λ u. is_above_zero (coefficient x u.row.terms) ≡ true) ups.now }
-    requires empty { IsTable (terms_at x lows.now ups.now kept.now) table.old.step table.old.slots.items table.old.count [] }
-    ensures { IfOk result (λ b. b ≡ true → IsTable (terms_at x lows.now ups.now kept.now) table.new.step table.new.slots.items table.new.count (puts (all_terms kept.now) [])) }
+    requires split { IsSplit step.now }
+    requires empty { IsTable (terms_at step.now kept.now) table.old [] }
+    ensures { IfOk result (λ b. b ≡ true → IsTable (terms_at step.now kept.now) table.new (puts (all_terms kept.now) [])) }
 {
-    let Some(low) = index_of(lows.len()) else {
-        return Ok(false);
-    };
+    let lows: &[Derived] = &step.lows;
     for k in 0..kept.len() {
-        let Some(up) = index_of(k) else {
+        let Some(name) = name_of(lows.len(), k) else {
             return Ok(false);
         };
         let derived = &kept[k];
         let row = &derived.row;
-        if !put(alloc, x, lows, ups, kept, table, low, up, &row.terms)? {
+        let terms: &[(u32, i64)] = &row.terms;
+        let number = fingerprint(terms);
+        if !put(alloc, step, kept, table, name, number, Some(terms))? {
             return Ok(false);
         }
     }
     Ok(true)
 }
 
+/// Puts in the terms of a join, which have this fingerprint and may be given. False where that can't be done.
+fn put_join(
+    alloc: Global,
+    step: &Step,
+    kept: &[Derived],
+    i: usize,
+    j: usize,
+    number: u64,
+    terms: Option<&[(u32, i64)]>,
+    table: &mut Table,
+) -> Result<bool, AllocError>
+    requires split { IsSplit step.now }
+    requires low_within { i < length step.now.lows }
+    requires number { number ≡ fingerprint (join_at step.now i j).row.terms }
+    requires terms { IfSome terms (λ ts. ts.now ≡ (join_at step.now i j).row.terms) }
+    ensures { IfOk result (λ b. b ≡ true → Puts (terms_at step.now kept.now) table.old table.new (join_at step.now i j).row.terms) }
+{
+    let Some(name) = name_of(i, j) else {
+        return Ok(false);
+    };
+    put(alloc, step, kept, table, name, number, terms)
+}
+
 /// Counts the join of a lower row and an upper one. Whether it fits, or None where that isn't known.
 fn count_join(
     alloc: Global,
-    x: u32,
-    lows: &[Derived],
-    ups: &[Derived],
+    step: &Step,
     kept: &[Derived],
     i: usize,
     j: usize,
     out: &mut Counting,
 ) -> Result<Option<bool>, AllocError>
-    requires lows_derived { All IsDerived lows.now }
-    requires ups_derived { All IsDerived ups.now }
-    requires lower { All (λ l. is_below_zero (coefficient x l.row.terms) ≡ true) lows.now }
-    requires upper { All (λ u. is_above_zero (coefficient x u.row.terms) ≡ true) ups.now }
-    requires low_within { i < length lows.now }
-    requires up_within { j < length ups.now }
-    ensures fits { IfOk result (λ o. IfSome o (λ b. b ≡ join_fits x (nth lows.now i) (nth ups.now j))) }
-    ensures found { IfOk result (λ o. o ≡ Some true → out.new.found ≡ found_after (join x (nth lows.now i) (nth ups.now j)) out.old.found) }
-    ensures table { IfOk result (λ o. o ≡ Some true → (ds : List DerivedValue) (all : List (List (ℕ × ℤ))) → IsCounting (terms_at x lows.now ups.now kept.now) out.old.table.step out.old.table.slots.items out.old.table.count (join x (nth lows.now i) (nth ups.now j) ∷ ds) all → IsCounting (terms_at x lows.now ups.now kept.now) out.new.table.step out.new.table.slots.items out.new.table.count ds all) }
+    requires split { IsSplit step.now }
+    requires low_within { i < length step.now.lows }
+    requires up_within { j < length step.now.ups }
+    ensures fits { IfOk result (λ o. IfSome o (λ b. b ≡ join_fits step.now.var (nth step.now.lows i) (nth step.now.ups j))) }
+    ensures found { IfOk result (λ o. o ≡ Some true → out.new.found ≡ found_after (join_at step.now i j) out.old.found) }
+    ensures table { IfOk result (λ o. o ≡ Some true → Counts (terms_at step.now kept.now) out.old.table out.new.table (join_at step.now i j ∷ [])) }
 {
-    let Some(derived) = joined(alloc, &lows[i], &ups[j], x)? else {
+    let lows: &[Derived] = &step.lows;
+    let ups: &[Derived] = &step.ups;
+    let Some(derived) = joined(alloc, &lows[i], &ups[j], step.var)? else {
         return Ok(Some(false));
     };
     if has_no_terms(&derived) {
@@ -99,155 +126,101 @@ fn count_join(
         }
         return Ok(Some(true));
     }
-    let Some(low) = index_of(i) else {
-        return Ok(None);
-    };
-    let Some(up) = index_of(j) else {
-        return Ok(None);
-    };
     let row = &derived.row;
-    if put(
-        alloc,
-        x,
-        lows,
-        ups,
-        kept,
-        &mut out.table,
-        low,
-        up,
-        &row.terms,
-    )? {
+    let terms: &[(u32, i64)] = &row.terms;
+    let number = fingerprint(terms);
+    if put_join(alloc, step, kept, i, j, number, Some(terms), &mut out.table)? {
         Ok(Some(true))
     } else {
         Ok(None)
     }
 }
 
-/// Counts the join of a lower row and an upper one, which fits and has these terms. None where that can't be done.
-fn count_terms(
-    alloc: Global,
-    x: u32,
-    lows: &[Derived],
-    ups: &[Derived],
-    kept: &[Derived],
-    i: usize,
-    j: usize,
-    terms: &[(u32, i64)],
-    out: &mut Counting,
-) -> Result<Option<bool>, AllocError>
-    requires lows_derived { All IsDerived lows.now }
-    requires ups_derived { All IsDerived ups.now }
-    requires lower { All (λ l. is_below_zero (coefficient x l.row.terms) ≡ true) lows.now }
-    requires upper { All (λ u. is_above_zero (coefficient x u.row.terms) ≡ true) ups.now }
-    requires low_within { i < length lows.now }
-    requires up_within { j < length ups.now }
-    requires terms { terms.now ≡ (join x (nth lows.now i) (nth ups.now j)).row.terms }
-    requires some { has_terms (join x (nth lows.now i) (nth ups.now j)).row.terms ≡ true }
-    requires fits { join_fits x (nth lows.now i) (nth ups.now j) ≡ true }
-    ensures fits { IfOk result (λ o. IfSome o (λ b. b ≡ join_fits x (nth lows.now i) (nth ups.now j))) }
-    ensures found { IfOk result (λ o. o ≡ Some true → out.new.found ≡ found_after (join x (nth lows.now i) (nth ups.now j)) out.old.found) }
-    ensures table { IfOk result (λ o. o ≡ Some true → (ds : List DerivedValue) (all : List (List (ℕ × ℤ))) → IsCounting (terms_at x lows.now ups.now kept.now) out.old.table.step out.old.table.slots.items out.old.table.count (join x (nth lows.now i) (nth ups.now j) ∷ ds) all → IsCounting (terms_at x lows.now ups.now kept.now) out.new.table.step out.new.table.slots.items out.new.table.count ds all) }
-{
-    let Some(low) = index_of(i) else {
-        return Ok(None);
-    };
-    let Some(up) = index_of(j) else {
-        return Ok(None);
-    };
-    if put(alloc, x, lows, ups, kept, &mut out.table, low, up, terms)? {
-        Ok(Some(true))
-    } else {
-        Ok(None)
-    }
-}
-
-/// Writes the terms of a join. False where not all numbers are small, where there are no terms, or where it isn't known that
-/// the join fits.
-fn small_terms(
-    x: u32,
-    lows: &[Derived],
-    ups: &[Derived],
-    i: usize,
-    j: usize,
-    small: bool,
-    terms: &mut Vec<(u32, i64)>,
-) -> Result<bool, AllocError>
-    requires lows_derived { All IsDerived lows.now }
-    requires ups_derived { All IsDerived ups.now }
-    requires lower { All (λ l. is_below_zero (coefficient x l.row.terms) ≡ true) lows.now }
-    requires upper { All (λ u. is_above_zero (coefficient x u.row.terms) ≡ true) ups.now }
-    requires low_within { i < length lows.now }
-    requires up_within { j < length ups.now }
-    requires small { small ≡ true → (All IsSmall lows.now) × (All IsSmall ups.now) }
-    ensures terms { IfOk result (λ b. b ≡ true → terms.new.items ≡ (join x (nth lows.now i) (nth ups.now j)).row.terms) }
-    ensures some { IfOk result (λ b. b ≡ true → has_terms (join x (nth lows.now i) (nth ups.now j)).row.terms ≡ true) }
-    ensures fits { IfOk result (λ b. b ≡ true → join_fits x (nth lows.now i) (nth ups.now j) ≡ true) }
-{
-    if !small {
-        return Ok(false);
-    }
-    if !join_terms(x, &lows[i], &ups[j], terms)? {
-        return Ok(false);
-    }
-    Ok(!terms.is_empty())
-}
-
-/// Counts the join of a lower row and an upper one, quickly where all numbers are small. Whether it fits, or None where that
-/// isn't known.
+/// Counts the join of a lower row and an upper one, which has this fingerprint where it isn't 0. Whether it fits, or None where
+/// that isn't known.
 fn count_pair(
     alloc: Global,
-    x: u32,
-    lows: &[Derived],
-    ups: &[Derived],
+    step: &Step,
     kept: &[Derived],
     i: usize,
     j: usize,
-    small: bool,
-    terms: &mut Vec<(u32, i64)>,
+    number: u64,
     out: &mut Counting,
 ) -> Result<Option<bool>, AllocError>
-    requires lows_derived { All IsDerived lows.now }
-    requires ups_derived { All IsDerived ups.now }
-    requires lower { All (λ l. is_below_zero (coefficient x l.row.terms) ≡ true) lows.now }
-    requires upper { All (λ u. is_above_zero (coefficient x u.row.terms) ≡ true) ups.now }
-    requires low_within { i < length lows.now }
-    requires up_within { j < length ups.now }
-    requires small { small ≡ true → (All IsSmall lows.now) × (All IsSmall ups.now) }
-    ensures fits { IfOk result (λ o. IfSome o (λ b. b ≡ join_fits x (nth lows.now i) (nth ups.now j))) }
-    ensures found { IfOk result (λ o. o ≡ Some true → out.new.found ≡ found_after (join x (nth lows.now i) (nth ups.now j)) out.old.found) }
-    ensures table { IfOk result (λ o. o ≡ Some true → (ds : List DerivedValue) (all : List (List (ℕ × ℤ))) → IsCounting (terms_at x lows.now ups.now kept.now) out.old.table.step out.old.table.slots.items out.old.table.count (join x (nth lows.now i) (nth ups.now j) ∷ ds) all → IsCounting (terms_at x lows.now ups.now kept.now) out.new.table.step out.new.table.slots.items out.new.table.count ds all) }
+    requires split { IsSplit step.now }
+    requires low_within { i < length step.now.lows }
+    requires up_within { j < length step.now.ups }
+    requires number { IsNumberOf number step.now i j }
+    ensures fits { IfOk result (λ o. IfSome o (λ b. b ≡ join_fits step.now.var (nth step.now.lows i) (nth step.now.ups j))) }
+    ensures found { IfOk result (λ o. o ≡ Some true → out.new.found ≡ found_after (join_at step.now i j) out.old.found) }
+    ensures table { IfOk result (λ o. o ≡ Some true → Counts (terms_at step.now kept.now) out.old.table out.new.table (join_at step.now i j ∷ [])) }
 {
-    if small_terms(x, lows, ups, i, j, small, terms)? {
-        count_terms(alloc, x, lows, ups, kept, i, j, terms, out)
+    if number == 0 {
+        return count_join(alloc, step, kept, i, j, out);
+    }
+    if put_join(alloc, step, kept, i, j, number, None, &mut out.table)? {
+        Ok(Some(true))
     } else {
-        count_join(alloc, x, lows, ups, kept, i, j, out)
+        Ok(None)
     }
 }
 
-/// Counts the joins of a lower row with each upper one. Whether they fit, or None where that isn't known.
-fn count_low(
-    alloc: Global,
-    x: u32,
-    lows: &[Derived],
-    ups: &[Derived],
-    kept: &[Derived],
+/// The fingerprint of a join where all numbers are small, or 0 where it isn't known or where it isn't known that the join fits.
+fn number_at(step: &Step, i: usize, j: usize, small: bool) -> u64
+    requires split { IsSplit step.now }
+    requires low_within { i < length step.now.lows }
+    requires up_within { j < length step.now.ups }
+    requires small { small ≡ true → (All IsSmall step.now.lows) × (All IsSmall step.now.ups) }
+    ensures { IsNumberOf result step.now i j }
+{
+    if !small {
+        return 0;
+    }
+    let lows: &[Derived] = &step.lows;
+    let ups: &[Derived] = &step.ups;
+    join_number(step.var, &lows[i], &ups[j])
+}
+
+/// Writes the fingerprints of the joins of a lower row with each upper one, or 0 where one isn't known.
+fn write_numbers(
+    step: &Step,
     i: usize,
     small: bool,
+    numbers: &mut Vec<u64>,
+) -> Result<(), AllocError>
+    requires split { IsSplit step.now }
+    requires low_within { i < length step.now.lows }
+    requires small { small ≡ true → (All IsSmall step.now.lows) × (All IsSmall step.now.ups) }
+    ensures { IfOk result (λ _. AreNumbersOf numbers.new.items step.now i) }
+{
+    numbers.clear();
+    let ups: &[Derived] = &step.ups;
+    for j in 0..ups.len() {
+        let number = number_at(step, i, j, small);
+        numbers.push(number)?;
+    }
+    Ok(())
+}
+
+/// Counts the joins of a lower row with each upper one, which have these fingerprints. Whether they fit, or None where that isn't
+/// known.
+fn count_low(
+    alloc: Global,
+    step: &Step,
+    kept: &[Derived],
+    i: usize,
+    numbers: &[u64],
     out: &mut Counting,
 ) -> Result<Option<bool>, AllocError>
-    requires lows_derived { All IsDerived lows.now }
-    requires ups_derived { All IsDerived ups.now }
-    requires lower { All (λ l. is_below_zero (coefficient x l.row.terms) ≡ true) lows.now }
-    requires upper { All (λ u. is_above_zero (coefficient x u.row.terms) ≡ true) ups.now }
-    requires low_within { i < length lows.now }
-    requires small { small ≡ true → (All IsSmall lows.now) × (All IsSmall ups.now) }
-    ensures fits { IfOk result (λ o. IfSome o (λ b. b ≡ fits_each x (nth lows.now i) ups.now)) }
-    ensures found { IfOk result (λ o. o ≡ Some true → out.new.found ≡ found_all (joins x (nth lows.now i) ups.now) out.old.found) }
-    ensures table { IfOk result (λ o. o ≡ Some true → (ds : List DerivedValue) (all : List (List (ℕ × ℤ))) → IsCounting (terms_at x lows.now ups.now kept.now) out.old.table.step out.old.table.slots.items out.old.table.count (joins x (nth lows.now i) ups.now ++ ds) all → IsCounting (terms_at x lows.now ups.now kept.now) out.new.table.step out.new.table.slots.items out.new.table.count ds all) }
+    requires split { IsSplit step.now }
+    requires low_within { i < length step.now.lows }
+    requires numbers { AreNumbersOf numbers.now step.now i }
+    ensures fits { IfOk result (λ o. IfSome o (λ b. b ≡ fits_each step.now.var (nth step.now.lows i) step.now.ups)) }
+    ensures found { IfOk result (λ o. o ≡ Some true → out.new.found ≡ found_all (joins step.now.var (nth step.now.lows i) step.now.ups) out.old.found) }
+    ensures table { IfOk result (λ o. o ≡ Some true → Counts (terms_at step.now kept.now) out.old.table out.new.table (joins step.now.var (nth step.now.lows i) step.now.ups)) }
 {
-    let mut terms: Vec<(u32, i64)> = Vec::new(alloc);
-    for j in 0..ups.len() {
-        match count_pair(alloc, x, lows, ups, kept, i, j, small, &mut terms, out)? {
+    for j in 0..numbers.len() {
+        match count_pair(alloc, step, kept, i, j, numbers[j], out)? {
             Some(true) => {}
             Some(false) => return Ok(Some(false)),
             None => return Ok(None),
@@ -259,24 +232,22 @@ fn count_low(
 /// Counts the joins of each lower row with each upper one. Whether they fit, or None where that isn't known.
 fn count_all(
     alloc: Global,
-    x: u32,
-    lows: &[Derived],
-    ups: &[Derived],
+    step: &Step,
     kept: &[Derived],
     small: bool,
     out: &mut Counting,
 ) -> Result<Option<bool>, AllocError>
-    requires lows_derived { All IsDerived lows.now }
-    requires ups_derived { All IsDerived ups.now }
-    requires lower { All (λ l. is_below_zero (coefficient x l.row.terms) ≡ true) lows.now }
-    requires upper { All (λ u. is_above_zero (coefficient x u.row.terms) ≡ true) ups.now }
-    requires small { small ≡ true → (All IsSmall lows.now) × (All IsSmall ups.now) }
-    ensures fits { IfOk result (λ o. IfSome o (λ b. b ≡ pairs_fit x lows.now ups.now)) }
-    ensures found { IfOk result (λ o. o ≡ Some true → out.new.found ≡ found_all (pairs x lows.now ups.now) out.old.found) }
-    ensures table { IfOk result (λ o. o ≡ Some true → (all : List (List (ℕ × ℤ))) → IsCounting (terms_at x lows.now ups.now kept.now) out.old.table.step out.old.table.slots.items out.old.table.count (pairs x lows.now ups.now) all → IsCounting (terms_at x lows.now ups.now kept.now) out.new.table.step out.new.table.slots.items out.new.table.count [] all) }
+    requires split { IsSplit step.now }
+    requires small { small ≡ true → (All IsSmall step.now.lows) × (All IsSmall step.now.ups) }
+    ensures fits { IfOk result (λ o. IfSome o (λ b. b ≡ pairs_fit step.now.var step.now.lows step.now.ups)) }
+    ensures found { IfOk result (λ o. o ≡ Some true → out.new.found ≡ found_all (pairs step.now.var step.now.lows step.now.ups) out.old.found) }
+    ensures table { IfOk result (λ o. o ≡ Some true → Counts (terms_at step.now kept.now) out.old.table out.new.table (pairs step.now.var step.now.lows step.now.ups)) }
 {
+    let lows: &[Derived] = &step.lows;
+    let mut numbers: Vec<u64> = Vec::new(alloc);
     for i in 0..lows.len() {
-        match count_low(alloc, x, lows, ups, kept, i, small, out)? {
+        write_numbers(step, i, small, &mut numbers)?;
+        match count_low(alloc, step, kept, i, &numbers, out)? {
             Some(true) => {}
             Some(false) => return Ok(Some(false)),
             None => return Ok(None),
@@ -285,29 +256,26 @@ fn count_all(
     Ok(Some(true))
 }
 
-/// Counts the joins of each lower row with each upper one, together with the rows that are kept.
+/// Counts the joins of a step's lower rows with its upper ones, together with the rows that are kept.
 pub(crate) fn count_rows(
     alloc: Global,
-    x: u32,
-    lows: &[Derived],
-    ups: &[Derived],
+    step: &Step,
     kept: &[Derived],
 ) -> Result<Counted, AllocError>
-    requires lows_derived { All IsDerived lows.now }
-    requires ups_derived { All IsDerived ups.now }
-    requires lower { All (λ l. is_below_zero (coefficient x l.row.terms) ≡ true) lows.now }
-    requires upper { All (λ u. is_above_zero (coefficient x u.row.terms) ≡ true) ups.now }
+    requires split { IsSplit step.now }
     requires different { AreDifferent kept.now }
-    ensures { IfOk result (λ o. IsCounted x lows.now ups.now kept.now o) }
+    ensures { IfOk result (λ o. IsCounted step.now.var step.now.lows step.now.ups kept.now o) }
 {
-    let pairs = lows.len().saturating_mul(ups.len());
-    let mut table = Table::new(alloc, pairs.saturating_add(kept.len()))?;
-    if !count_kept(alloc, x, lows, ups, kept, &mut table)? {
+    let lows: &[Derived] = &step.lows;
+    let ups: &[Derived] = &step.ups;
+    let joins = lows.len().saturating_mul(ups.len());
+    let mut table = Table::new(alloc, joins.saturating_add(kept.len()))?;
+    if !count_kept(alloc, step, kept, &mut table)? {
         return Ok(Counted::Uncounted);
     }
     let small = both_small(lows, ups);
     let mut out = Counting { found: None, table };
-    match count_all(alloc, x, lows, ups, kept, small, &mut out)? {
+    match count_all(alloc, step, kept, small, &mut out)? {
         Some(true) => {
             let Counting { found, table } = out;
             Ok(Counted::Rows(found, table.count))

@@ -11,6 +11,7 @@ mod finding;
 mod fingerprints;
 mod fractions;
 mod gathering;
+mod join_numbers;
 mod joins;
 mod known;
 mod laws;

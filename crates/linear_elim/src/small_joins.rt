@@ -26,7 +26,7 @@ fn are_small(terms: &[(u32, i64)]) -> bool
 }
 
 /// Whether each number of a row is below 2^20 in absolute value.
-fn is_small(r: &Derived) -> bool
+pub(crate) fn is_small(r: &Derived) -> bool
     ensures { result ≡ true → IsSmall r.now }
 {
     let row = &r.row;
@@ -55,9 +55,12 @@ fn all_small(rows: &[Derived]) -> bool
 }
 
 /// The greatest number that divides both.
-fn greatest(a: u64, b: u64) -> u64
+pub(crate) fn greatest(a: u64, b: u64) -> u64
     ensures { result ≡ gcd a b }
 {
+    if a == 0 {
+        return b;
+    }
     let mut x = a;
     let mut y = b;
     while y > 1 {
@@ -94,7 +97,7 @@ fn product(p: u64, a: i64) -> i64
 }
 
 /// p times a and q times b.
-fn products(p: u64, a: i64, q: u64, b: i64) -> i64
+pub(crate) fn products(p: u64, a: i64, q: u64, b: i64) -> i64
     requires p_small { p < 2 ^ 20 }
     requires q_small { q < 2 ^ 20 }
     requires a_small { unsigned_abs a < 2 ^ 20 }
@@ -118,15 +121,22 @@ fn push_term(out: &mut Vec<(u32, i64)>, v: u32, c: i64) -> Result<(), AllocError
 
 /// The next term of a join, and the places after it.
 #[derive(Clone, Copy)]
-struct Next {
-    var: u32,
-    coef: i64,
-    left: usize,
-    right: usize,
+pub(crate) struct Next {
+    pub(crate) var: u32,
+    pub(crate) coef: i64,
+    pub(crate) left: usize,
+    pub(crate) right: usize,
 }
 
 /// The term of the lower variable at the two places, from the one list, the other or both.
-fn next_mixed(p: u64, a: &[(u32, i64)], i: usize, q: u64, b: &[(u32, i64)], j: usize) -> Next
+pub(crate) fn next_mixed(
+    p: u64,
+    a: &[(u32, i64)],
+    i: usize,
+    q: u64,
+    b: &[(u32, i64)],
+    j: usize,
+) -> Next
     requires p_small { p < 2 ^ 20 }
     requires q_small { q < 2 ^ 20 }
     requires q_positive { 0 < q }

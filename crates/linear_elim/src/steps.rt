@@ -151,8 +151,9 @@ pub fn eliminate_one(alloc: Global, rows: Vec<Derived>, x: u32) -> Result<After,
         ups,
         mut rest,
     } = split_by(alloc, rows, x)?;
-    if rest.found.is_none() && have_many(lows.len(), ups.len()) {
-        match count_rows(alloc, x, &lows, &ups, &rest.rows)? {
+    let step = Step { var: x, lows, ups };
+    if rest.found.is_none() && have_many(step.lows.len(), step.ups.len()) {
+        match count_rows(alloc, &step, &rest.rows)? {
             Counted::Great => return Ok(After::Great),
             Counted::Rows(found, count) => {
                 if count > 4096 {
@@ -162,8 +163,8 @@ pub fn eliminate_one(alloc: Global, rows: Vec<Derived>, x: u32) -> Result<After,
             Counted::Uncounted => {}
         }
     }
-    if join_all(alloc, x, &lows, &ups, &mut rest)? {
-        Ok(After::Few(Step { var: x, lows, ups }, rest))
+    if join_all(alloc, x, &step.lows, &step.ups, &mut rest)? {
+        Ok(After::Few(step, rest))
     } else {
         Ok(After::Great)
     }

@@ -1,140 +1,172 @@
 //! A table of different lists of terms. It keeps which rows they come from, and not the terms themselves.
 ghost use Rattle.std.specs.Prelude.{◌≡◌, ◌<◌, ◌+◌, [], ℕ, List, ℤ, set, true, IfOk, IfSome, length};
-ghost use Rattle.std.specs.List.{All};
-ghost use Rattle.linear_form.specs.Terms.{coefficient};
-ghost use Rattle.linear_elim.specs.Joins.{is_below_zero, is_above_zero};
+ghost use Rattle.linear_elim.specs.Joins.{is_below_zero, is_above_zero, join};
 ghost use Rattle.linear_elim.specs.Steps.{same_terms};
-ghost use Rattle.linear_elim.specs.internal.Counting.{terms_at, home, short, empty_slot, put_terms, IsFull, IsTable, IsPlaceOf};
+ghost use Rattle.linear_elim.specs.internal.Counting.{terms_at, home, print_of, IsSplit, IsTable, IsPlaceOf, Puts};
 ghost use Rattle.linear_elim.specs.internal.DerivedRows.{IsDerived};
+ghost use Rattle.linear_elim.specs.internal.Fingerprints.{fingerprint};
+ghost use Rattle.linear_form.specs.Terms.{coefficient};
+ghost use Rattle.linear_elim.specs.declared.tables.Name.{Name as NameValue};
 
-use crate::fingerprints::{fingerprint, hashed};
+use crate::fingerprints::hashed;
 use crate::gathering::have_same_terms;
 use crate::joins::{Derived, joined};
+use crate::small_joins::{is_small, join_terms};
+use crate::steps::Step;
 use std::alloc::{AllocError, Global};
 
-/// Which terms stand at a place of a table: those of the join of a lower row and an upper one, or, where `low` is no lower row's
-/// number, those of a row that is kept. `print` is a part of their fingerprint. Where `low` is 65535, the place is empty.
+/// The numbers of a lower row and an upper one, for the terms of their join. Where `low` is no lower row's number, `up` is that of
+/// a row that is kept, for this row's terms.
 #[derive(Clone, Copy)]
-pub(crate) struct Slot {
-    print: u32,
-    low: u16,
-    up: u16,
+pub(crate) struct Name {
+    pub(crate) low: u16,
+    pub(crate) up: u16,
 }
 
-/// Slots, each at the place that the terms' fingerprint gives or at the next empty one; by how much fingerprints differ that give
-/// different places; and how many slots aren't empty.
+/// Lists of terms, each at the place that its fingerprint gives or at the next empty one: a part of each one's fingerprint, 0 where
+/// a place is empty; its name; how many places the fingerprints are spread over; and how many places aren't empty.
 #[derive(Drop)]
 pub(crate) struct Table {
-    pub(crate) slots: Vec<Slot>,
-    pub(crate) step: u64,
+    pub(crate) prints: Vec<u16>,
+    pub(crate) names: Vec<Name>,
+    pub(crate) places: u64,
     pub(crate) count: usize,
 }
 
 /// That terms are in a table; or the empty place and the part of the fingerprint with which they may be put in; or neither.
 pub(crate) enum Place {
     Taken,
-    Free(usize, u32),
+    Free(usize, u16),
     Unknown,
 }
 
-/// The lower part of a fingerprint.
-fn short_of(number: u64) -> u32
-    ensures { result ≡ short number }
+/// A part of a fingerprint, from 1 on.
+fn print_of(number: u64) -> u16
+    ensures { result ≡ print_of number }
 {
-    (number % (1 << 32)) as u32
+    (number % 65535 + 1) as u16
 }
 
 /// The first place for terms with this fingerprint.
 #[tactic(auto, unfolding(crate::specs::internal::Counting::home))]
-fn home_of(step: u64, number: u64) -> usize
-    ensures { result ≡ home step number }
+fn home_of(places: u64, number: u64) -> usize
+    ensures { result ≡ home places number }
 {
-    if step == 0 {
-        0
-    } else {
-        (hashed(number, 0) / step) as usize
-    }
+    let spread = u128::from(hashed(number, 0)) * u128::from(places);
+    (spread / (1 << 64)) as usize
 }
 
-fn empty() -> Slot
-    ensures { result ≡ empty_slot }
-{
-    Slot {
-        print: 0,
-        low: 65535,
-        up: 0,
-    }
-}
-
-/// Whether a row has these terms.
-fn has_these(r: &Derived, terms: &[(u32, i64)]) -> bool
-    ensures { result ≡ same_terms r.now.row.terms terms.now }
-{
-    let row = &r.row;
-    have_same_terms(&row.terms, terms)
-}
-
-/// Whether the terms that two numbers name are these. None where they name none.
-fn are_at(
+/// The terms of a join, or None where it doesn't fit.
+fn terms_of_join(
     alloc: Global,
     x: u32,
-    lows: &[Derived],
-    ups: &[Derived],
-    kept: &[Derived],
-    slot: Slot,
-    terms: &[(u32, i64)],
-) -> Result<Option<bool>, AllocError>
-    requires lows_derived { All IsDerived lows.now }
-    requires ups_derived { All IsDerived ups.now }
-    requires lower { All (λ l. is_below_zero (coefficient x l.row.terms) ≡ true) lows.now }
-    requires upper { All (λ u. is_above_zero (coefficient x u.row.terms) ≡ true) ups.now }
-    ensures { IfOk result (λ o. IfSome o (λ b. b ≡ same_terms (terms_at x lows.now ups.now kept.now slot.low slot.up) terms.now)) }
+    low: &Derived,
+    up: &Derived,
+) -> Result<Option<Vec<(u32, i64)>>, AllocError>
+    requires low_derived { IsDerived low.now }
+    requires up_derived { IsDerived up.now }
+    requires lower { is_below_zero (coefficient x low.now.row.terms) ≡ true }
+    requires upper { is_above_zero (coefficient x up.now.row.terms) ≡ true }
+    ensures { IfOk result (λ o. IfSome o (λ ts. ts.items ≡ (join x low.now up.now).row.terms)) }
 {
-    let i = usize::from(slot.low);
-    let j = usize::from(slot.up);
+    if is_small(low) && is_small(up) {
+        let mut terms: Vec<(u32, i64)> = Vec::new(alloc);
+        if join_terms(x, low, up, &mut terms)? {
+            return Ok(Some(terms));
+        }
+    }
+    let Some(derived) = joined(alloc, low, up, x)? else {
+        return Ok(None);
+    };
+    let Derived { row, .. } = derived;
+    Ok(Some(row.terms))
+}
+
+/// The terms that are named, or None where there are none.
+fn named(
+    alloc: Global,
+    step: &Step,
+    kept: &[Derived],
+    name: Name,
+) -> Result<Option<Vec<(u32, i64)>>, AllocError>
+    requires { IsSplit step.now }
+    ensures { IfOk result (λ o. IfSome o (λ ts. ts.items ≡ terms_at step.now kept.now name)) }
+{
+    let lows: &[Derived] = &step.lows;
+    let ups: &[Derived] = &step.ups;
+    let i = usize::from(name.low);
+    let j = usize::from(name.up);
     if i < lows.len() {
         if j >= ups.len() {
             return Ok(None);
         }
-        let Some(derived) = joined(alloc, &lows[i], &ups[j], x)? else {
-            return Ok(None);
-        };
-        Ok(Some(has_these(&derived, terms)))
+        terms_of_join(alloc, step.var, &lows[i], &ups[j])
     } else {
         if j >= kept.len() {
             return Ok(None);
         }
-        Ok(Some(has_these(&kept[j], terms)))
+        let derived = &kept[j];
+        let row = &derived.row;
+        Ok(Some(Vec::from_slice(alloc, &row.terms)?))
     }
 }
 
-/// Where the terms are in a table, or may be put in.
+/// Whether two names stand for the same terms, which for the second may be given. None where that isn't known.
+fn name_alike(
+    alloc: Global,
+    step: &Step,
+    kept: &[Derived],
+    a: Name,
+    b: Name,
+    terms: Option<&[(u32, i64)]>,
+) -> Result<Option<bool>, AllocError>
+    requires split { IsSplit step.now }
+    requires terms { IfSome terms (λ ts. ts.now ≡ terms_at step.now kept.now b) }
+    ensures { IfOk result (λ o. IfSome o (λ s. s ≡ same_terms (terms_at step.now kept.now a) (terms_at step.now kept.now b))) }
+{
+    let Some(first) = named(alloc, step, kept, a)? else {
+        return Ok(None);
+    };
+    if let Some(given) = terms {
+        return Ok(Some(have_same_terms(&first, given)));
+    }
+    let Some(second) = named(alloc, step, kept, b)? else {
+        return Ok(None);
+    };
+    Ok(Some(have_same_terms(&first, &second)))
+}
+
+/// Where the named terms, which have this fingerprint and may be given, are in a table, or may be put in.
 fn place_of(
     alloc: Global,
-    x: u32,
-    lows: &[Derived],
-    ups: &[Derived],
+    step: &Step,
     kept: &[Derived],
     table: &Table,
-    terms: &[(u32, i64)],
+    name: Name,
+    number: u64,
+    terms: Option<&[(u32, i64)]>,
 ) -> Result<Place, AllocError>
-    requires lows_derived { All IsDerived lows.now }
-    requires ups_derived { All IsDerived ups.now }
-    requires lower { All (λ l. is_below_zero (coefficient x l.row.terms) ≡ true) lows.now }
-    requires upper { All (λ u. is_above_zero (coefficient x u.row.terms) ≡ true) ups.now }
-    ensures { IfOk result (λ p. IsPlaceOf (terms_at x lows.now ups.now kept.now) table.now.step table.now.slots.items terms.now p) }
+    requires split { IsSplit step.now }
+    requires number { number ≡ fingerprint (terms_at step.now kept.now name) }
+    requires terms { IfSome terms (λ ts. ts.now ≡ terms_at step.now kept.now name) }
+    ensures { IfOk result (λ p. IsPlaceOf (terms_at step.now kept.now) table.now (terms_at step.now kept.now name) p) }
 {
-    let number = fingerprint(terms);
-    let print = short_of(number);
-    let start = home_of(table.step, number);
-    let slots: &[Slot] = &table.slots;
-    for place in start..slots.len() {
-        let slot = slots[place];
-        if slot.low == 65535 {
+    let print = print_of(number);
+    let prints: &[u16] = &table.prints;
+    let names: &[Name] = &table.names;
+    for place in home_of(table.places, number)..prints.len() {
+        let found = prints[place];
+        if found == 0 {
+            if place >= names.len() {
+                return Ok(Place::Unknown);
+            }
             return Ok(Place::Free(place, print));
         }
-        if slot.print == print {
-            match are_at(alloc, x, lows, ups, kept, slot, terms)? {
+        if found == print {
+            if place >= names.len() {
+                return Ok(Place::Unknown);
+            }
+            match name_alike(alloc, step, kept, names[place], name, terms)? {
                 Some(true) => return Ok(Place::Taken),
                 Some(false) => {}
                 None => return Ok(Place::Unknown),
@@ -147,57 +179,59 @@ fn place_of(
 impl Table {
     /// An empty table with places for so many lists of terms.
     pub(crate) fn new(alloc: Global, room: usize) -> Result<Table, AllocError>
-        ensures { IfOk result (λ t. (f : ℕ → ℕ → List (ℕ × ℤ)) → IsTable f t.step t.slots.items t.count []) }
+        ensures { IfOk result (λ t. (f : NameValue → List (ℕ × ℤ)) → IsTable f t []) }
     {
         let places = room.saturating_add(room / 2).saturating_add(1);
-        let mut slots: Vec<Slot> = Vec::new(alloc);
-        slots.resize(places.saturating_add(4096), empty())?;
+        let more = places.saturating_add(4096);
+        let mut prints: Vec<u16> = Vec::new(alloc);
+        prints.resize(more, 0)?;
+        let mut names: Vec<Name> = Vec::new(alloc);
+        names.resize(more, Name { low: 0, up: 0 })?;
         Ok(Table {
-            slots,
-            step: u64::MAX / places as u64,
+            prints,
+            names,
+            places: places as u64,
             count: 0,
         })
     }
 
-    /// Fills an empty place. False where the number of slots would be too great.
-    fn fill(&mut self, place: usize, slot: Slot) -> bool
-        requires { place < length self.old.slots.items }
-        ensures slots { result ≡ true → self.new.slots.items ≡ set self.old.slots.items place slot }
-        ensures step { self.new.step ≡ self.old.step }
+    /// Fills an empty place. False where the number of places would be too great.
+    fn fill(&mut self, place: usize, print: u16, name: Name) -> bool
+        requires within { place < length self.old.prints.items }
+        requires named { place < length self.old.names.items }
+        ensures prints { result ≡ true → self.new.prints.items ≡ set self.old.prints.items place print }
+        ensures names { result ≡ true → self.new.names.items ≡ set self.old.names.items place name }
+        ensures places { self.new.places ≡ self.old.places }
         ensures count { result ≡ true → self.new.count ≡ self.old.count + 1 }
     {
         let Some(count) = self.count.checked_add(1) else {
             return false;
         };
-        self.slots[place] = slot;
+        self.prints[place] = print;
+        self.names[place] = name;
         self.count = count;
         true
     }
 }
 
-/// Puts in terms, which these two numbers name, unless they are there. False where that isn't known.
+/// Puts in the named terms, which have this fingerprint and may be given, unless they are there. False where that isn't known.
 pub(crate) fn put(
     alloc: Global,
-    x: u32,
-    lows: &[Derived],
-    ups: &[Derived],
+    step: &Step,
     kept: &[Derived],
     table: &mut Table,
-    low: u16,
-    up: u16,
-    terms: &[(u32, i64)],
+    name: Name,
+    number: u64,
+    terms: Option<&[(u32, i64)]>,
 ) -> Result<bool, AllocError>
-    requires lows_derived { All IsDerived lows.now }
-    requires ups_derived { All IsDerived ups.now }
-    requires lower { All (λ l. is_below_zero (coefficient x l.row.terms) ≡ true) lows.now }
-    requires upper { All (λ u. is_above_zero (coefficient x u.row.terms) ≡ true) ups.now }
-    requires full { low < 65535 }
-    requires named { terms_at x lows.now ups.now kept.now low up ≡ terms.now }
-    ensures { IfOk result (λ b. b ≡ true → (seen : List (List (ℕ × ℤ))) → IsTable (terms_at x lows.now ups.now kept.now) table.old.step table.old.slots.items table.old.count seen → IsTable (terms_at x lows.now ups.now kept.now) table.new.step table.new.slots.items table.new.count (put_terms terms.now seen)) }
+    requires split { IsSplit step.now }
+    requires number { number ≡ fingerprint (terms_at step.now kept.now name) }
+    requires terms { IfSome terms (λ ts. ts.now ≡ terms_at step.now kept.now name) }
+    ensures { IfOk result (λ b. b ≡ true → Puts (terms_at step.now kept.now) table.old table.new (terms_at step.now kept.now name)) }
 {
-    match place_of(alloc, x, lows, ups, kept, table, terms)? {
+    match place_of(alloc, step, kept, table, name, number, terms)? {
         Place::Taken => Ok(true),
-        Place::Free(place, print) => Ok(table.fill(place, Slot { print, low, up })),
+        Place::Free(place, print) => Ok(table.fill(place, print, name)),
         Place::Unknown => Ok(false),
     }
 }

@@ -1,15 +1,19 @@
 -- Rows that are counted and not kept: a table has a place for each different list of terms.
-use Rattle.linear_elim.specs.Joins.{Derived, join}
+use Rattle.linear_form.specs.Terms.{coefficient}
+use Rattle.linear_elim.specs.Elimination.{Step}
+use Rattle.linear_elim.specs.Joins.{Derived, is_below_zero, is_above_zero, join, join_fits}
 use Rattle.linear_elim.specs.Steps.{same_terms, has_terms, pairs_fit, pairs}
 use Rattle.linear_elim.specs.declared.counting.Counted.{Counted}
 use Rattle.linear_elim.specs.declared.counting.Counted.TheVariants.{Great, Rows, Uncounted}
 use Rattle.linear_elim.specs.declared.tables.Place.{Place}
 use Rattle.linear_elim.specs.declared.tables.Place.TheVariants.{Taken, Free, Unknown}
-use Rattle.linear_elim.specs.declared.tables.Slot.{Slot}
+use Rattle.linear_elim.specs.declared.tables.Name.{Name}
+use Rattle.linear_elim.specs.declared.tables.Table.{Table}
+use Rattle.linear_elim.specs.internal.DerivedRows.{IsDerived}
 use Rattle.linear_elim.specs.internal.Fingerprints.{hashed, fingerprint}
 use Rattle.linear_elim.specs.internal.Gathering.{found_all, rows_all}
 use Rattle.std.specs.List.{All}
-use Rattle.std.specs.Prelude.{◌≡◌, ℕ, ◌<◌, ◌≤◌, ◌/◌, ◌%◌, ◌^◌, List, [], ◌∷◌, length, get_or, map, ℤ, pos, true, false, cond, eqb, ltb, None}
+use Rattle.std.specs.Prelude.{◌≡◌, ℕ, ◌+◌, ◌*◌, ◌<◌, ◌≤◌, ◌/◌, ◌%◌, ◌^◌, List, [], ◌∷◌, ◌++◌, length, get_or, map, ℤ, pos, true, false, cond, ltb, None}
 
 -- A list of terms put among others, unless it is there.
 unfoldable pub put_terms : List (ℕ × ℤ) → List (List (ℕ × ℤ)) → List (List (ℕ × ℤ))
@@ -38,70 +42,106 @@ no_row = record { row = record { terms = []; rest = pos 0; strict = false }; sha
 abbrev pub nth : List Derived → ℕ → Derived
 nth ds i = get_or ds i no_row
 
--- The terms that two numbers name: those of the join of a lower row and an upper one, or, where the first number is no lower
--- row's, those of a kept row.
-unfoldable pub terms_at : ℕ → List Derived → List Derived → List Derived → ℕ → ℕ → List (ℕ × ℤ)
-terms_at x ls us ks i j = cond (ltb i (length ls)) (join x (nth ls i) (nth us j)).row.terms (nth ks j).row.terms
+-- The rows of a step bound its variable from below and from above.
+pub record IsSplit (s : Step) : Type 0 where
+  pub lows_derived : All IsDerived s.lows
+  pub ups_derived : All IsDerived s.ups
+  pub lower : All (λ l. is_below_zero (coefficient s.var l.row.terms) ≡ true) s.lows
+  pub upper : All (λ u. is_above_zero (coefficient s.var u.row.terms) ≡ true) s.ups
 
--- The part of a fingerprint that a slot has.
-abbrev pub short : ℕ → ℕ
-short n = n % 2 ^ 32
+-- The join of a step's lower row and upper row with these numbers.
+abbrev pub join_at : Step → ℕ → ℕ → Derived
+join_at s i j = join s.var (nth s.lows i) (nth s.ups j)
 
--- The first place for terms with this fingerprint.
+abbrev pub fits_at : Step → ℕ → ℕ → Type 0
+fits_at s i j = join_fits s.var (nth s.lows i) (nth s.ups j) ≡ true
+
+-- The terms of the join of the two rows that are named, or, where the first number is no lower row's, those of a kept row.
+unfoldable pub terms_at : Step → List Derived → Name → List (ℕ × ℤ)
+terms_at s ks n = cond (ltb n.low (length s.lows)) (join_at s n.low n.up).row.terms (nth ks n.up).row.terms
+
+-- The fingerprint of a join that fits, unless it is 0.
+abbrev pub IsNumberOf : ℕ → Step → ℕ → ℕ → Type 0
+IsNumberOf n s i j = (n ≡ 0 → ⊥) → (n ≡ fingerprint (join_at s i j).row.terms) × fits_at s i j
+
+-- Such numbers for the joins of a lower row with each upper one.
+pub record AreNumbersOf (numbers : List ℕ) (s : Step) (i : ℕ) : Type 0 where
+  pub as_many : length numbers ≡ length s.ups
+  pub each : (j : ℕ) → j < length s.ups → IsNumberOf (get_or numbers j 0) s i j
+
+-- The part of a fingerprint that a place has; 0 stands for none.
+abbrev pub print_of : ℕ → ℕ
+print_of n = n % 65535 + 1
+
+-- The first place for terms with this fingerprint, among so many.
 unfoldable pub home : ℕ → ℕ → ℕ
-home step n = cond (eqb step 0) 0 (hashed n 0 / step)
+home places n = hashed n 0 * places / 2 ^ 64
 
-abbrev pub IsFull : Slot → Type 0
-IsFull s = s.low ≡ 65535 → ⊥
+abbrev pub no_name : Name
+no_name = record { low = 0; up = 0 }
 
-abbrev pub empty_slot : Slot
-empty_slot = record { print = 0; low = 65535; up = 0 }
+abbrev pub print_at : List ℕ → ℕ → ℕ
+print_at prints j = get_or prints j 0
 
-abbrev pub slot_at : List Slot → ℕ → Slot
-slot_at slots j = get_or slots j empty_slot
+abbrev pub name_at : List Name → ℕ → Name
+name_at names j = get_or names j no_name
 
--- Where f gives the terms that a slot's numbers name: the terms are at their first place or after it, with no empty slot
--- between.
-pub record IsAt (f : ℕ → ℕ → List (ℕ × ℤ)) (step : ℕ) (slots : List Slot) (t : List (ℕ × ℤ)) : Type 0 where
+abbrev pub IsFull : List ℕ → ℕ → Type 0
+IsFull prints j = print_at prints j ≡ 0 → ⊥
+
+-- Where f gives the terms that a name stands for: the terms are at their first place or after it, with no empty place between.
+pub record IsAt (f : Name → List (ℕ × ℤ)) (places : ℕ) (prints : List ℕ) (names : List Name) (t : List (ℕ × ℤ)) : Type 0 where
   pub place : ℕ
-  pub from : home step (fingerprint t) ≤ place
-  pub filled : (j : ℕ) → home step (fingerprint t) ≤ j → j ≤ place → IsFull (slot_at slots j)
-  pub print : (slot_at slots place).print ≡ short (fingerprint t)
-  pub terms : f (slot_at slots place).low (slot_at slots place).up ≡ t
+  pub from : home places (fingerprint t) ≤ place
+  pub filled : (j : ℕ) → home places (fingerprint t) ≤ j → j ≤ place → IsFull prints j
+  pub print : print_at prints place ≡ print_of (fingerprint t)
+  pub terms : f (name_at names place) ≡ t
 
--- The table has these lists of terms and no others, and their number.
-pub record IsTable (f : ℕ → ℕ → List (ℕ × ℤ)) (step : ℕ) (slots : List Slot) (count : ℕ) (seen : List (List (ℕ × ℤ))) : Type 0 where
-  pub sound : (j : ℕ) → IsFull (slot_at slots j) → put_terms (f (slot_at slots j).low (slot_at slots j).up) seen ≡ seen
-  pub complete : All (IsAt f step slots) seen
+-- The places have these lists of terms and no others, and their number.
+pub record AreAt (f : Name → List (ℕ × ℤ)) (places : ℕ) (prints : List ℕ) (names : List Name) (count : ℕ) (seen : List (List (ℕ × ℤ))) : Type 0 where
+  pub sound : (j : ℕ) → IsFull prints j → put_terms (f (name_at names j)) seen ≡ seen
+  pub complete : All (IsAt f places prints names) seen
   pub counted : count ≡ length seen
 
--- A full slot whose terms are others.
-abbrev pub IsOther : (ℕ → ℕ → List (ℕ × ℤ)) → List (ℕ × ℤ) → Slot → Type 0
-IsOther f t s = IsFull s × (s.print ≡ short (fingerprint t) → f s.low s.up ≡ t → ⊥)
+abbrev pub IsTable : (Name → List (ℕ × ℤ)) → Table → List (List (ℕ × ℤ)) → Type 0
+IsTable f t seen = AreAt f t.places t.prints.items t.names.items t.count seen
 
--- The first empty slot for the terms, which are in none before it.
-pub record IsFree (f : ℕ → ℕ → List (ℕ × ℤ)) (step : ℕ) (slots : List Slot) (t : List (ℕ × ℤ)) (place print : ℕ) : Type 0 where
-  pub within : place < length slots
-  pub empty : (slot_at slots place).low ≡ 65535
-  pub from : home step (fingerprint t) ≤ place
-  pub before : (j : ℕ) → home step (fingerprint t) ≤ j → j < place → IsOther f t (slot_at slots j)
-  pub is_print : print ≡ short (fingerprint t)
+-- The second table has what the first one has, and these terms.
+abbrev pub Puts : (Name → List (ℕ × ℤ)) → Table → Table → List (ℕ × ℤ) → Type 0
+Puts f old new t = (seen : List (List (ℕ × ℤ))) → IsTable f old seen → IsTable f new (put_terms t seen)
 
-pub record IsTaken (f : ℕ → ℕ → List (ℕ × ℤ)) (slots : List Slot) (t : List (ℕ × ℤ)) : Type 0 where
+-- A full place whose terms are others.
+abbrev pub IsOther : (Name → List (ℕ × ℤ)) → List ℕ → List Name → List (ℕ × ℤ) → ℕ → Type 0
+IsOther f prints names t j = IsFull prints j × (print_at prints j ≡ print_of (fingerprint t) → f (name_at names j) ≡ t → ⊥)
+
+-- The first empty place for the terms, which are in none before it.
+pub record IsFree (f : Name → List (ℕ × ℤ)) (table : Table) (t : List (ℕ × ℤ)) (place print : ℕ) : Type 0 where
+  pub within : place < length table.prints.items
+  pub named : place < length table.names.items
+  pub empty : print_at table.prints.items place ≡ 0
+  pub from : home table.places (fingerprint t) ≤ place
+  pub before : (j : ℕ) → home table.places (fingerprint t) ≤ j → j < place → IsOther f table.prints.items table.names.items t j
+  pub is_print : print ≡ print_of (fingerprint t)
+
+pub record IsTaken (f : Name → List (ℕ × ℤ)) (table : Table) (t : List (ℕ × ℤ)) : Type 0 where
   pub place : ℕ
-  pub full : IsFull (slot_at slots place)
-  pub terms : f (slot_at slots place).low (slot_at slots place).up ≡ t
+  pub full : IsFull table.prints.items place
+  pub terms : f (name_at table.names.items place) ≡ t
 
-abbrev pub IsPlaceOf : (ℕ → ℕ → List (ℕ × ℤ)) → ℕ → List Slot → List (ℕ × ℤ) → Place → Type 0
-IsPlaceOf f step slots t Taken = IsTaken f slots t
-IsPlaceOf f step slots t (Free place print) = IsFree f step slots t place print
-IsPlaceOf f step slots t Unknown = Unit {0}
+abbrev pub IsPlaceOf : (Name → List (ℕ × ℤ)) → Table → List (ℕ × ℤ) → Place → Type 0
+IsPlaceOf f table t Taken = IsTaken f table t
+IsPlaceOf f table t (Free place print) = IsFree f table t place print
+IsPlaceOf f table t Unknown = Unit {0}
 
 -- With the terms of the rows that are still to come, the table has all of these.
-pub record IsCounting (f : ℕ → ℕ → List (ℕ × ℤ)) (step : ℕ) (slots : List Slot) (count : ℕ) (more : List Derived) (all : List (List (ℕ × ℤ))) : Type 0 where
+pub record IsCounting (f : Name → List (ℕ × ℤ)) (table : Table) (more : List Derived) (all : List (List (ℕ × ℤ))) : Type 0 where
   pub seen : List (List (ℕ × ℤ))
-  pub table : IsTable f step slots count seen
+  pub is_table : IsTable f table seen
   pub whole : puts (terms_of more) seen ≡ all
+
+-- The second table has what the first one has, and the terms of these rows.
+abbrev pub Counts : (Name → List (ℕ × ℤ)) → Table → Table → List Derived → Type 0
+Counts f old new ds = (more : List Derived) (all : List (List (ℕ × ℤ))) → IsCounting f old (ds ++ more) all → IsCounting f new more all
 
 -- What is known of the joins: whether they fit, the first contradiction, and how many rows there are with those that are kept.
 abbrev pub IsCounted : ℕ → List Derived → List Derived → List Derived → Counted → Type 0

@@ -3,4 +3,4 @@ use Rattle.linear_elim.specs.internal.Counting.{terms_at, puts, all_terms, IsTab
 use Rattle.linear_elim.proofs.counting.count_kept.Given as goal
 
 abbrev pub invariant-loop-k : goal.invariant-loop-k
-invariant-loop-k l = IsTable (terms_at l.x l.lows l.ups l.kept) l.table.step l.table.slots.items l.table.count (puts (all_terms (take l.k l.kept)) [])
+invariant-loop-k l = IsTable (terms_at l.step l.kept) l.table (puts (all_terms (take l.k l.kept)) [])

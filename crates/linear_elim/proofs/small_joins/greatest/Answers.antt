@@ -1,7 +1,11 @@
 use Rattle.std.proofs.Common.{◌≡◌, arith, sym, ap, ◌∙◌}
 use Rattle.heyvl_num.specs.Gcd.{gcd, gcd_steps}
 use Rattle.heyvl_num.specs.GcdLaws.{gcd-mod, gcd-zero}
+use Rattle.linear_elim.proofs.JoinNumbers.{gcd_none}
 use Rattle.linear_elim.proofs.small_joins.greatest.Goals as goal
+
+pub returns-then-a-eq0 : goal.returns-then-a-eq0
+returns-then-a-eq0 c = sym (ap (λ n. gcd n c.args.b) c.if-a-eq0.true ∙ gcd_none c.args.b)
 
 pub loop-y-preserved : goal.loop-y-preserved
 loop-y-preserved c = sym (gcd-mod c.loop-y.x c.loop-y.y) ∙ c.loop-y.invariant

@@ -1,18 +1,18 @@
 use Rattle.std.proofs.Common.{sym, ap, ◌∙◌}
-use Rattle.linear_elim.specs.internal.Counting.{short, terms_at}
-use Rattle.linear_elim.proofs.CountedTerms.{taken_at, others_more, unlike}
+use Rattle.linear_elim.specs.internal.Counting.{print_of, terms_at}
+use Rattle.linear_elim.proofs.CountedTerms.{taken_at, other_at, others_more}
 use Rattle.linear_elim.proofs.tables.place_of.Goals as goal
-use Rattle.linear_elim.proofs.tables.place_of.Goals.{then-slot-print+in_ok-are_at+in-Some-false, else-slot-print}
+use Rattle.linear_elim.proofs.tables.place_of.Goals.{then-found-print+else-place-names-2+in_ok-name_alike+in-Some-false, else-found-print}
 
 pub returns-in-Some-true : goal.returns-in-Some-true
 returns-in-Some-true c =
-    let k = rw c.in-Some-true.is at c.in_ok-are_at.ensures in
-    taken_at (terms_at c.args.x c.args.lows.now c.args.ups.now c.args.kept.now) _ _ c.args.terms.now c.loop-place.place _ _ c.deref-slots.ensures.value c.loop-place-test.true c.if-slot.false k c.in-Some-true.field-0-test
+    let k = rw c.in-Some-true.is at c.in_ok-name_alike.ensures in
+    taken_at (terms_at c.args.step.now c.args.kept.now) c.args.table.now _ _ _ c.loop-place.place _ _ c.deref-prints.ensures.value c.deref-names.ensures.value c.if-place-names-2.false c.if-found-eq0.false k c.in-Some-true.field-0-test
 
 pub loop-place-preserved : goal.loop-place-preserved
-loop-place-preserved c = elim c.if-slot-print.branch [
-  | then-slot-print+in_ok-are_at+in-Some-false w ↦
-      let k = rw w.in-Some-false.is at w.in_ok-are_at.ensures in
-      others_more (terms_at c.args.x c.args.lows.now c.args.ups.now c.args.kept.now) c.deref-slots.result.now c.args.terms.now c.home_of-start.result c.loop-place.place _ c.loop-place.invariant c.loop-place-test.true (c.if-slot.false, λ q m. unlike _ _ _ k w.in-Some-false.field-0-test m)
-  | else-slot-print w ↦ others_more (terms_at c.args.x c.args.lows.now c.args.ups.now c.args.kept.now) c.deref-slots.result.now c.args.terms.now c.home_of-start.result c.loop-place.place _ c.loop-place.invariant c.loop-place-test.true (c.if-slot.false, λ q m. w.if-slot-print.false (q ∙ sym (c.short_of-print.ensures ∙ ap short c.fingerprint-number.ensures)))
+loop-place-preserved c = elim c.if-found-print.branch [
+  | then-found-print+else-place-names-2+in_ok-name_alike+in-Some-false w ↦
+      let k = rw w.in-Some-false.is at w.in_ok-name_alike.ensures in
+      others_more (terms_at c.args.step.now c.args.kept.now) c.deref-prints.result.now c.deref-names.result.now (terms_at c.args.step.now c.args.kept.now c.args.name) _ c.loop-place.place c.loop-place.invariant (other_at (terms_at c.args.step.now c.args.kept.now) c.deref-prints.result.now c.deref-names.result.now _ c.loop-place.place _ _ w.if-place-names-2.false c.if-found-eq0.false k w.in-Some-false.field-0-test)
+  | else-found-print w ↦ others_more (terms_at c.args.step.now c.args.kept.now) c.deref-prints.result.now c.deref-names.result.now (terms_at c.args.step.now c.args.kept.now c.args.name) _ c.loop-place.place c.loop-place.invariant (c.if-found-eq0.false, λ q m. w.if-found-print.false (q ∙ sym (c.print_of-print.ensures ∙ ap print_of c.requires.number)))
 ]

@@ -1,3 +1,4 @@
+use Rattle.std.proofs.Common.{refl}
 use Rattle.linear_elim.specs.internal.Counting.{terms_at}
 use Rattle.linear_elim.proofs.CountedTerms.{put_free}
 use Rattle.linear_elim.proofs.tables.put.Goals as goal
@@ -5,4 +6,4 @@ use Rattle.linear_elim.proofs.tables.put.Goals as goal
 pub returns-in-Free : goal.returns-in-Free
 returns-in-Free c =
     let r = rw c.in-Free.is at c.in_ok-place_of.ensures in
-    λ t seen h. put_free (terms_at c.args.x c.args.lows.now c.args.ups.now c.args.kept.now) _ _ _ _ _ _ seen c.args.terms.now _ _ _ _ r c.requires.named c.requires.full c.fill.ensures.step (c.fill.ensures.slots t) (c.fill.ensures.count t) h
+    λ t. put_free (terms_at c.args.step.now c.args.kept.now) c.args.table.now c.fill.new.self (terms_at c.args.step.now c.args.kept.now c.args.name) c.in-Free.place c.in-Free.print c.args.name r refl c.fill.ensures.places (c.fill.ensures.prints t) (c.fill.ensures.names t) (c.fill.ensures.count t)

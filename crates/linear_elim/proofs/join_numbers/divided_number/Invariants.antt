@@ -1,0 +1,13 @@
+use Rattle.std.proofs.Common.{◌≡◌, ◌+◌, ◌-◌, ◌≤◌, drop, length}
+use Rattle.std.specs.Prelude.{pos}
+use Rattle.linear_form.specs.Terms.{IsNormal}
+use Rattle.linear_form.specs.Merging.{mixed_terms}
+use Rattle.linear_form.specs.Divisors.{divided_terms}
+use Rattle.linear_elim.specs.internal.Fingerprints.{hashed_all, fingerprint}
+use Rattle.linear_elim.proofs.join_numbers.divided_number.Given as goal
+
+abbrev pub invariant-loop-i : goal.invariant-loop-i
+invariant-loop-i l = record { left_within : l.i ≤ length l.a; right_within : l.j ≤ length l.b; left_rest : IsNormal (drop l.i l.a); right_rest : IsNormal (drop l.j l.b); number : hashed_all l.number (divided_terms l.divisor (mixed_terms (pos l.p) (drop l.i l.a) (pos l.q) (drop l.j l.b))) ≡ fingerprint (divided_terms l.divisor (mixed_terms (pos l.p) l.a (pos l.q) l.b)) }
+
+abbrev pub decreases-loop-i : goal.decreases-loop-i
+decreases-loop-i l = (length l.a + length l.b) - (l.i + l.j)

@@ -1,0 +1,26 @@
+use Rattle.std.proofs.Common.{rules, FitsSigned}
+use mir.Syntax.{w64}
+use Rattle.std.proofs.lemmas.Int.{to_z-of_z}
+use Rattle.linear_elim.proofs.JoinNumbers.{divisor_more, number_more, none_left, divisor_end, number_end}
+use Rattle.linear_elim.proofs.join_numbers.summed.Goals as goal
+
+pub loop-i-preserved : goal.loop-i-preserved
+loop-i-preserved c =
+    let x : FitsSigned w64 c.next_mixed-next.result.coef = search rules in
+    let e = simp to_z-of_z at c.unsigned_abs.ensures.value in
+    let h = simp to_z-of_z at c.with_term-number.ensures in
+    let n = c.next_mixed-next.ensures.next in
+    record {
+      left_within = n.left_within;
+      right_within = n.right_within;
+      left_rest = n.left_normal;
+      right_rest = n.right_normal;
+      divisor = divisor_more _ _ _ _ c.loop-i.divisor _ _ _ n.split e c.greatest-divisor.ensures c.loop-i.invariant.divisor;
+      number = number_more _ _ _ _ c.loop-i.number _ _ n.split h c.loop-i.invariant.number;
+    }
+
+pub returns-clause-divisor : goal.returns-clause-divisor
+returns-clause-divisor c = divisor_end _ c.loop-i.divisor _ (none_left c.args.p c.args.a.now c.loop-i.i c.args.q c.args.b.now c.loop-i.j c.if-i-a.false c.if-j-b.false) c.loop-i.invariant.divisor
+
+pub returns-clause-number : goal.returns-clause-number
+returns-clause-number c = number_end _ c.loop-i.number _ (none_left c.args.p c.args.a.now c.loop-i.i c.args.q c.args.b.now c.loop-i.j c.if-i-a.false c.if-j-b.false) c.loop-i.invariant.number
