@@ -115,7 +115,7 @@ factor_step t u us n =
 
 -- ---- Whole numbers
 
-whole_num : (k : ℤ) → (whole k).num ≡ k
+pub whole_num : (k : ℤ) → (whole k).num ≡ k
 unfolding whole
 whole_num k = ratio_num-lowest k 1 (lit< tt) (gcd_one (unsigned_abs k))
   where

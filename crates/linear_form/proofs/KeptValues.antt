@@ -64,7 +64,7 @@ times_above : (m : ℕ) (w : Rational) (ts : Terms) → IsAbove m ts → IsAbove
 times_above m w [] h = tt
 times_above m w (t ∷ ts) h = (h.0, times_above m w ts h.1)
 
-times_normal : (w : Rational) (ts : Terms) → is_zeroʳ w ≡ false → AreNormal ts → AreNormal (times w ts)
+pub times_normal : (w : Rational) (ts : Terms) → is_zeroʳ w ≡ false → AreNormal ts → AreNormal (times w ts)
 times_normal w [] e h = tt
 times_normal w (t ∷ ts) e h = (is_zero-* w t.1 ∙ ap₂ (λ a b. a || b) e h.0, (times_above t.0 w ts h.1.0, times_normal w ts e h.1.1))
 

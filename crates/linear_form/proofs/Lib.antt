@@ -5,6 +5,7 @@ pub mod Normal
 pub mod Fractions
 pub mod Combinations
 mod LinearValues
+mod OneSided
 mod QueryTrees
 mod TypedValues
 mod EndValues
@@ -19,6 +20,7 @@ mod MetClaims
 mod TightRows
 mod Factors
 mod RowParts
+mod UnitRows
 mod NormalClaims
 pub mod TypedTrees
 pub mod NumericRows
@@ -59,7 +61,12 @@ mod Resuming
 mod GrowingRows
 mod FirstRows
 pub mod PathRowSteps
+mod RepeatedRows
 pub mod PlaceRuns
 mod GreedyChoices
 mod GreedyUnique
 pub mod exported
+mod SureQuestions
+mod Growths
+mod FirstTerms
+mod AskedForms

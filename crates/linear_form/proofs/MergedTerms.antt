@@ -40,7 +40,7 @@ same x c t ts h k = rw (level x t.0 h k)
 -- ---- Terms put in, one after the other
 
 -- A term below those that are put in stays in front.
-passed : (t : ℕ × Rational) (us ts : Terms) → IsAbove t.0 us → merged us (t ∷ ts) ≡ t ∷ merged us ts
+pub passed : (t : ℕ × Rational) (us ts : Terms) → IsAbove t.0 us → merged us (t ∷ ts) ≡ t ∷ merged us ts
 passed t [] ts h = refl
 passed t (u ∷ us) ts h = ap (merged us) (later u.0 u.1 t ts h.0) ∙ passed t us (more u.0 u.1 ts) h.1
 
@@ -53,7 +53,7 @@ passed_unless x c us ts h = go (is_zeroʳ c)
 
 -- ---- Signs
 
-minus_one_nonzero : is_zeroʳ minus_oneʳ ≡ false
+pub minus_one_nonzero : is_zeroʳ minus_oneʳ ≡ false
 unfolding is_zeroʳ minus_oneʳ ratio gcd gcd_steps
 minus_one_nonzero = refl
 

@@ -84,7 +84,7 @@ sum_fits_narrow : (x y : Rational) → fits x ≡ true → fits y ≡ true → s
 unfolding sum_fits
 sum_fits_narrow x y p q = all_four _ _ _ _ (small_product x.num (pos y.den) (num_less x p) (den_less y q)) (small_product y.num (pos x.den) (num_less y q) (den_less x p)) (small_product (pos x.den) (pos y.den) (den_less x p) (den_less y q)) (small_sum (x.num *ℤ pos y.den) (y.num *ℤ pos x.den) (product_less x.num (pos y.den) (num_less x p) (den_less y q)) (product_less y.num (pos x.den) (num_less y q) (den_less x p)))
 
-product_fits_narrow : (x y : Rational) → fits x ≡ true → fits y ≡ true → product_fits x y ≡ true
+pub product_fits_narrow : (x y : Rational) → fits x ≡ true → fits y ≡ true → product_fits x y ≡ true
 unfolding product_fits
 product_fits_narrow x y p q = both_true _ _ (small_product x.num y.num (num_less x p) (num_less y q)) (small_product (pos x.den) (pos y.den) (den_less x p) (den_less y q))
 

@@ -59,9 +59,12 @@ ends_wait : (f : Frame) (fs : List Frame) (e : Ends) → framed (done (places.Re
 ends_wait f [] e = no_ends f e
 ends_wait f (g ∷ fs) e = ap (λ q. next q (resumed f)) (ends_wait g fs e)
 
-pub ends_are_last : (ps : List Taken) (e : Ends) (all : List Frame) (i : ℕ) → length all ≡ 0 → (j : ℕ) × (along ps (through (done (places.Result.ends e)) all) i ≡ Evaluation.value e j)
+ends_are_last : (ps : List Taken) (e : Ends) (all : List Frame) (i : ℕ) → length all ≡ 0 → (j : ℕ) × (along ps (through (done (places.Result.ends e)) all) i ≡ Evaluation.value e j)
 ends_are_last ps e [] i n = (i, run_done ps e i)
 ends_are_last ps e (f ∷ fs) i n = absurd (omega (arith, n))
+
+pub ends_are_given : (ps : List Taken) (x x' y y' : Option Lin) (all : List Frame) (i : ℕ) → x ≡ x' → y ≡ y' → length all ≡ 0 → (j : ℕ) × (along ps (through (done (places.Result.ends (linear_of x, linear_of y))) all) i ≡ Evaluation.value (linear_of x', linear_of y') j)
+ends_are_given ps x x' y y' all i e f n = let h = ends_are_last ps (linear_of x, linear_of y) all i n in (h.0, h.1 ∙ ap₂ (λ x y. Evaluation.value (linear_of x, linear_of y) h.0) e f)
 
 pub ends_are_waited_for : (ps : List Taken) (e : Ends) (all : List Frame) (i : ℕ) → 0 < length all → along ps (through (done (places.Result.ends e)) all) i ≡ Evaluation.bits
 ends_are_waited_for ps e [] i n = absurd (omega (arith, n))

@@ -72,14 +72,14 @@ rows_among types _ _ rows more (Among.past l ks ls a) e f =
     subst (λ z. StandAmong rows z) (sym m.whole) (StandAmong.past m.row rows m.others (rows_among types ks ls rows m.others a e m.are_others))
 
 -- the rows of some claims, and those of further ones
-record TwoParts (types : Types) (ks ls : List Claim) (rows : List Row) : Type 0 where
-  first : List Row
-  second : List Row
-  are_first : all_tightened types ks ≡ Some first
-  are_second : all_tightened types ls ≡ Some second
-  whole : rows ≡ first ++ second
+pub record TwoParts (types : Types) (ks ls : List Claim) (rows : List Row) : Type 0 where
+  pub first : List Row
+  pub second : List Row
+  pub are_first : all_tightened types ks ≡ Some first
+  pub are_second : all_tightened types ls ≡ Some second
+  pub whole : rows ≡ first ++ second
 
-two_parts : (types : Types) (ks ls : List Claim) (rows : List Row) → all_tightened types (ks ++ ls) ≡ Some rows → TwoParts types ks ls rows
+pub two_parts : (types : Types) (ks ls : List Claim) (rows : List Row) → all_tightened types (ks ++ ls) ≡ Some rows → TwoParts types ks ls rows
 two_parts types ks ls rows e = go (all_tightened types ks) refl (all_tightened types ls) refl (sym (tightened_append types ks ls) ∙ e)
   where
     go : (o : Option (List Row)) → all_tightened types ks ≡ o → (p : Option (List Row)) → all_tightened types ls ≡ p → joined o p ≡ Some rows → TwoParts types ks ls rows

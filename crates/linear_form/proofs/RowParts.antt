@@ -30,7 +30,7 @@ claim_of ts c strict = record { left = record { terms = ts; rest = c }; strict =
 abbrev pub chosen : Bool → Row → Option Row
 chosen b r = cond b (Some r) None
 
-unit_factor : (w : Rational) → ratio (pos 1) 1 *ʳ w ≡ w
+pub unit_factor : (w : Rational) → ratio (pos 1) 1 *ʳ w ≡ w
 unfolding oneʳ
 unit_factor w = one-*ʳ w
 
@@ -64,7 +64,7 @@ ExactRow w ts c strict = record { terms = whole_terms (ratio (pos (w *ʳ c).den)
 abbrev pub row_choice : Bool → Bool → Row → Row → Option Row
 row_choice p d r q = cond p (cond d (chosen (all_narrow r.terms && is_narrow r.rest) r) (chosen (all_narrow q.terms && is_narrow q.rest) q)) None
 
-row_of : (types : Types) (ts : Terms) (c w : Rational) (strict : Bool) → 0 < length ts → is_sized (record { terms = ts; rest = c }) ≡ true → w ≡ factor ts → tightened types (claim_of ts c strict) ≡ row_choice (product_fits w c) (are_whole types ts) (WholeRow w ts c strict) (ExactRow w ts c strict)
+pub row_of : (types : Types) (ts : Terms) (c w : Rational) (strict : Bool) → 0 < length ts → is_sized (record { terms = ts; rest = c }) ≡ true → w ≡ factor ts → tightened types (claim_of ts c strict) ≡ row_choice (product_fits w c) (are_whole types ts) (WholeRow w ts c strict) (ExactRow w ts c strict)
 row_of types ts c w strict h z e = subst (λ w. tightened types (claim_of ts c strict) ≡ row_choice (product_fits w c) (are_whole types ts) (WholeRow w ts c strict) (ExactRow w ts c strict)) (sym e) (row_is types ts c strict h z)
 
 factor_whole_of : (ts : Terms) → 0 < length ts → AreNonzero ts → AreWholeTimes (factor ts) ts

@@ -89,7 +89,7 @@ negated_terms_fit : (ts : Terms) → all_fit (times minus_oneʳ ts) ≡ all_fit 
 negated_terms_fit [] = refl
 negated_terms_fit (t ∷ ts) = ap₂ (λ a b. a && b) (fits_negated t.1) (negated_terms_fit ts)
 
-not_zero : is_zeroʳ minus_oneʳ ≡ false
+pub not_zero : is_zeroʳ minus_oneʳ ≡ false
 unfolding is_zeroʳ minus_oneʳ ratio gcd gcd_steps
 not_zero = refl
 

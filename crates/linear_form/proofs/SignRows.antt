@@ -37,7 +37,7 @@ claim_occurs : (types : Types) (x : ℕ) (k : Claim) (r : Row) → tightened typ
 unfolding tightened
 claim_occurs types x k r e = ap (occurs_in_row x) (sym (taken_row _ (tight_row types k.left.terms k.left.rest k.strict) r e)) ∙ tight_occurs types x k.left.terms k.left.rest k.strict
 
-claims_occur : (types : Types) (x : ℕ) (ks : List Claim) (rows : List Row) → all_tightened types ks ≡ Some rows → list_any (occurs_in_row x) rows ≡ occurs_in_claims x ks
+pub claims_occur : (types : Types) (x : ℕ) (ks : List Claim) (rows : List Row) → all_tightened types ks ≡ Some rows → list_any (occurs_in_row x) rows ≡ occurs_in_claims x ks
 claims_occur types x [] rows e = let k : [] ≡ rows = cc in ap (list_any (occurs_in_row x)) (sym k)
 claims_occur types x (k ∷ ks) rows e = go (tightened types k) refl (all_tightened types ks) refl e (λ qs b. claims_occur types x ks qs b)
   where

@@ -1,17 +1,19 @@
 -- Sums and products of whole numbers among the fractions.
-use Rattle.std.proofs.Common.{◌≡◌, ◌==◌, ◌<◌, ◌^◌, refl, sym, ap, ap₂, ◌∙◌, arith, Bool, true, false, cond, ◌&&◌, nat_eq, unsigned_abs, to_z, of_z, FitsSigned, ℕ}
-use Rattle.std.specs.Prelude.{Some, None}
+use Rattle.std.proofs.Common.{◌≡◌, ◌==◌, ◌<◌, ◌^◌, refl, sym, subst, ap, ap₂, ◌∙◌, arith, Bool, true, false, cond, ◌&&◌, nat_eq, unsigned_abs, to_z, of_z, FitsSigned, ℕ}
+use Rattle.std.specs.Prelude.{Option, Some, None, MatchOption}
 use Rattle.std.proofs.Math.IntN.{ℤ, pos, ◌+ℤ◌, ◌*ℤ◌}
 use Rattle.std.specs.Int.{w128}
+use mir.Syntax.{w64}
 use borrow.Author.Differences.{ints}
 use Rattle.heyvl_num.specs.Rational.{Rational, ratio, oneʳ, ◌+ʳ◌, ◌*ʳ◌}
 use Rattle.heyvl_num.specs.Rounding.{whole}
 use Rattle.heyvl_num.specs.Exact.{is_small, quotient, quotient_fits, exact_quotient}
 use Rattle.heyvl_num.specs.Value.{is_zeroʳ}
 use Rattle.heyvl_num.proofs.exported.Values.{is_zero-is}
-use Rattle.heyvl_num.proofs.exported.Rationals.{ratio_parts, one-*ʳ, zero-+ʳ, +ʳ-zero, *ʳ-zero}
+use Rattle.heyvl_num.proofs.exported.Rationals.{ratio_parts, one-*ʳ, *ʳ-one, zero-+ʳ, +ʳ-zero, *ʳ-zero}
 use Rattle.linear_form.specs.Lin.{fits}
-use Rattle.linear_form.specs.internal.Operator.{small_product}
+use Rattle.linear_form.specs.Terms.{is_narrow}
+use Rattle.linear_form.specs.internal.Operator.{small_product, narrow_value}
 use Rattle.linear_form.proofs.Narrow.{seen, small, num_less, den_less, product_less}
 use Rattle.linear_form.proofs.TightRows.{whole_back, whole-*, whole-+}
 
@@ -38,6 +40,16 @@ both_one a b e = go (a == 1) (b == 1) refl refl e
     go true false f g e = absurd (cc)
     go false q f g e = absurd (cc)
 
+pub narrow_found : (x : Rational) (z : ℤ) (o : Option ℤ) → (x.den == 1) ≡ true → z ≡ x.num → o ≡ narrow_value z → MatchOption o (Unit {0}) (λ n. (x ≡ whole n) × (is_narrow n ≡ true))
+narrow_found x z o d e h = subst (λ o. MatchOption o (Unit {0}) (λ n. (x ≡ whole n) × (is_narrow n ≡ true))) (sym h) (go (is_narrow z) refl)
+  where
+    one : (n : ℕ) → (n == 1) ≡ true → n ≡ 1
+    one n e = grind arith
+
+    go : (b : Bool) → is_narrow z ≡ b → MatchOption (cond b (Some z) None) (Unit {0}) (λ n. (x ≡ whole n) × (is_narrow n ≡ true))
+    go true f = (sym (whole_back x (one x.den d)) ∙ ap whole (sym e), f)
+    go false f = tt
+
 -- ---- One of the two is zero
 
 pub zero_right : (x y : Rational) → is_zeroʳ y ≡ true → x ≡ x +ʳ y
@@ -54,11 +66,20 @@ zero_factor x y e = is_zero-is y e ∙ sym (ap (λ z. x *ʳ z) (is_zero-is y e) 
 pub one_product : (w c : Rational) → w ≡ oneʳ → fits c ≡ true → Some c ≡ small_product w c
 one_product w c e h = sym (ap (λ w. small_product w c) e ∙ ap (λ x. cond (fits x) (Some x) None) (one-*ʳ c) ∙ rw h)
 
+pub product_one : (w c : Rational) → c ≡ oneʳ → fits w ≡ true → Some w ≡ small_product w c
+product_one w c e h = sym (ap (λ c. small_product w c) e ∙ ap (λ x. cond (fits x) (Some x) None) (*ʳ-one w) ∙ rw h)
+
 -- ---- Both are whole
 
 the_whole : (z : ℤ) → is_small z ≡ true → exact_quotient z (pos 1) ≡ Some (whole z)
 unfolding exact_quotient quotient_fits quotient whole
 the_whole z h = rw h
+
+word_small : (z : ℤ) → FitsSigned w64 z → is_small z ≡ true
+word_small z h = small z (omega (arith, ints, h))
+
+pub word_found : (z n : ℤ) → n ≡ z → FitsSigned w64 z → FitsSigned w128 n → exact_quotient (to_z w128 (of_z w128 n)) (pos 1) ≡ Some (whole z)
+word_found z n e h f = ap (λ z. exact_quotient z (pos 1)) (seen n z e f) ∙ the_whole z (word_small z h)
 
 pub den_found : (x : Rational) (n : ℤ) → n ≡ pos x.den → FitsSigned w128 n → fits x ≡ true → exact_quotient (to_z w128 (of_z w128 n)) (pos 1) ≡ Some (whole (pos x.den))
 den_found x n e f h = ap (λ z. exact_quotient z (pos 1)) (seen n (pos x.den) e f) ∙ the_whole (pos x.den) (small (pos x.den) (let k = den_less x h in omega arith))

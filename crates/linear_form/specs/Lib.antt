@@ -24,6 +24,7 @@ pub mod Divisors
 pub mod ClaimLaws
 pub mod RowLists
 pub mod Places
+pub mod Lasting
 pub mod RowListLaws
 pub mod PathLaws
 pub mod PointLaws

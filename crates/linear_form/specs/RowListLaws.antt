@@ -1,5 +1,5 @@
 -- What is proved of the rows of a path.
-use Rattle.std.specs.Prelude.{◌≡◌, ℕ, ◌+◌, List, take, [], ◌∷◌, ◌++◌, length, Bool, true, false, Some, is_some}
+use Rattle.std.specs.Prelude.{◌≡◌, ℕ, ◌+◌, List, take, [], ◌∷◌, ◌++◌, length, Bool, true, false, not, Some, is_some}
 use Rattle.std.specs.List.{All, Contains}
 use Rattle.heylo_formula.specs.Goals.{Goal}
 use Rattle.linear_form.specs.Query.{Atom, Taken, onto}
@@ -8,6 +8,7 @@ use Rattle.linear_form.specs.PathRows.{path_claims, answer_claims, denial_at, ro
 use Rattle.linear_form.specs.Row.{Row}
 use Rattle.linear_form.specs.RowLists.{IsNumericRow, ArePathRows}
 use Rattle.linear_form.specs.Solutions.{IsSolvable}
+use Rattle.linear_form.specs.Cells.{IsKept}
 use Rattle.heylo_formula.specs.TypedGoals.{IsTypedGoal}
 
 -- Each variable of a row of a typed goal is a number by its type.
@@ -55,3 +56,13 @@ FirstPathRows = (g : Goal) (ps qs : List Taken) (rows : List Row) → ArePathRow
 -- One more answer has one more row, or none where it is to the truth of a variable.
 abbrev pub LastPathRow : Type 0
 LastPathRow = (ps : List Taken) (q : Atom) (held : Bool) → length (path_claims (onto ps q held)) ≡ length (path_claims ps) + length (answer_claims q held)
+
+-- The rows of a path without the denied goal begin with these.
+pub record HasFirstRows (g : Goal) (ps : List Taken) (first : List Row) : Type 0 where
+  pub signs : List Row
+  pub are_rows : rows_of g ps false ≡ Some (first ++ signs)
+
+-- Where the row of an answer stands on the path already, the path with this answer is kept as the path is, and the rows of the path
+-- with the other answer are those of its answers, and then those of the signs.
+abbrev pub RepeatedRowsStand : Type 0
+RepeatedRowsStand = (g : Goal) (ps : List Taken) (q : Atom) (held : Bool) (rows : List Row) (r other : Row) → ArePathRows g ps rows → ArePathRows g (onto ps q held) (rows ++ (r ∷ [])) → ArePathRows g (onto ps q (not held)) (rows ++ (other ∷ [])) → Contains rows r → IsKept g ps → IsKept g (onto ps q held) × HasFirstRows g (onto ps q (not held)) (rows ++ (other ∷ []))

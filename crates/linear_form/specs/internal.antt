@@ -1,3 +1,4 @@
+pub mod Lasting
 pub mod Loops
 pub mod Operator
 pub mod Run

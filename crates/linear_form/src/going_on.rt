@@ -40,17 +40,36 @@ pub fn go_on<'a>(
     ensures asked { IfOk result (λ r. Answers r.ask (end_at (goal_of goal.now) (path_of path.now))) }
     ensures on { IfOk result (λ r. IsOn (goal_of goal.now) (path_of path.now) r.place) }
 {
-    let mut now = copy_place(alloc, place)?;
+    let now = copy_place(alloc, place)?;
+    go_on_from(alloc, goal, now, path)
+}
+
+/// The same, where the evaluation isn't needed at the first place any more.
+pub fn go_on_from<'a>(
+    alloc: Global,
+    goal: &'a Goal,
+    place: Place<'a>,
+    path: &[Taken],
+) -> Result<Reached<'a>, AllocError>
+    requires path { IsPath (goal_of goal.now) (path_of path.now) }
+    requires on { IsOn (goal_of goal.now) (path_of path.now) place }
+    ensures asked { IfOk result (λ r. Answers r.ask (end_at (goal_of goal.now) (path_of path.now))) }
+    ensures on { IfOk result (λ r. IsOn (goal_of goal.now) (path_of path.now) r.place) }
+{
+    let mut now = place;
     'steps: loop {
         match advance(alloc, &mut now, path)? {
             Step::On => {}
             Step::Asks(atom) => {
                 return Ok(Reached {
-                    ask: Ask::Decide(atom),
+                    ask: Ask::Decide(Box::into_inner(atom)),
                     place: now,
                 });
             }
-            Step::Ends(stated, found) => return ended(alloc, goal, Ask::End(stated, found)),
+            Step::Ends(stated, found) => {
+                let ask = Ask::End(Box::into_inner(stated), Box::into_inner(found));
+                return ended(alloc, goal, ask);
+            }
             Step::Bits => return ended(alloc, goal, Ask::Bits),
         }
     }

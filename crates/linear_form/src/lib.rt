@@ -11,6 +11,7 @@ mod goal_products;
 mod going_on;
 mod greedy_laws;
 mod growing_rows;
+mod lasting;
 mod lin;
 mod linear_terms;
 mod multiples;
@@ -31,6 +32,7 @@ mod row;
 mod row_laws;
 mod row_list_laws;
 mod signs;
+mod slopes;
 mod steps;
 mod terms;
 mod tightening;
@@ -39,9 +41,10 @@ pub use answering::ask;
 pub use asking::Ask;
 pub use claim_laws::{paths_claim_truths, paths_rows_are_met};
 pub use goal_products::nonlinear;
-pub use going_on::{begin, go_on};
+pub use going_on::{begin, go_on, go_on_from};
 pub use greedy_laws::greedy_choices_are_unique;
 pub use growing_rows::{next_row, with_denied_goal, with_signs_of_path};
+pub use lasting::asks_on;
 pub use lin::Lin;
 pub use multipliers::contradicts;
 pub use occurrences::Occurrences;
@@ -55,7 +58,9 @@ pub use point_laws::{falsifying_points, truths_are_booleans, unsigned_are_nonneg
 pub use question_laws::{constant_without_variables, one_path_agrees};
 pub use row::Row;
 pub use row_laws::solutions_of_rows;
-pub use row_list_laws::{denied_rows_are_more, path_rows_grow, rows_are_numeric};
+pub use row_list_laws::{
+    denied_rows_are_more, path_rows_grow, repeated_rows_stand, rows_are_numeric,
+};
 pub use terms::{
     coefficient_of, divided, divisor_of, merged, mixed, narrow_quotient, scaled, wide_product,
 };

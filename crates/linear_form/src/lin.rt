@@ -3,6 +3,7 @@
 ghost use Rattle.std.specs.Prelude.{◌≡◌, IfOk, true};
 ghost use Rattle.heyvl_num.specs.Rational.{zeroʳ};
 ghost use Rattle.linear_form.specs.Lin.{all_fit, fits as number_fits, is_sized as lin_is_sized, constant as constant_lin, variable as variable_lin, plus as lin_plus, minus as lin_minus, scaled as lin_scaled, times as times_terms};
+ghost use Rattle.linear_form.specs.internal.Operator.{has_no_terms};
 ghost use Rattle.linear_form.specs.internal.Run.{IsKept};
 ghost use Rattle.linear_form.specs.PlainPaths.{lin_of, linear_of};
 
@@ -30,12 +31,19 @@ pub(crate) fn constant(alloc: Global, x: Frac) -> Lin
 pub(crate) fn variable(alloc: Global, x: u32) -> Result<Lin, AllocError>
     ensures { IfOk result (λ a. lin_of a ≡ variable_lin x) }
 {
-    let mut terms = Vec::new(alloc);
+    let mut terms = Vec::with_capacity(alloc, 1)?;
     terms.push((x, one()))?;
     Ok(Lin {
         terms,
         rest: zero(),
     })
+}
+
+/// Whether a linear value holds no variable.
+pub(crate) fn is_constant(a: &Lin) -> bool
+    ensures { result ≡ has_no_terms (lin_of a.now).terms }
+{
+    a.terms.as_slice().split_first().is_none()
 }
 
 /// Whether each coefficient and the constant are below 2^62.

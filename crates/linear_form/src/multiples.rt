@@ -20,7 +20,11 @@ pub(crate) fn small_product(w: &Frac, c: &Frac) -> Option<Frac>
     if is_one(w) {
         Some(*c)
     } else if fits(w) {
-        fitting(product(w, c))
+        if is_one(c) {
+            Some(*w)
+        } else {
+            fitting(product(w, c))
+        }
     } else {
         crosswise_product(w, c)
     }

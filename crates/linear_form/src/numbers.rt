@@ -1,17 +1,18 @@
 //! Fractions below 2^62, whose sums and products are exact.
 
-ghost use Rattle.std.specs.Prelude.{◌≡◌, ◌==◌, ◌&&◌, true, if◌then◌else◌};
+ghost use Rattle.std.specs.Prelude.{◌≡◌, ◌==◌, ◌&&◌, MatchOption, true, if◌then◌else◌};
 ghost use Rattle.heyvl_num.specs.Rational.{zeroʳ, oneʳ, ◌+ʳ◌, ◌*ʳ◌};
 ghost use Rattle.heyvl_num.specs.Value.{is_zeroʳ};
 ghost use Rattle.linear_form.specs.Terms.{is_narrow};
 ghost use Rattle.linear_form.specs.Lin.{minus_oneʳ, fits as number_fits};
-ghost use Rattle.linear_form.specs.internal.Operator.{signed_number};
+ghost use Rattle.heyvl_num.specs.Rounding.{whole as whole_fraction};
+ghost use Rattle.linear_form.specs.internal.Operator.{signed_number, narrow_value};
 ghost use Rattle.linear_form.specs.Query.{is_negative as number_is_negative};
 
 use heyvl_num::Frac;
 
 /// 2^62, which the numbers of linear values and rows stay below.
-pub(crate) const BOUND: u128 = 4_611_686_018_427_387_904;
+const BOUND: u128 = 4_611_686_018_427_387_904;
 
 pub(crate) fn zero() -> Frac
     ensures { result ≡ zeroʳ }
@@ -23,6 +24,13 @@ pub(crate) fn one() -> Frac
     ensures { result ≡ oneʳ }
 {
     Frac::new(1, 1).unwrap()
+}
+
+/// The whole number as a fraction.
+pub(crate) fn whole(n: i64) -> Frac
+    ensures { result ≡ whole_fraction n }
+{
+    Frac::new(i128::from(n), 1).unwrap()
 }
 
 pub(crate) fn minus_one() -> Frac
@@ -44,6 +52,17 @@ fn is_below(n: i128) -> bool
     ensures { result ≡ is_narrow n }
 {
     n.unsigned_abs() < BOUND
+}
+
+/// The whole number, or None where it reaches 2^62 in absolute value.
+pub(crate) fn narrow(z: i128) -> Option<i64>
+    ensures { result ≡ narrow_value z }
+{
+    if z.unsigned_abs() < BOUND {
+        Some(z as i64)
+    } else {
+        None
+    }
 }
 
 pub(crate) fn is_zero(x: &Frac) -> bool
@@ -77,6 +96,13 @@ fn is_whole(x: &Frac) -> bool
     ensures { result ≡ (x.now.den == 1) }
 {
     x.den() == 1
+}
+
+/// The number as a whole number, where it is one below 2^62.
+pub(crate) fn as_whole(x: &Frac) -> Option<i64>
+    ensures { MatchOption result (Unit {0}) (λ n. (x.now ≡ whole_fraction n) × (is_narrow n ≡ true)) }
+{
+    if is_whole(x) { narrow(x.num()) } else { None }
 }
 
 fn are_whole(x: &Frac, y: &Frac) -> bool

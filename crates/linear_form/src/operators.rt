@@ -1,6 +1,6 @@
 //! The operators on linear values and infinity: the questions that they ask, and their results.
 
-ghost use Rattle.std.specs.Prelude.{◌≡◌, List, Some, None, true, if◌then◌else◌};
+ghost use Rattle.std.specs.Prelude.{◌≡◌, ◌&&◌, ◌||◌, ◌<◌, length, List, Some, None, true, if◌then◌else◌};
 ghost use Rattle.linear_form.specs.Lin.{minus as lin_minus, scaled as lin_scaled};
 ghost use Rattle.heyvl_num.specs.Value.{is_zeroʳ};
 ghost use Rattle.linear_form.specs.Query.{Taken as PlainTaken};
@@ -12,19 +12,12 @@ ghost use Rattle.linear_form.specs.internal.Seen.{Gives, Tells};
 ghost use Rattle.heyvl_num.specs.Extended.{value_of};
 
 use crate::cursor::{Found, Stop, Tested, answered};
-use crate::lin::{Lin, constant, copy, copy_value, is_sized, minus, plus, scaled};
+use crate::lin::{Lin, constant, copy, copy_value, is_constant, is_sized, minus, plus, scaled};
 use crate::multiples::small_multiple;
-use crate::numbers::{is_negative, is_zero, one, zero};
+use crate::numbers::{fits, is_negative, is_zero, one, signed, sum as number_sum, zero};
 use crate::paths::{Atom, Taken};
 use heyvl_num::{Ext, Frac};
 use std::alloc::Global;
-
-/// Whether a linear value holds no variable.
-fn is_constant(a: &Lin) -> bool
-    ensures { result ≡ has_no_terms (lin_of a.now).terms }
-{
-    a.terms.as_slice().split_first().is_none()
-}
 
 /// Whether a linear value is at most 0 or, where strict, below 0: known without variables, else asked.
 fn is_below(a: Lin, strict: bool, path: &[Taken], at: usize) -> Result<Tested, Stop>
@@ -55,8 +48,44 @@ fn compare(
     requires right { IsKept (lin_of b.now) }
     ensures { Tells result (along (path_of path.now) (tree.is_below (lin_minus (lin_of a.now) (lin_of b.now)) strict) at) }
 {
+    if at < path.len() {
+        if is_constant(a) || is_constant(b) {
+            return compare_on(a, b, strict, path, at);
+        }
+    }
     let difference = minus(alloc, a, b)?;
     is_below(difference, strict, path, at)
+}
+
+/// Whether both hold no variable.
+fn are_constant(a: &Lin, b: &Lin) -> bool
+    ensures { result ≡ (has_no_terms (lin_of a.now).terms && has_no_terms (lin_of b.now).terms) }
+{
+    is_constant(a) && is_constant(b)
+}
+
+/// The same where the path goes on and one of the two holds no variable: the difference isn't made.
+fn compare_on(a: &Lin, b: &Lin, strict: bool, path: &[Taken], at: usize) -> Result<Tested, Stop>
+    requires left { IsKept (lin_of a.now) }
+    requires right { IsKept (lin_of b.now) }
+    requires constant { (has_no_terms (lin_of a.now).terms || has_no_terms (lin_of b.now).terms) ≡ true }
+    requires goes_on { at < length path.now }
+    ensures { Tells result (along (path_of path.now) (tree.is_below (lin_minus (lin_of a.now) (lin_of b.now)) strict) at) }
+{
+    let rest = number_sum(&a.rest, &signed(&b.rest, true));
+    if !fits(&rest) {
+        Err(Stop::Bits)
+    } else if are_constant(a, b) {
+        Ok(Tested {
+            holds: is_negative(&rest, strict),
+            next: at,
+        })
+    } else {
+        Ok(Tested {
+            holds: path[at].held,
+            next: at + 1,
+        })
+    }
 }
 
 /// A value that a node has.

@@ -21,3 +21,9 @@ pub fn path_rows_grow()
     ensures first { law.FirstPathRows }
     ensures last { law.LastPathRow }
 {}
+
+/// Where the row of an answer stands on the path already, the path with this answer is kept as the path is. The path with the
+/// other answer has rows too: those of its answers, and then those of the signs.
+pub fn repeated_rows_stand()
+    ensures { law.RepeatedRowsStand }
+{}

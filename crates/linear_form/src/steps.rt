@@ -31,15 +31,15 @@ use heylo_formula::{Cond, Form};
 use heyvl_num::Ext;
 use std::alloc::{AllocError, Global};
 
-/// What one step of an evaluation gives.
+/// What one step of an evaluation gives. It is small, since each step hands it on.
 #[derive(Drop)]
 pub(crate) enum Step {
     /// The evaluation goes on.
     On,
     /// The path doesn't answer this question, which is asked at the place.
-    Asks(Atom),
+    Asks(Box<Atom>),
     /// The values of both forms.
-    Ends(Option<Lin>, Option<Lin>),
+    Ends(Box<Option<Lin>>, Box<Option<Lin>>),
     Bits,
 }
 
@@ -69,12 +69,12 @@ pub(crate) fn advance<'a>(
         }
         Focus::One(operator, x) => {
             let found = of_value(alloc, *operator, x, path, at);
-            value_found(place, found)
+            value_found(alloc, place, found)
         }
         Focus::Two(operator, x, y) => match *operator {
             Two::Value(binary) => {
                 let found = of_values(alloc, binary, x, y, path, at);
-                value_found(place, found)
+                value_found(alloc, place, found)
             }
             Two::Test(comparison) => {
                 let tested = comparison_of(alloc, comparison, x, y, path, at);
@@ -83,13 +83,14 @@ pub(crate) fn advance<'a>(
             Two::Ends => {
                 let stated = copy_value(alloc, x)?;
                 let found = copy_value(alloc, y)?;
-                Ok(at_the_end(&place.frames, stated, found))
+                at_the_end(alloc, &place.frames, stated, found)
             }
         },
     }
 }
 
 /// Goes on with this.
+#[inline(always)]
 fn on<'a>(place: &mut Place<'a>, focus: Focus<'a>) -> Step
     requires focus { IsKeptFocus focus }
     requires frames { AreKeptFrames place.old.frames.items }
@@ -109,31 +110,37 @@ fn chosen<'a>(place: &mut Place<'a>, t: bool, yes: Focus<'a>, no: Focus<'a>) -> 
     if t { on(place, yes) } else { on(place, no) }
 }
 
-/// Goes on with a part, while a frame waits for its outcome.
-fn under<'a>(place: &mut Place<'a>, frame: Frame<'a>, focus: Focus<'a>) -> Result<Step, AllocError>
-    requires focus { IsKeptFocus focus }
+/// Goes on with a form, while a frame waits for its value.
+#[inline(always)]
+fn under<'a>(place: &mut Place<'a>, frame: Frame<'a>, form: &'a Form) -> Result<Step, AllocError>
     requires frame { IsKeptFrame frame }
     requires frames { AreKeptFrames place.old.frames.items }
-    ensures { (ps : List PlainTaken) (w : ℕ) → focus_weight focus.entry + frame_weight frame.entry + frames_weight place.old.frames.items < w → IfOk result (Steps ps (through (next (asked_by focus.entry) (resumed frame.entry)) place.old.frames.items) place.old.at w place.new) }
+    ensures { (ps : List PlainTaken) (w : ℕ) → 4 * nodes (form_of form.now) + frame_weight frame.entry + frames_weight place.old.frames.items < w → IfOk result (Steps ps (through (next (valued (evaluate (form_of form.now))) (resumed frame.entry)) place.old.frames.items) place.old.at w place.new) }
 {
     place.frames.push(frame)?;
-    place.focus = focus;
+    place.focus = Focus::Form(form);
     Ok(Step::On)
 }
 
 /// Where the evaluation stops, the place stays.
-fn stopped(stop: Stop) -> Result<Step, AllocError>
+#[inline(always)]
+fn stopped(alloc: Global, stop: Stop) -> Result<Step, AllocError>
     ensures { (ps : List PlainTaken) (w : ℕ) (p : PlainPlace) → IsKeptFocus p.focus → AreKeptFrames p.frames.items → Stops stop (along ps (asked_by p.focus) p.at) → IfOk result (Steps ps (left_at p) p.at w p) }
 {
     match stop {
-        Stop::Decide(atom) => Ok(Step::Asks(atom)),
+        Stop::Decide(atom) => Ok(Step::Asks(Box::new(alloc, atom)?)),
         Stop::Bits => Ok(Step::Bits),
         Stop::Memory(e) => Err(e),
     }
 }
 
 /// What an operator gives that is run at a place.
-fn value_found<'a>(place: &mut Place<'a>, found: Result<Found, Stop>) -> Result<Step, AllocError>
+#[inline(always)]
+fn value_found<'a>(
+    alloc: Global,
+    place: &mut Place<'a>,
+    found: Result<Found, Stop>,
+) -> Result<Step, AllocError>
     requires value { IfOk found (λ f. IsKeptValue (linear_of f.value)) }
     requires focus { IsKeptFocus place.old.focus }
     requires frames { AreKeptFrames place.old.frames.items }
@@ -144,11 +151,12 @@ fn value_found<'a>(place: &mut Place<'a>, found: Result<Found, Stop>) -> Result<
             place.at = found.next;
             value_given(place, found.value)
         }
-        Err(stop) => stopped(stop),
+        Err(stop) => stopped(alloc, stop),
     }
 }
 
 /// What a test tells that is run at a place.
+#[inline(always)]
 fn truth_found<'a>(
     alloc: Global,
     place: &mut Place<'a>,
@@ -163,22 +171,30 @@ fn truth_found<'a>(
             place.at = tested.next;
             truth_given(alloc, place, tested.holds)
         }
-        Err(stop) => stopped(stop),
+        Err(stop) => stopped(alloc, stop),
     }
 }
 
 /// The values of both forms, where no frame waits for them.
-fn at_the_end(frames: &[Frame<'_>], stated: Option<Lin>, found: Option<Lin>) -> Step
-    ensures { (ps : List PlainTaken) (i w : ℕ) (p : PlainPlace) → Steps ps (through (done (Outcomes.ends (linear_of stated, linear_of found))) frames.now) i w p result }
+fn at_the_end(
+    alloc: Global,
+    frames: &[Frame<'_>],
+    stated: Option<Lin>,
+    found: Option<Lin>,
+) -> Result<Step, AllocError>
+    ensures { (ps : List PlainTaken) (i w : ℕ) (p : PlainPlace) → IfOk result (Steps ps (through (done (Outcomes.ends (linear_of stated, linear_of found))) frames.now) i w p) }
 {
     if frames.is_empty() {
-        Step::Ends(stated, found)
+        let one = Box::new(alloc, stated)?;
+        let other = Box::new(alloc, found)?;
+        Ok(Step::Ends(one, other))
     } else {
-        Step::Bits
+        Ok(Step::Bits)
     }
 }
 
 /// A value, for the frame that waits for it.
+#[inline(always)]
 fn value_given<'a>(place: &mut Place<'a>, x: Option<Lin>) -> Result<Step, AllocError>
     requires value { IsKeptValue (linear_of x) }
     requires frames { AreKeptFrames place.old.frames.items }
@@ -191,6 +207,7 @@ fn value_given<'a>(place: &mut Place<'a>, x: Option<Lin>) -> Result<Step, AllocE
 }
 
 /// A truth, for the frame that waits for it.
+#[inline(always)]
 fn truth_given<'a>(alloc: Global, place: &mut Place<'a>, t: bool) -> Result<Step, AllocError>
     requires frames { AreKeptFrames place.old.frames.items }
     ensures { (ps : List PlainTaken) → IfOk result (Steps ps (through (done (Outcomes.truth t)) place.old.frames.items) place.old.at (frames_weight place.old.frames.items) place.new) }
@@ -202,6 +219,7 @@ fn truth_given<'a>(alloc: Global, place: &mut Place<'a>, t: bool) -> Result<Step
 }
 
 /// A value for the frame that waited for it.
+#[inline(always)]
 fn resume_value<'a>(
     place: &mut Place<'a>,
     frame: Frame<'a>,
@@ -213,7 +231,7 @@ fn resume_value<'a>(
     ensures { (ps : List PlainTaken) → IfOk result (Steps ps (through (resumed frame.entry (Outcomes.number (linear_of x))) place.old.frames.items) place.old.at (frame_weight frame.entry + frames_weight place.old.frames.items) place.new) }
 {
     match frame {
-        Frame::Left(operator, b) => under(place, Frame::Right(operator, x), Focus::Form(b)),
+        Frame::Left(operator, b) => under(place, Frame::Right(operator, x), b),
         Frame::Right(operator, a) => Ok(on(place, Focus::Two(operator, a, x))),
         Frame::One(operator) => Ok(on(place, Focus::One(operator, x))),
         Frame::OfTruth(_) => Ok(Step::Bits),
@@ -226,6 +244,7 @@ fn resume_value<'a>(
 }
 
 /// A truth for the frame that waited for it.
+#[inline(always)]
 fn resume_truth<'a>(
     alloc: Global,
     place: &mut Place<'a>,
@@ -269,7 +288,7 @@ fn second<'a>(
         } else {
             Ok(on(place, Focus::Cond(h)))
         },
-        Connective::Same => under(place, Frame::Same(t), Focus::Cond(h)),
+        Connective::Same => condition(place, Frame::Same(t), h),
     }
 }
 
@@ -283,7 +302,7 @@ fn two_parts<'a>(
     requires frames { AreKeptFrames place.old.frames.items }
     ensures { (ps : List PlainTaken) (w : ℕ) → 4 * nodes (form_of a.now) + (3 + 4 * nodes (form_of b.now)) + frames_weight place.old.frames.items < w → IfOk result (Steps ps (through (next (valued (evaluate (form_of a.now))) (of_number (λ x. next (valued (evaluate (form_of b.now))) (of_number (of_two operator x))))) place.old.frames.items) place.old.at w place.new) }
 {
-    under(place, Frame::Left(operator, b), Focus::Form(a))
+    under(place, Frame::Left(operator, b), a)
 }
 
 /// Two forms, and then a comparison of their values. A form that asks nothing has its value at once.
@@ -316,11 +335,7 @@ fn compared_with<'a>(
     ensures { (ps : List PlainTaken) (w : ℕ) → 3 + 4 * nodes (form_of b.now) + frames_weight place.old.frames.items < w → IfOk result (Steps ps (through (next (valued (evaluate (form_of b.now))) (of_number (of_two (Two.Test operator) (Some (lin_of x))))) place.old.frames.items) place.old.at w place.new) }
 {
     match direct(alloc, b)? {
-        None => under(
-            place,
-            Frame::Right(Two::Test(operator), Some(x)),
-            Focus::Form(b),
-        ),
+        None => under(place, Frame::Right(Two::Test(operator), Some(x)), b),
         Some(y) => Ok(on(place, Focus::Two(Two::Test(operator), Some(x), Some(y)))),
     }
 }
@@ -330,16 +345,19 @@ fn one_part<'a>(place: &mut Place<'a>, operator: Unary<'a>, a: &'a Form) -> Resu
     requires frames { AreKeptFrames place.old.frames.items }
     ensures { (ps : List PlainTaken) (w : ℕ) → 4 * nodes (form_of a.now) + 2 + frames_weight place.old.frames.items < w → IfOk result (Steps ps (through (next (valued (evaluate (form_of a.now))) (of_number (λ x. valued (unary operator.entry x)))) place.old.frames.items) place.old.at w place.new) }
 {
-    under(place, Frame::One(operator), Focus::Form(a))
+    under(place, Frame::One(operator), a)
 }
 
 /// A condition, while a frame waits for its truth.
+#[inline(always)]
 fn condition<'a>(place: &mut Place<'a>, frame: Frame<'a>, g: &'a Cond) -> Result<Step, AllocError>
     requires frame { IsKeptFrame frame }
     requires frames { AreKeptFrames place.old.frames.items }
     ensures { (ps : List PlainTaken) (w : ℕ) → 4 * nodes_in (cond_of g.now) + frame_weight frame.entry + frames_weight place.old.frames.items < w → IfOk result (Steps ps (through (next (told (test (cond_of g.now))) (resumed frame.entry)) place.old.frames.items) place.old.at w place.new) }
 {
-    under(place, frame, Focus::Cond(g))
+    place.frames.push(frame)?;
+    place.focus = Focus::Cond(g);
+    Ok(Step::On)
 }
 
 /// A condition, and then the form that it chooses.
@@ -424,7 +442,7 @@ fn constant<'a>(
     ensures { (ps : List PlainTaken) → IfOk result (Steps ps (through (valued (evaluate (form_of form.now))) place.old.frames.items) place.old.at (4 * nodes (form_of form.now) + frames_weight place.old.frames.items) place.new) }
 {
     let found = number(alloc, v, place.at);
-    value_found(place, found)
+    value_found(alloc, place, found)
 }
 
 /// The value of a variable.

@@ -1,9 +1,10 @@
 //! Rows of inequalities with fractions.
 
-ghost use Rattle.std.specs.Prelude.{◌≡◌, ◌<◌, ◌^◌, ◌<ℤ◌, pos, length, unsigned_abs, IfOk, MatchOption, Some, None, if◌then◌else◌, true, false};
+ghost use Rattle.std.specs.Prelude.{◌≡◌, [], ◌∷◌, ◌<◌, ◌^◌, ◌<ℤ◌, pos, length, unsigned_abs, IfOk, MatchOption, Some, None, if◌then◌else◌, true, false};
 ghost use Rattle.heyvl_num.specs.Rational.{Rational, ratio, ◌*ʳ◌};
 ghost use Rattle.heyvl_num.specs.Rounding.{whole};
 ghost use Rattle.heyvl_num.specs.Value.{is_zeroʳ};
+ghost use Rattle.linear_form.specs.Terms.{is_narrow};
 ghost use Rattle.linear_form.specs.Lin.{AreNormal, all_fit, is_sized as lin_is_sized, fits as number_fits};
 ghost use Rattle.linear_form.specs.Tightening.{factor, whole_terms, all_narrow, sign_of, rounded as rounded_constant, are_whole as variables_are_whole, is_integral, tightened as row_tightened};
 ghost use Rattle.linear_form.specs.internal.WholeTimes.{AreWholeTimes};
@@ -13,7 +14,7 @@ ghost use Rattle.linear_form.specs.PlainPaths.{lin_of};
 
 use crate::lin::{Lin, is_sized};
 use crate::multiples::{exact_multiple, small_product};
-use crate::numbers::BOUND;
+use crate::numbers::{as_whole, narrow};
 use crate::row::Row;
 use heylo_formula::Ty;
 use heyvl_num::Frac;
@@ -79,17 +80,6 @@ fn factor_of(terms: &[(u32, Frac)]) -> Option<Frac>
                 },
             }
         }
-    }
-}
-
-/// The whole number, or None where it reaches 2^62 in absolute value.
-fn narrow(z: i128) -> Option<i64>
-    ensures { result ≡ narrow_value z }
-{
-    if z.unsigned_abs() < BOUND {
-        Some(z as i64)
-    } else {
-        None
     }
 }
 
@@ -257,5 +247,90 @@ pub fn tightened(
             })),
         };
     }
-    terms_tightened(alloc, types, &left.terms, &left.rest, strict)
+    match unit_term(&left.terms) {
+        None => terms_tightened(alloc, types, &left.terms, &left.rest, strict),
+        Some((x, c)) => match as_whole(&left.rest) {
+            None => terms_tightened(alloc, types, &left.terms, &left.rest, strict),
+            Some(k) => unit_tightened(alloc, types, x, c, k, strict),
+        },
+    }
+}
+
+/// The one term, where there is no other and its coefficient is 1 or -1.
+fn unit_term(terms: &[(u32, Frac)]) -> Option<(u32, i64)>
+    ensures { MatchOption result (Unit {0}) (λ t. (terms.now ≡ (t.0, whole t.1) ∷ []) × (unsigned_abs t.1 ≡ 1)) }
+{
+    match terms.split_first() {
+        None => None,
+        Some((term, others)) => {
+            if others.is_empty() {
+                unit_of(term)
+            } else {
+                None
+            }
+        }
+    }
+}
+
+/// The term, where its coefficient is 1 or -1.
+fn unit_of(term: &(u32, Frac)) -> Option<(u32, i64)>
+    ensures { MatchOption result (Unit {0}) (λ t. (term.now ≡ (t.0, whole t.1)) × (unsigned_abs t.1 ≡ 1)) }
+{
+    match as_whole(&term.1) {
+        None => None,
+        Some(c) => {
+            if c.unsigned_abs() == 1 {
+                Some((term.0, c))
+            } else {
+                None
+            }
+        }
+    }
+}
+
+/// The row of a variable, once or negated, and a whole number, or None where the number is too large once it is rounded.
+fn unit_tightened(
+    alloc: Global,
+    types: &[Ty],
+    x: u32,
+    c: i64,
+    k: i64,
+    strict: bool,
+) -> Result<Option<Row>, AllocError>
+    requires unit { unsigned_abs c ≡ 1 }
+    requires small { is_narrow k ≡ true }
+    ensures { IfOk result (λ o. o ≡ row_tightened (types_in types.now) (record { left = record { terms = (x, whole c) ∷ []; rest = whole k }; strict = strict })) }
+{
+    if is_whole(types, x) {
+        match raised(k, strict) {
+            None => Ok(None),
+            Some(rest) => Ok(Some(unit_row(alloc, x, c, rest, false)?)),
+        }
+    } else {
+        Ok(Some(unit_row(alloc, x, c, k, strict)?))
+    }
+}
+
+/// The whole number or, in a strict row, the next one above; None where that reaches 2^62.
+fn raised(k: i64, strict: bool) -> Option<i64>
+    ensures { result ≡ narrow_value (rounded_constant strict (whole k)) }
+{
+    if strict {
+        narrow(i128::from(k) + 1)
+    } else {
+        narrow(i128::from(k))
+    }
+}
+
+/// The row of one term.
+fn unit_row(alloc: Global, x: u32, c: i64, rest: i64, strict: bool) -> Result<Row, AllocError>
+    ensures { IfOk result (λ r. r ≡ record { terms = (x, c) ∷ []; rest = rest; strict = strict }) }
+{
+    let mut terms = Vec::with_capacity(alloc, 1)?;
+    terms.push((x, c))?;
+    Ok(Row {
+        terms,
+        rest,
+        strict,
+    })
 }

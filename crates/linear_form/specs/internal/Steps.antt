@@ -22,8 +22,8 @@ pub record Moves (ps : List Taken) (q : Query Ends) (i : ℕ) (p : Place) : Type
 -- What a step gives: another place with less to do, or what the evaluation along the path comes to.
 abbrev pub Steps : List Taken → Query Ends → ℕ → ℕ → Place → S.Step → Type 0
 Steps ps q i w p S.TheVariants.On = Moves ps q i p × (weight p < w)
-Steps ps q i w p (S.TheVariants.Asks a) = (along ps q i ≡ Evaluation.decide (atom_of a)) × Moves ps q i p
-Steps ps q i w p (S.TheVariants.Ends x y) = (j : ℕ) × (along ps q i ≡ Evaluation.value (linear_of x, linear_of y) j)
+Steps ps q i w p (S.TheVariants.Asks a) = (along ps q i ≡ Evaluation.decide (atom_of a.value)) × Moves ps q i p
+Steps ps q i w p (S.TheVariants.Ends x y) = (j : ℕ) × (along ps q i ≡ Evaluation.value (linear_of x.value, linear_of y.value) j)
 Steps ps q i w p S.TheVariants.Bits = along ps q i ≡ Evaluation.bits
 
 -- Frames that ask the same.

@@ -1,11 +1,12 @@
 use Rattle.std.proofs.Common.{◌≡◌, ap, ap₂, arith, sym, subst, ◌∙◌}
+use Rattle.std.specs.Prelude.{IfOk}
 use Rattle.linear_form.specs.Query.Query.{done}
 use Rattle.linear_form.specs.PlainPaths.{path_of, linear_of}
 use Rattle.linear_form.specs.internal.Nodes.{unary, binary, comparison}
 use Rattle.linear_form.specs.internal.Places.{Result, asked_by, of_two, through, focus_weight, weight, IsKeptFocus}
 use Rattle.linear_form.specs.internal.Steps.{Steps}
 use Rattle.linear_form.proofs.GoingOn.{with_more}
-use Rattle.linear_form.proofs.Resuming.{for_focus, query_step}
+use Rattle.linear_form.proofs.Resuming.{for_focus, for_query}
 use Rattle.linear_form.proofs.KeptOperators.{unary_kept, binary_kept, all_kept}
 use Rattle.linear_form.proofs.steps.advance.Goals as goal
 
@@ -37,4 +38,4 @@ pub returns-in-Test : goal.returns-in-Test
 returns-in-Test c = let n : focus_weight c.args.place.now.focus ≡ 1 = ap focus_weight c.in-Two.is in c.truth_found.ensures (path_of c.args.path.now) (comparison c.in-Test.comparison (linear_of c.in-Two.x) (linear_of c.in-Two.y)) _ (ap asked_by c.in-Two.is ∙ ap (λ o. of_two o (linear_of c.in-Two.x) (linear_of c.in-Two.y)) c.in-Test.is) c.comparison_of-tested.ensures (omega (arith, n))
 
 pub returns-in_ok-found-in-Ends : goal.returns-in_ok-found-in-Ends
-returns-in_ok-found-in-Ends c = query_step c.at_the_end.result (path_of c.args.path.now) c.args.place.now _ _ c.args.place.now.frames.items c.args.place.now.at _ (ap asked_by c.in-Two.is ∙ ap (λ o. of_two o (linear_of c.in-Two.x) (linear_of c.in-Two.y)) c.in-Ends.is ∙ ap₂ (λ x y. done (Result.ends (x, y))) (sym c.in_ok-stated-in-Ends.ensures) (sym c.in_ok-found-in-Ends.ensures)) (subst (λ fs. Steps (path_of c.args.path.now) (through (done (Result.ends (linear_of c.in_ok-stated-in-Ends.stated, linear_of c.in_ok-found-in-Ends.found))) fs) c.args.place.now.at (weight c.args.place.now) c.args.place.now c.at_the_end.result) c.deref.ensures.value (c.at_the_end.ensures (path_of c.args.path.now) c.args.place.now.at (weight c.args.place.now) c.args.place.now))
+returns-in_ok-found-in-Ends c = for_query c.at_the_end.result (path_of c.args.path.now) c.args.place.now _ _ c.args.place.now.frames.items c.args.place.now.at _ (ap asked_by c.in-Two.is ∙ ap (λ o. of_two o (linear_of c.in-Two.x) (linear_of c.in-Two.y)) c.in-Ends.is ∙ ap₂ (λ x y. done (Result.ends (x, y))) (sym c.in_ok-stated-in-Ends.ensures) (sym c.in_ok-found-in-Ends.ensures)) (subst (λ fs. IfOk c.at_the_end.result (Steps (path_of c.args.path.now) (through (done (Result.ends (linear_of c.in_ok-stated-in-Ends.stated, linear_of c.in_ok-found-in-Ends.found))) fs) c.args.place.now.at (weight c.args.place.now) c.args.place.now)) c.deref.ensures.value (c.at_the_end.ensures (path_of c.args.path.now) c.args.place.now.at (weight c.args.place.now) c.args.place.now))

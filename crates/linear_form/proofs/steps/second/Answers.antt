@@ -20,4 +20,4 @@ pub returns-else-t-2 : goal.returns-else-t-2
 returns-else-t-2 c = λ ps. second_step c.on-else-t-2.result ps _ c.args.operator _ c.args.t false (test (cond_of c.args.h.now)) c.args.place.now.frames.items c.args.place.now.at _ c.in-Or.is c.if-t-2.false (c.on-else-t-2.ensures ps _ (omega arith))
 
 pub returns-in-Same : goal.returns-in-Same
-returns-in-Same c = λ ps. for_second c.under.result ps _ c.args.operator _ c.args.t c.args.t (test (cond_of c.args.h.now)) c.args.place.now.frames.items c.args.place.now.at _ c.in-Same.is refl (for_query c.under.result ps _ _ _ c.args.place.now.frames.items c.args.place.now.at _ (truth_told (test (cond_of c.args.h.now)) (λ u. done (agree c.args.t u))) (c.under.ensures ps _ (omega arith)))
+returns-in-Same c = λ ps. for_second c.condition.result ps _ c.args.operator _ c.args.t c.args.t (test (cond_of c.args.h.now)) c.args.place.now.frames.items c.args.place.now.at _ c.in-Same.is refl (for_query c.condition.result ps _ _ _ c.args.place.now.frames.items c.args.place.now.at _ (truth_told (test (cond_of c.args.h.now)) (λ u. done (agree c.args.t u))) (c.condition.ensures ps _ (omega arith)))

@@ -2,7 +2,7 @@ use Rattle.heylo_formula.specs.Goals.{goal_of}
 use Rattle.linear_form.specs.Places.{IsOn}
 use Rattle.linear_form.specs.PlainPaths.{path_of}
 use Rattle.linear_form.specs.internal.Places.{weight}
-use Rattle.linear_form.proofs.going_on.go_on.Given as goal
+use Rattle.linear_form.proofs.going_on.go_on_from.Given as goal
 
 abbrev pub invariant-steps : goal.invariant-steps
 invariant-steps l = IsOn (goal_of l.goal) (path_of l.path) l.now

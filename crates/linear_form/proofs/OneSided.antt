@@ -1,0 +1,99 @@
+-- Sums and differences of linear values, one of which holds no variable.
+use Rattle.std.proofs.Common.{◌≡◌, [], ◌∷◌, refl, sym, ap, ap₂, ◌∙◌, subst, ℕ, List, Bool, true, false, ◌&&◌, ◌||◌, ◌<◌, ◌+◌, length, get_or, cond}
+use Rattle.std.specs.Prelude.{Some}
+use Rattle.heyvl_num.specs.Rational.{Rational, ◌+ʳ◌, ◌*ʳ◌}
+use Rattle.heyvl_num.proofs.exported.Rationals.{+ʳ_comm}
+use Rattle.linear_form.specs.Lin.{Lin, Terms, AreNormal, constant, merged, more, times, plus, minus, minus_oneʳ, fits, all_fit, is_sized}
+use Rattle.linear_form.specs.PlainPaths.{path_of}
+use Rattle.linear_form.specs.Query.{Taken, is_negative}
+use Rattle.linear_form.specs.Questions as q
+use Rattle.linear_form.specs.internal.Direct.{Yields}
+use Rattle.linear_form.specs.internal.Operator.{has_no_terms}
+use Rattle.linear_form.specs.internal.Run.{Evaluation, along, IsKept}
+use Rattle.linear_form.specs.internal.Run.Evaluation.{value}
+use Rattle.linear_form.specs.declared.paths.Taken as T
+use Rattle.linear_form.proofs.OperatorRuns.{run_below_large, run_below_known, run_below_asked}
+use Rattle.linear_form.proofs.Runs.{turned_at}
+use Rattle.linear_form.proofs.DirectValues.{yields_sized}
+use Rattle.linear_form.proofs.KeptParts.{terms_fit}
+use Rattle.linear_form.proofs.KeptValues.{times_normal}
+use Rattle.linear_form.proofs.MergedTerms.{passed, minus_one_nonzero, difference_made}
+use Rattle.linear_form.proofs.Narrow.{fits_negated}
+
+no_terms : (ts : Terms) → has_no_terms ts ≡ true → ts ≡ []
+no_terms [] e = refl
+no_terms (t ∷ ts) e = absurd (cc)
+
+pub plus_with : (a b : Lin) → has_no_terms b.terms ≡ true → plus a (constant b.rest) ≡ plus a b
+plus_with a b e = ap (λ ts. plus a (record { terms = ts; rest = b.rest })) (sym (no_terms b.terms e))
+
+alone : (us : Terms) → AreNormal us → merged us [] ≡ us
+alone [] h = refl
+alone (u ∷ us) h = ap (merged us) put ∙ passed u us [] h.1.0 ∙ ap (λ z. u ∷ z) (alone us h.1.1)
+  where
+    put : more u.0 u.1 [] ≡ u ∷ []
+    put = rw h.0
+
+made : Terms → Rational → Lin
+made ts r = record { terms = ts; rest = r }
+
+plus_number : (a : Lin) (x : Rational) → plus a (constant x) ≡ record { terms = a.terms; rest = a.rest +ʳ x }
+unfolding plus
+plus_number a x = refl
+
+pub number_plus : (a b : Lin) → has_no_terms a.terms ≡ true → AreNormal b.terms → plus b (constant a.rest) ≡ plus a b
+unfolding plus made
+number_plus a b e h = ap₂ made (sym (ap (merged b.terms) (no_terms a.terms e) ∙ alone b.terms h)) (+ʳ_comm b.rest a.rest)
+
+pub shifted_yields : (a : Lin) (x s : Rational) → IsKept a → s ≡ a.rest +ʳ x → fits s ≡ true → Yields (q.sum (Some a) (Some (constant x))) (record { terms = a.terms; rest = s })
+unfolding is_sized made
+shifted_yields a x s h e f = subst (λ p. Yields (q.sized (Some p)) (made a.terms s)) (ap (made a.terms) e ∙ sym (plus_number a x)) (yields_sized (made a.terms s) h.normal (rw (f, terms_fit a h)))
+
+minus_is : (a b : Lin) → minus a b ≡ record { terms = merged (times minus_oneʳ b.terms) a.terms; rest = a.rest +ʳ (minus_oneʳ *ʳ b.rest) }
+minus_is a b = sym (difference_made a b _ _ _ refl refl refl)
+
+pub minus_number : (a b : Lin) → has_no_terms b.terms ≡ true → plus a (constant (minus_oneʳ *ʳ b.rest)) ≡ minus a b
+unfolding made
+minus_number a b e = plus_number a (minus_oneʳ *ʳ b.rest) ∙ sym (minus_is a b ∙ ap (λ ts. made (merged (times minus_oneʳ ts) a.terms) (a.rest +ʳ (minus_oneʳ *ʳ b.rest))) (no_terms b.terms e))
+
+-- ---- A comparison with a number
+
+times_fit : (us : Terms) → all_fit (times minus_oneʳ us) ≡ all_fit us
+times_fit [] = refl
+times_fit (u ∷ us) = ap₂ (λ a b. a && b) (fits_negated u.1) (times_fit us)
+
+and_true : (b : Bool) → (b && true) ≡ b
+and_true true = refl
+and_true false = refl
+
+difference_terms : (ts us : Terms) → AreNormal us → (has_no_terms ts || has_no_terms us) ≡ true → all_fit ts ≡ true → all_fit us ≡ true → (all_fit (merged (times minus_oneʳ us) ts) ≡ true) × (has_no_terms (merged (times minus_oneʳ us) ts) ≡ (has_no_terms ts && has_no_terms us))
+difference_terms ts [] n e f g = (f, sym (and_true (has_no_terms ts)))
+difference_terms [] (u ∷ us) n e f g = let k = alone (times minus_oneʳ (u ∷ us)) (times_normal minus_oneʳ (u ∷ us) minus_one_nonzero n) in (ap all_fit k ∙ times_fit (u ∷ us) ∙ g, ap has_no_terms k)
+difference_terms (t ∷ ts) (u ∷ us) n e f g = absurd (cc)
+
+either : (b : Bool) (i : ℕ) → cond b (value true i) (value false i) ≡ value b i
+either true i = refl
+either false i = refl
+
+module _ (a b : Lin) (s r : Rational) (h : IsKept a) (k : IsKept b) (e : (has_no_terms a.terms || has_no_terms b.terms) ≡ true) (g : s ≡ minus_oneʳ *ʳ b.rest) (f : r ≡ a.rest +ʳ s) where
+  terms : (all_fit (merged (times minus_oneʳ b.terms) a.terms) ≡ true) × (has_no_terms (merged (times minus_oneʳ b.terms) a.terms) ≡ (has_no_terms a.terms && has_no_terms b.terms))
+  terms = difference_terms a.terms b.terms k.normal e (terms_fit a h) (terms_fit b k)
+
+  rest_is : (minus a b).rest ≡ r
+  rest_is = ap (λ (l : Lin). l.rest) (minus_is a b) ∙ sym (f ∙ ap (λ s. a.rest +ʳ s) g)
+
+  sized_is : is_sized (minus a b) ≡ fits r
+  unfolding is_sized
+  sized_is = ap₂ (λ x y. fits x && y) rest_is (ap (λ (l : Lin). all_fit l.terms) (minus_is a b) ∙ terms.0) ∙ and_true (fits r)
+
+  constant_is : has_no_terms (minus a b).terms ≡ (has_no_terms a.terms && has_no_terms b.terms)
+  constant_is = ap (λ (l : Lin). has_no_terms l.terms) (minus_is a b) ∙ terms.1
+
+  pub difference_large : (ps : List Taken) (strict : Bool) (i : ℕ) → fits r ≡ false → along ps (q.is_below (minus a b) strict) i ≡ Evaluation.bits
+  difference_large ps strict i z = run_below_large ps (minus a b) strict i (sized_is ∙ z)
+
+  pub difference_known : (ps : List Taken) (strict : Bool) (i : ℕ) → fits r ≡ true → (has_no_terms a.terms && has_no_terms b.terms) ≡ true → along ps (q.is_below (minus a b) strict) i ≡ value (is_negative r strict) i
+  difference_known ps strict i z n = run_below_known ps (minus a b) strict i (sized_is ∙ z) (constant_is ∙ n) ∙ ap (λ x. value (is_negative x strict) i) rest_is
+
+  pub difference_told : (ps : List T.Taken) (strict : Bool) (i : ℕ) (p : T.Taken) → fits r ≡ true → (has_no_terms a.terms && has_no_terms b.terms) ≡ false → i < length ps → p ≡ get_or ps i p → along (path_of ps) (q.is_below (minus a b) strict) i ≡ value (get_or ps i p).held (i + 1)
+  difference_told ps strict i p z n l m = run_below_asked (path_of ps) (minus a b) strict i (sized_is ∙ z) (constant_is ∙ n) ∙ turned_at ps i p _ _ _ l m ∙ either p.held (i + 1) ∙ ap (λ (p : T.Taken). value p.held (i + 1)) m
