@@ -1,7 +1,8 @@
 -- How a walk goes down to a question's first branch, and up from a finished one.
-use Rattle.std.proofs.Common.{◌≡◌, ◌+◌, ◌<◌, List, [], ◌∷◌, ◌++◌, refl, sym, ap, ◌∙◌, subst, arith, append_assoc, Bool, true, false}
+use Rattle.std.proofs.Common.{◌≡◌, ◌+◌, ◌<◌, ◌≤◌, List, [], ◌∷◌, ◌++◌, refl, sym, ap, ◌∙◌, subst, arith, append_assoc, Bool, true, false}
 use Rattle.std.specs.Prelude.{Option, if◌then◌else◌}
 use Rattle.std.specs.List.{All}
+use Rattle.std.proofs.lemmas.List.{append-nil}
 use Rattle.std.proofs.lemmas.List.Elements.{All-nil, All-cons, All-head, All-tail}
 use Rattle.heylo_formula.specs.Goals.{Goal}
 use Rattle.linear_form.specs.Query.{Query, Atom, Taken, onto}
@@ -11,7 +12,7 @@ use Rattle.linear_form.specs.Paths.{walk, end_at}
 use Rattle.region_split.specs.Walk.{AreCells}
 use Rattle.linear_form.specs.Cells.{GoesOn}
 use Rattle.region_split.specs.internal.Progress.{HoldsAt, IsBranch, HasBefore, IsAfter, IsGrown, size, rest_of, left_of}
-use Rattle.region_split.specs.declared.growth.Grown.{Grown}
+use Rattle.farkas_check.specs.declared.trees.Tree as F
 
 -- ---- A path and its last answer
 
@@ -41,23 +42,23 @@ snoc_not_empty (x ∷ ps) p e = let k : [] ≡ x ∷ (ps ++ (p ∷ [])) = e in a
 -- ---- Taking apart where the walk stands
 
 -- the walk stands in a first branch
-pub record InFirst (g : Goal) (ps : List Taken) (q : Atom) (cells : List (List Taken)) (trees : List (Option Grown)) : Type 0 where
+pub record InFirst (g : Goal) (ps : List Taken) (q : Atom) (cells : List (List Taken)) (trees : List (Option F.Tree)) : Type 0 where
   pub goes_on : GoesOn g ps q
   pub stands : HasBefore g ps cells trees
 
 -- the walk stands in a second branch
-pub record InSecond (g : Goal) (ps : List Taken) (q : Atom) (cells : List (List Taken)) (trees : List (Option Grown)) : Type 0 where
+pub record InSecond (g : Goal) (ps : List Taken) (q : Atom) (cells : List (List Taken)) (trees : List (Option F.Tree)) : Type 0 where
   pub goes_on : GoesOn g ps q
   pub before : List (List Taken)
   pub here : List (List Taken)
-  pub others : List (Option Grown)
-  pub tree : Option Grown
+  pub others : List (Option F.Tree)
+  pub tree : Option F.Tree
   pub whole_cells : before ++ here ≡ cells
   pub whole_trees : others ++ (tree ∷ []) ≡ trees
   pub stands : HasBefore g ps before others
   pub branch : IsBranch g (onto ps q true) here tree
 
-pub in_first : (g : Goal) (rs ps : List Taken) (q : Atom) (cells : List (List Taken)) (trees : List (Option Grown)) → rs ≡ onto ps q true → HasBefore g rs cells trees → InFirst g ps q cells trees
+pub in_first : (g : Goal) (rs ps : List Taken) (q : Atom) (cells : List (List Taken)) (trees : List (Option F.Tree)) → rs ≡ onto ps q true → HasBefore g rs cells trees → InFirst g ps q cells trees
 in_first g _ ps q _ _ e HasBefore.start = absurd (snoc_not_empty ps (taken q true) e)
 in_first g _ ps q _ _ e (HasBefore.first rs r cells trees h b) =
     let a : rs ≡ ps = snoc_first rs ps (taken r true) (taken q true) e in
@@ -65,7 +66,7 @@ in_first g _ ps q _ _ e (HasBefore.first rs r cells trees h b) =
     record { goes_on = subst (λ x. GoesOn g x q) a (subst (λ x. GoesOn g rs x) c h); stands = subst (λ x. HasBefore g x cells trees) a b }
 in_first g _ ps q _ _ e (HasBefore.second rs r cells here trees tree h b d) = let k : false ≡ true = ap (λ p. p.held) (snoc_last rs ps (taken r false) (taken q true) e) in absurd (cc)
 
-pub in_second : (g : Goal) (rs ps : List Taken) (q : Atom) (cells : List (List Taken)) (trees : List (Option Grown)) → rs ≡ onto ps q false → HasBefore g rs cells trees → InSecond g ps q cells trees
+pub in_second : (g : Goal) (rs ps : List Taken) (q : Atom) (cells : List (List Taken)) (trees : List (Option F.Tree)) → rs ≡ onto ps q false → HasBefore g rs cells trees → InSecond g ps q cells trees
 in_second g _ ps q _ _ e HasBefore.start = absurd (snoc_not_empty ps (taken q false) e)
 in_second g _ ps q _ _ e (HasBefore.first rs r cells trees h b) = let k : true ≡ false = ap (λ p. p.held) (snoc_last rs ps (taken r true) (taken q false) e) in absurd (cc)
 in_second g _ ps q _ _ e (HasBefore.second rs r cells here trees tree h b d) =
@@ -98,7 +99,7 @@ all_second P [] ys h = h
 all_second P (x ∷ xs) ys h = all_second P xs ys (All-tail P x (xs ++ ys) h)
 
 -- once the second branch is finished, so is the question above
-pub after_second : (g : Goal) (ps : List Taken) (q : Atom) (trees others : List (Option Grown)) (all : List (List Taken)) (left tree joined : Option Grown) → IsAfter g (onto ps q false) trees all tree → trees ≡ others ++ (left ∷ []) → (GoesOn g ps q → IsGrown g (onto ps q true) left → IsGrown g (onto ps q false) tree → IsGrown g ps joined) → IsAfter g ps others all joined
+pub after_second : (g : Goal) (ps : List Taken) (q : Atom) (trees others : List (Option F.Tree)) (all : List (List Taken)) (left tree joined : Option F.Tree) → IsAfter g (onto ps q false) trees all tree → trees ≡ others ++ (left ∷ []) → (GoesOn g ps q → IsGrown g (onto ps q true) left → IsGrown g (onto ps q false) tree → IsGrown g ps joined) → IsAfter g ps others all joined
 after_second g ps q trees others all left tree joined a e j =
     let s = in_second g (onto ps q false) ps q a.before trees refl a.stands in
     let k : s.others ++ (s.tree ∷ []) ≡ others ++ (left ∷ []) = s.whole_trees ∙ e in
@@ -115,19 +116,34 @@ after_second g ps q trees others all left tree joined a e j =
       };
     }
 
+-- where the second branch has no cells, the question above is finished with the first one
+pub after_first : (g : Goal) (ps : List Taken) (q : Atom) (trees : List (Option F.Tree)) (all : List (List Taken)) (tree right joined : Option F.Tree) → IsAfter g (onto ps q true) trees all tree → IsBranch g (onto ps q false) [] right → (GoesOn g ps q → IsGrown g (onto ps q true) tree → IsGrown g (onto ps q false) right → IsGrown g ps joined) → IsAfter g ps trees all joined
+after_first g ps q trees all tree right joined a b j =
+    let s = in_first g (onto ps q true) ps q a.before trees refl a.stands in
+    record {
+      before = a.before;
+      here = a.here ++ [];
+      whole = ap (λ cs. a.before ++ cs) (append-nil a.here) ∙ a.whole;
+      stands = s.stands;
+      branch = record {
+        are_cells = cells_joined g ps q a.here [] s.goes_on a.branch.are_cells b.are_cells;
+        grown = λ h. j s.goes_on (a.branch.grown (all_first (HoldsAt g) a.here [] h)) (b.grown (All-nil (HoldsAt g)));
+      };
+    }
+
 -- once the first branch is finished, the walk stands in the second
-pub before_second : (g : Goal) (ps : List Taken) (q : Atom) (trees : List (Option Grown)) (all : List (List Taken)) (tree : Option Grown) → IsAfter g (onto ps q true) trees all tree → HasBefore g (onto ps q false) all (trees ++ (tree ∷ []))
+pub before_second : (g : Goal) (ps : List Taken) (q : Atom) (trees : List (Option F.Tree)) (all : List (List Taken)) (tree : Option F.Tree) → IsAfter g (onto ps q true) trees all tree → HasBefore g (onto ps q false) all (trees ++ (tree ∷ []))
 before_second g ps q trees all tree a =
     let s = in_first g (onto ps q true) ps q a.before trees refl a.stands in
     subst (λ cs. HasBefore g (onto ps q false) cs (trees ++ (tree ∷ []))) a.whole (HasBefore.second ps q a.before a.here trees tree s.goes_on s.stands a.branch)
 
-before_start : (g : Goal) (ps : List Taken) (cells : List (List Taken)) (trees : List (Option Grown)) → ps ≡ [] → HasBefore g ps cells trees → cells ≡ []
+before_start : (g : Goal) (ps : List Taken) (cells : List (List Taken)) (trees : List (Option F.Tree)) → ps ≡ [] → HasBefore g ps cells trees → cells ≡ []
 before_start g _ _ _ e HasBefore.start = refl
 before_start g _ _ _ e (HasBefore.first ps q cells trees h b) = absurd (snoc_not_empty ps (taken q true) (sym e))
 before_start g _ _ _ e (HasBefore.second ps q cells here trees tree h b d) = absurd (snoc_not_empty ps (taken q false) (sym e))
 
 -- at the start all is walked
-pub after_start : (g : Goal) (trees : List (Option Grown)) (all : List (List Taken)) (tree : Option Grown) → IsAfter g [] trees all tree → IsBranch g [] all tree
+pub after_start : (g : Goal) (trees : List (Option F.Tree)) (all : List (List Taken)) (tree : Option F.Tree) → IsAfter g [] trees all tree → IsBranch g [] all tree
 after_start g trees all tree a =
     let e : a.here ≡ all = ap (λ cs. cs ++ a.here) (sym (before_start g [] a.before trees refl a.stands)) ∙ a.whole in
     subst (λ cs. IsBranch g [] cs tree) e a.branch
@@ -178,6 +194,9 @@ walk_on (ask r y' n') (p ∷ ps) q y n b e = go p.held e (walk_on y' ps q y n b)
 pub rest_up : (g : Goal) (ps : List Taken) (q : Atom) → GoesOn g ps q → rest_of (questions g) (onto ps q false) ≡ rest_of (questions g) ps
 rest_up g ps q h = rest_second (questions g) ps q h.asks.yes h.asks.no h.asks.question
 
+pub rest_up_first : (g : Goal) (ps : List Taken) (q : Atom) → GoesOn g ps q → rest_of (questions g) ps ≤ rest_of (questions g) (onto ps q true)
+rest_up_first g ps q h = let b = rest_first (questions g) ps q h.asks.yes h.asks.no h.asks.question in omega (arith, b)
+
 -- the second branch is what is right of the first
 pub left_second : (g : Goal) (ps : List Taken) (q : Atom) → GoesOn g ps q → left_of g (onto ps q false) ≡ rest_of (questions g) (onto ps q true)
 left_second g ps q h =
@@ -196,3 +215,11 @@ left_first g ps q h =
 
 pub rest_below : (g : Goal) (ps : List Taken) → rest_of (questions g) ps < left_of g ps
 rest_below g ps = let h = size_positive (end_at g ps) in omega arith
+
+-- and so is the second one
+pub left_of_second : (g : Goal) (ps : List Taken) (q : Atom) → GoesOn g ps q → left_of g (onto ps q false) < left_of g ps
+left_of_second g ps q h =
+    let a = left_second g ps q h in
+    let b = rest_below g (onto ps q true) in
+    let c = left_first g ps q h in
+    omega (arith, a, b, c)

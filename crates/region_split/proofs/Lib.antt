@@ -7,6 +7,11 @@ mod CellsFound
 mod TypedBreaks
 mod Leaves
 mod Steps
+mod ClashingRows
+mod KnownFractions
+mod KnownRows
+mod AnsweredBefore
+mod KnownTrails
 mod ProvedGoals
 mod GreedyOrder
 mod GreedyStates

@@ -13,6 +13,7 @@ use Rattle.linear_form.specs.PlainPaths.{linear_of, atom_of}
 use Rattle.linear_form.specs.Tightening.{Claim}
 use Rattle.linear_form.specs.Row.{Row}
 use Rattle.linear_form.specs.Asked.{Answers}
+use Rattle.linear_form.specs.Lasting.{IsNoEnd}
 use Rattle.linear_form.specs.Solutions.{IsSolvable}
 use Rattle.linear_form.specs.Combination.{IsContradiction}
 use Rattle.linear_form.specs.GreedyPoint.{IsGreedyPoint}
@@ -28,7 +29,8 @@ use Rattle.linear_elim.specs.declared.answers.Cause.TheVariants.{Bits, Rows}
 use Rattle.farkas_check.specs.Accepted.{has_denied, IsRefutedWith}
 use Rattle.region_split.specs.Walk.{IsReached}
 use Rattle.region_split.specs.Decisions.{Eliminates, IsLarge}
-use Rattle.region_split.specs.internal.Seen.{MayLook, EndsWalk, IsPointAt, IsBreakAt, IsMetAt, IsDroppedBy, IsEnd}
+use Rattle.region_split.specs.internal.Seen.{MayLook, EndsWalk, IsPointAt, IsBreakAt, IsMetAt, IsEnd}
+use Rattle.region_split.specs.internal.Trails.{IsDroppedBy}
 
 -- ---- What the elimination answers
 
@@ -142,6 +144,15 @@ undenied_question upper q (ask r y n) h = refl
 
 pub question_undenied : (g : Goal) (ps : List Taken) (q : A.Atom) → Answers (K.TheVariants.Decide q) (end_at g ps) → has_denied g ps ≡ false
 question_undenied g ps q a = undenied_question g.upper q (end_at g ps) a
+
+-- nor is it where there is no end
+pub unended_undenied : (g : Goal) (ps : List Taken) → IsNoEnd g ps → has_denied g ps ≡ false
+unended_undenied g ps n = go (end_at g ps) refl
+  where
+    go : (t : Query Ends) → end_at g ps ≡ t → has_denied g ps ≡ false
+    go (done e) h = absurd (n e h)
+    go bits h = ap (λ t. is_some (denial_at g.upper t)) h
+    go (ask q y m) h = ap (λ t. is_some (denial_at g.upper t)) h
 
 at_an_end : (upper : Bool) (x y : Option L.Lin) (t : Query Ends) → Answers (K.TheVariants.End x y) t → is_some (denial_at upper t) ≡ is_some (denial upper (linear_of x, linear_of y))
 at_an_end upper x y (done e) h = ap (λ d. is_some (denial upper d)) (sym h)

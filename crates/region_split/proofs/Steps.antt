@@ -1,9 +1,9 @@
 -- How a walk goes on from its path.
-use Rattle.std.proofs.Common.{◌≡◌, ℕ, ◌+◌, ◌<◌, ◌≤◌, ◌^◌, List, [], ◌∷◌, ◌++◌, length, refl, sym, ap, ◌∙◌, subst, arith, Vec, Global, Bool, true, false, inl}
+use Rattle.std.proofs.Common.{◌≡◌, ℕ, ◌+◌, ◌<◌, ◌≤◌, ◌^◌, List, [], ◌∷◌, ◌++◌, length, refl, sym, ap, ◌∙◌, subst, arith, length-append, Vec, Global, Bool, true, false, inl}
 use Rattle.std.specs.Prelude.{Option, Some, None, Result, IfOk, option_to_list}
 use Rattle.std.specs.Option.{option_flatten}
 use Rattle.std.proofs.lemmas.List.Elements.{All-nil}
-use Rattle.std.proofs.lemmas.List.{length-map}
+use Rattle.std.proofs.lemmas.List.{append-nil, length-map}
 use Rattle.heylo_formula.specs.Goals.{Goal}
 use Rattle.heylo_formula.specs.declared.values.Val.{Val}
 use Rattle.linear_form.specs.Query.{Atom, Taken, onto}
@@ -22,27 +22,30 @@ use Rattle.region_split.specs.Walk.{IsReached}
 use Rattle.region_split.specs.Decisions.{HasCells, IsBreakOf, IsCause}
 use Rattle.heylo_formula.specs.TypedGoals.{IsTypedGoal}
 use Rattle.region_split.proofs.TypedBreaks.{break_of}
-use Rattle.region_split.specs.internal.Seen.{EndsWalk, IsEnd, IsDroppedBy, IsPointAt, IsBreakAt, IsMetAt}
-use Rattle.region_split.specs.internal.Trails.{Comes, ComesBy, Stands, StandsAt}
-use Rattle.region_split.specs.internal.Progress.{HoldsAt, AreShort, IsGrown, IsBranch, HasBefore, IsAfter, HasRisen, IsNextFront, IsFound, HasCome, IsWalk, IsStandingWalk, IsFinishedWalk, IsStep, IsJudgedCell, rest_of, left_of}
-use Rattle.region_split.specs.declared.growth.Grown.{Grown}
+use Rattle.region_split.specs.internal.Seen.{EndsWalk, IsEnd, IsPointAt, IsBreakAt, IsMetAt}
+use Rattle.region_split.specs.internal.Trails.{Comes, ComesBy, Stands, StandsAt, IsDroppedBy}
+use Rattle.region_split.specs.internal.Progress.{HoldsAt, AreShort, IsGrown, IsLeaf, IsBranch, HasBefore, IsAfter, HasRisen, IsNextFront, IsFound, HasCome, IsWalk, IsStandingWalk, IsFinishedWalk, IsBelow, IsStep, IsAt, IsJudgedCell, rest_of, left_of, left_after}
 use Rattle.region_split.specs.declared.found.Found.{Found}
 use Rattle.region_split.specs.declared.trail.Trail.{Trail}
 use Rattle.region_split.specs.declared.walk.Walk.{Walk}
 use Rattle.region_split.specs.declared.walk.Step.{Step}
-use Rattle.region_split.proofs.Climbing.{taken, in_first, in_second, after_second, before_second, after_start, left_second, left_first, rest_below, rest_up}
+use Rattle.region_split.proofs.Climbing.{taken, in_first, in_second, after_second, before_second, after_start, left_second, left_first, rest_below, rest_up, after_first, rest_up_first}
 use Rattle.region_split.proofs.CellOrder.{front_path, stands_front, reached, cell_here, many_cells}
 use Rattle.region_split.proofs.CellsFound.{found_holds, point_is_false, break_is_false, met_is_false, point_longer}
-use Rattle.region_split.proofs.Leaves.{leaf_of, dropped_leaf, plain_leaf, refuted_leaf, refuted_holds, false_leaf, dropped_finished, cell_finished}
+use Rattle.region_split.proofs.Leaves.{dropped_leaf, plain_leaf, refuted_leaf, refuted_holds, false_leaf, dropped_finished, cell_finished}
 
 -- ---- Paths that the program holds
 
 pub path_onto : (xs ys : List Taken) (p : T.Taken) (b : Bool) → ys ≡ xs ++ (taken_of p ∷ []) → p.held ≡ b → ys ≡ onto xs (atom_of p.atom) b
 path_onto xs ys p b e h = e ∙ ap (λ c. xs ++ (taken (atom_of p.atom) c ∷ [])) h
 
+-- how long the program finds a path to be
+pub path_length : (xs : List T.Taken) (n : ℕ) → n ≡ length xs → n ≡ length (path_of xs)
+path_length xs n e = let l = length-map xs taken_of in omega (arith, l, e)
+
 -- ---- Going up
 
-pub next_branch : (g : Goal) (all : List (List Taken)) (from : List Taken) (t before next : Trail) (trees more : List (Option Grown)) (tree : Option Grown) (p q : T.Taken) → HasRisen g all from t trees tree → path_of t.path.items ≡ path_of before.path.items ++ (taken_of p ∷ []) → p.held ≡ true → ComesBy g before q next → q.atom ≡ p.atom → q.held ≡ false → more ≡ trees ++ (tree ∷ []) → Comes g next × IsNextFront g from all (path_of next.path.items) more
+pub next_branch : (g : Goal) (all : List (List Taken)) (from : List Taken) (t before next : Trail) (trees more : List (Option F.Tree)) (tree : Option F.Tree) (p q : T.Taken) → HasRisen g all from t trees tree → path_of t.path.items ≡ path_of before.path.items ++ (taken_of p ∷ []) → p.held ≡ true → ComesBy g before q next → q.atom ≡ p.atom → q.held ≡ false → more ≡ trees ++ (tree ∷ []) → Comes g next × IsNextFront g from all (path_of next.path.items) more
 next_branch g all from t before next trees more tree p q r e h n k l m =
     let xs = path_of before.path.items in
     let b = path_onto xs (path_of t.path.items) p true e h in
@@ -61,12 +64,12 @@ next_branch g all from t before next trees more tree p q r e h n k l m =
       },
     )
 
-last_tree : (trees others : List (Option Grown)) (left : Option (Option Grown)) (known : List (Option Grown)) (tree : Option Grown) → known ++ (tree ∷ []) ≡ trees → (left ≡ None → length trees ≡ 0) → trees ≡ others ++ option_to_list left → trees ≡ others ++ (option_flatten left ∷ [])
+last_tree : (trees others : List (Option F.Tree)) (left : Option (Option F.Tree)) (known : List (Option F.Tree)) (tree : Option F.Tree) → known ++ (tree ∷ []) ≡ trees → (left ≡ None → length trees ≡ 0) → trees ≡ others ++ option_to_list left → trees ≡ others ++ (option_flatten left ∷ [])
 last_tree trees others (Some t) known tree k n e = e
 last_tree trees others None [] tree k n e = let l = n refl in let m = ap length k in absurd (omega (arith, l, m))
 last_tree trees others None (x ∷ known) tree k n e = let l = n refl in let m : length (x ∷ (known ++ (tree ∷ []))) ≡ length trees = ap length k in absurd (omega (arith, l, m))
 
-pub question_finished : (g : Goal) (all : List (List Taken)) (from : List Taken) (t before : Trail) (trees others : List (Option Grown)) (tree joined : Option Grown) (left : Option (Option Grown)) (flat : Option Grown) (p : T.Taken) → HasRisen g all from t trees tree → Stands g before → path_of t.path.items ≡ path_of before.path.items ++ (taken_of p ∷ []) → p.held ≡ false → (left ≡ None → length trees ≡ 0) → trees ≡ others ++ option_to_list left → flat ≡ option_flatten left → ((ps : List Taken) (q : Atom) → GoesOn g ps q → IsGrown g (onto ps q true) flat → IsGrown g (onto ps q false) tree → IsGrown g ps joined) → HasRisen g all from before others joined
+pub question_finished : (g : Goal) (all : List (List Taken)) (from : List Taken) (t before : Trail) (trees others : List (Option F.Tree)) (tree joined : Option F.Tree) (left : Option (Option F.Tree)) (flat : Option F.Tree) (p : T.Taken) → HasRisen g all from t trees tree → Stands g before → path_of t.path.items ≡ path_of before.path.items ++ (taken_of p ∷ []) → p.held ≡ false → (left ≡ None → length trees ≡ 0) → trees ≡ others ++ option_to_list left → flat ≡ option_flatten left → ((ps : List Taken) (q : Atom) → GoesOn g ps q → IsGrown g (onto ps q true) flat → IsGrown g (onto ps q false) tree → IsGrown g ps joined) → HasRisen g all from before others joined
 question_finished g all from t before trees others tree joined left flat p r z e h n f k j =
     let xs = path_of before.path.items in
     let b = path_onto xs (path_of t.path.items) p false e h in
@@ -76,10 +79,28 @@ question_finished g all from t before trees others tree joined left flat p r z e
     record {
       stands = z;
       after = after_second g xs (atom_of p.atom) trees others all (option_flatten left) tree joined d u (λ m x y. j xs (atom_of p.atom) m (subst (IsGrown g (onto xs (atom_of p.atom) true)) (sym k) x) y);
-      rest = sym (rest_up g xs (atom_of p.atom) s.goes_on) ∙ sym (ap (rest_of (questions g)) b) ∙ r.rest;
+      rest = let e = rest_up g xs (atom_of p.atom) s.goes_on in let m = ap (rest_of (questions g)) b in let l = r.rest in omega (arith, e, m, l);
     }
 
-pub all_finished : (g : Goal) (all : List (List Taken)) (from : List Taken) (t : Trail) (trees : List (Option Grown)) (tree : Option Grown) → HasRisen g all from t trees tree → path_of t.path.items ≡ [] → IsBranch g [] all tree
+-- where the second branch isn't visited
+pub question_closed : (g : Goal) (all : List (List Taken)) (from : List Taken) (t before : Trail) (trees : List (Option F.Tree)) (tree right joined : Option F.Tree) (p : T.Taken) (ms : Vec (ℕ × ℕ) Global) (n : ℕ) → HasRisen g all from t trees tree → Stands g before → path_of t.path.items ≡ path_of before.path.items ++ (taken_of p ∷ []) → p.held ≡ true → (p.held ≡ true → IsDroppedBy g (onto (path_of before.path.items) (atom_of p.atom) false) ms.items) → n ≡ length (path_of t.path.items) → IsLeaf n (F.Farkas ms) right → ((ps : List Taken) (q : Atom) → GoesOn g ps q → IsGrown g (onto ps q true) tree → IsGrown g (onto ps q false) right → IsGrown g ps joined) → HasRisen g all from before trees joined
+question_closed g all from t before trees tree right joined p ms n r z e h w m k j =
+    let xs = path_of before.path.items in
+    let b = path_onto xs (path_of t.path.items) p true e h in
+    let d = subst (λ ps. IsAfter g ps trees all tree) b r.after in
+    let s = in_first g (onto xs (atom_of p.atom) true) xs (atom_of p.atom) d.before trees refl d.stands in
+    let l = ap length e in
+    let a = length-append xs (taken_of p ∷ []) in
+    let c = length-append xs (taken (atom_of p.atom) false ∷ []) in
+    let o : n ≡ length (onto xs (atom_of p.atom) false) = omega (arith, m, l, a, c) in
+    let f = dropped_leaf g (onto xs (atom_of p.atom) false) ms right (subst (λ i. IsLeaf i (F.Farkas ms) right) o k) (w h) in
+    record {
+      stands = z;
+      after = after_first g xs (atom_of p.atom) trees all tree right joined d f (j xs (atom_of p.atom));
+      rest = let u = rest_up_first g xs (atom_of p.atom) s.goes_on in let m = ap (rest_of (questions g)) b in let l = r.rest in omega (arith, u, m, l);
+    }
+
+pub all_finished : (g : Goal) (all : List (List Taken)) (from : List Taken) (t : Trail) (trees : List (Option F.Tree)) (tree : Option F.Tree) → HasRisen g all from t trees tree → path_of t.path.items ≡ [] → IsBranch g [] all tree
 all_finished g all from t trees tree r e = after_start g trees all tree (subst (λ ps. IsAfter g ps trees all tree) e r.after)
 
 -- ---- Going down
@@ -104,7 +125,7 @@ deeper_walk g w next p h k o b t n f =
       omega (arith, l, m),
     )
 
-pub next_walk : (g : Goal) (w next : Walk) (tree : Option Grown) (h : IsFinishedWalk g w tree) → Comes g next.trail → IsNextFront g (path_of w.trail.path.items) h.all (path_of next.trail.path.items) next.trees.items → next.count ≡ w.count → next.found ≡ w.found → IsWalk g next × (left_of g (path_of next.trail.path.items) < left_of g (path_of w.trail.path.items))
+pub next_walk : (g : Goal) (w next : Walk) (tree : Option F.Tree) (h : IsFinishedWalk g w tree) → Comes g next.trail → IsNextFront g (path_of w.trail.path.items) h.all (path_of next.trail.path.items) next.trees.items → next.count ≡ w.count → next.found ≡ w.found → IsWalk g next × (left_of g (path_of next.trail.path.items) < left_of g (path_of w.trail.path.items))
 next_walk g w next tree h c k n f = (
   record {
     comes = c;
@@ -148,6 +169,76 @@ standing g w t h s =
       });
     }
 
+pub standing_still : (g : Goal) (w : Walk) (t : Trail) → IsStandingWalk g w → StandsAt g (path_of w.trail.path.items) t → IsStandingWalk g (with_trail w t)
+standing_still g w t h s =
+    let i = h.come in
+    record {
+      stands = s.stands;
+      come = subst (λ ps. HasCome g ps (with_trail w t)) (sym s.path) (record {
+        before = i.before;
+        stands = i.stands;
+        found = i.found;
+        counted = i.counted;
+        few = i.few;
+      });
+    }
+
+-- the walk once its trail stands in the first branch
+pub standing_first : (g : Goal) (w : Walk) (t : Trail) (q : Atom) → IsStandingWalk g w → GoesOn g (path_of w.trail.path.items) q → StandsAt g (onto (path_of w.trail.path.items) q true) t → IsStandingWalk g (with_trail w t)
+standing_first g w t q h k s =
+    let i = h.come in
+    record {
+      stands = s.stands;
+      come = subst (λ ps. HasCome g ps (with_trail w t)) (sym s.path) (record {
+        before = i.before;
+        stands = HasBefore.first (path_of w.trail.path.items) q i.before w.trees.items k i.stands;
+        found = i.found;
+        counted = i.counted;
+        few = i.few;
+      });
+    }
+
+-- or in the second one, where the first one is dropped
+pub standing_second : (g : Goal) (w next : Walk) (q : Atom) (ms : Vec (ℕ × ℕ) Global) (tree : Option F.Tree) (m : ℕ) → IsStandingWalk g w → GoesOn g (path_of w.trail.path.items) q → StandsAt g (onto (path_of w.trail.path.items) q false) next.trail → IsDroppedBy g (onto (path_of w.trail.path.items) q true) ms.items → m ≡ length (path_of next.trail.path.items) → IsLeaf m (F.Farkas ms) tree → next.trees.items ≡ w.trees.items ++ (tree ∷ []) → next.count ≡ w.count → next.found ≡ w.found → IsStandingWalk g next
+standing_second g w next q ms tree m h k s d t e r n f =
+    let i = h.come in
+    let ps = path_of w.trail.path.items in
+    let l = ap length s.path in
+    let a = length-append ps (taken q true ∷ []) in
+    let c = length-append ps (taken q false ∷ []) in
+    let o : m ≡ length (onto ps q true) = omega (arith, t, l, a, c) in
+    let b = dropped_leaf g (onto ps q true) ms tree (subst (λ i. IsLeaf i (F.Farkas ms) tree) o e) d in
+    record {
+      stands = s.stands;
+      come = subst (λ qs. HasCome g qs next) (sym s.path) (record {
+        before = i.before;
+        stands = subst (HasBefore g (onto ps q false) i.before) (sym r) (subst (λ cs. HasBefore g (onto ps q false) cs (w.trees.items ++ (tree ∷ []))) (append-nil i.before) (HasBefore.second ps q i.before [] w.trees.items tree k i.stands b));
+        found = subst (IsFound g i.before) (sym f) i.found;
+        counted = i.counted ∙ sym n;
+        few = let j = i.few in omega (arith, j, n);
+      });
+    }
+
+-- a step leads somewhere, and to less than before
+pub step_at : (g : Goal) (n : ℕ) (s : Step) → IsBelow g n s → IsAt g s
+step_at g n (Step.On w) h = h.0
+step_at g n (Step.Asks w q p) h = h.0
+step_at g n (Step.Done d) h = h
+
+pub step_less : (g : Goal) (n : ℕ) (s : Step) → IsBelow g n s → left_after g s < n + 1
+step_less g n (Step.On w) h = let l = h.1 in omega (arith, l)
+step_less g n (Step.Asks w q p) h = let l = h.1 in omega (arith, l)
+step_less g n (Step.Done d) h = omega arith
+
+below_more : (g : Goal) (n m : ℕ) (s : Step) → n ≤ m → IsBelow g n s → IsBelow g m s
+below_more g n m (Step.On w) l h = (h.0, let k = h.1 in omega (arith, k, l))
+below_more g n m (Step.Asks w q p) l h = (h.0, let k = h.1 in omega (arith, k, l))
+below_more g n m (Step.Done d) l h = h
+
+pub step_below : {E : Type 0} (g : Goal) (n m : ℕ) (r : Result Step E) → n ≤ m → IfOk r (λ s. IsBelow g n s) → IfOk r (λ s. IsBelow g m s)
+step_below g n m (Result.Ok s) l h = below_more g n m s l h
+step_below g n m (Result.Err e) l h = h
+
 pub here : (g : Goal) (t : Trail) → Stands g t → StandsAt g (path_of t.path.items) t
 here g t s = record { stands = s; path = refl }
 
@@ -164,8 +255,8 @@ cell_ends g ps w plain cause l h e f n r = r h.before (come_reached g ps w h) (l
 pub walk_short : (g : Goal) (ps : List T.Taken) → AreShort g → IsPath g (path_of ps) → length ps + 1 + length g.types < 2 ^ 32
 walk_short g ps s p = let l = length-map ps taken_of in let h = s (path_of ps) p in omega (arith, l, h)
 
-pub dropped_walk : (g : Goal) (w : Walk) (ms : Vec (ℕ × ℕ) Global) (tree : Option Grown) → tree ≡ leaf_of (F.Farkas ms) → IsStandingWalk g w → IsDroppedBy g (path_of w.trail.path.items) ms.items → IsFinishedWalk g w tree
-dropped_walk g w ms tree e h d = subst (IsFinishedWalk g w) (sym e) (dropped_finished g w _ h (dropped_leaf g (path_of w.trail.path.items) ms d))
+pub dropped_walk : (g : Goal) (w : Walk) (ms : Vec (ℕ × ℕ) Global) (tree : Option F.Tree) (n : ℕ) → n ≡ length (path_of w.trail.path.items) → IsLeaf n (F.Farkas ms) tree → IsStandingWalk g w → IsDroppedBy g (path_of w.trail.path.items) ms.items → IsFinishedWalk g w tree
+dropped_walk g w ms tree n e l h d = dropped_finished g w tree h (dropped_leaf g (path_of w.trail.path.items) ms tree (subst (λ i. IsLeaf i (F.Farkas ms) tree) e l) d)
 
 -- ---- Another cell
 
@@ -175,33 +266,33 @@ all_counted g ps w plain h e l = let c = h.counted in let f = h.few in many_cell
 pub not_plain_there : (g : Goal) (ps : List Taken) (plain : Bool) → IsEnd g ps plain → plain ≡ false → IsPlainAt g ps → ⊥
 not_plain_there g ps plain e k p = let m = e.holds_plainly.1 p in let n : true ≡ false = sym m ∙ k in absurd (cc)
 
-judged : (g : Goal) (ps : List Taken) (found next : Found) (leaf tree : Option Grown) → tree ≡ leaf → IsBranch g ps (ps ∷ []) leaf → ((cells : List (List Taken)) → IsFound g cells found → IsFound g (cells ++ (ps ∷ [])) next) → IsJudgedCell g ps found next tree
-judged g ps found next leaf tree e b f = record { branch = subst (IsBranch g ps (ps ∷ [])) (sym e) b; shown = f }
+judged : (g : Goal) (ps : List Taken) (found next : Found) (tree : Option F.Tree) → IsBranch g ps (ps ∷ []) tree → ((cells : List (List Taken)) → IsFound g cells found → IsFound g (cells ++ (ps ∷ [])) next) → IsJudgedCell g ps found next tree
+judged g ps found next tree b f = record { branch = b; shown = f }
 
-pub plain_cell : (g : Goal) (ps : List Taken) (found : Found) (plain : Bool) (tree : Option Grown) → tree ≡ leaf_of F.Plain → IsEnd g ps plain → plain ≡ true → IsJudgedCell g ps found found tree
-plain_cell g ps found plain tree t e k = let p = e.holds_plainly.0 k in judged g ps found found _ tree t (plain_leaf g ps plain e p) (λ cells i. found_holds g cells ps found i (inl p))
+pub plain_cell : (g : Goal) (ps : List Taken) (found : Found) (plain : Bool) (tree : Option F.Tree) (n : ℕ) → n ≡ length ps → IsLeaf n F.Plain tree → IsEnd g ps plain → plain ≡ true → IsJudgedCell g ps found found tree
+plain_cell g ps found plain tree n l t e k = let p = e.holds_plainly.0 k in judged g ps found found tree (plain_leaf g ps plain tree (subst (λ i. IsLeaf i F.Plain tree) l t) e p) (λ cells i. found_holds g cells ps found i (inl p))
 
-pub refuted_cell : (g : Goal) (ps : List Taken) (found : Found) (plain : Bool) (ms : Vec (ℕ × ℕ) Global) (tree : Option Grown) → tree ≡ leaf_of (F.Farkas ms) → IsEnd g ps plain → plain ≡ false → IsRefutedWith g ps true ms.items → IsJudgedCell g ps found found tree
-refuted_cell g ps found plain ms tree t e k r = judged g ps found found _ tree t (refuted_leaf g ps plain ms e (not_plain_there g ps plain e k) r) (λ cells i. found_holds g cells ps found i (refuted_holds g ps ms.items r))
+pub refuted_cell : (g : Goal) (ps : List Taken) (found : Found) (plain : Bool) (ms : Vec (ℕ × ℕ) Global) (tree : Option F.Tree) (n : ℕ) → n ≡ length ps → IsLeaf n (F.Farkas ms) tree → IsEnd g ps plain → plain ≡ false → IsRefutedWith g ps true ms.items → IsJudgedCell g ps found found tree
+refuted_cell g ps found plain ms tree n l t e k r = judged g ps found found tree (refuted_leaf g ps plain ms tree (subst (λ i. IsLeaf i (F.Farkas ms) tree) l t) e (not_plain_there g ps plain e k) r) (λ cells i. found_holds g cells ps found i (refuted_holds g ps ms.items r))
 
 pub point_cell : (g : Goal) (ps : List Taken) (found next : Found) (plain : Bool) (point : List Val) → IsFront g ps → IsEnd g ps plain → plain ≡ false → IsPointAt g ps true point → ((cells : List (List Taken)) → IsFound g cells found → IsFalseCell g ps → IsPointAt g ps true point → IsFound g (cells ++ (ps ∷ [])) next) → IsJudgedCell g ps found next None
 point_cell g ps found next plain point h e k p f =
     let i = point_is_false g ps point (cell_here g ps plain h e) (not_plain_there g ps plain e k) p in
-    judged g ps found next None None refl (false_leaf g ps plain e i) (λ cells j. f cells j i p)
+    judged g ps found next None (false_leaf g ps plain e i) (λ cells j. f cells j i p)
 
 -- a further false cell, where a point is known
 pub further_cell : (g : Goal) (ps : List Taken) (plain : Bool) (point : Vec Val Global) → IsFront g ps → IsEnd g ps plain → plain ≡ false → IsMetAt g ps true → IsJudgedCell g ps (Found.Point point) (Found.Point point) None
 further_cell g ps plain point h e k p =
     let i = met_is_false g ps (cell_here g ps plain h e) (not_plain_there g ps plain e k) p in
-    judged g ps (Found.Point point) (Found.Point point) None None refl (false_leaf g ps plain e i) (λ cells j. point_longer g cells ps point.items j)
+    judged g ps (Found.Point point) (Found.Point point) None (false_leaf g ps plain e i) (λ cells j. point_longer g cells ps point.items j)
 
 pub break_cell : (g : Goal) (ps : List Taken) (found next : Found) (plain : Bool) (b : Broken) → IsTypedGoal g → IsFront g ps → IsEnd g ps plain → plain ≡ false → IsBreakAt g ps true b → ((cells : List (List Taken)) (ps : List Taken) → IsFound g cells found → IsFalseCell g ps → IsBreakOf g ps b → IsFound g (cells ++ (ps ∷ [])) next) → IsJudgedCell g ps found next None
 break_cell g ps found next plain b t h e k p f =
     let i = break_is_false g ps b (cell_here g ps plain h e) (not_plain_there g ps plain e k) p in
     let o = break_of g ps b t (front_path g ps h) p in
-    judged g ps found next None None refl (false_leaf g ps plain e i) (λ cells j. f cells ps j i o)
+    judged g ps found next None (false_leaf g ps plain e i) (λ cells j. f cells ps j i o)
 
-pub cell_walk : (g : Goal) (w next : Walk) (found : Found) (tree : Option Grown) → IsStandingWalk g w → w.count < 4096 → StandsAt g (path_of w.trail.path.items) next.trail → next.count ≡ w.count + 1 → next.trees ≡ w.trees → next.found ≡ found → IsJudgedCell g (path_of w.trail.path.items) w.found found tree → IsFinishedWalk g next tree
+pub cell_walk : (g : Goal) (w next : Walk) (found : Found) (tree : Option F.Tree) → IsStandingWalk g w → w.count < 4096 → StandsAt g (path_of w.trail.path.items) next.trail → next.count ≡ w.count + 1 → next.trees ≡ w.trees → next.found ≡ found → IsJudgedCell g (path_of w.trail.path.items) w.found found tree → IsFinishedWalk g next tree
 cell_walk g w next found tree h l s k t f j = cell_finished g w next tree h l k s t j.branch (λ cells i. subst (IsFound g (cells ++ (path_of w.trail.path.items ∷ []))) (sym f) (j.shown cells i))
 
 -- ---- The start

@@ -11,7 +11,7 @@ ghost use Rattle.region_split.specs.internal.Progress.{IsJudged};
 ghost use Rattle.region_split.specs.declared.found.Found.TheVariants.{Point as PointFound};
 
 use crate::found::{Found, with_break, with_point};
-use crate::growth::Grown;
+use crate::growth::leaf;
 use crate::solving::{Settled, Solved, settle, solve};
 use farkas_check::Tree;
 use heylo_formula::{Goal, Val};
@@ -22,17 +22,10 @@ use std::alloc::{AllocError, Global};
 /// What a cell of the walk shows.
 #[derive(Drop)]
 pub enum Cell {
-    /// What all cells up to this one have shown, and the cell's tree; none where the cell is false.
-    Judged(Found, Option<Grown>),
+    /// What all cells up to this one have shown, and the cell's tree; none where the cell is false or too deep.
+    Judged(Found, Option<Tree>),
     /// There are too many rows, or a number is too great.
     Unknown(Cause),
-}
-
-/// A tree of depth 1.
-pub fn leaf(tree: Tree) -> Option<Grown>
-    ensures { result ≡ Some (record { tree = tree; depth = 1 }) }
-{
-    Some(Grown { tree, depth: 1 })
 }
 
 /// Looks at a cell that isn't plain, with the rows of its denied goal, once the cells before it have shown this. Its greedy point is
@@ -84,7 +77,10 @@ fn judge_open(
     ensures remembered { Remembers search.new (take kept list.now) }
 {
     match solve(alloc, list, kept, &goal.vars, search)? {
-        Solved::Refuted(multipliers) => Ok(Cell::Judged(found, leaf(Tree::Farkas(multipliers)))),
+        Solved::Refuted(multipliers) => Ok(Cell::Judged(
+            found,
+            leaf(Tree::Farkas(multipliers), path.len()),
+        )),
         Solved::Point(point) => Ok(Cell::Judged(with_point(alloc, found, path, point)?, None)),
         Solved::Break(broken) => Ok(Cell::Judged(with_break(alloc, found, broken)?, None)),
         Solved::Unknown(cause) => Ok(Cell::Unknown(cause)),
@@ -113,7 +109,7 @@ fn judge_further(
     match settle(alloc, list, kept, &goal.vars, search)? {
         Settled::Refuted(multipliers) => Ok(Cell::Judged(
             Found::Point(point),
-            leaf(Tree::Farkas(multipliers)),
+            leaf(Tree::Farkas(multipliers), path.len()),
         )),
         Settled::Met => Ok(Cell::Judged(Found::Point(point), None)),
         Settled::Unknown(cause) => Ok(Cell::Unknown(cause)),

@@ -1,10 +1,12 @@
 //! What stands at a path of the walk.
 
-ghost use Rattle.std.specs.Prelude.{◌<◌, ◌+◌, ◌++◌, ◌^◌, ◌≡◌, length, IfOk, Some, true, false};
-ghost use Rattle.heylo_formula.specs.Goals.{goal_of};
+ghost use Rattle.std.specs.Prelude.{◌<◌, ◌+◌, ◌++◌, ◌∷◌, ◌^◌, ◌≡◌, List, [], length, IfOk, IfSome, IsTrue, Some, true, false};
+ghost use Rattle.heylo_formula.specs.Goals.{Goal as PlainGoal, goal_of};
 ghost use Rattle.heylo_formula.specs.Typing.{types_in};
 ghost use Rattle.linear_form.specs.Asked.{Answers};
+ghost use Rattle.linear_form.specs.Query.{Taken as PlainTaken};
 ghost use Rattle.linear_form.specs.Cells.{IsKept};
+ghost use Rattle.linear_form.specs.Lasting.{IsNoEnd};
 ghost use Rattle.linear_form.specs.Paths.{IsPath, end_at};
 ghost use Rattle.linear_form.specs.PathRows.{all_tightened, path_claims, rows_of};
 ghost use Rattle.linear_form.specs.declared.asking.Ask.TheVariants.{End as EndFound};
@@ -13,17 +15,18 @@ ghost use Rattle.linear_form.specs.RowLists.{Lists};
 ghost use Rattle.heylo_formula.specs.TypedGoals.{IsTypedGoal};
 ghost use Rattle.farkas_check.specs.Accepted.{has_denied, IsRefutedWith};
 ghost use Rattle.linear_form.specs.Places.{IsOn};
-ghost use Rattle.region_split.specs.internal.Seen.{IsSeen};
+ghost use Rattle.region_split.specs.internal.Seen.{IsSeen, IsEndOf};
 ghost use Rattle.region_split.specs.internal.Trails.{ArePlaces, AreRowsSoFar, Comes, Stands};
+ghost use Rattle.region_split.specs.declared.trail.Way.TheVariants.{Open};
 
 use crate::moving::{moved, places};
 use crate::solving::{Settled, settle};
-use crate::trail::{Trail, first_rows};
+use crate::trail::{Trail, Way, first_rows};
 use heylo_formula::Goal;
 use linear_elim::Cause;
 use linear_form::{
-    Ask, Atom, Lin, Place, Reached, Row, RowList, Taken, denied_rows_are_more, go_on,
-    holds_plainly, next_row, with_denied_goal, with_signs_of_path,
+    Ask, Atom, Lin, Place, Reached, Row, RowList, Taken, asks_on, begin, denied_rows_are_more,
+    go_on, go_on_from, holds_plainly, next_row, with_denied_goal, with_signs_of_path,
 };
 use std::alloc::{AllocError, Global};
 
@@ -60,6 +63,7 @@ pub fn look<'a>(alloc: Global, goal: &'a Goal, trail: Trail<'a>) -> Result<Front
         path,
         places,
         rows,
+        visited,
         mut occurrences,
         search,
     } = trail;
@@ -71,6 +75,7 @@ pub fn look<'a>(alloc: Global, goal: &'a Goal, trail: Trail<'a>) -> Result<Front
                 path,
                 places,
                 rows,
+                visited,
                 occurrences,
                 search,
             };
@@ -110,6 +115,7 @@ fn look_there<'a>(alloc: Global, goal: &'a Goal, trail: Trail<'a>) -> Result<Fro
         path,
         places,
         rows,
+        visited,
         occurrences,
         mut search,
     } = trail;
@@ -124,6 +130,7 @@ fn look_there<'a>(alloc: Global, goal: &'a Goal, trail: Trail<'a>) -> Result<Fro
         path,
         places,
         rows,
+        visited,
         occurrences,
         search,
     };
@@ -134,21 +141,45 @@ fn look_there<'a>(alloc: Global, goal: &'a Goal, trail: Trail<'a>) -> Result<Fro
     }
 }
 
+/// The evaluation that asked the last question, where it is kept.
+fn last_place<'b, 'a>(places: &'b [Way<'a>]) -> Option<&'b Place<'a>>
+    ensures on { (g : PlainGoal) (ps : List PlainTaken) → ArePlaces g ps places.now → IfSome result (λ p. IsOn g ps p.now) }
+    ensures asked { (g : PlainGoal) (ps : List PlainTaken) (t : PlainTaken) → ArePlaces g (ps ++ (t ∷ [])) places.now → IfSome result (λ p. IsOn g ps p.now) }
+{
+    match places.last() {
+        Some(way) => open_place(way),
+        None => None,
+    }
+}
+
+/// The evaluation, where it is kept.
+fn open_place<'b, 'a>(way: &'b Way<'a>) -> Option<&'b Place<'a>>
+    ensures { IfSome result (λ p. way.now ≡ Open p.now) }
+{
+    match way {
+        Way::Open(place) => Some(place),
+        Way::Closed(_) => None,
+    }
+}
+
 /// What stands at the end of a path, evaluated on from the last one of these places. Want of memory is the one error.
 fn reached<'a>(
     alloc: Global,
     goal: &'a Goal,
     path: &[Taken],
-    places: &[Place<'a>],
+    places: &[Way<'a>],
 ) -> Result<Reached<'a>, AllocError>
     requires path { IsPath (goal_of goal.now) (path_of path.now) }
     requires places { ArePlaces (goal_of goal.now) (path_of path.now) places.now }
     ensures asked { IfOk result (λ r. Answers r.ask (end_at (goal_of goal.now) (path_of path.now))) }
     ensures on { IfOk result (λ r. IsOn (goal_of goal.now) (path_of path.now) r.place) }
 {
-    match places.last() {
+    match last_place(places) {
         Some(place) => go_on(alloc, goal, place, path),
-        None => unreachable!(),
+        None => {
+            let first = begin(alloc, goal)?;
+            go_on_from(alloc, goal, first, path)
+        }
     }
 }
 
@@ -161,16 +192,33 @@ fn kept<'a>(alloc: Global, goal: &'a Goal, trail: Trail<'a>) -> Result<Front<'a>
     let Reached { ask, place } = reached(alloc, goal, &trail.path, &trail.places)?;
     match ask {
         Ask::Decide(atom) => Ok(Front::Question(trail, atom, place)),
-        Ask::End(stated, found) => {
-            let plain = holds_plainly(goal.upper, &stated, &found);
-            let end = End {
-                stated,
-                found,
-                plain,
-            };
-            Ok(Front::End(trail, end))
-        }
+        Ask::End(stated, found) => Ok(Front::End(trail, end_of(goal, stated, found))),
         Ask::Bits => Ok(Front::Unknown(Cause::Bits)),
+    }
+}
+
+/// The values of the two forms at an end, and whether the goal holds plainly there.
+pub fn end_of(goal: &Goal, stated: Option<Lin>, found: Option<Lin>) -> End
+    ensures { (ps : List PlainTaken) → IsKept (goal_of goal.now) ps → Answers (EndFound stated found) (end_at (goal_of goal.now) ps) → IsEndOf (goal_of goal.now) ps result }
+{
+    let plain = holds_plainly(goal.upper, &stated, &found);
+    End {
+        stated,
+        found,
+        plain,
+    }
+}
+
+/// Whether the last one of these places surely asks on, so that a question stands at the end of the path, or a number is too large.
+fn surely_lasts(path: &[Taken], places: &[Way<'_>]) -> bool
+    ensures { (g : PlainGoal) → IsTrue result → IsPath g (path_of path.now) → ArePlaces g (path_of path.now) places.now → IsNoEnd g (path_of path.now) }
+{
+    match path.split_last() {
+        None => false,
+        Some((_, before)) => match last_place(places) {
+            Some(place) => asks_on(place, before.len()),
+            None => false,
+        },
     }
 }
 
@@ -190,6 +238,9 @@ fn dropped<'a>(
     requires refuted { IsRefutedWith (goal_of goal.now) (path_of trail.path.items) false multipliers.items }
     ensures { IfOk result (λ f. IsSeen (goal_of goal.now) (path_of trail.entry.path.items) f) }
 {
+    if surely_lasts(&trail.path, &trail.places) {
+        return Ok(Front::Dropped(trail, multipliers));
+    }
     let Reached { ask, place: _ } = reached(alloc, goal, &trail.path, &trail.places)?;
     match ask {
         Ask::Decide(_) => Ok(Front::Dropped(trail, multipliers)),
@@ -228,6 +279,7 @@ fn dropped_end<'a>(
         path,
         places: asked,
         rows,
+        visited,
         occurrences,
         search,
     } = trail;
@@ -242,6 +294,7 @@ fn dropped_end<'a>(
         path,
         places: asked,
         rows: first_rows(more, kept_rows),
+        visited,
         occurrences,
         search,
     };

@@ -1,16 +1,21 @@
 //! The decision of a goal: its questions are walked, and each cell is refuted or gives a point at which the goal fails.
 #![tactic(auto)]
 
+mod answering;
 mod backing;
 mod cell;
+mod clashes;
 mod deciding;
 mod decision_laws;
 mod decisions;
+mod descending;
 mod found;
 mod front;
 mod growth;
+mod known;
 mod moving;
 mod points;
+mod repeats;
 mod solving;
 mod trail;
 mod walk;

@@ -26,7 +26,7 @@ fn are_same_terms(a: &[(u32, i64)], b: &[(u32, i64)]) -> bool
 }
 
 /// Whether the rows are the same.
-fn is_same_row(a: &Row, b: &Row) -> bool
+pub fn is_same_row(a: &Row, b: &Row) -> bool
     ensures { IsTrue result ↔ (a.now ≡ b.now) }
 {
     a.rest == b.rest && a.strict == b.strict && are_same_terms(&a.terms, &b.terms)

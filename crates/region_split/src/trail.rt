@@ -1,26 +1,42 @@
 //! The path of a walk, and what is kept along it.
 
-ghost use Rattle.std.specs.Prelude.{◌≡◌, [], take, length, Bool, IfOk};
+ghost use Rattle.std.specs.Prelude.{◌≡◌, ◌++◌, ◌∷◌, List, [], take, length, Bool, IfOk, IsTrue};
 ghost use Rattle.heylo_formula.specs.Goals.{Goal as PlainGoal, goal_of};
 ghost use Rattle.linear_form.specs.PathRows.{answer_claims};
-ghost use Rattle.linear_form.specs.PlainPaths.{path_of, atom_of};
-ghost use Rattle.linear_form.specs.Places.{IsOn};
-ghost use Rattle.region_split.specs.internal.Trails.{Comes, Stands, IsBack, IsShorter, ComesBy};
+ghost use Rattle.linear_form.specs.PlainPaths.{path_of, atom_of, taken_of};
+ghost use Rattle.linear_form.specs.Query.{Taken as PlainTaken};
+ghost use Rattle.linear_form.specs.RowLists.{ArePathRows};
+ghost use Rattle.region_split.specs.internal.Known.{AreKnown, IsKnown};
+ghost use Rattle.heylo_formula.specs.declared.types.Ty.{Ty as PlainTy};
+ghost use Rattle.region_split.specs.internal.Trails.{Comes, Stands, StandsAt, IsWay, IsBack, IsShorter, ComesBy};
 
+use crate::known::Known;
 use heylo_formula::Goal;
 use linear_elim::Search;
 use linear_form::{Atom, Occurrences, Place, Row, Taken, begin};
 use std::alloc::{AllocError, Global};
+
+/// What is kept of an answered question.
+#[derive(Drop)]
+pub enum Way<'a> {
+    /// The evaluation that asked it.
+    Open(Place<'a>),
+    /// The path had answered it before, so the walk doesn't visit the other answer. Where this one is yes, these are the
+    /// multipliers that a certificate takes at the other one.
+    Closed(Vec<(u32, u64)>),
+}
 
 /// The path of a walk, and what is kept along it.
 #[derive(Drop)]
 pub struct Trail<'a> {
     /// The questions that are answered.
     pub path: Vec<Taken>,
-    /// The evaluation before the first question, and for each answer the one that asked its question.
-    pub places: Vec<Place<'a>>,
+    /// The evaluation before the first question, and then what is kept of each answered question.
+    pub places: Vec<Way<'a>>,
     /// The rows of the answers, in order.
     pub rows: Vec<Row>,
+    /// The comparisons that the path hadn't answered before, in order. The last one may be the next question.
+    pub visited: Vec<Known>,
     /// Where the variables occur first in these rows.
     pub occurrences: Occurrences,
     /// What was found of the rows.
@@ -30,8 +46,8 @@ pub struct Trail<'a> {
 /// What is left of a trail once its last answer is taken off.
 #[derive(Drop)]
 pub enum Retreat<'a> {
-    /// The trail that ends before the answer, the answer, and the evaluation that asked its question.
-    To(Trail<'a>, Taken, Place<'a>),
+    /// The trail that ends before the answer, the answer, and what was kept of its question.
+    To(Trail<'a>, Taken, Way<'a>),
     /// There is no answer.
     Start,
 }
@@ -40,42 +56,85 @@ pub enum Retreat<'a> {
 pub fn start<'a>(alloc: Global, goal: &'a Goal) -> Result<Trail<'a>, AllocError>
     ensures { IfOk result (λ t. Comes (goal_of goal.now) t × (path_of t.path.items ≡ [])) }
 {
-    let mut places: Vec<Place<'a>> = Vec::new(alloc);
-    places.push(begin(alloc, goal)?)?;
+    let mut places: Vec<Way<'a>> = Vec::new(alloc);
+    places.push(Way::Open(begin(alloc, goal)?))?;
     Ok(Trail {
         path: Vec::new(alloc),
         places,
         rows: Vec::new(alloc),
+        visited: Vec::new(alloc),
         occurrences: Occurrences::new(alloc, goal.vars.len())?,
         search: Box::new(alloc, Search::new(alloc))?,
     })
 }
 
-/// The trail with an answer to the question that an evaluation asked there. The answer has no row yet. Want of memory is the one
-/// error.
+/// The trail with an answer to a question, of which this is kept. The answer has no row yet. Want of memory is the one error.
 pub fn onward<'a>(
-    trail: Trail<'a>,
+    mut trail: Trail<'a>,
     answer: Taken,
-    place: Place<'a>,
+    way: Way<'a>,
 ) -> Result<Trail<'a>, AllocError>
-    ensures { (g : PlainGoal) → Stands g trail.entry → IsOn g (path_of trail.entry.path.items) place.entry → IfOk result (λ t. ComesBy g trail.entry answer t) }
+    ensures { (g : PlainGoal) → Stands g trail.entry → IsWay g (path_of trail.entry.path.items) (taken_of answer) way.entry → IfOk result (λ t. ComesBy g trail.entry answer t) }
 {
-    let Trail {
-        mut path,
-        mut places,
-        rows,
-        occurrences,
-        search,
-    } = trail;
-    path.push(answer)?;
-    places.push(place)?;
-    Ok(Trail {
-        path,
-        places,
-        rows,
-        occurrences,
-        search,
-    })
+    trail.path.push(answer)?;
+    trail.places.push(way)?;
+    Ok(trail)
+}
+
+/// The trail with an answer to a question, of which this is kept, and with the answer's row. Want of memory is the one error.
+pub fn further<'a>(
+    mut trail: Trail<'a>,
+    answer: Taken,
+    way: Way<'a>,
+    row: Row,
+) -> Result<Trail<'a>, AllocError>
+    ensures { (g : PlainGoal) (ps : List PlainTaken) → Stands g trail.entry → ps ≡ path_of trail.entry.path.items ++ (taken_of answer ∷ []) → IsWay g (path_of trail.entry.path.items) (taken_of answer) way.entry → ArePathRows g ps (trail.entry.rows.items ++ (row ∷ [])) → IfOk result (λ t. StandsAt g ps t) }
+{
+    let count = trail.rows.len();
+    trail.path.push(answer)?;
+    trail.places.push(way)?;
+    trail.rows.push(row)?;
+    let mut occurrences = trail.occurrences;
+    occurrences.note(&trail.rows, count);
+    trail.occurrences = occurrences;
+    Ok(trail)
+}
+
+/// The trail with what is known of its next question. Want of memory is the one error.
+pub fn knowing<'a>(mut trail: Trail<'a>, known: Known) -> Result<Trail<'a>, AllocError>
+    ensures { (g : PlainGoal) → Stands g trail.entry → IsKnown g.types known → IfOk result (λ t. StandsAt g (path_of trail.entry.path.items) t) }
+{
+    trail.visited = forgotten(trail.visited, known.index);
+    trail.visited.push(known)?;
+    Ok(trail)
+}
+
+/// The comparisons without the last one, where its row has this index or a greater one.
+fn forgotten(mut visited: Vec<Known>, index: usize) -> Vec<Known>
+    ensures { (types : List PlainTy) → AreKnown types visited.items → AreKnown types result.items }
+{
+    if is_last_from(&visited, index) {
+        visited.pop();
+    }
+    visited
+}
+
+/// Whether the row of the last one of these comparisons has this index or a greater one.
+fn is_last_from(visited: &[Known], index: usize) -> bool {
+    match visited.last() {
+        Some(known) => known.index >= index,
+        None => false,
+    }
+}
+
+/// Whether a question is a comparison, whose answers have a row.
+pub fn is_comparison(atom: &Atom) -> bool
+    ensures { (held : Bool) → IsTrue result → length (answer_claims (atom_of atom.now) held) ≡ 1 }
+{
+    match atom {
+        Atom::Truth(_) => false,
+        Atom::Row(_, _) => true,
+    }
 }
 
 /// How many rows an answer has: one where it is to a comparison, none where it is to the truth of a variable.
@@ -89,38 +148,22 @@ fn row_count(atom: &Atom) -> usize
 }
 
 /// Takes off the last answer, with its row, and forgets what was found of it.
-pub fn back<'a>(trail: Trail<'a>) -> Retreat<'a>
+pub fn back<'a>(mut trail: Trail<'a>) -> Retreat<'a>
     ensures back { (g : PlainGoal) → Stands g trail.entry → IsBack g trail.entry result }
     ensures shorter { IsShorter trail.entry result }
 {
-    let Trail {
-        mut path,
-        mut places,
-        mut rows,
-        mut occurrences,
-        mut search,
-    } = trail;
-    let Some(answer) = path.pop() else {
+    let Some(answer) = trail.path.pop() else {
         return Retreat::Start;
     };
-    let Some(place) = places.pop() else {
+    let Some(way) = trail.places.pop() else {
         return Retreat::Start;
     };
-    let left = rows.len().saturating_sub(row_count(&answer.atom));
-    rows.truncate(left);
-    occurrences.truncate(left);
-    search.truncate(left);
-    Retreat::To(
-        Trail {
-            path,
-            places,
-            rows,
-            occurrences,
-            search,
-        },
-        answer,
-        place,
-    )
+    let left = trail.rows.len().saturating_sub(row_count(&answer.atom));
+    trail.rows.truncate(left);
+    trail.occurrences.truncate(left);
+    trail.search.truncate(left);
+    trail.visited = forgotten(trail.visited, left + 1);
+    Retreat::To(trail, answer, way)
 }
 
 /// The first rows alone, as many as these.

@@ -2,27 +2,26 @@
 
 ghost use Rattle.std.specs.Prelude.{◌≡◌, ◌<◌, ◌≤◌, List, [], length, IfOk, Some, None, false};
 ghost use Rattle.heylo_formula.specs.Goals.{Goal as PlainGoal, goal_of};
-ghost use Rattle.linear_form.specs.PlainPaths.{path_of, atom_of};
+ghost use Rattle.linear_form.specs.PlainPaths.{path_of};
 ghost use Rattle.linear_form.specs.Query.{Taken as PlainTaken};
 ghost use Rattle.linear_form.specs.Nonlinear.{nonlinear_product};
 ghost use Rattle.heylo_formula.specs.TypedGoals.{IsTypedGoal};
 ghost use Rattle.region_split.specs.Decisions.{IsDecision};
-ghost use Rattle.linear_form.specs.Cells.{GoesOn};
-ghost use Rattle.linear_form.specs.Places.{IsOn};
 ghost use Rattle.region_split.specs.internal.Seen.{IsEndOf};
-ghost use Rattle.region_split.specs.internal.Progress.{AreShort, IsWalk, IsStandingWalk, IsFinishedWalk, IsStep, IsFound, IsBranch, IsGrown, HasWholeTree};
+ghost use Rattle.region_split.specs.internal.Progress.{AreShort, IsWalk, IsStandingWalk, IsFinishedWalk, IsStep, IsFound, IsBranch};
 
 use crate::backing::{Up, climb};
-use crate::cell::{Cell, judge, leaf};
+use crate::cell::{Cell, judge};
 use crate::decisions::Decision;
+use crate::descending::deeper;
 use crate::found::Found;
 use crate::front::{End, Front, look};
-use crate::growth::Grown;
-use crate::trail::{Trail, first_rows, onward, start};
+use crate::growth::leaf;
+use crate::trail::{Trail, first_rows, start};
 use farkas_check::Tree;
 use heylo_formula::Goal;
 use linear_elim::Cause;
-use linear_form::{Atom, Place, RowList, Taken, with_denied_goal};
+use linear_form::{Atom, Place, RowList, with_denied_goal};
 use std::alloc::{AllocError, Global};
 
 /// More cells than these end a walk.
@@ -33,7 +32,7 @@ const MOST_CELLS: u32 = 4096;
 #[derive(Drop)]
 pub struct Walk<'a> {
     pub trail: Trail<'a>,
-    pub trees: Vec<Option<Grown>>,
+    pub trees: Vec<Option<Tree>>,
     pub count: u32,
     pub found: Found,
 }
@@ -41,8 +40,10 @@ pub struct Walk<'a> {
 /// What one path comes to.
 #[derive(Drop)]
 pub enum Step<'a> {
-    /// The walk goes on.
+    /// The walk goes on: it comes to a front.
     On(Walk<'a>),
+    /// The walk goes on: it stands at a front that is kept, with its question and the evaluation that asks it.
+    Asks(Walk<'a>, Atom, Place<'a>),
     /// The goal is decided.
     Done(Decision),
 }
@@ -54,15 +55,16 @@ pub fn walked(alloc: Global, goal: &Goal) -> Result<Decision, AllocError>
     requires linear { nonlinear_product (goal_of goal.now) ≡ None }
     ensures { IfOk result (λ d. IsDecision (goal_of goal.now) d) }
 {
-    let mut walk = Walk {
+    let mut step = Step::On(Walk {
         trail: start(alloc, goal)?,
         trees: Vec::new(alloc),
         count: 0,
         found: Found::Nothing,
-    };
+    });
     'walk: loop {
-        match visit(alloc, goal, walk)? {
-            Step::On(next) => walk = next,
+        match step {
+            Step::On(walk) => step = visit(alloc, goal, walk)?,
+            Step::Asks(walk, atom, place) => step = deeper(alloc, goal, walk, atom, place)?,
             Step::Done(decision) => return Ok(decision),
         }
     }
@@ -84,13 +86,14 @@ fn visit<'a>(alloc: Global, goal: &'a Goal, walk: Walk<'a>) -> Result<Step<'a>, 
     } = walk;
     match look(alloc, goal, trail)? {
         Front::Dropped(trail, multipliers) => {
+            let tree = leaf(Tree::Farkas(multipliers), trail.path.len());
             let next = Walk {
                 trail,
                 trees,
                 count,
                 found,
             };
-            finish(alloc, next, leaf(Tree::Farkas(multipliers)))
+            finish(alloc, next, tree)
         }
         Front::Question(trail, atom, place) => {
             let next = Walk {
@@ -99,7 +102,7 @@ fn visit<'a>(alloc: Global, goal: &'a Goal, walk: Walk<'a>) -> Result<Step<'a>, 
                 count,
                 found,
             };
-            deeper(next, atom, place)
+            deeper(alloc, goal, next, atom, place)
         }
         Front::End(trail, ends) => {
             let next = Walk {
@@ -114,26 +117,13 @@ fn visit<'a>(alloc: Global, goal: &'a Goal, walk: Walk<'a>) -> Result<Step<'a>, 
     }
 }
 
-/// Goes on to the branch in which the atom of a question holds, which this evaluation asks.
-fn deeper<'a>(walk: Walk<'a>, atom: Atom, place: Place<'a>) -> Result<Step<'a>, AllocError>
-    ensures { (g : PlainGoal) → IsStandingWalk g walk.entry → GoesOn g (path_of walk.entry.trail.path.items) (atom_of atom) → IsOn g (path_of walk.entry.trail.path.items) place.entry → IfOk result (λ s. IsStep g (path_of walk.entry.trail.path.items) s) }
-{
-    let Walk {
-        trail,
-        trees,
-        count,
-        found,
-    } = walk;
-    Ok(Step::On(Walk {
-        trail: onward(trail, Taken { atom, held: true }, place)?,
-        trees,
-        count,
-        found,
-    }))
-}
-
 /// Counts a cell and looks at it.
-fn end<'a>(alloc: Global, goal: &'a Goal, walk: Walk<'a>, ends: End) -> Result<Step<'a>, AllocError>
+pub fn end<'a>(
+    alloc: Global,
+    goal: &'a Goal,
+    walk: Walk<'a>,
+    ends: End,
+) -> Result<Step<'a>, AllocError>
     requires typed { IsTypedGoal (goal_of goal.now) }
     requires short { AreShort (goal_of goal.now) }
     requires linear { nonlinear_product (goal_of goal.now) ≡ None }
@@ -153,13 +143,14 @@ fn end<'a>(alloc: Global, goal: &'a Goal, walk: Walk<'a>, ends: End) -> Result<S
         count,
         found,
     } = walk;
+    let tree = leaf(Tree::Plain, trail.path.len());
     let next = Walk {
         trail,
         trees,
         count: count + 1,
         found,
     };
-    finish(alloc, next, leaf(Tree::Plain))
+    finish(alloc, next, tree)
 }
 
 /// Looks at a cell that isn't plain.
@@ -188,6 +179,7 @@ fn denied_end<'a>(
         path,
         places,
         rows,
+        visited,
         occurrences,
         mut search,
     } = trail;
@@ -201,6 +193,7 @@ fn denied_end<'a>(
         path,
         places,
         rows: first_rows(list, kept),
+        visited,
         occurrences,
         search,
     };
@@ -219,7 +212,7 @@ fn denied_end<'a>(
 }
 
 /// Goes up from a finished path, whose tree this is, and on to the next one.
-fn finish<'a>(alloc: Global, walk: Walk<'a>, tree: Option<Grown>) -> Result<Step<'a>, AllocError>
+fn finish<'a>(alloc: Global, walk: Walk<'a>, tree: Option<Tree>) -> Result<Step<'a>, AllocError>
     ensures { (g : PlainGoal) → nonlinear_product g ≡ None → IsFinishedWalk g walk.entry tree → IfOk result (λ s. IsStep g (path_of walk.entry.trail.path.items) s) }
 {
     let Walk {
@@ -240,22 +233,12 @@ fn finish<'a>(alloc: Global, walk: Walk<'a>, tree: Option<Grown>) -> Result<Step
 }
 
 /// The decision of a goal all of whose cells are walked.
-fn decided(found: Found, tree: Option<Grown>) -> Decision
+fn decided(found: Found, tree: Option<Tree>) -> Decision
     ensures { (g : PlainGoal) (all : List (List PlainTaken)) → nonlinear_product g ≡ None → IsFound g all found → length all ≤ 4096 → IsBranch g [] all tree → IsDecision g result }
 {
     match found {
-        Found::Nothing => Decision::Proved(whole(tree)),
+        Found::Nothing => Decision::Proved(tree),
         Found::Break(broken) => Decision::Unknown(Cause::Fraction(Box::into_inner(broken))),
         Found::Point(point) => Decision::Falsified(point),
-    }
-}
-
-/// The tree alone.
-fn whole(tree: Option<Grown>) -> Option<Tree>
-    ensures { (g : PlainGoal) → nonlinear_product g ≡ None → IsGrown g [] tree → HasWholeTree g result }
-{
-    match tree {
-        Some(grown) => Some(grown.tree),
-        None => None,
     }
 }

@@ -8,16 +8,18 @@ use Rattle.linear_form.specs.Query.Query.{done, bits, ask}
 use Rattle.linear_form.specs.Questions.{questions}
 use Rattle.linear_form.specs.Paths.{IsPath, end_at}
 use Rattle.linear_form.specs.PathRows.{IsPlainAt}
-use Rattle.linear_form.specs.PlainPaths.{path_of}
+use Rattle.linear_form.specs.PlainPaths.{path_of, atom_of}
 use Rattle.linear_form.specs.Cells.{GoesOn}
+use Rattle.linear_form.specs.Places.{IsOn}
+use Rattle.linear_form.specs.declared.places.Place.{Place}
+use Rattle.linear_form.specs.declared.paths.Atom as A
 use Rattle.farkas_check.specs.Trees.{Tree, tree_of}
 use Rattle.farkas_check.specs.declared.trees.Tree as T
 use Rattle.region_split.specs.Walk.{IsRefutedCell, AreCells}
 use Rattle.region_split.specs.WalkTree.{IsWalkTree, depth}
-use Rattle.region_split.specs.Decisions.{IsFirstPoint, IsFirstBreak, IsGiven, IsDecision}
+use Rattle.region_split.specs.Decisions.{IsFirstPoint, IsFirstBreak, IsDecision}
 use Rattle.region_split.specs.internal.Seen.{EndsWalk}
 use Rattle.region_split.specs.internal.Trails.{Comes, Stands}
-use Rattle.region_split.specs.declared.growth.Grown.{Grown}
 use Rattle.region_split.specs.declared.found.Found.{Found}
 use Rattle.region_split.specs.declared.found.Found.TheVariants.{Nothing, Break, Point}
 use Rattle.region_split.specs.declared.cell.Cell.{Cell}
@@ -27,31 +29,29 @@ use Rattle.region_split.specs.declared.backing.Up.{Up}
 use Rattle.region_split.specs.declared.backing.Up.TheVariants.{Next, Whole}
 use Rattle.region_split.specs.declared.walk.Walk.{Walk}
 use Rattle.region_split.specs.declared.walk.Step.{Step}
-use Rattle.region_split.specs.declared.walk.Step.TheVariants.{On, Done}
+use Rattle.region_split.specs.declared.walk.Step.TheVariants.{On, Asks, Done}
 
 -- ---- Trees
 
--- The tree of a branch, with its depth.
-pub record IsGrownTree (g : Goal) (ps : List Taken) (t : Grown) : Type 0 where
-  pub is_tree : IsWalkTree g ps (tree_of t.tree)
-  pub counted : depth (tree_of t.tree) ≡ t.depth
-  pub shallow : t.depth ≤ 1000
+-- The tree of a branch, which ends at most 1,000 deep in the whole tree.
+pub record IsGrownTree (g : Goal) (ps : List Taken) (t : T.Tree) : Type 0 where
+  pub is_tree : IsWalkTree g ps (tree_of t)
+  pub shallow : length ps + depth (tree_of t) ≤ 1000
 
--- The tree of the branch is deeper than 1,000.
+-- The branch has a tree, which ends more than 1,000 deep in the whole tree.
 pub record IsDeep (g : Goal) (ps : List Taken) : Type 0 where
   pub tree : Tree
   pub is_tree : IsWalkTree g ps tree
-  pub deep : 1000 < depth tree
+  pub deep : 1000 < length ps + depth tree
 
-abbrev pub IsGrown : Goal → List Taken → Option Grown → Type 0
+abbrev pub IsGrown : Goal → List Taken → Option T.Tree → Type 0
 IsGrown g ps (Some t) = IsGrownTree g ps t
 IsGrown g ps None = IsDeep g ps
 
--- What is handed out once all is walked.
-pub record HasWholeTree (g : Goal) (given : Option T.Tree) : Type 0 where
-  pub tree : Tree
-  pub is_tree : IsWalkTree g [] tree
-  pub is_given : IsGiven tree given
+-- What is kept of a leaf to which this many answers lead: none where it ends more than 1,000 deep in the whole tree.
+abbrev pub IsLeaf : ℕ → T.Tree → Option T.Tree → Type 0
+IsLeaf n t (Some given) = (given ≡ t) × (n < 1000)
+IsLeaf n t None = 1000 ≤ n
 
 -- ---- What the cells have shown
 
@@ -67,12 +67,12 @@ IsFound g cells (Point point) = IsFirstPoint g cells point.items
 -- ---- Where the walk stands
 
 -- The cells of a branch, and its tree where the goal holds in each of them.
-pub record IsBranch (g : Goal) (ps : List Taken) (cells : List (List Taken)) (tree : Option Grown) : Type 0 where
+pub record IsBranch (g : Goal) (ps : List Taken) (cells : List (List Taken)) (tree : Option T.Tree) : Type 0 where
   pub are_cells : AreCells g ps cells
   pub grown : All (HoldsAt g) cells → IsGrown g ps tree
 
 -- A cell whose branch has this tree, and what all cells up to it have shown, where those before it have shown this.
-pub record IsJudgedCell (g : Goal) (ps : List Taken) (found next : Found) (tree : Option Grown) : Type 0 where
+pub record IsJudgedCell (g : Goal) (ps : List Taken) (found next : Found) (tree : Option T.Tree) : Type 0 where
   pub branch : IsBranch g ps (ps ∷ []) tree
   pub shown : (cells : List (List Taken)) → IsFound g cells found → IsFound g (cells ++ (ps ∷ [])) next
 
@@ -81,13 +81,13 @@ IsJudged g ps found (Judged next tree) = IsJudgedCell g ps found next tree
 IsJudged g ps found (Unknown cause) = (IsPlainAt g ps → ⊥) × EndsWalk g ps true cause
 
 -- The cells before a path, in order, and the trees of the branches to its left, from the start of the path on.
-pub data HasBefore (g : Goal) : List Taken → List (List Taken) → List (Option Grown) → Type 0 where
+pub data HasBefore (g : Goal) : List Taken → List (List Taken) → List (Option T.Tree) → Type 0 where
   start : HasBefore g [] [] []
-  first : (ps : List Taken) (q : Atom) (cells : List (List Taken)) (trees : List (Option Grown)) → GoesOn g ps q → HasBefore g ps cells trees → HasBefore g (onto ps q true) cells trees
-  second : (ps : List Taken) (q : Atom) (cells here : List (List Taken)) (trees : List (Option Grown)) (tree : Option Grown) → GoesOn g ps q → HasBefore g ps cells trees → IsBranch g (onto ps q true) here tree → HasBefore g (onto ps q false) (cells ++ here) (trees ++ (tree ∷ []))
+  first : (ps : List Taken) (q : Atom) (cells : List (List Taken)) (trees : List (Option T.Tree)) → GoesOn g ps q → HasBefore g ps cells trees → HasBefore g (onto ps q true) cells trees
+  second : (ps : List Taken) (q : Atom) (cells here : List (List Taken)) (trees : List (Option T.Tree)) (tree : Option T.Tree) → GoesOn g ps q → HasBefore g ps cells trees → IsBranch g (onto ps q true) here tree → HasBefore g (onto ps q false) (cells ++ here) (trees ++ (tree ∷ []))
 
 -- The same once the branch of the path is finished too: all cells up to its last one.
-pub record IsAfter (g : Goal) (ps : List Taken) (trees : List (Option Grown)) (all : List (List Taken)) (tree : Option Grown) : Type 0 where
+pub record IsAfter (g : Goal) (ps : List Taken) (trees : List (Option T.Tree)) (all : List (List Taken)) (tree : Option T.Tree) : Type 0 where
   pub before : List (List Taken)
   pub here : List (List Taken)
   pub whole : before ++ here ≡ all
@@ -116,7 +116,7 @@ left_of g ps = rest_of (questions g) ps + size (end_at g ps)
 -- ---- Steps
 
 -- A walk goes on behind a branch: all its cells are before the new path.
-pub record IsNextFront (g : Goal) (ps : List Taken) (all : List (List Taken)) (path : List Taken) (trees : List (Option Grown)) : Type 0 where
+pub record IsNextFront (g : Goal) (ps : List Taken) (all : List (List Taken)) (path : List Taken) (trees : List (Option T.Tree)) : Type 0 where
   pub stands : HasBefore g path all trees
   pub less : left_of g path < left_of g ps
 
@@ -124,11 +124,12 @@ abbrev pub IsUp : Goal → List Taken → List (List Taken) → Up → Type 0
 IsUp g ps all (Next t trees) = Comes g t × IsNextFront g ps all (path_of t.path.items) trees.items
 IsUp g ps all (Whole tree) = IsBranch g [] all tree
 
--- Where a way up from a path has come to: all these cells lie up to the branch at which the trail stands now.
-pub record HasRisen (g : Goal) (all : List (List Taken)) (from : List Taken) (t : Trail) (trees : List (Option Grown)) (tree : Option Grown) : Type 0 where
+-- Where a way up from a path has come to: all these cells lie up to the branch at which the trail stands now, and no more is left to
+-- its right.
+pub record HasRisen (g : Goal) (all : List (List Taken)) (from : List Taken) (t : Trail) (trees : List (Option T.Tree)) (tree : Option T.Tree) : Type 0 where
   pub stands : Stands g t
   pub after : IsAfter g (path_of t.path.items) trees all tree
-  pub rest : rest_of (questions g) (path_of t.path.items) ≡ rest_of (questions g) from
+  pub rest : rest_of (questions g) (path_of t.path.items) ≤ rest_of (questions g) from
 
 -- The paths of the goal are so short that their rows can be counted.
 abbrev pub AreShort : Goal → Type 0
@@ -153,7 +154,7 @@ pub record IsStandingWalk (g : Goal) (w : Walk) : Type 0 where
   pub stands : Stands g w.trail
 
 -- A walk whose last branch is finished, with the branch's tree.
-pub record IsFinishedWalk (g : Goal) (w : Walk) (tree : Option Grown) : Type 0 where
+pub record IsFinishedWalk (g : Goal) (w : Walk) (tree : Option T.Tree) : Type 0 where
   pub stands : Stands g w.trail
   pub all : List (List Taken)
   pub after : IsAfter g (path_of w.trail.path.items) w.trees.items all tree
@@ -161,6 +162,29 @@ pub record IsFinishedWalk (g : Goal) (w : Walk) (tree : Option Grown) : Type 0 w
   pub counted : length all ≡ w.count
   pub few : w.count ≤ 4096
 
+-- A walk that stands at a front that is kept, whose question this evaluation asks.
+pub record IsAsking (g : Goal) (w : Walk) (q : A.Atom) (p : Place) : Type 0 where
+  pub stands : IsStandingWalk g w
+  pub goes_on : GoesOn g (path_of w.trail.path.items) (atom_of q)
+  pub on : IsOn g (path_of w.trail.path.items) p
+
+-- A step after which the walk has less before it than this.
+abbrev pub IsBelow : Goal → ℕ → Step → Type 0
+IsBelow g n (On w) = IsWalk g w × (left_of g (path_of w.trail.path.items) < n)
+IsBelow g n (Asks w q p) = IsAsking g w q p × (left_of g (path_of w.trail.path.items) < n)
+IsBelow g n (Done d) = IsDecision g d
+
 abbrev pub IsStep : Goal → List Taken → Step → Type 0
-IsStep g ps (On w) = IsWalk g w × (left_of g (path_of w.trail.path.items) < left_of g ps)
-IsStep g ps (Done d) = IsDecision g d
+IsStep g ps s = IsBelow g (left_of g ps) s
+
+-- Where a step has led.
+abbrev pub IsAt : Goal → Step → Type 0
+IsAt g (On w) = IsWalk g w
+IsAt g (Asks w q p) = IsAsking g w q p
+IsAt g (Done d) = IsDecision g d
+
+-- How much the walk has before it after a step.
+abbrev pub left_after : Goal → Step → ℕ
+left_after g (On w) = left_of g (path_of w.trail.path.items) + 1
+left_after g (Asks w q p) = left_of g (path_of w.trail.path.items) + 1
+left_after g (Done d) = 0

@@ -1,5 +1,5 @@
 -- What the program finds at a path of the walk.
-use Rattle.std.specs.Prelude.{◌≡◌, ◌↔◌, ℕ, ◌<◌, ◌^◌, List, length, Bool, true, false, Some, None, IsTrue}
+use Rattle.std.specs.Prelude.{◌≡◌, ◌↔◌, ◌<◌, ◌^◌, List, length, Bool, true, false, Some, None, IsTrue}
 use Rattle.heylo_formula.specs.Goals.{Goal}
 use Rattle.heylo_formula.specs.declared.values.Val.{Val}
 use Rattle.linear_form.specs.Query.{Query, Taken}
@@ -15,11 +15,11 @@ use Rattle.linear_form.specs.Asked.{Answers}
 use Rattle.linear_form.specs.declared.asking.Ask as K
 use Rattle.linear_form.specs.Solutions.{IsSolvable}
 use Rattle.linear_form.specs.GreedyPoint.{IsGreedyPoint}
-use Rattle.linear_form.specs.Cells.{IsDropped, IsKept, GoesOn, IsCell}
+use Rattle.linear_form.specs.Cells.{IsKept, GoesOn, IsCell}
 use Rattle.linear_elim.specs.Answers.{IsBreak}
 use Rattle.linear_elim.specs.declared.answers.Broken.{Broken}
 use Rattle.linear_elim.specs.declared.answers.Cause.{Cause}
-use Rattle.farkas_check.specs.Accepted.{IsRefutedWith, IsRefuted}
+use Rattle.farkas_check.specs.Accepted.{IsRefutedWith}
 use Rattle.region_split.specs.Walk.{IsReached}
 use Rattle.region_split.specs.Decisions.{IsCause}
 use Rattle.region_split.specs.declared.solving.Solved.{Solved}
@@ -28,7 +28,7 @@ use Rattle.region_split.specs.declared.solving.Solved.TheVariants as S
 use Rattle.region_split.specs.declared.solving.Settled.{Settled}
 use Rattle.region_split.specs.declared.solving.Settled.TheVariants as D
 use Rattle.linear_form.specs.Places.{IsOn}
-use Rattle.region_split.specs.internal.Trails.{StandsAt}
+use Rattle.region_split.specs.internal.Trails.{StandsAt, IsDroppedBy}
 use Rattle.region_split.specs.declared.front.End as E
 use Rattle.region_split.specs.declared.front.Front.{Front}
 use Rattle.region_split.specs.declared.front.Front.TheVariants.{Dropped, Question, End, Unknown}
@@ -79,11 +79,6 @@ abbrev pub IsSettledAs : Goal → List Taken → Bool → Settled → Type 0
 IsSettledAs g ps denied (D.Refuted ms) = IsRefutedWith g ps denied ms.items
 IsSettledAs g ps denied D.Met = IsMetAt g ps denied
 IsSettledAs g ps denied (D.Unknown cause) = EndsWalk g ps denied cause
-
--- The path is dropped, and a certificate takes these multipliers there.
-pub record IsDroppedBy (g : Goal) (ps : List Taken) (ms : List (ℕ × ℕ)) : Type 0 where
-  pub dropped : IsDropped g ps
-  pub refuted : IsRefuted g ps ms
 
 -- The path is kept, and no question is left there; the flag tells whether the goal holds plainly.
 pub record IsEnd (g : Goal) (ps : List Taken) (plain : Bool) : Type 0 where

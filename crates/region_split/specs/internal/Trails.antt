@@ -1,8 +1,9 @@
--- The trail of a walk: along its path stand the evaluations, the rows of the answers, where the variables occur in these, and what was
--- found of them.
-use Rattle.std.specs.Prelude.{◌≡◌, ◌<◌, List, [], ◌∷◌, ◌++◌, length}
+-- The trail of a walk: along its path stand what is kept of each answer, the rows of the answers, where the variables occur in these,
+-- what was found of them, and what is known of the comparisons.
+use Rattle.std.specs.Prelude.{◌≡◌, ℕ, ◌<◌, List, [], ◌∷◌, ◌++◌, length, true, false}
 use Rattle.heylo_formula.specs.Goals.{Goal}
-use Rattle.linear_form.specs.Query.{Taken}
+use Rattle.linear_form.specs.Query.{Taken, onto}
+use Rattle.linear_form.specs.Cells.{IsDropped}
 use Rattle.linear_form.specs.Row.{Row}
 use Rattle.linear_form.specs.Occurrences.{AreOccurrences}
 use Rattle.linear_form.specs.PlainPaths.{path_of, taken_of}
@@ -11,14 +12,29 @@ use Rattle.linear_form.specs.RowLists.{ArePathRows, LackLastRow}
 use Rattle.linear_form.specs.Places.{IsOn}
 use Rattle.linear_elim.specs.Searches.{Remembers}
 use Rattle.linear_form.specs.declared.places.Place.{Place}
+use Rattle.farkas_check.specs.Accepted.{IsRefuted}
+use Rattle.region_split.specs.internal.Known.{AreKnown}
+use Rattle.region_split.specs.declared.trail.Way.{Way}
+use Rattle.region_split.specs.declared.trail.Way.TheVariants.{Open, Closed}
 use Rattle.region_split.specs.declared.trail.Trail.{Trail}
 use Rattle.region_split.specs.declared.trail.Retreat.{Retreat}
 use Rattle.region_split.specs.declared.trail.Retreat.TheVariants.{To, Start}
 
--- The evaluation before the first question, and behind it for each answer the one that asked its question.
-pub data ArePlaces (g : Goal) : List Taken → List Place → Type 0 where
-  start : (p : Place) → IsOn g [] p → ArePlaces g [] (p ∷ [])
-  answer : (ps : List Taken) (t : Taken) (places : List Place) (p : Place) → ArePlaces g ps places → IsOn g ps p → ArePlaces g (ps ++ (t ∷ [])) (places ++ (p ∷ []))
+-- The path is dropped, and a certificate takes these multipliers there.
+pub record IsDroppedBy (g : Goal) (ps : List Taken) (ms : List (ℕ × ℕ)) : Type 0 where
+  pub dropped : IsDropped g ps
+  pub refuted : IsRefuted g ps ms
+
+-- What is kept of an answer to the question at the end of a path: the evaluation that asked it, or that with the other answer the
+-- path is dropped, which only matters where this one is yes.
+abbrev pub IsWay : Goal → List Taken → Taken → Way → Type 0
+IsWay g ps t (Open p) = IsOn g ps p
+IsWay g ps t (Closed ms) = t.held ≡ true → IsDroppedBy g (onto ps t.atom false) ms.items
+
+-- The evaluation before the first question, and behind it what is kept of each answer.
+pub data ArePlaces (g : Goal) : List Taken → List Way → Type 0 where
+  start : (p : Place) → IsOn g [] p → ArePlaces g [] (Open p ∷ [])
+  answer : (ps : List Taken) (t : Taken) (places : List Way) (w : Way) → ArePlaces g ps places → IsWay g ps t w → ArePlaces g (ps ++ (t ∷ [])) (places ++ (w ∷ []))
 
 -- The rows of a path whose last answer, where there is one, has no row yet.
 pub data AreRowsSoFar (g : Goal) : List Taken → List Row → Type 0 where
@@ -31,6 +47,7 @@ pub record Comes (g : Goal) (t : Trail) : Type 0 where
   pub rows : AreRowsSoFar g (path_of t.path.items) t.rows.items
   pub occurrences : AreOccurrences (length g.types) t.rows.items t.occurrences
   pub remembers : Remembers t.search.value t.rows.items
+  pub known : AreKnown g.types t.visited.items
 
 -- The trail stands at a front: each comparison of its path has its row.
 pub record Stands (g : Goal) (t : Trail) : Type 0 where
@@ -38,6 +55,7 @@ pub record Stands (g : Goal) (t : Trail) : Type 0 where
   pub rows : ArePathRows g (path_of t.path.items) t.rows.items
   pub occurrences : AreOccurrences (length g.types) t.rows.items t.occurrences
   pub remembers : Remembers t.search.value t.rows.items
+  pub known : AreKnown g.types t.visited.items
 
 -- The trail stands at this path.
 pub record StandsAt (g : Goal) (ps : List Taken) (t : Trail) : Type 0 where
@@ -49,17 +67,17 @@ pub record ComesBy (g : Goal) (from : Trail) (answer : T.Taken) (t : Trail) : Ty
   pub comes : Comes g t
   pub path : path_of t.path.items ≡ path_of from.path.items ++ (taken_of answer ∷ [])
 
--- The trail stood there before this answer, to a question that this evaluation asked.
-pub record StoodBefore (g : Goal) (t : Trail) (before : Trail) (answer : T.Taken) (place : Place) : Type 0 where
+-- The trail stood there before this answer, of which this was kept.
+pub record StoodBefore (g : Goal) (t : Trail) (before : Trail) (answer : T.Taken) (way : Way) : Type 0 where
   pub stands : Stands g before
-  pub asked : IsOn g (path_of before.path.items) place
+  pub asked : IsWay g (path_of before.path.items) (taken_of answer) way
   pub path : path_of t.path.items ≡ path_of before.path.items ++ (taken_of answer ∷ [])
 
 abbrev pub IsBack : Goal → Trail → Retreat → Type 0
-IsBack g t (To before a place) = StoodBefore g t before a place
+IsBack g t (To before a way) = StoodBefore g t before a way
 IsBack g t Start = path_of t.path.items ≡ []
 
 -- There is one answer less.
 abbrev pub IsShorter : Trail → Retreat → Type 0
-IsShorter t (To before a place) = length before.path.items < length t.path.items
+IsShorter t (To before a way) = length before.path.items < length t.path.items
 IsShorter t Start = Unit {0}

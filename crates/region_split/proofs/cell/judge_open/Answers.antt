@@ -1,9 +1,9 @@
-use Rattle.std.proofs.Common.{arith, sym, subst, refl, true, false}
+use Rattle.std.proofs.Common.{length, arith, sym, subst, refl, true, false}
 use Rattle.std.specs.List.{All}
 use Rattle.heylo_formula.specs.Goals.{goal_of}
 use Rattle.linear_form.specs.PlainPaths.{path_of}
 use Rattle.linear_form.specs.RowLists.{IsNumericRow}
-use Rattle.region_split.proofs.Steps.{refuted_cell, point_cell, break_cell, point_length, not_plain_there}
+use Rattle.region_split.proofs.Steps.{path_length, refuted_cell, point_cell, break_cell, point_length, not_plain_there}
 use Rattle.region_split.proofs.cell.judge_open.Goals as goal
 
 pub solve-requires-clause-numeric : goal.solve-requires-clause-numeric
@@ -18,7 +18,7 @@ with_point-requires c =
 pub returns-in-Refuted-clause-judged : goal.returns-in-Refuted-clause-judged
 returns-in-Refuted-clause-judged c =
     let h = c.in_ok-multipliers.ensures.solved (goal_of c.args.goal.now) (path_of c.args.path.now) true c.requires.rows.are_rows (sym c.deref.ensures.value) in
-    refuted_cell (goal_of c.args.goal.now) (path_of c.args.path.now) c.args.found false c.in-Refuted.multipliers c.leaf.result c.leaf.ensures c.requires.at_end refl (rw c.in-Refuted.is at h)
+    refuted_cell (goal_of c.args.goal.now) (path_of c.args.path.now) c.args.found false c.in-Refuted.multipliers c.leaf.result (length c.args.path.now) (path_length c.args.path.now (length c.args.path.now) refl) c.leaf.ensures c.requires.at_end refl (rw c.in-Refuted.is at h)
 
 pub returns-in_ok-with_point-in-Point-clause-judged : goal.returns-in_ok-with_point-in-Point-clause-judged
 returns-in_ok-with_point-in-Point-clause-judged c =

@@ -71,4 +71,4 @@ returns c =
     let e = subst (λ xs. rows_of g (path_of xs) true ≡ Some c.in-Rows.more.items) c.deref.ensures.value (rw c.in-Rows.is at c.in_ok-more.ensures.rows) in
     let s = signs_stand c.args.trail.rows.items c.args.signs.now _ c.in-Rows.more.items _ (c.denied_rows_are_more.ensures.places g ps _ c.in-Rows.more.items c.requires.denied c.requires.rows e) refl (rows_counted g ps c.args.trail.rows.items c.requires.stands.rows) in
     let f = rw c.in-Rows.is at c.in_ok-more.ensures.first in
-    (again g c.args.trail _ c.in-Rows.more.items c.len-kept_rows.result c.requires.stands k f refl refl c.first_rows.ensures refl refl, dropped_by g ps true c.args.multipliers.now _ c.requires.denied c.requires.refuted (moved_held g ps c.args.multipliers.now _ c.args.trail.rows.items c.args.signs.now c.in-Rows.more.items c.deref-2.result.now c.len-kept_rows.result _ c.deref-3.result.now k c.deref-2.ensures.value c.deref-3.ensures.value c.requires.refuted c.requires.rows e s c.in_ok-moved_signs.ensures c.in_ok-moved_all.ensures))
+    (again g c.args.trail _ c.in-Rows.more.items c.len-kept_rows.result c.requires.stands k f refl refl c.first_rows.ensures refl refl c.requires.stands.known, dropped_by g ps true c.args.multipliers.now _ c.requires.denied c.requires.refuted (moved_held g ps c.args.multipliers.now _ c.args.trail.rows.items c.args.signs.now c.in-Rows.more.items c.deref-2.result.now c.len-kept_rows.result _ c.deref-3.result.now k c.deref-2.ensures.value c.deref-3.ensures.value c.requires.refuted c.requires.rows e s c.in_ok-moved_signs.ensures c.in_ok-moved_all.ensures))

@@ -5,7 +5,7 @@ use Rattle.linear_form.specs.Paths.{IsPath, end_at}
 use Rattle.linear_form.specs.PlainPaths.{path_of}
 use Rattle.linear_form.specs.Places.{IsOn}
 use Rattle.region_split.specs.internal.Trails.{ArePlaces}
-use Rattle.region_split.proofs.PathAnswers.{bits_there, question_there, end_there}
+use Rattle.region_split.proofs.PathAnswers.{bits_there, question_there}
 use Rattle.region_split.proofs.Steps.{here}
 use Rattle.region_split.proofs.front.kept.Goals as goal
 
@@ -32,5 +32,4 @@ pub returns-in-End : goal.returns-in-End
 returns-in-End c k =
     let g = goal_of c.args.goal.now in
     let a = subst (λ xs. Answers c.in_ok-ask.field-0.ask (end_at g (path_of xs))) c.deref.ensures.value c.in_ok-ask.ensures.asked in
-    let b = rw c.in-End.is at a in
-    (here g c.args.trail c.requires.stands, record { is_end = end_there g (path_of c.args.trail.path.items) c.in-End.stated c.in-End.found c.holds_plainly-plain.result k b c.holds_plainly-plain.ensures; values = b })
+    (here g c.args.trail c.requires.stands, c.end_of.ensures (path_of c.args.trail.path.items) k (rw c.in-End.is at a))

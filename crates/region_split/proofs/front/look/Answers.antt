@@ -27,7 +27,7 @@ look_there-requires-clause-stands c =
     let e = rows_so_far g (path_of c.args.trail.path.items) c.args.trail.rows.items c.in-Rows.rows.items c.len-noted.result c.requires.comes.rows k (omega (arith, n, l)) in
     let d = c.deref-in-Rows.ensures.value in
     let before = subst (λ rows. AreOccurrences (length g.types) rows c.args.trail.occurrences) (sym (ap (take c.len-noted.result) d ∙ e)) c.requires.comes.occurrences in
-    stands_with g c.args.trail _ c.requires.comes k refl refl (subst (λ rows. AreOccurrences (length g.types) rows c.note.new.self) d (c.note.ensures (length g.types) before)) refl
+    stands_with g c.args.trail _ c.requires.comes k refl refl (subst (λ rows. AreOccurrences (length g.types) rows c.note.new.self) d (c.note.ensures (length g.types) before)) refl c.requires.comes.known
 
 pub returns : goal.returns
 returns c =

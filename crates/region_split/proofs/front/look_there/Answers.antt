@@ -51,7 +51,7 @@ pub dropped-requires-clause-stands : goal.dropped-requires-clause-stands
 dropped-requires-clause-stands c =
     let n = c.len-kept_rows.ensures in
     let o = c.args.trail.rows.ok.0 in
-    (looked (goal_of c.args.goal.now) c.args.trail _ c.in-Rows.list.items c.deref-2.result.now c.len-kept_rows.result c.requires.stands (omega (arith, n, o)) (rw c.in-Rows.is at c.in_ok-list.ensures.first) c.deref-2.ensures.value refl refl c.in_ok-signs.ensures.items refl c.in_ok-settled.ensures.remembered).stands
+    (looked (goal_of c.args.goal.now) c.args.trail _ c.in-Rows.list.items c.deref-2.result.now c.len-kept_rows.result c.requires.stands (omega (arith, n, o)) (rw c.in-Rows.is at c.in_ok-list.ensures.first) c.deref-2.ensures.value refl refl c.in_ok-signs.ensures.items refl c.in_ok-settled.ensures.remembered c.requires.stands.known).stands
 
 pub dropped-requires-clause-rows : goal.dropped-requires-clause-rows
 dropped-requires-clause-rows c =
@@ -69,7 +69,7 @@ pub kept-requires-clause-stands : goal.kept-requires-clause-stands
 kept-requires-clause-stands c =
     let n = c.len-kept_rows.ensures in
     let o = c.args.trail.rows.ok.0 in
-    (looked (goal_of c.args.goal.now) c.args.trail _ c.in-Rows.list.items c.deref-2.result.now c.len-kept_rows.result c.requires.stands (omega (arith, n, o)) (rw c.in-Rows.is at c.in_ok-list.ensures.first) c.deref-2.ensures.value refl refl c.in_ok-signs.ensures.items refl c.in_ok-settled.ensures.remembered).stands
+    (looked (goal_of c.args.goal.now) c.args.trail _ c.in-Rows.list.items c.deref-2.result.now c.len-kept_rows.result c.requires.stands (omega (arith, n, o)) (rw c.in-Rows.is at c.in_ok-list.ensures.first) c.deref-2.ensures.value refl refl c.in_ok-signs.ensures.items refl c.in_ok-settled.ensures.remembered c.requires.stands.known).stands
 
 pub returns-in-Met : goal.returns-in-Met
 returns-in-Met c =

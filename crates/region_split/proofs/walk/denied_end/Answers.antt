@@ -62,7 +62,7 @@ returns-in-Judged c =
     let ps = path_of c.args.walk.trail.path.items in
     let n = c.len-kept.ensures in
     let o = c.args.walk.trail.rows.ok.0 in
-    let t = looked g c.args.walk.trail _ c.in-Rows.list.items c.deref-3.result.now c.len-kept.result c.requires.stands.stands (omega (arith, n, o)) (rw c.in-Rows.is at c.in_ok-list.ensures.first) c.deref-3.ensures.value refl refl c.first_rows.ensures refl c.in_ok-cell.ensures.remembered in
+    let t = looked g c.args.walk.trail _ c.in-Rows.list.items c.deref-3.result.now c.len-kept.result c.requires.stands.stands (omega (arith, n, o)) (rw c.in-Rows.is at c.in_ok-list.ensures.first) c.deref-3.ensures.value refl refl c.first_rows.ensures refl c.in_ok-cell.ensures.remembered c.requires.stands.stands.known in
     let j = subst (λ xs. IsJudgedCell g (path_of xs) c.args.walk.found c.in-Judged.found c.in-Judged.tree) c.deref-2.ensures.value (rw c.in-Judged.is at c.in_ok-cell.ensures.judged) in
     c.finish.ensures g c.requires.linear (cell_walk g c.args.walk _ c.in-Judged.found c.in-Judged.tree c.requires.stands c.requires.few t refl refl refl j)
 

@@ -1,7 +1,7 @@
-use Rattle.std.proofs.Common.{◌≡◌, refl, sym, Bool, true, false, not}
+use Rattle.std.proofs.Common.{◌≡◌, refl, sym, arith, Bool, true, false, not}
 use Rattle.heylo_formula.specs.Goals.{goal_of}
 use Rattle.linear_form.specs.PlainPaths.{path_of}
-use Rattle.region_split.proofs.Steps.{all_counted, cell_walk, plain_cell, here}
+use Rattle.region_split.proofs.Steps.{path_length, all_counted, cell_walk, plain_cell, here}
 use Rattle.region_split.proofs.walk.end.Goals as goal
 
 undone : (b : Bool) → not b ≡ false → b ≡ true
@@ -17,4 +17,7 @@ returns c =
     let ps = path_of c.args.walk.trail.path.items in
     let e = c.if-not-ends.false in
     let p : c.args.ends.plain ≡ true = undone c.args.ends.plain e in
-    c.finish.ensures g c.requires.linear (cell_walk g c.args.walk _ c.args.walk.found c.leaf.result c.requires.stands c.if-walk-ge-MOST_CELLS.false (here g c.args.walk.trail c.requires.stands.stands) refl refl refl (plain_cell g ps c.args.walk.found c.args.ends.plain c.leaf.result c.leaf.ensures c.requires.at_end.is_end p))
+    let m = c.len.ensures in
+    let o = c.args.walk.trail.path.ok.0 in
+    let l = path_length c.args.walk.trail.path.items c.len.result (omega (arith, m, o)) in
+    c.finish.ensures g c.requires.linear (cell_walk g c.args.walk _ c.args.walk.found c.leaf-tree.result c.requires.stands c.if-walk-ge-MOST_CELLS.false (here g c.args.walk.trail c.requires.stands.stands) refl refl refl (plain_cell g ps c.args.walk.found c.args.ends.plain c.leaf-tree.result c.len.result l c.leaf-tree.ensures c.requires.at_end.is_end p))

@@ -1,10 +1,11 @@
-use Rattle.std.proofs.Common.{sym, subst}
+use Rattle.std.proofs.Common.{arith, sym, subst}
 use Rattle.heylo_formula.specs.Goals.{goal_of}
 use Rattle.linear_form.specs.Cells.{GoesOn}
 use Rattle.linear_form.specs.PlainPaths.{path_of, atom_of}
 use Rattle.linear_form.specs.Places.{IsOn}
-use Rattle.region_split.specs.internal.Seen.{IsDroppedBy, IsEndOf}
-use Rattle.region_split.proofs.Steps.{come_path, walk_short, standing, with_trail, step_from, dropped_walk, front_ends}
+use Rattle.region_split.specs.internal.Seen.{IsEndOf}
+use Rattle.region_split.specs.internal.Trails.{IsDroppedBy}
+use Rattle.region_split.proofs.Steps.{path_length, come_path, walk_short, standing, with_trail, step_from, dropped_walk, front_ends}
 use Rattle.region_split.proofs.walk.visit.Goals as goal
 
 pub look-requires-clause-path : goal.look-requires-clause-path
@@ -21,13 +22,26 @@ returns-in-Dropped c =
     let g = goal_of c.args.goal.now in
     let r = rw c.in-Dropped.is at c.in_ok-trail.ensures in
     let w = with_trail c.args.walk c.in-Dropped.trail in
-    step_from g (path_of c.args.walk.trail.path.items) (path_of c.in-Dropped.trail.path.items) c.finish.result r.0.path (c.finish.ensures g c.requires.linear (dropped_walk g w c.in-Dropped.multipliers c.leaf.result c.leaf.ensures (standing g c.args.walk c.in-Dropped.trail c.requires.comes r.0) (subst (λ ps. IsDroppedBy g ps c.in-Dropped.multipliers.items) (sym r.0.path) r.1)))
+    let m = c.len.ensures in
+    let o = c.in-Dropped.trail.path.ok.0 in
+    let l = path_length c.in-Dropped.trail.path.items c.len.result (omega (arith, m, o)) in
+    step_from g (path_of c.args.walk.trail.path.items) (path_of c.in-Dropped.trail.path.items) c.finish.result r.0.path (c.finish.ensures g c.requires.linear (dropped_walk g w c.in-Dropped.multipliers c.leaf-tree.result c.len.result l c.leaf-tree.ensures (standing g c.args.walk c.in-Dropped.trail c.requires.comes r.0) (subst (λ ps. IsDroppedBy g ps c.in-Dropped.multipliers.items) (sym r.0.path) r.1)))
+
+pub deeper-requires-clause-asking : goal.deeper-requires-clause-asking
+deeper-requires-clause-asking c =
+    let g = goal_of c.args.goal.now in
+    let r = rw c.in-Question.is at c.in_ok-trail.ensures in
+    record {
+      stands = standing g c.args.walk c.in-Question.trail c.requires.comes r.0;
+      goes_on = subst (λ ps. GoesOn g ps (atom_of c.in-Question.atom)) (sym r.0.path) r.1.0;
+      on = subst (λ ps. IsOn g ps c.in-Question.place) (sym r.0.path) r.1.1;
+    }
 
 pub returns-in-Question : goal.returns-in-Question
 returns-in-Question c =
     let g = goal_of c.args.goal.now in
     let r = rw c.in-Question.is at c.in_ok-trail.ensures in
-    step_from g (path_of c.args.walk.trail.path.items) (path_of c.in-Question.trail.path.items) c.deeper.result r.0.path (c.deeper.ensures g (standing g c.args.walk c.in-Question.trail c.requires.comes r.0) (subst (λ ps. GoesOn g ps (atom_of c.in-Question.atom)) (sym r.0.path) r.1.0) (subst (λ ps. IsOn g ps c.in-Question.place) (sym r.0.path) r.1.1))
+    step_from g (path_of c.args.walk.trail.path.items) (path_of c.in-Question.trail.path.items) c.deeper.result r.0.path c.deeper.ensures
 
 pub end-requires-clause-stands : goal.end-requires-clause-stands
 end-requires-clause-stands c =

@@ -1,0 +1,107 @@
+-- A question whose row the path has already: with one answer the path is kept, with the other one it's dropped.
+use Rattle.std.proofs.Common.{◌≡◌, ℕ, ◌+◌, ◌≤◌, List, [], ◌∷◌, ◌++◌, length, take, refl, sym, ap, ◌∙◌, subst, arith, length-append, Bool, true, false}
+use Prim.Native.Nat.{suc}
+use Rattle.std.specs.Prelude.{None, not}
+use Rattle.std.specs.List.{Contains}
+use Rattle.std.proofs.lemmas.List.{get_or_push, get_or_append_left}
+use Rattle.std.proofs.lemmas.List.Elements.{Contains-get_or}
+use Rattle.std.proofs.Math.Seq.{take-append_seam}
+use Rattle.heylo_formula.specs.Goals.{Goal}
+use Rattle.heylo_formula.specs.Typing.{types_in}
+use Rattle.linear_form.specs.Query.{Atom, Taken, onto}
+use Rattle.linear_form.specs.Row.{Row}
+use Rattle.linear_form.specs.Combination.{row_at}
+use Rattle.linear_form.specs.Lasting.{IsNoEnd}
+use Rattle.linear_form.specs.Questions.{questions}
+use Rattle.linear_form.specs.Paths.{IsPath}
+use Rattle.linear_form.specs.PathRows.{all_tightened, path_claims, answer_claims}
+use Rattle.linear_form.specs.PlainPaths.{taken_of, atom_of}
+use Rattle.linear_form.specs.declared.paths.Taken as T
+use Rattle.linear_form.specs.RowLists.{ArePathRows}
+use Rattle.linear_form.specs.RowListLaws.{HasFirstRows, RepeatedRowsStand}
+use Rattle.linear_form.specs.Cells.{IsKept, GoesOn}
+use Rattle.linear_form.proofs.exported.PathSteps.{path_onto}
+use Rattle.linear_form.proofs.exported.Places.{rows_counted, path_rows_first, claims_counted}
+use Rattle.linear_elim.specs.declared.answers.Cause.TheVariants.{Bits}
+use Rattle.farkas_check.specs.Accepted.{IsRefutedWith}
+use Rattle.region_split.specs.Walk.{AreBefore}
+use Rattle.region_split.specs.Decisions.{IsLarge}
+use Rattle.region_split.specs.internal.Clashes.{Clash}
+use Rattle.region_split.specs.internal.Seen.{EndsWalk}
+use Rattle.region_split.specs.internal.Trails.{IsDroppedBy}
+use Rattle.region_split.specs.internal.Known.{StandsIn}
+use Rattle.region_split.specs.internal.Repeats.{AreAnswerRows, IsAsked}
+use Rattle.region_split.specs.declared.answering.AnswerRows.{AnswerRows}
+use Rattle.region_split.specs.declared.trail.Trail.{Trail}
+use Rattle.region_split.proofs.ClashingRows.{clash_contradicts}
+use Rattle.region_split.proofs.PathAnswers.{dropped_by, unended_undenied}
+use Rattle.region_split.proofs.Trails.{same_path_rows, unstated_path}
+
+-- the branch of the other answer
+dropped_other : (g : Goal) (qs : List Taken) (rows : List Row) (r other : Row) (i : ℕ) → StandsIn rows r i → Clash r other → IsNoEnd g qs → HasFirstRows g qs (rows ++ (other ∷ [])) → IsDroppedBy g qs ((i, 1) ∷ ((length rows, 1) ∷ []))
+dropped_other g qs rows r other i s h n f =
+    let all = (rows ++ (other ∷ [])) ++ f.signs in
+    let a = length-append (rows ++ (other ∷ [])) f.signs in
+    let b = length-append rows (other ∷ []) in
+    let l = s.inside in
+    let at_row : row_at all i ≡ r = get_or_append_left (rows ++ (other ∷ [])) f.signs _ i (omega (arith, b, l)) ∙ get_or_append_left rows (other ∷ []) _ i l ∙ s.same in
+    let at_other : row_at all (length rows) ≡ other = get_or_append_left (rows ++ (other ∷ [])) f.signs _ (length rows) (omega (arith, b)) ∙ get_or_push rows other _ (length rows) refl in
+    let k : IsRefutedWith g qs false ((i, 1) ∷ ((length rows, 1) ∷ [])) = record { rows = all; are_rows = f.are_rows; contradiction = clash_contradicts all r other i (length rows) l (omega (arith, a, b)) at_row at_other h } in
+    dropped_by g qs false _ _ (unended_undenied g qs n) k k
+
+contained : (rows : List Row) (r : Row) (i : ℕ) → StandsIn rows r i → Contains rows r
+contained rows r i s = subst (Contains rows) s.same (Contains-get_or rows i _ s.inside)
+
+-- what the law says of a question that the path has answered
+pub record IsAnsweredBefore (g : Goal) (ps : List Taken) (q : Atom) (held : Bool) (i n : ℕ) : Type 0 where
+  pub kept : IsKept g (onto ps q held)
+  pub dropped : IsDroppedBy g (onto ps q (not held)) ((i, 1) ∷ ((n, 1) ∷ []))
+
+pub answered_yes : (g : Goal) (ps : List Taken) (q : Atom) (t : Trail) (rows : AnswerRows) (i n : ℕ) → RepeatedRowsStand → IsAsked g ps q → AreAnswerRows g ps q t rows → StandsIn t.rows.items rows.yes i → Clash rows.yes rows.no → n ≡ length t.rows.items → IsAnsweredBefore g ps q true i n
+answered_yes g ps q t rows i n law a h s k e =
+    let own = subst (λ qs. ArePathRows g qs t.rows.items) h.at.path h.at.stands.rows in
+    let l = law g ps q true t.rows.items rows.yes rows.no own h.yes h.no (contained t.rows.items rows.yes i s) a.goes_on.kept in
+    record { kept = l.0; dropped = subst (λ m. IsDroppedBy g (onto ps q false) ((i, 1) ∷ ((m, 1) ∷ []))) (sym e) (dropped_other g (onto ps q false) t.rows.items rows.yes rows.no i s k a.lasts_no l.1) }
+
+pub answered_no : (g : Goal) (ps : List Taken) (q : Atom) (t : Trail) (rows : AnswerRows) (i n : ℕ) → RepeatedRowsStand → IsAsked g ps q → AreAnswerRows g ps q t rows → StandsIn t.rows.items rows.no i → Clash rows.no rows.yes → n ≡ length t.rows.items → IsAnsweredBefore g ps q false i n
+answered_no g ps q t rows i n law a h s k e =
+    let own = subst (λ qs. ArePathRows g qs t.rows.items) h.at.path h.at.stands.rows in
+    let l = law g ps q false t.rows.items rows.no rows.yes own h.no h.yes (contained t.rows.items rows.no i s) a.goes_on.kept in
+    record { kept = l.0; dropped = subst (λ m. IsDroppedBy g (onto ps q true) ((i, 1) ∷ ((m, 1) ∷ []))) (sym e) (dropped_other g (onto ps q true) t.rows.items rows.no rows.yes i s k a.lasts_yes l.1) }
+
+-- ---- The rows of the answers
+
+-- an answer to a comparison has one row more
+pub one_more : (ps : List Taken) (p : T.Taken) → length (answer_claims (atom_of p.atom) p.held) ≡ 1 → length (path_claims (ps ++ (taken_of p ∷ []))) ≡ length (path_claims ps) + 1
+one_more ps p e = let c = claims_counted ps (atom_of p.atom) p.held in omega (arith, c, e)
+
+pub last_row : (g : Goal) (ps : List Taken) (t : Taken) (rows more : List Row) → ArePathRows g ps rows → ArePathRows g (ps ++ (t ∷ [])) more → length (path_claims (ps ++ (t ∷ []))) ≡ length (path_claims ps) + 1 → (fewer : List Row) (row : Row) → more ≡ fewer ++ (row ∷ []) → fewer ≡ rows
+last_row g ps t rows more h k n fewer row e =
+    let f = same_path_rows g ps rows (take (length (path_claims ps)) more) h (path_rows_first g ps (t ∷ []) more k) in
+    let a = rows_counted g (ps ++ (t ∷ [])) more k in
+    let b = ap length e ∙ length-append fewer (row ∷ []) in
+    let m : length (path_claims ps) ≡ length fewer = omega (arith, a, b, n) in
+    sym (f ∙ ap (take (length (path_claims ps))) e ∙ ap (λ j. take j (fewer ++ (row ∷ []))) m ∙ take-append_seam fewer (row ∷ []))
+
+pub no_last_row : (g : Goal) (ps : List Taken) (t : Taken) (more : List Row) → ArePathRows g (ps ++ (t ∷ [])) more → length (path_claims (ps ++ (t ∷ []))) ≡ length (path_claims ps) + 1 → length more ≡ 0 → ⊥
+no_last_row g ps t more k n e = let a = rows_counted g (ps ++ (t ∷ [])) more k in absurd (omega (arith, a, n, e))
+
+-- there are at most as many rows as answers
+claims_few : (ps : List Taken) → length (path_claims ps) ≤ length ps
+claims_few [] = omega arith
+claims_few (p ∷ ps) = go p.atom p.held (claims_few ps)
+  where
+    go : (q : Atom) (held : Bool) → length (path_claims ps) ≤ length ps → length (answer_claims q held ++ path_claims ps) ≤ suc (length ps)
+    go (Atom.truth x) held l = omega (arith, l)
+    go (Atom.row a strict) held l = omega (arith, l)
+
+pub rows_few : (g : Goal) (ps : List Taken) (rows : List Row) → ArePathRows g ps rows → length rows ≤ length ps
+rows_few g ps rows h = let a = rows_counted g ps rows h in let b = claims_few ps in omega (arith, a, b)
+
+-- where the row of yes can't be stated, the walk ends in its branch
+pub unstated_yes : (g : Goal) (ps : List Taken) (q : Atom) → GoesOn g ps q → all_tightened (types_in g.types) (path_claims (onto ps q true)) ≡ None → EndsWalk g ps false Bits
+unstated_yes g ps q h e cells r m linear = (linear, IsLarge.in_rows (onto ps q true) cells (record { are_before = AreBefore.first ps q cells h r.are_before; few = r.few }) (unstated_path g (onto ps q true) e))
+
+-- a path with an answer to its question is a path
+pub question_path : (g : Goal) (ps : List Taken) (q : Atom) (held : Bool) → IsPath g ps → GoesOn g ps q → IsPath g (onto ps q held)
+question_path g ps q held p h = path_onto (questions g) ps q h.asks.yes h.asks.no held p h.asks.question

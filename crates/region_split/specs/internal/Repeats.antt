@@ -1,0 +1,61 @@
+-- A question whose row the path has already.
+use Rattle.std.specs.Prelude.{◌≡◌, List, [], ◌∷◌, ◌++◌, true, false, None}
+use Rattle.heylo_formula.specs.Goals.{Goal}
+use Rattle.heylo_formula.specs.Typing.{types_in}
+use Rattle.linear_form.specs.Query.{Atom, Taken, onto}
+use Rattle.linear_form.specs.Row.{Row}
+use Rattle.linear_form.specs.PathRows.{all_tightened, path_claims}
+use Rattle.linear_form.specs.PlainPaths.{path_of, taken_of, atom_of}
+use Rattle.linear_form.specs.RowLists.{ArePathRows}
+use Rattle.linear_form.specs.Lasting.{IsNoEnd}
+use Rattle.linear_form.specs.Cells.{IsKept, GoesOn}
+use Rattle.linear_form.specs.declared.paths.Taken as T
+use Rattle.region_split.specs.internal.Trails.{StandsAt, IsDroppedBy}
+use Rattle.region_split.specs.internal.Seen.{EndsWalk}
+use Rattle.region_split.specs.declared.trail.Trail.{Trail}
+use Rattle.region_split.specs.declared.answering.Answered.{Answered}
+use Rattle.region_split.specs.declared.answering.Answered.TheVariants as A
+use Rattle.region_split.specs.declared.answering.AnswerRows.{AnswerRows}
+use Rattle.region_split.specs.declared.answering.Both.{Both}
+use Rattle.region_split.specs.declared.answering.Both.TheVariants as B
+use Rattle.region_split.specs.declared.repeats.Repeat.{Repeat}
+use Rattle.region_split.specs.declared.repeats.Repeat.TheVariants.{New, Yes, No, Unknown}
+
+-- The path and its rows are as they were, and this is the row of the answer.
+pub record HasAnswerRow (g : Goal) (path : List T.Taken) (rows : List Row) (answer : T.Taken) (path_after : List T.Taken) (rows_after : List Row) (row : Row) : Type 0 where
+  pub same_path : path_after ≡ path
+  pub same_rows : rows_after ≡ rows
+  pub are_rows : ArePathRows g (path_of path ++ (taken_of answer ∷ [])) (rows ++ (row ∷ []))
+
+-- The path is as it was, and the row of the answer can't be stated.
+pub record LacksAnswerRow (g : Goal) (path : List T.Taken) (answer : T.Taken) (path_after : List T.Taken) : Type 0 where
+  pub same_path : path_after ≡ path
+  pub no_rows : all_tightened (types_in g.types) (path_claims (path_of path ++ (taken_of answer ∷ []))) ≡ None
+
+abbrev pub IsAnswered : Goal → List T.Taken → List Row → T.Taken → Answered → Type 0
+IsAnswered g path rows answer (A.Row p rs q r) = (q ≡ answer.atom) × HasAnswerRow g path rows answer p.items rs.items r
+IsAnswered g path rows answer (A.Bits p q) = (q ≡ answer.atom) × LacksAnswerRow g path answer p.items
+
+-- The trail stands at the path, and these are the rows of the two answers to its question.
+pub record AreAnswerRows (g : Goal) (ps : List Taken) (q : Atom) (t : Trail) (rows : AnswerRows) : Type 0 where
+  pub at : StandsAt g ps t
+  pub yes : ArePathRows g (onto ps q true) (t.rows.items ++ (rows.yes ∷ []))
+  pub no : ArePathRows g (onto ps q false) (t.rows.items ++ (rows.no ∷ []))
+
+abbrev pub IsBoth : Goal → List Taken → Atom → Both → Type 0
+IsBoth g ps q (B.Rows t a rows) = (atom_of a ≡ q) × AreAnswerRows g ps q t rows
+IsBoth g ps q (B.Lost t a) = (atom_of a ≡ q) × StandsAt g ps t
+IsBoth g ps q (B.Unknown cause) = EndsWalk g ps false cause
+
+-- A question of a front that is kept, and with each answer the path is at no end.
+pub record IsAsked (g : Goal) (ps : List Taken) (q : Atom) : Type 0 where
+  pub goes_on : GoesOn g ps q
+  pub lasts_yes : IsNoEnd g (onto ps q true)
+  pub lasts_no : IsNoEnd g (onto ps q false)
+
+-- The question may be new; or with one of its answers the path is kept and with the other one it's dropped; or the walk ends.
+abbrev pub IsRepeat : Goal → List Taken → Atom → Repeat → Type 0
+IsRepeat g ps q (New t a) = (atom_of a ≡ q) × StandsAt g ps t
+IsRepeat g ps q (Yes t) = StandsAt g (onto ps q true) t × IsKept g (onto ps q true)
+IsRepeat g ps q (No t ms) = StandsAt g (onto ps q false) t × (IsKept g (onto ps q false) × IsDroppedBy g (onto ps q true) ms.items)
+IsRepeat g ps q (Unknown cause) = EndsWalk g ps false cause

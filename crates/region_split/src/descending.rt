@@ -1,0 +1,83 @@
+//! The way down from a question.
+
+ghost use Rattle.std.specs.Prelude.{◌≡◌, ◌+◌, IfOk, None};
+ghost use Rattle.heylo_formula.specs.Goals.{goal_of};
+ghost use Rattle.heylo_formula.specs.TypedGoals.{IsTypedGoal};
+ghost use Rattle.linear_form.specs.Cells.{IsKept};
+ghost use Rattle.linear_form.specs.Nonlinear.{nonlinear_product};
+ghost use Rattle.linear_form.specs.Places.{IsOn};
+ghost use Rattle.linear_form.specs.PlainPaths.{path_of};
+ghost use Rattle.region_split.specs.internal.Progress.{AreShort, IsStandingWalk, IsAsking, IsBelow, IsStep, left_of};
+
+use crate::decisions::Decision;
+use crate::front::end_of;
+use crate::growth::leaf;
+use crate::repeats::{Repeat, repeated};
+use crate::trail::{Way, onward};
+use crate::walk::{Step, Walk, end};
+use farkas_check::Tree;
+use heylo_formula::Goal;
+use linear_elim::Cause;
+use linear_form::{Ask, Atom, Place, Reached, Taken, go_on_from};
+use std::alloc::{AllocError, Global};
+
+/// Goes on from a question, which this evaluation asks: to the branch of yes. Where the path has answered the question before, one
+/// branch is done, and the walk goes past the front of the other one.
+pub fn deeper<'a>(
+    alloc: Global,
+    goal: &'a Goal,
+    mut walk: Walk<'a>,
+    atom: Atom,
+    place: Place<'a>,
+) -> Result<Step<'a>, AllocError>
+    requires typed { IsTypedGoal (goal_of goal.now) }
+    requires short { AreShort (goal_of goal.now) }
+    requires linear { nonlinear_product (goal_of goal.now) ≡ None }
+    requires asking { IsAsking (goal_of goal.now) walk atom place }
+    ensures { IfOk result (λ s. IsStep (goal_of goal.now) (path_of walk.entry.trail.path.items) s) }
+{
+    match repeated(alloc, goal, walk.trail, atom, &place)? {
+        Repeat::New(standing, question) => {
+            let answer = Taken {
+                atom: question,
+                held: true,
+            };
+            walk.trail = onward(standing, answer, Way::Open(place))?;
+            Ok(Step::On(walk))
+        }
+        Repeat::Yes(trail) => {
+            walk.trail = trail;
+            past(alloc, goal, walk, place)
+        }
+        Repeat::No(trail, multipliers) => {
+            let tree = leaf(Tree::Farkas(multipliers), trail.path.len());
+            walk.trail = trail;
+            walk.trees.push(tree)?;
+            past(alloc, goal, walk, place)
+        }
+        Repeat::Unknown(cause) => Ok(Step::Done(Decision::Unknown(cause))),
+    }
+}
+
+/// Goes past a front that is kept, on whose path this evaluation stands.
+fn past<'a>(
+    alloc: Global,
+    goal: &'a Goal,
+    walk: Walk<'a>,
+    place: Place<'a>,
+) -> Result<Step<'a>, AllocError>
+    requires typed { IsTypedGoal (goal_of goal.now) }
+    requires short { AreShort (goal_of goal.now) }
+    requires linear { nonlinear_product (goal_of goal.now) ≡ None }
+    requires stands { IsStandingWalk (goal_of goal.now) walk }
+    requires kept { IsKept (goal_of goal.now) (path_of walk.trail.path.items) }
+    requires on { IsOn (goal_of goal.now) (path_of walk.trail.path.items) place }
+    ensures { IfOk result (λ s. IsBelow (goal_of goal.now) (left_of (goal_of goal.now) (path_of walk.entry.trail.path.items) + 1) s) }
+{
+    let Reached { ask, place } = go_on_from(alloc, goal, place, &walk.trail.path)?;
+    match ask {
+        Ask::Decide(atom) => Ok(Step::Asks(walk, atom, place)),
+        Ask::End(stated, found) => end(alloc, goal, walk, end_of(goal, stated, found)),
+        Ask::Bits => Ok(Step::Done(Decision::Unknown(Cause::Bits))),
+    }
+}

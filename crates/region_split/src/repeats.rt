@@ -1,0 +1,199 @@
+//! Questions that the path has answered before.
+
+ghost use Rattle.std.specs.Prelude.{◌≡◌, ◌<◌, ◌+◌, ◌^◌, ◌∷◌, [], List, length, IfOk, IfSome};
+ghost use Rattle.heylo_formula.specs.Goals.{Goal as PlainGoal, goal_of};
+ghost use Rattle.linear_form.specs.Cells.{GoesOn};
+ghost use Rattle.linear_form.specs.Paths.{IsPath};
+ghost use Rattle.linear_form.specs.Places.{IsOn};
+ghost use Rattle.linear_form.specs.PlainPaths.{path_of, atom_of};
+ghost use Rattle.linear_form.specs.Query.{Taken as PlainTaken};
+ghost use Rattle.linear_form.specs.Row.{Row as PlainRow};
+ghost use Rattle.region_split.specs.internal.Clashes.{Clash};
+ghost use Rattle.region_split.specs.internal.Trails.{Stands, StandsAt};
+ghost use Rattle.region_split.specs.internal.Known.{IsRecalled, StandsIn};
+ghost use Rattle.region_split.specs.internal.Repeats.{AreAnswerRows, IsAsked, IsRepeat};
+
+use crate::answering::{AnswerRows, Both, rows_of_answers};
+use crate::clashes::clash;
+use crate::known::{Known, Recalled, make_known, recall};
+use crate::moving::is_same_row;
+use crate::trail::{Trail, Way, further, is_comparison, knowing};
+use heylo_formula::Goal;
+use linear_elim::Cause;
+use linear_form::{Atom, Place, Row, Taken, asks_on, repeated_rows_stand};
+use std::alloc::{AllocError, Global};
+
+/// What the path says of its next question.
+#[derive(Drop)]
+pub enum Repeat<'a> {
+    /// It may be new: the trail as it was, and the question.
+    New(Trail<'a>, Atom),
+    /// The path has answered it by yes: the trail with this answer.
+    Yes(Trail<'a>),
+    /// The path has answered it by no: the trail with this answer, and the multipliers that a certificate takes at the other one.
+    No(Trail<'a>, Vec<(u32, u64)>),
+    /// A number is too great.
+    Unknown(Cause),
+}
+
+/// What a path says of its next question, which this evaluation asks. Want of memory is the one error.
+pub fn repeated<'a>(
+    alloc: Global,
+    goal: &Goal,
+    trail: Trail<'a>,
+    atom: Atom,
+    place: &Place<'a>,
+) -> Result<Repeat<'a>, AllocError>
+    requires path { IsPath (goal_of goal.now) (path_of trail.path.items) }
+    requires short { length trail.path.items + 1 + length goal.now.vars.items < 2 ^ 32 }
+    requires stands { Stands (goal_of goal.now) trail }
+    requires goes_on { GoesOn (goal_of goal.now) (path_of trail.path.items) (atom_of atom) }
+    requires on { IsOn (goal_of goal.now) (path_of trail.path.items) place.now }
+    ensures { IfOk result (λ r. IsRepeat (goal_of goal.now) (path_of trail.entry.path.items) (atom_of atom) r) }
+{
+    if !is_comparison(&atom) {
+        return Ok(Repeat::New(trail, atom));
+    }
+    let lasts = asks_on(place, trail.path.len());
+    if let Some(recalled) = recall(alloc, &trail.visited, &trail.rows, &atom)? {
+        if lasts {
+            return again(alloc, trail, atom, recalled);
+        }
+        return Ok(Repeat::New(trail, atom));
+    }
+    match rows_of_answers(alloc, goal, trail, atom)? {
+        Both::Rows(standing, question, rows) => {
+            if lasts {
+                compared(alloc, standing, question, rows)
+            } else {
+                noted(alloc, standing, question, rows)
+            }
+        }
+        Both::Lost(standing, question) => Ok(Repeat::New(standing, question)),
+        Both::Unknown(cause) => Ok(Repeat::Unknown(cause)),
+    }
+}
+
+/// Goes on by the answer that the path has given to the question before.
+fn again<'a>(
+    alloc: Global,
+    trail: Trail<'a>,
+    atom: Atom,
+    recalled: Recalled,
+) -> Result<Repeat<'a>, AllocError>
+    requires few { length trail.rows.items < 2 ^ 32 }
+    requires stands_in { StandsIn trail.rows.items recalled.row recalled.index }
+    ensures { (g : PlainGoal) (ps : List PlainTaken) → IsAsked g ps (atom_of atom) → StandsAt g ps trail.entry → IsRecalled g.types trail.entry.rows.items (atom_of atom) recalled → IfOk result (λ r. IsRepeat g ps (atom_of atom) r) }
+{
+    let Recalled { held, row, index } = recalled;
+    if held {
+        answered_yes(alloc, trail, atom, row, index)
+    } else {
+        answered_no(alloc, trail, atom, row, index)
+    }
+}
+
+/// Whether one of the answers' rows stands on the path, so that it clashes with the other one.
+fn compared<'a>(
+    alloc: Global,
+    trail: Trail<'a>,
+    atom: Atom,
+    rows: AnswerRows,
+) -> Result<Repeat<'a>, AllocError>
+    requires few { length trail.rows.items < 2 ^ 32 }
+    ensures { (g : PlainGoal) (ps : List PlainTaken) → IsAsked g ps (atom_of atom) → AreAnswerRows g ps (atom_of atom) trail.entry rows → IfOk result (λ r. IsRepeat g ps (atom_of atom) r) }
+{
+    if clash(&rows.yes, &rows.no) {
+        if let Some(at) = find(&trail.visited, &trail.rows, &rows.yes) {
+            return answered_yes(alloc, trail, atom, rows.yes, at);
+        }
+    }
+    if clash(&rows.no, &rows.yes) {
+        if let Some(at) = find(&trail.visited, &trail.rows, &rows.no) {
+            return answered_no(alloc, trail, atom, rows.no, at);
+        }
+    }
+    noted(alloc, trail, atom, rows)
+}
+
+/// The trail as it was, with what is known of the question.
+fn noted<'a>(
+    alloc: Global,
+    trail: Trail<'a>,
+    atom: Atom,
+    rows: AnswerRows,
+) -> Result<Repeat<'a>, AllocError>
+    ensures { (g : PlainGoal) (ps : List PlainTaken) → AreAnswerRows g ps (atom_of atom) trail.entry rows → IfOk result (λ r. IsRepeat g ps (atom_of atom) r) }
+{
+    let index = trail.rows.len();
+    match make_known(alloc, &atom, rows, index)? {
+        Some(found) => {
+            let next = knowing(trail, found)?;
+            Ok(Repeat::New(next, atom))
+        }
+        None => Ok(Repeat::New(trail, atom)),
+    }
+}
+
+/// Goes on by yes, whose row stands on the path at this index.
+fn answered_yes<'a>(
+    alloc: Global,
+    trail: Trail<'a>,
+    atom: Atom,
+    yes: Row,
+    at: usize,
+) -> Result<Repeat<'a>, AllocError>
+    requires few { length trail.rows.items < 2 ^ 32 }
+    requires stands_in { StandsIn trail.rows.items yes at }
+    ensures { (g : PlainGoal) (ps : List PlainTaken) (no : PlainRow) → IsAsked g ps (atom_of atom) → AreAnswerRows g ps (atom_of atom) trail.entry (record { yes = yes; no = no }) → Clash yes no → IfOk result (λ r. IsRepeat g ps (atom_of atom) r) }
+{
+    repeated_rows_stand();
+    let multipliers = pair(alloc, at, trail.rows.len())?;
+    let answer = Taken { atom, held: true };
+    let next = further(trail, answer, Way::Closed(multipliers), yes)?;
+    Ok(Repeat::Yes(next))
+}
+
+/// Goes on by no, whose row stands on the path at this index.
+fn answered_no<'a>(
+    alloc: Global,
+    trail: Trail<'a>,
+    atom: Atom,
+    no: Row,
+    at: usize,
+) -> Result<Repeat<'a>, AllocError>
+    requires few { length trail.rows.items < 2 ^ 32 }
+    requires stands_in { StandsIn trail.rows.items no at }
+    ensures { (g : PlainGoal) (ps : List PlainTaken) (yes : PlainRow) → IsAsked g ps (atom_of atom) → AreAnswerRows g ps (atom_of atom) trail.entry (record { yes = yes; no = no }) → Clash no yes → IfOk result (λ r. IsRepeat g ps (atom_of atom) r) }
+{
+    repeated_rows_stand();
+    let multipliers = pair(alloc, at, trail.rows.len())?;
+    let answer = Taken { atom, held: false };
+    let next = further(trail, answer, Way::Closed(Vec::new(alloc)), no)?;
+    Ok(Repeat::No(next, multipliers))
+}
+
+/// An index at which the row stands, where it's that of one of these comparisons.
+fn find(visited: &[Known], rows: &[Row], row: &Row) -> Option<usize>
+    ensures { IfSome result (λ i. StandsIn rows.now row.now i) }
+{
+    for known in visited {
+        let i = known.index;
+        if i < rows.len() && is_same_row(&rows[i], row) {
+            return Some(i);
+        }
+    }
+    None
+}
+
+/// Multipliers that add up two rows. Want of memory is the one error.
+fn pair(alloc: Global, first: usize, second: usize) -> Result<Vec<(u32, u64)>, AllocError>
+    requires first { first < 2 ^ 32 }
+    requires second { second < 2 ^ 32 }
+    ensures { IfOk result (λ v. v.items ≡ ((first, 1) ∷ ((second, 1) ∷ []))) }
+{
+    let mut multipliers = Vec::with_capacity(alloc, 2)?;
+    multipliers.push((first as u32, 1))?;
+    multipliers.push((second as u32, 1))?;
+    Ok(multipliers)
+}
