@@ -8,6 +8,7 @@ mod Complete
 mod EachLoop
 mod Ends
 mod FileLaws
+mod Followed
 mod Fuel
 mod KeyLaws
 mod Keys
@@ -23,3 +24,4 @@ mod RightLaws
 mod RuleLaws
 mod SimpleLaws
 mod StatementLaws
+mod TypedNames

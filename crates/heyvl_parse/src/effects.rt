@@ -7,7 +7,7 @@ ghost use Rattle.std.specs.Prelude.{◌≡◌};
 use heyvl_syntax::{Key, Mark, TokenKind};
 
 /// What a token does to the counts.
-#[derive(Clone, Copy, Debug)]
+#[derive(Clone, Copy)]
 pub(crate) enum Effect {
     /// It opens a bracket, whose count begins at 0.
     Opens,

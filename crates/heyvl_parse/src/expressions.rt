@@ -6,11 +6,13 @@ ghost use Rattle.heyvl_syntax.specs.declared.tokens.Token.{Token};
 ghost use Rattle.heyvl_syntax.specs.Expressions.{Expression, expression};
 ghost use Rattle.std.specs.Prelude.{IfOk, List, length, ◌<◌, ◌≡◌, ◌≤◌, ◌+◌, ℕ};
 
+use crate::following::closed;
 use crate::leaves::{is_alone, leaf};
 use crate::operators::{next_level, operator_within, ranks};
 use crate::starts::{Start, key_start, mark_start, quantifier_at};
 use crate::stops::PartStop;
-use crate::tokens::{expect, next, type_name, word};
+use crate::tokens::{expect, next};
+use crate::typed_names::typed_name;
 use heyvl_syntax::{BinaryOp, Expr, Mark, Span, Token, TokenKind, UnaryOp};
 use std::alloc::{AllocError, Global};
 
@@ -84,13 +86,11 @@ fn bound(
     ensures value { (n : ℕ) → length tokens.now < n → Gives (λ x. expression x.0.value) (λ x. x.1.now) result (bound (reading n) up place tokens.now) }
     ensures shorter { IfOk result (λ x. length x.1.now < length tokens.now) }
 {
-    let (name, rest) = word(alloc, tokens)?;
-    let (_, rest) = expect(Mark::Colon, rest)?;
-    let (ty, rest) = type_name(rest)?;
-    let (_, rest) = expect(Mark::Dot, rest)?;
+    let (typed, rest) = typed_name(alloc, tokens)?;
+    let (typed, rest) = closed(typed, Mark::Dot, rest)?;
     let (inner, rest) = boxed(alloc, rest)?;
     let place = reach(place, end_of(&inner));
-    let found = Expr::Bound(up, name, ty, inner, place);
+    let found = Expr::Bound(up, typed.0, typed.1, inner, place);
     Ok((found.boxed(alloc)?, rest))
 }
 

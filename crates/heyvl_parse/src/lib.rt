@@ -6,6 +6,7 @@ mod counts;
 mod effects;
 mod expressions;
 mod file_reader;
+mod following;
 mod laws;
 mod leaves;
 mod limits;
@@ -21,6 +22,7 @@ mod starts;
 mod statements;
 mod stops;
 mod tokens;
+mod typed_names;
 
 pub use laws::{expression_is_unique, file_is_unique};
 pub use limits::{crowd_at, overload_at};

@@ -9,6 +9,7 @@ ghost use Rattle.heyvl_syntax.specs.declared.marks.Mark.TheVariants as marks;
 ghost use Rattle.std.specs.Prelude.{[], IfOk, OnOk, length, ◌++◌, ◌<◌, ◌∷◌, ◌≡◌, ◌≤◌, ℕ};
 
 use crate::expressions::whole;
+use crate::following::closed;
 use crate::stops::PartStop;
 use crate::tokens::{expect, starts_mark, word};
 use heyvl_syntax::{Expr, Mark, Name, Token};
@@ -20,6 +21,15 @@ pub(crate) fn put<T: Drop>(items: &mut Vec<T>, item: T) -> Result<(), AllocError
     ensures { OnOk result (items.new.items ≡ items.old.items ++ (item ∷ [])) }
 {
     Ok(items.push(item)?)
+}
+
+/// A list of this item alone.
+pub(crate) fn single<T: Drop>(alloc: Global, item: T) -> Result<Vec<T>, AllocError>
+    ensures { IfOk result (λ items. items.items ≡ item ∷ []) }
+{
+    let mut items = Vec::with_capacity(alloc, 1)?;
+    items.push_reserved(item);
+    Ok(items)
 }
 
 /// A `,` and an expression.
@@ -65,8 +75,7 @@ pub(crate) fn arguments(alloc: Global, tokens: &[Token]) -> Result<(Vec<Expr>, &
 {
     let (_, rest) = expect(Mark::ParenLeft, tokens)?;
     let (found, rest) = expressions_inside(alloc, rest)?;
-    let (_, rest) = expect(Mark::ParenRight, rest)?;
-    Ok((found, rest))
+    closed(found, Mark::ParenRight, rest)
 }
 
 /// A `,` and a name.
@@ -84,8 +93,7 @@ pub(crate) fn names(alloc: Global, tokens: &[Token]) -> Result<(Vec<Name>, &[Tok
     ensures shorter { IfOk result (λ x. length x.1.now < length tokens.now) }
 {
     let (first, mut rest) = word(alloc, tokens)?;
-    let mut found = Vec::with_capacity(alloc, 1)?;
-    found.push(first)?;
+    let mut found = single(alloc, first)?;
     'items: while starts_mark(Mark::Comma, rest) {
         let (one, behind) = further_name(alloc, rest)?;
         found.push(one)?;

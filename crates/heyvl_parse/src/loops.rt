@@ -14,7 +14,7 @@ use heyvl_syntax::{Mark, Name, Rule, Token, TokenKind};
 use std::alloc::Global;
 
 /// Which rule's word stands behind `@`.
-#[derive(Clone, Copy, Debug)]
+#[derive(Clone, Copy)]
 pub(crate) enum RuleStart {
     /// `invariant`
     Invariant,

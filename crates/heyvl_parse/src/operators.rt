@@ -7,7 +7,7 @@ ghost use Rattle.std.specs.Prelude.{IfSome, MatchOption, None, Some, length, ◌
 use heyvl_syntax::{BinaryOp, Key, Mark, Span, Token, TokenKind};
 
 /// The rank of an operator, and the highest ranks that its left and its right operand may have. Rank 8 binds loosest.
-#[derive(Clone, Copy, Debug)]
+#[derive(Clone, Copy)]
 pub(crate) struct Row {
     pub rank: u8,
     pub left: u8,

@@ -12,10 +12,12 @@ ghost use Rattle.heyvl_syntax.specs.declared.marks.Mark.TheVariants as marks;
 ghost use Rattle.std.specs.Prelude.{IfOk, length, ◌<◌, ◌≡◌, ◌≤◌, ℕ};
 
 use crate::expressions::whole;
+use crate::following::{beside, closed};
 use crate::places::span_between;
 use crate::statements::block;
 use crate::stops::PartStop;
-use crate::tokens::{expect, next, starts_mark, type_name, word};
+use crate::tokens::{expect, known, next, starts_mark, word};
+use crate::typed_names::typed_name;
 use heyvl_syntax::{Expr, Key, Mark, Name, Note, Param, Proc, Stmt, Token, TokenKind};
 use std::alloc::Global;
 
@@ -52,10 +54,7 @@ fn note_word(tokens: &[Token]) -> Result<(Note, &[Token]), PartStop>
     ensures shorter { IfOk result (λ x. length x.1.now < length tokens.now) }
 {
     let (token, rest) = next(tokens)?;
-    match note_of(&token.kind) {
-        Some(note) => Ok((note, rest)),
-        None => Err(PartStop::Fault(tokens.len())),
-    }
+    known(note_of(&token.kind), tokens, rest)
 }
 
 /// The note at the front, where `@` stands there.
@@ -99,10 +98,7 @@ fn proc_key(tokens: &[Token]) -> Result<(bool, &[Token]), PartStop>
     ensures shorter { IfOk result (λ x. length x.1.now < length tokens.now) }
 {
     let (token, rest) = next(tokens)?;
-    match proc_of(&token.kind) {
-        Some(co) => Ok((co, rest)),
-        None => Err(PartStop::Fault(tokens.len())),
-    }
+    known(proc_of(&token.kind), tokens, rest)
 }
 
 /// The note of a procedure, and whether it is a coproc.
@@ -111,8 +107,7 @@ fn opening(tokens: &[Token]) -> Result<((Option<Note>, bool), &[Token]), PartSto
     ensures shorter { IfOk result (λ x. length x.1.now < length tokens.now) }
 {
     let (note, rest) = note(tokens)?;
-    let (co, rest) = proc_key(rest)?;
-    Ok(((note, co), rest))
+    beside(note, proc_key(rest))
 }
 
 /// An input or an output.
@@ -120,11 +115,13 @@ fn param(alloc: Global, tokens: &[Token]) -> Result<(Param, &[Token]), PartStop>
     ensures value { Gives (λ x. x.0) (λ x. x.1.now) result (param tokens.now) }
     ensures shorter { IfOk result (λ x. length x.1.now < length tokens.now) }
 {
-    let (name, rest) = word(alloc, tokens)?;
-    let (_, rest) = expect(Mark::Colon, rest)?;
-    let (ty, rest) = type_name(rest)?;
-    let span = span_between(tokens, rest);
-    Ok((Param { name, ty, span }, rest))
+    let (typed, rest) = typed_name(alloc, tokens)?;
+    let found = Param {
+        name: typed.0,
+        ty: typed.1,
+        span: span_between(tokens, rest),
+    };
+    Ok((found, rest))
 }
 
 /// A `,` and a parameter.
@@ -170,23 +167,29 @@ fn params(alloc: Global, tokens: &[Token]) -> Result<(Vec<Param>, &[Token]), Par
 {
     let (_, rest) = expect(Mark::ParenLeft, tokens)?;
     let (found, rest) = params_inside(alloc, rest)?;
-    let (_, rest) = expect(Mark::ParenRight, rest)?;
-    Ok((found, rest))
+    closed(found, Mark::ParenRight, rest)
 }
 
-/// The name, the inputs and the outputs of a procedure.
+/// The inputs and the outputs of a procedure.
+fn ends(alloc: Global, tokens: &[Token]) -> Result<((Vec<Param>, Vec<Param>), &[Token]), PartStop>
+    ensures value { (n : ℕ) → length tokens.now < n → Gives (λ x. (x.0.0.items, x.0.1.items)) (λ x. x.1.now) result (pair (params n) (lead (is_mark marks.Arrow) (params n)) tokens.now) }
+    ensures shorter { IfOk result (λ x. length x.1.now < length tokens.now) }
+{
+    let (inputs, rest) = params(alloc, tokens)?;
+    let (_, rest) = expect(Mark::Arrow, rest)?;
+    beside(inputs, params(alloc, rest))
+}
+
+/// The name of a procedure, beside its inputs and its outputs.
 fn signature(
     alloc: Global,
     tokens: &[Token],
-) -> Result<((Name, Vec<Param>, Vec<Param>), &[Token]), PartStop>
-    ensures value { (n : ℕ) → length tokens.now < n → Gives (λ x. (x.0.0, (x.0.1.items, x.0.2.items))) (λ x. x.1.now) result (signature n tokens.now) }
+) -> Result<((Name, (Vec<Param>, Vec<Param>)), &[Token]), PartStop>
+    ensures value { (n : ℕ) → length tokens.now < n → Gives (λ x. (x.0.0, (x.0.1.0.items, x.0.1.1.items))) (λ x. x.1.now) result (signature n tokens.now) }
     ensures shorter { IfOk result (λ x. length x.1.now < length tokens.now) }
 {
     let (name, rest) = word(alloc, tokens)?;
-    let (inputs, rest) = params(alloc, rest)?;
-    let (_, rest) = expect(Mark::Arrow, rest)?;
-    let (outputs, rest) = params(alloc, rest)?;
-    Ok(((name, inputs, outputs), rest))
+    beside(name, ends(alloc, rest))
 }
 
 fn key_clause(key: Key) -> Option<bool>
@@ -217,10 +220,7 @@ fn clause_key(tokens: &[Token]) -> Result<(bool, &[Token]), PartStop>
     ensures shorter { IfOk result (λ x. length x.1.now < length tokens.now) }
 {
     let (token, rest) = next(tokens)?;
-    match clause_of(&token.kind) {
-        Some(post) => Ok((post, rest)),
-        None => Err(PartStop::Fault(tokens.len())),
-    }
+    known(clause_of(&token.kind), tokens, rest)
 }
 
 /// Whether `pre` or `post` stands at the front.
@@ -239,8 +239,7 @@ fn clause(alloc: Global, tokens: &[Token]) -> Result<((bool, Expr), &[Token]), P
     ensures shorter { IfOk result (λ x. length x.1.now < length tokens.now) }
 {
     let (post, rest) = clause_key(tokens)?;
-    let (claim, rest) = whole(alloc, rest)?;
-    Ok(((post, claim), rest))
+    beside(post, whole(alloc, rest))
 }
 
 /// The pre and the post clauses at the front.
@@ -275,17 +274,16 @@ fn body(alloc: Global, tokens: &[Token]) -> Result<(Option<Vec<Stmt>>, &[Token])
     Ok((Some(found), rest))
 }
 
-/// The pre and the post clauses of a procedure, and its body.
+/// The pre and the post clauses of a procedure, beside its body.
 fn promise(
     alloc: Global,
     tokens: &[Token],
-) -> Result<((Vec<Expr>, Vec<Expr>, Option<Vec<Stmt>>), &[Token]), PartStop>
-    ensures value { (n : ℕ) → length tokens.now < n → Gives (λ x. ((expressions x.0.0.items, expressions x.0.1.items), optional_block x.0.2)) (λ x. x.1.now) result (promise (braced (stmts n)) n tokens.now) }
+) -> Result<(((Vec<Expr>, Vec<Expr>), Option<Vec<Stmt>>), &[Token]), PartStop>
+    ensures value { (n : ℕ) → length tokens.now < n → Gives (λ x. ((expressions x.0.0.0.items, expressions x.0.0.1.items), optional_block x.0.1)) (λ x. x.1.now) result (promise (braced (stmts n)) n tokens.now) }
     ensures shorter { IfOk result (λ x. length x.1.now ≤ length tokens.now) }
 {
     let (found, rest) = clauses(alloc, tokens)?;
-    let (body, rest) = body(alloc, rest)?;
-    Ok(((found.0, found.1, body), rest))
+    beside(found, body(alloc, rest))
 }
 
 /// The procedure at the front.
@@ -300,11 +298,11 @@ pub(crate) fn procedure(alloc: Global, tokens: &[Token]) -> Result<(Proc, &[Toke
         co: front.1,
         note: front.0,
         name: signed.0,
-        inputs: signed.1,
-        outputs: signed.2,
-        pres: promised.0,
-        posts: promised.1,
-        body: promised.2,
+        inputs: signed.1.0,
+        outputs: signed.1.1,
+        pres: promised.0.0,
+        posts: promised.0.1,
+        body: promised.1,
         span: span_between(tokens, rest),
     };
     Ok((found, rest))

@@ -1,15 +1,16 @@
 //! The parser of right sides.
 
-ghost use Rattle.heyvl_parse.specs.internal.Combinators.{lead, list};
+ghost use Rattle.heyvl_parse.specs.internal.Combinators.{lead, list, trail};
 ghost use Rattle.heyvl_parse.specs.internal.Reading.{is_mark};
 ghost use Rattle.heyvl_parse.specs.internal.Results.{Gives};
-ghost use Rattle.heyvl_parse.specs.internal.Rights.{call, choose, enclosed_expr, flip, is_a_word, is_call, key_right, kind_right, no_call, right, right_start, two, unif, weighted, weights};
+ghost use Rattle.heyvl_parse.specs.internal.Rights.{call, choose, enclosed_expr, expr, flip, is_a_word, is_call, key_right, kind_right, no_call, right, right_start, two, unif, weighted, weights};
 ghost use Rattle.heyvl_syntax.specs.Expressions.{expression, expressions};
 ghost use Rattle.heyvl_syntax.specs.Statements.{choices, right_side};
 ghost use Rattle.heyvl_syntax.specs.declared.marks.Mark.TheVariants as marks;
 ghost use Rattle.std.specs.Prelude.{IfOk, length, ◌<◌, ◌≡◌, ℕ};
 
 use crate::expressions::whole;
+use crate::following::{beside, closed};
 use crate::lists::arguments;
 use crate::stops::PartStop;
 use crate::tokens::{expect, expect_key, starts_mark, word};
@@ -17,7 +18,7 @@ use heyvl_syntax::{Expr, Key, Mark, Name, Right, Token, TokenKind};
 use std::alloc::Global;
 
 /// What a right side begins with.
-#[derive(Clone, Copy, Debug)]
+#[derive(Clone, Copy)]
 pub(crate) enum RightStart {
     /// `flip`
     Flip,
@@ -90,8 +91,16 @@ pub(crate) fn call(
     ensures shorter { IfOk result (λ x. length x.1.now < length tokens.now) }
 {
     let (name, rest) = word(alloc, tokens)?;
-    let (given, rest) = arguments(alloc, rest)?;
-    Ok(((name, given), rest))
+    beside(name, arguments(alloc, rest))
+}
+
+/// An expression, and the tokens behind the mark that has to follow it.
+fn expr_before(alloc: Global, mark: Mark, tokens: &[Token]) -> Result<(Expr, &[Token]), PartStop>
+    ensures value { (n : ℕ) → length tokens.now < n → Gives (λ x. expression x.0) (λ x. x.1.now) result (trail (expr n) (is_mark mark) tokens.now) }
+    ensures shorter { IfOk result (λ x. length x.1.now < length tokens.now) }
+{
+    let (found, rest) = whole(alloc, tokens)?;
+    closed(found, mark, rest)
 }
 
 /// An expression in parentheses.
@@ -100,9 +109,7 @@ pub(crate) fn enclosed_expr(alloc: Global, tokens: &[Token]) -> Result<(Expr, &[
     ensures shorter { IfOk result (λ x. length x.1.now < length tokens.now) }
 {
     let (_, rest) = expect(Mark::ParenLeft, tokens)?;
-    let (inner, rest) = whole(alloc, rest)?;
-    let (_, rest) = expect(Mark::ParenRight, rest)?;
-    Ok((inner, rest))
+    expr_before(alloc, Mark::ParenRight, rest)
 }
 
 /// Two expressions in parentheses, with `,` between.
@@ -111,11 +118,8 @@ pub(crate) fn two(alloc: Global, tokens: &[Token]) -> Result<((Expr, Expr), &[To
     ensures shorter { IfOk result (λ x. length x.1.now < length tokens.now) }
 {
     let (_, rest) = expect(Mark::ParenLeft, tokens)?;
-    let (first, rest) = whole(alloc, rest)?;
-    let (_, rest) = expect(Mark::Comma, rest)?;
-    let (second, rest) = whole(alloc, rest)?;
-    let (_, rest) = expect(Mark::ParenRight, rest)?;
-    Ok(((first, second), rest))
+    let (first, rest) = expr_before(alloc, Mark::Comma, rest)?;
+    beside(first, expr_before(alloc, Mark::ParenRight, rest))
 }
 
 /// A weight, `:` and a value.
@@ -123,10 +127,8 @@ fn weighted(alloc: Global, tokens: &[Token]) -> Result<((Expr, Expr), &[Token]),
     ensures value { (n : ℕ) → length tokens.now < n → Gives (λ x. (expression x.0.0, expression x.0.1)) (λ x. x.1.now) result (weighted n tokens.now) }
     ensures shorter { IfOk result (λ x. length x.1.now < length tokens.now) }
 {
-    let (weight, rest) = whole(alloc, tokens)?;
-    let (_, rest) = expect(Mark::Colon, rest)?;
-    let (value, rest) = whole(alloc, rest)?;
-    Ok(((weight, value), rest))
+    let (weight, rest) = expr_before(alloc, Mark::Colon, tokens)?;
+    beside(weight, whole(alloc, rest))
 }
 
 /// A `,` and a weighted value.
@@ -161,8 +163,7 @@ fn weights(alloc: Global, tokens: &[Token]) -> Result<(Vec<(Expr, Expr)>, &[Toke
 {
     let (_, rest) = expect(Mark::BraceLeft, tokens)?;
     let (parts, rest) = all_weighted(alloc, rest)?;
-    let (_, rest) = expect(Mark::BraceRight, rest)?;
-    Ok((parts, rest))
+    closed(parts, Mark::BraceRight, rest)
 }
 
 /// `flip` and a probability in parentheses.

@@ -16,9 +16,8 @@ use crate::lists::names;
 use crate::places::span_between;
 use crate::rights::{call, is_call, right};
 use crate::stops::PartStop;
-use crate::tokens::{
-    expect, expect_key, is_key, key_at, known, next, starts_mark, type_name, word,
-};
+use crate::tokens::{expect, expect_key, is_key, key_at, known, next, starts_mark};
+use crate::typed_names::typed_name;
 use heyvl_syntax::{CheckKind, Key, Mark, Name, Right, Span, Stmt, Token, TokenKind};
 use std::alloc::Global;
 
@@ -175,11 +174,9 @@ pub(crate) fn var<'a>(
 {
     found.reserve(1)?;
     let (_, rest) = expect_key(Key::Var, tokens)?;
-    let (name, rest) = word(alloc, rest)?;
-    let (_, rest) = expect(Mark::Colon, rest)?;
-    let (ty, rest) = type_name(rest)?;
+    let (typed, rest) = typed_name(alloc, rest)?;
     let (given, rest) = value(alloc, rest)?;
-    found.push_reserved(Stmt::Var(name, ty, given, span_between(tokens, rest)));
+    found.push_reserved(Stmt::Var(typed.0, typed.1, given, span_between(tokens, rest)));
     Ok(rest)
 }
 

@@ -6,7 +6,7 @@ ghost use Rattle.std.specs.Prelude.{IfSome, MatchOption, None, Some, length, ◌
 use heyvl_syntax::{Key, Mark, Span, Token, TokenKind, UnaryOp};
 
 /// What begins with a key or mark.
-#[derive(Clone, Copy, Debug)]
+#[derive(Clone, Copy)]
 pub(crate) enum Start {
     /// `true` or `false`
     Truth(bool),

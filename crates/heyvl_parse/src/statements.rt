@@ -4,20 +4,21 @@ ghost use Rattle.heyvl_parse.specs.internal.Combinators.{added, spanned, starts}
 ghost use Rattle.heyvl_parse.specs.internal.Results.{Gives};
 ghost use Rattle.heyvl_parse.specs.internal.Statements.{IfParts, Shortens, arm, braced, branched, if_parts, if_tree, is_opening, key_opening, kind_opening, link, loop_tree, looped, mark_opening, next_of, opening, opens, otherwise, picked, skip, stmt, stmts};
 ghost use Rattle.heyvl_syntax.specs.Statements.{block, guarded, loop_rules, statement};
-ghost use Rattle.std.specs.Prelude.{[], IfOk, OnOk, length, map, suc, ◌++◌, ◌<◌, ◌∷◌, ◌≡◌, ◌≤◌, ℕ};
+ghost use Rattle.std.specs.Prelude.{[], IfOk, length, map, suc, vec_capacity, vec_len, ◌++◌, ◌<◌, ◌∷◌, ◌≡◌, ◌≤◌, ℕ};
 
 use crate::expressions::whole;
-use crate::lists::put;
+use crate::following::beside;
+use crate::lists::{put, single};
 use crate::loops::rules;
 use crate::places::span_between;
 use crate::simple::{assign, check, havoc, pick_word, reward, starts_pick, validate, var};
 use crate::stops::PartStop;
 use crate::tokens::{expect, expect_key, starts_key, starts_mark};
 use heyvl_syntax::{Arm, Key, Mark, Rule, Span, Stmt, Token, TokenKind};
-use std::alloc::{AllocError, Global};
+use std::alloc::Global;
 
 /// Which statement begins with a token.
-#[derive(Clone, Copy, Debug)]
+#[derive(Clone, Copy)]
 pub(crate) enum Opening {
     Var,
     /// An assignment or a call.
@@ -184,48 +185,32 @@ fn stmt<'a>(
     }
 }
 
-/// Puts an `if` of these parts behind the others. In a function of its own, so that a reader that calls itself has no room for it on
-/// the stack.
+/// Puts an `if` of these parts behind the others, which have room for it. In a function of its own, so that a reader that calls itself
+/// has none of it on the stack.
 #[inline(never)]
-fn put_if(
-    found: &mut Vec<Stmt>,
-    parts: (Vec<Arm>, Vec<Stmt>),
-    place: Span,
-) -> Result<(), AllocError>
-    ensures { OnOk result (map statement found.new.items ≡ map statement found.old.items ++ (if_tree (IfParts.branching (map guarded parts.0.items, block parts.1.items)) place ∷ [])) }
+fn put_if(found: &mut Vec<Stmt>, parts: (Vec<Arm>, Vec<Stmt>), place: Span)
+    requires { vec_len found.old < vec_capacity found.old }
+    ensures { map statement found.new.items ≡ map statement found.old.items ++ (if_tree (IfParts.branching (map guarded parts.0.items, block parts.1.items)) place ∷ []) }
 {
-    found.reserve(1)?;
     found.push_reserved(Stmt::If(parts.0, parts.1, place));
-    Ok(())
 }
 
-/// Puts a choice of two blocks behind the others.
+/// Puts a choice of two blocks behind the others, which have room for it.
 #[inline(never)]
-fn put_pick(
-    found: &mut Vec<Stmt>,
-    parts: (bool, Vec<Stmt>, Vec<Stmt>),
-    place: Span,
-) -> Result<(), AllocError>
-    ensures { OnOk result (map statement found.new.items ≡ map statement found.old.items ++ (if_tree (IfParts.picking (parts.0, (block parts.1.items, block parts.2.items))) place ∷ [])) }
+fn put_pick(found: &mut Vec<Stmt>, parts: (bool, Vec<Stmt>, Vec<Stmt>), place: Span)
+    requires { vec_len found.old < vec_capacity found.old }
+    ensures { map statement found.new.items ≡ map statement found.old.items ++ (if_tree (IfParts.picking (parts.0, (block parts.1.items, block parts.2.items))) place ∷ []) }
 {
-    found.reserve(1)?;
     found.push_reserved(Stmt::Pick(parts.0, parts.1, parts.2, place));
-    Ok(())
 }
 
-/// Puts a loop with these rules, this guard and this body behind the others.
+/// Puts a loop with these rules, this guard and this body behind the others, which have room for it.
 #[inline(never)]
-fn put_while(
-    found: &mut Vec<Stmt>,
-    rules: Vec<Rule>,
-    arm: Arm,
-    place: Span,
-) -> Result<(), AllocError>
-    ensures { OnOk result (map statement found.new.items ≡ map statement found.old.items ++ (loop_tree (loop_rules rules.items, guarded arm) place ∷ [])) }
+fn put_while(found: &mut Vec<Stmt>, rules: Vec<Rule>, arm: Arm, place: Span)
+    requires { vec_len found.old < vec_capacity found.old }
+    ensures { map statement found.new.items ≡ map statement found.old.items ++ (loop_tree (loop_rules rules.items, guarded arm) place ∷ []) }
 {
-    found.reserve(1)?;
     found.push_reserved(Stmt::While(rules, arm.guard, arm.body, place));
-    Ok(())
 }
 
 /// Puts an `if` behind the others, and gives the tokens behind it.
@@ -239,14 +224,15 @@ fn if_at<'a>(
     ensures value { (n : ℕ) → length tokens.now ≤ n → Gives (λ _. map statement found.new.items) (λ rest. rest.now) result (added (map statement found.old.items) (spanned if_tree (if_parts (suc n) (braced (stmts n))) tokens.now)) }
     ensures shorter { IfOk result (λ rest. length rest.now < length tokens.now) }
 {
+    found.reserve(1)?;
     let (_, rest) = expect_key(Key::If, tokens)?;
     if starts_pick(rest) {
         let (parts, rest) = picked(alloc, rest)?;
-        put_pick(found, parts, span_between(tokens, rest))?;
+        put_pick(found, parts, span_between(tokens, rest));
         return Ok(rest);
     }
     let (parts, rest) = branched(alloc, rest)?;
-    put_if(found, parts, span_between(tokens, rest))?;
+    put_if(found, parts, span_between(tokens, rest));
     Ok(rest)
 }
 
@@ -288,8 +274,12 @@ fn arm(alloc: Global, tokens: &[Token]) -> Result<(Arm, &[Token]), PartStop>
     ensures shorter { IfOk result (λ x. length x.1.now < length tokens.now) }
 {
     let (guard, rest) = whole(alloc, tokens)?;
-    let (body, rest) = block(alloc, rest)?;
-    Ok((Arm { guard, body }, rest))
+    let (parts, rest) = beside(guard, block(alloc, rest))?;
+    let found = Arm {
+        guard: parts.0,
+        body: parts.1,
+    };
+    Ok((found, rest))
 }
 
 /// The arms of an `if`, and what stands behind the last `else`.
@@ -300,8 +290,7 @@ fn branched(alloc: Global, tokens: &[Token]) -> Result<((Vec<Arm>, Vec<Stmt>), &
     ensures shorter { IfOk result (λ x. length x.1.now < length tokens.now) }
 {
     let (first, mut rest) = arm(alloc, tokens)?;
-    let mut found = Vec::with_capacity(alloc, 1)?;
-    put(&mut found, first)?;
+    let mut found = single(alloc, first)?;
     'arms: loop {
         let (one, behind) = link_at(alloc, rest)?;
         match one {
@@ -345,9 +334,10 @@ fn looped<'a>(
     ensures value { (n : ℕ) → length tokens.now ≤ n → Gives (λ _. map statement found.new.items) (λ rest. rest.now) result (added (map statement found.old.items) (spanned loop_tree (looped (suc n) (braced (stmts n))) tokens.now)) }
     ensures shorter { IfOk result (λ rest. length rest.now < length tokens.now) }
 {
+    found.reserve(1)?;
     let (rules, rest) = rules(alloc, tokens)?;
     let (_, rest) = expect_key(Key::While, rest)?;
     let (arm, rest) = arm(alloc, rest)?;
-    put_while(found, rules, arm, span_between(tokens, rest))?;
+    put_while(found, rules, arm, span_between(tokens, rest));
     Ok(rest)
 }

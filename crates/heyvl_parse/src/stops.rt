@@ -4,17 +4,14 @@ ghost use Rattle.heyvl_parse.specs.declared.stops.PartStop.TheVariants.{Memory};
 ghost use Rattle.std.specs.Prelude.{◌≡◌, alloc_error};
 
 use std::alloc::{AllocError, AllocFailed};
-use thiserror::Error;
 
 /// Why tokens were not read.
-#[derive(Debug, Drop, Error)]
+#[derive(Drop)]
 pub(crate) enum PartStop {
     /// A token at which nothing wanted goes on, or the end of the tokens. It is told by how many tokens are left from it
     /// on: 0 at the end.
-    #[error("nothing wanted goes on {0} tokens before the end")]
     Fault(usize),
     /// Memory ran out.
-    #[error("out of memory")]
     Memory(AllocError),
 }
 

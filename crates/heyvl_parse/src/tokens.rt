@@ -86,10 +86,7 @@ pub(crate) fn type_name(tokens: &[Token]) -> Result<(TypeName, &[Token]), PartSt
     ensures shorter { IfOk result (λ x. length x.1.now < length tokens.now) }
 {
     let (token, rest) = next(tokens)?;
-    match type_of(&token.kind) {
-        Some(ty) => Ok((ty, rest)),
-        None => Err(PartStop::Fault(tokens.len())),
-    }
+    known(type_of(&token.kind), tokens, rest)
 }
 
 pub(crate) fn is_key(key: Key, kind: &TokenKind) -> bool

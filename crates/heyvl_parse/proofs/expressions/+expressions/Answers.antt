@@ -1,6 +1,7 @@
 use Rattle.heyvl_parse.proofs.Choices.{choice_is}
 use Rattle.heyvl_parse.proofs.Climbing.{climb_ends, climb_on, climb_stops, full_climbed, leads_first, next_within, passed}
 use Rattle.heyvl_parse.proofs.Fuel.{by_fuel}
+use Rattle.heyvl_parse.proofs.TypedNames.{bound_by}
 use Rattle.heyvl_parse.proofs.expressions.+expressions.Goals as goal
 use Rattle.std.proofs.Common.{Bor, Box, Err, Global, List, Ok, arith, refl, suc}
 use Rattle.heyvl_parse.specs.internal.Reading.{reading}
@@ -92,23 +93,20 @@ choice-returns-clause-value t c = λ n h. rw (choice_is (reading n) c.args.place
 pub choice-returns-clause-shorter : goal.choice-returns-clause-shorter
 choice-returns-clause-shorter t c = omega (arith, c.in_ok-rest.ensures.shorter, c.in_ok-test.ensures.shorter, c.in_ok-yes.ensures.shorter, c.in_ok-other.ensures.shorter)
 
-pub bound-returns-in_err-name-clause-value : goal.bound-returns-in_err-name-clause-value
-bound-returns-in_err-name-clause-value t c = λ n h. grind (arith, common_steps, c.in_err-name.ensures.value)
+pub bound-returns-in_err-typed-clause-value : goal.bound-returns-in_err-typed-clause-value
+bound-returns-in_err-typed-clause-value t c = λ n h. rw (bound_by (reading n) c.args.up c.args.place c.args.tokens.now) (grind (arith, common_steps, c.in_err-typed.ensures.value))
 
-pub bound-returns-in_err-rest-clause-value : goal.bound-returns-in_err-rest-clause-value
-bound-returns-in_err-rest-clause-value t c = λ n h. rw (c.in_ok-name.ensures.value) (grind (arith, common_steps, c.in_err-rest.ensures.value))
-
-pub bound-returns-in_err-ty-clause-value : goal.bound-returns-in_err-ty-clause-value
-bound-returns-in_err-ty-clause-value t c = λ n h. rw (c.in_ok-name.ensures.value, c.in_ok-rest.ensures.value) (grind (arith, common_steps, c.in_err-ty.ensures.value))
-
-pub bound-returns-in_err-rest-2-clause-value : goal.bound-returns-in_err-rest-2-clause-value
-bound-returns-in_err-rest-2-clause-value t c = λ n h. rw (c.in_ok-name.ensures.value, c.in_ok-rest.ensures.value, c.in_ok-ty.ensures.value) (grind (arith, common_steps, c.in_err-rest-2.ensures.value))
+pub bound-returns-in_err-typed-2-clause-value : goal.bound-returns-in_err-typed-2-clause-value
+bound-returns-in_err-typed-2-clause-value t c = λ n h. rw (bound_by (reading n) c.args.up c.args.place c.args.tokens.now, c.in_ok-typed.ensures.value) (grind (arith, common_steps, c.in_err-typed-2.ensures.value))
 
 pub bound-returns-in_err-inner-clause-value : goal.bound-returns-in_err-inner-clause-value
-bound-returns-in_err-inner-clause-value t c = λ n h. rw (c.in_ok-name.ensures.value, c.in_ok-rest.ensures.value, c.in_ok-ty.ensures.value, c.in_ok-rest-2.ensures.value) (grind (arith, common_steps, c.in_err-inner.ensures.value n (omega (arith, c.in_ok-name.ensures.shorter, c.in_ok-rest.ensures.shorter, c.in_ok-ty.ensures.shorter, c.in_ok-rest-2.ensures.shorter))))
+bound-returns-in_err-inner-clause-value t c = λ n h. rw (bound_by (reading n) c.args.up c.args.place c.args.tokens.now, c.in_ok-typed.ensures.value, c.in_ok-typed-2.ensures.value) (grind (arith, common_steps, c.in_err-inner.ensures.value n (omega (arith, c.in_ok-typed.ensures.shorter, c.in_ok-typed-2.ensures.shorter))))
+
+pub bound-returns-clause-value : goal.bound-returns-clause-value
+bound-returns-clause-value t c = λ n h. rw (bound_by (reading n) c.args.up c.args.place c.args.tokens.now, c.in_ok-typed.ensures.value, c.in_ok-typed-2.ensures.value, c.in_ok-inner.ensures.value n (omega (arith, c.in_ok-typed.ensures.shorter, c.in_ok-typed-2.ensures.shorter)), c.in_ok-boxed.ensures) (rw (plain_expressions.bound c.args.up c.in_ok-typed-2.typed.0 c.in_ok-typed-2.typed.1 c.in_ok-inner.inner c.reach-place.result, c.reach-place.ensures, c.end_of.ensures, c.deref.ensures) refl)
 
 pub bound-returns-clause-shorter : goal.bound-returns-clause-shorter
-bound-returns-clause-shorter t c = omega (arith, c.in_ok-name.ensures.shorter, c.in_ok-rest.ensures.shorter, c.in_ok-ty.ensures.shorter, c.in_ok-rest-2.ensures.shorter, c.in_ok-inner.ensures.shorter)
+bound-returns-clause-shorter t c = omega (arith, c.in_ok-typed.ensures.shorter, c.in_ok-typed-2.ensures.shorter, c.in_ok-inner.ensures.shorter)
 
 pub enclosed-returns-in_err-inner-clause-value : goal.enclosed-returns-in_err-inner-clause-value
 enclosed-returns-in_err-inner-clause-value t c = λ n h. grind (arith, common_steps, c.in_err-inner.ensures.value n (omega arith))
@@ -130,3 +128,27 @@ prefixed-returns-clause-value t c = λ n h. rw (c.in_ok-inner.ensures.value n (o
 
 pub prefixed-returns-clause-shorter : goal.prefixed-returns-clause-shorter
 prefixed-returns-clause-shorter t c = omega (arith, c.in_ok-inner.ensures.shorter)
+
+pub started-returns-in_err-inner-in-Group-clause-value : goal.started-returns-in_err-inner-in-Group-clause-value
+started-returns-in_err-inner-in-Group-clause-value t c = λ n h all e. rw c.in-Group.is (grind (arith, common_steps, c.in_err-inner-in-Group.ensures.value n h))
+
+pub started-returns-in_ok-inner-in-Group-clause-value : goal.started-returns-in_ok-inner-in-Group-clause-value
+started-returns-in_ok-inner-in-Group-clause-value t c = λ n h all e. rw (c.in-Group.is, c.in_ok-inner-in-Group.ensures.value n h) (rw (plain_expressions.group c.in_ok-inner-in-Group.inner c.reach.result, c.reach.ensures) refl)
+
+pub started-returns-in_err-inner-in-Bracket-clause-value : goal.started-returns-in_err-inner-in-Bracket-clause-value
+started-returns-in_err-inner-in-Bracket-clause-value t c = λ n h all e. rw c.in-Bracket.is (grind (arith, common_steps, c.in_err-inner-in-Bracket.ensures.value n h))
+
+pub started-returns-in_ok-inner-in-Bracket-clause-value : goal.started-returns-in_ok-inner-in-Bracket-clause-value
+started-returns-in_ok-inner-in-Bracket-clause-value t c = λ n h all e. rw (c.in-Bracket.is, c.in_ok-inner-in-Bracket.ensures.value n h) (rw (plain_expressions.bracket c.in_ok-inner-in-Bracket.inner c.reach-in-Bracket.result, c.reach-in-Bracket.ensures) refl)
+
+pub started-returns-in_err-rest-in-Embed-clause-value : goal.started-returns-in_err-rest-in-Embed-clause-value
+started-returns-in_err-rest-in-Embed-clause-value t c = λ n h all e. rw c.in-Embed.is (grind (arith, common_steps, c.in_err-rest-in-Embed.ensures.value))
+
+pub started-returns-in_err-inner-in-Embed-clause-value : goal.started-returns-in_err-inner-in-Embed-clause-value
+started-returns-in_err-inner-in-Embed-clause-value t c = λ n h all e. rw (c.in-Embed.is, c.in_ok-rest-in-Embed.ensures.value) (grind (arith, common_steps, c.in_err-inner-in-Embed.ensures.value n (omega (arith, c.in_ok-rest-in-Embed.ensures.shorter))))
+
+pub started-returns-in_ok-inner-in-Embed-clause-value : goal.started-returns-in_ok-inner-in-Embed-clause-value
+started-returns-in_ok-inner-in-Embed-clause-value t c = λ n h all e. rw (c.in-Embed.is, c.in_ok-rest-in-Embed.ensures.value, c.in_ok-inner-in-Embed.ensures.value n (omega (arith, c.in_ok-rest-in-Embed.ensures.shorter))) (rw (plain_expressions.embed c.in_ok-inner-in-Embed.inner c.reach-in-Embed.result, c.reach-in-Embed.ensures) refl)
+
+pub started-returns-in-Prefix-clause-value : goal.started-returns-in-Prefix-clause-value
+started-returns-in-Prefix-clause-value t c = λ n h all e. rw c.in-Prefix.is (c.prefixed.ensures.value n h)

@@ -1,17 +1,21 @@
 use Rattle.heyvl_parse.proofs.ChainLoop.{chain_done, chain_fails, chain_first, chain_more}
 use Rattle.heyvl_parse.proofs.EachLoop.{added_fails, loop_added, loop_done, loop_fails, loop_init}
+use Rattle.heyvl_parse.proofs.Followed.{beside_gives, both}
 use Rattle.heyvl_parse.proofs.Fuel.{by_fuel}
 use Rattle.heyvl_parse.proofs.statements.+statements.Goals as goal
 use Rattle.heyvl_parse.specs.internal.Combinators.{added, each}
 use Rattle.heyvl_parse.specs.internal.Reading.{Bad, Got, Out, Read, ◌>>=◌}
-use Rattle.heyvl_parse.specs.internal.Results.{Fails}
+use Rattle.heyvl_parse.specs.internal.Results.{Fails, Gives}
 use Rattle.heyvl_parse.specs.internal.Statements.{braced, branched, entry, is_opening, next_of, skip, stmt, stmts}
 use Rattle.heyvl_parse.specs.declared.stops.PartStop.TheVariants.{Fault, Memory}
 use Rattle.heyvl_parse.specs.declared.stops.PartStop.{PartStop}
 use Rattle.heyvl_syntax.proofs.exported.PlainTreesAre.{plain_statements}
-use Rattle.heyvl_syntax.specs.Statements.{Statement, block, block_of, guarded, statement}
+use Rattle.heyvl_syntax.specs.Expressions.{Expression, expression}
+use Rattle.heyvl_syntax.specs.Statements.{Block, Statement, block, block_of, guarded, statement}
+use Rattle.heyvl_syntax.specs.declared.expressions.Expr.{Expr}
+use Rattle.heyvl_syntax.specs.declared.statements.Stmt.{Stmt}
 use Rattle.heyvl_syntax.specs.declared.tokens.Token.{Token}
-use Rattle.std.proofs.Common.{List, ap, arith, length, map, refl, suc, sym, ◌<◌, ◌∙◌, ◌≡◌, ℕ}
+use Rattle.std.proofs.Common.{Bor, Err, Global, List, Ok, Vec, ap, arith, length, map, refl, suc, sym, ◌<◌, ◌∙◌, ◌≡◌, ℕ}
 use Rattle.std.proofs.lemmas.Grind.{common_steps}
 use Rattle.std.proofs.lemmas.List.{map-append}
 
@@ -31,7 +35,7 @@ pub looped-returns-in_err-arm-clause-value : goal.looped-returns-in_err-arm-clau
 looped-returns-in_err-arm-clause-value t c = λ n h. rw (c.in_ok-rules.ensures.value (suc n) (omega arith), c.in_ok-rest.ensures.value) (grind (arith, common_steps, c.in_err-arm.ensures.value n (omega (arith, c.in_ok-rules.ensures.shorter, c.in_ok-rest.ensures.shorter))))
 
 pub looped-returns-clause-value : goal.looped-returns-clause-value
-looped-returns-clause-value t c = λ n h. rw (c.in_ok-rules.ensures.value (suc n) (omega arith), c.in_ok-rest.ensures.value, c.in_ok-arm.ensures.value n (omega (arith, c.in_ok-rules.ensures.shorter, c.in_ok-rest.ensures.shorter)), c.in_ok-put_while.ensures, c.span_between.ensures) refl
+looped-returns-clause-value t c = λ n h. rw (c.in_ok-rules.ensures.value (suc n) (omega arith), c.in_ok-rest.ensures.value, c.in_ok-arm.ensures.value n (omega (arith, c.in_ok-rules.ensures.shorter, c.in_ok-rest.ensures.shorter)), c.put_while.ensures, c.in_ok-reserve.ensures.items, c.span_between.ensures) refl
 
 pub picked-returns-in_err-left-clause-value : goal.picked-returns-in_err-left-clause-value
 picked-returns-in_err-left-clause-value t c = λ n h. rw (c.in_ok-up.ensures.value) (grind (arith, common_steps, c.in_err-left.ensures.value n (omega (arith, c.in_ok-up.ensures.shorter))))
@@ -42,11 +46,14 @@ picked-returns-in_err-right-clause-value t c = λ n h. rw (c.in_ok-up.ensures.va
 pub picked-returns-clause-value : goal.picked-returns-clause-value
 picked-returns-clause-value t c = λ n h. rw (c.in_ok-up.ensures.value, c.in_ok-left.ensures.value n (omega (arith, c.in_ok-up.ensures.shorter)), c.in_ok-right.ensures.value n (omega (arith, c.in_ok-up.ensures.shorter, c.in_ok-left.ensures.shorter))) refl
 
-pub arm-returns-in_err-body-clause-value : goal.arm-returns-in_err-body-clause-value
-arm-returns-in_err-body-clause-value t c = λ n h. rw (c.in_ok-guard.ensures.value (suc n) (omega arith)) (grind (arith, common_steps, c.in_err-body.ensures.value n (omega (arith, c.in_ok-guard.ensures.shorter))))
+pub arm-returns-in_err-parts-clause-value : goal.arm-returns-in_err-parts-clause-value
+arm-returns-in_err-parts-clause-value t c = λ n h.
+    let fails : Gives {Y = Expression × Block} (λ (x : (Expr × Vec Stmt Global) × Bor (List Token)). (expression x.0.0, block x.0.1.items)) (λ x. x.1.now) (Err c.in_err-parts.field-0.0) (braced (stmts n) c.in_ok-guard.rest.now >>= λ y r. both (expression c.in_ok-guard.guard) y r)
+    = beside_gives expression (λ (x : Vec Stmt Global). block x.items) c.in_ok-guard.guard c.block.result (Err c.in_err-parts.field-0.0) (braced (stmts n) c.in_ok-guard.rest.now) c.in_err-parts.ensures (c.block.ensures.value n (omega (arith, c.in_ok-guard.ensures.shorter))) in
+    rw (c.in_ok-guard.ensures.value (suc n) (omega arith)) (grind (arith, common_steps, fails))
 
 pub arm-returns-clause-value : goal.arm-returns-clause-value
-arm-returns-clause-value t c = λ n h. rw (c.in_ok-guard.ensures.value (suc n) (omega arith), c.in_ok-body.ensures.value n (omega (arith, c.in_ok-guard.ensures.shorter))) (rw plain_statements.guarded refl)
+arm-returns-clause-value t c = λ n h. rw (c.in_ok-guard.ensures.value (suc n) (omega arith), beside_gives expression (λ (x : Vec Stmt Global). block x.items) c.in_ok-guard.guard c.block.result (Ok (c.in_ok-parts.parts, c.in_ok-parts.rest)) (braced (stmts n) c.in_ok-guard.rest.now) c.in_ok-parts.ensures (c.block.ensures.value n (omega (arith, c.in_ok-guard.ensures.shorter)))) (rw plain_statements.guarded refl)
 
 added_skip : (before : List Statement) (s : Read Statement) → added before (s >>= λ x r. Got x (skip r)) ≡ (added before s >>= λ xs r. Got xs (skip r))
 added_skip before (Got x r) = refl
@@ -87,7 +94,7 @@ statements-returns-clause-value t c = by_fuel _ _ (λ n h.
 pub branched-arms-init : goal.branched-arms-init
 branched-arms-init t c = record {
   shorter = omega (arith, c.in_ok-first.ensures.shorter);
-  same = λ n h. rw (c.in_ok-put.ensures, c.in_ok-found.ensures.items) (chain_first (suc n) (braced (stmts n)) c.args.tokens.now c.in_ok-first.rest.now (guarded c.in_ok-first.first) (omega (arith, c.in_ok-first.ensures.shorter)) (c.in_ok-first.ensures.value n h));
+  same = λ n h. rw c.in_ok-found.ensures (chain_first (suc n) (braced (stmts n)) c.args.tokens.now c.in_ok-first.rest.now (guarded c.in_ok-first.first) (omega (arith, c.in_ok-first.ensures.shorter)) (c.in_ok-first.ensures.value n h));
 }
 
 pub branched-arms-preserved : goal.branched-arms-preserved
@@ -139,14 +146,41 @@ if_at-returns-in_err-parts-clause-value t c = λ n h.
 
 pub if_at-returns-then-starts_pick-clause-value : goal.if_at-returns-then-starts_pick-clause-value
 if_at-returns-then-starts_pick-clause-value t c = λ n h.
-    rw (c.in_ok-rest.ensures.value, ← c.if-starts_pick.ensures, c.in_ok-parts.ensures.value n (omega (arith, c.in_ok-rest.ensures.shorter)), c.in_ok-put_pick.ensures, c.span_between.ensures) refl
+    rw (c.in_ok-rest.ensures.value, ← c.if-starts_pick.ensures, c.in_ok-parts.ensures.value n (omega (arith, c.in_ok-rest.ensures.shorter)), c.put_pick.ensures, c.in_ok-reserve.ensures.items, c.span_between.ensures) refl
 
 pub if_at-returns-clause-value : goal.if_at-returns-clause-value
 if_at-returns-clause-value t c = λ n h.
-    rw (c.in_ok-rest.ensures.value, ← c.if-starts_pick.ensures, c.in_ok-parts-2.ensures.value n (omega (arith, c.in_ok-rest.ensures.shorter)), c.in_ok-put_if.ensures, c.span_between-2.ensures) refl
+    rw (c.in_ok-rest.ensures.value, ← c.if-starts_pick.ensures, c.in_ok-parts-2.ensures.value n (omega (arith, c.in_ok-rest.ensures.shorter)), c.put_if.ensures, c.in_ok-reserve.ensures.items, c.span_between-2.ensures) refl
 
 pub arm-returns-in_err-guard-clause-value : goal.arm-returns-in_err-guard-clause-value
 arm-returns-in_err-guard-clause-value t c = λ n h. grind (arith, common_steps, c.in_err-guard.ensures.value (suc n) (omega arith))
 
 pub looped-returns-in_err-rules-clause-value : goal.looped-returns-in_err-rules-clause-value
 looped-returns-in_err-rules-clause-value t c = λ n h. grind (arith, common_steps, c.in_err-rules.ensures.value (suc n) (omega arith))
+
+pub link_at-returns-in_err-rest-clause-value : goal.link_at-returns-in_err-rest-clause-value
+link_at-returns-in_err-rest-clause-value t c = λ n h. rw (← c.if-not-starts_key.ensures) (grind (arith, common_steps, c.in_err-rest.ensures.value))
+
+pub link_at-returns-in_err-last-clause-value : goal.link_at-returns-in_err-last-clause-value
+link_at-returns-in_err-last-clause-value t c = λ n h. rw (← c.if-not-starts_key.ensures, c.in_ok-rest.ensures.value, ← c.if-not-starts_key-2.ensures) (grind (arith, common_steps, c.in_err-last.ensures.value n (omega (arith, c.in_ok-rest.ensures.shorter))))
+
+pub link_at-returns-then-not-starts_key-2-clause-value : goal.link_at-returns-then-not-starts_key-2-clause-value
+link_at-returns-then-not-starts_key-2-clause-value t c = λ n h. rw (← c.if-not-starts_key.ensures, c.in_ok-rest.ensures.value, ← c.if-not-starts_key-2.ensures, c.in_ok-last.ensures.value n (omega (arith, c.in_ok-rest.ensures.shorter))) refl
+
+pub link_at-returns-in_err-rest-2-clause-value : goal.link_at-returns-in_err-rest-2-clause-value
+link_at-returns-in_err-rest-2-clause-value t c = λ n h. rw (← c.if-not-starts_key.ensures, c.in_ok-rest.ensures.value, ← c.if-not-starts_key-2.ensures) (grind (arith, common_steps, c.in_err-rest-2.ensures.value))
+
+pub link_at-returns-in_err-one-clause-value : goal.link_at-returns-in_err-one-clause-value
+link_at-returns-in_err-one-clause-value t c = λ n h. rw (← c.if-not-starts_key.ensures, c.in_ok-rest.ensures.value, ← c.if-not-starts_key-2.ensures, c.in_ok-rest-2.ensures.value) (grind (arith, common_steps, c.in_err-one.ensures.value n (omega (arith, c.in_ok-rest.ensures.shorter, c.in_ok-rest-2.ensures.shorter))))
+
+pub link_at-returns-clause-value : goal.link_at-returns-clause-value
+link_at-returns-clause-value t c = λ n h. rw (← c.if-not-starts_key.ensures, c.in_ok-rest.ensures.value, ← c.if-not-starts_key-2.ensures, c.in_ok-rest-2.ensures.value, c.in_ok-one.ensures.value n (omega (arith, c.in_ok-rest.ensures.shorter, c.in_ok-rest-2.ensures.shorter))) refl
+
+pub otherwise-returns-in_err-rest-clause-value : goal.otherwise-returns-in_err-rest-clause-value
+otherwise-returns-in_err-rest-clause-value t c = λ n h. rw (← c.if-starts_key.ensures) (grind (arith, common_steps, c.in_err-rest.ensures.value))
+
+pub otherwise-returns-then-starts_key-clause-value : goal.otherwise-returns-then-starts_key-clause-value
+otherwise-returns-then-starts_key-clause-value t c = λ n h. rw (← c.if-starts_key.ensures, c.in_ok-rest.ensures.value) (c.block.ensures.value n (omega (arith, c.in_ok-rest.ensures.shorter)))
+
+pub if_at-returns-in_err-parts-2-clause-value : goal.if_at-returns-in_err-parts-2-clause-value
+if_at-returns-in_err-parts-2-clause-value t c = λ n h. rw (c.in_ok-rest.ensures.value, ← c.if-starts_pick.ensures) (grind (arith, common_steps, c.in_err-parts-2.ensures.value n (omega (arith, c.in_ok-rest.ensures.shorter))))

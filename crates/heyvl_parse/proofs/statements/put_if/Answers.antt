@@ -5,4 +5,4 @@ use Rattle.heyvl_syntax.proofs.exported.PlainTreesAre.{plain_statements}
 use Rattle.heyvl_syntax.specs.Statements.{statement}
 
 pub returns : goal.returns
-returns c = rw (c.push_reserved.ensures.items, c.in_ok-reserve.ensures.items, map-append statement) (rw (plain_statements.branch c.args.parts.0 c.args.parts.1 c.args.place) refl)
+returns c = rw (c.push_reserved.ensures.items, map-append statement) (rw (plain_statements.branch c.args.parts.0 c.args.parts.1 c.args.place) refl)

@@ -1,0 +1,26 @@
+//! The parser of names with their types.
+
+ghost use Rattle.heyvl_parse.specs.internal.Combinators.{lead};
+ghost use Rattle.heyvl_parse.specs.internal.Reading.{is_mark, pair, type_name, word};
+ghost use Rattle.heyvl_parse.specs.internal.Results.{Gives};
+ghost use Rattle.heyvl_syntax.specs.declared.marks.Mark.TheVariants as marks;
+ghost use Rattle.std.specs.Prelude.{IfOk, length, ◌<◌};
+
+use crate::following::{beside, closed};
+use crate::stops::PartStop;
+use crate::tokens::{type_name, word};
+use heyvl_syntax::{Mark, Name, Token, TypeName};
+use std::alloc::Global;
+
+/// A name, `:` and the type of the name.
+pub(crate) fn typed_name(
+    alloc: Global,
+    tokens: &[Token],
+) -> Result<((Name, TypeName), &[Token]), PartStop>
+    ensures value { Gives (λ x. x.0) (λ x. x.1.now) result (pair word (lead (is_mark marks.Colon) type_name) tokens.now) }
+    ensures shorter { IfOk result (λ x. length x.1.now < length tokens.now) }
+{
+    let (name, rest) = word(alloc, tokens)?;
+    let (name, rest) = closed(name, Mark::Colon, rest)?;
+    beside(name, type_name(rest))
+}
