@@ -12,7 +12,7 @@ use crate::test_rows::{answer, rows_of};
 use crate::texts::{cut, multipliers_of, types_of};
 use crate::tightening_tests::write_tightened;
 use crate::value_tests::{held, write_value};
-use heylo_formula::{Cond, Form, Goal};
+use heylo_formula::{Form, Goal};
 use linear_form::contradicts;
 use quant_algebra::{goal_at, holds_at};
 use std::alloc::{AllocError, Global};
@@ -132,13 +132,20 @@ fn write_of_form(
 
 fn write_form(alloc: Global, of: OfForm, asked: &str, text: &mut String) -> Result<(), AllocError> {
     let (form, rest) = cut(asked, ';');
-    write_of_form(alloc, of, &form_of(alloc, form)?, rest, text)
+    let form = form_of(alloc, form)?;
+    write_of_form(alloc, of, &form, rest, text)
 }
 
-fn write_condition(of: OfCondition, condition: &Cond, text: &mut String) -> Result<(), AllocError> {
+fn write_condition(
+    alloc: Global,
+    of: OfCondition,
+    asked: &str,
+    text: &mut String,
+) -> Result<(), AllocError> {
+    let condition = test_of(alloc, asked)?;
     match of {
-        OfCondition::Truth => text.push_str(held(holds_at(condition, &[]))),
-        OfCondition::Size => write_condition_size(condition, text),
+        OfCondition::Truth => text.push_str(held(holds_at(&condition, &[]))),
+        OfCondition::Size => write_condition_size(&condition, text),
     }
 }
 
@@ -151,7 +158,7 @@ fn write_elimination(alloc: Global, asked: &str, text: &mut String) -> Result<()
 
 fn write_contradiction(alloc: Global, asked: &str, text: &mut String) -> Result<(), AllocError> {
     let (rows, multipliers) = cut(asked, ';');
-    let multipliers = multipliers_of(alloc, multipliers)?;
+    let multipliers = multipliers_of(alloc, multipliers, ' ')?;
     let rows = rows_of(alloc, rows)?;
     let contradicts = contradicts(&rows, &multipliers);
     text.push_str(if contradicts { "yes" } else { "no" })
@@ -179,7 +186,7 @@ fn write_given(
     match kind {
         Kind::Goal(of) => write_goal(alloc, of, asked, text),
         Kind::Form(of) => write_form(alloc, of, asked, text),
-        Kind::Condition(of) => write_condition(of, &test_of(alloc, asked)?, text),
+        Kind::Condition(of) => write_condition(alloc, of, asked, text),
         Kind::Rows(of) => write_of_rows(alloc, of, asked, text),
         Kind::Tightening => write_tightened(alloc, asked, text),
         Kind::Number => write_operation(asked, text),
@@ -187,7 +194,7 @@ fn write_given(
 }
 
 /// What the libraries give for a line.
-pub fn given(alloc: Global, kind: Kind, asked: &str) -> Result<String, AllocError> {
+fn given(alloc: Global, kind: Kind, asked: &str) -> Result<String, AllocError> {
     let mut text = String::new(alloc);
     write_given(alloc, kind, asked, &mut text)?;
     Ok(text)
@@ -211,6 +218,18 @@ pub fn check_lines(
         if !line.starts_with('#') {
             check_line(rt, kind, line)?;
         }
+    }
+    Ok(())
+}
+
+/// Checks each line of each text.
+pub fn check_texts(
+    rt: &(impl Abort + AllocGlobal),
+    kind: Kind,
+    texts: &[&str],
+) -> Result<(), AllocError> {
+    for text in texts {
+        check_lines(rt, kind, text)?;
     }
     Ok(())
 }

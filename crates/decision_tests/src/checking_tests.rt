@@ -1,6 +1,6 @@
 //! Certificates that are accepted, or refused at a node.
 
-use crate::answers::{Kind, OfGoal, check_lines};
+use crate::answers::{Kind, OfGoal, check_texts};
 use std::alloc::AllocError;
 
 /// Multipliers of one row.
@@ -68,9 +68,9 @@ inf true 1 x y *1 select ; rr ; t t s => no";
 
 #[test]
 fn checked_certificates(rt: HostRuntime) -> Result<(), AllocError> {
-    check_lines(&rt, Kind::Goal(OfGoal::Check), HALVES)?;
-    check_lines(&rt, Kind::Goal(OfGoal::Check), BELOW_ZERO)?;
-    check_lines(&rt, Kind::Goal(OfGoal::Check), QUESTIONS)?;
-    check_lines(&rt, Kind::Goal(OfGoal::Check), SUMS)?;
-    check_lines(&rt, Kind::Goal(OfGoal::Check), INFINITE)
+    check_texts(
+        &rt,
+        Kind::Goal(OfGoal::Check),
+        &[HALVES, BELOW_ZERO, QUESTIONS, SUMS, INFINITE],
+    )
 }

@@ -1,6 +1,6 @@
 //! Multipliers that combine rows to a contradiction, and others.
 
-use crate::answers::{Kind, OfRows, check_lines};
+use crate::answers::{Kind, OfRows, check_texts};
 use std::alloc::AllocError;
 
 const CONTRADICTIONS: &str = "\
@@ -29,6 +29,9 @@ const SUMS: &str = "\
 
 #[test]
 fn contradictions(rt: HostRuntime) -> Result<(), AllocError> {
-    check_lines(&rt, Kind::Rows(OfRows::Contradiction), CONTRADICTIONS)?;
-    check_lines(&rt, Kind::Rows(OfRows::Contradiction), SUMS)
+    check_texts(
+        &rt,
+        Kind::Rows(OfRows::Contradiction),
+        &[CONTRADICTIONS, SUMS],
+    )
 }

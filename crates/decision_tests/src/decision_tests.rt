@@ -1,8 +1,8 @@
 //! What is decided of goals, worked out by hand.
 
-use crate::answers::{Kind, OfGoal, check_lines, given};
-use std::alloc::{AllocError, Global};
-use std::fmt::Write;
+use crate::answers::{Kind, OfGoal, check_lines};
+use crate::texts::write_multiples;
+use std::alloc::AllocError;
 
 /// How many leaves the certificate of a goal has that holds, and whether it is accepted; else where the goal fails, or why nothing is
 /// known of it.
@@ -71,28 +71,18 @@ fn decisions(rt: HostRuntime) -> Result<(), AllocError> {
     check_lines(&rt, Kind::Goal(OfGoal::Certificate), CERTIFICATES)
 }
 
-/// States 0 where `i*y + z <= x` for each i from 1 up to a number, and `x + 66*j*y + z <= 0` for each j from 1 up to another, and
-/// else 1.
-fn crossing(alloc: Global, lowers: u64, uppers: u64) -> Result<String, AllocError> {
-    let mut text = String::from_str(alloc, "true ")?;
-    for i in 0..lowers.min(100) {
-        let times = i + 1;
-        write!(text, "{times} y * v2 + x <= and ")?;
-    }
-    for j in 0..uppers.min(100) {
-        let times = 66 * (j + 1);
-        write!(text, "x {times} y * v2 + + 0 <= and ")?;
-    }
-    text.push_str("0 1 select 1 ; iii")?;
-    Ok(text)
+/// States 0 where `i*y + z <= x` for each i from 1 to 65, and `x + 66*j*y + z <= 0` for each j from 1 to 64, and else 1.
+fn write_crossing(text: &mut String) -> Result<(), AllocError> {
+    text.push_str("true ")?;
+    write_multiples(text, 65, 1, "", " y * v2 + x <= and ")?;
+    write_multiples(text, 64, 66, "x ", " y * v2 + + 0 <= and ")?;
+    text.push_str("0 1 select 1 ; iii => rows 1 4160")
 }
 
 /// 65 lower and 64 upper bounds of x make 4,160 rows.
 #[test]
 fn rows_that_are_too_many(rt: HostRuntime) -> Result<(), AllocError> {
-    let alloc = rt.alloc();
-    let goal = crossing(alloc, 65, 64)?;
-    let found = given(alloc, Kind::Goal(OfGoal::Decision), goal.as_str())?;
-    assert!(rt; found.as_str() == "rows 1 4160");
-    Ok(())
+    let mut text = String::new(rt.alloc());
+    write_crossing(&mut text)?;
+    check_lines(&rt, Kind::Goal(OfGoal::Decision), text.as_str())
 }

@@ -1,8 +1,8 @@
 //! What elimination finds of rows, worked out by hand.
 
-use crate::answers::{Kind, OfRows, check_lines, given};
-use std::alloc::{AllocError, Global};
-use std::fmt::Write;
+use crate::answers::{Kind, OfRows, check_lines, check_texts};
+use crate::texts::write_multiples;
+use std::alloc::AllocError;
 
 /// Rows that nothing meets, with multipliers, and rows whose joins reach the bound.
 const REFUTED: &str = "\
@@ -79,62 +79,51 @@ const POINTS: &str = "\
 
 #[test]
 fn eliminations(rt: HostRuntime) -> Result<(), AllocError> {
-    check_lines(&rt, Kind::Rows(OfRows::Elimination), REFUTED)?;
-    check_lines(&rt, Kind::Rows(OfRows::Elimination), POINTS)
+    check_texts(&rt, Kind::Rows(OfRows::Elimination), &[REFUTED, POINTS])
 }
 
-/// Writes rows with x, these multiples of y and, where it isn't 0, a multiple of z.
-fn write_rows(text: &mut String, x: i64, count: u64, step: u64, z: u64) -> Result<(), AllocError> {
-    for i in 0..count.min(1_000) {
-        let times = step.min(1_000) * (i + 1);
-        write!(text, "{x}x0 {times}x1 ")?;
-        if z > 0 {
-            write!(text, "{z}x2 ")?;
-        }
-        text.push_str("0 <=0 ")?;
-    }
-    Ok(())
-}
-
-/// For each i from 1 the row `-x + i*y + m*z <= 0`, for each j from 1 the row `x + 66*j*y + m*z <= 0`, and further rows.
-fn crossing(
-    alloc: Global,
+/// Writes a line: for each i from 1 the row `-x + i*y`, for each j from 1 the row `x + 66*j*y`, each with the same further part, and
+/// then the rest of the line.
+fn write_line(
+    text: &mut String,
     lowers: u64,
     uppers: u64,
-    m: u64,
-    further: &str,
-) -> Result<String, AllocError> {
-    let mut text = String::new(alloc);
-    write_rows(&mut text, -1, lowers, 1, m)?;
-    write_rows(&mut text, 1, uppers, 66, m)?;
-    text.push_str(further)?;
-    text.push_str("; iii")?;
-    Ok(text)
+    part: &str,
+    rest: &str,
+) -> Result<(), AllocError> {
+    write_multiples(text, lowers, 1, "-1x0 ", part)?;
+    write_multiples(text, uppers, 66, "1x0 ", part)?;
+    text.push_str(rest)
 }
 
 /// The joins of 65 rows and 65 rows, with different coefficients of y, are 4,225 rows; those of 65 and 64 are 4,160. Those of 200
 /// and 200 are 40,000, whose coefficients of y are the numbers from 67 to 13,400: 13,334 different ones. Two more rows add up to 1 <= 0.
 /// Without z each of these joins is a multiple of y <= 0, so one row is left.
+fn write_crossings(text: &mut String) -> Result<(), AllocError> {
+    let with_z = "x1 1x2 0 <=0 ";
+    write_line(text, 65, 65, with_z, "; iii => rows 1 4225\n")?;
+    write_line(text, 65, 64, with_z, "; iii => rows 1 4160\n")?;
+    write_line(text, 200, 200, with_z, "; iii => rows 1 13334\n")?;
+    write_line(
+        text,
+        200,
+        200,
+        "x1 1048577x2 0 <=0 ",
+        "; iii => rows 1 13334\n",
+    )?;
+    write_line(
+        text,
+        200,
+        200,
+        with_z,
+        "-1x0 1x1 1x2 1 <=0 1x0 -1x1 -1x2 0 <=0 ; iii => refuted 400:1 401:1\n",
+    )?;
+    write_line(text, 200, 200, "x1 0 <=0 ", "; iii => point 0 0 0")
+}
+
 #[test]
 fn too_many_rows(rt: HostRuntime) -> Result<(), AllocError> {
-    let alloc = rt.alloc();
-    for (lowers, uppers, m, further, wanted) in [
-        (65, 65, 1, "", "rows 1 4225"),
-        (65, 64, 1, "", "rows 1 4160"),
-        (200, 200, 1, "", "rows 1 13334"),
-        (200, 200, 1_048_577, "", "rows 1 13334"),
-        (
-            200,
-            200,
-            1,
-            "-1x0 1x1 1x2 1 <=0 1x0 -1x1 -1x2 0 <=0 ",
-            "refuted 400:1 401:1",
-        ),
-        (200, 200, 0, "", "point 0 0 0"),
-    ] {
-        let rows = crossing(alloc, lowers, uppers, m, further)?;
-        let found = given(alloc, Kind::Rows(OfRows::Elimination), rows.as_str())?;
-        assert!(rt; found.as_str().trim() == wanted, "{lowers} {uppers} {m}");
-    }
-    Ok(())
+    let mut text = String::new(rt.alloc());
+    write_crossings(&mut text)?;
+    check_lines(&rt, Kind::Rows(OfRows::Elimination), text.as_str())
 }

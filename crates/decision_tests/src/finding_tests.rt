@@ -6,11 +6,8 @@ use linear_elim::{Finding, Search};
 use std::alloc::{AllocError, Global};
 use std::fmt::Write;
 
-/// Writes how many multipliers are found, or whether a point is.
-pub fn write_finding(alloc: Global, rows: &str, text: &mut String) -> Result<(), AllocError> {
-    let rows = rows_of(alloc, rows)?;
-    let mut search = Search::new(alloc);
-    match search.find(alloc, &rows, rows.len(), 3)? {
+fn write_found(finding: &Finding, text: &mut String) -> Result<(), AllocError> {
+    match finding {
         Finding::Refuted(multipliers) => {
             let count = multipliers.len();
             write!(text, "refuted by {count}")
@@ -18,6 +15,13 @@ pub fn write_finding(alloc: Global, rows: &str, text: &mut String) -> Result<(),
         Finding::Met => text.push_str("met"),
         Finding::Open => text.push_str("open"),
     }
+}
+
+/// Writes how many multipliers are found, or whether a point is.
+pub fn write_finding(alloc: Global, rows: &str, text: &mut String) -> Result<(), AllocError> {
+    let rows = rows_of(alloc, rows)?;
+    let mut search = Search::new(alloc);
+    write_found(&search.find(alloc, &rows, rows.len(), 3)?, text)
 }
 
 const FINDINGS: &str = "\

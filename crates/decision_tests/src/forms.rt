@@ -1,5 +1,6 @@
 //! Forms, conditions and goals of tests. The operands stand before their operator: `x 3 +` is the sum of the variable 0 and 3.
 
+use crate::number_tests::extended;
 use crate::texts::{fraction, index, types_of};
 use heylo_formula::{Cond, Form, Goal, Ty};
 use heyvl_num::{Ext, Frac};
@@ -40,6 +41,8 @@ enum Connective {
 /// An operator of one form, of a condition, or of a condition and two forms.
 #[derive(Clone, Copy)]
 enum Frame {
+    Scale(Frac),
+    Bind(u32),
     Validate,
     CoValidate,
     Embed,
@@ -102,23 +105,33 @@ fn frame_of(word: &str) -> Option<Frame> {
 /// What was read of a text and isn't an operand yet.
 #[derive(Drop)]
 struct Operands {
-    forms: Vec<Form>,
-    tests: Vec<Cond>,
+    forms: Vec<Box<Form>>,
+    tests: Vec<Box<Cond>>,
 }
 
 /// The last form; want of memory where there is none, as with the condition below.
-fn form(alloc: Global, operands: &mut Operands) -> Result<Box<Form>, AllocError> {
+fn form(operands: &mut Operands) -> Result<Box<Form>, AllocError> {
     match operands.forms.pop() {
-        Some(form) => Ok(Box::new(alloc, form)?),
+        Some(form) => Ok(form),
         None => Err(AllocError),
     }
 }
 
-fn test(alloc: Global, operands: &mut Operands) -> Result<Box<Cond>, AllocError> {
+fn test(operands: &mut Operands) -> Result<Box<Cond>, AllocError> {
     match operands.tests.pop() {
-        Some(test) => Ok(Box::new(alloc, test)?),
+        Some(test) => Ok(test),
         None => Err(AllocError),
     }
+}
+
+fn push_form(alloc: Global, form: Form, operands: &mut Operands) -> Result<(), AllocError> {
+    operands.forms.push(Box::new(alloc, form)?)?;
+    Ok(())
+}
+
+fn push_test(alloc: Global, test: Cond, operands: &mut Operands) -> Result<(), AllocError> {
+    operands.tests.push(Box::new(alloc, test)?)?;
+    Ok(())
 }
 
 fn joined(by: Operator, left: Box<Form>, right: Box<Form>) -> Form {
@@ -142,10 +155,9 @@ fn joined(by: Operator, left: Box<Form>, right: Box<Form>) -> Form {
 }
 
 fn join(alloc: Global, by: Operator, operands: &mut Operands) -> Result<(), AllocError> {
-    let right = form(alloc, operands)?;
-    let left = form(alloc, operands)?;
-    operands.forms.push(joined(by, left, right))?;
-    Ok(())
+    let right = form(operands)?;
+    let left = form(operands)?;
+    push_form(alloc, joined(by, left, right), operands)
 }
 
 fn compared(by: Comparison, left: Box<Form>, right: Box<Form>) -> Cond {
@@ -157,110 +169,93 @@ fn compared(by: Comparison, left: Box<Form>, right: Box<Form>) -> Cond {
 }
 
 fn compare(alloc: Global, by: Comparison, operands: &mut Operands) -> Result<(), AllocError> {
-    let right = form(alloc, operands)?;
-    let left = form(alloc, operands)?;
-    operands.tests.push(compared(by, left, right))?;
-    Ok(())
+    let right = form(operands)?;
+    let left = form(operands)?;
+    push_test(alloc, compared(by, left, right), operands)
 }
 
-fn connected(
-    alloc: Global,
-    by: Connective,
-    last: Box<Cond>,
-    operands: &mut Operands,
-) -> Result<Cond, AllocError> {
+fn connected(by: Connective, last: Box<Cond>, operands: &mut Operands) -> Result<Cond, AllocError> {
     match by {
         Connective::Not => Ok(Cond::Not(last)),
-        Connective::And => Ok(Cond::And(test(alloc, operands)?, last)),
-        Connective::Or => Ok(Cond::Or(test(alloc, operands)?, last)),
-        Connective::Same => Ok(Cond::Same(test(alloc, operands)?, last)),
+        Connective::And => Ok(Cond::And(test(operands)?, last)),
+        Connective::Or => Ok(Cond::Or(test(operands)?, last)),
+        Connective::Same => Ok(Cond::Same(test(operands)?, last)),
         Connective::Ite => {
-            let holds = test(alloc, operands)?;
-            Ok(Cond::Ite(test(alloc, operands)?, holds, last))
+            let holds = test(operands)?;
+            Ok(Cond::Ite(test(operands)?, holds, last))
         }
     }
 }
 
 fn connect(alloc: Global, by: Connective, operands: &mut Operands) -> Result<(), AllocError> {
-    let last = test(alloc, operands)?;
-    let whole = connected(alloc, by, last, operands)?;
-    operands.tests.push(whole)?;
-    Ok(())
+    let last = test(operands)?;
+    let whole = connected(by, last, operands)?;
+    push_test(alloc, whole, operands)
 }
 
 /// The first form where the condition holds, else the second.
-fn selected(alloc: Global, operands: &mut Operands) -> Result<Form, AllocError> {
-    let fails = form(alloc, operands)?;
-    let holds = form(alloc, operands)?;
-    Ok(Form::Select(test(alloc, operands)?, holds, fails))
+fn selected(operands: &mut Operands) -> Result<Form, AllocError> {
+    let fails = form(operands)?;
+    let holds = form(operands)?;
+    Ok(Form::Select(test(operands)?, holds, fails))
 }
 
-fn framed(alloc: Global, by: Frame, operands: &mut Operands) -> Result<Form, AllocError> {
+fn framed(by: Frame, operands: &mut Operands) -> Result<Form, AllocError> {
     match by {
-        Frame::Validate => Ok(Form::Validate(form(alloc, operands)?)),
-        Frame::CoValidate => Ok(Form::CoValidate(form(alloc, operands)?)),
-        Frame::Embed => Ok(Form::Embed(test(alloc, operands)?)),
-        Frame::Iverson => Ok(Form::Iverson(test(alloc, operands)?)),
-        Frame::Select => selected(alloc, operands),
+        Frame::Scale(times) => Ok(Form::Scale(times, form(operands)?)),
+        Frame::Bind(x) => Ok(Form::Bind(false, x, x, Ty::UInt, form(operands)?)),
+        Frame::Validate => Ok(Form::Validate(form(operands)?)),
+        Frame::CoValidate => Ok(Form::CoValidate(form(operands)?)),
+        Frame::Embed => Ok(Form::Embed(test(operands)?)),
+        Frame::Iverson => Ok(Form::Iverson(test(operands)?)),
+        Frame::Select => selected(operands),
     }
 }
 
 fn enclose(alloc: Global, by: Frame, operands: &mut Operands) -> Result<(), AllocError> {
-    let whole = framed(alloc, by, operands)?;
-    operands.forms.push(whole)?;
-    Ok(())
+    let whole = framed(by, operands)?;
+    push_form(alloc, whole, operands)
 }
 
-/// A multiple, as `scale:1/2`.
-fn scale(alloc: Global, times: Frac, operands: &mut Operands) -> Result<(), AllocError> {
-    let part = form(alloc, operands)?;
-    operands.forms.push(Form::Scale(times, part))?;
-    Ok(())
-}
-
-/// The least value of a form over a UInt, as `bind:1`.
-fn bind(alloc: Global, variable: u32, operands: &mut Operands) -> Result<(), AllocError> {
-    let body = form(alloc, operands)?;
-    operands
-        .forms
-        .push(Form::Bind(false, variable, variable, Ty::UInt, body))?;
-    Ok(())
-}
-
-/// The variables 0 and 1 are x and y, and any variable is written as v2. `inf` is infinity.
+/// A number or infinity, or any variable, as v2.
 fn atom(word: &str) -> Result<Form, AllocError> {
-    match word {
-        "x" => Ok(Form::Var(0)),
-        "y" => Ok(Form::Var(1)),
-        "inf" => Ok(Form::Const(Ext::Inf)),
-        _ => match word.strip_prefix('v') {
-            Some(number) => Ok(Form::Var(index(number)?)),
-            None => Ok(Form::Const(Ext::Fin(fraction(word)?))),
-        },
+    match word.strip_prefix('v') {
+        Some(number) => Ok(Form::Var(index(number)?)),
+        None => Ok(Form::Const(extended(word)?)),
     }
 }
 
-fn read_atom(word: &str, operands: &mut Operands) -> Result<(), AllocError> {
-    match word {
-        "true" => operands.tests.push(Cond::Const(true))?,
-        "false" => operands.tests.push(Cond::Const(false))?,
-        _ => match word.strip_prefix('b') {
-            Some(number) => operands.tests.push(Cond::Var(index(number)?))?,
-            None => operands.forms.push(atom(word)?)?,
-        },
+/// A truth, or a variable, as b2.
+fn truth(word: &str) -> Result<Cond, AllocError> {
+    match word.strip_prefix('b') {
+        Some(number) => Ok(Cond::Var(index(number)?)),
+        None => Ok(Cond::Const(word == "true")),
     }
-    Ok(())
 }
 
+/// The variables 0 and 1 are x and y.
+fn read_atom(alloc: Global, word: &str, operands: &mut Operands) -> Result<(), AllocError> {
+    if word == "true" || word == "false" || word.starts_with('b') {
+        return push_test(alloc, truth(word)?, operands);
+    }
+    let word = match word {
+        "x" => "v0",
+        "y" => "v1",
+        _ => word,
+    };
+    push_form(alloc, atom(word)?, operands)
+}
+
+/// A multiple, as `scale:1/2`, or the least value over a UInt, as `bind:1`, or what else has no two operands.
 fn read_other(alloc: Global, word: &str, operands: &mut Operands) -> Result<(), AllocError> {
     if let Some(by) = frame_of(word) {
         return enclose(alloc, by, operands);
     }
     match word.strip_prefix("scale:") {
-        Some(times) => scale(alloc, fraction(times)?, operands),
+        Some(times) => enclose(alloc, Frame::Scale(fraction(times)?), operands),
         None => match word.strip_prefix("bind:") {
-            Some(variable) => bind(alloc, index(variable)?, operands),
-            None => read_atom(word, operands),
+            Some(variable) => enclose(alloc, Frame::Bind(index(variable)?), operands),
+            None => read_atom(alloc, word, operands),
         },
     }
 }
@@ -304,21 +299,15 @@ fn goal(alloc: Global, upper: bool, stated: Form, found: Form, vars: Vec<Ty>) ->
 }
 
 /// A form; want of memory where the text has none.
-pub fn form_of(alloc: Global, text: &str) -> Result<Form, AllocError> {
+pub fn form_of(alloc: Global, text: &str) -> Result<Box<Form>, AllocError> {
     let mut operands = operands_of(alloc, text)?;
-    match operands.forms.pop() {
-        Some(form) => Ok(form),
-        None => Err(AllocError),
-    }
+    form(&mut operands)
 }
 
 /// A condition; want of memory where the text has none.
-pub fn test_of(alloc: Global, text: &str) -> Result<Cond, AllocError> {
+pub fn test_of(alloc: Global, text: &str) -> Result<Box<Cond>, AllocError> {
     let mut operands = operands_of(alloc, text)?;
-    match operands.tests.pop() {
-        Some(test) => Ok(test),
-        None => Err(AllocError),
-    }
+    test(&mut operands)
 }
 
 /// A goal: the stated form and the found one, which is infinity where it isn't told. A lower goal has `lower` before them.
@@ -329,11 +318,9 @@ pub fn goal_of(alloc: Global, text: &str, types: &str) -> Result<Goal, AllocErro
     };
     let vars = types_of(alloc, types)?;
     let mut operands = operands_of(alloc, text)?;
-    let Some(last) = operands.forms.pop() else {
-        return Err(AllocError);
-    };
+    let last = Box::into_inner(form(&mut operands)?);
     match operands.forms.pop() {
-        Some(stated) => Ok(goal(alloc, upper, stated, last, vars)),
+        Some(stated) => Ok(goal(alloc, upper, Box::into_inner(stated), last, vars)),
         None => Ok(goal(alloc, upper, last, Form::Const(Ext::Inf), vars)),
     }
 }

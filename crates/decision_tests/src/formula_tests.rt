@@ -2,7 +2,7 @@
 
 use crate::answers::{Kind, OfCondition, OfForm, check_lines};
 use crate::forms::form_of;
-use crate::texts::{cut, index};
+use crate::texts::{cut, index, write_numbers};
 use heylo_formula::{Cond, Form, Term};
 use std::alloc::{AllocError, Global};
 use std::fmt::Write;
@@ -11,7 +11,7 @@ use std::fmt::Write;
 fn write_sum(bound: u32, name: u32, body: &Form, text: &mut String) -> Result<(), AllocError> {
     match body {
         Form::Sum(a, b) => match (&**a, &**b) {
-            (Form::Var(x), Form::Var(y)) => write!(text, "{bound} {name} {x} {y}"),
+            (Form::Var(x), Form::Var(y)) => write_numbers(&[bound, name, *x, *y], text),
             _ => text.push_str("other"),
         },
         _ => text.push_str("other"),
@@ -37,7 +37,7 @@ fn write_substituted(
         return Err(AllocError);
     }
     write_binder(&form.subst(alloc, variable, with)?, text)?;
-    text.push_str(" of ")?;
+    text.push_str("of ")?;
     write_binder(form, text)
 }
 
@@ -54,9 +54,19 @@ pub fn write_substitution(
         alloc,
         form,
         variable,
-        &Term::Num(form_of(alloc, with)?),
+        &Term::Num(Box::into_inner(form_of(alloc, with)?)),
         text,
     )
+}
+
+fn write_renamed(
+    alloc: Global,
+    form: &Form,
+    from: u32,
+    to: u32,
+    text: &mut String,
+) -> Result<(), AllocError> {
+    write_binder(&form.rename(alloc, from, to)?, text)
 }
 
 /// Writes the form with another variable in place of one.
@@ -69,24 +79,28 @@ pub fn write_renaming(
     let (from, to) = cut(rest, ';');
     let from = index(from)?;
     let to = index(to)?;
-    write_binder(&form.rename(alloc, from, to)?, text)
+    write_renamed(alloc, form, from, to, text)
+}
+
+fn truth(holds: bool) -> &'static str {
+    if holds { "true " } else { "false " }
+}
+
+fn write_sizes(nodes: u64, depth: u64, text: &mut String) -> Result<(), AllocError> {
+    write!(text, "{nodes} {depth}")
 }
 
 /// Writes whether a variable is free in the form, whether it occurs, how many nodes there are, and how deep the form is.
 pub fn write_size(form: &Form, variable: &str, text: &mut String) -> Result<(), AllocError> {
     let variable = index(variable)?;
-    let free = form.free(variable);
-    let occurs = form.occurs(variable);
-    let nodes = form.nodes();
-    let depth = form.depth();
-    write!(text, "{free} {occurs} {nodes} {depth}")
+    text.push_str(truth(form.free(variable)))?;
+    text.push_str(truth(form.occurs(variable)))?;
+    write_sizes(form.nodes(), form.depth(), text)
 }
 
 /// Writes how many nodes a condition has, and how deep it is.
 pub fn write_condition_size(condition: &Cond, text: &mut String) -> Result<(), AllocError> {
-    let nodes = condition.nodes();
-    let depth = condition.depth();
-    write!(text, "{nodes} {depth}")
+    write_sizes(condition.nodes(), condition.depth(), text)
 }
 
 /// The binder's number, the sum, the variable replaced and the form put in; then the number, the name and the sum,

@@ -25,6 +25,13 @@ pub fn write_question(
     }
 }
 
+fn write_list(rows: &RowList, text: &mut String) -> Result<(), AllocError> {
+    match rows {
+        RowList::Rows(list) => write_rows(list, text),
+        RowList::Bits => text.push_str("bits"),
+    }
+}
+
 /// `answers ; +`: writes the rows of the path, with the denied goal where there is a plus sign.
 pub fn write_path_rows(
     alloc: Global,
@@ -33,12 +40,9 @@ pub fn write_path_rows(
     text: &mut String,
 ) -> Result<(), AllocError> {
     let (answers, denied) = cut(rest, ';');
-    let Some(path) = path_with(alloc, goal, answers)? else {
-        return text.push_str("none");
-    };
-    match rows(alloc, goal, &path, denied == "+")? {
-        RowList::Rows(list) => write_rows(&list, text),
-        RowList::Bits => text.push_str("bits"),
+    match path_with(alloc, goal, answers)? {
+        Some(path) => write_list(&rows(alloc, goal, &path, denied == "+")?, text),
+        None => text.push_str("none"),
     }
 }
 
@@ -77,7 +81,8 @@ pub fn write_check(
     tree: &str,
     text: &mut String,
 ) -> Result<(), AllocError> {
-    write_checked(alloc, goal, &tree_of(alloc, tree)?, text)
+    let tree = tree_of(alloc, tree)?;
+    write_checked(alloc, goal, &tree, text)
 }
 
 fn write_proved(
@@ -110,10 +115,7 @@ fn write_decided(
 
 /// Writes what is decided, and whether a certificate of at most 100 leaves is accepted.
 pub fn write_decision(alloc: Global, goal: &Goal, text: &mut String) -> Result<(), AllocError> {
-    match &decision_of(alloc, goal)? {
-        Some(decision) => write_decided(alloc, goal, decision, text),
-        None => text.push_str("none"),
-    }
+    write_decided(alloc, goal, &decision_of(alloc, goal)?, text)
 }
 
 fn write_tree(
@@ -141,7 +143,7 @@ pub fn write_certificate(
 ) -> Result<(), AllocError> {
     let leaf = index(leaf)?;
     match &decision_of(alloc, goal)? {
-        Some(Decision::Proved(Some(tree))) => write_tree(alloc, goal, tree, leaf, text),
+        Decision::Proved(Some(tree)) => write_tree(alloc, goal, tree, leaf, text),
         _ => text.push_str("none"),
     }
 }

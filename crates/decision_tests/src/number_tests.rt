@@ -1,7 +1,7 @@
 //! Fractions and extended numbers. 2^127 - 1 is the last number that fits, on both sides; -2^127 is an i128, and too large all the
 //! same.
 
-use crate::answers::{Kind, check_lines};
+use crate::answers::{Kind, check_texts};
 use crate::texts::{cut, fraction, whole, write_fraction};
 use heyvl_num::{Ext, Frac, gcd};
 use std::alloc::AllocError;
@@ -16,7 +16,8 @@ fn write_found(found: Option<Frac>, text: &mut String) -> Result<(), AllocError>
     }
 }
 
-fn extended(word: &str) -> Result<Ext, AllocError> {
+/// A fraction, or `inf`.
+pub fn extended(word: &str) -> Result<Ext, AllocError> {
     match word {
         "inf" => Ok(Ext::Inf),
         _ => Ok(Ext::Fin(fraction(word)?)),
@@ -200,6 +201,5 @@ gcd 340282366920938463463374607431768211455 3 => 3
 
 #[test]
 fn numbers(rt: HostRuntime) -> Result<(), AllocError> {
-    check_lines(&rt, Kind::Number, EXACT)?;
-    check_lines(&rt, Kind::Number, OTHERS)
+    check_texts(&rt, Kind::Number, &[EXACT, OTHERS])
 }

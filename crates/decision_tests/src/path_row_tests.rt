@@ -1,6 +1,6 @@
 //! The rows of paths, worked out by hand.
 
-use crate::answers::{Kind, OfGoal, check_lines};
+use crate::answers::{Kind, OfGoal, check_texts};
 use std::alloc::AllocError;
 
 /// The rows of the answers, then the denied goal, then the signs of the unsigned variables that occur.
@@ -69,10 +69,9 @@ x 4611686018427387903 + 0 <= embed ; i ; f => -1x0 -4611686018427387902 <=0";
 
 #[test]
 fn rows_of_paths(rt: HostRuntime) -> Result<(), AllocError> {
-    check_lines(&rt, Kind::Goal(OfGoal::Rows), ROWS)?;
-    check_lines(&rt, Kind::Goal(OfGoal::Rows), SIGNS)?;
-    check_lines(&rt, Kind::Goal(OfGoal::Rows), ORDER)?;
-    check_lines(&rt, Kind::Goal(OfGoal::Rows), DENIED)?;
-    check_lines(&rt, Kind::Goal(OfGoal::Rows), INFINITE)?;
-    check_lines(&rt, Kind::Goal(OfGoal::Rows), BOUND)
+    check_texts(
+        &rt,
+        Kind::Goal(OfGoal::Rows),
+        &[ROWS, SIGNS, ORDER, DENIED, INFINITE, BOUND],
+    )
 }

@@ -1,6 +1,6 @@
 //! What goals ask, and what they are at the end, worked out by hand.
 
-use crate::answers::{Kind, OfGoal, check_lines};
+use crate::answers::{Kind, OfGoal, check_texts};
 use std::alloc::AllocError;
 
 /// 0, infinity and the variables, in operators that ask nothing.
@@ -276,11 +276,17 @@ x y min 4611686018427387903 1 + + ; t => bits";
 
 #[test]
 fn questions(rt: HostRuntime) -> Result<(), AllocError> {
-    check_lines(&rt, Kind::Goal(OfGoal::Question), UNASKED)?;
-    check_lines(&rt, Kind::Goal(OfGoal::Question), COMPARING)?;
-    check_lines(&rt, Kind::Goal(OfGoal::Question), CONSTANTS)?;
-    check_lines(&rt, Kind::Goal(OfGoal::Question), PARTS)?;
-    check_lines(&rt, Kind::Goal(OfGoal::Question), COMPARISONS)?;
-    check_lines(&rt, Kind::Goal(OfGoal::Question), CONDITIONS)?;
-    check_lines(&rt, Kind::Goal(OfGoal::Question), BOUND)
+    check_texts(
+        &rt,
+        Kind::Goal(OfGoal::Question),
+        &[
+            UNASKED,
+            COMPARING,
+            CONSTANTS,
+            PARTS,
+            COMPARISONS,
+            CONDITIONS,
+            BOUND,
+        ],
+    )
 }

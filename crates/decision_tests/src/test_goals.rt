@@ -3,6 +3,7 @@
 ghost use Rattle.std.specs.Prelude.{◌≡◌, ℕ, ◌<◌, ◌^◌, length, IsTrue, Some, true};
 ghost use Rattle.heyvl_num.specs.Extended.{value_of};
 ghost use Rattle.heylo_formula.specs.PlainTrees.{form_of, cond_of};
+ghost use Rattle.heylo_formula.specs.Sizes.{nodes};
 ghost use Rattle.heylo_formula.specs.Typing.{NumberType, type_of, is_well_typed, is_unsigned, constant_type, number_type, difference_type, is_bool};
 ghost use Rattle.heylo_formula.specs.Variables.{is_free, is_free_in};
 ghost use Rattle.heylo_formula.specs.Typing.{types_in};
@@ -78,19 +79,7 @@ fn is_whole(types: &[Ty], form: &Form) -> bool
         Form::Var(x) => is_whole_type(type_at(types, *x)),
         Form::Sum(a, b) => is_whole(types, a) && is_whole(types, b),
         Form::Product(a, b, _) => is_whole(types, a) && is_whole(types, b),
-        Form::Diff(_, _) => false,
-        Form::Cut(_, _) => false,
-        Form::Scale(_, _) => false,
-        Form::Min(_, _) => false,
-        Form::Max(_, _) => false,
-        Form::Imply(_, _) => false,
-        Form::CoImply(_, _) => false,
-        Form::Validate(_) => false,
-        Form::CoValidate(_) => false,
-        Form::Embed(_) => false,
-        Form::Iverson(_) => false,
-        Form::Select(_, _, _) => false,
-        Form::Bind(_, _, _, _, _) => false,
+        _ => false,
     }
 }
 
@@ -101,14 +90,10 @@ fn is_condition(types: &[Ty], cond: &Cond) -> bool
     match cond {
         Cond::Const(_) => true,
         Cond::Var(x) => is_bool_type(type_at(types, *x)),
-        Cond::Not(g) => is_condition(types, g),
         Cond::And(g, h) => is_condition(types, g) && is_condition(types, h),
-        Cond::Or(g, h) => is_condition(types, g) && is_condition(types, h),
-        Cond::Same(_, _) => false,
         Cond::Le(a, b) => is_whole(types, a) && is_whole(types, b),
         Cond::Lt(a, b) => is_whole(types, a) && is_whole(types, b),
-        Cond::EqNum(_, _) => false,
-        Cond::Ite(_, _, _) => false,
+        _ => false,
     }
 }
 
@@ -121,20 +106,10 @@ fn is_formula(types: &[Ty], form: &Form) -> bool
         Form::Var(x) => is_unsigned_type(type_at(types, *x)),
         Form::Sum(a, b) => is_formula(types, a) && is_formula(types, b),
         Form::Product(a, b, _) => is_formula(types, a) && is_formula(types, b),
-        Form::Diff(_, _) => false,
-        Form::Cut(_, _) => false,
-        Form::Scale(_, _) => false,
-        Form::Min(_, _) => false,
-        Form::Max(_, _) => false,
-        Form::Imply(_, _) => false,
-        Form::CoImply(_, _) => false,
-        Form::Validate(_) => false,
-        Form::CoValidate(_) => false,
-        Form::Embed(g) => is_condition(types, g),
         Form::Iverson(g) => is_condition(types, g),
         Form::Select(g, a, b) => is_condition(types, g)
             && (is_formula(types, a) && is_formula(types, b)),
-        Form::Bind(_, _, _, _, _) => false,
+        _ => false,
     }
 }
 
@@ -148,19 +123,9 @@ fn has_own(count: usize, form: &Form) -> bool
         Form::Var(x) => (*x as usize) < count,
         Form::Sum(a, b) => has_own(count, a) && has_own(count, b),
         Form::Product(a, b, _) => has_own(count, a) && has_own(count, b),
-        Form::Diff(_, _) => false,
-        Form::Cut(_, _) => false,
-        Form::Scale(_, _) => false,
-        Form::Min(_, _) => false,
-        Form::Max(_, _) => false,
-        Form::Imply(_, _) => false,
-        Form::CoImply(_, _) => false,
-        Form::Validate(_) => false,
-        Form::CoValidate(_) => false,
-        Form::Embed(g) => tests_own(count, g),
         Form::Iverson(g) => tests_own(count, g),
         Form::Select(g, a, b) => tests_own(count, g) && (has_own(count, a) && has_own(count, b)),
-        Form::Bind(_, _, _, _, _) => false,
+        _ => false,
     }
 }
 
@@ -172,32 +137,32 @@ fn tests_own(count: usize, cond: &Cond) -> bool
     match cond {
         Cond::Const(_) => true,
         Cond::Var(x) => (*x as usize) < count,
-        Cond::Not(g) => tests_own(count, g),
         Cond::And(g, h) => tests_own(count, g) && tests_own(count, h),
-        Cond::Or(g, h) => tests_own(count, g) && tests_own(count, h),
-        Cond::Same(_, _) => false,
         Cond::Le(a, b) => has_own(count, a) && has_own(count, b),
         Cond::Lt(a, b) => has_own(count, a) && has_own(count, b),
-        Cond::EqNum(_, _) => false,
-        Cond::Ite(_, _, _) => false,
+        _ => false,
     }
 }
 
-/// Decides a goal whose formulas are those of the tests.
-pub fn decision_of(alloc: Global, goal: &Goal) -> Result<Option<Decision>, AllocError> {
+/// Whether the form is small enough to be decided.
+fn is_small(form: &Form) -> bool
+    ensures { IsTrue result → nodes (form_of form.now) < 2 ^ 29 }
+{
+    form.nodes() < MOST_NODES
+}
+
+/// Decides a goal whose formulas are those of the tests; want of memory where they are none.
+pub fn decision_of(alloc: Global, goal: &Goal) -> Result<Decision, AllocError> {
     let types = goal.vars.as_slice();
     let count = types.len();
     if !(is_formula(types, &goal.stated) && is_formula(types, &goal.found)) {
-        return Ok(None);
+        return Err(AllocError);
     }
     if !(has_own(count, &goal.stated) && has_own(count, &goal.found)) {
-        return Ok(None);
+        return Err(AllocError);
     }
-    if goal.stated.nodes() >= MOST_NODES
-        || goal.found.nodes() >= MOST_NODES
-        || count >= MOST_VARIABLES
-    {
-        return Ok(None);
+    if !(is_small(&goal.stated) && is_small(&goal.found) && count < MOST_VARIABLES) {
+        return Err(AllocError);
     }
-    Ok(Some(decide(alloc, goal)?))
+    decide(alloc, goal)
 }

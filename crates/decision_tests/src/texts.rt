@@ -74,18 +74,47 @@ pub fn types_of(alloc: Global, text: &str) -> Result<Vec<Ty>, AllocError> {
 }
 
 /// The index of a row with its multiplier, as `2:3`.
-pub fn multiple(word: &str) -> Result<(u32, u64), AllocError> {
+fn multiple(word: &str) -> Result<(u32, u64), AllocError> {
     let (row, times) = cut(word, ':');
     Ok((index(row)?, multiplier(times)?))
 }
 
-/// Indexes of rows with their multipliers, as `0:1 2:3`.
-pub fn multipliers_of(alloc: Global, text: &str) -> Result<Vec<(u32, u64)>, AllocError> {
+/// Indexes of rows with their multipliers, as `0:1 2:3`, with this mark between them.
+pub fn multipliers_of(
+    alloc: Global,
+    text: &str,
+    mark: char,
+) -> Result<Vec<(u32, u64)>, AllocError> {
     let mut multipliers = Vec::new(alloc);
-    for word in text.split_whitespace() {
-        multipliers.push(multiple(word)?)?;
+    for part in text.split(mark) {
+        if !part.is_empty() {
+            multipliers.push(multiple(part)?)?;
+        }
     }
     Ok(multipliers)
+}
+
+/// Writes so many multiples of a number behind a text, each between two texts.
+pub fn write_multiples(
+    text: &mut String,
+    count: u64,
+    of: u64,
+    before: &str,
+    after: &str,
+) -> Result<(), AllocError> {
+    for i in 0..count.min(1_000) {
+        let times = of.min(1_000) * (i + 1);
+        write!(text, "{before}{times}{after}")?;
+    }
+    Ok(())
+}
+
+/// Writes numbers behind a text, each with a space behind it.
+pub fn write_numbers(numbers: &[u32], text: &mut String) -> Result<(), AllocError> {
+    for number in numbers {
+        write!(text, "{number} ")?;
+    }
+    Ok(())
 }
 
 /// Writes a fraction behind a text, as `fraction` reads it.

@@ -4,7 +4,7 @@ ghost use Rattle.std.specs.Prelude.{IfOk};
 ghost use Rattle.linear_form.specs.Lin.{AreNormal};
 ghost use Rattle.linear_form.specs.PlainPaths.{lin_of};
 
-use crate::answers::{Kind, check_lines};
+use crate::answers::{Kind, check_texts};
 use crate::fractions::is_zero;
 use crate::linear_texts::write_row;
 use crate::texts::{cut, fraction, types_of};
@@ -175,8 +175,5 @@ const BOUND: &str = "\
 
 #[test]
 fn tightened_rows(rt: HostRuntime) -> Result<(), AllocError> {
-    check_lines(&rt, Kind::Tightening, WHOLE)?;
-    check_lines(&rt, Kind::Tightening, FRACTIONS)?;
-    check_lines(&rt, Kind::Tightening, CONSTANTS)?;
-    check_lines(&rt, Kind::Tightening, BOUND)
+    check_texts(&rt, Kind::Tightening, &[WHOLE, FRACTIONS, CONSTANTS, BOUND])
 }

@@ -1,58 +1,51 @@
 //! Certificates as texts.
 
-use crate::texts::{multiple, write_multipliers};
+use crate::texts::{multipliers_of, write_multipliers};
 use farkas_check::Tree;
 use std::alloc::{AllocError, Global};
 
 /// The last tree; want of memory where there is none.
-fn last(alloc: Global, trees: &mut Vec<Tree>) -> Result<Box<Tree>, AllocError> {
-    match trees.pop() {
-        Some(tree) => Ok(Box::new(alloc, tree)?),
-        None => Err(AllocError),
-    }
-}
-
-fn split(alloc: Global, trees: &mut Vec<Tree>) -> Result<(), AllocError> {
-    let fails = last(alloc, trees)?;
-    let holds = last(alloc, trees)?;
-    trees.push(Tree::Split(holds, fails))?;
-    Ok(())
-}
-
-/// A leaf with these multipliers, as `f0:1,2:1`.
-fn leaf(alloc: Global, text: &str) -> Result<Tree, AllocError> {
-    let mut multipliers = Vec::new(alloc);
-    for part in text.split(',') {
-        if !part.is_empty() {
-            multipliers.push(multiple(part)?)?;
-        }
-    }
-    Ok(Tree::Farkas(multipliers))
-}
-
-fn read_word(alloc: Global, word: &str, trees: &mut Vec<Tree>) -> Result<(), AllocError> {
-    match word {
-        "s" => return split(alloc, trees),
-        "t" => trees.push(Tree::Plain)?,
-        _ => match word.strip_prefix('f') {
-            Some(multipliers) => trees.push(leaf(alloc, multipliers)?)?,
-            None => return Err(AllocError),
-        },
-    }
-    Ok(())
-}
-
-/// A certificate: `t` is a leaf that holds plainly, `f0:1,2:1` is one with multipliers of rows, and `s` splits into the two trees
-/// that stand before it.
-pub fn tree_of(alloc: Global, text: &str) -> Result<Tree, AllocError> {
-    let mut trees = Vec::new(alloc);
-    for word in text.split_whitespace() {
-        read_word(alloc, word, &mut trees)?;
-    }
+fn last(trees: &mut Vec<Box<Tree>>) -> Result<Box<Tree>, AllocError> {
     match trees.pop() {
         Some(tree) => Ok(tree),
         None => Err(AllocError),
     }
+}
+
+fn push(alloc: Global, tree: Tree, trees: &mut Vec<Box<Tree>>) -> Result<(), AllocError> {
+    trees.push(Box::new(alloc, tree)?)?;
+    Ok(())
+}
+
+fn split(alloc: Global, trees: &mut Vec<Box<Tree>>) -> Result<(), AllocError> {
+    let fails = last(trees)?;
+    let holds = last(trees)?;
+    push(alloc, Tree::Split(holds, fails), trees)
+}
+
+fn read_word(alloc: Global, word: &str, trees: &mut Vec<Box<Tree>>) -> Result<(), AllocError> {
+    match word {
+        "s" => split(alloc, trees),
+        "t" => push(alloc, Tree::Plain, trees),
+        _ => match word.strip_prefix('f') {
+            Some(leaf) => push(
+                alloc,
+                Tree::Farkas(multipliers_of(alloc, leaf, ',')?),
+                trees,
+            ),
+            None => Err(AllocError),
+        },
+    }
+}
+
+/// A certificate: `t` is a leaf that holds plainly, `f0:1,2:1` is one with multipliers of rows, and `s` splits into the two trees
+/// that stand before it.
+pub fn tree_of(alloc: Global, text: &str) -> Result<Box<Tree>, AllocError> {
+    let mut trees = Vec::new(alloc);
+    for word in text.split_whitespace() {
+        read_word(alloc, word, &mut trees)?;
+    }
+    last(&mut trees)
 }
 
 /// How many leaves there are.

@@ -1,6 +1,6 @@
 //! The values of forms, worked out by hand.
 
-use crate::answers::{Kind, OfCondition, OfForm, OfGoal, check_lines};
+use crate::answers::{Kind, OfCondition, OfForm, OfGoal, check_lines, check_texts};
 use crate::texts::{fraction, write_fraction};
 use heylo_formula::{Form, Val};
 use heyvl_num::Ext;
@@ -228,9 +228,7 @@ lower inf 2 => no
 
 #[test]
 fn values(rt: HostRuntime) -> Result<(), AllocError> {
-    check_lines(&rt, Kind::Form(OfForm::Value), TWO)?;
-    check_lines(&rt, Kind::Form(OfForm::Value), ONE)?;
-    check_lines(&rt, Kind::Form(OfForm::Value), CHOSEN)?;
+    check_texts(&rt, Kind::Form(OfForm::Value), &[TWO, ONE, CHOSEN])?;
     check_lines(&rt, Kind::Condition(OfCondition::Truth), CONDITIONS)?;
     check_lines(&rt, Kind::Goal(OfGoal::Truth), GOALS)
 }
