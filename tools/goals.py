@@ -16,8 +16,8 @@ sys.setrecursionlimit(100_000)
 class Goal(Terms):
     """The lines of one goal; a state gives each visible variable its value, under its name."""
 
-    def __init__(self, file, is_upper):
-        super().__init__()
+    def __init__(self, file, is_upper, is_plain=False):
+        super().__init__(is_plain)
         self.file, self.is_upper, self.scopes = file, is_upper, {}
 
     def state(self, typed):
@@ -192,9 +192,9 @@ def targets_of(block):
     return {x for kind, *parts in statements_of(block) if kind in ("set", "draw", "call", "any") for x in parts[0]}
 
 
-def goals(file, procedure):
+def goals(file, procedure, is_plain):
     """The goals of a procedure with a body: the name of each, as reports have it, and its lines."""
-    goal = Goal(file, procedure.is_upper)
+    goal = Goal(file, procedure.is_upper, is_plain)
     state = goal.state(procedure.inputs + procedure.outputs)
     stated = goal.clauses(procedure.pres, state)
     found = goal.worth(procedure.body, state, lambda after: goal.clauses(procedure.posts, after))
@@ -206,19 +206,20 @@ def goals(file, procedure):
         ones.append((f"invariant of loop {number}", scope, [rules.get("k_induction", rules.get("invariant"))[-1]]))
         if "ranking" in rules:
             step, ranking = rules["ranking"]
-            turn = RankingGoal(file, True)
+            turn = RankingGoal(file, True, is_plain)
             state = turn.state(scope)
             held = turn.sum(turn.value(step, state), turn.inner(block, state, lambda after: turn.value(ranking, after)))
             found = turn.choice(turn.value(guard, state).amount, held, ZERO)
             yield f"loop {number}", turn.asked(turn.at_most(found, turn.value(ranking, state)))
     for name, scope, clauses in ones if procedure.is_weak else []:
-        goal = Goal(file, False)
+        goal = Goal(file, False, is_plain)
         yield f"{name} at most 1", goal.asked(goal.at_most(goal.clauses(clauses, goal.state(scope)), ONE))
 
 
-def of_file(text):
-    """The goals of a file, each with the name of its procedure, and the text that asks for one after another."""
+def of_file(text, is_plain=False):
+    """The goals of a file, each with the name of its procedure, and the text that asks for one after another, in shared or in
+    plain terms."""
     file = heyvl.read(text)
-    found = [(p.name, name, lines) for p in file if p.body is not None for name, lines in goals(file, p)]
+    found = [(p.name, name, lines) for p in file if p.body is not None for name, lines in goals(file, p, is_plain)]
     lines = ["(set-logic QF_LIRA)", *(line for _, _, goal in found for line in goal)]
     return [(name, goal) for name, goal, _ in found], "\n".join(lines) + "\n"

@@ -39,15 +39,24 @@ def written(part):
 
 class Terms:
     """The lines that declare constants, the names of the terms, and the operators that add to both. What is known of the
-    parts, or by their types, gets no term."""
+    parts, or by their types, gets no term, and the same parts share one. Plain terms are not shared, and the numbers in them
+    are left as they stand."""
 
-    def __init__(self):
-        self.lines, self.names, self.opposites = [], {}, {}
+    def __init__(self, is_plain=False):
+        self.is_plain, self.lines, self.names, self.opposites = is_plain, [], {}, {}
 
     def named(self, operator, *parts):
-        """The name of an operator's term, the same one for the same parts."""
-        text = f"({operator} {' '.join(map(written, parts))})"
-        return self.names.setdefault(text, f"t{len(self.names)}")
+        """The name of an operator's term."""
+        text, count = f"({operator} {' '.join(map(written, parts))})", len(self.names)
+        return self.names.setdefault((text, count if self.is_plain else 0), f"t{count}")
+
+    def are_known(self, *parts):
+        """Whether an operator on these numbers is worked out here."""
+        return not self.is_plain and all(isinstance(part, Fraction) for part in parts)
+
+    def are_one(self, a, b):
+        """Whether two parts are taken as one."""
+        return a == b and not self.is_plain
 
     def constant(self, type_name):
         """Any value of a type."""
@@ -83,19 +92,19 @@ class Terms:
         if isinstance(a, bool) or isinstance(b, bool):
             known, other = (a, b) if isinstance(a, bool) else (b, a)
             return other if known else self.negated(other)
-        if isinstance(a, Fraction) and isinstance(b, Fraction):
+        if self.are_known(a, b):
             return a == b
-        return True if a == b else self.named("=", a, b)
+        return True if self.are_one(a, b) else self.named("=", a, b)
 
     def is_ordered(self, a, b):
         """Whether the first of two finite numbers is at most the second."""
-        if isinstance(a, Fraction) and isinstance(b, Fraction):
+        if self.are_known(a, b):
             return a <= b
-        return True if a == b else self.named("<=", a, b)
+        return True if self.are_one(a, b) else self.named("<=", a, b)
 
     def either_part(self, test, a, b):
         """The first part where the test holds, else the second."""
-        if isinstance(test, bool) or a == b:
+        if isinstance(test, bool) or isinstance(a, bool) and a is b or self.are_one(a, b):
             return a if test else b
         if isinstance(a, bool):
             return self.either(test, b) if a else self.both(self.negated(test), b)
@@ -133,11 +142,11 @@ class Terms:
 
     def numbers(self, operator, a, b):
         """A sum, a difference or a product of finite numbers."""
-        if isinstance(a, Fraction) and isinstance(b, Fraction):
+        if self.are_known(a, b):
             return {"+": a + b, "-": a - b, "*": a * b}[operator]
-        if b == 0 and operator != "*":
+        if self.are_one(b, 0) and operator != "*":
             return a
-        return b if a == 0 and operator == "+" else self.named(operator, a, b)
+        return b if self.are_one(a, 0) and operator == "+" else self.named(operator, a, b)
 
     def sum(self, a, b):
         return Value(join(a.type, b.type), self.either(a.infinite, b.infinite), self.numbers("+", a.amount, b.amount))
@@ -158,7 +167,7 @@ class Terms:
         """A part with the terms of the names that occur in it."""
         text = written(part)
         used, names = {text}, []
-        for term, name in reversed(self.names.items()):
+        for (term, _), name in reversed(self.names.items()):
             if name in used:
                 used.update(term.strip("()").split())
                 names.append(f"(let (({name} {term})) ")
