@@ -222,8 +222,8 @@ pub pushed : (ps : List Taken) (fs : List Frame) (f : Frame) (i w : ℕ) (p : Pl
 pushed ps fs f i w p e a l h k m = stays ps _ i w p (sym (ap (through (places.asked_by p.focus)) e ∙ through_push (places.asked_by p.focus) fs f)) a (let n : frames_weight p.frames.items ≡ frame_weight f + frames_weight fs = ap frames_weight e ∙ weight_push fs f in omega (arith, n, l)) h (subst AreKeptFrames (sym e) (kept_push fs f m k))
 
 -- where the evaluation stops, it stays
-pub decides : (ps : List Taken) (w : ℕ) (a : A.Atom) (b : Box A.Atom Global) (p : Place) → b.value ≡ a → along ps (places.asked_by p.focus) p.at ≡ decide (atom_of a) → IsKeptFocus p.focus → AreKeptFrames p.frames.items → Steps ps (left_at p) p.at w p (S.TheVariants.Asks b)
-decides ps w a b p f e h k = (through_decide ps (places.asked_by p.focus) p.frames.items p.at (atom_of b.value) (e ∙ ap (λ a. decide (atom_of a)) (sym f)), here ps p h k)
+pub decides : (ps : List Taken) (w : ℕ) (a : Box A.Atom Global) (p : Place) → along ps (places.asked_by p.focus) p.at ≡ decide (atom_of a.value) → IsKeptFocus p.focus → AreKeptFrames p.frames.items → Steps ps (left_at p) p.at w p (S.TheVariants.Asks a)
+decides ps w a p e h k = (through_decide ps (places.asked_by p.focus) p.frames.items p.at (atom_of a.value) e, here ps p h k)
 
 -- ---- The parts of forms and conditions
 

@@ -23,6 +23,7 @@ mod RowParts
 mod UnitRows
 mod NormalClaims
 pub mod TypedTrees
+mod NumberRuns
 pub mod NumericRows
 pub mod DeniedRows
 mod RoomForDenied

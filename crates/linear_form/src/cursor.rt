@@ -1,6 +1,6 @@
 //! An evaluation along a path: where it stands, and why it stops.
 
-ghost use Rattle.std.specs.Prelude.{◌≡◌, ◌+◌, drop, take, Bool, true, false, Option, Some, if◌then◌else◌};
+ghost use Rattle.std.specs.Prelude.{◌≡◌, ◌+◌, drop, take, Bool, true, false, Option, Some, IfOk, if◌then◌else◌};
 ghost use Rattle.linear_form.specs.Query.{Atom as PlainAtom, known, known_by};
 ghost use Rattle.linear_form.specs.Query.Query.{ask, done};
 ghost use Rattle.linear_form.specs.internal.Run.{along, turned, Evaluation};
@@ -9,7 +9,7 @@ ghost use Rattle.linear_form.specs.internal.Seen.{Tells};
 
 use crate::lin::Lin;
 use crate::paths::{Atom, Taken};
-use std::alloc::AllocError;
+use std::alloc::{AllocError, Global};
 
 /// A linear value, or None for infinity, and the place where the path goes on.
 #[derive(Drop)]
@@ -25,11 +25,11 @@ pub struct Tested {
     pub next: usize,
 }
 
-/// Why an evaluation goes no further.
+/// Why an evaluation goes no further. It is small, since each operator hands it on.
 #[derive(Drop)]
 pub enum Stop {
     /// The path doesn't answer this question.
-    Decide(Atom),
+    Decide(Box<Atom>),
     /// A number reaches 2^62.
     Bits,
     Memory(AllocError),
@@ -45,8 +45,14 @@ impl From<AllocError> for Stop {
     }
 }
 
+fn boxed(alloc: Global, atom: Atom) -> Result<Box<Atom>, AllocError>
+    ensures { IfOk result (λ b. b.value ≡ atom) }
+{
+    Ok(Box::new(alloc, atom)?)
+}
+
 /// The answer of the path to a question, or the question.
-pub fn answered(atom: Atom, path: &[Taken], at: usize) -> Result<Tested, Stop>
+pub fn answered(alloc: Global, atom: Atom, path: &[Taken], at: usize) -> Result<Tested, Stop>
     ensures { Tells result (turned (drop at (path_of path.now)) (atom_of atom) (Evaluation.value true (at + 1)) (Evaluation.value false (at + 1))) }
 {
     if at < path.len() {
@@ -55,7 +61,8 @@ pub fn answered(atom: Atom, path: &[Taken], at: usize) -> Result<Tested, Stop>
             next: at + 1,
         })
     } else {
-        Err(Stop::Decide(atom))
+        let question = boxed(alloc, atom)?;
+        Err(Stop::Decide(question))
     }
 }
 
@@ -90,11 +97,11 @@ fn known_truth(x: u32, path: &[Taken], count: usize) -> Option<bool>
 
 /// The truth of a Boolean variable: known where the path has decided it before this place, else asked.
 #[inline(never)]
-pub fn truth(x: u32, path: &[Taken], at: usize) -> Result<Tested, Stop>
+pub fn truth(alloc: Global, x: u32, path: &[Taken], at: usize) -> Result<Tested, Stop>
     ensures { Tells result (along (path_of path.now) (ask (PlainAtom.truth x) (done true) (done false)) at) }
 {
     match known_truth(x, path, at) {
         Some(holds) => Ok(Tested { holds, next: at }),
-        None => answered(Atom::Truth(x), path, at),
+        None => answered(alloc, Atom::Truth(x), path, at),
     }
 }

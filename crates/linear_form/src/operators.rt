@@ -1,9 +1,10 @@
 //! The operators on linear values and infinity: the questions that they ask, and their results.
 
-ghost use Rattle.std.specs.Prelude.{◌≡◌, ◌&&◌, ◌||◌, ◌<◌, length, List, Some, None, true, if◌then◌else◌};
-ghost use Rattle.linear_form.specs.Lin.{minus as lin_minus, scaled as lin_scaled};
+ghost use Rattle.std.specs.Prelude.{◌≡◌, ◌&&◌, ◌||◌, ◌<◌, length, List, MatchOption, Some, None, true, if◌then◌else◌};
+ghost use Rattle.linear_form.specs.Lin.{constant as constant_lin, fits as number_fits, minus as lin_minus, scaled as lin_scaled};
 ghost use Rattle.heyvl_num.specs.Value.{is_zeroʳ};
 ghost use Rattle.linear_form.specs.Query.{Taken as PlainTaken};
+ghost use Rattle.linear_form.specs.Query.Query.{done};
 ghost use Rattle.linear_form.specs.Questions as tree;
 ghost use Rattle.linear_form.specs.internal.Operator.{has_no_terms};
 ghost use Rattle.linear_form.specs.internal.Run.{along, Evaluation, IsKept, IsKeptValue};
@@ -13,14 +14,14 @@ ghost use Rattle.heyvl_num.specs.Extended.{value_of};
 
 use crate::cursor::{Found, Stop, Tested, answered};
 use crate::lin::{Lin, constant, copy, copy_value, is_constant, is_sized, minus, plus, scaled};
-use crate::multiples::small_multiple;
-use crate::numbers::{fits, is_negative, is_zero, one, signed, sum as number_sum, zero};
+use crate::multiples::{small_multiple, small_product};
+use crate::numbers::{fits, fitting, is_negative, is_zero, one, signed, sum as number_sum, zero};
 use crate::paths::{Atom, Taken};
 use heyvl_num::{Ext, Frac};
 use std::alloc::Global;
 
 /// Whether a linear value is at most 0 or, where strict, below 0: known without variables, else asked.
-fn is_below(a: Lin, strict: bool, path: &[Taken], at: usize) -> Result<Tested, Stop>
+fn is_below(alloc: Global, a: Lin, strict: bool, path: &[Taken], at: usize) -> Result<Tested, Stop>
     ensures { Tells result (along (path_of path.now) (tree.is_below (lin_of a) strict) at) }
 {
     if !is_sized(&a) {
@@ -31,7 +32,7 @@ fn is_below(a: Lin, strict: bool, path: &[Taken], at: usize) -> Result<Tested, S
             next: at,
         })
     } else {
-        answered(Atom::Row(a, strict), path, at)
+        answered(alloc, Atom::Row(a, strict), path, at)
     }
 }
 
@@ -54,7 +55,7 @@ fn compare(
         }
     }
     let difference = minus(alloc, a, b)?;
-    is_below(difference, strict, path, at)
+    is_below(alloc, difference, strict, path, at)
 }
 
 /// Whether both hold no variable.
@@ -128,7 +129,7 @@ fn same(alloc: Global, a: &Option<Lin>, at: usize) -> Result<Found, Stop>
 fn zero_or_infinity(alloc: Global, a: Lin, path: &[Taken], at: usize) -> Result<Found, Stop>
     ensures { Gives result (along (path_of path.now) (tree.infinite_product (lin_of a)) at) }
 {
-    let test = is_below(a, false, path, at)?;
+    let test = is_below(alloc, a, false, path, at)?;
     if test.holds {
         Ok(Found {
             value: nothing(alloc),
@@ -517,6 +518,36 @@ pub(crate) fn scale(alloc: Global, w: &Frac, a: &Option<Lin>, at: usize) -> Resu
             next: at,
         }),
         Some(x) => finite_multiple(alloc, w, x, at),
+    }
+}
+
+/// The multiple of a number, or None where the multiplier is 0 or the multiple reaches 2^62.
+pub(crate) fn number_scaled(w: &Frac, x: &Frac) -> Option<Frac>
+    requires { number_fits x.now ≡ true }
+    ensures gives { MatchOption result (Unit {0}) (λ r. tree.scale w.now (Some (constant_lin x.now)) ≡ done (Some (constant_lin r))) }
+    ensures small { MatchOption result (Unit {0}) (λ r. number_fits r ≡ true) }
+{
+    if is_zero(w) {
+        None
+    } else {
+        small_product(w, x)
+    }
+}
+
+/// The sum of a value and a number, or None where the value isn't a number too, or the sum reaches 2^62.
+pub(crate) fn number_added(a: &Option<Lin>, x: &Frac) -> Option<Frac>
+    requires value { IsKeptValue (linear_of a.now) }
+    requires number { number_fits x.now ≡ true }
+    ensures gives { MatchOption result (Unit {0}) (λ r. tree.sum (linear_of a.now) (Some (constant_lin x.now)) ≡ done (Some (constant_lin r))) }
+    ensures small { MatchOption result (Unit {0}) (λ r. number_fits r ≡ true) }
+{
+    match a {
+        None => None,
+        Some(y) => if is_constant(y) {
+            fitting(number_sum(&y.rest, x))
+        } else {
+            None
+        },
     }
 }
 

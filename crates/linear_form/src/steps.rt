@@ -1,11 +1,11 @@
 //! The steps of an evaluation: a form or a condition is taken apart, an operator is run, or a frame gets what it waits for.
 
-ghost use Rattle.std.specs.Prelude.{Bool, ◌≡◌, ◌<◌, ◌≤◌, ◌+◌, ◌*◌, ℕ, List, Some, IfOk, if◌then◌else◌};
+ghost use Rattle.std.specs.Prelude.{Bool, ◌≡◌, ◌<◌, ◌≤◌, ◌+◌, ◌*◌, ℕ, List, MatchOption, Some, IfOk, if◌then◌else◌, true};
 ghost use Rattle.heyvl_num.specs.Extended.{value_of};
 ghost use Rattle.heylo_formula.specs.Formula.{Form as PlainForm, Cond as PlainCond};
 ghost use Rattle.heylo_formula.specs.PlainTrees.{form_of, cond_of};
 ghost use Rattle.heylo_formula.specs.Sizes.{nodes, nodes_in};
-ghost use Rattle.linear_form.specs.Lin.{variable as variable_lin};
+ghost use Rattle.linear_form.specs.Lin.{constant as constant_lin, fits as number_fits, variable as variable_lin};
 ghost use Rattle.linear_form.specs.Query.{Query, Taken as PlainTaken, next};
 ghost use Rattle.linear_form.specs.Query.Query.{done};
 ghost use Rattle.linear_form.specs.Questions.{Linear, evaluate, test};
@@ -19,16 +19,16 @@ ghost use Rattle.linear_form.specs.declared.places.Place.{Place as PlainPlace};
 
 use crate::cursor::{Found, Stop, Tested, truth};
 use crate::direct::direct;
-use crate::lin::{Lin, copy_value, variable};
+use crate::lin::{Lin, constant as constant_value, copy_value, is_constant, variable};
 use crate::nodes::{
     Binary, Comparison, Connective, OfTruth, Unary, comparison_of, of_known_truth, of_value,
     of_values,
 };
-use crate::operators::number;
+use crate::operators::{number, number_added, number_scaled};
 use crate::paths::{Atom, Taken};
 use crate::places::{Focus, Frame, Place, Two};
 use heylo_formula::{Cond, Form};
-use heyvl_num::Ext;
+use heyvl_num::{Ext, Frac};
 use std::alloc::{AllocError, Global};
 
 /// What one step of an evaluation gives. It is small, since each step hands it on.
@@ -124,11 +124,11 @@ fn under<'a>(place: &mut Place<'a>, frame: Frame<'a>, form: &'a Form) -> Result<
 
 /// Where the evaluation stops, the place stays.
 #[inline(always)]
-fn stopped(alloc: Global, stop: Stop) -> Result<Step, AllocError>
+fn stopped(stop: Stop) -> Result<Step, AllocError>
     ensures { (ps : List PlainTaken) (w : ℕ) (p : PlainPlace) → IsKeptFocus p.focus → AreKeptFrames p.frames.items → Stops stop (along ps (asked_by p.focus) p.at) → IfOk result (Steps ps (left_at p) p.at w p) }
 {
     match stop {
-        Stop::Decide(atom) => Ok(Step::Asks(Box::new(alloc, atom)?)),
+        Stop::Decide(atom) => Ok(Step::Asks(atom)),
         Stop::Bits => Ok(Step::Bits),
         Stop::Memory(e) => Err(e),
     }
@@ -149,9 +149,9 @@ fn value_found<'a>(
     match found {
         Ok(found) => {
             place.at = found.next;
-            value_given(place, found.value)
+            value_given(alloc, place, found.value)
         }
-        Err(stop) => stopped(alloc, stop),
+        Err(stop) => stopped(stop),
     }
 }
 
@@ -171,7 +171,7 @@ fn truth_found<'a>(
             place.at = tested.next;
             truth_given(alloc, place, tested.holds)
         }
-        Err(stop) => stopped(alloc, stop),
+        Err(stop) => stopped(stop),
     }
 }
 
@@ -193,16 +193,64 @@ fn at_the_end(
     }
 }
 
-/// A value, for the frame that waits for it.
-#[inline(always)]
-fn value_given<'a>(place: &mut Place<'a>, x: Option<Lin>) -> Result<Step, AllocError>
+/// A value, for the frame that waits for it. An operator on numbers is run at once, and the next frame waits for what it gives.
+fn value_given<'a>(alloc: Global, place: &mut Place<'a>, x: Option<Lin>) -> Result<Step, AllocError>
     requires value { IsKeptValue (linear_of x) }
     requires frames { AreKeptFrames place.old.frames.items }
     ensures { (ps : List PlainTaken) → IfOk result (Steps ps (through (done (Outcomes.number (linear_of x))) place.old.frames.items) place.old.at (frames_weight place.old.frames.items) place.new) }
 {
-    match place.frames.pop() {
-        None => Ok(Step::Bits),
-        Some(frame) => resume_value(place, frame, x),
+    let mut value = x;
+    'frames: loop {
+        match place.frames.pop() {
+            None => return Ok(Step::Bits),
+            Some(frame) => match number_after(&frame, &value) {
+                None => return resume_value(place, frame, value),
+                Some(rest) => value = Some(constant_value(alloc, rest)),
+            },
+        }
+    }
+}
+
+/// What comes of a value where it is a number, and the frame that waits for it makes another number of it at once: a number
+/// times a number, or the sum of two. Else None.
+#[inline(always)]
+fn number_after(frame: &Frame<'_>, value: &Option<Lin>) -> Option<Frac>
+    requires frame { IsKeptFrame frame.now }
+    requires value { IsKeptValue (linear_of value.now) }
+    ensures gives { MatchOption result (Unit {0}) (λ r. resumed frame.now (Outcomes.number (linear_of value.now)) ≡ done (Outcomes.number (Some (constant_lin r)))) }
+    ensures small { MatchOption result (Unit {0}) (λ r. number_fits r ≡ true) }
+{
+    match value {
+        None => None,
+        Some(x) => if is_constant(x) {
+            number_resumed(frame, &x.rest)
+        } else {
+            None
+        },
+    }
+}
+
+/// The same for the number.
+#[inline(always)]
+fn number_resumed(frame: &Frame<'_>, x: &Frac) -> Option<Frac>
+    requires frame { IsKeptFrame frame.now }
+    requires number { number_fits x.now ≡ true }
+    ensures gives { MatchOption result (Unit {0}) (λ r. resumed frame.now (Outcomes.number (Some (constant_lin x.now))) ≡ done (Outcomes.number (Some (constant_lin r)))) }
+    ensures small { MatchOption result (Unit {0}) (λ r. number_fits r ≡ true) }
+{
+    match frame {
+        Frame::One(operator) => match operator {
+            Unary::Scale(w) => number_scaled(w, x),
+            _ => None,
+        },
+        Frame::Right(operator, a) => match operator {
+            Two::Value(binary) => match binary {
+                Binary::Sum => number_added(a, x),
+                _ => None,
+            },
+            _ => None,
+        },
+        _ => None,
     }
 }
 
@@ -255,7 +303,7 @@ fn resume_truth<'a>(
     ensures { (ps : List PlainTaken) → IfOk result (Steps ps (through (resumed frame.now (Outcomes.truth t)) place.old.frames.items) place.old.at (frame_weight frame.now + frames_weight place.old.frames.items) place.new) }
 {
     match frame {
-        Frame::OfTruth(operator) => value_given(place, of_known_truth(alloc, *operator, t)),
+        Frame::OfTruth(operator) => value_given(alloc, place, of_known_truth(alloc, *operator, t)),
         Frame::Select(a, b) => Ok(chosen(place, t, Focus::Form(*a), Focus::Form(*b))),
         Frame::Not => Ok(on(place, Focus::Truth(!t))),
         Frame::First(operator, h) => second(place, *operator, t, *h),
@@ -451,7 +499,7 @@ fn variable_value<'a>(alloc: Global, place: &mut Place<'a>, x: u32) -> Result<St
     ensures { (ps : List PlainTaken) (w : ℕ) → frames_weight place.old.frames.items < w → IfOk result (Steps ps (through (done (Outcomes.number (Some (variable_lin x)))) place.old.frames.items) place.old.at w place.new) }
 {
     let value = variable(alloc, x)?;
-    value_given(place, Some(value))
+    value_given(alloc, place, Some(value))
 }
 
 /// A condition, taken apart: its first part, while a frame waits for its outcome, or its truth where it has no parts.
@@ -495,6 +543,6 @@ fn flag<'a>(
     requires frames { AreKeptFrames place.old.frames.items }
     ensures { IfOk result (Steps (path_of path.now) (through (told (test (cond_of cond.now))) place.old.frames.items) place.old.at (4 * nodes_in (cond_of cond.now) + frames_weight place.old.frames.items) place.new) }
 {
-    let tested = truth(x, path, place.at);
+    let tested = truth(alloc, x, path, place.at);
     truth_found(alloc, place, tested)
 }

@@ -8,7 +8,7 @@ use Rattle.linear_form.specs.declared.cursor.Tested as B
 use Rattle.linear_form.specs.declared.cursor.Stop as S
 
 abbrev pub Stops : {A : Type 0} → S.Stop → Evaluation A → Type 0
-Stops (S.TheVariants.Decide q) o = o ≡ Evaluation.decide (atom_of q)
+Stops (S.TheVariants.Decide q) o = o ≡ Evaluation.decide (atom_of q.value)
 Stops S.TheVariants.Bits o = o ≡ Evaluation.bits
 Stops (S.TheVariants.Memory e) o = Unit {0}
 
