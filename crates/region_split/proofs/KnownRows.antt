@@ -9,6 +9,7 @@ use Rattle.linear_form.specs.Row.{Row}
 use Rattle.linear_form.specs.PathRows.{all_tightened, path_claims, answer_claims, with_row, claim, negated}
 use Rattle.linear_form.specs.RowLists.{ArePathRows}
 use Rattle.linear_form.specs.Tightening.{tightened}
+use Rattle.region_split.specs.internal.Known.{IsRowOf}
 
 -- behind a path stands the row of the answer
 grown : (types : Types) (ps : List Taken) (t : Taken) (rows : List Row) (r : Row) → all_tightened types (path_claims ps) ≡ Some rows → all_tightened types (answer_claims t.atom t.held) ≡ Some (r ∷ []) → all_tightened types (path_claims (ps ++ (t ∷ []))) ≡ Some (rows ++ (r ∷ []))
@@ -42,8 +43,8 @@ taken_alone types (p ∷ ps) t rows r e f = by_question p.atom p.held e f (λ xs
     by_question (Atom.truth x) held h k i = i rows h k
     by_question (Atom.row a strict) held h k i = by_row (tightened types (if held then claim a strict else claim (negated a) (not strict))) (all_tightened types (path_claims ps)) (all_tightened types (path_claims (ps ++ (t ∷ [])))) h k i
 
-pub row_behind : (g : Goal) (ps : List Taken) (q : Atom) (held : Bool) (rows : List Row) (r : Row) → ArePathRows g ps rows → all_tightened (types_in g.types) (answer_claims q held) ≡ Some (r ∷ []) → ArePathRows g (onto ps q held) (rows ++ (r ∷ []))
+pub row_behind : (g : Goal) (ps : List Taken) (q : Atom) (held : Bool) (rows : List Row) (r : Row) → ArePathRows g ps rows → IsRowOf g.types q held r → ArePathRows g (onto ps q held) (rows ++ (r ∷ []))
 row_behind g ps q held rows r h e = record { are_rows = grown (types_in g.types) ps (record { atom = q; held = held }) rows r h.are_rows e }
 
-pub row_alone : (g : Goal) (ps : List Taken) (q : Atom) (held : Bool) (rows : List Row) (r : Row) → ArePathRows g ps rows → ArePathRows g (onto ps q held) (rows ++ (r ∷ [])) → all_tightened (types_in g.types) (answer_claims q held) ≡ Some (r ∷ [])
+pub row_alone : (g : Goal) (ps : List Taken) (q : Atom) (held : Bool) (rows : List Row) (r : Row) → ArePathRows g ps rows → ArePathRows g (onto ps q held) (rows ++ (r ∷ [])) → IsRowOf g.types q held r
 row_alone g ps q held rows r h k = taken_alone (types_in g.types) ps (record { atom = q; held = held }) rows r h.are_rows k.are_rows

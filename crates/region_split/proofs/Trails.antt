@@ -13,7 +13,7 @@ use Rattle.linear_form.specs.Row.{Row}
 use Rattle.linear_form.specs.declared.paths.Taken as T
 use Rattle.linear_form.proofs.exported.Places.{place_stays, rows_counted, path_rows_first, claims_counted}
 use Rattle.linear_elim.proofs.exported.Remembering.{remembers_more}
-use Rattle.linear_form.specs.RowLists.{ArePathRows}
+use Rattle.linear_form.specs.RowLists.{ArePathRows, LackLastRow}
 use Rattle.linear_form.specs.Places.{IsOn}
 use Rattle.linear_form.specs.Occurrences.{AreOccurrences}
 use Rattle.linear_elim.specs.Searches.{Remembers}
@@ -113,6 +113,16 @@ first_path_rows g ps qs rows more h k = sym (take-append-drop (length rows) more
 pub rows_so_far : (g : Goal) (ps : List Taken) (rows more : List Row) (noted : ℕ) → AreRowsSoFar g ps rows → ArePathRows g ps more → noted ≡ length rows → take noted more ≡ rows
 rows_so_far g _ _ more noted AreRowsSoFar.start k e = ap (λ n. take n more) e
 rows_so_far g ps rows more noted (AreRowsSoFar.answer _ _ l) k e = ap (λ n. take n more) e ∙ shorter_rows g l.before (l.last ∷ []) rows more l.are_rows (subst (λ xs. ArePathRows g xs more) l.split k)
+
+-- where there are no answers, none lacks its row
+pub rows_without_answers : (g : Goal) (ps : List Taken) (rows : List Row) → AreRowsSoFar g ps rows → length ps ≡ 0 → ArePathRows g ps rows
+rows_without_answers g _ _ AreRowsSoFar.start e = record { are_rows = refl }
+rows_without_answers g ps rows (AreRowsSoFar.answer _ _ l) e = let i = ap length l.split ∙ length-append l.before (l.last ∷ []) in absurd (omega (arith, e, i))
+
+-- behind an answer they are those before it
+pub rows_before_last : (g : Goal) (ps before : List Taken) (t : Taken) (rows : List Row) → AreRowsSoFar g ps rows → ps ≡ before ++ (t ∷ []) → LackLastRow g ps rows
+rows_before_last g _ before t _ AreRowsSoFar.start e = absurd (snoc_not_empty before t e)
+rows_before_last g _ before t _ (AreRowsSoFar.answer _ _ l) e = l
 
 remembers_longer : (g : Goal) (ps qs : List Taken) (s : Search) (rows more : List Row) → ArePathRows g ps rows → ArePathRows g (ps ++ qs) more → Remembers s rows → Remembers s more
 remembers_longer g ps qs s rows more h k r = subst (Remembers s) (sym (first_path_rows g ps qs rows more h k)) (remembers_more s rows (drop (length rows) more) r)

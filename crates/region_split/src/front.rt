@@ -15,10 +15,12 @@ ghost use Rattle.linear_form.specs.RowLists.{Lists};
 ghost use Rattle.heylo_formula.specs.TypedGoals.{IsTypedGoal};
 ghost use Rattle.farkas_check.specs.Accepted.{has_denied, IsRefutedWith};
 ghost use Rattle.linear_form.specs.Places.{IsOn};
+ghost use Rattle.region_split.specs.internal.Known.{AreKnown};
 ghost use Rattle.region_split.specs.internal.Seen.{IsSeen, IsEndOf};
 ghost use Rattle.region_split.specs.internal.Trails.{ArePlaces, AreRowsSoFar, Comes, Stands};
 ghost use Rattle.region_split.specs.declared.trail.Way.TheVariants.{Open};
 
+use crate::known::{Known, copy_row, row_of_last};
 use crate::moving::{moved, places};
 use crate::solving::{Settled, settle};
 use crate::trail::{Trail, Way, first_rows};
@@ -68,7 +70,7 @@ pub fn look<'a>(alloc: Global, goal: &'a Goal, trail: Trail<'a>) -> Result<Front
         search,
     } = trail;
     let noted = rows.len();
-    match with_last_row(alloc, goal, &path, rows)? {
+    match with_last_row(alloc, goal, &path, &visited, rows)? {
         RowList::Rows(rows) => {
             occurrences.note(&rows, noted);
             let standing = Trail {
@@ -85,21 +87,29 @@ pub fn look<'a>(alloc: Global, goal: &'a Goal, trail: Trail<'a>) -> Result<Front
     }
 }
 
-/// The rows of the path's comparisons, where the last answer may have no row yet. Want of memory is the one error.
+/// The rows of the path's comparisons, where the last answer may have no row yet. What is known of the comparisons may tell
+/// that row. Want of memory is the one error.
 fn with_last_row(
     alloc: Global,
     goal: &Goal,
     path: &[Taken],
-    rows: Vec<Row>,
+    visited: &[Known],
+    mut rows: Vec<Row>,
 ) -> Result<RowList, AllocError>
     requires path { IsPath (goal_of goal.now) (path_of path.now) }
+    requires known { AreKnown (goal_of goal.now).types visited.now }
     requires rows { AreRowsSoFar (goal_of goal.now) (path_of path.now) rows.items }
     ensures { IfOk result (λ r. Lists r (all_tightened (types_in (goal_of goal.now).types) (path_claims (path_of path.now)))) }
 {
-    if path.is_empty() {
-        Ok(RowList::Rows(rows))
-    } else {
-        next_row(alloc, goal, path, rows)
+    let Some((answer, _)) = path.split_last() else {
+        return Ok(RowList::Rows(rows));
+    };
+    match row_of_last(visited, rows.len(), answer) {
+        Some(row) => {
+            rows.push(copy_row(alloc, row)?)?;
+            Ok(RowList::Rows(rows))
+        }
+        None => next_row(alloc, goal, path, rows),
     }
 }
 

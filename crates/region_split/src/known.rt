@@ -1,17 +1,15 @@
 //! Comparisons that are known with the rows of both answers.
 
-ghost use Rattle.std.specs.Prelude.{◌≡◌, ◌∷◌, [], List, Bool, true, false, IfOk, IfSome, IsTrue, Some};
-ghost use Rattle.heylo_formula.specs.Typing.{types_in};
+ghost use Rattle.std.specs.Prelude.{◌≡◌, List, true, false, IfOk, IfSome, IsTrue};
 ghost use Rattle.heylo_formula.specs.declared.types.Ty.{Ty as PlainTy};
-ghost use Rattle.linear_form.specs.PathRows.{all_tightened, answer_claims};
 ghost use Rattle.linear_form.specs.PlainPaths.{atom_of, lin_of};
-ghost use Rattle.region_split.specs.internal.Known.{AreKnown, IsKnown, IsRecalled, question_of};
+ghost use Rattle.region_split.specs.internal.Known.{AreKnown, IsKnown, IsRecalled, IsRowOf, question_of};
 
 use crate::answering::AnswerRows;
 use crate::clashes::clash;
 use crate::moving::is_same_row;
 use heyvl_num::Frac;
-use linear_form::{Atom, Lin, Row};
+use linear_form::{Atom, Lin, Row, Taken};
 use std::alloc::{AllocError, Global};
 
 /// A comparison that a path has answered, and the rows of both answers, which clash.
@@ -50,7 +48,7 @@ fn copy_value(alloc: Global, value: &Lin) -> Result<Lin, AllocError>
 }
 
 /// The same row again. Want of memory is the one error.
-fn copy_row(alloc: Global, row: &Row) -> Result<Row, AllocError>
+pub fn copy_row(alloc: Global, row: &Row) -> Result<Row, AllocError>
     ensures { IfOk result (λ r. r ≡ row.now) }
 {
     let mut terms = Vec::new(alloc);
@@ -69,7 +67,7 @@ pub fn make_known(
     rows: AnswerRows,
     index: usize,
 ) -> Result<Option<Known>, AllocError>
-    ensures { (types : List PlainTy) → all_tightened (types_in types) (answer_claims (atom_of atom.now) true) ≡ Some (rows.yes ∷ []) → all_tightened (types_in types) (answer_claims (atom_of atom.now) false) ≡ Some (rows.no ∷ []) → IfOk result (λ k. IfSome k (λ k. IsKnown types k)) }
+    ensures { (types : List PlainTy) → IsRowOf types (atom_of atom.now) true rows.yes → IsRowOf types (atom_of atom.now) false rows.no → IfOk result (λ k. IfSome k (λ k. IsKnown types k)) }
 {
     let Atom::Row(left, strict) = atom else {
         return Ok(None);
@@ -122,6 +120,27 @@ fn asks(known: &Known, atom: &Atom) -> bool
     match atom {
         Atom::Truth(_) => false,
         Atom::Row(left, strict) => known.strict == *strict && is_same_value(&known.left, left),
+    }
+}
+
+/// The row of the answer.
+fn row_of(known: &Known, held: bool) -> &Row
+    ensures { (types : List PlainTy) → IsKnown types known.now → IsRowOf types (question_of known.now) held result.now }
+{
+    if held { &known.yes } else { &known.no }
+}
+
+/// The row of an answer that comes to stand at the index, where the last one of these comparisons tells it.
+pub fn row_of_last<'a>(visited: &'a [Known], index: usize, answer: &Taken) -> Option<&'a Row>
+    ensures { (types : List PlainTy) → AreKnown types visited.now → IfSome result (λ r. IsRowOf types (atom_of answer.now.atom) answer.now.held r.now) }
+{
+    let Some(known) = visited.last() else {
+        return None;
+    };
+    if known.index == index && asks(known, &answer.atom) {
+        Some(row_of(known, answer.held))
+    } else {
+        None
     }
 }
 

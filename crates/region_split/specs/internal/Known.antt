@@ -1,5 +1,5 @@
 -- Comparisons that are known with the rows of both answers.
-use Rattle.std.specs.Prelude.{◌≡◌, ℕ, ◌<◌, List, [], ◌∷◌, length, true, false, not, Some}
+use Rattle.std.specs.Prelude.{◌≡◌, ℕ, ◌<◌, List, [], ◌∷◌, length, Bool, true, false, not, Some}
 use Rattle.std.specs.List.{All}
 use Rattle.heylo_formula.specs.Typing.{types_in}
 use Rattle.heylo_formula.specs.declared.types.Ty.{Ty}
@@ -20,10 +20,14 @@ pub record StandsIn (rows : List Row) (r : Row) (i : ℕ) : Type 0 where
 abbrev pub question_of : Known → Atom
 question_of k = Atom.row (lin_of k.left) k.strict
 
+-- The answer to the question has this row and no other.
+abbrev pub IsRowOf : List Ty → Atom → Bool → Row → Type 0
+IsRowOf types q held r = all_tightened (types_in types) (answer_claims q held) ≡ Some (r ∷ [])
+
 -- The rows are those of the two answers to the question, and nothing meets both.
 pub record IsKnown (types : List Ty) (k : Known) : Type 0 where
-  pub yes : all_tightened (types_in types) (answer_claims (question_of k) true) ≡ Some (k.yes ∷ [])
-  pub no : all_tightened (types_in types) (answer_claims (question_of k) false) ≡ Some (k.no ∷ [])
+  pub yes : IsRowOf types (question_of k) true k.yes
+  pub no : IsRowOf types (question_of k) false k.no
   pub clash : Clash k.yes k.no
   pub other_clash : Clash k.no k.yes
 
@@ -32,8 +36,8 @@ AreKnown types ks = All (IsKnown types) ks
 
 -- The row is that of this answer to the question and stands at the index, and it clashes with the row of the other answer.
 pub record IsRecalled (types : List Ty) (rows : List Row) (q : Atom) (r : Recalled) : Type 0 where
-  pub own : all_tightened (types_in types) (answer_claims q r.held) ≡ Some (r.row ∷ [])
+  pub own : IsRowOf types q r.held r.row
   pub stands_in : StandsIn rows r.row r.index
   pub other : Row
-  pub others : all_tightened (types_in types) (answer_claims q (not r.held)) ≡ Some (other ∷ [])
+  pub others : IsRowOf types q (not r.held) other
   pub clash : Clash r.row other
