@@ -41,11 +41,23 @@ x 0 < 1/2147483647 1 select 1/2305843009213693951 ; u => bits
 # a product of two variables
 x y *5 0 ; rr => nonlinear at 5..6";
 
+/// The same of goals that ask again what the path has answered.
+const REPEATED: &str = "\
+# thrice the same: two cells, and on the way to each of them two sides are dropped
+3 x 1 <= [] x 1 <= [] x 1 <= [] + + ; u => proved 6 yes
+2 x 1 <= [] x 1 <= [] x 1 <= [] + + ; u => fails at 0
+# of whole numbers 2x <= 3 says the same as x <= 1
+3 x 1 <= [] x x + 3 <= [] x 1 <= [] + + ; u => proved 6 yes
+# x < 1 and x <= 1 differ at 1, which makes a third cell
+3 x 1 <= [] x 1 < [] x 1 <= [] + + ; u => proved 7 yes";
+
 /// Certificates of goals that hold.
 const CERTIFICATES: &str = "\
 # the denied goal stands before the sign of x
 x 0 < 0 1 select 1 ; u ; 0 => sff 0:1 2:1
 x 0 < 0 1 select 1 ; u ; 1 => sff 1:1
+# yes and then no to the same question: x <= 1 and 2 <= x
+3 x 1 <= [] x 1 <= [] x 1 <= [] + + ; u ; 2 => sssfffsfsff 0:1 1:1
 # a goal that holds plainly
 inf x ; r ; 0 => t
 inf inf ;  ; 0 => t";
@@ -68,6 +80,7 @@ fn too_many_cells(rt: HostRuntime) -> Result<(), AllocError> {
 #[test]
 fn decisions(rt: HostRuntime) -> Result<(), AllocError> {
     check_lines(&rt, Kind::Goal(OfGoal::Decision), FEW)?;
+    check_lines(&rt, Kind::Goal(OfGoal::Decision), REPEATED)?;
     check_lines(&rt, Kind::Goal(OfGoal::Certificate), CERTIFICATES)
 }
 
