@@ -3,7 +3,7 @@ use Prim.Native.Nat.{suc, zero}
 use Rattle.std.proofs.Common.{◌≡◌, ◌≢◌, ℕ, ◌+◌, ◌≤◌, List, [], ◌∷◌, ◌++◌, Some, None, Result, Ok, Err, length, length-append, get_or, Vec, Global, IfOk, IfErr, MatchResult, refl, sym, ap, ◌∙◌, subst, arith}
 use Rattle.std.proofs.lemmas.List.{append-nil}
 use Rattle.std.specs.List.{All}
-use Rattle.farkas_check.specs.declared.trees.GoalCert.{GoalCert}
+use Rattle.goal_answers.specs.declared.trees.GoalCert.{GoalCert}
 use Rattle.cert_text.specs.declared.stops.CertStop.{CertStop}
 use Rattle.cert_text.specs.declared.stops.CertStop.TheVariants.{Fault, Memory}
 use Rattle.cert_text.specs.Certificates.{Certificate, certificates_of}

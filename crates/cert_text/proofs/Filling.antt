@@ -1,9 +1,9 @@
 -- A leaf that makes a tree whole.
 use Rattle.std.proofs.Common.{◌≡◌, List, [], ◌∷◌, ◌++◌, Some, sym, ap, ◌∙◌, subst}
 use Rattle.std.proofs.lemmas.List.{map-append}
-use Rattle.farkas_check.specs.Trees.{tree_of}
-use Rattle.farkas_check.specs.declared.trees.Tree as T
-use Rattle.farkas_check.specs.declared.trees.GoalCert.{GoalCert}
+use Rattle.goal_answers.specs.Trees.{tree_of}
+use Rattle.goal_answers.specs.declared.trees.Tree as T
+use Rattle.goal_answers.specs.declared.trees.GoalCert.{GoalCert}
 use Rattle.cert_text.specs.declared.goal_names.GoalName.{GoalName}
 use Rattle.cert_text.specs.Certificates.{Certificate, certificate_of, certificates_of}
 use Rattle.cert_text.specs.internal.Reading.{Filled, whole, between, filled_state}

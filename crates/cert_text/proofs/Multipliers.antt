@@ -3,7 +3,7 @@ use Prim.Native.Nat.{suc, zero}
 use Rattle.std.proofs.Common.{◌≡◌, ℕ, ◌+◌, ◌<◌, ◌≤◌, ◌^◌, List, [], ◌∷◌, ◌++◌, length, get_or, refl, sym, ap, ◌∙◌, subst, arith, append_assoc}
 use Rattle.std.proofs.lemmas.List.{append-nil}
 use Rattle.std.specs.List.{All}
-use Rattle.linear_form.specs.Combination.{IsGrowing}
+use Rattle.goal_answers.specs.Multipliers.{IsGrowing}
 use Rattle.cert_text.specs.Certificates.{AreMultipliers}
 use Rattle.cert_text.specs.Lines.{multiplier_text, multipliers_text}
 use Rattle.cert_text.specs.internal.Reading.{IsMultiplier, IsRising, index_after}

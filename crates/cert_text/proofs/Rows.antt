@@ -3,9 +3,9 @@ use Rattle.std.proofs.Common.{◌≡◌, ℕ, [], ◌∷◌, true, false, codes,
 use Rattle.std.specs.Fmt.{digits}
 use Rattle.heylo_formula.specs.declared.goals.GoalId.{GoalId}
 use Rattle.heylo_formula.specs.declared.goals.GoalId.TheVariants as ids
-use Rattle.farkas_check.specs.Trees.{Tree}
+use Rattle.goal_answers.specs.Trees.{Tree, depth}
 use Rattle.cert_text.specs.declared.goal_names.GoalName.{GoalName}
-use Rattle.cert_text.specs.Certificates.{Certificate, depth, precedes, stands_before}
+use Rattle.cert_text.specs.Certificates.{Certificate, precedes, stands_before}
 use Rattle.cert_text.specs.Texts.{text_of}
 
 abbrev named : ℕ → GoalId → Tree → Certificate

@@ -2,9 +2,9 @@
 use Rattle.std.proofs.Common.{◌≡◌, ◌+◌, ◌<◌, ◌≤◌, Bool, true, false, cond, IsTrue, List, [], ◌∷◌, ◌++◌, Option, Some, None, length, nat_lt, refl, sym, ap, ◌∙◌, subst, arith, append_assoc}
 use Rattle.std.proofs.lemmas.List.{append-nil}
 use Rattle.std.specs.List.{AllByRecursion}
-use Rattle.farkas_check.specs.Trees.{Tree}
+use Rattle.goal_answers.specs.Trees.{Tree, depth}
 use Rattle.cert_text.specs.declared.goal_names.GoalName.{GoalName}
-use Rattle.cert_text.specs.Certificates.{Certificate, may_follow, IsGrowingAfter, IsNumbered, HasMultipliers, depth, IsWritable, AreWritable}
+use Rattle.cert_text.specs.Certificates.{Certificate, may_follow, IsGrowingAfter, IsNumbered, HasMultipliers, IsWritable, AreWritable}
 use Rattle.cert_text.specs.Lines.{Line, title, goal, split, farkas, plain, last}
 use Rattle.cert_text.specs.internal.WholeLines.{IsLine}
 use Rattle.cert_text.specs.Texts.{tree_lines, goals_lines, certificate_lines}

@@ -2,11 +2,11 @@
 use Prim.Native.Nat.{suc, zero}
 use Rattle.std.proofs.Common.{◌≡◌, ℕ, ◌+◌, ◌<◌, List, [], ◌∷◌, ◌++◌, Box, Vec, Global, decimal, length, get_or, take, map, refl, sym, ap, ◌∙◌, subst, arith, append_assoc, add-one}
 use Rattle.std.proofs.lemmas.List.{append-nil}
-use Rattle.farkas_check.specs.Trees.{Tree, tree_of, tree_layer}
-use Rattle.farkas_check.specs.declared.trees.Tree as T
-use Rattle.farkas_check.specs.declared.trees.Tree.TheOpen.{Tree-F}
-use Rattle.farkas_check.specs.declared.trees.Tree.TheFolds.{fold-roll-Tree}
-use Rattle.farkas_check.specs.declared.trees.GoalCert.{GoalCert}
+use Rattle.goal_answers.specs.Trees.{Tree, tree_of, tree_layer}
+use Rattle.goal_answers.specs.declared.trees.Tree as T
+use Rattle.goal_answers.specs.declared.trees.Tree.TheOpen.{Tree-F}
+use Rattle.goal_answers.specs.declared.trees.Tree.TheFolds.{fold-roll-Tree}
+use Rattle.goal_answers.specs.declared.trees.GoalCert.{GoalCert}
 use Rattle.cert_text.specs.Certificates.{certificate_of, certificates_of}
 use Rattle.cert_text.specs.Lines.{Line, title, goal, last, line_text, multiplier_text, multipliers_text}
 use Rattle.cert_text.specs.Texts.{closed, tree_lines, goals_lines}

@@ -1,11 +1,11 @@
 -- Lists of certificates as plain data, and which of them have a text. This project's own.
-use Rattle.std.specs.Prelude.{ℕ, ◌+◌, ◌<◌, ◌≤◌, ◌^◌, ◌==◌, ◌&&◌, ◌||◌, Bool, true, IsTrue, List, [], ◌∷◌, Option, Some, None, length, map, max, nat_lt}
+use Rattle.std.specs.Prelude.{ℕ, ◌<◌, ◌≤◌, ◌^◌, ◌==◌, ◌&&◌, ◌||◌, Bool, true, IsTrue, List, [], ◌∷◌, Option, Some, None, length, map, nat_lt}
 use Rattle.std.specs.List.{All, AllByRecursion}
 use Rattle.heylo_formula.specs.declared.goals.GoalId.{GoalId}
 use Rattle.heylo_formula.specs.declared.goals.GoalId.TheVariants.{Main, Pre, Post, Invariant, Ranking}
-use Rattle.linear_form.specs.Combination.{IsGrowing}
-use Rattle.farkas_check.specs.Trees.{Tree, tree_of}
-use Rattle.farkas_check.specs.declared.trees.GoalCert.{GoalCert}
+use Rattle.goal_answers.specs.Multipliers.{IsGrowing}
+use Rattle.goal_answers.specs.Trees.{Tree, tree_of, depth}
+use Rattle.goal_answers.specs.declared.trees.GoalCert.{GoalCert}
 use Rattle.cert_text.specs.declared.goal_names.GoalName.{GoalName}
 
 -- A tree for a goal of a file.
@@ -73,12 +73,6 @@ abbrev pub HasMultipliers : Tree → Type 0
 HasMultipliers (Tree.split t u) = HasMultipliers t × HasMultipliers u
 HasMultipliers (Tree.farkas ms) = AreMultipliers ms
 HasMultipliers Tree.plain = Unit {0}
-
--- How many nodes stand on a longest way from the root to a leaf.
-abbrev pub depth : Tree → ℕ
-depth (Tree.split t u) = max (depth t) (depth u) + 1
-depth (Tree.farkas ms) = 1
-depth Tree.plain = 1
 
 -- The certificate has a text: a tree is at most 1,000 deep.
 pub record IsWritable (c : Certificate) : Type 0 where

@@ -1,6 +1,6 @@
 -- The text of a list of certificates, and the first line of a text that is at fault. This project's own.
 use Rattle.std.specs.Prelude.{◌≡◌, ℕ, ◌+◌, List, [], ◌∷◌, ◌++◌, length, map}
-use Rattle.farkas_check.specs.Trees.{Tree}
+use Rattle.goal_answers.specs.Trees.{Tree}
 use Rattle.cert_text.specs.Certificates.{Certificate, AreWritable}
 use Rattle.cert_text.specs.Lines.{Line, line_text, title, goal, split, farkas, plain, last}
 

@@ -12,7 +12,7 @@ use crate::lines::read_line;
 use crate::reading::{Place, Reading, next, next_plain, next_split, unread};
 use crate::stops::CertStop;
 use crate::words::cut;
-use farkas_check::GoalCert;
+use goal_answers::GoalCert;
 use std::alloc::{AllocError, Global};
 
 /// The list of certificates that has this text: its goals grow strictly, and its trees are at most 1,000 deep. Fails with the

@@ -1,14 +1,14 @@
 //! What has been read of a text of certificates.
 
 ghost use Rattle.std.specs.Prelude.{◌≡◌, IfOk};
-ghost use Rattle.farkas_check.specs.Trees.{tree_of};
+ghost use Rattle.goal_answers.specs.Trees.{tree_of};
 ghost use Rattle.cert_text.specs.Certificates.{certificates_of};
 ghost use Rattle.cert_text.specs.Lines.{farkas as farkas_line, goal as goal_line, last as last_line, plain as plain_line, split as split_line, title as title_line};
 ghost use Rattle.cert_text.specs.internal.Reading.{after, fill, filled_of, filled_state, line_of, next, open_of, start, state_of};
 
 use crate::goal_names::{GoalName, may_follow};
 use crate::lines::Line;
-use farkas_check::{GoalCert, Tree};
+use goal_answers::{GoalCert, Tree};
 use std::alloc::{AllocError, Global};
 
 /// What may come next.

@@ -1,13 +1,12 @@
 //! Writing certificates.
 
 ghost use Rattle.std.specs.Prelude.{◌≡◌, ◌++◌, ◌∷◌, [], OnOk, IfOk, map};
-ghost use Rattle.farkas_check.specs.Trees.{tree_of};
+ghost use Rattle.goal_answers.specs.Trees.{tree_of};
 ghost use Rattle.cert_text.specs.Certificates.{certificate_of, certificates_of};
-ghost use Rattle.cert_text.specs.Lines.{id_text, line_text, multiplier_text, multipliers_text};
-ghost use Rattle.cert_text.specs.Lines.{goal as goal_line};
+ghost use Rattle.cert_text.specs.Lines.{id_text, line_text, multiplier_text, multipliers_text, goal as goal_line};
 ghost use Rattle.cert_text.specs.Texts.{closed, goals_lines, text_of, tree_lines};
 
-use farkas_check::{GoalCert, Tree};
+use goal_answers::{GoalCert, Tree};
 use heylo_formula::GoalId;
 use itoa::{Buffer, Integer};
 use std::alloc::{AllocError, Global};

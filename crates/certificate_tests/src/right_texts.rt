@@ -1,7 +1,7 @@
 //! Texts that are read, and written again as they were.
 
 use cert_text::{read_cert, write_cert};
-use farkas_check::Tree;
+use goal_answers::Tree;
 use heylo_formula::GoalId;
 use std::alloc::{AllocError, Global};
 use std::test::Fail;

@@ -5,9 +5,9 @@ use Rattle.std.specs.List.{All}
 use Rattle.std.proofs.lemmas.List.Elements.{All-nil, All-cons, All-head, All-tail, All-append, All-weaker}
 use Rattle.std.proofs.lemmas.List.{take_all}
 use Rattle.heylo_formula.specs.declared.types.Ty.{Ty}
-use Rattle.linear_form.specs.Terms.{IsNormal}
-use Rattle.linear_form.specs.Row.{Row}
-use Rattle.linear_form.specs.RowLists.{is_numeric, IsNumericRow}
+use Rattle.linear_rows.specs.Terms.{IsNormal}
+use Rattle.linear_rows.specs.Row.{Row}
+use Rattle.linear_rows.specs.VariableTypes.{is_numeric, IsNumericRow}
 use Rattle.heylo_formula.specs.Typing.{types_in}
 
 pub record IsPart (least : ℕ) (ts : List (ℕ × ℤ)) : Type 0 where

@@ -13,7 +13,7 @@ use crate::texts::{cut, multipliers_of, types_of};
 use crate::tightening_tests::write_tightened;
 use crate::value_tests::{held, write_value};
 use heylo_formula::{Form, Goal};
-use linear_form::contradicts;
+use linear_rows::contradicts;
 use quant_algebra::{goal_at, holds_at};
 use std::alloc::{AllocError, Global};
 use std::process::Abort;

@@ -2,7 +2,7 @@
 
 use crate::answers::{Kind, OfRows, check_lines};
 use crate::test_rows::rows_of;
-use linear_elim::{Finding, Search};
+use linear_guess::{Finding, Search};
 use std::alloc::{AllocError, Global};
 use std::fmt::Write;
 

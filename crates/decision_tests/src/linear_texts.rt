@@ -4,7 +4,9 @@
 use crate::texts::{write_fraction, write_multipliers};
 use heylo_formula::Val;
 use linear_elim::{Broken, Cause, Elim};
-use linear_form::{Ask, Atom, Lin, Row};
+use linear_form::{Ask, Atom};
+use linear_rows::Row;
+use linear_values::Lin;
 use std::alloc::AllocError;
 use std::fmt::Write;
 

@@ -1,14 +1,14 @@
 //! Rows for tests, written as lists of terms.
 ghost use Rattle.std.specs.Prelude.{◌≡◌, ◌<◌, ◌^◌, IfOk, IsTrue, length};
 ghost use Rattle.std.specs.List.{All};
-ghost use Rattle.linear_form.specs.Row.{IsRow};
+ghost use Rattle.linear_rows.specs.Row.{IsRow};
 ghost use Rattle.heylo_formula.specs.Typing.{types_in};
-ghost use Rattle.linear_form.specs.RowLists.{is_numeric, IsNumericRow};
+ghost use Rattle.linear_rows.specs.VariableTypes.{is_numeric, IsNumericRow};
 
 use crate::texts::{coefficient, index};
 use heylo_formula::Ty;
 use linear_elim::{Elim, eliminate};
-use linear_form::Row;
+use linear_rows::Row;
 use std::alloc::{AllocError, Global};
 
 fn is_number(ty: &Ty) -> bool

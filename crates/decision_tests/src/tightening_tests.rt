@@ -1,8 +1,8 @@
 //! The rows of linear values, worked out by hand.
 
 ghost use Rattle.std.specs.Prelude.{IfOk};
-ghost use Rattle.linear_form.specs.Lin.{AreNormal};
-ghost use Rattle.linear_form.specs.PlainPaths.{lin_of};
+ghost use Rattle.linear_values.specs.Lin.{AreNormal};
+ghost use Rattle.linear_values.specs.PlainValues.{lin_of};
 
 use crate::answers::{Kind, check_texts};
 use crate::fractions::is_zero;
@@ -10,7 +10,7 @@ use crate::linear_texts::write_row;
 use crate::texts::{cut, fraction, types_of};
 use heylo_formula::Ty;
 use heyvl_num::Frac;
-use linear_form::{Lin, tightened};
+use linear_values::{Lin, tightened};
 use std::alloc::{AllocError, Global};
 
 /// A multiple of the variable 0, one of the variable 1 and a constant.

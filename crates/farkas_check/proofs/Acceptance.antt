@@ -7,7 +7,7 @@ use Rattle.linear_form.specs.Query.{Query, Atom, Taken, onto}
 use Rattle.linear_form.specs.Query.Query.{ask}
 use Rattle.linear_form.specs.Questions.{Ends}
 use Rattle.linear_form.specs.Nonlinear.{nonlinear_product}
-use Rattle.farkas_check.specs.Trees.{Tree}
+use Rattle.goal_answers.specs.Trees.{Tree}
 use Rattle.linear_form.specs.Paths.{Asks}
 use Rattle.farkas_check.specs.Accepted.{IsAccepted, IsRefused, IsCertificate, IsNoCertificate}
 

@@ -12,16 +12,17 @@ use Rattle.heyvl_num.specs.Value.Value.{finite}
 use Rattle.heylo_formula.specs.Formula.{Form, Cond}
 use Rattle.heylo_formula.specs.Goals.{Goal}
 use Rattle.heylo_formula.specs.declared.types.Ty.{Ty}
-use Rattle.linear_form.specs.Lin.{Lin, constant, plus, scaled, minus, minus_oneʳ, fits, is_sized}
-use Rattle.linear_form.specs.Terms.{coefficient}
+use Rattle.linear_values.specs.Lin.{Lin, constant, plus, scaled, minus, is_sized}
+use Rattle.linear_rows.specs.Numbers.{minus_oneʳ, fits}
+use Rattle.linear_rows.specs.Terms.{coefficient}
 use Rattle.linear_form.specs.Query.{Query, Atom, Taken}
 use Rattle.linear_form.specs.Questions.{Ends}
 use Rattle.linear_form.specs.Paths.{Asks, end_at}
-use Rattle.linear_form.specs.Combination.{IsContradiction, combined, uses_strict}
+use Rattle.linear_rows.specs.Combination.{IsContradiction, combined, uses_strict}
 use Rattle.linear_form.specs.PathRows.{rows_of, denial, IsPlainAt}
-use Rattle.linear_form.specs.Row.{Row}
-use Rattle.linear_form.specs.Tightening.{common_multiple, common_divisor, factor, tightened}
-use Rattle.farkas_check.specs.Trees.{Tree}
+use Rattle.linear_rows.specs.Row.{Row}
+use Rattle.linear_values.specs.Tightening.{common_multiple, common_divisor, factor, tightened}
+use Rattle.goal_answers.specs.Trees.{Tree}
 use Rattle.farkas_check.specs.Accepted.{IsRefuted, IsAccepted, IsRefused, has_denied}
 
 half : Value

@@ -15,10 +15,10 @@ use Rattle.linear_form.specs.PlainPaths.{atom_of, taken_of, path_of}
 use Rattle.linear_form.specs.declared.paths.Atom as A
 use Rattle.linear_form.specs.declared.paths.Taken as T
 use Rattle.linear_form.proofs.exported.PathSteps.{path_onto}
-use Rattle.farkas_check.specs.declared.trees.Tree as K
-use Rattle.farkas_check.specs.declared.trees.Tree.TheOpen.{Tree-F}
-use Rattle.farkas_check.specs.declared.trees.Tree.TheFolds.{fold-roll-Tree}
-use Rattle.farkas_check.specs.Trees.{Tree, tree_of, tree_layer}
+use Rattle.goal_answers.specs.declared.trees.Tree as K
+use Rattle.goal_answers.specs.declared.trees.Tree.TheOpen.{Tree-F}
+use Rattle.goal_answers.specs.declared.trees.Tree.TheFolds.{fold-roll-Tree}
+use Rattle.goal_answers.specs.Trees.{Tree, tree_of, tree_layer}
 use Rattle.farkas_check.specs.Accepted.{IsRefuted, IsAccepted, IsRefused, answers}
 use Rattle.farkas_check.specs.internal.Findings.{IsQuestion}
 

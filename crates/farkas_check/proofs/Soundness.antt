@@ -10,18 +10,19 @@ use Rattle.heylo_formula.specs.Choices.{Choices}
 use Rattle.heylo_formula.specs.Meaning.{value}
 use Rattle.heylo_formula.specs.declared.values.Val.{Val}
 use Rattle.linear_form.specs.Query.{Taken, onto, holds_at}
-use Rattle.linear_form.specs.Questions.{Ends, Linear, value_in, questions}
+use Rattle.linear_form.specs.Questions.{Ends, value_in, questions}
+use Rattle.linear_values.specs.Lin.{Linear}
 use Rattle.linear_form.specs.Paths.{IsPath, Path, Agrees}
 use Rattle.linear_form.specs.PathRows.{denial, below_claim, rows_of}
-use Rattle.linear_form.specs.Row.{Row}
-use Rattle.linear_form.specs.Solutions.{MeetsAt}
+use Rattle.linear_rows.specs.Row.{Row}
+use Rattle.linear_rows.specs.Solutions.{MeetsAt}
 use Rattle.heylo_formula.specs.TypedGoals.{IsTypedGoal}
 use Rattle.linear_form.proofs.exported.MetRows.{rows_are_met, denied_rows_are_met}
 use Rattle.linear_form.proofs.exported.AgreedEnds.{ends_are_values}
 use Rattle.farkas_check.specs.CertificateLaws.{CertifiedGoalsHold}
-use Rattle.linear_form.proofs.exported.Combinations.{contradiction_unsolvable}
+use Rattle.linear_rows.proofs.exported.Combinations.{contradiction_unsolvable}
 use Rattle.linear_form.proofs.exported.PathSteps.{path_onto, agrees_onto}
-use Rattle.farkas_check.specs.Trees.{Tree}
+use Rattle.goal_answers.specs.Trees.{Tree}
 use Rattle.farkas_check.specs.Accepted.{has_denied, IsAccepted}
 
 at_most_infinite : (v : Value) → v ≤ᵛ infinite

@@ -5,11 +5,11 @@ use Rattle.heyvl_syntax.specs.declared.spans.Span.{Span}
 use Rattle.heylo_formula.specs.Goals.{Goal}
 use Rattle.linear_form.specs.Query.{Atom, Taken, onto}
 use Rattle.linear_form.specs.Paths.{Asks, end_at}
-use Rattle.linear_form.specs.Row.{Row}
-use Rattle.linear_form.specs.Combination.{IsContradiction}
+use Rattle.linear_rows.specs.Row.{Row}
+use Rattle.linear_rows.specs.Combination.{IsContradiction}
 use Rattle.linear_form.specs.PathRows.{rows_of, denial_at, IsPlainAt}
 use Rattle.linear_form.specs.Nonlinear.{nonlinear_product}
-use Rattle.farkas_check.specs.Trees.{Tree}
+use Rattle.goal_answers.specs.Trees.{Tree}
 
 -- The denied goal is among the rows at an end at which the goal doesn't hold plainly, and nowhere else.
 abbrev pub has_denied : Goal → List Taken → Bool

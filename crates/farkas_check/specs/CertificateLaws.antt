@@ -2,7 +2,7 @@
 use Rattle.std.specs.Prelude.{◌≡◌, List, Bool}
 use Rattle.heylo_formula.specs.Goals.{Goal, Holds}
 use Rattle.heylo_formula.specs.TypedGoals.{IsTypedGoal}
-use Rattle.farkas_check.specs.Trees.{Tree}
+use Rattle.goal_answers.specs.Trees.{Tree}
 use Rattle.farkas_check.specs.Accepted.{IsCertificate, IsNoCertificate}
 
 -- No tree is both accepted and refused.

@@ -1,4 +1,3 @@
-pub mod Trees
 pub mod Accepted
 pub mod CertificateLaws
 pub mod Verdicts

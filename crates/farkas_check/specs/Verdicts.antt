@@ -1,6 +1,6 @@
 -- What the check answers.
 use Rattle.std.specs.Prelude.{◌≡◌, List, Bool}
-use Rattle.farkas_check.specs.declared.trees.Checked as C
+use Rattle.goal_answers.specs.declared.trees.Checked as C
 
 -- The answer is no, with these answers on the way to the refused node.
 abbrev pub IsNoAt : C.Checked → List Bool → Type 0

@@ -7,14 +7,15 @@ ghost use Rattle.linear_form.specs.Paths.{IsPath};
 ghost use Rattle.linear_form.specs.PlainPaths.{path_of};
 ghost use Rattle.linear_form.specs.PathRows.{IsPlainAt};
 ghost use Rattle.linear_form.specs.declared.paths.Taken.{Taken as TakenValue};
-ghost use Rattle.farkas_check.specs.Trees.{tree_of};
+ghost use Rattle.goal_answers.specs.Trees.{tree_of};
 ghost use Rattle.farkas_check.specs.Accepted.{has_denied, IsRefuted, IsCertificate, IsNoCertificate};
 ghost use Rattle.farkas_check.specs.Verdicts.{IsNoAt};
 ghost use Rattle.farkas_check.specs.internal.Findings.{IsQuestion, IsFinding};
 
-use crate::trees::{Checked, Tree};
+use goal_answers::{Checked, Tree};
 use heylo_formula::Goal;
-use linear_form::{Ask, Atom, RowList, Taken, ask, contradicts, holds_plainly, nonlinear, rows};
+use linear_form::{Ask, Atom, RowList, Taken, ask, holds_plainly, nonlinear, rows};
+use linear_rows::contradicts;
 use std::alloc::{AllocError, Global};
 
 /// What is found of a tree at the end of a path: it is accepted, with the path given back, or refused at a place.

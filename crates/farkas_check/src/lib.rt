@@ -3,8 +3,7 @@
 
 mod checking;
 mod laws;
-mod trees;
 
 pub use checking::check;
+pub use goal_answers::{Checked, GoalCert, Tree};
 pub use laws::{certificates_are_told_apart, certified_goals_hold};
-pub use trees::{Checked, GoalCert, Tree};

@@ -1,7 +1,7 @@
 -- Worked replies of `certify` and `check`, on a file with one procedure that has no body, and on an empty text.
 use Rattle.cert_text.specs.Certificates.{Certificate, certificates_of}
 use Rattle.cert_text.specs.Texts.{AreFirstLines, IsFirstFault, Spells, text_of}
-use Rattle.farkas_check.specs.declared.trees.GoalCert.{GoalCert}
+use Rattle.goal_answers.specs.declared.trees.GoalCert.{GoalCert}
 use Rattle.heyvl_num.specs.Value.{zeroᵛ}
 use Rattle.heylo_formula.specs.Formula.{Form}
 use Rattle.heylo_formula.specs.declared.goals.GoalId.TheVariants.{Main}

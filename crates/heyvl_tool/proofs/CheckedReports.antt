@@ -1,5 +1,5 @@
 -- What a report asks of the answers that certificates give.
-use Rattle.farkas_check.specs.declared.trees.GoalCert.{GoalCert}
+use Rattle.goal_answers.specs.declared.trees.GoalCert.{GoalCert}
 use Rattle.heyvl_tool.proofs.Complete.{one_checked_for_each}
 use Rattle.heyvl_types.specs.PlainActs.{procedure_of, procedures_of}
 use Rattle.heyvl_types.specs.Rules.{Each, MeetsAllRules}

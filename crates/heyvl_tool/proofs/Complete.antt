@@ -1,7 +1,7 @@
 -- Why each command answers whatever it can.
 use Rattle.cert_text.specs.Certificates.{certificates_of}
 use Rattle.cert_text.specs.Texts.{Spells}
-use Rattle.farkas_check.specs.declared.trees.GoalCert.{GoalCert}
+use Rattle.goal_answers.specs.declared.trees.GoalCert.{GoalCert}
 use Rattle.heyvl_syntax.specs.SourceFaults.{SourcesHaveNoFault}
 use Rattle.heyvl_tool.proofs.CallLemmas.CameTo.{failed, said, too_long}
 use Rattle.heyvl_tool.proofs.CallLemmas.{CameTo, came_to}

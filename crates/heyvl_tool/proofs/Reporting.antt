@@ -1,5 +1,5 @@
 -- What a report and the answers ask of a typed file.
-use Rattle.farkas_check.specs.declared.trees.GoalCert.{GoalCert}
+use Rattle.goal_answers.specs.declared.trees.GoalCert.{GoalCert}
 use Rattle.heyvl_syntax.specs.Procedures.{Procedure}
 use Rattle.heyvl_syntax.specs.SourceFaults.{IsSource}
 use Rattle.heyvl_tool.proofs.Complete.{one_for_each}
@@ -14,7 +14,7 @@ use Rattle.std.proofs.lemmas.List.{length-map}
 use Rattle.std.specs.Prelude.{◌^◌}
 use Rattle.verdict_report.specs.Placed.{CanReport, IsAnswerPlaced}
 use Rattle.verdict_report.specs.declared.answers.Answer.{Answer}
-use Rattle.verdict_report.specs.declared.answers.NamedGoal.{NamedGoal}
+use Rattle.goal_answers.specs.declared.named_goals.NamedGoal.{NamedGoal}
 use Rattle.verify_core.specs.Answered.{IsAnswered}
 
 -- The answers of a file can be reported.

@@ -1,14 +1,14 @@
 -- Worked answers: the status of each verdict, alone and beside others.
 use Rattle.heylo_formula.specs.declared.goals.GoalId.TheVariants.{Main, Post}
 use Rattle.heyvl_tool.specs.Statuses.{answers_status, is_rank_open, is_rank_refuted}
-use Rattle.linear_elim.specs.declared.answers.Cause.TheVariants.{Bits}
+use Rattle.goal_answers.specs.declared.causes.Cause.TheVariants.{Bits}
 use Rattle.proc_contracts.specs.declared.reasons.WhyNot.TheVariants as why
 use Rattle.std.proofs.Common.{[], false, refl, true, ◌∷◌, ◌≡◌}
 use Rattle.std.specs.Prelude.{Vec}
 use Rattle.std.specs.declared.alloc.Global.{Global}
 use Rattle.verdict_report.specs.declared.answers.Answer.{Answer}
 use Rattle.verdict_report.specs.declared.answers.LoopAnswer.{LoopAnswer}
-use Rattle.verdict_report.specs.declared.answers.Miss.TheVariants.{Absent}
+use Rattle.goal_answers.specs.declared.misses.Miss.TheVariants.{Absent}
 use Rattle.verdict_report.specs.declared.answers.RankVerdict.TheVariants as rank
 use Rattle.verdict_report.specs.declared.answers.Verdict.TheVariants as verdict
 use Rattle.verdict_report.specs.declared.answers.Verdict.{Verdict}

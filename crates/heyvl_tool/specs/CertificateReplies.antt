@@ -1,13 +1,13 @@
 -- What `certify` says of a file without a fault, and what `check` says of it and of a text of certificates.
 use Rattle.cert_text.specs.Certificates.{certificates_of}
 use Rattle.cert_text.specs.Texts.{IsFirstFault, Spells, text_of}
-use Rattle.farkas_check.specs.declared.trees.GoalCert.{GoalCert}
+use Rattle.goal_answers.specs.declared.trees.GoalCert.{GoalCert}
 use Rattle.heyvl_tool.specs.Messages.{Reply, message}
 use Rattle.heyvl_tool.specs.declared.outcomes.Fault.TheVariants as faults
 use Rattle.heyvl_types.specs.Acts.{TypedProcedure}
 use Rattle.std.specs.Prelude.{List, [], codes, decimal, ◌++◌, ◌≡◌, ℕ}
 use Rattle.verdict_report.specs.Reports.{report_text}
-use Rattle.verdict_report.specs.declared.answers.NamedGoal.{NamedGoal}
+use Rattle.goal_answers.specs.declared.named_goals.NamedGoal.{NamedGoal}
 use Rattle.verify_core.specs.Answered.{IsAnswered as AreAnswered}
 use Rattle.verify_core.specs.CheckedAnswers.{IsCheckedFile}
 use Rattle.verify_core.specs.Headline.{IsHeadline}

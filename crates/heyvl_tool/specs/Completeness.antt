@@ -21,7 +21,7 @@ use Rattle.run_machine.specs.ConfigConditions.{ReachesPrograms}
 use Rattle.std.specs.Prelude.{List, None, Some, length, ◌≡◌, ◌≢◌, ◌≤◌, ◌⊎◌, ℕ}
 use Rattle.cert_text.specs.Certificates.{certificates_of}
 use Rattle.cert_text.specs.Texts.{Spells}
-use Rattle.farkas_check.specs.declared.trees.GoalCert.{GoalCert}
+use Rattle.goal_answers.specs.declared.trees.GoalCert.{GoalCert}
 
 -- Neither the source nor the sink failed, no more bytes were taken than a file may have, and there was memory.
 pub record WentWell (made : Call) (done : Writing) (outcome : Outcome) : Type 0 where

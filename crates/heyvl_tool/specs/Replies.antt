@@ -1,6 +1,6 @@
 -- What a call of the tool answers, and what it writes.
 use Rattle.std.specs.Prelude.{◌≡◌, ◌⊎◌, ℕ, ◌<◌, List, [], length, take, codes, None, Option, Some}
-use Rattle.farkas_check.specs.declared.trees.GoalCert.{GoalCert}
+use Rattle.goal_answers.specs.declared.trees.GoalCert.{GoalCert}
 use Rattle.heyvl_io.specs.Bytes.{with_appended}
 use Rattle.heyvl_io.specs.Faults.{Rose}
 use Rattle.heyvl_print.specs.Canonical.{canonical_text}
@@ -22,7 +22,7 @@ use Rattle.heyvl_types.specs.Acts.{TypedProcedure}
 use Rattle.heyvl_types.specs.Files.{first_fault, resolved}
 use Rattle.verdict_report.specs.Reports.{report_text}
 use Rattle.verdict_report.specs.declared.answers.Answer.{Answer}
-use Rattle.verdict_report.specs.declared.answers.NamedGoal.{NamedGoal}
+use Rattle.goal_answers.specs.declared.named_goals.NamedGoal.{NamedGoal}
 use Rattle.verify_core.specs.Answered.{IsAnswered as AreAnswered}
 use Rattle.verify_core.specs.Headline.{IsHeadline}
 

@@ -14,7 +14,7 @@ ghost use Rattle.verify_core.specs.PostBinders.{HasNamedBinders};
 use crate::Fault;
 use crate::responses::{Response, Text, message};
 use cert_text::{CertStop, read_cert, write_cert};
-use farkas_check::GoalCert;
+use goal_answers::GoalCert;
 use heyvl_types::Typed;
 use itoa::Buffer;
 use std::alloc::{AllocError, Global};

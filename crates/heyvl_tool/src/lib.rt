@@ -29,6 +29,7 @@ pub use fault_laws::{static_faults_are_told, told_faults_are_there};
 pub use file_laws::{
     files_have_few_acts, files_have_named_binders, files_have_small_forms, files_stand_within,
 };
+pub use goal_answers::{Miss, NamedGoal};
 pub use heylo_formula::{GoalId, Val};
 pub use outcomes::{Fault, Outcome};
 pub use print_laws::{printed_text_prints_itself, spelling_is_unique};
@@ -37,5 +38,5 @@ pub use responses::{Response, Text, respond};
 pub use run_stops::RunStop;
 pub use start_laws::starts_are_counted;
 pub use tool::{FILE_LIMIT, run_tool};
-pub use verdict_report::{Answer, LoopAnswer, Miss, NamedGoal, RankVerdict, Verdict};
+pub use verdict_report::{Answer, LoopAnswer, RankVerdict, Verdict};
 pub use words::Word;

@@ -3,12 +3,12 @@ use Rattle.std.proofs.Common.{◌≡◌, ◌∙◌, ℕ, ◌<◌, ◌^◌, List,
 use Rattle.std.specs.List.{All}
 use Rattle.heylo_formula.specs.State.{environment, number_of}
 use Rattle.heylo_formula.specs.declared.types.Ty.{Ty}
-use Rattle.linear_form.specs.Row.{Row, IsRow}
-use Rattle.linear_form.specs.RowLists.{IsNumericRow}
-use Rattle.linear_form.specs.Combination.{IsContradiction}
-use Rattle.linear_form.specs.VariableOrder.{order_of}
-use Rattle.linear_form.proofs.exported.Fractions.{solvable_is}
-use Rattle.linear_form.proofs.exported.Combinations.{contradiction_unmet}
+use Rattle.linear_rows.specs.Row.{Row, IsRow}
+use Rattle.linear_rows.specs.VariableTypes.{IsNumericRow}
+use Rattle.linear_rows.specs.Combination.{IsContradiction}
+use Rattle.linear_rows.specs.VariableOrder.{order_of}
+use Rattle.linear_rows.proofs.exported.Fractions.{solvable_is}
+use Rattle.linear_rows.proofs.exported.Combinations.{contradiction_unmet}
 use Rattle.linear_elim.specs.Joins.{Derived}
 use Rattle.linear_elim.specs.Elimination as plain
 use Rattle.linear_elim.specs.Elimination.{Step, multipliers}

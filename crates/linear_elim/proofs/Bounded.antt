@@ -11,9 +11,9 @@ use Rattle.heyvl_num.specs.Rounding.{whole}
 use Rattle.heyvl_num.specs.Exact.{is_small, quotient, quotient_fits, exact_quotient, order_fits, exact_order}
 use Rattle.heyvl_num.proofs.exported.Rationals.{≤ʳ_trans}
 use Rattle.heyvl_num.proofs.exported.Signs.{<ʳ-≤ʳ, <ʳ-not, compareʳ-is}
-use Rattle.linear_form.specs.Lin.{fits}
-use Rattle.linear_form.specs.GreedyPoint.{End, IsUpFrom, IsUpTo}
-use Rattle.linear_form.proofs.exported.Narrow.{small, num_less, den_less}
+use Rattle.linear_rows.specs.Numbers.{fits}
+use Rattle.linear_rows.specs.GreedyPoint.{End, IsUpFrom, IsUpTo}
+use Rattle.linear_rows.proofs.exported.Narrow.{small, num_less, den_less}
 use Rattle.linear_elim.proofs.EndPlaces.{less_from}
 
 pub the_whole : (n : ℤ) → unsigned_abs n < 2 ^ 127 → exact_quotient n (pos 1) ≡ Some (whole n)

@@ -9,19 +9,20 @@ use Prim.Native.Nat.{zero, suc}
 use Rattle.std.specs.List.{All}
 use Rattle.std.proofs.lemmas.List.Elements.{All-nil, All-cons, All-head, All-tail}
 use Rattle.heyvl_num.specs.Value.{is_zero_num}
-use Rattle.linear_form.specs.Terms.{sum_at, coefficient, IsNormal}
-use Rattle.linear_form.specs.Row.{Row}
-use Rattle.linear_form.specs.Combination.{row_at, combined, uses_strict, IsGrowing, IsWideThroughout, IsContradiction}
-use Rattle.linear_form.proofs.exported.Sums.{sum_at-nil, sum_at-cons}
-use Rattle.linear_form.specs.Points.{IsMetSomewhere}
-use Rattle.linear_form.proofs.exported.Combinations.{unmet}
-use Rattle.linear_form.proofs.exported.Moves.{only, coefficient-is}
+use Rattle.linear_rows.specs.Terms.{sum_at, coefficient, IsNormal}
+use Rattle.linear_rows.specs.Row.{Row}
+use Rattle.linear_rows.specs.Combination.{row_at, combined, uses_strict, IsWideThroughout, IsContradiction}
+use Rattle.goal_answers.specs.Multipliers.{IsGrowing}
+use Rattle.linear_rows.proofs.exported.Sums.{sum_at-nil, sum_at-cons}
+use Rattle.linear_rows.specs.Points.{IsMetSomewhere}
+use Rattle.linear_rows.proofs.exported.Combinations.{unmet}
+use Rattle.linear_rows.proofs.exported.Moves.{only, coefficient-is}
 use Rattle.linear_elim.specs.Joins.{Derived, is_above_zero}
 use Rattle.linear_elim.specs.internal.DerivedRows.{any_at, Follows}
 use Rattle.linear_elim.specs.Steps.{has_terms, is_contradiction}
 use Rattle.linear_elim.specs.Elimination.{multipliers}
 use Rattle.linear_elim.proofs.Shares.{ArePositive}
-use Rattle.linear_elim.proofs.Tidying.{and_true}
+use Rattle.linear_rows.proofs.exported.SameTerms.{and_true}
 
 abbrev pub plain_shares : List (ℕ × ℤ) → List (ℕ × ℕ)
 plain_shares ms = map (λ (s : ℕ × ℤ). (s.0, unsigned_abs s.1)) ms

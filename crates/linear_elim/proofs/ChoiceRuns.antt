@@ -9,11 +9,11 @@ use Rattle.heylo_formula.specs.declared.types.Ty.{Ty}
 use Rattle.heylo_formula.specs.declared.values.Val.{Val}
 use Rattle.heylo_formula.specs.declared.values.Val.TheVariants.{Truth, Num}
 use Rattle.heyvl_num.specs.Rational.{Rational, ◌≤ʳ◌}
-use Rattle.linear_form.specs.Row.{Row}
-use Rattle.linear_form.specs.RowLists.{is_numeric}
-use Rattle.linear_form.specs.GreedyPoint.{End, Interval, IsInside, ChoosesFrom, chosen_value, value_for, IsStateOf}
+use Rattle.linear_rows.specs.Row.{Row}
+use Rattle.linear_rows.specs.VariableTypes.{is_numeric}
+use Rattle.linear_rows.specs.GreedyPoint.{End, Interval, IsInside, ChoosesFrom, chosen_value, value_for, IsStateOf}
 use Rattle.heylo_formula.specs.Typing.{types_in}
-use Rattle.linear_form.specs.GreedyPoint.Greedy.{broke}
+use Rattle.linear_rows.specs.GreedyPoint.Greedy.{broke}
 use Rattle.linear_elim.specs.Joins.{Derived}
 use Rattle.linear_elim.specs.Elimination.{Step}
 use Rattle.linear_elim.specs.ChoiceNumbers.{end_of, end_fits}
@@ -22,7 +22,7 @@ use Rattle.linear_elim.specs.internal.Picks.{between, IsPicked, IsNextPick, IsDe
 use Rattle.linear_elim.specs.internal.Picks.IsNextPick.{great_end, between_ends}
 use Rattle.linear_elim.specs.Answers.{IsTooGreat, IsBreak}
 use Rattle.linear_elim.specs.internal.Eliminations.{IsEliminated}
-use Rattle.linear_elim.specs.declared.answers.Broken.{Broken}
+use Rattle.goal_answers.specs.declared.causes.Broken.{Broken}
 use Rattle.linear_elim.specs.declared.ends.Side.TheVariants.{Low, High}
 use Rattle.linear_elim.specs.declared.picking.Pick.{Pick}
 use Rattle.linear_elim.specs.declared.picking.Pick.TheVariants.{Value, Breaks, Great}

@@ -9,9 +9,10 @@ use Rattle.std.proofs.lemmas.Bool.{and_from}
 use Rattle.std.proofs.lemmas.List.{get_or_read, get_or_default, get_or_at, get_or_append_left, map_more, drop_more, drop_all}
 use Rattle.std.proofs.lemmas.List.Elements.{All-nil, All-cons, All-head, All-tail, All-append, All-weaker, All-filter, filter_passes}
 use Prim.Native.Nat.{suc}
-use Rattle.linear_form.specs.Terms.{coefficient}
+use Rattle.linear_rows.specs.Terms.{coefficient}
 use Rattle.linear_elim.specs.Joins.{Derived, is_below_zero, is_above_zero}
-use Rattle.linear_elim.specs.Steps.{same_number, same_terms, is_stronger, put_row, has_terms, joins, pairs, lowers, uppers}
+use Rattle.linear_rows.specs.SameTerms.{same_number, same_terms}
+use Rattle.linear_elim.specs.Steps.{is_stronger, put_row, has_terms, joins, pairs, lowers, uppers}
 use Rattle.linear_elim.specs.Elimination.{Step}
 use Rattle.linear_elim.specs.declared.tables.Name.{Name}
 use Rattle.linear_elim.specs.declared.tables.Table.{Table}
@@ -19,7 +20,7 @@ use Rattle.linear_elim.specs.internal.Counting.{put_terms, puts, all_terms, term
 use Rattle.linear_elim.specs.internal.DerivedRows.{IsDerived}
 use Rattle.linear_elim.specs.internal.Fingerprints.{hashed_all, fingerprint}
 use Rattle.linear_elim.specs.internal.Gathering.{found_after, rows_after, rows_all}
-use Rattle.linear_elim.proofs.Tidying.{same_terms-is}
+use Rattle.linear_rows.proofs.exported.SameTerms.{same_terms-is}
 
 same_var : (n : ℕ) → eqb n n ≡ true
 same_var n = grind arith

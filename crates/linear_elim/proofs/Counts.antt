@@ -6,9 +6,10 @@ use Rattle.std.proofs.lemmas.Nat.{mul-le}
 use Rattle.std.proofs.lemmas.List.{length-map}
 use Prim.Native.Nat.{suc}
 use Rattle.std.specs.List.{filter}
-use Rattle.linear_form.specs.Row.{Row}
+use Rattle.linear_rows.specs.Row.{Row}
 use Rattle.linear_elim.specs.Joins.{Derived, join}
-use Rattle.linear_elim.specs.Steps.{lowers, uppers, kept, joins, pairs, eliminate_one, same_terms, is_stronger, put_row, strongest, has_terms, tidied, contradiction, step_fits}
+use Rattle.linear_elim.specs.Steps.{lowers, uppers, kept, joins, pairs, eliminate_one, is_stronger, put_row, strongest, has_terms, tidied, contradiction, step_fits}
+use Rattle.linear_rows.specs.SameTerms.{same_terms}
 use Rattle.linear_elim.specs.Elimination.{Step, Outcome, step_of, gathered, after_step, ended_by, unless_many, run, start, elimination}
 use Rattle.linear_elim.specs.Elimination.Outcome.{refuted, standing, too_many, too_great}
 

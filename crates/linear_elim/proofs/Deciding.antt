@@ -6,12 +6,12 @@ use Prim.Native.Nat.{zero, suc}
 use Rattle.std.specs.List.{All}
 use Rattle.std.proofs.lemmas.List.Elements.{All-nil, All-cons, All-head, All-tail, All-append, All-filter, filter_passes}
 use Rattle.heyvl_num.proofs.exported.Integers.{ring}
-use Rattle.linear_form.specs.Terms.{sum_at, is_in, IsNormal, IsOver}
-use Rattle.linear_form.specs.Row.{Row}
-use Rattle.linear_form.specs.Points.{Point, Meets, IsMetSomewhere, AgreesBut}
-use Rattle.linear_form.specs.Combination.{row_at}
-use Rattle.linear_form.proofs.exported.Sums.{sum_at-cons, sum_at-nil}
-use Rattle.linear_form.proofs.exported.Between.{All-both}
+use Rattle.linear_rows.specs.Terms.{sum_at, is_in, IsNormal, IsOver}
+use Rattle.linear_rows.specs.Row.{Row}
+use Rattle.linear_rows.specs.Points.{Point, Meets, IsMetSomewhere, AgreesBut}
+use Rattle.linear_rows.specs.Combination.{row_at}
+use Rattle.linear_rows.proofs.exported.Sums.{sum_at-cons, sum_at-nil}
+use Rattle.linear_rows.proofs.exported.Between.{All-both}
 use Rattle.linear_elim.specs.Joins.{Derived, is_above_zero, join}
 use Rattle.linear_elim.specs.internal.DerivedRows.{any_at, Follows}
 use Rattle.linear_elim.specs.Steps.{lowers, uppers, kept, pairs, eliminate_one, has_terms, tidied, is_contradiction, contradiction, step_fits}

@@ -11,10 +11,10 @@ use Rattle.heyvl_num.specs.Exact.{exact_quotient, exact_sum, exact_product, quot
 use Rattle.heyvl_num.proofs.exported.Rationals.{ratio_same, ratio-+, ratio-*, ratio-neg, zero-+ʳ, zero-*ʳ, one-*ʳ, +ʳ_assoc, +ʳ_comm, +ʳ-*ʳ, *ʳ_assoc, *ʳ_comm}
 use Rattle.heyvl_num.proofs.exported.Signs.{negʳ-*ʳ, -ʳ-is, minus_at_most, at_most_minus, difference_nonnegative, times_whole, <ʳ-not}
 use Rattle.heyvl_num.proofs.exported.Exactness.{exact_sum_some, exact_product_some, exact_quotient_some}
-use Rattle.linear_form.specs.Terms.{coefficient}
-use Rattle.linear_form.specs.Row.{Row}
-use Rattle.linear_form.specs.Solutions.{sum_of, IsBelowZero, MeetsAt}
-use Rattle.linear_form.specs.GreedyPoint.{IsUpFrom, IsUpTo, chosen_value}
+use Rattle.linear_rows.specs.Terms.{coefficient}
+use Rattle.linear_rows.specs.Row.{Row}
+use Rattle.linear_rows.specs.Solutions.{sum_of, IsBelowZero, MeetsAt}
+use Rattle.linear_rows.specs.GreedyPoint.{IsUpFrom, IsUpTo, chosen_value}
 use Rattle.linear_elim.specs.Joins.{is_below_zero, is_above_zero}
 use Rattle.linear_elim.specs.ChoiceNumbers.{added, sum_without, divided_by, end_of}
 

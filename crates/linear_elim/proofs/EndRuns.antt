@@ -10,10 +10,10 @@ use Rattle.std.proofs.lemmas.List.Elements.{All-nil, All-cons, All-head, All-app
 use Rattle.heyvl_num.specs.Rational.{Rational, zeroʳ, compareʳ, ◌<ʳ◌}
 use Rattle.heyvl_num.specs.Rounding.{whole}
 use Rattle.heyvl_num.specs.Exact.{exact_sum, exact_product, exact_quotient}
-use Rattle.linear_form.specs.Lin.{fits}
-use Rattle.linear_form.specs.Row.{Row}
-use Rattle.linear_form.specs.Terms.{coefficient}
-use Rattle.linear_form.specs.GreedyPoint.{End, chosen_value}
+use Rattle.linear_rows.specs.Numbers.{fits}
+use Rattle.linear_rows.specs.Row.{Row}
+use Rattle.linear_rows.specs.Terms.{coefficient}
+use Rattle.linear_rows.specs.GreedyPoint.{End, chosen_value}
 use Rattle.linear_elim.specs.Joins.{Derived}
 use Rattle.linear_elim.specs.ChoiceNumbers.{added, sum_without, divided_by, end_of}
 use Rattle.linear_elim.specs.internal.ChoiceSteps.{IsWithin, bounded, narrow_end, IsTightest}

@@ -9,10 +9,10 @@ use Rattle.std.specs.HashMap.{HashMap, get, Updates}
 use Rattle.std.proofs.lemmas.Bool.{eqb-true, eqb-false}
 use Prim.Native.Nat.{zero, suc}
 use Rattle.linear_elim.specs.Joins.{Derived}
-use Rattle.linear_elim.specs.Steps.{same_terms}
+use Rattle.linear_rows.specs.SameTerms.{same_terms}
 use Rattle.linear_elim.specs.internal.Places.{IsPlace}
 use Rattle.linear_elim.specs.internal.Fingerprints.{hashed, hashed_all, fingerprint, first_with, ArePlaces}
-use Rattle.linear_elim.proofs.Tidying.{same_terms-is}
+use Rattle.linear_rows.proofs.exported.SameTerms.{same_terms-is}
 use Rattle.linear_elim.proofs.Places.{strictly}
 use Rattle.linear_elim.proofs.Joining.{rest_end}
 

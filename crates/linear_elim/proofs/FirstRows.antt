@@ -5,10 +5,10 @@ use borrow.Author.Differences.{ints}
 use Prim.Native.Nat.{suc}
 use Rattle.std.specs.List.{All}
 use Rattle.std.proofs.lemmas.List.Elements.{All-nil, All-cons, All-head, All-tail}
-use Rattle.linear_form.specs.Terms.{IsNormal, IsOver}
-use Rattle.linear_form.specs.Row.{Row, IsRow}
-use Rattle.linear_form.proofs.exported.Between.{All-both}
-use Rattle.linear_form.proofs.exported.Fractions.{solvable_is}
+use Rattle.linear_rows.specs.Terms.{IsNormal, IsOver}
+use Rattle.linear_rows.specs.Row.{Row, IsRow}
+use Rattle.linear_rows.proofs.exported.Between.{All-both}
+use Rattle.linear_rows.proofs.exported.Fractions.{solvable_is}
 use Rattle.linear_elim.specs.Joins.{Derived}
 use Rattle.linear_elim.specs.internal.DerivedRows.{IsDerived}
 use Rattle.linear_elim.specs.Steps.{tidied, contradiction}

@@ -12,19 +12,19 @@ use Rattle.heylo_formula.specs.declared.types.Ty.{Ty}
 use Rattle.heylo_formula.specs.declared.values.Val.{Val}
 use Rattle.heyvl_num.specs.Rational.{Rational, ◌≤ʳ◌}
 use Rattle.heyvl_num.proofs.exported.Rationals.{≤ʳ_trans}
-use Rattle.linear_form.specs.Terms.{is_in, IsNormal, IsOver}
+use Rattle.linear_rows.specs.Terms.{is_in, IsNormal, IsOver}
 use Rattle.heylo_formula.specs.declared.values.Val.TheVariants.{Truth}
-use Rattle.linear_form.specs.Lin.{fits}
-use Rattle.linear_form.specs.Row.{Row, IsRow}
-use Rattle.linear_form.specs.RowLists.{is_numeric, IsNumericRow}
-use Rattle.linear_form.specs.Solutions.{MeetsAt, IsSolvable}
-use Rattle.linear_form.specs.VariableOrder.{occurs_in_row, occurrences, put_variable, order_of}
-use Rattle.linear_form.specs.GreedyPoint.{End, Interval, IsInside, IsIntervalOf, IsCompleted, IsChoice, IsBroken, Chooses, ChoosesFrom, chosen_value, value_for, IsStateOf, IsGreedyPoint}
+use Rattle.linear_rows.specs.Numbers.{fits}
+use Rattle.linear_rows.specs.Row.{Row, IsRow}
+use Rattle.linear_rows.specs.VariableTypes.{is_numeric, IsNumericRow}
+use Rattle.linear_rows.specs.Solutions.{MeetsAt, IsSolvable}
+use Rattle.linear_rows.specs.VariableOrder.{occurs_in_row, occurrences, put_variable, order_of}
+use Rattle.linear_rows.specs.GreedyPoint.{End, Interval, IsInside, IsIntervalOf, IsCompleted, IsChoice, IsBroken, Chooses, ChoosesFrom, chosen_value, value_for, IsStateOf, IsGreedyPoint}
 use Rattle.heylo_formula.specs.Typing.{types_in}
-use Rattle.linear_form.specs.GreedyPoint.Greedy.{chose, broke}
-use Rattle.linear_form.specs.GreedyPoint.Chooses.{ends, takes, breaks}
-use Rattle.linear_form.proofs.exported.Fractions.{solvable_is}
-use Rattle.linear_form.proofs.exported.Between.{All-both}
+use Rattle.linear_rows.specs.GreedyPoint.Greedy.{chose, broke}
+use Rattle.linear_rows.specs.GreedyPoint.Chooses.{ends, takes, breaks}
+use Rattle.linear_rows.proofs.exported.Fractions.{solvable_is}
+use Rattle.linear_rows.proofs.exported.Between.{All-both}
 use Rattle.linear_elim.specs.Elimination.{Step, start}
 use Rattle.linear_elim.specs.ChoiceNumbers.IsNextTooGreat.{in_an_end, in_a_value}
 use Rattle.linear_elim.specs.internal.ChoiceSteps.{IsTightest}

@@ -7,12 +7,12 @@ use Rattle.std.proofs.lemmas.Bool.{eqb-true}
 use Rattle.std.proofs.lemmas.List.Elements.{All-nil, All-cons, All-head, All-tail, All-weaker, All-append, All-filter, filter_passes}
 use Rattle.heyvl_num.specs.Rational.{Rational, ◌+ʳ◌, ◌*ʳ◌}
 use Rattle.heyvl_num.specs.Rounding.{whole}
-use Rattle.linear_form.specs.Lin.{fits}
-use Rattle.linear_form.specs.Terms.{is_in, coefficient}
-use Rattle.linear_form.specs.Row.{Row}
-use Rattle.linear_form.specs.Solutions.{sum_of, IsBelowZero, MeetsAt}
-use Rattle.linear_form.specs.GreedyPoint.{End, Interval, IsInside, IsIntervalOf, IsCompleted, chosen_value}
-use Rattle.linear_form.proofs.exported.Between.{All-both}
+use Rattle.linear_rows.specs.Numbers.{fits}
+use Rattle.linear_rows.specs.Terms.{is_in, coefficient}
+use Rattle.linear_rows.specs.Row.{Row}
+use Rattle.linear_rows.specs.Solutions.{sum_of, IsBelowZero, MeetsAt}
+use Rattle.linear_rows.specs.GreedyPoint.{End, Interval, IsInside, IsIntervalOf, IsCompleted, chosen_value}
+use Rattle.linear_rows.proofs.exported.Between.{All-both}
 use Rattle.linear_elim.specs.Joins.{Derived, is_below_zero, is_above_zero}
 use Rattle.linear_elim.specs.Steps.{lowers, uppers, kept, pairs, tidied}
 use Rattle.linear_elim.specs.Elimination.{Step}

@@ -1,17 +1,16 @@
 -- The fingerprint and the divisor of a sum, made of its terms one after the other.
 use Rattle.std.proofs.Common.{◌≡◌, ℕ, ◌≤◌, List, [], ◌∷◌, ◌++◌, length, drop, refl, sym, ap, ap₂, ◌∙◌}
-use Rattle.std.specs.Prelude.{ℤ, pos, negsuc}
+use Rattle.std.specs.Prelude.{ℤ, pos, negsuc, unsigned_abs}
 use Rattle.std.specs.Int.{w64, cast_unsigned}
 use Rattle.std.specs.Int.RustNames.{int_div}
 use Rattle.std.proofs.lemmas.Nat.Gcd.{dvd_antisymm, dvd_trans}
 use Rattle.std.proofs.Math.Nat.{zero-mod}
 use Prim.Native.Nat.{zero, suc, ◌∣◌}
-use Rattle.std.specs.Prelude.{unsigned_abs}
 use Rattle.heyvl_num.specs.Gcd.{gcd}
 use Rattle.heyvl_num.specs.GcdLaws.{gcd-is, gcd-mod, gcd-zero}
-use Rattle.linear_form.specs.Divisors.{common, or_one, divisor, divided_terms}
-use Rattle.linear_form.specs.Merging.{mixed_terms}
-use Rattle.linear_form.specs.Terms.{put_term}
+use Rattle.linear_rows.specs.Divisors.{common, or_one, divisor, divided_terms}
+use Rattle.linear_rows.specs.Merging.{mixed_terms}
+use Rattle.linear_rows.specs.Terms.{put_term}
 use Rattle.linear_elim.specs.internal.Fingerprints.{hashed, hashed_all}
 use Rattle.linear_elim.proofs.Mixed.{put_append, put_nonzero, drop_end, mixed-none}
 

@@ -5,16 +5,17 @@ use Rattle.std.proofs.Math.Nat.{mul-pos}
 use Rattle.std.specs.List.{All}
 use Rattle.std.proofs.lemmas.List.Elements.{All-nil, All-cons, All-head, All-tail, All-append, All-filter}
 use Rattle.std.proofs.lemmas.Bool.Decides.{nat_tests}
-use Rattle.linear_form.specs.Terms.{IsNormal, add_terms, is_narrow}
-use Rattle.linear_form.specs.Merging.{are_narrow}
-use Rattle.linear_form.proofs.exported.Normal.{add-normal}
+use Rattle.linear_rows.specs.Terms.{IsNormal, add_terms, is_narrow}
+use Rattle.linear_rows.specs.Merging.{are_narrow}
+use Rattle.linear_rows.proofs.exported.Normal.{add-normal}
 use Rattle.linear_elim.specs.Joins.{Derived, size, lowest, join, join_fits, derived_fits, joined_row, joined_shares, joined_over, share_divisor}
 use Rattle.linear_elim.specs.internal.DerivedRows.{IsDerived}
 use Rattle.linear_elim.specs.Steps.{lowers, uppers, kept, joins, pairs, fits_each, pairs_fit, step_fits, eliminate_one, tidied}
 use Rattle.linear_elim.proofs.Lowest.{lowest-is}
 use Rattle.linear_elim.proofs.Shapes.{rows_normal, lowest-normal, divided-normal}
 use Rattle.linear_elim.proofs.Shares.{quotient_positive, divides}
-use Rattle.linear_elim.proofs.Tidying.{and_true, tidied-all}
+use Rattle.linear_rows.proofs.exported.SameTerms.{and_true}
+use Rattle.linear_elim.proofs.Tidying.{tidied-all}
 
 narrow_out : (n : ℕ) → nat_lt n (2 ^ 62) ≡ true → n < 2 ^ 62
 narrow_out n e = grind (arith, nat_tests)

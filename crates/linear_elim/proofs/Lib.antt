@@ -31,9 +31,6 @@ pub mod Pasts
 pub mod Greedily
 pub mod ChoiceRuns
 pub mod StepRows
-pub mod SpotRows
-pub mod SpotExamples
-pub mod KnownRows
 pub mod CountedTerms
 pub mod Mixed
 pub mod SmallJoins

@@ -11,11 +11,11 @@ use Rattle.std.proofs.lemmas.List.Elements.{All-nil, All-cons, All-head, All-tai
 use Rattle.heyvl_num.proofs.exported.Integers.{ring, *ℤ-neg}
 use Rattle.heyvl_num.specs.Gcd.{gcd}
 use Rattle.heyvl_num.specs.GcdLaws.{gcd-is}
-use Rattle.linear_form.specs.Terms.{sum_at}
-use Rattle.linear_form.specs.Row.{Row}
-use Rattle.linear_form.specs.Points.{Point, left_side}
-use Rattle.linear_form.proofs.exported.Sums.{sum_at-nil, sum_at-cons}
-use Rattle.linear_form.specs.Divisors.{common, or_one}
+use Rattle.linear_rows.specs.Terms.{sum_at}
+use Rattle.linear_rows.specs.Row.{Row}
+use Rattle.linear_rows.specs.Points.{Point, left_side}
+use Rattle.linear_rows.proofs.exported.Sums.{sum_at-nil, sum_at-cons}
+use Rattle.linear_rows.specs.Divisors.{common, or_one}
 use Rattle.linear_elim.specs.Joins.{row_divisor, lowest}
 
 -- the first row taken g times is the second

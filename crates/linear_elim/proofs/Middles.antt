@@ -11,8 +11,8 @@ use Rattle.heyvl_num.specs.Rational.{Rational, ratio, halfʳ, middleʳ, ◌+ʳ�
 use Rattle.heyvl_num.specs.Rounding.{whole, IsFloor, IsCeiling}
 use Rattle.heyvl_num.specs.Exact.{quotient, quotient_fits, exact_quotient, product_fits, exact_product}
 use Rattle.heyvl_num.proofs.exported.Rationals.{ratio_parts, ratio_num, ratio_den, ratio-≤, ratio-≤_out, ≤ʳ_trans}
-use Rattle.linear_form.specs.Lin.{fits}
-use Rattle.linear_form.proofs.exported.Narrow.{small, num_less, den_less}
+use Rattle.linear_rows.specs.Numbers.{fits}
+use Rattle.linear_rows.proofs.exported.Narrow.{small, num_less, den_less}
 
 pub the_half : exact_quotient (pos 1) (pos 2) ≡ Some halfʳ
 unfolding exact_quotient quotient_fits quotient halfʳ

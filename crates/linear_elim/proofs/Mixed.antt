@@ -11,11 +11,11 @@ use Rattle.std.proofs.Math.Nat.{mul-pos}
 use Rattle.std.specs.List.{All}
 use Rattle.std.proofs.lemmas.List.{drop_all, get_or_at, set_at, map_more}
 use Rattle.std.proofs.lemmas.List.Elements.{All-nil, All-cons, All-head, All-tail, All-weaker}
-use Rattle.linear_form.specs.Terms.{IsNormal, put_term, add_term, add_terms}
+use Rattle.linear_rows.specs.Terms.{IsNormal, put_term, add_term, add_terms}
 use Rattle.heyvl_num.specs.Gcd.{gcd}
-use Rattle.linear_form.specs.Divisors.{common, divided_terms}
-use Rattle.linear_form.specs.Merging.{mixed_terms}
-use Rattle.linear_form.proofs.exported.Normal.{add-all}
+use Rattle.linear_rows.specs.Divisors.{common, divided_terms}
+use Rattle.linear_rows.specs.Merging.{mixed_terms}
+use Rattle.linear_rows.proofs.exported.Normal.{add-all}
 use Rattle.linear_elim.specs.internal.SmallRows.{IsNextMixed}
 
 differs : (v w : ℕ) → v < w → eqb v w ≡ false

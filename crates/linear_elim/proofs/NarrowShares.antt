@@ -4,15 +4,15 @@ use Rattle.std.specs.Prelude.{ℤ, pos, unsigned_abs}
 use Prim.Native.Nat.{suc}
 use Rattle.std.specs.List.{All}
 use Rattle.std.proofs.lemmas.List.Elements.{All-nil, All-cons, All-append, All-filter}
-use Rattle.linear_form.specs.Terms.{is_narrow}
-use Rattle.linear_form.specs.Merging.{are_narrow}
-use Rattle.linear_form.specs.Row.{Row}
+use Rattle.linear_rows.specs.Terms.{is_narrow}
+use Rattle.linear_rows.specs.Merging.{are_narrow}
+use Rattle.linear_rows.specs.Row.{Row}
 use Rattle.linear_elim.specs.Joins.{Derived, join, join_fits, derived_fits, row_fits}
 use Rattle.linear_elim.specs.Steps.{lowers, uppers, kept, pairs, fits_each, pairs_fit, step_fits, eliminate_one}
 use Rattle.linear_elim.specs.Elimination.{own, start, elimination}
 use Rattle.linear_elim.specs.Elimination.Outcome.{refuted}
 use Rattle.linear_elim.proofs.Solutions.{pairs-all}
-use Rattle.linear_elim.proofs.Tidying.{and_true}
+use Rattle.linear_rows.proofs.exported.SameTerms.{and_true}
 use Rattle.linear_elim.proofs.Keeping.{narrow_all_out}
 use Rattle.linear_elim.proofs.Deciding.{refuted-all}
 

@@ -4,7 +4,7 @@ use Rattle.std.specs.Prelude.{pos, negsuc}
 use Rattle.heyvl_num.specs.Gcd.{gcd, gcd_steps}
 use Rattle.heyvl_num.specs.Rational.{Rational, ratio, zeroʳ, negʳ, ◌+ʳ◌, ◌-ʳ◌}
 use Rattle.heyvl_num.specs.Rounding.{whole}
-use Rattle.linear_form.specs.Lin.{fits}
+use Rattle.linear_rows.specs.Numbers.{fits}
 use Rattle.linear_elim.specs.internal.Picks.{past_place}
 use Rattle.linear_elim.specs.declared.ends.Side.{Side}
 use Rattle.linear_elim.specs.declared.ends.Side.TheVariants.{Low, High}

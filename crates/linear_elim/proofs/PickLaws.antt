@@ -13,11 +13,10 @@ use Rattle.heyvl_num.proofs.exported.Integers.{*ℤ-one}
 use Rattle.heyvl_num.specs.Rounding.{whole, IsFloor, IsCeiling}
 use Rattle.heyvl_num.proofs.exported.Rationals.{ratio_parts, ratio_den, ratio_cross, +ʳ_comm, +ʳ-zero, ≤ʳ_refl, ≤ʳ_trans}
 use Rattle.heyvl_num.proofs.exported.Signs.{<ʳ-not, middle_above, middle_below, ≤ʳ-+ʳ_cancel, -ʳ-+ʳ}
-use Rattle.linear_form.specs.Lin.{fits}
-use Rattle.linear_form.specs.RowLists.{is_numeric}
-use Rattle.linear_form.specs.GreedyPoint.{End, Interval, IsInside, IsUpFrom, IsUpTo, IsChoice, IsBroken}
-use Rattle.linear_form.specs.Tightening.{is_integral}
-use Rattle.linear_form.specs.GreedyPoint.IsChoice.{zero as choose_zero, nearest_whole, low_end, high_end, middle_of_low, middle_of_high, past_low, past_high}
+use Rattle.linear_rows.specs.Numbers.{fits}
+use Rattle.linear_rows.specs.VariableTypes.{is_numeric, is_integral}
+use Rattle.linear_rows.specs.GreedyPoint.{End, Interval, IsInside, IsUpFrom, IsUpTo, IsChoice, IsBroken}
+use Rattle.linear_rows.specs.GreedyPoint.IsChoice.{zero as choose_zero, nearest_whole, low_end, high_end, middle_of_low, middle_of_high, past_low, past_high}
 use Rattle.linear_elim.specs.internal.ChoiceSteps.{IsWithin, IsPast}
 use Rattle.linear_elim.specs.internal.Picks.{sided, across, between, IsNearer, IsNextWhole, IsPicked, narrow_pick, broken_pick, past_place}
 use Rattle.linear_elim.specs.declared.ends.Side.{Side}

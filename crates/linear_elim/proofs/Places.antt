@@ -1,20 +1,12 @@
 -- Where a row goes among others.
-use Rattle.std.proofs.Common.{◌≡◌, ℕ, ◌<◌, ◌≤◌, List, [], ◌∷◌, ◌++◌, length, get_or, refl, sym, ap, ◌∙◌, arith, Bool, true, false, cond}
+use Rattle.std.proofs.Common.{◌≡◌, ℕ, ◌<◌, ◌≤◌, List, [], ◌∷◌, ◌++◌, length, get_or, refl, sym, ap, ◌∙◌, arith, true, false, cond}
 use Rattle.std.proofs.Math.ListN.{set}
 use Rattle.std.proofs.lemmas.List.{get_or_default}
-use Rattle.std.specs.Prelude.{ℤ}
 use Prim.Native.Nat.{zero, suc}
 use Rattle.linear_elim.specs.Joins.{Derived}
-use Rattle.linear_elim.specs.Steps.{same_terms, is_stronger, put_row}
+use Rattle.linear_rows.specs.SameTerms.{same_terms}
+use Rattle.linear_elim.specs.Steps.{is_stronger, put_row}
 use Rattle.linear_elim.specs.internal.Places.{IsPlace}
-use Rattle.linear_elim.proofs.Tidying.{same_terms-is}
-
-pub lengths_differ : (a b : List (ℕ × ℤ)) → (length a ≡ length b → ⊥) → false ≡ same_terms a b
-lengths_differ a b n = go (same_terms a b) refl
-  where
-    go : (s : Bool) → same_terms a b ≡ s → false ≡ s
-    go true e = absurd (n (ap length (same_terms-is a b e)))
-    go false e = refl
 
 put_absent : (r : Derived) (ks : List Derived) → ((j : ℕ) → j < length ks → same_terms (get_or ks j r).row.terms r.row.terms ≡ false) → put_row r ks ≡ ks ++ r ∷ []
 unfolding put_row

@@ -5,12 +5,12 @@ use Rattle.std.specs.List.{All}
 use Rattle.std.proofs.lemmas.List.Elements.{All-weaker, All-map}
 use Rattle.heyvl_num.specs.Rational.{Rational, ratio}
 use Rattle.heyvl_num.proofs.exported.Rationals.{ratio_same}
-use Rattle.linear_form.specs.Terms.{is_in, IsOver}
-use Rattle.linear_form.specs.Row.{Row}
-use Rattle.linear_form.specs.Solutions.{MeetsAt}
-use Rattle.linear_form.specs.GreedyPoint.{IsCompleted}
-use Rattle.linear_form.proofs.exported.Between.{All-both}
-use Rattle.linear_form.proofs.exported.Fractions.{Same, meets_alike, point_of, point_same}
+use Rattle.linear_rows.specs.Terms.{is_in, IsOver}
+use Rattle.linear_rows.specs.Row.{Row}
+use Rattle.linear_rows.specs.Solutions.{MeetsAt}
+use Rattle.linear_rows.specs.GreedyPoint.{IsCompleted}
+use Rattle.linear_rows.proofs.exported.Between.{All-both}
+use Rattle.linear_rows.proofs.exported.Fractions.{Same, meets_alike, point_of, point_same}
 use Rattle.linear_elim.specs.Joins.{Derived}
 use Rattle.linear_elim.specs.Steps.{eliminate_one, tidied, contradiction}
 use Rattle.linear_elim.proofs.Solutions.{MeetsIn, Extension, step-sound, step-complete, all_map-out}

@@ -6,9 +6,9 @@ use Rattle.std.specs.List.{All}
 use Rattle.std.proofs.lemmas.Bool.{eqb-true}
 use Rattle.std.proofs.lemmas.List.Elements.{All-weaker}
 use Rattle.heyvl_num.specs.Rational.{Rational}
-use Rattle.linear_form.specs.Terms.{is_in}
-use Rattle.linear_form.specs.Row.{Row}
-use Rattle.linear_form.specs.GreedyPoint.{IsCompleted}
+use Rattle.linear_rows.specs.Terms.{is_in}
+use Rattle.linear_rows.specs.Row.{Row}
+use Rattle.linear_rows.specs.GreedyPoint.{IsCompleted}
 use Rattle.linear_elim.specs.Joins.{Derived}
 use Rattle.linear_elim.specs.Steps.{eliminate_one, tidied, contradiction, step_fits}
 use Rattle.linear_elim.specs.Elimination.{Step, step_of, gathered, after_step, ended_by, unless_many, run, start}

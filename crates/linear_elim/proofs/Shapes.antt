@@ -9,12 +9,12 @@ use Rattle.std.specs.List.{All}
 use Rattle.std.proofs.lemmas.List.Elements.{All-nil, All-head, All-tail, All-append, All-filter, All-map, filter_passes}
 use Rattle.heyvl_num.proofs.exported.Integers.{ring, ring_neg, ≤ℤ-cancel}
 use Rattle.heyvl_num.specs.Value.{is_zero_num}
-use Rattle.linear_form.specs.Terms.{coefficient, is_in, IsNormal, IsOver, add_terms}
-use Rattle.linear_form.specs.Row.{Row}
-use Rattle.linear_form.proofs.exported.Between.{All-both}
-use Rattle.linear_form.proofs.exported.Moves.{coefficient-is, coefficient-add, only}
-use Rattle.linear_form.proofs.exported.Normal.{add-normal, add-all, fewer}
-use Rattle.linear_form.specs.Divisors.{common}
+use Rattle.linear_rows.specs.Terms.{coefficient, is_in, IsNormal, IsOver, add_terms}
+use Rattle.linear_rows.specs.Row.{Row}
+use Rattle.linear_rows.proofs.exported.Between.{All-both}
+use Rattle.linear_rows.proofs.exported.Moves.{coefficient-is, coefficient-add, only}
+use Rattle.linear_rows.proofs.exported.Normal.{add-normal, add-all, fewer}
+use Rattle.linear_rows.specs.Divisors.{common}
 use Rattle.linear_elim.specs.Joins.{mixed_row, Derived, size, join, joined_row, lowest, row_divisor}
 use Rattle.linear_elim.specs.Steps.{lowers, uppers, kept, pairs, eliminate_one}
 use Rattle.linear_elim.proofs.Lowest.{lowest-is, times_quotient, or_one-divides, common-divides, DividesAll}

@@ -9,12 +9,12 @@ use Rattle.std.proofs.lemmas.Bool.{eqb-true}
 use Rattle.std.specs.List.{All}
 use Rattle.std.proofs.lemmas.List.Elements.{All-nil, All-cons, All-head, All-tail}
 use Rattle.heyvl_num.proofs.exported.Integers.{ring}
-use Rattle.linear_form.specs.Terms.{sum_at, IsNormal, put_term, add_term, add_terms}
-use Rattle.linear_form.specs.Row.{Row}
-use Rattle.linear_form.specs.Combination.{row_at}
-use Rattle.linear_form.proofs.exported.Sums.{sum_at-nil, sum_at-add}
-use Rattle.linear_form.proofs.exported.Normal.{add-normal, add-all}
-use Rattle.linear_form.specs.Divisors.{common, divisor, divided_terms}
+use Rattle.linear_rows.specs.Terms.{sum_at, IsNormal, put_term, add_term, add_terms}
+use Rattle.linear_rows.specs.Row.{Row}
+use Rattle.linear_rows.specs.Combination.{row_at}
+use Rattle.linear_rows.proofs.exported.Sums.{sum_at-nil, sum_at-add}
+use Rattle.linear_rows.proofs.exported.Normal.{add-normal, add-all}
+use Rattle.linear_rows.specs.Divisors.{common, divisor, divided_terms}
 use Rattle.linear_elim.specs.Joins.{is_above_zero, row_divisor, lowest, size, mixed_row, mixed_shares, joined_row, joined_shares, joined_over, share_divisor, join, Derived}
 use Rattle.linear_elim.specs.internal.DerivedRows.{any_at, Follows}
 use Rattle.linear_elim.proofs.Lowest.{lowest-is, sum_at-divided, times_back, or_one-divides, common-divides, or_one-positive, DividesAll}

@@ -9,11 +9,11 @@ use Rattle.std.specs.List.{All}
 use Rattle.std.proofs.lemmas.Bool.{eqb-true, and_from}
 use Rattle.std.proofs.lemmas.Bool.Decides.{nat_tests}
 use Rattle.std.proofs.lemmas.List.Elements.{All-nil, All-cons, All-head, All-tail, All-weaker}
-use Rattle.linear_form.specs.Terms.{coefficient, IsNormal, add_terms, is_narrow}
-use Rattle.linear_form.specs.Merging.{mixed_terms, are_narrow}
-use Rattle.linear_form.specs.Divisors.{divisor, divided_terms}
-use Rattle.linear_form.proofs.exported.Moves.{coefficient-add}
-use Rattle.linear_form.proofs.exported.Normal.{add-normal}
+use Rattle.linear_rows.specs.Terms.{coefficient, IsNormal, add_terms, is_narrow}
+use Rattle.linear_rows.specs.Merging.{mixed_terms, are_narrow}
+use Rattle.linear_rows.specs.Divisors.{divisor, divided_terms}
+use Rattle.linear_rows.proofs.exported.Moves.{coefficient-add}
+use Rattle.linear_rows.proofs.exported.Normal.{add-normal}
 use Rattle.linear_elim.specs.Joins.{Derived, size, row_divisor, lowest, mixed_row, joined_row, joined_shares, joined_over, share_divisor, join, join_fits}
 use Rattle.linear_elim.specs.internal.DerivedRows.{IsDerived}
 use Rattle.linear_elim.specs.internal.SmallRows.{IsSmall}

@@ -9,12 +9,12 @@ use Rattle.std.specs.List.{All}
 use Rattle.std.proofs.lemmas.List.Elements.{All-nil, All-cons, All-head, All-tail, All-weaker, All-append, All-filter, All-map, filter_passes}
 use Rattle.heyvl_num.proofs.exported.Integers.{ring, ring_neg}
 use Rattle.heyvl_num.specs.Value.{is_zero_num}
-use Rattle.linear_form.specs.Terms.{sum_at, coefficient, add_terms}
-use Rattle.linear_form.specs.Row.{Row}
-use Rattle.linear_form.specs.Points.{Point, IsBelow, Meets, left_side, AgreesBut}
-use Rattle.linear_form.proofs.exported.Sums.{sum_at-nil, sum_at-add}
-use Rattle.linear_form.proofs.exported.Between.{below-scale, below-cancel, below-same, below-both, All-both, Shift, between}
-use Rattle.linear_form.proofs.exported.Moves.{moved, left_side-moved, agrees-moved}
+use Rattle.linear_rows.specs.Terms.{sum_at, coefficient, add_terms}
+use Rattle.linear_rows.specs.Row.{Row}
+use Rattle.linear_rows.specs.Points.{Point, IsBelow, Meets, left_side, AgreesBut}
+use Rattle.linear_rows.proofs.exported.Sums.{sum_at-nil, sum_at-add}
+use Rattle.linear_rows.proofs.exported.Between.{below-scale, below-cancel, below-same, below-both, All-both, Shift, between}
+use Rattle.linear_rows.proofs.exported.Moves.{moved, left_side-moved, agrees-moved}
 use Rattle.linear_elim.specs.Joins.{is_below_zero, is_above_zero, mixed_row, Derived, size, join, joined_row, lowest, row_divisor}
 use Rattle.linear_elim.specs.Steps.{lowers, uppers, kept, pairs, eliminate_one}
 use Rattle.linear_elim.proofs.Lowest.{lowest-is, left_side-times}

@@ -6,7 +6,7 @@ use borrow.Author.Differences.{ints}
 use Rattle.std.specs.Int.Signed.{lt_z}
 use Prim.Native.Nat.{zero, suc}
 use Rattle.heyvl_num.specs.Value.{is_zero_num}
-use Rattle.linear_form.specs.Terms.{coefficient}
+use Rattle.linear_rows.specs.Terms.{coefficient}
 use Rattle.linear_elim.specs.Joins.{Derived, is_below_zero, is_above_zero}
 use Rattle.linear_elim.specs.Steps.{lowers, uppers, kept}
 use Rattle.linear_elim.specs.internal.Gathering.{found_after, rows_after, found_all, rows_all}

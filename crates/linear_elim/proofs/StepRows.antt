@@ -4,7 +4,7 @@ use Rattle.std.specs.Prelude.{Option, Some, None}
 use Prim.Native.Nat.{suc}
 use Rattle.std.specs.List.{All}
 use Rattle.std.proofs.lemmas.List.Elements.{All-nil, All-cons, All-filter}
-use Rattle.linear_form.specs.Row.{Row, IsRow}
+use Rattle.linear_rows.specs.Row.{Row, IsRow}
 use Rattle.linear_elim.specs.Joins.{Derived}
 use Rattle.linear_elim.specs.internal.DerivedRows.{IsDerived}
 use Rattle.linear_elim.specs.Steps.{eliminate_one, tidied, contradiction, step_fits}

@@ -1,41 +1,23 @@
 -- Tidying rows changes no solution.
-use Rattle.std.proofs.Common.{◌≡◌, ℕ, ◌<◌, List, [], ◌∷◌, refl, sym, ap, ap₂, ◌∙◌, arith, subst, Bool, true, false, cond, eqb, not, ◌&&◌, ◌||◌}
+use Rattle.std.proofs.Common.{◌≡◌, ℕ, ◌<◌, List, [], ◌∷◌, refl, sym, ap, ◌∙◌, arith, subst, Bool, true, false, cond, not, ◌&&◌, ◌||◌}
 use Rattle.std.specs.Prelude.{ℤ, pos, negsuc, ◌+ℤ◌, ◌*ℤ◌, ◌≤ℤ◌, ◌<ℤ◌, Some, None}
 use borrow.Author.Differences.{ints}
 use Prim.Native.Nat.{zero, suc}
 use Rattle.std.specs.Int.Signed.{lt_z}
-use Rattle.std.proofs.lemmas.Bool.{eqb-true}
 use Rattle.std.specs.List.{All, filter}
 use Rattle.std.proofs.lemmas.List.Elements.{All-nil, All-cons, All-head, All-tail, All-filter}
 use Rattle.heyvl_num.proofs.exported.Integers.{≤ℤ-cancel}
 use Rattle.heyvl_num.specs.Value.{is_zero_num}
-use Rattle.linear_form.specs.Terms.{sum_at}
-use Rattle.linear_form.specs.Row.{Row}
-use Rattle.linear_form.specs.Points.{Point, IsBelow, Meets}
-use Rattle.linear_form.proofs.exported.Sums.{sum_at-nil}
-use Rattle.linear_form.proofs.exported.Between.{below-weak, below-strong, below-same}
+use Rattle.linear_rows.specs.Terms.{sum_at}
+use Rattle.linear_rows.specs.Row.{Row}
+use Rattle.linear_rows.specs.Points.{Point, IsBelow, Meets}
+use Rattle.linear_rows.proofs.exported.Sums.{sum_at-nil}
+use Rattle.linear_rows.proofs.exported.Between.{below-weak, below-strong, below-same}
 use Rattle.linear_elim.specs.Joins.{Derived}
-use Rattle.linear_elim.specs.Steps.{same_number, same_terms, is_stronger, put_row, strongest, has_terms, tidied, is_contradiction, contradiction}
+use Rattle.linear_rows.specs.SameTerms.{same_number, same_terms}
+use Rattle.linear_elim.specs.Steps.{is_stronger, put_row, strongest, has_terms, tidied, is_contradiction, contradiction}
 use Rattle.linear_elim.proofs.Solutions.{MeetsIn}
-
-pub and_true : (a b : Bool) → (a && b) ≡ true → (a ≡ true) × (b ≡ true)
-and_true true b e = (refl, e)
-and_true false b e = absurd (cc)
-
-same_number-is : (a b : ℤ) → same_number a b ≡ true → a ≡ b
-same_number-is (pos a) (pos b) e = ap pos (eqb-true a b e)
-same_number-is (pos a) (negsuc b) e = absurd (cc)
-same_number-is (negsuc a) (pos b) e = absurd (cc)
-same_number-is (negsuc a) (negsuc b) e = ap negsuc (eqb-true a b e)
-
-pub same_terms-is : (ts us : List (ℕ × ℤ)) → same_terms ts us ≡ true → ts ≡ us
-same_terms-is [] [] e = refl
-same_terms-is [] (u ∷ us) e = absurd (cc)
-same_terms-is (t ∷ ts) [] e = absurd (cc)
-same_terms-is (t ∷ ts) (u ∷ us) e =
-    let h = and_true (eqb t.0 u.0 && same_number t.1 u.1) (same_terms ts us) e in
-    let k = and_true (eqb t.0 u.0) (same_number t.1 u.1) h.0 in
-    ap₂ (λ (x : ℕ × ℤ) (xs : List (ℕ × ℤ)). x ∷ xs) (ap₂ (λ (v : ℕ) (c : ℤ). (v, c)) (eqb-true t.0 u.0 k.0) (same_number-is t.1 u.1 k.1)) (same_terms-is ts us h.1)
+use Rattle.linear_rows.proofs.exported.SameTerms.{same_number-is, same_terms-is}
 
 pub less_scaled : (a b : ℤ) (k : ℕ) → 0 < k → a <ℤ b → (a *ℤ pos k) <ℤ (b *ℤ pos k)
 less_scaled a b k p h = flip (λ l. no (≤ℤ-cancel b a k p l))

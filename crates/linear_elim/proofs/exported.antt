@@ -1,2 +1,1 @@
 pub mod Numeric
-pub mod Remembering

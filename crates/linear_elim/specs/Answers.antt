@@ -6,18 +6,18 @@ use Rattle.heylo_formula.specs.State.{environment, number_of}
 use Rattle.heylo_formula.specs.declared.types.Ty.{Ty}
 use Rattle.heylo_formula.specs.declared.values.Val.{Val}
 use Rattle.heylo_formula.specs.declared.values.Val.TheVariants.{Num}
-use Rattle.linear_form.specs.Lin.{fits}
-use Rattle.linear_form.specs.Terms.{coefficient}
-use Rattle.linear_form.specs.Row.{Row}
-use Rattle.linear_form.specs.Solutions.{MeetsAt, IsSolvable}
-use Rattle.linear_form.specs.Combination.{IsContradiction, IsWideThroughout}
-use Rattle.linear_form.specs.VariableOrder.{order_of}
-use Rattle.linear_form.specs.GreedyPoint.{Interval, Greedy, ChoosesFrom, IsGreedyPoint}
+use Rattle.linear_rows.specs.Numbers.{fits}
+use Rattle.linear_rows.specs.Terms.{coefficient}
+use Rattle.linear_rows.specs.Row.{Row}
+use Rattle.linear_rows.specs.Solutions.{MeetsAt, IsSolvable}
+use Rattle.linear_rows.specs.Combination.{IsContradiction, IsWideThroughout}
+use Rattle.linear_rows.specs.VariableOrder.{order_of}
+use Rattle.linear_rows.specs.GreedyPoint.{Interval, Greedy, ChoosesFrom, IsGreedyPoint}
 use Rattle.linear_elim.specs.Joins.{Derived}
 use Rattle.linear_elim.specs.ChoiceNumbers.{IsChoiceTooGreat}
 use Rattle.linear_elim.specs.Elimination as plain
 use Rattle.linear_elim.specs.Elimination.{Step, elimination, multipliers}
-use Rattle.linear_elim.specs.declared.answers.Broken.{Broken}
+use Rattle.goal_answers.specs.declared.causes.Broken.{Broken}
 use Rattle.linear_elim.specs.declared.answers.Elim.{Elim}
 use Rattle.linear_elim.specs.declared.answers.Elim.TheVariants.{NoSolution, Point, Fraction, Rows, Bits}
 

@@ -5,10 +5,10 @@ use Rattle.heylo_formula.specs.declared.types.Ty.{Ty}
 use Rattle.heyvl_num.specs.Rational.{Rational}
 use Rattle.heyvl_num.specs.Rounding.{whole}
 use Rattle.heyvl_num.specs.Exact.{exact_quotient, exact_sum, exact_product}
-use Rattle.linear_form.specs.Lin.{fits}
-use Rattle.linear_form.specs.Terms.{coefficient}
-use Rattle.linear_form.specs.Row.{Row}
-use Rattle.linear_form.specs.GreedyPoint.{Interval, IsIntervalOf, IsChoice, Greedy, Chooses, chosen_value}
+use Rattle.linear_rows.specs.Numbers.{fits}
+use Rattle.linear_rows.specs.Terms.{coefficient}
+use Rattle.linear_rows.specs.Row.{Row}
+use Rattle.linear_rows.specs.GreedyPoint.{Interval, IsIntervalOf, IsChoice, Greedy, Chooses, chosen_value}
 use Rattle.heylo_formula.specs.Typing.{types_in}
 use Rattle.linear_elim.specs.Elimination.{Step}
 

@@ -2,7 +2,7 @@
 -- on it: what is promised of the other answers speaks of the rows' solutions.
 use Rattle.std.specs.Prelude.{ℕ, List, [], ◌∷◌, length, map, unsigned_abs, ℤ, pos, cond, ltb, Option, Some, None}
 use Prim.Native.Nat.{suc}
-use Rattle.linear_form.specs.Row.{Row}
+use Rattle.linear_rows.specs.Row.{Row}
 use Rattle.linear_elim.specs.Joins.{Derived}
 use Rattle.linear_elim.specs.Steps.{lowers, uppers, tidied, contradiction, step_fits, eliminate_one}
 

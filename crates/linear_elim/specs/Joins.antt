@@ -3,10 +3,10 @@
 use Rattle.std.specs.Prelude.{ℕ, ◌*◌, ◌/◌, List, ℤ, pos, negsuc, ◌+ℤ◌, ◌*ℤ◌, unsigned_abs, Bool, true, false, ◌||◌, ◌&&◌}
 use Rattle.std.specs.Int.RustNames.{int_div}
 use Prim.Native.Nat.{zero, suc}
-use Rattle.linear_form.specs.Terms.{coefficient, is_narrow, is_wide}
-use Rattle.linear_form.specs.Merging.{mixed_terms, are_wide, are_narrow}
-use Rattle.linear_form.specs.Divisors.{divisor, divided_terms}
-use Rattle.linear_form.specs.Row.{Row}
+use Rattle.linear_rows.specs.Terms.{coefficient, is_narrow, is_wide}
+use Rattle.linear_rows.specs.Merging.{mixed_terms, are_wide, are_narrow}
+use Rattle.linear_rows.specs.Divisors.{divisor, divided_terms}
+use Rattle.linear_rows.specs.Row.{Row}
 
 -- `over` times the row is the sum of the first rows, each as often as its share says. Shares are pairs of an index and a
 -- multiplier.

@@ -1,10 +1,10 @@
 -- What the elimination promises, for every order of variables.
 use Rattle.std.specs.Prelude.{◌≡◌, ℕ, ◌<◌, ◌^◌, List, unsigned_abs}
 use Rattle.std.specs.List.{All}
-use Rattle.linear_form.specs.Terms.{coefficient, IsNormal, IsOver}
-use Rattle.linear_form.specs.Row.{Row}
-use Rattle.linear_form.specs.Solutions.{IsSolvable}
-use Rattle.linear_form.specs.Combination.{IsWideThroughout, IsContradiction}
+use Rattle.linear_rows.specs.Terms.{coefficient, IsNormal, IsOver}
+use Rattle.linear_rows.specs.Row.{Row}
+use Rattle.linear_rows.specs.Solutions.{IsSolvable}
+use Rattle.linear_rows.specs.Combination.{IsWideThroughout, IsContradiction}
 use Rattle.linear_elim.specs.Joins.{Derived}
 use Rattle.linear_elim.specs.Elimination.{Step, elimination, multipliers}
 use Rattle.linear_elim.specs.Elimination.Outcome.{refuted, standing}

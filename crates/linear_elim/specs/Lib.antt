@@ -1,10 +1,7 @@
-pub mod Spots
 pub mod Joins
 pub mod Steps
 pub mod Elimination
 pub mod Laws
 pub mod ChoiceNumbers
 pub mod Answers
-pub mod Findings
-pub mod Searches
 pub mod internal

@@ -1,11 +1,12 @@
 -- One step of elimination, and the rules that keep the rows few.
-use Rattle.std.specs.Prelude.{ℕ, List, [], ◌∷◌, ◌++◌, map, ℤ, pos, negsuc, Bool, true, false, cond, eqb, ◌||◌, ◌&&◌, not, Option, Some, None}
+use Rattle.std.specs.Prelude.{ℕ, List, [], ◌∷◌, ◌++◌, map, ℤ, pos, Bool, true, false, cond, ◌||◌, ◌&&◌, not, Option, Some, None}
 use Rattle.std.specs.List.{filter}
 use Rattle.std.specs.Int.Signed.{lt_z}
 use Rattle.heyvl_num.specs.Value.{is_zero_num}
-use Rattle.linear_form.specs.Terms.{coefficient}
-use Rattle.linear_form.specs.Row.{Row}
+use Rattle.linear_rows.specs.Terms.{coefficient}
+use Rattle.linear_rows.specs.Row.{Row}
 use Rattle.linear_elim.specs.Joins.{Derived, is_below_zero, is_above_zero, join, join_fits}
+use Rattle.linear_rows.specs.SameTerms.{same_number, same_terms}
 
 abbrev pub lowers : ℕ → List Derived → List Derived
 lowers x rows = filter (λ r. is_below_zero (coefficient x r.row.terms)) rows
@@ -40,18 +41,6 @@ pairs_fit x (l ∷ ls) us = fits_each x l us && pairs_fit x ls us
 -- Whether each join of the step fits.
 abbrev pub step_fits : ℕ → List Derived → Bool
 step_fits x rows = pairs_fit x (lowers x rows) (uppers x rows)
-
-abbrev pub same_number : ℤ → ℤ → Bool
-same_number (pos a) (pos b) = eqb a b
-same_number (pos a) (negsuc b) = false
-same_number (negsuc a) (pos b) = false
-same_number (negsuc a) (negsuc b) = eqb a b
-
-abbrev pub same_terms : List (ℕ × ℤ) → List (ℕ × ℤ) → Bool
-same_terms [] [] = true
-same_terms [] (u ∷ us) = false
-same_terms (t ∷ ts) [] = false
-same_terms (t ∷ ts) (u ∷ us) = (eqb t.0 u.0 && same_number t.1 u.1) && same_terms ts us
 
 -- A greater constant, or the same one and strict where the other is not.
 abbrev pub is_stronger : Row → Row → Bool

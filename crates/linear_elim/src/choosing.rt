@@ -2,17 +2,18 @@
 ghost use Rattle.std.specs.Prelude.{◌≡◌, ◌<◌, ◌^◌, List, map, length, IfOk};
 ghost use Rattle.std.specs.List.{All};
 ghost use Rattle.heylo_formula.specs.declared.values.Val.TheVariants.{Num};
-ghost use Rattle.linear_form.specs.Row.{Row};
-ghost use Rattle.linear_form.specs.GreedyPoint.{value_for, IsStateOf};
+ghost use Rattle.linear_rows.specs.Row.{Row};
+ghost use Rattle.linear_rows.specs.GreedyPoint.{value_for, IsStateOf};
 ghost use Rattle.heylo_formula.specs.Typing.{types_in};
 ghost use Rattle.linear_elim.specs.internal.Picks.{IsNextPick, IsDerivedStep};
 ghost use Rattle.linear_elim.specs.Answers.{IsAnswer};
 ghost use Rattle.linear_elim.specs.internal.Eliminations.{IsEliminated};
 
-use crate::answers::{Broken, Elim};
+use crate::answers::Elim;
 use crate::ends::{End, Side, tightest, value_of};
 use crate::picking::{Pick, taken_between};
 use crate::steps::Step;
+use goal_answers::Broken;
 use heylo_formula::{Ty, Val};
 use heyvl_num::Frac;
 use std::alloc::{AllocError, Global};

@@ -2,8 +2,8 @@
 
 ghost use Rattle.std.specs.Prelude.{◌<◌, ◌^◌, length, IfOk};
 ghost use Rattle.std.specs.List.{All};
-ghost use Rattle.linear_form.specs.Row.{IsRow};
-ghost use Rattle.linear_form.specs.RowLists.{IsNumericRow};
+ghost use Rattle.linear_rows.specs.Row.{IsRow};
+ghost use Rattle.linear_rows.specs.VariableTypes.{IsNumericRow};
 ghost use Rattle.linear_elim.specs.Answers.{IsAnswer, Settles};
 
 use crate::answers::Elim;
@@ -13,7 +13,7 @@ use crate::ordering::elimination_order;
 use crate::refuting::refutation;
 use crate::starting::contradiction_or_steps;
 use heylo_formula::Ty;
-use linear_form::Row;
+use linear_rows::Row;
 use std::alloc::{AllocError, Global};
 
 /// Eliminates the variables of rows over numbers: multipliers that show that no fractions meet them; or the greedy point; or the

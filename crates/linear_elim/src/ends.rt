@@ -4,9 +4,9 @@ ghost use Rattle.std.specs.List.{All, list_any};
 ghost use Rattle.heyvl_num.specs.Rational.{Rational};
 ghost use Rattle.heyvl_num.specs.Rounding.{whole};
 ghost use Rattle.heyvl_num.specs.Exact.{exact_product, exact_quotient};
-ghost use Rattle.linear_form.specs.Lin.{fits as number_fits};
-ghost use Rattle.linear_form.specs.Row.{IsRow};
-ghost use Rattle.linear_form.specs.GreedyPoint.{End as EndValue, chosen_value};
+ghost use Rattle.linear_rows.specs.Numbers.{fits as number_fits};
+ghost use Rattle.linear_rows.specs.Row.{IsRow};
+ghost use Rattle.linear_rows.specs.GreedyPoint.{End as EndValue, chosen_value};
 ghost use Rattle.linear_elim.specs.internal.DerivedRows.{IsDerived};
 ghost use Rattle.linear_elim.specs.ChoiceNumbers.{added, sum_without as exact_sum_without, end_of, end_fits};
 ghost use Rattle.linear_elim.specs.internal.ChoiceSteps.{IsWithin, narrow_end, IsTightest};
@@ -14,7 +14,7 @@ ghost use Rattle.linear_elim.specs.internal.ChoiceSteps.{IsWithin, narrow_end, I
 use crate::fractions::{fits, order, whole_of, zero};
 use crate::joins::Derived;
 use heyvl_num::Frac;
-use linear_form::{Row, coefficient_of};
+use linear_rows::{Row, TooGreat, coefficient_of};
 use std::cmp::Ordering;
 use std::marker::Model;
 
@@ -41,10 +41,6 @@ impl Model for End {
 
     ghost inverse_ok = { λ a h i. a };
 }
-
-/// An end is too great.
-#[derive(Clone, Copy)]
-pub(crate) struct TooGreat;
 
 /// The value chosen for a variable, 0 where none was.
 pub(crate) fn value_of(chosen: &[(u32, Frac)], x: u32) -> Frac

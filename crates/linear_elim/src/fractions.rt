@@ -2,8 +2,8 @@
 ghost use Rattle.std.specs.Prelude.{◌≡◌, ◌<◌, ◌^◌, true, unsigned_abs};
 ghost use Rattle.heyvl_num.specs.Rational.{zeroʳ, halfʳ, middleʳ, ◌+ʳ◌, compareʳ};
 ghost use Rattle.heyvl_num.specs.Rounding.{whole};
-ghost use Rattle.linear_form.specs.Terms.{is_narrow};
-ghost use Rattle.linear_form.specs.Lin.{fits as number_fits};
+ghost use Rattle.linear_rows.specs.Terms.{is_narrow};
+ghost use Rattle.linear_rows.specs.Numbers.{fits as number_fits};
 
 use heyvl_num::Frac;
 use std::cmp::Ordering;
@@ -19,7 +19,7 @@ fn is_below(n: i128) -> bool
 }
 
 /// Whether the numerator and the denominator are below 2^62 in absolute value.
-#[tactic(auto, unfolding(linear_form::specs::Lin::fits))]
+#[tactic(auto, unfolding(linear_rows::specs::Numbers::fits))]
 pub(crate) fn fits(x: &Frac) -> bool
     ensures { result ≡ number_fits x.now }
 {

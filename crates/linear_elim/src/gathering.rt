@@ -1,35 +1,16 @@
 //! The rules that keep the rows few.
 ghost use Rattle.std.specs.Prelude.{◌≡◌, ◌<◌, ◌≤◌, ◌++◌, ◌∷◌, [], ℕ, IfOk, length, not};
-ghost use Rattle.linear_elim.specs.Steps.{same_terms, is_stronger, is_contradiction, has_terms, put_row};
+ghost use Rattle.linear_rows.specs.SameTerms.{same_terms};
+ghost use Rattle.linear_elim.specs.Steps.{is_stronger, is_contradiction, has_terms, put_row};
 ghost use Rattle.linear_elim.specs.internal.Places.{IsPlace};
 ghost use Rattle.linear_elim.specs.internal.Fingerprints.{ArePlaces};
 ghost use Rattle.linear_elim.specs.internal.Gathering.{found_after, rows_after};
 
 use crate::fingerprints::fingerprint;
 use crate::joins::Derived;
-use linear_form::Row;
+use linear_rows::{Row, have_same_terms};
 use std::alloc::{AllocError, Global};
 use std::collections::HashMap;
-
-/// Whether two rows have the same terms.
-pub(crate) fn have_same_terms(a: &[(u32, i64)], b: &[(u32, i64)]) -> bool
-    ensures { result ≡ same_terms a.now b.now }
-{
-    if a.len() != b.len() {
-        return false;
-    }
-    for i in 0..a.len() {
-        let (v, c) = a[i];
-        let (w, d) = b[i];
-        if v != w {
-            return false;
-        }
-        if c != d {
-            return false;
-        }
-    }
-    true
-}
 
 /// Whether the two rows have the same terms.
 fn are_alike(a: &Derived, b: &Derived) -> bool

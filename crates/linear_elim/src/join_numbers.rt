@@ -1,9 +1,9 @@
 //! The fingerprint of a join where the numbers of both rows are small. Neither the join nor its terms are made.
 ghost use Rattle.std.specs.Prelude.{◌≡◌, ◌<◌, ◌^◌, [], ℕ, pos, true, unsigned_abs};
 ghost use Rattle.std.specs.List.{All};
-ghost use Rattle.linear_form.specs.Divisors.{common, divided_terms};
-ghost use Rattle.linear_form.specs.Merging.{mixed_terms};
-ghost use Rattle.linear_form.specs.Terms.{coefficient, IsNormal, put_term};
+ghost use Rattle.linear_rows.specs.Divisors.{common, divided_terms};
+ghost use Rattle.linear_rows.specs.Merging.{mixed_terms};
+ghost use Rattle.linear_rows.specs.Terms.{coefficient, IsNormal, put_term};
 ghost use Rattle.linear_elim.specs.Joins.{is_below_zero, is_above_zero, join, join_fits};
 ghost use Rattle.linear_elim.specs.internal.DerivedRows.{IsDerived};
 ghost use Rattle.linear_elim.specs.internal.Fingerprints.{hashed_all, fingerprint};

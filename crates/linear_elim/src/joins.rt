@@ -1,14 +1,14 @@
 //! Rows made of the first rows, and the join of two in which a variable vanishes.
 ghost use Rattle.std.specs.Prelude.{◌≡◌, ◌<◌, ◌^◌, ◌*◌, ◌/◌, ◌+ℤ◌, ◌*ℤ◌, ◌<ℤ◌, ◌||◌, ◌&&◌, ℕ, ℤ, pos, unsigned_abs, int_div, true, is_some, IfOk, IfSome, SomeIff, IsSome};
 ghost use Rattle.std.specs.List.{All};
-ghost use Rattle.linear_form.specs.Terms.{coefficient, is_narrow, is_wide};
-ghost use Rattle.linear_form.specs.Merging.{mixed_terms, are_wide, are_narrow};
-ghost use Rattle.linear_form.specs.Divisors.{divisor, divided_terms};
-ghost use Rattle.linear_form.specs.Row.{IsRow};
+ghost use Rattle.linear_rows.specs.Terms.{coefficient, is_narrow, is_wide};
+ghost use Rattle.linear_rows.specs.Merging.{mixed_terms, are_wide, are_narrow};
+ghost use Rattle.linear_rows.specs.Divisors.{divisor, divided_terms};
+ghost use Rattle.linear_rows.specs.Row.{IsRow};
 ghost use Rattle.linear_elim.specs.Joins.{Derived as DerivedValue, is_below_zero, is_above_zero, join, join_fits, size};
 ghost use Rattle.linear_elim.specs.internal.DerivedRows.{IsDerived, derived_parts, parts_fit};
 
-use linear_form::{Row, coefficient_of, divided, divisor_of, mixed, narrow_quotient};
+use linear_rows::{Row, coefficient_of, divided, divisor_of, mixed, narrow_quotient};
 use std::alloc::{AllocError, Global};
 use std::marker::Model;
 

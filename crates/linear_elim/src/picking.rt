@@ -2,10 +2,9 @@
 ghost use Rattle.std.specs.Prelude.{◌≡◌, ◌↔◌, ◌<◌, ◌^◌, ◌+ℤ◌, ◌-ℤ◌, pos, true, unsigned_abs, IfSome, MatchOption, IsTrue};
 ghost use Rattle.heylo_formula.specs.declared.types.Ty.{Ty as TyValue};
 ghost use Rattle.heyvl_num.specs.Rational.{Rational, zeroʳ};
-ghost use Rattle.linear_form.specs.Lin.{fits as number_fits};
-ghost use Rattle.linear_form.specs.RowLists.{is_numeric};
-ghost use Rattle.linear_form.specs.GreedyPoint.{IsInside};
-ghost use Rattle.linear_form.specs.Tightening.{is_integral};
+ghost use Rattle.linear_rows.specs.Numbers.{fits as number_fits};
+ghost use Rattle.linear_rows.specs.VariableTypes.{is_numeric, is_integral};
+ghost use Rattle.linear_rows.specs.GreedyPoint.{IsInside};
 ghost use Rattle.linear_elim.specs.internal.ChoiceSteps.{IsWithin, IsPast};
 ghost use Rattle.linear_elim.specs.declared.ends.Side.{Side as SideValue};
 ghost use Rattle.linear_elim.specs.internal.Picks.{IsNextWhole, IsPicked, sided, across, between, narrow_pick, broken_pick, past_place};

@@ -1,12 +1,12 @@
 //! The combination that refutes rows.
 ghost use Rattle.std.specs.Prelude.{◌≡◌, None, IfOk, IfSome};
 ghost use Rattle.std.specs.List.{All};
-ghost use Rattle.linear_form.specs.Row.{IsRow};
-ghost use Rattle.linear_form.specs.Combination.{IsContradiction};
+ghost use Rattle.linear_rows.specs.Row.{IsRow};
+ghost use Rattle.linear_rows.specs.Combination.{IsContradiction};
 ghost use Rattle.linear_elim.specs.Elimination.{multipliers};
 
 use crate::joins::Derived;
-use linear_form::{Row, contradicts};
+use linear_rows::{Row, contradicts};
 use std::alloc::{AllocError, Global};
 
 /// The multipliers of a derived row.

@@ -2,9 +2,9 @@
 ghost use Rattle.std.specs.Prelude.{◌≡◌, ◌<◌, ◌≤◌, ◌+◌, ◌^◌, ◌++◌, ◌*ℤ◌, ◌+ℤ◌, [], ℕ, ℤ, pos, true, unsigned_abs, length, drop, IfOk};
 ghost use Rattle.std.specs.List.{All};
 ghost use Rattle.heyvl_num.specs.Gcd.{gcd};
-ghost use Rattle.linear_form.specs.Divisors.{divisor, divided_terms};
-ghost use Rattle.linear_form.specs.Merging.{mixed_terms};
-ghost use Rattle.linear_form.specs.Terms.{coefficient, IsNormal, put_term};
+ghost use Rattle.linear_rows.specs.Divisors.{divisor, divided_terms};
+ghost use Rattle.linear_rows.specs.Merging.{mixed_terms};
+ghost use Rattle.linear_rows.specs.Terms.{coefficient, IsNormal, put_term};
 ghost use Rattle.linear_elim.specs.Joins.{is_below_zero, is_above_zero, join, join_fits};
 ghost use Rattle.linear_elim.specs.internal.DerivedRows.{IsDerived};
 ghost use Rattle.linear_elim.specs.internal.SmallRows.{IsSmall, IsNextMixed};

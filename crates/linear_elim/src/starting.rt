@@ -1,8 +1,8 @@
 //! The first rows, and the elimination as a whole.
 ghost use Rattle.std.specs.Prelude.{◌≡◌, ◌<◌, ◌^◌, ◌∷◌, [], ℕ, ℤ, pos, length, IfOk};
 ghost use Rattle.std.specs.List.{All};
-ghost use Rattle.linear_form.specs.Terms.{IsOver};
-ghost use Rattle.linear_form.specs.Row.{IsRow};
+ghost use Rattle.linear_rows.specs.Terms.{IsOver};
+ghost use Rattle.linear_rows.specs.Row.{IsRow};
 ghost use Rattle.linear_elim.specs.Steps.{contradiction, tidied};
 ghost use Rattle.linear_elim.specs.Elimination.{start, elimination, own};
 ghost use Rattle.linear_elim.specs.internal.Outcomes.{outcome_of, Decided};
@@ -10,7 +10,7 @@ ghost use Rattle.linear_elim.specs.internal.Outcomes.{outcome_of, Decided};
 use crate::elimination::{Outcome, eliminate_from};
 use crate::gathering::Gathering;
 use crate::joins::Derived;
-use linear_form::Row;
+use linear_rows::Row;
 use std::alloc::{AllocError, Global};
 
 /// A first row as its own share.

@@ -1,7 +1,7 @@
 //! One step of elimination.
 ghost use Rattle.std.specs.Prelude.{◌≡◌, [], true, IfOk};
 ghost use Rattle.std.specs.List.{All};
-ghost use Rattle.linear_form.specs.Terms.{coefficient};
+ghost use Rattle.linear_rows.specs.Terms.{coefficient};
 ghost use Rattle.linear_elim.specs.Joins.{is_below_zero, is_above_zero};
 ghost use Rattle.linear_elim.specs.internal.Afters.{IsAfter};
 ghost use Rattle.linear_elim.specs.internal.DerivedRows.{IsDerived};
@@ -12,7 +12,7 @@ ghost use Rattle.linear_elim.specs.internal.Gathering.{found_all, rows_all};
 use crate::counting::{Counted, count_rows};
 use crate::gathering::Gathering;
 use crate::joins::{Derived, joined};
-use linear_form::coefficient_of;
+use linear_rows::coefficient_of;
 use std::alloc::{AllocError, Global};
 use std::marker::Model;
 

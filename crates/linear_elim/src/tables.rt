@@ -1,18 +1,18 @@
 //! A table of different lists of terms. It keeps which rows they come from, and not the terms themselves.
 ghost use Rattle.std.specs.Prelude.{◌≡◌, ◌<◌, ◌+◌, [], ℕ, List, ℤ, set, true, IfOk, IfSome, length};
 ghost use Rattle.linear_elim.specs.Joins.{is_below_zero, is_above_zero, join};
-ghost use Rattle.linear_elim.specs.Steps.{same_terms};
+ghost use Rattle.linear_rows.specs.SameTerms.{same_terms};
 ghost use Rattle.linear_elim.specs.internal.Counting.{terms_at, home, print_of, IsSplit, IsTable, IsPlaceOf, Puts};
 ghost use Rattle.linear_elim.specs.internal.DerivedRows.{IsDerived};
 ghost use Rattle.linear_elim.specs.internal.Fingerprints.{fingerprint};
-ghost use Rattle.linear_form.specs.Terms.{coefficient};
+ghost use Rattle.linear_rows.specs.Terms.{coefficient};
 ghost use Rattle.linear_elim.specs.declared.tables.Name.{Name as NameValue};
 
 use crate::fingerprints::hashed;
-use crate::gathering::have_same_terms;
 use crate::joins::{Derived, joined};
 use crate::small_joins::{is_small, join_terms};
 use crate::steps::Step;
+use linear_rows::have_same_terms;
 use std::alloc::{AllocError, Global};
 
 /// The numbers of a lower row and an upper one, for the terms of their join. Where `low` is no lower row's number, `up` is that of

@@ -9,7 +9,8 @@ use Rattle.heylo_formula.specs.declared.forms.Cond as C
 use Rattle.heylo_formula.specs.PlainTrees.{form_of, cond_of}
 use Rattle.heylo_formula.specs.Formula.{Form, Cond}
 use Rattle.linear_form.specs.Questions as q
-use Rattle.linear_form.specs.Questions.{Linear, evaluate, test, both}
+use Rattle.linear_values.specs.Lin.{Linear}
+use Rattle.linear_form.specs.Questions.{evaluate, test, both}
 use Rattle.linear_form.specs.internal.Nodes.{comparison}
 use Rattle.linear_form.specs.internal.Lasting.{Lasts}
 use Rattle.linear_form.specs.declared.nodes.Comparison.{Comparison}

@@ -3,7 +3,8 @@ use Rattle.std.proofs.Common.{◌≡◌, refl, sym, ap, ap₂, ◌∙◌, Bool, 
 use Rattle.std.specs.Prelude.{if◌then◌else◌}
 use Rattle.linear_form.specs.Query.{Query, next}
 use Rattle.linear_form.specs.Query.Query.{done, bits, ask}
-use Rattle.linear_form.specs.Questions.{Linear, both}
+use Rattle.linear_values.specs.Lin.{Linear}
+use Rattle.linear_form.specs.Questions.{both}
 use Rattle.linear_form.specs.internal.Places.{Result, valued, told, of_two, of_number, of_bool, ended}
 use Rattle.linear_form.specs.declared.places.Two.{Two}
 

@@ -13,16 +13,15 @@ use Rattle.heyvl_num.proofs.exported.Roundings.{floor-is, ceil-is}
 use Rattle.heyvl_num.proofs.exported.Signs.{≤ʳ-+ʳ_cancel}
 use Rattle.heylo_formula.specs.State.{Env, number_of}
 use Rattle.heylo_formula.specs.Typing.{Types}
-use Rattle.linear_form.specs.Solutions.{sum_of, IsBelowZero, MeetsAt}
-use Rattle.linear_form.specs.Lin.{Terms, total}
-use Rattle.linear_form.specs.Query.{is_negative}
-use Rattle.linear_form.specs.ClaimLaws.{IsClaimed, AllClaimed}
-use Rattle.linear_form.specs.internal.Nonzero.{AreNonzero, AllNonzero}
-use Rattle.linear_form.specs.PathRows.{with_row, all_tightened}
-use Rattle.linear_form.specs.Row.{Row}
-use Rattle.linear_form.specs.Tightening.{Claim, sign_of, rounded, are_whole, tight_row, tightened, factor, whole_terms}
-use Rattle.linear_form.specs.internal.WholeTimes.{AreWholeTimes}
-use Rattle.linear_form.proofs.TightRows.{IsPositive, keeps_sign, positive_ratio, positive-*, factor_positive, factor_whole, value_scaled, further_whole, cleared, zero_row, taken_row}
+use Rattle.linear_rows.specs.Solutions.{sum_of, IsBelowZero, MeetsAt}
+use Rattle.linear_values.specs.Lin.{Terms, total}
+use Rattle.linear_rows.specs.Numbers.{is_negative}
+use Rattle.linear_values.specs.Claims.{IsClaimed, AllClaimed}
+use Rattle.linear_values.specs.Nonzero.{AreNonzero, AllNonzero}
+use Rattle.linear_values.specs.Tightening.{with_row, all_tightened, Claim, sign_of, rounded, are_whole, tight_row, tightened, factor, whole_terms}
+use Rattle.linear_rows.specs.Row.{Row}
+use Rattle.linear_values.specs.WholeTimes.{AreWholeTimes}
+use Rattle.linear_values.proofs.exported.TightRows.{IsPositive, keeps_sign, positive_ratio, positive-*, factor_positive, factor_whole, value_scaled, further_whole, cleared, zero_row, taken_row}
 
 abbrev numbers : Env → ℕ → Rational
 numbers s x = number_of (s x)

@@ -5,14 +5,16 @@ use Rattle.heyvl_num.specs.Rational.{Rational, zeroʳ, ◌*ʳ◌}
 use Rattle.heyvl_num.specs.Value.{Value, is_zeroʳ}
 use Rattle.heyvl_num.specs.Value.Value.{finite, infinite}
 use Rattle.heylo_formula.specs.Formula.{Form}
-use Rattle.linear_form.specs.Lin.{Lin, Terms, constant, merged, times, plus, minus, minus_oneʳ, scaled, is_sized}
+use Rattle.linear_values.specs.Lin.{Lin, Terms, constant, merged, times, plus, minus, scaled, is_sized, Linear}
+use Rattle.linear_rows.specs.Numbers.{minus_oneʳ}
 use Rattle.linear_form.specs.Query.{next}
 use Rattle.linear_form.specs.Query.Query.{done, bits}
 use Rattle.linear_form.specs.Questions as q
-use Rattle.linear_form.specs.Questions.{Linear, sized, is_below, evaluate, test}
+use Rattle.linear_form.specs.Questions.{sized, is_below, evaluate, test}
 use Rattle.linear_form.specs.Nonlinear.{has_variable}
 use Rattle.linear_form.specs.QuestionLaws.{EachResult, IsConstant}
-use Rattle.linear_form.proofs.EachResults.{each_next, each_after, each_both, of_two}
+use Rattle.linear_form.proofs.EachResults.{each_next, each_after, each_both}
+use Rattle.linear_values.proofs.exported.KeptTerms.{of_two}
 
 plus_constant : (a b : Lin) → a.terms ≡ [] → b.terms ≡ [] → (plus a b).terms ≡ []
 unfolding plus

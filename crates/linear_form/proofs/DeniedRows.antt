@@ -6,15 +6,14 @@ use Rattle.std.specs.List.{All, Contains}
 use Rattle.std.proofs.lemmas.List.{append-nil}
 use Rattle.std.proofs.lemmas.List.Elements.{All-nil, All-cons, All-head, All-tail, All-contains_itself}
 use Rattle.heylo_formula.specs.Goals.{Goal}
-use Rattle.heylo_formula.specs.Typing.{Types}
-use Rattle.linear_form.specs.Lin.{variable}
+use Rattle.heylo_formula.specs.Typing.{Types, types_in}
+use Rattle.linear_values.specs.Lin.{variable}
 use Rattle.linear_form.specs.Query.{Taken}
 use Rattle.linear_form.specs.Paths.{end_at}
-use Rattle.heylo_formula.specs.Typing.{types_in}
-use Rattle.linear_form.specs.Tightening.{Claim, tightened}
-use Rattle.linear_form.specs.PathRows.{claim, negated, path_claims, listed, denial_at, is_unsigned_type, occurs_in_terms, occurs_in_claims, sign_claims, with_signs, claims_of, with_row, all_tightened, rows_of}
-use Rattle.linear_form.specs.Row.{Row}
-use Rattle.linear_form.specs.Solutions.{MeetsAt}
+use Rattle.linear_values.specs.Tightening.{Claim, tightened, with_row, all_tightened}
+use Rattle.linear_form.specs.PathRows.{claim, negated, path_claims, listed, denial_at, is_unsigned_type, occurs_in_terms, occurs_in_claims, sign_claims, with_signs, claims_of, rows_of}
+use Rattle.linear_rows.specs.Row.{Row}
+use Rattle.linear_rows.specs.Solutions.{MeetsAt}
 use Rattle.linear_form.specs.RowListLaws.{DeniedRowsAreMore, DeniedRowsAreStronger}
 
 -- ---- What holds of the row of each claim

@@ -8,27 +8,29 @@ use borrow.Author.Differences.{ints}
 use Rattle.heyvl_num.specs.Rational.{Rational}
 use Rattle.heyvl_num.specs.Rounding.{whole}
 use Rattle.heylo_formula.specs.Formula.{Form}
-use Rattle.linear_form.specs.Lin.{Lin, AreNormal, fits, is_sized, constant, plus, scaled, variable}
+use Rattle.linear_values.specs.Lin.{Lin, AreNormal, is_sized, constant, plus, scaled, variable, Linear}
+use Rattle.linear_rows.specs.Numbers.{fits}
 use Rattle.linear_form.specs.Query.{Query, Taken, next}
 use Rattle.linear_form.specs.Query.Query.{done}
 use Rattle.linear_form.specs.Questions as q
-use Rattle.linear_form.specs.Questions.{Linear, evaluate}
-use Rattle.linear_form.specs.PlainPaths.{lin_of}
+use Rattle.linear_form.specs.Questions.{evaluate}
+use Rattle.linear_values.specs.PlainValues.{lin_of}
 use Rattle.linear_form.specs.internal.Direct.{Yields, MayGive, MayGiveWhole}
 use Rattle.linear_form.specs.internal.Places as places
 use Rattle.linear_form.specs.internal.Places.{valued, of_number, through}
 use Rattle.linear_form.specs.internal.Steps.{Steps}
-use Rattle.linear_form.specs.internal.Run.{IsKept}
-use Rattle.linear_form.specs.declared.lin.Lin as L
+use Rattle.linear_values.specs.Kept.{IsKept}
+use Rattle.linear_values.specs.declared.lin.Lin as L
 use Rattle.linear_form.specs.declared.places.Frame.{Frame}
 use Rattle.linear_form.specs.declared.places.Place.{Place}
 use Rattle.linear_form.specs.declared.steps.Step as S
-use Rattle.linear_form.specs.Terms.{is_narrow}
-use Rattle.linear_form.specs.internal.Operator.{narrow_value}
-use Rattle.linear_form.proofs.Factors.{whole_num}
-use Rattle.linear_form.proofs.KeptValues.{variable_kept, scaled_normal}
-use Rattle.linear_form.proofs.Narrow.{seen}
-use Rattle.linear_form.proofs.TightRows.{whole_den, whole-+}
+use Rattle.linear_rows.specs.Terms.{is_narrow}
+use Rattle.linear_values.specs.Operator.{narrow_value}
+use Rattle.linear_values.proofs.exported.Factors.{whole_num}
+use Rattle.linear_form.proofs.KeptValues.{variable_kept}
+use Rattle.linear_values.proofs.exported.KeptTerms.{scaled_normal}
+use Rattle.linear_rows.proofs.exported.Narrow.{seen}
+use Rattle.linear_values.proofs.exported.TightRows.{whole_den, whole-+}
 
 pub yields_sized : (a : Lin) → AreNormal a.terms → is_sized a ≡ true → Yields (q.sized (Some a)) a
 yields_sized a n e = record { asks_nothing = rw e refl; kept = record { sized = e; normal = n } }

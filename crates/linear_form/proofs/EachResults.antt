@@ -1,8 +1,8 @@
 -- What holds of every result of a tree.
-use Rattle.std.proofs.Common.{Bool, true, false, cond}
 use Rattle.linear_form.specs.Query.{Query, next}
 use Rattle.linear_form.specs.Query.Query.{done, bits, ask}
-use Rattle.linear_form.specs.Questions.{Linear, both}
+use Rattle.linear_values.specs.Lin.{Linear}
+use Rattle.linear_form.specs.Questions.{both}
 use Rattle.linear_form.specs.QuestionLaws.{EachResult}
 
 pub each_next : {A B : Type 0} (t : Query A) (f : A → Query B) (P : A → Type 0) (Q : B → Type 0) → EachResult P t → ((a : A) → P a → EachResult Q (f a)) → EachResult Q (next t f)
@@ -18,7 +18,3 @@ each_after (ask q y n) f Q k = (each_after y f Q k, each_after n f Q k)
 
 pub each_both : {B : Type 0} (t u : Query Linear) (f : Linear → Linear → Query B) (P : Linear → Type 0) (Q : B → Type 0) → EachResult P t → EachResult P u → ((x y : Linear) → P x → P y → EachResult Q (f x y)) → EachResult Q (both t u f)
 each_both t u f P Q h k g = each_next t _ P Q h (λ x p. each_next u _ P Q k (λ y r. g x y p r))
-
-pub of_two : {A : Type 0} (P : A → Type 0) (b : Bool) (x y : A) → P x → P y → P (cond b x y)
-of_two P true x y p q = p
-of_two P false x y p q = q

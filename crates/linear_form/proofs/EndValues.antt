@@ -16,12 +16,13 @@ use Rattle.heylo_formula.specs.Choices.{Choices, left, right}
 use Rattle.heylo_formula.specs.Meaning.{value, holds}
 use Rattle.heylo_formula.specs.Typing.{HasTypes, NumberType, Types, type_of, is_well_typed, is_finite_type, is_unsigned}
 use Rattle.heylo_formula.specs.Goals.{Goal}
-use Rattle.linear_form.specs.Lin.{Lin, Terms, plus, minus, scaled, is_sized, at, total}
-use Rattle.linear_form.specs.Query.{Query, next, is_negative}
+use Rattle.linear_values.specs.Lin.{Lin, Terms, plus, minus, scaled, is_sized, at, total, Linear}
+use Rattle.linear_form.specs.Query.{Query, next}
+use Rattle.linear_rows.specs.Numbers.{is_negative}
 use Rattle.linear_form.specs.Query.Query.{done, bits}
 use Rattle.linear_form.specs.Questions as q
-use Rattle.linear_form.specs.Questions.{Linear, value_in, sized, asked, is_below, evaluate, test, both, with, questions}
-use Rattle.linear_form.proofs.LinearValues.{plus_at, minus_at, scaled_at, variable_at, at_most_at, below_at}
+use Rattle.linear_form.specs.Questions.{value_in, sized, asked, is_below, evaluate, test, both, with, questions}
+use Rattle.linear_values.proofs.exported.LinearValues.{plus_at, minus_at, scaled_at, variable_at, at_most_at, below_at}
 use Rattle.linear_form.proofs.QueryTrees.{Ends, ends_then, ends_once}
 use Rattle.linear_form.proofs.TypedValues.{typed_environment, Fits, infinite_ok, Parts, parts, allowed, only, unsigned, difference_joined, scale_joined, value_fits}
 

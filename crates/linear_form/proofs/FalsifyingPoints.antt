@@ -7,16 +7,17 @@ use Rattle.heylo_formula.specs.Goals.{Goal, Compares}
 use Rattle.heylo_formula.specs.State.{Env, environment}
 use Rattle.heylo_formula.specs.Choices.{Choices}
 use Rattle.heylo_formula.specs.Meaning.{value}
-use Rattle.linear_form.specs.Lin.{Lin, at}
-use Rattle.linear_form.specs.Query.{Atom, Taken, is_negative, holds_at}
-use Rattle.linear_form.specs.Questions.{Linear, Ends, value_in}
+use Rattle.linear_values.specs.Lin.{Lin, at, Linear}
+use Rattle.linear_form.specs.Query.{Atom, Taken, holds_at}
+use Rattle.linear_rows.specs.Numbers.{is_negative}
+use Rattle.linear_form.specs.Questions.{Ends, value_in}
 use Rattle.linear_form.specs.Paths.{Agrees, end_at}
 use Rattle.heylo_formula.specs.Typing.{types_in}
-use Rattle.linear_form.specs.Tightening.{Claim}
-use Rattle.linear_form.specs.ClaimLaws.{AllClaimed}
+use Rattle.linear_values.specs.Tightening.{Claim}
+use Rattle.linear_values.specs.Claims.{AllClaimed}
 use Rattle.linear_form.specs.PathRows.{answer_claims, path_claims, below_claim, denial, listed, denial_at, sign_claims, claims_of}
 use Rattle.linear_form.specs.PointLaws.{HasTruths, PointsAgree, PointsFalsify}
-use Rattle.linear_form.proofs.LinearValues.{leq_zero_minus, leq_minus, below_at}
+use Rattle.linear_values.proofs.exported.LinearValues.{leq_zero_minus, leq_minus, below_at}
 use Rattle.linear_form.proofs.MetClaims.{negated_at}
 use Rattle.linear_form.proofs.NormalClaims.{all_nonzero}
 use Rattle.linear_form.proofs.AgreedEnds.{ends_are_values}

@@ -10,25 +10,24 @@ use Rattle.heyvl_num.specs.Value.{is_zeroʳ, is_zero_num}
 use Rattle.heyvl_num.proofs.exported.Values.{is_zero-*, is_zero-one}
 use Rattle.heyvl_num.proofs.exported.Rationals.{*ʳ-one}
 use Rattle.heylo_formula.specs.Goals.{Goal}
-use Rattle.heylo_formula.specs.Typing.{Types}
-use Rattle.linear_form.specs.Row.{Row, IsRow}
-use Rattle.linear_form.specs.Terms as row
-use Rattle.linear_form.specs.Terms.{is_narrow}
-use Rattle.linear_form.specs.Lin.{Terms, variable, IsAbove, AreNormal, is_sized}
+use Rattle.heylo_formula.specs.Typing.{Types, types_in}
+use Rattle.linear_rows.specs.Row.{Row, IsRow}
+use Rattle.linear_rows.specs.Terms as row
+use Rattle.linear_rows.specs.Terms.{is_narrow}
+use Rattle.linear_values.specs.Lin.{Terms, variable, IsAbove, AreNormal, is_sized}
 use Rattle.linear_form.specs.Query.{Atom, Taken}
 use Rattle.linear_form.specs.Paths.{IsPath, end_at}
-use Rattle.linear_form.specs.Tightening.{Claim, tightened, tight_row, whole_terms, factor, rounded, are_whole, all_narrow, constant_fits}
+use Rattle.linear_values.specs.Tightening.{Claim, tightened, tight_row, whole_terms, factor, rounded, are_whole, all_narrow, constant_fits, with_row, all_tightened}
 use Rattle.heylo_formula.specs.TypedGoals.{IsTypedGoal}
-use Rattle.heylo_formula.specs.Typing.{types_in}
-use Rattle.linear_form.specs.PathRows.{claim, negated, answer_claims, path_claims, denial_at, listed, with_row, all_tightened, is_unsigned_type, occurs_in_claims, sign_claims, claims_of, rows_of}
+use Rattle.linear_form.specs.PathRows.{claim, negated, answer_claims, path_claims, denial_at, listed, is_unsigned_type, occurs_in_claims, sign_claims, claims_of, rows_of}
 use Rattle.linear_form.specs.RowLists.{Lists, AreRows, AreNumericRows, count_of}
 use Rattle.linear_form.specs.PlainPaths.{path_of, taken_of}
 use Rattle.linear_form.specs.declared.paths.Taken as T
 use Rattle.linear_form.specs.declared.path_rows.RowList.{RowList}
 use Rattle.linear_form.specs.declared.path_rows.RowList.TheVariants.{Rows, Bits}
-use Rattle.linear_form.proofs.EachResults.{of_two}
-use Rattle.linear_form.proofs.Factors.{normal_nonzero, nonzero_factor}
-use Rattle.linear_form.proofs.TightRows.{IsPositive, positive_ratio, factor_positive}
+use Rattle.linear_values.proofs.exported.KeptTerms.{of_two}
+use Rattle.linear_values.proofs.exported.Factors.{normal_nonzero, nonzero_factor}
+use Rattle.linear_values.proofs.exported.TightRows.{IsPositive, positive_ratio, factor_positive}
 use Rattle.linear_form.proofs.NumericRows.{numeric_rows}
 use Rattle.linear_form.proofs.NormalClaims.{AllNormal, all_normal}
 

@@ -21,7 +21,7 @@ use Rattle.linear_form.specs.declared.paths.Atom as A
 use Rattle.linear_form.specs.PlainPaths.{atom_of}
 use Rattle.linear_form.specs.internal.Seen.{Stops}
 use Rattle.linear_form.specs.declared.cursor.Stop.{Stop}
-use Rattle.linear_form.specs.Questions.{Linear}
+use Rattle.linear_values.specs.Lin.{Linear}
 use Rattle.linear_form.proofs.Runs.{run_next, stops_first}
 
 -- ---- What is found on a path is found on each path with the same answers so far

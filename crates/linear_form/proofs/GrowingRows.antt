@@ -6,20 +6,21 @@ use Rattle.std.proofs.Math.Seq.{take-append_seam}
 use Rattle.heylo_formula.specs.Goals.{Goal}
 use Rattle.heylo_formula.specs.Typing.{Types, types_in}
 use Rattle.heylo_formula.specs.declared.types.Ty.{Ty}
-use Rattle.linear_form.specs.Row.{Row}
+use Rattle.linear_rows.specs.Row.{Row}
 use Rattle.linear_form.specs.Query.{Query, Taken}
 use Rattle.linear_form.specs.Questions.{Ends}
-use Rattle.linear_form.specs.Tightening.{Claim}
-use Rattle.linear_form.specs.PathRows.{answer_claims, path_claims, all_tightened, below_claim, denial, denial_at, listed}
+use Rattle.linear_values.specs.Tightening.{Claim, all_tightened}
+use Rattle.linear_form.specs.PathRows.{answer_claims, path_claims, below_claim, denial, denial_at, listed}
 use Rattle.linear_form.specs.Asked.{Answers}
-use Rattle.linear_form.specs.PlainPaths.{path_of, taken_of, atom_of, linear_of}
+use Rattle.linear_form.specs.PlainPaths.{path_of, taken_of, atom_of}
+use Rattle.linear_values.specs.PlainValues.{linear_of}
 use Rattle.linear_form.specs.RowLists.{Lists, ArePathRows, LackLastRow, StartsWith}
 use Rattle.linear_form.specs.internal.FurtherRows.{followed_by, rows_with}
 use Rattle.linear_form.specs.internal.NormalPaths.{IsNormalAtom, IsNormalPath}
 use Rattle.linear_form.specs.declared.path_rows.RowList.{RowList}
 use Rattle.linear_form.specs.declared.path_rows.RowList.TheVariants.{Rows, Bits}
 use Rattle.linear_form.specs.declared.paths.Taken as T
-use Rattle.linear_form.specs.declared.lin.Lin as L
+use Rattle.linear_values.specs.declared.lin.Lin as L
 use Rattle.linear_form.specs.declared.asking.Ask as K
 use Rattle.linear_form.proofs.RowsOfClaims.{joined, tightened_append}
 use Rattle.linear_form.proofs.PathRowSteps.{claims_append}

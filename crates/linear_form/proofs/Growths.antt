@@ -9,17 +9,17 @@ use Rattle.heyvl_num.specs.Value.{is_zeroʳ}
 use Rattle.heyvl_num.proofs.exported.Signs.{+ʳ-neg, -ʳ-is, -ʳ-self, -ʳ-+ʳ, negʳ-neg, negʳ-zero, negʳ-+ʳ, negʳ-*ʳ, *ʳ-negʳ, *ʳ--ʳ, negʳ_mono, <ʳ-≤ʳ, <ʳ-not}
 use Rattle.heylo_formula.specs.State.{put, number_of}
 use Rattle.heylo_formula.specs.declared.values.Val.TheVariants.{Num}
-use Rattle.linear_form.specs.Lin.{Lin, Terms, constant, variable, plus, minus, scaled, total, is_sized}
+use Rattle.linear_values.specs.Lin.{Lin, Terms, constant, variable, plus, minus, scaled, total, is_sized, Linear}
 use Rattle.linear_form.specs.Query.{Query}
 use Rattle.linear_form.specs.Query.Query.{done, bits, ask}
 use Rattle.linear_form.specs.Questions as q
-use Rattle.linear_form.specs.Questions.{Linear, asked, is_below, both}
+use Rattle.linear_form.specs.Questions.{asked, is_below, both}
 use Rattle.linear_form.specs.QuestionLaws.{EachResult}
 use Rattle.linear_form.specs.internal.Lasting.{Lasts, all_zero, growth, IsSlope, HasSlope}
 use Rattle.linear_form.specs.internal.Nodes.{comparison}
 use Rattle.linear_form.specs.declared.nodes.Comparison.{Comparison}
 use Rattle.linear_form.specs.declared.slopes.Slope.{Slope}
-use Rattle.linear_form.proofs.LinearValues.{plus_at, minus_at, scaled_at, constant_at, variable_at}
+use Rattle.linear_values.proofs.exported.LinearValues.{plus_at, minus_at, scaled_at, constant_at, variable_at}
 use Rattle.linear_form.proofs.EachResults.{each_next}
 use Rattle.linear_form.proofs.SureQuestions.{lasts_bits, lasts_first, lasts_each}
 

@@ -3,10 +3,11 @@ use Rattle.std.proofs.Common.{◌≡◌, ℕ, List, refl, ◌∙◌, Bool, true,
 use mathlib.Core.Bool.{beq}
 use Rattle.heylo_formula.specs.Operators.{agree}
 use Rattle.linear_form.specs.Query.{Query, Taken}
-use Rattle.linear_form.specs.Questions.{Linear}
+use Rattle.linear_values.specs.Lin.{Linear}
 use Rattle.linear_form.specs.QuestionLaws.{EachResult}
 use Rattle.linear_form.specs.internal.Nodes.{binary, unary, of_truth}
-use Rattle.linear_form.specs.internal.Run.{along, IsKeptValue}
+use Rattle.linear_form.specs.internal.Run.{along}
+use Rattle.linear_values.specs.Kept.{IsKeptValue}
 use Rattle.linear_form.specs.internal.Run.Evaluation.{value}
 use Rattle.linear_form.specs.internal.Places.{Result, valued, told}
 use Rattle.linear_form.specs.declared.nodes.Binary.{Binary}
@@ -14,7 +15,7 @@ use Rattle.linear_form.specs.declared.nodes.Unary as U
 use Rattle.linear_form.specs.declared.nodes.OfTruth.{OfTruth}
 use Rattle.std.specs.Prelude as M
 use Rattle.std.specs.Prelude.{Ok, Err, IfOk}
-use Rattle.linear_form.specs.PlainPaths.{linear_of}
+use Rattle.linear_values.specs.PlainValues.{linear_of}
 use Rattle.linear_form.specs.internal.Seen.{Gives}
 use Rattle.linear_form.specs.declared.cursor.Found.{Found}
 use Rattle.linear_form.specs.declared.cursor.Stop.{Stop}

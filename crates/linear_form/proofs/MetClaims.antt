@@ -9,21 +9,23 @@ use Rattle.heylo_formula.specs.Goals.{Goal, Compares, HoldsIn}
 use Rattle.heylo_formula.specs.State.{Env, IsTyped, environment, number_of, has}
 use Rattle.heylo_formula.specs.Choices.{Choices}
 use Rattle.heylo_formula.specs.Meaning.{value}
-use Rattle.heylo_formula.specs.Typing.{HasTypes, Types}
+use Rattle.heylo_formula.specs.Typing.{HasTypes, Types, types_in}
 use Rattle.heylo_formula.specs.declared.types.Ty.{Ty}
 use Rattle.heylo_formula.specs.declared.values.Val.{Val}
 use Rattle.heylo_formula.specs.declared.values.Val.TheVariants.{Truth, Num}
-use Rattle.linear_form.specs.Lin.{Lin, at, variable, minus_oneʳ}
-use Rattle.linear_form.specs.Query.{Query, Atom, Taken, is_negative, holds_at}
+use Rattle.linear_values.specs.Lin.{Lin, at, variable, Linear}
+use Rattle.linear_rows.specs.Numbers.{minus_oneʳ, is_negative}
+use Rattle.linear_form.specs.Query.{Query, Atom, Taken, holds_at}
 use Rattle.linear_form.specs.Query.Query.{done, bits, ask}
-use Rattle.linear_form.specs.Questions.{Linear, Ends, value_in}
+use Rattle.linear_form.specs.Questions.{Ends, value_in}
 use Rattle.linear_form.specs.Paths.{IsPath, Agrees, end_at}
 use Rattle.heylo_formula.specs.TypedGoals.{IsTypedGoal}
-use Rattle.heylo_formula.specs.Typing.{types_in}
-use Rattle.linear_form.specs.Tightening.{Claim}
-use Rattle.linear_form.specs.ClaimLaws.{IsClaimed, AllClaimed, AnswersClaimTruths, DenialsClaimTruths}
+use Rattle.linear_values.specs.Tightening.{Claim}
+use Rattle.linear_values.specs.Claims.{IsClaimed, AllClaimed}
+use Rattle.linear_form.specs.ClaimLaws.{AnswersClaimTruths, DenialsClaimTruths}
 use Rattle.linear_form.specs.PathRows.{claim, negated, answer_claims, path_claims, below_claim, denial, listed, denial_at, is_unsigned_type, occurs_in_claims, sign_claims, with_signs}
-use Rattle.linear_form.proofs.LinearValues.{scaled_at, constant_at, variable_at, minus_one_times, leq_zero_minus, leq_minus, below_at}
+use Rattle.linear_values.proofs.exported.LinearValues.{scaled_at, constant_at, variable_at, leq_zero_minus, leq_minus, below_at}
+use Rattle.linear_rows.proofs.exported.Narrow.{minus_one_times}
 use Rattle.linear_form.proofs.TypedValues.{typed_environment}
 use Rattle.linear_form.proofs.AgreedEnds.{ends_are_values}
 use Rattle.heyvl_num.proofs.exported.Rationals.{zero-+ʳ}

@@ -8,23 +8,24 @@ use Rattle.heyvl_num.specs.Value.Value.{finite, infinite}
 use Rattle.heyvl_num.proofs.exported.Values.{is_zero-one}
 use Rattle.heylo_formula.specs.Formula.{Form, Cond}
 use Rattle.heylo_formula.specs.Goals.{Goal}
-use Rattle.heylo_formula.specs.Typing.{Types}
-use Rattle.linear_form.specs.Lin.{Lin, Terms, constant, variable, plus, minus, minus_oneʳ, scaled, is_sized, AreNormal}
+use Rattle.heylo_formula.specs.Typing.{Types, types_in}
+use Rattle.linear_values.specs.Lin.{Lin, Terms, constant, variable, plus, minus, scaled, is_sized, AreNormal, Linear}
+use Rattle.linear_rows.specs.Numbers.{minus_oneʳ}
 use Rattle.linear_form.specs.Query.{Query, Atom, Taken, next, known, unless_known, onto, once}
 use Rattle.linear_form.specs.Query.Query.{done, bits, ask}
 use Rattle.linear_form.specs.Questions as q
-use Rattle.linear_form.specs.Questions.{Linear, Ends, sized, asked, is_below, evaluate, test, both, questions}
+use Rattle.linear_form.specs.Questions.{Ends, sized, asked, is_below, evaluate, test, both, questions}
 use Rattle.linear_form.specs.Paths.{walk, Path, IsPath, end_at}
-use Rattle.heylo_formula.specs.Typing.{types_in}
-use Rattle.linear_form.specs.Tightening.{Claim}
-use Rattle.linear_form.specs.internal.Nonzero.{AllNonzero}
+use Rattle.linear_values.specs.Tightening.{Claim}
+use Rattle.linear_values.specs.Nonzero.{AllNonzero}
 use Rattle.linear_form.specs.PathRows.{claim, negated, answer_claims, path_claims, below_claim, listed, denial_at, is_unsigned_type, occurs_in_claims, sign_claims, claims_of}
 use Rattle.linear_form.specs.internal.NormalPaths.{IsNormalAtom, IsNormalPath}
 use Rattle.linear_form.specs.QuestionLaws.{EachResult}
-use Rattle.linear_form.specs.internal.Run.{IsKeptValue}
-use Rattle.linear_form.proofs.EachResults.{of_two, each_next}
-use Rattle.linear_form.proofs.KeptValues.{plus_normal, minus_normal, scaled_normal, form_kept}
-use Rattle.linear_form.proofs.Factors.{normal_nonzero}
+use Rattle.linear_values.specs.Kept.{IsKeptValue}
+use Rattle.linear_values.proofs.exported.KeptTerms.{of_two, plus_normal, minus_normal, scaled_normal}
+use Rattle.linear_form.proofs.EachResults.{each_next}
+use Rattle.linear_form.proofs.KeptValues.{form_kept}
+use Rattle.linear_values.proofs.exported.Factors.{normal_nonzero}
 
 -- ---- The results and the questions of a tree
 

@@ -4,13 +4,15 @@ use Rattle.std.specs.Prelude.{Option, Some, None, MatchOption, IfOk, if◌then�
 use Rattle.std.specs.Prelude as R
 use Rattle.heyvl_num.specs.Rational.{Rational, ◌+ʳ◌, ◌*ʳ◌}
 use Rattle.heyvl_num.specs.Value.{is_zeroʳ}
-use Rattle.linear_form.specs.Lin.{Lin, Terms, constant, plus, scaled, fits, is_sized}
+use Rattle.linear_values.specs.Lin.{Lin, Terms, constant, plus, scaled, is_sized, Linear}
+use Rattle.linear_rows.specs.Numbers.{fits}
 use Rattle.linear_form.specs.Query.{Taken}
 use Rattle.linear_form.specs.Query.Query.{done}
 use Rattle.linear_form.specs.Questions as q
-use Rattle.linear_form.specs.Questions.{Ends, Linear}
-use Rattle.linear_form.specs.internal.Operator.{has_no_terms, small_product}
-use Rattle.linear_form.specs.internal.Run.{Evaluation, along, IsKept, IsKeptValue}
+use Rattle.linear_form.specs.Questions.{Ends}
+use Rattle.linear_values.specs.Operator.{has_no_terms, small_product}
+use Rattle.linear_form.specs.internal.Run.{Evaluation, along}
+use Rattle.linear_values.specs.Kept.{IsKept, IsKeptValue}
 use Rattle.linear_form.specs.internal.Places.{Result, resumed, through, frame_weight, frames_weight, AreKeptFrames}
 use Rattle.linear_form.specs.internal.Steps.{Steps}
 use Rattle.linear_form.specs.declared.places.Place.{Place}
@@ -19,7 +21,7 @@ use Rattle.linear_form.specs.declared.places.Frame as W
 use Rattle.linear_form.specs.declared.places.Frame.{Frame}
 use Rattle.linear_form.proofs.GoingOn.{through_push, weight_push, with_more}
 use Rattle.linear_form.proofs.Resuming.{kept_all}
-use Rattle.linear_form.proofs.Products.{product_some}
+use Rattle.linear_values.proofs.exported.Products.{product_some}
 
 pub number_is : (a : Lin) → has_no_terms a.terms ≡ true → a ≡ constant a.rest
 number_is a h = ap (λ ts. record { terms = ts; rest = a.rest }) (go a.terms h)

@@ -6,21 +6,21 @@ use Rattle.std.specs.List.{All}
 use Rattle.std.proofs.lemmas.List.Elements.{All-nil, All-cons}
 use Rattle.heyvl_num.specs.Rational.{Rational, ◌*ʳ◌}
 use Rattle.heylo_formula.specs.Goals.{Goal}
-use Rattle.heylo_formula.specs.Typing.{Types}
+use Rattle.heylo_formula.specs.Typing.{Types, types_in}
 use Rattle.heylo_formula.specs.declared.types.Ty.{Ty}
-use Rattle.linear_form.specs.Lin.{Terms, variable, minus_oneʳ}
+use Rattle.linear_values.specs.Lin.{Terms, variable, Linear}
+use Rattle.linear_rows.specs.Numbers.{minus_oneʳ}
 use Rattle.linear_form.specs.Query.{Query, Atom, Taken}
 use Rattle.linear_form.specs.Query.Query.{done, bits, ask}
-use Rattle.linear_form.specs.Questions.{Linear, Ends}
+use Rattle.linear_form.specs.Questions.{Ends}
 use Rattle.linear_form.specs.Paths.{IsPath, end_at}
 use Rattle.heylo_formula.specs.TypedGoals.{IsTypedGoal}
-use Rattle.heylo_formula.specs.Typing.{types_in}
-use Rattle.linear_form.specs.Tightening.{Claim, tightened, tight_row, rounded, are_whole, factor, whole_terms}
-use Rattle.linear_form.specs.PathRows.{claim, negated, answer_claims, path_claims, below_claim, listed, denial_at, is_unsigned_type, occurs_in_claims, sign_claims, claims_of, with_row, all_tightened, rows_of}
-use Rattle.linear_form.specs.Row.{Row}
-use Rattle.linear_form.specs.RowLists.{is_numeric, IsNumericRow}
-use Rattle.linear_form.proofs.EachResults.{of_two}
-use Rattle.linear_form.proofs.TightRows.{taken_row}
+use Rattle.linear_values.specs.Tightening.{Claim, tightened, tight_row, rounded, are_whole, factor, whole_terms, with_row, all_tightened}
+use Rattle.linear_form.specs.PathRows.{claim, negated, answer_claims, path_claims, below_claim, listed, denial_at, is_unsigned_type, occurs_in_claims, sign_claims, claims_of, rows_of}
+use Rattle.linear_rows.specs.Row.{Row}
+use Rattle.linear_rows.specs.VariableTypes.{is_numeric, IsNumericRow}
+use Rattle.linear_values.proofs.exported.KeptTerms.{of_two}
+use Rattle.linear_values.proofs.exported.TightRows.{taken_row}
 use Rattle.linear_form.proofs.TypedTrees.{NumberTerms, IsNumberValue, IsTypedAtom, IsTypedPath, AreNumberEnds, scaled_numbers, minus_numbers, typed_path, typed_end}
 
 -- ---- The claims

@@ -3,22 +3,24 @@ use Rattle.std.proofs.Common.{◌≡◌, [], ◌∷◌, refl, sym, ap, ap₂, �
 use Rattle.std.specs.Prelude.{Some}
 use Rattle.heyvl_num.specs.Rational.{Rational, ◌+ʳ◌, ◌*ʳ◌}
 use Rattle.heyvl_num.proofs.exported.Rationals.{+ʳ_comm}
-use Rattle.linear_form.specs.Lin.{Lin, Terms, AreNormal, constant, merged, more, times, plus, minus, minus_oneʳ, fits, all_fit, is_sized}
+use Rattle.linear_values.specs.Lin.{Lin, Terms, AreNormal, constant, merged, more, times, plus, minus, all_fit, is_sized}
+use Rattle.linear_rows.specs.Numbers.{minus_oneʳ, fits, is_negative}
 use Rattle.linear_form.specs.PlainPaths.{path_of}
-use Rattle.linear_form.specs.Query.{Taken, is_negative}
+use Rattle.linear_form.specs.Query.{Taken}
 use Rattle.linear_form.specs.Questions as q
 use Rattle.linear_form.specs.internal.Direct.{Yields}
-use Rattle.linear_form.specs.internal.Operator.{has_no_terms}
-use Rattle.linear_form.specs.internal.Run.{Evaluation, along, IsKept}
+use Rattle.linear_values.specs.Operator.{has_no_terms}
+use Rattle.linear_form.specs.internal.Run.{Evaluation, along}
+use Rattle.linear_values.specs.Kept.{IsKept}
 use Rattle.linear_form.specs.internal.Run.Evaluation.{value}
 use Rattle.linear_form.specs.declared.paths.Taken as T
 use Rattle.linear_form.proofs.OperatorRuns.{run_below_large, run_below_known, run_below_asked}
 use Rattle.linear_form.proofs.Runs.{turned_at}
 use Rattle.linear_form.proofs.DirectValues.{yields_sized}
-use Rattle.linear_form.proofs.KeptParts.{terms_fit}
-use Rattle.linear_form.proofs.KeptValues.{times_normal}
-use Rattle.linear_form.proofs.MergedTerms.{passed, minus_one_nonzero, difference_made}
-use Rattle.linear_form.proofs.Narrow.{fits_negated}
+use Rattle.linear_values.proofs.exported.KeptParts.{terms_fit}
+use Rattle.linear_values.proofs.exported.KeptTerms.{times_normal}
+use Rattle.linear_values.proofs.exported.MergedTerms.{passed, minus_one_nonzero, difference_made}
+use Rattle.linear_rows.proofs.exported.Narrow.{fits_negated}
 
 no_terms : (ts : Terms) → has_no_terms ts ≡ true → ts ≡ []
 no_terms [] e = refl

@@ -1,16 +1,15 @@
 -- Evaluation of the operators along a path.
 use Rattle.std.proofs.Common.{◌≡◌, ℕ, ◌+◌, List, [], ◌∷◌, refl, sym, subst, Bool, true, false, drop}
-use Rattle.std.specs.Prelude.{Some, None}
-use Rattle.linear_form.specs.Lin.{Lin, Terms, is_sized}
-use Rattle.linear_form.specs.Query.{Atom, Taken, is_negative}
+use Rattle.std.specs.Prelude.{Some, None, Result}
+use Rattle.linear_values.specs.Lin.{Lin, Terms, is_sized, Linear}
+use Rattle.linear_form.specs.Query.{Atom, Taken}
+use Rattle.linear_rows.specs.Numbers.{is_negative}
 use Rattle.linear_form.specs.Query.Query.{done, ask}
 use Rattle.linear_form.specs.Questions as q
-use Rattle.linear_form.specs.Questions.{Linear}
-use Rattle.linear_form.specs.internal.Operator.{has_no_terms}
+use Rattle.linear_values.specs.Operator.{has_no_terms}
 use Rattle.linear_form.specs.internal.Run.{Evaluation, along, turned}
 use Rattle.linear_form.specs.internal.Run.Evaluation.{value}
 use Rattle.linear_form.specs.internal.Seen.{Gives}
-use Rattle.std.specs.Prelude.{Result}
 use Rattle.linear_form.specs.declared.cursor.Found.{Found}
 use Rattle.linear_form.specs.declared.cursor.Stop.{Stop}
 

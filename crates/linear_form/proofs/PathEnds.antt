@@ -8,9 +8,10 @@ use Rattle.linear_form.specs.Paths.{Path, walk, IsPath, end_at}
 use Rattle.linear_form.specs.Questions.{Ends, evaluate, both}
 use Rattle.linear_form.specs.internal.Run.{Evaluation, along, turned, heard}
 use Rattle.linear_form.specs.internal.Run.Evaluation.{value, decide}
-use Rattle.linear_form.specs.PlainPaths.{linear_of, atom_of}
+use Rattle.linear_values.specs.PlainValues.{linear_of}
+use Rattle.linear_form.specs.PlainPaths.{atom_of}
 use Rattle.linear_form.specs.Asked.{Answers}
-use Rattle.linear_form.specs.declared.lin.Lin as L
+use Rattle.linear_values.specs.declared.lin.Lin as L
 use Rattle.linear_form.specs.declared.paths.Atom as A
 use Rattle.linear_form.specs.declared.asking.Ask as K
 

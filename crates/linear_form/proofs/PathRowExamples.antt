@@ -13,21 +13,22 @@ use Rattle.heyvl_num.specs.Exact.{product_fits}
 use Rattle.heylo_formula.specs.Formula.{Form, Cond}
 use Rattle.heylo_formula.specs.Goals.{Goal}
 use Rattle.heylo_formula.specs.declared.types.Ty.{Ty}
-use Rattle.linear_form.specs.Row.{Row}
-use Rattle.linear_form.specs.Occurrences.{first_row}
-use Rattle.linear_form.specs.Lin.{variable, minus_oneʳ, plus, minus, scaled, fits, is_sized}
-use Rattle.linear_form.specs.Terms.{coefficient}
-use Rattle.linear_form.specs.Combination.{combined}
-use Rattle.linear_form.specs.Solutions.{IsSolvable}
+use Rattle.linear_rows.specs.Row.{Row}
+use Rattle.linear_rows.specs.Occurrences.{first_row}
+use Rattle.linear_values.specs.Lin.{variable, plus, minus, scaled, is_sized}
+use Rattle.linear_rows.specs.Numbers.{minus_oneʳ, fits}
+use Rattle.linear_rows.specs.Terms.{coefficient}
+use Rattle.linear_rows.specs.Combination.{combined}
+use Rattle.linear_rows.specs.Solutions.{IsSolvable}
 use Rattle.linear_form.specs.Query.{Atom, Taken}
 use Rattle.linear_form.specs.Query.Query.{done}
 use Rattle.linear_form.specs.Questions.{zero, one}
 use Rattle.linear_form.specs.Paths.{Asks}
-use Rattle.linear_form.specs.Tightening.{common_multiple, common_divisor, factor, tightened}
+use Rattle.linear_values.specs.Tightening.{common_multiple, common_divisor, factor, tightened}
 use Rattle.linear_form.specs.PathRows.{rows_of}
 use Rattle.linear_form.specs.Cells.{IsDropped, IsKept, IsFront}
-use Rattle.linear_form.proofs.Combinations.{unmet}
-use Rattle.linear_form.proofs.Fractions.{solvable_is}
+use Rattle.linear_rows.proofs.exported.Combinations.{unmet}
+use Rattle.linear_rows.proofs.exported.Fractions.{solvable_is}
 
 goal : Bool → Form → Form → List Ty → Goal
 goal upper stated found types = record { upper = upper; stated = stated; found = found; types = types; names = []; own = 0 }

@@ -6,10 +6,10 @@ use Rattle.std.proofs.Math.Seq.{take-append_seam}
 use Prim.Native.Nat.{suc}
 use Rattle.heylo_formula.specs.Goals.{Goal}
 use Rattle.heylo_formula.specs.Typing.{Types, types_in}
-use Rattle.linear_form.specs.Row.{Row}
+use Rattle.linear_rows.specs.Row.{Row}
 use Rattle.linear_form.specs.Query.{Atom, Taken, onto}
-use Rattle.linear_form.specs.Tightening.{Claim, tightened}
-use Rattle.linear_form.specs.PathRows.{answer_claims, path_claims, with_row, all_tightened}
+use Rattle.linear_values.specs.Tightening.{Claim, tightened, with_row, all_tightened}
+use Rattle.linear_form.specs.PathRows.{answer_claims, path_claims}
 use Rattle.linear_form.specs.RowLists.{ArePathRows}
 use Rattle.linear_form.proofs.RowsOfClaims.{joined, tightened_append}
 

@@ -8,14 +8,15 @@ use Rattle.heyvl_num.specs.Value.{is_zeroʳ}
 use Rattle.heyvl_num.specs.Value.Value.{finite}
 use Rattle.heylo_formula.specs.Formula.{Form, Cond}
 use Rattle.heylo_formula.specs.Goals.{Goal}
-use Rattle.linear_form.specs.Lin.{Lin, constant, variable, minus_oneʳ, plus, minus, scaled, fits, is_sized}
+use Rattle.linear_values.specs.Lin.{Lin, constant, variable, plus, minus, scaled, is_sized, Linear}
+use Rattle.linear_rows.specs.Numbers.{minus_oneʳ, fits}
 use Rattle.heylo_formula.specs.PlainTrees.{form_of}
 use Rattle.heylo_formula.specs.declared.forms.Form as F
 use Rattle.linear_form.specs.Paths.{end_at}
 use Rattle.linear_form.specs.Places.{IsOn}
 use Rattle.linear_form.specs.Query.{Atom, Taken, next, once}
 use Rattle.linear_form.specs.Query.Query.{done, bits, ask}
-use Rattle.linear_form.specs.Questions.{Linear, zero, one, sum, difference, cut, scale, product, min, max, imply, co_imply, validate, co_validate, at_most, less, equal, evaluate, test, all_questions, questions}
+use Rattle.linear_form.specs.Questions.{zero, one, sum, difference, cut, scale, product, min, max, imply, co_imply, validate, co_validate, at_most, less, equal, evaluate, test, all_questions, questions}
 use Rattle.linear_form.specs.declared.nodes.OfTruth.{OfTruth}
 use Rattle.linear_form.specs.declared.places.Focus.TheVariants as Focus
 use Rattle.linear_form.specs.declared.places.Frame.TheVariants as Frame

@@ -9,14 +9,15 @@ use Rattle.std.proofs.lemmas.List.Folds.{list_any-append}
 use Rattle.heyvl_num.specs.Rational.{Rational, zeroʳ, ◌*ʳ◌}
 use Rattle.heylo_formula.specs.Goals.{Goal}
 use Rattle.heylo_formula.specs.Typing.{Types, types_in}
-use Rattle.linear_form.specs.Row.{Row}
-use Rattle.linear_form.specs.Lin.{Lin, Terms, constant, variable, times, scaled, minus_oneʳ}
+use Rattle.linear_rows.specs.Row.{Row}
+use Rattle.linear_values.specs.Lin.{Lin, Terms, constant, variable, times, scaled}
+use Rattle.linear_rows.specs.Numbers.{minus_oneʳ}
 use Rattle.linear_form.specs.Query.{Atom, Taken, onto}
-use Rattle.linear_form.specs.Tightening.{Claim}
-use Rattle.linear_form.specs.VariableOrder.{occurs_in_row}
-use Rattle.linear_form.specs.PathRows.{claim, negated, answer_claims, path_claims, is_unsigned_type, occurs_in_terms, occurs_in_claims, sign_claims, with_signs, all_tightened, rows_of}
+use Rattle.linear_values.specs.Tightening.{Claim, all_tightened}
+use Rattle.linear_rows.specs.VariableOrder.{occurs_in_row}
+use Rattle.linear_form.specs.PathRows.{claim, negated, answer_claims, path_claims, is_unsigned_type, occurs_in_terms, occurs_in_claims, sign_claims, with_signs, rows_of}
 use Rattle.linear_form.specs.RowLists.{ArePathRows}
-use Rattle.linear_form.specs.Solutions.{MeetsAt}
+use Rattle.linear_rows.specs.Solutions.{MeetsAt}
 use Rattle.linear_form.specs.RowListLaws.{RepeatedRowsStand}
 use Rattle.linear_form.proofs.PathRowSteps.{claims_onto}
 use Rattle.linear_form.proofs.RoomForDenied.{two_parts}

@@ -8,14 +8,15 @@ use Rattle.linear_form.specs.Query.Query.{done, bits}
 use Rattle.linear_form.specs.Questions.{Ends}
 use Rattle.linear_form.specs.Asked.{Answers}
 use Rattle.linear_form.specs.Paths.{IsPath, end_at}
-use Rattle.linear_form.specs.PlainPaths.{atom_of, linear_of}
+use Rattle.linear_form.specs.PlainPaths.{atom_of}
+use Rattle.linear_values.specs.PlainValues.{linear_of}
 use Rattle.linear_form.specs.internal.Nodes.{after_first}
 use Rattle.linear_form.specs.internal.Run.{Evaluation, along}
 use Rattle.linear_form.specs.internal.Places as places
 use Rattle.linear_form.specs.internal.Places.{told, asked_by, framed, resumed, ended, through, left_at, weight, focus_weight, frames_weight, frame_weight, IsKeptFrame, AreKeptFrames}
 use Rattle.linear_form.specs.internal.Steps.{Steps, AreAlike, IsAlike, IsSamePlace}
 use Rattle.linear_form.specs.Places.{IsOn}
-use Rattle.linear_form.specs.declared.lin.Lin.{Lin}
+use Rattle.linear_values.specs.declared.lin.Lin.{Lin}
 use Rattle.linear_form.specs.declared.nodes.Connective.{Connective}
 use Rattle.linear_form.specs.declared.places.Place.{Place}
 use Rattle.linear_form.specs.declared.places.Reached.{Reached}

@@ -3,13 +3,12 @@ use Rattle.std.proofs.Common.{◌≡◌, ℕ, List, [], ◌∷◌, ◌++◌, len
 use Rattle.std.specs.Prelude.{Option, Some, None, is_some}
 use Rattle.std.proofs.lemmas.List.{append-nil}
 use Prim.Native.Nat.{zero, suc}
-use Rattle.heylo_formula.specs.Typing.{Types}
-use Rattle.linear_form.specs.Lin.{variable}
+use Rattle.heylo_formula.specs.Typing.{Types, types_in}
+use Rattle.linear_values.specs.Lin.{variable}
 use Rattle.linear_form.specs.Paths.{end_at}
-use Rattle.heylo_formula.specs.Typing.{types_in}
-use Rattle.linear_form.specs.Tightening.{Claim, tightened}
-use Rattle.linear_form.specs.PathRows.{claim, negated, path_claims, listed, denial_at, is_unsigned_type, occurs_in_claims, sign_claims, with_row, all_tightened}
-use Rattle.linear_form.specs.Row.{Row}
+use Rattle.linear_values.specs.Tightening.{Claim, tightened, with_row, all_tightened}
+use Rattle.linear_form.specs.PathRows.{claim, negated, path_claims, listed, denial_at, is_unsigned_type, occurs_in_claims, sign_claims}
+use Rattle.linear_rows.specs.Row.{Row}
 use Rattle.linear_form.specs.RowListLaws.{StandAmong, MakesRoom, DeniedGoalMakesRoom}
 use Rattle.linear_form.proofs.DeniedRows.{occurs_more}
 use Rattle.linear_form.proofs.RowsOfClaims.{joined, tightened_append}

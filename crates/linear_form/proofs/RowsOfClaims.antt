@@ -3,26 +3,28 @@ use Rattle.std.proofs.Common.{◌≡◌, List, [], ◌∷◌, ◌++◌, refl, sy
 use Rattle.std.specs.Prelude.{Option, Some, None}
 use Rattle.std.proofs.lemmas.List.{append-nil}
 use Rattle.heylo_formula.specs.Typing.{Types}
-use Rattle.linear_form.specs.Row.{Row}
-use Rattle.linear_form.specs.Lin.{Lin, Terms, constant, times, scaled, minus_oneʳ, fits, all_fit, is_sized}
+use Rattle.linear_rows.specs.Row.{Row}
+use Rattle.linear_values.specs.Lin.{Lin, Terms, constant, times, scaled, all_fit, is_sized}
+use Rattle.linear_rows.specs.Numbers.{minus_oneʳ, fits}
 use Rattle.heyvl_num.specs.Gcd.{gcd, gcd_steps}
 use Rattle.heyvl_num.specs.Rational.{ratio, zeroʳ, ◌*ʳ◌}
 use Rattle.heyvl_num.specs.Value.{is_zeroʳ}
 use Rattle.linear_form.specs.Query.{Query}
 use Rattle.linear_form.specs.Questions.{Ends}
-use Rattle.linear_form.specs.Tightening.{Claim, tightened}
+use Rattle.linear_values.specs.Tightening.{Claim, tightened, with_row, all_tightened}
 use Rattle.linear_form.specs.internal.NormalPaths.{IsNormalAtom, IsNormalPath}
-use Rattle.linear_form.specs.PathRows.{claim, negated, answer_claims, path_claims, with_row, all_tightened}
+use Rattle.linear_form.specs.PathRows.{claim, negated, answer_claims, path_claims}
 use Rattle.linear_form.specs.internal.FurtherRows.{followed_by, rows_with}
-use Rattle.linear_form.specs.PlainPaths.{path_of, atom_of, linear_of}
+use Rattle.linear_form.specs.PlainPaths.{path_of, atom_of}
+use Rattle.linear_values.specs.PlainValues.{linear_of}
 use Rattle.linear_form.specs.QuestionLaws.{EachResult}
-use Rattle.linear_form.specs.internal.Run.{IsKeptValue}
+use Rattle.linear_values.specs.Kept.{IsKeptValue}
 use Rattle.linear_form.specs.Asked.{Answers}
-use Rattle.linear_form.specs.declared.lin.Lin as L
+use Rattle.linear_values.specs.declared.lin.Lin as L
 use Rattle.linear_form.specs.declared.paths.Taken as T
 use Rattle.linear_form.specs.declared.asking.Ask as K
-use Rattle.linear_form.proofs.Narrow.{fits_negated}
-use Rattle.linear_form.proofs.RowParts.{too_large}
+use Rattle.linear_rows.proofs.exported.Narrow.{fits_negated}
+use Rattle.linear_values.proofs.exported.RowParts.{too_large}
 use Rattle.linear_form.proofs.NormalClaims.{AreKept}
 
 -- ---- One list of claims after another

@@ -4,7 +4,7 @@ use Prim.Native.Nat.{zero, suc}
 use Rattle.std.specs.Prelude.{Option, Some, None, Result, Err}
 use Rattle.linear_form.specs.Query.{Query, Atom, Taken, next, known}
 use Rattle.linear_form.specs.Query.Query.{done, bits, ask}
-use Rattle.linear_form.specs.Questions.{Linear}
+use Rattle.linear_values.specs.Lin.{Linear}
 use Rattle.linear_form.specs.QuestionLaws.{EachResult}
 use Rattle.linear_form.specs.internal.Run.{Evaluation, along, turned, heard, onward}
 use Rattle.linear_form.specs.internal.Run.Evaluation.{value, decide}

@@ -7,11 +7,11 @@ use Rattle.heylo_formula.specs.Formula.{Form, Cond}
 use Rattle.heylo_formula.specs.Goals.{Goal}
 use Rattle.heylo_formula.specs.Operators.{agree}
 use Rattle.heylo_formula.specs.Sizes.{nodes, nodes_in}
-use Rattle.linear_form.specs.Lin.{Lin, Terms, plus, minus, scaled, is_sized}
+use Rattle.linear_values.specs.Lin.{Lin, Terms, plus, minus, scaled, is_sized, Linear}
 use Rattle.linear_form.specs.Query.{Query, Atom, Taken, next, known, unless_known, onto, once}
 use Rattle.linear_form.specs.Query.Query.{done, bits, ask}
 use Rattle.linear_form.specs.Questions as q
-use Rattle.linear_form.specs.Questions.{Linear, Ends, sized, asked, is_below, evaluate, test, both, questions}
+use Rattle.linear_form.specs.Questions.{Ends, sized, asked, is_below, evaluate, test, both, questions}
 use Rattle.linear_form.specs.Paths.{Path}
 use Rattle.linear_form.specs.PathLaws.{PathsAreShort}
 

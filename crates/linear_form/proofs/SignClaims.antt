@@ -8,13 +8,14 @@ use Rattle.heyvl_num.specs.Rounding.{floorʳ, ceilʳ}
 use Rattle.heyvl_num.specs.Exact.{product_fits}
 use Rattle.heyvl_num.specs.Value.{is_zeroʳ}
 use Rattle.heylo_formula.specs.Typing.{Types}
-use Rattle.linear_form.specs.Terms.{is_narrow}
-use Rattle.linear_form.specs.Row.{Row}
-use Rattle.linear_form.specs.Lin.{variable, scaled, minus_oneʳ, fits, is_sized}
-use Rattle.linear_form.specs.Tightening.{Claim, common_multiple, common_divisor, factor, are_whole, all_narrow, tightened}
-use Rattle.linear_form.specs.PathRows.{claim, negated, with_row}
+use Rattle.linear_rows.specs.Terms.{is_narrow}
+use Rattle.linear_rows.specs.Row.{Row}
+use Rattle.linear_values.specs.Lin.{variable, scaled, is_sized}
+use Rattle.linear_rows.specs.Numbers.{minus_oneʳ, fits}
+use Rattle.linear_values.specs.Tightening.{Claim, common_multiple, common_divisor, factor, are_whole, all_narrow, tightened, with_row}
+use Rattle.linear_form.specs.PathRows.{claim, negated}
 use Rattle.linear_form.specs.internal.FurtherRows.{followed_by, rows_with, unsigned_in, one_more, all_unsigned_in, sign_row}
-use Rattle.linear_form.proofs.EachResults.{of_two}
+use Rattle.linear_values.proofs.exported.KeptTerms.{of_two}
 use Rattle.linear_form.proofs.RowsOfClaims.{then_more}
 
 sign_tightened : (types : Types) (x : ℕ) → tightened types (claim (negated (variable x)) false) ≡ Some (sign_row x)

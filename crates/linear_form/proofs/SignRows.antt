@@ -5,19 +5,18 @@ use Rattle.std.specs.List.{list_any}
 use Rattle.std.proofs.lemmas.List.{append-nil, map-append}
 use Prim.Native.Nat.{zero, suc}
 use Rattle.heyvl_num.specs.Rational.{Rational, ◌*ʳ◌}
-use Rattle.heylo_formula.specs.Typing.{Types}
+use Rattle.heylo_formula.specs.Typing.{Types, types_in}
 use Rattle.heylo_formula.specs.declared.types.Ty.{Ty}
-use Rattle.linear_form.specs.Row.{Row}
-use Rattle.linear_form.specs.Lin.{Terms, variable}
-use Rattle.linear_form.specs.Tightening.{Claim, tightened, tight_row, whole_terms, factor, rounded, are_whole}
-use Rattle.heylo_formula.specs.Typing.{types_in}
-use Rattle.linear_form.specs.VariableOrder.{occurs_in_row}
-use Rattle.linear_form.specs.PathRows.{claim, negated, with_row, all_tightened, is_unsigned_type, occurs_in_terms, occurs_in_claims, sign_claims}
+use Rattle.linear_rows.specs.Row.{Row}
+use Rattle.linear_values.specs.Lin.{Terms, variable}
+use Rattle.linear_values.specs.Tightening.{Claim, tightened, tight_row, whole_terms, factor, rounded, are_whole, with_row, all_tightened}
+use Rattle.linear_rows.specs.VariableOrder.{occurs_in_row}
+use Rattle.linear_form.specs.PathRows.{claim, negated, is_unsigned_type, occurs_in_terms, occurs_in_claims, sign_claims}
 use Rattle.linear_form.specs.internal.FurtherRows.{rows_with, one_more, all_unsigned_in}
 use Rattle.linear_form.specs.RowLists.{Lists}
 use Rattle.linear_form.specs.declared.path_rows.RowList.{RowList}
-use Rattle.linear_form.proofs.EachResults.{of_two}
-use Rattle.linear_form.proofs.TightRows.{taken_row}
+use Rattle.linear_values.proofs.exported.KeptTerms.{of_two}
+use Rattle.linear_values.proofs.exported.TightRows.{taken_row}
 use Rattle.linear_form.proofs.RowsOfClaims.{joined, tightened_append}
 
 -- ---- A row has the variables of its claim

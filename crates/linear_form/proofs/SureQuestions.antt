@@ -7,7 +7,8 @@ use Rattle.heylo_formula.specs.Goals.{Goal}
 use Rattle.heylo_formula.specs.PlainTrees.{form_of, cond_of}
 use Rattle.linear_form.specs.Query.{Query, Atom, Taken, next, known}
 use Rattle.linear_form.specs.Query.Query.{done, bits, ask}
-use Rattle.linear_form.specs.Questions.{Linear, Ends, evaluate, test, both}
+use Rattle.linear_values.specs.Lin.{Linear}
+use Rattle.linear_form.specs.Questions.{Ends, evaluate, test, both}
 use Rattle.linear_form.specs.QuestionLaws.{EachResult}
 use Rattle.linear_form.specs.Paths.{IsPath}
 use Rattle.linear_form.specs.Lasting.{IsNoEnd}

@@ -3,15 +3,14 @@ use Rattle.std.proofs.Common.{◌≡◌, ℕ, ◌<◌, List, [], ◌∷◌, leng
 use Rattle.std.specs.Prelude.{Option, Some, None}
 use Rattle.heyvl_num.specs.Rational.{Rational}
 use Rattle.heylo_formula.specs.Formula.{Form, Cond}
-use Rattle.heylo_formula.specs.Typing.{Types, is_bool}
+use Rattle.heylo_formula.specs.Typing.{Types, is_bool, types_in}
 use Rattle.heylo_formula.specs.Variables.{is_free, is_free_in}
-use Rattle.linear_form.specs.Lin.{Lin, Terms, plus, minus, scaled, is_sized}
+use Rattle.linear_values.specs.Lin.{Lin, Terms, plus, minus, scaled, is_sized, Linear}
 use Rattle.linear_form.specs.Query.{Query, Atom, Taken, next, known, known_by, unless_known, onto, once}
 use Rattle.linear_form.specs.Query.Query.{done, bits, ask}
 use Rattle.linear_form.specs.Questions as q
-use Rattle.linear_form.specs.Questions.{Linear, Ends, sized, asked, is_below, evaluate, test, both, questions}
+use Rattle.linear_form.specs.Questions.{Ends, sized, asked, is_below, evaluate, test, both, questions}
 use Rattle.linear_form.specs.Paths.{Path}
-use Rattle.heylo_formula.specs.Typing.{types_in}
 use Rattle.linear_form.specs.PointLaws.{TruthsAreBooleans, TruthsHaveVariables}
 use Rattle.linear_form.proofs.TypedTrees.{IsTypedAtom, IsTypedPath, typed_path}
 

@@ -6,18 +6,18 @@ use Rattle.heyvl_num.specs.Value.{Value, is_zeroʳ}
 use Rattle.heyvl_num.specs.Value.Value.{finite, infinite}
 use Rattle.heylo_formula.specs.Formula.{Form, Cond}
 use Rattle.heylo_formula.specs.Goals.{Goal}
-use Rattle.heylo_formula.specs.Typing.{Types, NumberType, number_type, is_bool, is_unsigned, is_finite_type, type_of, is_well_typed}
+use Rattle.heylo_formula.specs.Typing.{Types, NumberType, number_type, is_bool, is_unsigned, is_finite_type, type_of, is_well_typed, types_in}
 use Rattle.heylo_formula.specs.declared.types.Ty.{Ty}
-use Rattle.linear_form.specs.Lin.{Lin, Terms, constant, unless_zero, more, merged, times, plus, minus, minus_oneʳ, scaled, is_sized}
+use Rattle.linear_values.specs.Lin.{Lin, Terms, constant, unless_zero, more, merged, times, plus, minus, scaled, is_sized, Linear}
+use Rattle.linear_rows.specs.Numbers.{minus_oneʳ}
 use Rattle.linear_form.specs.Query.{Query, Atom, Taken, next, known, unless_known, onto, once}
 use Rattle.linear_form.specs.Query.Query.{done, bits, ask}
 use Rattle.linear_form.specs.Questions as q
-use Rattle.linear_form.specs.Questions.{Linear, Ends, sized, asked, is_below, evaluate, test, both, questions}
+use Rattle.linear_form.specs.Questions.{Ends, sized, asked, is_below, evaluate, test, both, questions}
 use Rattle.linear_form.specs.Paths.{walk, Path, IsPath, end_at}
 use Rattle.heylo_formula.specs.TypedGoals.{IsTypedGoal}
-use Rattle.heylo_formula.specs.Typing.{types_in}
-use Rattle.linear_form.specs.RowLists.{is_numeric}
-use Rattle.linear_form.proofs.EachResults.{of_two}
+use Rattle.linear_rows.specs.VariableTypes.{is_numeric}
+use Rattle.linear_values.proofs.exported.KeptTerms.{of_two}
 use Rattle.linear_form.proofs.TypedValues.{parts, only, unsigned, difference_joined, scale_joined}
 
 -- ---- Terms

@@ -8,21 +8,21 @@ use Rattle.std.proofs.lemmas.List.Sums.{sum_by-cons}
 use Rattle.heyvl_num.specs.Rational.{Rational, zeroʳ, leqʳ, ◌≤ʳ◌, ◌*ʳ◌}
 use Rattle.heyvl_num.specs.Value.{is_zeroʳ}
 use Rattle.heylo_formula.specs.State.{Env, number_of}
-use Rattle.heylo_formula.specs.Typing.{Types}
-use Rattle.linear_form.specs.Lin.{Lin, Terms, at, constant, variable, times, scaled, minus_oneʳ}
+use Rattle.heylo_formula.specs.Typing.{Types, types_in}
+use Rattle.linear_values.specs.Lin.{Lin, Terms, at, constant, variable, times, scaled}
+use Rattle.linear_rows.specs.Numbers.{minus_oneʳ}
 use Rattle.linear_form.specs.Paths.{end_at}
-use Rattle.heylo_formula.specs.Typing.{types_in}
-use Rattle.linear_form.specs.Tightening.{Claim, tightened, tight_row, rounded, are_whole, factor, whole_terms}
+use Rattle.linear_values.specs.Tightening.{Claim, tightened, tight_row, rounded, are_whole, factor, whole_terms}
 use Rattle.linear_form.specs.PathRows.{claim, negated, path_claims, listed, denial_at, is_unsigned_type, occurs_in_terms, occurs_in_claims, sign_claims, claims_of}
-use Rattle.linear_form.specs.ClaimLaws.{IsClaimed, AllClaimed}
+use Rattle.linear_values.specs.Claims.{IsClaimed, AllClaimed}
 use Rattle.linear_form.specs.PointLaws.{UnsignedAreNonnegative}
-use Rattle.linear_form.specs.Row.{Row}
-use Rattle.linear_form.specs.VariableOrder.{occurs_in_row, occurrences}
-use Rattle.linear_form.proofs.EachResults.{of_two}
-use Rattle.linear_form.proofs.LinearValues.{leq_minus, variable_at}
+use Rattle.linear_rows.specs.Row.{Row}
+use Rattle.linear_rows.specs.VariableOrder.{occurs_in_row, occurrences}
+use Rattle.linear_values.proofs.exported.KeptTerms.{of_two}
+use Rattle.linear_values.proofs.exported.LinearValues.{leq_minus, variable_at}
 use Rattle.linear_form.proofs.MetClaims.{negated_at}
 use Rattle.linear_form.proofs.NormalClaims.{all_nonzero}
-use Rattle.linear_form.proofs.TightRows.{taken_row}
+use Rattle.linear_values.proofs.exported.TightRows.{taken_row}
 use Rattle.linear_form.proofs.ClaimedRows.{rows_claim}
 use Rattle.linear_form.proofs.DeniedRows.{Gives, gives_rows}
 use Rattle.linear_form.proofs.FalsifyingPoints.{first_claimed, second_claimed}

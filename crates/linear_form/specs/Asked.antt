@@ -2,7 +2,8 @@
 use Rattle.std.specs.Prelude.{◌≡◌}
 use Rattle.linear_form.specs.Query.{Query}
 use Rattle.linear_form.specs.Questions.{Ends}
-use Rattle.linear_form.specs.PlainPaths.{linear_of, atom_of}
+use Rattle.linear_values.specs.PlainValues.{linear_of}
+use Rattle.linear_form.specs.PlainPaths.{atom_of}
 use Rattle.linear_form.specs.declared.asking.Ask as K
 
 -- What an answer says of the end of a path: the next question, the two values, or a number that is too large.

@@ -1,8 +1,8 @@
 -- Fronts and cells of a goal: the paths that a walk through its questions reaches. This project's own.
 use Rattle.std.specs.Prelude.{◌≡◌, List, [], Bool, true, false, Some}
 use Rattle.heylo_formula.specs.Goals.{Goal}
-use Rattle.linear_form.specs.Row.{Row}
-use Rattle.linear_form.specs.Solutions.{IsSolvable}
+use Rattle.linear_rows.specs.Row.{Row}
+use Rattle.linear_rows.specs.Solutions.{IsSolvable}
 use Rattle.linear_form.specs.Query.{Query, Atom, Taken, onto}
 use Rattle.linear_form.specs.Questions.{Ends}
 use Rattle.linear_form.specs.Paths.{Asks, end_at}

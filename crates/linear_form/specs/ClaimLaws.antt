@@ -1,25 +1,16 @@
 -- What is proved of the claims of a path.
-use Rattle.std.specs.Prelude.{◌≡◌, List, [], ◌∷◌, true, false, Some}
+use Rattle.std.specs.Prelude.{◌≡◌, List, true, false, Some}
 use Rattle.heylo_formula.specs.Goals.{Goal, HoldsIn}
-use Rattle.heylo_formula.specs.State.{Env, IsTyped, environment, number_of}
+use Rattle.heylo_formula.specs.State.{IsTyped, environment, number_of}
 use Rattle.heylo_formula.specs.declared.values.Val.{Val}
-use Rattle.linear_form.specs.Lin.{at}
-use Rattle.linear_form.specs.Query.{Taken, is_negative}
+use Rattle.linear_form.specs.Query.{Taken}
 use Rattle.linear_form.specs.Paths.{IsPath, Agrees}
 use Rattle.heylo_formula.specs.TypedGoals.{IsTypedGoal}
-use Rattle.linear_form.specs.Tightening.{Claim}
 use Rattle.linear_form.specs.PathRows.{claims_of, rows_of}
-use Rattle.linear_form.specs.Row.{Row}
-use Rattle.linear_form.specs.Solutions.{MeetsAt}
+use Rattle.linear_rows.specs.Row.{Row}
+use Rattle.linear_rows.specs.Solutions.{MeetsAt}
 use Rattle.std.specs.List.{All}
-
--- The claim holds in the state.
-pub record IsClaimed (s : Env) (k : Claim) : Type 0 where
-  pub claimed : is_negative (at k.left s) k.strict ≡ true
-
-abbrev pub AllClaimed : Env → List Claim → Type 0
-AllClaimed s [] = Unit {0}
-AllClaimed s (k ∷ ks) = IsClaimed s k × AllClaimed s ks
+use Rattle.linear_values.specs.Claims.{AllClaimed}
 
 -- What the answers of a path claim, and the signs of unsigned variables, holds in each state of the right types that agrees with
 -- the path.

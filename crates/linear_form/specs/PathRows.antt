@@ -3,15 +3,15 @@
 use Rattle.std.specs.Prelude.{◌≡◌, ℕ, List, [], ◌∷◌, ◌++◌, length, Bool, true, false, not, ◌==◌, ◌&&◌, ◌||◌, Option, Some, None, if◌then◌else◌}
 use Prim.Native.Nat.{zero, suc}
 use Rattle.heylo_formula.specs.Goals.{Goal}
-use Rattle.heylo_formula.specs.Typing.{Types}
+use Rattle.heylo_formula.specs.Typing.{Types, types_in}
 use Rattle.heylo_formula.specs.declared.types.Ty.{Ty}
-use Rattle.linear_form.specs.Row.{Row}
-use Rattle.linear_form.specs.Lin.{Lin, Terms, constant, variable, minus, scaled, minus_oneʳ}
+use Rattle.linear_rows.specs.Row.{Row}
+use Rattle.linear_values.specs.Lin.{Lin, Terms, constant, variable, minus, scaled, Linear}
+use Rattle.linear_rows.specs.Numbers.{minus_oneʳ}
 use Rattle.linear_form.specs.Query.{Query, Atom, Taken}
-use Rattle.linear_form.specs.Questions.{Linear, Ends}
+use Rattle.linear_form.specs.Questions.{Ends}
 use Rattle.linear_form.specs.Paths.{end_at}
-use Rattle.heylo_formula.specs.Typing.{types_in}
-use Rattle.linear_form.specs.Tightening.{Claim, tightened}
+use Rattle.linear_values.specs.Tightening.{Claim, all_tightened}
 
 abbrev pub claim : Lin → Bool → Claim
 claim a strict = record { left = a; strict = strict }
@@ -79,15 +79,6 @@ with_signs g ks = ks ++ sign_claims (types_in g.types) ks (length g.types)
 -- What holds in each state that agrees with a path and, where the denied goal is among the claims, denies the goal.
 abbrev pub claims_of : Goal → List Taken → Bool → List Claim
 claims_of g ps denied = with_signs g (path_claims ps ++ (if denied then listed (denial_at g.upper (end_at g ps)) else []))
-
-abbrev pub with_row : Option Row → Option (List Row) → Option (List Row)
-with_row (Some r) (Some rows) = Some (r ∷ rows)
-with_row (Some r) None = None
-with_row None rows = None
-
-abbrev pub all_tightened : Types → List Claim → Option (List Row)
-all_tightened types [] = Some []
-all_tightened types (k ∷ ks) = with_row (tightened types k) (all_tightened types ks)
 
 -- The rows, or none where a number of one of them is too large.
 abbrev pub rows_of : Goal → List Taken → Bool → Option (List Row)

@@ -1,18 +1,10 @@
--- The linear values, questions and paths that the program holds, without their pointers.
-use Rattle.std.specs.Prelude.{List, map, Option, Some, None}
-use Rattle.linear_form.specs.Lin.{Lin}
+-- The questions and paths that the program holds, without their pointers.
+use Rattle.std.specs.Prelude.{List, map}
 use Rattle.linear_form.specs.Query.{Atom, Taken}
-use Rattle.linear_form.specs.Questions.{Linear}
-use Rattle.linear_form.specs.declared.lin.Lin as L
+use Rattle.linear_values.specs.declared.lin.Lin as L
 use Rattle.linear_form.specs.declared.paths.Atom as A
 use Rattle.linear_form.specs.declared.paths.Taken as T
-
-abbrev pub lin_of : L.Lin → Lin
-lin_of l = record { terms = l.terms.items; rest = l.rest }
-
-abbrev pub linear_of : Option L.Lin → Linear
-linear_of (Some l) = Some (lin_of l)
-linear_of None = None
+use Rattle.linear_values.specs.PlainValues.{lin_of}
 
 abbrev pub atom_of : A.Atom → Atom
 atom_of (A.TheVariants.Truth x) = Atom.truth x

@@ -4,18 +4,17 @@ use Rattle.std.specs.List.{All}
 use Rattle.heyvl_num.specs.Rational.{zeroʳ, ◌≤ʳ◌}
 use Rattle.heylo_formula.specs.Goals.{Goal, HoldsIn}
 use Rattle.heylo_formula.specs.State.{Env, IsTyped, environment, number_of, truth_of}
-use Rattle.heylo_formula.specs.Typing.{is_bool}
+use Rattle.heylo_formula.specs.Typing.{is_bool, types_in}
 use Rattle.heylo_formula.specs.declared.values.Val.{Val}
 use Rattle.linear_form.specs.Query.{Taken, known}
 use Rattle.linear_form.specs.Query.Query.{done}
 use Rattle.linear_form.specs.Questions.{Ends}
 use Rattle.linear_form.specs.Paths.{IsPath, Agrees, end_at}
 use Rattle.linear_form.specs.PathRows.{rows_of, IsPlainAt, is_unsigned_type}
-use Rattle.linear_form.specs.Row.{Row}
-use Rattle.linear_form.specs.Solutions.{MeetsAt}
+use Rattle.linear_rows.specs.Row.{Row}
+use Rattle.linear_rows.specs.Solutions.{MeetsAt}
 use Rattle.heylo_formula.specs.TypedGoals.{IsTypedGoal, HasItsVariables}
-use Rattle.heylo_formula.specs.Typing.{types_in}
-use Rattle.linear_form.specs.VariableOrder.{occurrences}
+use Rattle.linear_rows.specs.VariableOrder.{occurrences}
 
 -- The truths that the path has decided are so in the state.
 abbrev pub HasTruths : Env → List Taken → Type 0

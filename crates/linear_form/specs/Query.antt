@@ -1,9 +1,9 @@
 -- Trees of questions about a state: a result, a number that is too large, or a question with what follows each answer.
 -- This project's own.
-use Rattle.std.specs.Prelude.{ℕ, List, [], ◌∷◌, ◌++◌, Bool, true, false, not, ◌==◌, Option, Some, None, if◌then◌else◌}
-use Rattle.heyvl_num.specs.Rational.{Rational, zeroʳ, leqʳ}
+use Rattle.std.specs.Prelude.{ℕ, List, [], ◌∷◌, ◌++◌, Bool, true, false, ◌==◌, Option, Some, None, if◌then◌else◌}
 use Rattle.heylo_formula.specs.State.{Env, truth_of}
-use Rattle.linear_form.specs.Lin.{Lin, at}
+use Rattle.linear_values.specs.Lin.{Lin, at}
+use Rattle.linear_rows.specs.Numbers.{is_negative}
 
 -- A question: whether a Boolean variable is true, or whether a linear value is at most 0 or, where strict, below 0.
 pub data Atom : Type 0 where
@@ -20,11 +20,6 @@ abbrev pub next : {A B : Type 0} → Query A → (A → Query B) → Query B
 next (Query.done a) f = f a
 next Query.bits f = Query.bits
 next (Query.ask q y n) f = Query.ask q (next y f) (next n f)
-
--- Whether a number is at most 0 or, where strict, below 0.
-abbrev pub is_negative : Rational → Bool → Bool
-is_negative x false = leqʳ x zeroʳ
-is_negative x true = not (leqʳ zeroʳ x)
 
 -- What a state answers to a question.
 abbrev pub holds_at : Atom → Env → Bool

@@ -8,7 +8,8 @@ use Rattle.heylo_formula.specs.Meaning.{value}
 use Rattle.heylo_formula.specs.declared.values.Val.{Val}
 use Rattle.linear_form.specs.Query.{Query, Taken}
 use Rattle.linear_form.specs.Query.Query.{done, bits, ask}
-use Rattle.linear_form.specs.Questions.{Linear, Ends, value_in, evaluate}
+use Rattle.linear_values.specs.Lin.{Linear}
+use Rattle.linear_form.specs.Questions.{Ends, value_in, evaluate}
 use Rattle.linear_form.specs.Paths.{IsPath, Agrees, IsPathOf, end_at}
 use Rattle.heylo_formula.specs.TypedGoals.{IsTypedGoal}
 use Rattle.linear_form.specs.Nonlinear.{has_variable}

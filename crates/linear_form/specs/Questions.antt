@@ -1,6 +1,6 @@
 -- The questions of a form, of a condition and of a goal: which comparison or truth is needed next, after which answers.
 -- This project's own; the operators are those of HeyLo (Schroeer, Batz, Kaminski, Katoen, Matheja, OOPSLA 2023).
-use Rattle.std.specs.Prelude.{[], ◌∷◌, Bool, true, false, not, Option, Some, None, if◌then◌else◌}
+use Rattle.std.specs.Prelude.{[], ◌∷◌, Bool, true, false, not, Some, None, if◌then◌else◌}
 use Rattle.heyvl_num.specs.Rational.{Rational, zeroʳ, oneʳ}
 use Rattle.heyvl_num.specs.Value.{Value, is_zeroʳ}
 use Rattle.heyvl_num.specs.Value.Value.{finite, infinite}
@@ -8,13 +8,10 @@ use Rattle.heylo_formula.specs.Formula.{Form, Cond}
 use Rattle.heylo_formula.specs.Goals.{Goal}
 use Rattle.heylo_formula.specs.Operators.{agree}
 use Rattle.heylo_formula.specs.State.{Env}
-use Rattle.linear_form.specs.Lin.{Lin, Terms, at, constant, variable, plus, minus, scaled, is_sized}
-use Rattle.linear_form.specs.Query.{Query, Atom, next, is_negative, once}
+use Rattle.linear_values.specs.Lin.{Lin, Terms, at, constant, variable, plus, minus, scaled, is_sized, Linear}
+use Rattle.linear_form.specs.Query.{Query, Atom, next, once}
+use Rattle.linear_rows.specs.Numbers.{is_negative}
 use Rattle.linear_form.specs.Query.Query.{done, bits, ask}
-
--- A linear value, or infinity.
-abbrev pub Linear : Type 0
-Linear = Option Lin
 
 abbrev pub value_in : Linear → Env → Value
 value_in (Some a) s = finite (at a s)

@@ -5,9 +5,10 @@ use Rattle.heylo_formula.specs.Goals.{Goal}
 use Rattle.linear_form.specs.Query.{Atom, Taken, onto}
 use Rattle.linear_form.specs.Paths.{IsPath, end_at}
 use Rattle.linear_form.specs.PathRows.{path_claims, answer_claims, denial_at, rows_of}
-use Rattle.linear_form.specs.Row.{Row}
-use Rattle.linear_form.specs.RowLists.{IsNumericRow, ArePathRows}
-use Rattle.linear_form.specs.Solutions.{IsSolvable}
+use Rattle.linear_rows.specs.Row.{Row}
+use Rattle.linear_rows.specs.VariableTypes.{IsNumericRow}
+use Rattle.linear_form.specs.RowLists.{ArePathRows}
+use Rattle.linear_rows.specs.Solutions.{IsSolvable}
 use Rattle.linear_form.specs.Cells.{IsKept}
 use Rattle.heylo_formula.specs.TypedGoals.{IsTypedGoal}
 

@@ -1,14 +1,16 @@
--- The rows that the program gives, and rows over numbers.
-use Rattle.std.specs.Prelude.{◌≡◌, ℕ, List, [], ◌∷◌, ◌++◌, take, length, Option, Some, None, Bool, true, not}
+-- The rows that the program gives.
+use Rattle.std.specs.Prelude.{◌≡◌, ℕ, List, [], ◌∷◌, ◌++◌, take, length, Option, Some, None}
 use Rattle.std.specs.List.{All}
 use Rattle.heylo_formula.specs.declared.types.Ty.{Ty}
 use Rattle.heylo_formula.specs.Goals.{Goal}
-use Rattle.linear_form.specs.Row.{Row, IsRow}
+use Rattle.linear_rows.specs.Row.{Row, IsRow}
 use Rattle.linear_form.specs.Query.{Taken}
-use Rattle.linear_form.specs.PathRows.{all_tightened, path_claims}
-use Rattle.heylo_formula.specs.Typing.{types_in, is_bool}
+use Rattle.linear_values.specs.Tightening.{all_tightened}
+use Rattle.linear_form.specs.PathRows.{path_claims}
+use Rattle.heylo_formula.specs.Typing.{types_in}
 use Rattle.linear_form.specs.declared.path_rows.RowList.{RowList}
 use Rattle.linear_form.specs.declared.path_rows.RowList.TheVariants.{Rows, Bits}
+use Rattle.linear_rows.specs.VariableTypes.{IsNumericRow}
 
 -- The rows are those that there are, or there are none, since a number is too large.
 abbrev pub Lists : RowList → Option (List Row) → Type 0
@@ -18,14 +20,6 @@ Lists Bits found = found ≡ None
 abbrev pub AreRows : RowList → Type 0
 AreRows (Rows rows) = All IsRow rows.items
 AreRows Bits = Unit {0}
-
--- A type of numbers.
-abbrev pub is_numeric : Ty → Bool
-is_numeric ty = not (is_bool ty)
-
--- Each variable of the row has a type, and it is one of numbers.
-pub record IsNumericRow (types : List Ty) (r : Row) : Type 0 where
-  pub numeric : All (λ t. is_numeric (types_in types t.0) ≡ true) r.terms
 
 abbrev pub AreNumericRows : List Ty → RowList → Type 0
 AreNumericRows types (Rows rows) = All (IsNumericRow types) rows.items

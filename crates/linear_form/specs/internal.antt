@@ -1,16 +1,9 @@
 pub mod Lasting
-pub mod Loops
-pub mod Operator
 pub mod Run
 pub mod Seen
 pub mod Direct
-pub mod Columns
-pub mod FirstRows
 pub mod FurtherRows
 pub mod NormalPaths
-pub mod Nonzero
-pub mod NextTerms
 pub mod Nodes
 pub mod Places
 pub mod Steps
-pub mod WholeTimes

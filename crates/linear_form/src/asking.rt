@@ -1,7 +1,7 @@
 //! The next question of a goal on a path.
 
-use crate::lin::Lin;
 use crate::paths::Atom;
+use linear_values::Lin;
 
 /// What stands at the end of a path of a goal.
 #[derive(Drop)]

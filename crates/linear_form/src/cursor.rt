@@ -7,8 +7,8 @@ ghost use Rattle.linear_form.specs.internal.Run.{along, turned, Evaluation};
 ghost use Rattle.linear_form.specs.PlainPaths.{path_of, atom_of};
 ghost use Rattle.linear_form.specs.internal.Seen.{Tells};
 
-use crate::lin::Lin;
 use crate::paths::{Atom, Taken};
+use linear_values::Lin;
 use std::alloc::{AllocError, Global};
 
 /// A linear value, or None for infinity, and the place where the path goes on.

@@ -4,17 +4,19 @@ ghost use Rattle.std.specs.Prelude.{◌≡◌, IfOk, Some, true};
 ghost use Rattle.heylo_formula.specs.PlainTrees.{form_of};
 ghost use Rattle.heyvl_num.specs.Extended.{value_of};
 ghost use Rattle.heyvl_num.specs.Rounding.{whole as whole_fraction};
-ghost use Rattle.linear_form.specs.Lin.{AreNormal, fits as number_fits, constant as constant_lin};
-ghost use Rattle.linear_form.specs.PlainPaths.{lin_of};
+ghost use Rattle.linear_values.specs.Lin.{AreNormal, constant as constant_lin};
+ghost use Rattle.linear_rows.specs.Numbers.{fits as number_fits};
+ghost use Rattle.linear_values.specs.PlainValues.{lin_of};
 ghost use Rattle.linear_form.specs.Questions as tree;
 ghost use Rattle.linear_form.specs.internal.Direct.{MayGive, MayGiveWhole};
-ghost use Rattle.linear_form.specs.internal.Run.{IsKept};
+ghost use Rattle.linear_values.specs.Kept.{IsKept};
 
-use crate::lin::{Lin, constant, is_constant, is_sized, minus, plus, variable};
-use crate::multiples::small_multiple;
-use crate::numbers::{as_whole, fits, narrow, signed, sum as number_sum, whole};
 use heylo_formula::Form;
 use heyvl_num::{Ext, Frac};
+use linear_values::Lin;
+use linear_values::lin::{constant, is_constant, is_sized, minus, plus, variable};
+use linear_values::multiples::small_multiple;
+use linear_values::numbers::{as_whole, fits, narrow, signed, sum as number_sum, whole};
 use std::alloc::{AllocError, Global};
 
 /// The value of a form of finite numbers, variables, sums, plain differences and multiples. None for any other form, and

@@ -1,22 +1,23 @@
 //! The rows of claims, one after the other.
 
 ghost use Rattle.std.specs.Prelude.{[], ◌∷◌, IfOk, not, true, false};
-ghost use Rattle.linear_form.specs.Lin.{AreNormal};
-ghost use Rattle.linear_form.specs.internal.Run.{IsKeptValue};
+ghost use Rattle.linear_values.specs.Lin.{AreNormal};
+ghost use Rattle.linear_values.specs.Kept.{IsKeptValue};
 ghost use Rattle.linear_form.specs.internal.NormalPaths.{IsNormalAtom};
 ghost use Rattle.linear_form.specs.PathRows.{claim, negated, answer_claims, below_claim, listed};
 ghost use Rattle.linear_form.specs.internal.FurtherRows.{rows_with};
-ghost use Rattle.linear_form.specs.PlainPaths.{lin_of, linear_of, atom_of};
+ghost use Rattle.linear_values.specs.PlainValues.{lin_of, linear_of};
+ghost use Rattle.linear_form.specs.PlainPaths.{atom_of};
 ghost use Rattle.linear_form.specs.RowLists.{Lists};
 ghost use Rattle.heylo_formula.specs.Typing.{types_in};
 
-use crate::lin::{Lin, constant, is_sized, minus, scaled};
-use crate::numbers::minus_one;
 use crate::path_rows::RowList;
 use crate::paths::Atom;
-use crate::row::Row;
-use crate::tightening::tightened;
 use heylo_formula::Ty;
+use linear_rows::Row;
+use linear_values::lin::{constant, is_sized, minus, scaled};
+use linear_values::numbers::minus_one;
+use linear_values::{Lin, tightened};
 use std::alloc::{AllocError, Global};
 
 /// The rows, and after them that of a claim: the linear value is at most 0 or, where strict, below 0.

@@ -5,22 +5,22 @@ ghost use Rattle.heylo_formula.specs.Goals.{goal_of};
 ghost use Rattle.heylo_formula.specs.TypedGoals.{IsTypedGoal};
 ghost use Rattle.heylo_formula.specs.Typing.{types_in};
 ghost use Rattle.linear_form.specs.Asked.{Answers};
-ghost use Rattle.linear_form.specs.Occurrences.{AreOccurrences};
+ghost use Rattle.linear_rows.specs.Occurrences.{AreOccurrences};
 ghost use Rattle.linear_form.specs.Paths.{IsPath, end_at};
-ghost use Rattle.linear_form.specs.PathRows.{rows_of, all_tightened, path_claims, listed, denial_at};
+ghost use Rattle.linear_form.specs.PathRows.{rows_of, path_claims, listed, denial_at};
+ghost use Rattle.linear_values.specs.Tightening.{all_tightened};
 ghost use Rattle.linear_form.specs.PlainPaths.{path_of};
 ghost use Rattle.linear_form.specs.internal.FurtherRows.{rows_with};
 ghost use Rattle.linear_form.specs.RowLists.{Lists, AreRows, AreNumericRows, count_of, ArePathRows, LackLastRow, StartsWith};
 ghost use Rattle.linear_form.specs.declared.asking.Ask.TheVariants.{End};
 
 use crate::further_rows::{with_answer, with_below};
-use crate::lin::Lin;
-use crate::occurrences::Occurrences;
 use crate::path_rows::RowList;
 use crate::paths::Taken;
-use crate::row::Row;
 use crate::signs::{with_noted_signs, with_signs};
 use heylo_formula::Goal;
+use linear_rows::{Occurrences, Row};
+use linear_values::Lin;
 use std::alloc::{AllocError, Global};
 
 /// The rows of the path's comparisons, from those of the path without its last answer. The truth of a variable has no row.

@@ -6,21 +6,21 @@ ghost use Rattle.heylo_formula.specs.PlainTrees.{form_of, cond_of};
 ghost use Rattle.linear_form.specs.Query.{Query, Taken as PlainTaken};
 ghost use Rattle.linear_form.specs.Questions.{evaluate, test};
 ghost use Rattle.linear_form.specs.Lasting.{IsNoEnd};
-ghost use Rattle.linear_form.specs.Lin.{AreNormal};
+ghost use Rattle.linear_values.specs.Lin.{AreNormal};
 ghost use Rattle.linear_form.specs.Paths.{IsPath};
 ghost use Rattle.linear_form.specs.Places.{IsOn};
-ghost use Rattle.linear_form.specs.PlainPaths.{lin_of, linear_of};
+ghost use Rattle.linear_values.specs.PlainValues.{lin_of, linear_of};
 ghost use Rattle.linear_form.specs.internal.Lasting.{Lasts, BeginsBefore};
 ghost use Rattle.linear_form.specs.internal.Nodes.{comparison};
 ghost use Rattle.linear_form.specs.internal.Places.{Result as Outcome, asked_by, framed, resumed, IsKeptFocus};
-ghost use Rattle.linear_form.specs.internal.Run.{IsKept, IsKeptValue};
+ghost use Rattle.linear_values.specs.Kept.{IsKept, IsKeptValue};
 ghost use Rattle.linear_form.specs.declared.nodes.Comparison.{Comparison};
 
-use crate::lin::Lin;
 use crate::places::{Focus, Frame, Place, Two};
 use crate::slopes::differ;
 use heylo_formula::{Cond, Form};
 use heyvl_num::Frac;
+use linear_values::Lin;
 
 /// Whether the evaluation stands behind as many answers, and surely asks twice from there on: so it isn't at its end once its
 /// question is answered. It may be told no of any evaluation.

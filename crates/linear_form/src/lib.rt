@@ -1,4 +1,4 @@
-//! Linear questions of a goal along a path, linear rows, the points that meet them, and their combinations.
+//! Linear questions of a goal along a path, and the rows of a path.
 #![tactic(auto)]
 
 mod answering;
@@ -9,16 +9,9 @@ mod direct;
 mod further_rows;
 mod goal_products;
 mod going_on;
-mod greedy_laws;
 mod growing_rows;
 mod lasting;
-mod lin;
-mod linear_terms;
-mod multiples;
-mod multipliers;
 mod nodes;
-mod numbers;
-mod occurrences;
 mod operators;
 mod path_laws;
 mod path_rows;
@@ -28,26 +21,23 @@ mod places;
 mod plain_ends;
 mod point_laws;
 mod question_laws;
-mod row;
-mod row_laws;
 mod row_list_laws;
 mod signs;
 mod slopes;
 mod steps;
-mod terms;
-mod tightening;
 
 pub use answering::ask;
 pub use asking::Ask;
 pub use claim_laws::{paths_claim_truths, paths_rows_are_met};
 pub use goal_products::nonlinear;
 pub use going_on::{begin, go_on, go_on_from};
-pub use greedy_laws::greedy_choices_are_unique;
 pub use growing_rows::{next_row, with_denied_goal, with_signs_of_path};
 pub use lasting::asks_on;
-pub use lin::Lin;
-pub use multipliers::contradicts;
-pub use occurrences::Occurrences;
+pub use linear_rows::{
+    Occurrences, Row, coefficient_of, contradicts, divided, divisor_of, greedy_choices_are_unique,
+    merged, mixed, narrow_quotient, scaled, solutions_of_rows, wide_product,
+};
+pub use linear_values::{Lin, tightened};
 pub use path_laws::paths_are_short;
 pub use path_rows::{RowList, rows};
 pub use paths::{Atom, Taken};
@@ -56,12 +46,6 @@ pub use places::{Place, Reached};
 pub use plain_ends::holds_plainly;
 pub use point_laws::{falsifying_points, truths_are_booleans, unsigned_are_nonnegative};
 pub use question_laws::{constant_without_variables, one_path_agrees};
-pub use row::Row;
-pub use row_laws::solutions_of_rows;
 pub use row_list_laws::{
     denied_rows_are_more, path_rows_grow, repeated_rows_stand, rows_are_numeric,
 };
-pub use terms::{
-    coefficient_of, divided, divisor_of, merged, mixed, narrow_quotient, scaled, wide_product,
-};
-pub use tightening::tightened;

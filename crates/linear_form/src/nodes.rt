@@ -1,19 +1,21 @@
 //! The operators of nodes, and what each asks and gives where the values or truths of its parts are known.
 
 ghost use Rattle.std.specs.Prelude.{◌≡◌};
-ghost use Rattle.linear_form.specs.internal.Run.{along, IsKeptValue};
+ghost use Rattle.linear_form.specs.internal.Run.{along};
+ghost use Rattle.linear_values.specs.Kept.{IsKeptValue};
 ghost use Rattle.linear_form.specs.internal.Nodes.{binary, unary, of_truth, comparison};
-ghost use Rattle.linear_form.specs.PlainPaths.{linear_of, path_of};
+ghost use Rattle.linear_values.specs.PlainValues.{linear_of};
+ghost use Rattle.linear_form.specs.PlainPaths.{path_of};
 ghost use Rattle.linear_form.specs.internal.Seen.{Gives, Tells};
 
 use crate::cursor::{Found, Stop, Tested};
-use crate::lin::Lin;
 use crate::operators::{
     at_most, co_imply, co_validate, cut, difference, embed, equal, imply, iverson, less, max, min,
     product, scale, sum, validate,
 };
 use crate::paths::Taken;
 use heyvl_num::Frac;
+use linear_values::Lin;
 use std::alloc::Global;
 
 /// An operator on two values.

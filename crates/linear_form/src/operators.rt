@@ -1,23 +1,29 @@
 //! The operators on linear values and infinity: the questions that they ask, and their results.
 
 ghost use Rattle.std.specs.Prelude.{◌≡◌, ◌&&◌, ◌||◌, ◌<◌, length, List, MatchOption, Some, None, true, if◌then◌else◌};
-ghost use Rattle.linear_form.specs.Lin.{constant as constant_lin, fits as number_fits, minus as lin_minus, scaled as lin_scaled};
+ghost use Rattle.linear_values.specs.Lin.{constant as constant_lin, minus as lin_minus, scaled as lin_scaled};
+ghost use Rattle.linear_rows.specs.Numbers.{fits as number_fits};
 ghost use Rattle.heyvl_num.specs.Value.{is_zeroʳ};
 ghost use Rattle.linear_form.specs.Query.{Taken as PlainTaken};
 ghost use Rattle.linear_form.specs.Query.Query.{done};
 ghost use Rattle.linear_form.specs.Questions as tree;
-ghost use Rattle.linear_form.specs.internal.Operator.{has_no_terms};
-ghost use Rattle.linear_form.specs.internal.Run.{along, Evaluation, IsKept, IsKeptValue};
-ghost use Rattle.linear_form.specs.PlainPaths.{lin_of, linear_of, path_of};
+ghost use Rattle.linear_values.specs.Operator.{has_no_terms};
+ghost use Rattle.linear_form.specs.internal.Run.{along, Evaluation};
+ghost use Rattle.linear_values.specs.Kept.{IsKept, IsKeptValue};
+ghost use Rattle.linear_values.specs.PlainValues.{lin_of, linear_of};
+ghost use Rattle.linear_form.specs.PlainPaths.{path_of};
 ghost use Rattle.linear_form.specs.internal.Seen.{Gives, Tells};
 ghost use Rattle.heyvl_num.specs.Extended.{value_of};
 
 use crate::cursor::{Found, Stop, Tested, answered};
-use crate::lin::{Lin, constant, copy, copy_value, is_constant, is_sized, minus, plus, scaled};
-use crate::multiples::{small_multiple, small_product};
-use crate::numbers::{fits, fitting, is_negative, is_zero, one, signed, sum as number_sum, zero};
 use crate::paths::{Atom, Taken};
 use heyvl_num::{Ext, Frac};
+use linear_values::Lin;
+use linear_values::lin::{constant, copy, copy_value, is_constant, is_sized, minus, plus, scaled};
+use linear_values::multiples::{small_multiple, small_product};
+use linear_values::numbers::{
+    fits, fitting, is_negative, is_zero, one, signed, sum as number_sum, zero,
+};
 use std::alloc::Global;
 
 /// Whether a linear value is at most 0 or, where strict, below 0: known without variables, else asked.

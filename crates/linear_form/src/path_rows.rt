@@ -3,7 +3,8 @@
 ghost use Rattle.std.specs.Prelude.{◌≤◌, ◌+◌, ◌++◌, [], length, IfOk, if◌then◌else◌};
 ghost use Rattle.heylo_formula.specs.Goals.{goal_of};
 ghost use Rattle.linear_form.specs.Paths.{IsPath, end_at};
-ghost use Rattle.linear_form.specs.PathRows.{rows_of, all_tightened, path_claims, listed, denial_at};
+ghost use Rattle.linear_form.specs.PathRows.{rows_of, path_claims, listed, denial_at};
+ghost use Rattle.linear_values.specs.Tightening.{all_tightened};
 ghost use Rattle.linear_form.specs.internal.FurtherRows.{rows_with};
 ghost use Rattle.linear_form.specs.internal.NormalPaths.{IsNormalPath};
 ghost use Rattle.linear_form.specs.PlainPaths.{path_of};
@@ -15,9 +16,9 @@ use crate::answering::ask;
 use crate::asking::Ask;
 use crate::further_rows::{with_answer, with_below};
 use crate::paths::Taken;
-use crate::row::Row;
 use crate::signs::with_signs;
 use heylo_formula::{Goal, Ty};
+use linear_rows::Row;
 use std::alloc::{AllocError, Global};
 
 /// The rows of a path, or that one of their numbers is too large.

@@ -1,6 +1,6 @@
 //! Questions and answers.
 
-use crate::lin::Lin;
+use linear_values::Lin;
 
 /// A question about a state.
 #[derive(Drop)]

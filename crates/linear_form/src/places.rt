@@ -4,9 +4,10 @@ ghost use Rattle.std.specs.Prelude.{IfOk};
 ghost use Rattle.linear_form.specs.internal.Steps.{AreAlike, IsAlike, IsSamePlace, IsSameFocus};
 
 use crate::asking::Ask;
-use crate::lin::{Lin, copy_value};
 use crate::nodes::{Binary, Comparison, Connective, OfTruth, Unary};
 use heylo_formula::{Cond, Form};
+use linear_values::Lin;
+use linear_values::lin::copy_value;
 use std::alloc::{AllocError, Global};
 
 /// An evaluation of a goal that stands at a place of a path: what is evaluated next, what waits for it, and how many answers

@@ -2,9 +2,9 @@
 
 ghost use Rattle.std.specs.Prelude.{◌≡◌, is_none};
 ghost use Rattle.linear_form.specs.PathRows.{denial};
-ghost use Rattle.linear_form.specs.PlainPaths.{linear_of};
+ghost use Rattle.linear_values.specs.PlainValues.{linear_of};
 
-use crate::lin::Lin;
+use linear_values::Lin;
 
 /// Whether nothing denies a goal with these two values at an end, since the one that would have to be smaller is infinity. None
 /// stands for infinity.

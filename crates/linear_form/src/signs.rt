@@ -1,18 +1,17 @@
 //! The signs of unsigned variables.
 
 ghost use Rattle.std.specs.Prelude.{◌≡◌, ◌<◌, List, IfOk, map, length, false};
-ghost use Rattle.linear_form.specs.Lin.{variable as variable_lin};
+ghost use Rattle.linear_values.specs.Lin.{variable as variable_lin};
 ghost use Rattle.linear_form.specs.PathRows.{claim, negated, is_unsigned_type};
 ghost use Rattle.linear_form.specs.internal.FurtherRows.{rows_with, unsigned_in, all_unsigned_in, sign_row as plain_sign_row};
-ghost use Rattle.linear_form.specs.Occurrences.{AreOccurrences};
-ghost use Rattle.linear_form.specs.Row.{Row as PlainRow};
+ghost use Rattle.linear_rows.specs.Occurrences.{AreOccurrences};
+ghost use Rattle.linear_rows.specs.Row.{Row as PlainRow};
 ghost use Rattle.linear_form.specs.RowLists.{Lists};
 ghost use Rattle.heylo_formula.specs.Typing.{types_in};
 
-use crate::occurrences::Occurrences;
 use crate::path_rows::RowList;
-use crate::row::Row;
 use heylo_formula::Ty;
+use linear_rows::{Occurrences, Row};
 use std::alloc::{AllocError, Global};
 
 /// Whether the variable is of type UInt or UReal.

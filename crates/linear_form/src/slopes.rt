@@ -4,7 +4,7 @@ ghost use Rattle.std.specs.Prelude.{◌≡◌, ℕ, Some, IsTrue};
 ghost use Rattle.heyvl_num.specs.Rational.{Rational, ◌+ʳ◌, ◌*ʳ◌, negʳ};
 ghost use Rattle.heyvl_num.specs.Extended.{value_of};
 ghost use Rattle.heylo_formula.specs.PlainTrees.{form_of};
-ghost use Rattle.linear_form.specs.Lin.{variable as variable_lin};
+ghost use Rattle.linear_values.specs.Lin.{variable as variable_lin};
 ghost use Rattle.linear_form.specs.Query.Query.{done};
 ghost use Rattle.linear_form.specs.Questions as tree;
 ghost use Rattle.linear_form.specs.Questions.{evaluate, both};
@@ -14,9 +14,9 @@ ghost use Rattle.linear_form.specs.internal.Nodes.{comparison};
 ghost use Rattle.linear_form.specs.declared.nodes.Comparison.{Comparison};
 ghost use Rattle.linear_form.specs.declared.slopes.Slope.{Slope as PlainSlope};
 
-use crate::numbers::{is_negative, is_zero};
 use heylo_formula::Form;
 use heyvl_num::{Ext, Frac};
+use linear_values::numbers::{is_negative, is_zero};
 
 /// How a value changes where one variable grows and all others stay.
 #[derive(Clone, Copy)]

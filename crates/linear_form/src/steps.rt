@@ -5,13 +5,16 @@ ghost use Rattle.heyvl_num.specs.Extended.{value_of};
 ghost use Rattle.heylo_formula.specs.Formula.{Form as PlainForm, Cond as PlainCond};
 ghost use Rattle.heylo_formula.specs.PlainTrees.{form_of, cond_of};
 ghost use Rattle.heylo_formula.specs.Sizes.{nodes, nodes_in};
-ghost use Rattle.linear_form.specs.Lin.{constant as constant_lin, fits as number_fits, variable as variable_lin};
+ghost use Rattle.linear_values.specs.Lin.{constant as constant_lin, variable as variable_lin, Linear};
+ghost use Rattle.linear_rows.specs.Numbers.{fits as number_fits};
 ghost use Rattle.linear_form.specs.Query.{Query, Taken as PlainTaken, next};
 ghost use Rattle.linear_form.specs.Query.Query.{done};
-ghost use Rattle.linear_form.specs.Questions.{Linear, evaluate, test};
-ghost use Rattle.linear_form.specs.PlainPaths.{path_of, lin_of, linear_of};
+ghost use Rattle.linear_form.specs.Questions.{evaluate, test};
+ghost use Rattle.linear_form.specs.PlainPaths.{path_of};
+ghost use Rattle.linear_values.specs.PlainValues.{lin_of, linear_of};
 ghost use Rattle.linear_form.specs.internal.Nodes.{unary, after_first};
-ghost use Rattle.linear_form.specs.internal.Run.{along, IsKept, IsKeptValue};
+ghost use Rattle.linear_form.specs.internal.Run.{along};
+ghost use Rattle.linear_values.specs.Kept.{IsKept, IsKeptValue};
 ghost use Rattle.linear_form.specs.internal.Seen.{Gives, Tells, Stops};
 ghost use Rattle.linear_form.specs.internal.Places.{Result as Outcomes, valued, told, of_two, of_number, of_bool, resumed, asked_by, through, left_at, weight, focus_weight, frame_weight, frames_weight, IsKeptFocus, IsKeptFrame, AreKeptFrames};
 ghost use Rattle.linear_form.specs.internal.Steps.{Steps};
@@ -19,7 +22,6 @@ ghost use Rattle.linear_form.specs.declared.places.Place.{Place as PlainPlace};
 
 use crate::cursor::{Found, Stop, Tested, truth};
 use crate::direct::direct;
-use crate::lin::{Lin, constant as constant_value, copy_value, is_constant, variable};
 use crate::nodes::{
     Binary, Comparison, Connective, OfTruth, Unary, comparison_of, of_known_truth, of_value,
     of_values,
@@ -29,6 +31,8 @@ use crate::paths::{Atom, Taken};
 use crate::places::{Focus, Frame, Place, Two};
 use heylo_formula::{Cond, Form};
 use heyvl_num::{Ext, Frac};
+use linear_values::Lin;
+use linear_values::lin::{constant as constant_value, copy_value, is_constant, variable};
 use std::alloc::{AllocError, Global};
 
 /// What one step of an evaluation gives. It is small, since each step hands it on.

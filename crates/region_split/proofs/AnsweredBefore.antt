@@ -9,12 +9,13 @@ use Rattle.std.proofs.Math.Seq.{take-append_seam}
 use Rattle.heylo_formula.specs.Goals.{Goal}
 use Rattle.heylo_formula.specs.Typing.{types_in}
 use Rattle.linear_form.specs.Query.{Atom, Taken, onto}
-use Rattle.linear_form.specs.Row.{Row}
-use Rattle.linear_form.specs.Combination.{row_at}
+use Rattle.linear_rows.specs.Row.{Row}
+use Rattle.linear_rows.specs.Combination.{row_at}
 use Rattle.linear_form.specs.Lasting.{IsNoEnd}
 use Rattle.linear_form.specs.Questions.{questions}
 use Rattle.linear_form.specs.Paths.{IsPath}
-use Rattle.linear_form.specs.PathRows.{all_tightened, path_claims, answer_claims}
+use Rattle.linear_values.specs.Tightening.{all_tightened}
+use Rattle.linear_form.specs.PathRows.{path_claims, answer_claims}
 use Rattle.linear_form.specs.PlainPaths.{taken_of, atom_of}
 use Rattle.linear_form.specs.declared.paths.Taken as T
 use Rattle.linear_form.specs.RowLists.{ArePathRows}
@@ -22,7 +23,7 @@ use Rattle.linear_form.specs.RowListLaws.{HasFirstRows, RepeatedRowsStand}
 use Rattle.linear_form.specs.Cells.{IsKept, GoesOn}
 use Rattle.linear_form.proofs.exported.PathSteps.{path_onto}
 use Rattle.linear_form.proofs.exported.Places.{rows_counted, path_rows_first, claims_counted}
-use Rattle.linear_elim.specs.declared.answers.Cause.TheVariants.{Bits}
+use Rattle.goal_answers.specs.declared.causes.Cause.TheVariants.{Bits}
 use Rattle.farkas_check.specs.Accepted.{IsRefutedWith}
 use Rattle.region_split.specs.Walk.{AreBefore}
 use Rattle.region_split.specs.Decisions.{IsLarge}

@@ -11,7 +11,7 @@ use Rattle.region_split.specs.Walk.{AreBefore, IsReached}
 use Rattle.region_split.specs.Decisions.{HasCells}
 use Rattle.region_split.specs.internal.Seen.{IsEnd}
 use Rattle.region_split.specs.internal.Progress.{HasBefore}
-use Rattle.farkas_check.specs.declared.trees.Tree as F
+use Rattle.goal_answers.specs.declared.trees.Tree as F
 
 pub front_path : (g : Goal) (ps : List Taken) → IsFront g ps → IsPath g ps
 front_path g _ IsFront.start = Path.start (questions g)

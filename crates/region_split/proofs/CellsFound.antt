@@ -6,10 +6,10 @@ use Rattle.heylo_formula.specs.Goals.{Goal}
 use Rattle.heylo_formula.specs.declared.values.Val.{Val}
 use Rattle.linear_form.specs.Query.{Taken}
 use Rattle.linear_form.specs.PathRows.{IsPlainAt}
-use Rattle.linear_form.specs.Solutions.{IsSolvable}
+use Rattle.linear_rows.specs.Solutions.{IsSolvable}
 use Rattle.linear_form.specs.Cells.{IsCell, IsFalseCell}
 use Rattle.linear_elim.specs.Answers.{ends_of}
-use Rattle.linear_elim.specs.declared.answers.Broken.{Broken}
+use Rattle.goal_answers.specs.declared.causes.Broken.{Broken}
 use Rattle.region_split.specs.Decisions.{with_truths, IsPointOf, IsBreakOf, Breaks, IsFirstPoint, IsFirstBreak}
 use Rattle.region_split.specs.internal.Seen.{IsPointAt, IsBreakAt, IsMetAt}
 use Rattle.region_split.specs.internal.Progress.{HoldsAt, IsFound}

@@ -5,9 +5,9 @@ use borrow.Author.Differences.{ints}
 use Prim.Native.Nat.{zero, suc}
 use Rattle.std.proofs.lemmas.Bool.{eqb-true}
 use Rattle.std.proofs.lemmas.List.Elements.{All-nil, All-cons}
-use Rattle.linear_form.specs.Row.{Row}
-use Rattle.linear_form.specs.Terms.{coefficient}
-use Rattle.linear_form.specs.Combination.{row_at, combined, uses_strict, IsWideThroughout, IsContradiction}
+use Rattle.linear_rows.specs.Row.{Row}
+use Rattle.linear_rows.specs.Terms.{coefficient}
+use Rattle.linear_rows.specs.Combination.{row_at, combined, uses_strict, IsWideThroughout, IsContradiction}
 use Rattle.region_split.specs.internal.Clashes.{Cancel, Clash}
 
 -- ---- Coefficients

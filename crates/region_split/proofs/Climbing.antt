@@ -12,7 +12,7 @@ use Rattle.linear_form.specs.Paths.{walk, end_at}
 use Rattle.region_split.specs.Walk.{AreCells}
 use Rattle.linear_form.specs.Cells.{GoesOn}
 use Rattle.region_split.specs.internal.Progress.{HoldsAt, IsBranch, HasBefore, IsAfter, IsGrown, size, rest_of, left_of}
-use Rattle.farkas_check.specs.declared.trees.Tree as F
+use Rattle.goal_answers.specs.declared.trees.Tree as F
 
 -- ---- A path and its last answer
 

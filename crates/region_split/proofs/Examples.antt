@@ -10,20 +10,21 @@ use Rattle.heyvl_num.specs.Value.Value.{finite, infinite}
 use Rattle.heylo_formula.specs.Formula.{Form}
 use Rattle.heylo_formula.specs.Goals.{Goal}
 use Rattle.heylo_formula.specs.declared.types.Ty.{Ty}
-use Rattle.linear_form.specs.Lin.{variable, minus_oneʳ, plus, minus, scaled, fits, is_sized}
+use Rattle.linear_values.specs.Lin.{variable, plus, minus, scaled, is_sized}
+use Rattle.linear_rows.specs.Numbers.{minus_oneʳ, fits}
 use Rattle.linear_form.specs.Query.Query.{done}
 use Rattle.linear_form.specs.Questions.{Ends, zero, one}
 use Rattle.linear_form.specs.Paths.{end_at}
 use Rattle.linear_form.specs.PathRows.{denial, rows_of, IsPlainAt}
-use Rattle.linear_form.specs.Row.{Row}
-use Rattle.linear_form.specs.Solutions.{sum_of, MeetsAt, IsSolvable}
-use Rattle.linear_form.specs.Tightening.{tightened}
-use Rattle.linear_form.specs.VariableOrder.{order_of}
-use Rattle.linear_form.specs.GreedyPoint.{Chooses}
+use Rattle.linear_rows.specs.Row.{Row}
+use Rattle.linear_rows.specs.Solutions.{sum_of, MeetsAt, IsSolvable}
+use Rattle.linear_values.specs.Tightening.{tightened}
+use Rattle.linear_rows.specs.VariableOrder.{order_of}
+use Rattle.linear_rows.specs.GreedyPoint.{Chooses}
 use Rattle.linear_form.specs.Cells.{IsKept, IsFront, IsFalseCell}
-use Rattle.farkas_check.specs.Trees.{Tree}
+use Rattle.goal_answers.specs.Trees.{Tree, depth}
 use Rattle.region_split.specs.Walk.{AreCells, AreBefore, IsReached, IsSettled}
-use Rattle.region_split.specs.WalkTree.{IsWalkTree, depth}
+use Rattle.region_split.specs.WalkTree.{IsWalkTree}
 use Rattle.region_split.specs.Decisions.{IsFalsified}
 
 -- infinity is at least x

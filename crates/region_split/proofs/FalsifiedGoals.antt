@@ -7,20 +7,18 @@ use Rattle.heyvl_num.specs.Rational.{Rational, zeroʳ, ◌≤ʳ◌}
 use Rattle.heyvl_num.proofs.exported.Rationals.{≤ʳ_refl}
 use Rattle.heylo_formula.specs.Goals.{Goal}
 use Rattle.heylo_formula.specs.State.{IsTyped, environment, number_of, truth_of, has}
-use Rattle.heylo_formula.specs.Typing.{is_bool}
+use Rattle.heylo_formula.specs.Typing.{is_bool, types_in}
 use Rattle.heylo_formula.specs.declared.types.Ty.{Ty}
 use Rattle.heylo_formula.specs.declared.values.Val.{Val}
 use Rattle.heylo_formula.specs.declared.values.Val.TheVariants.{Truth, Num}
 use Rattle.linear_form.specs.Query.{Taken, known}
 use Rattle.linear_form.specs.Paths.{IsPath}
 use Rattle.linear_form.specs.PathRows.{rows_of, is_unsigned_type}
-use Rattle.linear_form.specs.Row.{Row}
-use Rattle.linear_form.specs.RowLists.{is_numeric, IsNumericRow}
-use Rattle.linear_form.specs.Solutions.{MeetsAt, IsSolvable}
+use Rattle.linear_rows.specs.Row.{Row}
+use Rattle.linear_rows.specs.VariableTypes.{is_numeric, IsNumericRow, is_integral}
+use Rattle.linear_rows.specs.Solutions.{MeetsAt, IsSolvable}
 use Rattle.heylo_formula.specs.TypedGoals.{IsTypedGoal, HasItsVariables}
-use Rattle.heylo_formula.specs.Typing.{types_in}
-use Rattle.linear_form.specs.GreedyPoint.{Greedy, ChoosesFrom, chosen_value, value_for}
-use Rattle.linear_form.specs.Tightening.{is_integral}
+use Rattle.linear_rows.specs.GreedyPoint.{Greedy, ChoosesFrom, chosen_value, value_for}
 use Rattle.linear_form.specs.Cells.{IsFalseCell}
 use Rattle.linear_form.specs.PointLaws.{HasTruths}
 use Rattle.linear_form.proofs.exported.NumericRows.{unsigned_number, numeric_rows}

@@ -9,9 +9,9 @@ use Rattle.std.proofs.lemmas.List.Folds.{list_any-append}
 use Rattle.std.proofs.lemmas.Bool.Decides.{nat_tests}
 use Rattle.heyvl_num.specs.Rational.{Rational}
 use Rattle.heylo_formula.specs.declared.types.Ty.{Ty}
-use Rattle.linear_form.specs.Row.{Row}
-use Rattle.linear_form.specs.VariableOrder.{occurrences, put_variable, order_of}
-use Rattle.linear_form.specs.GreedyPoint.{Greedy, Chooses}
+use Rattle.linear_rows.specs.Row.{Row}
+use Rattle.linear_rows.specs.VariableOrder.{occurrences, put_variable, order_of}
+use Rattle.linear_rows.specs.GreedyPoint.{Greedy, Chooses}
 
 -- ---- The order has the variables that occur
 

@@ -8,14 +8,13 @@ use Rattle.std.proofs.lemmas.List.Sums.{sum_by-cons}
 use Rattle.heyvl_num.specs.Rational.{Rational, zeroʳ, ◌+ʳ◌, ◌*ʳ◌}
 use Rattle.heyvl_num.specs.Rounding.{whole}
 use Rattle.heylo_formula.specs.declared.types.Ty.{Ty}
-use Rattle.linear_form.specs.Row.{Row}
-use Rattle.linear_form.specs.RowLists.{is_numeric, IsNumericRow}
+use Rattle.linear_rows.specs.Row.{Row}
+use Rattle.linear_rows.specs.VariableTypes.{is_numeric, IsNumericRow, is_integral}
 use Rattle.heylo_formula.specs.Typing.{types_in}
-use Rattle.linear_form.specs.Solutions.{sum_of, MeetsAt, IsBelowZero, IsSolvable}
-use Rattle.linear_form.specs.VariableOrder.{occurs_in_row, occurrences, order_of}
-use Rattle.linear_form.specs.GreedyPoint.{Greedy, ChoosesFrom, chosen_value}
-use Rattle.linear_form.specs.Tightening.{is_integral}
-use Rattle.linear_form.proofs.exported.GreedyChoices.{AreWhole, completed, chosen_whole, zero_whole}
+use Rattle.linear_rows.specs.Solutions.{sum_of, MeetsAt, IsBelowZero, IsSolvable}
+use Rattle.linear_rows.specs.VariableOrder.{occurs_in_row, occurrences, order_of}
+use Rattle.linear_rows.specs.GreedyPoint.{Greedy, ChoosesFrom, chosen_value}
+use Rattle.linear_rows.proofs.exported.GreedyChoices.{AreWhole, completed, chosen_whole, zero_whole}
 use Rattle.region_split.proofs.GreedyOrder.{turned_order, turned_occurs, chosen_any, chosen_all}
 
 -- ---- The value of a variable among those chosen

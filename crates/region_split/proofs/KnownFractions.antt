@@ -9,7 +9,7 @@ use Rattle.std.proofs.Math.Nat.{ℕ_set}
 use mathlib.Core.HLevel.{is_prop→PathP}
 use Rattle.heyvl_num.specs.Gcd.{gcd}
 use Rattle.heyvl_num.specs.Rational.{Rational}
-use Rattle.linear_form.specs.Lin.{Lin}
+use Rattle.linear_values.specs.Lin.{Lin}
 
 abbrev lin : List (ℕ × Rational) → Rational → Lin
 lin ts r = record { terms = ts; rest = r }

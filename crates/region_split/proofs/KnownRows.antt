@@ -5,10 +5,10 @@ use Rattle.std.proofs.lemmas.List.{append-nil}
 use Rattle.heylo_formula.specs.Goals.{Goal}
 use Rattle.heylo_formula.specs.Typing.{Types, types_in}
 use Rattle.linear_form.specs.Query.{Atom, Taken, onto}
-use Rattle.linear_form.specs.Row.{Row}
-use Rattle.linear_form.specs.PathRows.{all_tightened, path_claims, answer_claims, with_row, claim, negated}
+use Rattle.linear_rows.specs.Row.{Row}
+use Rattle.linear_values.specs.Tightening.{all_tightened, with_row, tightened}
+use Rattle.linear_form.specs.PathRows.{path_claims, answer_claims, claim, negated}
 use Rattle.linear_form.specs.RowLists.{ArePathRows}
-use Rattle.linear_form.specs.Tightening.{tightened}
 use Rattle.region_split.specs.internal.Known.{IsRowOf}
 
 -- behind a path stands the row of the answer

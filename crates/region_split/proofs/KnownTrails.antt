@@ -2,7 +2,7 @@
 use Rattle.std.proofs.Common.{◌≡◌, List, [], ◌∷◌, ◌++◌, sym, ◌∙◌, subst, Bool, true, false}
 use Rattle.heylo_formula.specs.Goals.{Goal}
 use Rattle.linear_form.specs.Query.{Atom, Taken, onto}
-use Rattle.linear_form.specs.Row.{Row}
+use Rattle.linear_rows.specs.Row.{Row}
 use Rattle.linear_form.specs.RowLists.{ArePathRows}
 use Rattle.region_split.specs.internal.Known.{IsRowOf}
 use Rattle.region_split.specs.internal.Trails.{StandsAt, AreRowsSoFar}

@@ -12,14 +12,14 @@ use Rattle.linear_form.specs.Paths.{end_at}
 use Rattle.linear_form.specs.PathRows.{IsPlainAt, denial, denial_at}
 use Rattle.linear_form.specs.PlainPaths.{path_of}
 use Rattle.linear_form.specs.Cells.{GoesOn, IsFalseCell}
-use Rattle.linear_form.proofs.exported.Combinations.{contradiction_unsolvable}
-use Rattle.farkas_check.specs.Trees.{Tree, tree_of, tree_layer}
+use Rattle.linear_rows.proofs.exported.Combinations.{contradiction_unsolvable}
+use Rattle.goal_answers.specs.Trees.{Tree, tree_of, tree_layer, depth}
 use Rattle.farkas_check.specs.Accepted.{IsRefutedWith, has_denied}
-use Rattle.farkas_check.specs.declared.trees.Tree as T
-use Rattle.farkas_check.specs.declared.trees.Tree.TheOpen.{Tree-F}
-use Rattle.farkas_check.specs.declared.trees.Tree.TheFolds.{fold-roll-Tree}
+use Rattle.goal_answers.specs.declared.trees.Tree as T
+use Rattle.goal_answers.specs.declared.trees.Tree.TheOpen.{Tree-F}
+use Rattle.goal_answers.specs.declared.trees.Tree.TheFolds.{fold-roll-Tree}
 use Rattle.region_split.specs.Walk.{AreCells, IsRefutedCell, IsSettled}
-use Rattle.region_split.specs.WalkTree.{IsWalkTree, depth}
+use Rattle.region_split.specs.WalkTree.{IsWalkTree}
 use Rattle.region_split.specs.internal.Seen.{IsEnd}
 use Rattle.region_split.specs.internal.Trails.{StandsAt, IsDroppedBy}
 use Rattle.region_split.specs.internal.Progress.{HoldsAt, IsGrownTree, IsDeep, IsGrown, IsLeaf, IsBranch, IsAfter, IsFound, IsStandingWalk, IsFinishedWalk}

@@ -1,6 +1,6 @@
 -- What a decision means for the states of its goal.
 use Rattle.region_split.specs.DecisionLaws.{DecisionsTell}
-use Rattle.region_split.specs.declared.decisions.Decision.TheVariants.{Proved, Falsified, Unknown}
+use Rattle.goal_answers.specs.declared.decisions.Decision.TheVariants.{Proved, Falsified, Unknown}
 use Rattle.region_split.proofs.ProvedGoals.{proved_holds}
 use Rattle.region_split.proofs.FalsifiedGoals.{falsified_fails}
 

@@ -10,9 +10,10 @@ use Prim.Native.Nat.{zero, suc}
 use Rattle.heylo_formula.specs.Goals.{Goal}
 use Rattle.linear_form.specs.Query.{Taken}
 use Rattle.linear_form.specs.PathRows.{rows_of}
-use Rattle.linear_form.specs.Row.{Row}
-use Rattle.linear_form.specs.Terms.{coefficient}
-use Rattle.linear_form.specs.Combination.{row_at, combined, uses_strict, IsGrowing, IsWideThroughout, IsContradiction}
+use Rattle.linear_rows.specs.Row.{Row}
+use Rattle.linear_rows.specs.Terms.{coefficient}
+use Rattle.linear_rows.specs.Combination.{row_at, combined, uses_strict, IsWideThroughout, IsContradiction}
+use Rattle.goal_answers.specs.Multipliers.{IsGrowing}
 use Rattle.linear_form.specs.RowListLaws.{StandAmong, MakesRoom}
 use Rattle.farkas_check.specs.Accepted.{IsRefutedWith}
 use Rattle.region_split.proofs.PathAnswers.{same_rows}

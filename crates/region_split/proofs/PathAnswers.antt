@@ -9,23 +9,24 @@ use Rattle.linear_form.specs.Query.Query.{done, bits, ask}
 use Rattle.linear_form.specs.Questions.{Ends}
 use Rattle.linear_form.specs.Paths.{end_at}
 use Rattle.linear_form.specs.PathRows.{rows_of, denial, denial_at}
-use Rattle.linear_form.specs.PlainPaths.{linear_of, atom_of}
-use Rattle.linear_form.specs.Tightening.{Claim}
-use Rattle.linear_form.specs.Row.{Row}
+use Rattle.linear_values.specs.PlainValues.{linear_of}
+use Rattle.linear_form.specs.PlainPaths.{atom_of}
+use Rattle.linear_values.specs.Tightening.{Claim}
+use Rattle.linear_rows.specs.Row.{Row}
 use Rattle.linear_form.specs.Asked.{Answers}
 use Rattle.linear_form.specs.Lasting.{IsNoEnd}
-use Rattle.linear_form.specs.Solutions.{IsSolvable}
-use Rattle.linear_form.specs.Combination.{IsContradiction}
-use Rattle.linear_form.specs.GreedyPoint.{IsGreedyPoint}
+use Rattle.linear_rows.specs.Solutions.{IsSolvable}
+use Rattle.linear_rows.specs.Combination.{IsContradiction}
+use Rattle.linear_rows.specs.GreedyPoint.{IsGreedyPoint}
 use Rattle.linear_form.specs.Cells.{IsDropped, IsKept, GoesOn}
 use Rattle.linear_form.specs.declared.asking.Ask as K
 use Rattle.linear_form.specs.declared.paths.Atom as A
-use Rattle.linear_form.specs.declared.lin.Lin as L
-use Rattle.linear_form.proofs.exported.Combinations.{contradiction_unsolvable}
+use Rattle.linear_values.specs.declared.lin.Lin as L
+use Rattle.linear_rows.proofs.exported.Combinations.{contradiction_unsolvable}
 use Rattle.linear_elim.specs.Answers.{MeetsAll, IsTooGreat, eliminated}
 use Rattle.linear_elim.specs.Elimination.Outcome.{too_many}
-use Rattle.linear_elim.specs.declared.answers.Broken.{Broken}
-use Rattle.linear_elim.specs.declared.answers.Cause.TheVariants.{Bits, Rows}
+use Rattle.goal_answers.specs.declared.causes.Broken.{Broken}
+use Rattle.goal_answers.specs.declared.causes.Cause.TheVariants.{Bits, Rows}
 use Rattle.farkas_check.specs.Accepted.{has_denied, IsRefutedWith}
 use Rattle.region_split.specs.Walk.{IsReached}
 use Rattle.region_split.specs.Decisions.{Eliminates, IsLarge}

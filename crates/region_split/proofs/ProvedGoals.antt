@@ -5,9 +5,9 @@ use Rattle.heylo_formula.specs.Goals.{Goal, Holds}
 use Rattle.linear_form.specs.Query.{Taken}
 use Rattle.linear_form.specs.Nonlinear.{nonlinear_product}
 use Rattle.heylo_formula.specs.TypedGoals.{IsTypedGoal}
-use Rattle.farkas_check.specs.Trees.{Tree}
+use Rattle.goal_answers.specs.Trees.{Tree}
 use Rattle.farkas_check.specs.Accepted.{IsAccepted, IsCertificate}
-use Rattle.farkas_check.specs.declared.trees.Tree as T
+use Rattle.goal_answers.specs.declared.trees.Tree as T
 use Rattle.farkas_check.proofs.exported.Soundness.{certificate_holds}
 use Rattle.region_split.specs.WalkTree.{IsWalkTree}
 use Rattle.region_split.specs.Decisions.{IsProved}

@@ -13,11 +13,11 @@ use Rattle.linear_form.specs.PathRows.{IsPlainAt}
 use Rattle.linear_form.specs.PlainPaths.{path_of, taken_of, atom_of}
 use Rattle.linear_form.specs.Cells.{GoesOn, IsFront, IsFalseCell}
 use Rattle.linear_form.specs.declared.paths.Taken as T
-use Rattle.linear_elim.specs.declared.answers.Broken.{Broken}
+use Rattle.goal_answers.specs.declared.causes.Broken.{Broken}
 use Rattle.farkas_check.specs.Accepted.{IsRefutedWith}
-use Rattle.farkas_check.specs.declared.trees.Tree as F
+use Rattle.goal_answers.specs.declared.trees.Tree as F
 use Rattle.linear_form.specs.Nonlinear.{nonlinear_product}
-use Rattle.linear_elim.specs.declared.answers.Cause.{Cause}
+use Rattle.goal_answers.specs.declared.causes.Cause.{Cause}
 use Rattle.region_split.specs.Walk.{IsReached}
 use Rattle.region_split.specs.Decisions.{HasCells, IsBreakOf, IsCause}
 use Rattle.heylo_formula.specs.TypedGoals.{IsTypedGoal}

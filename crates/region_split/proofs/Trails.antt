@@ -6,19 +6,19 @@ use Rattle.std.proofs.Math.Seq.{take-append_seam}
 use Rattle.heylo_formula.specs.Goals.{Goal}
 use Rattle.heylo_formula.specs.Typing.{Types, types_in}
 use Rattle.linear_form.specs.Query.{Taken}
-use Rattle.linear_form.specs.PathRows.{path_claims, answer_claims, all_tightened, with_row, sign_claims, rows_of}
-use Rattle.linear_form.specs.Tightening.{Claim, tightened}
+use Rattle.linear_form.specs.PathRows.{path_claims, answer_claims, sign_claims, rows_of}
+use Rattle.linear_values.specs.Tightening.{all_tightened, with_row, Claim, tightened}
 use Rattle.linear_form.specs.PlainPaths.{path_of, taken_of, atom_of}
-use Rattle.linear_form.specs.Row.{Row}
+use Rattle.linear_rows.specs.Row.{Row}
 use Rattle.linear_form.specs.declared.paths.Taken as T
 use Rattle.linear_form.proofs.exported.Places.{place_stays, rows_counted, path_rows_first, claims_counted}
-use Rattle.linear_elim.proofs.exported.Remembering.{remembers_more}
+use Rattle.linear_guess.proofs.exported.Remembering.{remembers_more}
 use Rattle.linear_form.specs.RowLists.{ArePathRows, LackLastRow}
 use Rattle.linear_form.specs.Places.{IsOn}
-use Rattle.linear_form.specs.Occurrences.{AreOccurrences}
-use Rattle.linear_elim.specs.Searches.{Remembers}
+use Rattle.linear_rows.specs.Occurrences.{AreOccurrences}
+use Rattle.linear_guess.specs.Searches.{Remembers}
 use Rattle.linear_form.specs.declared.places.Place.{Place}
-use Rattle.linear_elim.specs.declared.search.Search.{Search}
+use Rattle.linear_guess.specs.declared.search.Search.{Search}
 use Rattle.region_split.specs.declared.trail.Way.{Way}
 use Rattle.region_split.specs.declared.trail.Way.TheVariants.{Open}
 use Rattle.region_split.specs.declared.trail.Trail.{Trail}

@@ -12,22 +12,21 @@ use Rattle.heylo_formula.specs.declared.values.Val.TheVariants.{Num}
 use Rattle.linear_form.specs.Query.{Taken}
 use Rattle.linear_form.specs.Paths.{IsPath}
 use Rattle.linear_form.specs.PathRows.{rows_of, is_unsigned_type}
-use Rattle.linear_form.specs.Row.{Row}
-use Rattle.linear_form.specs.RowLists.{is_numeric}
-use Rattle.linear_form.specs.Solutions.{MeetsAt}
+use Rattle.linear_rows.specs.Row.{Row}
+use Rattle.linear_rows.specs.VariableTypes.{is_numeric, is_integral}
+use Rattle.linear_rows.specs.Solutions.{MeetsAt}
 use Rattle.heylo_formula.specs.TypedGoals.{IsTypedGoal}
 use Rattle.heylo_formula.specs.Typing.{types_in}
-use Rattle.linear_form.specs.VariableOrder.{occurrences, order_of}
-use Rattle.linear_form.specs.GreedyPoint.{Interval, Greedy, Chooses}
-use Rattle.linear_form.specs.Tightening.{is_integral}
+use Rattle.linear_rows.specs.VariableOrder.{occurrences, order_of}
+use Rattle.linear_rows.specs.GreedyPoint.{Interval, Greedy, Chooses}
 use Rattle.linear_form.proofs.exported.NumericRows.{numeric_rows}
 use Rattle.linear_elim.proofs.exported.Numeric.{counted_numeric}
 use Rattle.linear_form.proofs.exported.UnsignedRows.{unsigned_nonnegative}
-use Rattle.linear_elim.specs.declared.answers.Broken.{Broken}
+use Rattle.goal_answers.specs.declared.causes.Broken.{Broken}
 use Rattle.region_split.specs.Decisions.{IsBreakOf}
 use Rattle.region_split.specs.internal.Seen.{IsBreakAt}
 use Rattle.region_split.proofs.Climbing.{all_first}
-use Rattle.linear_form.proofs.exported.GreedyChoices.{AreWhole, completed, chosen_whole}
+use Rattle.linear_rows.proofs.exported.GreedyChoices.{AreWhole, completed, chosen_whole}
 use Rattle.region_split.proofs.GreedyOrder.{turned_occurs, chosen_all}
 use Rattle.region_split.proofs.GreedyStates.{number_below}
 

@@ -9,21 +9,21 @@ use Rattle.heylo_formula.specs.declared.values.Val.{Val}
 use Rattle.linear_form.specs.Query.{Taken}
 use Rattle.linear_form.specs.PathRows.{rows_of}
 use Rattle.linear_form.specs.Nonlinear.{nonlinear_product}
-use Rattle.linear_form.specs.Row.{Row}
-use Rattle.linear_form.specs.Solutions.{IsSolvable}
+use Rattle.linear_rows.specs.Row.{Row}
+use Rattle.linear_rows.specs.Solutions.{IsSolvable}
 use Rattle.linear_form.specs.Cells.{IsCell, IsFalseCell}
-use Rattle.linear_form.specs.GreedyPoint.{End, Interval, Greedy, ChoosesFrom, IsGreedyPoint}
-use Rattle.linear_form.proofs.exported.GreedyChoices.{choices_unique, points_unique}
+use Rattle.linear_rows.specs.GreedyPoint.{End, Interval, Greedy, ChoosesFrom, IsGreedyPoint}
+use Rattle.linear_rows.proofs.exported.GreedyChoices.{choices_unique, points_unique}
 use Rattle.linear_elim.specs.Answers.{ends_of, values_of}
-use Rattle.linear_elim.specs.declared.answers.Broken.{Broken}
-use Rattle.linear_elim.specs.declared.answers.Cause.{Cause}
-use Rattle.linear_elim.specs.declared.answers.Cause.TheVariants.{Depth, Nodes, Nonlinear, Cells, Rows, Bits, Fraction}
-use Rattle.farkas_check.specs.Trees.{Tree, tree_of}
-use Rattle.farkas_check.specs.declared.trees.Tree as T
+use Rattle.goal_answers.specs.declared.causes.Broken.{Broken}
+use Rattle.goal_answers.specs.declared.causes.Cause.{Cause}
+use Rattle.goal_answers.specs.declared.causes.Cause.TheVariants.{Depth, Nodes, Nonlinear, Cells, Rows, Bits, Fraction}
+use Rattle.goal_answers.specs.Trees.{Tree, tree_of}
+use Rattle.goal_answers.specs.declared.trees.Tree as T
 use Rattle.region_split.specs.Walk.{AreCells, IsWalked}
 use Rattle.region_split.specs.Decisions.{with_truths, IsPointOf, IsBreakOf, Breaks, HasCells, IsFirstPoint, IsFirstBreak, IsFalsified, IsUndecided, IsGiven, IsProved, IsCause, IsDecision}
 use Rattle.region_split.specs.DecisionLaws.{AreAlike, IsSameBreak, GiveAlike, IsOfLimits, IsSameCause, DecisionsAreUnique}
-use Rattle.region_split.specs.declared.decisions.Decision.TheVariants.{Proved, Falsified, Unknown}
+use Rattle.goal_answers.specs.declared.decisions.Decision.TheVariants.{Proved, Falsified, Unknown}
 use Rattle.region_split.proofs.PathAnswers.{same_rows}
 use Rattle.region_split.proofs.CellsFound.{breaks}
 use Rattle.region_split.proofs.UniqueWalks.{cells_unique, trees_alike, alike_depth, none_false, kept_or_dropped, end_or_question, located}

@@ -10,13 +10,13 @@ use Rattle.linear_form.specs.Query.Query.{done}
 use Rattle.linear_form.specs.Questions.{Ends}
 use Rattle.linear_form.specs.Paths.{Asks, end_at}
 use Rattle.linear_form.specs.PathRows.{IsPlainAt, denial_at, rows_of}
-use Rattle.linear_form.specs.Solutions.{IsSolvable}
+use Rattle.linear_rows.specs.Solutions.{IsSolvable}
 use Rattle.linear_form.specs.Cells.{IsDropped, IsKept, GoesOn, IsFalseCell}
-use Rattle.linear_form.proofs.exported.Combinations.{contradiction_unsolvable}
-use Rattle.farkas_check.specs.Trees.{Tree}
+use Rattle.linear_rows.proofs.exported.Combinations.{contradiction_unsolvable}
+use Rattle.goal_answers.specs.Trees.{Tree, depth}
 use Rattle.farkas_check.specs.Accepted.{IsRefuted, has_denied}
 use Rattle.region_split.specs.Walk.{AreCells, AreBefore}
-use Rattle.region_split.specs.WalkTree.{IsWalkTree, depth}
+use Rattle.region_split.specs.WalkTree.{IsWalkTree}
 use Rattle.region_split.specs.DecisionLaws.{AreAlike, TreesAreAlike, DepthIsUnique, CellsAreUnique, CellsBeforeAreUnique}
 use Rattle.region_split.proofs.PathAnswers.{same_rows}
 use Rattle.region_split.proofs.Climbing.{taken, snoc_first, snoc_last, snoc_not_empty}

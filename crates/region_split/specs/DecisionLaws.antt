@@ -4,18 +4,18 @@ use Rattle.heylo_formula.specs.Goals.{Goal}
 use Rattle.linear_form.specs.Query.{Taken}
 use Rattle.linear_form.specs.Nonlinear.{nonlinear_product}
 use Rattle.heylo_formula.specs.TypedGoals.{IsTypedGoal, HasItsVariables}
-use Rattle.linear_elim.specs.declared.answers.Broken.{Broken}
-use Rattle.linear_elim.specs.declared.answers.Cause.{Cause}
-use Rattle.linear_elim.specs.declared.answers.Cause.TheVariants.{Nonlinear, Cells, Rows, Bits, Fraction}
-use Rattle.farkas_check.specs.Trees.{Tree, tree_of}
+use Rattle.goal_answers.specs.declared.causes.Broken.{Broken}
+use Rattle.goal_answers.specs.declared.causes.Cause.{Cause}
+use Rattle.goal_answers.specs.declared.causes.Cause.TheVariants.{Nonlinear, Cells, Rows, Bits, Fraction}
+use Rattle.goal_answers.specs.Trees.{Tree, tree_of, depth}
 use Rattle.farkas_check.specs.Accepted.{IsCertificate}
-use Rattle.farkas_check.specs.declared.trees.Tree as T
+use Rattle.goal_answers.specs.declared.trees.Tree as T
 use Rattle.region_split.specs.Walk.{AreCells, AreBefore}
-use Rattle.region_split.specs.WalkTree.{IsWalkTree, depth}
+use Rattle.region_split.specs.WalkTree.{IsWalkTree}
 use Rattle.region_split.specs.Decisions.{IsDecision}
 use Rattle.region_split.specs.Meanings.{Tells}
-use Rattle.region_split.specs.declared.decisions.Decision.{Decision}
-use Rattle.region_split.specs.declared.decisions.Decision.TheVariants.{Proved, Falsified, Unknown}
+use Rattle.goal_answers.specs.declared.decisions.Decision.{Decision}
+use Rattle.goal_answers.specs.declared.decisions.Decision.TheVariants.{Proved, Falsified, Unknown}
 
 -- A decision of a typed goal tells of its states: where it is proved, the goal holds in each, and where it is falsified, it
 -- fails in the one that is shown.

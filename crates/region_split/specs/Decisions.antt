@@ -13,20 +13,20 @@ use Rattle.linear_form.specs.Paths.{end_at}
 use Rattle.linear_form.specs.PathRows.{rows_of, IsPlainAt}
 use Rattle.linear_form.specs.Nonlinear.{nonlinear_product}
 use Rattle.heylo_formula.specs.Typing.{types_in}
-use Rattle.linear_form.specs.Row.{Row}
+use Rattle.linear_rows.specs.Row.{Row}
 use Rattle.linear_form.specs.Cells.{IsDropped, IsKept, IsCell, IsFalseCell}
-use Rattle.linear_form.specs.GreedyPoint.{Interval, Greedy, ChoosesFrom, IsGreedyPoint}
+use Rattle.linear_rows.specs.GreedyPoint.{Interval, Greedy, ChoosesFrom, IsGreedyPoint}
 use Rattle.linear_elim.specs.Elimination.Outcome.{too_many}
 use Rattle.linear_elim.specs.Answers.{eliminated, IsBreak, IsTooGreat}
-use Rattle.linear_elim.specs.declared.answers.Broken.{Broken}
-use Rattle.linear_elim.specs.declared.answers.Cause.{Cause}
-use Rattle.linear_elim.specs.declared.answers.Cause.TheVariants.{Depth, Nodes, Nonlinear, Cells, Rows, Bits, Fraction}
-use Rattle.farkas_check.specs.Trees.{Tree, tree_of}
-use Rattle.farkas_check.specs.declared.trees.Tree as T
+use Rattle.goal_answers.specs.declared.causes.Broken.{Broken}
+use Rattle.goal_answers.specs.declared.causes.Cause.{Cause}
+use Rattle.goal_answers.specs.declared.causes.Cause.TheVariants.{Depth, Nodes, Nonlinear, Cells, Rows, Bits, Fraction}
+use Rattle.goal_answers.specs.Trees.{Tree, tree_of, depth}
+use Rattle.goal_answers.specs.declared.trees.Tree as T
 use Rattle.region_split.specs.Walk.{AreBefore, IsReached, IsWalked}
-use Rattle.region_split.specs.WalkTree.{IsWalkTree, depth}
-use Rattle.region_split.specs.declared.decisions.Decision.{Decision}
-use Rattle.region_split.specs.declared.decisions.Decision.TheVariants.{Proved, Falsified, Unknown}
+use Rattle.region_split.specs.WalkTree.{IsWalkTree}
+use Rattle.goal_answers.specs.declared.decisions.Decision.{Decision}
+use Rattle.goal_answers.specs.declared.decisions.Decision.TheVariants.{Proved, Falsified, Unknown}
 
 -- A Boolean that the path has decided has its truth.
 abbrev pub value_on : Option Bool → Val → Val

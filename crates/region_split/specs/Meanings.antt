@@ -3,8 +3,8 @@ use Rattle.std.specs.Prelude.{List}
 use Rattle.heylo_formula.specs.Goals.{Goal, HoldsIn, Holds}
 use Rattle.heylo_formula.specs.State.{environment, IsTyped}
 use Rattle.heylo_formula.specs.declared.values.Val.{Val}
-use Rattle.region_split.specs.declared.decisions.Decision.{Decision}
-use Rattle.region_split.specs.declared.decisions.Decision.TheVariants.{Proved, Falsified, Unknown}
+use Rattle.goal_answers.specs.declared.decisions.Decision.{Decision}
+use Rattle.goal_answers.specs.declared.decisions.Decision.TheVariants.{Proved, Falsified, Unknown}
 
 -- The goal fails in this state of its variables.
 pub record Fails (g : Goal) (point : List Val) : Type 0 where

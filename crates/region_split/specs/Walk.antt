@@ -2,8 +2,8 @@
 -- and the cells that come before a front that it reaches. This project's own.
 use Rattle.std.specs.Prelude.{◌≡◌, ◌≤◌, List, [], ◌∷◌, ◌++◌, length, true, false, Some}
 use Rattle.heylo_formula.specs.Goals.{Goal}
-use Rattle.linear_form.specs.Row.{Row}
-use Rattle.linear_form.specs.Solutions.{IsSolvable}
+use Rattle.linear_rows.specs.Row.{Row}
+use Rattle.linear_rows.specs.Solutions.{IsSolvable}
 use Rattle.linear_form.specs.Query.{Atom, Taken, onto}
 use Rattle.linear_form.specs.Query.Query.{done}
 use Rattle.linear_form.specs.Questions.{Ends}

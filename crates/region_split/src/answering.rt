@@ -12,9 +12,10 @@ ghost use Rattle.region_split.specs.internal.Trails.{Stands};
 ghost use Rattle.region_split.specs.internal.Repeats.{IsAnswered, IsBoth};
 
 use crate::trail::{Trail, first_rows};
+use goal_answers::Cause;
 use heylo_formula::Goal;
-use linear_elim::Cause;
-use linear_form::{Atom, Row, RowList, Taken, next_row, rows as rows_of_path};
+use linear_form::{Atom, RowList, Taken, next_row, rows as rows_of_path};
+use linear_rows::Row;
 use std::alloc::{AllocError, Global};
 
 /// What an answer's row comes to.

@@ -9,7 +9,7 @@ ghost use Rattle.region_split.specs.internal.Progress.{IsAfter, IsUp};
 
 use crate::growth::{joined, leaf};
 use crate::trail::{Retreat, Trail, Way, back, onward};
-use farkas_check::Tree;
+use goal_answers::Tree;
 use linear_form::Taken;
 use std::alloc::{AllocError, Global};
 

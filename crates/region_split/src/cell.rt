@@ -5,7 +5,7 @@ ghost use Rattle.heylo_formula.specs.Goals.{goal_of};
 ghost use Rattle.linear_form.specs.Cells.{IsFront};
 ghost use Rattle.linear_form.specs.PlainPaths.{path_of};
 ghost use Rattle.heylo_formula.specs.TypedGoals.{IsTypedGoal};
-ghost use Rattle.linear_elim.specs.Searches.{Remembers};
+ghost use Rattle.linear_guess.specs.Searches.{Remembers};
 ghost use Rattle.region_split.specs.internal.Seen.{IsEnd, AreRowsAt};
 ghost use Rattle.region_split.specs.internal.Progress.{IsJudged};
 ghost use Rattle.region_split.specs.declared.found.Found.TheVariants.{Point as PointFound};
@@ -13,10 +13,11 @@ ghost use Rattle.region_split.specs.declared.found.Found.TheVariants.{Point as P
 use crate::found::{Found, with_break, with_point};
 use crate::growth::leaf;
 use crate::solving::{Settled, Solved, settle, solve};
-use farkas_check::Tree;
+use goal_answers::{Cause, Tree};
 use heylo_formula::{Goal, Val};
-use linear_elim::{Cause, Search};
-use linear_form::{Row, Taken};
+use linear_form::Taken;
+use linear_guess::Search;
+use linear_rows::Row;
 use std::alloc::{AllocError, Global};
 
 /// What a cell of the walk shows.

@@ -3,7 +3,7 @@
 ghost use Rattle.std.specs.Prelude.{◌≡◌, ◌<◌, ◌^◌, ◌+ℤ◌, pos, unsigned_abs, IsTrue};
 ghost use Rattle.region_split.specs.internal.Clashes.{Cancel, AddUp, Clash};
 
-use linear_form::Row;
+use linear_rows::Row;
 
 /// Whether a number is below 2^62, as each one of a row is.
 fn is_narrow(number: i64) -> bool

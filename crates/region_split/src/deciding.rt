@@ -8,10 +8,9 @@ ghost use Rattle.heylo_formula.specs.TypedGoals.{IsTypedGoal, HasItsVariables};
 ghost use Rattle.region_split.specs.Decisions.{IsDecision};
 ghost use Rattle.region_split.specs.Meanings.{Tells};
 
-use crate::decisions::Decision;
 use crate::walk::walked;
+use goal_answers::{Cause, Decision};
 use heylo_formula::Goal;
-use linear_elim::Cause;
 use linear_form::{nonlinear, paths_are_short};
 use std::alloc::{AllocError, Global};
 

@@ -9,15 +9,13 @@ ghost use Rattle.linear_form.specs.Places.{IsOn};
 ghost use Rattle.linear_form.specs.PlainPaths.{path_of};
 ghost use Rattle.region_split.specs.internal.Progress.{AreShort, IsStandingWalk, IsAsking, IsBelow, IsStep, left_of};
 
-use crate::decisions::Decision;
 use crate::front::end_of;
 use crate::growth::leaf;
 use crate::repeats::{Repeat, repeated};
 use crate::trail::{Way, onward};
 use crate::walk::{Step, Walk, end};
-use farkas_check::Tree;
+use goal_answers::{Cause, Decision, Tree};
 use heylo_formula::Goal;
-use linear_elim::Cause;
 use linear_form::{Ask, Atom, Place, Reached, Taken, go_on_from};
 use std::alloc::{AllocError, Global};
 

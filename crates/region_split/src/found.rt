@@ -10,8 +10,8 @@ ghost use Rattle.region_split.specs.internal.Seen.{IsPointAt};
 ghost use Rattle.region_split.specs.internal.Progress.{IsFound};
 
 use crate::points::with_path;
+use goal_answers::Broken;
 use heylo_formula::Val;
-use linear_elim::Broken;
 use linear_form::Taken;
 use std::alloc::{AllocError, Global};
 

@@ -8,7 +8,8 @@ ghost use Rattle.linear_form.specs.Query.{Taken as PlainTaken};
 ghost use Rattle.linear_form.specs.Cells.{IsKept};
 ghost use Rattle.linear_form.specs.Lasting.{IsNoEnd};
 ghost use Rattle.linear_form.specs.Paths.{IsPath, end_at};
-ghost use Rattle.linear_form.specs.PathRows.{all_tightened, path_claims, rows_of};
+ghost use Rattle.linear_values.specs.Tightening.{all_tightened};
+ghost use Rattle.linear_form.specs.PathRows.{path_claims, rows_of};
 ghost use Rattle.linear_form.specs.declared.asking.Ask.TheVariants.{End as EndFound};
 ghost use Rattle.linear_form.specs.PlainPaths.{path_of};
 ghost use Rattle.linear_form.specs.RowLists.{Lists};
@@ -24,12 +25,14 @@ use crate::known::{Known, copy_row, row_of_last};
 use crate::moving::{moved, places};
 use crate::solving::{Settled, settle};
 use crate::trail::{Trail, Way, first_rows};
+use goal_answers::Cause;
 use heylo_formula::Goal;
-use linear_elim::Cause;
 use linear_form::{
-    Ask, Atom, Lin, Place, Reached, Row, RowList, Taken, asks_on, begin, denied_rows_are_more,
-    go_on, go_on_from, holds_plainly, next_row, with_denied_goal, with_signs_of_path,
+    Ask, Atom, Place, Reached, RowList, Taken, asks_on, begin, denied_rows_are_more, go_on,
+    go_on_from, holds_plainly, next_row, with_denied_goal, with_signs_of_path,
 };
+use linear_rows::Row;
+use linear_values::Lin;
 use std::alloc::{AllocError, Global};
 
 /// The values of the stated and of the found form at an end, None for infinity, and whether the goal holds plainly there.

@@ -4,10 +4,10 @@ ghost use Rattle.std.specs.Prelude.{◌≡◌, List, IfOk, true, false};
 ghost use Rattle.heylo_formula.specs.Goals.{Goal as PlainGoal};
 ghost use Rattle.linear_form.specs.Query.{Taken as PlainTaken, Atom, onto};
 ghost use Rattle.linear_form.specs.Cells.{GoesOn};
-ghost use Rattle.farkas_check.specs.Trees.{Tree as PlainTree, tree_of};
+ghost use Rattle.goal_answers.specs.Trees.{Tree as PlainTree, tree_of};
 ghost use Rattle.region_split.specs.internal.Progress.{IsGrown, IsLeaf};
 
-use farkas_check::Tree;
+use goal_answers::Tree;
 use std::alloc::{AllocError, Global};
 
 /// A deeper tree isn't kept.

@@ -2,14 +2,17 @@
 
 ghost use Rattle.std.specs.Prelude.{◌≡◌, List, true, false, IfOk, IfSome, IsTrue};
 ghost use Rattle.heylo_formula.specs.declared.types.Ty.{Ty as PlainTy};
-ghost use Rattle.linear_form.specs.PlainPaths.{atom_of, lin_of};
+ghost use Rattle.linear_form.specs.PlainPaths.{atom_of};
+ghost use Rattle.linear_values.specs.PlainValues.{lin_of};
 ghost use Rattle.region_split.specs.internal.Known.{AreKnown, IsKnown, IsRecalled, IsRowOf, question_of};
 
 use crate::answering::AnswerRows;
 use crate::clashes::clash;
 use crate::moving::is_same_row;
 use heyvl_num::Frac;
-use linear_form::{Atom, Lin, Row, Taken};
+use linear_form::{Atom, Taken};
+use linear_rows::Row;
+use linear_values::Lin;
 use std::alloc::{AllocError, Global};
 
 /// A comparison that a path has answered, and the rows of both answers, which clash.

@@ -7,7 +7,6 @@ mod cell;
 mod clashes;
 mod deciding;
 mod decision_laws;
-mod decisions;
 mod descending;
 mod found;
 mod front;
@@ -24,4 +23,4 @@ pub use deciding::decide;
 pub use decision_laws::{
     decisions_are_unique, decisions_tell, walk_trees_certify, walks_are_unique,
 };
-pub use decisions::Decision;
+pub use goal_answers::Decision;

@@ -5,7 +5,7 @@ ghost use Rattle.std.specs.List.{All};
 ghost use Rattle.linear_form.specs.RowListLaws.{StandAmong};
 ghost use Rattle.region_split.specs.internal.Moving.{ArePlaces, place_of, moved_all};
 
-use linear_form::Row;
+use linear_rows::Row;
 use std::alloc::{AllocError, Global};
 
 /// Whether the terms are the same.

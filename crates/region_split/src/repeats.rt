@@ -7,7 +7,7 @@ ghost use Rattle.linear_form.specs.Paths.{IsPath};
 ghost use Rattle.linear_form.specs.Places.{IsOn};
 ghost use Rattle.linear_form.specs.PlainPaths.{path_of, atom_of};
 ghost use Rattle.linear_form.specs.Query.{Taken as PlainTaken};
-ghost use Rattle.linear_form.specs.Row.{Row as PlainRow};
+ghost use Rattle.linear_rows.specs.Row.{Row as PlainRow};
 ghost use Rattle.region_split.specs.internal.Clashes.{Clash};
 ghost use Rattle.region_split.specs.internal.Trails.{Stands, StandsAt};
 ghost use Rattle.region_split.specs.internal.Known.{IsRecalled, StandsIn};
@@ -18,9 +18,10 @@ use crate::clashes::clash;
 use crate::known::{Known, Recalled, make_known, recall};
 use crate::moving::is_same_row;
 use crate::trail::{Trail, Way, further, is_comparison, knowing};
+use goal_answers::Cause;
 use heylo_formula::Goal;
-use linear_elim::Cause;
-use linear_form::{Atom, Place, Row, Taken, asks_on, repeated_rows_stand};
+use linear_form::{Atom, Place, Taken, asks_on, repeated_rows_stand};
+use linear_rows::Row;
 use std::alloc::{AllocError, Global};
 
 /// What the path says of its next question.

@@ -3,17 +3,19 @@
 ghost use Rattle.std.specs.Prelude.{◌≡◌, ◌<◌, ◌^◌, List, take, length, Bool, IfOk, Some};
 ghost use Rattle.heylo_formula.specs.Goals.{Goal as PlainGoal};
 ghost use Rattle.linear_form.specs.Query.{Taken as PlainTaken};
-ghost use Rattle.linear_form.specs.Row.{Row as PlainRow, IsRow};
-ghost use Rattle.linear_form.specs.RowLists.{IsNumericRow};
+ghost use Rattle.linear_rows.specs.Row.{Row as PlainRow, IsRow};
+ghost use Rattle.linear_rows.specs.VariableTypes.{IsNumericRow};
 ghost use Rattle.std.specs.List.{All};
 ghost use Rattle.linear_form.specs.PathRows.{rows_of};
-ghost use Rattle.linear_elim.specs.Searches.{Remembers};
+ghost use Rattle.linear_guess.specs.Searches.{Remembers};
 ghost use Rattle.linear_elim.specs.Answers.{IsAnswer};
 ghost use Rattle.region_split.specs.internal.Seen.{IsSolved, IsSettledAs};
 
+use goal_answers::{Broken, Cause};
 use heylo_formula::{Ty, Val};
-use linear_elim::{Broken, Cause, Elim, Finding, Search, eliminate};
-use linear_form::Row;
+use linear_elim::{Elim, eliminate};
+use linear_guess::{Finding, Search};
+use linear_rows::Row;
 use std::alloc::{AllocError, Global};
 
 /// What the rows of a path come to.

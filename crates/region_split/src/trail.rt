@@ -12,8 +12,9 @@ ghost use Rattle.region_split.specs.internal.Trails.{Comes, Stands, StandsAt, Is
 
 use crate::known::Known;
 use heylo_formula::Goal;
-use linear_elim::Search;
-use linear_form::{Atom, Occurrences, Place, Row, Taken, begin};
+use linear_form::{Atom, Place, Taken, begin};
+use linear_guess::Search;
+use linear_rows::{Occurrences, Row};
 use std::alloc::{AllocError, Global};
 
 /// What is kept of an answered question.

@@ -12,15 +12,13 @@ ghost use Rattle.region_split.specs.internal.Progress.{AreShort, IsWalk, IsStand
 
 use crate::backing::{Up, climb};
 use crate::cell::{Cell, judge};
-use crate::decisions::Decision;
 use crate::descending::deeper;
 use crate::found::Found;
 use crate::front::{End, Front, look};
 use crate::growth::leaf;
 use crate::trail::{Trail, first_rows, start};
-use farkas_check::Tree;
+use goal_answers::{Cause, Decision, Tree};
 use heylo_formula::Goal;
-use linear_elim::Cause;
 use linear_form::{Atom, Place, RowList, with_denied_goal};
 use std::alloc::{AllocError, Global};
 

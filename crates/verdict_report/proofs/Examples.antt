@@ -6,7 +6,7 @@ use Rattle.heyvl_num.specs.Gcd.{gcd, gcd_steps}
 use Rattle.heyvl_num.specs.Rational.{Rational, ratio}
 use Rattle.heylo_formula.specs.declared.goals.GoalId.TheVariants as ids
 use Rattle.heylo_formula.specs.declared.values.Val.TheVariants.{Num, Truth}
-use Rattle.linear_elim.specs.declared.answers.Cause.TheVariants as causes
+use Rattle.goal_answers.specs.declared.causes.Cause.TheVariants as causes
 use Rattle.proc_contracts.specs.declared.reasons.WhyNot.TheVariants as why
 use Rattle.verdict_report.specs.Causes.{cause_text, earlier_text, interval_text}
 use Rattle.verdict_report.specs.Reports.{report_text}

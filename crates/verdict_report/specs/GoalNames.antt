@@ -5,7 +5,7 @@ use Rattle.heylo_formula.specs.declared.goals.Made.{Made}
 use Rattle.heylo_formula.specs.declared.goals.Made.TheVariants as made
 use Rattle.std.specs.Prelude.{Bool, List, [], false, if◌then◌else◌, true, ◌&&◌, ◌==◌, ◌∷◌, ℕ}
 use Rattle.verdict_report.specs.Settings.{Names, named_by}
-use Rattle.verdict_report.specs.declared.answers.NamedGoal.{NamedGoal}
+use Rattle.goal_answers.specs.declared.named_goals.NamedGoal.{NamedGoal}
 
 -- Whether two are the same goal of a procedure.
 abbrev pub is_same : GoalId → GoalId → Bool

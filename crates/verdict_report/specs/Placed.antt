@@ -1,8 +1,8 @@
 -- What a report asks of the answers that it shows.
 use Rattle.heyvl_types.specs.Rules.{Each, MeetsAllRules}
 use Rattle.heyvl_types.specs.declared.typed.Typed.{Typed}
-use Rattle.linear_elim.specs.declared.answers.Cause.{Cause}
-use Rattle.linear_elim.specs.declared.answers.Cause.TheVariants.{Depth, Nodes, Nonlinear, Cells, Rows, Bits, Fraction}
+use Rattle.goal_answers.specs.declared.causes.Cause.{Cause}
+use Rattle.goal_answers.specs.declared.causes.Cause.TheVariants.{Depth, Nodes, Nonlinear, Cells, Rows, Bits, Fraction}
 use Rattle.proc_contracts.specs.declared.reasons.WhyNot.{WhyNot}
 use Rattle.proc_contracts.specs.declared.reasons.WhyNot.TheVariants as why
 use Rattle.std.specs.Prelude.{List, length, ◌<◌, ◌^◌, ◌≡◌, ◌≤◌, ℕ}

@@ -5,7 +5,7 @@ use Rattle.std.specs.Prelude.{List, [], codes, decimal, length, ◌++◌, ◌∷
 use Rattle.verdict_report.specs.Verdicts.{rank_text, verdict_text}
 use Rattle.verdict_report.specs.declared.answers.Answer.{Answer}
 use Rattle.verdict_report.specs.declared.answers.LoopAnswer.{LoopAnswer}
-use Rattle.verdict_report.specs.declared.answers.NamedGoal.{NamedGoal}
+use Rattle.goal_answers.specs.declared.named_goals.NamedGoal.{NamedGoal}
 use Prim.Native.Nat.{suc}
 
 abbrev pub loop_line : List ℕ → List TypedProcedure → List NamedGoal → ℕ → LoopAnswer → List ℕ

@@ -10,9 +10,9 @@ use Rattle.verdict_report.specs.Causes.{cause_text, place_text}
 use Rattle.verdict_report.specs.GoalNames.{names_of}
 use Rattle.verdict_report.specs.LoopScopes.{always_shown}
 use Rattle.verdict_report.specs.States.{state_text}
-use Rattle.verdict_report.specs.declared.answers.Miss.{Miss}
-use Rattle.verdict_report.specs.declared.answers.Miss.TheVariants.{Absent, Place}
-use Rattle.verdict_report.specs.declared.answers.NamedGoal.{NamedGoal}
+use Rattle.goal_answers.specs.declared.misses.Miss.{Miss}
+use Rattle.goal_answers.specs.declared.misses.Miss.TheVariants.{Absent, Place}
+use Rattle.goal_answers.specs.declared.named_goals.NamedGoal.{NamedGoal}
 use Rattle.verdict_report.specs.declared.answers.RankVerdict.{RankVerdict}
 use Rattle.verdict_report.specs.declared.answers.RankVerdict.TheVariants as rank
 use Rattle.verdict_report.specs.declared.answers.Verdict.{Verdict}

@@ -1,8 +1,8 @@
 //! Answers.
 
-use heylo_formula::{GoalId, Made, Val};
+use goal_answers::{Cause, Miss};
+use heylo_formula::{GoalId, Val};
 use heyvl_syntax::Name;
-use linear_elim::Cause;
 use proc_contracts::WhyNot;
 
 /// What is answered of a procedure.
@@ -35,15 +35,6 @@ pub enum Verdict {
     Unchecked(GoalId, Miss),
 }
 
-/// Why a certificate proves nothing.
-#[derive(Drop)]
-pub enum Miss {
-    /// There is none.
-    Absent,
-    /// It is refused at this node of its tree: for each question on the way there, whether it holds.
-    Place(Vec<bool>),
-}
-
 /// What is said of a loop's ranking.
 #[derive(Drop)]
 pub struct LoopAnswer {
@@ -64,12 +55,4 @@ pub enum RankVerdict {
     Unknown(Cause),
     /// Its goal isn't proved by the certificates.
     Unchecked(Miss),
-}
-
-/// A goal of a file: the number of its procedure, which of the procedure's goals it is, and what came of making it.
-#[derive(Drop)]
-pub struct NamedGoal {
-    pub proc: u32,
-    pub id: GoalId,
-    pub made: Made,
 }

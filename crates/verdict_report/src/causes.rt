@@ -7,9 +7,9 @@ ghost use Rattle.verdict_report.specs.Settings.{named_by};
 
 use crate::numbers::{write_fraction, write_number, write_place};
 use crate::settings::{write_settings, write_variable};
+use goal_answers::{Broken, Cause};
 use heylo_formula::Val;
 use heyvl_syntax::Name;
-use linear_elim::{Broken, Cause};
 use std::alloc::AllocError;
 
 /// Puts an interval behind the text.

@@ -4,7 +4,7 @@ ghost use Rattle.std.specs.Prelude.{◌≡◌};
 ghost use Rattle.verdict_report.specs.GoalNames.{is_same, names_of};
 ghost use Rattle.verdict_report.specs.Settings.{named_by};
 
-use crate::answers::NamedGoal;
+use goal_answers::NamedGoal;
 use heylo_formula::{GoalId, Made};
 use heyvl_syntax::Name;
 

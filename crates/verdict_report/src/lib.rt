@@ -11,5 +11,6 @@ mod settings;
 mod states;
 mod verdicts;
 
-pub use answers::{Answer, LoopAnswer, Miss, NamedGoal, RankVerdict, Verdict};
+pub use answers::{Answer, LoopAnswer, RankVerdict, Verdict};
+pub use goal_answers::{Miss, NamedGoal};
 pub use reports::report;

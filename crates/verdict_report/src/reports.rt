@@ -6,9 +6,10 @@ ghost use Rattle.std.specs.Prelude.{◌≡◌, ◌++◌, ◌+◌, ◌<◌, ◌�
 ghost use Rattle.verdict_report.specs.Placed.{CanReport, IsAnswerPlaced, IsLoopPlaced};
 ghost use Rattle.verdict_report.specs.Reports.{answer_lines, lines_from, loop_line, loop_lines, report_text};
 
-use crate::answers::{Answer, LoopAnswer, NamedGoal};
+use crate::answers::{Answer, LoopAnswer};
 use crate::numbers::write_number;
 use crate::verdicts::{write_rank, write_verdict};
+use goal_answers::NamedGoal;
 use heyvl_types::Typed;
 use std::alloc::{AllocError, Global};
 

@@ -7,12 +7,13 @@ ghost use Rattle.std.specs.Prelude.{◌≡◌, ◌++◌, ◌<◌, ◌^◌, OnOk,
 ghost use Rattle.verdict_report.specs.Placed.{IsRankPlaced, IsReasonPlaced, IsVerdictPlaced};
 ghost use Rattle.verdict_report.specs.Verdicts.{about_text, condition_text, goal_text, invariant_text, miss_text, node_text, rank_text, reason_text, state_of_goal, verdict_text, way_text};
 
-use crate::answers::{LoopAnswer, Miss, NamedGoal, RankVerdict, Verdict};
+use crate::answers::{LoopAnswer, RankVerdict, Verdict};
 use crate::causes::write_cause;
 use crate::goal_names::names_of;
 use crate::loops::always_shown;
 use crate::numbers::{write_number, write_place};
 use crate::states::write_state;
+use goal_answers::{Miss, NamedGoal};
 use heylo_formula::{GoalId, Val};
 use heyvl_types::Typed;
 use proc_contracts::WhyNot;

@@ -5,8 +5,8 @@ use Rattle.std.specs.List.{AllZip}
 use Rattle.cert_text.specs.Certificates.{IsGrowingAfter, certificates_of}
 use Rattle.farkas_check.specs.Accepted.{IsNoCertificate}
 use Rattle.farkas_check.specs.CertificateLaws.{NeverBoth}
-use Rattle.farkas_check.specs.Trees.{Tree}
-use Rattle.farkas_check.specs.declared.trees.GoalCert.{GoalCert}
+use Rattle.goal_answers.specs.Trees.{Tree}
+use Rattle.goal_answers.specs.declared.trees.GoalCert.{GoalCert}
 use Rattle.heylo_formula.specs.Goals.{goal_of}
 use Rattle.heylo_formula.specs.declared.goals.GoalId.{GoalId}
 use Rattle.heylo_formula.specs.declared.goals.Made.{Made}
@@ -17,9 +17,9 @@ use Rattle.loop_encodings.specs.BoundGoals.{bound_goals}
 use Rattle.ranking_rule.specs.RankingGoals as ranking
 use Rattle.ranking_rule.specs.Rankings.{RankedLoop}
 use Rattle.region_split.specs.DecisionLaws.{TreesCertify}
-use Rattle.verdict_report.specs.declared.answers.Miss.{Miss}
-use Rattle.verdict_report.specs.declared.answers.Miss.TheVariants.{Absent, Place}
-use Rattle.verdict_report.specs.declared.answers.NamedGoal.{NamedGoal}
+use Rattle.goal_answers.specs.declared.misses.Miss.{Miss}
+use Rattle.goal_answers.specs.declared.misses.Miss.TheVariants.{Absent, Place}
+use Rattle.goal_answers.specs.declared.named_goals.NamedGoal.{NamedGoal}
 use Rattle.verify_core.specs.Checked.{Certifies, CheckedGoal, HasMiss, HasTree, IsGoalAccepted, IsMissOf, IsRefusedAt}
 use Rattle.verify_core.specs.CheckedProofs.{IsServed, NothingIsMissed, NothingIsMissedThroughout, ProvedGoalsAreAccepted, ProvedRankingsAreAccepted}
 use Rattle.verify_core.specs.Decided.{DecidedGoal, HasDecision}

@@ -6,8 +6,8 @@ use Rattle.std.proofs.lemmas.Bool.{cases_lt, cases_order, false≢true}
 use Rattle.std.proofs.lemmas.Bool.Decides.{nat_tests}
 use Rattle.cert_text.specs.Certificates.{IsGrowingAfter, certificates_of, kind_rank, loop_of, precedes}
 use Rattle.cert_text.specs.declared.goal_names.GoalName.{GoalName}
-use Rattle.farkas_check.specs.Trees.{Tree, tree_of}
-use Rattle.farkas_check.specs.declared.trees.GoalCert.{GoalCert}
+use Rattle.goal_answers.specs.Trees.{Tree, tree_of}
+use Rattle.goal_answers.specs.declared.trees.GoalCert.{GoalCert}
 use Rattle.heylo_formula.specs.declared.goals.GoalId.{GoalId}
 use Rattle.verify_core.specs.Checked.{HasTree}
 use Rattle.verify_core.specs.internal.Checking.{IsPlaceOf, name_of}

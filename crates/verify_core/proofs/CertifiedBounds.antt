@@ -2,7 +2,7 @@
 -- procedures that it reaches hold, so does the bound.
 use Rattle.std.proofs.Common.{◌≡◌, ℕ, ◌<◌, refl, subst, List, [], ◌∷◌, ◌++◌, length, Option, None, Some}
 use Rattle.farkas_check.specs.CertificateLaws.{CertifiedGoalsHold}
-use Rattle.farkas_check.specs.declared.trees.GoalCert.{GoalCert}
+use Rattle.goal_answers.specs.declared.trees.GoalCert.{GoalCert}
 use Rattle.heylo_formula.specs.Goals.{Holds}
 use Rattle.heylo_formula.specs.TypedGoals.{IsTypedGoal}
 use Rattle.heylo_formula.specs.declared.goals.GoalId.{GoalId}
@@ -12,7 +12,7 @@ use Rattle.heyvl_types.specs.Rules.{Each, MeetsRules}
 use Rattle.loop_encodings.specs.BoundGoals.{GoalHolds, bound_goals}
 use Rattle.loop_encodings.specs.Law.{IsShown, ShownBoundsHold}
 use Rattle.verdict_report.specs.declared.answers.Answer.{Answer}
-use Rattle.verdict_report.specs.declared.answers.Miss.{Miss}
+use Rattle.goal_answers.specs.declared.misses.Miss.{Miss}
 use Rattle.verdict_report.specs.declared.answers.Verdict.{Verdict}
 use Rattle.verdict_report.specs.declared.answers.Verdict.TheVariants.{NotVerified, Verified}
 use Rattle.verify_core.specs.Checked.{AreChecked, CheckedGoal, IsCertified, IsCheckedTable, IsMissOf, first_miss, missed}

@@ -3,7 +3,7 @@
 use Rattle.std.proofs.Common.{◌≡◌, ℕ, ◌<◌, ap, subst, sym, ◌∙◌, arith, List, [], ◌∷◌, length, slice_index_or, Option, None}
 use Prim.Native.Nat.{zero, suc}
 use Rattle.farkas_check.specs.CertificateLaws.{CertifiedGoalsHold}
-use Rattle.farkas_check.specs.declared.trees.GoalCert.{GoalCert}
+use Rattle.goal_answers.specs.declared.trees.GoalCert.{GoalCert}
 use Rattle.heyvl_types.specs.Acts.{TypedProcedure, procedure_at}
 use Rattle.heyvl_types.specs.Rules.{Each, MeetsRules}
 use Rattle.loop_encodings.proofs.exported.FromRules.{each_at}
@@ -11,8 +11,8 @@ use Rattle.ranking_rule.specs.Laws.{RankingGoalsAreGoals, RankingGoalsHold, Rank
 use Rattle.ranking_rule.specs.RankingGoals.{generated, goal}
 use Rattle.verdict_report.specs.declared.answers.Answer.{Answer}
 use Rattle.verdict_report.specs.declared.answers.LoopAnswer.{LoopAnswer}
-use Rattle.verdict_report.specs.declared.answers.Miss.{Miss}
-use Rattle.verdict_report.specs.declared.answers.NamedGoal.{NamedGoal}
+use Rattle.goal_answers.specs.declared.misses.Miss.{Miss}
+use Rattle.goal_answers.specs.declared.named_goals.NamedGoal.{NamedGoal}
 use Rattle.verdict_report.specs.declared.answers.RankVerdict.{RankVerdict}
 use Rattle.verdict_report.specs.declared.answers.RankVerdict.TheVariants as rank
 use Rattle.verify_core.specs.Checked.{CheckedGoal, IsMissOf}

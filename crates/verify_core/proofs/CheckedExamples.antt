@@ -5,15 +5,15 @@ use Rattle.std.specs.Prelude.{Some, None, Vec}
 use Rattle.std.specs.declared.alloc.Global.{Global}
 use Prim.Native.Nat.{zero, suc}
 use Rattle.cert_text.specs.Certificates.{IsGrowingAfter, certificates_of, loop_of}
-use Rattle.farkas_check.specs.Trees.{Tree, tree_of}
-use Rattle.farkas_check.specs.declared.trees.GoalCert.{GoalCert}
-use Rattle.farkas_check.specs.declared.trees.Tree as T
+use Rattle.goal_answers.specs.Trees.{Tree, tree_of}
+use Rattle.goal_answers.specs.declared.trees.GoalCert.{GoalCert}
+use Rattle.goal_answers.specs.declared.trees.Tree as T
 use Rattle.heylo_formula.specs.declared.goals.GoalId.TheVariants.{Main, Pre, Ranking}
 use Rattle.heylo_formula.specs.declared.goals.Made.{Made}
-use Rattle.linear_elim.specs.declared.answers.Cause.TheVariants as cause
-use Rattle.region_split.specs.declared.decisions.Decision.TheVariants.{Proved, Unknown}
+use Rattle.goal_answers.specs.declared.causes.Cause.TheVariants as cause
+use Rattle.goal_answers.specs.declared.decisions.Decision.TheVariants.{Proved, Unknown}
 use Rattle.verdict_report.specs.declared.answers.LoopAnswer.{LoopAnswer}
-use Rattle.verdict_report.specs.declared.answers.Miss.TheVariants.{Absent, Place}
+use Rattle.goal_answers.specs.declared.misses.Miss.TheVariants.{Absent, Place}
 use Rattle.verdict_report.specs.declared.answers.RankVerdict.TheVariants as rank
 use Rattle.verify_core.specs.Checked.{Certifies, CheckedGoal, HasTree, IsMissOf, IsRefusedAt}
 use Rattle.verify_core.specs.CheckedProofs.{AreServed, IsServed}

@@ -4,7 +4,7 @@ use Prim.Native.Nat.{zero, suc}
 use Rattle.std.specs.List.{AllZip}
 use Rattle.std.proofs.lemmas.List.{take_more}
 use Rattle.heyvl_syntax.specs.declared.spans.Span.{Span}
-use Rattle.farkas_check.specs.declared.trees.GoalCert.{GoalCert}
+use Rattle.goal_answers.specs.declared.trees.GoalCert.{GoalCert}
 use Rattle.heylo_formula.specs.declared.goals.GoalId.{GoalId}
 use Rattle.heyvl_types.specs.Acts.{Acts, TypedProcedure, nobody, procedure_at}
 use Rattle.heyvl_types.specs.Program.{Reason, reason_of_break, why_no_program}
@@ -13,8 +13,8 @@ use Rattle.loop_encodings.specs.BoundGoals.{bound_goals}
 use Rattle.proc_contracts.specs.Reasons.{plain}
 use Rattle.proc_contracts.specs.declared.reasons.WhyNot.{WhyNot}
 use Rattle.proc_contracts.specs.declared.reasons.WhyNot.TheVariants as why
-use Rattle.verdict_report.specs.declared.answers.Miss.{Miss}
-use Rattle.verdict_report.specs.declared.answers.NamedGoal.{NamedGoal}
+use Rattle.goal_answers.specs.declared.misses.Miss.{Miss}
+use Rattle.goal_answers.specs.declared.named_goals.NamedGoal.{NamedGoal}
 use Rattle.verdict_report.specs.declared.answers.Verdict.{Verdict}
 use Rattle.verify_core.specs.Checked.{CheckedGoal, HasMiss, IsMissOf, first_miss, missed}
 use Rattle.verify_core.specs.Decided.{or_else}

@@ -11,7 +11,7 @@ use Rattle.loop_encodings.specs.EncodingLaws.{EncodingIsOver}
 use Rattle.ranking_rule.specs.Laws.{RankingGoalsAreFew, RankingGoalsAreGoals}
 use Rattle.ranking_rule.specs.RankingGoals as ranking
 use Rattle.ranking_rule.specs.Rankings.{RankedLoop}
-use Rattle.verdict_report.specs.declared.answers.NamedGoal.{NamedGoal}
+use Rattle.goal_answers.specs.declared.named_goals.NamedGoal.{NamedGoal}
 use Rattle.vp_generator.specs.Laws.{GeneratedFormIsFormula}
 use Rattle.vp_generator.specs.Over.{GeneratedFormIsOver}
 use Rattle.vp_generator.specs.PrenexedGoals.{PrenexedGoalsAreGoals}

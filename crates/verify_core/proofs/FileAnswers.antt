@@ -1,9 +1,9 @@
 -- What is answered of a file, from what comes of the goals of its procedures.
 use Rattle.std.proofs.Common.{◌≡◌, ap, ◌∙◌, Bool, List, [], ◌++◌, length}
-use Rattle.farkas_check.specs.declared.trees.GoalCert.{GoalCert}
+use Rattle.goal_answers.specs.declared.trees.GoalCert.{GoalCert}
 use Rattle.heyvl_types.specs.Acts.{TypedProcedure}
 use Rattle.verdict_report.specs.declared.answers.Answer.{Answer}
-use Rattle.verdict_report.specs.declared.answers.NamedGoal.{NamedGoal}
+use Rattle.goal_answers.specs.declared.named_goals.NamedGoal.{NamedGoal}
 use Rattle.verify_core.specs.Answered.{AreAnswers, IsAnswered}
 use Rattle.verify_core.specs.Decided.{DecidedGoal}
 use Rattle.verify_core.specs.declared.outcomes.ProcedureOutcome.{ProcedureOutcome}

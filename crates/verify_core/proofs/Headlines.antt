@@ -29,10 +29,10 @@ use Rattle.loop_encodings.specs.EncodingLaws.{EncodingIsOver}
 use Rattle.loop_encodings.specs.Fresh.{fresh, fresh_of_act, fresh_of_arms}
 use Rattle.loop_encodings.specs.Law.{BrokenGoalsBreakBounds, IsShown, IsStraight, ShownBoundsHold}
 use Rattle.region_split.specs.Meanings.{Fails}
-use Rattle.region_split.specs.declared.decisions.Decision.{Decision}
-use Rattle.region_split.specs.declared.decisions.Decision.TheVariants.{Proved, Falsified, Unknown}
+use Rattle.goal_answers.specs.declared.decisions.Decision.{Decision}
+use Rattle.goal_answers.specs.declared.decisions.Decision.TheVariants.{Proved, Falsified, Unknown}
 use Rattle.verdict_report.specs.declared.answers.Answer.{Answer}
-use Rattle.verdict_report.specs.declared.answers.NamedGoal.{NamedGoal}
+use Rattle.goal_answers.specs.declared.named_goals.NamedGoal.{NamedGoal}
 use Rattle.verdict_report.specs.declared.answers.Verdict.{Verdict}
 use Rattle.verdict_report.specs.declared.answers.Verdict.TheVariants.{Verified, NotVerified}
 use Rattle.verify_core.specs.Answered.{AreAnswers, IsAnswer, IsClosed, IsVerdict}

@@ -14,7 +14,7 @@ use Rattle.heyvl_types.specs.Rules.{loop_numbers}
 use Rattle.heyvl_types.specs.declared.acts.Act as A
 use Rattle.heyvl_types.specs.declared.typed.TProc.{TProc}
 use Rattle.loop_encodings.specs.BoundGoals.{bound_goals}
-use Rattle.verdict_report.specs.declared.answers.NamedGoal.{NamedGoal}
+use Rattle.goal_answers.specs.declared.named_goals.NamedGoal.{NamedGoal}
 use Rattle.verify_core.specs.Questions.{AreGoals, IsGoalOf, IsMadeOf, one_bound, question}
 use Rattle.verify_core.specs.declared.asking.Asked as declared
 use Rattle.verify_core.specs.internal.Asked.{Asked, IsAsked, asked, plain}

@@ -6,21 +6,21 @@ use Rattle.std.specs.declared.alloc.Global.{Global}
 use Rattle.heyvl_syntax.specs.declared.spans.Span.{Span}
 use Rattle.farkas_check.specs.Accepted.{IsCertificate}
 use Rattle.farkas_check.specs.CertificateLaws.{CertifiedGoalsHold}
-use Rattle.farkas_check.specs.Trees.{Tree}
+use Rattle.goal_answers.specs.Trees.{Tree}
 use Rattle.heylo_formula.specs.Formula.{Form}
 use Rattle.heylo_formula.specs.Goals.{Goal, Holds, goal_of}
 use Rattle.heylo_formula.specs.TypedGoals.{IsGoal, IsTypedGoal}
 use Rattle.heylo_formula.specs.declared.goals.Made.{Made}
 use Rattle.heylo_formula.specs.declared.goals.Made.TheVariants as made
 use Rattle.heylo_formula.specs.declared.values.Val.{Val}
-use Rattle.linear_elim.specs.declared.answers.Cause.{Cause}
-use Rattle.linear_elim.specs.declared.answers.Cause.TheVariants as cause
+use Rattle.goal_answers.specs.declared.causes.Cause.{Cause}
+use Rattle.goal_answers.specs.declared.causes.Cause.TheVariants as cause
 use Rattle.linear_form.specs.Nonlinear.{nonlinear_product}
 use Rattle.ranking_rule.specs.Laws.{IsFew}
 use Rattle.ranking_rule.specs.MadeGoals.{IsMadeWithin}
 use Rattle.region_split.specs.Meanings.{Fails}
-use Rattle.region_split.specs.declared.decisions.Decision.{Decision}
-use Rattle.region_split.specs.declared.decisions.Decision.TheVariants.{Proved, Falsified, Unknown}
+use Rattle.goal_answers.specs.declared.decisions.Decision.{Decision}
+use Rattle.goal_answers.specs.declared.decisions.Decision.TheVariants.{Proved, Falsified, Unknown}
 use Rattle.verdict_report.specs.Placed.{IsCausePlaced}
 use Rattle.vp_generator.specs.Limits.{IsSmall}
 use Rattle.verify_core.specs.Checked.{Certifies}

@@ -12,17 +12,17 @@ use Rattle.heyvl_types.specs.Places.{in_order}
 use Rattle.heyvl_types.specs.Program.{Reaches, Reason, calls, first_break, reason_of_break, why_no_program}
 use Rattle.heyvl_types.specs.Program.Reaches.{directly, onward}
 use Rattle.heyvl_types.specs.Rules.{Each, IsTypedAct, MeetsRules}
-use Rattle.linear_elim.specs.declared.answers.Cause.{Cause}
+use Rattle.goal_answers.specs.declared.causes.Cause.{Cause}
 use Rattle.loop_encodings.specs.BoundGoals.{bound_goals}
 use Rattle.proc_contracts.specs.Reasons.{plain}
 use Rattle.proc_contracts.specs.declared.reasons.WhyNot.{WhyNot}
-use Rattle.region_split.specs.declared.decisions.Decision.{Decision}
-use Rattle.region_split.specs.declared.decisions.Decision.TheVariants.{Proved, Falsified, Unknown}
+use Rattle.goal_answers.specs.declared.decisions.Decision.{Decision}
+use Rattle.goal_answers.specs.declared.decisions.Decision.TheVariants.{Proved, Falsified, Unknown}
 use Rattle.ranking_rule.specs.RankingGoals as ranking
 use Rattle.verdict_report.specs.Placed.{IsAnswerPlaced, IsCausePlaced, IsLoopPlaced, IsRankPlaced, IsReasonPlaced, IsVerdictPlaced}
 use Rattle.verdict_report.specs.declared.answers.Answer.{Answer}
 use Rattle.verdict_report.specs.declared.answers.LoopAnswer.{LoopAnswer}
-use Rattle.verdict_report.specs.declared.answers.NamedGoal.{NamedGoal}
+use Rattle.goal_answers.specs.declared.named_goals.NamedGoal.{NamedGoal}
 use Rattle.verdict_report.specs.declared.answers.Verdict.{Verdict}
 use Rattle.verdict_report.specs.declared.answers.Verdict.TheVariants as verdict
 use Rattle.verdict_report.specs.declared.answers.RankVerdict.{RankVerdict}

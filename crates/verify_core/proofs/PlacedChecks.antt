@@ -1,13 +1,13 @@
 -- The places and procedures that the answers by certificates name are there.
 use Rattle.std.proofs.Common.{◌≡◌, ℕ, ◌<◌, Bool, true, false, sym, subst, List, [], ◌∷◌, length, Option}
 use Prim.Native.Nat.{suc}
-use Rattle.farkas_check.specs.declared.trees.GoalCert.{GoalCert}
+use Rattle.goal_answers.specs.declared.trees.GoalCert.{GoalCert}
 use Rattle.heyvl_types.specs.Acts.{TypedProcedure, procedure_at}
 use Rattle.heyvl_types.specs.Rules.{Each}
 use Rattle.verdict_report.specs.Placed.{IsAnswerPlaced, IsLoopPlaced, IsRankPlaced, IsVerdictPlaced}
 use Rattle.verdict_report.specs.declared.answers.Answer.{Answer}
 use Rattle.verdict_report.specs.declared.answers.LoopAnswer.{LoopAnswer}
-use Rattle.verdict_report.specs.declared.answers.Miss.{Miss}
+use Rattle.goal_answers.specs.declared.misses.Miss.{Miss}
 use Rattle.verdict_report.specs.declared.answers.RankVerdict.{RankVerdict}
 use Rattle.verdict_report.specs.declared.answers.RankVerdict.TheVariants as rank
 use Rattle.verdict_report.specs.declared.answers.Verdict.{Verdict}

@@ -7,7 +7,7 @@ use Rattle.std.specs.Prelude.{None}
 use Prim.Native.Nat.{zero, suc}
 use Rattle.heyvl_types.specs.Acts.{TypedProcedure, procedure_at}
 use Rattle.verdict_report.specs.declared.answers.Answer.{Answer}
-use Rattle.verdict_report.specs.declared.answers.NamedGoal.{NamedGoal}
+use Rattle.goal_answers.specs.declared.named_goals.NamedGoal.{NamedGoal}
 use Rattle.verify_core.specs.Answered.{AreAnswers, IsAnswer}
 use Rattle.verify_core.specs.Decided.{DecidedGoal, all_proved, first_falsified, first_unknown}
 use Rattle.verify_core.specs.Numbered.{row_at}

@@ -9,8 +9,8 @@ use Rattle.loop_encodings.proofs.exported.FromRules.{each_at}
 use Rattle.ranking_rule.specs.Laws.{RankingGoalsHold, RankingsBoundTurns}
 use Rattle.ranking_rule.specs.RankingGoals.{generated, goal}
 use Rattle.ranking_rule.specs.Rankings.{RankedLoop}
-use Rattle.region_split.specs.declared.decisions.Decision.{Decision}
-use Rattle.region_split.specs.declared.decisions.Decision.TheVariants.{Proved, Falsified, Unknown}
+use Rattle.goal_answers.specs.declared.decisions.Decision.{Decision}
+use Rattle.goal_answers.specs.declared.decisions.Decision.TheVariants.{Proved, Falsified, Unknown}
 use Rattle.verdict_report.specs.declared.answers.LoopAnswer.{LoopAnswer}
 use Rattle.verdict_report.specs.declared.answers.RankVerdict.TheVariants.{Ranked}
 use Rattle.verify_core.specs.Decided.{DecidedGoal, is_proved}

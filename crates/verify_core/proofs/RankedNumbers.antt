@@ -15,7 +15,7 @@ use Rattle.heyvl_types.specs.declared.acts.Act as A
 use Rattle.heyvl_types.specs.declared.acts.LoopAct.{LoopAct}
 use Rattle.heyvl_types.proofs.exported.PlainActsAre.{head_of, loop_act}
 use Rattle.ranking_rule.specs.Rankings.{RankedLoop, loop_in}
-use Rattle.verdict_report.specs.declared.answers.NamedGoal.{NamedGoal}
+use Rattle.goal_answers.specs.declared.named_goals.NamedGoal.{NamedGoal}
 use Rattle.verify_core.specs.Rankings.{AreRankingGoals, IsRankingGoal, ranked_in, ranked_loops}
 use Rattle.verify_core.proofs.ActWalks.{IsFirst, further, other_number, own_number, same_from}
 

@@ -11,13 +11,13 @@ use Rattle.heylo_formula.specs.declared.goals.Made.{Made}
 use Rattle.heylo_formula.specs.declared.goals.Made.TheVariants as made
 use Rattle.heyvl_syntax.specs.declared.spans.Span.{Span}
 use Rattle.heyvl_types.specs.Acts.{Act, Acts, Arms, Head, TypedProcedure, nobody}
-use Rattle.linear_elim.specs.declared.answers.Cause.TheVariants as cause
+use Rattle.goal_answers.specs.declared.causes.Cause.TheVariants as cause
 use Rattle.ranking_rule.specs.RankingGoals as ranking
 use Rattle.ranking_rule.specs.Rankings.{RankedLoop}
-use Rattle.region_split.specs.declared.decisions.Decision.TheVariants.{Proved, Unknown}
+use Rattle.goal_answers.specs.declared.decisions.Decision.TheVariants.{Proved, Unknown}
 use Rattle.verdict_report.specs.declared.answers.Answer.{Answer}
 use Rattle.verdict_report.specs.declared.answers.LoopAnswer.{LoopAnswer}
-use Rattle.verdict_report.specs.declared.answers.NamedGoal.{NamedGoal}
+use Rattle.goal_answers.specs.declared.named_goals.NamedGoal.{NamedGoal}
 use Rattle.verdict_report.specs.declared.answers.RankVerdict.TheVariants as rank
 use Rattle.verify_core.specs.Answered.{IsAnswer}
 use Rattle.verify_core.specs.Decided.{DecidedGoal}

@@ -6,14 +6,14 @@ use Rattle.std.specs.List.{AllZip}
 use Rattle.std.specs.Prelude.{IfOk, OnOk, Result, Ok, Err}
 use Prim.Native.Nat.{zero, suc}
 use Rattle.cert_text.specs.Certificates.{loop_of}
-use Rattle.farkas_check.specs.declared.trees.GoalCert.{GoalCert}
+use Rattle.goal_answers.specs.declared.trees.GoalCert.{GoalCert}
 use Rattle.heyvl_types.specs.Acts.{TypedProcedure, procedure_at}
 use Rattle.heyvl_types.specs.Rules.{Each}
 use Rattle.loop_encodings.specs.BoundGoals.{bound_goals}
-use Rattle.region_split.specs.declared.decisions.Decision.{Decision}
-use Rattle.region_split.specs.declared.decisions.Decision.TheVariants as decision
+use Rattle.goal_answers.specs.declared.decisions.Decision.{Decision}
+use Rattle.goal_answers.specs.declared.decisions.Decision.TheVariants as decision
 use Rattle.verdict_report.specs.declared.answers.LoopAnswer.{LoopAnswer}
-use Rattle.verdict_report.specs.declared.answers.NamedGoal.{NamedGoal}
+use Rattle.goal_answers.specs.declared.named_goals.NamedGoal.{NamedGoal}
 use Rattle.verify_core.specs.Decided.{AreDecided, DecidedGoal, HasDecision, IsTable, certificates}
 use Rattle.verify_core.specs.DecidedRankings.{AreRanked, AreRankingsDecided, IsRankTable, IsRankVerdict, certified_in_file, told_rankings}
 use Rattle.verify_core.specs.Numbered.{row_at}

@@ -6,9 +6,9 @@ use Rattle.std.specs.Option.{is_some}
 use Rattle.std.proofs.lemmas.Bool.Decides.{nat_tests}
 use Rattle.cert_text.specs.Certificates.{IsGrowingAfter, certificates_of, may_follow, precedes}
 use Rattle.cert_text.specs.declared.goal_names.GoalName.{GoalName}
-use Rattle.farkas_check.specs.Trees.{tree_of}
-use Rattle.farkas_check.specs.declared.trees.GoalCert.{GoalCert}
-use Rattle.farkas_check.specs.declared.trees.Tree.{Tree}
+use Rattle.goal_answers.specs.Trees.{tree_of}
+use Rattle.goal_answers.specs.declared.trees.GoalCert.{GoalCert}
+use Rattle.goal_answers.specs.declared.trees.Tree.{Tree}
 use Rattle.heylo_formula.specs.Goals.{goal_of}
 use Rattle.heylo_formula.specs.declared.goals.GoalId.{GoalId}
 use Rattle.heylo_formula.specs.declared.goals.GoalId.TheVariants.{Main, Pre, Post, Invariant, Ranking}
@@ -19,9 +19,9 @@ use Rattle.heyvl_types.specs.Places.{in_order}
 use Rattle.heyvl_types.specs.Rules.{Each, MeetsRules, counted, loop_numbers}
 use Rattle.loop_encodings.specs.BoundGoals.{bound_goals}
 use Rattle.region_split.specs.DecisionLaws.{TreesCertify}
-use Rattle.region_split.specs.declared.decisions.Decision.{Decision}
-use Rattle.region_split.specs.declared.decisions.Decision.TheVariants.{Proved, Falsified, Unknown}
-use Rattle.verdict_report.specs.declared.answers.NamedGoal.{NamedGoal}
+use Rattle.goal_answers.specs.declared.decisions.Decision.{Decision}
+use Rattle.goal_answers.specs.declared.decisions.Decision.TheVariants.{Proved, Falsified, Unknown}
+use Rattle.goal_answers.specs.declared.named_goals.NamedGoal.{NamedGoal}
 use Rattle.verify_core.specs.Checked.{Certifies}
 use Rattle.verify_core.specs.CheckedProofs.{IsServed, ProofsAreAccepted}
 use Rattle.verify_core.specs.Decided.{AreDecided, DecidedGoal, HasDecision, IsDecisionOf, IsTable, certificate, certificates}

@@ -1,6 +1,6 @@
 -- What is answered of the procedures of a file, from certificates of their goals. This project's own.
 use Rattle.std.specs.Prelude.{◌≡◌, ◌<◌, ℕ, List, Some, None}
-use Rattle.farkas_check.specs.declared.trees.GoalCert.{GoalCert}
+use Rattle.goal_answers.specs.declared.trees.GoalCert.{GoalCert}
 use Rattle.heyvl_types.specs.Acts.{TypedProcedure, procedure_at}
 use Rattle.heyvl_types.specs.Program.{Reaches, why_no_program}
 use Rattle.proc_contracts.specs.Reasons.{plain}

@@ -1,8 +1,8 @@
 -- The goals of a file with their decisions, and what follows from these for a procedure. This project's own.
 use Rattle.std.specs.List.{AllZip}
 use Rattle.std.specs.Prelude.{◌≡◌, ◌⊎◌, ℕ, Bool, true, false, ◌&&◌, List, [], ◌∷◌, ◌++◌, Option, Some, None, if◌then◌else◌}
-use Rattle.farkas_check.specs.declared.trees.GoalCert.{GoalCert}
-use Rattle.farkas_check.specs.declared.trees.Tree.{Tree}
+use Rattle.goal_answers.specs.declared.trees.GoalCert.{GoalCert}
+use Rattle.goal_answers.specs.declared.trees.Tree.{Tree}
 use Rattle.heylo_formula.specs.Goals.{goal_of}
 use Rattle.heylo_formula.specs.declared.goals.GoalId.{GoalId}
 use Rattle.heylo_formula.specs.declared.goals.Made.{Made}
@@ -10,13 +10,13 @@ use Rattle.heylo_formula.specs.declared.goals.Made.TheVariants as made
 use Rattle.heylo_formula.specs.declared.values.Val.{Val}
 use Rattle.heyvl_types.specs.Acts.{TypedProcedure, procedure_at}
 use Rattle.heyvl_types.specs.Program.{IsProgram}
-use Rattle.linear_elim.specs.declared.answers.Cause.{Cause}
-use Rattle.linear_elim.specs.declared.answers.Cause.TheVariants as cause
+use Rattle.goal_answers.specs.declared.causes.Cause.{Cause}
+use Rattle.goal_answers.specs.declared.causes.Cause.TheVariants as cause
 use Rattle.loop_encodings.specs.BoundGoals.{bound_goals}
 use Rattle.region_split.specs.Decisions.{IsDecision}
-use Rattle.region_split.specs.declared.decisions.Decision.{Decision}
-use Rattle.region_split.specs.declared.decisions.Decision.TheVariants.{Proved, Falsified, Unknown}
-use Rattle.verdict_report.specs.declared.answers.NamedGoal.{NamedGoal}
+use Rattle.goal_answers.specs.declared.decisions.Decision.{Decision}
+use Rattle.goal_answers.specs.declared.decisions.Decision.TheVariants.{Proved, Falsified, Unknown}
+use Rattle.goal_answers.specs.declared.named_goals.NamedGoal.{NamedGoal}
 use Rattle.verify_core.specs.Numbered.{AllNumbered, row_at}
 use Rattle.verify_core.specs.Questions.{IsGoalOf}
 

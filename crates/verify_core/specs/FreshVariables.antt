@@ -9,7 +9,7 @@ use Rattle.heyvl_types.specs.Acts.{TypedProcedure, acts_in, procedure_at, variab
 use Rattle.heyvl_types.specs.Rules.{Each, MeetsRules}
 use Rattle.loop_encodings.specs.Fresh.{fresh}
 use Rattle.loop_encodings.specs.FreshLaws.{IsFreshNumber}
-use Rattle.verdict_report.specs.declared.answers.NamedGoal.{NamedGoal}
+use Rattle.goal_answers.specs.declared.named_goals.NamedGoal.{NamedGoal}
 use Rattle.verify_core.specs.Questions.{IsGoalOf}
 
 -- The goal has so many own variables, where one is made.

@@ -12,7 +12,7 @@ use Rattle.heyvl_types.specs.Places.{in_order}
 use Rattle.loop_encodings.specs.BoundGoals.{invariant_in}
 use Rattle.loop_encodings.specs.Encoding.{all_variables, encoding}
 use Rattle.ranking_rule.specs.MadeGoals.{IsMadeWithin, goal_over}
-use Rattle.verdict_report.specs.declared.answers.NamedGoal.{NamedGoal}
+use Rattle.goal_answers.specs.declared.named_goals.NamedGoal.{NamedGoal}
 use Rattle.vp_generator.specs.Generated.{vp}
 
 -- An inequality between two formulas over variables: the stated one is at least the found one, or at most where it isn't upper.

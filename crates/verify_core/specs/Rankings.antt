@@ -8,7 +8,7 @@ use Rattle.heyvl_types.specs.Places.{in_order}
 use Rattle.loop_encodings.specs.BoundGoals.{bound_goals}
 use Rattle.ranking_rule.specs.RankingGoals.{IsMadeOf}
 use Rattle.ranking_rule.specs.Rankings.{RankedLoop}
-use Rattle.verdict_report.specs.declared.answers.NamedGoal.{NamedGoal}
+use Rattle.goal_answers.specs.declared.named_goals.NamedGoal.{NamedGoal}
 use Rattle.verify_core.specs.Questions.{AreGoals}
 
 -- The numbers of the loops with a ranking among the acts, in their order.

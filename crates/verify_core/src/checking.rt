@@ -1,7 +1,7 @@
 //! The verdict on each procedure, and on each ranking, by the certificates of their own goals.
 
 ghost use Rattle.cert_text.specs.Certificates.{IsGrowingAfter, certificates_of};
-ghost use Rattle.farkas_check.specs.Trees.{tree_of};
+ghost use Rattle.goal_answers.specs.Trees.{tree_of};
 ghost use Rattle.heyvl_types.specs.Acts.{procedure_at};
 ghost use Rattle.heyvl_types.specs.PlainActs.{procedures_of};
 ghost use Rattle.heyvl_types.specs.Rules.{Each, MeetsAllRules};
@@ -17,12 +17,13 @@ use crate::making::bounds;
 use crate::rankings::rankings;
 use crate::searching::{loop_of, tree_for};
 use crate::verdicts::verdict_for;
-use farkas_check::{Checked, GoalCert, Tree, check};
+use farkas_check::check;
+use goal_answers::{Checked, GoalCert, Miss, NamedGoal, Tree};
 use heylo_formula::{GoalId, Made};
 use heyvl_types::Typed;
 use proc_contracts::not_program;
 use std::alloc::{AllocError, Global};
-use verdict_report::{LoopAnswer, Miss, NamedGoal, RankVerdict, Verdict};
+use verdict_report::{LoopAnswer, RankVerdict, Verdict};
 
 // ---- A goal
 

@@ -6,11 +6,10 @@ ghost use Rattle.verify_core.specs.internal.Decidable.{CanDecide};
 ghost use Rattle.verify_core.specs.Decided.{IsDecisionOf};
 ghost use Rattle.verify_core.specs.internal.Settled.{IsSettled, TellsOf, plain};
 
+use goal_answers::{Cause, Decision, NamedGoal};
 use heylo_formula::Made;
-use linear_elim::Cause;
-use region_split::{Decision, decide};
+use region_split::decide;
 use std::alloc::{AllocError, Global};
-use verdict_report::NamedGoal;
 
 /// A goal, or the limit that its form passes, and what is decided of it.
 #[derive(Drop)]

@@ -19,12 +19,12 @@ ghost use Rattle.vp_generator.specs.Scopes.{AreNamed};
 
 use crate::asking::{Asked, asked_of};
 use crate::rankings::rankings;
+use goal_answers::NamedGoal;
 use heylo_formula::{Form, GoalId, Made, what_substitution_gives};
 use heyvl_num::{Ext, Frac};
 use heyvl_types::{TProc, Typed, VarInfo};
 use loop_encodings::{encode, encodings_are_over_their_variables};
 use std::alloc::{AllocError, Global};
-use verdict_report::NamedGoal;
 use vp_generator::{VpStop, generated_form_means_acts, goal_of_forms, vp};
 
 /// The goals of the procedure: none without a body; else those of its bound, and then one for each of its rankings, in the order

@@ -7,12 +7,9 @@ ghost use Rattle.verify_core.specs.internal.Settled.{plain};
 
 use crate::deciding::Decided;
 use crate::ranking_outcomes::RankingOutcome;
-use farkas_check::GoalCert;
+use goal_answers::{Cause, Decision, GoalCert, NamedGoal};
 use heylo_formula::Val;
-use linear_elim::Cause;
-use region_split::Decision;
 use std::alloc::AllocError;
-use verdict_report::NamedGoal;
 
 /// What comes of the goals of a procedure.
 #[derive(Drop)]

@@ -9,9 +9,9 @@ ghost use Rattle.verify_core.specs.internal.Settled.{plain};
 use crate::deciding::Decided;
 use crate::outcomes::{Outcome, outcome_of};
 use crate::searching::loop_of;
-use farkas_check::GoalCert;
+use goal_answers::{GoalCert, NamedGoal};
 use std::alloc::{AllocError, Global};
-use verdict_report::{LoopAnswer, NamedGoal, RankVerdict};
+use verdict_report::{LoopAnswer, RankVerdict};
 
 /// What comes of the goals of a procedure's rankings.
 #[derive(Drop)]

@@ -8,11 +8,11 @@ ghost use Rattle.heyvl_types.specs.Rules.{MeetsAllRules};
 ghost use Rattle.std.specs.Prelude.{IfOk, OnOk, [], length, ◌++◌, ◌<◌, ◌≡◌, ◌∷◌};
 ghost use Rattle.verify_core.specs.Rankings.{AreRankingGoals, ranked_in, ranked_loops};
 
+use goal_answers::NamedGoal;
 use heylo_formula::GoalId;
 use heyvl_types::{Act, LoopAct, TProc, Typed};
 use ranking_rule::ranking_goal;
 use std::alloc::{AllocError, Global};
-use verdict_report::NamedGoal;
 
 /// One goal for each ranking, in the order of the text.
 pub(crate) fn rankings(alloc: Global, typed: &Typed, p: u32) -> Result<Vec<NamedGoal>, AllocError>

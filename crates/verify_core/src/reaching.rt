@@ -8,7 +8,7 @@ ghost use Rattle.verify_core.specs.internal.Checking.{AreMarkedAnswers, IsMarked
 
 use crate::checking::own_rankings;
 use crate::marks::first_marked;
-use farkas_check::GoalCert;
+use goal_answers::GoalCert;
 use heyvl_types::Typed;
 use proc_contracts::reach;
 use std::alloc::{AllocError, Global};

@@ -1,12 +1,12 @@
 //! The certificate of a goal among certificates in the order of a text.
 
 ghost use Rattle.cert_text.specs.Certificates.{IsGrowingAfter, certificates_of, kind_rank, loop_of, precedes, stands_before};
-ghost use Rattle.farkas_check.specs.Trees.{Tree as TreeValue, tree_of};
+ghost use Rattle.goal_answers.specs.Trees.{Tree as TreeValue, tree_of};
 ghost use Rattle.std.specs.Prelude.{IfSome, None, false, true, ◌≡◌};
 ghost use Rattle.verify_core.specs.Checked.{HasTree};
 ghost use Rattle.verify_core.specs.internal.Checking.{IsPlaceOf, name_of};
 
-use farkas_check::{GoalCert, Tree};
+use goal_answers::{GoalCert, Tree};
 use heylo_formula::GoalId;
 
 /// The place of the goal's kind among the goals of a procedure.

@@ -12,7 +12,7 @@ use crate::making::bounds;
 use crate::outcomes::{Outcome, ProcedureOutcome, gather};
 use crate::ranking_outcomes::{RankingOutcome, gather_rankings};
 use crate::rankings::rankings;
-use farkas_check::GoalCert;
+use goal_answers::GoalCert;
 use heyvl_types::Typed;
 use loop_encodings::encodings_are_over_their_variables;
 use ranking_rule::ranking_goals_say_rankings;

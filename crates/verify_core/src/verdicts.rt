@@ -13,10 +13,11 @@ ghost use Rattle.verify_core.specs.internal.Verdicts.{all_told_by, verdict_for};
 
 use crate::marks::first_marked;
 use crate::outcomes::{Outcome, ProcedureOutcome};
+use goal_answers::NamedGoal;
 use heyvl_types::Typed;
 use proc_contracts::{WhyNot, not_program, reach};
 use std::alloc::{AllocError, Global};
-use verdict_report::{Answer, NamedGoal, Verdict};
+use verdict_report::{Answer, Verdict};
 
 /// One answer for each procedure. The goals that are told are appended.
 pub(crate) fn answers(

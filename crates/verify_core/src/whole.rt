@@ -1,7 +1,7 @@
 //! What is answered of a whole file.
 
-use farkas_check::GoalCert;
-use verdict_report::{Answer, NamedGoal};
+use goal_answers::{GoalCert, NamedGoal};
+use verdict_report::Answer;
 
 /// The answers of a file's procedures.
 #[derive(Drop)]

@@ -1,7 +1,7 @@
 -- What is answered at the end of a text: a tool of the reader's proof, which no public clause cites.
 use Rattle.std.specs.Prelude.{◌≡◌, ℕ, List, [], Result, Ok, Err, Vec}
 use Rattle.std.specs.Global.{Global}
-use Rattle.farkas_check.specs.declared.trees.GoalCert.{GoalCert}
+use Rattle.goal_answers.specs.declared.trees.GoalCert.{GoalCert}
 use Rattle.cert_text.specs.declared.stops.CertStop.{CertStop}
 use Rattle.cert_text.specs.declared.stops.CertStop.TheVariants.{Fault, Memory}
 use Rattle.cert_text.specs.Certificates.{Certificate, certificates_of}

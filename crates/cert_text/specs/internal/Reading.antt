@@ -3,9 +3,9 @@ use Rattle.std.specs.Prelude.{ℕ, ◌+◌, ◌<◌, ◌≤◌, ◌^◌, Bool, c
 use Rattle.std.specs.Option.{option_map}
 use Rattle.std.specs.declared.alloc.Global.{Global}
 use Rattle.std.specs.declared.boxed.Box.{Box}
-use Rattle.farkas_check.specs.Trees.{Tree, tree_of}
-use Rattle.farkas_check.specs.declared.trees.GoalCert.{GoalCert}
-use Rattle.farkas_check.specs.declared.trees.Tree as T
+use Rattle.goal_answers.specs.Trees.{Tree, tree_of}
+use Rattle.goal_answers.specs.declared.trees.GoalCert.{GoalCert}
+use Rattle.goal_answers.specs.declared.trees.Tree as T
 use Rattle.cert_text.specs.declared.goal_names.GoalName.{GoalName}
 use Rattle.cert_text.specs.declared.lines.Line as D
 use Rattle.cert_text.specs.declared.reading.Place as P

@@ -6,7 +6,7 @@ use Rattle.linear_form.specs.PlainPaths.{atom_of, path_of}
 use Rattle.linear_form.specs.declared.paths.Atom as A
 use Rattle.linear_form.specs.declared.paths.Taken as T
 use Rattle.farkas_check.specs.declared.checking.Judged as J
-use Rattle.farkas_check.specs.Trees.{Tree}
+use Rattle.goal_answers.specs.Trees.{Tree}
 use Rattle.linear_form.specs.Paths.{Asks}
 use Rattle.farkas_check.specs.Accepted.{IsAccepted, IsRefused}
 

@@ -2,9 +2,9 @@
 use Rattle.std.specs.Prelude.{◌≡◌, ◌↔◌, ℕ, List, Bool, true, cond, not, Option, Some, None, IfSome, is_some}
 use Rattle.std.specs.List.{All}
 use Rattle.heyvl_num.specs.Rational.{Rational}
-use Rattle.linear_form.specs.Lin.{fits}
-use Rattle.linear_form.specs.Row.{Row}
-use Rattle.linear_form.specs.GreedyPoint.{End, IsUpFrom, IsUpTo}
+use Rattle.linear_rows.specs.Numbers.{fits}
+use Rattle.linear_rows.specs.Row.{Row}
+use Rattle.linear_rows.specs.GreedyPoint.{End, IsUpFrom, IsUpTo}
 use Rattle.linear_elim.specs.Joins.{Derived}
 use Rattle.linear_elim.specs.ChoiceNumbers.{end_of}
 use Rattle.linear_elim.specs.declared.ends.Side.{Side}

@@ -1,8 +1,9 @@
 -- Rows that are counted and not kept: a table has a place for each different list of terms.
-use Rattle.linear_form.specs.Terms.{coefficient}
+use Rattle.linear_rows.specs.Terms.{coefficient}
 use Rattle.linear_elim.specs.Elimination.{Step}
 use Rattle.linear_elim.specs.Joins.{Derived, is_below_zero, is_above_zero, join, join_fits}
-use Rattle.linear_elim.specs.Steps.{same_terms, has_terms, pairs_fit, pairs}
+use Rattle.linear_rows.specs.SameTerms.{same_terms}
+use Rattle.linear_elim.specs.Steps.{has_terms, pairs_fit, pairs}
 use Rattle.linear_elim.specs.declared.counting.Counted.{Counted}
 use Rattle.linear_elim.specs.declared.counting.Counted.TheVariants.{Great, Rows, Uncounted}
 use Rattle.linear_elim.specs.declared.tables.Place.{Place}

@@ -1,10 +1,10 @@
 -- Derived rows as the code keeps them, and what they follow from.
 use Rattle.linear_elim.specs.Joins.{Derived, is_above_zero}
-use Rattle.linear_form.specs.Combination.{row_at}
-use Rattle.linear_form.specs.Divisors.{divisor, divided_terms}
-use Rattle.linear_form.specs.Merging.{are_narrow}
-use Rattle.linear_form.specs.Row.{Row, IsRow}
-use Rattle.linear_form.specs.Terms.{sum_at, IsNormal, is_narrow}
+use Rattle.linear_rows.specs.Combination.{row_at}
+use Rattle.linear_rows.specs.Divisors.{divisor, divided_terms}
+use Rattle.linear_rows.specs.Merging.{are_narrow}
+use Rattle.linear_rows.specs.Row.{Row, IsRow}
+use Rattle.linear_rows.specs.Terms.{sum_at, IsNormal, is_narrow}
 use Rattle.std.specs.Int.RustNames.{int_div}
 use Rattle.std.specs.List.{All}
 use Rattle.std.specs.Prelude.{◌≡◌, ℕ, ◌<◌, ◌^◌, ◌/◌, List, [], ◌∷◌, length, ℤ, pos, ◌*ℤ◌, Bool, true, false, ◌||◌, ◌&&◌}

@@ -3,10 +3,10 @@ use Rattle.heylo_formula.specs.declared.types.Ty.{Ty}
 use Rattle.linear_elim.specs.Answers.{eliminated}
 use Rattle.linear_elim.specs.Elimination as plain
 use Rattle.linear_elim.specs.Elimination.{Step}
-use Rattle.linear_form.specs.Row.{Row, IsRow}
-use Rattle.linear_form.specs.RowLists.{IsNumericRow}
-use Rattle.linear_form.specs.Terms.{IsOver}
-use Rattle.linear_form.specs.VariableOrder.{order_of}
+use Rattle.linear_rows.specs.Row.{Row, IsRow}
+use Rattle.linear_rows.specs.VariableTypes.{IsNumericRow}
+use Rattle.linear_rows.specs.Terms.{IsOver}
+use Rattle.linear_rows.specs.VariableOrder.{order_of}
 use Rattle.std.specs.List.{All}
 use Rattle.std.specs.Prelude.{◌≡◌, List, length}
 

@@ -1,7 +1,7 @@
 -- The outcomes that the code's stand for.
 use Rattle.std.specs.Prelude.{List}
-use Rattle.linear_form.specs.Row.{Row}
-use Rattle.linear_form.specs.Solutions.{IsSolvable}
+use Rattle.linear_rows.specs.Row.{Row}
+use Rattle.linear_rows.specs.Solutions.{IsSolvable}
 use Rattle.linear_elim.specs.Elimination as plain
 use Rattle.linear_elim.specs.declared.gathering.Gathering.{Gathering}
 use Rattle.linear_elim.specs.declared.elimination.Outcome.{Outcome}

@@ -4,9 +4,9 @@ use Rattle.std.specs.List.{All, list_any}
 use Rattle.heylo_formula.specs.declared.types.Ty.{Ty}
 use Rattle.heyvl_num.specs.Rational.{Rational, oneʳ, ◌+ʳ◌, ◌-ʳ◌}
 use Rattle.heyvl_num.specs.Rounding.{whole}
-use Rattle.linear_form.specs.Lin.{fits}
-use Rattle.linear_form.specs.RowLists.{is_numeric}
-use Rattle.linear_form.specs.GreedyPoint.{End, Interval, IsInside, IsChoice, IsBroken}
+use Rattle.linear_rows.specs.Numbers.{fits}
+use Rattle.linear_rows.specs.VariableTypes.{is_numeric}
+use Rattle.linear_rows.specs.GreedyPoint.{End, Interval, IsInside, IsChoice, IsBroken}
 use Rattle.linear_elim.specs.internal.DerivedRows.{IsDerived}
 use Rattle.linear_elim.specs.Elimination.{Step}
 use Rattle.linear_elim.specs.ChoiceNumbers.{end_of, end_fits}

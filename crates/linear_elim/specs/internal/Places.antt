@@ -1,6 +1,6 @@
 -- Where a row is put among others.
 use Rattle.linear_elim.specs.Joins.{Derived}
-use Rattle.linear_elim.specs.Steps.{same_terms}
+use Rattle.linear_rows.specs.SameTerms.{same_terms}
 use Rattle.std.specs.Prelude.{◌≡◌, ℕ, ◌<◌, ◌≤◌, length, get_or, List, true, false}
 
 -- The place of the first row with the same terms as r, or the number of rows.

@@ -3,11 +3,10 @@ use Rattle.std.specs.Prelude.{◌≡◌, ℤ, Option, Some, None}
 use Rattle.heyvl_num.specs.Rounding.{whole}
 use Rattle.linear_form.specs.Query.{Query}
 use Rattle.linear_form.specs.Query.Query.{done}
-use Rattle.linear_form.specs.Questions.{Linear}
-use Rattle.linear_form.specs.PlainPaths.{lin_of}
-use Rattle.linear_form.specs.internal.Run.{IsKept}
-use Rattle.linear_form.specs.declared.lin.Lin as L
-use Rattle.linear_form.specs.Lin.{Lin, constant}
+use Rattle.linear_values.specs.Lin.{Linear, Lin, constant}
+use Rattle.linear_values.specs.PlainValues.{lin_of}
+use Rattle.linear_values.specs.Kept.{IsKept}
+use Rattle.linear_values.specs.declared.lin.Lin as L
 
 -- The tree asks nothing, and gives this value.
 pub record Yields (q : Query Linear) (a : Lin) : Type 0 where

@@ -3,10 +3,10 @@ use Rattle.std.specs.Prelude.{ℕ, pos, negsuc, false, List, [], ◌∷◌, ◌+
 use Rattle.std.specs.List.{list_any}
 use Prim.Native.Nat.{zero, suc}
 use Rattle.heylo_formula.specs.Typing.{Types}
-use Rattle.linear_form.specs.Row.{Row}
-use Rattle.linear_form.specs.Tightening.{Claim}
-use Rattle.linear_form.specs.VariableOrder.{occurs_in_row}
-use Rattle.linear_form.specs.PathRows.{all_tightened, is_unsigned_type}
+use Rattle.linear_rows.specs.Row.{Row}
+use Rattle.linear_values.specs.Tightening.{Claim, all_tightened}
+use Rattle.linear_rows.specs.VariableOrder.{occurs_in_row}
+use Rattle.linear_form.specs.PathRows.{is_unsigned_type}
 
 abbrev pub followed_by : List Row → Option (List Row) → Option (List Row)
 followed_by rows (Some more) = Some (rows ++ more)

@@ -5,8 +5,7 @@ use Rattle.heyvl_num.specs.Rational.{Rational, zeroʳ, oneʳ, ◌-ʳ◌, ◌<ʳ�
 use Rattle.heylo_formula.specs.State.{Env, put}
 use Rattle.heylo_formula.specs.declared.values.Val.TheVariants.{Num}
 use Rattle.linear_form.specs.Query.{Query, Atom}
-use Rattle.linear_form.specs.Lin.{Lin, Terms, IsAbove, at}
-use Rattle.linear_form.specs.Questions.{Linear}
+use Rattle.linear_values.specs.Lin.{Lin, Terms, IsAbove, at, Linear}
 use Rattle.linear_form.specs.declared.slopes.Slope.{Slope}
 
 -- Each way to a result passes at least so many comparisons. The truth of a Boolean may be known already, and doesn't count.

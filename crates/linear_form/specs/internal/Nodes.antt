@@ -4,7 +4,7 @@ use Rattle.heylo_formula.specs.Operators.{agree}
 use Rattle.linear_form.specs.Query.{Query, next}
 use Rattle.linear_form.specs.Query.Query.{done}
 use Rattle.linear_form.specs.Questions as q
-use Rattle.linear_form.specs.Questions.{Linear}
+use Rattle.linear_values.specs.Lin.{Linear}
 use Rattle.linear_form.specs.declared.nodes.Binary.{Binary}
 use Rattle.linear_form.specs.declared.nodes.Unary as U
 use Rattle.linear_form.specs.declared.nodes.OfTruth.{OfTruth}

@@ -1,6 +1,6 @@
 -- Paths whose comparisons are of values with growing terms and without zeros.
 use Rattle.std.specs.Prelude.{List, [], ◌∷◌}
-use Rattle.linear_form.specs.Lin.{AreNormal}
+use Rattle.linear_values.specs.Lin.{AreNormal}
 use Rattle.linear_form.specs.Query.{Atom, Taken}
 
 abbrev pub IsNormalAtom : Atom → Type 0

@@ -5,10 +5,11 @@ use Rattle.heylo_formula.specs.Sizes.{nodes, nodes_in}
 use Rattle.heylo_formula.specs.Operators.{agree}
 use Rattle.linear_form.specs.Query.{Query, next}
 use Rattle.linear_form.specs.Query.Query.{done, bits}
-use Rattle.linear_form.specs.Questions.{Linear, Ends, evaluate, test}
-use Rattle.linear_form.specs.PlainPaths.{linear_of}
+use Rattle.linear_values.specs.Lin.{Linear}
+use Rattle.linear_form.specs.Questions.{Ends, evaluate, test}
+use Rattle.linear_values.specs.PlainValues.{linear_of}
 use Rattle.linear_form.specs.internal.Nodes.{binary, unary, comparison, of_truth, after_first}
-use Rattle.linear_form.specs.internal.Run.{IsKeptValue}
+use Rattle.linear_values.specs.Kept.{IsKeptValue}
 use Rattle.linear_form.specs.declared.places.Place.{Place}
 use Rattle.linear_form.specs.declared.places.Two.{Two}
 use Rattle.linear_form.specs.declared.places.Focus as F

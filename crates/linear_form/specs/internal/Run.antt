@@ -1,9 +1,7 @@
 -- A tree of questions, evaluated along a path from a place in it: what the program's evaluation gives at each node. The
 -- questions themselves know nothing of places.
-use Rattle.std.specs.Prelude.{◌≡◌, ℕ, ◌+◌, List, [], ◌∷◌, Bool, true, false, take, drop, Option, Some, None, if◌then◌else◌}
-use Rattle.linear_form.specs.Lin.{Lin, AreNormal, is_sized}
+use Rattle.std.specs.Prelude.{ℕ, ◌+◌, List, [], ◌∷◌, Bool, true, false, take, drop, Option, Some, None, if◌then◌else◌}
 use Rattle.linear_form.specs.Query.{Query, Atom, Taken, known}
-use Rattle.linear_form.specs.Questions.{Linear}
 
 -- A value, with the place where the path goes on; or what stops the evaluation.
 pub data Evaluation (A : Type 0) : Type 0 where
@@ -31,12 +29,3 @@ abbrev pub onward : {A B : Type 0} → Evaluation A → (A → ℕ → Evaluatio
 onward (Evaluation.value a i) f = f a i
 onward (Evaluation.decide q) f = Evaluation.decide q
 onward Evaluation.bits f = Evaluation.bits
-
--- A linear value as the program keeps it: terms that grow and hold no zero, and numbers below the bound.
-pub record IsKept (a : Lin) : Type 0 where
-  pub sized : is_sized a ≡ true
-  pub normal : AreNormal a.terms
-
-abbrev pub IsKeptValue : Linear → Type 0
-IsKeptValue (Some a) = IsKept a
-IsKeptValue None = Unit {0}

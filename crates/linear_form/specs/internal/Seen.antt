@@ -1,8 +1,9 @@
 -- What the program's evaluation gives, told in plain words.
 use Rattle.std.specs.Prelude.{◌≡◌, Bool, Result, Ok, Err}
-use Rattle.linear_form.specs.Questions.{Linear}
+use Rattle.linear_values.specs.Lin.{Linear}
 use Rattle.linear_form.specs.internal.Run.{Evaluation}
-use Rattle.linear_form.specs.PlainPaths.{linear_of, atom_of}
+use Rattle.linear_values.specs.PlainValues.{linear_of}
+use Rattle.linear_form.specs.PlainPaths.{atom_of}
 use Rattle.linear_form.specs.declared.cursor.Found as F
 use Rattle.linear_form.specs.declared.cursor.Tested as B
 use Rattle.linear_form.specs.declared.cursor.Stop as S

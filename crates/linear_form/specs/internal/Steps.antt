@@ -2,7 +2,8 @@
 use Rattle.std.specs.Prelude.{◌≡◌, ◌≤◌, ◌<◌, ℕ, List, take, length}
 use Rattle.linear_form.specs.Query.{Query, Taken}
 use Rattle.linear_form.specs.Questions.{Ends}
-use Rattle.linear_form.specs.PlainPaths.{atom_of, linear_of}
+use Rattle.linear_form.specs.PlainPaths.{atom_of}
+use Rattle.linear_values.specs.PlainValues.{linear_of}
 use Rattle.linear_form.specs.internal.Run.{Evaluation, along}
 use Rattle.linear_form.specs.internal.Places.{Result, resumed, asked_by, left_at, through, weight, IsKeptFocus, IsKeptFrame, AreKeptFrames}
 use Rattle.linear_form.specs.declared.places.Place.{Place}

@@ -1,6 +1,6 @@
 -- Two rows whose sum has no variable and that nothing meets together.
 use Rattle.std.specs.Prelude.{◌≡◌, ◌⊎◌, ℕ, ◌+◌, ◌≤◌, ◌<◌, ◌^◌, List, [], ◌∷◌, ℤ, pos, ◌+ℤ◌, ◌<ℤ◌, unsigned_abs, true, ◌||◌}
-use Rattle.linear_form.specs.Row.{Row}
+use Rattle.linear_rows.specs.Row.{Row}
 
 -- The variables grow, from a number on, and each coefficient and the one beside it, of the same variable, add up to 0.
 abbrev pub Cancel : ℕ → List (ℕ × ℤ) → List (ℕ × ℤ) → Type 0

@@ -4,10 +4,11 @@ use Rattle.std.specs.List.{All}
 use Rattle.heylo_formula.specs.Typing.{types_in}
 use Rattle.heylo_formula.specs.declared.types.Ty.{Ty}
 use Rattle.linear_form.specs.Query.{Atom}
-use Rattle.linear_form.specs.PathRows.{all_tightened, answer_claims}
-use Rattle.linear_form.specs.PlainPaths.{lin_of}
-use Rattle.linear_form.specs.Row.{Row}
-use Rattle.linear_form.specs.Combination.{row_at}
+use Rattle.linear_values.specs.Tightening.{all_tightened}
+use Rattle.linear_form.specs.PathRows.{answer_claims}
+use Rattle.linear_values.specs.PlainValues.{lin_of}
+use Rattle.linear_rows.specs.Row.{Row}
+use Rattle.linear_rows.specs.Combination.{row_at}
 use Rattle.region_split.specs.internal.Clashes.{Clash}
 use Rattle.region_split.specs.declared.known.Known.{Known}
 use Rattle.region_split.specs.declared.known.Recalled.{Recalled}

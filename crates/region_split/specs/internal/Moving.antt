@@ -1,7 +1,7 @@
 -- Rows that stand among others, and multipliers whose indexes are moved with them.
 use Rattle.std.specs.Prelude.{◌≡◌, ℕ, ◌-◌, ◌≤◌, ◌<◌, ltb, List, map, length, drop, get_or, if◌then◌else◌}
-use Rattle.linear_form.specs.Row.{Row}
-use Rattle.linear_form.specs.Combination.{row_at}
+use Rattle.linear_rows.specs.Row.{Row}
+use Rattle.linear_rows.specs.Combination.{row_at}
 use Rattle.linear_form.specs.RowListLaws.{StandAmong}
 
 -- The places of the first rows, from one place on and all below another, from which on the other rows stand.

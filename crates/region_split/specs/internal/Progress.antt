@@ -13,10 +13,10 @@ use Rattle.linear_form.specs.Cells.{GoesOn}
 use Rattle.linear_form.specs.Places.{IsOn}
 use Rattle.linear_form.specs.declared.places.Place.{Place}
 use Rattle.linear_form.specs.declared.paths.Atom as A
-use Rattle.farkas_check.specs.Trees.{Tree, tree_of}
-use Rattle.farkas_check.specs.declared.trees.Tree as T
+use Rattle.goal_answers.specs.Trees.{Tree, tree_of, depth}
+use Rattle.goal_answers.specs.declared.trees.Tree as T
 use Rattle.region_split.specs.Walk.{IsRefutedCell, AreCells}
-use Rattle.region_split.specs.WalkTree.{IsWalkTree, depth}
+use Rattle.region_split.specs.WalkTree.{IsWalkTree}
 use Rattle.region_split.specs.Decisions.{IsFirstPoint, IsFirstBreak, IsDecision}
 use Rattle.region_split.specs.internal.Seen.{EndsWalk}
 use Rattle.region_split.specs.internal.Trails.{Comes, Stands}

@@ -3,8 +3,9 @@ use Rattle.std.specs.Prelude.{◌≡◌, List, [], ◌∷◌, ◌++◌, true, fa
 use Rattle.heylo_formula.specs.Goals.{Goal}
 use Rattle.heylo_formula.specs.Typing.{types_in}
 use Rattle.linear_form.specs.Query.{Atom, Taken, onto}
-use Rattle.linear_form.specs.Row.{Row}
-use Rattle.linear_form.specs.PathRows.{all_tightened, path_claims}
+use Rattle.linear_rows.specs.Row.{Row}
+use Rattle.linear_values.specs.Tightening.{all_tightened}
+use Rattle.linear_form.specs.PathRows.{path_claims}
 use Rattle.linear_form.specs.PlainPaths.{path_of, taken_of, atom_of}
 use Rattle.linear_form.specs.RowLists.{ArePathRows}
 use Rattle.linear_form.specs.Lasting.{IsNoEnd}

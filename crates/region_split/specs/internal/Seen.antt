@@ -9,16 +9,16 @@ use Rattle.linear_form.specs.PathRows.{rows_of, IsPlainAt}
 use Rattle.linear_form.specs.PlainPaths.{atom_of}
 use Rattle.linear_form.specs.Nonlinear.{nonlinear_product}
 use Rattle.std.specs.List.{All}
-use Rattle.linear_form.specs.Row.{Row, IsRow}
-use Rattle.linear_form.specs.RowLists.{IsNumericRow}
+use Rattle.linear_rows.specs.Row.{Row, IsRow}
+use Rattle.linear_rows.specs.VariableTypes.{IsNumericRow}
 use Rattle.linear_form.specs.Asked.{Answers}
 use Rattle.linear_form.specs.declared.asking.Ask as K
-use Rattle.linear_form.specs.Solutions.{IsSolvable}
-use Rattle.linear_form.specs.GreedyPoint.{IsGreedyPoint}
+use Rattle.linear_rows.specs.Solutions.{IsSolvable}
+use Rattle.linear_rows.specs.GreedyPoint.{IsGreedyPoint}
 use Rattle.linear_form.specs.Cells.{IsKept, GoesOn, IsCell}
 use Rattle.linear_elim.specs.Answers.{IsBreak}
-use Rattle.linear_elim.specs.declared.answers.Broken.{Broken}
-use Rattle.linear_elim.specs.declared.answers.Cause.{Cause}
+use Rattle.goal_answers.specs.declared.causes.Broken.{Broken}
+use Rattle.goal_answers.specs.declared.causes.Cause.{Cause}
 use Rattle.farkas_check.specs.Accepted.{IsRefutedWith}
 use Rattle.region_split.specs.Walk.{IsReached}
 use Rattle.region_split.specs.Decisions.{IsCause}

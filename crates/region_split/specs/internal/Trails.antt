@@ -4,13 +4,13 @@ use Rattle.std.specs.Prelude.{◌≡◌, ℕ, ◌<◌, List, [], ◌∷◌, ◌+
 use Rattle.heylo_formula.specs.Goals.{Goal}
 use Rattle.linear_form.specs.Query.{Taken, onto}
 use Rattle.linear_form.specs.Cells.{IsDropped}
-use Rattle.linear_form.specs.Row.{Row}
-use Rattle.linear_form.specs.Occurrences.{AreOccurrences}
+use Rattle.linear_rows.specs.Row.{Row}
+use Rattle.linear_rows.specs.Occurrences.{AreOccurrences}
 use Rattle.linear_form.specs.PlainPaths.{path_of, taken_of}
 use Rattle.linear_form.specs.declared.paths.Taken as T
 use Rattle.linear_form.specs.RowLists.{ArePathRows, LackLastRow}
 use Rattle.linear_form.specs.Places.{IsOn}
-use Rattle.linear_elim.specs.Searches.{Remembers}
+use Rattle.linear_guess.specs.Searches.{Remembers}
 use Rattle.linear_form.specs.declared.places.Place.{Place}
 use Rattle.farkas_check.specs.Accepted.{IsRefuted}
 use Rattle.region_split.specs.internal.Known.{AreKnown}

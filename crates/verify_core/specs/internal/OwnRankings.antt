@@ -2,11 +2,11 @@
 use Rattle.std.specs.List.{AllZip}
 use Rattle.std.specs.Prelude.{◌≡◌, ℕ, List, Option}
 use Rattle.cert_text.specs.Certificates.{loop_of}
-use Rattle.farkas_check.specs.declared.trees.GoalCert.{GoalCert}
+use Rattle.goal_answers.specs.declared.trees.GoalCert.{GoalCert}
 use Rattle.heyvl_types.specs.Acts.{TypedProcedure, procedure_at}
 use Rattle.verdict_report.specs.declared.answers.LoopAnswer.{LoopAnswer}
-use Rattle.verdict_report.specs.declared.answers.Miss.{Miss}
-use Rattle.verdict_report.specs.declared.answers.NamedGoal.{NamedGoal}
+use Rattle.goal_answers.specs.declared.misses.Miss.{Miss}
+use Rattle.goal_answers.specs.declared.named_goals.NamedGoal.{NamedGoal}
 use Rattle.verify_core.specs.Checked.{CheckedGoal, IsMissOf}
 use Rattle.verify_core.specs.CheckedRankings.{AreRankingsAnswered, AreRankingsChecked, IsRankingAnswer}
 use Rattle.verify_core.specs.Rankings.{ranked_loops}

@@ -1,6 +1,6 @@
 -- The goals of procedures with their decisions, as rows of a table, and what comes of them.
 use Rattle.std.specs.Prelude.{◌≡◌, ℕ, List, ◌++◌, drop}
-use Rattle.farkas_check.specs.declared.trees.GoalCert.{GoalCert}
+use Rattle.goal_answers.specs.declared.trees.GoalCert.{GoalCert}
 use Rattle.heyvl_types.specs.Acts.{TypedProcedure, procedure_at}
 use Rattle.heyvl_types.specs.Rules.{Each}
 use Rattle.loop_encodings.specs.BoundGoals.{bound_goals}

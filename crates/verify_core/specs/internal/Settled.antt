@@ -3,7 +3,7 @@ use Rattle.heylo_formula.specs.Goals.{goal_of}
 use Rattle.heylo_formula.specs.declared.goals.Made.{Made}
 use Rattle.heylo_formula.specs.declared.goals.Made.TheVariants as made
 use Rattle.region_split.specs.Meanings.{Tells}
-use Rattle.region_split.specs.declared.decisions.Decision.{Decision}
+use Rattle.goal_answers.specs.declared.decisions.Decision.{Decision}
 use Rattle.verify_core.specs.Decided.{DecidedGoal, IsDecisionOf}
 use Rattle.verify_core.specs.declared.deciding.Decided as declared
 

@@ -1,7 +1,7 @@
 -- What is said of procedures by what comes of their goals.
 use Rattle.std.specs.Prelude.{List, [], ◌∷◌, ◌++◌}
 use Rattle.proc_contracts.specs.declared.reasons.WhyNot.{WhyNot}
-use Rattle.verdict_report.specs.declared.answers.NamedGoal.{NamedGoal}
+use Rattle.goal_answers.specs.declared.named_goals.NamedGoal.{NamedGoal}
 use Rattle.verdict_report.specs.declared.answers.Verdict.{Verdict}
 use Rattle.verdict_report.specs.declared.answers.Verdict.TheVariants.{NoBody, Valid}
 use Rattle.verify_core.specs.declared.outcomes.ProcedureOutcome.{ProcedureOutcome}

@@ -1,5 +1,5 @@
 use Rattle.std.proofs.Common.{vec_len, ◌≡◌}
-use Rattle.farkas_check.specs.Trees.{tree_of}
+use Rattle.goal_answers.specs.Trees.{tree_of}
 use Rattle.cert_text.specs.internal.Reading.{fill, open_of}
 use Rattle.cert_text.proofs.reading.fill.Given as goal
 

@@ -2,7 +2,7 @@ use Rattle.std.proofs.Common.{subst}
 use Rattle.std.specs.List.{All}
 use Rattle.std.proofs.lemmas.List.{take_all}
 use Rattle.std.proofs.lemmas.List.Elements.{All-more}
-use Rattle.linear_form.specs.RowLists.{IsNumericRow}
+use Rattle.linear_rows.specs.VariableTypes.{IsNumericRow}
 use Rattle.decision_tests.proofs.test_rows.are_over_numbers.Goals as goal
 
 pub loop-row-preserved : goal.loop-row-preserved

@@ -1,6 +1,6 @@
 use Rattle.std.proofs.Common.{take}
 use Rattle.std.specs.List.{All}
-use Rattle.linear_form.specs.RowLists.{IsNumericRow}
+use Rattle.linear_rows.specs.VariableTypes.{IsNumericRow}
 use Rattle.decision_tests.proofs.test_rows.are_over_numbers.Given as goal
 
 abbrev pub invariant-loop-row : goal.invariant-loop-row

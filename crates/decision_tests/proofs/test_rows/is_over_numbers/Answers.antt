@@ -1,7 +1,7 @@
 use Rattle.std.proofs.Common.{◌≡◌, ◌∙◌, sym, ap, true}
 use Rattle.std.specs.Prelude.{pos}
 use Rattle.std.proofs.lemmas.List.Elements.{All-more}
-use Rattle.linear_form.specs.RowLists.{is_numeric}
+use Rattle.linear_rows.specs.VariableTypes.{is_numeric}
 use Rattle.heylo_formula.specs.Typing.{types_in}
 use Rattle.decision_tests.proofs.TestRows.{over_all}
 use Rattle.decision_tests.proofs.test_rows.is_over_numbers.Goals as goal

@@ -1,6 +1,6 @@
 use Rattle.std.proofs.Common.{◌≡◌, take, true}
 use Rattle.std.specs.List.{All}
-use Rattle.linear_form.specs.RowLists.{is_numeric}
+use Rattle.linear_rows.specs.VariableTypes.{is_numeric}
 use Rattle.heylo_formula.specs.Typing.{types_in}
 use Rattle.decision_tests.proofs.test_rows.is_over_numbers.Given as goal
 

@@ -1,5 +1,5 @@
 use Rattle.std.specs.List.{All}
-use Rattle.linear_form.specs.Row.{IsRow}
+use Rattle.linear_rows.specs.Row.{IsRow}
 use Rattle.decision_tests.proofs.test_rows.rows_of.Given as goal
 
 abbrev pub invariant-loop-word : goal.invariant-loop-word

@@ -1,4 +1,4 @@
-use Rattle.farkas_check.specs.Trees.{tree_of}
+use Rattle.goal_answers.specs.Trees.{tree_of}
 use Rattle.farkas_check.proofs.Judging.{height}
 use Rattle.farkas_check.proofs.checking.+judge.Given as goal
 

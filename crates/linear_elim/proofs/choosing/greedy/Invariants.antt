@@ -1,6 +1,6 @@
 use Rattle.std.proofs.Common.{List, length}
 use Rattle.std.specs.List.{All}
-use Rattle.linear_form.specs.Row.{Row}
+use Rattle.linear_rows.specs.Row.{Row}
 use Rattle.linear_elim.specs.internal.Picks.{IsDerivedStep}
 use Rattle.linear_elim.specs.internal.Eliminations.{IsEliminated}
 use Rattle.linear_elim.proofs.Greedily.{IsSofar}

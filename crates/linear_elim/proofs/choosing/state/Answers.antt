@@ -1,5 +1,5 @@
 use Rattle.std.proofs.Common.{◌≡◌, length, ap₂, ◌∙◌, arith}
-use Rattle.linear_form.specs.GreedyPoint.{value_for}
+use Rattle.linear_rows.specs.GreedyPoint.{value_for}
 use Rattle.linear_elim.proofs.ChoiceRuns.{state_none, state_more, state_all}
 use Rattle.linear_elim.proofs.choosing.state.Goals as goal
 

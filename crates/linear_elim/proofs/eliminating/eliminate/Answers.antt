@@ -1,7 +1,7 @@
 use Rattle.std.proofs.Common.{◌∙◌, sym, subst, arith, length}
-use Rattle.linear_form.specs.VariableOrder.{order_of}
+use Rattle.linear_rows.specs.VariableOrder.{order_of}
 use Rattle.std.specs.List.{All}
-use Rattle.linear_form.specs.Terms.{IsOver}
+use Rattle.linear_rows.specs.Terms.{IsOver}
 use Rattle.linear_elim.specs.internal.Eliminations.{IsEliminated}
 use Rattle.linear_elim.specs.internal.Picks.{IsDerivedStep}
 use Rattle.linear_elim.proofs.Numbers.{ok_map}

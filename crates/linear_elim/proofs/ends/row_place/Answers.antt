@@ -3,7 +3,7 @@ use Rattle.std.proofs.lemmas.Int.{to_z-of_z}
 use mir.Syntax.{w64}
 use Rattle.std.specs.Prelude.{negsuc}
 use Rattle.heyvl_num.specs.Exact.{exact_quotient}
-use Rattle.linear_form.specs.Terms.{coefficient}
+use Rattle.linear_rows.specs.Terms.{coefficient}
 use Rattle.linear_elim.proofs.EndRuns.{end_sum_none, end_factor_none, end_product}
 use Rattle.linear_elim.proofs.ends.row_place.Goals as goal
 

@@ -1,6 +1,6 @@
 use Rattle.std.proofs.Common.{◌≡◌, subst, ap, sym, ◌∙◌, true}
 use Rattle.std.specs.Prelude.{IfSome}
-use Rattle.linear_form.specs.Lin.{fits}
+use Rattle.linear_rows.specs.Numbers.{fits}
 use Rattle.linear_elim.specs.internal.ChoiceSteps.{IsTightest, narrow_end}
 use Rattle.linear_elim.proofs.EndRuns.{tight_none, tight_first, tight_more, tight_item, tight_end}
 use Rattle.linear_elim.proofs.ends.tightest.Goals as goal

@@ -1,5 +1,5 @@
 use Rattle.std.proofs.Common.{◌≡◌, drop}
-use Rattle.linear_form.specs.GreedyPoint.{chosen_value}
+use Rattle.linear_rows.specs.GreedyPoint.{chosen_value}
 use Rattle.linear_elim.proofs.ends.value_of.Given as goal
 
 abbrev pub invariant-loop-v : goal.invariant-loop-v

@@ -1,7 +1,7 @@
 use Rattle.std.proofs.Common.{◌≡◌, sym, ◌∙◌, rules}
 use Rattle.std.specs.Prelude.{Some}
 use Rattle.heyvl_num.specs.Rational.{halfʳ}
-use Rattle.linear_form.proofs.exported.Narrow.{same}
+use Rattle.linear_rows.proofs.exported.Narrow.{same}
 use Rattle.linear_elim.proofs.Middles.{the_half}
 use Rattle.linear_elim.proofs.fractions.half.Goals as goal
 

@@ -2,7 +2,7 @@ use Rattle.std.proofs.Common.{◌≡◌, sym, ap₂, ◌∙◌, rules}
 use Rattle.std.specs.Prelude.{Some}
 use Rattle.heyvl_num.specs.Rational.{middleʳ}
 use Rattle.heyvl_num.specs.Exact.{exact_product}
-use Rattle.linear_form.proofs.exported.Narrow.{same}
+use Rattle.linear_rows.proofs.exported.Narrow.{same}
 use Rattle.linear_elim.proofs.Middles.{the_middle}
 use Rattle.linear_elim.proofs.fractions.middle.Goals as goal
 

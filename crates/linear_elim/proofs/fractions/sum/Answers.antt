@@ -1,7 +1,7 @@
 use Rattle.std.proofs.Common.{◌≡◌, sym, ◌∙◌, rules}
 use Rattle.std.specs.Prelude.{Some}
 use Rattle.heyvl_num.specs.Rational.{◌+ʳ◌}
-use Rattle.linear_form.proofs.exported.Narrow.{the_sum, same}
+use Rattle.linear_rows.proofs.exported.Narrow.{the_sum, same}
 use Rattle.linear_elim.proofs.fractions.sum.Goals as goal
 
 pub unwrap-requires : goal.unwrap-requires

@@ -4,7 +4,7 @@ use Rattle.std.specs.Int.{w128}
 use Rattle.std.proofs.lemmas.Int.{to_z-of_z}
 use Rattle.heyvl_num.specs.Rounding.{whole}
 use Rattle.heyvl_num.specs.Exact.{exact_quotient}
-use Rattle.linear_form.proofs.exported.Narrow.{same}
+use Rattle.linear_rows.proofs.exported.Narrow.{same}
 use Rattle.linear_elim.proofs.Bounded.{the_whole}
 use Rattle.linear_elim.proofs.fractions.whole_number.Goals as goal
 

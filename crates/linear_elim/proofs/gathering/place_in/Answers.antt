@@ -1,10 +1,10 @@
 use Rattle.std.proofs.Common.{rules, ◌≡◌, ◌<◌, sym, ap, ◌∙◌, length}
 use Rattle.std.proofs.lemmas.List.{get_or_default}
 use Rattle.std.specs.Prelude.{Some, None}
-use Rattle.linear_form.specs.Row.{Row}
+use Rattle.linear_rows.specs.Row.{Row}
 use Rattle.linear_elim.specs.Joins.{Derived}
 use Rattle.linear_elim.specs.internal.Fingerprints.{fingerprint, first_with}
-use Rattle.linear_elim.specs.Steps.{same_terms}
+use Rattle.linear_rows.specs.SameTerms.{same_terms}
 use Rattle.linear_elim.proofs.Fingerprinting.{first-there, place_absent, place_found}
 use Rattle.linear_elim.proofs.gathering.place_in.Goals as goal
 

@@ -1,5 +1,5 @@
 use Rattle.std.proofs.Common.{◌≡◌, ℕ, ◌<◌, get_or, false}
-use Rattle.linear_elim.specs.Steps.{same_terms}
+use Rattle.linear_rows.specs.SameTerms.{same_terms}
 use Rattle.linear_elim.proofs.gathering.place_of.Given as goal
 
 abbrev pub invariant-loop-i : goal.invariant-loop-i

@@ -1,7 +1,7 @@
 use Rattle.std.proofs.Common.{◌≡◌, sym, subst, ap, ◌∙◌}
 use Rattle.std.specs.Prelude.{Some, nat_eq}
 use Rattle.std.specs.HashMap.{Updates}
-use Rattle.linear_form.specs.Row.{Row}
+use Rattle.linear_rows.specs.Row.{Row}
 use Rattle.linear_elim.specs.Joins.{Derived}
 use Rattle.linear_elim.specs.internal.Fingerprints.{fingerprint, ArePlaces}
 use Rattle.linear_elim.proofs.Fingerprinting.{noted, kept}

@@ -1,8 +1,8 @@
 use Rattle.std.proofs.Common.{◌≡◌, ◌+◌, ◌-◌, ◌≤◌, drop, length}
 use Rattle.std.specs.Prelude.{pos}
-use Rattle.linear_form.specs.Terms.{IsNormal}
-use Rattle.linear_form.specs.Merging.{mixed_terms}
-use Rattle.linear_form.specs.Divisors.{common}
+use Rattle.linear_rows.specs.Terms.{IsNormal}
+use Rattle.linear_rows.specs.Merging.{mixed_terms}
+use Rattle.linear_rows.specs.Divisors.{common}
 use Rattle.linear_elim.specs.internal.Fingerprints.{hashed_all, fingerprint}
 use Rattle.linear_elim.proofs.join_numbers.summed.Given as goal
 

@@ -1,5 +1,5 @@
 use Rattle.std.proofs.Common.{◌<◌, ◌^◌, subst, sym, ap, unsigned_abs}
-use Rattle.linear_form.specs.GreedyPoint.{End}
+use Rattle.linear_rows.specs.GreedyPoint.{End}
 use Rattle.linear_elim.proofs.Bounded.{short_num, short_den, ranks_less, ranks_equal, ranks_greater}
 use Rattle.linear_elim.proofs.PickLaws.{keeps_equal, keeps_less_low, keeps_less_high, keeps_greater_low, keeps_greater_high}
 use Rattle.linear_elim.proofs.picking.keeps.Goals as goal

@@ -1,6 +1,6 @@
 use Rattle.std.proofs.Common.{◌≡◌, subst, sym, ap, ◌∙◌, true}
 use Rattle.heyvl_num.specs.Rational.{◌+ʳ◌}
-use Rattle.linear_form.specs.Lin.{fits}
+use Rattle.linear_rows.specs.Numbers.{fits}
 use Rattle.linear_elim.proofs.Pasts.{one_fits, minus_one_fits, past_low_is, past_high_is}
 use Rattle.linear_elim.proofs.picking.past.Goals as goal
 

@@ -1,7 +1,7 @@
 use Rattle.std.proofs.Common.{subst, sym, ap, ap₂, ◌∙◌}
 use Rattle.heyvl_num.specs.Rational.{middleʳ}
 use Rattle.heylo_formula.specs.declared.types.Ty.{Ty}
-use Rattle.linear_form.specs.GreedyPoint.{End}
+use Rattle.linear_rows.specs.GreedyPoint.{End}
 use Rattle.linear_elim.specs.internal.Picks.{IsPicked, sided, past_place}
 use Rattle.linear_elim.specs.declared.picking.Pick.TheVariants.{Value}
 use Rattle.linear_elim.proofs.PickLaws.{real_inside, picked_middle, picked_past}

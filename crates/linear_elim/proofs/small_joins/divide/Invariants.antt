@@ -1,5 +1,5 @@
 use Rattle.std.proofs.Common.{◌≡◌, ◌++◌, drop, take}
-use Rattle.linear_form.specs.Divisors.{divided_terms}
+use Rattle.linear_rows.specs.Divisors.{divided_terms}
 use Rattle.linear_elim.proofs.small_joins.divide.Given as goal
 
 abbrev pub invariant-loop-i : goal.invariant-loop-i

@@ -1,5 +1,5 @@
 use Rattle.std.proofs.Common.{◌≡◌, ◌≤◌, drop, length}
-use Rattle.linear_form.specs.Divisors.{common}
+use Rattle.linear_rows.specs.Divisors.{common}
 use Rattle.linear_elim.proofs.small_joins.divisor_in.Given as goal
 
 abbrev pub invariant-loop-i : goal.invariant-loop-i

@@ -1,6 +1,6 @@
 use Rattle.std.proofs.Common.{◌≡◌, sym, subst, ◌∙◌, true}
 use Rattle.std.specs.List.{All}
-use Rattle.linear_form.specs.Terms.{coefficient}
+use Rattle.linear_rows.specs.Terms.{coefficient}
 use Rattle.linear_elim.specs.Joins.{is_below_zero, is_above_zero}
 use Rattle.linear_elim.specs.Steps.{kept}
 use Rattle.linear_elim.specs.internal.DerivedRows.{IsDerived}

@@ -1,6 +1,6 @@
 use Rattle.std.proofs.Common.{◌≡◌, ◌<◌, ◌≤◌, length, sym, ap, subst, ◌∙◌}
 use Rattle.std.specs.Prelude.{IfOk, IfSome}
-use Rattle.linear_form.specs.Row.{Row}
+use Rattle.linear_rows.specs.Row.{Row}
 use Rattle.linear_elim.specs.Elimination.{Step}
 use Rattle.linear_elim.specs.Joins.{Derived, join}
 use Rattle.linear_elim.proofs.CountedTerms.{join_named, kept_named, kept_read, read_both}

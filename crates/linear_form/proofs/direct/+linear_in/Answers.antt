@@ -1,5 +1,5 @@
 use Rattle.heylo_formula.specs.PlainTrees.{form_of}
-use Rattle.linear_form.specs.PlainPaths.{lin_of}
+use Rattle.linear_values.specs.PlainValues.{lin_of}
 use Rattle.linear_form.proofs.DirectValues.{variable_given}
 use Rattle.linear_form.proofs.Parts as is
 use Rattle.linear_form.proofs.direct.+linear_in.Goals as goal

@@ -1,12 +1,13 @@
 use Rattle.std.proofs.Common.{sym, subst, ap, ◌∙◌}
 use Rattle.std.specs.Prelude.{Some}
-use Rattle.linear_form.specs.Lin.{AreNormal, constant, fits, plus}
-use Rattle.linear_form.specs.PlainPaths.{lin_of}
+use Rattle.linear_values.specs.Lin.{AreNormal, constant, plus}
+use Rattle.linear_rows.specs.Numbers.{fits}
+use Rattle.linear_values.specs.PlainValues.{lin_of}
 use Rattle.linear_form.specs.Questions.{sized}
 use Rattle.linear_form.specs.internal.Direct.{MayGive}
-use Rattle.linear_form.proofs.KeptParts.{rest_fits}
-use Rattle.linear_form.proofs.KeptValues.{minus_normal}
-use Rattle.linear_form.proofs.Narrow.{fits_negated}
+use Rattle.linear_values.proofs.exported.KeptParts.{rest_fits}
+use Rattle.linear_values.proofs.exported.KeptTerms.{minus_normal}
+use Rattle.linear_rows.proofs.exported.Narrow.{fits_negated}
 use Rattle.linear_form.proofs.OneSided.{minus_number}
 use Rattle.linear_form.proofs.direct.difference.Goals as goal
 

@@ -3,7 +3,7 @@ use Rattle.std.proofs.lemmas.Int.{to_z-of_z}
 use mir.Syntax.{w64}
 use Rattle.heyvl_num.specs.Rounding.{whole}
 use Rattle.heylo_formula.specs.PlainTrees.{form_of}
-use Rattle.linear_form.specs.PlainPaths.{lin_of}
+use Rattle.linear_values.specs.PlainValues.{lin_of}
 use Rattle.linear_form.specs.Questions.{evaluate}
 use Rattle.linear_form.proofs.DirectValues.{whole_yields}
 use Rattle.linear_form.proofs.direct.direct.Goals as goal

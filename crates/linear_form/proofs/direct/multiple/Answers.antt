@@ -1,4 +1,4 @@
-use Rattle.linear_form.specs.PlainPaths.{lin_of}
+use Rattle.linear_values.specs.PlainValues.{lin_of}
 use Rattle.linear_form.proofs.DirectValues.{multiple_given}
 use Rattle.linear_form.proofs.direct.multiple.Goals as goal
 

@@ -1,11 +1,11 @@
 use Rattle.std.proofs.Common.{sym, subst, ◌∙◌}
 use Rattle.std.specs.Prelude.{Some}
-use Rattle.linear_form.specs.Lin.{AreNormal}
-use Rattle.linear_form.specs.PlainPaths.{lin_of}
+use Rattle.linear_values.specs.Lin.{AreNormal}
+use Rattle.linear_values.specs.PlainValues.{lin_of}
 use Rattle.linear_form.specs.Questions.{sized}
 use Rattle.linear_form.specs.internal.Direct.{MayGive}
-use Rattle.linear_form.proofs.KeptParts.{rest_fits}
-use Rattle.linear_form.proofs.KeptValues.{plus_normal}
+use Rattle.linear_values.proofs.exported.KeptParts.{rest_fits}
+use Rattle.linear_values.proofs.exported.KeptTerms.{plus_normal}
 use Rattle.linear_form.proofs.OneSided.{plus_with, number_plus}
 use Rattle.linear_form.proofs.direct.sum.Goals as goal
 

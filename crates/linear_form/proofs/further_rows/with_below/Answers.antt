@@ -1,8 +1,8 @@
 use Rattle.std.proofs.Common.{sym, subst, rules}
-use Rattle.linear_form.specs.Lin.{Lin, AreNormal}
-use Rattle.linear_form.specs.internal.Run.{IsKept}
-use Rattle.linear_form.specs.PlainPaths.{lin_of}
-use Rattle.linear_form.proofs.KeptValues.{minus_normal}
+use Rattle.linear_values.specs.Lin.{Lin, AreNormal}
+use Rattle.linear_values.specs.Kept.{IsKept}
+use Rattle.linear_values.specs.PlainValues.{lin_of}
+use Rattle.linear_values.proofs.exported.KeptTerms.{minus_normal}
 use Rattle.linear_form.proofs.further_rows.with_below.Goals as goal
 
 pub with_claim-requires-in-Some-y : goal.with_claim-requires-in-Some-y

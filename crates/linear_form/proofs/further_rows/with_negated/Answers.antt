@@ -1,9 +1,10 @@
 use Rattle.std.proofs.Common.{◌≡◌, sym, ap, ◌∙◌, subst, rules, false}
-use Rattle.linear_form.specs.Lin.{Lin, AreNormal, fits, scaled, minus_oneʳ}
-use Rattle.linear_form.specs.PlainPaths.{lin_of}
+use Rattle.linear_values.specs.Lin.{Lin, AreNormal, scaled}
+use Rattle.linear_rows.specs.Numbers.{fits, minus_oneʳ}
+use Rattle.linear_values.specs.PlainValues.{lin_of}
 use Rattle.heylo_formula.specs.Typing.{types_in}
-use Rattle.linear_form.proofs.Narrow.{minus_one_fits}
-use Rattle.linear_form.proofs.KeptValues.{scaled_normal}
+use Rattle.linear_rows.proofs.exported.Narrow.{minus_one_fits}
+use Rattle.linear_values.proofs.exported.KeptTerms.{scaled_normal}
 use Rattle.linear_form.proofs.RowsOfClaims.{negated_large}
 use Rattle.linear_form.proofs.further_rows.with_negated.Goals as goal
 

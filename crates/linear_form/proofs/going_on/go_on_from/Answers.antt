@@ -1,7 +1,8 @@
 use Rattle.std.proofs.Common.{sym, ap, ap₂, ◌∙◌}
 use Rattle.heylo_formula.specs.Goals.{goal_of}
 use Rattle.linear_form.specs.Paths.{end_at}
-use Rattle.linear_form.specs.PlainPaths.{path_of, atom_of, linear_of}
+use Rattle.linear_form.specs.PlainPaths.{path_of, atom_of}
+use Rattle.linear_values.specs.PlainValues.{linear_of}
 use Rattle.linear_form.specs.internal.Run.Evaluation.{value, decide}
 use Rattle.linear_form.proofs.GoingOn.{moved}
 use Rattle.linear_form.proofs.Resuming.{on_decides, on_ends, on_bits, end_asked, end_on}

@@ -1,6 +1,6 @@
 use Rattle.heylo_formula.specs.Goals.{goal_of}
 use Rattle.linear_form.specs.PlainPaths.{path_of}
-use Rattle.linear_form.proofs.RowParts.{ok_then}
+use Rattle.linear_values.proofs.exported.RowParts.{ok_then}
 use Rattle.linear_form.proofs.NormalClaims.{answers_normal}
 use Rattle.linear_form.proofs.GrowingRows.{last_normal, never_empty, next_rows}
 use Rattle.linear_form.proofs.growing_rows.next_row.Goals as goal

@@ -6,7 +6,7 @@ use Rattle.linear_form.specs.PlainPaths.{path_of}
 use Rattle.linear_form.specs.Paths.{end_at}
 use Rattle.linear_form.specs.internal.FurtherRows.{rows_with}
 use Rattle.heylo_formula.specs.Typing.{types_in}
-use Rattle.linear_form.proofs.RowParts.{ok_then}
+use Rattle.linear_values.proofs.exported.RowParts.{ok_then}
 use Rattle.linear_form.proofs.NormalClaims.{ends_kept}
 use Rattle.linear_form.proofs.RowsOfClaims.{ended}
 use Rattle.linear_form.proofs.GrowingRows.{upper_denied, lower_denied}

@@ -1,11 +1,12 @@
 use Rattle.std.proofs.Common.{◌≡◌, ◌++◌, ap, length, refl}
 use Rattle.heylo_formula.specs.Goals.{goal_of}
 use Rattle.heylo_formula.specs.Typing.{types_in}
-use Rattle.linear_form.specs.PathRows.{path_claims, listed, denial_at, all_tightened}
+use Rattle.linear_form.specs.PathRows.{path_claims, listed, denial_at}
+use Rattle.linear_values.specs.Tightening.{all_tightened}
 use Rattle.linear_form.specs.Paths.{end_at}
 use Rattle.linear_form.specs.PlainPaths.{path_of}
 use Rattle.std.specs.Prelude.{true, Some}
-use Rattle.linear_form.proofs.RowParts.{ok_then}
+use Rattle.linear_values.proofs.exported.RowParts.{ok_then}
 use Rattle.linear_form.proofs.SignRows.{signed, with_denied}
 use Rattle.linear_form.proofs.GrowingRows.{starts_twice, lost_twice}
 use Rattle.linear_form.proofs.FoundRows.{listed_rows, few_rows, typed_rows}

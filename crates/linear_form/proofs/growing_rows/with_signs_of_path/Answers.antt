@@ -3,7 +3,7 @@ use Rattle.heylo_formula.specs.Goals.{goal_of}
 use Rattle.linear_form.specs.PathRows.{path_claims}
 use Rattle.linear_form.specs.PlainPaths.{path_of}
 use Rattle.std.specs.Prelude.{false}
-use Rattle.linear_form.proofs.RowParts.{ok_then}
+use Rattle.linear_values.proofs.exported.RowParts.{ok_then}
 use Rattle.linear_form.proofs.SignRows.{signed}
 use Rattle.linear_form.proofs.GrowingRows.{starts, path_rows_only}
 use Rattle.linear_form.proofs.FoundRows.{listed_rows, few_rows, typed_rows}

@@ -1,6 +1,6 @@
 use Rattle.std.proofs.Common.{sym, subst}
-use Rattle.linear_form.specs.Lin.{AreNormal}
-use Rattle.linear_form.specs.PlainPaths.{lin_of}
+use Rattle.linear_values.specs.Lin.{AreNormal}
+use Rattle.linear_values.specs.PlainValues.{lin_of}
 use Rattle.linear_form.proofs.FirstTerms.{begins_left, begins_right}
 use Rattle.linear_form.proofs.lasting.first_differ.Goals as goal
 

@@ -1,6 +1,6 @@
 use Rattle.std.proofs.Common.{sym, subst}
 use Rattle.heylo_formula.specs.PlainTrees.{form_of, cond_of}
-use Rattle.linear_form.specs.PlainPaths.{linear_of}
+use Rattle.linear_values.specs.PlainValues.{linear_of}
 use Rattle.linear_form.specs.Questions.{evaluate, test}
 use Rattle.linear_form.specs.internal.Lasting.{Lasts}
 use Rattle.linear_form.specs.internal.Nodes.{comparison}

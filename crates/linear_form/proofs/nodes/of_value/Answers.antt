@@ -2,7 +2,8 @@ use Rattle.std.proofs.Common.{sym, ◌∙◌, ap}
 use Rattle.linear_form.specs.internal.Run.{along}
 use Rattle.linear_form.specs.internal.Run.Evaluation.{value}
 use Rattle.linear_form.specs.internal.Nodes.{unary}
-use Rattle.linear_form.specs.PlainPaths.{linear_of, path_of}
+use Rattle.linear_values.specs.PlainValues.{linear_of}
+use Rattle.linear_form.specs.PlainPaths.{path_of}
 use Rattle.linear_form.proofs.Runs.{run_done}
 use Rattle.linear_form.proofs.nodes.of_value.Goals as goal
 

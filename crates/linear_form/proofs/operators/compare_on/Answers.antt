@@ -1,9 +1,10 @@
 use Rattle.std.proofs.Common.{sym, ap, ◌∙◌}
-use Rattle.linear_form.specs.Lin.{fits}
-use Rattle.linear_form.specs.PlainPaths.{path_of, lin_of}
+use Rattle.linear_rows.specs.Numbers.{fits}
+use Rattle.linear_form.specs.PlainPaths.{path_of}
+use Rattle.linear_values.specs.PlainValues.{lin_of}
 use Rattle.linear_form.specs.internal.Run.Evaluation.{value}
-use Rattle.linear_form.proofs.KeptParts.{rest_fits}
-use Rattle.linear_form.proofs.Narrow.{fits_negated}
+use Rattle.linear_values.proofs.exported.KeptParts.{rest_fits}
+use Rattle.linear_rows.proofs.exported.Narrow.{fits_negated}
 use Rattle.linear_form.proofs.OneSided.{difference_large, difference_known, difference_told}
 use Rattle.linear_form.proofs.operators.compare_on.Goals as goal
 

@@ -1,5 +1,5 @@
-use Rattle.linear_form.specs.PlainPaths.{lin_of}
-use Rattle.linear_form.proofs.KeptParts.{rest_fits}
+use Rattle.linear_values.specs.PlainValues.{lin_of}
+use Rattle.linear_values.proofs.exported.KeptParts.{rest_fits}
 use Rattle.linear_form.proofs.OperatorRuns.{finite_product_large}
 use Rattle.std.proofs.Common.{sym, ◌∙◌}
 use Rattle.linear_form.proofs.operators.finite_product.Goals as goal

@@ -1,6 +1,7 @@
 use Rattle.std.proofs.Common.{◌∙◌, rules, refl}
 use Rattle.linear_form.proofs.Runs.{gives_first, run_done, run_after}
-use Rattle.linear_form.specs.PlainPaths.{path_of, linear_of}
+use Rattle.linear_form.specs.PlainPaths.{path_of}
+use Rattle.linear_values.specs.PlainValues.{linear_of}
 use Rattle.linear_form.specs.Questions as q
 use Rattle.linear_form.specs.internal.Run.{along}
 use Rattle.linear_form.proofs.OperatorRuns.{imply_none, gives_as}

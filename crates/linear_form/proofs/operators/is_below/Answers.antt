@@ -1,6 +1,7 @@
 use Rattle.std.proofs.Common.{sym, ◌∙◌, subst, ap}
 use Rattle.linear_form.specs.internal.Seen.{Tells}
-use Rattle.linear_form.specs.PlainPaths.{path_of, lin_of}
+use Rattle.linear_form.specs.PlainPaths.{path_of}
+use Rattle.linear_values.specs.PlainValues.{lin_of}
 use Rattle.linear_form.specs.internal.Run.Evaluation.{value}
 use Rattle.linear_form.proofs.OperatorRuns.{run_below_large, run_below_known, run_below_asked}
 use Rattle.linear_form.proofs.operators.is_below.Goals as goal

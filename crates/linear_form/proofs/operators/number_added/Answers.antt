@@ -1,6 +1,6 @@
 use Rattle.std.proofs.Common.{sym, ◌∙◌}
-use Rattle.linear_form.specs.PlainPaths.{lin_of}
-use Rattle.linear_form.proofs.KeptParts.{rest_fits}
+use Rattle.linear_values.specs.PlainValues.{lin_of}
+use Rattle.linear_values.proofs.exported.KeptParts.{rest_fits}
 use Rattle.linear_form.proofs.NumberRuns.{added_number}
 use Rattle.linear_form.proofs.operators.number_added.Goals as goal
 

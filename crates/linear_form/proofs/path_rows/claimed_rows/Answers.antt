@@ -3,7 +3,7 @@ use Rattle.linear_form.specs.PathRows.{path_claims, listed, denial_at}
 use Rattle.linear_form.specs.Paths.{end_at}
 use Rattle.linear_form.specs.PlainPaths.{path_of}
 use Rattle.linear_form.proofs.NormalClaims.{answers_normal}
-use Rattle.linear_form.proofs.RowParts.{ok_then}
+use Rattle.linear_values.proofs.exported.RowParts.{ok_then}
 use Rattle.linear_form.proofs.SignRows.{bits_first, with_denied}
 use Rattle.linear_form.proofs.path_rows.claimed_rows.Goals as goal
 

@@ -1,5 +1,6 @@
 use Rattle.std.proofs.Common.{◌≡◌, length}
-use Rattle.linear_form.specs.PathRows.{all_tightened, path_claims}
+use Rattle.linear_values.specs.Tightening.{all_tightened}
+use Rattle.linear_form.specs.PathRows.{path_claims}
 use Rattle.linear_form.specs.internal.FurtherRows.{rows_with}
 use Rattle.linear_form.specs.internal.NormalPaths.{IsNormalPath}
 use Rattle.linear_form.specs.PlainPaths.{path_of}

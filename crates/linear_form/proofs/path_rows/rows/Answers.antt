@@ -3,7 +3,7 @@ use Rattle.heylo_formula.specs.Goals.{goal_of}
 use Rattle.linear_form.specs.PathRows.{path_claims, listed, denial_at}
 use Rattle.linear_form.specs.Paths.{end_at}
 use Rattle.linear_form.specs.PlainPaths.{path_of}
-use Rattle.linear_form.proofs.RowParts.{ok_then}
+use Rattle.linear_values.proofs.exported.RowParts.{ok_then}
 use Rattle.linear_form.proofs.SignRows.{bits_first, signed}
 use Rattle.linear_form.proofs.FoundRows.{listed_rows, few_rows, typed_rows}
 use Rattle.linear_form.proofs.path_rows.rows.Goals as goal

@@ -1,7 +1,7 @@
 use Rattle.std.proofs.Common.{◌&&◌, ◌∙◌, ap, cond, length, sym}
 use Rattle.std.specs.Prelude.{Some, None}
 use Rattle.std.specs.List.{list_any}
-use Rattle.linear_form.specs.VariableOrder.{occurs_in_row}
+use Rattle.linear_rows.specs.VariableOrder.{occurs_in_row}
 use Rattle.linear_form.proofs.signs.unsigned_variable.Goals as goal
 
 pub returns-then-is_unsigned : goal.returns-then-is_unsigned

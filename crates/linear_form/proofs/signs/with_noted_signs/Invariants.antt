@@ -1,6 +1,6 @@
 use Rattle.std.proofs.Common.{◌≡◌, map, false}
 use Rattle.std.specs.Prelude.{Some}
-use Rattle.linear_form.specs.Lin.{variable}
+use Rattle.linear_values.specs.Lin.{variable}
 use Rattle.linear_form.specs.PathRows.{claim, negated}
 use Rattle.linear_form.specs.internal.FurtherRows.{rows_with, all_unsigned_in}
 use Rattle.heylo_formula.specs.Typing.{types_in}

@@ -1,7 +1,8 @@
 use Rattle.std.proofs.Common.{◌≡◌, ap, ap₂, arith, sym, subst, ◌∙◌}
 use Rattle.std.specs.Prelude.{IfOk}
 use Rattle.linear_form.specs.Query.Query.{done}
-use Rattle.linear_form.specs.PlainPaths.{path_of, linear_of}
+use Rattle.linear_form.specs.PlainPaths.{path_of}
+use Rattle.linear_values.specs.PlainValues.{linear_of}
 use Rattle.linear_form.specs.internal.Nodes.{unary, binary, comparison}
 use Rattle.linear_form.specs.internal.Places.{Result, asked_by, of_two, through, focus_weight, weight, IsKeptFocus}
 use Rattle.linear_form.specs.internal.Steps.{Steps}

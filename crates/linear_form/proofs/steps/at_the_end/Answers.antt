@@ -1,6 +1,6 @@
 use Rattle.std.proofs.Common.{arith, sym}
 use Rattle.std.proofs.lemmas.Bool.Decides.{nat_tests}
-use Rattle.linear_form.specs.PlainPaths.{linear_of}
+use Rattle.linear_values.specs.PlainValues.{linear_of}
 use Rattle.linear_form.proofs.Resuming.{ends_are_given, ends_are_waited_for}
 use Rattle.linear_form.proofs.steps.at_the_end.Goals as goal
 

@@ -1,6 +1,6 @@
 use Rattle.std.proofs.Common.{arith}
 use Rattle.heylo_formula.specs.PlainTrees.{form_of}
-use Rattle.linear_form.specs.PlainPaths.{lin_of}
+use Rattle.linear_values.specs.PlainValues.{lin_of}
 use Rattle.linear_form.specs.Questions.{evaluate}
 use Rattle.linear_form.proofs.DirectValues.{step_yields, yields}
 use Rattle.linear_form.proofs.steps.compared_with.Goals as goal

@@ -1,5 +1,5 @@
-use Rattle.linear_form.specs.PlainPaths.{lin_of}
-use Rattle.linear_form.proofs.KeptParts.{rest_fits}
+use Rattle.linear_values.specs.PlainValues.{lin_of}
+use Rattle.linear_values.proofs.exported.KeptParts.{rest_fits}
 use Rattle.linear_form.proofs.steps.number_after.Goals as goal
 
 pub number_resumed-requires-clause-number : goal.number_resumed-requires-clause-number

@@ -1,6 +1,6 @@
 use Rattle.std.proofs.Common.{refl, ap, sym, subst, arith}
 use Rattle.linear_form.specs.Query.Query.{done}
-use Rattle.linear_form.specs.internal.Run.{IsKeptValue}
+use Rattle.linear_values.specs.Kept.{IsKeptValue}
 use Rattle.linear_form.specs.internal.Places.{Result, resumed}
 use Rattle.linear_form.proofs.KeptOperators.{agree_is, truth_kept}
 use Rattle.heylo_formula.specs.PlainTrees.{form_of, cond_of}

@@ -1,5 +1,5 @@
 use Rattle.std.proofs.Common.{ap, sym, subst, refl, ◌∙◌}
-use Rattle.linear_form.specs.PlainPaths.{linear_of}
+use Rattle.linear_values.specs.PlainValues.{linear_of}
 use Rattle.linear_form.specs.internal.Places.{Result}
 use Rattle.linear_form.specs.internal.Run.{along}
 use Rattle.linear_form.specs.internal.Seen.{Gives, Stops}

@@ -1,5 +1,5 @@
 use Rattle.std.proofs.Common.{◌≡◌}
-use Rattle.linear_form.specs.PlainPaths.{linear_of}
+use Rattle.linear_values.specs.PlainValues.{linear_of}
 use Rattle.linear_form.specs.internal.Places.{frames_weight}
 use Rattle.linear_form.proofs.NumberRuns.{IsHandedOn}
 use Rattle.linear_form.proofs.steps.value_given.Given as goal

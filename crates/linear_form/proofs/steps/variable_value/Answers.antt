@@ -2,7 +2,7 @@ use Rattle.std.proofs.Common.{ap, sym, subst, arith}
 use Rattle.std.specs.Prelude.{Some}
 use Rattle.linear_form.specs.Query.Query.{done}
 use Rattle.linear_form.specs.internal.Places.{Result}
-use Rattle.linear_form.specs.internal.Run.{IsKeptValue}
+use Rattle.linear_values.specs.Kept.{IsKeptValue}
 use Rattle.linear_form.proofs.GoingOn.{with_more}
 use Rattle.linear_form.proofs.Resuming.{for_query}
 use Rattle.linear_form.proofs.KeptValues.{variable_kept}

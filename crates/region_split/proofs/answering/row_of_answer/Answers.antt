@@ -2,7 +2,8 @@ use Rattle.std.proofs.Common.{◌≡◌, [], ◌∷◌, ◌++◌, sym, ap, ◌�
 use Rattle.std.specs.Prelude.{Some, None}
 use Rattle.heylo_formula.specs.Goals.{goal_of}
 use Rattle.heylo_formula.specs.Typing.{types_in}
-use Rattle.linear_form.specs.PathRows.{all_tightened, path_claims}
+use Rattle.linear_values.specs.Tightening.{all_tightened}
+use Rattle.linear_form.specs.PathRows.{path_claims}
 use Rattle.linear_form.specs.PlainPaths.{path_of, taken_of}
 use Rattle.linear_form.specs.declared.paths.Taken as T
 use Rattle.region_split.proofs.Climbing.{snoc_first, snoc_last}

@@ -2,7 +2,7 @@ use Rattle.std.proofs.Common.{length, sym, subst, refl, true, false}
 use Rattle.std.specs.List.{All}
 use Rattle.heylo_formula.specs.Goals.{goal_of}
 use Rattle.linear_form.specs.PlainPaths.{path_of}
-use Rattle.linear_form.specs.RowLists.{IsNumericRow}
+use Rattle.linear_rows.specs.VariableTypes.{IsNumericRow}
 use Rattle.region_split.specs.declared.found.Found.{Found}
 use Rattle.region_split.proofs.Steps.{path_length, refuted_cell, further_cell, not_plain_there}
 use Rattle.region_split.proofs.cell.judge_further.Goals as goal

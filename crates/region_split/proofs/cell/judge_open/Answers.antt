@@ -2,7 +2,7 @@ use Rattle.std.proofs.Common.{length, arith, sym, subst, refl, true, false}
 use Rattle.std.specs.List.{All}
 use Rattle.heylo_formula.specs.Goals.{goal_of}
 use Rattle.linear_form.specs.PlainPaths.{path_of}
-use Rattle.linear_form.specs.RowLists.{IsNumericRow}
+use Rattle.linear_rows.specs.VariableTypes.{IsNumericRow}
 use Rattle.region_split.proofs.Steps.{path_length, refuted_cell, point_cell, break_cell, point_length, not_plain_there}
 use Rattle.region_split.proofs.cell.judge_open.Goals as goal
 

@@ -4,7 +4,7 @@ use Rattle.heylo_formula.specs.Goals.{Goal, goal_of}
 use Rattle.heylo_formula.specs.TypedGoals.{IsTypedGoal, HasItsVariables}
 use Rattle.region_split.specs.Decisions.{IsDecision}
 use Rattle.region_split.specs.Meanings.{Tells}
-use Rattle.region_split.specs.declared.decisions.Decision.{Decision}
+use Rattle.goal_answers.specs.declared.decisions.Decision.{Decision}
 use Rattle.region_split.proofs.Meaning.{decision_tells}
 use Rattle.region_split.proofs.deciding.decide.Goals as goal
 

@@ -4,7 +4,7 @@ use Rattle.linear_form.specs.Asked.{Answers}
 use Rattle.linear_form.specs.Paths.{IsPath, end_at}
 use Rattle.linear_form.specs.PlainPaths.{path_of}
 use Rattle.linear_form.specs.Places.{IsOn}
-use Rattle.linear_elim.specs.declared.answers.Cause.TheVariants.{Bits}
+use Rattle.goal_answers.specs.declared.causes.Cause.TheVariants.{Bits}
 use Rattle.region_split.proofs.PathAnswers.{bits_there, question_there}
 use Rattle.region_split.proofs.Steps.{come_path, step_below, front_ends}
 use Rattle.region_split.proofs.descending.past.Goals as goal

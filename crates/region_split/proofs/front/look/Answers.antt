@@ -3,10 +3,11 @@ use Rattle.std.specs.Prelude.{Some, None}
 use Rattle.heylo_formula.specs.Goals.{goal_of}
 use Rattle.heylo_formula.specs.Typing.{types_in}
 use Rattle.linear_form.specs.Paths.{IsPath}
-use Rattle.linear_form.specs.PathRows.{all_tightened, path_claims}
+use Rattle.linear_values.specs.Tightening.{all_tightened}
+use Rattle.linear_form.specs.PathRows.{path_claims}
 use Rattle.linear_form.specs.PlainPaths.{path_of}
 use Rattle.region_split.specs.internal.Trails.{AreRowsSoFar}
-use Rattle.linear_form.specs.Occurrences.{AreOccurrences}
+use Rattle.linear_rows.specs.Occurrences.{AreOccurrences}
 use Rattle.linear_form.specs.RowLists.{ArePathRows}
 use Rattle.region_split.proofs.Trails.{rows_so_far, stands_with, unstated_path}
 use Rattle.region_split.proofs.PathAnswers.{no_rows}

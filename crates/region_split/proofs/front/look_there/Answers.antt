@@ -4,11 +4,11 @@ use Rattle.std.specs.List.{All}
 use Rattle.heylo_formula.specs.Goals.{goal_of}
 use Rattle.linear_form.specs.Paths.{IsPath}
 use Rattle.linear_form.specs.PathRows.{rows_of}
-use Rattle.linear_form.specs.Row.{IsRow}
-use Rattle.linear_form.specs.RowLists.{IsNumericRow}
+use Rattle.linear_rows.specs.Row.{IsRow}
+use Rattle.linear_rows.specs.VariableTypes.{IsNumericRow}
 use Rattle.linear_form.specs.PlainPaths.{path_of}
 use Rattle.linear_form.specs.RowLists.{ArePathRows}
-use Rattle.linear_elim.specs.Searches.{Remembers}
+use Rattle.linear_guess.specs.Searches.{Remembers}
 use Rattle.region_split.proofs.Trails.{looked, two_parts, starts_length, remembers_list}
 use Rattle.region_split.proofs.PathAnswers.{no_rows, kept_where_met}
 use Rattle.region_split.proofs.front.look_there.Goals as goal

@@ -1,4 +1,4 @@
-use Rattle.farkas_check.specs.Trees.{tree_of}
+use Rattle.goal_answers.specs.Trees.{tree_of}
 use Rattle.region_split.proofs.Leaves.{deep_first, deep_right, grown_split}
 use Rattle.region_split.proofs.growth.joined.Goals as goal
 

@@ -1,7 +1,8 @@
 use Rattle.std.proofs.Common.{◌≡◌, [], ◌∷◌, subst}
 use Rattle.std.specs.Prelude.{Some, not}
 use Rattle.heylo_formula.specs.Typing.{types_in}
-use Rattle.linear_form.specs.PathRows.{all_tightened, answer_claims}
+use Rattle.linear_values.specs.Tightening.{all_tightened}
+use Rattle.linear_form.specs.PathRows.{answer_claims}
 use Rattle.linear_form.specs.PlainPaths.{atom_of}
 use Rattle.region_split.proofs.KnownTrails.{are_answers}
 use Rattle.region_split.proofs.repeats.again.Goals as goal

@@ -1,6 +1,6 @@
 use Rattle.std.proofs.Common.{take, length, length-append, [], ◌∷◌, ap, ◌∙◌, sym, subst, arith}
-use Rattle.linear_form.specs.Occurrences.{AreOccurrences}
-use Rattle.linear_elim.specs.Searches.{Remembers}
+use Rattle.linear_rows.specs.Occurrences.{AreOccurrences}
+use Rattle.linear_guess.specs.Searches.{Remembers}
 use Rattle.region_split.proofs.Trails.{stood_before, no_places, taken_twice}
 use Rattle.region_split.proofs.trail.back.Goals as goal
 

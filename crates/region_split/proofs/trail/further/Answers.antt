@@ -1,5 +1,5 @@
 use Rattle.std.proofs.Common.{length, take, refl, sym, ap, ◌∙◌, subst, arith}
-use Rattle.linear_form.specs.Occurrences.{AreOccurrences}
+use Rattle.linear_rows.specs.Occurrences.{AreOccurrences}
 use Rattle.region_split.proofs.Trails.{stands_further, noted_first}
 use Rattle.region_split.proofs.trail.further.Goals as goal
 

@@ -1,8 +1,8 @@
 use Rattle.std.proofs.Common.{◌≡◌, [], ◌∷◌, ◌++◌, ap, ◌∙◌, arith, length, sym, subst}
 use Rattle.heylo_formula.specs.Goals.{goal_of}
-use Rattle.linear_form.specs.Occurrences.{AreOccurrences}
+use Rattle.linear_rows.specs.Occurrences.{AreOccurrences}
 use Rattle.linear_form.specs.PlainPaths.{path_of}
-use Rattle.linear_elim.specs.Searches.{Remembers}
+use Rattle.linear_guess.specs.Searches.{Remembers}
 use Rattle.region_split.specs.declared.trail.Way.TheVariants.{Open}
 use Rattle.std.proofs.lemmas.List.Elements.{All-nil}
 use Rattle.region_split.specs.internal.Known.{AreKnown, IsKnown}

@@ -7,9 +7,9 @@ use Rattle.linear_form.specs.PathRows.{rows_of, IsPlainAt}
 use Rattle.linear_form.specs.PlainPaths.{path_of}
 use Rattle.linear_form.specs.Cells.{IsFront}
 use Rattle.linear_form.specs.declared.asking.Ask as K
-use Rattle.linear_elim.specs.declared.answers.Cause.TheVariants.{Bits}
+use Rattle.goal_answers.specs.declared.causes.Cause.TheVariants.{Bits}
 use Rattle.linear_form.specs.RowLists.{ArePathRows}
-use Rattle.linear_elim.specs.Searches.{Remembers}
+use Rattle.linear_guess.specs.Searches.{Remembers}
 use Rattle.region_split.specs.internal.Seen.{AreRowsAt, EndsWalk, IsEnd}
 use Rattle.region_split.specs.internal.Progress.{IsJudgedCell}
 use Rattle.region_split.proofs.PathAnswers.{no_rows}

@@ -4,7 +4,7 @@ use Rattle.heyvl_types.specs.Acts.{procedure_at}
 use Rattle.heyvl_types.specs.PlainActs.{procedures_of}
 use Rattle.heyvl_types.specs.Rules.{Each}
 use Rattle.ranking_rule.specs.Rankings.{RankedLoop}
-use Rattle.verdict_report.specs.declared.answers.NamedGoal.{NamedGoal}
+use Rattle.goal_answers.specs.declared.named_goals.NamedGoal.{NamedGoal}
 use Rattle.verify_core.specs.Rankings.{AreRankingGoals, ranked_loops}
 use Rattle.verify_core.proofs.rankings.rankings.Given as goal
 

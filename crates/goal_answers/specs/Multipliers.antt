@@ -1,0 +1,8 @@
+-- Multipliers by row index.
+use Rattle.std.specs.Prelude.{ℕ, ◌<◌, List, [], ◌∷◌}
+use Rattle.std.specs.List.{All}
+
+-- The indexes grow.
+abbrev pub IsGrowing : List (ℕ × ℕ) → Type 0
+IsGrowing [] = Unit {0}
+IsGrowing (m ∷ ms) = All (λ n. m.0 < n.0) ms × IsGrowing ms

@@ -1,0 +1,14 @@
+//! Answers of goals as plain types: decisions and their causes, certificates.
+#![tactic(auto)]
+
+mod causes;
+mod decisions;
+mod misses;
+mod named_goals;
+mod trees;
+
+pub use causes::{Broken, Cause};
+pub use decisions::Decision;
+pub use misses::Miss;
+pub use named_goals::NamedGoal;
+pub use trees::{Checked, GoalCert, Tree};

@@ -1,5 +1,0 @@
-use Rattle.linear_elim.proofs.Places.{lengths_differ}
-use Rattle.linear_elim.proofs.gathering.have_same_terms.Goals as goal
-
-pub returns-then-a-b : goal.returns-then-a-b
-returns-then-a-b c = lengths_differ _ _ c.if-a-b.true

@@ -1,2 +1,0 @@
--- Meant for the proofs of other crates. Rows that multipliers combine to a contradiction have no solution.
-pub use Rattle.linear_form.proofs.Combinations.{contradiction_unmet, contradiction_unsolvable, unmet}

@@ -1,3 +1,0 @@
--- Meant for the proofs of other crates. A point over a common denominator and fractions meet the same rows.
-pub use Rattle.linear_form.proofs.Fractions.{meets_alike, point_of, point_same, solvable_is}
-unfoldable pub use Rattle.linear_form.proofs.Fractions.{Same}

@@ -1,3 +1,0 @@
--- Meant for the proofs of other crates. The value that is chosen in an interval is inside it, and the greedy choice is unique.
-pub use Rattle.linear_form.proofs.GreedyChoices.{AreWhole, completed, chosen_whole, zero_whole}
-pub use Rattle.linear_form.proofs.GreedyUnique.{choices_unique, points_unique}

@@ -1,2 +1,0 @@
--- Meant for the proofs of other crates. A point with one variable moved, and points that agree elsewhere.
-pub use Rattle.linear_form.proofs.Moves.{agrees-moved, coefficient-add, coefficient-is, left_side-moved, moved, only}

@@ -1,6 +1,0 @@
-use Rattle.linear_form.specs.internal.Columns.{number_in}
-use Rattle.linear_form.proofs.PartialSums.{Sums}
-use Rattle.linear_form.proofs.multipliers.total.Given as goal
-
-abbrev pub invariant-loop-index : goal.invariant-loop-index
-invariant-loop-index l = Sums (number_in l.column) l.sum l.index-index l.multipliers l.rows

@@ -1,6 +1,0 @@
-use Rattle.linear_form.proofs.Combinations.{contradiction_unsolvable}
-use Rattle.linear_form.proofs.Fractions.{solvable_is}
-use Rattle.linear_form.proofs.row_laws.solutions_of_rows.Goals as goal
-
-pub returns : goal.returns
-returns c = record { contradictions = contradiction_unsolvable; points = solvable_is }

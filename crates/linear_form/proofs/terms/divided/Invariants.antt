@@ -1,7 +1,0 @@
-use Rattle.std.proofs.Common.{◌≡◌, ◌++◌, drop}
-use Rattle.linear_form.specs.Merging.{are_narrow}
-use Rattle.linear_form.specs.Divisors.{divided_terms}
-use Rattle.linear_form.proofs.terms.divided.Given as goal
-
-abbrev pub invariant-loop-v : goal.invariant-loop-v
-invariant-loop-v l = record { so_far : l.out.items ++ divided_terms l.divisor (drop l.v-index l.terms) ≡ divided_terms l.fn.divisor l.fn.terms; fits : are_narrow (divided_terms l.divisor (drop l.v-index l.terms)) ≡ are_narrow (divided_terms l.fn.divisor l.fn.terms) }

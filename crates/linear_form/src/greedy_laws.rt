@@ -1,9 +1,0 @@
-//! The laws of the greedy choice. The function does nothing: its contract is the law.
-
-ghost use Rattle.linear_form.specs.GreedyLaws as law;
-
-/// For solvable rows the greedy choice ends in one way, and so there is at most one greedy point.
-pub fn greedy_choices_are_unique()
-    ensures choices { law.ChoicesAreUnique }
-    ensures points { law.PointsAreUnique }
-{}

@@ -1,0 +1,4 @@
+pub mod SpotRows
+pub mod SpotExamples
+pub mod KnownRows
+pub mod exported

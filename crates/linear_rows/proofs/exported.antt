@@ -1,0 +1,9 @@
+pub mod Sums
+pub mod Between
+pub mod Moves
+pub mod Normal
+pub mod Fractions
+pub mod Combinations
+pub mod Narrow
+pub mod GreedyChoices
+pub mod SameTerms

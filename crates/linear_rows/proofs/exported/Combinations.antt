@@ -1,0 +1,2 @@
+-- Meant for the proofs of other crates. Rows that multipliers combine to a contradiction have no solution.
+pub use Rattle.linear_rows.proofs.Combinations.{contradiction_unmet, contradiction_unsolvable, unmet}

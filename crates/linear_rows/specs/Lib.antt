@@ -1,0 +1,16 @@
+pub mod Terms
+pub mod Row
+pub mod Points
+pub mod Solutions
+pub mod Combination
+pub mod VariableOrder
+pub mod Occurrences
+pub mod RowLaws
+pub mod GreedyPoint
+pub mod GreedyLaws
+pub mod Merging
+pub mod Divisors
+pub mod Numbers
+pub mod VariableTypes
+pub mod SameTerms
+pub mod internal

@@ -1,0 +1,14 @@
+-- Lists of terms that are the same.
+use Rattle.std.specs.Prelude.{ℕ, List, [], ◌∷◌, ℤ, pos, negsuc, Bool, true, false, eqb, ◌&&◌}
+
+abbrev pub same_number : ℤ → ℤ → Bool
+same_number (pos a) (pos b) = eqb a b
+same_number (pos a) (negsuc b) = false
+same_number (negsuc a) (pos b) = false
+same_number (negsuc a) (negsuc b) = eqb a b
+
+abbrev pub same_terms : List (ℕ × ℤ) → List (ℕ × ℤ) → Bool
+same_terms [] [] = true
+same_terms [] (u ∷ us) = false
+same_terms (t ∷ ts) [] = false
+same_terms (t ∷ ts) (u ∷ us) = (eqb t.0 u.0 && same_number t.1 u.1) && same_terms ts us

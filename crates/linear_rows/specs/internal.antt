@@ -1,0 +1,3 @@
+pub mod NextTerms
+pub mod Columns
+pub mod FirstRows

@@ -1,0 +1,9 @@
+pub mod Lin
+pub mod Tightening
+pub mod Operator
+pub mod WholeTimes
+pub mod Nonzero
+pub mod PlainValues
+pub mod Kept
+pub mod Claims
+pub mod internal

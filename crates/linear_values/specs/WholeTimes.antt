@@ -1,0 +1,9 @@
+-- Terms that a number brings to whole factors.
+use Rattle.heyvl_num.specs.Rational.{Rational, ◌*ʳ◌}
+use Rattle.linear_values.specs.Lin.{Terms}
+use Rattle.std.specs.Prelude.{◌≡◌, [], ◌∷◌}
+
+-- Times a number, each coefficient is whole.
+abbrev pub AreWholeTimes : Rational → Terms → Type 0
+AreWholeTimes w [] = Unit {0}
+AreWholeTimes w (t ∷ ts) = ((w *ʳ t.1).den ≡ 1) × AreWholeTimes w ts

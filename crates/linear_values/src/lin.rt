@@ -1,0 +1,147 @@
+//! Linear values.
+
+ghost use Rattle.std.specs.Prelude.{◌≡◌, IfOk, true};
+ghost use Rattle.heyvl_num.specs.Rational.{zeroʳ};
+ghost use Rattle.linear_values.specs.Lin.{all_fit, is_sized as lin_is_sized, constant as constant_lin, variable as variable_lin, plus as lin_plus, minus as lin_minus, scaled as lin_scaled, times as times_terms};
+ghost use Rattle.linear_rows.specs.Numbers.{fits as number_fits};
+ghost use Rattle.linear_values.specs.Operator.{has_no_terms};
+ghost use Rattle.linear_values.specs.Kept.{IsKept};
+ghost use Rattle.linear_values.specs.PlainValues.{lin_of, linear_of};
+
+use crate::linear_terms::merged;
+use crate::numbers::{fits, is_zero, one, product, signed, sum, zero};
+use heyvl_num::Frac;
+use std::alloc::{AllocError, Global};
+
+/// A linear value: multiples of variables, by growing variable number and without zeros, and a constant.
+#[derive(Drop)]
+pub struct Lin {
+    pub terms: Vec<(u32, Frac)>,
+    pub rest: Frac,
+}
+
+pub fn constant(alloc: Global, x: Frac) -> Lin
+    ensures { lin_of result ≡ constant_lin x }
+{
+    Lin {
+        terms: Vec::new(alloc),
+        rest: x,
+    }
+}
+
+pub fn variable(alloc: Global, x: u32) -> Result<Lin, AllocError>
+    ensures { IfOk result (λ a. lin_of a ≡ variable_lin x) }
+{
+    let mut terms = Vec::with_capacity(alloc, 1)?;
+    terms.push((x, one()))?;
+    Ok(Lin {
+        terms,
+        rest: zero(),
+    })
+}
+
+/// Whether a linear value holds no variable.
+pub fn is_constant(a: &Lin) -> bool
+    ensures { result ≡ has_no_terms (lin_of a.now).terms }
+{
+    a.terms.as_slice().split_first().is_none()
+}
+
+/// Whether each coefficient and the constant are below 2^62.
+#[tactic(auto, unfolding(crate::specs::Lin::is_sized))]
+pub fn is_sized(a: &Lin) -> bool
+    ensures { result ≡ lin_is_sized (lin_of a.now) }
+{
+    fits(&a.rest) && each_fits(&a.terms)
+}
+
+fn each_fits(terms: &[(u32, Frac)]) -> bool
+    ensures { result ≡ all_fit terms.now }
+{
+    let mut rest = terms;
+    'terms: while let Some((term, others)) = rest.split_first() {
+        if !fits(&term.1) {
+            return false;
+        }
+        rest = others;
+    }
+    true
+}
+
+#[tactic(auto, unfolding(crate::specs::Lin::plus))]
+pub fn plus(alloc: Global, a: &Lin, b: &Lin) -> Result<Lin, AllocError>
+    requires left { IsKept (lin_of a.now) }
+    requires right { IsKept (lin_of b.now) }
+    ensures { IfOk result (λ c. lin_of c ≡ lin_plus (lin_of a.now) (lin_of b.now)) }
+{
+    let terms = merged(alloc, &b.terms, false, &a.terms)?;
+    Ok(Lin {
+        terms,
+        rest: sum(&a.rest, &b.rest),
+    })
+}
+
+#[tactic(auto, unfolding(crate::specs::Lin::scaled))]
+pub fn scaled(alloc: Global, w: &Frac, a: &Lin) -> Result<Lin, AllocError>
+    requires factor { number_fits w.now ≡ true }
+    requires value { IsKept (lin_of a.now) }
+    ensures { IfOk result (λ c. lin_of c ≡ lin_scaled w.now (lin_of a.now)) }
+{
+    if is_zero(w) {
+        Ok(constant(alloc, zero()))
+    } else {
+        let terms = times(alloc, w, &a.terms)?;
+        Ok(Lin {
+            terms,
+            rest: product(w, &a.rest),
+        })
+    }
+}
+
+fn times(alloc: Global, w: &Frac, terms: &[(u32, Frac)]) -> Result<Vec<(u32, Frac)>, AllocError>
+    requires factor { number_fits w.now ≡ true }
+    requires coefficients { all_fit terms.now ≡ true }
+    ensures { IfOk result (λ v. v.items ≡ times_terms w.now terms.now) }
+{
+    let mut made = Vec::with_capacity(alloc, terms.len())?;
+    let mut rest = terms;
+    'terms: while let Some((term, others)) = rest.split_first() {
+        made.push((term.0, product(w, &term.1)))?;
+        rest = others;
+    }
+    Ok(made)
+}
+
+pub fn minus(alloc: Global, a: &Lin, b: &Lin) -> Result<Lin, AllocError>
+    requires left { IsKept (lin_of a.now) }
+    requires right { IsKept (lin_of b.now) }
+    ensures { IfOk result (λ c. lin_of c ≡ lin_minus (lin_of a.now) (lin_of b.now)) }
+{
+    let terms = merged(alloc, &b.terms, true, &a.terms)?;
+    Ok(Lin {
+        terms,
+        rest: sum(&a.rest, &signed(&b.rest, true)),
+    })
+}
+
+/// The same value again.
+pub fn copy(alloc: Global, a: &Lin) -> Result<Lin, AllocError>
+    ensures { IfOk result (λ c. lin_of c ≡ lin_of a.now) }
+{
+    let mut terms = Vec::new(alloc);
+    terms.extend_from_slice(&a.terms)?;
+    Ok(Lin {
+        terms,
+        rest: a.rest,
+    })
+}
+
+/// The same value again, where None stands for infinity.
+pub fn copy_value(alloc: Global, a: &Option<Lin>) -> Result<Option<Lin>, AllocError>
+    ensures { IfOk result (λ c. linear_of c ≡ linear_of a.now) }
+{
+    match a {
+        None => Ok(None),
+        Some(value) => Ok(Some(copy(alloc, value)?)),
+    }
+}
