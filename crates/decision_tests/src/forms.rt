@@ -4,7 +4,7 @@ use crate::number_tests::extended;
 use crate::texts::{fraction, index, types_of};
 use heylo_formula::{Cond, Form, Goal, Ty};
 use heyvl_num::{Ext, Frac};
-use heyvl_syntax::Span;
+use heyvl_places::Span;
 use std::alloc::{AllocError, Global};
 
 /// An operator of two forms.

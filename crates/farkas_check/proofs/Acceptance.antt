@@ -1,7 +1,7 @@
 -- A tree is accepted or refused at one place, and not both.
 use Rattle.std.proofs.Common.{◌≡◌, List, [], refl, sym, ◌∙◌, subst, Bool, true, false}
 use Rattle.std.specs.Prelude.{Some, None}
-use Rattle.heyvl_syntax.specs.declared.spans.Span.{Span}
+use Rattle.heyvl_places.specs.declared.spans.Span.{Span}
 use Rattle.heylo_formula.specs.Goals.{Goal}
 use Rattle.linear_form.specs.Query.{Query, Atom, Taken, onto}
 use Rattle.linear_form.specs.Query.Query.{ask}

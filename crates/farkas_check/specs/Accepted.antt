@@ -1,7 +1,7 @@
 -- Which certificates are accepted, and at which node another one is refused first. This project's own; what is a contradiction
 -- goes back to Farkas.
 use Rattle.std.specs.Prelude.{◌≡◌, ℕ, List, [], Bool, true, false, Some, None, is_some, map}
-use Rattle.heyvl_syntax.specs.declared.spans.Span.{Span}
+use Rattle.heyvl_places.specs.declared.spans.Span.{Span}
 use Rattle.heylo_formula.specs.Goals.{Goal}
 use Rattle.linear_form.specs.Query.{Atom, Taken, onto}
 use Rattle.linear_form.specs.Paths.{Asks, end_at}

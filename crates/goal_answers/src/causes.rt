@@ -2,7 +2,7 @@
 
 use heylo_formula::Val;
 use heyvl_num::Frac;
-use heyvl_syntax::Span;
+use heyvl_places::Span;
 
 /// A whole variable whose interval holds no whole number, with the values chosen before, in the order of choice, and the two
 /// ends of the interval, each of which may belong to it.

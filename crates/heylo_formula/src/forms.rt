@@ -2,7 +2,7 @@
 
 use crate::types::Ty;
 use heyvl_num::{Ext, Frac};
-use heyvl_syntax::Span;
+use heyvl_places::Span;
 
 /// A formula of HeyLo: a tree that has a number, or infinity, as its value in each state. Variables go by number.
 #[derive(Drop)]

@@ -2,7 +2,7 @@
 
 use crate::forms::Form;
 use crate::types::Ty;
-use heyvl_syntax::Name;
+use heyvl_places::Name;
 
 /// An inequality that is to hold for all values of the variables. An upper goal asks that the stated form is at least the
 /// found one, a lower goal that it is at most the found one. Both forms are free of binders.

@@ -6,7 +6,7 @@ use Rattle.heyvl_parse.specs.declared.stops.PartStop.{PartStop}
 use Rattle.heyvl_syntax.specs.Expressions.{Expression}
 use Rattle.heyvl_syntax.specs.Grammar.{ranks}
 use Rattle.heyvl_syntax.specs.declared.operators.BinaryOp.{BinaryOp}
-use Rattle.heyvl_syntax.specs.declared.spans.Span.{Span}
+use Rattle.heyvl_places.specs.declared.spans.Span.{Span}
 use Rattle.heyvl_syntax.specs.declared.tokens.Token.{Token}
 use Rattle.std.proofs.Common.{Bool, Err, IsErr, IsErrAnd, List, None, Ok, Option, Result, Some, [], ap, arith, cond, false, length, nat_eq, nat_le, refl, subst, suc, sym, true, zero, ◌&&◌, ◌+◌, ◌-◌, ◌<◌, ◌∙◌, ◌∷◌, ◌≡◌, ◌≤◌, ℕ}
 use Rattle.std.proofs.lemmas.Bool.Decides.{nat_tests}

@@ -1,9 +1,9 @@
 -- Where the last token of a text ends.
 use Rattle.heyvl_parse.specs.internal.Reading.{end_of}
+use Rattle.heyvl_places.specs.declared.spans.Span.{Span}
 use Rattle.heyvl_syntax.specs.Expressions.{Expression}
 use Rattle.heyvl_syntax.specs.Grammar.{IsExpr}
 use Rattle.heyvl_syntax.specs.Productions.{IsAt, IsOne, extent, last_end, ◌then◌}
-use Rattle.heyvl_syntax.specs.declared.spans.Span.{Span}
 use Rattle.heyvl_syntax.specs.declared.tokens.Token.{Token}
 use Rattle.heyvl_syntax.specs.declared.tokens.TokenKind.{TokenKind}
 use Rattle.std.proofs.Common.{List, [], ap, arith, length, length-append, refl, sym, ◌++◌, ◌<◌, ◌∙◌, ◌∷◌, ◌≡◌, ℕ}

@@ -4,7 +4,7 @@ use Rattle.heyvl_parse.specs.internal.Reading.{Bad, Got, Out, Read, pair, ◌>>=
 use Rattle.heyvl_parse.specs.internal.Results.{Gives}
 use Rattle.heyvl_parse.specs.declared.stops.PartStop.TheVariants.{Fault, Memory}
 use Rattle.heyvl_parse.specs.declared.stops.PartStop.{PartStop}
-use Rattle.heyvl_syntax.specs.declared.spans.Span.{Span}
+use Rattle.heyvl_places.specs.declared.spans.Span.{Span}
 use Rattle.heyvl_syntax.specs.declared.tokens.Token.{Token}
 use Rattle.heyvl_syntax.specs.declared.tokens.TokenKind.{TokenKind}
 use Rattle.std.proofs.Common.{Bool, Bor, Err, IfOk, List, MatchResult, Ok, Result, arith, length, refl, ◌<◌, ◌≡◌, ◌≤◌, ℕ}

@@ -7,13 +7,13 @@ use Rattle.heyvl_parse.specs.internal.Combinators.{is_key, kind, no_kind, sign, 
 use Rattle.heyvl_parse.specs.internal.Reading.{Got, type_name}
 use Rattle.heyvl_parse.specs.internal.Rights.{two}
 use Rattle.heyvl_parse.specs.internal.Statements.{by_key, is_reward, key_check, key_havoc, key_pick, key_validate}
+use Rattle.heyvl_places.specs.declared.checks.CheckKind.TheVariants as checks
+use Rattle.heyvl_places.specs.declared.checks.CheckKind.{CheckKind}
+use Rattle.heyvl_places.specs.declared.spans.Span.{Span}
 use Rattle.heyvl_syntax.specs.Grammar.{IsType, check_key, havoc_key, pick_key, validate_key}
 use Rattle.heyvl_syntax.specs.Productions.{IsAt, IsKey, IsOne, at, ◌or◌, ◌then◌}
 use Rattle.heyvl_syntax.specs.declared.keys.Key.TheVariants as keys
 use Rattle.heyvl_syntax.specs.declared.keys.Key.{Key}
-use Rattle.heyvl_syntax.specs.declared.spans.Span.{Span}
-use Rattle.heyvl_syntax.specs.declared.statements.CheckKind.TheVariants as checks
-use Rattle.heyvl_syntax.specs.declared.statements.CheckKind.{CheckKind}
 use Rattle.heyvl_syntax.specs.declared.tokens.Token.{Token}
 use Rattle.heyvl_syntax.specs.declared.tokens.TokenKind.TheVariants as kinds
 use Rattle.heyvl_syntax.specs.declared.tokens.TokenKind.{TokenKind}

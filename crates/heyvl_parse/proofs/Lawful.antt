@@ -3,11 +3,11 @@ use Rattle.heyvl_parse.proofs.Local.{Local, LocalAt, Moves, local_bind, local_go
 use Rattle.heyvl_parse.proofs.Right.{Holds, Pair, Right, RightAt, Some_text, is_mark_true, nowhere, right_as, right_bind, right_map, right_one, right_pair}
 use Rattle.heyvl_parse.specs.internal.Combinators.{cons, each, each_if, either, lead, list, list0, list_if, no_kind, optional, refuse, sign, some_if, spanned, starts, taken, trail, with_front}
 use Rattle.heyvl_parse.specs.internal.Reading.{Bad, Got, Out, Read, is_mark, mapped, one, pair, ◌>>=◌}
+use Rattle.heyvl_places.specs.declared.spans.Span.{Span}
 use Rattle.heyvl_syntax.proofs.exported.Sequences.{then_assoc}
 use Rattle.heyvl_syntax.specs.Productions.{IsAt, IsEach, IsList, IsList0, IsMark, IsMore, IsOne, IsOptional, at, extent, ◌then◌}
 use Rattle.heyvl_syntax.specs.declared.marks.Mark.TheVariants as marks
 use Rattle.heyvl_syntax.specs.declared.marks.Mark.{Mark}
-use Rattle.heyvl_syntax.specs.declared.spans.Span.{Span}
 use Rattle.heyvl_syntax.specs.declared.tokens.Token.{Token}
 use Rattle.heyvl_syntax.specs.declared.tokens.TokenKind.TheVariants as kinds
 use Rattle.heyvl_syntax.specs.declared.tokens.TokenKind.{TokenKind}

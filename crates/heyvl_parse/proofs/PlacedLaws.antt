@@ -3,8 +3,8 @@ use Rattle.heyvl_parse.proofs.Lawful.{Laws, spanned_laws}
 use Rattle.heyvl_parse.proofs.Right.{right_as}
 use Rattle.heyvl_parse.specs.internal.Combinators.{spanned}
 use Rattle.heyvl_parse.specs.internal.Reading.{Read}
+use Rattle.heyvl_places.specs.declared.spans.Span.{Span}
 use Rattle.heyvl_syntax.specs.Productions.{extent}
-use Rattle.heyvl_syntax.specs.declared.spans.Span.{Span}
 use Rattle.heyvl_syntax.specs.declared.tokens.Token.{Token}
 use Rattle.heyvl_syntax.specs.declared.tokens.TokenKind.{TokenKind}
 use Rattle.std.proofs.Common.{Bool, List, refl, ◌≡◌, ℕ}

@@ -8,13 +8,13 @@ use Rattle.heyvl_parse.specs.internal.Combinators.{each, either, is_operator, le
 use Rattle.heyvl_parse.specs.internal.Reading.{Got, is_mark, mapped, pair, word, ◌>>=◌}
 use Rattle.heyvl_parse.specs.internal.Rights.{call, expr, is_call, two}
 use Rattle.heyvl_parse.specs.internal.Statements.{alone, assigned, assigned_if, checked, declared, given, havocked, is_reward, rewarded}
+use Rattle.heyvl_places.specs.declared.spans.Span.{Span}
 use Rattle.heyvl_syntax.specs.Expressions.{Expression}
 use Rattle.heyvl_syntax.specs.Grammar.{IsAssign, IsFull, IsGiven, IsRight, IsType, check_key, havoc_key}
 use Rattle.heyvl_syntax.specs.Productions.{IsKey, IsList, IsMark, IsName, IsOptional, ◌or◌, ◌then◌}
 use Rattle.heyvl_syntax.specs.Statements.{RightSide}
 use Rattle.heyvl_syntax.specs.declared.keys.Key.TheVariants as keys
 use Rattle.heyvl_syntax.specs.declared.marks.Mark.TheVariants as marks
-use Rattle.heyvl_syntax.specs.declared.spans.Span.{Span}
 use Rattle.heyvl_syntax.specs.declared.tokens.Token.{Token}
 use Rattle.heyvl_syntax.specs.declared.tokens.TokenKind.TheVariants as kinds
 use Rattle.heyvl_syntax.specs.declared.types.TypeName.{TypeName}

@@ -15,6 +15,9 @@ use Rattle.heyvl_parse.specs.internal.Loops.{rules}
 use Rattle.heyvl_parse.specs.internal.Reading.{Got, is_mark}
 use Rattle.heyvl_parse.specs.internal.Rights.{two}
 use Rattle.heyvl_parse.specs.internal.Statements.{BlockReader, IfParts, assign_tree, assigned, by_key, check_tree, checked, declared, havoc_tree, havocked, if_parts, if_tree, is_opening, key_opening, key_validate, loop_tree, looped, opening, opens, rewarded, stmt, stmt_by, var_tree}
+use Rattle.heyvl_places.specs.declared.checks.CheckKind.TheVariants as checks
+use Rattle.heyvl_places.specs.declared.checks.CheckKind.{CheckKind}
+use Rattle.heyvl_places.specs.declared.spans.Span.{Span}
 use Rattle.heyvl_syntax.proofs.exported.Sequences.{then_assoc}
 use Rattle.heyvl_syntax.specs.Expressions.{Expression}
 use Rattle.heyvl_syntax.specs.Grammar.{IsBlock, IsElseIfs, IsFull, IsRule, IsStmt, check_key, havoc_key, validate_key}
@@ -22,9 +25,6 @@ use Rattle.heyvl_syntax.specs.Productions.{IsEach, IsKey, IsList, IsName, at, ex
 use Rattle.heyvl_syntax.specs.Statements.{Arms, Block, LoopRule, RightSide, Statement, arms_of}
 use Rattle.heyvl_syntax.specs.declared.keys.Key.TheVariants as keys
 use Rattle.heyvl_syntax.specs.declared.marks.Mark.TheVariants as marks
-use Rattle.heyvl_syntax.specs.declared.spans.Span.{Span}
-use Rattle.heyvl_syntax.specs.declared.statements.CheckKind.TheVariants as checks
-use Rattle.heyvl_syntax.specs.declared.statements.CheckKind.{CheckKind}
 use Rattle.heyvl_syntax.specs.declared.tokens.Token.{Token}
 use Rattle.heyvl_syntax.specs.declared.tokens.TokenKind.TheVariants as kinds
 use Rattle.heyvl_syntax.specs.declared.tokens.TokenKind.{TokenKind}

@@ -2,9 +2,9 @@
 use Rattle.heyvl_parse.proofs.Followed.{both}
 use Rattle.heyvl_parse.specs.internal.Combinators.{lead, sign, trail}
 use Rattle.heyvl_parse.specs.internal.Reading.{Bad, Got, Out, Read, Reader, Whole, bound, bound_tree, end_of, expect, is_mark, pair, reach, type_name, word, ◌>>=◌}
+use Rattle.heyvl_places.specs.declared.spans.Span.{Span}
 use Rattle.heyvl_syntax.specs.Expressions.{Expression}
 use Rattle.heyvl_syntax.specs.declared.marks.Mark.TheVariants as marks
-use Rattle.heyvl_syntax.specs.declared.spans.Span.{Span}
 use Rattle.heyvl_syntax.specs.declared.tokens.Token.{Token}
 use Rattle.heyvl_syntax.specs.declared.types.TypeName.{TypeName}
 use Rattle.std.proofs.Common.{Bool, List, refl, ◌≡◌, ℕ}

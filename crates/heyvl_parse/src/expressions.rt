@@ -13,7 +13,8 @@ use crate::starts::{Start, key_start, mark_start, quantifier_at};
 use crate::stops::PartStop;
 use crate::tokens::{expect, next};
 use crate::typed_names::typed_name;
-use heyvl_syntax::{BinaryOp, Expr, Mark, Span, Token, TokenKind, UnaryOp};
+use heyvl_places::Span;
+use heyvl_syntax::{BinaryOp, Expr, Mark, Token, TokenKind, UnaryOp};
 use std::alloc::{AllocError, Global};
 
 /// The rank of e1, above which only quantifiers stand.

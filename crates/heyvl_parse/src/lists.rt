@@ -12,7 +12,8 @@ use crate::expressions::whole;
 use crate::following::closed;
 use crate::stops::PartStop;
 use crate::tokens::{expect, starts_mark, word};
-use heyvl_syntax::{Expr, Mark, Name, Token};
+use heyvl_places::Name;
+use heyvl_syntax::{Expr, Mark, Token};
 use std::alloc::{AllocError, Global};
 
 /// Puts the item behind the others. In a function of its own, so that a reader that calls itself has no room for it on the stack.

@@ -10,7 +10,8 @@ use crate::places::span_between;
 use crate::rights::{enclosed_expr, two};
 use crate::stops::PartStop;
 use crate::tokens::{expect, expect_word, starts_mark};
-use heyvl_syntax::{Mark, Name, Rule, Token, TokenKind};
+use heyvl_places::Name;
+use heyvl_syntax::{Mark, Rule, Token, TokenKind};
 use std::alloc::Global;
 
 /// Which rule's word stands behind `@`.

@@ -4,7 +4,8 @@ ghost use Rattle.heyvl_parse.specs.internal.Reading.{next_level, operator_of, op
 ghost use Rattle.heyvl_syntax.specs.Grammar.{ranks};
 ghost use Rattle.std.specs.Prelude.{IfSome, MatchOption, None, Some, length, ◌<◌, ◌≡◌, ◌≤◌};
 
-use heyvl_syntax::{BinaryOp, Key, Mark, Span, Token, TokenKind};
+use heyvl_places::Span;
+use heyvl_syntax::{BinaryOp, Key, Mark, Token, TokenKind};
 
 /// The rank of an operator, and the highest ranks that its left and its right operand may have. Rank 8 binds loosest.
 #[derive(Clone, Copy)]

@@ -4,7 +4,8 @@ ghost use Rattle.heyvl_parse.specs.internal.Combinators.{taken};
 ghost use Rattle.heyvl_syntax.specs.Productions.{extent, first_byte, last_end};
 ghost use Rattle.std.specs.Prelude.{◌≡◌};
 
-use heyvl_syntax::{Span, Token};
+use heyvl_places::Span;
+use heyvl_syntax::Token;
 
 /// The first byte of the first token.
 fn first_byte(tokens: &[Token]) -> u32

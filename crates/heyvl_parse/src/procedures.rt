@@ -18,7 +18,8 @@ use crate::statements::block;
 use crate::stops::PartStop;
 use crate::tokens::{expect, known, next, starts_mark, word};
 use crate::typed_names::typed_name;
-use heyvl_syntax::{Expr, Key, Mark, Name, Note, Param, Proc, Stmt, Token, TokenKind};
+use heyvl_places::Name;
+use heyvl_syntax::{Expr, Key, Mark, Note, Param, Proc, Stmt, Token, TokenKind};
 use std::alloc::Global;
 
 /// The note that a word tells.

@@ -14,7 +14,8 @@ use crate::following::{beside, closed};
 use crate::lists::arguments;
 use crate::stops::PartStop;
 use crate::tokens::{expect, expect_key, starts_mark, word};
-use heyvl_syntax::{Expr, Key, Mark, Name, Right, Token, TokenKind};
+use heyvl_places::Name;
+use heyvl_syntax::{Expr, Key, Mark, Right, Token, TokenKind};
 use std::alloc::Global;
 
 /// What a right side begins with.

@@ -18,7 +18,8 @@ use crate::rights::{call, is_call, right};
 use crate::stops::PartStop;
 use crate::tokens::{expect, expect_key, is_key, key_at, known, next, starts_mark};
 use crate::typed_names::typed_name;
-use heyvl_syntax::{CheckKind, Key, Mark, Name, Right, Span, Stmt, Token, TokenKind};
+use heyvl_places::{CheckKind, Name, Span};
+use heyvl_syntax::{Key, Mark, Right, Stmt, Token, TokenKind};
 use std::alloc::Global;
 
 /// Which check a key begins.

@@ -3,7 +3,8 @@
 ghost use Rattle.heyvl_parse.specs.internal.Reading.{key_start, mark_start, quantifier_at, quantifier_of};
 ghost use Rattle.std.specs.Prelude.{IfSome, MatchOption, None, Some, length, ◌<◌, ◌≡◌};
 
-use heyvl_syntax::{Key, Mark, Span, Token, TokenKind, UnaryOp};
+use heyvl_places::Span;
+use heyvl_syntax::{Key, Mark, Token, TokenKind, UnaryOp};
 
 /// What begins with a key or mark.
 #[derive(Clone, Copy)]

@@ -14,7 +14,8 @@ use crate::places::span_between;
 use crate::simple::{assign, check, havoc, pick_word, reward, starts_pick, validate, var};
 use crate::stops::PartStop;
 use crate::tokens::{expect, expect_key, starts_key, starts_mark};
-use heyvl_syntax::{Arm, Key, Mark, Rule, Span, Stmt, Token, TokenKind};
+use heyvl_places::Span;
+use heyvl_syntax::{Arm, Key, Mark, Rule, Stmt, Token, TokenKind};
 use std::alloc::Global;
 
 /// Which statement begins with a token.

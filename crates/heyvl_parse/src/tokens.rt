@@ -7,7 +7,8 @@ ghost use Rattle.heyvl_parse.specs.internal.Statements.{by_key};
 ghost use Rattle.std.specs.Prelude.{IfOk, Some, length, ◌+◌, ◌<◌, ◌≡◌};
 
 use crate::stops::PartStop;
-use heyvl_syntax::{Key, Mark, Name, Span, Token, TokenKind, TypeName};
+use heyvl_places::{Name, Span};
+use heyvl_syntax::{Key, Mark, Token, TokenKind, TypeName};
 use std::alloc::Global;
 
 /// The token at the front, and the tokens behind it.

@@ -9,7 +9,8 @@ ghost use Rattle.std.specs.Prelude.{IfOk, length, ◌<◌};
 use crate::following::{beside, closed};
 use crate::stops::PartStop;
 use crate::tokens::{type_name, word};
-use heyvl_syntax::{Mark, Name, Token, TypeName};
+use heyvl_places::Name;
+use heyvl_syntax::{Mark, Token, TypeName};
 use std::alloc::Global;
 
 /// A name, `:` and the type of the name.

@@ -1,4 +1,6 @@
 -- The bytes of blocks and of the statements that hold some, one part behind another.
+use Rattle.heyvl_places.specs.declared.checks.CheckKind.{CheckKind}
+use Rattle.heyvl_places.specs.declared.spans.Span.{Span}
 use Rattle.heyvl_print.proofs.Texts.{after, margin_after, text_append, text_margin, token_after}
 use Rattle.heyvl_print.specs.Canonical.{arm_pieces, block_lines, braced, else_if_pieces, else_pieces, expression_pieces, if_pieces, rule_line, statement_lines}
 use Rattle.heyvl_print.specs.Pieces.{Piece, each, feed, key, margin, mark, space, text_of, ◌then◌}
@@ -9,9 +11,7 @@ use Rattle.heyvl_syntax.specs.Keys.{key_text}
 use Rattle.heyvl_syntax.specs.Statements.{Arms, Block, LoopRule, Statement, arms_of, block, block_of, guarded}
 use Rattle.heyvl_syntax.specs.declared.keys.Key.TheVariants as keys
 use Rattle.heyvl_syntax.specs.declared.marks.Mark.TheVariants as marks
-use Rattle.heyvl_syntax.specs.declared.spans.Span.{Span}
 use Rattle.heyvl_syntax.specs.declared.statements.Arm.{Arm}
-use Rattle.heyvl_syntax.specs.declared.statements.CheckKind.{CheckKind}
 use Rattle.heyvl_syntax.specs.declared.tokens.TokenKind.TheVariants as kinds
 use Rattle.std.proofs.Common.{Bool, List, [], ap, append_assoc, arith, codes, get_or, length, map, refl, replicate, subst, suc, sym, take, ◌++◌, ◌+◌, ◌<◌, ◌≤◌, ◌∙◌, ◌∷◌, ◌≡◌, ℕ}
 use Rattle.std.proofs.Math.Seq.{take-suc}

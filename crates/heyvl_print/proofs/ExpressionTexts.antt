@@ -1,4 +1,5 @@
 -- The bytes of each variant of an expression, one part behind another.
+use Rattle.heyvl_places.specs.declared.spans.Span.{Span}
 use Rattle.heyvl_print.proofs.Texts.{text_append}
 use Rattle.heyvl_print.specs.Canonical.{expression_pieces}
 use Rattle.heyvl_print.specs.Pieces.{text_of, token_text}
@@ -8,7 +9,6 @@ use Rattle.heyvl_syntax.specs.Keys.{key_text}
 use Rattle.heyvl_syntax.specs.Marks.{mark_text}
 use Rattle.heyvl_syntax.specs.declared.operators.BinaryOp.{BinaryOp}
 use Rattle.heyvl_syntax.specs.declared.operators.UnaryOp.{UnaryOp}
-use Rattle.heyvl_syntax.specs.declared.spans.Span.{Span}
 use Rattle.heyvl_syntax.specs.declared.types.TypeName.{TypeName}
 use Rattle.std.proofs.Common.{Bool, List, append_assoc, codes, ◌++◌, ◌≡◌, ℕ}
 

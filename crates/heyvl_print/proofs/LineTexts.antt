@@ -8,7 +8,7 @@ use Rattle.heyvl_syntax.specs.Grammar.{havoc_key, type_key}
 use Rattle.heyvl_syntax.specs.Keys.{key_text}
 use Rattle.heyvl_syntax.specs.declared.keys.Key.TheVariants as keys
 use Rattle.heyvl_syntax.specs.declared.marks.Mark.TheVariants as marks
-use Rattle.heyvl_syntax.specs.declared.spans.Span.{Span}
+use Rattle.heyvl_places.specs.declared.spans.Span.{Span}
 use Rattle.heyvl_syntax.specs.declared.types.TypeName.{TypeName}
 use Rattle.std.proofs.Common.{Bool, List, Option, [], append_assoc, codes, replicate, ◌++◌, ◌∷◌, ◌≡◌, ℕ}
 

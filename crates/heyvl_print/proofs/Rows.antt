@@ -1,4 +1,5 @@
 -- Worked rows of the canonical text, computed.
+use Rattle.heyvl_places.specs.declared.checks.CheckKind.TheVariants as checks
 use Rattle.heyvl_print.specs.Canonical.{block_lines, canonical_text, expression_pieces, right_pieces, statement_lines}
 use Rattle.heyvl_print.specs.Numbers.{number_text}
 use Rattle.heyvl_print.specs.Pieces.{text_of}
@@ -10,7 +11,6 @@ use Rattle.heyvl_syntax.specs.declared.literals.Lit.{Lit}
 use Rattle.heyvl_syntax.specs.declared.operators.BinaryOp.TheVariants as ops
 use Rattle.heyvl_syntax.specs.declared.operators.UnaryOp.TheVariants as prefixes
 use Rattle.heyvl_syntax.specs.declared.procedures.Note.TheVariants as notes
-use Rattle.heyvl_syntax.specs.declared.statements.CheckKind.TheVariants as checks
 use Rattle.heyvl_syntax.specs.declared.types.TypeName.TheVariants as types
 use Rattle.std.proofs.Common.{List, None, Some, [], codes, false, pos, refl, true, ◌∷◌, ◌≡◌, ℕ}
 use Rattle.std.specs.Fmt.{digits}

@@ -1,9 +1,9 @@
 -- Trees without the places of their nodes.
+use Rattle.heyvl_places.specs.declared.spans.Span.{Span}
 use Rattle.heyvl_syntax.specs.Expressions.{Expression}
 use Rattle.heyvl_syntax.specs.Procedures.{Procedure}
 use Rattle.heyvl_syntax.specs.Statements.{Arms, Block, LoopRule, RightSide, Statement}
 use Rattle.heyvl_syntax.specs.declared.procedures.Param.{Param}
-use Rattle.heyvl_syntax.specs.declared.spans.Span.{Span}
 use Rattle.std.specs.Prelude.{List, None, Option, Some, map, ◌≡◌}
 
 -- The place that stands for all.

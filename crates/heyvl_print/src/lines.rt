@@ -10,7 +10,8 @@ ghost use Rattle.std.specs.Prelude.{◌++◌, ◌≡◌, ◌∷◌, OnOk, [], re
 use crate::bytes::{write, write_repeated};
 use crate::expressions::{print_expression, print_expressions};
 use crate::symbols::{havoc_text, type_text};
-use heyvl_syntax::{Expr, Name, Right, Rule, TypeName};
+use heyvl_places::Name;
+use heyvl_syntax::{Expr, Right, Rule, TypeName};
 use std::alloc::AllocError;
 
 /// Puts the names behind the text, with commas between.

@@ -6,7 +6,8 @@ ghost use Rattle.heyvl_syntax.specs.Keys.{key_text};
 ghost use Rattle.heyvl_syntax.specs.Marks.{mark_text};
 ghost use Rattle.std.specs.Prelude.{◌≡◌};
 
-use heyvl_syntax::{BinaryOp, CheckKind, Note, TypeName, UnaryOp};
+use heyvl_places::CheckKind;
+use heyvl_syntax::{BinaryOp, Note, TypeName, UnaryOp};
 
 /// The bytes of an operator between operands.
 pub(crate) fn operator_text(op: BinaryOp) -> &'static [u8]

@@ -1,4 +1,5 @@
 -- Worked rows of the grammar of expressions: small texts with the trees that they spell, and trees that no text spells.
+use Rattle.heyvl_places.specs.declared.spans.Span.{Span}
 use Rattle.heyvl_syntax.proofs.Texts.{a, b, c, key, leaf, name, sign, span, text, token, word}
 use Rattle.heyvl_syntax.specs.Expressions.{Expression}
 use Rattle.heyvl_syntax.specs.Grammar.{IsFull, operator, prefix, quantifier_key, ranks, truth_key}
@@ -8,7 +9,6 @@ use Rattle.heyvl_syntax.specs.declared.operators.BinaryOp.TheVariants as ops
 use Rattle.heyvl_syntax.specs.declared.operators.BinaryOp.{BinaryOp}
 use Rattle.heyvl_syntax.specs.declared.operators.UnaryOp.TheVariants as prefixes
 use Rattle.heyvl_syntax.specs.declared.operators.UnaryOp.{UnaryOp}
-use Rattle.heyvl_syntax.specs.declared.spans.Span.{Span}
 use Rattle.heyvl_syntax.specs.declared.tokens.Token.{Token}
 use Rattle.heyvl_syntax.specs.declared.tokens.TokenKind.TheVariants as kinds
 use Rattle.heyvl_syntax.specs.declared.types.TypeName.TheVariants as types

@@ -1,9 +1,9 @@
 -- Where the first fault of a file may stand.
+use Rattle.heyvl_places.specs.declared.spans.Span.{Span}
 use Rattle.heyvl_syntax.proofs.InOrder.{part_le, stand_in_order}
 use Rattle.heyvl_syntax.specs.SourceFaults.{IsSourceFault, token_place}
 use Rattle.heyvl_syntax.specs.TokenLaws.{StandInOrder}
 use Rattle.heyvl_syntax.specs.Tokens.{Part, StopsAfter}
-use Rattle.heyvl_syntax.specs.declared.spans.Span.{Span}
 use Rattle.heyvl_syntax.specs.declared.tokens.Token.{Token}
 use Rattle.std.proofs.Common.{List, [], ap, arith, drop, inl, inr, length, suc, zero, ◌+◌, ◌∷◌, ◌≤◌, ℕ}
 use Rattle.std.proofs.lemmas.List.{length-drop}

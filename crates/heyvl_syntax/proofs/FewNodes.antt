@@ -1,4 +1,5 @@
 -- The expressions of a file have together at most as many nodes as there are tokens.
+use Rattle.heyvl_places.specs.declared.spans.Span.{Span}
 use Rattle.heyvl_syntax.specs.Expressions.{Expression}
 use Rattle.heyvl_syntax.specs.Grammar.{Clause, IsAssign, IsBraced, IsCall, IsClause, IsClauses, IsElse, IsElseIfs, IsExpr, IsFile, IsFull, IsGiven, IsIf, IsProc, IsRight, IsRule, IsStmt, IsStmts, IsBlock, IsWeighted, check_key, operator, posts, prefix, pres, quantifier_key, ranks}
 use Rattle.heyvl_syntax.specs.Procedures.{Procedure}
@@ -9,7 +10,6 @@ use Rattle.heyvl_syntax.specs.declared.keys.Key.TheVariants as keys
 use Rattle.heyvl_syntax.specs.declared.keys.Key.{Key}
 use Rattle.heyvl_syntax.specs.declared.marks.Mark.TheVariants as marks
 use Rattle.heyvl_syntax.specs.declared.marks.Mark.{Mark}
-use Rattle.heyvl_syntax.specs.declared.spans.Span.{Span}
 use Rattle.heyvl_syntax.specs.declared.tokens.Token.{Token}
 use Rattle.heyvl_syntax.specs.declared.tokens.TokenKind.TheVariants as kinds
 use Rattle.heyvl_syntax.specs.declared.tokens.TokenKind.{TokenKind}

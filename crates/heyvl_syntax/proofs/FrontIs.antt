@@ -4,7 +4,8 @@ use Rattle.heyvl_syntax.proofs.Longest.{digit_number, mark_token, number-le, num
 use Rattle.heyvl_syntax.proofs.Runs.{and_left, not_true, run_passes, word_run_ends, word_run_stops}
 use Rattle.heyvl_syntax.proofs.Starts.{BeginsBy, digit_opens_no_word, opens_word, token_begins, word_no_white}
 use Rattle.heyvl_syntax.proofs.Tables.{key_text_of, mark_longest, mark_starts, no_key_text, no_mark_starts}
-use Rattle.heyvl_syntax.specs.Bytes.{is_letter, is_line_feed, is_white, is_word_byte}
+use Rattle.heyvl_syntax.specs.Bytes.{is_letter, is_white, is_word_byte}
+use Rattle.heyvl_places.specs.Places.{is_line_feed}
 use Rattle.heyvl_syntax.specs.Comments.{IsBlockComment, IsLineComment, closes_at, opens_block, opens_comment, opens_line}
 use Rattle.heyvl_syntax.specs.internal.Fronts.{IsInside, block_front, first_close, front_of, key_of, mark_front, mark_of, number_front, number_len, number_text, word_front, word_text}
 use Rattle.heyvl_syntax.specs.Literals.{is_too_large, literal}

@@ -6,7 +6,7 @@ use Rattle.heyvl_syntax.specs.TokenLaws.{HasSmallLiteral, StandInOrder}
 use Rattle.heyvl_syntax.specs.Tokens.{IsPart, IsToken, Lexes, Part, Splits, comment, is_beyond_limits, token, tokens_of, white}
 use Rattle.heyvl_syntax.specs.internal.Found as fronts
 use Rattle.heyvl_syntax.specs.declared.literals.Lit.{Lit}
-use Rattle.heyvl_syntax.specs.declared.spans.Span.{Span}
+use Rattle.heyvl_places.specs.declared.spans.Span.{Span}
 use Rattle.heyvl_syntax.specs.declared.tokens.Token.{Token}
 use Rattle.heyvl_syntax.specs.declared.tokens.TokenKind.TheVariants as kinds
 use Rattle.heyvl_syntax.specs.declared.tokens.TokenKind.{TokenKind}

@@ -1,9 +1,9 @@
 -- A file has at most one first fault, and none where it is spelled within the limits.
+use Rattle.heyvl_places.specs.declared.spans.Span.{Span}
 use Rattle.heyvl_syntax.proofs.Unique.{lexes_no_stop, lexes_unique, stops_unique}
 use Rattle.heyvl_syntax.specs.Grammar.{IsFile}
 use Rattle.heyvl_syntax.specs.Procedures.{Procedure}
 use Rattle.heyvl_syntax.specs.SourceFaults.{IsBeginning, IsCrowd, IsLight, IsOverload, IsSource, IsSourceFault, IsTokenFault, IsUncrowded, IsUnexpected, IsWithinLimits, is_procedure_key, procedure_count, token_place}
-use Rattle.heyvl_syntax.specs.declared.spans.Span.{Span}
 use Rattle.heyvl_syntax.specs.declared.tokens.Token.{Token}
 use Rattle.std.proofs.Common.{List, ap, arith, cond, drop, inl, inr, length, subst, sym, take, ◌++◌, ◌+◌, ◌<◌, ◌∙◌, ◌≡◌, ◌≤◌, ◌⊎◌, ℕ}
 use Rattle.std.proofs.lemmas.Bool.{cases_order}

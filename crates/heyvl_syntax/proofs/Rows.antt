@@ -2,7 +2,7 @@
 
 use Rattle.heyvl_syntax.specs.internal.Fronts.{front_of}
 use Rattle.heyvl_syntax.specs.Literals.{is_too_large, literal}
-use Rattle.heyvl_syntax.specs.Places.{place_at}
+use Rattle.heyvl_places.specs.Places.{place_at}
 use Rattle.heyvl_syntax.specs.internal.Found as fronts
 use Rattle.heyvl_syntax.specs.declared.keys.Key.TheVariants as keys
 use Rattle.heyvl_syntax.specs.declared.marks.Mark.TheVariants as marks

@@ -1,4 +1,6 @@
 -- Worked rows of the grammar of statements: small texts with the trees that they spell, and trees that they don't spell.
+use Rattle.heyvl_places.specs.declared.checks.CheckKind.{CheckKind}
+use Rattle.heyvl_places.specs.declared.spans.Span.{Span}
 use Rattle.heyvl_syntax.proofs.Sequences.{nothing_then, one_then, or_then, semis_then, then_assoc, then_map}
 use Rattle.heyvl_syntax.proofs.Texts.{a, b, c, key, leaf, name, placed, sign, span, text, token, word}
 use Rattle.heyvl_syntax.specs.Expressions.{Expression}
@@ -9,8 +11,6 @@ use Rattle.heyvl_syntax.specs.declared.keys.Key.TheVariants as keys
 use Rattle.heyvl_syntax.specs.declared.keys.Key.{Key}
 use Rattle.heyvl_syntax.specs.declared.marks.Mark.TheVariants as marks
 use Rattle.heyvl_syntax.specs.declared.marks.Mark.{Mark}
-use Rattle.heyvl_syntax.specs.declared.spans.Span.{Span}
-use Rattle.heyvl_syntax.specs.declared.statements.CheckKind.{CheckKind}
 use Rattle.heyvl_syntax.specs.declared.tokens.Token.{Token}
 use Rattle.heyvl_syntax.specs.declared.tokens.TokenKind.TheVariants as kinds
 use Rattle.heyvl_syntax.specs.declared.types.TypeName.TheVariants as types

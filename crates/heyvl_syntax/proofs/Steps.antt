@@ -4,7 +4,7 @@ use Rattle.heyvl_syntax.specs.internal.Fronts.{front_of}
 use Rattle.heyvl_syntax.specs.Tokens.{Lexes, Stops, comment, span_of, token, white}
 use Rattle.heyvl_syntax.specs.internal.Found as fronts
 use Rattle.heyvl_syntax.specs.internal.Found.{Found}
-use Rattle.heyvl_syntax.specs.declared.spans.Span.{Span}
+use Rattle.heyvl_places.specs.declared.spans.Span.{Span}
 use Rattle.heyvl_syntax.specs.declared.tokens.Token.{Token}
 use Rattle.heyvl_syntax.specs.declared.tokens.TokenKind.{TokenKind}
 use Rattle.std.proofs.Common.{List, [], ap, append_assoc, drop, inl, inr, refl, subst, sym, ◌++◌, ◌+◌, ◌∙◌, ◌∷◌, ◌≡◌, ℕ}

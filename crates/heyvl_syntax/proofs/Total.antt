@@ -5,7 +5,7 @@ use Rattle.heyvl_syntax.specs.internal.Fronts.{front_of}
 use Rattle.heyvl_syntax.specs.Tokens.{Lexes, Stops, span_of}
 use Rattle.heyvl_syntax.specs.internal.Found as fronts
 use Rattle.heyvl_syntax.specs.internal.Found.{Found}
-use Rattle.heyvl_syntax.specs.declared.spans.Span.{Span}
+use Rattle.heyvl_places.specs.declared.spans.Span.{Span}
 use Rattle.heyvl_syntax.specs.declared.tokens.Token.{Token}
 use Rattle.heyvl_syntax.specs.declared.tokens.TokenKind.{TokenKind}
 use Rattle.std.proofs.Common.{List, [], arith, drop, inl, inr, length, suc, zero, ◌+◌, ◌<◌, ◌∷◌, ◌≤◌, ◌⊎◌, ℕ}

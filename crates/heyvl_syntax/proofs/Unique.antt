@@ -1,4 +1,5 @@
 -- Bytes are split in one way at most, up to the end or to the leftmost fault.
+use Rattle.heyvl_places.specs.declared.spans.Span.{Span}
 use Rattle.heyvl_syntax.proofs.FrontIs.{block_first, line_first}
 use Rattle.heyvl_syntax.proofs.Longest.{same_first, token_no_white}
 use Rattle.heyvl_syntax.proofs.Runs.{and_left, and_right, not_true}
@@ -7,7 +8,6 @@ use Rattle.heyvl_syntax.proofs.Tables.{same_key, same_mark}
 use Rattle.heyvl_syntax.specs.Bytes.{is_white}
 use Rattle.heyvl_syntax.specs.Comments.{IsBlockComment, IsLineComment, opens_block, opens_comment, opens_line}
 use Rattle.heyvl_syntax.specs.Tokens.{IsFault, IsLongest, IsPart, IsToken, IsWhite, Lexes, Part, Splits, Stops, StopsAfter, comment, is_beyond_limits, span_of, token, tokens_of, white}
-use Rattle.heyvl_syntax.specs.declared.spans.Span.{Span}
 use Rattle.heyvl_syntax.specs.declared.tokens.Token.{Token}
 use Rattle.heyvl_syntax.specs.declared.tokens.TokenKind.TheVariants as kinds
 use Rattle.heyvl_syntax.specs.declared.tokens.TokenKind.{TokenKind}

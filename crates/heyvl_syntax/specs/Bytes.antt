@@ -6,9 +6,6 @@ use Rattle.std.specs.Char.{is_ascii_alphabetic, is_ascii_digit}
 abbrev pub is_white : ℕ → Bool
 is_white b = b == 32 || b == 9 || b == 13 || b == 10
 
-abbrev pub is_line_feed : ℕ → Bool
-is_line_feed b = b == 10
-
 abbrev pub is_point : ℕ → Bool
 is_point b = b == 46
 

@@ -1,6 +1,6 @@
 -- Comments: `//` up to the next line feed or the end, and `/*` up to the next `*/` behind both of its bytes. Comments don't
 -- nest, and hold any bytes.
-use Rattle.heyvl_syntax.specs.Bytes.{is_line_feed}
+use Rattle.heyvl_places.specs.Places.{is_line_feed}
 use Rattle.std.specs.List.{position_or_len, starts_with}
 use Rattle.std.specs.Prelude.{Bool, List, codes, drop, false, nat_eq, true, ◌+◌, ◌<◌, ◌||◌, ◌≡◌, ℕ}
 

@@ -1,11 +1,11 @@
 -- Expressions as plain trees, and the plain tree that an expression of the program holds.
+use Rattle.heyvl_places.specs.declared.spans.Span.{Span}
 use Rattle.heyvl_syntax.specs.declared.expressions.Expr.TheFolds.{fold-Expr}
 use Rattle.heyvl_syntax.specs.declared.expressions.Expr.TheOpen.{Expr-F as Layer}
 use Rattle.heyvl_syntax.specs.declared.expressions.Expr.{Expr}
 use Rattle.heyvl_syntax.specs.declared.literals.Lit.{Lit}
 use Rattle.heyvl_syntax.specs.declared.operators.BinaryOp.{BinaryOp}
 use Rattle.heyvl_syntax.specs.declared.operators.UnaryOp.{UnaryOp}
-use Rattle.heyvl_syntax.specs.declared.spans.Span.{Span}
 use Rattle.heyvl_syntax.specs.declared.types.TypeName.{TypeName}
 use Rattle.std.specs.Prelude.{Bool, List, map, ℕ}
 

@@ -34,6 +34,8 @@
 --
 -- Each node has a place in the bytes. That of a binary expression is the place of its operator. That of every other node goes from
 -- its first byte to the end of its last token.
+use Rattle.heyvl_places.specs.declared.checks.CheckKind.TheVariants as checks
+use Rattle.heyvl_places.specs.declared.checks.CheckKind.{CheckKind}
 use Rattle.heyvl_syntax.specs.Expressions.{Expression}
 use Rattle.heyvl_syntax.specs.Procedures.{Procedure}
 use Rattle.heyvl_syntax.specs.Productions.{AreSemis, IsAt, IsEach, IsKey, IsList, IsList0, IsLiteral, IsMark, IsName, IsNothing, IsOptional, extent, ◌or◌, ◌then◌}
@@ -50,8 +52,6 @@ use Rattle.heyvl_syntax.specs.declared.operators.UnaryOp.{UnaryOp}
 use Rattle.heyvl_syntax.specs.declared.procedures.Note.TheVariants as notes
 use Rattle.heyvl_syntax.specs.declared.procedures.Note.{Note}
 use Rattle.heyvl_syntax.specs.declared.procedures.Param.{Param}
-use Rattle.heyvl_syntax.specs.declared.statements.CheckKind.TheVariants as checks
-use Rattle.heyvl_syntax.specs.declared.statements.CheckKind.{CheckKind}
 use Rattle.heyvl_syntax.specs.declared.tokens.Token.{Token}
 use Rattle.heyvl_syntax.specs.declared.tokens.TokenKind.TheVariants as kinds
 use Rattle.heyvl_syntax.specs.declared.tokens.TokenKind.{TokenKind}

@@ -1,3 +1,4 @@
+pub use Rattle.heyvl_places.specs.Places
 pub mod Bytes
 pub mod Comments
 pub mod Expressions
@@ -7,7 +8,6 @@ pub mod Keys
 pub mod Literals
 pub mod Load
 pub mod Marks
-pub mod Places
 pub mod PlainTrees
 pub mod Procedures
 pub mod Productions

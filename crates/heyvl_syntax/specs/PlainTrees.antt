@@ -1,4 +1,6 @@
 -- The plain trees of expressions and statements, variant by variant.
+use Rattle.heyvl_places.specs.declared.checks.CheckKind.{CheckKind}
+use Rattle.heyvl_places.specs.declared.spans.Span.{Span}
 use Rattle.heyvl_syntax.specs.Expressions.{Expression, expression}
 use Rattle.heyvl_syntax.specs.Statements.{Statement, arms, block, guarded, loop_rules, optional_right, right_side, statement}
 use Rattle.heyvl_syntax.specs.declared.expressions.Expr.TheVariants as exprs
@@ -6,9 +8,7 @@ use Rattle.heyvl_syntax.specs.declared.expressions.Expr.{Expr}
 use Rattle.heyvl_syntax.specs.declared.literals.Lit.{Lit}
 use Rattle.heyvl_syntax.specs.declared.operators.BinaryOp.{BinaryOp}
 use Rattle.heyvl_syntax.specs.declared.operators.UnaryOp.{UnaryOp}
-use Rattle.heyvl_syntax.specs.declared.spans.Span.{Span}
 use Rattle.heyvl_syntax.specs.declared.statements.Arm.{Arm}
-use Rattle.heyvl_syntax.specs.declared.statements.CheckKind.{CheckKind}
 use Rattle.heyvl_syntax.specs.declared.statements.Right.{Right}
 use Rattle.heyvl_syntax.specs.declared.statements.Rule.{Rule}
 use Rattle.heyvl_syntax.specs.declared.statements.Stmt.TheVariants as stmts

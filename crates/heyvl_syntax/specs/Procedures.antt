@@ -1,11 +1,11 @@
 -- Procedures and files as plain trees, and the plain trees that those of the program hold.
+use Rattle.heyvl_places.specs.declared.spans.Span.{Span}
 use Rattle.heyvl_syntax.specs.Expressions.{Expression, expressions}
 use Rattle.heyvl_syntax.specs.Statements.{Block, block}
 use Rattle.heyvl_syntax.specs.declared.procedures.File.{File}
 use Rattle.heyvl_syntax.specs.declared.procedures.Note.{Note}
 use Rattle.heyvl_syntax.specs.declared.procedures.Param.{Param}
 use Rattle.heyvl_syntax.specs.declared.procedures.Proc.{Proc}
-use Rattle.heyvl_syntax.specs.declared.spans.Span.{Span}
 use Rattle.heyvl_syntax.specs.declared.statements.Stmt.{Stmt}
 use Rattle.std.specs.Prelude.{Bool, List, None, Option, Some, Vec, map, ℕ}
 use Rattle.std.specs.declared.alloc.Global.{Global}

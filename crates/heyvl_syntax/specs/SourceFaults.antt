@@ -1,11 +1,11 @@
 -- The faults 1 to 6 of a file: where its bytes have no tokens, where its tokens pass a limit, and where they spell no file. The
 -- limits and the order of the faults are this project's own.
+use Rattle.heyvl_places.specs.declared.spans.Span.{Span}
 use Rattle.heyvl_syntax.specs.Grammar.{IsFile}
 use Rattle.heyvl_syntax.specs.Load.{overload}
 use Rattle.heyvl_syntax.specs.Procedures.{Procedure}
 use Rattle.heyvl_syntax.specs.Tokens.{Lexes, Stops}
 use Rattle.heyvl_syntax.specs.declared.keys.Key.TheVariants as keys
-use Rattle.heyvl_syntax.specs.declared.spans.Span.{Span}
 use Rattle.heyvl_syntax.specs.declared.tokens.Token.{Token}
 use Rattle.heyvl_syntax.specs.declared.tokens.TokenKind.TheVariants as kinds
 use Rattle.heyvl_syntax.specs.declared.tokens.TokenKind.{TokenKind}

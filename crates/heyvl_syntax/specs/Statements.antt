@@ -1,9 +1,9 @@
 -- Statements as plain trees, and the plain tree that a statement of the program holds.
+use Rattle.heyvl_places.specs.declared.checks.CheckKind.{CheckKind}
+use Rattle.heyvl_places.specs.declared.spans.Span.{Span}
 use Rattle.heyvl_syntax.specs.Expressions.{Expression, expression, expressions}
 use Rattle.heyvl_syntax.specs.declared.expressions.Expr.{Expr}
-use Rattle.heyvl_syntax.specs.declared.spans.Span.{Span}
 use Rattle.heyvl_syntax.specs.declared.statements.Arm.{Arm}
-use Rattle.heyvl_syntax.specs.declared.statements.CheckKind.{CheckKind}
 use Rattle.heyvl_syntax.specs.declared.statements.Right.TheVariants as rights
 use Rattle.heyvl_syntax.specs.declared.statements.Right.{Right}
 use Rattle.heyvl_syntax.specs.declared.statements.Rule.TheVariants as rules

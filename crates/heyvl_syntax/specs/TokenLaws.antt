@@ -1,7 +1,7 @@
 -- Laws of the definition of tokens: bytes are split into tokens or have a leftmost fault, never both, and in one way alone.
+use Rattle.heyvl_places.specs.declared.spans.Span.{Span}
 use Rattle.heyvl_syntax.specs.Literals.{IsInLimits}
 use Rattle.heyvl_syntax.specs.Tokens.{IsToken, Lexes, Stops}
-use Rattle.heyvl_syntax.specs.declared.spans.Span.{Span}
 use Rattle.heyvl_syntax.specs.declared.tokens.Token.{Token}
 use Rattle.heyvl_syntax.specs.declared.tokens.TokenKind.TheVariants as kinds
 use Rattle.heyvl_syntax.specs.declared.tokens.TokenKind.{TokenKind}

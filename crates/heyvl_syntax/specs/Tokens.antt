@@ -1,11 +1,11 @@
 -- The tokens of HeyVL: how bytes are split into white space, comments and longest tokens, and where they can't be.
+use Rattle.heyvl_places.specs.declared.spans.Span.{Span}
 use Rattle.heyvl_syntax.specs.Bytes.{ends_word, is_letter, is_white, is_word_byte}
 use Rattle.heyvl_syntax.specs.Comments.{IsBlockComment, IsLineComment, IsOpenComment, opens_comment}
 use Rattle.heyvl_syntax.specs.Keys.{key_text}
 use Rattle.heyvl_syntax.specs.Literals.{IsNumber, is_too_large, literal}
 use Rattle.heyvl_syntax.specs.Marks.{mark_text}
 use Rattle.heyvl_syntax.specs.declared.keys.Key.{Key}
-use Rattle.heyvl_syntax.specs.declared.spans.Span.{Span}
 use Rattle.heyvl_syntax.specs.declared.stops.LexStop.TheVariants as stops
 use Rattle.heyvl_syntax.specs.declared.stops.LexStop.{LexStop}
 use Rattle.heyvl_syntax.specs.declared.tokens.Token.{Token}

@@ -1,6 +1,7 @@
 //! Classes of bytes, and runs of them.
 
-ghost use Rattle.heyvl_syntax.specs.Bytes.{is_letter, is_line_feed, is_white, is_word_byte};
+ghost use Rattle.heyvl_places.specs.Places.{is_line_feed};
+ghost use Rattle.heyvl_syntax.specs.Bytes.{is_letter, is_white, is_word_byte};
 ghost use Rattle.std.specs.Char.{is_ascii_digit};
 ghost use Rattle.std.specs.List.{position_or_len, prefix_len};
 ghost use Rattle.std.specs.Prelude.{◌≡◌, ◌≤◌, length};

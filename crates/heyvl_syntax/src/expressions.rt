@@ -3,7 +3,8 @@
 ghost use Rattle.heyvl_syntax.specs.Expressions.{expression, expressions};
 ghost use Rattle.std.specs.Prelude.{◌≡◌, IfOk};
 
-use crate::{BinaryOp, Lit, Name, Span, TypeName, UnaryOp};
+use crate::{BinaryOp, Lit, TypeName, UnaryOp};
+use heyvl_places::{Name, Span};
 use std::alloc::{AllocError, Global};
 
 /// An expression, with its parentheses. Each node has its place: that of the operator for an operator between two

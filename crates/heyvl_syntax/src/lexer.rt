@@ -2,13 +2,14 @@
 
 ghost use Rattle.heyvl_syntax.specs.Tokens.{IsFaultOrMemory, IsMemory, IsStop, Lexes, Stops, span_of};
 ghost use Rattle.heyvl_syntax.specs.internal.Fronts.{token_of};
-ghost use Rattle.heyvl_syntax.specs.declared.spans.Span.{Span};
+ghost use Rattle.heyvl_places.specs.declared.spans.Span.{Span};
 ghost use Rattle.heyvl_syntax.specs.declared.tokens.Token.{Token};
 ghost use Rattle.std.specs.Prelude.{◌+◌, ◌<◌, ◌^◌, ◌≡◌, ℕ, IfErr, IfOk, List, MatchResult, length};
 
 use crate::fronts::{Front, front_of};
 use crate::literals::literal;
-use crate::{LexStop, Name, Span, Token, TokenKind};
+use crate::{LexStop, Token, TokenKind};
+use heyvl_places::{Name, Span};
 use std::alloc::Global;
 
 /// The n bytes from a place on.

@@ -1,4 +1,4 @@
-//! Places, names, literals, tokens, the lexer and the syntax trees of HeyVL.
+//! Literals, tokens, the lexer and the syntax trees of HeyVL.
 #![tactic(auto)]
 
 mod bytes;
@@ -10,11 +10,8 @@ mod laws;
 mod lexer;
 mod literals;
 mod marks;
-mod names;
 mod operators;
-mod places;
 mod procedures;
-mod spans;
 mod statements;
 mod stops;
 mod tokens;
@@ -22,6 +19,7 @@ mod tree_laws;
 mod types;
 
 pub use expressions::Expr;
+pub use heyvl_places::{CheckKind, Name, Place, Span, place_at};
 pub use keys::Key;
 pub use laws::{
     faults_are_unique, files_have_no_token_fault, source_faults_are_unique,
@@ -31,12 +29,9 @@ pub use laws::{
 pub use lexer::lex;
 pub use literals::Lit;
 pub use marks::Mark;
-pub use names::Name;
 pub use operators::{BinaryOp, UnaryOp};
-pub use places::{Place, place_at};
 pub use procedures::{File, Note, Param, Proc};
-pub use spans::Span;
-pub use statements::{Arm, CheckKind, Right, Rule, Stmt};
+pub use statements::{Arm, Right, Rule, Stmt};
 pub use stops::LexStop;
 pub use tokens::{Token, TokenKind};
 pub use tree_laws::{expressions_are_few, expressions_are_plain, statements_are_plain};

@@ -3,7 +3,8 @@
 ghost use Rattle.heyvl_syntax.specs.Procedures.{optional_block, procedure, procedures};
 ghost use Rattle.std.specs.Prelude.{◌≡◌, IfOk, map};
 
-use crate::{Expr, Name, Span, Stmt, TypeName};
+use crate::{Expr, Stmt, TypeName};
+use heyvl_places::{Name, Span};
 use std::alloc::{AllocError, Global};
 
 /// Which expectation a procedure is about.

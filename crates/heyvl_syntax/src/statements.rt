@@ -3,17 +3,9 @@
 ghost use Rattle.heyvl_syntax.specs.Statements.{arms, block, choices, guarded, loop_rule, loop_rules, optional_right, right_side, statement};
 ghost use Rattle.std.specs.Prelude.{◌≡◌, IfOk};
 
-use crate::{Expr, Name, Span, TypeName};
+use crate::{Expr, TypeName};
+use heyvl_places::{CheckKind, Name, Span};
 use std::alloc::{AllocError, Global};
-
-/// Which of the four checks a statement is.
-#[derive(Clone, Copy, Debug, PartialEq, Eq)]
-pub enum CheckKind {
-    Assert,
-    Assume,
-    CoAssert,
-    CoAssume,
-}
 
 /// What stands before a loop.
 #[derive(Drop)]

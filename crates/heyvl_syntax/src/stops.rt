@@ -3,7 +3,7 @@
 ghost use Rattle.heyvl_syntax.specs.declared.stops.LexStop.TheVariants.{Memory};
 ghost use Rattle.std.specs.Prelude.{◌≡◌, alloc_error};
 
-use crate::Span;
+use heyvl_places::Span;
 use std::alloc::{AllocError, AllocFailed};
 use thiserror::Error;
 

@@ -1,6 +1,7 @@
 //! Tokens.
 
-use crate::{Key, Lit, Mark, Name, Span};
+use crate::{Key, Lit, Mark};
+use heyvl_places::{Name, Span};
 
 /// What a token is.
 #[derive(Drop)]

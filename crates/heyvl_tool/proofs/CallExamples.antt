@@ -1,8 +1,8 @@
 -- Worked calls of `check a s`: what is answered where files are read, and that nothing else is.
 use Rattle.heyvl_io.specs.Faults.{Rose}
 use Rattle.heyvl_io.specs.Order.{Order, first, order_after, other, untold}
+use Rattle.heyvl_places.specs.declared.spans.Span.{Span}
 use Rattle.heyvl_syntax.specs.SourceFaults.{IsSourceFault}
-use Rattle.heyvl_syntax.specs.declared.spans.Span.{Span}
 use Rattle.heyvl_tool.proofs.CallLemmas.{same_settings}
 use Rattle.heyvl_tool.specs.Calls.IsReadReply.{by_bytes, by_length, by_source}
 use Rattle.heyvl_tool.specs.Calls.{Call, IsRead, IsReadReply, Moment, Names, call, file_limit, file_too_long, moment, names_of, read_fault}

@@ -6,7 +6,7 @@ use Rattle.heyvl_num.specs.Value.{zeroᵛ}
 use Rattle.heylo_formula.specs.Formula.{Form}
 use Rattle.heylo_formula.specs.declared.goals.GoalId.TheVariants.{Main}
 use Rattle.heylo_formula.specs.declared.values.Val.{Val}
-use Rattle.heyvl_syntax.specs.declared.spans.Span.{Span}
+use Rattle.heyvl_places.specs.declared.spans.Span.{Span}
 use Rattle.heyvl_tool.proofs.WorkedFaults.{h, h_is_on_the_wrong_side, havocking}
 use Rattle.heyvl_tool.specs.CertificateReplies.IsCheckReply.{by_certificates, by_line}
 use Rattle.heyvl_tool.specs.CertificateReplies.{IsCertification, IsCheckReply, IsCheckReport, certificate_fault}
@@ -16,9 +16,9 @@ use Rattle.heyvl_tool.specs.Replies.{IsSourceReply, IsTypedReply, status_of}
 use Rattle.heyvl_tool.specs.declared.outcomes.Fault.TheVariants as faults
 use Rattle.heyvl_tool.specs.declared.outcomes.Fault.{Fault}
 use Rattle.heyvl_tool.specs.declared.requests.Settings.TheVariants.{Check}
-use Rattle.heyvl_types.specs.Acts.{TypedProcedure, procedure_at}
+use Rattle.heyvl_acts.specs.Acts.{TypedProcedure, procedure_at}
 use Rattle.heyvl_types.specs.Findings.{Finding}
-use Rattle.heyvl_types.specs.Program.{IsProgram}
+use Rattle.heyvl_acts.specs.Program.{IsProgram}
 use Rattle.std.proofs.Common.{List, None, Option, Some, [], ap, arith, codes, length, refl, subst, sym, true, false, ◌++◌, ◌∙◌, ◌∷◌, ◌≡◌, ℕ}
 use Rattle.std.specs.Fmt.{digits}
 use Rattle.std.specs.List.{Contains}

@@ -1,9 +1,9 @@
 -- What a report asks of the answers that certificates give.
 use Rattle.goal_answers.specs.declared.trees.GoalCert.{GoalCert}
+use Rattle.heyvl_acts.specs.PlainActs.{procedure_of, procedures_of}
+use Rattle.heyvl_acts.specs.Rules.{Each, MeetsAllRules}
+use Rattle.heyvl_acts.specs.declared.typed.Typed.{Typed}
 use Rattle.heyvl_tool.proofs.Complete.{one_checked_for_each}
-use Rattle.heyvl_types.specs.PlainActs.{procedure_of, procedures_of}
-use Rattle.heyvl_types.specs.Rules.{Each, MeetsAllRules}
-use Rattle.heyvl_types.specs.declared.typed.Typed.{Typed}
 use Rattle.std.proofs.Common.{List, length, ◌<◌, ◌∙◌, ◌≡◌, ℕ}
 use Rattle.std.proofs.lemmas.List.{length-map}
 use Rattle.std.specs.Prelude.{◌^◌}

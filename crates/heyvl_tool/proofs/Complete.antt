@@ -2,6 +2,7 @@
 use Rattle.cert_text.specs.Certificates.{certificates_of}
 use Rattle.cert_text.specs.Texts.{Spells}
 use Rattle.goal_answers.specs.declared.trees.GoalCert.{GoalCert}
+use Rattle.heyvl_acts.specs.Acts.{TypedProcedure}
 use Rattle.heyvl_syntax.specs.SourceFaults.{SourcesHaveNoFault}
 use Rattle.heyvl_tool.proofs.CallLemmas.CameTo.{failed, said, too_long}
 use Rattle.heyvl_tool.proofs.CallLemmas.{CameTo, came_to}
@@ -26,7 +27,6 @@ use Rattle.heyvl_tool.specs.declared.outcomes.Fault.{Fault}
 use Rattle.heyvl_tool.specs.declared.outcomes.Outcome.{Outcome}
 use Rattle.heyvl_tool.specs.declared.requests.Settings.TheVariants.{Certify, Check, Run, Verify}
 use Rattle.heyvl_tool.specs.declared.requests.Settings.{Settings}
-use Rattle.heyvl_types.specs.Acts.{TypedProcedure}
 use Rattle.heyvl_types.specs.Files.{resolved}
 use Rattle.run_machine.specs.ConfigConditions.{ReachesPrograms}
 use Rattle.std.proofs.Common.{Bool, List, None, Option, Some, [], ap, arith, false, inl, inr, length, refl, subst, suc, sym, true, ◌∙◌, ◌∷◌, ◌≡◌, ◌≤◌, ◌⊎◌, ℕ}

@@ -1,7 +1,7 @@
 -- What holds of each of a list, and of each act in the order of the text.
-use Rattle.heyvl_types.specs.Acts.{Act, Acts, join}
-use Rattle.heyvl_types.specs.Places.{in_order, inside}
-use Rattle.heyvl_types.specs.Rules.{Each}
+use Rattle.heyvl_acts.specs.Acts.{Act, Acts, join}
+use Rattle.heyvl_acts.specs.Places.{in_order, inside}
+use Rattle.heyvl_acts.specs.Rules.{Each}
 use Rattle.std.proofs.Common.{List, [], append_assoc, map, refl, subst, sym, ◌∷◌, ◌++◌, ◌≡◌}
 
 -- The acts of two lists, one after the other.

@@ -7,12 +7,12 @@ use Rattle.heyvl_tool.proofs.SpelledStatements.{IsArmed, IsSpelled}
 use Rattle.heyvl_syntax.specs.Grammar.{IsFile}
 use Rattle.heyvl_syntax.specs.Procedures.{Procedure}
 use Rattle.heyvl_syntax.specs.declared.tokens.Token.{Token}
-use Rattle.heyvl_types.specs.Acts.{Act, Acts, Arms, TypedProcedure, acts_in, procedure_at}
-use Rattle.heyvl_types.specs.Count.{count_of, count_of_act, count_of_arms}
+use Rattle.heyvl_acts.specs.Acts.{Act, Acts, Arms, TypedProcedure, acts_in, procedure_at}
+use Rattle.heyvl_acts.specs.Count.{count_of, count_of_act, count_of_arms}
 use Rattle.heyvl_types.specs.Files.{file_findings, resolved}
-use Rattle.heyvl_types.specs.Places.{in_order, inside, inside_arms}
+use Rattle.heyvl_acts.specs.Places.{in_order, inside, inside_arms}
 use Rattle.heyvl_types.specs.ResolvedLaws.{ResolvedProceduresMeetRules}
-use Rattle.heyvl_types.specs.Rules.{Each, LoopsMeet, MeetsRules}
+use Rattle.heyvl_acts.specs.Rules.{Each, LoopsMeet, MeetsRules}
 use Rattle.run_machine.specs.Names.{HasFewActs}
 use Rattle.std.proofs.Common.{List, [], arith, length, length-append, suc, zero, ◌*◌, ◌+◌, ◌++◌, ◌<◌, ◌^◌, ◌∷◌, ◌≡◌, ◌≤◌, ℕ}
 

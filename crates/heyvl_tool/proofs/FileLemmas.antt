@@ -1,7 +1,8 @@
 -- What is said of the bytes of a file, from what its parts say.
+use Rattle.heyvl_acts.specs.Acts.{TypedProcedure}
+use Rattle.heyvl_places.specs.declared.spans.Span.{Span}
 use Rattle.heyvl_syntax.specs.Procedures.{Procedure}
 use Rattle.heyvl_syntax.specs.SourceFaults.{IsSource, IsSourceFault}
-use Rattle.heyvl_syntax.specs.declared.spans.Span.{Span}
 use Rattle.heyvl_tool.specs.FaultLaws.{tells_static}
 use Rattle.heyvl_tool.specs.Messages.{Reply, source_fault}
 use Rattle.heyvl_tool.specs.Replies.IsReplyTo.{sound, source}
@@ -11,7 +12,6 @@ use Rattle.heyvl_tool.specs.Responses.{reply_of}
 use Rattle.heyvl_tool.specs.declared.requests.Settings.TheVariants.{Certify, Check, Print, Run, Verify}
 use Rattle.heyvl_tool.specs.declared.requests.Settings.{Settings}
 use Rattle.heyvl_tool.specs.declared.responses.Response.{Response}
-use Rattle.heyvl_types.specs.Acts.{TypedProcedure}
 use Rattle.heyvl_types.specs.Files.{first_fault, resolved}
 use Rattle.std.proofs.Common.{Err, IfOk, List, None, Ok, Result, Some, subst, true, ◌≡◌, ℕ}
 use Rattle.std.proofs.lemmas.Bool.{false≢true}

@@ -1,4 +1,5 @@
 -- What the answers of an outcome mean, from the reply that a call made.
+use Rattle.heyvl_acts.specs.Acts.{TypedProcedure}
 use Rattle.heyvl_syntax.specs.Procedures.{Procedure}
 use Rattle.heyvl_syntax.specs.SourceFaults.{IsSource}
 use Rattle.heyvl_tool.proofs.CallLemmas.CameTo.{failed, said, too_long}
@@ -17,7 +18,6 @@ use Rattle.heyvl_tool.specs.Words.{AskFor, second_of}
 use Rattle.heyvl_tool.specs.declared.outcomes.Outcome.{Outcome}
 use Rattle.heyvl_tool.specs.declared.requests.Settings.TheVariants.{Certify, Check, Print, Run, Verify}
 use Rattle.heyvl_tool.specs.declared.requests.Settings.{Settings}
-use Rattle.heyvl_types.specs.Acts.{TypedProcedure}
 use Rattle.heyvl_types.specs.Files.{first_fault, resolved}
 use Rattle.std.proofs.Common.{List, None, [], ap, refl, subst, sym, ◌∙◌, ◌≡◌, ℕ}
 use Rattle.std.specs.Prelude.{◌≢◌}

@@ -6,11 +6,11 @@ use Rattle.heylo_formula.specs.BinderNames.{Binder, binders, binders_in}
 use Rattle.heylo_formula.specs.Formula.{Cond, Form}
 use Rattle.heyvl_syntax.specs.Expressions.{Expression}
 use Rattle.heyvl_syntax.specs.Procedures.{Procedure}
-use Rattle.heyvl_syntax.specs.declared.spans.Span.{Span}
-use Rattle.heyvl_types.specs.Acts.{variables}
+use Rattle.heyvl_places.specs.declared.spans.Span.{Span}
+use Rattle.heyvl_acts.specs.Acts.{variables}
 use Rattle.heyvl_types.specs.Files.{clause, file_findings, first_quantified, front_of, head_scope, joined_with, post_forms, posts_findings, procedure_findings, procedures_findings, resolved, typed}
 use Rattle.heyvl_types.specs.Findings.{Finding, at}
-use Rattle.heyvl_types.specs.Rules.{Each}
+use Rattle.heyvl_acts.specs.Rules.{Each}
 use Rattle.heyvl_types.specs.Scopes.{Scope, with_local}
 use Rattle.heyvl_types.specs.Signatures.{Called, called}
 use Rattle.heyvl_types.specs.StatementActs.{form}

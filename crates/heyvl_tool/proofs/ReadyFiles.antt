@@ -6,12 +6,12 @@ use Rattle.heyvl_tool.proofs.Reporting.{few_typed}
 use Rattle.heyvl_tool.specs.FileLaws.{FilesHaveFewActs, FilesHaveNamedBinders, FilesHaveSmallForms, FilesStandWithin}
 use Rattle.heyvl_tool.specs.Calls.{file_limit}
 use Rattle.heyvl_tool.specs.internal.TypedFiles.{IsReady}
-use Rattle.heyvl_types.specs.Acts.{TypedProcedure}
+use Rattle.heyvl_acts.specs.Acts.{TypedProcedure}
 use Rattle.heyvl_types.specs.ResolvedLaws.{IsAnswer, ResolvedTreesMeetRules}
-use Rattle.heyvl_types.specs.ResolvedSizes.{FormsWithin}
-use Rattle.heyvl_types.specs.Rules.{Each, IsCounted}
+use Rattle.heyvl_acts.specs.FormSizes.{FormsWithin}
+use Rattle.heyvl_acts.specs.Rules.{Each, IsCounted}
 use Rattle.heyvl_types.specs.declared.stops.ResolveStop.{ResolveStop}
-use Rattle.heyvl_types.specs.declared.typed.Typed.{Typed}
+use Rattle.heyvl_acts.specs.declared.typed.Typed.{Typed}
 use Rattle.run_machine.specs.Names.{HasFewActs}
 use Rattle.std.proofs.Common.{Err, List, Ok, arith, length, subst, sym, ◌≤◌, ℕ}
 use Rattle.std.specs.Prelude.{IfOk, Result, ◌^◌}

@@ -5,10 +5,10 @@ use Rattle.heyvl_syntax.specs.SourceFaults.{IsSource}
 use Rattle.heyvl_tool.proofs.Complete.{one_for_each}
 use Rattle.heyvl_tool.proofs.FewProcedures.{few_procedures}
 use Rattle.heyvl_types.specs.Files.{resolved, typed}
-use Rattle.heyvl_types.specs.PlainActs.{procedure_of, procedures_of}
-use Rattle.heyvl_types.specs.Rules.{Each, MeetsAllRules}
+use Rattle.heyvl_acts.specs.PlainActs.{procedure_of, procedures_of}
+use Rattle.heyvl_acts.specs.Rules.{Each, MeetsAllRules}
 use Rattle.heyvl_types.specs.Signatures.{called}
-use Rattle.heyvl_types.specs.declared.typed.Typed.{Typed}
+use Rattle.heyvl_acts.specs.declared.typed.Typed.{Typed}
 use Rattle.std.proofs.Common.{List, ap, arith, length, ◌<◌, ◌∙◌, ◌≡◌, ◌≤◌, ℕ}
 use Rattle.std.proofs.lemmas.List.{length-map}
 use Rattle.std.specs.Prelude.{◌^◌}

@@ -11,7 +11,7 @@ use Rattle.heyvl_num.specs.Value.Value.{finite, infinite}
 use Rattle.heyvl_num.specs.Value.{Value, infinite_times, is_zeroʳ, leqᵛ, oneᵛ, zeroᵛ, ◌*ᵛ◌, ◌+ᵛ◌}
 use Rattle.heyvl_num.specs.WeightedSums.{joined, scaled}
 use Rattle.heyvl_num.specs.declared.extended.Ext.{Ext}
-use Rattle.heyvl_syntax.specs.declared.spans.Span.{Span}
+use Rattle.heyvl_places.specs.declared.spans.Span.{Span}
 use Rattle.heyvl_tool.specs.Messages.{Reply, message}
 use Rattle.heyvl_tool.specs.RunReplies.IsRunReply.{by_name, by_program, by_run, by_script}
 use Rattle.heyvl_tool.specs.RunReplies.{IsRunReply, TellsRun, no_procedure, no_program, run_reply, runs_by, script_fault}
@@ -23,9 +23,9 @@ use Rattle.heyvl_tool.specs.Scripts.{Script, read_script}
 use Rattle.heyvl_tool.specs.declared.outcomes.Fault.TheVariants as faults
 use Rattle.heyvl_tool.specs.declared.outcomes.Fault.{Fault}
 use Rattle.heyvl_tool.specs.declared.run_stops.RunStop.TheVariants as stops
-use Rattle.heyvl_types.specs.Acts.{Act, Acts, TypedProcedure, Variable, procedure_at}
-use Rattle.heyvl_types.specs.Program.Reaches.{directly, onward}
-use Rattle.heyvl_types.specs.Program.{Calls, IsProgram, Reaches}
+use Rattle.heyvl_acts.specs.Acts.{Act, Acts, TypedProcedure, Variable, procedure_at}
+use Rattle.heyvl_acts.specs.Program.Reaches.{directly, onward}
+use Rattle.heyvl_acts.specs.Program.{Calls, IsProgram, Reaches}
 use Rattle.run_machine.specs.ConfigConditions.{ReachesPrograms}
 use Rattle.run_unroller.specs.Totals.{Totals}
 use Rattle.run_unroller.specs.Unrolling.{Unrolling, totals_of, unrolling_of}

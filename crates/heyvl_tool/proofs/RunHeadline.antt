@@ -1,7 +1,8 @@
 -- What the numbers of a run mean, from the reply that a call made.
+use Rattle.heyvl_acts.specs.Acts.{TypedProcedure, procedure_at}
+use Rattle.heyvl_places.specs.declared.spans.Span.{Span}
 use Rattle.heyvl_syntax.specs.Procedures.{Procedure}
 use Rattle.heyvl_syntax.specs.SourceFaults.{IsSource}
-use Rattle.heyvl_syntax.specs.declared.spans.Span.{Span}
 use Rattle.heyvl_tool.proofs.CallLemmas.CameTo.{failed, said, too_long}
 use Rattle.heyvl_tool.proofs.CallLemmas.{CameTo, came_to}
 use Rattle.heyvl_tool.proofs.ScriptReading.{script_says_steps}
@@ -24,7 +25,6 @@ use Rattle.heyvl_tool.specs.declared.outcomes.Outcome.{Outcome}
 use Rattle.heyvl_tool.specs.declared.requests.Settings.TheVariants.{Run}
 use Rattle.heyvl_tool.specs.declared.run_stops.RunStop.TheVariants as stops
 use Rattle.heyvl_tool.specs.declared.run_stops.RunStop.{RunStop}
-use Rattle.heyvl_types.specs.Acts.{TypedProcedure, procedure_at}
 use Rattle.heyvl_types.specs.Files.{first_fault, resolved}
 use Rattle.run_machine.specs.ConfigConditions.{ReachesPrograms}
 use Rattle.run_unroller.specs.Totals.{Totals}

@@ -9,13 +9,13 @@ use Rattle.heylo_formula.specs.declared.types.Ty.{Ty}
 use Rattle.heyvl_tool.specs.RunStarts.{IsFirstNoProgram, start_state, start_value}
 use Rattle.heyvl_tool.specs.RunReplies.{runs_by}
 use Rattle.heyvl_tool.specs.Scripts.{Script, known_of}
-use Rattle.heyvl_types.specs.Acts.{TypedProcedure, Variable, procedure_at, type_list, variables}
-use Rattle.heyvl_types.specs.Program.{IsProgram, why_no_program}
-use Rattle.heyvl_types.specs.PlainActs.{procedure_of, variable_of}
-use Rattle.heyvl_types.specs.Rules.{Each, GrowBelow, IsCounted}
-use Rattle.heyvl_types.specs.declared.typed.TProc.{TProc}
-use Rattle.heyvl_types.specs.declared.typed.VarInfo.{VarInfo}
-use Rattle.heyvl_types.specs.Visible.{among}
+use Rattle.heyvl_acts.specs.Acts.{TypedProcedure, Variable, procedure_at, type_list, variables}
+use Rattle.heyvl_acts.specs.Program.{IsProgram, why_no_program}
+use Rattle.heyvl_acts.specs.PlainActs.{procedure_of, variable_of}
+use Rattle.heyvl_acts.specs.Rules.{Each, GrowBelow, IsCounted}
+use Rattle.heyvl_acts.specs.declared.typed.TProc.{TProc}
+use Rattle.heyvl_acts.specs.declared.typed.VarInfo.{VarInfo}
+use Rattle.heyvl_acts.specs.Visible.{among}
 use Rattle.proc_contracts.specs.Reached.{AreReached}
 use Rattle.run_machine.specs.Bound.{IsState}
 use Rattle.run_machine.specs.ConfigConditions.{IsConfig, ReachesPrograms}

@@ -1,6 +1,7 @@
 -- Which faults a reply to the bytes of a file has.
+use Rattle.heyvl_acts.specs.Acts.{TypedProcedure}
+use Rattle.heyvl_places.specs.declared.spans.Span.{Span}
 use Rattle.heyvl_syntax.specs.Procedures.{Procedure}
-use Rattle.heyvl_syntax.specs.declared.spans.Span.{Span}
 use Rattle.heyvl_tool.specs.CertificateReplies.IsCheckReply.{by_certificates, by_line}
 use Rattle.heyvl_tool.specs.CertificateReplies.{IsCertification, IsCheckReply}
 use Rattle.heyvl_tool.specs.Messages.{Reply, source_fault}
@@ -12,7 +13,6 @@ use Rattle.heyvl_tool.specs.declared.outcomes.Fault.TheVariants as faults
 use Rattle.heyvl_tool.specs.declared.outcomes.Fault.{Fault}
 use Rattle.heyvl_tool.specs.declared.requests.Settings.TheVariants.{Certify, Check, Print, Run, Verify}
 use Rattle.heyvl_tool.specs.declared.requests.Settings.{Settings}
-use Rattle.heyvl_types.specs.Acts.{TypedProcedure}
 use Rattle.heyvl_types.specs.Files.{first_fault}
 use Rattle.run_unroller.specs.declared.answers.Unrolled.TheVariants as answers
 use Rattle.run_unroller.specs.declared.answers.Unrolled.{Unrolled}

@@ -8,11 +8,12 @@ use Rattle.heyvl_syntax.specs.Grammar.{IsFile}
 use Rattle.heyvl_syntax.specs.Procedures.{Procedure}
 use Rattle.heyvl_syntax.specs.Sizes.{expression_nodes, nodes_of_procedure}
 use Rattle.heyvl_syntax.specs.declared.tokens.Token.{Token}
-use Rattle.heyvl_types.specs.Acts.{Act, Arms, TypedProcedure, acts_in}
+use Rattle.heyvl_acts.specs.Acts.{Act, Arms, TypedProcedure, acts_in}
 use Rattle.heyvl_types.specs.Files.{file_findings, resolved, typed}
-use Rattle.heyvl_types.specs.Places.{in_order}
-use Rattle.heyvl_types.specs.ResolvedSizes.{ActWithin, FormsWithin, GuardsWithin, RankWithin, ResolvedFormsAreSmall}
-use Rattle.heyvl_types.specs.Rules.{Each}
+use Rattle.heyvl_acts.specs.Places.{in_order}
+use Rattle.heyvl_types.specs.ResolvedSizes.{ResolvedFormsAreSmall}
+use Rattle.heyvl_acts.specs.FormSizes.{ActWithin, FormsWithin, GuardsWithin, RankWithin}
+use Rattle.heyvl_acts.specs.Rules.{Each}
 use Rattle.heyvl_types.specs.Signatures.{Called, called}
 use Rattle.std.proofs.Common.{List, None, Option, Some, [], arith, length, map, ◌*◌, ◌+◌, ◌^◌, ◌∷◌, ◌≡◌, ◌≤◌, ℕ}
 use Rattle.std.proofs.lemmas.List.Sums.{sum_by-cons}

@@ -1,10 +1,10 @@
 -- What follows from a text of a production, where each token begins within so many bytes: it follows from the parts of the text.
 use Rattle.heyvl_syntax.specs.Productions.{IsAt, IsEach, IsList, IsList0, IsMore, extent, ◌then◌}
 use Rattle.heyvl_syntax.specs.TokenLaws.{StandInOrder}
-use Rattle.heyvl_syntax.specs.declared.spans.Span.{Span}
+use Rattle.heyvl_places.specs.declared.spans.Span.{Span}
 use Rattle.heyvl_syntax.specs.declared.tokens.Token.{Token}
 use Rattle.heyvl_syntax.specs.declared.tokens.TokenKind.{TokenKind}
-use Rattle.heyvl_types.specs.Rules.{Each}
+use Rattle.heyvl_acts.specs.Rules.{Each}
 use Rattle.heyvl_tool.proofs.EachOf.{each_back, each_front}
 use Rattle.std.proofs.Common.{List, [], ap, arith, length, subst, ◌++◌, ◌∷◌, ◌≡◌, ◌≤◌, ℕ}
 

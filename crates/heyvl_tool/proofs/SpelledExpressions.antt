@@ -3,7 +3,7 @@ use Rattle.heyvl_tool.proofs.Meanings.{Holds, Spreads, bracketed_holds, chosen_h
 use Rattle.heyvl_tool.proofs.Spelled.{Gives, any, here, within, ◌before◌}
 use Rattle.heyvl_syntax.specs.Expressions.{Expression}
 use Rattle.heyvl_syntax.specs.Grammar.{IsExpr, operator, ranks}
-use Rattle.heyvl_syntax.specs.declared.spans.Span.{Span}
+use Rattle.heyvl_places.specs.declared.spans.Span.{Span}
 use Rattle.heyvl_types.specs.Scopes.{Scope, with_local}
 use Rattle.heyvl_types.specs.StatementActs.{condition, form, term}
 use Rattle.heyvl_types.specs.Table.{Meaning}

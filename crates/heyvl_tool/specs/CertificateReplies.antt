@@ -4,7 +4,7 @@ use Rattle.cert_text.specs.Texts.{IsFirstFault, Spells, text_of}
 use Rattle.goal_answers.specs.declared.trees.GoalCert.{GoalCert}
 use Rattle.heyvl_tool.specs.Messages.{Reply, message}
 use Rattle.heyvl_tool.specs.declared.outcomes.Fault.TheVariants as faults
-use Rattle.heyvl_types.specs.Acts.{TypedProcedure}
+use Rattle.heyvl_acts.specs.Acts.{TypedProcedure}
 use Rattle.std.specs.Prelude.{List, [], codes, decimal, ◌++◌, ◌≡◌, ℕ}
 use Rattle.verdict_report.specs.Reports.{report_text}
 use Rattle.goal_answers.specs.declared.named_goals.NamedGoal.{NamedGoal}

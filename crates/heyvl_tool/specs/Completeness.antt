@@ -15,7 +15,7 @@ use Rattle.heyvl_tool.specs.declared.outcomes.Fault.TheVariants as faults
 use Rattle.heyvl_tool.specs.declared.outcomes.Outcome.{Outcome}
 use Rattle.heyvl_tool.specs.declared.requests.Settings.TheVariants.{Certify, Check, Run, Verify}
 use Rattle.heyvl_tool.specs.declared.requests.Settings.{Settings}
-use Rattle.heyvl_types.specs.Acts.{TypedProcedure}
+use Rattle.heyvl_acts.specs.Acts.{TypedProcedure}
 use Rattle.heyvl_types.specs.Files.{first_fault, resolved}
 use Rattle.run_machine.specs.ConfigConditions.{ReachesPrograms}
 use Rattle.std.specs.Prelude.{List, None, Some, length, ◌≡◌, ◌≢◌, ◌≤◌, ◌⊎◌, ℕ}

@@ -1,7 +1,7 @@
 -- Laws of the faults of files that the commands tell.
+use Rattle.heyvl_places.specs.declared.spans.Span.{Span}
 use Rattle.heyvl_syntax.specs.Procedures.{Procedure}
 use Rattle.heyvl_syntax.specs.SourceFaults.{IsSource, IsSourceFault}
-use Rattle.heyvl_syntax.specs.declared.spans.Span.{Span}
 use Rattle.heyvl_tool.specs.Messages.{Reply, source_fault}
 use Rattle.heyvl_tool.specs.Replies.{IsReplyTo}
 use Rattle.heyvl_tool.specs.declared.outcomes.Fault.TheVariants.{Source}

@@ -1,6 +1,6 @@
 -- What is written of a file with a fault.
-use Rattle.heyvl_syntax.specs.Places.{column_of, line_of}
-use Rattle.heyvl_syntax.specs.declared.spans.Span.{Span}
+use Rattle.heyvl_places.specs.Places.{column_of, line_of}
+use Rattle.heyvl_places.specs.declared.spans.Span.{Span}
 use Rattle.std.specs.Prelude.{List, codes, cond, decimal, nat_eq, nat_lt, ◌++◌, ℕ}
 
 -- The text of each fault of bytes, tokens and grammar.

@@ -1,6 +1,6 @@
 -- The answer to a call, before it is written.
 use Rattle.std.specs.Prelude.{List, [], ℕ}
-use Rattle.heyvl_syntax.specs.declared.spans.Span.{Span}
+use Rattle.heyvl_places.specs.declared.spans.Span.{Span}
 use Rattle.heyvl_tool.specs.FaultTexts.{source_fault_line}
 use Rattle.heyvl_tool.specs.declared.outcomes.Fault.{Fault}
 use Rattle.heyvl_tool.specs.declared.outcomes.Fault.TheVariants as faults

@@ -6,7 +6,7 @@ use Rattle.heyvl_io.specs.Faults.{Rose}
 use Rattle.heyvl_print.specs.Canonical.{canonical_text}
 use Rattle.heyvl_syntax.specs.Procedures.{Procedure}
 use Rattle.heyvl_syntax.specs.SourceFaults.{IsSource, IsSourceFault}
-use Rattle.heyvl_syntax.specs.declared.spans.Span.{Span}
+use Rattle.heyvl_places.specs.declared.spans.Span.{Span}
 use Rattle.heyvl_tool.specs.Calls.{Call, IsReadReply, Moment, Names}
 use Rattle.heyvl_tool.specs.CertificateReplies.{IsCertification, IsCheckReply}
 use Rattle.heyvl_tool.specs.Messages.{Reply, message, source_fault}
@@ -18,7 +18,7 @@ use Rattle.heyvl_tool.specs.declared.outcomes.Fault.TheVariants as faults
 use Rattle.heyvl_tool.specs.declared.outcomes.Outcome.{Outcome}
 use Rattle.heyvl_tool.specs.declared.requests.Settings.TheVariants as commands
 use Rattle.heyvl_tool.specs.declared.requests.Settings.{Settings}
-use Rattle.heyvl_types.specs.Acts.{TypedProcedure}
+use Rattle.heyvl_acts.specs.Acts.{TypedProcedure}
 use Rattle.heyvl_types.specs.Files.{first_fault, resolved}
 use Rattle.verdict_report.specs.Reports.{report_text}
 use Rattle.verdict_report.specs.declared.answers.Answer.{Answer}

@@ -1,4 +1,5 @@
 -- What `run` says of a file without a fault and a script.
+use Rattle.heyvl_acts.specs.Acts.{TypedProcedure, procedure_at}
 use Rattle.heyvl_tool.specs.Messages.{Reply, message}
 use Rattle.heyvl_tool.specs.RunStarts.{IsFirstNoProgram, known_at, procedure_named, start_state}
 use Rattle.heyvl_tool.specs.RunTexts.{no_procedure_text, no_program_text, script_fault_text, stop_text, sums_text}
@@ -6,7 +7,6 @@ use Rattle.heyvl_tool.specs.Scripts.Reading.{breaks, says}
 use Rattle.heyvl_tool.specs.Scripts.{Script, read_script}
 use Rattle.heyvl_tool.specs.declared.outcomes.Fault.TheVariants as faults
 use Rattle.heyvl_tool.specs.declared.run_stops.RunStop.TheVariants as stops
-use Rattle.heyvl_types.specs.Acts.{TypedProcedure, procedure_at}
 use Rattle.run_machine.specs.ConfigConditions.{ReachesPrograms}
 use Rattle.run_machine.specs.Configurations.{begin}
 use Rattle.run_unroller.specs.RunLists.{begun}

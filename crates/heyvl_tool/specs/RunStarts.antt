@@ -1,9 +1,9 @@
 -- Where a run starts: the procedure that a name names, the first state, and which procedures have to be programs.
 use Rattle.heylo_formula.specs.State.{default, fit}
 use Rattle.heylo_formula.specs.declared.values.Val.{Val}
+use Rattle.heyvl_acts.specs.Acts.{TypedProcedure, Variable, procedure_at}
+use Rattle.heyvl_acts.specs.Program.{IsProgram, Reaches}
 use Rattle.heyvl_tool.specs.Scripts.{Known, known_of}
-use Rattle.heyvl_types.specs.Acts.{TypedProcedure, Variable, procedure_at}
-use Rattle.heyvl_types.specs.Program.{IsProgram, Reaches}
 use Rattle.std.specs.List.{find, position_from}
 use Rattle.std.specs.Option.{option_map_or}
 use Rattle.std.specs.Prelude.{List, None, Option, Some, map, ◌++◌, ◌<◌, ℕ}

@@ -1,8 +1,8 @@
 -- Scripts: what the lines of one say together, or the first line that breaks the rules.
 use Rattle.heylo_formula.specs.State.{has}
 use Rattle.heylo_formula.specs.declared.values.Val.{Val}
+use Rattle.heyvl_acts.specs.Acts.{TypedProcedure, Variable}
 use Rattle.heyvl_tool.specs.ScriptLines.{Line, said, script_lines}
-use Rattle.heyvl_types.specs.Acts.{TypedProcedure, Variable}
 use Rattle.run_machine.specs.declared.configurations.Decide.{Decide}
 use Rattle.std.specs.List.{list_any}
 use Rattle.std.specs.Option.{is_none}

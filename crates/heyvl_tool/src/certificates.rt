@@ -2,12 +2,12 @@
 
 ghost use Rattle.cert_text.specs.Certificates.{IsGrowingAfter, certificates_of};
 ghost use Rattle.cert_text.specs.Texts.{Spells};
+ghost use Rattle.heyvl_acts.specs.FormSizes.{FormsWithin};
+ghost use Rattle.heyvl_acts.specs.PlainActs.{procedures_of};
+ghost use Rattle.heyvl_acts.specs.Rules.{Each, MeetsAllRules};
 ghost use Rattle.heyvl_tool.specs.CertificateReplies.{IsCertification, IsCheckReply, IsCheckReport, certificate_fault};
 ghost use Rattle.heyvl_tool.specs.Responses.{reply_of};
 ghost use Rattle.heyvl_tool.specs.internal.TypedFiles.{IsReady};
-ghost use Rattle.heyvl_types.specs.PlainActs.{procedures_of};
-ghost use Rattle.heyvl_types.specs.ResolvedSizes.{FormsWithin};
-ghost use Rattle.heyvl_types.specs.Rules.{Each, MeetsAllRules};
 ghost use Rattle.std.specs.Prelude.{IfOk, List, None, codes, decimal, length, ◌++◌, ◌<◌, ◌^◌, ◌≡◌, ℕ};
 ghost use Rattle.verify_core.specs.PostBinders.{HasNamedBinders};
 
@@ -15,7 +15,7 @@ use crate::Fault;
 use crate::responses::{Response, Text, message};
 use cert_text::{CertStop, read_cert, write_cert};
 use goal_answers::GoalCert;
-use heyvl_types::Typed;
+use heyvl_acts::Typed;
 use itoa::Buffer;
 use std::alloc::{AllocError, Global};
 use verdict_report::report;

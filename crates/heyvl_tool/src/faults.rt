@@ -1,11 +1,12 @@
 //! The line on a file that has a fault.
 
-ghost use Rattle.heyvl_syntax.specs.Places.{place_at};
+ghost use Rattle.heyvl_places.specs.Places.{place_at};
 ghost use Rattle.heyvl_syntax.specs.SourceFaults.{token_place};
 ghost use Rattle.heyvl_tool.specs.FaultTexts.{fault_text, source_fault_line, source_text, static_text};
 ghost use Rattle.std.specs.Prelude.{IfOk, OnOk, decimal, length, ◌++◌, ◌<◌, ◌^◌, ◌≡◌};
 
-use heyvl_syntax::{Place, Span, Token, place_at};
+use heyvl_places::{Place, Span, place_at};
+use heyvl_syntax::Token;
 use itoa::Buffer;
 use std::alloc::{AllocError, Global};
 

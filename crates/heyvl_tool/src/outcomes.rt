@@ -1,7 +1,7 @@
 //! What a call of the tool comes to.
 
 use crate::RunStop;
-use heyvl_syntax::Span;
+use heyvl_places::Span;
 use verdict_report::Answer;
 
 /// Why a call didn't do what its words ask for, or `Nothing`. A `u8` is the number of a file among those that the words name, from 0.

@@ -1,5 +1,6 @@
 //! What is answered to a call, before it is written.
 
+ghost use Rattle.heyvl_acts.specs.PlainActs.{procedures_of};
 ghost use Rattle.heyvl_syntax.specs.Procedures.{procedures};
 ghost use Rattle.heyvl_syntax.specs.SourceFaults.{IsSource};
 ghost use Rattle.heyvl_tool.specs.Calls.{file_limit};
@@ -8,7 +9,6 @@ ghost use Rattle.heyvl_tool.specs.Messages.{message, source_fault};
 ghost use Rattle.heyvl_tool.specs.Replies.{IsReplyTo, IsReport, IsSourceReply, Says, printed};
 ghost use Rattle.heyvl_tool.specs.Responses.{reply_of, text_bytes};
 ghost use Rattle.heyvl_tool.specs.internal.TypedFiles.{IsReady};
-ghost use Rattle.heyvl_types.specs.PlainActs.{procedures_of};
 ghost use Rattle.std.specs.Prelude.{IfOk, length, true, ◌<◌, ◌^◌, ◌≡◌, ◌≤◌};
 
 use crate::certificates::{certify_typed, check_typed};
@@ -16,10 +16,12 @@ use crate::faults::{source_fault_line, token_place};
 use crate::running::run_typed;
 use crate::typed_files::typed_file;
 use crate::{Fault, Settings};
+use heyvl_acts::Typed;
 use heyvl_parse::{ParseStop, parse};
+use heyvl_places::Span;
 use heyvl_print::print;
-use heyvl_syntax::{File, LexStop, Span, lex};
-use heyvl_types::{ResolveStop, Typed};
+use heyvl_syntax::{File, LexStop, lex};
+use heyvl_types::ResolveStop;
 use std::alloc::{AllocError, Global};
 use verdict_report::{Answer, report};
 use verify_core::verify;

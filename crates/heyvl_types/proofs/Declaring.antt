@@ -6,7 +6,7 @@ use Rattle.heyvl_types.specs.Signatures.{Called}
 use Rattle.heyvl_types.specs.StatementRules.{value_findings, var_rules}
 use Rattle.heyvl_types.specs.declared.settings.Setting.{Setting}
 use Rattle.heyvl_syntax.specs.Statements.{RightSide}
-use Rattle.heyvl_syntax.specs.declared.spans.Span.{Span}
+use Rattle.heyvl_places.specs.declared.spans.Span.{Span}
 use Rattle.heyvl_syntax.specs.declared.types.TypeName.{TypeName}
 use Rattle.std.proofs.Common.{List, None, Option, Some, [], false, ◌++◌, ◌≡◌, ℕ}
 

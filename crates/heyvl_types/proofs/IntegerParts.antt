@@ -2,8 +2,8 @@
 use Rattle.heylo_formula.specs.Formula.{Term}
 use Rattle.heylo_formula.specs.PlainTrees.{term_of}
 use Rattle.heylo_formula.specs.declared.terms.Term as T
+use Rattle.heyvl_acts.specs.PlainActs.{part_of, parts_of}
 use Rattle.heyvl_num.specs.Rational.{Rational, ratio}
-use Rattle.heyvl_types.specs.PlainActs.{part_of, parts_of}
 use Rattle.heyvl_types.specs.StatementActs.{integer_parts, unif_parts, whole_term}
 use Rattle.std.proofs.Common.{List, [], ap, append_assoc, arith, pos, suc, sym, ◌++◌, ◌+◌, ◌-◌, ◌<◌, ◌∙◌, ◌∷◌, ◌≡◌, ℕ, ℤ}
 use Rattle.std.proofs.lemmas.Int.{ints}

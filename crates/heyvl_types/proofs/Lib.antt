@@ -1,7 +1,3 @@
-mod Matching
-mod Copying
-mod Finding
-pub mod TargetSteps
 pub mod Earlier
 pub mod Parts
 pub mod ParameterSteps
@@ -11,9 +7,6 @@ pub mod LocalsLeft
 pub mod ProcedureParts
 pub mod ReadProcedures
 pub mod ProcedureList
-pub mod CountsLeft
-mod ActExamples
-pub mod exported
 mod ExampleTexts
 mod FaultExamples
 pub mod ScopeEntries

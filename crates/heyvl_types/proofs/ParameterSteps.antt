@@ -1,7 +1,7 @@
 -- Parameters that are read one after the other.
+use Rattle.heyvl_acts.specs.Acts.{Variable}
 use Rattle.heyvl_syntax.specs.declared.procedures.Param.{Param}
 use Rattle.heyvl_types.proofs.Parts.{behind, stops, stops_at}
-use Rattle.heyvl_types.specs.Acts.{Variable}
 use Rattle.heyvl_types.specs.Answers.{Gives}
 use Rattle.heyvl_types.specs.Files.{parameters_findings}
 use Rattle.heyvl_types.specs.Findings.{Finding, at}

@@ -1,9 +1,9 @@
 -- Procedures that are read one after the other.
+use Rattle.heyvl_acts.specs.Acts.{TypedProcedure}
 use Rattle.heyvl_syntax.specs.Procedures.{Procedure, procedure}
 use Rattle.heyvl_syntax.specs.declared.procedures.Proc.{Proc}
 use Rattle.heyvl_types.proofs.Earlier.{earlier_named}
 use Rattle.heyvl_types.proofs.Parts.{behind, stops, stops_at}
-use Rattle.heyvl_types.specs.Acts.{TypedProcedure}
 use Rattle.heyvl_types.specs.Answers.{Gives}
 use Rattle.heyvl_types.specs.Files.{file_findings, procedure_findings, procedures_findings, resolved, typed}
 use Rattle.heyvl_types.specs.Findings.{Finding}

@@ -1,6 +1,6 @@
 -- The parts of a procedure: what is found against them, and where its variables stand.
+use Rattle.heyvl_acts.specs.Acts.{Variable}
 use Rattle.heyvl_types.proofs.Parts.{behind, first_in, stops, stops_at, tells_stop}
-use Rattle.heyvl_types.specs.Acts.{Variable}
 use Rattle.heyvl_types.specs.Findings.{Finding}
 use Rattle.std.proofs.Common.{List, [], ap, append_assoc, drop, length, refl, sym, take, ◌+◌, ◌++◌, ◌∙◌, ◌≡◌, ◌∷◌, ℕ}
 use Rattle.std.proofs.Math.Seq.{drop-append-add, drop-append_seam, take-append_seam}

@@ -1,6 +1,10 @@
 -- Blocks and arms that the program holds, read as far as their rests.
 use Rattle.heylo_formula.specs.Formula.{Cond}
 use Rattle.heylo_formula.specs.declared.forms.Cond as C
+use Rattle.heyvl_acts.specs.Acts.{Acts}
+use Rattle.heyvl_acts.specs.PlainActs.{acts_of, arm_of, armed, variable_of}
+use Rattle.heyvl_acts.specs.declared.acts.Act as A
+use Rattle.heyvl_acts.specs.declared.typed.VarInfo.{VarInfo}
 use Rattle.heyvl_syntax.proofs.exported.PlainTreesAre.{plain_statements}
 use Rattle.heyvl_syntax.specs.Expressions.{expression}
 use Rattle.heyvl_syntax.specs.Statements as text
@@ -10,18 +14,14 @@ use Rattle.heyvl_syntax.specs.declared.statements.Stmt.{Stmt}
 use Rattle.heyvl_types.proofs.Havocs.{acts_append, join_done}
 use Rattle.heyvl_types.proofs.Rests.{arms_end, arms_next, block_end, block_next}
 use Rattle.heyvl_types.proofs.Walks.{ArmsRead, BlockRead, arms_step, arms_then_none, block_step}
-use Rattle.heyvl_types.specs.Acts.{Acts}
-use Rattle.heyvl_types.specs.PlainActs.{acts_of, arm_of, armed, variable_of}
 use Rattle.heyvl_types.specs.Scopes.{Scope}
 use Rattle.heyvl_types.specs.Signatures.{Called}
 use Rattle.heyvl_types.specs.StatementActs.{arms_acts, block_acts, condition, loops, loops_of_block, statement_acts}
 use Rattle.heyvl_types.specs.StatementRules.{arms_bind, arms_findings, block_binds, block_findings, statement_findings}
 use Rattle.heyvl_types.specs.TypedExpressions.{closed_findings, elaborate}
 use Rattle.heyvl_types.specs.Variables.{behind, locals, locals_of_block}
-use Rattle.heyvl_types.specs.declared.acts.Act as A
 use Rattle.heyvl_types.specs.declared.demands.Demand.{Demand}
 use Rattle.heyvl_types.specs.declared.settings.Setting.{Setting}
-use Rattle.heyvl_types.specs.declared.typed.VarInfo.{VarInfo}
 use Rattle.std.proofs.Common.{Bool, List, Vec, [], ap, drop, get_or, length, map, subst, sym, take, ◌++◌, ◌+◌, ◌<◌, ◌||◌, ◌∙◌, ◌≡◌, ◌∷◌, ◌≤◌, ℕ}
 use Rattle.std.proofs.lemmas.List.{map-append}
 use Rattle.std.specs.declared.alloc.Global.{Global}

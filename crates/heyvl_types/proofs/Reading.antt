@@ -1,5 +1,5 @@
 -- How answers of parts make the answer of the whole.
-use Rattle.heyvl_syntax.specs.declared.spans.Span.{Span}
+use Rattle.heyvl_places.specs.declared.spans.Span.{Span}
 use Rattle.heyvl_types.specs.Answers.{Gives}
 use Rattle.heyvl_types.specs.Findings.{Finding, at, first}
 use Rattle.heyvl_types.specs.declared.stops.ResolveStop.{ResolveStop}

@@ -1,20 +1,20 @@
 -- The rules of a statement once the parts of its right side are read are those of its right side.
+use Rattle.heyvl_acts.specs.PlainActs.{act_of}
+use Rattle.heyvl_acts.specs.declared.acts.Act as A
+use Rattle.heyvl_places.specs.declared.spans.Span.{Span}
 use Rattle.heyvl_syntax.specs.Expressions.{Expression, expressions}
 use Rattle.heyvl_syntax.specs.Statements.{RightSide, choices, right_side}
 use Rattle.heyvl_syntax.specs.declared.expressions.Expr.{Expr}
-use Rattle.heyvl_syntax.specs.declared.spans.Span.{Span}
 use Rattle.heyvl_syntax.specs.declared.statements.Right.TheVariants as rights
 use Rattle.heyvl_syntax.specs.declared.statements.Right.{Right}
 use Rattle.heyvl_syntax.specs.declared.types.TypeName.{TypeName}
 use Rattle.heyvl_types.specs.Answers.{Gives}
 use Rattle.heyvl_types.specs.Findings.{Finding, at}
-use Rattle.heyvl_types.specs.PlainActs.{act_of}
 use Rattle.heyvl_types.specs.RightSides.{ValueType, any_argument_mismatches, any_output_mismatches, call_counts_wrong, call_mismatches, first_mismatches, has_over_zero, is_of_other_direction, is_quantified, join_types, join_with, literal_wrong, mismatches, right_findings, right_rules, type_of_choices, type_of_expression}
 use Rattle.heyvl_types.specs.Scopes.{Scope}
 use Rattle.heyvl_types.specs.Signatures.{Called, Signature, find_call}
 use Rattle.heyvl_types.specs.StatementActs.{assigned}
 use Rattle.heyvl_types.specs.Table.{given}
-use Rattle.heyvl_types.specs.declared.acts.Act as A
 use Rattle.heyvl_types.specs.declared.right_sides.Targets.{Targets}
 use Rattle.heyvl_types.specs.declared.stops.ResolveStop.{ResolveStop}
 use Rattle.heyvl_types.specs.internal.RightSideParts.{join_all, join_more, types_of, types_of_choices}

@@ -4,8 +4,8 @@ use Rattle.heyvl_syntax.specs.Expressions.{Expression}
 use Rattle.heyvl_syntax.specs.Statements.{Block, Statement}
 use Rattle.heyvl_syntax.specs.Statements as text
 use Rattle.heyvl_types.proofs.Havocs.{join_assoc}
-use Rattle.heyvl_types.specs.Acts.{Acts, Arms, Variable, join}
-use Rattle.heyvl_types.specs.PlainActs.{armed, variable_of}
+use Rattle.heyvl_acts.specs.Acts.{Acts, Arms, Variable, join}
+use Rattle.heyvl_acts.specs.PlainActs.{armed, variable_of}
 use Rattle.heyvl_types.specs.Scopes.{Scope}
 use Rattle.heyvl_types.specs.Signatures.{Called}
 use Rattle.heyvl_types.specs.StatementActs.{arms_acts, block_acts, condition, loops, loops_of_arms, loops_of_block, statement_acts}
@@ -14,7 +14,7 @@ use Rattle.heyvl_types.specs.TypedExpressions.{closed_findings, elaborate}
 use Rattle.heyvl_types.specs.Variables.{behind, locals, locals_of_arms, locals_of_block}
 use Rattle.heyvl_types.specs.declared.demands.Demand.{Demand}
 use Rattle.heyvl_types.specs.declared.settings.Setting.{Setting}
-use Rattle.heyvl_types.specs.declared.typed.VarInfo.{VarInfo}
+use Rattle.heyvl_acts.specs.declared.typed.VarInfo.{VarInfo}
 use Rattle.std.proofs.Common.{Bool, List, [], ap, append_assoc, arith, length, map, refl, sym, take, ◌++◌, ◌+◌, ◌||◌, ◌∙◌, ◌≡◌, ◌∷◌, ℕ}
 use Rattle.std.proofs.lemmas.List.{length-append, length-map}
 

@@ -2,10 +2,10 @@
 use Rattle.heyvl_num.specs.Exact.{exact_sum, is_small, sum_fits}
 use Rattle.heyvl_num.specs.Gcd.{gcd, gcd_steps}
 use Rattle.heyvl_num.specs.Rational.{Rational, ratio, zeroʳ, ◌+ʳ◌}
+use Rattle.heyvl_places.specs.declared.spans.Span.{Span}
 use Rattle.heyvl_syntax.specs.Expressions.{Expression}
 use Rattle.heyvl_syntax.specs.declared.literals.Lit.{Lit}
 use Rattle.heyvl_syntax.specs.declared.operators.BinaryOp.{BinaryOp}
-use Rattle.heyvl_syntax.specs.declared.spans.Span.{Span}
 use Rattle.heyvl_types.proofs.LiteralFractions.{is_small_from, narrow_parts}
 use Rattle.heyvl_types.specs.Literals.{is_too_wide, is_written, is_zero_literal, literal_quotient, literal_value, weight, weight_of_quotient, weight_of_value, weight_value}
 use Rattle.heyvl_types.specs.declared.weights.Weight.TheVariants.{NotLiteral, OverZero, TooWide, Value}

@@ -1,6 +1,6 @@
 -- What an answer says of a part of a text: a fault is the first finding, a result comes exactly where nothing is found.
+use Rattle.heyvl_acts.specs.declared.acts.Act as A
 use Rattle.heyvl_types.specs.Findings.{Finding, first}
-use Rattle.heyvl_types.specs.declared.acts.Act as A
 use Rattle.heyvl_types.specs.declared.stops.ResolveStop.{ResolveStop}
 use Rattle.std.specs.Prelude.{Err, List, Ok, Result, Some, [], ⊤, ◌≡◌}
 

@@ -1,5 +1,7 @@
 -- Procedures and files: what is found against them, and the typed procedures that they become.
 use Rattle.heylo_formula.specs.Formula.{Form}
+use Rattle.heyvl_acts.specs.Acts.{Acts, TypedProcedure, acts_in}
+use Rattle.heyvl_acts.specs.Count.{count_of}
 use Rattle.heyvl_num.specs.Value.Value.{infinite}
 use Rattle.heyvl_num.specs.Value.{zeroᵛ}
 use Rattle.heyvl_syntax.specs.Expressions.{Expression}
@@ -7,8 +9,6 @@ use Rattle.heyvl_syntax.specs.Procedures.{Procedure}
 use Rattle.heyvl_syntax.specs.Statements.{Block}
 use Rattle.heyvl_syntax.specs.declared.procedures.Note.{Note}
 use Rattle.heyvl_syntax.specs.declared.procedures.Param.{Param}
-use Rattle.heyvl_types.specs.Acts.{Acts, TypedProcedure, acts_in}
-use Rattle.heyvl_types.specs.Count.{count_of}
 use Rattle.heyvl_types.specs.Findings.{Finding, at, first}
 use Rattle.heyvl_types.specs.Scopes.{Scope, is_visible, with_local}
 use Rattle.heyvl_types.specs.Signatures.{Called, called}

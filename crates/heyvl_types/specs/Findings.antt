@@ -1,7 +1,7 @@
 -- What is found against a text: the broken rules of its nodes, by number, each at its place, in the order in which they are told:
 -- a node's after those of its parts, and at one node the lowest number first. The first fault is the head of this list; what
 -- stands behind it says nothing. This form is the project's own.
-use Rattle.heyvl_syntax.specs.declared.spans.Span.{Span}
+use Rattle.heyvl_places.specs.declared.spans.Span.{Span}
 use Rattle.std.specs.Prelude.{Bool, List, None, Option, Some, [], if◌then◌else◌, ◌∷◌, ℕ}
 
 abbrev pub Finding : Type 0

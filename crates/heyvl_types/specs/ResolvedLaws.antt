@@ -1,12 +1,12 @@
 -- The laws of resolved trees: in a file in which nothing is found, each typed procedure meets the static rules, and so does the typed
 -- file that holds them; and the answer on a file is unique.
+use Rattle.heyvl_acts.specs.PlainActs.{procedures_of}
+use Rattle.heyvl_acts.specs.Rules.{Each, IsCounted, MeetsAllRules, MeetsRules}
+use Rattle.heyvl_acts.specs.declared.typed.Typed.{Typed}
 use Rattle.heyvl_syntax.specs.Procedures.{Procedure}
 use Rattle.heyvl_types.specs.Answers.{Gives}
 use Rattle.heyvl_types.specs.Files.{file_findings, resolved}
-use Rattle.heyvl_types.specs.PlainActs.{procedures_of}
-use Rattle.heyvl_types.specs.Rules.{Each, IsCounted, MeetsAllRules, MeetsRules}
 use Rattle.heyvl_types.specs.declared.stops.ResolveStop.{ResolveStop}
-use Rattle.heyvl_types.specs.declared.typed.Typed.{Typed}
 use Rattle.std.specs.Prelude.{Err, IfOk, List, Ok, Result, [], length, ⊤, ◌≡◌, ◌≤◌}
 
 abbrev pub ResolvedProceduresMeetRules : Type 0

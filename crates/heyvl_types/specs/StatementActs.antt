@@ -6,9 +6,9 @@ use Rattle.heyvl_num.specs.Value.Value.{finite, infinite}
 use Rattle.heyvl_syntax.specs.Expressions.{Expression}
 use Rattle.heyvl_syntax.specs.Statements.{Block, LoopRule, RightSide, Statement}
 use Rattle.heyvl_syntax.specs.Statements as text
-use Rattle.heyvl_syntax.specs.declared.spans.Span.{Span}
+use Rattle.heyvl_places.specs.declared.spans.Span.{Span}
 use Rattle.heyvl_syntax.specs.declared.types.TypeName.{TypeName}
-use Rattle.heyvl_types.specs.Acts.{Act, Acts, Arms, join}
+use Rattle.heyvl_acts.specs.Acts.{Act, Acts, Arms, join}
 use Rattle.heyvl_types.specs.Literals.{copies, integer, weight, weight_value}
 use Rattle.heyvl_types.specs.Scopes.{Scope, find, numbers}
 use Rattle.heyvl_types.specs.Signatures.{Called, Signature, find_call}

@@ -1,7 +1,7 @@
 -- Statements: the rules of each, and what is found against them.
 use Rattle.heylo_formula.specs.Operators.{agree}
+use Rattle.heyvl_places.specs.declared.checks.CheckKind.{CheckKind}
 use Rattle.heyvl_syntax.specs.Statements.{Arms, Block, RightSide, Statement}
-use Rattle.heyvl_syntax.specs.declared.statements.CheckKind.{CheckKind}
 use Rattle.heyvl_syntax.specs.declared.types.TypeName.{TypeName}
 use Rattle.heyvl_types.specs.Findings.{Finding, at}
 use Rattle.heyvl_types.specs.LoopRules.{loop_rules, rules_findings}

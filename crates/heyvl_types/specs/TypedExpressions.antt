@@ -1,7 +1,7 @@
 -- Expressions with names and types: what each becomes, and what is found against it. The number n is that of the next variable.
+use Rattle.heyvl_places.specs.declared.spans.Span.{Span}
 use Rattle.heyvl_syntax.specs.Expressions.{Expression}
 use Rattle.heyvl_syntax.specs.declared.operators.BinaryOp.{BinaryOp}
-use Rattle.heyvl_syntax.specs.declared.spans.Span.{Span}
 use Rattle.heyvl_types.specs.Findings.{Finding, at}
 use Rattle.heyvl_types.specs.Scopes.{Scope, find, is_visible, with_local}
 use Rattle.heyvl_types.specs.Table.{Meaning, binary, bracket, choice, constant, divisor, embedding, factor, given, infinity, literal, meets, quantified, quotient, unary, variable}

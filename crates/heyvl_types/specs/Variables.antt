@@ -1,11 +1,11 @@
 -- The variables that a procedure declares: its parameters, those of its body in the order of the text, and those of the quantifiers
 -- in the fronts of its post clauses. A variable's number is its place among them.
 use Rattle.heylo_formula.specs.declared.types.Ty.{Ty}
+use Rattle.heyvl_acts.specs.Acts.{Variable}
 use Rattle.heyvl_syntax.specs.Expressions.{Expression}
 use Rattle.heyvl_syntax.specs.Statements.{Arms, Block, Statement}
 use Rattle.heyvl_syntax.specs.declared.procedures.Param.{Param}
 use Rattle.heyvl_syntax.specs.declared.types.TypeName.{TypeName}
-use Rattle.heyvl_types.specs.Acts.{Variable}
 use Rattle.heyvl_types.specs.Scopes.{Scope, with_local}
 use Rattle.heyvl_types.specs.Table.{declarable}
 use Rattle.std.specs.Prelude.{List, None, Option, Some, [], map, suc, ◌++◌, ◌∷◌, ℕ}

@@ -6,4 +6,3 @@ pub mod RightSideRules
 pub mod ProcedureParts
 pub mod Views
 pub mod Lookings
-pub mod Finding

@@ -1,10 +1,10 @@
 //! Declarations and assignments.
 
+ghost use Rattle.heyvl_acts.specs.Acts.Act.{any};
+ghost use Rattle.heyvl_acts.specs.PlainActs.{act_of};
 ghost use Rattle.heyvl_syntax.specs.Statements.{optional_right, right_side};
-ghost use Rattle.heyvl_types.specs.Acts.Act.{any};
 ghost use Rattle.heyvl_types.specs.Answers.{Gives};
 ghost use Rattle.heyvl_types.specs.Findings.{at};
-ghost use Rattle.heyvl_types.specs.PlainActs.{act_of};
 ghost use Rattle.heyvl_types.specs.RightSides.{right_findings};
 ghost use Rattle.heyvl_types.specs.Scopes.{any_input, any_unknown, is_visible, types_of_names};
 ghost use Rattle.heyvl_types.specs.StatementActs.{assigned, declared_act, number_or_zero, targets};
@@ -14,7 +14,6 @@ ghost use Rattle.heyvl_types.specs.Variables.{type_or_bool};
 ghost use Rattle.std.specs.Option.{is_none};
 ghost use Rattle.std.specs.Prelude.{◌++◌, ◌≡◌, ◌∷◌, [], IfOk, Some, false, option_map};
 
-use crate::acts::Act;
 use crate::calls::Calls;
 use crate::names::{any_input, any_twice, any_unknown};
 use crate::operators::declarable;
@@ -24,7 +23,9 @@ use crate::scopes::{Local, Scope};
 use crate::settings::Setting;
 use crate::stops::ResolveStop;
 use heylo_formula::Ty;
-use heyvl_syntax::{Name, Right, Span, TypeName};
+use heyvl_acts::Act;
+use heyvl_places::{Name, Span};
+use heyvl_syntax::{Right, TypeName};
 use std::alloc::{AllocError, Global};
 
 /// The number of a visible variable; 0 for a name that isn't visible.

@@ -1,17 +1,16 @@
 //! Statements in which others stand, and blocks.
 
+ghost use Rattle.heyvl_acts.specs.PlainActs.{arm_of, variable_of};
 ghost use Rattle.heyvl_syntax.specs.Expressions.{expression};
 ghost use Rattle.heyvl_syntax.specs.Statements.{arms, block, statement};
 ghost use Rattle.heyvl_types.specs.Answers.{Gives};
 ghost use Rattle.heyvl_types.specs.internal.Views.{acts_view, arms_view};
-ghost use Rattle.heyvl_types.specs.PlainActs.{arm_of, variable_of};
 ghost use Rattle.heyvl_types.specs.StatementActs.{arms_acts, block_acts, condition, loops as loops_of, loops_of_arms, loops_of_block, statement_acts};
 ghost use Rattle.heyvl_types.specs.StatementRules.{arms_findings, block_findings, statement_findings};
 ghost use Rattle.heyvl_types.specs.TypedExpressions.{closed_findings, elaborate};
 ghost use Rattle.heyvl_types.specs.Variables.{behind, locals, locals_of_arms, locals_of_block};
 ghost use Rattle.std.specs.Prelude.{◌++◌, ◌+◌, ◌≡◌, OnOk, length, map, take};
 
-use crate::acts::Act;
 use crate::bindings::{binding_arms, binding_statements, block_binds};
 use crate::calls::Calls;
 use crate::demands::Demand;
@@ -24,9 +23,9 @@ use crate::statements::{
     read_validate, single,
 };
 use crate::stops::ResolveStop;
-use crate::typed::VarInfo;
 use crate::values::condition;
 use heylo_formula::Cond;
+use heyvl_acts::{Act, VarInfo};
 use heyvl_syntax::{Arm, Stmt};
 use std::alloc::Global;
 

@@ -6,7 +6,8 @@ ghost use Rattle.heyvl_types.specs.internal.Views.{called_of, signature_of};
 ghost use Rattle.std.specs.Prelude.{◌≡◌, [], IfOk, OnOk, map, option_map};
 
 use crate::quantifiers::any_quantified;
-use heyvl_syntax::{Name, Param, Proc, TypeName};
+use heyvl_places::Name;
+use heyvl_syntax::{Param, Proc, TypeName};
 use indexmap::IndexMap;
 use std::alloc::{AllocError, Global};
 use std::marker::Model;

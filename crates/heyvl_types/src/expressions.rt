@@ -20,7 +20,8 @@ use crate::operators::{
 use crate::scopes::{Local, Scope};
 use crate::stops::ResolveStop;
 use heyvl_num::Frac;
-use heyvl_syntax::{BinaryOp, Expr, Name, Span, TypeName, UnaryOp};
+use heyvl_places::{Name, Span};
+use heyvl_syntax::{BinaryOp, Expr, TypeName, UnaryOp};
 use std::alloc::{AllocError, Global};
 
 /// Whether an expression has a type that is asked for.

@@ -1,10 +1,10 @@
 //! Files: the typed procedures of a file, or its first fault.
 
+ghost use Rattle.heyvl_acts.specs.PlainActs.{procedure_of, procedures_of};
+ghost use Rattle.heyvl_acts.specs.Rules.{Each, IsCounted};
 ghost use Rattle.heyvl_syntax.specs.Procedures.{procedure, procedures};
 ghost use Rattle.heyvl_types.specs.Answers.{Gives};
 ghost use Rattle.heyvl_types.specs.Files.{file_findings, procedures_findings, resolved, typed};
-ghost use Rattle.heyvl_types.specs.PlainActs.{procedure_of, procedures_of};
-ghost use Rattle.heyvl_types.specs.Rules.{Each, IsCounted};
 ghost use Rattle.heyvl_types.specs.Signatures.{find_call};
 ghost use Rattle.heyvl_types.specs.internal.Earlier.{is_before};
 ghost use Rattle.std.specs.Prelude.{◌≡◌, IfOk};
@@ -12,8 +12,9 @@ ghost use Rattle.std.specs.Prelude.{◌≡◌, IfOk};
 use crate::calls::{Calls, calls_of};
 use crate::procedures::read_procedure;
 use crate::stops::ResolveStop;
-use crate::typed::Typed;
-use heyvl_syntax::{File, Name};
+use heyvl_acts::Typed;
+use heyvl_places::Name;
+use heyvl_syntax::File;
 use std::alloc::{AllocError, Global};
 
 /// Whether a name calls a procedure before the one with this number.

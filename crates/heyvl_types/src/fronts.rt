@@ -1,12 +1,12 @@
 //! The variables of the quantifiers in the fronts of post clauses.
 
+ghost use Rattle.heyvl_acts.specs.PlainActs.{variable_of};
 ghost use Rattle.heyvl_syntax.specs.Expressions.{expression, expressions};
-ghost use Rattle.heyvl_types.specs.PlainActs.{variable_of};
 ghost use Rattle.heyvl_types.specs.Variables.{front_variables, fronts_variables};
 ghost use Rattle.std.specs.Prelude.{◌++◌, ◌+◌, ◌≡◌, IfOk, OnOk, length, map};
 
 use crate::parameters::declared;
-use crate::typed::VarInfo;
+use heyvl_acts::VarInfo;
 use heyvl_syntax::Expr;
 use std::alloc::{AllocError, Global};
 

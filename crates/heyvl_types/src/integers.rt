@@ -1,8 +1,8 @@
 //! Integer literals, ranges of integers and numbers of copies.
 
+ghost use Rattle.heyvl_places.specs.declared.spans.Span.{Span as Place};
 ghost use Rattle.heyvl_syntax.specs.Expressions.{Expression, expression};
 ghost use Rattle.heyvl_syntax.specs.declared.operators.UnaryOp.{UnaryOp as Operator};
-ghost use Rattle.heyvl_syntax.specs.declared.spans.Span.{Span as Place};
 ghost use Rattle.heyvl_types.specs.Literals.{copies, ends_wrong, integer, is_negative, whole_value};
 ghost use Rattle.std.specs.Int.Signed.{le_z};
 ghost use Rattle.std.specs.Prelude.{◌&&◌, ◌-ℤ◌, ◌<◌, ◌^◌, ◌≡◌, IfSome, pos, true, unsigned_abs};

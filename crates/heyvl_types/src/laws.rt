@@ -1,21 +1,8 @@
-//! Laws of acts. Each function does nothing: its contract is the law.
+//! Laws of typed trees. Each function does nothing: its contract is the law.
 
 ghost use Rattle.heyvl_types.specs.ExpressionLaws as expressions;
-ghost use Rattle.heyvl_types.specs.Matching as matching;
 ghost use Rattle.heyvl_types.specs.ResolvedLaws as trees;
 ghost use Rattle.heyvl_types.specs.ResolvedSizes as sizes;
-
-/// What a run asks of the forward meaning, whatever loops and calls mean: a list of acts after another means the one
-/// before what the other means; and after each kind of act, choices for what follows are part of choices for the whole.
-pub fn forward_meaning_matches_runs()
-    ensures join { matching.ActsJoin }
-    ensures draws { matching.DrawsMatch }
-    ensures rewards { matching.RewardsMatch }
-    ensures branches { matching.BranchesMatch }
-    ensures anys { matching.AnysMatch }
-    ensures picks { matching.PicksMatch }
-    ensures checks { matching.ChecksMatch }
-{}
 
 /// What an expression becomes is well typed for the types of its scope and has its type, and it has at most twice as many
 /// nodes as the expression.

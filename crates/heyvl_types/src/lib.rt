@@ -1,15 +1,12 @@
-//! Typed trees of HeyVL: acts, what they mean, names and types of expressions, and the static rules that a file meets.
+//! Typed trees of HeyVL: names and types of expressions, the static rules of a text, and the typed file that it becomes.
 #![tactic(auto)]
 
-mod acts;
 mod assignments;
 mod bindings;
 mod blocks;
 mod calls;
 mod choices;
 mod clauses;
-mod copies;
-mod counts;
 mod demands;
 mod draws;
 mod expressions;
@@ -25,7 +22,6 @@ mod meanings;
 mod names;
 mod operators;
 mod parameters;
-mod places;
 mod procedures;
 mod quantifiers;
 mod resolving_laws;
@@ -35,21 +31,15 @@ mod scopes;
 mod settings;
 mod statements;
 mod stops;
-mod targets;
-mod typed;
 mod typed_values;
 mod value_types;
 mod values;
 mod weights;
 
-pub use acts::{Act, LoopAct};
 pub use files::resolve;
-pub use laws::{
-    expressions_are_typed, forward_meaning_matches_runs, resolved_files_meet_the_rules,
-    resolved_forms_are_small,
+pub use heyvl_acts::{
+    Act, LoopAct, TProc, Typed, VarInfo, act_at, forward_meaning_matches_runs, is_target,
 };
-pub use places::act_at;
+pub use laws::{expressions_are_typed, resolved_files_meet_the_rules, resolved_forms_are_small};
 pub use resolving_laws::{resolved_trees_meet_the_rules, resolving_is_unique};
 pub use stops::ResolveStop;
-pub use targets::is_target;
-pub use typed::{TProc, Typed, VarInfo};

@@ -4,13 +4,13 @@ ghost use Rattle.heylo_formula.specs.Formula.{Form as PlainForm};
 ghost use Rattle.heylo_formula.specs.PlainTrees.{cond_of, form_of};
 ghost use Rattle.heyvl_num.specs.Value.Value.{infinite};
 ghost use Rattle.heyvl_syntax.specs.Statements.{LoopRule, loop_rule, loop_rules};
-ghost use Rattle.heyvl_types.specs.Acts.{Act as Plain};
+ghost use Rattle.heyvl_acts.specs.Acts.{Act as Plain};
 ghost use Rattle.heyvl_types.specs.Answers.{Gives};
 ghost use Rattle.heyvl_types.specs.internal.Lookings.{Tells};
 ghost use Rattle.heyvl_types.specs.internal.Views.{acts_view, meaning_of, read};
 ghost use Rattle.heyvl_types.specs.Findings.{at};
 ghost use Rattle.heyvl_types.specs.LoopRules.{copies_wrong, count_of_rankings, formula, is_ranking, rule_findings, rules_findings, rules_wrong, step_wrong, steps_over_zero};
-ghost use Rattle.heyvl_types.specs.PlainActs.{act_of};
+ghost use Rattle.heyvl_acts.specs.PlainActs.{act_of};
 ghost use Rattle.heyvl_types.specs.Scopes.{Scope as Visible, numbers};
 ghost use Rattle.heyvl_types.specs.StatementActs.{copies_of};
 ghost use Rattle.heyvl_types.specs.TypedExpressions.{elaborate};
@@ -18,7 +18,6 @@ ghost use Rattle.heyvl_types.specs.internal.LoopHeads.{found_of, found_with, or_
 ghost use Rattle.std.specs.List.{list_any};
 ghost use Rattle.std.specs.Prelude.{◌&&◌, ◌≡◌, ◌∷◌, [], IfOk, List, Some, not, ℕ};
 
-use crate::acts::{Act, LoopAct};
 use crate::choices::read_weight;
 use crate::demands::Demand;
 use crate::expressions::{meets, read};
@@ -30,8 +29,10 @@ use crate::stops::ResolveStop;
 use crate::values::form;
 use crate::weights::{is_over_zero, is_step, weight_of, weight_value};
 use heylo_formula::{Cond, Form};
+use heyvl_acts::{Act, LoopAct};
 use heyvl_num::{Ext, Frac};
-use heyvl_syntax::{Rule, Span};
+use heyvl_places::Span;
+use heyvl_syntax::Rule;
 use std::alloc::{AllocError, Global};
 
 /// What the rules before a loop give it.

@@ -3,7 +3,7 @@
 ghost use Rattle.heylo_formula.specs.PlainTrees.{cond_of};
 ghost use Rattle.heyvl_syntax.specs.Expressions.{expression};
 ghost use Rattle.heyvl_syntax.specs.Statements.{block, loop_rules};
-ghost use Rattle.heyvl_types.specs.Acts.{Act as Plain, Acts};
+ghost use Rattle.heyvl_acts.specs.Acts.{Act as Plain, Acts};
 ghost use Rattle.heyvl_types.specs.Answers.{Gives};
 ghost use Rattle.heyvl_types.specs.internal.Views.{acts_view};
 ghost use Rattle.heyvl_types.specs.Findings.{at};
@@ -16,7 +16,6 @@ ghost use Rattle.heyvl_types.specs.internal.LoopHeads.{found_of, head_of, rules_
 ghost use Rattle.std.specs.List.{list_any};
 ghost use Rattle.std.specs.Prelude.{◌&&◌, ◌++◌, ◌∷◌, [], length, not};
 
-use crate::acts::Act;
 use crate::bindings::block_is_rankable;
 use crate::demands::Demand;
 use crate::expressions::read;
@@ -24,10 +23,11 @@ use crate::loop_rules::{Found, loop_act, read_rules, told_of_loop};
 use crate::scopes::Scope;
 use crate::statements::{next_number, single};
 use crate::stops::ResolveStop;
-use crate::typed::VarInfo;
 use crate::values::condition;
 use heylo_formula::Cond;
-use heyvl_syntax::{Expr, Rule, Span, Stmt};
+use heyvl_acts::{Act, VarInfo};
+use heyvl_places::Span;
+use heyvl_syntax::{Expr, Rule, Stmt};
 use std::alloc::Global;
 
 /// What the rules and the guard of a loop become, or the first fault in them.

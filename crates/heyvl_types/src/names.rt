@@ -7,7 +7,7 @@ ghost use Rattle.std.specs.Prelude.{◌≡◌};
 ghost use Rattle.std.specs.Str.{bytes_eq};
 
 use crate::scopes::Scope;
-use heyvl_syntax::Name;
+use heyvl_places::Name;
 
 /// Whether one of these names isn't visible.
 pub(crate) fn any_unknown(scope: &Scope, names: &[Name]) -> bool

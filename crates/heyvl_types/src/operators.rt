@@ -16,7 +16,8 @@ use crate::meanings::{Kind, Meaning};
 use crate::scopes::Local;
 use heylo_formula::{Cond, Form, Ty};
 use heyvl_num::{Ext, Frac};
-use heyvl_syntax::{BinaryOp, Lit, Span, TypeName, UnaryOp};
+use heyvl_places::Span;
+use heyvl_syntax::{BinaryOp, Lit, TypeName, UnaryOp};
 use std::alloc::{AllocError, Global};
 
 /// The least type to which both widen.

@@ -4,7 +4,7 @@ ghost use Rattle.heyvl_types.specs.Answers.{Gives};
 ghost use Rattle.heyvl_types.specs.internal.Lookings.{Tells};
 ghost use Rattle.heyvl_types.specs.Files.{parameters_findings};
 ghost use Rattle.heyvl_types.specs.Findings.{at};
-ghost use Rattle.heyvl_types.specs.PlainActs.{variable_of};
+ghost use Rattle.heyvl_acts.specs.PlainActs.{variable_of};
 ghost use Rattle.heyvl_types.specs.Scopes.{is_visible, with_local};
 ghost use Rattle.heyvl_types.specs.Table.{declarable};
 ghost use Rattle.heyvl_types.specs.Variables.{behind_parameters, declared, parameters};
@@ -14,9 +14,10 @@ ghost use Rattle.std.specs.Prelude.{◌++◌, ◌+◌, ◌≡◌, ◌∷◌, [],
 use crate::operators::declarable;
 use crate::scopes::{Local, Scope};
 use crate::stops::ResolveStop;
-use crate::typed::VarInfo;
 use heylo_formula::Ty;
-use heyvl_syntax::{Name, Param, TypeName};
+use heyvl_acts::VarInfo;
+use heyvl_places::Name;
+use heyvl_syntax::{Param, TypeName};
 use std::alloc::{AllocError, Global};
 
 /// The variable of a declaration: where its type is none that a variable may have, which is a fault, of some type.

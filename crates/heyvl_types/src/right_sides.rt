@@ -3,19 +3,17 @@
 ghost use Rattle.heyvl_syntax.specs.Expressions.{expression, expressions};
 ghost use Rattle.heyvl_syntax.specs.Statements.{RightSide, choices, right_side};
 ghost use Rattle.heyvl_types.specs.Answers.{Gives};
-ghost use Rattle.heyvl_types.specs.internal.Views.{value_type};
+ghost use Rattle.heyvl_types.specs.internal.Views.{value_type, signature_of};
 ghost use Rattle.heyvl_types.specs.Findings.{at};
-ghost use Rattle.heyvl_types.specs.PlainActs.{act_of, parts_of};
+ghost use Rattle.heyvl_acts.specs.PlainActs.{act_of, parts_of};
 ghost use Rattle.heyvl_types.specs.Literals.{ends_wrong};
 ghost use Rattle.heyvl_types.specs.RightSides.{any_output_mismatches, first_mismatches, has_over_zero, literal_wrong, right_findings, right_rules, right_type};
 ghost use Rattle.heyvl_types.specs.Signatures.{find_call};
-ghost use Rattle.heyvl_types.specs.internal.Views.{signature_of};
 ghost use Rattle.heyvl_types.specs.StatementActs.{assigned, callee, first_or_zero, unif_parts};
 ghost use Rattle.heyvl_types.specs.internal.RightSideParts.{join_all, types_of, types_of_choices};
 ghost use Rattle.heyvl_types.specs.internal.RightSideRules.{any_mismatches, call_rules, value_rules};
 ghost use Rattle.std.specs.Prelude.{◌++◌, ◌<◌, ◌^◌, ◌≡◌, [], IfOk, IfSome, false, map, option_map, unsigned_abs};
 
-use crate::acts::Act;
 use crate::calls::{Calls, Signature};
 use crate::choices::{Choices, any_over_zero, read_choices, read_weight, weigh_wrong};
 use crate::demands::Demand;
@@ -31,8 +29,10 @@ use crate::value_types::{
 };
 use crate::weights::{is_over_zero, is_probability, weight_of, weight_value};
 use heylo_formula::Term;
+use heyvl_acts::Act;
 use heyvl_num::Frac;
-use heyvl_syntax::{Expr, Name, Right, Span, TypeName};
+use heyvl_places::{Name, Span};
+use heyvl_syntax::{Expr, Right, TypeName};
 use std::alloc::{AllocError, Global};
 
 /// The variables that a statement gives its right side to, with what its rules ask of them.

@@ -4,7 +4,7 @@ ghost use Rattle.heyvl_types.specs.internal.Lookings.{Tells};
 ghost use Rattle.heyvl_types.specs.Findings.{at};
 
 use crate::stops::ResolveStop;
-use heyvl_syntax::Span;
+use heyvl_places::Span;
 
 /// The first of these rules that is broken, at this place. Each rule is its number and whether it is broken.
 pub(crate) fn told(span: Span, rules: &[(u8, bool)]) -> Result<(), ResolveStop>

@@ -4,7 +4,8 @@ ghost use Rattle.heyvl_types.specs.Scopes.{Scope as Plain, find, is_visible, num
 ghost use Rattle.heyvl_types.specs.internal.Views.{entries_of};
 ghost use Rattle.std.specs.Prelude.{◌++◌, ◌≡◌, ◌∷◌, [], IfOk, OnOk, false, length, take};
 
-use heyvl_syntax::{Name, TypeName};
+use heyvl_places::Name;
+use heyvl_syntax::TypeName;
 use indexmap::IndexMap;
 use std::alloc::{AllocError, Global};
 use std::marker::Model;

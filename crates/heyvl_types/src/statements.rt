@@ -2,11 +2,11 @@
 
 ghost use Rattle.heyvl_syntax.specs.Expressions.{expression};
 ghost use Rattle.heyvl_syntax.specs.Statements.{optional_right, right_side};
-ghost use Rattle.heyvl_types.specs.Acts.{Act as Plain, Acts};
+ghost use Rattle.heyvl_acts.specs.Acts.{Act as Plain, Acts};
 ghost use Rattle.heyvl_types.specs.Answers.{Gives};
 ghost use Rattle.heyvl_types.specs.internal.Views.{acts_view};
 ghost use Rattle.heyvl_types.specs.Findings.{at};
-ghost use Rattle.heyvl_types.specs.PlainActs.{act_of, variable_of};
+ghost use Rattle.heyvl_acts.specs.PlainActs.{act_of, variable_of};
 ghost use Rattle.heyvl_types.specs.Scopes.{find, is_visible, with_local};
 ghost use Rattle.heyvl_types.specs.StatementActs.{assigned, declared_act, form, havocs, number_or_zero, targets, type_of_local};
 ghost use Rattle.heyvl_types.specs.RightSides.{right_findings};
@@ -16,7 +16,6 @@ ghost use Rattle.heyvl_types.specs.Variables.{declared, type_or_bool};
 ghost use Rattle.heyvl_types.specs.Table.{declarable};
 ghost use Rattle.std.specs.Prelude.{◌++◌, ◌≡◌, ◌∷◌, [], IfOk, OnOk, false, length, map, take};
 
-use crate::acts::Act;
 use crate::assignments::{read_assign, read_var};
 use crate::calls::Calls;
 use crate::demands::Demand;
@@ -27,10 +26,11 @@ use crate::rules::told;
 use crate::scopes::{Local, Scope};
 use crate::settings::Setting;
 use crate::stops::ResolveStop;
-use crate::typed::VarInfo;
 use crate::values::form;
 use heylo_formula::Ty;
-use heyvl_syntax::{CheckKind, Expr, Name, Right, Span, TypeName};
+use heyvl_acts::{Act, VarInfo};
+use heyvl_places::{CheckKind, Name, Span};
+use heyvl_syntax::{Expr, Right, TypeName};
 use std::alloc::{AllocError, Global};
 
 /// This act alone.

@@ -3,7 +3,7 @@
 ghost use Rattle.heyvl_types.specs.declared.stops.ResolveStop.TheVariants.{Memory};
 ghost use Rattle.std.specs.Prelude.{◌≡◌, alloc_error};
 
-use heyvl_syntax::Span;
+use heyvl_places::Span;
 use std::alloc::{AllocError, AllocFailed};
 use thiserror::Error;
 

@@ -1,9 +1,9 @@
 //! Weights: what stands where a probability or a step is asked for.
 
 ghost use Rattle.heyvl_num.specs.Rational.{leqʳ, oneʳ, ratio, zeroʳ, ◌*ʳ◌};
+ghost use Rattle.heyvl_places.specs.declared.spans.Span.{Span as Place};
 ghost use Rattle.heyvl_syntax.specs.Expressions.{Expression, expression};
 ghost use Rattle.heyvl_syntax.specs.declared.operators.BinaryOp.{BinaryOp as Operator};
-ghost use Rattle.heyvl_syntax.specs.declared.spans.Span.{Span as Place};
 ghost use Rattle.heyvl_types.specs.Literals.{is_over_zero, is_probability, is_step, is_too_wide, is_usable, is_weight_literal, is_written, literal_value, weight, weight_of_quotient, weight_of_value, weight_value};
 ghost use Rattle.std.specs.Int.Signed.{le_z};
 ghost use Rattle.std.specs.Prelude.{◌&&◌, ◌≡◌, false, if◌then◌else◌, pos, true, unsigned_abs};

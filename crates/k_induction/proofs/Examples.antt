@@ -3,10 +3,10 @@ use Rattle.std.proofs.Common.{◌≡◌, refl, true, false, [], ◌∷◌, pos}
 use Rattle.heyvl_num.specs.Rational.{Rational, ratio}
 use Rattle.heyvl_num.specs.Value.{oneᵛ}
 use Rattle.heyvl_num.specs.Value.Value.{finite}
-use Rattle.heyvl_syntax.specs.declared.spans.Span.{Span}
-use Rattle.heyvl_syntax.specs.declared.statements.CheckKind.{CheckKind}
+use Rattle.heyvl_places.specs.declared.spans.Span.{Span}
+use Rattle.heyvl_places.specs.declared.checks.CheckKind.{CheckKind}
 use Rattle.heylo_formula.specs.Formula.{Form, Cond, Term}
-use Rattle.heyvl_types.specs.Acts.{Act, Acts, Arms}
+use Rattle.heyvl_acts.specs.Acts.{Act, Acts, Arms}
 use Rattle.k_induction.specs.Copies.{copies}
 
 abbrev here : Span

@@ -2,11 +2,11 @@
 use Rattle.std.proofs.Common.{◌≡◌, ℕ, ◌+◌, ◌≤◌, ap, ◌∙◌, refl, List, [], ◌∷◌, ◌++◌, arith, add-one}
 use Prim.Native.Nat.{zero, suc}
 use Rattle.std.specs.Prelude.{Bool}
-use Rattle.heyvl_syntax.specs.declared.spans.Span.{Span}
+use Rattle.heyvl_places.specs.declared.spans.Span.{Span}
 use Rattle.heylo_formula.specs.Formula.{Form, Cond}
-use Rattle.heyvl_types.specs.declared.acts.Act as A
-use Rattle.heyvl_types.specs.Acts.{Act, Acts, join}
-use Rattle.heyvl_types.specs.PlainActs.{act_of, acts_of}
+use Rattle.heyvl_acts.specs.declared.acts.Act as A
+use Rattle.heyvl_acts.specs.Acts.{Act, Acts, join}
+use Rattle.heyvl_acts.specs.PlainActs.{act_of, acts_of}
 use Rattle.k_induction.specs.Copies.{copies, another_copy, if_holds}
 
 pub two_more : (body : Acts) (p q : Act) (xs ys zs : List A.Act) (a b : A.Act) → acts_of xs ≡ body → act_of a ≡ p → act_of b ≡ q → ys ≡ xs ++ a ∷ [] → zs ≡ ys ++ b ∷ [] → acts_of zs ≡ join body (Acts.next p (Acts.next q Acts.done))

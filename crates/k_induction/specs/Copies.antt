@@ -3,10 +3,10 @@
 -- OOPSLA 2023).
 use Rattle.std.specs.Prelude.{ℕ, Bool, true, false}
 use Prim.Native.Nat.{zero, suc}
-use Rattle.heyvl_syntax.specs.declared.spans.Span.{Span}
-use Rattle.heyvl_syntax.specs.declared.statements.CheckKind.{CheckKind}
+use Rattle.heyvl_places.specs.declared.spans.Span.{Span}
+use Rattle.heyvl_places.specs.declared.checks.CheckKind.{CheckKind}
 use Rattle.heylo_formula.specs.Formula.{Form, Cond}
-use Rattle.heyvl_types.specs.Acts.{Act, Acts, Arms, join}
+use Rattle.heyvl_acts.specs.Acts.{Act, Acts, Arms, join}
 
 -- The check by which a bound is shown.
 abbrev pub must : Bool → CheckKind

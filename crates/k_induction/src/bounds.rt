@@ -1,14 +1,14 @@
 //! Acts that encodings make: checks of a bound, and acts under a condition. Upward is a coproc's direction.
 
 ghost use Rattle.heylo_formula.specs.PlainTrees.{cond_of, form_of};
-ghost use Rattle.heyvl_types.specs.Acts.Act.{check as plain_check};
-ghost use Rattle.heyvl_types.specs.PlainActs.{act_of, acts_of};
+ghost use Rattle.heyvl_acts.specs.Acts.Act.{check as plain_check};
+ghost use Rattle.heyvl_acts.specs.PlainActs.{act_of, acts_of};
 ghost use Rattle.k_induction.specs.Copies.{if_holds, may, meets, must};
 ghost use Rattle.std.specs.Prelude.{IfOk, ◌≡◌};
 
 use heylo_formula::{Cond, Form};
-use heyvl_syntax::{CheckKind, Span};
-use heyvl_types::Act;
+use heyvl_acts::Act;
+use heyvl_places::{CheckKind, Span};
 use std::alloc::{AllocError, Global};
 
 /// The check by which a bound is shown.

@@ -1,14 +1,14 @@
 //! The copies of a loop's body, made from the last one outward.
 
 ghost use Rattle.heylo_formula.specs.PlainTrees.{cond_of, form_of};
-ghost use Rattle.heyvl_types.specs.PlainActs.{act_of, acts_of};
+ghost use Rattle.heyvl_acts.specs.PlainActs.{act_of, acts_of};
 ghost use Rattle.k_induction.specs.Copies.{another_copy, copies, last_copy, no_more};
 ghost use Rattle.std.specs.Prelude.{IfOk, ◌≡◌, ◌≤◌};
 
 use crate::bounds::{if_holds, may, meets, must, stated};
 use heylo_formula::{Cond, Form};
-use heyvl_syntax::Span;
-use heyvl_types::Act;
+use heyvl_acts::Act;
+use heyvl_places::Span;
 use std::alloc::{AllocError, Global};
 
 /// The copies of the body that stand in the test of a loop's encoding: in a coproc where `up`, else in a proc. What is made

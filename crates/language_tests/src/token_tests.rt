@@ -2,7 +2,8 @@
 
 use crate::lines::{Kind, check_lines};
 use crate::token_texts::write_lexed;
-use heyvl_syntax::{lex, place_at};
+use heyvl_places::place_at;
+use heyvl_syntax::lex;
 use std::alloc::{AllocError, Global};
 use std::fmt::Write;
 use std::process::Abort;

@@ -1,6 +1,7 @@
 //! Trees of expressions as texts.
 
-use heyvl_syntax::{BinaryOp, Expr, File, Lit, Name, Span, TypeName, UnaryOp};
+use heyvl_places::{Name, Span};
+use heyvl_syntax::{BinaryOp, Expr, File, Lit, TypeName, UnaryOp};
 use std::alloc::AllocError;
 use std::fmt::Write;
 

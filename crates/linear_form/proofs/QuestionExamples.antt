@@ -1,7 +1,7 @@
 -- The questions of forms and conditions, computed at values found by hand.
 use Rattle.std.proofs.Common.{◌≡◌, ◌∙◌, ap, ap₂, arith, refl, subst, sym, take, Bor, List, [], ◌∷◌, true, false}
 use Rattle.std.specs.Prelude.{pos, negsuc, Some, None}
-use Rattle.heyvl_syntax.specs.declared.spans.Span.{Span}
+use Rattle.heyvl_places.specs.declared.spans.Span.{Span}
 use Rattle.heyvl_num.specs.Gcd.{gcd, gcd_steps}
 use Rattle.heyvl_num.specs.Rational.{ratio, zeroʳ, oneʳ, leqʳ, ◌+ʳ◌, ◌*ʳ◌}
 use Rattle.heyvl_num.specs.Value.{is_zeroʳ}

@@ -6,7 +6,7 @@ ghost use Rattle.heylo_formula.specs.Goals.{goal_of};
 ghost use Rattle.linear_form.specs.Nonlinear.{has_variable as form_has_variable, product_at, first_product, first_product_in, nonlinear_product};
 
 use heylo_formula::{Cond, Form, Goal};
-use heyvl_syntax::Span;
+use heyvl_places::Span;
 
 /// The place of the goal's first product both of whose factors hold a numeric variable outside conditions: in the order of
 /// the text, the stated form before the found one. None exactly where there is none.

@@ -3,15 +3,15 @@ use Rattle.std.proofs.Common.{◌≡◌, ◌≤◌, ◌+◌, ℕ, Bool, sym, ap,
 use Rattle.std.proofs.lemmas.List.{length-append}
 use Rattle.std.specs.Prelude.{Vec}
 use Rattle.std.specs.declared.alloc.Global.{Global}
-use Rattle.heyvl_syntax.specs.declared.spans.Span.{Span}
+use Rattle.heyvl_places.specs.declared.spans.Span.{Span}
 use Rattle.heylo_formula.specs.declared.forms.Cond as C
 use Rattle.heylo_formula.specs.Formula.{Term}
 use Rattle.heylo_formula.specs.Shifted.{shifted}
-use Rattle.heyvl_types.proofs.exported.PlainActsAre.{if_act, pick_act}
-use Rattle.heyvl_types.specs.declared.acts.Act as A
-use Rattle.heyvl_types.specs.Acts.{Act, Acts, Arms, Head, TypedProcedure, Variable, join, procedure_at, types_of}
-use Rattle.heyvl_types.specs.Modified.{modified}
-use Rattle.heyvl_types.specs.PlainActs.{acts_of, arms_of}
+use Rattle.heyvl_acts.proofs.exported.PlainActsAre.{if_act, pick_act}
+use Rattle.heyvl_acts.specs.declared.acts.Act as A
+use Rattle.heyvl_acts.specs.Acts.{Act, Acts, Arms, Head, TypedProcedure, Variable, join, procedure_at, types_of}
+use Rattle.heyvl_acts.specs.Modified.{modified}
+use Rattle.heyvl_acts.specs.PlainActs.{acts_of, arms_of}
 use Rattle.k_induction.specs.Copies.{must}
 use Rattle.loop_encodings.specs.Encoding.{encoded, encoded_act, encoded_arms, encoded_call, encoded_loop, sets}
 use Rattle.loop_encodings.specs.Fresh.{fresh, fresh_of_act, fresh_of_arms}

@@ -1,9 +1,9 @@
 -- Acts that are appended, one by one, and what is left of a list.
 use Rattle.std.proofs.Common.{◌≡◌, ◌<◌, ◌+◌, ℕ, refl, sym, ap, ◌∙◌, List, [], ◌∷◌, ◌++◌, length, get_or, drop}
 use Rattle.std.proofs.lemmas.List.{at_drop_more}
-use Rattle.heyvl_types.specs.declared.acts.Act as A
-use Rattle.heyvl_types.specs.Acts.{Act, Acts, join}
-use Rattle.heyvl_types.specs.PlainActs.{act_of, acts_of}
+use Rattle.heyvl_acts.specs.declared.acts.Act as A
+use Rattle.heyvl_acts.specs.Acts.{Act, Acts, join}
+use Rattle.heyvl_acts.specs.PlainActs.{act_of, acts_of}
 
 pub join_nothing : (acts : Acts) → join acts Acts.done ≡ acts
 join_nothing Acts.done = refl

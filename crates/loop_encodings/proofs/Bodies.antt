@@ -1,14 +1,14 @@
 -- The body of a procedure of a file that meets the rules, and its encoding.
 use Rattle.std.proofs.Common.{◌≡◌, ◌≤◌, ◌<◌, ◌+◌, ◌^◌, ℕ, sym, ap, subst, ◌∙◌, arith, List, [], ◌++◌, length, get_or}
 use Rattle.heylo_formula.specs.Typing.{IsFormula, types_in}
-use Rattle.heyvl_types.specs.Acts.{Acts, TypedProcedure, Variable, acts_in, procedure_at, type_list, variables}
-use Rattle.heyvl_types.specs.Count.{count_of}
-use Rattle.heyvl_types.specs.PlainActs.{procedure_of, procedures_of}
-use Rattle.heyvl_types.specs.Rules.{MeetsAllRules, MeetsRules}
-use Rattle.heyvl_types.specs.WellTyped.{ActsFit}
-use Rattle.heyvl_types.specs.declared.typed.TProc.{TProc}
-use Rattle.heyvl_types.specs.declared.typed.Typed.{Typed}
-use Rattle.heyvl_types.specs.declared.typed.VarInfo.{VarInfo}
+use Rattle.heyvl_acts.specs.Acts.{Acts, TypedProcedure, Variable, acts_in, procedure_at, type_list, variables}
+use Rattle.heyvl_acts.specs.Count.{count_of}
+use Rattle.heyvl_acts.specs.PlainActs.{procedure_of, procedures_of}
+use Rattle.heyvl_acts.specs.Rules.{MeetsAllRules, MeetsRules}
+use Rattle.heyvl_acts.specs.WellTyped.{ActsFit}
+use Rattle.heyvl_acts.specs.declared.typed.TProc.{TProc}
+use Rattle.heyvl_acts.specs.declared.typed.Typed.{Typed}
+use Rattle.heyvl_acts.specs.declared.typed.VarInfo.{VarInfo}
 use Rattle.loop_encodings.specs.Encoding.{all_variables, encoded, encoding}
 use Rattle.loop_encodings.specs.Fresh.{fresh}
 use Rattle.loop_encodings.specs.internal.Ready.{AreReady, plain_variables}

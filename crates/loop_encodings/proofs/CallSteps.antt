@@ -1,22 +1,22 @@
 -- One more act of a call's or a loop's encoding.
 use Rattle.std.proofs.Common.{◌≡◌, ◌<◌, ◌≤◌, ◌+◌, ℕ, refl, sym, ap, ◌∙◌, add-one, Bool, List, [], ◌∷◌, ◌++◌, length, get_or, drop}
 use Rattle.std.proofs.lemmas.List.{drop_all}
-use Rattle.heyvl_syntax.specs.declared.spans.Span.{Span}
-use Rattle.heyvl_syntax.specs.declared.statements.CheckKind.{CheckKind}
+use Rattle.heyvl_places.specs.declared.spans.Span.{Span}
+use Rattle.heyvl_places.specs.declared.checks.CheckKind.{CheckKind}
 use Rattle.heylo_formula.specs.Formula.{Form}
 use Rattle.heylo_formula.specs.PlainTrees.{form_of, term_of}
 use Rattle.heylo_formula.specs.Typing.{Types}
 use Rattle.heylo_formula.specs.declared.forms.Form as F
 use Rattle.heylo_formula.specs.declared.terms.Term as T
 use Rattle.heylo_formula.specs.declared.types.Ty.{Ty}
-use Rattle.heyvl_types.specs.Acts.{Act, Acts, join, type_list}
+use Rattle.heyvl_acts.specs.Acts.{Act, Acts, join, type_list}
 use Rattle.heylo_formula.specs.Shifted.{shifted}
-use Rattle.heyvl_types.proofs.exported.PlainActsAre.{set_act, any_act, check_act}
-use Rattle.heyvl_types.specs.PlainActs.{act_of, acts_of, procedure_of, terms_of}
-use Rattle.heyvl_types.specs.declared.acts.Act as A
-use Rattle.heyvl_types.specs.declared.typed.TProc.{TProc}
+use Rattle.heyvl_acts.proofs.exported.PlainActsAre.{set_act, any_act, check_act}
+use Rattle.heyvl_acts.specs.PlainActs.{act_of, acts_of, procedure_of, terms_of}
+use Rattle.heyvl_acts.specs.declared.acts.Act as A
+use Rattle.heyvl_acts.specs.declared.typed.TProc.{TProc}
 use Rattle.k_induction.specs.Copies.{may}
-use Rattle.heyvl_types.specs.declared.typed.VarInfo.{VarInfo}
+use Rattle.heyvl_acts.specs.declared.typed.VarInfo.{VarInfo}
 use Rattle.loop_encodings.specs.Encoding.{sets, any_block, read, gets, havocs}
 use Rattle.loop_encodings.specs.internal.Ready.{IsCallee, plain_variables, returned}
 use Rattle.loop_encodings.proofs.OwnVariables.{inputs_length}

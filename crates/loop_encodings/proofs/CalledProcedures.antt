@@ -1,10 +1,10 @@
 -- The procedures that acts call, and those that a procedure reaches.
 use Rattle.std.proofs.Common.{◌≡◌, ℕ, refl, subst, Bool, true, false, ◌==◌, List, [], ◌∷◌}
-use Rattle.heyvl_syntax.specs.declared.spans.Span.{Span}
+use Rattle.heyvl_places.specs.declared.spans.Span.{Span}
 use Rattle.heylo_formula.specs.Formula.{Term}
-use Rattle.heyvl_types.specs.Acts.{Act, TypedProcedure}
-use Rattle.heyvl_types.specs.Program.{Calls, Reaches, calls}
-use Rattle.heyvl_types.specs.Rules.{Each}
+use Rattle.heyvl_acts.specs.Acts.{Act, TypedProcedure}
+use Rattle.heyvl_acts.specs.Program.{Calls, Reaches, calls}
+use Rattle.heyvl_acts.specs.Rules.{Each}
 use Rattle.loop_encodings.proofs.ModifiedVariables.{equal_of, or_first, or_second, self}
 use Rattle.loop_encodings.proofs.RuledPrograms.{CallsOnly}
 

@@ -12,7 +12,7 @@ use Rattle.heyvl_num.specs.Value.Value.{finite}
 use Rattle.heyvl_num.specs.WeightedSums.{total_weight}
 use Rattle.heyvl_num.proofs.exported.Rationals.{zero-≤ʳ-one, +ʳ-zero, +ʳ_assoc, +ʳ_nonnegative}
 use Rattle.heyvl_num.proofs.exported.Values.{is_zero-zero, is_zero-one, ≤ᵛ_refl, +ᵛ_mono, +ᵛ-zero, +ᵛ_assoc}
-use Rattle.heyvl_syntax.specs.declared.spans.Span.{Span}
+use Rattle.heyvl_places.specs.declared.spans.Span.{Span}
 use Rattle.heylo_formula.specs.State.{Env, put, fit, has, environment, IsTyped}
 use Rattle.heylo_formula.specs.Choices.{Choices, here, left, right}
 use Rattle.heylo_formula.specs.Formula.{Form, Term}
@@ -24,13 +24,13 @@ use Rattle.heylo_formula.specs.declared.values.Val.{Val}
 use Rattle.heylo_formula.specs.declared.values.Val.TheVariants.{Truth}
 use Rattle.heylo_formula.proofs.exported.Agreement.{same_on, clash}
 use Rattle.heylo_formula.proofs.exported.States.{env_typed, put_keeps, fit_has}
-use Rattle.heyvl_types.specs.Acts.{Head, Act, Acts, Arms, Variable, TypedProcedure, variables, type_list, types_of, acts_in, procedure_at}
-use Rattle.heyvl_types.specs.Forward.{Post, checked, picked, part, parts, drawn}
-use Rattle.heyvl_types.specs.Matching.{taken}
-use Rattle.heyvl_types.specs.Modified.{modified}
-use Rattle.heyvl_types.specs.Rules.{IsOwn}
-use Rattle.heyvl_types.specs.Visible.{Visible, among, shown, interface, Sees, SeesCond, shown_by, ScopedAct}
-use Rattle.heyvl_types.specs.WellTyped.{PartsFit}
+use Rattle.heyvl_acts.specs.Acts.{Head, Act, Acts, Arms, Variable, TypedProcedure, variables, type_list, types_of, acts_in, procedure_at}
+use Rattle.heyvl_acts.specs.Forward.{Post, checked, picked, part, parts, drawn}
+use Rattle.heyvl_acts.specs.Matching.{taken}
+use Rattle.heyvl_acts.specs.Modified.{modified}
+use Rattle.heyvl_acts.specs.Rules.{IsOwn}
+use Rattle.heyvl_acts.specs.Visible.{Visible, among, shown, interface, Sees, SeesCond, shown_by, ScopedAct}
+use Rattle.heyvl_acts.specs.WellTyped.{PartsFit}
 use Rattle.k_induction.specs.Copies.{must}
 use Rattle.run_machine.specs.Bound.{BoundBy, IsState}
 use Rattle.run_machine.specs.Configurations.{Item, Frame, Config, Outcomes, push, evaluate, set_all, outs, callee_items, first_state, outputs_of, begin}

@@ -9,9 +9,9 @@ use Rattle.heylo_formula.specs.declared.types.Ty.{Ty}
 use Rattle.heylo_formula.specs.declared.values.Val.{Val}
 use Rattle.heylo_formula.proofs.exported.Agreement.{same_on, unchosen}
 use Rattle.heylo_formula.proofs.exported.States.{append_first, length-typed, listed_same, listed_typed, typed_append}
-use Rattle.heyvl_types.specs.Acts.{TypedProcedure, Variable, acts_in, type_list, types_of, variables}
-use Rattle.heyvl_types.specs.Forward.{forward}
-use Rattle.heyvl_types.specs.Visible.{interface}
+use Rattle.heyvl_acts.specs.Acts.{TypedProcedure, Variable, acts_in, type_list, types_of, variables}
+use Rattle.heyvl_acts.specs.Forward.{forward}
+use Rattle.heyvl_acts.specs.Visible.{interface}
 use Rattle.loop_encodings.specs.Encoding.{all_variables, encoding}
 use Rattle.loop_encodings.specs.Fresh.{fresh}
 use Rattle.loop_encodings.specs.internal.Contracts.{meaning, picks}

@@ -7,8 +7,8 @@ use Rattle.std.proofs.lemmas.List.{length-append, length-map}
 use Prim.Native.Nat.{zero, suc}
 use Rattle.heyvl_num.specs.Rational.{Rational}
 use Rattle.heyvl_num.specs.Value.{Value, zeroᵛ, ◌+ᵛ◌}
-use Rattle.heyvl_syntax.specs.declared.spans.Span.{Span}
-use Rattle.heyvl_syntax.specs.declared.statements.CheckKind.{CheckKind}
+use Rattle.heyvl_places.specs.declared.spans.Span.{Span}
+use Rattle.heyvl_places.specs.declared.checks.CheckKind.{CheckKind}
 use Rattle.heylo_formula.specs.Operators.{finite_part}
 use Rattle.heylo_formula.specs.State.{Env, put, fit, has, truth_of, number_of, environment, IsTyped}
 use Rattle.heylo_formula.specs.Choices.{Choices, here, left, right}
@@ -23,12 +23,12 @@ use Rattle.heylo_formula.proofs.exported.Agreement.{same_on, same_on_in}
 use Rattle.heylo_formula.proofs.exported.Shifted.{shifted_value}
 use Rattle.heylo_formula.proofs.exported.States.{fit_has, length-typed, put_keeps}
 use Rattle.heylo_formula.proofs.exported.TypedTerms.{term_typed}
-use Rattle.heyvl_types.specs.Acts.{Head, Act, Acts, Arms, TypedProcedure, Variable, join, procedure_at, type_list, types_of, variables}
-use Rattle.heyvl_types.specs.Forward.{Post, OfLoops, OfCalls, checked, validated, part, parts, drawn, meant, meant_act, meant_arms, no_loops, no_calls, forward}
-use Rattle.heyvl_types.specs.Modified.{modified}
-use Rattle.heyvl_types.specs.Rules.{Each, IsOwn}
-use Rattle.heyvl_types.specs.Visible.{Scoped, ScopedAct, ScopedArms, Sees, SeesCond, SeesParts, SeesTerm, SeesTerms, Visible, shown_by}
-use Rattle.heyvl_types.specs.WellTyped.{PartsFit}
+use Rattle.heyvl_acts.specs.Acts.{Head, Act, Acts, Arms, TypedProcedure, Variable, join, procedure_at, type_list, types_of, variables}
+use Rattle.heyvl_acts.specs.Forward.{Post, OfLoops, OfCalls, checked, validated, part, parts, drawn, meant, meant_act, meant_arms, no_loops, no_calls, forward}
+use Rattle.heyvl_acts.specs.Modified.{modified}
+use Rattle.heyvl_acts.specs.Rules.{Each, IsOwn}
+use Rattle.heyvl_acts.specs.Visible.{Scoped, ScopedAct, ScopedArms, Sees, SeesCond, SeesParts, SeesTerm, SeesTerms, Visible, shown_by}
+use Rattle.heyvl_acts.specs.WellTyped.{PartsFit}
 use Rattle.k_induction.specs.Copies.{must, may, meets, copies, if_holds, no_more}
 use Rattle.run_machine.specs.Configurations.{evaluate}
 use Rattle.loop_encodings.specs.Encoding.{sets, any_block, read, gets, encoded_call, havocs, tested, encoded_loop, encoded_act, encoded, encoded_arms}

@@ -1,13 +1,12 @@
 -- The encoding of a body is well typed over the procedure's variables and the fresh ones.
-use Rattle.std.proofs.Common.{append_assoc, ◌≡◌, ◌<◌, ◌+◌, ◌==◌, ℕ, refl, sym, ap, ◌∙◌, subst, arith, Bool, true, false, List, [], ◌∷◌, ◌++◌, length}
+use Rattle.std.proofs.Common.{append_assoc, ◌≡◌, ◌<◌, ◌+◌, ◌==◌, ℕ, refl, sym, ap, ◌∙◌, subst, arith, Bool, true, false, List, [], ◌∷◌, ◌++◌, length, ⊎_elim, leb}
 use Rattle.std.specs.Prelude.{if◌then◌else◌}
 use Rattle.std.proofs.lemmas.List.{length-append}
 use Rattle.std.proofs.lemmas.Bool.{or_cases}
 use Rattle.std.proofs.lemmas.Bool.Decides.{leb_tells}
-use Rattle.std.proofs.Common.{⊎_elim, leb}
 use Prim.Native.Nat.{zero, suc}
 use Rattle.heyvl_num.specs.Rational.{Rational}
-use Rattle.heyvl_syntax.specs.declared.spans.Span.{Span}
+use Rattle.heyvl_places.specs.declared.spans.Span.{Span}
 use Rattle.heylo_formula.specs.Formula.{Form, Cond, Term}
 use Rattle.heylo_formula.specs.Shifted.{shifted}
 use Rattle.heylo_formula.specs.Typing.{IsFormula, Types, types_in, number_type, fits, is_bool, is_unsigned, is_well_typed, TermFits}
@@ -15,12 +14,12 @@ use Rattle.heylo_formula.specs.Variables.{IsOver}
 use Rattle.heylo_formula.specs.declared.types.Ty.{Ty}
 use Rattle.heylo_formula.proofs.exported.Agreement.{same_types, same_truth}
 use Rattle.heylo_formula.proofs.exported.Shifted.{shifted_type, shifted_binders}
-use Rattle.heyvl_types.specs.Acts.{Head, Act, Acts, Arms, TypedProcedure, Variable, acts_in, join, procedure_at, type_list, types_of, variables}
-use Rattle.heyvl_types.specs.Modified.{is_target_of, modified}
-use Rattle.heyvl_types.specs.Places.{in_order, inside, inside_arms}
-use Rattle.heyvl_types.specs.Rules.{ArgumentsFit, Each, GrowBelow, GuardsFit, IsOwn, MeetsRules, TargetsFit, widens_to}
-use Rattle.heyvl_types.specs.Visible.{Scoped, ScopedAct, ScopedArms, Sees, SeesCond, SeesParts, SeesTerm, SeesTerms, Visible, interface, shown, shown_all, shown_by}
-use Rattle.heyvl_types.specs.WellTyped.{ActsFit, ArmsFit, DrawFits, IsHeld, PartsFit}
+use Rattle.heyvl_acts.specs.Acts.{Head, Act, Acts, Arms, TypedProcedure, Variable, acts_in, join, procedure_at, type_list, types_of, variables}
+use Rattle.heyvl_acts.specs.Modified.{is_target_of, modified}
+use Rattle.heyvl_acts.specs.Places.{in_order, inside, inside_arms}
+use Rattle.heyvl_acts.specs.Rules.{ArgumentsFit, Each, GrowBelow, GuardsFit, IsOwn, MeetsRules, TargetsFit, widens_to}
+use Rattle.heyvl_acts.specs.Visible.{Scoped, ScopedAct, ScopedArms, Sees, SeesCond, SeesParts, SeesTerm, SeesTerms, Visible, interface, shown, shown_all, shown_by}
+use Rattle.heyvl_acts.specs.WellTyped.{ActsFit, ArmsFit, DrawFits, IsHeld, PartsFit}
 use Rattle.k_induction.specs.Copies.{copies}
 use Rattle.loop_encodings.specs.Encoding.{all_variables, any_block, encoded, encoded_act, encoded_arms, encoded_loop, encoding, gets, havocs, read, sets, tested}
 use Rattle.loop_encodings.specs.Fresh.{fresh, fresh_of_act, fresh_of_arms}

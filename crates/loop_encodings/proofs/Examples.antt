@@ -4,11 +4,11 @@ use Rattle.std.specs.Prelude.{Some, None}
 use Rattle.heyvl_num.specs.Rational.{Rational, ratio}
 use Rattle.heyvl_num.specs.Value.{oneᵛ}
 use Rattle.heyvl_num.specs.Value.Value.{finite}
-use Rattle.heyvl_syntax.specs.declared.spans.Span.{Span}
-use Rattle.heyvl_syntax.specs.declared.statements.CheckKind.{CheckKind}
+use Rattle.heyvl_places.specs.declared.spans.Span.{Span}
+use Rattle.heyvl_places.specs.declared.checks.CheckKind.{CheckKind}
 use Rattle.heylo_formula.specs.Formula.{Form, Cond, Term}
 use Rattle.heylo_formula.specs.declared.types.Ty.{Ty}
-use Rattle.heyvl_types.specs.Acts.{Head, Act, Acts, Arms, TypedProcedure, Variable, nobody}
+use Rattle.heyvl_acts.specs.Acts.{Head, Act, Acts, Arms, TypedProcedure, Variable, nobody}
 use Rattle.loop_encodings.specs.Encoding.{all_variables, encoding}
 
 abbrev pub here : Span

@@ -3,12 +3,12 @@
 use Rattle.std.proofs.Common.{◌≡◌, refl, true, false, [], ◌∷◌}
 use Rattle.std.specs.Prelude.{Some, None}
 use Rattle.heyvl_num.specs.Value.{oneᵛ}
-use Rattle.heyvl_syntax.specs.declared.statements.CheckKind.{CheckKind}
+use Rattle.heyvl_places.specs.declared.checks.CheckKind.{CheckKind}
 use Rattle.heylo_formula.specs.Formula.{Form, Cond, Term}
 use Rattle.heylo_formula.specs.Substitution as Replaced
 use Rattle.heylo_formula.specs.Variables.{is_free, occurs}
 use Rattle.heylo_formula.specs.declared.types.Ty.{Ty}
-use Rattle.heyvl_types.specs.Acts.{Act, Acts, TypedProcedure, nobody}
+use Rattle.heyvl_acts.specs.Acts.{Act, Acts, TypedProcedure, nobody}
 use Rattle.vp_generator.specs.Generated.{vp}
 use Rattle.loop_encodings.specs.FreshLaws.{generated_form, main_goal}
 use Rattle.loop_encodings.proofs.Examples.{here, named}

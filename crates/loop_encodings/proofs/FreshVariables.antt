@@ -3,7 +3,7 @@ use Rattle.std.proofs.Common.{◌≡◌, ◌≤◌, ◌∙◌, ℕ, refl, arith,
 use Rattle.std.proofs.lemmas.List.{length-append, length-map}
 use Rattle.heylo_formula.specs.Formula.{Form}
 use Rattle.heylo_formula.specs.Variables.{is_free, IsOver}
-use Rattle.heyvl_types.specs.Acts.{Variable, acts_in, procedure_at, type_list, variables}
+use Rattle.heyvl_acts.specs.Acts.{Variable, acts_in, procedure_at, type_list, variables}
 use Rattle.loop_encodings.specs.Encoding.{all_variables}
 use Rattle.loop_encodings.specs.Fresh.{fresh}
 use Rattle.loop_encodings.specs.FreshLaws.{FreshVariablesAreNotFree, MainFormsAreOverOwnVariables, MainGoalsCountFreshVariables, MainGoalsLackFreshVariables, generated_form}

@@ -7,7 +7,7 @@ use Rattle.heyvl_num.specs.Rational.{Rational, zeroʳ, ◌≤ʳ◌}
 use Rattle.heyvl_num.specs.Value.{zeroᵛ, ◌≤ᵛ◌}
 use Rattle.heyvl_num.proofs.exported.Rationals.{zero-≤ʳ-one}
 use Rattle.heyvl_num.proofs.exported.Values.{zero-≤ᵛ-one, zero-≤ᵛ-zero, +ᵛ_nonnegative, scale_nonnegative}
-use Rattle.heyvl_syntax.specs.declared.spans.Span.{Span}
+use Rattle.heyvl_places.specs.declared.spans.Span.{Span}
 use Rattle.heylo_formula.specs.State.{fit, has, environment, IsTyped}
 use Rattle.heylo_formula.specs.Choices.{Choices}
 use Rattle.heylo_formula.specs.Formula.{Term}
@@ -18,11 +18,11 @@ use Rattle.heylo_formula.specs.declared.values.Val.{Val}
 use Rattle.heylo_formula.proofs.exported.Agreement.{same_on}
 use Rattle.heylo_formula.proofs.exported.States.{env_typed, fit_has}
 use Rattle.heylo_formula.proofs.exported.TypedTerms.{term_typed}
-use Rattle.heyvl_types.specs.Acts.{Head, Act, Acts, Arms, TypedProcedure, variables, type_list, types_of, acts_in, procedure_at}
-use Rattle.heyvl_types.specs.Matching.{taken}
-use Rattle.heyvl_types.specs.Rules.{IsOwn}
-use Rattle.heyvl_types.specs.Visible.{Visible, shown, interface, shown_by, ScopedAct, Scoped, ScopedArms}
-use Rattle.heyvl_types.specs.WellTyped.{PartsFit}
+use Rattle.heyvl_acts.specs.Acts.{Head, Act, Acts, Arms, TypedProcedure, variables, type_list, types_of, acts_in, procedure_at}
+use Rattle.heyvl_acts.specs.Matching.{taken}
+use Rattle.heyvl_acts.specs.Rules.{IsOwn}
+use Rattle.heyvl_acts.specs.Visible.{Visible, shown, interface, shown_by, ScopedAct, Scoped, ScopedArms}
+use Rattle.heyvl_acts.specs.WellTyped.{PartsFit}
 use Rattle.run_machine.specs.Bound.{IsState}
 use Rattle.run_machine.specs.Configurations.{Item, Frame, Config, Outcomes, push, evaluate, outs, callee_items, outputs_of}
 use Rattle.run_machine.specs.Runs.{Runner, spread, onward, runs}

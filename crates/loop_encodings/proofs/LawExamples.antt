@@ -7,9 +7,9 @@ use Rattle.heyvl_num.specs.Value.Value.{finite}
 use Rattle.heyvl_num.proofs.exported.Values.{≤ᵛ_refl}
 use Rattle.heylo_formula.specs.Formula.{Form, Cond, Term}
 use Rattle.heylo_formula.specs.State.{get, truth_of}
-use Rattle.heyvl_types.specs.Acts.{Act, Arms, TypedProcedure, nobody}
-use Rattle.heyvl_types.specs.Program.{Calls, IsProgram, Reaches}
-use Rattle.heyvl_types.specs.Rules.{MeetsRules}
+use Rattle.heyvl_acts.specs.Acts.{Act, Arms, TypedProcedure, nobody}
+use Rattle.heyvl_acts.specs.Program.{Calls, IsProgram, Reaches}
+use Rattle.heyvl_acts.specs.Rules.{MeetsRules}
 use Rattle.run_machine.specs.Bound.{Bound}
 use Rattle.loop_encodings.specs.BoundGoals.{BoundGoalsHold}
 use Rattle.loop_encodings.specs.Law.{IsShown}

@@ -13,8 +13,8 @@ use Rattle.heylo_formula.specs.Operators.{agree}
 use Rattle.heylo_formula.specs.State.{get, fit, truth_of}
 use Rattle.heylo_formula.specs.declared.types.Ty.{Ty}
 use Rattle.heylo_formula.specs.declared.values.Val.TheVariants.{Truth}
-use Rattle.heyvl_types.specs.Acts.{Act, Acts, TypedProcedure, nobody}
-use Rattle.heyvl_types.specs.Rules.{MeetsRules}
+use Rattle.heyvl_acts.specs.Acts.{Act, Acts, TypedProcedure, nobody}
+use Rattle.heyvl_acts.specs.Rules.{MeetsRules}
 use Rattle.run_machine.specs.Bound.{Bound}
 use Rattle.run_machine.specs.Configurations.{begin}
 use Rattle.run_machine.specs.Runs.{runs}

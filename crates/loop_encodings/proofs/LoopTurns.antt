@@ -6,10 +6,10 @@ use Rattle.heylo_formula.specs.State.{Env}
 use Rattle.heylo_formula.specs.Choices.{Choices, left, right}
 use Rattle.heylo_formula.specs.Meaning.{value, holds}
 use Rattle.heylo_formula.specs.Typing.{Types, HasTypes}
-use Rattle.heyvl_types.specs.Acts.{Head, Acts, TypedProcedure, types_of, procedure_at}
-use Rattle.heyvl_types.specs.Forward.{Post, checked}
-use Rattle.heyvl_types.specs.Modified.{modified}
-use Rattle.heyvl_types.specs.Visible.{among, Sees, SeesCond, Scoped}
+use Rattle.heyvl_acts.specs.Acts.{Head, Acts, TypedProcedure, types_of, procedure_at}
+use Rattle.heyvl_acts.specs.Forward.{Post, checked}
+use Rattle.heyvl_acts.specs.Modified.{modified}
+use Rattle.heyvl_acts.specs.Visible.{among, Sees, SeesCond, Scoped}
 use Rattle.k_induction.specs.Copies.{must}
 use Rattle.loop_encodings.specs.internal.Contracts.{worst, havoc, after, more, once, way, blame, meaning}
 use Rattle.loop_encodings.specs.internal.Programs.{IsLoop, Program, IsBoundedProgram}

@@ -21,12 +21,12 @@ use Rattle.heylo_formula.specs.declared.values.Val.TheVariants.{Truth}
 use Rattle.heylo_formula.proofs.exported.Agreement.{same_on}
 use Rattle.heylo_formula.proofs.exported.States.{env_typed, listed_same, put_keeps, fit_has}
 use Rattle.heylo_formula.proofs.exported.TypedTerms.{nonnegative_value, term_typed}
-use Rattle.heyvl_types.specs.Acts.{Head, Act, Acts, Arms, Variable, TypedProcedure, variables, type_list, types_of, procedure_at}
-use Rattle.heyvl_types.specs.Forward.{Post, picked, part, parts, drawn, meant_arms}
-use Rattle.heyvl_types.specs.Modified.{modified}
-use Rattle.heyvl_types.specs.Rules.{ArgumentsFit}
-use Rattle.heyvl_types.specs.Visible.{Visible}
-use Rattle.heyvl_types.specs.WellTyped.{IsHeld, PartsFit}
+use Rattle.heyvl_acts.specs.Acts.{Head, Act, Acts, Arms, Variable, TypedProcedure, variables, type_list, types_of, procedure_at}
+use Rattle.heyvl_acts.specs.Forward.{Post, picked, part, parts, drawn, meant_arms}
+use Rattle.heyvl_acts.specs.Modified.{modified}
+use Rattle.heyvl_acts.specs.Rules.{ArgumentsFit}
+use Rattle.heyvl_acts.specs.Visible.{Visible}
+use Rattle.heyvl_acts.specs.WellTyped.{IsHeld, PartsFit}
 use Rattle.k_induction.specs.Copies.{must, meets}
 use Rattle.run_machine.specs.Configurations.{evaluate}
 use Rattle.run_machine.specs.Sums.{begun}

@@ -4,11 +4,11 @@ use Rattle.std.proofs.lemmas.List.{take_all, drop_all, take-append-drop, length-
 use Rattle.std.specs.List.{take-map, drop-map}
 use Prim.Native.Nat.{zero, suc}
 use Rattle.heylo_formula.specs.Typing.{types_in}
-use Rattle.heyvl_types.specs.Acts.{Variable, variables, type_list, types_of}
-use Rattle.heyvl_types.specs.PlainActs.{procedure_of, variable_of}
-use Rattle.heyvl_types.specs.Rules.{GrowBelow}
-use Rattle.heyvl_types.specs.declared.typed.TProc.{TProc}
-use Rattle.heyvl_types.specs.declared.typed.VarInfo.{VarInfo}
+use Rattle.heyvl_acts.specs.Acts.{Variable, variables, type_list, types_of}
+use Rattle.heyvl_acts.specs.PlainActs.{procedure_of, variable_of}
+use Rattle.heyvl_acts.specs.Rules.{GrowBelow}
+use Rattle.heyvl_acts.specs.declared.typed.TProc.{TProc}
+use Rattle.heyvl_acts.specs.declared.typed.VarInfo.{VarInfo}
 use Rattle.loop_encodings.specs.internal.Ready.{plain_variables}
 
 take_none : {X : Type 0} → (n : ℕ) (none : List X) → length none ≤ 0 → take n none ≡ none

@@ -1,12 +1,12 @@
 -- What is known of a procedure that is a program: no reason speaks against it.
 use Rattle.std.proofs.Common.{◌≡◌, refl, Bool, true, false, not, ◌||◌, List, [], ◌∷◌}
 use Rattle.std.specs.Prelude.{if◌then◌else◌, Option, Some, None}
-use Rattle.heyvl_syntax.specs.declared.spans.Span.{Span}
+use Rattle.heyvl_places.specs.declared.spans.Span.{Span}
 use Rattle.heylo_formula.specs.Binders.{has_binder}
-use Rattle.heyvl_types.specs.Acts.{Act, Acts, TypedProcedure, acts_in}
-use Rattle.heyvl_types.specs.Places.{in_order}
-use Rattle.heyvl_types.specs.Program.{IsProgram, Reason, breaks, first_break, reason_of_break}
-use Rattle.heyvl_types.specs.Rules.{Each}
+use Rattle.heyvl_acts.specs.Acts.{Act, Acts, TypedProcedure, acts_in}
+use Rattle.heyvl_acts.specs.Places.{in_order}
+use Rattle.heyvl_acts.specs.Program.{IsProgram, Reason, breaks, first_break, reason_of_break}
+use Rattle.heyvl_acts.specs.Rules.{Each}
 
 -- It is a coproc or a weak proc, its post has no binder, and no act breaks it.
 pub record HasNoReason (p : TypedProcedure) : Type 0 where

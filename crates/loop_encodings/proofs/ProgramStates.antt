@@ -15,9 +15,9 @@ use Rattle.heylo_formula.specs.declared.values.Val.TheVariants.{Truth, Num}
 use Rattle.heylo_formula.proofs.exported.Agreement.{clash}
 use Rattle.heylo_formula.proofs.exported.Plain.{and_both}
 use Rattle.heylo_formula.proofs.exported.States.{set_is_put, set_typed, put_keeps, put_again, put_commute, fit_has, fit_same}
-use Rattle.heyvl_types.specs.Acts.{Variable, TypedProcedure, type_list, types_of, variables}
-use Rattle.heyvl_types.specs.Rules.{IsOwn, widens_to}
-use Rattle.heyvl_types.specs.Visible.{Visible}
+use Rattle.heyvl_acts.specs.Acts.{Variable, TypedProcedure, type_list, types_of, variables}
+use Rattle.heyvl_acts.specs.Rules.{IsOwn, widens_to}
+use Rattle.heyvl_acts.specs.Visible.{Visible}
 use Rattle.run_machine.specs.Bound.{IsState}
 use Rattle.run_machine.specs.Configurations.{set_all, first_state, outputs_of}
 use Rattle.loop_encodings.specs.internal.Contracts.{havoc, after, picks, past_picks, put_all}

@@ -3,17 +3,17 @@ use Rattle.std.proofs.Common.{◌≡◌, ◌<◌, ℕ, refl, sym, ◌∙◌, ari
 use Rattle.std.specs.Prelude.{if◌then◌else◌, Some, None}
 use Prim.Native.Nat.{suc}
 use Rattle.heyvl_num.specs.Rational.{Rational}
-use Rattle.heyvl_syntax.specs.declared.spans.Span.{Span}
+use Rattle.heyvl_places.specs.declared.spans.Span.{Span}
 use Rattle.heylo_formula.specs.Choices.{Choices}
 use Rattle.heylo_formula.specs.Formula.{Term}
 use Rattle.heylo_formula.specs.Operators.{agree}
 use Rattle.heylo_formula.specs.declared.types.Ty.{Ty}
-use Rattle.heyvl_types.specs.Acts.{Act, Acts, Arms, TypedProcedure, procedure_at, type_list, types_of, variables}
-use Rattle.heyvl_types.specs.Places.{in_order, inside, inside_arms}
-use Rattle.heyvl_types.specs.Program.{breaks}
-use Rattle.heyvl_types.specs.Rules.{Each, FollowsDirection, GrowBelow, GuardsFit, HasOwnTargets, IsOwn, IsTypedAct, LoopsMeet, TargetsFit, WeighsOne}
-use Rattle.heyvl_types.specs.Visible.{Visible, Scoped, ScopedAct, ScopedArms, among, shown_by}
-use Rattle.heyvl_types.specs.WellTyped.{DrawFits, PartsFit}
+use Rattle.heyvl_acts.specs.Acts.{Act, Acts, Arms, TypedProcedure, procedure_at, type_list, types_of, variables}
+use Rattle.heyvl_acts.specs.Places.{in_order, inside, inside_arms}
+use Rattle.heyvl_acts.specs.Program.{breaks}
+use Rattle.heyvl_acts.specs.Rules.{Each, FollowsDirection, GrowBelow, GuardsFit, HasOwnTargets, IsOwn, IsTypedAct, LoopsMeet, TargetsFit, WeighsOne}
+use Rattle.heyvl_acts.specs.Visible.{Visible, Scoped, ScopedAct, ScopedArms, among, shown_by}
+use Rattle.heyvl_acts.specs.WellTyped.{DrawFits, PartsFit}
 use Rattle.loop_encodings.specs.BoundGoals.{IsAtMostOne}
 use Rattle.loop_encodings.specs.internal.Programs.{Owns, Program, ProgramAct, ProgramArms}
 use Rattle.loop_encodings.proofs.FromRules.{each_first, each_second}

@@ -6,11 +6,11 @@ use Rattle.heyvl_num.specs.Value.Value.{finite, infinite}
 use Rattle.heyvl_num.specs.ValueOperators.{minᵛ, maxᵛ, impliesᵛ, coimpliesᵛ}
 use Rattle.heyvl_num.proofs.exported.Values.{+ᵛ_comm, +ᵛ_assoc, zero-+ᵛ, scale-+ᵛ, weights-*, ≤ᵛ_refl, ≤ᵛ_infinite, ≤ᵛ_trans, ≤ᵛ_antisym, +ᵛ_mono, scale_mono, +ᵛ-infinite}
 use Rattle.heyvl_num.proofs.exported.Operators.{order_cases, coimplies_up, coimplies_from, min_below_left, min_below_right, min_greatest, min_mono, max_above_left, max_above_right, max_least, max_mono, implies_top, implies_mono, coimplies_zero}
-use Rattle.heyvl_syntax.specs.declared.statements.CheckKind.{CheckKind}
+use Rattle.heyvl_places.specs.declared.checks.CheckKind.{CheckKind}
 use Rattle.heylo_formula.specs.Operators.{validateᵛ, covalidateᵛ}
 use Rattle.heylo_formula.specs.Goals.{Compares}
 use Rattle.heylo_formula.proofs.exported.Operators.{covalidate_two, covalidate_zero, covalidate_up, validate_two, validate_infinite, validate_up}
-use Rattle.heyvl_types.specs.Forward.{picked, checked, validated}
+use Rattle.heyvl_acts.specs.Forward.{picked, checked, validated}
 use Rattle.k_induction.specs.Copies.{must, may, meets}
 use Rattle.run_machine.specs.Sums.{begun}
 use Rattle.run_machine.proofs.exported.Equations.{one_times}

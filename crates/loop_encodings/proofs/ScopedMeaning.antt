@@ -14,10 +14,10 @@ use Rattle.heylo_formula.specs.declared.types.Ty.{Ty}
 use Rattle.heylo_formula.specs.declared.values.Val.{Val}
 use Rattle.heylo_formula.specs.declared.values.Val.TheVariants.{Truth, Num}
 use Rattle.heylo_formula.proofs.exported.Agreement.{same_on, same_on_in}
-use Rattle.heyvl_types.specs.Acts.{Head, Act, Acts, Arms, TypedProcedure, type_list, types_of, procedure_at}
-use Rattle.heyvl_types.specs.Forward.{Post, picked, checked, validated, part, parts, drawn, meant_arms}
-use Rattle.heyvl_types.specs.Modified.{modified}
-use Rattle.heyvl_types.specs.Visible.{Visible, shown, shown_all, Sees, SeesCond, SeesTerm, SeesTerms, SeesParts, shown_by, ScopedAct, Scoped, ScopedArms}
+use Rattle.heyvl_acts.specs.Acts.{Head, Act, Acts, Arms, TypedProcedure, type_list, types_of, procedure_at}
+use Rattle.heyvl_acts.specs.Forward.{Post, picked, checked, validated, part, parts, drawn, meant_arms}
+use Rattle.heyvl_acts.specs.Modified.{modified}
+use Rattle.heyvl_acts.specs.Visible.{Visible, shown, shown_all, Sees, SeesCond, SeesTerm, SeesTerms, SeesParts, shown_by, ScopedAct, Scoped, ScopedArms}
 use Rattle.k_induction.specs.Copies.{must, may, meets}
 use Rattle.run_machine.specs.Configurations.{evaluate}
 use Rattle.loop_encodings.specs.internal.Contracts.{havoc, after, picks, put_all, given, more, once, way, blame, loop_value, call_blame, call_value, meaning, meaning_act}

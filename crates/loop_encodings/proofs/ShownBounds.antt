@@ -1,11 +1,11 @@
 -- A procedure that is shown throughout has its bound: from the static rules and the bound goals to what the induction over runs
 -- asks of it and of each procedure that it reaches.
 use Rattle.std.proofs.Common.{◌≡◌, ◌<◌, ℕ, refl, sym, subst, ◌∙◌, Bool, true, false, ◌||◌, ◌⊎◌, inl, inr, List, length}
-use Rattle.heyvl_types.specs.Acts.{Act, TypedProcedure, acts_in, procedure_at}
-use Rattle.heyvl_types.specs.Places.{in_order}
-use Rattle.heyvl_types.specs.Program.{Calls, Reaches}
-use Rattle.heyvl_types.specs.Rules.{Each, FollowsDirection, IsTypedAct, MeetsRules}
-use Rattle.heyvl_types.specs.Visible.{interface}
+use Rattle.heyvl_acts.specs.Acts.{Act, TypedProcedure, acts_in, procedure_at}
+use Rattle.heyvl_acts.specs.Places.{in_order}
+use Rattle.heyvl_acts.specs.Program.{Calls, Reaches}
+use Rattle.heyvl_acts.specs.Rules.{Each, FollowsDirection, IsTypedAct, MeetsRules}
+use Rattle.heyvl_acts.specs.Visible.{interface}
 use Rattle.loop_encodings.specs.Law.{IsShown, ShownBoundsHold}
 use Rattle.loop_encodings.specs.internal.Programs.{HasFormulas, IsBoundedProgram, Program}
 use Rattle.loop_encodings.proofs.CalledProcedures.{called, calls_only, reaches_then}

@@ -12,10 +12,10 @@ use Rattle.heylo_formula.specs.declared.goals.GoalId.TheVariants.{Invariant}
 use Rattle.heylo_formula.specs.declared.types.Ty.{Ty}
 use Rattle.heylo_formula.proofs.exported.Agreement.{same_on}
 use Rattle.heylo_formula.proofs.exported.States.{append_first, length-typed, typed_append}
-use Rattle.heyvl_types.specs.Acts.{Act, Acts, TypedProcedure, Variable, acts_in, type_list, variables}
-use Rattle.heyvl_types.specs.Places.{in_order}
-use Rattle.heyvl_types.specs.Program.{IsProgram}
-use Rattle.heyvl_types.specs.Rules.{Each, MeetsRules, counted, loop_numbers}
+use Rattle.heyvl_acts.specs.Acts.{Act, Acts, TypedProcedure, Variable, acts_in, type_list, variables}
+use Rattle.heyvl_acts.specs.Places.{in_order}
+use Rattle.heyvl_acts.specs.Program.{IsProgram}
+use Rattle.heyvl_acts.specs.Rules.{Each, MeetsRules, counted, loop_numbers}
 use Rattle.loop_encodings.specs.BoundGoals.{BoundGoalsHold, GoalHolds, IsAtMostOne, IsBounded, invariant_in}
 use Rattle.loop_encodings.specs.internal.Contracts.{picks}
 use Rattle.loop_encodings.specs.internal.Programs.{IsSmall}

@@ -9,12 +9,12 @@ use Rattle.heyvl_num.specs.WeightedSums.{total_weight}
 use Rattle.heyvl_num.proofs.exported.Rationals.{+ʳ-zero}
 use Rattle.heyvl_num.proofs.exported.Signs.{halves}
 use Rattle.heyvl_num.proofs.exported.WeightedSums.{total_weight-empty, total_weight-cons}
-use Rattle.heyvl_syntax.specs.declared.spans.Span.{Span}
+use Rattle.heyvl_places.specs.declared.spans.Span.{Span}
 use Rattle.heylo_formula.specs.Formula.{Form, Cond, Term}
 use Rattle.heylo_formula.specs.Typing.{types_in}
 use Rattle.heylo_formula.specs.declared.types.Ty.{Ty}
-use Rattle.heyvl_types.specs.Acts.{Act, Acts, Variable}
-use Rattle.heyvl_types.specs.WellTyped.{IsHeld}
+use Rattle.heyvl_acts.specs.Acts.{Act, Acts, Variable}
+use Rattle.heyvl_acts.specs.WellTyped.{IsHeld}
 
 abbrev pub nowhere : Span
 nowhere = record { from = 0; to = 0 }

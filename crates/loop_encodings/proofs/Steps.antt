@@ -6,9 +6,9 @@ use Rattle.std.specs.declared.alloc.Global.{Global}
 use Rattle.heylo_formula.specs.declared.forms.Cond as C
 use Rattle.heylo_formula.specs.Formula.{Cond}
 use Rattle.heylo_formula.specs.PlainTrees.{cond_of}
-use Rattle.heyvl_types.specs.declared.acts.Act as A
-use Rattle.heyvl_types.specs.Acts.{Act, Acts, Arms, TypedProcedure, Variable, join}
-use Rattle.heyvl_types.specs.PlainActs.{act_of, acts_of, arms_of}
+use Rattle.heyvl_acts.specs.declared.acts.Act as A
+use Rattle.heyvl_acts.specs.Acts.{Act, Acts, Arms, TypedProcedure, Variable, join}
+use Rattle.heyvl_acts.specs.PlainActs.{act_of, acts_of, arms_of}
 use Rattle.loop_encodings.specs.Encoding.{encoded, encoded_act, encoded_arms}
 use Rattle.loop_encodings.specs.Fresh.{fresh, fresh_of_act, fresh_of_arms}
 use Rattle.loop_encodings.specs.internal.Ready.{AreReady, IsReady, AreReadyArms}

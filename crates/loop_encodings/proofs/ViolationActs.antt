@@ -3,17 +3,17 @@ use Rattle.std.proofs.Common.{◌≡◌, ◌<◌, ℕ, refl, sym, subst, Bool, t
 use Rattle.std.specs.Prelude.{Option, Some, None, if◌then◌else◌}
 use Rattle.heyvl_num.specs.Rational.{Rational, oneʳ}
 use Rattle.heyvl_num.specs.WeightedSums.{total_weight, IsWeighted}
-use Rattle.heyvl_syntax.specs.declared.spans.Span.{Span}
+use Rattle.heyvl_places.specs.declared.spans.Span.{Span}
 use Rattle.heylo_formula.specs.Binders.{has_binder}
 use Rattle.heylo_formula.specs.Formula.{Term}
 use Rattle.heylo_formula.specs.Operators.{agree}
 use Rattle.heylo_formula.specs.Typing.{Types}
-use Rattle.heyvl_types.specs.Acts.{Act, Acts, TypedProcedure, acts_in, types_of, variables}
-use Rattle.heyvl_types.specs.Places.{in_order}
-use Rattle.heyvl_types.specs.Program.{Reason, first_break, reason_of_break, IsProgram}
-use Rattle.heyvl_types.specs.Rules.{Each, FollowsDirection, HasOwnTargets, IsTypedAct, MeetsRules, WeighsOne}
-use Rattle.heyvl_types.specs.WellTyped.{DrawFits, PartsFit}
-use Rattle.loop_encodings.specs.Law.{IsStraight}
+use Rattle.heyvl_acts.specs.Acts.{Act, Acts, TypedProcedure, acts_in, types_of, variables}
+use Rattle.heyvl_acts.specs.Places.{in_order}
+use Rattle.heyvl_acts.specs.Program.{Reason, first_break, reason_of_break, IsProgram}
+use Rattle.heyvl_acts.specs.Rules.{Each, FollowsDirection, HasOwnTargets, IsTypedAct, MeetsRules, WeighsOne}
+use Rattle.heyvl_acts.specs.WellTyped.{DrawFits, PartsFit}
+use Rattle.heyvl_acts.specs.Straight.{IsStraight}
 
 -- No check, no loop and no call; a target is one of n variables, the weights of a draw are from 0 on and add up to 1, and
 -- rewards come upward alone.

@@ -9,8 +9,8 @@ use Rattle.heyvl_num.specs.WeightedSums.{weighted_sum, scaled}
 use Rattle.heylo_formula.specs.Choices.{Choices}
 use Rattle.heylo_formula.specs.Formula.{Form, Cond}
 use Rattle.heylo_formula.specs.declared.values.Val.TheVariants.{Truth}
-use Rattle.heyvl_types.specs.Acts.{Act, Acts, TypedProcedure, nobody}
-use Rattle.heyvl_types.specs.Rules.{MeetsRules}
+use Rattle.heyvl_acts.specs.Acts.{Act, Acts, TypedProcedure, nobody}
+use Rattle.heyvl_acts.specs.Rules.{MeetsRules}
 use Rattle.run_machine.specs.Configurations.{begin}
 use Rattle.run_machine.specs.Runs.{runs}
 use Rattle.run_machine.specs.Scheduler.{Tree, Forest}

@@ -16,15 +16,15 @@ use Rattle.heylo_formula.specs.Choices.{Choices, here, left, right}
 use Rattle.heylo_formula.specs.Formula.{Form, Term}
 use Rattle.heylo_formula.specs.Meaning.{value, holds, term_value}
 use Rattle.heylo_formula.specs.declared.values.Val.{Val}
-use Rattle.heyvl_syntax.specs.declared.spans.Span.{Span}
+use Rattle.heyvl_places.specs.declared.spans.Span.{Span}
 use Rattle.heylo_formula.proofs.exported.Agreement.{clash}
 use Rattle.heylo_formula.proofs.exported.States.{set_is_put}
-use Rattle.heyvl_types.specs.Acts.{Act, Acts, Arms, TypedProcedure}
-use Rattle.heyvl_types.specs.Forward.{Post, picked, part, parts, drawn, meant_arms, no_loops, no_calls, forward, forward_act}
-use Rattle.heyvl_types.specs.Length.{longer, length_of, length_of_act, longest}
-use Rattle.heyvl_types.specs.Matching.{taken}
-use Rattle.heyvl_types.specs.Places.{in_order, inside, inside_arms}
-use Rattle.heyvl_types.specs.Rules.{Each}
+use Rattle.heyvl_acts.specs.Acts.{Act, Acts, Arms, TypedProcedure}
+use Rattle.heyvl_acts.specs.Forward.{Post, picked, part, parts, drawn, meant_arms, no_loops, no_calls, forward, forward_act}
+use Rattle.heyvl_acts.specs.Length.{longer, length_of, length_of_act, longest}
+use Rattle.heyvl_acts.specs.Matching.{taken}
+use Rattle.heyvl_acts.specs.Places.{in_order, inside, inside_arms}
+use Rattle.heyvl_acts.specs.Rules.{Each}
 use Rattle.run_machine.specs.Configurations.{Item, Config, push}
 use Rattle.run_machine.specs.Step.{Decision, sure, branches, step_act}
 use Rattle.run_machine.specs.Scheduler.{Tree, Forest}

@@ -9,8 +9,8 @@ use Rattle.heylo_formula.specs.Meaning.{value}
 use Rattle.heylo_formula.specs.State.{environment}
 use Rattle.heylo_formula.proofs.exported.Agreement.{unchosen}
 use Rattle.heylo_formula.proofs.exported.States.{length-typed}
-use Rattle.heyvl_types.specs.Acts.{Acts, TypedProcedure, Variable, acts_in, procedure_at, type_list, variables}
-use Rattle.heyvl_types.specs.Forward.{Post}
+use Rattle.heyvl_acts.specs.Acts.{Acts, TypedProcedure, Variable, acts_in, procedure_at, type_list, variables}
+use Rattle.heyvl_acts.specs.Forward.{Post}
 use Rattle.run_machine.specs.Configurations.{push}
 use Rattle.loop_encodings.specs.Law.{BrokenGoalsBreakBounds}
 use Rattle.loop_encodings.proofs.FromRules.{each_procedure}

@@ -6,7 +6,7 @@ use Rattle.heyvl_num.specs.Rational.{zeroʳ, oneʳ, halfʳ, ratio, leqʳ, ◌+ʳ
 use Rattle.heyvl_num.specs.Value.{Value, zeroᵛ, oneᵛ, is_zeroʳ, leqᵛ, ◌+ᵛ◌, ◌*ᵛ◌, ◌≤ᵛ◌}
 use Rattle.heyvl_num.specs.Value.Value.{finite, infinite}
 use Rattle.heyvl_num.specs.ValueOperators.{minᵛ, maxᵛ, coimpliesᵛ}
-use Rattle.heyvl_syntax.specs.declared.statements.CheckKind.{CheckKind}
+use Rattle.heyvl_places.specs.declared.checks.CheckKind.{CheckKind}
 use Rattle.heylo_formula.specs.Choices.{Choices, here, right}
 use Rattle.heylo_formula.specs.Formula.{Form, Term}
 use Rattle.heylo_formula.specs.Goals.{Compares}
@@ -17,10 +17,10 @@ use Rattle.heylo_formula.specs.Typing.{types_in, is_well_typed, IsFormula, TermF
 use Rattle.heylo_formula.specs.declared.types.Ty.{Ty}
 use Rattle.heylo_formula.specs.declared.values.Val.{Val}
 use Rattle.heylo_formula.specs.declared.values.Val.TheVariants.{Truth, Num}
-use Rattle.heyvl_types.specs.Acts.{Act, Acts, TypedProcedure, nobody, types_of}
-use Rattle.heyvl_types.specs.Forward.{forward}
-use Rattle.heyvl_types.specs.Rules.{MeetsRules}
-use Rattle.heyvl_types.specs.WellTyped.{IsHeld}
+use Rattle.heyvl_acts.specs.Acts.{Act, Acts, TypedProcedure, nobody, types_of}
+use Rattle.heyvl_acts.specs.Forward.{forward}
+use Rattle.heyvl_acts.specs.Rules.{MeetsRules}
+use Rattle.heyvl_acts.specs.WellTyped.{IsHeld}
 use Rattle.k_induction.specs.Copies.{if_holds, last_copy, may, meets, must}
 use Rattle.run_machine.specs.Bound.{Bound}
 use Rattle.loop_encodings.specs.BoundGoals.{IsBounded}

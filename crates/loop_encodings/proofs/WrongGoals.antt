@@ -8,7 +8,7 @@ use Rattle.heyvl_num.specs.Value.Value.{finite}
 use Rattle.heyvl_num.specs.ValueOperators.{minᵛ, maxᵛ, impliesᵛ, coimpliesᵛ}
 use Rattle.heyvl_num.specs.WeightedSums.{weighted_sum, scaled}
 use Rattle.heyvl_num.proofs.exported.Values.{≤ᵛ_refl, zero-≤ᵛ-one, zero-≤ᵛ-zero}
-use Rattle.heyvl_syntax.specs.declared.statements.CheckKind.{CheckKind}
+use Rattle.heyvl_places.specs.declared.checks.CheckKind.{CheckKind}
 use Rattle.heylo_formula.specs.Choices.{Choices}
 use Rattle.heylo_formula.specs.Formula.{Form, Cond, Term}
 use Rattle.heylo_formula.specs.Goals.{Compares}
@@ -19,10 +19,10 @@ use Rattle.heylo_formula.specs.declared.goals.GoalId.TheVariants.{Pre, Post, Inv
 use Rattle.heylo_formula.specs.declared.types.Ty.{Ty}
 use Rattle.heylo_formula.specs.declared.values.Val.{Val}
 use Rattle.heylo_formula.specs.declared.values.Val.TheVariants.{Truth}
-use Rattle.heyvl_types.specs.Acts.{Act, Acts, Arms, TypedProcedure, nobody}
-use Rattle.heyvl_types.specs.Forward.{forward}
-use Rattle.heyvl_types.specs.Program.{IsProgram}
-use Rattle.heyvl_types.specs.Rules.{MeetsRules}
+use Rattle.heyvl_acts.specs.Acts.{Act, Acts, Arms, TypedProcedure, nobody}
+use Rattle.heyvl_acts.specs.Forward.{forward}
+use Rattle.heyvl_acts.specs.Program.{IsProgram}
+use Rattle.heyvl_acts.specs.Rules.{MeetsRules}
 use Rattle.run_machine.specs.Bound.{Bound}
 use Rattle.run_machine.specs.Configurations.{begin}
 use Rattle.run_machine.specs.Runs.{runs}

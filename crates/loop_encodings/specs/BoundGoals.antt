@@ -13,10 +13,10 @@ use Rattle.heylo_formula.specs.declared.goals.GoalId.{GoalId}
 use Rattle.heylo_formula.specs.declared.goals.GoalId.TheVariants.{Main, Pre, Post, Invariant, Ranking}
 use Rattle.heylo_formula.specs.declared.types.Ty.{Ty}
 use Rattle.heylo_formula.specs.declared.values.Val.{Val}
-use Rattle.heyvl_types.specs.Acts.{Act, Acts, TypedProcedure, variables, type_list, acts_in}
-use Rattle.heyvl_types.specs.Forward.{forward}
-use Rattle.heyvl_types.specs.Places.{in_order}
-use Rattle.heyvl_types.specs.Rules.{Each, loop_numbers}
+use Rattle.heyvl_acts.specs.Acts.{Act, Acts, TypedProcedure, variables, type_list, acts_in}
+use Rattle.heyvl_acts.specs.Forward.{forward}
+use Rattle.heyvl_acts.specs.Places.{in_order}
+use Rattle.heyvl_acts.specs.Rules.{Each, loop_numbers}
 use Rattle.loop_encodings.specs.Encoding.{all_variables, encoding}
 
 -- The goals: of a procedure with a body the main one, and of a weak proc also that its pre, its post and each invariant are at

@@ -2,8 +2,8 @@
 -- follow the free variables of the generated form and the names of its binders.
 -- This project's own.
 use Rattle.std.specs.Prelude.{◌<◌, ℕ, List, length}
-use Rattle.heyvl_types.specs.Acts.{TypedProcedure, procedure_at}
-use Rattle.heyvl_types.specs.Rules.{Each, MeetsRules}
+use Rattle.heyvl_acts.specs.Acts.{TypedProcedure, procedure_at}
+use Rattle.heyvl_acts.specs.Rules.{Each, MeetsRules}
 use Rattle.vp_generator.specs.Over.{ActsAreOver}
 use Rattle.vp_generator.specs.Scopes.{AnysAreBelow}
 use Rattle.loop_encodings.specs.Encoding.{all_variables, encoding}

@@ -2,7 +2,7 @@
 -- then those of its outputs. Each has the name and the type of what it stands for.
 -- This project's own.
 use Rattle.std.specs.Prelude.{List, [], ◌++◌}
-use Rattle.heyvl_types.specs.Acts.{Act, Acts, Arms, Variable, TypedProcedure, procedure_at}
+use Rattle.heyvl_acts.specs.Acts.{Act, Acts, Arms, Variable, TypedProcedure, procedure_at}
 
 abbrev mutual
   pub fresh_of_act : List TypedProcedure → Act → List Variable

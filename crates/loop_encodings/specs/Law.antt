@@ -8,12 +8,13 @@ use Rattle.heylo_formula.specs.Goals.{Compares}
 use Rattle.heylo_formula.specs.Meaning.{value}
 use Rattle.heylo_formula.specs.State.{environment}
 use Rattle.heylo_formula.specs.declared.values.Val.{Val}
-use Rattle.heyvl_types.specs.Acts.{Act, TypedProcedure, acts_in, procedure_at}
-use Rattle.heyvl_types.specs.Forward.{forward}
-use Rattle.heyvl_types.specs.Length.{length_of}
-use Rattle.heyvl_types.specs.Places.{in_order}
-use Rattle.heyvl_types.specs.Program.{IsProgram, Reaches}
-use Rattle.heyvl_types.specs.Rules.{Each, MeetsRules}
+use Rattle.heyvl_acts.specs.Acts.{TypedProcedure, acts_in, procedure_at}
+use Rattle.heyvl_acts.specs.Forward.{forward}
+use Rattle.heyvl_acts.specs.Length.{length_of}
+use Rattle.heyvl_acts.specs.Places.{in_order}
+use Rattle.heyvl_acts.specs.Program.{IsProgram, Reaches}
+use Rattle.heyvl_acts.specs.Rules.{Each, MeetsRules}
+use Rattle.heyvl_acts.specs.Straight.{IsStraight}
 use Rattle.run_machine.specs.Bound.{Bound, IsState}
 use Rattle.run_machine.specs.Configurations.{begin}
 use Rattle.run_machine.specs.Runs.{runs}
@@ -35,19 +36,6 @@ abbrev pub ShownBoundsHold : Type 0
 ShownBoundsHold = (ps : List TypedProcedure) (p : ℕ) → Each (MeetsRules ps) ps → p < length ps → IsShownThroughout ps p → Bound ps p
 
 -- ---- Violations
-
--- No loop and no call.
-abbrev pub IsStraight : Act → Type 0
-IsStraight (Act.loop h b) = ⊥
-IsStraight (Act.call xs q es span) = ⊥
-IsStraight (Act.set x t span) = Unit {0}
-IsStraight (Act.draw x qs span) = Unit {0}
-IsStraight (Act.any x up ty span) = Unit {0}
-IsStraight (Act.reward f span) = Unit {0}
-IsStraight (Act.ifs arms e span) = Unit {0}
-IsStraight (Act.pick up a b span) = Unit {0}
-IsStraight (Act.check kind f span) = Unit {0}
-IsStraight (Act.validate co span) = Unit {0}
 
 -- Runs from this state break the bound of the procedure: for each number of steps from the length of the body on, under some
 -- scheduler.

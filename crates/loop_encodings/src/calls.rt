@@ -3,8 +3,8 @@
 
 ghost use Rattle.heylo_formula.specs.PlainTrees.{form_of, term_of};
 ghost use Rattle.heylo_formula.specs.Shifted.{shifted};
-ghost use Rattle.heyvl_types.specs.Acts.{Act as plain_act, Acts as plain_acts, join, type_list};
-ghost use Rattle.heyvl_types.specs.PlainActs.{acts_of, procedure_of, terms_of};
+ghost use Rattle.heyvl_acts.specs.Acts.{Act as plain_act, Acts as plain_acts, join, type_list};
+ghost use Rattle.heyvl_acts.specs.PlainActs.{acts_of, procedure_of, terms_of};
 ghost use Rattle.k_induction.specs.Copies.{may, must};
 ghost use Rattle.loop_encodings.specs.Encoding.{any_block, gets, read, sets};
 ghost use Rattle.loop_encodings.specs.internal.Ready.{IsCallee, plain_variables, returned};
@@ -12,8 +12,8 @@ ghost use Rattle.std.specs.Prelude.{OnOk, length, ◌+◌, ◌^◌, ◌≡◌, �
 
 use crate::variables::outputs_of;
 use heylo_formula::{Cond, Form, Term, Ty};
-use heyvl_syntax::Span;
-use heyvl_types::{Act, TProc, VarInfo};
+use heyvl_acts::{Act, TProc, VarInfo};
+use heyvl_places::Span;
 use k_induction::{may, must};
 use std::alloc::{AllocError, Global};
 

@@ -1,6 +1,6 @@
 //! The encoding of a body.
 
-use heyvl_types::{Act, VarInfo};
+use heyvl_acts::{Act, VarInfo};
 
 /// Acts without loops and calls, and the variables over which they are.
 #[derive(Drop)]

@@ -1,11 +1,11 @@
 //! The encoding of a procedure's body, in the order of the text.
 
 ghost use Rattle.heylo_formula.specs.Typing.{IsFormula, types_in};
-ghost use Rattle.heyvl_types.specs.Acts.{Acts as plain_acts, acts_in, join, procedure_at, type_list};
-ghost use Rattle.heyvl_types.specs.Count.{count_of};
-ghost use Rattle.heyvl_types.specs.PlainActs.{act_of, acts_of, procedure_of, procedures_of, variable_of};
-ghost use Rattle.heyvl_types.specs.Rules.{MeetsAllRules};
-ghost use Rattle.heyvl_types.specs.WellTyped.{ActsFit};
+ghost use Rattle.heyvl_acts.specs.Acts.{Acts as plain_acts, acts_in, join, procedure_at, type_list};
+ghost use Rattle.heyvl_acts.specs.Count.{count_of};
+ghost use Rattle.heyvl_acts.specs.PlainActs.{act_of, acts_of, procedure_of, procedures_of, variable_of};
+ghost use Rattle.heyvl_acts.specs.Rules.{MeetsAllRules};
+ghost use Rattle.heyvl_acts.specs.WellTyped.{ActsFit};
 ghost use Rattle.loop_encodings.specs.Encoding.{all_variables, encoded, encoded_act, encoding};
 ghost use Rattle.loop_encodings.specs.Fresh.{fresh, fresh_of_act};
 ghost use Rattle.loop_encodings.specs.internal.Ready.{AreReady, IsReady, plain_variables};
@@ -15,7 +15,7 @@ use crate::calls::{add_entry, add_return};
 use crate::encoded::Encoded;
 use crate::loops::add_loop;
 use crate::variables::{add_variables, interface_of};
-use heyvl_types::{Act, TProc, Typed, VarInfo};
+use heyvl_acts::{Act, TProc, Typed, VarInfo};
 use std::alloc::{AllocError, Global};
 
 /// The encoding of the procedure's body; of none where it has no body. Its acts hold no loop and no call.

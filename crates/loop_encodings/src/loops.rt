@@ -1,15 +1,15 @@
 //! The encoding of a loop, whose body is encoded already.
 
-ghost use Rattle.heyvl_types.specs.Acts.{Acts as plain_acts, join, types_of};
-ghost use Rattle.heyvl_types.specs.Modified.{modified};
-ghost use Rattle.heyvl_types.specs.PlainActs.{acts_of, procedure_of};
-ghost use Rattle.heyvl_types.specs.Rules.{GrowBelow};
-ghost use Rattle.heyvl_types.proofs.exported.PlainActsAre.{head_of};
+ghost use Rattle.heyvl_acts.specs.Acts.{Acts as plain_acts, join, types_of};
+ghost use Rattle.heyvl_acts.specs.Modified.{modified};
+ghost use Rattle.heyvl_acts.specs.PlainActs.{acts_of, procedure_of};
+ghost use Rattle.heyvl_acts.specs.Rules.{GrowBelow};
+ghost use Rattle.heyvl_acts.proofs.exported.PlainActsAre.{head_of};
 ghost use Rattle.loop_encodings.specs.Encoding.{encoded_loop, havocs, tested};
 ghost use Rattle.std.specs.Prelude.{OnOk, length, ◌≡◌, ◌≤◌};
 
-use heyvl_syntax::Span;
-use heyvl_types::{Act, LoopAct, TProc};
+use heyvl_acts::{Act, LoopAct, TProc};
+use heyvl_places::Span;
 use k_induction::{if_holds, may, must, stated, unrolled};
 use proc_contracts::modified;
 use std::alloc::{AllocError, Global};

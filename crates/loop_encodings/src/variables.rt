@@ -1,10 +1,10 @@
 //! Copies of variables.
 
-ghost use Rattle.heyvl_types.specs.PlainActs.{procedure_of, variable_of};
+ghost use Rattle.heyvl_acts.specs.PlainActs.{procedure_of, variable_of};
 ghost use Rattle.loop_encodings.specs.internal.Ready.{IsCallee, plain_variables};
 ghost use Rattle.std.specs.Prelude.{IfOk, OnOk, ◌++◌, ◌≡◌};
 
-use heyvl_types::{TProc, VarInfo};
+use heyvl_acts::{TProc, VarInfo};
 use std::alloc::{AllocError, Global};
 
 /// Variables of the same names and types are appended.

@@ -6,18 +6,18 @@ use Rattle.std.specs.Prelude.{Vec}
 use Rattle.std.specs.declared.alloc.Global.{Global}
 use Rattle.std.proofs.lemmas.List.{at_drop_more, length-map}
 use Rattle.std.proofs.lemmas.List.Elements.{All-nil, All-cons}
-use Rattle.heyvl_syntax.specs.declared.spans.Span.{Span}
+use Rattle.heyvl_places.specs.declared.spans.Span.{Span}
 use Rattle.heylo_formula.specs.declared.forms.Cond as C
-use Rattle.heyvl_types.specs.declared.acts.Act as A
-use Rattle.heyvl_types.proofs.exported.PlainActsAre.{if_act, pick_act}
-use Rattle.heyvl_types.specs.PlainActs.{act_of, acts_of, arms_of, body_of, procedure_of, procedures_of}
-use Rattle.heyvl_types.specs.Acts.{Act, TypedProcedure, acts_in, procedure_at}
-use Rattle.heyvl_types.specs.Places.{in_order, inside, inside_arms}
-use Rattle.heyvl_types.specs.Program.{calls}
-use Rattle.heyvl_types.specs.Rules.{Each, IsTypedAct, MeetsAllRules, MeetsRules}
-use Rattle.heyvl_types.specs.Visible.{among}
-use Rattle.heyvl_types.specs.declared.typed.TProc.{TProc}
-use Rattle.heyvl_types.specs.declared.typed.Typed.{Typed}
+use Rattle.heyvl_acts.specs.declared.acts.Act as A
+use Rattle.heyvl_acts.proofs.exported.PlainActsAre.{if_act, pick_act}
+use Rattle.heyvl_acts.specs.PlainActs.{act_of, acts_of, arms_of, body_of, procedure_of, procedures_of}
+use Rattle.heyvl_acts.specs.Acts.{Act, TypedProcedure, acts_in, procedure_at}
+use Rattle.heyvl_acts.specs.Places.{in_order, inside, inside_arms}
+use Rattle.heyvl_acts.specs.Program.{calls}
+use Rattle.heyvl_acts.specs.Rules.{Each, IsTypedAct, MeetsAllRules, MeetsRules}
+use Rattle.heyvl_acts.specs.Visible.{among}
+use Rattle.heyvl_acts.specs.declared.typed.TProc.{TProc}
+use Rattle.heyvl_acts.specs.declared.typed.Typed.{Typed}
 use Rattle.proc_contracts.specs.internal.Calling.{AreCalled}
 use Rattle.proc_contracts.specs.internal.Callees.{callee, callees}
 

@@ -4,14 +4,14 @@ use Rattle.std.specs.Prelude.{pos, Some, None}
 use Rattle.std.proofs.lemmas.Bool.{eqb-true, or_cases, false≢true}
 use Rattle.heyvl_num.specs.Rational.{ratio}
 use Rattle.heyvl_num.specs.Value.{oneᵛ}
-use Rattle.heyvl_syntax.specs.declared.spans.Span.{Span}
-use Rattle.heyvl_syntax.specs.declared.statements.CheckKind.{CheckKind}
+use Rattle.heyvl_places.specs.declared.spans.Span.{Span}
+use Rattle.heyvl_places.specs.declared.checks.CheckKind.{CheckKind}
 use Rattle.heylo_formula.specs.Formula.{Form, Cond, Term}
 use Rattle.heylo_formula.specs.declared.types.Ty.{Ty}
-use Rattle.heyvl_types.specs.Acts.{Act, Acts, Arms, Head, TypedProcedure, nobody}
-use Rattle.heyvl_types.specs.Modified.{modified}
-use Rattle.heyvl_types.specs.Program.{Calls, Reaches, Reason, why_no_program}
-use Rattle.heyvl_types.specs.Visible.{among}
+use Rattle.heyvl_acts.specs.Acts.{Act, Acts, Arms, Head, TypedProcedure, nobody}
+use Rattle.heyvl_acts.specs.Modified.{modified}
+use Rattle.heyvl_acts.specs.Program.{Calls, Reaches, Reason, why_no_program}
+use Rattle.heyvl_acts.specs.Visible.{among}
 use Rattle.proc_contracts.specs.Reached.{AreReached}
 
 abbrev nowhere : Span

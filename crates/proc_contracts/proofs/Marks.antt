@@ -3,8 +3,8 @@ use Rattle.std.proofs.Common.{◌≡◌, ℕ, Bool, true, false, ◌||◌, ◌+�
 use Prim.Native.Nat.{zero, suc}
 use Rattle.std.proofs.lemmas.Bool.{cases_eq, eq-eqb, ne_eqb, or_right, false≢true}
 use Rattle.std.proofs.lemmas.List.{length_push, length-set, get_or-set_same, get_or-set_other, take_more}
-use Rattle.heyvl_types.specs.Rules.{GrowBelow}
-use Rattle.heyvl_types.specs.Visible.{among}
+use Rattle.heyvl_acts.specs.Rules.{GrowBelow}
+use Rattle.heyvl_acts.specs.Visible.{among}
 use Rattle.proc_contracts.proofs.Targets.{grow_earlier}
 use Rattle.proc_contracts.specs.internal.Marking.{unset, marked, AreMarked, Grew}
 

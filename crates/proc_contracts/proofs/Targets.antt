@@ -4,14 +4,14 @@ use Rattle.std.proofs.lemmas.List.{at_drop_more, drop_all}
 use Rattle.std.specs.Prelude.{Vec, if◌then◌else◌}
 use Rattle.std.specs.declared.alloc.Global.{Global}
 use Prim.Native.Nat.{suc}
-use Rattle.heyvl_syntax.specs.declared.spans.Span.{Span}
+use Rattle.heyvl_places.specs.declared.spans.Span.{Span}
 use Rattle.heylo_formula.specs.declared.forms.Cond as C
-use Rattle.heyvl_types.specs.declared.acts.Act as A
-use Rattle.heyvl_types.proofs.exported.PlainActsAre.{if_act}
-use Rattle.heyvl_types.specs.Acts.{Acts}
-use Rattle.heyvl_types.specs.Modified.{is_target_of, is_target_of_act, is_target_of_arms, modified}
-use Rattle.heyvl_types.specs.PlainActs.{act_of, acts_of, arms_of}
-use Rattle.heyvl_types.specs.Rules.{GrowBelow}
+use Rattle.heyvl_acts.specs.declared.acts.Act as A
+use Rattle.heyvl_acts.proofs.exported.PlainActsAre.{if_act}
+use Rattle.heyvl_acts.specs.Acts.{Acts}
+use Rattle.heyvl_acts.specs.Modified.{is_target_of, is_target_of_act, is_target_of_arms, modified}
+use Rattle.heyvl_acts.specs.PlainActs.{act_of, acts_of, arms_of}
+use Rattle.heyvl_acts.specs.Rules.{GrowBelow}
 
 -- Numbers that grow from a later one on grow from an earlier one on.
 pub grow_earlier : (m n below : ℕ) (xs : List ℕ) → m ≤ n → GrowBelow n below xs → GrowBelow m below xs

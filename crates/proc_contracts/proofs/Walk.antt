@@ -3,9 +3,9 @@ use Rattle.std.proofs.Common.{◌≡◌, ℕ, Bool, true, false, ◌+◌, ◌<�
 use Prim.Native.Nat.{zero, suc}
 use Rattle.std.proofs.lemmas.Bool.{cases_lt, eqb-true, eq-eqb, or_cases, or_left, or_right, false≢true}
 use Rattle.std.proofs.lemmas.List.{get_or_past, take-append-le, take_all, take_more}
-use Rattle.heyvl_types.specs.Acts.{TypedProcedure}
-use Rattle.heyvl_types.specs.Program.{Calls, Reaches}
-use Rattle.heyvl_types.specs.Visible.{among}
+use Rattle.heyvl_acts.specs.Acts.{TypedProcedure}
+use Rattle.heyvl_acts.specs.Program.{Calls, Reaches}
+use Rattle.heyvl_acts.specs.Visible.{among}
 use Rattle.proc_contracts.specs.Reached.{AreReached}
 use Rattle.proc_contracts.specs.internal.Calling.{AreCalled, ReachIsMarked}
 use Rattle.proc_contracts.specs.internal.Marking.{AreMarked, Grew, marked}

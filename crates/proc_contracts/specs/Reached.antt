@@ -1,9 +1,9 @@
 -- The list of the procedures that one reaches.
 use Rattle.std.specs.Prelude.{◌≡◌, ℕ, true, List, length}
-use Rattle.heyvl_types.specs.Acts.{TypedProcedure}
-use Rattle.heyvl_types.specs.Program.{Reaches}
-use Rattle.heyvl_types.specs.Rules.{GrowBelow}
-use Rattle.heyvl_types.specs.Visible.{among}
+use Rattle.heyvl_acts.specs.Acts.{TypedProcedure}
+use Rattle.heyvl_acts.specs.Program.{Reaches}
+use Rattle.heyvl_acts.specs.Rules.{GrowBelow}
+use Rattle.heyvl_acts.specs.Visible.{among}
 
 -- Each procedure that this one reaches, and no other, by number and once.
 pub record AreReached (ps : List TypedProcedure) (p : ℕ) (found : List ℕ) : Type 0 where

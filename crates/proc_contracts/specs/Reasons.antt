@@ -1,6 +1,6 @@
 -- The reasons that the program gives, as plain ones.
 use Rattle.std.specs.Prelude.{Option, Some, None}
-use Rattle.heyvl_types.specs.Program.{Reason}
+use Rattle.heyvl_acts.specs.Program.{Reason}
 use Rattle.proc_contracts.specs.declared.reasons.WhyNot.{WhyNot}
 
 abbrev pub plain : WhyNot → Reason

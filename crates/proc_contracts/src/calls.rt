@@ -1,12 +1,12 @@
 //! The procedures that a body calls.
 
-ghost use Rattle.heyvl_types.specs.Acts.{acts_in};
-ghost use Rattle.heyvl_types.specs.Places.{in_order, inside};
-ghost use Rattle.heyvl_types.specs.PlainActs.{act_of, acts_of, body_of};
+ghost use Rattle.heyvl_acts.specs.Acts.{acts_in};
+ghost use Rattle.heyvl_acts.specs.Places.{in_order, inside};
+ghost use Rattle.heyvl_acts.specs.PlainActs.{act_of, acts_of, body_of};
 ghost use Rattle.proc_contracts.specs.internal.Callees.{callees};
 ghost use Rattle.std.specs.Prelude.{IfOk, OnOk, ◌++◌, ◌≡◌, ◌∷◌};
 
-use heyvl_types::{Act, TProc};
+use heyvl_acts::{Act, TProc};
 use std::alloc::{AllocError, Global};
 
 /// The procedures that the body calls, in the order of the text, with repeats.

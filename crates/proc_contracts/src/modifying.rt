@@ -1,11 +1,11 @@
 //! The variables that a loop modifies.
 
-ghost use Rattle.heyvl_types.specs.Modified.{modified};
-ghost use Rattle.heyvl_types.specs.PlainActs.{acts_of};
-ghost use Rattle.heyvl_types.specs.Rules.{GrowBelow};
+ghost use Rattle.heyvl_acts.specs.Modified.{modified};
+ghost use Rattle.heyvl_acts.specs.PlainActs.{acts_of};
+ghost use Rattle.heyvl_acts.specs.Rules.{GrowBelow};
 ghost use Rattle.std.specs.Prelude.{IfOk, ℕ, ◌≡◌};
 
-use heyvl_types::{LoopAct, is_target};
+use heyvl_acts::{LoopAct, is_target};
 use std::alloc::{AllocError, Global};
 
 /// The variables of the loop's scope that are a target of an assignment, a draw, a havoc or a call in its body, in the scope's

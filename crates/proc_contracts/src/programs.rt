@@ -1,16 +1,16 @@
 //! Programs: procedures that a run can execute, without checks and with choices of one direction alone.
 
-ghost use Rattle.heyvl_types.specs.Acts.{procedure_at};
-ghost use Rattle.heyvl_types.specs.Places.{in_order, inside};
-ghost use Rattle.heyvl_types.specs.PlainActs.{act_of, acts_of, procedure_of, procedures_of};
-ghost use Rattle.heyvl_types.specs.Program.{first_break, why_no_program};
+ghost use Rattle.heyvl_acts.specs.Acts.{procedure_at};
+ghost use Rattle.heyvl_acts.specs.Places.{in_order, inside};
+ghost use Rattle.heyvl_acts.specs.PlainActs.{act_of, acts_of, procedure_of, procedures_of};
+ghost use Rattle.heyvl_acts.specs.Program.{first_break, why_no_program};
 ghost use Rattle.proc_contracts.specs.Reasons.{stated};
 ghost use Rattle.std.specs.Prelude.{length, ◌<◌, ◌≡◌, ◌∷◌};
 
 use crate::quantifiers::has_binder;
 use crate::reasons::WhyNot;
-use heyvl_syntax::Span;
-use heyvl_types::{Act, TProc, Typed};
+use heyvl_acts::{Act, TProc, Typed};
+use heyvl_places::Span;
 
 /// The first reason for which the procedure is no program; none exactly where it is one. It takes no memory.
 pub fn not_program(typed: &Typed, p: u32) -> Option<WhyNot>

@@ -1,7 +1,7 @@
 //! The procedures that one reaches by calls.
 
-ghost use Rattle.heyvl_types.specs.PlainActs.{procedures_of};
-ghost use Rattle.heyvl_types.specs.Rules.{MeetsAllRules};
+ghost use Rattle.heyvl_acts.specs.PlainActs.{procedures_of};
+ghost use Rattle.heyvl_acts.specs.Rules.{MeetsAllRules};
 ghost use Rattle.proc_contracts.specs.Reached.{AreReached};
 ghost use Rattle.proc_contracts.specs.internal.Calling.{AreCalled, ReachIsMarked};
 ghost use Rattle.proc_contracts.specs.internal.Marking.{AreMarked, Grew, marked};
@@ -9,7 +9,7 @@ ghost use Rattle.std.specs.List.{All};
 ghost use Rattle.std.specs.Prelude.{IfOk, OnOk, length, ◌<◌, ◌≡◌, ◌^◌, ◌≤◌};
 
 use crate::calls::calls_of;
-use heyvl_types::Typed;
+use heyvl_acts::Typed;
 use std::alloc::{AllocError, Global};
 
 /// The procedures that the procedure calls in one or more steps, by number; it is among them only where it reaches itself. Each

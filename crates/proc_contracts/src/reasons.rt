@@ -1,6 +1,6 @@
 //! Why a procedure is no program.
 
-use heyvl_syntax::Span;
+use heyvl_places::Span;
 
 /// Why a procedure is no program.
 #[derive(Clone, Copy, Debug)]

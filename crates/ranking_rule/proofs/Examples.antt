@@ -9,7 +9,7 @@ use Rattle.heyvl_num.specs.ValueOperators.{monusᵛ}
 use Rattle.heyvl_num.specs.WeightedSums.{weighted_sum, scaled}
 use Rattle.heyvl_num.proofs.exported.Signs.{halves}
 use Rattle.heyvl_num.proofs.exported.Values.{*ᵛ-one, *ᵛ-zero, finite-+, zero-+ᵛ}
-use Rattle.heyvl_syntax.specs.declared.spans.Span.{Span}
+use Rattle.heyvl_places.specs.declared.spans.Span.{Span}
 use Rattle.heylo_formula.specs.Choices.{Choices}
 use Rattle.heylo_formula.specs.Formula.{Form, Cond, Term}
 use Rattle.heylo_formula.specs.State.{environment}
@@ -17,14 +17,14 @@ use Rattle.heylo_formula.specs.Substitution as Replaced
 use Rattle.heylo_formula.specs.declared.types.Ty.{Ty}
 use Rattle.heylo_formula.specs.declared.values.Val.{Val}
 use Rattle.heylo_formula.specs.declared.values.Val.TheVariants.{Truth, Num}
-use Rattle.heyvl_types.specs.Acts.{Head, Act, Acts, Arms}
+use Rattle.heyvl_acts.specs.Acts.{Head, Act, Acts, Arms}
 use Rattle.run_machine.specs.Bound.{at_test}
 use Rattle.run_machine.specs.Runs.{runs}
 use Rattle.run_machine.specs.Scheduler.{Tree}
 use Rattle.run_machine.specs.Sums.{turns_sum}
 use Rattle.ranking_rule.specs.RankingGoals.{found}
 use Rattle.ranking_rule.specs.Rankings.{after_turn}
-use Rattle.ranking_rule.specs.Upward.{upward}
+use Rattle.heyvl_acts.specs.Upward.{upward}
 
 abbrev nowhere : Span
 nowhere = record { from = 0; to = 0 }

@@ -10,7 +10,7 @@ use Rattle.heylo_formula.specs.Formula.{Form}
 use Rattle.heylo_formula.specs.Goals.{Goal}
 use Rattle.heylo_formula.specs.declared.types.Ty.{Ty}
 use Rattle.heylo_formula.proofs.exported.BinderNames.{unnamed_in}
-use Rattle.heyvl_types.specs.Acts.{Head, Acts}
+use Rattle.heyvl_acts.specs.Acts.{Head, Acts}
 use Rattle.vp_generator.specs.Prenexed.{prenexed, unbound, new_types}
 use Rattle.vp_generator.specs.PrenexedGoals.{prenexed_goal}
 use Rattle.ranking_rule.specs.RankingGoals.{found, generated, tested}

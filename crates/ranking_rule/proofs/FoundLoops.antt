@@ -3,10 +3,10 @@ use Rattle.std.proofs.Common.{◌≡◌, ℕ, Bool, true, false, cond, ◌<◌, 
 use Rattle.std.specs.Prelude.{Option, Some, None, Vec}
 use Rattle.std.specs.declared.alloc.Global.{Global}
 use Rattle.heylo_formula.specs.declared.forms.Cond as C
-use Rattle.heyvl_types.specs.Acts.{Head, Act, Acts}
-use Rattle.heyvl_types.specs.Places.{in_order, inside}
-use Rattle.heyvl_types.specs.PlainActs.{act_of, acts_of}
-use Rattle.heyvl_types.specs.declared.acts.Act as A
+use Rattle.heyvl_acts.specs.Acts.{Head, Act, Acts}
+use Rattle.heyvl_acts.specs.Places.{in_order, inside}
+use Rattle.heyvl_acts.specs.PlainActs.{act_of, acts_of}
+use Rattle.heyvl_acts.specs.declared.acts.Act as A
 use Rattle.ranking_rule.specs.Rankings.{loop_in}
 use Rattle.ranking_rule.proofs.ActsInOrder.{acts_from, arms_from, next_act, next_arm}
 

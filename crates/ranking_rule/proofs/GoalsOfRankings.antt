@@ -17,10 +17,10 @@ use Rattle.heylo_formula.specs.Typing.{NumberType, type_of, constant_type, is_un
 use Rattle.heylo_formula.specs.Variables.{is_free, is_free_in, IsOver}
 use Rattle.heylo_formula.proofs.exported.Agreement.{unchosen_in}
 use Rattle.heylo_formula.proofs.exported.Plain.{joins}
-use Rattle.heyvl_types.specs.Acts.{TypedProcedure, Variable, acts_in, type_list, types_of, variables}
-use Rattle.heyvl_types.specs.Places.{in_order}
-use Rattle.heyvl_types.specs.ResolvedSizes.{ActWithin, RankWithin}
-use Rattle.heyvl_types.specs.Rules.{MeetsRules}
+use Rattle.heyvl_acts.specs.Acts.{TypedProcedure, Variable, acts_in, type_list, types_of, variables}
+use Rattle.heyvl_acts.specs.Places.{in_order}
+use Rattle.heyvl_acts.specs.FormSizes.{ActWithin, RankWithin}
+use Rattle.heyvl_acts.specs.Rules.{MeetsRules}
 use Rattle.vp_generator.specs.Laws.{GeneratedFormMeansActs, GeneratedFormIsFormula}
 use Rattle.vp_generator.specs.Over.{GeneratedFormIsOver}
 use Rattle.vp_generator.specs.Prenexed.{new_types}
@@ -29,7 +29,7 @@ use Rattle.ranking_rule.specs.Laws.{RankingGoalsHold, RankingGoalsAreGoals, Rank
 use Rattle.ranking_rule.specs.MadeGoals.{all_names}
 use Rattle.ranking_rule.specs.RankingGoals.{found, generated}
 use Rattle.ranking_rule.specs.Rankings.{RankedLoop, IsRanking, after_turn}
-use Rattle.ranking_rule.specs.Upward.{upward}
+use Rattle.heyvl_acts.specs.Upward.{upward}
 use Rattle.ranking_rule.proofs.FoundForms.{found_binders}
 use Rattle.ranking_rule.proofs.MadeGoals.{all_names_length, new_types_length}
 use Rattle.ranking_rule.proofs.MadeRankings.{guard_plain}

@@ -6,9 +6,9 @@ use Rattle.heylo_formula.specs.BinderNames.{Binder, binders}
 use Rattle.heylo_formula.specs.Formula.{Form}
 use Rattle.heylo_formula.specs.declared.goals.Made.{Made}
 use Rattle.heylo_formula.specs.declared.goals.Made.TheVariants as made
-use Rattle.heyvl_types.specs.Acts.{Variable, type_list}
-use Rattle.heyvl_types.specs.PlainActs.{variable_of}
-use Rattle.heyvl_types.specs.declared.typed.VarInfo.{VarInfo}
+use Rattle.heyvl_acts.specs.Acts.{Variable, type_list}
+use Rattle.heyvl_acts.specs.PlainActs.{variable_of}
+use Rattle.heyvl_acts.specs.declared.typed.VarInfo.{VarInfo}
 use Rattle.vp_generator.specs.Prenexed.{new_types}
 use Rattle.vp_generator.specs.PrenexedGoals.{IsMade, names_of_variables, prenexed_goal, types_of_variables}
 use Rattle.vp_generator.specs.Scopes.{AreNamed, name_of, named}

@@ -16,15 +16,15 @@ use Rattle.heylo_formula.specs.declared.goals.Made.{Made}
 use Rattle.heylo_formula.specs.declared.goals.Made.TheVariants as made
 use Rattle.heylo_formula.proofs.exported.BinderNames.{unnamed}
 use Rattle.heylo_formula.proofs.exported.Plain.{typed_plain}
-use Rattle.heyvl_types.proofs.exported.PlainActsAre.{head_of}
-use Rattle.heyvl_types.specs.Acts.{Head, Act, Acts, Arms, TypedProcedure, Variable, acts_in, procedure_at, type_list, types_of, variables}
-use Rattle.heyvl_types.specs.Places.{in_order, inside, inside_arms}
-use Rattle.heyvl_types.specs.PlainActs.{acts_of, procedure_of, procedures_of, rank_of, variable_of}
-use Rattle.heyvl_types.specs.Rules.{Each, MeetsAllRules, MeetsRules}
-use Rattle.heyvl_types.specs.declared.acts.LoopAct.{LoopAct}
-use Rattle.heyvl_types.specs.declared.typed.TProc.{TProc}
-use Rattle.heyvl_types.specs.declared.typed.Typed.{Typed}
-use Rattle.heyvl_types.specs.declared.typed.VarInfo.{VarInfo}
+use Rattle.heyvl_acts.proofs.exported.PlainActsAre.{head_of}
+use Rattle.heyvl_acts.specs.Acts.{Head, Act, Acts, Arms, TypedProcedure, Variable, acts_in, procedure_at, type_list, types_of, variables}
+use Rattle.heyvl_acts.specs.Places.{in_order, inside, inside_arms}
+use Rattle.heyvl_acts.specs.PlainActs.{acts_of, procedure_of, procedures_of, rank_of, variable_of}
+use Rattle.heyvl_acts.specs.Rules.{Each, MeetsAllRules, MeetsRules}
+use Rattle.heyvl_acts.specs.declared.acts.LoopAct.{LoopAct}
+use Rattle.heyvl_acts.specs.declared.typed.TProc.{TProc}
+use Rattle.heyvl_acts.specs.declared.typed.Typed.{Typed}
+use Rattle.heyvl_acts.specs.declared.typed.VarInfo.{VarInfo}
 use Rattle.vp_generator.specs.Fit.{AreFit}
 use Rattle.vp_generator.specs.Generated.{vp}
 use Rattle.vp_generator.specs.PrenexedGoals.{IsMade, prenexed_goal}
@@ -32,7 +32,7 @@ use Rattle.vp_generator.specs.Scopes.{AreNamed, AnysAreBelow, AnysAreBelow_in, G
 use Rattle.ranking_rule.specs.MadeGoals.{IsMadeWithin, all_names, goal_over, names}
 use Rattle.ranking_rule.specs.RankingGoals.{IsMadeOf, found, generated, goal}
 use Rattle.ranking_rule.specs.Rankings.{RankedLoop, loop_in}
-use Rattle.ranking_rule.specs.Upward.{upward, upward_next, upward_arms}
+use Rattle.heyvl_acts.specs.Upward.{upward, upward_next, upward_arms}
 use Rattle.ranking_rule.specs.internal.Lent.{loop_of}
 use Rattle.ranking_rule.specs.internal.Tested.{IsTested, with_test}
 use Rattle.ranking_rule.proofs.Each.{each_first, each_second}

@@ -5,10 +5,10 @@ use Rattle.std.specs.Prelude.{Vec}
 use Rattle.std.specs.declared.alloc.Global.{Global}
 use Rattle.heylo_formula.specs.PlainTrees.{cond_of}
 use Rattle.heylo_formula.specs.declared.forms.Cond as C
-use Rattle.heyvl_types.specs.Acts.{Act, Acts, Arms, join}
-use Rattle.heyvl_types.specs.PlainActs.{act_of, acts_of, arms_of}
-use Rattle.heyvl_types.specs.declared.acts.Act as A
-use Rattle.ranking_rule.specs.Upward.{upward, upward_next, upward_arms}
+use Rattle.heyvl_acts.specs.Acts.{Act, Acts, Arms, join}
+use Rattle.heyvl_acts.specs.PlainActs.{act_of, acts_of, arms_of}
+use Rattle.heyvl_acts.specs.declared.acts.Act as A
+use Rattle.heyvl_acts.specs.Upward.{upward, upward_next, upward_arms}
 use Rattle.ranking_rule.proofs.UpwardMeaning.{next_join}
 
 join_nothing : (acts : Acts) → join acts Acts.done ≡ acts

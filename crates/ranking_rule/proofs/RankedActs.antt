@@ -1,9 +1,9 @@
 -- What holds of each act of a procedure holds of a loop that a number names, and of each act of its body.
 use Rattle.std.proofs.Common.{◌≡◌, ℕ, subst, Bool, true, false, cond, List, [], ◌∷◌, ◌==◌}
 use Rattle.std.specs.Prelude.{Option, Some, None}
-use Rattle.heyvl_types.specs.Acts.{Head, Act, Acts, Arms, TypedProcedure, acts_in}
-use Rattle.heyvl_types.specs.Places.{in_order, inside, inside_arms}
-use Rattle.heyvl_types.specs.Rules.{Each}
+use Rattle.heyvl_acts.specs.Acts.{Head, Act, Acts, Arms, TypedProcedure, acts_in}
+use Rattle.heyvl_acts.specs.Places.{in_order, inside, inside_arms}
+use Rattle.heyvl_acts.specs.Rules.{Each}
 use Rattle.ranking_rule.specs.Rankings.{loop_in, RankedLoop}
 use Rattle.ranking_rule.proofs.Each.{each_first, each_second, each_append}
 

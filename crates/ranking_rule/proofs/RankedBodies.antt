@@ -3,11 +3,11 @@ use Rattle.std.proofs.Common.{◌≡◌, ℕ, subst, true, List}
 use Rattle.std.specs.Prelude.{Option, Some, None}
 use Rattle.heyvl_num.specs.Rational.{Rational}
 use Rattle.heylo_formula.specs.Formula.{Form}
-use Rattle.heyvl_types.specs.Acts.{Act, Acts, Arms, TypedProcedure, types_of}
-use Rattle.heyvl_types.specs.Places.{in_order, inside, inside_arms}
-use Rattle.heyvl_types.specs.Rules.{Each, HasOwnTargets, IsTypedAct, WeighsOne, LoopsMeet, LoopFits, LoopMeets, RankFits, RankedBodyIsPlain, is_rankable, GuardsFit, MeetsRules}
-use Rattle.heyvl_types.specs.WellTyped.{ActsFit, ArmsFit}
-use Rattle.ranking_rule.specs.Upward.{upward, upward_next, upward_arms}
+use Rattle.heyvl_acts.specs.Acts.{Act, Acts, Arms, TypedProcedure, types_of}
+use Rattle.heyvl_acts.specs.Places.{in_order, inside, inside_arms}
+use Rattle.heyvl_acts.specs.Rules.{Each, HasOwnTargets, IsTypedAct, WeighsOne, LoopsMeet, LoopFits, LoopMeets, RankFits, RankedBodyIsPlain, is_rankable, GuardsFit, MeetsRules}
+use Rattle.heyvl_acts.specs.WellTyped.{ActsFit, ArmsFit}
+use Rattle.heyvl_acts.specs.Upward.{upward, upward_next, upward_arms}
 use Rattle.ranking_rule.specs.Rankings.{RankedLoop}
 use Rattle.ranking_rule.proofs.Each.{each_first, each_second, each_two}
 use Rattle.ranking_rule.proofs.RankedActs.{of_body, of_head}

@@ -13,14 +13,14 @@ use Rattle.heylo_formula.specs.Variables.{is_free, is_free_in, occurs, occurs_in
 use Rattle.heylo_formula.specs.declared.types.Ty.{Ty}
 use Rattle.heylo_formula.proofs.exported.Agreement.{or_false}
 use Rattle.heylo_formula.proofs.exported.Plain.{term_plain}
-use Rattle.heyvl_types.specs.Acts.{Act, Acts, Arms, TypedProcedure, acts_in, types_of, variables}
-use Rattle.heyvl_types.specs.Places.{in_order, inside, inside_arms}
-use Rattle.heyvl_types.specs.Rules.{Each, HasOwnTargets, IsTypedAct, IsOwn, MeetsRules}
-use Rattle.heyvl_types.specs.Visible.{Scoped, ScopedAct, ScopedArms, Sees, SeesCond, SeesParts, SeesRank, SeesTerm, Visible, interface, shown, shown_all, shown_by}
-use Rattle.heyvl_types.specs.WellTyped.{DrawFits, PartsFit}
+use Rattle.heyvl_acts.specs.Acts.{Act, Acts, Arms, TypedProcedure, acts_in, types_of, variables}
+use Rattle.heyvl_acts.specs.Places.{in_order, inside, inside_arms}
+use Rattle.heyvl_acts.specs.Rules.{Each, HasOwnTargets, IsTypedAct, IsOwn, MeetsRules}
+use Rattle.heyvl_acts.specs.Visible.{Scoped, ScopedAct, ScopedArms, Sees, SeesCond, SeesParts, SeesRank, SeesTerm, Visible, interface, shown, shown_all, shown_by}
+use Rattle.heyvl_acts.specs.WellTyped.{DrawFits, PartsFit}
 use Rattle.vp_generator.specs.Over.{TermIsOver, PartsAreOver, ActsAreOver, ArmsAreOver}
 use Rattle.ranking_rule.specs.Rankings.{RankedLoop}
-use Rattle.ranking_rule.specs.Upward.{upward, upward_next, upward_arms}
+use Rattle.heyvl_acts.specs.Upward.{upward, upward_next, upward_arms}
 use Rattle.ranking_rule.proofs.Each.{each_first, each_second, each_append, each_two}
 use Rattle.ranking_rule.proofs.RankedActs.{of_body, of_head}
 

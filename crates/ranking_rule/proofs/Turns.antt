@@ -25,12 +25,12 @@ use Rattle.heylo_formula.specs.declared.values.Val.TheVariants.{Truth}
 use Rattle.heylo_formula.proofs.exported.Agreement.{unchosen}
 use Rattle.heylo_formula.proofs.exported.States.{length-typed, set_is_put, set_typed, env_typed, fit_has}
 use Rattle.heylo_formula.proofs.exported.TypedTerms.{term_typed}
-use Rattle.heyvl_types.specs.Acts.{Head, Act, Acts, TypedProcedure, Variable, join, procedure_at, type_list, types_of, variables}
-use Rattle.heyvl_types.specs.Forward.{Post, part, parts, drawn, forward}
-use Rattle.heyvl_types.specs.Matching.{taken}
-use Rattle.heyvl_types.specs.Places.{in_order, inside, inside_arms}
-use Rattle.heyvl_types.specs.Rules.{Each, IsOwn}
-use Rattle.heyvl_types.specs.WellTyped.{PartsFit, DrawFits}
+use Rattle.heyvl_acts.specs.Acts.{Head, Act, Acts, TypedProcedure, Variable, join, procedure_at, type_list, types_of, variables}
+use Rattle.heyvl_acts.specs.Forward.{Post, part, parts, drawn, forward}
+use Rattle.heyvl_acts.specs.Matching.{taken}
+use Rattle.heyvl_acts.specs.Places.{in_order, inside, inside_arms}
+use Rattle.heyvl_acts.specs.Rules.{Each, IsOwn}
+use Rattle.heyvl_acts.specs.WellTyped.{PartsFit, DrawFits}
 use Rattle.run_machine.specs.Bound.{IsState, RankedBy, at_test}
 use Rattle.run_machine.specs.Configurations.{Item, Config, Outcomes, push}
 use Rattle.run_machine.specs.Runs.{runs, spread}
@@ -39,7 +39,7 @@ use Rattle.run_machine.specs.Step.{Decision, value_of, side_of, sure, moved, tur
 use Rattle.run_machine.specs.Sums.{turns_in, turns_sum}
 use Rattle.run_machine.proofs.exported.Equations.{runs-zero, runs-next, one_times, worth-one, worth-spread, worth-sure}
 use Rattle.ranking_rule.specs.Rankings.{IsRanking}
-use Rattle.ranking_rule.specs.Upward.{upward}
+use Rattle.heyvl_acts.specs.Upward.{upward}
 use Rattle.ranking_rule.proofs.Each.{each_first, each_second}
 use Rattle.ranking_rule.proofs.RankedBodies.{IsTurnAct}
 use Rattle.ranking_rule.proofs.UpwardMeaning.{push_join, joined_meaning, each_join, taken_meaning, each_taken}

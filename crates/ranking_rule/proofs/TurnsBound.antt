@@ -7,16 +7,16 @@ use Rattle.heylo_formula.specs.Meaning.{value}
 use Rattle.heylo_formula.specs.State.{environment}
 use Rattle.heylo_formula.specs.declared.values.Val.{Val}
 use Rattle.heylo_formula.proofs.exported.States.{env_typed}
-use Rattle.heyvl_types.specs.Acts.{Acts, procedure_at, type_list, types_of, variables}
-use Rattle.heyvl_types.specs.Forward.{forward}
-use Rattle.heyvl_types.specs.Places.{in_order}
-use Rattle.heyvl_types.specs.Rules.{Each}
-use Rattle.heyvl_types.specs.WellTyped.{IsHeld}
+use Rattle.heyvl_acts.specs.Acts.{Acts, procedure_at, type_list, types_of, variables}
+use Rattle.heyvl_acts.specs.Forward.{forward}
+use Rattle.heyvl_acts.specs.Places.{in_order}
+use Rattle.heyvl_acts.specs.Rules.{Each}
+use Rattle.heyvl_acts.specs.WellTyped.{IsHeld}
 use Rattle.run_machine.specs.Bound.{IsState}
 use Rattle.vp_generator.specs.Generated.{vp}
 use Rattle.vp_generator.specs.Laws.{GeneratedFormMeansActs, GeneratedFormIsFormula}
 use Rattle.ranking_rule.specs.Laws.{RankingsBoundTurns}
-use Rattle.ranking_rule.specs.Upward.{upward}
+use Rattle.heyvl_acts.specs.Upward.{upward}
 use Rattle.ranking_rule.proofs.RankedBodies.{IsTurnAct, rank_fits, body_acts, upward_fit}
 use Rattle.ranking_rule.proofs.Turns.{turns_bounded}
 

@@ -4,13 +4,13 @@ use Rattle.heylo_formula.specs.State.{Env}
 use Rattle.heylo_formula.specs.Choices.{Choices, right}
 use Rattle.heylo_formula.specs.Meaning.{holds}
 use Rattle.heylo_formula.specs.declared.values.Val.TheVariants.{Truth}
-use Rattle.heyvl_types.specs.Acts.{Act, Acts, Arms, join}
-use Rattle.heyvl_types.specs.Forward.{Post, meant_arms, no_loops, no_calls, forward, forward_act}
-use Rattle.heyvl_types.specs.Matching.{taken, Reaches}
-use Rattle.heyvl_types.specs.Places.{in_order, inside, inside_arms}
-use Rattle.heyvl_types.specs.Rules.{Each}
+use Rattle.heyvl_acts.specs.Acts.{Act, Acts, Arms, join}
+use Rattle.heyvl_acts.specs.Forward.{Post, meant_arms, no_loops, no_calls, forward, forward_act}
+use Rattle.heyvl_acts.specs.Matching.{taken, Reaches}
+use Rattle.heyvl_acts.specs.Places.{in_order, inside, inside_arms}
+use Rattle.heyvl_acts.specs.Rules.{Each}
 use Rattle.run_machine.specs.Configurations.{Item, push}
-use Rattle.ranking_rule.specs.Upward.{upward, upward_next, upward_arms}
+use Rattle.heyvl_acts.specs.Upward.{upward, upward_next, upward_arms}
 use Rattle.ranking_rule.proofs.Each.{each_first, each_second, each_append}
 
 -- ---- Acts one after the other

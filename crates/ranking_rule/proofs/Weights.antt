@@ -4,9 +4,9 @@ use Rattle.std.specs.Prelude.{Vec}
 use Rattle.std.specs.declared.alloc.Global.{Global}
 use Prim.Native.Nat.{zero, suc}
 use Rattle.heylo_formula.specs.declared.forms.Cond as C
-use Rattle.heyvl_types.specs.declared.acts.Act as A
-use Rattle.heyvl_types.specs.Acts.{Act, Acts, Arms}
-use Rattle.heyvl_types.specs.PlainActs.{act_of, acts_of, arms_of}
+use Rattle.heyvl_acts.specs.declared.acts.Act as A
+use Rattle.heyvl_acts.specs.Acts.{Act, Acts, Arms}
+use Rattle.heyvl_acts.specs.PlainActs.{act_of, acts_of, arms_of}
 
 abbrev mutual
   pub weight : Act → ℕ

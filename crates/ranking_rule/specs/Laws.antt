@@ -3,9 +3,9 @@ use Rattle.std.specs.Prelude.{◌↔◌, ◌<◌, ◌^◌, ℕ, List, length}
 use Rattle.heylo_formula.specs.Goals.{Goal, Holds}
 use Rattle.heylo_formula.specs.Sizes.{nodes}
 use Rattle.heylo_formula.specs.TypedGoals.{IsGoal}
-use Rattle.heyvl_types.specs.Acts.{TypedProcedure, procedure_at}
-use Rattle.heyvl_types.specs.ResolvedSizes.{FormsWithin}
-use Rattle.heyvl_types.specs.Rules.{MeetsRules}
+use Rattle.heyvl_acts.specs.Acts.{TypedProcedure, procedure_at}
+use Rattle.heyvl_acts.specs.FormSizes.{FormsWithin}
+use Rattle.heyvl_acts.specs.Rules.{MeetsRules}
 use Rattle.run_machine.specs.Bound.{RankedBy}
 use Rattle.ranking_rule.specs.Rankings.{RankedLoop, IsRanking}
 use Rattle.vp_generator.specs.Limits.{IsSmall}

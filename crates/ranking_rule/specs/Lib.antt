@@ -1,4 +1,3 @@
-pub mod Upward
 pub mod Rankings
 pub mod MadeGoals
 pub mod RankingGoals

@@ -7,7 +7,7 @@ use Rattle.heylo_formula.specs.Goals.{Goal, goal_of}
 use Rattle.heylo_formula.specs.Sizes.{nodes, depth}
 use Rattle.heylo_formula.specs.declared.goals.Made.{Made}
 use Rattle.heylo_formula.specs.declared.goals.Made.TheVariants as made
-use Rattle.heyvl_types.specs.Acts.{Variable, type_list}
+use Rattle.heyvl_acts.specs.Acts.{Variable, type_list}
 use Rattle.vp_generator.specs.Limits.{IsSmall}
 use Rattle.vp_generator.specs.PrenexedGoals.{prenexed_goal}
 

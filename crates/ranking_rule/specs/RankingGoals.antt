@@ -7,10 +7,10 @@ use Rattle.heyvl_num.specs.Value.Value.{finite}
 use Rattle.heylo_formula.specs.Formula.{Cond, Form}
 use Rattle.heylo_formula.specs.Goals.{Goal}
 use Rattle.heylo_formula.specs.declared.goals.Made.{Made}
-use Rattle.heyvl_types.specs.Acts.{Head, Acts, TypedProcedure, variables}
+use Rattle.heyvl_acts.specs.Acts.{Head, Acts, TypedProcedure, variables}
 use Rattle.vp_generator.specs.Generated.{vp}
 use Rattle.ranking_rule.specs.MadeGoals.{IsMadeWithin, goal_over}
-use Rattle.ranking_rule.specs.Upward.{upward}
+use Rattle.heyvl_acts.specs.Upward.{upward}
 
 -- What the body makes of the ranking.
 abbrev pub generated : Acts → Rational × Form → Form

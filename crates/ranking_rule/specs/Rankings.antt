@@ -9,11 +9,11 @@ use Rattle.heylo_formula.specs.Formula.{Form}
 use Rattle.heylo_formula.specs.Meaning.{value, holds}
 use Rattle.heylo_formula.specs.State.{Env, environment}
 use Rattle.heylo_formula.specs.declared.values.Val.{Val}
-use Rattle.heyvl_types.specs.Acts.{Head, Act, Acts, TypedProcedure, acts_in}
-use Rattle.heyvl_types.specs.Forward.{forward}
-use Rattle.heyvl_types.specs.Places.{in_order}
+use Rattle.heyvl_acts.specs.Acts.{Head, Act, Acts, TypedProcedure, acts_in}
+use Rattle.heyvl_acts.specs.Forward.{forward}
+use Rattle.heyvl_acts.specs.Places.{in_order}
 use Rattle.run_machine.specs.Bound.{IsState}
-use Rattle.ranking_rule.specs.Upward.{upward}
+use Rattle.heyvl_acts.specs.Upward.{upward}
 
 -- The loop with this number among the acts: its head and its body.
 abbrev pub loop_in : ℕ → List Act → Option (Head × Acts)

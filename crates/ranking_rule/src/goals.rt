@@ -3,11 +3,11 @@
 ghost use Rattle.heylo_formula.specs.BinderNames.{binders};
 ghost use Rattle.heylo_formula.specs.Binders.{has_binder_in};
 ghost use Rattle.heylo_formula.specs.PlainTrees.{cond_of, form_of};
+ghost use Rattle.heyvl_acts.specs.Acts.{Acts as plain_acts, Head, TypedProcedure, procedure_at, variables};
+ghost use Rattle.heyvl_acts.specs.PlainActs.{procedures_of, variable_of};
+ghost use Rattle.heyvl_acts.specs.Rules.{MeetsAllRules};
 ghost use Rattle.heyvl_num.specs.Extended.{value_of};
 ghost use Rattle.heyvl_num.specs.Value.{zeroᵛ};
-ghost use Rattle.heyvl_types.specs.Acts.{Acts as plain_acts, Head, TypedProcedure, procedure_at, variables};
-ghost use Rattle.heyvl_types.specs.PlainActs.{procedures_of, variable_of};
-ghost use Rattle.heyvl_types.specs.Rules.{MeetsAllRules};
 ghost use Rattle.ranking_rule.specs.RankingGoals.{IsMadeOf, generated, tested};
 ghost use Rattle.ranking_rule.specs.Rankings.{RankedLoop};
 ghost use Rattle.ranking_rule.specs.internal.Tested.{IsTested};
@@ -17,8 +17,8 @@ ghost use Rattle.vp_generator.specs.Scopes.{AreNamed};
 use crate::loops::loop_of;
 use crate::upward::upward;
 use heylo_formula::{Cond, Form, Goal, Made};
+use heyvl_acts::{Typed, VarInfo};
 use heyvl_num::{Ext, Frac};
-use heyvl_types::{Typed, VarInfo};
 use std::alloc::{AllocError, Global};
 use vp_generator::{VpStop, generated_form_means_acts, goal_of_forms, vp};
 

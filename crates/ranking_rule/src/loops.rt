@@ -1,13 +1,13 @@
 //! The loop that a number names.
 
-ghost use Rattle.heyvl_types.specs.Acts.{acts_in};
-ghost use Rattle.heyvl_types.specs.Places.{in_order, inside};
-ghost use Rattle.heyvl_types.specs.PlainActs.{act_of, acts_of, procedure_of};
+ghost use Rattle.heyvl_acts.specs.Acts.{acts_in};
+ghost use Rattle.heyvl_acts.specs.Places.{in_order, inside};
+ghost use Rattle.heyvl_acts.specs.PlainActs.{act_of, acts_of, procedure_of};
 ghost use Rattle.ranking_rule.specs.Rankings.{loop_in};
 ghost use Rattle.ranking_rule.specs.internal.Lent.{lent};
 ghost use Rattle.std.specs.Prelude.{◌≡◌, ◌∷◌};
 
-use heyvl_types::{Act, LoopAct, TProc};
+use heyvl_acts::{Act, LoopAct, TProc};
 
 /// The loop with this number of the procedure's body, if there is one.
 pub(crate) fn loop_of(procedure: &TProc, number: u32) -> Option<&LoopAct>

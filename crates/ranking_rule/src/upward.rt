@@ -1,11 +1,11 @@
 //! Acts as a ranking counts them.
 
-ghost use Rattle.heyvl_types.specs.Acts.{Acts as plain_acts, join};
-ghost use Rattle.heyvl_types.specs.PlainActs.{act_of, acts_of};
-ghost use Rattle.ranking_rule.specs.Upward.{upward, upward_next};
+ghost use Rattle.heyvl_acts.specs.Acts.{Acts as plain_acts, join};
+ghost use Rattle.heyvl_acts.specs.PlainActs.{act_of, acts_of};
+ghost use Rattle.heyvl_acts.specs.Upward.{upward, upward_next};
 ghost use Rattle.std.specs.Prelude.{IfOk, OnOk, ◌≡◌};
 
-use heyvl_types::Act;
+use heyvl_acts::Act;
 use std::alloc::{AllocError, Global};
 
 /// Copies of the acts, without rewards, and with each arbitrary value and each pick upward.

@@ -4,14 +4,14 @@ use Rattle.std.proofs.lemmas.List.{at_drop_more, drop_all, length-append}
 use Rattle.std.specs.Prelude.{Vec}
 use Rattle.std.specs.declared.alloc.Global.{Global}
 use Prim.Native.Nat.{suc}
-use Rattle.heyvl_syntax.specs.declared.spans.Span.{Span}
+use Rattle.heyvl_places.specs.declared.spans.Span.{Span}
 use Rattle.heylo_formula.specs.declared.forms.Cond as C
-use Rattle.heyvl_types.specs.declared.acts.Act as A
-use Rattle.heyvl_types.specs.declared.acts.LoopAct as L
+use Rattle.heyvl_acts.specs.declared.acts.Act as A
+use Rattle.heyvl_acts.specs.declared.acts.LoopAct as L
 use Rattle.std.specs.declared.boxed.Box.{Box}
-use Rattle.heyvl_types.specs.PlainActs.{act_of, acts_of, arms_of}
-use Rattle.heyvl_types.specs.Places.{in_order, inside, inside_arms}
-use Rattle.heyvl_types.proofs.exported.PlainActsAre.{if_act, pick_act, loop_act}
+use Rattle.heyvl_acts.specs.PlainActs.{act_of, acts_of, arms_of}
+use Rattle.heyvl_acts.specs.Places.{in_order, inside, inside_arms}
+use Rattle.heyvl_acts.proofs.exported.PlainActsAre.{if_act, pick_act, loop_act}
 use Rattle.run_machine.specs.declared.configurations.Item.TheVariants.{Do}
 use Rattle.run_machine.specs.Names.{numbered}
 

@@ -9,11 +9,11 @@ use Rattle.heylo_formula.specs.PlainTrees.{cond_of}
 use Rattle.heylo_formula.specs.State.{Env}
 use Rattle.heylo_formula.specs.declared.forms.Cond as C
 use Rattle.heylo_formula.specs.declared.values.Val.{Val}
-use Rattle.heyvl_types.specs.declared.acts.Act as A
-use Rattle.heyvl_types.specs.Acts.{Acts}
-use Rattle.heyvl_types.specs.Matching.{taken}
-use Rattle.heyvl_types.specs.Places.{in_order}
-use Rattle.heyvl_types.specs.PlainActs.{acts_of, arms_of}
+use Rattle.heyvl_acts.specs.declared.acts.Act as A
+use Rattle.heyvl_acts.specs.Acts.{Acts}
+use Rattle.heyvl_acts.specs.Matching.{taken}
+use Rattle.heyvl_acts.specs.Places.{in_order}
+use Rattle.heyvl_acts.specs.PlainActs.{acts_of, arms_of}
 use Rattle.quant_algebra.specs.ExactMeaning.{exact_truth}
 use Rattle.run_machine.specs.BoundedStep.{guards_fit, true_or}
 use Rattle.run_machine.specs.internal.StoredSteps.{taken_place}

@@ -4,14 +4,14 @@ use Rattle.std.proofs.lemmas.List.{length-append, reverse-append, reverse-revers
 use Rattle.std.proofs.lemmas.Option.{none-some}
 use Rattle.std.specs.Prelude.{Some}
 use Prim.Native.Nat.{zero, suc}
-use Rattle.heyvl_syntax.specs.declared.spans.Span.{Span}
+use Rattle.heyvl_places.specs.declared.spans.Span.{Span}
 use Rattle.heylo_formula.specs.Formula.{Term}
 use Rattle.heylo_formula.specs.Typing.{types_in}
 use Rattle.heylo_formula.specs.declared.types.Ty.{Ty}
 use Rattle.heylo_formula.specs.declared.values.Val.{Val}
-use Rattle.heyvl_types.specs.Acts.{Act, TypedProcedure, acts_in, procedure_at, type_list, types_of}
-use Rattle.heyvl_types.specs.Places.{nth}
-use Rattle.heyvl_types.specs.Rules.{Each}
+use Rattle.heyvl_acts.specs.Acts.{Act, TypedProcedure, acts_in, procedure_at, type_list, types_of}
+use Rattle.heyvl_acts.specs.Places.{nth}
+use Rattle.heyvl_acts.specs.Rules.{Each}
 use Rattle.run_machine.specs.declared.configurations.Item.TheVariants.{Back}
 use Rattle.run_machine.specs.Bound.{IsState}
 use Rattle.run_machine.specs.ConfigConditions.{ReachesPrograms, IsItemOf, IsCalled, AreLists, IsConfig}

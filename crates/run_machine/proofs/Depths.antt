@@ -1,7 +1,7 @@
 -- How many values a configuration of the program has.
 use Rattle.std.proofs.Common.{◌≡◌, ℕ, Bool, true, false, nat_lt, ◌||◌, ◌+◌, ◌≤◌, ◌<◌, refl, ap, sym, ◌∙◌, arith, List, [], ◌∷◌, ◌++◌, length, map, reverse, drop, get_or}
 use Rattle.std.proofs.lemmas.List.{at_drop_more, drop_all, reverse-append}
-use Rattle.heyvl_types.specs.Acts.{TypedProcedure}
+use Rattle.heyvl_acts.specs.Acts.{TypedProcedure}
 use Rattle.heyvl_num.specs.Rational.{Rational}
 use Rattle.run_machine.specs.declared.configurations.Config as C
 use Rattle.run_machine.specs.declared.configurations.Frame as F

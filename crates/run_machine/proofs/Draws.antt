@@ -8,7 +8,7 @@ use Rattle.heylo_formula.specs.declared.terms.Term as T
 use Rattle.heylo_formula.specs.PlainTrees.{term_of}
 use Rattle.heylo_formula.specs.Meaning.{term_value}
 use Rattle.heylo_formula.specs.State.{environment}
-use Rattle.heyvl_types.specs.PlainActs.{part_of, parts_of}
+use Rattle.heyvl_acts.specs.PlainActs.{part_of, parts_of}
 use Rattle.run_machine.specs.declared.configurations.Config as C
 use Rattle.run_machine.specs.BoundedStep.{exact_term, parts_fit}
 use Rattle.run_machine.specs.Names.{Stored, stored}

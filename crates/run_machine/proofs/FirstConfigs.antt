@@ -3,7 +3,7 @@ use Rattle.std.proofs.Common.{◌≡◌, ℕ, refl, ap, sym, subst, ◌∙◌, L
 use Rattle.std.proofs.lemmas.List.{length-replicate}
 use Rattle.heyvl_num.specs.Value.{Value}
 use Rattle.heylo_formula.specs.declared.values.Val.{Val}
-use Rattle.heyvl_types.specs.Acts.{TypedProcedure, acts_in, procedure_at}
+use Rattle.heyvl_acts.specs.Acts.{TypedProcedure, acts_in, procedure_at}
 use Rattle.run_machine.specs.Bound.{IsState}
 use Rattle.run_machine.specs.ConfigConditions.{AreLists, IsConfig, ReachesPrograms}
 use Rattle.run_machine.specs.Names.{Numbered, Lists, numbered}

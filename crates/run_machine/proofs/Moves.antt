@@ -9,8 +9,8 @@ use Rattle.heyvl_num.specs.ExactValues.{exact_sumᵛ}
 use Rattle.heyvl_num.specs.Value.{Value, ◌+ᵛ◌}
 use Rattle.heylo_formula.specs.Formula.{Term}
 use Rattle.heylo_formula.specs.declared.values.Val.{Val}
-use Rattle.heyvl_types.specs.Acts.{Act, Acts, Head, TypedProcedure}
-use Rattle.heyvl_types.specs.Places.{in_order}
+use Rattle.heyvl_acts.specs.Acts.{Act, Acts, Head, TypedProcedure}
+use Rattle.heyvl_acts.specs.Places.{in_order}
 use Rattle.quant_algebra.specs.ExactOperators.{and_then}
 use Rattle.run_machine.specs.declared.configurations.Item.TheVariants.{Turn}
 use Rattle.run_machine.specs.Configurations.{Item, push, running}

@@ -5,10 +5,10 @@ use Rattle.std.specs.Prelude.{if◌then◌else◌}
 use Prim.Native.Nat.{zero, suc}
 use Rattle.heylo_formula.specs.State.{default}
 use Rattle.heylo_formula.specs.declared.values.Val.{Val}
-use Rattle.heyvl_types.specs.declared.typed.TProc.{TProc}
-use Rattle.heyvl_types.specs.Acts.{Acts, acts_in, procedure_at, type_list}
-use Rattle.heyvl_types.specs.PlainActs.{procedure_of, variable_of}
-use Rattle.heyvl_types.specs.Rules.{Each}
+use Rattle.heyvl_acts.specs.declared.typed.TProc.{TProc}
+use Rattle.heyvl_acts.specs.Acts.{Acts, acts_in, procedure_at, type_list}
+use Rattle.heyvl_acts.specs.PlainActs.{procedure_of, variable_of}
+use Rattle.heyvl_acts.specs.Rules.{Each}
 use Rattle.run_machine.specs.declared.configurations.Frame as F
 use Rattle.run_machine.specs.declared.configurations.Item.TheVariants.{Turn, Out, Back}
 use Rattle.run_machine.specs.Configurations.{first_state, outputs_of, set_all}

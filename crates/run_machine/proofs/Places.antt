@@ -3,8 +3,8 @@ use Rattle.std.proofs.Common.{◌≡◌, ℕ, ◌+◌, refl, ap, subst, ◌∙�
 use Rattle.std.proofs.lemmas.Option.{none-some}
 use Rattle.std.specs.Prelude.{Option, Some, None}
 use Prim.Native.Nat.{zero, suc}
-use Rattle.heyvl_types.specs.Acts.{Act, Acts, Arms, TypedProcedure, acts_in}
-use Rattle.heyvl_types.specs.Places.{nth, in_order, inside, inside_arms, acts_of_procedure, act_named}
+use Rattle.heyvl_acts.specs.Acts.{Act, Acts, Arms, TypedProcedure, acts_in}
+use Rattle.heyvl_acts.specs.Places.{nth, in_order, inside, inside_arms, acts_of_procedure, act_named}
 use Rattle.run_machine.specs.Configurations.{Item, push}
 use Rattle.run_machine.specs.internal.Places.{Stands, text}
 use Rattle.run_machine.specs.Names.{Numbered, items_of, act_item, numbered}

@@ -1,8 +1,8 @@
 -- What is known of a configuration by its first item.
 use Rattle.std.proofs.Common.{◌≡◌, ℕ, refl, ap, sym, subst, ◌∙◌, List, [], ◌∷◌, ◌++◌, reverse, drop}
 use Rattle.heylo_formula.specs.declared.values.Val.{Val}
-use Rattle.heyvl_types.specs.Acts.{TypedProcedure, procedure_at}
-use Rattle.heyvl_types.specs.Rules.{Each}
+use Rattle.heyvl_acts.specs.Acts.{TypedProcedure, procedure_at}
+use Rattle.heyvl_acts.specs.Rules.{Each}
 use Rattle.run_machine.specs.declared.configurations.Item.TheVariants.{Do, Turn, Out, Back}
 use Rattle.run_machine.specs.Bound.{IsState}
 use Rattle.run_machine.specs.Configurations.{running}

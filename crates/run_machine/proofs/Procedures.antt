@@ -3,10 +3,10 @@ use Rattle.std.proofs.Common.{◌≡◌, ℕ, ◌<◌, ◌≤◌, refl, ap, sym,
 use Rattle.std.proofs.lemmas.Option.{none-some}
 use Rattle.std.specs.Prelude.{Option, Some, None}
 use Prim.Native.Nat.{zero, suc}
-use Rattle.heyvl_types.specs.declared.typed.TProc.{TProc}
-use Rattle.heyvl_types.specs.Acts.{Act, Acts, TypedProcedure, acts_in, nobody, procedure_at}
-use Rattle.heyvl_types.specs.PlainActs.{procedure_of}
-use Rattle.heyvl_types.specs.Places.{nth, in_order, acts_of_procedure}
+use Rattle.heyvl_acts.specs.declared.typed.TProc.{TProc}
+use Rattle.heyvl_acts.specs.Acts.{Act, Acts, TypedProcedure, acts_in, nobody, procedure_at}
+use Rattle.heyvl_acts.specs.PlainActs.{procedure_of}
+use Rattle.heyvl_acts.specs.Places.{nth, in_order, acts_of_procedure}
 use Rattle.heyvl_num.specs.Rational.{Rational, zeroʳ}
 use Rattle.heyvl_num.specs.Value.{zeroᵛ}
 use Rattle.heyvl_num.specs.Value.Value.{finite}

@@ -5,14 +5,14 @@ use Rattle.std.proofs.lemmas.Option.{none-some}
 use Rattle.std.proofs.lemmas.Bool.Decides.{eqb_tells}
 use Rattle.std.specs.Prelude.{eqb, if◌then◌else◌, Option, Some, None}
 use Prim.Native.Nat.{zero, suc}
-use Rattle.heyvl_syntax.specs.declared.spans.Span.{Span}
+use Rattle.heyvl_places.specs.declared.spans.Span.{Span}
 use Rattle.heylo_formula.specs.Operators.{agree}
-use Rattle.heyvl_types.specs.declared.typed.TProc.{TProc}
-use Rattle.heyvl_types.specs.Acts.{Head, Act, Acts, TypedProcedure, acts_in, procedure_at, variables}
-use Rattle.heyvl_types.specs.PlainActs.{procedure_of, variable_of}
-use Rattle.heyvl_types.specs.Places.{nth, in_order, acts_of_procedure}
-use Rattle.heyvl_types.specs.Program.{Reason, reason_of_break, first_break, IsProgram, calls, Reaches}
-use Rattle.heyvl_types.specs.Rules.{Each, HasOwnTargets, IsTypedAct, MeetsRules, IsCounted, loop_numbers, counted}
+use Rattle.heyvl_acts.specs.declared.typed.TProc.{TProc}
+use Rattle.heyvl_acts.specs.Acts.{Head, Act, Acts, TypedProcedure, acts_in, procedure_at, variables}
+use Rattle.heyvl_acts.specs.PlainActs.{procedure_of, variable_of}
+use Rattle.heyvl_acts.specs.Places.{nth, in_order, acts_of_procedure}
+use Rattle.heyvl_acts.specs.Program.{Reason, reason_of_break, first_break, IsProgram, calls, Reaches}
+use Rattle.heyvl_acts.specs.Rules.{Each, HasOwnTargets, IsTypedAct, MeetsRules, IsCounted, loop_numbers, counted}
 use Rattle.run_machine.specs.ConfigConditions.{CanRun, ReachesPrograms}
 use Rattle.run_machine.specs.Names.{Names}
 use Rattle.run_machine.specs.internal.Counts.{IsSmall}

@@ -9,8 +9,8 @@ use Rattle.heylo_formula.specs.Choices.{Choices}
 use Rattle.heylo_formula.specs.Formula.{Term}
 use Rattle.heylo_formula.specs.Meaning.{holds}
 use Rattle.heylo_formula.specs.declared.types.Ty.{Ty}
-use Rattle.heyvl_types.specs.Acts.{Head, Act, Acts, TypedProcedure}
-use Rattle.heyvl_types.specs.Rules.{WeighsOne}
+use Rattle.heyvl_acts.specs.Acts.{Head, Act, Acts, TypedProcedure}
+use Rattle.heyvl_acts.specs.Rules.{WeighsOne}
 use Rattle.run_machine.specs.Configurations.{Item, Frame, Config, Outcomes, push}
 use Rattle.run_machine.specs.Step.{Decision, sure, moved, turned, branches, test, step_act, step_back, step_item, step}
 use Rattle.run_machine.specs.Scheduler.{Tree, Forest, decision, under, first, rest}

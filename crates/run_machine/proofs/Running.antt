@@ -5,10 +5,10 @@ use Prim.Native.Nat.{suc}
 use Rattle.heylo_formula.specs.Choices.{Choices}
 use Rattle.heylo_formula.specs.Meaning.{holds}
 use Rattle.heylo_formula.specs.State.{Env}
-use Rattle.heyvl_types.specs.Acts.{Act, Acts, Arms, TypedProcedure}
-use Rattle.heyvl_types.specs.Matching.{taken}
-use Rattle.heyvl_types.specs.Places.{in_order, inside, inside_arms}
-use Rattle.heyvl_types.specs.Rules.{Each}
+use Rattle.heyvl_acts.specs.Acts.{Act, Acts, Arms, TypedProcedure}
+use Rattle.heyvl_acts.specs.Matching.{taken}
+use Rattle.heyvl_acts.specs.Places.{in_order, inside, inside_arms}
+use Rattle.heyvl_acts.specs.Rules.{Each}
 use Rattle.run_machine.specs.ConfigConditions.{CanRun, IsItemOf}
 use Rattle.run_machine.specs.Names.{numbered}
 use Rattle.run_machine.specs.internal.Places.{Stands, text}

@@ -4,8 +4,8 @@ use Rattle.std.proofs.lemmas.List.{length-append, length-set, reverse-append, re
 use Rattle.std.specs.Prelude.{if◌then◌else◌, Some, None, is_some}
 use Prim.Native.Nat.{zero, suc}
 use Rattle.std.proofs.lemmas.Option.{none-some}
-use Rattle.heyvl_syntax.specs.declared.spans.Span.{Span}
-use Rattle.heyvl_syntax.specs.declared.statements.CheckKind.{CheckKind}
+use Rattle.heyvl_places.specs.declared.spans.Span.{Span}
+use Rattle.heyvl_places.specs.declared.checks.CheckKind.{CheckKind}
 use Rattle.heyvl_num.specs.ExactValues.{exact_sumᵛ}
 use Rattle.heyvl_num.specs.Rational.{Rational, oneʳ}
 use Rattle.heylo_formula.specs.Choices.{Choices}
@@ -16,11 +16,11 @@ use Rattle.heylo_formula.specs.Typing.{Types}
 use Rattle.heylo_formula.specs.declared.types.Ty.{Ty}
 use Rattle.heylo_formula.specs.declared.values.Val.{Val}
 use Rattle.heylo_formula.proofs.exported.States.{fit_has}
-use Rattle.heyvl_types.specs.Acts.{Head, Act, Acts, Arms, TypedProcedure, procedure_at, types_of}
-use Rattle.heyvl_types.specs.Matching.{taken}
-use Rattle.heyvl_types.specs.Places.{nth, in_order, inside, act_named}
-use Rattle.heyvl_types.specs.Rules.{Each, IsOwn, MeetsRules}
-use Rattle.heyvl_types.specs.WellTyped.{DrawFits, PartsFit}
+use Rattle.heyvl_acts.specs.Acts.{Head, Act, Acts, Arms, TypedProcedure, procedure_at, types_of}
+use Rattle.heyvl_acts.specs.Matching.{taken}
+use Rattle.heyvl_acts.specs.Places.{nth, in_order, inside, act_named}
+use Rattle.heyvl_acts.specs.Rules.{Each, IsOwn, MeetsRules}
+use Rattle.heyvl_acts.specs.WellTyped.{DrawFits, PartsFit}
 use Rattle.quant_algebra.specs.ExactMeaning.{exact_truth, exact_value}
 use Rattle.quant_algebra.specs.ExactOperators.{and_then}
 use Rattle.run_machine.specs.declared.configurations.Item.TheVariants.{Do, Turn, Out, Back}

@@ -13,8 +13,8 @@ use Rattle.heylo_formula.specs.declared.values.Val.{Val}
 use Rattle.heylo_formula.specs.declared.values.Val.TheVariants.{Truth, Num}
 use Rattle.heylo_formula.proofs.exported.States.{length-typed, fit_has, env_typed, set_typed, typed_append}
 use Rattle.heylo_formula.proofs.exported.TypedTerms.{term_typed}
-use Rattle.heyvl_types.specs.Acts.{Variable, TypedProcedure, type_list, types_of, variables}
-use Rattle.heyvl_types.specs.Rules.{Each, IsOwn, widens_to, ArgumentsFit, TargetsFit}
+use Rattle.heyvl_acts.specs.Acts.{Variable, TypedProcedure, type_list, types_of, variables}
+use Rattle.heyvl_acts.specs.Rules.{Each, IsOwn, widens_to, ArgumentsFit, TargetsFit}
 use Rattle.run_machine.specs.Bound.{IsState}
 use Rattle.run_machine.specs.Configurations.{evaluate, first_state, outputs_of, set_all}
 

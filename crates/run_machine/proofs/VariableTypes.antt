@@ -4,10 +4,10 @@ use Rattle.std.proofs.lemmas.List.{drop-drop, take-append-drop}
 use Prim.Native.Nat.{zero, suc}
 use Rattle.heylo_formula.specs.Typing.{types_in}
 use Rattle.heylo_formula.specs.declared.types.Ty.{Ty}
-use Rattle.heyvl_types.specs.declared.typed.TProc.{TProc}
-use Rattle.heyvl_types.specs.declared.typed.VarInfo.{VarInfo}
-use Rattle.heyvl_types.specs.Acts.{type_list, types_of, variables}
-use Rattle.heyvl_types.specs.PlainActs.{procedure_of, variable_of}
+use Rattle.heyvl_acts.specs.declared.typed.TProc.{TProc}
+use Rattle.heyvl_acts.specs.declared.typed.VarInfo.{VarInfo}
+use Rattle.heyvl_acts.specs.Acts.{type_list, types_of, variables}
+use Rattle.heyvl_acts.specs.PlainActs.{procedure_of, variable_of}
 
 all_variables : (p : TProc) → variables (procedure_of p) ≡ map variable_of p.vars.items
 all_variables p =

@@ -11,7 +11,7 @@ use Rattle.heylo_formula.specs.Formula.{Form}
 use Rattle.heylo_formula.specs.Goals.{Compares}
 use Rattle.heylo_formula.specs.Meaning.{value}
 use Rattle.heylo_formula.specs.declared.values.Val.{Val}
-use Rattle.heyvl_types.specs.Acts.{Head, Acts, TypedProcedure, variables, type_list, procedure_at}
+use Rattle.heyvl_acts.specs.Acts.{Head, Acts, TypedProcedure, variables, type_list, procedure_at}
 use Rattle.run_machine.specs.Configurations.{Item, Config, begin}
 use Rattle.run_machine.specs.Scheduler.{Tree}
 use Rattle.run_machine.specs.Runs.{runs}

@@ -9,7 +9,7 @@ use Rattle.heylo_formula.specs.declared.values.Val.{Val}
 use Rattle.heylo_formula.specs.declared.values.Val.TheVariants.{Truth, Num}
 use Rattle.quant_algebra.specs.ExactMeaning.{exact_value, exact_truth}
 use Rattle.quant_algebra.specs.ExactOperators.{and_then}
-use Rattle.heyvl_types.specs.Acts.{Act, Arms, TypedProcedure}
+use Rattle.heyvl_acts.specs.Acts.{Act, Arms, TypedProcedure}
 use Rattle.run_machine.specs.declared.configurations.Config as C
 use Rattle.run_machine.specs.declared.configurations.Stepped.{Stepped}
 use Rattle.run_machine.specs.declared.configurations.Stepped.TheVariants.{Next, Deep, Bits}

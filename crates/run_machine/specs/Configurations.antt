@@ -10,7 +10,7 @@ use Rattle.heylo_formula.specs.Formula.{Term}
 use Rattle.heylo_formula.specs.Meaning.{term_value}
 use Rattle.heylo_formula.specs.declared.types.Ty.{Ty}
 use Rattle.heylo_formula.specs.declared.values.Val.{Val}
-use Rattle.heyvl_types.specs.Acts.{Head, Act, Acts, TypedProcedure, type_list, acts_in, procedure_at}
+use Rattle.heyvl_acts.specs.Acts.{Head, Act, Acts, TypedProcedure, type_list, acts_in, procedure_at}
 
 -- What is still to be done: an act, the test of a loop under way, an output that takes any value, or the return to the
 -- caller.

@@ -5,8 +5,8 @@ use Prim.Native.Nat.{zero, suc}
 use Rattle.heyvl_num.specs.Value.{Value}
 use Rattle.heyvl_num.specs.Extended as extended
 use Rattle.heylo_formula.specs.declared.values.Val.{Val}
-use Rattle.heyvl_types.specs.Acts.{Act, Acts, TypedProcedure, types_of, acts_in, procedure_at}
-use Rattle.heyvl_types.specs.Places.{act_named, in_order, inside}
+use Rattle.heyvl_acts.specs.Acts.{Act, Acts, TypedProcedure, types_of, acts_in, procedure_at}
+use Rattle.heyvl_acts.specs.Places.{act_named, in_order, inside}
 use Rattle.run_machine.specs.declared.configurations.Item as I
 use Rattle.run_machine.specs.declared.configurations.Item.TheVariants.{Do, Turn, Out, Back}
 use Rattle.run_machine.specs.declared.configurations.Frame as F

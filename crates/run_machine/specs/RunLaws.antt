@@ -3,12 +3,12 @@ use Rattle.std.specs.Prelude.{◌≡◌, ℕ, ◌+◌, Bool, false, List, [], �
 use Prim.Native.Nat.{zero, suc}
 use Rattle.heyvl_num.specs.Rational.{Rational, oneʳ}
 use Rattle.heyvl_num.specs.WeightedSums.{total_weight, scaled, joined}
-use Rattle.heyvl_syntax.specs.declared.spans.Span.{Span}
+use Rattle.heyvl_places.specs.declared.spans.Span.{Span}
 use Rattle.heylo_formula.specs.State.{has, default}
 use Rattle.heylo_formula.specs.declared.types.Ty.{Ty}
 use Rattle.heylo_formula.specs.declared.values.Val.{Val}
-use Rattle.heyvl_types.specs.Acts.{Act, Acts, TypedProcedure}
-use Rattle.heyvl_types.specs.Rules.{WeighsOne}
+use Rattle.heyvl_acts.specs.Acts.{Act, Acts, TypedProcedure}
+use Rattle.heyvl_acts.specs.Rules.{WeighsOne}
 use Rattle.run_machine.specs.Configurations.{Item, Config, Outcomes, push}
 use Rattle.run_machine.specs.Step.{Decision, sure, moved, step_act, step_item, step}
 use Rattle.run_machine.specs.Scheduler.{Tree, Forest, decision, under, first, rest}

@@ -3,7 +3,7 @@
 use Rattle.std.specs.Prelude.{ℕ, List, [], ◌∷◌, ◌++◌}
 use Prim.Native.Nat.{zero, suc}
 use Rattle.heyvl_num.specs.WeightedSums.{scaled}
-use Rattle.heyvl_types.specs.Acts.{TypedProcedure}
+use Rattle.heyvl_acts.specs.Acts.{TypedProcedure}
 use Rattle.run_machine.specs.Configurations.{Item, Config, Outcomes}
 use Rattle.run_machine.specs.Step.{sure, step_item}
 use Rattle.run_machine.specs.Scheduler.{Tree, Forest, decision, under, first, rest}

@@ -11,8 +11,8 @@ use Rattle.heylo_formula.specs.Formula.{Term}
 use Rattle.heylo_formula.specs.Meaning.{value, holds, term_value}
 use Rattle.heylo_formula.specs.declared.values.Val.{Val}
 use Rattle.heylo_formula.specs.declared.values.Val.TheVariants.{Truth}
-use Rattle.heyvl_types.specs.Acts.{Head, Act, Acts, TypedProcedure, procedure_at}
-use Rattle.heyvl_types.specs.Matching.{taken}
+use Rattle.heyvl_acts.specs.Acts.{Head, Act, Acts, TypedProcedure, procedure_at}
+use Rattle.heyvl_acts.specs.Matching.{taken}
 use Rattle.run_machine.specs.Configurations.{Item, Frame, Config, Outcomes, running, push, evaluate, set_all, callee_items, first_state, outputs_of}
 
 -- What a scheduler may decide: the side of a pick, true for the left one, or the value of a variable.

@@ -1,8 +1,8 @@
 -- What the program's step gives: the answer of the definition, one decision more where one is asked for, and configurations
 -- that meet the condition again.
 use Rattle.std.specs.Prelude.{◌≡◌, ◌+◌, ℕ, List, [], ◌∷◌}
-use Rattle.heyvl_types.specs.Acts.{Act, TypedProcedure}
-use Rattle.heyvl_types.specs.Rules.{Each}
+use Rattle.heyvl_acts.specs.Acts.{Act, TypedProcedure}
+use Rattle.heyvl_acts.specs.Rules.{Each}
 use Rattle.run_machine.specs.declared.configurations.Stepped.{Stepped}
 use Rattle.run_machine.specs.declared.configurations.Stepped.TheVariants.{Next, Deep, Bits}
 use Rattle.run_machine.specs.BoundedStep.{answer_of, bounded_step}

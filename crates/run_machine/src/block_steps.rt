@@ -2,9 +2,9 @@
 
 ghost use Rattle.std.specs.Prelude.{◌≡◌, ◌<◌, ◌+◌, ◌^◌, IfOk, length, true, if◌then◌else◌};
 ghost use Rattle.heylo_formula.specs.State.{environment};
-ghost use Rattle.heyvl_types.specs.Matching.{taken};
-ghost use Rattle.heyvl_types.specs.Places.{in_order, inside_arms};
-ghost use Rattle.heyvl_types.specs.PlainActs.{acts_of, arms_of};
+ghost use Rattle.heyvl_acts.specs.Matching.{taken};
+ghost use Rattle.heyvl_acts.specs.Places.{in_order, inside_arms};
+ghost use Rattle.heyvl_acts.specs.PlainActs.{acts_of, arms_of};
 ghost use Rattle.run_machine.specs.BoundedStep.{guards_fit};
 ghost use Rattle.run_machine.specs.Names.{stored, decision_of};
 ghost use Rattle.run_machine.specs.Step.{side_of};
@@ -16,7 +16,7 @@ use crate::configurations::{Config, Decide, Stepped};
 use crate::copies::{rest_of, with_items};
 use crate::limits::for_sure;
 use heylo_formula::Cond;
-use heyvl_types::Act;
+use heyvl_acts::Act;
 use quant_algebra::{Held, holds_at};
 use std::alloc::{AllocError, Global};
 

@@ -1,12 +1,12 @@
 //! Items for the acts of a block, by their places.
 
 ghost use Rattle.std.specs.Prelude.{◌≡◌, ◌+◌, ◌++◌, ◌<◌, ◌^◌, length, OnOk};
-ghost use Rattle.heyvl_types.specs.PlainActs.{act_of, acts_of};
-ghost use Rattle.heyvl_types.specs.Places.{in_order, inside};
+ghost use Rattle.heyvl_acts.specs.PlainActs.{act_of, acts_of};
+ghost use Rattle.heyvl_acts.specs.Places.{in_order, inside};
 ghost use Rattle.run_machine.specs.Names.{numbered};
 
 use crate::configurations::Item;
-use heyvl_types::Act;
+use heyvl_acts::Act;
 use std::alloc::AllocError;
 
 /// How many acts these are, those inside them included, where a u32 can tell.

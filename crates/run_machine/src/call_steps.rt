@@ -2,9 +2,9 @@
 
 ghost use Rattle.std.specs.Prelude.{◌≡◌, ◌<◌, ◌≤◌, ◌+◌, ◌++◌, ◌∷◌, [], List, IfOk, OnOk, drop, length, map, true};
 ghost use Rattle.heylo_formula.specs.State.{default as default_of, environment};
-ghost use Rattle.heyvl_types.specs.Acts.{procedure_at, type_list};
-ghost use Rattle.heyvl_types.specs.PlainActs.{procedure_of, procedures_of, terms_of, variable_of};
-ghost use Rattle.heyvl_types.specs.Rules.{Each};
+ghost use Rattle.heyvl_acts.specs.Acts.{procedure_at, type_list};
+ghost use Rattle.heyvl_acts.specs.PlainActs.{procedure_of, procedures_of, terms_of, variable_of};
+ghost use Rattle.heyvl_acts.specs.Rules.{Each};
 ghost use Rattle.run_machine.specs.BoundedStep.{terms_fit};
 ghost use Rattle.run_machine.specs.Configurations.{evaluate, outputs_of, set_all};
 ghost use Rattle.run_machine.specs.Names.{HasFewActs, Lists, lists_of, stored};
@@ -20,7 +20,7 @@ use crate::plain_steps::pass_step;
 use crate::starting::push_body;
 use crate::taking::default;
 use heylo_formula::{Term, Val};
-use heyvl_types::{TProc, Typed};
+use heyvl_acts::{TProc, Typed};
 use std::alloc::{AllocError, Global};
 
 /// The step of a call that stands at this place.

@@ -6,7 +6,7 @@ ghost use Rattle.heylo_formula.specs.Meaning.{term_value};
 ghost use Rattle.heylo_formula.specs.State.{environment};
 ghost use Rattle.heylo_formula.specs.Operators.{finite_part};
 ghost use Rattle.heyvl_num.specs.Extended.{value_of};
-ghost use Rattle.heyvl_types.specs.PlainActs.{terms_of};
+ghost use Rattle.heyvl_acts.specs.PlainActs.{terms_of};
 ghost use Rattle.run_machine.specs.BoundedStep.{exact_term, terms_fit};
 ghost use Rattle.run_machine.specs.Configurations.{evaluate};
 

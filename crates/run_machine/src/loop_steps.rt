@@ -2,8 +2,8 @@
 
 ghost use Rattle.std.specs.Prelude.{◌≡◌, ◌==◌, ◌<◌, ◌+◌, ◌^◌, ℕ, IfOk, get_or, is_some, length, if◌then◌else◌};
 ghost use Rattle.heylo_formula.specs.PlainTrees.{cond_of};
-ghost use Rattle.heyvl_types.specs.Places.{in_order};
-ghost use Rattle.heyvl_types.specs.PlainActs.{acts_of};
+ghost use Rattle.heyvl_acts.specs.Places.{in_order};
+ghost use Rattle.heyvl_acts.specs.PlainActs.{acts_of};
 ghost use Rattle.quant_algebra.specs.ExactMeaning.{exact_truth};
 ghost use Rattle.run_machine.specs.Names.{stored};
 ghost use Rattle.run_machine.specs.internal.Replies.{reply_of, replied, surely};
@@ -14,7 +14,7 @@ use crate::configurations::{Config, Item, Stepped};
 use crate::copies::{rest_of, with_items};
 use crate::limits::for_sure;
 use crate::plain_steps::pass_step;
-use heyvl_types::LoopAct;
+use heyvl_acts::LoopAct;
 use quant_algebra::{Held, holds_at};
 use std::alloc::{AllocError, Global};
 

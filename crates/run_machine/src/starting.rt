@@ -2,8 +2,8 @@
 
 ghost use Rattle.std.specs.Prelude.{◌≡◌, ◌++◌, IfOk, OnOk, replicate};
 ghost use Rattle.heyvl_num.specs.Rational.{zeroʳ};
-ghost use Rattle.heyvl_types.specs.Acts.{acts_in, procedure_at};
-ghost use Rattle.heyvl_types.specs.PlainActs.{procedures_of};
+ghost use Rattle.heyvl_acts.specs.Acts.{acts_in, procedure_at};
+ghost use Rattle.heyvl_acts.specs.PlainActs.{procedures_of};
 ghost use Rattle.run_machine.specs.Bound.{IsState};
 ghost use Rattle.run_machine.specs.ConfigConditions.{IsConfig, ReachesPrograms};
 ghost use Rattle.run_machine.specs.Configurations.{begin as begin_of};
@@ -12,8 +12,8 @@ ghost use Rattle.run_machine.specs.Names.{HasFewActs, stored, config_of, numbere
 use crate::blocks::push_block;
 use crate::configurations::{Config, Item};
 use heylo_formula::Val;
+use heyvl_acts::Typed;
 use heyvl_num::{Ext, Frac};
-use heyvl_types::Typed;
 use std::alloc::{AllocError, Global};
 
 /// The first configuration of the procedure's body in a state, with no decision made. Of a procedure that isn't there, or

@@ -1,9 +1,9 @@
 //! One step of a configuration.
 
 ghost use Rattle.std.specs.Prelude.{◌≡◌, ◌∷◌, IfOk, drop};
-ghost use Rattle.heyvl_types.specs.Acts.{procedure_at, types_of};
-ghost use Rattle.heyvl_types.specs.PlainActs.{act_of, procedures_of};
-ghost use Rattle.heyvl_types.specs.Rules.{MeetsAllRules};
+ghost use Rattle.heyvl_acts.specs.Acts.{procedure_at, types_of};
+ghost use Rattle.heyvl_acts.specs.PlainActs.{act_of, procedures_of};
+ghost use Rattle.heyvl_acts.specs.Rules.{MeetsAllRules};
 ghost use Rattle.run_machine.specs.ConfigConditions.{HasRoom, IsConfig};
 ghost use Rattle.run_machine.specs.Names.{HasFewActs, decision_of, stored};
 ghost use Rattle.run_machine.specs.Step.{Decision};
@@ -18,7 +18,7 @@ use crate::loop_steps::test_step;
 use crate::plain_steps::{draw_step, pass_step, reward_step, set_step};
 use crate::taking::any_step;
 use heylo_formula::Ty;
-use heyvl_types::{Act, Typed, act_at};
+use heyvl_acts::{Act, Typed, act_at};
 use std::alloc::{AllocError, Global};
 
 /// The configurations that may come next, in the order of the definition, each with its probability, those of probability 0

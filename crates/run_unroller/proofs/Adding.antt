@@ -6,7 +6,7 @@ use Prim.Native.Nat.{zero, suc}
 use Rattle.heyvl_num.specs.Rational.{Rational}
 use Rattle.heyvl_num.specs.Value.{Value}
 use Rattle.heyvl_num.specs.Exact.{exact_sum, exact_product}
-use Rattle.heyvl_types.specs.Acts.{TypedProcedure}
+use Rattle.heyvl_acts.specs.Acts.{TypedProcedure}
 use Rattle.quant_algebra.specs.ExactOperators.{and_then}
 use Rattle.run_machine.specs.declared.configurations.Config as C
 use Rattle.run_machine.specs.Configurations.{Item}

@@ -6,9 +6,9 @@ use Rattle.heyvl_num.specs.Rational.{Rational, ratio, zeroʳ}
 use Rattle.heyvl_num.specs.Value.{zeroᵛ}
 use Rattle.heyvl_num.specs.Value.Value.{finite}
 use Rattle.heyvl_num.specs.Exact.{exact_quotient, quotient_fits, quotient}
-use Rattle.heyvl_types.specs.declared.typed.TProc.{TProc}
-use Rattle.heyvl_types.specs.Acts.{nobody, procedure_at}
-use Rattle.heyvl_types.specs.PlainActs.{procedure_of}
+use Rattle.heyvl_acts.specs.declared.typed.TProc.{TProc}
+use Rattle.heyvl_acts.specs.Acts.{nobody, procedure_at}
+use Rattle.heyvl_acts.specs.PlainActs.{procedure_of}
 
 pub found_at : (xs : List TProc) (p : ℕ) (x : TProc) → p < length xs → x ≡ get_or xs p x → procedure_at (map procedure_of xs) p ≡ procedure_of x
 found_at [] p x lt is = absurd (omega (arith, lt))

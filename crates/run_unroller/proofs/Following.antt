@@ -4,8 +4,8 @@ use Rattle.std.specs.Prelude.{Option, None, Result, Ok, Err, IfOk, if◌then◌e
 use Rattle.heyvl_num.specs.Rational.{Rational, oneʳ}
 use Rattle.heyvl_num.specs.WeightedSums.{scaled, joined}
 use Rattle.heyvl_num.proofs.exported.Rationals.{*ʳ-one}
-use Rattle.heyvl_types.specs.Acts.{TypedProcedure}
-use Rattle.heyvl_types.specs.Rules.{Each}
+use Rattle.heyvl_acts.specs.Acts.{TypedProcedure}
+use Rattle.heyvl_acts.specs.Rules.{Each}
 use Rattle.run_machine.specs.declared.configurations.Config as C
 use Rattle.run_machine.specs.declared.configurations.Decide.{Decide}
 use Rattle.run_machine.specs.BoundedStep.{Answer, any_deep, bounded, bounded_step, outcomes_of}

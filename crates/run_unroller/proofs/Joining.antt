@@ -5,7 +5,7 @@ use Rattle.heyvl_num.specs.Rational.{Rational, ◌*ʳ◌}
 use Rattle.heyvl_num.specs.Exact.{exact_product}
 use Rattle.heyvl_num.specs.WeightedSums.{scaled}
 use Rattle.heyvl_num.proofs.exported.Exactness.{exact_product_some}
-use Rattle.heyvl_types.specs.Acts.{TypedProcedure}
+use Rattle.heyvl_acts.specs.Acts.{TypedProcedure}
 use Rattle.run_machine.specs.declared.configurations.Config as C
 use Rattle.run_unroller.specs.declared.causes.Cause.{Cause}
 use Rattle.run_unroller.specs.declared.causes.Cause.TheVariants.{Bits}

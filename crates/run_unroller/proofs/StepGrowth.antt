@@ -7,8 +7,8 @@ use Rattle.heylo_formula.specs.Formula.{Term}
 use Rattle.heylo_formula.specs.Choices.{Choices}
 use Rattle.heylo_formula.specs.Meaning.{holds}
 use Rattle.heylo_formula.specs.State.{environment}
-use Rattle.heyvl_types.specs.Acts.{Act, TypedProcedure}
-use Rattle.heyvl_types.specs.Rules.{Each}
+use Rattle.heyvl_acts.specs.Acts.{Act, TypedProcedure}
+use Rattle.heyvl_acts.specs.Rules.{Each}
 use Rattle.run_machine.specs.declared.configurations.Config as C
 use Rattle.run_machine.specs.BoundedStep.{outcomes_of}
 use Rattle.run_machine.specs.Configurations.{Item, Frame, Config, running}

@@ -14,7 +14,7 @@ use Rattle.heylo_formula.specs.Choices.{Choices}
 use Rattle.heylo_formula.specs.Formula.{Form}
 use Rattle.heylo_formula.specs.Meaning.{value}
 use Rattle.heylo_formula.specs.State.{environment}
-use Rattle.heyvl_types.specs.Acts.{TypedProcedure, procedure_at}
+use Rattle.heyvl_acts.specs.Acts.{TypedProcedure, procedure_at}
 use Rattle.quant_algebra.specs.ExactOperators.{and_then}
 use Rattle.quant_algebra.specs.Laws.{ExactValuesAreMeant}
 use Rattle.run_machine.specs.Configurations.{Config, Item, Outcomes}

@@ -4,7 +4,7 @@ use Prim.Native.Nat.{zero, suc}
 use Rattle.heyvl_num.specs.Rational.{Rational, oneʳ, ◌*ʳ◌}
 use Rattle.heyvl_num.specs.WeightedSums.{scaled, joined}
 use Rattle.heyvl_num.proofs.exported.Rationals.{one-*ʳ, *ʳ-one, *ʳ_assoc}
-use Rattle.heyvl_types.specs.Acts.{TypedProcedure}
+use Rattle.heyvl_acts.specs.Acts.{TypedProcedure}
 use Rattle.run_machine.specs.declared.configurations.Decide.{Decide}
 use Rattle.run_machine.specs.Configurations.{Config, Item, Outcomes}
 use Rattle.run_machine.specs.Scheduler.{Tree}

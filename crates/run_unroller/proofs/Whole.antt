@@ -2,7 +2,7 @@
 use Rattle.std.proofs.Common.{◌≡◌, ℕ, ◌+◌, ap, sym, ◌∙◌, List, [], ◌∷◌}
 use Rattle.std.specs.Prelude.{None}
 use Rattle.heyvl_num.specs.Rational.{oneʳ}
-use Rattle.heyvl_types.specs.Acts.{TypedProcedure, procedure_at}
+use Rattle.heyvl_acts.specs.Acts.{TypedProcedure, procedure_at}
 use Rattle.run_machine.specs.declared.configurations.Decide.{Decide}
 use Rattle.run_machine.specs.Names.{Stored, config_of}
 use Rattle.run_unroller.specs.Causes.{first_stop}

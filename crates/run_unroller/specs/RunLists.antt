@@ -5,7 +5,7 @@ use Rattle.std.specs.Prelude.{ℕ, ◌+◌, List, [], ◌∷◌, map}
 use Prim.Native.Nat.{zero, suc}
 use Rattle.heyvl_num.specs.Rational.{Rational, oneʳ}
 use Rattle.heyvl_num.specs.WeightedSums.{joined}
-use Rattle.heyvl_types.specs.Acts.{TypedProcedure}
+use Rattle.heyvl_acts.specs.Acts.{TypedProcedure}
 use Rattle.run_machine.specs.declared.configurations.Decide.{Decide}
 use Rattle.run_machine.specs.Configurations.{Item, Config}
 use Rattle.run_machine.specs.Step.{step}

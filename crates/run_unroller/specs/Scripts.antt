@@ -3,7 +3,7 @@
 -- Source: this project's own.
 use Rattle.std.specs.Prelude.{ℕ, List, option_map}
 use Rattle.std.specs.Borrow.{Bor}
-use Rattle.heyvl_types.specs.Places.{nth}
+use Rattle.heyvl_acts.specs.Places.{nth}
 use Rattle.run_machine.specs.declared.configurations.Decide.{Decide}
 use Rattle.run_machine.specs.Names.{decision_of}
 use Rattle.run_machine.specs.Step.{Decision}

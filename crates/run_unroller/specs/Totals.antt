@@ -8,7 +8,7 @@ use Rattle.heyvl_num.specs.Value.Value.{finite}
 use Rattle.heyvl_num.specs.Exact.{exact_sum, exact_product}
 use Rattle.heyvl_num.specs.ExactValues.{exact_sumᵛ, exact_productᵛ}
 use Rattle.heylo_formula.specs.Formula.{Form}
-use Rattle.heyvl_types.specs.Acts.{TypedProcedure}
+use Rattle.heyvl_acts.specs.Acts.{TypedProcedure}
 use Rattle.quant_algebra.specs.ExactMeaning.{exact_value}
 use Rattle.quant_algebra.specs.ExactOperators.{and_then}
 use Rattle.run_machine.specs.Configurations.{Item}

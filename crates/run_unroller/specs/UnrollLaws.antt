@@ -5,7 +5,7 @@ use Rattle.heyvl_num.specs.Rational.{Rational}
 use Rattle.heyvl_num.specs.Value.{Value, zeroᵛ, oneᵛ, ◌+ᵛ◌}
 use Rattle.heyvl_num.specs.Value.Value.{finite}
 use Rattle.heyvl_num.specs.WeightedSums.{weighted_sum}
-use Rattle.heyvl_types.specs.Acts.{TypedProcedure, procedure_at}
+use Rattle.heyvl_acts.specs.Acts.{TypedProcedure, procedure_at}
 use Rattle.run_machine.specs.declared.configurations.Decide.{Decide}
 use Rattle.run_machine.specs.Configurations.{Config, Item, Outcomes}
 use Rattle.run_machine.specs.Runs.{runs}

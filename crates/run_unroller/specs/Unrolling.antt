@@ -3,7 +3,7 @@
 use Rattle.std.specs.Prelude.{◌≡◌, ◌+◌, ℕ, List, Option, Some, None, replicate}
 use Rattle.heyvl_num.specs.Extended as extended
 use Rattle.heylo_formula.specs.declared.values.Val.{Val}
-use Rattle.heyvl_types.specs.Acts.{TypedProcedure, procedure_at}
+use Rattle.heyvl_acts.specs.Acts.{TypedProcedure, procedure_at}
 use Rattle.run_machine.specs.declared.configurations.Decide.{Decide}
 use Rattle.run_machine.specs.ConfigConditions.{IsConfig}
 use Rattle.run_machine.specs.Configurations.{begin}

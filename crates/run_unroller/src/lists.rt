@@ -3,9 +3,9 @@
 ghost use Rattle.std.specs.Prelude.{◌≡◌, ◌∷◌, ℕ, List, [], IfOk, None, map};
 ghost use Prim.Native.Nat.{suc};
 ghost use Rattle.heyvl_num.specs.WeightedSums.{scaled};
-ghost use Rattle.heyvl_types.specs.Acts.{TypedProcedure};
-ghost use Rattle.heyvl_types.specs.PlainActs.{procedures_of};
-ghost use Rattle.heyvl_types.specs.Rules.{Each, MeetsAllRules};
+ghost use Rattle.heyvl_acts.specs.Acts.{TypedProcedure};
+ghost use Rattle.heyvl_acts.specs.PlainActs.{procedures_of};
+ghost use Rattle.heyvl_acts.specs.Rules.{Each, MeetsAllRules};
 ghost use Rattle.run_machine.specs.ConfigConditions.{HasRoom, IsConfig};
 ghost use Rattle.run_machine.specs.Names.{HasFewActs, config_of, decision_of, items_of, stored};
 ghost use Rattle.run_unroller.specs.Causes.{brought, joins};
@@ -16,8 +16,8 @@ ghost use Rattle.run_unroller.specs.internal.Extensions.{Extends, IsAfterStep};
 ghost use Rattle.run_unroller.specs.internal.Growth.{AllWithin, GrownWithin, Within};
 
 use crate::causes::{Cause, Grown};
+use heyvl_acts::Typed;
 use heyvl_num::Frac;
-use heyvl_types::Typed;
 use run_machine::{Config, Decide, Stepped, step};
 use std::alloc::{AllocError, Global};
 

@@ -1,8 +1,8 @@
 //! The sums of a list of runs.
 
 ghost use Rattle.std.specs.Prelude.{◌≡◌, IfOk, option_map};
-ghost use Rattle.heyvl_types.specs.Acts.{procedure_at};
-ghost use Rattle.heyvl_types.specs.PlainActs.{procedures_of};
+ghost use Rattle.heyvl_acts.specs.Acts.{procedure_at};
+ghost use Rattle.heyvl_acts.specs.PlainActs.{procedures_of};
 ghost use Rattle.run_unroller.specs.internal.RunViews.{runs_of};
 ghost use Rattle.run_unroller.specs.Totals.{totals};
 ghost use Rattle.run_unroller.specs.Unrolling.{totals_of};
@@ -11,8 +11,8 @@ use crate::answers::Sums;
 use crate::turns::all_turns;
 use crate::values::{post_sum, reward_sum};
 use crate::weights::running_weight;
+use heyvl_acts::Typed;
 use heyvl_num::Frac;
-use heyvl_types::Typed;
 use run_machine::Config;
 use std::alloc::{AllocError, Global};
 

@@ -3,7 +3,7 @@
 ghost use Rattle.std.specs.Prelude.{◌≡◌, List, IfOk, option_map, pos};
 ghost use Prim.Native.Nat.{suc};
 ghost use Rattle.heyvl_num.specs.Rational.{ratio};
-ghost use Rattle.heyvl_types.specs.Acts.{TypedProcedure};
+ghost use Rattle.heyvl_acts.specs.Acts.{TypedProcedure};
 ghost use Rattle.run_machine.specs.Names.{turns_of};
 ghost use Rattle.run_unroller.specs.internal.RunViews.{runs_of};
 ghost use Rattle.run_unroller.specs.Totals.{all_turns as all_turns_of, turns_total};

@@ -2,9 +2,9 @@
 
 ghost use Rattle.std.specs.Prelude.{◌≡◌, ◌∷◌, ◌≤◌, ◌+◌, [], List, IfOk};
 ghost use Rattle.heyvl_num.specs.Rational.{oneʳ};
-ghost use Rattle.heyvl_types.specs.Acts.{TypedProcedure, procedure_at};
-ghost use Rattle.heyvl_types.specs.PlainActs.{procedures_of};
-ghost use Rattle.heyvl_types.specs.Rules.{MeetsAllRules};
+ghost use Rattle.heyvl_acts.specs.Acts.{TypedProcedure, procedure_at};
+ghost use Rattle.heyvl_acts.specs.PlainActs.{procedures_of};
+ghost use Rattle.heyvl_acts.specs.Rules.{MeetsAllRules};
 ghost use Rattle.run_machine.specs.Names.{HasFewActs, config_of, stored};
 ghost use Rattle.run_unroller.specs.RunLists.{begun};
 ghost use Rattle.run_unroller.specs.internal.RunViews.{runs_of};
@@ -19,8 +19,8 @@ use crate::copies::copy_config;
 use crate::lists::after_step;
 use crate::numbers::one;
 use crate::totals::sums;
+use heyvl_acts::Typed;
 use heyvl_num::Frac;
-use heyvl_types::Typed;
 use run_machine::{Config, Decide};
 use std::alloc::{AllocError, Global};
 

@@ -2,16 +2,16 @@
 
 ghost use Rattle.std.specs.Prelude.{◌≡◌, ◌∷◌, List, [], Some, option_map};
 ghost use Rattle.heyvl_num.specs.Extended.{value_of};
-ghost use Rattle.heyvl_types.specs.Acts.{TypedProcedure, procedure_at};
-ghost use Rattle.heyvl_types.specs.PlainActs.{procedures_of};
+ghost use Rattle.heyvl_acts.specs.Acts.{TypedProcedure, procedure_at};
+ghost use Rattle.heyvl_acts.specs.PlainActs.{procedures_of};
 ghost use Rattle.quant_algebra.specs.ExactMeaning.{exact_value};
 ghost use Rattle.run_unroller.specs.internal.RunViews.{run_of, runs_of};
 ghost use Rattle.run_unroller.specs.Totals.{added, and_one, ended, post_of, post_total, reward_total};
 
 use crate::numbers::zero;
 use heylo_formula::Val;
+use heyvl_acts::Typed;
 use heyvl_num::{Ext, Frac};
-use heyvl_types::Typed;
 use quant_algebra::{At, value_at};
 use run_machine::Config;
 

@@ -1,7 +1,7 @@
 //! The weight of the runs that haven't ended.
 
 ghost use Rattle.std.specs.Prelude.{◌≡◌, ◌∷◌, List, [], Some};
-ghost use Rattle.heyvl_types.specs.Acts.{TypedProcedure};
+ghost use Rattle.heyvl_acts.specs.Acts.{TypedProcedure};
 ghost use Rattle.run_unroller.specs.internal.RunViews.{run_of, runs_of};
 ghost use Rattle.run_unroller.specs.Totals.{added_weights, running, running_total};
 

@@ -1,6 +1,6 @@
 -- The numbers from one on.
 use Rattle.std.proofs.Common.{◌≡◌, ℕ, ◌+◌, ◌-◌, ◌<◌, ap, sym, ◌∙◌, append_assoc, arith, List, [], ◌∷◌, ◌++◌}
-use Rattle.heyvl_types.specs.Rules.{counted}
+use Rattle.heyvl_acts.specs.Rules.{counted}
 use Prim.Native.Nat.{suc}
 
 -- The first of the numbers that are left joins those before it.

@@ -3,13 +3,13 @@ use Rattle.std.proofs.Common.{◌≡◌, ℕ, Bool, true, false, ◌==◌, ◌<�
 use Rattle.std.proofs.lemmas.List.{at_drop_more}
 use Rattle.std.specs.Prelude.{Option, Some, None, Vec}
 use Rattle.std.specs.declared.alloc.Global.{Global}
-use Rattle.heyvl_syntax.specs.declared.spans.Span.{Span}
+use Rattle.heyvl_places.specs.declared.spans.Span.{Span}
 use Rattle.heylo_formula.specs.declared.forms.Cond as C
-use Rattle.heyvl_types.specs.declared.acts.Act as A
-use Rattle.heyvl_types.proofs.exported.PlainActsAre.{if_act, pick_act}
-use Rattle.heyvl_types.specs.Acts.{Act}
-use Rattle.heyvl_types.specs.Places.{in_order, inside, inside_arms}
-use Rattle.heyvl_types.specs.PlainActs.{act_of, acts_of, arms_of}
+use Rattle.heyvl_acts.specs.declared.acts.Act as A
+use Rattle.heyvl_acts.proofs.exported.PlainActsAre.{if_act, pick_act}
+use Rattle.heyvl_acts.specs.Acts.{Act}
+use Rattle.heyvl_acts.specs.Places.{in_order, inside, inside_arms}
+use Rattle.heyvl_acts.specs.PlainActs.{act_of, acts_of, arms_of}
 use Rattle.verdict_report.specs.LoopScopes.{loop_scope}
 
 abbrev or_else : Option (List ℕ) → Option (List ℕ) → Option (List ℕ)

@@ -1,6 +1,6 @@
 -- Why nothing is known of a goal, as a report shows it. The texts are this project's own.
 use Rattle.heyvl_num.specs.Rational.{Rational}
-use Rattle.heyvl_syntax.specs.Places.{column_of, line_of}
+use Rattle.heyvl_places.specs.Places.{column_of, line_of}
 use Rattle.heylo_formula.specs.declared.values.Val.{Val}
 use Rattle.goal_answers.specs.declared.causes.Broken.{Broken}
 use Rattle.goal_answers.specs.declared.causes.Cause.{Cause}

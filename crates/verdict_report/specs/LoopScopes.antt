@@ -1,9 +1,9 @@
 -- The variables of a procedure that a goal's state shows.
 use Rattle.heylo_formula.specs.declared.goals.GoalId.{GoalId}
 use Rattle.heylo_formula.specs.declared.goals.GoalId.TheVariants.{Main, Pre, Post, Invariant, Ranking}
-use Rattle.heyvl_types.specs.Acts.{Act, TypedProcedure, acts_in}
-use Rattle.heyvl_types.specs.Places.{in_order}
-use Rattle.heyvl_types.specs.Rules.{counted}
+use Rattle.heyvl_acts.specs.Acts.{Act, TypedProcedure, acts_in}
+use Rattle.heyvl_acts.specs.Places.{in_order}
+use Rattle.heyvl_acts.specs.Rules.{counted}
 use Rattle.std.specs.Prelude.{List, None, Option, Some, [], if◌then◌else◌, length, ◌++◌, ◌==◌, ◌∷◌, ℕ}
 
 -- The variables that are visible at the loop with this number, where it is among the acts.

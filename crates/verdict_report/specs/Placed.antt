@@ -1,6 +1,6 @@
 -- What a report asks of the answers that it shows.
-use Rattle.heyvl_types.specs.Rules.{Each, MeetsAllRules}
-use Rattle.heyvl_types.specs.declared.typed.Typed.{Typed}
+use Rattle.heyvl_acts.specs.Rules.{Each, MeetsAllRules}
+use Rattle.heyvl_acts.specs.declared.typed.Typed.{Typed}
 use Rattle.goal_answers.specs.declared.causes.Cause.{Cause}
 use Rattle.goal_answers.specs.declared.causes.Cause.TheVariants.{Depth, Nodes, Nonlinear, Cells, Rows, Bits, Fraction}
 use Rattle.proc_contracts.specs.declared.reasons.WhyNot.{WhyNot}

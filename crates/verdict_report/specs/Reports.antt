@@ -1,6 +1,6 @@
 -- The report of the answers of a file: of each procedure a line, and behind it one of each ranking; then how many procedures
 -- there are. The texts are this project's own.
-use Rattle.heyvl_types.specs.Acts.{TypedProcedure}
+use Rattle.heyvl_acts.specs.Acts.{TypedProcedure}
 use Rattle.std.specs.Prelude.{List, [], codes, decimal, length, ◌++◌, ◌∷◌, ℕ}
 use Rattle.verdict_report.specs.Verdicts.{rank_text, verdict_text}
 use Rattle.verdict_report.specs.declared.answers.Answer.{Answer}

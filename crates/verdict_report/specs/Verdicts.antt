@@ -2,7 +2,7 @@
 use Rattle.heylo_formula.specs.declared.goals.GoalId.{GoalId}
 use Rattle.heylo_formula.specs.declared.goals.GoalId.TheVariants.{Main, Pre, Post, Invariant, Ranking}
 use Rattle.heylo_formula.specs.declared.values.Val.{Val}
-use Rattle.heyvl_types.specs.Acts.{TypedProcedure, procedure_at}
+use Rattle.heyvl_acts.specs.Acts.{TypedProcedure, procedure_at}
 use Rattle.proc_contracts.specs.declared.reasons.WhyNot.{WhyNot}
 use Rattle.proc_contracts.specs.declared.reasons.WhyNot.TheVariants as why
 use Rattle.std.specs.Prelude.{Bool, List, [], codes, decimal, false, true, ◌++◌, ◌∷◌, ℕ}

@@ -2,7 +2,7 @@
 
 use goal_answers::{Cause, Miss};
 use heylo_formula::{GoalId, Val};
-use heyvl_syntax::Name;
+use heyvl_places::Name;
 use proc_contracts::WhyNot;
 
 /// What is answered of a procedure.

@@ -9,7 +9,7 @@ use crate::numbers::{write_fraction, write_number, write_place};
 use crate::settings::{write_settings, write_variable};
 use goal_answers::{Broken, Cause};
 use heylo_formula::Val;
-use heyvl_syntax::Name;
+use heyvl_places::Name;
 use std::alloc::AllocError;
 
 /// Puts an interval behind the text.

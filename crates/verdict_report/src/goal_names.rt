@@ -6,7 +6,7 @@ ghost use Rattle.verdict_report.specs.Settings.{named_by};
 
 use goal_answers::NamedGoal;
 use heylo_formula::{GoalId, Made};
-use heyvl_syntax::Name;
+use heyvl_places::Name;
 
 /// Whether two are the same goal of a procedure.
 fn is_same(first: GoalId, second: GoalId) -> bool

@@ -1,15 +1,15 @@
 //! The variables that a goal's state shows.
 
-ghost use Rattle.heyvl_types.specs.Acts.{acts_in};
-ghost use Rattle.heyvl_types.specs.Places.{in_order, inside};
-ghost use Rattle.heyvl_types.specs.PlainActs.{act_of, acts_of, procedure_of};
-ghost use Rattle.heyvl_types.specs.Rules.{IsCounted, counted};
+ghost use Rattle.heyvl_acts.specs.Acts.{acts_in};
+ghost use Rattle.heyvl_acts.specs.Places.{in_order, inside};
+ghost use Rattle.heyvl_acts.specs.PlainActs.{act_of, acts_of, procedure_of};
+ghost use Rattle.heyvl_acts.specs.Rules.{IsCounted, counted};
 ghost use Rattle.std.specs.Prelude.{◌≡◌, ◌≤◌, ◌+◌, ◌∷◌, IfOk};
 ghost use Rattle.verdict_report.specs.LoopScopes.{always_shown, interface_numbers, loop_scope, scope_of_loop};
 ghost use Rattle.verdict_report.specs.internal.Slices.{lent};
 
 use heylo_formula::GoalId;
-use heyvl_types::{Act, TProc};
+use heyvl_acts::{Act, TProc};
 use std::alloc::{AllocError, Global};
 
 /// The first numbers, so many.

@@ -6,7 +6,7 @@ ghost use Rattle.verdict_report.specs.Settings.{fraction_text, value_text};
 
 use heylo_formula::Val;
 use heyvl_num::Frac;
-use heyvl_syntax::place_at;
+use heyvl_places::place_at;
 use itoa::{Buffer, Integer};
 use std::alloc::AllocError;
 

@@ -1,7 +1,7 @@
 //! The text of a report.
 
-ghost use Rattle.heyvl_types.specs.PlainActs.{procedures_of};
-ghost use Rattle.heyvl_types.specs.Rules.{Each, MeetsAllRules};
+ghost use Rattle.heyvl_acts.specs.PlainActs.{procedures_of};
+ghost use Rattle.heyvl_acts.specs.Rules.{Each, MeetsAllRules};
 ghost use Rattle.std.specs.Prelude.{◌≡◌, ◌++◌, ◌+◌, ◌<◌, ◌≤◌, ◌^◌, IfOk, OnOk, length};
 ghost use Rattle.verdict_report.specs.Placed.{CanReport, IsAnswerPlaced, IsLoopPlaced};
 ghost use Rattle.verdict_report.specs.Reports.{answer_lines, lines_from, loop_line, loop_lines, report_text};
@@ -10,7 +10,7 @@ use crate::answers::{Answer, LoopAnswer};
 use crate::numbers::write_number;
 use crate::verdicts::{write_rank, write_verdict};
 use goal_answers::NamedGoal;
-use heyvl_types::Typed;
+use heyvl_acts::Typed;
 use std::alloc::{AllocError, Global};
 
 /// Puts the line of a ranking behind the text.

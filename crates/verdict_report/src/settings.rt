@@ -6,7 +6,7 @@ ghost use Rattle.verdict_report.specs.Settings.{mark_text, more_settings_text, n
 
 use crate::numbers::{write_number, write_value};
 use heylo_formula::Val;
-use heyvl_syntax::Name;
+use heyvl_places::Name;
 use std::alloc::AllocError;
 
 /// Puts behind the text what tells a variable that was a binder from others of its name.

@@ -6,7 +6,7 @@ ghost use Rattle.verdict_report.specs.States.{is_telling, listed_text, state_set
 
 use crate::settings::write_settings;
 use heylo_formula::Val;
-use heyvl_syntax::Name;
+use heyvl_places::Name;
 use std::alloc::{AllocError, Global};
 
 /// Whether a binder's value is shown: whether it is neither 0 nor false.

@@ -1,8 +1,8 @@
 //! Verdicts in a report.
 
-ghost use Rattle.heyvl_types.specs.Acts.{procedure_at};
-ghost use Rattle.heyvl_types.specs.PlainActs.{procedures_of};
-ghost use Rattle.heyvl_types.specs.Rules.{MeetsAllRules};
+ghost use Rattle.heyvl_acts.specs.Acts.{procedure_at};
+ghost use Rattle.heyvl_acts.specs.PlainActs.{procedures_of};
+ghost use Rattle.heyvl_acts.specs.Rules.{MeetsAllRules};
 ghost use Rattle.std.specs.Prelude.{◌≡◌, ◌++◌, ◌<◌, ◌^◌, OnOk, length};
 ghost use Rattle.verdict_report.specs.Placed.{IsRankPlaced, IsReasonPlaced, IsVerdictPlaced};
 ghost use Rattle.verdict_report.specs.Verdicts.{about_text, condition_text, goal_text, invariant_text, miss_text, node_text, rank_text, reason_text, state_of_goal, verdict_text, way_text};
@@ -15,7 +15,7 @@ use crate::numbers::{write_number, write_place};
 use crate::states::write_state;
 use goal_answers::{Miss, NamedGoal};
 use heylo_formula::{GoalId, Val};
-use heyvl_types::Typed;
+use heyvl_acts::Typed;
 use proc_contracts::WhyNot;
 use std::alloc::{AllocError, Global};
 

@@ -11,8 +11,8 @@ use Rattle.heylo_formula.specs.Goals.{goal_of}
 use Rattle.heylo_formula.specs.declared.goals.GoalId.{GoalId}
 use Rattle.heylo_formula.specs.declared.goals.Made.{Made}
 use Rattle.heylo_formula.specs.declared.goals.Made.TheVariants as made
-use Rattle.heyvl_types.specs.Acts.{Acts, Head, TypedProcedure, procedure_at}
-use Rattle.heyvl_types.specs.Rules.{Each}
+use Rattle.heyvl_acts.specs.Acts.{Acts, Head, TypedProcedure, procedure_at}
+use Rattle.heyvl_acts.specs.Rules.{Each}
 use Rattle.loop_encodings.specs.BoundGoals.{bound_goals}
 use Rattle.ranking_rule.specs.RankingGoals as ranking
 use Rattle.ranking_rule.specs.Rankings.{RankedLoop}

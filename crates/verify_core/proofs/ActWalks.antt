@@ -3,13 +3,13 @@ use Rattle.std.proofs.Common.{◌≡◌, ℕ, Bool, true, false, cond, ◌<◌, 
 use Rattle.std.specs.Prelude.{Option, Some, Vec}
 use Rattle.std.specs.declared.alloc.Global.{Global}
 use Prim.Native.Nat.{suc}
-use Rattle.heyvl_syntax.specs.declared.spans.Span.{Span}
+use Rattle.heyvl_places.specs.declared.spans.Span.{Span}
 use Rattle.heylo_formula.specs.declared.forms.Cond as C
-use Rattle.heyvl_types.specs.Acts.{Act}
-use Rattle.heyvl_types.specs.PlainActs.{act_of, acts_of}
-use Rattle.heyvl_types.specs.Places.{in_order, inside}
-use Rattle.heyvl_types.specs.Rules.{Each}
-use Rattle.heyvl_types.specs.declared.acts.Act as A
+use Rattle.heyvl_acts.specs.Acts.{Act}
+use Rattle.heyvl_acts.specs.PlainActs.{act_of, acts_of}
+use Rattle.heyvl_acts.specs.Places.{in_order, inside}
+use Rattle.heyvl_acts.specs.Rules.{Each}
+use Rattle.heyvl_acts.specs.declared.acts.Act as A
 use Rattle.ranking_rule.proofs.exported.ActsInOrder as walked
 use Rattle.ranking_rule.proofs.exported.ActsInOrder.{acts_from, arms_from, of_pick}
 

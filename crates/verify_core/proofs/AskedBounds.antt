@@ -10,13 +10,13 @@ use Rattle.heylo_formula.specs.Formula.{Form}
 use Rattle.heylo_formula.specs.PlainTrees.{form_of}
 use Rattle.heylo_formula.specs.declared.goals.GoalId.{GoalId}
 use Rattle.heylo_formula.specs.declared.goals.GoalId.TheVariants.{Pre, Post, Invariant}
-use Rattle.heyvl_types.specs.Acts.{Act, TypedProcedure, acts_in, variables}
-use Rattle.heyvl_types.specs.PlainActs.{act_of, acts_of}
-use Rattle.heyvl_types.specs.Places.{in_order, inside}
-use Rattle.heyvl_types.specs.Rules.{Each, IsTypedAct, MeetsRules, counted, loop_numbers}
-use Rattle.heyvl_types.specs.declared.acts.Act as A
-use Rattle.heyvl_types.specs.declared.acts.LoopAct.{LoopAct}
-use Rattle.heyvl_types.proofs.exported.PlainActsAre.{loop_act}
+use Rattle.heyvl_acts.specs.Acts.{Act, TypedProcedure, acts_in, variables}
+use Rattle.heyvl_acts.specs.PlainActs.{act_of, acts_of}
+use Rattle.heyvl_acts.specs.Places.{in_order, inside}
+use Rattle.heyvl_acts.specs.Rules.{Each, IsTypedAct, MeetsRules, counted, loop_numbers}
+use Rattle.heyvl_acts.specs.declared.acts.Act as A
+use Rattle.heyvl_acts.specs.declared.acts.LoopAct.{LoopAct}
+use Rattle.heyvl_acts.proofs.exported.PlainActsAre.{loop_act}
 use Rattle.std.specs.declared.boxed.Box.{Box}
 use Rattle.loop_encodings.specs.BoundGoals.{invariant_in}
 use Rattle.verify_core.specs.PostBinders.{HasNamedBinders}

@@ -14,9 +14,9 @@ use Rattle.heylo_formula.specs.Variables.{IsOver}
 use Rattle.heylo_formula.specs.declared.goals.GoalId.{GoalId}
 use Rattle.heylo_formula.specs.declared.goals.GoalId.TheVariants.{Main, Pre, Post, Invariant, Ranking}
 use Rattle.heylo_formula.proofs.exported.Agreement.{same_types}
-use Rattle.heyvl_types.specs.Acts.{Act, TypedProcedure, Variable, acts_in, procedure_at, type_list, types_of, variables}
-use Rattle.heyvl_types.specs.Places.{in_order}
-use Rattle.heyvl_types.specs.Rules.{Each, IsTypedAct, MeetsRules}
+use Rattle.heyvl_acts.specs.Acts.{Act, TypedProcedure, Variable, acts_in, procedure_at, type_list, types_of, variables}
+use Rattle.heyvl_acts.specs.Places.{in_order}
+use Rattle.heyvl_acts.specs.Rules.{Each, IsTypedAct, MeetsRules}
 use Rattle.loop_encodings.specs.BoundGoals.{invariant_in}
 use Rattle.loop_encodings.specs.Encoding.{all_variables, encoding}
 use Rattle.loop_encodings.specs.EncodingLaws.{EncodingIsOver}

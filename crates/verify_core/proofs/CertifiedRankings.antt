@@ -4,8 +4,8 @@ use Rattle.std.proofs.Common.{◌≡◌, ℕ, ◌<◌, ap, subst, sym, ◌∙◌
 use Prim.Native.Nat.{zero, suc}
 use Rattle.farkas_check.specs.CertificateLaws.{CertifiedGoalsHold}
 use Rattle.goal_answers.specs.declared.trees.GoalCert.{GoalCert}
-use Rattle.heyvl_types.specs.Acts.{TypedProcedure, procedure_at}
-use Rattle.heyvl_types.specs.Rules.{Each, MeetsRules}
+use Rattle.heyvl_acts.specs.Acts.{TypedProcedure, procedure_at}
+use Rattle.heyvl_acts.specs.Rules.{Each, MeetsRules}
 use Rattle.loop_encodings.proofs.exported.FromRules.{each_at}
 use Rattle.ranking_rule.specs.Laws.{RankingGoalsAreGoals, RankingGoalsHold, RankingsBoundTurns}
 use Rattle.ranking_rule.specs.RankingGoals.{generated, goal}

@@ -3,8 +3,8 @@ use Rattle.std.proofs.Common.{◌≡◌, ℕ, ◌+◌, ◌<◌, Bool, true, fals
 use Prim.Native.Nat.{zero, suc}
 use Rattle.std.proofs.lemmas.List.{length-map}
 use Rattle.goal_answers.specs.declared.trees.GoalCert.{GoalCert}
-use Rattle.heyvl_types.specs.Acts.{TypedProcedure, procedure_at}
-use Rattle.heyvl_types.specs.Program.{IsProgram, why_no_program}
+use Rattle.heyvl_acts.specs.Acts.{TypedProcedure, procedure_at}
+use Rattle.heyvl_acts.specs.Program.{IsProgram, why_no_program}
 use Rattle.verdict_report.specs.declared.answers.Answer.{Answer}
 use Rattle.verdict_report.specs.declared.answers.Verdict.{Verdict}
 use Rattle.verdict_report.specs.declared.answers.Verdict.TheVariants as verdict

@@ -3,12 +3,12 @@ use Rattle.std.proofs.Common.{◌≡◌, ℕ, ◌+◌, ◌<◌, Bool, true, fals
 use Prim.Native.Nat.{zero, suc}
 use Rattle.std.specs.List.{AllZip}
 use Rattle.std.proofs.lemmas.List.{take_more}
-use Rattle.heyvl_syntax.specs.declared.spans.Span.{Span}
+use Rattle.heyvl_places.specs.declared.spans.Span.{Span}
 use Rattle.goal_answers.specs.declared.trees.GoalCert.{GoalCert}
 use Rattle.heylo_formula.specs.declared.goals.GoalId.{GoalId}
-use Rattle.heyvl_types.specs.Acts.{Acts, TypedProcedure, nobody, procedure_at}
-use Rattle.heyvl_types.specs.Program.{Reason, reason_of_break, why_no_program}
-use Rattle.heyvl_types.specs.Rules.{Each}
+use Rattle.heyvl_acts.specs.Acts.{Acts, TypedProcedure, nobody, procedure_at}
+use Rattle.heyvl_acts.specs.Program.{Reason, reason_of_break, why_no_program}
+use Rattle.heyvl_acts.specs.Rules.{Each}
 use Rattle.loop_encodings.specs.BoundGoals.{bound_goals}
 use Rattle.proc_contracts.specs.Reasons.{plain}
 use Rattle.proc_contracts.specs.declared.reasons.WhyNot.{WhyNot}

@@ -4,9 +4,9 @@ use Rattle.heylo_formula.specs.Sizes.{nodes}
 use Rattle.heylo_formula.specs.declared.goals.GoalId.{GoalId}
 use Rattle.heylo_formula.specs.declared.goals.GoalId.TheVariants.{Main, Pre, Post, Invariant, Ranking}
 use Rattle.heylo_formula.specs.declared.goals.Made.{Made}
-use Rattle.heyvl_types.specs.Acts.{TypedProcedure, procedure_at}
-use Rattle.heyvl_types.specs.ResolvedSizes.{FormsWithin}
-use Rattle.heyvl_types.specs.Rules.{Each, MeetsRules}
+use Rattle.heyvl_acts.specs.Acts.{TypedProcedure, procedure_at}
+use Rattle.heyvl_acts.specs.FormSizes.{FormsWithin}
+use Rattle.heyvl_acts.specs.Rules.{Each, MeetsRules}
 use Rattle.loop_encodings.specs.EncodingLaws.{EncodingIsOver}
 use Rattle.ranking_rule.specs.Laws.{RankingGoalsAreFew, RankingGoalsAreGoals}
 use Rattle.ranking_rule.specs.RankingGoals as ranking

@@ -5,7 +5,7 @@ use Rattle.heylo_formula.specs.Variables.{occurs}
 use Rattle.heylo_formula.specs.declared.goals.GoalId.TheVariants.{Main}
 use Rattle.heylo_formula.specs.declared.goals.Made.{Made}
 use Rattle.heylo_formula.specs.declared.goals.Made.TheVariants as made
-use Rattle.heyvl_types.specs.Acts.{procedure_at}
+use Rattle.heyvl_acts.specs.Acts.{procedure_at}
 use Rattle.loop_encodings.specs.FreshLaws.{MainGoalsCountFreshVariables, MainGoalsLackFreshVariables}
 use Rattle.verify_core.specs.FreshVariables.{Lacks, MadeGoalsCountFreshVariables, MadeGoalsLackFreshVariables, OwnsSoMany}
 use Rattle.verify_core.specs.Questions.{IsMadeOf, Question, goal, question}

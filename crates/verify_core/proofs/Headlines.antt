@@ -18,16 +18,17 @@ use Rattle.heylo_formula.specs.declared.goals.GoalId.TheVariants.{Main}
 use Rattle.heylo_formula.specs.declared.types.Ty.{Ty}
 use Rattle.heylo_formula.specs.declared.values.Val.{Val}
 use Rattle.heylo_formula.specs.declared.values.Val.TheVariants.{Truth}
-use Rattle.heyvl_types.specs.Acts.{Act, Acts, Arms, TypedProcedure, Variable, acts_in, join, procedure_at, type_list, variables}
-use Rattle.heyvl_types.specs.Forward.{forward}
-use Rattle.heyvl_types.specs.Places.{in_order, inside, inside_arms}
-use Rattle.heyvl_types.specs.Program.{IsProgram}
-use Rattle.heyvl_types.specs.Rules.{Each, MeetsRules}
+use Rattle.heyvl_acts.specs.Acts.{Act, Acts, Arms, TypedProcedure, Variable, acts_in, join, procedure_at, type_list, variables}
+use Rattle.heyvl_acts.specs.Forward.{forward}
+use Rattle.heyvl_acts.specs.Places.{in_order, inside, inside_arms}
+use Rattle.heyvl_acts.specs.Program.{IsProgram}
+use Rattle.heyvl_acts.specs.Rules.{Each, MeetsRules}
 use Rattle.loop_encodings.specs.BoundGoals.{GoalHolds, bound_goals}
 use Rattle.loop_encodings.specs.Encoding.{all_variables, encoded, encoded_act, encoded_arms, encoding}
 use Rattle.loop_encodings.specs.EncodingLaws.{EncodingIsOver}
 use Rattle.loop_encodings.specs.Fresh.{fresh, fresh_of_act, fresh_of_arms}
-use Rattle.loop_encodings.specs.Law.{BrokenGoalsBreakBounds, IsShown, IsStraight, ShownBoundsHold}
+use Rattle.loop_encodings.specs.Law.{BrokenGoalsBreakBounds, IsShown, ShownBoundsHold}
+use Rattle.heyvl_acts.specs.Straight.{IsStraight}
 use Rattle.region_split.specs.Meanings.{Fails}
 use Rattle.goal_answers.specs.declared.decisions.Decision.{Decision}
 use Rattle.goal_answers.specs.declared.decisions.Decision.TheVariants.{Proved, Falsified, Unknown}

@@ -7,12 +7,12 @@ use Rattle.std.proofs.lemmas.List.{map-append}
 use Rattle.heylo_formula.specs.PlainTrees.{form_of}
 use Rattle.heylo_formula.specs.declared.goals.GoalId.{GoalId}
 use Rattle.heylo_formula.specs.declared.goals.GoalId.TheVariants.{Main, Pre, Post, Invariant}
-use Rattle.heyvl_types.specs.Acts.{Acts, TypedProcedure, acts_in, procedure_at}
-use Rattle.heyvl_types.specs.PlainActs.{body_of, procedure_of}
-use Rattle.heyvl_types.specs.Places.{in_order}
-use Rattle.heyvl_types.specs.Rules.{loop_numbers}
-use Rattle.heyvl_types.specs.declared.acts.Act as A
-use Rattle.heyvl_types.specs.declared.typed.TProc.{TProc}
+use Rattle.heyvl_acts.specs.Acts.{Acts, TypedProcedure, acts_in, procedure_at}
+use Rattle.heyvl_acts.specs.PlainActs.{body_of, procedure_of}
+use Rattle.heyvl_acts.specs.Places.{in_order}
+use Rattle.heyvl_acts.specs.Rules.{loop_numbers}
+use Rattle.heyvl_acts.specs.declared.acts.Act as A
+use Rattle.heyvl_acts.specs.declared.typed.TProc.{TProc}
 use Rattle.loop_encodings.specs.BoundGoals.{bound_goals}
 use Rattle.goal_answers.specs.declared.named_goals.NamedGoal.{NamedGoal}
 use Rattle.verify_core.specs.Questions.{AreGoals, IsGoalOf, IsMadeOf, one_bound, question}

@@ -3,7 +3,7 @@ use Rattle.std.proofs.Common.{◌≡◌, ◌≤◌, ℕ, sym, ◌∙◌, subst, 
 use Rattle.std.proofs.lemmas.Bool.{false≢true}
 use Rattle.std.specs.Prelude.{Some, Vec}
 use Rattle.std.specs.declared.alloc.Global.{Global}
-use Rattle.heyvl_syntax.specs.declared.spans.Span.{Span}
+use Rattle.heyvl_places.specs.declared.spans.Span.{Span}
 use Rattle.farkas_check.specs.Accepted.{IsCertificate}
 use Rattle.farkas_check.specs.CertificateLaws.{CertifiedGoalsHold}
 use Rattle.goal_answers.specs.Trees.{Tree}

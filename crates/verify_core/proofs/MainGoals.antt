@@ -8,13 +8,13 @@ use Rattle.heylo_formula.specs.Typing.{types_in}
 use Rattle.heylo_formula.specs.declared.forms.Form as F
 use Rattle.heylo_formula.specs.declared.goals.GoalId.TheVariants.{Main}
 use Rattle.heylo_formula.specs.declared.goals.Made.{Made}
-use Rattle.heyvl_types.specs.Acts.{TypedProcedure, Variable, acts_in, procedure_at, type_list, variables}
-use Rattle.heyvl_types.specs.PlainActs.{acts_of, procedure_of, procedures_of, variable_of}
-use Rattle.heyvl_types.specs.Rules.{Each, MeetsAllRules, MeetsRules}
-use Rattle.heyvl_types.specs.declared.acts.Act as A
-use Rattle.heyvl_types.specs.declared.typed.TProc.{TProc}
-use Rattle.heyvl_types.specs.declared.typed.Typed.{Typed}
-use Rattle.heyvl_types.specs.declared.typed.VarInfo.{VarInfo}
+use Rattle.heyvl_acts.specs.Acts.{TypedProcedure, Variable, acts_in, procedure_at, type_list, variables}
+use Rattle.heyvl_acts.specs.PlainActs.{acts_of, procedure_of, procedures_of, variable_of}
+use Rattle.heyvl_acts.specs.Rules.{Each, MeetsAllRules, MeetsRules}
+use Rattle.heyvl_acts.specs.declared.acts.Act as A
+use Rattle.heyvl_acts.specs.declared.typed.TProc.{TProc}
+use Rattle.heyvl_acts.specs.declared.typed.Typed.{Typed}
+use Rattle.heyvl_acts.specs.declared.typed.VarInfo.{VarInfo}
 use Rattle.loop_encodings.specs.Encoding.{all_variables, encoding}
 use Rattle.loop_encodings.specs.EncodingLaws.{EncodingBindsItsVariables}
 use Rattle.loop_encodings.specs.Fresh.{fresh}

@@ -2,7 +2,7 @@
 use Rattle.std.proofs.Common.{ℕ, ap, ◌∙◌, List, [], ◌∷◌}
 use Rattle.cert_text.specs.Certificates.{loop_of}
 use Rattle.goal_answers.specs.declared.trees.GoalCert.{GoalCert}
-use Rattle.heyvl_types.specs.Acts.{TypedProcedure, procedure_at}
+use Rattle.heyvl_acts.specs.Acts.{TypedProcedure, procedure_at}
 use Rattle.verdict_report.specs.declared.answers.LoopAnswer.{LoopAnswer}
 use Rattle.goal_answers.specs.declared.named_goals.NamedGoal.{NamedGoal}
 use Rattle.verify_core.specs.Checked.{CheckedGoal}

@@ -4,14 +4,14 @@ use Rattle.std.proofs.lemmas.Bool.{cases_eq, false≢true, ne_eqb, or_cases}
 use Rattle.std.specs.List.{AllZip}
 use Rattle.std.specs.Prelude.{Option, Some, None, if◌then◌else◌}
 use Prim.Native.Nat.{zero, suc}
-use Rattle.heyvl_syntax.specs.declared.spans.Span.{Span}
+use Rattle.heyvl_places.specs.declared.spans.Span.{Span}
 use Rattle.heylo_formula.specs.Binders.{has_binder}
 use Rattle.heylo_formula.specs.declared.goals.GoalId.{GoalId}
-use Rattle.heyvl_types.specs.Acts.{Act, Acts, TypedProcedure, acts_in, procedure_at}
-use Rattle.heyvl_types.specs.Places.{in_order}
-use Rattle.heyvl_types.specs.Program.{Reaches, Reason, calls, first_break, reason_of_break, why_no_program}
-use Rattle.heyvl_types.specs.Program.Reaches.{directly, onward}
-use Rattle.heyvl_types.specs.Rules.{Each, IsTypedAct, MeetsRules}
+use Rattle.heyvl_acts.specs.Acts.{Act, Acts, TypedProcedure, acts_in, procedure_at}
+use Rattle.heyvl_acts.specs.Places.{in_order}
+use Rattle.heyvl_acts.specs.Program.{Reaches, Reason, calls, first_break, reason_of_break, why_no_program}
+use Rattle.heyvl_acts.specs.Program.Reaches.{directly, onward}
+use Rattle.heyvl_acts.specs.Rules.{Each, IsTypedAct, MeetsRules}
 use Rattle.goal_answers.specs.declared.causes.Cause.{Cause}
 use Rattle.loop_encodings.specs.BoundGoals.{bound_goals}
 use Rattle.proc_contracts.specs.Reasons.{plain}

@@ -2,8 +2,8 @@
 use Rattle.std.proofs.Common.{◌≡◌, ℕ, ◌<◌, Bool, true, false, sym, subst, List, [], ◌∷◌, length, Option}
 use Prim.Native.Nat.{suc}
 use Rattle.goal_answers.specs.declared.trees.GoalCert.{GoalCert}
-use Rattle.heyvl_types.specs.Acts.{TypedProcedure, procedure_at}
-use Rattle.heyvl_types.specs.Rules.{Each}
+use Rattle.heyvl_acts.specs.Acts.{TypedProcedure, procedure_at}
+use Rattle.heyvl_acts.specs.Rules.{Each}
 use Rattle.verdict_report.specs.Placed.{IsAnswerPlaced, IsLoopPlaced, IsRankPlaced, IsVerdictPlaced}
 use Rattle.verdict_report.specs.declared.answers.Answer.{Answer}
 use Rattle.verdict_report.specs.declared.answers.LoopAnswer.{LoopAnswer}

@@ -6,10 +6,10 @@ use Rattle.std.proofs.lemmas.Bool.{cases_eq, eq-eqb, ne_eqb, or_cases, false≢t
 use Rattle.std.specs.Prelude.{Option, Some, None, is_some, if◌then◌else◌}
 use mathlib.Core.Logic.◌⊎◌.{inl, inr}
 use Prim.Native.Nat.{zero, suc}
-use Rattle.heyvl_types.specs.Acts.{TypedProcedure, procedure_at}
-use Rattle.heyvl_types.specs.Program.{Reaches, Reason, why_no_program}
-use Rattle.heyvl_types.specs.Rules.{GrowBelow}
-use Rattle.heyvl_types.specs.Visible.{among}
+use Rattle.heyvl_acts.specs.Acts.{TypedProcedure, procedure_at}
+use Rattle.heyvl_acts.specs.Program.{Reaches, Reason, why_no_program}
+use Rattle.heyvl_acts.specs.Rules.{GrowBelow}
+use Rattle.heyvl_acts.specs.Visible.{among}
 use Rattle.proc_contracts.specs.Reached.{AreReached}
 use Rattle.verify_core.specs.Answered.{IsClosed, IsFirstOpen}
 use Rattle.verify_core.specs.Decided.{DecidedGoal, IsOpen, all_proved}

@@ -3,8 +3,8 @@ use Rattle.std.proofs.Common.{◌≡◌, ℕ, ◌<◌, sym, subst, arith, true, 
 use Rattle.std.specs.List.{Contains}
 use Prim.Native.Nat.{zero, suc}
 use Rattle.heylo_formula.specs.Goals.{Holds}
-use Rattle.heyvl_types.specs.Acts.{TypedProcedure, procedure_at}
-use Rattle.heyvl_types.specs.Rules.{Each, MeetsRules}
+use Rattle.heyvl_acts.specs.Acts.{TypedProcedure, procedure_at}
+use Rattle.heyvl_acts.specs.Rules.{Each, MeetsRules}
 use Rattle.loop_encodings.proofs.exported.FromRules.{each_at}
 use Rattle.ranking_rule.specs.Laws.{RankingGoalsHold, RankingsBoundTurns}
 use Rattle.ranking_rule.specs.RankingGoals.{generated, goal}

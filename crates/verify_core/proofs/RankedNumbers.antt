@@ -7,13 +7,13 @@ use Rattle.std.specs.declared.boxed.Box.{Box}
 use Prim.Native.Nat.{zero, suc}
 use Rattle.heyvl_num.specs.Rational.{Rational}
 use Rattle.heylo_formula.specs.Formula.{Form}
-use Rattle.heyvl_types.specs.Acts.{Act, Acts, Head, TypedProcedure, acts_in}
-use Rattle.heyvl_types.specs.PlainActs.{act_of, acts_of}
-use Rattle.heyvl_types.specs.Places.{in_order, inside}
-use Rattle.heyvl_types.specs.Rules.{Each, MeetsRules, counted, loop_numbers}
-use Rattle.heyvl_types.specs.declared.acts.Act as A
-use Rattle.heyvl_types.specs.declared.acts.LoopAct.{LoopAct}
-use Rattle.heyvl_types.proofs.exported.PlainActsAre.{head_of, loop_act}
+use Rattle.heyvl_acts.specs.Acts.{Act, Acts, Head, TypedProcedure, acts_in}
+use Rattle.heyvl_acts.specs.PlainActs.{act_of, acts_of}
+use Rattle.heyvl_acts.specs.Places.{in_order, inside}
+use Rattle.heyvl_acts.specs.Rules.{Each, MeetsRules, counted, loop_numbers}
+use Rattle.heyvl_acts.specs.declared.acts.Act as A
+use Rattle.heyvl_acts.specs.declared.acts.LoopAct.{LoopAct}
+use Rattle.heyvl_acts.proofs.exported.PlainActsAre.{head_of, loop_act}
 use Rattle.ranking_rule.specs.Rankings.{RankedLoop, loop_in}
 use Rattle.goal_answers.specs.declared.named_goals.NamedGoal.{NamedGoal}
 use Rattle.verify_core.specs.Rankings.{AreRankingGoals, IsRankingGoal, ranked_in, ranked_loops}

@@ -9,8 +9,8 @@ use Rattle.heylo_formula.specs.declared.goals.GoalId.{GoalId}
 use Rattle.heylo_formula.specs.declared.goals.GoalId.TheVariants.{Main, Ranking}
 use Rattle.heylo_formula.specs.declared.goals.Made.{Made}
 use Rattle.heylo_formula.specs.declared.goals.Made.TheVariants as made
-use Rattle.heyvl_syntax.specs.declared.spans.Span.{Span}
-use Rattle.heyvl_types.specs.Acts.{Act, Acts, Arms, Head, TypedProcedure, nobody}
+use Rattle.heyvl_places.specs.declared.spans.Span.{Span}
+use Rattle.heyvl_acts.specs.Acts.{Act, Acts, Arms, Head, TypedProcedure, nobody}
 use Rattle.goal_answers.specs.declared.causes.Cause.TheVariants as cause
 use Rattle.ranking_rule.specs.RankingGoals as ranking
 use Rattle.ranking_rule.specs.Rankings.{RankedLoop}

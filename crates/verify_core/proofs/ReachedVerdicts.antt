@@ -3,9 +3,9 @@ use Rattle.std.proofs.Common.{◌≡◌, ℕ, ◌+◌, ◌<◌, Bool, true, fals
 use Rattle.std.specs.Prelude.{Some, None}
 use Prim.Native.Nat.{suc}
 use Rattle.goal_answers.specs.declared.trees.GoalCert.{GoalCert}
-use Rattle.heyvl_types.specs.Acts.{TypedProcedure}
-use Rattle.heyvl_types.specs.Program.{Reaches}
-use Rattle.heyvl_types.specs.Visible.{among}
+use Rattle.heyvl_acts.specs.Acts.{TypedProcedure}
+use Rattle.heyvl_acts.specs.Program.{Reaches}
+use Rattle.heyvl_acts.specs.Visible.{among}
 use Rattle.proc_contracts.specs.Reached.{AreReached}
 use Rattle.verdict_report.specs.declared.answers.Answer.{Answer}
 use Rattle.verdict_report.specs.declared.answers.Verdict.{Verdict}

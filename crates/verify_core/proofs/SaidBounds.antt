@@ -12,11 +12,11 @@ use Rattle.heylo_formula.specs.Typing.{types_in}
 use Rattle.heylo_formula.specs.declared.goals.GoalId.{GoalId}
 use Rattle.heylo_formula.specs.declared.goals.GoalId.TheVariants.{Main, Pre, Post, Invariant, Ranking}
 use Rattle.heylo_formula.specs.declared.values.Val.{Val}
-use Rattle.heyvl_types.specs.Acts.{TypedProcedure, acts_in, procedure_at, type_list, variables}
-use Rattle.heyvl_types.specs.Forward.{forward}
-use Rattle.heyvl_types.specs.Places.{in_order}
-use Rattle.heyvl_types.specs.Rules.{Each, MeetsRules}
-use Rattle.heyvl_types.specs.WellTyped.{ActsFit}
+use Rattle.heyvl_acts.specs.Acts.{TypedProcedure, acts_in, procedure_at, type_list, variables}
+use Rattle.heyvl_acts.specs.Forward.{forward}
+use Rattle.heyvl_acts.specs.Places.{in_order}
+use Rattle.heyvl_acts.specs.Rules.{Each, MeetsRules}
+use Rattle.heyvl_acts.specs.WellTyped.{ActsFit}
 use Rattle.loop_encodings.specs.BoundGoals.{GoalHolds, IsAtMostOne, IsBounded, invariant_in}
 use Rattle.loop_encodings.specs.Encoding.{all_variables, encoding}
 use Rattle.loop_encodings.specs.EncodingLaws.{EncodingIsOver}

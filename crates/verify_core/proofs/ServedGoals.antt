@@ -14,9 +14,9 @@ use Rattle.heylo_formula.specs.declared.goals.GoalId.{GoalId}
 use Rattle.heylo_formula.specs.declared.goals.GoalId.TheVariants.{Main, Pre, Post, Invariant, Ranking}
 use Rattle.heylo_formula.specs.declared.goals.Made.{Made}
 use Rattle.heylo_formula.specs.declared.goals.Made.TheVariants as made
-use Rattle.heyvl_types.specs.Acts.{Act, Acts, TypedProcedure, acts_in}
-use Rattle.heyvl_types.specs.Places.{in_order}
-use Rattle.heyvl_types.specs.Rules.{Each, MeetsRules, counted, loop_numbers}
+use Rattle.heyvl_acts.specs.Acts.{Act, Acts, TypedProcedure, acts_in}
+use Rattle.heyvl_acts.specs.Places.{in_order}
+use Rattle.heyvl_acts.specs.Rules.{Each, MeetsRules, counted, loop_numbers}
 use Rattle.loop_encodings.specs.BoundGoals.{bound_goals}
 use Rattle.region_split.specs.DecisionLaws.{TreesCertify}
 use Rattle.goal_answers.specs.declared.decisions.Decision.{Decision}

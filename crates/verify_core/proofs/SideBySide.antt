@@ -2,8 +2,8 @@
 use Rattle.std.proofs.Common.{◌≡◌, ◌<◌, ◌+◌, ℕ, refl, ap, subst, arith, List, [], ◌∷◌, ◌++◌, length, get_or}
 use Rattle.std.specs.List.{AllZip}
 use Prim.Native.Nat.{zero, suc}
-use Rattle.heyvl_types.specs.Acts.{TypedProcedure, procedure_at}
-use Rattle.heyvl_types.specs.Rules.{Each}
+use Rattle.heyvl_acts.specs.Acts.{TypedProcedure, procedure_at}
+use Rattle.heyvl_acts.specs.Rules.{Each}
 use Rattle.verify_core.specs.Numbered.{AllNumbered, row_at}
 
 -- ---- Each pair

@@ -4,17 +4,17 @@ use Rattle.std.specs.Prelude.{Option, Some, None, if◌then◌else◌}
 use Rattle.std.specs.Option.{option_or}
 use Prim.Native.Nat.{zero, suc}
 use Rattle.heyvl_num.specs.Rational.{Rational}
-use Rattle.heyvl_syntax.specs.declared.spans.Span.{Span}
-use Rattle.heyvl_syntax.specs.declared.statements.CheckKind.{CheckKind}
+use Rattle.heyvl_places.specs.declared.spans.Span.{Span}
+use Rattle.heyvl_places.specs.declared.checks.CheckKind.{CheckKind}
 use Rattle.heylo_formula.specs.BinderNames.{binders, binders_in}
 use Rattle.heylo_formula.specs.Formula.{Form, Cond, Term}
 use Rattle.heylo_formula.specs.Shifted.{shifted, shifted_in}
 use Rattle.heylo_formula.specs.Substitution.{as_cond, as_form, fresh, renamed, renamed_in, subst, subst_within, subst_within_in}
 use Rattle.heylo_formula.specs.Variables.{is_free, occurs_in_term}
 use Rattle.heylo_formula.specs.Sizes.{nodes}
-use Rattle.heyvl_types.specs.Acts.{Act, Acts, Arms}
-use Rattle.heyvl_types.specs.Places.{in_order, inside, inside_arms}
-use Rattle.heyvl_types.specs.Rules.{Each}
+use Rattle.heyvl_acts.specs.Acts.{Act, Acts, Arms}
+use Rattle.heyvl_acts.specs.Places.{in_order, inside, inside_arms}
+use Rattle.heyvl_acts.specs.Rules.{Each}
 use Rattle.linear_form.specs.Nonlinear.{first_product, first_product_in, has_variable, product_at}
 use Rattle.verify_core.specs.Places.{ActStands, CondStands, FormStands, GuardsStand, TermStands}
 use Rattle.loop_encodings.proofs.exported.FromRules.{each_first, each_second}

@@ -2,16 +2,16 @@
 use Rattle.std.proofs.Common.{◌≡◌, ◌≤◌, ℕ, subst, List, ◌++◌, length}
 use Rattle.std.specs.Prelude.{Option, Some}
 use Rattle.heyvl_num.specs.Rational.{Rational}
-use Rattle.heyvl_syntax.specs.declared.spans.Span.{Span}
+use Rattle.heyvl_places.specs.declared.spans.Span.{Span}
 use Rattle.heylo_formula.specs.Formula.{Form}
-use Rattle.heyvl_types.specs.Acts.{Act, Acts, Arms, TypedProcedure, procedure_at, type_list, variables}
-use Rattle.heyvl_types.specs.Places.{in_order, inside, inside_arms}
-use Rattle.heyvl_types.specs.Rules.{Each}
+use Rattle.heyvl_acts.specs.Acts.{Act, Acts, Arms, TypedProcedure, procedure_at, type_list, variables}
+use Rattle.heyvl_acts.specs.Places.{in_order, inside, inside_arms}
+use Rattle.heyvl_acts.specs.Rules.{Each}
 use Rattle.linear_form.specs.Nonlinear.{first_product, nonlinear_product}
 use Rattle.loop_encodings.proofs.exported.FromRules.{each_first, each_second}
 use Rattle.ranking_rule.specs.RankingGoals.{found, goal}
 use Rattle.ranking_rule.specs.Rankings.{RankedLoop}
-use Rattle.ranking_rule.specs.Upward.{upward, upward_arms, upward_next}
+use Rattle.heyvl_acts.specs.Upward.{upward, upward_arms, upward_next}
 use Rattle.verify_core.specs.Places.{ActStands, FormStands, GuardsStand, RankStands, StandsWithin}
 use Rattle.ranking_rule.proofs.exported.Each.{each_append}
 use Rattle.ranking_rule.proofs.exported.RankedActs.{of_body, of_head}

@@ -1,7 +1,7 @@
 -- What is answered of the procedures of a file, from the decisions of their goals. This project's own.
 use Rattle.std.specs.Prelude.{◌≡◌, ◌<◌, ℕ, true, List, Some, None}
-use Rattle.heyvl_types.specs.Acts.{TypedProcedure, procedure_at}
-use Rattle.heyvl_types.specs.Program.{IsProgram, Reaches, why_no_program}
+use Rattle.heyvl_acts.specs.Acts.{TypedProcedure, procedure_at}
+use Rattle.heyvl_acts.specs.Program.{IsProgram, Reaches, why_no_program}
 use Rattle.proc_contracts.specs.Reasons.{plain}
 use Rattle.goal_answers.specs.declared.trees.GoalCert.{GoalCert}
 use Rattle.verdict_report.specs.declared.answers.Answer.{Answer}

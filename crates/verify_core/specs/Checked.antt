@@ -8,8 +8,8 @@ use Rattle.heylo_formula.specs.Goals.{goal_of}
 use Rattle.heylo_formula.specs.declared.goals.GoalId.{GoalId}
 use Rattle.heylo_formula.specs.declared.goals.Made.{Made}
 use Rattle.heylo_formula.specs.declared.goals.Made.TheVariants as made
-use Rattle.heyvl_types.specs.Acts.{TypedProcedure, procedure_at}
-use Rattle.heyvl_types.specs.Program.{IsProgram}
+use Rattle.heyvl_acts.specs.Acts.{TypedProcedure, procedure_at}
+use Rattle.heyvl_acts.specs.Program.{IsProgram}
 use Rattle.loop_encodings.specs.BoundGoals.{bound_goals}
 use Rattle.goal_answers.specs.declared.misses.Miss.{Miss}
 use Rattle.goal_answers.specs.declared.misses.Miss.TheVariants.{Absent, Place}

@@ -4,8 +4,8 @@ use Rattle.std.specs.Prelude.{◌≡◌, List, None, Some}
 use Rattle.cert_text.specs.Certificates.{IsGrowingAfter, certificates_of}
 use Rattle.goal_answers.specs.declared.trees.GoalCert.{GoalCert}
 use Rattle.goal_answers.specs.declared.trees.Tree.{Tree}
-use Rattle.heyvl_types.specs.Acts.{TypedProcedure}
-use Rattle.heyvl_types.specs.Rules.{Each, MeetsRules}
+use Rattle.heyvl_acts.specs.Acts.{TypedProcedure}
+use Rattle.heyvl_acts.specs.Rules.{Each, MeetsRules}
 use Rattle.goal_answers.specs.declared.decisions.Decision.TheVariants.{Proved}
 use Rattle.verify_core.specs.Checked.{CheckedGoal, IsCheckedTable, IsGoalAccepted}
 use Rattle.verify_core.specs.CheckedRankings.{IsCheckedRankTable}

@@ -2,7 +2,7 @@
 use Rattle.std.specs.List.{AllZip}
 use Rattle.std.specs.Prelude.{◌≡◌, ℕ, List, [], ◌∷◌, ◌++◌, if◌then◌else◌, true}
 use Rattle.goal_answers.specs.declared.trees.GoalCert.{GoalCert}
-use Rattle.heyvl_types.specs.Acts.{TypedProcedure}
+use Rattle.heyvl_acts.specs.Acts.{TypedProcedure}
 use Rattle.verdict_report.specs.declared.answers.LoopAnswer.{LoopAnswer}
 use Rattle.goal_answers.specs.declared.named_goals.NamedGoal.{NamedGoal}
 use Rattle.verdict_report.specs.declared.answers.RankVerdict.{RankVerdict}

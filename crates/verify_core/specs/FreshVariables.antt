@@ -5,8 +5,8 @@ use Rattle.heylo_formula.specs.Variables.{occurs}
 use Rattle.heylo_formula.specs.declared.goals.GoalId.TheVariants.{Main}
 use Rattle.heylo_formula.specs.declared.goals.Made.{Made}
 use Rattle.heylo_formula.specs.declared.goals.Made.TheVariants as made
-use Rattle.heyvl_types.specs.Acts.{TypedProcedure, acts_in, procedure_at, variables}
-use Rattle.heyvl_types.specs.Rules.{Each, MeetsRules}
+use Rattle.heyvl_acts.specs.Acts.{TypedProcedure, acts_in, procedure_at, variables}
+use Rattle.heyvl_acts.specs.Rules.{Each, MeetsRules}
 use Rattle.loop_encodings.specs.Fresh.{fresh}
 use Rattle.loop_encodings.specs.FreshLaws.{IsFreshNumber}
 use Rattle.goal_answers.specs.declared.named_goals.NamedGoal.{NamedGoal}

@@ -3,12 +3,13 @@ use Rattle.std.specs.Prelude.{◌≡◌, ◌≤◌, ℕ, List, ◌∷◌, ◌++�
 use Rattle.std.specs.declared.alloc.Global.{Global}
 use Rattle.heylo_formula.specs.declared.goals.GoalId.TheVariants.{Main}
 use Rattle.heylo_formula.specs.declared.values.Val.{Val}
-use Rattle.heyvl_types.specs.Acts.{TypedProcedure, variables, acts_in, procedure_at}
-use Rattle.heyvl_types.specs.Length.{length_of}
-use Rattle.heyvl_types.specs.Places.{in_order}
-use Rattle.heyvl_types.specs.Program.{IsProgram}
-use Rattle.heyvl_types.specs.Rules.{Each}
-use Rattle.loop_encodings.specs.Law.{IsStraight, IsBroken}
+use Rattle.heyvl_acts.specs.Acts.{TypedProcedure, variables, acts_in, procedure_at}
+use Rattle.heyvl_acts.specs.Length.{length_of}
+use Rattle.heyvl_acts.specs.Places.{in_order}
+use Rattle.heyvl_acts.specs.Program.{IsProgram}
+use Rattle.heyvl_acts.specs.Rules.{Each}
+use Rattle.loop_encodings.specs.Law.{IsBroken}
+use Rattle.heyvl_acts.specs.Straight.{IsStraight}
 use Rattle.ranking_rule.specs.Rankings.{RankedLoop}
 use Rattle.run_machine.specs.Bound.{Bound, IsState, RankedBy}
 use Rattle.std.specs.List.{Contains}

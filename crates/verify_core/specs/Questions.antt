@@ -7,8 +7,8 @@ use Rattle.heylo_formula.specs.Goals.{Goal}
 use Rattle.heylo_formula.specs.declared.goals.GoalId.{GoalId}
 use Rattle.heylo_formula.specs.declared.goals.GoalId.TheVariants.{Main, Pre, Post, Invariant, Ranking}
 use Rattle.heylo_formula.specs.declared.goals.Made.{Made}
-use Rattle.heyvl_types.specs.Acts.{TypedProcedure, Variable, variables, acts_in, procedure_at}
-use Rattle.heyvl_types.specs.Places.{in_order}
+use Rattle.heyvl_acts.specs.Acts.{TypedProcedure, Variable, variables, acts_in, procedure_at}
+use Rattle.heyvl_acts.specs.Places.{in_order}
 use Rattle.loop_encodings.specs.BoundGoals.{invariant_in}
 use Rattle.loop_encodings.specs.Encoding.{all_variables, encoding}
 use Rattle.ranking_rule.specs.MadeGoals.{IsMadeWithin, goal_over}

@@ -3,8 +3,8 @@ use Rattle.std.specs.Prelude.{◌≡◌, ℕ, List, [], ◌∷◌, ◌++◌, if�
 use Rattle.std.specs.List.{AllZip}
 use Rattle.std.specs.Option.{is_some}
 use Rattle.heylo_formula.specs.declared.goals.GoalId.TheVariants.{Ranking}
-use Rattle.heyvl_types.specs.Acts.{Act, TypedProcedure, acts_in, procedure_at}
-use Rattle.heyvl_types.specs.Places.{in_order}
+use Rattle.heyvl_acts.specs.Acts.{Act, TypedProcedure, acts_in, procedure_at}
+use Rattle.heyvl_acts.specs.Places.{in_order}
 use Rattle.loop_encodings.specs.BoundGoals.{bound_goals}
 use Rattle.ranking_rule.specs.RankingGoals.{IsMadeOf}
 use Rattle.ranking_rule.specs.Rankings.{RankedLoop}

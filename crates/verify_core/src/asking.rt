@@ -1,13 +1,13 @@
 //! The formulas of a weak proc that are to be at most 1.
 
-ghost use Rattle.heyvl_types.specs.Acts.{acts_in};
-ghost use Rattle.heyvl_types.specs.Places.{in_order, inside};
-ghost use Rattle.heyvl_types.specs.PlainActs.{act_of, acts_of, procedure_of};
+ghost use Rattle.heyvl_acts.specs.Acts.{acts_in};
+ghost use Rattle.heyvl_acts.specs.Places.{in_order, inside};
+ghost use Rattle.heyvl_acts.specs.PlainActs.{act_of, acts_of, procedure_of};
 ghost use Rattle.std.specs.Prelude.{IfOk, OnOk, map, ◌++◌, ◌≡◌, ◌∷◌};
 ghost use Rattle.verify_core.specs.internal.Asked.{asked, asked_invariants, plain};
 
 use heylo_formula::{Form, GoalId};
-use heyvl_types::{Act, TProc};
+use heyvl_acts::{Act, TProc};
 use std::alloc::{AllocError, Global};
 
 /// A goal, and the formula of which it asks whether it is at most 1.

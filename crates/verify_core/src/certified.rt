@@ -1,8 +1,8 @@
 //! The answers of a file by certificates of its goals.
 
 ghost use Rattle.cert_text.specs.Certificates.{IsGrowingAfter, certificates_of};
-ghost use Rattle.heyvl_types.specs.PlainActs.{procedures_of};
-ghost use Rattle.heyvl_types.specs.Rules.{Each, MeetsAllRules};
+ghost use Rattle.heyvl_acts.specs.PlainActs.{procedures_of};
+ghost use Rattle.heyvl_acts.specs.Rules.{Each, MeetsAllRules};
 ghost use Rattle.std.specs.Prelude.{IfOk, None, [], length, ◌≡◌, ℕ};
 ghost use Rattle.verdict_report.specs.Placed.{IsAnswerPlaced};
 ghost use Rattle.verify_core.specs.CheckedAnswers.{IsCheckedFile};
@@ -16,7 +16,7 @@ use crate::reaching::answers;
 use crate::whole::Whole;
 use farkas_check::certified_goals_hold;
 use goal_answers::GoalCert;
-use heyvl_types::Typed;
+use heyvl_acts::Typed;
 use loop_encodings::{encodings_are_over_their_variables, shown_bounds_hold};
 use ranking_rule::{ranking_goals_say_rankings, rankings_bound_turns};
 use std::alloc::{AllocError, Global};

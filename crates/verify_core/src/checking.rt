@@ -2,9 +2,9 @@
 
 ghost use Rattle.cert_text.specs.Certificates.{IsGrowingAfter, certificates_of};
 ghost use Rattle.goal_answers.specs.Trees.{tree_of};
-ghost use Rattle.heyvl_types.specs.Acts.{procedure_at};
-ghost use Rattle.heyvl_types.specs.PlainActs.{procedures_of};
-ghost use Rattle.heyvl_types.specs.Rules.{Each, MeetsAllRules};
+ghost use Rattle.heyvl_acts.specs.Acts.{procedure_at};
+ghost use Rattle.heyvl_acts.specs.PlainActs.{procedures_of};
+ghost use Rattle.heyvl_acts.specs.Rules.{Each, MeetsAllRules};
 ghost use Rattle.std.specs.Prelude.{IfOk, List, None, length, ◌<◌, ◌≡◌};
 ghost use Rattle.verify_core.specs.Checked.{CheckedGoal, IsMissOf, first_miss, missed};
 ghost use Rattle.verify_core.specs.CheckedRankings.{IsRankingAnswer};
@@ -20,7 +20,7 @@ use crate::verdicts::verdict_for;
 use farkas_check::check;
 use goal_answers::{Checked, GoalCert, Miss, NamedGoal, Tree};
 use heylo_formula::{GoalId, Made};
-use heyvl_types::Typed;
+use heyvl_acts::Typed;
 use proc_contracts::not_program;
 use std::alloc::{AllocError, Global};
 use verdict_report::{LoopAnswer, RankVerdict, Verdict};

@@ -1,6 +1,6 @@
 //! The decisions of goals.
 
-ghost use Rattle.heyvl_types.specs.Rules.{Each};
+ghost use Rattle.heyvl_acts.specs.Rules.{Each};
 ghost use Rattle.std.specs.Prelude.{IfOk, map, ◌≡◌};
 ghost use Rattle.verify_core.specs.internal.Decidable.{CanDecide};
 ghost use Rattle.verify_core.specs.Decided.{IsDecisionOf};

@@ -1,13 +1,13 @@
 //! The procedures whose bound isn't shown by their own goals.
 
-ghost use Rattle.heyvl_types.specs.Acts.{procedure_at};
-ghost use Rattle.heyvl_types.specs.PlainActs.{procedures_of};
+ghost use Rattle.heyvl_acts.specs.Acts.{procedure_at};
+ghost use Rattle.heyvl_acts.specs.PlainActs.{procedures_of};
 ghost use Rattle.std.specs.List.{All};
 ghost use Rattle.std.specs.Prelude.{IfOk, length, ◌<◌, ◌≡◌, ◌≤◌};
 ghost use Rattle.verify_core.specs.internal.Marks.{first_marked, is_open, marks};
 
 use crate::outcomes::{Outcome, ProcedureOutcome};
-use heyvl_types::Typed;
+use heyvl_acts::Typed;
 use proc_contracts::not_program;
 use std::alloc::{AllocError, Global};
 

@@ -1,16 +1,16 @@
 //! The goals of the rankings of a procedure's loops.
 
-ghost use Rattle.heyvl_types.proofs.exported.PlainActsAre.{head_of};
-ghost use Rattle.heyvl_types.specs.Acts.{Act as plain_act, acts_in, procedure_at};
-ghost use Rattle.heyvl_types.specs.Places.{in_order, inside};
-ghost use Rattle.heyvl_types.specs.PlainActs.{act_of, acts_of, procedure_of, procedures_of};
-ghost use Rattle.heyvl_types.specs.Rules.{MeetsAllRules};
+ghost use Rattle.heyvl_acts.proofs.exported.PlainActsAre.{head_of};
+ghost use Rattle.heyvl_acts.specs.Acts.{Act as plain_act, acts_in, procedure_at};
+ghost use Rattle.heyvl_acts.specs.Places.{in_order, inside};
+ghost use Rattle.heyvl_acts.specs.PlainActs.{act_of, acts_of, procedure_of, procedures_of};
+ghost use Rattle.heyvl_acts.specs.Rules.{MeetsAllRules};
 ghost use Rattle.std.specs.Prelude.{IfOk, OnOk, [], length, ◌++◌, ◌<◌, ◌≡◌, ◌∷◌};
 ghost use Rattle.verify_core.specs.Rankings.{AreRankingGoals, ranked_in, ranked_loops};
 
 use goal_answers::NamedGoal;
 use heylo_formula::GoalId;
-use heyvl_types::{Act, LoopAct, TProc, Typed};
+use heyvl_acts::{Act, LoopAct, TProc, Typed};
 use ranking_rule::ranking_goal;
 use std::alloc::{AllocError, Global};
 

@@ -1,15 +1,15 @@
 //! The answers of procedures from the verdicts on each by itself, with those on their rankings.
 
 ghost use Rattle.cert_text.specs.Certificates.{IsGrowingAfter, certificates_of};
-ghost use Rattle.heyvl_types.specs.PlainActs.{procedures_of};
-ghost use Rattle.heyvl_types.specs.Rules.{MeetsAllRules};
+ghost use Rattle.heyvl_acts.specs.PlainActs.{procedures_of};
+ghost use Rattle.heyvl_acts.specs.Rules.{MeetsAllRules};
 ghost use Rattle.std.specs.Prelude.{IfOk, None, length, map, ◌<◌, ◌≡◌};
 ghost use Rattle.verify_core.specs.internal.Checking.{AreMarkedAnswers, IsMarkedAnswer, IsReachingVerdict, is_unverified, is_verified};
 
 use crate::checking::own_rankings;
 use crate::marks::first_marked;
 use goal_answers::GoalCert;
-use heyvl_types::Typed;
+use heyvl_acts::Typed;
 use proc_contracts::reach;
 use std::alloc::{AllocError, Global};
 use verdict_report::{Answer, Verdict};

@@ -1,8 +1,8 @@
 //! What comes of the goals of each procedure of a file.
 
-ghost use Rattle.heyvl_types.specs.PlainActs.{procedures_of};
-ghost use Rattle.heyvl_types.specs.ResolvedSizes.{FormsWithin};
-ghost use Rattle.heyvl_types.specs.Rules.{Each, MeetsAllRules};
+ghost use Rattle.heyvl_acts.specs.FormSizes.{FormsWithin};
+ghost use Rattle.heyvl_acts.specs.PlainActs.{procedures_of};
+ghost use Rattle.heyvl_acts.specs.Rules.{Each, MeetsAllRules};
 ghost use Rattle.std.specs.Prelude.{IfOk, [], length, ◌<◌, ◌^◌, ◌≡◌};
 ghost use Rattle.verify_core.specs.PostBinders.{HasNamedBinders};
 ghost use Rattle.verify_core.specs.internal.Rows.{AreSettled, IsBoundRow, IsRankingRow, IsRow};
@@ -13,7 +13,7 @@ use crate::outcomes::{Outcome, ProcedureOutcome, gather};
 use crate::ranking_outcomes::{RankingOutcome, gather_rankings};
 use crate::rankings::rankings;
 use goal_answers::GoalCert;
-use heyvl_types::Typed;
+use heyvl_acts::Typed;
 use loop_encodings::encodings_are_over_their_variables;
 use ranking_rule::ranking_goals_say_rankings;
 use std::alloc::{AllocError, Global};

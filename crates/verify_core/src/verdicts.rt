@@ -1,8 +1,8 @@
 //! The answers, by what comes of the goals of the procedures.
 
-ghost use Rattle.heyvl_types.specs.Acts.{procedure_at};
-ghost use Rattle.heyvl_types.specs.PlainActs.{procedures_of};
-ghost use Rattle.heyvl_types.specs.Rules.{MeetsAllRules};
+ghost use Rattle.heyvl_acts.specs.Acts.{procedure_at};
+ghost use Rattle.heyvl_acts.specs.PlainActs.{procedures_of};
+ghost use Rattle.heyvl_acts.specs.Rules.{MeetsAllRules};
 ghost use Rattle.std.specs.Prelude.{IfOk, List, OnOk, length, true, ◌++◌, ◌<◌, ◌≡◌};
 ghost use Rattle.verify_core.specs.Answered.{AreAnswers, IsAnswer, IsClosed, IsVerdict};
 ghost use Rattle.verify_core.specs.Decided.{DecidedGoal, all_proved, listed};
@@ -14,7 +14,7 @@ ghost use Rattle.verify_core.specs.internal.Verdicts.{all_told_by, verdict_for};
 use crate::marks::first_marked;
 use crate::outcomes::{Outcome, ProcedureOutcome};
 use goal_answers::NamedGoal;
-use heyvl_types::Typed;
+use heyvl_acts::Typed;
 use proc_contracts::{WhyNot, not_program, reach};
 use std::alloc::{AllocError, Global};
 use verdict_report::{Answer, Verdict};

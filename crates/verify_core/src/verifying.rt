@@ -1,8 +1,8 @@
 //! The answers of a file.
 
-ghost use Rattle.heyvl_types.specs.PlainActs.{procedures_of};
-ghost use Rattle.heyvl_types.specs.ResolvedSizes.{FormsWithin};
-ghost use Rattle.heyvl_types.specs.Rules.{Each, MeetsAllRules};
+ghost use Rattle.heyvl_acts.specs.FormSizes.{FormsWithin};
+ghost use Rattle.heyvl_acts.specs.PlainActs.{procedures_of};
+ghost use Rattle.heyvl_acts.specs.Rules.{Each, MeetsAllRules};
 ghost use Rattle.std.specs.Prelude.{IfOk, length, ◌^◌, ℕ};
 ghost use Rattle.verdict_report.specs.Placed.{IsAnswerPlaced};
 ghost use Rattle.verify_core.specs.Answered.{IsAnswered};
@@ -15,7 +15,7 @@ use crate::marks::open_procedures;
 use crate::settling::settle;
 use crate::verdicts::answers;
 use crate::whole::Whole;
-use heyvl_types::Typed;
+use heyvl_acts::Typed;
 use loop_encodings::{
     broken_goals_break_bounds, encodings_are_over_their_variables, shown_bounds_hold,
 };

@@ -8,14 +8,14 @@ use Rattle.heylo_formula.specs.declared.terms.Term as T
 use Rattle.heylo_formula.specs.Formula.{Form, Term}
 use Rattle.heylo_formula.specs.Sizes.{nodes, depth}
 use Rattle.heylo_formula.specs.PlainTrees.{cond_of, term_of}
-use Rattle.heyvl_types.specs.declared.acts.Act as A
+use Rattle.heyvl_acts.specs.declared.acts.Act as A
 use Rattle.vp_generator.specs.declared.stops.VpStop.{VpStop}
 use Rattle.vp_generator.specs.declared.stops.VpStop.TheVariants.{Depth, Nodes, Memory}
 use Rattle.vp_generator.specs.Generated.{vp, vp_act, vp_arms, part_form, draw_form, sum_of_parts}
 use Rattle.heylo_formula.specs.Typing.{Types}
-use Rattle.heyvl_types.specs.WellTyped.{ActFits, ActsFit, ArmsFit}
+use Rattle.heyvl_acts.specs.WellTyped.{ActFits, ActsFit, ArmsFit}
 use Rattle.vp_generator.specs.Answers.{IsStop}
-use Rattle.heyvl_types.specs.PlainActs.{act_of, acts_of, arms_of, parts_of}
+use Rattle.heyvl_acts.specs.PlainActs.{act_of, acts_of, arms_of, parts_of}
 use Rattle.vp_generator.proofs.Growth.{grow_acts, deepen_acts, grow_over, deepen_over, grow_sum, deepen_sum}
 
 -- a limit that a part passes is passed by the whole

@@ -1,8 +1,8 @@
 -- The generated form has binders of the direction alone, under operators that keep the best value.
 use Rattle.std.proofs.Common.{◌≡◌, ℕ, refl, sym, ap, ap₂, ◌∙◌, subst, Bool, true, false, not, ◌||◌, ◌&&◌, List, [], ◌∷◌, ◌++◌}
 use Rattle.heyvl_num.specs.Rational.{Rational}
-use Rattle.heyvl_syntax.specs.declared.spans.Span.{Span}
-use Rattle.heyvl_syntax.specs.declared.statements.CheckKind.{CheckKind}
+use Rattle.heyvl_places.specs.declared.spans.Span.{Span}
+use Rattle.heyvl_places.specs.declared.checks.CheckKind.{CheckKind}
 use Rattle.heylo_formula.specs.Formula.{Form, Term}
 use Rattle.heylo_formula.specs.Binders.{has_binder, has_binder_in}
 use Rattle.heylo_formula.specs.Extrema.{is_directed}
@@ -12,10 +12,10 @@ use Rattle.heylo_formula.specs.Substitution as Replaced
 use Rattle.heylo_formula.proofs.exported.Plain.{term_plain, typed_plain}
 use Rattle.heylo_formula.proofs.exported.Agreement.{neither, or_false, clash}
 use Rattle.heylo_formula.proofs.exported.Substitutions.{subst_binders, subst_directions, binder_free_directed}
-use Rattle.heyvl_types.specs.Acts.{Act, Acts, Arms, TypedProcedure, types_of, acts_in}
-use Rattle.heyvl_types.specs.Places.{in_order, inside, inside_arms}
-use Rattle.heyvl_types.specs.Rules.{Each, is_against, binds, any_binds, NothingBindsBehind, FollowsDirection, MeetsRules}
-use Rattle.heyvl_types.specs.WellTyped.{PartsFit, ActFits, ActsFit, ArmsFit}
+use Rattle.heyvl_acts.specs.Acts.{Act, Acts, Arms, TypedProcedure, types_of, acts_in}
+use Rattle.heyvl_acts.specs.Places.{in_order, inside, inside_arms}
+use Rattle.heyvl_acts.specs.Rules.{Each, is_against, binds, any_binds, NothingBindsBehind, FollowsDirection, MeetsRules}
+use Rattle.heyvl_acts.specs.WellTyped.{PartsFit, ActFits, ActsFit, ArmsFit}
 use Rattle.vp_generator.specs.Generated.{pick_form, check_form, validate_form, part_form, sum_of_parts, vp, vp_act, vp_arms}
 use Rattle.vp_generator.specs.Directed.{ChoosesToward}
 

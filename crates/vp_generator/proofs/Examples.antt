@@ -1,14 +1,14 @@
 -- Rows worked by hand: what each act gives, acts that put a term into what another one gives, and numbers of binders.
 use Rattle.std.proofs.Common.{◌≡◌, refl, true, false, [], ◌∷◌, Bool}
 use Rattle.heyvl_num.specs.Rational.{Rational}
-use Rattle.heyvl_syntax.specs.declared.spans.Span.{Span}
-use Rattle.heyvl_syntax.specs.declared.statements.CheckKind.{CheckKind}
+use Rattle.heyvl_places.specs.declared.spans.Span.{Span}
+use Rattle.heyvl_places.specs.declared.checks.CheckKind.{CheckKind}
 use Rattle.heylo_formula.specs.BinderNames.{binders}
 use Rattle.heylo_formula.specs.Formula.{Form, Cond, Term}
 use Rattle.heylo_formula.specs.Sizes.{nodes, depth}
 use Rattle.heylo_formula.specs.Substitution as Replaced
 use Rattle.heylo_formula.specs.declared.types.Ty.{Ty}
-use Rattle.heyvl_types.specs.Acts.{Act, Acts, Arms}
+use Rattle.heyvl_acts.specs.Acts.{Act, Acts, Arms}
 use Rattle.vp_generator.specs.Generated.{vp}
 use Rattle.vp_generator.specs.Prenexed.{prenexed}
 

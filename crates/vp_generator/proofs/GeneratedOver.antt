@@ -1,12 +1,12 @@
 -- The free variables of the generated form are those of the acts and of the post.
 use Rattle.std.proofs.Common.{◌≡◌, ℕ, ◌<◌, Bool, true, false, cond, ◌==◌, List, [], ◌∷◌}
 use Rattle.heyvl_num.specs.Rational.{Rational}
-use Rattle.heyvl_syntax.specs.declared.statements.CheckKind.{CheckKind}
+use Rattle.heyvl_places.specs.declared.checks.CheckKind.{CheckKind}
 use Rattle.heylo_formula.specs.Formula.{Form, Term}
 use Rattle.heylo_formula.specs.Variables.{is_free, IsOver}
 use Rattle.heylo_formula.specs.declared.types.Ty.{Ty}
 use Rattle.heylo_formula.proofs.exported.Substitutions.{subst_over}
-use Rattle.heyvl_types.specs.Acts.{Act, Acts, Arms}
+use Rattle.heyvl_acts.specs.Acts.{Act, Acts, Arms}
 use Rattle.vp_generator.specs.Generated.{pick_form, check_form, validate_form, part_form, sum_of_parts, vp, vp_act, vp_arms}
 use Rattle.vp_generator.specs.Over.{PartsAreOver, ActIsOver, ActsAreOver, ArmsAreOver}
 use Rattle.vp_generator.proofs.PrenexedOver.{two}

@@ -3,14 +3,14 @@ use Rattle.std.proofs.Common.{◌≡◌, ℕ, refl, sym, ap, ◌∙◌, subst, a
 use Rattle.std.specs.Prelude.{Option, Some, None}
 use mathlib.Core.Path.{fun_ext}
 use Rattle.heyvl_num.specs.Rational.{Rational, zeroʳ, leqʳ, ◌≤ʳ◌}
-use Rattle.heyvl_syntax.specs.declared.statements.CheckKind.{CheckKind}
+use Rattle.heyvl_places.specs.declared.checks.CheckKind.{CheckKind}
 use Rattle.heylo_formula.specs.Formula.{Form, Term}
 use Rattle.heylo_formula.specs.Typing.{NumberType, Types, type_of, is_unsigned, only_if, scale_type, is_well_typed, retyped, IsFormula, TermFits}
 use Rattle.heylo_formula.specs.declared.types.Ty.{Ty}
 use Rattle.heylo_formula.proofs.exported.Substitutions.{subst_formula}
-use Rattle.heyvl_types.specs.Acts.{Act, Acts, Arms}
+use Rattle.heyvl_acts.specs.Acts.{Act, Acts, Arms}
 use Rattle.vp_generator.specs.Generated.{pick_form, check_form, validate_form, part_form, sum_of_parts, vp, vp_act, vp_arms}
-use Rattle.heyvl_types.specs.WellTyped.{PartsFit, ActFits, ActsFit, ArmsFit}
+use Rattle.heyvl_acts.specs.WellTyped.{PartsFit, ActFits, ActsFit, ArmsFit}
 use Rattle.heylo_formula.proofs.exported.Plain.{joins}
 
 pub only : (b : Bool) (t : Option NumberType) → b ≡ true → is_unsigned t ≡ true → is_unsigned (only_if b t) ≡ true

@@ -4,7 +4,7 @@ use mathlib.Core.Path.{fun_ext}
 use Rattle.heyvl_num.specs.Rational.{Rational}
 use Rattle.heyvl_num.specs.Value.{◌+ᵛ◌, ◌*ᵛ◌}
 use Rattle.heyvl_num.specs.Value.Value.{finite}
-use Rattle.heyvl_syntax.specs.declared.statements.CheckKind.{CheckKind}
+use Rattle.heyvl_places.specs.declared.checks.CheckKind.{CheckKind}
 use Rattle.heylo_formula.specs.State.{Env}
 use Rattle.heylo_formula.specs.Choices.{Choices, left, right}
 use Rattle.heylo_formula.specs.Formula.{Form, Term}
@@ -12,10 +12,10 @@ use Rattle.heylo_formula.specs.Meaning.{value}
 use Rattle.heylo_formula.specs.Typing.{Types}
 use Rattle.heylo_formula.proofs.exported.Agreement.{unchosen, unchosen_in, three}
 use Rattle.heylo_formula.proofs.exported.Substitutions.{subst_value}
-use Rattle.heyvl_types.specs.Acts.{Act, Acts, Arms}
-use Rattle.heyvl_types.specs.Forward.{Post, picked, checked, validated, part, parts, forward, forward_act, no_loops, no_calls, meant_arms}
+use Rattle.heyvl_acts.specs.Acts.{Act, Acts, Arms}
+use Rattle.heyvl_acts.specs.Forward.{Post, picked, checked, validated, part, parts, forward, forward_act, no_loops, no_calls, meant_arms}
 use Rattle.vp_generator.specs.Generated.{pick_form, check_form, validate_form, part_form, sum_of_parts, vp, vp_act, vp_arms}
-use Rattle.heyvl_types.specs.WellTyped.{PartsFit, ActFits, ActsFit, ArmsFit}
+use Rattle.heyvl_acts.specs.WellTyped.{PartsFit, ActFits, ActsFit, ArmsFit}
 use Rattle.heylo_formula.proofs.exported.Plain.{term_plain, typed_plain}
 
 -- the operators of forms have the values of those of numbers

@@ -2,21 +2,21 @@
 use Rattle.std.proofs.Common.{◌≡◌, ◌+◌, ◌≤◌, Bool, sym, ap, ap₂, ◌∙◌, subst, arith, List, [], ◌∷◌, ◌++◌}
 use Rattle.std.specs.Prelude.{Vec}
 use Rattle.std.specs.declared.alloc.Global.{Global}
-use Rattle.heyvl_syntax.specs.declared.spans.Span.{Span}
+use Rattle.heyvl_places.specs.declared.spans.Span.{Span}
 use Rattle.heylo_formula.specs.declared.forms.Cond as C
 use Rattle.heylo_formula.specs.declared.forms.Form as F
 use Rattle.heylo_formula.specs.Formula.{Form}
 use Rattle.heylo_formula.specs.PlainTrees.{form_of, cond_of}
-use Rattle.heyvl_types.specs.declared.acts.Act as A
-use Rattle.heyvl_types.specs.Acts.{Act}
+use Rattle.heyvl_acts.specs.declared.acts.Act as A
+use Rattle.heyvl_acts.specs.Acts.{Act}
 use Rattle.vp_generator.specs.Generated.{vp, vp_act, vp_arms}
 use Rattle.vp_generator.specs.Limits.{IsSmall}
 use Rattle.vp_generator.specs.Fit.{AreFit}
 use Rattle.vp_generator.specs.internal.Fitting.{IsFit, ArmsAreFit}
-use Rattle.heyvl_types.specs.WellTyped.{ActsFit, ArmsFit}
+use Rattle.heyvl_acts.specs.WellTyped.{ActsFit, ArmsFit}
 use Rattle.vp_generator.proofs.GeneratedTypes.{act_type}
-use Rattle.heyvl_types.specs.PlainActs.{act_of, acts_of, arms_of}
-use Rattle.heyvl_types.proofs.exported.PlainActsAre.{if_act, pick_act}
+use Rattle.heyvl_acts.specs.PlainActs.{act_of, acts_of, arms_of}
+use Rattle.heyvl_acts.proofs.exported.PlainActsAre.{if_act, pick_act}
 use Rattle.vp_generator.proofs.Building.{acts_end, acts_fit, arms_end, arms_fit}
 use Rattle.vp_generator.proofs.Weights.{weight, weight_of, weight_of_arms, last_weighs, last_arm_weighs}
 

@@ -6,10 +6,10 @@ use Rattle.heylo_formula.specs.Formula.{Form}
 use Rattle.heylo_formula.specs.Binders.{has_binder}
 use Rattle.heylo_formula.specs.Extrema.{is_directed}
 use Rattle.heylo_formula.specs.Typing.{Types}
-use Rattle.heyvl_types.specs.Acts.{Act, Acts, TypedProcedure, types_of, acts_in}
-use Rattle.heyvl_types.specs.Places.{in_order}
-use Rattle.heyvl_types.specs.Rules.{Each, NothingBindsBehind, MeetsRules}
-use Rattle.heyvl_types.specs.WellTyped.{ActsFit}
+use Rattle.heyvl_acts.specs.Acts.{Act, Acts, TypedProcedure, types_of, acts_in}
+use Rattle.heyvl_acts.specs.Places.{in_order}
+use Rattle.heyvl_acts.specs.Rules.{Each, NothingBindsBehind, MeetsRules}
+use Rattle.heyvl_acts.specs.WellTyped.{ActsFit}
 use Rattle.vp_generator.specs.Generated.{vp}
 
 -- An arbitrary value is of the direction.

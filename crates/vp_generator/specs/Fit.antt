@@ -2,8 +2,8 @@
 -- that they hold no loop and no call and each draw has a part, and what follows them is a formula. This project's own.
 use Rattle.heylo_formula.specs.Formula.{Form}
 use Rattle.heylo_formula.specs.Typing.{Types, IsFormula}
-use Rattle.heyvl_types.specs.Acts.{Acts}
-use Rattle.heyvl_types.specs.WellTyped.{ActsFit}
+use Rattle.heyvl_acts.specs.Acts.{Acts}
+use Rattle.heyvl_acts.specs.WellTyped.{ActsFit}
 
 -- Some types of the variables that fit, for which what follows is a formula.
 pub record Fit (Part : Types → Type 0) (post : Form) : Type 0 where

@@ -4,10 +4,10 @@
 use Rattle.std.specs.Prelude.{ℕ, Bool, true, false, List, [], ◌∷◌}
 use Rattle.heyvl_num.specs.Rational.{Rational}
 use Rattle.heyvl_num.specs.Value.{zeroᵛ}
-use Rattle.heyvl_syntax.specs.declared.statements.CheckKind.{CheckKind}
+use Rattle.heyvl_places.specs.declared.checks.CheckKind.{CheckKind}
 use Rattle.heylo_formula.specs.Formula.{Form, Term}
 use Rattle.heylo_formula.specs.Substitution.{subst}
-use Rattle.heyvl_types.specs.Acts.{Act, Acts, Arms}
+use Rattle.heyvl_acts.specs.Acts.{Act, Acts, Arms}
 
 abbrev pub pick_form : Bool → Form → Form → Form
 pick_form true a b = Form.max a b

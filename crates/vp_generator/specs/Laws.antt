@@ -5,10 +5,10 @@ use Rattle.heylo_formula.specs.State.{Env}
 use Rattle.heylo_formula.specs.Choices.{Choices}
 use Rattle.heylo_formula.specs.Meaning.{value}
 use Rattle.heylo_formula.specs.Typing.{Types, IsFormula}
-use Rattle.heyvl_types.specs.Acts.{Acts}
-use Rattle.heyvl_types.specs.Forward.{forward}
+use Rattle.heyvl_acts.specs.Acts.{Acts}
+use Rattle.heyvl_acts.specs.Forward.{forward}
 use Rattle.vp_generator.specs.Generated.{vp}
-use Rattle.heyvl_types.specs.WellTyped.{ActsFit}
+use Rattle.heyvl_acts.specs.WellTyped.{ActsFit}
 
 -- The generated form has the forward meaning of the acts as its value, for all choices: the same tree serves both.
 abbrev pub GeneratedFormMeansActs : Type 0

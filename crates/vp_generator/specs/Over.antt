@@ -3,7 +3,7 @@ use Rattle.std.specs.Prelude.{◌≡◌, ℕ, ◌<◌, true, List, [], ◌∷◌
 use Rattle.heyvl_num.specs.Rational.{Rational}
 use Rattle.heylo_formula.specs.Formula.{Form, Term}
 use Rattle.heylo_formula.specs.Variables.{occurs_in_term, IsOver, IsOverIn}
-use Rattle.heyvl_types.specs.Acts.{Act, Acts, Arms}
+use Rattle.heyvl_acts.specs.Acts.{Act, Acts, Arms}
 use Rattle.vp_generator.specs.Generated.{vp}
 
 -- Each number in the term is below n.

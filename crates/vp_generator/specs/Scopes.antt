@@ -1,13 +1,13 @@
 -- What the code that removes binders keeps: the numbers of the variables that are bound around a form.
 use Rattle.std.specs.Prelude.{◌<◌, slice_index_or, ◌++◌, ℕ, List, [], ◌∷◌}
 use Rattle.heylo_formula.specs.BinderNames.{Binder, binders}
-use Rattle.heyvl_types.specs.declared.typed.VarInfo.{VarInfo}
+use Rattle.heyvl_acts.specs.declared.typed.VarInfo.{VarInfo}
 use Rattle.heylo_formula.specs.declared.types.Ty.TheVariants.{Bool}
 use Rattle.heylo_formula.specs.Formula.{Form}
 use Rattle.heylo_formula.specs.Typing.{Types}
-use Rattle.heyvl_types.specs.Acts.{Act, Acts, Arms}
+use Rattle.heyvl_acts.specs.Acts.{Act, Acts, Arms}
 use Rattle.vp_generator.specs.Generated.{vp}
-use Rattle.heyvl_types.specs.WellTyped.{ActsFit}
+use Rattle.heyvl_acts.specs.WellTyped.{ActsFit}
 
 -- Each binder has the name of one of the first n variables.
 abbrev pub AreNamed : ℕ → List Binder → Type 0

@@ -3,7 +3,7 @@
 ghost use Rattle.heylo_formula.specs.Formula.{Form as plain};
 ghost use Rattle.heylo_formula.specs.PlainTrees.{form_of, term_of};
 ghost use Rattle.vp_generator.specs.Generated.{part_form, draw_form, sum_of_parts};
-ghost use Rattle.heyvl_types.specs.PlainActs.{parts_of};
+ghost use Rattle.heyvl_acts.specs.PlainActs.{parts_of};
 ghost use Rattle.vp_generator.specs.Limits.{IsSmall};
 ghost use Rattle.vp_generator.specs.internal.Fitting.{DrawIsFit, PartsAreFit, TermIsFit};
 ghost use Rattle.vp_generator.specs.Answers.{IsAnswer};

@@ -4,7 +4,7 @@ ghost use Rattle.std.specs.Prelude.{◌≡◌, ◌+◌, ◌<◌, ◌^◌};
 ghost use Rattle.heylo_formula.specs.Formula.{Form as plain};
 ghost use Rattle.heylo_formula.specs.PlainTrees.{form_of, cond_of};
 ghost use Rattle.vp_generator.specs.Generated.{pick_form, vp, vp_act, vp_arms};
-ghost use Rattle.heyvl_types.specs.PlainActs.{act_of, acts_of, arms_of};
+ghost use Rattle.heyvl_acts.specs.PlainActs.{act_of, acts_of, arms_of};
 ghost use Rattle.vp_generator.specs.Limits.{IsSmall};
 ghost use Rattle.vp_generator.specs.Fit.{AreFit};
 ghost use Rattle.vp_generator.specs.internal.Fitting.{IsFit, ArmsAreFit};
@@ -14,7 +14,7 @@ use crate::draws::drawn;
 use crate::nodes_of_acts::{added, bound, checked, picked, put, selected, small, validated};
 use crate::stops::VpStop;
 use heylo_formula::{Cond, Form};
-use heyvl_types::Act;
+use heyvl_acts::Act;
 use std::alloc::Global;
 
 /// The form of acts, over the form of what follows them.

@@ -9,8 +9,8 @@ ghost use Rattle.vp_generator.specs.Scopes.{AreNamed};
 use crate::limits::{DEEPEST, MOST_NODES};
 use crate::numbering::prenex;
 use heylo_formula::{Form, Goal, Made, Ty};
-use heyvl_syntax::Name;
-use heyvl_types::VarInfo;
+use heyvl_acts::VarInfo;
+use heyvl_places::Name;
 use std::alloc::{AllocError, Global};
 
 /// The goal of a stated form without binders and of a found one over the variables, in which the found form's binders are

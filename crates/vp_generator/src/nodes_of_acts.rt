@@ -14,7 +14,7 @@ use crate::limits::{DEEPEST, MOST_NODES};
 use crate::stops::VpStop;
 use heylo_formula::{Cond, Form, Term, Ty};
 use heyvl_num::Frac;
-use heyvl_syntax::CheckKind;
+use heyvl_places::CheckKind;
 use std::alloc::{AllocError, Global};
 
 /// The form, where it passes no limit.

@@ -11,7 +11,7 @@ ghost use Rattle.vp_generator.specs.internal.Lookup.{number_in};
 
 use crate::prenexed::Prenex;
 use heylo_formula::{Cond, Form, Ty};
-use heyvl_types::VarInfo;
+use heyvl_acts::VarInfo;
 use std::alloc::{AllocError, Global};
 
 /// The number of a variable under binders that are listed with their new numbers, the innermost last.

@@ -1,7 +1,7 @@
 //! What prenex gives.
 
 use heylo_formula::Form;
-use heyvl_types::VarInfo;
+use heyvl_acts::VarInfo;
 
 /// A form without binders, and its variables by number.
 #[derive(Drop)]

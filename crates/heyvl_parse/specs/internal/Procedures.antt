@@ -2,6 +2,7 @@
 use Rattle.heyvl_parse.specs.internal.Combinators.{each, is_there, kind, lead, list0, optional, spanned, trail}
 use Rattle.heyvl_parse.specs.internal.Reading.{Read, is_mark, mapped, pair, type_name, word}
 use Rattle.heyvl_parse.specs.internal.Rights.{expr}
+use Rattle.heyvl_places.specs.declared.spans.Span.{Span}
 use Rattle.heyvl_syntax.specs.Expressions.{Expression}
 use Rattle.heyvl_syntax.specs.Grammar.{Clause, posts, pres}
 use Rattle.heyvl_syntax.specs.Procedures.{Procedure}
@@ -12,7 +13,6 @@ use Rattle.heyvl_syntax.specs.declared.marks.Mark.TheVariants as marks
 use Rattle.heyvl_syntax.specs.declared.procedures.Note.TheVariants as notes
 use Rattle.heyvl_syntax.specs.declared.procedures.Note.{Note}
 use Rattle.heyvl_syntax.specs.declared.procedures.Param.{Param}
-use Rattle.heyvl_syntax.specs.declared.spans.Span.{Span}
 use Rattle.heyvl_syntax.specs.declared.tokens.Token.{Token}
 use Rattle.heyvl_syntax.specs.declared.tokens.TokenKind.TheVariants as kinds
 use Rattle.heyvl_syntax.specs.declared.tokens.TokenKind.{TokenKind}

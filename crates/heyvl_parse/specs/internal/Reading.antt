@@ -3,6 +3,7 @@
 use Prim.Native.Nat.{suc, zero}
 use Rattle.heyvl_parse.specs.declared.starts.Start.TheVariants as starts
 use Rattle.heyvl_parse.specs.declared.starts.Start.{Start}
+use Rattle.heyvl_places.specs.declared.spans.Span.{Span}
 use Rattle.heyvl_syntax.specs.Expressions.{Expression}
 use Rattle.heyvl_syntax.specs.Grammar.{ranks}
 use Rattle.heyvl_syntax.specs.contracts.marks.Mark.{the_type as the_marks}
@@ -14,7 +15,6 @@ use Rattle.heyvl_syntax.specs.declared.operators.BinaryOp.TheVariants as ops
 use Rattle.heyvl_syntax.specs.declared.operators.BinaryOp.{BinaryOp}
 use Rattle.heyvl_syntax.specs.declared.operators.UnaryOp.TheVariants as prefixes
 use Rattle.heyvl_syntax.specs.declared.operators.UnaryOp.{UnaryOp}
-use Rattle.heyvl_syntax.specs.declared.spans.Span.{Span}
 use Rattle.heyvl_syntax.specs.declared.tokens.Token.{Token}
 use Rattle.heyvl_syntax.specs.declared.tokens.TokenKind.TheVariants as kinds
 use Rattle.heyvl_syntax.specs.declared.tokens.TokenKind.{TokenKind}

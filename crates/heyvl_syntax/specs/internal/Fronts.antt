@@ -1,5 +1,6 @@
 -- What stands at the front of bytes, computed.
-use Rattle.heyvl_syntax.specs.Bytes.{is_letter, is_line_feed, is_point, is_white, is_word_byte}
+use Rattle.heyvl_syntax.specs.Bytes.{is_letter, is_point, is_white, is_word_byte}
+use Rattle.heyvl_places.specs.Places.{is_line_feed}
 use Rattle.heyvl_syntax.specs.Comments.{closes_at, opens_block, opens_line}
 use Rattle.heyvl_syntax.specs.Keys.{key_text}
 use Rattle.heyvl_syntax.specs.Literals.{is_too_large, literal}

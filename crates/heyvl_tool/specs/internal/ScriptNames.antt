@@ -1,4 +1,6 @@
 -- Lines and scripts that the program holds, read as those of the definitions.
+use Rattle.heyvl_acts.specs.PlainActs.{variable_of}
+use Rattle.heyvl_acts.specs.declared.typed.VarInfo.{VarInfo}
 use Rattle.heyvl_tool.specs.ScriptLines as lines
 use Rattle.heyvl_tool.specs.Scripts as scripts
 use Rattle.heyvl_tool.specs.declared.script.lines.Line.TheVariants.{Decide, Set, Steps}
@@ -6,8 +8,6 @@ use Rattle.heyvl_tool.specs.declared.script.lines.Line.{Line}
 use Rattle.heyvl_tool.specs.declared.script.reading.Script.{Script}
 use Rattle.heyvl_tool.specs.declared.script.reading.ScriptStop.TheVariants.{Fault, Memory}
 use Rattle.heyvl_tool.specs.declared.script.reading.ScriptStop.{ScriptStop}
-use Rattle.heyvl_types.specs.PlainActs.{variable_of}
-use Rattle.heyvl_types.specs.declared.typed.VarInfo.{VarInfo}
 use Rattle.std.specs.Borrow.{Bor}
 use Rattle.std.specs.Prelude.{List, Option, map, option_map, ◌≡◌}
 

@@ -1,9 +1,9 @@
 -- What the commands ask of the typed tree of a file that bytes spell.
 use Rattle.std.specs.Prelude.{List, ℕ, length, ◌^◌}
-use Rattle.heyvl_types.specs.PlainActs.{procedures_of}
-use Rattle.heyvl_types.specs.ResolvedSizes.{FormsWithin}
-use Rattle.heyvl_types.specs.Rules.{Each, MeetsAllRules}
-use Rattle.heyvl_types.specs.declared.typed.Typed.{Typed}
+use Rattle.heyvl_acts.specs.PlainActs.{procedures_of}
+use Rattle.heyvl_acts.specs.FormSizes.{FormsWithin}
+use Rattle.heyvl_acts.specs.Rules.{Each, MeetsAllRules}
+use Rattle.heyvl_acts.specs.declared.typed.Typed.{Typed}
 use Rattle.run_machine.specs.Names.{HasFewActs}
 use Rattle.verify_core.specs.Places.{StandsWithin}
 use Rattle.verify_core.specs.PostBinders.{HasNamedBinders}

@@ -1,16 +1,16 @@
 //! The procedure that is run, and which ones have to be programs.
 
+ghost use Rattle.heyvl_acts.specs.Acts.{procedure_at};
+ghost use Rattle.heyvl_acts.specs.PlainActs.{procedure_of, procedures_of};
+ghost use Rattle.heyvl_acts.specs.Program.{why_no_program};
+ghost use Rattle.heyvl_acts.specs.Rules.{IsCounted, MeetsAllRules};
 ghost use Rattle.heyvl_tool.specs.RunStarts.{IsFirstNoProgram, procedure_named};
-ghost use Rattle.heyvl_types.specs.Acts.{procedure_at};
-ghost use Rattle.heyvl_types.specs.PlainActs.{procedure_of, procedures_of};
-ghost use Rattle.heyvl_types.specs.Program.{why_no_program};
-ghost use Rattle.heyvl_types.specs.Rules.{IsCounted, MeetsAllRules};
 ghost use Rattle.run_machine.specs.ConfigConditions.{ReachesPrograms};
 ghost use Rattle.std.specs.List.{All, find};
 ghost use Rattle.std.specs.Prelude.{IfOk, IfSome, MatchOption, is_some, length, ◌<◌, ◌^◌, ◌≡◌};
 ghost use Rattle.std.specs.Str.{bytes_eq};
 
-use heyvl_types::{TProc, Typed};
+use heyvl_acts::{TProc, Typed};
 use proc_contracts::{not_program, reach};
 use std::alloc::{AllocError, Global};
 

@@ -1,18 +1,18 @@
 //! The first state of a run.
 
 ghost use Rattle.heylo_formula.specs.State.{default as default_of, fit};
+ghost use Rattle.heyvl_acts.specs.PlainActs.{procedure_of, variable_of};
+ghost use Rattle.heyvl_acts.specs.Rules.{IsCounted};
 ghost use Rattle.heyvl_tool.specs.RunStarts.{start_state, start_value};
 ghost use Rattle.heyvl_tool.specs.Scripts.{known_of};
-ghost use Rattle.heyvl_types.specs.PlainActs.{procedure_of, variable_of};
-ghost use Rattle.heyvl_types.specs.Rules.{IsCounted};
 ghost use Rattle.std.specs.List.{find};
 ghost use Rattle.std.specs.Prelude.{IfOk, OnOk, drop, map, take, ◌++◌, ◌+◌, ◌≡◌};
 ghost use Rattle.std.specs.Str.{bytes_eq};
 
 use crate::script::{default, has};
 use heylo_formula::{Ty, Val};
-use heyvl_syntax::Name;
-use heyvl_types::{TProc, VarInfo};
+use heyvl_acts::{TProc, VarInfo};
+use heyvl_places::Name;
 use std::alloc::{AllocError, Global};
 
 /// The value, where it is of the type; else false or 0.

@@ -1,16 +1,16 @@
 -- Behind a check against the direction nothing binds: what the rules say of the text holds of its acts in their order.
 use Rattle.heylo_formula.specs.Formula.{Form}
+use Rattle.heyvl_acts.specs.Acts.{Act, Acts, acts_in}
+use Rattle.heyvl_acts.specs.Places.{in_order, inside_arms}
+use Rattle.heyvl_acts.specs.Rules.{NothingBindsBehind, any_binds, is_against}
+use Rattle.heyvl_places.specs.declared.checks.CheckKind.{CheckKind}
+use Rattle.heyvl_places.specs.declared.spans.Span.{Span}
 use Rattle.heyvl_syntax.specs.Statements as text
 use Rattle.heyvl_syntax.specs.Statements.{Block, RightSide, Statement}
-use Rattle.heyvl_syntax.specs.declared.spans.Span.{Span}
-use Rattle.heyvl_syntax.specs.declared.statements.CheckKind.{CheckKind}
 use Rattle.heyvl_syntax.specs.declared.types.TypeName.{TypeName}
 use Rattle.heyvl_types.proofs.resolved.Findings.{all_kept, back_none, front_none}
 use Rattle.heyvl_types.proofs.resolved.InOrder.{in_order_join}
-use Rattle.heyvl_types.specs.Acts.{Act, Acts, acts_in}
 use Rattle.heyvl_types.specs.Files.{body_acts, body_findings}
-use Rattle.heyvl_types.specs.Places.{in_order, inside_arms}
-use Rattle.heyvl_types.specs.Rules.{NothingBindsBehind, any_binds, is_against}
 use Rattle.heyvl_types.specs.Scopes.{Scope}
 use Rattle.heyvl_types.specs.Signatures.{Called}
 use Rattle.heyvl_types.specs.StatementActs.{arms_acts, assigned, block_acts, declared_act, form, havocs, loops, loops_of_arms, loops_of_block, statement_acts, targets}

@@ -1,5 +1,9 @@
 -- The body of a typed procedure against which nothing is found: directions, binders, scopes, loops and their numbers.
 use Rattle.heylo_formula.specs.Binders.{has_binder}
+use Rattle.heyvl_acts.specs.Acts.{Act, TypedProcedure, acts_in, variables}
+use Rattle.heyvl_acts.specs.Places.{in_order}
+use Rattle.heyvl_acts.specs.Rules.{Each, FollowsDirection, GrowBelow, LoopsMeet, NothingBindsBehind, counted, loop_numbers}
+use Rattle.heyvl_acts.specs.Visible.{Scoped, among, interface}
 use Rattle.heyvl_syntax.specs.Procedures.{Procedure}
 use Rattle.heyvl_syntax.specs.Statements.{Block}
 use Rattle.heyvl_types.proofs.resolved.Bindings.{nothing_binds_behind}
@@ -13,14 +17,10 @@ use Rattle.heyvl_types.proofs.resolved.Numbers.{counted_more, numbered_body}
 use Rattle.heyvl_types.proofs.resolved.Posts.{plain_post}
 use Rattle.heyvl_types.proofs.resolved.Scopes.{Mirrors, reads_body}
 use Rattle.heyvl_types.proofs.resolved.Walk.{Known, Locally, each_block}
-use Rattle.heyvl_types.specs.Acts.{Act, TypedProcedure, acts_in, variables}
 use Rattle.heyvl_types.specs.Files.{arity, body_acts, body_findings, first_quantified, has_quantified_post, head_scope, input_scope, resolved, setting, typed}
-use Rattle.heyvl_types.specs.Places.{in_order}
-use Rattle.heyvl_types.specs.Rules.{Each, FollowsDirection, GrowBelow, LoopsMeet, NothingBindsBehind, counted, loop_numbers}
 use Rattle.heyvl_types.specs.Scopes.{numbers}
 use Rattle.heyvl_types.specs.Signatures.{called}
 use Rattle.heyvl_types.specs.Variables.{locals_of_body, parameters}
-use Rattle.heyvl_types.specs.Visible.{Scoped, among, interface}
 use Rattle.std.proofs.Common.{Bool, List, None, Option, Some, [], ap, arith, false, inl, inr, refl, subst, suc, sym, true, zero, ◌++◌, ◌+◌, ◌<◌, ◌==◌, ◌∙◌, ◌≡◌, ◌≤◌, ◌⊎◌, ℕ}
 use Rattle.std.proofs.lemmas.Bool.{cases_lt, le-leb, lt-leb}
 use Rattle.std.proofs.lemmas.List.{length-append}

@@ -1,13 +1,13 @@
 -- What calls can name in a file against whose procedures nothing is found: each is a procedure of the file.
+use Rattle.heyvl_acts.specs.Acts.{TypedProcedure, procedure_at}
+use Rattle.heyvl_acts.specs.Rules.{Each}
 use Rattle.heyvl_syntax.specs.Procedures.{Procedure}
 use Rattle.heyvl_syntax.specs.declared.procedures.Param.{Param}
 use Rattle.heyvl_types.proofs.TypedMeanings.{some_is}
 use Rattle.heyvl_types.proofs.resolved.Findings.{all_kept, back_none, front_none}
 use Rattle.heyvl_types.proofs.resolved.Heads.{IsClean}
 use Rattle.heyvl_types.proofs.resolved.InOrder.{each_back}
-use Rattle.heyvl_types.specs.Acts.{TypedProcedure, procedure_at}
 use Rattle.heyvl_types.specs.Files.{parameters_findings, typed}
-use Rattle.heyvl_types.specs.Rules.{Each}
 use Rattle.heyvl_types.specs.Scopes.{Scope, is_visible}
 use Rattle.heyvl_types.specs.Signatures.{Called, Signature, called, find_call, signature, with_signature, with_signatures}
 use Rattle.heyvl_types.specs.Table.{declarable}

@@ -8,6 +8,9 @@ use Rattle.heylo_formula.specs.Operators.{agree}
 use Rattle.heylo_formula.specs.Typing.{IsFormula, Types, is_unsigned, type_of, types_in}
 use Rattle.heylo_formula.specs.Variables.{IsOver, is_free}
 use Rattle.heylo_formula.specs.declared.types.Ty.{Ty}
+use Rattle.heyvl_acts.specs.Acts.{type_list}
+use Rattle.heyvl_acts.specs.Rules.{Each}
+use Rattle.heyvl_acts.specs.WellTyped.{IsHeld}
 use Rattle.heyvl_num.specs.Gcd.{gcd, gcd_steps}
 use Rattle.heyvl_num.specs.Rational.{leqʳ, ratio, zeroʳ}
 use Rattle.heyvl_num.specs.Value.Value.{infinite}
@@ -22,17 +25,14 @@ use Rattle.heyvl_types.proofs.resolved.Heads.{IsClean, head_agrees, inputs_agree
 use Rattle.heyvl_types.proofs.resolved.Locals.{Stands, agrees_up}
 use Rattle.heyvl_types.proofs.resolved.Nodes.{own_kept}
 use Rattle.heyvl_types.proofs.resolved.Quantifiers.{IsPlain, becomes_plain, closed_plain}
-use Rattle.heyvl_types.specs.Acts.{type_list}
 use Rattle.heyvl_types.specs.ExpressionLaws.{Agrees}
 use Rattle.heyvl_types.specs.Files.{arity, clause, first_quantified, front_of, head_scope, input_scope, joined_with, post_forms, posts_findings, pre_forms, pres_findings, typed}
-use Rattle.heyvl_types.specs.Rules.{Each}
 use Rattle.heyvl_types.specs.Scopes.{Scope, with_local}
 use Rattle.heyvl_types.specs.Signatures.{Called}
 use Rattle.heyvl_types.specs.StatementActs.{form}
 use Rattle.heyvl_types.specs.Table.{Meaning, bound, declarable, extended, quantified}
 use Rattle.heyvl_types.specs.TypedExpressions.{allows, closed_findings, elaborate, findings}
 use Rattle.heyvl_types.specs.Variables.{front_variables, parameters}
-use Rattle.heyvl_types.specs.WellTyped.{IsHeld}
 use Rattle.heyvl_types.specs.declared.demands.Demand.{Demand}
 use Rattle.heyvl_types.specs.declared.demands.Front.{Front}
 use Rattle.std.proofs.Common.{Bool, List, None, Option, Some, [], arith, false, inl, inr, length, length-append, refl, suc, sym, true, ◌+◌, ◌++◌, ◌<◌, ◌∷◌, ◌≡◌, ◌≤◌, ◌⊎◌, ℕ}

@@ -1,18 +1,18 @@
 -- Typed acts follow the direction of their procedure.
 use Rattle.heylo_formula.specs.Binders.{has_binder}
 use Rattle.heylo_formula.specs.Operators.{agree}
+use Rattle.heyvl_acts.specs.Acts.{TypedProcedure, Variable, procedure_at}
+use Rattle.heyvl_acts.specs.Rules.{FollowsDirection, IsCallable}
+use Rattle.heyvl_places.specs.declared.spans.Span.{Span}
 use Rattle.heyvl_syntax.specs.Statements.{RightSide, Statement}
-use Rattle.heyvl_syntax.specs.declared.spans.Span.{Span}
 use Rattle.heyvl_syntax.specs.declared.types.TypeName.{TypeName}
 use Rattle.heyvl_types.proofs.resolved.Calls.{AreCallees}
 use Rattle.heyvl_types.proofs.resolved.Findings.{all_kept, back_none}
 use Rattle.heyvl_types.proofs.resolved.Posts.{plain_post}
 use Rattle.heyvl_types.proofs.resolved.Walk.{Alone, Locally}
-use Rattle.heyvl_types.specs.Acts.{TypedProcedure, Variable, procedure_at}
 use Rattle.heyvl_types.specs.Files.{first_quantified, head_scope}
 use Rattle.heyvl_types.specs.Findings.{at}
 use Rattle.heyvl_types.specs.RightSides.{is_of_other_direction, is_quantified, right_rules}
-use Rattle.heyvl_types.specs.Rules.{FollowsDirection, IsCallable}
 use Rattle.heyvl_types.specs.Scopes.{Scope, any_input, any_unknown, is_visible, types_of_names}
 use Rattle.heyvl_types.specs.Signatures.{Called, Signature, find_call}
 use Rattle.heyvl_types.specs.StatementActs.{assigned, callee, declared_act, havocs, targets}

@@ -2,6 +2,8 @@
 use Rattle.heylo_formula.specs.Typing.NumberType.{int, uint}
 use Rattle.heylo_formula.specs.Typing.{NumberType, TermFits, Types, constant_type, fits, number_type}
 use Rattle.heylo_formula.specs.declared.types.Ty.{Ty}
+use Rattle.heyvl_acts.specs.Rules.{Each}
+use Rattle.heyvl_acts.specs.WellTyped.{DrawFits, PartsFit}
 use Rattle.heyvl_num.proofs.exported.Integers.{*ℤ-one}
 use Rattle.heyvl_num.proofs.exported.Rationals.{leq_ratio, ratio_den, ratio_nonnegative}
 use Rattle.heyvl_num.proofs.exported.Signs.{difference_nonnegative}
@@ -17,12 +19,10 @@ use Rattle.heyvl_types.proofs.resolved.Weights.{probability_small, weight_nonneg
 use Rattle.heyvl_types.specs.ExpressionLaws.{Agrees}
 use Rattle.heyvl_types.specs.Literals.{ends_wrong, integer, is_negative, weight, weight_value}
 use Rattle.heyvl_types.specs.RightSides.{mismatches, type_of_expression}
-use Rattle.heyvl_types.specs.Rules.{Each}
 use Rattle.heyvl_types.specs.Scopes.{Scope}
 use Rattle.heyvl_types.specs.Signatures.{Called}
 use Rattle.heyvl_types.specs.StatementActs.{choose_parts, flip_parts, integer_parts, unif_parts, whole_term}
 use Rattle.heyvl_types.specs.Table.{declarable}
-use Rattle.heyvl_types.specs.WellTyped.{DrawFits, PartsFit}
 use Rattle.std.proofs.Common.{Bool, List, None, Option, Some, [], arith, false, negsuc, pos, refl, suc, true, zero, ◌∙◌, ◌∷◌, ◌≡◌, ℕ, ℤ}
 use Rattle.std.proofs.Math.Nat.{div-le_self}
 use Rattle.std.proofs.lemmas.Bool.{le-leb, not-false}

@@ -1,7 +1,7 @@
 -- Where nothing is found: nothing in any part of the findings, and each rule is kept.
-use Rattle.heyvl_syntax.specs.declared.spans.Span.{Span}
+use Rattle.heyvl_acts.specs.Rules.{Each}
+use Rattle.heyvl_places.specs.declared.spans.Span.{Span}
 use Rattle.heyvl_types.specs.Findings.{at}
-use Rattle.heyvl_types.specs.Rules.{Each}
 use Rattle.std.proofs.Common.{Bool, List, [], false, refl, true, ◌∷◌, ◌++◌, ◌≡◌, ℕ}
 use Rattle.std.specs.Prelude.{if◌then◌else◌}
 

@@ -1,13 +1,13 @@
 -- The numbers of the visible variables grow, in the order of their declarations, and are below that of the next variable.
+use Rattle.heyvl_acts.specs.Rules.{GrowBelow, counted}
+use Rattle.heyvl_places.specs.declared.spans.Span.{Span}
 use Rattle.heyvl_syntax.specs.Statements.{RightSide, Statement}
 use Rattle.heyvl_syntax.specs.declared.procedures.Param.{Param}
-use Rattle.heyvl_syntax.specs.declared.spans.Span.{Span}
 use Rattle.heyvl_syntax.specs.declared.types.TypeName.{TypeName}
 use Rattle.heyvl_types.proofs.ScopeEntries.{last_local}
 use Rattle.heyvl_types.proofs.resolved.Findings.{all_kept, back_none, front_none}
 use Rattle.heyvl_types.specs.Files.{parameters_findings}
 use Rattle.heyvl_types.specs.Findings.{at}
-use Rattle.heyvl_types.specs.Rules.{GrowBelow, counted}
 use Rattle.heyvl_types.specs.Scopes.{Scope, is_visible, numbers, with_local}
 use Rattle.heyvl_types.specs.Signatures.{Called}
 use Rattle.heyvl_types.specs.StatementRules.{statement_findings, value_findings, var_rules}

@@ -1,16 +1,16 @@
 -- What is known of a procedure against which nothing is found: its parts, its limits, and the types of its scopes.
 use Rattle.heylo_formula.specs.Typing.{types_in}
 use Rattle.heylo_formula.specs.declared.types.Ty.{Ty}
+use Rattle.heyvl_acts.specs.Acts.{Variable, acts_in, type_list, variables}
+use Rattle.heyvl_acts.specs.Count.{count_of}
+use Rattle.heyvl_acts.specs.Rules.{Each}
 use Rattle.heyvl_syntax.specs.Procedures.{Procedure}
 use Rattle.heyvl_syntax.specs.declared.procedures.Param.{Param}
 use Rattle.heyvl_types.proofs.resolved.Findings.{all_kept, back_none, front_none}
 use Rattle.heyvl_types.proofs.resolved.Locals.{Stands, agrees_up, agrees_with, declared_at, stands_at, stands_back, stands_front, stands_next}
-use Rattle.heyvl_types.specs.Acts.{Variable, acts_in, type_list, variables}
-use Rattle.heyvl_types.specs.Count.{count_of}
 use Rattle.heyvl_types.specs.ExpressionLaws.{Agrees}
 use Rattle.heyvl_types.specs.Files.{arity, body_acts, body_findings, first_quantified, front_of, has_quantified_post, head_scope, input_scope, is_too_large, is_wlp, parameters_findings, posts_findings, pres_findings, procedure_findings, procedures_findings, setting, typed}
 use Rattle.heyvl_types.specs.Findings.{at}
-use Rattle.heyvl_types.specs.Rules.{Each}
 use Rattle.heyvl_types.specs.Scopes.{Scope, is_visible}
 use Rattle.heyvl_types.specs.Signatures.{Called}
 use Rattle.heyvl_types.specs.Table.{declarable}

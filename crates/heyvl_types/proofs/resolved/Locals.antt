@@ -1,9 +1,9 @@
 -- Where variables stand in the list of a procedure's variables, and their types there.
 use Rattle.heylo_formula.specs.Typing.{types_in}
 use Rattle.heylo_formula.specs.declared.types.Ty.{Ty}
+use Rattle.heyvl_acts.specs.Acts.{Variable, type_list}
 use Rattle.heyvl_syntax.specs.declared.types.TypeName.{TypeName}
 use Rattle.heyvl_types.proofs.TypedMeanings.{found_with}
-use Rattle.heyvl_types.specs.Acts.{Variable, type_list}
 use Rattle.heyvl_types.specs.ExpressionLaws.{Agrees}
 use Rattle.heyvl_types.specs.Scopes.{Scope, find, with_local}
 use Rattle.heyvl_types.specs.Table.{declarable}

@@ -3,7 +3,7 @@ use Rattle.heyvl_syntax.specs.Expressions.{Expression}
 use Rattle.heyvl_syntax.specs.Statements as text
 use Rattle.heyvl_syntax.specs.Statements.{Block, LoopRule, RightSide, Statement}
 use Rattle.heyvl_syntax.specs.declared.literals.Lit.{Lit}
-use Rattle.heyvl_syntax.specs.declared.spans.Span.{Span}
+use Rattle.heyvl_places.specs.declared.spans.Span.{Span}
 use Rattle.heyvl_syntax.specs.declared.types.TypeName.{TypeName}
 use Rattle.heyvl_types.proofs.resolved.Bindings.{behind_block}
 use Rattle.heyvl_types.proofs.resolved.Findings.{all_kept, back_none, front_none}
@@ -11,11 +11,11 @@ use Rattle.heyvl_types.proofs.resolved.Growth.{grow_more}
 use Rattle.heyvl_types.proofs.resolved.InOrder.{each_both, each_join}
 use Rattle.heyvl_types.proofs.resolved.Locals.{Stands, stands_within}
 use Rattle.heyvl_types.proofs.resolved.Walk.{Alone, Locally}
-use Rattle.heyvl_types.specs.Acts.{Act, Acts, TypedProcedure, Variable, variables}
+use Rattle.heyvl_acts.specs.Acts.{Act, Acts, TypedProcedure, Variable, variables}
 use Rattle.heyvl_types.specs.Literals.{copies, whole_value}
 use Rattle.heyvl_types.specs.LoopRules.{is_ranking, loop_rules, rules_findings}
-use Rattle.heyvl_types.specs.Places.{in_order, inside_arms}
-use Rattle.heyvl_types.specs.Rules.{Each, GrowBelow, LoopsMeet, NothingBindsBehind, RankedBodyIsPlain, is_against, is_rankable}
+use Rattle.heyvl_acts.specs.Places.{in_order, inside_arms}
+use Rattle.heyvl_acts.specs.Rules.{Each, GrowBelow, LoopsMeet, NothingBindsBehind, RankedBodyIsPlain, is_against, is_rankable}
 use Rattle.heyvl_types.specs.Scopes.{Scope, numbers}
 use Rattle.heyvl_types.specs.Signatures.{Called}
 use Rattle.heyvl_types.specs.StatementActs.{arms_acts, assigned, block_acts, copies_of, declared_act, havocs, loops, loops_of_arms, loops_of_block, number_or_one, ranking_of, statement_acts, targets}

@@ -1,13 +1,13 @@
 -- The loops of a typed body are numbered in the order of the text.
+use Rattle.heyvl_acts.specs.Acts.{Act, Acts, acts_in}
+use Rattle.heyvl_acts.specs.Places.{in_order, inside_arms}
+use Rattle.heyvl_acts.specs.Rules.{counted, loop_numbers}
+use Rattle.heyvl_places.specs.declared.spans.Span.{Span}
 use Rattle.heyvl_syntax.specs.Statements as text
 use Rattle.heyvl_syntax.specs.Statements.{Block, RightSide, Statement}
-use Rattle.heyvl_syntax.specs.declared.spans.Span.{Span}
 use Rattle.heyvl_syntax.specs.declared.types.TypeName.{TypeName}
 use Rattle.heyvl_types.proofs.resolved.InOrder.{in_order_join}
-use Rattle.heyvl_types.specs.Acts.{Act, Acts, acts_in}
 use Rattle.heyvl_types.specs.Files.{body_acts, loops_of_body}
-use Rattle.heyvl_types.specs.Places.{in_order, inside_arms}
-use Rattle.heyvl_types.specs.Rules.{counted, loop_numbers}
 use Rattle.heyvl_types.specs.Scopes.{Scope}
 use Rattle.heyvl_types.specs.Signatures.{Called}
 use Rattle.heyvl_types.specs.StatementActs.{arms_acts, assigned, block_acts, declared_act, havocs, loops, loops_of_arms, loops_of_block, statement_acts, targets}

@@ -1,10 +1,10 @@
 -- The post of a procedure without quantifiers in its post clauses has no binder.
 use Rattle.heylo_formula.specs.Binders.{has_binder}
+use Rattle.heyvl_acts.specs.Rules.{Each}
 use Rattle.heyvl_syntax.specs.Expressions.{Expression}
 use Rattle.heyvl_types.proofs.resolved.Clauses.{IsJoined, clause_holds}
 use Rattle.heyvl_types.proofs.resolved.Quantifiers.{IsPlain, becomes_plain}
 use Rattle.heyvl_types.specs.Files.{clause, post_forms}
-use Rattle.heyvl_types.specs.Rules.{Each}
 use Rattle.heyvl_types.specs.Scopes.{Scope}
 use Rattle.heyvl_types.specs.StatementActs.{form}
 use Rattle.heyvl_types.specs.Table.{Meaning}

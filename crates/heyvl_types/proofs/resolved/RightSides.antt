@@ -1,6 +1,6 @@
 -- The rules of a statement with a right side, where nothing is found against it.
 use Rattle.heyvl_syntax.specs.Statements.{RightSide}
-use Rattle.heyvl_syntax.specs.declared.spans.Span.{Span}
+use Rattle.heyvl_places.specs.declared.spans.Span.{Span}
 use Rattle.heyvl_syntax.specs.declared.types.TypeName.{TypeName}
 use Rattle.heyvl_types.proofs.resolved.Findings.{all_kept, back_none}
 use Rattle.heyvl_types.specs.RightSides.{calls_unknown, counts_wrong, has_over_zero, literal_wrong, right_findings, right_mismatches}

@@ -1,25 +1,25 @@
 -- Typed acts read visible variables alone.
+use Rattle.heyvl_acts.specs.Acts.{Acts, acts_in, join}
+use Rattle.heyvl_acts.specs.Rules.{Each}
+use Rattle.heyvl_acts.specs.Visible.{Scoped, ScopedAct, ScopedArms, Sees, SeesParts, SeesRank, SeesTerms, Visible, among, shown, shown_all, shown_by}
 use Rattle.heyvl_num.specs.Rational.{Rational, ratio}
+use Rattle.heyvl_places.specs.declared.spans.Span.{Span}
 use Rattle.heyvl_syntax.specs.Expressions.{Expression}
 use Rattle.heyvl_syntax.specs.Statements as text
 use Rattle.heyvl_syntax.specs.Statements.{Block, LoopRule, RightSide, Statement}
-use Rattle.heyvl_syntax.specs.declared.spans.Span.{Span}
 use Rattle.heyvl_syntax.specs.declared.types.TypeName.{TypeName}
 use Rattle.heyvl_types.proofs.resolved.Findings.{IsKept, all_kept, back_none, front_none}
 use Rattle.heyvl_types.proofs.resolved.Growth.{new_name, numbers_with}
 use Rattle.heyvl_types.proofs.resolved.Sight.{found_among, sees_condition, sees_form, sees_term}
-use Rattle.heyvl_types.specs.Acts.{Acts, acts_in, join}
 use Rattle.heyvl_types.specs.Files.{body_acts, body_findings}
 use Rattle.heyvl_types.specs.Findings.{at}
 use Rattle.heyvl_types.specs.Literals.{integer, weight, weight_value}
 use Rattle.heyvl_types.specs.RightSides.{right_findings}
-use Rattle.heyvl_types.specs.Rules.{Each}
 use Rattle.heyvl_types.specs.Scopes.{Scope, any_unknown, find, is_visible, numbers, types_of_names, with_local}
 use Rattle.heyvl_types.specs.Signatures.{Called}
 use Rattle.heyvl_types.specs.StatementActs.{arms_acts, assigned, block_acts, choose_parts, declared_act, first_or_zero, flip_parts, havocs, integer_parts, invariant_of, loops, loops_of_arms, loops_of_block, number_or_zero, ranking_of, statement_acts, targets, terms, unif_parts}
 use Rattle.heyvl_types.specs.StatementRules.{arms_bind, arms_findings, assign_rules, block_binds, block_findings, havoc_rules, statement_findings, value_findings}
 use Rattle.heyvl_types.specs.Variables.{behind, locals, locals_of_arms, locals_of_block}
-use Rattle.heyvl_types.specs.Visible.{Scoped, ScopedAct, ScopedArms, Sees, SeesParts, SeesRank, SeesTerms, Visible, among, shown, shown_all, shown_by}
 use Rattle.heyvl_types.specs.declared.scopes.Local.{Local}
 use Rattle.heyvl_types.specs.declared.settings.Setting.{Setting}
 use Rattle.std.proofs.Common.{Bool, List, None, Option, Some, [], ap, false, pos, refl, suc, sym, true, zero, ◌++◌, ◌+◌, ◌==◌, ◌∙◌, ◌≡◌, ◌∷◌, ℕ, ℤ}

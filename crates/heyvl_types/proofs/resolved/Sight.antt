@@ -1,5 +1,6 @@
 -- Forms, conditions and terms that expressions become read visible variables alone.
 use Rattle.heylo_formula.specs.Variables.{is_free, is_free_in}
+use Rattle.heyvl_acts.specs.Visible.{Sees, SeesCond, SeesTerm, Visible, among}
 use Rattle.heyvl_syntax.specs.Expressions.{Expression}
 use Rattle.heyvl_types.proofs.TypedMeanings.{some_is}
 use Rattle.heyvl_types.proofs.resolved.Free.{IsHidden, IsWithout, becomes_without}
@@ -7,7 +8,6 @@ use Rattle.heyvl_types.specs.Scopes.{Scope, find, numbers}
 use Rattle.heyvl_types.specs.StatementActs.{condition, form, term}
 use Rattle.heyvl_types.specs.Table.{Meaning}
 use Rattle.heyvl_types.specs.TypedExpressions.{elaborate}
-use Rattle.heyvl_types.specs.Visible.{Sees, SeesCond, SeesTerm, Visible, among}
 use Rattle.heyvl_types.specs.declared.scopes.Local.{Local}
 use Rattle.std.proofs.Common.{Bool, List, None, Option, Some, [], ap, arith, false, refl, true, ◌==◌, ◌∙◌, ◌≡◌, ◌∷◌, ℕ}
 use Rattle.std.proofs.lemmas.Bool.{ne_eqb, or_left, or_right}

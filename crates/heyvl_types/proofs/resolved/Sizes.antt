@@ -1,23 +1,22 @@
 -- How large the forms, conditions and terms of typed acts are, by the expressions that they come from.
 use Rattle.heylo_formula.specs.Sizes.{nodes, nodes_in, nodes_in_term}
 use Rattle.heylo_formula.specs.Typing.{Types}
-use Rattle.heyvl_num.specs.Rational.{Rational}
+use Rattle.heyvl_num.specs.Rational.{Rational, ratio}
 use Rattle.heyvl_syntax.specs.Expressions.{Expression}
 use Rattle.heyvl_syntax.specs.Sizes.{nodes as expression_nodes, nodes_of_all, nodes_of_right, nodes_of_rule}
 use Rattle.heyvl_syntax.specs.Statements.{LoopRule, RightSide}
-use Rattle.heyvl_syntax.specs.declared.spans.Span.{Span}
+use Rattle.heyvl_places.specs.declared.spans.Span.{Span}
 use Rattle.heyvl_types.proofs.TypedMeanings.{good}
 use Rattle.heyvl_types.specs.ExpressionLaws.{Agrees}
 use Rattle.heyvl_types.specs.Literals.{integer}
-use Rattle.heyvl_types.specs.ResolvedSizes.{ActWithin, RankWithin}
-use Rattle.heyvl_types.specs.Rules.{Each}
+use Rattle.heyvl_acts.specs.FormSizes.{ActWithin, RankWithin}
+use Rattle.heyvl_acts.specs.Rules.{Each}
 use Rattle.heyvl_types.specs.Scopes.{Scope}
 use Rattle.heyvl_types.specs.Signatures.{Called}
 use Rattle.heyvl_types.specs.StatementActs.{assigned, choose_parts, condition, form, integer_parts, invariant_of, ranking_of, term, terms, unif_parts}
 use Rattle.heyvl_types.specs.Table.{Meaning}
 use Rattle.heyvl_types.specs.TypedExpressions.{elaborate}
 use Rattle.std.proofs.Common.{List, None, Option, Some, [], arith, pos, refl, suc, zero, ◌*◌, ◌+◌, ◌≡◌, ◌≤◌, ◌∷◌, ℕ, ℤ}
-use Rattle.heyvl_num.specs.Rational.{ratio}
 use Rattle.std.proofs.lemmas.List.Sums.{sum_by-cons}
 use Rattle.std.specs.List.{sum_by}
 use Rattle.std.specs.Prelude.{unsigned_abs, ◌+ℤ◌, ◌-ℤ◌}

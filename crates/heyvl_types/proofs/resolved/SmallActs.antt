@@ -1,18 +1,18 @@
 -- Each act of a body has forms and conditions that are small against the expressions of the body.
+use Rattle.heyvl_acts.specs.Acts.{Acts, Variable}
+use Rattle.heyvl_acts.specs.FormSizes.{ActWithin, GuardsWithin}
+use Rattle.heyvl_acts.specs.Places.{in_order, inside_arms}
+use Rattle.heyvl_acts.specs.Rules.{Each}
+use Rattle.heyvl_places.specs.declared.spans.Span.{Span}
 use Rattle.heyvl_syntax.specs.Sizes.{nodes_of_arms, nodes_of_block, nodes_of_optional, nodes_of_statement}
 use Rattle.heyvl_syntax.specs.Statements as text
 use Rattle.heyvl_syntax.specs.Statements.{Block, RightSide, Statement}
-use Rattle.heyvl_syntax.specs.declared.spans.Span.{Span}
 use Rattle.heyvl_syntax.specs.declared.types.TypeName.{TypeName}
 use Rattle.heyvl_types.proofs.resolved.Findings.{back_none, front_none}
 use Rattle.heyvl_types.proofs.resolved.InOrder.{each_both, each_join}
 use Rattle.heyvl_types.proofs.resolved.Locals.{Stands, stands_back, stands_front}
 use Rattle.heyvl_types.proofs.resolved.Sizes.{assigned_small, condition_small, form_small, invariant_small, ranking_small}
 use Rattle.heyvl_types.proofs.resolved.Walk.{Known, known_behind, known_up}
-use Rattle.heyvl_types.specs.Acts.{Acts, Variable}
-use Rattle.heyvl_types.specs.Places.{in_order, inside_arms}
-use Rattle.heyvl_types.specs.ResolvedSizes.{ActWithin, GuardsWithin}
-use Rattle.heyvl_types.specs.Rules.{Each}
 use Rattle.heyvl_types.specs.Scopes.{Scope}
 use Rattle.heyvl_types.specs.Signatures.{Called}
 use Rattle.heyvl_types.specs.StatementActs.{arms_acts, assigned, block_acts, declared_act, havocs, loops, loops_of_arms, loops_of_block, statement_acts, targets}

@@ -2,6 +2,10 @@
 use Rattle.heylo_formula.specs.Formula.{Form}
 use Rattle.heylo_formula.specs.Sizes.{nodes}
 use Rattle.heylo_formula.specs.Typing.{Types, types_in}
+use Rattle.heyvl_acts.specs.Acts.{acts_in, type_list, variables}
+use Rattle.heyvl_acts.specs.FormSizes.{ActWithin, FormsWithin}
+use Rattle.heyvl_acts.specs.Places.{in_order}
+use Rattle.heyvl_acts.specs.Rules.{Each}
 use Rattle.heyvl_syntax.specs.Expressions.{Expression}
 use Rattle.heyvl_syntax.specs.Procedures.{Procedure}
 use Rattle.heyvl_syntax.specs.Sizes.{nodes as expression_nodes, nodes_of_all, nodes_of_body, nodes_of_procedure}
@@ -11,12 +15,8 @@ use Rattle.heyvl_types.proofs.resolved.Heads.{IsClean, body_stands, head_agrees,
 use Rattle.heyvl_types.proofs.resolved.Locals.{Stands, agrees_up, stands_front}
 use Rattle.heyvl_types.proofs.resolved.Sizes.{form_small}
 use Rattle.heyvl_types.proofs.resolved.SmallActs.{small_block}
-use Rattle.heyvl_types.specs.Acts.{acts_in, type_list, variables}
 use Rattle.heyvl_types.specs.ExpressionLaws.{Agrees}
 use Rattle.heyvl_types.specs.Files.{arity, body_acts, body_findings, clause, first_quantified, has_quantified_post, head_scope, input_scope, joined_with, post_forms, pre_forms, setting, typed}
-use Rattle.heyvl_types.specs.Places.{in_order}
-use Rattle.heyvl_types.specs.ResolvedSizes.{ActWithin, FormsWithin}
-use Rattle.heyvl_types.specs.Rules.{Each}
 use Rattle.heyvl_types.specs.Scopes.{Scope}
 use Rattle.heyvl_types.specs.Signatures.{called}
 use Rattle.heyvl_types.specs.Variables.{front_variables, locals_of_body, parameters}

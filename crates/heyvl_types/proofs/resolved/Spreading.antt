@@ -6,11 +6,11 @@ use Rattle.heylo_formula.specs.Typing.{NumberType, is_unsigned, join}
 use Rattle.heyvl_num.specs.Rational.{Rational}
 use Rattle.heyvl_num.specs.Value.Value.{finite}
 use Rattle.heyvl_num.specs.Value.{Value}
+use Rattle.heyvl_places.specs.declared.spans.Span.{Span}
 use Rattle.heyvl_syntax.specs.Expressions.{Expression}
 use Rattle.heyvl_syntax.specs.declared.literals.Lit.{Lit}
 use Rattle.heyvl_syntax.specs.declared.operators.BinaryOp.{BinaryOp}
 use Rattle.heyvl_syntax.specs.declared.operators.UnaryOp.{UnaryOp}
-use Rattle.heyvl_syntax.specs.declared.spans.Span.{Span}
 use Rattle.heyvl_types.proofs.TypedMeanings.{become, given_some, map_some, never}
 use Rattle.heyvl_types.specs.Literals.{is_written, literal_value}
 use Rattle.heyvl_types.specs.Table.{Meaning, binary, bracket, choice, comparison, conegation, divisor, embedding, extended, factor, given, joined_numbers, literal, minus, negation, negative, numbers, quotient, selected, truths, unary}

@@ -1,15 +1,15 @@
 -- What is given a value: variables of the procedure that are no inputs, of their declared types.
 use Rattle.heylo_formula.specs.Typing.{Types}
+use Rattle.heyvl_acts.specs.Acts.{TypedProcedure, variables}
+use Rattle.heyvl_acts.specs.Rules.{Each, HasOwnTargets, IsOwn}
+use Rattle.heyvl_places.specs.declared.spans.Span.{Span}
 use Rattle.heyvl_syntax.specs.Statements.{RightSide, Statement}
-use Rattle.heyvl_syntax.specs.declared.spans.Span.{Span}
 use Rattle.heyvl_syntax.specs.declared.types.TypeName.{TypeName}
 use Rattle.heyvl_types.proofs.resolved.Findings.{all_kept, back_none}
 use Rattle.heyvl_types.proofs.resolved.Locals.{Stands, stands_within}
 use Rattle.heyvl_types.proofs.resolved.Walk.{Alone, Known, Locally}
-use Rattle.heyvl_types.specs.Acts.{TypedProcedure, variables}
 use Rattle.heyvl_types.specs.ExpressionLaws.{Agrees}
 use Rattle.heyvl_types.specs.RightSides.{counts_wrong, right_findings}
-use Rattle.heyvl_types.specs.Rules.{Each, HasOwnTargets, IsOwn}
 use Rattle.heyvl_types.specs.Scopes.{Scope, any_input, any_unknown, find, is_input, types_of_names}
 use Rattle.heyvl_types.specs.Signatures.{Called}
 use Rattle.heyvl_types.specs.StatementActs.{assigned, declared_act, first_or_zero, havocs, number_or_zero, targets}

@@ -1,9 +1,12 @@
 -- The acts of a procedure against which nothing is found are well typed.
 use Rattle.heylo_formula.specs.Typing.{Types}
+use Rattle.heyvl_acts.specs.Acts.{TypedProcedure, types_of, variables}
+use Rattle.heyvl_acts.specs.Rules.{CallFits, Each, GuardsFit, IsTypedAct, LoopFits, RankFits}
+use Rattle.heyvl_acts.specs.WellTyped.{IsHeld}
+use Rattle.heyvl_places.specs.declared.spans.Span.{Span}
 use Rattle.heyvl_syntax.specs.Expressions.{Expression}
 use Rattle.heyvl_syntax.specs.Statements as text
 use Rattle.heyvl_syntax.specs.Statements.{LoopRule, RightSide, Statement}
-use Rattle.heyvl_syntax.specs.declared.spans.Span.{Span}
 use Rattle.heyvl_syntax.specs.declared.types.TypeName.{TypeName}
 use Rattle.heyvl_types.proofs.resolved.Calls.{AreCallees, IsCallee, parameters_declared}
 use Rattle.heyvl_types.proofs.resolved.Draws.{choose_drawn, flip_drawn, unif_drawn}
@@ -16,12 +19,10 @@ use Rattle.heyvl_types.proofs.resolved.Targets.{AreOfTypes, IsOne, one_target, t
 use Rattle.heyvl_types.proofs.resolved.Types.{arguments_fit, targets_fit, value_fits}
 use Rattle.heyvl_types.proofs.resolved.Walk.{Alone, Known, Locally, var_declarable}
 use Rattle.heyvl_types.proofs.resolved.Weights.{step_above}
-use Rattle.heyvl_types.specs.Acts.{TypedProcedure, types_of, variables}
 use Rattle.heyvl_types.specs.ExpressionLaws.{Agrees}
 use Rattle.heyvl_types.specs.Literals.{is_over_zero, weight}
 use Rattle.heyvl_types.specs.LoopRules.{count_of_invariants, count_of_rankings, is_no_formula, loop_rules, rules_findings, rules_wrong, step_wrong, steps_over_zero}
 use Rattle.heyvl_types.specs.RightSides.{any_argument_mismatches, any_output_mismatches, call_counts_wrong, call_mismatches, weight_findings}
-use Rattle.heyvl_types.specs.Rules.{CallFits, Each, GuardsFit, IsTypedAct, LoopFits, RankFits}
 use Rattle.heyvl_types.specs.Scopes.{Scope, any_unknown, find, types_of_names}
 use Rattle.heyvl_types.specs.Signatures.{Called, Signature, find_call}
 use Rattle.heyvl_types.specs.StatementActs.{arms_acts, assigned, callee, condition, form, havocs, invariant_of, loops_of_block, number_or_zero, ranking_of, targets, terms, type_of_local}
@@ -29,7 +30,6 @@ use Rattle.heyvl_types.specs.StatementRules.{arms_bind, arms_findings, block_fin
 use Rattle.heyvl_types.specs.Table.{declarable}
 use Rattle.heyvl_types.specs.TypedExpressions.{closed_findings, elaborate, lacks}
 use Rattle.heyvl_types.specs.Variables.{declared, locals_of_block}
-use Rattle.heyvl_types.specs.WellTyped.{IsHeld}
 use Rattle.heyvl_types.specs.declared.demands.Demand.{Demand}
 use Rattle.heyvl_types.specs.declared.scopes.Local.{Local}
 use Rattle.heyvl_types.specs.declared.settings.Setting.{Setting}

@@ -3,6 +3,8 @@
 use Rattle.heylo_formula.specs.Typing.NumberType.{eureal, int, uint, ureal}
 use Rattle.heylo_formula.specs.Typing.{NumberType, TermFits, Types, fits, is_bool, is_finite_type, join, number_type, widens}
 use Rattle.heylo_formula.specs.declared.types.Ty.{Ty}
+use Rattle.heyvl_acts.specs.Acts.{TypedProcedure, type_list, types_of}
+use Rattle.heyvl_acts.specs.Rules.{ArgumentsFit, Each, TargetsFit, widens_to}
 use Rattle.heyvl_syntax.specs.Expressions.{Expression}
 use Rattle.heyvl_syntax.specs.declared.procedures.Param.{Param}
 use Rattle.heyvl_syntax.specs.declared.types.TypeName.{TypeName}
@@ -10,10 +12,8 @@ use Rattle.heyvl_types.proofs.TypedMeanings.{good, map_some, never, some_is}
 use Rattle.heyvl_types.proofs.resolved.Calls.{IsDeclared}
 use Rattle.heyvl_types.proofs.resolved.Locals.{type_declared}
 use Rattle.heyvl_types.proofs.resolved.Targets.{AreOfTypes}
-use Rattle.heyvl_types.specs.Acts.{TypedProcedure, type_list, types_of}
 use Rattle.heyvl_types.specs.ExpressionLaws.{Agrees, IsTyped}
 use Rattle.heyvl_types.specs.RightSides.{ValueType, any_argument_mismatches, any_output_mismatches, join_types, join_with, mismatches, type_of_choices, type_of_expression, type_of_meaning, type_of_name}
-use Rattle.heyvl_types.specs.Rules.{ArgumentsFit, Each, TargetsFit, widens_to}
 use Rattle.heyvl_types.specs.Scopes.{Scope}
 use Rattle.heyvl_types.specs.StatementActs.{term, terms}
 use Rattle.heyvl_types.specs.Table.{Meaning, declarable, given}

@@ -3,16 +3,16 @@
 use Rattle.heylo_formula.specs.Typing.{types_in}
 use Rattle.heyvl_syntax.specs.Statements.{Block, RightSide, Statement}
 use Rattle.heyvl_syntax.specs.Statements as text
-use Rattle.heyvl_syntax.specs.declared.spans.Span.{Span}
+use Rattle.heyvl_places.specs.declared.spans.Span.{Span}
 use Rattle.heyvl_syntax.specs.declared.types.TypeName.{TypeName}
 use Rattle.heyvl_types.proofs.resolved.Findings.{all_kept, back_none, front_none}
 use Rattle.heyvl_types.proofs.resolved.Growth.{grow_more, grown_behind}
 use Rattle.heyvl_types.proofs.resolved.InOrder.{each_both, each_join, each_one}
 use Rattle.heyvl_types.proofs.resolved.Locals.{Stands, agrees_up, agrees_with, declared_at, stands_back, stands_front}
-use Rattle.heyvl_types.specs.Acts.{Act, Acts, Variable, type_list}
+use Rattle.heyvl_acts.specs.Acts.{Act, Acts, Variable, type_list}
 use Rattle.heyvl_types.specs.ExpressionLaws.{Agrees}
-use Rattle.heyvl_types.specs.Places.{in_order, inside, inside_arms}
-use Rattle.heyvl_types.specs.Rules.{Each, GrowBelow}
+use Rattle.heyvl_acts.specs.Places.{in_order, inside, inside_arms}
+use Rattle.heyvl_acts.specs.Rules.{Each, GrowBelow}
 use Rattle.heyvl_types.specs.Scopes.{Scope, numbers}
 use Rattle.heyvl_types.specs.Signatures.{Called}
 use Rattle.heyvl_types.specs.StatementActs.{arms_acts, assigned, block_acts, declared_act, havocs, loops, loops_of_arms, loops_of_block, statement_acts, targets}

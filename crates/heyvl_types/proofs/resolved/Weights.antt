@@ -1,25 +1,25 @@
 -- The weights of draws against which nothing is found: none is negative, and they add up to 1.
 use Rattle.heylo_formula.specs.Formula.{Term}
+use Rattle.heyvl_acts.specs.Acts.{Variable}
+use Rattle.heyvl_acts.specs.Rules.{WeighsOne}
 use Rattle.heyvl_num.proofs.exported.Rationals.{+ʳ-zero, +ʳ_assoc, +ʳ_left_comm, zero-+ʳ, ratio-+, ratio_nonnegative, ratio_same, ≤ʳ_antisym, ≤ʳ_refl}
 use Rattle.heyvl_num.proofs.exported.Signs.{+ʳ-neg}
 use Rattle.heyvl_num.proofs.exported.WeightedSums.{total_weight-cons, total_weight-empty}
 use Rattle.heyvl_num.specs.Rational.{Rational, leqʳ, negʳ, oneʳ, ratio, zeroʳ, ◌+ʳ◌, ◌-ʳ◌, ◌<ʳ◌, ◌≤ʳ◌}
 use Rattle.heyvl_num.specs.Value.{is_zero_num}
 use Rattle.heyvl_num.specs.WeightedSums.{total_weight}
+use Rattle.heyvl_places.specs.declared.spans.Span.{Span}
 use Rattle.heyvl_syntax.specs.Expressions.{Expression}
 use Rattle.heyvl_syntax.specs.Statements.{RightSide, Statement}
 use Rattle.heyvl_syntax.specs.declared.literals.Lit.{Lit}
 use Rattle.heyvl_syntax.specs.declared.operators.BinaryOp.{BinaryOp}
-use Rattle.heyvl_syntax.specs.declared.spans.Span.{Span}
 use Rattle.heyvl_syntax.specs.declared.types.TypeName.{TypeName}
 use Rattle.heyvl_types.proofs.LiteralFractions.{power_positive}
 use Rattle.heyvl_types.proofs.TypedMeanings.{literal_nonnegative}
 use Rattle.heyvl_types.proofs.resolved.RightSides.{RightKept, assign_kept, var_kept}
 use Rattle.heyvl_types.proofs.resolved.Walk.{Alone, Locally}
-use Rattle.heyvl_types.specs.Acts.{Variable}
 use Rattle.heyvl_types.specs.Literals.{ends_wrong, integer, is_over_zero, is_probability, is_step, is_too_wide, is_usable, is_written, is_zero_literal, literal_quotient, literal_value, sums_wrong, weigh_wrong, weight, weight_of_quotient, weight_of_value, weight_value}
 use Rattle.heyvl_types.specs.RightSides.{weights}
-use Rattle.heyvl_types.specs.Rules.{WeighsOne}
 use Rattle.heyvl_types.specs.Scopes.{Scope, types_of_names}
 use Rattle.heyvl_types.specs.Signatures.{Called}
 use Rattle.heyvl_types.specs.StatementActs.{assigned, choose_parts, flip_parts, havocs, integer_parts, targets, term, unif_parts}

@@ -3,11 +3,11 @@ use Rattle.heylo_formula.specs.Formula.{Cond, Form}
 use Rattle.heylo_formula.specs.PlainTrees.{cond_of, form_of}
 use Rattle.heylo_formula.specs.declared.forms.Cond as C
 use Rattle.heylo_formula.specs.declared.forms.Form as F
+use Rattle.heyvl_acts.specs.PlainActs.{rank_of}
 use Rattle.heyvl_num.specs.Rational.{Rational}
 use Rattle.heyvl_num.specs.Value.Value.{infinite}
 use Rattle.heyvl_syntax.specs.Statements.{LoopRule}
 use Rattle.heyvl_types.specs.LoopRules.{is_no_formula}
-use Rattle.heyvl_types.specs.PlainActs.{rank_of}
 use Rattle.heyvl_types.specs.Scopes.{Scope}
 use Rattle.heyvl_types.specs.StatementActs.{invariant_of, ranking_of}
 use Rattle.heyvl_types.specs.declared.loop_rules.Found as memory

@@ -1,8 +1,8 @@
 -- A procedure put together from its parts, whatever they are. The crate's own functions alone speak of it.
 use Rattle.heylo_formula.specs.Formula.{Form}
+use Rattle.heyvl_acts.specs.Acts.{Acts, TypedProcedure, Variable, acts_in}
+use Rattle.heyvl_acts.specs.Count.{count_of}
 use Rattle.heyvl_syntax.specs.Procedures.{Procedure}
-use Rattle.heyvl_types.specs.Acts.{Acts, TypedProcedure, Variable, acts_in}
-use Rattle.heyvl_types.specs.Count.{count_of}
 use Rattle.heyvl_types.specs.Files.{is_wlp}
 use Rattle.std.specs.Prelude.{Bool, List, Option, drop, length, nat_lt, not, take, ◌&&◌, ◌+◌, ◌||◌, ℕ}
 

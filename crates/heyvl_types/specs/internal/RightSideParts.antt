@@ -4,7 +4,7 @@ use Rattle.heylo_formula.specs.PlainTrees.{term_of}
 use Rattle.heyvl_num.specs.Rational.{Rational}
 use Rattle.heyvl_syntax.specs.Expressions.{Expression}
 use Rattle.heyvl_types.specs.internal.Views.{value_type}
-use Rattle.heyvl_types.specs.PlainActs.{parts_of, terms_of}
+use Rattle.heyvl_acts.specs.PlainActs.{parts_of, terms_of}
 use Rattle.heyvl_types.specs.RightSides.{ValueType, join_types, type_of_expression}
 use Rattle.heyvl_types.specs.Scopes.{Scope}
 use Rattle.heyvl_types.specs.Table.{given}

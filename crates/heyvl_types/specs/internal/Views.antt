@@ -3,15 +3,15 @@ use Rattle.heylo_formula.specs.PlainTrees.{cond_of, form_of}
 use Rattle.heylo_formula.specs.Typing.NumberType.{eureal, int, uint, ureal}
 use Rattle.heylo_formula.specs.Typing.{NumberType}
 use Rattle.heylo_formula.specs.declared.forms.Cond as C
+use Rattle.heyvl_acts.specs.Acts.{Acts, Arms}
+use Rattle.heyvl_acts.specs.PlainActs.{acts_of, arms_of}
+use Rattle.heyvl_acts.specs.declared.acts.Act as A
 use Rattle.heyvl_syntax.specs.Expressions.{Expression}
 use Rattle.heyvl_syntax.specs.declared.literals.Lit.{Lit}
-use Rattle.heyvl_types.specs.Acts.{Acts, Arms}
-use Rattle.heyvl_types.specs.PlainActs.{acts_of, arms_of}
 use Rattle.heyvl_types.specs.RightSides.{ValueType}
 use Rattle.heyvl_types.specs.Scopes.{Scope}
 use Rattle.heyvl_types.specs.Signatures.{Signature, signature, Called}
 use Rattle.heyvl_types.specs.Table.{Meaning}
-use Rattle.heyvl_types.specs.declared.acts.Act as A
 use Rattle.heyvl_types.specs.declared.calls.Signature as held
 use Rattle.heyvl_types.specs.declared.meanings.Kind.{Kind}
 use Rattle.heyvl_types.specs.declared.meanings.Meaning as M

@@ -1,8 +1,8 @@
 -- Meant for the proofs of other crates. The body of a procedure of a file that meets the rules has few fresh variables.
 use Rattle.std.proofs.Common.{◌≤◌, ◌<◌, ℕ, List, length}
-use Rattle.heyvl_types.specs.Acts.{TypedProcedure, acts_in, procedure_at}
-use Rattle.heyvl_types.specs.Count.{count_of}
-use Rattle.heyvl_types.specs.Rules.{MeetsRules}
+use Rattle.heyvl_acts.specs.Acts.{TypedProcedure, acts_in, procedure_at}
+use Rattle.heyvl_acts.specs.Count.{count_of}
+use Rattle.heyvl_acts.specs.Rules.{MeetsRules}
 use Rattle.loop_encodings.specs.Fresh.{fresh}
 use Rattle.loop_encodings.proofs.Counts.{few}
 use Rattle.loop_encodings.proofs.FromRules.{all_fine, ready_acts}

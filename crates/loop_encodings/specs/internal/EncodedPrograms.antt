@@ -1,7 +1,7 @@
 -- A program whose main goal holds: what the bound by the meaning of its body follows from. This project's own.
 use Rattle.std.specs.Prelude.{ℕ, List}
-use Rattle.heyvl_types.specs.Acts.{TypedProcedure, acts_in, procedure_at}
-use Rattle.heyvl_types.specs.Visible.{interface, Scoped}
+use Rattle.heyvl_acts.specs.Acts.{TypedProcedure, acts_in, procedure_at}
+use Rattle.heyvl_acts.specs.Visible.{interface, Scoped}
 use Rattle.loop_encodings.specs.BoundGoals.{IsBounded}
 use Rattle.loop_encodings.specs.internal.Programs.{HasFormulas, IsMeantWithin, Program}
 

@@ -13,11 +13,11 @@ use Rattle.heylo_formula.specs.Typing.{types_in, is_well_typed, TermFits, HasTyp
 use Rattle.heylo_formula.specs.Variables.{IsOver}
 use Rattle.heylo_formula.specs.declared.types.Ty.{Ty}
 use Rattle.heylo_formula.specs.declared.values.Val.{Val}
-use Rattle.heyvl_types.specs.Acts.{Head, Act, Acts, Arms, TypedProcedure, variables, type_list, types_of, acts_in, procedure_at}
-use Rattle.heyvl_types.specs.Modified.{modified}
-use Rattle.heyvl_types.specs.Rules.{IsOwn, widens_to, ArgumentsFit}
-use Rattle.heyvl_types.specs.Visible.{Visible, among, interface, Scoped}
-use Rattle.heyvl_types.specs.WellTyped.{IsHeld, PartsFit}
+use Rattle.heyvl_acts.specs.Acts.{Head, Act, Acts, Arms, TypedProcedure, variables, type_list, types_of, acts_in, procedure_at}
+use Rattle.heyvl_acts.specs.Modified.{modified}
+use Rattle.heyvl_acts.specs.Rules.{IsOwn, widens_to, ArgumentsFit}
+use Rattle.heyvl_acts.specs.Visible.{Visible, among, interface, Scoped}
+use Rattle.heyvl_acts.specs.WellTyped.{IsHeld, PartsFit}
 use Rattle.loop_encodings.specs.internal.Contracts.{meaning}
 
 -- ---- Of the visible variables, the acts change these alone

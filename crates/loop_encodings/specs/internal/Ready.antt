@@ -1,14 +1,14 @@
 -- What the parts of the program ask of a file, and what they make.
 use Rattle.std.specs.Prelude.{◌≡◌, ◌≤◌, ◌<◌, ◌+◌, ℕ, Bool, List, map, length}
-use Rattle.heyvl_syntax.specs.declared.spans.Span.{Span}
+use Rattle.heyvl_places.specs.declared.spans.Span.{Span}
 use Rattle.heylo_formula.specs.Formula.{Term}
 use Rattle.heylo_formula.specs.PlainTrees.{form_of}
 use Rattle.heylo_formula.specs.Shifted.{extent, shifted}
-use Rattle.heyvl_types.specs.declared.typed.TProc.{TProc}
-use Rattle.heyvl_types.specs.declared.typed.VarInfo.{VarInfo}
-use Rattle.heyvl_types.specs.Acts.{Act, Acts, Arms, TypedProcedure, Variable, procedure_at, type_list, variables}
-use Rattle.heyvl_types.specs.PlainActs.{variable_of}
-use Rattle.heyvl_types.specs.Rules.{GrowBelow}
+use Rattle.heyvl_acts.specs.declared.typed.TProc.{TProc}
+use Rattle.heyvl_acts.specs.declared.typed.VarInfo.{VarInfo}
+use Rattle.heyvl_acts.specs.Acts.{Act, Acts, Arms, TypedProcedure, Variable, procedure_at, type_list, variables}
+use Rattle.heyvl_acts.specs.PlainActs.{variable_of}
+use Rattle.heyvl_acts.specs.Rules.{GrowBelow}
 use Rattle.k_induction.specs.Copies.{may}
 use Rattle.loop_encodings.specs.Encoding.{any_block, gets}
 

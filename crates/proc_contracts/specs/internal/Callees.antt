@@ -1,6 +1,6 @@
 -- The procedures that acts call, each as often as it is called.
 use Rattle.std.specs.Prelude.{ℕ, List, [], ◌∷◌, ◌++◌}
-use Rattle.heyvl_types.specs.Acts.{Act}
+use Rattle.heyvl_acts.specs.Acts.{Act}
 
 -- The procedure that an act calls.
 abbrev pub callee : Act → List ℕ

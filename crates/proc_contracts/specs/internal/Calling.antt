@@ -1,10 +1,10 @@
 -- What the walk over calls keeps.
 use Rattle.std.specs.Prelude.{◌≡◌, ◌<◌, ℕ, Bool, true, false, List, length, get_or}
 use Rattle.std.specs.List.{All}
-use Rattle.heyvl_types.specs.Acts.{TypedProcedure, acts_in, procedure_at}
-use Rattle.heyvl_types.specs.Places.{in_order}
-use Rattle.heyvl_types.specs.Program.{Reaches, calls}
-use Rattle.heyvl_types.specs.Visible.{among}
+use Rattle.heyvl_acts.specs.Acts.{TypedProcedure, acts_in, procedure_at}
+use Rattle.heyvl_acts.specs.Places.{in_order}
+use Rattle.heyvl_acts.specs.Program.{Reaches, calls}
+use Rattle.heyvl_acts.specs.Visible.{among}
 
 -- The list holds the procedures that one calls, each of which is there.
 pub record AreCalled (ps : List TypedProcedure) (p : ℕ) (called : List ℕ) : Type 0 where

@@ -1,7 +1,7 @@
 -- Marks of numbers, and lists of the numbers that are marked.
 use Rattle.std.specs.Prelude.{◌≡◌, ◌+◌, ℕ, Bool, true, false, ◌||◌, List, [], ◌∷◌, ◌++◌, get_or, length}
 use Prim.Native.Nat.{suc}
-use Rattle.heyvl_types.specs.Visible.{among}
+use Rattle.heyvl_acts.specs.Visible.{among}
 
 -- How many marks aren't set.
 abbrev pub unset : List Bool → ℕ

@@ -1,10 +1,10 @@
 -- A loop that the program lends, as plain trees.
 use Rattle.std.specs.Prelude.{Option, Some, None}
 use Rattle.std.specs.Borrow.{Bor}
-use Rattle.heyvl_types.proofs.exported.PlainActsAre.{head_of}
-use Rattle.heyvl_types.specs.Acts.{Head, Acts}
-use Rattle.heyvl_types.specs.PlainActs.{acts_of}
-use Rattle.heyvl_types.specs.declared.acts.LoopAct.{LoopAct}
+use Rattle.heyvl_acts.proofs.exported.PlainActsAre.{head_of}
+use Rattle.heyvl_acts.specs.Acts.{Head, Acts}
+use Rattle.heyvl_acts.specs.PlainActs.{acts_of}
+use Rattle.heyvl_acts.specs.declared.acts.LoopAct.{LoopAct}
 
 -- Its head and its body.
 abbrev pub loop_of : LoopAct → Head × Acts

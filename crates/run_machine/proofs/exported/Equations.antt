@@ -8,7 +8,7 @@ use Rattle.heyvl_num.specs.WeightedSums.{weighted_sum, scaled}
 use Rattle.heyvl_num.proofs.exported.Values.{+ᵛ-zero, one-*ᵛ}
 use Rattle.heyvl_num.proofs.exported.WeightedSums.{weighted_sum-empty, weighted_sum-cons, weighted_sum-append, weighted_sum-scaled}
 use Rattle.heylo_formula.specs.Formula.{Form}
-use Rattle.heyvl_types.specs.Acts.{TypedProcedure}
+use Rattle.heyvl_acts.specs.Acts.{TypedProcedure}
 use Rattle.run_machine.specs.Configurations.{Config, Outcomes}
 use Rattle.run_machine.specs.Step.{sure}
 use Rattle.run_machine.specs.Scheduler.{Tree, Forest, first, rest}

@@ -1,7 +1,7 @@
 -- What is known where an act, the test of a loop or a return comes next. Private functions alone need this.
 use Rattle.std.specs.Prelude.{◌≡◌, ℕ, ◌⊎◌, List, ◌∷◌, drop}
-use Rattle.heyvl_types.specs.Acts.{Act, TypedProcedure}
-use Rattle.heyvl_types.specs.Rules.{Each, MeetsRules}
+use Rattle.heyvl_acts.specs.Acts.{Act, TypedProcedure}
+use Rattle.heyvl_acts.specs.Rules.{Each, MeetsRules}
 use Rattle.run_machine.specs.declared.configurations.Item.TheVariants.{Do, Turn, Back}
 use Rattle.run_machine.specs.ConfigConditions.{IsConfig}
 use Rattle.run_machine.specs.Names.{Names, Numbered, Stored}

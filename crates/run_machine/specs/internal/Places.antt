@@ -1,8 +1,8 @@
 -- Which configurations go on behind their first item, where the callers wait for the same return, and where acts stand in
 -- the text of a body. Private functions alone need this.
 use Rattle.std.specs.Prelude.{◌≡◌, ◌+◌, ℕ, List, [], ◌∷◌, Some, reverse}
-use Rattle.heyvl_types.specs.Acts.{Act, TypedProcedure}
-use Rattle.heyvl_types.specs.Places.{nth, acts_of_procedure}
+use Rattle.heyvl_acts.specs.Acts.{Act, TypedProcedure}
+use Rattle.heyvl_acts.specs.Places.{nth, acts_of_procedure}
 use Rattle.run_machine.specs.Names.{Numbered, Lists, Stored}
 
 -- Where there are callers, there is an item behind the first.

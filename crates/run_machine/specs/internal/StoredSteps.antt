@@ -8,8 +8,8 @@ use Rattle.heylo_formula.specs.Formula.{Cond, Term}
 use Rattle.heylo_formula.specs.Meaning.{holds, term_value}
 use Rattle.heylo_formula.specs.State.{Env, environment}
 use Rattle.heylo_formula.specs.declared.values.Val.{Val}
-use Rattle.heyvl_types.specs.Acts.{Acts, Arms, TypedProcedure, acts_in}
-use Rattle.heyvl_types.specs.Places.{in_order}
+use Rattle.heyvl_acts.specs.Acts.{Acts, Arms, TypedProcedure, acts_in}
+use Rattle.heyvl_acts.specs.Places.{in_order}
 use Rattle.run_machine.specs.declared.configurations.Item.TheVariants.{Turn, Out, Back}
 use Rattle.run_machine.specs.Configurations.{first_state, outputs_of, set_all}
 use Rattle.run_machine.specs.Names.{Numbered, Lists, Stored, numbered}

@@ -1,7 +1,7 @@
 -- A list of runs that others join. Private functions alone need this.
 use Rattle.std.specs.Prelude.{◌≡◌, ℕ, List, ◌++◌, length, Option, Some, None}
 use Rattle.heyvl_num.specs.Rational.{Rational}
-use Rattle.heyvl_types.specs.Acts.{TypedProcedure}
+use Rattle.heyvl_acts.specs.Acts.{TypedProcedure}
 use Rattle.run_machine.specs.declared.configurations.Config as C
 use Rattle.run_machine.specs.declared.configurations.Decide.{Decide}
 use Rattle.run_unroller.specs.declared.causes.Cause.{Cause}

@@ -1,8 +1,8 @@
 -- How far turns and decisions can have come in so many steps. Private functions alone need this.
 use Rattle.std.specs.Prelude.{◌≤◌, ℕ, List}
 use Rattle.heyvl_num.specs.Rational.{Rational}
-use Rattle.heyvl_types.specs.Acts.{TypedProcedure}
-use Rattle.heyvl_types.specs.Rules.{Each}
+use Rattle.heyvl_acts.specs.Acts.{TypedProcedure}
+use Rattle.heyvl_acts.specs.Rules.{Each}
 use Rattle.run_machine.specs.declared.configurations.Config as C
 use Rattle.run_machine.specs.ConfigConditions.{IsConfig}
 use Rattle.run_machine.specs.Names.{Stored, stored, turns_of}

@@ -1,6 +1,6 @@
 -- The plain runs that runs in memory are.
+use Rattle.heyvl_acts.specs.Acts.{TypedProcedure}
 use Rattle.heyvl_num.specs.Rational.{Rational}
-use Rattle.heyvl_types.specs.Acts.{TypedProcedure}
 use Rattle.run_machine.specs.Configurations.{Config}
 use Rattle.run_machine.specs.Names.{config_of, stored}
 use Rattle.run_machine.specs.declared.configurations.Config as C

@@ -5,8 +5,8 @@ use Rattle.heylo_formula.specs.Formula.{Form}
 use Rattle.heylo_formula.specs.PlainTrees.{form_of}
 use Rattle.heylo_formula.specs.declared.goals.GoalId.{GoalId}
 use Rattle.heylo_formula.specs.declared.goals.GoalId.TheVariants.{Pre, Post, Invariant}
-use Rattle.heyvl_types.specs.Acts.{Act, TypedProcedure, acts_in, variables}
-use Rattle.heyvl_types.specs.Places.{in_order}
+use Rattle.heyvl_acts.specs.Acts.{Act, TypedProcedure, acts_in, variables}
+use Rattle.heyvl_acts.specs.Places.{in_order}
 use Rattle.verify_core.specs.Questions.{one_bound, question}
 use Rattle.verify_core.specs.declared.asking.Asked as declared
 use Rattle.vp_generator.specs.Scopes.{AreNamed}

@@ -1,7 +1,7 @@
 -- The marks of the procedures whose bound isn't shown by their own goals.
 use Rattle.std.specs.Prelude.{◌<◌, ℕ, Bool, true, false, List, [], ◌∷◌, Option, Some, None, length, get_or, is_some, if◌then◌else◌}
-use Rattle.heyvl_types.specs.Acts.{TypedProcedure}
-use Rattle.heyvl_types.specs.Program.{why_no_program}
+use Rattle.heyvl_acts.specs.Acts.{TypedProcedure}
+use Rattle.heyvl_acts.specs.Program.{why_no_program}
 use Rattle.verify_core.specs.Answered.{IsClosed}
 use Rattle.verify_core.specs.Decided.{DecidedGoal, IsOpen}
 use Rattle.verify_core.specs.declared.outcomes.Outcome.{Outcome}

@@ -1,8 +1,8 @@
 -- The goals of procedures with their decisions, as rows of a table, and what comes of them.
 use Rattle.std.specs.Prelude.{◌≡◌, ℕ, List, ◌++◌, drop}
 use Rattle.goal_answers.specs.declared.trees.GoalCert.{GoalCert}
-use Rattle.heyvl_types.specs.Acts.{TypedProcedure, procedure_at}
-use Rattle.heyvl_types.specs.Rules.{Each}
+use Rattle.heyvl_acts.specs.Acts.{TypedProcedure, procedure_at}
+use Rattle.heyvl_acts.specs.Rules.{Each}
 use Rattle.loop_encodings.specs.BoundGoals.{bound_goals}
 use Rattle.verify_core.specs.Decided.{AreDecided, DecidedGoal, IsTable, certificates}
 use Rattle.verify_core.specs.DecidedRankings.{AreRankingsDecided, IsRankTable, certified_in_file}

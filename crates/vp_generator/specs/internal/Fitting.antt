@@ -1,9 +1,9 @@
 -- Acts whose terms fit the variables that they are given to, by the shape of the acts. The crate speaks of it alone.
 use Rattle.heylo_formula.specs.Formula.{Form, Term}
 use Rattle.heylo_formula.specs.Typing.{TermFits}
+use Rattle.heyvl_acts.specs.Acts.{Act, Arms}
+use Rattle.heyvl_acts.specs.WellTyped.{PartsFit, DrawFits, ActFits, ArmsFit}
 use Rattle.heyvl_num.specs.Rational.{Rational}
-use Rattle.heyvl_types.specs.Acts.{Act, Arms}
-use Rattle.heyvl_types.specs.WellTyped.{PartsFit, DrawFits, ActFits, ArmsFit}
 use Rattle.std.specs.Prelude.{ℕ, List}
 use Rattle.vp_generator.specs.Fit.{Fit}
 

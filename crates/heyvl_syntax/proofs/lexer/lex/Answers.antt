@@ -1,7 +1,7 @@
+use Rattle.heyvl_places.specs.declared.spans.Span.{Span}
 use Rattle.heyvl_syntax.proofs.Unique.{lexes_no_stop, lexes_unique, stops_unique}
 use Rattle.heyvl_syntax.proofs.lexer.lex.Goals as goal
 use Rattle.heyvl_syntax.specs.Tokens.{IsFaultOrMemory, IsMemory, IsStop, Lexes, Stops}
-use Rattle.heyvl_syntax.specs.declared.spans.Span.{Span}
 use Rattle.heyvl_syntax.specs.declared.stops.LexStop.TheVariants as stops
 use Rattle.heyvl_syntax.specs.declared.stops.LexStop.{LexStop}
 use Rattle.heyvl_syntax.specs.declared.tokens.Token.{Token}

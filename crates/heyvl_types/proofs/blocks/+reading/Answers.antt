@@ -5,11 +5,11 @@ use Rattle.heyvl_types.proofs.Nested.{bound_by_first, bound_by_rest, if_gives, l
 use Rattle.heyvl_types.proofs.ReadRests.{arms_end_read, arms_give, arms_more, block_ends, block_gives, block_more}
 use Rattle.heyvl_types.proofs.blocks.+reading.Goals as goal
 use Rattle.heyvl_types.proofs.blocks.+reading.Goals.{read_arms-else-bound, read_arms-then-bound, read_block-else-bound, read_block-then-bound, read_statement-else-bound, read_statement-else-bound-2, read_statement-then-bound, read_statement-then-bound-2}
-use Rattle.heyvl_types.proofs.exported.PlainActsAre.{if_act, pick_act}
-use Rattle.heyvl_types.specs.Acts.{Acts}
+use Rattle.heyvl_acts.proofs.exported.PlainActsAre.{if_act, pick_act}
+use Rattle.heyvl_acts.specs.Acts.{Acts}
 use Rattle.heyvl_types.specs.Answers.{Gives}
 use Rattle.heyvl_types.specs.internal.Views.{acts_view, arms_view}
-use Rattle.heyvl_types.specs.PlainActs.{acts_of, arm_of, variable_of}
+use Rattle.heyvl_acts.specs.PlainActs.{acts_of, arm_of, variable_of}
 use Rattle.heyvl_types.specs.StatementActs.{block_acts, statement_acts}
 use Rattle.heyvl_types.specs.StatementRules.{arms_bind, block_binds, statement_findings}
 use Rattle.heyvl_types.specs.Variables.{locals, locals_of_arms, locals_of_block}

@@ -1,7 +1,7 @@
+use Rattle.heyvl_acts.specs.PlainActs.{acts_of, arm_of}
 use Rattle.heyvl_syntax.specs.Statements.{arms, block}
 use Rattle.heyvl_types.proofs.Walks.{ArmsRead, BlockRead}
 use Rattle.heyvl_types.proofs.blocks.+reading.Given as goal
-use Rattle.heyvl_types.specs.PlainActs.{acts_of, arm_of}
 use Rattle.std.proofs.Common.{drop, map, ◌≡◌}
 
 -- The block is read as far as the statements that are left.

@@ -1,6 +1,6 @@
+use Rattle.heyvl_acts.specs.PlainActs.{parts_of}
 use Rattle.heyvl_syntax.specs.Statements.{choices}
 use Rattle.heyvl_types.proofs.choices.read_choices.Given as goal
-use Rattle.heyvl_types.specs.PlainActs.{parts_of}
 use Rattle.heyvl_types.specs.RightSides.{choices_findings}
 use Rattle.heyvl_types.specs.StatementActs.{choose_parts}
 use Rattle.heyvl_types.specs.internal.RightSideParts.{types_of_choices}

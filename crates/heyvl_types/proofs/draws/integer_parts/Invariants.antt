@@ -1,5 +1,5 @@
+use Rattle.heyvl_acts.specs.PlainActs.{parts_of}
 use Rattle.heyvl_types.proofs.draws.integer_parts.Given as goal
-use Rattle.heyvl_types.specs.PlainActs.{parts_of}
 use Rattle.heyvl_types.specs.StatementActs.{integer_parts}
 use Rattle.std.proofs.Common.{pos, ◌++◌, ◌-◌, ◌≡◌}
 use Rattle.std.specs.Prelude.{◌+ℤ◌}

@@ -1,10 +1,10 @@
+use Rattle.heyvl_acts.specs.PlainActs.{procedure_of, procedures_of}
+use Rattle.heyvl_acts.specs.Rules.{Each, IsCounted}
 use Rattle.heyvl_syntax.specs.Procedures.{procedure, procedures}
 use Rattle.heyvl_types.proofs.ProcedureList.{At, fails, goes_on, stands}
 use Rattle.heyvl_types.proofs.files.resolve.Goals as goal
 use Rattle.heyvl_types.specs.Answers.{Gives}
 use Rattle.heyvl_types.specs.Files.{file_findings, resolved}
-use Rattle.heyvl_types.specs.PlainActs.{procedure_of, procedures_of}
-use Rattle.heyvl_types.specs.Rules.{Each, IsCounted}
 use Rattle.heyvl_types.specs.Signatures.{find_call}
 use Rattle.heyvl_types.specs.internal.Earlier.{is_before}
 use Rattle.std.proofs.Common.{Err, List, [], ap, map, rules, subst, sym, ◌++◌, ◌∙◌, ◌∷◌}

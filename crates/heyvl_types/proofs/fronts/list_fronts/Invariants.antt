@@ -1,6 +1,6 @@
+use Rattle.heyvl_acts.specs.PlainActs.{variable_of}
 use Rattle.heyvl_syntax.specs.Expressions.{expressions}
 use Rattle.heyvl_types.proofs.fronts.list_fronts.Given as goal
-use Rattle.heyvl_types.specs.PlainActs.{variable_of}
 use Rattle.heyvl_types.specs.Variables.{fronts_variables}
 use Rattle.std.proofs.Common.{drop, map, ◌++◌, ◌≡◌}
 

@@ -7,10 +7,10 @@ use Rattle.heyvl_types.proofs.resolved.Heads.{IsClean, all_clean, few_parameters
 use Rattle.heyvl_types.proofs.resolved.Targets.{own}
 use Rattle.heyvl_types.proofs.resolved.TypedActs.{typed_locally}
 use Rattle.heyvl_types.proofs.resolved.Weights.{weighs}
-use Rattle.heyvl_types.specs.Acts.{variables}
+use Rattle.heyvl_acts.specs.Acts.{variables}
 use Rattle.heyvl_types.specs.Files.{file_findings, is_wlp, resolved, setting, typed}
-use Rattle.heyvl_types.specs.PlainActs.{procedure_of}
-use Rattle.heyvl_types.specs.Rules.{Each, HasOwnTargets, IsTypedAct, MeetsRules, WeighsOne}
+use Rattle.heyvl_acts.specs.PlainActs.{procedure_of}
+use Rattle.heyvl_acts.specs.Rules.{Each, HasOwnTargets, IsTypedAct, MeetsRules, WeighsOne}
 use Rattle.heyvl_types.specs.Signatures.{called}
 use Rattle.std.proofs.Common.{List, [], ap, arith, length, map, subst, sym, ◌∷◌, ◌≡◌}
 use Rattle.std.proofs.lemmas.List.{length-map}

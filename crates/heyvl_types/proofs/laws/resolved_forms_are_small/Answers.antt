@@ -1,11 +1,11 @@
+use Rattle.heyvl_acts.specs.FormSizes.{FormsWithin}
+use Rattle.heyvl_acts.specs.Rules.{Each}
 use Rattle.heyvl_syntax.specs.Procedures.{Procedure}
 use Rattle.heyvl_syntax.specs.Sizes.{nodes_of_procedure}
 use Rattle.heyvl_types.proofs.laws.resolved_forms_are_small.Goals as goal
 use Rattle.heyvl_types.proofs.resolved.Heads.{IsClean, all_clean}
 use Rattle.heyvl_types.proofs.resolved.SmallForms.{forms_small}
 use Rattle.heyvl_types.specs.Files.{typed}
-use Rattle.heyvl_types.specs.ResolvedSizes.{FormsWithin}
-use Rattle.heyvl_types.specs.Rules.{Each}
 use Rattle.heyvl_types.specs.Signatures.{called}
 use Rattle.std.proofs.Common.{List, [], ◌*◌, ◌+◌, ◌∷◌}
 

@@ -1,6 +1,6 @@
+use Rattle.heyvl_acts.specs.PlainActs.{variable_of}
 use Rattle.heyvl_types.proofs.ParameterSteps.{Reads}
 use Rattle.heyvl_types.proofs.parameters.read_parameters.Given as goal
-use Rattle.heyvl_types.specs.PlainActs.{variable_of}
 use Rattle.std.proofs.Common.{map}
 
 abbrev pub invariant-loop-param : goal.invariant-loop-param

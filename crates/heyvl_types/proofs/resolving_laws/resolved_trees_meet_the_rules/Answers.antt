@@ -1,12 +1,12 @@
+use Rattle.heyvl_acts.specs.PlainActs.{procedure_of}
+use Rattle.heyvl_acts.specs.Rules.{Each, IsCounted, MeetsAllRules}
+use Rattle.heyvl_acts.specs.declared.typed.Typed.{Typed}
 use Rattle.heyvl_syntax.specs.Procedures.{Procedure}
 use Rattle.heyvl_types.proofs.resolving_laws.resolved_trees_meet_the_rules.Goals as goal
 use Rattle.heyvl_types.specs.Files.{typed}
-use Rattle.heyvl_types.specs.PlainActs.{procedure_of}
 use Rattle.heyvl_types.specs.ResolvedLaws.{IsAnswer, ResolvedFilesMeetRules}
-use Rattle.heyvl_types.specs.Rules.{Each, IsCounted, MeetsAllRules}
 use Rattle.heyvl_types.specs.Signatures.{called}
 use Rattle.heyvl_types.specs.declared.stops.ResolveStop.{ResolveStop}
-use Rattle.heyvl_types.specs.declared.typed.Typed.{Typed}
 use Rattle.std.proofs.Common.{Err, List, Ok, ap, arith, length, ◌≤◌}
 use Rattle.std.proofs.lemmas.List.{length-map}
 use Rattle.std.specs.Prelude.{IfOk, Result}

@@ -1,9 +1,9 @@
+use Rattle.heyvl_acts.specs.declared.typed.Typed.{Typed}
 use Rattle.heyvl_syntax.specs.Procedures.{Procedure}
 use Rattle.heyvl_types.proofs.resolving_laws.resolving_is_unique.Goals as goal
 use Rattle.heyvl_types.specs.Findings.{Finding, first}
 use Rattle.heyvl_types.specs.ResolvedLaws.{Agree, IsAnswer}
 use Rattle.heyvl_types.specs.declared.stops.ResolveStop.{ResolveStop}
-use Rattle.heyvl_types.specs.declared.typed.Typed.{Typed}
 use Rattle.std.proofs.Common.{Err, List, Ok, Some, [], ap, sym, ◌∙◌, ◌≡◌}
 use Rattle.std.specs.Prelude.{Result}
 

@@ -1,6 +1,6 @@
+use Rattle.heyvl_acts.specs.Acts.{join}
+use Rattle.heyvl_acts.specs.PlainActs.{acts_of}
 use Rattle.heyvl_types.proofs.statements.havocs.Given as goal
-use Rattle.heyvl_types.specs.Acts.{join}
-use Rattle.heyvl_types.specs.PlainActs.{acts_of}
 use Rattle.heyvl_types.specs.StatementActs.{havocs}
 use Rattle.std.proofs.Common.{drop, ◌≡◌}
 

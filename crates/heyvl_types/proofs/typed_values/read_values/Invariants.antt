@@ -1,6 +1,6 @@
+use Rattle.heyvl_acts.specs.PlainActs.{terms_of}
 use Rattle.heyvl_syntax.specs.Expressions.{expressions}
 use Rattle.heyvl_types.proofs.typed_values.read_values.Given as goal
-use Rattle.heyvl_types.specs.PlainActs.{terms_of}
 use Rattle.heyvl_types.specs.RightSides.{all_findings}
 use Rattle.heyvl_types.specs.StatementActs.{terms}
 use Rattle.heyvl_types.specs.internal.RightSideParts.{types_of}

@@ -1,6 +1,6 @@
 use Rattle.std.proofs.Common.{ap, ◌∙◌, refl}
 use Rattle.heylo_formula.specs.PlainTrees.{form_of}
-use Rattle.heyvl_types.specs.Acts.{Act}
+use Rattle.heyvl_acts.specs.Acts.{Act}
 use Rattle.k_induction.proofs.Joins.{two_more}
 use Rattle.k_induction.proofs.copies.another_copy.Goals as goal
 

@@ -1,6 +1,6 @@
 use Rattle.std.proofs.Common.{ap, ◌∙◌, sym, arith}
 use Rattle.heylo_formula.specs.PlainTrees.{cond_of, form_of}
-use Rattle.heyvl_types.specs.PlainActs.{acts_of}
+use Rattle.heyvl_acts.specs.PlainActs.{acts_of}
 use Rattle.k_induction.specs.Copies.{another_copy, if_holds}
 use Rattle.k_induction.proofs.Joins.{one_more_copy}
 use Rattle.k_induction.proofs.copies.unrolled.Goals as goal

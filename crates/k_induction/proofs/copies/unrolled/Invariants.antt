@@ -1,6 +1,6 @@
 use Rattle.std.proofs.Common.{◌≡◌}
 use Rattle.heylo_formula.specs.PlainTrees.{cond_of, form_of}
-use Rattle.heyvl_types.specs.PlainActs.{acts_of}
+use Rattle.heyvl_acts.specs.PlainActs.{acts_of}
 use Rattle.k_induction.specs.Copies.{copies}
 use Rattle.k_induction.proofs.copies.unrolled.Given as goal
 

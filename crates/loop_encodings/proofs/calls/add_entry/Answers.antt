@@ -1,6 +1,6 @@
 use Rattle.heylo_formula.specs.PlainTrees.{form_of}
 use Rattle.heylo_formula.specs.Shifted.{shifted}
-use Rattle.heyvl_types.specs.Acts.{Act, Acts}
+use Rattle.heyvl_acts.specs.Acts.{Act, Acts}
 use Rattle.k_induction.specs.Copies.{must}
 use Rattle.loop_encodings.proofs.Appending.{one_more}
 use Rattle.loop_encodings.proofs.CallSteps.{check_made}

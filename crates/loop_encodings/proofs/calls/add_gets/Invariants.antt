@@ -1,6 +1,6 @@
 use Rattle.std.proofs.Common.{◌≡◌, ◌+◌, drop}
-use Rattle.heyvl_types.specs.Acts.{join, type_list}
-use Rattle.heyvl_types.specs.PlainActs.{acts_of}
+use Rattle.heyvl_acts.specs.Acts.{join, type_list}
+use Rattle.heyvl_acts.specs.PlainActs.{acts_of}
 use Rattle.loop_encodings.specs.Encoding.{gets}
 use Rattle.loop_encodings.specs.internal.Ready.{plain_variables}
 use Rattle.loop_encodings.proofs.calls.add_gets.Given as goal

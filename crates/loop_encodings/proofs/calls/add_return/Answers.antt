@@ -1,4 +1,4 @@
-use Rattle.heyvl_types.proofs.exported.PlainActsAre.{validate_act}
+use Rattle.heyvl_acts.proofs.exported.PlainActsAre.{validate_act}
 use Rattle.loop_encodings.proofs.CallSteps.{check_made, return_made}
 use Rattle.loop_encodings.proofs.calls.add_return.Goals as goal
 

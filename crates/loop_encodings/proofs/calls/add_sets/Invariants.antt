@@ -1,6 +1,6 @@
 use Rattle.std.proofs.Common.{◌≡◌, ◌+◌, drop}
-use Rattle.heyvl_types.specs.Acts.{Acts, join}
-use Rattle.heyvl_types.specs.PlainActs.{acts_of, terms_of}
+use Rattle.heyvl_acts.specs.Acts.{Acts, join}
+use Rattle.heyvl_acts.specs.PlainActs.{acts_of, terms_of}
 use Rattle.loop_encodings.specs.Encoding.{sets}
 use Rattle.loop_encodings.proofs.calls.add_sets.Given as goal
 

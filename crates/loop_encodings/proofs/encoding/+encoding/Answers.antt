@@ -1,11 +1,11 @@
 use Rattle.std.proofs.Common.{refl, sym, ap, subst, ◌∙◌, ◌<◌, ◌++◌, arith, ℕ, List, [], length}
 use Rattle.std.proofs.lemmas.List.{length-map}
 use Rattle.heylo_formula.specs.PlainTrees.{term_of}
-use Rattle.heyvl_types.proofs.exported.PlainActsAre.{any_act, call_act, check_act, draw_act, head_of, if_act, loop_act, pick_act, reward_act, set_act, validate_act}
-use Rattle.heyvl_types.specs.Acts.{Act, TypedProcedure}
-use Rattle.heyvl_types.specs.PlainActs.{act_of, acts_of, arms_of, procedure_of, procedures_of, terms_of, variable_of}
-use Rattle.heyvl_types.specs.Rules.{GrowBelow}
-use Rattle.heyvl_types.specs.declared.acts.LoopAct.{LoopAct}
+use Rattle.heyvl_acts.proofs.exported.PlainActsAre.{any_act, call_act, check_act, draw_act, head_of, if_act, loop_act, pick_act, reward_act, set_act, validate_act}
+use Rattle.heyvl_acts.specs.Acts.{Act, TypedProcedure}
+use Rattle.heyvl_acts.specs.PlainActs.{act_of, acts_of, arms_of, procedure_of, procedures_of, terms_of, variable_of}
+use Rattle.heyvl_acts.specs.Rules.{GrowBelow}
+use Rattle.heyvl_acts.specs.declared.acts.LoopAct.{LoopAct}
 use Rattle.loop_encodings.specs.Encoding.{encoded}
 use Rattle.loop_encodings.specs.Fresh.{fresh}
 use Rattle.loop_encodings.specs.internal.Ready.{plain_variables}

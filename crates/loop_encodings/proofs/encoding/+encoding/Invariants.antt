@@ -1,6 +1,6 @@
 use Rattle.std.proofs.Common.{◌≡◌, ◌+◌}
-use Rattle.heyvl_types.specs.Acts.{Act}
-use Rattle.heyvl_types.specs.PlainActs.{act_of, acts_of, arms_of, procedure_of, procedures_of}
+use Rattle.heyvl_acts.specs.Acts.{Act}
+use Rattle.heyvl_acts.specs.PlainActs.{act_of, acts_of, arms_of, procedure_of, procedures_of}
 use Rattle.loop_encodings.specs.internal.Ready.{plain_variables}
 use Rattle.loop_encodings.proofs.Steps.{ArmTurns, Turns}
 use Rattle.loop_encodings.proofs.Weights.{weight, weight_of}

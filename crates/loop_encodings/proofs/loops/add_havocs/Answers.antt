@@ -1,6 +1,6 @@
 use Rattle.std.proofs.Common.{refl, subst, sym, length, get_or, ◌<◌}
-use Rattle.heyvl_types.specs.Acts.{types_of}
-use Rattle.heyvl_types.specs.PlainActs.{procedure_of}
+use Rattle.heyvl_acts.specs.Acts.{types_of}
+use Rattle.heyvl_acts.specs.PlainActs.{procedure_of}
 use Rattle.loop_encodings.proofs.CallSteps.{havocs_step, havocs_end}
 use Rattle.loop_encodings.proofs.OwnVariables.{grow_below, own_type}
 use Rattle.loop_encodings.proofs.loops.add_havocs.Goals as goal

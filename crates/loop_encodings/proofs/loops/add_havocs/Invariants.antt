@@ -1,6 +1,6 @@
 use Rattle.std.proofs.Common.{◌≡◌, drop}
-use Rattle.heyvl_types.specs.Acts.{Acts, join, types_of}
-use Rattle.heyvl_types.specs.PlainActs.{acts_of, procedure_of}
+use Rattle.heyvl_acts.specs.Acts.{Acts, join, types_of}
+use Rattle.heyvl_acts.specs.PlainActs.{acts_of, procedure_of}
 use Rattle.loop_encodings.specs.Encoding.{havocs}
 use Rattle.loop_encodings.proofs.loops.add_havocs.Given as goal
 

@@ -1,8 +1,8 @@
 use Rattle.std.proofs.Common.{ap, ◌∙◌}
 use Rattle.heylo_formula.specs.PlainTrees.{form_of}
-use Rattle.heyvl_types.proofs.exported.PlainActsAre.{head_of}
-use Rattle.heyvl_types.specs.Acts.{Act, Acts, join, types_of}
-use Rattle.heyvl_types.specs.PlainActs.{acts_of, procedure_of}
+use Rattle.heyvl_acts.proofs.exported.PlainActsAre.{head_of}
+use Rattle.heyvl_acts.specs.Acts.{Act, Acts, join, types_of}
+use Rattle.heyvl_acts.specs.PlainActs.{acts_of, procedure_of}
 use Rattle.k_induction.specs.Copies.{must}
 use Rattle.loop_encodings.specs.Encoding.{havocs, tested}
 use Rattle.loop_encodings.proofs.Appending.{one_more}

@@ -1,7 +1,7 @@
 use Rattle.std.proofs.Common.{ap, ◌∙◌}
 use Rattle.heylo_formula.specs.PlainTrees.{cond_of, form_of}
-use Rattle.heyvl_types.specs.Acts.{Act}
-use Rattle.heyvl_types.proofs.exported.PlainActsAre.{validate_act}
+use Rattle.heyvl_acts.specs.Acts.{Act}
+use Rattle.heyvl_acts.proofs.exported.PlainActsAre.{validate_act}
 use Rattle.k_induction.specs.Copies.{if_holds}
 use Rattle.loop_encodings.proofs.CallSteps.{three_made}
 use Rattle.loop_encodings.proofs.loops.add_test.Goals as goal

@@ -1,7 +1,7 @@
 use Rattle.std.proofs.Common.{ap, append_assoc, ◌++◌, ◌∙◌}
 use Rattle.std.proofs.lemmas.Result.{IfOk-equal}
-use Rattle.heyvl_types.specs.Places.{in_order}
-use Rattle.heyvl_types.specs.PlainActs.{acts_of}
+use Rattle.heyvl_acts.specs.Places.{in_order}
+use Rattle.heyvl_acts.specs.PlainActs.{acts_of}
 use Rattle.proc_contracts.specs.internal.Callees.{callees}
 use Rattle.proc_contracts.proofs.CalledProcedures.{next_calls, next_arm_calls, if_calls, pick_calls}
 use Rattle.proc_contracts.proofs.calls.+calling.Goals as goal

@@ -1,6 +1,6 @@
 use Rattle.std.proofs.Common.{◌≡◌, ◌++◌, ◌∷◌, drop}
-use Rattle.heyvl_types.specs.Places.{in_order, inside}
-use Rattle.heyvl_types.specs.PlainActs.{act_of, acts_of}
+use Rattle.heyvl_acts.specs.Places.{in_order, inside}
+use Rattle.heyvl_acts.specs.PlainActs.{act_of, acts_of}
 use Rattle.proc_contracts.specs.internal.Callees.{callees}
 use Rattle.proc_contracts.proofs.CalledProcedures.{arms_from}
 use Rattle.proc_contracts.proofs.calls.+calling.Given as goal

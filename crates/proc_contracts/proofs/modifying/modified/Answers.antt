@@ -1,8 +1,8 @@
 use Rattle.std.proofs.Common.{◌≡◌, ◌<◌, ◌+◌, ◌++◌, ◌∷◌, ◌∙◌, [], ap, drop, get_or, length, sym, subst}
 use Rattle.std.proofs.lemmas.List.{get_or_default}
-use Rattle.heyvl_types.specs.Modified.{modified}
-use Rattle.heyvl_types.specs.PlainActs.{acts_of}
-use Rattle.heyvl_types.specs.Rules.{GrowBelow}
+use Rattle.heyvl_acts.specs.Modified.{modified}
+use Rattle.heyvl_acts.specs.PlainActs.{acts_of}
+use Rattle.heyvl_acts.specs.Rules.{GrowBelow}
 use Rattle.proc_contracts.proofs.Targets.{all_modified, left, modified_grow, taken}
 use Rattle.proc_contracts.proofs.modifying.modified.Goals as goal
 use Rattle.proc_contracts.proofs.modifying.modified.Goals.{then-is_target+in_ok-push, else-is_target}

@@ -1,6 +1,6 @@
 use Rattle.std.proofs.Common.{◌≡◌, ◌++◌, drop}
-use Rattle.heyvl_types.specs.Modified.{modified}
-use Rattle.heyvl_types.specs.PlainActs.{acts_of}
+use Rattle.heyvl_acts.specs.Modified.{modified}
+use Rattle.heyvl_acts.specs.PlainActs.{acts_of}
 use Rattle.proc_contracts.proofs.modifying.modified.Given as goal
 
 -- What is found and what is modified of the rest are what is modified of the scope.

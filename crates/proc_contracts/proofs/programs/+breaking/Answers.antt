@@ -1,6 +1,6 @@
 use Rattle.std.proofs.Common.{◌∙◌, sym}
-use Rattle.heyvl_types.specs.PlainActs.{acts_of}
-use Rattle.heyvl_types.specs.Places.{in_order}
+use Rattle.heyvl_acts.specs.PlainActs.{acts_of}
+use Rattle.heyvl_acts.specs.Places.{in_order}
 use Rattle.proc_contracts.proofs.Breaks.{act_found, act_past, arm_found, arm_past, found_first, past_first, if_start, pick_start}
 use Rattle.proc_contracts.proofs.programs.+breaking.Goals as goal
 

@@ -1,5 +1,5 @@
 use Rattle.std.proofs.Common.{ap, sym, ◌∙◌}
-use Rattle.heyvl_types.specs.Program.{why_no_program}
+use Rattle.heyvl_acts.specs.Program.{why_no_program}
 use Rattle.proc_contracts.proofs.CalledProcedures.{procedure_is}
 use Rattle.proc_contracts.proofs.programs.not_program.Goals as goal
 

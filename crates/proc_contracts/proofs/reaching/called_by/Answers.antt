@@ -1,8 +1,8 @@
 use Rattle.std.proofs.Common.{◌≡◌}
 use Rattle.std.proofs.lemmas.Result.{IfOk-weaker}
-use Rattle.heyvl_types.specs.Acts.{acts_in}
-use Rattle.heyvl_types.specs.Places.{in_order}
-use Rattle.heyvl_types.specs.PlainActs.{body_of, procedures_of}
+use Rattle.heyvl_acts.specs.Acts.{acts_in}
+use Rattle.heyvl_acts.specs.Places.{in_order}
+use Rattle.heyvl_acts.specs.PlainActs.{body_of, procedures_of}
 use Rattle.proc_contracts.specs.internal.Callees.{callees}
 use Rattle.proc_contracts.specs.internal.Calling.{AreCalled}
 use Rattle.proc_contracts.proofs.CalledProcedures.{are_called}

@@ -1,6 +1,6 @@
 use Rattle.std.proofs.Common.{◌≡◌, subst, sym}
 use Rattle.std.proofs.lemmas.Result.{IfOk-weaker}
-use Rattle.heyvl_types.specs.PlainActs.{procedures_of}
+use Rattle.heyvl_acts.specs.PlainActs.{procedures_of}
 use Rattle.proc_contracts.specs.Reached.{AreReached}
 use Rattle.proc_contracts.specs.internal.Marking.{marked}
 use Rattle.proc_contracts.proofs.Walk.{marked_are_reached}

@@ -1,6 +1,6 @@
 use Rattle.std.proofs.Common.{◌<◌, ◌≤◌, ◌+◌, ◌∙◌, [], arith, rules, subst, sym}
 use Rattle.std.proofs.lemmas.List.{length-map}
-use Rattle.heyvl_types.specs.PlainActs.{procedure_of, procedures_of}
+use Rattle.heyvl_acts.specs.PlainActs.{procedure_of, procedures_of}
 use Rattle.proc_contracts.specs.internal.Marking.{AreMarked}
 use Rattle.proc_contracts.proofs.Marks.{none_marked}
 use Rattle.proc_contracts.proofs.Walk.{OnTheWay, below_marks, finished, further_on, past_itself, stands, started}

@@ -1,5 +1,5 @@
 use Rattle.std.proofs.Common.{length, ◌-◌}
-use Rattle.heyvl_types.specs.PlainActs.{procedures_of}
+use Rattle.heyvl_acts.specs.PlainActs.{procedures_of}
 use Rattle.proc_contracts.proofs.Walk.{OnTheWay}
 use Rattle.proc_contracts.proofs.reaching.reached.Given as goal
 

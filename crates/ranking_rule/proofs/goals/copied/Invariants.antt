@@ -1,5 +1,5 @@
 use Rattle.std.proofs.Common.{◌≡◌, ◌++◌, drop, map}
-use Rattle.heyvl_types.specs.PlainActs.{variable_of}
+use Rattle.heyvl_acts.specs.PlainActs.{variable_of}
 use Rattle.ranking_rule.proofs.goals.copied.Given as goal
 
 -- What is copied and what is left are what all are.

@@ -1,6 +1,6 @@
 use Rattle.std.proofs.Common.{◌∙◌, refl, sym}
-use Rattle.heyvl_types.specs.PlainActs.{acts_of}
-use Rattle.heyvl_types.specs.Places.{in_order}
+use Rattle.heyvl_acts.specs.PlainActs.{acts_of}
+use Rattle.heyvl_acts.specs.Places.{in_order}
 use Rattle.ranking_rule.specs.Rankings.{loop_in}
 use Rattle.ranking_rule.proofs.ActsInOrder.{of_if, of_pick}
 use Rattle.ranking_rule.proofs.FoundLoops.{act_found, act_past, arm_found, arm_past, found_first, past_first}

@@ -1,6 +1,6 @@
 use Rattle.std.proofs.Common.{◌≡◌, ◌∷◌}
-use Rattle.heyvl_types.specs.Places.{in_order, inside}
-use Rattle.heyvl_types.specs.PlainActs.{act_of, acts_of}
+use Rattle.heyvl_acts.specs.Places.{in_order, inside}
+use Rattle.heyvl_acts.specs.PlainActs.{act_of, acts_of}
 use Rattle.ranking_rule.specs.Rankings.{loop_in}
 use Rattle.ranking_rule.proofs.ActsInOrder.{acts_from, arms_from}
 use Rattle.ranking_rule.proofs.loops.+finding.Given as goal

@@ -1,8 +1,8 @@
 use Rattle.std.proofs.Common.{refl, sym, ap, ap₂, ◌∙◌, arith, true}
-use Rattle.heyvl_types.proofs.exported.PlainActsAre.{any_act, if_act, pick_act, reward_act}
-use Rattle.heyvl_types.specs.Acts.{Act}
-use Rattle.heyvl_types.specs.PlainActs.{act_of, acts_of, arms_of}
-use Rattle.ranking_rule.specs.Upward.{upward, upward_arms}
+use Rattle.heyvl_acts.proofs.exported.PlainActsAre.{any_act, if_act, pick_act, reward_act}
+use Rattle.heyvl_acts.specs.Acts.{Act}
+use Rattle.heyvl_acts.specs.PlainActs.{act_of, acts_of, arms_of}
+use Rattle.heyvl_acts.specs.Upward.{upward, upward_arms}
 use Rattle.ranking_rule.proofs.Raising.{arm_more, arms_end, arms_start, changed, left_out, turn_more, turns_end}
 use Rattle.ranking_rule.proofs.Weights.{act_within, arm_within, weight, weight_of}
 use Rattle.ranking_rule.proofs.upward.+raising.Goals as goal

@@ -1,8 +1,8 @@
 use Rattle.std.proofs.Common.{◌≡◌, ◌+◌, ◌<◌, ◌^◌, length, drop}
 use Rattle.heylo_formula.specs.State.{environment}
-use Rattle.heyvl_types.specs.Matching.{taken}
-use Rattle.heyvl_types.specs.Places.{in_order}
-use Rattle.heyvl_types.specs.PlainActs.{acts_of, arms_of}
+use Rattle.heyvl_acts.specs.Matching.{taken}
+use Rattle.heyvl_acts.specs.Places.{in_order}
+use Rattle.heyvl_acts.specs.PlainActs.{acts_of, arms_of}
 use Rattle.run_machine.specs.BoundedStep.{guards_fit}
 use Rattle.run_machine.specs.internal.StoredSteps.{taken_place}
 use Rattle.run_machine.proofs.BlockSizes.{arms_from}

@@ -1,6 +1,6 @@
 use Rattle.std.proofs.Common.{◌≡◌, ◌+◌, ◌<◌, ◌^◌, length}
-use Rattle.heyvl_types.specs.PlainActs.{act_of, acts_of}
-use Rattle.heyvl_types.specs.Places.{in_order, inside}
+use Rattle.heyvl_acts.specs.PlainActs.{act_of, acts_of}
+use Rattle.heyvl_acts.specs.Places.{in_order, inside}
 use Rattle.run_machine.proofs.BlockSizes.{size_from, arms_from}
 use Rattle.run_machine.proofs.blocks.+counting.Given as goal
 

@@ -1,6 +1,6 @@
 use Rattle.std.proofs.Common.{◌≡◌, ◌+◌, ◌++◌, length, drop}
-use Rattle.heyvl_types.specs.PlainActs.{acts_of}
-use Rattle.heyvl_types.specs.Places.{in_order}
+use Rattle.heyvl_acts.specs.PlainActs.{acts_of}
+use Rattle.heyvl_acts.specs.Places.{in_order}
 use Rattle.run_machine.specs.Names.{numbered}
 use Rattle.run_machine.proofs.BlockSizes.{size_from}
 use Rattle.run_machine.proofs.blocks.push_block.Given as goal

@@ -1,5 +1,5 @@
 use Rattle.std.proofs.Common.{ap, ◌∙◌, arith, length, map}
-use Rattle.heyvl_types.specs.PlainActs.{procedure_of}
+use Rattle.heyvl_acts.specs.PlainActs.{procedure_of}
 use Rattle.run_machine.specs.Configurations.{outputs_of, set_all}
 use Rattle.run_machine.specs.Names.{lists_of, stored}
 use Rattle.run_machine.specs.internal.Replies.{kept_small, surely}

@@ -1,5 +1,5 @@
 use Rattle.std.proofs.Common.{◌≡◌, ◌++◌, drop}
-use Rattle.heyvl_types.specs.PlainActs.{terms_of}
+use Rattle.heyvl_acts.specs.PlainActs.{terms_of}
 use Rattle.heylo_formula.specs.State.{environment}
 use Rattle.run_machine.specs.BoundedStep.{terms_fit}
 use Rattle.run_machine.specs.Configurations.{evaluate}

@@ -1,5 +1,5 @@
 use Rattle.std.proofs.Common.{◌++◌, ◌+◌, ap, ◌∙◌}
-use Rattle.heyvl_types.specs.PlainActs.{acts_of}
+use Rattle.heyvl_acts.specs.PlainActs.{acts_of}
 use Rattle.run_machine.specs.Names.{stored, numbered}
 use Rattle.run_machine.proofs.Parts.{turned_is}
 use Rattle.run_machine.proofs.loop_steps.turned.Goals as goal

@@ -1,5 +1,5 @@
 use Rattle.std.proofs.Common.{◌≡◌, ◌++◌, drop}
-use Rattle.heyvl_types.specs.PlainActs.{parts_of}
+use Rattle.heyvl_acts.specs.PlainActs.{parts_of}
 use Rattle.run_machine.specs.BoundedStep.{parts_fit}
 use Rattle.run_machine.specs.Names.{stored}
 use Rattle.run_machine.specs.internal.Replies.{stored_outcomes}

@@ -1,6 +1,6 @@
 use Rattle.std.proofs.Common.{◌++◌, ap, ◌∙◌, map, replicate}
-use Rattle.heyvl_types.specs.Acts.{acts_in, procedure_at}
-use Rattle.heyvl_types.specs.PlainActs.{procedures_of}
+use Rattle.heyvl_acts.specs.Acts.{acts_in, procedure_at}
+use Rattle.heyvl_acts.specs.PlainActs.{procedures_of}
 use Rattle.run_machine.specs.Names.{lists_of, numbered}
 use Rattle.run_machine.proofs.FirstConfigs.{first_config}
 use Rattle.run_machine.proofs.Procedures.{begun}

@@ -1,8 +1,8 @@
 use Rattle.std.proofs.Common.{◌≡◌, ◌++◌, ap, sym, ◌∙◌, subst, arith, length}
 use Rattle.std.specs.Prelude.{OnOk}
-use Rattle.heyvl_types.specs.Acts.{acts_in}
-use Rattle.heyvl_types.specs.Places.{in_order}
-use Rattle.heyvl_types.specs.PlainActs.{acts_of, body_of}
+use Rattle.heyvl_acts.specs.Acts.{acts_in}
+use Rattle.heyvl_acts.specs.Places.{in_order}
+use Rattle.heyvl_acts.specs.PlainActs.{acts_of, body_of}
 use Rattle.run_machine.specs.Names.{numbered}
 use Rattle.run_machine.proofs.Procedures.{found_at, past_all, nothing_more}
 use Rattle.run_machine.proofs.starting.push_body.Goals as goal

@@ -3,11 +3,11 @@ use Rattle.std.proofs.lemmas.List.{length-map}
 use Rattle.std.specs.Prelude.{is_some, true, if◌then◌else◌, ◌+◌}
 use Rattle.heylo_formula.specs.PlainTrees.{cond_of, form_of, term_of}
 use Rattle.heylo_formula.specs.State.{environment}
-use Rattle.heyvl_types.specs.Acts.{procedure_at}
-use Rattle.heyvl_types.specs.Matching.{taken}
-use Rattle.heyvl_types.specs.Places.{in_order, inside_arms}
-use Rattle.heyvl_types.specs.PlainActs.{act_of, acts_of, arms_of, parts_of, procedure_of, procedures_of, terms_of}
-use Rattle.heyvl_types.proofs.exported.PlainActsAre.{set_act, draw_act, any_act, reward_act, if_act, pick_act, check_act, validate_act, loop_act, call_act, head_of}
+use Rattle.heyvl_acts.specs.Acts.{procedure_at}
+use Rattle.heyvl_acts.specs.Matching.{taken}
+use Rattle.heyvl_acts.specs.Places.{in_order, inside_arms}
+use Rattle.heyvl_acts.specs.PlainActs.{act_of, acts_of, arms_of, parts_of, procedure_of, procedures_of, terms_of}
+use Rattle.heyvl_acts.proofs.exported.PlainActsAre.{set_act, draw_act, any_act, reward_act, if_act, pick_act, check_act, validate_act, loop_act, call_act, head_of}
 use Rattle.quant_algebra.specs.ExactMeaning.{exact_truth}
 use Rattle.run_machine.specs.BoundedStep.{guards_fit, parts_fit, terms_fit}
 use Rattle.run_machine.specs.Configurations.{evaluate}

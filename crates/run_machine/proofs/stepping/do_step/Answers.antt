@@ -1,6 +1,6 @@
 use Rattle.std.proofs.Common.{ap, sym, ◌∙◌}
-use Rattle.heyvl_types.specs.PlainActs.{procedures_of}
-use Rattle.heyvl_types.specs.Places.{held}
+use Rattle.heyvl_acts.specs.PlainActs.{procedures_of}
+use Rattle.heyvl_acts.specs.Places.{held}
 use Rattle.run_machine.specs.Names.{stored}
 use Rattle.run_machine.proofs.Steps.{some_act}
 use Rattle.run_machine.proofs.stepping.do_step.Goals as goal

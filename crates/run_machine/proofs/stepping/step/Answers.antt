@@ -1,7 +1,7 @@
-use Rattle.std.proofs.Common.{◌≡◌, ◌∷◌, drop, true, arith, rules}
+use Rattle.std.proofs.Common.{◌≡◌, ◌∷◌, drop, true, arith, rules, subst}
 use Rattle.std.proofs.lemmas.Grind.{common_steps}
 use Rattle.heylo_formula.specs.State.{fit}
-use Rattle.heyvl_types.specs.PlainActs.{procedures_of}
+use Rattle.heyvl_acts.specs.PlainActs.{procedures_of}
 use Rattle.run_machine.specs.declared.configurations.Item.TheVariants.{Out}
 use Rattle.run_machine.specs.Names.{decision_of, stored}
 use Rattle.run_machine.specs.Step.{value_of}
@@ -10,7 +10,6 @@ use Rattle.run_machine.specs.internal.StoredSteps.{asked, assigned}
 use Rattle.run_machine.proofs.Moves.{if_ok}
 use Rattle.run_machine.proofs.Steps.{out_is}
 use Rattle.run_machine.proofs.stepping.step.Goals as goal
-use Rattle.std.proofs.Common.{subst}
 
 pub returns-in-Some-Back : goal.returns-in-Some-Back
 returns-in-Some-Back c = if_ok c.return_step.result _ _ (λ r h. h _) c.return_step.ensures

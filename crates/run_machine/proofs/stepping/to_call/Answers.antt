@@ -1,8 +1,8 @@
 use Rattle.std.proofs.Common.{◌≡◌, arith, ap, subst, ◌∙◌, true}
 use Rattle.std.proofs.lemmas.List.{length-map}
-use Rattle.heyvl_types.specs.Acts.{procedure_at}
-use Rattle.heyvl_types.specs.PlainActs.{act_of, procedure_of, procedures_of, terms_of}
-use Rattle.heyvl_types.proofs.exported.PlainActsAre.{set_act, draw_act, any_act, reward_act, if_act, pick_act, check_act, validate_act, loop_act, call_act}
+use Rattle.heyvl_acts.specs.Acts.{procedure_at}
+use Rattle.heyvl_acts.specs.PlainActs.{act_of, procedure_of, procedures_of, terms_of}
+use Rattle.heyvl_acts.proofs.exported.PlainActsAre.{set_act, draw_act, any_act, reward_act, if_act, pick_act, check_act, validate_act, loop_act, call_act}
 use Rattle.run_machine.specs.Names.{stored}
 use Rattle.run_machine.specs.internal.Comings.{ReturnsNext}
 use Rattle.run_machine.specs.internal.Replies.{reply_of, replied, surely}

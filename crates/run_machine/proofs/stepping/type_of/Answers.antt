@@ -1,5 +1,5 @@
 use Rattle.std.proofs.Common.{◌≡◌, ◌<◌, ap, sym, subst, ◌∙◌, length, get_or}
-use Rattle.heyvl_types.specs.Acts.{types_of}
+use Rattle.heyvl_acts.specs.Acts.{types_of}
 use Rattle.run_machine.proofs.Procedures.{found_at, past_all}
 use Rattle.run_machine.proofs.VariableTypes.{variable_type, no_variable}
 use Rattle.run_machine.proofs.stepping.type_of.Goals as goal

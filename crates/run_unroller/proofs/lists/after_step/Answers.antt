@@ -1,8 +1,8 @@
 use Rattle.std.proofs.Common.{ap, sym, ◌∙◌, ◌++◌, subst, length, append-nil}
 use Rattle.std.specs.Vec.Iter.{into_iter_items}
 use Rattle.heyvl_num.specs.WeightedSums.{scaled}
-use Rattle.heyvl_types.specs.PlainActs.{procedures_of}
-use Rattle.heyvl_types.specs.Rules.{Each}
+use Rattle.heyvl_acts.specs.PlainActs.{procedures_of}
+use Rattle.heyvl_acts.specs.Rules.{Each}
 use Rattle.run_machine.specs.ConfigConditions.{HasRoom, IsConfig}
 use Rattle.run_machine.specs.Names.{items_of, stored}
 use Rattle.run_unroller.specs.Causes.{all_brought, brought, first_cause}

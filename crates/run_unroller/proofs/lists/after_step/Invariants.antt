@@ -1,8 +1,8 @@
 use Rattle.std.proofs.Common.{◌≡◌, ℕ, ◌++◌, length}
 use Prim.Native.Nat.{suc}
 use Rattle.std.specs.Vec.Iter.{into_iter_items}
-use Rattle.heyvl_types.specs.PlainActs.{procedures_of}
-use Rattle.heyvl_types.specs.Rules.{Each}
+use Rattle.heyvl_acts.specs.PlainActs.{procedures_of}
+use Rattle.heyvl_acts.specs.Rules.{Each}
 use Rattle.run_machine.specs.ConfigConditions.{HasRoom, IsConfig}
 use Rattle.run_machine.specs.Names.{stored}
 use Rattle.run_unroller.specs.Causes.{all_brought, first_cause, step_cause}

@@ -1,7 +1,7 @@
 use Rattle.std.proofs.Common.{List, ap, sym, subst, ◌∙◌, ◌++◌, ◌∷◌, [], None, length, map, append-nil}
 use Rattle.std.specs.Vec.Iter.{into_iter_items}
 use Rattle.heyvl_num.specs.WeightedSums.{scaled}
-use Rattle.heyvl_types.specs.Acts.{TypedProcedure}
+use Rattle.heyvl_acts.specs.Acts.{TypedProcedure}
 use Rattle.run_unroller.specs.Causes.{first_cause, joins}
 use Rattle.run_unroller.specs.internal.RunViews.{run_of, runs_of}
 use Rattle.run_unroller.specs.internal.Extensions.{Extends}

@@ -1,6 +1,6 @@
 use Rattle.std.proofs.Common.{ap, ◌∙◌, subst}
 use Prim.Native.Nat.{suc}
-use Rattle.heyvl_types.specs.PlainActs.{procedures_of}
+use Rattle.heyvl_acts.specs.PlainActs.{procedures_of}
 use Rattle.run_machine.specs.Names.{config_of, decision_of, items_of, stored}
 use Rattle.run_machine.specs.BoundedStep.{bounded_step}
 use Rattle.run_machine.specs.StepAnswers.{IsStep}

@@ -1,6 +1,6 @@
 use Rattle.std.proofs.Common.{◌≡◌, List}
 use Rattle.std.specs.Prelude.{Some}
-use Rattle.heyvl_types.specs.Acts.{TypedProcedure}
+use Rattle.heyvl_acts.specs.Acts.{TypedProcedure}
 use Rattle.run_unroller.specs.internal.RunViews.{runs_of}
 use Rattle.run_unroller.specs.Totals.{all_turns}
 use Rattle.run_unroller.proofs.turns.all_turns.Given as goal

@@ -1,7 +1,7 @@
 use Rattle.std.proofs.Common.{◌≡◌, drop, List}
 use Prim.Native.Nat.{suc}
 use Rattle.std.specs.Prelude.{Some}
-use Rattle.heyvl_types.specs.Acts.{TypedProcedure}
+use Rattle.heyvl_acts.specs.Acts.{TypedProcedure}
 use Rattle.run_unroller.specs.internal.RunViews.{runs_of}
 use Rattle.run_unroller.specs.Totals.{added_fractions, turns_of, turns_total}
 use Rattle.run_unroller.proofs.turns.turns_sum.Given as goal

@@ -1,5 +1,5 @@
 use Rattle.std.proofs.Common.{◌≡◌, None}
-use Rattle.heyvl_types.specs.PlainActs.{procedures_of}
+use Rattle.heyvl_acts.specs.PlainActs.{procedures_of}
 use Rattle.run_unroller.specs.Causes.{first_stop}
 use Rattle.run_unroller.specs.RunLists.{after}
 use Rattle.run_unroller.specs.internal.RunViews.{runs_of}

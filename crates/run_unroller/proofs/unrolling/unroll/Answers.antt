@@ -1,5 +1,5 @@
 use Rattle.std.proofs.Common.{ap, ◌∙◌, subst}
-use Rattle.heyvl_types.specs.PlainActs.{procedures_of}
+use Rattle.heyvl_acts.specs.PlainActs.{procedures_of}
 use Rattle.run_machine.specs.Names.{config_of, stored}
 use Rattle.run_unroller.specs.RunLists.{begun}
 use Rattle.run_unroller.specs.internal.RunViews.{runs_of}

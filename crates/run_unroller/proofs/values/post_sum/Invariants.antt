@@ -1,8 +1,8 @@
 use Rattle.std.proofs.Common.{◌≡◌, drop}
 use Rattle.std.specs.Prelude.{Some}
 use Rattle.heyvl_num.specs.Extended.{value_of}
-use Rattle.heyvl_types.specs.Acts.{procedure_at}
-use Rattle.heyvl_types.specs.PlainActs.{procedures_of}
+use Rattle.heyvl_acts.specs.Acts.{procedure_at}
+use Rattle.heyvl_acts.specs.PlainActs.{procedures_of}
 use Rattle.run_unroller.specs.internal.RunViews.{runs_of}
 use Rattle.run_unroller.specs.Totals.{added, ended, post_of, post_total}
 use Rattle.run_unroller.proofs.values.post_sum.Given as goal

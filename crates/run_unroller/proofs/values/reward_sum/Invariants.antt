@@ -1,7 +1,7 @@
 use Rattle.std.proofs.Common.{◌≡◌, drop, List}
 use Rattle.std.specs.Prelude.{Some}
 use Rattle.heyvl_num.specs.Extended.{value_of}
-use Rattle.heyvl_types.specs.Acts.{TypedProcedure}
+use Rattle.heyvl_acts.specs.Acts.{TypedProcedure}
 use Rattle.run_unroller.specs.internal.RunViews.{runs_of}
 use Rattle.run_unroller.specs.Totals.{added, reward_of, reward_total}
 use Rattle.run_unroller.proofs.values.reward_sum.Given as goal

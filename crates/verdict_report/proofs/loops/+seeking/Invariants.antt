@@ -1,6 +1,6 @@
 use Rattle.std.proofs.Common.{◌∷◌, ◌≡◌}
-use Rattle.heyvl_types.specs.Places.{in_order, inside}
-use Rattle.heyvl_types.specs.PlainActs.{act_of, acts_of}
+use Rattle.heyvl_acts.specs.Places.{in_order, inside}
+use Rattle.heyvl_acts.specs.PlainActs.{act_of, acts_of}
 use Rattle.verdict_report.specs.LoopScopes.{loop_scope}
 use Rattle.verdict_report.proofs.LoopSeeking.{acts_from, arms_from}
 use Rattle.verdict_report.proofs.loops.+seeking.Given as goal

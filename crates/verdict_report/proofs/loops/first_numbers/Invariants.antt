@@ -1,5 +1,5 @@
 use Rattle.std.proofs.Common.{◌++◌, ◌-◌, ◌≡◌, ◌≤◌}
-use Rattle.heyvl_types.specs.Rules.{counted}
+use Rattle.heyvl_acts.specs.Rules.{counted}
 use Rattle.verdict_report.proofs.loops.first_numbers.Given as goal
 
 abbrev pub invariant-loop-number : goal.invariant-loop-number

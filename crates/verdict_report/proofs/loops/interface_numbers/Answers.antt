@@ -1,7 +1,7 @@
 use Rattle.std.proofs.Common.{ap, sym, ◌∙◌, ◌≡◌}
 use Rattle.std.proofs.lemmas.Result.{IfOk-weaker}
-use Rattle.heyvl_types.specs.PlainActs.{procedure_of}
-use Rattle.heyvl_types.specs.Rules.{counted}
+use Rattle.heyvl_acts.specs.PlainActs.{procedure_of}
+use Rattle.heyvl_acts.specs.Rules.{counted}
 use Rattle.std.specs.Prelude.{◌+◌}
 use Rattle.verdict_report.specs.LoopScopes.{interface_numbers}
 use Rattle.verdict_report.proofs.Heads.{head_length}

@@ -1,5 +1,5 @@
 use Rattle.std.proofs.Common.{ap, sym, ◌++◌, ◌∙◌}
-use Rattle.heyvl_types.specs.Acts.{TypedProcedure}
+use Rattle.heyvl_acts.specs.Acts.{TypedProcedure}
 use Rattle.std.specs.Prelude.{codes}
 use Rattle.verdict_report.specs.Verdicts.{condition_text}
 use Rattle.verdict_report.proofs.Heads.{procedure_is}

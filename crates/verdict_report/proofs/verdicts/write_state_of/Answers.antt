@@ -1,6 +1,6 @@
 use Rattle.std.proofs.Common.{ap, ap₂, sym, ◌++◌, ◌∙◌}
 use Rattle.std.proofs.lemmas.Result.{on_ok_weaker}
-use Rattle.heyvl_types.specs.Acts.{TypedProcedure}
+use Rattle.heyvl_acts.specs.Acts.{TypedProcedure}
 use Rattle.verdict_report.specs.LoopScopes.{always_shown}
 use Rattle.verdict_report.specs.Settings.{Names}
 use Rattle.verdict_report.specs.States.{state_text}

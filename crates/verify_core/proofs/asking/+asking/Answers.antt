@@ -2,9 +2,9 @@ use Rattle.std.proofs.Common.{ap, append_assoc, refl, map, ◌++◌, ◌∷◌, 
 use Rattle.std.proofs.lemmas.Result.{IfOk-equal}
 use Rattle.heylo_formula.specs.PlainTrees.{form_of}
 use Rattle.heylo_formula.specs.declared.goals.GoalId.TheVariants.{Invariant}
-use Rattle.heyvl_types.specs.declared.acts.LoopAct.{LoopAct}
-use Rattle.heyvl_types.specs.Places.{in_order}
-use Rattle.heyvl_types.specs.PlainActs.{acts_of}
+use Rattle.heyvl_acts.specs.declared.acts.LoopAct.{LoopAct}
+use Rattle.heyvl_acts.specs.Places.{in_order}
+use Rattle.heyvl_acts.specs.PlainActs.{acts_of}
 use Rattle.verify_core.specs.internal.Asked.{asked_invariants, plain}
 use Rattle.ranking_rule.proofs.exported.ActsInOrder.{of_if}
 use Rattle.verify_core.proofs.ActWalks.{next_act, next_arm, of_both}

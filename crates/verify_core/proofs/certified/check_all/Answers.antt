@@ -1,7 +1,7 @@
 use Rattle.std.proofs.Common.{◌∙◌, length, map}
 use Rattle.std.proofs.lemmas.List.{length-map}
-use Rattle.heyvl_types.specs.Acts.{procedure_at}
-use Rattle.heyvl_types.specs.PlainActs.{procedure_of, procedures_of}
+use Rattle.heyvl_acts.specs.Acts.{procedure_at}
+use Rattle.heyvl_acts.specs.PlainActs.{procedure_of, procedures_of}
 use Rattle.verify_core.specs.Questions.{question}
 use Rattle.verify_core.specs.internal.Checking.{is_unverified}
 use Rattle.verify_core.proofs.AskedGoals.{goal_is, proper}

@@ -1,6 +1,6 @@
 use Rattle.std.proofs.Common.{◌∙◌, ap, subst, sym}
-use Rattle.heyvl_types.specs.Acts.{procedure_at}
-use Rattle.heyvl_types.specs.PlainActs.{procedures_of}
+use Rattle.heyvl_acts.specs.Acts.{procedure_at}
+use Rattle.heyvl_acts.specs.PlainActs.{procedures_of}
 use Rattle.proc_contracts.specs.Reasons.{stated}
 use Rattle.verify_core.specs.internal.Checking.{IsOwnVerdict}
 use Rattle.verify_core.proofs.CheckedGoals.{of_reason}

@@ -1,6 +1,6 @@
 use Rattle.std.proofs.Common.{subst}
 use Rattle.std.proofs.lemmas.Result.{IfOk-weaker}
-use Rattle.heyvl_types.specs.PlainActs.{procedures_of}
+use Rattle.heyvl_acts.specs.PlainActs.{procedures_of}
 use Rattle.verify_core.specs.internal.OwnRankings.{AreLoopAnswers, AreOwnRankings}
 use Rattle.verify_core.proofs.OwnRankings.{own_rankings}
 use Rattle.verify_core.proofs.checking.own_rankings.Goals as goal

@@ -1,5 +1,5 @@
 use Rattle.std.proofs.Common.{subst, None, Some}
-use Rattle.heyvl_types.specs.PlainActs.{procedures_of}
+use Rattle.heyvl_acts.specs.PlainActs.{procedures_of}
 use Rattle.verdict_report.specs.declared.answers.Verdict.TheVariants as verdict
 use Rattle.verify_core.specs.internal.Checking.{IsFirstMiss}
 use Rattle.verify_core.proofs.CheckedGoals.{own}

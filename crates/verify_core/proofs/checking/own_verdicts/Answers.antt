@@ -1,7 +1,7 @@
 use Rattle.std.proofs.Common.{◌≡◌, ◌<◌, ◌++◌, ◌∷◌, [], arith, length, subst, sym, take}
 use Rattle.std.proofs.lemmas.List.{length-map, length-take-le}
-use Rattle.heyvl_types.specs.Acts.{procedure_at}
-use Rattle.heyvl_types.specs.PlainActs.{procedure_of, procedures_of}
+use Rattle.heyvl_acts.specs.Acts.{procedure_at}
+use Rattle.heyvl_acts.specs.PlainActs.{procedure_of, procedures_of}
 use Rattle.verify_core.specs.internal.Checking.{AreOwn, IsOwn}
 use Rattle.verify_core.proofs.CheckedGoals.{take_procedures}
 use Rattle.verify_core.proofs.SideBySide.{numbered_more}

@@ -1,5 +1,5 @@
 use Rattle.std.proofs.Common.{take}
-use Rattle.heyvl_types.specs.PlainActs.{procedures_of}
+use Rattle.heyvl_acts.specs.PlainActs.{procedures_of}
 use Rattle.verify_core.specs.internal.Checking.{AreOwn}
 use Rattle.verify_core.proofs.checking.own_verdicts.Given as goal
 

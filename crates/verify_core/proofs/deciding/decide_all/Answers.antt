@@ -1,6 +1,6 @@
 use Rattle.std.proofs.Common.{subst}
 use Rattle.std.specs.Vec.Iter.{into_iter_items}
-use Rattle.heyvl_types.specs.Rules.{Each}
+use Rattle.heyvl_acts.specs.Rules.{Each}
 use Rattle.goal_answers.specs.declared.named_goals.NamedGoal.{NamedGoal}
 use Rattle.verify_core.specs.internal.Decidable.{CanDecide}
 use Rattle.verify_core.proofs.GoalOutcomes.{all_goals, goals_next, nothing_left, settled_next}

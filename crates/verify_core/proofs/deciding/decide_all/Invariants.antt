@@ -1,6 +1,6 @@
 use Rattle.std.proofs.Common.{◌≡◌, map, ◌++◌}
 use Rattle.std.specs.Vec.Iter.{into_iter_items}
-use Rattle.heyvl_types.specs.Rules.{Each}
+use Rattle.heyvl_acts.specs.Rules.{Each}
 use Rattle.goal_answers.specs.declared.named_goals.NamedGoal.{NamedGoal}
 use Rattle.verify_core.specs.internal.Decidable.{CanDecide}
 use Rattle.verify_core.specs.internal.Settled.{IsSettled, plain}

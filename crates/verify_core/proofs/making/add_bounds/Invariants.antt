@@ -1,8 +1,8 @@
 use Rattle.std.proofs.Common.{List, map, ◌++◌}
 use Rattle.heylo_formula.specs.declared.goals.GoalId.{GoalId}
-use Rattle.heyvl_types.specs.Acts.{procedure_at}
-use Rattle.heyvl_types.specs.PlainActs.{procedures_of}
-use Rattle.heyvl_types.specs.Rules.{Each}
+use Rattle.heyvl_acts.specs.Acts.{procedure_at}
+use Rattle.heyvl_acts.specs.PlainActs.{procedures_of}
+use Rattle.heyvl_acts.specs.Rules.{Each}
 use Rattle.verify_core.specs.Questions.{AreGoals}
 use Rattle.verify_core.specs.internal.Asked.{Asked, IsAsked, plain}
 use Rattle.verify_core.proofs.making.add_bounds.Given as goal

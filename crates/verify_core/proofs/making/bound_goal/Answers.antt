@@ -3,7 +3,7 @@ use Rattle.std.proofs.lemmas.Result.{IfOk-weaker}
 use Rattle.heylo_formula.proofs.exported.Mirrors.{number_form}
 use Rattle.heylo_formula.specs.Formula.{Form}
 use Rattle.heylo_formula.specs.PlainTrees.{form_of}
-use Rattle.heyvl_types.specs.PlainActs.{procedure_of}
+use Rattle.heyvl_acts.specs.PlainActs.{procedure_of}
 use Rattle.vp_generator.specs.PrenexedGoals.{IsMade}
 use Rattle.verify_core.specs.Questions.{IsMadeOf, one_bound}
 use Rattle.verify_core.proofs.MainGoals.{bound_made}

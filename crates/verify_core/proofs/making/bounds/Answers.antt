@@ -1,9 +1,9 @@
 use Rattle.std.proofs.Common.{ap, map, not, refl, subst, sym, ◌++◌, ◌∙◌, ◌∷◌, []}
 use Rattle.std.proofs.lemmas.Result.{IfOk-weaker}
 use Rattle.heylo_formula.specs.declared.goals.GoalId.TheVariants.{Main}
-use Rattle.heyvl_types.specs.Acts.{procedure_at}
-use Rattle.heyvl_types.specs.PlainActs.{procedures_of}
-use Rattle.heyvl_types.specs.Rules.{Each}
+use Rattle.heyvl_acts.specs.Acts.{procedure_at}
+use Rattle.heyvl_acts.specs.PlainActs.{procedures_of}
+use Rattle.heyvl_acts.specs.Rules.{Each}
 use Rattle.loop_encodings.specs.BoundGoals.{bound_goals}
 use Rattle.verify_core.specs.PostBinders.{HasNamedBinders}
 use Rattle.verify_core.specs.Questions.{AreGoals}

@@ -4,9 +4,9 @@ use Rattle.heylo_formula.specs.Sizes.{depth, nodes}
 use Rattle.heylo_formula.specs.PlainTrees.{form_of}
 use Rattle.heylo_formula.specs.Typing.{IsFormula, types_in}
 use Rattle.heylo_formula.specs.declared.goals.GoalId.TheVariants.{Main}
-use Rattle.heyvl_types.specs.Acts.{TypedProcedure, procedure_at, type_list}
-use Rattle.heyvl_types.specs.PlainActs.{acts_of, procedures_of, variable_of}
-use Rattle.heyvl_types.specs.WellTyped.{ActsFit}
+use Rattle.heyvl_acts.specs.Acts.{TypedProcedure, procedure_at, type_list}
+use Rattle.heyvl_acts.specs.PlainActs.{acts_of, procedures_of, variable_of}
+use Rattle.heyvl_acts.specs.WellTyped.{ActsFit}
 use Rattle.std.specs.Prelude.{map}
 use Rattle.vp_generator.specs.PrenexedGoals.{IsMade}
 use Rattle.verify_core.specs.Questions.{IsMadeOf, question}

@@ -1,7 +1,7 @@
 use Rattle.std.proofs.Common.{ap, arith, rules, sym, ◌∙◌, ◌<◌, ◌≤◌, length, drop, ◌++◌, append-nil}
 use Rattle.std.proofs.lemmas.List.{drop_all, length-map}
-use Rattle.heyvl_types.specs.Acts.{procedure_at}
-use Rattle.heyvl_types.specs.PlainActs.{procedure_of, procedures_of}
+use Rattle.heyvl_acts.specs.Acts.{procedure_at}
+use Rattle.heyvl_acts.specs.PlainActs.{procedure_of, procedures_of}
 use Rattle.verify_core.specs.internal.Marks.{is_open, marks}
 use Rattle.verify_core.proofs.ProcedureMarks.{next_mark, no_marks}
 use Rattle.verify_core.proofs.marks.open_procedures.Goals as goal

@@ -1,8 +1,8 @@
 use Rattle.std.proofs.Common.{ap, append_assoc, refl, ◌++◌, ◌∙◌}
 use Rattle.std.proofs.lemmas.Result.{IfOk-equal}
-use Rattle.heyvl_types.specs.declared.acts.LoopAct.{LoopAct}
-use Rattle.heyvl_types.specs.Places.{in_order}
-use Rattle.heyvl_types.specs.PlainActs.{acts_of}
+use Rattle.heyvl_acts.specs.declared.acts.LoopAct.{LoopAct}
+use Rattle.heyvl_acts.specs.Places.{in_order}
+use Rattle.heyvl_acts.specs.PlainActs.{acts_of}
 use Rattle.verify_core.specs.Rankings.{ranked_in}
 use Rattle.ranking_rule.proofs.exported.ActsInOrder.{of_if}
 use Rattle.verify_core.proofs.ActWalks.{next_act, next_arm, of_both}

@@ -1,5 +1,5 @@
 use Rattle.std.proofs.Common.{◌∙◌, ap, subst, sym}
-use Rattle.heyvl_types.specs.PlainActs.{procedures_of}
+use Rattle.heyvl_acts.specs.PlainActs.{procedures_of}
 use Rattle.verify_core.specs.internal.Checking.{IsReachingVerdict}
 use Rattle.loop_encodings.proofs.exported.FromRules.{procedure_is}
 use Rattle.verify_core.proofs.ReachedVerdicts.{marked_verdict, own_again}

@@ -1,6 +1,6 @@
 use Rattle.std.proofs.Common.{◌++◌, ◌∷◌, [], arith, subst, sym}
 use Rattle.std.proofs.lemmas.List.{length_push}
-use Rattle.heyvl_types.specs.PlainActs.{procedures_of}
+use Rattle.heyvl_acts.specs.PlainActs.{procedures_of}
 use Rattle.verify_core.specs.internal.Checking.{AreMarkedAnswers, IsMarkedAnswer}
 use Rattle.verify_core.proofs.SideBySide.{numbered_more}
 use Rattle.verify_core.proofs.reaching.answers.Goals as goal

@@ -1,5 +1,5 @@
 use Rattle.std.proofs.Common.{◌≡◌, length}
-use Rattle.heyvl_types.specs.PlainActs.{procedures_of}
+use Rattle.heyvl_acts.specs.PlainActs.{procedures_of}
 use Rattle.verify_core.specs.internal.Checking.{AreMarkedAnswers}
 use Rattle.verify_core.proofs.reaching.answers.Given as goal
 

@@ -1,4 +1,4 @@
-use Rattle.heyvl_types.specs.PlainActs.{procedures_of}
+use Rattle.heyvl_acts.specs.PlainActs.{procedures_of}
 use Rattle.verify_core.specs.internal.Rows.{AreSettledTo}
 use Rattle.verify_core.proofs.settling.settle.Given as goal
 

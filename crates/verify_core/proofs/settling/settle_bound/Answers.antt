@@ -1,5 +1,5 @@
-use Rattle.heyvl_types.specs.Acts.{procedure_at}
-use Rattle.heyvl_types.specs.PlainActs.{procedures_of}
+use Rattle.heyvl_acts.specs.Acts.{procedure_at}
+use Rattle.heyvl_acts.specs.PlainActs.{procedures_of}
 use Rattle.loop_encodings.specs.BoundGoals.{bound_goals}
 use Rattle.std.proofs.Common.{◌≡◌, ◌++◌, map}
 use Rattle.verify_core.specs.Decided.{certificates}

@@ -1,4 +1,4 @@
-use Rattle.heyvl_types.specs.PlainActs.{procedures_of}
+use Rattle.heyvl_acts.specs.PlainActs.{procedures_of}
 use Rattle.verify_core.proofs.Rows.{whole_row}
 use Rattle.verify_core.proofs.settling.settle_one.Goals as goal
 

@@ -1,6 +1,6 @@
-use Rattle.heyvl_types.specs.Acts.{procedure_at}
-use Rattle.heyvl_types.specs.PlainActs.{procedures_of}
-use Rattle.heyvl_types.specs.ResolvedSizes.{FormsWithin}
+use Rattle.heyvl_acts.specs.Acts.{procedure_at}
+use Rattle.heyvl_acts.specs.PlainActs.{procedures_of}
+use Rattle.heyvl_acts.specs.FormSizes.{FormsWithin}
 use Rattle.std.proofs.Common.{◌≡◌, ◌++◌, ◌^◌, map}
 use Rattle.verify_core.specs.Decided.{certificates}
 use Rattle.verify_core.specs.DecidedRankings.{told_rankings}

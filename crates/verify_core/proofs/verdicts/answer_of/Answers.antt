@@ -1,5 +1,5 @@
 use Rattle.std.proofs.Common.{ap, append_assoc, sym, ◌∙◌, ◌++◌}
-use Rattle.heyvl_types.specs.Acts.{TypedProcedure}
+use Rattle.heyvl_acts.specs.Acts.{TypedProcedure}
 use Rattle.loop_encodings.proofs.exported.FromRules.{procedure_is}
 use Rattle.verify_core.specs.Decided.{listed}
 use Rattle.verify_core.specs.internal.Outcomes.{told_by}

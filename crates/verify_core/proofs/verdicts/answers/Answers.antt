@@ -1,7 +1,7 @@
 use Rattle.std.proofs.Common.{ap, arith, rules, sym, ◌∙◌, ◌≡◌, ◌<◌, ◌≤◌, length, ◌∷◌}
 use Rattle.std.proofs.lemmas.List.{length-map}
 use Rattle.std.specs.Vec.Iter.{into_iter_items}
-use Rattle.heyvl_types.specs.PlainActs.{procedure_of, procedures_of}
+use Rattle.heyvl_acts.specs.PlainActs.{procedure_of, procedures_of}
 use Rattle.verify_core.proofs.GoalOutcomes.{nothing_left}
 use Rattle.verify_core.proofs.ProvedVerdicts.{all_answers, head_outcome, left_next, next_answers, no_answers, told_last, told_next}
 use Rattle.verify_core.proofs.verdicts.answers.Goals as goal

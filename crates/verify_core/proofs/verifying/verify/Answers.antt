@@ -1,7 +1,7 @@
 use Rattle.std.proofs.Common.{ap, subst, ◌∙◌, length}
 use Rattle.std.proofs.lemmas.List.{length-map}
-use Rattle.heyvl_types.specs.PlainActs.{procedure_of, procedures_of}
-use Rattle.heyvl_types.specs.Rules.{Each}
+use Rattle.heyvl_acts.specs.PlainActs.{procedure_of, procedures_of}
+use Rattle.heyvl_acts.specs.Rules.{Each}
 use Rattle.verdict_report.specs.Placed.{IsAnswerPlaced}
 use Rattle.verify_core.specs.internal.Marks.{marks}
 use Rattle.verify_core.proofs.FileAnswers.{answers_of_table, is_answered, settled_length}

@@ -1,7 +1,7 @@
 use Rattle.std.proofs.Common.{◌≡◌, length}
 use Rattle.heylo_formula.specs.PlainTrees.{form_of}
 use Rattle.vp_generator.specs.Generated.{sum_of_parts}
-use Rattle.heyvl_types.specs.PlainActs.{parts_of}
+use Rattle.heyvl_acts.specs.PlainActs.{parts_of}
 use Rattle.vp_generator.specs.Limits.{IsSmall}
 use Rattle.vp_generator.specs.internal.Fitting.{PartsAreFit}
 use Rattle.vp_generator.proofs.draws.sum_from.Given as goal

@@ -2,7 +2,7 @@ use Rattle.std.proofs.Common.{sym, ap, subst, arith}
 use Rattle.heylo_formula.specs.PlainTrees.{form_of}
 use Rattle.vp_generator.specs.Generated.{vp, vp_act}
 use Rattle.vp_generator.specs.internal.Fitting.{IsFit}
-use Rattle.heyvl_types.specs.PlainActs.{acts_of}
+use Rattle.heyvl_acts.specs.PlainActs.{acts_of}
 use Rattle.vp_generator.specs.Answers.{IsAnswer}
 use Rattle.vp_generator.proofs.Weights.{weight}
 use Rattle.vp_generator.proofs.Building.{stop_of_act, stop_of_arm, stop_of_arms}

@@ -1,6 +1,6 @@
+use Rattle.heyvl_acts.specs.PlainActs.{procedure_of, procedures_of}
 use Rattle.heyvl_tool.proofs.RunStarts.{first_or_programs, found_below, itself_bad, reached_below}
 use Rattle.heyvl_tool.proofs.running.procedures.first_no_program.Goals as goal
-use Rattle.heyvl_types.specs.PlainActs.{procedure_of, procedures_of}
 use Rattle.std.proofs.Common.{sym, ◌∙◌}
 use Rattle.std.proofs.lemmas.List.{length-map}
 

@@ -1,7 +1,7 @@
+use Rattle.heyvl_acts.specs.Acts.{procedure_at}
+use Rattle.heyvl_acts.specs.PlainActs.{procedures_of}
+use Rattle.heyvl_acts.specs.Program.{why_no_program}
 use Rattle.heyvl_tool.proofs.running.procedures.first_no_program_of.Given as goal
-use Rattle.heyvl_types.specs.Acts.{procedure_at}
-use Rattle.heyvl_types.specs.PlainActs.{procedures_of}
-use Rattle.heyvl_types.specs.Program.{why_no_program}
 use Rattle.std.proofs.Common.{drop, is_some, ◌≡◌}
 use Rattle.std.specs.List.{find}
 

@@ -1,6 +1,6 @@
+use Rattle.heyvl_acts.specs.PlainActs.{procedure_of, procedures_of}
 use Rattle.heyvl_tool.proofs.running.procedures.procedure_named.Given as goal
 use Rattle.heyvl_tool.specs.RunStarts.{procedure_named}
-use Rattle.heyvl_types.specs.PlainActs.{procedure_of, procedures_of}
 use Rattle.std.proofs.Common.{drop, length, map, ◌≡◌}
 use Rattle.std.specs.List.{position_from}
 use Rattle.std.specs.Str.{bytes_eq}

@@ -1,8 +1,8 @@
+use Rattle.heyvl_acts.specs.PlainActs.{procedures_of}
 use Rattle.heyvl_tool.proofs.running.replies.run_at.Goals as goal
 use Rattle.heyvl_tool.specs.RunReplies.IsRunReply.{by_program, by_run}
 use Rattle.heyvl_tool.specs.RunStarts.{IsFirstNoProgram}
 use Rattle.heyvl_tool.specs.internal.ScriptNames.{script_of}
-use Rattle.heyvl_types.specs.PlainActs.{procedures_of}
 use Rattle.run_machine.specs.ConfigConditions.{ReachesPrograms}
 use Rattle.std.proofs.lemmas.Result.{IfOk-weaker}
 

@@ -1,9 +1,9 @@
+use Rattle.heyvl_acts.specs.Acts.{procedure_at}
+use Rattle.heyvl_acts.specs.PlainActs.{procedures_of}
 use Rattle.heyvl_tool.proofs.RunStarts.{begins_with, few_or, unrolls_by}
 use Rattle.heyvl_tool.proofs.running.replies.run_programs.Goals as goal
 use Rattle.heyvl_tool.specs.RunStarts.{start_state}
 use Rattle.heyvl_tool.specs.internal.ScriptNames.{script_of}
-use Rattle.heyvl_types.specs.Acts.{procedure_at}
-use Rattle.heyvl_types.specs.PlainActs.{procedures_of}
 use Rattle.run_machine.specs.Names.{config_of, stored}
 use Rattle.run_unroller.specs.Unrolling.{unrolling_of}
 use Rattle.std.proofs.Common.{ap₂, ◌∙◌, ◌≡◌}

@@ -5,7 +5,7 @@ use Rattle.heyvl_tool.specs.RunStarts.{known_at, procedure_named}
 use Rattle.heyvl_tool.specs.internal.ScriptNames.{known_in, script_of}
 use Rattle.heyvl_tool.specs.Scripts.Reading.{breaks, says}
 use Rattle.heyvl_tool.specs.Scripts.{read_script}
-use Rattle.heyvl_types.specs.PlainActs.{procedures_of}
+use Rattle.heyvl_acts.specs.PlainActs.{procedures_of}
 use Rattle.std.proofs.Common.{None, Some, ap, sym, ◌∙◌, ◌≡◌}
 use Rattle.std.proofs.lemmas.Result.{IfOk-weaker}
 

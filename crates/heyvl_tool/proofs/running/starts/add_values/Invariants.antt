@@ -1,6 +1,6 @@
+use Rattle.heyvl_acts.specs.PlainActs.{variable_of}
 use Rattle.heyvl_tool.proofs.running.starts.add_values.Given as goal
 use Rattle.heyvl_tool.specs.RunStarts.{start_value}
-use Rattle.heyvl_types.specs.PlainActs.{variable_of}
 use Rattle.std.proofs.Common.{drop, map, ◌++◌, ◌≡◌}
 
 abbrev pub invariant-loop-variable : goal.invariant-loop-variable

@@ -2,7 +2,7 @@ use Rattle.heyvl_tool.proofs.RunStarts.{state_made}
 use Rattle.heyvl_tool.proofs.running.starts.start_state.Goals as goal
 use Rattle.heyvl_tool.specs.RunStarts.{start_value}
 use Rattle.heylo_formula.specs.State.{default}
-use Rattle.heyvl_types.specs.PlainActs.{variable_of}
+use Rattle.heyvl_acts.specs.PlainActs.{variable_of}
 use Rattle.std.proofs.Common.{ap, ap₂, map, ◌++◌, ◌∙◌, ◌≡◌}
 
 pub returns : goal.returns

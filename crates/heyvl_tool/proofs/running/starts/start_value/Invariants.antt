@@ -1,6 +1,6 @@
+use Rattle.heyvl_acts.specs.PlainActs.{variable_of}
 use Rattle.heyvl_tool.proofs.running.starts.start_value.Given as goal
 use Rattle.heyvl_tool.specs.RunStarts.{start_value}
-use Rattle.heyvl_types.specs.PlainActs.{variable_of}
 use Rattle.std.proofs.Common.{drop, ◌≡◌}
 
 abbrev pub invariant-loop-setting : goal.invariant-loop-setting

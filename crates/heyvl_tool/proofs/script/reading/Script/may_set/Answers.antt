@@ -1,7 +1,7 @@
+use Rattle.heyvl_acts.specs.PlainActs.{variable_of}
 use Rattle.heyvl_tool.proofs.ScriptReading.{any_map}
 use Rattle.heyvl_tool.proofs.script.reading.Script.may_set.Goals as goal
 use Rattle.heyvl_tool.specs.Scripts.{takes}
-use Rattle.heyvl_types.specs.PlainActs.{variable_of}
 use Rattle.std.proofs.Common.{false, map, refl, sym, true, ◌∙◌, ◌≡◌}
 use Rattle.std.specs.List.{list_any}
 

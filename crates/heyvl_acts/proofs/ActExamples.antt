@@ -1,0 +1,172 @@
+-- What acts mean, computed by hand for each kind of act, and for three small procedures.
+use Rattle.std.proofs.Common.{◌≡◌, refl, ℕ, Bool, true, false, cond, ◌==◌, ◌&&◌, ◌||◌, List, [], ◌∷◌}
+use Rattle.std.specs.Prelude.{pos, negsuc, Option, Some, None, ℤ}
+use Prim.Native.Nat.{zero, suc}
+use Rattle.heyvl_num.specs.Gcd.{gcd, gcd_steps}
+use Rattle.heyvl_num.specs.Rational.{Rational, ratio, zeroʳ, oneʳ, ◌+ʳ◌, ◌-ʳ◌, ◌*ʳ◌, negʳ, leqʳ}
+use Rattle.heyvl_num.specs.Value.{Value, zeroᵛ, oneᵛ, ◌+ᵛ◌, ◌*ᵛ◌, infinite_times, is_zeroʳ, leqᵛ, ◌≤ᵛ◌}
+use Rattle.heyvl_num.specs.Value.Value.{finite, infinite}
+use Rattle.heyvl_num.specs.ValueOperators.{minᵛ, maxᵛ, impliesᵛ, coimpliesᵛ}
+use Rattle.heyvl_places.specs.declared.spans.Span.{Span}
+use Rattle.heyvl_places.specs.declared.checks.CheckKind.{CheckKind}
+use Rattle.heylo_formula.specs.Operators.{validateᵛ, covalidateᵛ}
+use Rattle.heylo_formula.specs.State.{Env, put, fit, has, default, truth_of, number_of}
+use Rattle.heylo_formula.specs.Choices.{Choices}
+use Rattle.heylo_formula.specs.Formula.{Form, Cond, Term}
+use Rattle.heylo_formula.specs.Meaning.{value, holds, term_value}
+use Rattle.heylo_formula.specs.declared.types.Ty.{Ty}
+use Rattle.heylo_formula.specs.declared.values.Val.{Val}
+use Rattle.heylo_formula.specs.declared.values.Val.TheVariants.{Truth, Num}
+use Rattle.heyvl_acts.specs.Acts.{Act, Acts, Arms, Head}
+use Rattle.heyvl_acts.specs.Forward.{Post, forward}
+use Rattle.heyvl_acts.specs.Places.{in_order, nth}
+use Rattle.heyvl_acts.specs.Modified.{modified}
+use Rattle.heyvl_acts.specs.Count.{count_of}
+use Rattle.heyvl_acts.specs.Length.{length_of}
+
+abbrev nowhere : Span
+nowhere = record { from = 0; to = 0 }
+
+abbrev whole : ℕ → Rational
+whole n = ratio (pos n) 1
+
+abbrev of : ℕ → Value
+of n = finite (whole n)
+
+abbrev at : ℕ → Form
+at n = Form.number (of n)
+
+abbrev only : Act → Acts
+only a = Acts.next a Acts.done
+
+abbrev chosen : Val → Choices → Choices → Choices
+chosen v a b = Choices.choose v a b
+
+-- A value's numerator and denominator in lowest terms; none for infinity.
+abbrev shown : Value → Option (ℤ × ℕ)
+shown (finite q) = Some (q.num, q.den)
+shown infinite = None
+
+-- A state: variable 0 is a Bool, 1 an Int, 2 a UInt, 3 a UReal.
+state : Env
+state zero = Truth true
+state (suc zero) = Num (ratio (negsuc 1) 1)
+state (suc (suc zero)) = Num (whole 3)
+state (suc (suc (suc x))) = Num (ratio (pos 1) 2)
+
+-- The post: the UInt plus the UReal, which is 7/2 here.
+abbrev post : Form
+post = Form.sum (Form.variable 2) (Form.variable 3)
+
+after : Acts → Choices → Value
+after acts c = forward acts (value post) state c
+
+no_acts : after Acts.done Choices.stop ≡ finite (ratio (pos 7) 2)
+unfolding after state ratio gcd gcd_steps ◌+ʳ◌ ◌+ᵛ◌
+no_acts = refl
+
+-- The Int, the UInt and the Bool are set; a UInt set to 5 gives 11/2.
+assignments : (after (only (Act.set 2 (Term.number (at 5)) nowhere)) Choices.stop ≡ finite (ratio (pos 11) 2)) × (after (only (Act.set 1 (Term.number (Form.variable 2)) nowhere)) Choices.stop ≡ finite (ratio (pos 7) 2)) × (after (only (Act.set 0 (Term.truth (Cond.constant false)) nowhere)) Choices.stop ≡ finite (ratio (pos 7) 2))
+unfolding after state ratio gcd gcd_steps ◌+ʳ◌ ◌+ᵛ◌
+assignments = (refl, refl, refl)
+
+-- 1/2, 1/4 and 1/4 for the UInt to be 0, 2 and 4: the expected UInt is 3/2, and with the UReal 2.
+three_parts : shown (after (only (Act.draw 2 ((ratio (pos 1) 2, Term.number (at 0)) ∷ (ratio (pos 1) 4, Term.number (at 2)) ∷ (ratio (pos 1) 4, Term.number (at 4)) ∷ []) nowhere)) Choices.stop) ≡ Some (pos 2, 1)
+unfolding after state ratio gcd gcd_steps ◌+ʳ◌ ◌*ʳ◌ ◌+ᵛ◌ ◌*ᵛ◌ infinite_times is_zeroʳ zeroʳ zeroᵛ
+three_parts = refl
+
+-- Any UInt: the choice, upward and downward; a choice of another kind is 0.
+any_values : (after (only (Act.any 2 true Ty.UInt nowhere)) (chosen (Num (whole 9)) Choices.stop Choices.stop) ≡ finite (ratio (pos 19) 2)) × (after (only (Act.any 2 false Ty.UInt nowhere)) (chosen (Num (whole 9)) Choices.stop Choices.stop) ≡ finite (ratio (pos 19) 2)) × (after (only (Act.any 2 true Ty.UInt nowhere)) (chosen (Truth true) Choices.stop Choices.stop) ≡ finite (ratio (pos 1) 2))
+unfolding after state ratio gcd gcd_steps ◌+ʳ◌ ◌+ᵛ◌ leqʳ zeroʳ
+any_values = (refl, refl, refl)
+
+-- A reward of 2, and one of infinity.
+rewards : (after (only (Act.reward (at 2) nowhere)) Choices.stop ≡ finite (ratio (pos 11) 2)) × (after (only (Act.reward (Form.number infinite) nowhere)) Choices.stop ≡ infinite)
+unfolding after state ratio gcd gcd_steps ◌+ʳ◌ ◌+ᵛ◌
+rewards = (refl, refl)
+
+-- The first arm whose guard holds: the second of two; and the else where none does.
+abbrev arms : Cond → Arms
+arms g = Arms.arm (Cond.constant false) (only (Act.set 2 (Term.number (at 10)) nowhere)) (Arms.arm g (only (Act.set 2 (Term.number (at 20)) nowhere)) Arms.no_arm)
+
+branches : (after (only (Act.ifs (arms (Cond.flag 0)) (only (Act.set 2 (Term.number (at 30)) nowhere)) nowhere)) Choices.stop ≡ finite (ratio (pos 41) 2)) × (after (only (Act.ifs (arms (Cond.not (Cond.flag 0))) (only (Act.set 2 (Term.number (at 30)) nowhere)) nowhere)) Choices.stop ≡ finite (ratio (pos 61) 2))
+unfolding after state ratio gcd gcd_steps ◌+ʳ◌ ◌+ᵛ◌
+branches = (refl, refl)
+
+-- The greater and the smaller of two blocks.
+picks : (after (only (Act.pick true (only (Act.set 2 (Term.number (at 1)) nowhere)) (only (Act.set 2 (Term.number (at 2)) nowhere)) nowhere)) Choices.stop ≡ finite (ratio (pos 5) 2)) × (after (only (Act.pick false (only (Act.set 2 (Term.number (at 1)) nowhere)) (only (Act.set 2 (Term.number (at 2)) nowhere)) nowhere)) Choices.stop ≡ finite (ratio (pos 3) 2))
+unfolding after state ratio gcd gcd_steps ◌+ʳ◌ ◌+ᵛ◌ leqʳ leqᵛ maxᵛ minᵛ
+picks = (refl, refl)
+
+-- Each check of 3 before 7/2, and of 4 before 7/2.
+checks : (after (only (Act.check CheckKind.Assert (at 3) nowhere)) Choices.stop ≡ of 3) × (after (only (Act.check CheckKind.Assume (at 3) nowhere)) Choices.stop ≡ infinite) × (after (only (Act.check CheckKind.Assume (at 4) nowhere)) Choices.stop ≡ finite (ratio (pos 7) 2)) × (after (only (Act.check CheckKind.CoAssert (at 4) nowhere)) Choices.stop ≡ of 4) × (after (only (Act.check CheckKind.CoAssume (at 4) nowhere)) Choices.stop ≡ zeroᵛ) × (after (only (Act.check CheckKind.CoAssume (at 3) nowhere)) Choices.stop ≡ finite (ratio (pos 7) 2))
+unfolding after state ratio gcd gcd_steps ◌+ʳ◌ ◌+ᵛ◌ leqʳ leqᵛ maxᵛ minᵛ impliesᵛ coimpliesᵛ zeroᵛ zeroʳ
+checks = (refl, refl, refl, refl, refl, refl)
+
+-- validate of 7/2 is 0, covalidate infinity; before an assumption that is infinite, validate is infinity.
+validations : (after (only (Act.validate false nowhere)) Choices.stop ≡ zeroᵛ) × (after (only (Act.validate true nowhere)) Choices.stop ≡ infinite) × (after (Acts.next (Act.validate false nowhere) (only (Act.check CheckKind.Assume (at 3) nowhere))) Choices.stop ≡ infinite)
+unfolding after state ratio gcd gcd_steps ◌+ʳ◌ ◌+ᵛ◌ leqʳ leqᵛ impliesᵛ validateᵛ covalidateᵛ is_zeroʳ zeroᵛ zeroʳ
+validations = (refl, refl, refl)
+
+-- A loop and a call mean 0 until they are encoded.
+abbrev head : Head
+head = record { number = 1; k = 2; inv = at 1; guard = Cond.flag 0; rank = None; scope = 0 ∷ 1 ∷ 2 ∷ []; span = nowhere }
+
+not_encoded : (after (only (Act.loop head Acts.done)) Choices.stop ≡ zeroᵛ) × (after (only (Act.call [] 0 [] nowhere)) Choices.stop ≡ zeroᵛ)
+unfolding after
+not_encoded = (refl, refl)
+
+-- ---- Small procedures
+
+-- A fair coin shows heads with probability 1/2.
+abbrev halves : Cond → Cond → List (Rational × Term)
+halves g h = (ratio (pos 1) 2, Term.truth g) ∷ (ratio (pos 1) 2, Term.truth h) ∷ []
+
+abbrev flip : ℕ → Act
+flip x = Act.draw x (halves (Cond.constant true) (Cond.constant false)) nowhere
+
+a_coin : shown (forward (only (flip 0)) (value (Form.iverson (Cond.flag 0))) state Choices.stop) ≡ Some (pos 1, 2)
+unfolding state ratio gcd gcd_steps ◌+ʳ◌ ◌*ʳ◌ ◌+ᵛ◌ ◌*ᵛ◌ infinite_times is_zeroʳ zeroʳ oneʳ zeroᵛ oneᵛ
+a_coin = refl
+
+-- Whoever guesses after the coin is thrown guesses right: true after heads and false after tails give 1, false for both 1/2.
+abbrev guess : Acts
+guess = Acts.next (flip 0) (only (Act.any 1 true Ty.Bool nowhere))
+
+abbrev right_guess : Form
+right_guess = Form.iverson (Cond.same (Cond.flag 0) (Cond.flag 1))
+
+guesses : (shown (forward guess (value right_guess) state (chosen (Truth false) (chosen (Truth true) Choices.stop Choices.stop) (chosen (Truth false) Choices.stop Choices.stop))) ≡ Some (pos 1, 1)) × (shown (forward guess (value right_guess) state Choices.stop) ≡ Some (pos 1, 2))
+unfolding state ratio gcd gcd_steps ◌+ʳ◌ ◌*ʳ◌ ◌+ᵛ◌ ◌*ᵛ◌ infinite_times is_zeroʳ zeroʳ oneʳ zeroᵛ oneᵛ
+guesses = (refl, refl)
+
+-- Behind a coassumption of infinity any upper bound holds.
+vacuous : forward (only (Act.check CheckKind.CoAssume (Form.embed (Cond.constant true)) nowhere)) (value (at 5)) state Choices.stop ≡ zeroᵛ
+unfolding coimpliesᵛ leqᵛ ratio gcd gcd_steps zeroᵛ zeroʳ
+vacuous = refl
+
+-- The smaller of a UInt set to 1 and set to 2 is 1.
+smaller_block : shown (forward (only (Act.pick false (only (Act.set 2 (Term.number (at 1)) nowhere)) (only (Act.set 2 (Term.number (at 2)) nowhere)) nowhere)) (value (Form.variable 2)) state Choices.stop) ≡ Some (pos 1, 1)
+unfolding state ratio gcd gcd_steps leqʳ leqᵛ minᵛ
+smaller_block = refl
+
+-- ---- Places, modified variables, counts and lengths
+
+-- An If's arms come before its else, an act before those inside it.
+abbrev nested : Acts
+nested = Acts.next (Act.ifs (Arms.arm (Cond.flag 0) (only (Act.validate true nowhere)) Arms.no_arm) (only (Act.validate false nowhere)) nowhere) (Acts.next (Act.loop head (Acts.next (flip 0) (only (Act.set 3 (Term.number (at 1)) nowhere)))) (only (Act.reward (at 1) nowhere)))
+
+places : (nth (in_order nested) 1 ≡ Some (Act.validate true nowhere)) × (nth (in_order nested) 2 ≡ Some (Act.validate false nowhere)) × (nth (in_order nested) 4 ≡ Some (flip 0)) × (nth (in_order nested) 6 ≡ Some (Act.reward (at 1) nowhere)) × (nth (in_order nested) 7 ≡ None)
+places = (refl, refl, refl, refl, refl)
+
+-- Variable 3 isn't in the loop's scope.
+modified_variables : modified head.scope (Acts.next (flip 0) (only (Act.set 3 (Term.number (at 1)) nowhere))) ≡ 0 ∷ []
+modified_variables = refl
+
+-- The If has 1 arm and 2 statements; the loop two checks, a havoc, a validation, an If and two copies of 2 + 2 statements.
+counts : (count_of nested ≡ 17) × (count_of (only (Act.call (0 ∷ []) 0 (Term.truth (Cond.flag 0) ∷ Term.truth (Cond.flag 0) ∷ []) nowhere)) ≡ 7)
+counts = (refl, refl)
+
+-- The longest branch counts.
+lengths : length_of (only (Act.ifs (Arms.arm (Cond.flag 0) nested Arms.no_arm) (only (flip 0)) nowhere)) ≡ 5
+lengths = refl

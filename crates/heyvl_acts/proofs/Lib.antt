@@ -1,0 +1,7 @@
+mod Matching
+mod Copying
+mod Finding
+pub mod TargetSteps
+pub mod CountsLeft
+mod ActExamples
+pub mod exported

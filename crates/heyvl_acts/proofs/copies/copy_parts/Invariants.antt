@@ -1,0 +1,7 @@
+use Rattle.heyvl_acts.proofs.copies.copy_parts.Given as goal
+use Rattle.heyvl_acts.specs.PlainActs.{parts_of}
+use Rattle.std.proofs.Common.{take, ◌≡◌}
+
+-- What has been copied is equal to what has been visited.
+abbrev pub invariant-loop-weight : goal.invariant-loop-weight
+invariant-loop-weight l = parts_of l.copied.items ≡ parts_of (take l.weight-index l.all)

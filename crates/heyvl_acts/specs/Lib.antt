@@ -1,0 +1,16 @@
+pub mod Acts
+pub mod PlainActs
+pub mod Forward
+pub mod Matching
+pub mod Places
+pub mod Length
+pub mod Visible
+pub mod Modified
+pub mod Count
+pub mod Program
+pub mod WellTyped
+pub mod Rules
+pub mod FormSizes
+pub mod Straight
+pub mod Upward
+pub mod internal

@@ -1,0 +1,85 @@
+-- Which variables are visible, and that acts read visible variables alone. A variable that a block declares is visible from
+-- the act that first gives it a value to the block's end, so it is written before it is read.
+use Rattle.std.specs.Prelude.{◌≡◌, ℕ, ◌==◌, Bool, true, false, ◌||◌, List, [], ◌∷◌, ◌++◌, Option, Some, None, length, leb}
+use Prim.Native.Nat.{suc}
+use Rattle.heyvl_num.specs.Rational.{Rational}
+use Rattle.heylo_formula.specs.Formula.{Form, Cond, Term}
+use Rattle.heylo_formula.specs.Variables.{is_free, is_free_in}
+use Rattle.heyvl_acts.specs.Acts.{Act, Acts, Arms, TypedProcedure}
+
+-- Whether a variable is visible.
+abbrev pub Visible : Type 0
+Visible = ℕ → Bool
+
+abbrev pub among : List ℕ → Visible
+among [] y = false
+among (x ∷ xs) y = (x == y) || among xs y
+
+-- With a variable more, or with more.
+abbrev pub shown : ℕ → Visible → Visible
+shown x v y = (x == y) || v y
+
+abbrev pub shown_all : List ℕ → Visible → Visible
+shown_all [] v = v
+shown_all (x ∷ xs) v = shown_all xs (shown x v)
+
+-- The inputs and the outputs.
+abbrev pub interface : TypedProcedure → Visible
+interface p y = leb (suc y) (length (p.inputs ++ p.outputs))
+
+abbrev pub Sees : Visible → Form → Type 0
+Sees v f = (y : ℕ) → is_free y f ≡ true → v y ≡ true
+
+abbrev pub SeesCond : Visible → Cond → Type 0
+SeesCond v g = (y : ℕ) → is_free_in y g ≡ true → v y ≡ true
+
+abbrev pub SeesTerm : Visible → Term → Type 0
+SeesTerm v (Term.truth g) = SeesCond v g
+SeesTerm v (Term.number f) = Sees v f
+
+abbrev pub SeesTerms : Visible → List Term → Type 0
+SeesTerms v [] = Unit {0}
+SeesTerms v (e ∷ es) = SeesTerm v e × SeesTerms v es
+
+abbrev pub SeesParts : Visible → List (Rational × Term) → Type 0
+SeesParts v [] = Unit {0}
+SeesParts v (q ∷ qs) = SeesTerm v q.1 × SeesParts v qs
+
+-- A loop's ranking, where it has one.
+abbrev pub SeesRank : Visible → Option (Rational × Form) → Type 0
+SeesRank v None = Unit {0}
+SeesRank v (Some r) = Sees v r.1
+
+-- What is visible after the act.
+abbrev pub shown_by : Act → Visible → Visible
+shown_by (Act.set x t span) v = shown x v
+shown_by (Act.draw x qs span) v = shown x v
+shown_by (Act.any x up ty span) v = shown x v
+shown_by (Act.reward f span) v = v
+shown_by (Act.ifs arms e span) v = v
+shown_by (Act.pick up a b span) v = v
+shown_by (Act.check kind f span) v = v
+shown_by (Act.validate co span) v = v
+shown_by (Act.loop h b) v = v
+shown_by (Act.call xs p es span) v = shown_all xs v
+
+abbrev mutual
+  pub ScopedAct : Visible → Act → Type 0
+  ScopedAct v (Act.set x t span) = SeesTerm v t
+  ScopedAct v (Act.draw x qs span) = SeesParts v qs
+  ScopedAct v (Act.any x up ty span) = Unit {0}
+  ScopedAct v (Act.reward f span) = Sees v f
+  ScopedAct v (Act.ifs arms e span) = ScopedArms v arms × Scoped v e
+  ScopedAct v (Act.pick up a b span) = Scoped v a × Scoped v b
+  ScopedAct v (Act.check kind f span) = Sees v f
+  ScopedAct v (Act.validate co span) = Unit {0}
+  ScopedAct v (Act.loop h b) = ((y : ℕ) → v y ≡ among h.scope y) × ((Sees v h.inv × (SeesCond v h.guard × SeesRank v h.rank)) × Scoped v b)
+  ScopedAct v (Act.call xs p es span) = SeesTerms v es
+
+  pub Scoped : Visible → Acts → Type 0
+  Scoped v Acts.done = Unit {0}
+  Scoped v (Acts.next a rest) = ScopedAct v a × Scoped (shown_by a v) rest
+
+  pub ScopedArms : Visible → Arms → Type 0
+  ScopedArms v Arms.no_arm = Unit {0}
+  ScopedArms v (Arms.arm g b more) = SeesCond v g × (Scoped v b × ScopedArms v more)

@@ -1,0 +1,42 @@
+-- Acts without loops and calls that are well typed, which the law of the generated form asks for.
+use Rattle.std.specs.Prelude.{◌≡◌, ℕ, true, false, List, [], ◌∷◌}
+use Rattle.heyvl_num.specs.Rational.{Rational, zeroʳ, ◌≤ʳ◌}
+use Rattle.heylo_formula.specs.Formula.{Form, Term}
+use Rattle.heylo_formula.specs.Binders.{has_binder}
+use Rattle.heylo_formula.specs.Typing.{Types, is_well_typed, IsFormula, TermFits}
+use Rattle.heyvl_acts.specs.Acts.{Act, Acts, Arms}
+
+-- A formula that an act holds has no binder.
+abbrev pub IsHeld : Types → Form → Type 0
+IsHeld types f = IsFormula types f × (has_binder f ≡ false)
+
+-- Each part has a weight from 0 on, and fits the variable.
+abbrev pub PartsFit : Types → ℕ → List (Rational × Term) → Type 0
+PartsFit types x [] = Unit {0}
+PartsFit types x (p ∷ ps) = ((zeroʳ ≤ʳ p.0) × TermFits types (types x) p.1) × PartsFit types x ps
+
+-- Each draw has at least one part.
+abbrev pub DrawFits : Types → ℕ → List (Rational × Term) → Type 0
+DrawFits types x [] = ⊥
+DrawFits types x (p ∷ ps) = PartsFit types x (p ∷ ps)
+
+abbrev mutual
+  pub ActFits : Types → Act → Type 0
+  ActFits types (Act.set x t span) = TermFits types (types x) t
+  ActFits types (Act.draw x ps span) = DrawFits types x ps
+  ActFits types (Act.any x up ty span) = types x ≡ ty
+  ActFits types (Act.reward f span) = IsHeld types f
+  ActFits types (Act.ifs arms e span) = ArmsFit types arms × ActsFit types e
+  ActFits types (Act.pick up a b span) = ActsFit types a × ActsFit types b
+  ActFits types (Act.check kind f span) = IsHeld types f
+  ActFits types (Act.validate co span) = Unit {0}
+  ActFits types (Act.loop h b) = ⊥
+  ActFits types (Act.call xs p es span) = ⊥
+
+  pub ActsFit : Types → Acts → Type 0
+  ActsFit types Acts.done = Unit {0}
+  ActsFit types (Acts.next a rest) = ActFits types a × ActsFit types rest
+
+  pub ArmsFit : Types → Arms → Type 0
+  ArmsFit types Arms.no_arm = Unit {0}
+  ArmsFit types (Arms.arm g b more) = (is_well_typed types g ≡ true) × (ActsFit types b × ArmsFit types more)

@@ -1,0 +1,17 @@
+//! Acts: what a procedure does once names are numbers, what it means, and what the static rules demand of a typed file.
+#![tactic(auto)]
+
+mod acts;
+mod copies;
+mod counts;
+mod laws;
+mod places;
+mod targets;
+mod typed;
+
+pub use acts::{Act, LoopAct};
+pub use counts::count;
+pub use laws::forward_meaning_matches_runs;
+pub use places::act_at;
+pub use targets::is_target;
+pub use typed::{TProc, Typed, VarInfo};

@@ -1,0 +1,72 @@
+//! The act at a place: its number in the text of its procedure's body, an act before those inside it.
+
+ghost use Rattle.heyvl_acts.specs.internal.Finding.{Finds};
+ghost use Rattle.heyvl_acts.specs.Places.{act_named, held, in_order, inside};
+ghost use Rattle.heyvl_acts.specs.PlainActs.{act_of, acts_of, procedures_of};
+ghost use Rattle.std.specs.Prelude.{◌≡◌, ◌∷◌};
+
+use crate::acts::Act;
+use crate::typed::Typed;
+
+/// The act of the procedure's body at this place, from 0 in the order of the text; none exactly where there is no such
+/// procedure or its body has no act there. It takes no memory.
+pub fn act_at(typed: &Typed, p: u32, place: u32) -> Option<&Act>
+    ensures { held result ≡ act_named (procedures_of typed.now) p place }
+{
+    let procedure = typed.procs.get(p as usize)?;
+    match &procedure.body {
+        None => None,
+        Some(acts) => among(acts, place).ok(),
+    }
+}
+
+/// The act at a place of these acts and those inside them, or how far the place is behind them.
+#[cycle(finding)]
+fn among(acts: &[Act], place: u32) -> Result<&Act, u32>
+    ensures { Finds (in_order (acts_of acts.now)) place result }
+{
+    let mut left = place;
+    for act in acts {
+        match from_act(act, left) {
+            Ok(found) => return Ok(found),
+            Err(rest) => left = rest,
+        }
+    }
+    Err(left)
+}
+
+/// The same for one act and those inside it.
+#[cycle(finding)]
+fn from_act(act: &Act, place: u32) -> Result<&Act, u32>
+    ensures { Finds (act_of act.now ∷ inside (act_of act.now)) place result }
+{
+    if place == 0 {
+        return Ok(act);
+    }
+    within(act, place - 1)
+}
+
+/// The same for the acts inside one.
+#[cycle(finding)]
+fn within(act: &Act, place: u32) -> Result<&Act, u32>
+    ensures { Finds (inside (act_of act.now)) place result }
+{
+    match act {
+        Act::If(arms, other, _) => {
+            let mut left = place;
+            for arm in arms {
+                match among(&arm.1, left) {
+                    Ok(found) => return Ok(found),
+                    Err(rest) => left = rest,
+                }
+            }
+            among(other, left)
+        }
+        Act::Pick(_, first, second, _) => match among(first, place) {
+            Ok(found) => Ok(found),
+            Err(left) => among(second, left),
+        },
+        Act::Loop(one) => among(&one.body, place),
+        _ => Err(place),
+    }
+}

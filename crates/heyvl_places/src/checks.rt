@@ -1,0 +1,10 @@
+//! Kinds of checks.
+
+/// Which of the four checks a statement is.
+#[derive(Clone, Copy, Debug, PartialEq, Eq)]
+pub enum CheckKind {
+    Assert,
+    Assume,
+    CoAssert,
+    CoAssume,
+}

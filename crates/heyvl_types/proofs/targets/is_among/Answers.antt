@@ -1,6 +1,0 @@
-use Rattle.heyvl_types.proofs.TargetSteps.{among_any}
-use Rattle.heyvl_types.proofs.targets.is_among.Goals as goal
-use Rattle.std.proofs.Common.{◌∙◌}
-
-pub returns : goal.returns
-returns c = c.contains.ensures.value ∙ among_any c.args.x c.args.targets.now
