@@ -12,3 +12,4 @@ pub mod Rows
 pub mod Inverses
 mod Examples
 pub mod exported
+mod StoredParts

@@ -1,6 +1,7 @@
 //! Fractions extended by infinity.
 ghost use Rattle.std.specs.Prelude.{◌≡◌, option_map};
-ghost use Rattle.heyvl_num.specs.Value.{◌*ᵛ◌};
+ghost use Rattle.heyvl_num.specs.Rational.{zeroʳ};
+ghost use Rattle.heyvl_num.specs.Value.{◌*ᵛ◌, zeroᵛ, oneᵛ};
 ghost use Rattle.heyvl_num.specs.Value.Value.{finite, infinite};
 ghost use Rattle.heyvl_num.specs.Extended.{value_of};
 ghost use Rattle.heyvl_num.specs.ExactValues.{exact_sumᵛ, exact_productᵛ, exact_orderᵛ};
@@ -9,13 +10,28 @@ use crate::fractions::Frac;
 use std::cmp::Ordering;
 
 /// A fraction, or infinity.
-#[derive(Clone, Copy, Debug, PartialEq, Eq)]
+#[derive(Clone, Copy, Debug, PartialEq, Eq, Hash)]
 pub enum Ext {
     Fin(Frac),
     Inf,
 }
 
 impl Ext {
+    /// The number 0.
+    pub fn zero() -> Ext
+        ensures value { value_of result ≡ zeroᵛ }
+        ensures number { value_of result ≡ finite zeroʳ }
+    {
+        Ext::Fin(Frac::zero())
+    }
+
+    /// The number 1.
+    pub fn one() -> Ext
+        ensures { value_of result ≡ oneᵛ }
+    {
+        Ext::Fin(Frac::one())
+    }
+
     /// The sum, which is infinity where one of the two is. None exactly where both are finite and the sum of the
     /// fractions is None.
     pub fn add(&self, other: &Ext) -> Option<Ext>

@@ -2,7 +2,7 @@
 ghost use Rattle.std.specs.Prelude.{◌≡◌, ◌<◌, ◌^◌, pos, ◌*ℤ◌, ◌<ℤ◌, unsigned_abs, neg_ℤ, int_div, SomeIff, IsTrue};
 ghost use Rattle.std.proofs.Common.{ap, ◌∙◌};
 ghost use Rattle.heyvl_num.specs.Gcd as euclid;
-ghost use Rattle.heyvl_num.specs.Rational.{Rational, ratio};
+ghost use Rattle.heyvl_num.specs.Rational.{Rational, ratio, zeroʳ, oneʳ};
 ghost use Rattle.heyvl_num.specs.RationalParts.{ratio_num-lowest, ratio_den-lowest, abs-pos, pos-abs};
 ghost use Rattle.heyvl_num.specs.Exact.{is_small, quotient_fits, exact_quotient, exact_sum, exact_difference, exact_product, exact_order};
 ghost use Rattle.heyvl_num.specs.Rounding.{floorʳ, ceilʳ, IsFloor, IsCeiling};
@@ -13,7 +13,7 @@ use std::cmp::Ordering;
 use std::marker::Model;
 
 /// A fraction in lowest terms with a positive denominator. Both parts stay below 2^127 in absolute value.
-#[derive(Clone, Copy, Debug, PartialEq, Eq)]
+#[derive(Clone, Copy, Debug, PartialEq, Eq, Hash)]
 pub struct Frac {
     num: i128,
     den: i128,
@@ -43,6 +43,20 @@ impl Frac {
         } else {
             Some(Frac::reduced(num, den))
         }
+    }
+
+    /// The number 0.
+    pub fn zero() -> Frac
+        ensures { result ≡ zeroʳ }
+    {
+        Frac::new(0, 1).unwrap()
+    }
+
+    /// The number 1.
+    pub fn one() -> Frac
+        ensures { result ≡ oneʳ }
+    {
+        Frac::new(1, 1).unwrap()
     }
 
     /// The numerator in lowest terms, which has the sign of the fraction.
