@@ -1,7 +1,7 @@
 //! Kinds of checks.
 
 /// Which of the four checks a statement is.
-#[derive(Clone, Copy, Debug, PartialEq, Eq)]
+#[derive(Clone, Copy, Debug, PartialEq, Eq, Hash)]
 pub enum CheckKind {
     Assert,
     Assume,

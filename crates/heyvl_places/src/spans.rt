@@ -3,7 +3,7 @@
 use std::fmt;
 
 /// The bytes from one place up to, and without, another. Both count from 0.
-#[derive(Clone, Copy, Debug, PartialEq, Eq)]
+#[derive(Clone, Copy, Debug, PartialEq, Eq, Hash)]
 pub struct Span {
     pub from: u32,
     pub to: u32,
