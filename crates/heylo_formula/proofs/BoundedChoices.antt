@@ -1,16 +1,16 @@
 -- Suprema and infima, bounded choice by choice.
 use Rattle.std.proofs.Common.{◌≡◌, ◌⊎◌, inl, inr, ◌↔◌, ℕ, refl, sym, ap, ap₂, ◌∙◌, subst, Bool, true, false, not, cond, ◌&&◌, ◌||◌}
 use Rattle.std.specs.Prelude.{Some}
-use Rattle.heyvl_num.specs.Rational.{Rational, zeroʳ, oneʳ, ◌+ʳ◌, negʳ, ◌≤ʳ◌, leqʳ}
+use Rattle.heyvl_num.specs.Rational.{Rational, zeroʳ, oneʳ, ◌+ʳ◌, ◌-ʳ◌, negʳ, ◌≤ʳ◌, leqʳ}
 use Rattle.heyvl_num.specs.Value.{Value, zeroᵛ, oneᵛ, ◌+ᵛ◌, ◌*ᵛ◌, leqᵛ, is_zeroʳ, ◌≤ᵛ◌, ◌<ᵛ◌}
 use Rattle.heyvl_num.specs.Value.Value.{finite, infinite}
 use Rattle.heyvl_num.specs.ValueOperators.{minᵛ, maxᵛ, impliesᵛ, coimpliesᵛ, monusᵛ}
-use Rattle.heyvl_num.proofs.exported.Rationals.{+ʳ_assoc, +ʳ-zero, *ʳ_comm}
+use Rattle.heyvl_num.proofs.exported.Rationals.{+ʳ_assoc, +ʳ-zero, *ʳ_comm, ≤ʳ_refl}
 use Rattle.heyvl_num.proofs.exported.Signs.{neg-+ʳ}
 use Rattle.heyvl_num.proofs.exported.Inverses.{inverse, Inverse}
-use Rattle.heyvl_num.proofs.exported.Values.{≤ᵛ_refl, ≤ᵛ_trans, ≤ᵛ_antisym, ≤ᵛ_infinite, infinite_above, +ᵛ_comm, +ᵛ-infinite, +ᵛ_mono, scale_mono, scale_scale, one-*ᵛ, zero-*ᵛ, finite-+, finite_terms, at_most_or_less, <ᵛ-not, is_zero-is, is_zero-zero}
+use Rattle.heyvl_num.proofs.exported.Values.{≤ᵛ_refl, ≤ᵛ_trans, ≤ᵛ_antisym, ≤ᵛ_infinite, infinite_above, +ᵛ_comm, +ᵛ-infinite, +ᵛ_mono, scale_mono, scale_scale, one-*ᵛ, zero-*ᵛ, finite-+, finite_terms, at_most_or_less, <ᵛ-not, is_zero-is, is_zero-zero, nonnegative_finite}
 use Rattle.heyvl_num.proofs.exported.Operators.{min_below_left, min_below_right, min_greatest, min_mono, min_comm, max_above_left, max_above_right, max_least, max_mono, max_comm, implies_adjoint, implies_mono, coimplies_adjoint, coimplies_mono, coimplies_nonnegative}
-use Rattle.heylo_formula.specs.Operators.{differenceᵛ, validateᵛ, covalidateᵛ, agree}
+use Rattle.heylo_formula.specs.Operators.{differenceᵛ, validateᵛ, covalidateᵛ, agree, is_finite, finite_part}
 use Rattle.heylo_formula.specs.State.{Env, put, fit, has}
 use Rattle.heylo_formula.specs.Choices.{Choices, here, left, right}
 use Rattle.heylo_formula.specs.Formula.{Form, Cond}
@@ -18,7 +18,7 @@ use Rattle.heylo_formula.specs.Meaning.{value, holds}
 use Rattle.heylo_formula.specs.Binders.{has_binder, has_binder_in}
 use Rattle.heylo_formula.specs.Goals.{Compares}
 use Rattle.heylo_formula.specs.Typing.{NumberType, Types, retyped, joined, is_unsigned, type_of, is_well_typed, HasTypes}
-use Rattle.heylo_formula.specs.Extrema.{Bound, Chosen, Means, is_directed}
+use Rattle.heylo_formula.specs.Extrema.{Bound, Chosen, Means, is_directed, is_weight, is_number}
 use Rattle.heylo_formula.specs.declared.types.Ty.{Ty}
 use Rattle.heylo_formula.specs.declared.values.Val.{Val}
 use Rattle.heylo_formula.specs.declared.values.Val.TheVariants.{Truth}
@@ -338,6 +338,108 @@ directed_bests true false x name ty a s m e h f = absurd (cc)
 directed_bests false true x name ty a s m e h f = absurd (cc)
 directed_bests false false x name ty a s m e h f = bound_bests false x name ty a s m h f
 
+number_binder : (f : Form) → is_number f ≡ true → has_binder f ≡ false
+number_binder (Form.number v) h = refl
+number_binder (Form.variable x) h = absurd (cc)
+number_binder (Form.sum a b) h = absurd (cc)
+number_binder (Form.difference a b) h = absurd (cc)
+number_binder (Form.cut a b) h = absurd (cc)
+number_binder (Form.scale w a) h = absurd (cc)
+number_binder (Form.product a b span) h = absurd (cc)
+number_binder (Form.min a b) h = absurd (cc)
+number_binder (Form.max a b) h = absurd (cc)
+number_binder (Form.imply a b) h = absurd (cc)
+number_binder (Form.co_imply a b) h = absurd (cc)
+number_binder (Form.validate a) h = absurd (cc)
+number_binder (Form.co_validate a) h = absurd (cc)
+number_binder (Form.embed g) h = absurd (cc)
+number_binder (Form.iverson g) h = absurd (cc)
+number_binder (Form.select g a b) h = absurd (cc)
+number_binder (Form.bind up x name ty a) h = absurd (cc)
+
+number_finite : (f : Form) (s : Env) → is_number f ≡ true → is_finite (value f s Choices.stop) ≡ true
+number_finite (Form.number v) s h = h
+number_finite (Form.variable x) s h = absurd (cc)
+number_finite (Form.sum a b) s h = absurd (cc)
+number_finite (Form.difference a b) s h = absurd (cc)
+number_finite (Form.cut a b) s h = absurd (cc)
+number_finite (Form.scale w a) s h = absurd (cc)
+number_finite (Form.product a b span) s h = absurd (cc)
+number_finite (Form.min a b) s h = absurd (cc)
+number_finite (Form.max a b) s h = absurd (cc)
+number_finite (Form.imply a b) s h = absurd (cc)
+number_finite (Form.co_imply a b) s h = absurd (cc)
+number_finite (Form.validate a) s h = absurd (cc)
+number_finite (Form.co_validate a) s h = absurd (cc)
+number_finite (Form.embed g) s h = absurd (cc)
+number_finite (Form.iverson g) s h = absurd (cc)
+number_finite (Form.select g a b) s h = absurd (cc)
+number_finite (Form.bind up x name ty a) s h = absurd (cc)
+
+finite_same : (v : Value) → is_finite v ≡ true → v ≡ finite (finite_part v)
+finite_same (finite x) h = refl
+finite_same infinite h = absurd (cc)
+
+min_finite : (x y : Value) → is_finite y ≡ true → minᵛ x y ≡ finite (finite_part (minᵛ x y))
+min_finite x (finite y) h = below y (minᵛ x (finite y)) (min_below_right x (finite y))
+  where
+    below : (y : Rational) (m : Value) → m ≤ᵛ finite y → m ≡ finite (finite_part m)
+    below y (finite m) k = refl
+    below y infinite k = absurd (infinite_above y k)
+min_finite x infinite h = absurd (cc)
+
+cut_finite : (x y : Value) → is_finite x ≡ true → monusᵛ x y ≡ finite (finite_part (monusᵛ x y))
+unfolding monusᵛ zeroᵛ
+cut_finite (finite x) (finite y) h = go (leqʳ y x)
+  where
+    go : (b : Bool) → cond b (finite (x -ʳ y)) (finite zeroʳ) ≡ finite (finite_part (cond b (finite (x -ʳ y)) (finite zeroʳ)))
+    go true = refl
+    go false = refl
+cut_finite (finite x) infinite h = refl
+cut_finite infinite y h = absurd (cc)
+
+part_from_zero : (v : Value) → zeroᵛ ≤ᵛ v → zeroʳ ≤ʳ finite_part v
+part_from_zero (finite x) h = nonnegative_finite x h
+part_from_zero infinite h = ≤ʳ_refl zeroʳ
+
+weight_binder : (f : Form) → is_weight f ≡ true → has_binder f ≡ false
+weight_binder (Form.number v) h = absurd (cc)
+weight_binder (Form.variable x) h = absurd (cc)
+weight_binder (Form.sum a b) h = absurd (cc)
+weight_binder (Form.difference a b) h = absurd (cc)
+weight_binder (Form.cut a b) h = let q = and_both (is_number a) (not (has_binder b)) h in neither (number_binder a q.0) (without (has_binder b) q.1)
+weight_binder (Form.scale w a) h = absurd (cc)
+weight_binder (Form.product a b span) h = absurd (cc)
+weight_binder (Form.min a b) h = let q = and_both (not (has_binder a)) (is_number b) h in neither (without (has_binder a) q.0) (number_binder b q.1)
+weight_binder (Form.max a b) h = absurd (cc)
+weight_binder (Form.imply a b) h = absurd (cc)
+weight_binder (Form.co_imply a b) h = absurd (cc)
+weight_binder (Form.validate a) h = absurd (cc)
+weight_binder (Form.co_validate a) h = absurd (cc)
+weight_binder (Form.embed g) h = absurd (cc)
+weight_binder (Form.iverson g) h = absurd (cc)
+weight_binder (Form.select g a b) h = absurd (cc)
+weight_binder (Form.bind up x name ty a) h = absurd (cc)
+
+weight_finite : (f : Form) (s : Env) → is_weight f ≡ true → value f s Choices.stop ≡ finite (finite_part (value f s Choices.stop))
+weight_finite (Form.number v) s h = absurd (cc)
+weight_finite (Form.variable x) s h = absurd (cc)
+weight_finite (Form.sum a b) s h = absurd (cc)
+weight_finite (Form.difference a b) s h = absurd (cc)
+weight_finite (Form.cut a b) s h = let q = and_both (is_number a) (not (has_binder b)) h in cut_finite (value a s Choices.stop) (value b s Choices.stop) (number_finite a s q.0)
+weight_finite (Form.scale w a) s h = absurd (cc)
+weight_finite (Form.product a b span) s h = absurd (cc)
+weight_finite (Form.min a b) s h = let q = and_both (not (has_binder a)) (is_number b) h in min_finite (value a s Choices.stop) (value b s Choices.stop) (number_finite b s q.1)
+weight_finite (Form.max a b) s h = absurd (cc)
+weight_finite (Form.imply a b) s h = absurd (cc)
+weight_finite (Form.co_imply a b) s h = absurd (cc)
+weight_finite (Form.validate a) s h = absurd (cc)
+weight_finite (Form.co_validate a) s h = absurd (cc)
+weight_finite (Form.embed g) s h = absurd (cc)
+weight_finite (Form.iverson g) s h = absurd (cc)
+weight_finite (Form.select g a b) s h = absurd (cc)
+weight_finite (Form.bind up x name ty a) s h = absurd (cc)
+
 bests : (types : Types) (up : Bool) (f : Form) (s : Env) (m : Value) → is_unsigned (type_of types f) ≡ true → HasTypes types s → is_directed up f ≡ true → Means f s m → Bests up f s m
 bests types up (Form.number v) s m t e d h = plain up (Form.number v) s m refl h
 bests types up (Form.variable x) s m t e d h = plain up (Form.variable x) s m refl h
@@ -355,7 +457,19 @@ bests types up (Form.max a b) s m t e d h =
     joined_bests up maxᵛ a b (Form.max a b) s m h.first h.second h.result (λ c. refl) (compares_max up) (closes_max up) (closes_max_right up) (bests types up a s h.first p.0 e q.0 h.first_meant) (bests types up b s h.second p.1 e q.1 h.second_meant)
 bests types up (Form.difference a b) s m t e d h = plain up (Form.difference a b) s m (without (has_binder a || has_binder b) d) h
 bests types up (Form.cut a b) s m t e d h = plain up (Form.cut a b) s m (without (has_binder a || has_binder b) d) h
-bests types up (Form.product a b span) s m t e d h = plain up (Form.product a b span) s m (without (has_binder a || has_binder b) d) h
+bests types up (Form.product a b span) s m t e d h = go (has_binder a || has_binder b) refl d (λ q. bests types up b s h.second (joined_parts (type_of types a) (type_of types b) t).1 e q h.second_meant)
+  where
+    weighed : is_weight a ≡ true → Bests up b s h.second → Bests up (Form.product a b span) s m
+    weighed k i =
+        let n = weight_binder a k in
+        let w = finite_part (value a s Choices.stop) in
+        let is = means_value a s h.first n h.first_meant ∙ weight_finite a s k in
+        let from : zeroʳ ≤ʳ w = part_from_zero (value a s Choices.stop) (nonnegative_value types a s Choices.stop (joined_parts (type_of types a) (type_of types b) t).0 e) in
+        right_bests up (λ x y. x *ᵛ y) a b (Form.product a b span) s m h.first h.second h.result (means_value a s h.first n h.first_meant) n (λ c. refl) (λ c j. subst (λ x. Compares up (x *ᵛ h.second) (x *ᵛ value b s c)) (sym is) (compares_scale up w h.second (value b s c) from j)) (λ j. subst (λ x. Closes up (λ c. x *ᵛ value b s c) (x *ᵛ h.second)) (sym is) (closes_scale up w (value b s) h.second from j)) i
+
+    go : (x : Bool) → (has_binder a || has_binder b) ≡ x → (not x || (is_weight a && is_directed up b)) ≡ true → (is_directed up b ≡ true → Bests up b s h.second) → Bests up (Form.product a b span) s m
+    go false n d i = plain up (Form.product a b span) s m n h
+    go true n d i = let q = and_both (is_weight a) (is_directed up b) d in weighed q.0 (i q.1)
 bests types up (Form.scale w a) s m t e d h =
     let p = scaled_part (leqʳ zeroʳ w) (type_of types a) t in
     let q : zeroʳ ≤ʳ w = record { holds = p.0 } in

@@ -2,11 +2,11 @@
 -- of them, an infimum the greatest that is at most each. Where no fraction is the best, a form means nothing.
 -- Source: HeyLo, the logic of HeyVL (Schroeer, Batz, Kaminski, Katoen, Matheja, OOPSLA 2023). The table of the operators
 -- that keep suprema or infima is this project's own.
-use Rattle.std.specs.Prelude.{◌≡◌, ◌↔◌, Bool, true, false, not, ◌&&◌, if◌then◌else◌}
+use Rattle.std.specs.Prelude.{◌≡◌, ◌↔◌, Bool, true, false, not, ◌&&◌, ◌||◌, if◌then◌else◌}
 use Rattle.heyvl_num.specs.Value.{Value, zeroᵛ, oneᵛ, ◌+ᵛ◌, ◌*ᵛ◌}
 use Rattle.heyvl_num.specs.Value.Value.{finite, infinite}
 use Rattle.heyvl_num.specs.ValueOperators.{minᵛ, maxᵛ, impliesᵛ, coimpliesᵛ, monusᵛ}
-use Rattle.heylo_formula.specs.Operators.{differenceᵛ, validateᵛ, covalidateᵛ, agree}
+use Rattle.heylo_formula.specs.Operators.{differenceᵛ, validateᵛ, covalidateᵛ, agree, is_finite}
 use Rattle.heylo_formula.specs.State.{Env, put, has, number_of}
 use Rattle.heylo_formula.specs.Choices.{Choices}
 use Rattle.heylo_formula.specs.Formula.{Form}
@@ -65,6 +65,46 @@ Means (Form.iverson g) s m = m ≡ (if holds g s Choices.stop then oneᵛ else z
 Means (Form.select g a b) s m = Chosen (holds g s Choices.stop) (Means a s m) (Means b s m)
 Means (Form.bind up x name ty a) s m = Bound up ty (λ v. Means a (put x v s)) m
 
+-- A finite number.
+abbrev pub is_number : Form → Bool
+is_number (Form.number v) = is_finite v
+is_number (Form.variable x) = false
+is_number (Form.sum a b) = false
+is_number (Form.difference a b) = false
+is_number (Form.cut a b) = false
+is_number (Form.scale w a) = false
+is_number (Form.product a b span) = false
+is_number (Form.min a b) = false
+is_number (Form.max a b) = false
+is_number (Form.imply a b) = false
+is_number (Form.co_imply a b) = false
+is_number (Form.validate a) = false
+is_number (Form.co_validate a) = false
+is_number (Form.embed g) = false
+is_number (Form.iverson g) = false
+is_number (Form.select g a b) = false
+is_number (Form.bind up x name ty a) = false
+
+-- A form without binders that is a finite number at most.
+abbrev pub is_weight : Form → Bool
+is_weight (Form.number v) = false
+is_weight (Form.variable x) = false
+is_weight (Form.sum a b) = false
+is_weight (Form.difference a b) = false
+is_weight (Form.cut a b) = is_number a && not (has_binder b)
+is_weight (Form.scale w a) = false
+is_weight (Form.product a b span) = false
+is_weight (Form.min a b) = not (has_binder a) && is_number b
+is_weight (Form.max a b) = false
+is_weight (Form.imply a b) = false
+is_weight (Form.co_imply a b) = false
+is_weight (Form.validate a) = false
+is_weight (Form.co_validate a) = false
+is_weight (Form.embed g) = false
+is_weight (Form.iverson g) = false
+is_weight (Form.select g a b) = false
+is_weight (Form.bind up x name ty a) = false
+
 -- Whether each binder is of the direction, and stands only under operators that keep the best value of a part: all that
 -- a generated form puts over a binder. An implication doesn't keep a supremum, nor does validate; a coimplication doesn't
 -- keep an infimum, nor does covalidate.
@@ -75,7 +115,7 @@ is_directed up (Form.sum a b) = is_directed up a && is_directed up b
 is_directed up (Form.difference a b) = not (has_binder (Form.difference a b))
 is_directed up (Form.cut a b) = not (has_binder (Form.cut a b))
 is_directed up (Form.scale w a) = is_directed up a
-is_directed up (Form.product a b span) = not (has_binder (Form.product a b span))
+is_directed up (Form.product a b span) = not (has_binder (Form.product a b span)) || (is_weight a && is_directed up b)
 is_directed up (Form.min a b) = is_directed up a && is_directed up b
 is_directed up (Form.max a b) = is_directed up a && is_directed up b
 is_directed up (Form.imply a b) = not (has_binder a) && (if up then not (has_binder b) else is_directed up b)

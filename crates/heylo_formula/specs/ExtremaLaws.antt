@@ -56,4 +56,4 @@ abbrev pub SubstitutionKeepsBinders : Type 0
 SubstitutionKeepsBinders = (x : ℕ) (t : Term) (f : Form) → IsPlain t → has_binder (subst x t f) ≡ has_binder f
 
 abbrev pub SubstitutionKeepsDirections : Type 0
-SubstitutionKeepsDirections = (up : Bool) (x : ℕ) (t : Term) (f : Form) → IsPlain t → is_directed up (subst x t f) ≡ is_directed up f
+SubstitutionKeepsDirections = (up : Bool) (x : ℕ) (t : Term) (f : Form) → IsPlain t → is_directed up f ≡ true → is_directed up (subst x t f) ≡ true

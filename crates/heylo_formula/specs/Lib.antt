@@ -1,6 +1,7 @@
 pub mod Formula
 pub mod PlainTrees
 pub mod Variables
+pub mod NumericVariables
 pub mod Sizes
 pub mod Operators
 pub mod State
@@ -9,6 +10,7 @@ pub mod Meaning
 pub mod Binders
 pub mod Typing
 pub mod Goals
+pub mod GoalOrder
 pub mod TypedGoals
 pub mod Extrema
 pub mod Substitution

@@ -6,6 +6,7 @@ mod counting;
 mod forms;
 mod goals;
 mod laws;
+mod numeric_variables;
 mod occurrences;
 mod renaming;
 mod shifting;

@@ -12,13 +12,10 @@ ghost use Rattle.heylo_formula.specs.State.{Env, put};
 ghost use Rattle.heylo_formula.specs.Choices.{Choices};
 ghost use Rattle.heylo_formula.specs.Meaning.{value, holds, term_value};
 ghost use Rattle.heylo_formula.specs.Binders.{IsPlain};
-ghost use Rattle.heyvl_num.specs.Rational.{zeroʳ};
-ghost use Rattle.heyvl_num.specs.Value.Value.{finite};
-ghost use Rattle.heyvl_num.specs.Extended.{value_of};
 
 use crate::forms::{Cond, Form};
 use crate::terms::Term;
-use heyvl_num::{Ext, Frac};
+use heyvl_num::Ext;
 use std::alloc::{AllocError, Global};
 
 impl Form {
@@ -250,7 +247,7 @@ fn form_for(alloc: Global, x: u32, var: u32, with: &Term) -> Result<Form, AllocE
     }
     match with {
         Term::Num(f) => f.copy(alloc),
-        Term::Truth(_) => Ok(Form::Const(zero())),
+        Term::Truth(_) => Ok(Form::Const(Ext::zero())),
     }
 }
 
@@ -265,10 +262,4 @@ fn cond_for(alloc: Global, x: u32, var: u32, with: &Term) -> Result<Cond, AllocE
         Term::Truth(g) => g.copy(alloc),
         Term::Num(_) => Ok(Cond::Const(false)),
     }
-}
-
-fn zero() -> Ext
-    ensures { value_of result ≡ finite zeroʳ }
-{
-    Ext::Fin(Frac::new(0, 1).unwrap())
 }

@@ -11,7 +11,7 @@ use Rattle.linear_form.specs.Query.{next}
 use Rattle.linear_form.specs.Query.Query.{done, bits}
 use Rattle.linear_form.specs.Questions as q
 use Rattle.linear_form.specs.Questions.{sized, is_below, evaluate, test}
-use Rattle.linear_form.specs.Nonlinear.{has_variable}
+use Rattle.heylo_formula.specs.NumericVariables.{has_variable}
 use Rattle.linear_form.specs.QuestionLaws.{EachResult, IsConstant}
 use Rattle.linear_form.proofs.EachResults.{each_next, each_after, each_both}
 use Rattle.linear_values.proofs.exported.KeptTerms.{of_two}

@@ -12,7 +12,7 @@ use Rattle.linear_values.specs.Lin.{Linear}
 use Rattle.linear_form.specs.Questions.{Ends, value_in, evaluate}
 use Rattle.linear_form.specs.Paths.{IsPath, Agrees, IsPathOf, end_at}
 use Rattle.heylo_formula.specs.TypedGoals.{IsTypedGoal}
-use Rattle.linear_form.specs.Nonlinear.{has_variable}
+use Rattle.heylo_formula.specs.NumericVariables.{has_variable}
 
 -- Each state has a path to the end that agrees with it.
 abbrev pub StatesHaveAPath : Type 0

@@ -3,7 +3,8 @@
 ghost use Rattle.std.specs.Prelude.{◌≡◌, ◌&&◌};
 ghost use Rattle.heylo_formula.specs.PlainTrees.{form_of, cond_of};
 ghost use Rattle.heylo_formula.specs.Goals.{goal_of};
-ghost use Rattle.linear_form.specs.Nonlinear.{has_variable as form_has_variable, product_at, first_product, first_product_in, nonlinear_product};
+ghost use Rattle.heylo_formula.specs.NumericVariables.{has_variable};
+ghost use Rattle.linear_form.specs.Nonlinear.{product_at, first_product, first_product_in, nonlinear_product};
 
 use heylo_formula::{Cond, Form, Goal};
 use heyvl_places::Span;
@@ -16,30 +17,10 @@ pub fn nonlinear(goal: &Goal) -> Option<Span>
     in_form(&goal.stated).or(in_form(&goal.found))
 }
 
-fn has_variable(form: &Form) -> bool
-    ensures { result ≡ form_has_variable (form_of form.now) }
-{
-    match form {
-        Form::Const(_) | Form::Embed(_) | Form::Iverson(_) => false,
-        Form::Var(_) => true,
-        Form::Sum(a, b)
-        | Form::Diff(a, b)
-        | Form::Cut(a, b)
-        | Form::Product(a, b, _)
-        | Form::Min(a, b)
-        | Form::Max(a, b)
-        | Form::Imply(a, b)
-        | Form::CoImply(a, b)
-        | Form::Select(_, a, b) => has_variable(a) || has_variable(b),
-        Form::Scale(_, a) | Form::Validate(a) | Form::CoValidate(a) | Form::Bind(_, _, _, _, a) =>
-            has_variable(a),
-    }
-}
-
 fn here(a: &Form, b: &Form, span: Span) -> Option<Span>
-    ensures { result ≡ product_at (form_has_variable (form_of a.now) && form_has_variable (form_of b.now)) span }
+    ensures { result ≡ product_at (has_variable (form_of a.now) && has_variable (form_of b.now)) span }
 {
-    if has_variable(a) && has_variable(b) {
+    if a.has_variable() && b.has_variable() {
         Some(span)
     } else {
         None

@@ -14,7 +14,7 @@ use Rattle.heylo_formula.specs.Meaning.{value, holds}
 use Rattle.heylo_formula.specs.Variables.{is_free, is_free_in, occurs, occurs_in, IsOver, IsOverIn}
 use Rattle.heylo_formula.specs.Binders.{has_binder, has_binder_in}
 use Rattle.heylo_formula.specs.Sizes.{nodes, nodes_in, depth, depth_in}
-use Rattle.heylo_formula.specs.Extrema.{is_directed}
+use Rattle.heylo_formula.specs.Extrema.{is_directed, is_weight, is_number}
 use Rattle.heylo_formula.specs.Typing.{NumberType, Types, retyped, joined, is_finite_type, is_unsigned, only_if, difference_type, cut_type, scale_type, type_of, is_well_typed}
 use Rattle.heylo_formula.specs.Shifted.{shifted, shifted_in, extent, extent_in}
 use Rattle.heylo_formula.proofs.Dependence.{three, or_false, same_on}
@@ -202,6 +202,44 @@ mutual
   shifted_depth_in m (Cond.equal a b) = ap₂ (λ p q. 1 + max p q) (shifted_depth m a) (shifted_depth m b)
   shifted_depth_in m (Cond.ite g h k) = ap₂ (λ p q. 1 + max p q) (shifted_depth_in m g) (ap₂ (λ p q. max p q) (shifted_depth_in m h) (shifted_depth_in m k))
 
+shifted_number : (m : ℕ) (f : Form) → is_number (shifted m f) ≡ is_number f
+shifted_number m (Form.number v) = refl
+shifted_number m (Form.variable x) = refl
+shifted_number m (Form.sum a b) = refl
+shifted_number m (Form.difference a b) = refl
+shifted_number m (Form.cut a b) = refl
+shifted_number m (Form.scale w a) = refl
+shifted_number m (Form.product a b span) = refl
+shifted_number m (Form.min a b) = refl
+shifted_number m (Form.max a b) = refl
+shifted_number m (Form.imply a b) = refl
+shifted_number m (Form.co_imply a b) = refl
+shifted_number m (Form.validate a) = refl
+shifted_number m (Form.co_validate a) = refl
+shifted_number m (Form.embed g) = refl
+shifted_number m (Form.iverson g) = refl
+shifted_number m (Form.select g a b) = refl
+shifted_number m (Form.bind up x name ty a) = refl
+
+shifted_weight : (m : ℕ) (f : Form) → is_weight (shifted m f) ≡ is_weight f
+shifted_weight m (Form.number v) = refl
+shifted_weight m (Form.variable x) = refl
+shifted_weight m (Form.sum a b) = refl
+shifted_weight m (Form.difference a b) = refl
+shifted_weight m (Form.cut a b) = ap₂ (λ p q. p && not q) (shifted_number m a) (shifted_binders m b)
+shifted_weight m (Form.scale w a) = refl
+shifted_weight m (Form.product a b span) = refl
+shifted_weight m (Form.min a b) = ap₂ (λ p q. not p && q) (shifted_binders m a) (shifted_number m b)
+shifted_weight m (Form.max a b) = refl
+shifted_weight m (Form.imply a b) = refl
+shifted_weight m (Form.co_imply a b) = refl
+shifted_weight m (Form.validate a) = refl
+shifted_weight m (Form.co_validate a) = refl
+shifted_weight m (Form.embed g) = refl
+shifted_weight m (Form.iverson g) = refl
+shifted_weight m (Form.select g a b) = refl
+shifted_weight m (Form.bind up x name ty a) = refl
+
 pub shifted_directed : (up : Bool) (m : ℕ) (f : Form) → is_directed up (shifted m f) ≡ is_directed up f
 shifted_directed up m (Form.number v) = refl
 shifted_directed up m (Form.variable w) = refl
@@ -209,7 +247,7 @@ shifted_directed up m (Form.sum a b) = ap₂ (λ p q. p && q) (shifted_directed 
 shifted_directed up m (Form.difference a b) = ap not (ap₂ (λ p q. p || q) (shifted_binders m a) (shifted_binders m b))
 shifted_directed up m (Form.cut a b) = ap not (ap₂ (λ p q. p || q) (shifted_binders m a) (shifted_binders m b))
 shifted_directed up m (Form.scale w a) = (shifted_directed up m a)
-shifted_directed up m (Form.product a b span) = ap not (ap₂ (λ p q. p || q) (shifted_binders m a) (shifted_binders m b))
+shifted_directed up m (Form.product a b span) = ap₂ (λ p q. p || q) (ap not (ap₂ (λ p q. p || q) (shifted_binders m a) (shifted_binders m b))) (ap₂ (λ p q. p && q) (shifted_weight m a) (shifted_directed up m b))
 shifted_directed up m (Form.min a b) = ap₂ (λ p q. p && q) (shifted_directed up m a) (shifted_directed up m b)
 shifted_directed up m (Form.max a b) = ap₂ (λ p q. p && q) (shifted_directed up m a) (shifted_directed up m b)
 shifted_directed up m (Form.imply a b) = ap₂ (λ p q. not p && q) (shifted_binders m a) (ap₂ (cond up) (ap not (shifted_binders m b)) (shifted_directed up m b))
