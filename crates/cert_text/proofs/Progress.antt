@@ -5,7 +5,8 @@ use Rattle.std.specs.List.{All, AllByRecursion, list_all}
 use Rattle.goal_answers.specs.Trees.{Tree}
 use Rattle.heylo_formula.specs.declared.goals.GoalId.{GoalId}
 use Rattle.heylo_formula.specs.declared.goals.GoalId.TheVariants as ids
-use Rattle.cert_text.specs.Certificates.{Certificate, HasMultipliers, IsWritable, AreWritable, loop_of}
+use Rattle.heylo_formula.specs.GoalOrder.{loop_of}
+use Rattle.cert_text.specs.Certificates.{Certificate, HasMultipliers, IsWritable, AreWritable}
 use Rattle.cert_text.specs.Lines.{Line, title, goal, split, farkas, plain, last, line_text, id_text, multipliers_text}
 use Rattle.cert_text.specs.internal.WholeLines.{IsLine}
 use Rattle.cert_text.specs.Texts.{tree_lines, goals_lines, certificate_lines, closed, Spells, AreFirstLines, IsFirstFault}

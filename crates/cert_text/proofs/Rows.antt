@@ -5,7 +5,8 @@ use Rattle.heylo_formula.specs.declared.goals.GoalId.{GoalId}
 use Rattle.heylo_formula.specs.declared.goals.GoalId.TheVariants as ids
 use Rattle.goal_answers.specs.Trees.{Tree, depth}
 use Rattle.cert_text.specs.declared.goal_names.GoalName.{GoalName}
-use Rattle.cert_text.specs.Certificates.{Certificate, precedes, stands_before}
+use Rattle.heylo_formula.specs.GoalOrder.{stands_before}
+use Rattle.cert_text.specs.Certificates.{Certificate, precedes}
 use Rattle.cert_text.specs.Texts.{text_of}
 
 abbrev named : ℕ → GoalId → Tree → Certificate

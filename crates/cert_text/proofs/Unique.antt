@@ -5,7 +5,8 @@ use Rattle.std.specs.List.{AllByRecursion}
 use Rattle.heylo_formula.specs.declared.goals.GoalId.{GoalId}
 use Rattle.heylo_formula.specs.declared.goals.GoalId.TheVariants as ids
 use Rattle.cert_text.specs.declared.goal_names.GoalName.{GoalName}
-use Rattle.cert_text.specs.Certificates.{Certificate, IsNumbered, loop_of}
+use Rattle.heylo_formula.specs.GoalOrder.{loop_of}
+use Rattle.cert_text.specs.Certificates.{Certificate, IsNumbered}
 use Rattle.cert_text.specs.Lines.{Line, title, goal, split, farkas, plain, last, line_text, id_text, multipliers_text}
 use Rattle.cert_text.specs.internal.WholeLines.{IsLine}
 use Rattle.cert_text.specs.Texts.{certificate_lines, closed, Spells}

@@ -1,8 +1,7 @@
 -- Lists of certificates as plain data, and which of them have a text. This project's own.
 use Rattle.std.specs.Prelude.{ℕ, ◌<◌, ◌≤◌, ◌^◌, ◌==◌, ◌&&◌, ◌||◌, Bool, true, IsTrue, List, [], ◌∷◌, Option, Some, None, length, map, nat_lt}
 use Rattle.std.specs.List.{All, AllByRecursion}
-use Rattle.heylo_formula.specs.declared.goals.GoalId.{GoalId}
-use Rattle.heylo_formula.specs.declared.goals.GoalId.TheVariants.{Main, Pre, Post, Invariant, Ranking}
+use Rattle.heylo_formula.specs.GoalOrder.{loop_of, stands_before}
 use Rattle.goal_answers.specs.Multipliers.{IsGrowing}
 use Rattle.goal_answers.specs.Trees.{Tree, tree_of, depth}
 use Rattle.goal_answers.specs.declared.trees.GoalCert.{GoalCert}
@@ -20,26 +19,6 @@ certificate_of c = record { name = record { proc = c.proc; id = c.id }; tree = t
 -- The list that the program holds, read as plain data.
 abbrev pub certificates_of : List GoalCert → List Certificate
 certificates_of cs = map certificate_of cs
-
--- A procedure's goals stand in this order: the main goal, those of pre and post, those of the invariants, those of the rankings.
-abbrev pub kind_rank : GoalId → ℕ
-kind_rank Main = 0
-kind_rank Pre = 1
-kind_rank Post = 2
-kind_rank (Invariant loop) = 3
-kind_rank (Ranking loop) = 4
-
--- The number of the goal's loop; 0 where it has none.
-abbrev pub loop_of : GoalId → ℕ
-loop_of Main = 0
-loop_of Pre = 0
-loop_of Post = 0
-loop_of (Invariant loop) = loop
-loop_of (Ranking loop) = loop
-
--- Of one procedure's goals the first stands before the second.
-abbrev pub stands_before : GoalId → GoalId → Bool
-stands_before i j = nat_lt (kind_rank i) (kind_rank j) || (kind_rank i == kind_rank j && nat_lt (loop_of i) (loop_of j))
 
 -- The first goal is of an earlier procedure, or stands before the second in the same.
 abbrev pub precedes : GoalName → GoalName → Bool

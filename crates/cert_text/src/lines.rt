@@ -4,7 +4,8 @@ ghost use Rattle.std.specs.Prelude.{◌≡◌, ℕ, ◌<◌, ◌≤◌, ◌^◌,
 ghost use Rattle.std.specs.Option.{option_map};
 ghost use Rattle.heylo_formula.specs.declared.goals.GoalId.{GoalId as GoalIdValue};
 ghost use Rattle.cert_text.specs.declared.goal_names.GoalName.{GoalName as GoalNameValue};
-ghost use Rattle.cert_text.specs.Certificates.{loop_of, IsNumbered, AreMultipliers};
+ghost use Rattle.heylo_formula.specs.GoalOrder.{loop_of};
+ghost use Rattle.cert_text.specs.Certificates.{IsNumbered, AreMultipliers};
 ghost use Rattle.cert_text.specs.Lines.{Line as LineValue, id_text, line_text, multiplier_text, multipliers_text};
 ghost use Rattle.cert_text.specs.internal.WholeLines.{IsLine};
 ghost use Rattle.cert_text.specs.internal.Reading.{line_of, IsMultiplier, IsRising, IsBareLine};

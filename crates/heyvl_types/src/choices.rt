@@ -14,7 +14,6 @@ ghost use Rattle.std.specs.Prelude.{◌&&◌, ◌≡◌, None, Some, false, if�
 
 use crate::demands::Demand;
 use crate::expressions::read;
-use crate::literals::zero;
 use crate::scopes::Scope;
 use crate::stops::ResolveStop;
 use crate::typed_values::{Value, read_value};
@@ -119,7 +118,7 @@ fn is_one(value: Frac) -> bool
 fn sums_wrong(all: &[(Expr, Expr)]) -> bool
     ensures { result ≡ sums_wrong zeroʳ (weights (choices all.now)) }
 {
-    let mut total = zero();
+    let mut total = Frac::zero();
     for (likely, _) in all {
         match sum(total, weight_value(weight_of(likely))) {
             Some(more) => total = more,

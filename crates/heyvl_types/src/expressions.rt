@@ -11,7 +11,7 @@ ghost use Rattle.std.specs.Option.{is_none};
 ghost use Rattle.std.specs.Prelude.{◌≡◌, ◌∷◌, [], IfOk, OnOk, not, option_map, suc, true};
 
 use crate::demands::{Demand, Front};
-use crate::literals::{divisor, zero};
+use crate::literals::divisor;
 use crate::meanings::Meaning;
 use crate::operators::{
     binary, bracket, choice, constant, embedding, infinity, literal, quantified, quotient, unary,
@@ -114,7 +114,7 @@ fn factor(divisor: Option<Frac>) -> Frac
 {
     match divisor {
         Some(factor) => factor,
-        None => zero(),
+        None => Frac::zero(),
     }
 }
 

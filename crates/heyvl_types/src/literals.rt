@@ -1,7 +1,7 @@
 //! Number literals.
 
 ghost use Rattle.heyvl_syntax.specs.Expressions.{expression};
-ghost use Rattle.heyvl_num.specs.Rational.{ratio, zeroʳ};
+ghost use Rattle.heyvl_num.specs.Rational.{ratio};
 ghost use Rattle.heyvl_types.specs.Literals.{is_written, literal_value};
 ghost use Rattle.heyvl_types.specs.internal.Views.{literal_of};
 ghost use Rattle.heyvl_types.specs.Table.{divisor, inverse};
@@ -98,11 +98,4 @@ pub(crate) fn inverse(number: Lit) -> Option<Frac>
     } else {
         None
     }
-}
-
-/// The number 0.
-pub(crate) fn zero() -> Frac
-    ensures { result ≡ zeroʳ }
-{
-    Frac::new(0, 1).unwrap()
 }

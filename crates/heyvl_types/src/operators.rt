@@ -11,7 +11,7 @@ ghost use Rattle.heyvl_types.specs.Table.{binary, bound, bracket, choice, compar
 ghost use Rattle.heyvl_types.specs.internal.Views.{kind_of};
 ghost use Rattle.std.specs.Prelude.{◌==◌, ◌≡◌, IfOk, Some, if◌then◌else◌, option_map};
 
-use crate::literals::{literal_value, zero};
+use crate::literals::literal_value;
 use crate::meanings::{Kind, Meaning};
 use crate::scopes::Local;
 use heylo_formula::{Cond, Form, Ty};
@@ -306,7 +306,7 @@ pub(crate) fn quotient(
 pub(crate) fn nothing() -> Form
     ensures { form_of result ≡ nought }
 {
-    Form::Const(Ext::Fin(zero()))
+    Form::Const(Ext::Fin(Frac::zero()))
 }
 
 /// Infinity as a form.

@@ -8,7 +8,7 @@ ghost use Rattle.heyvl_types.specs.Literals.{is_over_zero, is_probability, is_st
 ghost use Rattle.std.specs.Int.Signed.{le_z};
 ghost use Rattle.std.specs.Prelude.{◌&&◌, ◌≡◌, false, if◌then◌else◌, pos, true, unsigned_abs};
 
-use crate::literals::{inverse, literal_value, number, zero};
+use crate::literals::{inverse, literal_value, number};
 use heyvl_num::Frac;
 use heyvl_syntax::{BinaryOp, Expr, Lit};
 
@@ -234,9 +234,9 @@ pub(crate) fn weight_value(weight: Weight) -> Frac
     ensures { result ≡ weight_value weight }
 {
     match weight {
-        Weight::NotLiteral => zero(),
-        Weight::OverZero => zero(),
-        Weight::TooWide => zero(),
+        Weight::NotLiteral => Frac::zero(),
+        Weight::OverZero => Frac::zero(),
+        Weight::TooWide => Frac::zero(),
         Weight::Value(value) => value,
     }
 }

@@ -11,7 +11,7 @@ ghost use Rattle.linear_elim.specs.internal.DerivedRows.{IsDerived};
 ghost use Rattle.linear_elim.specs.ChoiceNumbers.{added, sum_without as exact_sum_without, end_of, end_fits};
 ghost use Rattle.linear_elim.specs.internal.ChoiceSteps.{IsWithin, narrow_end, IsTightest};
 
-use crate::fractions::{fits, order, whole_of, zero};
+use crate::fractions::{fits, order, whole_of};
 use crate::joins::Derived;
 use heyvl_num::Frac;
 use linear_rows::{Row, TooGreat, coefficient_of};
@@ -51,7 +51,7 @@ pub(crate) fn value_of(chosen: &[(u32, Frac)], x: u32) -> Frac
             return value;
         }
     }
-    zero()
+    Frac::zero()
 }
 
 /// The sum with c times the value added.

@@ -1,6 +1,6 @@
 //! Fractions below 2^62, and some whole numbers as fractions.
 ghost use Rattle.std.specs.Prelude.{◌≡◌, ◌<◌, ◌^◌, true, unsigned_abs};
-ghost use Rattle.heyvl_num.specs.Rational.{zeroʳ, halfʳ, middleʳ, ◌+ʳ◌, compareʳ};
+ghost use Rattle.heyvl_num.specs.Rational.{halfʳ, middleʳ, ◌+ʳ◌, compareʳ};
 ghost use Rattle.heyvl_num.specs.Rounding.{whole};
 ghost use Rattle.linear_rows.specs.Terms.{is_narrow};
 ghost use Rattle.linear_rows.specs.Numbers.{fits as number_fits};
@@ -32,12 +32,6 @@ pub(crate) fn whole_number(n: i128) -> Frac
     ensures { result ≡ whole n }
 {
     Frac::new(n, 1).unwrap()
-}
-
-pub(crate) fn zero() -> Frac
-    ensures { result ≡ zeroʳ }
-{
-    Frac::new(0, 1).unwrap()
 }
 
 /// The fraction n/1.

@@ -10,7 +10,7 @@ ghost use Rattle.linear_elim.specs.declared.ends.Side.{Side as SideValue};
 ghost use Rattle.linear_elim.specs.internal.Picks.{IsNextWhole, IsPicked, sided, across, between, narrow_pick, broken_pick, past_place};
 
 use crate::ends::{End, Side};
-use crate::fractions::{fits, middle, order, sum, whole_number, whole_of, zero};
+use crate::fractions::{fits, middle, order, sum, whole_number, whole_of};
 use heylo_formula::Ty;
 use heyvl_num::Frac;
 use std::cmp::Ordering;
@@ -162,7 +162,7 @@ fn taken_near(side: Side, end: &Option<End>, far: &Option<End>, ty: Ty) -> Optio
     match end {
         None => None,
         Some(near) => {
-            if keeps(side, *near, &zero()) {
+            if keeps(side, *near, &Frac::zero()) {
                 None
             } else {
                 Some(near_pick(side, *near, *far, ty))
@@ -181,7 +181,7 @@ pub(crate) fn taken_between(low: &Option<End>, high: &Option<End>, ty: Ty) -> Pi
         Some(taken) => taken,
         None => match taken_near(Side::High, high, low, ty) {
             Some(taken) => taken,
-            None => Pick::Value(zero()),
+            None => Pick::Value(Frac::zero()),
         },
     }
 }

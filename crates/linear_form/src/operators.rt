@@ -21,9 +21,7 @@ use heyvl_num::{Ext, Frac};
 use linear_values::Lin;
 use linear_values::lin::{constant, copy, copy_value, is_constant, is_sized, minus, plus, scaled};
 use linear_values::multiples::{small_multiple, small_product};
-use linear_values::numbers::{
-    fits, fitting, is_negative, is_zero, one, signed, sum as number_sum, zero,
-};
+use linear_values::numbers::{fits, fitting, is_negative, is_zero, signed, sum as number_sum};
 use std::alloc::Global;
 
 /// Whether a linear value is at most 0 or, where strict, below 0: known without variables, else asked.
@@ -112,13 +110,13 @@ fn sized(value: Lin, at: usize) -> Result<Found, Stop>
 fn nothing(alloc: Global) -> Option<Lin>
     ensures { linear_of result ≡ tree.zero }
 {
-    Some(constant(alloc, zero()))
+    Some(constant(alloc, Frac::zero()))
 }
 
 fn unit(alloc: Global) -> Option<Lin>
     ensures { linear_of result ≡ tree.one }
 {
-    Some(constant(alloc, one()))
+    Some(constant(alloc, Frac::one()))
 }
 
 /// The value again.

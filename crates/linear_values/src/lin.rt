@@ -1,7 +1,6 @@
 //! Linear values.
 
 ghost use Rattle.std.specs.Prelude.{◌≡◌, IfOk, true};
-ghost use Rattle.heyvl_num.specs.Rational.{zeroʳ};
 ghost use Rattle.linear_values.specs.Lin.{all_fit, is_sized as lin_is_sized, constant as constant_lin, variable as variable_lin, plus as lin_plus, minus as lin_minus, scaled as lin_scaled, times as times_terms};
 ghost use Rattle.linear_rows.specs.Numbers.{fits as number_fits};
 ghost use Rattle.linear_values.specs.Operator.{has_no_terms};
@@ -9,7 +8,7 @@ ghost use Rattle.linear_values.specs.Kept.{IsKept};
 ghost use Rattle.linear_values.specs.PlainValues.{lin_of, linear_of};
 
 use crate::linear_terms::merged;
-use crate::numbers::{fits, is_zero, one, product, signed, sum, zero};
+use crate::numbers::{fits, is_zero, product, signed, sum};
 use heyvl_num::Frac;
 use std::alloc::{AllocError, Global};
 
@@ -33,10 +32,10 @@ pub fn variable(alloc: Global, x: u32) -> Result<Lin, AllocError>
     ensures { IfOk result (λ a. lin_of a ≡ variable_lin x) }
 {
     let mut terms = Vec::with_capacity(alloc, 1)?;
-    terms.push((x, one()))?;
+    terms.push((x, Frac::one()))?;
     Ok(Lin {
         terms,
-        rest: zero(),
+        rest: Frac::zero(),
     })
 }
 
@@ -88,7 +87,7 @@ pub fn scaled(alloc: Global, w: &Frac, a: &Lin) -> Result<Lin, AllocError>
     ensures { IfOk result (λ c. lin_of c ≡ lin_scaled w.now (lin_of a.now)) }
 {
     if is_zero(w) {
-        Ok(constant(alloc, zero()))
+        Ok(constant(alloc, Frac::zero()))
     } else {
         let terms = times(alloc, w, &a.terms)?;
         Ok(Lin {

@@ -9,7 +9,7 @@ ghost use Rattle.linear_values.specs.Operator.{small_product as product_of};
 ghost use Rattle.linear_values.specs.PlainValues.{lin_of};
 
 use crate::lin::{Lin, constant};
-use crate::numbers::{fits, fitting, is_one, is_zero, product, zero};
+use crate::numbers::{fits, fitting, is_one, is_zero, product};
 use heyvl_num::Frac;
 use std::alloc::{AllocError, Global};
 
@@ -38,7 +38,7 @@ fn crosswise_product(w: &Frac, c: &Frac) -> Option<Frac>
     ensures { result ≡ product_of w.now c.now }
 {
     if is_zero(c) {
-        return Some(zero());
+        return Some(Frac::zero());
     }
     let left = Frac::new(w.num(), c.den())?;
     let right = Frac::new(c.num(), w.den())?;
@@ -85,7 +85,7 @@ pub fn small_multiple(alloc: Global, w: &Frac, a: &Lin) -> Result<Option<Lin>, A
     ensures { IfOk result (λ o. MatchOption o (lin_is_sized (lin_scaled w.now (lin_of a.now)) ≡ false) (λ b. (lin_of b ≡ lin_scaled w.now (lin_of a.now)) × (lin_is_sized (lin_scaled w.now (lin_of a.now)) ≡ true))) }
 {
     if is_zero(w) {
-        return Ok(Some(constant(alloc, zero())));
+        return Ok(Some(constant(alloc, Frac::zero())));
     }
     match small_product(w, &a.rest) {
         None => Ok(None),

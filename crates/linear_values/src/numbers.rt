@@ -13,18 +13,6 @@ use heyvl_num::Frac;
 /// 2^62, which the numbers of linear values and rows stay below.
 const BOUND: u128 = 4_611_686_018_427_387_904;
 
-pub fn zero() -> Frac
-    ensures { result ≡ zeroʳ }
-{
-    Frac::new(0, 1).unwrap()
-}
-
-pub fn one() -> Frac
-    ensures { result ≡ oneʳ }
-{
-    Frac::new(1, 1).unwrap()
-}
-
 /// The whole number as a fraction.
 pub fn whole(n: i64) -> Frac
     ensures { result ≡ whole_fraction n }

@@ -15,7 +15,7 @@ ghost use Rattle.quant_algebra.specs.internal.Nodes.{exact_binary, exact_unary, 
 
 use crate::answers::{At, Held};
 use crate::nodes::{Binary, Comparison, Unary, is_so, of_value, of_values};
-use crate::operators::{at_most, one, zero};
+use crate::operators::at_most;
 use heylo_formula::{Cond, Form, Goal, Val};
 use heyvl_num::Ext;
 
@@ -81,8 +81,8 @@ fn number(x: u32, state: &[Val]) -> Ext
 {
     match state.get(x as usize) {
         Some(Val::Num(q)) => Ext::Fin(*q),
-        Some(Val::Truth(_)) => zero(),
-        None => zero(),
+        Some(Val::Truth(_)) => Ext::zero(),
+        None => Ext::zero(),
     }
 }
 
@@ -119,12 +119,12 @@ fn value(form: &Form, state: &[Val]) -> Option<Ext>
         Form::Embed(g) => if truth(g, state)? {
             Some(Ext::Inf)
         } else {
-            Some(zero())
+            Some(Ext::zero())
         },
         Form::Iverson(g) => if truth(g, state)? {
-            Some(one())
+            Some(Ext::one())
         } else {
-            Some(zero())
+            Some(Ext::zero())
         },
         Form::Select(g, a, b) => if truth(g, state)? {
             value(a, state)

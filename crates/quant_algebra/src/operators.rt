@@ -1,29 +1,12 @@
 //! The operators of formulas on exact numbers. None comes where a number doesn't fit.
 
 ghost use Rattle.std.specs.Prelude.{◌≡◌, option_map};
-ghost use Rattle.heyvl_num.specs.Rational.{zeroʳ};
-ghost use Rattle.heyvl_num.specs.Value.{zeroᵛ};
-ghost use Rattle.heyvl_num.specs.Value.Value.{finite};
 ghost use Rattle.heyvl_num.specs.Extended.{value_of};
-ghost use Rattle.heyvl_num.specs.Value.{oneᵛ};
 ghost use Rattle.heylo_formula.specs.Operators.{validateᵛ, covalidateᵛ};
 ghost use Rattle.quant_algebra.specs.ExactOperators.{exact_differenceᵛ, exact_cutᵛ, exact_scaleᵛ, exact_minᵛ, exact_maxᵛ, exact_impliesᵛ, exact_coimpliesᵛ, exact_leqᵛ, exact_lessᵛ, exact_equalᵛ};
 
 use heyvl_num::{Ext, Frac};
 use std::cmp::Ordering;
-
-pub(crate) fn zero() -> Ext
-    ensures value { value_of result ≡ zeroᵛ }
-    ensures number { value_of result ≡ finite zeroʳ }
-{
-    Ext::Fin(Frac::new(0, 1).unwrap())
-}
-
-pub(crate) fn one() -> Ext
-    ensures { value_of result ≡ oneᵛ }
-{
-    Ext::Fin(Frac::new(1, 1).unwrap())
-}
 
 /// The plain difference. One with infinity has no meaning; it is 0 where the second is infinity, else infinity.
 pub(crate) fn difference(x: &Ext, y: &Ext) -> Option<Ext>
@@ -31,7 +14,7 @@ pub(crate) fn difference(x: &Ext, y: &Ext) -> Option<Ext>
 {
     match (x, y) {
         (Ext::Fin(a), Ext::Fin(b)) => Some(Ext::Fin(a.sub(b)?)),
-        (Ext::Fin(_), Ext::Inf) => Some(zero()),
+        (Ext::Fin(_), Ext::Inf) => Some(Ext::zero()),
         (Ext::Inf, _) => Some(Ext::Inf),
     }
 }
@@ -41,8 +24,8 @@ pub(crate) fn cut(x: &Ext, y: &Ext) -> Option<Ext>
     ensures { option_map value_of result ≡ exact_cutᵛ (value_of x.now) (value_of y.now) }
 {
     match x.compare(y)? {
-        Ordering::Less => Some(zero()),
-        Ordering::Equal => Some(zero()),
+        Ordering::Less => Some(Ext::zero()),
+        Ordering::Equal => Some(Ext::zero()),
         Ordering::Greater => difference(x, y),
     }
 }
@@ -90,8 +73,8 @@ pub(crate) fn coimplies(x: &Ext, y: &Ext) -> Option<Ext>
 {
     match x.compare(y)? {
         Ordering::Less => Some(*y),
-        Ordering::Equal => Some(zero()),
-        Ordering::Greater => Some(zero()),
+        Ordering::Equal => Some(Ext::zero()),
+        Ordering::Greater => Some(Ext::zero()),
     }
 }
 
@@ -99,7 +82,7 @@ pub(crate) fn validate(x: &Ext) -> Ext
     ensures { value_of result ≡ validateᵛ (value_of x.now) }
 {
     match x {
-        Ext::Fin(_) => zero(),
+        Ext::Fin(_) => Ext::zero(),
         Ext::Inf => Ext::Inf,
     }
 }
@@ -108,7 +91,7 @@ pub(crate) fn covalidate(x: &Ext) -> Ext
     ensures { value_of result ≡ covalidateᵛ (value_of x.now) }
 {
     match x {
-        Ext::Fin(a) => if a.num() == 0 { zero() } else { Ext::Inf },
+        Ext::Fin(a) => if a.num() == 0 { Ext::zero() } else { Ext::Inf },
         Ext::Inf => Ext::Inf,
     }
 }

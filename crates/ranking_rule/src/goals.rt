@@ -6,8 +6,6 @@ ghost use Rattle.heylo_formula.specs.PlainTrees.{cond_of, form_of};
 ghost use Rattle.heyvl_acts.specs.Acts.{Acts as plain_acts, Head, TypedProcedure, procedure_at, variables};
 ghost use Rattle.heyvl_acts.specs.PlainActs.{procedures_of, variable_of};
 ghost use Rattle.heyvl_acts.specs.Rules.{MeetsAllRules};
-ghost use Rattle.heyvl_num.specs.Extended.{value_of};
-ghost use Rattle.heyvl_num.specs.Value.{zeroᵛ};
 ghost use Rattle.ranking_rule.specs.RankingGoals.{IsMadeOf, generated, tested};
 ghost use Rattle.ranking_rule.specs.Rankings.{RankedLoop};
 ghost use Rattle.ranking_rule.specs.internal.Tested.{IsTested};
@@ -123,12 +121,6 @@ fn tested(alloc: Global, guard: &Cond, step: Frac, form: Form) -> Result<Form, A
     let step = Box::new(alloc, Form::Const(Ext::Fin(step)))?;
     let taken = Box::new(alloc, Form::Sum(step, Box::new(alloc, form)?))?;
     let guard = Box::new(alloc, guard.copy(alloc)?)?;
-    let nothing = Box::new(alloc, Form::Const(zero()))?;
+    let nothing = Box::new(alloc, Form::Const(Ext::zero()))?;
     Ok(Form::Select(guard, taken, nothing))
-}
-
-fn zero() -> Ext
-    ensures { value_of result ≡ zeroᵛ }
-{
-    Ext::Fin(Frac::new(0, 1).unwrap())
 }

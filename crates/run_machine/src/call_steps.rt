@@ -18,7 +18,6 @@ use crate::evaluation::{assign, terms_at};
 use crate::limits::for_sure;
 use crate::plain_steps::pass_step;
 use crate::starting::push_body;
-use crate::taking::default;
 use heylo_formula::{Term, Val};
 use heyvl_acts::{TProc, Typed};
 use std::alloc::{AllocError, Global};
@@ -98,7 +97,7 @@ fn first_state(callee: &TProc, values: Vec<Val>) -> Result<Vec<Val>, AllocError>
 {
     let mut state = values;
     for variable in &callee.vars[callee.inputs as usize..] {
-        state.push(default(variable.ty))?;
+        state.push(variable.ty.default())?;
     }
     Ok(state)
 }

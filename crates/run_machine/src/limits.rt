@@ -1,7 +1,6 @@
 //! The bound on the values of a configuration.
 
 ghost use Rattle.std.specs.Prelude.{◌≡◌, IfOk, nat_lt, true};
-ghost use Rattle.heyvl_num.specs.Rational.{oneʳ};
 ghost use Rattle.run_machine.specs.Names.{stored};
 ghost use Rattle.run_machine.specs.internal.Replies.{reply_of, replied, stored_outcomes, stored_values, surely};
 
@@ -46,12 +45,6 @@ pub(crate) fn for_sure(alloc: Global, next: Config) -> Result<Stepped, AllocErro
     ensures { IfOk result (λ stepped. reply_of stepped ≡ replied true (surely (stored next))) }
 {
     let mut outcomes = Vec::new(alloc);
-    outcomes.push((one(), next))?;
+    outcomes.push((Frac::one(), next))?;
     Ok(limited(outcomes))
-}
-
-fn one() -> Frac
-    ensures { result ≡ oneʳ }
-{
-    Frac::new(1, 1).unwrap()
 }

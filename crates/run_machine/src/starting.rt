@@ -1,7 +1,6 @@
 //! The first configuration of a run.
 
 ghost use Rattle.std.specs.Prelude.{◌≡◌, ◌++◌, IfOk, OnOk, replicate};
-ghost use Rattle.heyvl_num.specs.Rational.{zeroʳ};
 ghost use Rattle.heyvl_acts.specs.Acts.{acts_in, procedure_at};
 ghost use Rattle.heyvl_acts.specs.PlainActs.{procedures_of};
 ghost use Rattle.run_machine.specs.Bound.{IsState};
@@ -32,7 +31,7 @@ pub fn begin(alloc: Global, typed: &Typed, p: u32, state: &[Val]) -> Result<Conf
         items,
         state: Vec::from_slice(alloc, state)?,
         frames: Vec::new(alloc),
-        reward: Ext::Fin(zero()),
+        reward: Ext::Fin(Frac::zero()),
         turns: no_turns(alloc, loops_of(typed, p))?,
         made: 0,
     })
@@ -71,10 +70,4 @@ fn no_turns(alloc: Global, loops: u32) -> Result<Vec<u64>, AllocError>
         turns.push(0)?;
     }
     Ok(turns)
-}
-
-fn zero() -> Frac
-    ensures { result ≡ zeroʳ }
-{
-    Frac::new(0, 1).unwrap()
 }

@@ -1,8 +1,7 @@
 //! The step of a variable that takes any value.
 
 ghost use Rattle.std.specs.Prelude.{◌≡◌, ◌<◌, ◌^◌, IfOk, true};
-ghost use Rattle.heyvl_num.specs.Rational.{zeroʳ, leqʳ};
-ghost use Rattle.heylo_formula.specs.State.{has as has_type, default as default_of, fit};
+ghost use Rattle.heylo_formula.specs.State.{fit};
 ghost use Rattle.run_machine.specs.Names.{stored, decision_of};
 ghost use Rattle.run_machine.specs.Step.{value_of};
 ghost use Rattle.run_machine.specs.internal.Replies.{reply_of, replied, surely};
@@ -12,7 +11,6 @@ use crate::configurations::{Config, Decide, Stepped};
 use crate::limits::for_sure;
 use crate::plain_steps::with_value;
 use heylo_formula::{Ty, Val};
-use heyvl_num::Frac;
 use std::alloc::{AllocError, Global};
 
 /// The step of a variable that takes any value of its type.
@@ -36,53 +34,9 @@ fn fitting(ty: Ty, decision: Option<&Decide>) -> Val
     ensures { result ≡ fit ty (value_of (decision_of decision.entry)) }
 {
     match decision {
-        None => default(ty),
-        Some(Decide::Left) => default(ty),
-        Some(Decide::Right) => default(ty),
-        Some(Decide::Give(value)) => if has(ty, value) { *value } else { default(ty) },
+        None => ty.default(),
+        Some(Decide::Left) => ty.default(),
+        Some(Decide::Right) => ty.default(),
+        Some(Decide::Give(value)) => if ty.has(value) { *value } else { ty.default() },
     }
-}
-
-/// False, or 0.
-pub(crate) fn default(ty: Ty) -> Val
-    ensures { result ≡ default_of ty }
-{
-    match ty {
-        Ty::Bool => Val::Truth(false),
-        Ty::Int => Val::Num(zero()),
-        Ty::UInt => Val::Num(zero()),
-        Ty::UReal => Val::Num(zero()),
-    }
-}
-
-fn zero() -> Frac
-    ensures { result ≡ zeroʳ }
-{
-    Frac::new(0, 1).unwrap()
-}
-
-/// Whether the value is of the type.
-fn has(ty: Ty, value: &Val) -> bool
-    ensures { result ≡ has_type ty value.now }
-{
-    match value {
-        Val::Truth(_) => match ty {
-            Ty::Bool => true,
-            Ty::Int => false,
-            Ty::UInt => false,
-            Ty::UReal => false,
-        },
-        Val::Num(number) => match ty {
-            Ty::Bool => false,
-            Ty::Int => number.den() == 1,
-            Ty::UInt => number.den() == 1 && is_nonnegative(number),
-            Ty::UReal => is_nonnegative(number),
-        },
-    }
-}
-
-fn is_nonnegative(number: &Frac) -> bool
-    ensures { result ≡ leqʳ zeroʳ number.now }
-{
-    number.num() >= 0
 }

@@ -8,7 +8,7 @@ ghost use Rattle.run_machine.specs.Names.{turns_of};
 ghost use Rattle.run_unroller.specs.internal.RunViews.{runs_of};
 ghost use Rattle.run_unroller.specs.Totals.{all_turns as all_turns_of, turns_total};
 
-use crate::numbers::{whole, zero};
+use crate::numbers::whole;
 use heyvl_num::Frac;
 use run_machine::Config;
 use std::alloc::{AllocError, Global};
@@ -35,7 +35,7 @@ pub(crate) fn all_turns(
 fn turns_sum(index: u32, runs: &[(Frac, Config)]) -> Option<Frac>
     ensures { (ps : List TypedProcedure) → result ≡ turns_total (suc index) (runs_of ps runs.now) }
 {
-    let mut sum = zero();
+    let mut sum = Frac::zero();
     for run in runs {
         let product = run.0.mul(&turns_at(&run.1, index))?;
         sum = sum.add(&product)?;

@@ -17,7 +17,6 @@ use crate::answers::Unrolled;
 use crate::causes::{Cause, Grown, Reached};
 use crate::copies::copy_config;
 use crate::lists::after_step;
-use crate::numbers::one;
 use crate::totals::sums;
 use heyvl_acts::Typed;
 use heyvl_num::Frac;
@@ -95,7 +94,7 @@ fn only(alloc: Global, start: &Config) -> Result<Vec<(Frac, Config)>, AllocError
     ensures runs { IfOk result (λ runs. (ps : List TypedProcedure) → runs_of ps runs.items ≡ (oneʳ, (config_of ps (stored start.now), start.now.made)) ∷ []) }
 {
     let mut runs = Vec::new(alloc);
-    runs.push((one(), copy_config(alloc, start)?))?;
+    runs.push((Frac::one(), copy_config(alloc, start)?))?;
     Ok(runs)
 }
 

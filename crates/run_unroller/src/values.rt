@@ -8,7 +8,6 @@ ghost use Rattle.quant_algebra.specs.ExactMeaning.{exact_value};
 ghost use Rattle.run_unroller.specs.internal.RunViews.{run_of, runs_of};
 ghost use Rattle.run_unroller.specs.Totals.{added, and_one, ended, post_of, post_total, reward_total};
 
-use crate::numbers::zero;
 use heylo_formula::Val;
 use heyvl_acts::Typed;
 use heyvl_num::{Ext, Frac};
@@ -19,7 +18,7 @@ use run_machine::Config;
 pub(crate) fn post_sum(typed: &Typed, p: u32, runs: &[(Frac, Config)]) -> Option<Ext>
     ensures { option_map value_of result ≡ post_total (procedure_at (procedures_of typed.now) p).post (runs_of (procedures_of typed.now) runs.now) }
 {
-    let mut sum = Ext::Fin(zero());
+    let mut sum = Ext::Fin(Frac::zero());
     for run in runs {
         sum = and_post(typed, p, &sum, run)?;
     }
@@ -42,7 +41,7 @@ fn post_at(typed: &Typed, p: u32, state: &[Val]) -> Option<Ext>
     ensures { option_map value_of result ≡ exact_value (procedure_at (procedures_of typed.now) p).post state.now }
 {
     match typed.procs.get(p as usize) {
-        None => Some(Ext::Fin(zero())),
+        None => Some(Ext::Fin(Frac::zero())),
         Some(procedure) => match value_at(&procedure.post, state) {
             At::Value(value) => Some(value),
             At::Bits => None,
@@ -54,7 +53,7 @@ fn post_at(typed: &Typed, p: u32, state: &[Val]) -> Option<Ext>
 pub(crate) fn reward_sum(runs: &[(Frac, Config)]) -> Option<Ext>
     ensures { (ps : List TypedProcedure) → option_map value_of result ≡ reward_total (runs_of ps runs.now) }
 {
-    let mut sum = Ext::Fin(zero());
+    let mut sum = Ext::Fin(Frac::zero());
     for run in runs {
         sum = and_value(&sum, &run.0, &run.1.reward)?;
     }

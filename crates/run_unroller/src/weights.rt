@@ -5,7 +5,6 @@ ghost use Rattle.heyvl_acts.specs.Acts.{TypedProcedure};
 ghost use Rattle.run_unroller.specs.internal.RunViews.{run_of, runs_of};
 ghost use Rattle.run_unroller.specs.Totals.{added_weights, running, running_total};
 
-use crate::numbers::zero;
 use heyvl_num::Frac;
 use run_machine::Config;
 
@@ -13,7 +12,7 @@ use run_machine::Config;
 pub(crate) fn running_weight(runs: &[(Frac, Config)]) -> Option<Frac>
     ensures { (ps : List TypedProcedure) → result ≡ running_total (runs_of ps runs.now) }
 {
-    let mut sum = zero();
+    let mut sum = Frac::zero();
     for run in runs {
         sum = and_weight(&sum, run)?;
     }

@@ -4,7 +4,8 @@ use Prim.Native.Nat.{zero, suc}
 use Rattle.std.specs.List.Sorted.{IsPartitionedBy}
 use Rattle.std.proofs.lemmas.Bool.{cases_lt, cases_order, false≢true}
 use Rattle.std.proofs.lemmas.Bool.Decides.{nat_tests}
-use Rattle.cert_text.specs.Certificates.{IsGrowingAfter, certificates_of, kind_rank, loop_of, precedes}
+use Rattle.heylo_formula.specs.GoalOrder.{kind_rank, loop_of}
+use Rattle.cert_text.specs.Certificates.{IsGrowingAfter, certificates_of, precedes}
 use Rattle.cert_text.specs.declared.goal_names.GoalName.{GoalName}
 use Rattle.goal_answers.specs.Trees.{Tree, tree_of}
 use Rattle.goal_answers.specs.declared.trees.GoalCert.{GoalCert}

@@ -4,7 +4,8 @@ use Rattle.std.proofs.Common.{◌≡◌, ◌<◌, ℕ, refl, ap, ◌∙◌, arit
 use Rattle.std.specs.Prelude.{Some, None, Vec}
 use Rattle.std.specs.declared.alloc.Global.{Global}
 use Prim.Native.Nat.{zero, suc}
-use Rattle.cert_text.specs.Certificates.{IsGrowingAfter, certificates_of, loop_of}
+use Rattle.heylo_formula.specs.GoalOrder.{loop_of}
+use Rattle.cert_text.specs.Certificates.{IsGrowingAfter, certificates_of}
 use Rattle.goal_answers.specs.Trees.{Tree, tree_of}
 use Rattle.goal_answers.specs.declared.trees.GoalCert.{GoalCert}
 use Rattle.goal_answers.specs.declared.trees.Tree as T

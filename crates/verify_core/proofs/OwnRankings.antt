@@ -1,6 +1,6 @@
 -- The answers on the rankings of a procedure, one after the other.
 use Rattle.std.proofs.Common.{ℕ, ap, ◌∙◌, List, [], ◌∷◌}
-use Rattle.cert_text.specs.Certificates.{loop_of}
+use Rattle.heylo_formula.specs.GoalOrder.{loop_of}
 use Rattle.goal_answers.specs.declared.trees.GoalCert.{GoalCert}
 use Rattle.heyvl_acts.specs.Acts.{TypedProcedure, procedure_at}
 use Rattle.verdict_report.specs.declared.answers.LoopAnswer.{LoopAnswer}

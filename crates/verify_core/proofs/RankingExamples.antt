@@ -3,7 +3,7 @@ use Rattle.std.proofs.Common.{◌≡◌, ℕ, refl, ap, ◌∙◌, subst, arith,
 use Rattle.std.specs.Prelude.{Option, Some, None}
 use Rattle.heyvl_num.specs.Rational.{Rational, oneʳ}
 use Rattle.heyvl_num.specs.Value.{oneᵛ, zeroᵛ}
-use Rattle.cert_text.specs.Certificates.{loop_of}
+use Rattle.heylo_formula.specs.GoalOrder.{loop_of}
 use Rattle.heylo_formula.specs.Formula.{Cond, Form}
 use Rattle.heylo_formula.specs.declared.goals.GoalId.{GoalId}
 use Rattle.heylo_formula.specs.declared.goals.GoalId.TheVariants.{Main, Ranking}

@@ -5,7 +5,7 @@ use Rattle.std.proofs.lemmas.List.{drop_all}
 use Rattle.std.specs.List.{AllZip}
 use Rattle.std.specs.Prelude.{IfOk, OnOk, Result, Ok, Err}
 use Prim.Native.Nat.{zero, suc}
-use Rattle.cert_text.specs.Certificates.{loop_of}
+use Rattle.heylo_formula.specs.GoalOrder.{loop_of}
 use Rattle.goal_answers.specs.declared.trees.GoalCert.{GoalCert}
 use Rattle.heyvl_acts.specs.Acts.{TypedProcedure, procedure_at}
 use Rattle.heyvl_acts.specs.Rules.{Each}

@@ -15,7 +15,7 @@ ghost use Rattle.verify_core.specs.internal.OwnRankings.{AreLoopAnswers, AreOwnR
 
 use crate::making::bounds;
 use crate::rankings::rankings;
-use crate::searching::{loop_of, tree_for};
+use crate::searching::tree_for;
 use crate::verdicts::verdict_for;
 use farkas_check::check;
 use goal_answers::{Checked, GoalCert, Miss, NamedGoal, Tree};
@@ -156,7 +156,7 @@ fn loop_answer(
 {
     let miss = miss_of(alloc, certs, goal)?;
     Ok(LoopAnswer {
-        number: loop_of(goal.id),
+        number: goal.id.loop_number(),
         rank: rank_for(miss),
     })
 }

@@ -4,8 +4,6 @@ ghost use Rattle.heylo_formula.specs.BinderNames.{binders};
 ghost use Rattle.heylo_formula.specs.PlainTrees.{form_of};
 ghost use Rattle.heylo_formula.specs.declared.goals.GoalId.{GoalId};
 ghost use Rattle.heylo_formula.specs.declared.goals.GoalId.TheVariants.{Main};
-ghost use Rattle.heyvl_num.specs.Extended.{value_of};
-ghost use Rattle.heyvl_num.specs.Value.{oneᵛ};
 ghost use Rattle.heyvl_acts.specs.Acts.{procedure_at};
 ghost use Rattle.heyvl_acts.specs.PlainActs.{procedure_of, procedures_of, variable_of};
 ghost use Rattle.heyvl_acts.specs.Rules.{Each, MeetsAllRules};
@@ -22,7 +20,7 @@ use crate::rankings::rankings;
 use goal_answers::NamedGoal;
 use heylo_formula::{Form, GoalId, Made, what_substitution_gives};
 use heyvl_acts::{TProc, Typed, VarInfo};
-use heyvl_num::{Ext, Frac};
+use heyvl_num::Ext;
 use loop_encodings::{encode, encodings_are_over_their_variables};
 use std::alloc::{AllocError, Global};
 use vp_generator::{VpStop, generated_form_means_acts, goal_of_forms, vp};
@@ -118,7 +116,7 @@ fn bound_goal(alloc: Global, procedure: &TProc, form: Form) -> Result<Made, Allo
     ensures { IfOk result (λ made. IsMadeOf (one_bound (procedure_of procedure.now) (form_of form)) made) }
 {
     let vars = copied(alloc, &procedure.vars)?;
-    goal_of_forms(alloc, true, Form::Const(one()), form, vars)
+    goal_of_forms(alloc, true, Form::Const(Ext::one()), form, vars)
 }
 
 /// Variables of the same names and types.
@@ -139,10 +137,4 @@ fn copy_of(alloc: Global, variable: &VarInfo) -> Result<VarInfo, AllocError>
         name: variable.name.copy(alloc)?,
         ty: variable.ty,
     })
-}
-
-fn one() -> Ext
-    ensures { value_of result ≡ oneᵛ }
-{
-    Ext::Fin(Frac::new(1, 1).unwrap())
 }

@@ -8,7 +8,6 @@ ghost use Rattle.verify_core.specs.internal.Settled.{plain};
 
 use crate::deciding::Decided;
 use crate::outcomes::{Outcome, outcome_of};
-use crate::searching::loop_of;
 use goal_answers::{GoalCert, NamedGoal};
 use std::alloc::{AllocError, Global};
 use verdict_report::{LoopAnswer, RankVerdict};
@@ -51,7 +50,7 @@ fn loop_answer(
     ensures told { OnOk result (told.new.items ≡ told.old.items ++ listed (told_by (outcome_of (plain one)))) }
     ensures certs { OnOk result (certs.new.items ≡ certs.old.items ++ certificate (plain one)) }
 {
-    let number = loop_of(one.goal.id);
+    let number = one.goal.id.loop_number();
     let outcome = outcome_of(one, certs)?;
     let rank = rank_by(outcome, told)?;
     Ok(LoopAnswer { number, rank })

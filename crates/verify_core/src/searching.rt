@@ -1,6 +1,6 @@
 //! The certificate of a goal among certificates in the order of a text.
 
-ghost use Rattle.cert_text.specs.Certificates.{IsGrowingAfter, certificates_of, kind_rank, loop_of, precedes, stands_before};
+ghost use Rattle.cert_text.specs.Certificates.{IsGrowingAfter, certificates_of, precedes};
 ghost use Rattle.goal_answers.specs.Trees.{Tree as TreeValue, tree_of};
 ghost use Rattle.std.specs.Prelude.{IfSome, None, false, true, ◌≡◌};
 ghost use Rattle.verify_core.specs.Checked.{HasTree};
@@ -9,43 +9,11 @@ ghost use Rattle.verify_core.specs.internal.Checking.{IsPlaceOf, name_of};
 use goal_answers::{GoalCert, Tree};
 use heylo_formula::GoalId;
 
-/// The place of the goal's kind among the goals of a procedure.
-fn kind_rank(id: GoalId) -> u8
-    ensures { result ≡ kind_rank id }
-{
-    match id {
-        GoalId::Main => 0,
-        GoalId::Pre => 1,
-        GoalId::Post => 2,
-        GoalId::Invariant(_) => 3,
-        GoalId::Ranking(_) => 4,
-    }
-}
-
-/// The number of the goal's loop, or 0 where it has none.
-pub(crate) fn loop_of(id: GoalId) -> u32
-    ensures { result ≡ loop_of id }
-{
-    match id {
-        GoalId::Main | GoalId::Pre | GoalId::Post => 0,
-        GoalId::Invariant(number) => number,
-        GoalId::Ranking(number) => number,
-    }
-}
-
-/// Whether the first goal of a procedure stands before the second.
-fn stands_before(first: GoalId, second: GoalId) -> bool
-    ensures { result ≡ stands_before first second }
-{
-    kind_rank(first) < kind_rank(second)
-        || (kind_rank(first) == kind_rank(second) && loop_of(first) < loop_of(second))
-}
-
 /// Whether the certificate's goal comes before the goal of a procedure.
 fn precedes(cert: &GoalCert, proc: u32, id: GoalId) -> bool
     ensures { result ≡ precedes (name_of cert.now) (record { proc = proc; id = id }) }
 {
-    cert.proc < proc || (cert.proc == proc && stands_before(cert.id, id))
+    cert.proc < proc || (cert.proc == proc && cert.id.stands_before(id))
 }
 
 /// Whether the certificate is of the goal of a procedure.

@@ -1,6 +1,6 @@
 -- What comes of decided goals.
 use Rattle.std.specs.Prelude.{◌≡◌, List, [], ◌∷◌, ◌++◌, Option, Some, None}
-use Rattle.cert_text.specs.Certificates.{loop_of}
+use Rattle.heylo_formula.specs.GoalOrder.{loop_of}
 use Rattle.heyvl_acts.specs.Acts.{TypedProcedure}
 use Rattle.goal_answers.specs.declared.causes.Cause.{Cause}
 use Rattle.goal_answers.specs.declared.decisions.Decision.{Decision}

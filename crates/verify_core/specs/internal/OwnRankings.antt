@@ -1,7 +1,7 @@
 -- What certificates answer of the rankings of a procedure: tools of the check's proof, which no public clause cites.
 use Rattle.std.specs.List.{AllZip}
 use Rattle.std.specs.Prelude.{◌≡◌, ℕ, List, Option}
-use Rattle.cert_text.specs.Certificates.{loop_of}
+use Rattle.heylo_formula.specs.GoalOrder.{loop_of}
 use Rattle.goal_answers.specs.declared.trees.GoalCert.{GoalCert}
 use Rattle.heyvl_acts.specs.Acts.{TypedProcedure, procedure_at}
 use Rattle.verdict_report.specs.declared.answers.LoopAnswer.{LoopAnswer}
