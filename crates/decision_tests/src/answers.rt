@@ -3,7 +3,7 @@
 use crate::finding_tests::write_finding;
 use crate::forms::{form_of, goal_of, test_of};
 use crate::formula_tests::{write_condition_size, write_renaming, write_size, write_substitution};
-use crate::goal_answers::{
+use crate::goal_texts::{
     write_certificate, write_check, write_decision, write_path_rows, write_product, write_question,
 };
 use crate::linear_texts::write_elim;

@@ -23,7 +23,7 @@ mod formula_tests;
 #[cfg(test)]
 mod fractions;
 #[cfg(test)]
-mod goal_answers;
+mod goal_texts;
 #[cfg(test)]
 mod linear_texts;
 #[cfg(test)]
