@@ -8,16 +8,8 @@ ghost use Rattle.cert_text.specs.Texts.{closed, goals_lines, text_of, tree_lines
 
 use goal_answers::{GoalCert, Tree};
 use heylo_formula::GoalId;
-use itoa::{Buffer, Integer};
+use number_texts::write_number;
 use std::alloc::{AllocError, Global};
-
-/// Puts the number's decimal digits behind the text.
-fn write_number<I: Integer>(text: &mut Vec<u8>, number: I) -> Result<(), AllocError>
-    ensures { OnOk result (text.new.items ≡ text.old.items ++ I.text number) }
-{
-    let mut buffer = Buffer::new();
-    Ok(text.extend_from_slice(buffer.format(number).as_bytes())?)
-}
 
 /// Puts which goal of a procedure it is behind the text.
 fn write_id(text: &mut Vec<u8>, id: GoalId) -> Result<(), AllocError>

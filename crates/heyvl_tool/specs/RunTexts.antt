@@ -4,7 +4,7 @@ use Rattle.heyvl_num.specs.Value.Value.{finite, infinite}
 use Rattle.heyvl_num.specs.Value.{Value}
 use Rattle.run_unroller.specs.Totals.{Totals}
 use Rattle.std.specs.Prelude.{List, [], codes, decimal, ◌+◌, ◌++◌, ◌∷◌, ℕ}
-use Rattle.verdict_report.specs.Settings.{fraction_text}
+use Rattle.number_texts.specs.ValueTexts.{fraction_text}
 
 -- ---- Sums
 

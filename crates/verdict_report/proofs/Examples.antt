@@ -10,7 +10,8 @@ use Rattle.goal_answers.specs.declared.causes.Cause.TheVariants as causes
 use Rattle.proc_contracts.specs.declared.reasons.WhyNot.TheVariants as why
 use Rattle.verdict_report.specs.Causes.{cause_text, earlier_text, interval_text}
 use Rattle.verdict_report.specs.Reports.{report_text}
-use Rattle.verdict_report.specs.Settings.{Names, named_by, value_text}
+use Rattle.number_texts.specs.ValueTexts.{value_text}
+use Rattle.verdict_report.specs.Settings.{Names, named_by}
 use Rattle.verdict_report.specs.States.{state_text}
 use Rattle.verdict_report.specs.Verdicts.{about_text, node_text, rank_text, reason_text, verdict_text}
 use Rattle.verdict_report.specs.declared.answers.RankVerdict.TheVariants as rank

@@ -1,16 +1,12 @@
 -- Why nothing is known of a goal, as a report shows it. The texts are this project's own.
 use Rattle.heyvl_num.specs.Rational.{Rational}
-use Rattle.heyvl_places.specs.Places.{column_of, line_of}
 use Rattle.heylo_formula.specs.declared.values.Val.{Val}
 use Rattle.goal_answers.specs.declared.causes.Broken.{Broken}
 use Rattle.goal_answers.specs.declared.causes.Cause.{Cause}
 use Rattle.goal_answers.specs.declared.causes.Cause.TheVariants.{Depth, Nodes, Nonlinear, Cells, Rows, Bits, Fraction}
 use Rattle.std.specs.Prelude.{Bool, List, [], codes, decimal, false, true, ◌++◌, ◌∷◌, ℕ}
-use Rattle.verdict_report.specs.Settings.{Names, fraction_text, settings_text, variable_text}
-
--- `LINE:COLUMN` of the byte with this number.
-abbrev pub place_text : List ℕ → ℕ → List ℕ
-place_text bytes at = decimal (line_of bytes at) ++ codes ":" ++ decimal (column_of bytes at)
+use Rattle.number_texts.specs.ValueTexts.{fraction_text, place_text}
+use Rattle.verdict_report.specs.Settings.{Names, settings_text, variable_text}
 
 -- Whether an end belongs to the interval.
 abbrev pub low_mark : Bool → List ℕ

@@ -1,19 +1,8 @@
 -- Values of variables as a report shows them. The texts are this project's own.
-use Rattle.heyvl_num.specs.Rational.{Rational}
 use Rattle.heylo_formula.specs.declared.values.Val.{Val}
-use Rattle.heylo_formula.specs.declared.values.Val.TheVariants.{Truth, Num}
-use Rattle.std.specs.Fmt.{signed_decimal}
-use Rattle.std.specs.Prelude.{List, [], codes, decimal, false, get_or, if◌then◌else◌, nat_lt, true, ◌++◌, ◌-◌, ◌==◌, ◌∷◌, ℕ}
+use Rattle.number_texts.specs.ValueTexts.{value_text}
+use Rattle.std.specs.Prelude.{List, [], codes, decimal, get_or, if◌then◌else◌, nat_lt, ◌++◌, ◌-◌, ◌∷◌, ℕ}
 use Prim.Native.Nat.{suc}
-
--- `p` or `p/q`
-abbrev pub fraction_text : Rational → List ℕ
-fraction_text q = signed_decimal q.num ++ (if q.den == 1 then [] else codes "/" ++ decimal q.den)
-
-abbrev pub value_text : Val → List ℕ
-value_text (Truth true) = codes "true"
-value_text (Truth false) = codes "false"
-value_text (Num q) = fraction_text q
 
 -- The names of a goal's variables, by number, and how many of the first weren't binders.
 pub record Names : Type 0 where

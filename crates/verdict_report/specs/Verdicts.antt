@@ -6,7 +6,8 @@ use Rattle.heyvl_acts.specs.Acts.{TypedProcedure, procedure_at}
 use Rattle.proc_contracts.specs.declared.reasons.WhyNot.{WhyNot}
 use Rattle.proc_contracts.specs.declared.reasons.WhyNot.TheVariants as why
 use Rattle.std.specs.Prelude.{Bool, List, [], codes, decimal, false, true, ◌++◌, ◌∷◌, ℕ}
-use Rattle.verdict_report.specs.Causes.{cause_text, place_text}
+use Rattle.number_texts.specs.ValueTexts.{place_text}
+use Rattle.verdict_report.specs.Causes.{cause_text}
 use Rattle.verdict_report.specs.GoalNames.{names_of}
 use Rattle.verdict_report.specs.LoopScopes.{always_shown}
 use Rattle.verdict_report.specs.States.{state_text}

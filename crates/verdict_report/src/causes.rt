@@ -5,11 +5,11 @@ ghost use Rattle.verdict_report.specs.Causes.{broken_text, cause_text, earlier_t
 ghost use Rattle.verdict_report.specs.Placed.{IsCausePlaced};
 ghost use Rattle.verdict_report.specs.Settings.{named_by};
 
-use crate::numbers::{write_fraction, write_number, write_place};
 use crate::settings::{write_settings, write_variable};
 use goal_answers::{Broken, Cause};
 use heylo_formula::Val;
 use heyvl_places::Name;
+use number_texts::{write_fraction, write_number, write_place};
 use std::alloc::AllocError;
 
 /// Puts an interval behind the text.

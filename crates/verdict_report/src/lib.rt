@@ -5,7 +5,6 @@ mod answers;
 mod causes;
 mod goal_names;
 mod loops;
-mod numbers;
 mod reports;
 mod settings;
 mod states;

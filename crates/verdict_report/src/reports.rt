@@ -7,10 +7,10 @@ ghost use Rattle.verdict_report.specs.Placed.{CanReport, IsAnswerPlaced, IsLoopP
 ghost use Rattle.verdict_report.specs.Reports.{answer_lines, lines_from, loop_line, loop_lines, report_text};
 
 use crate::answers::{Answer, LoopAnswer};
-use crate::numbers::write_number;
 use crate::verdicts::{write_rank, write_verdict};
 use goal_answers::NamedGoal;
 use heyvl_acts::Typed;
+use number_texts::write_number;
 use std::alloc::{AllocError, Global};
 
 /// Puts the line of a ranking behind the text.

@@ -4,9 +4,9 @@
 ghost use Rattle.std.specs.Prelude.{◌≡◌, ◌++◌, OnOk};
 ghost use Rattle.verdict_report.specs.Settings.{mark_text, more_settings_text, named_by, setting_text, settings_text, variable_text};
 
-use crate::numbers::{write_number, write_value};
 use heylo_formula::Val;
 use heyvl_places::Name;
+use number_texts::{write_number, write_value};
 use std::alloc::AllocError;
 
 /// Puts behind the text what tells a variable that was a binder from others of its name.

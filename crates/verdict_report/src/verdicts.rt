@@ -11,11 +11,11 @@ use crate::answers::{LoopAnswer, RankVerdict, Verdict};
 use crate::causes::write_cause;
 use crate::goal_names::names_of;
 use crate::loops::always_shown;
-use crate::numbers::{write_number, write_place};
 use crate::states::write_state;
 use goal_answers::{Miss, NamedGoal};
 use heylo_formula::{GoalId, Val};
 use heyvl_acts::Typed;
+use number_texts::{write_number, write_place};
 use proc_contracts::WhyNot;
 use std::alloc::{AllocError, Global};
 

@@ -4,7 +4,7 @@ ghost use Rattle.heyvl_num.specs.Extended.{value_of};
 ghost use Rattle.heyvl_tool.specs.RunTexts.{no_program_text, script_fault_text, stop_text, sum_text, sums_text, turns_text};
 ghost use Rattle.run_unroller.specs.Unrolling.{totals_of};
 ghost use Rattle.std.specs.Prelude.{IfOk, OnOk, codes, decimal, ◌++◌, ◌≡◌};
-ghost use Rattle.verdict_report.specs.Settings.{fraction_text};
+ghost use Rattle.number_texts.specs.ValueTexts.{fraction_text};
 
 use heyvl_num::{Ext, Frac};
 use itoa::{Buffer, Integer};

@@ -1,8 +1,7 @@
-//! Numbers and places in a report.
+//! Numbers, values and places behind a text.
 
 ghost use Rattle.std.specs.Prelude.{◌≡◌, ◌++◌, ◌<◌, ◌^◌, ◌≤◌, OnOk, length};
-ghost use Rattle.verdict_report.specs.Causes.{place_text};
-ghost use Rattle.verdict_report.specs.Settings.{fraction_text, value_text};
+ghost use Rattle.number_texts.specs.ValueTexts.{fraction_text, place_text, value_text};
 
 use heylo_formula::Val;
 use heyvl_num::Frac;
@@ -10,16 +9,16 @@ use heyvl_places::place_at;
 use itoa::{Buffer, Integer};
 use std::alloc::AllocError;
 
-/// Puts the number's decimal digits behind the text.
-pub(crate) fn write_number<I: Integer>(text: &mut Vec<u8>, number: I) -> Result<(), AllocError>
+/// Puts the number's decimal digits behind the text. As with all of these, want of memory is the one error.
+pub fn write_number<I: Integer>(text: &mut Vec<u8>, number: I) -> Result<(), AllocError>
     ensures { OnOk result (text.new.items ≡ text.old.items ++ I.text number) }
 {
     let mut buffer = Buffer::new();
     Ok(text.extend_from_slice(buffer.format(number).as_bytes())?)
 }
 
-/// Puts a fraction behind the text.
-pub(crate) fn write_fraction(text: &mut Vec<u8>, fraction: Frac) -> Result<(), AllocError>
+/// Puts a fraction behind the text: `p`, or `p/q` in lowest terms.
+pub fn write_fraction(text: &mut Vec<u8>, fraction: Frac) -> Result<(), AllocError>
     ensures { OnOk result (text.new.items ≡ text.old.items ++ fraction_text fraction) }
 {
     write_number(text, fraction.num())?;
@@ -31,8 +30,8 @@ pub(crate) fn write_fraction(text: &mut Vec<u8>, fraction: Frac) -> Result<(), A
     }
 }
 
-/// Puts a variable's value behind the text.
-pub(crate) fn write_value(text: &mut Vec<u8>, value: Val) -> Result<(), AllocError>
+/// Puts a variable's value behind the text: `true`, `false`, or a fraction.
+pub fn write_value(text: &mut Vec<u8>, value: Val) -> Result<(), AllocError>
     ensures { OnOk result (text.new.items ≡ text.old.items ++ value_text value) }
 {
     match value {
@@ -42,8 +41,8 @@ pub(crate) fn write_value(text: &mut Vec<u8>, value: Val) -> Result<(), AllocErr
     }
 }
 
-/// Puts the line and column of a byte behind the text.
-pub(crate) fn write_place(text: &mut Vec<u8>, bytes: &[u8], at: u32) -> Result<(), AllocError>
+/// Puts the line and column of a byte, or of the end of the bytes, behind the text: `LINE:COLUMN`, both from 1.
+pub fn write_place(text: &mut Vec<u8>, bytes: &[u8], at: u32) -> Result<(), AllocError>
     requires inside { at ≤ length bytes.now }
     requires short { length bytes.now < 2 ^ 31 }
     ensures { OnOk result (text.new.items ≡ text.old.items ++ place_text bytes.now at) }
