@@ -25,3 +25,4 @@ mod RuleLaws
 mod SimpleLaws
 mod StatementLaws
 mod TypedNames
+mod WholeLaws

@@ -8,4 +8,4 @@ pub mod Reading
 pub mod Results
 pub mod Rights
 pub mod Statements
-pub mod FileStops
+pub mod PartStops

@@ -3,7 +3,7 @@
 ghost use Rattle.heyvl_parse.specs.internal.Statements.{braced, stmts};
 ghost use Rattle.heyvl_parse.specs.internal.Combinators.{starts};
 ghost use Rattle.heyvl_parse.specs.internal.FileReading.{begins, file, procs};
-ghost use Rattle.heyvl_parse.specs.internal.FileStops.{IsFileStop};
+ghost use Rattle.heyvl_parse.specs.internal.PartStops.{IsPartStop};
 ghost use Rattle.heyvl_parse.specs.internal.Results.{Gives};
 ghost use Rattle.heyvl_syntax.specs.Grammar.{IsFile};
 ghost use Rattle.heyvl_syntax.specs.Procedures.{procedure, procedures};
@@ -54,7 +54,7 @@ fn file(alloc: Global, tokens: &[Token]) -> Result<File, PartStop>
 /// The file that the tokens spell, or the least index at which no file goes on.
 pub(crate) fn spelled(alloc: Global, tokens: &[Token]) -> Result<File, PartStop>
     ensures found { IfOk result (λ file. IsFile (procedures file) tokens.now) }
-    ensures fault { IfErr result (λ stop. IsFileStop tokens.now stop) }
+    ensures fault { IfErr result (λ stop. IsPartStop IsFile tokens.now stop) }
 {
     file(alloc, tokens)
 }

@@ -1,3 +1,4 @@
+mod Beginnings
 mod Closing
 mod Digits
 mod ExpressionRows

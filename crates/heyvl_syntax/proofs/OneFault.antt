@@ -1,16 +1,16 @@
 -- A file has at most one first fault, and none where it is spelled within the limits.
 use Rattle.heyvl_places.specs.declared.spans.Span.{Span}
+use Rattle.heyvl_syntax.proofs.Beginnings.{same_place, unexpected_unique}
 use Rattle.heyvl_syntax.proofs.Unique.{lexes_no_stop, lexes_unique, stops_unique}
 use Rattle.heyvl_syntax.specs.Grammar.{IsFile}
 use Rattle.heyvl_syntax.specs.Procedures.{Procedure}
-use Rattle.heyvl_syntax.specs.SourceFaults.{IsBeginning, IsCrowd, IsLight, IsOverload, IsSource, IsSourceFault, IsTokenFault, IsUncrowded, IsUnexpected, IsWithinLimits, is_procedure_key, procedure_count, token_place}
+use Rattle.heyvl_syntax.specs.SourceFaults.{IsCrowd, IsLight, IsOverload, IsSource, IsSourceFault, IsTokenFault, IsUncrowded, IsWithinLimits, is_procedure_key, procedure_count, token_place}
 use Rattle.heyvl_syntax.specs.declared.tokens.Token.{Token}
-use Rattle.std.proofs.Common.{List, ap, arith, cond, drop, inl, inr, length, subst, sym, take, ◌++◌, ◌+◌, ◌<◌, ◌∙◌, ◌≡◌, ◌≤◌, ◌⊎◌, ℕ}
-use Rattle.std.proofs.lemmas.Bool.{cases_order}
+use Rattle.std.proofs.Common.{List, ap, arith, cond, inl, inr, length, subst, sym, take, ◌+◌, ◌<◌, ◌∙◌, ◌≡◌, ◌≤◌, ℕ}
 use Rattle.std.proofs.lemmas.List.Sums.{sum_by-take-le}
-use Rattle.std.proofs.lemmas.List.{append_assoc, take-append-drop, take-take}
+use Rattle.std.proofs.lemmas.List.{take-take}
 
-light_or_over : (tokens : List Token) (i : ℕ) → IsLight tokens → IsOverload tokens i → ⊥
+pub light_or_over : (tokens : List Token) (i : ℕ) → IsLight tokens → IsOverload tokens i → ⊥
 light_or_over tokens i light over = let e = over.is_first in let h = over.inside in absurd (omega arith)
 
 count_front : (tokens : List Token) (i : ℕ) → procedure_count (take i tokens) ≤ procedure_count tokens
@@ -28,28 +28,6 @@ crowd_order tokens i j s t less =
     let b = t.before in
     absurd (omega arith)
 
-shorter : (tokens : List Token) (k : ℕ) → IsBeginning tokens → IsBeginning (take k tokens)
-shorter tokens k h = record {
-  file = h.file;
-  more = drop k tokens ++ h.more;
-  spelled = subst (λ (ts : List Token). IsFile h.file ts) (sym (sym (append_assoc (take k tokens) (drop k tokens) h.more) ∙ ap (λ ts. ts ++ h.more) (take-append-drop k tokens))) h.spelled;
-}
-
-unexpected_order : (tokens : List Token) (i j : ℕ) → IsUnexpected tokens i → IsUnexpected tokens j → i < j → ⊥
-unexpected_order tokens i j s t less =
-    let inside = t.inside in
-    let here : i < length tokens = omega arith in
-    let within : i + 1 ≤ j = omega arith in
-    s.here here (subst (λ (ts : List Token). IsBeginning ts) (take-take (i + 1) j tokens within) (shorter (take j tokens) (i + 1) t.before))
-
-same_place : (P : ℕ → Type 0) (i j : ℕ) → P i → P j → ((m n : ℕ) → P m → P n → m < n → ⊥) → i ≡ j
-same_place P i j s t order = pick (cases_order i j)
-  where
-    pick : (i ≡ j) ⊎ ((i < j) ⊎ (j < i)) → i ≡ j
-    pick (inl e) = e
-    pick (inr (inl less)) = absurd (order i j s t less)
-    pick (inr (inr less)) = absurd (order j i t s less)
-
 pub token_faults_unique : (tokens : List Token) (number other i j : ℕ) → IsTokenFault tokens number i → IsTokenFault tokens other j → (number ≡ other) × (i ≡ j)
 token_faults_unique tokens number other i j (inl (n, s)) (inl (m, t)) = (n ∙ sym m, sym s.is_first ∙ t.is_first)
 token_faults_unique tokens number other i j (inl (n, s)) (inr (inl (m, light, t))) = absurd (light_or_over tokens i light s)
@@ -59,12 +37,12 @@ token_faults_unique tokens number other i j (inr (inl (n, light, s))) (inr (inl 
 token_faults_unique tokens number other i j (inr (inl (n, light, s))) (inr (inr (m, within, t))) = absurd (crowd_or_few tokens i within.uncrowded s)
 token_faults_unique tokens number other i j (inr (inr (n, within, s))) (inl (m, t)) = absurd (light_or_over tokens j within.light t)
 token_faults_unique tokens number other i j (inr (inr (n, within, s))) (inr (inl (m, light, t))) = absurd (crowd_or_few tokens j within.uncrowded t)
-token_faults_unique tokens number other i j (inr (inr (n, within, s))) (inr (inr (m, inside, t))) = (n ∙ sym m, same_place (λ k. IsUnexpected tokens k) i j s t (unexpected_order tokens))
+token_faults_unique tokens number other i j (inr (inr (n, within, s))) (inr (inr (m, inside, t))) = (n ∙ sym m, unexpected_unique IsFile tokens i j s t)
 
 pub no_token_fault : (tokens : List Token) (file : List Procedure) (number i : ℕ) → IsWithinLimits tokens → IsFile file tokens → IsTokenFault tokens number i → ⊥
 no_token_fault tokens file number i within spelled (inl (n, s)) = light_or_over tokens i within.light s
 no_token_fault tokens file number i within spelled (inr (inl (n, light, s))) = crowd_or_few tokens i within.uncrowded s
-no_token_fault tokens file number i within spelled (inr (inr (n, inside, s))) = s.no_file file spelled
+no_token_fault tokens file number i within spelled (inr (inr (n, inside, s))) = s.none file spelled
 
 pub source_faults_unique : (bytes : List ℕ) (number other : ℕ) (place at : Span) → IsSourceFault bytes number place → IsSourceFault bytes other at → (number ≡ other) × (place ≡ at)
 source_faults_unique bytes number other place at (inl s) (inl t) = stops_unique 0 bytes number other place at s t

@@ -1,4 +1,5 @@
 -- The lemmas that crates above may cite. All other proofs are private.
+pub mod Beginnings
 pub mod Digits
 pub mod FaultPlaces
 pub mod FewNodes

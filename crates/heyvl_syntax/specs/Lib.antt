@@ -1,4 +1,5 @@
 pub use Rattle.heyvl_places.specs.Places
+pub mod Beginnings
 pub mod Bytes
 pub mod Comments
 pub mod Expressions

@@ -1,6 +1,7 @@
 -- The faults 1 to 6 of a file: where its bytes have no tokens, where its tokens pass a limit, and where they spell no file. The
 -- limits and the order of the faults are this project's own.
 use Rattle.heyvl_places.specs.declared.spans.Span.{Span}
+use Rattle.heyvl_syntax.specs.Beginnings.{IsUnexpected}
 use Rattle.heyvl_syntax.specs.Grammar.{IsFile}
 use Rattle.heyvl_syntax.specs.Load.{overload}
 use Rattle.heyvl_syntax.specs.Procedures.{Procedure}
@@ -9,7 +10,7 @@ use Rattle.heyvl_syntax.specs.declared.keys.Key.TheVariants as keys
 use Rattle.heyvl_syntax.specs.declared.tokens.Token.{Token}
 use Rattle.heyvl_syntax.specs.declared.tokens.TokenKind.TheVariants as kinds
 use Rattle.heyvl_syntax.specs.declared.tokens.TokenKind.{TokenKind}
-use Rattle.std.specs.Prelude.{Bool, List, [], count_by, drop, false, length, take, true, ◌++◌, ◌+◌, ◌<◌, ◌∷◌, ◌≡◌, ◌≤◌, ◌⊎◌, ℕ}
+use Rattle.std.specs.Prelude.{Bool, List, [], count_by, drop, false, length, take, true, ◌+◌, ◌<◌, ◌∷◌, ◌≡◌, ◌≤◌, ◌⊎◌, ℕ}
 
 -- `proc` or `coproc`.
 abbrev pub is_procedure_key : TokenKind → Bool
@@ -49,26 +50,12 @@ pub record IsCrowd (tokens : List Token) (i : ℕ) : Type 0 where
   pub before : procedure_count (take i tokens) ≡ procedure_limit
   pub with_it : procedure_count (take (i + 1) tokens) ≡ procedure_limit + 1
 
--- Some file's tokens begin with these.
-pub record IsBeginning (tokens : List Token) : Type 0 where
-  pub file : List Procedure
-  pub more : List Token
-  pub spelled : IsFile file (tokens ++ more)
-
--- The tokens spell no file, and i is the least index such that no file's tokens begin with those up to and including i; where no
--- token is such, i is the number of tokens.
-pub record IsUnexpected (tokens : List Token) (i : ℕ) : Type 0 where
-  pub inside : i ≤ length tokens
-  pub no_file : (file : List Procedure) → IsFile file tokens → ⊥
-  pub before : IsBeginning (take i tokens)
-  pub here : i < length tokens → IsBeginning (take (i + 1) tokens) → ⊥
-
 -- The first fault of tokens has this number and stands at this index: fault 5 comes before fault 6, and fault 6 before fault 4.
 abbrev pub IsTokenFault : List Token → ℕ → ℕ → Type 0
 IsTokenFault tokens number i =
     ((number ≡ 5) × IsOverload tokens i)
     ⊎ ((number ≡ 6) × IsLight tokens × IsCrowd tokens i)
-    ⊎ ((number ≡ 4) × IsWithinLimits tokens × IsUnexpected tokens i)
+    ⊎ ((number ≡ 4) × IsWithinLimits tokens × IsUnexpected IsFile tokens i)
 
 -- The place of the first token, or the end of the bytes where there is none.
 abbrev pub place_of_first : List ℕ → List Token → Span

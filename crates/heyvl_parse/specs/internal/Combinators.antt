@@ -78,6 +78,11 @@ spanned h f ts = f ts >>= λ x r. Got (h x (extent (taken ts r))) r
 abbrev pub refuse : {A : Type 0} → List Token → Read A
 refuse ts = Bad ts
 
+-- Nothing may follow what was read.
+abbrev pub ended : {A : Type 0} → A → List Token → Read A
+ended x [] = Got x []
+ended x (t ∷ ts) = Bad (t ∷ ts)
+
 abbrev pub some_if : {A : Type 0} → (List Token → Read A) → Bool → List Token → Read (Option A)
 some_if f false ts = Got None ts
 some_if f true ts = mapped Some f ts

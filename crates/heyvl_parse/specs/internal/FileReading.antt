@@ -1,13 +1,13 @@
 -- Reading whole files, where a reader of blocks is given.
-use Rattle.heyvl_parse.specs.internal.Combinators.{each, either, is_there}
+use Rattle.heyvl_parse.specs.internal.Combinators.{each, either, ended, is_there}
 use Rattle.heyvl_parse.specs.internal.Procedures.{proc_of, procedure}
-use Rattle.heyvl_parse.specs.internal.Reading.{Bad, Got, Read, is_mark, ◌>>=◌}
+use Rattle.heyvl_parse.specs.internal.Reading.{Read, is_mark, ◌>>=◌}
 use Rattle.heyvl_syntax.specs.Procedures.{Procedure}
 use Rattle.heyvl_syntax.specs.Statements.{Block}
 use Rattle.heyvl_syntax.specs.declared.marks.Mark.TheVariants as marks
 use Rattle.heyvl_syntax.specs.declared.tokens.Token.{Token}
 use Rattle.heyvl_syntax.specs.declared.tokens.TokenKind.{TokenKind}
-use Rattle.std.specs.Prelude.{Bool, List, [], ◌∷◌, ℕ}
+use Rattle.std.specs.Prelude.{Bool, List, ℕ}
 
 abbrev pub is_proc : TokenKind → Bool
 is_proc k = is_there (proc_of k)
@@ -19,11 +19,6 @@ begins = either (is_mark marks.AtSign) is_proc
 -- proc*, as far as it goes.
 abbrev pub procs : (List Token → Read Block) → ℕ → List Token → Read (List Procedure)
 procs block n ts = each begins (procedure block n) n ts
-
--- Nothing may follow.
-abbrev pub ended : {A : Type 0} → A → List Token → Read A
-ended x [] = Got x []
-ended x (t ∷ ts) = Bad (t ∷ ts)
 
 -- file
 abbrev pub file : (List Token → Read Block) → ℕ → List Token → Read (List Procedure)
