@@ -1,0 +1,52 @@
+# What ./caesar and the tools know of the built program, for shells whose `top` is the root of the repository.
+out=$top/crates/caesar/out
+program=$out/caesar
+
+# These files and all below these folders, each with its number, its size and the times of its last changes.
+state_of() {
+    (cd "$top" && find "$@" -printf '%p %i %s %T@ %C@\n') 2>&1
+}
+
+# Whether the program and its sources are as they were when a build succeeded. Proofs aren't compared: neither the program nor what is
+# claimed of it depends on them.
+is_built() {
+    [ -x "$program" ] && read -r folders 2>/dev/null <"$out/folders" &&
+        state_of crates/caesar/out/caesar crates.txt $folders | cmp -s - "$out/built"
+}
+
+# What the program writes where the words are no command. It stands in a case, which the gate holds against the program.
+usage_line() {
+    sed -n '/^usage: caesar /{p;q;}' "$top/tests/cases/words.cases"
+}
+
+# Whether a usage line tells that the words behind it are no command: it has each command with its arguments, in capitals, between bars.
+is_no_command() {
+    forms=${1#usage: caesar }
+    shift
+    for word; do
+        case $word in '' | -*) return 0 ;; esac
+    done
+    name=${1-} count=$# blank=$IFS
+    set -f
+    IFS='|'
+    set -- $forms
+    IFS=$blank
+    for form; do
+        set -- $form
+        [ "$1" != "$name" ] || [ $# != "$count" ] || return 1
+    done
+    return 0
+}
+
+# Ends as the program would where the words are no command.
+answer_usage() {
+    usage=$(usage_line)
+    if [ -n "$usage" ] && is_no_command "$usage" "$@"; then
+        printf '%s\n' "$usage" || exit 6
+        exit 4
+    fi
+}
+
+tell() {
+    printf '%s\n' "$1" >&2
+}
