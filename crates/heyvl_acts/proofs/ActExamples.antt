@@ -1,24 +1,24 @@
 -- What acts mean, computed by hand for each kind of act, and for three small procedures.
-use Rattle.std.proofs.Common.{◌≡◌, refl, ℕ, Bool, true, false, cond, ◌==◌, ◌&&◌, ◌||◌, List, [], ◌∷◌}
+use Rattle.std.proofs.Common.{◌≡◌, refl, ℕ, Bool, true, false, List, [], ◌∷◌}
 use Rattle.std.specs.Prelude.{pos, negsuc, Option, Some, None, ℤ}
 use Prim.Native.Nat.{zero, suc}
 use Rattle.heyvl_num.specs.Gcd.{gcd, gcd_steps}
 use Rattle.heyvl_num.specs.Rational.{Rational, ratio, zeroʳ, oneʳ, ◌+ʳ◌, ◌-ʳ◌, ◌*ʳ◌, negʳ, leqʳ}
-use Rattle.heyvl_num.specs.Value.{Value, zeroᵛ, oneᵛ, ◌+ᵛ◌, ◌*ᵛ◌, infinite_times, is_zeroʳ, leqᵛ, ◌≤ᵛ◌}
+use Rattle.heyvl_num.specs.Value.{Value, zeroᵛ, oneᵛ, ◌+ᵛ◌, ◌*ᵛ◌, infinite_times, is_zeroʳ, leqᵛ}
 use Rattle.heyvl_num.specs.Value.Value.{finite, infinite}
 use Rattle.heyvl_num.specs.ValueOperators.{minᵛ, maxᵛ, impliesᵛ, coimpliesᵛ}
 use Rattle.heyvl_places.specs.declared.spans.Span.{Span}
 use Rattle.heyvl_places.specs.declared.checks.CheckKind.{CheckKind}
 use Rattle.heylo_formula.specs.Operators.{validateᵛ, covalidateᵛ}
-use Rattle.heylo_formula.specs.State.{Env, put, fit, has, default, truth_of, number_of}
+use Rattle.heylo_formula.specs.State.{Env, put}
 use Rattle.heylo_formula.specs.Choices.{Choices}
 use Rattle.heylo_formula.specs.Formula.{Form, Cond, Term}
-use Rattle.heylo_formula.specs.Meaning.{value, holds, term_value}
+use Rattle.heylo_formula.specs.Meaning.{value}
 use Rattle.heylo_formula.specs.declared.types.Ty.{Ty}
 use Rattle.heylo_formula.specs.declared.values.Val.{Val}
 use Rattle.heylo_formula.specs.declared.values.Val.TheVariants.{Truth, Num}
 use Rattle.heyvl_acts.specs.Acts.{Act, Acts, Arms, Head}
-use Rattle.heyvl_acts.specs.Forward.{Post, forward}
+use Rattle.heyvl_acts.specs.Forward.{forward}
 use Rattle.heyvl_acts.specs.Places.{in_order, nth}
 use Rattle.heyvl_acts.specs.Modified.{modified}
 use Rattle.heyvl_acts.specs.Count.{count_of}
@@ -74,6 +74,17 @@ assignments = (refl, refl, refl)
 three_parts : shown (after (only (Act.draw 2 ((ratio (pos 1) 2, Term.number (at 0)) ∷ (ratio (pos 1) 4, Term.number (at 2)) ∷ (ratio (pos 1) 4, Term.number (at 4)) ∷ []) nowhere)) Choices.stop) ≡ Some (pos 2, 1)
 unfolding after state ratio gcd gcd_steps ◌+ʳ◌ ◌*ʳ◌ ◌+ᵛ◌ ◌*ᵛ◌ infinite_times is_zeroʳ zeroʳ zeroᵛ
 three_parts = refl
+
+-- A toss of 1/3 where the Bool holds and of 2 where not, then of 1 and of 0: true counts 1, false 4.
+abbrev by_flag : Form → Form → Form
+by_flag a b = Form.select (Cond.flag 0) a b
+
+tossed : Form → Form → Bool → Option (ℤ × ℕ)
+tossed a b t = shown (forward (only (Act.toss 0 (by_flag a b) nowhere)) (value (by_flag (at 1) (at 4))) (put 0 (Truth t) state) Choices.stop)
+
+tosses : (tossed (Form.number (finite (ratio (pos 1) 3))) (at 2) true ≡ Some (pos 3, 1)) × (tossed (Form.number (finite (ratio (pos 1) 3))) (at 2) false ≡ Some (pos 1, 1)) × (tossed (at 1) (at 0) true ≡ Some (pos 1, 1)) × (tossed (at 1) (at 0) false ≡ Some (pos 4, 1))
+unfolding tossed state ratio gcd gcd_steps ◌+ʳ◌ ◌-ʳ◌ ◌*ʳ◌ negʳ leqʳ leqᵛ minᵛ ◌+ᵛ◌ ◌*ᵛ◌ infinite_times is_zeroʳ zeroʳ oneʳ zeroᵛ oneᵛ
+tosses = (refl, refl, refl, refl)
 
 -- Any UInt: the choice, upward and downward; a choice of another kind is 0.
 any_values : (after (only (Act.any 2 true Ty.UInt nowhere)) (chosen (Num (whole 9)) Choices.stop Choices.stop) ≡ finite (ratio (pos 19) 2)) × (after (only (Act.any 2 false Ty.UInt nowhere)) (chosen (Num (whole 9)) Choices.stop Choices.stop) ≡ finite (ratio (pos 19) 2)) × (after (only (Act.any 2 true Ty.UInt nowhere)) (chosen (Truth true) Choices.stop Choices.stop) ≡ finite (ratio (pos 1) 2))
@@ -162,6 +173,10 @@ places = (refl, refl, refl, refl, refl)
 -- Variable 3 isn't in the loop's scope.
 modified_variables : modified head.scope (Acts.next (flip 0) (only (Act.set 3 (Term.number (at 1)) nowhere))) ≡ 0 ∷ []
 modified_variables = refl
+
+-- A toss's target is modified, and none of the variables of its formula.
+modified_by_toss : modified head.scope (only (Act.toss 1 (by_flag (at 1) (at 0)) nowhere)) ≡ 1 ∷ []
+modified_by_toss = refl
 
 -- The If has 1 arm and 2 statements; the loop two checks, a havoc, a validation, an If and two copies of 2 + 2 statements.
 counts : (count_of nested ≡ 17) × (count_of (only (Act.call (0 ∷ []) 0 (Term.truth (Cond.flag 0) ∷ Term.truth (Cond.flag 0) ∷ []) nowhere)) ≡ 7)

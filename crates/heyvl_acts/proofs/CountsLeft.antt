@@ -8,7 +8,7 @@ use Rattle.heyvl_acts.specs.declared.acts.Act as A
 use Rattle.heyvl_acts.specs.declared.acts.Act.TheFolds.{fold-roll-LoopAct}
 use Rattle.heyvl_acts.specs.declared.acts.LoopAct as L
 use Rattle.heyvl_places.specs.declared.spans.Span.{Span}
-use Rattle.std.proofs.Common.{List, [], ap, arith, drop, get_or, length, refl, sym, ◌*◌, ◌+◌, ◌<◌, ◌^◌, ◌∙◌, ◌≡◌, ◌≤◌, ◌-◌, ◌∷◌, ℕ}
+use Rattle.std.proofs.Common.{List, ap, arith, drop, get_or, length, sym, ◌+◌, ◌<◌, ◌∙◌, ◌≡◌, ◌≤◌, ℕ}
 use Rattle.std.proofs.lemmas.List.{at_drop_more, drop_all}
 use Rattle.std.specs.Prelude.{Vec, min}
 use Rattle.std.specs.declared.alloc.Global.{Global}

@@ -10,7 +10,7 @@ use Rattle.heylo_formula.specs.Meaning.{holds}
 use Rattle.heylo_formula.specs.declared.values.Val.TheVariants.{Truth}
 use Rattle.heyvl_acts.specs.Acts.{Act, Acts, Arms, join}
 use Rattle.heyvl_acts.specs.Forward.{Post, part, parts, meant, meant_act, meant_arms}
-use Rattle.heyvl_acts.specs.Matching.{taken, summed, summed_parts, Reaches, ActsJoin, DrawsMatch, RewardsMatch, BranchesMatch, AnysMatch, PicksMatch, ChecksMatch}
+use Rattle.heyvl_acts.specs.Matching.{taken, summed, summed_parts, Reaches, ActsJoin, DrawsMatch, TossesMatch, RewardsMatch, BranchesMatch, AnysMatch, PicksMatch, ChecksMatch}
 
 pub joined : ActsJoin
 joined l q a b k = go a
@@ -29,6 +29,9 @@ draws l q x ps span k s ds = go ps
     go : (ps : List (Rational × Term)) → Reaches (meant_act l q (Act.draw x ps span) k s) (summed_parts x ps k s ds)
     go [] = record { choices = Choices.stop; reached = refl }
     go (p ∷ ps) = let h = packed x ps k (part x p k) s (λ n. ds (suc n)) (ds 0) in record { choices = h.choices; reached = h.reached }
+
+pub tosses : TossesMatch
+tosses l q x f span k s d e = record { choices = Choices.choose (Truth false) (Choices.choose (Truth false) Choices.stop d) (Choices.choose (Truth false) Choices.stop e); reached = refl }
 
 pub rewards : RewardsMatch
 rewards l q f span k s d = record { choices = Choices.choose (Truth false) d Choices.stop; reached = refl }

@@ -7,7 +7,7 @@ use Rattle.heyvl_acts.specs.PlainActs.{act_of, acts_of, arms_of}
 use Rattle.heyvl_acts.specs.Visible.{among}
 use Rattle.heyvl_acts.specs.declared.acts.Act as A
 use Rattle.heyvl_places.specs.declared.spans.Span.{Span}
-use Rattle.std.proofs.Common.{Bool, List, [], ap, arith, cond, drop, false, get_or, length, refl, sym, true, ◌+◌, ◌++◌, ◌<◌, ◌∙◌, ◌≡◌, ◌≤◌, ◌∷◌, ℕ}
+use Rattle.std.proofs.Common.{Bool, List, [], ap, arith, cond, drop, false, get_or, length, refl, sym, true, ◌+◌, ◌<◌, ◌∙◌, ◌≡◌, ◌≤◌, ◌∷◌, ℕ}
 use Rattle.std.proofs.lemmas.List.Recursion.{is_count_by}
 use Rattle.std.proofs.lemmas.List.{at_drop_more, drop_all}
 use Rattle.std.specs.List.{list_any}

@@ -1,1 +1,6 @@
+pub mod Each
+pub mod Lengths
 pub mod PlainActsAre
+pub mod Tosses
+pub mod UpwardMeaning
+pub mod Weights

@@ -24,6 +24,7 @@ mutual
   pub data Act : Type 0 where
     set : ℕ → Term → Span → Act
     draw : ℕ → List (Rational × Term) → Span → Act
+    toss : ℕ → Form → Span → Act
     any : ℕ → Bool → Ty → Span → Act
     reward : Form → Span → Act
     ifs : Arms → Acts → Span → Act

@@ -15,6 +15,7 @@ abbrev mutual
   pub count_of_act : Act → ℕ
   count_of_act (Act.set x t span) = 1
   count_of_act (Act.draw x ps span) = 1
+  count_of_act (Act.toss x p span) = 1
   count_of_act (Act.any x up ty span) = 1
   count_of_act (Act.reward f span) = 1
   count_of_act (Act.ifs arms e span) = count_of_arms arms + count_of e

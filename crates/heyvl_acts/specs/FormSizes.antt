@@ -19,6 +19,7 @@ GuardsWithin most (Arms.arm g b more) = (nodes_in g ≤ most) × GuardsWithin mo
 abbrev pub ActWithin : ℕ → Act → Type 0
 ActWithin most (Act.set x t span) = nodes_in_term t ≤ most
 ActWithin most (Act.draw x ps span) = Each (λ p. nodes_in_term p.1 ≤ most) ps
+ActWithin most (Act.toss x f span) = nodes f ≤ most
 ActWithin most (Act.any x up ty span) = Unit {0}
 ActWithin most (Act.reward f span) = nodes f ≤ most
 ActWithin most (Act.ifs arms e span) = GuardsWithin most arms

@@ -14,7 +14,9 @@ use Rattle.heylo_formula.specs.State.{Env, put, fit}
 use Rattle.heylo_formula.specs.Choices.{Choices, here, left, right}
 use Rattle.heylo_formula.specs.Formula.{Term}
 use Rattle.heylo_formula.specs.Meaning.{value, holds, term_value}
+use Rattle.heylo_formula.specs.declared.values.Val.TheVariants.{Truth}
 use Rattle.heyvl_acts.specs.Acts.{Head, Act, Acts, Arms}
+use Rattle.heyvl_acts.specs.Tosses.{toss_parts}
 
 -- What has a value in each state, for all choices: what follows the acts.
 abbrev pub Post : Type 0
@@ -49,6 +51,10 @@ abbrev pub drawn : ℕ → List (Rational × Term) → Post → Post
 drawn x [] k s c = zeroᵛ
 drawn x (p ∷ ps) k s c = parts x ps k (part x p k) s c
 
+-- Choices behind the two products of a toss, whose first factors have none.
+abbrev pub past_products : Choices → Choices
+past_products c = Choices.choose (Truth false) (right (left c)) (right (right c))
+
 -- What a loop means: its head, its body, what its body means, and what follows.
 abbrev pub OfLoops : Type 0
 OfLoops = Head → Acts → (Post → Post) → Post → Post
@@ -61,6 +67,7 @@ abbrev mutual
   pub meant_act : OfLoops → OfCalls → Act → Post → Post
   meant_act l q (Act.set x t span) k s c = k (put x (term_value t s) s) c
   meant_act l q (Act.draw x ps span) k s c = drawn x ps k s c
+  meant_act l q (Act.toss x f span) k s c = drawn x (toss_parts f s) k s (past_products c)
   meant_act l q (Act.any x up ty span) k s c = k (put x (fit ty (here c)) s) (left c)
   meant_act l q (Act.reward f span) k s c = k s (left c) +ᵛ value f s Choices.stop
   meant_act l q (Act.ifs arms e span) k s c = meant_arms l q arms k (meant l q e k) s c

@@ -10,6 +10,7 @@ abbrev mutual
   pub length_of_act : Act → ℕ
   length_of_act (Act.set x t span) = 1
   length_of_act (Act.draw x ps span) = 1
+  length_of_act (Act.toss x p span) = 1
   length_of_act (Act.any x up ty span) = 1
   length_of_act (Act.reward f span) = 1
   length_of_act (Act.ifs arms e span) = 1 + longer (longest arms) (length_of e)

@@ -10,6 +10,7 @@ pub mod Count
 pub mod Program
 pub mod WellTyped
 pub mod Rules
+pub mod Tosses
 pub mod FormSizes
 pub mod Straight
 pub mod Upward

@@ -1,9 +1,10 @@
 -- What an induction over runs asks of the forward meaning: after each act, choices for what follows are part of choices
 -- for the whole. Each law holds for every meaning of loops and calls.
-use Rattle.std.specs.Prelude.{◌≡◌, ℕ, Bool, List, [], ◌∷◌, if◌then◌else◌}
+use Rattle.std.specs.Prelude.{◌≡◌, ℕ, Bool, true, false, List, [], ◌∷◌, if◌then◌else◌}
 use Prim.Native.Nat.{suc}
-use Rattle.heyvl_num.specs.Rational.{Rational}
-use Rattle.heyvl_num.specs.Value.{Value, zeroᵛ, ◌+ᵛ◌}
+use Rattle.heyvl_num.specs.Rational.{Rational, oneʳ, ◌-ʳ◌}
+use Rattle.heyvl_num.specs.Value.{Value, zeroᵛ, ◌+ᵛ◌, ◌*ᵛ◌}
+use Rattle.heyvl_num.specs.Value.Value.{finite}
 use Rattle.heyvl_places.specs.declared.spans.Span.{Span}
 use Rattle.heyvl_places.specs.declared.checks.CheckKind.{CheckKind}
 use Rattle.heylo_formula.specs.State.{Env, put, fit}
@@ -12,8 +13,10 @@ use Rattle.heylo_formula.specs.Formula.{Form, Term}
 use Rattle.heylo_formula.specs.Meaning.{value, holds}
 use Rattle.heylo_formula.specs.declared.types.Ty.{Ty}
 use Rattle.heylo_formula.specs.declared.values.Val.{Val}
+use Rattle.heylo_formula.specs.declared.values.Val.TheVariants.{Truth}
 use Rattle.heyvl_acts.specs.Acts.{Act, Acts, Arms, join}
 use Rattle.heyvl_acts.specs.Forward.{Post, OfLoops, OfCalls, part, picked, checked, meant, meant_act}
+use Rattle.heyvl_acts.specs.Tosses.{toss_weight}
 
 -- The block of the first arm whose guard holds, or the else.
 abbrev pub taken : Arms → Acts → Env → Acts
@@ -41,6 +44,10 @@ ActsJoin = (l : OfLoops) (q : OfCalls) (a b : Acts) (k : Post) → meant l q (jo
 -- Each part of a draw may have any choices.
 abbrev pub DrawsMatch : Type 0
 DrawsMatch = (l : OfLoops) (q : OfCalls) (x : ℕ) (ps : List (Rational × Term)) (span : Span) (k : Post) (s : Env) (ds : ℕ → Choices) → Reaches (meant_act l q (Act.draw x ps span) k s) (summed_parts x ps k s ds)
+
+-- Each side of a toss may have any choices: true with the smaller of the formula's value and 1, and false with the rest.
+abbrev pub TossesMatch : Type 0
+TossesMatch = (l : OfLoops) (q : OfCalls) (x : ℕ) (f : Form) (span : Span) (k : Post) (s : Env) (d e : Choices) → Reaches (meant_act l q (Act.toss x f span) k s) ((finite (toss_weight f s) *ᵛ k (put x (Truth true) s) d) +ᵛ (finite (oneʳ -ʳ toss_weight f s) *ᵛ k (put x (Truth false) s) e))
 
 abbrev pub RewardsMatch : Type 0
 RewardsMatch = (l : OfLoops) (q : OfCalls) (f : Form) (span : Span) (k : Post) (s : Env) (d : Choices) → Reaches (meant_act l q (Act.reward f span) k s) (k s d +ᵛ value f s Choices.stop)

@@ -8,6 +8,7 @@ abbrev mutual
   pub is_target_of_act : ℕ → Act → Bool
   is_target_of_act x (Act.set y t span) = y == x
   is_target_of_act x (Act.draw y ps span) = y == x
+  is_target_of_act x (Act.toss y p span) = y == x
   is_target_of_act x (Act.any y up ty span) = y == x
   is_target_of_act x (Act.reward f span) = false
   is_target_of_act x (Act.ifs arms e span) = is_target_of_arms x arms || is_target_of x e

@@ -15,6 +15,7 @@ abbrev mutual
   pub inside : Act → List Act
   inside (Act.set x t span) = []
   inside (Act.draw x ps span) = []
+  inside (Act.toss x p span) = []
   inside (Act.any x up ty span) = []
   inside (Act.reward f span) = []
   inside (Act.ifs arms e span) = inside_arms arms ++ in_order e

@@ -44,6 +44,7 @@ rank_of None = None
 abbrev pub act_layer : Act-F Act Act → Act
 act_layer (Act-F.Set x t span) = Act.set x (term_of t) span
 act_layer (Act-F.Draw x ps span) = Act.draw x (parts_of ps.items) span
+act_layer (Act-F.Toss x f span) = Act.toss x (form_of f) span
 act_layer (Act-F.Any x up ty span) = Act.any x up ty span
 act_layer (Act-F.Reward f span) = Act.reward (form_of f) span
 act_layer (Act-F.If arms e span) = Act.ifs (armed (map layered_arm arms.items)) (joined e.items) span

@@ -19,6 +19,7 @@ pub data Reason : Type 0 where
 abbrev pub breaks : Bool → Act → Option Span
 breaks co (Act.set x t span) = None
 breaks co (Act.draw x ps span) = None
+breaks co (Act.toss x p span) = None
 breaks co (Act.any x up ty span) = None
 breaks co (Act.reward f span) = None
 breaks co (Act.ifs arms e span) = None
@@ -60,6 +61,7 @@ calls q (a ∷ rest) = is_call a || calls q rest
     is_call : Act → Bool
     is_call (Act.set x t span) = false
     is_call (Act.draw x ps span) = false
+    is_call (Act.toss x p span) = false
     is_call (Act.any x up ty span) = false
     is_call (Act.reward f span) = false
     is_call (Act.ifs arms e span) = false

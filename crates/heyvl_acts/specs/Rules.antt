@@ -19,7 +19,7 @@ use Rattle.heyvl_acts.specs.PlainActs.{procedures_of}
 use Rattle.heyvl_acts.specs.Places.{in_order}
 use Rattle.heyvl_acts.specs.Count.{count_of}
 use Rattle.heyvl_acts.specs.Visible.{interface, Scoped}
-use Rattle.heyvl_acts.specs.WellTyped.{IsHeld, DrawFits}
+use Rattle.heyvl_acts.specs.WellTyped.{IsHeld, IsProbability, DrawFits}
 
 -- The predicate holds of each element.
 abbrev pub Each : {A : Type 0} → (A → Type 0) → List A → Type 0
@@ -36,6 +36,7 @@ pub record IsOwn (p : TypedProcedure) (x : ℕ) : Type 0 where
 abbrev pub HasOwnTargets : TypedProcedure → Act → Type 0
 HasOwnTargets p (Act.set x t span) = IsOwn p x
 HasOwnTargets p (Act.draw x ps span) = IsOwn p x
+HasOwnTargets p (Act.toss x f span) = IsOwn p x
 HasOwnTargets p (Act.any x up ty span) = IsOwn p x
 HasOwnTargets p (Act.reward f span) = Unit {0}
 HasOwnTargets p (Act.ifs arms e span) = Unit {0}
@@ -92,6 +93,7 @@ pub record LoopFits (p : TypedProcedure) (h : Head) : Type 0 where
 abbrev pub IsTypedAct : List TypedProcedure → TypedProcedure → Act → Type 0
 IsTypedAct ps p (Act.set x t span) = TermFits (types_of p) (types_of p x) t
 IsTypedAct ps p (Act.draw x qs span) = DrawFits (types_of p) x qs
+IsTypedAct ps p (Act.toss x f span) = (types_of p x ≡ Ty.Bool) × IsProbability (types_of p) f
 IsTypedAct ps p (Act.any x up ty span) = types_of p x ≡ ty
 IsTypedAct ps p (Act.reward f span) = IsHeld (types_of p) f
 IsTypedAct ps p (Act.ifs arms e span) = GuardsFit p arms
@@ -106,6 +108,7 @@ IsTypedAct ps p (Act.call xs q es span) = CallFits ps p xs q es
 -- The weights of a draw add up to 1.
 abbrev pub WeighsOne : Act → Type 0
 WeighsOne (Act.draw x ps span) = total_weight ps ≡ oneʳ
+WeighsOne (Act.toss x f span) = Unit {0}
 WeighsOne (Act.set x t span) = Unit {0}
 WeighsOne (Act.any x up ty span) = Unit {0}
 WeighsOne (Act.reward f span) = Unit {0}
@@ -130,6 +133,7 @@ FollowsDirection ps p (Act.reward f span) = p.weak ≡ false
 FollowsDirection ps p (Act.call xs q es span) = IsCallable p.co (procedure_at ps q)
 FollowsDirection ps p (Act.set x t span) = Unit {0}
 FollowsDirection ps p (Act.draw x qs span) = Unit {0}
+FollowsDirection ps p (Act.toss x f span) = Unit {0}
 FollowsDirection ps p (Act.ifs arms e span) = Unit {0}
 FollowsDirection ps p (Act.pick up a b span) = Unit {0}
 FollowsDirection ps p (Act.check kind f span) = Unit {0}
@@ -146,6 +150,7 @@ is_against co (Act.check CheckKind.CoAssert f span) = false
 is_against co (Act.validate d span) = not (agree co d)
 is_against co (Act.set x t span) = false
 is_against co (Act.draw x qs span) = false
+is_against co (Act.toss x f span) = false
 is_against co (Act.any x up ty span) = false
 is_against co (Act.reward f span) = false
 is_against co (Act.ifs arms e span) = false
@@ -160,6 +165,7 @@ binds (Act.loop h b) = true
 binds (Act.call xs q es span) = true
 binds (Act.set x t span) = false
 binds (Act.draw x qs span) = false
+binds (Act.toss x f span) = false
 binds (Act.reward f span) = false
 binds (Act.ifs arms e span) = false
 binds (Act.pick up a b span) = false
@@ -184,6 +190,7 @@ is_rankable (Act.check kind f span) = false
 is_rankable (Act.validate co span) = false
 is_rankable (Act.set x t span) = true
 is_rankable (Act.draw x qs span) = true
+is_rankable (Act.toss x f span) = true
 is_rankable (Act.any x up ty span) = true
 is_rankable (Act.reward f span) = true
 is_rankable (Act.ifs arms e span) = true
@@ -210,6 +217,7 @@ abbrev pub LoopsMeet : TypedProcedure → Act → Type 0
 LoopsMeet p (Act.loop h b) = LoopMeets p h b
 LoopsMeet p (Act.set x t span) = Unit {0}
 LoopsMeet p (Act.draw x qs span) = Unit {0}
+LoopsMeet p (Act.toss x f span) = Unit {0}
 LoopsMeet p (Act.any x up ty span) = Unit {0}
 LoopsMeet p (Act.reward f span) = Unit {0}
 LoopsMeet p (Act.ifs arms e span) = Unit {0}
@@ -224,6 +232,7 @@ loop_numbers [] = []
 loop_numbers (Act.loop h b ∷ rest) = h.number ∷ loop_numbers rest
 loop_numbers (Act.set x t span ∷ rest) = loop_numbers rest
 loop_numbers (Act.draw x qs span ∷ rest) = loop_numbers rest
+loop_numbers (Act.toss x f span ∷ rest) = loop_numbers rest
 loop_numbers (Act.any x up ty span ∷ rest) = loop_numbers rest
 loop_numbers (Act.reward f span ∷ rest) = loop_numbers rest
 loop_numbers (Act.ifs arms e span ∷ rest) = loop_numbers rest

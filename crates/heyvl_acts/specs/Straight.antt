@@ -7,6 +7,7 @@ IsStraight (Act.loop h b) = ⊥
 IsStraight (Act.call xs q es span) = ⊥
 IsStraight (Act.set x t span) = Unit {0}
 IsStraight (Act.draw x qs span) = Unit {0}
+IsStraight (Act.toss x f span) = Unit {0}
 IsStraight (Act.any x up ty span) = Unit {0}
 IsStraight (Act.reward f span) = Unit {0}
 IsStraight (Act.ifs arms e span) = Unit {0}

@@ -13,6 +13,7 @@ abbrev mutual
   pub upward_next : Act → Acts → Acts
   upward_next (Act.set x t span) rest = Acts.next (Act.set x t span) rest
   upward_next (Act.draw x ps span) rest = Acts.next (Act.draw x ps span) rest
+  upward_next (Act.toss x f span) rest = Acts.next (Act.toss x f span) rest
   upward_next (Act.any x up ty span) rest = Acts.next (Act.any x true ty span) rest
   upward_next (Act.reward f span) rest = rest
   upward_next (Act.ifs arms e span) rest = Acts.next (Act.ifs (upward_arms arms) (upward e) span) rest

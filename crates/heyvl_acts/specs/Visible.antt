@@ -54,6 +54,7 @@ SeesRank v (Some r) = Sees v r.1
 abbrev pub shown_by : Act → Visible → Visible
 shown_by (Act.set x t span) v = shown x v
 shown_by (Act.draw x qs span) v = shown x v
+shown_by (Act.toss x p span) v = shown x v
 shown_by (Act.any x up ty span) v = shown x v
 shown_by (Act.reward f span) v = v
 shown_by (Act.ifs arms e span) v = v
@@ -67,6 +68,7 @@ abbrev mutual
   pub ScopedAct : Visible → Act → Type 0
   ScopedAct v (Act.set x t span) = SeesTerm v t
   ScopedAct v (Act.draw x qs span) = SeesParts v qs
+  ScopedAct v (Act.toss x p span) = Sees v p
   ScopedAct v (Act.any x up ty span) = Unit {0}
   ScopedAct v (Act.reward f span) = Sees v f
   ScopedAct v (Act.ifs arms e span) = ScopedArms v arms × Scoped v e

@@ -2,13 +2,19 @@
 use Rattle.std.specs.Prelude.{◌≡◌, ℕ, true, false, List, [], ◌∷◌}
 use Rattle.heyvl_num.specs.Rational.{Rational, zeroʳ, ◌≤ʳ◌}
 use Rattle.heylo_formula.specs.Formula.{Form, Term}
+use Rattle.heylo_formula.specs.declared.types.Ty.{Ty}
 use Rattle.heylo_formula.specs.Binders.{has_binder}
-use Rattle.heylo_formula.specs.Typing.{Types, is_well_typed, IsFormula, TermFits}
+use Rattle.heylo_formula.specs.NumericVariables.{has_variable}
+use Rattle.heylo_formula.specs.Typing.{Types, type_of, is_finite_type, is_well_typed, IsFormula, TermFits}
 use Rattle.heyvl_acts.specs.Acts.{Act, Acts, Arms}
 
 -- A formula that an act holds has no binder.
 abbrev pub IsHeld : Types → Form → Type 0
 IsHeld types f = IsFormula types f × (has_binder f ≡ false)
+
+-- What a toss may hold: a UInt or UReal without a binder, and without a numeric variable outside conditions.
+abbrev pub IsProbability : Types → Form → Type 0
+IsProbability types f = IsHeld types f × ((is_finite_type (type_of types f) ≡ true) × (has_variable f ≡ false))
 
 -- Each part has a weight from 0 on, and fits the variable.
 abbrev pub PartsFit : Types → ℕ → List (Rational × Term) → Type 0
@@ -24,6 +30,7 @@ abbrev mutual
   pub ActFits : Types → Act → Type 0
   ActFits types (Act.set x t span) = TermFits types (types x) t
   ActFits types (Act.draw x ps span) = DrawFits types x ps
+  ActFits types (Act.toss x f span) = (types x ≡ Ty.Bool) × IsProbability types f
   ActFits types (Act.any x up ty span) = types x ≡ ty
   ActFits types (Act.reward f span) = IsHeld types f
   ActFits types (Act.ifs arms e span) = ArmsFit types arms × ActsFit types e

@@ -12,6 +12,9 @@ pub enum Act {
     Set(u32, Term, Span),
     /// The variable takes the value of one of the parts, each with its weight. Weights are from 0 on and add up to 1.
     Draw(u32, Vec<(Frac, Term)>, Span),
+    /// The variable, a Bool, becomes true with the smaller of the formula's value and 1, and false with the rest. The formula is
+    /// a UInt or UReal without binders, and without a numeric variable outside conditions.
+    Toss(u32, Form, Span),
     /// The variable takes any value of its type: whether upward (the greatest outcome counts), and that type.
     Any(u32, bool, Ty, Span),
     /// The formula's value is collected.

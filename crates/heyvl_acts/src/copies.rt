@@ -18,6 +18,7 @@ impl Act {
         match self {
             Act::Set(x, term, span) => Ok(Act::Set(*x, term.copy(alloc)?, *span)),
             Act::Draw(x, parts, span) => Ok(Act::Draw(*x, copy_parts(alloc, parts)?, *span)),
+            Act::Toss(x, form, span) => Ok(Act::Toss(*x, form.copy(alloc)?, *span)),
             Act::Any(x, up, ty, span) => Ok(Act::Any(*x, *up, *ty, *span)),
             Act::Reward(form, span) => Ok(Act::Reward(form.copy(alloc)?, *span)),
             Act::If(arms, other, span) => {

@@ -54,6 +54,7 @@ fn count_of_act(act: &Act) -> usize
     match act {
         Act::Set(_, _, _) => 1,
         Act::Draw(_, _, _) => 1,
+        Act::Toss(_, _, _) => 1,
         Act::Any(_, _, _, _) => 1,
         Act::Reward(_, _) => 1,
         Act::If(arms, other, _) => {

@@ -7,6 +7,7 @@ ghost use Rattle.heyvl_acts.specs.Matching as matching;
 pub fn forward_meaning_matches_runs()
     ensures join { matching.ActsJoin }
     ensures draws { matching.DrawsMatch }
+    ensures tosses { matching.TossesMatch }
     ensures rewards { matching.RewardsMatch }
     ensures branches { matching.BranchesMatch }
     ensures anys { matching.AnysMatch }

@@ -28,6 +28,7 @@ fn is_target_of_act(x: u32, act: &Act) -> bool
     match act {
         Act::Set(y, _, _) => *y == x,
         Act::Draw(y, _, _) => *y == x,
+        Act::Toss(y, _, _) => *y == x,
         Act::Any(y, _, _, _) => *y == x,
         Act::Reward(_, _) => false,
         Act::If(arms, other, _) => {

@@ -23,6 +23,9 @@ set_act x t span = ap act_of (sym (A.TheVariants.rolls-Set x t span)) ∙ fold-r
 pub draw_act : (x : ℕ) (ps : Vec (Rational × T.Term) Global) (span : Span) → act_of (A.Draw x ps span) ≡ Act.draw x (parts_of ps.items) span
 draw_act x ps span = ap act_of (sym (A.TheVariants.rolls-Draw x ps span)) ∙ fold-roll-Act _ _ _ _ _
 
+pub toss_act : (x : ℕ) (f : F.Form) (span : Span) → act_of (A.Toss x f span) ≡ Act.toss x (form_of f) span
+toss_act x f span = ap act_of (sym (A.TheVariants.rolls-Toss x f span)) ∙ fold-roll-Act _ _ _ _ _
+
 pub any_act : (x : ℕ) (up : Bool) (ty : Ty) (span : Span) → act_of (A.Any x up ty span) ≡ Act.any x up ty span
 any_act x up ty span = ap act_of (sym (A.TheVariants.rolls-Any x up ty span)) ∙ fold-roll-Act _ _ _ _ _
 

@@ -1,4 +1,4 @@
-use Rattle.heyvl_acts.proofs.Matching.{joined, draws, rewards, branches, anys, picks, checks}
+use Rattle.heyvl_acts.proofs.Matching.{joined, draws, tosses, rewards, branches, anys, picks, checks}
 use Rattle.heyvl_acts.proofs.laws.forward_meaning_matches_runs.Goals as goal
 
 pub returns-clause-join : goal.returns-clause-join
@@ -6,6 +6,9 @@ returns-clause-join c = joined
 
 pub returns-clause-draws : goal.returns-clause-draws
 returns-clause-draws c = draws
+
+pub returns-clause-tosses : goal.returns-clause-tosses
+returns-clause-tosses c = tosses
 
 pub returns-clause-rewards : goal.returns-clause-rewards
 returns-clause-rewards c = rewards
