@@ -3,9 +3,10 @@ use Rattle.std.proofs.Common.{◌≡◌, ℕ, refl, sym, ap, ap₂, ◌∙◌, s
 use Rattle.heyvl_num.specs.Rational.{Rational}
 use Rattle.heyvl_places.specs.declared.spans.Span.{Span}
 use Rattle.heyvl_places.specs.declared.checks.CheckKind.{CheckKind}
-use Rattle.heylo_formula.specs.Formula.{Form, Term}
+use Rattle.heylo_formula.specs.Formula.{Form, Cond, Term}
+use Rattle.heyvl_num.specs.Value.{oneᵛ}
 use Rattle.heylo_formula.specs.Binders.{has_binder, has_binder_in}
-use Rattle.heylo_formula.specs.Extrema.{is_directed}
+use Rattle.heylo_formula.specs.Extrema.{is_directed, is_weight, is_number}
 use Rattle.heylo_formula.specs.Operators.{agree}
 use Rattle.heylo_formula.specs.Typing.{Types, is_well_typed, TermFits}
 use Rattle.heylo_formula.specs.Substitution as Replaced
@@ -73,6 +74,7 @@ mutual
   no_act types (Act.set x t span) k h b i e = no_term types x t k h e
   no_act types (Act.draw x [] span) k h b i e = absurd h
   no_act types (Act.draw x (p ∷ ps) span) k h b i e = no_parts types x ps k (part_form x p k) h.1 e (no_term types x p.1 k h.0.1 e)
+  no_act types (Act.toss x f span) k h b i e = neither (neither (neither h.1.0.1 refl) (no_term types x (Term.truth (Cond.constant true)) k (h.0, refl) e)) (neither (neither refl (neither h.1.0.1 refl)) (no_term types x (Term.truth (Cond.constant false)) k (h.0, refl) e))
   no_act types (Act.any x up ty span) k h b i e = absurd (cc)
   no_act types (Act.reward f span) k h b i e = neither e h.1
   no_act types (Act.ifs arms o span) k h b i e = let l = binds_append (inside_arms arms) (in_order o) i in no_arms types arms k (vp o k) h.0 l.0 e (no_acts types o k h.1 l.1 e)
@@ -98,7 +100,18 @@ mutual
 -- ---- Directions
 
 toward_term : (co : Bool) (types : Types) (x : ℕ) (t : Term) (k : Form) → TermFits types (types x) t → is_directed co k ≡ true → is_directed co (Replaced.subst x t k) ≡ true
-toward_term co types x t k h i = subst_directions co x t k (term_plain types (types x) t h) ∙ i
+toward_term co types x t k h i = subst_directions co x t k (term_plain types (types x) t h) i
+
+one_number : is_number (Form.number oneᵛ) ≡ true
+unfolding oneᵛ
+one_number = refl
+
+toward_weighed : (co : Bool) (a b : Form) (span : Span) → is_weight a ≡ true → is_directed co b ≡ true → is_directed co (Form.product a b span) ≡ true
+toward_weighed co a b span w d = go (not (has_binder (Form.product a b span)))
+  where
+    go : (x : Bool) → (x || (is_weight a && is_directed co b)) ≡ true
+    go true = refl
+    go false = both _ _ w d
 
 toward_parts : (co : Bool) (types : Types) (x : ℕ) (ps : List (Rational × Term)) (k total : Form) → PartsFit types x ps → is_directed co k ≡ true → is_directed co total ≡ true → is_directed co (sum_of_parts x ps k total) ≡ true
 toward_parts co types x [] k total h i j = j
@@ -136,6 +149,7 @@ mutual
   toward_act co s types (Act.set x t span) k v h g t1 e n d = toward_term co types x t k h d
   toward_act co s types (Act.draw x [] span) k v h g t1 e n d = absurd h
   toward_act co s types (Act.draw x (p ∷ ps) span) k v h g t1 e n d = toward_parts co types x ps k (part_form x p k) h.1 d (toward_term co types x p.1 k h.0.1 d)
+  toward_act co s types (Act.toss x f span) k v h g t1 e n d = both _ _ (toward_weighed co (Form.min f (Form.number oneᵛ)) (Replaced.subst x (Term.truth (Cond.constant true)) k) span (both _ _ (no _ h.1.0.1) one_number) (toward_term co types x (Term.truth (Cond.constant true)) k (h.0, refl) d)) (toward_weighed co (Form.cut (Form.number oneᵛ) (Form.min f (Form.number oneᵛ))) (Replaced.subst x (Term.truth (Cond.constant false)) k) span (both _ _ one_number (no _ (neither h.1.0.1 refl))) (toward_term co types x (Term.truth (Cond.constant false)) k (h.0, refl) d))
   toward_act co s types (Act.any x up ty span) k v h g t1 e n d = both _ _ (agrees co up t1) d
   toward_act co s types (Act.reward f span) k v h g t1 e n d = both _ _ d (binder_free_directed co f h.1)
   toward_act co s types (Act.ifs arms o span) k v h g t1 e n d =
@@ -175,6 +189,7 @@ chooses : (ps : List TypedProcedure) (p : TypedProcedure) (a : Act) → FollowsD
 chooses ps p (Act.any x up ty span) h = h
 chooses ps p (Act.set x t span) h = tt
 chooses ps p (Act.draw x qs span) h = tt
+chooses ps p (Act.toss x f span) h = tt
 chooses ps p (Act.reward f span) h = tt
 chooses ps p (Act.ifs arms e span) h = tt
 chooses ps p (Act.pick up a b span) h = tt

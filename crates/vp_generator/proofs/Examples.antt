@@ -1,13 +1,21 @@
 -- Rows worked by hand: what each act gives, acts that put a term into what another one gives, and numbers of binders.
-use Rattle.std.proofs.Common.{◌≡◌, refl, true, false, [], ◌∷◌, Bool}
-use Rattle.heyvl_num.specs.Rational.{Rational}
+use Rattle.std.proofs.Common.{◌≡◌, ℕ, refl, true, false, [], ◌∷◌, Bool}
+use Rattle.std.specs.Prelude.{pos, Option, Some, None, ℤ}
+use Rattle.heyvl_num.specs.Gcd.{gcd, gcd_steps}
+use Rattle.heyvl_num.specs.Rational.{Rational, ratio, zeroʳ, oneʳ, ◌+ʳ◌, ◌-ʳ◌, ◌*ʳ◌, negʳ, leqʳ}
+use Rattle.heyvl_num.specs.Value.{Value, zeroᵛ, oneᵛ, ◌+ᵛ◌, ◌*ᵛ◌, infinite_times, is_zeroʳ, leqᵛ}
+use Rattle.heyvl_num.specs.Value.Value.{finite, infinite}
+use Rattle.heyvl_num.specs.ValueOperators.{minᵛ, monusᵛ}
 use Rattle.heyvl_places.specs.declared.spans.Span.{Span}
 use Rattle.heyvl_places.specs.declared.checks.CheckKind.{CheckKind}
 use Rattle.heylo_formula.specs.BinderNames.{binders}
+use Rattle.heylo_formula.specs.Choices.{Choices}
 use Rattle.heylo_formula.specs.Formula.{Form, Cond, Term}
+use Rattle.heylo_formula.specs.Meaning.{value}
 use Rattle.heylo_formula.specs.Sizes.{nodes, depth}
 use Rattle.heylo_formula.specs.Substitution as Replaced
 use Rattle.heylo_formula.specs.declared.types.Ty.{Ty}
+use Rattle.heylo_formula.specs.declared.values.Val.TheVariants.{Truth}
 use Rattle.heyvl_acts.specs.Acts.{Act, Acts, Arms}
 use Rattle.vp_generator.specs.Generated.{vp}
 use Rattle.vp_generator.specs.Prenexed.{prenexed}
@@ -53,6 +61,35 @@ set_row = refl
 draw_row : (p q r : Rational) → vp (one (Act.draw 0 ((p, Term.number (Form.variable 3)) ∷ (q, Term.number (Form.variable 4)) ∷ (r, Term.number (Form.variable 5)) ∷ []) nowhere)) (Form.variable 0) ≡ Form.sum (Form.sum (Form.scale p (Form.variable 3)) (Form.scale q (Form.variable 4))) (Form.scale r (Form.variable 5))
 unfolding Replaced.subst
 draw_row p q r = refl
+
+-- The weight stands in both products, which have the toss's place.
+toss_row : (p : Form) (span : Span) → vp (one (Act.toss 0 p span)) (Form.iverson (Cond.flag 0)) ≡ Form.sum (Form.product (Form.min p (Form.number oneᵛ)) (Form.iverson (Cond.constant true)) span) (Form.product (Form.cut (Form.number oneᵛ) (Form.min p (Form.number oneᵛ))) (Form.iverson (Cond.constant false)) span)
+unfolding Replaced.subst
+toss_row p span = refl
+
+-- A toss of one number where the Bool holds and of another where not: true counts 1, false 4.
+abbrev whole : ℕ → Form
+whole n = Form.number (finite (ratio (pos n) 1))
+
+abbrev by_flag : Form → Form → Form
+by_flag a b = Form.select (Cond.flag 0) a b
+
+tossed : Form → Form → Bool → Option (ℤ × ℕ)
+tossed a b t = parts (value (vp (one (Act.toss 0 (by_flag a b) nowhere)) (by_flag (whole 1) (whole 4))) (λ x. Truth t) Choices.stop)
+  where
+    parts : Value → Option (ℤ × ℕ)
+    parts (finite q) = Some (q.num, q.den)
+    parts infinite = None
+
+-- 1/3 and 2, and then 1 and 0.
+toss_values : (tossed (Form.number (finite (ratio (pos 1) 3))) (whole 2) true ≡ Some (pos 3, 1)) × (tossed (Form.number (finite (ratio (pos 1) 3))) (whole 2) false ≡ Some (pos 1, 1)) × (tossed (whole 1) (whole 0) true ≡ Some (pos 1, 1)) × (tossed (whole 1) (whole 0) false ≡ Some (pos 4, 1))
+unfolding tossed Replaced.subst ratio gcd gcd_steps ◌+ʳ◌ ◌-ʳ◌ ◌*ʳ◌ negʳ leqʳ leqᵛ minᵛ monusᵛ ◌+ᵛ◌ ◌*ᵛ◌ infinite_times is_zeroʳ zeroʳ oneʳ zeroᵛ oneᵛ
+toss_values = (refl, refl, refl, refl)
+
+-- Each side has binders of its own.
+toss_binders : binders (vp (both (Act.toss 0 (Form.iverson (Cond.flag 2)) nowhere) (Act.any 1 true Ty.Bool nowhere)) same_values) ≡ (1, Ty.Bool) ∷ (1, Ty.Bool) ∷ []
+unfolding Replaced.subst
+toss_binders = refl
 
 any_rows : (k : Form) → (vp (one (Act.any 4 true Ty.UInt nowhere)) k ≡ Form.bind true 4 4 Ty.UInt k) × (vp (one (Act.any 4 false Ty.Int nowhere)) k ≡ Form.bind false 4 4 Ty.Int k)
 any_rows k = (refl, refl)

@@ -1,6 +1,8 @@
 -- The binders of a generated form have the names of variables that acts give any value, or of the post's binders.
 use Rattle.std.proofs.Common.{◌≡◌, ℕ, refl, sym, ap₂, subst, Bool, true, false, ◌||◌, List, [], ◌∷◌, ◌++◌}
 use Rattle.heyvl_num.specs.Rational.{Rational}
+use Rattle.heyvl_num.specs.Value.{oneᵛ}
+use Rattle.heyvl_places.specs.declared.spans.Span.{Span}
 use Rattle.heyvl_places.specs.declared.checks.CheckKind.{CheckKind}
 use Rattle.heylo_formula.specs.Formula.{Form, Cond, Term}
 use Rattle.heylo_formula.specs.Binders.{has_binder, has_binder_in}
@@ -9,7 +11,7 @@ use Rattle.heylo_formula.specs.Typing.{Types, TermFits}
 use Rattle.heylo_formula.specs.declared.types.Ty.{Ty}
 use Rattle.heylo_formula.proofs.exported.Agreement.{or_false}
 use Rattle.heyvl_acts.specs.Acts.{Act, Acts, Arms}
-use Rattle.vp_generator.specs.Generated.{pick_form, check_form, validate_form, part_form, sum_of_parts, vp, vp_act, vp_arms}
+use Rattle.vp_generator.specs.Generated.{pick_form, check_form, validate_form, part_form, sum_of_parts, toss_form, vp, vp_act, vp_arms}
 use Rattle.heyvl_acts.specs.WellTyped.{PartsFit, ActFits, ActsFit, ArmsFit}
 use Rattle.heylo_formula.specs.BinderNames.{Binder, binders, binders_in}
 use Rattle.vp_generator.specs.Scopes.{AreNamed, AnyIsBelow, AnysAreBelow, AnysAreBelow_in}
@@ -44,11 +46,20 @@ named_validate : (n : ℕ) (co : Bool) (a : Form) → AreNamed n (binders a) →
 named_validate n true a h = h
 named_validate n false a h = h
 
+named_toss : (n : ℕ) (types : Types) (x : ℕ) (f : Form) (span : Span) (k : Form) → types x ≡ Ty.Bool → binders f ≡ [] → AreNamed n (binders k) → AreNamed n (binders (toss_form x f span k))
+named_toss n types x f span k t u i =
+    let w = named_both n (binders f) [] (named_none n (binders f) u) tt in
+    let side = λ (b : Bool). named_subst n types x (Term.truth (Cond.constant b)) k (t, refl) i in
+    named_both n (binders (Form.product (Form.min f (Form.number oneᵛ)) (Replaced.subst x (Term.truth (Cond.constant true)) k) span)) (binders (Form.product (Form.cut (Form.number oneᵛ) (Form.min f (Form.number oneᵛ))) (Replaced.subst x (Term.truth (Cond.constant false)) k) span))
+    (named_both n (binders f ++ []) (binders (Replaced.subst x (Term.truth (Cond.constant true)) k)) w (side true))
+    (named_both n (binders f ++ []) (binders (Replaced.subst x (Term.truth (Cond.constant false)) k)) w (side false))
+
 mutual
   named_act : (n : ℕ) (types : Types) (a : Act) (k : Form) → ActFits types a → AnyIsBelow n a → AreNamed n (binders k) → AreNamed n (binders (vp_act a k))
   named_act n types (Act.set x t span) k h b i = named_subst n types x t k h i
   named_act n types (Act.draw x [] span) k h b i = tt
   named_act n types (Act.draw x (p ∷ ps) span) k h b i = named_parts n types x ps k (part_form x p k) h.1 i (named_subst n types x p.1 k h.0.1 i)
+  named_act n types (Act.toss x f span) k h b i = named_toss n types x f span k h.0 (unnamed f h.1.0.1) i
   named_act n types (Act.any x up ty span) k h b i = (b, i)
   named_act n types (Act.reward f span) k h b i = named_both n (binders k) (binders f) i (named_none n (binders f) (unnamed f h.1))
   named_act n types (Act.ifs arms e span) k h b i = named_arms n types arms k (vp e k) h.0 b.0 i (named_acts n types e k h.1 b.1 i)

@@ -1,13 +1,16 @@
 -- The free variables of the generated form are those of the acts and of the post.
 use Rattle.std.proofs.Common.{◌≡◌, ℕ, ◌<◌, Bool, true, false, cond, ◌==◌, List, [], ◌∷◌}
 use Rattle.heyvl_num.specs.Rational.{Rational}
+use Rattle.heyvl_num.specs.Value.{Value, oneᵛ}
+use Rattle.heyvl_places.specs.declared.spans.Span.{Span}
 use Rattle.heyvl_places.specs.declared.checks.CheckKind.{CheckKind}
-use Rattle.heylo_formula.specs.Formula.{Form, Term}
+use Rattle.heylo_formula.specs.Formula.{Form, Cond, Term}
+use Rattle.heylo_formula.specs.Substitution.{subst}
 use Rattle.heylo_formula.specs.Variables.{is_free, IsOver}
 use Rattle.heylo_formula.specs.declared.types.Ty.{Ty}
 use Rattle.heylo_formula.proofs.exported.Substitutions.{subst_over}
 use Rattle.heyvl_acts.specs.Acts.{Act, Acts, Arms}
-use Rattle.vp_generator.specs.Generated.{pick_form, check_form, validate_form, part_form, sum_of_parts, vp, vp_act, vp_arms}
+use Rattle.vp_generator.specs.Generated.{pick_form, check_form, validate_form, part_form, sum_of_parts, toss_form, vp, vp_act, vp_arms}
 use Rattle.vp_generator.specs.Over.{PartsAreOver, ActIsOver, ActsAreOver, ArmsAreOver}
 use Rattle.vp_generator.proofs.PrenexedOver.{two}
 
@@ -32,6 +35,19 @@ over_validate : (n : ℕ) (co : Bool) (a : Form) → IsOver n a → IsOver n (va
 over_validate n true a h = h
 over_validate n false a h = h
 
+over_number : (n : ℕ) (v : Value) → IsOver n (Form.number v)
+over_number n v = λ y j. absurd (cc)
+
+-- both products of a toss, over the formula and what follows
+over_toss : (n x : ℕ) (f : Form) (span : Span) (k : Form) → IsOver n f → IsOver n k → IsOver n (toss_form x f span k)
+over_toss n x f span k h i =
+    let one = Form.number oneᵛ in
+    let w : IsOver n (Form.min f one) = over_sum n f one h (over_number n oneᵛ) in
+    let side = λ (b : Bool). subst_over n x (Term.truth (Cond.constant b)) k i (λ y j. absurd (cc)) in
+    over_sum n (Form.product (Form.min f one) (subst x (Term.truth (Cond.constant true)) k) span) (Form.product (Form.cut one (Form.min f one)) (subst x (Term.truth (Cond.constant false)) k) span)
+    (over_sum n (Form.min f one) (subst x (Term.truth (Cond.constant true)) k) w (side true))
+    (over_sum n (Form.cut one (Form.min f one)) (subst x (Term.truth (Cond.constant false)) k) (over_sum n one (Form.min f one) (over_number n oneᵛ) w) (side false))
+
 free_under : (b free : Bool) → cond b false free ≡ true → free ≡ true
 free_under true free h = absurd (cc)
 free_under false free h = h
@@ -41,6 +57,7 @@ mutual
   over_act n (Act.set x t span) k h i = subst_over n x t k i h
   over_act n (Act.draw x [] span) k h i = λ y j. absurd (cc)
   over_act n (Act.draw x (p ∷ ps) span) k h i = over_parts n x ps k (part_form x p k) h.1 i (subst_over n x p.1 k i h.0)
+  over_act n (Act.toss x f span) k h i = over_toss n x f span k h i
   over_act n (Act.any x up ty span) k h i = λ y j. i y (free_under (y == x) (is_free y k) j)
   over_act n (Act.reward f span) k h i = over_sum n k f i h
   over_act n (Act.ifs arms e span) k h i = over_arms n arms k (vp e k) h.0 i (over_acts n e k h.1 i)

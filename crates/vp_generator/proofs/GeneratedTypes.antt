@@ -2,10 +2,11 @@
 use Rattle.std.proofs.Common.{◌≡◌, ℕ, refl, sym, ap, ◌∙◌, subst, arith, Bool, true, false, cond, ◌==◌, ◌&&◌, List, [], ◌∷◌}
 use Rattle.std.specs.Prelude.{Option, Some, None}
 use mathlib.Core.Path.{fun_ext}
-use Rattle.heyvl_num.specs.Rational.{Rational, zeroʳ, leqʳ, ◌≤ʳ◌}
+use Rattle.heyvl_num.specs.Rational.{Rational, ratio, zeroʳ, oneʳ, leqʳ, ◌≤ʳ◌}
 use Rattle.heyvl_places.specs.declared.checks.CheckKind.{CheckKind}
-use Rattle.heylo_formula.specs.Formula.{Form, Term}
-use Rattle.heylo_formula.specs.Typing.{NumberType, Types, type_of, is_unsigned, only_if, scale_type, is_well_typed, retyped, IsFormula, TermFits}
+use Rattle.heylo_formula.specs.Formula.{Form, Cond, Term}
+use Rattle.heyvl_num.specs.Value.{oneᵛ}
+use Rattle.heylo_formula.specs.Typing.{NumberType, Types, type_of, is_unsigned, is_finite_type, joined, cut_type, only_if, scale_type, is_well_typed, retyped, IsFormula, TermFits}
 use Rattle.heylo_formula.specs.declared.types.Ty.{Ty}
 use Rattle.heylo_formula.proofs.exported.Substitutions.{subst_formula}
 use Rattle.heyvl_acts.specs.Acts.{Act, Acts, Arms}
@@ -26,6 +27,17 @@ scaled (Some NumberType.uint) h = refl
 scaled (Some NumberType.ureal) h = refl
 scaled (Some NumberType.eureal) h = refl
 scaled None h = absurd (cc)
+
+one_type : (types : Types) → type_of types (Form.number oneᵛ) ≡ Some NumberType.uint
+unfolding oneᵛ oneʳ zeroʳ leqʳ ratio
+one_type types = refl
+
+rest_type : (t : Option NumberType) → is_unsigned t ≡ true → is_finite_type t ≡ true → is_unsigned (cut_type (joined (Some NumberType.uint) (joined t (Some NumberType.uint)))) ≡ true
+rest_type (Some NumberType.int) h k = absurd (cc)
+rest_type (Some NumberType.uint) h k = refl
+rest_type (Some NumberType.ureal) h k = refl
+rest_type (Some NumberType.eureal) h k = absurd (cc)
+rest_type None h k = absurd (cc)
 
 retyped_same : (x : ℕ) (ty : Ty) (types : Types) → types x ≡ ty → retyped x ty types ≡ types
 retyped_same x ty types e = fun_ext (λ y. go y (x == y) refl)
@@ -60,6 +72,7 @@ mutual
   act_type types (Act.set x t span) k h f = subst_formula types x t k h f
   act_type types (Act.draw x [] span) k h f = absurd h
   act_type types (Act.draw x (p ∷ ps) span) k h f = parts_type types x ps k (part_form x p k) h.1 f (part_type types x p k h.0.0 h.0.1 f)
+  act_type types (Act.toss x g span) k h f = joins _ _ (joins _ _ (joins _ _ h.1.0.0 (ap is_unsigned (one_type types))) (subst_formula types x (Term.truth (Cond.constant true)) k (h.0, refl) f)) (joins _ _ (subst (λ u. is_unsigned (cut_type (joined u (joined (type_of types g) u))) ≡ true) (sym (one_type types)) (rest_type (type_of types g) h.1.0.0 h.1.1.0)) (subst_formula types x (Term.truth (Cond.constant false)) k (h.0, refl) f))
   act_type types (Act.any x up ty span) k h f = only _ _ (subst (λ m. is_unsigned (type_of m k) ≡ true) (sym (retyped_same x ty types h)) f) refl
   act_type types (Act.reward r span) k h f = joins _ _ f h.0
   act_type types (Act.ifs arms e span) k h f = arms_type types arms k (vp e k) h.0 f (acts_type types e k h.1 f)

@@ -33,6 +33,7 @@ mutual
   grow_act types (Act.set x t span) k h = grow_subst x t k
   grow_act types (Act.draw x [] span) k h = absurd h
   grow_act types (Act.draw x (p ∷ ps) span) k h = grow_parts x ps k (part_form x p k) (let g = grow_subst x p.1 k in omega arith)
+  grow_act types (Act.toss x f span) k h = let g = grow_subst x (Term.truth (Cond.constant true)) k in omega (arith, g)
   grow_act types (Act.any x up ty span) k h = omega arith
   grow_act types (Act.reward f span) k h = omega arith
   grow_act types (Act.ifs arms e span) k h = grow_arms arms k (vp e k) (grow_acts types e k h.1)
@@ -83,6 +84,7 @@ mutual
   deepen_act types (Act.set x t span) k h = deepen_subst x t k
   deepen_act types (Act.draw x [] span) k h = absurd h
   deepen_act types (Act.draw x (p ∷ ps) span) k h = deepen_parts x ps k (part_form x p k) (let g = deepen_subst x p.1 k in omega arith)
+  deepen_act types (Act.toss x f span) k h = let g = deepen_subst x (Term.truth (Cond.constant true)) k in omega (arith, g)
   deepen_act types (Act.any x up ty span) k h = omega arith
   deepen_act types (Act.reward f span) k h = omega arith
   deepen_act types (Act.ifs arms e span) k h = deepen_arms arms k (vp e k) (deepen_acts types e k h.1)

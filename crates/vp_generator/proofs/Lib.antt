@@ -2,6 +2,7 @@ mod GeneratedValues
 mod GeneratedTypes
 mod PrenexedValues
 mod PrenexedGoals
+mod FailingGoals
 mod Growth
 mod PrenexedTypes
 mod Examples

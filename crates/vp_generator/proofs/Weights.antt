@@ -11,6 +11,7 @@ abbrev mutual
   pub weight : Act → ℕ
   weight (Act.set x t span) = 1
   weight (Act.draw x ps span) = 1
+  weight (Act.toss x f span) = 1
   weight (Act.any x up ty span) = 1
   weight (Act.reward f span) = 1
   weight (Act.ifs arms e span) = 8 + (weight_of_arms arms + weight_of e)

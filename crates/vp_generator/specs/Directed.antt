@@ -17,6 +17,7 @@ abbrev pub ChoosesToward : Bool → Act → Type 0
 ChoosesToward co (Act.any x up ty span) = up ≡ co
 ChoosesToward co (Act.set x t span) = Unit {0}
 ChoosesToward co (Act.draw x ps span) = Unit {0}
+ChoosesToward co (Act.toss x f span) = Unit {0}
 ChoosesToward co (Act.reward f span) = Unit {0}
 ChoosesToward co (Act.ifs arms e span) = Unit {0}
 ChoosesToward co (Act.pick up a b span) = Unit {0}

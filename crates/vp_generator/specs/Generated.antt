@@ -3,9 +3,10 @@
 -- Source: vp of HeyVL (Schroeer, Batz, Kaminski, Katoen, Matheja, OOPSLA 2023).
 use Rattle.std.specs.Prelude.{ℕ, Bool, true, false, List, [], ◌∷◌}
 use Rattle.heyvl_num.specs.Rational.{Rational}
-use Rattle.heyvl_num.specs.Value.{zeroᵛ}
+use Rattle.heyvl_num.specs.Value.{zeroᵛ, oneᵛ}
 use Rattle.heyvl_places.specs.declared.checks.CheckKind.{CheckKind}
-use Rattle.heylo_formula.specs.Formula.{Form, Term}
+use Rattle.heylo_formula.specs.Formula.{Form, Cond, Term}
+use Rattle.heyvl_places.specs.declared.spans.Span.{Span}
 use Rattle.heylo_formula.specs.Substitution.{subst}
 use Rattle.heyvl_acts.specs.Acts.{Act, Acts, Arms}
 
@@ -34,10 +35,15 @@ abbrev pub draw_form : ℕ → List (Rational × Term) → Form → Form
 draw_form x [] k = Form.number zeroᵛ
 draw_form x (p ∷ ps) k = sum_of_parts x ps k (part_form x p k)
 
+-- The smaller of a probability and 1, times what follows where the variable is true; and the rest times what follows where it is false.
+abbrev pub toss_form : ℕ → Form → Span → Form → Form
+toss_form x f span k = Form.sum (Form.product (Form.min f (Form.number oneᵛ)) (subst x (Term.truth (Cond.constant true)) k) span) (Form.product (Form.cut (Form.number oneᵛ) (Form.min f (Form.number oneᵛ))) (subst x (Term.truth (Cond.constant false)) k) span)
+
 abbrev mutual
   pub vp_act : Act → Form → Form
   vp_act (Act.set x t span) k = subst x t k
   vp_act (Act.draw x ps span) k = draw_form x ps k
+  vp_act (Act.toss x f span) k = toss_form x f span k
   vp_act (Act.any x up ty span) k = Form.bind up x x ty k
   vp_act (Act.reward f span) k = Form.sum k f
   vp_act (Act.ifs arms e span) k = vp_arms arms k (vp e k)

@@ -18,6 +18,7 @@ abbrev mutual
   pub ActIsOver : ℕ → Act → Type 0
   ActIsOver n (Act.set x t span) = TermIsOver n t
   ActIsOver n (Act.draw x ps span) = PartsAreOver n ps
+  ActIsOver n (Act.toss x f span) = IsOver n f
   ActIsOver n (Act.any x up ty span) = Unit {0}
   ActIsOver n (Act.reward f span) = IsOver n f
   ActIsOver n (Act.ifs arms e span) = ArmsAreOver n arms × ActsAreOver n e

@@ -1,12 +1,12 @@
 -- Inequalities over choice trees, and the goals without binders that say the same. This project's own.
-use Rattle.std.specs.Prelude.{◌≡◌, ◌↔◌, ◌+◌, ◌<◌, ℕ, Bool, false, List, ◌++◌, length, map}
+use Rattle.std.specs.Prelude.{◌≡◌, ◌↔◌, ◌+◌, ◌<◌, ℕ, Bool, false, List, ◌++◌, length, map, take}
 use Rattle.heylo_formula.specs.Formula.{Form}
 use Rattle.heylo_formula.specs.State.{environment, IsTyped}
 use Rattle.heylo_formula.specs.Choices.{Choices}
 use Rattle.heylo_formula.specs.Meaning.{value}
 use Rattle.heylo_formula.specs.Binders.{has_binder}
 use Rattle.heylo_formula.specs.BinderNames.{binders}
-use Rattle.heylo_formula.specs.Goals.{Goal, Compares, Holds, goal_of}
+use Rattle.heylo_formula.specs.Goals.{Goal, Compares, Holds, HoldsIn, goal_of}
 use Rattle.heylo_formula.specs.Sizes.{nodes, depth}
 use Rattle.heylo_formula.specs.TypedGoals.{IsGoal}
 use Rattle.heylo_formula.specs.Typing.{types_in, IsFormula}
@@ -30,6 +30,16 @@ prenexed_goal up tys names stated found = record { upper = up; stated = stated; 
 -- The goal holds exactly where the inequality holds in each state and for all choices.
 abbrev pub PrenexedGoalsSpeakOfChoices : Type 0
 PrenexedGoalsSpeakOfChoices = (up : Bool) (tys : List Ty) (names : List (List ℕ)) (stated found : Form) → IsOver (length tys) stated → IsOver (length tys) found → HoldsByChoices up tys stated found ↔ Holds (prenexed_goal up tys names stated found)
+
+-- The inequality fails in a state, for some choices.
+pub record FailsByChoices (up : Bool) (tys : List Ty) (stated found : Form) (s : List Val) : Type 0 where
+  pub choices : Choices
+  pub state : IsTyped tys s
+  pub fails : Compares up (value stated (environment s) Choices.stop) (value found (environment s) choices) → ⊥
+
+-- Where the goal fails in a state of its variables, the inequality fails in the state of the own ones, for some choices.
+abbrev pub PrenexedGoalsFailByChoices : Type 0
+PrenexedGoalsFailByChoices = (up : Bool) (tys : List Ty) (names : List (List ℕ)) (stated found : Form) → IsOver (length tys) stated → IsOver (length tys) found → (s : List Val) → IsTyped (tys ++ new_types (binders found)) s → (HoldsIn (prenexed_goal up tys names stated found) (environment s) → ⊥) → FailsByChoices up tys stated found (take (length tys) s)
 
 -- Two formulas over the own variables make a goal, where only the found one may have binders, and each variable has a name.
 abbrev pub PrenexedGoalsAreGoals : Type 0

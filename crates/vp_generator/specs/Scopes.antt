@@ -27,6 +27,7 @@ abbrev mutual
   pub AnyIsBelow : ℕ → Act → Type 0
   AnyIsBelow n (Act.set x t span) = Unit {0}
   AnyIsBelow n (Act.draw x ps span) = Unit {0}
+  AnyIsBelow n (Act.toss x f span) = Unit {0}
   AnyIsBelow n (Act.any x up ty span) = x < n
   AnyIsBelow n (Act.reward f span) = Unit {0}
   AnyIsBelow n (Act.ifs arms e span) = AnysAreBelow_in n arms × AnysAreBelow n e

@@ -13,6 +13,7 @@ ghost use Rattle.vp_generator.specs.Answers.{IsAnswer};
 use crate::draws::drawn;
 use crate::nodes_of_acts::{added, bound, checked, picked, put, selected, small, validated};
 use crate::stops::VpStop;
+use crate::tosses::tossed;
 use heylo_formula::{Cond, Form};
 use heyvl_acts::Act;
 use std::alloc::Global;
@@ -55,6 +56,7 @@ fn over_act(alloc: Global, act: &Act, form: Form) -> Result<Form, VpStop>
     match act {
         Act::Set(x, t, _) => put(alloc, &form, *x, t),
         Act::Draw(x, parts, _) => drawn(alloc, *x, parts, &form),
+        Act::Toss(x, weight, span) => tossed(alloc, *x, weight, *span, &form),
         Act::Any(x, up, ty, _) => bound(alloc, *up, *x, *ty, form),
         Act::Reward(f, _) => with_reward(alloc, f, form),
         Act::If(arms, otherwise, _) => over_if(alloc, arms, otherwise, &form),

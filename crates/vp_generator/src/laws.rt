@@ -31,8 +31,10 @@ pub fn prenexed_form_means_choices()
     ensures plain { prenex.PrenexedFormHasNoBinder }
 {}
 
-/// A goal whose found form is prenexed holds exactly where the inequality holds for all choices.
+/// A goal whose found form is prenexed holds exactly where the inequality holds for all choices; in a state in which it fails, the
+/// inequality fails for some.
 pub fn prenexed_goals_speak_of_choices()
     ensures holds { goals.PrenexedGoalsSpeakOfChoices }
     ensures goals { goals.PrenexedGoalsAreGoals }
+    ensures failing { goals.PrenexedGoalsFailByChoices }
 {}

@@ -10,6 +10,7 @@ mod nodes_of_acts;
 mod numbering;
 mod prenexed;
 mod stops;
+mod tosses;
 
 pub use generation::vp;
 pub use goals::goal_of_forms;
