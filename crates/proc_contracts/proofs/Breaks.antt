@@ -22,6 +22,7 @@ both : (co : Bool) (xs ys : List Act) → first_break co (xs ++ ys) ≡ or_else 
 both co [] ys = refl
 both co (Act.set x t span ∷ rest) ys = both co rest ys
 both co (Act.draw x ps span ∷ rest) ys = both co rest ys
+both co (Act.toss x f span ∷ rest) ys = both co rest ys
 both co (Act.any x up ty span ∷ rest) ys = both co rest ys
 both co (Act.reward f span ∷ rest) ys = both co rest ys
 both co (Act.ifs arms e span ∷ rest) ys = both co rest ys

@@ -30,6 +30,7 @@ pub called_are_calls : (q : ℕ) (acts : List Act) → among (callees acts) q �
 called_are_calls q [] = refl
 called_are_calls q (Act.set x t span ∷ rest) = called_are_calls q rest
 called_are_calls q (Act.draw x ps span ∷ rest) = called_are_calls q rest
+called_are_calls q (Act.toss x f span ∷ rest) = called_are_calls q rest
 called_are_calls q (Act.any x up ty span ∷ rest) = called_are_calls q rest
 called_are_calls q (Act.reward f span ∷ rest) = called_are_calls q rest
 called_are_calls q (Act.ifs arms e span ∷ rest) = called_are_calls q rest
@@ -44,6 +45,7 @@ pub called_are_there : (ps : List TypedProcedure) (p : TypedProcedure) (acts : L
 called_are_there ps p [] h = All-nil (λ q. q < length ps)
 called_are_there ps p (Act.set x t span ∷ rest) h = called_are_there ps p rest h.1
 called_are_there ps p (Act.draw x qs span ∷ rest) h = called_are_there ps p rest h.1
+called_are_there ps p (Act.toss x f span ∷ rest) h = called_are_there ps p rest h.1
 called_are_there ps p (Act.any x up ty span ∷ rest) h = called_are_there ps p rest h.1
 called_are_there ps p (Act.reward f span ∷ rest) h = called_are_there ps p rest h.1
 called_are_there ps p (Act.ifs arms e span ∷ rest) h = called_are_there ps p rest h.1

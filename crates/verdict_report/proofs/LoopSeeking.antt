@@ -24,6 +24,7 @@ both : (n : ℕ) (xs ys : List Act) → loop_scope n (xs ++ ys) ≡ or_else (loo
 both n [] ys = refl
 both n (Act.set x t span ∷ rest) ys = both n rest ys
 both n (Act.draw x ps span ∷ rest) ys = both n rest ys
+both n (Act.toss x f span ∷ rest) ys = both n rest ys
 both n (Act.any x up ty span ∷ rest) ys = both n rest ys
 both n (Act.reward f span ∷ rest) ys = both n rest ys
 both n (Act.ifs arms e span ∷ rest) ys = both n rest ys

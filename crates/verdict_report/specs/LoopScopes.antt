@@ -12,6 +12,7 @@ loop_scope n [] = None
 loop_scope n (Act.loop h b ∷ rest) = if h.number == n then Some h.scope else loop_scope n rest
 loop_scope n (Act.set x t span ∷ rest) = loop_scope n rest
 loop_scope n (Act.draw x ps span ∷ rest) = loop_scope n rest
+loop_scope n (Act.toss x f span ∷ rest) = loop_scope n rest
 loop_scope n (Act.any x up ty span ∷ rest) = loop_scope n rest
 loop_scope n (Act.reward f span ∷ rest) = loop_scope n rest
 loop_scope n (Act.ifs arms e span ∷ rest) = loop_scope n rest

@@ -7,6 +7,7 @@ abbrev pub callee : Act → List ℕ
 callee (Act.call xs q es span) = q ∷ []
 callee (Act.set x t span) = []
 callee (Act.draw x ps span) = []
+callee (Act.toss x f span) = []
 callee (Act.any x up ty span) = []
 callee (Act.reward f span) = []
 callee (Act.ifs arms e span) = []
