@@ -6,7 +6,7 @@ use Rattle.heyvl_num.specs.Gcd.{gcd, gcd_steps}
 use Rattle.heyvl_num.specs.Rational.{Rational, ratio, zeroʳ, oneʳ, halfʳ, leqʳ, compareʳ, negʳ, ◌+ʳ◌, ◌*ʳ◌, ◌-ʳ◌}
 use Rattle.heyvl_num.specs.Value.{Value, zeroᵛ, oneᵛ, ◌+ᵛ◌, ◌*ᵛ◌, infinite_times, is_zeroʳ, leqᵛ}
 use Rattle.heyvl_num.specs.Value.Value.{finite, infinite}
-use Rattle.heyvl_num.specs.ValueOperators.{monusᵛ}
+use Rattle.heyvl_num.specs.ValueOperators.{minᵛ, monusᵛ}
 use Rattle.heyvl_num.specs.WeightedSums.{weighted_sum, scaled}
 use Rattle.heyvl_places.specs.declared.spans.Span.{Span}
 use Rattle.heylo_formula.specs.Formula.{Form, Cond, Term}
@@ -15,7 +15,7 @@ use Rattle.heylo_formula.specs.declared.values.Val.{Val}
 use Rattle.heylo_formula.specs.declared.values.Val.TheVariants.{Truth, Num}
 use Rattle.heyvl_acts.specs.Acts.{Head, Act, Acts, Arms, Variable, TypedProcedure}
 use Rattle.run_machine.specs.Configurations.{begin}
-use Rattle.run_machine.specs.Step.{Decision}
+use Rattle.run_machine.specs.Step.{Decision, step}
 use Rattle.run_machine.specs.Scheduler.{Tree, Forest}
 use Rattle.run_machine.specs.Runs.{runs}
 use Rattle.run_machine.specs.Sums.{sum_of, turns_sum}
@@ -80,6 +80,33 @@ coin_is_half = refl
 coin_before_its_flip : sum_after 0 (coin ∷ []) (Truth true ∷ []) coin.post Tree.leaf ≡ (pos 0, 1)
 unfolding runs weighted_sum scaled halfʳ ratio gcd gcd_steps zeroʳ oneʳ zeroᵛ oneᵛ ◌+ʳ◌ ◌*ʳ◌ ◌-ʳ◌ ◌+ᵛ◌ ◌*ᵛ◌ infinite_times is_zeroʳ leqʳ leqᵛ compareʳ
 coin_before_its_flip = refl
+
+-- ---- A toss of one number where a Bool holds and of another where not
+
+abbrev lot : Form → Form → TypedProcedure
+lot a b = procedure (Ty.Bool ∷ []) (Ty.Bool ∷ []) [] (Form.select (Cond.flag 1) (number 1) (number 4)) (Act.toss 1 (Form.select (Cond.flag 0) a b) place ∷ [])
+
+abbrev third : Form
+third = Form.number (finite (ratio (pos 1) 3))
+
+lot_after : Form → Form → Bool → List ((ℤ × ℕ) × List Val)
+lot_after a b t = map (λ x. ((x.0.num, x.0.den), x.1.state)) (step (lot a b ∷ []) (begin (lot a b ∷ []) 0 (Truth t ∷ Truth false ∷ [])) Decision.none)
+
+lot_below_one : lot_after third (number 2) true ≡ ((pos 1, 3), Truth true ∷ Truth true ∷ []) ∷ ((pos 2, 3), Truth true ∷ Truth false ∷ []) ∷ []
+unfolding lot_after ratio gcd gcd_steps oneʳ oneᵛ ◌-ʳ◌ ◌+ʳ◌ negʳ leqʳ leqᵛ minᵛ
+lot_below_one = refl
+
+lot_above_one : lot_after third (number 2) false ≡ ((pos 1, 1), Truth false ∷ Truth true ∷ []) ∷ ((pos 0, 1), Truth false ∷ Truth false ∷ []) ∷ []
+unfolding lot_after ratio gcd gcd_steps oneʳ oneᵛ ◌-ʳ◌ ◌+ʳ◌ negʳ leqʳ leqᵛ minᵛ
+lot_above_one = refl
+
+lot_at_one : lot_after (number 1) (number 0) true ≡ ((pos 1, 1), Truth true ∷ Truth true ∷ []) ∷ ((pos 0, 1), Truth true ∷ Truth false ∷ []) ∷ []
+unfolding lot_after ratio gcd gcd_steps oneʳ oneᵛ ◌-ʳ◌ ◌+ʳ◌ negʳ leqʳ leqᵛ minᵛ
+lot_at_one = refl
+
+lot_is_three : sum_after 1 (lot third (number 2) ∷ []) (Truth true ∷ Truth false ∷ []) (lot third (number 2)).post Tree.leaf ≡ (pos 3, 1)
+unfolding runs weighted_sum scaled ratio gcd gcd_steps zeroʳ oneʳ zeroᵛ oneᵛ ◌+ʳ◌ ◌*ʳ◌ ◌-ʳ◌ negʳ ◌+ᵛ◌ ◌*ᵛ◌ infinite_times is_zeroʳ leqʳ leqᵛ minᵛ
+lot_is_three = refl
 
 -- ---- Two dice: s = a + b, on average 7
 

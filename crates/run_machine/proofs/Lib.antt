@@ -6,6 +6,7 @@ mod Moves
 mod Branches
 mod Calls
 mod Draws
+mod TossWeights
 mod Parts
 mod Places
 mod Positions
@@ -14,7 +15,6 @@ mod Running
 mod Steps
 mod VariableTypes
 mod RuledActs
-mod TypedStates
 mod Procedures
 mod RunSteps
 pub mod exported

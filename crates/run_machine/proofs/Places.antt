@@ -90,6 +90,7 @@ mutual
   follows_inside : (b : Act) → Follows (inside b)
   follows_inside (Act.set x t span) = follows_none
   follows_inside (Act.draw x ps span) = follows_none
+  follows_inside (Act.toss x f span) = follows_none
   follows_inside (Act.any x up ty span) = follows_none
   follows_inside (Act.reward f span) = follows_none
   follows_inside (Act.ifs arms e span) = follows_both (inside_arms arms) (in_order e) (follows_arms arms) (follows_order e)

@@ -52,7 +52,9 @@ numbered_loop P (Act.loop g d ∷ xs) (suc n) h b k e = numbered_loop P xs n h b
 numbered_loop P (Act.set x t span ∷ xs) zero h b k e = absurd (cc)
 numbered_loop P (Act.set x t span ∷ xs) (suc n) h b k e = numbered_loop P xs n h b k e
 numbered_loop P (Act.draw x qs span ∷ xs) zero h b k e = absurd (cc)
+numbered_loop P (Act.toss x f span ∷ xs) zero h b k e = absurd (cc)
 numbered_loop P (Act.draw x qs span ∷ xs) (suc n) h b k e = numbered_loop P xs n h b k e
+numbered_loop P (Act.toss x f span ∷ xs) (suc n) h b k e = numbered_loop P xs n h b k e
 numbered_loop P (Act.any x up ty span ∷ xs) zero h b k e = absurd (cc)
 numbered_loop P (Act.any x up ty span ∷ xs) (suc n) h b k e = numbered_loop P xs n h b k e
 numbered_loop P (Act.reward f span ∷ xs) zero h b k e = absurd (cc)
@@ -120,6 +122,7 @@ runs_all : (ps : List TypedProcedure) (co : Bool) (acts : List Act) → first_br
 runs_all ps co [] h k = tt
 runs_all ps co (Act.set x t span ∷ rest) h k = (tt, runs_all ps co rest h k)
 runs_all ps co (Act.draw x qs span ∷ rest) h k = (tt, runs_all ps co rest h k)
+runs_all ps co (Act.toss x f span ∷ rest) h k = (tt, runs_all ps co rest h k)
 runs_all ps co (Act.any x up ty span ∷ rest) h k = (tt, runs_all ps co rest h k)
 runs_all ps co (Act.reward f span ∷ rest) h k = (tt, runs_all ps co rest h k)
 runs_all ps co (Act.ifs arms e span ∷ rest) h k = (tt, runs_all ps co rest h k)

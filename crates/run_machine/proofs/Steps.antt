@@ -15,18 +15,20 @@ use Rattle.heylo_formula.specs.State.{environment, fit, has}
 use Rattle.heylo_formula.specs.Typing.{Types}
 use Rattle.heylo_formula.specs.declared.types.Ty.{Ty}
 use Rattle.heylo_formula.specs.declared.values.Val.{Val}
-use Rattle.heylo_formula.proofs.exported.States.{fit_has}
-use Rattle.heyvl_acts.specs.Acts.{Head, Act, Acts, Arms, TypedProcedure, procedure_at, types_of}
+use Rattle.heylo_formula.proofs.exported.States.{env_typed, fit_has}
+use Rattle.heyvl_acts.specs.Acts.{Head, Act, Acts, Arms, TypedProcedure, procedure_at, type_list, types_of, variables}
 use Rattle.heyvl_acts.specs.Matching.{taken}
 use Rattle.heyvl_acts.specs.Places.{nth, in_order, inside, act_named}
 use Rattle.heyvl_acts.specs.Rules.{Each, IsOwn, MeetsRules}
+use Rattle.heyvl_acts.specs.Tosses.{toss_parts}
 use Rattle.heyvl_acts.specs.WellTyped.{DrawFits, PartsFit}
+use Rattle.heyvl_acts.proofs.exported.Tosses.{toss_fit}
 use Rattle.quant_algebra.specs.ExactMeaning.{exact_truth, exact_value}
 use Rattle.quant_algebra.specs.ExactOperators.{and_then}
 use Rattle.run_machine.specs.declared.configurations.Item.TheVariants.{Do, Turn, Out, Back}
 use Rattle.run_machine.specs.declared.configurations.Stepped.{Stepped}
 use Rattle.run_machine.specs.Bound.{IsState}
-use Rattle.run_machine.specs.BoundedStep.{item_fits, items_fit, exact_term, guards_fit, parts_fit, terms_fit}
+use Rattle.run_machine.specs.BoundedStep.{item_fits, items_fit, exact_term, guards_fit, parts_fit, toss_fits, terms_fit}
 use Rattle.run_machine.specs.ConfigConditions.{AreLists, CanRun, IsConfig, IsItemOf, IsOutput, NamesLoop}
 use Rattle.run_machine.specs.Configurations.{Item, evaluate, push}
 use Rattle.run_machine.specs.Names.{HasFewActs, Names, Numbered, Lists, Stored, act_item, turn_item, item_of, items_of, config_of, numbered}
@@ -44,7 +46,7 @@ use Rattle.run_machine.proofs.Positions.{At, each_append, lists_state, position}
 use Rattle.run_machine.proofs.Replies.{Comes, is_step, named}
 use Rattle.run_machine.proofs.RuledActs.{Ruled, loop_range, ruled}
 use Rattle.run_machine.proofs.Running.{block_belongs, each_first, each_second, taken_runs, taken_stands}
-use Rattle.run_machine.proofs.TypedStates.{first_typed, own_set, resumed_typed, term_has}
+use Rattle.run_machine.proofs.exported.TypedStates.{first_typed, own_set, resumed_typed, term_has}
 
 -- The first item decides the step.
 first_step : (ps : List TypedProcedure) (c : Stored) (d : Decision) (i : Numbered) (j : Item) → c.items ≡ i ∷ drop 1 c.items → item_of ps i ≡ j → step_item ps j (items_of ps (behind c)) (config_of ps c) d ≡ step ps (config_of ps c) d
@@ -72,6 +74,7 @@ abbrev NoLoop : Act → Type 0
 NoLoop (Act.loop h b) = ⊥
 NoLoop (Act.set x t span) = Unit {0}
 NoLoop (Act.draw x qs span) = Unit {0}
+NoLoop (Act.toss x f span) = Unit {0}
 NoLoop (Act.any x up ty span) = Unit {0}
 NoLoop (Act.reward f span) = Unit {0}
 NoLoop (Act.ifs arms e span) = Unit {0}
@@ -151,6 +154,14 @@ draw_is ps c d r p place x qs span h e =
     let k = known ps c p place (Act.draw x qs span) h tt in
     let rule = ruled ps p place (Act.draw x qs span) h.rules h.names in
     item_step ps c d r (Do p place) (Item.act (Act.draw x qs span)) (parts_fit qs c.state) (stored_branches c x qs) k.first (ap act_item h.names) e refl (draws ps c x qs k.at.continues) (parts_come ps c p place x qs k.at k.turns rule.targets (parts_fit_all (types_of (procedure_at ps p)) x qs rule.typed))
+
+pub toss_is : (ps : List TypedProcedure) (c : Stored) (d : Decision) (r : Stepped) (p place x : ℕ) (f : Form) (span : Span) → ComesNext ps c p place (Act.toss x f span) → reply_of r ≡ replied (toss_fits f c.state) (stored_branches c x (toss_parts f (environment c.state))) → IsStep ps c d r
+toss_is ps c d r p place x f span h e =
+    let k = known ps c p place (Act.toss x f span) h tt in
+    let rule = ruled ps p place (Act.toss x f span) h.rules h.names in
+    let qs = toss_parts f (environment c.state) in
+    let fit = toss_fit (types_of (procedure_at ps p)) x f (environment c.state) rule.typed.0 rule.typed.1 (env_typed (type_list (variables (procedure_at ps p))) c.state k.at.state) in
+    item_step ps c d r (Do p place) (Item.act (Act.toss x f span)) (toss_fits f c.state) (stored_branches c x qs) k.first (ap act_item h.names) e refl (draws ps c x qs k.at.continues) (parts_come ps c p place x qs k.at k.turns rule.targets fit)
 
 pub asked_config : (ps : List TypedProcedure) (c : Stored) → IsConfig ps c → IsConfig ps (asked c)
 asked_config ps c h = record { running = h.running; lists = h.lists; turns = h.turns }
@@ -371,6 +382,7 @@ abbrev NoCall : Act → Type 0
 NoCall (Act.call xs q es span) = ⊥
 NoCall (Act.set x t span) = Unit {0}
 NoCall (Act.draw x qs span) = Unit {0}
+NoCall (Act.toss x f span) = Unit {0}
 NoCall (Act.any x up ty span) = Unit {0}
 NoCall (Act.reward f span) = Unit {0}
 NoCall (Act.ifs arms e span) = Unit {0}

@@ -1,1 +1,4 @@
 pub mod Equations
+pub mod OwnOutputs
+pub mod StepWeights
+pub mod TypedStates

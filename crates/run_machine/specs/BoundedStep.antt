@@ -1,14 +1,16 @@
 -- The step as the program makes it: there is a bound on numbers, by the calls of the fractions that the step needs, and a
 -- bound on the values of all frames and the state. This project's own.
 use Rattle.std.specs.Prelude.{◌+◌, ℕ, Bool, true, false, ◌&&◌, ◌||◌, List, [], ◌∷◌, Option, Some, None, option_map, is_some, map, length, nat_lt, if◌then◌else◌}
-use Rattle.heyvl_num.specs.Rational.{Rational}
+use Rattle.heyvl_num.specs.Rational.{Rational, oneʳ}
+use Rattle.heyvl_num.specs.Value.{oneᵛ}
+use Rattle.heyvl_num.specs.Exact.{exact_difference}
 use Rattle.heyvl_num.specs.ExactValues.{exact_sumᵛ}
-use Rattle.heylo_formula.specs.Formula.{Term}
+use Rattle.heylo_formula.specs.Formula.{Form, Term}
 use Rattle.heylo_formula.specs.Operators.{finite_part}
 use Rattle.heylo_formula.specs.declared.values.Val.{Val}
 use Rattle.heylo_formula.specs.declared.values.Val.TheVariants.{Truth, Num}
 use Rattle.quant_algebra.specs.ExactMeaning.{exact_value, exact_truth}
-use Rattle.quant_algebra.specs.ExactOperators.{and_then}
+use Rattle.quant_algebra.specs.ExactOperators.{and_then, exact_minᵛ}
 use Rattle.heyvl_acts.specs.Acts.{Act, Arms, TypedProcedure}
 use Rattle.run_machine.specs.declared.configurations.Config as C
 use Rattle.run_machine.specs.declared.configurations.Stepped.{Stepped}
@@ -30,6 +32,14 @@ abbrev pub parts_fit : List (Rational × Term) → List Val → Bool
 parts_fit [] s = true
 parts_fit (q ∷ qs) s = is_some (exact_term q.1 s) && parts_fit qs s
 
+-- The smaller of a formula's value and 1: one comparison behind the value.
+abbrev pub exact_weight : Form → List Val → Option Rational
+exact_weight f s = and_then (exact_value f s) (λ v. option_map finite_part (exact_minᵛ v oneᵛ))
+
+-- The weight of a toss, and what is left of 1: one difference.
+abbrev pub toss_fits : Form → List Val → Bool
+toss_fits f s = is_some (and_then (exact_weight f s) (λ w. exact_difference oneʳ w))
+
 -- Whether a truth value is there and true, or there and the rest holds.
 abbrev pub true_or : Option Bool → Bool → Bool
 true_or (Some true) rest = true
@@ -41,11 +51,13 @@ abbrev pub guards_fit : Arms → List Val → Bool
 guards_fit Arms.no_arm s = true
 guards_fit (Arms.arm g b more) s = true_or (exact_truth g s) (guards_fit more s)
 
--- Whether each number that the act's step needs fits: the term of an assignment, the parts of a draw, the guards of an if up
--- to the first that holds, the guard of a loop, the arguments of a call, and a reward and its sum with the reward so far.
+-- Whether each number that the act's step needs fits: the term of an assignment, the parts of a draw, the weights of a toss,
+-- the guards of an if up to the first that holds, the guard of a loop, the arguments of a call, and a reward and its sum with
+-- the reward so far.
 abbrev pub act_fits : Act → Config → Bool
 act_fits (Act.set x t span) c = is_some (exact_term t c.state)
 act_fits (Act.draw x qs span) c = parts_fit qs c.state
+act_fits (Act.toss x f span) c = toss_fits f c.state
 act_fits (Act.any x up ty span) c = true
 act_fits (Act.reward f span) c = is_some (and_then (exact_value f c.state) (λ v. exact_sumᵛ c.reward v))
 act_fits (Act.ifs arms e span) c = guards_fit arms c.state

@@ -25,6 +25,7 @@ CanRun ps (Act.validate co span) = ⊥
 CanRun ps (Act.call xs q es span) = ReachesPrograms ps q
 CanRun ps (Act.set x t span) = Unit {0}
 CanRun ps (Act.draw x qs span) = Unit {0}
+CanRun ps (Act.toss x f span) = Unit {0}
 CanRun ps (Act.any x up ty span) = Unit {0}
 CanRun ps (Act.reward f span) = Unit {0}
 CanRun ps (Act.ifs arms e span) = Unit {0}

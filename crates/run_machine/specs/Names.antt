@@ -33,6 +33,7 @@ abbrev pub turn_item : Option Act → Item
 turn_item (Some (Act.loop h b)) = Item.turn h b
 turn_item (Some (Act.set x t span)) = Item.back
 turn_item (Some (Act.draw x ps span)) = Item.back
+turn_item (Some (Act.toss x f span)) = Item.back
 turn_item (Some (Act.any x up ty span)) = Item.back
 turn_item (Some (Act.reward f span)) = Item.back
 turn_item (Some (Act.ifs arms e span)) = Item.back
@@ -57,6 +58,7 @@ abbrev pub call_parts : Option Act → List ℕ × ℕ
 call_parts (Some (Act.call xs p es span)) = (xs, p)
 call_parts (Some (Act.set x t span)) = ([], 0)
 call_parts (Some (Act.draw x ps span)) = ([], 0)
+call_parts (Some (Act.toss x f span)) = ([], 0)
 call_parts (Some (Act.any x up ty span)) = ([], 0)
 call_parts (Some (Act.reward f span)) = ([], 0)
 call_parts (Some (Act.ifs arms e span)) = ([], 0)

@@ -13,6 +13,7 @@ use Rattle.heylo_formula.specs.declared.values.Val.{Val}
 use Rattle.heylo_formula.specs.declared.values.Val.TheVariants.{Truth}
 use Rattle.heyvl_acts.specs.Acts.{Head, Act, Acts, TypedProcedure, procedure_at}
 use Rattle.heyvl_acts.specs.Matching.{taken}
+use Rattle.heyvl_acts.specs.Tosses.{toss_parts}
 use Rattle.run_machine.specs.Configurations.{Item, Frame, Config, Outcomes, running, push, evaluate, set_all, callee_items, first_state, outputs_of}
 
 -- What a scheduler may decide: the side of a pick, true for the left one, or the value of a variable.
@@ -81,6 +82,7 @@ test c is h b = if holds h.guard (environment c.state) Choices.stop then sure (t
 abbrev pub step_act : List TypedProcedure → Act → List Item → Config → Decision → Outcomes
 step_act ps (Act.set x t span) is c d = sure (moved c is (set c.state x (term_value t (environment c.state))))
 step_act ps (Act.draw x qs span) is c d = branches c is x qs
+step_act ps (Act.toss x f span) is c d = branches c is x (toss_parts f (environment c.state))
 step_act ps (Act.any x up ty span) is c d = sure (moved c is (set c.state x (fit ty (value_of d))))
 step_act ps (Act.reward f span) is c d = sure (rewarded c is (value f (environment c.state) Choices.stop))
 step_act ps (Act.ifs arms e span) is c d = sure (moved c (push (taken arms e (environment c.state)) is) c.state)

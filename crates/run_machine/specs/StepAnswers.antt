@@ -23,6 +23,7 @@ asked_by_act (Act.any x up ty span) = 1
 asked_by_act (Act.pick up a b span) = 1
 asked_by_act (Act.set x t span) = 0
 asked_by_act (Act.draw x qs span) = 0
+asked_by_act (Act.toss x f span) = 0
 asked_by_act (Act.reward f span) = 0
 asked_by_act (Act.ifs arms e span) = 0
 asked_by_act (Act.check kind f span) = 0

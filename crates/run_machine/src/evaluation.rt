@@ -34,12 +34,12 @@ pub(crate) fn term_at(term: &Term, state: &[Val]) -> Option<Val>
 }
 
 /// The finite number; 0 in place of infinity.
-fn finite(value: &Ext) -> Frac
+pub(crate) fn finite(value: &Ext) -> Frac
     ensures { result ≡ finite_part (value_of value.now) }
 {
     match value {
         Ext::Fin(x) => *x,
-        Ext::Inf => Frac::new(0, 1).unwrap(),
+        Ext::Inf => Frac::zero(),
     }
 }
 

@@ -14,6 +14,7 @@ mod plain_steps;
 mod starting;
 mod stepping;
 mod taking;
+mod tosses;
 
 pub use configurations::{Config, Decide, Frame, Item, Stepped};
 pub use laws::{decisions_decide_steps, runs_continue, steps_weigh_one};

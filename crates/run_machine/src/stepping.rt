@@ -17,6 +17,7 @@ use crate::configurations::{Config, Decide, Item, Stepped};
 use crate::loop_steps::test_step;
 use crate::plain_steps::{draw_step, pass_step, reward_step, set_step};
 use crate::taking::any_step;
+use crate::tosses::toss_step;
 use heylo_formula::Ty;
 use heyvl_acts::{Act, Typed, act_at};
 use std::alloc::{AllocError, Global};
@@ -86,6 +87,7 @@ fn act_step(
     match act {
         Act::Set(x, term, _) => set_step(alloc, config, *x, term),
         Act::Draw(x, parts, _) => draw_step(alloc, config, *x, parts),
+        Act::Toss(x, form, _) => toss_step(alloc, config, *x, form),
         Act::Any(x, _, ty, _) => any_step(alloc, config, *x, *ty, decision),
         Act::Reward(form, _) => reward_step(alloc, config, form),
         Act::If(arms, other, _) => if_step(alloc, config, p, place + 1, arms, other),
@@ -128,6 +130,7 @@ fn to_call(alloc: Global, typed: &Typed, config: &Config, act: &Act) -> Result<S
         Act::Call(targets, q, _, _) => back_step(alloc, typed, config, targets, *q),
         Act::Set(..) => unreachable!(),
         Act::Draw(..) => unreachable!(),
+        Act::Toss(..) => unreachable!(),
         Act::Any(..) => unreachable!(),
         Act::Reward(..) => unreachable!(),
         Act::If(..) => unreachable!(),

@@ -1,4 +1,4 @@
--- Runs and their sums, by their equations. For export.
+-- Runs and their sums, by their equations.
 use Rattle.std.proofs.Common.{◌≡◌, ℕ, refl, ap, ◌∙◌, Bool, List, [], ◌∷◌}
 use Prim.Native.Nat.{zero, suc}
 use Rattle.heyvl_num.specs.Rational.{Rational, oneʳ}
@@ -8,8 +8,8 @@ use Rattle.heyvl_num.specs.WeightedSums.{weighted_sum, scaled}
 use Rattle.heyvl_num.proofs.exported.Values.{+ᵛ-zero, one-*ᵛ}
 use Rattle.heyvl_num.proofs.exported.WeightedSums.{weighted_sum-empty, weighted_sum-cons, weighted_sum-append, weighted_sum-scaled}
 use Rattle.heylo_formula.specs.Formula.{Form}
-use Rattle.heyvl_acts.specs.Acts.{TypedProcedure}
-use Rattle.run_machine.specs.Configurations.{Config, Outcomes}
+use Rattle.heyvl_acts.specs.Acts.{Acts, TypedProcedure, join}
+use Rattle.run_machine.specs.Configurations.{Item, Config, Outcomes, push}
 use Rattle.run_machine.specs.Step.{sure}
 use Rattle.run_machine.specs.Scheduler.{Tree, Forest, first, rest}
 use Rattle.run_machine.specs.Runs.{Runner, spread, onward, runs}
@@ -22,6 +22,11 @@ runs-zero ps c t = refl
 pub runs-next : (ps : List TypedProcedure) (n : ℕ) (c : Config) (t : Tree) → runs ps (suc n) c t ≡ onward ps (runs ps n) c.items c t
 unfolding runs
 runs-next ps n c t = refl
+
+-- Acts one after the other are pushed one after the other.
+pub push_join : (a b : Acts) (is : List Item) → push (join a b) is ≡ push a (push b is)
+push_join Acts.done b is = refl
+push_join (Acts.next a rest) b is = ap (λ js. Item.act a ∷ js) (push_join rest b is)
 
 -- One is the value that leaves a product as it is.
 pub one_times : (v : Value) → finite oneʳ *ᵛ v ≡ v

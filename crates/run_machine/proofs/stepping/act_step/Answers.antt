@@ -7,7 +7,7 @@ use Rattle.heyvl_acts.specs.Acts.{procedure_at}
 use Rattle.heyvl_acts.specs.Matching.{taken}
 use Rattle.heyvl_acts.specs.Places.{in_order, inside_arms}
 use Rattle.heyvl_acts.specs.PlainActs.{act_of, acts_of, arms_of, parts_of, procedure_of, procedures_of, terms_of}
-use Rattle.heyvl_acts.proofs.exported.PlainActsAre.{set_act, draw_act, any_act, reward_act, if_act, pick_act, check_act, validate_act, loop_act, call_act, head_of}
+use Rattle.heyvl_acts.proofs.exported.PlainActsAre.{set_act, draw_act, toss_act, any_act, reward_act, if_act, pick_act, check_act, validate_act, loop_act, call_act, head_of}
 use Rattle.quant_algebra.specs.ExactMeaning.{exact_truth}
 use Rattle.run_machine.specs.BoundedStep.{guards_fit, parts_fit, terms_fit}
 use Rattle.run_machine.specs.Configurations.{evaluate}
@@ -19,7 +19,7 @@ use Rattle.run_machine.specs.internal.StoredSteps.{asked, entered, opened, store
 use Rattle.run_machine.proofs.BlockSizes.{if_size, pick_size, loop_size}
 use Rattle.run_machine.proofs.Moves.{if_ok}
 use Rattle.run_machine.proofs.RuledActs.{all_small, ruled}
-use Rattle.run_machine.proofs.Steps.{has_room, set_is, draw_is, any_is, reward_is, if_is, pick_is, check_is, validate_is, loop_is, call_is}
+use Rattle.run_machine.proofs.Steps.{has_room, set_is, draw_is, toss_is, any_is, reward_is, if_is, pick_is, check_is, validate_is, loop_is, call_is}
 use Rattle.run_machine.proofs.stepping.act_step.Goals as goal
 
 pub overflow_add-place : goal.overflow_add-place
@@ -45,6 +45,9 @@ returns-in-Set c = if_ok c.set_step.result _ _ (λ r h. set_is (procedures_of c.
 
 pub returns-in-Draw : goal.returns-in-Draw
 returns-in-Draw c = if_ok c.draw_step.result _ _ (λ r h. draw_is (procedures_of c.args.typed.now) (stored c.args.config.now) _ r c.args.p c.args.place c.in-Draw.x (parts_of c.in-Draw.parts.items) c.in-Draw.field-2 (subst (ComesNext (procedures_of c.args.typed.now) (stored c.args.config.now) c.args.p c.args.place) (ap act_of c.in-Draw.is ∙ draw_act c.in-Draw.x c.in-Draw.parts c.in-Draw.field-2) c.requires.comes) (subst (λ l. reply_of r ≡ replied (parts_fit (parts_of l) c.args.config.now.state.items) (stored_branches (stored c.args.config.now) c.in-Draw.x (parts_of l))) c.deref.ensures.value h)) c.draw_step.ensures
+
+pub returns-in-Toss : goal.returns-in-Toss
+returns-in-Toss c = if_ok c.toss_step.result _ _ (λ r h. toss_is (procedures_of c.args.typed.now) (stored c.args.config.now) _ r c.args.p c.args.place c.in-Toss.x (form_of c.in-Toss.form) c.in-Toss.field-2 (subst (ComesNext (procedures_of c.args.typed.now) (stored c.args.config.now) c.args.p c.args.place) (ap act_of c.in-Toss.is ∙ toss_act c.in-Toss.x c.in-Toss.form c.in-Toss.field-2) c.requires.comes) h) c.toss_step.ensures
 
 pub returns-in-Any : goal.returns-in-Any
 returns-in-Any c = if_ok c.any_step.result _ _ (λ r h. any_is (procedures_of c.args.typed.now) (stored c.args.config.now) _ r c.args.p c.args.place c.in-Any.x c.in-Any.field-1 c.in-Any.ty c.in-Any.field-3 (subst (ComesNext (procedures_of c.args.typed.now) (stored c.args.config.now) c.args.p c.args.place) (ap act_of c.in-Any.is ∙ any_act c.in-Any.x c.in-Any.field-1 c.in-Any.ty c.in-Any.field-3) c.requires.comes) h) c.any_step.ensures

@@ -2,7 +2,7 @@ use Rattle.std.proofs.Common.{◌≡◌, arith, ap, subst, ◌∙◌, true}
 use Rattle.std.proofs.lemmas.List.{length-map}
 use Rattle.heyvl_acts.specs.Acts.{procedure_at}
 use Rattle.heyvl_acts.specs.PlainActs.{act_of, procedure_of, procedures_of, terms_of}
-use Rattle.heyvl_acts.proofs.exported.PlainActsAre.{set_act, draw_act, any_act, reward_act, if_act, pick_act, check_act, validate_act, loop_act, call_act}
+use Rattle.heyvl_acts.proofs.exported.PlainActsAre.{set_act, draw_act, toss_act, any_act, reward_act, if_act, pick_act, check_act, validate_act, loop_act, call_act}
 use Rattle.run_machine.specs.Names.{stored}
 use Rattle.run_machine.specs.internal.Comings.{ReturnsNext}
 use Rattle.run_machine.specs.internal.Replies.{reply_of, replied, surely}
@@ -10,7 +10,7 @@ use Rattle.run_machine.specs.internal.StoredSteps.{resumed}
 use Rattle.run_machine.proofs.Moves.{if_ok}
 use Rattle.run_machine.proofs.RuledActs.{all_small}
 use Rattle.run_machine.proofs.Steps.{back_is, back_state, back_there, to_no_other}
-use Rattle.run_machine.proofs.TypedStates.{state_long}
+use Rattle.run_machine.proofs.exported.TypedStates.{state_long}
 use Rattle.run_machine.proofs.stepping.to_call.Goals as goal
 
 pub back_step-requires-clause-small : goal.back_step-requires-clause-small
@@ -30,6 +30,9 @@ unreachable-requires c = to_no_other (procedures_of c.args.typed.now) (stored c.
 
 pub unreachable-requires-in-Draw : goal.unreachable-requires-in-Draw
 unreachable-requires-in-Draw c = to_no_other (procedures_of c.args.typed.now) (stored c.args.config.now) _ (subst (ReturnsNext (procedures_of c.args.typed.now) (stored c.args.config.now)) (ap act_of c.in-Draw.is ∙ draw_act c.in-Draw.field-0 c.in-Draw.field-1 c.in-Draw.field-2) c.requires.returns) tt
+
+pub unreachable-requires-in-Toss : goal.unreachable-requires-in-Toss
+unreachable-requires-in-Toss c = to_no_other (procedures_of c.args.typed.now) (stored c.args.config.now) _ (subst (ReturnsNext (procedures_of c.args.typed.now) (stored c.args.config.now)) (ap act_of c.in-Toss.is ∙ toss_act c.in-Toss.field-0 c.in-Toss.field-1 c.in-Toss.field-2) c.requires.returns) tt
 
 pub unreachable-requires-in-Any : goal.unreachable-requires-in-Any
 unreachable-requires-in-Any c = to_no_other (procedures_of c.args.typed.now) (stored c.args.config.now) _ (subst (ReturnsNext (procedures_of c.args.typed.now) (stored c.args.config.now)) (ap act_of c.in-Any.is ∙ any_act c.in-Any.field-0 c.in-Any.field-1 c.in-Any.field-2 c.in-Any.field-3) c.requires.returns) tt

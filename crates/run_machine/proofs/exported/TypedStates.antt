@@ -1,4 +1,4 @@
--- Typed states stay typed: an assignment, the first state of a call, and its outputs.
+-- Typed states stay typed: an assignment, the first state of a call, and its outputs. For export.
 use Rattle.std.proofs.Common.{◌≡◌, ℕ, ◌≤◌, ◌<◌, ◌+◌, ◌==◌, ◌&&◌, refl, ap, sym, subst, ◌∙◌, arith, Bool, true, false, List, [], ◌∷◌, ◌++◌, length, map, take, drop}
 use Rattle.std.proofs.lemmas.List.{length-append}
 use Rattle.std.specs.Prelude.{set}
@@ -41,7 +41,7 @@ default_has Ty.Int = fit_has Ty.Int (Truth false)
 default_has Ty.UInt = fit_has Ty.UInt (Truth false)
 default_has Ty.UReal = fit_has Ty.UReal (Truth false)
 
-defaults_typed : (tys : List Ty) → IsTyped tys (map default tys)
+pub defaults_typed : (tys : List Ty) → IsTyped tys (map default tys)
 defaults_typed [] = refl
 defaults_typed (ty ∷ tys) = (default_has ty, defaults_typed tys)
 
@@ -60,7 +60,7 @@ both : (a b : Bool) → (a && b) ≡ true → (a ≡ true) × (b ≡ true)
 both true b h = (refl, h)
 both false b h = absurd (cc)
 
-widened : (t u : Ty) (v : Val) → widens_to t u ≡ true → has t v ≡ true → has u v ≡ true
+pub widened : (t u : Ty) (v : Val) → widens_to t u ≡ true → has t v ≡ true → has u v ≡ true
 widened Ty.Bool Ty.Bool v w h = h
 widened Ty.Bool Ty.Int v w h = absurd (cc)
 widened Ty.Bool Ty.UInt v w h = absurd (cc)
@@ -90,7 +90,7 @@ typed_second [] us s h = h
 typed_second (ty ∷ tys) us [] h = absurd h
 typed_second (ty ∷ tys) us (v ∷ s) h = typed_second tys us s h.1
 
-outputs_typed : (q : TypedProcedure) (s : List Val) → IsState q s → IsTyped (type_list q.outputs) (outputs_of q s)
+pub outputs_typed : (q : TypedProcedure) (s : List Val) → IsState q s → IsTyped (type_list q.outputs) (outputs_of q s)
 outputs_typed q s h =
     let all = subst (λ tys. IsTyped tys s) (types_append q.inputs (q.outputs ++ q.locals) ∙ ap (λ l. type_list q.inputs ++ l) (types_append q.outputs q.locals)) h in
     let behind = typed_second (type_list q.inputs) (type_list q.outputs ++ type_list q.locals) s all in

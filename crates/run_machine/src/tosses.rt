@@ -1,0 +1,84 @@
+//! The step of a toss.
+
+ghost use Rattle.std.specs.Prelude.{◌≡◌, [], ◌∷◌, IfOk, IfSome, is_some, option_map, true, false};
+ghost use Rattle.heylo_formula.specs.Formula.{Cond as condition, Term as term};
+ghost use Rattle.heylo_formula.specs.Operators.{finite_part};
+ghost use Rattle.heylo_formula.specs.PlainTrees.{form_of};
+ghost use Rattle.heylo_formula.specs.State.{environment};
+ghost use Rattle.heyvl_acts.specs.Tosses.{toss_parts, toss_weight};
+ghost use Rattle.heyvl_num.specs.Extended.{value_of};
+ghost use Rattle.heyvl_num.specs.Rational.{oneʳ, ◌-ʳ◌};
+ghost use Rattle.heyvl_num.specs.Value.{oneᵛ};
+ghost use Rattle.heyvl_num.specs.ValueOperators.{minᵛ};
+ghost use Rattle.quant_algebra.specs.ExactOperators.{exact_minᵛ};
+ghost use Rattle.run_machine.specs.BoundedStep.{exact_weight, toss_fits};
+ghost use Rattle.run_machine.specs.Names.{stored};
+ghost use Rattle.run_machine.specs.internal.Replies.{reply_of, replied};
+ghost use Rattle.run_machine.specs.internal.StoredSteps.{stored_branches};
+
+use crate::configurations::{Config, Stepped};
+use crate::evaluation::finite;
+use crate::limits::limited;
+use crate::plain_steps::with_value;
+use heylo_formula::{Form, Val};
+use heyvl_num::{Ext, Frac};
+use quant_algebra::{At, value_at};
+use std::alloc::{AllocError, Global};
+use std::cmp::Ordering;
+
+/// The step of a toss: true with the smaller of the formula's value and 1, then false with the rest, also where a weight is 0.
+pub(crate) fn toss_step(
+    alloc: Global,
+    config: &Config,
+    x: u32,
+    form: &Form,
+) -> Result<Stepped, AllocError>
+    ensures { IfOk result (λ stepped. reply_of stepped ≡ replied (toss_fits (form_of form.now) config.now.state.items) (stored_branches (stored config.now) x (toss_parts (form_of form.now) (environment config.now.state.items)))) }
+{
+    match weight_at(form, &config.state) {
+        None => Ok(Stepped::Bits),
+        Some(weight) => match Frac::one().sub(&weight) {
+            None => Ok(Stepped::Bits),
+            Some(rest) => two_sides(alloc, config, x, weight, rest),
+        },
+    }
+}
+
+/// The variable true with the first weight, then false with the second.
+fn two_sides(
+    alloc: Global,
+    config: &Config,
+    x: u32,
+    heads: Frac,
+    tails: Frac,
+) -> Result<Stepped, AllocError>
+    ensures { IfOk result (λ stepped. reply_of stepped ≡ replied true (stored_branches (stored config.now) x ((heads, term.truth (condition.constant true)) ∷ (tails, term.truth (condition.constant false)) ∷ []))) }
+{
+    let mut outcomes = Vec::new(alloc);
+    outcomes.push((heads, with_value(alloc, config, x, Val::Truth(true))?))?;
+    outcomes.push((tails, with_value(alloc, config, x, Val::Truth(false))?))?;
+    Ok(limited(outcomes))
+}
+
+/// The smaller of the form's value and 1, or None where a number that is needed doesn't fit.
+fn weight_at(form: &Form, state: &[Val]) -> Option<Frac>
+    ensures exact { result ≡ exact_weight (form_of form.now) state.now }
+    ensures meaning { IfSome result (λ w. w ≡ toss_weight (form_of form.now) (environment state.now)) }
+{
+    match value_at(form, state) {
+        At::Value(value) => at_most_one(&value),
+        At::Bits => None,
+    }
+}
+
+/// The smaller of the number and 1, or None where their cross products don't fit.
+fn at_most_one(value: &Ext) -> Option<Frac>
+    ensures exact { result ≡ option_map finite_part (exact_minᵛ (value_of value.now) oneᵛ) }
+    ensures meaning { IfSome result (λ w. w ≡ finite_part (minᵛ (value_of value.now) oneᵛ)) }
+{
+    match value.compare(&Ext::one())? {
+        Ordering::Less => Some(finite(value)),
+        Ordering::Equal => Some(finite(value)),
+        Ordering::Greater => Some(Frac::one()),
+    }
+}
