@@ -1,0 +1,4 @@
+pub mod TypedRuns
+pub mod Bare
+mod Examples
+pub mod exported
