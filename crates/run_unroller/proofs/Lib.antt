@@ -6,5 +6,7 @@ mod Adding
 mod Finding
 mod Whole
 mod Trees
+mod ScriptedGrowth
+mod ScriptExamples
 mod SumsOfRuns
 mod Examples

@@ -9,6 +9,7 @@ use Rattle.heylo_formula.specs.Meaning.{holds}
 use Rattle.heylo_formula.specs.State.{environment}
 use Rattle.heyvl_acts.specs.Acts.{Act, TypedProcedure}
 use Rattle.heyvl_acts.specs.Rules.{Each}
+use Rattle.heyvl_acts.specs.Tosses.{toss_parts}
 use Rattle.run_machine.specs.declared.configurations.Config as C
 use Rattle.run_machine.specs.BoundedStep.{outcomes_of}
 use Rattle.run_machine.specs.Configurations.{Item, Frame, Config, running}
@@ -43,6 +44,7 @@ branched c is x (q ∷ qs) = (same c, branched c is x qs)
 acted : (ps : List TypedProcedure) (a : Act) (is : List Item) (c : Config) (d : Decision) → Each (Grown c) (step_act ps a is c d)
 acted ps (Act.set x t span) is c d = (same c, tt)
 acted ps (Act.draw x qs span) is c d = branched c is x qs
+acted ps (Act.toss x f span) is c d = branched c is x (toss_parts f (environment c.state))
 acted ps (Act.any x up ty span) is c d = (same c, tt)
 acted ps (Act.reward f span) is c d = (same c, tt)
 acted ps (Act.ifs arms e span) is c d = (same c, tt)
@@ -67,6 +69,7 @@ asked_once : (is : List Item) → asked_by is ≤ 1
 asked_once [] = omega arith
 asked_once (Item.act (Act.set x t span) ∷ is) = omega arith
 asked_once (Item.act (Act.draw x qs span) ∷ is) = omega arith
+asked_once (Item.act (Act.toss x f span) ∷ is) = omega arith
 asked_once (Item.act (Act.any x up ty span) ∷ is) = omega arith
 asked_once (Item.act (Act.reward f span) ∷ is) = omega arith
 asked_once (Item.act (Act.ifs arms e span) ∷ is) = omega arith

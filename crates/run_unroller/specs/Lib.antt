@@ -4,5 +4,6 @@ pub mod Causes
 pub mod Totals
 pub mod Unrolling
 pub mod ScriptTrees
+pub mod ScriptedGrowth
 pub mod UnrollLaws
 pub mod internal

@@ -1,5 +1,6 @@
 //! Laws of unrolled runs. Each function's contract is the law.
 
+ghost use Rattle.run_unroller.specs.ScriptedGrowth as growth;
 ghost use Rattle.run_unroller.specs.UnrollLaws as law;
 
 use quant_algebra::exact_values_are_meant;
@@ -22,3 +23,8 @@ pub fn unrolled_sums_are_meant()
 {
     totals_are_sums();
 }
+
+/// The sums of a script's runs do not fall as the steps grow.
+pub fn scripted_sums_grow()
+    ensures { growth.ScriptedSumsGrow }
+{}
