@@ -20,6 +20,7 @@ pub called : (P : Act → Type 0) (q : ℕ) (acts : List Act) → calls q acts �
 called P q [] e h = absurd (cc)
 called P q (Act.set x t span ∷ rest) e h = called P q rest e h.1
 called P q (Act.draw x qs span ∷ rest) e h = called P q rest e h.1
+called P q (Act.toss x f span ∷ rest) e h = called P q rest e h.1
 called P q (Act.any x up ty span ∷ rest) e h = called P q rest e h.1
 called P q (Act.reward f span ∷ rest) e h = called P q rest e h.1
 called P q (Act.ifs arms o span ∷ rest) e h = called P q rest e h.1
@@ -38,6 +39,7 @@ pub calls_only : (R : ℕ → Type 0) (acts : List Act) → ((q : ℕ) → calls
 calls_only R [] f = tt
 calls_only R (Act.set x t span ∷ rest) f = (tt, calls_only R rest f)
 calls_only R (Act.draw x qs span ∷ rest) f = (tt, calls_only R rest f)
+calls_only R (Act.toss x w span ∷ rest) f = (tt, calls_only R rest f)
 calls_only R (Act.any x up ty span ∷ rest) f = (tt, calls_only R rest f)
 calls_only R (Act.reward g span ∷ rest) f = (tt, calls_only R rest f)
 calls_only R (Act.ifs arms o span ∷ rest) f = (tt, calls_only R rest f)

@@ -24,6 +24,8 @@ use Rattle.heylo_formula.specs.declared.values.Val.{Val}
 use Rattle.heylo_formula.specs.declared.values.Val.TheVariants.{Truth}
 use Rattle.heylo_formula.proofs.exported.Agreement.{same_on, clash}
 use Rattle.heylo_formula.proofs.exported.States.{env_typed, put_keeps, fit_has}
+use Rattle.heyvl_acts.specs.Tosses.{toss_weight, toss_parts}
+use Rattle.heyvl_acts.proofs.exported.Tosses.{toss_fit, flips_weigh, before_products}
 use Rattle.heyvl_acts.specs.Acts.{Head, Act, Acts, Arms, Variable, TypedProcedure, variables, type_list, types_of, acts_in, procedure_at}
 use Rattle.heyvl_acts.specs.Forward.{Post, checked, picked, part, parts, drawn}
 use Rattle.heyvl_acts.specs.Matching.{taken}
@@ -43,7 +45,9 @@ use Rattle.loop_encodings.specs.internal.Contracts.{worst, given, put_all, call_
 use Rattle.loop_encodings.specs.internal.Programs.{ProgramAct, IsBoundedProgram, HasFormulas}
 use Rattle.loop_encodings.proofs.RunValues.{Safe, safe_refl, safe_trans, decide, pick_side, must_left, must_right, compares_safe, safe_compares, Covered, covered_more, covered_worst, covered_reward, covered_start, CoveredPart, part_first, part_add, part_all}
 use Rattle.loop_encodings.proofs.ScopedMeaning.{Sub, Respects, weaken, sub_shown, sub_act, put_on, value_on, way_on, blame_on, act_on, acts_on}
-use Rattle.loop_encodings.proofs.ProgramStates.{as_long, own_put, inputs_set, inputs_of, inputs_start, Assigned, own_set_all, start_typed, outputs_typed, OutsOwn, outputs_own, give, picks-give, past-give}
+use Rattle.run_machine.proofs.exported.OwnOutputs.{OutsOwn, outputs_own}
+use Rattle.run_machine.proofs.exported.TypedStates.{outputs_typed}
+use Rattle.loop_encodings.proofs.ProgramStates.{as_long, own_put, inputs_set, inputs_of, inputs_start, Assigned, own_set_all, start_typed, give, picks-give, past-give}
 use Rattle.loop_encodings.proofs.Monotone.{both, behind, args_typed, begun_value, Begun, begun_act}
 use Rattle.loop_encodings.proofs.LoopTurns.{Cover, Some, turn_value, begun_turn, turn_on, turn_off}
 use Rattle.loop_encodings.proofs.Kept.{owner, Waits, ItemsFit, FramesFit, IsConfig, AllNext, everything, items_more, items_push, step_kept, spread_from_zero, runs_from_zero, post_value, post_held}
@@ -344,6 +348,7 @@ module _ (up : Bool) (ps : List TypedProcedure) (R : ℕ → Type 0) (hold : (n 
     from_act : (c : Config) (gf : Frames c.frames) (st : IsState (own c.frames) c.state) (jss : List (List ℕ)) (is : List Item) (w : Visible) → Sub (interface (own c.frames)) w → (a : Act) → ProgramAct up ps R (own c.frames) a → ScopedAct w a → Fit c.frames (shown_by a w) is → (d : Decision) → Next (step_act ps a is c d) → (js : List ℕ) (ts : Forest) → Res c.frames jss (means_act c.frames a (items c.frames is js)) c.state (Spread n (step_act ps a is c d) ts) c.reward
     from_act c gf st jss is w i (Act.set x t span) m k g d a js ts = elim (from_put c gf st jss is _ g ts js x (term_value t (environment c.state)) m.0 a.0.1) [ inl h ↦ inl h | inr f ↦ inr (record { choices = f.choices; covers = f.covers }) ]
     from_act c gf st jss is w i (Act.draw x qs span) m k g d a js ts = from_draw c gf st jss is _ g ts x qs m.0 m.1.0 m.1.1 a js
+    from_act c gf st jss is w i (Act.toss x f span) m k g d a js ts = elim (from_draw c gf st jss is _ g ts x (toss_parts f (environment c.state)) m.0 (toss_fit (types c.frames) x f (environment c.state) m.1.0 m.1.1 (env_typed (type_list (variables (own c.frames))) c.state st)) (flips_weigh (toss_weight f (environment c.state))) a js) [ inl h ↦ inl h | inr q ↦ inr (record { choices = before_products q.choices; covers = q.covers }) ]
     from_act c gf st jss is w i (Act.any x u ty span) m k g d a js ts = elim (from_put c gf st jss is _ g ts js x (fit ty (value_of d)) m.0 a.0.1) [ inl h ↦ inl h | inr f ↦ inr (record { choices = Choices.choose (value_of d) f.choices Choices.stop; covers = f.covers }) ]
     from_act c gf st jss is w i (Act.reward f span) m k g d a js ts = elim (from_sure (rewarded c is (value f (environment c.state) Choices.stop)) a.0.1 jss js ts) [ inl h ↦ inl h | inr k ↦ inr (record { choices = both k.choices Choices.stop; covers = covered_reward up m.0 _ c.reward _ _ k.covers }) ]
     from_act c gf st jss is w i (Act.ifs arms e span) m k g d a js ts = elim (from_push c gf st jss is _ g ts (taken arms e (environment c.state)) is js a.0.1) [ inl h ↦ inl h | inr f ↦ inr (taken_block up (types c.frames) ps _ arms e span (items c.frames is js) c.state f) ]

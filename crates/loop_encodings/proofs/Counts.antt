@@ -61,6 +61,7 @@ module _ (ps : List TypedProcedure) (p : TypedProcedure) where
     count_act : (a : Act) (m : ℕ) → IsReady ps p a → count_of (encoded_act ps p m a) ≡ count_of_act a
     count_act (Act.set x t span) m h = refl
     count_act (Act.draw x qs span) m h = refl
+    count_act (Act.toss x f span) m h = refl
     count_act (Act.any x up ty span) m h = refl
     count_act (Act.reward f span) m h = refl
     count_act (Act.ifs arms e span) m h = let a = count_arms arms m h.0 in let b = counted e (m + length (fresh_of_arms ps arms)) h.1 in omega (arith, a, b)
@@ -88,6 +89,7 @@ module _ (ps : List TypedProcedure) (p : TypedProcedure) where
     few_act : (a : Act) → IsReady ps p a → length (fresh_of_act ps a) ≤ count_of_act a
     few_act (Act.set x t span) h = omega arith
     few_act (Act.draw x qs span) h = omega arith
+    few_act (Act.toss x f span) h = omega arith
     few_act (Act.any x up ty span) h = omega arith
     few_act (Act.reward f span) h = omega arith
     few_act (Act.ifs arms e span) h = let a = few_arms arms h.0 in let b = few e h.1 in let l = length-append (fresh_of_arms ps arms) (fresh ps e) in omega (arith, a, b, l)

@@ -16,7 +16,8 @@ use Rattle.vp_generator.specs.Scopes.{AnysAreBelow, AnysAreBelow_in}
 use Rattle.loop_encodings.specs.Encoding.{all_variables, any_block, encoded, encoded_act, encoded_arms, encoding, gets, havocs, sets, tested}
 use Rattle.loop_encodings.specs.EncodingLaws.{EncodingBindsItsVariables}
 use Rattle.loop_encodings.specs.Fresh.{fresh, fresh_of_act, fresh_of_arms}
-use Rattle.loop_encodings.proofs.FromRules.{IsFine, all_fine, each_first, each_procedure, each_second}
+use Rattle.heyvl_acts.proofs.exported.Each.{each_first, each_second}
+use Rattle.loop_encodings.proofs.FromRules.{IsFine, all_fine, each_procedure}
 
 -- ---- The parts of an encoding
 
@@ -60,6 +61,7 @@ module _ (ps : List TypedProcedure) (p : TypedProcedure) (n : ℕ) (own : length
     below_act : (a : Act) → IsFine ps p a → Each (IsFine ps p) (inside a) → (m : ℕ) → m + length (fresh_of_act ps a) ≤ n → AnysAreBelow n (encoded_act ps p m a)
     below_act (Act.set x t span) f i m l = (tt, tt)
     below_act (Act.draw x qs span) f i m l = (tt, tt)
+    below_act (Act.toss x w span) f i m l = (tt, tt)
     below_act (Act.any x d ty span) f i m l = (let k : x < length (variables p) = f.0.0.below in omega (arith, k, own), tt)
     below_act (Act.reward g span) f i m l = (tt, tt)
     below_act (Act.ifs arms e span) f i m l = (

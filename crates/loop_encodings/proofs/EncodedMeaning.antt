@@ -6,7 +6,7 @@ use Rattle.std.proofs.lemmas.Bool.Decides.{eqb_tells}
 use Rattle.std.proofs.lemmas.List.{length-append, length-map}
 use Prim.Native.Nat.{zero, suc}
 use Rattle.heyvl_num.specs.Rational.{Rational}
-use Rattle.heyvl_num.specs.Value.{Value, zeroᵛ, ◌+ᵛ◌}
+use Rattle.heyvl_num.specs.Value.{Value, oneᵛ, zeroᵛ, ◌+ᵛ◌}
 use Rattle.heyvl_places.specs.declared.spans.Span.{Span}
 use Rattle.heyvl_places.specs.declared.checks.CheckKind.{CheckKind}
 use Rattle.heylo_formula.specs.Operators.{finite_part}
@@ -23,8 +23,11 @@ use Rattle.heylo_formula.proofs.exported.Agreement.{same_on, same_on_in}
 use Rattle.heylo_formula.proofs.exported.Shifted.{shifted_value}
 use Rattle.heylo_formula.proofs.exported.States.{fit_has, length-typed, put_keeps}
 use Rattle.heylo_formula.proofs.exported.TypedTerms.{term_typed}
+use Rattle.heyvl_num.specs.ValueOperators.{minᵛ}
+use Rattle.heyvl_acts.specs.Tosses.{toss_parts, flip_parts}
+use Rattle.heyvl_acts.proofs.exported.Tosses.{toss_fit}
 use Rattle.heyvl_acts.specs.Acts.{Head, Act, Acts, Arms, TypedProcedure, Variable, join, procedure_at, type_list, types_of, variables}
-use Rattle.heyvl_acts.specs.Forward.{Post, OfLoops, OfCalls, checked, validated, part, parts, drawn, meant, meant_act, meant_arms, no_loops, no_calls, forward}
+use Rattle.heyvl_acts.specs.Forward.{Post, OfLoops, OfCalls, checked, validated, past_products, part, parts, drawn, meant, meant_act, meant_arms, no_loops, no_calls, forward}
 use Rattle.heyvl_acts.specs.Modified.{modified}
 use Rattle.heyvl_acts.specs.Rules.{Each, IsOwn}
 use Rattle.heyvl_acts.specs.Visible.{Scoped, ScopedAct, ScopedArms, Sees, SeesCond, SeesParts, SeesTerm, SeesTerms, Visible, shown_by}
@@ -315,6 +318,7 @@ module _ (ps : List TypedProcedure) (R : ℕ → Type 0) (callees : (n : ℕ) �
   after_bounded : (a : Act) (v : Visible) → ProgramAct p.co ps R p a → Bounded (length (variables p)) v → Bounded (length (variables p)) (shown_by a v)
   after_bounded (Act.set x t span) v w b = shown_bounded (length (variables p)) x v w.0.below b
   after_bounded (Act.draw x qs span) v w b = shown_bounded (length (variables p)) x v w.0.below b
+  after_bounded (Act.toss x f span) v w b = shown_bounded (length (variables p)) x v w.0.below b
   after_bounded (Act.any x d ty span) v w b = shown_bounded (length (variables p)) x v w.0.below b
   after_bounded (Act.reward f span) v w b = b
   after_bounded (Act.ifs arms e span) v w b = b
@@ -328,6 +332,7 @@ module _ (ps : List TypedProcedure) (R : ℕ → Type 0) (callees : (n : ℕ) �
     below_act : (a : Act) (v : Visible) → ProgramAct p.co ps R p a → Bounded (length (variables p)) v → ScopedAct v a → (m : ℕ) → length (variables p) ≤ m → (k j : Post) → Below p k j → Below p (forward (encoded_act ps p m a) k) (meaning_act p.co (types_of p) ps a j)
     below_act (Act.set x t span) v w b o m l k j r u s c g h = subst (λ i. Safe p.co (j (put x (term_value t s) s) c) (k (put x i u) c)) (sym (term_same _ v b u s g t o)) (r _ _ c (agree_put _ x _ u s g) (put_keeps (types_of p) s x _ h (term_typed (types_of p) (types_of p x) t s w.1 h)))
     below_act (Act.draw x qs span) v w b o m l k j r u s c g h = drawn_below v b x qs w.1.0 o k j r u s c g h
+    below_act (Act.toss x f span) v w b o m l k j r u s c g h = subst (λ z. Safe p.co (drawn x (toss_parts f s) j s (past_products c)) (drawn x (flip_parts (finite_part (minᵛ z oneᵛ))) k u (past_products c))) (sym (value_same _ v b u s g f o)) (drawn_below v b x (toss_parts f s) (toss_fit (types_of p) x f s w.1.0 w.1.1 h) ((λ y e. absurd (cc)), ((λ y e. absurd (cc)), tt)) k j r u s (past_products c) g h)
     below_act (Act.any x d ty span) v w b o m l k j r u s c g h = r _ _ (left c) (agree_put _ x _ u s g) (put_keeps (types_of p) s x _ h (subst (λ t. has t (fit ty (here c)) ≡ true) (sym w.1.0) (fit_has ty (here c))))
     below_act (Act.reward f span) v w b o m l k j r u s c g h = subst (λ i. Safe p.co (j s (left c) +ᵛ value f s Choices.stop) (k u (left c) +ᵛ i)) (sym (value_same _ v b u s g f o)) (safe_sum p.co _ _ _ _ (r u s (left c) g h) (safe_refl p.co _))
     below_act (Act.ifs arms e span) v w b o m l k j r u s c g h = below_arms arms v w.0 b o.0 m l k j r (forward (encoded ps p (m + length (fresh_of_arms ps arms)) e) k) (meaning p.co (types_of p) ps e j) (below_acts e v w.1 b o.1 _ (omega (arith, l)) k j r) u s c g h

@@ -23,7 +23,8 @@ use Rattle.loop_encodings.specs.Encoding.{all_variables, any_block, encoded, enc
 use Rattle.loop_encodings.specs.EncodingLaws.{EncodingIsOver}
 use Rattle.loop_encodings.specs.Fresh.{fresh, fresh_of_act, fresh_of_arms}
 use Rattle.loop_encodings.proofs.EncodedTypes.{Bounded, after_bounded, interface_bounded}
-use Rattle.loop_encodings.proofs.FromRules.{IsFine, all_fine, each_first, each_procedure, each_second}
+use Rattle.heyvl_acts.proofs.exported.Each.{each_first, each_second}
+use Rattle.loop_encodings.proofs.FromRules.{IsFine, all_fine, each_procedure}
 use Rattle.loop_encodings.proofs.PlainOccurrences.{occurs_free, occurs_free_in}
 
 -- Each number in the terms is below n.
@@ -128,6 +129,7 @@ module _ (ps : List TypedProcedure) (rules : (q : ℕ) → q < length ps → Mee
     over_act : (a : Act) (v : Visible) → IsFine ps p a → Each (IsFine ps p) (inside a) → Bounded (length (variables p)) v → ScopedAct v a → (m : ℕ) → m + length (fresh_of_act ps a) ≤ n → ActsAreOver n (encoded_act ps p m a)
     over_act (Act.set x t span) v f i b o m l = (term_over n v (wider v b) (types_of p) (types_of p x) t f.0.1 o, tt)
     over_act (Act.draw x qs span) v f i b o m l = (draw_over n v (wider v b) (types_of p) x qs f.0.1 o, tt)
+    over_act (Act.toss x g span) v f i b o m l = (sees_over n v (wider v b) g o, tt)
     over_act (Act.any x d ty span) v f i b o m l = (tt, tt)
     over_act (Act.reward g span) v f i b o m l = (sees_over n v (wider v b) g o, tt)
     over_act (Act.ifs arms e span) v f i b o m l = (

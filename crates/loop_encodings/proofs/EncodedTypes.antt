@@ -9,7 +9,7 @@ use Rattle.heyvl_num.specs.Rational.{Rational}
 use Rattle.heyvl_places.specs.declared.spans.Span.{Span}
 use Rattle.heylo_formula.specs.Formula.{Form, Cond, Term}
 use Rattle.heylo_formula.specs.Shifted.{shifted}
-use Rattle.heylo_formula.specs.Typing.{IsFormula, Types, types_in, number_type, fits, is_bool, is_unsigned, is_well_typed, TermFits}
+use Rattle.heylo_formula.specs.Typing.{IsFormula, Types, types_in, number_type, fits, is_bool, is_unsigned, is_well_typed, TermFits, is_finite_type}
 use Rattle.heylo_formula.specs.Variables.{IsOver}
 use Rattle.heylo_formula.specs.declared.types.Ty.{Ty}
 use Rattle.heylo_formula.proofs.exported.Agreement.{same_types, same_truth}
@@ -19,11 +19,12 @@ use Rattle.heyvl_acts.specs.Modified.{is_target_of, modified}
 use Rattle.heyvl_acts.specs.Places.{in_order, inside, inside_arms}
 use Rattle.heyvl_acts.specs.Rules.{ArgumentsFit, Each, GrowBelow, GuardsFit, IsOwn, MeetsRules, TargetsFit, widens_to}
 use Rattle.heyvl_acts.specs.Visible.{Scoped, ScopedAct, ScopedArms, Sees, SeesCond, SeesParts, SeesTerm, SeesTerms, Visible, interface, shown, shown_all, shown_by}
-use Rattle.heyvl_acts.specs.WellTyped.{ActsFit, ArmsFit, DrawFits, IsHeld, PartsFit}
+use Rattle.heyvl_acts.specs.WellTyped.{ActsFit, ArmsFit, DrawFits, IsHeld, IsProbability, PartsFit}
 use Rattle.k_induction.specs.Copies.{copies}
 use Rattle.loop_encodings.specs.Encoding.{all_variables, any_block, encoded, encoded_act, encoded_arms, encoded_loop, encoding, gets, havocs, read, sets, tested}
 use Rattle.loop_encodings.specs.Fresh.{fresh, fresh_of_act, fresh_of_arms}
-use Rattle.loop_encodings.proofs.FromRules.{IsFine, all_fine, each_first, each_second}
+use Rattle.heyvl_acts.proofs.exported.Each.{each_first, each_second}
+use Rattle.loop_encodings.proofs.FromRules.{IsFine, all_fine}
 
 -- ---- Types at numbers
 
@@ -90,6 +91,9 @@ term_on n v types types' ty (Term.number a) f b o h = (h.0, ap (λ t. fits t (nu
 held_on : (n : ℕ) (v : Visible) (types types' : Types) (a : Form) → Front n types types' → Bounded n v → Sees v a → IsHeld types' a → IsHeld types a
 held_on n v types types' a f b o h = (ap is_unsigned (same_types a types types' (λ y e. f y (b y (o y e)))) ∙ h.0, h.1)
 
+probability_on : (n : ℕ) (v : Visible) (types types' : Types) (a : Form) → Front n types types' → Bounded n v → Sees v a → IsProbability types' a → IsProbability types a
+probability_on n v types types' a f b o h = (held_on n v types types' a f b o h.0, (ap is_finite_type (same_types a types types' (λ y e. f y (b y (o y e)))) ∙ h.1.0, h.1.1))
+
 cond_on : (n : ℕ) (v : Visible) (types types' : Types) (g : Cond) → Front n types types' → Bounded n v → SeesCond v g → is_well_typed types' g ≡ true → is_well_typed types g ≡ true
 cond_on n v types types' g f b o h = same_truth g types types' (λ y e. f y (b y (o y e))) ∙ h
 
@@ -126,6 +130,7 @@ shown_all_bounded p (x ∷ xs) v o b = shown_all_bounded p xs (shown x v) o.1 (s
 pub after_bounded : (ps : List TypedProcedure) (p : TypedProcedure) (a : Act) (v : Visible) → IsFine ps p a → Bounded (length (variables p)) v → Bounded (length (variables p)) (shown_by a v)
 after_bounded ps p (Act.set x t span) v f b = shown_bounded (length (variables p)) x v f.0.0.below b
 after_bounded ps p (Act.draw x qs span) v f b = shown_bounded (length (variables p)) x v f.0.0.below b
+after_bounded ps p (Act.toss x w span) v f b = shown_bounded (length (variables p)) x v f.0.0.below b
 after_bounded ps p (Act.any x d ty span) v f b = shown_bounded (length (variables p)) x v f.0.0.below b
 after_bounded ps p (Act.reward g span) v f b = b
 after_bounded ps p (Act.ifs arms e span) v f b = b
@@ -199,6 +204,7 @@ module _ (ps : List TypedProcedure) (rules : (q : ℕ) → q < length ps → Mee
     fits_act : (a : Act) (v : Visible) → IsFine ps p a → Each (IsFine ps p) (inside a) → Bounded (length (variables p)) v → ScopedAct v a → (m : ℕ) → TypesFrom m (fresh_of_act ps a) types → ActsFit types (encoded_act ps p m a)
     fits_act (Act.set x t span) v f i b o m h = (subst (λ u. TermFits types u t) (sym (front x f.0.0.below)) (term_on (length (variables p)) v types (types_of p) (types_of p x) t front b o f.0.1), tt)
     fits_act (Act.draw x qs span) v f i b o m h = (draw_fits v x qs b f.0.0 f.0.1 o, tt)
+    fits_act (Act.toss x w span) v f i b o m h = ((front x f.0.0.below ∙ f.0.1.0, probability_on (length (variables p)) v types (types_of p) w front b o f.0.1.1), tt)
     fits_act (Act.any x d ty span) v f i b o m h = (front x f.0.0.below ∙ f.0.1, tt)
     fits_act (Act.reward g span) v f i b o m h = (held_on (length (variables p)) v types (types_of p) g front b o f.0.1, tt)
     fits_act (Act.ifs arms e span) v f i b o m h = (

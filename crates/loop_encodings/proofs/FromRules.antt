@@ -12,27 +12,9 @@ use Rattle.heyvl_acts.specs.Places.{in_order, inside, inside_arms}
 use Rattle.heyvl_acts.specs.Rules.{ArgumentsFit, Each, FollowsDirection, HasOwnTargets, IsCounted, IsTypedAct, LoopsMeet, MeetsAllRules, MeetsRules, TargetsFit}
 use Rattle.heyvl_acts.specs.declared.typed.TProc.{TProc}
 use Rattle.heyvl_acts.specs.declared.typed.Typed.{Typed}
+use Rattle.heyvl_acts.proofs.exported.Each.{each_first, each_second, each_two, each_at}
 use Rattle.loop_encodings.specs.internal.Ready.{AreReady, AreReadyArms, IsCall, IsCallee, IsReady}
 use Rattle.loop_encodings.proofs.OwnVariables.{inputs_length, outputs_length}
-
--- ---- Parts of what holds of each
-
-pub each_first : {A : Type 0} (P : A → Type 0) (xs ys : List A) → Each P (xs ++ ys) → Each P xs
-each_first P [] ys h = tt
-each_first P (x ∷ xs) ys h = (h.0, each_first P xs ys h.1)
-
-pub each_second : {A : Type 0} (P : A → Type 0) (xs ys : List A) → Each P (xs ++ ys) → Each P ys
-each_second P [] ys h = h
-each_second P (x ∷ xs) ys h = each_second P xs ys h.1
-
-pub each_two : {A : Type 0} (P Q : A → Type 0) (xs : List A) → Each P xs → Each Q xs → Each (λ x. P x × Q x) xs
-each_two P Q [] h k = tt
-each_two P Q (x ∷ xs) h k = ((h.0, k.0), each_two P Q xs h.1 k.1)
-
-pub each_at : (P : TypedProcedure → Type 0) (ps : List TypedProcedure) (p : ℕ) → Each P ps → p < length ps → P (procedure_at ps p)
-each_at P [] p h lt = absurd (omega (arith, lt))
-each_at P (q ∷ ps) zero h lt = h.0
-each_at P (q ∷ ps) (suc p) h lt = each_at P ps p h.1 (omega (arith, lt))
 
 -- What the rules say of an act.
 abbrev pub IsFine : List TypedProcedure → TypedProcedure → Act → Type 0
@@ -76,6 +58,7 @@ module _ (ps : List TypedProcedure) (p : TypedProcedure) (rules : (q : ℕ) → 
     ready_act : (a : Act) → IsFine ps p a → Each (IsFine ps p) (inside a) → IsReady ps p a
     ready_act (Act.set x t span) h i = tt
     ready_act (Act.draw x qs span) h i = tt
+    ready_act (Act.toss x f span) h i = tt
     ready_act (Act.any x up ty span) h i = tt
     ready_act (Act.reward f span) h i = tt
     ready_act (Act.ifs arms e span) h i = (ready_arms arms (each_first (IsFine ps p) (inside_arms arms) (in_order e) i), ready_acts e (each_second (IsFine ps p) (inside_arms arms) (in_order e) i))

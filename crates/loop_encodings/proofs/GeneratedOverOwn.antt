@@ -3,9 +3,11 @@ use Rattle.std.proofs.Common.{◌≡◌, ◌≤◌, ◌<◌, ◌+◌, ◌⊎◌,
 use Rattle.std.proofs.lemmas.List.{length-append, length-map}
 use Prim.Native.Nat.{zero, suc}
 use Rattle.heyvl_num.specs.Rational.{Rational}
+use Rattle.heyvl_num.specs.Value.{oneᵛ}
 use Rattle.heyvl_places.specs.declared.spans.Span.{Span}
 use Rattle.heylo_formula.specs.Formula.{Form, Cond, Term}
 use Rattle.heylo_formula.specs.Shifted.{shifted}
+use Rattle.heylo_formula.specs.Substitution as Replaced
 use Rattle.heylo_formula.specs.Typing.{Types}
 use Rattle.heylo_formula.specs.Variables.{occurs_in_term, IsOver, IsOverIn}
 use Rattle.heylo_formula.specs.declared.types.Ty.{Ty}
@@ -16,7 +18,7 @@ use Rattle.heyvl_acts.specs.Places.{in_order, inside, inside_arms}
 use Rattle.heyvl_acts.specs.Rules.{Each, GuardsFit, MeetsRules}
 use Rattle.heyvl_acts.specs.Visible.{Scoped, ScopedAct, ScopedArms, Visible, interface, shown_by}
 use Rattle.k_induction.specs.Copies.{copies, may, meets, must}
-use Rattle.vp_generator.specs.Generated.{draw_form, part_form, sum_of_parts, vp, vp_act, vp_arms}
+use Rattle.vp_generator.specs.Generated.{draw_form, part_form, sum_of_parts, toss_form, vp, vp_act, vp_arms}
 use Rattle.vp_generator.specs.Over.{PartsAreOver, TermIsOver}
 use Rattle.loop_encodings.specs.Encoding.{any_block, encoded, encoded_act, encoded_arms, encoded_call, encoded_loop, gets, havocs, read, sets, tested}
 use Rattle.loop_encodings.specs.Fresh.{fresh, fresh_of_act, fresh_of_arms}
@@ -24,7 +26,8 @@ use Rattle.loop_encodings.specs.FreshLaws.{generated_form}
 use Rattle.loop_encodings.proofs.EncodedOver.{TermsAreOver, draw_over, more_over, sees_over, sees_over_in, term_over, terms_over}
 use Rattle.loop_encodings.proofs.EncodedTypes.{Bounded, after_bounded, interface_bounded}
 use Rattle.loop_encodings.proofs.FreeVariables.{AllFree, bind_free, check_free, pick_free, select_free, subst_free, two_free, validate_free}
-use Rattle.loop_encodings.proofs.FromRules.{IsFine, all_fine, each_first, each_second, ready_acts}
+use Rattle.heyvl_acts.proofs.exported.Each.{each_first, each_second}
+use Rattle.loop_encodings.proofs.FromRules.{IsFine, all_fine, ready_acts}
 
 pub join_form : (a b : Acts) (k : Form) → vp (join a b) k ≡ vp a (vp b k)
 join_form Acts.done b k = refl
@@ -54,6 +57,18 @@ module _ (n : ℕ) where
   keeps_draw : (x : ℕ) (qs : List (Rational × Term)) (k : Form) → PartsAreOver n qs → IsOver n k → IsOver n (draw_form x qs k)
   keeps_draw x [] k h i = λ y j. absurd (cc)
   keeps_draw x (q ∷ qs) k h i = keeps_parts x qs k (part_form x q k) h.1 i (keeps_part x q k h.0 i)
+
+  -- ---- Tosses
+
+  keeps_toss : (x : ℕ) (f : Form) (span : Span) (k : Form) → IsOver n f → IsOver n k → IsOver n (toss_form x f span k)
+  keeps_toss x f span k h i =
+      let none : IsOver n (Form.number oneᵛ) = λ y j. absurd (cc) in
+      let w : IsOver n (Form.min f (Form.number oneᵛ)) = two_free (λ y. y < n) f (Form.number oneᵛ) h none in
+      let side = λ (b : Bool). subst_free (λ y. y < n) x (Term.truth (Cond.constant b)) k (λ y e j. i y j) (λ y j. absurd (cc)) in
+      let put = λ (b : Bool). Replaced.subst x (Term.truth (Cond.constant b)) k in
+      two_free (λ y. y < n) (Form.product (Form.min f (Form.number oneᵛ)) (put true) span) (Form.product (Form.cut (Form.number oneᵛ) (Form.min f (Form.number oneᵛ))) (put false) span)
+      (two_free (λ y. y < n) (Form.min f (Form.number oneᵛ)) (put true) w (side true))
+      (two_free (λ y. y < n) (Form.cut (Form.number oneᵛ) (Form.min f (Form.number oneᵛ))) (put false) (two_free (λ y. y < n) (Form.number oneᵛ) (Form.min f (Form.number oneᵛ)) none w) (side false))
 
   -- ---- Loops
 
@@ -144,6 +159,7 @@ module _ (ps : List TypedProcedure) (rules : (q : ℕ) → q < length ps → Mee
     keeps_act : (a : Act) (v : Visible) → IsFine ps p a → Each (IsFine ps p) (inside a) → Bounded (length (variables p)) v → ScopedAct v a → (m : ℕ) → Keeps (length (variables p)) (encoded_act ps p m a)
     keeps_act (Act.set x t span) v f i b o m k h = subst_free (λ y. y < length (variables p)) x t k (λ y e j. h y j) (term_over (length (variables p)) v b (types_of p) (types_of p x) t f.0.1 o)
     keeps_act (Act.draw x qs span) v f i b o m k h = keeps_draw (length (variables p)) x qs k (draw_over (length (variables p)) v b (types_of p) x qs f.0.1 o) h
+    keeps_act (Act.toss x g span) v f i b o m k h = keeps_toss (length (variables p)) x g span k (sees_over (length (variables p)) v b g o) h
     keeps_act (Act.any x d ty span) v f i b o m k h = bind_free (λ y. y < length (variables p)) d x x ty k (λ y e j. h y j)
     keeps_act (Act.reward g span) v f i b o m k h = two_free (λ y. y < length (variables p)) k g h (sees_over (length (variables p)) v b g o)
     keeps_act (Act.ifs arms e span) v f i b o m k h =

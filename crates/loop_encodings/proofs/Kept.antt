@@ -18,6 +18,8 @@ use Rattle.heylo_formula.specs.declared.values.Val.{Val}
 use Rattle.heylo_formula.proofs.exported.Agreement.{same_on}
 use Rattle.heylo_formula.proofs.exported.States.{env_typed, fit_has}
 use Rattle.heylo_formula.proofs.exported.TypedTerms.{term_typed}
+use Rattle.heyvl_acts.specs.Tosses.{toss_parts}
+use Rattle.heyvl_acts.proofs.exported.Tosses.{toss_fit}
 use Rattle.heyvl_acts.specs.Acts.{Head, Act, Acts, Arms, TypedProcedure, variables, type_list, types_of, acts_in, procedure_at}
 use Rattle.heyvl_acts.specs.Matching.{taken}
 use Rattle.heyvl_acts.specs.Rules.{IsOwn}
@@ -33,7 +35,9 @@ use Rattle.run_machine.proofs.exported.Equations.{runs-zero, runs-next, sum-none
 use Rattle.loop_encodings.specs.internal.Contracts.{given}
 use Rattle.loop_encodings.specs.internal.Programs.{Owns, Program, ProgramAct, ProgramArms, IsBoundedProgram, HasFormulas}
 use Rattle.loop_encodings.proofs.ScopedMeaning.{Sub, sub_shown, sub_act}
-use Rattle.loop_encodings.proofs.ProgramStates.{append_typed, take_typed, own_set, own_set_all, inputs_of, start_typed, outputs_typed, front_same, results, OutsOwn, outputs_own}
+use Rattle.run_machine.proofs.exported.OwnOutputs.{OutsOwn, outputs_own}
+use Rattle.run_machine.proofs.exported.TypedStates.{outputs_typed}
+use Rattle.loop_encodings.proofs.ProgramStates.{append_typed, take_typed, own_set, own_set_all, inputs_of, start_typed, front_same, results}
 use Rattle.loop_encodings.proofs.Monotone.{args_typed, held_value}
 
 -- the post reads the values of the inputs and the outputs
@@ -181,6 +185,7 @@ module _ (up : Bool) (ps : List TypedProcedure) (R : ℕ → Type 0) (hold : (n 
     act_kept : (w : Visible) → Sub (interface (owner c.frames)) w → (a : Act) → ProgramAct up ps R (owner c.frames) a → ScopedAct w a → ItemsFit c.frames (shown_by a w) is → (d : Decision) → AllNext (step_act ps a is c d)
     act_kept w i (Act.set x t span) m k g d = sure_fits _ (sets_term _ g x t m)
     act_kept w i (Act.draw x qs span) m k g d = draws _ g x qs m.0 m.1.0
+    act_kept w i (Act.toss x f span) m k g d = draws _ g x (toss_parts f (environment c.state)) m.0 (toss_fit (types_of (owner c.frames)) x f (environment c.state) m.1.0 m.1.1 (env_typed (type_list (variables (owner c.frames))) c.state st))
     act_kept w i (Act.any x u ty span) m k g d = sure_fits _ (sets_fit _ g x ty (value_of d) m.0 m.1.0)
     act_kept w i (Act.reward f span) m k g d = sure_fits _ (record { frames = gf; items = items_more c.frames w everything (λ y e. refl) is g; state = st })
     act_kept w i (Act.ifs arms e span) m k g d = sure_fits _ (moves w _ (items_push c.frames w w i (λ y e. e) (taken arms e (environment c.state)) is (program_taken (owner c.frames) arms e c.state m.0 m.1) (scoped_taken w arms e c.state k.0 k.1) g) c.state st)

@@ -1,20 +1,25 @@
 -- Bounds of small programs, one for each kind of act, as the law of encodings gives them from their goals.
 use Rattle.std.proofs.Common.{◌≡◌, refl, sym, subst, ℕ, Bool, true, false, List, [], ◌∷◌, arith}
-use Rattle.std.specs.Prelude.{Some, if◌then◌else◌}
-use Rattle.heyvl_num.specs.Rational.{zeroʳ, oneʳ, halfʳ, ratio, leqʳ, ◌+ʳ◌, ◌*ʳ◌}
+use Rattle.std.specs.Prelude.{Some, pos, if◌then◌else◌}
+use Rattle.heyvl_num.specs.Rational.{Rational, zeroʳ, oneʳ, halfʳ, ratio, leqʳ, negʳ, ◌+ʳ◌, ◌*ʳ◌, ◌-ʳ◌}
 use Rattle.heyvl_num.specs.Value.{zeroᵛ, oneᵛ, leqᵛ, ◌+ᵛ◌, ◌*ᵛ◌, ◌≤ᵛ◌}
 use Rattle.heyvl_num.specs.Value.Value.{finite}
+use Rattle.heyvl_num.specs.ValueOperators.{minᵛ}
 use Rattle.heyvl_num.proofs.exported.Values.{≤ᵛ_refl}
 use Rattle.heylo_formula.specs.Formula.{Form, Cond, Term}
+use Rattle.heylo_formula.specs.Operators.{finite_part}
 use Rattle.heylo_formula.specs.State.{get, truth_of}
+use Rattle.heylo_formula.specs.Typing.{types_in}
+use Rattle.heylo_formula.specs.declared.types.Ty.{Ty}
 use Rattle.heyvl_acts.specs.Acts.{Act, Arms, TypedProcedure, nobody}
 use Rattle.heyvl_acts.specs.Program.{Calls, IsProgram, Reaches}
 use Rattle.heyvl_acts.specs.Rules.{MeetsRules}
+use Rattle.heyvl_acts.specs.WellTyped.{IsHeld, IsProbability}
 use Rattle.run_machine.specs.Bound.{Bound}
 use Rattle.loop_encodings.specs.BoundGoals.{BoundGoalsHold}
 use Rattle.loop_encodings.specs.Law.{IsShown}
 use Rattle.loop_encodings.proofs.ShownBounds.{shown_bounds}
-use Rattle.loop_encodings.proofs.SmallPrograms.{nowhere, only, flag_named, one_form, half_form, zero_held, one_held, half_held, coin, half_from_zero, fair_weighs_one}
+use Rattle.loop_encodings.proofs.SmallPrograms.{nowhere, only, flag_named, one_form, two_form, half_form, zero_held, one_held, half_held, coin, half_from_zero, fair_weighs_one}
 
 -- ---- A file with one procedure
 
@@ -66,6 +71,61 @@ one_half = record { holds = refl }
 
 tossing_is_bounded : Bound (tossing ∷ []) 0
 tossing_is_bounded = bound_of tossing tossing_meets refl ((λ s c t. one_half), tt) (λ q e. absurd (cc))
+
+-- ---- A toss: the output is true with the probability 1/2 where the input holds, and else with 2, which counts as 1
+
+abbrev chance : Form
+chance = Form.select (Cond.flag 0) half_form two_form
+
+abbrev weighing : TypedProcedure
+weighing = record nobody {
+  inputs = flag_named 1 ∷ [];
+  outputs = flag_named 2 ∷ [];
+  pre = Form.select (Cond.flag 0) half_form one_form;
+  post = Form.iverson (Cond.flag 1);
+  body = Some (only (Act.toss 1 chance nowhere));
+}
+
+weighing_pre : IsHeld (types_in (Ty.Bool ∷ [])) weighing.pre
+unfolding halfʳ oneᵛ oneʳ zeroʳ ratio leqʳ
+weighing_pre = (refl, refl)
+
+weighing_chance : IsProbability (types_in (Ty.Bool ∷ Ty.Bool ∷ [])) chance
+unfolding halfʳ zeroʳ ratio leqʳ
+weighing_chance = ((refl, refl), (refl, refl))
+
+weighing_meets : MeetsRules (weighing ∷ []) weighing
+weighing_meets = record {
+  few_parameters = omega arith;
+  few_variables = omega arith;
+  few_statements = omega arith;
+  weak_is_proc = λ e. absurd (cc);
+  pre = weighing_pre;
+  pre_over = λ y e. grind arith;
+  post = refl;
+  post_over = λ y e. grind arith;
+  post_directed = refl;
+  targets = (record { no_input = omega arith; below = omega arith }, tt);
+  typed = ((refl, weighing_chance), tt);
+  weights = (tt, tt);
+  directions = (tt, tt);
+  binders = ((λ e. absurd (cc)), tt);
+  scopes = ((λ y e. grind arith), tt);
+  loops = (tt, tt);
+  numbered = refl;
+}
+
+-- The weight by the input, and the rest of 1.
+abbrev weight_of : Bool → Rational
+weight_of b = finite_part (minᵛ (if b then finite halfʳ else finite (ratio (pos 2) 1)) oneᵛ)
+
+weighed : (b : Bool) → (finite (weight_of b) *ᵛ oneᵛ) +ᵛ (finite (oneʳ -ʳ weight_of b) *ᵛ zeroᵛ) ≤ᵛ (if b then finite halfʳ else oneᵛ)
+unfolding halfʳ minᵛ leqᵛ leqʳ ◌+ᵛ◌ ◌*ᵛ◌ zeroᵛ oneᵛ zeroʳ oneʳ ◌+ʳ◌ ◌*ʳ◌ ◌-ʳ◌ negʳ ratio
+weighed true = record { holds = refl }
+weighed false = record { holds = refl }
+
+weighing_is_bounded : Bound (weighing ∷ []) 0
+weighing_is_bounded = bound_of weighing weighing_meets refl ((λ s c t. weighed (truth_of (get 0 s))), tt) (λ q e. absurd (cc))
 
 -- ---- A reward: 1 is collected
 

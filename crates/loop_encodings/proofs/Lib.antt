@@ -3,7 +3,6 @@ pub mod OwnVariables
 pub mod CallSteps
 pub mod Steps
 pub mod ActSteps
-pub mod Weights
 pub mod Counts
 pub mod FromRules
 pub mod EncodedTypes

@@ -67,6 +67,7 @@ module _ (scope : List ℕ) (whole : Acts) where
     within_act : (a : Act) → Part (λ x. is_target_of_act x a) → WithinAct (among scope) (modified scope whole) a
     within_act (Act.set y e span) t = λ k. modified_in scope whole y (t y (self y)) k
     within_act (Act.draw y qs span) t = λ k. modified_in scope whole y (t y (self y)) k
+    within_act (Act.toss y f span) t = λ k. modified_in scope whole y (t y (self y)) k
     within_act (Act.any y up ty span) t = λ k. modified_in scope whole y (t y (self y)) k
     within_act (Act.reward f span) t = tt
     within_act (Act.ifs arms e span) t = (within_arms arms (λ x h. t x (or_first _ _ h)), within_acts e (λ x h. t x (or_second (is_target_of_arms x arms) _ h)))

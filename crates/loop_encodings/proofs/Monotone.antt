@@ -21,8 +21,10 @@ use Rattle.heylo_formula.specs.declared.values.Val.TheVariants.{Truth}
 use Rattle.heylo_formula.proofs.exported.Agreement.{same_on}
 use Rattle.heylo_formula.proofs.exported.States.{env_typed, listed_same, put_keeps, fit_has}
 use Rattle.heylo_formula.proofs.exported.TypedTerms.{nonnegative_value, term_typed}
+use Rattle.heyvl_acts.specs.Tosses.{toss_weight, toss_parts}
+use Rattle.heyvl_acts.proofs.exported.Tosses.{toss_fit, flips_weigh, before_products}
 use Rattle.heyvl_acts.specs.Acts.{Head, Act, Acts, Arms, Variable, TypedProcedure, variables, type_list, types_of, procedure_at}
-use Rattle.heyvl_acts.specs.Forward.{Post, picked, part, parts, drawn, meant_arms}
+use Rattle.heyvl_acts.specs.Forward.{Post, past_products, picked, part, parts, drawn, meant_arms}
 use Rattle.heyvl_acts.specs.Modified.{modified}
 use Rattle.heyvl_acts.specs.Rules.{ArgumentsFit}
 use Rattle.heyvl_acts.specs.Visible.{Visible}
@@ -130,6 +132,7 @@ module _ (up : Bool) (ps : List TypedProcedure) (R : ℕ → Type 0) (hold : (n 
       under_act : (a : Act) → ProgramAct up ps R p a → WithinAct v ms a → (k l : Post) → Under up p B v ms s k l → Under up p B v ms s (meaning_act up (types_of p) ps a k) (meaning_act up (types_of p) ps a l)
       under_act (Act.set x t' span) m w k l u t c e = u (put x (term_value t' t) t) c (same_put p v ms x _ s t w (term_typed (types_of p) (types_of p x) t' t m.1 e.typed) e)
       under_act (Act.draw x qs span) m w k l u t c e = drawn_under x qs w m.1.0 k l u t c e
+      under_act (Act.toss x f span) m w k l u t c e = then_found (drawn_under x (toss_parts f t) w (toss_fit (types_of p) x f t m.1.0 m.1.1 e.typed) k l u t (past_products c) e) (λ g. record { choices = before_products g.choices; safe = g.safe })
       under_act (Act.any x d ty span) m w k l u t c e = then_found (u (put x (fit ty (here c)) t) (left c) (same_put p v ms x _ s t w (subst (λ ty'. has ty' (fit ty (here c)) ≡ true) (sym m.1.0) (fit_has ty (here c))) e)) (λ f. record { choices = Choices.choose (here c) f.choices Choices.stop; safe = f.safe })
       under_act (Act.reward f span) m w k l u t c e = then_found (u t (left c) e) (λ g. record { choices = both g.choices Choices.stop; safe = safe_sum up _ _ _ _ g.safe (safe_refl up _) })
       under_act (Act.ifs arms b span) m w k l u t c e = under_arms arms m.0 w.0 k l u (meaning up (types_of p) ps b k) (meaning up (types_of p) ps b l) (under_acts b m.1 w.1 k l u) t c e
@@ -191,6 +194,7 @@ module _ (up : Bool) (ps : List TypedProcedure) (R : ℕ → Type 0) (hold : (n 
     pub begun_act : (a : Act) → ProgramAct up ps R p a → (k : Post) → Begun k → Begun (meaning_act up (types_of p) ps a k)
     begun_act (Act.set x t span) m k b s c h = b _ c (put_term x t s m.1 h)
     begun_act (Act.draw x qs span) m k b s c h = begun_drawn x qs m.1.0 m.1.1 k b s c h
+    begun_act (Act.toss x f span) m k b s c h = begun_drawn x (toss_parts f s) (toss_fit (types_of p) x f s m.1.0 m.1.1 h) (flips_weigh (toss_weight f s)) k b s (past_products c) h
     begun_act (Act.any x d ty span) m k b s c h = b _ (left c) (put_keeps (types_of p) s x _ h (subst (λ ty'. has ty' (fit ty (here c)) ≡ true) (sym m.1.0) (fit_has ty (here c))))
     begun_act (Act.reward f span) m k b s c h = begun_reward up m.0 _ _ (held_value (types_of p) f s m.1 h) (b s (left c) h)
     begun_act (Act.ifs arms e span) m k b s c h = begun_arms arms m.0 k b (meaning up (types_of p) ps e k) (begun_acts e m.1 k b) s c h

@@ -20,14 +20,11 @@ use Rattle.heyvl_acts.specs.Rules.{IsOwn, widens_to}
 use Rattle.heyvl_acts.specs.Visible.{Visible}
 use Rattle.run_machine.specs.Bound.{IsState}
 use Rattle.run_machine.specs.Configurations.{set_all, first_state, outputs_of}
+use Rattle.run_machine.proofs.exported.TypedStates.{types_length, widened, defaults_typed}
 use Rattle.loop_encodings.specs.internal.Contracts.{havoc, after, picks, past_picks, put_all}
 use Rattle.loop_encodings.specs.internal.Programs.{In, AllIn, Owns}
 
 -- ---- Lists of variables and typed states
-
-pub types_length : (xs : List Variable) → length (type_list xs) ≡ length xs
-types_length [] = refl
-types_length (x ∷ xs) = ap suc (types_length xs)
 
 -- a typed list has a value for each variable
 pub as_long : (xs : List Variable) (s : List Val) → IsTyped (type_list xs) s → length s ≡ length xs
@@ -52,33 +49,7 @@ take_typed [] ys s h = refl
 take_typed (x ∷ xs) ys [] h = absurd h
 take_typed (x ∷ xs) ys (v ∷ s) h = (h.0, take_typed xs ys s h.1)
 
-drop_typed : (xs ys : List Variable) (s : List Val) → IsTyped (type_list (xs ++ ys)) s → IsTyped (type_list ys) (drop (length xs) s)
-drop_typed [] ys s h = h
-drop_typed (x ∷ xs) ys [] h = absurd h
-drop_typed (x ∷ xs) ys (v ∷ s) h = drop_typed xs ys s h.1
-
 -- ---- A variable that is the procedure's own
-
--- a value of a type has each type to which this one widens
-widened : (t u : Ty) (v : Val) → widens_to t u ≡ true → has t v ≡ true → has u v ≡ true
-widened Ty.Bool Ty.Bool v w h = h
-widened Ty.Bool Ty.Int v w h = absurd (cc)
-widened Ty.Bool Ty.UInt v w h = absurd (cc)
-widened Ty.Bool Ty.UReal v w h = absurd (cc)
-widened Ty.Int Ty.Bool v w h = absurd (cc)
-widened Ty.Int Ty.Int v w h = h
-widened Ty.Int Ty.UInt v w h = absurd (cc)
-widened Ty.Int Ty.UReal v w h = absurd (cc)
-widened Ty.UInt Ty.Bool v w h = absurd (cc)
-widened Ty.UInt Ty.Int (Truth b) w h = absurd (cc)
-widened Ty.UInt Ty.Int (Num x) w h = (and_both (x.den == 1) (leqʳ zeroʳ x) h).0
-widened Ty.UInt Ty.UInt v w h = h
-widened Ty.UInt Ty.UReal (Truth b) w h = absurd (cc)
-widened Ty.UInt Ty.UReal (Num x) w h = (and_both (x.den == 1) (leqʳ zeroʳ x) h).1
-widened Ty.UReal Ty.Bool v w h = absurd (cc)
-widened Ty.UReal Ty.Int v w h = absurd (cc)
-widened Ty.UReal Ty.UInt v w h = absurd (cc)
-widened Ty.UReal Ty.UReal v w h = h
 
 pub own_set : (p : TypedProcedure) (x : ℕ) (v : Val) (s : List Val) → IsOwn p x → has (types_of p x) v ≡ true → IsState p s → IsState p (set s x v)
 own_set p x v s o e h = set_typed (type_list (variables p)) s x v h (subst (λ n. x < n) (sym (types_length (variables p))) o.below) e
@@ -120,16 +91,6 @@ put_all_keeps p (x ∷ xs) (t ∷ ts) (v ∷ vs) s o f h = put_all_keeps p xs ts
 
 -- ---- The first state of a call, its inputs and its outputs
 
-default_typed : (ty : Ty) → has ty (default ty) ≡ true
-default_typed Ty.Bool = fit_has Ty.Bool (Num zeroʳ)
-default_typed Ty.Int = fit_has Ty.Int (Truth false)
-default_typed Ty.UInt = fit_has Ty.UInt (Truth false)
-default_typed Ty.UReal = fit_has Ty.UReal (Truth false)
-
-pub defaults_typed : (tys : List Ty) → IsTyped tys (map default tys)
-defaults_typed [] = refl
-defaults_typed (t ∷ tys) = (default_typed t, defaults_typed tys)
-
 pub start_typed : (p : TypedProcedure) (vs : List Val) → IsTyped (type_list p.inputs) vs → IsState p (first_state p vs)
 start_typed p vs h = append_typed p.inputs (p.outputs ++ p.locals) vs _ h (defaults_typed (type_list (p.outputs ++ p.locals)))
 
@@ -140,9 +101,6 @@ take_append (x ∷ xs) (v ∷ vs) ws h = ap (λ u. v ∷ u) (take_append xs vs w
 
 pub inputs_start : (p : TypedProcedure) (vs : List Val) → IsTyped (type_list p.inputs) vs → inputs_of p (first_state p vs) ≡ vs
 inputs_start p vs h = take_append p.inputs vs _ h
-
-pub outputs_typed : (p : TypedProcedure) (s : List Val) → IsState p s → IsTyped (type_list p.outputs) (outputs_of p s)
-outputs_typed p s h = take_typed p.outputs p.locals _ (drop_typed p.inputs _ s h)
 
 -- below their number, an environment is that of the first values
 get_take : (n y : ℕ) (s : List Val) → y < n → get_or (take n s) y (Truth false) ≡ get_or s y (Truth false)
@@ -166,36 +124,6 @@ take_both (x ∷ xs) ys (v ∷ s) = ap (λ l. v ∷ l) (take_both xs ys s)
 -- the values that a post reads
 pub results : (p : TypedProcedure) (s : List Val) → inputs_of p s ++ outputs_of p s ≡ take (length (p.inputs ++ p.outputs)) s
 results p s = take_both p.inputs p.outputs s
-
--- ---- The outputs are the procedure's own
-
-abbrev pub OutsOwn : TypedProcedure → ℕ → List Ty → Type 0
-OutsOwn p n [] = Unit {0}
-OutsOwn p n (t ∷ ts) = (IsOwn p n × (types_of p n ≡ t)) × OutsOwn p (suc n) ts
-
--- variables with these types, from a number on
-abbrev TypesAt : List Variable → ℕ → List Ty → Type 0
-TypesAt vs n [] = Unit {0}
-TypesAt vs n (t ∷ ts) = ((n < length vs) × (types_in (type_list vs) n ≡ t)) × TypesAt vs (suc n) ts
-
-types_shift : (u : Variable) (vs : List Variable) (n : ℕ) (ts : List Ty) → TypesAt vs n ts → TypesAt (u ∷ vs) (suc n) ts
-types_shift u vs n [] h = tt
-types_shift u vs n (t ∷ ts) h = ((omega (arith, h.0.0), h.0.1), types_shift u vs (suc n) ts h.1)
-
-types_here : (xs ys : List Variable) → TypesAt (xs ++ ys) 0 (type_list xs)
-types_here [] ys = tt
-types_here (x ∷ xs) ys = ((omega arith, refl), types_shift x (xs ++ ys) 0 (type_list xs) (types_here xs ys))
-
-types_after : (is xs ys : List Variable) → TypesAt (is ++ (xs ++ ys)) (length is) (type_list xs)
-types_after [] xs ys = types_here xs ys
-types_after (i ∷ is) xs ys = types_shift i _ (length is) (type_list xs) (types_after is xs ys)
-
-outs_own : (p : TypedProcedure) (n : ℕ) (ts : List Ty) → length p.inputs ≤ n → TypesAt (variables p) n ts → OutsOwn p n ts
-outs_own p n [] l h = tt
-outs_own p n (t ∷ ts) l h = ((record { no_input = l; below = h.0.0 }, h.0.1), outs_own p (suc n) ts (omega arith) h.1)
-
-pub outputs_own : (p : TypedProcedure) → OutsOwn p (length p.inputs) (type_list p.outputs)
-outputs_own p = outs_own p (length p.inputs) (type_list p.outputs) (omega arith) (types_after p.inputs p.outputs p.locals)
 
 -- ---- Choices that keep the variables, that give values, or that repeat the first choices
 

@@ -16,7 +16,7 @@ use Rattle.heyvl_acts.specs.Visible.{Visible, Scoped, ScopedAct, ScopedArms, amo
 use Rattle.heyvl_acts.specs.WellTyped.{DrawFits, PartsFit}
 use Rattle.loop_encodings.specs.BoundGoals.{IsAtMostOne}
 use Rattle.loop_encodings.specs.internal.Programs.{Owns, Program, ProgramAct, ProgramArms}
-use Rattle.loop_encodings.proofs.FromRules.{each_first, each_second}
+use Rattle.heyvl_acts.proofs.exported.Each.{each_first, each_second}
 use Rattle.loop_encodings.proofs.ModifiedVariables.{modified_within}
 
 -- ---- What is known of each act
@@ -25,6 +25,7 @@ use Rattle.loop_encodings.proofs.ModifiedVariables.{modified_within}
 abbrev pub CallsOnly : (ℕ → Type 0) → Act → Type 0
 CallsOnly R (Act.set x t span) = Unit {0}
 CallsOnly R (Act.draw x qs span) = Unit {0}
+CallsOnly R (Act.toss x f span) = Unit {0}
 CallsOnly R (Act.any x up ty span) = Unit {0}
 CallsOnly R (Act.reward f span) = Unit {0}
 CallsOnly R (Act.ifs arms e span) = Unit {0}
@@ -38,6 +39,7 @@ CallsOnly R (Act.call xs q es span) = R q
 abbrev pub HasSmallInvariant : TypedProcedure → Act → Type 0
 HasSmallInvariant p (Act.set x t span) = Unit {0}
 HasSmallInvariant p (Act.draw x qs span) = Unit {0}
+HasSmallInvariant p (Act.toss x f span) = Unit {0}
 HasSmallInvariant p (Act.any x up ty span) = Unit {0}
 HasSmallInvariant p (Act.reward f span) = Unit {0}
 HasSmallInvariant p (Act.ifs arms e span) = Unit {0}
@@ -113,6 +115,7 @@ module _ (ps : List TypedProcedure) (R : ℕ → Type 0) (p : TypedProcedure) (k
     program_act : (v : Visible) (a : Act) → ScopedAct v a → IsRuled ps R p a → Each (IsRuled ps R p) (inside a) → ProgramAct p.co ps R p a
     program_act v (Act.set x t span) s h i = (h.targets, h.typed)
     program_act v (Act.draw x qs span) s h i = (h.targets, (drawn (types_of p) x qs h.typed, h.weights))
+    program_act v (Act.toss x f span) s h i = (h.targets, h.typed)
     program_act v (Act.any x d ty span) s h i = (h.targets, (h.typed, h.directions))
     program_act v (Act.reward f span) s h i = (upward h.directions, h.typed)
     program_act v (Act.ifs arms e span) s h i = (program_arms v arms s.0 h.typed (each_first (IsRuled ps R p) (inside_arms arms) (in_order e) i), program_acts v e s.1 (each_second (IsRuled ps R p) (inside_arms arms) (in_order e) i))

@@ -2,7 +2,7 @@
 use Rattle.std.proofs.Common.{◌≡◌, ◌∙◌, ℕ, refl, ap, ap₂, Bool, true, false, cond, ◌==◌, ◌||◌, List, [], ◌∷◌, ◌++◌}
 use Prim.Native.Nat.{zero, suc}
 use Rattle.heyvl_num.specs.Rational.{Rational}
-use Rattle.heyvl_num.specs.Value.{Value, ◌+ᵛ◌, ◌*ᵛ◌}
+use Rattle.heyvl_num.specs.Value.{Value, oneᵛ, ◌+ᵛ◌, ◌*ᵛ◌}
 use Rattle.heyvl_num.specs.Value.Value.{finite}
 use Rattle.heylo_formula.specs.Operators.{finite_part}
 use Rattle.heylo_formula.specs.State.{Env, put, IsTyped}
@@ -14,8 +14,10 @@ use Rattle.heylo_formula.specs.declared.types.Ty.{Ty}
 use Rattle.heylo_formula.specs.declared.values.Val.{Val}
 use Rattle.heylo_formula.specs.declared.values.Val.TheVariants.{Truth, Num}
 use Rattle.heylo_formula.proofs.exported.Agreement.{same_on, same_on_in}
+use Rattle.heyvl_num.specs.ValueOperators.{minᵛ}
+use Rattle.heyvl_acts.specs.Tosses.{toss_parts, flip_parts}
 use Rattle.heyvl_acts.specs.Acts.{Head, Act, Acts, Arms, TypedProcedure, type_list, types_of, procedure_at}
-use Rattle.heyvl_acts.specs.Forward.{Post, picked, checked, validated, part, parts, drawn, meant_arms}
+use Rattle.heyvl_acts.specs.Forward.{Post, picked, checked, validated, past_products, part, parts, drawn, meant_arms}
 use Rattle.heyvl_acts.specs.Modified.{modified}
 use Rattle.heyvl_acts.specs.Visible.{Visible, shown, shown_all, Sees, SeesCond, SeesTerm, SeesTerms, SeesParts, shown_by, ScopedAct, Scoped, ScopedArms}
 use Rattle.k_induction.specs.Copies.{must, may, meets}
@@ -50,6 +52,7 @@ sub_shown_all (x ∷ xs) v y e = sub_shown_all xs (shown x v) y (sub_shown x v y
 pub sub_act : (a : Act) (v : Visible) → Sub v (shown_by a v)
 sub_act (Act.set x t span) v y e = sub_shown x v y e
 sub_act (Act.draw x qs span) v y e = sub_shown x v y e
+sub_act (Act.toss x f span) v y e = sub_shown x v y e
 sub_act (Act.any x up ty span) v y e = sub_shown x v y e
 sub_act (Act.reward f span) v y e = e
 sub_act (Act.ifs arms b span) v y e = e
@@ -129,6 +132,7 @@ module _ (up : Bool) (ps : List TypedProcedure) (R : ℕ → Type 0) (p : TypedP
     pub act_on : (a : Act) → ProgramAct up ps R p a → (v : Visible) → ScopedAct v a → (k : Post) → Respects (shown_by a v) k → Respects v (meaning_act up (types_of p) ps a k)
     act_on (Act.set x e span) w v m k r s t c a = ap (λ u. k (put x u s) c) (term_on v e s t m a) ∙ r (put x (term_value e t) s) (put x (term_value e t) t) c (put_on v x _ s t a)
     act_on (Act.draw x qs span) w v m k r s t c a = drawn_on v x qs k m r s t c a
+    act_on (Act.toss x f span) w v m k r s t c a = ap (λ u. drawn x (flip_parts (finite_part (minᵛ u oneᵛ))) k s (past_products c)) (value_on v f s t m a) ∙ drawn_on v x (toss_parts f t) k ((λ y e. absurd (cc)), ((λ y e. absurd (cc)), tt)) r s t (past_products c) a
     act_on (Act.any x d ty span) w v m k r s t c a = r _ _ (left c) (put_on v x _ s t a)
     act_on (Act.reward f span) w v m k r s t c a = ap₂ (λ i j. i +ᵛ j) (r s t (left c) a) (value_on v f s t m a)
     act_on (Act.ifs arms e span) w v m k r s t c a = arms_on arms w.0 v m.0 k r (meaning up (types_of p) ps e k) (acts_on e w.1 v m.1 k r) s t c a

@@ -16,7 +16,7 @@ use Rattle.heyvl_acts.specs.Acts.{Act, Acts, TypedProcedure, Variable, acts_in, 
 use Rattle.heyvl_acts.specs.Places.{in_order}
 use Rattle.heyvl_acts.specs.Program.{IsProgram}
 use Rattle.heyvl_acts.specs.Rules.{Each, MeetsRules, counted, loop_numbers}
-use Rattle.loop_encodings.specs.BoundGoals.{BoundGoalsHold, GoalHolds, IsAtMostOne, IsBounded, invariant_in}
+use Rattle.loop_encodings.specs.BoundGoals.{BoundGoalsHold, GoalHolds, IsAtMostOne, IsBounded, IsSmallThere, invariant_in}
 use Rattle.loop_encodings.specs.internal.Contracts.{picks}
 use Rattle.loop_encodings.specs.internal.Programs.{IsSmall}
 use Rattle.loop_encodings.proofs.ModifiedVariables.{self}
@@ -51,6 +51,7 @@ loops_have : (p : TypedProcedure) (from n : ℕ) (acts : List Act) → loop_numb
 loops_have p from n [] e h = tt
 loops_have p from n (Act.set x t span ∷ rest) e h = (tt, loops_have p from n rest e h)
 loops_have p from n (Act.draw x qs span ∷ rest) e h = (tt, loops_have p from n rest e h)
+loops_have p from n (Act.toss x f span ∷ rest) e h = (tt, loops_have p from n rest e h)
 loops_have p from n (Act.any x up ty span ∷ rest) e h = (tt, loops_have p from n rest e h)
 loops_have p from n (Act.reward f span ∷ rest) e h = (tt, loops_have p from n rest e h)
 loops_have p from n (Act.ifs arms o span ∷ rest) e h = (tt, loops_have p from n rest e h)
@@ -114,7 +115,7 @@ module _ (ps : List TypedProcedure) (p : TypedProcedure) (rules : MeetsRules ps 
     where
       go : (o : Option Form) → invariant_in n (in_order (acts_in p.body)) ≡ o → OfForm (IsSmallIn p) (invariant_in n (in_order (acts_in p.body)))
       go None e = subst (OfForm (IsSmallIn p)) (sym e) tt
-      go (Some f) e = subst (OfForm (IsSmallIn p)) (sym e) (let k : IsSmallIn p f = rw e at h in k)
+      go (Some f) e = subst (OfForm (IsSmallIn p)) (sym e) (λ s c t. subst (λ (o : Option Form). IsSmallThere o s c) e (h s c t))
 
   pub small_invariants : Each (HasSmallInvariant p) (in_order (acts_in p.body))
   small_invariants = loops_have p 1 p.loops (in_order (acts_in p.body)) rules.numbered (each_all (λ n. GoalHolds ps p (Invariant n)) (λ n. OfForm (IsSmallIn p) (invariant_in n (in_order (acts_in p.body)))) (loop_numbers (in_order (acts_in p.body))) invariant_small (weak_goals ps p program goals weak).invariants)

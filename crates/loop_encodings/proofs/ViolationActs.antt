@@ -1,26 +1,28 @@
 -- What the rules say of each act of a program without loops and calls.
-use Rattle.std.proofs.Common.{◌≡◌, ◌<◌, ℕ, refl, sym, subst, Bool, true, false, not, ◌||◌, List, [], ◌∷◌, length}
+use Rattle.std.proofs.Common.{◌≡◌, ℕ, refl, sym, subst, Bool, true, false, not, ◌||◌, List, [], ◌∷◌}
 use Rattle.std.specs.Prelude.{Option, Some, None, if◌then◌else◌}
 use Rattle.heyvl_num.specs.Rational.{Rational, oneʳ}
-use Rattle.heyvl_num.specs.WeightedSums.{total_weight, IsWeighted}
+use Rattle.heyvl_num.specs.WeightedSums.{total_weight}
 use Rattle.heyvl_places.specs.declared.spans.Span.{Span}
 use Rattle.heylo_formula.specs.Binders.{has_binder}
 use Rattle.heylo_formula.specs.Formula.{Term}
 use Rattle.heylo_formula.specs.Operators.{agree}
-use Rattle.heylo_formula.specs.Typing.{Types}
+use Rattle.heylo_formula.specs.Typing.{Types, TermFits}
 use Rattle.heyvl_acts.specs.Acts.{Act, Acts, TypedProcedure, acts_in, types_of, variables}
 use Rattle.heyvl_acts.specs.Places.{in_order}
 use Rattle.heyvl_acts.specs.Program.{Reason, first_break, reason_of_break, IsProgram}
-use Rattle.heyvl_acts.specs.Rules.{Each, FollowsDirection, HasOwnTargets, IsTypedAct, MeetsRules, WeighsOne}
-use Rattle.heyvl_acts.specs.WellTyped.{DrawFits, PartsFit}
+use Rattle.heyvl_acts.specs.Rules.{Each, IsOwn, FollowsDirection, HasOwnTargets, IsTypedAct, MeetsRules, WeighsOne}
+use Rattle.heyvl_acts.specs.WellTyped.{DrawFits, PartsFit, IsProbability}
+use Rattle.heylo_formula.specs.declared.types.Ty.{Ty}
 use Rattle.heyvl_acts.specs.Straight.{IsStraight}
 
 -- No check, no loop and no call; a target is one of n variables, the weights of a draw are from 0 on and add up to 1, and
 -- rewards come upward alone.
-abbrev pub IsSimple : Bool → ℕ → Act → Type 0
-IsSimple up n (Act.set x t span) = x < n
-IsSimple up n (Act.draw x qs span) = (x < n) × (IsWeighted qs × (total_weight qs ≡ oneʳ))
-IsSimple up n (Act.any x over ty span) = x < n
+abbrev pub IsSimple : Bool → TypedProcedure → Act → Type 0
+IsSimple up n (Act.set x t span) = IsOwn n x × TermFits (types_of n) (types_of n x) t
+IsSimple up n (Act.draw x qs span) = IsOwn n x × (PartsFit (types_of n) x qs × (total_weight qs ≡ oneʳ))
+IsSimple up n (Act.toss x f span) = IsOwn n x × ((types_of n x ≡ Ty.Bool) × IsProbability (types_of n) f)
+IsSimple up n (Act.any x over ty span) = IsOwn n x × (types_of n x ≡ ty)
 IsSimple up n (Act.reward f span) = up ≡ true
 IsSimple up n (Act.ifs arms e span) = Unit {0}
 IsSimple up n (Act.pick over a b span) = Unit {0}
@@ -57,13 +59,9 @@ plain_program p h = go p.body refl h
 
 -- ---- Acts
 
-weighted : (types : Types) (x : ℕ) (qs : List (Rational × Term)) → PartsFit types x qs → IsWeighted qs
-weighted types x [] h = IsWeighted.none
-weighted types x (q ∷ qs) h = IsWeighted.one_more q qs h.0.0 (weighted types x qs h.1)
-
-draw_weighted : (types : Types) (x : ℕ) (qs : List (Rational × Term)) → DrawFits types x qs → IsWeighted qs
-draw_weighted types x [] h = absurd h
-draw_weighted types x (q ∷ qs) h = weighted types x (q ∷ qs) h
+parts_of_draw : (types : Types) (x : ℕ) (qs : List (Rational × Term)) → DrawFits types x qs → PartsFit types x qs
+parts_of_draw types x [] h = absurd h
+parts_of_draw types x (q ∷ qs) h = h
 
 upward : (co weak : Bool) → (co || weak) ≡ true → weak ≡ false → co ≡ true
 upward true weak h k = refl
@@ -71,16 +69,17 @@ upward false true h k = absurd (cc)
 upward false false h k = absurd (cc)
 
 module _ (ps : List TypedProcedure) (p : TypedProcedure) (directed : (p.co || p.weak) ≡ true) where
-  all_simple : (acts : List Act) → first_break p.co acts ≡ None → Each IsStraight acts → Each (HasOwnTargets p) acts → Each (IsTypedAct ps p) acts → Each WeighsOne acts → Each (FollowsDirection ps p) acts → Each (IsSimple p.co (length (variables p))) acts
+  all_simple : (acts : List Act) → first_break p.co acts ≡ None → Each IsStraight acts → Each (HasOwnTargets p) acts → Each (IsTypedAct ps p) acts → Each WeighsOne acts → Each (FollowsDirection ps p) acts → Each (IsSimple p.co p) acts
   all_simple [] b s o t w d = tt
-  all_simple (Act.set x e span ∷ rest) b s o t w d = (o.0.below, all_simple rest b s.1 o.1 t.1 w.1 d.1)
-  all_simple (Act.draw x qs span ∷ rest) b s o t w d = ((o.0.below, (draw_weighted (types_of p) x qs t.0, w.0)), all_simple rest b s.1 o.1 t.1 w.1 d.1)
-  all_simple (Act.any x over ty span ∷ rest) b s o t w d = (o.0.below, all_simple rest b s.1 o.1 t.1 w.1 d.1)
+  all_simple (Act.set x e span ∷ rest) b s o t w d = ((o.0, t.0), all_simple rest b s.1 o.1 t.1 w.1 d.1)
+  all_simple (Act.draw x qs span ∷ rest) b s o t w d = ((o.0, (parts_of_draw (types_of p) x qs t.0, w.0)), all_simple rest b s.1 o.1 t.1 w.1 d.1)
+  all_simple (Act.toss x f span ∷ rest) b s o t w d = ((o.0, t.0), all_simple rest b s.1 o.1 t.1 w.1 d.1)
+  all_simple (Act.any x over ty span ∷ rest) b s o t w d = ((o.0, t.0), all_simple rest b s.1 o.1 t.1 w.1 d.1)
   all_simple (Act.reward f span ∷ rest) b s o t w d = (upward p.co p.weak directed d.0, all_simple rest b s.1 o.1 t.1 w.1 d.1)
   all_simple (Act.ifs arms e span ∷ rest) b s o t w d = (tt, all_simple rest b s.1 o.1 t.1 w.1 d.1)
   all_simple (Act.pick over a e span ∷ rest) b s o t w d = go (agree p.co over) refl (λ k. all_simple rest k s.1 o.1 t.1 w.1 d.1)
     where
-      go : (g : Bool) → agree p.co over ≡ g → (first_break p.co rest ≡ None → Each (IsSimple p.co (length (variables p))) rest) → Each (IsSimple p.co (length (variables p))) (Act.pick over a e span ∷ rest)
+      go : (g : Bool) → agree p.co over ≡ g → (first_break p.co rest ≡ None → Each (IsSimple p.co p) rest) → Each (IsSimple p.co p) (Act.pick over a e span ∷ rest)
       go true k more = (tt, more (rw k at b))
       go false k more = let l = rw k at b in absurd (cc)
   all_simple (Act.check kind f span ∷ rest) b s o t w d = absurd (cc)
@@ -88,5 +87,5 @@ module _ (ps : List TypedProcedure) (p : TypedProcedure) (directed : (p.co || p.
   all_simple (Act.loop h e ∷ rest) b s o t w d = absurd s.0
   all_simple (Act.call xs q es span ∷ rest) b s o t w d = absurd s.0
 
-pub simple_program : (ps : List TypedProcedure) (p : TypedProcedure) → MeetsRules ps p → Plain p → Each IsStraight (in_order (acts_in p.body)) → Each (IsSimple p.co (length (variables p))) (in_order (acts_in p.body))
+pub simple_program : (ps : List TypedProcedure) (p : TypedProcedure) → MeetsRules ps p → Plain p → Each IsStraight (in_order (acts_in p.body)) → Each (IsSimple p.co p) (in_order (acts_in p.body))
 simple_program ps p rules plain straight = all_simple ps p plain.directed (in_order (acts_in p.body)) plain.unbroken straight rules.targets rules.typed rules.weights rules.directions

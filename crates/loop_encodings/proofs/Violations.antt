@@ -1,6 +1,5 @@
 -- Where the body of a program without loops and calls breaks the pre, runs break its bound.
-use Rattle.std.proofs.Common.{◌≡◌, ◌≤◌, sym, ap, subst, ◌∙◌, arith, Bool, true, false, length, []}
-use Rattle.std.proofs.lemmas.List.{length-map}
+use Rattle.std.proofs.Common.{◌≡◌, ◌≤◌, sym, ap, subst, ◌∙◌, arith, Bool, true, false, []}
 use Rattle.heyvl_num.specs.Value.{Value, zeroᵛ, ◌+ᵛ◌}
 use Rattle.heyvl_num.proofs.exported.Values.{zero-+ᵛ}
 use Rattle.heylo_formula.specs.Choices.{Choices}
@@ -8,8 +7,7 @@ use Rattle.heylo_formula.specs.Goals.{Compares}
 use Rattle.heylo_formula.specs.Meaning.{value}
 use Rattle.heylo_formula.specs.State.{environment}
 use Rattle.heylo_formula.proofs.exported.Agreement.{unchosen}
-use Rattle.heylo_formula.proofs.exported.States.{length-typed}
-use Rattle.heyvl_acts.specs.Acts.{Acts, TypedProcedure, Variable, acts_in, procedure_at, type_list, variables}
+use Rattle.heyvl_acts.specs.Acts.{Acts, TypedProcedure, acts_in, procedure_at}
 use Rattle.heyvl_acts.specs.Forward.{Post}
 use Rattle.run_machine.specs.Configurations.{push}
 use Rattle.loop_encodings.specs.Law.{BrokenGoalsBreakBounds}
@@ -23,7 +21,7 @@ nothing_collected false v = zero-+ᵛ v
 
 pub broken : BrokenGoalsBreakBounds
 broken ps p s c rules there program straight typed breaks n long =
-    let g = claims ps p q.co q.post (λ t d. sym (unchosen q.post t d plain.unbound)) (length (variables q)) n (push body []) (push_simple q.co (length (variables q)) body [] (simple_program ps q (each_procedure ps ps p rules there) plain straight) tt) enough s as_many zeroᵛ c in
+    let g = claims ps p q.co q.post (λ t d. sym (unchosen q.post t d plain.unbound)) q n (push body []) (push_simple q.co q body [] (simple_program ps q (each_procedure ps ps p rules there) plain straight) tt) enough s typed zeroᵛ c in
     record { scheduler = g.scheduler; breaks = λ h. breaks (subst (λ v. Compares q.co (value q.pre (environment s) Choices.stop) v) (g.gives ∙ (nothing_collected q.co _ ∙ ap (λ (k : Post). k (environment s) c) (push_value (value q.post) body []))) h) }
   where
     q : TypedProcedure
@@ -37,6 +35,3 @@ broken ps p s c rules there program straight typed breaks n long =
 
     enough : items_length (push (acts_in (procedure_at ps p).body) []) ≤ n
     enough = let l = push_length (acts_in (procedure_at ps p).body) [] in omega (arith, l, long)
-
-    as_many : length s ≡ length (variables (procedure_at ps p))
-    as_many = length-typed (type_list (variables (procedure_at ps p))) s typed ∙ length-map (variables (procedure_at ps p)) (λ (v : Variable). v.ty)

@@ -13,7 +13,7 @@ use Rattle.heylo_formula.specs.declared.goals.GoalId.{GoalId}
 use Rattle.heylo_formula.specs.declared.goals.GoalId.TheVariants.{Main, Pre, Post, Invariant, Ranking}
 use Rattle.heylo_formula.specs.declared.types.Ty.{Ty}
 use Rattle.heylo_formula.specs.declared.values.Val.{Val}
-use Rattle.heyvl_acts.specs.Acts.{Act, Acts, TypedProcedure, variables, type_list, acts_in}
+use Rattle.heyvl_acts.specs.Acts.{Act, Acts, TypedProcedure, Variable, variables, type_list, acts_in}
 use Rattle.heyvl_acts.specs.Forward.{forward}
 use Rattle.heyvl_acts.specs.Places.{in_order}
 use Rattle.heyvl_acts.specs.Rules.{Each, loop_numbers}
@@ -37,6 +37,7 @@ invariant_in n [] = None
 invariant_in n (Act.loop h b ∷ rest) = if h.number == n then Some h.inv else invariant_in n rest
 invariant_in n (Act.set x t span ∷ rest) = invariant_in n rest
 invariant_in n (Act.draw x qs span ∷ rest) = invariant_in n rest
+invariant_in n (Act.toss x f span ∷ rest) = invariant_in n rest
 invariant_in n (Act.any x up ty span ∷ rest) = invariant_in n rest
 invariant_in n (Act.reward f span ∷ rest) = invariant_in n rest
 invariant_in n (Act.ifs arms e span ∷ rest) = invariant_in n rest
@@ -45,26 +46,45 @@ invariant_in n (Act.check kind f span ∷ rest) = invariant_in n rest
 invariant_in n (Act.validate co span ∷ rest) = invariant_in n rest
 invariant_in n (Act.call xs q es span ∷ rest) = invariant_in n rest
 
+-- The variables that the goal speaks of: the main one of those of the encoding, the others of the procedure's.
+abbrev pub goal_variables : List TypedProcedure → TypedProcedure → GoalId → List Variable
+goal_variables ps p Main = all_variables ps p
+goal_variables ps p Pre = variables p
+goal_variables ps p Post = variables p
+goal_variables ps p (Invariant n) = variables p
+goal_variables ps p (Ranking n) = variables p
+
+-- Where there is a formula, it is at most 1 in this state and for these choices.
+abbrev pub IsSmallThere : Option Form → List Val → Choices → Type 0
+IsSmallThere None s c = Unit {0}
+IsSmallThere (Some f) s c = value f (environment s) c ≤ᵛ oneᵛ
+
+-- What the goal asks of a state and of what its forms and its encoding leave open. The main one asks that the pre bounds what the
+-- encoded body makes of the post, from above in a coproc, from below in a proc. What a ranking asks is no goal of a bound.
+abbrev pub GoalHoldsIn : List TypedProcedure → TypedProcedure → GoalId → List Val → Choices → Type 0
+GoalHoldsIn ps p Main s c = Compares p.co (value p.pre (environment s) Choices.stop) (forward (encoding ps p) (value p.post) (environment s) c)
+GoalHoldsIn ps p Pre s c = value p.pre (environment s) c ≤ᵛ oneᵛ
+GoalHoldsIn ps p Post s c = value p.post (environment s) c ≤ᵛ oneᵛ
+GoalHoldsIn ps p (Invariant n) s c = IsSmallThere (invariant_in n (in_order (acts_in p.body))) s c
+GoalHoldsIn ps p (Ranking n) s c = Unit {0}
+
+-- The goal of the procedure holds: in each state of its variables, whatever is chosen.
+abbrev pub GoalHolds : List TypedProcedure → TypedProcedure → GoalId → Type 0
+GoalHolds ps p id = (s : List Val) (c : Choices) → IsTyped (type_list (goal_variables ps p id)) s → GoalHoldsIn ps p id s c
+
+-- It fails in a state of its variables, for some choices.
+pub record GoalFails (ps : List TypedProcedure) (p : TypedProcedure) (id : GoalId) (s : List Val) : Type 0 where
+  pub choices : Choices
+  pub state : IsTyped (type_list (goal_variables ps p id)) s
+  pub fails : GoalHoldsIn ps p id s choices → ⊥
+
+-- The main goal holds.
+abbrev pub IsBounded : List TypedProcedure → TypedProcedure → Type 0
+IsBounded ps p = GoalHolds ps p Main
+
 -- At most 1 in each state of these types, whatever is chosen.
 abbrev pub IsAtMostOne : List Ty → Form → Type 0
 IsAtMostOne tys f = (s : List Val) (c : Choices) → IsTyped tys s → value f (environment s) c ≤ᵛ oneᵛ
-
--- The main goal: in each state, the pre bounds what the encoded body makes of the post, whatever is chosen; from above in a
--- coproc, from below in a proc.
-abbrev pub IsBounded : List TypedProcedure → TypedProcedure → Type 0
-IsBounded ps p = (s : List Val) (c : Choices) → IsTyped (type_list (all_variables ps p)) s → Compares p.co (value p.pre (environment s) Choices.stop) (forward (encoding ps p) (value p.post) (environment s) c)
-
--- When the goal of the procedure holds. What a ranking asks is no goal of a bound.
-abbrev pub GoalHolds : List TypedProcedure → TypedProcedure → GoalId → Type 0
-GoalHolds ps p Main = IsBounded ps p
-GoalHolds ps p Pre = IsAtMostOne (type_list (variables p)) p.pre
-GoalHolds ps p Post = IsAtMostOne (type_list (variables p)) p.post
-GoalHolds ps p (Invariant n) = small (invariant_in n (in_order (acts_in p.body)))
-  where
-    small : Option Form → Type 0
-    small None = Unit {0}
-    small (Some f) = IsAtMostOne (type_list (variables p)) f
-GoalHolds ps p (Ranking n) = Unit {0}
 
 -- All goals of its bound hold.
 abbrev pub BoundGoalsHold : List TypedProcedure → TypedProcedure → Type 0

@@ -77,6 +77,7 @@ abbrev mutual
   pub encoded_act : List TypedProcedure → TypedProcedure → ℕ → Act → Acts
   encoded_act ps p m (Act.set x t span) = Acts.next (Act.set x t span) Acts.done
   encoded_act ps p m (Act.draw x qs span) = Acts.next (Act.draw x qs span) Acts.done
+  encoded_act ps p m (Act.toss x f span) = Acts.next (Act.toss x f span) Acts.done
   encoded_act ps p m (Act.any x up ty span) = Acts.next (Act.any x up ty span) Acts.done
   encoded_act ps p m (Act.reward f span) = Acts.next (Act.reward f span) Acts.done
   encoded_act ps p m (Act.ifs arms e span) = Acts.next (Act.ifs (encoded_arms ps p m arms) (encoded ps p (m + length (fresh_of_arms ps arms)) e) span) Acts.done

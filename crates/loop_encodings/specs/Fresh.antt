@@ -8,6 +8,7 @@ abbrev mutual
   pub fresh_of_act : List TypedProcedure → Act → List Variable
   fresh_of_act ps (Act.set x t span) = []
   fresh_of_act ps (Act.draw x qs span) = []
+  fresh_of_act ps (Act.toss x f span) = []
   fresh_of_act ps (Act.any x up ty span) = []
   fresh_of_act ps (Act.reward f span) = []
   fresh_of_act ps (Act.ifs arms e span) = fresh_of_arms ps arms ++ fresh ps e

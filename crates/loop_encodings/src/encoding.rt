@@ -131,6 +131,10 @@ fn add_act(
             add_copy(alloc, made, act)?;
             Ok(())
         }
+        Act::Toss(_, _, _) => {
+            add_copy(alloc, made, act)?;
+            Ok(())
+        }
         Act::Any(_, _, _, _) => {
             add_copy(alloc, made, act)?;
             Ok(())

@@ -25,6 +25,7 @@ both : (n : ℕ) (xs ys : List Act) → loop_in n (xs ++ ys) ≡ or_else (loop_i
 both n [] ys = refl
 both n (Act.set x t span ∷ rest) ys = both n rest ys
 both n (Act.draw x ps span ∷ rest) ys = both n rest ys
+both n (Act.toss x f span ∷ rest) ys = both n rest ys
 both n (Act.any x up ty span ∷ rest) ys = both n rest ys
 both n (Act.reward f span ∷ rest) ys = both n rest ys
 both n (Act.ifs arms e span ∷ rest) ys = both n rest ys

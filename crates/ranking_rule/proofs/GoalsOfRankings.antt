@@ -1,5 +1,5 @@
 -- The goal of a ranking holds exactly where it is a ranking; it is a goal, and has few nodes and variables.
-use Rattle.std.proofs.Common.{◌≡◌, ◌∙◌, ◌≤◌, ◌+◌, ◌^◌, ◌||◌, ℕ, refl, sym, ap, subst, arith, Bool, true, false, cond, List, [], ◌∷◌, map, length, get_or}
+use Rattle.std.proofs.Common.{◌≡◌, ◌∙◌, ◌≤◌, ◌+◌, ◌^◌, ◌||◌, ℕ, refl, sym, ap, subst, arith, Bool, true, false, cond, List, [], ◌∷◌, map, length, get_or, take}
 use Rattle.std.proofs.lemmas.List.{length-append, length-map}
 use Rattle.std.specs.Prelude.{Option, Some, if◌then◌else◌, ◌==◌}
 use Rattle.heyvl_num.specs.Rational.{Rational, zeroʳ, leqʳ, ◌≤ʳ◌}
@@ -24,11 +24,11 @@ use Rattle.heyvl_acts.specs.Rules.{MeetsRules}
 use Rattle.vp_generator.specs.Laws.{GeneratedFormMeansActs, GeneratedFormIsFormula}
 use Rattle.vp_generator.specs.Over.{GeneratedFormIsOver}
 use Rattle.vp_generator.specs.Prenexed.{new_types}
-use Rattle.vp_generator.specs.PrenexedGoals.{HoldsByChoices, PrenexedGoalsSpeakOfChoices, PrenexedGoalsAreGoals}
-use Rattle.ranking_rule.specs.Laws.{RankingGoalsHold, RankingGoalsAreGoals, RankingGoalsAreFew}
+use Rattle.vp_generator.specs.PrenexedGoals.{HoldsByChoices, PrenexedGoalsFailByChoices, PrenexedGoalsSpeakOfChoices, PrenexedGoalsAreGoals}
+use Rattle.ranking_rule.specs.Laws.{RankingGoalsHold, RankingGoalsFail, RankingGoalsAreGoals, RankingGoalsAreFew}
 use Rattle.ranking_rule.specs.MadeGoals.{all_names}
 use Rattle.ranking_rule.specs.RankingGoals.{found, generated}
-use Rattle.ranking_rule.specs.Rankings.{RankedLoop, IsRanking, after_turn}
+use Rattle.ranking_rule.specs.Rankings.{RankedLoop, IsRanking, IsNoRanking, after_turn}
 use Rattle.heyvl_acts.specs.Upward.{upward}
 use Rattle.ranking_rule.proofs.FoundForms.{found_binders}
 use Rattle.ranking_rule.proofs.MadeGoals.{all_names_length, new_types_length}
@@ -36,7 +36,7 @@ use Rattle.ranking_rule.proofs.MadeRankings.{guard_plain}
 use Rattle.ranking_rule.proofs.PrenexedSizes.{nodes_unbound}
 use Rattle.ranking_rule.proofs.RankedActs.{of_head}
 use Rattle.ranking_rule.proofs.RankedBodies.{body_acts, loop_fits, rank_fits, upward_fit}
-use Rattle.ranking_rule.proofs.UpwardMeaning.{behind}
+use Rattle.heyvl_acts.proofs.exported.UpwardMeaning.{behind}
 use Rattle.ranking_rule.proofs.ReadVariables.{body_over, guard_over, ranking_over}
 
 -- ---- Types of what is found
@@ -88,6 +88,17 @@ pub goals_hold : GeneratedFormMeansActs → GeneratedFormIsOver → PrenexedGoal
 goals_hold means over speak ps p n l rules =
     let k = speak true (type_list (variables p)) (all_names (variables p) (found l.head l.body l.rank)) l.rank.1 (found l.head l.body l.rank) (stated_over ps p n l rules) (found_over ps p n l rules over) in
     ((λ h. k.0 (by_choices ps p n l rules means h)), (λ h. from_choices ps p n l rules means (k.1 h)))
+
+pub goals_fail : GeneratedFormMeansActs → GeneratedFormIsOver → PrenexedGoalsFailByChoices → RankingGoalsFail
+goals_fail means over failing ps p n l rules s typed fails =
+    let tys = type_list (variables p) in
+    let t = take (length tys) s in
+    let k = failing true tys (all_names (variables p) (found l.head l.body l.rank)) l.rank.1 (found l.head l.body l.rank) (stated_over ps p n l rules) (found_over ps p n l rules over) s typed fails in
+    subst (λ m. IsNoRanking p l.head l.body l.rank (take m s)) (as_many ps p n l rules) (record {
+      choices = right (right k.choices);
+      state = k.state;
+      fails = λ h. k.fails (subst (λ v. v ≤ᵛ value l.rank.1 (environment t) Choices.stop) (sym (found_value ps p n l rules means (environment t) k.choices)) h);
+    })
 
 pub goals_are_goals : GeneratedFormIsFormula → GeneratedFormIsOver → PrenexedGoalsAreGoals → RankingGoalsAreGoals
 goals_are_goals formula over are ps p n l rules = are true (type_list (variables p)) (all_names (variables p) (found l.head l.body l.rank)) l.rank.1 (found l.head l.body l.rank) (rank_fits ps p n l rules).1.0 (found_formula ps p n l rules formula) (stated_over ps p n l rules) (found_over ps p n l rules over) (rank_fits ps p n l rules).1.1 (all_names_length (variables p) (found l.head l.body l.rank))

@@ -1,12 +1,9 @@
-pub mod Each
 pub mod RankedActs
 pub mod RankedBodies
-pub mod UpwardMeaning
 pub mod Turns
 pub mod TurnsBound
 pub mod ActsInOrder
 pub mod FoundLoops
-pub mod Weights
 pub mod Raising
 pub mod BinderFree
 pub mod FoundForms

@@ -35,7 +35,7 @@ use Rattle.ranking_rule.specs.Rankings.{RankedLoop, loop_in}
 use Rattle.heyvl_acts.specs.Upward.{upward, upward_next, upward_arms}
 use Rattle.ranking_rule.specs.internal.Lent.{loop_of}
 use Rattle.ranking_rule.specs.internal.Tested.{IsTested, with_test}
-use Rattle.ranking_rule.proofs.Each.{each_first, each_second}
+use Rattle.heyvl_acts.proofs.exported.Each.{each_at, each_first, each_second}
 use Rattle.ranking_rule.proofs.FoundForms.{found_binders, goal_found}
 use Rattle.ranking_rule.proofs.MadeGoals.{is_made_within}
 use Rattle.ranking_rule.proofs.OwnVariables.{own_variables}
@@ -52,6 +52,7 @@ module _ (ps : List TypedProcedure) (p : TypedProcedure) where
     next_below : (a : Act) (rest : Acts) → IsTurnAct ps p a → Each (IsTurnAct ps p) (inside a) → AnysAreBelow (length (variables p)) rest → AnysAreBelow (length (variables p)) (upward_next a rest)
     next_below (Act.set x t span) rest h i k = (tt, k)
     next_below (Act.draw x qs span) rest h i k = (tt, k)
+    next_below (Act.toss x f span) rest h i k = (tt, k)
     next_below (Act.any x up ty span) rest h i k = (h.0.0.below, k)
     next_below (Act.reward f span) rest h i k = k
     next_below (Act.ifs arms e span) rest h i k = ((arms_below arms (each_first (IsTurnAct ps p) (inside_arms arms) (in_order e) i), upward_below e (each_second (IsTurnAct ps p) (inside_arms arms) (in_order e) i)), k)
@@ -141,11 +142,6 @@ pub procedure_is : (procs : List TProc) (p : ℕ) (x : TProc) → p < length pro
 procedure_is [] p x lt is = absurd (omega (arith, lt))
 procedure_is (y ∷ rest) zero x lt is = ap procedure_of (sym is)
 procedure_is (y ∷ rest) (suc p) x lt is = procedure_is rest p x (omega (arith, lt)) is
-
-each_at : (P : TypedProcedure → Type 0) (ps : List TypedProcedure) (p : ℕ) → Each P ps → p < length ps → P (procedure_at ps p)
-each_at P [] p h lt = absurd (omega (arith, lt))
-each_at P (q ∷ ps) zero h lt = h.0
-each_at P (q ∷ ps) (suc p) h lt = each_at P ps p h.1 (omega (arith, lt))
 
 pub rules_at : (typed : Typed) (p : ℕ) → MeetsAllRules typed → p < length typed.procs.items → MeetsRules (procedures_of typed) (procedure_at (procedures_of typed) p)
 rules_at typed p h lt = each_at (MeetsRules (procedures_of typed)) (procedures_of typed) p h.each (subst (λ n. p < n) (sym (length-map typed.procs.items procedure_of)) lt)

@@ -9,7 +9,7 @@ use Rattle.heyvl_acts.specs.Acts.{Act, Acts, Arms, join}
 use Rattle.heyvl_acts.specs.PlainActs.{act_of, acts_of, arms_of}
 use Rattle.heyvl_acts.specs.declared.acts.Act as A
 use Rattle.heyvl_acts.specs.Upward.{upward, upward_next, upward_arms}
-use Rattle.ranking_rule.proofs.UpwardMeaning.{next_join}
+use Rattle.heyvl_acts.proofs.exported.UpwardMeaning.{next_join}
 
 join_nothing : (acts : Acts) → join acts Acts.done ≡ acts
 join_nothing Acts.done = refl

@@ -5,7 +5,7 @@ use Rattle.heyvl_acts.specs.Acts.{Head, Act, Acts, Arms, TypedProcedure, acts_in
 use Rattle.heyvl_acts.specs.Places.{in_order, inside, inside_arms}
 use Rattle.heyvl_acts.specs.Rules.{Each}
 use Rattle.ranking_rule.specs.Rankings.{loop_in, RankedLoop}
-use Rattle.ranking_rule.proofs.Each.{each_first, each_second, each_append}
+use Rattle.heyvl_acts.proofs.exported.Each.{each_first, each_second, each_append}
 
 -- ---- What holds of each act holds of those inside each
 
@@ -21,6 +21,7 @@ module _ (P : Act → Type 0) where
     act_inside : (a : Act) → Each P (inside a) → Each Inside (inside a)
     act_inside (Act.set x t span) h = tt
     act_inside (Act.draw x qs span) h = tt
+    act_inside (Act.toss x f span) h = tt
     act_inside (Act.any x up ty span) h = tt
     act_inside (Act.reward f span) h = tt
     act_inside (Act.ifs arms e span) h = each_append Inside (inside_arms arms) (in_order e) (arms_inside arms (each_first P (inside_arms arms) (in_order e) h)) (all_inside e (each_second P (inside_arms arms) (in_order e) h))
@@ -55,6 +56,7 @@ of_loop P n h b [] e i = absurd (cc)
 of_loop P n h b (Act.loop k c ∷ xs) e i = one_or_other (k.number == n) h k b c (loop_in n xs) P e i.0 (λ q. of_loop P n h b xs q i.1)
 of_loop P n h b (Act.set x t span ∷ xs) e i = of_loop P n h b xs e i.1
 of_loop P n h b (Act.draw x qs span ∷ xs) e i = of_loop P n h b xs e i.1
+of_loop P n h b (Act.toss x f span ∷ xs) e i = of_loop P n h b xs e i.1
 of_loop P n h b (Act.any x up ty span ∷ xs) e i = of_loop P n h b xs e i.1
 of_loop P n h b (Act.reward f span ∷ xs) e i = of_loop P n h b xs e i.1
 of_loop P n h b (Act.ifs arms el span ∷ xs) e i = of_loop P n h b xs e i.1

@@ -9,7 +9,7 @@ use Rattle.heyvl_acts.specs.Rules.{Each, HasOwnTargets, IsTypedAct, WeighsOne, L
 use Rattle.heyvl_acts.specs.WellTyped.{ActsFit, ArmsFit}
 use Rattle.heyvl_acts.specs.Upward.{upward, upward_next, upward_arms}
 use Rattle.ranking_rule.specs.Rankings.{RankedLoop}
-use Rattle.ranking_rule.proofs.Each.{each_first, each_second, each_two}
+use Rattle.heyvl_acts.proofs.exported.Each.{each_first, each_second, each_two}
 use Rattle.ranking_rule.proofs.RankedActs.{of_body, of_head}
 
 -- ---- A loop with a ranking
@@ -49,6 +49,7 @@ module _ (ps : List TypedProcedure) (p : TypedProcedure) where
     next_fit : (a : Act) (rest : Acts) → IsTurnAct ps p a → Each (IsTurnAct ps p) (inside a) → ActsFit (types_of p) rest → ActsFit (types_of p) (upward_next a rest)
     next_fit (Act.set x t span) rest h i k = (h.0.1, k)
     next_fit (Act.draw x qs span) rest h i k = (h.0.1, k)
+    next_fit (Act.toss x f span) rest h i k = (h.0.1, k)
     next_fit (Act.any x up ty span) rest h i k = (h.0.1, k)
     next_fit (Act.reward f span) rest h i k = k
     next_fit (Act.ifs arms e span) rest h i k = ((arms_fit arms h.0.1 (each_first (IsTurnAct ps p) (inside_arms arms) (in_order e) i), upward_fit e (each_second (IsTurnAct ps p) (inside_arms arms) (in_order e) i)), k)

@@ -21,7 +21,7 @@ use Rattle.heyvl_acts.specs.WellTyped.{DrawFits, PartsFit}
 use Rattle.vp_generator.specs.Over.{TermIsOver, PartsAreOver, ActsAreOver, ArmsAreOver}
 use Rattle.ranking_rule.specs.Rankings.{RankedLoop}
 use Rattle.heyvl_acts.specs.Upward.{upward, upward_next, upward_arms}
-use Rattle.ranking_rule.proofs.Each.{each_first, each_second, each_append, each_two}
+use Rattle.heyvl_acts.proofs.exported.Each.{each_first, each_second, each_append, each_two}
 use Rattle.ranking_rule.proofs.RankedActs.{of_body, of_head}
 
 -- ---- Without a binder each number that occurs is free
@@ -100,6 +100,7 @@ RankIsOver n (Some r) = IsOver n r.1
 abbrev pub ReadsFirst : ℕ → Act → Type 0
 ReadsFirst n (Act.set x t span) = TermIsOver n t
 ReadsFirst n (Act.draw x qs span) = PartsAreOver n qs
+ReadsFirst n (Act.toss x f span) = IsOver n f
 ReadsFirst n (Act.any x up ty span) = Unit {0}
 ReadsFirst n (Act.reward f span) = IsOver n f
 ReadsFirst n (Act.ifs arms e span) = GuardsAreOver n arms
@@ -152,6 +153,7 @@ module _ (ps : List TypedProcedure) (p : TypedProcedure) where
   after_bounded : (a : Act) (v : Visible) → IsFine ps p a → Bounded count v → Bounded count (shown_by a v)
   after_bounded (Act.set x t span) v f b = shown_bounded count x v f.0.below b
   after_bounded (Act.draw x qs span) v f b = shown_bounded count x v f.0.below b
+  after_bounded (Act.toss x w span) v f b = shown_bounded count x v f.0.below b
   after_bounded (Act.any x d ty span) v f b = shown_bounded count x v f.0.below b
   after_bounded (Act.reward g span) v f b = b
   after_bounded (Act.ifs arms e span) v f b = b
@@ -165,6 +167,7 @@ module _ (ps : List TypedProcedure) (p : TypedProcedure) where
     reads_act : (a : Act) (v : Visible) → IsFine ps p a → Each Fine (inside a) → Bounded count v → ScopedAct v a → Reads a × Each Reads (inside a)
     reads_act (Act.set x t span) v f i b o = (term_over count v b (types_of p) (types_of p x) t f.1 o, tt)
     reads_act (Act.draw x qs span) v f i b o = (draw_over count v b (types_of p) x qs f.1 o, tt)
+    reads_act (Act.toss x g span) v f i b o = (sees_over count v b g o, tt)
     reads_act (Act.any x d ty span) v f i b o = (tt, tt)
     reads_act (Act.reward g span) v f i b o = (sees_over count v b g o, tt)
     reads_act (Act.ifs arms e span) v f i b o = (guards_over count v b arms o.0, each_append Reads (inside_arms arms) (in_order e) (reads_arms arms v (each_first Fine (inside_arms arms) (in_order e) i) b o.0) (reads_acts e v (each_second Fine (inside_arms arms) (in_order e) i) b o.1))
@@ -201,6 +204,7 @@ module _ (n : ℕ) where
     next_over : (a : Act) (rest : Acts) → First a → Each First (inside a) → ActsAreOver n rest → ActsAreOver n (upward_next a rest)
     next_over (Act.set x t span) rest h i k = (h, k)
     next_over (Act.draw x qs span) rest h i k = (h, k)
+    next_over (Act.toss x f span) rest h i k = (h, k)
     next_over (Act.any x up ty span) rest h i k = (tt, k)
     next_over (Act.reward f span) rest h i k = k
     next_over (Act.ifs arms e span) rest h i k = ((arms_over arms h (each_first First (inside_arms arms) (in_order e) i), upward_over e (each_second First (inside_arms arms) (in_order e) i)), k)

@@ -28,6 +28,8 @@ use Rattle.heylo_formula.proofs.exported.TypedTerms.{term_typed}
 use Rattle.heyvl_acts.specs.Acts.{Head, Act, Acts, TypedProcedure, Variable, join, procedure_at, type_list, types_of, variables}
 use Rattle.heyvl_acts.specs.Forward.{Post, part, parts, drawn, forward}
 use Rattle.heyvl_acts.specs.Matching.{taken}
+use Rattle.heyvl_acts.specs.Tosses.{toss_weight, toss_parts}
+use Rattle.heyvl_acts.proofs.exported.Tosses.{toss_fit, flips_weigh, before_products}
 use Rattle.heyvl_acts.specs.Places.{in_order, inside, inside_arms}
 use Rattle.heyvl_acts.specs.Rules.{Each, IsOwn}
 use Rattle.heyvl_acts.specs.WellTyped.{PartsFit, DrawFits}
@@ -37,12 +39,12 @@ use Rattle.run_machine.specs.Runs.{runs, spread}
 use Rattle.run_machine.specs.Scheduler.{Tree, Forest, decision, under, first, rest}
 use Rattle.run_machine.specs.Step.{Decision, value_of, side_of, sure, moved, turned, counted, branch, branches, test, step_act}
 use Rattle.run_machine.specs.Sums.{turns_in, turns_sum}
-use Rattle.run_machine.proofs.exported.Equations.{runs-zero, runs-next, one_times, worth-one, worth-spread, worth-sure}
+use Rattle.run_machine.proofs.exported.Equations.{push_join, runs-zero, runs-next, one_times, worth-one, worth-spread, worth-sure}
 use Rattle.ranking_rule.specs.Rankings.{IsRanking}
 use Rattle.heyvl_acts.specs.Upward.{upward}
-use Rattle.ranking_rule.proofs.Each.{each_first, each_second}
+use Rattle.heyvl_acts.proofs.exported.Each.{each_first, each_second, each_join, each_taken}
 use Rattle.ranking_rule.proofs.RankedBodies.{IsTurnAct}
-use Rattle.ranking_rule.proofs.UpwardMeaning.{push_join, joined_meaning, each_join, taken_meaning, each_taken}
+use Rattle.heyvl_acts.proofs.exported.UpwardMeaning.{joined_meaning, raised_meaning}
 
 -- ---- Numbers of turns
 
@@ -184,12 +186,13 @@ module _ (ps : List TypedProcedure) (p : ℕ) (h : Head) (b : Acts) (r : Rationa
     from_act : (a : Act) → IsTurnAct ps (procedure_at ps p) a → Each (IsTurnAct ps (procedure_at ps p)) (inside a) → (acts : Acts) → Fine acts → (s : List Val) → State s → (v : Value) (turns : ℕ → ℕ) (d : Decision) (ts : Forest) → Few (Spread n (step_act ps a (push acts tests) (at (push (Acts.next a acts) tests) s v turns) d) ts) turns (left_over (Acts.next a acts) (environment s))
     from_act (Act.set x t span) g i acts f s st v turns d ts = let k = from_set x (term_value t (environment s)) g.0.0 (typed_term x t s st g.0.1) acts f s st v turns ts in record { choices = k.choices; most = k.most }
     from_act (Act.draw x qs span) g i acts f s st v turns d ts = let k = from_draw x qs g.0.0 g.0.1 g.1.0 acts f s st v turns ts in record { choices = k.choices; most = k.most }
+    from_act (Act.toss x w span) g i acts f s st v turns d ts = let k = from_draw x (toss_parts w (environment s)) g.0.0 (toss_fit (types_of (procedure_at ps p)) x w (environment s) g.0.1.0 g.0.1.1 (env_typed (type_list (variables (procedure_at ps p))) s st)) (flips_weigh (toss_weight w (environment s))) acts f s st v turns ts in record { choices = before_products k.choices; most = k.most }
     from_act (Act.any x up ty span) g i acts f s st v turns d ts = let k = from_set x (fit ty (value_of d)) g.0.0 (subst (λ u. has u (fit ty (value_of d)) ≡ true) (sym g.0.1) (fit_has ty (value_of d))) acts f s st v turns ts in record { choices = Choices.choose (value_of d) k.choices Choices.stop; most = k.most }
     from_act (Act.reward w span) g i acts f s st v turns d ts = from_sure acts f s st (v +ᵛ value w (environment s) Choices.stop) turns ts
     from_act (Act.ifs arms e span) g i acts f s st v turns d ts =
         let block = taken arms e (environment s) in
         let k = from_block block acts (each_taken (IsTurnAct ps (procedure_at ps p)) arms e (environment s) (each_first (IsTurnAct ps (procedure_at ps p)) (inside_arms arms) (in_order e) i) (each_second (IsTurnAct ps (procedure_at ps p)) (inside_arms arms) (in_order e) i)) f s st v turns ts in
-        let m = taken_meaning arms e (left_over acts) (environment s) k.choices in
+        let m = raised_meaning arms e (left_over acts) (environment s) k.choices in
         record { choices = m.choices; most = subst (λ y. finite r.0 *ᵛ Spread n (sure (at (push block (push acts tests)) s v turns)) ts ≤ᵛ so_far turns +ᵛ y) (sym m.reached) k.most }
     from_act (Act.pick up x y span) g i acts f s st v turns d ts = let k = from_pick (side_of d) x y acts (each_first (IsTurnAct ps (procedure_at ps p)) (in_order x) (in_order y) i) (each_second (IsTurnAct ps (procedure_at ps p)) (in_order x) (in_order y) i) f s st v turns ts in record { choices = k.choices; most = k.most }
     from_act (Act.check kind w span) g i acts f s st v turns d ts = absurd (let e = g.1.1 in cc)

@@ -1,13 +1,15 @@
 -- The laws of rankings.
-use Rattle.std.specs.Prelude.{◌↔◌, ◌<◌, ◌^◌, ℕ, List, length}
-use Rattle.heylo_formula.specs.Goals.{Goal, Holds}
+use Rattle.std.specs.Prelude.{◌↔◌, ◌<◌, ◌^◌, ℕ, List, length, take}
+use Rattle.heylo_formula.specs.Goals.{Goal, Holds, HoldsIn}
 use Rattle.heylo_formula.specs.Sizes.{nodes}
 use Rattle.heylo_formula.specs.TypedGoals.{IsGoal}
-use Rattle.heyvl_acts.specs.Acts.{TypedProcedure, procedure_at}
+use Rattle.heylo_formula.specs.State.{environment, IsTyped}
+use Rattle.heylo_formula.specs.declared.values.Val.{Val}
+use Rattle.heyvl_acts.specs.Acts.{TypedProcedure, procedure_at, variables}
 use Rattle.heyvl_acts.specs.FormSizes.{FormsWithin}
 use Rattle.heyvl_acts.specs.Rules.{MeetsRules}
 use Rattle.run_machine.specs.Bound.{RankedBy}
-use Rattle.ranking_rule.specs.Rankings.{RankedLoop, IsRanking}
+use Rattle.ranking_rule.specs.Rankings.{RankedLoop, IsRanking, IsNoRanking}
 use Rattle.vp_generator.specs.Limits.{IsSmall}
 use Rattle.ranking_rule.specs.RankingGoals.{generated, goal}
 
@@ -19,6 +21,10 @@ RankingsBoundTurns = (ps : List TypedProcedure) (p n : ℕ) (l : RankedLoop (pro
 -- The goal of a ranking holds exactly where it is a ranking.
 abbrev pub RankingGoalsHold : Type 0
 RankingGoalsHold = (ps : List TypedProcedure) (p : TypedProcedure) (n : ℕ) (l : RankedLoop p n) → MeetsRules ps p → IsRanking p l.head l.body l.rank ↔ Holds (goal p l.head l.body l.rank)
+
+-- Where its goal fails in a state, it is no ranking: in the state of the procedure's variables it is less than what it is after a turn.
+abbrev pub RankingGoalsFail : Type 0
+RankingGoalsFail = (ps : List TypedProcedure) (p : TypedProcedure) (n : ℕ) (l : RankedLoop p n) → MeetsRules ps p → (s : List Val) → IsTyped (goal p l.head l.body l.rank).types s → (HoldsIn (goal p l.head l.body l.rank) (environment s) → ⊥) → IsNoRanking p l.head l.body l.rank (take (length (variables p)) s)
 
 -- It is a goal.
 abbrev pub RankingGoalsAreGoals : Type 0

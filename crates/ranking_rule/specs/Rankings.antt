@@ -21,6 +21,7 @@ loop_in n [] = None
 loop_in n (Act.loop h b ∷ rest) = if h.number == n then Some (h, b) else loop_in n rest
 loop_in n (Act.set x t span ∷ rest) = loop_in n rest
 loop_in n (Act.draw x qs span ∷ rest) = loop_in n rest
+loop_in n (Act.toss x f span ∷ rest) = loop_in n rest
 loop_in n (Act.any x up ty span ∷ rest) = loop_in n rest
 loop_in n (Act.reward f span ∷ rest) = loop_in n rest
 loop_in n (Act.ifs arms e span ∷ rest) = loop_in n rest
@@ -44,3 +45,9 @@ after_turn h b r s c = if holds h.guard s Choices.stop then finite r.0 +ᵛ forw
 -- In each state of the procedure the ranking is at least what it is after a turn, whatever is chosen.
 abbrev pub IsRanking : TypedProcedure → Head → Acts → Rational × Form → Type 0
 IsRanking p h b r = (s : List Val) (c : Choices) → IsState p s → after_turn h b r (environment s) c ≤ᵛ value r.1 (environment s) Choices.stop
+
+-- In this state it is less, for some choices.
+pub record IsNoRanking (p : TypedProcedure) (h : Head) (b : Acts) (r : Rational × Form) (s : List Val) : Type 0 where
+  pub choices : Choices
+  pub state : IsState p s
+  pub fails : after_turn h b r (environment s) choices ≤ᵛ value r.1 (environment s) Choices.stop → ⊥

@@ -13,10 +13,11 @@ pub fn rankings_bound_turns()
     generated_form_means_acts();
 }
 
-/// The goal of a ranking holds exactly where it is one. It is a goal over the procedure's variables and those of binders, with
+/// The goal of a ranking holds exactly where it is one, and fails only in states in which it is none. It is a goal over the procedure's variables and those of binders, with
 /// few nodes where the procedure's forms are small.
 pub fn ranking_goals_say_rankings()
     ensures holds { law.RankingGoalsHold }
+    ensures failing { law.RankingGoalsFail }
     ensures goals { law.RankingGoalsAreGoals }
     ensures few { law.RankingGoalsAreFew }
 {

@@ -49,6 +49,7 @@ fn add_upward(alloc: Global, raised: &mut Vec<Act>, act: &Act) -> Result<(), All
         }
         Act::Set(_, _, _) => add_copy(alloc, raised, act),
         Act::Draw(_, _, _) => add_copy(alloc, raised, act),
+        Act::Toss(_, _, _) => add_copy(alloc, raised, act),
         Act::Check(_, _, _) => add_copy(alloc, raised, act),
         Act::Validate(_, _) => add_copy(alloc, raised, act),
         Act::Loop(_) => add_copy(alloc, raised, act),

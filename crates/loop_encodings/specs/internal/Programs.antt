@@ -17,7 +17,7 @@ use Rattle.heyvl_acts.specs.Acts.{Head, Act, Acts, Arms, TypedProcedure, variabl
 use Rattle.heyvl_acts.specs.Modified.{modified}
 use Rattle.heyvl_acts.specs.Rules.{IsOwn, widens_to, ArgumentsFit}
 use Rattle.heyvl_acts.specs.Visible.{Visible, among, interface, Scoped}
-use Rattle.heyvl_acts.specs.WellTyped.{IsHeld, PartsFit}
+use Rattle.heyvl_acts.specs.WellTyped.{IsHeld, IsProbability, PartsFit}
 use Rattle.loop_encodings.specs.internal.Contracts.{meaning}
 
 -- ---- Of the visible variables, the acts change these alone
@@ -34,6 +34,7 @@ abbrev mutual
   pub WithinAct : Visible → List ℕ → Act → Type 0
   WithinAct v ms (Act.set x t span) = v x ≡ true → In x ms
   WithinAct v ms (Act.draw x qs span) = v x ≡ true → In x ms
+  WithinAct v ms (Act.toss x f span) = v x ≡ true → In x ms
   WithinAct v ms (Act.any x up ty span) = v x ≡ true → In x ms
   WithinAct v ms (Act.reward f span) = Unit {0}
   WithinAct v ms (Act.ifs arms e span) = WithinArms v ms arms × Within v ms e
@@ -78,6 +79,7 @@ abbrev mutual
   pub ProgramAct : Bool → List TypedProcedure → (ℕ → Type 0) → TypedProcedure → Act → Type 0
   ProgramAct up ps R p (Act.set x t span) = IsOwn p x × TermFits (types_of p) (types_of p x) t
   ProgramAct up ps R p (Act.draw x qs span) = IsOwn p x × (PartsFit (types_of p) x qs × (total_weight qs ≡ oneʳ))
+  ProgramAct up ps R p (Act.toss x f span) = IsOwn p x × ((types_of p x ≡ Ty.Bool) × IsProbability (types_of p) f)
   ProgramAct up ps R p (Act.any x d ty span) = IsOwn p x × ((types_of p x ≡ ty) × (d ≡ up))
   ProgramAct up ps R p (Act.reward f span) = (up ≡ true) × IsHeld (types_of p) f
   ProgramAct up ps R p (Act.ifs arms e span) = ProgramArms up ps R p arms × Program up ps R p e

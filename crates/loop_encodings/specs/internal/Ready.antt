@@ -37,6 +37,7 @@ abbrev mutual
   pub IsReady : List TypedProcedure → TypedProcedure → Act → Type 0
   IsReady ps p (Act.set x t span) = Unit {0}
   IsReady ps p (Act.draw x qs span) = Unit {0}
+  IsReady ps p (Act.toss x f span) = Unit {0}
   IsReady ps p (Act.any x up ty span) = Unit {0}
   IsReady ps p (Act.reward f span) = Unit {0}
   IsReady ps p (Act.ifs arms e span) = AreReadyArms ps p arms × AreReady ps p e

@@ -1,7 +1,7 @@
 use Rattle.std.proofs.Common.{refl, sym, ap, subst, ◌∙◌, ◌<◌, ◌++◌, arith, ℕ, List, [], length}
 use Rattle.std.proofs.lemmas.List.{length-map}
 use Rattle.heylo_formula.specs.PlainTrees.{term_of}
-use Rattle.heyvl_acts.proofs.exported.PlainActsAre.{any_act, call_act, check_act, draw_act, head_of, if_act, loop_act, pick_act, reward_act, set_act, validate_act}
+use Rattle.heyvl_acts.proofs.exported.PlainActsAre.{any_act, call_act, check_act, draw_act, head_of, if_act, loop_act, pick_act, reward_act, set_act, toss_act, validate_act}
 use Rattle.heyvl_acts.specs.Acts.{Act, TypedProcedure}
 use Rattle.heyvl_acts.specs.PlainActs.{act_of, acts_of, arms_of, procedure_of, procedures_of, terms_of, variable_of}
 use Rattle.heyvl_acts.specs.Rules.{GrowBelow}
@@ -13,7 +13,7 @@ use Rattle.loop_encodings.proofs.ActSteps.{call_made, call_ready, if_made, if_re
 use Rattle.loop_encodings.proofs.FromRules.{callee_at, procedure_is, procedure_there}
 use Rattle.loop_encodings.proofs.OwnVariables.{own_length}
 use Rattle.loop_encodings.proofs.Steps.{arm_more, arm_ready, arm_room, arms_end, arms_start, turn_more, turn_ready, turn_room, turns_end, turns_start}
-use Rattle.loop_encodings.proofs.Weights.{act_within, arm_within, weight, weight_of}
+use Rattle.heyvl_acts.proofs.exported.Weights.{act_within, arm_within, weight, weight_of}
 use Rattle.loop_encodings.proofs.encoding.+encoding.Goals as goal
 
 pub encoded_acts-loop-act-init : goal.encoded_acts-loop-act-init
@@ -197,6 +197,12 @@ add_act-returns-in_ok-add_copy-in-Draw-clause-acts t c = (stay_made (procedures_
 
 pub add_act-returns-in_ok-add_copy-in-Draw-clause-vars : goal.add_act-returns-in_ok-add_copy-in-Draw-clause-vars
 add_act-returns-in_ok-add_copy-in-Draw-clause-vars t c = (stay_made (procedures_of c.args.typed.now) (procedure_of c.args.procedure.now) (plain_variables c.args.vars.now.items) (act_of c.args.act.now) c.args.made.now.items _ _ (ap act_of c.in-Draw.is ∙ draw_act _ _ _) (refl, refl) c.in_ok-add_copy-in-Draw.ensures).1
+
+pub add_act-returns-in_ok-add_copy-in-Toss-clause-acts : goal.add_act-returns-in_ok-add_copy-in-Toss-clause-acts
+add_act-returns-in_ok-add_copy-in-Toss-clause-acts t c = (stay_made (procedures_of c.args.typed.now) (procedure_of c.args.procedure.now) (plain_variables c.args.vars.now.items) (act_of c.args.act.now) c.args.made.now.items _ _ (ap act_of c.in-Toss.is ∙ toss_act _ _ _) (refl, refl) c.in_ok-add_copy-in-Toss.ensures).0
+
+pub add_act-returns-in_ok-add_copy-in-Toss-clause-vars : goal.add_act-returns-in_ok-add_copy-in-Toss-clause-vars
+add_act-returns-in_ok-add_copy-in-Toss-clause-vars t c = (stay_made (procedures_of c.args.typed.now) (procedure_of c.args.procedure.now) (plain_variables c.args.vars.now.items) (act_of c.args.act.now) c.args.made.now.items _ _ (ap act_of c.in-Toss.is ∙ toss_act _ _ _) (refl, refl) c.in_ok-add_copy-in-Toss.ensures).1
 
 pub add_act-returns-in_ok-add_copy-in-Any-clause-acts : goal.add_act-returns-in_ok-add_copy-in-Any-clause-acts
 add_act-returns-in_ok-add_copy-in-Any-clause-acts t c = (stay_made (procedures_of c.args.typed.now) (procedure_of c.args.procedure.now) (plain_variables c.args.vars.now.items) (act_of c.args.act.now) c.args.made.now.items _ _ (ap act_of c.in-Any.is ∙ any_act _ _ _ _) (refl, refl) c.in_ok-add_copy-in-Any.ensures).0

@@ -3,7 +3,7 @@ use Rattle.heyvl_acts.specs.Acts.{Act}
 use Rattle.heyvl_acts.specs.PlainActs.{act_of, acts_of, arms_of, procedure_of, procedures_of}
 use Rattle.loop_encodings.specs.internal.Ready.{plain_variables}
 use Rattle.loop_encodings.proofs.Steps.{ArmTurns, Turns}
-use Rattle.loop_encodings.proofs.Weights.{weight, weight_of}
+use Rattle.heyvl_acts.proofs.exported.Weights.{weight, weight_of}
 use Rattle.loop_encodings.proofs.encoding.+encoding.Given as goal
 
 abbrev pub decreases-encoded_acts : goal.decreases-encoded_acts

@@ -2,7 +2,7 @@ use Rattle.std.proofs.Common.{◌≡◌, ◌+◌}
 use Rattle.heyvl_acts.specs.Acts.{Act}
 use Rattle.heyvl_acts.specs.PlainActs.{act_of, acts_of, arms_of}
 use Rattle.ranking_rule.proofs.Raising.{ArmTurns, Turns}
-use Rattle.ranking_rule.proofs.Weights.{weight, weight_of}
+use Rattle.heyvl_acts.proofs.exported.Weights.{weight, weight_of}
 use Rattle.ranking_rule.proofs.upward.+raising.Given as goal
 
 abbrev pub decreases-upward : goal.decreases-upward
