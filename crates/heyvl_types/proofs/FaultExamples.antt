@@ -5,6 +5,7 @@ use Rattle.heyvl_places.specs.declared.checks.CheckKind.{CheckKind}
 use Rattle.heyvl_syntax.specs.Expressions.{Expression}
 use Rattle.heyvl_syntax.specs.Procedures.{Procedure}
 use Rattle.heyvl_syntax.specs.Statements.{Block, LoopRule, RightSide, Statement}
+use Rattle.heyvl_syntax.specs.declared.operators.BinaryOp.{BinaryOp}
 use Rattle.heyvl_syntax.specs.declared.procedures.Note.{Note}
 use Rattle.heyvl_syntax.specs.declared.procedures.Param.{Param}
 use Rattle.heyvl_syntax.specs.declared.types.TypeName.{TypeName}
@@ -65,6 +66,35 @@ ends_exchanged = refl
 too_wide : first_fault (procedure true None a [] (param x TypeName.Bool 15 ∷ []) (num 1 28 ∷ []) (num 0 35 ∷ []) (Some (block (Statement.assign (x ∷ []) (RightSide.flip (over 49 (num 1 48) (num 4611686018427387904 50))) (sp 39) ∷ []))) 0 ∷ []) ≡ fault 15 39
 unfolding literal_value literal_quotient ratio gcd gcd_steps
 too_wide = refl
+
+-- coproc a(n: UInt) -> (x: Bool) pre 1 post 0 { x = flip(..) }
+abbrev flipped : Expression → List Procedure
+flipped p = procedure true None a (param y TypeName.UInt 9 ∷ []) (param x TypeName.Bool 15 ∷ []) (num 1 28 ∷ []) (num 0 35 ∷ []) (Some (block (Statement.assign (x ∷ []) (RightSide.flip p) (sp 39) ∷ []))) 0 ∷ []
+
+-- true and infinity, 3/2, n, 0*n, and ite(n < 3, n, 1)
+abbrev below_three : Expression
+below_three = Expression.binary BinaryOp.Less (var y 52) (num 3 56) (sp 54)
+
+no_probability : (first_fault (flipped (Expression.truth true (sp 48))) ≡ fault 12 39) × (first_fault (flipped (Expression.infinity (sp 48))) ≡ fault 12 39)
+unfolding literal_value ratio gcd gcd_steps
+no_probability = (refl, refl)
+
+above_one : first_fault (flipped (over 49 (num 3 48) (num 2 50))) ≡ fault 15 39
+unfolding literal_value literal_quotient ratio gcd gcd_steps leqʳ oneʳ
+above_one = refl
+
+varying : (first_fault (flipped (var y 48)) ≡ fault 15 39) × (first_fault (flipped (Expression.binary BinaryOp.Star (num 0 48) (var y 50) (sp 49))) ≡ fault 15 39) × (first_fault (flipped (Expression.choice below_three (var y 59) (num 1 62) (sp 48))) ≡ fault 15 39)
+unfolding literal_value ratio gcd gcd_steps
+varying = (refl, refl, refl)
+
+-- 1/n, 1/0 and [n < 3]
+its_own_division : (first_fault (flipped (over 49 (num 1 48) (var y 50))) ≡ fault 16 49) × (first_fault (flipped (over 49 (num 1 48) (num 0 50))) ≡ fault 16 39)
+unfolding literal_value inverse_value zeroʳ ratio gcd gcd_steps
+its_own_division = (refl, refl)
+
+allowed : (first_fault (flipped (Expression.bracket below_three (sp 48))) ≡ None) × (first_fault (flipped (Expression.choice below_three (over 60 (num 1 59) (num 2 61)) (num 1 64) (sp 48))) ≡ None)
+unfolding literal_value inverse_value zeroʳ ratio gcd gcd_steps
+allowed = (refl, refl)
 
 -- H { x = 1/x }
 division : first_fault (h (Statement.assign (x ∷ []) (RightSide.plain (over 44 (num 1 43) (var x 45))) (sp 39) ∷ [])) ≡ fault 16 44

@@ -22,6 +22,7 @@ mod Walks
 mod LastPassing
 mod ReadRests
 mod RightRules
+mod FlipRules
 mod Nested
 pub mod WeightSums
 mod Declaring

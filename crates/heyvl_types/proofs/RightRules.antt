@@ -47,8 +47,8 @@ choices_join n sc [] = refl
 choices_join n sc (p ∷ ps) = join_choices n sc (type_of_expression n sc p.1) ps
 
 -- The type of a choose is the join of the types of its values.
-pub choose_rules : (co : Bool) (called : Called) (n : ℕ) (sc : Scope) (t : Targets) (ps : List (Expression × Expression)) (s : Span) → at s (RulesOf co called n sc t (RightSide.choose ps)) ≡ at s (value_rules t (join_all (types_of_choices n sc ps)) (literal_wrong (RightSide.choose ps)) (has_over_zero (RightSide.choose ps)))
-choose_rules co called n sc t ps s = value_at s t.unknown t.twice (t.undeclarable || first_mismatches (type_of_choices n sc ps) t.types.items) t.input (not (length t.types.items == 1)) (literal_wrong (RightSide.choose ps)) (has_over_zero (RightSide.choose ps)) ∙ ap (λ v. at s (value_rules t v (literal_wrong (RightSide.choose ps)) (has_over_zero (RightSide.choose ps)))) (choices_join n sc ps)
+pub choose_rules : (co : Bool) (called : Called) (n : ℕ) (sc : Scope) (t : Targets) (ps : List (Expression × Expression)) (s : Span) → at s (RulesOf co called n sc t (RightSide.choose ps)) ≡ at s (value_rules t (join_all (types_of_choices n sc ps)) (literal_wrong n sc (RightSide.choose ps)) (has_over_zero (RightSide.choose ps)))
+choose_rules co called n sc t ps s = value_at s t.unknown t.twice (t.undeclarable || first_mismatches (type_of_choices n sc ps) t.types.items) t.input (not (length t.types.items == 1)) (literal_wrong n sc (RightSide.choose ps)) (has_over_zero (RightSide.choose ps)) ∙ ap (λ v. at s (value_rules t v (literal_wrong n sc (RightSide.choose ps)) (has_over_zero (RightSide.choose ps)))) (choices_join n sc ps)
 
 -- ---- Calls
 
@@ -74,7 +74,7 @@ calls_rules co called n sc t x es s = call_at s (t.unknown || is_none (find_call
 -- ---- Answers
 
 -- What a choose gives, with what its parts were read to.
-pub choose_gives : (r : Result A.Act ResolveStop) (co : Bool) (called : Called) (n : ℕ) (sc : Scope) (t : Targets) (right : Right) (xs : List (Expr × Expr)) (all : Vec (Expr × Expr) Global) (s : Span) → right ≡ rights.Choose all → xs ≡ all.items → Gives act_of r (right_findings n sc (RightSide.choose (choices xs)) ++ at s (value_rules t (join_all (types_of_choices n sc (choices xs))) (literal_wrong (RightSide.choose (choices xs))) (has_over_zero (RightSide.choose (choices xs))))) (assigned [] n sc t.numbers.items (RightSide.choose (choices xs)) s) → Gives act_of r (right_findings n sc (right_side right) ++ at s (RulesOf co called n sc t (right_side right))) (assigned called n sc t.numbers.items (right_side right) s)
+pub choose_gives : (r : Result A.Act ResolveStop) (co : Bool) (called : Called) (n : ℕ) (sc : Scope) (t : Targets) (right : Right) (xs : List (Expr × Expr)) (all : Vec (Expr × Expr) Global) (s : Span) → right ≡ rights.Choose all → xs ≡ all.items → Gives act_of r (right_findings n sc (RightSide.choose (choices xs)) ++ at s (value_rules t (join_all (types_of_choices n sc (choices xs))) (literal_wrong n sc (RightSide.choose (choices xs))) (has_over_zero (RightSide.choose (choices xs))))) (assigned [] n sc t.numbers.items (RightSide.choose (choices xs)) s) → Gives act_of r (right_findings n sc (right_side right) ++ at s (RulesOf co called n sc t (right_side right))) (assigned called n sc t.numbers.items (right_side right) s)
 choose_gives r co called n sc t right xs all s e i g =
     subst (λ y. Gives act_of r (right_findings n sc (right_side y) ++ at s (RulesOf co called n sc t (right_side y))) (assigned called n sc t.numbers.items (right_side y) s)) (sym e)
     (subst (λ l. Gives act_of r (right_findings n sc (RightSide.choose (choices l)) ++ at s (RulesOf co called n sc t (RightSide.choose (choices l)))) (assigned called n sc t.numbers.items (RightSide.choose (choices l)) s)) i

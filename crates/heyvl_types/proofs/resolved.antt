@@ -5,6 +5,7 @@ pub mod Spreading
 pub mod Quantifiers
 pub mod Free
 pub mod Locals
+pub mod Flips
 pub mod Walk
 pub mod Formulas
 pub mod Heads

@@ -10,6 +10,7 @@ pub use Rattle.heyvl_acts.specs.Count
 pub use Rattle.heyvl_acts.specs.Program
 pub use Rattle.heyvl_acts.specs.WellTyped
 pub use Rattle.heyvl_acts.specs.Rules
+pub use Rattle.heyvl_acts.specs.Tosses
 pub mod Findings
 pub mod Scopes
 pub mod Literals

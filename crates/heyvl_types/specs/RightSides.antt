@@ -1,4 +1,5 @@
 -- Right sides: what is found in their parts, and the rules that a statement with a right side breaks because of it.
+use Rattle.heylo_formula.specs.NumericVariables.{has_variable}
 use Rattle.heylo_formula.specs.Operators.{agree}
 use Rattle.heylo_formula.specs.Typing.NumberType.{eureal, int, uint, ureal}
 use Rattle.heylo_formula.specs.Typing.{NumberType, is_finite_type, join, widens}
@@ -9,6 +10,7 @@ use Rattle.heyvl_types.specs.Findings.{Finding}
 use Rattle.heyvl_types.specs.Literals.{ends_wrong, integer, is_negative, is_over_zero, is_probability, is_weight_literal, weigh_wrong, weight}
 use Rattle.heyvl_types.specs.Scopes.{Scope}
 use Rattle.heyvl_types.specs.Signatures.{Called, Signature, find_call}
+use Rattle.heyvl_types.specs.StatementActs.{form}
 use Rattle.heyvl_types.specs.Table.{Meaning, given}
 use Rattle.heyvl_types.specs.TypedExpressions.{closed_findings, elaborate}
 use Rattle.heyvl_types.specs.declared.demands.Demand.{Demand}
@@ -81,10 +83,23 @@ type_of_choices n sc (p ∷ ps) = join_with n sc (type_of_expression n sc p.1) p
 abbrev pub type_of_integers : Bool → ValueType
 type_of_integers negative = ValueType.number (if negative then int else uint)
 
+-- Whether a probability that is no weight literal has the right type: UInt or UReal.
+abbrev pub is_probability_type : Option ValueType → Bool
+is_probability_type (Some (ValueType.number uint)) = true
+is_probability_type (Some (ValueType.number ureal)) = true
+is_probability_type (Some (ValueType.number int)) = false
+is_probability_type (Some (ValueType.number eureal)) = false
+is_probability_type (Some ValueType.truth) = false
+is_probability_type None = false
+
+-- The type of what a flip gives, of a probability that is a weight literal, or has this type.
+abbrev pub flip_type : Bool → Option ValueType → Option ValueType
+flip_type literal t = if literal || is_probability_type t then Some ValueType.truth else None
+
 -- The type of what a right side gives that is no call.
 abbrev pub right_type : ℕ → Scope → RightSide → Option ValueType
 right_type n sc (RightSide.plain e) = type_of_expression n sc e
-right_type n sc (RightSide.flip p) = Some ValueType.truth
+right_type n sc (RightSide.flip p) = flip_type (is_weight_literal (weight p)) (type_of_expression n sc p)
 right_type n sc (RightSide.unif a b) = Some (type_of_integers (is_negative (integer a)))
 right_type n sc (RightSide.choose parts) = type_of_choices n sc parts
 right_type n sc (RightSide.call p arguments) = None
@@ -164,13 +179,17 @@ counts_wrong called (RightSide.choose parts) targets = not (length targets == 1)
 abbrev pub weights : List (Expression × Expression) → List Weight
 weights parts = map (λ p. weight p.0) parts
 
+-- A weight literal above 1 or too wide, or what is no weight literal and has a numeric variable outside conditions.
+abbrev pub flip_wrong : Bool → Bool → Bool → Bool
+flip_wrong literal within varies = if literal then not within else varies
+
 -- A literal that is out of range.
-abbrev pub literal_wrong : RightSide → Bool
-literal_wrong (RightSide.plain e) = false
-literal_wrong (RightSide.flip p) = not (is_probability (weight p))
-literal_wrong (RightSide.unif a b) = ends_wrong (integer a) (integer b)
-literal_wrong (RightSide.choose parts) = weigh_wrong (weights parts)
-literal_wrong (RightSide.call p arguments) = false
+abbrev pub literal_wrong : ℕ → Scope → RightSide → Bool
+literal_wrong n sc (RightSide.plain e) = false
+literal_wrong n sc (RightSide.flip p) = flip_wrong (is_weight_literal (weight p)) (is_probability (weight p)) (has_variable (form (elaborate n sc p)))
+literal_wrong n sc (RightSide.unif a b) = ends_wrong (integer a) (integer b)
+literal_wrong n sc (RightSide.choose parts) = weigh_wrong (weights parts)
+literal_wrong n sc (RightSide.call p arguments) = false
 
 -- A weight literal with 0 as its divisor.
 abbrev pub has_over_zero : RightSide → Bool
@@ -213,7 +232,7 @@ right_rules co called n sc unknown twice undeclarable input targets r =
     ∷ (12, undeclarable || right_mismatches called n sc r targets)
     ∷ (13, input)
     ∷ (14, counts_wrong called r targets)
-    ∷ (15, literal_wrong r)
+    ∷ (15, literal_wrong n sc r)
     ∷ (16, has_over_zero r)
     ∷ (21, calls_against co called r)
     ∷ (23, calls_quantified called r)

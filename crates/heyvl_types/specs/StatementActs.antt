@@ -1,7 +1,7 @@
 -- The acts that statements become. All of this is total: where something is found against a statement, its act is some act.
 use Rattle.heylo_formula.specs.Formula.{Cond, Form, Term}
 use Rattle.heylo_formula.specs.declared.types.Ty.{Ty}
-use Rattle.heyvl_num.specs.Rational.{Rational, oneʳ, ratio, ◌-ʳ◌}
+use Rattle.heyvl_num.specs.Rational.{Rational, ratio}
 use Rattle.heyvl_num.specs.Value.Value.{finite, infinite}
 use Rattle.heyvl_syntax.specs.Expressions.{Expression}
 use Rattle.heyvl_syntax.specs.Statements.{Block, LoopRule, RightSide, Statement}
@@ -9,7 +9,8 @@ use Rattle.heyvl_syntax.specs.Statements as text
 use Rattle.heyvl_places.specs.declared.spans.Span.{Span}
 use Rattle.heyvl_syntax.specs.declared.types.TypeName.{TypeName}
 use Rattle.heyvl_acts.specs.Acts.{Act, Acts, Arms, join}
-use Rattle.heyvl_types.specs.Literals.{copies, integer, weight, weight_value}
+use Rattle.heyvl_acts.specs.Tosses.{flip_parts}
+use Rattle.heyvl_types.specs.Literals.{copies, integer, is_weight_literal, weight, weight_value}
 use Rattle.heyvl_types.specs.Scopes.{Scope, find, numbers}
 use Rattle.heyvl_types.specs.Signatures.{Called, Signature, find_call}
 use Rattle.heyvl_types.specs.Table.{Meaning, declarable}
@@ -54,10 +55,6 @@ targets sc xs = map (λ x. number_or_zero (find sc x)) xs
 
 -- ---- Right sides
 
--- True with the probability, then false.
-abbrev pub flip_parts : Rational → List (Rational × Term)
-flip_parts p = (p, Term.truth (Cond.constant true)) ∷ (oneʳ -ʳ p, Term.truth (Cond.constant false)) ∷ []
-
 abbrev pub whole_term : ℤ → Term
 whole_term a = Term.number (Form.number (finite (ratio a 1)))
 
@@ -83,10 +80,19 @@ abbrev pub first_or_zero : List ℕ → ℕ
 first_or_zero (x ∷ xs) = x
 first_or_zero [] = 0
 
+-- A draw where the probability is a weight literal, else a toss.
+abbrev pub draw_or_toss : Bool → ℕ → Rational → Form → Span → Act
+draw_or_toss true x w f s = Act.draw x (flip_parts w) s
+draw_or_toss false x w f s = Act.toss x f s
+
+-- What a flip becomes.
+abbrev pub flip_act : ℕ → Scope → ℕ → Expression → Span → Act
+flip_act n sc x p s = draw_or_toss (is_weight_literal (weight p)) x (weight_value (weight p)) (form (elaborate n sc p)) s
+
 -- What gives a right side to these variables.
 abbrev pub assigned : Called → ℕ → Scope → List ℕ → RightSide → Span → Act
 assigned called n sc xs (RightSide.plain e) s = Act.set (first_or_zero xs) (term (elaborate n sc e)) s
-assigned called n sc xs (RightSide.flip p) s = Act.draw (first_or_zero xs) (flip_parts (weight_value (weight p))) s
+assigned called n sc xs (RightSide.flip p) s = flip_act n sc (first_or_zero xs) p s
 assigned called n sc xs (RightSide.unif a b) s = Act.draw (first_or_zero xs) (unif_parts (integer a) (integer b)) s
 assigned called n sc xs (RightSide.choose parts) s = Act.draw (first_or_zero xs) (choose_parts n sc parts) s
 assigned called n sc xs (RightSide.call p arguments) s = Act.call xs (callee (find_call called p)) (terms n sc arguments) s

@@ -4,9 +4,10 @@ ghost use Rattle.heylo_formula.specs.Formula.Cond.{constant};
 ghost use Rattle.heylo_formula.specs.Formula.Term.{truth};
 ghost use Rattle.heylo_formula.specs.PlainTrees.{term_of};
 ghost use Rattle.heyvl_acts.specs.PlainActs.{parts_of};
+ghost use Rattle.heyvl_acts.specs.Tosses.{flip_parts};
 ghost use Rattle.heyvl_num.specs.Rational.{oneʳ, ratio, ◌-ʳ◌};
 ghost use Rattle.heyvl_types.specs.Literals.{ends_wrong, is_too_wide};
-ghost use Rattle.heyvl_types.specs.StatementActs.{flip_parts, integer_parts, unif_parts, whole_term};
+ghost use Rattle.heyvl_types.specs.StatementActs.{integer_parts, unif_parts, whole_term};
 ghost use Rattle.std.specs.Int.Signed.{le_z};
 ghost use Rattle.std.specs.Prelude.{◌+ℤ◌, ◌+◌, ◌<◌, ◌^◌, ◌≡◌, ◌≤◌, IfOk, Some, false, pos, true, unsigned_abs};
 

@@ -5,17 +5,21 @@ ghost use Rattle.heyvl_syntax.specs.Statements.{RightSide, choices, right_side};
 ghost use Rattle.heyvl_types.specs.Answers.{Gives};
 ghost use Rattle.heyvl_types.specs.internal.Views.{value_type, signature_of};
 ghost use Rattle.heyvl_types.specs.Findings.{at};
+ghost use Rattle.heyvl_acts.specs.Acts.{Act as Plain};
 ghost use Rattle.heyvl_acts.specs.PlainActs.{act_of, parts_of};
-ghost use Rattle.heyvl_types.specs.Literals.{ends_wrong};
-ghost use Rattle.heyvl_types.specs.RightSides.{any_output_mismatches, first_mismatches, has_over_zero, literal_wrong, right_findings, right_rules, right_type};
+ghost use Rattle.heyvl_acts.specs.Tosses.{flip_parts};
+ghost use Rattle.heylo_formula.specs.NumericVariables.{has_variable};
+ghost use Rattle.heyvl_types.specs.Literals.{ends_wrong, is_over_zero, is_probability, weight, weight_value};
+ghost use Rattle.heyvl_types.specs.RightSides.{ValueType as Types, any_output_mismatches, first_mismatches, flip_type, has_over_zero, literal_wrong, right_findings, right_rules, right_type, type_of_expression};
 ghost use Rattle.heyvl_types.specs.Signatures.{find_call};
-ghost use Rattle.heyvl_types.specs.StatementActs.{assigned, callee, first_or_zero, unif_parts};
+ghost use Rattle.heyvl_types.specs.StatementActs.{assigned, callee, first_or_zero, form, unif_parts};
+ghost use Rattle.heyvl_types.specs.TypedExpressions.{closed_findings, elaborate};
 ghost use Rattle.heyvl_types.specs.internal.RightSideParts.{join_all, types_of, types_of_choices};
 ghost use Rattle.heyvl_types.specs.internal.RightSideRules.{any_mismatches, call_rules, value_rules};
-ghost use Rattle.std.specs.Prelude.{◌++◌, ◌<◌, ◌^◌, ◌≡◌, [], IfOk, IfSome, false, map, option_map, unsigned_abs};
+ghost use Rattle.std.specs.Prelude.{◌++◌, ◌<◌, ◌^◌, ◌≡◌, [], IfOk, IfSome, Some, false, map, not, option_map, unsigned_abs};
 
 use crate::calls::{Calls, Signature};
-use crate::choices::{Choices, any_over_zero, read_choices, read_weight, weigh_wrong};
+use crate::choices::{Choices, any_over_zero, read_choices, weigh_wrong};
 use crate::demands::Demand;
 use crate::draws::{flip_parts, unif_parts};
 use crate::expressions::read;
@@ -25,9 +29,11 @@ use crate::scopes::Scope;
 use crate::stops::ResolveStop;
 use crate::typed_values::{Values, join_all, read_value, read_values};
 use crate::value_types::{
-    ValueType, mismatches, mismatches_target, type_of_integers, type_of_name,
+    ValueType, mismatches, mismatches_target, toss_type, type_of_integers, type_of_meaning,
+    type_of_name,
 };
-use crate::weights::{is_over_zero, is_probability, weight_of, weight_value};
+use crate::values::form;
+use crate::weights::{is_over_zero, is_probability, is_weight_literal, weight_of, weight_value};
 use heylo_formula::Term;
 use heyvl_acts::Act;
 use heyvl_num::Frac;
@@ -103,7 +109,7 @@ fn read_plain(
     targets: &Targets,
     span: Span,
 ) -> Result<Act, ResolveStop>
-    ensures { Gives act_of result (right_findings next scope.now (RightSide.plain (expression e.now)) ++ at span (value_rules targets.now (right_type next scope.now (RightSide.plain (expression e.now))) (literal_wrong (RightSide.plain (expression e.now))) (has_over_zero (RightSide.plain (expression e.now))))) (assigned [] next scope.now targets.now.numbers.items (RightSide.plain (expression e.now)) span) }
+    ensures { Gives act_of result (right_findings next scope.now (RightSide.plain (expression e.now)) ++ at span (value_rules targets.now (right_type next scope.now (RightSide.plain (expression e.now))) (literal_wrong next scope.now (RightSide.plain (expression e.now))) (has_over_zero (RightSide.plain (expression e.now))))) (assigned [] next scope.now targets.now.numbers.items (RightSide.plain (expression e.now)) span) }
 {
     let value = read_value(alloc, scope, next, e)?;
     told(span, &value_rules(targets, value.ty, false, false))?;
@@ -119,15 +125,49 @@ fn read_flip(
     targets: &Targets,
     span: Span,
 ) -> Result<Act, ResolveStop>
-    ensures { Gives act_of result (right_findings next scope.now (RightSide.flip (expression probability.now)) ++ at span (value_rules targets.now (right_type next scope.now (RightSide.flip (expression probability.now))) (literal_wrong (RightSide.flip (expression probability.now))) (has_over_zero (RightSide.flip (expression probability.now))))) (assigned [] next scope.now targets.now.numbers.items (RightSide.flip (expression probability.now)) span) }
+    ensures { Gives act_of result (right_findings next scope.now (RightSide.flip (expression probability.now)) ++ at span (value_rules targets.now (right_type next scope.now (RightSide.flip (expression probability.now))) (literal_wrong next scope.now (RightSide.flip (expression probability.now))) (has_over_zero (RightSide.flip (expression probability.now))))) (assigned [] next scope.now targets.now.numbers.items (RightSide.flip (expression probability.now)) span) }
 {
-    read_weight(alloc, scope, next, probability)?;
+    if is_weight_literal(weight_of(probability)) {
+        read_likely(alloc, probability, targets, span)
+    } else {
+        read_toss(alloc, scope, next, probability, targets, span)
+    }
+}
+
+/// The same where the probability is a weight literal.
+fn read_likely(
+    alloc: Global,
+    probability: &Expr,
+    targets: &Targets,
+    span: Span,
+) -> Result<Act, ResolveStop>
+    ensures { Gives act_of result (at span (value_rules targets.now (Some Types.truth) (not (is_probability (weight (expression probability.now)))) (is_over_zero (weight (expression probability.now))))) (Plain.draw (first_or_zero targets.now.numbers.items) (flip_parts (weight_value (weight (expression probability.now)))) span) }
+{
     let improbable = !is_probability(weight_of(probability));
     let zero = is_over_zero(weight_of(probability));
     let rules = value_rules(targets, Some(ValueType::Truth), improbable, zero);
     told(span, &rules)?;
     let parts = flip_parts(alloc, weight_value(weight_of(probability)))?;
     Ok(Act::Draw(first_or_zero(&targets.numbers), parts, span))
+}
+
+/// The same where the probability is another expression.
+fn read_toss(
+    alloc: Global,
+    scope: &Scope,
+    next: u32,
+    probability: &Expr,
+    targets: &Targets,
+    span: Span,
+) -> Result<Act, ResolveStop>
+    ensures { Gives act_of result (closed_findings Demand.Any next scope.now (expression probability.now) ++ at span (value_rules targets.now (flip_type false (type_of_expression next scope.now (expression probability.now))) (has_variable (form (elaborate next scope.now (expression probability.now)))) false)) (Plain.toss (first_or_zero targets.now.numbers.items) (form (elaborate next scope.now (expression probability.now))) span) }
+{
+    let made = read(alloc, scope, next, probability, Demand::Any)?;
+    let ty = toss_type(type_of_meaning(&made));
+    let weight = form(made);
+    let rules = value_rules(targets, ty, weight.has_variable(), false);
+    told(span, &rules)?;
+    Ok(Act::Toss(first_or_zero(&targets.numbers), weight, span))
 }
 
 /// The parts of a unif between these ends; none where one of them isn't there.
@@ -158,7 +198,7 @@ fn read_unif(
     targets: &Targets,
     span: Span,
 ) -> Result<Act, ResolveStop>
-    ensures { Gives act_of result (right_findings next scope.now (RightSide.unif (expression low.now) (expression high.now)) ++ at span (value_rules targets.now (right_type next scope.now (RightSide.unif (expression low.now) (expression high.now))) (literal_wrong (RightSide.unif (expression low.now) (expression high.now))) (has_over_zero (RightSide.unif (expression low.now) (expression high.now))))) (assigned [] next scope.now targets.now.numbers.items (RightSide.unif (expression low.now) (expression high.now)) span) }
+    ensures { Gives act_of result (right_findings next scope.now (RightSide.unif (expression low.now) (expression high.now)) ++ at span (value_rules targets.now (right_type next scope.now (RightSide.unif (expression low.now) (expression high.now))) (literal_wrong next scope.now (RightSide.unif (expression low.now) (expression high.now))) (has_over_zero (RightSide.unif (expression low.now) (expression high.now))))) (assigned [] next scope.now targets.now.numbers.items (RightSide.unif (expression low.now) (expression high.now)) span) }
 {
     read(alloc, scope, next, low, Demand::Any)?;
     read(alloc, scope, next, high, Demand::Any)?;
@@ -182,7 +222,7 @@ fn read_choose(
     targets: &Targets,
     span: Span,
 ) -> Result<Act, ResolveStop>
-    ensures { Gives act_of result (right_findings next scope.now (RightSide.choose (choices all.now)) ++ at span (value_rules targets.now (join_all (types_of_choices next scope.now (choices all.now))) (literal_wrong (RightSide.choose (choices all.now))) (has_over_zero (RightSide.choose (choices all.now))))) (assigned [] next scope.now targets.now.numbers.items (RightSide.choose (choices all.now)) span) }
+    ensures { Gives act_of result (right_findings next scope.now (RightSide.choose (choices all.now)) ++ at span (value_rules targets.now (join_all (types_of_choices next scope.now (choices all.now))) (literal_wrong next scope.now (RightSide.choose (choices all.now))) (has_over_zero (RightSide.choose (choices all.now))))) (assigned [] next scope.now targets.now.numbers.items (RightSide.choose (choices all.now)) span) }
 {
     let Choices { parts, types } = read_choices(alloc, scope, next, all)?;
     let rules = value_rules(

@@ -1,10 +1,10 @@
 //! The types of values that may be given to variables.
 
 ghost use Rattle.heyvl_types.specs.internal.Views.{meaning_of, value_type};
-ghost use Rattle.heyvl_types.specs.RightSides.{join_types, mismatches, mismatches_target, type_of_integers, type_of_meaning, type_of_name, widens_to};
+ghost use Rattle.heyvl_types.specs.RightSides.{flip_type, join_types, mismatches, mismatches_target, type_of_integers, type_of_meaning, type_of_name, widens_to};
 ghost use Rattle.heyvl_types.specs.internal.Views.{kind_of};
 ghost use Rattle.heylo_formula.specs.Typing.{is_finite_type, widens};
-ghost use Rattle.std.specs.Prelude.{◌≡◌, ◌&&◌, Some, option_map};
+ghost use Rattle.std.specs.Prelude.{◌≡◌, ◌&&◌, Some, false, option_map};
 
 use crate::meanings::{Kind, Meaning};
 use crate::operators::joined;
@@ -50,6 +50,20 @@ pub(crate) fn type_of_integers(negative: bool) -> ValueType
         ValueType::Number(Kind::Int)
     } else {
         ValueType::Number(Kind::UInt)
+    }
+}
+
+/// The type of what a flip gives whose probability, no weight literal, has this type: none where that isn't UInt or UReal.
+pub(crate) fn toss_type(ty: Option<ValueType>) -> Option<ValueType>
+    ensures { option_map value_type result ≡ flip_type false (option_map value_type ty) }
+{
+    match ty {
+        Some(ValueType::Number(Kind::UInt)) => Some(ValueType::Truth),
+        Some(ValueType::Number(Kind::UReal)) => Some(ValueType::Truth),
+        Some(ValueType::Number(Kind::Int)) => None,
+        Some(ValueType::Number(Kind::EUReal)) => None,
+        Some(ValueType::Truth) => None,
+        None => None,
     }
 }
 

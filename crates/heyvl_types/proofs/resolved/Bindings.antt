@@ -9,11 +9,12 @@ use Rattle.heyvl_syntax.specs.Statements as text
 use Rattle.heyvl_syntax.specs.Statements.{Block, RightSide, Statement}
 use Rattle.heyvl_syntax.specs.declared.types.TypeName.{TypeName}
 use Rattle.heyvl_types.proofs.resolved.Findings.{all_kept, back_none, front_none}
+use Rattle.heyvl_types.proofs.resolved.Flips.{of_flip}
 use Rattle.heyvl_types.proofs.resolved.InOrder.{in_order_join}
 use Rattle.heyvl_types.specs.Files.{body_acts, body_findings}
 use Rattle.heyvl_types.specs.Scopes.{Scope}
 use Rattle.heyvl_types.specs.Signatures.{Called}
-use Rattle.heyvl_types.specs.StatementActs.{arms_acts, assigned, block_acts, declared_act, form, havocs, loops, loops_of_arms, loops_of_block, statement_acts, targets}
+use Rattle.heyvl_types.specs.StatementActs.{arms_acts, assigned, block_acts, declared_act, first_or_zero, form, havocs, loops, loops_of_arms, loops_of_block, statement_acts, targets}
 use Rattle.heyvl_types.specs.StatementRules.{arms_bind, arms_findings, binds, binds_value, block_binds, block_findings, check_rules, checks_against, is_call, statement_findings, validate_rules, validates_against}
 use Rattle.heyvl_types.specs.TypedExpressions.{closed_findings, elaborate}
 use Rattle.heyvl_types.specs.Variables.{behind, locals, locals_of_arms, locals_of_block}
@@ -32,7 +33,7 @@ none_bind (x ∷ xs) ys p q = or_from _ _ (or_parts _ _ p).0 (none_bind xs ys (o
 
 unbound_assigned : (called : Called) (n : ℕ) (sc : Scope) (xs : List ℕ) (r : RightSide) (s : Span) → is_call r ≡ false → any_binds (in_order (Acts.next (assigned called n sc xs r s) Acts.done)) ≡ false
 unbound_assigned called n sc xs (RightSide.plain e) s u = refl
-unbound_assigned called n sc xs (RightSide.flip p) s u = refl
+unbound_assigned called n sc xs (RightSide.flip p) s u = of_flip (λ a. any_binds (in_order (Acts.next a Acts.done)) ≡ false) n sc (first_or_zero xs) p s refl refl
 unbound_assigned called n sc xs (RightSide.unif a b) s u = refl
 unbound_assigned called n sc xs (RightSide.choose parts) s u = refl
 unbound_assigned called n sc xs (RightSide.call p arguments) s u = absurd (cc)
@@ -101,7 +102,7 @@ module _ (h : Setting) (called : Called) (quantified : Bool) where
 
   behind_assigned : (n : ℕ) (sc : Scope) (xs : List ℕ) (r : RightSide) (s : Span) (ys : List Act) → NothingBindsBehind h.co quantified ys → NothingBindsBehind h.co quantified (in_order (Acts.next (assigned called n sc xs r s) Acts.done) ++ ys)
   behind_assigned n sc xs (RightSide.plain e) s ys p = (λ i. absurd (cc), p)
-  behind_assigned n sc xs (RightSide.flip e) s ys p = (λ i. absurd (cc), p)
+  behind_assigned n sc xs (RightSide.flip e) s ys p = of_flip (λ a. NothingBindsBehind h.co quantified (in_order (Acts.next a Acts.done) ++ ys)) n sc (first_or_zero xs) e s (λ i. absurd (cc), p) (λ i. absurd (cc), p)
   behind_assigned n sc xs (RightSide.unif a b) s ys p = (λ i. absurd (cc), p)
   behind_assigned n sc xs (RightSide.choose parts) s ys p = (λ i. absurd (cc), p)
   behind_assigned n sc xs (RightSide.call f arguments) s ys p = (λ i. absurd (cc), p)

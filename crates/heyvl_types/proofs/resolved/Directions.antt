@@ -8,6 +8,7 @@ use Rattle.heyvl_syntax.specs.Statements.{RightSide, Statement}
 use Rattle.heyvl_syntax.specs.declared.types.TypeName.{TypeName}
 use Rattle.heyvl_types.proofs.resolved.Calls.{AreCallees}
 use Rattle.heyvl_types.proofs.resolved.Findings.{all_kept, back_none}
+use Rattle.heyvl_types.proofs.resolved.Flips.{of_flip}
 use Rattle.heyvl_types.proofs.resolved.Posts.{plain_post}
 use Rattle.heyvl_types.proofs.resolved.Walk.{Alone, Locally}
 use Rattle.heyvl_types.specs.Files.{first_quantified, head_scope}
@@ -15,7 +16,7 @@ use Rattle.heyvl_types.specs.Findings.{at}
 use Rattle.heyvl_types.specs.RightSides.{is_of_other_direction, is_quantified, right_rules}
 use Rattle.heyvl_types.specs.Scopes.{Scope, any_input, any_unknown, is_visible, types_of_names}
 use Rattle.heyvl_types.specs.Signatures.{Called, Signature, find_call}
-use Rattle.heyvl_types.specs.StatementActs.{assigned, callee, declared_act, havocs, targets}
+use Rattle.heyvl_types.specs.StatementActs.{assigned, callee, declared_act, first_or_zero, havocs, targets}
 use Rattle.heyvl_types.specs.StatementRules.{any_twice, assign_rules, havoc_rules, reward_rules, value_findings, var_rules}
 use Rattle.heyvl_types.specs.Table.{declarable}
 use Rattle.heyvl_types.specs.declared.settings.Setting.{Setting}
@@ -41,7 +42,7 @@ module _ (ps : List TypedProcedure) (p : TypedProcedure) (h : Setting) (called :
 
   follows_assigned : (n : ℕ) (sc : Scope) (unknown twice undeclarable input : Bool) (types : List (Option TypeName)) (xs : List ℕ) (r : RightSide) (s : Span) → at s (right_rules h.co called n sc unknown twice undeclarable input types r) ≡ [] → FollowsDirection ps p (assigned called n sc xs r s)
   follows_assigned n sc unknown twice undeclarable input types xs (RightSide.plain e) s f = tt
-  follows_assigned n sc unknown twice undeclarable input types xs (RightSide.flip e) s f = tt
+  follows_assigned n sc unknown twice undeclarable input types xs (RightSide.flip e) s f = of_flip (FollowsDirection ps p) n sc (first_or_zero xs) e s tt tt
   follows_assigned n sc unknown twice undeclarable input types xs (RightSide.unif a b) s f = tt
   follows_assigned n sc unknown twice undeclarable input types xs (RightSide.choose parts) s f = tt
   follows_assigned n sc unknown twice undeclarable input types xs (RightSide.call q arguments) s f =

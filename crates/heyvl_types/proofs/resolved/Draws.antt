@@ -1,9 +1,13 @@
--- The parts of a draw against which nothing is found fit its variable.
-use Rattle.heylo_formula.specs.Typing.NumberType.{int, uint}
-use Rattle.heylo_formula.specs.Typing.{NumberType, TermFits, Types, constant_type, fits, number_type}
+-- The parts of a draw against which nothing is found fit its variable, and the formula of a toss is a probability.
+use Rattle.heylo_formula.proofs.exported.Plain.{finite_plain}
+use Rattle.heylo_formula.specs.Formula.{Form}
+use Rattle.heylo_formula.specs.NumericVariables.{has_variable}
+use Rattle.heylo_formula.specs.Typing.NumberType.{eureal, int, uint, ureal}
+use Rattle.heylo_formula.specs.Typing.{NumberType, TermFits, Types, constant_type, fits, is_finite_type, is_unsigned, number_type, type_of}
 use Rattle.heylo_formula.specs.declared.types.Ty.{Ty}
 use Rattle.heyvl_acts.specs.Rules.{Each}
-use Rattle.heyvl_acts.specs.WellTyped.{DrawFits, PartsFit}
+use Rattle.heyvl_acts.specs.Tosses.{flip_parts}
+use Rattle.heyvl_acts.specs.WellTyped.{DrawFits, IsProbability, PartsFit}
 use Rattle.heyvl_num.proofs.exported.Integers.{*ℤ-one}
 use Rattle.heyvl_num.proofs.exported.Rationals.{leq_ratio, ratio_den, ratio_nonnegative}
 use Rattle.heyvl_num.proofs.exported.Signs.{difference_nonnegative}
@@ -13,22 +17,24 @@ use Rattle.heyvl_num.specs.Value.Value.{finite}
 use Rattle.heyvl_syntax.specs.Expressions.{Expression}
 use Rattle.heyvl_syntax.specs.Statements.{RightSide}
 use Rattle.heyvl_syntax.specs.declared.types.TypeName.{TypeName}
+use Rattle.heyvl_types.proofs.TypedMeanings.{good}
 use Rattle.heyvl_types.proofs.resolved.RightSides.{RightKept}
 use Rattle.heyvl_types.proofs.resolved.Types.{NumberFits, choices_fit, number_fits, truth_fits, value_fits}
 use Rattle.heyvl_types.proofs.resolved.Weights.{probability_small, weight_nonnegative}
-use Rattle.heyvl_types.specs.ExpressionLaws.{Agrees}
-use Rattle.heyvl_types.specs.Literals.{ends_wrong, integer, is_negative, weight, weight_value}
-use Rattle.heyvl_types.specs.RightSides.{mismatches, type_of_expression}
+use Rattle.heyvl_types.specs.ExpressionLaws.{Agrees, IsTyped}
+use Rattle.heyvl_types.specs.Literals.{ends_wrong, integer, is_negative, is_probability, is_weight_literal, weight, weight_value}
+use Rattle.heyvl_types.specs.RightSides.{ValueType, flip_wrong, is_probability_type, mismatches, type_of_expression, type_of_meaning}
 use Rattle.heyvl_types.specs.Scopes.{Scope}
 use Rattle.heyvl_types.specs.Signatures.{Called}
-use Rattle.heyvl_types.specs.StatementActs.{choose_parts, flip_parts, integer_parts, unif_parts, whole_term}
-use Rattle.heyvl_types.specs.Table.{declarable}
-use Rattle.std.proofs.Common.{Bool, List, None, Option, Some, [], arith, false, negsuc, pos, refl, suc, true, zero, ◌∙◌, ◌∷◌, ◌≡◌, ℕ, ℤ}
+use Rattle.heyvl_types.specs.StatementActs.{choose_parts, form, integer_parts, unif_parts, whole_term}
+use Rattle.heyvl_types.specs.Table.{Meaning, declarable, given}
+use Rattle.heyvl_types.specs.TypedExpressions.{elaborate}
+use Rattle.std.proofs.Common.{Bool, List, None, Option, Some, [], ap, arith, false, negsuc, pos, refl, subst, suc, true, zero, ◌∙◌, ◌∷◌, ◌≡◌, ℕ, ℤ}
 use Rattle.std.proofs.Math.Nat.{div-le_self}
 use Rattle.std.proofs.lemmas.Bool.{le-leb, not-false}
 use Rattle.std.proofs.lemmas.Int.{ints}
 use Rattle.std.specs.Int.Signed.{le_z}
-use Rattle.std.specs.Prelude.{if◌then◌else◌, unsigned_abs, ◌+ℤ◌, ◌-ℤ◌}
+use Rattle.std.specs.Prelude.{if◌then◌else◌, unsigned_abs, ◌+ℤ◌, ◌-ℤ◌, ◌||◌}
 
 -- ---- Whole numbers
 
@@ -74,17 +80,43 @@ unif_fits types x (Some a) (Some b) h f =
 unif_fits types x (Some a) None h f = absurd (cc)
 unif_fits types x None b h f = absurd (cc)
 
--- ---- Draws
+-- ---- Draws and tosses
+
+-- A form of a finite type has no binder.
+finite_probability : (types : Types) (a : Form) (t : NumberType) → type_of types a ≡ Some t → is_unsigned (Some t) ≡ true → is_finite_type (Some t) ≡ true → has_variable a ≡ false → IsProbability types a
+finite_probability types a t e u f v = let k = ap is_finite_type e ∙ f in ((ap is_unsigned e ∙ u, finite_plain types a k), (k, v))
+
+probability_meant : (types : Types) (o : Option Meaning) → ((m : Meaning) → o ≡ Some m → IsTyped types m) → is_probability_type (given o type_of_meaning) ≡ true → has_variable (form o) ≡ false → IsProbability types (form o)
+probability_meant types None i h v = absurd (cc)
+probability_meant types (Some (Meaning.truth g)) i h v = absurd (cc)
+probability_meant types (Some (Meaning.number uint a)) i h v = finite_probability types a uint (i (Meaning.number uint a) refl) refl refl v
+probability_meant types (Some (Meaning.number ureal a)) i h v = finite_probability types a ureal (i (Meaning.number ureal a) refl) refl refl v
+probability_meant types (Some (Meaning.number int a)) i h v = absurd (cc)
+probability_meant types (Some (Meaning.number eureal a)) i h v = absurd (cc)
+probability_meant types (Some Meaning.real) i h v = absurd (cc)
 
 module _ (types : Types) (c : Called) (n : ℕ) (sc : Scope) (g : Agrees types n sc) (x : ℕ) (t : TypeName) (d : declarable t ≡ Some (types x)) where
   choices_parts : (ps : List (Expression × Expression)) → Each (λ p. mismatches (type_of_expression n sc p.1) t ≡ false) ps → PartsFit types x (choose_parts n sc ps)
   choices_parts [] h = tt
   choices_parts (p ∷ ps) h = ((weight_nonnegative p.0, value_fits types n sc g p.1 t (types x) d h.0), choices_parts ps h.1)
 
-  pub flip_drawn : (p : Expression) → RightKept c n sc (Some t ∷ []) (RightSide.flip p) → DrawFits types x (flip_parts (weight_value (weight p)))
-  flip_drawn p k =
-      let b = truth_fits t (types x) d k.matches in
-      ((weight_nonnegative p, (b, refl)), (((difference_nonnegative (weight_value (weight p)) oneʳ).1 (probability_small (weight p) k.literals k.divisors), (b, refl)), tt))
+  -- the target of a flip is a Bool, and its probability is a weight literal or of the right type
+  flip_target : (b : Bool) → mismatches (if b then Some ValueType.truth else None) t ≡ false → (types x ≡ Ty.Bool) × (b ≡ true)
+  flip_target true m = (truth_fits t (types x) d m, refl)
+  flip_target false m = absurd (cc)
+
+  pub flip_drawn : (p : Expression) → is_weight_literal (weight p) ≡ true → RightKept c n sc (Some t ∷ []) (RightSide.flip p) → DrawFits types x (flip_parts (weight_value (weight p)))
+  flip_drawn p l k =
+      let b = (flip_target (is_weight_literal (weight p) || is_probability_type (type_of_expression n sc p)) k.matches).0 in
+      let w = subst (λ r. flip_wrong r (is_probability (weight p)) (has_variable (form (elaborate n sc p))) ≡ false) l k.literals in
+      ((weight_nonnegative p, (b, refl)), (((difference_nonnegative (weight_value (weight p)) oneʳ).1 (probability_small (weight p) w k.divisors), (b, refl)), tt))
+
+  pub flip_tossed : (p : Expression) → is_weight_literal (weight p) ≡ false → RightKept c n sc (Some t ∷ []) (RightSide.flip p) → (types x ≡ Ty.Bool) × IsProbability types (form (elaborate n sc p))
+  flip_tossed p l k =
+      let b = flip_target (is_weight_literal (weight p) || is_probability_type (type_of_expression n sc p)) k.matches in
+      let y = subst (λ r. (r || is_probability_type (type_of_expression n sc p)) ≡ true) l b.1 in
+      let v = subst (λ r. flip_wrong r (is_probability (weight p)) (has_variable (form (elaborate n sc p))) ≡ false) l k.literals in
+      (b.0, probability_meant types (elaborate n sc p) (λ m i. (good types n sc g p m i).typed) y v)
 
   pub unif_drawn : (a b : Expression) → RightKept c n sc (Some t ∷ []) (RightSide.unif a b) → DrawFits types x (unif_parts (integer a) (integer b))
   unif_drawn a b k = unif_fits types x (integer a) (integer b) k.literals (number_fits t (types x) (if is_negative (integer a) then int else uint) d k.matches)

@@ -16,9 +16,10 @@ use Rattle.heyvl_types.specs.Literals.{copies, whole_value}
 use Rattle.heyvl_types.specs.LoopRules.{is_ranking, loop_rules, rules_findings}
 use Rattle.heyvl_acts.specs.Places.{in_order, inside_arms}
 use Rattle.heyvl_acts.specs.Rules.{Each, GrowBelow, LoopsMeet, NothingBindsBehind, RankedBodyIsPlain, is_against, is_rankable}
+use Rattle.heyvl_types.proofs.resolved.Flips.{of_flip}
 use Rattle.heyvl_types.specs.Scopes.{Scope, numbers}
 use Rattle.heyvl_types.specs.Signatures.{Called}
-use Rattle.heyvl_types.specs.StatementActs.{arms_acts, assigned, block_acts, copies_of, declared_act, havocs, loops, loops_of_arms, loops_of_block, number_or_one, ranking_of, statement_acts, targets}
+use Rattle.heyvl_types.specs.StatementActs.{arms_acts, assigned, block_acts, copies_of, declared_act, first_or_zero, havocs, loops, loops_of_arms, loops_of_block, number_or_one, ranking_of, statement_acts, targets}
 use Rattle.heyvl_types.specs.StatementRules.{arms_are_rankable, arms_bind, arms_findings, block_binds, block_findings, block_is_rankable, calls_value, check_rules, checks_against, is_call, statement_findings, validate_rules, validates_against}
 use Rattle.heyvl_types.specs.StatementRules as text_rules
 use Rattle.heyvl_types.specs.TypedExpressions.{closed_findings}
@@ -40,7 +41,7 @@ Rankable a = is_rankable a ≡ true
 
 rankable_assigned : (called : Called) (n : ℕ) (sc : Scope) (xs : List ℕ) (r : RightSide) (s : Span) → not (is_call r) ≡ true → Each Rankable (in_order (Acts.next (assigned called n sc xs r s) Acts.done))
 rankable_assigned called n sc xs (RightSide.plain e) s u = (refl, tt)
-rankable_assigned called n sc xs (RightSide.flip p) s u = (refl, tt)
+rankable_assigned called n sc xs (RightSide.flip p) s u = of_flip (λ a. Each Rankable (in_order (Acts.next a Acts.done))) n sc (first_or_zero xs) p s (refl, tt) (refl, tt)
 rankable_assigned called n sc xs (RightSide.unif a b) s u = (refl, tt)
 rankable_assigned called n sc xs (RightSide.choose parts) s u = (refl, tt)
 rankable_assigned called n sc xs (RightSide.call p arguments) s u = absurd (cc)
@@ -142,7 +143,7 @@ implied false b k e = absurd (cc)
 module _ (p : TypedProcedure) (h : Setting) (called : Called) (co : p.co ≡ h.co) where
   meets_assigned : (n : ℕ) (sc : Scope) (xs : List ℕ) (r : RightSide) (s : Span) → LoopsMeet p (assigned called n sc xs r s)
   meets_assigned n sc xs (RightSide.plain e) s = tt
-  meets_assigned n sc xs (RightSide.flip q) s = tt
+  meets_assigned n sc xs (RightSide.flip q) s = of_flip (LoopsMeet p) n sc (first_or_zero xs) q s tt tt
   meets_assigned n sc xs (RightSide.unif a b) s = tt
   meets_assigned n sc xs (RightSide.choose parts) s = tt
   meets_assigned n sc xs (RightSide.call q arguments) s = tt

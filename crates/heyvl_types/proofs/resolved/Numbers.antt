@@ -6,11 +6,12 @@ use Rattle.heyvl_places.specs.declared.spans.Span.{Span}
 use Rattle.heyvl_syntax.specs.Statements as text
 use Rattle.heyvl_syntax.specs.Statements.{Block, RightSide, Statement}
 use Rattle.heyvl_syntax.specs.declared.types.TypeName.{TypeName}
+use Rattle.heyvl_types.proofs.resolved.Flips.{of_flip}
 use Rattle.heyvl_types.proofs.resolved.InOrder.{in_order_join}
 use Rattle.heyvl_types.specs.Files.{body_acts, loops_of_body}
 use Rattle.heyvl_types.specs.Scopes.{Scope}
 use Rattle.heyvl_types.specs.Signatures.{Called}
-use Rattle.heyvl_types.specs.StatementActs.{arms_acts, assigned, block_acts, declared_act, havocs, loops, loops_of_arms, loops_of_block, statement_acts, targets}
+use Rattle.heyvl_types.specs.StatementActs.{arms_acts, assigned, block_acts, declared_act, first_or_zero, havocs, loops, loops_of_arms, loops_of_block, statement_acts, targets}
 use Rattle.heyvl_types.specs.Variables.{behind, locals, locals_of_arms, locals_of_block}
 use Rattle.heyvl_types.specs.declared.settings.Setting.{Setting}
 use Rattle.std.proofs.Common.{Bool, List, None, Option, Some, [], ap, arith, refl, suc, sym, zero, ◌++◌, ◌+◌, ◌∙◌, ◌≡◌, ◌∷◌, ℕ}
@@ -39,7 +40,7 @@ row m a b xs ys p q = numbers_append xs ys ∙ (ap (λ r. r ++ loop_numbers ys) 
 
 none_assigned : (called : Called) (n : ℕ) (sc : Scope) (xs : List ℕ) (r : RightSide) (s : Span) → loop_numbers (in_order (Acts.next (assigned called n sc xs r s) Acts.done)) ≡ []
 none_assigned called n sc xs (RightSide.plain e) s = refl
-none_assigned called n sc xs (RightSide.flip p) s = refl
+none_assigned called n sc xs (RightSide.flip p) s = of_flip (λ a. loop_numbers (in_order (Acts.next a Acts.done)) ≡ []) n sc (first_or_zero xs) p s refl refl
 none_assigned called n sc xs (RightSide.unif a b) s = refl
 none_assigned called n sc xs (RightSide.choose parts) s = refl
 none_assigned called n sc xs (RightSide.call p arguments) s = refl

@@ -19,7 +19,7 @@ pub record RightKept (c : Called) (n : ℕ) (sc : Scope) (ts : List (Option Type
   pub known : calls_unknown c r ≡ false
   pub matches : right_mismatches c n sc r ts ≡ false
   pub counts : counts_wrong c r ts ≡ false
-  pub literals : literal_wrong r ≡ false
+  pub literals : literal_wrong n sc r ≡ false
   pub divisors : has_over_zero r ≡ false
 
 module _ (h : Setting) (c : Called) (n : ℕ) (sc : Scope) where

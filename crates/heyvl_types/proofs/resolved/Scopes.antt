@@ -1,6 +1,7 @@
 -- Typed acts read visible variables alone.
 use Rattle.heyvl_acts.specs.Acts.{Acts, acts_in, join}
 use Rattle.heyvl_acts.specs.Rules.{Each}
+use Rattle.heyvl_acts.specs.Tosses.{flip_parts}
 use Rattle.heyvl_acts.specs.Visible.{Scoped, ScopedAct, ScopedArms, Sees, SeesParts, SeesRank, SeesTerms, Visible, among, shown, shown_all, shown_by}
 use Rattle.heyvl_num.specs.Rational.{Rational, ratio}
 use Rattle.heyvl_places.specs.declared.spans.Span.{Span}
@@ -9,6 +10,7 @@ use Rattle.heyvl_syntax.specs.Statements as text
 use Rattle.heyvl_syntax.specs.Statements.{Block, LoopRule, RightSide, Statement}
 use Rattle.heyvl_syntax.specs.declared.types.TypeName.{TypeName}
 use Rattle.heyvl_types.proofs.resolved.Findings.{IsKept, all_kept, back_none, front_none}
+use Rattle.heyvl_types.proofs.resolved.Flips.{of_flip}
 use Rattle.heyvl_types.proofs.resolved.Growth.{new_name, numbers_with}
 use Rattle.heyvl_types.proofs.resolved.Sight.{found_among, sees_condition, sees_form, sees_term}
 use Rattle.heyvl_types.specs.Files.{body_acts, body_findings}
@@ -17,7 +19,7 @@ use Rattle.heyvl_types.specs.Literals.{integer, weight, weight_value}
 use Rattle.heyvl_types.specs.RightSides.{right_findings}
 use Rattle.heyvl_types.specs.Scopes.{Scope, any_unknown, find, is_visible, numbers, types_of_names, with_local}
 use Rattle.heyvl_types.specs.Signatures.{Called}
-use Rattle.heyvl_types.specs.StatementActs.{arms_acts, assigned, block_acts, choose_parts, declared_act, first_or_zero, flip_parts, havocs, integer_parts, invariant_of, loops, loops_of_arms, loops_of_block, number_or_zero, ranking_of, statement_acts, targets, terms, unif_parts}
+use Rattle.heyvl_types.specs.StatementActs.{arms_acts, assigned, block_acts, choose_parts, declared_act, first_or_zero, havocs, integer_parts, invariant_of, loops, loops_of_arms, loops_of_block, number_or_zero, ranking_of, statement_acts, targets, terms, unif_parts}
 use Rattle.heyvl_types.specs.StatementRules.{arms_bind, arms_findings, assign_rules, block_binds, block_findings, havoc_rules, statement_findings, value_findings}
 use Rattle.heyvl_types.specs.Variables.{behind, locals, locals_of_arms, locals_of_block}
 use Rattle.heyvl_types.specs.declared.scopes.Local.{Local}
@@ -117,7 +119,7 @@ module _ (v : Visible) (sc : Scope) (p : Mirrors v sc) where
 
   assigned_sees : (called : Called) (n : ℕ) (xs : List ℕ) (r : RightSide) (s : Span) → ScopedAct v (assigned called n sc xs r s)
   assigned_sees called n xs (RightSide.plain e) s = sees_term sc v visible n e
-  assigned_sees called n xs (RightSide.flip q) s = flip_sees v (weight_value (weight q))
+  assigned_sees called n xs (RightSide.flip q) s = of_flip (ScopedAct v) n sc (first_or_zero xs) q s (flip_sees v (weight_value (weight q))) (sees_form sc v visible n q)
   assigned_sees called n xs (RightSide.unif a b) s = unif_sees v (integer a) (integer b)
   assigned_sees called n xs (RightSide.choose parts) s = choices_see n parts
   assigned_sees called n xs (RightSide.call q arguments) s = terms_see n arguments
@@ -142,14 +144,18 @@ module _ (h : Setting) (called : Called) where
     where
       go : (r : RightSide) → Each IsKept (assign_rules h called n sc xs r) → Mirrors (shown_by (assigned called n sc (targets sc xs) r s) v) sc
       go (RightSide.plain e) k = same_shown v sc _ p (one_target sc xs (or_parts (any_unknown sc xs) false k.0).0 k.1.1.1.1.0)
-      go (RightSide.flip q) k = same_shown v sc _ p (one_target sc xs (or_parts (any_unknown sc xs) false k.0).0 k.1.1.1.1.0)
+      go (RightSide.flip q) k =
+          let m = same_shown v sc _ p (one_target sc xs (or_parts (any_unknown sc xs) false k.0).0 k.1.1.1.1.0) in
+          of_flip (λ a. Mirrors (shown_by a v) sc) n sc (first_or_zero (targets sc xs)) q s m m
       go (RightSide.unif a b) k = same_shown v sc _ p (one_target sc xs (or_parts (any_unknown sc xs) false k.0).0 k.1.1.1.1.0)
       go (RightSide.choose parts) k = same_shown v sc _ p (one_target sc xs (or_parts (any_unknown sc xs) false k.0).0 k.1.1.1.1.0)
       go (RightSide.call q arguments) k = all_shown v sc (targets sc xs) p (known_targets sc xs (or_parts (any_unknown sc xs) _ k.0).0)
 
   shown_by_new : (n : ℕ) (sc : Scope) (v : Visible) (x : List ℕ) (t : TypeName) (r : RightSide) (s : Span) → is_visible sc x ≡ false → Mirrors v sc → Mirrors (shown_by (assigned called n sc (n ∷ []) r s) v) (with_local x (record { number = n; ty = t }) sc)
   shown_by_new n sc v x t (RightSide.plain e) s i p = new_shown v sc x (record { number = n; ty = t }) p i
-  shown_by_new n sc v x t (RightSide.flip q) s i p = new_shown v sc x (record { number = n; ty = t }) p i
+  shown_by_new n sc v x t (RightSide.flip q) s i p =
+      let m = new_shown v sc x (record { number = n; ty = t }) p i in
+      of_flip (λ a. Mirrors (shown_by a v) (with_local x (record { number = n; ty = t }) sc)) n sc n q s m m
   shown_by_new n sc v x t (RightSide.unif a b) s i p = new_shown v sc x (record { number = n; ty = t }) p i
   shown_by_new n sc v x t (RightSide.choose parts) s i p = new_shown v sc x (record { number = n; ty = t }) p i
   shown_by_new n sc v x t (RightSide.call q arguments) s i p = new_shown v sc x (record { number = n; ty = t }) p i

@@ -11,9 +11,10 @@ use Rattle.heyvl_types.specs.ExpressionLaws.{Agrees}
 use Rattle.heyvl_types.specs.Literals.{integer}
 use Rattle.heyvl_acts.specs.FormSizes.{ActWithin, RankWithin}
 use Rattle.heyvl_acts.specs.Rules.{Each}
+use Rattle.heyvl_types.proofs.resolved.Flips.{of_flip}
 use Rattle.heyvl_types.specs.Scopes.{Scope}
 use Rattle.heyvl_types.specs.Signatures.{Called}
-use Rattle.heyvl_types.specs.StatementActs.{assigned, choose_parts, condition, form, integer_parts, invariant_of, ranking_of, term, terms, unif_parts}
+use Rattle.heyvl_types.specs.StatementActs.{assigned, choose_parts, condition, first_or_zero, form, integer_parts, invariant_of, ranking_of, term, terms, unif_parts}
 use Rattle.heyvl_types.specs.Table.{Meaning}
 use Rattle.heyvl_types.specs.TypedExpressions.{elaborate}
 use Rattle.std.proofs.Common.{List, None, Option, Some, [], arith, pos, refl, suc, zero, ◌*◌, ◌+◌, ◌≡◌, ◌≤◌, ◌∷◌, ℕ, ℤ}
@@ -87,7 +88,7 @@ module _ (types : Types) (n : ℕ) (sc : Scope) (h : Agrees types n sc) where
 
   pub assigned_small : (most : ℕ) (called : Called) (xs : List ℕ) (r : RightSide) (s : Span) → 2 * nodes_of_right r + 1 ≤ most → ActWithin most (assigned called n sc xs r s)
   assigned_small most called xs (RightSide.plain e) s l = let i = term_small e in omega (arith, i, l)
-  assigned_small most called xs (RightSide.flip p) s l = (omega (arith, l), (omega (arith, l), tt))
+  assigned_small most called xs (RightSide.flip p) s l = of_flip (ActWithin most) n sc (first_or_zero xs) p s (omega (arith, l), (omega (arith, l), tt)) (let i = form_small p in omega (arith, i, l))
   assigned_small most called xs (RightSide.unif a b) s l = unif_small most (integer a) (integer b) (omega (arith, l))
   assigned_small most called xs (RightSide.choose parts) s l = choices_small most parts (omega (arith, l))
   assigned_small most called xs (RightSide.call f arguments) s l = terms_small most arguments (omega (arith, l))

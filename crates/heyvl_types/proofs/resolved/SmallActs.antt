@@ -1,5 +1,5 @@
 -- Each act of a body has forms and conditions that are small against the expressions of the body.
-use Rattle.heyvl_acts.specs.Acts.{Acts, Variable}
+use Rattle.heyvl_acts.specs.Acts.{Act, Acts, Variable}
 use Rattle.heyvl_acts.specs.FormSizes.{ActWithin, GuardsWithin}
 use Rattle.heyvl_acts.specs.Places.{in_order, inside_arms}
 use Rattle.heyvl_acts.specs.Rules.{Each}
@@ -9,13 +9,14 @@ use Rattle.heyvl_syntax.specs.Statements as text
 use Rattle.heyvl_syntax.specs.Statements.{Block, RightSide, Statement}
 use Rattle.heyvl_syntax.specs.declared.types.TypeName.{TypeName}
 use Rattle.heyvl_types.proofs.resolved.Findings.{back_none, front_none}
+use Rattle.heyvl_types.proofs.resolved.Flips.{of_flip}
 use Rattle.heyvl_types.proofs.resolved.InOrder.{each_both, each_join}
 use Rattle.heyvl_types.proofs.resolved.Locals.{Stands, stands_back, stands_front}
 use Rattle.heyvl_types.proofs.resolved.Sizes.{assigned_small, condition_small, form_small, invariant_small, ranking_small}
 use Rattle.heyvl_types.proofs.resolved.Walk.{Known, known_behind, known_up}
 use Rattle.heyvl_types.specs.Scopes.{Scope}
 use Rattle.heyvl_types.specs.Signatures.{Called}
-use Rattle.heyvl_types.specs.StatementActs.{arms_acts, assigned, block_acts, declared_act, havocs, loops, loops_of_arms, loops_of_block, statement_acts, targets}
+use Rattle.heyvl_types.specs.StatementActs.{arms_acts, assigned, block_acts, declared_act, first_or_zero, havocs, loops, loops_of_arms, loops_of_block, statement_acts, targets}
 use Rattle.heyvl_types.specs.StatementRules.{arms_bind, arms_findings, block_binds, block_findings, statement_findings}
 use Rattle.heyvl_types.specs.Variables.{behind, locals, locals_of_arms, locals_of_block}
 use Rattle.heyvl_types.specs.declared.settings.Setting.{Setting}
@@ -29,7 +30,7 @@ Holds most nodes = 2 * nodes + 1 ≤ most
 module _ (vs : List Variable) (h : Setting) (c : Called) (most : ℕ) where
   small_assigned : (n : ℕ) (sc : Scope) (k : Known vs h c n sc) (xs : List ℕ) (r : RightSide) (s : Span) → Holds most (nodes_of_optional (Some r)) → Each (ActWithin most) (in_order (Acts.next (assigned c n sc xs r s) Acts.done))
   small_assigned n sc k xs (RightSide.plain e) s l = (assigned_small _ n sc k.agrees most c xs (RightSide.plain e) s l, tt)
-  small_assigned n sc k xs (RightSide.flip e) s l = (assigned_small _ n sc k.agrees most c xs (RightSide.flip e) s l, tt)
+  small_assigned n sc k xs (RightSide.flip e) s l = of_flip (λ (a : Act). Each (ActWithin most) (in_order (Acts.next a Acts.done))) n sc (first_or_zero xs) e s ((omega (arith, l), (omega (arith, l), tt)), tt) (let i = form_small _ n sc k.agrees e in omega (arith, i, l), tt)
   small_assigned n sc k xs (RightSide.unif a b) s l = (assigned_small _ n sc k.agrees most c xs (RightSide.unif a b) s l, tt)
   small_assigned n sc k xs (RightSide.choose parts) s l = (assigned_small _ n sc k.agrees most c xs (RightSide.choose parts) s l, tt)
   small_assigned n sc k xs (RightSide.call f arguments) s l = (assigned_small _ n sc k.agrees most c xs (RightSide.call f arguments) s l, tt)

@@ -6,6 +6,7 @@ use Rattle.heyvl_places.specs.declared.spans.Span.{Span}
 use Rattle.heyvl_syntax.specs.Statements.{RightSide, Statement}
 use Rattle.heyvl_syntax.specs.declared.types.TypeName.{TypeName}
 use Rattle.heyvl_types.proofs.resolved.Findings.{all_kept, back_none}
+use Rattle.heyvl_types.proofs.resolved.Flips.{of_flip}
 use Rattle.heyvl_types.proofs.resolved.Locals.{Stands, stands_within}
 use Rattle.heyvl_types.proofs.resolved.Walk.{Alone, Known, Locally}
 use Rattle.heyvl_types.specs.ExpressionLaws.{Agrees}
@@ -105,7 +106,7 @@ module _ (p : TypedProcedure) (h : Setting) (c : Called) (same : h.inputs ≡ le
 
   own_assigned : (n : ℕ) (sc : Scope) (xs : List ℕ) (r : RightSide) (s : Span) → OneUnlessCall r (length xs) → Each (IsOwn p) xs → HasOwnTargets p (assigned c n sc xs r s)
   own_assigned n sc xs (RightSide.plain e) s k q = one_own xs k q
-  own_assigned n sc xs (RightSide.flip e) s k q = one_own xs k q
+  own_assigned n sc xs (RightSide.flip e) s k q = of_flip (HasOwnTargets p) n sc (first_or_zero xs) e s (one_own xs k q) (one_own xs k q)
   own_assigned n sc xs (RightSide.unif a b) s k q = one_own xs k q
   own_assigned n sc xs (RightSide.choose parts) s k q = one_own xs k q
   own_assigned n sc xs (RightSide.call f es) s k q = q
@@ -120,7 +121,7 @@ module _ (p : TypedProcedure) (h : Setting) (c : Called) (same : h.inputs ≡ le
   own_declared : (n : ℕ) (sc : Scope) (t : TypeName) (r : Option RightSide) (s : Span) → IsOwn p n → HasOwnTargets p (declared_act h c n sc t r s)
   own_declared n sc t None s q = q
   own_declared n sc t (Some (RightSide.plain e)) s q = q
-  own_declared n sc t (Some (RightSide.flip e)) s q = q
+  own_declared n sc t (Some (RightSide.flip e)) s q = of_flip (HasOwnTargets p) n sc n e s q q
   own_declared n sc t (Some (RightSide.unif a b)) s q = q
   own_declared n sc t (Some (RightSide.choose parts)) s q = q
   own_declared n sc t (Some (RightSide.call f es)) s q = (q, tt)

@@ -9,8 +9,9 @@ use Rattle.heyvl_syntax.specs.Statements as text
 use Rattle.heyvl_syntax.specs.Statements.{LoopRule, RightSide, Statement}
 use Rattle.heyvl_syntax.specs.declared.types.TypeName.{TypeName}
 use Rattle.heyvl_types.proofs.resolved.Calls.{AreCallees, IsCallee, parameters_declared}
-use Rattle.heyvl_types.proofs.resolved.Draws.{choose_drawn, flip_drawn, unif_drawn}
+use Rattle.heyvl_types.proofs.resolved.Draws.{choose_drawn, flip_drawn, flip_tossed, unif_drawn}
 use Rattle.heyvl_types.proofs.resolved.Findings.{all_kept, back_none, front_none}
+use Rattle.heyvl_types.proofs.resolved.Flips.{by_flip}
 use Rattle.heyvl_types.proofs.resolved.Formulas.{closed_condition, closed_held, is_held}
 use Rattle.heyvl_types.proofs.resolved.Locals.{agrees_up, declared_at, type_at}
 use Rattle.heyvl_types.proofs.resolved.Quantifiers.{closed_plain}
@@ -106,7 +107,7 @@ module _ (rs : List TypedProcedure) (p : TypedProcedure) (h : Setting) (c : Call
   module _ (n : ℕ) (sc : Scope) (k : Known (variables p) h c n sc) where
     given_one : (x : ℕ) (t : TypeName) (r : RightSide) (s : Span) → declarable t ≡ Some (types_of p x) → RightKept c n sc (Some t ∷ []) r → IsTypedAct rs p (assigned c n sc (x ∷ []) r s)
     given_one x t (RightSide.plain e) s d m = value_fits (types_of p) n sc k.agrees e t (types_of p x) d m.matches
-    given_one x t (RightSide.flip e) s d m = flip_drawn (types_of p) c n sc k.agrees x t d e m
+    given_one x t (RightSide.flip e) s d m = by_flip (IsTypedAct rs p) n sc x e s (λ l. flip_drawn (types_of p) c n sc k.agrees x t d e l m) (λ l. flip_tossed (types_of p) c n sc k.agrees x t d e l m)
     given_one x t (RightSide.unif a b) s d m = unif_drawn (types_of p) c n sc k.agrees x t d a b m
     given_one x t (RightSide.choose parts) s d m = choose_drawn (types_of p) c n sc k.agrees x t d parts m
     given_one x t (RightSide.call f es) s d m = found_fits c rs p n sc k.agrees (x ∷ []) (Some t ∷ []) (d, tt) es callees f (find_call c f) refl m.known m.matches m.counts

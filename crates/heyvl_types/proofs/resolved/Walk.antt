@@ -13,9 +13,10 @@ use Rattle.heyvl_acts.specs.Acts.{Act, Acts, Variable, type_list}
 use Rattle.heyvl_types.specs.ExpressionLaws.{Agrees}
 use Rattle.heyvl_acts.specs.Places.{in_order, inside, inside_arms}
 use Rattle.heyvl_acts.specs.Rules.{Each, GrowBelow}
+use Rattle.heyvl_types.proofs.resolved.Flips.{of_flip}
 use Rattle.heyvl_types.specs.Scopes.{Scope, numbers}
 use Rattle.heyvl_types.specs.Signatures.{Called}
-use Rattle.heyvl_types.specs.StatementActs.{arms_acts, assigned, block_acts, declared_act, havocs, loops, loops_of_arms, loops_of_block, statement_acts, targets}
+use Rattle.heyvl_types.specs.StatementActs.{arms_acts, assigned, block_acts, declared_act, first_or_zero, havocs, loops, loops_of_arms, loops_of_block, statement_acts, targets}
 use Rattle.heyvl_types.specs.StatementRules.{arms_findings, block_binds, block_findings, arms_bind, statement_findings, var_rules}
 use Rattle.heyvl_types.specs.TypedExpressions.{closed_findings}
 use Rattle.heyvl_types.specs.Table.{declarable}
@@ -71,7 +72,7 @@ module _ (vs : List Variable) (h : Setting) (c : Called) where
   module _ (P : Act → Type 0) (own : Locally P) where
     nothing_inside : (n : ℕ) (sc : Scope) (xs : List ℕ) (r : RightSide) (s : Span) → Each P (inside (assigned c n sc xs r s))
     nothing_inside n sc xs (RightSide.plain e) s = tt
-    nothing_inside n sc xs (RightSide.flip p) s = tt
+    nothing_inside n sc xs (RightSide.flip p) s = of_flip (λ a. Each P (inside a)) n sc (first_or_zero xs) p s tt tt
     nothing_inside n sc xs (RightSide.unif a b) s = tt
     nothing_inside n sc xs (RightSide.choose parts) s = tt
     nothing_inside n sc xs (RightSide.call p arguments) s = tt

@@ -1,11 +1,11 @@
 -- The weights of draws against which nothing is found: none is negative, and they add up to 1.
 use Rattle.heylo_formula.specs.Formula.{Term}
+use Rattle.heyvl_acts.proofs.exported.Tosses.{flips_weigh}
 use Rattle.heyvl_acts.specs.Acts.{Variable}
 use Rattle.heyvl_acts.specs.Rules.{WeighsOne}
-use Rattle.heyvl_num.proofs.exported.Rationals.{+ʳ-zero, +ʳ_assoc, +ʳ_left_comm, zero-+ʳ, ratio-+, ratio_nonnegative, ratio_same, ≤ʳ_antisym, ≤ʳ_refl}
-use Rattle.heyvl_num.proofs.exported.Signs.{+ʳ-neg}
+use Rattle.heyvl_num.proofs.exported.Rationals.{+ʳ-zero, +ʳ_assoc, zero-+ʳ, ratio-+, ratio_nonnegative, ratio_same, ≤ʳ_antisym, ≤ʳ_refl}
 use Rattle.heyvl_num.proofs.exported.WeightedSums.{total_weight-cons, total_weight-empty}
-use Rattle.heyvl_num.specs.Rational.{Rational, leqʳ, negʳ, oneʳ, ratio, zeroʳ, ◌+ʳ◌, ◌-ʳ◌, ◌<ʳ◌, ◌≤ʳ◌}
+use Rattle.heyvl_num.specs.Rational.{Rational, leqʳ, oneʳ, ratio, zeroʳ, ◌+ʳ◌, ◌<ʳ◌, ◌≤ʳ◌}
 use Rattle.heyvl_num.specs.Value.{is_zero_num}
 use Rattle.heyvl_num.specs.WeightedSums.{total_weight}
 use Rattle.heyvl_places.specs.declared.spans.Span.{Span}
@@ -16,13 +16,14 @@ use Rattle.heyvl_syntax.specs.declared.operators.BinaryOp.{BinaryOp}
 use Rattle.heyvl_syntax.specs.declared.types.TypeName.{TypeName}
 use Rattle.heyvl_types.proofs.LiteralFractions.{power_positive}
 use Rattle.heyvl_types.proofs.TypedMeanings.{literal_nonnegative}
+use Rattle.heyvl_types.proofs.resolved.Flips.{of_flip}
 use Rattle.heyvl_types.proofs.resolved.RightSides.{RightKept, assign_kept, var_kept}
 use Rattle.heyvl_types.proofs.resolved.Walk.{Alone, Locally}
 use Rattle.heyvl_types.specs.Literals.{ends_wrong, integer, is_over_zero, is_probability, is_step, is_too_wide, is_usable, is_written, is_zero_literal, literal_quotient, literal_value, sums_wrong, weigh_wrong, weight, weight_of_quotient, weight_of_value, weight_value}
 use Rattle.heyvl_types.specs.RightSides.{weights}
 use Rattle.heyvl_types.specs.Scopes.{Scope, types_of_names}
 use Rattle.heyvl_types.specs.Signatures.{Called}
-use Rattle.heyvl_types.specs.StatementActs.{assigned, choose_parts, flip_parts, havocs, integer_parts, targets, term, unif_parts}
+use Rattle.heyvl_types.specs.StatementActs.{assigned, choose_parts, first_or_zero, havocs, integer_parts, targets, term, unif_parts}
 use Rattle.heyvl_types.specs.TypedExpressions.{elaborate}
 use Rattle.heyvl_types.specs.declared.settings.Setting.{Setting}
 use Rattle.heyvl_types.specs.declared.weights.Weight.TheVariants.{NotLiteral, OverZero, TooWide, Value}
@@ -91,13 +92,6 @@ probability_small (Value q) h z = record { holds = not-false (leqʳ q oneʳ) h }
 
 -- ---- Sums
 
-completed : (q : Rational) → q +ʳ (oneʳ -ʳ q) ≡ oneʳ
-unfolding ◌-ʳ◌
-completed q = +ʳ_left_comm q oneʳ (negʳ q) ∙ ap (λ x. oneʳ +ʳ x) (+ʳ-neg q) ∙ +ʳ-zero oneʳ
-
-flip_one : (q : Rational) → total_weight (flip_parts q) ≡ oneʳ
-flip_one q = rw (total_weight-cons q _ _, total_weight-cons (oneʳ -ʳ q) _ [], total_weight-empty Term, +ʳ-zero (oneʳ -ʳ q)) (completed q)
-
 one_more : (n d : ℕ) → 0 < d → ratio (pos 1) d +ʳ ratio (pos n) d ≡ ratio (pos (suc n)) d
 one_more n d h = ratio-+ (pos 1) d (pos n) d h h ∙ ratio_same _ (d * d) (pos (suc n)) d (mul-pos h h) h (omega (arith, ints))
 
@@ -141,7 +135,7 @@ module _ (n : ℕ) (sc : Scope) where
 
 weighs_assigned : (c : Called) (n : ℕ) (sc : Scope) (xs : List ℕ) (ts : List (Option TypeName)) (r : RightSide) (s : Span) → RightKept c n sc ts r → WeighsOne (assigned c n sc xs r s)
 weighs_assigned c n sc xs ts (RightSide.plain e) s k = tt
-weighs_assigned c n sc xs ts (RightSide.flip p) s k = flip_one (weight_value (weight p))
+weighs_assigned c n sc xs ts (RightSide.flip p) s k = of_flip WeighsOne n sc (first_or_zero xs) p s (flips_weigh (weight_value (weight p))) tt
 weighs_assigned c n sc xs ts (RightSide.unif a b) s k = unif_one (integer a) (integer b) k.literals
 weighs_assigned c n sc xs ts (RightSide.choose parts) s k = choose_one n sc parts k.literals k.divisors
 weighs_assigned c n sc xs ts (RightSide.call f es) s k = tt

@@ -1,8 +1,11 @@
 use Rattle.heyvl_syntax.specs.Expressions.{expression}
-use Rattle.heyvl_types.proofs.WeightSums.{narrow_weight}
+use Rattle.heyvl_types.proofs.FlipRules.{likely_gives, toss_gives}
 use Rattle.heyvl_types.proofs.right_sides.read_flip.Goals as goal
-use Rattle.heyvl_types.specs.Literals.{is_too_wide, weight_value}
-use Rattle.std.proofs.Common.{ap, ◌∙◌}
+use Rattle.heyvl_types.specs.Literals.{is_weight_literal}
+use Rattle.std.proofs.Common.{ap, sym, ◌∙◌}
 
-pub flip_parts-requires : goal.flip_parts-requires
-flip_parts-requires c = ap is_too_wide c.weight_value.ensures ∙ ap (λ w. is_too_wide (weight_value w)) c.weight_of-3.ensures ∙ narrow_weight (expression c.args.probability.now)
+pub returns-then-is_weight_literal : goal.returns-then-is_weight_literal
+returns-then-is_weight_literal c = likely_gives c.read_likely.result c.args.next c.args.scope.now c.args.targets.now (expression c.args.probability.now) c.args.span (sym (c.is_weight_literal.ensures ∙ ap is_weight_literal c.weight_of.ensures) ∙ c.if-is_weight_literal.true) c.read_likely.ensures
+
+pub returns-else-is_weight_literal : goal.returns-else-is_weight_literal
+returns-else-is_weight_literal c = toss_gives c.read_toss.result c.args.next c.args.scope.now c.args.targets.now (expression c.args.probability.now) c.args.span (sym (c.is_weight_literal.ensures ∙ ap is_weight_literal c.weight_of.ensures) ∙ c.if-is_weight_literal.false) c.read_toss.ensures
