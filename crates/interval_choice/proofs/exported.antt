@@ -1,0 +1,4 @@
+pub mod Bounded
+pub mod Inside
+pub mod Pasts
+pub mod Wholes

@@ -1,0 +1,4 @@
+mod Walking
+mod Telling
+mod Examples
+pub mod exported

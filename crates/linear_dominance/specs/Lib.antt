@@ -1,0 +1,3 @@
+pub mod Dominated
+pub mod Laws
+pub mod internal

@@ -1,0 +1,10 @@
+//! Rows that other rows imply, since some variables aren't negative.
+#![tactic(auto)]
+
+mod dominance;
+mod laws;
+mod signs;
+
+pub use dominance::dominates;
+pub use laws::undominated_rows_tell_all;
+pub use signs::sign_of;
