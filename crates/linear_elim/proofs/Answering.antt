@@ -11,9 +11,15 @@ use Rattle.linear_rows.proofs.exported.Fractions.{solvable_is}
 use Rattle.linear_rows.proofs.exported.Combinations.{contradiction_unmet}
 use Rattle.linear_elim.specs.Joins.{Derived}
 use Rattle.linear_elim.specs.Elimination as plain
-use Rattle.linear_elim.specs.Elimination.{Step, multipliers}
-use Rattle.linear_elim.specs.Answers.{eliminated, IsTooGreat, IsAnswer, Settles}
+use Rattle.linear_elim.specs.Elimination.{Step, Rule, elimination_by, multipliers}
+use Rattle.linear_elim.specs.Elimination.Rule.{keeps, drops}
+use Rattle.linear_elim.specs.Answers.{eliminated_by, eliminated, IsTooGreatBy, IsShortLimited, IsAnswer, Settles}
 use Rattle.linear_elim.specs.internal.Eliminations.{IsEliminated}
+use Rattle.linear_elim.specs.internal.Outcomes.{IsLimited}
+use Rattle.linear_elim.specs.internal.Choices.{IsChosen}
+use Rattle.linear_elim.specs.ChoiceNumbers.{IsChoiceTooGreat}
+use Rattle.linear_elim.specs.declared.choosing.Choice.{Choice}
+use Rattle.linear_elim.specs.internal.Limits.{IsPlainAnswer}
 use Rattle.linear_elim.specs.declared.answers.Elim.{Elim}
 use Rattle.linear_elim.specs.declared.answers.Elim.TheVariants.{NoSolution, Point, Fraction, Rows, Bits}
 use Rattle.linear_elim.proofs.Certificates.{contradicts}
@@ -23,10 +29,10 @@ use Rattle.linear_elim.proofs.Counts.{elimination-many}
 use Rattle.linear_elim.proofs.NarrowShares.{refuted-narrow}
 
 -- A combination that is no contradiction has too great a partial sum.
-pub sum_too_great : (rows : List Row) (vars : List Ty) (c : Derived) → plain.Outcome.refuted c ≡ eliminated rows vars → (IsContradiction (multipliers c) rows → ⊥) → IsTooGreat rows vars
-sum_too_great rows vars c e n =
-    let f = refuted-follows (order_of rows (length vars)) rows c (sym e) in
-    IsTooGreat.in_a_sum c (sym e) (λ w. n (contradicts rows c f.0 f.1 (refuted-narrow (order_of rows (length vars)) rows c (sym e)) w.coefficients w.constants))
+pub sum_too_great : (rule : Rule) (rows : List Row) (vars : List Ty) (c : Derived) → plain.Outcome.refuted c ≡ eliminated_by rule rows vars → (IsContradiction (multipliers c) rows → ⊥) → IsTooGreatBy rule rows vars
+sum_too_great rule rows vars c e n =
+    let f = refuted-follows rule (order_of rows (length vars)) rows c (sym e) in
+    IsTooGreatBy.in_a_sum c (sym e) (λ w. n (contradicts rows c f.0 f.1 (refuted-narrow rule (order_of rows (length vars)) rows c (sym e)) w.coefficients w.constants))
 
 pub settled : (rows : List Row) (vars : List Ty) (e : Elim) → IsAnswer rows vars e → Settles rows e
 settled rows vars (NoSolution ms) h = λ s. contradiction_unmet ms.items rows h ((solvable_is rows).0 s)
@@ -45,8 +51,31 @@ counted rows vars m k e h n =
     let l = order_length rows (length vars) in
     (omega (arith, s, l, n), i.rows)
 
-pub in_order_of : (rows : List Row) (vars : List Ty) (order : List ℕ) (o : plain.Outcome) → order ≡ order_of rows (length vars) → o ≡ plain.elimination order rows → o ≡ eliminated rows vars
-in_order_of rows vars order o e h = h ∙ ap (λ xs. plain.elimination xs rows) e
+pub in_order_of : (rule : Rule) (rows : List Row) (vars : List Ty) (order : List ℕ) (o : plain.Outcome) → order ≡ order_of rows (length vars) → o ≡ elimination_by rule order rows → o ≡ eliminated_by rule rows vars
+in_order_of rule rows vars order o e h = h ∙ ap (λ xs. elimination_by rule xs rows) e
 
-pub stands_after : (rows : List Row) (vars : List Ty) (ss : List Step) → All IsRow rows → All (IsNumericRow vars) rows → plain.Outcome.standing ss ≡ eliminated rows vars → IsEliminated rows vars ss
-stands_after rows vars ss h k e = record { are_rows = h; numeric = k; over = rows_over rows vars k; standing = sym e }
+pub stands_after : (rule : Rule) (rows : List Row) (vars : List Ty) (ss : List Step) → All IsRow rows → All (IsNumericRow vars) rows → plain.Outcome.standing ss ≡ eliminated_by rule rows vars → IsEliminated rows vars ss
+stands_after rule rows vars ss h k e = record { are_rows = h; numeric = k; over = rows_over rows vars k; rule = rule; standing = sym e }
+
+-- ---- What the greedy choice comes to
+
+pub chosen_of : (rule : Rule) (rows : List Row) (vars : List Ty) (ss ts : List Step) (p : Choice) → ss ≡ ts → All IsRow rows → All (IsNumericRow vars) rows → plain.Outcome.standing ts ≡ eliminated_by rule rows vars → ((rows : List Row) → IsEliminated rows vars ss → IsChosen rows vars ss p) → IsChosen rows vars ss p
+chosen_of rule rows vars ss ts p e h k s f = f rows (subst (IsEliminated rows vars) (sym e) (stands_after rule rows vars ts h k s))
+
+pub great_choice : (rule : Rule) (rows : List Row) (vars : List Ty) (ss ts : List Step) → ss ≡ ts → plain.Outcome.standing ts ≡ eliminated_by rule rows vars → IsChoiceTooGreat rows vars ss → IsTooGreatBy rule rows vars
+great_choice rule rows vars ss ts e s h = IsTooGreatBy.in_a_choice ts (sym s) (subst (IsChoiceTooGreat rows vars) e h)
+
+-- ---- Limits of the elimination without dominated rows
+
+pub short_limited : (rows : List Row) (vars : List Ty) (o : plain.Outcome) → o ≡ eliminated_by drops rows vars → IsLimited o → IsShortLimited rows vars
+short_limited rows vars (plain.Outcome.refuted c) e h = absurd h
+short_limited rows vars (plain.Outcome.standing ss) e h = absurd h
+short_limited rows vars (plain.Outcome.too_many n c) e h = IsShortLimited.many n c (sym e)
+short_limited rows vars plain.Outcome.too_great e h = IsShortLimited.great (IsTooGreatBy.in_a_step (sym e))
+
+pub limited_answer : (rows : List Row) (vars : List Ty) (e : Elim) → IsPlainAnswer rows vars e → IsShortLimited rows vars → IsAnswer rows vars e
+limited_answer rows vars (NoSolution ms) h s = h
+limited_answer rows vars (Point point) h s = h
+limited_answer rows vars (Fraction b) h s = h
+limited_answer rows vars (Rows steps count) h s = (h, s)
+limited_answer rows vars Bits h s = (h, s)

@@ -16,16 +16,17 @@ use Rattle.heylo_formula.specs.Typing.{types_in}
 use Rattle.linear_rows.specs.GreedyPoint.Greedy.{broke}
 use Rattle.linear_elim.specs.Joins.{Derived}
 use Rattle.linear_elim.specs.Elimination.{Step}
-use Rattle.linear_elim.specs.ChoiceNumbers.{end_of, end_fits}
+use Rattle.linear_elim.specs.ChoiceNumbers.{end_of, end_fits, IsChoiceTooGreat}
 use Rattle.linear_elim.specs.internal.ChoiceSteps.{IsTightest}
-use Rattle.linear_elim.specs.internal.Picks.{between, IsPicked, IsNextPick, IsDerivedStep}
+use Rattle.interval_choice.specs.Picks.{between, IsPicked}
+use Rattle.linear_elim.specs.internal.Picks.{IsNextPick, IsDerivedStep}
 use Rattle.linear_elim.specs.internal.Picks.IsNextPick.{great_end, between_ends}
-use Rattle.linear_elim.specs.Answers.{IsTooGreat, IsBreak}
+use Rattle.linear_elim.specs.Answers.{IsBreak}
 use Rattle.linear_elim.specs.internal.Eliminations.{IsEliminated}
 use Rattle.goal_answers.specs.declared.causes.Broken.{Broken}
-use Rattle.linear_elim.specs.declared.ends.Side.TheVariants.{Low, High}
-use Rattle.linear_elim.specs.declared.picking.Pick.{Pick}
-use Rattle.linear_elim.specs.declared.picking.Pick.TheVariants.{Value, Breaks, Great}
+use Rattle.interval_choice.specs.declared.sides.Side.TheVariants.{Low, High}
+use Rattle.interval_choice.specs.declared.picking.Pick.{Pick}
+use Rattle.interval_choice.specs.declared.picking.Pick.TheVariants.{Value, Breaks, Great}
 use Rattle.linear_elim.proofs.Solutions.{all_append-left, all_append-right}
 use Rattle.linear_elim.proofs.EndRuns.{take_item}
 use Rattle.linear_elim.proofs.Greedily.{IsSofar, solved, goes_on, breaks_here, ordered_here, great_here}
@@ -87,7 +88,7 @@ break_found rows vars steps rest before s cs ds es ty low high p b h e f n a t g
     two_ends : {x y : End} → x ≡ low → y ≡ high → ends_at x y ≡ ends_at low high
     two_ends d j = ap₂ ends_at d j
 
-pub great_found : (rows : List Row) (vars : List Ty) (steps rest before : List Step) (s : Step) (cs ds : List (ℕ × Rational)) (ty : Ty) (p : Pick) → IsEliminated rows vars steps → rest ≡ before ++ (s ∷ []) → IsSofar rows vars steps rest cs → IsNextPick s ds ty p → ds ≡ cs → ty ≡ types_in vars s.var → p ≡ Great → IsTooGreat rows vars
+pub great_found : (rows : List Row) (vars : List Ty) (steps rest before : List Step) (s : Step) (cs ds : List (ℕ × Rational)) (ty : Ty) (p : Pick) → IsEliminated rows vars steps → rest ≡ before ++ (s ∷ []) → IsSofar rows vars steps rest cs → IsNextPick s ds ty p → ds ≡ cs → ty ≡ types_in vars s.var → p ≡ Great → IsChoiceTooGreat rows vars steps
 great_found rows vars steps rest before s cs ds ty p h e f n a t g = great_here rows vars steps h before s cs (subst (λ r. IsSofar rows vars steps r cs) e f) (next_is vars s cs ds ty p Great n a t g)
 
 pub no_steps : (ss : List Step) → length ss ≡ 0 → ss ≡ []

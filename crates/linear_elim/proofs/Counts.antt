@@ -11,6 +11,7 @@ use Rattle.linear_elim.specs.Joins.{Derived, join}
 use Rattle.linear_elim.specs.Steps.{lowers, uppers, kept, joins, pairs, eliminate_one, is_stronger, put_row, strongest, has_terms, tidied, contradiction, step_fits}
 use Rattle.linear_rows.specs.SameTerms.{same_terms}
 use Rattle.linear_elim.specs.Elimination.{Step, Outcome, step_of, gathered, after_step, ended_by, unless_many, run, start, elimination}
+use Rattle.linear_elim.specs.Elimination.Rule.{keeps}
 use Rattle.linear_elim.specs.Elimination.Outcome.{refuted, standing, too_many, too_great}
 
 fewer_pass : (p : Derived → Bool) (rows : List Derived) → length (filter p rows) ≤ length rows
@@ -78,7 +79,7 @@ stops_here n xs rows m k h e =
     let l = tidied_length rows in
     record { steps = omega (arith, a); rows = omega (arith, b, l, h) }
 
-run-many : (n : ℕ) (xs : List ℕ) (rows : List Derived) (m k : ℕ) → run n xs (gathered rows) ≡ too_many m k → length rows < 2 ^ 32 → IsCounted n xs m k
+run-many : (n : ℕ) (xs : List ℕ) (rows : List Derived) (m k : ℕ) → run keeps n xs (gathered keeps rows) ≡ too_many m k → length rows < 2 ^ 32 → IsCounted n xs m k
 unfolding run
 run-many n [] rows m k e h = go (contradiction rows) e
   where
@@ -94,12 +95,12 @@ run-many n (x ∷ xs) rows m k e h = go (λ l f. later (run-many (suc n) xs (eli
     later : IsCounted (suc n) xs m k → IsCounted n (x ∷ xs) m k
     later i = let l = i.steps in record { steps = omega (arith, l); rows = i.rows }
 
-    many : (length (tidied rows) ≤ 4096 → run (suc n) xs (gathered (eliminate_one x (tidied rows))) ≡ too_many m k → IsCounted n (x ∷ xs) m k) → (b : Bool) → ltb 4096 (length (tidied rows)) ≡ b → (f : Bool) → cond b (too_many n (length (tidied rows))) (cond f (after_step (step_of x (tidied rows)) (run (suc n) xs (gathered (eliminate_one x (tidied rows))))) too_great) ≡ too_many m k → IsCounted n (x ∷ xs) m k
+    many : (length (tidied rows) ≤ 4096 → run keeps (suc n) xs (gathered keeps (eliminate_one x (tidied rows))) ≡ too_many m k → IsCounted n (x ∷ xs) m k) → (b : Bool) → ltb 4096 (length (tidied rows)) ≡ b → (f : Bool) → cond b (too_many n (length (tidied rows))) (cond f (after_step (step_of x (tidied rows)) (run keeps (suc n) xs (gathered keeps (eliminate_one x (tidied rows))))) too_great) ≡ too_many m k → IsCounted n (x ∷ xs) m k
     many ih true q f e = stops_here n (x ∷ xs) rows m k h e
     many ih false q true e = ih (few_rows _ q) (after-many _ _ m k e)
     many ih false q false e = absurd (cc)
 
-    go : (length (tidied rows) ≤ 4096 → run (suc n) xs (gathered (eliminate_one x (tidied rows))) ≡ too_many m k → IsCounted n (x ∷ xs) m k) → (o : Option Derived) → ended_by o (unless_many n (tidied rows) (cond (step_fits x (tidied rows)) (after_step (step_of x (tidied rows)) (run (suc n) xs (gathered (eliminate_one x (tidied rows))))) too_great)) ≡ too_many m k → IsCounted n (x ∷ xs) m k
+    go : (length (tidied rows) ≤ 4096 → run keeps (suc n) xs (gathered keeps (eliminate_one x (tidied rows))) ≡ too_many m k → IsCounted n (x ∷ xs) m k) → (o : Option Derived) → ended_by o (unless_many n (tidied rows) (cond (step_fits x (tidied rows)) (after_step (step_of x (tidied rows)) (run keeps (suc n) xs (gathered keeps (eliminate_one x (tidied rows))))) too_great)) ≡ too_many m k → IsCounted n (x ∷ xs) m k
     go ih None e = many ih (ltb 4096 (length (tidied rows))) refl (step_fits x (tidied rows)) e
     go ih (Some d) e = absurd (cc)
 

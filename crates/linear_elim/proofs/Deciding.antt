@@ -14,13 +14,14 @@ use Rattle.linear_rows.proofs.exported.Sums.{sum_at-cons, sum_at-nil}
 use Rattle.linear_rows.proofs.exported.Between.{All-both}
 use Rattle.linear_elim.specs.Joins.{Derived, is_above_zero, join}
 use Rattle.linear_elim.specs.internal.DerivedRows.{any_at, Follows}
-use Rattle.linear_elim.specs.Steps.{lowers, uppers, kept, pairs, eliminate_one, has_terms, tidied, is_contradiction, contradiction, step_fits}
-use Rattle.linear_elim.specs.Elimination.{Step, step_of, gathered, Outcome, after_step, ended_by, unless_many, run, start, elimination}
+use Rattle.linear_elim.specs.Steps.{lowers, uppers, kept, pairs, eliminate_one, has_terms, is_contradiction, contradiction, step_fits}
+use Rattle.linear_elim.specs.Elimination.{Step, step_of, Rule, tidied_by, gathered, Outcome, after_step, ended_by, unless_many, run, start, elimination_by}
 use Rattle.linear_elim.specs.Elimination.Outcome.{refuted, standing, too_many, too_great}
 use Rattle.linear_elim.proofs.Solutions.{MeetsIn, IsLower, IsUpper, neg_abs, pos_abs, pairs-all, Extension, step-complete}
 use Rattle.linear_elim.proofs.Shares.{join-follows}
 use Rattle.linear_elim.proofs.Shapes.{cancel, Good, step-good}
-use Rattle.linear_elim.proofs.Tidying.{tidied-all, tidied-out, contradiction-some, strongest-all}
+use Rattle.linear_elim.proofs.Tidying.{contradiction-some}
+use Rattle.linear_elim.proofs.Ruling.{ruled-all, ruled-out, ruled-terms}
 
 pub step-follows : (first : List Row) (x : ℕ) (rows : List Derived) → All (Follows first) rows → All (Follows first) (eliminate_one x rows)
 step-follows first x rows h = All-append (Follows first) (kept x rows) (pairs x (lowers x rows) (uppers x rows)) (All-filter _ (Follows first) rows h)
@@ -36,26 +37,26 @@ after-refuted s (too_many n m) c e = absurd (cc)
 after-refuted s too_great c e = absurd (cc)
 
 -- What holds of the rows at the start and after a step that fits holds of what refutes them.
-pub refuted-all : (P : Derived → Type 0) → ((x : ℕ) (rows : List Derived) → true ≡ step_fits x rows → All P rows → All P (eliminate_one x rows)) → (n : ℕ) (xs : List ℕ) (rows : List Derived) (c : Derived) → run n xs (gathered rows) ≡ refuted c → All P rows → P c × (is_contradiction c.row ≡ true)
+pub refuted-all : (rule : Rule) (P : Derived → Type 0) → ((x : ℕ) (rows : List Derived) → true ≡ step_fits x rows → All P rows → All P (eliminate_one x rows)) → (n : ℕ) (xs : List ℕ) (rows : List Derived) (c : Derived) → run rule n xs (gathered rule rows) ≡ refuted c → All P rows → P c × (is_contradiction c.row ≡ true)
 unfolding run
-refuted-all P next n [] rows c e h = go (contradiction rows) refl e
+refuted-all rule P next n [] rows c e h = go (contradiction rows) refl e
   where
-    many : (b : Bool) → cond b (too_many n (length (tidied rows))) (standing []) ≡ refuted c → P c × (is_contradiction c.row ≡ true)
+    many : (b : Bool) → cond b (too_many n (length (tidied_by rule rows))) (standing []) ≡ refuted c → P c × (is_contradiction c.row ≡ true)
     many true e = absurd (cc)
     many false e = absurd (cc)
 
-    go : (o : Option Derived) → contradiction rows ≡ o → ended_by o (unless_many n (tidied rows) (standing [])) ≡ refuted c → P c × (is_contradiction c.row ≡ true)
-    go None k e = many (ltb 4096 (length (tidied rows))) e
+    go : (o : Option Derived) → contradiction rows ≡ o → ended_by o (unless_many n (tidied_by rule rows) (standing [])) ≡ refuted c → P c × (is_contradiction c.row ≡ true)
+    go None k e = many (ltb 4096 (length (tidied_by rule rows))) e
     go (Some d) k e = let s : d ≡ c = cc in contradiction-some P rows c (k ∙ ap (λ x. Some x) s) h
-refuted-all P next n (x ∷ xs) rows c e h = go (λ f k. refuted-all P next (suc n) xs (eliminate_one x (tidied rows)) c k (next x (tidied rows) f (tidied-all P rows h))) (contradiction rows) refl e
+refuted-all rule P next n (x ∷ xs) rows c e h = go (λ f k. refuted-all rule P next (suc n) xs (eliminate_one x (tidied_by rule rows)) c k (next x (tidied_by rule rows) f (ruled-all rule P rows h))) (contradiction rows) refl e
   where
-    many : (true ≡ step_fits x (tidied rows) → run (suc n) xs (gathered (eliminate_one x (tidied rows))) ≡ refuted c → P c × (is_contradiction c.row ≡ true)) → (b f : Bool) → f ≡ step_fits x (tidied rows) → cond b (too_many n (length (tidied rows))) (cond f (after_step (step_of x (tidied rows)) (run (suc n) xs (gathered (eliminate_one x (tidied rows))))) too_great) ≡ refuted c → P c × (is_contradiction c.row ≡ true)
+    many : (true ≡ step_fits x (tidied_by rule rows) → run rule (suc n) xs (gathered rule (eliminate_one x (tidied_by rule rows))) ≡ refuted c → P c × (is_contradiction c.row ≡ true)) → (b f : Bool) → f ≡ step_fits x (tidied_by rule rows) → cond b (too_many n (length (tidied_by rule rows))) (cond f (after_step (step_of x (tidied_by rule rows)) (run rule (suc n) xs (gathered rule (eliminate_one x (tidied_by rule rows))))) too_great) ≡ refuted c → P c × (is_contradiction c.row ≡ true)
     many ih true f k e = absurd (cc)
     many ih false true k e = ih k (after-refuted _ _ c e)
     many ih false false k e = absurd (cc)
 
-    go : (true ≡ step_fits x (tidied rows) → run (suc n) xs (gathered (eliminate_one x (tidied rows))) ≡ refuted c → P c × (is_contradiction c.row ≡ true)) → (o : Option Derived) → contradiction rows ≡ o → ended_by o (unless_many n (tidied rows) (cond (step_fits x (tidied rows)) (after_step (step_of x (tidied rows)) (run (suc n) xs (gathered (eliminate_one x (tidied rows))))) too_great)) ≡ refuted c → P c × (is_contradiction c.row ≡ true)
-    go ih None k e = many ih (ltb 4096 (length (tidied rows))) (step_fits x (tidied rows)) refl e
+    go : (true ≡ step_fits x (tidied_by rule rows) → run rule (suc n) xs (gathered rule (eliminate_one x (tidied_by rule rows))) ≡ refuted c → P c × (is_contradiction c.row ≡ true)) → (o : Option Derived) → contradiction rows ≡ o → ended_by o (unless_many n (tidied_by rule rows) (cond (step_fits x (tidied_by rule rows)) (after_step (step_of x (tidied_by rule rows)) (run rule (suc n) xs (gathered rule (eliminate_one x (tidied_by rule rows))))) too_great)) ≡ refuted c → P c × (is_contradiction c.row ≡ true)
+    go ih None k e = many ih (ltb 4096 (length (tidied_by rule rows))) (step_fits x (tidied_by rule rows)) refl e
     go ih (Some d) k e = let s : d ≡ c = cc in contradiction-some P rows c (k ∙ ap (λ x. Some x) s) h
 
 -- points
@@ -89,9 +90,6 @@ nothing_left w r g h = absurd (go r.row.terms g.within h)
     go [] k e = absurd (cc)
     go (t ∷ ts) k e = let f = All-head (λ t. is_in t.0 [] ≡ true) t ts k in absurd (cc)
 
-tidied-terms : (rows : List Derived) → All (λ r. has_terms r.row.terms ≡ true) (tidied rows)
-tidied-terms rows = strongest-all (λ r. has_terms r.row.terms ≡ true) [] _ (All-nil _) (filter_passes (λ r. has_terms r.row.terms) rows)
-
 pub after-standing : (s : Step) (o : Outcome) (ss : List Step) → after_step s o ≡ standing ss → (ts : List Step) × (o ≡ standing ts) × (ss ≡ s ∷ ts)
 after-standing s (refuted d) ss e = absurd (cc)
 after-standing s (standing ts) ss e = (ts, refl, cc)
@@ -99,25 +97,25 @@ after-standing s (too_many n m) ss e = absurd (cc)
 after-standing s too_great ss e = absurd (cc)
 
 -- Every point extends to one that meets the rows, once all their variables are eliminated.
-pub run-extends : (n : ℕ) (xs : List ℕ) (rows : List Derived) (ss : List Step) → run n xs (gathered rows) ≡ standing ss → All (Good xs) rows → (w : Point) → Extension xs w rows
+pub run-extends : (rule : Rule) (n : ℕ) (xs : List ℕ) (rows : List Derived) (ss : List Step) → run rule n xs (gathered rule rows) ≡ standing ss → All (Good xs) rows → (w : Point) → Extension xs w rows
 unfolding run
-run-extends n [] rows ss e g w = go (contradiction rows) refl e
+run-extends rule n [] rows ss e g w = go (contradiction rows) refl e
   where
-    go : (o : Option Derived) → contradiction rows ≡ o → ended_by o (unless_many n (tidied rows) (standing [])) ≡ standing ss → Extension [] w rows
-    go None k e = record { point = w; agrees = record { same = λ v a. refl }; meets = tidied-out w rows k (All-both (Good []) (λ r. has_terms r.row.terms ≡ true) (MeetsIn w) (λ r a b. nothing_left w r a b) (tidied rows) (tidied-all (Good []) rows g) (tidied-terms rows)) }
+    go : (o : Option Derived) → contradiction rows ≡ o → ended_by o (unless_many n (tidied_by rule rows) (standing [])) ≡ standing ss → Extension [] w rows
+    go None k e = record { point = w; agrees = record { same = λ v a. refl }; meets = ruled-out rule w rows k (All-both (Good []) (λ r. has_terms r.row.terms ≡ true) (MeetsIn w) (λ r a b. nothing_left w r a b) (tidied_by rule rows) (ruled-all rule (Good []) rows g) (ruled-terms rule rows)) }
     go (Some d) k e = absurd (cc)
-run-extends n (x ∷ xs) rows ss e g w = go (λ ts k. run-extends (suc n) xs (eliminate_one x (tidied rows)) ts k (step-good x xs (tidied rows) (tidied-all (Good (x ∷ xs)) rows g)) w) (contradiction rows) refl e
+run-extends rule n (x ∷ xs) rows ss e g w = go (λ ts k. run-extends rule (suc n) xs (eliminate_one x (tidied_by rule rows)) ts k (step-good x xs (tidied_by rule rows) (ruled-all rule (Good (x ∷ xs)) rows g)) w) (contradiction rows) refl e
   where
-    lift : contradiction rows ≡ None → Extension xs w (eliminate_one x (tidied rows)) → Extension (x ∷ xs) w rows
-    lift k a = let b = step-complete x a.point (tidied rows) a.meets in record { point = b.point; agrees = agrees-trans x xs w a.point b.point a.agrees b.agrees; meets = tidied-out b.point rows k b.meets }
+    lift : contradiction rows ≡ None → Extension xs w (eliminate_one x (tidied_by rule rows)) → Extension (x ∷ xs) w rows
+    lift k a = let b = step-complete x a.point (tidied_by rule rows) a.meets in record { point = b.point; agrees = agrees-trans x xs w a.point b.point a.agrees b.agrees; meets = ruled-out rule b.point rows k b.meets }
 
-    many : ((ts : List Step) → run (suc n) xs (gathered (eliminate_one x (tidied rows))) ≡ standing ts → Extension xs w (eliminate_one x (tidied rows))) → contradiction rows ≡ None → (b f : Bool) → cond b (too_many n (length (tidied rows))) (cond f (after_step (step_of x (tidied rows)) (run (suc n) xs (gathered (eliminate_one x (tidied rows))))) too_great) ≡ standing ss → Extension (x ∷ xs) w rows
+    many : ((ts : List Step) → run rule (suc n) xs (gathered rule (eliminate_one x (tidied_by rule rows))) ≡ standing ts → Extension xs w (eliminate_one x (tidied_by rule rows))) → contradiction rows ≡ None → (b f : Bool) → cond b (too_many n (length (tidied_by rule rows))) (cond f (after_step (step_of x (tidied_by rule rows)) (run rule (suc n) xs (gathered rule (eliminate_one x (tidied_by rule rows))))) too_great) ≡ standing ss → Extension (x ∷ xs) w rows
     many ih k true f e = absurd (cc)
     many ih k false true e = let a = after-standing _ _ ss e in lift k (ih a.0 a.1)
     many ih k false false e = absurd (cc)
 
-    go : ((ts : List Step) → run (suc n) xs (gathered (eliminate_one x (tidied rows))) ≡ standing ts → Extension xs w (eliminate_one x (tidied rows))) → (o : Option Derived) → contradiction rows ≡ o → ended_by o (unless_many n (tidied rows) (cond (step_fits x (tidied rows)) (after_step (step_of x (tidied rows)) (run (suc n) xs (gathered (eliminate_one x (tidied rows))))) too_great)) ≡ standing ss → Extension (x ∷ xs) w rows
-    go ih None k e = many ih k (ltb 4096 (length (tidied rows))) (step_fits x (tidied rows)) e
+    go : ((ts : List Step) → run rule (suc n) xs (gathered rule (eliminate_one x (tidied_by rule rows))) ≡ standing ts → Extension xs w (eliminate_one x (tidied_by rule rows))) → (o : Option Derived) → contradiction rows ≡ o → ended_by o (unless_many n (tidied_by rule rows) (cond (step_fits x (tidied_by rule rows)) (after_step (step_of x (tidied_by rule rows)) (run rule (suc n) xs (gathered rule (eliminate_one x (tidied_by rule rows))))) too_great)) ≡ standing ss → Extension (x ∷ xs) w rows
+    go ih None k e = many ih k (ltb 4096 (length (tidied_by rule rows))) (step_fits x (tidied_by rule rows)) e
     go ih (Some d) k e = absurd (cc)
 
 abbrev pub origin : Point
@@ -135,9 +133,9 @@ start-out P k [] h = All-nil _
 start-out P k (r ∷ rs) h = All-cons P r rs (All-head (λ d. P d.row) (record { row = r; shares = (k, pos 1) ∷ []; over = 1 }) (start (suc k) rs) h) (start-out P (suc k) rs (All-tail (λ d. P d.row) (record { row = r; shares = (k, pos 1) ∷ []; over = 1 }) (start (suc k) rs) h))
 
 -- Without a contradiction at the end the rows are met somewhere.
-pub complete : (order : List ℕ) (first : List Row) (ss : List Step) → All (λ r. IsNormal r.terms × IsOver order r.terms) first → elimination order first ≡ standing ss → IsMetSomewhere first
-complete order first ss h e =
-    let x = run-extends 0 order (start 0 first) ss e (start-all (λ r. IsNormal r.terms × IsOver order r.terms) (Good order) (λ d p. record { normal = p.0; within = p.1 }) 0 first h) origin in
+pub complete : (rule : Rule) (order : List ℕ) (first : List Row) (ss : List Step) → All (λ r. IsNormal r.terms × IsOver order r.terms) first → elimination_by rule order first ≡ standing ss → IsMetSomewhere first
+complete rule order first ss h e =
+    let x = run-extends rule 0 order (start 0 first) ss e (start-all (λ r. IsNormal r.terms × IsOver order r.terms) (Good order) (λ d p. record { normal = p.0; within = p.1 }) 0 first h) origin in
     record { at_point = x.point; meets = start-out (Meets x.point) 0 first x.meets }
 
 -- The rows from an index on.
@@ -189,5 +187,5 @@ unfolding start
 start-follows first k [] t = All-nil _
 start-follows first k (r ∷ rs) t = let h = tail-row k first r rs t in All-cons (Follows first) (record { row = r; shares = (k, pos 1) ∷ []; over = 1 }) (start (suc k) rs) (own_row first k r h.0 h.1) (start-follows first (suc k) rs (tail-next k first r rs t))
 
-pub refuted-follows : (order : List ℕ) (first : List Row) (c : Derived) → elimination order first ≡ refuted c → Follows first c × (is_contradiction c.row ≡ true)
-refuted-follows order first c e = refuted-all (Follows first) (λ x rows f h. step-follows first x rows h) 0 order (start 0 first) c e (start-follows first 0 first refl)
+pub refuted-follows : (rule : Rule) (order : List ℕ) (first : List Row) (c : Derived) → elimination_by rule order first ≡ refuted c → Follows first c × (is_contradiction c.row ≡ true)
+refuted-follows rule order first c e = refuted-all rule (Follows first) (λ x rows f h. step-follows first x rows h) 0 order (start 0 first) c e (start-follows first 0 first refl)

@@ -5,10 +5,10 @@ use Prim.Native.Nat.{suc, zero}
 use borrow.Author.Differences.{ints}
 use Rattle.std.proofs.Math.Nat.{mul-pos, zero-lt-suc}
 use Rattle.heyvl_num.proofs.exported.Integers.{*ℤ-one}
-use Rattle.heyvl_num.specs.Rational.{Rational, ratio, zeroʳ, oneʳ, negʳ, leqʳ, ◌+ʳ◌, ◌*ʳ◌, ◌-ʳ◌, ◌≤ʳ◌, ◌<ʳ◌}
+use Rattle.heyvl_num.specs.Rational.{Rational, ratio, zeroʳ, negʳ, ◌+ʳ◌, ◌*ʳ◌, ◌-ʳ◌, ◌≤ʳ◌}
 use Rattle.heyvl_num.specs.Rounding.{whole}
 use Rattle.heyvl_num.specs.Exact.{exact_quotient, exact_sum, exact_product, quotient}
-use Rattle.heyvl_num.proofs.exported.Rationals.{ratio_same, ratio-+, ratio-*, ratio-neg, zero-+ʳ, zero-*ʳ, one-*ʳ, +ʳ_assoc, +ʳ_comm, +ʳ-*ʳ, *ʳ_assoc, *ʳ_comm}
+use Rattle.heyvl_num.proofs.exported.Rationals.{ratio_same, ratio-+, ratio-*, zero-+ʳ, zero-*ʳ, one-*ʳ, +ʳ_assoc, +ʳ_comm, +ʳ-*ʳ, *ʳ_assoc, *ʳ_comm}
 use Rattle.heyvl_num.proofs.exported.Signs.{negʳ-*ʳ, -ʳ-is, minus_at_most, at_most_minus, difference_nonnegative, times_whole, <ʳ-not}
 use Rattle.heyvl_num.proofs.exported.Exactness.{exact_sum_some, exact_product_some, exact_quotient_some}
 use Rattle.linear_rows.specs.Terms.{coefficient}
@@ -17,6 +17,7 @@ use Rattle.linear_rows.specs.Solutions.{sum_of, IsBelowZero, MeetsAt}
 use Rattle.linear_rows.specs.GreedyPoint.{IsUpFrom, IsUpTo, chosen_value}
 use Rattle.linear_elim.specs.Joins.{is_below_zero, is_above_zero}
 use Rattle.linear_elim.specs.ChoiceNumbers.{added, sum_without, divided_by, end_of}
+use Rattle.interval_choice.proofs.exported.Wholes.{whole-zero, whole-negative, whole-one, less_from}
 
 -- The values chosen, with one for x.
 abbrev pub placed : ℕ → Rational → List (ℕ × Rational) → ℕ → Rational
@@ -25,10 +26,6 @@ placed x v chosen u = cond (eqb u x) v (chosen_value u chosen)
 pub whole-+ : (a b : ℤ) → whole a +ʳ whole b ≡ whole (a +ℤ b)
 unfolding whole
 whole-+ a b = ratio-+ a 1 b 1 (zero-lt-suc 0) (zero-lt-suc 0) ∙ ratio_same _ _ _ _ (zero-lt-suc 0) (zero-lt-suc 0) (rw (*ℤ-one a, *ℤ-one b) refl)
-
-pub whole-zero : whole (pos 0) ≡ zeroʳ
-unfolding whole zeroʳ
-whole-zero = refl
 
 sum_none : (x : ℕ) (chosen : List (ℕ × Rational)) (ts : List (ℕ × ℤ)) (s : Rational) → sum_without x chosen ts None ≡ Some s → ⊥
 unfolding sum_without
@@ -82,14 +79,6 @@ times_part n a p = ratio-* (pos n) 1 a n (zero-lt-suc 0) p ∙ ratio_same _ _ _ 
 part_times : (n : ℕ) (a : ℤ) (s : Rational) → 0 < n → whole (pos n) *ʳ (s *ʳ ratio a n) ≡ whole a *ʳ s
 part_times n a s p = ap (λ z. whole (pos n) *ʳ z) (*ʳ_comm s (ratio a n)) ∙ sym (*ʳ_assoc (whole (pos n)) (ratio a n) s) ∙ ap (λ z. z *ʳ s) (times_part n a p)
 
-pub whole-negative : (n : ℕ) → whole (negsuc n) ≡ negʳ (whole (pos (suc n)))
-unfolding whole
-whole-negative n = sym (ratio-neg (pos (suc n)) 1 (zero-lt-suc 0))
-
-pub whole-one : whole (pos 1) ≡ oneʳ
-unfolding whole oneʳ
-whole-one = refl
-
 plus_one : (s : Rational) → whole (pos 1) *ʳ s ≡ s
 plus_one s = ap (λ z. z *ʳ s) whole-one ∙ one-*ʳ s
 
@@ -131,13 +120,6 @@ lower_side n v s p h e = record {
   where
     turned : (s y : Rational) → negʳ y +ʳ s ≡ s -ʳ y
     turned s y = +ʳ_comm (negʳ y) s ∙ sym (-ʳ-is s y)
-
-pub less_from : {x y : Rational} → (y ≤ʳ x → ⊥) → x <ʳ y
-less_from {x} {y} n = record { holds = go (leqʳ y x) refl }
-  where
-    go : (b : Bool) → leqʳ y x ≡ b → leqʳ y x ≡ false
-    go true e = absurd (n (record { holds = e }))
-    go false e = e
 
 pub up_by_side : (strict : Bool) (z v p : Rational) → Sided z v p → IsBelowZero strict z ↔ IsUpTo (record { place = p; inside = not strict }) v
 up_by_side false z v p h = h.under

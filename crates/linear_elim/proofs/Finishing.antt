@@ -5,8 +5,9 @@ use Rattle.std.proofs.lemmas.Bool.Decides.{nat_tests}
 use Prim.Native.Nat.{suc}
 use Rattle.linear_elim.specs.Joins.{Derived}
 use Rattle.linear_elim.specs.Steps.{step_fits, eliminate_one, tidied, contradiction}
-use Rattle.linear_elim.specs.Elimination.{Step, Gathered, Outcome, gathered, step_of, after_step, ended_by, unless_many, run}
+use Rattle.linear_elim.specs.Elimination.{Step, Gathered, Outcome, Rule, tidied_by, gathered, step_of, after_step, ended_by, unless_many, run}
 use Rattle.linear_elim.specs.internal.Gathering.{after_all}
+use Rattle.linear_elim.specs.Elimination.Rule.{keeps}
 use Rattle.linear_elim.specs.Elimination.Outcome.{refuted, standing, too_many, too_great}
 
 all_refuted : (ss : List Step) (c : Derived) → after_all ss (refuted c) ≡ refuted c
@@ -34,10 +35,10 @@ unfolding after_all
 all_push [] s o = refl
 all_push (r ∷ ss) s o = ap (after_step r) (all_push ss s o)
 
-pub ends_found : (ss : List Step) (n : ℕ) (xs : List ℕ) (g : Gathered) (c : Derived) → g.found ≡ Some c → refuted c ≡ after_all ss (run n xs g)
+pub ends_found : (rule : Rule) (ss : List Step) (n : ℕ) (xs : List ℕ) (g : Gathered) (c : Derived) → g.found ≡ Some c → refuted c ≡ after_all ss (run rule n xs g)
 unfolding run
-ends_found ss n [] g c e = sym (ap (λ o. after_all ss (ended_by o (unless_many n g.rows (standing [])))) e ∙ all_refuted ss c)
-ends_found ss n (x ∷ xs) g c e = sym (ap (λ o. after_all ss (ended_by o (unless_many n g.rows (cond (step_fits x g.rows) (after_step (step_of x g.rows) (run (suc n) xs (gathered (eliminate_one x g.rows)))) too_great)))) e ∙ all_refuted ss c)
+ends_found rule ss n [] g c e = sym (ap (λ o. after_all ss (ended_by o (unless_many n g.rows (standing [])))) e ∙ all_refuted ss c)
+ends_found rule ss n (x ∷ xs) g c e = sym (ap (λ o. after_all ss (ended_by o (unless_many n g.rows (cond (step_fits x g.rows) (after_step (step_of x g.rows) (run rule (suc n) xs (gathered rule (eliminate_one x g.rows)))) too_great)))) e ∙ all_refuted ss c)
 
 many_test : (k : ℕ) → 4096 < k → ltb 4096 k ≡ true
 many_test k h = grind (arith, nat_tests)
@@ -45,40 +46,40 @@ many_test k h = grind (arith, nat_tests)
 few_test : (k : ℕ) → k ≤ 4096 → ltb 4096 k ≡ false
 few_test k h = grind (arith, nat_tests)
 
-pub ends_many : (ss : List Step) (n : ℕ) (xs : List ℕ) (g : Gathered) (k : ℕ) → g.found ≡ None → k ≡ length g.rows → 4096 < k → too_many n k ≡ after_all ss (run n xs g)
+pub ends_many : (rule : Rule) (ss : List Step) (n : ℕ) (xs : List ℕ) (g : Gathered) (k : ℕ) → g.found ≡ None → k ≡ length g.rows → 4096 < k → too_many n k ≡ after_all ss (run rule n xs g)
 unfolding run
-ends_many ss n [] g k e h l = ap (too_many n) h ∙ sym (ap₂ (λ o b. after_all ss (ended_by o (cond b (too_many n (length g.rows)) (standing [])))) e (ap (ltb 4096) (sym h) ∙ many_test k l) ∙ all_many ss n (length g.rows))
-ends_many ss n (x ∷ xs) g k e h l = ap (too_many n) h ∙ sym (ap₂ (λ o b. after_all ss (ended_by o (cond b (too_many n (length g.rows)) (cond (step_fits x g.rows) (after_step (step_of x g.rows) (run (suc n) xs (gathered (eliminate_one x g.rows)))) too_great)))) e (ap (ltb 4096) (sym h) ∙ many_test k l) ∙ all_many ss n (length g.rows))
+ends_many rule ss n [] g k e h l = ap (too_many n) h ∙ sym (ap₂ (λ o b. after_all ss (ended_by o (cond b (too_many n (length g.rows)) (standing [])))) e (ap (ltb 4096) (sym h) ∙ many_test k l) ∙ all_many ss n (length g.rows))
+ends_many rule ss n (x ∷ xs) g k e h l = ap (too_many n) h ∙ sym (ap₂ (λ o b. after_all ss (ended_by o (cond b (too_many n (length g.rows)) (cond (step_fits x g.rows) (after_step (step_of x g.rows) (run rule (suc n) xs (gathered rule (eliminate_one x g.rows)))) too_great)))) e (ap (ltb 4096) (sym h) ∙ many_test k l) ∙ all_many ss n (length g.rows))
 
-pub ends_standing : (ss : List Step) (n : ℕ) (xs : List ℕ) (g : Gathered) (k : ℕ) → xs ≡ [] → g.found ≡ None → k ≡ length g.rows → k ≤ 4096 → standing ss ≡ after_all ss (run n xs g)
+pub ends_standing : (rule : Rule) (ss : List Step) (n : ℕ) (xs : List ℕ) (g : Gathered) (k : ℕ) → xs ≡ [] → g.found ≡ None → k ≡ length g.rows → k ≤ 4096 → standing ss ≡ after_all ss (run rule n xs g)
 unfolding run
-ends_standing ss n xs g k m e h l = sym (ap (λ ys. after_all ss (run n ys g)) m ∙ ap₂ (λ o b. after_all ss (ended_by o (cond b (too_many n (length g.rows)) (standing [])))) e (ap (ltb 4096) (sym h) ∙ few_test k l) ∙ all_standing ss)
+ends_standing rule ss n xs g k m e h l = sym (ap (λ ys. after_all ss (run rule n ys g)) m ∙ ap₂ (λ o b. after_all ss (ended_by o (cond b (too_many n (length g.rows)) (standing [])))) e (ap (ltb 4096) (sym h) ∙ few_test k l) ∙ all_standing ss)
 
-pub ends_great : (ss : List Step) (n : ℕ) (xs ys : List ℕ) (x : ℕ) (g : Gathered) (k : ℕ) → xs ≡ x ∷ ys → g.found ≡ None → k ≡ length g.rows → k ≤ 4096 → false ≡ step_fits x g.rows → too_great ≡ after_all ss (run n xs g)
+pub ends_great : (rule : Rule) (ss : List Step) (n : ℕ) (xs ys : List ℕ) (x : ℕ) (g : Gathered) (k : ℕ) → xs ≡ x ∷ ys → g.found ≡ None → k ≡ length g.rows → k ≤ 4096 → false ≡ step_fits x g.rows → too_great ≡ after_all ss (run rule n xs g)
 unfolding run
-ends_great ss n xs ys x g k m e h l f = sym (ap (λ zs. after_all ss (run n zs g)) m ∙ ap₂ (λ o b. after_all ss (ended_by o (cond b (too_many n (length g.rows)) (cond (step_fits x g.rows) (after_step (step_of x g.rows) (run (suc n) ys (gathered (eliminate_one x g.rows)))) too_great)))) e (ap (ltb 4096) (sym h) ∙ few_test k l) ∙ ap (λ b. after_all ss (cond b (after_step (step_of x g.rows) (run (suc n) ys (gathered (eliminate_one x g.rows)))) too_great)) (sym f) ∙ all_great ss)
+ends_great rule ss n xs ys x g k m e h l f = sym (ap (λ zs. after_all ss (run rule n zs g)) m ∙ ap₂ (λ o b. after_all ss (ended_by o (cond b (too_many n (length g.rows)) (cond (step_fits x g.rows) (after_step (step_of x g.rows) (run rule (suc n) ys (gathered rule (eliminate_one x g.rows)))) too_great)))) e (ap (ltb 4096) (sym h) ∙ few_test k l) ∙ ap (λ b. after_all ss (cond b (after_step (step_of x g.rows) (run rule (suc n) ys (gathered rule (eliminate_one x g.rows)))) too_great)) (sym f) ∙ all_great ss)
 
 abbrev make : Option Derived → List Derived → Gathered
 make o rs = record { found = o; rows = rs }
 
-pub goes_on : (ss now : List Step) (n : ℕ) (xs ys : List ℕ) (x : ℕ) (g h : Gathered) (s : Step) (k : ℕ) → xs ≡ x ∷ ys → g.found ≡ None → k ≡ length g.rows → k ≤ 4096 → true ≡ step_fits x g.rows → s ≡ step_of x g.rows → h.found ≡ contradiction (eliminate_one x g.rows) → h.rows ≡ tidied (eliminate_one x g.rows) → now ≡ ss ++ s ∷ [] → after_all now (run (n + 1) ys h) ≡ after_all ss (run n xs g)
+pub goes_on : (rule : Rule) (ss now : List Step) (n : ℕ) (xs ys : List ℕ) (x : ℕ) (g h : Gathered) (s : Step) (k : ℕ) → xs ≡ x ∷ ys → g.found ≡ None → k ≡ length g.rows → k ≤ 4096 → true ≡ step_fits x g.rows → s ≡ step_of x g.rows → h.found ≡ contradiction (eliminate_one x g.rows) → h.rows ≡ tidied_by rule (eliminate_one x g.rows) → now ≡ ss ++ s ∷ [] → after_all now (run rule (n + 1) ys h) ≡ after_all ss (run rule n xs g)
 unfolding run
-goes_on ss now n xs ys x g h s k m e a l f t p q r =
-    ap₂ (λ (us : List Step) (j : ℕ). after_all us (run j ys h)) r (next n)
-    ∙ all_push ss s (run (suc n) ys h)
-    ∙ ap₂ (λ (u : Step) (i : Gathered). after_all ss (after_step u (run (suc n) ys i))) t (ap₂ make p q)
-    ∙ sym (ap (λ zs. after_all ss (run n zs g)) m ∙ ap₂ (λ o b. after_all ss (ended_by o (cond b (too_many n (length g.rows)) (cond (step_fits x g.rows) (after_step (step_of x g.rows) (run (suc n) ys (gathered (eliminate_one x g.rows)))) too_great)))) e (ap (ltb 4096) (sym a) ∙ few_test k l) ∙ ap (λ b. after_all ss (cond b (after_step (step_of x g.rows) (run (suc n) ys (gathered (eliminate_one x g.rows)))) too_great)) (sym f))
+goes_on rule ss now n xs ys x g h s k m e a l f t p q r =
+    ap₂ (λ (us : List Step) (j : ℕ). after_all us (run rule j ys h)) r (next n)
+    ∙ all_push ss s (run rule (suc n) ys h)
+    ∙ ap₂ (λ (u : Step) (i : Gathered). after_all ss (after_step u (run rule (suc n) ys i))) t (ap₂ make p q)
+    ∙ sym (ap (λ zs. after_all ss (run rule n zs g)) m ∙ ap₂ (λ o b. after_all ss (ended_by o (cond b (too_many n (length g.rows)) (cond (step_fits x g.rows) (after_step (step_of x g.rows) (run rule (suc n) ys (gathered rule (eliminate_one x g.rows)))) too_great)))) e (ap (ltb 4096) (sym a) ∙ few_test k l) ∙ ap (λ b. after_all ss (cond b (after_step (step_of x g.rows) (run rule (suc n) ys (gathered rule (eliminate_one x g.rows)))) too_great)) (sym f))
   where
     next : (n : ℕ) → n + 1 ≡ suc n
     next n = omega arith
 
-found_next : (ss : List Step) (n : ℕ) (xs ys : List ℕ) (x : ℕ) (g : Gathered) (k : ℕ) (c : Derived) → xs ≡ x ∷ ys → g.found ≡ None → k ≡ length g.rows → k ≤ 4096 → true ≡ step_fits x g.rows → Some c ≡ contradiction (eliminate_one x g.rows) → refuted c ≡ after_all ss (run n xs g)
-found_next ss n xs ys x g k c m e a l f h = ends_found (ss ++ step_of x g.rows ∷ []) (n + 1) ys (gathered (eliminate_one x g.rows)) c (sym h) ∙ goes_on ss (ss ++ step_of x g.rows ∷ []) n xs ys x g (gathered (eliminate_one x g.rows)) (step_of x g.rows) k m e a l f refl refl refl refl
+found_next : (ss : List Step) (n : ℕ) (xs ys : List ℕ) (x : ℕ) (g : Gathered) (k : ℕ) (c : Derived) → xs ≡ x ∷ ys → g.found ≡ None → k ≡ length g.rows → k ≤ 4096 → true ≡ step_fits x g.rows → Some c ≡ contradiction (eliminate_one x g.rows) → refuted c ≡ after_all ss (run keeps n xs g)
+found_next ss n xs ys x g k c m e a l f h = ends_found keeps (ss ++ step_of x g.rows ∷ []) (n + 1) ys (gathered keeps (eliminate_one x g.rows)) c (sym h) ∙ goes_on keeps ss (ss ++ step_of x g.rows ∷ []) n xs ys x g (gathered keeps (eliminate_one x g.rows)) (step_of x g.rows) k m e a l f refl refl refl refl
 
-many_next : (ss : List Step) (n : ℕ) (xs ys : List ℕ) (x : ℕ) (g : Gathered) (k c : ℕ) → xs ≡ x ∷ ys → g.found ≡ None → k ≡ length g.rows → k ≤ 4096 → true ≡ step_fits x g.rows → None ≡ contradiction (eliminate_one x g.rows) → c ≡ length (tidied (eliminate_one x g.rows)) → 4096 < c → too_many (n + 1) c ≡ after_all ss (run n xs g)
-many_next ss n xs ys x g k c m e a l f h i j = ends_many (ss ++ step_of x g.rows ∷ []) (n + 1) ys (gathered (eliminate_one x g.rows)) c (sym h) i j ∙ goes_on ss (ss ++ step_of x g.rows ∷ []) n xs ys x g (gathered (eliminate_one x g.rows)) (step_of x g.rows) k m e a l f refl refl refl refl
+many_next : (ss : List Step) (n : ℕ) (xs ys : List ℕ) (x : ℕ) (g : Gathered) (k c : ℕ) → xs ≡ x ∷ ys → g.found ≡ None → k ≡ length g.rows → k ≤ 4096 → true ≡ step_fits x g.rows → None ≡ contradiction (eliminate_one x g.rows) → c ≡ length (tidied (eliminate_one x g.rows)) → 4096 < c → too_many (n + 1) c ≡ after_all ss (run keeps n xs g)
+many_next ss n xs ys x g k c m e a l f h i j = ends_many keeps (ss ++ step_of x g.rows ∷ []) (n + 1) ys (gathered keeps (eliminate_one x g.rows)) c (sym h) i j ∙ goes_on keeps ss (ss ++ step_of x g.rows ∷ []) n xs ys x g (gathered keeps (eliminate_one x g.rows)) (step_of x g.rows) k m e a l f refl refl refl refl
 
-pub ends_next : (ss : List Step) (n : ℕ) (xs ys : List ℕ) (x : ℕ) (g : Gathered) (k c : ℕ) (o : Option Derived) (r : Outcome) → xs ≡ x ∷ ys → g.found ≡ None → k ≡ length g.rows → k ≤ 4096 → (true ≡ step_fits x g.rows) × (o ≡ contradiction (eliminate_one x g.rows)) × (c ≡ length (tidied (eliminate_one x g.rows))) × (4096 < c) → ((d : Derived) → o ≡ Some d → r ≡ refuted d) → (o ≡ None → r ≡ too_many (n + 1) c) → r ≡ after_all ss (run n xs g)
+pub ends_next : (ss : List Step) (n : ℕ) (xs ys : List ℕ) (x : ℕ) (g : Gathered) (k c : ℕ) (o : Option Derived) (r : Outcome) → xs ≡ x ∷ ys → g.found ≡ None → k ≡ length g.rows → k ≤ 4096 → (true ≡ step_fits x g.rows) × (o ≡ contradiction (eliminate_one x g.rows)) × (c ≡ length (tidied (eliminate_one x g.rows))) × (4096 < c) → ((d : Derived) → o ≡ Some d → r ≡ refuted d) → (o ≡ None → r ≡ too_many (n + 1) c) → r ≡ after_all ss (run keeps n xs g)
 ends_next ss n xs ys x g k c None r m e a l h f t = t refl ∙ many_next ss n xs ys x g k c m e a l h.0 h.1 h.2 h.3
 ends_next ss n xs ys x g k c (Some d) r m e a l h f t = f d refl ∙ found_next ss n xs ys x g k d m e a l h.0 h.1
 

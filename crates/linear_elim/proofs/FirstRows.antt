@@ -12,7 +12,8 @@ use Rattle.linear_rows.proofs.exported.Fractions.{solvable_is}
 use Rattle.linear_elim.specs.Joins.{Derived}
 use Rattle.linear_elim.specs.internal.DerivedRows.{IsDerived}
 use Rattle.linear_elim.specs.Steps.{tidied, contradiction}
-use Rattle.linear_elim.specs.Elimination.{Step, Gathered, run, own, start, elimination}
+use Rattle.linear_elim.specs.Elimination.{Step, Gathered, Rule, tidied_by, run, own, start, elimination}
+use Rattle.linear_elim.specs.Elimination.Rule.{keeps}
 use Rattle.linear_elim.specs.internal.Gathering.{after_all, found_after, rows_after, found_all, rows_all}
 use Rattle.linear_elim.specs.internal.Outcomes.{outcome_of, Decided}
 use Rattle.linear_elim.specs.declared.elimination.Outcome.{Outcome}
@@ -20,7 +21,7 @@ use Rattle.linear_elim.specs.declared.elimination.Outcome.TheVariants.{Refuted, 
 use Rattle.linear_elim.proofs.Joining.{found_none, rows_none, rest_end}
 use Rattle.linear_elim.proofs.Deciding.{complete, refuted-follows}
 use Rattle.linear_elim.proofs.Certificates.{refuted_unmet}
-use Rattle.linear_elim.proofs.Tidying.{tidied-all}
+use Rattle.linear_elim.proofs.Ruling.{ruled-all}
 
 next : (n : ℕ) → suc n ≡ n + 1
 next n = omega arith
@@ -50,18 +51,18 @@ unfolding start
 start-derived k [] h = All-nil _
 start-derived k (r ∷ rs) h = All-cons IsDerived (own k r) (start (suc k) rs) (record { is_row = All-head IsRow r rs h; shares_normal = ((λ e. absurd (omega (arith, ints, e))), (All-nil _, tt)); over_positive = omega arith; over_narrow = omega arith }) (start-derived (suc k) rs (All-tail IsRow r rs h))
 
-pub first-derived : (rows : List Row) → All IsRow rows → All IsDerived (tidied (start 0 rows))
-first-derived rows h = tidied-all IsDerived (start 0 rows) (start-derived 0 rows h)
+pub first-derived : (rule : Rule) (rows : List Row) → All IsRow rows → All IsDerived (tidied_by rule (start 0 rows))
+first-derived rule rows h = ruled-all rule IsDerived (start 0 rows) (start-derived 0 rows h)
 
 pub decided : (order : List ℕ) (rows : List Row) (o : Outcome) → All IsRow rows → All (λ r. IsOver order r.terms) rows → outcome_of o ≡ elimination order rows → Decided rows o
-decided order rows (Refuted c) h k e = λ s. let f = refuted-follows order rows c (sym e) in refuted_unmet rows c f.0 f.1 ((solvable_is rows).0 s)
-decided order rows (Standing ss) h k e = (solvable_is rows).1 (complete order rows ss.items (All-both IsRow (λ r. IsOver order r.terms) (λ r. IsNormal r.terms × IsOver order r.terms) (λ r a b. (a.normal, b)) rows h k) (sym e))
+decided order rows (Refuted c) h k e = λ s. let f = refuted-follows keeps order rows c (sym e) in refuted_unmet rows c f.0 f.1 ((solvable_is rows).0 s)
+decided order rows (Standing ss) h k e = (solvable_is rows).1 (complete keeps order rows ss.items (All-both IsRow (λ r. IsOver order r.terms) (λ r. IsNormal r.terms × IsOver order r.terms) (λ r a b. (a.normal, b)) rows h k) (sym e))
 decided order rows (TooMany n c) h k e = tt
 decided order rows TooGreat h k e = tt
 
 abbrev pub put_together : Option Derived → List Derived → Gathered
 put_together o rs = record { found = o; rows = rs }
 
-pub started : (order : List ℕ) (rows : List Row) (ss : List Step) (o : Option Derived) (ks : List Derived) → ss ≡ [] → o ≡ contradiction (start 0 rows) → ks ≡ tidied (start 0 rows) → after_all ss (run 0 order (record { found = o; rows = ks })) ≡ elimination order rows
+pub started : (order : List ℕ) (rows : List Row) (ss : List Step) (o : Option Derived) (ks : List Derived) → ss ≡ [] → o ≡ contradiction (start 0 rows) → ks ≡ tidied (start 0 rows) → after_all ss (run keeps 0 order (record { found = o; rows = ks })) ≡ elimination order rows
 unfolding after_all
-started order rows ss o ks e f h = ap₂ (λ (ts : List Step) (g : Gathered). after_all ts (run 0 order g)) e (ap₂ put_together f h)
+started order rows ss o ks e f h = ap₂ (λ (ts : List Step) (g : Gathered). after_all ts (run keeps 0 order g)) e (ap₂ put_together f h)

@@ -26,21 +26,22 @@ use Rattle.linear_rows.specs.GreedyPoint.Chooses.{ends, takes, breaks}
 use Rattle.linear_rows.proofs.exported.Fractions.{solvable_is}
 use Rattle.linear_rows.proofs.exported.Between.{All-both}
 use Rattle.linear_elim.specs.Elimination.{Step, start}
+use Rattle.linear_elim.specs.Steps.{bare}
+use Rattle.linear_elim.specs.ChoiceNumbers.{IsChoiceTooGreat}
 use Rattle.linear_elim.specs.ChoiceNumbers.IsNextTooGreat.{in_an_end, in_a_value}
 use Rattle.linear_elim.specs.internal.ChoiceSteps.{IsTightest}
-use Rattle.linear_elim.specs.internal.Picks.{between, IsPicked, IsNextPick}
+use Rattle.interval_choice.specs.Picks.{between, IsPicked}
+use Rattle.linear_elim.specs.internal.Picks.{IsNextPick}
 use Rattle.linear_elim.specs.internal.Picks.IsNextPick.{great_end, between_ends}
-use Rattle.linear_elim.specs.Answers.{IsTooGreat, MeetsAll, AreNarrow}
+use Rattle.linear_elim.specs.Answers.{MeetsAll, AreNarrow}
 use Rattle.linear_elim.specs.internal.Eliminations.{IsEliminated}
-use Rattle.linear_elim.specs.Answers.IsTooGreat.{in_a_choice}
-use Rattle.linear_elim.specs.declared.ends.Side.TheVariants.{Low, High}
-use Rattle.linear_elim.specs.declared.picking.Pick.{Pick}
-use Rattle.linear_elim.specs.declared.picking.Pick.TheVariants.{Value, Breaks, Great}
+use Rattle.interval_choice.specs.declared.sides.Side.TheVariants.{Low, High}
+use Rattle.interval_choice.specs.declared.picking.Pick.{Pick}
+use Rattle.interval_choice.specs.declared.picking.Pick.TheVariants.{Value, Breaks, Great}
 use Rattle.linear_elim.proofs.Deciding.{complete, start-all}
-use Rattle.linear_elim.proofs.Bounded.{up_from_weak, up_to_weak}
-use Rattle.linear_elim.proofs.Pasts.{zero_fits}
+use Rattle.interval_choice.proofs.exported.Bounded.{up_from_weak, up_to_weak}
+use Rattle.interval_choice.proofs.exported.Pasts.{zero_fits}
 use Rattle.linear_elim.proofs.Shapes.{Good}
-use Rattle.linear_elim.proofs.Projecting.{bare}
 use Rattle.linear_elim.proofs.Reaching.{Stands, run_stands, vars_of, stands_vars, NoneTwice, Reached, reached, bare_start}
 use Rattle.linear_elim.proofs.Intervals.{meets_same, agrees_on, AreFor, vars_in, with_value, some_value, interval_is}
 
@@ -194,13 +195,13 @@ module _ (rows : List Row) (vars : List Ty) (steps : List Step) (h : IsEliminate
   good_rows = All-both IsRow (λ r. IsOver (order_of rows (length vars)) r.terms) (λ r. IsNormal r.terms × IsOver (order_of rows (length vars)) r.terms) (λ r a b. (a.normal, b)) rows h.are_rows h.over
 
   pub solved : IsSolvable rows
-  solved = (solvable_is rows).1 (complete (order_of rows (length vars)) rows steps good_rows h.standing)
+  solved = (solvable_is rows).1 (complete h.rule (order_of rows (length vars)) rows steps good_rows h.standing)
 
-  pub stands : Stands (order_of rows (length vars)) (start 0 rows) steps
-  stands = run_stands 0 (order_of rows (length vars)) (start 0 rows) steps h.standing
+  pub stands : Stands h.rule (order_of rows (length vars)) (start 0 rows) steps
+  stands = run_stands h.rule 0 (order_of rows (length vars)) (start 0 rows) steps h.standing
 
   pub steps_in_order : order_of rows (length vars) ≡ vars_of steps
-  steps_in_order = stands_vars (order_of rows (length vars)) (start 0 rows) steps stands
+  steps_in_order = stands_vars h.rule (order_of rows (length vars)) (start 0 rows) steps stands
 
   pub good_start : All (Good (order_of rows (length vars))) (start 0 rows)
   good_start = start-all (λ r. IsNormal r.terms × IsOver (order_of rows (length vars)) r.terms) (Good (order_of rows (length vars))) (λ d p. record { normal = p.0; within = p.1 }) 0 rows good_rows
@@ -225,8 +226,8 @@ module _ (rows : List Row) (vars : List Ty) (steps : List Step) (h : IsEliminate
   splits_here : steps ≡ before ++ (s ∷ f.after)
   splits_here = f.splits ∙ append_assoc before (s ∷ []) f.after
 
-  reached_here : Reached (order_of rows (length vars)) (start 0 rows) s f.after
-  reached_here = reached (order_of rows (length vars)) (start 0 rows) before s f.after (subst (Stands (order_of rows (length vars)) (start 0 rows)) splits_here (stands rows vars steps h)) (order_none_twice rows (length vars)) (good_start rows vars steps h)
+  reached_here : Reached h.rule (order_of rows (length vars)) (start 0 rows) s f.after
+  reached_here = reached h.rule (order_of rows (length vars)) (start 0 rows) before s f.after (subst (Stands h.rule (order_of rows (length vars)) (start 0 rows)) splits_here (stands rows vars steps h)) (order_none_twice rows (length vars)) (good_start rows vars steps h)
 
   var_here : s.var ≡ reached_here.x
   var_here = ap (λ s. s.var) reached_here.is_step
@@ -238,10 +239,10 @@ module _ (rows : List Row) (vars : List Ty) (steps : List Step) (h : IsEliminate
   met_here = subst (λ rs. IsCompleted rs cs) (sym (bare_start 0 rows)) f.met
 
   interval_here : (low high : Option End) → IsTightest Low s.var cs s.lows low → IsTightest High s.var cs s.ups high → IsIntervalOf rows cs s.var (between Low low high)
-  interval_here low high l u = subst (λ x. IsIntervalOf rows cs x (between Low low high)) (sym var_here) (subst (λ rs. IsIntervalOf rs cs reached_here.x (between Low low high)) (bare_start 0 rows) (interval_is (order_of rows (length vars)) (start 0 rows) s f.after reached_here cs for_here met_here (between Low low high) l u))
+  interval_here low high l u = subst (λ x. IsIntervalOf rows cs x (between Low low high)) (sym var_here) (subst (λ rs. IsIntervalOf rs cs reached_here.x (between Low low high)) (bare_start 0 rows) (interval_is h.rule (order_of rows (length vars)) (start 0 rows) s f.after reached_here cs for_here met_here (between Low low high) l u))
 
   some_here : (i : Interval) → IsIntervalOf rows cs s.var i → (w : Rational) × IsInside i w
-  some_here i v = let k = some_value (order_of rows (length vars)) (start 0 rows) s f.after reached_here cs for_here met_here in (k.0, (v.values k.0).1 (subst (λ x. IsCompleted rows (with_value x k.0 cs)) (sym var_here) (subst (λ rs. IsCompleted rs (with_value reached_here.x k.0 cs)) (bare_start 0 rows) k.1)))
+  some_here i v = let k = some_value h.rule (order_of rows (length vars)) (start 0 rows) s f.after reached_here cs for_here met_here in (k.0, (v.values k.0).1 (subst (λ x. IsCompleted rows (with_value x k.0 cs)) (sym var_here) (subst (λ rs. IsCompleted rs (with_value reached_here.x k.0 cs)) (bare_start 0 rows) k.1)))
 
   numeric_here : is_numeric (types_in vars s.var) ≡ true
   numeric_here = order_numeric vars rows (length vars) s.var h.numeric (subst (λ x. is_in x (order_of rows (length vars)) ≡ true) (sym var_here) (reached_here.within reached_here.x (ap (λ b. b || is_in reached_here.x reached_here.later) (same_var reached_here.x))))
@@ -306,9 +307,9 @@ module _ (rows : List Row) (vars : List Ty) (steps : List Step) (h : IsEliminate
       let w = some_here (between Low lo hi) (interval_here lo hi l u) in
       ≤ʳ_trans low.place w.0 high.place (up_from_weak low w.0 (w.1.from_low low p.1)) (up_to_weak high w.0 (w.1.to_high high p.2))
 
-  pub great_here : IsNextPick s cs (types_in vars s.var) Great → IsTooGreat rows vars
-  great_here (great_end e) = in_a_choice steps h.standing (record { before = before; next = s; after = f.after; chosen = cs; splits = splits_here; choice = f.choice; too_great = in_an_end e })
-  great_here (between_ends low high _ l u k) = let p = picked_here low high Great l u k in in_a_choice steps h.standing (record { before = before; next = s; after = f.after; chosen = cs; splits = splits_here; choice = f.choice; too_great = in_a_value (between Low low high) p.0 (interval_here low high l u) p.1 p.2 })
+  pub great_here : IsNextPick s cs (types_in vars s.var) Great → IsChoiceTooGreat rows vars steps
+  great_here (great_end e) = (record { before = before; next = s; after = f.after; chosen = cs; splits = splits_here; choice = f.choice; too_great = in_an_end e })
+  great_here (between_ends low high _ l u k) = let p = picked_here low high Great l u k in (record { before = before; next = s; after = f.after; chosen = cs; splits = splits_here; choice = f.choice; too_great = in_a_value (between Low low high) p.0 (interval_here low high l u) p.1 p.2 })
 
 -- ---- At the end
 

@@ -11,21 +11,23 @@ use Rattle.linear_rows.specs.Numbers.{fits}
 use Rattle.linear_rows.specs.Terms.{is_in, coefficient}
 use Rattle.linear_rows.specs.Row.{Row}
 use Rattle.linear_rows.specs.Solutions.{sum_of, IsBelowZero, MeetsAt}
-use Rattle.linear_rows.specs.GreedyPoint.{End, Interval, IsInside, IsIntervalOf, IsCompleted, chosen_value}
+use Rattle.linear_rows.specs.GreedyPoint.{End, Interval, IsIntervalOf, IsCompleted, chosen_value}
 use Rattle.linear_rows.proofs.exported.Between.{All-both}
 use Rattle.linear_elim.specs.Joins.{Derived, is_below_zero, is_above_zero}
-use Rattle.linear_elim.specs.Steps.{lowers, uppers, kept, pairs, tidied}
-use Rattle.linear_elim.specs.Elimination.{Step}
+use Rattle.linear_elim.specs.Steps.{bare, lowers, uppers, kept, pairs}
+use Rattle.linear_elim.specs.Elimination.{Step, Rule, tidied_by}
 use Rattle.linear_elim.specs.ChoiceNumbers.{end_of}
-use Rattle.linear_elim.specs.internal.ChoiceSteps.{IsWithin, IsPast, bounded, narrow_end, IsTightest}
-use Rattle.linear_elim.specs.declared.ends.Side.TheVariants.{Low, High}
+use Rattle.interval_choice.specs.Sides.{IsWithin, IsPast}
+use Rattle.linear_elim.specs.internal.ChoiceSteps.{bounded, narrow_end, IsTightest}
+use Rattle.interval_choice.specs.declared.sides.Side.TheVariants.{Low, High}
 use Rattle.linear_elim.proofs.Solutions.{by_sign, all_append-left}
 use Rattle.linear_elim.proofs.Shapes.{Good, step-good}
-use Rattle.linear_elim.proofs.Tidying.{tidied-all}
-use Rattle.linear_elim.proofs.Projecting.{Met, bare, in_more, met_tidied, met_bare, bare_met}
+use Rattle.linear_elim.proofs.Ruling.{ruled-all}
+use Rattle.linear_elim.proofs.Projecting.{Met, in_more, met_tidied, met_bare, bare_met}
 use Rattle.linear_elim.proofs.Reaching.{apart, Reached}
 use Rattle.linear_elim.proofs.EndPlaces.{placed, lower_end, upper_end}
 use Rattle.linear_elim.proofs.EndRuns.{IsPastRow}
+use Rattle.interval_choice.proofs.exported.Inside.{inside_past}
 
 -- ---- Values that agree
 
@@ -81,7 +83,7 @@ pub split_agrees : (f : ℕ → Rational) (x : ℕ) (v : Rational) (cs : List (�
 split_agrees f x v [] h = (All-nil _, All-head (λ (c : ℕ × Rational). f c.0 ≡ c.1) (x, v) [] h)
 split_agrees f x v (c ∷ cs) h = let k = split_agrees f x v cs (All-tail (λ (c : ℕ × Rational). f c.0 ≡ c.1) c (with_value x v cs) h) in (All-cons (λ (c : ℕ × Rational). f c.0 ≡ c.1) c cs (All-head (λ (c : ℕ × Rational). f c.0 ≡ c.1) c (with_value x v cs) h) k.0, k.1)
 
-module _ (xs : List ℕ) (rows : List Derived) (s : Step) (after : List Step) (r : Reached xs rows s after) (cs : List (ℕ × Rational)) (a : AreFor r.later cs) where
+module _ (rule : Rule) (xs : List ℕ) (rows : List Derived) (s : Step) (after : List Step) (r : Reached rule xs rows s after) (cs : List (ℕ × Rational)) (a : AreFor r.later cs) where
   in_step : All (λ (c : ℕ × Rational). is_in c.0 (r.x ∷ r.later) ≡ true) cs
   in_step = All-weaker (λ (c : ℕ × Rational). is_in c.0 r.later ≡ true) (λ (c : ℕ × Rational). is_in c.0 (r.x ∷ r.later) ≡ true) (λ c e. in_more c.0 r.x r.later e) cs a.within
 
@@ -94,32 +96,32 @@ module _ (xs : List ℕ) (rows : List Derived) (s : Step) (after : List Step) (r
   pub some_value : (h : IsCompleted (bare rows) cs) → (v : Rational) × IsCompleted (bare rows) (with_value r.x v cs)
   some_value h = let k = r.down cs h in (k.at_values r.x, r.up (with_value r.x (k.at_values r.x) cs) (more_in (k.at_values r.x)) (record { at_values = k.at_values; agrees = All-append (λ (c : ℕ × Rational). k.at_values c.0 ≡ c.1) cs ((r.x, k.at_values r.x) ∷ []) k.agrees (All-cons (λ (c : ℕ × Rational). k.at_values c.0 ≡ c.1) (r.x, k.at_values r.x) [] refl (All-nil _)); meets = k.meets }))
 
-  kept_met : (v : Rational) → IsCompleted (bare r.now) cs → Met (placed r.x v cs) (kept r.x (tidied r.now))
+  kept_met : (v : Rational) → IsCompleted (bare r.now) cs → Met (placed r.x v cs) (kept r.x (tidied_by rule r.now))
   kept_met v k =
-      let m = tidied-all (λ d. MeetsAt k.at_values d.row) r.now (bare_met k.at_values r.now k.meets) in
-      let g = all_append-left (Good r.later) (kept r.x (tidied r.now)) (pairs r.x (lowers r.x (tidied r.now)) (uppers r.x (tidied r.now))) (step-good r.x r.later (tidied r.now) (tidied-all (Good (r.x ∷ r.later)) r.now r.good)) in
-      All-both (Good r.later) (λ d. MeetsAt k.at_values d.row) (λ d. MeetsAt (placed r.x v cs) d.row) (λ d w n. meets_same k.at_values (placed r.x v cs) d.row (All-weaker (λ t. is_in t.0 r.later ≡ true) (λ t. k.at_values t.0 ≡ placed r.x v cs t.0) (λ t e. agrees_on k.at_values r.later cs a k.agrees t.0 e ∙ sym (placed_other r.x v cs t.0 r.later r.fresh e)) d.row.terms w.within) n) (kept r.x (tidied r.now)) g (All-filter _ (λ d. MeetsAt k.at_values d.row) (tidied r.now) m)
+      let m = ruled-all rule (λ d. MeetsAt k.at_values d.row) r.now (bare_met k.at_values r.now k.meets) in
+      let g = all_append-left (Good r.later) (kept r.x (tidied_by rule r.now)) (pairs r.x (lowers r.x (tidied_by rule r.now)) (uppers r.x (tidied_by rule r.now))) (step-good r.x r.later (tidied_by rule r.now) (ruled-all rule (Good (r.x ∷ r.later)) r.now r.good)) in
+      All-both (Good r.later) (λ d. MeetsAt k.at_values d.row) (λ d. MeetsAt (placed r.x v cs) d.row) (λ d w n. meets_same k.at_values (placed r.x v cs) d.row (All-weaker (λ t. is_in t.0 r.later ≡ true) (λ t. k.at_values t.0 ≡ placed r.x v cs t.0) (λ t e. agrees_on k.at_values r.later cs a k.agrees t.0 e ∙ sym (placed_other r.x v cs t.0 r.later r.fresh e)) d.row.terms w.within) n) (kept r.x (tidied_by rule r.now)) g (All-filter _ (λ d. MeetsAt k.at_values d.row) (tidied_by rule r.now) m)
 
   placed_agrees : (v : Rational) → IsCompleted (bare r.now) cs → All (λ (c : ℕ × Rational). placed r.x v cs c.0 ≡ c.1) (with_value r.x v cs)
   placed_agrees v k = All-append (λ (c : ℕ × Rational). placed r.x v cs c.0 ≡ c.1) cs ((r.x, v) ∷ [])
       (All-both (λ (c : ℕ × Rational). is_in c.0 r.later ≡ true) (λ (c : ℕ × Rational). k.at_values c.0 ≡ c.1) (λ (c : ℕ × Rational). placed r.x v cs c.0 ≡ c.1) (λ c e h. placed_other r.x v cs c.0 r.later r.fresh e ∙ sym (agrees_on k.at_values r.later cs a k.agrees c.0 e) ∙ h) cs a.within k.agrees)
       (All-cons (λ (c : ℕ × Rational). placed r.x v cs c.0 ≡ c.1) (r.x, v) [] (placed_own r.x v cs) (All-nil _))
 
-  pub bounds_complete : IsCompleted (bare rows) cs → (v : Rational) → Met (placed r.x v cs) (lowers r.x (tidied r.now)) → Met (placed r.x v cs) (uppers r.x (tidied r.now)) → IsCompleted (bare rows) (with_value r.x v cs)
+  pub bounds_complete : IsCompleted (bare rows) cs → (v : Rational) → Met (placed r.x v cs) (lowers r.x (tidied_by rule r.now)) → Met (placed r.x v cs) (uppers r.x (tidied_by rule r.now)) → IsCompleted (bare rows) (with_value r.x v cs)
   bounds_complete h v l u =
       let k = r.down cs h in
       r.up (with_value r.x v cs) (more_in v) (record {
         at_values = placed r.x v cs;
         agrees = placed_agrees v k;
-        meets = met_bare (placed r.x v cs) r.now (met_tidied r.x (r.x ∷ r.later) (placed r.x v cs) r.now r.clear r.good (by_sign (λ d. MeetsAt (placed r.x v cs) d.row) r.x (tidied r.now) (kept_met v k) l u));
+        meets = met_bare (placed r.x v cs) r.now (met_tidied rule r.x (r.x ∷ r.later) (placed r.x v cs) r.now r.clear r.good (by_sign (λ d. MeetsAt (placed r.x v cs) d.row) r.x (tidied_by rule r.now) (kept_met v k) l u));
       })
 
-  pub complete_bounds : (v : Rational) → IsCompleted (bare rows) (with_value r.x v cs) → Met (placed r.x v cs) (tidied r.now)
+  pub complete_bounds : (v : Rational) → IsCompleted (bare rows) (with_value r.x v cs) → Met (placed r.x v cs) (tidied_by rule r.now)
   complete_bounds v h =
       let k = r.down (with_value r.x v cs) h in
       let p = split_agrees k.at_values r.x v cs k.agrees in
-      let m = tidied-all (λ d. MeetsAt k.at_values d.row) r.now (bare_met k.at_values r.now k.meets) in
-      All-both (Good (r.x ∷ r.later)) (λ d. MeetsAt k.at_values d.row) (λ d. MeetsAt (placed r.x v cs) d.row) (λ d w n. meets_same k.at_values (placed r.x v cs) d.row (All-weaker (λ t. is_in t.0 (r.x ∷ r.later) ≡ true) (λ t. k.at_values t.0 ≡ placed r.x v cs t.0) (λ t e. here k.at_values p.0 p.1 t.0 (eqb t.0 r.x) refl e) d.row.terms w.within) n) (tidied r.now) (tidied-all (Good (r.x ∷ r.later)) r.now r.good) m
+      let m = ruled-all rule (λ d. MeetsAt k.at_values d.row) r.now (bare_met k.at_values r.now k.meets) in
+      All-both (Good (r.x ∷ r.later)) (λ d. MeetsAt k.at_values d.row) (λ d. MeetsAt (placed r.x v cs) d.row) (λ d w n. meets_same k.at_values (placed r.x v cs) d.row (All-weaker (λ t. is_in t.0 (r.x ∷ r.later) ≡ true) (λ t. k.at_values t.0 ≡ placed r.x v cs t.0) (λ t e. here k.at_values p.0 p.1 t.0 (eqb t.0 r.x) refl e) d.row.terms w.within) n) (tidied_by rule r.now) (ruled-all rule (Good (r.x ∷ r.later)) r.now r.good) m
     where
       here : (f : ℕ → Rational) → All (λ (c : ℕ × Rational). f c.0 ≡ c.1) cs → f r.x ≡ v → (u : ℕ) (b : Bool) → eqb u r.x ≡ b → (b || is_in u r.later) ≡ true → f u ≡ cond b v (chosen_value u cs)
       here f q e u true k i = ap f (eqb-true u r.x k) ∙ e
@@ -165,28 +167,17 @@ lows_alike x v cs rows o t = let h = all_both_ways (λ d. is_below_zero (coeffic
 pub ups_alike : (x : ℕ) (v : Rational) (cs : List (ℕ × Rational)) (rows : List Derived) (o : Option End) → IsTightest High x cs (uppers x rows) o → Met (placed x v cs) (uppers x rows) ↔ IsPast High o v
 ups_alike x v cs rows o t = let h = all_both_ways (λ d. is_above_zero (coefficient x d.row.terms) ≡ true) (λ d. is_some (narrow_end x cs d.row) ≡ true) (λ d. MeetsAt (placed x v cs) d.row) (IsPastRow High x cs v) (λ d n e. high_alike x v cs d n e) (uppers x rows) (filter_passes _ rows) t.each in (λ m. (t.values v).1 (h.0 m), λ p. h.1 ((t.values v).0 p))
 
-pub inside_past : (i : Interval) (v : Rational) → IsInside i v ↔ (IsPast Low i.low v × IsPast High i.high v)
-inside_past i v = (λ h. (low i.low (λ e k. h.from_low e k), high i.high (λ e k. h.to_high e k)), λ p. record { from_low = λ e k. subst (λ o. IsPast Low o v) k p.0; to_high = λ e k. subst (λ o. IsPast High o v) k p.1 })
-  where
-    low : (o : Option End) → ((e : End) → o ≡ Some e → IsWithin Low e v) → IsPast Low o v
-    low None h = tt
-    low (Some e) h = h e refl
-
-    high : (o : Option End) → ((e : End) → o ≡ Some e → IsWithin High e v) → IsPast High o v
-    high None h = tt
-    high (Some e) h = h e refl
-
 -- The interval of a step that is reached.
-pub interval_is : (xs : List ℕ) (rows : List Derived) (s : Step) (after : List Step) (r : Reached xs rows s after) (cs : List (ℕ × Rational)) → AreFor r.later cs → IsCompleted (bare rows) cs → (i : Interval) → IsTightest Low s.var cs s.lows i.low → IsTightest High s.var cs s.ups i.high → IsIntervalOf (bare rows) cs r.x i
-interval_is xs rows s after r cs a h i l u = record {
+pub interval_is : (rule : Rule) (xs : List ℕ) (rows : List Derived) (s : Step) (after : List Step) (r : Reached rule xs rows s after) (cs : List (ℕ × Rational)) → AreFor r.later cs → IsCompleted (bare rows) cs → (i : Interval) → IsTightest Low s.var cs s.lows i.low → IsTightest High s.var cs s.ups i.high → IsIntervalOf (bare rows) cs r.x i
+interval_is rule xs rows s after r cs a h i l u = record {
   values = λ v. (
-    λ k. let p = (inside_past i v).0 k in bounds_complete xs rows s after r cs a h v ((lows_alike r.x v cs (tidied r.now) i.low low).1 p.0) ((ups_alike r.x v cs (tidied r.now) i.high high).1 p.1),
-    λ k. let m = complete_bounds xs rows s after r cs a v k in (inside_past i v).1 ((lows_alike r.x v cs (tidied r.now) i.low low).0 (All-filter _ (λ d. MeetsAt (placed r.x v cs) d.row) (tidied r.now) m), (ups_alike r.x v cs (tidied r.now) i.high high).0 (All-filter _ (λ d. MeetsAt (placed r.x v cs) d.row) (tidied r.now) m)),
+    λ k. let p = (inside_past i v).0 k in bounds_complete rule xs rows s after r cs a h v ((lows_alike r.x v cs (tidied_by rule r.now) i.low low).1 p.0) ((ups_alike r.x v cs (tidied_by rule r.now) i.high high).1 p.1),
+    λ k. let m = complete_bounds rule xs rows s after r cs a v k in (inside_past i v).1 ((lows_alike r.x v cs (tidied_by rule r.now) i.low low).0 (All-filter _ (λ d. MeetsAt (placed r.x v cs) d.row) (tidied_by rule r.now) m), (ups_alike r.x v cs (tidied_by rule r.now) i.high high).0 (All-filter _ (λ d. MeetsAt (placed r.x v cs) d.row) (tidied_by rule r.now) m)),
   );
 }
   where
-    low : IsTightest Low r.x cs (lowers r.x (tidied r.now)) i.low
+    low : IsTightest Low r.x cs (lowers r.x (tidied_by rule r.now)) i.low
     low = subst (λ s. IsTightest Low s.var cs s.lows i.low) r.is_step l
 
-    high : IsTightest High r.x cs (uppers r.x (tidied r.now)) i.high
+    high : IsTightest High r.x cs (uppers r.x (tidied_by rule r.now)) i.high
     high = subst (λ s. IsTightest High s.var cs s.ups i.high) r.is_step u

@@ -10,12 +10,13 @@ use Rattle.linear_rows.specs.Merging.{are_narrow}
 use Rattle.linear_rows.proofs.exported.Normal.{add-normal}
 use Rattle.linear_elim.specs.Joins.{Derived, size, lowest, join, join_fits, derived_fits, joined_row, joined_shares, joined_over, share_divisor}
 use Rattle.linear_elim.specs.internal.DerivedRows.{IsDerived}
-use Rattle.linear_elim.specs.Steps.{lowers, uppers, kept, joins, pairs, fits_each, pairs_fit, step_fits, eliminate_one, tidied}
+use Rattle.linear_elim.specs.Steps.{lowers, uppers, kept, joins, pairs, fits_each, pairs_fit, step_fits, eliminate_one}
 use Rattle.linear_elim.proofs.Lowest.{lowest-is}
 use Rattle.linear_elim.proofs.Shapes.{rows_normal, lowest-normal, divided-normal}
 use Rattle.linear_elim.proofs.Shares.{quotient_positive, divides}
 use Rattle.linear_rows.proofs.exported.SameTerms.{and_true}
-use Rattle.linear_elim.proofs.Tidying.{tidied-all}
+use Rattle.linear_elim.specs.Elimination.{Rule, tidied_by}
+use Rattle.linear_elim.proofs.Ruling.{ruled-all}
 
 narrow_out : (n : ℕ) → nat_lt n (2 ^ 62) ≡ true → n < 2 ^ 62
 narrow_out n e = grind (arith, nat_tests)
@@ -65,5 +66,5 @@ unfolding pairs pairs_fit
 pairs-derived x [] us h k e = All-nil _
 pairs-derived x (l ∷ ls) us h k e = let f = and_true (fits_each x l us) (pairs_fit x ls us) e in All-append IsDerived (joins x l us) (pairs x ls us) (joins-derived x l us (All-head IsDerived l ls h) k f.0) (pairs-derived x ls us (All-tail IsDerived l ls h) k f.1)
 
-pub step-derived : (x : ℕ) (rows : List Derived) → All IsDerived rows → true ≡ step_fits x rows → All IsDerived (tidied (eliminate_one x rows))
-step-derived x rows h e = tidied-all IsDerived (eliminate_one x rows) (All-append IsDerived (kept x rows) (pairs x (lowers x rows) (uppers x rows)) (All-filter _ IsDerived rows h) (pairs-derived x (lowers x rows) (uppers x rows) (All-filter _ IsDerived rows h) (All-filter _ IsDerived rows h) (sym e)))
+pub step-derived : (rule : Rule) (x : ℕ) (rows : List Derived) → All IsDerived rows → true ≡ step_fits x rows → All IsDerived (tidied_by rule (eliminate_one x rows))
+step-derived rule x rows h e = ruled-all rule IsDerived (eliminate_one x rows) (All-append IsDerived (kept x rows) (pairs x (lowers x rows) (uppers x rows)) (All-filter _ IsDerived rows h) (pairs-derived x (lowers x rows) (uppers x rows) (All-filter _ IsDerived rows h) (All-filter _ IsDerived rows h) (sym e)))

@@ -1,6 +1,9 @@
 pub mod Lowest
 pub mod Solutions
 pub mod Tidying
+pub mod Ruling
+pub mod LeftRows
+pub mod ShortRuns
 pub mod Shapes
 pub mod Shares
 pub mod Deciding
@@ -22,12 +25,8 @@ pub mod Answering
 pub mod Projecting
 pub mod Reaching
 pub mod EndPlaces
-pub mod Bounded
 pub mod EndRuns
 pub mod Intervals
-pub mod Middles
-pub mod PickLaws
-pub mod Pasts
 pub mod Greedily
 pub mod ChoiceRuns
 pub mod StepRows

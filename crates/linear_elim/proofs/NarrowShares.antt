@@ -9,7 +9,7 @@ use Rattle.linear_rows.specs.Merging.{are_narrow}
 use Rattle.linear_rows.specs.Row.{Row}
 use Rattle.linear_elim.specs.Joins.{Derived, join, join_fits, derived_fits, row_fits}
 use Rattle.linear_elim.specs.Steps.{lowers, uppers, kept, pairs, fits_each, pairs_fit, step_fits, eliminate_one}
-use Rattle.linear_elim.specs.Elimination.{own, start, elimination}
+use Rattle.linear_elim.specs.Elimination.{Rule, own, start, elimination_by}
 use Rattle.linear_elim.specs.Elimination.Outcome.{refuted}
 use Rattle.linear_elim.proofs.Solutions.{pairs-all}
 use Rattle.linear_rows.proofs.exported.SameTerms.{and_true}
@@ -44,5 +44,5 @@ unfolding start
 start-narrow k [] = All-nil _
 start-narrow k (r ∷ rs) = All-cons AreNarrowShares (own k r) (start (suc k) rs) (All-cons (λ (s : ℕ × ℤ). unsigned_abs s.1 < 2 ^ 62) (k, pos 1) [] (omega arith) (All-nil _)) (start-narrow (suc k) rs)
 
-pub refuted-narrow : (order : List ℕ) (rows : List Row) (c : Derived) → elimination order rows ≡ refuted c → AreNarrowShares c
-refuted-narrow order rows c e = (refuted-all AreNarrowShares step-narrow 0 order (start 0 rows) c e (start-narrow 0 rows)).0
+pub refuted-narrow : (rule : Rule) (order : List ℕ) (rows : List Row) (c : Derived) → elimination_by rule order rows ≡ refuted c → AreNarrowShares c
+refuted-narrow rule order rows c e = (refuted-all rule AreNarrowShares step-narrow 0 order (start 0 rows) c e (start-narrow 0 rows)).0

@@ -1,27 +1,24 @@
 -- Values that meet the rows after a step are those that extend to the rows before it.
-use Rattle.std.proofs.Common.{◌≡◌, ℕ, List, [], ◌∷◌, map, refl, ap, ◌∙◌, Bool, true, false, cond, eqb, ◌||◌}
+use Rattle.std.proofs.Common.{◌≡◌, ℕ, List, [], ◌∷◌, refl, ap, ◌∙◌, Bool, true, false, cond, eqb, ◌||◌}
 use Rattle.std.specs.Prelude.{ℤ, None}
 use Rattle.std.specs.List.{All}
 use Rattle.std.proofs.lemmas.List.Elements.{All-weaker, All-map}
 use Rattle.heyvl_num.specs.Rational.{Rational, ratio}
 use Rattle.heyvl_num.proofs.exported.Rationals.{ratio_same}
 use Rattle.linear_rows.specs.Terms.{is_in, IsOver}
-use Rattle.linear_rows.specs.Row.{Row}
 use Rattle.linear_rows.specs.Solutions.{MeetsAt}
 use Rattle.linear_rows.specs.GreedyPoint.{IsCompleted}
 use Rattle.linear_rows.proofs.exported.Between.{All-both}
 use Rattle.linear_rows.proofs.exported.Fractions.{Same, meets_alike, point_of, point_same}
 use Rattle.linear_elim.specs.Joins.{Derived}
-use Rattle.linear_elim.specs.Steps.{eliminate_one, tidied, contradiction}
+use Rattle.linear_elim.specs.Steps.{bare, eliminate_one, contradiction}
+use Rattle.linear_elim.specs.Elimination.{Rule, tidied_by}
 use Rattle.linear_elim.proofs.Solutions.{MeetsIn, Extension, step-sound, step-complete, all_map-out}
 use Rattle.linear_elim.proofs.Shapes.{Good, step-good}
-use Rattle.linear_elim.proofs.Tidying.{tidied-all, tidied-out}
+use Rattle.linear_elim.proofs.Ruling.{ruled-all, ruled-out}
 
 abbrev pub Met : (ℕ → Rational) → List Derived → Type 0
 Met f rows = All (λ d. MeetsAt f d.row) rows
-
-abbrev pub bare : List Derived → List Row
-bare rows = map (λ d. d.row) rows
 
 same_over : (f : ℕ → Rational) (vs : List ℕ) (ts : List (ℕ × ℤ)) → IsOver vs ts → Same f (point_of f vs) ts
 unfolding Same
@@ -43,8 +40,8 @@ in_more v x xs e = go (eqb v x) (is_in v xs) e
 good_more : (x : ℕ) (xs : List ℕ) (rows : List Derived) → All (Good xs) rows → All (Good (x ∷ xs)) rows
 good_more x xs rows h = All-weaker (Good xs) (Good (x ∷ xs)) (λ r g. record { normal = g.normal; within = All-weaker (λ t. is_in t.0 xs ≡ true) (λ t. is_in t.0 (x ∷ xs) ≡ true) (λ t e. in_more t.0 x xs e) r.row.terms g.within }) rows h
 
-pub met_tidied : (x : ℕ) (xs : List ℕ) (f : ℕ → Rational) (rows : List Derived) → contradiction rows ≡ None → All (Good xs) rows → Met f (tidied rows) → Met f rows
-met_tidied x xs f rows e g m = point_met f xs rows g (tidied-out (point_of f xs) rows e (met_point f xs (tidied rows) (tidied-all (Good xs) rows g) m))
+pub met_tidied : (rule : Rule) (x : ℕ) (xs : List ℕ) (f : ℕ → Rational) (rows : List Derived) → contradiction rows ≡ None → All (Good xs) rows → Met f (tidied_by rule rows) → Met f rows
+met_tidied rule x xs f rows e g m = point_met f xs rows g (ruled-out rule (point_of f xs) rows e (met_point f xs (tidied_by rule rows) (ruled-all rule (Good xs) rows g) m))
 
 pub met_after : (x : ℕ) (xs : List ℕ) (f : ℕ → Rational) (rows : List Derived) → All (Good (x ∷ xs)) rows → Met f rows → Met f (eliminate_one x rows)
 met_after x xs f rows g m = point_met f (x ∷ xs) (eliminate_one x rows) (good_more x xs (eliminate_one x rows) (step-good x xs rows g)) (step-sound x (point_of f (x ∷ xs)) rows (met_point f (x ∷ xs) rows g m))
@@ -79,15 +76,15 @@ met_bare f rows m = All-map (MeetsAt f) (λ d. d.row) rows m
 pub bare_met : (f : ℕ → Rational) (rows : List Derived) → All (MeetsAt f) (bare rows) → Met f rows
 bare_met f rows m = all_map-out (MeetsAt f) (λ d. d.row) rows m
 
-pub completed_after : (x : ℕ) (xs : List ℕ) (rows : List Derived) (chosen : List (ℕ × Rational)) → All (Good (x ∷ xs)) rows → IsCompleted (bare rows) chosen → IsCompleted (bare (eliminate_one x (tidied rows))) chosen
-completed_after x xs rows chosen g h = record { at_values = h.at_values; agrees = h.agrees; meets = met_bare h.at_values (eliminate_one x (tidied rows)) (met_after x xs h.at_values (tidied rows) (tidied-all (Good (x ∷ xs)) rows g) (tidied-all (λ d. MeetsAt h.at_values d.row) rows (bare_met h.at_values rows h.meets))) }
+pub completed_after : (rule : Rule) (x : ℕ) (xs : List ℕ) (rows : List Derived) (chosen : List (ℕ × Rational)) → All (Good (x ∷ xs)) rows → IsCompleted (bare rows) chosen → IsCompleted (bare (eliminate_one x (tidied_by rule rows))) chosen
+completed_after rule x xs rows chosen g h = record { at_values = h.at_values; agrees = h.agrees; meets = met_bare h.at_values (eliminate_one x (tidied_by rule rows)) (met_after x xs h.at_values (tidied_by rule rows) (ruled-all rule (Good (x ∷ xs)) rows g) (ruled-all rule (λ d. MeetsAt h.at_values d.row) rows (bare_met h.at_values rows h.meets))) }
 
-pub completed_before : (x : ℕ) (xs : List ℕ) (rows : List Derived) (chosen : List (ℕ × Rational)) → contradiction rows ≡ None → All (Good (x ∷ xs)) rows → Lacks x chosen → IsCompleted (bare (eliminate_one x (tidied rows))) chosen → IsCompleted (bare rows) chosen
-completed_before x xs rows chosen e g l h = found (met_before x xs h.at_values (tidied rows) (tidied-all (Good (x ∷ xs)) rows g) (bare_met h.at_values (eliminate_one x (tidied rows)) h.meets))
+pub completed_before : (rule : Rule) (x : ℕ) (xs : List ℕ) (rows : List Derived) (chosen : List (ℕ × Rational)) → contradiction rows ≡ None → All (Good (x ∷ xs)) rows → Lacks x chosen → IsCompleted (bare (eliminate_one x (tidied_by rule rows))) chosen → IsCompleted (bare rows) chosen
+completed_before rule x xs rows chosen e g l h = found (met_before x xs h.at_values (tidied_by rule rows) (ruled-all rule (Good (x ∷ xs)) rows g) (bare_met h.at_values (eliminate_one x (tidied_by rule rows)) h.meets))
   where
-    found : Extended x h.at_values (tidied rows) → IsCompleted (bare rows) chosen
+    found : Extended x h.at_values (tidied_by rule rows) → IsCompleted (bare rows) chosen
     found k = record {
       at_values = k.values;
       agrees = All-both (λ (c : ℕ × Rational). eqb c.0 x ≡ false) (λ (c : ℕ × Rational). h.at_values c.0 ≡ c.1) (λ (c : ℕ × Rational). k.values c.0 ≡ c.1) (λ c n a. k.agrees c.0 n ∙ a) chosen l h.agrees;
-      meets = met_bare k.values rows (met_tidied x (x ∷ xs) k.values rows e g k.meets);
+      meets = met_bare k.values rows (met_tidied rule x (x ∷ xs) k.values rows e g k.meets);
     }

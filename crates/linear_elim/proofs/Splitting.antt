@@ -12,7 +12,7 @@ use Rattle.linear_elim.specs.Steps.{lowers, uppers, kept}
 use Rattle.linear_elim.specs.internal.Gathering.{found_after, rows_after, found_all, rows_all}
 use Rattle.linear_elim.proofs.Joining.{found-append, rows-append}
 
-filter_yes : (p : Derived → Bool) (xs : List Derived) (r : Derived) → p r ≡ true → filter p (xs ++ r ∷ []) ≡ filter p xs ++ r ∷ []
+pub filter_yes : (p : Derived → Bool) (xs : List Derived) (r : Derived) → p r ≡ true → filter p (xs ++ r ∷ []) ≡ filter p xs ++ r ∷ []
 filter_yes p [] r e = ap (λ b. cond b (r ∷ []) []) e
 filter_yes p (x ∷ xs) r e = go (p x) (filter_yes p xs r e)
   where
@@ -20,7 +20,7 @@ filter_yes p (x ∷ xs) r e = go (p x) (filter_yes p xs r e)
     go true h = ap (λ ys. x ∷ ys) h
     go false h = h
 
-filter_no : (p : Derived → Bool) (xs : List Derived) (r : Derived) → p r ≡ false → filter p (xs ++ r ∷ []) ≡ filter p xs
+pub filter_no : (p : Derived → Bool) (xs : List Derived) (r : Derived) → p r ≡ false → filter p (xs ++ r ∷ []) ≡ filter p xs
 filter_no p [] r e = ap (λ b. cond b (r ∷ []) []) e
 filter_no p (x ∷ xs) r e = go (p x) (filter_no p xs r e)
   where

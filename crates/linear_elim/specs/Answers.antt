@@ -16,14 +16,19 @@ use Rattle.linear_rows.specs.GreedyPoint.{Interval, Greedy, ChoosesFrom, IsGreed
 use Rattle.linear_elim.specs.Joins.{Derived}
 use Rattle.linear_elim.specs.ChoiceNumbers.{IsChoiceTooGreat}
 use Rattle.linear_elim.specs.Elimination as plain
-use Rattle.linear_elim.specs.Elimination.{Step, elimination, multipliers}
+use Rattle.linear_elim.specs.Elimination.{Step, elimination_by, multipliers}
+use Rattle.linear_elim.specs.Elimination.Rule.{keeps, drops}
 use Rattle.goal_answers.specs.declared.causes.Broken.{Broken}
 use Rattle.linear_elim.specs.declared.answers.Elim.{Elim}
 use Rattle.linear_elim.specs.declared.answers.Elim.TheVariants.{NoSolution, Point, Fraction, Rows, Bits}
 
--- The variables in their order, and what the plain elimination of the rows in this order ends with.
+-- The variables in their order, and what the elimination of the rows by a rule ends with in this order.
+abbrev pub eliminated_by : plain.Rule → List Row → List Ty → plain.Outcome
+eliminated_by rule rows vars = elimination_by rule (order_of rows (length vars)) rows
+
+-- What the plain elimination ends with.
 abbrev pub eliminated : List Row → List Ty → plain.Outcome
-eliminated rows vars = elimination (order_of rows (length vars)) rows
+eliminated rows vars = eliminated_by keeps rows vars
 
 -- The state meets the rows.
 abbrev pub MeetsAll : List Val → List Row → Type 0
@@ -56,18 +61,27 @@ pub record IsWide (ms : List (ℕ × ℕ)) (rows : List Row) : Type 0 where
 
 -- A number reaches its bound: one of the elimination, a partial sum of the combination that refutes the rows, or one of the
 -- greedy choice.
-pub data IsTooGreat (rows : List Row) (vars : List Ty) : Type 0 where
-  in_a_step : eliminated rows vars ≡ plain.Outcome.too_great → IsTooGreat rows vars
-  in_a_sum : (c : Derived) → eliminated rows vars ≡ plain.Outcome.refuted c → (IsWide (multipliers c) rows → ⊥) → IsTooGreat rows vars
-  in_a_choice : (steps : List Step) → eliminated rows vars ≡ plain.Outcome.standing steps → IsChoiceTooGreat rows vars steps → IsTooGreat rows vars
+pub data IsTooGreatBy (rule : plain.Rule) (rows : List Row) (vars : List Ty) : Type 0 where
+  in_a_step : eliminated_by rule rows vars ≡ plain.Outcome.too_great → IsTooGreatBy rule rows vars
+  in_a_sum : (c : Derived) → eliminated_by rule rows vars ≡ plain.Outcome.refuted c → (IsWide (multipliers c) rows → ⊥) → IsTooGreatBy rule rows vars
+  in_a_choice : (steps : List Step) → eliminated_by rule rows vars ≡ plain.Outcome.standing steps → IsChoiceTooGreat rows vars steps → IsTooGreatBy rule rows vars
 
--- What an answer says.
+abbrev pub IsTooGreat : List Row → List Ty → Type 0
+IsTooGreat rows vars = IsTooGreatBy keeps rows vars
+
+-- The elimination without dominated rows meets a limit too: too many rows, or a number that is too great.
+pub data IsShortLimited (rows : List Row) (vars : List Ty) : Type 0 where
+  many : (steps count : ℕ) → eliminated_by drops rows vars ≡ plain.Outcome.too_many steps count → IsShortLimited rows vars
+  great : IsTooGreatBy drops rows vars → IsShortLimited rows vars
+
+-- What an answer says. The limits are those of the plain elimination, and come only where the one without dominated rows meets
+-- one too.
 abbrev pub IsAnswer : List Row → List Ty → Elim → Type 0
 IsAnswer rows vars (NoSolution ms) = IsContradiction ms.items rows
 IsAnswer rows vars (Point point) = IsGreedyPoint rows vars point.items × MeetsAll point.items rows × AreNarrow point.items
 IsAnswer rows vars (Fraction b) = IsBreak rows vars b
-IsAnswer rows vars (Rows steps count) = eliminated rows vars ≡ plain.Outcome.too_many steps count
-IsAnswer rows vars Bits = IsTooGreat rows vars
+IsAnswer rows vars (Rows steps count) = (eliminated rows vars ≡ plain.Outcome.too_many steps count) × IsShortLimited rows vars
+IsAnswer rows vars Bits = IsTooGreat rows vars × IsShortLimited rows vars
 
 -- Multipliers come only where no fractions meet the rows, and a point or a break of the choice only where some do. So where
 -- there aren't too many rows and no number is too great, multipliers come exactly where the rows aren't solvable.

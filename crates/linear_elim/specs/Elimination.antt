@@ -4,7 +4,7 @@ use Rattle.std.specs.Prelude.{ℕ, List, [], ◌∷◌, length, map, unsigned_ab
 use Prim.Native.Nat.{suc}
 use Rattle.linear_rows.specs.Row.{Row}
 use Rattle.linear_elim.specs.Joins.{Derived}
-use Rattle.linear_elim.specs.Steps.{lowers, uppers, tidied, contradiction, step_fits, eliminate_one}
+use Rattle.linear_elim.specs.Steps.{lowers, uppers, tidied, undominated, contradiction, step_fits, eliminate_one}
 
 -- The rows of a variable's step that bound it, from below and from above.
 pub record Step : Type 0 where
@@ -17,8 +17,17 @@ pub record Gathered : Type 0 where
   pub found : Option Derived
   pub rows : List Derived
 
-abbrev pub gathered : List Derived → Gathered
-gathered rows = record { found = contradiction rows; rows = tidied rows }
+-- Whether rows that another one dominates are left out once the rows are tidied.
+pub data Rule : Type 0 where
+  keeps : Rule
+  drops : Rule
+
+abbrev pub tidied_by : Rule → List Derived → List Derived
+tidied_by keeps rows = tidied rows
+tidied_by drops rows = undominated (tidied rows)
+
+abbrev pub gathered : Rule → List Derived → Gathered
+gathered rule rows = record { found = contradiction rows; rows = tidied_by rule rows }
 
 -- A contradiction, no row left after all steps, too many rows after some steps, or a number that is too great.
 pub data Outcome : Type 0 where
@@ -46,9 +55,9 @@ step_of x rows = record { var = x; lows = lowers x rows; ups = uppers x rows }
 
 -- After n steps, with these variables to come: a contradiction ends it, then too many tidied rows, then a step whose numbers
 -- don't fit.
-unfoldable pub run : ℕ → List ℕ → Gathered → Outcome
-run n [] g = ended_by g.found (unless_many n g.rows (standing []))
-run n (x ∷ xs) g = ended_by g.found (unless_many n g.rows (cond (step_fits x g.rows) (after_step (step_of x g.rows) (run (suc n) xs (gathered (eliminate_one x g.rows)))) too_great))
+unfoldable pub run : Rule → ℕ → List ℕ → Gathered → Outcome
+run rule n [] g = ended_by g.found (unless_many n g.rows (standing []))
+run rule n (x ∷ xs) g = ended_by g.found (unless_many n g.rows (cond (step_fits x g.rows) (after_step (step_of x g.rows) (run rule (suc n) xs (gathered rule (eliminate_one x g.rows)))) too_great))
 
 -- A first row is its own share.
 abbrev pub own : ℕ → Row → Derived
@@ -58,8 +67,12 @@ unfoldable pub start : ℕ → List Row → List Derived
 start k [] = []
 start k (r ∷ rs) = own k r ∷ start (suc k) rs
 
+abbrev pub elimination_by : Rule → List ℕ → List Row → Outcome
+elimination_by rule order rows = run rule 0 order (gathered rule (start 0 rows))
+
+-- The plain elimination leaves out no dominated rows.
 abbrev pub elimination : List ℕ → List Row → Outcome
-elimination order rows = run 0 order (gathered (start 0 rows))
+elimination order rows = elimination_by keeps order rows
 
 -- The multipliers of a derived row.
 abbrev pub multipliers : Derived → List (ℕ × ℕ)

@@ -5,6 +5,7 @@ use Rattle.std.specs.Int.Signed.{lt_z}
 use Rattle.heyvl_num.specs.Value.{is_zero_num}
 use Rattle.linear_rows.specs.Terms.{coefficient}
 use Rattle.linear_rows.specs.Row.{Row}
+use Rattle.linear_dominance.specs.Dominated.{is_dominated}
 use Rattle.linear_elim.specs.Joins.{Derived, is_below_zero, is_above_zero, join, join_fits}
 use Rattle.linear_rows.specs.SameTerms.{same_number, same_terms}
 
@@ -62,6 +63,13 @@ has_terms (t ∷ ts) = true
 -- The rows with variables, of those with equal coefficients the strongest.
 abbrev pub tidied : List Derived → List Derived
 tidied rows = strongest [] (filter (λ r. has_terms r.row.terms) rows)
+
+abbrev pub bare : List Derived → List Row
+bare rows = map (λ d. d.row) rows
+
+-- The rows that no other one dominates, in order.
+abbrev pub undominated : List Derived → List Derived
+undominated rows = filter (λ d. not (is_dominated (bare rows) d.row)) rows
 
 -- A row without variables that nothing meets: its constant is above 0, or is 0 and the row is strict.
 abbrev pub is_contradiction : Row → Bool

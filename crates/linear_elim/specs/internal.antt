@@ -1,3 +1,5 @@
+pub mod Choices
+pub mod Limits
 pub mod ChoiceSteps
 pub mod Picks
 pub mod Turns

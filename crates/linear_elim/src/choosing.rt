@@ -6,16 +6,15 @@ ghost use Rattle.linear_rows.specs.Row.{Row};
 ghost use Rattle.linear_rows.specs.GreedyPoint.{value_for, IsStateOf};
 ghost use Rattle.heylo_formula.specs.Typing.{types_in};
 ghost use Rattle.linear_elim.specs.internal.Picks.{IsNextPick, IsDerivedStep};
-ghost use Rattle.linear_elim.specs.Answers.{IsAnswer};
+ghost use Rattle.linear_elim.specs.internal.Choices.{IsChosen};
 ghost use Rattle.linear_elim.specs.internal.Eliminations.{IsEliminated};
 
-use crate::answers::Elim;
-use crate::ends::{End, Side, tightest, value_of};
-use crate::picking::{Pick, taken_between};
+use crate::ends::{tightest, value_of};
 use crate::steps::Step;
 use goal_answers::Broken;
 use heylo_formula::{Ty, Val};
 use heyvl_num::Frac;
+use interval_choice::{End, Pick, Side, taken_between};
 use std::alloc::{AllocError, Global};
 
 /// The type of a variable, Bool beyond the list.
@@ -103,12 +102,22 @@ fn state(alloc: Global, vars: &[Ty], chosen: &[(u32, Frac)]) -> Result<Vec<Val>,
     Ok(out)
 }
 
-/// Chooses a value for each variable, from the last step on: the greedy point of the rows that stand after these steps; or the
-/// variable at which the choice breaks; or a number that is too great.
-pub fn greedy(alloc: Global, steps: &[Step], vars: &[Ty]) -> Result<Elim, AllocError>
+/// What a greedy choice comes to.
+#[derive(Drop)]
+pub enum Choice {
+    /// The greedy point.
+    Point(Vec<Val>),
+    /// The variable at which the choice breaks.
+    Break(Broken),
+    /// A number that is too great.
+    Great,
+}
+
+/// Chooses a value for each variable, from the last step on, where the rows stand after these steps.
+pub fn greedy(alloc: Global, steps: &[Step], vars: &[Ty]) -> Result<Choice, AllocError>
     requires derived { All IsDerivedStep steps.now }
     requires few_variables { length vars.now < 2 ^ 32 }
-    ensures { IfOk result (λ e. (rows : List Row) → IsEliminated rows vars.now steps.now → IsAnswer rows vars.now e) }
+    ensures { IfOk result (λ e. (rows : List Row) → IsEliminated rows vars.now steps.now → IsChosen rows vars.now steps.now e) }
 {
     let mut chosen: Vec<(u32, Frac)> = Vec::new(alloc);
     let mut rest = steps;
@@ -117,11 +126,11 @@ pub fn greedy(alloc: Global, steps: &[Step], vars: &[Ty]) -> Result<Elim, AllocE
             Pick::Value(value) => chosen.push((step.var, value))?,
             Pick::Breaks(low, high) => {
                 let found = broken(alloc, step.var, &chosen, low, high)?;
-                return Ok(Elim::Fraction(found));
+                return Ok(Choice::Break(found));
             }
-            Pick::Great => return Ok(Elim::Bits),
+            Pick::Great => return Ok(Choice::Great),
         }
         rest = before;
     }
-    Ok(Elim::Point(state(alloc, vars, &chosen)?))
+    Ok(Choice::Point(state(alloc, vars, &chosen)?))
 }

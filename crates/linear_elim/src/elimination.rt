@@ -3,6 +3,7 @@ ghost use Rattle.std.specs.Prelude.{◌≡◌, ◌<◌, ◌+◌, ◌^◌, ℕ, l
 ghost use Rattle.std.specs.List.{All};
 ghost use Rattle.linear_elim.specs.internal.DerivedRows.{IsDerived};
 ghost use Rattle.linear_elim.specs.Elimination.{run};
+ghost use Rattle.linear_elim.specs.Elimination.Rule.{keeps};
 ghost use Rattle.linear_elim.specs.Elimination.Outcome.{refuted, too_many};
 ghost use Rattle.linear_elim.specs.Joins.{Derived as DerivedValue};
 ghost use Rattle.linear_elim.specs.internal.Gathering.{after_all};
@@ -44,7 +45,7 @@ pub fn eliminate_from(
 ) -> Result<Outcome, AllocError>
     requires derived { All IsDerived now.rows.items }
     requires few { done + length order.now < 2 ^ 63 }
-    ensures { IfOk result (λ o. outcome_of o ≡ after_all steps.items (run done order.now (gathering_of now))) }
+    ensures { IfOk result (λ o. outcome_of o ≡ after_all steps.items (run keeps done order.now (gathering_of now))) }
 {
     let Gathering {
         found,
@@ -62,7 +63,7 @@ pub fn eliminate_from(
     let Some((&x, rest)) = order.split_first() else {
         return Ok(Outcome::Standing(steps));
     };
-    match eliminate_one(alloc, rows, x)? {
+    match eliminate_one(alloc, rows, x, true)? {
         After::Great => Ok(Outcome::TooGreat),
         After::Many(found, count) => Ok(ended(found, done + 1, count)),
         After::Few(step, next) => {

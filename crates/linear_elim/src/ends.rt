@@ -6,41 +6,17 @@ ghost use Rattle.heyvl_num.specs.Rounding.{whole};
 ghost use Rattle.heyvl_num.specs.Exact.{exact_product, exact_quotient};
 ghost use Rattle.linear_rows.specs.Numbers.{fits as number_fits};
 ghost use Rattle.linear_rows.specs.Row.{IsRow};
-ghost use Rattle.linear_rows.specs.GreedyPoint.{End as EndValue, chosen_value};
+ghost use Rattle.linear_rows.specs.GreedyPoint.{chosen_value};
 ghost use Rattle.linear_elim.specs.internal.DerivedRows.{IsDerived};
 ghost use Rattle.linear_elim.specs.ChoiceNumbers.{added, sum_without as exact_sum_without, end_of, end_fits};
-ghost use Rattle.linear_elim.specs.internal.ChoiceSteps.{IsWithin, narrow_end, IsTightest};
+ghost use Rattle.interval_choice.specs.Sides.{IsWithin};
+ghost use Rattle.linear_elim.specs.internal.ChoiceSteps.{narrow_end, IsTightest};
 
-use crate::fractions::{fits, order, whole_of};
 use crate::joins::Derived;
 use heyvl_num::Frac;
+use interval_choice::{End, Side, fits, order, whole_of};
 use linear_rows::{Row, TooGreat, coefficient_of};
 use std::cmp::Ordering;
-use std::marker::Model;
-
-/// The lower or the upper end of an interval.
-#[derive(Clone, Copy)]
-pub(crate) enum Side {
-    Low,
-    High,
-}
-
-/// An end of an interval, and whether it belongs to it.
-#[derive(Clone, Copy)]
-pub(crate) struct End {
-    pub(crate) place: Frac,
-    pub(crate) inside: bool,
-}
-
-impl Model for End {
-    ghost Value = { EndValue };
-
-    ghost view = { λ e. record { place = e.place; inside = e.inside } };
-
-    ghost inverse = { λ e. record { place = e.place; inside = e.inside } };
-
-    ghost inverse_ok = { λ a h i. a };
-}
 
 /// The value chosen for a variable, 0 where none was.
 pub(crate) fn value_of(chosen: &[(u32, Frac)], x: u32) -> Frac

@@ -33,7 +33,7 @@ fn own_row(alloc: Global, index: u32, row: &Row) -> Result<Derived, AllocError>
 }
 
 /// The first rows, gathered.
-fn first_rows(alloc: Global, rows: &[Row]) -> Result<Gathering, AllocError>
+pub(crate) fn first_rows(alloc: Global, rows: &[Row]) -> Result<Gathering, AllocError>
     requires { length rows.now < 2 ^ 32 }
     ensures found { IfOk result (λ g. g.found ≡ contradiction (start 0 rows.now)) }
     ensures rows { IfOk result (λ g. g.rows.items ≡ tidied (start 0 rows.now)) }

@@ -1,9 +1,9 @@
 //! One step of elimination.
-ghost use Rattle.std.specs.Prelude.{◌≡◌, [], true, IfOk};
+ghost use Rattle.std.specs.Prelude.{◌≡◌, [], true, false, IfOk};
 ghost use Rattle.std.specs.List.{All};
 ghost use Rattle.linear_rows.specs.Terms.{coefficient};
 ghost use Rattle.linear_elim.specs.Joins.{is_below_zero, is_above_zero};
-ghost use Rattle.linear_elim.specs.internal.Afters.{IsAfter};
+ghost use Rattle.linear_elim.specs.internal.Afters.{IsAfter, AreKept};
 ghost use Rattle.linear_elim.specs.internal.DerivedRows.{IsDerived};
 ghost use Rattle.linear_elim.specs.Steps.{lowers, uppers, kept, fits_each, pairs_fit, joins, pairs};
 ghost use Rattle.linear_elim.specs.internal.Fingerprints.{ArePlaces};
@@ -141,10 +141,16 @@ fn have_many(lows: usize, ups: usize) -> bool {
     lows.saturating_mul(ups) > 32768
 }
 
-/// One step. Where there are many joins they are counted, and kept only if there are few different ones.
-pub fn eliminate_one(alloc: Global, rows: Vec<Derived>, x: u32) -> Result<After, AllocError>
+/// One step. Where there are many joins they may be counted first, and are kept only if there are few different ones.
+pub fn eliminate_one(
+    alloc: Global,
+    rows: Vec<Derived>,
+    x: u32,
+    counts: bool,
+) -> Result<After, AllocError>
     requires { All IsDerived rows.items }
-    ensures { IfOk result (λ o. IsAfter x rows.items o) }
+    ensures after { IfOk result (λ o. IsAfter x rows.items o) }
+    ensures kept { IfOk result (λ o. counts ≡ false → AreKept o) }
 {
     let Split {
         lows,
@@ -152,7 +158,7 @@ pub fn eliminate_one(alloc: Global, rows: Vec<Derived>, x: u32) -> Result<After,
         mut rest,
     } = split_by(alloc, rows, x)?;
     let step = Step { var: x, lows, ups };
-    if rest.found.is_none() && have_many(step.lows.len(), step.ups.len()) {
+    if counts && rest.found.is_none() && have_many(step.lows.len(), step.ups.len()) {
         match count_rows(alloc, &step, &rest.rows)? {
             Counted::Great => return Ok(After::Great),
             Counted::Rows(found, count) => {

@@ -23,7 +23,7 @@ use Rattle.linear_form.specs.declared.asking.Ask as K
 use Rattle.linear_form.specs.declared.paths.Atom as A
 use Rattle.linear_values.specs.declared.lin.Lin as L
 use Rattle.linear_rows.proofs.exported.Combinations.{contradiction_unsolvable}
-use Rattle.linear_elim.specs.Answers.{MeetsAll, IsTooGreat, eliminated}
+use Rattle.linear_elim.specs.Answers.{MeetsAll, IsTooGreat, IsShortLimited, eliminated}
 use Rattle.linear_elim.specs.Elimination.Outcome.{too_many}
 use Rattle.goal_answers.specs.declared.causes.Broken.{Broken}
 use Rattle.goal_answers.specs.declared.causes.Cause.TheVariants.{Bits, Rows}
@@ -42,11 +42,11 @@ looks : (g : Goal) (ps : List Taken) (denied : Bool) (rows : List Row) (cells : 
 looks g ps false rows cells e r m = Eliminates.of_front cells r e
 looks g ps true rows cells e r m = Eliminates.of_cell cells r m.0 m.1.0 m.1.1 e
 
-pub great_rows : (g : Goal) (ps : List Taken) (denied : Bool) (rows : List Row) → rows_of g ps denied ≡ Some rows → IsTooGreat rows g.types → EndsWalk g ps denied Bits
-great_rows g ps denied rows e h cells r m linear = (linear, IsLarge.in_elimination ps rows (looks g ps denied rows cells e r m) h)
+pub great_rows : (g : Goal) (ps : List Taken) (denied : Bool) (rows : List Row) → rows_of g ps denied ≡ Some rows → IsTooGreat rows g.types × IsShortLimited rows g.types → EndsWalk g ps denied Bits
+great_rows g ps denied rows e h cells r m linear = (linear, IsLarge.in_elimination ps rows (looks g ps denied rows cells e r m) h.0 h.1)
 
-pub many_rows : (g : Goal) (ps : List Taken) (denied : Bool) (rows : List Row) (steps count : ℕ) → rows_of g ps denied ≡ Some rows → eliminated rows g.types ≡ too_many steps count → EndsWalk g ps denied (Rows steps count)
-many_rows g ps denied rows steps count e h cells r m linear = (linear, record { path = ps; rows = rows; eliminates = looks g ps denied rows cells e r m; too_many_rows = h })
+pub many_rows : (g : Goal) (ps : List Taken) (denied : Bool) (rows : List Row) (steps count : ℕ) → rows_of g ps denied ≡ Some rows → (eliminated rows g.types ≡ too_many steps count) × IsShortLimited rows g.types → EndsWalk g ps denied (Rows steps count)
+many_rows g ps denied rows steps count e h cells r m linear = (linear, record { path = ps; rows = rows; eliminates = looks g ps denied rows cells e r m; too_many_rows = h.0; short = h.1 })
 
 pub no_rows : (g : Goal) (ps : List Taken) (denied : Bool) → rows_of g ps denied ≡ None → EndsWalk g ps denied Bits
 no_rows g ps false e cells r m linear = (linear, IsLarge.in_rows ps cells r e)

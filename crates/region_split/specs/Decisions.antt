@@ -17,7 +17,7 @@ use Rattle.linear_rows.specs.Row.{Row}
 use Rattle.linear_form.specs.Cells.{IsDropped, IsKept, IsCell, IsFalseCell}
 use Rattle.linear_rows.specs.GreedyPoint.{Interval, Greedy, ChoosesFrom, IsGreedyPoint}
 use Rattle.linear_elim.specs.Elimination.Outcome.{too_many}
-use Rattle.linear_elim.specs.Answers.{eliminated, IsBreak, IsTooGreat}
+use Rattle.linear_elim.specs.Answers.{eliminated, IsBreak, IsTooGreat, IsShortLimited}
 use Rattle.goal_answers.specs.declared.causes.Broken.{Broken}
 use Rattle.goal_answers.specs.declared.causes.Cause.{Cause}
 use Rattle.goal_answers.specs.declared.causes.Cause.TheVariants.{Depth, Nodes, Nonlinear, Cells, Rows, Bits, Fraction}
@@ -76,21 +76,24 @@ pub data Eliminates (g : Goal) (ps : List Taken) (rows : List Row) : Type 0 wher
   of_front : (cells : List (List Taken)) → IsReached g ps cells → rows_of g ps false ≡ Some rows → Eliminates g ps rows
   of_cell : (cells : List (List Taken)) → IsReached g ps cells → length cells < 4096 → IsCell g ps → (IsPlainAt g ps → ⊥) → rows_of g ps true ≡ Some rows → Eliminates g ps rows
 
--- The walk ends where it reaches rows that are too many after some steps.
+-- The walk ends where it reaches rows that are too many after some steps, also where dominated rows are left out, unless a number is
+-- too great then.
 pub record HasManyRows (g : Goal) (steps : ℕ) (count : ℕ) : Type 0 where
   pub path : List Taken
   pub rows : List Row
   pub eliminates : Eliminates g path rows
   pub too_many_rows : eliminated rows g.types ≡ too_many steps count
+  pub short : IsShortLimited rows g.types
 
 -- The walk ends where it reaches a number that is too great: a value of a front that is kept; a row of a front; the row of the
--- denied goal at a dropped front, or at one of the first 4,096 cells; or a number of the rows that it eliminates.
+-- denied goal at a dropped front, or at one of the first 4,096 cells; or a number of the rows that it eliminates, where the
+-- elimination without dominated rows meets a limit too.
 pub data IsLarge (g : Goal) : Type 0 where
   in_values : (ps : List Taken) (cells : List (List Taken)) → IsReached g ps cells → IsKept g ps → end_at g ps ≡ bits → IsLarge g
   in_rows : (ps : List Taken) (cells : List (List Taken)) → IsReached g ps cells → rows_of g ps false ≡ None → IsLarge g
   in_denied_goal : (ps : List Taken) (cells : List (List Taken)) → IsReached g ps cells → IsDropped g ps → rows_of g ps true ≡ None → IsLarge g
   in_cell : (ps : List Taken) (cells : List (List Taken)) → IsReached g ps cells → length cells < 4096 → IsCell g ps → rows_of g ps true ≡ None → IsLarge g
-  in_elimination : (ps : List Taken) (rows : List Row) → Eliminates g ps rows → IsTooGreat rows g.types → IsLarge g
+  in_elimination : (ps : List Taken) (rows : List Row) → Eliminates g ps rows → IsTooGreat rows g.types → IsShortLimited rows g.types → IsLarge g
 
 -- The first false cell among these whose greedy choice doesn't break gives the point.
 pub record IsFirstPoint (g : Goal) (cells : List (List Taken)) (point : List Val) : Type 0 where

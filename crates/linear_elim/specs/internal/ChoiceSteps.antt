@@ -4,20 +4,11 @@ use Rattle.std.specs.List.{All}
 use Rattle.heyvl_num.specs.Rational.{Rational}
 use Rattle.linear_rows.specs.Numbers.{fits}
 use Rattle.linear_rows.specs.Row.{Row}
-use Rattle.linear_rows.specs.GreedyPoint.{End, IsUpFrom, IsUpTo}
+use Rattle.linear_rows.specs.GreedyPoint.{End}
 use Rattle.linear_elim.specs.Joins.{Derived}
 use Rattle.linear_elim.specs.ChoiceNumbers.{end_of}
-use Rattle.linear_elim.specs.declared.ends.Side.{Side}
-use Rattle.linear_elim.specs.declared.ends.Side.TheVariants.{Low, High}
-
--- The value keeps to an end of this side.
-abbrev pub IsWithin : Side → End → Rational → Type 0
-IsWithin Low e v = IsUpFrom e v
-IsWithin High e v = IsUpTo e v
-
-abbrev pub IsPast : Side → Option End → Rational → Type 0
-IsPast side None v = Unit {0}
-IsPast side (Some e) v = IsWithin side e v
+use Rattle.interval_choice.specs.declared.sides.Side.{Side}
+use Rattle.interval_choice.specs.Sides.{IsWithin, IsPast}
 
 abbrev pub bounded : Bool → Option Rational → Option End
 bounded strict None = None

@@ -1,9 +1,12 @@
 -- The outcomes that the code's stand for.
-use Rattle.std.specs.Prelude.{List}
+use Rattle.std.specs.Prelude.{◌≡◌, List}
 use Rattle.linear_rows.specs.Row.{Row}
 use Rattle.linear_rows.specs.Solutions.{IsSolvable}
+use Rattle.linear_elim.specs.Steps.{undominated}
 use Rattle.linear_elim.specs.Elimination as plain
 use Rattle.linear_elim.specs.declared.gathering.Gathering.{Gathering}
+use Rattle.linear_elim.specs.declared.short_runs.Short as Short
+use Rattle.linear_elim.specs.declared.short_runs.Short.{Short}
 use Rattle.linear_elim.specs.declared.elimination.Outcome.{Outcome}
 use Rattle.linear_elim.specs.declared.elimination.Outcome.TheVariants.{Refuted, Standing, TooMany, TooGreat}
 
@@ -22,3 +25,20 @@ Decided rows (Refuted c) = IsSolvable rows → ⊥
 Decided rows (Standing ss) = IsSolvable rows
 Decided rows (TooMany n c) = Unit {0}
 Decided rows TooGreat = Unit {0}
+
+-- Too many rows, or a number that is too great.
+abbrev pub IsLimited : plain.Outcome → Type 0
+IsLimited (plain.Outcome.refuted c) = ⊥
+IsLimited (plain.Outcome.standing ss) = ⊥
+IsLimited (plain.Outcome.too_many n c) = Unit {0}
+IsLimited plain.Outcome.too_great = Unit {0}
+
+-- Gathered rows without the dominated ones.
+abbrev pub short_gathering : Gathering → plain.Gathered
+short_gathering g = record { found = g.found; rows = undominated g.rows.items }
+
+-- What a short elimination of the code says of the outcome.
+abbrev pub IsShort : Short → plain.Outcome → Type 0
+IsShort (Short.TheVariants.Refuted c) o = plain.Outcome.refuted c ≡ o
+IsShort (Short.TheVariants.Standing ss) o = plain.Outcome.standing ss.items ≡ o
+IsShort Short.TheVariants.Limited o = IsLimited o

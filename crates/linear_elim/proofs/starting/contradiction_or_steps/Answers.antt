@@ -1,12 +1,13 @@
 use Rattle.std.proofs.Common.{sym, subst, ◌∙◌}
 use Rattle.std.specs.List.{All}
 use Rattle.linear_elim.specs.internal.DerivedRows.{IsDerived}
+use Rattle.linear_elim.specs.Elimination.Rule.{keeps}
 use Rattle.linear_elim.proofs.Numbers.{ok_map}
 use Rattle.linear_elim.proofs.FirstRows.{first-derived, decided, started}
 use Rattle.linear_elim.proofs.starting.contradiction_or_steps.Goals as goal
 
 pub eliminate_from-requires-clause-derived : goal.eliminate_from-requires-clause-derived
-eliminate_from-requires-clause-derived c = subst (All IsDerived) (sym c.in_ok-start.ensures.rows) (first-derived c.args.rows.now c.requires.rows)
+eliminate_from-requires-clause-derived c = subst (All IsDerived) (sym c.in_ok-start.ensures.rows) (first-derived keeps c.args.rows.now c.requires.rows)
 
 pub returns-clause-plain : goal.returns-clause-plain
 returns-clause-plain c = ok_map c.eliminate_from.result _ _ (λ o h. h ∙ started c.args.order.now c.args.rows.now _ _ _ c.new.ensures.items c.in_ok-start.ensures.found c.in_ok-start.ensures.rows) c.eliminate_from.ensures

@@ -14,8 +14,8 @@ count_rows-requires-clause-split c = split_is c.args.x c.args.rows.items _ _ c.i
 pub count_rows-requires-clause-different : goal.count_rows-requires-clause-different
 count_rows-requires-clause-different c = tidy_differ (kept c.args.x c.args.rows.items) _ (c.deref.ensures.value ∙ c.in_ok-lows.ensures.rest)
 
-pub returns-then-count-gt4096 : goal.returns-then-count-gt4096
-returns-then-count-gt4096 c =
+pub returns-then-count-gt4096-clause-after : goal.returns-then-count-gt4096-clause-after
+returns-then-count-gt4096-clause-after c =
     let h = rw c.in-Rows.is at c.in_ok-count_rows.ensures in
     step_counted c.args.x c.args.rows.items _ _ _ _ _ _ _ c.in_ok-lows.ensures.lows c.in_ok-lows.ensures.ups c.in_ok-lows.ensures.found (c.deref.ensures.value ∙ c.in_ok-lows.ensures.rest) c.is_none.ensures c.if-is_none.true h c.if-count-gt4096.true
 
@@ -39,5 +39,5 @@ join_all-requires-clause-upper c =
     let s = split_is c.args.x c.args.rows.items _ _ c.in_ok-lows.ensures.lows c.in_ok-lows.ensures.ups c.requires in
     subst (All (λ r. is_above_zero (coefficient c.args.x r.row.terms) ≡ true)) (sym c.deref-3.ensures.value) s.upper
 
-pub returns-then-branch : goal.returns-then-branch
-returns-then-branch c = step_kept c.args.x c.args.rows.items _ _ _ _ _ _ _ _ _ (c.deref-2.ensures.value ∙ c.in_ok-lows.ensures.lows) (c.deref-3.ensures.value ∙ c.in_ok-lows.ensures.ups) c.in_ok-lows.ensures.lows c.in_ok-lows.ensures.ups c.in_ok-lows.ensures.found c.in_ok-lows.ensures.rest c.in_ok-join_all.ensures.fits c.if-branch.true (c.in_ok-join_all.ensures.found c.if-branch.true) (c.in_ok-join_all.ensures.rows c.if-branch.true)
+pub returns-then-branch-clause-after : goal.returns-then-branch-clause-after
+returns-then-branch-clause-after c = step_kept c.args.x c.args.rows.items _ _ _ _ _ _ _ _ _ (c.deref-2.ensures.value ∙ c.in_ok-lows.ensures.lows) (c.deref-3.ensures.value ∙ c.in_ok-lows.ensures.ups) c.in_ok-lows.ensures.lows c.in_ok-lows.ensures.ups c.in_ok-lows.ensures.found c.in_ok-lows.ensures.rest c.in_ok-join_all.ensures.fits c.if-branch.true (c.in_ok-join_all.ensures.found c.if-branch.true) (c.in_ok-join_all.ensures.rows c.if-branch.true)

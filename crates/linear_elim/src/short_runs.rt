@@ -1,0 +1,71 @@
+//! The elimination in which dominated rows are left out.
+ghost use Rattle.std.specs.Prelude.{◌≡◌, ◌<◌, ◌^◌, ℕ, length, IfOk};
+ghost use Rattle.std.specs.List.{All};
+ghost use Rattle.linear_rows.specs.Row.{IsRow};
+ghost use Rattle.linear_elim.specs.Steps.{undominated};
+ghost use Rattle.linear_elim.specs.Elimination.{run, elimination_by};
+ghost use Rattle.linear_elim.specs.Elimination.Rule.{drops};
+ghost use Rattle.linear_elim.specs.internal.DerivedRows.{IsDerived};
+ghost use Rattle.linear_elim.specs.internal.Gathering.{after_all};
+ghost use Rattle.linear_elim.specs.internal.Outcomes.{short_gathering, IsShort};
+
+use crate::gathering::Gathering;
+use crate::joins::Derived;
+use crate::shortening::without_dominated;
+use crate::starting::first_rows;
+use crate::steps::{After, Step, eliminate_one};
+use linear_rows::Row;
+use std::alloc::{AllocError, Global};
+
+/// How an elimination without dominated rows ends: with a contradiction; with no row left, after these steps; or at a limit.
+#[derive(Drop)]
+pub enum Short {
+    Refuted(Derived),
+    Standing(Vec<Step>),
+    Limited,
+}
+
+/// Eliminates the variables in order, after these steps. Dominated rows are left out before each step.
+fn shorten_from(
+    alloc: Global,
+    order: &[u32],
+    mut steps: Vec<Step>,
+    now: Gathering,
+) -> Result<Short, AllocError>
+    requires { All IsDerived now.rows.items }
+    ensures { IfOk result (λ o. (n : ℕ) → IsShort o (after_all steps.items (run drops n order.now (short_gathering now)))) }
+{
+    let Gathering {
+        found,
+        rows,
+        places,
+    } = now;
+    drop(places);
+    if let Some(contradiction) = found {
+        return Ok(Short::Refuted(contradiction));
+    }
+    let Some(rows) = without_dominated(alloc, rows)? else {
+        return Ok(Short::Limited);
+    };
+    let Some((&x, rest)) = order.split_first() else {
+        return Ok(Short::Standing(steps));
+    };
+    match eliminate_one(alloc, rows, x, false)? {
+        After::Great => Ok(Short::Limited),
+        After::Many(_, _) => Ok(Short::Limited),
+        After::Few(step, next) => {
+            steps.push(step)?;
+            shorten_from(alloc, rest, steps, next)
+        }
+    }
+}
+
+/// Eliminates the variables of some rows in the given order, without dominated rows.
+pub fn short_steps(alloc: Global, rows: &[Row], order: &[u32]) -> Result<Short, AllocError>
+    requires rows { All IsRow rows.now }
+    requires few { length rows.now < 2 ^ 32 }
+    ensures { IfOk result (λ o. IsShort o (elimination_by drops order.now rows.now)) }
+{
+    let start = first_rows(alloc, rows)?;
+    shorten_from(alloc, order, Vec::new(alloc), start)
+}
