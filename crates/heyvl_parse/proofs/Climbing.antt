@@ -1,6 +1,6 @@
 -- Climbing from an operand through the ranks.
-use Rattle.heyvl_parse.specs.internal.Reading.{Bad, Full, Got, Out, Read, Reader, climbed, full, more, next_level, operand, operator_at, operator_of, operator_within, placed, ranked, reading, repeats, within, ◌>>=◌}
-use Rattle.heyvl_parse.specs.internal.Results.{Fails, Gives}
+use Rattle.heyvl_parse.specs.readers.Reading.{Bad, Full, Got, Out, Read, Reader, climbed, full, more, next_level, operand, operator_at, operator_of, operator_within, placed, ranked, reading, repeats, within, ◌>>=◌}
+use Rattle.heyvl_parse.specs.readers.Results.{Fails, Gives}
 use Rattle.heyvl_parse.specs.declared.stops.PartStop.TheVariants.{Fault, Memory}
 use Rattle.heyvl_parse.specs.declared.stops.PartStop.{PartStop}
 use Rattle.heyvl_syntax.specs.Expressions.{Expression}

@@ -1,7 +1,7 @@
 -- The loop over items, for every kind of item.
-use Rattle.heyvl_parse.specs.internal.Combinators.{added, cons, each, starts, with_front}
-use Rattle.heyvl_parse.specs.internal.Reading.{Bad, Got, Out, Read}
-use Rattle.heyvl_parse.specs.internal.Results.{Fails}
+use Rattle.heyvl_parse.specs.readers.Combinators.{added, cons, each, starts, with_front}
+use Rattle.heyvl_parse.specs.readers.Reading.{Bad, Got, Out, Read}
+use Rattle.heyvl_parse.specs.readers.Results.{Fails}
 use Rattle.heyvl_parse.specs.declared.stops.PartStop.TheVariants.{Fault, Memory}
 use Rattle.heyvl_parse.specs.declared.stops.PartStop.{PartStop}
 use Rattle.heyvl_syntax.specs.declared.tokens.Token.{Token}

@@ -2,14 +2,11 @@
 use Rattle.heyvl_parse.proofs.Lawful.{Laws, each_laws}
 use Rattle.heyvl_parse.proofs.ProcedureLaws.{on_procedure, procedure_laws}
 use Rattle.heyvl_parse.proofs.WholeLaws.{ended_laws, every_kind}
-use Rattle.heyvl_parse.specs.internal.Combinators.{either, no_kind, starts}
+use Rattle.heyvl_parse.specs.readers.Combinators.{either, no_kind, starts}
 use Rattle.heyvl_parse.specs.internal.FileReading.{begins, file, procs}
-use Rattle.heyvl_parse.specs.internal.Reading.{Bad, Got, Read}
-use Rattle.heyvl_parse.specs.internal.Results.{Fails}
-use Rattle.heyvl_parse.specs.declared.stops.PartStop.TheVariants.{Fault, Memory}
-use Rattle.heyvl_parse.specs.declared.stops.PartStop.{PartStop}
+use Rattle.heyvl_parse.specs.readers.Reading.{Read}
 use Rattle.heyvl_syntax.specs.Grammar.{IsBlock, IsFile, IsNote, IsProc, proc_key}
-use Rattle.heyvl_syntax.specs.Procedures.{Procedure, procedures}
+use Rattle.heyvl_syntax.specs.Procedures.{Procedure}
 use Rattle.heyvl_syntax.specs.Productions.{IsKey, IsOptional, ◌then◌}
 use Rattle.heyvl_syntax.specs.Statements.{Block}
 use Rattle.heyvl_syntax.specs.declared.keys.Key.TheVariants as keys
@@ -18,9 +15,7 @@ use Rattle.heyvl_syntax.specs.declared.procedures.Note.{Note}
 use Rattle.heyvl_syntax.specs.declared.tokens.Token.{Token}
 use Rattle.heyvl_syntax.specs.declared.tokens.TokenKind.TheVariants as kinds
 use Rattle.heyvl_syntax.specs.declared.tokens.TokenKind.{TokenKind}
-use Rattle.std.proofs.Common.{Bool, Err, IfErr, IfOk, List, None, Ok, Option, Result, Some, [], ap, append_assoc, arith, false, length, length-append, refl, subst, suc, sym, take, true, ◌++◌, ◌+◌, ◌-◌, ◌<◌, ◌∙◌, ◌∷◌, ◌≡◌, ◌≤◌, ℕ}
-use Rattle.std.proofs.Math.Seq.{take-append-add, take-append_seam}
-use Rattle.std.proofs.lemmas.List.{append-nil}
+use Rattle.std.proofs.Common.{Bool, List, None, Option, Some, arith, false, refl, true, ◌≡◌, ℕ}
 
 key_begins : (co : Bool) → begins (kinds.Key (proc_key co)) ≡ true
 key_begins true = refl
@@ -48,16 +43,3 @@ procs_laws {n} lb = each_laws begins (procedure_laws lb) proc_starts begins_free
 
 pub file_laws : {n : ℕ} {block : List Token → Read Block} → Laws n IsBlock no_kind block → Laws n IsFile every_kind (file block n)
 file_laws lb = ended_laws (procs_laws lb)
-
--- Where something follows the procedures at the front, the file is refused there.
-pub ended_bad : (block : List Token → Read Block) (n : ℕ) (ts r rs : List Token) (t : Token) (x : List Procedure) → procs block n ts ≡ Got x r → r ≡ t ∷ rs → file block n ts ≡ Bad r
-ended_bad block n ts r rs t x e same = rw (e, same) refl
-
--- Where nothing follows them, they are the file.
-pub ended_good : (block : List Token → Read Block) (n : ℕ) (ts r : List Token) (x : List Procedure) → procs block n ts ≡ Got x r → length r ≡ 0 → file block n ts ≡ Got x []
-ended_good block n ts [] x e none = rw e refl
-ended_good block n ts (t ∷ rs) x e none = absurd (omega arith)
-
-pub ended_fails : (e : PartStop) (block : List Token → Read Block) (n : ℕ) (ts : List Token) → Fails e (procs block n ts) → Fails e (file block n ts)
-ended_fails (Memory error) block n ts fails = tt
-ended_fails (Fault left) block n ts (r, bad, len) = (r, rw bad refl, len)

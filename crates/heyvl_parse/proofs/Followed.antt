@@ -1,7 +1,7 @@
 -- What is read with a mark or with something else behind it.
-use Rattle.heyvl_parse.specs.internal.Combinators.{lead, sign, trail}
-use Rattle.heyvl_parse.specs.internal.Reading.{Bad, Got, Out, Read, pair, ◌>>=◌}
-use Rattle.heyvl_parse.specs.internal.Results.{Gives}
+use Rattle.heyvl_parse.specs.readers.Combinators.{lead, sign, trail}
+use Rattle.heyvl_parse.specs.readers.Reading.{Bad, Got, Out, Read, pair, ◌>>=◌}
+use Rattle.heyvl_parse.specs.readers.Results.{Gives}
 use Rattle.heyvl_parse.specs.declared.stops.PartStop.TheVariants.{Fault, Memory}
 use Rattle.heyvl_parse.specs.declared.stops.PartStop.{PartStop}
 use Rattle.heyvl_places.specs.declared.spans.Span.{Span}

@@ -1,9 +1,9 @@
 -- What a key at the front says, from the key.
 use Rattle.heyvl_parse.specs.declared.stops.PartStop.TheVariants.{Fault, Memory}
 use Rattle.heyvl_parse.specs.declared.stops.PartStop.{PartStop}
-use Rattle.heyvl_parse.specs.internal.Combinators.{kind}
-use Rattle.heyvl_parse.specs.internal.Reading.{Bad, Got, given}
-use Rattle.heyvl_parse.specs.internal.Results.{Fails}
+use Rattle.heyvl_parse.specs.readers.Combinators.{kind}
+use Rattle.heyvl_parse.specs.readers.Reading.{Bad, Got, given}
+use Rattle.heyvl_parse.specs.readers.Results.{Fails}
 use Rattle.heyvl_parse.specs.internal.Statements.{by_key}
 use Rattle.heyvl_syntax.specs.declared.keys.Key.{Key}
 use Rattle.heyvl_syntax.specs.declared.tokens.Token.{Token}

@@ -23,6 +23,8 @@ mod Right
 mod RightLaws
 mod RuleLaws
 mod SimpleLaws
+mod SpellingLaws
 mod StatementLaws
 mod TypedNames
 mod WholeLaws
+pub mod exported

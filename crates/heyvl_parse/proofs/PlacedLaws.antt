@@ -1,8 +1,8 @@
 -- The laws of what is made of parts and their place, and of relations that say the same.
 use Rattle.heyvl_parse.proofs.Lawful.{Laws, spanned_laws}
 use Rattle.heyvl_parse.proofs.Right.{right_as}
-use Rattle.heyvl_parse.specs.internal.Combinators.{spanned}
-use Rattle.heyvl_parse.specs.internal.Reading.{Read}
+use Rattle.heyvl_parse.specs.readers.Combinators.{spanned}
+use Rattle.heyvl_parse.specs.readers.Reading.{Read}
 use Rattle.heyvl_places.specs.declared.spans.Span.{Span}
 use Rattle.heyvl_syntax.specs.Productions.{extent}
 use Rattle.heyvl_syntax.specs.declared.tokens.Token.{Token}

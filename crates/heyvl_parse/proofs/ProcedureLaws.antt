@@ -3,10 +3,9 @@ use Rattle.heyvl_parse.proofs.Lawful.{Both, Laws, each_laws, either_second, lead
 use Rattle.heyvl_parse.proofs.Right.{Some_text, nowhere, some_type, some_word}
 use Rattle.heyvl_parse.proofs.RightLaws.{expr_laws, mark_test, some_full, some_lead, word_laws}
 use Rattle.heyvl_parse.proofs.KeyLaws.{OfKind, kind_laws, led_starts, type_laws}
-use Rattle.heyvl_parse.specs.internal.Combinators.{either, is_operator, kind, lead, no_kind, starts}
+use Rattle.heyvl_parse.specs.readers.Combinators.{either, is_operator, kind, lead, no_kind, starts}
 use Rattle.heyvl_parse.specs.internal.Procedures.{Parts, clause, clause_by, clause_of, clause_tree, clauses, divide, divided, is_clause, key_clause, key_proc, note, note_of, opening, param, param_tree, params, proc_of, procedure, procedure_tree, promise, signature}
-use Rattle.heyvl_parse.specs.internal.Reading.{Read, is_mark, pair, type_name, word}
-use Rattle.heyvl_parse.specs.internal.Rights.{expr}
+use Rattle.heyvl_parse.specs.readers.Reading.{Read, expr, is_mark, pair, type_name, word}
 use Rattle.heyvl_syntax.specs.Expressions.{Expression}
 use Rattle.heyvl_syntax.specs.Grammar.{Clause, IsBlock, IsClause, IsClauses, IsFull, IsNote, IsParam, IsProc, IsType, note_word, posts, pres, proc_key}
 use Rattle.heyvl_syntax.specs.Procedures.{Procedure}

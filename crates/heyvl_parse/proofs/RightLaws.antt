@@ -5,9 +5,9 @@ use Rattle.heyvl_parse.proofs.Lawful.{IsTest, Laws, chosen_local, lead_laws, lis
 use Rattle.heyvl_parse.proofs.Local.{AllLocal, Local, LocalAt, Moves, local_bind, local_got, local_mapped, local_more, local_one, local_reading}
 use Rattle.heyvl_parse.proofs.Readings.{reads}
 use Rattle.heyvl_parse.proofs.Right.{Right, RightAt, Some_text, is_mark_true, nowhere, right_map, right_reading, right_word, some_expr}
-use Rattle.heyvl_parse.specs.internal.Combinators.{either, is_key, is_operator, is_there, lead, no_kind, starts}
-use Rattle.heyvl_parse.specs.internal.Reading.{Bad, Got, Out, Read, Reader, Whole, full, is_mark, mapped, more, operator_of, pair, placed, ranked, reading, word, ◌>>=◌}
-use Rattle.heyvl_parse.specs.internal.Rights.{arguments, call, call_tree, called_behind, enclosed_expr, expr, is_a_word, is_call, key_right, kind_right, no_call, right, right_by, right_if, right_start, two, unif_tree, weighted, weights}
+use Rattle.heyvl_parse.specs.readers.Combinators.{either, is_key, is_operator, is_there, lead, no_kind, starts}
+use Rattle.heyvl_parse.specs.readers.Reading.{Bad, Got, Out, Read, Reader, Whole, expr, full, is_mark, mapped, more, operator_of, pair, placed, ranked, reading, word, ◌>>=◌}
+use Rattle.heyvl_parse.specs.internal.Rights.{arguments, call, call_tree, called_behind, enclosed_expr, is_a_word, is_call, key_right, kind_right, no_call, right, right_by, right_if, right_start, two, unif_tree, weighted, weights}
 use Rattle.heyvl_parse.specs.declared.rights.RightStart.TheVariants as starts_as
 use Rattle.heyvl_parse.specs.declared.rights.RightStart.{RightStart}
 use Rattle.heyvl_syntax.specs.Expressions.{Expression}
@@ -100,7 +100,7 @@ pub call_laws : (n : ℕ) → Laws n (λ p. IsCall p.0 p.1) no_kind (call n)
 call_laws n = pair_free (word_laws n) (arguments_laws n) some_arguments
 
 -- A text and then a token.
-some_trail : {A : Type 0} {P : A → List Token → Type 0} (kind : TokenKind) → Some_text P → Some_text (λ x. P x then IsOne kind)
+pub some_trail : {A : Type 0} {P : A → List Token → Type 0} (kind : TokenKind) → Some_text P → Some_text (λ x. P x then IsOne kind)
 some_trail kind (x, text, p) = (x, text ++ (at kind nowhere ∷ []), (text, at kind nowhere ∷ [], p, (nowhere, refl), refl))
 
 pub some_lead : {A : Type 0} {P : A → List Token → Type 0} (kind : TokenKind) → Some_text P → Some_text (λ x. IsOne kind then P x)

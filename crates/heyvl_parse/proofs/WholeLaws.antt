@@ -4,10 +4,10 @@ use Rattle.heyvl_parse.proofs.Local.{Local, LocalAt, local_bind}
 use Rattle.heyvl_parse.proofs.Right.{Right, RightAt, right_bind}
 use Rattle.heyvl_parse.specs.declared.stops.PartStop.TheVariants.{Fault, Memory}
 use Rattle.heyvl_parse.specs.declared.stops.PartStop.{PartStop}
-use Rattle.heyvl_parse.specs.internal.Combinators.{ended, starts}
-use Rattle.heyvl_parse.specs.internal.PartStops.{IsPartStop}
-use Rattle.heyvl_parse.specs.internal.Reading.{Bad, Got, Read, ◌>>=◌}
-use Rattle.heyvl_parse.specs.internal.Results.{Gives}
+use Rattle.heyvl_parse.specs.readers.Combinators.{ended, starts}
+use Rattle.heyvl_parse.specs.readers.PartStops.{IsPartStop}
+use Rattle.heyvl_parse.specs.readers.Reading.{Bad, Got, Read, ◌>>=◌}
+use Rattle.heyvl_parse.specs.readers.Results.{Fails, Gives}
 use Rattle.heyvl_syntax.specs.Beginnings.{IsBeginning, IsUnexpected}
 use Rattle.heyvl_syntax.specs.declared.tokens.Token.{Token}
 use Rattle.heyvl_syntax.specs.declared.tokens.TokenKind.{TokenKind}
@@ -37,6 +37,19 @@ ended_laws {A} {n} {P} {stop} {f} lf = record { right = rights; local = local_bi
     done : (x : A) (text rest : List Token) → P x text → length (text ++ rest) < n → starts every_kind rest ≡ false → (f (text ++ rest) >>= ended) ≡ Got x rest
     done x text [] h len quiet = rw (lf.complete x text [] h len refl) refl
     done x text (t ∷ ts) h len quiet = cc
+
+-- Where something follows what is read, all is refused there.
+pub ended_bad : {A : Type 0} (f : List Token → Read A) (ts r rs : List Token) (t : Token) (x : A) → f ts ≡ Got x r → r ≡ t ∷ rs → (f ts >>= ended) ≡ Bad r
+ended_bad f ts r rs t x e same = rw (e, same) refl
+
+-- Where nothing follows it, it is what all spell.
+pub ended_good : {A : Type 0} (f : List Token → Read A) (ts r : List Token) (x : A) → f ts ≡ Got x r → length r ≡ 0 → (f ts >>= ended) ≡ Got x []
+ended_good f ts [] x e none = rw e refl
+ended_good f ts (t ∷ rs) x e none = absurd (omega arith)
+
+pub ended_fails : {A : Type 0} (e : PartStop) (f : List Token → Read A) (ts : List Token) → Fails e (f ts) → Fails e (f ts >>= ended)
+ended_fails (Memory error) f ts fails = tt
+ended_fails (Fault left) f ts (r, bad, len) = (r, rw bad refl, len)
 
 -- What stands before a fault begins something.
 begun : {A : Type 0} (P : A → List Token → Type 0) (ts r : List Token) (i : ℕ) → i + length r ≡ length ts → Right P ts (Bad r) → IsBeginning P (take i ts)

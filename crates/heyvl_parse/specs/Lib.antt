@@ -1,3 +1,5 @@
 pub mod Files
 pub mod Laws
+pub mod Spellings
 pub mod internal
+pub mod readers

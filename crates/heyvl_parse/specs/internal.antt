@@ -1,11 +1,8 @@
-pub mod Combinators
 pub mod Counting
+pub mod ExpressionReading
 pub mod FileReading
 pub mod Leaves
 pub mod Loops
 pub mod Procedures
-pub mod Reading
-pub mod Results
 pub mod Rights
 pub mod Statements
-pub mod PartStops

@@ -1,7 +1,7 @@
 //! The parser of expressions.
 
-ghost use Rattle.heyvl_parse.specs.internal.Reading.{Full, Whole, bound, choice, climbed, enclosed, end_of, operand, prefixed, reach, reading, started};
-ghost use Rattle.heyvl_parse.specs.internal.Results.{Gives};
+ghost use Rattle.heyvl_parse.specs.readers.Reading.{Full, Whole, bound, choice, climbed, enclosed, end_of, operand, prefixed, reach, reading, started};
+ghost use Rattle.heyvl_parse.specs.readers.Results.{Gives};
 ghost use Rattle.heyvl_syntax.specs.declared.tokens.Token.{Token};
 ghost use Rattle.heyvl_syntax.specs.Expressions.{Expression, expression};
 ghost use Rattle.std.specs.Prelude.{IfOk, List, length, ◌<◌, ◌≡◌, ◌≤◌, ◌+◌, ℕ};
@@ -51,7 +51,7 @@ fn end_of(expr: &Expr) -> u32
 
 /// The expression at the front, and the tokens behind it.
 #[inline(never)]
-pub(crate) fn whole(alloc: Global, tokens: &[Token]) -> Result<(Expr, &[Token]), PartStop>
+pub fn whole(alloc: Global, tokens: &[Token]) -> Result<(Expr, &[Token]), PartStop>
     ensures value { (n : ℕ) → length tokens.now < n → Gives (λ x. expression x.0) (λ x. x.1.now) result (reading n Whole tokens.now) }
     ensures shorter { IfOk result (λ x. length x.1.now < length tokens.now) }
 {

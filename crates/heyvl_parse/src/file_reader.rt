@@ -1,10 +1,10 @@
 //! The parser of files up to the point where nothing goes on.
 
 ghost use Rattle.heyvl_parse.specs.internal.Statements.{braced, stmts};
-ghost use Rattle.heyvl_parse.specs.internal.Combinators.{starts};
+ghost use Rattle.heyvl_parse.specs.readers.Combinators.{starts};
 ghost use Rattle.heyvl_parse.specs.internal.FileReading.{begins, file, procs};
-ghost use Rattle.heyvl_parse.specs.internal.PartStops.{IsPartStop};
-ghost use Rattle.heyvl_parse.specs.internal.Results.{Gives};
+ghost use Rattle.heyvl_parse.specs.readers.PartStops.{IsPartStop};
+ghost use Rattle.heyvl_parse.specs.readers.Results.{Gives};
 ghost use Rattle.heyvl_syntax.specs.Grammar.{IsFile};
 ghost use Rattle.heyvl_syntax.specs.Procedures.{procedure, procedures};
 ghost use Rattle.std.specs.Prelude.{[], IfErr, IfOk, length, map, ◌<◌, ◌≡◌, ◌≤◌, ℕ};

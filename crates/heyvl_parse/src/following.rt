@@ -1,8 +1,8 @@
 //! What was read, with what stands behind it.
 
-ghost use Rattle.heyvl_parse.specs.internal.Combinators.{trail};
-ghost use Rattle.heyvl_parse.specs.internal.Reading.{Got, is_mark};
-ghost use Rattle.heyvl_parse.specs.internal.Results.{Gives};
+ghost use Rattle.heyvl_parse.specs.readers.Combinators.{trail};
+ghost use Rattle.heyvl_parse.specs.readers.Reading.{Got, is_mark};
+ghost use Rattle.heyvl_parse.specs.readers.Results.{Gives};
 ghost use Rattle.std.specs.Prelude.{Err, IfOk, MatchResult, Ok, length, ◌<◌, ◌≡◌};
 
 use crate::stops::PartStop;
@@ -10,7 +10,7 @@ use crate::tokens::expect;
 use heyvl_syntax::{Mark, Token};
 
 /// What was read, and the tokens behind the mark that has to follow it.
-pub(crate) fn closed<'a, T: Drop>(
+pub fn closed<'a, T: Drop>(
     read: T,
     mark: Mark,
     tokens: &'a [Token],
@@ -23,7 +23,7 @@ pub(crate) fn closed<'a, T: Drop>(
 }
 
 /// What was read first, beside what was read behind it.
-pub(crate) fn beside<'a, A: Drop, B: Drop>(
+pub fn beside<'a, A: Drop, B: Drop>(
     first: A,
     second: Result<(B, &'a [Token]), PartStop>,
 ) -> Result<((A, B), &'a [Token]), PartStop>

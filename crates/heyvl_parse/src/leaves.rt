@@ -1,8 +1,8 @@
 //! The parser of expressions that are one token.
 
-ghost use Rattle.heyvl_parse.specs.internal.Combinators.{starts};
+ghost use Rattle.heyvl_parse.specs.readers.Combinators.{starts};
 ghost use Rattle.heyvl_parse.specs.internal.Leaves.{goes_on, is_alone, is_leaf, leaf};
-ghost use Rattle.heyvl_parse.specs.internal.Results.{Gives};
+ghost use Rattle.heyvl_parse.specs.readers.Results.{Gives};
 ghost use Rattle.heyvl_syntax.specs.Expressions.{expression};
 ghost use Rattle.std.specs.Prelude.{IfOk, length, ◌<◌, ◌≡◌};
 

@@ -1,9 +1,11 @@
 //! The parser of HeyVL: the tools that take tokens, the limits of a file, and the reading of expressions, statements, procedures
-//! and files.
+//! and files. Readers of other languages over the same tokens take expressions and single tokens by its tools, and their proofs go by
+//! specs/readers and proofs/exported.
 #![tactic(auto)]
 
 mod counts;
 mod effects;
+mod expression_reader;
 mod expressions;
 mod file_reader;
 mod following;
@@ -24,6 +26,11 @@ mod stops;
 mod tokens;
 mod typed_names;
 
+pub use expressions::whole;
+pub use following::{beside, closed};
 pub use laws::{expression_is_unique, file_is_unique};
 pub use limits::{crowd_at, overload_at};
-pub use parsing::{ParseStop, parse};
+pub use parsing::{ParseStop, parse, parse_expr};
+pub use places::span_between;
+pub use stops::PartStop;
+pub use tokens::{expect, expect_key, next, starts_key, starts_mark, word};

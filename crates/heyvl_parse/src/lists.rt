@@ -1,9 +1,9 @@
 //! The parser of lists of expressions and of names.
 
-ghost use Rattle.heyvl_parse.specs.internal.Combinators.{lead, list, list0};
-ghost use Rattle.heyvl_parse.specs.internal.Reading.{is_mark, word};
-ghost use Rattle.heyvl_parse.specs.internal.Results.{Gives};
-ghost use Rattle.heyvl_parse.specs.internal.Rights.{arguments, expr};
+ghost use Rattle.heyvl_parse.specs.readers.Combinators.{lead, list, list0};
+ghost use Rattle.heyvl_parse.specs.readers.Reading.{expr, is_mark, word};
+ghost use Rattle.heyvl_parse.specs.readers.Results.{Gives};
+ghost use Rattle.heyvl_parse.specs.internal.Rights.{arguments};
 ghost use Rattle.heyvl_syntax.specs.Expressions.{expression, expressions};
 ghost use Rattle.heyvl_syntax.specs.declared.marks.Mark.TheVariants as marks;
 ghost use Rattle.std.specs.Prelude.{[], IfOk, OnOk, length, ◌++◌, ◌<◌, ◌∷◌, ◌≡◌, ◌≤◌, ℕ};

@@ -1,6 +1,6 @@
 //! The places of what was read.
 
-ghost use Rattle.heyvl_parse.specs.internal.Combinators.{taken};
+ghost use Rattle.heyvl_parse.specs.readers.Combinators.{taken};
 ghost use Rattle.heyvl_syntax.specs.Productions.{extent, first_byte, last_end};
 ghost use Rattle.std.specs.Prelude.{◌≡◌};
 
@@ -28,7 +28,7 @@ fn last_end(tokens: &[Token]) -> u32
 }
 
 /// The place of what stands before a rest.
-pub(crate) fn span_between(tokens: &[Token], rest: &[Token]) -> Span
+pub fn span_between(tokens: &[Token], rest: &[Token]) -> Span
     ensures { result ≡ extent (taken tokens.now rest.now) }
 {
     let (front, _) = tokens.split_at(tokens.len().saturating_sub(rest.len()));

@@ -1,11 +1,10 @@
 //! The parser of procedures.
 
 ghost use Rattle.heyvl_parse.specs.internal.Statements.{braced, stmts};
-ghost use Rattle.heyvl_parse.specs.internal.Combinators.{kind, lead, list, list0, optional, starts};
+ghost use Rattle.heyvl_parse.specs.readers.Combinators.{kind, lead, list, list0, optional, starts};
 ghost use Rattle.heyvl_parse.specs.internal.Procedures.{clause_of, divided, is_clause, key_clause, key_proc, note, note_of, opening, param, params, proc_of, procedure, promise, signature, word_note};
-ghost use Rattle.heyvl_parse.specs.internal.Reading.{is_mark, pair};
-ghost use Rattle.heyvl_parse.specs.internal.Results.{Gives};
-ghost use Rattle.heyvl_parse.specs.internal.Rights.{expr};
+ghost use Rattle.heyvl_parse.specs.readers.Reading.{expr, is_mark, pair};
+ghost use Rattle.heyvl_parse.specs.readers.Results.{Gives};
 ghost use Rattle.heyvl_syntax.specs.Expressions.{expression, expressions};
 ghost use Rattle.heyvl_syntax.specs.Procedures.{optional_block, procedure as tree_of};
 ghost use Rattle.heyvl_syntax.specs.declared.marks.Mark.TheVariants as marks;

@@ -1,9 +1,9 @@
 //! The parser of right sides.
 
-ghost use Rattle.heyvl_parse.specs.internal.Combinators.{lead, list, trail};
-ghost use Rattle.heyvl_parse.specs.internal.Reading.{is_mark};
-ghost use Rattle.heyvl_parse.specs.internal.Results.{Gives};
-ghost use Rattle.heyvl_parse.specs.internal.Rights.{call, choose, enclosed_expr, expr, flip, is_a_word, is_call, key_right, kind_right, no_call, right, right_start, two, unif, weighted, weights};
+ghost use Rattle.heyvl_parse.specs.readers.Combinators.{lead, list, trail};
+ghost use Rattle.heyvl_parse.specs.readers.Reading.{expr, is_mark};
+ghost use Rattle.heyvl_parse.specs.readers.Results.{Gives};
+ghost use Rattle.heyvl_parse.specs.internal.Rights.{call, choose, enclosed_expr, flip, is_a_word, is_call, key_right, kind_right, no_call, right, right_start, two, unif, weighted, weights};
 ghost use Rattle.heyvl_syntax.specs.Expressions.{expression, expressions};
 ghost use Rattle.heyvl_syntax.specs.Statements.{choices, right_side};
 ghost use Rattle.heyvl_syntax.specs.declared.marks.Mark.TheVariants as marks;

@@ -1,7 +1,7 @@
 //! The parser of statements and blocks.
 
-ghost use Rattle.heyvl_parse.specs.internal.Combinators.{added, spanned, starts};
-ghost use Rattle.heyvl_parse.specs.internal.Results.{Gives};
+ghost use Rattle.heyvl_parse.specs.readers.Combinators.{added, spanned, starts};
+ghost use Rattle.heyvl_parse.specs.readers.Results.{Gives};
 ghost use Rattle.heyvl_parse.specs.internal.Statements.{IfParts, Shortens, arm, braced, branched, if_parts, if_tree, is_opening, key_opening, kind_opening, link, loop_tree, looped, mark_opening, next_of, opening, opens, otherwise, picked, skip, stmt, stmts};
 ghost use Rattle.heyvl_syntax.specs.Statements.{block, guarded, loop_rules, statement};
 ghost use Rattle.std.specs.Prelude.{[], IfOk, length, map, suc, vec_capacity, vec_len, ◌++◌, ◌<◌, ◌∷◌, ◌≡◌, ◌≤◌, ℕ};

@@ -5,9 +5,9 @@ ghost use Rattle.std.specs.Prelude.{◌≡◌, alloc_error};
 
 use std::alloc::{AllocError, AllocFailed};
 
-/// Why tokens were not read.
+/// Why tokens at the front of others were not read.
 #[derive(Drop)]
-pub(crate) enum PartStop {
+pub enum PartStop {
     /// A token at which nothing wanted goes on, or the end of the tokens. It is told by how many tokens are left from it
     /// on: 0 at the end.
     Fault(usize),

@@ -1,8 +1,8 @@
 //! Ways to take the token at the front of others.
 
-ghost use Rattle.heyvl_parse.specs.internal.Combinators.{is_key, is_word, kind, sign, starts};
-ghost use Rattle.heyvl_parse.specs.internal.Reading.{expect, given, is_mark, next, type_name, type_of, word};
-ghost use Rattle.heyvl_parse.specs.internal.Results.{Gives};
+ghost use Rattle.heyvl_parse.specs.readers.Combinators.{is_key, is_word, kind, sign, starts};
+ghost use Rattle.heyvl_parse.specs.readers.Reading.{expect, given, is_mark, next, type_name, type_of, word};
+ghost use Rattle.heyvl_parse.specs.readers.Results.{Gives};
 ghost use Rattle.heyvl_parse.specs.internal.Statements.{by_key};
 ghost use Rattle.std.specs.Prelude.{IfOk, Some, length, ◌+◌, ◌<◌, ◌≡◌};
 
@@ -12,7 +12,7 @@ use heyvl_syntax::{Key, Mark, Token, TokenKind, TypeName};
 use std::alloc::Global;
 
 /// The token at the front, and the tokens behind it.
-pub(crate) fn next(tokens: &[Token]) -> Result<(&Token, &[Token]), PartStop>
+pub fn next(tokens: &[Token]) -> Result<(&Token, &[Token]), PartStop>
     ensures value { Gives (λ x. x.0.now) (λ x. x.1.now) result (next tokens.now) }
     ensures shorter { IfOk result (λ x. length tokens.now ≡ length x.1.now + 1) }
 {
@@ -34,7 +34,7 @@ pub(crate) fn is_mark(mark: Mark, kind: &TokenKind) -> bool
 }
 
 /// The place of this mark, which has to stand at the front, and the tokens behind it.
-pub(crate) fn expect(mark: Mark, tokens: &[Token]) -> Result<(Span, &[Token]), PartStop>
+pub fn expect(mark: Mark, tokens: &[Token]) -> Result<(Span, &[Token]), PartStop>
     ensures value { Gives (λ x. x.0) (λ x. x.1.now) result (expect mark tokens.now) }
     ensures shorter { IfOk result (λ x. length x.1.now < length tokens.now) }
 {
@@ -48,7 +48,7 @@ pub(crate) fn expect(mark: Mark, tokens: &[Token]) -> Result<(Span, &[Token]), P
 
 /// The word at the front, and the tokens behind it.
 #[inline(always)]
-pub(crate) fn word(alloc: Global, tokens: &[Token]) -> Result<(Name, &[Token]), PartStop>
+pub fn word(alloc: Global, tokens: &[Token]) -> Result<(Name, &[Token]), PartStop>
     ensures value { Gives (λ x. x.0) (λ x. x.1.now) result (word tokens.now) }
     ensures shorter { IfOk result (λ x. length x.1.now < length tokens.now) }
 {
@@ -131,7 +131,7 @@ pub(crate) fn known<'a, T>(
 }
 
 /// The place of this key, which has to stand at the front, and the tokens behind it.
-pub(crate) fn expect_key(key: Key, tokens: &[Token]) -> Result<(Span, &[Token]), PartStop>
+pub fn expect_key(key: Key, tokens: &[Token]) -> Result<(Span, &[Token]), PartStop>
     ensures value { Gives (λ x. x.0) (λ x. x.1.now) result (sign (is_key key) tokens.now) }
     ensures shorter { IfOk result (λ x. length x.1.now < length tokens.now) }
 {
@@ -144,7 +144,7 @@ pub(crate) fn expect_key(key: Key, tokens: &[Token]) -> Result<(Span, &[Token]),
 }
 
 /// Whether this mark stands at the front.
-pub(crate) fn starts_mark(mark: Mark, tokens: &[Token]) -> bool
+pub fn starts_mark(mark: Mark, tokens: &[Token]) -> bool
     ensures { result ≡ starts (is_mark mark) tokens.now }
 {
     match tokens.split_first() {
@@ -154,7 +154,7 @@ pub(crate) fn starts_mark(mark: Mark, tokens: &[Token]) -> bool
 }
 
 /// Whether this key stands at the front.
-pub(crate) fn starts_key(key: Key, tokens: &[Token]) -> bool
+pub fn starts_key(key: Key, tokens: &[Token]) -> bool
     ensures { result ≡ starts (is_key key) tokens.now }
 {
     match tokens.split_first() {

@@ -1,8 +1,8 @@
 //! The parser of names with their types.
 
-ghost use Rattle.heyvl_parse.specs.internal.Combinators.{lead};
-ghost use Rattle.heyvl_parse.specs.internal.Reading.{is_mark, pair, type_name, word};
-ghost use Rattle.heyvl_parse.specs.internal.Results.{Gives};
+ghost use Rattle.heyvl_parse.specs.readers.Combinators.{lead};
+ghost use Rattle.heyvl_parse.specs.readers.Reading.{is_mark, pair, type_name, word};
+ghost use Rattle.heyvl_parse.specs.readers.Results.{Gives};
 ghost use Rattle.heyvl_syntax.specs.declared.marks.Mark.TheVariants as marks;
 ghost use Rattle.std.specs.Prelude.{IfOk, length, ◌<◌};
 

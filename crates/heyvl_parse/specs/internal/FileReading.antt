@@ -1,7 +1,7 @@
 -- Reading whole files, where a reader of blocks is given.
-use Rattle.heyvl_parse.specs.internal.Combinators.{each, either, ended, is_there}
+use Rattle.heyvl_parse.specs.readers.Combinators.{each, either, ended, is_there}
 use Rattle.heyvl_parse.specs.internal.Procedures.{proc_of, procedure}
-use Rattle.heyvl_parse.specs.internal.Reading.{Read, is_mark, ◌>>=◌}
+use Rattle.heyvl_parse.specs.readers.Reading.{Read, is_mark, ◌>>=◌}
 use Rattle.heyvl_syntax.specs.Procedures.{Procedure}
 use Rattle.heyvl_syntax.specs.Statements.{Block}
 use Rattle.heyvl_syntax.specs.declared.marks.Mark.TheVariants as marks

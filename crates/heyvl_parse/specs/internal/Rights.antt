@@ -1,6 +1,6 @@
 -- Reading right sides.
-use Rattle.heyvl_parse.specs.internal.Combinators.{is_key, lead, list, list0, starts, trail}
-use Rattle.heyvl_parse.specs.internal.Reading.{Read, Whole, is_mark, mapped, pair, reading, word}
+use Rattle.heyvl_parse.specs.readers.Combinators.{is_key, lead, list, list0, starts, trail}
+use Rattle.heyvl_parse.specs.readers.Reading.{Read, Whole, expr, is_mark, mapped, pair, reading, word}
 use Rattle.heyvl_parse.specs.declared.rights.RightStart.TheVariants as starts_as
 use Rattle.heyvl_parse.specs.declared.rights.RightStart.{RightStart}
 use Rattle.heyvl_syntax.specs.Expressions.{Expression}
@@ -12,10 +12,6 @@ use Rattle.heyvl_syntax.specs.declared.tokens.Token.{Token}
 use Rattle.heyvl_syntax.specs.declared.tokens.TokenKind.TheVariants as kinds
 use Rattle.heyvl_syntax.specs.declared.tokens.TokenKind.{TokenKind}
 use Rattle.std.specs.Prelude.{Bool, List, [], false, true, ◌∷◌, ℕ}
-
--- expr
-abbrev pub expr : ℕ → List Token → Read Expression
-expr n ts = reading n Whole ts
 
 abbrev pub expressions : ℕ → List Token → Read (List Expression)
 expressions n ts = list (expr n) n ts

@@ -4,8 +4,8 @@ use Rattle.heyvl_parse.proofs.Fuel.{by_fuel}
 use Rattle.heyvl_parse.proofs.TypedNames.{bound_by}
 use Rattle.heyvl_parse.proofs.expressions.+expressions.Goals as goal
 use Rattle.std.proofs.Common.{Bor, Box, Err, Global, List, Ok, arith, refl, suc}
-use Rattle.heyvl_parse.specs.internal.Reading.{reading}
-use Rattle.heyvl_parse.specs.internal.Results.{Gives}
+use Rattle.heyvl_parse.specs.readers.Reading.{reading}
+use Rattle.heyvl_parse.specs.readers.Results.{Gives}
 use Rattle.heyvl_syntax.proofs.exported.PlainTreesAre.{plain_expressions}
 use Rattle.heyvl_syntax.specs.Expressions.{expression}
 use Rattle.heyvl_syntax.specs.declared.expressions.Expr.{Expr}

@@ -1,6 +1,6 @@
+use Rattle.heyvl_parse.specs.readers.Reading.{expr}
 use Rattle.heyvl_parse.proofs.Followed.{beside_gives, beside_shorter}
 use Rattle.heyvl_parse.proofs.procedures.clause.Goals as goal
-use Rattle.heyvl_parse.specs.internal.Rights.{expr}
 use Rattle.heyvl_syntax.specs.Expressions.{expression}
 use Rattle.std.proofs.Common.{Bool, arith, length}
 use Rattle.std.proofs.lemmas.Grind.{common_steps}

@@ -1,6 +1,6 @@
 use Rattle.heyvl_parse.proofs.Followed.{beside_gives, beside_shorter}
 use Rattle.heyvl_parse.proofs.procedures.opening.Goals as goal
-use Rattle.heyvl_parse.specs.internal.Combinators.{kind}
+use Rattle.heyvl_parse.specs.readers.Combinators.{kind}
 use Rattle.heyvl_parse.specs.internal.Procedures.{proc_of}
 use Rattle.heyvl_syntax.specs.declared.procedures.Note.{Note}
 use Rattle.std.proofs.Common.{Bool, Option, arith, length}

@@ -1,8 +1,8 @@
 use Rattle.heyvl_parse.proofs.EachLoop.{loop_done, loop_fails, loop_first, loop_more}
 use Rattle.heyvl_parse.proofs.procedures.some_params.Goals as goal
-use Rattle.heyvl_parse.specs.internal.Combinators.{lead, list}
+use Rattle.heyvl_parse.specs.readers.Combinators.{lead, list}
 use Rattle.heyvl_parse.specs.internal.Procedures.{param}
-use Rattle.heyvl_parse.specs.internal.Reading.{is_mark}
+use Rattle.heyvl_parse.specs.readers.Reading.{is_mark}
 use Rattle.heyvl_syntax.specs.declared.marks.Mark.TheVariants as marks
 use Rattle.std.proofs.Common.{arith, sym}
 use Rattle.std.proofs.lemmas.Grind.{common_steps}

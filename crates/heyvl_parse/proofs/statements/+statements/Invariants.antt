@@ -1,7 +1,7 @@
 use Rattle.heyvl_parse.proofs.ChainLoop.{Left}
 use Rattle.heyvl_parse.proofs.EachLoop.{Rest}
 use Rattle.heyvl_parse.proofs.statements.+statements.Given as goal
-use Rattle.heyvl_parse.specs.internal.Combinators.{each}
+use Rattle.heyvl_parse.specs.readers.Combinators.{each}
 use Rattle.heyvl_parse.specs.internal.Statements.{braced, branched, entry, is_opening, stmts}
 use Rattle.heyvl_syntax.specs.Statements.{guarded, statement}
 use Rattle.std.proofs.Common.{length, map, suc, ◌*◌, ◌+◌, ◌<◌, ◌≤◌, ℕ}

@@ -320,3 +320,7 @@ step self (More k left) ts = more self k left ts
 abbrev pub reading : ℕ → Reader
 reading zero q ts = Out
 reading (suc n) q ts = step (reading n) q ts
+
+-- expr
+abbrev pub expr : ℕ → List Token → Read Expression
+expr n ts = reading n Whole ts

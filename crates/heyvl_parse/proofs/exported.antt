@@ -1,0 +1,5 @@
+-- The lemmas that crates above may cite. All other proofs are private.
+pub mod Loops
+pub mod Readers
+pub mod Spellings
+pub mod Wholes

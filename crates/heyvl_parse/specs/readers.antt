@@ -1,0 +1,4 @@
+pub mod Combinators
+pub mod PartStops
+pub mod Reading
+pub mod Results
