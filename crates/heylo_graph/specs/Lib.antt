@@ -1,0 +1,5 @@
+pub mod Trees
+pub mod Nodes
+pub mod Parts
+pub mod Laws
+pub mod internal

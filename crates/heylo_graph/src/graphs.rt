@@ -1,0 +1,143 @@
+//! Graphs: lists of nodes in which equal ones stand once, with the sizes of their trees.
+
+ghost use Rattle.std.specs.Prelude.{◌^◌, ◌≡◌, ◌<◌, ◌≤◌, [], List, Option, length, min, take, slice_get, IfOk, OnErr, Some, OnOk};
+ghost use Rattle.heylo_graph.specs.Trees.{Tree, nodes_of, depth_of};
+ghost use Rattle.heylo_graph.specs.Parts.{first, second, third};
+ghost use Rattle.heylo_graph.specs.Nodes.{Stands, IsGraph, IsFitting, Begins, HasTree, assembled, tree_at};
+ghost use Rattle.heylo_graph.specs.internal.StoredSizes.{size_of, part_size};
+ghost use Rattle.heylo_graph.specs.internal.Tables.{IsBefore, PartTree};
+
+use crate::nodes::{Node, NodeId};
+use crate::sizes::{Size, above, below};
+use heyvl_num::Ext;
+use indexmap::IndexSet;
+use std::alloc::{AllocError, Global};
+use std::marker::Model;
+
+/// A list of different nodes, each of whose parts stands before it. It takes its memory from the allocator that it was made
+/// with. A node never changes its number or its tree; new nodes are put last.
+#[derive(Drop)]
+pub struct Graph {
+    nodes: IndexSet<Node>,
+    sizes: Vec<Size>,
+    alloc: Global,
+}
+
+impl Model for Graph {
+    ghost use Rattle.std.specs.Prelude.{List};
+    ghost use Rattle.heylo_graph.specs.declared.nodes.Node.{Node as NodeValue};
+    ghost use Rattle.heylo_graph.specs.internal.StoredSizes.{IsStored};
+
+    ghost Value = { List NodeValue };
+
+    ghost view = { λ g. g.nodes.keys };
+
+    ghost invariant = { λ g. IsStored g.nodes.keys g.sizes.items };
+}
+
+impl Graph {
+    /// No nodes.
+    pub fn new(alloc: Global) -> Graph
+        ensures { result ≡ [] }
+    {
+        Graph {
+            nodes: IndexSet::new(alloc),
+            sizes: Vec::new(alloc),
+            alloc,
+        }
+    }
+
+    /// The number of nodes, below 2^63.
+    pub fn len(&self) -> usize
+        ensures len { result ≡ length self.now }
+        ensures small { result < 2 ^ 63 }
+    {
+        self.nodes.len()
+    }
+
+    /// The node with a number.
+    pub fn node(&self, id: NodeId) -> &Node
+        requires { id < length self.now }
+        ensures node { slice_get self.now id ≡ Some result.now }
+        ensures graph { IsGraph self.now }
+    {
+        &self.nodes.as_slice()[id.index()]
+    }
+
+    /// The number of nodes of a node's tree, at most 2^63.
+    pub fn nodes(&self, id: NodeId) -> u64
+        requires { id < length self.now }
+        ensures { (t : Tree) → Stands self.now id t → result ≡ min (2 ^ 63) (nodes_of t) }
+    {
+        self.sizes[id.index()].nodes
+    }
+
+    /// The number of nodes on the longest way down a node's tree, where a leaf has depth 1; at most 2^63.
+    pub fn depth(&self, id: NodeId) -> u64
+        requires { id < length self.now }
+        ensures { (t : Tree) → Stands self.now id t → result ≡ min (2 ^ 63) (depth_of t) }
+    {
+        self.sizes[id.index()].depth
+    }
+
+    /// The allocator that the graph was made with.
+    pub(crate) fn alloc(&self) -> Global {
+        self.alloc
+    }
+
+    /// Keeps the first nodes alone.
+    pub fn cut(&mut self, len: usize)
+        requires { len ≤ length self.old }
+        ensures { self.new ≡ take len self.old }
+    {
+        self.nodes.truncate(len);
+        self.sizes.truncate(len);
+    }
+
+    /// The node, put last unless it stands there already. Its parts have to stand there, and to be of the right kinds. Want
+    /// of memory is the one error, and leaves the list as it was.
+    pub fn join(&mut self, node: Node) -> Result<NodeId, AllocError>
+        requires { IsFitting self.old node }
+        ensures begins { OnOk result (Begins self.old self.new) }
+        ensures joined { IfOk result (λ id. slice_get self.new id ≡ Some node) }
+        ensures tree { IfOk result (λ id. (t : Tree) → assembled (tree_at self.old) node ≡ Some t → Stands self.new id t) }
+        ensures present { (t : Tree) → HasTree self.old t → assembled (tree_at self.old) node ≡ Some t → OnOk result (self.new ≡ self.old) }
+        ensures err { OnErr result (self.new ≡ self.old) }
+    {
+        // No value, but the proof has to know of its type.
+        let _known: Option<Ext> = None;
+        let _count = self.nodes.len();
+        let size = self.size_over(&node);
+        self.sizes.push(size)?;
+        let result = self.nodes.insert_full(node);
+        let len = self.nodes.len();
+        self.sizes.truncate(len);
+        let (index, _) = result?;
+        Ok(NodeId::new(index))
+    }
+
+    /// The size of a node's tree, from those of its parts.
+    fn size_over(&self, node: &Node) -> Size
+        requires { IsFitting self.now node.now }
+        ensures { (t : Tree) → assembled (tree_at self.now) node.now ≡ Some t → result ≡ size_of t }
+    {
+        let a = self.part_size(node.first());
+        let b = self.part_size(node.second());
+        let c = self.part_size(node.third());
+        Size {
+            nodes: above(a.nodes, b.nodes, c.nodes),
+            depth: below(a.depth, b.depth, c.depth),
+        }
+    }
+
+    /// The size of a part's tree, of no nodes where there is no part.
+    fn part_size(&self, part: Option<NodeId>) -> Size
+        requires { IsBefore part (length self.now) }
+        ensures { (t : Option Tree) → PartTree (tree_at self.now) part t → result ≡ part_size t }
+    {
+        match part {
+            None => Size { nodes: 0, depth: 0 },
+            Some(id) => self.sizes[id.index()],
+        }
+    }
+}

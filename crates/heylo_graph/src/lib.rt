@@ -1,0 +1,16 @@
+//! Formulas as nodes of a graph in which equal parts stand once.
+#![tactic(auto)]
+
+mod graphs;
+mod laws;
+mod marks;
+mod nodes;
+mod putting;
+mod reading;
+mod renaming;
+mod sizes;
+mod substitution;
+
+pub use graphs::Graph;
+pub use laws::trees_stand_once;
+pub use nodes::{Node, NodeId};
