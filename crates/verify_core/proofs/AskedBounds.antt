@@ -42,6 +42,7 @@ invariant_ids [] = refl
 invariant_ids (Act.loop h b ∷ rest) = ap (λ l. Invariant h.number ∷ l) (invariant_ids rest)
 invariant_ids (Act.set x t span ∷ rest) = invariant_ids rest
 invariant_ids (Act.draw x ps span ∷ rest) = invariant_ids rest
+invariant_ids (Act.toss x f span ∷ rest) = invariant_ids rest
 invariant_ids (Act.any x up ty span ∷ rest) = invariant_ids rest
 invariant_ids (Act.reward f span ∷ rest) = invariant_ids rest
 invariant_ids (Act.ifs arms e span ∷ rest) = invariant_ids rest
@@ -76,6 +77,7 @@ module _ (ps : List TypedProcedure) (p : TypedProcedure) where
       )
   found_from from n (Act.set x u span ∷ rest) e t = same_from invariant_in IsInvariant from rest (Act.set x u span ∷ rest) (asked_invariants rest) (λ m. refl) (found_from from n rest e t.1)
   found_from from n (Act.draw x qs span ∷ rest) e t = same_from invariant_in IsInvariant from rest (Act.draw x qs span ∷ rest) (asked_invariants rest) (λ m. refl) (found_from from n rest e t.1)
+  found_from from n (Act.toss x f span ∷ rest) e t = same_from invariant_in IsInvariant from rest (Act.toss x f span ∷ rest) (asked_invariants rest) (λ m. refl) (found_from from n rest e t.1)
   found_from from n (Act.any x up ty span ∷ rest) e t = same_from invariant_in IsInvariant from rest (Act.any x up ty span ∷ rest) (asked_invariants rest) (λ m. refl) (found_from from n rest e t.1)
   found_from from n (Act.reward f span ∷ rest) e t = same_from invariant_in IsInvariant from rest (Act.reward f span ∷ rest) (asked_invariants rest) (λ m. refl) (found_from from n rest e t.1)
   found_from from n (Act.ifs arms f span ∷ rest) e t = same_from invariant_in IsInvariant from rest (Act.ifs arms f span ∷ rest) (asked_invariants rest) (λ m. refl) (found_from from n rest e t.1)

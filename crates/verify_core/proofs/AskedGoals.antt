@@ -88,6 +88,7 @@ proper_invariant ps p n [] t o = (zero_unsigned (types_of p), λ y e. absurd (cc
 proper_invariant ps p n (Act.loop h b ∷ rest) t o = elim (h.number == n) as (λ c. IsFormula (types_of p) (form_or_zero (if c then Some h.inv else invariant_in n rest)) × IsOver (length (variables p)) (form_or_zero (if c then Some h.inv else invariant_in n rest))) [ true ↦ (t.0.inv.0, o.0.0) | false ↦ proper_invariant ps p n rest t.1 o.1 ]
 proper_invariant ps p n (Act.set x u span ∷ rest) t o = proper_invariant ps p n rest t.1 o.1
 proper_invariant ps p n (Act.draw x qs span ∷ rest) t o = proper_invariant ps p n rest t.1 o.1
+proper_invariant ps p n (Act.toss x f span ∷ rest) t o = proper_invariant ps p n rest t.1 o.1
 proper_invariant ps p n (Act.any x up ty span ∷ rest) t o = proper_invariant ps p n rest t.1 o.1
 proper_invariant ps p n (Act.reward f span ∷ rest) t o = proper_invariant ps p n rest t.1 o.1
 proper_invariant ps p n (Act.ifs arms e span ∷ rest) t o = proper_invariant ps p n rest t.1 o.1

@@ -1,6 +1,7 @@
 -- A procedure that is verified by certificates has its bound: a goal with a certificate holds, and where the goals of all
 -- procedures that it reaches hold, so does the bound.
-use Rattle.std.proofs.Common.{◌≡◌, ℕ, ◌<◌, refl, subst, List, [], ◌∷◌, ◌++◌, length, Option, None, Some}
+use Rattle.std.proofs.Common.{◌≡◌, ℕ, ◌<◌, refl, subst, Bool, true, false, List, [], ◌∷◌, ◌++◌, length, Option, None, Some}
+use Rattle.std.proofs.lemmas.Bool.{false≢true}
 use Rattle.farkas_check.specs.CertificateLaws.{CertifiedGoalsHold}
 use Rattle.goal_answers.specs.declared.trees.GoalCert.{GoalCert}
 use Rattle.heylo_formula.specs.Goals.{Holds}
@@ -14,12 +15,12 @@ use Rattle.loop_encodings.specs.Law.{IsShown, ShownBoundsHold}
 use Rattle.verdict_report.specs.declared.answers.Answer.{Answer}
 use Rattle.goal_answers.specs.declared.misses.Miss.{Miss}
 use Rattle.verdict_report.specs.declared.answers.Verdict.{Verdict}
-use Rattle.verdict_report.specs.declared.answers.Verdict.TheVariants.{NotVerified, Verified}
+use Rattle.verdict_report.specs.declared.answers.Verdict.TheVariants.{Conditional, NoBody, NotVerified, Unchecked, Unknown, Valid, Verified}
 use Rattle.verify_core.specs.Checked.{AreChecked, CheckedGoal, IsCertified, IsCheckedTable, IsMissOf, first_miss, missed}
 use Rattle.verify_core.specs.CheckedAnswers.{IsCheckedAnswer, IsCheckedFile, IsCheckedVerdict}
 use Rattle.verify_core.specs.Decided.{or_else}
 use Rattle.verify_core.specs.GoalLaws.{MadeGoalsSayBounds}
-use Rattle.verify_core.specs.Headline.{FalsifiedBoundsBreak, IsVerdictOn, VerifiedBoundsHold}
+use Rattle.verify_core.specs.Headline.{FalsifiedBoundsBreak, IsVerdictOn, ProvedGoalsHold, ShownStatesFalsify, VerifiedBoundsHold, says_proved}
 use Rattle.verify_core.specs.Numbered.{row_at}
 use Rattle.verify_core.specs.Questions.{goal, question}
 use Rattle.verify_core.proofs.Headlines.{program_there}
@@ -75,3 +76,22 @@ certified_bounds_hold bounds law say ps certs answers rules typed file p on =
 -- No bound is falsified by certificates.
 pub none_falsified : (ps : List TypedProcedure) (certs : List GoalCert) (answers : List Answer) → IsCheckedFile ps certs answers → FalsifiedBoundsBreak ps answers
 none_falsified ps certs answers file p s on program straight = absurd (said ps certs answers file p (NotVerified Main s) on)
+
+-- No state is shown.
+pub none_shown : (ps : List TypedProcedure) (certs : List GoalCert) (answers : List Answer) → IsCheckedFile ps certs answers → ShownStatesFalsify ps answers
+none_shown ps certs answers file p id s on = absurd (said ps certs answers file p (NotVerified id s) on)
+
+accepted_by : (ps : List TypedProcedure) (table : List (List CheckedGoal)) (p : ℕ) (v : Verdict) → IsCheckedVerdict ps table p v → says_proved v ≡ true → first_miss (row_at table p) ≡ None
+accepted_by ps table p Verified h e = h.0.accepted
+accepted_by ps table p (Valid why) h e = h.0
+accepted_by ps table p (Conditional q) h e = h.0.accepted
+accepted_by ps table p (NotVerified id s) h e = absurd h
+accepted_by ps table p (Unknown id cause) h e = absurd h
+accepted_by ps table p (Unchecked id miss) h e = absurd (false≢true e)
+accepted_by ps table p NoBody h e = absurd (false≢true e)
+
+-- The goals of procedures hold, of which all are accepted.
+pub certified_goals_hold : CertifiedGoalsHold → MadeGoalsSayBounds → (ps : List TypedProcedure) (certs : List GoalCert) (answers : List Answer) → Each (MeetsRules ps) ps → ((p : ℕ) → p < length ps → AreTyped ps p) → IsCheckedFile ps certs answers → ProvedGoalsHold ps answers
+certified_goals_hold law say ps certs answers rules typed file p v on e =
+    let l = (answered ps certs answers file on.before on.behind on.answer p on.all on.place).there in
+    goals_hold law ps certs p (typed p l) (λ id. (say ps p id rules l).0) (bound_goals (procedure_at ps p)) (row_at file.table p) (row_of (λ k (x : TypedProcedure) (cs : List CheckedGoal). AreChecked ps certs k (bound_goals x) cs) ps file.table p l file.checked) (accepted_by ps file.table p v (said ps certs answers file p v on) e)

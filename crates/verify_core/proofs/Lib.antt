@@ -7,6 +7,7 @@ mod MainGoals
 mod ListedGoals
 mod SaidBounds
 mod FreshVariables
+mod TossProducts
 mod DecidedGoals
 mod GoalOutcomes
 mod Rows
@@ -15,6 +16,8 @@ mod RankedNumbers
 mod RankedLoops
 mod ProvedVerdicts
 mod FileAnswers
+mod FalsifiedGoals
+mod OwnEncoding
 mod Headlines
 mod StandingForms
 mod StandingActs

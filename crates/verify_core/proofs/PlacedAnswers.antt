@@ -66,6 +66,7 @@ break_stands : (n : ℕ) (co : Bool) (acts : List Act) (s : Span) → Each (ActS
 break_stands n co [] s h e = absurd (cc)
 break_stands n co (Act.set x t span ∷ rest) s h e = break_stands n co rest s h.1 e
 break_stands n co (Act.draw x qs span ∷ rest) s h e = break_stands n co rest s h.1 e
+break_stands n co (Act.toss x f span ∷ rest) s h e = break_stands n co rest s h.1 e
 break_stands n co (Act.any x up ty span ∷ rest) s h e = break_stands n co rest s h.1 e
 break_stands n co (Act.reward f span ∷ rest) s h e = break_stands n co rest s h.1 e
 break_stands n co (Act.ifs arms x span ∷ rest) s h e = break_stands n co rest s h.1 e
@@ -103,6 +104,7 @@ calls_there : (ps : List TypedProcedure) (p : TypedProcedure) (q : ℕ) (acts : 
 calls_there ps p q [] h e = absurd (false≢true e)
 calls_there ps p q (Act.set x t span ∷ rest) h e = calls_there ps p q rest h.1 e
 calls_there ps p q (Act.draw x qs span ∷ rest) h e = calls_there ps p q rest h.1 e
+calls_there ps p q (Act.toss x f span ∷ rest) h e = calls_there ps p q rest h.1 e
 calls_there ps p q (Act.any x up ty span ∷ rest) h e = calls_there ps p q rest h.1 e
 calls_there ps p q (Act.reward f span ∷ rest) h e = calls_there ps p q rest h.1 e
 calls_there ps p q (Act.ifs arms x span ∷ rest) h e = calls_there ps p q rest h.1 e

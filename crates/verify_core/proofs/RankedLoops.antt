@@ -1,23 +1,26 @@
 -- A ranking whose goal holds bounds the turns of its loop.
-use Rattle.std.proofs.Common.{◌≡◌, ℕ, ◌<◌, sym, subst, arith, true, List, [], ◌∷◌, length, slice_index_or}
+use Rattle.std.proofs.Common.{◌≡◌, ℕ, ◌<◌, refl, sym, subst, arith, true, List, [], ◌∷◌, length, slice_index_or, take}
 use Rattle.std.specs.List.{Contains}
+use Rattle.std.specs.Prelude.{Vec}
+use Rattle.std.specs.declared.alloc.Global.{Global}
 use Prim.Native.Nat.{zero, suc}
 use Rattle.heylo_formula.specs.Goals.{Holds}
-use Rattle.heyvl_acts.specs.Acts.{TypedProcedure, procedure_at}
+use Rattle.heylo_formula.specs.declared.values.Val.{Val}
+use Rattle.heyvl_acts.specs.Acts.{TypedProcedure, procedure_at, variables}
 use Rattle.heyvl_acts.specs.Rules.{Each, MeetsRules}
 use Rattle.loop_encodings.proofs.exported.FromRules.{each_at}
-use Rattle.ranking_rule.specs.Laws.{RankingGoalsHold, RankingsBoundTurns}
+use Rattle.ranking_rule.specs.Laws.{RankingGoalsFail, RankingGoalsHold, RankingsBoundTurns}
 use Rattle.ranking_rule.specs.RankingGoals.{generated, goal}
-use Rattle.ranking_rule.specs.Rankings.{RankedLoop}
+use Rattle.ranking_rule.specs.Rankings.{IsNoRanking, RankedLoop}
 use Rattle.goal_answers.specs.declared.decisions.Decision.{Decision}
 use Rattle.goal_answers.specs.declared.decisions.Decision.TheVariants.{Proved, Falsified, Unknown}
 use Rattle.verdict_report.specs.declared.answers.LoopAnswer.{LoopAnswer}
-use Rattle.verdict_report.specs.declared.answers.RankVerdict.TheVariants.{Ranked}
-use Rattle.verify_core.specs.Decided.{DecidedGoal, is_proved}
+use Rattle.verdict_report.specs.declared.answers.RankVerdict.TheVariants.{NotRanked, Ranked}
+use Rattle.verify_core.specs.Decided.{DecidedGoal, IsDecisionOf, is_proved}
 use Rattle.verify_core.specs.DecidedRankings.{AreRanked, AreRankingsDecided, IsRankVerdict, IsRankingDecided}
-use Rattle.verify_core.specs.Headline.{IsRankedLoop}
-use Rattle.verify_core.specs.internal.Settled.{IsSettled}
-use Rattle.verify_core.proofs.MadeGoals.{proved_holds}
+use Rattle.verify_core.specs.Headline.{IsRankedLoop, IsUnrankedIn}
+use Rattle.verify_core.specs.internal.Settled.{IsSettled, TellsOf}
+use Rattle.verify_core.proofs.MadeGoals.{falsified_fails, proved_holds}
 
 -- ---- From the goal
 
@@ -25,7 +28,8 @@ use Rattle.verify_core.proofs.MadeGoals.{proved_holds}
 pub turns_bounded : RankingsBoundTurns → RankingGoalsHold → (ps : List TypedProcedure) (p n : ℕ) (l : RankedLoop (procedure_at ps p) n) → Each (MeetsRules ps) ps → p < length ps → Holds (goal (procedure_at ps p) l.head l.body l.rank) → IsRankedLoop ps p n
 turns_bounded bound hold ps p n l rules there h =
     let meets = each_at (MeetsRules ps) ps p rules there in
-    record { loop = l; turns = bound ps p n l meets ((hold ps (procedure_at ps p) n l meets).1 h) }
+    let is = (hold ps (procedure_at ps p) n l meets).1 h in
+    record { loop = l; ranking = is; turns = bound ps p n l meets is }
 
 -- ---- From its decision
 
@@ -60,3 +64,25 @@ ranked_loop bound hold ps p n ns ds ls a rules there h s r c e v =
     let l = g.ranked in
     let holds = proved_holds (generated l.body l.rank) (goal (procedure_at ps p) l.head l.body l.rank) d.decided.goal.made d.decided.decision g.made d.settled.decision d.settled.meaning proved in
     subst (IsRankedLoop ps p) e (turns_bounded bound hold ps p a.number g.ranked rules there holds)
+
+-- The decision by which a loop is said to be not ranked, with this state.
+record IsFalsifiedBy (d : Decision) (s : Vec Val Global) : Type 0 where
+  pub point : Vec Val Global
+  pub is : d ≡ Falsified point
+  pub same : s.items ≡ point.items
+
+falsified_by : (d : Decision) (s : Vec Val Global) → IsRankVerdict d (NotRanked s) → IsFalsifiedBy d s
+falsified_by (Falsified t) s h = record { point = t; is = refl; same = h }
+falsified_by (Proved t) s h = absurd h
+falsified_by (Unknown c) s h = absurd h
+
+-- An answer that a loop is not ranked.
+pub unranked_loop : RankingGoalsFail → (ps : List TypedProcedure) (p n : ℕ) (ns : List ℕ) (ds : List DecidedGoal) (ls : List LoopAnswer) (a : LoopAnswer) (s : Vec Val Global) → Each (MeetsRules ps) ps → p < length ps → AreRankingsDecided ps p ns ds → Each IsSettled ds → AreRanked ns ds ls → Contains ls a → a.number ≡ n → a.rank ≡ NotRanked s → IsUnrankedIn ps p n s.items
+unranked_loop fail ps p n ns ds ls a s rules there h settled r c e v =
+    let d = decided_of ps p ns ds ls a h settled r c in
+    let g = d.is_of.goal in
+    let l = g.ranked in
+    let w = falsified_by d.decided.decision s (subst (IsRankVerdict d.decided.decision) v d.verdict) in
+    let f = falsified_fails (generated l.body l.rank) (goal (procedure_at ps p) l.head l.body l.rank) d.decided.goal.made w.point g.made (subst (IsDecisionOf d.decided.goal.made) w.is d.settled.decision) (subst (TellsOf d.decided.goal.made) w.is d.settled.meaning) in
+    let k = fail ps (procedure_at ps p) a.number l (each_at (MeetsRules ps) ps p rules there) w.point.items f.typed f.fails in
+    subst (λ m. IsUnrankedIn ps p m s.items) e (record { loop = l; fails = subst (λ (x : List Val). IsNoRanking (procedure_at ps p) l.head l.body l.rank (take (length (variables (procedure_at ps p))) x)) (sym w.same) k })

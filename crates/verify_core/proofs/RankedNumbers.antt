@@ -30,6 +30,7 @@ ranked_append [] ys = refl
 ranked_append (Act.loop h b ∷ rest) ys = ap (λ l. if is_some h.rank then h.number ∷ l else l) (ranked_append rest ys) ∙ either (is_some h.rank) h.number (ranked_in rest) (ranked_in ys)
 ranked_append (Act.set x t span ∷ rest) ys = ranked_append rest ys
 ranked_append (Act.draw x ps span ∷ rest) ys = ranked_append rest ys
+ranked_append (Act.toss x f span ∷ rest) ys = ranked_append rest ys
 ranked_append (Act.any x up ty span ∷ rest) ys = ranked_append rest ys
 ranked_append (Act.reward f span ∷ rest) ys = ranked_append rest ys
 ranked_append (Act.ifs arms e span ∷ rest) ys = ranked_append rest ys
@@ -69,6 +70,7 @@ ranked_from from (suc n) (Act.loop h b ∷ rest) e =
     one_more from h b rest h.rank k refl (further loop_in HasRanking from rest (Act.loop h b ∷ rest) (ranked_in rest) (λ m l. ap (λ i. cond (i == m) (Some (h, b)) (loop_in m rest)) k ∙ other_number from m (h, b) (loop_in m rest) l) (ranked_from (suc from) n rest r))
 ranked_from from n (Act.set x u span ∷ rest) e = same_from loop_in HasRanking from rest (Act.set x u span ∷ rest) (ranked_in rest) (λ m. refl) (ranked_from from n rest e)
 ranked_from from n (Act.draw x qs span ∷ rest) e = same_from loop_in HasRanking from rest (Act.draw x qs span ∷ rest) (ranked_in rest) (λ m. refl) (ranked_from from n rest e)
+ranked_from from n (Act.toss x f span ∷ rest) e = same_from loop_in HasRanking from rest (Act.toss x f span ∷ rest) (ranked_in rest) (λ m. refl) (ranked_from from n rest e)
 ranked_from from n (Act.any x up ty span ∷ rest) e = same_from loop_in HasRanking from rest (Act.any x up ty span ∷ rest) (ranked_in rest) (λ m. refl) (ranked_from from n rest e)
 ranked_from from n (Act.reward f span ∷ rest) e = same_from loop_in HasRanking from rest (Act.reward f span ∷ rest) (ranked_in rest) (λ m. refl) (ranked_from from n rest e)
 ranked_from from n (Act.ifs arms f span ∷ rest) e = same_from loop_in HasRanking from rest (Act.ifs arms f span ∷ rest) (ranked_in rest) (λ m. refl) (ranked_from from n rest e)

@@ -54,7 +54,7 @@ module _ (speak : PrenexedGoalsSpeakOfChoices) (means : GeneratedFormMeansActs) 
     bound_says f = ((λ h s c t. h s c t), (λ h s c t. h s c t))
 
     invariant_says : (n : ℕ) (o : Option Form) → invariant_in n (in_order (acts_in (procedure_at ps p).body)) ≡ o → IsAtMostOne (type_list (variables (procedure_at ps p))) (form_or_zero o) ↔ GoalHolds ps (procedure_at ps p) (Invariant n)
-    invariant_says n None e = rw e ((λ h. tt), (λ h s c t. zero-≤ᵛ-one))
+    invariant_says n None e = rw e ((λ h s c t. tt), (λ h s c t. zero-≤ᵛ-one))
     invariant_says n (Some f) e = rw e ((λ h. h), (λ h. h))
 
     pub said : (id : GoalId) → Holds (goal (question ps (procedure_at ps p) id)) ↔ GoalHolds ps (procedure_at ps p) id
@@ -62,7 +62,7 @@ module _ (speak : PrenexedGoalsSpeakOfChoices) (means : GeneratedFormMeansActs) 
     said Pre = both_ways (by_choices _ (proper formula over encoded ps rules p there Pre)) (bound_says (procedure_at ps p).pre)
     said Post = both_ways (by_choices _ (proper formula over encoded ps rules p there Post)) (bound_says (procedure_at ps p).post)
     said (Invariant n) = let f = form_or_zero (invariant_in n (in_order (acts_in (procedure_at ps p).body))) in let i = invariant_says n _ refl in let b = bound_says f in both_ways (by_choices _ (proper formula over encoded ps rules p there (Invariant n))) ((λ h. i.0 (b.0 h)), (λ h. b.1 (i.1 h)))
-    said (Ranking n) = both_ways (by_choices _ (proper formula over encoded ps rules p there (Ranking n))) ((λ h. tt), (λ h s c t. zero-≤ᵛ-one))
+    said (Ranking n) = both_ways (by_choices _ (proper formula over encoded ps rules p there (Ranking n))) ((λ h s c t. tt), (λ h s c t. zero-≤ᵛ-one))
 
   pub made_goals_say : MadeGoalsSayBounds
   made_goals_say ps p id rules there = said ps rules p there id

@@ -182,6 +182,7 @@ rankings k o (Act.loop h b ∷ rest) from (suc n) e f =
     one_loop k o h.number (is_some h.rank) (ranked_in rest) (f h.number (omega (arith, first))) (rankings k (Some (goal_name k (Ranking h.number))) rest (suc from) n others (λ m l. later_ranking k h.number m (omega (arith, first, l)))) (rankings k o rest (suc from) n others (λ m l. f m (omega (arith, l))))
 rankings k o (Act.set x t span ∷ rest) from n e f = rankings k o rest from n e f
 rankings k o (Act.draw x qs span ∷ rest) from n e f = rankings k o rest from n e f
+rankings k o (Act.toss x w span ∷ rest) from n e f = rankings k o rest from n e f
 rankings k o (Act.any x up ty span ∷ rest) from n e f = rankings k o rest from n e f
 rankings k o (Act.reward r span ∷ rest) from n e f = rankings k o rest from n e f
 rankings k o (Act.ifs arms x span ∷ rest) from n e f = rankings k o rest from n e f

@@ -106,6 +106,7 @@ mutual
   encoded_stands_in : (n : ℕ) (ps : List TypedProcedure) (p : TypedProcedure) → Each (StandsWithin n) ps → (m : ℕ) (a : Act) → ActStands n a → Each (ActStands n) (inside a) → Stand n (encoded_act ps p m a)
   encoded_stands_in n ps p s m (Act.set x t span) h k = (h, tt)
   encoded_stands_in n ps p s m (Act.draw x qs span) h k = (h, tt)
+  encoded_stands_in n ps p s m (Act.toss x f span) h k = (h, tt)
   encoded_stands_in n ps p s m (Act.any x up ty span) h k = (h, tt)
   encoded_stands_in n ps p s m (Act.reward f span) h k = (h, tt)
   encoded_stands_in n ps p s m (Act.ifs arms e span) h k =
@@ -138,6 +139,7 @@ invariant_stands n k [] h = tt
 invariant_stands n k (Act.loop g b ∷ rest) h = or_next_stands n (g.number == k) g.inv (invariant_in k rest) h.0.1.0 (invariant_stands n k rest h.1)
 invariant_stands n k (Act.set x t span ∷ rest) h = invariant_stands n k rest h.1
 invariant_stands n k (Act.draw x qs span ∷ rest) h = invariant_stands n k rest h.1
+invariant_stands n k (Act.toss x f span ∷ rest) h = invariant_stands n k rest h.1
 invariant_stands n k (Act.any x up ty span ∷ rest) h = invariant_stands n k rest h.1
 invariant_stands n k (Act.reward f span ∷ rest) h = invariant_stands n k rest h.1
 invariant_stands n k (Act.ifs arms e span ∷ rest) h = invariant_stands n k rest h.1

@@ -19,7 +19,7 @@ use Rattle.heylo_formula.specs.NumericVariables.{has_variable}
 use Rattle.linear_form.specs.Nonlinear.{first_product, first_product_in, product_at}
 use Rattle.verify_core.specs.Places.{ActStands, CondStands, FormStands, GuardsStand, TermStands}
 use Rattle.loop_encodings.proofs.exported.FromRules.{each_first, each_second}
-use Rattle.vp_generator.specs.Generated.{check_form, draw_form, part_form, pick_form, sum_of_parts, validate_form, vp, vp_act, vp_arms}
+use Rattle.vp_generator.specs.Generated.{check_form, draw_form, part_form, pick_form, sum_of_parts, toss_form, validate_form, vp, vp_act, vp_arms}
 use Rattle.vp_generator.specs.Prenexed.{Numbering, renumbered, unbound, unbound_in}
 
 if_stands : (n : ℕ) (b : Bool) (f g : Form) → FormStands n f → FormStands n g → FormStands n (if b then f else g)
@@ -190,6 +190,10 @@ draw_stands : (n x : ℕ) (ps : List (Rational × Term)) (k : Form) → Each (λ
 draw_stands n x [] k h i = tt
 draw_stands n x (p ∷ ps) k h i = sum_stands n x ps k (part_form x p k) h.1 i (put_stands n x p.1 k h.0 i)
 
+-- both products of a toss have its place
+toss_stands : (n x : ℕ) (f : Form) (span : Span) (k : Form) → span.from ≤ n → FormStands n f → FormStands n k → FormStands n (toss_form x f span k)
+toss_stands n x f span k l h i = ((l, ((h, tt), put_stands n x (Term.truth (Cond.constant true)) k tt i)), (l, ((tt, (h, tt)), put_stands n x (Term.truth (Cond.constant false)) k tt i)))
+
 pick_stands : (n : ℕ) (up : Bool) (a b : Form) → FormStands n a → FormStands n b → FormStands n (pick_form up a b)
 pick_stands n true a b h k = (h, k)
 pick_stands n false a b h k = (h, k)
@@ -212,6 +216,7 @@ mutual
   vp_stands_in : (n : ℕ) (a : Act) (k : Form) → ActStands n a → Each (ActStands n) (inside a) → FormStands n k → FormStands n (vp_act a k)
   vp_stands_in n (Act.set x t span) k h j i = put_stands n x t k h.1 i
   vp_stands_in n (Act.draw x ps span) k h j i = draw_stands n x ps k h.1 i
+  vp_stands_in n (Act.toss x f span) k h j i = toss_stands n x f span k h.0 h.1 i
   vp_stands_in n (Act.any x up ty span) k h j i = i
   vp_stands_in n (Act.reward f span) k h j i = (i, h.1)
   vp_stands_in n (Act.ifs arms e span) k h j i = vp_stands_arms n arms k (vp e k) h.1 (each_first (ActStands n) (inside_arms arms) (in_order e) j) i (vp_stands n e k (each_second (ActStands n) (inside_arms arms) (in_order e) j) i)

@@ -32,6 +32,7 @@ mutual
   next_stands : (n : ℕ) (a : Act) (rest : Acts) → ActStands n a → Each (ActStands n) (inside a) → Stand n rest → Stand n (upward_next a rest)
   next_stands n (Act.set x t span) rest h i k = (h, k)
   next_stands n (Act.draw x qs span) rest h i k = (h, k)
+  next_stands n (Act.toss x f span) rest h i k = (h, k)
   next_stands n (Act.any x up ty span) rest h i k = (h, k)
   next_stands n (Act.reward f span) rest h i k = k
   next_stands n (Act.ifs arms e span) rest h i k =

@@ -1,6 +1,7 @@
 -- What the answers of a file promise of its runs. This project's own.
-use Rattle.std.specs.Prelude.{◌≡◌, ◌≤◌, ℕ, List, ◌∷◌, ◌++◌, length, take, Vec}
+use Rattle.std.specs.Prelude.{◌≡◌, ◌≤◌, ℕ, Bool, true, false, List, ◌∷◌, ◌++◌, length, take, Vec}
 use Rattle.std.specs.declared.alloc.Global.{Global}
+use Rattle.heylo_formula.specs.declared.goals.GoalId.{GoalId}
 use Rattle.heylo_formula.specs.declared.goals.GoalId.TheVariants.{Main}
 use Rattle.heylo_formula.specs.declared.values.Val.{Val}
 use Rattle.heyvl_acts.specs.Acts.{TypedProcedure, variables, acts_in, procedure_at}
@@ -8,17 +9,18 @@ use Rattle.heyvl_acts.specs.Length.{length_of}
 use Rattle.heyvl_acts.specs.Places.{in_order}
 use Rattle.heyvl_acts.specs.Program.{IsProgram}
 use Rattle.heyvl_acts.specs.Rules.{Each}
+use Rattle.loop_encodings.specs.BoundGoals.{BoundGoalsHold, GoalFails, goal_variables}
 use Rattle.loop_encodings.specs.Law.{IsBroken}
 use Rattle.heyvl_acts.specs.Straight.{IsStraight}
-use Rattle.ranking_rule.specs.Rankings.{RankedLoop}
+use Rattle.ranking_rule.specs.Rankings.{IsNoRanking, IsRanking, RankedLoop}
 use Rattle.run_machine.specs.Bound.{Bound, IsState, RankedBy}
 use Rattle.std.specs.List.{Contains}
 use Rattle.verdict_report.specs.declared.answers.Answer.{Answer}
 use Rattle.verdict_report.specs.declared.answers.LoopAnswer.{LoopAnswer}
 use Rattle.verdict_report.specs.declared.answers.RankVerdict.{RankVerdict}
-use Rattle.verdict_report.specs.declared.answers.RankVerdict.TheVariants.{Ranked}
+use Rattle.verdict_report.specs.declared.answers.RankVerdict.TheVariants.{NotRanked, Ranked}
 use Rattle.verdict_report.specs.declared.answers.Verdict.{Verdict}
-use Rattle.verdict_report.specs.declared.answers.Verdict.TheVariants.{Verified, NotVerified}
+use Rattle.verdict_report.specs.declared.answers.Verdict.TheVariants.{Verified, Valid, NotVerified, Unknown, Unchecked, Conditional, NoBody}
 
 -- This is the verdict on the procedure with the number p.
 pub record IsVerdictOn (answers : List Answer) (p : ℕ) (v : Verdict) : Type 0 where
@@ -34,6 +36,30 @@ pub record IsVerdictOn (answers : List Answer) (p : ℕ) (v : Verdict) : Type 0 
 -- weighted and the weight still running are at least its pre.
 abbrev pub VerifiedBoundsHold : List TypedProcedure → List Answer → Type 0
 VerifiedBoundsHold ps answers = (p : ℕ) → IsVerdictOn answers p Verified → Bound ps p
+
+-- Whether the verdict says that all goals of the bound are proved, whatever the procedure's kind and what it reaches.
+abbrev pub says_proved : Verdict → Bool
+says_proved Verified = true
+says_proved (Valid why) = true
+says_proved (Conditional q) = true
+says_proved (NotVerified id s) = false
+says_proved (Unknown id cause) = false
+says_proved (Unchecked id miss) = false
+says_proved NoBody = false
+
+-- Of each procedure whose goals are said to be proved, the goals of its bound hold, for every state and all choices.
+abbrev pub ProvedGoalsHold : List TypedProcedure → List Answer → Type 0
+ProvedGoalsHold ps answers = (p : ℕ) (v : Verdict) → IsVerdictOn answers p v → says_proved v ≡ true → BoundGoalsHold ps (procedure_at ps p)
+
+-- The first values of what is shown are a state of the procedure, and the goal fails there by the meaning of formulas: the main
+-- goal with the values that are shown of its fresh variables.
+pub record IsFalsifiedIn (ps : List TypedProcedure) (p : ℕ) (id : GoalId) (s : List Val) : Type 0 where
+  pub state : IsState (procedure_at ps p) (take (length (variables (procedure_at ps p))) s)
+  pub fails : GoalFails ps (procedure_at ps p) id (take (length (goal_variables ps (procedure_at ps p) id)) s)
+
+-- Each goal that is said to be falsified is so in the state that is shown.
+abbrev pub ShownStatesFalsify : List TypedProcedure → List Answer → Type 0
+ShownStatesFalsify ps answers = (p : ℕ) (id : GoalId) (s : Vec Val Global) → IsVerdictOn answers p (NotVerified id s) → IsFalsifiedIn ps p id s.items
 
 -- Each program without loops and calls whose bound is falsified has runs that break it: the first values of the state that is
 -- shown are an initial state, and from there some scheduler breaks the bound, for each number of steps from the length of the
@@ -57,18 +83,31 @@ pub record IsVerdictOnLoop (answers : List Answer) (p n : ℕ) (v : RankVerdict)
   pub number : line.number ≡ n
   pub verdict : line.rank ≡ v
 
--- Each loop that is ranked has a ranking, and this bounds its turns: from every state of its procedure, under every scheduler and
+-- Each loop that is ranked has a ranking, the ranking's goal holds for every state and all choices, and it bounds the loop's turns: from every state of its procedure, under every scheduler and
 -- for every n, the expected turns of the loop alone within n steps, times the ranking's step, are at most the ranking. This holds
 -- also where the procedure is no program, or isn't verified.
 pub record IsRankedLoop (ps : List TypedProcedure) (p n : ℕ) : Type 0 where
   pub loop : RankedLoop (procedure_at ps p) n
+  pub ranking : IsRanking (procedure_at ps p) loop.head loop.body loop.rank
   pub turns : RankedBy ps p loop.head loop.body loop.rank
 
 abbrev pub RankedLoopsAreBounded : List TypedProcedure → List Answer → Type 0
 RankedLoopsAreBounded ps answers = (p n : ℕ) → IsVerdictOnLoop answers p n Ranked → IsRankedLoop ps p n
+
+-- The loop has a ranking, which is none in the state that the first values of what is shown are.
+pub record IsUnrankedIn (ps : List TypedProcedure) (p n : ℕ) (s : List Val) : Type 0 where
+  pub loop : RankedLoop (procedure_at ps p) n
+  pub fails : IsNoRanking (procedure_at ps p) loop.head loop.body loop.rank (take (length (variables (procedure_at ps p))) s)
+
+-- Each ranking that is said to be falsified is so in the state that is shown.
+abbrev pub ShownStatesUnrank : List TypedProcedure → List Answer → Type 0
+ShownStatesUnrank ps answers = (p n : ℕ) (s : Vec Val Global) → IsVerdictOnLoop answers p n (NotRanked s) → IsUnrankedIn ps p n s.items
 
 -- The headline.
 pub record IsHeadline (ps : List TypedProcedure) (answers : List Answer) : Type 0 where
   pub verified : VerifiedBoundsHold ps answers
   pub ranked : RankedLoopsAreBounded ps answers
   pub falsified : FalsifiedBoundsBreak ps answers
+  pub proved : ProvedGoalsHold ps answers
+  pub shown : ShownStatesFalsify ps answers
+  pub unranked : ShownStatesUnrank ps answers

@@ -10,6 +10,7 @@ pub mod Headline
 pub mod Places
 pub mod GoalLaws
 pub mod FreshVariables
+pub mod TossProducts
 pub mod Checked
 pub mod CheckedRankings
 pub mod CheckedAnswers

@@ -55,6 +55,7 @@ RankStands n (Some r) = FormStands n r.1
 abbrev pub ActStands : ℕ → Act → Type 0
 ActStands n (Act.set x t span) = (span.from ≤ n) × TermStands n t
 ActStands n (Act.draw x qs span) = (span.from ≤ n) × Each (λ q. TermStands n q.1) qs
+ActStands n (Act.toss x f span) = (span.from ≤ n) × FormStands n f
 ActStands n (Act.any x up ty span) = span.from ≤ n
 ActStands n (Act.reward f span) = (span.from ≤ n) × FormStands n f
 ActStands n (Act.ifs arms e span) = (span.from ≤ n) × GuardsStand n arms

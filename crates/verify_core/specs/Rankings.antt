@@ -17,6 +17,7 @@ ranked_in [] = []
 ranked_in (Act.loop h b ∷ rest) = if is_some h.rank then h.number ∷ ranked_in rest else ranked_in rest
 ranked_in (Act.set x t span ∷ rest) = ranked_in rest
 ranked_in (Act.draw x qs span ∷ rest) = ranked_in rest
+ranked_in (Act.toss x f span ∷ rest) = ranked_in rest
 ranked_in (Act.any x up ty span ∷ rest) = ranked_in rest
 ranked_in (Act.reward f span ∷ rest) = ranked_in rest
 ranked_in (Act.ifs arms e span ∷ rest) = ranked_in rest

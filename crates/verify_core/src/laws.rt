@@ -3,6 +3,7 @@
 ghost use Rattle.verify_core.specs.CheckedProofs.{ProofsAreAccepted, ProvedGoalsAreAccepted, ProvedRankingsAreAccepted};
 ghost use Rattle.verify_core.specs.FreshVariables as new;
 ghost use Rattle.verify_core.specs.GoalLaws.{MadeGoalsSayBounds};
+ghost use Rattle.verify_core.specs.TossProducts.{TossProductsAreLinear};
 
 use farkas_check::certificates_are_told_apart;
 use loop_encodings::{encodings_are_over_their_variables, main_goals_lack_fresh_variables};
@@ -36,3 +37,8 @@ pub fn proved_goals_are_accepted()
     walk_trees_certify();
     certificates_are_told_apart();
 }
+
+/// A goal is never nonlinear at a toss: what is named is a product inside the conditions of its formula, or one of what follows.
+pub fn toss_products_are_linear()
+    ensures { TossProductsAreLinear }
+{}

@@ -19,7 +19,10 @@ mod verifying;
 mod whole;
 
 pub use certified::check_all;
-pub use laws::{made_goals_lack_fresh_variables, made_goals_say_bounds, proved_goals_are_accepted};
+pub use laws::{
+    made_goals_lack_fresh_variables, made_goals_say_bounds, proved_goals_are_accepted,
+    toss_products_are_linear,
+};
 pub use making::goals;
 pub use verifying::verify;
 pub use whole::Whole;

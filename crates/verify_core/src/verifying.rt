@@ -21,7 +21,7 @@ use loop_encodings::{
 };
 use ranking_rule::{ranking_goals_say_rankings, rankings_bound_turns};
 use std::alloc::{AllocError, Global};
-use vp_generator::{generated_form_means_acts, prenexed_form_means_choices};
+use vp_generator::{generated_form_means_acts, prenexed_goals_speak_of_choices};
 
 /// The answers of the file's procedures: on each bound by its own goals, the procedure's kind and the procedures that it reaches;
 /// on each ranking by its own goal alone. Want of memory is the one error.
@@ -38,7 +38,7 @@ pub fn verify(alloc: Global, typed: &Typed) -> Result<Whole, AllocError>
     broken_goals_break_bounds();
     encodings_are_over_their_variables();
     generated_form_means_acts();
-    prenexed_form_means_choices();
+    prenexed_goals_speak_of_choices();
     ranking_goals_say_rankings();
     rankings_bound_turns();
     let mut certs = Vec::new(alloc);

@@ -23,6 +23,7 @@ abbrev pub asked_by : Act → List Asked
 asked_by (Act.loop h b) = (Invariant h.number, h.inv) ∷ []
 asked_by (Act.set x t span) = []
 asked_by (Act.draw x ps span) = []
+asked_by (Act.toss x f span) = []
 asked_by (Act.any x up ty span) = []
 asked_by (Act.reward f span) = []
 asked_by (Act.ifs arms e span) = []

@@ -1,12 +1,13 @@
-use Rattle.std.proofs.Common.{◌∙◌, length, map}
+use Rattle.std.proofs.Common.{◌∙◌, ◌<◌, ℕ, length, map}
 use Rattle.std.proofs.lemmas.List.{length-map}
+use Rattle.heylo_formula.specs.declared.goals.GoalId.{GoalId}
 use Rattle.heyvl_acts.specs.Acts.{procedure_at}
 use Rattle.heyvl_acts.specs.PlainActs.{procedure_of, procedures_of}
 use Rattle.verify_core.specs.Questions.{question}
 use Rattle.verify_core.specs.internal.Checking.{is_unverified}
 use Rattle.verify_core.proofs.AskedGoals.{goal_is, proper}
-use Rattle.verify_core.proofs.CertifiedBounds.{certified_bounds_hold, none_falsified}
-use Rattle.verify_core.proofs.CertifiedRankings.{certified_rankings_bound}
+use Rattle.verify_core.proofs.CertifiedBounds.{certified_bounds_hold, certified_goals_hold, none_falsified, none_shown}
+use Rattle.verify_core.proofs.CertifiedRankings.{certified_rankings_bound, none_unranked}
 use Rattle.verify_core.proofs.CheckedFiles.{checked_file, marks_sized, own_sized}
 use Rattle.verify_core.proofs.PlacedChecks.{placed_answers}
 use Rattle.verify_core.proofs.certified.check_all.Goals as goal
@@ -30,10 +31,12 @@ returns-clause-headline c =
     let certs = c.args.certs.now in
     let answers = c.in_ok-answers.answers.items in
     let file = checked_file ps certs c.in_ok-own.own.items answers c.in_ok-own.ensures c.in_ok-answers.ensures in
+    let typed = λ (p : ℕ) (l : p < length ps) (id : GoalId). (goal_is c.prenexed_goals_speak_of_choices.ensures.goals (question ps (procedure_at ps p) id) (proper c.generated_form_means_acts.ensures.typed c.generated_form_means_acts.ensures.over c.encodings_are_over_their_variables.ensures.over ps c.requires.rules.each p l id)).typed in
     record {
-      verified = certified_bounds_hold c.shown_bounds_hold.ensures c.certified_goals_hold.ensures c.made_goals_say_bounds.ensures ps certs answers c.requires.rules.each
-          (λ p l id. (goal_is c.prenexed_goals_speak_of_choices.ensures.goals (question ps (procedure_at ps p) id) (proper c.generated_form_means_acts.ensures.typed c.generated_form_means_acts.ensures.over c.encodings_are_over_their_variables.ensures.over ps c.requires.rules.each p l id)).typed)
-          file;
+      verified = certified_bounds_hold c.shown_bounds_hold.ensures c.certified_goals_hold.ensures c.made_goals_say_bounds.ensures ps certs answers c.requires.rules.each typed file;
       ranked = certified_rankings_bound c.certified_goals_hold.ensures c.ranking_goals_say_rankings.ensures.goals c.ranking_goals_say_rankings.ensures.holds c.rankings_bound_turns.ensures ps certs c.requires.rules.each answers file;
       falsified = none_falsified ps certs answers file;
+      proved = certified_goals_hold c.certified_goals_hold.ensures c.made_goals_say_bounds.ensures ps certs answers c.requires.rules.each typed file;
+      shown = none_shown ps certs answers file;
+      unranked = none_unranked ps certs answers file;
     }

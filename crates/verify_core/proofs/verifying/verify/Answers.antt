@@ -41,4 +41,4 @@ returns-clause-headline c =
     let ps = procedures_of c.args.typed.now in
     let s = c.in_ok-outcomes.ensures in
     let all = c.in_ok-answers.answers.items in
-    headline c.made_goals_say_bounds.ensures c.shown_bounds_hold.ensures c.broken_goals_break_bounds.ensures c.encodings_are_over_their_variables.ensures.over c.generated_form_means_acts.ensures.value c.generated_form_means_acts.ensures.over c.prenexed_form_means_choices.ensures.found ps s.table c.requires.rules.each s.decided s.settled c.rankings_bound_turns.ensures c.ranking_goals_say_rankings.ensures.holds s.ranks s.ranked s.ranks_settled all (answers_of_table ps c.in_ok-outcomes.outcomes.items c.settle.new.certs.items c.deref-2.result.now all s (c.deref-2.ensures.value ∙ c.in_ok-marks.ensures ∙ ap (marks ps) c.deref.ensures.value) c.in_ok-answers.ensures.answers)
+    headline c.made_goals_say_bounds.ensures c.shown_bounds_hold.ensures c.broken_goals_break_bounds.ensures c.encodings_are_over_their_variables.ensures.over c.generated_form_means_acts.ensures.value c.generated_form_means_acts.ensures.typed c.generated_form_means_acts.ensures.over c.prenexed_goals_speak_of_choices.ensures.failing ps s.table c.requires.rules.each s.decided s.settled c.rankings_bound_turns.ensures c.ranking_goals_say_rankings.ensures.holds c.ranking_goals_say_rankings.ensures.failing s.ranks s.ranked s.ranks_settled all (answers_of_table ps c.in_ok-outcomes.outcomes.items c.settle.new.certs.items c.deref-2.result.now all s (c.deref-2.ensures.value ∙ c.in_ok-marks.ensures ∙ ap (marks ps) c.deref.ensures.value) c.in_ok-answers.ensures.answers)
