@@ -4,6 +4,7 @@ use Rattle.cert_text.specs.Texts.{AreFirstLines, IsFirstFault, Spells, text_of}
 use Rattle.goal_answers.specs.declared.trees.GoalCert.{GoalCert}
 use Rattle.heyvl_num.specs.Value.{zeroᵛ}
 use Rattle.heylo_formula.specs.Formula.{Form}
+use Rattle.heylo_formula.specs.declared.goals.GoalId.{GoalId}
 use Rattle.heylo_formula.specs.declared.goals.GoalId.TheVariants.{Main}
 use Rattle.heylo_formula.specs.declared.values.Val.{Val}
 use Rattle.heyvl_places.specs.declared.spans.Span.{Span}
@@ -19,6 +20,7 @@ use Rattle.heyvl_tool.specs.declared.requests.Settings.TheVariants.{Check}
 use Rattle.heyvl_acts.specs.Acts.{TypedProcedure, procedure_at}
 use Rattle.heyvl_types.specs.Findings.{Finding}
 use Rattle.heyvl_acts.specs.Program.{IsProgram}
+use Rattle.std.proofs.lemmas.Bool.{false≢true}
 use Rattle.std.proofs.Common.{List, None, Option, Some, [], ap, arith, codes, length, refl, subst, sym, true, false, ◌++◌, ◌∙◌, ◌∷◌, ◌≡◌, ℕ}
 use Rattle.std.specs.Fmt.{digits}
 use Rattle.std.specs.List.{Contains}
@@ -32,7 +34,7 @@ use Rattle.verdict_report.specs.declared.answers.Verdict.TheVariants.{NoBody, No
 use Rattle.verdict_report.specs.declared.answers.Verdict.{Verdict}
 use Rattle.verify_core.specs.Answered.{IsAnswered as AreAnswered}
 use Rattle.verify_core.specs.CheckedAnswers.{IsCheckedFile}
-use Rattle.verify_core.specs.Headline.{IsHeadline, IsVerdictOn, IsVerdictOnLoop}
+use Rattle.verify_core.specs.Headline.{IsHeadline, IsVerdictOn, IsVerdictOnLoop, says_proved}
 
 -- ---- A file: `coproc f() -> ()`
 
@@ -124,8 +126,8 @@ module _ (none : Vec LoopAnswer Global) (no_loops : none.items ≡ []) where
   not_verified : NoBody ≡ Verified → ⊥
   not_verified e = cc
 
-  not_falsified : (state : Vec Val Global) → NoBody ≡ NotVerified Main state → ⊥
-  not_falsified state e = cc
+  not_falsified : (id : GoalId) (state : Vec Val Global) → NoBody ≡ NotVerified id state → ⊥
+  not_falsified id state e = cc
 
   -- That there is no body promises nothing.
   promises_nothing : IsHeadline file (one NoBody)
@@ -133,7 +135,10 @@ module _ (none : Vec LoopAnswer Global) (no_loops : none.items ≡ []) where
   promises_nothing = record {
     verified = λ p on. absurd (not_verified (verdict_is NoBody Verified p on));
     ranked = λ p n on. absurd (none_listed on.line on.answer.loops.items (ap (λ (x : Answer). x.loops.items) (only (answer NoBody) on.answer on.before on.behind on.all) ∙ no_loops) on.listed);
-    falsified = λ p state on program straight. absurd (not_falsified state (verdict_is NoBody (NotVerified Main state) p on));
+    falsified = λ p state on program straight. absurd (not_falsified Main state (verdict_is NoBody (NotVerified Main state) p on));
+    proved = λ p v on e. absurd (false≢true (ap says_proved (verdict_is NoBody v p on) ∙ e));
+    shown = λ p id state on. absurd (not_falsified id state (verdict_is NoBody (NotVerified id state) p on));
+    unranked = λ p n state on. absurd (none_listed on.line on.answer.loops.items (ap (λ (x : Answer). x.loops.items) (only (answer NoBody) on.answer on.before on.behind on.all) ∙ no_loops) on.listed);
   }
 
   -- `certify` writes the title and the end.

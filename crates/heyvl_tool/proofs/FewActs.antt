@@ -52,6 +52,7 @@ module _ (p : TypedProcedure) where
     act_counts : (a : Act) → Counts p a → Each (Counts p) (inside a) → suc (length (inside a)) ≤ count_of_act a
     act_counts (Act.set x t span) k ks = omega arith
     act_counts (Act.draw x ps span) k ks = omega arith
+    act_counts (Act.toss x f span) k ks = omega arith
     act_counts (Act.any x up ty span) k ks = omega arith
     act_counts (Act.reward f span) k ks = omega arith
     act_counts (Act.ifs Arms.no_arm e span) k ks = absurd k.0

@@ -33,6 +33,7 @@ module _ (n m : ℕ) (le : n ≤ m) where
   act_more : (a : Act) → ActWithin n a → ActWithin m a
   act_more (Act.set x t span) h = omega (arith, le, h)
   act_more (Act.draw x ps span) h = each_weaker (λ p. nodes_in_term p.1 ≤ n) (λ p. nodes_in_term p.1 ≤ m) (λ p k. omega (arith, le, k)) ps h
+  act_more (Act.toss x f span) h = omega (arith, le, h)
   act_more (Act.any x up ty span) h = tt
   act_more (Act.reward f span) h = omega (arith, le, h)
   act_more (Act.ifs arms e span) h = guards_more arms h

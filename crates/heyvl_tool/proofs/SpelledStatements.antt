@@ -2,6 +2,7 @@
 use Rattle.heyvl_tool.proofs.EachOf.{each_both, each_join}
 use Rattle.heyvl_tool.proofs.SpelledExpressions.{ExpressionStands, condition_stands, expr, form_stands, term_stands}
 use Rattle.heyvl_tool.proofs.Spelled.{ArePlaced, Gives, any, begins, each, items, items0, within, ◌before◌}
+use Rattle.heylo_formula.specs.Formula.{Form}
 use Rattle.heyvl_num.specs.Rational.{Rational, ratio}
 use Rattle.heyvl_syntax.specs.Expressions.{Expression}
 use Rattle.heyvl_syntax.specs.Grammar.{IsAssign, IsBraced, IsCall, IsElse, IsElseIfs, IsFull, IsGiven, IsIf, IsRight, IsRule, IsStmt, IsStmts, IsWeighted}
@@ -15,15 +16,15 @@ use Rattle.heyvl_syntax.specs.declared.tokens.Token.{Token}
 use Rattle.heyvl_syntax.specs.declared.types.TypeName.{TypeName}
 use Rattle.heyvl_acts.specs.Acts.{Act, Acts, Arms}
 use Rattle.heyvl_types.specs.Files.{setting}
-use Rattle.heyvl_types.specs.Literals.{integer}
+use Rattle.heyvl_types.specs.Literals.{integer, is_weight_literal, weight, weight_value}
 use Rattle.heyvl_acts.specs.Places.{in_order, inside_arms}
 use Rattle.heyvl_acts.specs.Rules.{Each}
 use Rattle.heyvl_types.specs.Scopes.{Scope}
 use Rattle.heyvl_types.specs.Signatures.{Called}
-use Rattle.heyvl_types.specs.StatementActs.{arms_acts, assigned, block_acts, choose_parts, declared_act, havocs, integer_parts, invariant_of, loops, loops_of_arms, loops_of_block, ranking_of, statement_acts, targets, terms, unif_parts}
+use Rattle.heyvl_types.specs.StatementActs.{arms_acts, assigned, block_acts, choose_parts, declared_act, draw_or_toss, first_or_zero, form, havocs, integer_parts, invariant_of, loops, loops_of_arms, loops_of_block, ranking_of, statement_acts, targets, terms, unif_parts}
 use Rattle.heyvl_types.specs.TypedExpressions.{elaborate}
 use Rattle.heyvl_types.specs.Variables.{behind, locals, locals_of_arms, locals_of_block}
-use Rattle.std.proofs.Common.{Bool, List, None, Option, Some, [], inl, inr, length, suc, zero, ℤ, pos, unsigned_abs, ◌+ℤ◌, ◌-ℤ◌, ◌+◌, ◌++◌, ◌∷◌, ◌≡◌, ◌≤◌, ◌⊎◌, ℕ}
+use Rattle.std.proofs.Common.{Bool, List, None, Option, Some, [], false, inl, inr, length, suc, true, zero, ℤ, pos, unsigned_abs, ◌+ℤ◌, ◌-ℤ◌, ◌+◌, ◌++◌, ◌∷◌, ◌≡◌, ◌≤◌, ◌⊎◌, ℕ}
 use Rattle.verify_core.specs.Places.{ActStands, FormStands, GuardsStand, RankStands, TermStands}
 
 -- ---- Acts
@@ -37,6 +38,7 @@ abbrev pub IsArmed : Act → Type 0
 IsArmed (Act.ifs arms e span) = HasSomeArm arms
 IsArmed (Act.set x t span) = Unit {0}
 IsArmed (Act.draw x ps span) = Unit {0}
+IsArmed (Act.toss x f span) = Unit {0}
 IsArmed (Act.any x up ty span) = Unit {0}
 IsArmed (Act.reward f span) = Unit {0}
 IsArmed (Act.pick up a b span) = Unit {0}
@@ -69,6 +71,10 @@ module _ (n : ℕ) where
   terms_stand k sc [] h = tt
   terms_stand k sc (e ∷ es) h = (term_stands n (elaborate k sc e) (h.0 k sc), terms_stand k sc es h.1)
 
+  flip_stands : (literal : Bool) (x : ℕ) (w : Rational) (f : Form) (s : Span) → s.from ≤ n → FormStands n f → Each (IsSpelled n) (in_order (Acts.next (draw_or_toss literal x w f s) Acts.done))
+  flip_stands true x w f s l h = ((tt, (l, (tt, (tt, tt)))), tt)
+  flip_stands false x w f s l h = ((tt, (l, h)), tt)
+
   -- What gives it to variables stands where the statement does.
   abbrev RightStands : RightSide → Type 0
   RightStands r = (c : Called) (k : ℕ) (sc : Scope) (xs : List ℕ) (s : Span) → s.from ≤ n → Each (IsSpelled n) (in_order (Acts.next (assigned c k sc xs r s) Acts.done))
@@ -88,7 +94,11 @@ module _ (n : ℕ) where
 
   right : (r : RightSide) → Gives n (IsRight r) (RightStands r)
   right (RightSide.plain e) = record { reads = λ ts h i c k sc xs s l. ((tt, (l, term_stands n (elaborate k sc e) (within (full e) ts h i k sc))), tt) }
-  right (RightSide.flip p) = record { reads = λ ts h i c k sc xs s l. ((tt, (l, (tt, (tt, tt)))), tt) }
+  right (RightSide.flip p) = record {
+    reads = λ ts h i c k sc xs s l.
+        let x = within (any _ before any _ before full p before any _) ts h i in
+        flip_stands (is_weight_literal (weight p)) (first_or_zero xs) (weight_value (weight p)) (form (elaborate k sc p)) s l (form_stands n (elaborate k sc p) (x.1.1.0 k sc));
+  }
   right (RightSide.unif a b) = record { reads = λ ts h i c k sc xs s l. ((tt, (l, unif_stands (integer a) (integer b))), tt) }
   right (RightSide.choose parts) = record {
     reads = λ ts h i c k sc xs s l.
