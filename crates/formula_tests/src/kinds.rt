@@ -1,0 +1,110 @@
+//! What lines ask of numbers and formulas.
+
+use crate::formula_tests::{write_condition_size, write_renaming, write_size, write_substitution};
+use crate::number_tests::write_operation;
+use crate::value_tests::{held, write_value};
+use heylo_formula::Form;
+use quant_algebra::{goal_at, holds_at};
+use std::alloc::{AllocError, Global};
+use std::process::Abort;
+use test_lines::{LineKind, cut, differences};
+use test_texts::{form_of, goal_of, test_of};
+
+/// What a line asks.
+#[derive(Clone, Copy)]
+pub enum Kind {
+    /// `operation`: what a function of numbers gives.
+    Number,
+    Form(OfForm),
+    Condition(OfCondition),
+    /// `goal`: whether it holds.
+    Goal,
+}
+
+/// What a line asks of a form.
+#[derive(Clone, Copy)]
+pub enum OfForm {
+    /// `form ; state`: its value.
+    Value,
+    /// `form ; variable ; form`: the first form, with the second in place of the variable.
+    Substitution,
+    /// `form ; variable ; variable`: the form with the second variable in place of the first.
+    Renaming,
+    /// `form ; variable`: whether it is free and whether it occurs, and how many nodes the form has and how deep it is.
+    Size,
+}
+
+/// What a line asks of a condition, which is all of it.
+#[derive(Clone, Copy)]
+pub enum OfCondition {
+    /// Whether it holds.
+    Truth,
+    /// How many nodes it has and how deep it is.
+    Size,
+}
+
+fn write_of_form(
+    alloc: Global,
+    of: OfForm,
+    form: &Form,
+    rest: &str,
+    text: &mut String,
+) -> Result<(), AllocError> {
+    match of {
+        OfForm::Value => write_value(alloc, form, rest, text),
+        OfForm::Substitution => write_substitution(alloc, form, rest, text),
+        OfForm::Renaming => write_renaming(alloc, form, rest, text),
+        OfForm::Size => write_size(form, rest, text),
+    }
+}
+
+fn write_form(alloc: Global, of: OfForm, asked: &str, text: &mut String) -> Result<(), AllocError> {
+    let (form, rest) = cut(asked, ';');
+    let form = form_of(alloc, form)?;
+    write_of_form(alloc, of, &form, rest, text)
+}
+
+fn write_condition(
+    alloc: Global,
+    of: OfCondition,
+    asked: &str,
+    text: &mut String,
+) -> Result<(), AllocError> {
+    let condition = test_of(alloc, asked)?;
+    match of {
+        OfCondition::Truth => text.push_str(held(holds_at(&condition, &[]))),
+        OfCondition::Size => write_condition_size(&condition, text),
+    }
+}
+
+fn write_truth(alloc: Global, asked: &str, text: &mut String) -> Result<(), AllocError> {
+    let goal = goal_of(alloc, asked.trim(), "")?;
+    text.push_str(held(goal_at(&goal, &[])))
+}
+
+impl LineKind for Kind {
+    fn write_answer(
+        &self,
+        alloc: Global,
+        asked: &str,
+        text: &mut String,
+    ) -> Result<(), AllocError> {
+        match *self {
+            Kind::Number => write_operation(asked, text),
+            Kind::Form(of) => write_form(alloc, of, asked, text),
+            Kind::Condition(of) => write_condition(alloc, of, asked, text),
+            Kind::Goal => write_truth(alloc, asked, text),
+        }
+    }
+}
+
+/// Checks each line of each text.
+pub fn check_texts(
+    rt: &(impl Abort + AllocGlobal),
+    kind: Kind,
+    texts: &[&str],
+) -> Result<(), AllocError> {
+    let found = differences(rt.alloc(), &kind, texts)?;
+    assert!(rt; found.is_empty(), "{found}");
+    Ok(())
+}

@@ -1,0 +1,2 @@
+pub mod TestRows
+mod ZeroTests
