@@ -1,87 +1,87 @@
 //! What is decided of goals, worked out by hand.
 
-use crate::answers::{Kind, OfGoal, check_lines};
-use crate::texts::write_multiples;
+use crate::kinds::{Kind, check_texts};
 use std::alloc::AllocError;
+use test_lines::write_multiples;
 
 /// How many leaves the certificate of a goal has that holds, and whether it is accepted; else where the goal fails, or why nothing is
 /// known of it.
 const COMPARISONS: &str = "\
 # the sum of the truths of so many comparisons with 0 is at least 0
-v2 0 <= [] v1 0 <= [] v0 0 <= [] 0 + + + 0 ; iii => proved 8 yes
-v12 0 <= [] v11 0 <= [] v10 0 <= [] v9 0 <= [] v8 0 <= [] v7 0 <= [] v6 0 <= [] v5 0 <= [] v4 0 <= [] v3 0 <= [] v2 0 <= [] v1 0 <= [] v0 0 <= [] 0 + + + + + + + + + + + + + 0 ; iiiiiiiiiiiii => cells 4097";
+v2 0 <= [] v1 0 <= [] v0 0 <= [] 0 + + + 0 ; iii gives proved 8 yes
+v12 0 <= [] v11 0 <= [] v10 0 <= [] v9 0 <= [] v8 0 <= [] v7 0 <= [] v6 0 <= [] v5 0 <= [] v4 0 <= [] v3 0 <= [] v2 0 <= [] v1 0 <= [] v0 0 <= [] 0 + + + + + + + + + + + + + 0 ; iiiiiiiiiiiii gives cells 4097";
 
 /// The same of Booleans.
 const BOOLEANS: &str = "\
-b2 [] b1 [] b0 [] 0 + + + 0 ; bbb => proved 8 yes
-b11 [] b10 [] b9 [] b8 [] b7 [] b6 [] b5 [] b4 [] b3 [] b2 [] b1 [] b0 [] 0 + + + + + + + + + + + + 0 ; bbbbbbbbbbbb => proved 4096";
+b2 [] b1 [] b0 [] 0 + + + 0 ; bbb gives proved 8 yes
+b11 [] b10 [] b9 [] b8 [] b7 [] b6 [] b5 [] b4 [] b3 [] b2 [] b1 [] b0 [] 0 + + + + + + + + + + + + 0 ; bbbbbbbbbbbb gives proved 4096";
 
 /// One Boolean more.
 const MORE: &str = "\
-b12 [] b11 [] b10 [] b9 [] b8 [] b7 [] b6 [] b5 [] b4 [] b3 [] b2 [] b1 [] b0 [] 0 + + + + + + + + + + + + + 0 ; bbbbbbbbbbbbb => cells 4097";
+b12 [] b11 [] b10 [] b9 [] b8 [] b7 [] b6 [] b5 [] b4 [] b3 [] b2 [] b1 [] b0 [] 0 + + + + + + + + + + + + + 0 ; bbbbbbbbbbbbb gives cells 4097";
 
 /// The same of goals with few cells.
 const FEW: &str = "\
 # where y <= 2x, 2x + y <= 2 and 1 <= y: y takes 1, and x is 1/2 then
-y x x + <= x x + y + 2 <= and 1 y <= and 0 1 select 1 ; ii => broken x0 [1/2 1/2] x1 1
+y x x + <= x x + y + 2 <= and 1 y <= and 0 1 select 1 ; ii gives broken x0 [1/2 1/2] x1 1
 # a later false cell has a point
-b2 y x x + <= x x + y + 2 <= and 1 y <= and 0 1 select 0 select 1 ; iib => fails at 0 0 false
+b2 y x x + <= x x + y + 2 <= and 1 y <= and 0 1 select 0 select 1 ; iib gives fails at 0 0 false
 # 2^62, and a false cell before it
-4611686018427387904 0 ;  => bits
-4611686018427387903 0 ;  => proved 1 yes
-b0 0 4611686018427387904 select 1 ; b => bits
+4611686018427387904 0 ;  gives bits
+4611686018427387903 0 ;  gives proved 1 yes
+b0 0 4611686018427387904 select 1 ; b gives bits
 # infinity, and a point with the truths of its cell
-inf x ; r => proved 1 yes
-inf inf ;  => proved 1 yes
-x inf ; r => fails at 0
-b0 0 1 select 1 ; b => fails at true
+inf x ; r gives proved 1 yes
+inf inf ;  gives proved 1 yes
+x inf ; r gives fails at 0
+b0 0 1 select 1 ; b gives fails at true
 # an end that no state reaches; where the row of its denied goal reaches the bound
-x 0 < 0 1 select 1 ; u => proved 2 yes
-x 0 < 1/2147483647 1 select 1/2305843009213693951 ; u => bits
+x 0 < 0 1 select 1 ; u gives proved 2 yes
+x 0 < 1/2147483647 1 select 1/2305843009213693951 ; u gives bits
 # a product of two variables
-x y *5 0 ; rr => nonlinear at 5..6";
+x y *5 0 ; rr gives nonlinear at 5..6";
 
 /// The same of goals that ask again what the path has answered.
 const REPEATED: &str = "\
 # thrice the same: two cells, and on the way to each of them two sides are dropped
-3 x 1 <= [] x 1 <= [] x 1 <= [] + + ; u => proved 6 yes
-2 x 1 <= [] x 1 <= [] x 1 <= [] + + ; u => fails at 0
+3 x 1 <= [] x 1 <= [] x 1 <= [] + + ; u gives proved 6 yes
+2 x 1 <= [] x 1 <= [] x 1 <= [] + + ; u gives fails at 0
 # of whole numbers 2x <= 3 says the same as x <= 1
-3 x 1 <= [] x x + 3 <= [] x 1 <= [] + + ; u => proved 6 yes
+3 x 1 <= [] x x + 3 <= [] x 1 <= [] + + ; u gives proved 6 yes
 # x < 1 and x <= 1 differ at 1, which makes a third cell
-3 x 1 <= [] x 1 < [] x 1 <= [] + + ; u => proved 7 yes";
+3 x 1 <= [] x 1 < [] x 1 <= [] + + ; u gives proved 7 yes";
 
 /// Certificates of goals that hold.
 const CERTIFICATES: &str = "\
 # the denied goal stands before the sign of x
-x 0 < 0 1 select 1 ; u ; 0 => sff 0:1 2:1
-x 0 < 0 1 select 1 ; u ; 1 => sff 1:1
+x 0 < 0 1 select 1 ; u ; 0 gives sff 0:1 2:1
+x 0 < 0 1 select 1 ; u ; 1 gives sff 1:1
 # yes and then no to the same question: x <= 1 and 2 <= x
-3 x 1 <= [] x 1 <= [] x 1 <= [] + + ; u ; 2 => sssfffsfsff 0:1 1:1
+3 x 1 <= [] x 1 <= [] x 1 <= [] + + ; u ; 2 gives sssfffsfsff 0:1 1:1
 # a goal that holds plainly
-inf x ; r ; 0 => t
-inf inf ;  ; 0 => t";
+inf x ; r ; 0 gives t
+inf inf ;  ; 0 gives t";
 
 #[test]
 fn cells_of_comparisons(rt: HostRuntime) -> Result<(), AllocError> {
-    check_lines(&rt, Kind::Goal(OfGoal::Decision), COMPARISONS)
+    check_texts(&rt, Kind::Decision, &[COMPARISONS])
 }
 
 #[test]
 fn cells_of_booleans(rt: HostRuntime) -> Result<(), AllocError> {
-    check_lines(&rt, Kind::Goal(OfGoal::Decision), BOOLEANS)
+    check_texts(&rt, Kind::Decision, &[BOOLEANS])
 }
 
 #[test]
 fn too_many_cells(rt: HostRuntime) -> Result<(), AllocError> {
-    check_lines(&rt, Kind::Goal(OfGoal::Decision), MORE)
+    check_texts(&rt, Kind::Decision, &[MORE])
 }
 
 #[test]
 fn decisions(rt: HostRuntime) -> Result<(), AllocError> {
-    check_lines(&rt, Kind::Goal(OfGoal::Decision), FEW)?;
-    check_lines(&rt, Kind::Goal(OfGoal::Decision), REPEATED)?;
-    check_lines(&rt, Kind::Goal(OfGoal::Certificate), CERTIFICATES)
+    check_texts(&rt, Kind::Decision, &[FEW])?;
+    check_texts(&rt, Kind::Decision, &[REPEATED])?;
+    check_texts(&rt, Kind::Certificate, &[CERTIFICATES])
 }
 
 /// States 0 where `i*y + z <= x` for each i from 1 to 65, and `x + 66*j*y + z <= 0` for each j from 1 to 64, and else 1.
@@ -89,13 +89,17 @@ fn write_crossing(text: &mut String) -> Result<(), AllocError> {
     text.push_str("true ")?;
     write_multiples(text, 65, 1, "", " y * v2 + x <= and ")?;
     write_multiples(text, 64, 66, "x ", " y * v2 + + 0 <= and ")?;
-    text.push_str("0 1 select 1 ; iii => rows 1 4160")
+    text.push_str("0 1 select 1 ; ")
 }
 
-/// 65 lower and 64 upper bounds of x make 4,160 rows.
+/// 65 lower and 64 upper bounds of x make 4,160 rows. Where y and z aren't negative, two of the bounds imply the others.
 #[test]
 fn rows_that_are_too_many(rt: HostRuntime) -> Result<(), AllocError> {
-    let mut text = String::new(rt.alloc());
-    write_crossing(&mut text)?;
-    check_lines(&rt, Kind::Goal(OfGoal::Decision), text.as_str())
+    let mut free = String::new(rt.alloc());
+    write_crossing(&mut free)?;
+    free.push_str("iii gives rows 1 4160")?;
+    let mut unsigned = String::new(rt.alloc());
+    write_crossing(&mut unsigned)?;
+    unsigned.push_str("iuu gives fails at 0 0 0")?;
+    check_texts(&rt, Kind::Decision, &[free.as_str(), unsigned.as_str()])
 }

@@ -1,16 +1,17 @@
 //! What the libraries give for goals.
 
-use crate::linear_texts::{write_ask, write_cause, write_point, write_rows};
 use crate::paths::path_with;
+use crate::question_texts::{write_ask, write_cause};
 use crate::test_goals::decision_of;
-use crate::texts::{cut, index};
 use crate::tree_texts::{leaves, tree_of, write_leaf, write_letters};
-use farkas_check::{Checked, Tree, check};
+use farkas_check::check;
+use goal_answers::{Checked, Decision, Tree};
 use heylo_formula::Goal;
 use linear_form::{RowList, ask, nonlinear, rows};
-use region_split::Decision;
 use std::alloc::{AllocError, Global};
 use std::fmt::Write;
+use test_lines::{cut, index};
+use test_texts::{write_point, write_rows};
 
 /// Writes what stands behind these answers to the goal's questions.
 pub fn write_question(

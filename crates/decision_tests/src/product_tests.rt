@@ -1,20 +1,20 @@
 //! Products of two variables, with the place of the operator of the first one.
 
-use crate::answers::{Kind, OfGoal, check_lines};
+use crate::kinds::{Kind, check_texts};
 use std::alloc::AllocError;
 
 const PRODUCTS: &str = "\
 # x*y*z: the product of the left factor comes first
-x y *1 v2 *3 x => 1..2
+x y *1 v2 *3 x gives 1..2
 # x*(y*z): the outer product comes before that of its right factor
-v2 x y *3 *1 x => 1..2
+v2 x y *3 *1 x gives 1..2
 # 2*x is linear, and the stated form comes before the found one
-2 x *1 x y *7 => 7..8
-x y => none
+2 x *1 x y *7 gives 7..8
+x y gives none
 # [x*y <= x] * x: the factor in brackets holds no variable outside conditions, and the product inside counts
-x y *5 x <= [] x *2 x => 5..6";
+x y *5 x <= [] x *2 x gives 5..6";
 
 #[test]
 fn first_nonlinear_products(rt: HostRuntime) -> Result<(), AllocError> {
-    check_lines(&rt, Kind::Goal(OfGoal::Product), PRODUCTS)
+    check_texts(&rt, Kind::Product, &[PRODUCTS])
 }

@@ -1,8 +1,8 @@
 //! Certificates as texts.
 
-use crate::texts::{multipliers_of, write_multipliers};
-use farkas_check::Tree;
+use goal_answers::Tree;
 use std::alloc::{AllocError, Global};
+use test_texts::{multipliers_of, write_multipliers};
 
 /// The last tree; want of memory where there is none.
 fn last(trees: &mut Vec<Box<Tree>>) -> Result<Box<Tree>, AllocError> {

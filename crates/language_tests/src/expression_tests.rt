@@ -1,6 +1,6 @@
 //! Expressions with the trees that they spell and their places, all by hand.
 
-use crate::lines::{Kind, check_lines};
+use crate::kinds::{Kind, check_texts};
 use std::alloc::AllocError;
 
 /// Atoms.
@@ -67,9 +67,9 @@ a + (sup x: Real. x) gives {a + ({sup x: Real. x})} 2..3
 
 #[test]
 fn reads_expressions(rt: HostRuntime) -> Result<(), AllocError> {
-    check_lines(&rt, Kind::Tree, ATOMS)?;
-    check_lines(&rt, Kind::Tree, PREFIXES)?;
-    check_lines(&rt, Kind::Tree, GROUPING)?;
-    check_lines(&rt, Kind::Tree, COMPARISONS)?;
-    check_lines(&rt, Kind::Tree, NESTING)
+    check_texts(
+        &rt,
+        Kind::Tree,
+        &[ATOMS, PREFIXES, GROUPING, COMPARISONS, NESTING],
+    )
 }

@@ -1,6 +1,6 @@
 //! Texts of files with the procedures that they spell, all by hand.
 
-use crate::lines::{Kind, check_lines};
+use crate::kinds::{Kind, check_texts};
 use std::alloc::AllocError;
 
 /// Procedures with the expressions of their clauses, how many statements their bodies have, and the places; and what the first
@@ -31,14 +31,10 @@ const LOOP: &str =
 
 #[test]
 fn reads_files(rt: HostRuntime) -> Result<(), AllocError> {
-    check_lines(&rt, Kind::File, FILES)?;
-    check_lines(&rt, Kind::File, ENDS)?;
-    check_lines(&rt, Kind::File, ELSE)?;
-    check_lines(&rt, Kind::File, LOOP)
+    check_texts(&rt, Kind::File, &[FILES, ENDS, ELSE, LOOP])
 }
 
 #[test]
 fn copies_files(rt: HostRuntime) -> Result<(), AllocError> {
-    check_lines(&rt, Kind::Copy, FILES)?;
-    check_lines(&rt, Kind::Copy, LOOP)
+    check_texts(&rt, Kind::Copy, &[FILES, LOOP])
 }

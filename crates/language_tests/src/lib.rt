@@ -9,7 +9,7 @@ mod file_tests;
 #[cfg(test)]
 mod file_texts;
 #[cfg(test)]
-mod lines;
+mod kinds;
 #[cfg(test)]
 mod token_tests;
 #[cfg(test)]

@@ -1,6 +1,6 @@
 //! Bytes with their tokens, written by hand.
 
-use crate::lines::{Kind, check_lines};
+use crate::kinds::{Kind, check_texts};
 use crate::token_texts::write_lexed;
 use heyvl_places::place_at;
 use heyvl_syntax::lex;
@@ -130,9 +130,7 @@ const MARKS: &str = "\
 
 #[test]
 fn reads_texts(rt: HostRuntime) -> Result<(), AllocError> {
-    check_lines(&rt, Kind::Tokens, TEXTS)?;
-    check_lines(&rt, Kind::Tokens, KEYS)?;
-    check_lines(&rt, Kind::Tokens, MARKS)
+    check_texts(&rt, Kind::Tokens, &[TEXTS, KEYS, MARKS])
 }
 
 /// Bytes with line feeds, or such that are no text, and their tokens.

@@ -1,8 +1,7 @@
 //! What calls of the tool come to, worked out by hand. The report on the coin has 28 bytes.
 
-use crate::calls::{source_of, write_run};
-use crate::lines::{Kind, check_lines};
-use crate::sinks::sink_of;
+use crate::calls::{sink_of, source_of, write_run};
+use crate::kinds::{Kind, check_texts};
 use heyvl_tool::FILE_LIMIT;
 use std::alloc::AllocError;
 
@@ -16,7 +15,7 @@ check,f,c gives check [f] [c]";
 
 #[test]
 fn words_name_a_command_and_its_files(rt: HostRuntime) -> Result<(), AllocError> {
-    check_lines(&rt, Kind::Words, ASKED)
+    check_texts(&rt, Kind::Words, &[ASKED])
 }
 
 /// The coin's file is read by one call of 61 bytes and one that finds the end; each text is found, read once, and read to its end.
@@ -73,9 +72,7 @@ verify,f ; coin ;  ; 1 ; 28 gives 0 Nothing 1 28 Some(1) [coin: verified|1 proce
 
 #[test]
 fn calls_over_failing_devices(rt: HostRuntime) -> Result<(), AllocError> {
-    check_lines(&rt, Kind::Call, READ_FAULTS)?;
-    check_lines(&rt, Kind::Call, PREFIXES)?;
-    check_lines(&rt, Kind::Call, BYTES)
+    check_texts(&rt, Kind::Call, &[READ_FAULTS, PREFIXES, BYTES])
 }
 
 /// The second text is read, and may be too long, before a fault of the file is told.
@@ -84,7 +81,7 @@ fn long_certificates_are_refused(rt: HostRuntime) -> Result<(), AllocError> {
     let alloc = rt.alloc();
     let long = vec![in alloc; b' '; FILE_LIMIT + 1]?;
     let mut source = source_of(alloc, b"coproc coin(", &long, Vec::new(alloc))?;
-    let mut sink = sink_of(alloc, "64", "64", "")?;
+    let mut sink = sink_of(alloc, 64, Vec::new(alloc))?;
     let mut found = String::new(alloc);
     write_run(alloc, "check,f,c", &mut source, &mut sink, &mut found)?;
     assert!(rt; found.as_str() == "3 TooLong(1) 0 14 Some(2) [file too long|] ");

@@ -1,11 +1,10 @@
 //! Calls of the tool over devices in memory, and what words ask for.
 
-use crate::sinks::sink_of;
-use crate::texts::{cut, numbers_of, write_bytes};
 use heyvl_io::{MemSink, MemSource};
 use heyvl_tool::{Outcome, Settings, run_tool, settings};
 use std::alloc::{AllocError, Global};
 use std::fmt::Write;
+use test_lines::{calls_of, cut, size, write_bytes};
 
 const COIN: &str = "coproc coin() -> (b: Bool) pre 1/2 post [b] { b = flip(1/2) }";
 
@@ -50,6 +49,14 @@ pub fn source_of(
     Ok(MemSource::new(files, 64, fail))
 }
 
+/// A sink of which a write takes at most so many bytes, and these calls fail; want of memory where it would take none.
+pub fn sink_of(alloc: Global, most: usize, fail: Vec<u64>) -> Result<MemSink, AllocError> {
+    if most == 0 {
+        return Err(AllocError);
+    }
+    MemSink::new(alloc, 64, most, fail)
+}
+
 /// Writes the status, the fault, how many answers there are, how many bytes were written, how many texts were read, and the bytes.
 fn write_outcome(
     outcome: &Outcome,
@@ -87,8 +94,8 @@ pub fn write_call(alloc: Global, asked: &str, text: &mut String) -> Result<(), A
     let (fail, rest) = cut(rest, ';');
     let (most, stop) = cut(rest, ';');
     let file = file_named(file).as_bytes();
-    let mut source = source_of(alloc, file, COIN_CERT.as_bytes(), numbers_of(alloc, fail)?)?;
-    let mut sink = sink_of(alloc, "64", most, stop)?;
+    let mut source = source_of(alloc, file, COIN_CERT.as_bytes(), calls_of(alloc, fail)?)?;
+    let mut sink = sink_of(alloc, size(most)?, calls_of(alloc, stop)?)?;
     write_run(alloc, words, &mut source, &mut sink, text)
 }
 

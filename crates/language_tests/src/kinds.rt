@@ -1,4 +1,4 @@
-//! Lines of tests: a text, the word `gives`, and what is wanted.
+//! What lines ask of a text.
 
 use crate::file_texts::write_file;
 use crate::token_texts::write_lexed;
@@ -7,6 +7,7 @@ use heyvl_parse::parse;
 use heyvl_syntax::{File, Token, lex};
 use std::alloc::{AllocError, Global};
 use std::process::Abort;
+use test_lines::{LineKind, differences};
 
 /// What a line asks.
 #[derive(Clone, Copy)]
@@ -57,43 +58,29 @@ fn write_copied(alloc: Global, file: &File, text: &mut String) -> Result<(), All
     write_file(&copied, text)
 }
 
-/// Writes what the libraries give for a text.
-fn write_given(
-    alloc: Global,
-    kind: Kind,
-    asked: &str,
-    text: &mut String,
-) -> Result<(), AllocError> {
-    match kind {
-        Kind::Tokens => write_lexed(alloc, asked.as_bytes(), text),
-        Kind::Tree => write_parsed(alloc, asked, text),
-        Kind::File => write_file(&file_of(alloc, asked)?, text),
-        Kind::Copy => write_copied(alloc, &file_of(alloc, asked)?, text),
+impl LineKind for Kind {
+    fn write_answer(
+        &self,
+        alloc: Global,
+        asked: &str,
+        text: &mut String,
+    ) -> Result<(), AllocError> {
+        match self {
+            Kind::Tokens => write_lexed(alloc, asked.as_bytes(), text),
+            Kind::Tree => write_parsed(alloc, asked, text),
+            Kind::File => write_file(&file_of(alloc, asked)?, text),
+            Kind::Copy => write_copied(alloc, &file_of(alloc, asked)?, text),
+        }
     }
 }
 
-fn given(alloc: Global, kind: Kind, asked: &str) -> Result<String, AllocError> {
-    let mut text = String::new(alloc);
-    write_given(alloc, kind, asked, &mut text)?;
-    Ok(text)
-}
-
-/// Holds what a line wants against what the libraries give for its text.
-fn check_line(rt: &(impl Abort + AllocGlobal), kind: Kind, line: &str) -> Result<(), AllocError> {
-    let (asked, wanted) = line.split_once(" gives").unwrap_or((line, "no answer"));
-    let found = given(rt.alloc(), kind, asked)?;
-    assert!(rt; found.as_str().trim() == wanted.trim(), "{line}: {found}");
-    Ok(())
-}
-
-/// Checks each line.
-pub fn check_lines(
+/// Checks each line of each text.
+pub fn check_texts(
     rt: &(impl Abort + AllocGlobal),
     kind: Kind,
-    lines: &str,
+    texts: &[&str],
 ) -> Result<(), AllocError> {
-    for line in lines.lines() {
-        check_line(rt, kind, line)?;
-    }
+    let found = differences(rt.alloc(), &kind, texts)?;
+    assert!(rt; found.is_empty(), "{found}");
     Ok(())
 }

@@ -1,2 +1,0 @@
-pub mod TestRows
-mod ZeroTests
