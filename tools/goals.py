@@ -105,6 +105,12 @@ class Goal(Terms):
             found = self.sum(found, self.product(Value("UReal", False, weight), part))
         return found
 
+    def toss_worth(self, state, rest, targets, expression):
+        heads = self.least(self.value(expression, state), ONE)
+        weights = ((True, heads), (False, self.difference(ONE, heads)))
+        sides = [self.product(weight, rest(self.put(state, targets, [Value("Bool", False, side)]))) for side, weight in weights]
+        return self.sum(*sides)
+
     def any_worth(self, state, rest, names):
         return rest({**state, **self.state((name, state[name].type) for name in names)})
 
@@ -189,7 +195,7 @@ def statements_of(block):
 
 
 def targets_of(block):
-    return {x for kind, *parts in statements_of(block) if kind in ("set", "draw", "call", "any") for x in parts[0]}
+    return {x for kind, *parts in statements_of(block) if kind in ("set", "draw", "toss", "call", "any") for x in parts[0]}
 
 
 def goals(file, procedure, is_plain):

@@ -2,7 +2,7 @@
 
 A node is a tuple that begins with its kind. The statements, of which a `var` is two:
 
-  ("declare", name, type), ("set", targets, expression), ("draw", targets, [(weight, value), ..]),
+  ("declare", name, type), ("set", targets, expression), ("draw", targets, [(weight, value), ..]), ("toss", targets, expression),
   ("call", targets, name, arguments), ("any", names), ("reward", expression), ("check", word, expression), ("validate", word),
   ("if", [(guard, block), ..], block), ("pick", mark, block, block), ("while", {rule: expressions}, guard, block)
 
@@ -135,8 +135,7 @@ class Reader:
             return ("set", targets, self.expression())
         name, arguments = self.token(), self.listed("(", self.expression, ")")
         if name == "flip":
-            heads = literal(arguments[0])
-            return ("draw", targets, [(heads, ("truth", True)), (1 - heads, ("truth", False))])
+            return ("toss", targets, arguments[0])
         if name == "unif":
             first, last = (int(literal(end)) for end in arguments)
             parts = [(Fraction(1, last - first + 1), ("number", Fraction(n), "Int")) for n in range(first, last + 1)]

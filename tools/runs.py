@@ -48,6 +48,11 @@ class Runs:
     def draw_steps(self, run, targets, parts):
         return [self.set_steps(run._replace(weight=run.weight * weight), targets, value)[0] for weight, value in parts]
 
+    def toss_steps(self, run, targets, expression):
+        heads = min(self.goal.value(expression, run.state).amount, Fraction(1))
+        sides = ((True, heads), (False, 1 - heads))
+        return [self.put(run._replace(weight=run.weight * weight), targets, [Value("Bool", False, side)]) for side, weight in sides]
+
     def any_steps(self, run, names):
         type_name, entry = run.state[names[0]].type, self.entry(run)
         amount = type_name == "Bool" and entry == "true"

@@ -158,13 +158,19 @@ class Body:
         found = self.targets(scope, [type_name])
         return ([], self.writer.choice(found)) if found else (self.declared(scope, 0, type_name), list(scope)[-1])
 
+    def chance(self, scope):
+        """What a flip may be given: a literal, or what no number of the state enters but by conditions, also above 1."""
+        test = self.writer.any("Bool", scope, depth=1)
+        tests = ["[%s]", "[%s] / 3", "ite(%s, 1/3, 1)", "ite(%s, 3/2, 0)", "1/2 * [%s] + 1/4", "1 - [%s] / 2", "[%s] \\cap 2/3"]
+        return self.writer.choice([*CHANCES, "(3/4)", "1 + 1", *(form % test for form in tests)])
+
     def value(self, wanted, scope):
         """What may stand behind the `=` of a variable of this type."""
         kind = self.writer.choice(["draw", "choose", "expression", "expression"])
         if kind == "draw":
             first = self.writer.randint(-2 if wanted == "Int" else 0, 2)
             ends = f"{first}, {first + self.writer.randint(0, 2)}"
-            return f"flip({self.writer.choice(CHANCES)})" if wanted == "Bool" else f"unif({ends})"
+            return f"flip({self.chance(scope)})" if wanted == "Bool" else f"unif({ends})"
         if kind == "choose":
             parts = (f"{weight}: {self.writer.any(wanted, scope, depth=1)}" for weight in self.writer.choice(WEIGHTS))
             return f"choose {{ {', '.join(parts)} }}"
