@@ -144,7 +144,7 @@ fn write_crossings(text: &mut String) -> Result<(), AllocError> {
         65,
         65,
         with_z,
-        "-1x1 0 <=0 -1x1 3 <=0 -1x2 0 <=0 ; iuu gives rows 1 4227\n",
+        "-1x1 0 <=0 -1x1 3 <=0 -1x2 0 <=0 ; iuu gives refuted 0:1 65:1 131:67 132:2\n",
     )?;
     write_line(text, 200, 200, with_z, "; iii gives rows 1 13334\n")?;
     write_line(
