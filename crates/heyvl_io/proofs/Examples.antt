@@ -1,7 +1,8 @@
 -- The definitions at small values, worked out by hand.
-use Rattle.std.proofs.Common.{◌≡◌, ℕ, ◌-◌, ◌^◌, List, [], ◌∷◌, Some, None, inl, inr, refl, arith}
+use Rattle.std.proofs.Common.{◌≡◌, ℕ, ◌-◌, ◌^◌, ◌≤◌, List, [], ◌∷◌, length, map, Some, None, inl, inr, refl, ap, arith}
 use Rattle.heyvl_io.specs.Bytes.{with_appended, HandsOut}
 use Rattle.heyvl_io.specs.Faults.{Rose, next_count}
+use Rattle.heyvl_io.specs.History.{History, handed_out, with_start, with_bytes, since_start, IsTaken}
 use Rattle.heyvl_io.specs.Order.{untold, first, other, order_after}
 
 -- the names `a` and `bc`
@@ -74,3 +75,50 @@ rose_at_the_last_value = inr refl
 did_not_rise : Rose 3 3 → ⊥
 did_not_rise (inl less) = omega arith
 did_not_rise (inr last) = omega arith
+
+-- `a` was started and two bytes read of it, then `bc` was started and nothing read yet
+two_starts : History
+two_starts = handed_out a (1 ∷ 2 ∷ []) ∷ (handed_out bc [] ∷ [])
+
+no_start : with_start [] a ≡ handed_out a [] ∷ []
+unfolding a
+no_start = refl
+
+a_start_more : with_start (handed_out a (1 ∷ 2 ∷ []) ∷ []) bc ≡ two_starts
+unfolding two_starts a bc
+a_start_more = refl
+
+-- a name that is started again has an entry of its own
+a_start_again : with_start two_starts bc ≡ handed_out a (1 ∷ 2 ∷ []) ∷ (handed_out bc [] ∷ (handed_out bc [] ∷ []))
+unfolding two_starts a bc
+a_start_again = refl
+
+bytes_of_the_last : with_bytes two_starts (3 ∷ []) ≡ handed_out a (1 ∷ 2 ∷ []) ∷ (handed_out bc (3 ∷ []) ∷ [])
+unfolding two_starts a bc
+bytes_of_the_last = refl
+
+bytes_behind_bytes : with_bytes (with_bytes two_starts (3 ∷ [])) (4 ∷ 5 ∷ []) ≡ handed_out a (1 ∷ 2 ∷ []) ∷ (handed_out bc (3 ∷ 4 ∷ 5 ∷ []) ∷ [])
+unfolding two_starts a bc
+bytes_behind_bytes = refl
+
+since_the_last_start : since_start (with_bytes two_starts (3 ∷ [])) ≡ 3 ∷ []
+unfolding two_starts a bc
+since_the_last_start = refl
+
+three_of_three : IsTaken (handed_out a (1 ∷ 2 ∷ []) ∷ []) (handed_out a (1 ∷ 2 ∷ []) ∷ (handed_out bc (3 ∷ 4 ∷ 5 ∷ []) ∷ [])) bc 3
+unfolding a bc
+three_of_three = record { bytes = 3 ∷ 4 ∷ 5 ∷ []; one = refl; few = omega arith }
+
+three_of_two : IsTaken [] (handed_out a (3 ∷ 4 ∷ 5 ∷ []) ∷ []) a 2 → ⊥
+three_of_two h =
+    let same : 3 ∷ 4 ∷ 5 ∷ [] ≡ h.bytes = ap since_start h.one in
+    let few : length h.bytes ≤ 2 = h.few in
+    omega (arith, ap length same)
+
+another_name : IsTaken [] (handed_out a (3 ∷ []) ∷ []) bc 2 → ⊥
+unfolding a bc
+another_name h = let name : a ∷ [] ≡ bc ∷ [] = ap (map (λ s. s.name)) h.one in cc
+
+two_starts_are_not_one : IsTaken [] two_starts bc 5 → ⊥
+unfolding two_starts a bc
+two_starts_are_not_one h = let one = h.one in cc

@@ -1,4 +1,6 @@
+pub mod exported
 mod Examples
 mod Held
 mod Told
+mod Pieces
 mod Starting

@@ -1,7 +1,7 @@
-ghost use Rattle.std.specs.Prelude.{◌≡◌, [], None};
+ghost use Rattle.std.specs.Prelude.{◌≡◌, ◌<◌, [], length, None, IsSome};
 ghost use Rattle.heyvl_io.specs.Order.{untold};
 
-use crate::{Failed, Source};
+use crate::{Failed, Log, Source};
 use std::fs;
 use std::io::Read;
 use std::rt::Files;
@@ -11,23 +11,23 @@ use std::rt::Files;
 pub struct FileSource<R: Files> {
     runtime: R,
     file: Option<R::File>,
-    /// How many bytes of the started file were read. At its last value no read gives more.
-    pub taken: u64,
     /// How many calls failed. At its last value it stands still.
     pub faults: u64,
+    log: Log,
+    pub ghost begun: { IsSome file → 0 < length log.history },
 }
 
 impl<R: Files> FileSource<R> {
     /// A source that nothing was read from.
     pub fn new(runtime: R) -> Self
-        ensures taken { result.taken ≡ 0 }
         ensures faults { result.faults ≡ 0 }
+        ensures history { result.log.history ≡ [] }
     {
         FileSource {
             runtime,
             file: None,
-            taken: 0,
             faults: 0,
+            log: Log::new(),
         }
     }
 }
@@ -41,12 +41,12 @@ impl<R: Files> Source for FileSource<R> {
 
     ghost order = { λ _. untold };
 
-    ghost taken = { λ s. s.taken };
+    ghost history = { λ s. s.log.history };
 
     ghost faults = { λ s. s.faults };
 
     fn start(&mut self, name: &str) -> Result<(), Failed> {
-        self.taken = 0;
+        self.log.start(name.as_bytes());
         match fs::open(&self.runtime, name) {
             Ok(file) => {
                 self.file = Some(file);
@@ -65,14 +65,15 @@ impl<R: Files> Source for FileSource<R> {
             Some(file) => file,
             None => return Ok(0),
         };
-        let most = into.len().min((u64::MAX - self.taken) as usize);
-        if most > 0
-            && let Ok(count) = file.read(&mut into[..most])
-        {
-            self.taken += count as u64;
-            return Ok(count);
+        match file.read(into) {
+            Ok(count) => {
+                self.log.hand_out(&into[..count]);
+                Ok(count)
+            }
+            Err(_) => {
+                self.faults = self.faults.saturating_add(1);
+                Err(Failed)
+            }
         }
-        self.faults = self.faults.saturating_add(1);
-        Err(Failed)
     }
 }

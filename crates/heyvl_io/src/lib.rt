@@ -4,6 +4,7 @@
 mod failures;
 mod file_sources;
 mod files;
+mod logs;
 mod mem_sinks;
 mod mem_sources;
 mod order_laws;
@@ -16,6 +17,7 @@ mod writing;
 
 pub use failures::Failed;
 pub use file_sources::FileSource;
+pub use logs::Log;
 pub use mem_sinks::MemSink;
 pub use mem_sources::MemSource;
 pub use order_laws::names_in_order;

@@ -1,11 +1,12 @@
-ghost use Rattle.std.specs.Prelude.{◌≡◌, ◌⊎◌, ◌+◌, ◌<◌, ◌≤◌, ◌↔◌, length, min, Contains, IfOk, OnErr, OnOk, IsErr, Some, None};
+ghost use Rattle.std.specs.Prelude.{◌≡◌, ◌⊎◌, ◌+◌, ◌<◌, ◌≤◌, ◌↔◌, [], length, take, min, Contains, IfOk, OnErr, OnOk, IsErr, IsSome, Some, None};
 ghost use Rattle.heyvl_io.specs.Bytes.{HandsOut};
 ghost use Rattle.heyvl_io.specs.Faults.{Rose, next_count, faults_after};
 ghost use Rattle.heyvl_io.specs.Files.{names_of, held_bytes, started_bytes, rest_at, numbered_order};
+ghost use Rattle.heyvl_io.specs.History.{with_start, with_bytes};
 ghost use Rattle.heyvl_io.specs.Order.{order_after};
 
 use crate::files::{bytes_at, copy_front, next_order, place_of};
-use crate::{Failed, Source};
+use crate::{Failed, Log, Source};
 
 /// Named texts in memory, of which calls fail by a list. Of equal names the first counts.
 #[derive(Drop)]
@@ -26,8 +27,11 @@ pub struct MemSource {
     pub place: usize,
     /// How many starts there were, where they were of the first names, in their order and once each.
     pub order: Option<usize>,
+    /// What it handed out.
+    pub log: Log,
     pub ghost gives_some: { 0 < most },
     pub ghost within: { place ≤ length (started_bytes files.items started) },
+    pub ghost begun: { IsSome started → 0 < length log.history },
 }
 
 impl MemSource {
@@ -42,6 +46,7 @@ impl MemSource {
         ensures started { result.started ≡ None }
         ensures place { result.place ≡ 0 }
         ensures order { result.order ≡ Some 0 }
+        ensures history { result.log.history ≡ [] }
     {
         MemSource {
             files,
@@ -52,6 +57,7 @@ impl MemSource {
             started: None,
             place: 0,
             order: Some(0),
+            log: Log::new(),
         }
     }
 }
@@ -65,7 +71,7 @@ impl Source for MemSource {
 
     ghost order = { λ s. numbered_order s.order };
 
-    ghost taken = { λ s. s.place };
+    ghost history = { λ s. s.log.history };
 
     ghost faults = { λ s. s.faults };
 
@@ -80,6 +86,7 @@ impl Source for MemSource {
         ensures place { self.new.place ≡ 0 }
         ensures order { numbered_order self.new.order
             ≡ order_after (names_of self.old.files.items) name.now (numbered_order self.old.order) }
+        ensures history { self.new.log.history ≡ with_start self.old.log.history name.now }
 
         ensures files { self.new.files ≡ self.old.files }
         ensures most { self.new.most ≡ self.old.most }
@@ -90,6 +97,7 @@ impl Source for MemSource {
     {
         let fails = self.fail.contains(&self.calls);
         self.calls = self.calls.saturating_add(1);
+        self.log.start(name.as_bytes());
         self.order = next_order(&self.files, self.order, name);
         self.place = 0;
         self.started = place_of(&self.files, name);
@@ -114,6 +122,9 @@ impl Source for MemSource {
         ensures kept { OnErr result (self.new.place ≡ self.old.place) }
         ensures started { self.new.started ≡ self.old.started }
         ensures order { self.new.order ≡ self.old.order }
+        ensures history { IfOk result (λ n. self.new.log.history ≡ with_bytes self.old.log.history (take n into.new)) }
+        ensures history_kept { OnErr result (self.new.log.history ≡ self.old.log.history) }
+        ensures begun { IfOk result (λ n. 0 < n → 0 < length self.old.log.history) }
 
         ensures files { self.new.files ≡ self.old.files }
         ensures most { self.new.most ≡ self.old.most }
@@ -131,6 +142,7 @@ impl Source for MemSource {
         let bytes = bytes_at(&self.files, self.started);
         let count = copy_front(&bytes[self.place..], into, self.most);
         self.place += count;
+        self.log.hand_out(&into[..count]);
         Ok(count)
     }
 }

@@ -1,5 +1,6 @@
-ghost use Rattle.std.specs.Prelude.{◌≡◌, ◌+◌, ◌<◌, ◌≤◌, ◌↔◌, length, vec_len, IfOk, IfSome, IsErrOf};
+ghost use Rattle.std.specs.Prelude.{◌≡◌, ◌+◌, ◌<◌, ◌≤◌, ◌↔◌, [], ◌∷◌, ◌++◌, length, vec_len, IfOk, IfSome, IsErrOf};
 ghost use Rattle.heyvl_io.specs.Faults.{Rose};
+ghost use Rattle.heyvl_io.specs.History.{handed_out, since_start, IsTaken};
 ghost use Rattle.heyvl_io.specs.Order.{order_after};
 ghost use Rattle.heyvl_io.specs.declared.reading.ReadStop.TheVariants.{Failed, Memory};
 
@@ -49,14 +50,14 @@ pub fn read_all<F: Source>(
 ) -> Result<Vec<u8>, ReadStop>
     ensures bytes { IfOk result (λ bytes. IfSome (F.holds source.old name.now) (λ held. bytes.items ≡ held)) }
     ensures within { IfOk result (λ bytes. vec_len bytes ≤ limit) }
-    ensures all_taken { IfOk result (λ bytes. F.taken source.new ≡ vec_len bytes) }
+    ensures returned { IfOk result (λ bytes. F.history source.new ≡ F.history source.old ++ handed_out name.now bytes.items ∷ []) }
 
     ensures failed { IsErrOf result ReadStop.Failed → Rose (F.faults source.old) (F.faults source.new) }
-    ensures too_long { IsErrOf result ReadStop.TooLong ↔ (F.taken source.new ≡ limit + 1) }
+    ensures too_long { IsErrOf result ReadStop.TooLong ↔ (length (since_start (F.history source.new)) ≡ limit + 1) }
     ensures longer { IsErrOf result ReadStop.TooLong
         → IfSome (F.holds source.old name.now) (λ held. limit < length held) }
 
-    ensures taken { F.taken source.new ≤ limit + 1 }
+    ensures history { IsTaken (F.history source.old) (F.history source.new) name.now (limit + 1) }
     ensures order { F.order source.new ≡ order_after (F.names source.old) name.now (F.order source.old) }
     ensures names { F.names source.new ≡ F.names source.old }
     ensures holds { F.holds source.new ≡ F.holds source.old }

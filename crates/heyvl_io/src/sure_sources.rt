@@ -1,10 +1,11 @@
-ghost use Rattle.std.specs.Prelude.{◌≡◌, ◌+◌, ◌<◌, ◌≤◌, [], length, min, unwrap_or, IfOk, IsOk, Some, None};
+ghost use Rattle.std.specs.Prelude.{◌≡◌, ◌+◌, ◌<◌, ◌≤◌, [], length, take, min, unwrap_or, IfOk, IsOk, IsSome, Some, None};
 ghost use Rattle.heyvl_io.specs.Bytes.{HandsOut};
 ghost use Rattle.heyvl_io.specs.Files.{names_of, held_bytes, started_bytes, rest_at};
+ghost use Rattle.heyvl_io.specs.History.{with_start, with_bytes};
 ghost use Rattle.heyvl_io.specs.Order.{untold};
 
 use crate::files::{bytes_at, copy_front, place_of};
-use crate::{Failed, Source};
+use crate::{Failed, Log, Source};
 
 /// Named texts in memory, of which no call fails. A name that isn't there holds no bytes. Of equal names the first counts.
 #[derive(Drop)]
@@ -17,8 +18,11 @@ pub struct SureSource {
     pub started: Option<usize>,
     /// How many of its bytes were read.
     pub place: usize,
+    /// What it handed out.
+    pub log: Log,
     pub ghost gives_some: { 0 < most },
     pub ghost within: { place ≤ length (started_bytes files.items started) },
+    pub ghost begun: { IsSome started → 0 < length log.history },
 }
 
 impl SureSource {
@@ -29,12 +33,14 @@ impl SureSource {
         ensures most { result.most ≡ most }
         ensures started { result.started ≡ None }
         ensures place { result.place ≡ 0 }
+        ensures history { result.log.history ≡ [] }
     {
         SureSource {
             files,
             most,
             started: None,
             place: 0,
+            log: Log::new(),
         }
     }
 }
@@ -48,7 +54,7 @@ impl Source for SureSource {
 
     ghost order = { λ _. untold };
 
-    ghost taken = { λ s. s.place };
+    ghost history = { λ s. s.log.history };
 
     ghost faults = { λ _. 0 };
 
@@ -58,10 +64,12 @@ impl Source for SureSource {
         ensures left { rest_at self.new.files.items self.new.started self.new.place
             ≡ unwrap_or (held_bytes self.old.files.items name.now) [] }
         ensures place { self.new.place ≡ 0 }
+        ensures history { self.new.log.history ≡ with_start self.old.log.history name.now }
 
         ensures files { self.new.files ≡ self.old.files }
         ensures most { self.new.most ≡ self.old.most }
     {
+        self.log.start(name.as_bytes());
         self.place = 0;
         self.started = place_of(&self.files, name);
         Ok(())
@@ -76,6 +84,8 @@ impl Source for SureSource {
             (Some (rest_at self.old.files.items self.old.started self.old.place))
             (Some (rest_at self.new.files.items self.new.started self.new.place)) into.new n) }
         ensures place { IfOk result (λ n. self.new.place ≡ self.old.place + n) }
+        ensures history { IfOk result (λ n. self.new.log.history ≡ with_bytes self.old.log.history (take n into.new)) }
+        ensures begun { IfOk result (λ n. 0 < n → 0 < length self.old.log.history) }
 
         ensures started { self.new.started ≡ self.old.started }
         ensures files { self.new.files ≡ self.old.files }
@@ -84,6 +94,7 @@ impl Source for SureSource {
         let bytes = bytes_at(&self.files, self.started);
         let count = copy_front(&bytes[self.place..], into, self.most);
         self.place += count;
+        self.log.hand_out(&into[..count]);
         Ok(count)
     }
 }
