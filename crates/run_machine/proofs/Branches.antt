@@ -16,7 +16,7 @@ use Rattle.heyvl_acts.specs.Places.{in_order}
 use Rattle.heyvl_acts.specs.PlainActs.{acts_of, arms_of}
 use Rattle.quant_algebra.specs.ExactMeaning.{exact_truth}
 use Rattle.run_machine.specs.BoundedStep.{guards_fit, true_or}
-use Rattle.run_machine.specs.internal.StoredSteps.{taken_place}
+use Rattle.run_machine.specs.StoredMoves.{taken_place}
 
 abbrev pub Arm : Type 0
 Arm = C.Cond × Vec A.Act Global

@@ -19,7 +19,7 @@ use Rattle.run_machine.specs.Configurations.{Item, outs, callee_items, first_sta
 use Rattle.run_machine.specs.Names.{Names, Numbered, Lists, Stored, items_of, call_parts, last_call, callers, turns_of, config_of, numbered}
 use Rattle.run_machine.specs.Step.{called, returned, step_back, sure}
 use Rattle.run_machine.specs.internal.Places.{Continues}
-use Rattle.run_machine.specs.internal.StoredSteps.{behind, out_items, entered, resumed}
+use Rattle.run_machine.specs.StoredMoves.{behind, out_items, entered, resumed}
 use Rattle.run_machine.proofs.Moves.{frames_kept}
 use Rattle.run_machine.proofs.Positions.{each_append, last_is, lists_restate}
 use Rattle.run_machine.proofs.Procedures.{body_named, text_stands}

@@ -7,7 +7,7 @@ use Rattle.run_machine.specs.declared.configurations.Config as C
 use Rattle.run_machine.specs.declared.configurations.Frame as F
 use Rattle.run_machine.specs.Names.{Numbered, Lists, lists_of, callers, stored, config_of, Stored}
 use Rattle.run_machine.specs.BoundedStep.{frame_values, values_in}
-use Rattle.run_machine.specs.internal.Replies.{any_large, list_values, stored_outcomes, stored_values}
+use Rattle.run_machine.specs.Replies.{any_large, list_values, stored_outcomes, stored_values}
 
 callers_values : (ps : List TypedProcedure) (above : List Numbered) (fs : List Lists) → frame_values (callers ps above fs) ≡ list_values fs
 callers_values ps above [] = refl

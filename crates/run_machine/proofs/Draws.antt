@@ -12,8 +12,8 @@ use Rattle.heyvl_acts.specs.PlainActs.{part_of, parts_of}
 use Rattle.run_machine.specs.declared.configurations.Config as C
 use Rattle.run_machine.specs.BoundedStep.{exact_term, parts_fit}
 use Rattle.run_machine.specs.Names.{Stored, stored}
-use Rattle.run_machine.specs.internal.Replies.{stored_outcome, stored_outcomes}
-use Rattle.run_machine.specs.internal.StoredSteps.{assigned, stored_branch, stored_branches}
+use Rattle.run_machine.specs.Replies.{stored_outcome, stored_outcomes}
+use Rattle.run_machine.specs.StoredMoves.{assigned, stored_branch, stored_branches}
 
 append_maps : (xs ys : List (Rational × C.Config)) → stored_outcomes (xs ++ ys) ≡ stored_outcomes xs ++ stored_outcomes ys
 append_maps [] ys = refl

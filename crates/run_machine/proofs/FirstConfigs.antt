@@ -1,12 +1,13 @@
 -- The first configuration of a program meets the condition.
 use Rattle.std.proofs.Common.{◌≡◌, ℕ, refl, ap, sym, subst, ◌∙◌, List, [], length, replicate, reverse}
 use Rattle.std.proofs.lemmas.List.{length-replicate}
-use Rattle.heyvl_num.specs.Value.{Value}
+use Rattle.heyvl_num.specs.Value.{Value, zeroᵛ}
 use Rattle.heylo_formula.specs.declared.values.Val.{Val}
 use Rattle.heyvl_acts.specs.Acts.{TypedProcedure, acts_in, procedure_at}
 use Rattle.run_machine.specs.Bound.{IsState}
 use Rattle.run_machine.specs.ConfigConditions.{AreLists, IsConfig, ReachesPrograms}
 use Rattle.run_machine.specs.Names.{Numbered, Lists, numbered}
+use Rattle.run_machine.specs.StoredStep.{stored_begin}
 use Rattle.run_machine.proofs.Procedures.{text_stands}
 use Rattle.run_machine.proofs.RuledActs.{program_runs}
 use Rattle.run_machine.proofs.Running.{block_belongs}
@@ -17,3 +18,6 @@ first_config ps p s t is fs v ts made r st e f g h = record {
   lists = subst (λ l. AreLists ps p p l t (reverse fs)) (sym e) (subst (λ u. AreLists ps p p (numbered p 0 (acts_in (procedure_at ps p).body)) u (reverse fs)) (sym f) (subst (λ gs. AreLists ps p p (numbered p 0 (acts_in (procedure_at ps p).body)) s (reverse gs)) (sym g) (refl, (block_belongs ps p 0 (acts_in (procedure_at ps p).body) (text_stands ps p) (program_runs ps p r), st))));
   turns = ap length h ∙ length-replicate (procedure_at ps p).loops 0;
 }
+
+pub stored_config : (ps : List TypedProcedure) (p : ℕ) (s : List Val) → ReachesPrograms ps p → IsState (procedure_at ps p) s → IsConfig ps (stored_begin ps p s)
+stored_config ps p s r st = first_config ps p s s (numbered p 0 (acts_in (procedure_at ps p).body)) [] zeroᵛ (replicate (procedure_at ps p).loops 0) 0 r st refl refl refl refl

@@ -13,6 +13,7 @@ mod Positions
 mod Replies
 mod Running
 mod Steps
+mod StepReplies
 mod VariableTypes
 mod RuledActs
 mod Procedures

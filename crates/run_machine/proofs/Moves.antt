@@ -17,10 +17,9 @@ use Rattle.run_machine.specs.Configurations.{Item, push, running}
 use Rattle.run_machine.specs.Step.{moved, rewarded, branches, turned, one_more}
 use Rattle.run_machine.specs.Names.{Numbered, Lists, Stored, turn_item, items_of, last_call, callers, turns_of, config_of, numbered, Names}
 use Rattle.run_machine.specs.internal.Places.{Continues, GoesOn, Stands, text}
-use Rattle.run_machine.specs.internal.Replies.{replied, surely}
-use Rattle.run_machine.specs.internal.StoredSteps.{behind, going, stored_branches, collected, opened, more_turns, turned_at}
+use Rattle.run_machine.specs.Replies.{named, replied, surely}
+use Rattle.run_machine.specs.StoredMoves.{behind, going, stored_branches, collected, opened, more_turns, turned_at}
 use Rattle.run_machine.proofs.Places.{named_push}
-use Rattle.run_machine.proofs.Replies.{named}
 
 last_same : (ps : List TypedProcedure) (xs : List Numbered) (j : Numbered) (is : List Numbered) → last_call ps (xs ++ (j ∷ is)) ≡ last_call ps (j ∷ is)
 last_same ps [] j is = refl

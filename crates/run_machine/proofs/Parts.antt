@@ -14,7 +14,7 @@ use Rattle.run_machine.specs.declared.configurations.Item.TheVariants.{Turn, Out
 use Rattle.run_machine.specs.Configurations.{first_state, outputs_of, set_all}
 use Rattle.run_machine.specs.Names.{Numbered, Lists, Stored, lists_of, numbered}
 use Rattle.run_machine.specs.internal.Counts.{IsSmall}
-use Rattle.run_machine.specs.internal.StoredSteps.{behind, entered, going, more_turns, out_items, resumed, turned_at}
+use Rattle.run_machine.specs.StoredMoves.{behind, entered, going, more_turns, out_items, resumed, turned_at}
 use Rattle.run_machine.proofs.Procedures.{found_at}
 
 pub turned_is : (c d : Stored) (p place n : ℕ) (b : Acts) (block ones items : List Numbered) (ts : List ℕ) → block ≡ numbered p (place + 1) b → ones ≡ block ++ (Turn p place ∷ []) → items ≡ ones ++ behind c → d ≡ going c items c.state → ts ≡ (if p == c.procedure then more_turns n c.turns else c.turns) → record { procedure = d.procedure; items = d.items; state = d.state; frames = d.frames; reward = d.reward; turns = ts; made = d.made } ≡ turned_at c p place n b

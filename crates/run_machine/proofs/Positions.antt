@@ -9,7 +9,7 @@ use Rattle.run_machine.specs.Configurations.{running}
 use Rattle.run_machine.specs.ConfigConditions.{IsItemOf, IsCalled, AreLists, IsConfig}
 use Rattle.run_machine.specs.Names.{Numbered, Lists, Stored, call_of, call_parts, last_call, callers}
 use Rattle.run_machine.specs.internal.Places.{GoesOn, Continues}
-use Rattle.run_machine.specs.internal.StoredSteps.{behind}
+use Rattle.run_machine.specs.StoredMoves.{behind}
 
 -- The item is no return.
 abbrev pub NoReturn : Numbered → Type 0

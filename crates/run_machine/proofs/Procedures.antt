@@ -1,5 +1,5 @@
 -- Procedures by number.
-use Rattle.std.proofs.Common.{◌≡◌, ℕ, ◌<◌, ◌≤◌, refl, ap, sym, subst, ◌∙◌, arith, zero-add, List, [], ◌∷◌, ◌++◌, length, map, slice_get, get_or, replicate, reverse}
+use Rattle.std.proofs.Common.{◌≡◌, ℕ, ◌<◌, ◌≤◌, refl, ap, sym, subst, ◌∙◌, arith, zero-add, List, [], ◌∷◌, ◌++◌, length, map, slice_get, get_or, replicate}
 use Rattle.std.proofs.lemmas.Option.{none-some}
 use Rattle.std.specs.Prelude.{Option, Some, None}
 use Prim.Native.Nat.{zero, suc}
@@ -12,7 +12,8 @@ use Rattle.heyvl_num.specs.Value.{zeroᵛ}
 use Rattle.heyvl_num.specs.Value.Value.{finite}
 use Rattle.heylo_formula.specs.declared.values.Val.{Val}
 use Rattle.run_machine.specs.Configurations.{push, begin}
-use Rattle.run_machine.specs.Names.{Numbered, Lists, items_of, callers, turns_of, config_of, numbered}
+use Rattle.run_machine.specs.Names.{Numbered, Lists, items_of, turns_of, config_of, numbered}
+use Rattle.run_machine.specs.StoredStep.{stored_begin}
 use Rattle.run_machine.specs.internal.Places.{Stands, text}
 use Rattle.run_machine.proofs.Places.{named_push}
 
@@ -91,8 +92,11 @@ no_turn_yet n zero = refl
 no_turn_yet n (suc m) = no_turn n m
 
 -- The first configuration, by what its parts hold.
-pub begun : (ps : List TypedProcedure) (p n : ℕ) (s : List Val) (is : List Numbered) (t : List Val) (fs : List Lists) (z : Rational) (ts : List ℕ) (made : ℕ) → is ≡ numbered p 0 (acts_in (procedure_at ps p).body) → t ≡ s → fs ≡ [] → z ≡ zeroʳ → ts ≡ replicate n 0 → config_of ps (record { procedure = p; items = is; state = t; frames = fs; reward = finite z; turns = ts; made = made }) ≡ begin ps p s
+pub first_stored : (ps : List TypedProcedure) (p : ℕ) (s t : List Val) (is : List Numbered) (fs : List Lists) (z : Rational) (ts : List ℕ) → is ≡ numbered p 0 (acts_in (procedure_at ps p).body) → t ≡ s → fs ≡ [] → z ≡ zeroʳ → ts ≡ replicate (procedure_at ps p).loops 0 → record { procedure = p; items = is; state = t; frames = fs; reward = finite z; turns = ts; made = 0 } ≡ stored_begin ps p s
 unfolding zeroᵛ
-begun ps p n s is t fs z ts made e f g h k =
-    let named : items_of ps is ≡ push (acts_in (procedure_at ps p).body) [] = ap (items_of ps) (e ∙ sym (append_none (numbered p 0 (acts_in (procedure_at ps p).body)))) ∙ body_named ps p [] in
-    λ i. record { procedure = p; items = named i; frames = ap (λ l. callers ps is (reverse l)) g i; state = f i; reward = ap finite h i; turns = λ m. (ap (λ l. turns_of l m) k ∙ no_turn_yet n m) i }
+first_stored ps p s t is fs z ts e f g h k = λ i. record { procedure = p; items = e i; state = f i; frames = g i; reward = finite (h i); turns = k i; made = 0 }
+
+pub stored_begun : (ps : List TypedProcedure) (p : ℕ) (s : List Val) → config_of ps (stored_begin ps p s) ≡ begin ps p s
+stored_begun ps p s =
+    let named : items_of ps (numbered p 0 (acts_in (procedure_at ps p).body)) ≡ push (acts_in (procedure_at ps p).body) [] = ap (items_of ps) (sym (append_none (numbered p 0 (acts_in (procedure_at ps p).body)))) ∙ body_named ps p [] in
+    λ i. record { procedure = p; items = named i; frames = []; state = s; reward = zeroᵛ; turns = λ m. no_turn_yet (procedure_at ps p).loops m i }

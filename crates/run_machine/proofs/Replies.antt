@@ -1,5 +1,5 @@
 -- What a stored reply says of a step.
-use Rattle.std.proofs.Common.{◌≡◌, ℕ, ◌+◌, Bool, true, false, ◌||◌, nat_lt, refl, ap, ap₂, sym, subst, ◌∙◌, List, [], ◌∷◌, map}
+use Rattle.std.proofs.Common.{◌≡◌, ℕ, Bool, true, false, ◌||◌, nat_lt, refl, ap, ap₂, sym, subst, ◌∙◌, List, [], ◌∷◌}
 use Rattle.std.specs.Prelude.{if◌then◌else◌}
 use Rattle.heyvl_num.specs.Rational.{Rational}
 use Rattle.heyvl_acts.specs.Acts.{TypedProcedure}
@@ -9,19 +9,14 @@ use Rattle.run_machine.specs.declared.configurations.Stepped.{Stepped}
 use Rattle.run_machine.specs.declared.configurations.Stepped.TheVariants.{Next, Deep, Bits}
 use Rattle.run_machine.specs.BoundedStep.{Answer, answer_of, any_deep, bounded, outcomes_of, items_fit}
 use Rattle.run_machine.specs.ConfigConditions.{IsConfig}
-use Rattle.run_machine.specs.Configurations.{Config, Outcomes}
+use Rattle.run_machine.specs.Configurations.{Config}
 use Rattle.run_machine.specs.Names.{Stored, stored, config_of, items_of}
 use Rattle.run_machine.specs.Step.{Decision, step}
-use Rattle.run_machine.specs.StepAnswers.{EachNext, IsStep, asked_by}
-use Rattle.run_machine.specs.internal.Replies.{StoredOutcomes, Reply, any_large, replied, reply_of, stored_outcomes}
+use Rattle.run_machine.specs.StepAnswers.{EachNext, IsStep}
+use Rattle.run_machine.specs.Replies.{StoredOutcomes, Reply, any_large, named, replied, reply_of, stored_outcomes}
+use Rattle.run_machine.specs.StoredLaws.{Comes, MeansStep}
+use Rattle.run_machine.specs.StoredStep.{stored_reply, stored_step}
 use Rattle.run_machine.proofs.Depths.{all_values}
-
-abbrev pub named_outcome : List TypedProcedure → Rational × Stored → Rational × Config
-named_outcome ps x = (x.0, config_of ps x.1)
-
--- The outcomes of the definition that stored ones stand for.
-abbrev pub named : List TypedProcedure → StoredOutcomes → Outcomes
-named ps xs = map (named_outcome ps) xs
 
 named_stored : (ps : List TypedProcedure) (xs : List (Rational × C.Config)) → outcomes_of ps xs ≡ named ps (stored_outcomes xs)
 named_stored ps [] = refl
@@ -71,11 +66,6 @@ each_replied : (P : Stored → Type 0) (fits : Bool) (xs : StoredOutcomes) → E
 each_replied P true xs h = each_small P xs (any_large xs) h
 each_replied P false xs h = tt
 
--- A stored configuration that comes next: it has asked for so many decisions, and meets the condition.
-pub record Comes (ps : List TypedProcedure) (made : ℕ) (x : Rational × Stored) : Type 0 where
-  pub asks : x.1.made ≡ made
-  pub config : IsConfig ps x.1
-
 all_ask : (ps : List TypedProcedure) (made : ℕ) (xs : StoredOutcomes) → Each (Comes ps made) xs → Each (λ x. x.1.made ≡ made) xs
 all_ask ps made [] h = tt
 all_ask ps made (x ∷ xs) h = (h.0.asks, all_ask ps made xs h.1)
@@ -84,10 +74,14 @@ all_configs : (ps : List TypedProcedure) (made : ℕ) (xs : StoredOutcomes) → 
 all_configs ps made [] h = tt
 all_configs ps made (x ∷ xs) h = (h.0.config, all_configs ps made xs h.1)
 
--- A reply whose outcomes stand for those of the definition is the step.
-pub is_step : (ps : List TypedProcedure) (c : Stored) (d : Decision) (r : Stepped) (fits : Bool) (xs : StoredOutcomes) → reply_of r ≡ replied fits xs → fits ≡ items_fit (items_of ps c.items) (config_of ps c) → named ps xs ≡ step ps (config_of ps c) d → Each (Comes ps (c.made + asked_by (items_of ps c.items))) xs → IsStep ps c d r
-is_step ps c d r fits xs e f n h = record {
-  answer = of_reply ps r ∙ ap (answered ps) e ∙ of_replied ps fits xs ∙ ap₂ bounded f n;
-  made = each_next _ r (subst (EachReply _) (sym e) (each_replied _ fits xs (all_ask ps _ xs h)));
-  configs = each_next _ r (subst (EachReply _) (sym e) (each_replied _ fits xs (all_configs ps _ xs h)));
-}
+-- A reply that is that of the stored step is the step of the definition.
+pub is_step : (ps : List TypedProcedure) (c : Stored) (d : Decision) (r : Stepped) → MeansStep ps c d → reply_of r ≡ stored_reply ps c d → IsStep ps c d r
+is_step ps c d r m e =
+    let fits = items_fit (items_of ps c.items) (config_of ps c) in
+    let xs = stored_step ps c d in
+    record {
+      reply = e;
+      answer = of_reply ps r ∙ ap (answered ps) e ∙ of_replied ps fits xs ∙ ap (bounded fits) m.steps;
+      made = each_next _ r (subst (EachReply _) (sym e) (each_replied _ fits xs (all_ask ps _ xs m.comes)));
+      configs = each_next _ r (subst (EachReply _) (sym e) (each_replied _ fits xs (all_configs ps _ xs m.comes)));
+    }

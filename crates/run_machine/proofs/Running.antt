@@ -12,7 +12,7 @@ use Rattle.heyvl_acts.specs.Rules.{Each}
 use Rattle.run_machine.specs.ConfigConditions.{CanRun, IsItemOf}
 use Rattle.run_machine.specs.Names.{numbered}
 use Rattle.run_machine.specs.internal.Places.{Stands, text}
-use Rattle.run_machine.specs.internal.StoredSteps.{taken_place}
+use Rattle.run_machine.specs.StoredMoves.{taken_place}
 use Rattle.run_machine.proofs.Places.{part_first, part_second, part_rest, part_head}
 
 pub each_first : {A : Type 0} (P : A → Type 0) (xs ys : List A) → Each P (xs ++ ys) → Each P xs

@@ -1,13 +1,13 @@
 -- Each act's step on stored configurations is the definition's.
-use Rattle.std.proofs.Common.{◌≡◌, ℕ, ◌+◌, ◌==◌, ◌<◌, ◌≤◌, ◌^◌, inl, inr, append_assoc, refl, ap, sym, subst, ◌∙◌, arith, Bool, true, false, List, [], ◌∷◌, ◌++◌, length, reverse, drop, slice_get}
-use Rattle.std.proofs.lemmas.List.{length-append, length-set, reverse-append, reverse-reverse}
-use Rattle.std.specs.Prelude.{if◌then◌else◌, Some, None, is_some}
+use Rattle.std.proofs.Common.{◌≡◌, ℕ, ◌+◌, ◌==◌, ◌<◌, ◌≤◌, inl, inr, append_assoc, refl, ap, sym, subst, ◌∙◌, arith, Bool, true, false, List, [], ◌∷◌, ◌++◌, length, reverse, drop, slice_get}
+use Rattle.std.proofs.lemmas.List.{length-append, length-set}
+use Rattle.std.specs.Prelude.{if◌then◌else◌, Some, None}
 use Prim.Native.Nat.{zero, suc}
 use Rattle.std.proofs.lemmas.Option.{none-some}
 use Rattle.heyvl_places.specs.declared.spans.Span.{Span}
 use Rattle.heyvl_places.specs.declared.checks.CheckKind.{CheckKind}
-use Rattle.heyvl_num.specs.ExactValues.{exact_sumᵛ}
 use Rattle.heyvl_num.specs.Rational.{Rational, oneʳ}
+use Rattle.heyvl_num.proofs.exported.Rationals.{zero-≤ʳ-one}
 use Rattle.heylo_formula.specs.Choices.{Choices}
 use Rattle.heylo_formula.specs.Formula.{Form, Term}
 use Rattle.heylo_formula.specs.Meaning.{holds, term_value, value}
@@ -18,32 +18,28 @@ use Rattle.heylo_formula.specs.declared.values.Val.{Val}
 use Rattle.heylo_formula.proofs.exported.States.{env_typed, fit_has}
 use Rattle.heyvl_acts.specs.Acts.{Head, Act, Acts, Arms, TypedProcedure, procedure_at, type_list, types_of, variables}
 use Rattle.heyvl_acts.specs.Matching.{taken}
-use Rattle.heyvl_acts.specs.Places.{nth, in_order, inside, act_named}
+use Rattle.heyvl_acts.specs.Places.{in_order, inside, act_named}
 use Rattle.heyvl_acts.specs.Rules.{Each, IsOwn, MeetsRules}
 use Rattle.heyvl_acts.specs.Tosses.{toss_parts}
 use Rattle.heyvl_acts.specs.WellTyped.{DrawFits, PartsFit}
 use Rattle.heyvl_acts.proofs.exported.Tosses.{toss_fit}
-use Rattle.quant_algebra.specs.ExactMeaning.{exact_truth, exact_value}
-use Rattle.quant_algebra.specs.ExactOperators.{and_then}
 use Rattle.run_machine.specs.declared.configurations.Item.TheVariants.{Do, Turn, Out, Back}
-use Rattle.run_machine.specs.declared.configurations.Stepped.{Stepped}
 use Rattle.run_machine.specs.Bound.{IsState}
-use Rattle.run_machine.specs.BoundedStep.{item_fits, items_fit, exact_term, guards_fit, parts_fit, toss_fits, terms_fit}
 use Rattle.run_machine.specs.ConfigConditions.{AreLists, CanRun, IsConfig, IsItemOf, IsOutput, NamesLoop}
 use Rattle.run_machine.specs.Configurations.{Item, evaluate, push}
-use Rattle.run_machine.specs.Names.{HasFewActs, Names, Numbered, Lists, Stored, act_item, turn_item, item_of, items_of, config_of, numbered}
+use Rattle.run_machine.specs.Names.{Names, call_parts, Numbered, Lists, Stored, act_item, turn_item, item_of, items_of, config_of, numbered}
 use Rattle.run_machine.specs.Step.{Decision, sure, moved, turned, test, step, step_item, step_items, value_of, side_of}
-use Rattle.run_machine.specs.StepAnswers.{IsStep, asked_by}
+use Rattle.run_machine.specs.StepAnswers.{asked_by}
 use Rattle.run_machine.specs.internal.Comings.{ComesNext, IsAt, ReturnsNext}
 use Rattle.run_machine.specs.internal.Places.{Stands, text}
-use Rattle.run_machine.specs.internal.Replies.{StoredOutcomes, reply_of, replied, surely}
-use Rattle.run_machine.specs.internal.StoredSteps.{asked, assigned, behind, collected, entered, going, more_turns, opened, resumed, stored_branches, taken_place, tested, turned_at}
+use Rattle.run_machine.specs.Replies.{StoredOutcomes, named, surely}
+use Rattle.run_machine.specs.StoredLaws.{Comes, MeansStep, StoredStepsAreMeant}
+use Rattle.run_machine.specs.StoredStep.{stored_act, stored_item, stored_items, stored_named, stored_return, stored_step}
+use Rattle.run_machine.specs.StoredMoves.{asked, assigned, behind, collected, entered, going, more_turns, opened, resumed, stored_branches, taken_place, tested, turned_at}
 use Rattle.run_machine.proofs.Calls.{enters, entered_config, resumes, resumed_config, returning, call_names}
 use Rattle.run_machine.proofs.Moves.{collects, draws, opens, passes, turns_round}
-use Rattle.run_machine.proofs.Places.{inside_stands, part_first, part_head, part_rest, part_second}
-use Rattle.run_machine.proofs.Procedures.{text_is}
+use Rattle.run_machine.proofs.Places.{inside_stands, part_first, part_second}
 use Rattle.run_machine.proofs.Positions.{At, each_append, lists_state, position}
-use Rattle.run_machine.proofs.Replies.{Comes, is_step, named}
 use Rattle.run_machine.proofs.RuledActs.{Ruled, loop_range, ruled}
 use Rattle.run_machine.proofs.Running.{block_belongs, each_first, each_second, taken_runs, taken_stands}
 use Rattle.run_machine.proofs.exported.TypedStates.{first_typed, own_set, resumed_typed, term_has}
@@ -52,19 +48,29 @@ use Rattle.run_machine.proofs.exported.TypedStates.{first_typed, own_set, resume
 first_step : (ps : List TypedProcedure) (c : Stored) (d : Decision) (i : Numbered) (j : Item) → c.items ≡ i ∷ drop 1 c.items → item_of ps i ≡ j → step_item ps j (items_of ps (behind c)) (config_of ps c) d ≡ step ps (config_of ps c) d
 first_step ps c d i j e n = sym (ap (λ l. step_items ps (items_of ps l) (config_of ps c) d) e ∙ ap (λ k. step_item ps k (items_of ps (behind c)) (config_of ps c) d) n)
 
-first_fits : (ps : List TypedProcedure) (c : Stored) (i : Numbered) (j : Item) → c.items ≡ i ∷ drop 1 c.items → item_of ps i ≡ j → item_fits j (config_of ps c) ≡ items_fit (items_of ps c.items) (config_of ps c)
-first_fits ps c i j e n = sym (ap (λ l. items_fit (items_of ps l) (config_of ps c)) e ∙ ap (λ k. item_fits k (config_of ps c)) n)
-
 first_asks : (ps : List TypedProcedure) (c : Stored) (i : Numbered) (j : Item) (m : ℕ) → c.items ≡ i ∷ drop 1 c.items → item_of ps i ≡ j → m ≡ c.made + asked_by (j ∷ items_of ps (behind c)) → m ≡ c.made + asked_by (items_of ps c.items)
 first_asks ps c i j m e n h = h ∙ sym (ap (λ l. c.made + asked_by (items_of ps l)) e ∙ ap (λ k. c.made + asked_by (k ∷ items_of ps (behind c))) n)
 
--- Where the first item's step gives these outcomes, it is the step.
-pub item_step : (ps : List TypedProcedure) (c : Stored) (d : Decision) (r : Stepped) (i : Numbered) (j : Item) (fits : Bool) (xs : StoredOutcomes) → c.items ≡ i ∷ drop 1 c.items → item_of ps i ≡ j → reply_of r ≡ replied fits xs → fits ≡ item_fits j (config_of ps c) → named ps xs ≡ step_item ps j (items_of ps (behind c)) (config_of ps c) d → Each (Comes ps (c.made + asked_by (j ∷ items_of ps (behind c)))) xs → IsStep ps c d r
-item_step ps c d r i j fits xs e n h f o k = is_step ps c d r fits xs h (f ∙ first_fits ps c i j e n) (o ∙ first_step ps c d i j e n) (subst (λ m. Each (Comes ps m) xs) (first_asks ps c i j _ e n refl) k)
+-- The first item decides the stored step.
+pub stored_first : (ps : List TypedProcedure) (c : Stored) (d : Decision) (i : Numbered) (xs : StoredOutcomes) → c.items ≡ i ∷ drop 1 c.items → stored_item ps i c d ≡ xs → stored_step ps c d ≡ xs
+stored_first ps c d i xs e w = ap (λ l. stored_items ps l c d) e ∙ w
+
+-- Where the first item's stored step gives these outcomes, they stand for the step.
+item_step : (ps : List TypedProcedure) (c : Stored) (d : Decision) (i : Numbered) (j : Item) (xs : StoredOutcomes) → c.items ≡ i ∷ drop 1 c.items → item_of ps i ≡ j → stored_item ps i c d ≡ xs → named ps xs ≡ step_item ps j (items_of ps (behind c)) (config_of ps c) d → Each (Comes ps (c.made + asked_by (j ∷ items_of ps (behind c)))) xs → MeansStep ps c d
+item_step ps c d i j xs e n w o k =
+    let same = stored_first ps c d i xs e w in
+    record {
+      steps = ap (named ps) same ∙ o ∙ first_step ps c d i j e n;
+      comes = subst (λ m. Each (Comes ps m) (stored_step ps c d)) (first_asks ps c i j _ e n refl) (subst (Each (Comes ps (c.made + asked_by (j ∷ items_of ps (behind c))))) (sym same) k);
+    }
 
 -- The same for one outcome, for sure.
-one_step : (ps : List TypedProcedure) (c : Stored) (d : Decision) (r : Stepped) (i : Numbered) (j : Item) (fits : Bool) (x : Stored) → c.items ≡ i ∷ drop 1 c.items → item_of ps i ≡ j → reply_of r ≡ replied fits (surely x) → fits ≡ item_fits j (config_of ps c) → sure (config_of ps x) ≡ step_item ps j (items_of ps (behind c)) (config_of ps c) d → Comes ps (c.made + asked_by (j ∷ items_of ps (behind c))) (oneʳ, x) → IsStep ps c d r
-one_step ps c d r i j fits x e n h f o k = item_step ps c d r i j fits (surely x) e n h f o (k, tt)
+one_step : (ps : List TypedProcedure) (c : Stored) (d : Decision) (i : Numbered) (j : Item) (x : Stored) → c.items ≡ i ∷ drop 1 c.items → item_of ps i ≡ j → stored_item ps i c d ≡ surely x → sure (config_of ps x) ≡ step_item ps j (items_of ps (behind c)) (config_of ps c) d → Comes ps (c.made + asked_by (j ∷ items_of ps (behind c))) (oneʳ, x) → MeansStep ps c d
+one_step ps c d i j x e n w o k = item_step ps c d i j (surely x) e n w o (k, tt)
+
+-- An act that a place names takes its step, and so does a loop under way.
+pub does : (ps : List TypedProcedure) (c : Stored) (d : Decision) (p place : ℕ) (a : Act) → Names ps p place a → stored_item ps (Do p place) c d ≡ stored_act ps p place a c d
+does ps c d p place a n = ap (λ o. stored_named ps p place o c d) n
 
 no_more : (n : ℕ) → n ≡ n + 0
 no_more n = omega arith
@@ -94,7 +100,7 @@ record Known (ps : List TypedProcedure) (c : Stored) (p place : ℕ) (a : Act) :
 same_act : (a b : Act) → Some a ≡ Some b → a ≡ b
 same_act a b h = cc
 
-inside_at : (ps : List TypedProcedure) (p place : ℕ) (a : Act) → Names ps p place a → Stands (text ps p) (place + 1) (inside a)
+pub inside_at : (ps : List TypedProcedure) (p place : ℕ) (a : Act) → Names ps p place a → Stands (text ps p) (place + 1) (inside a)
 inside_at ps p place a n = subst (λ m. Stands (text ps p) m (inside a)) (let k : suc place ≡ place + 1 = omega arith in k) (inside_stands ps p place a n)
 
 known_do : (ps : List TypedProcedure) (c : Stored) (p place : ℕ) (a : Act) → ComesNext ps c p place a → c.items ≡ Do p place ∷ drop 1 c.items → Known ps c p place a
@@ -110,12 +116,12 @@ known_do ps c p place a h f =
     }
 
 -- A loop under way that comes next.
-record UnderWay (ps : List TypedProcedure) (c : Stored) (p place : ℕ) (a : Act) : Type 0 where
-  at : At ps c (Turn p place) p
-  loop : NamesLoop ps p place
-  same : Act.loop loop.head loop.body ≡ a
+pub record UnderWay (ps : List TypedProcedure) (c : Stored) (p place : ℕ) (a : Act) : Type 0 where
+  pub at : At ps c (Turn p place) p
+  pub loop : NamesLoop ps p place
+  pub same : Act.loop loop.head loop.body ≡ a
 
-under_way : (ps : List TypedProcedure) (c : Stored) (p place : ℕ) (a : Act) → ComesNext ps c p place a → c.items ≡ Turn p place ∷ drop 1 c.items → UnderWay ps c p place a
+pub under_way : (ps : List TypedProcedure) (c : Stored) (p place : ℕ) (a : Act) → ComesNext ps c p place a → c.items ≡ Turn p place ∷ drop 1 c.items → UnderWay ps c p place a
 under_way ps c p place a h f =
     let at = position ps c (Turn p place) (drop 1 c.items) h.config f tt in
     let there : At ps c (Turn p place) p = subst (λ n. At ps c (Turn p place) n) (sym at.belongs.0) at in
@@ -134,12 +140,12 @@ goes ps c p i front s at turns each st = record { running = p; lists = at.goes f
 
 -- ---- Acts that hold no others
 
-pub set_is : (ps : List TypedProcedure) (c : Stored) (d : Decision) (r : Stepped) (p place x : ℕ) (t : Term) (span : Span) → ComesNext ps c p place (Act.set x t span) → reply_of r ≡ replied (is_some (exact_term t c.state)) (surely (assigned c x (term_value t (environment c.state)))) → IsStep ps c d r
-set_is ps c d r p place x t span h e =
+set_means : (ps : List TypedProcedure) (c : Stored) (d : Decision) (p place x : ℕ) (t : Term) (span : Span) → ComesNext ps c p place (Act.set x t span) → MeansStep ps c d
+set_means ps c d p place x t span h =
     let k = known ps c p place (Act.set x t span) h tt in
     let rule = ruled ps p place (Act.set x t span) h.rules h.names in
     let st = own_set (procedure_at ps p) c.state x (term_value t (environment c.state)) k.at.state rule.targets (term_has (procedure_at ps p) c.state (types_of (procedure_at ps p) x) t k.at.state rule.typed) in
-    one_step ps c d r (Do p place) (Item.act (Act.set x t span)) (is_some (exact_term t c.state)) (assigned c x (term_value t (environment c.state))) k.first (ap act_item h.names) e refl (ap sure (passes ps c _ k.at.continues)) (record { asks = no_more c.made; config = goes ps c p (Do p place) [] _ k.at k.turns tt st })
+    one_step ps c d (Do p place) (Item.act (Act.set x t span)) (assigned c x (term_value t (environment c.state))) k.first (ap act_item h.names) (does ps c d p place (Act.set x t span) h.names) (ap sure (passes ps c _ k.at.continues)) (record { weight = zero-≤ʳ-one; asks = no_more c.made; config = goes ps c p (Do p place) [] _ k.at k.turns tt st })
 
 parts_fit_all : (types : Types) (x : ℕ) (qs : List (Rational × Term)) → DrawFits types x qs → PartsFit types x qs
 parts_fit_all types x [] h = tt
@@ -147,52 +153,52 @@ parts_fit_all types x (q ∷ qs) h = h
 
 parts_come : (ps : List TypedProcedure) (c : Stored) (p place x : ℕ) (qs : List (Rational × Term)) → At ps c (Do p place) p → length c.turns ≡ (procedure_at ps c.procedure).loops → IsOwn (procedure_at ps p) x → PartsFit (types_of (procedure_at ps p)) x qs → Each (Comes ps (c.made + 0)) (stored_branches c x qs)
 parts_come ps c p place x [] at ts o h = tt
-parts_come ps c p place x (q ∷ qs) at ts o h = (record { asks = no_more c.made; config = goes ps c p (Do p place) [] _ at ts tt (own_set (procedure_at ps p) c.state x (term_value q.1 (environment c.state)) at.state o (term_has (procedure_at ps p) c.state (types_of (procedure_at ps p) x) q.1 at.state h.0.1)) }, parts_come ps c p place x qs at ts o h.1)
+parts_come ps c p place x (q ∷ qs) at ts o h = (record { weight = h.0.0; asks = no_more c.made; config = goes ps c p (Do p place) [] _ at ts tt (own_set (procedure_at ps p) c.state x (term_value q.1 (environment c.state)) at.state o (term_has (procedure_at ps p) c.state (types_of (procedure_at ps p) x) q.1 at.state h.0.1)) }, parts_come ps c p place x qs at ts o h.1)
 
-pub draw_is : (ps : List TypedProcedure) (c : Stored) (d : Decision) (r : Stepped) (p place x : ℕ) (qs : List (Rational × Term)) (span : Span) → ComesNext ps c p place (Act.draw x qs span) → reply_of r ≡ replied (parts_fit qs c.state) (stored_branches c x qs) → IsStep ps c d r
-draw_is ps c d r p place x qs span h e =
+draw_means : (ps : List TypedProcedure) (c : Stored) (d : Decision) (p place x : ℕ) (qs : List (Rational × Term)) (span : Span) → ComesNext ps c p place (Act.draw x qs span) → MeansStep ps c d
+draw_means ps c d p place x qs span h =
     let k = known ps c p place (Act.draw x qs span) h tt in
     let rule = ruled ps p place (Act.draw x qs span) h.rules h.names in
-    item_step ps c d r (Do p place) (Item.act (Act.draw x qs span)) (parts_fit qs c.state) (stored_branches c x qs) k.first (ap act_item h.names) e refl (draws ps c x qs k.at.continues) (parts_come ps c p place x qs k.at k.turns rule.targets (parts_fit_all (types_of (procedure_at ps p)) x qs rule.typed))
+    item_step ps c d (Do p place) (Item.act (Act.draw x qs span)) (stored_branches c x qs) k.first (ap act_item h.names) (does ps c d p place (Act.draw x qs span) h.names) (draws ps c x qs k.at.continues) (parts_come ps c p place x qs k.at k.turns rule.targets (parts_fit_all (types_of (procedure_at ps p)) x qs rule.typed))
 
-pub toss_is : (ps : List TypedProcedure) (c : Stored) (d : Decision) (r : Stepped) (p place x : ℕ) (f : Form) (span : Span) → ComesNext ps c p place (Act.toss x f span) → reply_of r ≡ replied (toss_fits f c.state) (stored_branches c x (toss_parts f (environment c.state))) → IsStep ps c d r
-toss_is ps c d r p place x f span h e =
+toss_means : (ps : List TypedProcedure) (c : Stored) (d : Decision) (p place x : ℕ) (f : Form) (span : Span) → ComesNext ps c p place (Act.toss x f span) → MeansStep ps c d
+toss_means ps c d p place x f span h =
     let k = known ps c p place (Act.toss x f span) h tt in
     let rule = ruled ps p place (Act.toss x f span) h.rules h.names in
     let qs = toss_parts f (environment c.state) in
     let fit = toss_fit (types_of (procedure_at ps p)) x f (environment c.state) rule.typed.0 rule.typed.1 (env_typed (type_list (variables (procedure_at ps p))) c.state k.at.state) in
-    item_step ps c d r (Do p place) (Item.act (Act.toss x f span)) (toss_fits f c.state) (stored_branches c x qs) k.first (ap act_item h.names) e refl (draws ps c x qs k.at.continues) (parts_come ps c p place x qs k.at k.turns rule.targets fit)
+    item_step ps c d (Do p place) (Item.act (Act.toss x f span)) (stored_branches c x qs) k.first (ap act_item h.names) (does ps c d p place (Act.toss x f span) h.names) (draws ps c x qs k.at.continues) (parts_come ps c p place x qs k.at k.turns rule.targets fit)
 
 pub asked_config : (ps : List TypedProcedure) (c : Stored) → IsConfig ps c → IsConfig ps (asked c)
 asked_config ps c h = record { running = h.running; lists = h.lists; turns = h.turns }
 
-pub any_is : (ps : List TypedProcedure) (c : Stored) (d : Decision) (r : Stepped) (p place x : ℕ) (up : Bool) (ty : Ty) (span : Span) → ComesNext ps c p place (Act.any x up ty span) → reply_of r ≡ replied true (surely (asked (assigned c x (fit ty (value_of d))))) → IsStep ps c d r
-any_is ps c d r p place x up ty span h e =
+any_means : (ps : List TypedProcedure) (c : Stored) (d : Decision) (p place x : ℕ) (up : Bool) (ty : Ty) (span : Span) → ComesNext ps c p place (Act.any x up ty span) → MeansStep ps c d
+any_means ps c d p place x up ty span h =
     let k = known ps c p place (Act.any x up ty span) h tt in
     let rule = ruled ps p place (Act.any x up ty span) h.rules h.names in
     let st = own_set (procedure_at ps p) c.state x (fit ty (value_of d)) k.at.state rule.targets (subst (λ t. has t (fit ty (value_of d)) ≡ true) (sym rule.typed) (fit_has ty (value_of d))) in
-    one_step ps c d r (Do p place) (Item.act (Act.any x up ty span)) true (asked (assigned c x (fit ty (value_of d)))) k.first (ap act_item h.names) e refl (ap sure (passes ps c _ k.at.continues)) (record { asks = refl; config = asked_config ps _ (goes ps c p (Do p place) [] _ k.at k.turns tt st) })
+    one_step ps c d (Do p place) (Item.act (Act.any x up ty span)) (asked (assigned c x (fit ty (value_of d)))) k.first (ap act_item h.names) (does ps c d p place (Act.any x up ty span) h.names) (ap sure (passes ps c _ k.at.continues)) (record { weight = zero-≤ʳ-one; asks = refl; config = asked_config ps _ (goes ps c p (Do p place) [] _ k.at k.turns tt st) })
 
-pub reward_is : (ps : List TypedProcedure) (c : Stored) (d : Decision) (r : Stepped) (p place : ℕ) (f : Form) (span : Span) → ComesNext ps c p place (Act.reward f span) → reply_of r ≡ replied (is_some (and_then (exact_value f c.state) (λ v. exact_sumᵛ c.reward v))) (surely (collected c (value f (environment c.state) Choices.stop))) → IsStep ps c d r
-reward_is ps c d r p place f span h e =
+reward_means : (ps : List TypedProcedure) (c : Stored) (d : Decision) (p place : ℕ) (f : Form) (span : Span) → ComesNext ps c p place (Act.reward f span) → MeansStep ps c d
+reward_means ps c d p place f span h =
     let k = known ps c p place (Act.reward f span) h tt in
     let g = goes ps c p (Do p place) [] c.state k.at k.turns tt k.at.state in
-    one_step ps c d r (Do p place) (Item.act (Act.reward f span)) (is_some (and_then (exact_value f c.state) (λ v. exact_sumᵛ c.reward v))) (collected c (value f (environment c.state) Choices.stop)) k.first (ap act_item h.names) e refl (ap sure (collects ps c _ k.at.continues)) (record { asks = no_more c.made; config = record { running = g.running; lists = g.lists; turns = g.turns } })
+    one_step ps c d (Do p place) (Item.act (Act.reward f span)) (collected c (value f (environment c.state) Choices.stop)) k.first (ap act_item h.names) (does ps c d p place (Act.reward f span) h.names) (ap sure (collects ps c _ k.at.continues)) (record { weight = zero-≤ʳ-one; asks = no_more c.made; config = record { running = g.running; lists = g.lists; turns = g.turns } })
 
 -- ---- Acts that hold blocks
 
 opened_config : (ps : List TypedProcedure) (c : Stored) (p place : ℕ) (i : Numbered) (acts : Acts) → At ps c i p → length c.turns ≡ (procedure_at ps c.procedure).loops → Stands (text ps p) place (in_order acts) → Each (CanRun ps) (in_order acts) → IsConfig ps (opened c p place acts)
 opened_config ps c p place i acts at ts s r = goes ps c p i (numbered p place acts) c.state at ts (block_belongs ps p place acts s r) at.state
 
-pub if_is : (ps : List TypedProcedure) (c : Stored) (d : Decision) (r : Stepped) (p place : ℕ) (arms : Arms) (other : Acts) (span : Span) → ComesNext ps c p place (Act.ifs arms other span) → reply_of r ≡ replied (guards_fit arms c.state) (surely (opened c p (taken_place (place + 1) arms (environment c.state)) (taken arms other (environment c.state)))) → IsStep ps c d r
-if_is ps c d r p place arms other span h e =
+if_means : (ps : List TypedProcedure) (c : Stored) (d : Decision) (p place : ℕ) (arms : Arms) (other : Acts) (span : Span) → ComesNext ps c p place (Act.ifs arms other span) → MeansStep ps c d
+if_means ps c d p place arms other span h =
     let k = known ps c p place (Act.ifs arms other span) h tt in
     let stands = taken_stands (text ps p) (place + 1) arms other (environment c.state) k.stands in
-    one_step ps c d r (Do p place) (Item.act (Act.ifs arms other span)) (guards_fit arms c.state) (opened c p (taken_place (place + 1) arms (environment c.state)) (taken arms other (environment c.state))) k.first (ap act_item h.names) e refl (ap sure (opens ps c p _ (taken arms other (environment c.state)) k.at.continues stands)) (record { asks = no_more c.made; config = opened_config ps c p _ (Do p place) (taken arms other (environment c.state)) k.at k.turns stands (taken_runs ps arms other (environment c.state) k.runs.1) })
+    one_step ps c d (Do p place) (Item.act (Act.ifs arms other span)) (opened c p (taken_place (place + 1) arms (environment c.state)) (taken arms other (environment c.state))) k.first (ap act_item h.names) (does ps c d p place (Act.ifs arms other span) h.names) (ap sure (opens ps c p _ (taken arms other (environment c.state)) k.at.continues stands)) (record { weight = zero-≤ʳ-one; asks = no_more c.made; config = opened_config ps c p _ (Do p place) (taken arms other (environment c.state)) k.at k.turns stands (taken_runs ps arms other (environment c.state) k.runs.1) })
 
-pub pick_is : (ps : List TypedProcedure) (c : Stored) (d : Decision) (r : Stepped) (p place : ℕ) (up : Bool) (a b : Acts) (span : Span) → ComesNext ps c p place (Act.pick up a b span) → reply_of r ≡ replied true (surely (asked (if side_of d then opened c p (place + 1) a else opened c p (place + 1 + length (in_order a)) b))) → IsStep ps c d r
-pick_is ps c d r p place up a b span h e =
-    one_step ps c d r (Do p place) (Item.act (Act.pick up a b span)) true (asked (if side_of d then opened c p (place + 1) a else opened c p (place + 1 + length (in_order a)) b)) k.first (ap act_item h.names) e refl (ap sure (moves_to (side_of d))) (record { asks = asks (side_of d); config = meets (side_of d) })
+pick_means : (ps : List TypedProcedure) (c : Stored) (d : Decision) (p place : ℕ) (up : Bool) (a b : Acts) (span : Span) → ComesNext ps c p place (Act.pick up a b span) → MeansStep ps c d
+pick_means ps c d p place up a b span h =
+    one_step ps c d (Do p place) (Item.act (Act.pick up a b span)) (asked (if side_of d then opened c p (place + 1) a else opened c p (place + 1 + length (in_order a)) b)) k.first (ap act_item h.names) (does ps c d p place (Act.pick up a b span) h.names) (ap sure (moves_to (side_of d))) (record { weight = zero-≤ʳ-one; asks = asks (side_of d); config = meets (side_of d) })
   where
     k : Known ps c p place (Act.pick up a b span)
     k = known ps c p place (Act.pick up a b span) h tt
@@ -252,6 +258,7 @@ test_comes ps c i p place h b k = go (holds h.guard (environment c.state) Choice
 
     go : (t : Bool) → Comes ps (c.made + 0) (oneʳ, (if t then turned_at c p place h.number b else going c (behind c) c.state))
     go true = record {
+      weight = zero-≤ʳ-one;
       asks = no_more c.made;
       config = record {
         running = p;
@@ -259,10 +266,10 @@ test_comes ps c i p place h b k = go (holds h.guard (environment c.state) Choice
         turns = turned_length p c.procedure h.number c.turns (p == c.procedure) ∙ k.turns;
       };
     }
-    go false = record { asks = no_more c.made; config = goes ps c p i [] c.state k.at k.turns tt k.at.state }
+    go false = record { weight = zero-≤ʳ-one; asks = no_more c.made; config = goes ps c p i [] c.state k.at k.turns tt k.at.state }
 
-pub loop_is : (ps : List TypedProcedure) (c : Stored) (d : Decision) (r : Stepped) (p place : ℕ) (h : Head) (b : Acts) → ComesNext ps c p place (Act.loop h b) → reply_of r ≡ replied (is_some (exact_truth h.guard c.state)) (surely (tested c p place h.guard h.number b)) → IsStep ps c d r
-loop_is ps c d r p place h b n e = go n.first
+loop_means : (ps : List TypedProcedure) (c : Stored) (d : Decision) (p place : ℕ) (h : Head) (b : Acts) → ComesNext ps c p place (Act.loop h b) → MeansStep ps c d
+loop_means ps c d p place h b n = go n.first
   where
     begins : Known ps c p place (Act.loop h b) → Tests ps c (Do p place) p place h b
     begins k = record { at = k.at; names = n.names; runs = k.runs.1; stands = k.stands; turns = k.turns; range = loop_range ps p place h b n.rules n.names }
@@ -270,33 +277,33 @@ loop_is ps c d r p place h b n e = go n.first
     again : UnderWay ps c p place (Act.loop h b) → Tests ps c (Turn p place) p place h b
     again u = record { at = u.at; names = n.names; runs = subst (λ a. Each (CanRun ps) (inside a)) u.same u.loop.runs; stands = inside_at ps p place (Act.loop h b) n.names; turns = n.config.turns; range = loop_range ps p place h b n.rules n.names }
 
-    go : IsAt p place c.items → IsStep ps c d r
-    go (inl f) = let k = begins (known_do ps c p place (Act.loop h b) n f) in one_step ps c d r (Do p place) (Item.act (Act.loop h b)) (is_some (exact_truth h.guard c.state)) (tested c p place h.guard h.number b) f (ap act_item n.names) e refl (test_named ps c (Do p place) p place h b k) (test_comes ps c (Do p place) p place h b k)
-    go (inr f) = let k = again (under_way ps c p place (Act.loop h b) n f) in one_step ps c d r (Turn p place) (Item.turn h b) (is_some (exact_truth h.guard c.state)) (tested c p place h.guard h.number b) f (ap turn_item n.names) e refl (test_named ps c (Turn p place) p place h b k) (test_comes ps c (Turn p place) p place h b k)
+    go : IsAt p place c.items → MeansStep ps c d
+    go (inl f) = let k = begins (known_do ps c p place (Act.loop h b) n f) in one_step ps c d (Do p place) (Item.act (Act.loop h b)) (tested c p place h.guard h.number b) f (ap act_item n.names) (does ps c d p place (Act.loop h b) n.names) (test_named ps c (Do p place) p place h b k) (test_comes ps c (Do p place) p place h b k)
+    go (inr f) = let k = again (under_way ps c p place (Act.loop h b) n f) in one_step ps c d (Turn p place) (Item.turn h b) (tested c p place h.guard h.number b) f (ap turn_item n.names) (does ps c d p place (Act.loop h b) n.names) (test_named ps c (Turn p place) p place h b k) (test_comes ps c (Turn p place) p place h b k)
 
 -- ---- Calls, outputs and returns
 
-pub call_is : (ps : List TypedProcedure) (c : Stored) (d : Decision) (r : Stepped) (p place q : ℕ) (xs : List ℕ) (es : List Term) (span : Span) → ComesNext ps c p place (Act.call xs q es span) → reply_of r ≡ replied (terms_fit es c.state) (surely (entered c p place q (procedure_at ps q) (evaluate es (environment c.state)))) → IsStep ps c d r
-call_is ps c d r p place q xs es span h e =
+call_means : (ps : List TypedProcedure) (c : Stored) (d : Decision) (p place q : ℕ) (xs : List ℕ) (es : List Term) (span : Span) → ComesNext ps c p place (Act.call xs q es span) → MeansStep ps c d
+call_means ps c d p place q xs es span h =
     let k = known ps c p place (Act.call xs q es span) h tt in
     let rule = ruled ps p place (Act.call xs q es span) h.rules h.names in
     let vs = evaluate es (environment c.state) in
     let st = first_typed (procedure_at ps p) (procedure_at ps q) c.state es k.at.state rule.typed.arguments in
-    one_step ps c d r (Do p place) (Item.act (Act.call xs q es span)) (terms_fit es c.state) (entered c p place q (procedure_at ps q) (evaluate es (environment c.state))) k.first (ap act_item h.names) e refl (ap sure (enters ps c p place q xs es span (evaluate es (environment c.state)) k.at.continues h.names)) (record { asks = no_more c.made; config = entered_config ps c p place q xs es span (evaluate es (environment c.state)) h.names k.runs.0 st (k.at.goes [] c.state tt k.at.state) k.turns })
+    one_step ps c d (Do p place) (Item.act (Act.call xs q es span)) (entered c p place q (procedure_at ps q) (evaluate es (environment c.state))) k.first (ap act_item h.names) (does ps c d p place (Act.call xs q es span) h.names) (ap sure (enters ps c p place q xs es span (evaluate es (environment c.state)) k.at.continues h.names)) (record { weight = zero-≤ʳ-one; asks = no_more c.made; config = entered_config ps c p place q xs es span (evaluate es (environment c.state)) h.names k.runs.0 st (k.at.goes [] c.state tt k.at.state) k.turns })
 
 out_own : (p : TypedProcedure) (x : ℕ) → IsOutput p x → IsOwn p x
 out_own p x h = record { no_input = h.no_input; below = let b = h.below in let a = length-append p.inputs p.outputs in let e = length-append p.inputs (p.outputs ++ p.locals) in let f = length-append p.outputs p.locals in omega (arith, a, b, e, f) }
 
-pub out_is : (ps : List TypedProcedure) (c : Stored) (d : Decision) (r : Stepped) (q x : ℕ) → IsConfig ps c → c.items ≡ Out q x ∷ drop 1 c.items → reply_of r ≡ replied true (surely (asked (assigned c x (fit (types_of (procedure_at ps q) x) (value_of d))))) → IsStep ps c d r
-out_is ps c d r q x h f e =
+pub out_means : (ps : List TypedProcedure) (c : Stored) (d : Decision) (q x : ℕ) → IsConfig ps c → c.items ≡ Out q x ∷ drop 1 c.items → MeansStep ps c d
+out_means ps c d q x h f =
     let at = position ps c (Out q x) (drop 1 c.items) h f tt in
     let there : At ps c (Out q x) q = subst (λ m. At ps c (Out q x) m) (sym at.belongs.0) at in
     let ty = types_of (procedure_at ps q) x in
     let st = own_set (procedure_at ps q) c.state x (fit (types_of (procedure_at ps q) x) (value_of d)) there.state (out_own (procedure_at ps q) x there.belongs.1) (fit_has (types_of (procedure_at ps q) x) (value_of d)) in
-    one_step ps c d r (Out q x) (Item.out x (types_of (procedure_at ps q) x)) true (asked (assigned c x (fit (types_of (procedure_at ps q) x) (value_of d)))) f refl e refl (ap sure (passes ps c _ there.continues)) (record { asks = refl; config = asked_config ps _ (goes ps c q (Out q x) [] _ there h.turns tt st) })
+    one_step ps c d (Out q x) (Item.out x (types_of (procedure_at ps q) x)) (asked (assigned c x (fit (types_of (procedure_at ps q) x) (value_of d)))) f refl refl (ap sure (passes ps c _ there.continues)) (record { weight = zero-≤ʳ-one; asks = refl; config = asked_config ps _ (goes ps c q (Out q x) [] _ there h.turns tt st) })
 
-pub back_is : (ps : List TypedProcedure) (c : Stored) (d : Decision) (r : Stepped) (p place q : ℕ) (xs : List ℕ) (es : List Term) (span : Span) → Each (MeetsRules ps) ps → IsConfig ps c → c.items ≡ Back p place ∷ drop 1 c.items → Names ps p place (Act.call xs q es span) → ((fs : List Lists) (f : Lists) → c.frames ≡ fs ++ (f ∷ []) → reply_of r ≡ replied true (surely (resumed c xs (procedure_at ps q) fs f))) → IsStep ps c d r
-back_is ps c d r p place q xs es span rules h f n e = go (reverse c.frames) refl
+pub back_means : (ps : List TypedProcedure) (c : Stored) (d : Decision) (p place q : ℕ) (xs : List ℕ) (es : List Term) (span : Span) → Each (MeetsRules ps) ps → IsConfig ps c → c.items ≡ Back p place ∷ drop 1 c.items → Names ps p place (Act.call xs q es span) → MeansStep ps c d
+back_means ps c d p place q xs es span rules h f n = go (reverse c.frames) refl
   where
     lists : AreLists ps c.procedure h.running (Back p place ∷ drop 1 c.items) c.state (reverse c.frames)
     lists = subst (λ l. AreLists ps c.procedure h.running l c.state (reverse c.frames)) f h.lists
@@ -304,44 +311,42 @@ back_is ps c d r p place q xs es span rules h f n e = go (reverse c.frames) refl
     rule : Ruled ps p (Act.call xs q es span)
     rule = ruled ps p place (Act.call xs q es span) rules n
 
-    go : (l : List Lists) → reverse c.frames ≡ l → IsStep ps c d r
+    go : (l : List Lists) → reverse c.frames ≡ l → MeansStep ps c d
     go [] z = absurd (subst (λ l. AreLists ps c.procedure h.running (Back p place ∷ drop 1 c.items) c.state l) z lists).1.0.0
     go (g ∷ gs) z =
         let k = returning ps c.procedure h.running p place q xs es span (drop 1 c.items) c.state g gs n (subst (λ l. AreLists ps c.procedure h.running (Back p place ∷ drop 1 c.items) c.state l) z lists) in
-        let frames : c.frames ≡ reverse gs ++ (g ∷ []) = sym (reverse-reverse c.frames) ∙ ap reverse z ∙ reverse-append (g ∷ []) gs in
         let st = resumed_typed (procedure_at ps p) (procedure_at ps q) xs c.state g.1 rule.targets rule.typed.targets k.state (lists_state ps c.procedure p g.0 g.1 gs k.waits) in
-        one_step ps c d r (Back p place) Item.back true (resumed c xs (procedure_at ps q) (reverse gs) g) f refl (e (reverse gs) g frames) refl (resumes ps c p place q xs es span g gs (items_of ps (behind c)) (f ∙ ap (λ l. Back p place ∷ l) k.alone) n z) (record { asks = no_more c.made; config = resumed_config ps c p q xs g gs k.waits st h.turns })
+        one_step ps c d (Back p place) Item.back (resumed c xs (procedure_at ps q) (reverse gs) g) f refl (ap (λ o. stored_return ps (call_parts o) c (reverse c.frames)) n ∙ ap (stored_return ps (xs, q) c) z) (resumes ps c p place q xs es span g gs (items_of ps (behind c)) (f ∙ ap (λ l. Back p place ∷ l) k.alone) n z) (record { weight = zero-≤ʳ-one; asks = no_more c.made; config = resumed_config ps c p q xs g gs k.waits st h.turns })
 
 -- An ended configuration has no outcome.
-pub ended_is : (ps : List TypedProcedure) (c : Stored) (d : Decision) (r : Stepped) → c.items ≡ [] → reply_of r ≡ replied true [] → IsStep ps c d r
-ended_is ps c d r f e = is_step ps c d r true [] e (sym (ap (λ l. items_fit (items_of ps l) (config_of ps c)) f)) (sym (ap (λ l. step_items ps (items_of ps l) (config_of ps c) d) f)) tt
+pub ended_means : (ps : List TypedProcedure) (c : Stored) (d : Decision) → c.items ≡ [] → MeansStep ps c d
+ended_means ps c d f =
+    let none : stored_step ps c d ≡ [] = ap (λ l. stored_items ps l c d) f in
+    record {
+      steps = ap (named ps) none ∙ sym (ap (λ l. step_items ps (items_of ps l) (config_of ps c) d) f);
+      comes = subst (Each (Comes ps (c.made + asked_by (items_of ps c.items)))) (sym none) tt;
+    }
 
 -- A check and a validation don't come.
-pub check_is : (ps : List TypedProcedure) (c : Stored) (d : Decision) (r : Stepped) (p place : ℕ) (kind : CheckKind) (f : Form) (span : Span) → ComesNext ps c p place (Act.check kind f span) → IsStep ps c d r
-check_is ps c d r p place kind f span h = absurd (known ps c p place (Act.check kind f span) h tt).runs.0
+check_means : (ps : List TypedProcedure) (c : Stored) (d : Decision) (p place : ℕ) (kind : CheckKind) (f : Form) (span : Span) → ComesNext ps c p place (Act.check kind f span) → MeansStep ps c d
+check_means ps c d p place kind f span h = absurd (known ps c p place (Act.check kind f span) h tt).runs.0
 
-pub validate_is : (ps : List TypedProcedure) (c : Stored) (d : Decision) (r : Stepped) (p place : ℕ) (co : Bool) (span : Span) → ComesNext ps c p place (Act.validate co span) → IsStep ps c d r
-validate_is ps c d r p place co span h = absurd (known ps c p place (Act.validate co span) h tt).runs.0
+validate_means : (ps : List TypedProcedure) (c : Stored) (d : Decision) (p place : ℕ) (co : Bool) (span : Span) → ComesNext ps c p place (Act.validate co span) → MeansStep ps c d
+validate_means ps c d p place co span h = absurd (known ps c p place (Act.validate co span) h tt).runs.0
 
--- ---- Room for places
-
-nth_below : (xs : List Act) (n : ℕ) (a : Act) → nth xs n ≡ Some a → n < length xs
-nth_below [] n a h = elim (none-some a h) [ ]
-nth_below (x ∷ xs) zero a h = omega arith
-nth_below (x ∷ xs) (suc n) a h = let k = nth_below xs n a h in omega (arith, k)
-
-stands_within : (xs : List Act) (n : ℕ) (ys : List Act) → n ≤ length xs → Stands xs n ys → n + length ys ≤ length xs
-stands_within xs n [] l h = omega (arith, l)
-stands_within xs n (y ∷ ys) l h = let k = nth_below xs n y (part_head xs n y ys h) in let m = stands_within xs (suc n) ys (omega (arith, k)) (part_rest xs n y ys h) in omega (arith, m)
-
--- The acts inside an act have places.
-pub has_room : (ps : List TypedProcedure) (p place : ℕ) (a : Act) → HasFewActs ps → Names ps p place a → place + 1 + length (inside a) < 2 ^ 31
-has_room ps p place a few n =
-    let k = nth_below (text ps p) place a n in
-    let m = stands_within (text ps p) (place + 1) (inside a) (omega (arith, k)) (inside_at ps p place a n) in
-    let f = few p in
-    let e = ap length (text_is ps p) in
-    omega (arith, m, f, e)
+-- Any act that comes next.
+pub act_means : (ps : List TypedProcedure) (c : Stored) (d : Decision) (p place : ℕ) (a : Act) → ComesNext ps c p place a → MeansStep ps c d
+act_means ps c d p place (Act.set x t span) h = set_means ps c d p place x t span h
+act_means ps c d p place (Act.draw x qs span) h = draw_means ps c d p place x qs span h
+act_means ps c d p place (Act.toss x f span) h = toss_means ps c d p place x f span h
+act_means ps c d p place (Act.any x up ty span) h = any_means ps c d p place x up ty span h
+act_means ps c d p place (Act.reward f span) h = reward_means ps c d p place f span h
+act_means ps c d p place (Act.ifs arms e span) h = if_means ps c d p place arms e span h
+act_means ps c d p place (Act.pick up a b span) h = pick_means ps c d p place up a b span h
+act_means ps c d p place (Act.check kind f span) h = check_means ps c d p place kind f span h
+act_means ps c d p place (Act.validate co span) h = validate_means ps c d p place co span h
+act_means ps c d p place (Act.loop h b) n = loop_means ps c d p place h b n
+act_means ps c d p place (Act.call xs q es span) h = call_means ps c d p place q xs es span h
 
 -- ---- Named acts
 
@@ -410,3 +415,30 @@ back_state ps c q xs es span h = go (reverse c.frames) (subst (λ l. AreLists ps
 pub first_item : (is : List Numbered) (i : Numbered) → slice_get is 0 ≡ Some i → is ≡ i ∷ drop 1 is
 first_item [] i h = elim (none-some i h) [ ]
 first_item (j ∷ is) i h = ap (λ k. k ∷ is) (let e : j ≡ i = cc in e)
+
+-- ---- Any configuration
+
+first_of : (c : Stored) (i : Numbered) (is : List Numbered) → c.items ≡ i ∷ is → c.items ≡ i ∷ drop 1 c.items
+first_of c i is e = e ∙ ap (λ l. i ∷ drop 1 l) (sym e)
+
+-- Each configuration that meets the condition steps as the definition does.
+pub stored_steps_are_meant : StoredStepsAreMeant
+stored_steps_are_meant ps rules c h d = go c.items refl
+  where
+    go : (is : List Numbered) → c.items ≡ is → MeansStep ps c d
+    go [] e = ended_means ps c d e
+    go (Do p place ∷ is) e =
+        let f = first_of c (Do p place) is e in
+        let at = position ps c (Do p place) (drop 1 c.items) h f tt in
+        let there : At ps c (Do p place) p = subst (λ n. At ps c (Do p place) n) (sym at.belongs.0) at in
+        act_means ps c d p place there.belongs.1.act (record { rules = rules; config = h; first = inl f; names = there.belongs.1.named })
+    go (Turn p place ∷ is) e =
+        let f = first_of c (Turn p place) is e in
+        let at = position ps c (Turn p place) (drop 1 c.items) h f tt in
+        let there : At ps c (Turn p place) p = subst (λ n. At ps c (Turn p place) n) (sym at.belongs.0) at in
+        act_means ps c d p place (Act.loop there.belongs.1.head there.belongs.1.body) (record { rules = rules; config = h; first = inr f; names = there.belongs.1.named })
+    go (Out q x ∷ is) e = out_means ps c d q x h (first_of c (Out q x) is e)
+    go (Back p place ∷ is) e =
+        let f = first_of c (Back p place) is e in
+        let k = back_called ps c p place h f in
+        back_means ps c d p place k.callee k.targets k.arguments k.span rules h f k.names

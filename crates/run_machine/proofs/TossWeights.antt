@@ -17,8 +17,8 @@ use Rattle.heyvl_acts.specs.Tosses.{flip_parts, toss_parts, toss_weight}
 use Rattle.quant_algebra.specs.ExactOperators.{and_then, at_most_or, exact_minᵛ}
 use Rattle.run_machine.specs.BoundedStep.{exact_weight, toss_fits}
 use Rattle.run_machine.specs.Names.{Stored}
-use Rattle.run_machine.specs.internal.Replies.{Reply, StoredOutcomes, replied}
-use Rattle.run_machine.specs.internal.StoredSteps.{stored_branches}
+use Rattle.run_machine.specs.Replies.{Reply, StoredOutcomes, replied}
+use Rattle.run_machine.specs.StoredMoves.{stored_branches}
 
 -- The order with 1 tells which is the smaller.
 pub smaller_is : (v : Value) (o : Ordering) → Some o ≡ exact_orderᵛ v oneᵛ → at_most_or o v oneᵛ ≡ minᵛ v oneᵛ

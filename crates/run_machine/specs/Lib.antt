@@ -8,5 +8,10 @@ pub mod RunLaws
 pub mod Names
 pub mod BoundedStep
 pub mod ConfigConditions
+pub mod Replies
+pub mod StoredMoves
+pub mod StoredStep
 pub mod StepAnswers
+pub mod StoredLaws
+pub mod SameStored
 pub mod internal

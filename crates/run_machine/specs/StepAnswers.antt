@@ -1,5 +1,5 @@
--- What the program's step gives: the answer of the definition, one decision more where one is asked for, and configurations
--- that meet the condition again.
+-- What the program's step gives: the stored step, which is the answer of the definition, one decision more where one is asked for,
+-- and configurations that meet the condition again.
 use Rattle.std.specs.Prelude.{◌≡◌, ◌+◌, ℕ, List, [], ◌∷◌}
 use Rattle.heyvl_acts.specs.Acts.{Act, TypedProcedure}
 use Rattle.heyvl_acts.specs.Rules.{Each}
@@ -9,7 +9,9 @@ use Rattle.run_machine.specs.BoundedStep.{answer_of, bounded_step}
 use Rattle.run_machine.specs.ConfigConditions.{IsConfig}
 use Rattle.run_machine.specs.Configurations.{Item}
 use Rattle.run_machine.specs.Names.{Stored, stored, items_of, config_of}
+use Rattle.run_machine.specs.Replies.{reply_of}
 use Rattle.run_machine.specs.Step.{Decision}
+use Rattle.run_machine.specs.StoredStep.{stored_reply}
 
 -- The predicate holds of each configuration that may come next.
 abbrev pub EachNext : (Stored → Type 0) → Stepped → Type 0
@@ -38,8 +40,9 @@ asked_by (Item.turn h b ∷ is) = 0
 asked_by (Item.out x ty ∷ is) = 1
 asked_by (Item.back ∷ is) = 0
 
--- The answer to a configuration under a decision.
+-- The answer to a configuration under a decision: what is stored, what it stands for, and what it keeps.
 pub record IsStep (ps : List TypedProcedure) (c : Stored) (d : Decision) (stepped : Stepped) : Type 0 where
+  pub reply : reply_of stepped ≡ stored_reply ps c d
   pub answer : answer_of ps stepped ≡ bounded_step ps (config_of ps c) d
   pub made : EachNext (λ e. e.made ≡ c.made + asked_by (items_of ps c.items)) stepped
   pub configs : EachNext (IsConfig ps) stepped

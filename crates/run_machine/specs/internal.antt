@@ -1,5 +1,3 @@
 pub mod Places
-pub mod StoredSteps
-pub mod Replies
 pub mod Counts
 pub mod Comings

@@ -8,8 +8,8 @@ ghost use Rattle.heyvl_acts.specs.PlainActs.{acts_of, arms_of};
 ghost use Rattle.run_machine.specs.BoundedStep.{guards_fit};
 ghost use Rattle.run_machine.specs.Names.{stored, decision_of};
 ghost use Rattle.run_machine.specs.Step.{side_of};
-ghost use Rattle.run_machine.specs.internal.Replies.{reply_of, replied, surely};
-ghost use Rattle.run_machine.specs.internal.StoredSteps.{asked, opened, taken_place};
+ghost use Rattle.run_machine.specs.Replies.{reply_of, replied, surely};
+ghost use Rattle.run_machine.specs.StoredMoves.{asked, opened, taken_place};
 
 use crate::blocks::{push_block, size};
 use crate::configurations::{Config, Decide, Stepped};

@@ -8,8 +8,8 @@ ghost use Rattle.heyvl_acts.specs.Rules.{Each};
 ghost use Rattle.run_machine.specs.BoundedStep.{terms_fit};
 ghost use Rattle.run_machine.specs.Configurations.{evaluate, outputs_of, set_all};
 ghost use Rattle.run_machine.specs.Names.{HasFewActs, Lists, lists_of, stored};
-ghost use Rattle.run_machine.specs.internal.Replies.{reply_of, replied, surely};
-ghost use Rattle.run_machine.specs.internal.StoredSteps.{behind, entered, out_items, resumed};
+ghost use Rattle.run_machine.specs.Replies.{reply_of, replied, surely};
+ghost use Rattle.run_machine.specs.StoredMoves.{behind, entered, out_items, resumed};
 ghost use Rattle.run_machine.specs.internal.Counts.{IsSmall};
 
 use crate::configurations::{Config, Frame, Item, Stepped};

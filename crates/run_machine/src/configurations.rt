@@ -1,11 +1,15 @@
 //! Configurations of a run, with acts by their places, and what a step of one gives.
 
+ghost use Rattle.std.specs.Prelude.{◌≡◌};
+ghost use Rattle.run_machine.specs.Names.{stored};
+ghost use Rattle.run_machine.specs.SameStored.{same_stored};
+
 use heylo_formula::Val;
 use heyvl_num::{Ext, Frac};
 
 /// What is still to be done. Procedures go by number, acts by their place in the procedure's body, from 0 in the order of
 /// the text, an act before those inside it.
-#[derive(Clone, Copy, Debug)]
+#[derive(Clone, Copy, Debug, PartialEq, Eq, Hash)]
 pub enum Item {
     /// An act: its procedure and its place.
     Do(u32, u32),
@@ -18,14 +22,14 @@ pub enum Item {
 }
 
 /// A caller that waits: what it does after the call, and its state.
-#[derive(Drop)]
+#[derive(PartialEq, Eq, Hash, Drop)]
 pub struct Frame {
     pub items: Vec<Item>,
     pub state: Vec<Val>,
 }
 
-/// A run under way. It has ended where no item is left.
-#[derive(Drop)]
+/// A run under way. It has ended where no item is left. Two are equal where all of it is: procedures go by number and acts by place.
+#[derive(PartialEq, Eq, Hash, Drop)]
 pub struct Config {
     /// The procedure that was started.
     pub proc: u32,
@@ -60,4 +64,13 @@ pub enum Stepped {
     Deep,
     /// A number of the step doesn't fit.
     Bits,
+}
+
+impl Config {
+    /// Whether the other one is equal: all that is stored is compared, the numbers of decisions and of turns too.
+    pub fn is_same(&self, other: &Config) -> bool
+        ensures { result ≡ same_stored (stored self.now) (stored other.now) }
+    {
+        self == other
+    }
 }

@@ -1,6 +1,8 @@
 //! Laws of steps and runs. Each function does nothing: its contract is the law.
 
 ghost use Rattle.run_machine.specs.RunLaws as law;
+ghost use Rattle.run_machine.specs.SameStored as same;
+ghost use Rattle.run_machine.specs.StoredLaws as stored;
 
 /// The weights of a step add up to 1 where those of a draw do.
 pub fn steps_weigh_one()
@@ -21,4 +23,16 @@ pub fn decisions_decide_steps()
 pub fn runs_continue()
     ensures continued { law.RunsContinue }
     ensures ended { law.EndedStays }
+{}
+
+/// What is stored steps as the definition does: the first configuration stands for that of the definition, and, in a file that meets
+/// the rules, the step of each configuration that meets the condition for the step of the definition. No weight is negative.
+pub fn stored_steps_are_meant()
+    ensures begun { stored.StoredBeginningsAreMeant }
+    ensures steps { stored.StoredStepsAreMeant }
+{}
+
+/// Configurations are the same by test exactly where they are equal.
+pub fn same_is_equal()
+    ensures { same.SameIsEqual }
 {}

@@ -17,6 +17,8 @@ mod taking;
 mod tosses;
 
 pub use configurations::{Config, Decide, Frame, Item, Stepped};
-pub use laws::{decisions_decide_steps, runs_continue, steps_weigh_one};
+pub use laws::{
+    decisions_decide_steps, runs_continue, same_is_equal, steps_weigh_one, stored_steps_are_meant,
+};
 pub use starting::begin;
 pub use stepping::step;

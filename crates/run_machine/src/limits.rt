@@ -2,7 +2,7 @@
 
 ghost use Rattle.std.specs.Prelude.{◌≡◌, IfOk, nat_lt, true};
 ghost use Rattle.run_machine.specs.Names.{stored};
-ghost use Rattle.run_machine.specs.internal.Replies.{reply_of, replied, stored_outcomes, stored_values, surely};
+ghost use Rattle.run_machine.specs.Replies.{reply_of, replied, stored_outcomes, stored_values, surely};
 
 use crate::configurations::{Config, Stepped};
 use heyvl_num::Frac;

@@ -6,8 +6,8 @@ ghost use Rattle.heyvl_acts.specs.Places.{in_order};
 ghost use Rattle.heyvl_acts.specs.PlainActs.{acts_of};
 ghost use Rattle.quant_algebra.specs.ExactMeaning.{exact_truth};
 ghost use Rattle.run_machine.specs.Names.{stored};
-ghost use Rattle.run_machine.specs.internal.Replies.{reply_of, replied, surely};
-ghost use Rattle.run_machine.specs.internal.StoredSteps.{more_turns, tested, turned_at};
+ghost use Rattle.run_machine.specs.Replies.{reply_of, replied, surely};
+ghost use Rattle.run_machine.specs.StoredMoves.{more_turns, tested, turned_at};
 
 use crate::blocks::push_block;
 use crate::configurations::{Config, Item, Stepped};

@@ -12,8 +12,8 @@ ghost use Rattle.quant_algebra.specs.ExactMeaning.{exact_value};
 ghost use Rattle.quant_algebra.specs.ExactOperators.{and_then};
 ghost use Rattle.run_machine.specs.BoundedStep.{exact_term, parts_fit};
 ghost use Rattle.run_machine.specs.Names.{stored};
-ghost use Rattle.run_machine.specs.internal.Replies.{reply_of, replied, surely};
-ghost use Rattle.run_machine.specs.internal.StoredSteps.{assigned, behind, collected, going, stored_branches};
+ghost use Rattle.run_machine.specs.Replies.{reply_of, replied, surely};
+ghost use Rattle.run_machine.specs.StoredMoves.{assigned, behind, collected, going, stored_branches};
 
 use crate::configurations::{Config, Stepped};
 use crate::copies::without_first;

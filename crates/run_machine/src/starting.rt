@@ -7,6 +7,7 @@ ghost use Rattle.run_machine.specs.Bound.{IsState};
 ghost use Rattle.run_machine.specs.ConfigConditions.{IsConfig, ReachesPrograms};
 ghost use Rattle.run_machine.specs.Configurations.{begin as begin_of};
 ghost use Rattle.run_machine.specs.Names.{HasFewActs, stored, config_of, numbered};
+ghost use Rattle.run_machine.specs.StoredStep.{stored_begin};
 
 use crate::blocks::push_block;
 use crate::configurations::{Config, Item};
@@ -19,9 +20,8 @@ use std::alloc::{AllocError, Global};
 /// has no body, it has ended.
 pub fn begin(alloc: Global, typed: &Typed, p: u32, state: &[Val]) -> Result<Config, AllocError>
     requires { HasFewActs (procedures_of typed.now) }
+    ensures stored { IfOk result (λ first. stored first ≡ stored_begin (procedures_of typed.now) p state.now) }
     ensures first { IfOk result (λ first. config_of (procedures_of typed.now) (stored first) ≡ begin_of (procedures_of typed.now) p state.now) }
-    ensures turns { IfOk result (λ first. first.turns.items ≡ replicate (procedure_at (procedures_of typed.now) p).loops 0) }
-    ensures made { IfOk result (λ first. first.made ≡ 0) }
     ensures config { ReachesPrograms (procedures_of typed.now) p → IsState (procedure_at (procedures_of typed.now) p) state.now → IfOk result (λ first. IsConfig (procedures_of typed.now) (stored first)) }
 {
     let mut items = Vec::new(alloc);

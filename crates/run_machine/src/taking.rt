@@ -4,8 +4,8 @@ ghost use Rattle.std.specs.Prelude.{◌≡◌, ◌<◌, ◌^◌, IfOk, true};
 ghost use Rattle.heylo_formula.specs.State.{fit};
 ghost use Rattle.run_machine.specs.Names.{stored, decision_of};
 ghost use Rattle.run_machine.specs.Step.{value_of};
-ghost use Rattle.run_machine.specs.internal.Replies.{reply_of, replied, surely};
-ghost use Rattle.run_machine.specs.internal.StoredSteps.{asked, assigned};
+ghost use Rattle.run_machine.specs.Replies.{reply_of, replied, surely};
+ghost use Rattle.run_machine.specs.StoredMoves.{asked, assigned};
 
 use crate::configurations::{Config, Decide, Stepped};
 use crate::limits::for_sure;

@@ -13,8 +13,8 @@ ghost use Rattle.heyvl_num.specs.ValueOperators.{minᵛ};
 ghost use Rattle.quant_algebra.specs.ExactOperators.{exact_minᵛ};
 ghost use Rattle.run_machine.specs.BoundedStep.{exact_weight, toss_fits};
 ghost use Rattle.run_machine.specs.Names.{stored};
-ghost use Rattle.run_machine.specs.internal.Replies.{reply_of, replied};
-ghost use Rattle.run_machine.specs.internal.StoredSteps.{stored_branches};
+ghost use Rattle.run_machine.specs.Replies.{reply_of, replied};
+ghost use Rattle.run_machine.specs.StoredMoves.{stored_branches};
 
 use crate::configurations::{Config, Stepped};
 use crate::evaluation::finite;

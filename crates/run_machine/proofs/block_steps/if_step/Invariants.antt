@@ -4,7 +4,7 @@ use Rattle.heyvl_acts.specs.Matching.{taken}
 use Rattle.heyvl_acts.specs.Places.{in_order}
 use Rattle.heyvl_acts.specs.PlainActs.{acts_of, arms_of}
 use Rattle.run_machine.specs.BoundedStep.{guards_fit}
-use Rattle.run_machine.specs.internal.StoredSteps.{taken_place}
+use Rattle.run_machine.specs.StoredMoves.{taken_place}
 use Rattle.run_machine.proofs.BlockSizes.{arms_from}
 use Rattle.run_machine.proofs.block_steps.if_step.Given as goal
 

@@ -2,7 +2,7 @@ use Rattle.std.proofs.Common.{ap, ◌∙◌, arith, length, map}
 use Rattle.heyvl_acts.specs.PlainActs.{procedure_of}
 use Rattle.run_machine.specs.Configurations.{outputs_of, set_all}
 use Rattle.run_machine.specs.Names.{lists_of, stored}
-use Rattle.run_machine.specs.internal.Replies.{kept_small, surely}
+use Rattle.run_machine.specs.Replies.{kept_small, surely}
 use Rattle.run_machine.proofs.Moves.{if_ok}
 use Rattle.run_machine.proofs.Parts.{callee_long, resumed_is}
 use Rattle.run_machine.proofs.call_steps.back_step.Goals as goal

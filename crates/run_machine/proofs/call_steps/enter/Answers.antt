@@ -1,6 +1,6 @@
 use Rattle.std.proofs.Common.{◌++◌, ap, ◌∙◌, map}
 use Rattle.run_machine.specs.Names.{lists_of, stored}
-use Rattle.run_machine.specs.internal.StoredSteps.{out_items}
+use Rattle.run_machine.specs.StoredMoves.{out_items}
 use Rattle.run_machine.proofs.Parts.{entered_is}
 use Rattle.run_machine.proofs.call_steps.enter.Goals as goal
 

@@ -1,5 +1,5 @@
 use Rattle.std.proofs.Common.{◌≡◌, ◌++◌, ◌-◌}
-use Rattle.run_machine.specs.internal.StoredSteps.{out_items}
+use Rattle.run_machine.specs.StoredMoves.{out_items}
 use Rattle.run_machine.proofs.call_steps.push_outs.Given as goal
 
 abbrev pub invariant-loop-x : goal.invariant-loop-x

@@ -1,6 +1,6 @@
 use Rattle.std.proofs.Common.{◌≡◌, ◌+◌, length, map}
 use Rattle.run_machine.specs.Names.{lists_of}
-use Rattle.run_machine.specs.internal.Replies.{list_values}
+use Rattle.run_machine.specs.Replies.{list_values}
 use Rattle.run_machine.proofs.Depths.{values_from}
 use Rattle.run_machine.proofs.limits.is_deep.Given as goal
 

@@ -1,5 +1,5 @@
 use Rattle.std.proofs.Common.{◌≡◌, drop}
-use Rattle.run_machine.specs.internal.Replies.{any_large, stored_outcomes}
+use Rattle.run_machine.specs.Replies.{any_large, stored_outcomes}
 use Rattle.run_machine.proofs.limits.limited.Given as goal
 
 abbrev pub invariant-loop-outcome : goal.invariant-loop-outcome

@@ -2,8 +2,8 @@ use Rattle.std.proofs.Common.{◌≡◌, ◌++◌, drop}
 use Rattle.heyvl_acts.specs.PlainActs.{parts_of}
 use Rattle.run_machine.specs.BoundedStep.{parts_fit}
 use Rattle.run_machine.specs.Names.{stored}
-use Rattle.run_machine.specs.internal.Replies.{stored_outcomes}
-use Rattle.run_machine.specs.internal.StoredSteps.{stored_branches}
+use Rattle.run_machine.specs.Replies.{stored_outcomes}
+use Rattle.run_machine.specs.StoredMoves.{stored_branches}
 use Rattle.run_machine.proofs.plain_steps.draw_step.Given as goal
 
 -- What is left decides whether the parts fit, and follows the outcomes.

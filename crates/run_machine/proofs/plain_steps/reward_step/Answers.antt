@@ -6,7 +6,7 @@ use Rattle.heylo_formula.specs.Choices.{Choices}
 use Rattle.heylo_formula.specs.Meaning.{value}
 use Rattle.quant_algebra.specs.ExactMeaning.{exact_value}
 use Rattle.run_machine.specs.Names.{stored}
-use Rattle.run_machine.specs.internal.StoredSteps.{collected}
+use Rattle.run_machine.specs.StoredMoves.{collected}
 use Rattle.run_machine.proofs.Moves.{if_ok, all_fits, reward_fits, reward_is}
 use Rattle.run_machine.proofs.plain_steps.reward_step.Goals as goal
 

@@ -5,10 +5,10 @@ use Rattle.heyvl_acts.specs.PlainActs.{procedures_of}
 use Rattle.run_machine.specs.declared.configurations.Item.TheVariants.{Out}
 use Rattle.run_machine.specs.Names.{decision_of, stored}
 use Rattle.run_machine.specs.Step.{value_of}
-use Rattle.run_machine.specs.internal.Replies.{reply_of, replied, surely}
-use Rattle.run_machine.specs.internal.StoredSteps.{asked, assigned}
+use Rattle.run_machine.specs.Replies.{reply_of, replied, surely}
+use Rattle.run_machine.specs.StoredMoves.{asked, assigned}
 use Rattle.run_machine.proofs.Moves.{if_ok}
-use Rattle.run_machine.proofs.Steps.{out_is}
+use Rattle.run_machine.proofs.StepReplies.{out_is}
 use Rattle.run_machine.proofs.stepping.step.Goals as goal
 
 pub returns-in-Some-Back : goal.returns-in-Some-Back

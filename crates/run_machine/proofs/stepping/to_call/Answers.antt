@@ -5,11 +5,12 @@ use Rattle.heyvl_acts.specs.PlainActs.{act_of, procedure_of, procedures_of, term
 use Rattle.heyvl_acts.proofs.exported.PlainActsAre.{set_act, draw_act, toss_act, any_act, reward_act, if_act, pick_act, check_act, validate_act, loop_act, call_act}
 use Rattle.run_machine.specs.Names.{stored}
 use Rattle.run_machine.specs.internal.Comings.{ReturnsNext}
-use Rattle.run_machine.specs.internal.Replies.{reply_of, replied, surely}
-use Rattle.run_machine.specs.internal.StoredSteps.{resumed}
+use Rattle.run_machine.specs.Replies.{reply_of, replied, surely}
+use Rattle.run_machine.specs.StoredMoves.{resumed}
 use Rattle.run_machine.proofs.Moves.{if_ok}
 use Rattle.run_machine.proofs.RuledActs.{all_small}
-use Rattle.run_machine.proofs.Steps.{back_is, back_state, back_there, to_no_other}
+use Rattle.run_machine.proofs.StepReplies.{back_is}
+use Rattle.run_machine.proofs.Steps.{back_state, back_there, to_no_other}
 use Rattle.run_machine.proofs.exported.TypedStates.{state_long}
 use Rattle.run_machine.proofs.stepping.to_call.Goals as goal
 

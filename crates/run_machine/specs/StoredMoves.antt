@@ -1,4 +1,5 @@
--- Steps of configurations as they are stored, which name acts by their places. Private functions alone need this.
+-- How the steps of acts change a configuration as it is stored, which names acts by their places.
+-- Source: this project's own.
 use Rattle.std.specs.Prelude.{◌+◌, ◌==◌, ℕ, List, [], ◌∷◌, ◌++◌, set, drop, map, length, get_or, if◌then◌else◌}
 use Prim.Native.Nat.{zero, suc}
 use Rattle.heyvl_num.specs.Rational.{Rational}
@@ -13,7 +14,7 @@ use Rattle.heyvl_acts.specs.Places.{in_order}
 use Rattle.run_machine.specs.declared.configurations.Item.TheVariants.{Turn, Out, Back}
 use Rattle.run_machine.specs.Configurations.{first_state, outputs_of, set_all}
 use Rattle.run_machine.specs.Names.{Numbered, Lists, Stored, numbered}
-use Rattle.run_machine.specs.internal.Replies.{StoredOutcomes}
+use Rattle.run_machine.specs.Replies.{StoredOutcomes}
 
 -- What is left behind the first item.
 abbrev pub behind : Stored → List Numbered
@@ -31,9 +32,11 @@ asked c = record { procedure = c.procedure; items = c.items; state = c.state; fr
 abbrev pub assigned : Stored → ℕ → Val → Stored
 assigned c x v = going c (behind c) (set c.state x v)
 
+-- The outcome of one part of a draw.
 abbrev pub stored_branch : Stored → ℕ → Rational × Term → Rational × Stored
 stored_branch c x q = (q.0, assigned c x (term_value q.1 (environment c.state)))
 
+-- One outcome for each part of a draw, in their order.
 abbrev pub stored_branches : Stored → ℕ → List (Rational × Term) → StoredOutcomes
 stored_branches c x qs = map (stored_branch c x) qs
 
