@@ -1,4 +1,5 @@
 pub mod Scripts
+pub mod MergedLists
 pub mod RunLists
 pub mod Causes
 pub mod Totals

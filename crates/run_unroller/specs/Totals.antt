@@ -11,32 +11,33 @@ use Rattle.heylo_formula.specs.Formula.{Form}
 use Rattle.heyvl_acts.specs.Acts.{TypedProcedure}
 use Rattle.quant_algebra.specs.ExactMeaning.{exact_value}
 use Rattle.quant_algebra.specs.ExactOperators.{and_then}
-use Rattle.run_machine.specs.Configurations.{Item}
-use Rattle.run_unroller.specs.RunLists.{Run, RunList}
+use Rattle.run_machine.specs.Names.{Numbered, Stored}
+use Rattle.run_machine.specs.Names as names
+use Rattle.run_unroller.specs.RunLists.{RunList}
 
 -- Those of the runs that have ended, and those that are running.
-abbrev pub if_ended : List Item → Rational × Run → RunList → RunList
+abbrev pub if_ended : List Numbered → Rational × Stored → RunList → RunList
 if_ended [] x xs = x ∷ xs
 if_ended (i ∷ is) x xs = xs
 
 abbrev pub ended : RunList → RunList
 ended [] = []
-ended (x ∷ xs) = if_ended x.1.0.items x (ended xs)
+ended (x ∷ xs) = if_ended x.1.items x (ended xs)
 
-abbrev pub if_running : List Item → Rational × Run → RunList → RunList
+abbrev pub if_running : List Numbered → Rational × Stored → RunList → RunList
 if_running [] x xs = xs
 if_running (i ∷ is) x xs = x ∷ xs
 
 abbrev pub running : RunList → RunList
 running [] = []
-running (x ∷ xs) = if_running x.1.0.items x (running xs)
+running (x ∷ xs) = if_running x.1.items x (running xs)
 
 -- A sum so far, and the value of one run more times its weight.
 abbrev pub and_one : Option Value → Rational → Option Value → Option Value
 and_one so_far w value = and_then so_far (λ s. and_then value (λ v. and_then (exact_productᵛ (finite w) v) (λ x. exact_sumᵛ s x)))
 
 -- The values of the runs, each times its weight, added to a sum so far. There is none where a number on the way doesn't fit.
-abbrev pub added : (Run → Option Value) → Option Value → RunList → Option Value
+abbrev pub added : (Stored → Option Value) → Option Value → RunList → Option Value
 added f so_far [] = so_far
 added f so_far (x ∷ xs) = added f (and_one so_far x.0 (f x.1)) xs
 
@@ -44,7 +45,7 @@ added f so_far (x ∷ xs) = added f (and_one so_far x.0 (f x.1)) xs
 abbrev pub and_one_fraction : Option Rational → Rational → Rational → Option Rational
 and_one_fraction so_far w v = and_then so_far (λ s. and_then (exact_product w v) (λ x. exact_sum s x))
 
-abbrev pub added_fractions : (Run → Rational) → Option Rational → RunList → Option Rational
+abbrev pub added_fractions : (Stored → Rational) → Option Rational → RunList → Option Rational
 added_fractions f so_far [] = so_far
 added_fractions f so_far (x ∷ xs) = added_fractions f (and_one_fraction so_far x.0 (f x.1)) xs
 
@@ -53,15 +54,15 @@ added_weights so_far [] = so_far
 added_weights so_far (x ∷ xs) = added_weights (and_then so_far (λ s. exact_sum s x.0)) xs
 
 -- The post of a run in its state.
-abbrev pub post_of : Form → Run → Option Value
-post_of post r = exact_value post r.0.state
+abbrev pub post_of : Form → Stored → Option Value
+post_of post c = exact_value post c.state
 
-abbrev pub reward_of : Run → Option Value
-reward_of r = Some r.0.reward
+abbrev pub reward_of : Stored → Option Value
+reward_of c = Some c.reward
 
 -- The turns of a loop, by its number.
-abbrev pub turns_of : ℕ → Run → Rational
-turns_of number r = ratio (pos (r.0.turns number)) 1
+abbrev pub turns_of : ℕ → Stored → Rational
+turns_of number c = ratio (pos (names.turns_of c.turns number)) 1
 
 abbrev pub post_total : Form → RunList → Option Value
 post_total post rs = added (post_of post) (Some zeroᵛ) (ended rs)

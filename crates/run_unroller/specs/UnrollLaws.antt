@@ -1,30 +1,30 @@
 -- Laws of unrolled runs.
-use Rattle.std.specs.Prelude.{◌≡◌, ℕ, true, false, List, [], ◌∷◌, length, map, Some}
+use Rattle.std.specs.Prelude.{◌≡◌, ℕ, true, false, List, [], ◌∷◌, length, Some}
 use Prim.Native.Nat.{suc}
 use Rattle.heyvl_num.specs.Rational.{Rational}
 use Rattle.heyvl_num.specs.Value.{Value, zeroᵛ, oneᵛ, ◌+ᵛ◌}
 use Rattle.heyvl_num.specs.Value.Value.{finite}
 use Rattle.heyvl_num.specs.WeightedSums.{weighted_sum}
+use Rattle.heylo_formula.specs.declared.values.Val.{Val}
 use Rattle.heyvl_acts.specs.Acts.{TypedProcedure, procedure_at}
+use Rattle.heyvl_acts.specs.Rules.{Each, MeetsRules}
 use Rattle.run_machine.specs.declared.configurations.Decide.{Decide}
-use Rattle.run_machine.specs.Configurations.{Config, Item, Outcomes}
+use Rattle.run_machine.specs.Bound.{IsState}
+use Rattle.run_machine.specs.ConfigConditions.{IsConfig, ReachesPrograms}
+use Rattle.run_machine.specs.Configurations.{Config, Item, Outcomes, begin}
+use Rattle.run_machine.specs.Names.{Stored, config_of}
 use Rattle.run_machine.specs.Runs.{runs}
+use Rattle.run_machine.specs.StoredStep.{stored_begin}
 use Rattle.run_machine.specs.Sums.{ended, sum_of, turns_sum}
-use Rattle.run_unroller.specs.RunLists.{Run, RunList, after, begun}
+use Rattle.run_unroller.specs.RunLists.{RunList, after, begun, outcomes}
 use Rattle.run_unroller.specs.ScriptTrees.{scripted}
 use Rattle.run_unroller.specs.Totals.{Totals, totals}
 use Rattle.run_unroller.specs.Unrolling.{Unrolling, unrolled}
 
--- The outcomes of runs, without their counts of decisions.
-abbrev pub outcome : Rational × Run → Rational × Config
-outcome x = (x.0, x.1.0)
-
-abbrev pub outcomes : RunList → Outcomes
-outcomes rs = map outcome rs
-
--- The list after n steps has the runs of n steps under the script's scheduler, in their order.
+-- In a file that meets the rules, a sum over the list after n steps is that over the runs of n steps under the script's scheduler, for
+-- every value of a configuration. Equal runs are one in the list, with their weights together, and none of these is negative.
 abbrev pub ListsAreRuns : Type 0
-ListsAreRuns = (ps : List TypedProcedure) (script : List Decide) (n : ℕ) (c : Config) → runs ps n c (scripted ps script n 0 c) ≡ outcomes (after ps script n (begun c))
+ListsAreRuns = (ps : List TypedProcedure) → Each (MeetsRules ps) ps → (script : List Decide) (n : ℕ) (c : Stored) → IsConfig ps c → (f : Config → Value) → weighted_sum f (outcomes ps (after ps script n (begun c))) ≡ weighted_sum f (runs ps n (config_of ps c) (scripted ps script n c.made (config_of ps c)))
 
 -- These are the expected turns of the loops from a number on.
 abbrev pub AreTurns : ℕ → List Rational → Outcomes → Type 0
@@ -48,9 +48,11 @@ pub record AreSums (p : TypedProcedure) (cs : Outcomes) (t : Totals) : Type 0 wh
   pub turns : AreTurns 1 t.turns cs
   pub loops : length t.turns ≡ p.loops
 
+-- Where all its numbers fit, what is added up over a list are the sums over its runs.
 abbrev pub TotalsAreSums : Type 0
-TotalsAreSums = (p : TypedProcedure) (rs : RunList) (t : Totals) → totals p rs ≡ Some t → AreSums p (outcomes rs) t
+TotalsAreSums = (ps : List TypedProcedure) (p : TypedProcedure) (rs : RunList) (t : Totals) → totals p rs ≡ Some t → AreSums p (outcomes ps rs) t
 
--- Where nothing stops them, the sums are those of the runs under the script's scheduler.
+-- In a file that meets the rules, for a procedure that reaches programs alone, from a state with values of the right types: where
+-- nothing stops them, the sums are those of the runs under the script's scheduler.
 abbrev pub UnrolledSumsAreMeant : Type 0
-UnrolledSumsAreMeant = (ps : List TypedProcedure) (p : ℕ) (script : List Decide) (n : ℕ) (c : Config) (t : Totals) → unrolled ps p script n (begun c) ≡ Unrolling.sums t → AreSums (procedure_at ps p) (runs ps n c (scripted ps script n 0 c)) t
+UnrolledSumsAreMeant = (ps : List TypedProcedure) (p : ℕ) → Each (MeetsRules ps) ps → ReachesPrograms ps p → (s : List Val) → IsState (procedure_at ps p) s → (script : List Decide) (n : ℕ) (t : Totals) → unrolled ps p script n (begun (stored_begin ps p s)) ≡ Unrolling.sums t → AreSums (procedure_at ps p) (runs ps n (begin ps p s) (scripted ps script n 0 (begin ps p s))) t

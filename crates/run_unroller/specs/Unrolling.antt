@@ -1,13 +1,13 @@
 -- What unrolling gives: the sums of the list after the steps, or what stops it first. The adding counts as one step more.
 -- Source: this project's own.
-use Rattle.std.specs.Prelude.{◌≡◌, ◌+◌, ℕ, List, Option, Some, None, replicate}
+use Rattle.std.specs.Prelude.{◌≡◌, ◌+◌, ℕ, List, Option, Some, None}
 use Rattle.heyvl_num.specs.Extended as extended
 use Rattle.heylo_formula.specs.declared.values.Val.{Val}
 use Rattle.heyvl_acts.specs.Acts.{TypedProcedure, procedure_at}
 use Rattle.run_machine.specs.declared.configurations.Decide.{Decide}
 use Rattle.run_machine.specs.ConfigConditions.{IsConfig}
-use Rattle.run_machine.specs.Configurations.{begin}
-use Rattle.run_machine.specs.Names.{Stored, config_of}
+use Rattle.run_machine.specs.Names.{Stored}
+use Rattle.run_machine.specs.StoredStep.{stored_begin}
 use Rattle.run_unroller.specs.declared.answers.Sums.{Sums}
 use Rattle.run_unroller.specs.declared.answers.Unrolled.{Unrolled}
 use Rattle.run_unroller.specs.declared.answers.Unrolled.TheVariants as answer
@@ -45,7 +45,5 @@ unrolling_of (answer.Bits n) = Unrolling.stopped Bits n
 -- A configuration that the procedure begins with, in some state.
 pub record Begins (ps : List TypedProcedure) (p : ℕ) (c : Stored) : Type 0 where
   pub state : List Val
-  pub first : config_of ps c ≡ begin ps p state
-  pub turns : c.turns ≡ replicate (procedure_at ps p).loops 0
-  pub made : c.made ≡ 0
+  pub first : c ≡ stored_begin ps p state
   pub config : IsConfig ps c

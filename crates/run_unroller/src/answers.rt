@@ -3,7 +3,7 @@
 use heyvl_num::{Ext, Frac};
 
 /// Sums over the runs, each by its weight.
-#[derive(Drop)]
+#[derive(Debug, Drop)]
 pub struct Sums {
     /// The post of the runs that have ended.
     pub post: Ext,
@@ -16,10 +16,10 @@ pub struct Sums {
 }
 
 /// The sums, or what stopped the runs, and at which step. Steps are numbered from 1, and the adding comes after the last one.
-#[derive(Drop)]
+#[derive(Debug, Drop)]
 pub enum Unrolled {
     Sums(Sums),
-    /// There would be more than 65,536 runs.
+    /// The runs would have come to more than 65,536 different configurations.
     Full(u32),
     /// The values of all frames and the state of a configuration would be more than 512.
     Deep(u32),

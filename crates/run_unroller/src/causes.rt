@@ -1,7 +1,6 @@
 //! What stops a list of runs.
 
-use heyvl_num::Frac;
-use run_machine::Config;
+use crate::merging::MergedRuns;
 
 /// Why a list of runs can't be made.
 #[derive(Clone, Copy, Debug)]
@@ -17,13 +16,13 @@ pub(crate) enum Cause {
 /// The list after a step, or what stops it.
 #[derive(Drop)]
 pub(crate) enum Grown {
-    Runs(Vec<(Frac, Config)>),
+    Runs(MergedRuns),
     Stopped(Cause),
 }
 
 /// The list after some steps, or what stops it, and at which step.
 #[derive(Drop)]
 pub(crate) enum Reached {
-    Runs(Vec<(Frac, Config)>),
+    Runs(MergedRuns),
     Stopped(Cause, u32),
 }

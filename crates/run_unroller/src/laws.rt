@@ -5,7 +5,8 @@ ghost use Rattle.run_unroller.specs.UnrollLaws as law;
 
 use quant_algebra::exact_values_are_meant;
 
-/// The list after some steps has the runs of the definition, for the scheduler whose nodes carry the script's entries.
+/// Sums over the list after some steps are those over the runs of the definition, for the scheduler whose nodes carry the script's
+/// entries: runs that have come to the same configuration are one in the list, with their weights together.
 pub fn lists_are_runs()
     ensures { law.ListsAreRuns }
 {}

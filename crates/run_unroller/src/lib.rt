@@ -6,6 +6,7 @@ mod causes;
 mod copies;
 mod laws;
 mod lists;
+mod merging;
 mod numbers;
 mod totals;
 mod turns;

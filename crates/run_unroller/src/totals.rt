@@ -3,7 +3,7 @@
 ghost use Rattle.std.specs.Prelude.{◌≡◌, IfOk, option_map};
 ghost use Rattle.heyvl_acts.specs.Acts.{procedure_at};
 ghost use Rattle.heyvl_acts.specs.PlainActs.{procedures_of};
-ghost use Rattle.run_unroller.specs.internal.RunViews.{runs_of};
+ghost use Rattle.run_machine.specs.Replies.{stored_outcomes};
 ghost use Rattle.run_unroller.specs.Totals.{totals};
 ghost use Rattle.run_unroller.specs.Unrolling.{totals_of};
 
@@ -23,7 +23,7 @@ pub(crate) fn sums(
     p: u32,
     runs: &[(Frac, Config)],
 ) -> Result<Option<Sums>, AllocError>
-    ensures { IfOk result (λ sums. option_map totals_of sums ≡ totals (procedure_at (procedures_of typed.now) p) (runs_of (procedures_of typed.now) runs.now)) }
+    ensures { IfOk result (λ sums. option_map totals_of sums ≡ totals (procedure_at (procedures_of typed.now) p) (stored_outcomes runs.now)) }
 {
     let Some(post) = post_sum(typed, p, runs) else {
         return Ok(None);

@@ -3,9 +3,8 @@
 ghost use Rattle.std.specs.Prelude.{◌≡◌, List, IfOk, option_map, pos};
 ghost use Prim.Native.Nat.{suc};
 ghost use Rattle.heyvl_num.specs.Rational.{ratio};
-ghost use Rattle.heyvl_acts.specs.Acts.{TypedProcedure};
 ghost use Rattle.run_machine.specs.Names.{turns_of};
-ghost use Rattle.run_unroller.specs.internal.RunViews.{runs_of};
+ghost use Rattle.run_machine.specs.Replies.{stored_outcomes};
 ghost use Rattle.run_unroller.specs.Totals.{all_turns as all_turns_of, turns_total};
 
 use crate::numbers::whole;
@@ -19,7 +18,7 @@ pub(crate) fn all_turns(
     loops: u32,
     runs: &[(Frac, Config)],
 ) -> Result<Option<Vec<Frac>>, AllocError>
-    ensures { IfOk result (λ turns. (ps : List TypedProcedure) → option_map (λ ts. ts.items) turns ≡ all_turns_of loops (runs_of ps runs.now)) }
+    ensures { IfOk result (λ turns. option_map (λ ts. ts.items) turns ≡ all_turns_of loops (stored_outcomes runs.now)) }
 {
     let mut turns = Vec::new(alloc);
     for index in 0..loops {
@@ -33,7 +32,7 @@ pub(crate) fn all_turns(
 
 /// The turns of the loop that comes after so many others.
 fn turns_sum(index: u32, runs: &[(Frac, Config)]) -> Option<Frac>
-    ensures { (ps : List TypedProcedure) → result ≡ turns_total (suc index) (runs_of ps runs.now) }
+    ensures { result ≡ turns_total (suc index) (stored_outcomes runs.now) }
 {
     let mut sum = Frac::zero();
     for run in runs {

@@ -1,22 +1,22 @@
 //! Runs, unrolled for a number of steps.
 
-ghost use Rattle.std.specs.Prelude.{◌≡◌, ◌∷◌, ◌≤◌, ◌+◌, [], List, IfOk};
-ghost use Rattle.heyvl_num.specs.Rational.{oneʳ};
-ghost use Rattle.heyvl_acts.specs.Acts.{TypedProcedure, procedure_at};
+ghost use Rattle.std.specs.Prelude.{◌≡◌, ◌≤◌, ◌+◌, IfOk};
+ghost use Rattle.heyvl_acts.specs.Acts.{procedure_at};
 ghost use Rattle.heyvl_acts.specs.PlainActs.{procedures_of};
 ghost use Rattle.heyvl_acts.specs.Rules.{MeetsAllRules};
-ghost use Rattle.run_machine.specs.Names.{HasFewActs, config_of, stored};
+ghost use Rattle.run_machine.specs.Names.{HasFewActs, stored};
+ghost use Rattle.run_machine.specs.Replies.{stored_outcomes};
 ghost use Rattle.run_unroller.specs.RunLists.{begun};
-ghost use Rattle.run_unroller.specs.internal.RunViews.{runs_of};
 ghost use Rattle.run_unroller.specs.Totals.{totals};
 ghost use Rattle.run_unroller.specs.Unrolling.{Begins, Unrolling, sums_or, unrolled, unrolling_of};
 ghost use Rattle.run_unroller.specs.internal.Extensions.{IsAfter};
-ghost use Rattle.run_unroller.specs.internal.Growth.{AllWithin, Within};
+ghost use Rattle.run_unroller.specs.internal.Growth.{AllWithin};
+ghost use Rattle.run_unroller.specs.internal.RunViews.{runs_of};
 
 use crate::answers::Unrolled;
 use crate::causes::{Cause, Grown, Reached};
-use crate::copies::copy_config;
 use crate::lists::after_step;
+use crate::merging::MergedRuns;
 use crate::totals::sums;
 use heyvl_acts::Typed;
 use heyvl_num::Frac;
@@ -24,8 +24,9 @@ use run_machine::{Config, Decide};
 use std::alloc::{AllocError, Global};
 
 /// The sums of all runs of at most n steps, where decision number j of each run is the script's j-th entry, or what stops
-/// them first. Full comes exactly where a step would make more than 65,536 runs, Deep exactly where the values of all frames
-/// and the state would be more than 512, and Bits exactly where a number doesn't fit.
+/// them first. Full comes exactly where the runs of a step would have come to more than 65,536 different configurations, Deep exactly
+/// where the values of all frames and the state would be more than 512, and Bits exactly where a number doesn't fit, the weights of
+/// runs that have come to the same configuration together among them.
 pub fn unroll(
     alloc: Global,
     typed: &Typed,
@@ -38,12 +39,15 @@ pub fn unroll(
     requires few { HasFewActs (procedures_of typed.now) }
     requires begins { Begins (procedures_of typed.now) p (stored start.now) }
     requires steps { n ≤ 10000 }
-    ensures { IfOk result (λ answer. unrolling_of answer ≡ unrolled (procedures_of typed.now) p script.now n (begun (config_of (procedures_of typed.now) (stored start.now)))) }
+    ensures { IfOk result (λ answer. unrolling_of answer ≡ unrolled (procedures_of typed.now) p script.now n (begun (stored start.now))) }
 {
-    let runs = only(alloc, start)?;
+    let runs = MergedRuns::only(alloc, start)?;
     match after(alloc, typed, script, runs, n)? {
         Reached::Stopped(cause, step) => Ok(stopped(cause, step)),
-        Reached::Runs(list) => added(alloc, typed, p, &list, n),
+        Reached::Runs(list) => {
+            let runs = list.into_runs(alloc)?;
+            added(alloc, typed, p, &runs, n)
+        }
     }
 }
 
@@ -56,7 +60,7 @@ fn added(
     n: u32,
 ) -> Result<Unrolled, AllocError>
     requires { n ≤ 10000 }
-    ensures { IfOk result (λ answer. unrolling_of answer ≡ sums_or (n + 1) (totals (procedure_at (procedures_of typed.now) p) (runs_of (procedures_of typed.now) runs.now))) }
+    ensures { IfOk result (λ answer. unrolling_of answer ≡ sums_or (n + 1) (totals (procedure_at (procedures_of typed.now) p) (stored_outcomes runs.now))) }
 {
     match sums(alloc, typed, p, runs)? {
         None => Ok(Unrolled::Bits(n + 1)),
@@ -69,14 +73,14 @@ fn after(
     alloc: Global,
     typed: &Typed,
     script: &[Decide],
-    start: Vec<(Frac, Config)>,
+    start: MergedRuns,
     n: u32,
 ) -> Result<Reached, AllocError>
     requires rules { MeetsAllRules typed.now }
     requires few { HasFewActs (procedures_of typed.now) }
-    requires within { AllWithin (procedures_of typed.now) 0 start.items }
+    requires within { AllWithin (procedures_of typed.now) 0 (runs_of start.entries.entries) }
     requires steps { n ≤ 10000 }
-    ensures { IfOk result (λ reached. IsAfter (procedures_of typed.now) script.now n (runs_of (procedures_of typed.now) start.items) reached) }
+    ensures { IfOk result (λ reached. IsAfter (procedures_of typed.now) script.now n (runs_of start.entries.entries) reached) }
 {
     let mut runs = start;
     for made in 0..n {
@@ -86,16 +90,6 @@ fn after(
         }
     }
     Ok(Reached::Runs(runs))
-}
-
-/// The list of the one run that begins with the configuration.
-fn only(alloc: Global, start: &Config) -> Result<Vec<(Frac, Config)>, AllocError>
-    ensures within { (ps : List TypedProcedure) → Within ps 0 (stored start.now) → IfOk result (λ runs. AllWithin ps 0 runs.items) }
-    ensures runs { IfOk result (λ runs. (ps : List TypedProcedure) → runs_of ps runs.items ≡ (oneʳ, (config_of ps (stored start.now), start.now.made)) ∷ []) }
-{
-    let mut runs = Vec::new(alloc);
-    runs.push((Frac::one(), copy_config(alloc, start)?))?;
-    Ok(runs)
 }
 
 /// The answer where this stops the step of this number.

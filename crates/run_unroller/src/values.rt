@@ -2,10 +2,10 @@
 
 ghost use Rattle.std.specs.Prelude.{◌≡◌, ◌∷◌, List, [], Some, option_map};
 ghost use Rattle.heyvl_num.specs.Extended.{value_of};
-ghost use Rattle.heyvl_acts.specs.Acts.{TypedProcedure, procedure_at};
+ghost use Rattle.heyvl_acts.specs.Acts.{procedure_at};
 ghost use Rattle.heyvl_acts.specs.PlainActs.{procedures_of};
 ghost use Rattle.quant_algebra.specs.ExactMeaning.{exact_value};
-ghost use Rattle.run_unroller.specs.internal.RunViews.{run_of, runs_of};
+ghost use Rattle.run_machine.specs.Replies.{stored_outcome, stored_outcomes};
 ghost use Rattle.run_unroller.specs.Totals.{added, and_one, ended, post_of, post_total, reward_total};
 
 use heylo_formula::Val;
@@ -16,7 +16,7 @@ use run_machine::Config;
 
 /// The post of the runs that have ended.
 pub(crate) fn post_sum(typed: &Typed, p: u32, runs: &[(Frac, Config)]) -> Option<Ext>
-    ensures { option_map value_of result ≡ post_total (procedure_at (procedures_of typed.now) p).post (runs_of (procedures_of typed.now) runs.now) }
+    ensures { option_map value_of result ≡ post_total (procedure_at (procedures_of typed.now) p).post (stored_outcomes runs.now) }
 {
     let mut sum = Ext::Fin(Frac::zero());
     for run in runs {
@@ -27,7 +27,7 @@ pub(crate) fn post_sum(typed: &Typed, p: u32, runs: &[(Frac, Config)]) -> Option
 
 /// The sum and the post of one run more, times its weight, where the run has ended.
 fn and_post(typed: &Typed, p: u32, sum: &Ext, run: &(Frac, Config)) -> Option<Ext>
-    ensures { option_map value_of result ≡ added (post_of (procedure_at (procedures_of typed.now) p).post) (Some (value_of sum.now)) (ended (run_of (procedures_of typed.now) run.now ∷ [])) }
+    ensures { option_map value_of result ≡ added (post_of (procedure_at (procedures_of typed.now) p).post) (Some (value_of sum.now)) (ended (stored_outcome run.now ∷ [])) }
 {
     if !run.1.items.is_empty() {
         return Some(*sum);
@@ -51,7 +51,7 @@ fn post_at(typed: &Typed, p: u32, state: &[Val]) -> Option<Ext>
 
 /// The rewards of all runs.
 pub(crate) fn reward_sum(runs: &[(Frac, Config)]) -> Option<Ext>
-    ensures { (ps : List TypedProcedure) → option_map value_of result ≡ reward_total (runs_of ps runs.now) }
+    ensures { option_map value_of result ≡ reward_total (stored_outcomes runs.now) }
 {
     let mut sum = Ext::Fin(Frac::zero());
     for run in runs {
