@@ -45,10 +45,24 @@ fn runs_come_to_their_sums(rt: HostRuntime) -> Result<(), AllocError> {
     check_texts(&rt, Kind::Run, &[SUMS])
 }
 
-/// The longest lists: 65,536 runs, and one more, which would be the 65,537th.
+/// Runs that come to the same configuration are one: 2^200 runs are two at most. Rewards and numbers of decisions keep runs apart.
+const MERGED: &str = "\
+coins ; coins ; steps 400| gives 0 [post 0|reward 0|running 1|loop 1 turns 200|]
+parts ; parts ; steps 1| gives 0 [post 0|reward 0|running 1|]
+parts ; parts ; steps 2| gives 0 [post 5|reward 0|running 0|]
+paid ; paid ; steps 5| gives 0 [post 0|reward 4|running 0|]
+apart ; apart ; steps 4|decide 5|decide 7| gives 0 [post 0|reward 0|running 1|]";
+
+#[test]
+fn merged_runs_come_to_their_sums(rt: HostRuntime) -> Result<(), AllocError> {
+    check_texts(&rt, Kind::Run, &[MERGED])
+}
+
+/// The most outcomes of a step, 65,536, which come to 256 configurations, and the longest list, which one draw more would pass.
 const LONG: &str = "\
 many ; many ; steps 5| gives 0 [post 0|reward 0|running 1|loop 1 turns 3|]
-many ; many ; steps 6| gives 8 [run stopped at step 6: runs|]";
+many ; many ; steps 6| gives 0 [post 0|reward 0|running 1|loop 1 turns 3|]
+wide ; wide ; steps 3| gives 8 [run stopped at step 3: runs|]";
 
 #[test]
 fn long_lists_come_to_their_sums(rt: HostRuntime) -> Result<(), AllocError> {

@@ -10,9 +10,25 @@ use test_lines::{calls_of, cut, write_bytes};
 const GEO: &str =
     "coproc geo(init_c: UInt) -> (c: UInt) pre init_c + 1 post c { c = init_c var cont: Bool = true @invariant(ite(cont, c + 1, c)) while cont { var stop: Bool = flip(0.5) if stop { cont = false } else { c = c + 1 } } }";
 
-/// 256 runs become of each one with every second step.
+/// 256 runs become of each one with every second step, and come to the same 256 configurations each time.
 const MANY: &str =
     "coproc many() -> (x: UInt) pre 0 post 0 { @invariant(0) while true { x = unif(1, 256) } }";
+
+/// More configurations than a list may have, by one draw more.
+const WIDE: &str =
+    "coproc wide() -> (x: UInt, y: UInt, z: UInt) pre 0 post 0 { x = unif(1, 256) y = unif(1, 256) z = unif(1, 2) }";
+
+/// A coin without an end: 2^n runs after n throws, of two configurations.
+const COINS: &str =
+    "coproc coins() -> (x: Bool) pre 0 post 0 { @invariant(0) while true { x = flip(1/2) } }";
+
+/// Draws that come to the same in two of three parts, and once more by an assignment.
+const PARTS: &str =
+    "coproc parts() -> (x: UInt) pre 9 post x { x = choose { 1/4: 1, 1/2: 2, 1/4: 1 } x = 5 }";
+
+/// A reward that tells runs apart that are in the same state.
+const PAID: &str =
+    "coproc paid() -> (b: Bool) pre 9 post 0 { b = flip(1/2) if b { reward 4 } else { reward 2 } b = true reward 1 }";
 
 /// A recursion without an end, of two values a call.
 const REC: &str = "coproc rec(x: UInt) -> (y: UInt) pre 0 post 0 { y = rec(x) }";
@@ -69,6 +85,10 @@ fn file_named(name: &str) -> &'static str {
     match name {
         "geo" => GEO,
         "many" => MANY,
+        "wide" => WIDE,
+        "coins" => COINS,
+        "parts" => PARTS,
+        "paid" => PAID,
         "rec" => REC,
         "big" => BIG,
         "guess" => GUESS,

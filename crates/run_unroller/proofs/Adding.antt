@@ -6,21 +6,19 @@ use Prim.Native.Nat.{zero, suc}
 use Rattle.heyvl_num.specs.Rational.{Rational}
 use Rattle.heyvl_num.specs.Value.{Value}
 use Rattle.heyvl_num.specs.Exact.{exact_sum, exact_product}
-use Rattle.heyvl_acts.specs.Acts.{TypedProcedure}
 use Rattle.quant_algebra.specs.ExactOperators.{and_then}
 use Rattle.run_machine.specs.declared.configurations.Config as C
-use Rattle.run_machine.specs.Configurations.{Item}
-use Rattle.run_machine.specs.Names.{items_of}
-use Rattle.run_unroller.specs.RunLists.{Run, RunList}
-use Rattle.run_unroller.specs.internal.RunViews.{run_of, runs_of}
+use Rattle.run_machine.specs.Names.{Numbered, Stored}
+use Rattle.run_unroller.specs.RunLists.{RunList}
+use Rattle.run_machine.specs.Replies.{stored_outcome, stored_outcomes}
 use Rattle.run_unroller.specs.Totals.{added, all_turns, turns_total, added_fractions, added_weights, and_one, and_one_fraction, ended, if_ended, if_running, running}
 
 -- Where there is no sum so far, there is none.
-pub added-none : (f : Run → Option Value) (xs : RunList) → added f None xs ≡ None
+pub added-none : (f : Stored → Option Value) (xs : RunList) → added f None xs ≡ None
 added-none f [] = refl
 added-none f (x ∷ xs) = added-none f xs
 
-pub fractions-none : (f : Run → Rational) (xs : RunList) → added_fractions f None xs ≡ None
+pub fractions-none : (f : Stored → Rational) (xs : RunList) → added_fractions f None xs ≡ None
 fractions-none f [] = refl
 fractions-none f (x ∷ xs) = fractions-none f xs
 
@@ -29,36 +27,36 @@ weights-none [] = refl
 weights-none (x ∷ xs) = weights-none xs
 
 -- The next run of those that are left.
-pub at_next : {B : Type 0} (ps : List TypedProcedure) (F : RunList → B) (runs : List (Rational × C.Config)) (i : ℕ) (r : Rational × C.Config) → i < length runs → r ≡ get_or runs i r → F (runs_of ps (drop i runs)) ≡ F (run_of ps r ∷ runs_of ps (drop (i + 1) runs))
-at_next ps F runs i r lt is = at_drop_more (λ l. F (runs_of ps l)) runs i r lt ∙ ap (λ x. F (run_of ps x ∷ runs_of ps (drop (i + 1) runs))) (sym is)
+pub at_next : {B : Type 0} (F : RunList → B) (runs : List (Rational × C.Config)) (i : ℕ) (r : Rational × C.Config) → i < length runs → r ≡ get_or runs i r → F (stored_outcomes (drop i runs)) ≡ F (stored_outcome r ∷ stored_outcomes (drop (i + 1) runs))
+at_next F runs i r lt is = at_drop_more (λ l. F (stored_outcomes l)) runs i r lt ∙ ap (λ x. F (stored_outcome x ∷ stored_outcomes (drop (i + 1) runs))) (sym is)
 
 -- One run more of a sum of values.
-pub value_next : (ps : List TypedProcedure) (f : Run → Option Value) (so_far now : Option Value) (runs : List (Rational × C.Config)) (i : ℕ) (r : Rational × C.Config) → i < length runs → r ≡ get_or runs i r → now ≡ and_one so_far r.0 (f (run_of ps r).1) → added f so_far (runs_of ps (drop i runs)) ≡ added f now (runs_of ps (drop (i + 1) runs))
-value_next ps f so_far now runs i r lt is e = at_next ps (added f so_far) runs i r lt is ∙ ap (λ o. added f o (runs_of ps (drop (i + 1) runs))) (sym e)
+pub value_next : (f : Stored → Option Value) (so_far now : Option Value) (runs : List (Rational × C.Config)) (i : ℕ) (r : Rational × C.Config) → i < length runs → r ≡ get_or runs i r → now ≡ and_one so_far r.0 (f (stored_outcome r).1) → added f so_far (stored_outcomes (drop i runs)) ≡ added f now (stored_outcomes (drop (i + 1) runs))
+value_next f so_far now runs i r lt is e = at_next (added f so_far) runs i r lt is ∙ ap (λ o. added f o (stored_outcomes (drop (i + 1) runs))) (sym e)
 
-pub fraction_next : (ps : List TypedProcedure) (f : Run → Rational) (so_far now : Option Rational) (runs : List (Rational × C.Config)) (i : ℕ) (r : Rational × C.Config) → i < length runs → r ≡ get_or runs i r → now ≡ and_one_fraction so_far r.0 (f (run_of ps r).1) → added_fractions f so_far (runs_of ps (drop i runs)) ≡ added_fractions f now (runs_of ps (drop (i + 1) runs))
-fraction_next ps f so_far now runs i r lt is e = at_next ps (added_fractions f so_far) runs i r lt is ∙ ap (λ o. added_fractions f o (runs_of ps (drop (i + 1) runs))) (sym e)
+pub fraction_next : (f : Stored → Rational) (so_far now : Option Rational) (runs : List (Rational × C.Config)) (i : ℕ) (r : Rational × C.Config) → i < length runs → r ≡ get_or runs i r → now ≡ and_one_fraction so_far r.0 (f (stored_outcome r).1) → added_fractions f so_far (stored_outcomes (drop i runs)) ≡ added_fractions f now (stored_outcomes (drop (i + 1) runs))
+fraction_next f so_far now runs i r lt is e = at_next (added_fractions f so_far) runs i r lt is ∙ ap (λ o. added_fractions f o (stored_outcomes (drop (i + 1) runs))) (sym e)
 
 -- One run more of the sum over those that have ended.
-one_ended : (f : Run → Option Value) (so_far : Option Value) (x : Rational × Run) (xs : RunList) (is : List Item) → added f so_far (if_ended is x xs) ≡ added f (added f so_far (if_ended is x [])) xs
+one_ended : (f : Stored → Option Value) (so_far : Option Value) (x : Rational × Stored) (xs : RunList) (is : List Numbered) → added f so_far (if_ended is x xs) ≡ added f (added f so_far (if_ended is x [])) xs
 one_ended f so_far x xs [] = refl
 one_ended f so_far x xs (i ∷ is) = refl
 
-pub ended_next : (ps : List TypedProcedure) (f : Run → Option Value) (so_far now : Option Value) (runs : List (Rational × C.Config)) (i : ℕ) (r : Rational × C.Config) → i < length runs → r ≡ get_or runs i r → now ≡ added f so_far (ended (run_of ps r ∷ [])) → added f so_far (ended (runs_of ps (drop i runs))) ≡ added f now (ended (runs_of ps (drop (i + 1) runs)))
-ended_next ps f so_far now runs i r lt is e =
-    at_next ps (λ l. added f so_far (ended l)) runs i r lt is
-    ∙ one_ended f so_far (run_of ps r) (ended (runs_of ps (drop (i + 1) runs))) (items_of ps r.1.items.items)
-    ∙ ap (λ o. added f o (ended (runs_of ps (drop (i + 1) runs)))) (sym e)
+pub ended_next : (f : Stored → Option Value) (so_far now : Option Value) (runs : List (Rational × C.Config)) (i : ℕ) (r : Rational × C.Config) → i < length runs → r ≡ get_or runs i r → now ≡ added f so_far (ended (stored_outcome r ∷ [])) → added f so_far (ended (stored_outcomes (drop i runs))) ≡ added f now (ended (stored_outcomes (drop (i + 1) runs)))
+ended_next f so_far now runs i r lt is e =
+    at_next (λ l. added f so_far (ended l)) runs i r lt is
+    ∙ one_ended f so_far (stored_outcome r) (ended (stored_outcomes (drop (i + 1) runs))) r.1.items.items
+    ∙ ap (λ o. added f o (ended (stored_outcomes (drop (i + 1) runs)))) (sym e)
 
-one_running : (so_far : Option Rational) (x : Rational × Run) (xs : RunList) (is : List Item) → added_weights so_far (if_running is x xs) ≡ added_weights (added_weights so_far (if_running is x [])) xs
+one_running : (so_far : Option Rational) (x : Rational × Stored) (xs : RunList) (is : List Numbered) → added_weights so_far (if_running is x xs) ≡ added_weights (added_weights so_far (if_running is x [])) xs
 one_running so_far x xs [] = refl
 one_running so_far x xs (i ∷ is) = refl
 
-pub running_next : (ps : List TypedProcedure) (so_far now : Option Rational) (runs : List (Rational × C.Config)) (i : ℕ) (r : Rational × C.Config) → i < length runs → r ≡ get_or runs i r → now ≡ added_weights so_far (running (run_of ps r ∷ [])) → added_weights so_far (running (runs_of ps (drop i runs))) ≡ added_weights now (running (runs_of ps (drop (i + 1) runs)))
-running_next ps so_far now runs i r lt is e =
-    at_next ps (λ l. added_weights so_far (running l)) runs i r lt is
-    ∙ one_running so_far (run_of ps r) (running (runs_of ps (drop (i + 1) runs))) (items_of ps r.1.items.items)
-    ∙ ap (λ o. added_weights o (running (runs_of ps (drop (i + 1) runs)))) (sym e)
+pub running_next : (so_far now : Option Rational) (runs : List (Rational × C.Config)) (i : ℕ) (r : Rational × C.Config) → i < length runs → r ≡ get_or runs i r → now ≡ added_weights so_far (running (stored_outcome r ∷ [])) → added_weights so_far (running (stored_outcomes (drop i runs))) ≡ added_weights now (running (stored_outcomes (drop (i + 1) runs)))
+running_next so_far now runs i r lt is e =
+    at_next (λ l. added_weights so_far (running l)) runs i r lt is
+    ∙ one_running so_far (stored_outcome r) (running (stored_outcomes (drop (i + 1) runs))) r.1.items.items
+    ∙ ap (λ o. added_weights o (running (stored_outcomes (drop (i + 1) runs)))) (sym e)
 
 -- The product and the sum of one run more.
 pub fraction_one : (s w v t : Rational) (o : Option Rational) → t ≡ v → o ≡ exact_product w t → and_then o (λ x. exact_sum s x) ≡ and_one_fraction (Some s) w v

@@ -1,22 +1,22 @@
--- What the step of one run brings.
-use Rattle.std.proofs.Common.{◌≡◌, ℕ, ◌+◌, ◌==◌, refl, ap, ap₂, sym, subst, ◌∙◌, Bool, true, false, List, [], ◌∷◌, ◌++◌, append_assoc, length, map}
-use Rattle.std.specs.Prelude.{Option, None, Result, Ok, Err, IfOk, if◌then◌else◌}
-use Rattle.heyvl_num.specs.Rational.{Rational, oneʳ}
+-- What the step of one run brings, and how outcomes join a list.
+use Rattle.std.proofs.Common.{◌≡◌, ℕ, ◌==◌, refl, ap, sym, subst, ◌∙◌, arith, Bool, true, false, List, [], ◌∷◌, ◌++◌, length, map}
+use Rattle.std.specs.Prelude.{Option, Some, None, Result, Ok, Err, IfOk, if◌then◌else◌}
+use Rattle.heyvl_num.specs.Rational.{Rational, oneʳ, ◌*ʳ◌}
+use Rattle.heyvl_num.specs.Exact.{exact_product}
 use Rattle.heyvl_num.specs.WeightedSums.{scaled, joined}
-use Rattle.heyvl_num.proofs.exported.Rationals.{*ʳ-one}
+use Rattle.heyvl_num.proofs.exported.Exactness.{exact_product_some}
 use Rattle.heyvl_acts.specs.Acts.{TypedProcedure}
-use Rattle.heyvl_acts.specs.Rules.{Each}
-use Rattle.run_machine.specs.declared.configurations.Config as C
 use Rattle.run_machine.specs.declared.configurations.Decide.{Decide}
-use Rattle.run_machine.specs.BoundedStep.{Answer, any_deep, bounded, bounded_step, outcomes_of}
-use Rattle.run_machine.specs.Configurations.{Config, Outcomes}
-use Rattle.run_machine.specs.Names.{Numbered, stored, config_of, items_of}
-use Rattle.run_machine.specs.Step.{Decision, step}
-use Rattle.run_machine.specs.StepAnswers.{asked_by}
+use Rattle.run_machine.specs.Names.{Numbered, Stored}
+use Rattle.run_machine.specs.Replies.{Reply, StoredOutcomes, any_large, replied}
+use Rattle.run_machine.specs.SameStored.{same_stored}
+use Rattle.run_machine.specs.Step.{Decision}
+use Rattle.run_machine.specs.StoredStep.{stored_reply, stored_step}
 use Rattle.run_unroller.specs.declared.causes.Cause.{Cause}
-use Rattle.run_unroller.specs.Causes.{joins, brought, brought_by, all_brought}
-use Rattle.run_unroller.specs.RunLists.{Run, came, follow, followed, after_step}
-use Rattle.run_unroller.specs.internal.RunViews.{run_of, runs_of}
+use Rattle.run_unroller.specs.declared.causes.Cause.TheVariants.{Bits}
+use Rattle.run_unroller.specs.Causes.{Brought, brought, brought_by, first_cause, or_else, product_cause, put_cause}
+use Rattle.run_unroller.specs.MergedLists.{held, merged_onto, put}
+use Rattle.run_unroller.specs.RunLists.{RunList, follow, followed}
 use Rattle.run_unroller.specs.Scripts.{entry}
 use Rattle.run_unroller.specs.internal.Extensions.{Extends}
 
@@ -25,72 +25,102 @@ pub if_ok : {A E : Type 0} {P Q : A → Type 0} (r : Result A E) → ((a : A) �
 if_ok (Ok a) f h = f a h
 if_ok (Err e) f h = h
 
-scaled-sure : (w : Rational) (r : Run) → scaled w ((oneʳ, r) ∷ []) ≡ (w, r) ∷ []
+-- The same of two facts.
+pub if_ok_both : {A E : Type 0} {P Q R : A → Type 0} (r : Result A E) → ((a : A) → P a → Q a → R a) → IfOk r P → IfOk r Q → IfOk r R
+if_ok_both (Ok a) f h k = f a h k
+if_ok_both (Err e) f h k = h
+
+-- ---- Lists that join one after the other
+
+pub onto_none : {A : Type 0} (same : A → A → Bool) (es : List (Rational × A)) → merged_onto same es [] ≡ es
+unfolding merged_onto
+onto_none same es = refl
+
+pub onto_more : {A : Type 0} (same : A → A → Bool) (es xs ys : List (Rational × A)) → merged_onto same es (xs ++ ys) ≡ merged_onto same (merged_onto same es xs) ys
+unfolding merged_onto
+onto_more same es [] ys = refl
+onto_more same es (x ∷ xs) ys = onto_more same (put same x es) xs ys
+
+onto_one : {A : Type 0} (same : A → A → Bool) (es : List (Rational × A)) (x : Rational × A) → merged_onto same es (x ∷ []) ≡ put same x es
+unfolding merged_onto
+onto_one same es x = refl
+
+pub scaled_none : {A : Type 0} (w : Rational) → scaled {A = A} w [] ≡ []
 unfolding scaled
-scaled-sure w r = ap (λ v. (v, r) ∷ []) (*ʳ-one w)
+scaled_none w = refl
 
--- The run of a configuration of the program.
-abbrev pub run_at : List TypedProcedure → C.Config → Run
-run_at ps c = (config_of ps (stored c), c.made)
+pub scaled_next : {A : Type 0} (w : Rational) (x : Rational × A) (xs : List (Rational × A)) → scaled w (x ∷ xs) ≡ ((w *ʳ x.0, x.1) ∷ []) ++ scaled w xs
+unfolding scaled
+scaled_next w x xs = refl
 
--- A run that has ended stays.
-pub ended_joins : (ps : List TypedProcedure) (script : List Decide) (old new : List (Rational × C.Config)) (x : Rational × C.Config) (cause : Option Cause) → x.1.items.items ≡ [] → Extends ps old new (None ∷ []) (run_of ps x ∷ []) cause → Extends ps old new (brought ps script (items_of ps x.1.items.items) x.0 (run_at ps x.1)) (scaled x.0 (follow ps script (run_at ps x.1))) cause
-ended_joins ps script old new x cause e h =
-    let more : scaled x.0 (follow ps script (run_at ps x.1)) ≡ run_of ps x ∷ [] = ap (λ is. scaled x.0 (followed ps script (items_of ps is) (run_at ps x.1))) e ∙ scaled-sure x.0 (run_at ps x.1) in
-    let marks : brought ps script (items_of ps x.1.items.items) x.0 (run_at ps x.1) ≡ None ∷ [] = ap (λ is. brought ps script (items_of ps is) x.0 (run_at ps x.1)) e in
-    subst (λ l. Extends ps old new l (scaled x.0 (follow ps script (run_at ps x.1))) cause) (sym marks) (subst (λ l. Extends ps old new (None ∷ []) l cause) (sym more) h)
+pub joined_none : {A B : Type 0} (k : A → List (Rational × B)) → joined k [] ≡ []
+unfolding joined
+joined_none k = refl
 
-brought_running : (ps : List TypedProcedure) (script : List Decide) (w : Rational) (c : C.Config) (is : List Numbered) → c.items.items ≡ is → (length is == 0) ≡ false → brought ps script (items_of ps c.items.items) w (run_at ps c) ≡ brought_by w (bounded_step ps (config_of ps (stored c)) (entry script c.made))
-brought_running ps script w c [] e n = absurd (cc)
-brought_running ps script w c (i ∷ is) e n = ap (λ l. brought ps script (items_of ps l) w (run_at ps c)) e
+pub joined_next : {A B : Type 0} (k : A → List (Rational × B)) (x : Rational × A) (xs : List (Rational × A)) → joined k (x ∷ xs) ≡ scaled x.0 (k x.1) ++ joined k xs
+unfolding joined
+joined_next k x xs = refl
 
-follow_running : (ps : List TypedProcedure) (script : List Decide) (c : C.Config) (is : List Numbered) → c.items.items ≡ is → (length is == 0) ≡ false → follow ps script (run_at ps c) ≡ map (came (c.made + asked_by (items_of ps c.items.items))) (step ps (config_of ps (stored c)) (entry script c.made))
-follow_running ps script c [] e n = absurd (cc)
-follow_running ps script c (i ∷ is) e n =
-    ap (λ l. followed ps script (items_of ps l) (run_at ps c)) e ∙ ap (λ l. map (came (c.made + asked_by (items_of ps l))) (step ps (config_of ps (stored c)) (entry script c.made))) (sym e)
+-- ---- One outcome
 
-next_limited : (b : Bool) (ys zs : Outcomes) → Answer.next ys ≡ (if b then Answer.deep else Answer.next zs) → ys ≡ zs
-next_limited true ys zs e = absurd (cc)
-next_limited false ys zs e = cc
+-- An outcome whose product doesn't fit stops the list.
+pub product_stops : (old new : RunList) (w : Rational) (x : Rational × Stored) (more : RunList) → None ≡ exact_product w x.0 → Extends old new (Brought.joins w x ∷ []) more (Some Bits)
+product_stops old new w x more e = λ rest. ap (λ o. or_else (product_cause old x.1 o) (first_cause (put same_stored (w *ʳ x.0, x.1) old) rest)) (sym e)
 
-next_bounded : (b : Bool) (ys zs : Outcomes) → Answer.next ys ≡ bounded b zs → ys ≡ zs
-next_bounded true ys zs e = next_limited (any_deep zs) ys zs e
-next_bounded false ys zs e = absurd (cc)
+-- An outcome whose product fits joins the list, or stops it, as the product does.
+pub product_joins : (old new : RunList) (w v : Rational) (x : Rational × Stored) (cause : Option Cause) → Some v ≡ exact_product w x.0 → cause ≡ put_cause (length old) v (held same_stored x.1 old) → (cause ≡ None → new ≡ put same_stored (v, x.1) old) → Extends old new (Brought.joins w x ∷ []) ((w *ʳ x.0, x.1) ∷ []) cause
+product_joins old new w v x cause e h k = go cause h k
+  where
+    first : (rest : List Brought) (o : Option Cause) → o ≡ put_cause (length old) v (held same_stored x.1 old) → first_cause old (Brought.joins w x ∷ rest) ≡ or_else o (first_cause (put same_stored (w *ʳ x.0, x.1) old) rest)
+    first rest o q = ap (λ p. or_else (product_cause old x.1 p) (first_cause (put same_stored (w *ʳ x.0, x.1) old) rest)) (sym e) ∙ ap (λ p. or_else p (first_cause (put same_stored (w *ʳ x.0, x.1) old) rest)) (sym q)
 
--- Where the step fits, it is that of the definition.
-pub next_is_step : (ps : List TypedProcedure) (c : Config) (d : Decision) (ys : Outcomes) → Answer.next ys ≡ bounded_step ps c d → ys ≡ step ps c d
-next_is_step ps c d ys e = next_bounded _ ys (step ps c d) e
+    go : (o : Option Cause) → o ≡ put_cause (length old) v (held same_stored x.1 old) → (o ≡ None → new ≡ put same_stored (v, x.1) old) → Extends old new (Brought.joins w x ∷ []) ((w *ʳ x.0, x.1) ∷ []) o
+    go (Some c) q l = λ rest. first rest (Some c) q
+    go None q l =
+        let list : put same_stored (w *ʳ x.0, x.1) old ≡ new = ap (λ u. put same_stored (u, x.1) old) (sym (exact_product_some w x.0 v e)) ∙ sym (l refl) in
+        (λ rest. first rest None q ∙ ap (λ l. first_cause l rest) list, onto_one same_stored old (w *ʳ x.0, x.1) ∙ list)
 
-came_made : (ps : List TypedProcedure) (m : ℕ) (xs : List (Rational × C.Config)) → Each (λ x. x.1.made ≡ m) xs → map (came m) (outcomes_of ps xs) ≡ runs_of ps xs
-came_made ps m [] h = refl
-came_made ps m (x ∷ xs) h = ap₂ (λ n l. (x.0, (config_of ps (stored x.1), n)) ∷ l) (sym h.0) (came_made ps m xs h.1)
+-- ---- The outcomes of one run
 
-same_marks : (ps : List TypedProcedure) (w : Rational) (xs : List (Rational × C.Config)) → map (joins w) (outcomes_of ps xs) ≡ map (joins w) (runs_of ps xs)
-same_marks ps w [] = refl
-same_marks ps w (x ∷ xs) = ap (λ l. joins w (run_of ps x) ∷ l) (same_marks ps w xs)
+next_kept : (b : Bool) (ys zs : StoredOutcomes) → Reply.next ys ≡ (if b then Reply.deep else Reply.next zs) → ys ≡ zs
+next_kept true ys zs e = absurd (cc)
+next_kept false ys zs e = cc
+
+next_replied : (b : Bool) (ys zs : StoredOutcomes) → Reply.next ys ≡ replied b zs → ys ≡ zs
+next_replied true ys zs e = next_kept (any_large zs) ys zs e
+next_replied false ys zs e = absurd (cc)
+
+-- Where the step fits, it is the stored step.
+pub next_is_step : (ps : List TypedProcedure) (c : Stored) (d : Decision) (ys : StoredOutcomes) → Reply.next ys ≡ stored_reply ps c d → ys ≡ stored_step ps c d
+next_is_step ps c d ys e = next_replied _ ys (stored_step ps c d) e
+
+-- A run that has ended is its own one outcome.
+pub ended_joins : (ps : List TypedProcedure) (script : List Decide) (old new : RunList) (w u : Rational) (c : Stored) (cause : Option Cause) → c.items ≡ [] → u ≡ oneʳ → Extends old new (Brought.joins w (u, c) ∷ []) ((w *ʳ u, c) ∷ []) cause → Extends old new (brought ps script c.items w c) (scaled w (follow ps script c)) cause
+unfolding scaled
+ended_joins ps script old new w u c cause e one h =
+    let k : Extends old new (Brought.joins w (oneʳ, c) ∷ []) ((w *ʳ oneʳ, c) ∷ []) cause = subst (λ v. Extends old new (Brought.joins w (v, c) ∷ []) ((w *ʳ v, c) ∷ []) cause) one h in
+    subst (λ is. Extends old new (brought ps script is w c) (scaled w (followed ps script is c)) cause) (sym e) k
+
+running : (ps : List TypedProcedure) (script : List Decide) (old new : RunList) (w : Rational) (c : Stored) (cause : Option Cause) (is : List Numbered) → (length is == 0) ≡ false → Extends old new (brought_by w (stored_reply ps c (entry script c.made))) (scaled w (stored_step ps c (entry script c.made))) cause → Extends old new (brought ps script is w c) (scaled w (followed ps script is c)) cause
+running ps script old new w c cause [] n h = absurd (cc)
+running ps script old new w c cause (i ∷ is) n h = h
 
 -- A run that goes on is followed by the outcomes of its step.
-pub running_joins : (ps : List TypedProcedure) (script : List Decide) (old new : List (Rational × C.Config)) (w : Rational) (c : C.Config) (xs : List (Rational × C.Config)) (cause : Option Cause) → (length c.items.items == 0) ≡ false → Answer.next (outcomes_of ps xs) ≡ bounded_step ps (config_of ps (stored c)) (entry script c.made) → Each (λ x. x.1.made ≡ c.made + asked_by (items_of ps c.items.items)) xs → Extends ps old new (map (joins w) (runs_of ps xs)) (scaled w (runs_of ps xs)) cause → Extends ps old new (brought ps script (items_of ps c.items.items) w (run_at ps c)) (scaled w (follow ps script (run_at ps c))) cause
-running_joins ps script old new w c xs cause n e m h =
-    let marks : brought ps script (items_of ps c.items.items) w (run_at ps c) ≡ map (joins w) (runs_of ps xs) = brought_running ps script w c c.items.items refl n ∙ ap (brought_by w) (sym e) ∙ same_marks ps w xs in
-    let list : follow ps script (run_at ps c) ≡ runs_of ps xs = follow_running ps script c c.items.items refl n ∙ ap (map (came (c.made + asked_by (items_of ps c.items.items)))) (sym (next_is_step ps (config_of ps (stored c)) (entry script c.made) (outcomes_of ps xs) e)) ∙ came_made ps (c.made + asked_by (items_of ps c.items.items)) xs m in
-    subst (λ l. Extends ps old new l (scaled w (follow ps script (run_at ps c))) cause) (sym marks) (subst (λ l. Extends ps old new (map (joins w) (runs_of ps xs)) (scaled w l) cause) (sym list) h)
+pub running_joins : (ps : List TypedProcedure) (script : List Decide) (old new : RunList) (w : Rational) (c : Stored) (d : Decision) (xs : StoredOutcomes) (cause : Option Cause) → (length c.items == 0) ≡ false → d ≡ entry script c.made → Reply.next xs ≡ stored_reply ps c d → Extends old new (map (Brought.joins w) xs) (scaled w xs) cause → Extends old new (brought ps script c.items w c) (scaled w (follow ps script c)) cause
+running_joins ps script old new w c d xs cause n f e h =
+    let reply : Reply.next xs ≡ stored_reply ps c (entry script c.made) = e ∙ ap (stored_reply ps c) f in
+    running ps script old new w c cause c.items n
+    (subst (λ l. Extends old new (brought_by w (stored_reply ps c (entry script c.made))) (scaled w l) cause) (next_is_step ps c (entry script c.made) xs reply) (subst (λ r. Extends old new (brought_by w r) (scaled w xs) cause) reply h))
 
--- The runs of a list, one by one.
-pub brought_next : (ps : List TypedProcedure) (script : List Decide) (zs : List (Rational × C.Config)) (x : Rational × C.Config) (ys : List (Rational × C.Config)) → zs ≡ x ∷ ys → all_brought ps script (runs_of ps zs) ≡ brought ps script (items_of ps x.1.items.items) x.0 (run_at ps x.1) ++ all_brought ps script (runs_of ps ys)
-brought_next ps script zs x ys e = ap (λ l. all_brought ps script (runs_of ps l)) e
+-- ---- Counts that the code tests
 
-joined-cons : (ps : List TypedProcedure) (script : List Decide) (x : Rational × C.Config) (ys : List (Rational × C.Config)) → after_step ps script (runs_of ps (x ∷ ys)) ≡ scaled x.0 (follow ps script (run_at ps x.1)) ++ after_step ps script (runs_of ps ys)
-unfolding joined
-joined-cons ps script x ys = refl
+-- A list of length 0 is empty.
+pub nothing_left : {A : Type 0} (n : ℕ) (xs : List A) → n ≡ length xs → n ≡ 0 → xs ≡ []
+nothing_left n [] e z = refl
+nothing_left n (x ∷ xs) e z = absurd (cc)
 
-pub joined-none : (ps : List TypedProcedure) (script : List Decide) → after_step ps script [] ≡ []
-unfolding joined
-joined-none ps script = refl
+pub is_nothing : {A : Type 0} (n : ℕ) (xs : List A) (b : Bool) → n ≡ length xs → b ≡ (n == 0) → b ≡ true → xs ≡ []
+is_nothing n xs b e h t = nothing_left n xs e (let z : (n == 0) ≡ true = sym h ∙ t in grind (arith, z))
 
-pub runs_follow : (ps : List TypedProcedure) (script : List Decide) (zs : List (Rational × C.Config)) (x : Rational × C.Config) (ys old new : List (Rational × C.Config)) → zs ≡ x ∷ ys → runs_of ps new ≡ runs_of ps old ++ scaled x.0 (follow ps script (run_at ps x.1)) → runs_of ps old ++ after_step ps script (runs_of ps zs) ≡ runs_of ps new ++ after_step ps script (runs_of ps ys)
-runs_follow ps script zs x ys old new e n =
-    ap (λ l. runs_of ps old ++ after_step ps script (runs_of ps l)) e
-    ∙ ap (λ l. runs_of ps old ++ l) (joined-cons ps script x ys)
-    ∙ sym (append_assoc (runs_of ps old) (scaled x.0 (follow ps script (run_at ps x.1))) (after_step ps script (runs_of ps ys)))
-    ∙ ap (λ l. l ++ after_step ps script (runs_of ps ys)) (sym n)
+pub is_something : {A : Type 0} (n : ℕ) (xs : List A) (b : Bool) → n ≡ length xs → b ≡ (n == 0) → b ≡ false → (length xs == 0) ≡ false
+is_something n xs b e h t = ap (λ m. m == 0) (sym e) ∙ sym h ∙ t

@@ -1,12 +1,14 @@
-mod Joining
+mod MergedSums
+mod ListsOfRuns
 mod Following
+mod Putting
 mod StepGrowth
 mod Stopping
 mod Adding
 mod Finding
 mod Whole
-mod Trees
 mod ScriptedGrowth
 mod ScriptExamples
 mod SumsOfRuns
+mod UnrolledSums
 mod Examples

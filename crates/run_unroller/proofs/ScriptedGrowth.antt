@@ -1,5 +1,5 @@
 -- A script's tree for more steps gives the same runs for fewer, so its sums do not fall.
-use Rattle.std.proofs.Common.{◌≡◌, ◌<◌, ◌≤◌, ◌+◌, ℕ, refl, sym, ap₂, subst, ◌∙◌, arith, true, false, List, [], ◌∷◌, ◌++◌, length, leb, ◌⊎◌, inl, inr}
+use Rattle.std.proofs.Common.{◌≡◌, ◌<◌, ◌≤◌, ◌+◌, ℕ, refl, sym, ap₂, subst, ◌∙◌, arith, true, false, List, [], ◌∷◌, ◌++◌, leb, ◌⊎◌, inl, inr}
 use Rattle.std.proofs.lemmas.Bool.Decides.{leb_tells}
 use Prim.Native.Nat.{zero, suc}
 use Rattle.heyvl_num.specs.Value.{Value, ◌≤ᵛ◌}

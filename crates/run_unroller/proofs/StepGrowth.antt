@@ -1,23 +1,32 @@
 -- A step makes at most one turn of each loop more, and asks for at most one decision.
-use Rattle.std.proofs.Common.{◌≡◌, ℕ, ◌+◌, ◌≤◌, ◌==◌, sym, subst, arith, Bool, true, false, List, [], ◌∷◌}
-use Prim.Native.Nat.{suc}
+use Rattle.std.proofs.Common.{◌≡◌, ℕ, ◌+◌, ◌≤◌, ◌==◌, refl, ap, sym, subst, arith, Bool, true, false, List, [], ◌∷◌, get_or, replicate}
+use Prim.Native.Nat.{zero, suc}
 use Rattle.std.specs.Prelude.{if◌then◌else◌}
 use Rattle.heyvl_num.specs.Rational.{Rational}
+use Rattle.heyvl_num.specs.WeightedSums.{joined}
+use Rattle.heyvl_num.proofs.exported.Rationals.{zero-≤ʳ-one}
 use Rattle.heylo_formula.specs.Formula.{Term}
 use Rattle.heylo_formula.specs.Choices.{Choices}
 use Rattle.heylo_formula.specs.Meaning.{holds}
 use Rattle.heylo_formula.specs.State.{environment}
-use Rattle.heyvl_acts.specs.Acts.{Act, TypedProcedure}
-use Rattle.heyvl_acts.specs.Rules.{Each}
+use Rattle.heyvl_acts.specs.Acts.{Act, TypedProcedure, procedure_at}
+use Rattle.heyvl_acts.specs.Rules.{Each, MeetsRules}
 use Rattle.heyvl_acts.specs.Tosses.{toss_parts}
-use Rattle.run_machine.specs.declared.configurations.Config as C
-use Rattle.run_machine.specs.BoundedStep.{outcomes_of}
+use Rattle.run_machine.specs.declared.configurations.Decide.{Decide}
 use Rattle.run_machine.specs.Configurations.{Item, Frame, Config, running}
-use Rattle.run_machine.specs.ConfigConditions.{IsConfig}
-use Rattle.run_machine.specs.Names.{Stored, stored, config_of}
-use Rattle.run_machine.specs.Step.{Decision, sure, moved, turned, one_more, branches, step_act, step_back, step_items, step}
+use Rattle.run_machine.specs.Names.{Numbered, Stored, items_of, turns_of, config_of}
+use Rattle.run_machine.specs.Replies.{StoredOutcomes, named}
+use Rattle.run_machine.specs.SameStored.{same_stored}
+use Rattle.run_machine.specs.Step.{Decision, sure, moved, turned, one_more, branches, step_act, step_back, step_items}
 use Rattle.run_machine.specs.StepAnswers.{asked_by}
+use Rattle.run_machine.specs.StoredLaws.{Comes, MeansStep}
+use Rattle.run_machine.specs.StoredStep.{stored_step}
+use Rattle.run_machine.proofs.exported.StoredSteps.{stored_steps_are_meant}
+use Rattle.run_unroller.specs.RunLists.{RunList, after_step, begun, follow, followed}
+use Rattle.run_unroller.specs.Scripts.{entry}
+use Rattle.run_unroller.specs.Unrolling.{Begins}
 use Rattle.run_unroller.specs.internal.Growth.{Within, AllWithin}
+use Rattle.run_unroller.proofs.MergedSums.{joined_kept, merged_kept}
 
 abbrev Grown : Config → Rational × Config → Type 0
 Grown c x = (k : ℕ) → x.1.turns k ≤ c.turns k + 1
@@ -82,11 +91,42 @@ asked_once (Item.turn h b ∷ is) = omega arith
 asked_once (Item.out x ty ∷ is) = omega arith
 asked_once (Item.back ∷ is) = omega arith
 
-all_within : (ps : List TypedProcedure) (n : ℕ) (c : Stored) (asked : ℕ) (xs : List (Rational × C.Config)) → Within ps n c → asked ≤ 1 → Each (Grown (config_of ps c)) (outcomes_of ps xs) → Each (λ x. x.1.made ≡ c.made + asked) xs → Each (λ x. IsConfig ps (stored x.1)) xs → AllWithin ps (suc n) xs
-all_within ps n c asked [] w a g m i = tt
-all_within ps n c asked (x ∷ xs) w a g m i =
-    (record { config = i.0; turns = λ k. let h = g.0 k in let l = w.turns k in omega (arith, h, l); made = let h = m.0 in let l = w.made in omega (arith, h, l, a) }, all_within ps n c asked xs w a g.1 m.1 i.1)
+-- ---- Stored configurations
+
+grown_named : (ps : List TypedProcedure) (c : Config) (xs : StoredOutcomes) → Each (Grown c) (named ps xs) → Each (λ x. (k : ℕ) → turns_of x.1.turns k ≤ c.turns k + 1) xs
+grown_named ps c [] h = tt
+grown_named ps c (x ∷ xs) h = (h.0, grown_named ps c xs h.1)
+
+all_within : (ps : List TypedProcedure) (n made asked : ℕ) (c : Stored) (xs : StoredOutcomes) → Within ps n c → made ≡ c.made + asked → asked ≤ 1 → Each (λ x. (k : ℕ) → turns_of x.1.turns k ≤ turns_of c.turns k + 1) xs → Each (Comes ps made) xs → AllWithin ps (suc n) xs
+all_within ps n made asked c [] w e a g h = tt
+all_within ps n made asked c (x ∷ xs) w e a g h =
+    ((h.0.weight, record { config = h.0.config; turns = λ k. let p = g.0 k in let l = w.turns k in omega (arith, p, l); made = let p = h.0.asks in let l = w.made in omega (arith, p, l, a, e) }), all_within ps n made asked c xs w e a g.1 h.1)
 
 -- What a step leads to is within one step more.
-pub step_within : (ps : List TypedProcedure) (n : ℕ) (c : Stored) (d : Decision) (is : List Item) (xs : List (Rational × C.Config)) → Within ps n c → outcomes_of ps xs ≡ step ps (config_of ps c) d → Each (λ x. x.1.made ≡ c.made + asked_by is) xs → Each (λ x. IsConfig ps (stored x.1)) xs → AllWithin ps (suc n) xs
-step_within ps n c d is xs w e m i = all_within ps n c (asked_by is) xs w (asked_once is) (subst (Each (Grown (config_of ps c))) (sym e) (stepped ps (config_of ps c).items (config_of ps c) d)) m i
+step_within : (ps : List TypedProcedure) (n : ℕ) (c : Stored) (d : Decision) → Within ps n c → MeansStep ps c d → AllWithin ps (suc n) (stored_step ps c d)
+step_within ps n c d w m = all_within ps n (c.made + asked_by (items_of ps c.items)) (asked_by (items_of ps c.items)) c (stored_step ps c d) w refl (asked_once (items_of ps c.items)) (grown_named ps (config_of ps c) (stored_step ps c d) (subst (Each (Grown (config_of ps c))) (sym m.steps) (stepped ps (config_of ps c).items (config_of ps c) d))) m.comes
+
+module _ (ps : List TypedProcedure) (rules : Each (MeetsRules ps) ps) (script : List Decide) where
+  follow_within : (n : ℕ) (c : Stored) → Within ps n c → AllWithin ps (suc n) (follow ps script c)
+  follow_within n c w = go c.items
+    where
+      go : (is : List Numbered) → AllWithin ps (suc n) (followed ps script is c)
+      go [] = ((zero-≤ʳ-one, record { config = w.config; turns = λ k. let l = w.turns k in omega (arith, l); made = let l = w.made in omega (arith, l) }), tt)
+      go (i ∷ is) = step_within ps n c (entry script c.made) w (stored_steps_are_meant ps rules c w.config (entry script c.made))
+
+  -- So is the list after a step.
+  pub list_within : (n : ℕ) (rs : RunList) → AllWithin ps n rs → AllWithin ps (suc n) (after_step ps script rs)
+  list_within n rs h = merged_kept same_stored (Within ps (suc n)) (joined (follow ps script) rs) (joined_kept (Within ps n) (Within ps (suc n)) (follow ps script) (follow_within n) rs h)
+
+no_turns : (k n : ℕ) → turns_of (replicate n 0) k ≤ 0
+no_turns zero n = omega arith
+no_turns (suc k) n = go k n
+  where
+    go : (k n : ℕ) → get_or (replicate n 0) k 0 ≤ 0
+    go k zero = omega arith
+    go zero (suc n) = omega arith
+    go (suc k) (suc n) = go k n
+
+-- The first list.
+pub first_within : (ps : List TypedProcedure) (p : ℕ) (c : Stored) (rs : RunList) → Begins ps p c → rs ≡ begun c → AllWithin ps 0 rs
+first_within ps p c rs b e = subst (AllWithin ps 0) (sym e) ((zero-≤ʳ-one, record { config = b.config; turns = λ k. subst (λ ts. turns_of ts k ≤ 0) (sym (ap (λ z. z.turns) b.first)) (no_turns k (procedure_at ps p).loops); made = subst (λ m. m ≤ 0) (sym (ap (λ z. z.made) b.first)) (omega arith) }), tt)

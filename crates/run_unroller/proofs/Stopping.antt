@@ -2,13 +2,11 @@
 use Rattle.std.proofs.Common.{◌≡◌, ℕ, ◌+◌, ◌-◌, ◌≤◌, ◌<◌, ◌^◌, ap, sym, ◌∙◌, arith, List, [], ◌∷◌}
 use Rattle.std.specs.Prelude.{Option, Some, None}
 use Prim.Native.Nat.{zero, suc}
-use Rattle.heyvl_num.specs.Rational.{Rational}
 use Rattle.heyvl_acts.specs.Acts.{TypedProcedure}
 use Rattle.heyvl_acts.specs.Rules.{Each}
-use Rattle.run_machine.specs.declared.configurations.Config as C
 use Rattle.run_machine.specs.declared.configurations.Decide.{Decide}
 use Rattle.run_machine.specs.ConfigConditions.{HasRoom, IsConfig}
-use Rattle.run_machine.specs.Names.{stored, turns_of}
+use Rattle.run_machine.specs.Names.{turns_of}
 use Rattle.run_unroller.specs.declared.causes.Cause.{Cause}
 use Rattle.run_unroller.specs.Causes.{at_step, first_stop, or_else, step_cause}
 use Rattle.run_unroller.specs.RunLists.{RunList, after, after_step}
@@ -22,13 +20,13 @@ few_turns n (t ∷ ts) h l = (let a = h 1 in omega (arith, a, l), few_turns n ts
     rest us m g zero = omega arith
     rest us m g (suc k) = g (suc (suc k))
 
-pub within_configs : (ps : List TypedProcedure) (n : ℕ) (xs : List (Rational × C.Config)) → AllWithin ps n xs → Each (λ x. IsConfig ps (stored x.1)) xs
+pub within_configs : (ps : List TypedProcedure) (n : ℕ) (rs : RunList) → AllWithin ps n rs → Each (λ x. IsConfig ps x.1) rs
 within_configs ps n [] h = tt
-within_configs ps n (x ∷ xs) h = (h.0.config, within_configs ps n xs h.1)
+within_configs ps n (x ∷ xs) h = (h.0.1.config, within_configs ps n xs h.1)
 
-pub within_rooms : (ps : List TypedProcedure) (n : ℕ) (xs : List (Rational × C.Config)) → AllWithin ps n xs → n < 2 ^ 31 → Each (λ x. HasRoom (stored x.1)) xs
+pub within_rooms : (ps : List TypedProcedure) (n : ℕ) (rs : RunList) → AllWithin ps n rs → n < 2 ^ 31 → Each (λ x. HasRoom x.1) rs
 within_rooms ps n [] h l = tt
-within_rooms ps n (x ∷ xs) h l = (record { turns = few_turns n x.1.turns.items h.0.turns l; made = let m = h.0.made in omega (arith, m, l) }, within_rooms ps n xs h.1 l)
+within_rooms ps n (x ∷ xs) h l = (record { turns = few_turns n x.1.turns h.0.1.turns l; made = let m = h.0.1.made in omega (arith, m, l) }, within_rooms ps n xs h.1 l)
 
 stays_stopped : (ps : List TypedProcedure) (script : List Decide) (rs : RunList) (stop : Cause × ℕ) (m k : ℕ) → first_stop ps script m rs ≡ Some stop → first_stop ps script (m + k) rs ≡ Some stop
 stays_stopped ps script rs stop m zero h = ap (λ n. first_stop ps script n rs) (let e : m + 0 ≡ m = omega arith in e) ∙ h

@@ -14,21 +14,16 @@ use Rattle.heylo_formula.specs.Choices.{Choices}
 use Rattle.heylo_formula.specs.Formula.{Form}
 use Rattle.heylo_formula.specs.Meaning.{value}
 use Rattle.heylo_formula.specs.State.{environment}
-use Rattle.heyvl_acts.specs.Acts.{TypedProcedure, procedure_at}
+use Rattle.heyvl_acts.specs.Acts.{TypedProcedure}
 use Rattle.quant_algebra.specs.ExactOperators.{and_then}
 use Rattle.quant_algebra.specs.Laws.{ExactValuesAreMeant}
-use Rattle.run_machine.specs.Configurations.{Config, Item, Outcomes}
+use Rattle.run_machine.specs.Configurations.{Config, Outcomes}
+use Rattle.run_machine.specs.Names.{Numbered, Stored, items_of}
+use Rattle.run_machine.specs.Replies.{named_outcome}
 use Rattle.run_machine.specs.Sums.{ended as ended_value, sum_of, turns_in, turns_sum, worth}
-use Rattle.run_unroller.specs.RunLists.{Run, RunList, after, begun}
+use Rattle.run_unroller.specs.RunLists.{RunList, outcomes}
 use Rattle.run_unroller.specs.Totals.{Totals, added, added_fractions, added_weights, all_turns, and_one, ended, if_ended, if_running, post_of, post_total, reward_of, reward_total, running, running_total, totals, turns_of, turns_total}
-use Rattle.run_machine.specs.declared.configurations.Decide.{Decide}
-use Rattle.run_machine.specs.Runs.{runs}
-use Rattle.run_unroller.specs.declared.causes.Cause.{Cause}
-use Rattle.run_unroller.specs.Causes.{first_stop}
-use Rattle.run_unroller.specs.ScriptTrees.{scripted}
-use Rattle.run_unroller.specs.Unrolling.{Unrolling, stop_or, sums_or, unrolled}
-use Rattle.run_unroller.specs.UnrollLaws.{AreSums, AreTurns, TotalsAreSums, outcome, outcomes, unfinished}
-use Rattle.run_unroller.proofs.Trees.{lists_are_runs}
+use Rattle.run_unroller.specs.UnrollLaws.{AreSums, AreTurns, unfinished}
 use Rattle.run_unroller.proofs.Adding.{added-none, fractions-none, weights-none}
 
 no_value : {A : Type 0} (v : A) → None ≡ Some v → ⊥
@@ -45,10 +40,10 @@ sum-cons g x xs = refl
 -- ---- Values
 
 -- A function of runs that gives a value, where it gives one, as another does.
-abbrev Gives : (Run → Option Value) → (Run → Value) → Type 0
-Gives f g = (r : Run) → IfSome (f r) (λ v. v ≡ g r)
+abbrev Gives : (Stored → Option Value) → (Stored → Value) → Type 0
+Gives f g = (r : Stored) → IfSome (f r) (λ v. v ≡ g r)
 
-added_is : (f : Run → Option Value) (g : Run → Value) → Gives f g → (s : Value) (xs : RunList) (v : Value) → added f (Some s) xs ≡ Some v → v ≡ s +ᵛ weighted_sum g xs
+added_is : (f : Stored → Option Value) (g : Stored → Value) → Gives f g → (s : Value) (xs : RunList) (v : Value) → added f (Some s) xs ≡ Some v → v ≡ s +ᵛ weighted_sum g xs
 added_is f g m s [] v e =
     let same : v ≡ s = cc in
     same ∙ sym (ap (λ z. s +ᵛ z) (sum-empty g) ∙ +ᵛ-zero s)
@@ -70,12 +65,12 @@ added_is f g m s (x ∷ xs) v e = at_value (λ u h. added_is f g m u xs v h) (f 
     at_value more None p h = elim (no_value v (sym (added-none f xs) ∙ h)) [ ]
     at_value more (Some y) p h = at_product more y (exact_productᵛ (finite x.0) y) p refl h
 
-total_is : (f : Run → Option Value) (g : Run → Value) → Gives f g → (xs : RunList) (v : Value) → added f (Some zeroᵛ) xs ≡ Some v → v ≡ weighted_sum g xs
+total_is : (f : Stored → Option Value) (g : Stored → Value) → Gives f g → (xs : RunList) (v : Value) → added f (Some zeroᵛ) xs ≡ Some v → v ≡ weighted_sum g xs
 total_is f g m xs v e = added_is f g m zeroᵛ xs v e ∙ zero-+ᵛ (weighted_sum g xs)
 
 -- ---- Fractions
 
-fractions_are : (f : Run → Rational) (s : Rational) (xs : RunList) (t : Rational) → added_fractions f (Some s) xs ≡ Some t → finite t ≡ finite s +ᵛ weighted_sum (λ r. finite (f r)) xs
+fractions_are : (f : Stored → Rational) (s : Rational) (xs : RunList) (t : Rational) → added_fractions f (Some s) xs ≡ Some t → finite t ≡ finite s +ᵛ weighted_sum (λ r. finite (f r)) xs
 fractions_are f s [] t e =
     let same : t ≡ s = cc in
     ap finite same ∙ sym (ap (λ z. finite s +ᵛ z) (sum-empty (λ r. finite (f r))) ∙ +ᵛ-zero (finite s))
@@ -94,7 +89,7 @@ fractions_are f s (x ∷ xs) t e = at_product (λ u h. fractions_are f u xs t h)
     at_product more None k h = elim (no_value t (sym (fractions-none f xs) ∙ h)) [ ]
     at_product more (Some z) k h = at_sum more z (exact_sum s z) (exact_product_some x.0 (f x.1) z k) refl h
 
-abbrev one : Run → Value
+abbrev one : Stored → Value
 one r = oneᵛ
 
 weights_are : (s : Rational) (xs : RunList) (t : Rational) → added_weights (Some s) xs ≡ Some t → finite t ≡ finite s +ᵛ weighted_sum one xs
@@ -114,105 +109,105 @@ weights_are s (x ∷ xs) t e = at_sum (λ u h. weights_are u xs t h) (exact_sum 
 
 -- ---- Sums over runs
 
-abbrev reward_in : Run → Value
-reward_in r = r.0.reward
+abbrev reward_in : Stored → Value
+reward_in r = r.reward
 
-abbrev post_in : Form → Run → Value
-post_in post r = value post (environment r.0.state) Choices.stop
+abbrev post_in : Form → Stored → Value
+post_in post r = value post (environment r.state) Choices.stop
 
 -- The upper sum is that of the rewards and that of the posts of the runs that have ended.
-upper_one : (post : Form) (x : Rational × Run) (xs : RunList) (is : List Item) (rest rewards posts : Value) → rest ≡ rewards +ᵛ weighted_sum (post_in post) xs → (finite x.0 *ᵛ (x.1.0.reward +ᵛ ended_value true post is x.1.0.state)) +ᵛ rest ≡ ((finite x.0 *ᵛ x.1.0.reward) +ᵛ rewards) +ᵛ weighted_sum (post_in post) (if_ended is x xs)
-upper_one post x xs [] rest rewards posts e =
-    ap (λ a. (finite x.0 *ᵛ (x.1.0.reward +ᵛ post_in post x.1)) +ᵛ a) e
-    ∙ pull (finite x.0 *ᵛ x.1.0.reward) (finite x.0 *ᵛ post_in post x.1) rewards (weighted_sum (post_in post) xs) (finite x.0 *ᵛ (x.1.0.reward +ᵛ post_in post x.1)) (scale-+ᵛ x.0 x.1.0.reward (post_in post x.1))
-    ∙ ap (λ a. ((finite x.0 *ᵛ x.1.0.reward) +ᵛ rewards) +ᵛ a) (sym (sum-cons (post_in post) x xs))
+upper_one : (ps : List TypedProcedure) (post : Form) (x : Rational × Stored) (xs : RunList) (is : List Numbered) (rest rewards posts : Value) → rest ≡ rewards +ᵛ weighted_sum (post_in post) xs → (finite x.0 *ᵛ (x.1.reward +ᵛ ended_value true post (items_of ps is) x.1.state)) +ᵛ rest ≡ ((finite x.0 *ᵛ x.1.reward) +ᵛ rewards) +ᵛ weighted_sum (post_in post) (if_ended is x xs)
+upper_one ps post x xs [] rest rewards posts e =
+    ap (λ a. (finite x.0 *ᵛ (x.1.reward +ᵛ post_in post x.1)) +ᵛ a) e
+    ∙ pull (finite x.0 *ᵛ x.1.reward) (finite x.0 *ᵛ post_in post x.1) rewards (weighted_sum (post_in post) xs) (finite x.0 *ᵛ (x.1.reward +ᵛ post_in post x.1)) (scale-+ᵛ x.0 x.1.reward (post_in post x.1))
+    ∙ ap (λ a. ((finite x.0 *ᵛ x.1.reward) +ᵛ rewards) +ᵛ a) (sym (sum-cons (post_in post) x xs))
   where
     pull : (a b c d w : Value) → w ≡ a +ᵛ b → w +ᵛ (c +ᵛ d) ≡ (a +ᵛ c) +ᵛ (b +ᵛ d)
     pull a b c d w h = ap (λ u. u +ᵛ (c +ᵛ d)) h ∙ +ᵛ_assoc a b (c +ᵛ d) ∙ ap (λ u. a +ᵛ u) (+ᵛ_left_comm b c d) ∙ sym (+ᵛ_assoc a c (b +ᵛ d))
-upper_one post x xs (i ∷ is) rest rewards posts e =
-    ap₂ (λ a b. (finite x.0 *ᵛ a) +ᵛ b) (+ᵛ-zero x.1.0.reward) e
-    ∙ sym (+ᵛ_assoc (finite x.0 *ᵛ x.1.0.reward) rewards (weighted_sum (post_in post) xs))
+upper_one ps post x xs (i ∷ is) rest rewards posts e =
+    ap₂ (λ a b. (finite x.0 *ᵛ a) +ᵛ b) (+ᵛ-zero x.1.reward) e
+    ∙ sym (+ᵛ_assoc (finite x.0 *ᵛ x.1.reward) rewards (weighted_sum (post_in post) xs))
 
-upper_sum : (post : Form) (xs : RunList) → sum_of true post (outcomes xs) ≡ weighted_sum reward_in xs +ᵛ weighted_sum (post_in post) (ended xs)
-upper_sum post [] = sum-empty (worth true post) ∙ sym (ap₂ (λ a b. a +ᵛ b) (sum-empty reward_in) (sum-empty (post_in post)) ∙ +ᵛ-zero zeroᵛ)
-upper_sum post (x ∷ xs) =
-    sum-cons (worth true post) (outcome x) (outcomes xs)
-    ∙ upper_one post x (ended xs) x.1.0.items (sum_of true post (outcomes xs)) (weighted_sum reward_in xs) zeroᵛ (upper_sum post xs)
-    ∙ ap (λ a. a +ᵛ weighted_sum (post_in post) (if_ended x.1.0.items x (ended xs))) (sym (sum-cons reward_in x xs))
+upper_sum : (ps : List TypedProcedure) (post : Form) (xs : RunList) → sum_of true post (outcomes ps xs) ≡ weighted_sum reward_in xs +ᵛ weighted_sum (post_in post) (ended xs)
+upper_sum ps post [] = sum-empty (worth true post) ∙ sym (ap₂ (λ a b. a +ᵛ b) (sum-empty reward_in) (sum-empty (post_in post)) ∙ +ᵛ-zero zeroᵛ)
+upper_sum ps post (x ∷ xs) =
+    sum-cons (worth true post) (named_outcome ps x) (outcomes ps xs)
+    ∙ upper_one ps post x (ended xs) x.1.items (sum_of true post (outcomes ps xs)) (weighted_sum reward_in xs) zeroᵛ (upper_sum ps post xs)
+    ∙ ap (λ a. a +ᵛ weighted_sum (post_in post) (if_ended x.1.items x (ended xs))) (sym (sum-cons reward_in x xs))
 
 -- The weak sum is that of the posts of the runs that have ended and the weight of the others.
-weak_one : (post : Form) (x : Rational × Run) (xs ys : RunList) (is : List Item) (rest : Value) → rest ≡ weighted_sum (post_in post) xs +ᵛ weighted_sum one ys → (finite x.0 *ᵛ ended_value false post is x.1.0.state) +ᵛ rest ≡ weighted_sum (post_in post) (if_ended is x xs) +ᵛ weighted_sum one (if_running is x ys)
-weak_one post x xs ys [] rest e =
+weak_one : (ps : List TypedProcedure) (post : Form) (x : Rational × Stored) (xs ys : RunList) (is : List Numbered) (rest : Value) → rest ≡ weighted_sum (post_in post) xs +ᵛ weighted_sum one ys → (finite x.0 *ᵛ ended_value false post (items_of ps is) x.1.state) +ᵛ rest ≡ weighted_sum (post_in post) (if_ended is x xs) +ᵛ weighted_sum one (if_running is x ys)
+weak_one ps post x xs ys [] rest e =
     ap (λ a. (finite x.0 *ᵛ post_in post x.1) +ᵛ a) e
     ∙ sym (+ᵛ_assoc (finite x.0 *ᵛ post_in post x.1) (weighted_sum (post_in post) xs) (weighted_sum one ys))
     ∙ ap (λ a. a +ᵛ weighted_sum one ys) (sym (sum-cons (post_in post) x xs))
-weak_one post x xs ys (i ∷ is) rest e =
+weak_one ps post x xs ys (i ∷ is) rest e =
     ap (λ a. (finite x.0 *ᵛ oneᵛ) +ᵛ a) e
     ∙ +ᵛ_left_comm (finite x.0 *ᵛ oneᵛ) (weighted_sum (post_in post) xs) (weighted_sum one ys)
     ∙ ap (λ a. weighted_sum (post_in post) xs +ᵛ a) (sym (sum-cons one x ys))
 
-weak_sum : (post : Form) (xs : RunList) → sum_of false post (outcomes xs) ≡ weighted_sum (post_in post) (ended xs) +ᵛ weighted_sum one (running xs)
-weak_sum post [] = sum-empty (worth false post) ∙ sym (ap₂ (λ a b. a +ᵛ b) (sum-empty (post_in post)) (sum-empty one) ∙ +ᵛ-zero zeroᵛ)
-weak_sum post (x ∷ xs) = sum-cons (worth false post) (outcome x) (outcomes xs) ∙ weak_one post x (ended xs) (running xs) x.1.0.items (sum_of false post (outcomes xs)) (weak_sum post xs)
+weak_sum : (ps : List TypedProcedure) (post : Form) (xs : RunList) → sum_of false post (outcomes ps xs) ≡ weighted_sum (post_in post) (ended xs) +ᵛ weighted_sum one (running xs)
+weak_sum ps post [] = sum-empty (worth false post) ∙ sym (ap₂ (λ a b. a +ᵛ b) (sum-empty (post_in post)) (sum-empty one) ∙ +ᵛ-zero zeroᵛ)
+weak_sum ps post (x ∷ xs) = sum-cons (worth false post) (named_outcome ps x) (outcomes ps xs) ∙ weak_one ps post x (ended xs) (running xs) x.1.items (sum_of false post (outcomes ps xs)) (weak_sum ps post xs)
 
 -- A run whose part is 0 adds nothing.
 nothing_added : (w : Rational) (v : Value) → (finite w *ᵛ zeroᵛ) +ᵛ v ≡ v
 nothing_added w v = ap (λ a. a +ᵛ v) (*ᵛ-zero (finite w)) ∙ zero-+ᵛ v
 
-post_of_one : (post : Form) (x : Rational × Run) (xs : RunList) (is : List Item) (rest : Value) → rest ≡ weighted_sum (post_in post) xs → (finite x.0 *ᵛ ended_value true post is x.1.0.state) +ᵛ rest ≡ weighted_sum (post_in post) (if_ended is x xs)
-post_of_one post x xs [] rest e = ap (λ a. (finite x.0 *ᵛ post_in post x.1) +ᵛ a) e ∙ sym (sum-cons (post_in post) x xs)
-post_of_one post x xs (i ∷ is) rest e = nothing_added x.0 rest ∙ e
+post_of_one : (ps : List TypedProcedure) (post : Form) (x : Rational × Stored) (xs : RunList) (is : List Numbered) (rest : Value) → rest ≡ weighted_sum (post_in post) xs → (finite x.0 *ᵛ ended_value true post (items_of ps is) x.1.state) +ᵛ rest ≡ weighted_sum (post_in post) (if_ended is x xs)
+post_of_one ps post x xs [] rest e = ap (λ a. (finite x.0 *ᵛ post_in post x.1) +ᵛ a) e ∙ sym (sum-cons (post_in post) x xs)
+post_of_one ps post x xs (i ∷ is) rest e = nothing_added x.0 rest ∙ e
 
-post_sum : (post : Form) (xs : RunList) → weighted_sum (λ (c : Config). ended_value true post c.items c.state) (outcomes xs) ≡ weighted_sum (post_in post) (ended xs)
-post_sum post [] = sum-empty (λ (c : Config). ended_value true post c.items c.state) ∙ sym (sum-empty (post_in post))
-post_sum post (x ∷ xs) = sum-cons (λ (c : Config). ended_value true post c.items c.state) (outcome x) (outcomes xs) ∙ post_of_one post x (ended xs) x.1.0.items (weighted_sum (λ (c : Config). ended_value true post c.items c.state) (outcomes xs)) (post_sum post xs)
+post_sum : (ps : List TypedProcedure) (post : Form) (xs : RunList) → weighted_sum (λ (c : Config). ended_value true post c.items c.state) (outcomes ps xs) ≡ weighted_sum (post_in post) (ended xs)
+post_sum ps post [] = sum-empty (λ (c : Config). ended_value true post c.items c.state) ∙ sym (sum-empty (post_in post))
+post_sum ps post (x ∷ xs) = sum-cons (λ (c : Config). ended_value true post c.items c.state) (named_outcome ps x) (outcomes ps xs) ∙ post_of_one ps post x (ended xs) x.1.items (weighted_sum (λ (c : Config). ended_value true post c.items c.state) (outcomes ps xs)) (post_sum ps post xs)
 
-reward_sum : (xs : RunList) → weighted_sum (λ (c : Config). c.reward) (outcomes xs) ≡ weighted_sum reward_in xs
-reward_sum [] = sum-empty (λ (c : Config). c.reward) ∙ sym (sum-empty reward_in)
-reward_sum (x ∷ xs) = sum-cons (λ (c : Config). c.reward) (outcome x) (outcomes xs) ∙ ap (λ a. (finite x.0 *ᵛ x.1.0.reward) +ᵛ a) (reward_sum xs) ∙ sym (sum-cons reward_in x xs)
+reward_sum : (ps : List TypedProcedure) (xs : RunList) → weighted_sum (λ (c : Config). c.reward) (outcomes ps xs) ≡ weighted_sum reward_in xs
+reward_sum ps [] = sum-empty (λ (c : Config). c.reward) ∙ sym (sum-empty reward_in)
+reward_sum ps (x ∷ xs) = sum-cons (λ (c : Config). c.reward) (named_outcome ps x) (outcomes ps xs) ∙ ap (λ a. (finite x.0 *ᵛ x.1.reward) +ᵛ a) (reward_sum ps xs) ∙ sym (sum-cons reward_in x xs)
 
-weight_of_one : (x : Rational × Run) (xs : RunList) (is : List Item) (rest : Value) → rest ≡ weighted_sum one xs → (finite x.0 *ᵛ unfinished is) +ᵛ rest ≡ weighted_sum one (if_running is x xs)
-weight_of_one x xs [] rest e = nothing_added x.0 rest ∙ e
-weight_of_one x xs (i ∷ is) rest e = ap (λ a. (finite x.0 *ᵛ oneᵛ) +ᵛ a) e ∙ sym (sum-cons one x xs)
+weight_of_one : (ps : List TypedProcedure) (x : Rational × Stored) (xs : RunList) (is : List Numbered) (rest : Value) → rest ≡ weighted_sum one xs → (finite x.0 *ᵛ unfinished (items_of ps is)) +ᵛ rest ≡ weighted_sum one (if_running is x xs)
+weight_of_one ps x xs [] rest e = nothing_added x.0 rest ∙ e
+weight_of_one ps x xs (i ∷ is) rest e = ap (λ a. (finite x.0 *ᵛ oneᵛ) +ᵛ a) e ∙ sym (sum-cons one x xs)
 
-running_sum : (xs : RunList) → weighted_sum (λ (c : Config). unfinished c.items) (outcomes xs) ≡ weighted_sum one (running xs)
-running_sum [] = sum-empty (λ (c : Config). unfinished c.items) ∙ sym (sum-empty one)
-running_sum (x ∷ xs) = sum-cons (λ (c : Config). unfinished c.items) (outcome x) (outcomes xs) ∙ weight_of_one x (running xs) x.1.0.items (weighted_sum (λ (c : Config). unfinished c.items) (outcomes xs)) (running_sum xs)
+running_sum : (ps : List TypedProcedure) (xs : RunList) → weighted_sum (λ (c : Config). unfinished c.items) (outcomes ps xs) ≡ weighted_sum one (running xs)
+running_sum ps [] = sum-empty (λ (c : Config). unfinished c.items) ∙ sym (sum-empty one)
+running_sum ps (x ∷ xs) = sum-cons (λ (c : Config). unfinished c.items) (named_outcome ps x) (outcomes ps xs) ∙ weight_of_one ps x (running xs) x.1.items (weighted_sum (λ (c : Config). unfinished c.items) (outcomes ps xs)) (running_sum ps xs)
 
-same_turns : (number : ℕ) (xs : RunList) → turns_sum number (outcomes xs) ≡ weighted_sum (λ r. finite (turns_of number r)) xs
-same_turns number [] = sum-empty (turns_in number) ∙ sym (sum-empty (λ r. finite (turns_of number r)))
-same_turns number (x ∷ xs) = sum-cons (turns_in number) (outcome x) (outcomes xs) ∙ ap (λ a. (finite x.0 *ᵛ turns_in number x.1.0) +ᵛ a) (same_turns number xs) ∙ sym (sum-cons (λ r. finite (turns_of number r)) x xs)
+same_turns : (ps : List TypedProcedure) (number : ℕ) (xs : RunList) → turns_sum number (outcomes ps xs) ≡ weighted_sum (λ r. finite (turns_of number r)) xs
+same_turns ps number [] = sum-empty (turns_in number) ∙ sym (sum-empty (λ r. finite (turns_of number r)))
+same_turns ps number (x ∷ xs) = sum-cons (turns_in number) (named_outcome ps x) (outcomes ps xs) ∙ ap (λ a. (finite x.0 *ᵛ turns_in number (named_outcome ps x).1) +ᵛ a) (same_turns ps number xs) ∙ sym (sum-cons (λ r. finite (turns_of number r)) x xs)
 
 zero_first : (v : Value) → finite zeroʳ +ᵛ v ≡ v
 unfolding zeroᵛ
 zero_first v = zero-+ᵛ v
 
-turns_are : (number : ℕ) (rs : RunList) (t : Rational) → turns_total number rs ≡ Some t → turns_sum number (outcomes rs) ≡ finite t
-turns_are number rs t e = same_turns number rs ∙ sym (fractions_are (turns_of number) zeroʳ rs t e ∙ zero_first (weighted_sum (λ r. finite (turns_of number r)) rs))
+turns_are : (ps : List TypedProcedure) (number : ℕ) (rs : RunList) (t : Rational) → turns_total number rs ≡ Some t → turns_sum number (outcomes ps rs) ≡ finite t
+turns_are ps number rs t e = same_turns ps number rs ∙ sym (fractions_are (turns_of number) zeroʳ rs t e ∙ zero_first (weighted_sum (λ r. finite (turns_of number r)) rs))
 
 -- One loop more.
 turns_more : (number : ℕ) (cs : Outcomes) (ts : List Rational) (t : Rational) → AreTurns number ts cs → turns_sum (number + length ts) cs ≡ finite t → AreTurns number (ts ++ (t ∷ [])) cs
 turns_more number cs [] t h e = (ap (λ n. turns_sum n cs) (let z : number ≡ number + 0 = omega arith in z) ∙ e, tt)
 turns_more number cs (u ∷ us) t h e = (h.0, turns_more (suc number) cs us t h.1 (ap (λ n. turns_sum n cs) (let z : suc number + length us ≡ number + suc (length us) = omega arith in z) ∙ e))
 
-record Counted (n : ℕ) (rs : RunList) (ts : List Rational) : Type 0 where
-  turns : AreTurns 1 ts (outcomes rs)
+record Counted (ps : List TypedProcedure) (n : ℕ) (rs : RunList) (ts : List Rational) : Type 0 where
+  turns : AreTurns 1 ts (outcomes ps rs)
   loops : length ts ≡ n
 
-counted : (n : ℕ) (rs : RunList) (ts : List Rational) → all_turns n rs ≡ Some ts → Counted n rs ts
-counted zero rs ts e =
+counted : (ps : List TypedProcedure) (n : ℕ) (rs : RunList) (ts : List Rational) → all_turns n rs ≡ Some ts → Counted ps n rs ts
+counted ps zero rs ts e =
     let none : [] ≡ ts = cc in
-    subst (Counted zero rs) none (record { turns = tt; loops = refl })
-counted (suc n) rs ts e = at_others (λ us h. counted n rs us h) (all_turns n rs) refl e
+    subst (Counted ps zero rs) none (record { turns = tt; loops = refl })
+counted ps (suc n) rs ts e = at_others (λ us h. counted ps n rs us h) (all_turns n rs) refl e
   where
-    at_one : (us : List Rational) (o : Option Rational) → Counted n rs us → turns_total (suc n) rs ≡ o → and_then o (λ t. Some (us ++ (t ∷ []))) ≡ Some ts → Counted (suc n) rs ts
+    at_one : (us : List Rational) (o : Option Rational) → Counted ps n rs us → turns_total (suc n) rs ≡ o → and_then o (λ t. Some (us ++ (t ∷ []))) ≡ Some ts → Counted ps (suc n) rs ts
     at_one us None h k g = elim (no_value ts g) [ ]
     at_one us (Some t) h k g =
         let same : us ++ (t ∷ []) ≡ ts = cc in
-        let at : turns_sum (1 + length us) (outcomes rs) ≡ finite t = ap (λ m. turns_sum m (outcomes rs)) (let l = h.loops in let z : 1 + length us ≡ suc n = omega (arith, l) in z) ∙ turns_are (suc n) rs t k in
-        subst (Counted (suc n) rs) same (record { turns = turns_more 1 (outcomes rs) us t h.turns at; loops = let l = h.loops in length-append us (t ∷ []) ∙ (let z : length us + 1 ≡ suc n = omega (arith, l) in z) })
+        let at : turns_sum (1 + length us) (outcomes ps rs) ≡ finite t = ap (λ m. turns_sum m (outcomes ps rs)) (let l = h.loops in let z : 1 + length us ≡ suc n = omega (arith, l) in z) ∙ turns_are ps (suc n) rs t k in
+        subst (Counted ps (suc n) rs) same (record { turns = turns_more 1 (outcomes ps rs) us t h.turns at; loops = let l = h.loops in length-append us (t ∷ []) ∙ (let z : length us + 1 ≡ suc n = omega (arith, l) in z) })
 
-    at_others : ((us : List Rational) → all_turns n rs ≡ Some us → Counted n rs us) → (o : Option (List Rational)) → all_turns n rs ≡ o → and_then o (λ us. and_then (turns_total (suc n) rs) (λ t. Some (us ++ (t ∷ [])))) ≡ Some ts → Counted (suc n) rs ts
+    at_others : ((us : List Rational) → all_turns n rs ≡ Some us → Counted ps n rs us) → (o : Option (List Rational)) → all_turns n rs ≡ o → and_then o (λ us. and_then (turns_total (suc n) rs) (λ t. Some (us ++ (t ∷ [])))) ≡ Some ts → Counted ps (suc n) rs ts
     at_others more None h g = elim (no_value ts g) [ ]
     at_others more (Some us) h g = at_one us (turns_total (suc n) rs) (more us h) refl g
 
@@ -245,29 +240,19 @@ parts p rs t e = at_post (post_total p.post rs) refl e
     at_post None h g = elim (no_value t g) [ ]
     at_post (Some a) h g = at_reward a (reward_total rs) h refl g
 
-pub totals_are : ExactValuesAreMeant → (p : TypedProcedure) (rs : RunList) (t : Totals) → totals p rs ≡ Some t → AreSums p (outcomes rs) t
-totals_are m p rs t e =
+pub totals_are : ExactValuesAreMeant → (ps : List TypedProcedure) (p : TypedProcedure) (rs : RunList) (t : Totals) → totals p rs ≡ Some t → AreSums p (outcomes ps rs) t
+totals_are m ps p rs t e =
     let q = parts p rs t e in
-    let post : t.post ≡ weighted_sum (post_in p.post) (ended rs) = total_is (post_of p.post) (post_in p.post) (λ r. m p.post r.0.state) (ended rs) t.post q.post in
+    let post : t.post ≡ weighted_sum (post_in p.post) (ended rs) = total_is (post_of p.post) (post_in p.post) (λ r. m p.post r.state) (ended rs) t.post q.post in
     let reward : t.reward ≡ weighted_sum reward_in rs = total_is reward_of reward_in (λ r. refl) rs t.reward q.reward in
     let weight : finite t.running ≡ weighted_sum one (running rs) = weights_are zeroʳ (running rs) t.running q.running ∙ zero_first (weighted_sum one (running rs)) in
-    let turns = counted p.loops rs t.turns q.turns in
+    let turns = counted ps p.loops rs t.turns q.turns in
     record {
-      post = post_sum p.post rs ∙ sym post;
-      reward = reward_sum rs ∙ sym reward;
-      running = running_sum rs ∙ sym weight;
-      upper = upper_sum p.post rs ∙ sym (ap₂ (λ a b. a +ᵛ b) reward post);
-      weak = weak_sum p.post rs ∙ sym (ap₂ (λ a b. a +ᵛ b) post weight);
+      post = post_sum ps p.post rs ∙ sym post;
+      reward = reward_sum ps rs ∙ sym reward;
+      running = running_sum ps rs ∙ sym weight;
+      upper = upper_sum ps p.post rs ∙ sym (ap₂ (λ a b. a +ᵛ b) reward post);
+      weak = weak_sum ps p.post rs ∙ sym (ap₂ (λ a b. a +ᵛ b) post weight);
       turns = turns.turns;
       loops = turns.loops;
     }
-
--- Sums that are given are the totals of the list after the steps.
-sums_given : (o : Option (Cause × ℕ)) (q : Option Totals) (n : ℕ) (t : Totals) → stop_or o (sums_or n q) ≡ Unrolling.sums t → q ≡ Some t
-sums_given (Some stop) q n t e = absurd (cc)
-sums_given None (Some u) n t e = cc
-sums_given None None n t e = absurd (cc)
-
-pub unrolled_are : TotalsAreSums → (ps : List TypedProcedure) (p : ℕ) (script : List Decide) (n : ℕ) (c : Config) (t : Totals) → unrolled ps p script n (begun c) ≡ Unrolling.sums t → AreSums (procedure_at ps p) (runs ps n c (scripted ps script n 0 c)) t
-unrolled_are m ps p script n c t e =
-    subst (λ l. AreSums (procedure_at ps p) l t) (sym (lists_are_runs ps script n 0 c)) (m (procedure_at ps p) (after ps script n (begun c)) t (sums_given (first_stop ps script n (begun c)) (totals (procedure_at ps p) (after ps script n (begun c))) (n + 1) t e))

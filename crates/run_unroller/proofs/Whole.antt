@@ -1,18 +1,12 @@
--- The first list of runs, and the answer after its steps.
-use Rattle.std.proofs.Common.{◌≡◌, ℕ, ◌+◌, ap, sym, ◌∙◌, List, [], ◌∷◌}
+-- The answer after the steps of the first list of runs.
+use Rattle.std.proofs.Common.{◌≡◌, ℕ, ◌+◌, ap, sym, ◌∙◌, List}
 use Rattle.std.specs.Prelude.{None}
-use Rattle.heyvl_num.specs.Rational.{oneʳ}
 use Rattle.heyvl_acts.specs.Acts.{TypedProcedure, procedure_at}
 use Rattle.run_machine.specs.declared.configurations.Decide.{Decide}
-use Rattle.run_machine.specs.Names.{Stored, config_of}
 use Rattle.run_unroller.specs.Causes.{first_stop}
-use Rattle.run_unroller.specs.RunLists.{RunList, after, begun}
+use Rattle.run_unroller.specs.RunLists.{RunList, after}
 use Rattle.run_unroller.specs.Totals.{totals}
-use Rattle.run_unroller.specs.Unrolling.{Begins, Unrolling, stop_or, sums_or, unrolled}
-
--- No decision was asked for yet.
-pub is_begun : (ps : List TypedProcedure) (p : ℕ) (c : Stored) (rs : RunList) → Begins ps p c → rs ≡ (oneʳ, (config_of ps c, c.made)) ∷ [] → rs ≡ begun (config_of ps c)
-is_begun ps p c rs b e = e ∙ ap (λ m. (oneʳ, (config_of ps c, m)) ∷ []) b.made
+use Rattle.run_unroller.specs.Unrolling.{Unrolling, stop_or, sums_or, unrolled}
 
 -- Where no step is stopped, the answer is that of the adding.
 pub summed_answer : (ps : List TypedProcedure) (p : ℕ) (script : List Decide) (n : ℕ) (rs bs list : RunList) (u : Unrolling) → rs ≡ bs → first_stop ps script n rs ≡ None → list ≡ after ps script n rs → u ≡ sums_or (n + 1) (totals (procedure_at ps p) list) → u ≡ unrolled ps p script n bs

@@ -1,5 +1,5 @@
-use Rattle.run_unroller.proofs.Trees as trees
+use Rattle.run_unroller.proofs.ListsOfRuns as lists
 use Rattle.run_unroller.proofs.laws.lists_are_runs.Goals as goal
 
 pub returns : goal.returns
-returns c = λ ps script n k. trees.lists_are_runs ps script n 0 k
+returns c = lists.lists_are_runs

@@ -1,4 +1,4 @@
-use Rattle.run_unroller.proofs.SumsOfRuns as sums
+use Rattle.run_unroller.proofs.UnrolledSums as sums
 use Rattle.run_unroller.proofs.laws.unrolled_sums_are_meant.Goals as goal
 
 pub returns : goal.returns

@@ -1,42 +1,53 @@
-use Rattle.std.proofs.Common.{ap, sym, ◌∙◌, ◌++◌, subst, length, append-nil}
-use Rattle.std.specs.Vec.Iter.{into_iter_items}
-use Rattle.heyvl_num.specs.WeightedSums.{scaled}
+use Rattle.std.proofs.Common.{ap, ap₂, sym, subst, ◌∙◌}
+use Rattle.heyvl_num.specs.WeightedSums.{joined, scaled}
 use Rattle.heyvl_acts.specs.PlainActs.{procedures_of}
 use Rattle.heyvl_acts.specs.Rules.{Each}
 use Rattle.run_machine.specs.ConfigConditions.{HasRoom, IsConfig}
-use Rattle.run_machine.specs.Names.{items_of, stored}
+use Rattle.run_machine.specs.Names.{stored}
+use Rattle.run_machine.specs.SameStored.{same_stored}
 use Rattle.run_unroller.specs.Causes.{all_brought, brought, first_cause}
-use Rattle.run_unroller.specs.RunLists.{after_step, follow}
-use Rattle.run_unroller.specs.internal.RunViews.{runs_of}
+use Rattle.run_unroller.specs.MergedLists.{merged_onto}
+use Rattle.run_unroller.specs.RunLists.{follow}
 use Rattle.run_unroller.specs.internal.Extensions.{Extends}
-use Rattle.run_unroller.specs.internal.Growth.{AllWithin}
-use Rattle.run_unroller.proofs.Following.{brought_next, joined-none, run_at, runs_follow}
-use Rattle.run_unroller.proofs.Joining.{nothing_left}
+use Rattle.run_unroller.specs.internal.RunViews.{runs_of}
+use Rattle.run_unroller.proofs.Following.{joined_next, joined_none, onto_more, onto_none}
 use Rattle.run_unroller.proofs.lists.after_step.Goals as goal
 
-pub loop-run-preserved : goal.loop-run-preserved
-loop-run-preserved c =
+pub loop-config-init : goal.loop-config-init
+loop-config-init c =
     let ps = procedures_of c.args.typed.now in
-    let ds = c.args.script.now in
-    let zs = into_iter_items c.loop-run.run-iterator in
-    let ys = into_iter_items c.next.new.self in
-    let x = c.in-Some.run' in
-    let more = c.in-Some.ensures.steps.0 in
-    let joined = subst (λ o. Extends ps c.loop-run.next.items c.follow_run.new.next.items (brought ps ds (items_of ps x.1.items.items) x.0 (run_at ps x.1)) (scaled x.0 (follow ps ds (run_at ps x.1))) o) c.in_default.is c.in_ok-cause.ensures.joined in
+    let none = c.new-next.ensures in
+    let all = c.into_iter-config-iterator.ensures.into_iter_gives.0 in
     record {
-      causes = c.loop-run.invariant.causes ∙ ap (first_cause (length c.loop-run.next.items)) (brought_next ps ds zs x ys more) ∙ joined.0 (all_brought ps ds (runs_of ps ys));
-      list = c.loop-run.invariant.list ∙ runs_follow ps ds zs x ys c.loop-run.next.items c.follow_run.new.next.items more joined.1;
-      configs = (subst (Each (λ x. IsConfig ps (stored x.1))) more c.loop-run.invariant.configs).1;
-      rooms = (subst (Each (λ x. HasRoom (stored x.1))) more c.loop-run.invariant.rooms).1;
-      within = λ n all. let h = c.loop-run.invariant.within n all in let k = subst (AllWithin ps n) more h.1 in (c.in_ok-cause.ensures.within n h.0 k.0, k.1);
+      causes = ap₂ (λ es l. first_cause es (all_brought ps c.args.script.now (runs_of l))) (sym none) (sym all);
+      list = ap₂ (λ es l. merged_onto same_stored es (joined (follow ps c.args.script.now) (runs_of l))) (sym none) (sym all);
+      configs = subst (λ l. Each (λ x. IsConfig ps x.1) (runs_of l)) (sym all) c.requires.configs;
+      rooms = subst (λ l. Each (λ x. HasRoom x.1) (runs_of l)) (sym all) c.requires.rooms;
     }
 
-pub returns-clause-list : goal.returns-clause-list
-returns-clause-list c =
+pub loop-config-preserved : goal.loop-config-preserved
+loop-config-preserved c =
     let ps = procedures_of c.args.typed.now in
-    let ds = c.args.script.now in
-    let none = nothing_left _ (into_iter_items c.loop-run.run-iterator) c.loop-run.run-iterator.rest.ok.0 c.in-None.ensures.steps.0 in
-    (c.loop-run.invariant.causes ∙ ap (λ l. first_cause (length c.loop-run.next.items) (all_brought ps ds (runs_of ps l))) none, sym (c.loop-run.invariant.list ∙ ap (λ l. runs_of ps c.loop-run.next.items ++ after_step ps ds (runs_of ps l)) none ∙ ap (λ l. runs_of ps c.loop-run.next.items ++ l) (joined-none ps ds) ∙ append-nil _))
+    let script = c.args.script.now in
+    let now = runs_of c.loop-config.next.entries.entries in
+    let ys = runs_of c.next.new.self in
+    let w = c.in-Some.weight in
+    let one = stored c.in-Some.config in
+    let more = c.in-Some.ensures.steps in
+    let new = subst (λ o. Extends now (runs_of c.follow_run.new.next.entries.entries) (brought ps script one.items w one) (scaled w (follow ps script one)) o) c.in_default.is c.in_ok-cause.ensures in
+    record {
+      causes = c.loop-config.invariant.causes ∙ ap (λ l. first_cause now (all_brought ps script (runs_of l))) more ∙ new.0 (all_brought ps script ys);
+      list = c.loop-config.invariant.list ∙ ap (λ l. merged_onto same_stored now (joined (follow ps script) (runs_of l))) more ∙ ap (merged_onto same_stored now) (joined_next (follow ps script) (w, one) ys) ∙ onto_more same_stored now (scaled w (follow ps script one)) (joined (follow ps script) ys) ∙ ap (λ l. merged_onto same_stored l (joined (follow ps script) ys)) new.1;
+      configs = (subst (λ l. Each (λ x. IsConfig ps x.1) (runs_of l)) more c.loop-config.invariant.configs).1;
+      rooms = (subst (λ l. Each (λ x. HasRoom x.1) (runs_of l)) more c.loop-config.invariant.rooms).1;
+    }
 
-pub returns-clause-within : goal.returns-clause-within
-returns-clause-within c = λ n all. (c.loop-run.invariant.within n all).0
+pub returns : goal.returns
+returns c =
+    let ps = procedures_of c.args.typed.now in
+    let script = c.args.script.now in
+    let now = runs_of c.loop-config.next.entries.entries in
+    let none = c.in-None.ensures.steps.0 in (
+      c.loop-config.invariant.causes ∙ ap (λ l. first_cause now (all_brought ps script (runs_of l))) none,
+      sym (c.loop-config.invariant.list ∙ ap (λ l. merged_onto same_stored now (joined (follow ps script) (runs_of l))) none ∙ ap (merged_onto same_stored now) (joined_none (follow ps script)) ∙ onto_none same_stored now),
+    )

@@ -1,6 +1,6 @@
-use Rattle.run_unroller.specs.internal.RunViews.{runs_of}
+use Rattle.run_machine.specs.Replies.{stored_outcomes}
 use Rattle.run_unroller.proofs.Adding.{no_sum}
 use Rattle.run_unroller.proofs.turns.all_turns.Goals as goal
 
 pub returns-in-None : goal.returns-in-None
-returns-in-None c = λ ps. no_sum (runs_of ps c.args.runs.now) c.loop-index.turns.items c.loop-index.index c.args.loops (c.loop-index.invariant ps) (c.in-None.ensures ps) c.loop-index-test.true
+returns-in-None c = no_sum (stored_outcomes c.args.runs.now) c.loop-index.turns.items c.loop-index.index c.args.loops (c.loop-index.invariant) c.in-None.ensures c.loop-index-test.true

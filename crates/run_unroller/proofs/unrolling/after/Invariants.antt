@@ -9,7 +9,7 @@ use Rattle.run_unroller.proofs.unrolling.after.Given as goal
 -- No step up to now was stopped, and the list is that after them.
 abbrev pub invariant-loop-made : goal.invariant-loop-made
 invariant-loop-made l = record {
-  free : first_stop (procedures_of l.typed) l.script l.made (runs_of (procedures_of l.typed) l.fn.start.items) ≡ None;
-  list : runs_of (procedures_of l.typed) l.runs.items ≡ after (procedures_of l.typed) l.script l.made (runs_of (procedures_of l.typed) l.fn.start.items);
-  within : AllWithin (procedures_of l.typed) l.made l.runs.items;
+  free : first_stop (procedures_of l.typed) l.script l.made (runs_of l.fn.start.entries.entries) ≡ None;
+  list : runs_of l.runs.entries.entries ≡ after (procedures_of l.typed) l.script l.made (runs_of l.fn.start.entries.entries);
+  within : AllWithin (procedures_of l.typed) l.made (runs_of l.runs.entries.entries);
 }
