@@ -1,4 +1,5 @@
 mod Walking
 mod Telling
+mod Signless
 mod Examples
 pub mod exported

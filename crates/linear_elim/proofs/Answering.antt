@@ -79,3 +79,20 @@ limited_answer rows vars (Point point) h s = h
 limited_answer rows vars (Fraction b) h s = h
 limited_answer rows vars (Rows steps count) h s = (h, s)
 limited_answer rows vars Bits h s = (h, s)
+
+-- ---- Where both eliminations end in the same way
+
+pub same_in : (rows : List Row) (vars : List Ty) (order : List ℕ) → order ≡ order_of rows (length vars) → elimination_by drops order rows ≡ elimination_by keeps order rows → eliminated_by drops rows vars ≡ eliminated rows vars
+same_in rows vars order e h = subst (λ xs. elimination_by drops xs rows ≡ elimination_by keeps xs rows) e h
+
+great_too : (rows : List Row) (vars : List Ty) → eliminated_by drops rows vars ≡ eliminated rows vars → IsTooGreatBy keeps rows vars → IsTooGreatBy drops rows vars
+great_too rows vars s (IsTooGreatBy.in_a_step e) = IsTooGreatBy.in_a_step (s ∙ e)
+great_too rows vars s (IsTooGreatBy.in_a_sum c e n) = IsTooGreatBy.in_a_sum c (s ∙ e) n
+great_too rows vars s (IsTooGreatBy.in_a_choice steps e h) = IsTooGreatBy.in_a_choice steps (s ∙ e) h
+
+pub same_answer : (rows : List Row) (vars : List Ty) (e : Elim) → IsPlainAnswer rows vars e → eliminated_by drops rows vars ≡ eliminated rows vars → IsAnswer rows vars e
+same_answer rows vars (NoSolution ms) h s = h
+same_answer rows vars (Point point) h s = h
+same_answer rows vars (Fraction b) h s = h
+same_answer rows vars (Rows steps count) h s = (h, IsShortLimited.many steps count (s ∙ h))
+same_answer rows vars Bits h s = (h, IsShortLimited.great (great_too rows vars s h))

@@ -16,10 +16,12 @@ use Rattle.linear_elim.specs.Steps.{is_stronger, put_row, has_terms, joins, pair
 use Rattle.linear_elim.specs.Elimination.{Step}
 use Rattle.linear_elim.specs.declared.tables.Name.{Name}
 use Rattle.linear_elim.specs.declared.tables.Table.{Table}
-use Rattle.linear_elim.specs.internal.Counting.{put_terms, puts, all_terms, terms_of, AreDifferent, no_row, nth, join_at, terms_at, home, print_of, no_name, print_at, name_at, IsSplit, IsNumberOf, IsFull, IsAt, AreAt, IsTable, IsOther, IsFree, IsTaken, IsCounting, Puts, Counts}
+use Rattle.linear_elim.specs.internal.Counting.{put_terms, puts, all_terms, terms_of, AreDifferent, no_row, nth, join_at, terms_at, home, print_of, no_name, print_at, name_at, IsSplit, IsNumberOf, IsFull, IsAt, AreAt, IsTable, IsOther, IsFree, IsTaken, IsCounting, Puts, Lacks, Counts}
 use Rattle.linear_elim.specs.internal.DerivedRows.{IsDerived}
 use Rattle.linear_elim.specs.internal.Fingerprints.{hashed_all, fingerprint}
 use Rattle.linear_elim.specs.internal.Gathering.{found_after, rows_after, rows_all}
+use Rattle.linear_elim.specs.internal.Signless.{sign_terms, AreSignless}
+use Rattle.linear_elim.proofs.Solutions.{all_map-out}
 use Rattle.linear_rows.proofs.exported.SameTerms.{same_terms-is}
 
 same_var : (n : ℕ) → eqb n n ≡ true
@@ -174,6 +176,21 @@ nowhere f table t s p h k a = go (same_terms k t) refl
     go : (b : Bool) → same_terms k t ≡ b → b ≡ false
     go true e = absurd (clash f table t s p h (subst (IsAt f table.places table.prints.items table.names.items) (same_terms-is k t e) a))
     go false e = refl
+
+-- Where the first empty place for a fingerprint is, with no such print before it, the table lacks all terms that have it.
+pub lacks_at : (f : Name → List (ℕ × ℤ)) (table : Table) (t : List (ℕ × ℤ)) (ps : List ℕ) (ns : List Name) (s h n : ℕ) → n ≡ fingerprint t → ps ≡ table.prints.items → ns ≡ table.names.items → h ≡ home table.places n → h ≤ s → s < length ps → s < length ns → print_at ps s ≡ 0 → ((j : ℕ) → home table.places n ≤ j → j < s → IsFull ps j × (print_at ps j ≡ print_of n → ⊥)) → Lacks f table t
+lacks_at f table t ps ns s h n e p q g l w m z b =
+    let i = subst (λ k. (j : ℕ) → home table.places k ≤ j → j < s → IsFull table.prints.items j × (print_at table.prints.items j ≡ print_of k → ⊥)) e (subst (λ xs. (j : ℕ) → home table.places n ≤ j → j < s → IsFull xs j × (print_at xs j ≡ print_of n → ⊥)) p b) in
+    let r : IsFree f table t s (print_of (fingerprint t)) = record { within = subst (λ xs. s < length xs) p w; named = subst (λ xs. s < length xs) q m; empty = subst (λ xs. print_at xs s ≡ 0) p z; from = subst (λ k. k ≤ s) (g ∙ ap (home table.places) e) l; before = λ j u v. ((i j u v).0, λ x y. (i j u v).1 x); is_print = refl } in
+    λ seen k. All-weaker (IsAt f table.places table.prints.items table.names.items) (λ k. same_terms k t ≡ false) (nowhere f table t s (print_of (fingerprint t)) r) seen k.complete
+
+-- What rows lack that a table counts.
+pub rows_lack : (f : Name → List (ℕ × ℤ)) (old new : Table) (ds ks : List Derived) (xs : List ℕ) → AreDifferent ks → IsTable f old (puts (all_terms ks) []) → Counts f old new ds → All (λ x. Lacks f new (sign_terms x)) xs → AreSignless xs (rows_all ds ks)
+unfolding terms_of puts
+rows_lack f old new ds ks xs e t k l =
+    let h = k [] (puts (terms_of ds) (puts (all_terms ks) [])) (record { seen = puts (all_terms ks) []; is_table = t; whole = ap (λ vs. puts (terms_of vs) (puts (all_terms ks) [])) (append-nil ds) }) in
+    let w = h.whole ∙ ap (puts (terms_of ds)) e ∙ sym (rows_terms ds ks) in
+    All-weaker (λ x. Lacks f new (sign_terms x)) (λ x. All (λ r. same_terms r.row.terms (sign_terms x) ≡ false) (rows_all ds ks)) (λ x m. all_map-out (λ u. same_terms u (sign_terms x) ≡ false) (λ (d : Derived). d.row.terms) (rows_all ds ks) (subst (All (λ u. same_terms u (sign_terms x) ≡ false)) w (m h.seen h.is_table))) xs l
 
 not_zero : (p n : ℕ) → p ≡ print_of n → p ≡ 0 → ⊥
 not_zero p n e h = omega (arith, e, h)

@@ -4,10 +4,9 @@ use Rattle.std.specs.Prelude.{Option, Some, None, Result, Ok, Err, IfOk}
 use Rattle.std.proofs.lemmas.Bool.Decides.{nat_tests}
 use Prim.Native.Nat.{suc}
 use Rattle.linear_elim.specs.Joins.{Derived}
-use Rattle.linear_elim.specs.Steps.{step_fits, eliminate_one, tidied, contradiction}
+use Rattle.linear_elim.specs.Steps.{step_fits, eliminate_one, contradiction}
 use Rattle.linear_elim.specs.Elimination.{Step, Gathered, Outcome, Rule, tidied_by, gathered, step_of, after_step, ended_by, unless_many, run}
 use Rattle.linear_elim.specs.internal.Gathering.{after_all}
-use Rattle.linear_elim.specs.Elimination.Rule.{keeps}
 use Rattle.linear_elim.specs.Elimination.Outcome.{refuted, standing, too_many, too_great}
 
 all_refuted : (ss : List Step) (c : Derived) → after_all ss (refuted c) ≡ refuted c
@@ -73,15 +72,15 @@ goes_on rule ss now n xs ys x g h s k m e a l f t p q r =
     next : (n : ℕ) → n + 1 ≡ suc n
     next n = omega arith
 
-found_next : (ss : List Step) (n : ℕ) (xs ys : List ℕ) (x : ℕ) (g : Gathered) (k : ℕ) (c : Derived) → xs ≡ x ∷ ys → g.found ≡ None → k ≡ length g.rows → k ≤ 4096 → true ≡ step_fits x g.rows → Some c ≡ contradiction (eliminate_one x g.rows) → refuted c ≡ after_all ss (run keeps n xs g)
-found_next ss n xs ys x g k c m e a l f h = ends_found keeps (ss ++ step_of x g.rows ∷ []) (n + 1) ys (gathered keeps (eliminate_one x g.rows)) c (sym h) ∙ goes_on keeps ss (ss ++ step_of x g.rows ∷ []) n xs ys x g (gathered keeps (eliminate_one x g.rows)) (step_of x g.rows) k m e a l f refl refl refl refl
+pub found_next : (rule : Rule) (ss : List Step) (n : ℕ) (xs ys : List ℕ) (x : ℕ) (g : Gathered) (k : ℕ) (c : Derived) → xs ≡ x ∷ ys → g.found ≡ None → k ≡ length g.rows → k ≤ 4096 → true ≡ step_fits x g.rows → Some c ≡ contradiction (eliminate_one x g.rows) → refuted c ≡ after_all ss (run rule n xs g)
+found_next rule ss n xs ys x g k c m e a l f h = ends_found rule (ss ++ step_of x g.rows ∷ []) (n + 1) ys (gathered rule (eliminate_one x g.rows)) c (sym h) ∙ goes_on rule ss (ss ++ step_of x g.rows ∷ []) n xs ys x g (gathered rule (eliminate_one x g.rows)) (step_of x g.rows) k m e a l f refl refl refl refl
 
-many_next : (ss : List Step) (n : ℕ) (xs ys : List ℕ) (x : ℕ) (g : Gathered) (k c : ℕ) → xs ≡ x ∷ ys → g.found ≡ None → k ≡ length g.rows → k ≤ 4096 → true ≡ step_fits x g.rows → None ≡ contradiction (eliminate_one x g.rows) → c ≡ length (tidied (eliminate_one x g.rows)) → 4096 < c → too_many (n + 1) c ≡ after_all ss (run keeps n xs g)
-many_next ss n xs ys x g k c m e a l f h i j = ends_many keeps (ss ++ step_of x g.rows ∷ []) (n + 1) ys (gathered keeps (eliminate_one x g.rows)) c (sym h) i j ∙ goes_on keeps ss (ss ++ step_of x g.rows ∷ []) n xs ys x g (gathered keeps (eliminate_one x g.rows)) (step_of x g.rows) k m e a l f refl refl refl refl
+pub many_next : (rule : Rule) (ss : List Step) (n : ℕ) (xs ys : List ℕ) (x : ℕ) (g : Gathered) (k c : ℕ) → xs ≡ x ∷ ys → g.found ≡ None → k ≡ length g.rows → k ≤ 4096 → true ≡ step_fits x g.rows → None ≡ contradiction (eliminate_one x g.rows) → c ≡ length (tidied_by rule (eliminate_one x g.rows)) → 4096 < c → too_many (n + 1) c ≡ after_all ss (run rule n xs g)
+many_next rule ss n xs ys x g k c m e a l f h i j = ends_many rule (ss ++ step_of x g.rows ∷ []) (n + 1) ys (gathered rule (eliminate_one x g.rows)) c (sym h) i j ∙ goes_on rule ss (ss ++ step_of x g.rows ∷ []) n xs ys x g (gathered rule (eliminate_one x g.rows)) (step_of x g.rows) k m e a l f refl refl refl refl
 
-pub ends_next : (ss : List Step) (n : ℕ) (xs ys : List ℕ) (x : ℕ) (g : Gathered) (k c : ℕ) (o : Option Derived) (r : Outcome) → xs ≡ x ∷ ys → g.found ≡ None → k ≡ length g.rows → k ≤ 4096 → (true ≡ step_fits x g.rows) × (o ≡ contradiction (eliminate_one x g.rows)) × (c ≡ length (tidied (eliminate_one x g.rows))) × (4096 < c) → ((d : Derived) → o ≡ Some d → r ≡ refuted d) → (o ≡ None → r ≡ too_many (n + 1) c) → r ≡ after_all ss (run keeps n xs g)
-ends_next ss n xs ys x g k c None r m e a l h f t = t refl ∙ many_next ss n xs ys x g k c m e a l h.0 h.1 h.2 h.3
-ends_next ss n xs ys x g k c (Some d) r m e a l h f t = f d refl ∙ found_next ss n xs ys x g k d m e a l h.0 h.1
+pub ends_next : (rule : Rule) (ss : List Step) (n : ℕ) (xs ys : List ℕ) (x : ℕ) (g : Gathered) (k c : ℕ) (o : Option Derived) (r : Outcome) → xs ≡ x ∷ ys → g.found ≡ None → k ≡ length g.rows → k ≤ 4096 → (true ≡ step_fits x g.rows) × (o ≡ contradiction (eliminate_one x g.rows)) × (c ≡ length (tidied_by rule (eliminate_one x g.rows))) × (4096 < c) → ((d : Derived) → o ≡ Some d → r ≡ refuted d) → (o ≡ None → r ≡ too_many (n + 1) c) → r ≡ after_all ss (run rule n xs g)
+ends_next rule ss n xs ys x g k c None r m e a l h f t = t refl ∙ many_next rule ss n xs ys x g k c m e a l h.0 h.1 h.2 h.3
+ends_next rule ss n xs ys x g k c (Some d) r m e a l h f t = f d refl ∙ found_next rule ss n xs ys x g k d m e a l h.0 h.1
 
 pub none_left : (xs : List ℕ) → length xs ≡ 0 → xs ≡ []
 none_left [] e = refl

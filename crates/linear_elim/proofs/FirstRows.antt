@@ -19,7 +19,7 @@ use Rattle.linear_elim.specs.internal.Outcomes.{outcome_of, Decided}
 use Rattle.linear_elim.specs.declared.elimination.Outcome.{Outcome}
 use Rattle.linear_elim.specs.declared.elimination.Outcome.TheVariants.{Refuted, Standing, TooMany, TooGreat}
 use Rattle.linear_elim.proofs.Joining.{found_none, rows_none, rest_end}
-use Rattle.linear_elim.proofs.Deciding.{complete, refuted-follows}
+use Rattle.linear_elim.proofs.Deciding.{complete, refuted-follows, start-all}
 use Rattle.linear_elim.proofs.Certificates.{refuted_unmet}
 use Rattle.linear_elim.proofs.Ruling.{ruled-all}
 
@@ -53,6 +53,9 @@ start-derived k (r ∷ rs) h = All-cons IsDerived (own k r) (start (suc k) rs) (
 
 pub first-derived : (rule : Rule) (rows : List Row) → All IsRow rows → All IsDerived (tidied_by rule (start 0 rows))
 first-derived rule rows h = ruled-all rule IsDerived (start 0 rows) (start-derived 0 rows h)
+
+pub first_over : (order : List ℕ) (rows : List Row) → All (λ r. IsOver order r.terms) rows → All (λ r. IsOver order r.row.terms) (tidied (start 0 rows))
+first_over order rows h = ruled-all keeps (λ r. IsOver order r.row.terms) (start 0 rows) (start-all (λ r. IsOver order r.terms) (λ r. IsOver order r.row.terms) (λ d p. p) 0 rows h)
 
 pub decided : (order : List ℕ) (rows : List Row) (o : Outcome) → All IsRow rows → All (λ r. IsOver order r.terms) rows → outcome_of o ≡ elimination order rows → Decided rows o
 decided order rows (Refuted c) h k e = λ s. let f = refuted-follows keeps order rows c (sym e) in refuted_unmet rows c f.0 f.1 ((solvable_is rows).0 s)

@@ -4,6 +4,7 @@ pub mod Tidying
 pub mod Ruling
 pub mod LeftRows
 pub mod ShortRuns
+pub mod SameRuns
 pub mod Shapes
 pub mod Shares
 pub mod Deciding

@@ -11,4 +11,5 @@ pub mod DerivedRows
 pub mod Places
 pub mod Counting
 pub mod Afters
+pub mod Signless
 pub mod SmallRows

@@ -3,7 +3,7 @@ ghost use Rattle.std.specs.Prelude.{◌≡◌, ◌<◌, ◌∷◌, ◌++◌, [],
 ghost use Rattle.std.specs.List.{All};
 ghost use Rattle.linear_elim.specs.Joins.{join_fits};
 ghost use Rattle.linear_elim.specs.Steps.{fits_each, pairs_fit, joins, pairs};
-ghost use Rattle.linear_elim.specs.internal.Counting.{nth, terms_at, puts, all_terms, join_at, AreDifferent, IsSplit, IsNumberOf, AreNumbersOf, IsTable, IsCounted, Puts, Counts};
+ghost use Rattle.linear_elim.specs.internal.Counting.{nth, terms_at, puts, all_terms, join_at, AreDifferent, IsSplit, IsNumberOf, AreNumbersOf, IsTable, IsCounted, IsSignlessCount, Puts, Counts};
 ghost use Rattle.linear_elim.specs.internal.Fingerprints.{fingerprint};
 ghost use Rattle.linear_elim.specs.internal.Gathering.{found_after, found_all};
 ghost use Rattle.linear_elim.specs.internal.SmallRows.{IsSmall};
@@ -14,14 +14,14 @@ use crate::join_numbers::join_number;
 use crate::joins::{Derived, joined};
 use crate::small_joins::both_small;
 use crate::steps::Step;
-use crate::tables::{Name, Table, put};
+use crate::tables::{Name, Table, lacks_signs, put};
 use std::alloc::{AllocError, Global};
 
-/// What is known of the joins of a step once they are counted: that one doesn't fit; or the first contradiction, and how many
-/// rows there are with those that are kept; or nothing.
+/// What is known of the joins of a step once they are counted: that one doesn't fit; or the first contradiction, how many
+/// rows there are with those that are kept, and whether surely none of these has the terms of `-x <= 0`; or nothing.
 pub(crate) enum Counted {
     Great,
-    Rows(Option<Derived>, usize),
+    Rows(Option<Derived>, usize, bool),
     Uncounted,
 }
 
@@ -256,15 +256,18 @@ fn count_all(
     Ok(Some(true))
 }
 
-/// Counts the joins of a step's lower rows with its upper ones, together with the rows that are kept.
+/// Counts the joins of a step's lower rows with its upper ones, together with the rows that are kept. Whether a row has the terms
+/// of `-x <= 0` is asked for the variables that come later.
 pub(crate) fn count_rows(
     alloc: Global,
     step: &Step,
     kept: &[Derived],
+    later: &[u32],
 ) -> Result<Counted, AllocError>
     requires split { IsSplit step.now }
     requires different { AreDifferent kept.now }
-    ensures { IfOk result (λ o. IsCounted step.now.var step.now.lows step.now.ups kept.now o) }
+    ensures counted { IfOk result (λ o. IsCounted step.now.var step.now.lows step.now.ups kept.now o) }
+    ensures signless { IfOk result (λ o. IsSignlessCount later.now step.now.var step.now.lows step.now.ups kept.now o) }
 {
     let lows: &[Derived] = &step.lows;
     let ups: &[Derived] = &step.ups;
@@ -278,7 +281,8 @@ pub(crate) fn count_rows(
     match count_all(alloc, step, kept, small, &mut out)? {
         Some(true) => {
             let Counting { found, table } = out;
-            Ok(Counted::Rows(found, table.count))
+            let signless = lacks_signs(&table, later);
+            Ok(Counted::Rows(found, table.count, signless))
         }
         Some(false) => Ok(Counted::Great),
         None => Ok(Counted::Uncounted),

@@ -1,16 +1,18 @@
 //! The elimination of all variables of some rows.
 
-ghost use Rattle.std.specs.Prelude.{◌≡◌, ◌<◌, ◌^◌, length, None, IfOk, IfSome};
+ghost use Rattle.std.specs.Prelude.{◌≡◌, ◌<◌, ◌^◌, length, true, None, IfOk, IfSome};
 ghost use Rattle.std.specs.List.{All};
 ghost use Rattle.linear_rows.specs.Row.{IsRow};
 ghost use Rattle.linear_rows.specs.VariableOrder.{order_of};
 ghost use Rattle.linear_rows.specs.VariableTypes.{IsNumericRow};
-ghost use Rattle.linear_elim.specs.Answers.{IsShortLimited, IsAnswer, Settles};
+ghost use Rattle.linear_elim.specs.Answers.{eliminated, eliminated_by, IsShortLimited, IsAnswer, Settles};
+ghost use Rattle.linear_elim.specs.Elimination.Rule.{drops};
 ghost use Rattle.linear_elim.specs.internal.Limits.{IsPlainAnswer};
+ghost use Rattle.linear_elim.specs.internal.Outcomes.{outcome_of};
 
 use crate::answers::Elim;
 use crate::choosing::{Choice, greedy};
-use crate::elimination::Outcome;
+use crate::elimination::{Outcome, Run};
 use crate::ordering::elimination_order;
 use crate::refuting::refutation;
 use crate::short_runs::{Short, short_steps};
@@ -19,16 +21,16 @@ use heylo_formula::Ty;
 use linear_rows::Row;
 use std::alloc::{AllocError, Global};
 
-/// What the plain elimination in this order answers.
-fn plain_answer(alloc: Global, rows: &[Row], vars: &[Ty], order: &[u32]) -> Result<Elim, AllocError>
+/// What the plain elimination answers where this is its end.
+fn plain_answer(alloc: Global, rows: &[Row], vars: &[Ty], end: Outcome) -> Result<Elim, AllocError>
     requires rows { All IsRow rows.now }
     requires numeric { All (IsNumericRow vars.now) rows.now }
     requires few { length rows.now < 2 ^ 32 }
     requires few_variables { length vars.now < 2 ^ 32 }
-    requires order { order.now ≡ order_of rows.now (length vars.now) }
+    requires end { outcome_of end ≡ eliminated rows.now vars.now }
     ensures { IfOk result (λ e. IsPlainAnswer rows.now vars.now e) }
 {
-    match contradiction_or_steps(alloc, rows, order)? {
+    match end {
         Outcome::Refuted(contradiction) => match refutation(alloc, rows, &contradiction)? {
             Some(multipliers) => Ok(Elim::NoSolution(multipliers)),
             None => Ok(Elim::Bits),
@@ -72,12 +74,13 @@ fn short_answer(
     }
 }
 
-/// The answer of the elimination without dominated rows, or, where it meets a limit, the plain elimination's.
+/// The answer of the elimination without dominated rows, or, where it meets a limit or is the same, the plain elimination's.
 fn unless_short(
     alloc: Global,
     rows: &[Row],
     vars: &[Ty],
     order: &[u32],
+    same: bool,
     plain: Elim,
 ) -> Result<Elim, AllocError>
     requires rows { All IsRow rows.now }
@@ -85,16 +88,21 @@ fn unless_short(
     requires few { length rows.now < 2 ^ 32 }
     requires few_variables { length vars.now < 2 ^ 32 }
     requires order { order.now ≡ order_of rows.now (length vars.now) }
+    requires same { same ≡ true → eliminated_by drops rows.now vars.now ≡ eliminated rows.now vars.now }
     requires plain { IsPlainAnswer rows.now vars.now plain }
     ensures { IfOk result (λ e. IsAnswer rows.now vars.now e) }
 {
+    if same {
+        return Ok(plain);
+    }
     match short_answer(alloc, rows, vars, order)? {
         Some(found) => Ok(found),
         None => Ok(plain),
     }
 }
 
-/// Eliminates the variables of rows in this order, and once more without dominated rows where a limit is met.
+/// Eliminates the variables of rows in this order, and once more without dominated rows where a limit is met and that isn't surely
+/// the same.
 fn eliminate_in(alloc: Global, rows: &[Row], vars: &[Ty], order: &[u32]) -> Result<Elim, AllocError>
     requires rows { All IsRow rows.now }
     requires numeric { All (IsNumericRow vars.now) rows.now }
@@ -103,14 +111,15 @@ fn eliminate_in(alloc: Global, rows: &[Row], vars: &[Ty], order: &[u32]) -> Resu
     requires order { order.now ≡ order_of rows.now (length vars.now) }
     ensures { IfOk result (λ e. IsAnswer rows.now vars.now e) }
 {
-    match plain_answer(alloc, rows, vars, order)? {
+    let Run { end, same } = contradiction_or_steps(alloc, rows, order)?;
+    match plain_answer(alloc, rows, vars, end)? {
         Elim::NoSolution(multipliers) => Ok(Elim::NoSolution(multipliers)),
         Elim::Point(point) => Ok(Elim::Point(point)),
         Elim::Fraction(broken) => Ok(Elim::Fraction(broken)),
         Elim::Rows(steps, count) => {
-            unless_short(alloc, rows, vars, order, Elim::Rows(steps, count))
+            unless_short(alloc, rows, vars, order, same, Elim::Rows(steps, count))
         }
-        Elim::Bits => unless_short(alloc, rows, vars, order, Elim::Bits),
+        Elim::Bits => unless_short(alloc, rows, vars, order, same, Elim::Bits),
     }
 }
 

@@ -1,5 +1,5 @@
 //! The whole elimination, one variable after the other.
-ghost use Rattle.std.specs.Prelude.{◌≡◌, ◌<◌, ◌+◌, ◌^◌, ℕ, length, Some, IfOk};
+ghost use Rattle.std.specs.Prelude.{◌≡◌, ◌<◌, ◌+◌, ◌^◌, ◌&&◌, ℕ, length, true, Some, IfOk};
 ghost use Rattle.std.specs.List.{All};
 ghost use Rattle.linear_elim.specs.internal.DerivedRows.{IsDerived};
 ghost use Rattle.linear_elim.specs.Elimination.{run};
@@ -7,10 +7,12 @@ ghost use Rattle.linear_elim.specs.Elimination.Rule.{keeps};
 ghost use Rattle.linear_elim.specs.Elimination.Outcome.{refuted, too_many};
 ghost use Rattle.linear_elim.specs.Joins.{Derived as DerivedValue};
 ghost use Rattle.linear_elim.specs.internal.Gathering.{after_all};
-ghost use Rattle.linear_elim.specs.internal.Outcomes.{outcome_of, gathering_of};
+ghost use Rattle.linear_elim.specs.internal.Outcomes.{outcome_of, gathering_of, IsSameShort};
+ghost use Rattle.linear_rows.specs.Terms.{IsOver};
 
 use crate::gathering::Gathering;
 use crate::joins::Derived;
+use crate::shortening::lack_signs;
 use crate::steps::{After, Step, eliminate_one};
 use std::alloc::{AllocError, Global};
 
@@ -22,6 +24,19 @@ pub enum Outcome {
     Standing(Vec<Step>),
     TooMany(usize, usize),
     TooGreat,
+}
+
+/// An elimination: how it ends, and whether it surely ends so without dominated rows too.
+#[derive(Drop)]
+pub struct Run {
+    pub end: Outcome,
+    pub same: bool,
+}
+
+fn both(a: bool, b: bool) -> bool
+    ensures { result ≡ (a && b) }
+{
+    a && b
 }
 
 /// How an elimination ends after so many steps where more than 4,096 rows are left, and this first contradiction is among them.
@@ -42,10 +57,12 @@ pub fn eliminate_from(
     done: usize,
     mut steps: Vec<Step>,
     now: Gathering,
-) -> Result<Outcome, AllocError>
+) -> Result<Run, AllocError>
     requires derived { All IsDerived now.rows.items }
+    requires over { All (λ r. IsOver order.now r.row.terms) now.rows.items }
     requires few { done + length order.now < 2 ^ 63 }
-    ensures { IfOk result (λ o. outcome_of o ≡ after_all steps.items (run keeps done order.now (gathering_of now))) }
+    ensures end { IfOk result (λ r. outcome_of r.end ≡ after_all steps.items (run keeps done order.now (gathering_of now))) }
+    ensures same { IfOk result (λ r. r.same ≡ true → IsSameShort order.now now) }
 {
     let Gathering {
         found,
@@ -54,21 +71,41 @@ pub fn eliminate_from(
     } = now;
     drop(places);
     if let Some(contradiction) = found {
-        return Ok(Outcome::Refuted(contradiction));
+        return Ok(Run {
+            end: Outcome::Refuted(contradiction),
+            same: true,
+        });
     }
+    let signless = lack_signs(&rows);
     let count = rows.len();
     if count > 4096 {
-        return Ok(Outcome::TooMany(done, count));
+        return Ok(Run {
+            end: Outcome::TooMany(done, count),
+            same: signless,
+        });
     }
     let Some((&x, rest)) = order.split_first() else {
-        return Ok(Outcome::Standing(steps));
+        return Ok(Run {
+            end: Outcome::Standing(steps),
+            same: signless,
+        });
     };
-    match eliminate_one(alloc, rows, x, true)? {
-        After::Great => Ok(Outcome::TooGreat),
-        After::Many(found, count) => Ok(ended(found, done + 1, count)),
+    match eliminate_one(alloc, rows, x, rest, false)? {
+        After::Great => Ok(Run {
+            end: Outcome::TooGreat,
+            same: signless,
+        }),
+        After::Many(found, count, signless_after) => Ok(Run {
+            end: ended(found, done + 1, count),
+            same: both(signless, signless_after),
+        }),
         After::Few(step, next) => {
             steps.push(step)?;
-            eliminate_from(alloc, rest, done + 1, steps, next)
+            let Run { end, same } = eliminate_from(alloc, rest, done + 1, steps, next)?;
+            Ok(Run {
+                end,
+                same: both(signless, same),
+            })
         }
     }
 }

@@ -22,7 +22,7 @@ struct Sum {
 }
 
 /// A number once a term is hashed into it, unless it is 0.
-fn with_term(number: u64, v: u32, c: i64) -> u64
+pub(crate) fn with_term(number: u64, v: u32, c: i64) -> u64
     ensures { result ≡ hashed_all number (put_term v c []) }
 {
     if c == 0 {

@@ -1,13 +1,16 @@
 //! The elimination in which dominated rows are left out.
-ghost use Rattle.std.specs.Prelude.{◌≡◌, ◌<◌, ◌^◌, ℕ, length, IfOk};
+ghost use Rattle.std.specs.Prelude.{◌≡◌, ◌<◌, ◌^◌, ℕ, length, Some, None, IfOk};
 ghost use Rattle.std.specs.List.{All};
 ghost use Rattle.linear_rows.specs.Row.{IsRow};
+ghost use Rattle.linear_rows.specs.Terms.{IsOver};
 ghost use Rattle.linear_elim.specs.Steps.{undominated};
-ghost use Rattle.linear_elim.specs.Elimination.{run, elimination_by};
+ghost use Rattle.linear_elim.specs.Joins.{Derived as DerivedValue};
+ghost use Rattle.linear_elim.specs.Elimination.{run, Outcome, elimination_by};
+ghost use Rattle.linear_elim.specs.Elimination.Outcome.{refuted};
 ghost use Rattle.linear_elim.specs.Elimination.Rule.{drops};
 ghost use Rattle.linear_elim.specs.internal.DerivedRows.{IsDerived};
 ghost use Rattle.linear_elim.specs.internal.Gathering.{after_all};
-ghost use Rattle.linear_elim.specs.internal.Outcomes.{short_gathering, IsShort};
+ghost use Rattle.linear_elim.specs.internal.Outcomes.{short_gathering, IsLimited, IsShort};
 
 use crate::gathering::Gathering;
 use crate::joins::Derived;
@@ -25,6 +28,17 @@ pub enum Short {
     Limited,
 }
 
+/// How an elimination ends where more than 4,096 rows are left, and this first contradiction is among them.
+fn ended(found: Option<Derived>) -> Short
+    ensures found { (c : DerivedValue) (o : Outcome) → found ≡ Some c → refuted c ≡ o → IsShort result o }
+    ensures many { (o : Outcome) → found ≡ None → IsLimited o → IsShort result o }
+{
+    match found {
+        Some(contradiction) => Short::Refuted(contradiction),
+        None => Short::Limited,
+    }
+}
+
 /// Eliminates the variables in order, after these steps. Dominated rows are left out before each step.
 fn shorten_from(
     alloc: Global,
@@ -32,7 +46,8 @@ fn shorten_from(
     mut steps: Vec<Step>,
     now: Gathering,
 ) -> Result<Short, AllocError>
-    requires { All IsDerived now.rows.items }
+    requires derived { All IsDerived now.rows.items }
+    requires over { All (λ r. IsOver order.now r.row.terms) now.rows.items }
     ensures { IfOk result (λ o. (n : ℕ) → IsShort o (after_all steps.items (run drops n order.now (short_gathering now)))) }
 {
     let Gathering {
@@ -50,9 +65,9 @@ fn shorten_from(
     let Some((&x, rest)) = order.split_first() else {
         return Ok(Short::Standing(steps));
     };
-    match eliminate_one(alloc, rows, x, false)? {
+    match eliminate_one(alloc, rows, x, rest, true)? {
         After::Great => Ok(Short::Limited),
-        After::Many(_, _) => Ok(Short::Limited),
+        After::Many(found, _, _) => Ok(ended(found)),
         After::Few(step, next) => {
             steps.push(step)?;
             shorten_from(alloc, rest, steps, next)
@@ -64,6 +79,7 @@ fn shorten_from(
 pub fn short_steps(alloc: Global, rows: &[Row], order: &[u32]) -> Result<Short, AllocError>
     requires rows { All IsRow rows.now }
     requires few { length rows.now < 2 ^ 32 }
+    requires over { All (λ r. IsOver order.now r.terms) rows.now }
     ensures { IfOk result (λ o. IsShort o (elimination_by drops order.now rows.now)) }
 {
     let start = first_rows(alloc, rows)?;

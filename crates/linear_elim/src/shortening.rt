@@ -1,5 +1,5 @@
 //! The rows that no other one dominates.
-ghost use Rattle.std.specs.Prelude.{◌≡◌, ◌<◌, ◌≤◌, map, not, cond, length, Some, None, IfOk, IfSome};
+ghost use Rattle.std.specs.Prelude.{◌≡◌, ◌<◌, ◌≤◌, [], map, not, cond, true, length, Some, None, IfOk, IfSome};
 ghost use Rattle.std.specs.List.{All, list_any};
 ghost use Rattle.linear_dominance.specs.Dominated.{first_variable, is_sign_row, signed_variables, dominates, is_dominated};
 ghost use Rattle.linear_elim.specs.Steps.{bare, undominated};
@@ -28,6 +28,18 @@ fn signs_among(alloc: Global, rows: &[Derived]) -> Result<Vec<u32>, AllocError>
         }
     }
     Ok(signed)
+}
+
+/// Whether no row is `-x <= 0` for some variable.
+pub(crate) fn lack_signs(rows: &[Derived]) -> bool
+    ensures { result ≡ true → signed_variables (bare rows.now) ≡ [] }
+{
+    for i in 0..rows.len() {
+        if sign_in(&rows[i]).is_some() {
+            return false;
+        }
+    }
+    true
 }
 
 /// Whether the first row dominates the second.

@@ -1,13 +1,14 @@
 //! The first rows, and the elimination as a whole.
-ghost use Rattle.std.specs.Prelude.{◌≡◌, ◌<◌, ◌^◌, ◌∷◌, [], ℕ, ℤ, pos, length, IfOk};
+ghost use Rattle.std.specs.Prelude.{◌≡◌, ◌<◌, ◌^◌, ◌∷◌, [], ℕ, ℤ, pos, true, length, IfOk};
 ghost use Rattle.std.specs.List.{All};
 ghost use Rattle.linear_rows.specs.Terms.{IsOver};
 ghost use Rattle.linear_rows.specs.Row.{IsRow};
 ghost use Rattle.linear_elim.specs.Steps.{contradiction, tidied};
-ghost use Rattle.linear_elim.specs.Elimination.{start, elimination, own};
+ghost use Rattle.linear_elim.specs.Elimination.{start, elimination, elimination_by, own};
+ghost use Rattle.linear_elim.specs.Elimination.Rule.{drops};
 ghost use Rattle.linear_elim.specs.internal.Outcomes.{outcome_of, Decided};
 
-use crate::elimination::{Outcome, eliminate_from};
+use crate::elimination::{Run, eliminate_from};
 use crate::gathering::Gathering;
 use crate::joins::Derived;
 use linear_rows::Row;
@@ -48,17 +49,14 @@ pub(crate) fn first_rows(alloc: Global, rows: &[Row]) -> Result<Gathering, Alloc
 
 /// Eliminates the variables of some rows in the given order: a contradiction, which comes only where the rows aren't solvable;
 /// or the steps, which come only where they are; or too many rows, or a number that is too great, as the plain elimination says.
-pub fn contradiction_or_steps(
-    alloc: Global,
-    rows: &[Row],
-    order: &[u32],
-) -> Result<Outcome, AllocError>
+pub fn contradiction_or_steps(alloc: Global, rows: &[Row], order: &[u32]) -> Result<Run, AllocError>
     requires rows { All IsRow rows.now }
     requires few { length rows.now < 2 ^ 32 }
     requires short { length order.now < 2 ^ 32 }
     requires over { All (λ r. IsOver order.now r.terms) rows.now }
-    ensures plain { IfOk result (λ o. outcome_of o ≡ elimination order.now rows.now) }
-    ensures decided { IfOk result (λ o. Decided rows.now o) }
+    ensures plain { IfOk result (λ r. outcome_of r.end ≡ elimination order.now rows.now) }
+    ensures decided { IfOk result (λ r. Decided rows.now r.end) }
+    ensures same { IfOk result (λ r. r.same ≡ true → elimination_by drops order.now rows.now ≡ elimination order.now rows.now) }
 {
     let start = first_rows(alloc, rows)?;
     eliminate_from(alloc, order, 0, Vec::new(alloc), start)

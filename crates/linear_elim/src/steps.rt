@@ -3,7 +3,8 @@ ghost use Rattle.std.specs.Prelude.{◌≡◌, [], true, false, IfOk};
 ghost use Rattle.std.specs.List.{All};
 ghost use Rattle.linear_rows.specs.Terms.{coefficient};
 ghost use Rattle.linear_elim.specs.Joins.{is_below_zero, is_above_zero};
-ghost use Rattle.linear_elim.specs.internal.Afters.{IsAfter, AreKept};
+ghost use Rattle.linear_elim.specs.internal.Afters.{IsAfter};
+ghost use Rattle.linear_elim.specs.internal.Signless.{IsSignlessAfter, IsSignlessMany};
 ghost use Rattle.linear_elim.specs.internal.DerivedRows.{IsDerived};
 ghost use Rattle.linear_elim.specs.Steps.{lowers, uppers, kept, fits_each, pairs_fit, joins, pairs};
 ghost use Rattle.linear_elim.specs.internal.Fingerprints.{ArePlaces};
@@ -129,11 +130,11 @@ fn split_by(alloc: Global, rows: Vec<Derived>, x: u32) -> Result<Split, AllocErr
 }
 
 /// What a step gives: that a join doesn't fit; the rows that bound the variable, and the rows after it; or, where these are more
-/// than 4,096, the first contradiction and how many they are.
+/// than 4,096, the first contradiction, how many they are, and whether surely none of them has the terms of `-x <= 0`.
 pub enum After {
     Great,
     Few(Step, Gathering),
-    Many(Option<Derived>, usize),
+    Many(Option<Derived>, usize, bool),
 }
 
 /// Whether so many rows and so many others have more joins than are kept without being counted first.
@@ -141,16 +142,19 @@ fn have_many(lows: usize, ups: usize) -> bool {
     lows.saturating_mul(ups) > 32768
 }
 
-/// One step. Where there are many joins they may be counted first, and are kept only if there are few different ones.
+/// One step, before those of the later variables. Where there are many joins they are counted first, and are kept if there are few
+/// different ones, or if more of them may be dominated where such rows are dropped.
 pub fn eliminate_one(
     alloc: Global,
     rows: Vec<Derived>,
     x: u32,
-    counts: bool,
+    later: &[u32],
+    drops: bool,
 ) -> Result<After, AllocError>
     requires { All IsDerived rows.items }
     ensures after { IfOk result (λ o. IsAfter x rows.items o) }
-    ensures kept { IfOk result (λ o. counts ≡ false → AreKept o) }
+    ensures signless { IfOk result (λ o. IsSignlessAfter later.now x rows.items o) }
+    ensures many { IfOk result (λ o. drops ≡ true → IsSignlessMany o) }
 {
     let Split {
         lows,
@@ -158,12 +162,12 @@ pub fn eliminate_one(
         mut rest,
     } = split_by(alloc, rows, x)?;
     let step = Step { var: x, lows, ups };
-    if counts && rest.found.is_none() && have_many(step.lows.len(), step.ups.len()) {
-        match count_rows(alloc, &step, &rest.rows)? {
+    if rest.found.is_none() && have_many(step.lows.len(), step.ups.len()) {
+        match count_rows(alloc, &step, &rest.rows, later)? {
             Counted::Great => return Ok(After::Great),
-            Counted::Rows(found, count) => {
-                if count > 4096 {
-                    return Ok(After::Many(found, count));
+            Counted::Rows(found, count, signless) => {
+                if count > 4096 && (signless || !drops) {
+                    return Ok(After::Many(found, count, signless));
                 }
             }
             Counted::Uncounted => {}

@@ -1,14 +1,17 @@
 //! A table of different lists of terms. It keeps which rows they come from, and not the terms themselves.
 ghost use Rattle.std.specs.Prelude.{◌≡◌, ◌<◌, ◌+◌, [], ℕ, List, ℤ, set, true, IfOk, IfSome, length};
+ghost use Rattle.std.specs.List.{All};
 ghost use Rattle.linear_elim.specs.Joins.{is_below_zero, is_above_zero, join};
 ghost use Rattle.linear_rows.specs.SameTerms.{same_terms};
-ghost use Rattle.linear_elim.specs.internal.Counting.{terms_at, home, print_of, IsSplit, IsTable, IsPlaceOf, Puts};
+ghost use Rattle.linear_elim.specs.internal.Counting.{terms_at, home, print_of, IsSplit, IsTable, IsPlaceOf, Puts, Lacks};
 ghost use Rattle.linear_elim.specs.internal.DerivedRows.{IsDerived};
 ghost use Rattle.linear_elim.specs.internal.Fingerprints.{fingerprint};
+ghost use Rattle.linear_elim.specs.internal.Signless.{sign_terms};
 ghost use Rattle.linear_rows.specs.Terms.{coefficient};
 ghost use Rattle.linear_elim.specs.declared.tables.Name.{Name as NameValue};
 
 use crate::fingerprints::hashed;
+use crate::join_numbers::with_term;
 use crate::joins::{Derived, joined};
 use crate::small_joins::{is_small, join_terms};
 use crate::steps::Step;
@@ -212,6 +215,45 @@ impl Table {
         self.count = count;
         true
     }
+}
+
+/// The fingerprint of the terms of `-x <= 0`.
+fn sign_number(x: u32) -> u64
+    ensures { result ≡ fingerprint (sign_terms x) }
+{
+    with_term(0, x, -1)
+}
+
+/// Whether surely no terms with this fingerprint are in the table.
+fn lacks(table: &Table, number: u64) -> bool
+    ensures { result ≡ true → (f : NameValue → List (ℕ × ℤ)) (t : List (ℕ × ℤ)) → number ≡ fingerprint t → Lacks f table.now t }
+{
+    let print = print_of(number);
+    let prints: &[u16] = &table.prints;
+    let names: &[Name] = &table.names;
+    for place in home_of(table.places, number)..prints.len() {
+        let found = prints[place];
+        if found == 0 {
+            return place < names.len();
+        }
+        if found == print {
+            return false;
+        }
+    }
+    false
+}
+
+/// Whether surely the terms of `-x <= 0` are in the table for none of these variables.
+pub(crate) fn lacks_signs(table: &Table, variables: &[u32]) -> bool
+    ensures { result ≡ true → (f : NameValue → List (ℕ × ℤ)) → All (λ x. Lacks f table.now (sign_terms x)) variables.now }
+{
+    for i in 0..variables.len() {
+        let x = variables[i];
+        if !lacks(table, sign_number(x)) {
+            return false;
+        }
+    }
+    true
 }
 
 /// Puts in the named terms, which have this fingerprint and may be given, unless they are there. False where that isn't known.

@@ -126,6 +126,7 @@ fn write_line(
 
 /// The joins of 65 rows and 65 rows, with different coefficients of y, are 4,225 rows; those of 65 and 64 are 4,160. Those of 200
 /// and 200 are 40,000, whose coefficients of y are the numbers from 67 to 13,400: 13,334 different ones. Two more rows add up to 1 <= 0.
+/// Those of 1,000 and 1,000, of which nothing is kept, have the coefficients from 67 to 67,000.
 /// Without z each of these joins is a multiple of y <= 0, so one row is left. Where y and z aren't negative, one lower and one upper
 /// row of the 130 imply the others; where y is at least 3, `-y <= 0` isn't among the rows, and they imply none.
 fn write_crossings(text: &mut String) -> Result<(), AllocError> {
@@ -147,6 +148,7 @@ fn write_crossings(text: &mut String) -> Result<(), AllocError> {
         "-1x1 0 <=0 -1x1 3 <=0 -1x2 0 <=0 ; iuu gives refuted 0:1 65:1 131:67 132:2\n",
     )?;
     write_line(text, 200, 200, with_z, "; iii gives rows 1 13334\n")?;
+    write_line(text, 1000, 1000, with_z, "; iii gives rows 1 66934\n")?;
     write_line(
         text,
         200,

@@ -9,10 +9,4 @@ use Rattle.std.specs.Prelude.{◌≡◌, ℕ, ◌<◌, List, length, true, false
 abbrev pub IsAfter : ℕ → List Derived → After → Type 0
 IsAfter x rows Great = false ≡ step_fits x rows
 IsAfter x rows (Few step next) = (true ≡ step_fits x rows) × (step ≡ step_of x rows) × (next.found ≡ contradiction (eliminate_one x rows)) × (next.rows.items ≡ tidied (eliminate_one x rows))
-IsAfter x rows (Many found count) = (true ≡ step_fits x rows) × (found ≡ contradiction (eliminate_one x rows)) × (count ≡ length (tidied (eliminate_one x rows))) × (4096 < count)
-
--- The rows after the step are kept, and not only counted.
-abbrev pub AreKept : After → Type 0
-AreKept Great = Unit {0}
-AreKept (Few step next) = Unit {0}
-AreKept (Many found count) = ⊥
+IsAfter x rows (Many found count signless) = (true ≡ step_fits x rows) × (found ≡ contradiction (eliminate_one x rows)) × (count ≡ length (tidied (eliminate_one x rows))) × (4096 < count)

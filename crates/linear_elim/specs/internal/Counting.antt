@@ -13,6 +13,7 @@ use Rattle.linear_elim.specs.declared.tables.Table.{Table}
 use Rattle.linear_elim.specs.internal.DerivedRows.{IsDerived}
 use Rattle.linear_elim.specs.internal.Fingerprints.{hashed, fingerprint}
 use Rattle.linear_elim.specs.internal.Gathering.{found_all, rows_all}
+use Rattle.linear_elim.specs.internal.Signless.{AreSignless}
 use Rattle.std.specs.List.{All}
 use Rattle.std.specs.Prelude.{◌≡◌, ℕ, ◌+◌, ◌*◌, ◌<◌, ◌≤◌, ◌/◌, ◌%◌, ◌^◌, List, [], ◌∷◌, ◌++◌, length, get_or, map, ℤ, pos, true, false, cond, ltb, None}
 
@@ -111,6 +112,10 @@ IsTable f t seen = AreAt f t.places t.prints.items t.names.items t.count seen
 abbrev pub Puts : (Name → List (ℕ × ℤ)) → Table → Table → List (ℕ × ℤ) → Type 0
 Puts f old new t = (seen : List (List (ℕ × ℤ))) → IsTable f old seen → IsTable f new (put_terms t seen)
 
+-- The table doesn't have these terms.
+abbrev pub Lacks : (Name → List (ℕ × ℤ)) → Table → List (ℕ × ℤ) → Type 0
+Lacks f table t = (seen : List (List (ℕ × ℤ))) → IsTable f table seen → All (λ k. same_terms k t ≡ false) seen
+
 -- A full place whose terms are others.
 abbrev pub IsOther : (Name → List (ℕ × ℤ)) → List ℕ → List Name → List (ℕ × ℤ) → ℕ → Type 0
 IsOther f prints names t j = IsFull prints j × (print_at prints j ≡ print_of (fingerprint t) → f (name_at names j) ≡ t → ⊥)
@@ -147,5 +152,11 @@ Counts f old new ds = (more : List Derived) (all : List (List (ℕ × ℤ))) →
 -- What is known of the joins: whether they fit, the first contradiction, and how many rows there are with those that are kept.
 abbrev pub IsCounted : ℕ → List Derived → List Derived → List Derived → Counted → Type 0
 IsCounted x ls us ks Great = pairs_fit x ls us ≡ false
-IsCounted x ls us ks (Rows found count) = (pairs_fit x ls us ≡ true) × (found ≡ found_all (pairs x ls us) None) × (count ≡ length (rows_all (pairs x ls us) ks))
+IsCounted x ls us ks (Rows found count signless) = (pairs_fit x ls us ≡ true) × (found ≡ found_all (pairs x ls us) None) × (count ≡ length (rows_all (pairs x ls us) ks))
 IsCounted x ls us ks Uncounted = Unit {0}
+
+-- Where it is said of the counted rows, none of them has the terms of a sign row of one of these variables.
+abbrev pub IsSignlessCount : List ℕ → ℕ → List Derived → List Derived → List Derived → Counted → Type 0
+IsSignlessCount later x ls us ks Great = Unit {0}
+IsSignlessCount later x ls us ks (Rows found count signless) = signless ≡ true → AreSignless later (rows_all (pairs x ls us) ks)
+IsSignlessCount later x ls us ks Uncounted = Unit {0}

@@ -1,9 +1,10 @@
 -- The outcomes that the code's stand for.
-use Rattle.std.specs.Prelude.{◌≡◌, List}
+use Rattle.std.specs.Prelude.{◌≡◌, ℕ, List}
 use Rattle.linear_rows.specs.Row.{Row}
 use Rattle.linear_rows.specs.Solutions.{IsSolvable}
 use Rattle.linear_elim.specs.Steps.{undominated}
 use Rattle.linear_elim.specs.Elimination as plain
+use Rattle.linear_elim.specs.Elimination.Rule.{keeps, drops}
 use Rattle.linear_elim.specs.declared.gathering.Gathering.{Gathering}
 use Rattle.linear_elim.specs.declared.short_runs.Short as Short
 use Rattle.linear_elim.specs.declared.short_runs.Short.{Short}
@@ -36,6 +37,10 @@ IsLimited plain.Outcome.too_great = Unit {0}
 -- Gathered rows without the dominated ones.
 abbrev pub short_gathering : Gathering → plain.Gathered
 short_gathering g = record { found = g.found; rows = undominated g.rows.items }
+
+-- The elimination goes on in the same way without dominated rows, however many steps came before.
+abbrev pub IsSameShort : List ℕ → Gathering → Type 0
+IsSameShort order now = (n : ℕ) → plain.run drops n order (short_gathering now) ≡ plain.run keeps n order (gathering_of now)
 
 -- What a short elimination of the code says of the outcome.
 abbrev pub IsShort : Short → plain.Outcome → Type 0

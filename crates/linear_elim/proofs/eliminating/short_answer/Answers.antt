@@ -1,6 +1,8 @@
 use Rattle.std.proofs.Common.{sym, subst, refl, length}
 use Rattle.std.specs.List.{All}
 use Rattle.linear_rows.specs.VariableOrder.{order_of}
+use Rattle.linear_rows.specs.Terms.{IsOver}
+use Rattle.linear_elim.proofs.OrderedRows.{rows_over}
 use Rattle.linear_elim.specs.Answers.{IsShortLimited}
 use Rattle.linear_elim.specs.Elimination.{elimination_by}
 use Rattle.linear_elim.specs.Elimination.Rule.{drops}
@@ -42,3 +44,6 @@ pub returns-clause-none : goal.returns-clause-none
 returns-clause-none c =
     let l = rw c.in-Limited.is at c.in_ok-contradiction.ensures in
     λ n. short_limited c.args.rows.now c.args.vars.now (elimination_by drops c.args.order.now c.args.rows.now) (in_order_of drops c.args.rows.now c.args.vars.now _ _ c.requires.order refl) l
+
+pub short_steps-requires-clause-over : goal.short_steps-requires-clause-over
+short_steps-requires-clause-over c = subst (λ o. All (λ r. IsOver o r.terms) c.args.rows.now) (sym c.requires.order) (rows_over c.args.rows.now c.args.vars.now c.requires.numeric)

@@ -8,7 +8,9 @@ use Rattle.linear_elim.specs.internal.Gathering.{after_all}
 use Rattle.linear_elim.specs.internal.Outcomes.{short_gathering}
 use Rattle.linear_elim.proofs.Finishing.{none_left, ends_found, ends_standing, ends_great}
 use Rattle.linear_elim.proofs.Keeping.{step-derived}
-use Rattle.linear_elim.proofs.ShortRuns.{great_limited, many_left, short_ok, next_short, left_derived}
+use Rattle.linear_rows.specs.Terms.{IsOver}
+use Rattle.linear_elim.proofs.SameRuns.{step_over, none_after}
+use Rattle.linear_elim.proofs.ShortRuns.{great_limited, many_left, short_ok, next_short, left_derived, left_over, short_counted}
 use Rattle.linear_elim.proofs.short_runs.+shorten_from.Goals as goal
 
 pub returns-in-Some : goal.returns-in-Some
@@ -26,13 +28,24 @@ returns-in_default-split_first t c =
 pub eliminate_one-requires : goal.eliminate_one-requires
 eliminate_one-requires t c =
     let r = rw c.in-Some-2.is at c.in_ok-rows.ensures.rows in
-    left_derived c.args.now.rows.items _ r c.requires
+    left_derived c.args.now.rows.items _ r c.requires.derived
 
 pub shorten_from-requires : goal.shorten_from-requires
 shorten_from-requires t c =
     let r = rw c.in-Some-2.is at c.in_ok-rows.ensures.rows in
     let h = rw c.in-Few.is at c.in_ok-eliminate_one.ensures.after in
-    (search rules, subst (All IsDerived) (sym h.3) (step-derived keeps c.in-Some-split_first.field-0-0.now c.in-Some-2.rows.items (left_derived c.args.now.rows.items _ r c.requires) h.0))
+    let d = left_derived c.args.now.rows.items _ r c.requires.derived in
+    (search rules, (subst (All IsDerived) (sym h.3) (step-derived keeps c.in-Some-split_first.field-0-0.now c.in-Some-2.rows.items d h.0), subst (All (λ s. IsOver c.in-Some-split_first.rest.now s.row.terms)) (sym h.3) (step_over c.in-Some-split_first.field-0-0.now c.in-Some-split_first.rest.now c.args.order.now c.in-Some-2.rows.items c.in-Some-split_first.ensures.cases.0 d (left_over c.args.order.now c.args.now.rows.items _ r c.requires.over))))
+
+pub returns-in-Many : goal.returns-in-Many
+returns-in-Many t c =
+    let r = rw c.in-Some-2.is at c.in_ok-rows.ensures.rows in
+    let f = rw c.in-Some-2.is at c.in_ok-rows.ensures.few in
+    let h = rw c.in-Many.is at c.in_ok-eliminate_one.ensures.after in
+    let s = rw c.in-Many.is at c.in_ok-eliminate_one.ensures.signless in
+    let m = rw c.in-Many.is at c.in_ok-eliminate_one.ensures.many refl in
+    let q = none_after c.in-Some-split_first.field-0-0.now c.in-Some-split_first.rest.now c.args.order.now c.in-Some-2.rows.items c.in-Some-split_first.ensures.cases.0 (left_derived c.args.now.rows.items _ r c.requires.derived) (left_over c.args.order.now c.args.now.rows.items _ r c.requires.over) (s m) in
+    λ n. short_counted c.args.steps.items n c.args.order.now c.in-Some-split_first.rest.now c.in-Some-split_first.field-0-0.now c.args.now c.in-Some-2.rows.items _ _ c.ended.result r f c.in-Some-split_first.ensures.cases.0 c.in_default.is h q c.ended.ensures.found c.ended.ensures.many
 
 pub returns-in-Great : goal.returns-in-Great
 returns-in-Great t c =
