@@ -1,10 +1,10 @@
 pub mod Captures
 pub mod ChangedParts
-pub mod Fitting
 mod Examples
 pub mod FreshSearch
 pub mod MarkTables
 pub mod NodeMoves
+pub mod NodesOverParts
 pub mod PartSizes
 pub mod PartTrees
 pub mod Readings
@@ -15,3 +15,4 @@ pub mod SmallParts
 pub mod StoredSizes
 pub mod SubstitutedNodes
 pub mod Trees
+pub mod exported

@@ -10,7 +10,7 @@ use Rattle.heylo_formula.specs.Substitution.{renamed, renamed_in}
 use Rattle.heylo_graph.specs.Trees.{Tree, is_free_tree, renamed_tree}
 use Rattle.heylo_graph.proofs.ChangedParts.{form_moved, cond_moved, lifted, asked}
 use Rattle.heylo_graph.proofs.NodeMoves.{AllMoved, IsChanged, tree_here}
-use Rattle.heylo_graph.proofs.Fitting.{var_fits, flag_fits}
+use Rattle.heylo_graph.proofs.NodesOverParts.{fits, var_node, flag_node}
 
 -- A variable that is free under a binder isn't the one that is bound.
 pub unbound : (b c : Bool) → cond b false c ≡ true → (b ≡ false) × (c ≡ true)
@@ -143,7 +143,7 @@ renamed_kept y z (Tree.condition g) h = ap Tree.condition (kept_cond y z g h)
 -- A variable with another number stands by itself.
 pub variable_fits : (ns : List Node) (n : Node) (y z : ℕ) → variable_of n ≡ Some y → IsFitting ns (with_variable n z)
 variable_fits ns (Node.Const v) y z e = absurd (cc)
-variable_fits ns (Node.Var w) y z e = var_fits ns z
+variable_fits ns (Node.Var w) y z e = fits ns (Node.Var z) _ (var_node ns z)
 variable_fits ns (Node.Sum a b) y z e = absurd (cc)
 variable_fits ns (Node.Diff a b) y z e = absurd (cc)
 variable_fits ns (Node.Cut a b) y z e = absurd (cc)
@@ -160,7 +160,7 @@ variable_fits ns (Node.Iverson a) y z e = absurd (cc)
 variable_fits ns (Node.Select a b c) y z e = absurd (cc)
 variable_fits ns (Node.Bind up w name ty a) y z e = absurd (cc)
 variable_fits ns (Node.Truth v) y z e = absurd (cc)
-variable_fits ns (Node.Flag w) y z e = flag_fits ns z
+variable_fits ns (Node.Flag w) y z e = fits ns (Node.Flag z) _ (flag_node ns z)
 variable_fits ns (Node.Not a) y z e = absurd (cc)
 variable_fits ns (Node.And a b) y z e = absurd (cc)
 variable_fits ns (Node.Or a b) y z e = absurd (cc)

@@ -5,11 +5,11 @@ use Rattle.std.proofs.Common.{rules, ◌||◌, if◌then◌else◌, ◌≡◌, �
 use Prim.Native.Nat.{zero, suc}
 use Rattle.heylo_graph.specs.Trees.{Tree}
 use Rattle.heylo_graph.specs.declared.nodes.Node.{Node}
-use Rattle.heylo_graph.specs.Nodes.{assembled, tree_at, Stands, HasTree, IsGraph}
+use Rattle.heylo_graph.specs.Nodes.{assembled, tree_at, Stands, HasTree, IsGraph, IsNodeOf, AreDifferent}
 use Rattle.heylo_graph.specs.Parts.{first, second, third, with_parts}
 use Rattle.heylo_graph.specs.internal.Tables.{IsBefore, PartTree}
 use Rattle.heylo_graph.proofs.Trees.{tree_within, stands_assembled}
-use Rattle.std.specs.Prelude.{Result, Ok, Err, OnOk}
+use Rattle.std.specs.Prelude.{Result, Ok, Err, IfOk, OnOk}
 use Rattle.heylo_graph.proofs.PartTrees.{first_tree, second_tree, third_tree, taken_apart, parts_before, node_at, some_is}
 
 abbrev number_of : Option ℕ → ℕ
@@ -58,10 +58,6 @@ same_part at i (Some a) None None s l h k = absurd h
 same_part at i (Some a) None (Some u) s l h k = absurd k
 same_part at i (Some a) (Some b) None s l h k = absurd h
 same_part at i (Some a) (Some b) (Some u) s l h k = s a b u l h k
-
--- No node stands twice.
-pub record AreDifferent (ns : List Node) : Type 0 where
-  pub differ : (i j : ℕ) (n : Node) → slice_get ns i ≡ Some n → slice_get ns j ≡ Some n → i ≡ j
 
 same_below : (ns : List Node) → IsGraph ns → AreDifferent ns → (k i j : ℕ) (t : Tree) → i < k → tree_at ns i ≡ Some t → tree_at ns j ≡ Some t → i ≡ j
 same_below ns g d zero i j t l h k = absurd (omega (arith, l))
@@ -130,6 +126,12 @@ found_any test (y ∷ ys) (suc i) x h t = ap (λ b. test y || b) (found_any test
 pub adds_none : (old new : List Node) (n : Node) (i : ℕ) (t : Tree) → IsGraph old → IsDistinct (λ m n. node.ghosts.eq m n) old → Stands old i t → assembled (tree_at old) n ≡ Some t → new ≡ (if list_any (λ m. node.ghosts.eq n m) old then old else old ++ n ∷ []) → new ≡ old
 adds_none old new n i t g d s e k = k ∙ ap (λ b. if b then old else old ++ n ∷ []) (found_any (λ m. node.ghosts.eq n m) old i n (stands_already old n i t g (set_differs old d) e s.tree) (self_equal n))
 
+-- The node is found where its tree stands.
+pub found_at : (old new : List Node) (n : Node) (i j : ℕ) (t : Tree) → IsGraph old → IsDistinct (λ m n. node.ghosts.eq m n) old → Stands old i t → assembled (tree_at old) n ≡ Some t → new ≡ (if list_any (λ m. node.ghosts.eq n m) old then old else old ++ n ∷ []) → slice_get new j ≡ Some n → j ≡ i
+found_at old new n i j t g d s e k h =
+    let different = set_differs old d in
+    different.differ j i n (ap (λ l. slice_get l j) (sym (adds_none old new n i t g d s e k)) ∙ h) (stands_already old n i t g different e s.tree)
+
 -- The parts of a tree that stands stand too.
 abbrev pub PartStands : List Node → Option Tree → Type 0
 PartStands ns None = Unit {0}
@@ -149,7 +151,30 @@ parts_stand ns t h = go (node_at ns h.number (tree_within ns h.number t h.stands
         let x = taken_apart (tree_at ns) n.0 t (stands_assembled ns h.number n.0 t n.1 h.stands.tree) in
         (part_stands ns (first n.0) (first_tree t) x.one, part_stands ns (second n.0) (second_tree t) x.two, part_stands ns (third n.0) (third_tree t) x.three)
 
+-- A first part stands where the tree does, and so on.
+pub has_first : (ns : List Node) (t u : Tree) → HasTree ns t → first_tree t ≡ Some u → HasTree ns u
+has_first ns t u h e = subst (PartStands ns) e (parts_stand ns t h).0
+
+pub has_second : (ns : List Node) (t u : Tree) → HasTree ns t → second_tree t ≡ Some u → HasTree ns u
+has_second ns t u h e = subst (PartStands ns) e (parts_stand ns t h).1
+
+pub has_third : (ns : List Node) (t u : Tree) → HasTree ns t → third_tree t ≡ Some u → HasTree ns u
+has_third ns t u h e = subst (PartStands ns) e (parts_stand ns t h).2
+
+-- ---- A form that is put
+
+-- What holds of each answer holds of the one that there is.
+ok_with : {E : Type 0} (r : Result ℕ E) (P Q : ℕ → Type 0) → IfOk r P → ((j : ℕ) → P j → Q j) → IfOk r Q
+ok_with (Ok j) P Q h f = f j h
+ok_with (Err z) P Q h f = tt
+
+pub put_stands : {E : Type 0} (mid new : List Node) (n : Node) (t : Tree) (r : Result ℕ E) → IsNodeOf mid n t → IfOk r (λ j. (u : Tree) → assembled (tree_at mid) n ≡ Some u → Stands new j u) → IfOk r (λ j. Stands new j t)
+put_stands mid new n t r g h = ok_with r (λ j. (u : Tree) → assembled (tree_at mid) n ≡ Some u → Stands new j u) (λ j. Stands new j t) h (λ j f. f t g.gives)
+
 -- Nothing was added by the parts, and so nothing by the node.
-pub none_added : {E : Type 0} (old mid new : List Node) (n : Node) (t : Tree) (r : Result ℕ E) → HasTree old t → mid ≡ old → assembled (tree_at mid) n ≡ Some t → ((u : Tree) → HasTree mid u → assembled (tree_at mid) n ≡ Some u → OnOk r (new ≡ mid)) → OnOk r (new ≡ old)
-none_added old mid new n t (Ok j) h e a f = f t (subst (λ l. HasTree l t) (sym e) h) a ∙ e
-none_added old mid new n t (Err z) h e a f = tt
+pub none_added : {E : Type 0} (old mid new : List Node) (n : Node) (t : Tree) (r : Result ℕ E) → HasTree old t → mid ≡ old → IsNodeOf mid n t → ((u : Tree) → HasTree mid u → assembled (tree_at mid) n ≡ Some u → OnOk r (new ≡ mid)) → OnOk r (new ≡ old)
+none_added old mid new n t (Ok j) h e g f = f t (subst (λ l. HasTree l t) (sym e) h) g.gives ∙ e
+none_added old mid new n t (Err z) h e g f = tt
+
+pub number_found : {E : Type 0} (old mid : List Node) (n : Node) (i : ℕ) (t : Tree) (r : Result ℕ E) → Stands old i t → mid ≡ old → IsNodeOf mid n t → ((k : ℕ) (u : Tree) → Stands mid k u → assembled (tree_at mid) n ≡ Some u → IfOk r (λ j. j ≡ k)) → IfOk r (λ j. j ≡ i)
+number_found old mid n i t r h e g f = f i t (subst (λ l. Stands l i t) (sym e) h) g.gives

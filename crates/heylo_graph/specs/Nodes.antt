@@ -96,10 +96,18 @@ pub record IsFormula (ns : List Node) (i : ℕ) : Type 0 where
   pub form : Form
   pub stands : Stands ns i (Tree.formula form)
 
+-- Over what stands there, the node has this tree.
+pub record IsNodeOf (ns : List Node) (n : Node) (t : Tree) : Type 0 where
+  pub gives : assembled (tree_at ns) n ≡ Some t
+
 -- The parts of a node stand there and are of the right kinds.
 pub record IsFitting (ns : List Node) (n : Node) : Type 0 where
   pub tree : Tree
   pub stands : assembled (tree_at ns) n ≡ Some tree
+
+-- No node stands twice.
+pub record AreDifferent (ns : List Node) : Type 0 where
+  pub differ : (i j : ℕ) (n : Node) → slice_get ns i ≡ Some n → slice_get ns j ≡ Some n → i ≡ j
 
 -- Each node has a tree: its parts stand before it, and are of the right kinds.
 pub record IsGraph (ns : List Node) : Type 0 where

@@ -1,9 +1,9 @@
 //! Graphs: lists of nodes in which equal ones stand once, with the sizes of their trees.
 
-ghost use Rattle.std.specs.Prelude.{◌^◌, ◌≡◌, ◌<◌, ◌≤◌, [], List, Option, length, min, take, slice_get, IfOk, OnErr, Some, OnOk};
+ghost use Rattle.std.specs.Prelude.{◌^◌, ◌≡◌, ◌<◌, ◌≤◌, ℕ, [], List, Option, length, min, take, slice_get, IfOk, OnErr, Some, OnOk};
 ghost use Rattle.heylo_graph.specs.Trees.{Tree, nodes_of, depth_of};
 ghost use Rattle.heylo_graph.specs.Parts.{first, second, third};
-ghost use Rattle.heylo_graph.specs.Nodes.{Stands, IsGraph, IsFitting, Begins, HasTree, assembled, tree_at};
+ghost use Rattle.heylo_graph.specs.Nodes.{Stands, IsGraph, IsFitting, AreDifferent, Begins, HasTree, assembled, tree_at};
 ghost use Rattle.heylo_graph.specs.internal.StoredSizes.{size_of, part_size};
 ghost use Rattle.heylo_graph.specs.internal.Tables.{IsBefore, PartTree};
 
@@ -51,6 +51,7 @@ impl Graph {
     pub fn len(&self) -> usize
         ensures len { result ≡ length self.now }
         ensures small { result < 2 ^ 63 }
+        ensures different { AreDifferent self.now }
     {
         self.nodes.len()
     }
@@ -94,14 +95,15 @@ impl Graph {
         self.sizes.truncate(len);
     }
 
-    /// The node, put last unless it stands there already. Its parts have to stand there, and to be of the right kinds. Want
-    /// of memory is the one error, and leaves the list as it was.
+    /// The node, put last unless it stands there already, where it has the number that it had. Its parts have to stand
+    /// there, and to be of the right kinds. Want of memory is the one error, and leaves the list as it was.
     pub fn join(&mut self, node: Node) -> Result<NodeId, AllocError>
         requires { IsFitting self.old node }
         ensures begins { OnOk result (Begins self.old self.new) }
         ensures joined { IfOk result (λ id. slice_get self.new id ≡ Some node) }
         ensures tree { IfOk result (λ id. (t : Tree) → assembled (tree_at self.old) node ≡ Some t → Stands self.new id t) }
         ensures present { (t : Tree) → HasTree self.old t → assembled (tree_at self.old) node ≡ Some t → OnOk result (self.new ≡ self.old) }
+        ensures number { (i : ℕ) (t : Tree) → Stands self.old i t → assembled (tree_at self.old) node ≡ Some t → IfOk result (λ id. id ≡ i) }
         ensures err { OnErr result (self.new ≡ self.old) }
     {
         // No value, but the proof has to know of its type.

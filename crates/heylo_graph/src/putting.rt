@@ -1,21 +1,24 @@
 //! Formulas and conditions that are put into a graph.
 
-ghost use Rattle.std.specs.Prelude.{◌≡◌, IfOk, OnErr, OnOk};
+ghost use Rattle.std.specs.Prelude.{◌≡◌, ℕ, IfOk, OnErr, OnOk};
 ghost use Rattle.heylo_formula.specs.PlainTrees.{form_of, cond_of};
 ghost use Rattle.heylo_graph.specs.Trees.{Tree};
-ghost use Rattle.heylo_graph.specs.Nodes.{Stands, Begins};
+ghost use Rattle.heylo_graph.specs.Nodes.{Stands, HasTree, IsNodeOf, Begins};
 
 use crate::graphs::Graph;
 use crate::nodes::{Node, NodeId};
 use heylo_formula::{Cond, Form};
+use heyvl_num::Ext;
 use std::alloc::AllocError;
 
 impl Graph {
-    /// A formula, of whose nodes those that don't stand there are put last. Want of memory is the one error, and leaves the
-    /// list as it was.
+    /// A formula, of whose nodes those that don't stand there are put last. A formula that stands there adds none, and has
+    /// the number that it had. Want of memory is the one error, and leaves the list as it was.
     pub fn put(&mut self, form: &Form) -> Result<NodeId, AllocError>
         ensures begins { OnOk result (Begins self.old self.new) }
         ensures tree { IfOk result (λ id. Stands self.new id (Tree.formula (form_of form.now))) }
+        ensures present { HasTree self.old (Tree.formula (form_of form.now)) → OnOk result (self.new ≡ self.old) }
+        ensures number { (i : ℕ) → Stands self.old i (Tree.formula (form_of form.now)) → IfOk result (λ id. id ≡ i) }
         ensures err { OnErr result (self.new ≡ self.old) }
     {
         let len = self.len();
@@ -30,6 +33,8 @@ impl Graph {
     pub fn put_cond(&mut self, cond: &Cond) -> Result<NodeId, AllocError>
         ensures begins { OnOk result (Begins self.old self.new) }
         ensures tree { IfOk result (λ id. Stands self.new id (Tree.condition (cond_of cond.now))) }
+        ensures present { HasTree self.old (Tree.condition (cond_of cond.now)) → OnOk result (self.new ≡ self.old) }
+        ensures number { (i : ℕ) → Stands self.old i (Tree.condition (cond_of cond.now)) → IfOk result (λ id. id ≡ i) }
         ensures err { OnErr result (self.new ≡ self.old) }
     {
         let len = self.len();
@@ -40,128 +45,161 @@ impl Graph {
         result
     }
 
+    /// A formula; the list may have grown where there is want of memory.
     #[cycle(putting)]
-    #[tactic(auto, using(crate::proofs::Fitting::fitting, crate::proofs::Trees::stands_longer))]
     pub(crate) fn put_form(&mut self, form: &Form) -> Result<NodeId, AllocError>
         ensures begins { Begins self.old self.new }
         ensures tree { IfOk result (λ id. Stands self.new id (Tree.formula (form_of form.now))) }
+        ensures present { HasTree self.old (Tree.formula (form_of form.now)) → OnOk result (self.new ≡ self.old) }
+        ensures number { (i : ℕ) → Stands self.old i (Tree.formula (form_of form.now)) → IfOk result (λ id. id ≡ i) }
+    {
+        // No value, but the proof has to know of its type.
+        let _known: Option<Ext> = None;
+        let node = self.formula_node(form)?;
+        self.join(node)
+    }
+
+    /// The node of a formula, over its parts, which are put.
+    #[cycle(putting)]
+    #[tactic(auto, using(crate::proofs::NodesOverParts::nodes_over_parts, crate::proofs::Trees::stands_longer))]
+    fn formula_node(&mut self, form: &Form) -> Result<Node, AllocError>
+        ensures begins { Begins self.old self.new }
+        ensures node { IfOk result (λ n. IsNodeOf self.new n (Tree.formula (form_of form.now))) }
+        ensures present { HasTree self.old (Tree.formula (form_of form.now)) → OnOk result (self.new ≡ self.old) }
     {
         match form {
-            Form::Const(v) => self.join(Node::Const(*v)),
-            Form::Var(x) => self.join(Node::Var(*x)),
+            Form::Const(v) => Ok(Node::Const(*v)),
+            Form::Var(x) => Ok(Node::Var(*x)),
             Form::Sum(a, b) => {
                 let (left, right) = self.put_both(a, b)?;
-                self.join(Node::Sum(left, right))
+                Ok(Node::Sum(left, right))
             }
             Form::Diff(a, b) => {
                 let (left, right) = self.put_both(a, b)?;
-                self.join(Node::Diff(left, right))
+                Ok(Node::Diff(left, right))
             }
             Form::Cut(a, b) => {
                 let (left, right) = self.put_both(a, b)?;
-                self.join(Node::Cut(left, right))
+                Ok(Node::Cut(left, right))
             }
             Form::Scale(w, a) => {
                 let part = self.put_form(a)?;
-                self.join(Node::Scale(*w, part))
+                Ok(Node::Scale(*w, part))
             }
             Form::Product(a, b, span) => {
                 let (left, right) = self.put_both(a, b)?;
-                self.join(Node::Product(left, right, *span))
+                Ok(Node::Product(left, right, *span))
             }
             Form::Min(a, b) => {
                 let (left, right) = self.put_both(a, b)?;
-                self.join(Node::Min(left, right))
+                Ok(Node::Min(left, right))
             }
             Form::Max(a, b) => {
                 let (left, right) = self.put_both(a, b)?;
-                self.join(Node::Max(left, right))
+                Ok(Node::Max(left, right))
             }
             Form::Imply(a, b) => {
                 let (left, right) = self.put_both(a, b)?;
-                self.join(Node::Imply(left, right))
+                Ok(Node::Imply(left, right))
             }
             Form::CoImply(a, b) => {
                 let (left, right) = self.put_both(a, b)?;
-                self.join(Node::CoImply(left, right))
+                Ok(Node::CoImply(left, right))
             }
             Form::Validate(a) => {
                 let part = self.put_form(a)?;
-                self.join(Node::Validate(part))
+                Ok(Node::Validate(part))
             }
             Form::CoValidate(a) => {
                 let part = self.put_form(a)?;
-                self.join(Node::CoValidate(part))
+                Ok(Node::CoValidate(part))
             }
             Form::Embed(g) => {
                 let part = self.put_part(g)?;
-                self.join(Node::Embed(part))
+                Ok(Node::Embed(part))
             }
             Form::Iverson(g) => {
                 let part = self.put_part(g)?;
-                self.join(Node::Iverson(part))
+                Ok(Node::Iverson(part))
             }
             Form::Select(g, a, b) => {
                 let (test, left, right) = self.put_select(g, a, b)?;
-                self.join(Node::Select(test, left, right))
+                Ok(Node::Select(test, left, right))
             }
             Form::Bind(up, y, name, ty, a) => {
                 let part = self.put_form(a)?;
-                self.join(Node::Bind(*up, *y, *name, *ty, part))
+                Ok(Node::Bind(*up, *y, *name, *ty, part))
             }
         }
     }
 
+    /// A condition; the list may have grown where there is want of memory.
     #[cycle(putting)]
-    #[tactic(auto, using(crate::proofs::Fitting::fitting, crate::proofs::Trees::stands_longer))]
     pub(crate) fn put_part(&mut self, cond: &Cond) -> Result<NodeId, AllocError>
         ensures begins { Begins self.old self.new }
         ensures tree { IfOk result (λ id. Stands self.new id (Tree.condition (cond_of cond.now))) }
+        ensures present { HasTree self.old (Tree.condition (cond_of cond.now)) → OnOk result (self.new ≡ self.old) }
+        ensures number { (i : ℕ) → Stands self.old i (Tree.condition (cond_of cond.now)) → IfOk result (λ id. id ≡ i) }
+    {
+        // No value, but the proof has to know of its type.
+        let _known: Option<Ext> = None;
+        let node = self.condition_node(cond)?;
+        self.join(node)
+    }
+
+    /// The node of a condition, over its parts, which are put.
+    #[cycle(putting)]
+    #[tactic(auto, using(crate::proofs::NodesOverParts::nodes_over_parts, crate::proofs::Trees::stands_longer))]
+    fn condition_node(&mut self, cond: &Cond) -> Result<Node, AllocError>
+        ensures begins { Begins self.old self.new }
+        ensures node { IfOk result (λ n. IsNodeOf self.new n (Tree.condition (cond_of cond.now))) }
+        ensures present { HasTree self.old (Tree.condition (cond_of cond.now)) → OnOk result (self.new ≡ self.old) }
     {
         match cond {
-            Cond::Const(b) => self.join(Node::Truth(*b)),
-            Cond::Var(x) => self.join(Node::Flag(*x)),
+            Cond::Const(b) => Ok(Node::Truth(*b)),
+            Cond::Var(x) => Ok(Node::Flag(*x)),
             Cond::Not(g) => {
                 let part = self.put_part(g)?;
-                self.join(Node::Not(part))
+                Ok(Node::Not(part))
             }
             Cond::And(g, h) => {
                 let (left, right) = self.put_conds(g, h)?;
-                self.join(Node::And(left, right))
+                Ok(Node::And(left, right))
             }
             Cond::Or(g, h) => {
                 let (left, right) = self.put_conds(g, h)?;
-                self.join(Node::Or(left, right))
+                Ok(Node::Or(left, right))
             }
             Cond::Same(g, h) => {
                 let (left, right) = self.put_conds(g, h)?;
-                self.join(Node::Same(left, right))
+                Ok(Node::Same(left, right))
             }
             Cond::Le(a, b) => {
                 let (left, right) = self.put_both(a, b)?;
-                self.join(Node::Le(left, right))
+                Ok(Node::Le(left, right))
             }
             Cond::Lt(a, b) => {
                 let (left, right) = self.put_both(a, b)?;
-                self.join(Node::Lt(left, right))
+                Ok(Node::Lt(left, right))
             }
             Cond::EqNum(a, b) => {
                 let (left, right) = self.put_both(a, b)?;
-                self.join(Node::EqNum(left, right))
+                Ok(Node::EqNum(left, right))
             }
             Cond::Ite(g, h, k) => {
                 let (test, left, right) = self.put_ite(g, h, k)?;
-                self.join(Node::Ite(test, left, right))
+                Ok(Node::Ite(test, left, right))
             }
         }
     }
 
     #[cycle(putting)]
-    #[tactic(auto, using(crate::proofs::Fitting::fitting, crate::proofs::Trees::stands_longer))]
-    pub(crate) fn put_both(&mut self, a: &Form, b: &Form) -> Result<(NodeId, NodeId), AllocError>
+    #[tactic(auto, using(crate::proofs::NodesOverParts::nodes_over_parts, crate::proofs::Trees::stands_longer))]
+    fn put_both(&mut self, a: &Form, b: &Form) -> Result<(NodeId, NodeId), AllocError>
         ensures begins { Begins self.old self.new }
         ensures left { IfOk result (λ ids. Stands self.new ids.0 (Tree.formula (form_of a.now))) }
         ensures right { IfOk result (λ ids. Stands self.new ids.1 (Tree.formula (form_of b.now))) }
+        ensures present { HasTree self.old (Tree.formula (form_of a.now)) → HasTree self.old (Tree.formula (form_of b.now)) → OnOk result (self.new ≡ self.old) }
     {
         let left = self.put_form(a)?;
         let right = self.put_form(b)?;
@@ -169,11 +207,12 @@ impl Graph {
     }
 
     #[cycle(putting)]
-    #[tactic(auto, using(crate::proofs::Fitting::fitting, crate::proofs::Trees::stands_longer))]
-    pub(crate) fn put_conds(&mut self, g: &Cond, h: &Cond) -> Result<(NodeId, NodeId), AllocError>
+    #[tactic(auto, using(crate::proofs::NodesOverParts::nodes_over_parts, crate::proofs::Trees::stands_longer))]
+    fn put_conds(&mut self, g: &Cond, h: &Cond) -> Result<(NodeId, NodeId), AllocError>
         ensures begins { Begins self.old self.new }
         ensures left { IfOk result (λ ids. Stands self.new ids.0 (Tree.condition (cond_of g.now))) }
         ensures right { IfOk result (λ ids. Stands self.new ids.1 (Tree.condition (cond_of h.now))) }
+        ensures present { HasTree self.old (Tree.condition (cond_of g.now)) → HasTree self.old (Tree.condition (cond_of h.now)) → OnOk result (self.new ≡ self.old) }
     {
         let left = self.put_part(g)?;
         let right = self.put_part(h)?;
@@ -181,8 +220,8 @@ impl Graph {
     }
 
     #[cycle(putting)]
-    #[tactic(auto, using(crate::proofs::Fitting::fitting, crate::proofs::Trees::stands_longer))]
-    pub(crate) fn put_select(
+    #[tactic(auto, using(crate::proofs::NodesOverParts::nodes_over_parts, crate::proofs::Trees::stands_longer))]
+    fn put_select(
         &mut self,
         g: &Cond,
         a: &Form,
@@ -192,6 +231,7 @@ impl Graph {
         ensures test { IfOk result (λ ids. Stands self.new ids.0 (Tree.condition (cond_of g.now))) }
         ensures left { IfOk result (λ ids. Stands self.new ids.1 (Tree.formula (form_of a.now))) }
         ensures right { IfOk result (λ ids. Stands self.new ids.2 (Tree.formula (form_of b.now))) }
+        ensures present { HasTree self.old (Tree.condition (cond_of g.now)) → HasTree self.old (Tree.formula (form_of a.now)) → HasTree self.old (Tree.formula (form_of b.now)) → OnOk result (self.new ≡ self.old) }
     {
         let test = self.put_part(g)?;
         let (left, right) = self.put_both(a, b)?;
@@ -199,8 +239,8 @@ impl Graph {
     }
 
     #[cycle(putting)]
-    #[tactic(auto, using(crate::proofs::Fitting::fitting, crate::proofs::Trees::stands_longer))]
-    pub(crate) fn put_ite(
+    #[tactic(auto, using(crate::proofs::NodesOverParts::nodes_over_parts, crate::proofs::Trees::stands_longer))]
+    fn put_ite(
         &mut self,
         g: &Cond,
         h: &Cond,
@@ -210,6 +250,7 @@ impl Graph {
         ensures test { IfOk result (λ ids. Stands self.new ids.0 (Tree.condition (cond_of g.now))) }
         ensures left { IfOk result (λ ids. Stands self.new ids.1 (Tree.condition (cond_of h.now))) }
         ensures right { IfOk result (λ ids. Stands self.new ids.2 (Tree.condition (cond_of k.now))) }
+        ensures present { HasTree self.old (Tree.condition (cond_of g.now)) → HasTree self.old (Tree.condition (cond_of h.now)) → HasTree self.old (Tree.condition (cond_of k.now)) → OnOk result (self.new ≡ self.old) }
     {
         let test = self.put_part(g)?;
         let (left, right) = self.put_conds(h, k)?;

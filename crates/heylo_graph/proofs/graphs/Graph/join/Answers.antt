@@ -2,7 +2,7 @@ use Rattle.std.proofs.Common.{Some, slice_get, ap, subst, sym, ◌∙◌}
 use Rattle.heylo_graph.specs.Nodes.{assembled, tree_at, Stands}
 use Rattle.heylo_graph.proofs.Trees.{graph_inserted, begins_inserted, stands_joined}
 use Rattle.heylo_graph.proofs.SameNodes.{node_is}
-use Rattle.heylo_graph.proofs.SameTrees.{adds_none}
+use Rattle.heylo_graph.proofs.SameTrees.{adds_none, found_at}
 use Rattle.heylo_graph.proofs.StoredSizes.{stored_after}
 use Rattle.heylo_graph.proofs.graphs.Graph.join.Goals as goal
 
@@ -30,3 +30,10 @@ pub returns-clause-present : goal.returns-clause-present
 returns-clause-present c = λ t s e.
     let old = c.self.inside.nodes.keys in
     adds_none old c.insert_full-result.new.self.keys c.args.node s.number t c.self.invariant.graph c.len-count.ensures.unique (subst (λ l. Stands l s.number t) (sym c.self.view_is) s.stands) (ap (λ l. assembled (tree_at l) c.args.node) c.self.view_is ∙ e) c.in_ok-index.ensures.keys ∙ c.self.view_is
+
+pub returns-clause-number : goal.returns-clause-number
+returns-clause-number c = λ i t h e.
+    let old = c.self.inside.nodes.keys in
+    let s = c.in_ok-index.ensures.stored in
+    found_at old c.insert_full-result.new.self.keys c.args.node i c.new.result t c.self.invariant.graph c.len-count.ensures.unique (subst (λ l. Stands l i t) (sym c.self.view_is) h) (ap (λ l. assembled (tree_at l) c.args.node) c.self.view_is ∙ e) c.in_ok-index.ensures.keys
+    (ap (slice_get c.insert_full-result.new.self.keys) c.new.ensures ∙ s.1 ∙ ap Some (sym (node_is c.args.node s.0 s.2)))
