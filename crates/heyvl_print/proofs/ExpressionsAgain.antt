@@ -1,9 +1,10 @@
 -- The pieces of an expression spell it again.
 use Rattle.heyvl_print.proofs.NumbersAgain.{printed_is_number, printed_literal, printed_number_reads}
-use Rattle.heyvl_print.proofs.Respelling.{ArePrintable, IsPrintable, Reprints, printable_back, printable_front, r_blank, r_both, r_closed, r_made, r_one, r_token}
+use Rattle.heyvl_print.proofs.Respelling.{Reprints, printable_back, printable_front, r_blank, r_both, r_closed, r_made, r_one, r_token}
 use Rattle.heyvl_print.specs.Canonical.{expression_pieces, parens}
 use Rattle.heyvl_print.specs.Numbers.{number_text}
 use Rattle.heyvl_print.specs.Pieces.{Piece, blank, text_of, token, token_text}
+use Rattle.heyvl_print.specs.Printable.{ArePrintable, IsPrintable}
 use Rattle.heyvl_print.specs.WithoutPlaces.{bare_expression, no_place}
 use Rattle.heyvl_syntax.proofs.exported.TokenReads.{Reads, ends_number, free_reads, is_free, key_reads, opens, prefix_reads, word_reads}
 use Rattle.heyvl_syntax.proofs.exported.Runs.{and_left}

@@ -1,10 +1,11 @@
 -- The canonical text of a file spells it again.
 use Rattle.heyvl_print.proofs.Lexing.{Sound, lexes_pieces, tokens_at}
 use Rattle.heyvl_print.proofs.ProceduresAgain.{file_again}
-use Rattle.heyvl_print.proofs.Respelling.{ArePrintable, IsPrintable, kinds_of, token_kinds}
+use Rattle.heyvl_print.proofs.Respelling.{kinds_of, token_kinds}
 use Rattle.heyvl_print.specs.Canonical.{file_lines}
-use Rattle.heyvl_print.specs.Laws.{PrintedTextSpells}
+use Rattle.heyvl_print.specs.Laws.{LexedTokensArePrintable, PrintableFilesSpell, PrintedTextSpells}
 use Rattle.heyvl_print.specs.Pieces.{Piece, blank, line_feed, token, token_text}
+use Rattle.heyvl_print.specs.Printable.{ArePrintable, IsPrintable}
 use Rattle.heyvl_syntax.proofs.exported.InOrder.{stand_in_order}
 use Rattle.heyvl_syntax.specs.TokenLaws.{HasSmallLiteral, StandInOrder}
 use Rattle.heyvl_syntax.specs.Tokens.{IsToken}
@@ -33,11 +34,16 @@ kinds_are place (blank ∷ ps) = kinds_are (place + 1) ps
 kinds_are place (line_feed ∷ ps) = kinds_are (place + 1) ps
 kinds_are place (token kind ∷ ps) = ap (λ (z : List TokenKind). kind ∷ z) (kinds_are (place + length (token_text kind)) ps)
 
-pub spells : PrintedTextSpells
-spells bytes file spelled =
-    let ready = all_printable 0 bytes spelled.tokens (stand_in_order bytes spelled.tokens spelled.lexes) in
-    let prints = (file_again file).from spelled.tokens spelled.is_file ready in
+pub lexed : LexedTokensArePrintable
+lexed bytes tokens lexes = all_printable 0 bytes tokens (stand_in_order bytes tokens lexes)
+
+pub spells_printable : PrintableFilesSpell
+spells_printable tokens file ready is_file =
+    let prints = (file_again file).from tokens is_file ready in
     let pieces = file_lines file in
     let sound = subst (λ (ps : List Piece). Sound ps) (append-nil pieces) (prints.flows [] refl tt) in
     let other = prints.again (tokens_at 0 pieces) (kinds_are 0 pieces) in
     (other.0, record { tokens = tokens_at 0 pieces; lexes = lexes_pieces 0 pieces sound; is_file = other.2 }, other.1)
+
+pub spells : PrintedTextSpells
+spells bytes file spelled = spells_printable spelled.tokens file (lexed bytes spelled.tokens spelled.lexes) spelled.is_file

@@ -13,3 +13,4 @@ mod StatementsAgain
 mod ProceduresAgain
 mod FilesAgain
 mod SameTexts
+pub mod exported

@@ -1,12 +1,9 @@
 -- How the pieces of a tree are put together, so that their tokens spell the same tree again.
 use Rattle.heyvl_print.proofs.Lexing.{Sound}
 use Rattle.heyvl_print.specs.Pieces.{Piece, blank, feed, line_feed, margin, text_of, token, token_text}
+use Rattle.heyvl_print.specs.Printable.{ArePrintable, IsPrintable}
 use Rattle.heyvl_syntax.proofs.exported.TokenReads.{Reads}
-use Rattle.heyvl_syntax.specs.Keys.{key_text}
-use Rattle.heyvl_syntax.specs.Literals.{IsInLimits}
 use Rattle.heyvl_syntax.specs.Productions.{IsOne, at, ◌then◌}
-use Rattle.heyvl_syntax.specs.Tokens.{IsWord}
-use Rattle.heyvl_syntax.specs.declared.keys.Key.{Key}
 use Rattle.heyvl_syntax.specs.declared.tokens.Token.{Token}
 use Rattle.heyvl_syntax.specs.declared.tokens.TokenKind.TheVariants as kinds
 use Rattle.heyvl_syntax.specs.declared.tokens.TokenKind.{TokenKind}
@@ -22,17 +19,6 @@ kinds_of (token kind ∷ ps) = kind ∷ kinds_of ps
 
 abbrev pub token_kinds : List Token → List TokenKind
 token_kinds = map (λ t. t.kind)
-
--- A token that some bytes can have.
-abbrev pub IsPrintable : TokenKind → Type 0
-IsPrintable (kinds.Word x) = IsWord x × ((key : Key) → key_text key ≡ x → ⊥)
-IsPrintable (kinds.Number lit) = IsInLimits lit
-IsPrintable (kinds.Key k) = Unit {0}
-IsPrintable (kinds.Mark m) = Unit {0}
-
-abbrev pub ArePrintable : List Token → Type 0
-ArePrintable [] = Unit {0}
-ArePrintable (t ∷ ts) = IsPrintable t.kind × ArePrintable ts
 
 -- The pieces of an item: each token is what stands at its place, where bytes stand behind that pass the test, and tokens of these
 -- kinds spell the same item but for what e drops.
@@ -67,6 +53,10 @@ printable_front ts xs ys e h = printable_left xs ys (subst (λ (z : List Token).
 
 pub printable_back : (ts xs ys : List Token) → ts ≡ xs ++ ys → ArePrintable ts → ArePrintable ys
 printable_back ts xs ys e h = printable_right xs ys (subst (λ (z : List Token). ArePrintable z) e h)
+
+pub printable_append : (xs ys : List Token) → ArePrintable xs → ArePrintable ys → ArePrintable (xs ++ ys)
+printable_append [] ys h k = k
+printable_append (x ∷ xs) ys h k = (h.0, printable_append xs ys h.1 k)
 
 -- Tokens whose kinds are two lists are two lists.
 pub record Halves (us : List Token) (ks ls : List TokenKind) : Type 0 where

@@ -1,8 +1,11 @@
 -- Laws of the canonical text.
 use Rattle.heyvl_print.specs.Canonical.{canonical_text}
+use Rattle.heyvl_print.specs.Printable.{ArePrintable}
 use Rattle.heyvl_print.specs.WithoutPlaces.{SameButPlaces}
-use Rattle.heyvl_syntax.specs.Grammar.{Spells}
+use Rattle.heyvl_syntax.specs.Grammar.{IsFile, Spells}
 use Rattle.heyvl_syntax.specs.Procedures.{Procedure}
+use Rattle.heyvl_syntax.specs.Tokens.{Lexes}
+use Rattle.heyvl_syntax.specs.declared.tokens.Token.{Token}
 use Rattle.std.specs.Prelude.{List, ◌≡◌, ℕ}
 
 -- The canonical text of a file that some bytes spell spells the same file, up to places.
@@ -10,6 +13,16 @@ abbrev pub PrintedTextSpells : Type 0
 PrintedTextSpells =
     (bytes : List ℕ) (file : List Procedure) → Spells bytes file →
     (other : List Procedure) × Spells (canonical_text file) other × SameButPlaces file other
+
+-- The same of a file that some tokens spell, at whatever places, where bytes can have each of these tokens.
+abbrev pub PrintableFilesSpell : Type 0
+PrintableFilesSpell =
+    (tokens : List Token) (file : List Procedure) → ArePrintable tokens → IsFile file tokens →
+    (other : List Procedure) × Spells (canonical_text file) other × SameButPlaces file other
+
+-- Bytes can have the tokens that some bytes have.
+abbrev pub LexedTokensArePrintable : Type 0
+LexedTokensArePrintable = (bytes : List ℕ) (tokens : List Token) → Lexes 0 bytes tokens → ArePrintable tokens
 
 -- Files that differ in places alone have the same canonical text.
 abbrev pub TextIgnoresPlaces : Type 0

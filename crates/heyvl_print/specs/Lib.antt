@@ -2,4 +2,5 @@ pub mod Canonical
 pub mod Laws
 pub mod Numbers
 pub mod Pieces
+pub mod Printable
 pub mod WithoutPlaces

@@ -10,5 +10,8 @@ mod procedures;
 mod statements;
 mod symbols;
 
-pub use laws::{printed_text_spells_the_file, printing_is_stable, text_ignores_places};
+pub use laws::{
+    printable_files_are_spelled, printed_text_spells_the_file, printing_is_stable,
+    text_ignores_places,
+};
 pub use procedures::print;
