@@ -15,7 +15,6 @@ use Rattle.heyvl_syntax.specs.Expressions.{Expression}
 use Rattle.heyvl_syntax.specs.Grammar.{IsBraced, IsFull}
 use Rattle.heyvl_syntax.specs.Productions.{IsEach, IsKey, IsMark, IsName, IsNothing, extent, ◌then◌}
 use Rattle.heyvl_syntax.specs.declared.keys.Key.TheVariants as keys
-use Rattle.heyvl_syntax.specs.declared.keys.Key.{Key}
 use Rattle.heyvl_syntax.specs.declared.marks.Mark.TheVariants as marks
 use Rattle.heyvl_syntax.specs.declared.tokens.Token.{Token}
 use Rattle.heyvl_syntax.specs.declared.tokens.TokenKind.TheVariants as kinds

@@ -1,9 +1,7 @@
 -- The first fault of tokens that should spell a program of guarded commands.
 use Rattle.heyvl_parse.specs.Spellings.{IsSpellingFault}
-use Rattle.heyvl_syntax.specs.SourceFaults.{IsLight}
 use Rattle.heyvl_syntax.specs.declared.tokens.Token.{Token}
 use Rattle.pgcl_front.specs.Grammar.{IsProgram}
-use Rattle.pgcl_front.specs.Programs.{ProgramTree}
 use Rattle.pgcl_front.specs.declared.stops.PgclStop.TheVariants as stops
 use Rattle.pgcl_front.specs.declared.stops.PgclStop.{PgclStop}
 use Rattle.std.specs.Prelude.{List, ◌≡◌, ℕ}

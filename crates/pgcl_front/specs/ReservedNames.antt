@@ -7,7 +7,7 @@ use Rattle.pgcl_front.specs.Grammar.{IsProgram}
 use Rattle.pgcl_front.specs.Programs.{ProgramTree}
 use Rattle.std.specs.Cmp.Lexicographic.{pointwise}
 use Rattle.std.specs.List.{starts_with}
-use Rattle.std.specs.Prelude.{Bool, List, codes, drop, false, length, nat_eq, nat_lt, true, ◌%◌, ◌&&◌, ◌*◌, ◌<◌, ◌||◌, ◌∷◌, ◌≡◌, ℕ}
+use Rattle.std.specs.Prelude.{Bool, List, codes, drop, false, length, nat_eq, nat_lt, true, ◌%◌, ◌&&◌, ◌/◌, ◌<◌, ◌||◌, ◌∷◌, ◌≡◌, ℕ}
 
 -- A word that begins with `init_` or `pick_`.
 abbrev pub is_made : TokenKind → Bool
@@ -23,9 +23,10 @@ is_skip_word (kinds.Key k) = false
 is_skip_word (kinds.Number n) = false
 is_skip_word (kinds.Mark m) = false
 
--- Whether the token with index i declares a name, in a program of n declarations. Each has three tokens, and the second is the name.
+-- Whether the token with index i declares a name, in a program of n declarations. They come first, each has three tokens, and the
+-- second of these is the name.
 abbrev pub declares : ℕ → ℕ → Bool
-declares n i = nat_lt i (3 * n) && nat_eq (i % 3) 1
+declares n i = nat_lt (i / 3) n && nat_eq (i % 3) 1
 
 -- A word anywhere that begins with `init_` or `pick_`, or a declared name that is `skip`.
 abbrev pub is_reserved : ℕ → ℕ → TokenKind → Bool

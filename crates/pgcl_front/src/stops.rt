@@ -10,7 +10,8 @@ use thiserror::Error;
 #[derive(Debug, Drop, Error)]
 pub enum PgclStop {
     /// The first fault of the tokens, with its number and the index of the token at which it stands: 5 where the load passes 200, 30
-    /// at the first token with which no program goes on, or at the number of tokens where they end too early.
+    /// at the first token with which no program goes on, or at the number of tokens where they end too early, and of a program that is
+    /// translated 31 at the first reserved name.
     #[error("fault {0} at the token {1}")]
     Fault(u8, u32),
     /// Memory ran out.
