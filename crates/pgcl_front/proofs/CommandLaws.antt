@@ -1,22 +1,20 @@
 -- The laws of the readers of commands and blocks.
-use Rattle.heyvl_parse.proofs.exported.Readers.{Both, IsBarred, IsTest, Laws, Local, Made, Right, RightAt, Some_text, anything, barred, chosen_local, each_laws, ended_by, expr_laws, key_test, laws_less, lead_laws, lead_more, led, local_bind, local_got, local_mapped, local_one, local_refuse, made_laws, mapped_laws, mark_test, nowhere, pair_free, pair_laws, sign_laws, right_as, right_bind, right_map, right_word, some_both, some_each, some_full, some_lead, some_trail, starts_front, starts_same, trail_laws, word_laws}
-use Rattle.heyvl_parse.specs.readers.Combinators.{either, is_key, is_operator, lead, no_kind, sign, spanned, starts}
-use Rattle.heyvl_parse.specs.readers.Reading.{Bad, Got, Out, Read, Whole, expr, is_mark, mapped, reading, word, ◌>>=◌}
+use Rattle.heyvl_parse.proofs.exported.Readers.{IsBarred, Laws, Local, Made, Right, RightAt, Some_text, anything, barred, chosen_local, each_laws, ended_by, expr_laws, key_test, lead_laws, lead_more, led, local_bind, local_mapped, local_one, local_refuse, made_laws, mapped_laws, mark_test, pair_free, pair_laws, sign_laws, right_as, right_bind, right_map, right_word, some_both, some_full, some_lead, some_trail, starts_same, trail_laws}
+use Rattle.heyvl_parse.specs.readers.Combinators.{either, is_operator, lead, no_kind, sign, spanned, starts}
+use Rattle.heyvl_parse.specs.readers.Reading.{Got, is_mark, word}
 use Rattle.heyvl_syntax.specs.Expressions.{Expression}
 use Rattle.heyvl_syntax.specs.Grammar.{IsFull}
 use Rattle.heyvl_syntax.specs.Productions.{IsEach, IsKey, IsMark, IsName, at, extent, ◌then◌}
 use Rattle.heyvl_syntax.specs.declared.keys.Key.TheVariants as keys
 use Rattle.heyvl_syntax.specs.declared.marks.Mark.TheVariants as marks
-use Rattle.heyvl_syntax.specs.declared.marks.Mark.{Mark}
 use Rattle.heyvl_syntax.specs.declared.tokens.Token.{Token}
 use Rattle.heyvl_syntax.specs.declared.tokens.TokenKind.TheVariants as kinds
 use Rattle.heyvl_syntax.specs.declared.tokens.TokenKind.{TokenKind}
-use Rattle.heyvl_places.specs.declared.spans.Span.{Span}
 use Rattle.pgcl_front.specs.Grammar.{IsCommand, IsCommands, IsEnclosed, IsPblock}
 use Rattle.pgcl_front.specs.Programs.{BlockTree, CommandTree, block_of}
 use Rattle.pgcl_front.specs.declared.commands.Opening.TheVariants as openings
 use Rattle.pgcl_front.specs.declared.commands.Opening.{Opening}
-use Rattle.pgcl_front.specs.internal.Commands.{BlockReader, Branched, Named, Repeated, Side, behind_word, braced, bracketed, branch_tree, branched, command, command_by, commands, enclosed, ended_expr, fork_tree, forked, given, is_opening, is_skip, named, named_by, named_tree, opening, opens, repeat_tree, repeated, side, side_by, skipped, ticked}
+use Rattle.pgcl_front.specs.internal.Commands.{BlockReader, Branched, Named, Repeated, Side, behind_word, braced, bracketed, branch_tree, branched, command, command_by, commands, enclosed, ended_expr, fork_tree, forked, given, is_opening, is_skip, named, named_by, named_tree, opening, opens, repeat_tree, repeated, side, side_by, ticked}
 use Rattle.std.proofs.Common.{Bool, List, [], ap, append_assoc, arith, codes, false, length, refl, subst, suc, sym, true, zero, ◌&&◌, ◌++◌, ◌<◌, ◌∙◌, ◌∷◌, ◌≡◌, ℕ}
 use Rattle.std.specs.Cmp.Lexicographic.{same_text}
 

@@ -1,23 +1,22 @@
 -- What begins a text of the grammar, and holds no quantifier, goes on to a text of the grammar without one.
 use Rattle.heyvl_places.specs.declared.spans.Span.{Span}
 use Rattle.heyvl_syntax.specs.Expressions.{Expression}
-use Rattle.heyvl_syntax.specs.Grammar.{IsBraced, IsExpr, IsFull, operator, prefix, quantifier_key, ranks, truth_key}
+use Rattle.heyvl_syntax.specs.Grammar.{IsBraced, IsExpr, operator, prefix, quantifier_key, ranks, truth_key}
 use Rattle.heyvl_syntax.specs.Productions.{IsAt, IsEach, IsOne, at, extent, ◌then◌}
 use Rattle.heyvl_syntax.specs.declared.keys.Key.TheVariants as keys
 use Rattle.heyvl_syntax.specs.declared.marks.Mark.TheVariants as marks
 use Rattle.heyvl_syntax.specs.declared.operators.BinaryOp.TheVariants as ops
 use Rattle.heyvl_syntax.specs.declared.operators.BinaryOp.{BinaryOp}
-use Rattle.heyvl_syntax.specs.declared.operators.UnaryOp.TheVariants as prefixes
 use Rattle.heyvl_syntax.specs.declared.operators.UnaryOp.{UnaryOp}
 use Rattle.heyvl_syntax.specs.declared.tokens.Token.{Token}
 use Rattle.heyvl_syntax.specs.declared.tokens.TokenKind.TheVariants as kinds
 use Rattle.heyvl_syntax.specs.declared.tokens.TokenKind.{TokenKind}
-use Rattle.pgcl_front.specs.Grammar.{IsCommand, IsCommands, IsDeclaration, IsEnclosed, IsProg, is_quantifier, quantifier_count, type_word}
+use Rattle.pgcl_front.specs.Grammar.{IsCommand, IsCommands, IsDeclaration, IsEnclosed, IsProg, is_quantifier, quantifier_count}
 use Rattle.pgcl_front.specs.Programs.{BlockTree, CommandTree, ProgramTree}
 use Rattle.pgcl_front.specs.declared.programs.Declaration.{Declaration}
-use Rattle.std.proofs.Common.{Bool, List, [], ap, arith, codes, cond, false, inl, inr, refl, subst, sym, true, ◌++◌, ◌+◌, ◌∙◌, ◌∷◌, ◌≡◌, ◌≤◌, ◌⊎◌, ℕ}
+use Rattle.std.proofs.Common.{Bool, List, [], ap, arith, codes, cond, false, inl, inr, refl, subst, sym, true, ◌++◌, ◌+◌, ◌∙◌, ◌∷◌, ◌≡◌, ◌⊎◌, ℕ}
 use Rattle.std.proofs.lemmas.List.Sums.{sum_by-append, sum_by-cons}
-use Rattle.std.proofs.lemmas.List.{append-nil, append_assoc}
+use Rattle.std.proofs.lemmas.List.{append_assoc}
 
 abbrev mark_of : Token → ℕ
 mark_of t = cond (is_quantifier t.kind) 1 0

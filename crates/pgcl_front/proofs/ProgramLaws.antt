@@ -1,12 +1,11 @@
 -- The laws of the readers of declarations and of whole programs.
-use Rattle.heyvl_parse.proofs.exported.Readers.{Both, Laws, Made, OfKind, Some_text, each_laws, key_test, kind_laws, laws_alike, lead_laws, made_laws, mapped_laws, mark_test, pair_free, pair_laws, some_both, some_each, some_lead, some_trail, some_word, starts_front, trail_laws, word_laws}
+use Rattle.heyvl_parse.proofs.exported.Readers.{Both, Laws, OfKind, Some_text, each_laws, key_test, kind_laws, laws_alike, lead_laws, made_laws, mapped_laws, mark_test, pair_free, pair_laws, some_both, some_lead, some_trail, some_word, trail_laws, word_laws}
 use Rattle.heyvl_parse.proofs.exported.Wholes.{ended_laws, every_kind}
-use Rattle.heyvl_parse.specs.readers.Combinators.{each, either, is_key, is_there, lead, no_kind, starts}
-use Rattle.heyvl_parse.specs.readers.Reading.{is_mark}
+use Rattle.heyvl_parse.specs.readers.Combinators.{each, either, is_there, no_kind, starts}
 use Rattle.heyvl_syntax.proofs.exported.Sequences.{then_map}
 use Rattle.heyvl_syntax.specs.Expressions.{Expression}
 use Rattle.heyvl_syntax.specs.Grammar.{IsFull}
-use Rattle.heyvl_syntax.specs.Productions.{IsEach, IsKey, IsMark, IsName, IsOne, at, extent, ◌then◌}
+use Rattle.heyvl_syntax.specs.Productions.{IsEach, IsKey, IsMark, IsName, ◌then◌}
 use Rattle.heyvl_syntax.specs.declared.keys.Key.TheVariants as keys
 use Rattle.heyvl_syntax.specs.declared.marks.Mark.TheVariants as marks
 use Rattle.heyvl_syntax.specs.declared.tokens.Token.{Token}
@@ -14,12 +13,12 @@ use Rattle.heyvl_syntax.specs.declared.tokens.TokenKind.TheVariants as kinds
 use Rattle.heyvl_syntax.specs.declared.tokens.TokenKind.{TokenKind}
 use Rattle.pgcl_front.proofs.CommandLaws.{IsEnded, commands_laws, ended_expr_laws, on_commands, some_commands, some_ended}
 use Rattle.pgcl_front.specs.Grammar.{IsCommands, IsDeclaration, IsProg, type_word}
-use Rattle.pgcl_front.specs.Programs.{BlockTree, ProgramTree}
+use Rattle.pgcl_front.specs.Programs.{ProgramTree}
 use Rattle.pgcl_front.specs.declared.programs.Declaration.{Declaration}
 use Rattle.pgcl_front.specs.declared.programs.VariableType.TheVariants as types
 use Rattle.pgcl_front.specs.declared.programs.VariableType.{VariableType}
-use Rattle.pgcl_front.specs.internal.Programs.{Parts, after, before, declaration, declaration_tree, declared, is_type, kind_type, parts, parts_tree, program, variable_type, word_type}
-use Rattle.std.proofs.Common.{Bool, List, None, Option, Some, [], ap, append_assoc, arith, cond, eqb, false, refl, sym, true, ◌++◌, ◌∙◌, ◌∷◌, ◌≡◌, ℕ}
+use Rattle.pgcl_front.specs.internal.Programs.{Parts, after, before, declaration, declaration_tree, declared, is_type, kind_type, parts, parts_tree, program, variable_type}
+use Rattle.std.proofs.Common.{Bool, List, None, Some, ap, append_assoc, arith, cond, eqb, false, refl, sym, true, ◌++◌, ◌∙◌, ◌≡◌, ℕ}
 use Rattle.std.specs.Cmp.Lexicographic.{pointwise, same_text}
 
 type_sound : (k : TokenKind) → OfKind (λ t. kinds.Word (type_word t)) k (kind_type k)

@@ -13,7 +13,7 @@ use Rattle.heyvl_syntax.specs.declared.tokens.Token.{Token}
 use Rattle.heyvl_syntax.specs.declared.tokens.TokenKind.TheVariants as kinds
 use Rattle.heyvl_syntax.specs.declared.tokens.TokenKind.{TokenKind}
 use Rattle.pgcl_front.proofs.ProgramLaws.{program_laws}
-use Rattle.pgcl_front.specs.Grammar.{IsProg, IsProgram, quantifier_count}
+use Rattle.pgcl_front.specs.Grammar.{IsProg, IsProgram}
 use Rattle.pgcl_front.specs.Programs.{BlockTree, CommandTree, ProgramTree}
 use Rattle.pgcl_front.specs.declared.programs.VariableType.TheVariants as types
 use Rattle.pgcl_front.specs.internal.Programs.{program}

@@ -6,7 +6,7 @@ use Rattle.heyvl_syntax.specs.declared.tokens.Token.{Token}
 use Rattle.pgcl_front.proofs.Endings.{count_append, prog_goes}
 use Rattle.pgcl_front.specs.Grammar.{IsProg, IsProgram, is_quantifier, quantifier_count}
 use Rattle.pgcl_front.specs.Programs.{ProgramTree}
-use Rattle.std.proofs.Common.{List, [], arith, cond, inl, inr, length, subst, sym, take, ◌++◌, ◌+◌, ◌-◌, ◌<◌, ◌≡◌, ◌≤◌, ◌⊎◌, ℕ}
+use Rattle.std.proofs.Common.{List, [], arith, cond, inl, inr, length, subst, sym, take, ◌+◌, ◌-◌, ◌<◌, ◌≡◌, ◌≤◌, ◌⊎◌, ℕ}
 use Rattle.std.proofs.lemmas.Bool.{cases_order}
 use Rattle.std.proofs.lemmas.List.Sums.{sum_by-take-le}
 use Rattle.std.proofs.lemmas.List.{append-nil, length-take-le, take-take, take_all}

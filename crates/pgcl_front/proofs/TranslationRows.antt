@@ -1,5 +1,4 @@
 -- Worked rows of the translation, computed.
-use Rattle.heyvl_places.specs.declared.spans.Span.{Span}
 use Rattle.heyvl_syntax.specs.Expressions.{Expression}
 use Rattle.heyvl_syntax.specs.Procedures.{Procedure}
 use Rattle.heyvl_syntax.specs.Statements.{Arms, Block, LoopRule, RightSide, Statement}
@@ -9,7 +8,7 @@ use Rattle.pgcl_front.proofs.ProgramRows.{bound_at, digit, name, span, walk, wal
 use Rattle.pgcl_front.specs.Programs.{BlockTree, CommandTree}
 use Rattle.pgcl_front.specs.Translation.{first_place, picks_in, statements, translated}
 use Rattle.std.specs.Fmt.{digits}
-use Rattle.std.proofs.Common.{List, None, Some, [], codes, false, refl, true, ◌+◌, ◌∷◌, ◌≡◌, ℕ}
+use Rattle.std.proofs.Common.{List, None, Some, [], codes, false, refl, true, ◌∷◌, ◌≡◌, ℕ}
 
 -- coproc main(init_c: UInt, init_go: Bool) -> (c: UInt, go: Bool)
 --   pre ite(init_go, init_c + 1, init_c)

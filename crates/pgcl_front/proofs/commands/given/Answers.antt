@@ -1,5 +1,5 @@
 use Rattle.pgcl_front.proofs.commands.given.Goals as goal
-use Rattle.std.proofs.Common.{arith, refl}
+use Rattle.std.proofs.Common.{arith}
 use Rattle.std.proofs.lemmas.Grind.{common_steps}
 
 pub returns-in_err-rest-2-clause-value : goal.returns-in_err-rest-2-clause-value
