@@ -1,0 +1,14 @@
+mod Pieces
+mod Names
+mod Spread
+mod Loads
+mod Trees
+mod Lines
+mod Spelled
+mod Writing
+mod Calls
+mod Findings
+mod GeneratedLines
+mod GeneratedFiles
+mod Lengths
+mod Examples
