@@ -1,0 +1,3 @@
+mod NoFault
+mod Written
+mod Words
