@@ -1,0 +1,4 @@
+pub mod OneLoop
+pub mod Collected
+pub mod Omega
+pub mod Remainder
