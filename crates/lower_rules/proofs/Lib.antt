@@ -1,0 +1,9 @@
+pub mod OwnVariables
+pub mod LoopParts
+pub mod Calm
+pub mod Straight
+pub mod OmegaBounds
+pub mod Shapes
+pub mod Raised
+pub mod RemainderBounds
+mod Examples
