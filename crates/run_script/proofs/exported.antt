@@ -1,0 +1,3 @@
+pub mod PlainReading
+pub mod StartStates
+pub mod UniqueScripts

@@ -1,0 +1,29 @@
+-- The texts of what a run by a script comes to. This project's own.
+use Rattle.heyvl_num.specs.Rational.{Rational}
+use Rattle.heyvl_num.specs.Value.Value.{finite, infinite}
+use Rattle.heyvl_num.specs.Value.{Value}
+use Rattle.number_texts.specs.ValueTexts.{fraction_text}
+use Rattle.run_unroller.specs.Totals.{Totals}
+use Rattle.std.specs.Prelude.{List, [], codes, decimal, ◌+◌, ◌++◌, ◌∷◌, ℕ}
+
+-- A fraction, or `infinity`.
+abbrev pub sum_text : Value → List ℕ
+sum_text (finite q) = fraction_text q
+sum_text infinite = codes "infinity"
+
+-- `loop N turns F`, a line for each loop; the first has this number.
+abbrev pub turns_text : ℕ → List Rational → List ℕ
+turns_text n [] = []
+turns_text n (t ∷ ts) = codes "loop " ++ decimal n ++ codes " turns " ++ fraction_text t ++ codes "\n" ++ turns_text (n + 1) ts
+
+-- `post E`, `reward E`, `running F`, and a line for each loop of the procedure.
+abbrev pub sums_text : Totals → List ℕ
+sums_text t = codes "post " ++ sum_text t.post ++ codes "\nreward " ++ sum_text t.reward ++ codes "\nrunning " ++ fraction_text t.running ++ codes "\n" ++ turns_text 1 t.turns
+
+-- The cause is `runs`, `values` or `bits`.
+abbrev pub stop_text : List ℕ → ℕ → List ℕ
+stop_text cause step = codes "run stopped at step " ++ decimal step ++ codes ": " ++ cause ++ codes "\n"
+
+-- The line on a script with a fault in this line.
+abbrev pub script_fault_text : ℕ → List ℕ
+script_fault_text line = codes "script line " ++ decimal line ++ codes ": fault\n"

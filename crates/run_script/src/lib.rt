@@ -1,0 +1,18 @@
+//! Scripts of runs: what one says, where a run by it starts, and the text of what it comes to.
+#![tactic(auto)]
+
+mod laws;
+mod lines;
+mod reading;
+mod scripts;
+mod starts;
+mod stops;
+mod texts;
+mod values;
+
+pub use laws::{faults_are_unique, scripts_are_unique, scripts_have_no_fault};
+pub use reading::read_script;
+pub use scripts::{Script, Setting};
+pub use starts::{known_variables, start_state};
+pub use stops::ScriptStop;
+pub use texts::{script_fault_text, stop_text, sums_text};

@@ -1,0 +1,160 @@
+//! What a script says, and which lines may stand behind its own.
+
+ghost use Rattle.heyvl_acts.specs.PlainActs.{variable_of};
+ghost use Rattle.run_script.specs.Lines.{said as said_of};
+ghost use Rattle.run_script.specs.PlainScripts.{known_in, script_of};
+ghost use Rattle.run_script.specs.Scripts.{takes as takes_value};
+ghost use Rattle.run_script.specs.internal.Reading.{begun, gone_on, is_set, line_of, may_follow, may_set, with_line};
+ghost use Rattle.std.specs.List.{list_any};
+ghost use Rattle.std.specs.Prelude.{IfOk, None, OnOk, Some, if◌then◌else◌, ◌≡◌};
+ghost use Rattle.std.specs.Str.{bytes_eq};
+
+use crate::lines::{Line, said};
+use crate::values::has;
+use heylo_formula::Val;
+use heyvl_acts::VarInfo;
+use heyvl_places::Name;
+use run_machine::Decide;
+use std::alloc::{AllocError, Global};
+
+/// A value that is set, and the name of its variable.
+#[derive(Drop)]
+pub struct Setting {
+    /// The name of an input or output.
+    pub name: Name,
+    /// The value that it starts with.
+    pub value: Val,
+}
+
+/// What a script says.
+#[derive(Drop)]
+pub struct Script {
+    /// How many steps the run takes, at most 10,000.
+    pub steps: u32,
+    /// The values that are set.
+    pub settings: Vec<Setting>,
+    /// The decisions, in order.
+    pub decisions: Vec<Decide>,
+}
+
+/// Whether the variable has this name, and its type this value.
+fn takes(name: &[u8], value: &Val, variable: &VarInfo) -> bool
+    ensures { result ≡ takes_value (record { name = name.now; value = value.now }) (variable_of variable.now) }
+{
+    name == variable.name.as_bytes() && has(variable.ty, value)
+}
+
+/// Whether one of the variables has this name, and its type this value.
+fn some_takes(name: &[u8], value: &Val, variables: &[VarInfo]) -> bool
+    ensures { result ≡ list_any (λ x. takes_value (record { name = name.now; value = value.now }) (variable_of x)) variables.now }
+{
+    variables
+        .iter()
+        .any(|variable| takes(name, value, variable))
+}
+
+/// Whether it is this variable's value that is set.
+fn sets(name: &[u8], setting: &Setting) -> bool
+    ensures { result ≡ bytes_eq setting.now.name name.now }
+{
+    setting.name.as_bytes() == name
+}
+
+/// Whether a value is set for this name.
+fn is_set(name: &[u8], settings: &[Setting]) -> bool
+    ensures { result ≡ is_set name.now settings.now }
+{
+    settings.iter().any(|setting| sets(name, setting))
+}
+
+impl Script {
+    /// A script that says nothing but its steps.
+    pub(crate) fn new(alloc: Global, steps: u32) -> Self
+        ensures { Some (script_of result) ≡ begun (Some (line_of (Line.Steps steps))) }
+    {
+        Script {
+            steps,
+            settings: Vec::new(alloc),
+            decisions: Vec::new(alloc),
+        }
+    }
+
+    /// Whether a value may be set behind those that are. Where no procedure is known, any name that isn't empty may be set.
+    fn may_set(&self, known: Option<&[VarInfo]>, name: &[u8], value: &Val) -> bool
+        ensures { result ≡ may_set (known_in known.entry) (script_of self.now).settings (record { name = name.now; value = value.now }) }
+    {
+        match known {
+            None => !name.is_empty(),
+            Some(variables) => {
+                some_takes(name, value, variables) && !is_set(name, &self.settings)
+            }
+        }
+    }
+
+    /// Whether the line may stand behind those of the script.
+    fn may_follow(&self, known: Option<&[VarInfo]>, line: &Line<'_>) -> bool
+        ensures { result ≡ may_follow (known_in known.entry) (script_of self.now) (line_of line.now) }
+    {
+        match line {
+            Line::Steps(_) => false,
+            Line::Set(name, value) => {
+                self.decisions.is_empty() && self.may_set(known, name, value)
+            }
+            Line::Decide(_) => true,
+        }
+    }
+
+    /// Puts a line behind those of the script.
+    fn add(&mut self, alloc: Global, line: &Line<'_>) -> Result<(), AllocError>
+        ensures { OnOk result (script_of self.new ≡ with_line (script_of self.old) (line_of line.now)) }
+    {
+        match line {
+            Line::Steps(steps) => {
+                self.steps = *steps;
+                Ok(())
+            }
+            Line::Set(name, value) => {
+                let name = Name::new(alloc, name)?;
+                Ok(
+                    self.settings.push(Setting {
+                        name,
+                        value: *value,
+                    })?,
+                )
+            }
+            Line::Decide(made) => Ok(self.decisions.push(*made)?),
+        }
+    }
+
+    /// Puts a line behind those of the script, where it may stand there, and says whether it may.
+    fn take(
+        &mut self,
+        alloc: Global,
+        known: Option<&[VarInfo]>,
+        line: &Line<'_>,
+    ) -> Result<bool, AllocError>
+        ensures { IfOk result (λ kept. gone_on (known_in known.entry) (script_of self.old) (Some (line_of line.now)) ≡ (if kept then Some (script_of self.new) else None)) }
+    {
+        if !self.may_follow(known, line) {
+            return Ok(false);
+        }
+        self.add(alloc, line)?;
+        Ok(true)
+    }
+
+    /// Reads a line more, and says whether it may stand there.
+    pub(crate) fn read(
+        &mut self,
+        alloc: Global,
+        known: Option<&[VarInfo]>,
+        line: &[u8],
+    ) -> Result<bool, AllocError>
+        ensures { IfOk result (λ kept. gone_on (known_in known.entry) (script_of self.old) (said_of line.now) ≡ (if kept then Some (script_of self.new) else None)) }
+    {
+        match said(alloc, line) {
+            Ok(Some(line)) => self.take(alloc, known, &line),
+            Ok(None) => Ok(false),
+            Err(error) => Err(error),
+        }
+    }
+}

@@ -1,0 +1,101 @@
+//! The first state of a run.
+
+ghost use Rattle.heylo_formula.specs.State.{default as default_of, fit};
+ghost use Rattle.heyvl_acts.specs.PlainActs.{procedure_of, variable_of};
+ghost use Rattle.heyvl_acts.specs.Rules.{IsCounted};
+ghost use Rattle.run_script.specs.Starts.{known_of, start_state, start_value};
+ghost use Rattle.std.specs.List.{find};
+ghost use Rattle.std.specs.Prelude.{IfOk, OnOk, drop, map, take, ◌++◌, ◌+◌, ◌≡◌};
+ghost use Rattle.std.specs.Str.{bytes_eq};
+
+use crate::scripts::Setting;
+use crate::values::{default, has};
+use heylo_formula::{Ty, Val};
+use heyvl_acts::{TProc, VarInfo};
+use std::alloc::{AllocError, Global};
+
+/// The value, where it is of the type; else false or 0.
+fn fit(ty: Ty, value: Val) -> Val
+    ensures { result ≡ fit ty value }
+{
+    if has(ty, &value) { value } else { default(ty) }
+}
+
+/// The value of an input or output: the one that is set for its name, else false or 0.
+fn start_value(settings: &[Setting], variable: &VarInfo) -> Val
+    ensures { result ≡ start_value settings.now (variable_of variable.now) }
+{
+    for setting in settings {
+        if sets(setting, variable) {
+            return fit(variable.ty, setting.value);
+        }
+    }
+    default(variable.ty)
+}
+
+/// Whether it is this variable's value that is set.
+fn sets(setting: &Setting, variable: &VarInfo) -> bool
+    ensures { result ≡ bytes_eq variable.now.name setting.now.name }
+{
+    variable.name.as_bytes() == setting.name.as_bytes()
+}
+
+/// The variables that a script may set: the inputs and the outputs.
+#[tactic(auto, using(crate::proofs::FirstStates::known_front))]
+pub fn known_variables(procedure: &TProc) -> &[VarInfo]
+    requires { IsCounted procedure.now }
+    ensures front { result.now ≡ take (procedure.now.inputs + procedure.now.outputs) procedure.now.vars.items }
+    ensures known { map variable_of result.now ≡ known_of (procedure_of procedure.now) }
+{
+    let known = procedure.inputs as usize + procedure.outputs as usize;
+    &procedure.vars[..known]
+}
+
+/// The variables that a script may not set.
+fn other_variables(procedure: &TProc) -> &[VarInfo]
+    requires { IsCounted procedure.now }
+    ensures { result.now ≡ drop (procedure.now.inputs + procedure.now.outputs) procedure.now.vars.items }
+{
+    let known = procedure.inputs as usize + procedure.outputs as usize;
+    &procedure.vars[known..]
+}
+
+/// The values of the variables in order: those that are set, and else false or 0.
+fn add_values(
+    state: &mut Vec<Val>,
+    settings: &[Setting],
+    variables: &[VarInfo],
+) -> Result<(), AllocError>
+    ensures { OnOk result (state.new.items ≡ state.old.items ++ map (λ x. start_value settings.now (variable_of x)) variables.now) }
+{
+    for variable in variables {
+        state.push(start_value(settings, variable))?;
+    }
+    Ok(())
+}
+
+/// False or 0 for each of the variables.
+fn add_defaults(state: &mut Vec<Val>, variables: &[VarInfo]) -> Result<(), AllocError>
+    ensures { OnOk result (state.new.items ≡ state.old.items ++ map (λ x. default_of x.ty) variables.now) }
+{
+    for variable in variables {
+        state.push(default(variable.ty))?;
+    }
+    Ok(())
+}
+
+/// The first state: the inputs and outputs have the values that are set; every other variable is false or 0.
+#[tactic(auto, using(crate::proofs::FirstStates::state_made))]
+pub fn start_state(
+    alloc: Global,
+    procedure: &TProc,
+    settings: &[Setting],
+) -> Result<Vec<Val>, AllocError>
+    requires { IsCounted procedure.now }
+    ensures { IfOk result (λ state. state.items ≡ start_state (procedure_of procedure.now) settings.now) }
+{
+    let mut state = Vec::new(alloc);
+    add_values(&mut state, settings, known_variables(procedure))?;
+    add_defaults(&mut state, other_variables(procedure))?;
+    Ok(state)
+}
