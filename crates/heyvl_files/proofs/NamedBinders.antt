@@ -1,7 +1,7 @@
 -- The binders of a post are named after variables of the procedure: those of the fronts of its post clauses. The types of fronts and
 -- of demands can't be named outside heyvl_types, so signatures leave them to be found.
-use Rattle.heyvl_tool.proofs.EachOf.{each_mapped}
-use Rattle.heyvl_tool.proofs.Meanings.{Holds, Spreads, bracketed_holds, chosen_holds, embedded_holds, infixed_holds, literal_holds, name_holds, prefixed_holds, quantified_holds}
+use Rattle.heyvl_files.proofs.EachOf.{each_mapped}
+use Rattle.heyvl_files.proofs.Meanings.{Holds, Spreads, bracketed_holds, chosen_holds, embedded_holds, infixed_holds, literal_holds, name_holds, prefixed_holds, quantified_holds}
 use Rattle.heylo_formula.specs.BinderNames.{Binder, binders, binders_in}
 use Rattle.heylo_formula.specs.Formula.{Cond, Form}
 use Rattle.heyvl_syntax.specs.Expressions.{Expression}

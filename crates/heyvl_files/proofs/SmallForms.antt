@@ -1,5 +1,5 @@
 -- The forms of a file of at most 2^20 tokens have at most 2^27 nodes.
-use Rattle.heyvl_tool.proofs.EachOf.{each_weaker}
+use Rattle.heyvl_files.proofs.EachOf.{each_weaker}
 use Rattle.heylo_formula.specs.Formula.{Form}
 use Rattle.heylo_formula.specs.Sizes.{nodes_in_term}
 use Rattle.heyvl_num.specs.Rational.{Rational}

@@ -1,9 +1,9 @@
 -- The bodies of a file that tokens spell have few acts: an If of such a file has an arm, a loop has a copy of its body, and so each
 -- act is among the statements that the encoding has.
-use Rattle.heyvl_tool.proofs.EachOf.{each_back, each_front, each_two, each_weaker}
-use Rattle.heyvl_tool.proofs.SpelledFiles.{HasSpelledParts, file_spelled}
-use Rattle.heyvl_tool.proofs.Spelled.{ArePlaced}
-use Rattle.heyvl_tool.proofs.SpelledStatements.{IsArmed, IsSpelled}
+use Rattle.heyvl_files.proofs.EachOf.{each_back, each_front, each_two, each_weaker}
+use Rattle.heyvl_files.proofs.SpelledFiles.{HasSpelledParts, file_spelled}
+use Rattle.heyvl_files.proofs.Spelled.{ArePlaced}
+use Rattle.heyvl_files.proofs.SpelledStatements.{IsArmed, IsSpelled}
 use Rattle.heyvl_syntax.specs.Grammar.{IsFile}
 use Rattle.heyvl_syntax.specs.Procedures.{Procedure}
 use Rattle.heyvl_syntax.specs.declared.tokens.Token.{Token}

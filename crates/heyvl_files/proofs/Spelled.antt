@@ -5,7 +5,7 @@ use Rattle.heyvl_places.specs.declared.spans.Span.{Span}
 use Rattle.heyvl_syntax.specs.declared.tokens.Token.{Token}
 use Rattle.heyvl_syntax.specs.declared.tokens.TokenKind.{TokenKind}
 use Rattle.heyvl_acts.specs.Rules.{Each}
-use Rattle.heyvl_tool.proofs.EachOf.{each_back, each_front}
+use Rattle.heyvl_files.proofs.EachOf.{each_back, each_front}
 use Rattle.std.proofs.Common.{List, [], ap, arith, length, subst, ◌++◌, ◌∷◌, ◌≡◌, ◌≤◌, ℕ}
 
 -- ---- Tokens

@@ -1,9 +1,9 @@
 -- What holds of the procedures of a file that tokens spell, each of which begins within so many bytes; and the procedures of a file
 -- stand within the bytes of its text.
-use Rattle.heyvl_tool.proofs.EachOf.{each_mapped, each_weaker}
-use Rattle.heyvl_tool.proofs.SpelledExpressions.{ExpressionStands, expr, form_stands}
-use Rattle.heyvl_tool.proofs.Spelled.{ArePlaced, Gives, any, each, tokens_inside, within, ◌before◌}
-use Rattle.heyvl_tool.proofs.SpelledStatements.{IsSpelled, block}
+use Rattle.heyvl_files.proofs.EachOf.{each_mapped, each_weaker}
+use Rattle.heyvl_files.proofs.SpelledExpressions.{ExpressionStands, expr, form_stands}
+use Rattle.heyvl_files.proofs.Spelled.{ArePlaced, Gives, any, each, tokens_inside, within, ◌before◌}
+use Rattle.heyvl_files.proofs.SpelledStatements.{IsSpelled, block}
 use Rattle.heylo_formula.specs.Formula.{Form}
 use Rattle.heyvl_syntax.proofs.exported.InOrder.{stand_in_order}
 use Rattle.heyvl_syntax.specs.Expressions.{Expression}

@@ -1,10 +1,15 @@
 -- A file within the limits has at most 1,024 procedures.
+use Rattle.heyvl_acts.specs.PlainActs.{procedure_of, procedures_of}
+use Rattle.heyvl_acts.specs.declared.typed.Typed.{Typed}
 use Rattle.heyvl_syntax.specs.Grammar.{IsFile, IsProc, proc_key}
 use Rattle.heyvl_syntax.specs.Procedures.{Procedure}
 use Rattle.heyvl_syntax.specs.Productions.{IsEach, IsKey}
-use Rattle.heyvl_syntax.specs.SourceFaults.{IsWithinLimits, is_procedure_key, procedure_count}
+use Rattle.heyvl_syntax.specs.SourceFaults.{IsSource, IsWithinLimits, is_procedure_key, procedure_count}
 use Rattle.heyvl_syntax.specs.declared.tokens.Token.{Token}
+use Rattle.heyvl_types.specs.Files.{resolved, typed}
+use Rattle.heyvl_types.specs.Signatures.{called}
 use Rattle.std.proofs.Common.{Bool, List, [], ap, arith, cond, false, length, refl, true, ◌++◌, ◌+◌, ◌∷◌, ◌∙◌, ◌≡◌, ◌≤◌, ℕ}
+use Rattle.std.proofs.lemmas.List.{length-map}
 use Rattle.std.proofs.lemmas.List.Recursion.{is_count_by}
 
 -- How many of the tokens are `proc` or `coproc`.
@@ -51,3 +56,12 @@ few_procedures file tokens within is =
     let same = keys_counted tokens in
     let few = within.uncrowded in
     omega (arith, some, same, few)
+
+-- The typed tree of a file that bytes spell has few procedures.
+pub few_typed : (bytes : List ℕ) (file : List Procedure) (tree : Typed) → IsSource bytes file → procedures_of tree ≡ resolved file → length tree.procs.items ≤ 1024
+few_typed bytes file tree spelled same =
+    let few = few_procedures file spelled.tokens spelled.within spelled.is_file in
+    let one : length (procedures_of tree) ≡ length tree.procs.items = length-map tree.procs.items procedure_of in
+    let two : length (resolved file) ≡ length file = length-map file (typed (called file)) in
+    let three : length (procedures_of tree) ≡ length (resolved file) = ap length same in
+    omega (arith, few, one, two, three)

@@ -1,0 +1,13 @@
+mod EachOf
+mod FewActs
+mod FewProcedures
+mod Meanings
+mod NamedBinders
+mod ProgramFiles
+mod ReadyFiles
+mod SmallForms
+mod Spelled
+mod SpelledExpressions
+mod SpelledFiles
+mod SpelledStatements
+mod WorkedFaults

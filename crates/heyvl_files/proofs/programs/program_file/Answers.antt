@@ -1,0 +1,20 @@
+use Rattle.heyvl_files.proofs.ProgramFiles.{stops_program}
+use Rattle.heyvl_files.proofs.programs.program_file.Goals as goal
+use Rattle.heyvl_files.specs.Programs.IsProgramFault.{static}
+use Rattle.heyvl_syntax.specs.Procedures.{procedures}
+use Rattle.heyvl_types.specs.Files.{first_fault}
+use Rattle.heyvl_types.specs.Findings.{first}
+use Rattle.std.proofs.Common.{None, Some, ap, ◌≡◌}
+
+pub returns-in-Err : goal.returns-in-Err
+returns-in-Err c = stops_program c.args.bytes.now c.in-Err.stop c.in-Err.ensures
+
+pub returns-in-Ok-resolve : goal.returns-in-Ok-resolve
+returns-in-Ok-resolve c =
+    let none : first_fault (procedures c.in-Ok.file) ≡ None = ap first c.in-Ok-resolve.ensures.gives.0 in
+    record { source = c.in-Ok.ensures; faultless = none }
+
+pub returns-in-Err-Fault : goal.returns-in-Err-Fault
+returns-in-Err-Fault c =
+    let fault : first_fault (procedures c.in-Ok.file) ≡ Some (c.in-Err-Fault.number, c.in-Err-Fault.place) = rw c.in-Err-Fault.field-0-is at c.in-Err-Fault.ensures.gives in
+    static (procedures c.in-Ok.file) c.in-Ok.ensures fault

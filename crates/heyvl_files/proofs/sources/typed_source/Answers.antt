@@ -1,0 +1,16 @@
+use Rattle.heyvl_syntax.specs.Procedures.{procedures}
+use Rattle.heyvl_files.proofs.sources.typed_source.Goals as goal
+use Rattle.heyvl_files.specs.Sources.IsFileFault.{static}
+use Rattle.heyvl_types.specs.Files.{first_fault}
+use Rattle.heyvl_types.specs.Findings.{first}
+use Rattle.std.proofs.Common.{None, Some, ap, ◌≡◌}
+
+pub returns-in-Ok : goal.returns-in-Ok
+returns-in-Ok c =
+    let none : first_fault (procedures c.in_ok-file.file) ≡ None = ap first c.in-Ok.ensures.gives.0 in
+    record { file = procedures c.in_ok-file.file; spelled = c.in_ok-file.ensures; faultless = none; same = c.in-Ok.ensures.gives.1; ready = c.in-Ok.ensures.ready c.args.bytes.now c.requires c.in_ok-file.ensures }
+
+pub returns-in-Err-Fault : goal.returns-in-Err-Fault
+returns-in-Err-Fault c =
+    let fault : first_fault (procedures c.in_ok-file.file) ≡ Some (c.in-Err-Fault.number, c.in-Err-Fault.place) = rw c.in-Err-Fault.field-0-is at c.in-Err-Fault.ensures.gives in
+    static (procedures c.in_ok-file.file) c.in_ok-file.ensures fault

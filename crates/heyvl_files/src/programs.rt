@@ -1,0 +1,63 @@
+//! Files that programs of guarded commands become.
+
+ghost use Rattle.heyvl_files.specs.Programs.{IsProgramFile, IsProgramStop, IsTranslationStop, ProgramFaultIsUnique, ProgramFileIsUnique, ProgramFilesAreSpelled, ProgramFilesHaveNoFault};
+ghost use Rattle.heyvl_files.specs.Sources.{file_limit};
+ghost use Rattle.heyvl_syntax.specs.Procedures.{procedures};
+ghost use Rattle.pgcl_front.specs.Sources.{IsPgclSource};
+ghost use Rattle.std.specs.Prelude.{MatchResult, length, ◌≤◌};
+
+use crate::fault_lines::token_place;
+use crate::sources::SourceStop;
+use heyvl_syntax::{File, LexStop, lex};
+use heyvl_types::{ResolveStop, resolve};
+use pgcl_front::{PgclStop, pgcl_sources_are_unique, translate, translations_are_spelled};
+use std::alloc::Global;
+
+/// The file that the program with these bytes becomes, or the first of its faults of bytes, tokens and names.
+fn translated_file(alloc: Global, bytes: &[u8]) -> Result<File, SourceStop>
+    requires { length bytes.now ≤ file_limit }
+    ensures { MatchResult result (λ file. IsPgclSource bytes.now (procedures file)) (λ stop. IsTranslationStop bytes.now stop) }
+{
+    let tokens = match lex(alloc, bytes) {
+        Ok(tokens) => tokens,
+        Err(LexStop::Fault(number, place)) => return Err(SourceStop::Fault(number, place)),
+        Err(LexStop::Memory(error)) => return Err(SourceStop::Memory(error)),
+    };
+    match translate(alloc, &tokens) {
+        Ok(file) => Ok(file),
+        Err(PgclStop::Fault(number, index)) => {
+            let place = token_place(bytes, &tokens, index);
+            Err(SourceStop::Fault(number, place))
+        }
+        Err(PgclStop::Memory(error)) => Err(SourceStop::Memory(error)),
+    }
+}
+
+/// The file of HeyVL that the program of guarded commands with these bytes becomes, at most 1,048,576 of them, where it has no static fault; or
+/// the program's first fault: 1 to 3, then 5, 30 and 31, and then those of the file, each at a place of the program.
+pub fn program_file(alloc: Global, bytes: &[u8]) -> Result<File, SourceStop>
+    requires { length bytes.now ≤ file_limit }
+    ensures { MatchResult result (λ file. IsProgramFile bytes.now (procedures file)) (λ stop. IsProgramStop bytes.now stop) }
+{
+    let file = match translated_file(alloc, bytes) {
+        Ok(file) => file,
+        Err(stop) => return Err(stop),
+    };
+    match resolve(alloc, &file) {
+        Ok(_) => Ok(file),
+        Err(ResolveStop::Fault(number, place)) => Err(SourceStop::Fault(number, place)),
+        Err(ResolveStop::Memory(error)) => Err(SourceStop::Memory(error)),
+    }
+}
+
+/// A program becomes at most one file without a static fault, has at most one first fault, and never both; and the canonical text of its
+/// file spells this file again, up to places.
+pub fn program_files_are_unique()
+    ensures file { ProgramFileIsUnique }
+    ensures fault { ProgramFaultIsUnique }
+    ensures either { ProgramFilesHaveNoFault }
+    ensures spelled { ProgramFilesAreSpelled }
+{
+    pgcl_sources_are_unique();
+    translations_are_spelled();
+}

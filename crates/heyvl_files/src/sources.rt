@@ -1,0 +1,87 @@
+//! Files of HeyVL that bytes spell.
+
+ghost use Rattle.heyvl_acts.specs.PlainActs.{procedures_of};
+ghost use Rattle.heyvl_files.specs.Sources.{IsReady, IsSourceStop, IsSpellingStop, IsTypedSource, file_limit};
+ghost use Rattle.heyvl_files.specs.declared.sources.SourceStop.TheVariants.{Memory};
+ghost use Rattle.heyvl_syntax.specs.Procedures.{procedures};
+ghost use Rattle.heyvl_syntax.specs.SourceFaults.{IsSource};
+ghost use Rattle.heyvl_types.specs.Answers.{Gives};
+ghost use Rattle.heyvl_types.specs.Files.{file_findings, resolved};
+ghost use Rattle.std.specs.Prelude.{IfOk, List, MatchResult, length, ◌≡◌, ◌≤◌, ℕ};
+
+use crate::fault_lines::token_place;
+use crate::file_laws::{
+    files_have_few_acts, files_have_named_binders, files_have_small_forms, files_stand_within,
+};
+use heyvl_acts::Typed;
+use heyvl_parse::{ParseStop, parse};
+use heyvl_places::Span;
+use heyvl_syntax::{File, LexStop, lex};
+use heyvl_types::{ResolveStop, resolve, resolved_trees_meet_the_rules};
+use std::alloc::{AllocError, Global};
+use thiserror::Error;
+
+/// Why bytes are refused as a file.
+#[derive(Clone, Copy, Debug, Error)]
+pub enum SourceStop {
+    /// The file has the fault of this number, which stands there.
+    #[error("fault {0}")]
+    Fault(u8, Span),
+    /// Memory ran out.
+    #[error("out of memory")]
+    Memory(AllocError),
+}
+
+impl From<AllocError> for SourceStop {
+    ghost from_gives = { λ error stop. stop ≡ Memory error };
+
+    fn from(error: AllocError) -> Self {
+        SourceStop::Memory(error)
+    }
+}
+
+/// The file that these bytes spell, at most 1,048,576 of them, or the first of their faults 1 to 6.
+pub fn spelled_file(alloc: Global, bytes: &[u8]) -> Result<File, SourceStop>
+    requires { length bytes.now ≤ file_limit }
+    ensures { MatchResult result (λ file. IsSource bytes.now (procedures file)) (λ stop. IsSpellingStop bytes.now stop) }
+{
+    let tokens = match lex(alloc, bytes) {
+        Ok(tokens) => tokens,
+        Err(LexStop::Fault(number, place)) => return Err(SourceStop::Fault(number, place)),
+        Err(LexStop::Memory(error)) => return Err(SourceStop::Memory(error)),
+    };
+    match parse(alloc, &tokens) {
+        Ok(file) => Ok(file),
+        Err(ParseStop::Fault(number, index)) => {
+            let place = token_place(bytes, &tokens, index);
+            Err(SourceStop::Fault(number, place))
+        }
+        Err(ParseStop::Memory(error)) => Err(SourceStop::Memory(error)),
+    }
+}
+
+/// The typed tree of a file, which is ready for every command, or the file's first static fault.
+fn typed_file(alloc: Global, file: &File) -> Result<Typed, ResolveStop>
+    ensures gives { Gives procedures_of result (file_findings (procedures file.now)) (resolved (procedures file.now)) }
+    ensures ready { (bytes : List ℕ) → length bytes ≤ file_limit → IsSource bytes (procedures file.now) → IfOk result (λ typed. IsReady bytes typed) }
+{
+    resolved_trees_meet_the_rules();
+    files_have_few_acts();
+    files_have_small_forms();
+    files_stand_within();
+    files_have_named_binders();
+    resolve(alloc, file)
+}
+
+/// The typed tree of the file that these bytes spell, at most 1,048,576 of them, which is ready for every command; or the fault of that file.
+pub fn typed_source(alloc: Global, bytes: &[u8]) -> Result<Typed, SourceStop>
+    requires { length bytes.now ≤ file_limit }
+    ensures { MatchResult result (λ typed. IsTypedSource bytes.now typed) (λ stop. IsSourceStop bytes.now stop) }
+{
+    let file = spelled_file(alloc, bytes)?;
+    match typed_file(alloc, &file) {
+        Ok(typed) => Ok(typed),
+        Err(ResolveStop::Fault(number, place)) => Err(SourceStop::Fault(number, place)),
+        Err(ResolveStop::Memory(error)) => Err(SourceStop::Memory(error)),
+    }
+}
