@@ -1,19 +1,30 @@
 -- What a call may do to the source that it is handed.
-use Rattle.heyvl_io.specs.Order.{order_after}
-use Rattle.heyvl_tool.specs.Calls.{IsStarted, Moment, Names, file_limit}
-use Rattle.std.specs.Prelude.{List, None, Option, Some, ◌+◌, ◌≡◌, ◌≤◌, ◌⊎◌, ℕ}
+use Rattle.heyvl_files.specs.Sources.{file_limit}
+use Rattle.heyvl_tool.specs.Calls.{Call, IsStarted, Moment, Names}
+use Rattle.heyvl_tool.specs.Words.{AskFor, IsUsage}
+use Rattle.heyvl_tool.specs.commands.{Files, files_of}
+use Rattle.heyvl_tool.specs.declared.requests.Settings.{Settings}
+use Rattle.std.specs.Prelude.{List, ◌+◌, ◌≡◌, ◌⊎◌, ℕ}
 
--- Of the words' names the file was started, once, and then perhaps the second one, where there is one, once; and nothing else.
-abbrev pub IsStartedInTurn : Names → List ℕ → Option (List ℕ) → Moment → Moment → Type 0
-IsStartedInTurn names file None before after = IsStarted names file before after
-IsStartedInTurn names file (Some second) before after = IsStarted names file before after ⊎ (after.order ≡ order_after names.order second (order_after names.order file before.order))
-
--- So it was, and of the last one that was started at most one byte more was taken than a file may have.
-pub record IsReadInTurn (names : Names) (file : List ℕ) (second : Option (List ℕ)) (before after : Moment) : Type 0 where
-  pub started : IsStartedInTurn names file second before after
-  pub few : after.taken ≤ file_limit + 1
-
--- Nothing was started, and nothing taken.
+-- Nothing was started, and nothing handed out.
 pub record IsUntouched (before after : Moment) : Type 0 where
   pub order : after.order ≡ before.order
-  pub taken : after.taken ≡ before.taken
+  pub history : after.history ≡ before.history
+
+-- This name was started, once, and of it at most one byte more was handed out than a file may have.
+abbrev pub IsStartedOnce : Names → List ℕ → Moment → Moment → Type 0
+IsStartedOnce names name before after = IsStarted (file_limit + 1) names name before after
+
+-- Of the names of the files the first was started, once, and then perhaps the second, once, and of each at most one byte more was handed out
+-- than a file may have. Nothing else was started, and nothing where there is no file.
+abbrev pub IsReadInTurn : Files → Names → Moment → Moment → Type 0
+IsReadInTurn Files.none names before after = IsUntouched before after
+IsReadInTurn (Files.one file) names before after = IsStartedOnce names file before after
+IsReadInTurn (Files.two file second) names before after =
+    IsStartedOnce names file before after ⊎ ((between : Moment) × IsStartedOnce names file before between × IsStartedOnce names second between after)
+
+-- The names were started as the top call promises it: none where the words are no command; else those of the words in turn, or none
+-- where there was no memory for the words.
+pub record IsStartedRight (made : Call) (NoMemory : Type 0) : Type 0 where
+  pub no_start : IsUsage made.words → IsUntouched made.before made.after
+  pub start : (settings : Settings) → AskFor made.words settings → IsReadInTurn (files_of settings) made.names made.before made.after ⊎ (NoMemory × IsUntouched made.before made.after)

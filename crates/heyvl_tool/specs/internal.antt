@@ -1,3 +1,4 @@
+pub mod CommandLine
+pub mod FileNames
 pub mod Met
-pub mod ScriptNames
-pub mod TypedFiles
+pub mod Refusals

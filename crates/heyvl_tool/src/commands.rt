@@ -1,151 +1,44 @@
-//! The commands and their words.
+//! The commands: what each says of the bytes of its files.
 
-ghost use Rattle.clap.specs.Words.{app_of, first_of, found_of, rule_of, rows_of, subcommand_rows_of};
-ghost use Rattle.clap.specs.declared.builder.command.Command.TheViews.{out-Command};
-ghost use Rattle.std.specs.List.{list_all};
-ghost use Rattle.std.specs.Prelude.{IfErr, IfOk, List, MatchResult, Some, false, map, string_bytes, true, ◌≡◌, ℕ};
-ghost use Rattle.heyvl_tool.specs.CommandLine.{argument, command, tool};
-ghost use Rattle.heyvl_tool.specs.internal.Met.{IsFound, IsMemory, IsMet};
-ghost use Rattle.heyvl_tool.specs.Words.{AskFor, IsSettingsStop, is_argument};
-ghost use Rattle.heyvl_tool.specs.declared.requests.Settings.{Settings};
+pub mod certify;
+pub mod check;
+pub mod generate;
+pub mod pgcl;
+pub mod print;
+pub mod run;
+pub mod verify;
 
-use crate::{Settings, SettingsStop, Word};
-use clap::error::ErrorKind;
-use clap::{Arg, ArgAction, ArgMatches, Command};
+ghost use Rattle.heyvl_files.specs.Sources.{file_limit};
+ghost use Rattle.heyvl_tool.specs.Responses.{reply_of};
+ghost use Rattle.heyvl_tool.specs.commands.{IsReplyTo, row_of};
+ghost use Rattle.std.specs.Prelude.{IfOk, length, true, ◌≡◌, ◌≤◌};
+
+use crate::{Response, Settings};
 use std::alloc::{AllocError, Global};
 
-fn is_argument(word: &str) -> bool
-    ensures { result ≡ is_argument word.now }
-{
-    match word.as_bytes() {
-        [] => false,
-        [first, ..] => *first != b'-',
-    }
-}
-
-fn are_arguments(words: &[String]) -> bool
-    ensures { result ≡ list_all (λ word. is_argument (string_bytes word)) words.now }
-{
-    words.iter().all(|word| is_argument(word.as_str()))
-}
-
-/// An argument of this name: it has one value, and is not left out.
-fn argument<'a>(alloc: Global, name: &'a str) -> Arg<'a>
-    ensures rule { rule_of result ≡ argument name.entry.now }
-    ensures local { result.global ≡ false }
-{
-    Arg::new(alloc, name).action(ArgAction::Set).required(true)
-}
-
-/// A command that has arguments of these names, in order.
-fn command<'a>(
+/// What a command says of the bytes of its first file and of its second, which are none where it has no such file. Either has at most as
+/// many bytes as a file may have.
+pub fn respond(
     alloc: Global,
-    name: &'a str,
-    arguments: &[&'a str],
-) -> Result<Command<'a>, AllocError>
-    ensures shape { IfOk result (λ made. app_of made ≡ command name.entry.now (map (λ argument. argument.now) arguments.now)) }
-    ensures local { IfOk result (λ made. (out-Command made).has_globals ≡ false) }
+    settings: &Settings,
+    bytes: &[u8],
+    second: &[u8],
+) -> Result<Response, AllocError>
+    requires fits { (row_of settings.now).fits ≡ true }
+    requires short { length bytes.now ≤ file_limit }
+    requires short_second { length second.now ≤ file_limit }
+    ensures { IfOk result (λ response. IsReplyTo settings.now bytes.now second.now (reply_of response)) }
 {
-    let mut made = Command::new(alloc, name);
-    for &name in arguments {
-        made = made.arg(argument(alloc, name))?;
-    }
-    Ok(made)
-}
-
-/// The tool with its commands.
-fn tool<'a>(alloc: Global) -> Result<Command<'a>, AllocError>
-    ensures { IfOk result (λ command. app_of command ≡ tool) }
-{
-    Command::new(alloc, "caesar")
-        .no_binary_name(true)
-        .disable_help_flag(true)
-        .disable_help_subcommand(true)
-        .subcommand_required(true)
-        .subcommand(command(alloc, "verify", &["FILE"])?)?
-        .subcommand(command(alloc, "print", &["FILE"])?)?
-        .subcommand(command(alloc, "run", &["FILE", "PROC", "SCRIPT"])?)?
-        .subcommand(command(alloc, "certify", &["FILE"])?)?
-        .subcommand(command(alloc, "check", &["FILE", "CERT"])?)
-}
-
-/// What `clap` makes of words that may all be arguments.
-fn matches_of<'a>(alloc: Global, words: &'a [String]) -> Result<ArgMatches<'a>, SettingsStop>
-    requires { list_all (λ word. is_argument (string_bytes word)) words.now ≡ true }
-    ensures met { IfOk result (λ matches. IsMet (map string_bytes words.entry.now) (subcommand_rows_of matches)) }
-    ensures stop { IfErr result (λ stop. IsSettingsStop (map string_bytes words.entry.now) stop) }
-{
-    match tool(alloc)?.try_get_matches_from(words) {
-        Ok(matches) => Ok(matches),
-        Err(error) => {
-            if error.kind() == ErrorKind::OutOfMemory {
-                Err(SettingsStop::Memory(AllocError))
-            } else {
-                Err(SettingsStop::Usage)
-            }
+    match settings {
+        Settings::Verify(_) => verify::respond(alloc, bytes),
+        Settings::Print(_) => print::respond(alloc, bytes),
+        Settings::Run(_, procedure, _) => {
+            let name = procedure.as_str().as_bytes();
+            run::respond(alloc, bytes, name, second)
         }
+        Settings::Certify(_) => certify::respond(alloc, bytes),
+        Settings::Check(_, _) => check::respond(alloc, bytes, second),
+        Settings::Gen(lines) => generate::respond(alloc, *lines),
+        Settings::Pgcl(_) => pgcl::respond(alloc, bytes),
     }
-}
-
-/// The word that the argument of this name was given.
-fn value(alloc: Global, matches: &ArgMatches<'_>, name: &str) -> Result<Word, SettingsStop>
-    ensures { (text : List ℕ) → first_of name.now (rows_of (found_of matches.now)) ≡ Some text
-        → MatchResult result (λ word. word ≡ text) (λ stop. IsMemory stop) }
-{
-    let Some(text) = matches.get_str(name) else {
-        return Err(SettingsStop::Usage);
-    };
-    Ok(Word::new(alloc, text)?)
-}
-
-/// The command of this name, with the words that its arguments were given.
-fn command_met(
-    alloc: Global,
-    name: &str,
-    matches: &ArgMatches<'_>,
-) -> Result<Settings, SettingsStop>
-    ensures { (settings : Settings) → IsFound settings (Some (name.now, rows_of (found_of matches.now)))
-        → MatchResult result (λ found. found ≡ settings) (λ stop. IsMemory stop) }
-{
-    match name {
-        "verify" => Ok(Settings::Verify(value(alloc, matches, "FILE")?)),
-        "print" => Ok(Settings::Print(value(alloc, matches, "FILE")?)),
-        "run" => {
-            let file = value(alloc, matches, "FILE")?;
-            let procedure = value(alloc, matches, "PROC")?;
-            let script = value(alloc, matches, "SCRIPT")?;
-            Ok(Settings::Run(file, procedure, script))
-        }
-        "certify" => Ok(Settings::Certify(value(alloc, matches, "FILE")?)),
-        "check" => {
-            let file = value(alloc, matches, "FILE")?;
-            let certificates = value(alloc, matches, "CERT")?;
-            Ok(Settings::Check(file, certificates))
-        }
-        _ => Err(SettingsStop::Usage),
-    }
-}
-
-/// The command that was met, with its words.
-fn met(alloc: Global, matches: &ArgMatches<'_>) -> Result<Settings, SettingsStop>
-    ensures { (settings : Settings) → IsFound settings (subcommand_rows_of matches.now)
-        → MatchResult result (λ found. found ≡ settings) (λ stop. IsMemory stop) }
-{
-    let Some((name, inner)) = matches.subcommand() else {
-        return Err(SettingsStop::Usage);
-    };
-    command_met(alloc, name, inner)
-}
-
-/// What the words ask for: `verify FILE`, `print FILE`, `run FILE PROC SCRIPT`, `certify FILE` or `check FILE CERT`, where no word behind
-/// the command is empty or begins with `-`. All other words are usage.
-pub fn settings(alloc: Global, words: &Vec<String>) -> Result<Settings, SettingsStop>
-    ensures asked { IfOk result (λ settings. AskFor (map string_bytes words.now.items) settings) }
-    ensures stop { IfErr result (λ stop. IsSettingsStop (map string_bytes words.now.items) stop) }
-{
-    if !are_arguments(words) {
-        return Err(SettingsStop::Usage);
-    }
-    let matches = matches_of(alloc, words)?;
-    met(alloc, &matches)
 }

@@ -2,7 +2,7 @@
 
 ghost use Rattle.heyvl_tool.specs.FaultLaws.{StaticFaultsAreTold, ToldFaultsAreThere};
 
-use crate::print_laws::spelling_is_unique;
+use heyvl_files::spelling_is_unique;
 use heyvl_syntax::sources_have_no_fault;
 
 /// Of bytes that spell a file with a static fault every command but `print` tells its first one, and nothing else.

@@ -1,11 +1,11 @@
 //! What a call of the tool comes to.
 
-use crate::RunStop;
 use heyvl_places::Span;
+use run_unroller::Unrolled;
 use verdict_report::Answer;
 
 /// Why a call didn't do what its words ask for, or `Nothing`. A `u8` is the number of a file among those that the words name, from 0.
-#[derive(Clone, Copy, Debug, PartialEq, Eq)]
+#[derive(Debug, Drop)]
 pub enum Fault {
     /// It did what its words ask for.
     Nothing,
@@ -25,8 +25,8 @@ pub enum Fault {
     NoProcedure,
     /// The procedure of this number, which the run would reach, is no program.
     NotProgram(u32),
-    /// The run was stopped.
-    Run(RunStop),
+    /// The run was stopped: what unrolling answered in place of sums.
+    Run(Unrolled),
     /// The sink failed. It replaces every other fault.
     Write,
     /// There is no memory for the work.

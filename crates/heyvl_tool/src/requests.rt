@@ -1,8 +1,9 @@
 //! What the words of the command line ask for.
 
-ghost use Rattle.heyvl_tool.specs.Words.{file_of, second_of};
+ghost use Rattle.heyvl_tool.specs.commands.{files_of};
 ghost use Rattle.heyvl_tool.specs.declared.requests.SettingsStop.TheVariants.{Memory};
-ghost use Rattle.std.specs.Prelude.{option_map, ◌≡◌};
+ghost use Rattle.heyvl_tool.specs.internal.FileNames.{named};
+ghost use Rattle.std.specs.Prelude.{◌≡◌};
 
 use crate::Word;
 use std::alloc::AllocError;
@@ -21,30 +22,35 @@ pub enum Settings {
     Certify(Word),
     /// `check FILE CERT`: the report on the file by certificates.
     Check(Word, Word),
+    /// `gen N`: the summary of the answers on the generated text of so many lines, from 1 to 1,024.
+    Gen(u32),
+    /// `pgcl FILE`: the file of HeyVL that a program of guarded commands becomes.
+    Pgcl(Word),
+}
+
+/// The names of the files of a command, in the order in which they are read.
+#[derive(Clone, Copy)]
+pub enum Files<'a> {
+    Zero,
+    One(&'a str),
+    Two(&'a str, &'a str),
 }
 
 impl Settings {
-    /// The word that names the file.
-    pub fn file(&self) -> &str
-        ensures { result.now ≡ file_of self.now }
+    /// The files of the command.
+    pub fn files(&self) -> Files<'_>
+        ensures { named result ≡ files_of self.now }
     {
         match self {
-            Settings::Verify(file) => file.as_str(),
-            Settings::Print(file) => file.as_str(),
-            Settings::Run(file, _, _) => file.as_str(),
-            Settings::Certify(file) => file.as_str(),
-            Settings::Check(file, _) => file.as_str(),
-        }
-    }
-
-    /// The word that names the second text of the command, where it has one: a script, or certificates.
-    pub fn second(&self) -> Option<&str>
-        ensures { option_map (λ word. word.now) result ≡ second_of self.now }
-    {
-        match self {
-            Settings::Run(_, _, script) => Some(script.as_str()),
-            Settings::Check(_, certificates) => Some(certificates.as_str()),
-            _ => None,
+            Settings::Verify(file) => Files::One(file.as_str()),
+            Settings::Print(file) => Files::One(file.as_str()),
+            Settings::Run(file, _, script) => Files::Two(file.as_str(), script.as_str()),
+            Settings::Certify(file) => Files::One(file.as_str()),
+            Settings::Check(file, certificates) => {
+                Files::Two(file.as_str(), certificates.as_str())
+            }
+            Settings::Gen(_) => Files::Zero,
+            Settings::Pgcl(file) => Files::One(file.as_str()),
         }
     }
 }

@@ -1,30 +1,15 @@
-//! What is answered to a call, before it is written.
+//! The reply to a call, before it is written.
 
-ghost use Rattle.heyvl_acts.specs.PlainActs.{procedures_of};
-ghost use Rattle.heyvl_syntax.specs.Procedures.{procedures};
-ghost use Rattle.heyvl_syntax.specs.SourceFaults.{IsSource};
-ghost use Rattle.heyvl_tool.specs.Calls.{file_limit};
-ghost use Rattle.heyvl_tool.specs.FaultLaws.{tells_static};
-ghost use Rattle.heyvl_tool.specs.Messages.{message, source_fault};
-ghost use Rattle.heyvl_tool.specs.Replies.{IsReplyTo, IsReport, IsSourceReply, Says, printed};
+ghost use Rattle.heyvl_tool.specs.Messages.{answered, message};
 ghost use Rattle.heyvl_tool.specs.Responses.{reply_of, text_bytes};
-ghost use Rattle.heyvl_tool.specs.internal.TypedFiles.{IsReady};
-ghost use Rattle.std.specs.Prelude.{IfOk, length, true, ◌<◌, ◌^◌, ◌≡◌, ◌≤◌};
+ghost use Rattle.heyvl_tool.specs.internal.Refusals.{IsRefusal};
+ghost use Rattle.std.specs.Prelude.{IfOk, length, ◌<◌, ◌^◌, ◌≡◌};
 
-use crate::certificates::{certify_typed, check_typed};
-use crate::faults::{source_fault_line, token_place};
-use crate::running::run_typed;
-use crate::typed_files::typed_file;
-use crate::{Fault, Settings};
-use heyvl_acts::Typed;
-use heyvl_parse::{ParseStop, parse};
-use heyvl_places::Span;
-use heyvl_print::print;
-use heyvl_syntax::{File, LexStop, lex};
-use heyvl_types::ResolveStop;
+use crate::Fault;
+use crate::statuses::{answers_status, fault_status};
+use heyvl_files::{SourceStop, source_fault_line};
 use std::alloc::{AllocError, Global};
-use verdict_report::{Answer, report};
-use verify_core::verify;
+use verdict_report::Answer;
 
 /// What is written: a fixed text, or one that was made.
 #[derive(Drop)]
@@ -45,145 +30,50 @@ impl Text {
     }
 }
 
-/// The answer to a call, before it is written.
+/// The reply to a call, before it is written.
 #[derive(Drop)]
 pub struct Response {
     pub fault: Fault,
     pub answers: Vec<Answer>,
     pub text: Text,
+    /// The exit status.
+    pub status: u8,
 }
 
-/// A fixed text in place of answers.
-pub fn refusal(alloc: Global, fault: Fault, text: &'static [u8]) -> Response
-    ensures { reply_of result ≡ message fault text.now }
+/// A text in place of answers.
+pub(crate) fn message(alloc: Global, fault: Fault, text: Text) -> Response
+    ensures { reply_of result ≡ message fault (text_bytes text) }
 {
     Response {
+        status: fault_status(&fault),
         fault,
         answers: Vec::new(alloc),
-        text: Text::Fixed(text),
+        text,
     }
 }
 
-/// A text that was made, in place of answers.
-pub(crate) fn message(alloc: Global, fault: Fault, text: Vec<u8>) -> Response
-    ensures { reply_of result ≡ message fault text.items }
+/// A text with answers.
+pub(crate) fn answered(answers: Vec<Answer>, text: Vec<u8>) -> Response
+    ensures { reply_of result ≡ answered answers.items text.items }
 {
     Response {
-        fault,
-        answers: Vec::new(alloc),
-        text: Text::Made(text),
-    }
-}
-
-fn print_file(alloc: Global, file: &File) -> Result<Response, AllocError>
-    ensures { IfOk result (λ response. reply_of response ≡ printed (procedures file.now)) }
-{
-    let text = print(alloc, file)?;
-    Ok(message(alloc, Fault::Nothing, text))
-}
-
-/// The line on a fault of a file with these bytes.
-fn source_fault(
-    alloc: Global,
-    bytes: &[u8],
-    number: u8,
-    place: Span,
-) -> Result<Response, AllocError>
-    requires { length bytes.now < 2 ^ 31 }
-    ensures { IfOk result (λ response. reply_of response ≡ source_fault bytes.now number place) }
-{
-    let text = source_fault_line(alloc, bytes, number, place)?;
-    Ok(message(alloc, Fault::Source(number, place), text))
-}
-
-/// The report on a file with these bytes, which has become this typed tree.
-fn verify_typed(alloc: Global, bytes: &[u8], typed: &Typed) -> Result<Response, AllocError>
-    requires short { length bytes.now < 2 ^ 31 }
-    requires ready { IsReady bytes.now typed.now }
-    ensures { IfOk result (λ response. IsReport bytes.now (procedures_of typed.now) (reply_of response)) }
-{
-    let whole = verify(alloc, typed)?;
-    let text = report(alloc, bytes, typed, &whole.answers, &whole.made)?;
-    Ok(Response {
+        status: answers_status(&answers),
         fault: Fault::Nothing,
-        answers: whole.answers,
+        answers,
         text: Text::Made(text),
-    })
+    }
 }
 
-/// What a command says of a file without a fault with these bytes, which has become this typed tree, and of its second text, if it
-/// has one.
-fn respond_typed(
-    alloc: Global,
-    settings: &Settings,
-    bytes: &[u8],
-    second: &[u8],
-    typed: &Typed,
-) -> Result<Response, AllocError>
-    requires short { length bytes.now ≤ file_limit }
-    requires short_second { length second.now ≤ file_limit }
-    requires ready { IsReady bytes.now typed.now }
-    requires asks { tells_static settings.now ≡ true }
-    ensures { IfOk result (λ response. Says settings.now bytes.now second.now (procedures_of typed.now) (reply_of response)) }
+/// What is said of bytes that are refused as a file.
+pub(crate) fn refused(alloc: Global, bytes: &[u8], stop: SourceStop) -> Result<Response, AllocError>
+    requires { length bytes.now < 2 ^ 31 }
+    ensures { IfOk result (λ response. IsRefusal bytes.now stop (reply_of response)) }
 {
-    match settings {
-        Settings::Verify(_) => verify_typed(alloc, bytes, typed),
-        Settings::Print(_) => unreachable!(),
-        Settings::Run(_, procedure, _) => {
-            let name = procedure.as_str().as_bytes();
-            run_typed(alloc, typed, name, second)
+    match stop {
+        SourceStop::Fault(number, place) => {
+            let text = source_fault_line(alloc, bytes, number, place)?;
+            Ok(message(alloc, Fault::Source(number, place), Text::Made(text)))
         }
-        Settings::Certify(_) => certify_typed(alloc, typed),
-        Settings::Check(_, _) => check_typed(alloc, bytes, typed, second),
-    }
-}
-
-/// What a command says of the file that these bytes spell, and of its second text, if it has one.
-fn respond_to_file(
-    alloc: Global,
-    settings: &Settings,
-    bytes: &[u8],
-    second: &[u8],
-    file: &File,
-) -> Result<Response, AllocError>
-    requires short { length bytes.now ≤ file_limit }
-    requires short_second { length second.now ≤ file_limit }
-    requires spelled { IsSource bytes.now (procedures file.now) }
-    ensures { IfOk result (λ response. IsSourceReply settings.now bytes.now second.now (procedures file.now) (reply_of response)) }
-{
-    if let Settings::Print(_) = settings {
-        return print_file(alloc, file);
-    }
-    match typed_file(alloc, file) {
-        Ok(typed) => respond_typed(alloc, settings, bytes, second, &typed),
-        Err(ResolveStop::Fault(number, place)) => source_fault(alloc, bytes, number, place),
-        Err(ResolveStop::Memory(error)) => Err(error),
-    }
-}
-
-/// What a command says of a file with these bytes, and of its second text, if it has one. Either has at most as many bytes as a
-/// file may have.
-pub fn respond(
-    alloc: Global,
-    settings: &Settings,
-    bytes: &[u8],
-    second: &[u8],
-) -> Result<Response, AllocError>
-    requires short { length bytes.now ≤ file_limit }
-    requires short_second { length second.now ≤ file_limit }
-    ensures { IfOk result (λ response. IsReplyTo settings.now bytes.now second.now (reply_of response)) }
-{
-    let tokens = match lex(alloc, bytes) {
-        Ok(tokens) => tokens,
-        Err(LexStop::Fault(number, place)) => return source_fault(alloc, bytes, number, place),
-        Err(LexStop::Memory(error)) => return Err(error),
-    };
-    match parse(alloc, &tokens) {
-        Ok(file) => respond_to_file(alloc, settings, bytes, second, &file),
-        Err(ParseStop::Fault(number, index)) => {
-            let place = token_place(bytes, &tokens, index);
-            source_fault(alloc, bytes, number, place)
-        }
-        Err(ParseStop::Memory(error)) => Err(error),
+        SourceStop::Memory(error) => Err(error),
     }
 }

@@ -1,11 +1,28 @@
-//! What the answers of a file make of the exit status.
+//! The exit statuses.
 
-ghost use Rattle.heyvl_tool.specs.Statuses.{answers_status, is_open, is_rank_open, is_rank_refuted, is_refuted, leaves_open, refutes};
+ghost use Rattle.heyvl_tool.specs.Statuses.{answers_status, fault_status, is_open, is_rank_open, is_rank_refuted, is_refuted, leaves_open, refutes};
 ghost use Rattle.std.specs.List.{list_any};
 ghost use Rattle.std.specs.Prelude.{◌≡◌};
 ghost use Rattle.verdict_report.specs.declared.answers.LoopAnswer.{LoopAnswer};
 
+use crate::Fault;
 use verdict_report::{Answer, LoopAnswer, RankVerdict, Verdict};
+
+/// The exit status that goes with a fault, where no answers are counted.
+pub(crate) fn fault_status(fault: &Fault) -> u8
+    ensures { result ≡ fault_status fault.now }
+{
+    match fault {
+        Fault::Nothing => 0,
+        Fault::TooLong(_) | Fault::Source(_, _) | Fault::Cert(_) => 3,
+        Fault::Script(_) | Fault::NoProcedure | Fault::NotProgram(_) => 3,
+        Fault::Usage => 4,
+        Fault::Read(_) => 5,
+        Fault::Write => 6,
+        Fault::Memory => 7,
+        Fault::Run(_) => 8,
+    }
+}
 
 fn is_refuted(verdict: &Verdict) -> bool
     ensures { result ≡ is_refuted verdict.now }
@@ -71,7 +88,7 @@ fn some_leaves_open(answers: &[Answer]) -> bool
 }
 
 /// 1 where some bound or ranking is false, else 2 where one is left open, else 0.
-pub fn answers_status(answers: &[Answer]) -> u8
+pub(crate) fn answers_status(answers: &[Answer]) -> u8
     ensures { result ≡ answers_status answers.now }
 {
     if some_refutes(answers) {

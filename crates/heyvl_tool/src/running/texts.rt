@@ -1,91 +1,9 @@
-//! What `run` writes.
+//! What `run` writes of a procedure.
 
-ghost use Rattle.heyvl_num.specs.Extended.{value_of};
-ghost use Rattle.heyvl_tool.specs.RunTexts.{no_program_text, script_fault_text, stop_text, sum_text, sums_text, turns_text};
-ghost use Rattle.run_unroller.specs.Unrolling.{totals_of};
-ghost use Rattle.std.specs.Prelude.{IfOk, OnOk, codes, decimal, ◌++◌, ◌≡◌};
-ghost use Rattle.number_texts.specs.ValueTexts.{fraction_text};
+ghost use Rattle.heyvl_tool.specs.RunTexts.{no_program_text};
+ghost use Rattle.std.specs.Prelude.{IfOk, ◌≡◌};
 
-use heyvl_num::{Ext, Frac};
-use itoa::{Buffer, Integer};
-use run_unroller::Sums;
 use std::alloc::{AllocError, Global};
-
-fn write_number<I: Integer>(text: &mut Vec<u8>, number: I) -> Result<(), AllocError>
-    ensures { OnOk result (text.new.items ≡ text.old.items ++ I.text number) }
-{
-    let mut buffer = Buffer::new();
-    Ok(text.extend_from_slice(buffer.format(number).as_bytes())?)
-}
-
-fn write_fraction(text: &mut Vec<u8>, fraction: Frac) -> Result<(), AllocError>
-    ensures { OnOk result (text.new.items ≡ text.old.items ++ fraction_text fraction) }
-{
-    write_number(text, fraction.num())?;
-    if fraction.den() == 1 {
-        Ok(())
-    } else {
-        text.push(b'/')?;
-        write_number(text, fraction.den())
-    }
-}
-
-fn write_sum(text: &mut Vec<u8>, sum: Ext) -> Result<(), AllocError>
-    ensures { OnOk result (text.new.items ≡ text.old.items ++ sum_text (value_of sum)) }
-{
-    match sum {
-        Ext::Fin(fraction) => write_fraction(text, fraction),
-        Ext::Inf => Ok(text.extend_from_slice(b"infinity")?),
-    }
-}
-
-fn write_loop(text: &mut Vec<u8>, number: u64, turns: Frac) -> Result<(), AllocError>
-    ensures { OnOk result (text.new.items ≡ text.old.items ++ (codes "loop " ++ decimal number ++ codes " turns " ++ fraction_text turns ++ codes "\n")) }
-{
-    text.extend_from_slice(b"loop ")?;
-    write_number(text, number)?;
-    text.extend_from_slice(b" turns ")?;
-    write_fraction(text, turns)?;
-    Ok(text.extend_from_slice(b"\n")?)
-}
-
-fn write_turns(text: &mut Vec<u8>, turns: &[Frac]) -> Result<(), AllocError>
-    ensures { OnOk result (text.new.items ≡ text.old.items ++ turns_text 1 turns.now) }
-{
-    let mut number = 1u64;
-    for expected in turns {
-        write_loop(text, number, *expected)?;
-        number += 1;
-    }
-    Ok(())
-}
-
-/// The sums of a run, a line for each.
-pub(crate) fn sums_text(alloc: Global, sums: &Sums) -> Result<Vec<u8>, AllocError>
-    ensures { IfOk result (λ text. text.items ≡ sums_text (totals_of sums.now)) }
-{
-    let mut text = Vec::new(alloc);
-    text.extend_from_slice(b"post ")?;
-    write_sum(&mut text, sums.post)?;
-    text.extend_from_slice(b"\nreward ")?;
-    write_sum(&mut text, sums.reward)?;
-    text.extend_from_slice(b"\nrunning ")?;
-    write_fraction(&mut text, sums.running)?;
-    text.extend_from_slice(b"\n")?;
-    write_turns(&mut text, &sums.turns)?;
-    Ok(text)
-}
-
-/// The line on a script with a fault.
-pub(crate) fn script_fault_text(alloc: Global, line: u32) -> Result<Vec<u8>, AllocError>
-    ensures { IfOk result (λ text. text.items ≡ script_fault_text line) }
-{
-    let mut text = Vec::new(alloc);
-    text.extend_from_slice(b"script line ")?;
-    write_number(&mut text, line)?;
-    text.extend_from_slice(b": fault\n")?;
-    Ok(text)
-}
 
 /// The line on a procedure that is no program.
 pub(crate) fn no_program_text(alloc: Global, name: &[u8]) -> Result<Vec<u8>, AllocError>
@@ -94,22 +12,5 @@ pub(crate) fn no_program_text(alloc: Global, name: &[u8]) -> Result<Vec<u8>, All
     let mut text = Vec::new(alloc);
     text.extend_from_slice(name)?;
     text.extend_from_slice(b" is not a program\n")?;
-    Ok(text)
-}
-
-/// The line on a run that was stopped.
-pub(crate) fn stop_text(
-    alloc: Global,
-    cause: &'static [u8],
-    step: u32,
-) -> Result<Vec<u8>, AllocError>
-    ensures { IfOk result (λ text. text.items ≡ stop_text cause.now step) }
-{
-    let mut text = Vec::new(alloc);
-    text.extend_from_slice(b"run stopped at step ")?;
-    write_number(&mut text, step)?;
-    text.extend_from_slice(b": ")?;
-    text.extend_from_slice(cause)?;
-    text.extend_from_slice(b"\n")?;
     Ok(text)
 }

@@ -1,7 +1,8 @@
 -- The commands of the tool as the crate `clap` sees them.
 use Rattle.clap.specs.Words.{App, Rule, Text, new_app, new_rule, with_rule, with_subcommand}
 use Rattle.clap.specs.declared.builder.ArgAction.TheVariants.{Set}
-use Rattle.std.specs.Prelude.{List, Some, [], codes, fold, true, ◌∷◌}
+use Rattle.heyvl_tool.specs.commands.{Form, forms}
+use Rattle.std.specs.Prelude.{List, Some, codes, fold, map, true}
 
 -- An argument of this name: it has one value, and is not left out.
 abbrev pub argument : Text → Rule
@@ -22,25 +23,9 @@ bare_tool = record (new_app (codes "caesar")) {
   };
 }
 
--- The names of the arguments of a command, in order: of one that has a file alone, of `run`, and of `check`.
-abbrev pub file_names : List Text
-file_names = codes "FILE" ∷ []
-
-abbrev pub run_names : List Text
-run_names = codes "FILE" ∷ codes "PROC" ∷ codes "SCRIPT" ∷ []
-
-abbrev pub check_names : List Text
-check_names = codes "FILE" ∷ codes "CERT" ∷ []
-
 -- The commands of the tool, in order.
 abbrev pub commands : List App
-commands =
-    command (codes "verify") file_names
-    ∷ command (codes "print") file_names
-    ∷ command (codes "run") run_names
-    ∷ command (codes "certify") file_names
-    ∷ command (codes "check") check_names
-    ∷ []
+commands = map (λ (f : Form). command f.word f.names) forms
 
 -- The tool with its commands.
 abbrev pub tool : App
