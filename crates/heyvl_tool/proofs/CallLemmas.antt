@@ -1,100 +1,162 @@
 -- How a reply has its cause, from what reading gave; and what the words ask for.
+use Rattle.heyvl_io.proofs.exported.Histories.{length-since_start}
 use Rattle.heyvl_io.specs.Faults.{Rose}
+use Rattle.heyvl_io.specs.History.{History, IsTaken, since_start}
+use Rattle.heyvl_io.specs.Order.{order_after}
+use Rattle.heyvl_io.specs.declared.reading.ReadStop.TheVariants as stops
+use Rattle.heyvl_io.specs.declared.reading.ReadStop.{ReadStop}
 use Rattle.heyvl_tool.specs.Calls.IsReadReply.{by_bytes, by_length, by_source}
-use Rattle.heyvl_tool.specs.Calls.{AreRead, Call, IsRead, IsReadReply, IsStarted, Moment, Names, file_limit, file_too_long, read_fault}
+use Rattle.heyvl_files.specs.Sources.{file_limit}
+use Rattle.heyvl_tool.specs.Calls.{AreRead, Call, IsFilesReply, IsLong, IsRead, IsReadReply, IsSaid, Moment, Names, file_too_long, read_fault}
 use Rattle.heyvl_tool.specs.Messages.{Reply}
-use Rattle.heyvl_tool.specs.Replies.HasCause.{by_command, by_words}
-use Rattle.heyvl_tool.specs.Replies.{HasCause, IsReplyTo, IsRestReply}
+use Rattle.heyvl_tool.specs.Outcomes.HasCause.{by_command, by_words}
+use Rattle.heyvl_tool.specs.Outcomes.{HasCause}
 use Rattle.heyvl_tool.specs.Responses.{reply_of}
-use Rattle.heyvl_tool.specs.SourceUses.{IsReadInTurn}
-use Rattle.heyvl_tool.specs.Words.{AskFor, file_of, second_of, words_of}
-use Rattle.heyvl_tool.specs.declared.requests.Settings.TheVariants.{Certify, Check, Print, Run, Verify}
+use Rattle.heyvl_tool.specs.SourceUses.{IsReadInTurn, IsStartedOnce}
+use Rattle.heyvl_tool.specs.Words.{AskFor}
+use Rattle.heyvl_tool.specs.commands.{Files, IsReplyTo, files_of, row_of, words_of}
+use Rattle.heyvl_tool.specs.declared.requests.Settings.TheVariants.{Certify, Check, Gen, Pgcl, Print, Run, Verify}
 use Rattle.heyvl_tool.specs.declared.requests.Settings.{Settings}
 use Rattle.heyvl_tool.specs.declared.responses.Response.{Response}
-use Rattle.std.proofs.Common.{Err, IfOk, IfSome, List, None, Ok, Option, Result, Some, [], ap, arith, inl, inr, length, refl, subst, sym, ◌+◌, ◌∙◌, ◌∷◌, ◌≡◌, ◌≤◌, ℕ}
-use Rattle.std.specs.Prelude.{if◌then◌else◌, ◌==◌}
+use Rattle.heyvl_tool.specs.internal.Refusals.{IsUnread}
+use Rattle.std.proofs.Common.{Bool, Err, IfOk, IfSome, List, Ok, Result, [], ap, arith, codes, false, inl, inr, length, refl, subst, sym, true, ◌+◌, ◌<◌, ◌^◌, ◌∙◌, ◌∷◌, ◌≡◌, ◌≤◌, ℕ}
+use Rattle.generated_summary.specs.LineCounts.{is_line_count}
+use Rattle.std.proofs.lemmas.Bool.Decides.{nat_tests}
+use Rattle.std.proofs.lemmas.Fmt.{decimal_is_IsNumeral}
+use Rattle.std.specs.Str.Parse.{digits_value}
+use Rattle.std.specs.Prelude.{IsErrOf, if◌then◌else◌, nat_lt, ◌↔◌}
+use Rattle.std.specs.Str.{bytes_eq}
 use Rattle.std.specs.declared.alloc.AllocError.{AllocError}
 
 -- ---- What the words ask for
 
 -- The command of its words.
 settings_of : List (List ℕ) → Settings
-settings_of (w ∷ f ∷ []) = if length w == 6 then Verify f else (if length w == 5 then Print f else Certify f)
+settings_of (w ∷ f ∷ []) = if bytes_eq w (codes "verify") then Verify f else (if bytes_eq w (codes "print") then Print f else (if bytes_eq w (codes "certify") then Certify f else (if bytes_eq w (codes "pgcl") then Pgcl f else Gen (digits_value 10 f))))
 settings_of (w ∷ f ∷ g ∷ []) = Check f g
 settings_of (w ∷ f ∷ g ∷ h ∷ more) = Run f g h
 settings_of other = Print []
 
-settings_again : (s : Settings) → settings_of (words_of s) ≡ s
+few_lines : (n : ℕ) → is_line_count n ≡ true → n < 2 ^ 64
+few_lines n h = grind (arith, nat_tests)
+
+settings_again : (s : Settings) → (row_of s).fits ≡ true → settings_of (words_of s) ≡ s
 unfolding settings_of
-settings_again (Verify f) = refl
-settings_again (Print f) = refl
-settings_again (Run f g h) = refl
-settings_again (Certify f) = refl
-settings_again (Check f g) = refl
+settings_again (Verify f) h = refl
+settings_again (Print f) h = refl
+settings_again (Run f g h) fits = refl
+settings_again (Certify f) h = refl
+settings_again (Check f g) h = refl
+settings_again (Gen n) h = ap Gen (decimal_is_IsNumeral n (few_lines n h)).1
+settings_again (Pgcl f) h = refl
 
 -- The words ask for one thing.
 pub same_settings : (words : List (List ℕ)) (s t : Settings) → AskFor words s → AskFor words t → s ≡ t
-same_settings words s t asks also = sym (settings_again s) ∙ (ap settings_of (sym asks.words_are ∙ also.words_are) ∙ settings_again t)
+same_settings words s t asks also = sym (settings_again s asks.fits) ∙ (ap settings_of (sym asks.words_are ∙ also.words_are) ∙ settings_again t also.fits)
 
 -- ---- Reading
 
--- What is answered once the file was read is the answer from its reading on.
-pub file_read : (settings : Settings) (names later : Names) (name bytes lent : List ℕ) (before between after : Moment) (r : Result Response AllocError) → later ≡ names → lent ≡ bytes → name ≡ file_of settings
-    → IsRead names name bytes before between → IfOk r (λ x. IsRestReply settings later after (second_of settings) lent between (reply_of x))
-    → IfOk r (λ x. IsReadReply 0 names (file_of settings) (IsRestReply settings names after (second_of settings)) before after (reply_of x))
-file_read settings names later name bytes lent before between after (Ok x) same is named read rest =
-    by_bytes between bytes (subst (λ (n : List ℕ). IsRead names n bytes before between) named read)
-    (subst (λ (bs : List ℕ). IsRestReply settings names after (second_of settings) bs between (reply_of x)) is
-    (subst (λ (ns : Names). IsRestReply settings ns after (second_of settings) lent between (reply_of x)) same rest))
-file_read settings names later name bytes lent before between after (Err e) same is named read rest = tt
+-- What is said once a text was read is the answer from its reading on.
+pub text_said : (k : ℕ) (names : Names) (name bytes lent : List ℕ) (Says : List ℕ → Reply → Type 0) (before after : Moment) (r : Result Response AllocError) → lent ≡ bytes → IsRead names name bytes before after
+    → IfOk r (λ x. Says lent (reply_of x)) → IfOk r (λ x. IsReadReply k names name (λ text now s. IsSaid (Says text) now after s) before after (reply_of x))
+text_said k names name bytes lent Says before after (Ok x) is read said = by_bytes after bytes read (refl, subst (λ (bs : List ℕ). Says bs (reply_of x)) is said)
+text_said k names name bytes lent Says before after (Err e) is read said = tt
 
--- What is answered once the second text was read, and where there is none.
-pub second_read : (settings : Settings) (names : Names) (name bytes second lent : List ℕ) (before after : Moment) (r : Result Response AllocError) → lent ≡ second → IsRead names name second before after
-    → IfOk r (λ x. IsReplyTo settings bytes lent (reply_of x)) → IfOk r (λ x. IsRestReply settings names after (Some name) bytes before (reply_of x))
-second_read settings names name bytes second lent before after (Ok x) is read said = by_bytes after second read (refl, subst (λ (s : List ℕ). IsReplyTo settings bytes s (reply_of x)) is said)
-second_read settings names name bytes second lent before after (Err e) is read said = tt
+-- Of a command with one file.
+pub one_said : (settings : Settings) (names : Names) (name bytes lent none : List ℕ) (before after : Moment) (r : Result Response AllocError) → lent ≡ bytes → none ≡ [] → IsRead names name bytes before after
+    → IfOk r (λ x. IsReplyTo settings lent none (reply_of x)) → IfOk r (λ x. IsFilesReply (Files.one name) (IsReplyTo settings) names before after (reply_of x))
+one_said settings names name bytes lent none before after r is empty read said =
+    subst (λ (ns : List ℕ). IfOk r (λ x. IsReadReply 0 names name (λ bs now s. IsSaid (IsReplyTo settings bs ns) now after s) before after (reply_of x))) empty
+    (text_said 0 names name bytes lent (λ bs. IsReplyTo settings bs none) before after r is read said)
 
-pub none_read : (settings : Settings) (names : Names) (second : Option (List ℕ)) (bytes lent : List ℕ) (now : Moment) (r : Result Response AllocError) → second ≡ None → lent ≡ []
-    → IfOk r (λ x. IsReplyTo settings bytes lent (reply_of x)) → IfOk r (λ x. IsRestReply settings names now second bytes now (reply_of x))
-none_read settings names second bytes lent now (Ok x) none is said =
-    subst (λ (s : Option (List ℕ)). IsRestReply settings names now s bytes now (reply_of x)) (sym none) (refl, subst (λ (s : List ℕ). IsReplyTo settings bytes s (reply_of x)) is said)
-none_read settings names second bytes lent now (Err e) none is said = tt
+-- Of a command with two files, when the first was read.
+pub two_said : (settings : Settings) (names later : Names) (file second bytes lent : List ℕ) (before between after : Moment) (r : Result Response AllocError) → later ≡ names → lent ≡ bytes → IsRead names file bytes before between
+    → IfOk r (λ x. IsReadReply 1 later second (λ text now s. IsSaid (IsReplyTo settings lent text) now after s) between after (reply_of x))
+    → IfOk r (λ x. IsFilesReply (Files.two file second) (IsReplyTo settings) names before after (reply_of x))
+two_said settings names later file second bytes lent before between after (Ok x) same is read said =
+    by_bytes between bytes read
+    (subst (λ (ns : Names). IsReadReply 1 ns second (λ text now s. IsSaid (IsReplyTo settings bytes text) now after s) between after (reply_of x)) same
+    (subst (λ (bs : List ℕ). IsReadReply 1 later second (λ text now s. IsSaid (IsReplyTo settings bs text) now after s) between after (reply_of x)) is said))
+two_said settings names later file second bytes lent before between after (Err e) same is read said = tt
 
--- What was started once the file was read, with the file.
-pub turned : (settings : Settings) (names later : Names) (name : List ℕ) (before between after : Moment) → later ≡ names → name ≡ file_of settings → IsStarted names name before between
-    → ((file : List ℕ) (start : Moment) → IsStarted later file start between → IsReadInTurn later file (second_of settings) start after) → IsReadInTurn names (file_of settings) (second_of settings) before after
-turned settings names later name before between after same named started turn =
-    subst (λ (ns : Names). IsReadInTurn ns (file_of settings) (second_of settings) before after) same
-    (turn (file_of settings) before (subst (λ (ns : Names). IsStarted ns (file_of settings) before between) (sym same) (subst (λ (n : List ℕ). IsStarted names n before between) named started)))
+-- Both were started then.
+pub two_started : (names later : Names) (file second : List ℕ) (before between after : Moment) → later ≡ names → IsStartedOnce names file before between → IsStartedOnce later second between after → IsReadInTurn (Files.two file second) names before after
+two_started names later file second before between after same first next = inr (between, first, subst (λ (ns : Names). IsStartedOnce ns second between after) same next)
+
+-- The files are those of the command.
+pub files_said : (settings : Settings) (files other : Files) (names : Names) (before after : Moment) (r : Result Response AllocError) → files ≡ other → IfOk r (λ x. IsFilesReply files (IsReplyTo settings) names before after (reply_of x))
+    → IfOk r (λ x. IsFilesReply other (IsReplyTo settings) names before after (reply_of x))
+files_said settings files other names before after r same = subst (λ (fs : Files). IfOk r (λ x. IsFilesReply fs (IsReplyTo settings) names before after (reply_of x))) same
+
+pub files_started : (files other : Files) (names : Names) (before after : Moment) → files ≡ other → IsReadInTurn files names before after → IsReadInTurn other names before after
+files_started files other names before after same = subst (λ (fs : Files). IsReadInTurn fs names before after) same
+
+-- Where it isn't one byte more that was handed out than a file may have, it is no more than that.
+not_long : (n : ℕ) → n ≤ file_limit + 1 → (n ≡ file_limit + 1 → ⊥) → n ≤ file_limit
+not_long n few differs = by (nat_lt n (file_limit + 1)) refl
+  where
+    by : (b : Bool) → nat_lt n (file_limit + 1) ≡ b → n ≤ file_limit
+    by true less = grind (arith, nat_tests)
+    by false more = let same : n ≡ file_limit + 1 = grind (arith, nat_tests) in absurd (differs same)
+
+few_taken : (before after : History) (name : List ℕ) → IsTaken before after name (file_limit + 1) → (length (since_start after) ≡ file_limit + 1 → ⊥) → IsTaken before after name file_limit
+few_taken before after name taken differs = record {
+  bytes = taken.bytes;
+  one = taken.one;
+  few = not_long (length taken.bytes) taken.few (λ long. differs (length-since_start before after name taken.bytes taken.one ∙ long));
+}
+
+same_stop : {A : Type 0} (all : Result A ReadStop) (stop other : ReadStop) → all ≡ Err stop → all ≡ Err other → stop ≡ other
+same_stop {A = A} all stop other e f = let same : ◌≡◌ {A = Result A ReadStop} (Err stop) (Err other) = sym e ∙ f in cc
+
+-- The reply where a name wasn't read to its end is the answer from its reading on.
+pub read_refused : {A : Type 0} (k : ℕ) (names : Names) (name : List ℕ) (Says : List ℕ → Moment → Reply → Type 0) (before after : Moment) (all : Result A ReadStop) (stop : ReadStop) (r : Result Response AllocError) → all ≡ Err stop
+    → after.order ≡ order_after names.order name before.order → IsTaken before.history after.history name (file_limit + 1) → (IsErrOf all stops.Failed → Rose before.faults after.faults)
+    → (IsErrOf all stops.TooLong ↔ (length (since_start after.history) ≡ file_limit + 1)) → (IsErrOf all stops.TooLong → IfSome (names.holds name) (λ held. file_limit < length held))
+    → IfOk r (λ x. IsUnread k stop (reply_of x)) → IfOk r (λ x. IsReadReply k names name Says before after (reply_of x))
+read_refused k names name Says before after all stops.Failed (Ok x) is order taken rose long longer said =
+    by_source (record { order = order; taken = few_taken before.history after.history name taken (λ n. other_stop (same_stop all _ _ is (long.1 n))) }) (rose is) said
+  where
+    other_stop : stops.Failed ≡ stops.TooLong → ⊥
+    other_stop e = cc
+read_refused k names name Says before after all stops.TooLong (Ok x) is order taken rose long longer said =
+    by_length (record { bytes = taken.bytes; order = order; history = taken.one; long = sym (length-since_start before.history after.history name taken.bytes taken.one) ∙ long.0 is; holds = longer is }) said
+read_refused k names name Says before after all (stops.Memory error) (Ok x) is order taken rose long longer said = absurd said
+read_refused k names name Says before after all stop (Err e) is order taken rose long longer said = tt
 
 -- ---- What a command came to
 
--- The source failed; or a text was too long; or both texts were read, and this was said of them.
-pub data CameTo (settings : Settings) (second : Option (List ℕ)) (made : Call) (reply : Reply) : Type 0 where
-  failed : (k : ℕ) → Rose made.before.faults made.after.faults → reply ≡ read_fault k → CameTo settings second made reply
-  too_long : (k : ℕ) → made.after.taken ≡ file_limit + 1 → reply ≡ file_too_long k → CameTo settings second made reply
-  said : (bytes text : List ℕ) → AreRead made.names (file_of settings) second bytes text made.before made.after → IsReplyTo settings bytes text reply → CameTo settings second made reply
+-- The source failed; or a text was too long; or the files were read, and this was said of their bytes.
+pub data CameTo (settings : Settings) (files : Files) (made : Call) (reply : Reply) : Type 0 where
+  failed : (k : ℕ) → Rose made.before.faults made.after.faults → reply ≡ read_fault k → CameTo settings files made reply
+  too_long : (k : ℕ) → length (since_start made.after.history) ≡ file_limit + 1 → reply ≡ file_too_long k → CameTo settings files made reply
+  said : (bytes text : List ℕ) → AreRead files made.names bytes text made.before made.after → IsReplyTo settings bytes text reply → CameTo settings files made reply
+
+long_taken : (names : Names) (name : List ℕ) (before after : Moment) → IsLong names name before after → length (since_start after.history) ≡ file_limit + 1
+long_taken names name before after is = length-since_start before.history after.history name is.bytes is.history ∙ is.long
 
 rose_later : (a b c : ℕ) → a ≤ b → Rose b c → Rose a c
 rose_later a b c le (inl lt) = inl (omega arith)
 rose_later a b c le (inr top) = inr top
 
-rest_came : (settings : Settings) (second : Option (List ℕ)) (made : Call) (bytes : List ℕ) (between : Moment) (reply : Reply) → IsRead made.names (file_of settings) bytes made.before between
-    → IsRestReply settings made.names made.after second bytes between reply → CameTo settings second made reply
-rest_came settings None made bytes between reply first rest = said bytes [] (record { between = between; file_read = first; second_read = (rest.0, refl) }) rest.1
-rest_came settings (Some name) made bytes between reply first (by_source started rose few e) = failed 1 (rose_later made.before.faults between.faults made.after.faults first.faults rose) e
-rest_came settings (Some name) made bytes between reply first (by_length started taken longer e) = too_long 1 taken e
-rest_came settings (Some name) made bytes between reply first (by_bytes now text read rest) =
-    said bytes text (record { between = between; file_read = first; second_read = subst (λ (m : Moment). IsRead made.names name text between m) rest.0 read }) rest.1
+second_came : (settings : Settings) (file second bytes : List ℕ) (made : Call) (between : Moment) (reply : Reply) → IsRead made.names file bytes made.before between
+    → IsReadReply 1 made.names second (λ text now r. IsSaid (IsReplyTo settings bytes text) now made.after r) between made.after reply → CameTo settings (Files.two file second) made reply
+second_came settings file second bytes made between reply first (by_source started rose e) = failed 1 (rose_later made.before.faults between.faults made.after.faults first.faults rose) e
+second_came settings file second bytes made between reply first (by_length is e) = too_long 1 (long_taken made.names second between made.after is) e
+second_came settings file second bytes made between reply first (by_bytes now text read rest) =
+    said bytes text (between, first, subst (λ (m : Moment). IsRead made.names second text between m) rest.0 read) rest.1
 
-came_from : (settings : Settings) (made : Call) (reply : Reply) → IsReadReply 0 made.names (file_of settings) (IsRestReply settings made.names made.after (second_of settings)) made.before made.after reply
-    → CameTo settings (second_of settings) made reply
-came_from settings made reply (by_source started rose few e) = failed 0 rose e
-came_from settings made reply (by_length started taken longer e) = too_long 0 taken e
-came_from settings made reply (by_bytes between bytes read rest) = rest_came settings (second_of settings) made bytes between reply read rest
+came_from : (settings : Settings) (files : Files) (made : Call) (reply : Reply) → IsFilesReply files (IsReplyTo settings) made.names made.before made.after reply → CameTo settings files made reply
+came_from settings Files.none made reply at_once = said [] [] (at_once.0, refl, refl) at_once.1
+came_from settings (Files.one file) made reply (by_source started rose e) = failed 0 rose e
+came_from settings (Files.one file) made reply (by_length is e) = too_long 0 (long_taken made.names file made.before made.after is) e
+came_from settings (Files.one file) made reply (by_bytes now bytes read rest) = said bytes [] (subst (λ (m : Moment). IsRead made.names file bytes made.before m) rest.0 read, refl) rest.1
+came_from settings (Files.two file second) made reply (by_source started rose e) = failed 0 rose e
+came_from settings (Files.two file second) made reply (by_length is e) = too_long 0 (long_taken made.names file made.before made.after is) e
+came_from settings (Files.two file second) made reply (by_bytes between bytes read rest) = second_came settings file second bytes made between reply read rest
 
 -- What a reply that has its cause came from, where the words ask for a command.
-pub came_to : (settings : Settings) (made : Call) (reply : Reply) → AskFor made.words settings → HasCause made reply → CameTo settings (second_of settings) made reply
+pub came_to : (settings : Settings) (made : Call) (reply : Reply) → AskFor made.words settings → HasCause made reply → CameTo settings (files_of settings) made reply
 came_to settings made reply asks (by_words usage e) = absurd (usage settings asks)
 came_to settings made reply asks (by_command other asked read) =
-    subst (λ (s : Settings). CameTo s (second_of s) made reply) (same_settings made.words other settings asked asks) (came_from other made reply read)
+    subst (λ (s : Settings). CameTo s (files_of s) made reply) (same_settings made.words other settings asked asks) (came_from other (files_of other) made reply read)

@@ -1,27 +1,27 @@
 -- Worked replies of `certify` and `check`, on a file with one procedure that has no body, and on an empty text.
-use Rattle.cert_text.specs.Certificates.{Certificate, certificates_of}
-use Rattle.cert_text.specs.Texts.{AreFirstLines, IsFirstFault, Spells, text_of}
-use Rattle.goal_answers.specs.declared.trees.GoalCert.{GoalCert}
+use Rattle.cert_text.specs.Certificates.{certificates_of}
+use Rattle.cert_text.specs.Texts.{IsFirstFault}
 use Rattle.heyvl_num.specs.Value.{zeroᵛ}
 use Rattle.heylo_formula.specs.Formula.{Form}
 use Rattle.heylo_formula.specs.declared.goals.GoalId.{GoalId}
 use Rattle.heylo_formula.specs.declared.goals.GoalId.TheVariants.{Main}
 use Rattle.heylo_formula.specs.declared.values.Val.{Val}
 use Rattle.heyvl_places.specs.declared.spans.Span.{Span}
-use Rattle.heyvl_tool.proofs.WorkedFaults.{h, h_is_on_the_wrong_side, havocking}
-use Rattle.heyvl_tool.specs.CertificateReplies.IsCheckReply.{by_certificates, by_line}
-use Rattle.heyvl_tool.specs.CertificateReplies.{IsCertification, IsCheckReply, IsCheckReport, certificate_fault}
-use Rattle.heyvl_tool.specs.Messages.{Reply, message}
-use Rattle.heyvl_tool.specs.Replies.IsTypedReply.{faultless, static}
-use Rattle.heyvl_tool.specs.Replies.{IsSourceReply, IsTypedReply, status_of}
+use Rattle.heyvl_syntax.specs.Procedures.{Procedure}
+use Rattle.heyvl_syntax.specs.SourceFaults.{IsSource, SourcesHaveNoFault}
+use Rattle.heyvl_tool.proofs.ToldFaults.{static_told}
+use Rattle.heyvl_tool.specs.Messages.{Reply, answered, message}
+use Rattle.heyvl_files.specs.PrintLaws.{SpellingIsUnique}
+use Rattle.heyvl_tool.specs.commands.Certify.{IsCertification}
+use Rattle.heyvl_tool.specs.commands.Check.IsCheckedReply.{by_certificates, by_line}
+use Rattle.heyvl_tool.specs.commands.Check.{IsCheckReply, IsCheckReport, IsCheckedReply, certificate_fault}
 use Rattle.heyvl_tool.specs.declared.outcomes.Fault.TheVariants as faults
-use Rattle.heyvl_tool.specs.declared.outcomes.Fault.{Fault}
 use Rattle.heyvl_tool.specs.declared.requests.Settings.TheVariants.{Check}
 use Rattle.heyvl_acts.specs.Acts.{TypedProcedure, procedure_at}
-use Rattle.heyvl_types.specs.Findings.{Finding}
 use Rattle.heyvl_acts.specs.Program.{IsProgram}
+use Rattle.heyvl_types.specs.Files.{first_fault}
 use Rattle.std.proofs.lemmas.Bool.{false≢true}
-use Rattle.std.proofs.Common.{List, None, Option, Some, [], ap, arith, codes, length, refl, subst, sym, true, false, ◌++◌, ◌∙◌, ◌∷◌, ◌≡◌, ℕ}
+use Rattle.std.proofs.Common.{List, None, Some, [], ap, arith, codes, length, refl, sym, true, false, ◌++◌, ◌∙◌, ◌∷◌, ◌≡◌, ℕ}
 use Rattle.std.specs.Fmt.{digits}
 use Rattle.std.specs.List.{Contains}
 use Rattle.std.specs.Prelude.{Vec}
@@ -29,12 +29,9 @@ use Rattle.std.specs.declared.alloc.Global.{Global}
 use Rattle.verdict_report.specs.Reports.{report_text}
 use Rattle.verdict_report.specs.declared.answers.Answer.{Answer}
 use Rattle.verdict_report.specs.declared.answers.LoopAnswer.{LoopAnswer}
-use Rattle.verdict_report.specs.declared.answers.RankVerdict.TheVariants.{Ranked}
 use Rattle.verdict_report.specs.declared.answers.Verdict.TheVariants.{NoBody, NotVerified, Verified}
 use Rattle.verdict_report.specs.declared.answers.Verdict.{Verdict}
-use Rattle.verify_core.specs.Answered.{IsAnswered as AreAnswered}
-use Rattle.verify_core.specs.CheckedAnswers.{IsCheckedFile}
-use Rattle.verify_core.specs.Headline.{IsHeadline, IsVerdictOn, IsVerdictOnLoop, says_proved}
+use Rattle.verify_core.specs.Headline.{IsHeadline, IsVerdictOn, says_proved}
 
 -- ---- A file: `coproc f() -> ()`
 
@@ -68,11 +65,11 @@ empty_fault = record {
 abbrev empty_reply : Reply
 empty_reply = message (faults.Cert 1) (codes "certificate line 1: fault\n")
 
-empty_is_told : IsCheckReply file_bytes file [] empty_reply
+empty_is_told : IsCheckedReply file_bytes [] file empty_reply
 unfolding digits
 empty_is_told = by_line 1 empty_fault refl
 
-empty_status : status_of (faults.Cert 1) [] ≡ 3
+empty_status : empty_reply.status ≡ 3
 empty_status = refl
 
 -- No report is made by it.
@@ -81,24 +78,17 @@ no_report_of_empty reply report = empty_fault.unfinished (certificates_of report
 
 -- ---- A static fault of FILE comes before a fault of the certificates
 
-abbrev wrong_side : Finding
-wrong_side = (17, record { from = 41; to = 48 })
+-- Where the bytes spell a file with a static fault, it is told, whatever the text of certificates holds.
+static_only : SourcesHaveNoFault → SpellingIsUnique → (bytes text : List ℕ) (h : List Procedure) (number : ℕ) (place : Span) (reply : Reply) → IsSource bytes h → first_fault h ≡ Some (number, place) → IsCheckReply bytes text reply
+    → reply.fault ≡ faults.Source number place
+static_only clean unique bytes text h number place reply is first told =
+    ap (λ (r : Reply). r.fault) (static_told clean unique (Check (codes "a") (codes "s")) bytes text h number place reply refl is first told)
 
-told_source : (number other : ℕ) (place at : Span) → ◌≡◌ {A = Option Finding} (Some (number, place)) (Some (other, at)) → faults.Source number place ≡ faults.Source other at
-told_source number other place at e = let same : ◌≡◌ {A = Finding} (number, place) (other, at) = cc in ap (λ (finding : Finding). faults.Source finding.0 finding.1) same
+not_a_certificate_fault : (number : ℕ) (place : Span) → faults.Cert 1 ≡ faults.Source number place → ⊥
+not_a_certificate_fault number place e = cc
 
-no_finding : (finding : Finding) → ◌≡◌ {A = Option Finding} None (Some finding) → ⊥
-no_finding finding e = cc
-
-static_only : (text : List ℕ) (reply : Reply) → IsSourceReply (Check (codes "a") (codes "s")) havocking text h reply → reply.fault ≡ faults.Source wrong_side.0 wrong_side.1
-static_only text reply (static number place fault e) = ap (λ (r : Reply). r.fault) e ∙ told_source number wrong_side.0 place wrong_side.1 (sym fault ∙ h_is_on_the_wrong_side)
-static_only text reply (faultless none says) = absurd (no_finding wrong_side (sym none ∙ h_is_on_the_wrong_side))
-
-not_a_certificate_fault : (place : Span) → faults.Cert 1 ≡ faults.Source 17 place → ⊥
-not_a_certificate_fault place e = cc
-
-no_certificate_fault : (text : List ℕ) → IsSourceReply (Check (codes "a") (codes "s")) havocking text h (certificate_fault 1) → ⊥
-no_certificate_fault text told = not_a_certificate_fault _ (static_only text (certificate_fault 1) told)
+no_certificate_fault : SourcesHaveNoFault → SpellingIsUnique → (bytes text : List ℕ) (h : List Procedure) (number : ℕ) (place : Span) → IsSource bytes h → first_fault h ≡ Some (number, place) → IsCheckReply bytes text (certificate_fault 1) → ⊥
+no_certificate_fault clean unique bytes text h number place is first told = not_a_certificate_fault number place (static_only clean unique bytes text h number place (certificate_fault 1) is first told)
 
 -- ---- Reports and certificates of the file
 
@@ -142,12 +132,12 @@ module _ (none : Vec LoopAnswer Global) (no_loops : none.items ≡ []) where
   }
 
   -- `certify` writes the title and the end.
-  certified : IsCertification file (record { fault = faults.Nothing; answers = one NoBody; output = codes "caesar certificate 1\nend\n" })
+  certified : IsCertification file (answered (one NoBody) (codes "caesar certificate 1\nend\n"))
   unfolding answer
   certified = record {
     made = [];
     certs = [];
-    answered =
+    are_answers =
         record {
           table = [] ∷ [];
           ranks = [] ∷ [];
@@ -165,19 +155,19 @@ module _ (none : Vec LoopAnswer Global) (no_loops : none.items ≡ []) where
   has_no_program : IsProgram (procedure_at file 0) → ⊥
   has_no_program e = cc
 
-  not_certified : (output : List ℕ) → IsCertification file (record { fault = faults.Nothing; answers = one Verified; output = output }) → ⊥
+  not_certified : (output : List ℕ) → IsCertification file (answered (one Verified) output) → ⊥
   unfolding answer
-  not_certified output made = has_no_program made.answered.answers_of.0.verdict.0.program
+  not_certified output made = has_no_program made.are_answers.answers_of.0.verdict.0.program
 
   -- `check` writes the report of the same answers.
   abbrev reported : Reply
-  reported = record { fault = faults.Nothing; answers = one NoBody; output = codes "f: no body\n1 procedures\n" }
+  reported = answered (one NoBody) (codes "f: no body\n1 procedures\n")
 
   report_is : report_text file_bytes file (one NoBody) [] ≡ codes "f: no body\n1 procedures\n"
   unfolding answer digits
   report_is = rw no_loops refl
 
-  checked : IsCheckReply file_bytes file (codes "caesar certificate 1\nend\n") reported
+  checked : IsCheckedReply file_bytes (codes "caesar certificate 1\nend\n") file reported
   unfolding answer
   checked = by_certificates (record {
     certs = [];
@@ -191,10 +181,10 @@ module _ (none : Vec LoopAnswer Global) (no_loops : none.items ≡ []) where
           answers_of = (record { name = refl; verdict = refl; loops = rw no_loops (tt, tt) }, tt);
         };
     headline = promises_nothing;
-    is_reply = ap (λ (text : List ℕ). record { fault = faults.Nothing; answers = one NoBody; output = text }) (sym report_is);
+    is_reply = ap (answered (one NoBody)) (sym report_is);
   })
 
   -- The status is 0.
-  checked_status : status_of reported.fault reported.answers ≡ 0
+  checked_status : reported.status ≡ 0
   unfolding answer
   checked_status = rw no_loops refl

@@ -4,7 +4,7 @@ use Rattle.heyvl_acts.specs.PlainActs.{procedure_of, procedures_of}
 use Rattle.heyvl_acts.specs.Rules.{Each, MeetsAllRules}
 use Rattle.heyvl_acts.specs.declared.typed.Typed.{Typed}
 use Rattle.heyvl_tool.proofs.Complete.{one_checked_for_each}
-use Rattle.std.proofs.Common.{List, length, ◌<◌, ◌∙◌, ◌≡◌, ℕ}
+use Rattle.std.proofs.Common.{List, length, ◌<◌, ◌∙◌, ℕ}
 use Rattle.std.proofs.lemmas.List.{length-map}
 use Rattle.std.specs.Prelude.{◌^◌}
 use Rattle.verdict_report.specs.Placed.{CanReport, IsAnswerPlaced}

@@ -5,16 +5,30 @@ use Rattle.clap.specs.Kinds.{Kinds, or_else}
 use Rattle.clap.specs.Simple.{Shape, built, built_leaf, inherited, names_of}
 use Rattle.clap.specs.Walk.{Held, Names, Walk, nothing_held, walk, walk_from, walked}
 use Rattle.clap.specs.Words.{Row, Rule, Text, fault_of, is_simple, is_simple_and_free, subcommand_of, takes}
-use Rattle.std.proofs.Common.{Bool, List, Option, Some, [], ap, append-nil, codes, eqb, false, fold, not, refl, subst, sym, true, ◌++◌, ◌&&◌, ◌∙◌, ◌∷◌, ◌≡◌, ℕ}
+use Rattle.std.proofs.Common.{Bool, List, Option, Some, [], ap, append-nil, codes, decimal, eqb, false, fold, not, refl, subst, sym, true, ◌++◌, ◌&&◌, ◌∙◌, ◌∷◌, ◌≡◌, ℕ}
 use Rattle.std.proofs.lemmas.List.{append_assoc}
 use Rattle.std.specs.Cmp.Lexicographic.{same_text}
 use Rattle.std.specs.List.{list_all}
 use Rattle.std.specs.Str.{bytes_eq}
-use Rattle.heyvl_tool.specs.CommandLine.{check_names, command, file_names, run_names, tool}
-use Rattle.heyvl_tool.specs.internal.Met.{IsFound, IsMet}
-use Rattle.heyvl_tool.specs.Words.{AskFor, arguments_of, command_of, is_argument, words_of}
-use Rattle.heyvl_tool.specs.declared.requests.Settings.TheVariants.{Certify, Check, Print, Run, Verify}
+use Rattle.heyvl_tool.specs.commands.{arguments_of, row_of, words_of}
+use Rattle.heyvl_tool.specs.internal.CommandLine.{command, tool}
+use Rattle.heyvl_tool.specs.internal.Met.{IsFound, IsGenFound, IsMet}
+use Rattle.heyvl_tool.specs.Words.{AskFor, is_argument}
+use Rattle.heyvl_tool.specs.declared.requests.Settings.TheVariants.{Certify, Check, Gen, Pgcl, Print, Run, Verify}
 use Rattle.heyvl_tool.specs.declared.requests.Settings.{Settings}
+
+-- The names of the arguments of a command, in order: of one that has a file alone, of `run`, of `check` and of `gen`.
+abbrev file_names : List Text
+file_names = codes "FILE" ∷ []
+
+abbrev run_names : List Text
+run_names = codes "FILE" ∷ codes "PROC" ∷ codes "SCRIPT" ∷ []
+
+abbrev check_names : List Text
+check_names = codes "FILE" ∷ codes "CERT" ∷ []
+
+abbrev gen_names : List Text
+gen_names = codes "N" ∷ []
 
 pub tool_is_simple : is_simple tool ≡ true
 unfolding clap_on_literals
@@ -46,8 +60,9 @@ are_plain word rest h = let (one, others) = both (is_argument word) (list_all is
 -- ---- What is asked for is taken, for what it is
 
 takes_file : (f : Text) → IsPlain f → (takes tool (codes "verify" ∷ f ∷ []) ≡ true) × (takes tool (codes "print" ∷ f ∷ []) ≡ true) × (takes tool (codes "certify" ∷ f ∷ []) ≡ true)
+    × (takes tool (codes "pgcl" ∷ f ∷ []) ≡ true)
 unfolding clap_on_literals
-takes_file f (plain b bs h) = (simp h, simp h, simp h)
+takes_file f (plain b bs h) = (simp h, simp h, simp h, simp h)
 
 takes_run : (f p s : Text) → IsPlain f → IsPlain p → IsPlain s → takes tool (codes "run" ∷ f ∷ p ∷ s ∷ []) ≡ true
 unfolding clap_on_literals
@@ -56,6 +71,10 @@ takes_run f p s (plain b bs h) (plain e es k) (plain i is l) = simp (h, k, l)
 takes_check : (f c : Text) → IsPlain f → IsPlain c → takes tool (codes "check" ∷ f ∷ c ∷ []) ≡ true
 unfolding clap_on_literals
 takes_check f c (plain b bs h) (plain e es k) = simp (h, k)
+
+takes_gen : (w : Text) → IsPlain w → takes tool (codes "gen" ∷ w ∷ []) ≡ true
+unfolding clap_on_literals
+takes_gen w (plain b bs h) = simp h
 
 pub takes_asked : (words : List Text) (settings : Settings) → AskFor words settings → takes tool words ≡ true
 takes_asked words settings asked = ap (λ (ws : List Text). takes tool ws) asked.words_are ∙ taken settings asked.arguments
@@ -69,11 +88,13 @@ takes_asked words settings asked = ap (λ (ws : List Text). takes tool ws) asked
         takes_run f p s first second (are_plain s [] last).0
     taken (Certify f) h = (takes_file f (are_plain f [] h).0).2
     taken (Check f c) h = let (first, last) = are_plain f (c ∷ []) h in takes_check f c first (are_plain c [] last).0
+    taken (Gen n) h = takes_gen (decimal n) (are_plain (decimal n) [] h).0
+    taken (Pgcl f) h = (takes_file f (are_plain f [] h).0).3
 
 finds_file : (f : Text) → IsPlain f → IsFound (Verify f) (subcommand_of tool (codes "verify" ∷ f ∷ [])) × IsFound (Print f) (subcommand_of tool (codes "print" ∷ f ∷ []))
-    × IsFound (Certify f) (subcommand_of tool (codes "certify" ∷ f ∷ []))
+    × IsFound (Certify f) (subcommand_of tool (codes "certify" ∷ f ∷ [])) × IsFound (Pgcl f) (subcommand_of tool (codes "pgcl" ∷ f ∷ []))
 unfolding clap_on_literals
-finds_file f (plain b bs h) = (simp h, simp h, simp h)
+finds_file f (plain b bs h) = (simp h, simp h, simp h, simp h)
 
 finds_run : (f p s : Text) → IsPlain f → IsPlain p → IsPlain s → IsFound (Run f p s) (subcommand_of tool (codes "run" ∷ f ∷ p ∷ s ∷ []))
 unfolding clap_on_literals
@@ -82,6 +103,10 @@ finds_run f p s (plain b bs h) (plain e es k) (plain i is l) = simp (h, k, l)
 finds_check : (f c : Text) → IsPlain f → IsPlain c → IsFound (Check f c) (subcommand_of tool (codes "check" ∷ f ∷ c ∷ []))
 unfolding clap_on_literals
 finds_check f c (plain b bs h) (plain e es k) = simp (h, k)
+
+finds_gen : (w : Text) → IsPlain w → IsGenFound w (subcommand_of tool (codes "gen" ∷ w ∷ []))
+unfolding clap_on_literals
+finds_gen w (plain b bs h) = simp h
 
 finds_asked : (s : Settings) → list_all is_argument (arguments_of s) ≡ true → IsFound s (subcommand_of tool (words_of s))
 finds_asked (Verify f) h = (finds_file f (are_plain f [] h).0).0
@@ -92,6 +117,8 @@ finds_asked (Run f p s) h =
     finds_run f p s first second (are_plain s [] last).0
 finds_asked (Certify f) h = (finds_file f (are_plain f [] h).0).2
 finds_asked (Check f c) h = let (first, last) = are_plain f (c ∷ []) h in finds_check f c first (are_plain c [] last).0
+finds_asked (Gen n) h = finds_gen (decimal n) (are_plain (decimal n) [] h).0
+finds_asked (Pgcl f) h = (finds_file f (are_plain f [] h).0).3
 
 -- ---- Where a command is met, the words behind it go to it
 
@@ -103,13 +130,15 @@ stopped_on rules names w name seen (m ∷ more) h =
     stopped_on rules names (walked rules names w m) name (seen ++ m ∷ []) more (rw h refl)
     ∙ ap (λ (ts : List Text). Some (name, ts)) (append_assoc seen (m ∷ []) more)
 
--- The five commands, with the names of their arguments.
+-- The commands, with the names of their arguments.
 data IsCommand : Text → List Text → Type 0 where
   verify : IsCommand (codes "verify") file_names
   print : IsCommand (codes "print") file_names
   run : IsCommand (codes "run") run_names
   certify : IsCommand (codes "certify") file_names
   check : IsCommand (codes "check") check_names
+  generate : IsCommand (codes "gen") gen_names
+  pgcl : IsCommand (codes "pgcl") file_names
 
 after : List Text → Walk
 after words = walk (built tool).top.rules (names_of (built tool)) nothing_held words
@@ -124,6 +153,8 @@ meets name names is more = stopped_on (built tool).top.rules (names_of (built to
     stops name names run = refl
     stops name names certify = refl
     stops name names check = refl
+    stops name names generate = refl
+    stops name names pgcl = refl
 
 left_empty : (ks js : Kinds) → or_else ks js ≡ [] → ks ≡ []
 left_empty [] js h = refl
@@ -159,6 +190,8 @@ enters name names is more none =
     by name names run more inside = inside
     by name names certify more inside = inside
     by name names check more inside = inside
+    by name names generate more inside = inside
+    by name names pgcl more inside = inside
 
 -- ---- A command refuses a word too few, and a word too many
 
@@ -171,6 +204,17 @@ wants_file name (f ∷ x ∷ more) h none =
     absurd (extra f x more first (are_plain x more rest).0 (walk_empty (leaf name file_names) [] nothing_held (f ∷ x ∷ more) false [] none))
   where
     extra : (f x : Text) (more : List Text) → IsPlain f → IsPlain x → walk_fault (leaf name file_names) [] (walk_from nothing_held) (f ∷ x ∷ more) ≡ [] → ⊥
+    extra f x more (plain b bs h) (plain e es k) none = let no = simp (h, k) at none in cc
+
+wants_gen : (name : Text) (words : List Text) → list_all is_argument words ≡ true → leaf_fault name gen_names words ≡ [] → (w : Text) × (words ≡ w ∷ []) × (is_argument w ≡ true)
+unfolding clap_on_literals leaf leaf_fault
+wants_gen name [] h none = absurd (cc)
+wants_gen name (w ∷ []) h none = (w, refl, (both (is_argument w) true h).0)
+wants_gen name (w ∷ x ∷ more) h none =
+    let (first, rest) = are_plain w (x ∷ more) h in
+    absurd (extra w x more first (are_plain x more rest).0 (walk_empty (leaf name gen_names) [] nothing_held (w ∷ x ∷ more) false [] none))
+  where
+    extra : (f x : Text) (more : List Text) → IsPlain f → IsPlain x → walk_fault (leaf name gen_names) [] (walk_from nothing_held) (f ∷ x ∷ more) ≡ [] → ⊥
     extra f x more (plain b bs h) (plain e es k) none = let no = simp (h, k) at none in cc
 
 wants_run : (name : Text) (words : List Text) → list_all is_argument words ≡ true → leaf_fault name run_names words ≡ [] → (f p s : Text) × (words ≡ f ∷ p ∷ s ∷ [])
@@ -219,23 +263,26 @@ no_words none = cc
 
 -- A first word that is no command is refused.
 other_word : (word : Text) (more : List Text) → IsPlain word → bytes_eq (codes "verify") word ≡ false → bytes_eq (codes "print") word ≡ false → bytes_eq (codes "run") word ≡ false →
-    bytes_eq (codes "certify") word ≡ false → bytes_eq (codes "check") word ≡ false → fault_of tool (word ∷ more) ≡ [] → ⊥
+    bytes_eq (codes "certify") word ≡ false → bytes_eq (codes "check") word ≡ false → bytes_eq (codes "gen") word ≡ false → bytes_eq (codes "pgcl") word ≡ false → fault_of tool (word ∷ more) ≡ [] → ⊥
 unfolding clap_on_literals
-other_word word more (plain b bs h) v p r c k none =
+other_word word more (plain b bs h) v p r c k g q none =
     let walk_none : walk_fault (built tool).top (names_of (built tool)) (walk_from nothing_held) (word ∷ more) ≡ [] = walk_empty (built tool).top (names_of (built tool)) nothing_held (word ∷ more) _ _ none in
-    let no = simp (h, v, p, r, c, k) at walk_none in
+    let no = simp (h, v, p, r, c, k, g, q) at walk_none in
     cc
 
-Spell : List Text → Type 0
-Spell words = (s : Settings) × (words ≡ words_of s)
+-- The words are those of a command without numbers, or `gen` and one that may be an argument.
+data Spell (words : List Text) : Type 0 where
+  by_command : (s : Settings) → words ≡ words_of s → (row_of s).fits ≡ true → Spell words
+  by_number : (w : Text) → words ≡ codes "gen" ∷ w ∷ [] → is_argument w ≡ true → Spell words
 
 command_spells : (name : Text) (names : List Text) → IsCommand name names → (rest : List Text) → list_all is_argument rest ≡ true → leaf_fault name names rest ≡ [] → Spell (name ∷ rest)
-unfolding Spell
-command_spells name names verify rest h none = let (f, e) = wants_file name rest h none in (Verify f, ap (λ (ws : List Text). name ∷ ws) e)
-command_spells name names print rest h none = let (f, e) = wants_file name rest h none in (Print f, ap (λ (ws : List Text). name ∷ ws) e)
-command_spells name names run rest h none = let (f, p, s, e) = wants_run name rest h none in (Run f p s, ap (λ (ws : List Text). name ∷ ws) e)
-command_spells name names certify rest h none = let (f, e) = wants_file name rest h none in (Certify f, ap (λ (ws : List Text). name ∷ ws) e)
-command_spells name names check rest h none = let (f, c, e) = wants_check name rest h none in (Check f c, ap (λ (ws : List Text). name ∷ ws) e)
+command_spells name names verify rest h none = let (f, e) = wants_file name rest h none in Spell.by_command (Verify f) (ap (λ (ws : List Text). name ∷ ws) e) refl
+command_spells name names print rest h none = let (f, e) = wants_file name rest h none in Spell.by_command (Print f) (ap (λ (ws : List Text). name ∷ ws) e) refl
+command_spells name names run rest h none = let (f, p, s, e) = wants_run name rest h none in Spell.by_command (Run f p s) (ap (λ (ws : List Text). name ∷ ws) e) refl
+command_spells name names certify rest h none = let (f, e) = wants_file name rest h none in Spell.by_command (Certify f) (ap (λ (ws : List Text). name ∷ ws) e) refl
+command_spells name names check rest h none = let (f, c, e) = wants_check name rest h none in Spell.by_command (Check f c) (ap (λ (ws : List Text). name ∷ ws) e) refl
+command_spells name names generate rest h none = let (w, e, is) = wants_gen name rest h none in Spell.by_number w (ap (λ (ws : List Text). name ∷ ws) e) is
+command_spells name names pgcl rest h none = let (f, e) = wants_file name rest h none in Spell.by_command (Pgcl f) (ap (λ (ws : List Text). name ∷ ws) e) refl
 
 -- So does a word that is equal to a command's, with what is behind it.
 equal_spells : (name word : Text) (names : List Text) → IsCommand name names → bytes_eq name word ≡ true → (rest : List Text) → list_all is_argument rest ≡ true →
@@ -246,29 +293,35 @@ equal_spells name word names is e rest h none =
     subst (λ (w : Text). Spell (w ∷ rest)) (sym same) (command_spells name names is rest h inside)
 
 first_word : (word : Text) (rest : List Text) → IsPlain word → list_all is_argument rest ≡ true →
-    (v p r c k : Bool) → bytes_eq (codes "verify") word ≡ v → bytes_eq (codes "print") word ≡ p → bytes_eq (codes "run") word ≡ r → bytes_eq (codes "certify") word ≡ c →
-    bytes_eq (codes "check") word ≡ k → fault_of tool (word ∷ rest) ≡ [] → Spell (word ∷ rest)
-first_word word rest w h true p r c k ev ep er ec ek none = equal_spells (codes "verify") word _ verify ev rest h none
-first_word word rest w h false true r c k ev ep er ec ek none = equal_spells (codes "print") word _ print ep rest h none
-first_word word rest w h false false true c k ev ep er ec ek none = equal_spells (codes "run") word _ run er rest h none
-first_word word rest w h false false false true k ev ep er ec ek none = equal_spells (codes "certify") word _ certify ec rest h none
-first_word word rest w h false false false false true ev ep er ec ek none = equal_spells (codes "check") word _ check ek rest h none
-first_word word rest w h false false false false false ev ep er ec ek none = absurd (other_word word rest w ev ep er ec ek none)
+    (v p r c k g l : Bool) → bytes_eq (codes "verify") word ≡ v → bytes_eq (codes "print") word ≡ p → bytes_eq (codes "run") word ≡ r → bytes_eq (codes "certify") word ≡ c →
+    bytes_eq (codes "check") word ≡ k → bytes_eq (codes "gen") word ≡ g → bytes_eq (codes "pgcl") word ≡ l → fault_of tool (word ∷ rest) ≡ [] → Spell (word ∷ rest)
+first_word word rest w h true p r c k g l ev ep er ec ek eg el none = equal_spells (codes "verify") word _ verify ev rest h none
+first_word word rest w h false true r c k g l ev ep er ec ek eg el none = equal_spells (codes "print") word _ print ep rest h none
+first_word word rest w h false false true c k g l ev ep er ec ek eg el none = equal_spells (codes "run") word _ run er rest h none
+first_word word rest w h false false false true k g l ev ep er ec ek eg el none = equal_spells (codes "certify") word _ certify ec rest h none
+first_word word rest w h false false false false true g l ev ep er ec ek eg el none = equal_spells (codes "check") word _ check ek rest h none
+first_word word rest w h false false false false false true l ev ep er ec ek eg el none = equal_spells (codes "gen") word _ generate eg rest h none
+first_word word rest w h false false false false false false true ev ep er ec ek eg el none = equal_spells (codes "pgcl") word _ pgcl el rest h none
+first_word word rest w h false false false false false false false ev ep er ec ek eg el none = absurd (other_word word rest w ev ep er ec ek eg el none)
 
 words_spell : (words : List Text) → list_all is_argument words ≡ true → fault_of tool words ≡ [] → Spell words
 words_spell [] h none = absurd (no_words none)
 words_spell (word ∷ rest) h none =
     let (first, more) = are_plain word rest h in
-    first_word word rest first more _ _ _ _ _ refl refl refl refl refl none
+    first_word word rest first more _ _ _ _ _ _ _ refl refl refl refl refl refl refl none
 
 -- What is met where the words are taken.
-pub met_of : (words : List Text) (met : Option (Text × List Row)) → list_all is_argument words ≡ true → fault_of tool words ≡ [] → met ≡ subcommand_of tool words → IsMet words met
-unfolding Spell
-met_of words met h none same =
-    let (s, words_are) = words_spell words h none in
-    let arguments = (are_plain (command_of s) (arguments_of s) (subst (λ (ws : List Text). list_all is_argument ws ≡ true) words_are h)).1 in
+met_by : (words : List Text) (met : Option (Text × List Row)) → list_all is_argument words ≡ true → met ≡ subcommand_of tool words → Spell words → IsMet words met
+met_by words met h same (Spell.by_command s words_are fits) =
+    let arguments = (are_plain (row_of s).form.word (arguments_of s) (subst (λ (ws : List Text). list_all is_argument ws ≡ true) words_are h)).1 in
     let met_is : met ≡ subcommand_of tool (words_of s) = same ∙ ap (λ (ws : List Text). subcommand_of tool ws) words_are in
-    (s, record { words_are = words_are; arguments = arguments }, subst (λ (o : Option (Text × List Row)). IsFound s o) (sym met_is) (finds_asked s arguments))
+    IsMet.asked s (record { words_are = words_are; arguments = arguments; fits = fits }) (subst (λ (o : Option (Text × List Row)). IsFound s o) (sym met_is) (finds_asked s arguments))
+met_by words met h same (Spell.by_number w words_are is) =
+    let met_is : met ≡ subcommand_of tool (codes "gen" ∷ w ∷ []) = same ∙ ap (λ (ws : List Text). subcommand_of tool ws) words_are in
+    IsMet.numbered w words_are is (subst (λ (o : Option (Text × List Row)). IsGenFound w o) (sym met_is) (finds_gen w (is_plain w is)))
+
+pub met_of : (words : List Text) (met : Option (Text × List Row)) → list_all is_argument words ≡ true → fault_of tool words ≡ [] → met ≡ subcommand_of tool words → IsMet words met
+met_of words met h none same = met_by words met h same (words_spell words h none)
 
 -- Words that ask for something may all be arguments.
 pub plain_asked : (words : List Text) (settings : Settings) → AskFor words settings → list_all is_argument words ≡ true
@@ -280,3 +333,5 @@ plain_asked words settings asked = ap (λ (ws : List Text). list_all is_argument
     plain_words (Run f p s) h = h
     plain_words (Certify f) h = h
     plain_words (Check f c) h = h
+    plain_words (Gen n) h = h
+    plain_words (Pgcl f) h = h

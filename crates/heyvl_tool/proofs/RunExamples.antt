@@ -1,8 +1,6 @@
 -- Worked replies of `run`: the rows of its answer, in their order, on a file of four procedures.
-use Rattle.heylo_formula.specs.Formula.{Cond, Form, Term}
+use Rattle.heylo_formula.specs.Formula.{Form, Term}
 use Rattle.heylo_formula.specs.declared.types.Ty.{Ty}
-use Rattle.heylo_formula.specs.declared.values.Val.TheVariants.{Num, Truth}
-use Rattle.heylo_formula.specs.declared.values.Val.{Val}
 use Rattle.heyvl_num.specs.Exact.{exact_order, exact_product, exact_sum, order_fits, product_fits, sum_fits}
 use Rattle.heyvl_num.specs.Extended.{value_of}
 use Rattle.heyvl_num.specs.Gcd.{gcd, gcd_steps}
@@ -13,26 +11,25 @@ use Rattle.heyvl_num.specs.WeightedSums.{joined, scaled}
 use Rattle.heyvl_num.specs.declared.extended.Ext.{Ext}
 use Rattle.heyvl_places.specs.declared.spans.Span.{Span}
 use Rattle.heyvl_tool.specs.Messages.{Reply, message}
-use Rattle.heyvl_tool.specs.RunReplies.IsRunReply.{by_name, by_program, by_run, by_script}
-use Rattle.heyvl_tool.specs.RunReplies.{IsRunReply, TellsRun, no_procedure, no_program, run_reply, runs_by, script_fault}
+use Rattle.heyvl_tool.specs.commands.Run.IsRunOf.{by_name, by_program, by_run, by_script}
+use Rattle.heyvl_tool.specs.commands.Run.{IsRunOf, TellsRun, no_procedure, no_program, run_reply, runs_by, script_fault}
 use Rattle.heyvl_tool.specs.RunStarts.IsFirstNoProgram.{itself, reached}
 use Rattle.heyvl_tool.specs.RunStarts.{IsFirstNoProgram, known_at, procedure_named}
-use Rattle.heyvl_tool.specs.RunTexts.{sums_text}
-use Rattle.heyvl_tool.specs.Scripts.Reading.{breaks, says}
-use Rattle.heyvl_tool.specs.Scripts.{Script, read_script}
 use Rattle.heyvl_tool.specs.declared.outcomes.Fault.TheVariants as faults
-use Rattle.heyvl_tool.specs.declared.outcomes.Fault.{Fault}
-use Rattle.heyvl_tool.specs.declared.run_stops.RunStop.TheVariants as stops
-use Rattle.heyvl_acts.specs.Acts.{Act, Acts, TypedProcedure, Variable, procedure_at}
+use Rattle.heyvl_acts.specs.Acts.{Act, Acts, TypedProcedure, procedure_at}
 use Rattle.heyvl_acts.specs.Program.Reaches.{directly, onward}
 use Rattle.heyvl_acts.specs.Program.{Calls, IsProgram, Reaches}
 use Rattle.run_machine.specs.ConfigConditions.{ReachesPrograms}
+use Rattle.run_script.proofs.exported.PlainReading.{read_right}
+use Rattle.run_script.proofs.exported.UniqueScripts.{faults_are_unique, scripts_have_no_fault}
+use Rattle.run_script.specs.Scripts.{IsFirstFault, Known, Script, Spells}
+use Rattle.run_script.specs.Texts.{sums_text}
+use Rattle.run_unroller.specs.MergedLists.{merged_onto}
 use Rattle.run_unroller.specs.Totals.{Totals}
-use Rattle.run_unroller.specs.Unrolling.{Unrolling, totals_of, unrolling_of}
-use Rattle.run_unroller.specs.declared.answers.Sums.{Sums}
+use Rattle.run_unroller.specs.Unrolling.{Unrolling, unrolling_of}
 use Rattle.run_unroller.specs.declared.answers.Unrolled.TheVariants as answers
 use Rattle.run_unroller.specs.declared.answers.Unrolled.{Unrolled}
-use Rattle.std.proofs.Common.{Bool, List, None, Option, Some, [], ap, arith, codes, false, pos, refl, subst, sym, true, ◌+◌, ◌<◌, ◌∙◌, ◌∷◌, ◌≡◌, ℕ}
+use Rattle.std.proofs.Common.{List, None, Option, Some, [], ap, arith, codes, false, pos, refl, subst, sym, true, ◌<◌, ◌∙◌, ◌∷◌, ◌≡◌, ℕ}
 use Rattle.std.proofs.lemmas.Bool.{false≢true}
 use Rattle.std.specs.Fmt.{digits}
 use Rattle.std.specs.Prelude.{Vec}
@@ -68,18 +65,13 @@ file =
     ∷ []
 
 abbrev Says : List ℕ → List ℕ → Reply → Type 0
-Says name script reply = IsRunReply name file script reply
+Says name script reply = IsRunOf name script file reply
 
 -- ---- Of what is read
 
-breaks_not_says : (n : ℕ) (s : Script) → breaks n ≡ says s → ⊥
-breaks_not_says n s e = cc
-
-one_line : (n m : ℕ) → breaks n ≡ breaks m → n ≡ m
-one_line n m e = cc
-
-one_script : (s t : Script) → says s ≡ says t → s ≡ t
-one_script s t e = cc
+-- No script is at fault, and a text spells one.
+never_both : (known : Known) (bytes : List ℕ) (n : ℕ) (s : Script) → IsFirstFault known bytes n → Spells known s bytes → ⊥
+never_both known bytes n s fault spells = scripts_have_no_fault known s bytes n spells fault
 
 one_number : (p q : ℕ) → ◌≡◌ {A = Option ℕ} (Some p) (Some q) → p ≡ q
 one_number p q e = cc
@@ -98,30 +90,34 @@ misspelled = codes "step 1\n"
 
 -- The script's fault is told of any name, of a procedure or of none.
 fault_of_script : (Says (codes "coin") misspelled (script_fault 1)) × (Says (codes "caller") misspelled (script_fault 1)) × (Says (codes "nobody") misspelled (script_fault 1))
-fault_of_script = (by_script 1 refl refl, by_script 1 refl refl, by_script 1 refl refl)
+fault_of_script = (
+  by_script 1 (read_right (known_at file (procedure_named (codes "coin") file)) misspelled) refl,
+  by_script 1 (read_right (known_at file (procedure_named (codes "caller") file)) misspelled) refl,
+  by_script 1 (read_right (known_at file (procedure_named (codes "nobody") file)) misspelled) refl,
+)
 
 fault_line : script_fault 1 ≡ message (faults.Script 1) (codes "script line 1: fault\n")
 unfolding digits
 fault_line = refl
 
 -- And nothing else, be it that there is no such procedure or that it is no program.
-script_only : (name : List ℕ) (reply : Reply) → read_script (known_at file (procedure_named name file)) misspelled ≡ breaks 1 → Says name misspelled reply → reply ≡ script_fault 1
-script_only name reply broken (by_script line fault e) = e ∙ ap script_fault (one_line line 1 (sym fault ∙ broken))
-script_only name reply broken (by_name s read none e) = absurd (breaks_not_says 1 s (sym broken ∙ read))
-script_only name reply broken (by_program s read p named q first e) = absurd (breaks_not_says 1 s (sym broken ∙ read))
-script_only name reply broken (by_run s read p named programs tells) = absurd (breaks_not_says 1 s (sym broken ∙ read))
+script_only : (name : List ℕ) (reply : Reply) → IsFirstFault (known_at file (procedure_named name file)) misspelled 1 → Says name misspelled reply → reply ≡ script_fault 1
+script_only name reply broken (by_script line fault e) = e ∙ ap script_fault (faults_are_unique (known_at file (procedure_named name file)) misspelled line 1 fault broken)
+script_only name reply broken (by_name s read none e) = absurd (never_both (known_at file (procedure_named name file)) misspelled 1 s broken read)
+script_only name reply broken (by_program s read p named q first e) = absurd (never_both (known_at file (procedure_named name file)) misspelled 1 s broken read)
+script_only name reply broken (by_run s read p named programs tells) = absurd (never_both (known_at file (procedure_named name file)) misspelled 1 s broken read)
 
 not_no_procedure : faults.NoProcedure ≡ faults.Script 1 → ⊥
 not_no_procedure e = cc
 
 no_name_before_the_script : Says (codes "nobody") misspelled no_procedure → ⊥
-no_name_before_the_script said = not_no_procedure (ap (λ (r : Reply). r.fault) (script_only (codes "nobody") no_procedure refl said))
+no_name_before_the_script said = not_no_procedure (ap (λ (r : Reply). r.fault) (script_only (codes "nobody") no_procedure (read_right (known_at file (procedure_named (codes "nobody") file)) misspelled) said))
 
 not_no_program : (q : ℕ) → faults.NotProgram q ≡ faults.Script 1 → ⊥
 not_no_program q e = cc
 
 no_program_before_the_script : Says (codes "bare") misspelled (no_program file 1) → ⊥
-no_program_before_the_script said = not_no_program 1 (ap (λ (r : Reply). r.fault) (script_only (codes "bare") (no_program file 1) refl said))
+no_program_before_the_script said = not_no_program 1 (ap (λ (r : Reply). r.fault) (script_only (codes "bare") (no_program file 1) (read_right (known_at file (procedure_named (codes "bare") file)) misspelled) said))
 
 -- ---- A name that no procedure has
 
@@ -129,13 +125,21 @@ abbrev two_steps : List ℕ
 two_steps = codes "steps 2\n"
 
 abbrev said : Script
-said = record { steps = Some 2; settings = []; decisions = [] }
+said = record { steps = 2; settings = []; decisions = [] }
+
+-- It is spelled for whichever procedure.
+two_spelled : (name : List ℕ) → Spells (known_at file (procedure_named name file)) said two_steps
+two_spelled name = by (known_at file (procedure_named name file))
+  where
+    by : (known : Known) → Spells known said two_steps
+    by None = read_right None two_steps
+    by (Some variables) = read_right (Some variables) two_steps
 
 no_such_name : Says (codes "nobody") two_steps (message faults.NoProcedure (codes "no such procedure\n"))
-no_such_name = by_name said refl refl refl
+no_such_name = by_name said (two_spelled (codes "nobody")) refl refl
 
 no_such_name_only : (reply : Reply) → Says (codes "nobody") two_steps reply → reply ≡ no_procedure
-no_such_name_only reply (by_script line fault e) = absurd (breaks_not_says line said (sym fault))
+no_such_name_only reply (by_script line fault e) = absurd (never_both (known_at file (procedure_named (codes "nobody") file)) two_steps line said fault (two_spelled (codes "nobody")))
 no_such_name_only reply (by_name s read none e) = e
 no_such_name_only reply (by_program s read p named q first e) = absurd (none_is_some p named)
 no_such_name_only reply (by_run s read p named programs tells) = absurd (none_is_some p named)
@@ -160,10 +164,10 @@ abbrev bare_told : Reply
 bare_told = message (faults.NotProgram 1) (codes "bare is not a program\n")
 
 told_of_itself : Says (codes "bare") two_steps bare_told
-told_of_itself = by_program said refl 1 refl 1 (itself bare_is_no_program) refl
+told_of_itself = by_program said (two_spelled (codes "bare")) 1 refl 1 (itself bare_is_no_program) refl
 
 told_of_the_reached : Says (codes "caller") two_steps bare_told
-told_of_the_reached = by_program said refl 2 refl 1 first_of_caller refl
+told_of_the_reached = by_program said (two_spelled (codes "caller")) 2 refl 1 first_of_caller refl
 
 -- What `caller` reaches isn't forgotten, and `caller` itself isn't blamed.
 one_of_caller : (q : ℕ) → IsFirstNoProgram file 2 q → IsProgram (procedure_at file q) → ⊥
@@ -171,7 +175,7 @@ one_of_caller q (itself differs) = differs
 one_of_caller q (reached r program reaches differs before) = differs
 
 caller_only : (reply : Reply) → Says (codes "caller") two_steps reply → (reply.fault ≡ faults.Nothing → ⊥) × (reply.fault ≡ faults.NotProgram 2 → ⊥)
-caller_only reply (by_script line fault e) = absurd (breaks_not_says line said (sym fault))
+caller_only reply (by_script line fault e) = absurd (never_both (known_at file (procedure_named (codes "caller") file)) two_steps line said fault (two_spelled (codes "caller")))
 caller_only reply (by_name s read none e) = absurd (some_is_none 2 none)
 caller_only reply (by_program s read p named q first e) = (λ done. no_done q (sym (ap (λ (r : Reply). r.fault) e) ∙ done), λ blamed. no_blame (sym (ap (λ (r : Reply). r.fault) e) ∙ blamed))
   where
@@ -204,11 +208,11 @@ text_of (Unrolling.stopped cause n) = []
 
 -- After two steps both runs have ended, and after one each has the reward before it.
 two_steps_text : text_of (runs_by file 0 said) ≡ codes "post 1/2\nreward 3\nrunning 0\n"
-unfolding digits joined scaled halfʳ ratio gcd gcd_steps zeroʳ oneʳ zeroᵛ oneᵛ ◌+ʳ◌ ◌*ʳ◌ ◌-ʳ◌ ◌+ᵛ◌ ◌*ᵛ◌ infinite_times is_zeroʳ leqʳ leqᵛ compareʳ exact_sum sum_fits exact_product product_fits exact_order order_fits
+unfolding digits merged_onto joined scaled halfʳ ratio gcd gcd_steps zeroʳ oneʳ zeroᵛ oneᵛ ◌+ʳ◌ ◌*ʳ◌ ◌-ʳ◌ ◌+ᵛ◌ ◌*ᵛ◌ infinite_times is_zeroʳ leqʳ leqᵛ compareʳ exact_sum sum_fits exact_product product_fits exact_order order_fits
 two_steps_text = refl
 
-one_step_text : text_of (runs_by file 0 (record said { steps = Some 1 })) ≡ codes "post 0\nreward 0\nrunning 1\n"
-unfolding digits joined scaled halfʳ ratio gcd gcd_steps zeroʳ oneʳ zeroᵛ oneᵛ ◌+ʳ◌ ◌*ʳ◌ ◌-ʳ◌ ◌+ᵛ◌ ◌*ᵛ◌ infinite_times is_zeroʳ leqʳ leqᵛ compareʳ exact_sum sum_fits exact_product product_fits exact_order order_fits
+one_step_text : text_of (runs_by file 0 (record said { steps = 1 })) ≡ codes "post 0\nreward 0\nrunning 1\n"
+unfolding digits merged_onto joined scaled halfʳ ratio gcd gcd_steps zeroʳ oneʳ zeroᵛ oneᵛ ◌+ʳ◌ ◌*ʳ◌ ◌-ʳ◌ ◌+ᵛ◌ ◌*ᵛ◌ infinite_times is_zeroʳ leqʳ leqᵛ compareʳ exact_sum sum_fits exact_product product_fits exact_order order_fits
 one_step_text = refl
 
 -- A reply that tells the run of `coin` for two steps tells these numbers.
@@ -233,11 +237,11 @@ abbrev coin_totals : Totals
 coin_totals = totals_in (runs_by file 0 said)
 
 coin_comes_to : Unrolling.sums coin_totals ≡ runs_by file 0 said
-unfolding digits joined scaled halfʳ ratio gcd gcd_steps zeroʳ oneʳ zeroᵛ oneᵛ ◌+ʳ◌ ◌*ʳ◌ ◌-ʳ◌ ◌+ᵛ◌ ◌*ᵛ◌ infinite_times is_zeroʳ leqʳ leqᵛ compareʳ exact_sum sum_fits exact_product product_fits exact_order order_fits
+unfolding digits merged_onto joined scaled halfʳ ratio gcd gcd_steps zeroʳ oneʳ zeroᵛ oneᵛ ◌+ʳ◌ ◌*ʳ◌ ◌-ʳ◌ ◌+ᵛ◌ ◌*ᵛ◌ infinite_times is_zeroʳ leqʳ leqᵛ compareʳ exact_sum sum_fits exact_product product_fits exact_order order_fits
 coin_comes_to = refl
 
 coin_has_no_loop : coin_totals.turns ≡ []
-unfolding digits joined scaled halfʳ ratio gcd gcd_steps zeroʳ oneʳ zeroᵛ oneᵛ ◌+ʳ◌ ◌*ʳ◌ ◌-ʳ◌ ◌+ᵛ◌ ◌*ᵛ◌ infinite_times is_zeroʳ leqʳ leqᵛ compareʳ exact_sum sum_fits exact_product product_fits exact_order order_fits
+unfolding digits merged_onto joined scaled halfʳ ratio gcd gcd_steps zeroʳ oneʳ zeroᵛ oneᵛ ◌+ʳ◌ ◌*ʳ◌ ◌-ʳ◌ ◌+ᵛ◌ ◌*ᵛ◌ infinite_times is_zeroʳ leqʳ leqᵛ compareʳ exact_sum sum_fits exact_product product_fits exact_order order_fits
 coin_has_no_loop = refl
 
 -- Of answers with this vector of turns.
@@ -267,12 +271,16 @@ module _ (none : Vec Rational Global) (no_turns : none.items ≡ []) where
   coin_is_told = answers_it coin_totals coin_has_no_loop ∙ coin_comes_to
 
   told_of_coin : Says (codes "coin") two_steps (message faults.Nothing (codes "post 1/2\nreward 3\nrunning 0\n"))
-  told_of_coin = by_run said refl 0 refl coin_is_alone (record { answer = answer coin_totals; unrolls = coin_is_told; told = sym (ap (message faults.Nothing) (ap text_of coin_is_told ∙ two_steps_text)) })
+  told_of_coin = by_run said (two_spelled (codes "coin")) 0 refl coin_is_alone (record { answer = answer coin_totals; unrolls = coin_is_told; told = sym (ap (message faults.Nothing) (ap text_of coin_is_told ∙ two_steps_text)) })
 
 -- ---- Runs that are stopped
 
-stopped : (run_reply (answers.Full 3) ≡ message (faults.Run (stops.Full 3)) (codes "run stopped at step 3: runs\n"))
-    × (run_reply (answers.Deep 1) ≡ message (faults.Run (stops.Deep 1)) (codes "run stopped at step 1: values\n"))
-    × (run_reply (answers.Bits 10001) ≡ message (faults.Run (stops.Bits 10001)) (codes "run stopped at step 10001: bits\n"))
+stopped : (run_reply (answers.Full 3) ≡ message (faults.Run (answers.Full 3)) (codes "run stopped at step 3: runs\n"))
+    × (run_reply (answers.Deep 1) ≡ message (faults.Run (answers.Deep 1)) (codes "run stopped at step 1: values\n"))
+    × (run_reply (answers.Bits 10001) ≡ message (faults.Run (answers.Bits 10001)) (codes "run stopped at step 10001: bits\n"))
 unfolding digits
 stopped = (refl, refl, refl)
+
+-- Their status is 8, and that of sums is 0.
+stopped_status : ((run_reply (answers.Full 3)).status ≡ 8) × ((run_reply (answers.Bits 1)).status ≡ 8) × ((message faults.Nothing []).status ≡ 0)
+stopped_status = (refl, refl, refl)

@@ -1,38 +1,38 @@
 -- What the numbers of a run mean, from the reply that a call made.
 use Rattle.heyvl_acts.specs.Acts.{TypedProcedure, procedure_at}
+use Rattle.heyvl_acts.specs.Rules.{Each, MeetsRules}
 use Rattle.heyvl_places.specs.declared.spans.Span.{Span}
 use Rattle.heyvl_syntax.specs.Procedures.{Procedure}
 use Rattle.heyvl_syntax.specs.SourceFaults.{IsSource}
 use Rattle.heyvl_tool.proofs.CallLemmas.CameTo.{failed, said, too_long}
 use Rattle.heyvl_tool.proofs.CallLemmas.{CameTo, came_to}
-use Rattle.heyvl_tool.proofs.ScriptReading.{script_says_steps}
 use Rattle.heyvl_tool.specs.Calls.{Call}
-use Rattle.heyvl_tool.specs.Headline.{IsSummedFrom, scripted_runs, start_by}
+use Rattle.heyvl_tool.specs.FileReplies.IsTypedReply.{by_fault, by_file}
+use Rattle.heyvl_tool.specs.Headline.{IsSummedFrom, SumsAreMeant, scripted_runs, start_by}
 use Rattle.heyvl_tool.specs.Messages.{Reply, message}
-use Rattle.heyvl_tool.specs.Replies.IsReplyTo.{sound, source}
-use Rattle.heyvl_tool.specs.Replies.IsTypedReply.{faultless, static}
-use Rattle.heyvl_tool.specs.Replies.{HasCause, IsCut, IsDelivered, IsReplyTo, IsTypedReply, IsWritten, Writing}
-use Rattle.heyvl_tool.specs.RunReplies.IsRunReply.{by_name, by_program, by_run, by_script}
-use Rattle.heyvl_tool.specs.RunReplies.{IsRunReply, run_reply, runs_by}
+use Rattle.heyvl_tool.specs.Outcomes.{HasCause, IsCut, IsDelivered, IsWritten, Writing}
 use Rattle.heyvl_tool.specs.RunStarts.{known_at, procedure_named}
-use Rattle.heyvl_tool.specs.RunTexts.{sums_text}
-use Rattle.heyvl_tool.specs.Scripts.Reading.{says}
-use Rattle.heyvl_tool.specs.Scripts.{Script, known_of, read_script}
-use Rattle.heyvl_tool.specs.Words.{AskFor}
+use Rattle.run_script.proofs.exported.StartStates.{start_typed}
+use Rattle.run_script.specs.Scripts.{Script, Spells}
+use Rattle.run_script.specs.Starts.{known_of, start_state}
+use Rattle.run_script.specs.Texts.{sums_text}
+use Rattle.heyvl_tool.specs.commands.Run.IsRunOf.{by_name, by_program, by_run, by_script}
+use Rattle.heyvl_tool.specs.commands.Run.{IsRunOf, IsRunReply, run_reply, runs_by}
+use Rattle.heyvl_tool.specs.commands.{Files}
 use Rattle.heyvl_tool.specs.declared.outcomes.Fault.TheVariants as faults
 use Rattle.heyvl_tool.specs.declared.outcomes.Fault.{Fault}
 use Rattle.heyvl_tool.specs.declared.outcomes.Outcome.{Outcome}
 use Rattle.heyvl_tool.specs.declared.requests.Settings.TheVariants.{Run}
-use Rattle.heyvl_tool.specs.declared.run_stops.RunStop.TheVariants as stops
-use Rattle.heyvl_tool.specs.declared.run_stops.RunStop.{RunStop}
-use Rattle.heyvl_types.specs.Files.{first_fault, resolved}
+use Rattle.heyvl_types.specs.Files.{file_findings, first_fault, resolved}
+use Rattle.heyvl_types.specs.Findings.{Finding, first}
+use Rattle.heyvl_types.specs.ResolvedLaws.{ResolvedProceduresMeetRules}
 use Rattle.run_machine.specs.ConfigConditions.{ReachesPrograms}
 use Rattle.run_unroller.specs.Totals.{Totals}
 use Rattle.run_unroller.specs.UnrollLaws.{AreSums, UnrolledSumsAreMeant}
 use Rattle.run_unroller.specs.Unrolling.{Unrolling, totals_of, unrolling_of}
 use Rattle.run_unroller.specs.declared.answers.Unrolled.TheVariants as answers
 use Rattle.run_unroller.specs.declared.answers.Unrolled.{Unrolled}
-use Rattle.std.proofs.Common.{List, None, Option, Some, ap, inl, inr, refl, subst, sym, unwrap_or, ◌∙◌, ◌≡◌, ◌⊎◌, ℕ}
+use Rattle.std.proofs.Common.{List, None, Option, Some, [], ap, inl, inr, refl, subst, sym, unwrap_or, ◌∙◌, ◌∷◌, ◌≡◌, ◌⊎◌, ℕ}
 
 -- ---- No other reply has nothing in its way
 
@@ -58,8 +58,8 @@ no_name e = cc
 no_program : (p : ℕ) → faults.NotProgram p ≡ faults.Nothing → ⊥
 no_program p e = cc
 
-no_stop : (stop : RunStop) → faults.Run stop ≡ faults.Nothing → ⊥
-no_stop stop e = cc
+no_stop : (stopped : Unrolled) → faults.Run stopped ≡ faults.Nothing → ⊥
+no_stop stopped e = cc
 
 no_write : faults.Write ≡ faults.Nothing → ⊥
 no_write e = cc
@@ -74,9 +74,9 @@ record Told (ps : List TypedProcedure) (p : ℕ) (s : Script) (reply : Reply) : 
 
 told_by : (ps : List TypedProcedure) (p : ℕ) (s : Script) (reply : Reply) (u : Unrolled) → unrolling_of u ≡ runs_by ps p s → reply ≡ run_reply u → reply.fault ≡ faults.Nothing → Told ps p s reply
 told_by ps p s reply (answers.Sums sums) unrolls e finished = record { numbers = totals_of sums; unrolls = sym unrolls; told = e }
-told_by ps p s reply (answers.Full step) unrolls e finished = absurd (no_stop (stops.Full step) (fault_is reply _ faults.Nothing e finished))
-told_by ps p s reply (answers.Deep step) unrolls e finished = absurd (no_stop (stops.Deep step) (fault_is reply _ faults.Nothing e finished))
-told_by ps p s reply (answers.Bits step) unrolls e finished = absurd (no_stop (stops.Bits step) (fault_is reply _ faults.Nothing e finished))
+told_by ps p s reply (answers.Full step) unrolls e finished = absurd (no_stop (answers.Full step) (fault_is reply _ faults.Nothing e finished))
+told_by ps p s reply (answers.Deep step) unrolls e finished = absurd (no_stop (answers.Deep step) (fault_is reply _ faults.Nothing e finished))
+told_by ps p s reply (answers.Bits step) unrolls e finished = absurd (no_stop (answers.Bits step) (fault_is reply _ faults.Nothing e finished))
 
 -- What is said of a procedure and a script in a file with these typed procedures.
 record Summed (ps : List TypedProcedure) (procedure text : List ℕ) (reply : Reply) : Type 0 where
@@ -84,33 +84,26 @@ record Summed (ps : List TypedProcedure) (procedure text : List ℕ) (reply : Re
   named : procedure_named procedure ps ≡ Some number
   programs : ReachesPrograms ps number
   said : Script
-  keeps_rules : read_script (Some (known_of (procedure_at ps number))) text ≡ says said
-  steps : ℕ
-  says_steps : said.steps ≡ Some steps
+  spells : Spells (Some (known_of (procedure_at ps number))) said text
   numbers : Totals
-  sums : AreSums (procedure_at ps number) (scripted_runs ps number said steps) numbers
+  sums : AreSums (procedure_at ps number) (scripted_runs ps number said said.steps) numbers
   told : reply ≡ message faults.Nothing (sums_text numbers)
 
-run_summed : UnrolledSumsAreMeant → (ps : List TypedProcedure) (procedure text : List ℕ) (reply : Reply) → reply.fault ≡ faults.Nothing → IsRunReply procedure ps text reply → Summed ps procedure text reply
-run_summed meant ps procedure text reply finished (by_script line fault e) = absurd (no_script line (fault_is reply _ faults.Nothing e finished))
-run_summed meant ps procedure text reply finished (by_name s read none e) = absurd (no_name (fault_is reply _ faults.Nothing e finished))
-run_summed meant ps procedure text reply finished (by_program s read p named q first e) = absurd (no_program q (fault_is reply _ faults.Nothing e finished))
-run_summed meant ps procedure text reply finished (by_run s read p named programs tells) =
-    let known : read_script (Some (known_of (procedure_at ps p))) text ≡ says s = sym (ap (λ (found : Option ℕ). read_script (known_at ps found) text) named) ∙ read in
-    let steps = script_says_steps (Some (known_of (procedure_at ps p))) text s known in
+run_summed : UnrolledSumsAreMeant → (ps : List TypedProcedure) → Each (MeetsRules ps) ps → (procedure text : List ℕ) (reply : Reply) → reply.fault ≡ faults.Nothing → IsRunOf procedure text ps reply → Summed ps procedure text reply
+run_summed meant ps rules procedure text reply finished (by_script line fault e) = absurd (no_script line (fault_is reply _ faults.Nothing e finished))
+run_summed meant ps rules procedure text reply finished (by_name s read none e) = absurd (no_name (fault_is reply _ faults.Nothing e finished))
+run_summed meant ps rules procedure text reply finished (by_program s read p named q first e) = absurd (no_program q (fault_is reply _ faults.Nothing e finished))
+run_summed meant ps rules procedure text reply finished (by_run s read p named programs tells) =
+    let known : Spells (Some (known_of (procedure_at ps p))) s text = subst (λ (found : Option ℕ). Spells (known_at ps found) s text) named read in
     let t = told_by ps p s reply tells.answer tells.unrolls tells.told finished in
     record {
       number = p;
       named = named;
       programs = programs;
       said = s;
-      keeps_rules = known;
-      steps = steps.0;
-      says_steps = steps.1;
+      spells = known;
       numbers = t.numbers;
-      sums =
-          subst (λ (n : ℕ). AreSums (procedure_at ps p) (scripted_runs ps p s n) t.numbers) (ap (λ (o : Option ℕ). unwrap_or o 0) steps.1)
-          (meant ps p s.decisions (unwrap_or s.steps 0) (start_by ps p s) t.numbers t.unrolls);
+      sums = meant ps p rules programs (start_state (procedure_at ps p) s.settings) (start_typed (procedure_at ps p) s.settings) s.decisions s.steps t.numbers t.unrolls;
       told = t.told;
     }
 
@@ -121,14 +114,13 @@ record Spelled (procedure bytes text : List ℕ) (reply : Reply) : Type 0 where
   faultless : first_fault file ≡ None
   summed : Summed (resolved file) procedure text reply
 
-typed_summed : UnrolledSumsAreMeant → (procedure bytes text : List ℕ) (file : List Procedure) (reply : Reply) → reply.fault ≡ faults.Nothing → IsSource bytes file
-    → IsTypedReply (λ ps r. IsRunReply procedure ps text r) bytes file reply → Spelled procedure bytes text reply
-typed_summed meant procedure bytes text file reply finished is (static number place fault e) = absurd (no_source number place (fault_is reply _ faults.Nothing e finished))
-typed_summed meant procedure bytes text file reply finished is (faultless none told) = record { file = file; spelled = is; faultless = none; summed = run_summed meant (resolved file) procedure text reply finished told }
+nothing_found : (xs : List Finding) → first xs ≡ None → xs ≡ []
+nothing_found [] e = refl
+nothing_found (x ∷ xs) e = absurd (cc)
 
-replied_summed : UnrolledSumsAreMeant → (name procedure script bytes text : List ℕ) (reply : Reply) → reply.fault ≡ faults.Nothing → IsReplyTo (Run name procedure script) bytes text reply → Spelled procedure bytes text reply
-replied_summed meant name procedure script bytes text reply finished (source number place fault e) = absurd (no_source number place (fault_is reply _ faults.Nothing e finished))
-replied_summed meant name procedure script bytes text reply finished (sound file is told) = typed_summed meant procedure bytes text file reply finished is told
+replied_summed : UnrolledSumsAreMeant → ResolvedProceduresMeetRules → (procedure bytes text : List ℕ) (reply : Reply) → reply.fault ≡ faults.Nothing → IsRunReply procedure bytes text reply → Spelled procedure bytes text reply
+replied_summed meant ruled procedure bytes text reply finished (by_fault number place fault e) = absurd (no_source number place (fault_is reply _ faults.Nothing e finished))
+replied_summed meant ruled procedure bytes text reply finished (by_file file is none told) = record { file = file; spelled = is; faultless = none; summed = run_summed meant (resolved file) (ruled file (nothing_found (file_findings file) none)) procedure text reply finished told }
 
 -- ---- What a call came to
 
@@ -137,12 +129,12 @@ written_whole : (reply : Reply) (done : Writing) (outcome : Outcome) → outcome
 written_whole reply done outcome finished (inl written) = written
 written_whole reply done outcome finished (inr cut) = absurd (no_write (sym cut.fault ∙ finished))
 
-from_came : UnrolledSumsAreMeant → (name procedure script : List ℕ) (made : Call) (done : Writing) (outcome : Outcome) (reply : Reply) → outcome.fault ≡ faults.Nothing → IsWritten reply done outcome
-    → CameTo (Run name procedure script) (Some script) made reply → IsSummedFrom name procedure script made done outcome
-from_came meant name procedure script made done outcome reply finished written (failed k rose e) = absurd (no_read k (fault_is reply _ faults.Nothing e (sym written.fault ∙ finished)))
-from_came meant name procedure script made done outcome reply finished written (too_long k taken e) = absurd (not_long k (fault_is reply _ faults.Nothing e (sym written.fault ∙ finished)))
-from_came meant name procedure script made done outcome reply finished written (said bytes text read replied) =
-    let f = replied_summed meant name procedure script bytes text reply (sym written.fault ∙ finished) replied in
+from_came : UnrolledSumsAreMeant → ResolvedProceduresMeetRules → (name procedure script : List ℕ) (made : Call) (done : Writing) (outcome : Outcome) (reply : Reply) → outcome.fault ≡ faults.Nothing → IsWritten reply done outcome
+    → CameTo (Run name procedure script) (Files.two name script) made reply → IsSummedFrom name procedure script made done outcome
+from_came meant ruled name procedure script made done outcome reply finished written (failed k rose e) = absurd (no_read k (fault_is reply _ faults.Nothing e (sym written.fault ∙ finished)))
+from_came meant ruled name procedure script made done outcome reply finished written (too_long k taken e) = absurd (not_long k (fault_is reply _ faults.Nothing e (sym written.fault ∙ finished)))
+from_came meant ruled name procedure script made done outcome reply finished written (said bytes text read replied) =
+    let f = replied_summed meant ruled procedure bytes text reply (sym written.fault ∙ finished) replied in
     let s = f.summed in
     record {
       bytes = bytes;
@@ -155,16 +147,13 @@ from_came meant name procedure script made done outcome reply finished written (
       named = s.named;
       programs = s.programs;
       said = s.said;
-      keeps_rules = s.keeps_rules;
-      steps = s.steps;
-      says_steps = s.says_steps;
+      spells = s.spells;
       numbers = s.numbers;
       sums = s.sums;
       written = subst (λ (r : Reply). IsWritten r done outcome) s.told written;
     }
 
 -- Where a reply to `run` has its cause, was delivered, and has no fault, its numbers are sums over runs.
-pub summed_from : UnrolledSumsAreMeant → (name procedure script : List ℕ) (made : Call) (done : Writing) (outcome : Outcome) (reply : Reply) → HasCause made reply → IsDelivered reply done outcome
-    → AskFor made.words (Run name procedure script) → outcome.fault ≡ faults.Nothing → IsSummedFrom name procedure script made done outcome
-summed_from meant name procedure script made done outcome reply cause delivered asks finished =
-    from_came meant name procedure script made done outcome reply finished (written_whole reply done outcome finished delivered.delivered) (came_to (Run name procedure script) made reply asks cause)
+pub sums_meant : UnrolledSumsAreMeant → ResolvedProceduresMeetRules → (made : Call) (done : Writing) (outcome : Outcome) (reply : Reply) → HasCause made reply → IsDelivered reply done outcome → SumsAreMeant made done outcome
+sums_meant meant ruled made done outcome reply cause delivered name procedure script asks finished =
+    from_came meant ruled name procedure script made done outcome reply finished (written_whole reply done outcome finished delivered.delivered) (came_to (Run name procedure script) made reply asks cause)

@@ -6,9 +6,12 @@ use Rattle.heylo_formula.specs.declared.values.Val.{Val}
 use Rattle.heyvl_num.specs.Gcd.{gcd, gcd_steps}
 use Rattle.heyvl_num.specs.Rational.{leqʳ, ratio, zeroʳ}
 use Rattle.heylo_formula.specs.declared.types.Ty.{Ty}
-use Rattle.heyvl_tool.specs.RunStarts.{IsFirstNoProgram, start_state, start_value}
-use Rattle.heyvl_tool.specs.RunReplies.{runs_by}
-use Rattle.heyvl_tool.specs.Scripts.{Script, known_of}
+use Rattle.heyvl_tool.specs.RunStarts.{IsFirstNoProgram}
+use Rattle.heyvl_tool.specs.commands.Run.{runs_by}
+use Rattle.run_script.proofs.exported.StartStates.{start_typed}
+use Rattle.run_script.specs.Scripts.{Script}
+use Rattle.run_script.specs.Starts.{start_state}
+use Rattle.run_script.specs.declared.scripts.Setting.{Setting}
 use Rattle.heyvl_acts.specs.Acts.{TypedProcedure, Variable, procedure_at, type_list, variables}
 use Rattle.heyvl_acts.specs.Program.{IsProgram, why_no_program}
 use Rattle.heyvl_acts.specs.PlainActs.{procedure_of, variable_of}
@@ -19,49 +22,18 @@ use Rattle.heyvl_acts.specs.Visible.{among}
 use Rattle.proc_contracts.specs.Reached.{AreReached}
 use Rattle.run_machine.specs.Bound.{IsState}
 use Rattle.run_machine.specs.ConfigConditions.{IsConfig, ReachesPrograms}
-use Rattle.run_machine.specs.Configurations.{Config, begin}
-use Rattle.run_machine.specs.Names.{Stored, config_of}
+use Rattle.run_machine.specs.Names.{Stored}
+use Rattle.run_machine.specs.StoredStep.{stored_begin}
 use Rattle.run_machine.specs.declared.configurations.Decide.{Decide}
 use Rattle.run_unroller.specs.RunLists.{begun}
 use Rattle.run_unroller.specs.Unrolling.{Begins, Unrolling, unrolled}
-use Rattle.std.proofs.Common.{Bool, IfSome, List, MatchOption, None, Option, Some, [], ap, ap₂, append_assoc, arith, drop, false, get_or, inl, inr, is_some, length, map, refl, replicate, subst, sym, take, take-add, true, unwrap_or, ◌+◌, ◌++◌, ◌<◌, ◌==◌, ◌||◌, ◌∙◌, ◌∷◌, ◌≡◌, ◌≢◌, ◌≤◌, ◌⊎◌, ℕ}
+use Rattle.std.proofs.Common.{Bool, IfSome, List, MatchOption, None, Option, Some, [], ap, ap₂, append_assoc, arith, drop, false, get_or, inl, inr, is_some, length, map, refl, subst, sym, take, take-add, true, unwrap_or, ◌+◌, ◌++◌, ◌<◌, ◌==◌, ◌||◌, ◌∙◌, ◌∷◌, ◌≡◌, ◌≢◌, ◌≤◌, ◌⊎◌, ℕ}
 use Rattle.std.proofs.lemmas.Bool.Decides.{eqb_tells, nat_tests}
 use Rattle.std.proofs.lemmas.List.Elements.{All-cons, All-nil}
 use Rattle.std.proofs.lemmas.List.{drop-map, take-map}
 use Rattle.std.specs.List.{All, find}
 use Rattle.std.specs.Option.{option_map_or}
 use Rattle.std.specs.Str.{bytes_eq}
-
--- ---- The first state
-
-default_has : (ty : Ty) → has ty (default ty) ≡ true
-unfolding zeroʳ leqʳ ratio gcd gcd_steps
-default_has Ty.Bool = refl
-default_has Ty.Int = refl
-default_has Ty.UInt = refl
-default_has Ty.UReal = refl
-
-fits_or : (ty : Ty) (found : Option (List ℕ × Val)) → has ty (option_map_or (λ s. fit ty s.1) found (default ty)) ≡ true
-fits_or ty None = default_has ty
-fits_or ty (Some s) = fit_has ty s.1
-
-values_typed : (settings : List (List ℕ × Val)) (xs : List Variable) → IsTyped (type_list xs) (map (start_value settings) xs)
-values_typed settings [] = refl
-values_typed settings (x ∷ xs) = (fits_or x.ty (find (λ s. bytes_eq x.name s.0) settings), values_typed settings xs)
-
-defaults_typed : (xs : List Variable) → IsTyped (type_list xs) (map (λ x. default x.ty) xs)
-defaults_typed [] = refl
-defaults_typed (x ∷ xs) = (default_has x.ty, defaults_typed xs)
-
-map_append : {A B : Type 0} (f : A → B) (xs ys : List A) → map f (xs ++ ys) ≡ map f xs ++ map f ys
-map_append f [] ys = refl
-map_append f (x ∷ xs) ys = ap (λ r. f x ∷ r) (map_append f xs ys)
-
--- The first state has a value of the right type for each variable.
-pub start_typed : (p : TypedProcedure) (settings : List (List ℕ × Val)) → IsState p (start_state p settings)
-start_typed p settings =
-    let types : type_list (known_of p) ++ type_list p.locals ≡ type_list (variables p) = sym (map_append (λ v. v.ty) (known_of p) p.locals) ∙ ap type_list (append_assoc p.inputs p.outputs p.locals) in
-    subst (λ tys. IsTyped tys (start_state p settings)) types (typed_append (type_list (known_of p)) (type_list p.locals) _ _ (values_typed settings (known_of p)) (defaults_typed p.locals))
 
 -- ---- Programs
 
@@ -178,41 +150,19 @@ procedure_counted [] p x lt is h = absurd (omega (arith, lt))
 procedure_counted (y ∷ rest) zero x lt is h = subst IsCounted (sym is) h.0
 procedure_counted (y ∷ rest) (suc p) x lt is h = procedure_counted rest p x (omega (arith, lt)) is h.1
 
--- ---- Variables that the program holds
-
-pub known_front : (i o : ℕ) (vars : List VarInfo) → map variable_of (take (i + o) vars) ≡ take i (map variable_of vars) ++ take o (drop i (map variable_of vars))
-known_front i o vars = sym (take-map variable_of (i + o) vars) ∙ take-add i o (map variable_of vars)
-
-map_twice : {A B C : Type 0} (g : B → C) (f : A → B) (xs : List A) → map (λ x. g (f x)) xs ≡ map g (map f xs)
-map_twice g f [] = refl
-map_twice g f (x ∷ xs) = ap (λ r. g (f x) ∷ r) (map_twice g f xs)
-
--- The first state of a procedure that the program holds.
-pub state_made : (p : TProc) (settings : List (List ℕ × Val)) → map (λ x. start_value settings (variable_of x)) (take (p.inputs + p.outputs) p.vars.items) ++ map (λ x. default x.ty) (drop (p.inputs + p.outputs) p.vars.items) ≡ start_state (procedure_of p) settings
-state_made p settings =
-    let known = map_twice (start_value settings) variable_of (take (p.inputs + p.outputs) p.vars.items) ∙ ap (map (start_value settings)) (known_front p.inputs p.outputs p.vars.items) in
-    let others = map_twice (λ x. default x.ty) variable_of (drop (p.inputs + p.outputs) p.vars.items) ∙ ap (map (λ x. default x.ty)) (sym (drop-map variable_of (p.inputs + p.outputs) p.vars.items)) in
-    ap₂ (λ a b. a ++ b) known others
-
 -- ---- Runs
 
-pub few_or : (o : Option ℕ) → IfSome o (λ n. n ≤ 10000) → unwrap_or o 0 ≤ 10000
-few_or None h = omega arith
-few_or (Some n) h = h
-
 -- The configuration that a run begins with, in the state that a script sets.
-pub begins_with : (ps : List TypedProcedure) (p : ℕ) (settings : List (List ℕ × Val)) (state : List Val) (c : Stored) → state ≡ start_state (procedure_at ps p) settings → config_of ps c ≡ begin ps p state → c.turns ≡ replicate (procedure_at ps p).loops 0 → c.made ≡ 0 → (IsState (procedure_at ps p) state → IsConfig ps c) → Begins ps p c
-begins_with ps p settings state c is first turns made config = record {
+pub begins_with : (ps : List TypedProcedure) (p : ℕ) (settings : List Setting) (state : List Val) (c : Stored) → state ≡ start_state (procedure_at ps p) settings → c ≡ stored_begin ps p state → (IsState (procedure_at ps p) state → IsConfig ps c) → Begins ps p c
+begins_with ps p settings state c is first config = record {
   state = state;
   first = first;
-  turns = turns;
-  made = made;
   config = config (subst (IsState (procedure_at ps p)) (sym is) (start_typed (procedure_at ps p) settings));
 }
 
 -- What the runs by a script come to.
-pub unrolls_by : (ps : List TypedProcedure) (p : ℕ) (s : Script) (script : List Decide) (n : ℕ) (state : List Val) (first : Config) (u : Unrolling) → u ≡ unrolled ps p script n (begun first) → script ≡ s.decisions → n ≡ unwrap_or s.steps 0 → first ≡ begin ps p state → state ≡ start_state (procedure_at ps p) s.settings → u ≡ runs_by ps p s
+pub unrolls_by : (ps : List TypedProcedure) (p : ℕ) (s : Script) (script : List Decide) (n : ℕ) (state : List Val) (first : Stored) (u : Unrolling) → u ≡ unrolled ps p script n (begun first) → script ≡ s.decisions → n ≡ s.steps → first ≡ stored_begin ps p state → state ≡ start_state (procedure_at ps p) s.settings → u ≡ runs_by ps p s
 unrolls_by ps p s script n state first u e decisions steps begins starts =
     e ∙ (ap (λ d. unrolled ps p d n (begun first)) decisions
     ∙ (ap (λ m. unrolled ps p s.decisions m (begun first)) steps
-    ∙ ap (λ c. unrolled ps p s.decisions (unwrap_or s.steps 0) (begun c)) (begins ∙ ap (begin ps p) starts)))
+    ∙ ap (λ c. unrolled ps p s.decisions s.steps (begun c)) (begins ∙ ap (stored_begin ps p) starts)))

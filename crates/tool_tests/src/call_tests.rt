@@ -11,7 +11,8 @@ verify,help gives verify [help] [none]
 print,a b=c gives print [a b=c] [none]
 run,f,p,s gives run [f] [s]
 certify,verify gives certify [verify] [none]
-check,f,c gives check [f] [c]";
+check,f,c gives check [f] [c]
+pgcl,f gives pgcl [f] [none]";
 
 #[test]
 fn words_name_a_command_and_its_files(rt: HostRuntime) -> Result<(), AllocError> {

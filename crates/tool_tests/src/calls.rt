@@ -1,7 +1,7 @@
 //! Calls of the tool over devices in memory, and what words ask for.
 
 use heyvl_io::{MemSink, MemSource};
-use heyvl_tool::{Outcome, Settings, run_tool, settings};
+use heyvl_tool::{Files, Outcome, Settings, run_tool, settings};
 use std::alloc::{AllocError, Global};
 use std::fmt::Write;
 use test_lines::{calls_of, cut, size, write_bytes};
@@ -65,7 +65,7 @@ fn write_outcome(
     text: &mut String,
 ) -> Result<(), AllocError> {
     let status = outcome.status;
-    let fault = outcome.fault;
+    let fault = &outcome.fault;
     let answers = outcome.answers.len();
     let written = outcome.written;
     let order = source.order;
@@ -107,14 +107,18 @@ fn command(settings: &Settings) -> &'static str {
         Settings::Run(_, _, _) => "run",
         Settings::Certify(_) => "certify",
         Settings::Check(_, _) => "check",
+        Settings::Gen(_) => "gen",
+        Settings::Pgcl(_) => "pgcl",
     }
 }
 
 fn write_settings(settings: &Settings, text: &mut String) -> Result<(), AllocError> {
     let command = command(settings);
-    let file = settings.file();
-    let second = settings.second().unwrap_or("none");
-    write!(text, "{command} [{file}] [{second}]")
+    match settings.files() {
+        Files::Zero => write!(text, "{command} [none] [none]"),
+        Files::One(file) => write!(text, "{command} [{file}] [none]"),
+        Files::Two(file, second) => write!(text, "{command} [{file}] [{second}]"),
+    }
 }
 
 /// `words`: the command that they ask for, its file and its second text.

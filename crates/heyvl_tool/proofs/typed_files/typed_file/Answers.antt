@@ -1,6 +1,0 @@
-use Rattle.heyvl_syntax.specs.Procedures.{procedures}
-use Rattle.heyvl_tool.proofs.ReadyFiles.{is_ready}
-use Rattle.heyvl_tool.proofs.typed_files.typed_file.Goals as goal
-
-pub returns-clause-ready : goal.returns-clause-ready
-returns-clause-ready c = is_ready c.resolved_trees_meet_the_rules.ensures c.files_have_few_acts.ensures c.files_have_small_forms.ensures c.files_stand_within.ensures c.files_have_named_binders.ensures (procedures c.args.file.now) c.resolve.result c.resolve.ensures.gives c.resolve.ensures.counted
