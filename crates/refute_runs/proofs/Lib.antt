@@ -1,0 +1,5 @@
+mod Procedures
+mod Stops
+mod Seen
+mod OfRuns
+mod Examples
