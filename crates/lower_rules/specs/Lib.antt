@@ -2,3 +2,12 @@ pub mod OneLoop
 pub mod Collected
 pub mod Omega
 pub mod Remainder
+pub mod UpperGoals
+pub mod VerdictsOn
+pub mod RemainderPairs
+pub mod StartGoals
+pub mod RemainderAnswers
+pub mod OmegaPairs
+pub mod OmegaGoals
+pub mod OmegaAnswers
+pub mod internal

@@ -1,0 +1,8 @@
+pub mod Shapes
+pub mod Said
+pub mod Parts
+pub mod Startable
+pub mod Started
+pub mod Decidable
+pub mod Pairs
+pub mod Telling
