@@ -1,6 +1,24 @@
 //! Lower bounds of weak procs with one loop: what ended runs of few turns collect.
 #![tactic(auto)]
 
+mod answers;
+mod input_bounds;
 mod laws;
+mod omegas;
+mod pairs;
+mod placing;
+mod remainder_answers;
+mod remainder_pairs;
+mod remainders;
+mod shapes;
+mod start_goals;
+mod step_goals;
+mod telling;
+mod upper_goals;
+mod verdicts;
 
+pub use answers::{Omega, Step};
 pub use laws::{omega_bounds_runs, remainder_bounds_runs};
+pub use omegas::omega;
+pub use remainder_answers::Remainder;
+pub use remainders::{remainder, remainder_goal};

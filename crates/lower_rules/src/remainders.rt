@@ -1,0 +1,186 @@
+//! Lower bounds with a remainder.
+
+ghost use Rattle.heylo_formula.specs.PlainTrees.{form_of};
+ghost use Rattle.heyvl_acts.specs.Acts.{procedure_at};
+ghost use Rattle.heyvl_acts.specs.FormSizes.{FormsWithin};
+ghost use Rattle.heyvl_acts.specs.PlainActs.{acts_of, procedures_of};
+ghost use Rattle.heyvl_acts.specs.Rules.{Each, MeetsAllRules};
+ghost use Rattle.loop_encodings.specs.BoundGoals.{BoundGoalsHold};
+ghost use Rattle.lower_rules.specs.RemainderAnswers.{HasBoundedTurns, IsPromised, IsRemainderAnswer};
+ghost use Rattle.lower_rules.specs.RemainderPairs.{RemainderPair};
+ghost use Rattle.lower_rules.specs.StartGoals.{start_goal};
+ghost use Rattle.lower_rules.specs.VerdictsOn.{IsVerdictOn, IsVerdictOnLoop};
+ghost use Rattle.lower_rules.specs.internal.Parts.{IsPairAs};
+ghost use Rattle.lower_rules.specs.internal.Started.{IsStarted, answer_by};
+ghost use Rattle.ranking_rule.specs.MadeGoals.{IsMadeWithin};
+ghost use Rattle.ranking_rule.specs.RankingGoals.{generated};
+ghost use Rattle.run_machine.specs.Bound.{Bound};
+ghost use Rattle.std.specs.Prelude.{IfOk, List, length, ℕ, ◌<◌, ◌^◌, ◌≡◌};
+ghost use Rattle.verdict_report.specs.declared.answers.Answer.{Answer as plain_answer};
+ghost use Rattle.verdict_report.specs.declared.answers.RankVerdict.TheVariants.{Ranked};
+ghost use Rattle.verdict_report.specs.declared.answers.Verdict.TheVariants.{Verified};
+
+use crate::remainder_answers::Remainder;
+use crate::remainder_pairs::{RankedParts, pair_of};
+use crate::start_goals::{decided, start_goal};
+use crate::verdicts::{is_ranked, is_verified};
+use goal_answers::Decision;
+use heylo_formula::Made;
+use heyvl_acts::Typed;
+use heyvl_num::Frac;
+use std::alloc::{AllocError, Global};
+use verdict_report::Answer;
+use vp_generator::{generated_form_means_acts, prenexed_goals_speak_of_choices};
+
+/// What is found of the procedures p and q as a remainder pair, where these are the answers of the file: Shape where they are none;
+/// else NotVerified where p isn't verified; else NotRanked where its loop isn't ranked; else by the goal that q's pre, over p's
+/// inputs, is at least what the acts before the loop, taken upward, make of the ranking. Want of memory is the one error.
+pub fn remainder(
+    alloc: Global,
+    typed: &Typed,
+    answers: &[Answer],
+    p: u32,
+    q: u32,
+) -> Result<Remainder, AllocError>
+    requires first { p < length typed.now.procs.items }
+    requires second { q < length typed.now.procs.items }
+    requires rules { MeetsAllRules typed.now }
+    requires small { Each (FormsWithin (2 ^ 27)) (procedures_of typed.now) }
+    requires each { length answers.now ≡ length typed.now.procs.items }
+    requires verified { IsVerdictOn answers.now p Verified → Bound (procedures_of typed.now) p }
+    requires proved { IsVerdictOn answers.now p Verified → BoundGoalsHold (procedures_of typed.now) (procedure_at (procedures_of typed.now) p) }
+    requires ranked { (n : ℕ) → IsVerdictOnLoop answers.now p n Ranked → HasBoundedTurns (procedures_of typed.now) p n }
+    ensures answer { IfOk result (λ answer. IsRemainderAnswer (procedures_of typed.now) answers.now p q answer) }
+    ensures bound { IfOk result (λ answer. IsPromised (procedures_of typed.now) p q answer) }
+{
+    match pair_of(typed, p, q) {
+        Some(parts) => of_pair(alloc, typed, answers, p, q, &parts),
+        None => Ok(Remainder::Shape),
+    }
+}
+
+/// The same for a remainder pair.
+fn of_pair<'a>(
+    alloc: Global,
+    typed: &Typed,
+    answers: &[Answer],
+    p: u32,
+    q: u32,
+    parts: &RankedParts<'a>,
+) -> Result<Remainder, AllocError>
+    requires first { p < length typed.now.procs.items }
+    requires second { q < length typed.now.procs.items }
+    requires rules { MeetsAllRules typed.now }
+    requires small { Each (FormsWithin (2 ^ 27)) (procedures_of typed.now) }
+    requires each { length answers.now ≡ length typed.now.procs.items }
+    requires pair { IsPairAs (procedure_at (procedures_of typed.now) p) (procedure_at (procedures_of typed.now) q) parts.now }
+    requires verified { IsVerdictOn answers.now p Verified → Bound (procedures_of typed.now) p }
+    requires proved { IsVerdictOn answers.now p Verified → BoundGoalsHold (procedures_of typed.now) (procedure_at (procedures_of typed.now) p) }
+    requires ranked { (n : ℕ) → IsVerdictOnLoop answers.now p n Ranked → HasBoundedTurns (procedures_of typed.now) p n }
+    ensures answer { IfOk result (λ answer. IsRemainderAnswer (procedures_of typed.now) answers.now p q answer) }
+    ensures bound { IfOk result (λ answer. IsPromised (procedures_of typed.now) p q answer) }
+{
+    if !is_verified(answers, p) {
+        return Ok(Remainder::NotVerified);
+    }
+    if !is_ranked(answers, p, parts.number) {
+        return Ok(Remainder::NotRanked);
+    }
+    of_ranked(alloc, typed, p, q, parts)
+}
+
+/// The same for a remainder pair whose first procedure is verified, and whose loop is ranked.
+fn of_ranked<'a>(
+    alloc: Global,
+    typed: &Typed,
+    p: u32,
+    q: u32,
+    parts: &RankedParts<'a>,
+) -> Result<Remainder, AllocError>
+    requires first { p < length typed.now.procs.items }
+    requires second { q < length typed.now.procs.items }
+    requires rules { MeetsAllRules typed.now }
+    requires small { Each (FormsWithin (2 ^ 27)) (procedures_of typed.now) }
+    requires pair { IsPairAs (procedure_at (procedures_of typed.now) p) (procedure_at (procedures_of typed.now) q) parts.now }
+    requires verified { Bound (procedures_of typed.now) p }
+    requires proved { BoundGoalsHold (procedures_of typed.now) (procedure_at (procedures_of typed.now) p) }
+    requires ranked { HasBoundedTurns (procedures_of typed.now) p parts.now.number }
+    ensures answer { (answers : List plain_answer) → IsVerdictOn answers p Verified → IsVerdictOnLoop answers p parts.now.number Ranked → IfOk result (λ answer. IsRemainderAnswer (procedures_of typed.now) answers p q answer) }
+    ensures bound { IfOk result (λ answer. IsPromised (procedures_of typed.now) p q answer) }
+{
+    let decision = started(alloc, typed, p, q, parts)?;
+    Ok(answer_by(parts.step, decision))
+}
+
+/// The decision of a remainder pair's goal.
+fn started<'a>(
+    alloc: Global,
+    typed: &Typed,
+    p: u32,
+    q: u32,
+    parts: &RankedParts<'a>,
+) -> Result<Decision, AllocError>
+    requires first { p < length typed.now.procs.items }
+    requires second { q < length typed.now.procs.items }
+    requires rules { MeetsAllRules typed.now }
+    requires small { Each (FormsWithin (2 ^ 27)) (procedures_of typed.now) }
+    requires pair { IsPairAs (procedure_at (procedures_of typed.now) p) (procedure_at (procedures_of typed.now) q) parts.now }
+    ensures { IfOk result (λ d. IsStarted (procedure_at (procedures_of typed.now) p) (procedure_at (procedures_of typed.now) q) (acts_of parts.now.front.now) (parts.now.step, form_of parts.now.ranking.now) d) }
+{
+    generated_form_means_acts();
+    prenexed_goals_speak_of_choices();
+    let made = made_of(alloc, typed, p, q, parts)?;
+    decided(alloc, &made)
+}
+
+/// The goal of the remainder pair of the procedures p and q: that q's pre, over p's inputs, is at least what the acts before the loop,
+/// taken upward, make of the ranking; or the limit that the form passes that is generated of it. Want of memory is the one error.
+pub fn remainder_goal(alloc: Global, typed: &Typed, p: u32, q: u32) -> Result<Made, AllocError>
+    requires first { p < length typed.now.procs.items }
+    requires second { q < length typed.now.procs.items }
+    requires rules { MeetsAllRules typed.now }
+    requires pair { RemainderPair (procedure_at (procedures_of typed.now) p) (procedure_at (procedures_of typed.now) q) }
+    ensures { (l : RemainderPair (procedure_at (procedures_of typed.now) p) (procedure_at (procedures_of typed.now) q)) → IfOk result (λ made. IsMadeWithin (generated l.loop.front l.rank) (start_goal (procedure_at (procedures_of typed.now) p) l.loop.front l.rank (procedure_at (procedures_of typed.now) q).pre) made) }
+{
+    match pair_of(typed, p, q) {
+        Some(parts) => made_of(alloc, typed, p, q, &parts),
+        None => unreachable!(),
+    }
+}
+
+/// The goal of a remainder pair with these parts.
+fn made_of<'a>(
+    alloc: Global,
+    typed: &Typed,
+    p: u32,
+    q: u32,
+    parts: &RankedParts<'a>,
+) -> Result<Made, AllocError>
+    requires first { p < length typed.now.procs.items }
+    requires second { q < length typed.now.procs.items }
+    requires rules { MeetsAllRules typed.now }
+    requires pair { IsPairAs (procedure_at (procedures_of typed.now) p) (procedure_at (procedures_of typed.now) q) parts.now }
+    ensures { IfOk result (λ made. IsMadeWithin (generated (acts_of parts.now.front.now) (parts.now.step, form_of parts.now.ranking.now)) (start_goal (procedure_at (procedures_of typed.now) p) (acts_of parts.now.front.now) (parts.now.step, form_of parts.now.ranking.now) (procedure_at (procedures_of typed.now) q).pre) made) }
+{
+    generated_form_means_acts();
+    let procedure = &typed.procs[p as usize];
+    let bound = &typed.procs[q as usize];
+    start_goal(
+        alloc,
+        &procedure.vars,
+        parts.front,
+        parts.ranking,
+        &bound.pre,
+    )
+}
+
+/// What a decision of the goal answers.
+fn answer_by(step: Frac, decision: Decision) -> Remainder
+    ensures { result ≡ answer_by step decision }
+{
+    match decision {
+        Decision::Proved(_) => Remainder::Holds(step),
+        Decision::Falsified(state) => Remainder::Fails(state),
+        Decision::Unknown(cause) => Remainder::Unknown(cause),
+    }
+}
