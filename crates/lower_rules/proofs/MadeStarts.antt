@@ -1,0 +1,121 @@
+-- What is made and decided of the parts that the program lends of a remainder pair.
+use Rattle.std.proofs.Common.{◌≡◌, ◌∙◌, ◌<◌, ◌^◌, ℕ, sym, ap, subst, arith, List, [], ◌∷◌, length, get_or, map}
+use Rattle.std.proofs.lemmas.List.{length-map}
+use Rattle.std.specs.Prelude.{Result, IfOk, true}
+use Rattle.std.specs.declared.alloc.AllocError.{AllocError}
+use Rattle.heyvl_num.specs.Rational.{Rational}
+use Rattle.heylo_formula.specs.BinderNames.{binders}
+use Rattle.heylo_formula.specs.Formula.{Form}
+use Rattle.heylo_formula.specs.PlainTrees.{form_of}
+use Rattle.heylo_formula.specs.declared.goals.Made.{Made}
+use Rattle.goal_answers.specs.declared.decisions.Decision.{Decision}
+use Rattle.goal_answers.specs.declared.decisions.Decision.TheVariants as decision
+use Rattle.heyvl_acts.specs.Acts.{Acts, TypedProcedure, Variable, procedure_at, variables}
+use Rattle.heyvl_acts.specs.FormSizes.{FormsWithin}
+use Rattle.heyvl_acts.specs.PlainActs.{acts_of, procedures_of, variable_of}
+use Rattle.heyvl_acts.specs.Rules.{Each, MeetsAllRules, MeetsRules}
+use Rattle.heyvl_acts.specs.Upward.{upward}
+use Rattle.heyvl_acts.specs.declared.typed.TProc.{TProc}
+use Rattle.heyvl_acts.specs.declared.typed.Typed.{Typed}
+use Rattle.heyvl_acts.specs.declared.typed.VarInfo.{VarInfo}
+use Rattle.heyvl_acts.proofs.exported.Each.{each_at}
+use Rattle.loop_encodings.proofs.exported.FromRules.{is_there, procedure_is}
+use Rattle.loop_encodings.proofs.exported.OwnVariables.{own_variables}
+use Rattle.ranking_rule.specs.MadeGoals.{IsMadeWithin, goal_over}
+use Rattle.ranking_rule.specs.RankingGoals.{generated}
+use Rattle.region_split.specs.Meanings.{Tells}
+use Rattle.vp_generator.specs.Fit.{AreFit}
+use Rattle.vp_generator.specs.Laws.{GeneratedFormIsFormula, GeneratedFormMeansActs}
+use Rattle.vp_generator.specs.Over.{GeneratedFormIsOver}
+use Rattle.vp_generator.specs.PrenexedGoals.{PrenexedGoalsAreGoals, PrenexedGoalsFailByChoices, PrenexedGoalsSpeakOfChoices}
+use Rattle.vp_generator.specs.Scopes.{AreNamed, GeneratedFormIsNamed}
+use Rattle.lower_rules.specs.RemainderPairs.{RemainderPair}
+use Rattle.lower_rules.specs.StartGoals.{start_goal}
+use Rattle.lower_rules.specs.UpperGoals.{IsDecidedWithin}
+use Rattle.lower_rules.specs.declared.remainder_pairs.RankedParts.{RankedParts}
+use Rattle.lower_rules.specs.internal.Parts.{IsPairAs}
+use Rattle.lower_rules.specs.internal.Startable.{CanDecide}
+use Rattle.lower_rules.specs.internal.Started.{IsStarted, TellsOfStart}
+use Rattle.lower_rules.proofs.RemainderPairs.{one_front, one_rank}
+use Rattle.lower_rules.proofs.StartDecisions.{both_ok, can_decide, each_ok}
+use Rattle.lower_rules.proofs.StartLaws.{start_fails, start_fit, start_holds, start_is_few, start_is_goal, start_named}
+use Rattle.lower_rules.proofs.StartParts.{IsStart, is_start, start_as}
+
+module _ (typed : Typed) (p q : ℕ) (parts : RankedParts) (all : MeetsAllRules typed) (first : p < length typed.procs.items) (second : q < length typed.procs.items) (is : IsPairAs (procedure_at (procedures_of typed) p) (procedure_at (procedures_of typed) q) parts) where
+  abbrev ps : List TypedProcedure
+  ps = procedures_of typed
+
+  abbrev one : TypedProcedure
+  one = procedure_at ps p
+
+  abbrev other : TypedProcedure
+  other = procedure_at ps q
+
+  abbrev front : Acts
+  front = acts_of parts.front.now
+
+  abbrev rank : Rational × Form
+  rank = (parts.step, form_of parts.ranking.now)
+
+  abbrev found : Form
+  found = generated front rank
+
+  first_there : p < length ps
+  first_there = is_there typed p first
+
+  second_there : q < length ps
+  second_there = is_there typed q second
+
+  rules : MeetsRules ps one
+  rules = each_at (MeetsRules ps) ps p all.each first_there
+
+  bound_rules : MeetsRules ps other
+  bound_rules = each_at (MeetsRules ps) ps q all.each second_there
+
+  start : IsStart ps one other front rank
+  start = start_as ps one other is.pair.loop.front front is.pair.rank rank is.front is.rank (is_start ps one other rules is.pair)
+
+  module _ (x : TProc) (x_is : x ≡ get_or typed.procs.items p x) (vs : List VarInfo) (same : vs ≡ x.vars.items) where
+    vars_are : map variable_of vs ≡ variables one
+    vars_are = ap (λ (l : List VarInfo). map variable_of l) same ∙ sym (ap (λ (r : TypedProcedure). variables r) (procedure_is typed.procs.items p x first x_is) ∙ own_variables x)
+
+    as_many : length vs ≡ length (variables one)
+    as_many = sym (length-map vs variable_of) ∙ ap (λ (l : List Variable). length l) vars_are
+
+    pub few_vars : length vs < 2 ^ 30
+    few_vars = let f = rules.few_variables in let e = as_many in omega (arith, f, e)
+
+    pub are_named : GeneratedFormIsNamed → AreNamed (length vs) (binders found)
+    are_named law = subst (λ n. AreNamed n (binders found)) (sym as_many) (start_named ps one other front rank start law)
+
+    module _ (y : TProc) (y_is : y ≡ get_or typed.procs.items q y) where
+      bound_is : form_of y.pre ≡ other.pre
+      bound_is = sym (ap (λ (r : TypedProcedure). r.pre) (procedure_is typed.procs.items q y second y_is))
+
+      made_is : (m : Made) → IsMadeWithin found (goal_over true (map variable_of vs) (form_of y.pre) found) m → IsMadeWithin found (start_goal one front rank other.pre) m
+      made_is m h = subst (λ (us : List Variable). IsMadeWithin found (goal_over true us other.pre found) m) vars_are (subst (λ b. IsMadeWithin found (goal_over true (map variable_of vs) b found) m) bound_is h)
+
+      pub all_made : (r : Result Made AllocError) → IfOk r (λ m. IsMadeWithin found (goal_over true (map variable_of vs) (form_of y.pre) found) m) → IfOk r (λ m. IsMadeWithin found (start_goal one front rank other.pre) m)
+      all_made r h = each_ok (λ m. IsMadeWithin found (goal_over true (map variable_of vs) (form_of y.pre) found) m) (λ m. IsMadeWithin found (start_goal one front rank other.pre) m) r made_is h
+
+  pub is_fit : AreFit (upward front) (form_of parts.ranking.now)
+  is_fit = start_fit ps one other front rank start
+
+  pub made_can : GeneratedFormIsFormula → GeneratedFormIsOver → PrenexedGoalsAreGoals → Each (FormsWithin (2 ^ 27)) ps → (m : Made) → IsMadeWithin found (start_goal one front rank other.pre) m → CanDecide m
+  made_can formula over are small m h = can_decide found (start_goal one front rank other.pre) m (start_is_goal ps one other front rank start bound_rules formula over are) (λ s. start_is_few ps one other front rank start rules (each_at (FormsWithin (2 ^ 27)) ps q small second_there) s) h
+
+  tells : GeneratedFormMeansActs → GeneratedFormIsOver → PrenexedGoalsSpeakOfChoices → PrenexedGoalsFailByChoices → (d : Decision) → Tells (start_goal one front rank other.pre) d → TellsOfStart one front rank other.pre d
+  tells means over speak failing (decision.Proved tree) h = start_holds ps one other front rank start bound_rules means over speak h
+  tells means over speak failing (decision.Falsified s) h = start_fails ps one other front rank start bound_rules means over failing s.items h
+  tells means over speak failing (decision.Unknown cause) h = tt
+
+  pub is_started : GeneratedFormMeansActs → GeneratedFormIsOver → PrenexedGoalsSpeakOfChoices → PrenexedGoalsFailByChoices → (r : Result Decision AllocError) → IfOk r (λ d. IsDecidedWithin (start_goal one front rank other.pre) (found ∷ []) d) → IfOk r (λ d. Tells (start_goal one front rank other.pre) d) → IfOk r (λ d. IsStarted one other front rank d)
+  is_started means over speak failing r h k = both_ok (λ d. IsDecidedWithin (start_goal one front rank other.pre) (found ∷ []) d) (λ d. Tells (start_goal one front rank other.pre) d) (λ d. IsStarted one other front rank d) r (λ d i j. record { decided = i; tells = tells means over speak failing d j }) h k
+
+-- The goal of a pair is that of its parts.
+pub whole_goal : (p q : TypedProcedure) (parts : RankedParts) → IsPairAs p q parts → (l : RemainderPair p q) (m : Made) → IsMadeWithin (generated (acts_of parts.front.now) (parts.step, form_of parts.ranking.now)) (start_goal p (acts_of parts.front.now) (parts.step, form_of parts.ranking.now) q.pre) m → IsMadeWithin (generated l.loop.front l.rank) (start_goal p l.loop.front l.rank q.pre) m
+whole_goal p q parts is l m h = subst (λ acts. IsMadeWithin (generated acts l.rank) (start_goal p acts l.rank q.pre) m) (sym is.front ∙ one_front p q is.pair l) (subst (λ r. IsMadeWithin (generated (acts_of parts.front.now) r) (start_goal p (acts_of parts.front.now) r q.pre) m) (sym is.rank ∙ one_rank p q is.pair l) h)
+
+-- What is decided of the parts is decided of the pair.
+pub started_as : (p q : TypedProcedure) (parts : RankedParts) (is : IsPairAs p q parts) (d : Decision) → IsStarted p q (acts_of parts.front.now) (parts.step, form_of parts.ranking.now) d → IsStarted p q is.pair.loop.front is.pair.rank d
+started_as p q parts is d h = subst (λ acts. IsStarted p q acts is.pair.rank d) (sym is.front) (subst (λ r. IsStarted p q (acts_of parts.front.now) r d) (sym is.rank) h)
