@@ -45,7 +45,7 @@ use Rattle.run_laws.proofs.exported.Outcomes.{all_more, all_sure, all_append, al
 use Rattle.lower_rules.proofs.OmegaBounds.{alike, after_turn, after_loop}
 use Rattle.lower_rules.proofs.Raised.{AtMost, Base, claims}
 use Rattle.run_laws.proofs.exported.RuledRuns.{spread_all, runs_all, fit_kept}
-use Rattle.lower_rules.proofs.Shapes.{before, ArePair, step_pair, IsAt, step_at, act_weighs, spread_const}
+use Rattle.lower_rules.proofs.CalmShapes.{before, ArePair, step_pair, IsAt, step_at, act_weighs, spread_const}
 
 -- ---- Turns never fall
 
