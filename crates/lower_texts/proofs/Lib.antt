@@ -1,0 +1,3 @@
+mod Procedures
+mod Scopes
+mod Lines

@@ -1,0 +1,4 @@
+use Rattle.lower_texts.proofs.remainder_texts.unknown_line.Goals as goal
+
+pub returns : goal.returns
+returns c = ?
