@@ -1,4 +1,6 @@
+use Rattle.heyvl_tool.proofs.BoundHeadline.{bounds_meant}
 use Rattle.heyvl_tool.proofs.HeadlineLemmas.{answers_meant}
+use Rattle.heyvl_tool.proofs.RefuteHeadline.{violations_meant}
 use Rattle.heyvl_tool.proofs.RunHeadline.{sums_meant}
 use Rattle.heyvl_tool.proofs.tool.run_tool.Goals as goal
 
@@ -7,3 +9,9 @@ returns-in-Ok-clause-verified g c = answers_meant _ _ _ _ c.in-Ok.ensures.cause 
 
 pub returns-in-Ok-clause-summed : goal.returns-in-Ok-clause-summed
 returns-in-Ok-clause-summed g c = sums_meant c.unrolled_sums_are_meant.ensures c.resolved_files_meet_the_rules.ensures.procedures _ _ _ _ c.in-Ok.ensures.cause c.deliver.ensures.delivered
+
+pub returns-in-Ok-clause-bounded : goal.returns-in-Ok-clause-bounded
+returns-in-Ok-clause-bounded g c = bounds_meant _ _ _ _ c.in-Ok.ensures.cause c.deliver.ensures.delivered
+
+pub returns-in-Ok-clause-refuted : goal.returns-in-Ok-clause-refuted
+returns-in-Ok-clause-refuted g c = violations_meant _ _ _ _ c.in-Ok.ensures.cause c.deliver.ensures.delivered
