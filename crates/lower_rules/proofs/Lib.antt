@@ -7,3 +7,5 @@ pub mod Shapes
 pub mod Raised
 pub mod RemainderBounds
 mod Examples
+pub mod UniqueLoops
+pub mod LentLoops

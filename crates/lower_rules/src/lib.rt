@@ -2,5 +2,6 @@
 #![tactic(auto)]
 
 mod laws;
+mod shapes;
 
 pub use laws::{omega_bounds_runs, remainder_bounds_runs};
