@@ -2,4 +2,8 @@ pub mod OneLoop
 pub mod Collected
 pub mod Omega
 pub mod Remainder
+pub mod OmegaPairs
+pub mod UpperGoals
+pub mod OmegaGoals
+pub mod OmegaAnswers
 pub mod internal

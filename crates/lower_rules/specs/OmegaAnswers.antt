@@ -1,0 +1,81 @@
+-- Which answer an omega pair gets, and what the answers promise.
+-- Source: this project's own.
+use Rattle.std.specs.Prelude.{◌≡◌, ℕ, false, List, Option, Some, None, length, take}
+use Rattle.goal_answers.specs.declared.decisions.Decision.{Decision}
+use Rattle.goal_answers.specs.declared.decisions.Decision.TheVariants as decision
+use Rattle.heylo_formula.specs.declared.values.Val.{Val}
+use Rattle.heyvl_acts.specs.Acts.{TypedProcedure, procedure_at, type_list, variables}
+use Rattle.run_machine.specs.Bound.{IsState}
+use Rattle.vp_generator.specs.PrenexedGoals.{FailsByChoices}
+use Rattle.lower_rules.specs.Omega.{BoundsFrom}
+use Rattle.lower_rules.specs.OmegaGoals.{goal_variables, greater, limited, smaller, step_goal}
+use Rattle.lower_rules.specs.OmegaPairs.{OmegaPair, formula_of}
+use Rattle.lower_rules.specs.UpperGoals.{IsDecidedWithin}
+use Rattle.lower_rules.specs.declared.answers.Omega.{Omega}
+use Rattle.lower_rules.specs.declared.answers.Omega.TheVariants.{Holds, Fails, Unknown, Shape}
+use Rattle.lower_rules.specs.declared.answers.Step.{Step}
+use Rattle.lower_rules.specs.declared.answers.Step.TheVariants.{One, Base, Turn}
+
+-- ---- Which answer
+
+-- This is decided of the goal of a step.
+abbrev pub IsStepDecided : (ps : List TypedProcedure) (p q : ℕ) → OmegaPair ps p q → Step → Decision → Type 0
+IsStepDecided ps p q l step d = IsDecidedWithin (step_goal (procedure_at ps p) l.loop.head l.loop.body l.loop.behind (procedure_at ps q) step) (limited (procedure_at ps p) l.loop.body l.loop.behind (formula_of (procedure_at ps p) l.loop.head (procedure_at ps q)) step) d
+
+-- The answer of a goal that is falsified, and of one of which nothing is known.
+abbrev pub if_falsified : Step → Decision → Option Omega
+if_falsified step (decision.Falsified s) = Some (Fails step s)
+if_falsified step (decision.Proved t) = None
+if_falsified step (decision.Unknown c) = None
+
+abbrev pub if_unknown : Step → Decision → Option Omega
+if_unknown step (decision.Unknown c) = Some (Unknown step c)
+if_unknown step (decision.Proved t) = None
+if_unknown step (decision.Falsified s) = None
+
+abbrev pub or_else : Option Omega → Omega → Omega
+or_else (Some a) other = a
+or_else None other = other
+
+-- The first goal that is falsified is told, or else the first of which nothing is known; where there is neither, the pair holds.
+abbrev pub told : Decision → Decision → Decision → Omega
+told one base turn = or_else (if_falsified One one) (or_else (if_falsified Base base) (or_else (if_falsified Turn turn) (or_else (if_unknown One one) (or_else (if_unknown Base base) (or_else (if_unknown Turn turn) Holds)))))
+
+-- The procedures are an omega pair, and the answer is told by what is decided of its three goals.
+pub record IsTold (ps : List TypedProcedure) (p q : ℕ) (answer : Omega) : Type 0 where
+  pub pair : OmegaPair ps p q
+  pub one : Decision
+  pub base : Decision
+  pub turn : Decision
+  pub one_is : IsStepDecided ps p q pair One one
+  pub base_is : IsStepDecided ps p q pair Base base
+  pub turn_is : IsStepDecided ps p q pair Turn turn
+  pub is_told : answer ≡ told one base turn
+
+-- Each answer comes exactly where it may: Shape where the procedures are no omega pair, and the others as told.
+abbrev pub IsOmegaAnswer : List TypedProcedure → ℕ → ℕ → Omega → Type 0
+IsOmegaAnswer ps p q Shape = OmegaPair ps p q → ⊥
+IsOmegaAnswer ps p q Holds = IsTold ps p q Holds
+IsOmegaAnswer ps p q (Fails step s) = IsTold ps p q (Fails step s)
+IsOmegaAnswer ps p q (Unknown step c) = IsTold ps p q (Unknown step c)
+
+-- ---- What answers promise
+
+-- The formula bounds from below, for each number of turns, what ended runs of at most so many turns collect from the loop's test on,
+-- from each state and under every scheduler.
+pub record OmegaHolds (ps : List TypedProcedure) (p q : ℕ) : Type 0 where
+  pub pair : OmegaPair ps p q
+  pub bounds : (s : List Val) → IsState (procedure_at ps p) s → BoundsFrom ps p pair.loop.front pair.loop.body pair.loop.behind pair.loop.head (formula_of (procedure_at ps p) pair.loop.head (procedure_at ps q)) s
+
+-- The goal of the step fails by the meaning of formulas: the first values of what is shown are a state of the first procedure and a
+-- number of turns, in which the smaller side is above the greater one for some choices.
+pub record StepFails (ps : List TypedProcedure) (p q : ℕ) (step : Step) (s : List Val) : Type 0 where
+  pub pair : OmegaPair ps p q
+  pub fails : FailsByChoices false (type_list (goal_variables (procedure_at ps p) pair.loop.head (procedure_at ps q))) (smaller (length (variables (procedure_at ps p))) (formula_of (procedure_at ps p) pair.loop.head (procedure_at ps q)) step) (greater (procedure_at ps p) pair.loop.head pair.loop.body pair.loop.behind (formula_of (procedure_at ps p) pair.loop.head (procedure_at ps q)) step) (take (length (type_list (goal_variables (procedure_at ps p) pair.loop.head (procedure_at ps q)))) s)
+
+-- What the answer promises: of a pair that holds the bounds, of one that fails that the goal does so in the state that is shown.
+abbrev pub IsMeant : List TypedProcedure → ℕ → ℕ → Omega → Type 0
+IsMeant ps p q Holds = OmegaHolds ps p q
+IsMeant ps p q (Fails step s) = StepFails ps p q step s.items
+IsMeant ps p q (Unknown step c) = Unit {0}
+IsMeant ps p q Shape = Unit {0}
