@@ -90,19 +90,21 @@ arm_past arms k e x lt is h = past (in_order (acts_of x.1.items)) (arms_from arm
 
 -- ---- The acts that the program holds, taken apart at a place
 
-pub whole_at : (xs : List A.Act) (i : ℕ) (x : A.Act) → i < length xs → x ≡ get_or xs i x → acts_of xs ≡ join (acts_of (take i xs)) (Acts.next (act_of x) (acts_of (drop (i + 1) xs)))
+whole_at : (xs : List A.Act) (i : ℕ) (x : A.Act) → i < length xs → x ≡ get_or xs i x → acts_of xs ≡ join (acts_of (take i xs)) (Acts.next (act_of x) (acts_of (drop (suc i) xs)))
 whole_at [] i x lt is = absurd (omega (arith, lt))
 whole_at (y ∷ xs) zero x lt is = ap (λ a. Acts.next (act_of a) (acts_of xs)) (sym is)
 whole_at (y ∷ xs) (suc i) x lt is = ap (λ r. Acts.next (act_of y) r) (whole_at xs i x (omega (arith, lt)) is)
 
+pub whole_here : (xs : List A.Act) (i : ℕ) (x : A.Act) → i < length xs → x ≡ get_or xs i x → acts_of xs ≡ join (acts_of (take i xs)) (Acts.next (act_of x) (acts_of (drop (i + 1) xs)))
+whole_here xs i x lt is = let e : suc i ≡ i + 1 = omega arith in whole_at xs i x lt is ∙ ap (λ n. join (acts_of (take i xs)) (Acts.next (act_of x) (acts_of (drop n xs)))) e
+
+none_at : (xs : List A.Act) (i : ℕ) (x : A.Act) → i < length xs → x ≡ get_or xs i x → HasNoLoop (acts_of (take i xs)) → IsNoLoop (act_of x) → HasNoLoop (acts_of (take (suc i) xs))
+none_at [] i x lt is h n = absurd (omega (arith, lt))
+none_at (y ∷ xs) zero x lt is h n = (subst (λ a. IsNoLoop (act_of a)) is n, tt)
+none_at (y ∷ xs) (suc i) x lt is h n = (h.0, none_at xs i x (omega (arith, lt)) is h.1 n)
+
 pub none_before : (xs : List A.Act) (i : ℕ) (x : A.Act) → i < length xs → x ≡ get_or xs i x → HasNoLoop (acts_of (take i xs)) → IsNoLoop (act_of x) → HasNoLoop (acts_of (take (i + 1) xs))
-none_before [] i x lt is h n = absurd (omega (arith, lt))
-none_before (y ∷ xs) zero x lt is h n = (subst (λ a. IsNoLoop (act_of a)) is n, none xs)
-  where
-    none : (xs : List A.Act) → HasNoLoop (acts_of (take 0 xs))
-    none [] = tt
-    none (x ∷ xs) = tt
-none_before (y ∷ xs) (suc i) x lt is h n = (h.0, none_before xs i x (omega (arith, lt)) is h.1 n)
+none_before xs i x lt is h n = let e : suc i ≡ i + 1 = omega arith in subst (λ k. HasNoLoop (acts_of (take k xs))) e (none_at xs i x lt is h n)
 
 -- ---- What is answered
 

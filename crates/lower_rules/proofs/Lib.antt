@@ -9,3 +9,6 @@ pub mod RemainderBounds
 mod Examples
 pub mod UniqueLoops
 pub mod LentLoops
+pub mod Placing
+pub mod Positions
+pub mod PutSizes

@@ -3,6 +3,7 @@
 
 mod answers;
 mod laws;
+mod placing;
 mod shapes;
 
 pub use answers::{Omega, Step};
