@@ -12,3 +12,8 @@ pub mod LentLoops
 pub mod Placing
 pub mod Positions
 pub mod PutSizes
+pub mod Apart
+pub mod TurnActs
+pub mod GoalVariables
+pub mod OmegaParts
+pub mod GoalForms
