@@ -123,7 +123,7 @@ module _ (ps : List TypedProcedure) (p : TypedProcedure) (rules : MeetsRules ps 
 
   -- ---- Variables
 
-  smaller_over : (step : Step) → IsOver (suc (length (variables p))) (smaller (length (variables p)) (formula_of p l.head q) step)
+  pub smaller_over : (step : Step) → IsOver (suc (length (variables p))) (smaller (length (variables p)) (formula_of p l.head q) step)
   smaller_over One = formula_over ps p rules l q q_rules pair
   smaller_over Base = subst_over (suc (length (variables p))) (length (variables p)) no_turn (formula_of p l.head q) (formula_over ps p rules l q q_rules pair) (no_turn_over (length (variables p)))
   smaller_over Turn = subst_over (suc (length (variables p))) (length (variables p)) (one_more (length (variables p))) (formula_of p l.head q) (formula_over ps p rules l q q_rules pair) (one_more_over (length (variables p)))
@@ -134,7 +134,7 @@ module _ (ps : List TypedProcedure) (p : TypedProcedure) (rules : MeetsRules ps 
   pub body_over : GeneratedFormIsOver → IsOver (suc (length (variables p))) (after_body l.body (formula_of p l.head q))
   body_over law = law (suc (length (variables p))) l.body (formula_of p l.head q) (acts_over ps p (suc (length (variables p))) (omega arith) l.body (body_acts ps p rules l)) (formula_over ps p rules l q q_rules pair)
 
-  greater_over : GeneratedFormIsOver → (step : Step) → IsOver (suc (length (variables p))) (greater p l.head l.body l.behind (formula_of p l.head q) step)
+  pub greater_over : GeneratedFormIsOver → (step : Step) → IsOver (suc (length (variables p))) (greater p l.head l.body l.behind (formula_of p l.head q) step)
   greater_over law One y e = absurd (cc)
   greater_over law Base y e = either_three (is_free_in y l.head.guard) false (is_free y (after_loop p l.behind)) e (cond_over ps p (suc (length (variables p))) (omega arith) l.head.guard (guard_over ps p rules l) y) (λ k. absurd (cc)) (form_over ps p (suc (length (variables p))) (omega arith) (after_loop p l.behind) (loop_over law) y)
   greater_over law Turn y e = either_three (is_free_in y l.head.guard) (is_free y (after_body l.body (formula_of p l.head q))) (is_free y (after_loop p l.behind)) e (cond_over ps p (suc (length (variables p))) (omega arith) l.head.guard (guard_over ps p rules l) y) (body_over law y) (form_over ps p (suc (length (variables p))) (omega arith) (after_loop p l.behind) (loop_over law) y)
@@ -157,7 +157,7 @@ module _ (ps : List TypedProcedure) (p : TypedProcedure) (rules : MeetsRules ps 
     pub behind_ready : AreFit l.behind p.post
     behind_ready = record { types = types_in tys; fit = behind_fit; formula = post_typed }
 
-    smaller_typed : PrenexedFormIsFormula → (step : Step) → IsFormula (types_in tys) (smaller (length (variables p)) (formula_of p l.head q) step)
+    pub smaller_typed : PrenexedFormIsFormula → (step : Step) → IsFormula (types_in tys) (smaller (length (variables p)) (formula_of p l.head q) step)
     smaller_typed law One = formula_typed ps p rules l q q_rules pair law tys are
     smaller_typed law Base = subst_formula (types_in tys) (length (variables p)) no_turn (formula_of p l.head q) (no_turn_fits (types_in tys) (length (variables p)) (turn_type p tys are)) (formula_typed ps p rules l q q_rules pair law tys are)
     smaller_typed law Turn = subst_formula (types_in tys) (length (variables p)) (one_more (length (variables p))) (formula_of p l.head q) (one_more_fits (types_in tys) (length (variables p)) (turn_type p tys are)) (formula_typed ps p rules l q q_rules pair law tys are)
@@ -168,7 +168,7 @@ module _ (ps : List TypedProcedure) (p : TypedProcedure) (rules : MeetsRules ps 
     body_typed : GeneratedFormIsFormula → PrenexedFormIsFormula → IsFormula (types_in tys) (after_body l.body (formula_of p l.head q))
     body_typed made law = made (types_in tys) l.body (formula_of p l.head q) body_fit (formula_typed ps p rules l q q_rules pair law tys are)
 
-    greater_typed : GeneratedFormIsFormula → PrenexedFormIsFormula → (step : Step) → IsFormula (types_in tys) (greater p l.head l.body l.behind (formula_of p l.head q) step)
+    pub greater_typed : GeneratedFormIsFormula → PrenexedFormIsFormula → (step : Step) → IsFormula (types_in tys) (greater p l.head l.body l.behind (formula_of p l.head q) step)
     greater_typed made law One = one_unsigned
     greater_typed made law Base = guarded (is_well_typed (types_in tys) l.head.guard) (joined (constant_type zeroᵛ) (type_of (types_in tys) (after_loop p l.behind))) (guard_typed ps p rules l (types_in tys) (own_types p tys are)) (joins (constant_type zeroᵛ) (type_of (types_in tys) (after_loop p l.behind)) zero_unsigned (loop_typed made))
     greater_typed made law Turn = guarded (is_well_typed (types_in tys) l.head.guard) (joined (type_of (types_in tys) (after_body l.body (formula_of p l.head q))) (type_of (types_in tys) (after_loop p l.behind))) (guard_typed ps p rules l (types_in tys) (own_types p tys are)) (joins (type_of (types_in tys) (after_body l.body (formula_of p l.head q))) (type_of (types_in tys) (after_loop p l.behind)) (body_typed made law) (loop_typed made))
@@ -181,7 +181,7 @@ module _ (ps : List TypedProcedure) (p : TypedProcedure) (rules : MeetsRules ps 
     pub one_more_plain : IsPlain (one_more (length (variables p)))
     one_more_plain = term_plain (types_in tys) (types_in tys (length (variables p))) (one_more (length (variables p))) (one_more_fits (types_in tys) (length (variables p)) (turn_type p tys are))
 
-    smaller_plain : PrenexedFormHasNoBinder → (step : Step) → has_binder (smaller (length (variables p)) (formula_of p l.head q) step) ≡ false
+    pub smaller_plain : PrenexedFormHasNoBinder → (step : Step) → has_binder (smaller (length (variables p)) (formula_of p l.head q) step) ≡ false
     smaller_plain law One = formula_plain ps p rules l q q_rules pair law
     smaller_plain law Base = subst_binders (length (variables p)) no_turn (formula_of p l.head q) no_turn_plain ∙ formula_plain ps p rules l q q_rules pair law
     smaller_plain law Turn = subst_binders (length (variables p)) (one_more (length (variables p))) (formula_of p l.head q) one_more_plain ∙ formula_plain ps p rules l q q_rules pair law
@@ -207,13 +207,13 @@ module _ (ps : List TypedProcedure) (p : TypedProcedure) (rules : MeetsRules ps 
   put_nodes : (n : ℕ) (t : Term) (f : Form) → nodes (Replaced.as_form t) ≤ 3 → nodes_in (Replaced.as_cond t) ≤ 3 → has_binder f ≡ false → nodes (Replaced.subst n t f) ≤ 3 * nodes f
   put_nodes n t f h k e = let c = count_subst n t f in let b = put_size n (nodes (Replaced.as_form t)) (nodes_in (Replaced.as_cond t)) h k f e in omega (arith, c, b)
 
-  smaller_few : FormsWithin (2 ^ 27) q → PrenexedFormHasNoBinder → (step : Step) → nodes (smaller (length (variables p)) (formula_of p l.head q) step) < 2 ^ 29
+  pub smaller_few : FormsWithin (2 ^ 27) q → PrenexedFormHasNoBinder → (step : Step) → nodes (smaller (length (variables p)) (formula_of p l.head q) step) < 2 ^ 29
   smaller_few within law One = let a = formula_nodes ps p rules l q q_rules pair within in omega (arith, a)
   smaller_few within law Base = let a = formula_nodes ps p rules l q q_rules pair within in let b = put_nodes (length (variables p)) no_turn (formula_of p l.head q) (omega arith) (omega arith) (formula_plain ps p rules l q q_rules pair law) in omega (arith, a, b)
   smaller_few within law Turn = let a = formula_nodes ps p rules l q q_rules pair within in let b = put_nodes (length (variables p)) (one_more (length (variables p))) (formula_of p l.head q) (omega arith) (omega arith) (formula_plain ps p rules l q q_rules pair law) in omega (arith, a, b)
 
   -- the forms that have limits are small
-  greater_few : FormsWithin (2 ^ 27) p → (step : Step) → Each IsSmall (limited p l.body l.behind (formula_of p l.head q) step) → nodes (greater p l.head l.body l.behind (formula_of p l.head q) step) ≤ 1 + (2 ^ 27 + (200000 + 200000))
+  pub greater_few : FormsWithin (2 ^ 27) p → (step : Step) → Each IsSmall (limited p l.body l.behind (formula_of p l.head q) step) → nodes (greater p l.head l.body l.behind (formula_of p l.head q) step) ≤ 1 + (2 ^ 27 + (200000 + 200000))
   greater_few within One small = omega arith
   greater_few within Base small = let g = guard_nodes ps p rules l within in let a = small.0.few in omega (arith, g, a)
   greater_few within Turn small = let g = guard_nodes ps p rules l within in let a = small.0.few in let b = small.1.0.few in omega (arith, g, a, b)

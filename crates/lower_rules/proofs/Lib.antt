@@ -17,3 +17,4 @@ pub mod TurnActs
 pub mod GoalVariables
 pub mod OmegaParts
 pub mod GoalForms
+pub mod MeantGoals

@@ -73,9 +73,9 @@ pub record StepFails (ps : List TypedProcedure) (p q : ℕ) (step : Step) (s : L
   pub pair : OmegaPair ps p q
   pub fails : FailsByChoices false (type_list (goal_variables (procedure_at ps p) pair.loop.head (procedure_at ps q))) (smaller (length (variables (procedure_at ps p))) (formula_of (procedure_at ps p) pair.loop.head (procedure_at ps q)) step) (greater (procedure_at ps p) pair.loop.head pair.loop.body pair.loop.behind (formula_of (procedure_at ps p) pair.loop.head (procedure_at ps q)) step) (take (length (type_list (goal_variables (procedure_at ps p) pair.loop.head (procedure_at ps q)))) s)
 
--- What the answer promises: of a pair that holds the bounds, of one that fails that the goal does so in the state that is shown.
-abbrev pub IsMeant : List TypedProcedure → ℕ → ℕ → Omega → Type 0
-IsMeant ps p q Holds = OmegaHolds ps p q
-IsMeant ps p q (Fails step s) = StepFails ps p q step s.items
-IsMeant ps p q (Unknown step c) = Unit {0}
-IsMeant ps p q Shape = Unit {0}
+-- Where the answer is that the pair fails, it does so in the state that is shown.
+abbrev pub ShownStateFails : List TypedProcedure → ℕ → ℕ → Omega → Type 0
+ShownStateFails ps p q Holds = Unit {0}
+ShownStateFails ps p q (Fails step s) = StepFails ps p q step s.items
+ShownStateFails ps p q (Unknown step c) = Unit {0}
+ShownStateFails ps p q Shape = Unit {0}

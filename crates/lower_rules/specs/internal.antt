@@ -1,1 +1,4 @@
+pub mod Decidable
+pub mod Pairs
 pub mod Shapes
+pub mod Telling

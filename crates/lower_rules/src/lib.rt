@@ -3,8 +3,14 @@
 
 mod answers;
 mod laws;
+mod omegas;
+mod pairs;
 mod placing;
 mod shapes;
+mod step_goals;
+mod telling;
+mod upper_goals;
 
 pub use answers::{Omega, Step};
 pub use laws::{omega_bounds_runs, remainder_bounds_runs};
+pub use omegas::omega;

@@ -1,0 +1,57 @@
+//! Whether a formula is an omega invariant of the loop of a weak proc.
+
+ghost use Rattle.heyvl_acts.specs.FormSizes.{FormsWithin};
+ghost use Rattle.heyvl_acts.specs.PlainActs.{procedures_of};
+ghost use Rattle.heyvl_acts.specs.Rules.{Each, MeetsAllRules};
+ghost use Rattle.lower_rules.specs.OmegaAnswers.{IsOmegaAnswer, OmegaHolds, ShownStateFails};
+ghost use Rattle.lower_rules.specs.declared.answers.Omega.TheVariants.{Holds};
+ghost use Rattle.lower_rules.specs.internal.Pairs.{IsReady, IsToldOf};
+ghost use Rattle.std.specs.Prelude.{IfOk, length, ◌<◌, ◌^◌, ◌≡◌};
+
+use crate::answers::{Omega, Step};
+use crate::laws::omega_bounds_runs;
+use crate::pairs::{Pair, pair_of};
+use crate::step_goals::{decided_base, decided_one, decided_turn};
+use crate::telling::{answer_of, both};
+use heyvl_acts::Typed;
+use std::alloc::{AllocError, Global};
+use vp_generator::{
+    generated_form_means_acts, prenexed_form_means_choices, prenexed_goals_speak_of_choices,
+};
+
+/// Whether the pre of the second procedure is an omega invariant of the loop of the first one: for each number of turns a lower bound
+/// of what runs collect that have ended with at most so many turns.
+///
+/// Both are numbers of procedures of the file. Shape comes exactly where they are no omega pair; Fails where one of the three goals
+/// is falsified, for the first one and with its state; Unknown where none is falsified and nothing is known of some, for the first one
+/// and with its cause. Want of memory is the one error.
+pub fn omega(alloc: Global, typed: &Typed, p: u32, q: u32) -> Result<Omega, AllocError>
+    requires first { p < length typed.now.procs.items }
+    requires second { q < length typed.now.procs.items }
+    requires rules { MeetsAllRules typed.now }
+    requires small { Each (FormsWithin (2 ^ 27)) (procedures_of typed.now) }
+    ensures answer { IfOk result (λ answer. IsOmegaAnswer (procedures_of typed.now) p q answer) }
+    ensures bound { IfOk result (λ answer. answer ≡ Holds → OmegaHolds (procedures_of typed.now) p q) }
+    ensures shown { IfOk result (λ answer. ShownStateFails (procedures_of typed.now) p q answer) }
+{
+    omega_bounds_runs();
+    generated_form_means_acts();
+    prenexed_form_means_choices();
+    prenexed_goals_speak_of_choices();
+    match pair_of(alloc, typed, p, q)? {
+        Some(pair) => answer_on(alloc, &pair),
+        None => Ok(Omega::Shape),
+    }
+}
+
+/// The answer on a pair: all its goals are decided.
+fn answer_on(alloc: Global, pair: &Pair) -> Result<Omega, AllocError>
+    requires ready { IsReady pair.now }
+    ensures { IfOk result (λ answer. IsToldOf pair.now answer) }
+{
+    let one = decided_one(alloc, pair)?;
+    let base = decided_base(alloc, pair)?;
+    let turn = decided_turn(alloc, pair)?;
+    let behind = both(answer_of(Step::Base, base), answer_of(Step::Turn, turn));
+    Ok(both(answer_of(Step::One, one), behind))
+}

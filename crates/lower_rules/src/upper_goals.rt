@@ -1,0 +1,97 @@
+//! Upper goals whose stated form has binders, and the variables of the goals of a pair.
+
+ghost use Rattle.heylo_formula.specs.BinderNames.{binders};
+ghost use Rattle.heylo_formula.specs.Goals.{goal_of};
+ghost use Rattle.heylo_formula.specs.PlainTrees.{form_of};
+ghost use Rattle.heyvl_acts.specs.PlainActs.{variable_of};
+ghost use Rattle.lower_rules.specs.OmegaGoals.{goal_variables};
+ghost use Rattle.lower_rules.specs.UpperGoals.{upper_goal};
+ghost use Rattle.lower_rules.specs.internal.Pairs.{IsReady, first, head, second};
+ghost use Rattle.std.specs.Prelude.{IfOk, length, map, ◌+◌, ◌<◌, ◌^◌, ◌≡◌};
+ghost use Rattle.vp_generator.specs.PrenexedGoals.{names_of_variables, types_of_variables};
+ghost use Rattle.vp_generator.specs.Scopes.{AreNamed};
+
+use crate::pairs::Pair;
+use heylo_formula::{Form, Goal, Ty};
+use heyvl_acts::VarInfo;
+use heyvl_places::Name;
+use std::alloc::{AllocError, Global};
+use vp_generator::prenex;
+
+/// The goal over these variables that the first form is at least the second. Each binder of the first one has a variable of its
+/// own; the second one has none.
+pub(crate) fn upper_goal(
+    alloc: Global,
+    stated: Form,
+    found: Form,
+    vars: Vec<VarInfo>,
+) -> Result<Goal, AllocError>
+    requires few { length vars.items + length (binders (form_of stated)) < 2 ^ 31 }
+    requires named { AreNamed (length vars.items) (binders (form_of stated)) }
+    ensures { IfOk result (λ goal. goal_of goal ≡ upper_goal (map variable_of vars.items) (form_of stated) (form_of found)) }
+{
+    let own = vars.len() as u32;
+    let without = prenex(alloc, stated, vars)?;
+    let types = types_of(alloc, &without.vars)?;
+    let names = names_of(alloc, &without.vars)?;
+    Ok(Goal {
+        upper: true,
+        stated: without.form,
+        found,
+        vars: types,
+        names,
+        own,
+    })
+}
+
+/// The types of variables, by number.
+fn types_of(alloc: Global, vars: &[VarInfo]) -> Result<Vec<Ty>, AllocError>
+    ensures { IfOk result (λ types. types.items ≡ types_of_variables vars.now) }
+{
+    let mut types = Vec::with_capacity(alloc, vars.len())?;
+    for var in vars {
+        types.push(var.ty)?;
+    }
+    Ok(types)
+}
+
+/// The names of variables, by number.
+fn names_of(alloc: Global, vars: &[VarInfo]) -> Result<Vec<Name>, AllocError>
+    ensures { IfOk result (λ names. names.items ≡ names_of_variables vars.now) }
+{
+    let mut names = Vec::with_capacity(alloc, vars.len())?;
+    for var in vars {
+        names.push(var.name.copy(alloc)?)?;
+    }
+    Ok(names)
+}
+
+/// The variables of the goals of a pair: the first procedure's, and the number of turns, which is the second one's last input.
+pub(crate) fn goal_variables(alloc: Global, pair: &Pair) -> Result<Vec<VarInfo>, AllocError>
+    requires ready { IsReady pair.now }
+    ensures { IfOk result (λ vars. map variable_of vars.items ≡ goal_variables (first pair.now) (head pair.now) (second pair.now)) }
+{
+    let mut vars = copied(alloc, &pair.procedure.vars)?;
+    vars.push(copy_of(alloc, &pair.other.vars[pair.one.scope.len()])?)?;
+    Ok(vars)
+}
+
+/// Variables of the same names and types.
+fn copied(alloc: Global, all: &[VarInfo]) -> Result<Vec<VarInfo>, AllocError>
+    ensures { IfOk result (λ vars. map variable_of vars.items ≡ map variable_of all.now) }
+{
+    let mut vars = Vec::new(alloc);
+    for variable in all {
+        vars.push(copy_of(alloc, variable)?)?;
+    }
+    Ok(vars)
+}
+
+fn copy_of(alloc: Global, variable: &VarInfo) -> Result<VarInfo, AllocError>
+    ensures { IfOk result (λ made. variable_of made ≡ variable_of variable.now) }
+{
+    Ok(VarInfo {
+        name: variable.name.copy(alloc)?,
+        ty: variable.ty,
+    })
+}
