@@ -18,3 +18,8 @@ pub mod GoalVariables
 pub mod OmegaParts
 pub mod GoalForms
 pub mod MeantGoals
+pub mod MadeUpperGoals
+pub mod PairShapes
+pub mod ProcedureVariables
+pub mod ReadyPairs
+pub mod ToldAnswers

@@ -19,8 +19,8 @@ use Rattle.lower_rules.specs.declared.answers.Step.TheVariants.{One, Base, Turn}
 -- ---- Which answer
 
 -- This is decided of the goal of a step.
-abbrev pub IsStepDecided : (ps : List TypedProcedure) (p q : ℕ) → OmegaPair ps p q → Step → Decision → Type 0
-IsStepDecided ps p q l step d = IsDecidedWithin (step_goal (procedure_at ps p) l.loop.head l.loop.body l.loop.behind (procedure_at ps q) step) (limited (procedure_at ps p) l.loop.body l.loop.behind (formula_of (procedure_at ps p) l.loop.head (procedure_at ps q)) step) d
+abbrev pub IsStepDecided : (p q : TypedProcedure) → OmegaPair p q → Step → Decision → Type 0
+IsStepDecided p q l step d = IsDecidedWithin (step_goal p l.loop.head l.loop.body l.loop.behind q step) (limited p l.loop.body l.loop.behind (formula_of p l.loop.head q) step) d
 
 -- The answer of a goal that is falsified, and of one of which nothing is known.
 abbrev pub if_falsified : Step → Decision → Option Omega
@@ -42,40 +42,41 @@ abbrev pub told : Decision → Decision → Decision → Omega
 told one base turn = or_else (if_falsified One one) (or_else (if_falsified Base base) (or_else (if_falsified Turn turn) (or_else (if_unknown One one) (or_else (if_unknown Base base) (or_else (if_unknown Turn turn) Holds)))))
 
 -- The procedures are an omega pair, and the answer is told by what is decided of its three goals.
-pub record IsTold (ps : List TypedProcedure) (p q : ℕ) (answer : Omega) : Type 0 where
-  pub pair : OmegaPair ps p q
+pub record IsTold (p q : TypedProcedure) (answer : Omega) : Type 0 where
+  pub pair : OmegaPair p q
   pub one : Decision
   pub base : Decision
   pub turn : Decision
-  pub one_is : IsStepDecided ps p q pair One one
-  pub base_is : IsStepDecided ps p q pair Base base
-  pub turn_is : IsStepDecided ps p q pair Turn turn
+  pub one_is : IsStepDecided p q pair One one
+  pub base_is : IsStepDecided p q pair Base base
+  pub turn_is : IsStepDecided p q pair Turn turn
   pub is_told : answer ≡ told one base turn
 
--- Each answer comes exactly where it may: Shape where the procedures are no omega pair, and the others as told.
+-- Each answer on two procedures of a file, by number, comes exactly where it may: Shape where they are no omega pair, and the others
+-- as told.
 abbrev pub IsOmegaAnswer : List TypedProcedure → ℕ → ℕ → Omega → Type 0
-IsOmegaAnswer ps p q Shape = OmegaPair ps p q → ⊥
-IsOmegaAnswer ps p q Holds = IsTold ps p q Holds
-IsOmegaAnswer ps p q (Fails step s) = IsTold ps p q (Fails step s)
-IsOmegaAnswer ps p q (Unknown step c) = IsTold ps p q (Unknown step c)
+IsOmegaAnswer ps p q Shape = OmegaPair (procedure_at ps p) (procedure_at ps q) → ⊥
+IsOmegaAnswer ps p q Holds = IsTold (procedure_at ps p) (procedure_at ps q) Holds
+IsOmegaAnswer ps p q (Fails step s) = IsTold (procedure_at ps p) (procedure_at ps q) (Fails step s)
+IsOmegaAnswer ps p q (Unknown step c) = IsTold (procedure_at ps p) (procedure_at ps q) (Unknown step c)
 
 -- ---- What answers promise
 
 -- The formula bounds from below, for each number of turns, what ended runs of at most so many turns collect from the loop's test on,
 -- from each state and under every scheduler.
 pub record OmegaHolds (ps : List TypedProcedure) (p q : ℕ) : Type 0 where
-  pub pair : OmegaPair ps p q
+  pub pair : OmegaPair (procedure_at ps p) (procedure_at ps q)
   pub bounds : (s : List Val) → IsState (procedure_at ps p) s → BoundsFrom ps p pair.loop.front pair.loop.body pair.loop.behind pair.loop.head (formula_of (procedure_at ps p) pair.loop.head (procedure_at ps q)) s
 
 -- The goal of the step fails by the meaning of formulas: the first values of what is shown are a state of the first procedure and a
 -- number of turns, in which the smaller side is above the greater one for some choices.
-pub record StepFails (ps : List TypedProcedure) (p q : ℕ) (step : Step) (s : List Val) : Type 0 where
-  pub pair : OmegaPair ps p q
-  pub fails : FailsByChoices false (type_list (goal_variables (procedure_at ps p) pair.loop.head (procedure_at ps q))) (smaller (length (variables (procedure_at ps p))) (formula_of (procedure_at ps p) pair.loop.head (procedure_at ps q)) step) (greater (procedure_at ps p) pair.loop.head pair.loop.body pair.loop.behind (formula_of (procedure_at ps p) pair.loop.head (procedure_at ps q)) step) (take (length (type_list (goal_variables (procedure_at ps p) pair.loop.head (procedure_at ps q)))) s)
+pub record StepFails (p q : TypedProcedure) (step : Step) (s : List Val) : Type 0 where
+  pub pair : OmegaPair p q
+  pub fails : FailsByChoices false (type_list (goal_variables p pair.loop.head q)) (smaller (length (variables p)) (formula_of p pair.loop.head q) step) (greater p pair.loop.head pair.loop.body pair.loop.behind (formula_of p pair.loop.head q) step) (take (length (type_list (goal_variables p pair.loop.head q))) s)
 
 -- Where the answer is that the pair fails, it does so in the state that is shown.
 abbrev pub ShownStateFails : List TypedProcedure → ℕ → ℕ → Omega → Type 0
 ShownStateFails ps p q Holds = Unit {0}
-ShownStateFails ps p q (Fails step s) = StepFails ps p q step s.items
+ShownStateFails ps p q (Fails step s) = StepFails (procedure_at ps p) (procedure_at ps q) step s.items
 ShownStateFails ps p q (Unknown step c) = Unit {0}
 ShownStateFails ps p q Shape = Unit {0}

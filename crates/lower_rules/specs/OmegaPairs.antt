@@ -3,7 +3,7 @@
 use Rattle.std.specs.Prelude.{◌≡◌, ℕ, false, List, [], ◌∷◌, ◌++◌, None, length, map, get_or}
 use Rattle.heylo_formula.specs.Formula.{Form}
 use Rattle.heylo_formula.specs.declared.types.Ty.{Ty}
-use Rattle.heyvl_acts.specs.Acts.{Head, TypedProcedure, procedure_at, type_list, types_of, variables}
+use Rattle.heyvl_acts.specs.Acts.{Head, TypedProcedure, type_list, types_of, variables}
 use Rattle.vp_generator.specs.Prenexed.{Numbering, unbound}
 use Rattle.lower_rules.specs.OneLoop.{OneLoop}
 
@@ -28,7 +28,7 @@ pub record IsOmegaPair (p : TypedProcedure) (h : Head) (q : TypedProcedure) : Ty
   pub no_outputs : q.outputs ≡ []
   pub inputs : type_list q.inputs ≡ map (types_of p) h.scope ++ Ty.UInt ∷ []
 
--- Two procedures of a file, by number: the first has one loop, and the second gives a formula for it.
-pub record OmegaPair (ps : List TypedProcedure) (p q : ℕ) : Type 0 where
-  pub loop : OneLoop (procedure_at ps p)
-  pub pair : IsOmegaPair (procedure_at ps p) loop.head (procedure_at ps q)
+-- The first procedure has one loop, and the second one gives a formula for it.
+pub record OmegaPair (p q : TypedProcedure) : Type 0 where
+  pub loop : OneLoop p
+  pub pair : IsOmegaPair p loop.head q

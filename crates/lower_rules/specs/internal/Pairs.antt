@@ -86,7 +86,7 @@ pub record IsPairAt (typed : Typed) (p q : ℕ) (x : Pair) : Type 0 where
 
 abbrev pub IsPairOf : Typed → ℕ → ℕ → Option Pair → Type 0
 IsPairOf typed p q (Some x) = IsPairAt typed p q x
-IsPairOf typed p q None = OmegaPair (procedures_of typed) p q → ⊥
+IsPairOf typed p q None = OmegaPair (procedure_at (procedures_of typed) p) (procedure_at (procedures_of typed) q) → ⊥
 
 -- ---- What is decided
 
