@@ -10,7 +10,19 @@ use Rattle.heylo_formula.specs.declared.types.Ty.{Ty}
 use Rattle.heylo_formula.specs.declared.values.Val.TheVariants.{Truth}
 use Rattle.heyvl_acts.specs.Acts.{Head, Act, Acts, TypedProcedure}
 use Rattle.run_machine.specs.Configurations.{Item, Config}
+use Rattle.heyvl_acts.specs.Acts.{variables}
+use Rattle.heylo_formula.specs.Substitution as Replaced
+use Rattle.heylo_formula.specs.declared.values.Val.{Val}
+use Rattle.goal_answers.specs.declared.causes.Cause.TheVariants as Cause
+use Rattle.goal_answers.specs.declared.decisions.Decision.TheVariants as decision
+use Rattle.std.specs.Prelude.{Vec, length}
+use Rattle.std.specs.declared.alloc.Global.{Global}
 use Rattle.lower_rules.specs.Collected.{settled}
+use Rattle.lower_rules.specs.OmegaAnswers.{told}
+use Rattle.lower_rules.specs.OmegaGoals.{greater, smaller}
+use Rattle.lower_rules.specs.OmegaPairs.{IsOmegaPair, formula_of, places}
+use Rattle.lower_rules.specs.declared.answers.Omega.TheVariants as answer
+use Rattle.lower_rules.specs.declared.answers.Step.TheVariants as Step
 use Rattle.lower_rules.specs.OneLoop.{IsOneLoop, steps, steps_from_test}
 
 abbrev nowhere : Span
@@ -49,3 +61,40 @@ running_after k = record { procedure = 0; items = Item.turn head body ∷ []; fr
 -- With at most two turns the post counts, with three it doesn't, and where the run hasn't ended neither.
 settled_rows : (settled 2 1 post (ended_after 2) ≡ oneᵛ) × (settled 2 1 post (ended_after 3) ≡ zeroᵛ) × (settled 2 1 post (running_after 2) ≡ zeroᵛ)
 settled_rows = (refl, refl, refl)
+
+-- ---- An omega pair: the second procedure is `two_j(d: Bool, m: UInt)` with pre `ite(d, 1, 0)`
+
+abbrev two_j : TypedProcedure
+two_j = record { name = []; co = false; weak = false; inputs = record { name = []; ty = Ty.Bool } ∷ record { name = []; ty = Ty.UInt } ∷ []; outputs = []; locals = []; pre = Form.select (Cond.flag 0) (Form.number oneᵛ) (Form.variable 1); post = Form.number zeroᵛ; body = None; loops = 0; span = nowhere }
+
+two_are_a_pair : IsOmegaPair two head two_j
+two_are_a_pair = record { proc = refl; bodiless = refl; no_outputs = refl; inputs = refl }
+
+-- Its first input stands for the variable d of the first procedure, and its last one for the variable behind those.
+formula_of_two : formula_of two head two_j ≡ Form.select (Cond.flag 0) (Form.number oneᵛ) (Form.variable 1)
+formula_of_two = refl
+
+-- With a turn more, while d is false, it is at most what the body makes of it; else it is at most the post.
+turn_of_two : greater two head body Acts.done (formula_of two head two_j) Step.Turn ≡ Form.select (Cond.not (Cond.flag 0)) (Form.sum (Form.scale half (Form.select (Cond.constant true) (Form.number oneᵛ) (Form.variable 1))) (Form.scale half (Form.select (Cond.constant false) (Form.number oneᵛ) (Form.variable 1)))) (Form.iverson (Cond.flag 0))
+unfolding Replaced.subst
+turn_of_two = refl
+
+more_of_two : smaller 1 (formula_of two head two_j) Step.Turn ≡ Form.select (Cond.flag 0) (Form.number oneᵛ) (Form.sum (Form.variable 1) (Form.number oneᵛ))
+unfolding Replaced.subst
+more_of_two = refl
+
+base_of_two : (smaller 1 (formula_of two head two_j) Step.Base ≡ Form.select (Cond.flag 0) (Form.number oneᵛ) (Form.number zeroᵛ)) × (greater two head body Acts.done (formula_of two head two_j) Step.Base ≡ Form.select (Cond.not (Cond.flag 0)) (Form.number zeroᵛ) (Form.iverson (Cond.flag 0)))
+unfolding Replaced.subst
+base_of_two = (refl, refl)
+
+-- A scope with gaps: the inputs stand for the variables 0 and 2, and the number of turns is behind all three.
+places_with_gaps : (x : TypedProcedure) → places x (record head { scope = 0 ∷ 2 ∷ [] }) ≡ 0 ∷ 2 ∷ length (variables x) ∷ []
+places_with_gaps x = refl
+
+-- ---- Answers: a goal that is falsified goes before an earlier one of which nothing is known
+
+falsified_goes_before : (s : Vec Val Global) → told (decision.Unknown Cause.Bits) (decision.Proved None) (decision.Falsified s) ≡ answer.Fails Step.Turn s
+falsified_goes_before s = refl
+
+first_unknown_is_told : told (decision.Proved None) (decision.Unknown Cause.Bits) (decision.Unknown Cause.Depth) ≡ answer.Unknown Step.Base Cause.Bits
+first_unknown_is_told = refl
