@@ -112,15 +112,6 @@ either_three false false true e f g h = h refl
 either_three false false false e f g h = absurd (cc)
 
 module _ (ps : List TypedProcedure) (p : TypedProcedure) (rules : MeetsRules ps p) (l : OneLoop p) (q : TypedProcedure) (q_rules : MeetsRules ps q) (pair : IsOmegaPair p l.head q) where
-  abbrev J : Form
-  J = formula_of p l.head q
-
-  abbrev X : Form
-  X = after_loop p l.behind
-
-  abbrev V : Form
-  V = after_body l.body (formula_of p l.head q)
-
   -- ---- Variables
 
   pub smaller_over : (step : Step) → IsOver (suc (length (variables p))) (smaller (length (variables p)) (formula_of p l.head q) step)

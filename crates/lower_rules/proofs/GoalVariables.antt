@@ -1,10 +1,11 @@
 -- The variables of the goals of an omega pair: the first procedure's, and one of type UInt behind them.
-use Rattle.std.proofs.Common.{◌≡◌, ◌∙◌, ◌<◌, ◌≤◌, ◌+◌, ◌==◌, ℕ, refl, sym, ap, subst, arith, ints, Bool, true, false, ◌&&◌, cond, List, [], ◌∷◌, ◌++◌, append_assoc, map, length, drop, get_or}
+use Rattle.std.proofs.Common.{◌≡◌, ◌∙◌, ◌<◌, ◌≤◌, ◌+◌, ◌==◌, ℕ, refl, sym, ap, subst, arith, Bool, true, false, ◌&&◌, cond, List, [], ◌∷◌, ◌++◌, append_assoc, map, length, drop, get_or}
 use Rattle.std.proofs.lemmas.List.{length-append, length-map}
 use Prim.Native.Nat.{zero, suc}
 use Rattle.heyvl_num.specs.Rational.{Rational, ratio, zeroʳ, oneʳ, leqʳ, ◌+ʳ◌, ◌≤ʳ◌}
 use Rattle.heyvl_num.proofs.exported.Rationals.{ratio-+, ratio_nonnegative}
 use Rattle.heyvl_num.proofs.exported.WholeNumbers.{whole_den}
+use borrow.Author.Differences.{ints}
 use Rattle.std.specs.Prelude.{pos}
 use Rattle.heylo_formula.specs.State.{Env, put, has, environment, IsTyped}
 use Rattle.heylo_formula.specs.Typing.{types_in}

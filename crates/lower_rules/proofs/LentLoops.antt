@@ -9,13 +9,13 @@ use Rattle.heyvl_acts.proofs.exported.PlainActsAre.{head_of, if_act, pick_act}
 use Rattle.heyvl_acts.specs.Acts.{Head, Act, Acts, TypedProcedure, acts_in, join}
 use Rattle.heyvl_acts.specs.Places.{in_order, inside, inside_arms}
 use Rattle.heyvl_acts.specs.PlainActs.{act_of, acts_of, arms_of}
-use Rattle.heyvl_acts.specs.Program.{IsProgram}
+use Rattle.heyvl_acts.specs.Program.{IsProgram, Reason, why_no_program}
 use Rattle.heyvl_acts.specs.Rules.{Each}
 use Rattle.heyvl_acts.specs.Straight.{IsStraight}
 use Rattle.heyvl_acts.specs.declared.acts.Act as A
 use Rattle.lower_rules.specs.OneLoop.{OneLoop, IsOneLoop}
 use Rattle.lower_rules.specs.internal.Shapes.{HasNoLoop, IsNoLoop, all_straight, is_straight}
-use Rattle.lower_rules.proofs.UniqueLoops.{same_parts, straight_no_loops}
+use Rattle.lower_rules.proofs.UniqueLoops.{no_loop_in, same_parts, straight_no_loops}
 use Rattle.ranking_rule.proofs.exported.ActsInOrder.{acts_from, arms_from, next_act, next_arm}
 
 -- ---- Whether acts are straight
@@ -105,6 +105,23 @@ none_at (y ∷ xs) (suc i) x lt is h n = (h.0, none_at xs i x (omega (arith, lt)
 
 pub none_before : (xs : List A.Act) (i : ℕ) (x : A.Act) → i < length xs → x ≡ get_or xs i x → HasNoLoop (acts_of (take i xs)) → IsNoLoop (act_of x) → HasNoLoop (acts_of (take (i + 1) xs))
 none_before xs i x lt is h n = let e : suc i ≡ i + 1 = omega arith in subst (λ k. HasNoLoop (acts_of (take k xs))) e (none_at xs i x lt is h n)
+
+pub whole_loop : (xs : List A.Act) (i : ℕ) (x : A.Act) (h : Head) (b : Acts) → i < length xs → x ≡ get_or xs i x → act_of x ≡ Act.loop h b → acts_of xs ≡ join (acts_of (take i xs)) (Acts.next (Act.loop h b) (acts_of (drop (i + 1) xs)))
+whole_loop xs i x h b lt is e = whole_here xs i x lt is ∙ ap (λ a. join (acts_of (take i xs)) (Acts.next a (acts_of (drop (i + 1) xs)))) e
+
+-- ---- Procedures without one loop
+
+pub not_weak : (p : TypedProcedure) → p.weak ≡ false → OneLoop p → ⊥
+not_weak p e l = absurd (let f = sym e ∙ l.is.weak in cc)
+
+pub no_program : (p : TypedProcedure) (why : Reason) → Some why ≡ why_no_program p → OneLoop p → ⊥
+no_program p why e l = absurd (let f = e ∙ l.is.program in cc)
+
+pub none_at_all : (p : TypedProcedure) (acts : Acts) → acts_in p.body ≡ acts → HasNoLoop acts → OneLoop p → ⊥
+none_at_all p acts e n l = no_loop_in acts l.front l.head l.body l.behind n (sym e ∙ l.is.whole)
+
+pub bodiless : (p : TypedProcedure) → p.body ≡ None → OneLoop p → ⊥
+bodiless p e l = none_at_all p Acts.done (ap acts_in e) tt l
 
 -- ---- What is answered
 

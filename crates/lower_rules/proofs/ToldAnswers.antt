@@ -25,7 +25,7 @@ use Rattle.lower_rules.specs.OmegaGoals.{step_goal}
 use Rattle.lower_rules.specs.OmegaPairs.{IsOmegaPair, OmegaPair, formula_of}
 use Rattle.lower_rules.specs.OneLoop.{OneLoop}
 use Rattle.lower_rules.specs.declared.answers.Omega.{Omega}
-use Rattle.lower_rules.specs.declared.answers.Omega.TheVariants as omega
+use Rattle.lower_rules.specs.declared.answers.Omega.TheVariants as reply
 use Rattle.lower_rules.specs.declared.answers.Step.{Step}
 use Rattle.lower_rules.specs.declared.answers.Step.TheVariants.{One, Base, Turn}
 use Rattle.lower_rules.specs.declared.pairs.Pair.{Pair}
@@ -94,14 +94,14 @@ is_told : (p q : TypedProcedure) (answer : Omega) → AreDecided p q answer → 
 is_told p q answer d = record { pair = d.pair; one = d.one; base = d.base; turn = d.turn; one_is = d.one_is; base_is = d.base_is; turn_is = d.turn_is; is_told = d.is_told }
 
 -- no goals tell that the procedures are no pair
-not_shape : (one base turn : Decision) → omega.Shape ≡ told one base turn → ⊥
+not_shape : (one base turn : Decision) → reply.Shape ≡ told one base turn → ⊥
 not_shape one base turn e = go (both (answer_of One one) (both (answer_of Base base) (answer_of Turn turn))) (told_by_goals one base turn) (shaped one base turn)
   where
     IsAnswer : Omega → Type 0
-    IsAnswer omega.Shape = ⊥
-    IsAnswer omega.Holds = Unit {0}
-    IsAnswer (omega.Fails s v) = Unit {0}
-    IsAnswer (omega.Unknown s c) = Unit {0}
+    IsAnswer reply.Shape = ⊥
+    IsAnswer reply.Holds = Unit {0}
+    IsAnswer (reply.Fails s v) = Unit {0}
+    IsAnswer (reply.Unknown s c) = Unit {0}
 
     go : (a : Omega) → a ≡ told one base turn → IsAnswer a → ⊥
     go a f i = subst IsAnswer (f ∙ sym e) i
@@ -131,10 +131,10 @@ module _ (typed : Typed) (p q : ℕ) (x : Pair) (at : IsPairAt typed p q x) wher
   decided answer t = at_numbers (procedures_of typed) p q x answer at.first_is at.second_is (of_pair x at.ready answer t)
 
   pub is_answer : (answer : Omega) → IsToldOf x answer → IsOmegaAnswer (procedures_of typed) p q answer
-  is_answer omega.Holds t = is_told (procedure_at (procedures_of typed) p) (procedure_at (procedures_of typed) q) omega.Holds (decided omega.Holds t)
-  is_answer (omega.Fails step s) t = is_told (procedure_at (procedures_of typed) p) (procedure_at (procedures_of typed) q) (omega.Fails step s) (decided (omega.Fails step s) t)
-  is_answer (omega.Unknown step c) t = is_told (procedure_at (procedures_of typed) p) (procedure_at (procedures_of typed) q) (omega.Unknown step c) (decided (omega.Unknown step c) t)
-  is_answer omega.Shape t = absurd (not_shape t.one t.base t.turn t.is_told)
+  is_answer reply.Holds t = is_told (procedure_at (procedures_of typed) p) (procedure_at (procedures_of typed) q) reply.Holds (decided reply.Holds t)
+  is_answer (reply.Fails step s) t = is_told (procedure_at (procedures_of typed) p) (procedure_at (procedures_of typed) q) (reply.Fails step s) (decided (reply.Fails step s) t)
+  is_answer (reply.Unknown step c) t = is_told (procedure_at (procedures_of typed) p) (procedure_at (procedures_of typed) q) (reply.Unknown step c) (decided (reply.Unknown step c) t)
+  is_answer reply.Shape t = absurd (not_shape t.one t.base t.turn t.is_told)
 
   module _ (rules : MeetsAllRules typed) (here : p < length typed.procs.items) (there : q < length typed.procs.items) where
     count : length (procedures_of typed) ≡ length typed.procs.items
@@ -150,7 +150,7 @@ module _ (typed : Typed) (p q : ℕ) (x : Pair) (at : IsPairAt typed p q x) wher
     second_rules = each_at (MeetsRules (procedures_of typed)) (procedures_of typed) q rules.each (let c = count in omega (arith, c, there))
 
     -- where all is proved, the goals hold
-    proved : (one base turn : Decision) → omega.Holds ≡ told one base turn → (a b : Goal) → Tells a base → Tells b turn → Holds a × Holds b
+    proved : (one base turn : Decision) → reply.Holds ≡ told one base turn → (a b : Goal) → Tells a base → Tells b turn → Holds a × Holds b
     proved (decision.Proved x) (decision.Proved y) (decision.Proved z) e a b f g = (f, g)
     proved (decision.Proved x) (decision.Proved y) (decision.Falsified z) e a b f g = absurd (cc)
     proved (decision.Proved x) (decision.Proved y) (decision.Unknown z) e a b f g = absurd (cc)
@@ -167,7 +167,7 @@ module _ (typed : Typed) (p q : ℕ) (x : Pair) (at : IsPairAt typed p q x) wher
     proved (decision.Unknown x) (decision.Unknown y) (decision.Falsified z) e a b f g = absurd (cc)
     proved (decision.Unknown x) (decision.Unknown y) (decision.Unknown z) e a b f g = absurd (cc)
 
-    pub bound : GeneratedFormMeansActs → GeneratedFormIsOver → PrenexedFormHasNoBinder → PrenexedGoalsSpeakOfChoices → OmegaBoundsRuns → (answer : Omega) → IsToldOf x answer → answer ≡ omega.Holds → OmegaHolds (procedures_of typed) p q
+    pub bound : GeneratedFormMeansActs → GeneratedFormIsOver → PrenexedFormHasNoBinder → PrenexedGoalsSpeakOfChoices → OmegaBoundsRuns → (answer : Omega) → IsToldOf x answer → answer ≡ reply.Holds → OmegaHolds (procedures_of typed) p q
     bound means over plain speak law answer t e =
         let d = decided answer t in
         let l = d.pair.loop in
@@ -177,17 +177,17 @@ module _ (typed : Typed) (p q : ℕ) (x : Pair) (at : IsPairAt typed p q x) wher
           bounds = λ s st. law (procedures_of typed) p rules.each first_there l (formula_of (procedure_at (procedures_of typed) p) l.head (procedure_at (procedures_of typed) q)) (goals_say_omega (procedures_of typed) (procedure_at (procedures_of typed) p) first_rules l (procedure_at (procedures_of typed) q) second_rules d.pair.pair means over plain speak g.0 g.1) s st;
         }
 
-    same : (k step : Step) (a s : Vec Val Global) → omega.Fails k a ≡ omega.Fails step s → (g : Step → Goal) → Fails (g k) a.items → Fails (g step) s.items
+    same : (k step : Step) (a s : Vec Val Global) → reply.Fails k a ≡ reply.Fails step s → (g : Step → Goal) → Fails (g k) a.items → Fails (g step) s.items
     same k step a s e g f = subst (λ (o : Omega). at o) e f
       where
         at : Omega → Type 0
-        at (omega.Fails j v) = Fails (g j) v.items
-        at omega.Holds = Unit {0}
-        at omega.Shape = Unit {0}
-        at (omega.Unknown j c) = Unit {0}
+        at (reply.Fails j v) = Fails (g j) v.items
+        at reply.Holds = Unit {0}
+        at reply.Shape = Unit {0}
+        at (reply.Unknown j c) = Unit {0}
 
     -- the goal that is told to fail does so
-    failing : (one base turn : Decision) (step : Step) (s : Vec Val Global) → omega.Fails step s ≡ told one base turn → (g : Step → Goal) → Tells (g One) one → Tells (g Base) base → Tells (g Turn) turn → Fails (g step) s.items
+    failing : (one base turn : Decision) (step : Step) (s : Vec Val Global) → reply.Fails step s ≡ told one base turn → (g : Step → Goal) → Tells (g One) one → Tells (g Base) base → Tells (g Turn) turn → Fails (g step) s.items
     failing (decision.Falsified a) b c step s e g f h i = same One step a s (sym e) g f
     failing (decision.Proved a) (decision.Falsified b) c step s e g f h i = same Base step b s (sym e) g h
     failing (decision.Unknown a) (decision.Falsified b) c step s e g f h i = same Base step b s (sym e) g h
@@ -205,11 +205,11 @@ module _ (typed : Typed) (p q : ℕ) (x : Pair) (at : IsPairAt typed p q x) wher
     failing (decision.Unknown a) (decision.Unknown b) (decision.Unknown c) step s e g f h i = absurd (cc)
 
     pub shown : GeneratedFormIsOver → PrenexedGoalsFailByChoices → (answer : Omega) → IsToldOf x answer → ShownStateFails (procedures_of typed) p q answer
-    shown over law omega.Holds t = tt
-    shown over law omega.Shape t = tt
-    shown over law (omega.Unknown step c) t = tt
-    shown over law (omega.Fails step s) t =
-        let d = decided (omega.Fails step s) t in
+    shown over law reply.Holds t = tt
+    shown over law reply.Shape t = tt
+    shown over law (reply.Unknown step c) t = tt
+    shown over law (reply.Fails step s) t =
+        let d = decided (reply.Fails step s) t in
         let l = d.pair.loop in
         record {
           pair = d.pair;

@@ -5,7 +5,7 @@ ghost use Rattle.heyvl_acts.specs.Acts.{Act as plain_act, Acts as plain_acts, Ty
 ghost use Rattle.heyvl_acts.specs.Places.{in_order, inside};
 ghost use Rattle.heyvl_acts.specs.PlainActs.{act_of, acts_of, procedure_of, procedures_of};
 ghost use Rattle.heyvl_acts.specs.Program.{IsProgram};
-ghost use Rattle.lower_rules.specs.internal.Shapes.{HasNoLoop, IsLoopOf, all_straight};
+ghost use Rattle.lower_rules.specs.internal.Shapes.{HasNoLoop, IsLoopIn, IsLoopOf, all_straight};
 ghost use Rattle.std.specs.Prelude.{length, true, ◌&&◌, ◌<◌, ◌≡◌, ◌∷◌};
 
 use heyvl_acts::{Act, LoopAct, TProc, Typed};
@@ -49,11 +49,30 @@ fn loop_among<'a>(acts: &'a [Act]) -> Option<LoopParts<'a>>
     ensures { (p : TypedProcedure) → acts_in p.body ≡ acts_of acts.now → p.weak ≡ true → IsProgram p → IsLoopOf p result }
 {
     for place in 0..acts.len() {
-        if let Act::Loop(one) = &acts[place] {
+        if let Some(one) = loop_in(&acts[place]) {
             return straight_parts(&acts[..place], one, &acts[place + 1..]);
         }
     }
     None
+}
+
+/// The loop that the act is, if it is one.
+fn loop_in(act: &Act) -> Option<&LoopAct>
+    ensures { IsLoopIn (act_of act.now) result }
+{
+    match act {
+        Act::Loop(one) => Some(one),
+        Act::Call(_, _, _, _) => None,
+        Act::Pick(_, _, _, _) => None,
+        Act::If(_, _, _) => None,
+        Act::Set(_, _, _) => None,
+        Act::Draw(_, _, _) => None,
+        Act::Toss(_, _, _) => None,
+        Act::Any(_, _, _, _) => None,
+        Act::Reward(_, _) => None,
+        Act::Check(_, _, _) => None,
+        Act::Validate(_, _) => None,
+    }
 }
 
 /// These parts, where none of them holds a loop or a call.

@@ -1,8 +1,10 @@
 -- The one loop of a procedure, as the program lends it.
-use Rattle.std.specs.Prelude.{Bool, true, false, ◌&&◌, List, [], ◌∷◌, Option, Some, None}
+use Rattle.std.specs.Prelude.{◌≡◌, Bool, true, false, ◌&&◌, List, [], ◌∷◌, Option, Some, None}
+use Rattle.std.specs.Borrow.{Bor}
 use Rattle.heyvl_acts.proofs.exported.PlainActsAre.{head_of}
 use Rattle.heyvl_acts.specs.Acts.{Act, Acts, TypedProcedure}
 use Rattle.heyvl_acts.specs.PlainActs.{acts_of}
+use Rattle.heyvl_acts.specs.declared.acts.LoopAct.{LoopAct}
 use Rattle.lower_rules.specs.OneLoop.{IsOneLoop, OneLoop}
 use Rattle.lower_rules.specs.declared.shapes.LoopParts.{LoopParts}
 
@@ -46,3 +48,8 @@ IsNoLoop (Act.validate co span) = Unit {0}
 abbrev pub HasNoLoop : Acts → Type 0
 HasNoLoop Acts.done = Unit {0}
 HasNoLoop (Acts.next a rest) = IsNoLoop a × HasNoLoop rest
+
+-- The loop that the act is; or it is none.
+abbrev pub IsLoopIn : Act → Option (Bor LoopAct) → Type 0
+IsLoopIn a (Some l) = a ≡ Act.loop (head_of l.now) (acts_of l.now.body.items)
+IsLoopIn a None = IsNoLoop a
