@@ -23,3 +23,4 @@ pub mod PairShapes
 pub mod ProcedureVariables
 pub mod ReadyPairs
 pub mod ToldAnswers
+pub mod PairsAt
