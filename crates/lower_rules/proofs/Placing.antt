@@ -181,4 +181,3 @@ mutual
       let q = or_false (has_binder_in g) (has_binder_in k || has_binder_in l) p in
       let r = or_false (has_binder_in k) (has_binder_in l) q.1 in
       two _ _ x d (over_is_in d n m g q.0 (λ w j. h w (left_free (is_free_in w g) (is_free_in w k || is_free_in w l) j)) x) (two _ _ x d (over_is_in d (n + length (binders_in g)) m k r.0 (λ w j. h w (right_free (is_free_in w g) (is_free_in w k || is_free_in w l) (left_free (is_free_in w k) (is_free_in w l) j))) x) (over_is_in d (n + length (binders_in g) + length (binders_in k)) m l r.1 (λ w j. h w (right_free (is_free_in w g) (is_free_in w k || is_free_in w l) (right_free (is_free_in w k) (is_free_in w l) j))) x)) i
-

@@ -45,7 +45,7 @@ pub fn omega(alloc: Global, typed: &Typed, p: u32, q: u32) -> Result<Omega, Allo
 }
 
 /// The answer on a pair: all its goals are decided.
-fn answer_on(alloc: Global, pair: &Pair) -> Result<Omega, AllocError>
+fn answer_on<'a>(alloc: Global, pair: &Pair<'a>) -> Result<Omega, AllocError>
     requires ready { IsReady pair.now }
     ensures { IfOk result (λ answer. IsToldOf pair.now answer) }
 {

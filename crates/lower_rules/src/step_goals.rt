@@ -16,6 +16,7 @@ use crate::pairs::Pair;
 use crate::upper_goals::{goal_variables, upper_goal};
 use goal_answers::{Cause, Decision};
 use heylo_formula::{Cond, Form, Term};
+use heyvl_acts::Act;
 use heyvl_num::Ext;
 use region_split::decide;
 use std::alloc::{AllocError, Global};
@@ -25,12 +26,12 @@ use vp_generator::{
 };
 
 /// What is decided of the goal that the formula is at most 1.
-pub(crate) fn decided_one(alloc: Global, pair: &Pair) -> Result<Decision, AllocError>
+pub(crate) fn decided_one<'a>(alloc: Global, pair: &Pair<'a>) -> Result<Decision, AllocError>
     requires ready { IsReady pair.now }
     ensures { IfOk result (λ d. IsStep pair.now One d) }
 {
     prenexed_form_means_choices();
-    let none = Vec::new(alloc);
+    let none: Vec<Act> = Vec::new(alloc);
     match vp(alloc, &none, pair.formula.copy(alloc)?) {
         Ok(_) => decided(alloc, pair, Step::One, Form::Const(Ext::one())),
         Err(stop) => unknown(stop),
@@ -38,7 +39,7 @@ pub(crate) fn decided_one(alloc: Global, pair: &Pair) -> Result<Decision, AllocE
 }
 
 /// What is decided of the goal with no turn.
-pub(crate) fn decided_base(alloc: Global, pair: &Pair) -> Result<Decision, AllocError>
+pub(crate) fn decided_base<'a>(alloc: Global, pair: &Pair<'a>) -> Result<Decision, AllocError>
     requires ready { IsReady pair.now }
     ensures { IfOk result (λ d. IsStep pair.now Base d) }
 {
@@ -53,7 +54,7 @@ pub(crate) fn decided_base(alloc: Global, pair: &Pair) -> Result<Decision, Alloc
 }
 
 /// What is decided of the goal with a turn more.
-pub(crate) fn decided_turn(alloc: Global, pair: &Pair) -> Result<Decision, AllocError>
+pub(crate) fn decided_turn<'a>(alloc: Global, pair: &Pair<'a>) -> Result<Decision, AllocError>
     requires ready { IsReady pair.now }
     ensures { IfOk result (λ d. IsStep pair.now Turn d) }
 {
@@ -65,7 +66,7 @@ pub(crate) fn decided_turn(alloc: Global, pair: &Pair) -> Result<Decision, Alloc
 }
 
 /// The same where a turn makes this of the formula.
-fn with_turn(alloc: Global, pair: &Pair, turn: Form) -> Result<Decision, AllocError>
+fn with_turn<'a>(alloc: Global, pair: &Pair<'a>, turn: Form) -> Result<Decision, AllocError>
     requires ready { IsReady pair.now }
     requires turn { IsTurnOf pair.now (form_of turn) }
     ensures { IfOk result (λ d. IsStep pair.now Turn d) }
@@ -100,7 +101,7 @@ fn guarded(alloc: Global, guard: &Cond, taken: Form, other: Form) -> Result<Form
 }
 
 /// The smaller side of a step's goal.
-fn smaller(alloc: Global, pair: &Pair, step: Step) -> Result<Form, AllocError>
+fn smaller<'a>(alloc: Global, pair: &Pair<'a>, step: Step) -> Result<Form, AllocError>
     requires ready { IsReady pair.now }
     ensures { IfOk result (λ form. form_of form ≡ smaller (length (variables (first pair.now))) (formula_of (first pair.now) (head pair.now) (second pair.now)) step) }
 {
@@ -121,7 +122,12 @@ fn smaller(alloc: Global, pair: &Pair, step: Step) -> Result<Form, AllocError>
 }
 
 /// What is decided of a step's goal, whose greater side this is.
-fn decided(alloc: Global, pair: &Pair, step: Step, stated: Form) -> Result<Decision, AllocError>
+fn decided<'a>(
+    alloc: Global,
+    pair: &Pair<'a>,
+    step: Step,
+    stated: Form,
+) -> Result<Decision, AllocError>
     requires ready { IsReady pair.now }
     requires stated { form_of stated ≡ greater (first pair.now) (head pair.now) (body pair.now) (behind pair.now) (formula_of (first pair.now) (head pair.now) (second pair.now)) step }
     requires small { Each IsSmall (limited (first pair.now) (body pair.now) (behind pair.now) (formula_of (first pair.now) (head pair.now) (second pair.now)) step) }

@@ -67,7 +67,7 @@ fn names_of(alloc: Global, vars: &[VarInfo]) -> Result<Vec<Name>, AllocError>
 }
 
 /// The variables of the goals of a pair: the first procedure's, and the number of turns, which is the second one's last input.
-pub(crate) fn goal_variables(alloc: Global, pair: &Pair) -> Result<Vec<VarInfo>, AllocError>
+pub(crate) fn goal_variables<'a>(alloc: Global, pair: &Pair<'a>) -> Result<Vec<VarInfo>, AllocError>
     requires ready { IsReady pair.now }
     ensures { IfOk result (λ vars. map variable_of vars.items ≡ goal_variables (first pair.now) (head pair.now) (second pair.now)) }
 {
