@@ -3,6 +3,7 @@
 
 mod answers;
 mod laws;
+mod omega_goals;
 mod omegas;
 mod pairs;
 mod placing;
@@ -13,4 +14,5 @@ mod upper_goals;
 
 pub use answers::{Omega, Step};
 pub use laws::{omega_bounds_runs, remainder_bounds_runs};
+pub use omega_goals::omega_goal;
 pub use omegas::omega;

@@ -92,7 +92,7 @@ fn unknown(stop: VpStop) -> Result<Decision, AllocError>
 }
 
 /// The first form while the guard holds, else the second.
-fn guarded(alloc: Global, guard: &Cond, taken: Form, other: Form) -> Result<Form, AllocError>
+pub(crate) fn guarded(alloc: Global, guard: &Cond, taken: Form, other: Form) -> Result<Form, AllocError>
     ensures { IfOk result (λ form. form_of form ≡ plain.select (cond_of guard.now) (form_of taken) (form_of other)) }
 {
     let guard = Box::new(alloc, guard.copy(alloc)?)?;
