@@ -1,0 +1,27 @@
+-- The sums that the definition of runs has for a script, beside the pre.
+-- Source: this project's own.
+use Rattle.std.specs.Prelude.{◌≡◌, ℕ, true, List}
+use Rattle.heyvl_num.specs.Value.{Value}
+use Rattle.heylo_formula.specs.Choices.{Choices}
+use Rattle.heylo_formula.specs.Meaning.{value}
+use Rattle.heylo_formula.specs.State.{environment}
+use Rattle.heylo_formula.specs.declared.values.Val.{Val}
+use Rattle.heyvl_acts.specs.Acts.{TypedProcedure, procedure_at}
+use Rattle.run_machine.specs.Configurations.{begin}
+use Rattle.run_machine.specs.Runs.{runs}
+use Rattle.run_machine.specs.Sums.{sum_of}
+use Rattle.run_machine.specs.declared.configurations.Decide.{Decide}
+use Rattle.run_unroller.specs.ScriptTrees.{scripted}
+
+-- The upper sum over the runs of so many steps, from a state, under the script's scheduler.
+abbrev pub scripted_sum : List TypedProcedure → ℕ → List Val → List Decide → ℕ → Value
+scripted_sum ps p state script s = sum_of true (procedure_at ps p).post (runs ps s (begin ps p state) (scripted ps script s 0 (begin ps p state)))
+
+-- The pre in a state.
+abbrev pub pre_in : List TypedProcedure → ℕ → List Val → Value
+pre_in ps p state = value (procedure_at ps p).pre (environment state) Choices.stop
+
+-- These numbers are the sum after so many steps and the pre.
+pub record AreOfRuns (ps : List TypedProcedure) (p : ℕ) (state : List Val) (script : List Decide) (s : ℕ) (sum bound : Value) : Type 0 where
+  pub sum : sum ≡ scripted_sum ps p state script s
+  pub pre : bound ≡ pre_in ps p state

@@ -1,0 +1,42 @@
+-- What is seen of the sum after one number of steps, and what a search has found so far. Private functions alone need this.
+use Rattle.std.specs.Prelude.{◌≡◌, ◌≤◌, ◌<◌, ◌+◌, ℕ, None, Some}
+use Rattle.heyvl_num.specs.Extended.{value_of}
+use Rattle.heyvl_num.specs.Value.{Value, ◌≤ᵛ◌, ◌<ᵛ◌}
+use Rattle.refute_runs.specs.Shortages.{IsShort}
+use Rattle.refute_runs.specs.SumsAfter.{IsSum, IsWithinBefore, Unrollings, together}
+use Rattle.refute_runs.specs.declared.answers.Refuted.TheVariants.{Stopped, Violation, Within}
+use Rattle.refute_runs.specs.declared.answers.Refuted.{Refuted}
+use Rattle.refute_runs.specs.declared.probes.Probe.TheVariants as probe
+use Rattle.refute_runs.specs.declared.probes.Probe.{Probe}
+use Rattle.run_unroller.specs.Unrolling.{Unrolling, unrolling_of}
+use Rattle.run_unroller.specs.declared.causes.Cause.TheVariants.{Bits}
+use Rattle.run_unroller.specs.declared.causes.Cause.{Cause}
+
+-- Step s is stopped, or after s steps a number doesn't fit.
+pub data IsBarred (us : Unrollings) (bound : Value) (s : ℕ) (answer : Unrolling) : Type 0 where
+  by_step : (cause : Cause) → 1 ≤ s → us s ≡ Unrolling.stopped cause s → answer ≡ Unrolling.stopped cause s → IsBarred us bound s answer
+  by_number : IsShort us (Some bound) s → answer ≡ Unrolling.stopped Bits (s + 1) → IsBarred us bound s answer
+
+-- The answer would be right, if the sum isn't above the bound with one step fewer.
+abbrev pub IsCandidate : Unrollings → Value → ℕ → Refuted → Type 0
+IsCandidate us bound s (Violation t sum b) = (t ≡ s) × ((IsSum us s (value_of sum) × (bound <ᵛ value_of sum)) × (value_of b ≡ bound))
+IsCandidate us bound s (Within sum b) = ⊥
+IsCandidate us bound s (Stopped t answer) = (t ≡ s) × IsBarred us bound s (unrolling_of answer)
+
+-- The search for fewer than s steps goes on below t: from there on there are no sums.
+pub record EndsAt (us : Unrollings) (bound : Value) (s t : ℕ) (answer : Refuted) : Type 0 where
+  pub few : t ≤ s
+  pub candidate : IsCandidate us bound t answer
+  pub empty : (k : ℕ) → t ≤ k → k < s → together (us k) ≡ None
+
+-- What is seen of the sum after s steps.
+abbrev pub IsSeen : Unrollings → Value → ℕ → Probe → Type 0
+IsSeen us bound s (probe.Within sum) = IsSum us s (value_of sum) × (value_of sum ≤ᵛ bound)
+IsSeen us bound s (probe.Until t answer) = EndsAt us bound s t answer
+
+-- A right answer, of at most n steps.
+pub record IsLeast (us : Unrollings) (bound : Value) (n : ℕ) (answer : Refuted) : Type 0 where
+  pub steps : ℕ
+  pub few : steps ≤ n
+  pub candidate : IsCandidate us bound steps answer
+  pub before : IsWithinBefore us bound steps
