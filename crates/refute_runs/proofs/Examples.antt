@@ -1,0 +1,110 @@
+-- Worked searches, computed by the definitions: three payments of 1, and the geometric loop with a pre of 1/2.
+use Rattle.std.proofs.Common.{◌≡◌, ◌≤◌, ℕ, refl, Bool, true, false, List, [], ◌∷◌, Some, None, pos, map, arith}
+use Rattle.std.specs.Prelude.{ℤ, Option, option_map}
+use Rattle.heyvl_num.specs.Exact.{exact_sum, sum_fits, exact_product, product_fits, exact_order, order_fits}
+use Rattle.heyvl_num.specs.Gcd.{gcd, gcd_steps}
+use Rattle.heyvl_num.specs.Rational.{Rational, ratio, zeroʳ, oneʳ, halfʳ, leqʳ, compareʳ, ◌+ʳ◌, ◌*ʳ◌, ◌-ʳ◌}
+use Rattle.heyvl_num.specs.Value.Value.{finite, infinite}
+use Rattle.heyvl_num.specs.Value.{Value, zeroᵛ, oneᵛ, ◌+ᵛ◌, ◌*ᵛ◌, infinite_times, is_zeroʳ, leqᵛ}
+use Rattle.heyvl_num.specs.WeightedSums.{scaled, joined}
+use Rattle.heyvl_places.specs.declared.spans.Span.{Span}
+use Rattle.heylo_formula.specs.Formula.{Form, Cond, Term}
+use Rattle.heylo_formula.specs.declared.types.Ty.{Ty}
+use Rattle.heylo_formula.specs.declared.values.Val.TheVariants.{Truth, Num}
+use Rattle.heylo_formula.specs.declared.values.Val.{Val}
+use Rattle.heyvl_acts.specs.Acts.{Act, Acts, Arms, Head, TypedProcedure, Variable}
+use Rattle.quant_algebra.specs.ExactMeaning.{exact_value}
+use Rattle.refute_runs.specs.RefutedAnswers.{PassesAt, StaysWithin, StopsAt}
+use Rattle.refute_runs.specs.RefutedAnswers.StopsAt.{by_number, by_step}
+use Rattle.refute_runs.specs.Shortages.IsShort.{no_pre}
+use Rattle.refute_runs.specs.SumsAfter.{Unrollings, together, unrolled_in}
+use Rattle.run_unroller.specs.MergedLists.{merged_onto}
+use Rattle.run_unroller.specs.Unrolling.{Unrolling}
+use Rattle.run_unroller.specs.declared.causes.Cause.TheVariants.{Bits}
+
+-- The numerator and the denominator of a value; 1 and 0 for infinity.
+abbrev parts : Value → ℤ × ℕ
+parts (finite x) = (x.num, x.den)
+parts infinite = (pos 1, 0)
+
+-- The sum of the first procedure after so many steps, from a state and without decisions.
+abbrev sum_after : List TypedProcedure → List Val → ℕ → Option (ℤ × ℕ)
+sum_after ps state s = option_map parts (together (unrolled_in ps 0 state [] s))
+
+abbrev place : Span
+place = record { from = 0; to = 0 }
+
+abbrev variable : Ty → Variable
+variable ty = record { name = []; ty = ty }
+
+abbrev whole : ℕ → Value
+whole n = finite (ratio (pos n) 1)
+
+abbrev number : ℕ → Form
+number n = Form.number (whole n)
+
+abbrev acts : List Act → Acts
+acts [] = Acts.done
+acts (a ∷ rest) = Acts.next a (acts rest)
+
+-- A procedure with this pre and this post.
+abbrev procedure : ℕ → List Ty → List Ty → Form → Form → List Act → TypedProcedure
+procedure n outs locals pre post body = record { name = []; co = true; weak = false; inputs = []; outputs = map variable outs; locals = map variable locals; pre = pre; post = post; body = Some (acts body); loops = n; span = place }
+
+-- ---- Payments: `reward 1 reward 1 reward 1` with the pre 1
+
+abbrev pays : List TypedProcedure
+pays = procedure 0 [] [] (number 1) (number 0) (Act.reward (number 1) place ∷ Act.reward (number 1) place ∷ Act.reward (number 1) place ∷ []) ∷ []
+
+payments : (sum_after pays [] 0 ≡ Some (pos 0, 1)) × (sum_after pays [] 1 ≡ Some (pos 1, 1)) × (sum_after pays [] 2 ≡ Some (pos 2, 1)) × (sum_after pays [] 9 ≡ Some (pos 3, 1))
+unfolding merged_onto joined scaled halfʳ ratio gcd gcd_steps zeroʳ oneʳ zeroᵛ oneᵛ ◌+ʳ◌ ◌*ʳ◌ ◌-ʳ◌ ◌+ᵛ◌ ◌*ᵛ◌ infinite_times is_zeroʳ leqʳ leqᵛ compareʳ exact_sum sum_fits exact_product product_fits exact_order order_fits
+payments = (refl, refl, refl, refl)
+
+-- The second payment passes the pre.
+second_passes : PassesAt (unrolled_in pays 0 [] []) (Some (whole 1)) 9 2 (whole 2) (whole 1)
+unfolding merged_onto joined scaled halfʳ ratio gcd gcd_steps zeroʳ oneʳ zeroᵛ oneᵛ ◌+ʳ◌ ◌*ʳ◌ ◌-ʳ◌ ◌+ᵛ◌ ◌*ᵛ◌ infinite_times is_zeroʳ leqʳ leqᵛ compareʳ exact_sum sum_fits exact_product product_fits exact_order order_fits
+second_passes = record { steps = omega arith; given = refl; summed = refl; above = record { holds = refl }; before = (whole 1, (refl, record { holds = refl })) }
+
+-- With one step the sum is at most the pre.
+first_stays : StaysWithin (unrolled_in pays 0 [] []) (Some (whole 1)) 1 (whole 1) (whole 1)
+unfolding merged_onto joined scaled halfʳ ratio gcd gcd_steps zeroʳ oneʳ zeroᵛ oneᵛ ◌+ʳ◌ ◌*ʳ◌ ◌-ʳ◌ ◌+ᵛ◌ ◌*ᵛ◌ infinite_times is_zeroʳ leqʳ leqᵛ compareʳ exact_sum sum_fits exact_product product_fits exact_order order_fits
+first_stays = record { given = refl; summed = refl; within = record { holds = refl } }
+
+-- ---- The geometric loop: the variables are c, cont and stop
+
+abbrev plus_one : ℕ → Term
+plus_one x = Term.number (Form.sum (Form.variable x) (number 1))
+
+abbrev truth : Bool → Term
+truth b = Term.truth (Cond.constant b)
+
+abbrev head : ℕ → Cond → Head
+head n g = record { number = n; k = 1; inv = number 0; guard = g; rank = None; scope = []; span = place }
+
+abbrev geo : List TypedProcedure
+geo = procedure 1 (Ty.UInt ∷ []) (Ty.Bool ∷ Ty.Bool ∷ []) (Form.number (finite halfʳ)) (Form.variable 0) (Act.set 0 (Term.number (number 0)) place ∷ Act.set 1 (truth true) place ∷ Act.loop (head 1 (Cond.flag 1)) (acts (Act.draw 2 ((halfʳ, truth true) ∷ (halfʳ, truth false) ∷ []) place ∷ Act.ifs (Arms.arm (Cond.flag 2) (acts (Act.set 1 (truth false) place ∷ [])) Arms.no_arm) (acts (Act.set 0 (plus_one 0) place ∷ [])) place ∷ [])) ∷ []) ∷ []
+
+abbrev geo_start : List Val
+geo_start = Num (ratio (pos 0) 1) ∷ Truth false ∷ Truth false ∷ []
+
+-- Runs end at 7 and 11 with 0 and 1.
+geo_sums : (sum_after geo geo_start 7 ≡ Some (pos 0, 1)) × (sum_after geo geo_start 10 ≡ Some (pos 0, 1)) × (sum_after geo geo_start 11 ≡ Some (pos 1, 4))
+unfolding merged_onto joined scaled halfʳ ratio gcd gcd_steps zeroʳ oneʳ zeroᵛ oneᵛ ◌+ʳ◌ ◌*ʳ◌ ◌-ʳ◌ ◌+ᵛ◌ ◌*ᵛ◌ infinite_times is_zeroʳ leqʳ leqᵛ compareʳ exact_sum sum_fits exact_product product_fits exact_order order_fits
+geo_sums = (refl, refl, refl)
+
+-- ---- Numbers that don't fit: the greatest number of 127 bits, plus 1
+
+abbrev wide : Form
+wide = Form.sum (number 170141183460469231731687303715884105727) (number 1)
+
+-- As the pre, it stops the search at once; as the second reward, it stops the second step.
+wide_pre : StopsAt (unrolled_in pays 0 [] []) (exact_value wide []) 9 0 (Unrolling.stopped Bits 1)
+unfolding halfʳ ratio gcd gcd_steps zeroʳ oneʳ zeroᵛ oneᵛ ◌+ʳ◌ ◌*ʳ◌ exact_sum sum_fits
+wide_pre = by_number (omega arith) (no_pre refl) refl
+
+abbrev wide_pays : List TypedProcedure
+wide_pays = procedure 0 [] [] (number 1) (number 0) (Act.reward (number 1) place ∷ Act.reward wide place ∷ []) ∷ []
+
+wide_step : StopsAt (unrolled_in wide_pays 0 [] []) (Some (whole 1)) 9 2 (Unrolling.stopped Bits 2)
+unfolding merged_onto joined scaled halfʳ ratio gcd gcd_steps zeroʳ oneʳ zeroᵛ oneᵛ ◌+ʳ◌ ◌*ʳ◌ ◌-ʳ◌ ◌+ᵛ◌ ◌*ᵛ◌ infinite_times is_zeroʳ leqʳ leqᵛ compareʳ exact_sum sum_fits exact_product product_fits exact_order order_fits
+wide_step = by_step Bits (whole 1) (omega arith) (omega arith) refl refl refl (whole 1, (refl, record { holds = refl }))

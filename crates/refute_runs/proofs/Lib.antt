@@ -1,0 +1,4 @@
+mod Stops
+mod Seen
+mod OfRuns
+mod Examples

@@ -1,0 +1,82 @@
+-- What probes see, and the answers that a search makes of it.
+use Rattle.std.proofs.Common.{◌≡◌, ◌<◌, ◌≤◌, ◌+◌, ℕ, refl, sym, ap, subst, ◌∙◌, arith, List, ◌⊎◌, inl, inr}
+use Rattle.std.specs.Prelude.{Option, Some, None}
+use Prim.Native.Nat.{zero, suc}
+use Rattle.heyvl_num.specs.Extended.{value_of}
+use Rattle.heyvl_num.specs.Value.{Value}
+use Rattle.heyvl_acts.specs.Acts.{TypedProcedure}
+use Rattle.refute_runs.specs.RefutedAnswers.{MayCome, StopsAt}
+use Rattle.refute_runs.specs.RefutedAnswers.StopsAt as stops
+use Rattle.refute_runs.specs.Shortages.IsShort.{final_adding}
+use Rattle.refute_runs.specs.Shortages.{IsShort}
+use Rattle.refute_runs.specs.SumsAfter.{IsWithinBefore, Unrollings, together, unrolled_from}
+use Rattle.refute_runs.specs.declared.answers.Refuted.TheVariants.{Stopped, Violation, Within}
+use Rattle.refute_runs.specs.declared.answers.Refuted.{Refuted}
+use Rattle.refute_runs.specs.internal.Probes.IsBarred as barred
+use Rattle.refute_runs.specs.internal.Probes.{EndsAt, IsBarred, IsCandidate, IsLeast}
+use Rattle.refute_runs.proofs.Stops.{final, named_at, named_on}
+use Rattle.run_machine.specs.Names.{Stored}
+use Rattle.run_machine.specs.declared.configurations.Decide.{Decide}
+use Rattle.run_unroller.specs.Unrolling.{Unrolling, unrolling_of}
+use Rattle.run_unroller.specs.declared.answers.Unrolled.{Unrolled}
+use Rattle.run_unroller.specs.declared.causes.Cause.TheVariants.{Bits}
+use Rattle.run_unroller.specs.declared.causes.Cause.{Cause}
+
+-- After n steps a number is short.
+pub short_ends : (us : Unrollings) (bound : Value) (n : ℕ) (answer : Unrolled) → IsShort us (Some bound) n → unrolling_of answer ≡ Unrolling.stopped Bits (n + 1) → EndsAt us bound n n (Stopped n answer)
+short_ends us bound n answer short is = record { few = omega arith; candidate = (refl, barred.by_number short is); empty = λ k l m. absurd (omega (arith, l, m)) }
+
+module _ (ps : List TypedProcedure) (p : ℕ) (c : Stored) (script : List Decide) (bound : Value) where
+  -- A step that is stopped among n.
+  pub step_ends : (n s : ℕ) (cause : Cause) (answer : Unrolled) → s ≤ n → unrolling_of answer ≡ Unrolling.stopped cause s → unrolling_of answer ≡ unrolled_from ps p c script n → EndsAt (unrolled_from ps p c script) bound n s (Stopped s answer)
+  step_ends n s cause answer few is given =
+      let at = named_at ps p c script n s cause few (sym given ∙ is) in
+      record {
+        few = few;
+        candidate = (refl, barred.by_step cause at.0 at.1 is);
+        empty = λ k l m. ap together (named_on ps p c script s k cause l at.1);
+      }
+
+  -- The final adding after n.
+  pub adding_ends : (n s : ℕ) (cause : Cause) (answer : Unrolled) → n < s → unrolling_of answer ≡ Unrolling.stopped cause s → unrolling_of answer ≡ unrolled_from ps p c script n → EndsAt (unrolled_from ps p c script) bound n n (Stopped n answer)
+  adding_ends n s cause answer more is given =
+      let h = final ps p c script n s cause more (sym given ∙ is) in
+      let bits : unrolling_of answer ≡ Unrolling.stopped Bits (n + 1) = is ∙ ap (λ a. Unrolling.stopped a s) h.0 ∙ ap (Unrolling.stopped Bits) h.1 in
+      short_ends (unrolled_from ps p c script) bound n answer (final_adding (sym given ∙ bits)) bits
+
+-- The search goes on between sums that aren't above and what ends it.
+pub not_below : (us : Unrollings) (bound : Value) (low n t : ℕ) (answer : Refuted) → IsWithinBefore us bound low → low ≤ n → EndsAt us bound n t answer → low ≤ t
+not_below us bound zero n t answer before l h = omega arith
+not_below us bound (suc k) n t answer before l h = go (less k t)
+  where
+    less : (a b : ℕ) → (a < b) ⊎ (b ≤ a)
+    less a b = omega arith
+
+    go : (k < t) ⊎ (t ≤ k) → suc k ≤ t
+    go (inl m) = omega (arith, m)
+    go (inr m) = absurd (let none : None ≡ Some before.0 = sym (h.empty k m (omega (arith, l))) ∙ before.1.0 in cc)
+
+-- The answer at the end of a search.
+pub comes : (us : Unrollings) (bound : Value) (m n : ℕ) (answer : Refuted) → IsLeast us bound m answer → m ≤ n → MayCome us (Some bound) n answer
+comes us bound m n (Violation s sum b) h l =
+    let is = h.candidate.0 in
+    let few = h.few in
+    record {
+      steps = omega (arith, is, few, l);
+      given = ap Some (sym h.candidate.1.1);
+      summed = subst (λ k. together (us k) ≡ Some (value_of sum)) (sym is) h.candidate.1.0.0;
+      above = rw h.candidate.1.1 h.candidate.1.0.1;
+      before = rw h.candidate.1.1 (subst (IsWithinBefore us bound) (sym is) h.before);
+    }
+comes us bound m n (Within sum b) h l = absurd h.candidate
+comes us bound m n (Stopped s answer) h l = go (subst (λ k. IsBarred us bound k (unrolling_of answer)) (sym is) h.candidate.1)
+  where
+    is : s ≡ h.steps
+    is = h.candidate.0
+
+    few : s ≤ n
+    few = let k = h.few in let e = is in omega (arith, k, e, l)
+
+    go : IsBarred us bound s (unrolling_of answer) → StopsAt us (Some bound) n s (unrolling_of answer)
+    go (barred.by_step cause one given same) = stops.by_step cause bound one few given (same ∙ sym given) refl (subst (IsWithinBefore us bound) (sym is) h.before)
+    go (barred.by_number short same) = stops.by_number few short same
