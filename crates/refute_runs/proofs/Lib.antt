@@ -1,3 +1,4 @@
+mod Procedures
 mod Stops
 mod Seen
 mod OfRuns

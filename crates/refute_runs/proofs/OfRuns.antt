@@ -1,6 +1,7 @@
 -- What the answers of a search say of the runs.
 use Rattle.std.proofs.Common.{◌≡◌, ◌<◌, ◌≤◌, ◌+◌, ℕ, refl, sym, ap, subst, ◌∙◌, arith, true, List, ◌⊎◌, inl, inr}
-use Rattle.std.specs.Prelude.{Option, Some, None}
+use Rattle.std.proofs.lemmas.Bool.{cases_lt}
+use Rattle.std.specs.Prelude.{IfSome, Option, Some, None}
 use Prim.Native.Nat.{zero, suc}
 use Rattle.heyvl_num.proofs.exported.Exactness.{exact_sumᵛ_some}
 use Rattle.heyvl_num.proofs.exported.Values.{<ᵛ-not, ≤ᵛ_trans}
@@ -56,10 +57,6 @@ gives_none (Unrolling.stopped c k) cause s e g = g
 same_bound : (a b : Value) → Some a ≡ Some b → a ≡ b
 same_bound a b e = cc
 
--- A number is below another or not.
-less : (a b : ℕ) → (a < b) ⊎ (b ≤ a)
-less a b = omega arith
-
 module _ (sums : UnrolledSumsAreMeant) (grow : ScriptedSumsGrow) (values : ExactValuesAreMeant) (ps : List TypedProcedure) (p : ℕ) (rules : Each (MeetsRules ps) ps) (programs : ReachesPrograms ps p) (state : List Val) (typed : IsState (procedure_at ps p) state) (script : List Decide) where
   abbrev us : Unrollings
   us = unrolled_in ps p state script
@@ -74,7 +71,7 @@ module _ (sums : UnrolledSumsAreMeant) (grow : ScriptedSumsGrow) (values : Exact
       exact_sumᵛ_some h.totals.reward h.totals.post sum (sym h.fits) ∙ sym (sums ps p rules programs state typed script s h.totals h.is).upper
 
   pre_is : (bound : Value) → pre ≡ Some bound → bound ≡ pre_in ps p state
-  pre_is bound e = rw e at (values (procedure_at ps p).pre state)
+  pre_is bound e = subst (λ o. IfSome o (λ x. x ≡ pre_in ps p state)) e (values (procedure_at ps p).pre state)
 
   -- So sums that are given do not fall.
   grows : (s m : ℕ) (v w : Value) → s ≤ m → IsSum us s v → IsSum us m w → v ≤ᵛ w
@@ -98,7 +95,7 @@ module _ (sums : UnrolledSumsAreMeant) (grow : ScriptedSumsGrow) (values : Exact
   decided n (Stopped s answer) (stops.by_step cause bound one few is same given before) fit = (none, λ g. gives_none (us n) cause s (named_on ps p (stored_begin ps p state) script s n cause few is) g)
     where
       none : Passes us pre n → ⊥
-      none k = go (less k.steps s)
+      none k = go (cases_lt k.steps s)
         where
           above : IsAbove us bound k.steps
           above = subst (λ b. IsAbove us b k.steps) (same_bound k.bound bound (sym k.given ∙ given)) k.above
@@ -133,6 +130,6 @@ module _ (sums : UnrolledSumsAreMeant) (grow : ScriptedSumsGrow) (values : Exact
   violation refute co n (Stopped s answer) h = tt
 
   pub numbers : (n : ℕ) (answer : Refuted) → MayCome us pre n answer → NumbersAreOfRuns ps p state script n answer
-  numbers n (Violation s sum bound) h = record { sum = sum_is s (value_of sum) h.summed; pre = pre_is (value_of bound) h.given }
-  numbers n (Within sum bound) h = (record { sum = sum_is n (value_of sum) h.summed; pre = pre_is (value_of bound) h.given }, λ k l. stay k (suc n) (value_of bound) (omega (arith, l)) h.given (value_of sum, (h.summed, h.within)))
+  numbers n (Violation s sum bound) h = record { is_sum = sum_is s (value_of sum) h.summed; is_pre = pre_is (value_of bound) h.given }
+  numbers n (Within sum bound) h = (record { is_sum = sum_is n (value_of sum) h.summed; is_pre = pre_is (value_of bound) h.given }, λ k l. stay k (suc n) (value_of bound) (omega (arith, l)) h.given (value_of sum, (h.summed, h.within)))
   numbers n (Stopped s answer) h = tt

@@ -1,5 +1,6 @@
 -- What probes see, and the answers that a search makes of it.
 use Rattle.std.proofs.Common.{◌≡◌, ◌<◌, ◌≤◌, ◌+◌, ℕ, refl, sym, ap, subst, ◌∙◌, arith, List, ◌⊎◌, inl, inr}
+use Rattle.std.proofs.lemmas.Bool.{cases_lt}
 use Rattle.std.specs.Prelude.{Option, Some, None}
 use Prim.Native.Nat.{zero, suc}
 use Rattle.heyvl_num.specs.Extended.{value_of}
@@ -47,11 +48,8 @@ module _ (ps : List TypedProcedure) (p : ℕ) (c : Stored) (script : List Decide
 -- The search goes on between sums that aren't above and what ends it.
 pub not_below : (us : Unrollings) (bound : Value) (low n t : ℕ) (answer : Refuted) → IsWithinBefore us bound low → low ≤ n → EndsAt us bound n t answer → low ≤ t
 not_below us bound zero n t answer before l h = omega arith
-not_below us bound (suc k) n t answer before l h = go (less k t)
+not_below us bound (suc k) n t answer before l h = go (cases_lt k t)
   where
-    less : (a b : ℕ) → (a < b) ⊎ (b ≤ a)
-    less a b = omega arith
-
     go : (k < t) ⊎ (t ≤ k) → suc k ≤ t
     go (inl m) = omega (arith, m)
     go (inr m) = absurd (let none : None ≡ Some before.0 = sym (h.empty k m (omega (arith, l))) ∙ before.1.0 in cc)

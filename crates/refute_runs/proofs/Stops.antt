@@ -36,14 +36,14 @@ module _ (ps : List TypedProcedure) (script : List Decide) (rs : RunList) where
       ap (λ n. first_stop ps script n rs) (let e : m + suc k ≡ suc (m + k) = omega arith in e)
       ∙ ap (λ o. or_else o (at_step (suc (m + k)) (step_cause ps script (after ps script (m + k) rs)))) (stays stop m k h)
 
-  first : (n : ℕ) (cause : Cause) (s : ℕ) → first_stop ps script n rs ≡ Some (cause, s) → IsFirst ps script rs n cause s
-  first zero cause s e = absurd (cc)
-  first (suc n) cause s e = go (first_stop ps script n rs) refl (step_cause ps script (after ps script n rs)) refl
+  first_of : (n : ℕ) (cause : Cause) (s : ℕ) → first_stop ps script n rs ≡ Some (cause, s) → IsFirst ps script rs n cause s
+  first_of zero cause s e = absurd (cc)
+  first_of (suc n) cause s e = go (first_stop ps script n rs) refl (step_cause ps script (after ps script n rs)) refl
     where
       go : (o : Option (Cause × ℕ)) → first_stop ps script n rs ≡ o → (q : Option Cause) → step_cause ps script (after ps script n rs) ≡ q → IsFirst ps script rs (suc n) cause s
       go (Some stop) h q k =
           let is : stop ≡ (cause, s) = some_is stop (cause, s) (sym (ap (λ o. or_else o (at_step (suc n) (step_cause ps script (after ps script n rs)))) h) ∙ e) in
-          let ih = first n cause s (h ∙ ap Some is) in
+          let ih = first_of n cause s (h ∙ ap Some is) in
           record { from = ih.from; few = (let l = ih.few in omega (arith, l)); first = ih.first }
       go None h (Some c) k =
           let now : first_stop ps script (suc n) rs ≡ Some (c, suc n) = ap₂ (λ o q. or_else o (at_step (suc n) q)) h k in
@@ -83,7 +83,7 @@ module _ (ps : List TypedProcedure) (p : ℕ) (c : Stored) (script : List Decide
     where
       go : ((cause ≡ Bits) × (s ≡ n + 1)) ⊎ (first_stop ps script n (begun c) ≡ Some (cause, s)) → (1 ≤ s) × (unrolled_from ps p c script s ≡ Unrolling.stopped cause s)
       go (inl h) = absurd (let k = h.1 in omega (arith, l, k))
-      go (inr h) = let f = first ps script (begun c) n cause s h in (f.from, ap (λ o. answer s o (totals (procedure_at ps p) (after ps script s (begun c)))) f.first)
+      go (inr h) = let f = first_of ps script (begun c) n cause s h in (f.from, ap (λ o. answer s o (totals (procedure_at ps p) (after ps script s (begun c)))) f.first)
 
   -- One that isn't among them is the final adding.
   pub final : (n s : ℕ) (cause : Cause) → n < s → unrolled_from ps p c script n ≡ Unrolling.stopped cause s → (cause ≡ Bits) × (s ≡ n + 1)
@@ -91,7 +91,7 @@ module _ (ps : List TypedProcedure) (p : ℕ) (c : Stored) (script : List Decide
     where
       go : ((cause ≡ Bits) × (s ≡ n + 1)) ⊎ (first_stop ps script n (begun c) ≡ Some (cause, s)) → (cause ≡ Bits) × (s ≡ n + 1)
       go (inl h) = h
-      go (inr h) = absurd (let f = first ps script (begun c) n cause s h in let k = f.few in omega (arith, l, k))
+      go (inr h) = absurd (let f = first_of ps script (begun c) n cause s h in let k = f.few in omega (arith, l, k))
 
   -- A step that is stopped by another cause is among them.
   pub of_a_step : (n s : ℕ) (cause : Cause) → (cause ≡ Bits → ⊥) → unrolled_from ps p c script n ≡ Unrolling.stopped cause s → s ≤ n
@@ -99,4 +99,4 @@ module _ (ps : List TypedProcedure) (p : ℕ) (c : Stored) (script : List Decide
     where
       go : ((cause ≡ Bits) × (s ≡ n + 1)) ⊎ (first_stop ps script n (begun c) ≡ Some (cause, s)) → s ≤ n
       go (inl h) = absurd (other h.0)
-      go (inr h) = (first ps script (begun c) n cause s h).few
+      go (inr h) = (first_of ps script (begun c) n cause s h).few

@@ -23,5 +23,5 @@ pre_in ps p state = value (procedure_at ps p).pre (environment state) Choices.st
 
 -- These numbers are the sum after so many steps and the pre.
 pub record AreOfRuns (ps : List TypedProcedure) (p : ℕ) (state : List Val) (script : List Decide) (s : ℕ) (sum bound : Value) : Type 0 where
-  pub sum : sum ≡ scripted_sum ps p state script s
-  pub pre : bound ≡ pre_in ps p state
+  pub is_sum : sum ≡ scripted_sum ps p state script s
+  pub is_pre : bound ≡ pre_in ps p state

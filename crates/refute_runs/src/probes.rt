@@ -46,7 +46,11 @@ pub(crate) fn probe(
         Unrolled::Sums(sums) => Ok(beside(&sums, pre, n)),
         Unrolled::Full(step) => Ok(until(step, Unrolled::Full(step))),
         Unrolled::Deep(step) => Ok(until(step, Unrolled::Deep(step))),
-        Unrolled::Bits(step) => Ok(until(step.min(n), Unrolled::Bits(step))),
+        Unrolled::Bits(step) => if step > n {
+            Ok(until(n, Unrolled::Bits(step)))
+        } else {
+            Ok(until(step, Unrolled::Bits(step)))
+        },
     }
 }
 

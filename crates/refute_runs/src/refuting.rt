@@ -17,7 +17,7 @@ use crate::answers::Refuted;
 use crate::searching::search;
 use heylo_formula::Val;
 use heyvl_acts::Typed;
-use heyvl_num::{Ext, Frac};
+use heyvl_num::Ext;
 use quant_algebra::{At, exact_values_are_meant, value_at};
 use run_laws::violations_refute;
 use run_machine::{Decide, begin};
@@ -83,7 +83,7 @@ fn pre_at(typed: &Typed, p: u32, state: &[Val]) -> Option<Ext>
     ensures { option_map value_of result ≡ exact_value (procedure_at (procedures_of typed.now) p).pre state.now }
 {
     match typed.procs.get(p as usize) {
-        None => Some(Ext::Fin(Frac::zero())),
+        None => Some(Ext::zero()),
         Some(procedure) => match value_at(&procedure.pre, state) {
             At::Value(value) => Some(value),
             At::Bits => None,
