@@ -1,14 +1,15 @@
 //! The search for a violation of a coproc's pre by the runs of a script.
 
-ghost use Rattle.std.specs.Prelude.{◌≡◌, ◌≤◌, IfOk, None, option_map, true};
+ghost use Rattle.std.specs.Prelude.{◌≡◌, ◌≤◌, IfOk, option_map, true};
 ghost use Rattle.heyvl_acts.specs.Acts.{procedure_at};
 ghost use Rattle.heyvl_acts.specs.PlainActs.{procedures_of};
 ghost use Rattle.heyvl_acts.specs.Rules.{MeetsAllRules};
 ghost use Rattle.heyvl_num.specs.Extended.{value_of};
 ghost use Rattle.quant_algebra.specs.ExactMeaning.{exact_value};
-ghost use Rattle.refute_runs.specs.RefutedAnswers.{IsRefutedAnswer, MayCome};
+ghost use Rattle.refute_runs.specs.RefutedAnswers.{IsRefutedAnswer};
 ghost use Rattle.refute_runs.specs.SumsAfter.{unrolled_in};
 ghost use Rattle.refute_runs.specs.Violations.{NumbersAreOfRuns, ViolationIsOfRuns};
+ghost use Rattle.refute_runs.specs.internal.Probes.{IsPossible};
 ghost use Rattle.run_machine.specs.Bound.{IsState};
 ghost use Rattle.run_machine.specs.ConfigConditions.{ReachesPrograms};
 ghost use Rattle.run_machine.specs.Names.{HasFewActs};
@@ -68,8 +69,7 @@ fn answer(
     requires programs { ReachesPrograms (procedures_of typed.now) p }
     requires state { IsState (procedure_at (procedures_of typed.now) p) state.now }
     requires steps { n ≤ 10000 }
-    ensures may { IfOk result (λ answer. MayCome (unrolled_in (procedures_of typed.now) p state.now script.now) (exact_value (procedure_at (procedures_of typed.now) p).pre state.now) n answer) }
-    ensures no_pre { exact_value (procedure_at (procedures_of typed.now) p).pre state.now ≡ None → IfOk result (λ answer. answer ≡ Refuted.Stopped 0 (Unrolled.Bits 1)) }
+    ensures { IfOk result (λ answer. IsPossible (unrolled_in (procedures_of typed.now) p state.now script.now) (exact_value (procedure_at (procedures_of typed.now) p).pre state.now) n answer) }
 {
     let Some(pre) = pre_at(typed, p, state) else {
         return Ok(Refuted::Stopped(0, Unrolled::Bits(1)));

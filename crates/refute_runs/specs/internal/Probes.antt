@@ -1,7 +1,8 @@
 -- What is seen of the sum after one number of steps, and what a search has found so far. Private functions alone need this.
-use Rattle.std.specs.Prelude.{◌≡◌, ◌≤◌, ◌<◌, ◌+◌, ℕ, None, Some}
+use Rattle.std.specs.Prelude.{◌≡◌, ◌≤◌, ◌<◌, ◌+◌, ℕ, None, Option, Some}
 use Rattle.heyvl_num.specs.Extended.{value_of}
 use Rattle.heyvl_num.specs.Value.{Value, ◌≤ᵛ◌, ◌<ᵛ◌}
+use Rattle.refute_runs.specs.RefutedAnswers.{MayCome}
 use Rattle.refute_runs.specs.Shortages.{IsShort}
 use Rattle.refute_runs.specs.SumsAfter.{IsSum, IsWithinBefore, Unrollings, together}
 use Rattle.refute_runs.specs.declared.answers.Refuted.TheVariants.{Stopped, Violation, Within}
@@ -9,6 +10,7 @@ use Rattle.refute_runs.specs.declared.answers.Refuted.{Refuted}
 use Rattle.refute_runs.specs.declared.probes.Probe.TheVariants as probe
 use Rattle.refute_runs.specs.declared.probes.Probe.{Probe}
 use Rattle.run_unroller.specs.Unrolling.{Unrolling, unrolling_of}
+use Rattle.run_unroller.specs.declared.answers.Unrolled.TheVariants as unrolled
 use Rattle.run_unroller.specs.declared.causes.Cause.TheVariants.{Bits}
 use Rattle.run_unroller.specs.declared.causes.Cause.{Cause}
 
@@ -40,3 +42,8 @@ pub record IsLeast (us : Unrollings) (bound : Value) (n : ℕ) (answer : Refuted
   pub few : steps ≤ n
   pub candidate : IsCandidate us bound steps answer
   pub before : IsWithinBefore us bound steps
+
+-- An answer that may come, and the one that is given where the pre has no exact value.
+pub record IsPossible (us : Unrollings) (pre : Option Value) (n : ℕ) (answer : Refuted) : Type 0 where
+  pub may : MayCome us pre n answer
+  pub no_pre : pre ≡ None → answer ≡ Stopped 0 (unrolled.Bits 1)
