@@ -2,15 +2,21 @@
 use Rattle.std.proofs.Common.{◌≡◌, ◌<◌, ◌≤◌, ◌+◌, ℕ, refl, sym, ap, subst, ◌∙◌, arith, List, ◌⊎◌, inl, inr}
 use Rattle.std.proofs.lemmas.Bool.{cases_lt}
 use Rattle.std.specs.Prelude.{Option, Some, None}
+use Rattle.std.specs.declared.cmp.Ordering.{Ordering}
+use Rattle.std.specs.declared.cmp.Ordering.TheVariants.{Less, Equal, Greater}
 use Prim.Native.Nat.{zero, suc}
+use Rattle.heyvl_num.proofs.exported.Exactness.{orderᵛ_equal, orderᵛ_greater, orderᵛ_less}
+use Rattle.heyvl_num.proofs.exported.Values.{<ᵛ-≤ᵛ, ≤ᵛ_refl}
+use Rattle.heyvl_num.specs.ExactValues.{exact_orderᵛ, exact_sumᵛ}
 use Rattle.heyvl_num.specs.Extended.{value_of}
-use Rattle.heyvl_num.specs.Value.{Value}
+use Rattle.heyvl_num.specs.Value.{Value, ◌≤ᵛ◌, ◌<ᵛ◌}
+use Rattle.heyvl_num.specs.declared.extended.Ext.{Ext}
 use Rattle.heyvl_acts.specs.Acts.{TypedProcedure}
 use Rattle.refute_runs.specs.RefutedAnswers.{MayCome, StopsAt}
 use Rattle.refute_runs.specs.RefutedAnswers.StopsAt as stops
 use Rattle.refute_runs.specs.Shortages.IsShort.{final_adding}
 use Rattle.refute_runs.specs.Shortages.{IsShort}
-use Rattle.refute_runs.specs.SumsAfter.{IsWithinBefore, Unrollings, together, unrolled_from}
+use Rattle.refute_runs.specs.SumsAfter.{IsSum, IsWithinBefore, Unrollings, together, unrolled_from}
 use Rattle.refute_runs.specs.declared.answers.Refuted.TheVariants.{Stopped, Violation, Within}
 use Rattle.refute_runs.specs.declared.answers.Refuted.{Refuted}
 use Rattle.refute_runs.specs.internal.Probes.IsBarred as barred
@@ -18,10 +24,31 @@ use Rattle.refute_runs.specs.internal.Probes.{EndsAt, IsBarred, IsCandidate, IsL
 use Rattle.refute_runs.proofs.Stops.{final, named_at, named_on}
 use Rattle.run_machine.specs.Names.{Stored}
 use Rattle.run_machine.specs.declared.configurations.Decide.{Decide}
+use Rattle.run_unroller.specs.Totals.{Totals}
 use Rattle.run_unroller.specs.Unrolling.{Unrolling, unrolling_of}
 use Rattle.run_unroller.specs.declared.answers.Unrolled.{Unrolled}
 use Rattle.run_unroller.specs.declared.causes.Cause.TheVariants.{Bits}
 use Rattle.run_unroller.specs.declared.causes.Cause.{Cause}
+
+-- ---- The sum after n steps
+
+-- What the comparison of the bound with a sum says.
+pub above_less : (x y : Value) (o : Ordering) → Some o ≡ exact_orderᵛ x y → o ≡ Less → x <ᵛ y
+above_less x y o e f = record { holds = orderᵛ_less x y o e f }
+
+pub within_equal : (x y : Value) (o : Ordering) → Some o ≡ exact_orderᵛ x y → o ≡ Equal → y ≤ᵛ x
+within_equal x y o e f = subst (λ z. z ≤ᵛ x) (orderᵛ_equal x y o e f) (≤ᵛ_refl x)
+
+pub within_greater : (x y : Value) (o : Ordering) → Some o ≡ exact_orderᵛ x y → o ≡ Greater → y ≤ᵛ x
+within_greater x y o e f = <ᵛ-≤ᵛ y x (record { holds = orderᵛ_greater x y o e f })
+
+-- The sum that is given.
+pub sum_given : (us : Unrollings) (n : ℕ) (t : Totals) (v : Value) → us n ≡ Unrolling.sums t → Some v ≡ exact_sumᵛ t.reward t.post → IsSum us n v
+sum_given us n t v e h = ap together e ∙ sym h
+
+-- A sum above the bound ends the search there.
+pub above_ends : (us : Unrollings) (pre sum : Ext) (n : ℕ) → IsSum us n (value_of sum) → value_of pre <ᵛ value_of sum → EndsAt us (value_of pre) n n (Violation n sum pre)
+above_ends us pre sum n summed above = record { few = omega arith; candidate = (refl, ((summed, above), refl)); empty = λ k l m. absurd (omega (arith, l, m)) }
 
 -- After n steps a number is short.
 pub short_ends : (us : Unrollings) (bound : Value) (n : ℕ) (answer : Unrolled) → IsShort us (Some bound) n → unrolling_of answer ≡ Unrolling.stopped Bits (n + 1) → EndsAt us bound n n (Stopped n answer)

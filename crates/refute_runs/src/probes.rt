@@ -27,7 +27,7 @@ pub(crate) enum Probe {
 }
 
 /// Unrolls so many steps and holds the sum against the pre.
-pub(crate) fn probe(
+pub(crate) fn look_at(
     alloc: Global,
     typed: &Typed,
     p: u32,

@@ -11,7 +11,7 @@ ghost use Rattle.run_machine.specs.Names.{HasFewActs, stored};
 ghost use Rattle.run_unroller.specs.Unrolling.{Begins};
 
 use crate::answers::Refuted;
-use crate::probes::{Probe, probe};
+use crate::probes::{Probe, look_at};
 use heyvl_acts::Typed;
 use heyvl_num::Ext;
 use run_machine::{Config, Decide};
@@ -33,7 +33,7 @@ pub(crate) fn search(
     requires steps { n ≤ 10000 }
     ensures { IfOk result (λ answer. MayCome (unrolled_from (procedures_of typed.now) p (stored start.now) script.now) (Some (value_of pre.now)) n answer) }
 {
-    match probe(alloc, typed, p, start, script, pre, n)? {
+    match look_at(alloc, typed, p, start, script, pre, n)? {
         Probe::Within(sum) => Ok(Refuted::Within(sum, *pre)),
         Probe::Until(steps, answer) => {
             below(alloc, typed, p, start, script, pre, steps, answer)
@@ -64,7 +64,7 @@ fn below(
     let mut answer = found;
     while low < high {
         let middle = low + (high - low) / 2;
-        match probe(alloc, typed, p, start, script, pre, middle)? {
+        match look_at(alloc, typed, p, start, script, pre, middle)? {
             Probe::Within(_) => low = middle + 1,
             Probe::Until(fewer, better) => {
                 high = fewer;

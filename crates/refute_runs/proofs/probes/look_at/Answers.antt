@@ -5,7 +5,7 @@ use Rattle.refute_runs.specs.SumsAfter.{unrolled_from}
 use Rattle.refute_runs.specs.internal.Probes.{IsSeen}
 use Rattle.refute_runs.proofs.Seen.{adding_ends, step_ends}
 use Rattle.refute_runs.proofs.Stops.{of_a_step}
-use Rattle.refute_runs.proofs.probes.probe.Goals as goal
+use Rattle.refute_runs.proofs.probes.look_at.Goals as goal
 use Rattle.run_machine.specs.Names.{stored}
 use Rattle.run_unroller.specs.Unrolling.{Unrolling, unrolling_of}
 use Rattle.run_unroller.specs.declared.causes.Cause.TheVariants.{Bits, Deep, Full}
