@@ -7,14 +7,12 @@ use Rattle.heylo_formula.specs.declared.values.Val.{Val}
 use Rattle.heyvl_acts.specs.Acts.{TypedProcedure, procedure_at}
 use Rattle.quant_algebra.specs.ExactMeaning.{exact_value}
 use Rattle.refute_runs.specs.Shortages.{IsShort}
-use Rattle.refute_runs.specs.SumsAfter.{IsAbove, IsSum, IsWithinBefore, Unrollings, unrolled_in}
+use Rattle.refute_runs.specs.SumsAfter.{IsAbove, IsSum, IsWithinBefore, NamesStep, Unrollings, unrolled_in}
 use Rattle.refute_runs.specs.declared.answers.Refuted.TheVariants.{Stopped, Violation, Within}
 use Rattle.refute_runs.specs.declared.answers.Refuted.{Refuted}
 use Rattle.run_machine.specs.declared.configurations.Decide.{Decide}
 use Rattle.run_unroller.specs.Unrolling.{Unrolling, unrolling_of}
 use Rattle.run_unroller.specs.declared.answers.Unrolled.TheVariants as unrolled
-use Rattle.run_unroller.specs.declared.causes.Cause.TheVariants.{Bits}
-use Rattle.run_unroller.specs.declared.causes.Cause.{Cause}
 
 -- ---- Which answers may come, of at most n steps
 
@@ -34,8 +32,8 @@ pub record StaysWithin (us : Unrollings) (pre : Option Value) (n : ℕ) (sum bou
 
 -- Step s is stopped, and before it the sum isn't above the pre; or after s steps a number doesn't fit, which counts as one step more.
 pub data StopsAt (us : Unrollings) (pre : Option Value) (n s : ℕ) (answer : Unrolling) : Type 0 where
-  by_step : (cause : Cause) (bound : Value) → 1 ≤ s → s ≤ n → us s ≡ Unrolling.stopped cause s → answer ≡ us s → pre ≡ Some bound → IsWithinBefore us bound s → StopsAt us pre n s answer
-  by_number : s ≤ n → IsShort us pre s → answer ≡ Unrolling.stopped Bits (s + 1) → StopsAt us pre n s answer
+  by_step : (bound : Value) → 1 ≤ s → s ≤ n → NamesStep (us s) s → answer ≡ us s → pre ≡ Some bound → IsWithinBefore us bound s → StopsAt us pre n s answer
+  by_number : s ≤ n → IsShort us pre s → answer ≡ unrolling_of (unrolled.Bits (s + 1)) → StopsAt us pre n s answer
 
 -- The answer may come.
 abbrev pub MayCome : Unrollings → Option Value → ℕ → Refuted → Type 0

@@ -45,3 +45,8 @@ IsWithin us bound s = (sum : Value) × (IsSum us s sum × (sum ≤ᵛ bound))
 abbrev pub IsWithinBefore : Unrollings → Value → ℕ → Type 0
 IsWithinBefore us bound zero = Unit {0}
 IsWithinBefore us bound (suc s) = IsWithin us bound s
+
+-- What unrolling gives is a stop, and the step that it names is this one.
+abbrev pub NamesStep : Unrolling → ℕ → Type 0
+NamesStep (Unrolling.sums t) s = ⊥
+NamesStep (Unrolling.stopped cause step) s = step ≡ s

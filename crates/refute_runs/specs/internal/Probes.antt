@@ -4,20 +4,18 @@ use Rattle.heyvl_num.specs.Extended.{value_of}
 use Rattle.heyvl_num.specs.Value.{Value, ◌≤ᵛ◌, ◌<ᵛ◌}
 use Rattle.refute_runs.specs.RefutedAnswers.{MayCome}
 use Rattle.refute_runs.specs.Shortages.{IsShort}
-use Rattle.refute_runs.specs.SumsAfter.{IsSum, IsWithinBefore, Unrollings, together}
+use Rattle.refute_runs.specs.SumsAfter.{IsSum, IsWithinBefore, NamesStep, Unrollings, together}
 use Rattle.refute_runs.specs.declared.answers.Refuted.TheVariants.{Stopped, Violation, Within}
 use Rattle.refute_runs.specs.declared.answers.Refuted.{Refuted}
 use Rattle.refute_runs.specs.declared.probes.Probe.TheVariants as probe
 use Rattle.refute_runs.specs.declared.probes.Probe.{Probe}
 use Rattle.run_unroller.specs.Unrolling.{Unrolling, unrolling_of}
 use Rattle.run_unroller.specs.declared.answers.Unrolled.TheVariants as unrolled
-use Rattle.run_unroller.specs.declared.causes.Cause.TheVariants.{Bits}
-use Rattle.run_unroller.specs.declared.causes.Cause.{Cause}
 
 -- Step s is stopped, or after s steps a number doesn't fit.
 pub data IsBarred (us : Unrollings) (bound : Value) (s : ℕ) (answer : Unrolling) : Type 0 where
-  by_step : (cause : Cause) → 1 ≤ s → us s ≡ Unrolling.stopped cause s → answer ≡ Unrolling.stopped cause s → IsBarred us bound s answer
-  by_number : IsShort us (Some bound) s → answer ≡ Unrolling.stopped Bits (s + 1) → IsBarred us bound s answer
+  by_step : 1 ≤ s → NamesStep (us s) s → answer ≡ us s → IsBarred us bound s answer
+  by_number : IsShort us (Some bound) s → answer ≡ unrolling_of (unrolled.Bits (s + 1)) → IsBarred us bound s answer
 
 -- The answer would be right, if the sum isn't above the bound with one step fewer.
 abbrev pub IsCandidate : Unrollings → Value → ℕ → Refuted → Type 0
