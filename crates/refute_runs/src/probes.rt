@@ -1,6 +1,6 @@
 //! The sum after one number of steps, held against the pre.
 
-ghost use Rattle.std.specs.Prelude.{◌≡◌, ◌≤◌, IfOk, ℕ};
+ghost use Rattle.std.specs.Prelude.{◌≡◌, ◌≤◌, IfOk, min, ℕ};
 ghost use Rattle.heyvl_acts.specs.PlainActs.{procedures_of};
 ghost use Rattle.heyvl_acts.specs.Rules.{MeetsAllRules};
 ghost use Rattle.heyvl_num.specs.Extended.{value_of};
@@ -44,17 +44,20 @@ pub(crate) fn look_at(
 {
     match unroll(alloc, typed, p, start, script, n)? {
         Unrolled::Sums(sums) => Ok(beside(&sums, pre, n)),
-        Unrolled::Full(step) => Ok(until(step, Unrolled::Full(step))),
-        Unrolled::Deep(step) => Ok(until(step, Unrolled::Deep(step))),
-        Unrolled::Bits(step) => if step > n {
-            Ok(until(n, Unrolled::Bits(step)))
-        } else {
-            Ok(until(step, Unrolled::Bits(step)))
-        },
+        Unrolled::Full(step) => Ok(stopped(step, n, Unrolled::Full(step))),
+        Unrolled::Deep(step) => Ok(stopped(step, n, Unrolled::Deep(step))),
+        Unrolled::Bits(step) => Ok(stopped(step, n, Unrolled::Bits(step))),
     }
 }
 
-/// The answer that so many steps are stopped.
+/// The answer where this step is stopped, or the final adding after n steps, which counts as one step more.
+fn stopped(step: u32, n: u32, answer: Unrolled) -> Probe
+    ensures { result ≡ Probe.Until (min step n) (Refuted.Stopped (min step n) answer) }
+{
+    if step > n { until(n, answer) } else { until(step, answer) }
+}
+
+/// The search goes on below so many steps, with this answer if nothing there is one.
 fn until(steps: u32, answer: Unrolled) -> Probe
     ensures { result ≡ Probe.Until steps (Refuted.Stopped steps answer) }
 {
