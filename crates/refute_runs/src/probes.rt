@@ -54,7 +54,11 @@ pub(crate) fn look_at(
 fn stopped(step: u32, n: u32, answer: Unrolled) -> Probe
     ensures { result ≡ Probe.Until (min step n) (Refuted.Stopped (min step n) answer) }
 {
-    if step > n { until(n, answer) } else { until(step, answer) }
+    if step > n {
+        until(n, answer)
+    } else {
+        until(step, answer)
+    }
 }
 
 /// The search goes on below so many steps, with this answer if nothing there is one.

@@ -35,9 +35,7 @@ pub(crate) fn search(
 {
     match look_at(alloc, typed, p, start, script, pre, n)? {
         Probe::Within(sum) => Ok(Refuted::Within(sum, *pre)),
-        Probe::Until(steps, answer) => {
-            below(alloc, typed, p, start, script, pre, steps, answer)
-        }
+        Probe::Until(steps, answer) => { below(alloc, typed, p, start, script, pre, steps, answer) }
     }
 }
 
