@@ -19,8 +19,8 @@ use Rattle.refute_runs.specs.RefutedAnswers.StopsAt.{by_number, by_step}
 use Rattle.refute_runs.specs.Shortages.IsShort.{no_pre}
 use Rattle.refute_runs.specs.SumsAfter.{Unrollings, together, unrolled_in}
 use Rattle.run_unroller.specs.MergedLists.{merged_onto}
-use Rattle.run_unroller.specs.Unrolling.{Unrolling}
-use Rattle.run_unroller.specs.declared.causes.Cause.TheVariants.{Bits}
+use Rattle.run_unroller.specs.Unrolling.{unrolling_of}
+use Rattle.run_unroller.specs.declared.answers.Unrolled.TheVariants as unrolled
 
 -- The numerator and the denominator of a value; 1 and 0 for infinity.
 abbrev parts : Value → ℤ × ℕ
@@ -98,13 +98,13 @@ abbrev wide : Form
 wide = Form.sum (number 170141183460469231731687303715884105727) (number 1)
 
 -- As the pre, it stops the search at once; as the second reward, it stops the second step.
-wide_pre : StopsAt (unrolled_in pays 0 [] []) (exact_value wide []) 9 0 (Unrolling.stopped Bits 1)
+wide_pre : StopsAt (unrolled_in pays 0 [] []) (exact_value wide []) 9 0 (unrolling_of (unrolled.Bits 1))
 unfolding halfʳ ratio gcd gcd_steps zeroʳ oneʳ zeroᵛ oneᵛ ◌+ʳ◌ ◌*ʳ◌ exact_sum sum_fits
 wide_pre = by_number (omega arith) (no_pre refl) refl
 
 abbrev wide_pays : List TypedProcedure
 wide_pays = procedure 0 [] [] (number 1) (number 0) (Act.reward (number 1) place ∷ Act.reward wide place ∷ []) ∷ []
 
-wide_step : StopsAt (unrolled_in wide_pays 0 [] []) (Some (whole 1)) 9 2 (Unrolling.stopped Bits 2)
+wide_step : StopsAt (unrolled_in wide_pays 0 [] []) (Some (whole 1)) 9 2 (unrolling_of (unrolled.Bits 2))
 unfolding merged_onto joined scaled halfʳ ratio gcd gcd_steps zeroʳ oneʳ zeroᵛ oneᵛ ◌+ʳ◌ ◌*ʳ◌ ◌-ʳ◌ ◌+ᵛ◌ ◌*ᵛ◌ infinite_times is_zeroʳ leqʳ leqᵛ compareʳ exact_sum sum_fits exact_product product_fits exact_order order_fits
-wide_step = by_step Bits (whole 1) (omega arith) (omega arith) refl refl refl (whole 1, (refl, record { holds = refl }))
+wide_step = by_step (whole 1) (omega arith) (omega arith) refl refl refl (whole 1, (refl, record { holds = refl }))

@@ -13,15 +13,14 @@ use Rattle.heyvl_acts.specs.Acts.{TypedProcedure, procedure_at}
 use Rattle.heyvl_acts.specs.Rules.{Each, MeetsRules}
 use Rattle.quant_algebra.specs.ExactMeaning.{exact_value}
 use Rattle.quant_algebra.specs.Laws.{ExactValuesAreMeant}
-use Rattle.refute_runs.specs.RefutedAnswers.{GivesSums, IsDecided, IsRefutedAnswer, MayCome, Passes, PassesAt}
-use Rattle.refute_runs.specs.RefutedAnswers.StopsAt as stops
+use Rattle.refute_runs.specs.RefutedAnswers.{GivesSums, IsDecided, IsRefutedAnswer, MayCome, Passes, StopsAt}
 use Rattle.refute_runs.specs.ScriptedSums.{pre_in, scripted_sum}
 use Rattle.refute_runs.specs.Shortages.{IsShort}
 use Rattle.refute_runs.specs.SumsAfter.{IsAbove, IsSum, IsWithinBefore, Unrollings, together, unrolled_in}
 use Rattle.refute_runs.specs.Violations.{IsViolation, NumbersAreOfRuns, ViolationIsOfRuns}
 use Rattle.refute_runs.specs.declared.answers.Refuted.TheVariants.{Stopped, Violation, Within}
 use Rattle.refute_runs.specs.declared.answers.Refuted.{Refuted}
-use Rattle.refute_runs.proofs.Stops.{named_on}
+use Rattle.refute_runs.proofs.Stops.{names_no_sums, steps_named}
 use Rattle.run_laws.specs.Violations.{ViolationsRefute}
 use Rattle.run_machine.specs.Bound.{IsState}
 use Rattle.run_machine.specs.ConfigConditions.{ReachesPrograms}
@@ -34,7 +33,6 @@ use Rattle.run_unroller.specs.Totals.{Totals}
 use Rattle.run_unroller.specs.UnrollLaws.{UnrolledSumsAreMeant}
 use Rattle.run_unroller.specs.Unrolling.{Unrolling}
 use Rattle.run_unroller.specs.declared.answers.Unrolled.TheVariants as unrolled
-use Rattle.run_unroller.specs.declared.causes.Cause.{Cause}
 
 -- A number that is given comes of sums.
 record ComesOf (u : Unrolling) (sum : Value) : Type 0 where
@@ -49,10 +47,6 @@ comes_of (Unrolling.stopped cause step) sum e = absurd (cc)
 gives : (u : Unrolling) (sum : Value) → together u ≡ Some sum → GivesSums u
 gives (Unrolling.sums t) sum e = tt
 gives (Unrolling.stopped cause step) sum e = absurd (cc)
-
-gives_none : (u : Unrolling) (cause : Cause) (s : ℕ) → u ≡ Unrolling.stopped cause s → GivesSums u → ⊥
-gives_none (Unrolling.sums t) cause s e g = cc
-gives_none (Unrolling.stopped c k) cause s e g = g
 
 same_bound : (a b : Value) → Some a ≡ Some b → a ≡ b
 same_bound a b e = cc
@@ -91,9 +85,12 @@ module _ (sums : UnrolledSumsAreMeant) (grow : ScriptedSumsGrow) (values : Exact
       none k =
           let is : k.bound ≡ value_of bound = same_bound k.bound (value_of bound) (sym k.given ∙ h.given) in
           none_above k.steps (suc n) (value_of bound) (let l = k.few in omega (arith, l)) (value_of sum, (h.summed, h.within)) (subst (λ b. IsAbove us b k.steps) is k.above)
-  decided n (Stopped s answer) (stops.by_number few short same) fit = absurd (fit s few short)
-  decided n (Stopped s answer) (stops.by_step cause bound one few is same given before) fit = (none, λ g. gives_none (us n) cause s (named_on ps p (stored_begin ps p state) script s n cause few is) g)
+  decided n (Stopped s answer) (StopsAt.by_number few short same) fit = absurd (fit s few short)
+  decided n (Stopped s answer) (StopsAt.by_step bound one few names same given before) fit = (none, no_sums n few)
     where
+      no_sums : (k : ℕ) → s ≤ k → GivesSums (us k) → ⊥
+      no_sums k l g = names_no_sums (us s) s names (subst GivesSums ((steps_named ps p (stored_begin ps p state) script).stays s k l names) g)
+
       none : Passes us pre n → ⊥
       none k = go (cases_lt k.steps s)
         where
@@ -102,7 +99,7 @@ module _ (sums : UnrolledSumsAreMeant) (grow : ScriptedSumsGrow) (values : Exact
 
           go : (k.steps < s) ⊎ (s ≤ k.steps) → ⊥
           go (inl l) = none_above k.steps s bound l before above
-          go (inr l) = gives_none (us k.steps) cause s (named_on ps p (stored_begin ps p state) script s k.steps cause l is) (gives (us k.steps) above.0 above.1.0)
+          go (inr l) = no_sums k.steps l (gives (us k.steps) above.0 above.1.0)
 
   -- The answers of a search.
   pub answers : (n : ℕ) (answer : Refuted) → MayCome us pre n answer → (pre ≡ None → answer ≡ Stopped 0 (unrolled.Bits 1)) → IsRefutedAnswer ps p state script n answer

@@ -1,7 +1,7 @@
 -- What probes see, and the answers that a search makes of it.
 use Rattle.std.proofs.Common.{◌≡◌, ◌<◌, ◌≤◌, ◌+◌, ℕ, refl, sym, ap, subst, ◌∙◌, arith, List, ◌⊎◌, inl, inr}
 use Rattle.std.proofs.lemmas.Bool.{cases_lt}
-use Rattle.std.specs.Prelude.{Option, Some, None}
+use Rattle.std.specs.Prelude.{Option, Some, None, min}
 use Rattle.std.specs.declared.cmp.Ordering.{Ordering}
 use Rattle.std.specs.declared.cmp.Ordering.TheVariants.{Less, Equal, Greater}
 use Prim.Native.Nat.{zero, suc}
@@ -11,24 +11,18 @@ use Rattle.heyvl_num.specs.ExactValues.{exact_orderᵛ, exact_sumᵛ}
 use Rattle.heyvl_num.specs.Extended.{value_of}
 use Rattle.heyvl_num.specs.Value.{Value, ◌≤ᵛ◌, ◌<ᵛ◌}
 use Rattle.heyvl_num.specs.declared.extended.Ext.{Ext}
-use Rattle.heyvl_acts.specs.Acts.{TypedProcedure}
 use Rattle.refute_runs.specs.RefutedAnswers.{MayCome, StopsAt}
-use Rattle.refute_runs.specs.RefutedAnswers.StopsAt as stops
 use Rattle.refute_runs.specs.Shortages.IsShort.{final_adding}
 use Rattle.refute_runs.specs.Shortages.{IsShort}
-use Rattle.refute_runs.specs.SumsAfter.{IsSum, IsWithinBefore, Unrollings, together, unrolled_from}
+use Rattle.refute_runs.specs.SumsAfter.{IsSum, IsWithinBefore, NamesStep, Unrollings, together}
 use Rattle.refute_runs.specs.declared.answers.Refuted.TheVariants.{Stopped, Violation, Within}
 use Rattle.refute_runs.specs.declared.answers.Refuted.{Refuted}
-use Rattle.refute_runs.specs.internal.Probes.IsBarred as barred
 use Rattle.refute_runs.specs.internal.Probes.{EndsAt, IsBarred, IsCandidate, IsLeast}
-use Rattle.refute_runs.proofs.Stops.{final, named_at, named_on}
-use Rattle.run_machine.specs.Names.{Stored}
-use Rattle.run_machine.specs.declared.configurations.Decide.{Decide}
+use Rattle.refute_runs.proofs.Stops.{IsNamed, names_none}
 use Rattle.run_unroller.specs.Totals.{Totals}
 use Rattle.run_unroller.specs.Unrolling.{Unrolling, unrolling_of}
 use Rattle.run_unroller.specs.declared.answers.Unrolled.{Unrolled}
-use Rattle.run_unroller.specs.declared.causes.Cause.TheVariants.{Bits}
-use Rattle.run_unroller.specs.declared.causes.Cause.{Cause}
+use Rattle.run_unroller.specs.declared.answers.Unrolled.TheVariants as unrolled
 
 -- ---- The sum after n steps
 
@@ -51,26 +45,34 @@ pub above_ends : (us : Unrollings) (pre sum : Ext) (n : ℕ) → IsSum us n (val
 above_ends us pre sum n summed above = record { few = omega arith; candidate = (refl, ((summed, above), refl)); empty = λ k l m. absurd (omega (arith, l, m)) }
 
 -- After n steps a number is short.
-pub short_ends : (us : Unrollings) (bound : Value) (n : ℕ) (answer : Unrolled) → IsShort us (Some bound) n → unrolling_of answer ≡ Unrolling.stopped Bits (n + 1) → EndsAt us bound n n (Stopped n answer)
-short_ends us bound n answer short is = record { few = omega arith; candidate = (refl, barred.by_number short is); empty = λ k l m. absurd (omega (arith, l, m)) }
+pub short_ends : (us : Unrollings) (bound : Value) (n : ℕ) (answer : Unrolled) → IsShort us (Some bound) n → unrolling_of answer ≡ unrolling_of (unrolled.Bits (n + 1)) → EndsAt us bound n n (Stopped n answer)
+short_ends us bound n answer short is = record { few = omega arith; candidate = (refl, IsBarred.by_number short is); empty = λ k l m. absurd (omega (arith, l, m)) }
 
-module _ (ps : List TypedProcedure) (p : ℕ) (c : Stored) (script : List Decide) (bound : Value) where
+module _ (us : Unrollings) (named : IsNamed us) (bound : Value) where
   -- A step that is stopped among n.
-  pub step_ends : (n s : ℕ) (cause : Cause) (answer : Unrolled) → s ≤ n → unrolling_of answer ≡ Unrolling.stopped cause s → unrolling_of answer ≡ unrolled_from ps p c script n → EndsAt (unrolled_from ps p c script) bound n s (Stopped s answer)
-  step_ends n s cause answer few is given =
-      let at = named_at ps p c script n s cause few (sym given ∙ is) in
+  step_ends : (n s : ℕ) (answer : Unrolled) → s ≤ n → NamesStep (unrolling_of answer) s → unrolling_of answer ≡ us n → EndsAt us bound n s (Stopped s answer)
+  step_ends n s answer few names given =
+      let at = named.first n s few (subst (λ u. NamesStep u s) given names) in
+      let first : NamesStep (us s) s = subst (λ u. NamesStep u s) (given ∙ sym at.1) names in
       record {
         few = few;
-        candidate = (refl, barred.by_step cause at.0 at.1 is);
-        empty = λ k l m. ap together (named_on ps p c script s k cause l at.1);
+        candidate = (refl, IsBarred.by_step at.0 first (given ∙ sym at.1));
+        empty = λ k l m. ap together (named.stays s k l first) ∙ names_none (us s) s first;
       }
 
   -- The final adding after n.
-  pub adding_ends : (n s : ℕ) (cause : Cause) (answer : Unrolled) → n < s → unrolling_of answer ≡ Unrolling.stopped cause s → unrolling_of answer ≡ unrolled_from ps p c script n → EndsAt (unrolled_from ps p c script) bound n n (Stopped n answer)
-  adding_ends n s cause answer more is given =
-      let h = final ps p c script n s cause more (sym given ∙ is) in
-      let bits : unrolling_of answer ≡ Unrolling.stopped Bits (n + 1) = is ∙ ap (λ a. Unrolling.stopped a s) h.0 ∙ ap (Unrolling.stopped Bits) h.1 in
-      short_ends (unrolled_from ps p c script) bound n answer (final_adding (sym given ∙ bits)) bits
+  adding_ends : (n s : ℕ) (answer : Unrolled) → n < s → NamesStep (unrolling_of answer) s → unrolling_of answer ≡ us n → EndsAt us bound n n (Stopped n answer)
+  adding_ends n s answer more names given =
+      let bits : us n ≡ unrolling_of (unrolled.Bits (n + 1)) = named.added n s more (subst (λ u. NamesStep u s) given names) in
+      short_ends us bound n answer (final_adding bits) (given ∙ bits)
+
+  -- Either of them.
+  pub stop_ends : (n s : ℕ) (answer : Unrolled) → NamesStep (unrolling_of answer) s → unrolling_of answer ≡ us n → EndsAt us bound n (min s n) (Stopped (min s n) answer)
+  stop_ends n s answer names given = go (cases_lt n s)
+    where
+      go : (n < s) ⊎ (s ≤ n) → EndsAt us bound n (min s n) (Stopped (min s n) answer)
+      go (inl l) = subst (λ k. EndsAt us bound n k (Stopped k answer)) (let e : n ≡ min s n = omega (arith, l) in e) (adding_ends n s answer l names given)
+      go (inr l) = subst (λ k. EndsAt us bound n k (Stopped k answer)) (let e : s ≡ min s n = omega (arith, l) in e) (step_ends n s answer l names given)
 
 -- The search goes on between sums that aren't above and what ends it.
 pub not_below : (us : Unrollings) (bound : Value) (low n t : ℕ) (answer : Refuted) → IsWithinBefore us bound low → low ≤ n → EndsAt us bound n t answer → low ≤ t
@@ -103,5 +105,5 @@ comes us bound m n (Stopped s answer) h l = go (subst (λ k. IsBarred us bound k
     few = let k = h.few in let e = is in omega (arith, k, e, l)
 
     go : IsBarred us bound s (unrolling_of answer) → StopsAt us (Some bound) n s (unrolling_of answer)
-    go (barred.by_step cause one given same) = stops.by_step cause bound one few given (same ∙ sym given) refl (subst (IsWithinBefore us bound) (sym is) h.before)
-    go (barred.by_number short same) = stops.by_number few short same
+    go (IsBarred.by_step one names same) = StopsAt.by_step bound one few names same refl (subst (IsWithinBefore us bound) (sym is) h.before)
+    go (IsBarred.by_number short same) = StopsAt.by_number few short same
