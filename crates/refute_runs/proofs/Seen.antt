@@ -1,5 +1,5 @@
 -- What probes see, and the answers that a search makes of it.
-use Rattle.std.proofs.Common.{◌≡◌, ◌<◌, ◌≤◌, ◌+◌, ℕ, refl, sym, ap, subst, ◌∙◌, arith, List, ◌⊎◌, inl, inr}
+use Rattle.std.proofs.Common.{◌≡◌, ◌<◌, ◌≤◌, ◌+◌, ◌-◌, ◌/◌, ℕ, refl, sym, ap, subst, ◌∙◌, arith, List, ◌⊎◌, inl, inr}
 use Rattle.std.proofs.lemmas.Bool.{cases_lt}
 use Rattle.std.specs.Prelude.{Option, Some, None, min}
 use Rattle.std.specs.declared.cmp.Ordering.{Ordering}
@@ -82,6 +82,10 @@ not_below us bound (suc k) n t answer before l h = go (cases_lt k t)
     go : (k < t) ⊎ (t ≤ k) → suc k ≤ t
     go (inl m) = omega (arith, m)
     go (inr m) = absurd (let none : None ≡ Some before.0 = sym (h.empty k m (omega (arith, l))) ∙ before.1.0 in cc)
+
+-- The middle, rounded down, is below the upper end.
+pub middle_within : (low high : ℕ) → low < high → (low ≤ low + (high - low) / 2) × (low + (high - low) / 2 < high)
+middle_within low high l = (omega (arith, l), omega (arith, l))
 
 -- The answer at the end of a search.
 pub comes : (us : Unrollings) (bound : Value) (m n : ℕ) (answer : Refuted) → IsLeast us bound m answer → m ≤ n → MayCome us (Some bound) n answer

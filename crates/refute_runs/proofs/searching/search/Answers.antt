@@ -1,4 +1,5 @@
-use Rattle.std.proofs.Common.{◌≤◌, arith, refl, subst}
+use Rattle.std.proofs.Common.{◌≤◌, subst}
+use Rattle.std.proofs.lemmas.Result.{IfOk-weaker}
 use Rattle.heyvl_acts.specs.PlainActs.{procedures_of}
 use Rattle.heyvl_num.specs.Extended.{value_of}
 use Rattle.refute_runs.specs.SumsAfter.{unrolled_from}
@@ -6,27 +7,6 @@ use Rattle.refute_runs.specs.internal.Probes.{IsSeen}
 use Rattle.refute_runs.proofs.Seen.{comes}
 use Rattle.refute_runs.proofs.searching.search.Goals as goal
 use Rattle.run_machine.specs.Names.{stored}
-use Rattle.std.proofs.lemmas.Result.{IfOk-weaker}
-
-pub returns-in-Within : goal.returns-in-Within
-returns-in-Within c =
-    let us = unrolled_from (procedures_of c.args.typed.now) c.args.p (stored c.args.start.now) c.args.script.now in
-    let seen = subst (IsSeen us (value_of c.args.pre.now) c.args.n) c.in-Within.is c.in_ok-sum.ensures in
-    record { given = refl; summed = seen.0; within = seen.1 }
-
-pub below-requires-clause-steps : goal.below-requires-clause-steps
-below-requires-clause-steps c =
-    let us = unrolled_from (procedures_of c.args.typed.now) c.args.p (stored c.args.start.now) c.args.script.now in
-    let seen = subst (IsSeen us (value_of c.args.pre.now) c.args.n) c.in-Until.is c.in_ok-sum.ensures in
-    let few = seen.few in
-    let steps = c.requires.steps in
-    omega (arith, few, steps)
-
-pub below-requires-clause-candidate : goal.below-requires-clause-candidate
-below-requires-clause-candidate c =
-    let us = unrolled_from (procedures_of c.args.typed.now) c.args.p (stored c.args.start.now) c.args.script.now in
-    let seen = subst (IsSeen us (value_of c.args.pre.now) c.args.n) c.in-Until.is c.in_ok-sum.ensures in
-    seen.candidate
 
 pub returns-in-Until : goal.returns-in-Until
 returns-in-Until c =
