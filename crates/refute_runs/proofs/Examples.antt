@@ -1,9 +1,9 @@
 -- Worked searches, computed by the definitions: three payments of 1, and the geometric loop with a pre of 1/2.
-use Rattle.std.proofs.Common.{◌≡◌, ◌≤◌, ℕ, refl, Bool, true, false, List, [], ◌∷◌, Some, None, pos, map, arith}
+use Rattle.std.proofs.Common.{◌≡◌, ℕ, refl, Bool, true, false, List, [], ◌∷◌, Some, None, pos, map, arith}
 use Rattle.std.specs.Prelude.{ℤ, Option, option_map}
 use Rattle.heyvl_num.specs.Exact.{exact_sum, sum_fits, exact_product, product_fits, exact_order, order_fits}
 use Rattle.heyvl_num.specs.Gcd.{gcd, gcd_steps}
-use Rattle.heyvl_num.specs.Rational.{Rational, ratio, zeroʳ, oneʳ, halfʳ, leqʳ, compareʳ, ◌+ʳ◌, ◌*ʳ◌, ◌-ʳ◌}
+use Rattle.heyvl_num.specs.Rational.{ratio, zeroʳ, oneʳ, halfʳ, leqʳ, compareʳ, ◌+ʳ◌, ◌*ʳ◌, ◌-ʳ◌}
 use Rattle.heyvl_num.specs.Value.Value.{finite, infinite}
 use Rattle.heyvl_num.specs.Value.{Value, zeroᵛ, oneᵛ, ◌+ᵛ◌, ◌*ᵛ◌, infinite_times, is_zeroʳ, leqᵛ}
 use Rattle.heyvl_num.specs.WeightedSums.{scaled, joined}
@@ -17,7 +17,7 @@ use Rattle.quant_algebra.specs.ExactMeaning.{exact_value}
 use Rattle.refute_runs.specs.RefutedAnswers.{PassesAt, StaysWithin, StopsAt}
 use Rattle.refute_runs.specs.RefutedAnswers.StopsAt.{by_number, by_step}
 use Rattle.refute_runs.specs.Shortages.IsShort.{no_pre}
-use Rattle.refute_runs.specs.SumsAfter.{Unrollings, together, unrolled_in}
+use Rattle.refute_runs.specs.SumsAfter.{together, unrolled_in}
 use Rattle.run_unroller.specs.MergedLists.{merged_onto}
 use Rattle.run_unroller.specs.Unrolling.{unrolling_of}
 use Rattle.run_unroller.specs.declared.answers.Unrolled.TheVariants as unrolled

@@ -1,5 +1,5 @@
 -- What the answers of a search say of the runs.
-use Rattle.std.proofs.Common.{◌≡◌, ◌<◌, ◌≤◌, ◌+◌, ℕ, refl, sym, ap, subst, ◌∙◌, arith, true, List, ◌⊎◌, inl, inr}
+use Rattle.std.proofs.Common.{◌≡◌, ◌<◌, ◌≤◌, ℕ, refl, sym, subst, ◌∙◌, arith, true, List, ◌⊎◌, inl, inr}
 use Rattle.std.proofs.lemmas.Bool.{cases_lt}
 use Rattle.std.specs.Prelude.{IfSome, Option, Some, None}
 use Prim.Native.Nat.{zero, suc}
@@ -7,7 +7,7 @@ use Rattle.heyvl_num.proofs.exported.Exactness.{exact_sumᵛ_some}
 use Rattle.heyvl_num.proofs.exported.Values.{<ᵛ-not, ≤ᵛ_trans}
 use Rattle.heyvl_num.specs.ExactValues.{exact_sumᵛ}
 use Rattle.heyvl_num.specs.Extended.{value_of}
-use Rattle.heyvl_num.specs.Value.{Value, ◌+ᵛ◌, ◌≤ᵛ◌, ◌<ᵛ◌}
+use Rattle.heyvl_num.specs.Value.{Value, ◌≤ᵛ◌, ◌<ᵛ◌}
 use Rattle.heylo_formula.specs.declared.values.Val.{Val}
 use Rattle.heyvl_acts.specs.Acts.{TypedProcedure, procedure_at}
 use Rattle.heyvl_acts.specs.Rules.{Each, MeetsRules}
@@ -17,7 +17,7 @@ use Rattle.refute_runs.specs.RefutedAnswers.{GivesSums, IsDecided, IsRefutedAnsw
 use Rattle.refute_runs.specs.ScriptedSums.{pre_in, scripted_sum}
 use Rattle.refute_runs.specs.Shortages.{IsShort}
 use Rattle.refute_runs.specs.SumsAfter.{IsAbove, IsSum, IsWithinBefore, Unrollings, together, unrolled_in}
-use Rattle.refute_runs.specs.Violations.{IsViolation, NumbersAreOfRuns, ViolationIsOfRuns}
+use Rattle.refute_runs.specs.Violations.{NumbersAreOfRuns, ViolationIsOfRuns}
 use Rattle.refute_runs.specs.declared.answers.Refuted.TheVariants.{Stopped, Violation, Within}
 use Rattle.refute_runs.specs.declared.answers.Refuted.{Refuted}
 use Rattle.refute_runs.proofs.Stops.{names_no_sums, steps_named}

@@ -1,10 +1,9 @@
 -- What probes see, and the answers that a search makes of it.
-use Rattle.std.proofs.Common.{◌≡◌, ◌<◌, ◌≤◌, ◌+◌, ◌-◌, ◌/◌, ℕ, refl, sym, ap, subst, ◌∙◌, arith, List, ◌⊎◌, inl, inr}
+use Rattle.std.proofs.Common.{◌≡◌, ◌<◌, ◌≤◌, ◌+◌, ◌-◌, ◌/◌, ℕ, refl, sym, ap, subst, ◌∙◌, arith, ◌⊎◌, inl, inr}
 use Rattle.std.proofs.lemmas.Bool.{cases_lt}
-use Rattle.std.specs.Prelude.{Option, Some, None, min}
+use Rattle.std.specs.Prelude.{Some, min}
 use Rattle.std.specs.declared.cmp.Ordering.{Ordering}
 use Rattle.std.specs.declared.cmp.Ordering.TheVariants.{Less, Equal, Greater}
-use Prim.Native.Nat.{zero, suc}
 use Rattle.heyvl_num.proofs.exported.Exactness.{orderᵛ_equal, orderᵛ_greater, orderᵛ_less}
 use Rattle.heyvl_num.proofs.exported.Values.{<ᵛ-≤ᵛ, ≤ᵛ_refl}
 use Rattle.heyvl_num.specs.ExactValues.{exact_orderᵛ, exact_sumᵛ}
@@ -17,7 +16,7 @@ use Rattle.refute_runs.specs.Shortages.{IsShort}
 use Rattle.refute_runs.specs.SumsAfter.{IsSum, IsWithinBefore, NamesStep, Unrollings, together}
 use Rattle.refute_runs.specs.declared.answers.Refuted.TheVariants.{Stopped, Violation, Within}
 use Rattle.refute_runs.specs.declared.answers.Refuted.{Refuted}
-use Rattle.refute_runs.specs.internal.Probes.{EndsAt, IsBarred, IsCandidate, IsLeast}
+use Rattle.refute_runs.specs.internal.Probes.{EndsAt, IsBarred, IsLeast}
 use Rattle.refute_runs.proofs.Stops.{IsNamed, names_none}
 use Rattle.run_unroller.specs.Totals.{Totals}
 use Rattle.run_unroller.specs.Unrolling.{Unrolling, unrolling_of}
@@ -73,15 +72,6 @@ module _ (us : Unrollings) (named : IsNamed us) (bound : Value) where
       go : (n < s) ⊎ (s ≤ n) → EndsAt us bound n (min s n) (Stopped (min s n) answer)
       go (inl l) = subst (λ k. EndsAt us bound n k (Stopped k answer)) (let e : n ≡ min s n = omega (arith, l) in e) (adding_ends n s answer l names given)
       go (inr l) = subst (λ k. EndsAt us bound n k (Stopped k answer)) (let e : s ≡ min s n = omega (arith, l) in e) (step_ends n s answer l names given)
-
--- The search goes on between sums that aren't above and what ends it.
-pub not_below : (us : Unrollings) (bound : Value) (low n t : ℕ) (answer : Refuted) → IsWithinBefore us bound low → low ≤ n → EndsAt us bound n t answer → low ≤ t
-not_below us bound zero n t answer before l h = omega arith
-not_below us bound (suc k) n t answer before l h = go (cases_lt k t)
-  where
-    go : (k < t) ⊎ (t ≤ k) → suc k ≤ t
-    go (inl m) = omega (arith, m)
-    go (inr m) = absurd (let none : None ≡ Some before.0 = sym (h.empty k m (omega (arith, l))) ∙ before.1.0 in cc)
 
 -- The middle, rounded down, is below the upper end.
 pub middle_within : (low high : ℕ) → low < high → (low ≤ low + (high - low) / 2) × (low + (high - low) / 2 < high)

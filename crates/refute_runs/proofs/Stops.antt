@@ -103,9 +103,9 @@ module _ (ps : List TypedProcedure) (p : ℕ) (first : Stored) (script : List De
       (λ n x e. ap (λ o. stop_or o (sums_of n)) e)
       (λ x s names. names)
       (λ n s e names.
-          let is : unrolled_from ps p first script n ≡ sums_of n = ap (λ o. stop_or o (sums_of n)) e in
-          let h = adding n s (totals (procedure_at ps p) (after ps script n (begun first))) (subst (λ u. NamesStep u s) is names) in
-          (h.0, is ∙ h.1))
+      let is : unrolled_from ps p first script n ≡ sums_of n = ap (λ o. stop_or o (sums_of n)) e in
+      let h = adding n s (totals (procedure_at ps p) (after ps script n (begun first))) (subst (λ u. NamesStep u s) is names) in
+      (h.0, is ∙ h.1))
 
 -- What names a step has no sums.
 pub names_none : (u : Unrolling) (s : ℕ) → NamesStep u s → together u ≡ None

@@ -1,4 +1,4 @@
-use Rattle.std.proofs.Common.{◌≡◌, ◌∙◌, ap, refl, subst, sym}
+use Rattle.std.proofs.Common.{◌∙◌, ap, refl, subst, sym}
 use Rattle.heyvl_num.specs.Extended.{value_of}
 use Rattle.refute_runs.specs.internal.Probes.{IsSeen}
 use Rattle.refute_runs.specs.Shortages.IsShort.{no_order, no_sum}
@@ -6,7 +6,7 @@ use Rattle.refute_runs.proofs.Seen.{above_ends, above_less, short_ends, sum_give
 use Rattle.refute_runs.proofs.probes.beside.Goals as goal
 use Rattle.run_unroller.specs.Unrolling.{totals_of}
 use Rattle.run_unroller.specs.declared.answers.Unrolled.TheVariants as unrolled
-use Rattle.std.specs.Prelude.{◌+◌, Option, option_map}
+use Rattle.std.specs.Prelude.{◌+◌, option_map}
 
 pub returns-in_default : goal.returns-in_default
 returns-in_default c = λ us given.
