@@ -1,0 +1,125 @@
+"""Spoils files, scripts and certificates, and sees how the program answers them."""
+import os
+import re
+import subprocess
+import time
+from concurrent.futures import ThreadPoolExecutor
+
+SECONDS = 300
+SLOW = 10
+
+# The statuses with which each command may end, where its files can be read, its output be written and there is memory.
+STATUSES = {
+    "verify": (0, 1, 2, 3), "print": (0, 3), "run": (0, 3, 8), "certify": (0, 1, 2, 3), "check": (0, 1, 2, 3), "pgcl": (0, 3),
+    "omega": (0, 1, 2, 3), "remainder": (0, 1, 2, 3), "refute": (0, 1, 3, 8),
+}
+PLACE = re.compile(rb"(\d+):(\d+): fault \d+: [^\n]+\n")
+REFUSALS = re.compile(
+    rb"file too long\n|script line \d+: fault\n|certificate line \d+: fault\n|no such procedure\n|[^\n]+ is no program\n"
+    rb"|not an omega pair\n|not a remainder pair\n|[^\n]+ is not a coproc\n"
+)
+PIECES = [
+    b"(", b")", b"{", b"}", b"[", b"]", b",", b":", b";", b"=", b"==", b"<", b"<=", b"==>", b"->", b".", b"..", b"?", b"!", b"~", b"@", b"/",
+    b"/*", b"*/", b"//", b"\\cap ", b"\\cup ", b"\\infty ", b"\\", b"0", b"1", b"1/2", b"1/0", b"0.5", b"99999999999999999999",
+    b"170141183460469231731687303715884105727", b"4611686018427387904", b"-1", b" ite(", b" flip(", b" unif(", b" choose {", b" if ", b" else ",
+    b" while ", b" var ", b" reward ", b" havoc ", b" cohavoc ", b" assume ", b" coassert ", b" sup ", b" inf ", b" pre ", b" post ", b" proc ",
+    b" coproc ", b"@wlp ", b"@invariant(1) ", b"@k_induction(16, 1) ", b"@ranking(1, 1) ", b" Bool", b" UInt", b" true", b"\n", b"\r", b"\t", b"\0",
+    b"\xff", b"\xc3\xa4", b"steps 10000\n", b"set x 1\n", b"decide left\n", b"s\n", b"t\n", b"f 0:1\n", b"f 4294967295:4611686018427387903\n",
+    b"i 0 0\n", b"goal 0 main\n", b"end\n", b"caesar certificate 1\n",
+]
+
+
+def spoiled(writer, text):
+    """A text with up to four pieces removed, doubled, moved, turned or put in."""
+    for _ in range(writer.randint(1, 4)):
+        at, to = sorted(writer.randint(0, len(text)) for _ in range(2))
+        to = min(to, at + writer.choice([1, 2, 8, 64, 1024]))
+        how = writer.choice(["removed", "cut", "doubled", "turned", "moved", "put in", "put in", "many"])
+        if how == "removed":
+            text = text[:at] + text[to:]
+        elif how == "cut":
+            text = text[:at] if writer.is_now(0.2) else text
+        elif how == "doubled":
+            text = text[:to] + text[at:to] + text[to:]
+        elif how == "turned" and at < len(text):
+            text = text[:at] + bytes([text[at] ^ 1 << writer.randint(0, 7)]) + text[at + 1 :]
+        elif how == "moved":
+            other = writer.randint(0, len(text))
+            text = text[:other] + text[at:to] + text[other:]
+        elif how == "put in":
+            text = text[:at] + writer.choice(PIECES) + text[at:]
+        elif how == "many":
+            text = text[:at] + writer.choice(PIECES) * writer.choice([16, 199, 201, 2000]) + text[at:]
+    return text
+
+
+class Hostile:
+    """Calls one program with spoiled files, and counts what it answers."""
+
+    def __init__(self, program, folder):
+        self.program, self.folder = os.path.abspath(program), folder
+        self.calls, self.slow, self.told = 0, [], []
+
+    def put(self, name, text):
+        with open(os.path.join(self.folder, name), "wb") as file:
+            file.write(text)
+        return name
+
+    def answer(self, *words):
+        ran = subprocess.run([self.program, *words], cwd=self.folder, stdin=subprocess.DEVNULL, capture_output=True, timeout=SECONDS, check=False)
+        return ran.returncode, ran.stdout, ran.stderr
+
+    def fault(self, words, text):
+        """What is wrong with the answer to a call whose first file has this text, or None."""
+        began = time.monotonic()
+        try:
+            status, output, errors = self.answer(*words)
+        except subprocess.TimeoutExpired:
+            return "no answer after %d seconds" % SECONDS
+        taken = time.monotonic() - began
+        if taken > SLOW:
+            self.slow.append((taken, words, text))
+        if status not in STATUSES[words[0]]:
+            return "status %d" % status
+        if errors:
+            return "it writes to standard error"
+        if status != 3:
+            return None if output.endswith(b"\n") or not output else "its last line has no end"
+        place = PLACE.fullmatch(output)
+        if place is None:
+            return None if REFUSALS.fullmatch(output) else "another refusal"
+        line, column = map(int, place.groups())
+        lines = text.split(b"\n")
+        return None if 1 <= line <= len(lines) and 1 <= column <= len(lines[line - 1]) + 1 else "a place outside the file"
+
+    def called(self, calls):
+        """Makes calls, each with the text of its first file, beside each other."""
+        with ThreadPoolExecutor(os.cpu_count()) as pool:
+            for (words, text), fault in zip(calls, pool.map(lambda call: self.fault(*call), calls)):
+                self.calls += 1
+                if fault is not None:
+                    self.told.append("%s: %s\nThe file:\n%s" % (" ".join(words), fault, text.decode("utf-8", "backslashreplace")))
+
+    def of_file(self, number, writer, text, script, procedures):
+        """Calls the commands of HeyVL on a spoiled file, and on the file as it is with a spoiled script and spoiled certificates."""
+        whole, bad = self.put("%d.heyvl" % number, text), spoiled(writer, text)
+        broken = self.put("%d.bad.heyvl" % number, bad)
+        certificates = self.answer("certify", whole)[1]
+        good_script = self.put("%d.script" % number, script)
+        bad_script = self.put("%d.bad.script" % number, spoiled(writer, script))
+        good_cert = self.put("%d.cert" % number, certificates)
+        bad_cert = self.put("%d.bad.cert" % number, spoiled(writer, certificates))
+        name = writer.choice(procedures)
+        calls = [((command, broken), bad) for command in ("verify", "print", "certify")]
+        calls += [(("run", whole, name, bad_script), text), (("run", broken, name, good_script), bad)]
+        calls += [(("check", whole, bad_cert), text), (("check", broken, good_cert), bad)]
+        self.called(calls)
+
+    def of_program(self, number, writer, text):
+        """Calls `pgcl` on a spoiled program of guarded commands, and `verify` on what it writes."""
+        bad = spoiled(writer, text)
+        words = "pgcl", self.put("%d.pgcl" % number, bad)
+        self.called([(words, bad)])
+        status, output, _ = self.answer(*words)
+        if status == 0:
+            self.called([(("verify", self.put("%d.made.heyvl" % number, output)), output)])
