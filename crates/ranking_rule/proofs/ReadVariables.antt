@@ -92,7 +92,7 @@ abbrev GuardsAreOver : ℕ → Arms → Type 0
 GuardsAreOver n Arms.no_arm = Unit {0}
 GuardsAreOver n (Arms.arm g b more) = IsOverIn n g × GuardsAreOver n more
 
-abbrev RankIsOver : ℕ → Option (Rational × Form) → Type 0
+abbrev pub RankIsOver : ℕ → Option (Rational × Form) → Type 0
 RankIsOver n None = Unit {0}
 RankIsOver n (Some r) = IsOver n r.1
 
@@ -220,7 +220,7 @@ module _ (n : ℕ) where
 
 -- ---- A loop with a ranking
 
-some_rank : (n : ℕ) (o : Option (Rational × Form)) (r : Rational × Form) → o ≡ Some r → RankIsOver n o → IsOver n r.1
+pub some_rank : (n : ℕ) (o : Option (Rational × Form)) (r : Rational × Form) → o ≡ Some r → RankIsOver n o → IsOver n r.1
 some_rank n o r e h = subst (RankIsOver n) e h
 
 module _ (ps : List TypedProcedure) (p : TypedProcedure) (n : ℕ) (l : RankedLoop p n) (rules : MeetsRules ps p) where

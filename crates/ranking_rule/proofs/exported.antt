@@ -5,3 +5,4 @@ pub mod RankedActs
 pub mod MadeGoals
 pub mod PrenexedSizes
 pub mod ReadVariables
+pub mod UpwardActs

@@ -13,7 +13,7 @@ ghost use Rattle.std.specs.Prelude.{IfOk, false, length, map, ◌<◌, ◌^◌, 
 ghost use Rattle.vp_generator.specs.Scopes.{AreNamed};
 
 use crate::loops::loop_of;
-use crate::upward::upward;
+use crate::upward_acts::upward;
 use heylo_formula::{Cond, Form, Goal, Made};
 use heyvl_acts::{Typed, VarInfo};
 use heyvl_num::{Ext, Frac};

@@ -4,7 +4,8 @@
 mod goals;
 mod laws;
 mod loops;
-mod upward;
+mod upward_acts;
 
 pub use goals::ranking_goal;
 pub use laws::{ranking_goals_say_rankings, rankings_bound_turns};
+pub use upward_acts::upward;

@@ -65,8 +65,10 @@ fn write_step(text: &mut Vec<u8>, step: u32) -> Result<(), AllocError>
     Ok(())
 }
 
-/// Puts a cause behind the text.
-pub(crate) fn write_cause(
+/// Puts behind the text why nothing is known of a goal, of a file with these bytes: a limit that was met, the place of a product of two
+/// variables, or the variable that has no whole number in its interval. `names` has the names of the goal's variables, by number; those from
+/// `own` on were binders. Want of memory is the one error.
+pub fn write_cause(
     text: &mut Vec<u8>,
     bytes: &[u8],
     names: &[Name],

@@ -11,5 +11,8 @@ mod states;
 mod verdicts;
 
 pub use answers::{Answer, LoopAnswer, RankVerdict, Verdict};
+pub use causes::write_cause;
 pub use goal_answers::{Miss, NamedGoal};
+pub use loops::interface_of;
 pub use reports::report;
+pub use states::write_state;

@@ -1,15 +1,15 @@
 //! The variables that a goal's state shows.
 
-ghost use Rattle.heyvl_acts.specs.Acts.{acts_in};
+ghost use Rattle.heyvl_acts.specs.Acts.{acts_in, procedure_at};
 ghost use Rattle.heyvl_acts.specs.Places.{in_order, inside};
-ghost use Rattle.heyvl_acts.specs.PlainActs.{act_of, acts_of, procedure_of};
-ghost use Rattle.heyvl_acts.specs.Rules.{IsCounted, counted};
-ghost use Rattle.std.specs.Prelude.{◌≡◌, ◌≤◌, ◌+◌, ◌∷◌, IfOk};
+ghost use Rattle.heyvl_acts.specs.PlainActs.{act_of, acts_of, procedure_of, procedures_of};
+ghost use Rattle.heyvl_acts.specs.Rules.{IsCounted, MeetsAllRules, counted};
+ghost use Rattle.std.specs.Prelude.{◌≡◌, ◌≤◌, ◌+◌, ◌∷◌, ◌<◌, IfOk, length};
 ghost use Rattle.verdict_report.specs.LoopScopes.{always_shown, interface_numbers, loop_scope, scope_of_loop};
 ghost use Rattle.verdict_report.specs.internal.Slices.{lent};
 
 use heylo_formula::GoalId;
-use heyvl_acts::{Act, TProc};
+use heyvl_acts::{Act, TProc, Typed};
 use std::alloc::{AllocError, Global};
 
 /// The first numbers, so many.
@@ -32,6 +32,15 @@ fn interface_numbers(alloc: Global, procedure: &TProc) -> Result<Vec<u32>, Alloc
     ensures { IfOk result (λ all. all.items ≡ interface_numbers (procedure_of procedure.now)) }
 {
     first_numbers(alloc, procedure.inputs + procedure.outputs)
+}
+
+/// The numbers of the inputs and outputs of the procedure with the number `proc`, which a state of its bound shows.
+pub fn interface_of(alloc: Global, typed: &Typed, proc: u32) -> Result<Vec<u32>, AllocError>
+    requires rules { MeetsAllRules typed.now }
+    requires there { proc < length typed.now.procs.items }
+    ensures { IfOk result (λ all. all.items ≡ interface_numbers (procedure_at (procedures_of typed.now) proc)) }
+{
+    interface_numbers(alloc, &typed.procs[proc as usize])
 }
 
 /// The variables of a procedure that are shown of each state of this goal.

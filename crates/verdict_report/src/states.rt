@@ -72,8 +72,10 @@ fn settings_of(
     Ok(settings)
 }
 
-/// Puts a state behind the text: of these variables, and of the binders that are shown.
-pub(crate) fn write_state(
+/// Puts the state of a goal behind the text: the values of the variables with the numbers `shown`, in this order, and then of the binders, which
+/// have the numbers from `own` on, those that are neither 0 nor false, as `name = value` with commas between them; `any state` where there is
+/// none. `names` has the names of the goal's variables, by number. Want of memory is the one error.
+pub fn write_state(
     alloc: Global,
     text: &mut Vec<u8>,
     names: &[Name],

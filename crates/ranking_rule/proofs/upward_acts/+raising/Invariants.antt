@@ -3,7 +3,7 @@ use Rattle.heyvl_acts.specs.Acts.{Act}
 use Rattle.heyvl_acts.specs.PlainActs.{act_of, acts_of, arms_of}
 use Rattle.ranking_rule.proofs.Raising.{ArmTurns, Turns}
 use Rattle.heyvl_acts.proofs.exported.Weights.{weight, weight_of}
-use Rattle.ranking_rule.proofs.upward.+raising.Given as goal
+use Rattle.ranking_rule.proofs.upward_acts.+raising.Given as goal
 
 abbrev pub decreases-upward : goal.decreases-upward
 decreases-upward l = 1 + weight_of (acts_of l.acts.now)

@@ -8,9 +8,10 @@ ghost use Rattle.std.specs.Prelude.{IfOk, OnOk, ◌≡◌};
 use heyvl_acts::Act;
 use std::alloc::{AllocError, Global};
 
-/// Copies of the acts, without rewards, and with each arbitrary value and each pick upward.
+/// Copies of the acts, as a ranking counts them: without rewards, and with each arbitrary value and each pick upward. Want of memory is
+/// the one error.
 #[cycle(raising)]
-pub(crate) fn upward(alloc: Global, acts: &[Act]) -> Result<Vec<Act>, AllocError>
+pub fn upward(alloc: Global, acts: &[Act]) -> Result<Vec<Act>, AllocError>
     ensures { IfOk result (λ raised. acts_of raised.items ≡ upward (acts_of acts.now)) }
 {
     let mut raised = Vec::new(alloc);

@@ -5,7 +5,7 @@ use Rattle.heyvl_acts.specs.PlainActs.{act_of, acts_of, arms_of}
 use Rattle.heyvl_acts.specs.Upward.{upward, upward_arms}
 use Rattle.ranking_rule.proofs.Raising.{arm_more, arms_end, arms_start, changed, left_out, turn_more, turns_end}
 use Rattle.heyvl_acts.proofs.exported.Weights.{act_within, arm_within, weight, weight_of}
-use Rattle.ranking_rule.proofs.upward.+raising.Goals as goal
+use Rattle.ranking_rule.proofs.upward_acts.+raising.Goals as goal
 
 pub upward-add_upward-requires : goal.upward-add_upward-requires
 upward-add_upward-requires t c = (
