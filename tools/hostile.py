@@ -15,7 +15,7 @@ STATUSES = {
 }
 PLACE = re.compile(rb"(\d+):(\d+): fault \d+: [^\n]+\n")
 REFUSALS = re.compile(
-    rb"file too long\n|script line \d+: fault\n|certificate line \d+: fault\n|no such procedure\n|[^\n]+ is no program\n"
+    rb"file too long\n|script line \d+: fault\n|certificate line \d+: fault\n|no such procedure\n|[^\n]+ is not a program\n"
     rb"|not an omega pair\n|not a remainder pair\n|[^\n]+ is not a coproc\n"
 )
 PIECES = [
