@@ -1,0 +1,14 @@
+pub mod QuietTokens
+pub mod QuietPrograms
+pub mod Meanings
+pub mod Scopes
+pub mod Probabilities
+pub mod Matching
+pub mod Translating
+pub mod Equations
+pub mod Simulation
+pub mod Beginnings
+pub mod MainSums
+pub mod MainBounds
+pub mod exported
+mod Examples

@@ -1,0 +1,4 @@
+pub mod EqualSums
+pub mod GuardedRuns
+pub mod GuardedSteps
+pub mod Readings
