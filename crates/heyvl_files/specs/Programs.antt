@@ -1,4 +1,5 @@
 -- Files that programs of guarded commands become, from the bytes of these, and the faults of programs.
+use Rattle.guarded_runs.specs.EqualSums.{GuardedSumsAreEqual, IsGuardedBound}
 use Rattle.heyvl_files.specs.declared.sources.SourceStop.TheVariants.{Fault, Memory}
 use Rattle.heyvl_files.specs.declared.sources.SourceStop.{SourceStop}
 use Rattle.heyvl_places.specs.declared.spans.Span.{Span}
@@ -6,14 +7,30 @@ use Rattle.heyvl_print.specs.Canonical.{canonical_text}
 use Rattle.heyvl_print.specs.WithoutPlaces.{SameButPlaces}
 use Rattle.heyvl_syntax.specs.Grammar.{Spells}
 use Rattle.heyvl_syntax.specs.Procedures.{Procedure}
-use Rattle.heyvl_types.specs.Files.{first_fault}
+use Rattle.heyvl_types.specs.Files.{first_fault, resolved}
+use Rattle.pgcl_front.specs.Programs.{ProgramTree}
 use Rattle.pgcl_front.specs.Sources.{IsPgclFault, IsPgclSource}
+use Rattle.run_machine.specs.Bound.{Bound}
 use Rattle.std.specs.Prelude.{List, None, Some, ◌≡◌, ℕ}
 
 -- The bytes spell a program, it becomes this file, and the file has no static fault.
 pub record IsProgramFile (bytes : List ℕ) (file : List Procedure) : Type 0 where
   pub source : IsPgclSource bytes file
   pub faultless : first_fault file ≡ None
+
+-- The program that the bytes of such a file spell.
+abbrev pub program_of : (bytes : List ℕ) (file : List Procedure) → IsProgramFile bytes file → ProgramTree
+program_of bytes file p = p.source.translation.program
+
+-- The file has the sums of the program: those of `main`, its first procedure, are the program's; and where the bound of `main` holds,
+-- each sum of the program is at most its pre.
+pub record HasSumsOf (program : ProgramTree) (file : List Procedure) : Type 0 where
+  pub equal : GuardedSumsAreEqual program file
+  pub bounded : Bound (resolved file) 0 → IsGuardedBound program
+
+-- Where the bytes spell a program that becomes this file, the file has the sums of the program.
+abbrev pub HasProgramSums : List ℕ → List Procedure → Type 0
+HasProgramSums bytes file = (p : IsProgramFile bytes file) → HasSumsOf (program_of bytes file p) file
 
 -- The first fault of a program with these bytes: one of 1 to 3, 5, 30 and 31, or else the first static one of the file that it becomes,
 -- at the place of what that part was made of.
@@ -30,6 +47,10 @@ IsTranslationStop bytes (Memory error) = Unit {0}
 abbrev pub IsProgramStop : List ℕ → SourceStop → Type 0
 IsProgramStop bytes (Fault number place) = IsProgramFault bytes number place
 IsProgramStop bytes (Memory error) = Unit {0}
+
+-- Each file that a program becomes has the sums of this program.
+abbrev pub ProgramFilesHaveSums : Type 0
+ProgramFilesHaveSums = (bytes : List ℕ) (file : List Procedure) → HasProgramSums bytes file
 
 -- A program becomes at most one file.
 abbrev pub ProgramFileIsUnique : Type 0

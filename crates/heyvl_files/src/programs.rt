@@ -1,13 +1,14 @@
 //! Files that programs of guarded commands become.
 
-ghost use Rattle.heyvl_files.specs.Programs.{IsProgramFile, IsProgramStop, IsTranslationStop, ProgramFaultIsUnique, ProgramFileIsUnique, ProgramFilesAreSpelled, ProgramFilesHaveNoFault};
+ghost use Rattle.heyvl_files.specs.Programs.{HasProgramSums, IsProgramFile, IsProgramStop, IsTranslationStop, ProgramFaultIsUnique, ProgramFileIsUnique, ProgramFilesAreSpelled, ProgramFilesHaveNoFault, ProgramFilesHaveSums};
 ghost use Rattle.heyvl_files.specs.Sources.{file_limit};
 ghost use Rattle.heyvl_syntax.specs.Procedures.{procedures};
 ghost use Rattle.pgcl_front.specs.Sources.{IsPgclSource};
-ghost use Rattle.std.specs.Prelude.{MatchResult, length, ◌≤◌};
+ghost use Rattle.std.specs.Prelude.{IfOk, MatchResult, length, ◌≤◌};
 
 use crate::fault_lines::token_place;
 use crate::sources::SourceStop;
+use guarded_runs::{bounds_carry_over, sums_are_equal};
 use heyvl_syntax::{File, LexStop, lex};
 use heyvl_types::{ResolveStop, resolve};
 use pgcl_front::{PgclStop, pgcl_sources_are_unique, translate, translations_are_spelled};
@@ -34,11 +35,14 @@ fn translated_file(alloc: Global, bytes: &[u8]) -> Result<File, SourceStop>
 }
 
 /// The file of HeyVL that the program of guarded commands with these bytes becomes, at most 1,048,576 of them, where it has no static fault; or
-/// the program's first fault: 1 to 3, then 5, 30 and 31, and then those of the file, each at a place of the program.
+/// the program's first fault: 1 to 3, then 5, 30 and 31, and then those of the file, each at a place of the program. The file has the sums
+/// of the program's runs.
 pub fn program_file(alloc: Global, bytes: &[u8]) -> Result<File, SourceStop>
     requires { length bytes.now ≤ file_limit }
-    ensures { MatchResult result (λ file. IsProgramFile bytes.now (procedures file)) (λ stop. IsProgramStop bytes.now stop) }
+    ensures made { MatchResult result (λ file. IsProgramFile bytes.now (procedures file)) (λ stop. IsProgramStop bytes.now stop) }
+    ensures sums { IfOk result (λ file. HasProgramSums bytes.now (procedures file)) }
 {
+    program_files_have_sums();
     let file = match translated_file(alloc, bytes) {
         Ok(file) => file,
         Err(stop) => return Err(stop),
@@ -60,4 +64,13 @@ pub fn program_files_are_unique()
 {
     pgcl_sources_are_unique();
     translations_are_spelled();
+}
+
+/// The upper sums of a program's runs, by the steps of guarded commands, are those of the runs of `main` in the file that the program becomes; and
+/// where the bound of `main` holds, each of them is at most the program's pre.
+pub fn program_files_have_sums()
+    ensures { ProgramFilesHaveSums }
+{
+    sums_are_equal();
+    bounds_carry_over();
 }

@@ -6,15 +6,18 @@ use Rattle.heyvl_types.specs.Files.{first_fault}
 use Rattle.heyvl_types.specs.Findings.{first}
 use Rattle.std.proofs.Common.{None, Some, ap, ◌≡◌}
 
-pub returns-in-Err : goal.returns-in-Err
-returns-in-Err c = stops_program c.args.bytes.now c.in-Err.stop c.in-Err.ensures
+pub returns-in-Err-clause-made : goal.returns-in-Err-clause-made
+returns-in-Err-clause-made c = stops_program c.args.bytes.now c.in-Err.stop c.in-Err.ensures
 
-pub returns-in-Ok-resolve : goal.returns-in-Ok-resolve
-returns-in-Ok-resolve c =
+pub returns-in-Ok-resolve-clause-made : goal.returns-in-Ok-resolve-clause-made
+returns-in-Ok-resolve-clause-made c =
     let none : first_fault (procedures c.in-Ok.file) ≡ None = ap first c.in-Ok-resolve.ensures.gives.0 in
     record { source = c.in-Ok.ensures; faultless = none }
 
-pub returns-in-Err-Fault : goal.returns-in-Err-Fault
-returns-in-Err-Fault c =
+pub returns-in-Err-Fault-clause-made : goal.returns-in-Err-Fault-clause-made
+returns-in-Err-Fault-clause-made c =
     let fault : first_fault (procedures c.in-Ok.file) ≡ Some (c.in-Err-Fault.number, c.in-Err-Fault.place) = rw c.in-Err-Fault.field-0-is at c.in-Err-Fault.ensures.gives in
     static (procedures c.in-Ok.file) c.in-Ok.ensures fault
+
+pub returns-in-Ok-resolve-clause-sums : goal.returns-in-Ok-resolve-clause-sums
+returns-in-Ok-resolve-clause-sums c = c.program_files_have_sums.ensures c.args.bytes.now (procedures c.in-Ok.file)
