@@ -37,16 +37,16 @@ use Rattle.std.proofs.Common.{List, None, Option, Some, [], ap, inl, inr, refl, 
 -- ---- No other reply has nothing in its way
 
 -- The reply has the fault of what it is.
-fault_is : (reply other : Reply) (f : Fault) → reply ≡ other → reply.fault ≡ f → other.fault ≡ f
+pub fault_is : (reply other : Reply) (f : Fault) → reply ≡ other → reply.fault ≡ f → other.fault ≡ f
 fault_is reply other f e h = sym (ap (λ (r : Reply). r.fault) e) ∙ h
 
-no_read : (k : ℕ) → faults.Read k ≡ faults.Nothing → ⊥
+pub no_read : (k : ℕ) → faults.Read k ≡ faults.Nothing → ⊥
 no_read k e = cc
 
-not_long : (k : ℕ) → faults.TooLong k ≡ faults.Nothing → ⊥
+pub not_long : (k : ℕ) → faults.TooLong k ≡ faults.Nothing → ⊥
 not_long k e = cc
 
-no_source : (number : ℕ) (place : Span) → faults.Source number place ≡ faults.Nothing → ⊥
+pub no_source : (number : ℕ) (place : Span) → faults.Source number place ≡ faults.Nothing → ⊥
 no_source number place e = cc
 
 no_script : (line : ℕ) → faults.Script line ≡ faults.Nothing → ⊥
@@ -125,7 +125,7 @@ replied_summed meant ruled procedure bytes text reply finished (by_file file is 
 -- ---- What a call came to
 
 -- An outcome without a fault was written whole, and its reply has none.
-written_whole : (reply : Reply) (done : Writing) (outcome : Outcome) → outcome.fault ≡ faults.Nothing → IsWritten reply done outcome ⊎ IsCut reply done outcome → IsWritten reply done outcome
+pub written_whole : (reply : Reply) (done : Writing) (outcome : Outcome) → outcome.fault ≡ faults.Nothing → IsWritten reply done outcome ⊎ IsCut reply done outcome → IsWritten reply done outcome
 written_whole reply done outcome finished (inl written) = written
 written_whole reply done outcome finished (inr cut) = absurd (no_write (sym cut.fault ∙ finished))
 

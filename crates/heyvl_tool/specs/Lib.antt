@@ -12,5 +12,6 @@ pub mod Responses
 pub mod FaultLaws
 pub mod StartLaws
 pub mod Headline
+pub mod GuardedPrograms
 pub mod Completeness
 pub mod internal

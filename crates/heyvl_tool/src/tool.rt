@@ -3,6 +3,7 @@
 ghost use Rattle.heyvl_io.specs.declared.reading.ReadStop.{ReadStop};
 ghost use Rattle.heyvl_files.specs.Sources.{file_limit};
 ghost use Rattle.heyvl_tool.specs.Calls.{IsFilesReply, IsReadReply, IsSaid};
+ghost use Rattle.heyvl_tool.specs.GuardedPrograms.{ProgramsAreMeant};
 ghost use Rattle.heyvl_tool.specs.Headline.{AnswersAreMeant, SumsAreMeant};
 ghost use Rattle.heyvl_tool.specs.Outcomes.{HasCause, IsAnswered, IsDelivered, IsOutOfMemory};
 ghost use Rattle.heyvl_tool.specs.Responses.{reply_of};
@@ -17,6 +18,7 @@ use crate::commands::respond;
 use crate::moments::{Called, Written};
 use crate::responses::{Response, Text, message};
 use crate::{Fault, Files, Outcome, Settings, SettingsStop};
+use heyvl_files::program_files_have_sums;
 use heyvl_io::{ReadStop, Sink, Source, read_all, write_all};
 use heyvl_types::resolved_files_meet_the_rules;
 use run_unroller::unrolled_sums_are_meant;
@@ -39,10 +41,11 @@ pub fn run_tool<F: Source, K: Sink>(
     ensures answered { IsAnswered (⟦<F as Called>⟧.made (map string_bytes words.now.items) source.old source.new) (⟦<K as Written>⟧.done sink.old sink.new) result
         ⊎ IsOutOfMemory (⟦<K as Written>⟧.done sink.old sink.new) result }
 
-    // What the answers mean, and the numbers of a run, for the bytes that were read: those that the source holds, where it tells them. Any
-    // source may be meant, also one that tells nothing.
+    // What the answers mean, the numbers of a run, and the file that a program of guarded commands becomes, for the bytes that were read: those
+    // that the source holds, where it tells them. Any source may be meant, also one that tells nothing.
     ensures verified { AnswersAreMeant (⟦<F as Called>⟧.made (map string_bytes words.now.items) source.old source.new) (⟦<K as Written>⟧.done sink.old sink.new) result }
     ensures summed { SumsAreMeant (⟦<F as Called>⟧.made (map string_bytes words.now.items) source.old source.new) (⟦<K as Written>⟧.done sink.old sink.new) result }
+    ensures translated { ProgramsAreMeant (⟦<F as Called>⟧.made (map string_bytes words.now.items) source.old source.new) (⟦<K as Written>⟧.done sink.old sink.new) result }
 
     // Which names are started.
     ensures started { IsStartedRight (⟦<F as Called>⟧.made (map string_bytes words.now.items) source.old source.new) (result.fault ≡ Fault.Memory) }
@@ -53,6 +56,7 @@ pub fn run_tool<F: Source, K: Sink>(
 {
     resolved_files_meet_the_rules();
     unrolled_sums_are_meant();
+    program_files_have_sums();
     match response_to(alloc, words, source) {
         Ok(response) => deliver(response, sink),
         Err(_) => Outcome {

@@ -1,4 +1,5 @@
 use Rattle.heyvl_tool.proofs.HeadlineLemmas.{answers_meant}
+use Rattle.heyvl_tool.proofs.ProgramHeadline.{programs_meant}
 use Rattle.heyvl_tool.proofs.RunHeadline.{sums_meant}
 use Rattle.heyvl_tool.proofs.tool.run_tool.Goals as goal
 
@@ -7,3 +8,6 @@ returns-in-Ok-clause-verified g c = answers_meant _ _ _ _ c.in-Ok.ensures.cause 
 
 pub returns-in-Ok-clause-summed : goal.returns-in-Ok-clause-summed
 returns-in-Ok-clause-summed g c = sums_meant c.unrolled_sums_are_meant.ensures c.resolved_files_meet_the_rules.ensures.procedures _ _ _ _ c.in-Ok.ensures.cause c.deliver.ensures.delivered
+
+pub returns-in-Ok-clause-translated : goal.returns-in-Ok-clause-translated
+returns-in-Ok-clause-translated g c = programs_meant c.program_files_have_sums.ensures _ _ _ _ c.in-Ok.ensures.cause c.deliver.ensures.delivered

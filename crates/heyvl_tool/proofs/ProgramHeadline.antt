@@ -1,0 +1,48 @@
+-- What the file that `pgcl` writes means, from the reply that a call made.
+use Rattle.heyvl_files.specs.Programs.{IsProgramFile, ProgramFilesHaveSums}
+use Rattle.heyvl_syntax.specs.Procedures.{Procedure}
+use Rattle.heyvl_tool.proofs.CallLemmas.CameTo.{failed, said, too_long}
+use Rattle.heyvl_tool.proofs.CallLemmas.{CameTo, came_to}
+use Rattle.heyvl_tool.proofs.RunHeadline.{fault_is, no_read, no_source, not_long, written_whole}
+use Rattle.heyvl_tool.specs.Calls.{Call}
+use Rattle.heyvl_tool.specs.GuardedPrograms.{IsTranslatedFrom, ProgramsAreMeant}
+use Rattle.heyvl_tool.specs.Messages.{Reply}
+use Rattle.heyvl_tool.specs.Outcomes.{HasCause, IsDelivered, IsWritten, Writing}
+use Rattle.heyvl_tool.specs.commands.Pgcl.IsPgclReply.{by_fault, by_file}
+use Rattle.heyvl_tool.specs.commands.Pgcl.{IsPgclReply}
+use Rattle.heyvl_tool.specs.commands.Print.{printed}
+use Rattle.heyvl_tool.specs.commands.{Files}
+use Rattle.heyvl_tool.specs.declared.outcomes.Fault.TheVariants as faults
+use Rattle.heyvl_tool.specs.declared.outcomes.Outcome.{Outcome}
+use Rattle.heyvl_tool.specs.declared.requests.Settings.TheVariants.{Pgcl}
+use Rattle.std.proofs.Common.{List, [], refl, subst, sym, ◌∙◌, ◌≡◌, ℕ}
+
+-- The file that bytes become, and that its text is the reply.
+record Translated (bytes : List ℕ) (reply : Reply) : Type 0 where
+  file : List Procedure
+  becomes : IsProgramFile bytes file
+  told : reply ≡ printed file
+
+translated_by : (bytes : List ℕ) (reply : Reply) → reply.fault ≡ faults.Nothing → IsPgclReply bytes reply → Translated bytes reply
+translated_by bytes reply finished (by_fault number place fault e) = absurd (no_source number place (fault_is reply _ faults.Nothing e finished))
+translated_by bytes reply finished (by_file file is e) = record { file = file; becomes = is; told = e }
+
+from_came : ProgramFilesHaveSums → (name : List ℕ) (made : Call) (done : Writing) (outcome : Outcome) (reply : Reply) → outcome.fault ≡ faults.Nothing → IsWritten reply done outcome → CameTo (Pgcl name) (Files.one name) made reply
+    → IsTranslatedFrom name made done outcome
+from_came summed name made done outcome reply finished written (failed k rose e) = absurd (no_read k (fault_is reply _ faults.Nothing e (sym written.fault ∙ finished)))
+from_came summed name made done outcome reply finished written (too_long k taken e) = absurd (not_long k (fault_is reply _ faults.Nothing e (sym written.fault ∙ finished)))
+from_came summed name made done outcome reply finished written (said bytes text read replied) =
+    let t = translated_by bytes reply (sym written.fault ∙ finished) replied in
+    record {
+      bytes = bytes;
+      read = (read.0, refl);
+      file = t.file;
+      becomes = t.becomes;
+      sums = summed bytes t.file t.becomes;
+      written = subst (λ (r : Reply). IsWritten r done outcome) t.told written;
+    }
+
+-- Where a reply to `pgcl` has its cause, was delivered, and has no fault, its text is that of a file with the program's sums.
+pub programs_meant : ProgramFilesHaveSums → (made : Call) (done : Writing) (outcome : Outcome) (reply : Reply) → HasCause made reply → IsDelivered reply done outcome → ProgramsAreMeant made done outcome
+programs_meant summed made done outcome reply cause delivered name asks finished =
+    from_came summed name made done outcome reply finished (written_whole reply done outcome finished delivered.delivered) (came_to (Pgcl name) made reply asks cause)
