@@ -31,7 +31,8 @@ use Rattle.verdict_report.specs.declared.answers.Answer.{Answer}
 use Rattle.verdict_report.specs.declared.answers.LoopAnswer.{LoopAnswer}
 use Rattle.verdict_report.specs.declared.answers.Verdict.TheVariants.{NoBody, NotVerified, Verified}
 use Rattle.verdict_report.specs.declared.answers.Verdict.{Verdict}
-use Rattle.verify_core.specs.Headline.{IsHeadline, IsVerdictOn, says_proved}
+use Rattle.verify_core.specs.Headline.{IsHeadline, says_proved}
+use Rattle.verdict_report.specs.VerdictsOn.{IsVerdictOn}
 
 -- ---- A file: `coproc f() -> ()`
 

@@ -15,7 +15,7 @@ use Rattle.verdict_report.specs.declared.answers.Answer.{Answer}
 use Rattle.verdict_report.specs.declared.answers.RankVerdict.TheVariants.{Ranked}
 use Rattle.verdict_report.specs.declared.answers.Verdict.TheVariants.{Verified}
 use Rattle.lower_rules.specs.RemainderAnswers.{HasBoundedTurns, IsPromised, IsRemainderAnswer, IsUnranked, IsUnverified}
-use Rattle.lower_rules.specs.VerdictsOn.{IsVerdictOn, IsVerdictOnLoop}
+use Rattle.verdict_report.specs.VerdictsOn.{IsVerdictOn, IsVerdictOnLoop}
 use Rattle.lower_rules.specs.declared.remainder_answers.Remainder.{Remainder}
 use Rattle.lower_rules.specs.declared.remainder_pairs.RankedParts.{RankedParts}
 use Rattle.lower_rules.specs.internal.Parts.{IsPairAs}

@@ -29,7 +29,7 @@ use Rattle.lower_rules.specs.Remainder.{BoundsWithRemainder, HasSmallPost}
 use Rattle.lower_rules.specs.RemainderAnswers.{HasBoundedTurns, IsPromised, IsRemainderAnswer}
 use Rattle.lower_rules.specs.RemainderPairs.{RemainderPair}
 use Rattle.lower_rules.specs.StartGoals.{StartHolds}
-use Rattle.lower_rules.specs.VerdictsOn.{IsVerdictOn, IsVerdictOnLoop}
+use Rattle.verdict_report.specs.VerdictsOn.{IsVerdictOn, IsVerdictOnLoop}
 use Rattle.lower_rules.specs.internal.Started.{IsStarted, answer_by}
 use Rattle.lower_rules.proofs.LoopParts.{body_in_order}
 use Rattle.lower_rules.proofs.OmegaBounds.{alike}

@@ -10,7 +10,7 @@ use Rattle.verdict_report.specs.declared.answers.RankVerdict.{RankVerdict}
 use Rattle.verdict_report.specs.declared.answers.RankVerdict.TheVariants as rank
 use Rattle.verdict_report.specs.declared.answers.Verdict.{Verdict}
 use Rattle.verdict_report.specs.declared.answers.Verdict.TheVariants as verdict
-use Rattle.lower_rules.specs.VerdictsOn.{IsVerdictOn, IsVerdictOnLoop}
+use Rattle.verdict_report.specs.VerdictsOn.{IsVerdictOn, IsVerdictOnLoop}
 use Rattle.lower_rules.specs.internal.Said.{ranks, says_ranked, says_verified}
 
 -- ---- The answer at a place

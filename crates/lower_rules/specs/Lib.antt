@@ -3,7 +3,6 @@ pub mod Collected
 pub mod Omega
 pub mod Remainder
 pub mod UpperGoals
-pub mod VerdictsOn
 pub mod RemainderPairs
 pub mod StartGoals
 pub mod RemainderAnswers

@@ -20,7 +20,7 @@ use Rattle.lower_rules.specs.Remainder.{BoundsWithRemainder}
 use Rattle.lower_rules.specs.RemainderPairs.{RemainderPair}
 use Rattle.lower_rules.specs.StartGoals.{StartFails, start_goal}
 use Rattle.lower_rules.specs.UpperGoals.{IsDecidedWithin}
-use Rattle.lower_rules.specs.VerdictsOn.{IsVerdictOn, IsVerdictOnLoop}
+use Rattle.verdict_report.specs.VerdictsOn.{IsVerdictOn, IsVerdictOnLoop}
 use Rattle.lower_rules.specs.declared.remainder_answers.Remainder.{Remainder}
 use Rattle.lower_rules.specs.declared.remainder_answers.Remainder.TheVariants.{Holds, NotVerified, NotRanked, Fails, Unknown, Shape}
 

@@ -9,7 +9,7 @@ ghost use Rattle.loop_encodings.specs.BoundGoals.{BoundGoalsHold};
 ghost use Rattle.lower_rules.specs.RemainderAnswers.{HasBoundedTurns, IsPromised, IsRemainderAnswer};
 ghost use Rattle.lower_rules.specs.RemainderPairs.{RemainderPair};
 ghost use Rattle.lower_rules.specs.StartGoals.{start_goal};
-ghost use Rattle.lower_rules.specs.VerdictsOn.{IsVerdictOn, IsVerdictOnLoop};
+ghost use Rattle.verdict_report.specs.VerdictsOn.{IsVerdictOn, IsVerdictOnLoop};
 ghost use Rattle.lower_rules.specs.internal.Parts.{IsPairAs};
 ghost use Rattle.lower_rules.specs.internal.Started.{IsStarted, answer_by};
 ghost use Rattle.ranking_rule.specs.MadeGoals.{IsMadeWithin};

@@ -1,6 +1,6 @@
 //! What answers say of one procedure, and of one of its loops.
 
-ghost use Rattle.lower_rules.specs.VerdictsOn.{IsVerdictOn, IsVerdictOnLoop};
+ghost use Rattle.verdict_report.specs.VerdictsOn.{IsVerdictOn, IsVerdictOnLoop};
 ghost use Rattle.lower_rules.specs.internal.Said.{ranks, says_ranked, says_verified};
 ghost use Rattle.std.specs.List.{list_any};
 ghost use Rattle.std.specs.Prelude.{false, length, true, ◌<◌, ◌≡◌};

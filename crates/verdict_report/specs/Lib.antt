@@ -6,4 +6,5 @@ pub mod GoalNames
 pub mod Verdicts
 pub mod Reports
 pub mod Placed
+pub mod VerdictsOn
 pub mod internal

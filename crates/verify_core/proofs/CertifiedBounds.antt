@@ -20,7 +20,8 @@ use Rattle.verify_core.specs.Checked.{AreChecked, CheckedGoal, IsCertified, IsCh
 use Rattle.verify_core.specs.CheckedAnswers.{IsCheckedAnswer, IsCheckedFile, IsCheckedVerdict}
 use Rattle.verify_core.specs.Decided.{or_else}
 use Rattle.verify_core.specs.GoalLaws.{MadeGoalsSayBounds}
-use Rattle.verify_core.specs.Headline.{FalsifiedBoundsBreak, IsVerdictOn, ProvedGoalsHold, ShownStatesFalsify, VerifiedBoundsHold, says_proved}
+use Rattle.verify_core.specs.Headline.{FalsifiedBoundsBreak, ProvedGoalsHold, ShownStatesFalsify, VerifiedBoundsHold, says_proved}
+use Rattle.verdict_report.specs.VerdictsOn.{IsVerdictOn}
 use Rattle.verify_core.specs.Numbered.{row_at}
 use Rattle.verify_core.specs.Questions.{goal, question}
 use Rattle.verify_core.proofs.Headlines.{program_there}

@@ -18,7 +18,8 @@ use Rattle.run_machine.specs.Step.{Decision}
 use Rattle.run_machine.specs.Sums.{sum_of}
 use Rattle.verdict_report.specs.declared.answers.Answer.{Answer}
 use Rattle.verdict_report.specs.declared.answers.Verdict.TheVariants.{Verified}
-use Rattle.verify_core.specs.Headline.{IsHeadline, IsVerdictOn}
+use Rattle.verify_core.specs.Headline.{IsHeadline}
+use Rattle.verdict_report.specs.VerdictsOn.{IsVerdictOn}
 
 abbrev nowhere : Span
 nowhere = record { from = 0; to = 0 }

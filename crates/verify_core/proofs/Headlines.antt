@@ -27,7 +27,8 @@ use Rattle.verify_core.specs.Answered.{AreAnswers, IsAnswer, IsClosed, IsVerdict
 use Rattle.verify_core.specs.Decided.{AreDecided, DecidedGoal, IsTable, all_proved, first_falsified, is_proved}
 use Rattle.verify_core.specs.DecidedRankings.{IsRankTable}
 use Rattle.verify_core.specs.GoalLaws.{MadeGoalsSayBounds}
-use Rattle.verify_core.specs.Headline.{IsBrokenFrom, IsFalsifiedIn, IsHeadline, IsVerdictOn, says_proved}
+use Rattle.verify_core.specs.Headline.{IsBrokenFrom, IsFalsifiedIn, IsHeadline, says_proved}
+use Rattle.verdict_report.specs.VerdictsOn.{IsVerdictOn}
 use Rattle.verify_core.specs.Numbered.{row_at}
 use Rattle.verify_core.specs.Questions.{goal, question}
 use Rattle.verify_core.specs.Rankings.{ranked_loops}

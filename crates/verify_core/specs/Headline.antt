@@ -1,5 +1,5 @@
 -- What the answers of a file promise of its runs. This project's own.
-use Rattle.std.specs.Prelude.{◌≡◌, ◌≤◌, ℕ, Bool, true, false, List, ◌∷◌, ◌++◌, length, take, Vec}
+use Rattle.std.specs.Prelude.{◌≡◌, ◌≤◌, ℕ, Bool, true, false, List, length, take, Vec}
 use Rattle.std.specs.declared.alloc.Global.{Global}
 use Rattle.heylo_formula.specs.declared.goals.GoalId.{GoalId}
 use Rattle.heylo_formula.specs.declared.goals.GoalId.TheVariants.{Main}
@@ -14,22 +14,11 @@ use Rattle.loop_encodings.specs.Law.{IsBroken}
 use Rattle.heyvl_acts.specs.Straight.{IsStraight}
 use Rattle.ranking_rule.specs.Rankings.{IsNoRanking, IsRanking, RankedLoop}
 use Rattle.run_machine.specs.Bound.{Bound, IsState, RankedBy}
-use Rattle.std.specs.List.{Contains}
 use Rattle.verdict_report.specs.declared.answers.Answer.{Answer}
-use Rattle.verdict_report.specs.declared.answers.LoopAnswer.{LoopAnswer}
-use Rattle.verdict_report.specs.declared.answers.RankVerdict.{RankVerdict}
 use Rattle.verdict_report.specs.declared.answers.RankVerdict.TheVariants.{NotRanked, Ranked}
 use Rattle.verdict_report.specs.declared.answers.Verdict.{Verdict}
 use Rattle.verdict_report.specs.declared.answers.Verdict.TheVariants.{Verified, Valid, NotVerified, Unknown, Unchecked, Conditional, NoBody}
-
--- This is the verdict on the procedure with the number p.
-pub record IsVerdictOn (answers : List Answer) (p : ℕ) (v : Verdict) : Type 0 where
-  pub before : List Answer
-  pub answer : Answer
-  pub behind : List Answer
-  pub all : answers ≡ before ++ (answer ∷ behind)
-  pub place : length before ≡ p
-  pub verdict : answer.verdict ≡ v
+use Rattle.verdict_report.specs.VerdictsOn.{IsVerdictOn, IsVerdictOnLoop}
 
 -- Each procedure that is verified has its bound over all runs: of a coproc, from every initial state, under every scheduler and
 -- for every n, reward and post over runs of at most n steps, weighted exactly, are at most its pre; of a weak proc, post so
@@ -70,18 +59,6 @@ pub record IsBrokenFrom (ps : List TypedProcedure) (p : ℕ) (s : List Val) : Ty
 
 abbrev pub FalsifiedBoundsBreak : List TypedProcedure → List Answer → Type 0
 FalsifiedBoundsBreak ps answers = (p : ℕ) (s : Vec Val Global) → IsVerdictOn answers p (NotVerified Main s) → IsProgram (procedure_at ps p) → Each IsStraight (in_order (acts_in (procedure_at ps p).body)) → IsBrokenFrom ps p (take (length (variables (procedure_at ps p))) s.items)
-
--- The verdict on the ranking of the loop n of the procedure with the number p.
-pub record IsVerdictOnLoop (answers : List Answer) (p n : ℕ) (v : RankVerdict) : Type 0 where
-  pub before : List Answer
-  pub answer : Answer
-  pub behind : List Answer
-  pub all : answers ≡ before ++ (answer ∷ behind)
-  pub place : length before ≡ p
-  pub line : LoopAnswer
-  pub listed : Contains answer.loops.items line
-  pub number : line.number ≡ n
-  pub verdict : line.rank ≡ v
 
 -- Each loop that is ranked has a ranking, the ranking's goal holds for every state and all choices, and it bounds the loop's turns: from every state of its procedure, under every scheduler and
 -- for every n, the expected turns of the loop alone within n steps, times the ranking's step, are at most the ranking. This holds
