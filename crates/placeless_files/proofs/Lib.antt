@@ -1,0 +1,4 @@
+pub mod PlacelessForms
+pub mod PlacelessActs
+pub mod PlacelessProcedures
+pub mod PlacelessRuns

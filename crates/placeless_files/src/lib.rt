@@ -1,0 +1,6 @@
+//! Laws of files that differ in places alone: their procedures have the same states, sums and bounds.
+#![tactic(auto)]
+
+mod laws;
+
+pub use laws::places_do_not_run;
