@@ -4,6 +4,7 @@ mod FewProcedures
 mod Meanings
 mod NamedBinders
 mod ProgramFiles
+mod ProgramSums
 mod ReadyFiles
 mod SmallForms
 mod Spelled

@@ -1,7 +1,6 @@
 -- A program becomes one file, or has one first fault.
-use Rattle.guarded_runs.specs.EqualSums.{BoundsCarryOver, SumsAreEqual}
 use Rattle.heyvl_files.specs.Programs.IsProgramFault.{spelling, static}
-use Rattle.heyvl_files.specs.Programs.{IsProgramStop, IsTranslationStop, ProgramFaultIsUnique, ProgramFileIsUnique, ProgramFilesAreSpelled, ProgramFilesHaveNoFault, ProgramFilesHaveSums}
+use Rattle.heyvl_files.specs.Programs.{IsProgramStop, IsTranslationStop, ProgramFaultIsUnique, ProgramFileIsUnique, ProgramFilesAreSpelled, ProgramFilesHaveNoFault}
 use Rattle.heyvl_files.specs.declared.sources.SourceStop.TheVariants.{Fault, Memory}
 use Rattle.heyvl_files.specs.declared.sources.SourceStop.{SourceStop}
 use Rattle.heyvl_places.specs.declared.spans.Span.{Span}
@@ -21,13 +20,6 @@ stops_program bytes (Memory error) h = tt
 -- A fault of bytes is the program's.
 pub unlexed_at : (bytes : List ℕ) (n m : ℕ) (p q : Span) → m ≡ n → q ≡ p → Stops 0 bytes n p → IsPgclFault bytes m q
 unlexed_at bytes n m p q e f h = unlexed (rw (e, f) h)
-
--- The file that a program becomes has its sums.
-pub has_sums : SumsAreEqual → BoundsCarryOver → ProgramFilesHaveSums
-has_sums equal carry bytes file p = record {
-  equal = equal p.source.tokens file p.source.translation p.faultless;
-  bounded = carry p.source.tokens file p.source.translation p.faultless;
-}
 
 pub file_unique : PgclSourceIsUnique → ProgramFileIsUnique
 file_unique one bytes file other h k = one bytes file other h.source k.source

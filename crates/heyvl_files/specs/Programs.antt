@@ -22,15 +22,24 @@ pub record IsProgramFile (bytes : List ℕ) (file : List Procedure) : Type 0 whe
 abbrev pub program_of : (bytes : List ℕ) (file : List Procedure) → IsProgramFile bytes file → ProgramTree
 program_of bytes file p = p.source.translation.program
 
+-- Each sum of this program is at most its pre.
+abbrev pub IsProgramBounded : (bytes : List ℕ) (file : List Procedure) → IsProgramFile bytes file → Type 0
+IsProgramBounded bytes file p = IsGuardedBound (program_of bytes file p)
+
 -- The file has the sums of the program: those of `main`, its first procedure, are the program's; and where the bound of `main` holds,
 -- each sum of the program is at most its pre.
 pub record HasSumsOf (program : ProgramTree) (file : List Procedure) : Type 0 where
   pub equal : GuardedSumsAreEqual program file
   pub bounded : Bound (resolved file) 0 → IsGuardedBound program
 
--- Where the bytes spell a program that becomes this file, the file has the sums of the program.
+-- The file that was made has the sums of the program, and so has each file that its canonical text spells.
+pub record KeepsSumsOf (program : ProgramTree) (file : List Procedure) : Type 0 where
+  pub made : HasSumsOf program file
+  pub written : (other : List Procedure) → Spells (canonical_text file) other → HasSumsOf program other
+
+-- Where the bytes spell a program that becomes this file, the file has the sums of the program, and so has what its text spells.
 abbrev pub HasProgramSums : List ℕ → List Procedure → Type 0
-HasProgramSums bytes file = (p : IsProgramFile bytes file) → HasSumsOf (program_of bytes file p) file
+HasProgramSums bytes file = (p : IsProgramFile bytes file) → KeepsSumsOf (program_of bytes file p) file
 
 -- The first fault of a program with these bytes: one of 1 to 3, 5, 30 and 31, or else the first static one of the file that it becomes,
 -- at the place of what that part was made of.
@@ -48,7 +57,7 @@ abbrev pub IsProgramStop : List ℕ → SourceStop → Type 0
 IsProgramStop bytes (Fault number place) = IsProgramFault bytes number place
 IsProgramStop bytes (Memory error) = Unit {0}
 
--- Each file that a program becomes has the sums of this program.
+-- Each file that a program becomes has the sums of this program, and so has each file that its canonical text spells.
 abbrev pub ProgramFilesHaveSums : Type 0
 ProgramFilesHaveSums = (bytes : List ℕ) (file : List Procedure) → HasProgramSums bytes file
 

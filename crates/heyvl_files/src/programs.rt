@@ -7,11 +7,13 @@ ghost use Rattle.pgcl_front.specs.Sources.{IsPgclSource};
 ghost use Rattle.std.specs.Prelude.{IfOk, MatchResult, length, ◌≤◌};
 
 use crate::fault_lines::token_place;
+use crate::print_laws::spelling_is_unique;
 use crate::sources::SourceStop;
 use guarded_runs::{bounds_carry_over, sums_are_equal};
 use heyvl_syntax::{File, LexStop, lex};
 use heyvl_types::{ResolveStop, resolve};
 use pgcl_front::{PgclStop, pgcl_sources_are_unique, translate, translations_are_spelled};
+use placeless_files::places_do_not_run;
 use std::alloc::Global;
 
 /// The file that the program with these bytes becomes, or the first of its faults of bytes, tokens and names.
@@ -36,7 +38,7 @@ fn translated_file(alloc: Global, bytes: &[u8]) -> Result<File, SourceStop>
 
 /// The file of HeyVL that the program of guarded commands with these bytes becomes, at most 1,048,576 of them, where it has no static fault; or
 /// the program's first fault: 1 to 3, then 5, 30 and 31, and then those of the file, each at a place of the program. The file has the sums
-/// of the program's runs.
+/// of the program's runs, and so has each file that its canonical text spells.
 pub fn program_file(alloc: Global, bytes: &[u8]) -> Result<File, SourceStop>
     requires { length bytes.now ≤ file_limit }
     ensures made { MatchResult result (λ file. IsProgramFile bytes.now (procedures file)) (λ stop. IsProgramStop bytes.now stop) }
@@ -67,10 +69,14 @@ pub fn program_files_are_unique()
 }
 
 /// The upper sums of a program's runs, by the steps of guarded commands, are those of the runs of `main` in the file that the program becomes; and
-/// where the bound of `main` holds, each of them is at most the program's pre.
+/// where the bound of `main` holds, each of them is at most the program's pre. The same holds of each file that the file's canonical text
+/// spells.
 pub fn program_files_have_sums()
     ensures { ProgramFilesHaveSums }
 {
     sums_are_equal();
     bounds_carry_over();
+    places_do_not_run();
+    spelling_is_unique();
+    program_files_are_unique();
 }
