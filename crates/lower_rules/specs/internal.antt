@@ -1,7 +1,6 @@
 pub mod Shapes
 pub mod Said
 pub mod Parts
-pub mod Startable
 pub mod Started
 pub mod Decidable
 pub mod Pairs

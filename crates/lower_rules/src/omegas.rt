@@ -5,14 +5,16 @@ ghost use Rattle.heyvl_acts.specs.PlainActs.{procedures_of};
 ghost use Rattle.heyvl_acts.specs.Rules.{Each, MeetsAllRules};
 ghost use Rattle.lower_rules.specs.OmegaAnswers.{IsOmegaAnswer, OmegaHolds, ShownStateFails};
 ghost use Rattle.lower_rules.specs.declared.answers.Omega.TheVariants.{Holds};
-ghost use Rattle.lower_rules.specs.internal.Pairs.{IsReady, IsToldOf};
+ghost use Rattle.lower_rules.specs.internal.Pairs.{IsReady, IsStep, IsToldOf};
 ghost use Rattle.std.specs.Prelude.{IfOk, length, ◌<◌, ◌^◌, ◌≡◌};
 
 use crate::answers::{Omega, Step};
+use crate::decisions::decided;
 use crate::laws::omega_bounds_runs;
 use crate::pairs::{Pair, pair_of};
-use crate::step_goals::{decided_base, decided_one, decided_turn};
+use crate::step_goals::step_goal;
 use crate::telling::{answer_of, both};
+use goal_answers::Decision;
 use heyvl_acts::Typed;
 use std::alloc::{AllocError, Global};
 use vp_generator::{
@@ -49,9 +51,21 @@ fn answer_on<'a>(alloc: Global, pair: &Pair<'a>) -> Result<Omega, AllocError>
     requires ready { IsReady pair.now }
     ensures { IfOk result (λ answer. IsToldOf pair.now answer) }
 {
-    let one = decided_one(alloc, pair)?;
-    let base = decided_base(alloc, pair)?;
-    let turn = decided_turn(alloc, pair)?;
+    let one = decided_step(alloc, pair, Step::One)?;
+    let base = decided_step(alloc, pair, Step::Base)?;
+    let turn = decided_step(alloc, pair, Step::Turn)?;
     let behind = both(answer_of(Step::Base, base), answer_of(Step::Turn, turn));
     Ok(both(answer_of(Step::One, one), behind))
+}
+
+/// What is decided of the goal of a step.
+fn decided_step<'a>(alloc: Global, pair: &Pair<'a>, step: Step) -> Result<Decision, AllocError>
+    requires { IsReady pair.now }
+    ensures { IfOk result (λ d. IsStep pair.now step d) }
+{
+    generated_form_means_acts();
+    prenexed_form_means_choices();
+    prenexed_goals_speak_of_choices();
+    let made = step_goal(alloc, pair, step)?;
+    decided(alloc, &made)
 }

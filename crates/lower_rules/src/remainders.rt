@@ -20,9 +20,10 @@ ghost use Rattle.verdict_report.specs.declared.answers.Answer.{Answer as plain_a
 ghost use Rattle.verdict_report.specs.declared.answers.RankVerdict.TheVariants.{Ranked};
 ghost use Rattle.verdict_report.specs.declared.answers.Verdict.TheVariants.{Verified};
 
+use crate::decisions::decided;
 use crate::remainder_answers::Remainder;
 use crate::remainder_pairs::{RankedParts, pair_of};
-use crate::start_goals::{decided, start_goal};
+use crate::start_goals::start_goal;
 use crate::verdicts::{is_ranked, is_verified};
 use goal_answers::Decision;
 use heylo_formula::Made;

@@ -11,6 +11,7 @@ ghost use Rattle.std.specs.Prelude.{IfOk, length, map, ◌+◌, ◌<◌, ◌^◌
 ghost use Rattle.vp_generator.specs.PrenexedGoals.{names_of_variables, types_of_variables};
 ghost use Rattle.vp_generator.specs.Scopes.{AreNamed};
 
+use crate::copies::{copied, copy_of};
 use crate::pairs::Pair;
 use heylo_formula::{Form, Goal, Ty};
 use heyvl_acts::VarInfo;
@@ -74,24 +75,4 @@ pub(crate) fn goal_variables<'a>(alloc: Global, pair: &Pair<'a>) -> Result<Vec<V
     let mut vars = copied(alloc, &pair.procedure.vars)?;
     vars.push(copy_of(alloc, &pair.other.vars[pair.one.scope.len()])?)?;
     Ok(vars)
-}
-
-/// Variables of the same names and types.
-fn copied(alloc: Global, all: &[VarInfo]) -> Result<Vec<VarInfo>, AllocError>
-    ensures { IfOk result (λ vars. map variable_of vars.items ≡ map variable_of all.now) }
-{
-    let mut vars = Vec::new(alloc);
-    for variable in all {
-        vars.push(copy_of(alloc, variable)?)?;
-    }
-    Ok(vars)
-}
-
-fn copy_of(alloc: Global, variable: &VarInfo) -> Result<VarInfo, AllocError>
-    ensures { IfOk result (λ made. variable_of made ≡ variable_of variable.now) }
-{
-    Ok(VarInfo {
-        name: variable.name.copy(alloc)?,
-        ty: variable.ty,
-    })
 }

@@ -1,8 +1,10 @@
--- What the decision of a goal asks of it.
+-- What the decision of a goal that was made asks of it.
 use Rattle.std.specs.Prelude.{◌<◌, ◌^◌, length}
-use Rattle.heylo_formula.specs.Goals.{Goal}
+use Rattle.heylo_formula.specs.Goals.{Goal, goal_of}
 use Rattle.heylo_formula.specs.Sizes.{nodes}
 use Rattle.heylo_formula.specs.TypedGoals.{HasItsVariables, IsTypedGoal}
+use Rattle.heylo_formula.specs.declared.goals.Made.{Made}
+use Rattle.heylo_formula.specs.declared.goals.Made.TheVariants as made
 
 -- The goal is typed and over its own variables, and neither its forms nor its variables are too many.
 pub record IsDecidable (g : Goal) : Type 0 where
@@ -11,3 +13,9 @@ pub record IsDecidable (g : Goal) : Type 0 where
   pub stated : nodes g.stated < 2 ^ 29
   pub found : nodes g.found < 2 ^ 29
   pub variables : length g.types < 2 ^ 31
+
+-- A goal is so; of a limit that is passed nothing is asked.
+abbrev pub CanDecide : Made → Type 0
+CanDecide (made.Goal g) = IsDecidable (goal_of g)
+CanDecide made.Depth = Unit {0}
+CanDecide made.Nodes = Unit {0}

@@ -5,6 +5,8 @@ use Rattle.heylo_formula.specs.Formula.{Form}
 use Rattle.heylo_formula.specs.PlainTrees.{form_of}
 use Rattle.heylo_formula.specs.Typing.{types_in}
 use Rattle.heylo_formula.specs.Variables.{IsOver}
+use Rattle.heylo_formula.specs.declared.goals.Made.{Made}
+use Rattle.heylo_formula.specs.declared.goals.Made.TheVariants as made
 use Rattle.heylo_formula.specs.declared.types.Ty.{Ty}
 use Rattle.heyvl_acts.proofs.exported.PlainActsAre.{head_of}
 use Rattle.heyvl_acts.specs.Acts.{Acts, Head, TypedProcedure, procedure_at}
@@ -15,9 +17,7 @@ use Rattle.heyvl_acts.specs.declared.typed.TProc.{TProc}
 use Rattle.heyvl_acts.specs.declared.typed.Typed.{Typed}
 use Rattle.heyvl_acts.specs.declared.typed.VarInfo.{VarInfo}
 use Rattle.region_split.specs.Meanings.{Tells}
-use Rattle.goal_answers.specs.declared.causes.Cause.TheVariants as cause
 use Rattle.goal_answers.specs.declared.decisions.Decision.{Decision}
-use Rattle.goal_answers.specs.declared.decisions.Decision.TheVariants as decision
 use Rattle.vp_generator.specs.Limits.{IsSmall}
 use Rattle.vp_generator.specs.declared.stops.VpStop.{VpStop}
 use Rattle.vp_generator.specs.declared.stops.VpStop.TheVariants as stop
@@ -26,7 +26,7 @@ use Rattle.lower_rules.specs.OmegaAnswers.{told}
 use Rattle.lower_rules.specs.OmegaGoals.{after_body, limited, step_goal}
 use Rattle.lower_rules.specs.OmegaPairs.{IsOmegaPair, OmegaPair, formula_of}
 use Rattle.lower_rules.specs.OneLoop.{IsOneLoop}
-use Rattle.lower_rules.specs.UpperGoals.{IsDecidedWithin}
+use Rattle.lower_rules.specs.UpperGoals.{IsDecidedWithin, IsMadeFor}
 use Rattle.lower_rules.specs.declared.answers.Omega.{Omega}
 use Rattle.lower_rules.specs.declared.answers.Step.{Step}
 use Rattle.lower_rules.specs.declared.answers.Step.TheVariants.{One, Base, Turn}
@@ -88,6 +88,23 @@ abbrev pub IsPairOf : Typed → ℕ → ℕ → Option Pair → Type 0
 IsPairOf typed p q (Some x) = IsPairAt typed p q x
 IsPairOf typed p q None = OmegaPair (procedure_at (procedures_of typed) p) (procedure_at (procedures_of typed) q) → ⊥
 
+-- ---- What is made
+
+-- This is made of the goal of a step.
+abbrev pub IsMadeStep : Pair → Step → Made → Type 0
+IsMadeStep x step m = IsMadeFor (step_goal (first x) (head x) (body x) (behind x) (second x) step) (limited (first x) (body x) (behind x) (formula_of (first x) (head x) (second x)) step) m
+
+-- The limit that a form passes; want of memory is none.
+abbrev pub IsLimitBy : VpStop → Made → Type 0
+IsLimitBy stop.Depth m = m ≡ made.Depth
+IsLimitBy stop.Nodes m = m ≡ made.Nodes
+IsLimitBy (stop.Memory e) m = ⊥
+
+-- This is what a turn makes of the formula, and it is small.
+pub record IsTurnOf (x : Pair) (f : Form) : Type 0 where
+  pub form : f ≡ after_body (body x) (formula_of (first x) (head x) (second x))
+  pub small : IsSmall f
+
 -- ---- What is decided
 
 -- This is decided of the goal of a step, and tells of its states.
@@ -104,14 +121,3 @@ pub record IsToldOf (x : Pair) (answer : Omega) : Type 0 where
   pub base_is : IsStep x Base base
   pub turn_is : IsStep x Turn turn
   pub is_told : answer ≡ told one base turn
-
--- Nothing is known, for the limit that a form passes; want of memory is no decision.
-abbrev pub IsUnknownBy : VpStop → Decision → Type 0
-IsUnknownBy stop.Depth d = d ≡ decision.Unknown cause.Depth
-IsUnknownBy stop.Nodes d = d ≡ decision.Unknown cause.Nodes
-IsUnknownBy (stop.Memory e) d = ⊥
-
--- This is what a turn makes of the formula, and it is small.
-pub record IsTurnOf (x : Pair) (f : Form) : Type 0 where
-  pub form : f ≡ after_body (body x) (formula_of (first x) (head x) (second x))
-  pub small : IsSmall f

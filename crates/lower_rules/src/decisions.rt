@@ -1,0 +1,26 @@
+//! What is decided of a goal that was made.
+
+ghost use Rattle.heylo_formula.specs.Formula.{Form as plain_form};
+ghost use Rattle.heylo_formula.specs.Goals.{Goal as plain_goal};
+ghost use Rattle.lower_rules.specs.UpperGoals.{IsDecidedWithin, IsMadeFor};
+ghost use Rattle.lower_rules.specs.internal.Decidable.{CanDecide};
+ghost use Rattle.region_split.specs.Meanings.{Tells};
+ghost use Rattle.std.specs.Prelude.{IfOk, List};
+
+use goal_answers::{Cause, Decision};
+use heylo_formula::Made;
+use region_split::decide;
+use std::alloc::{AllocError, Global};
+
+/// The decision of a goal; where there is none, nothing is known for the limit that one of its forms passes.
+pub(crate) fn decided(alloc: Global, made: &Made) -> Result<Decision, AllocError>
+    requires { CanDecide made.now }
+    ensures decision { (g : plain_goal) (forms : List plain_form) → IsMadeFor g forms made.now → IfOk result (λ d. IsDecidedWithin g forms d) }
+    ensures meaning { (g : plain_goal) (forms : List plain_form) → IsMadeFor g forms made.now → IfOk result (λ d. Tells g d) }
+{
+    match made {
+        Made::Goal(goal) => decide(alloc, goal),
+        Made::Depth => Ok(Decision::Unknown(Cause::Depth)),
+        Made::Nodes => Ok(Decision::Unknown(Cause::Nodes)),
+    }
+}
