@@ -15,7 +15,7 @@ pub mod RemainderPairs
 pub mod LentPairs
 pub mod StartParts
 pub mod StartLaws
-pub mod StartDecisions
+pub mod MadeDecisions
 pub mod MadeForms
 pub mod MadeStarts
 pub mod Promised
@@ -32,8 +32,8 @@ pub mod GoalForms
 pub mod MeantGoals
 pub mod MadeUpperGoals
 pub mod PairShapes
-pub mod ProcedureVariables
 pub mod ReadyPairs
 pub mod StepWays
+pub mod OmegaGoals
 pub mod ToldAnswers
 pub mod PairsAt

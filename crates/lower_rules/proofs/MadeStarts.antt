@@ -1,6 +1,7 @@
 -- What is made and decided of the parts that the program lends of a remainder pair.
 use Rattle.std.proofs.Common.{◌≡◌, ◌∙◌, ◌<◌, ◌^◌, ℕ, sym, ap, subst, arith, List, [], ◌∷◌, length, get_or, map}
 use Rattle.std.proofs.lemmas.List.{length-map}
+use Rattle.std.proofs.lemmas.Result.{IfOk-weaker}
 use Rattle.std.specs.Prelude.{Result, IfOk, true}
 use Rattle.std.specs.declared.alloc.AllocError.{AllocError}
 use Rattle.heyvl_num.specs.Rational.{Rational}
@@ -34,10 +35,10 @@ use Rattle.lower_rules.specs.StartGoals.{start_goal}
 use Rattle.lower_rules.specs.UpperGoals.{IsDecidedWithin}
 use Rattle.lower_rules.specs.declared.remainder_pairs.RankedParts.{RankedParts}
 use Rattle.lower_rules.specs.internal.Parts.{IsPairAs}
-use Rattle.lower_rules.specs.internal.Startable.{CanDecide}
+use Rattle.lower_rules.specs.internal.Decidable.{CanDecide}
 use Rattle.lower_rules.specs.internal.Started.{IsStarted, TellsOfStart}
 use Rattle.lower_rules.proofs.RemainderPairs.{one_front, one_rank}
-use Rattle.lower_rules.proofs.StartDecisions.{both_ok, can_decide, each_ok}
+use Rattle.lower_rules.proofs.MadeDecisions.{both_ok, can_decide}
 use Rattle.lower_rules.proofs.StartLaws.{start_fails, start_fit, start_holds, start_is_few, start_is_goal, start_named}
 use Rattle.lower_rules.proofs.StartParts.{IsStart, is_start, start_as}
 
@@ -96,7 +97,7 @@ module _ (typed : Typed) (p q : ℕ) (parts : RankedParts) (all : MeetsAllRules 
       made_is m h = subst (λ (us : List Variable). IsMadeWithin found (goal_over true us other.pre found) m) vars_are (subst (λ b. IsMadeWithin found (goal_over true (map variable_of vs) b found) m) bound_is h)
 
       pub all_made : (r : Result Made AllocError) → IfOk r (λ m. IsMadeWithin found (goal_over true (map variable_of vs) (form_of y.pre) found) m) → IfOk r (λ m. IsMadeWithin found (start_goal one front rank other.pre) m)
-      all_made r h = each_ok (λ m. IsMadeWithin found (goal_over true (map variable_of vs) (form_of y.pre) found) m) (λ m. IsMadeWithin found (start_goal one front rank other.pre) m) r made_is h
+      all_made r h = IfOk-weaker r (λ m. IsMadeWithin found (goal_over true (map variable_of vs) (form_of y.pre) found) m) (λ m. IsMadeWithin found (start_goal one front rank other.pre) m) made_is h
 
   pub is_fit : AreFit (upward front) (form_of parts.ranking.now)
   is_fit = start_fit ps one other front rank start

@@ -14,7 +14,7 @@ use Rattle.heyvl_acts.specs.declared.acts.Act as A
 use Rattle.heyvl_acts.specs.declared.typed.TProc.{TProc}
 use Rattle.heyvl_acts.specs.declared.typed.VarInfo.{VarInfo}
 use Rattle.vp_generator.specs.PrenexedGoals.{types_of_variables}
-use Rattle.lower_rules.proofs.ProcedureVariables.{own_variables}
+use Rattle.loop_encodings.proofs.exported.OwnVariables.{own_variables}
 use Rattle.lower_rules.specs.OmegaPairs.{IsOmegaPair}
 use Rattle.lower_rules.specs.internal.Pairs.{IsBare, wanted}
 use Rattle.lower_rules.proofs.MadeUpperGoals.{same_types}

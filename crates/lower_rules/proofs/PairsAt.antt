@@ -10,6 +10,7 @@ use Rattle.heyvl_acts.specs.PlainActs.{procedure_of, procedures_of}
 use Rattle.heyvl_acts.specs.Rules.{Each, MeetsAllRules, MeetsRules}
 use Rattle.heyvl_acts.specs.declared.typed.TProc.{TProc}
 use Rattle.heyvl_acts.specs.declared.typed.Typed.{Typed}
+use Rattle.loop_encodings.proofs.exported.FromRules.{procedure_is}
 use Rattle.vp_generator.specs.Prenexed.{unbound}
 use Rattle.lower_rules.specs.OmegaPairs.{IsOmegaPair, OmegaPair, by_position, formula_of}
 use Rattle.lower_rules.specs.OneLoop.{IsOneLoop, OneLoop}
@@ -17,7 +18,7 @@ use Rattle.lower_rules.specs.declared.pairs.Pair.{Pair}
 use Rattle.lower_rules.specs.internal.Pairs.{IsPairAt, IsPlainOver, behind, body, head}
 use Rattle.lower_rules.proofs.GoalVariables.{each_less, each_place, inputs_length}
 use Rattle.lower_rules.proofs.OmegaParts.{scope_below}
-use Rattle.lower_rules.proofs.ReadyPairs.{held_at, procedure_is, scope_few, vars_few, vars_length}
+use Rattle.lower_rules.proofs.ReadyPairs.{held_at, scope_few, vars_few, vars_length}
 use Rattle.lower_rules.proofs.UniqueLoops.{unique_loops}
 
 -- ---- The variables that are visible at the loop

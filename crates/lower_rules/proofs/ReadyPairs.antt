@@ -3,10 +3,10 @@ use Rattle.std.proofs.Common.{◌≡◌, ◌∙◌, ◌<◌, ◌≤◌, ◌+◌,
 use Rattle.std.proofs.lemmas.List.{length-map}
 use Rattle.std.specs.List.{Contains}
 use Prim.Native.Nat.{zero, suc}
-use Rattle.goal_answers.specs.declared.decisions.Decision.{Decision}
 use Rattle.heylo_formula.specs.BinderNames.{binders}
 use Rattle.heylo_formula.specs.Formula.{Form}
 use Rattle.heylo_formula.specs.Sizes.{nodes}
+use Rattle.heylo_formula.specs.declared.goals.Made.{Made}
 use Rattle.heylo_formula.specs.declared.types.Ty.{Ty}
 use Rattle.heyvl_acts.specs.Acts.{Act, Acts, TypedProcedure, Variable, procedure_at, type_list, variables}
 use Rattle.heyvl_acts.specs.PlainActs.{procedure_of, variable_of}
@@ -15,8 +15,6 @@ use Rattle.heyvl_acts.specs.declared.typed.TProc.{TProc}
 use Rattle.heyvl_acts.specs.declared.typed.VarInfo.{VarInfo}
 use Rattle.heyvl_acts.proofs.exported.Each.{each_at}
 use Rattle.ranking_rule.proofs.exported.PrenexedSizes.{nodes_unbound}
-use Rattle.region_split.specs.Decisions.{IsDecision}
-use Rattle.region_split.specs.Meanings.{Tells}
 use Rattle.vp_generator.specs.Answers.{IsStop}
 use Rattle.vp_generator.specs.Fit.{AreFit}
 use Rattle.vp_generator.specs.Laws.{GeneratedFormIsFormula}
@@ -30,24 +28,20 @@ use Rattle.vp_generator.specs.declared.stops.VpStop.TheVariants as stop
 use Rattle.lower_rules.specs.OmegaGoals.{goal_variables, greater, limited, step_goal}
 use Rattle.lower_rules.specs.OmegaPairs.{formula_of}
 use Rattle.lower_rules.specs.OneLoop.{OneLoop}
-use Rattle.lower_rules.specs.UpperGoals.{IsDecidedWithin}
+use Rattle.lower_rules.specs.UpperGoals.{IsMadeFor}
 use Rattle.lower_rules.specs.declared.answers.Step.{Step}
 use Rattle.lower_rules.specs.declared.pairs.Pair.{Pair}
-use Rattle.lower_rules.specs.internal.Decidable.{IsDecidable}
-use Rattle.lower_rules.specs.internal.Pairs.{IsReady, IsStep, IsUnknownBy, behind, body, first, head, second}
+use Rattle.lower_rules.specs.internal.Decidable.{CanDecide, IsDecidable}
+use Rattle.lower_rules.specs.internal.Pairs.{IsLimitBy, IsMadeStep, IsReady, behind, body, first, head, second}
 use Rattle.lower_rules.proofs.GoalForms.{behind_ready, body_ready, greater_few, greater_named}
 use Rattle.lower_rules.proofs.GoalVariables.{goal_types, types_length}
 use Rattle.lower_rules.proofs.LoopParts.{OfParts, of_parts}
 use Rattle.lower_rules.proofs.MeantGoals.{goal_decidable}
 use Rattle.lower_rules.proofs.OmegaParts.{formula_nodes}
-use Rattle.lower_rules.proofs.ProcedureVariables.{own_variables}
+use Rattle.loop_encodings.proofs.exported.FromRules.{procedure_is}
+use Rattle.loop_encodings.proofs.exported.OwnVariables.{own_variables}
 
 -- ---- The procedures of a file
-
-pub procedure_is : (procs : List TProc) (p : ℕ) (x : TProc) → p < length procs → x ≡ get_or procs p x → procedure_at (map procedure_of procs) p ≡ procedure_of x
-procedure_is [] p x lt is = absurd (omega (arith, lt))
-procedure_is (y ∷ rest) zero x lt is = ap procedure_of (sym is)
-procedure_is (y ∷ rest) (suc p) x lt is = procedure_is rest p x (omega (arith, lt)) is
 
 -- What holds of each procedure of a file holds of the one that the program holds.
 pub held_at : (P : TypedProcedure → Type 0) (procs : List TProc) (p : ℕ) (x : TProc) → Each P (map procedure_of procs) → p < length procs → x ≡ get_or procs p x → P (procedure_of x)
@@ -136,12 +130,15 @@ module _ (x : Pair) (r : IsReady x) where
   pub goal_can_be_decided : GeneratedFormIsFormula → GeneratedFormIsOver → PrenexedFormIsFormula → PrenexedFormHasNoBinder → PrenexedGoalsAreGoals → (step : Step) → Each IsSmall (limited (first x) (body x) (behind x) (formula_of (first x) (head x) (second x)) step) → IsDecidable (step_goal (first x) (head x) (body x) (behind x) (second x) step)
   goal_can_be_decided formula over typed plain law step small = goal_decidable r.file (first x) r.rules the_loop (second x) r.other_rules r.pair formula over typed plain law r.within r.other_within step small
 
-  -- ---- What is decided
+  -- ---- What is made
 
-  pub decided_step : (step : Step) (d : Decision) → Each IsSmall (limited (first x) (body x) (behind x) (formula_of (first x) (head x) (second x)) step) → IsDecision (step_goal (first x) (head x) (body x) (behind x) (second x) step) d → Tells (step_goal (first x) (head x) (body x) (behind x) (second x) step) d → IsStep x step d
-  decided_step step d small is tells = record { decided = IsDecidedWithin.decided d small is; tells = tells }
+  pub limited_step : (step : Step) (why : VpStop) (m : Made) (f : Form) → Contains (limited (first x) (body x) (behind x) (formula_of (first x) (head x) (second x)) step) f → IsStop f why → IsLimitBy why m → IsMadeStep x step m
+  limited_step step stop.Depth m f listed h e = subst (λ k. IsMadeStep x step k) (sym e) (IsMadeFor.too_deep f listed h)
+  limited_step step stop.Nodes m f listed h e = subst (λ k. IsMadeStep x step k) (sym e) (IsMadeFor.too_many f listed h)
+  limited_step step (stop.Memory w) m f listed h e = absurd e
 
-  pub limited_step : (step : Step) (why : VpStop) (d : Decision) (f : Form) → Contains (limited (first x) (body x) (behind x) (formula_of (first x) (head x) (second x)) step) f → IsStop f why → IsUnknownBy why d → IsStep x step d
-  limited_step step stop.Depth d f listed h e = subst (λ k. IsStep x step k) (sym e) (record { decided = IsDecidedWithin.too_deep f listed h; tells = tt })
-  limited_step step stop.Nodes d f listed h e = subst (λ k. IsStep x step k) (sym e) (record { decided = IsDecidedWithin.too_many f listed h; tells = tt })
-  limited_step step (stop.Memory m) d f listed h e = absurd e
+  -- What is made of the goal of a step can be decided.
+  pub made_decidable : GeneratedFormIsFormula → GeneratedFormIsOver → PrenexedFormIsFormula → PrenexedFormHasNoBinder → PrenexedGoalsAreGoals → (step : Step) (m : Made) → IsMadeStep x step m → CanDecide m
+  made_decidable formula over typed plain law step m (IsMadeFor.whole g is small) = subst IsDecidable (sym is) (goal_can_be_decided formula over typed plain law step small)
+  made_decidable formula over typed plain law step m (IsMadeFor.too_deep f listed h) = tt
+  made_decidable formula over typed plain law step m (IsMadeFor.too_many f listed h) = tt

@@ -5,7 +5,7 @@ use Rattle.ranking_rule.specs.MadeGoals.{IsMadeWithin}
 use Rattle.ranking_rule.specs.RankingGoals.{generated}
 use Rattle.lower_rules.specs.StartGoals.{start_goal}
 use Rattle.lower_rules.proofs.MadeStarts.{whole_goal}
-use Rattle.lower_rules.proofs.StartDecisions.{each_ok}
+use Rattle.std.proofs.lemmas.Result.{IfOk-weaker}
 use Rattle.lower_rules.proofs.remainders.remainder_goal.Goals as goal
 
 pub unreachable-requires : goal.unreachable-requires
@@ -16,4 +16,4 @@ returns c = λ l.
     let p = procedure_at (procedures_of c.args.typed.now) c.args.p in
     let q = procedure_at (procedures_of c.args.typed.now) c.args.q in
     let parts = c.in-Some.parts in
-    each_ok (λ m. IsMadeWithin (generated (acts_of parts.front.now) (parts.step, form_of parts.ranking.now)) (start_goal p (acts_of parts.front.now) (parts.step, form_of parts.ranking.now) q.pre) m) (λ m. IsMadeWithin (generated l.loop.front l.rank) (start_goal p l.loop.front l.rank q.pre) m) c.made_of.result (λ m h. whole_goal p q parts c.in-Some.ensures l m h) c.made_of.ensures
+    IfOk-weaker c.made_of.result (λ m. IsMadeWithin (generated (acts_of parts.front.now) (parts.step, form_of parts.ranking.now)) (start_goal p (acts_of parts.front.now) (parts.step, form_of parts.ranking.now) q.pre) m) (λ m. IsMadeWithin (generated l.loop.front l.rank) (start_goal p l.loop.front l.rank q.pre) m) (λ m h. whole_goal p q parts c.in-Some.ensures l m h) c.made_of.ensures

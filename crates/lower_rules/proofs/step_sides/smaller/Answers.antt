@@ -18,7 +18,7 @@ use Rattle.lower_rules.specs.declared.answers.Step.{Step}
 use Rattle.lower_rules.specs.declared.pairs.Pair.{Pair}
 use Rattle.lower_rules.specs.internal.Pairs.{first, head, second}
 use Rattle.lower_rules.proofs.ReadyPairs.{formula_small, vars_length}
-use Rattle.lower_rules.proofs.step_goals.smaller.Goals as goal
+use Rattle.lower_rules.proofs.step_sides.smaller.Goals as goal
 
 same_put : (x y : ℕ) (t u : Term) (f g : Form) → x ≡ y → t ≡ u → f ≡ g → Replaced.subst x t f ≡ Replaced.subst y u g
 same_put x y t u f g e h k = ap (λ z. Replaced.subst z t f) e ∙ (ap (λ z. Replaced.subst y z f) h ∙ ap (λ z. Replaced.subst y u z) k)

@@ -1,6 +1,6 @@
 use Rattle.std.proofs.Common.{◌≡◌, ◌++◌, drop, map}
 use Rattle.heyvl_acts.specs.PlainActs.{variable_of}
-use Rattle.lower_rules.proofs.start_goals.copied.Given as goal
+use Rattle.lower_rules.proofs.copies.copied.Given as goal
 
 -- What is copied and what is left are what all are.
 abbrev pub invariant-loop-variable : goal.invariant-loop-variable
