@@ -1,0 +1,3 @@
+mod Procedures
+mod FirstScopes
+mod Lines

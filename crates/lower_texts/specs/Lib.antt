@@ -1,0 +1,5 @@
+pub mod PlacedCauses
+pub mod GoalNames
+pub mod OmegaTexts
+pub mod RemainderTexts
+pub mod internal

@@ -1,0 +1,68 @@
+-- What is written of a remainder pair. The texts are this project's own.
+use Rattle.goal_answers.specs.declared.causes.Cause.{Cause}
+use Rattle.heylo_formula.specs.declared.goals.Made.{Made}
+use Rattle.heylo_formula.specs.declared.values.Val.{Val}
+use Rattle.heyvl_acts.specs.Acts.{TypedProcedure, procedure_at}
+use Rattle.heyvl_num.specs.Rational.{Rational}
+use Rattle.lower_rules.specs.RemainderPairs.{RemainderPair}
+use Rattle.lower_rules.specs.StartGoals.{start_goal}
+use Rattle.lower_rules.specs.declared.remainder_answers.Remainder.TheVariants.{Fails, Holds, NotRanked, NotVerified, Shape, Unknown}
+use Rattle.lower_rules.specs.declared.remainder_answers.Remainder.{Remainder}
+use Rattle.lower_texts.specs.GoalNames.{names_of}
+use Rattle.lower_texts.specs.PlacedCauses.{placed}
+use Rattle.number_texts.specs.ValueTexts.{fraction_text}
+use Rattle.ranking_rule.specs.MadeGoals.{IsMadeWithin}
+use Rattle.ranking_rule.specs.RankingGoals.{generated}
+use Rattle.std.specs.Prelude.{List, codes, length, ◌++◌, ◌≡◌, ℕ}
+use Rattle.verdict_report.specs.Causes.{cause_text}
+use Rattle.verdict_report.specs.LoopScopes.{interface_numbers}
+use Rattle.verdict_report.specs.States.{state_text}
+
+-- `P: remainder: WHAT`
+abbrev pub remainder_line : List ℕ → List ℕ → List ℕ
+remainder_line name what = name ++ codes ": remainder: " ++ what ++ codes "\n"
+
+-- `pre of NAME over E * m`, where E is the step of the loop's ranking.
+abbrev pub bound_text : List ℕ → Rational → List ℕ
+bound_text name e = codes "pre of " ++ name ++ codes " over " ++ fraction_text e ++ codes " * m"
+
+-- The line where the procedures are no remainder pair.
+abbrev pub no_remainder_pair_text : List ℕ
+no_remainder_pair_text = codes "not a remainder pair\n"
+
+-- What is made of the goal of a remainder pair.
+abbrev pub IsStartMade : (ps : List TypedProcedure) (p q : ℕ) → RemainderPair (procedure_at ps p) (procedure_at ps q) → Made → Type 0
+IsStartMade ps p q l m = IsMadeWithin (generated l.loop.front l.rank) (start_goal (procedure_at ps p) l.loop.front l.rank (procedure_at ps q).pre) m
+
+-- Where a state or a cause is told, the procedures are a remainder pair.
+abbrev pub HasPair : List TypedProcedure → ℕ → ℕ → Remainder → Type 0
+HasPair ps p q (Holds e) = Unit {0}
+HasPair ps p q NotVerified = Unit {0}
+HasPair ps p q NotRanked = Unit {0}
+HasPair ps p q (Fails s) = RemainderPair (procedure_at ps p) (procedure_at ps q)
+HasPair ps p q (Unknown cause) = RemainderPair (procedure_at ps p) (procedure_at ps q)
+HasPair ps p q Shape = Unit {0}
+
+-- The line where the goal is falsified in this state, of which it shows the values of the procedure's inputs and outputs, and of those
+-- binders that are neither 0 nor false.
+pub record IsFailsText (ps : List TypedProcedure) (p q : ℕ) (s : List Val) (text : List ℕ) : Type 0 where
+  pub pair : RemainderPair (procedure_at ps p) (procedure_at ps q)
+  pub made : Made
+  pub is_made : IsStartMade ps p q pair made
+  pub is : text ≡ remainder_line (procedure_at ps p).name (codes "fails (start): " ++ state_text (names_of made) (interface_numbers (procedure_at ps p)) s)
+
+-- The line where nothing is known of it, for this cause, in a file with these bytes.
+pub record IsUnknownText (bytes : List ℕ) (ps : List TypedProcedure) (p q : ℕ) (cause : Cause) (text : List ℕ) : Type 0 where
+  pub pair : RemainderPair (procedure_at ps p) (procedure_at ps q)
+  pub made : Made
+  pub is_made : IsStartMade ps p q pair made
+  pub is : text ≡ remainder_line (procedure_at ps p).name (codes "unknown (start): " ++ cause_text bytes (names_of made) (placed (length bytes) cause))
+
+-- The line on an answer.
+abbrev pub IsRemainderText : List ℕ → List TypedProcedure → ℕ → ℕ → Remainder → List ℕ → Type 0
+IsRemainderText bytes ps p q (Holds e) text = text ≡ remainder_line (procedure_at ps p).name (bound_text (procedure_at ps q).name e)
+IsRemainderText bytes ps p q NotVerified text = text ≡ remainder_line (procedure_at ps p).name (codes "not verified")
+IsRemainderText bytes ps p q NotRanked text = text ≡ remainder_line (procedure_at ps p).name (codes "not ranked")
+IsRemainderText bytes ps p q (Fails s) text = IsFailsText ps p q s.items text
+IsRemainderText bytes ps p q (Unknown cause) text = IsUnknownText bytes ps p q cause text
+IsRemainderText bytes ps p q Shape text = text ≡ no_remainder_pair_text
