@@ -1,12 +1,13 @@
 -- The first state of a procedure that the program holds.
 use Rattle.heylo_formula.specs.State.{default}
+use Rattle.heyvl_acts.specs.Acts.{variables}
 use Rattle.heyvl_acts.specs.PlainActs.{procedure_of, variable_of}
 use Rattle.heyvl_acts.specs.declared.typed.TProc.{TProc}
 use Rattle.heyvl_acts.specs.declared.typed.VarInfo.{VarInfo}
 use Rattle.run_script.specs.Starts.{start_state, start_value}
 use Rattle.run_script.specs.declared.scripts.Setting.{Setting}
-use Rattle.std.proofs.Common.{List, [], ap, ap₂, drop, map, refl, sym, take, take-add, ◌+◌, ◌++◌, ◌∙◌, ◌∷◌, ◌≡◌, ℕ}
-use Rattle.std.proofs.lemmas.List.{drop-map, take-map}
+use Rattle.std.proofs.Common.{List, [], ap, ap₂, append_assoc, drop, map, refl, sym, take, take-add, ◌+◌, ◌++◌, ◌∙◌, ◌∷◌, ◌≡◌, ℕ}
+use Rattle.std.proofs.lemmas.List.{drop-map, take-append-drop, take-map}
 
 pub known_front : (i o : ℕ) (vars : List VarInfo) → map variable_of (take (i + o) vars) ≡ take i (map variable_of vars) ++ take o (drop i (map variable_of vars))
 known_front i o vars = sym (take-map variable_of (i + o) vars) ∙ take-add i o (map variable_of vars)
@@ -20,3 +21,11 @@ state_made p settings =
     let known = map_twice (start_value settings) variable_of (take (p.inputs + p.outputs) p.vars.items) ∙ ap (map (start_value settings)) (known_front p.inputs p.outputs p.vars.items) in
     let others = map_twice (λ x. default x.ty) variable_of (drop (p.inputs + p.outputs) p.vars.items) ∙ ap (map (λ x. default x.ty)) (sym (drop-map variable_of (p.inputs + p.outputs) p.vars.items)) in
     ap₂ (λ a b. a ++ b) known others
+
+-- The variables of the procedure are those that the program holds, in their order.
+pub variables_held : (p : TProc) → variables (procedure_of p) ≡ map variable_of p.vars.items
+variables_held p =
+    let held = map variable_of p.vars.items in
+    sym (append_assoc (take p.inputs held) (take p.outputs (drop p.inputs held)) (drop (p.inputs + p.outputs) held))
+    ∙ ap (λ r. r ++ drop (p.inputs + p.outputs) held) (sym (take-add p.inputs p.outputs held))
+    ∙ take-append-drop (p.inputs + p.outputs) held

@@ -9,3 +9,4 @@ mod Numbers
 mod ReadSoFar
 mod FirstStates
 mod WorkedScripts
+mod WorkedStarts

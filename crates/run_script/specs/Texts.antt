@@ -27,3 +27,11 @@ stop_text cause step = codes "run stopped at step " ++ decimal step ++ codes ": 
 -- The line on a script with a fault in this line.
 abbrev pub script_fault_text : ℕ → List ℕ
 script_fault_text line = codes "script line " ++ decimal line ++ codes ": fault\n"
+
+-- The line on a procedure of which the runs' sum passes its pre at this step.
+abbrev pub violation_text : List ℕ → ℕ → Value → Value → List ℕ
+violation_text name step sum pre = name ++ codes ": violated at step " ++ decimal step ++ codes ": " ++ sum_text sum ++ codes " above " ++ sum_text pre ++ codes "\n"
+
+-- The line on one of which it doesn't in so many steps.
+abbrev pub within_text : List ℕ → Value → ℕ → Value → List ℕ
+within_text name pre steps sum = name ++ codes ": within " ++ sum_text pre ++ codes " at step " ++ decimal steps ++ codes ": " ++ sum_text sum ++ codes "\n"

@@ -13,6 +13,6 @@ mod values;
 pub use laws::{faults_are_unique, scripts_are_unique, scripts_have_no_fault};
 pub use reading::read_script;
 pub use scripts::{Script, Setting};
-pub use starts::{known_variables, start_state};
+pub use starts::{known_variables, start_state, start_state_over};
 pub use stops::ScriptStop;
-pub use texts::{script_fault_text, stop_text, sums_text};
+pub use texts::{script_fault_text, stop_text, sums_text, violation_text, within_text};

@@ -3,7 +3,7 @@
 ghost use Rattle.heylo_formula.specs.State.{default as default_of, fit};
 ghost use Rattle.heyvl_acts.specs.PlainActs.{procedure_of, variable_of};
 ghost use Rattle.heyvl_acts.specs.Rules.{IsCounted};
-ghost use Rattle.run_script.specs.Starts.{known_of, start_state, start_value};
+ghost use Rattle.run_script.specs.Starts.{known_of, start_state, start_state_over, start_value, start_value_over, start_values, value_or};
 ghost use Rattle.std.specs.List.{find};
 ghost use Rattle.std.specs.Prelude.{IfOk, OnOk, drop, map, take, ◌++◌, ◌+◌, ◌≡◌};
 ghost use Rattle.std.specs.Str.{bytes_eq};
@@ -21,16 +21,33 @@ fn fit(ty: Ty, value: Val) -> Val
     if has(ty, &value) { value } else { default(ty) }
 }
 
-/// The value of an input or output: the one that is set for its name, else false or 0.
-fn start_value(settings: &[Setting], variable: &VarInfo) -> Val
-    ensures { result ≡ start_value settings.now (variable_of variable.now) }
+/// The value, where there is one of the type; else false or 0.
+fn value_or(ty: Ty, shown: Option<Val>) -> Val
+    ensures { result ≡ value_or ty shown }
+{
+    match shown {
+        Some(value) => fit(ty, value),
+        None => default(ty),
+    }
+}
+
+/// The value of a variable of which perhaps one is shown: the one that is set for its name, else the shown one.
+fn start_value_over(settings: &[Setting], variable: &VarInfo, shown: Option<Val>) -> Val
+    ensures { result ≡ start_value_over settings.now (variable_of variable.now) shown }
 {
     for setting in settings {
         if sets(setting, variable) {
             return fit(variable.ty, setting.value);
         }
     }
-    default(variable.ty)
+    value_or(variable.ty, shown)
+}
+
+/// The value of an input or output: the one that is set for its name, else false or 0.
+fn start_value(settings: &[Setting], variable: &VarInfo) -> Val
+    ensures { result ≡ start_value settings.now (variable_of variable.now) }
+{
+    start_value_over(settings, variable, None)
 }
 
 /// Whether it is this variable's value that is set.
@@ -97,5 +114,43 @@ pub fn start_state(
     let mut state = Vec::new(alloc);
     add_values(&mut state, settings, known_variables(procedure))?;
     add_defaults(&mut state, other_variables(procedure))?;
+    Ok(state)
+}
+
+/// The values of variables of which the first have these values shown, in order.
+fn add_start_values(
+    state: &mut Vec<Val>,
+    settings: &[Setting],
+    variables: &[VarInfo],
+    shown: &[Val],
+) -> Result<(), AllocError>
+    ensures { OnOk result (state.new.items ≡ state.old.items ++ start_values settings.now (map variable_of variables.now) shown.now) }
+{
+    let mut rest = shown;
+    for variable in variables {
+        match rest.split_first() {
+            Some((value, more)) => {
+                state.push(start_value_over(settings, variable, Some(*value)))?;
+                rest = more;
+            }
+            None => state.push(start_value_over(settings, variable, None))?,
+        }
+    }
+    Ok(())
+}
+
+/// The first state of a run where the values of a state are shown: each variable has the value that is set for its name, else the one that
+/// is shown of it, by number, else false or 0.
+pub fn start_state_over(
+    alloc: Global,
+    procedure: &TProc,
+    settings: &[Setting],
+    shown: &[Val],
+) -> Result<Vec<Val>, AllocError>
+    requires { IsCounted procedure.now }
+    ensures { IfOk result (λ state. state.items ≡ start_state_over (procedure_of procedure.now) settings.now shown.now) }
+{
+    let mut state = Vec::new(alloc);
+    add_start_values(&mut state, settings, &procedure.vars, shown)?;
     Ok(state)
 }

@@ -1,7 +1,7 @@
 //! The texts of what a run by a script comes to.
 
 ghost use Rattle.heyvl_num.specs.Extended.{value_of};
-ghost use Rattle.run_script.specs.Texts.{script_fault_text, stop_text, sum_text, sums_text, turns_text};
+ghost use Rattle.run_script.specs.Texts.{script_fault_text, stop_text, sum_text, sums_text, turns_text, violation_text, within_text};
 ghost use Rattle.run_unroller.specs.Unrolling.{totals_of};
 ghost use Rattle.std.specs.Prelude.{IfOk, OnOk, codes, decimal, ◌++◌, ◌≡◌};
 ghost use Rattle.number_texts.specs.ValueTexts.{fraction_text};
@@ -77,6 +77,50 @@ pub fn stop_text(alloc: Global, cause: &'static [u8], step: u32) -> Result<Vec<u
     write_number(&mut text, step)?;
     text.extend_from_slice(b": ")?;
     text.extend_from_slice(cause)?;
+    text.extend_from_slice(b"\n")?;
+    Ok(text)
+}
+
+/// The line on a procedure of which the runs' sum passes its pre at this step.
+pub fn violation_text(
+    alloc: Global,
+    name: &[u8],
+    step: u32,
+    sum: Ext,
+    pre: Ext,
+) -> Result<Vec<u8>, AllocError>
+    ensures { IfOk result (λ text. text.items ≡ violation_text name.now step (value_of sum) (value_of pre)) }
+{
+    let mut text = Vec::new(alloc);
+    text.extend_from_slice(name)?;
+    text.extend_from_slice(b": violated at step ")?;
+    write_number(&mut text, step)?;
+    text.extend_from_slice(b": ")?;
+    write_sum(&mut text, sum)?;
+    text.extend_from_slice(b" above ")?;
+    write_sum(&mut text, pre)?;
+    text.extend_from_slice(b"\n")?;
+    Ok(text)
+}
+
+/// The line on a procedure of which the runs' sum doesn't pass its pre in so many steps.
+pub fn within_text(
+    alloc: Global,
+    name: &[u8],
+    pre: Ext,
+    steps: u32,
+    sum: Ext,
+) -> Result<Vec<u8>, AllocError>
+    ensures { IfOk result (λ text. text.items ≡ within_text name.now (value_of pre) steps (value_of sum)) }
+{
+    let mut text = Vec::new(alloc);
+    text.extend_from_slice(name)?;
+    text.extend_from_slice(b": within ")?;
+    write_sum(&mut text, pre)?;
+    text.extend_from_slice(b" at step ")?;
+    write_number(&mut text, steps)?;
+    text.extend_from_slice(b": ")?;
+    write_sum(&mut text, sum)?;
     text.extend_from_slice(b"\n")?;
     Ok(text)
 }
