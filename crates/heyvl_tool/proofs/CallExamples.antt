@@ -10,16 +10,16 @@ use Rattle.heyvl_tool.specs.Calls.IsReadReply.{by_bytes, by_length, by_source}
 use Rattle.heyvl_files.specs.Sources.{file_limit}
 use Rattle.heyvl_tool.specs.Calls.{Call, IsFilesReply, IsRead, IsReadReply, IsSaid, Moment, Names, call, file_too_long, moment, names_of, read_fault}
 use Rattle.heyvl_files.specs.Sources.IsFileFault.{spelling}
-use Rattle.heyvl_tool.specs.FileReplies.IsTypedReply.{by_fault}
-use Rattle.heyvl_tool.specs.Messages.{Reply, source_fault}
+use Rattle.heyvl_replies.specs.FileReplies.IsTypedReply.{by_fault}
+use Rattle.heyvl_replies.specs.Messages.{Reply, source_fault}
 use Rattle.heyvl_tool.specs.Outcomes.HasCause.{by_command, by_words}
 use Rattle.heyvl_tool.specs.Outcomes.{HasCause, IsCut, IsDelivered, IsWritten, Writing, usage}
-use Rattle.heyvl_tool.specs.Statuses.{fault_status}
+use Rattle.heyvl_replies.specs.Statuses.{fault_status}
 use Rattle.heyvl_tool.specs.Words.{AskFor, IsUsage}
 use Rattle.heyvl_tool.specs.commands.{IsReplyTo, files_of, usage_line}
-use Rattle.heyvl_tool.specs.declared.outcomes.Fault.TheVariants as faults
+use Rattle.heyvl_replies.specs.declared.faults.Fault.TheVariants as faults
 use Rattle.heyvl_tool.specs.declared.outcomes.Outcome.{Outcome}
-use Rattle.heyvl_tool.specs.declared.requests.Settings.TheVariants.{Certify, Check, Gen, Pgcl, Print, Run, Verify}
+use Rattle.heyvl_tool.specs.declared.requests.Settings.TheVariants.{Certify, Check, Gen, Omega, Pgcl, Print, Refute, Remainder, Run, Verify}
 use Rattle.heyvl_tool.specs.declared.requests.Settings.{Settings}
 use Rattle.run_unroller.specs.declared.answers.Unrolled.TheVariants.{Bits}
 use Rattle.std.proofs.Common.{List, None, Option, Some, [], ap, arith, codes, inl, inr, length, refl, subst, sym, ◌+◌, ◌++◌, ◌∙◌, ◌∷◌, ◌≡◌, ◌≤◌, ◌⊎◌, ℕ}
@@ -296,6 +296,9 @@ no_command (Certify f) e = let n = ap length e.words_are in omega (arith, n)
 no_command (Check f c) e = let n = ap length e.words_are in omega (arith, n)
 no_command (Gen n) e = let m = ap length e.words_are in omega (arith, m)
 no_command (Pgcl f) e = let n = ap length e.words_are in omega (arith, n)
+no_command (Omega f p q) e = let n = ap length e.words_are in omega (arith, n)
+no_command (Remainder f p q) e = let n = ap length e.words_are in omega (arith, n)
+no_command (Refute f p q) e = let n = ap length e.words_are in omega (arith, n)
 
 told_usage : HasCause (call lone (source silent) start start) usage
 told_usage = by_words no_command refl
@@ -305,7 +308,7 @@ told_usage_only after reply (by_words refused e) = e
 told_usage_only after reply (by_command settings also read) = absurd (no_command settings also)
 
 -- The line, as it is written.
-usage_is : usage_line ≡ codes "usage: caesar verify FILE | print FILE | run FILE PROC SCRIPT | certify FILE | check FILE CERT | gen N | pgcl FILE\n"
+usage_is : usage_line ≡ codes "usage: caesar verify FILE | print FILE | run FILE PROC SCRIPT | certify FILE | check FILE CERT | gen N | pgcl FILE | omega FILE PROC NAME | remainder FILE PROC NAME | refute FILE PROC SCRIPT\n"
 usage_is = refl
 
 -- ---- Statuses
@@ -313,9 +316,9 @@ usage_is = refl
 statuses :
     (fault_status faults.Nothing ≡ 0) × (fault_status faults.Usage ≡ 4) × (fault_status (faults.Read 0) ≡ 5) × (fault_status (faults.Read 1) ≡ 5)
     × (fault_status (faults.TooLong 0) ≡ 3) × (fault_status (faults.TooLong 1) ≡ 3) × (fault_status (faults.Source 4 (record { from = 0; to = 0 })) ≡ 3)
-    × (fault_status (faults.Cert 1) ≡ 3) × (fault_status (faults.Script 1) ≡ 3) × (fault_status faults.NoProcedure ≡ 3) × (fault_status (faults.NotProgram 0) ≡ 3)
+    × (fault_status (faults.Cert 1) ≡ 3) × (fault_status (faults.Script 1) ≡ 3) × (fault_status faults.NoProcedure ≡ 3) × (fault_status faults.Shape ≡ 3) × (fault_status (faults.NotProgram 0) ≡ 3)
     × (fault_status (faults.Run (Bits 1)) ≡ 8) × (fault_status faults.Write ≡ 6) × (fault_status faults.Memory ≡ 7)
-statuses = (refl, refl, refl, refl, refl, refl, refl, refl, refl, refl, refl, refl, refl, refl)
+statuses = (refl, refl, refl, refl, refl, refl, refl, refl, refl, refl, refl, refl, refl, refl, refl)
 
 -- A delivered `read fault` has status 5, or 6 where the sink failed.
 read_fault_status : (done : Writing) (outcome : Outcome) → IsDelivered (read_fault 1) done outcome → (outcome.status ≡ 5) ⊎ (outcome.status ≡ 6)

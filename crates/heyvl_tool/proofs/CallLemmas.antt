@@ -8,16 +8,16 @@ use Rattle.heyvl_io.specs.declared.reading.ReadStop.{ReadStop}
 use Rattle.heyvl_tool.specs.Calls.IsReadReply.{by_bytes, by_length, by_source}
 use Rattle.heyvl_files.specs.Sources.{file_limit}
 use Rattle.heyvl_tool.specs.Calls.{AreRead, Call, IsFilesReply, IsLong, IsRead, IsReadReply, IsSaid, Moment, Names, file_too_long, read_fault}
-use Rattle.heyvl_tool.specs.Messages.{Reply}
+use Rattle.heyvl_replies.specs.Messages.{Reply}
 use Rattle.heyvl_tool.specs.Outcomes.HasCause.{by_command, by_words}
 use Rattle.heyvl_tool.specs.Outcomes.{HasCause}
-use Rattle.heyvl_tool.specs.Responses.{reply_of}
+use Rattle.heyvl_replies.specs.Responses.{reply_of}
 use Rattle.heyvl_tool.specs.SourceUses.{IsReadInTurn, IsStartedOnce}
 use Rattle.heyvl_tool.specs.Words.{AskFor}
 use Rattle.heyvl_tool.specs.commands.{Files, IsReplyTo, files_of, row_of, words_of}
-use Rattle.heyvl_tool.specs.declared.requests.Settings.TheVariants.{Certify, Check, Gen, Pgcl, Print, Run, Verify}
+use Rattle.heyvl_tool.specs.declared.requests.Settings.TheVariants.{Certify, Check, Gen, Omega, Pgcl, Print, Refute, Remainder, Run, Verify}
 use Rattle.heyvl_tool.specs.declared.requests.Settings.{Settings}
-use Rattle.heyvl_tool.specs.declared.responses.Response.{Response}
+use Rattle.heyvl_replies.specs.declared.responses.Response.{Response}
 use Rattle.heyvl_tool.specs.internal.Refusals.{IsUnread}
 use Rattle.std.proofs.Common.{Bool, Err, IfOk, IfSome, List, Ok, Result, [], ap, arith, codes, false, inl, inr, length, refl, subst, sym, true, ◌+◌, ◌<◌, ◌^◌, ◌∙◌, ◌∷◌, ◌≡◌, ◌≤◌, ℕ}
 use Rattle.generated_summary.specs.LineCounts.{is_line_count}
@@ -34,7 +34,7 @@ use Rattle.std.specs.declared.alloc.AllocError.{AllocError}
 settings_of : List (List ℕ) → Settings
 settings_of (w ∷ f ∷ []) = if bytes_eq w (codes "verify") then Verify f else (if bytes_eq w (codes "print") then Print f else (if bytes_eq w (codes "certify") then Certify f else (if bytes_eq w (codes "pgcl") then Pgcl f else Gen (digits_value 10 f))))
 settings_of (w ∷ f ∷ g ∷ []) = Check f g
-settings_of (w ∷ f ∷ g ∷ h ∷ more) = Run f g h
+settings_of (w ∷ f ∷ g ∷ h ∷ more) = if bytes_eq w (codes "run") then Run f g h else (if bytes_eq w (codes "omega") then Omega f g h else (if bytes_eq w (codes "remainder") then Remainder f g h else Refute f g h))
 settings_of other = Print []
 
 few_lines : (n : ℕ) → is_line_count n ≡ true → n < 2 ^ 64
@@ -49,6 +49,9 @@ settings_again (Certify f) h = refl
 settings_again (Check f g) h = refl
 settings_again (Gen n) h = ap Gen (decimal_is_IsNumeral n (few_lines n h)).1
 settings_again (Pgcl f) h = refl
+settings_again (Omega f g h) fits = refl
+settings_again (Remainder f g h) fits = refl
+settings_again (Refute f g h) fits = refl
 
 -- The words ask for one thing.
 pub same_settings : (words : List (List ℕ)) (s t : Settings) → AskFor words s → AskFor words t → s ≡ t

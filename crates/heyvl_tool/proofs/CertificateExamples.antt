@@ -10,12 +10,12 @@ use Rattle.heyvl_places.specs.declared.spans.Span.{Span}
 use Rattle.heyvl_syntax.specs.Procedures.{Procedure}
 use Rattle.heyvl_syntax.specs.SourceFaults.{IsSource, SourcesHaveNoFault}
 use Rattle.heyvl_tool.proofs.ToldFaults.{static_told}
-use Rattle.heyvl_tool.specs.Messages.{Reply, answered, message}
+use Rattle.heyvl_replies.specs.Messages.{Reply, answered, message}
 use Rattle.heyvl_files.specs.PrintLaws.{SpellingIsUnique}
-use Rattle.heyvl_tool.specs.commands.Certify.{IsCertification}
-use Rattle.heyvl_tool.specs.commands.Check.IsCheckedReply.{by_certificates, by_line}
-use Rattle.heyvl_tool.specs.commands.Check.{IsCheckReply, IsCheckReport, IsCheckedReply, certificate_fault}
-use Rattle.heyvl_tool.specs.declared.outcomes.Fault.TheVariants as faults
+use Rattle.heyvl_replies.specs.commands.Certify.{IsCertification}
+use Rattle.heyvl_replies.specs.commands.Check.IsCheckedReply.{by_certificates, by_line}
+use Rattle.heyvl_replies.specs.commands.Check.{IsCheckReply, IsCheckReport, IsCheckedReply, certificate_fault}
+use Rattle.heyvl_replies.specs.declared.faults.Fault.TheVariants as faults
 use Rattle.heyvl_tool.specs.declared.requests.Settings.TheVariants.{Check}
 use Rattle.heyvl_acts.specs.Acts.{TypedProcedure, procedure_at}
 use Rattle.heyvl_acts.specs.Program.{IsProgram}

@@ -14,15 +14,19 @@ use Rattle.heyvl_tool.specs.commands.{arguments_of, row_of, words_of}
 use Rattle.heyvl_tool.specs.internal.CommandLine.{command, tool}
 use Rattle.heyvl_tool.specs.internal.Met.{IsFound, IsGenFound, IsMet}
 use Rattle.heyvl_tool.specs.Words.{AskFor, is_argument}
-use Rattle.heyvl_tool.specs.declared.requests.Settings.TheVariants.{Certify, Check, Gen, Pgcl, Print, Run, Verify}
+use Rattle.heyvl_tool.specs.declared.requests.Settings.TheVariants.{Certify, Check, Gen, Omega, Pgcl, Print, Refute, Remainder, Run, Verify}
 use Rattle.heyvl_tool.specs.declared.requests.Settings.{Settings}
 
--- The names of the arguments of a command, in order: of one that has a file alone, of `run`, of `check` and of `gen`.
+-- The names of the arguments of a command, in order: of one that has a file alone, of `run` and `refute`, of `omega` and `remainder`, of `check`
+-- and of `gen`.
 abbrev file_names : List Text
 file_names = codes "FILE" ∷ []
 
 abbrev run_names : List Text
 run_names = codes "FILE" ∷ codes "PROC" ∷ codes "SCRIPT" ∷ []
+
+abbrev pair_names : List Text
+pair_names = codes "FILE" ∷ codes "PROC" ∷ codes "NAME" ∷ []
 
 abbrev check_names : List Text
 check_names = codes "FILE" ∷ codes "CERT" ∷ []
@@ -57,6 +61,12 @@ both false b h = absurd (cc)
 are_plain : (word : Text) (rest : List Text) → list_all is_argument (word ∷ rest) ≡ true → IsPlain word × (list_all is_argument rest ≡ true)
 are_plain word rest h = let (one, others) = both (is_argument word) (list_all is_argument rest) h in (is_plain word one, others)
 
+three_plain : (f p s : Text) → list_all is_argument (f ∷ p ∷ s ∷ []) ≡ true → IsPlain f × IsPlain p × IsPlain s
+three_plain f p s h =
+    let (first, more) = are_plain f (p ∷ s ∷ []) h in
+    let (second, last) = are_plain p (s ∷ []) more in
+    (first, second, (are_plain s [] last).0)
+
 -- ---- What is asked for is taken, for what it is
 
 takes_file : (f : Text) → IsPlain f → (takes tool (codes "verify" ∷ f ∷ []) ≡ true) × (takes tool (codes "print" ∷ f ∷ []) ≡ true) × (takes tool (codes "certify" ∷ f ∷ []) ≡ true)
@@ -64,9 +74,10 @@ takes_file : (f : Text) → IsPlain f → (takes tool (codes "verify" ∷ f ∷ 
 unfolding clap_on_literals
 takes_file f (plain b bs h) = (simp h, simp h, simp h, simp h)
 
-takes_run : (f p s : Text) → IsPlain f → IsPlain p → IsPlain s → takes tool (codes "run" ∷ f ∷ p ∷ s ∷ []) ≡ true
+takes_three : (f p s : Text) → IsPlain f → IsPlain p → IsPlain s → (takes tool (codes "run" ∷ f ∷ p ∷ s ∷ []) ≡ true) × (takes tool (codes "omega" ∷ f ∷ p ∷ s ∷ []) ≡ true)
+    × (takes tool (codes "remainder" ∷ f ∷ p ∷ s ∷ []) ≡ true) × (takes tool (codes "refute" ∷ f ∷ p ∷ s ∷ []) ≡ true)
 unfolding clap_on_literals
-takes_run f p s (plain b bs h) (plain e es k) (plain i is l) = simp (h, k, l)
+takes_three f p s (plain b bs h) (plain e es k) (plain i is l) = (simp (h, k, l), simp (h, k, l), simp (h, k, l), simp (h, k, l))
 
 takes_check : (f c : Text) → IsPlain f → IsPlain c → takes tool (codes "check" ∷ f ∷ c ∷ []) ≡ true
 unfolding clap_on_literals
@@ -82,23 +93,24 @@ takes_asked words settings asked = ap (λ (ws : List Text). takes tool ws) asked
     taken : (s : Settings) → list_all is_argument (arguments_of s) ≡ true → takes tool (words_of s) ≡ true
     taken (Verify f) h = (takes_file f (are_plain f [] h).0).0
     taken (Print f) h = (takes_file f (are_plain f [] h).0).1
-    taken (Run f p s) h =
-        let (first, more) = are_plain f (p ∷ s ∷ []) h in
-        let (second, last) = are_plain p (s ∷ []) more in
-        takes_run f p s first second (are_plain s [] last).0
+    taken (Run f p s) h = let w = three_plain f p s h in (takes_three f p s w.0 w.1 w.2).0
     taken (Certify f) h = (takes_file f (are_plain f [] h).0).2
     taken (Check f c) h = let (first, last) = are_plain f (c ∷ []) h in takes_check f c first (are_plain c [] last).0
     taken (Gen n) h = takes_gen (decimal n) (are_plain (decimal n) [] h).0
     taken (Pgcl f) h = (takes_file f (are_plain f [] h).0).3
+    taken (Omega f p q) h = let w = three_plain f p q h in (takes_three f p q w.0 w.1 w.2).1
+    taken (Remainder f p q) h = let w = three_plain f p q h in (takes_three f p q w.0 w.1 w.2).2
+    taken (Refute f p s) h = let w = three_plain f p s h in (takes_three f p s w.0 w.1 w.2).3
 
 finds_file : (f : Text) → IsPlain f → IsFound (Verify f) (subcommand_of tool (codes "verify" ∷ f ∷ [])) × IsFound (Print f) (subcommand_of tool (codes "print" ∷ f ∷ []))
     × IsFound (Certify f) (subcommand_of tool (codes "certify" ∷ f ∷ [])) × IsFound (Pgcl f) (subcommand_of tool (codes "pgcl" ∷ f ∷ []))
 unfolding clap_on_literals
 finds_file f (plain b bs h) = (simp h, simp h, simp h, simp h)
 
-finds_run : (f p s : Text) → IsPlain f → IsPlain p → IsPlain s → IsFound (Run f p s) (subcommand_of tool (codes "run" ∷ f ∷ p ∷ s ∷ []))
+finds_three : (f p s : Text) → IsPlain f → IsPlain p → IsPlain s → IsFound (Run f p s) (subcommand_of tool (codes "run" ∷ f ∷ p ∷ s ∷ [])) × IsFound (Omega f p s) (subcommand_of tool (codes "omega" ∷ f ∷ p ∷ s ∷ []))
+    × IsFound (Remainder f p s) (subcommand_of tool (codes "remainder" ∷ f ∷ p ∷ s ∷ [])) × IsFound (Refute f p s) (subcommand_of tool (codes "refute" ∷ f ∷ p ∷ s ∷ []))
 unfolding clap_on_literals
-finds_run f p s (plain b bs h) (plain e es k) (plain i is l) = simp (h, k, l)
+finds_three f p s (plain b bs h) (plain e es k) (plain i is l) = (simp (h, k, l), simp (h, k, l), simp (h, k, l), simp (h, k, l))
 
 finds_check : (f c : Text) → IsPlain f → IsPlain c → IsFound (Check f c) (subcommand_of tool (codes "check" ∷ f ∷ c ∷ []))
 unfolding clap_on_literals
@@ -111,14 +123,14 @@ finds_gen w (plain b bs h) = simp h
 finds_asked : (s : Settings) → list_all is_argument (arguments_of s) ≡ true → IsFound s (subcommand_of tool (words_of s))
 finds_asked (Verify f) h = (finds_file f (are_plain f [] h).0).0
 finds_asked (Print f) h = (finds_file f (are_plain f [] h).0).1
-finds_asked (Run f p s) h =
-    let (first, more) = are_plain f (p ∷ s ∷ []) h in
-    let (second, last) = are_plain p (s ∷ []) more in
-    finds_run f p s first second (are_plain s [] last).0
+finds_asked (Run f p s) h = let w = three_plain f p s h in (finds_three f p s w.0 w.1 w.2).0
 finds_asked (Certify f) h = (finds_file f (are_plain f [] h).0).2
 finds_asked (Check f c) h = let (first, last) = are_plain f (c ∷ []) h in finds_check f c first (are_plain c [] last).0
 finds_asked (Gen n) h = finds_gen (decimal n) (are_plain (decimal n) [] h).0
 finds_asked (Pgcl f) h = (finds_file f (are_plain f [] h).0).3
+finds_asked (Omega f p q) h = let w = three_plain f p q h in (finds_three f p q w.0 w.1 w.2).1
+finds_asked (Remainder f p q) h = let w = three_plain f p q h in (finds_three f p q w.0 w.1 w.2).2
+finds_asked (Refute f p s) h = let w = three_plain f p s h in (finds_three f p s w.0 w.1 w.2).3
 
 -- ---- Where a command is met, the words behind it go to it
 
@@ -139,6 +151,9 @@ data IsCommand : Text → List Text → Type 0 where
   check : IsCommand (codes "check") check_names
   generate : IsCommand (codes "gen") gen_names
   pgcl : IsCommand (codes "pgcl") file_names
+  omega_pair : IsCommand (codes "omega") pair_names
+  remainder : IsCommand (codes "remainder") pair_names
+  refute : IsCommand (codes "refute") run_names
 
 after : List Text → Walk
 after words = walk (built tool).top.rules (names_of (built tool)) nothing_held words
@@ -155,6 +170,9 @@ meets name names is more = stopped_on (built tool).top.rules (names_of (built to
     stops name names check = refl
     stops name names generate = refl
     stops name names pgcl = refl
+    stops name names omega_pair = refl
+    stops name names remainder = refl
+    stops name names refute = refl
 
 left_empty : (ks js : Kinds) → or_else ks js ≡ [] → ks ≡ []
 left_empty [] js h = refl
@@ -192,6 +210,9 @@ enters name names is more none =
     by name names check more inside = inside
     by name names generate more inside = inside
     by name names pgcl more inside = inside
+    by name names omega_pair more inside = inside
+    by name names remainder more inside = inside
+    by name names refute more inside = inside
 
 -- ---- A command refuses a word too few, and a word too many
 
@@ -239,6 +260,28 @@ wants_run name (f ∷ p ∷ s ∷ x ∷ more) h none =
         walk_fault (leaf name run_names) [] (walk_from nothing_held) (f ∷ p ∷ s ∷ x ∷ more) ≡ [] → ⊥
     extra f p s x more (plain b bs h) (plain e es k) (plain i is l) (plain o os m) none = let no = simp (h, k, l, m) at none in cc
 
+wants_pair : (name : Text) (words : List Text) → list_all is_argument words ≡ true → leaf_fault name pair_names words ≡ [] → (f p s : Text) × (words ≡ f ∷ p ∷ s ∷ [])
+unfolding clap_on_literals leaf leaf_fault
+wants_pair name [] h none = absurd (cc)
+wants_pair name (f ∷ []) h none = absurd (fewest f (are_plain f [] h).0 none)
+  where
+    fewest : (f : Text) → IsPlain f → leaf_fault name pair_names (f ∷ []) ≡ [] → ⊥
+    fewest f (plain b bs h) none = let no = simp h at none in cc
+wants_pair name (f ∷ p ∷ []) h none = let (first, last) = are_plain f (p ∷ []) h in absurd (few f p first (are_plain p [] last).0 none)
+  where
+    few : (f p : Text) → IsPlain f → IsPlain p → leaf_fault name pair_names (f ∷ p ∷ []) ≡ [] → ⊥
+    few f p (plain b bs h) (plain e es k) none = let no = simp (h, k) at none in cc
+wants_pair name (f ∷ p ∷ s ∷ []) h none = (f, p, s, refl)
+wants_pair name (f ∷ p ∷ s ∷ x ∷ more) h none =
+    let (first, rest) = are_plain f (p ∷ s ∷ x ∷ more) h in
+    let (second, last) = are_plain p (s ∷ x ∷ more) rest in
+    let (third, end) = are_plain s (x ∷ more) last in
+    absurd (extra f p s x more first second third (are_plain x more end).0 (walk_empty (leaf name pair_names) [] nothing_held (f ∷ p ∷ s ∷ x ∷ more) false [] none))
+  where
+    extra : (f p s x : Text) (more : List Text) → IsPlain f → IsPlain p → IsPlain s → IsPlain x →
+        walk_fault (leaf name pair_names) [] (walk_from nothing_held) (f ∷ p ∷ s ∷ x ∷ more) ≡ [] → ⊥
+    extra f p s x more (plain b bs h) (plain e es k) (plain i is l) (plain o os m) none = let no = simp (h, k, l, m) at none in cc
+
 wants_check : (name : Text) (words : List Text) → list_all is_argument words ≡ true → leaf_fault name check_names words ≡ [] → (f c : Text) × (words ≡ f ∷ c ∷ [])
 unfolding clap_on_literals leaf leaf_fault
 wants_check name [] h none = absurd (cc)
@@ -261,13 +304,46 @@ no_words : fault_of tool [] ≡ [] → ⊥
 unfolding clap_on_literals
 no_words none = cc
 
+-- A command with the names of its arguments.
+record Entry : Type 0 where
+  word : Text
+  names : List Text
+  is : IsCommand word names
+
+abbrev entry : (word : Text) (names : List Text) → IsCommand word names → Entry
+entry word names is = record { word = word; names = names; is = is }
+
+-- All of them.
+abbrev entries : List Entry
+entries =
+    entry _ _ verify ∷ entry _ _ print ∷ entry _ _ run ∷ entry _ _ certify ∷ entry _ _ check ∷ entry _ _ generate ∷ entry _ _ pgcl ∷ entry _ _ omega_pair ∷ entry _ _ remainder
+    ∷ entry _ _ refute ∷ []
+
+-- The word is none of these.
+abbrev IsOther : Text → List Entry → Type 0
+IsOther word [] = Unit {0}
+IsOther word (e ∷ es) = (bytes_eq e.word word ≡ false) × IsOther word es
+
+-- It is one of these, or none.
+data Chosen (word : Text) (es : List Entry) : Type 0 where
+  is_one : (e : Entry) → bytes_eq e.word word ≡ true → Chosen word es
+  is_other : IsOther word es → Chosen word es
+
+chosen : (word : Text) (es : List Entry) → Chosen word es
+chosen word [] = is_other tt
+chosen word (e ∷ es) = by (bytes_eq e.word word) refl (chosen word es)
+  where
+    by : (b : Bool) → bytes_eq e.word word ≡ b → Chosen word es → Chosen word (e ∷ es)
+    by true same rest = is_one e same
+    by false differs (is_one other same) = is_one other same
+    by false differs (is_other others) = is_other (differs, others)
+
 -- A first word that is no command is refused.
-other_word : (word : Text) (more : List Text) → IsPlain word → bytes_eq (codes "verify") word ≡ false → bytes_eq (codes "print") word ≡ false → bytes_eq (codes "run") word ≡ false →
-    bytes_eq (codes "certify") word ≡ false → bytes_eq (codes "check") word ≡ false → bytes_eq (codes "gen") word ≡ false → bytes_eq (codes "pgcl") word ≡ false → fault_of tool (word ∷ more) ≡ [] → ⊥
+other_word : (word : Text) (more : List Text) → IsPlain word → IsOther word entries → fault_of tool (word ∷ more) ≡ [] → ⊥
 unfolding clap_on_literals
-other_word word more (plain b bs h) v p r c k g q none =
+other_word word more (plain b bs h) (v, (p, (r, (c, (k, (g, (q, (o, (m, (f, end)))))))))) none =
     let walk_none : walk_fault (built tool).top (names_of (built tool)) (walk_from nothing_held) (word ∷ more) ≡ [] = walk_empty (built tool).top (names_of (built tool)) nothing_held (word ∷ more) _ _ none in
-    let no = simp (h, v, p, r, c, k, g, q) at walk_none in
+    let no = simp (h, v, p, r, c, k, g, q, o, m, f) at walk_none in
     cc
 
 -- The words are those of a command without numbers, or `gen` and one that may be an argument.
@@ -283,6 +359,9 @@ command_spells name names certify rest h none = let (f, e) = wants_file name res
 command_spells name names check rest h none = let (f, c, e) = wants_check name rest h none in Spell.by_command (Check f c) (ap (λ (ws : List Text). name ∷ ws) e) refl
 command_spells name names generate rest h none = let (w, e, is) = wants_gen name rest h none in Spell.by_number w (ap (λ (ws : List Text). name ∷ ws) e) is
 command_spells name names pgcl rest h none = let (f, e) = wants_file name rest h none in Spell.by_command (Pgcl f) (ap (λ (ws : List Text). name ∷ ws) e) refl
+command_spells name names omega_pair rest h none = let (f, p, q, e) = wants_pair name rest h none in Spell.by_command (Omega f p q) (ap (λ (ws : List Text). name ∷ ws) e) refl
+command_spells name names remainder rest h none = let (f, p, q, e) = wants_pair name rest h none in Spell.by_command (Remainder f p q) (ap (λ (ws : List Text). name ∷ ws) e) refl
+command_spells name names refute rest h none = let (f, p, s, e) = wants_run name rest h none in Spell.by_command (Refute f p s) (ap (λ (ws : List Text). name ∷ ws) e) refl
 
 -- So does a word that is equal to a command's, with what is behind it.
 equal_spells : (name word : Text) (names : List Text) → IsCommand name names → bytes_eq name word ≡ true → (rest : List Text) → list_all is_argument rest ≡ true →
@@ -292,23 +371,13 @@ equal_spells name word names is e rest h none =
     let inside = enters name names is rest (subst (λ (w : Text). fault_of tool (w ∷ rest) ≡ []) same none) in
     subst (λ (w : Text). Spell (w ∷ rest)) (sym same) (command_spells name names is rest h inside)
 
-first_word : (word : Text) (rest : List Text) → IsPlain word → list_all is_argument rest ≡ true →
-    (v p r c k g l : Bool) → bytes_eq (codes "verify") word ≡ v → bytes_eq (codes "print") word ≡ p → bytes_eq (codes "run") word ≡ r → bytes_eq (codes "certify") word ≡ c →
-    bytes_eq (codes "check") word ≡ k → bytes_eq (codes "gen") word ≡ g → bytes_eq (codes "pgcl") word ≡ l → fault_of tool (word ∷ rest) ≡ [] → Spell (word ∷ rest)
-first_word word rest w h true p r c k g l ev ep er ec ek eg el none = equal_spells (codes "verify") word _ verify ev rest h none
-first_word word rest w h false true r c k g l ev ep er ec ek eg el none = equal_spells (codes "print") word _ print ep rest h none
-first_word word rest w h false false true c k g l ev ep er ec ek eg el none = equal_spells (codes "run") word _ run er rest h none
-first_word word rest w h false false false true k g l ev ep er ec ek eg el none = equal_spells (codes "certify") word _ certify ec rest h none
-first_word word rest w h false false false false true g l ev ep er ec ek eg el none = equal_spells (codes "check") word _ check ek rest h none
-first_word word rest w h false false false false false true l ev ep er ec ek eg el none = equal_spells (codes "gen") word _ generate eg rest h none
-first_word word rest w h false false false false false false true ev ep er ec ek eg el none = equal_spells (codes "pgcl") word _ pgcl el rest h none
-first_word word rest w h false false false false false false false ev ep er ec ek eg el none = absurd (other_word word rest w ev ep er ec ek eg el none)
+first_word : (word : Text) (rest : List Text) → IsPlain word → list_all is_argument rest ≡ true → fault_of tool (word ∷ rest) ≡ [] → Chosen word entries → Spell (word ∷ rest)
+first_word word rest w h clean (is_one e same) = equal_spells e.word word e.names e.is same rest h clean
+first_word word rest w h clean (is_other others) = absurd (other_word word rest w others clean)
 
 words_spell : (words : List Text) → list_all is_argument words ≡ true → fault_of tool words ≡ [] → Spell words
 words_spell [] h none = absurd (no_words none)
-words_spell (word ∷ rest) h none =
-    let (first, more) = are_plain word rest h in
-    first_word word rest first more _ _ _ _ _ _ _ refl refl refl refl refl refl refl none
+words_spell (word ∷ rest) h none = let (first, more) = are_plain word rest h in first_word word rest first more none (chosen word entries)
 
 -- What is met where the words are taken.
 met_by : (words : List Text) (met : Option (Text × List Row)) → list_all is_argument words ≡ true → met ≡ subcommand_of tool words → Spell words → IsMet words met
@@ -335,3 +404,6 @@ plain_asked words settings asked = ap (λ (ws : List Text). list_all is_argument
     plain_words (Check f c) h = h
     plain_words (Gen n) h = h
     plain_words (Pgcl f) h = h
+    plain_words (Omega f p q) h = h
+    plain_words (Remainder f p q) h = h
+    plain_words (Refute f p s) h = h

@@ -7,27 +7,35 @@ use Rattle.heyvl_syntax.specs.SourceFaults.{IsSource, IsSourceFault, SourcesHave
 use Rattle.heyvl_tool.specs.FaultLaws.{MayTell}
 use Rattle.heyvl_files.specs.Sources.IsFileFault.{spelling, static}
 use Rattle.heyvl_files.specs.Sources.{IsFileFault}
-use Rattle.heyvl_tool.specs.FileReplies.{IsSpelledReply, IsTypedReply}
+use Rattle.heyvl_replies.specs.FileReplies.{IsSpelledReply, IsTypedReply}
 use Rattle.generated_files.specs.Texts.{generated_text}
-use Rattle.heyvl_tool.specs.Headline.{verified_text}
-use Rattle.heyvl_tool.specs.Messages.{Reply, answered, source_fault}
+use Rattle.heyvl_replies.specs.Messages.{Reply, answered, source_fault}
 use Rattle.heyvl_files.specs.PrintLaws.{SpellingIsUnique}
-use Rattle.heyvl_tool.specs.commands.Certify.{IsCertification}
-use Rattle.heyvl_tool.specs.commands.Check.IsCheckedReply.{by_certificates, by_line}
-use Rattle.heyvl_tool.specs.commands.Check.{IsCheckedReply}
-use Rattle.heyvl_tool.specs.commands.Generate.{IsGenReply}
-use Rattle.heyvl_tool.specs.commands.Pgcl.{IsPgclReply}
-use Rattle.heyvl_tool.specs.commands.Print.{printed}
-use Rattle.heyvl_tool.specs.commands.Run.IsRunOf.{by_name, by_program, by_run, by_script}
-use Rattle.heyvl_tool.specs.commands.Run.{IsRunOf, run_reply}
-use Rattle.heyvl_tool.specs.commands.Verify.{IsReport}
-use Rattle.heyvl_tool.specs.commands.{Front, IsReplyTo, row_of}
-use Rattle.heyvl_tool.specs.declared.outcomes.Fault.TheVariants as faults
-use Rattle.heyvl_tool.specs.declared.outcomes.Fault.{Fault}
-use Rattle.heyvl_tool.specs.declared.requests.Settings.TheVariants.{Certify, Check, Gen, Pgcl, Print, Run, Verify}
+use Rattle.heyvl_replies.specs.commands.Certify.{IsCertification}
+use Rattle.heyvl_replies.specs.commands.Check.IsCheckedReply.{by_certificates, by_line}
+use Rattle.heyvl_replies.specs.commands.Check.{IsCheckedReply}
+use Rattle.heyvl_replies.specs.commands.Generate.{IsGenReply}
+use Rattle.heyvl_replies.specs.commands.Omega.{IsOmegaOf, omega_reply}
+use Rattle.heyvl_replies.specs.commands.Pgcl.{IsPgclReply}
+use Rattle.heyvl_replies.specs.commands.Print.{printed}
+use Rattle.heyvl_replies.specs.commands.Refute.{IsRefuteOf, refuted_reply}
+use Rattle.heyvl_replies.specs.commands.Remainder.{IsRemainderOf, remainder_reply}
+use Rattle.heyvl_replies.specs.commands.Run.IsRunOf.{by_name, by_program, by_run, by_script}
+use Rattle.heyvl_replies.specs.commands.Run.{IsRunOf, run_reply}
+use Rattle.heyvl_replies.specs.commands.Verify.{IsReport}
+use Rattle.heyvl_tool.specs.commands.{Front, IsReplyTo, row_of, verified_text}
+use Rattle.heyvl_replies.specs.declared.faults.Fault.TheVariants as faults
+use Rattle.heyvl_replies.specs.declared.faults.Fault.{Fault}
+use Rattle.heyvl_tool.specs.declared.requests.Settings.TheVariants.{Certify, Check, Gen, Omega, Pgcl, Print, Refute, Remainder, Run, Verify}
 use Rattle.heyvl_tool.specs.declared.requests.Settings.{Settings}
 use Rattle.heyvl_types.specs.Files.{first_fault, resolved}
 use Rattle.heyvl_types.specs.Findings.{Finding}
+use Rattle.lower_rules.specs.declared.answers.Omega.TheVariants as omega_answers
+use Rattle.lower_rules.specs.declared.answers.Omega.{Omega as OmegaAnswer}
+use Rattle.lower_rules.specs.declared.remainder_answers.Remainder.TheVariants as remainder_answers
+use Rattle.lower_rules.specs.declared.remainder_answers.Remainder.{Remainder as RemainderAnswer}
+use Rattle.refute_runs.specs.declared.answers.Refuted.TheVariants.{Stopped, Violation, Within}
+use Rattle.refute_runs.specs.declared.answers.Refuted.{Refuted}
 use Rattle.run_unroller.specs.declared.answers.Unrolled.TheVariants as answers
 use Rattle.run_unroller.specs.declared.answers.Unrolled.{Unrolled}
 use Rattle.std.proofs.Common.{Bool, List, None, Option, Some, [], ap, false, refl, subst, sym, true, ◌∙◌, ◌≡◌, ℕ}
@@ -48,6 +56,7 @@ is_told_late (faults.Source number place) = false
 is_told_late (faults.Cert line) = true
 is_told_late (faults.Script line) = true
 is_told_late faults.NoProcedure = true
+is_told_late faults.Shape = true
 is_told_late (faults.NotProgram p) = true
 is_told_late (faults.Run stopped) = true
 is_told_late faults.Write = false
@@ -63,6 +72,7 @@ is_told (faults.Source number place) = true
 is_told (faults.Cert line) = true
 is_told (faults.Script line) = true
 is_told faults.NoProcedure = true
+is_told faults.Shape = true
 is_told (faults.NotProgram p) = true
 is_told (faults.Run stopped) = true
 is_told faults.Write = false
@@ -77,6 +87,7 @@ late_is_told (faults.Source number place) e = refl
 late_is_told (faults.Cert line) e = refl
 late_is_told (faults.Script line) e = refl
 late_is_told faults.NoProcedure e = refl
+late_is_told faults.Shape e = refl
 late_is_told (faults.NotProgram p) e = refl
 late_is_told (faults.Run stopped) e = refl
 late_is_told faults.Write e = absurd (false≢true e)
@@ -212,6 +223,47 @@ run_known name script ps reply (by_name s read none e) = message_known ps reply 
 run_known name script ps reply (by_program s read p named q found e) = message_known ps reply _ e refl refl
 run_known name script ps reply (by_run s read p named reach tells) = unrolled_known ps reply tells.answer tells.told
 
+omega_said : (ps : List TypedProcedure) (reply : Reply) (answer : OmegaAnswer) (text : List ℕ) → reply ≡ omega_reply answer text → IsKnownOf ps reply
+omega_said ps reply omega_answers.Holds text e = message_known ps reply _ e refl refl
+omega_said ps reply (omega_answers.Fails step s) text e = message_known ps reply _ e refl refl
+omega_said ps reply (omega_answers.Unknown step cause) text e = message_known ps reply _ e refl refl
+omega_said ps reply omega_answers.Shape text e = message_known ps reply _ e refl refl
+
+omega_known : (procedure name bytes : List ℕ) (ps : List TypedProcedure) (reply : Reply) → IsOmegaOf procedure name bytes ps reply → IsKnownOf ps reply
+omega_known procedure name bytes ps reply (IsOmegaOf.by_name missing e) = message_known ps reply _ e refl refl
+omega_known procedure name bytes ps reply (IsOmegaOf.by_pair p q first second tells) = omega_said ps reply tells.answer tells.text tells.told
+
+remainder_said : (ps : List TypedProcedure) (reply : Reply) (answer : RemainderAnswer) (text : List ℕ) → reply ≡ remainder_reply answer text → IsKnownOf ps reply
+remainder_said ps reply (remainder_answers.Holds step) text e = message_known ps reply _ e refl refl
+remainder_said ps reply (remainder_answers.Fails s) text e = message_known ps reply _ e refl refl
+remainder_said ps reply remainder_answers.NotVerified text e = message_known ps reply _ e refl refl
+remainder_said ps reply remainder_answers.NotRanked text e = message_known ps reply _ e refl refl
+remainder_said ps reply (remainder_answers.Unknown cause) text e = message_known ps reply _ e refl refl
+remainder_said ps reply remainder_answers.Shape text e = message_known ps reply _ e refl refl
+
+remainder_known : (procedure name bytes : List ℕ) (ps : List TypedProcedure) (reply : Reply) → IsRemainderOf procedure name bytes ps reply → IsKnownOf ps reply
+remainder_known procedure name bytes ps reply (IsRemainderOf.by_name missing e) = message_known ps reply _ e refl refl
+remainder_known procedure name bytes ps reply (IsRemainderOf.by_pair p q first second tells) = remainder_said ps reply tells.answer tells.text tells.told
+
+stopped_late : (stopped : Unrolled) → is_told_late (run_reply stopped).fault ≡ true
+stopped_late (answers.Sums sums) = refl
+stopped_late (answers.Full step) = refl
+stopped_late (answers.Deep step) = refl
+stopped_late (answers.Bits step) = refl
+
+refuted_late : (name : List ℕ) (steps : ℕ) (said : List Answer) (answer : Refuted) → is_told_late (refuted_reply name steps said answer).fault ≡ true
+refuted_late name steps said (Violation step sum bound) = refl
+refuted_late name steps said (Within sum bound) = refl
+refuted_late name steps said (Stopped step stopped) = stopped_late stopped
+
+refute_known : (name script : List ℕ) (ps : List TypedProcedure) (reply : Reply) → IsRefuteOf name script ps reply → IsKnownOf ps reply
+refute_known name script ps reply (IsRefuteOf.by_script line fault e) = message_known ps reply _ e refl refl
+refute_known name script ps reply (IsRefuteOf.by_name s read none e) = message_known ps reply _ e refl refl
+refute_known name script ps reply (IsRefuteOf.by_shape s read p named upper e) = message_known ps reply _ e refl refl
+refute_known name script ps reply (IsRefuteOf.by_program s read p named upper q found e) = message_known ps reply _ e refl refl
+refute_known name script ps reply (IsRefuteOf.by_search s read p named upper reach tells) =
+    record { late = late_of reply _ tells.told (refuted_late _ s.steps reply.answers tells.answer); promised = λ some. tells.headline }
+
 -- ---- Of a command that reads no HeyVL
 
 pgcl_known : (bytes : List ℕ) (reply : Reply) → IsPgclReply bytes reply → IsKnown Front.other bytes bytes reply
@@ -247,3 +299,6 @@ reply_known (Certify file) bytes second reply said = typed_known IsCertification
 reply_known (Check file certificates) bytes second reply said = typed_known (IsCheckedReply bytes second) bytes reply (λ ps. check_known bytes second ps reply) said
 reply_known (Gen n) bytes second reply said = gen_known n bytes reply said
 reply_known (Pgcl file) bytes second reply said = pgcl_known bytes reply said
+reply_known (Omega file procedure name) bytes second reply said = typed_known (IsOmegaOf procedure name bytes) bytes reply (λ ps. omega_known procedure name bytes ps reply) said
+reply_known (Remainder file procedure name) bytes second reply said = typed_known (IsRemainderOf procedure name bytes) bytes reply (λ ps. remainder_known procedure name bytes ps reply) said
+reply_known (Refute file procedure script) bytes second reply said = typed_known (IsRefuteOf procedure second) bytes reply (λ ps. refute_known procedure second ps reply) said

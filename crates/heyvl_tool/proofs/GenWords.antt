@@ -2,7 +2,7 @@
 use Rattle.clap.specs.Words.{Row, Text, first_of}
 use Rattle.generated_summary.specs.LineCounts.{is_line_count}
 use Rattle.heyvl_tool.specs.commands.{row_of}
-use Rattle.heyvl_tool.specs.declared.requests.Settings.TheVariants.{Certify, Check, Gen, Pgcl, Print, Run, Verify}
+use Rattle.heyvl_tool.specs.declared.requests.Settings.TheVariants.{Certify, Check, Gen, Omega, Pgcl, Print, Refute, Remainder, Run, Verify}
 use Rattle.heyvl_tool.specs.declared.requests.Settings.{Settings}
 use Rattle.heyvl_tool.specs.declared.requests.SettingsStop.TheVariants.{Memory, Usage}
 use Rattle.heyvl_tool.specs.declared.requests.SettingsStop.{SettingsStop}
@@ -44,6 +44,9 @@ read_is n word (Ok (Run f p s)) fits is read = absurd read
 read_is n word (Ok (Certify f)) fits is read = absurd read
 read_is n word (Ok (Check f c)) fits is read = absurd read
 read_is n word (Ok (Pgcl f)) fits is read = absurd read
+read_is n word (Ok (Omega f p q)) fits is read = absurd read
+read_is n word (Ok (Remainder f p q)) fits is read = absurd read
+read_is n word (Ok (Refute f p s)) fits is read = absurd read
 read_is n word (Err Usage) fits is read = absurd (read n (record { fits = fits; written = is }))
 read_is n word (Err (Memory error)) fits is read = tt
 
@@ -55,4 +58,7 @@ gen_met rows word r value read (Run f p s) fits found = absurd (differ (codes "r
 gen_met rows word r value read (Certify f) fits found = absurd (differ (codes "certify") refl (ap name_of found))
 gen_met rows word r value read (Check f c) fits found = absurd (differ (codes "check") refl (ap name_of found))
 gen_met rows word r value read (Pgcl f) fits found = absurd (differ (codes "pgcl") refl (ap name_of found))
+gen_met rows word r value read (Omega f p q) fits found = absurd (differ (codes "omega") refl (ap name_of found))
+gen_met rows word r value read (Remainder f p q) fits found = absurd (differ (codes "remainder") refl (ap name_of found))
+gen_met rows word r value read (Refute f p s) fits found = absurd (differ (codes "refute") refl (ap name_of found))
 gen_met rows word r value read (Gen n) fits found = read_is n word r fits (value (decimal n) (ap value_of found)) read

@@ -3,10 +3,10 @@ use Rattle.heyvl_tool.proofs.CallLemmas.CameTo.{failed, said, too_long}
 use Rattle.heyvl_tool.proofs.CallLemmas.{CameTo, came_to}
 use Rattle.heyvl_tool.proofs.CommandReplies.{IsKnown, Promised, no_message, reply_known}
 use Rattle.heyvl_tool.specs.Calls.{Call}
-use Rattle.heyvl_tool.specs.Headline.{AnswersAreMeant, IsVerifiedFrom, verified_text}
-use Rattle.heyvl_tool.specs.Messages.{Reply}
+use Rattle.heyvl_tool.specs.Headline.{AnswersAreMeant, IsVerifiedFrom}
+use Rattle.heyvl_replies.specs.Messages.{Reply}
 use Rattle.heyvl_tool.specs.Outcomes.{HasCause, IsDelivered, Writing}
-use Rattle.heyvl_tool.specs.commands.{files_of, row_of}
+use Rattle.heyvl_tool.specs.commands.{files_of, row_of, verified_text}
 use Rattle.heyvl_tool.specs.declared.outcomes.Outcome.{Outcome}
 use Rattle.heyvl_tool.specs.declared.requests.Settings.{Settings}
 use Rattle.heyvl_types.specs.Files.{resolved}

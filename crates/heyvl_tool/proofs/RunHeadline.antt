@@ -7,20 +7,20 @@ use Rattle.heyvl_syntax.specs.SourceFaults.{IsSource}
 use Rattle.heyvl_tool.proofs.CallLemmas.CameTo.{failed, said, too_long}
 use Rattle.heyvl_tool.proofs.CallLemmas.{CameTo, came_to}
 use Rattle.heyvl_tool.specs.Calls.{Call}
-use Rattle.heyvl_tool.specs.FileReplies.IsTypedReply.{by_fault, by_file}
+use Rattle.heyvl_replies.specs.FileReplies.IsTypedReply.{by_fault, by_file}
 use Rattle.heyvl_tool.specs.Headline.{IsSummedFrom, SumsAreMeant, scripted_runs, start_by}
-use Rattle.heyvl_tool.specs.Messages.{Reply, message}
+use Rattle.heyvl_replies.specs.Messages.{Reply, message}
 use Rattle.heyvl_tool.specs.Outcomes.{HasCause, IsCut, IsDelivered, IsWritten, Writing}
-use Rattle.heyvl_tool.specs.RunStarts.{known_at, procedure_named}
+use Rattle.heyvl_replies.specs.RunStarts.{known_at, procedure_named}
 use Rattle.run_script.proofs.exported.StartStates.{start_typed}
 use Rattle.run_script.specs.Scripts.{Script, Spells}
 use Rattle.run_script.specs.Starts.{known_of, start_state}
 use Rattle.run_script.specs.Texts.{sums_text}
-use Rattle.heyvl_tool.specs.commands.Run.IsRunOf.{by_name, by_program, by_run, by_script}
-use Rattle.heyvl_tool.specs.commands.Run.{IsRunOf, IsRunReply, run_reply, runs_by}
+use Rattle.heyvl_replies.specs.commands.Run.IsRunOf.{by_name, by_program, by_run, by_script}
+use Rattle.heyvl_replies.specs.commands.Run.{IsRunOf, IsRunReply, run_reply, runs_by}
 use Rattle.heyvl_tool.specs.commands.{Files}
-use Rattle.heyvl_tool.specs.declared.outcomes.Fault.TheVariants as faults
-use Rattle.heyvl_tool.specs.declared.outcomes.Fault.{Fault}
+use Rattle.heyvl_replies.specs.declared.faults.Fault.TheVariants as faults
+use Rattle.heyvl_replies.specs.declared.faults.Fault.{Fault}
 use Rattle.heyvl_tool.specs.declared.outcomes.Outcome.{Outcome}
 use Rattle.heyvl_tool.specs.declared.requests.Settings.TheVariants.{Run}
 use Rattle.heyvl_types.specs.Files.{file_findings, first_fault, resolved}

@@ -8,7 +8,7 @@ use Rattle.heyvl_tool.specs.Outcomes.{IsAnswered, IsOutOfMemory, Writing}
 use Rattle.heyvl_tool.specs.SourceUses.{IsReadInTurn, IsStartedOnce, IsStartedRight, IsUntouched}
 use Rattle.heyvl_tool.specs.StartLaws.{AreFirst, HasNamesOf, StartsAreCounted, starts_of}
 use Rattle.heyvl_tool.specs.commands.{files_of}
-use Rattle.heyvl_tool.specs.declared.outcomes.Fault.TheVariants as faults
+use Rattle.heyvl_replies.specs.declared.faults.Fault.TheVariants as faults
 use Rattle.heyvl_tool.specs.declared.outcomes.Outcome.{Outcome}
 use Rattle.heyvl_tool.specs.declared.requests.Settings.{Settings}
 use Rattle.run_unroller.specs.declared.answers.Unrolled.TheVariants.{Full}
@@ -19,9 +19,9 @@ use Rattle.std.proofs.Common.{IfSome, List, None, Option, Some, [], ap, arith, c
 table :
     (starts_of faults.Usage ≡ Some 0) × (starts_of (faults.Read 0) ≡ Some 1) × (starts_of (faults.TooLong 0) ≡ Some 1) × (starts_of (faults.Read 1) ≡ Some 2)
     × (starts_of (faults.TooLong 1) ≡ Some 2) × (starts_of faults.Nothing ≡ None) × (starts_of (faults.Source 4 (record { from = 0; to = 0 })) ≡ None)
-    × (starts_of (faults.Cert 1) ≡ None) × (starts_of (faults.Script 1) ≡ None) × (starts_of faults.NoProcedure ≡ None) × (starts_of (faults.NotProgram 0) ≡ None)
+    × (starts_of (faults.Cert 1) ≡ None) × (starts_of (faults.Script 1) ≡ None) × (starts_of faults.NoProcedure ≡ None) × (starts_of faults.Shape ≡ None) × (starts_of (faults.NotProgram 0) ≡ None)
     × (starts_of (faults.Run (Full 1)) ≡ None) × (starts_of faults.Write ≡ None) × (starts_of faults.Memory ≡ None)
-table = (refl, refl, refl, refl, refl, refl, refl, refl, refl, refl, refl, refl, refl, refl)
+table = (refl, refl, refl, refl, refl, refl, refl, refl, refl, refl, refl, refl, refl, refl, refl)
 
 -- ---- Names and starts
 

@@ -4,15 +4,15 @@ use Rattle.heyvl_io.specs.OrderLaws.{NextNameCounts}
 use Rattle.heyvl_tool.proofs.CommandReplies.{is_told, reply_known}
 use Rattle.heyvl_tool.specs.Calls.IsReadReply.{by_bytes, by_length, by_source}
 use Rattle.heyvl_tool.specs.Calls.{Call, IsFilesReply, IsReadReply, IsSaid, Moment, Names}
-use Rattle.heyvl_tool.specs.Messages.{Reply}
+use Rattle.heyvl_replies.specs.Messages.{Reply}
 use Rattle.heyvl_tool.specs.Outcomes.HasCause.{by_command, by_words}
 use Rattle.heyvl_tool.specs.Outcomes.{HasCause, IsAnswered, IsCut, IsOutOfMemory, IsWritten, Writing}
 use Rattle.heyvl_tool.specs.SourceUses.{IsReadInTurn, IsStartedRight, IsUntouched}
 use Rattle.heyvl_tool.specs.StartLaws.{AreFirst, HasNamesOf, StartsAreCounted, starts_of}
 use Rattle.heyvl_tool.specs.Words.{AskFor}
 use Rattle.heyvl_tool.specs.commands.{Files, IsReplyTo, files_of}
-use Rattle.heyvl_tool.specs.declared.outcomes.Fault.TheVariants as faults
-use Rattle.heyvl_tool.specs.declared.outcomes.Fault.{Fault}
+use Rattle.heyvl_replies.specs.declared.faults.Fault.TheVariants as faults
+use Rattle.heyvl_replies.specs.declared.faults.Fault.{Fault}
 use Rattle.heyvl_tool.specs.declared.outcomes.Outcome.{Outcome}
 use Rattle.heyvl_tool.specs.declared.requests.Settings.{Settings}
 use Rattle.std.proofs.Common.{IfSome, List, Some, ap, inl, inr, subst, sym, true, ◌∙◌, ◌≡◌, ◌⊎◌, ℕ}
@@ -68,6 +68,7 @@ told_tells_none (faults.Source number place) after e = tt
 told_tells_none (faults.Cert line) after e = tt
 told_tells_none (faults.Script line) after e = tt
 told_tells_none faults.NoProcedure after e = tt
+told_tells_none faults.Shape after e = tt
 told_tells_none (faults.NotProgram p) after e = tt
 told_tells_none (faults.Run stopped) after e = tt
 told_tells_none faults.Write after e = tt

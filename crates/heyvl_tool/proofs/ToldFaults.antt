@@ -4,10 +4,9 @@ use Rattle.heyvl_syntax.specs.Procedures.{Procedure}
 use Rattle.heyvl_syntax.specs.SourceFaults.{IsSource, SourcesHaveNoFault}
 use Rattle.heyvl_tool.proofs.CommandReplies.{IsKnown, reply_known}
 use Rattle.heyvl_tool.specs.FaultLaws.{StaticFaultsAreTold, ToldFaultsAreThere}
-use Rattle.heyvl_tool.specs.Headline.{verified_text}
-use Rattle.heyvl_tool.specs.Messages.{Reply, source_fault}
+use Rattle.heyvl_replies.specs.Messages.{Reply, source_fault}
 use Rattle.heyvl_files.specs.PrintLaws.{SpellingIsUnique}
-use Rattle.heyvl_tool.specs.commands.{Front, row_of}
+use Rattle.heyvl_tool.specs.commands.{Front, row_of, verified_text}
 use Rattle.heyvl_types.specs.Files.{first_fault}
 use Rattle.std.proofs.Common.{List, Some, subst, ◌≡◌, ℕ}
 

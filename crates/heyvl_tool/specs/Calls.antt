@@ -3,9 +3,9 @@ use Rattle.heyvl_files.specs.Sources.{file_limit}
 use Rattle.heyvl_io.specs.Faults.{Rose}
 use Rattle.heyvl_io.specs.History.{History, IsTaken, handed_out}
 use Rattle.heyvl_io.specs.Order.{Order, order_after}
-use Rattle.heyvl_tool.specs.Messages.{Reply, message}
+use Rattle.heyvl_replies.specs.Messages.{Reply, message}
 use Rattle.heyvl_tool.specs.commands.{Files}
-use Rattle.heyvl_tool.specs.declared.outcomes.Fault.TheVariants as faults
+use Rattle.heyvl_replies.specs.declared.faults.Fault.TheVariants as faults
 use Rattle.std.specs.Prelude.{IfSome, List, Option, [], codes, length, ◌+◌, ◌++◌, ◌<◌, ◌∷◌, ◌≡◌, ◌≤◌, ℕ}
 
 -- What a source tells of its names: their order, and what each holds.

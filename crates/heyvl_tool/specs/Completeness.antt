@@ -3,7 +3,7 @@ use Rattle.heyvl_io.specs.Faults.{Rose}
 use Rattle.heyvl_io.specs.History.{since_start}
 use Rattle.heyvl_files.specs.Sources.{file_limit}
 use Rattle.heyvl_tool.specs.Calls.{AreRead, Call}
-use Rattle.heyvl_tool.specs.Messages.{Reply}
+use Rattle.heyvl_replies.specs.Messages.{Reply}
 use Rattle.heyvl_tool.specs.Outcomes.{IsAnswered, IsOutOfMemory, IsWritten, Writing}
 use Rattle.heyvl_tool.specs.Words.{AskFor}
 use Rattle.heyvl_tool.specs.commands.{IsReplyTo, files_of}

@@ -1,17 +1,16 @@
 -- What a user may rely on where a report says `verified`, `ranked` or `not verified`, and where a run tells numbers.
 use Rattle.std.specs.Prelude.{List, None, Some, [], ◌≡◌, ◌≢◌, ℕ}
-use Rattle.generated_files.specs.Texts.{generated_text}
 use Rattle.heyvl_syntax.specs.Procedures.{Procedure}
 use Rattle.heyvl_syntax.specs.SourceFaults.{IsSource}
 use Rattle.heyvl_tool.specs.Calls.{AreRead, Call}
-use Rattle.heyvl_tool.specs.Messages.{Reply, message}
+use Rattle.heyvl_replies.specs.Messages.{Reply, message}
 use Rattle.heyvl_tool.specs.Outcomes.{IsDelivered, IsWritten, Writing}
-use Rattle.heyvl_tool.specs.RunStarts.{procedure_named}
+use Rattle.heyvl_replies.specs.RunStarts.{procedure_named}
 use Rattle.heyvl_tool.specs.Words.{AskFor}
-use Rattle.heyvl_tool.specs.commands.{Files, IsReplyTo, files_of}
-use Rattle.heyvl_tool.specs.declared.outcomes.Fault.TheVariants.{Nothing}
+use Rattle.heyvl_tool.specs.commands.{Files, IsReplyTo, files_of, verified_text}
+use Rattle.heyvl_replies.specs.declared.faults.Fault.TheVariants.{Nothing}
 use Rattle.heyvl_tool.specs.declared.outcomes.Outcome.{Outcome}
-use Rattle.heyvl_tool.specs.declared.requests.Settings.TheVariants.{Certify, Check, Gen, Pgcl, Print, Run, Verify}
+use Rattle.heyvl_tool.specs.declared.requests.Settings.TheVariants.{Run}
 use Rattle.heyvl_tool.specs.declared.requests.Settings.{Settings}
 use Rattle.heyvl_acts.specs.Acts.{TypedProcedure, procedure_at}
 use Rattle.heyvl_types.specs.Files.{first_fault, resolved}
@@ -25,16 +24,6 @@ use Rattle.run_unroller.specs.ScriptTrees.{scripted}
 use Rattle.run_unroller.specs.Totals.{Totals}
 use Rattle.run_unroller.specs.UnrollLaws.{AreSums}
 use Rattle.verify_core.specs.Headline.{IsHeadline}
-
--- The text on which a command answers: the generated one of `gen`, and for every other the bytes of its file.
-abbrev pub verified_text : Settings → List ℕ → List ℕ
-verified_text (Verify file) bytes = bytes
-verified_text (Print file) bytes = bytes
-verified_text (Run file procedure script) bytes = bytes
-verified_text (Certify file) bytes = bytes
-verified_text (Check file certificates) bytes = bytes
-verified_text (Gen n) bytes = generated_text n
-verified_text (Pgcl file) bytes = bytes
 
 -- The outcome of a command is what is said of the bytes that were read of its file, and of its second text, which are those that
 -- the source holds where it tells them. These bytes, or for `gen` its generated text, spell a file without a fault, and of its

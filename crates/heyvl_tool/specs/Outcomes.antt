@@ -2,11 +2,11 @@
 use Rattle.heyvl_io.specs.Bytes.{with_appended}
 use Rattle.heyvl_io.specs.Faults.{Rose}
 use Rattle.heyvl_tool.specs.Calls.{Call, IsFilesReply}
-use Rattle.heyvl_tool.specs.Messages.{Reply, message}
-use Rattle.heyvl_tool.specs.Statuses.{fault_status}
+use Rattle.heyvl_replies.specs.Messages.{Reply, message}
+use Rattle.heyvl_replies.specs.Statuses.{fault_status}
 use Rattle.heyvl_tool.specs.Words.{AskFor, IsUsage}
 use Rattle.heyvl_tool.specs.commands.{IsReplyTo, files_of, usage_line}
-use Rattle.heyvl_tool.specs.declared.outcomes.Fault.TheVariants as faults
+use Rattle.heyvl_replies.specs.declared.faults.Fault.TheVariants as faults
 use Rattle.heyvl_tool.specs.declared.outcomes.Outcome.{Outcome}
 use Rattle.heyvl_tool.specs.declared.requests.Settings.{Settings}
 use Rattle.std.specs.Prelude.{List, Option, [], length, take, ◌<◌, ◌≡◌, ◌⊎◌, ℕ}

@@ -5,8 +5,8 @@ use Rattle.heyvl_tool.specs.Outcomes.{IsAnswered, IsOutOfMemory, Writing}
 use Rattle.heyvl_tool.specs.SourceUses.{IsStartedRight}
 use Rattle.heyvl_tool.specs.Words.{AskFor}
 use Rattle.heyvl_tool.specs.commands.{Files, files_of}
-use Rattle.heyvl_tool.specs.declared.outcomes.Fault.TheVariants as faults
-use Rattle.heyvl_tool.specs.declared.outcomes.Fault.{Fault}
+use Rattle.heyvl_replies.specs.declared.faults.Fault.TheVariants as faults
+use Rattle.heyvl_replies.specs.declared.faults.Fault.{Fault}
 use Rattle.heyvl_tool.specs.declared.outcomes.Outcome.{Outcome}
 use Rattle.heyvl_tool.specs.declared.requests.Settings.{Settings}
 use Rattle.std.specs.Prelude.{IfSome, List, None, Option, Some, slice_get, ◌+◌, ◌≡◌, ◌≢◌, ◌⊎◌, ℕ}
@@ -21,6 +21,7 @@ starts_of (faults.Source number place) = None
 starts_of (faults.Cert line) = None
 starts_of (faults.Script line) = None
 starts_of faults.NoProcedure = None
+starts_of faults.Shape = None
 starts_of (faults.NotProgram p) = None
 starts_of (faults.Run stopped) = None
 starts_of faults.Write = None

@@ -1,22 +1,19 @@
 -- The table of the commands: the words that ask for each, the files that it reads, what it makes of the first, and what it says. A
 -- command that has no row here is none.
-pub mod Verify
-pub mod Print
-pub mod Run
-pub mod Certify
-pub mod Check
-pub mod Generate
-pub mod Pgcl
-use Rattle.heyvl_tool.specs.Messages.{Reply}
-use Rattle.heyvl_tool.specs.commands.Certify.{IsCertifyReply}
-use Rattle.heyvl_tool.specs.commands.Check.{IsCheckReply}
-use Rattle.heyvl_tool.specs.commands.Generate.{IsGenReply}
-use Rattle.heyvl_tool.specs.commands.Pgcl.{IsPgclReply}
-use Rattle.heyvl_tool.specs.commands.Print.{IsPrintReply}
-use Rattle.heyvl_tool.specs.commands.Run.{IsRunReply}
-use Rattle.heyvl_tool.specs.commands.Verify.{IsVerifyReply}
+use Rattle.heyvl_replies.specs.Messages.{Reply}
+use Rattle.heyvl_replies.specs.commands.Certify.{IsCertifyReply}
+use Rattle.heyvl_replies.specs.commands.Check.{IsCheckReply}
+use Rattle.heyvl_replies.specs.commands.Generate.{IsGenReply}
+use Rattle.heyvl_replies.specs.commands.Omega.{IsOmegaReply}
+use Rattle.heyvl_replies.specs.commands.Pgcl.{IsPgclReply}
+use Rattle.heyvl_replies.specs.commands.Print.{IsPrintReply}
+use Rattle.heyvl_replies.specs.commands.Refute.{IsRefuteReply}
+use Rattle.heyvl_replies.specs.commands.Remainder.{IsRemainderReply}
+use Rattle.heyvl_replies.specs.commands.Run.{IsRunReply}
+use Rattle.heyvl_replies.specs.commands.Verify.{IsVerifyReply}
 use Rattle.heyvl_tool.specs.declared.requests.Settings.TheVariants as commands
 use Rattle.heyvl_tool.specs.declared.requests.Settings.{Settings}
+use Rattle.generated_files.specs.Texts.{generated_text}
 use Rattle.generated_summary.specs.LineCounts.{is_line_count}
 use Rattle.std.specs.Prelude.{Bool, List, [], codes, decimal, true, ◌++◌, ◌∷◌, ℕ}
 
@@ -58,9 +55,21 @@ generate = form (codes "gen") (codes "N" ∷ [])
 abbrev pub pgcl : Form
 pgcl = form (codes "pgcl") (codes "FILE" ∷ [])
 
+-- `omega FILE PROC NAME`
+abbrev pub omega_pair : Form
+omega_pair = form (codes "omega") (codes "FILE" ∷ codes "PROC" ∷ codes "NAME" ∷ [])
+
+-- `remainder FILE PROC NAME`
+abbrev pub remainder : Form
+remainder = form (codes "remainder") (codes "FILE" ∷ codes "PROC" ∷ codes "NAME" ∷ [])
+
+-- `refute FILE PROC SCRIPT`
+abbrev pub refute : Form
+refute = form (codes "refute") (codes "FILE" ∷ codes "PROC" ∷ codes "SCRIPT" ∷ [])
+
 -- All of them, in the order in which the usage line has them.
 abbrev pub forms : List Form
-forms = verify ∷ print ∷ run ∷ certify ∷ check ∷ generate ∷ pgcl ∷ []
+forms = verify ∷ print ∷ run ∷ certify ∷ check ∷ generate ∷ pgcl ∷ omega_pair ∷ remainder ∷ refute ∷ []
 
 -- ---- The usage line
 
@@ -99,18 +108,20 @@ pub data Front : Type 0 where
   typed : Front
 
 -- A row of the table: the form of the command and the words that stand in it; whether their numbers are in range; the files; what is
--- made of the first; and what is said of the bytes of both, which are none where there is no such file.
+-- made of the first; the text on which it answers, from the bytes of the first; and what is said of the bytes of both, which are none
+-- where there is no such file.
 pub record Row : Type 1 where
   pub form : Form
   pub words : List (List ℕ)
   pub fits : Bool
   pub files : Files
   pub front : Front
+  pub text : List ℕ → List ℕ
   pub says : List ℕ → List ℕ → Reply → Type 0
 
--- A row of a command without numbers.
+-- A row of a command without numbers, which answers on its first file.
 abbrev pub row : Form → List (List ℕ) → Files → Front → (List ℕ → List ℕ → Reply → Type 0) → Row
-row form words files front says = record { form = form; words = words; fits = true; files = files; front = front; says = says }
+row form words files front says = record { form = form; words = words; fits = true; files = files; front = front; text = λ bytes. bytes; says = says }
 
 -- The table.
 abbrev pub row_of : Settings → Row
@@ -119,8 +130,11 @@ row_of (commands.Print file) = row print (file ∷ []) (Files.one file) Front.sp
 row_of (commands.Run file procedure script) = row run (file ∷ procedure ∷ script ∷ []) (Files.two file script) Front.typed (λ bytes second. IsRunReply procedure bytes second)
 row_of (commands.Certify file) = row certify (file ∷ []) (Files.one file) Front.typed (λ bytes second. IsCertifyReply bytes)
 row_of (commands.Check file certificates) = row check (file ∷ certificates ∷ []) (Files.two file certificates) Front.typed (λ bytes second. IsCheckReply bytes second)
-row_of (commands.Gen n) = record (row generate (decimal n ∷ []) Files.none Front.other (λ bytes second. IsGenReply n)) { fits = is_line_count n }
+row_of (commands.Gen n) = record (row generate (decimal n ∷ []) Files.none Front.other (λ bytes second. IsGenReply n)) { fits = is_line_count n; text = λ bytes. generated_text n }
 row_of (commands.Pgcl file) = row pgcl (file ∷ []) (Files.one file) Front.other (λ bytes second. IsPgclReply bytes)
+row_of (commands.Omega file procedure name) = row omega_pair (file ∷ procedure ∷ name ∷ []) (Files.one file) Front.typed (λ bytes second. IsOmegaReply procedure name bytes)
+row_of (commands.Remainder file procedure name) = row remainder (file ∷ procedure ∷ name ∷ []) (Files.one file) Front.typed (λ bytes second. IsRemainderReply procedure name bytes)
+row_of (commands.Refute file procedure script) = row refute (file ∷ procedure ∷ script ∷ []) (Files.two file script) Front.typed (λ bytes second. IsRefuteReply procedure bytes second)
 
 -- ---- Its columns
 
@@ -135,6 +149,10 @@ words_of settings = (row_of settings).form.word ∷ arguments_of settings
 -- The files of a command.
 abbrev pub files_of : Settings → Files
 files_of settings = (row_of settings).files
+
+-- The text on which a command answers: the generated one of `gen`, and for every other the bytes of its file.
+abbrev pub verified_text : Settings → List ℕ → List ℕ
+verified_text settings bytes = (row_of settings).text bytes
 
 -- What a command says of the bytes of its files.
 abbrev pub IsReplyTo : Settings → List ℕ → List ℕ → Reply → Type 0

@@ -18,7 +18,7 @@ use std::alloc::{AllocError, Global};
 
 /// What is written where the words are no command.
 pub(crate) const USAGE: &[u8] =
-    b"usage: caesar verify FILE | print FILE | run FILE PROC SCRIPT | certify FILE | check FILE CERT | gen N | pgcl FILE\n";
+    b"usage: caesar verify FILE | print FILE | run FILE PROC SCRIPT | certify FILE | check FILE CERT | gen N | pgcl FILE | omega FILE PROC NAME | remainder FILE PROC NAME | refute FILE PROC SCRIPT\n";
 
 fn is_argument(word: &str) -> bool
     ensures { result ≡ is_argument word.now }
@@ -74,7 +74,10 @@ fn tool<'a>(alloc: Global) -> Result<Command<'a>, AllocError>
         .subcommand(command(alloc, "certify", &["FILE"])?)?
         .subcommand(command(alloc, "check", &["FILE", "CERT"])?)?
         .subcommand(command(alloc, "gen", &["N"])?)?
-        .subcommand(command(alloc, "pgcl", &["FILE"])?)
+        .subcommand(command(alloc, "pgcl", &["FILE"])?)?
+        .subcommand(command(alloc, "omega", &["FILE", "PROC", "NAME"])?)?
+        .subcommand(command(alloc, "remainder", &["FILE", "PROC", "NAME"])?)?
+        .subcommand(command(alloc, "refute", &["FILE", "PROC", "SCRIPT"])?)
 }
 
 /// What `clap` makes of words that may all be arguments.
@@ -143,6 +146,24 @@ fn command_met(
         }
         "gen" => generation(&value(alloc, matches, "N")?),
         "pgcl" => Ok(Settings::Pgcl(value(alloc, matches, "FILE")?)),
+        "omega" => {
+            let file = value(alloc, matches, "FILE")?;
+            let procedure = value(alloc, matches, "PROC")?;
+            let second = value(alloc, matches, "NAME")?;
+            Ok(Settings::Omega(file, procedure, second))
+        }
+        "remainder" => {
+            let file = value(alloc, matches, "FILE")?;
+            let procedure = value(alloc, matches, "PROC")?;
+            let second = value(alloc, matches, "NAME")?;
+            Ok(Settings::Remainder(file, procedure, second))
+        }
+        "refute" => {
+            let file = value(alloc, matches, "FILE")?;
+            let procedure = value(alloc, matches, "PROC")?;
+            let script = value(alloc, matches, "SCRIPT")?;
+            Ok(Settings::Refute(file, procedure, script))
+        }
         _ => Err(SettingsStop::Usage),
     }
 }

@@ -1,19 +1,14 @@
 //! The commands: what each says of the bytes of its files.
 
-pub mod certify;
-pub mod check;
-pub mod generate;
-pub mod pgcl;
-pub mod print;
-pub mod run;
-pub mod verify;
-
 ghost use Rattle.heyvl_files.specs.Sources.{file_limit};
-ghost use Rattle.heyvl_tool.specs.Responses.{reply_of};
+ghost use Rattle.heyvl_replies.specs.Responses.{reply_of};
 ghost use Rattle.heyvl_tool.specs.commands.{IsReplyTo, row_of};
 ghost use Rattle.std.specs.Prelude.{IfOk, length, true, ◌≡◌, ◌≤◌};
 
 use crate::{Response, Settings};
+use heyvl_replies::commands::{
+    certify, check, generate, omega, pgcl, print, refute, remainder, run, verify,
+};
 use std::alloc::{AllocError, Global};
 
 /// What a command says of the bytes of its first file and of its second, which are none where it has no such file. Either has at most as
@@ -40,5 +35,17 @@ pub fn respond(
         Settings::Check(_, _) => check::respond(alloc, bytes, second),
         Settings::Gen(lines) => generate::respond(alloc, *lines),
         Settings::Pgcl(_) => pgcl::respond(alloc, bytes),
+        Settings::Omega(_, procedure, name) => {
+            let first = procedure.as_str().as_bytes();
+            omega::respond(alloc, bytes, first, name.as_str().as_bytes())
+        }
+        Settings::Remainder(_, procedure, name) => {
+            let first = procedure.as_str().as_bytes();
+            remainder::respond(alloc, bytes, first, name.as_str().as_bytes())
+        }
+        Settings::Refute(_, procedure, _) => {
+            let name = procedure.as_str().as_bytes();
+            refute::respond(alloc, bytes, name, second)
+        }
     }
 }

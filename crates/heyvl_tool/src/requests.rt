@@ -26,6 +26,12 @@ pub enum Settings {
     Gen(u32),
     /// `pgcl FILE`: the file of HeyVL that a program of guarded commands becomes.
     Pgcl(Word),
+    /// `omega FILE PROC NAME`: whether the second procedure's pre is an omega invariant of the first one's loop.
+    Omega(Word, Word, Word),
+    /// `remainder FILE PROC NAME`: whether the second procedure's pre bounds the turns of the first one's loop.
+    Remainder(Word, Word, Word),
+    /// `refute FILE PROC SCRIPT`: the least number of steps at which a run by the script passes the procedure's pre.
+    Refute(Word, Word, Word),
 }
 
 /// The names of the files of a command, in the order in which they are read.
@@ -51,6 +57,9 @@ impl Settings {
             }
             Settings::Gen(_) => Files::Zero,
             Settings::Pgcl(file) => Files::One(file.as_str()),
+            Settings::Omega(file, _, _) => Files::One(file.as_str()),
+            Settings::Remainder(file, _, _) => Files::One(file.as_str()),
+            Settings::Refute(file, _, script) => Files::Two(file.as_str(), script.as_str()),
         }
     }
 }

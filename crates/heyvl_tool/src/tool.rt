@@ -5,8 +5,10 @@ ghost use Rattle.heyvl_files.specs.Sources.{file_limit};
 ghost use Rattle.heyvl_tool.specs.Calls.{IsFilesReply, IsReadReply, IsSaid};
 ghost use Rattle.heyvl_tool.specs.GuardedPrograms.{ProgramsAreMeant};
 ghost use Rattle.heyvl_tool.specs.Headline.{AnswersAreMeant, SumsAreMeant};
+ghost use Rattle.heyvl_tool.specs.LowerBounds.{BoundsAreMeant};
 ghost use Rattle.heyvl_tool.specs.Outcomes.{HasCause, IsAnswered, IsDelivered, IsOutOfMemory};
-ghost use Rattle.heyvl_tool.specs.Responses.{reply_of};
+ghost use Rattle.heyvl_tool.specs.Refutations.{ViolationsAreMeant};
+ghost use Rattle.heyvl_replies.specs.Responses.{reply_of};
 ghost use Rattle.heyvl_tool.specs.SourceUses.{IsReadInTurn, IsStartedOnce, IsStartedRight};
 ghost use Rattle.heyvl_tool.specs.commands.Files.{one, two};
 ghost use Rattle.heyvl_tool.specs.commands.{IsReplyTo, files_of, row_of};
@@ -16,10 +18,10 @@ ghost use Rattle.std.specs.Prelude.{IfOk, IsErr, List, length, map, string_bytes
 use crate::command_line::{USAGE, settings};
 use crate::commands::respond;
 use crate::moments::{Called, Written};
-use crate::responses::{Response, Text, message};
-use crate::{Fault, Files, Outcome, Settings, SettingsStop};
+use crate::{Fault, Files, Outcome, Response, Settings, SettingsStop, Text};
 use heyvl_files::program_files_have_sums;
 use heyvl_io::{ReadStop, Sink, Source, read_all, write_all};
+use heyvl_replies::message;
 use heyvl_types::resolved_files_meet_the_rules;
 use run_unroller::unrolled_sums_are_meant;
 use std::alloc::{AllocError, Global};
@@ -29,8 +31,10 @@ pub const FILE_LIMIT: usize = 1_048_576;
 
 /// Does what the words ask for: reads the files of the command from the source, the second behind the first, and writes one text to the
 /// sink. `verify FILE` writes the report of the file's answers, `print FILE` its canonical text, `run FILE PROC SCRIPT` the sums over runs,
-/// `certify FILE` the certificates of the file's proved goals, and `check FILE CERT` the report by certificates. A file with one of the
-/// faults 1 to 6 is refused by each, and one with a static fault by all but `print`.
+/// `certify FILE` the certificates of the file's proved goals, `check FILE CERT` the report by certificates, `gen N` the summary of the answers on
+/// a generated text, `pgcl FILE` the file that a program of guarded commands becomes, `omega FILE PROC NAME` and `remainder FILE PROC NAME`
+/// whether a bound from below holds, and `refute FILE PROC SCRIPT` whether runs pass a bound. A file of HeyVL with one of the faults 1 to 6
+/// is refused by each, and one with a static fault by all but `print`.
 pub fn run_tool<F: Source, K: Sink>(
     alloc: Global,
     words: &Vec<String>,
@@ -41,11 +45,14 @@ pub fn run_tool<F: Source, K: Sink>(
     ensures answered { IsAnswered (⟦<F as Called>⟧.made (map string_bytes words.now.items) source.old source.new) (⟦<K as Written>⟧.done sink.old sink.new) result
         ⊎ IsOutOfMemory (⟦<K as Written>⟧.done sink.old sink.new) result }
 
-    // What the answers mean, the numbers of a run, and the file that a program of guarded commands becomes, for the bytes that were read: those
-    // that the source holds, where it tells them. Any source may be meant, also one that tells nothing.
+    // What the answers mean, the numbers of a run, the file that a program of guarded commands becomes, the bounds from below and the
+    // violations, for the bytes that were read: those that the source holds, where it tells them. Any source may be meant, also one that
+    // tells nothing.
     ensures verified { AnswersAreMeant (⟦<F as Called>⟧.made (map string_bytes words.now.items) source.old source.new) (⟦<K as Written>⟧.done sink.old sink.new) result }
     ensures summed { SumsAreMeant (⟦<F as Called>⟧.made (map string_bytes words.now.items) source.old source.new) (⟦<K as Written>⟧.done sink.old sink.new) result }
     ensures translated { ProgramsAreMeant (⟦<F as Called>⟧.made (map string_bytes words.now.items) source.old source.new) (⟦<K as Written>⟧.done sink.old sink.new) result }
+    ensures bounded { BoundsAreMeant (⟦<F as Called>⟧.made (map string_bytes words.now.items) source.old source.new) (⟦<K as Written>⟧.done sink.old sink.new) result }
+    ensures refuted { ViolationsAreMeant (⟦<F as Called>⟧.made (map string_bytes words.now.items) source.old source.new) (⟦<K as Written>⟧.done sink.old sink.new) result }
 
     // Which names are started.
     ensures started { IsStartedRight (⟦<F as Called>⟧.made (map string_bytes words.now.items) source.old source.new) (result.fault ≡ Fault.Memory) }

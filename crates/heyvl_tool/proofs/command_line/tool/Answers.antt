@@ -19,4 +19,7 @@ returns c =
     let four = c.in_ok-subcommand-4.ensures.shape c.in_ok-command-4.ensures.local ∙ ap₂ with_subcommand three (ap (λ (a : App). a.top) c.in_ok-command-4.ensures.shape) in
     let five = c.in_ok-subcommand-5.ensures.shape c.in_ok-command-5.ensures.local ∙ ap₂ with_subcommand four (ap (λ (a : App). a.top) c.in_ok-command-5.ensures.shape) in
     let six = c.in_ok-subcommand-6.ensures.shape c.in_ok-command-6.ensures.local ∙ ap₂ with_subcommand five (ap (λ (a : App). a.top) c.in_ok-command-6.ensures.shape) in
-    IfOk-weaker c.subcommand-7.result _ _ (λ r h. h.shape c.in_ok-command-7.ensures.local ∙ ap₂ with_subcommand six (ap (λ (a : App). a.top) c.in_ok-command-7.ensures.shape)) c.subcommand-7.ensures
+    let seven = c.in_ok-subcommand-7.ensures.shape c.in_ok-command-7.ensures.local ∙ ap₂ with_subcommand six (ap (λ (a : App). a.top) c.in_ok-command-7.ensures.shape) in
+    let eight = c.in_ok-subcommand-8.ensures.shape c.in_ok-command-8.ensures.local ∙ ap₂ with_subcommand seven (ap (λ (a : App). a.top) c.in_ok-command-8.ensures.shape) in
+    let nine = c.in_ok-subcommand-9.ensures.shape c.in_ok-command-9.ensures.local ∙ ap₂ with_subcommand eight (ap (λ (a : App). a.top) c.in_ok-command-9.ensures.shape) in
+    IfOk-weaker c.subcommand-10.result _ _ (λ r h. h.shape c.in_ok-command-10.ensures.local ∙ ap₂ with_subcommand nine (ap (λ (a : App). a.top) c.in_ok-command-10.ensures.shape)) c.subcommand-10.ensures

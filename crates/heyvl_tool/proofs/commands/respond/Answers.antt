@@ -1,5 +1,5 @@
 use Rattle.heyvl_tool.proofs.commands.respond.Goals as goal
-use Rattle.heyvl_tool.specs.Responses.{reply_of}
+use Rattle.heyvl_replies.specs.Responses.{reply_of}
 use Rattle.heyvl_tool.specs.commands.{IsReplyTo}
 use Rattle.heyvl_tool.specs.declared.requests.Settings.{Settings}
 use Rattle.std.proofs.Common.{IfOk, subst, sym}

@@ -1,5 +1,7 @@
+use Rattle.heyvl_tool.proofs.BoundHeadline.{bounds_meant}
 use Rattle.heyvl_tool.proofs.HeadlineLemmas.{answers_meant}
 use Rattle.heyvl_tool.proofs.ProgramHeadline.{programs_meant}
+use Rattle.heyvl_tool.proofs.RefuteHeadline.{violations_meant}
 use Rattle.heyvl_tool.proofs.RunHeadline.{sums_meant}
 use Rattle.heyvl_tool.proofs.tool.run_tool.Goals as goal
 
@@ -11,3 +13,9 @@ returns-in-Ok-clause-summed g c = sums_meant c.unrolled_sums_are_meant.ensures c
 
 pub returns-in-Ok-clause-translated : goal.returns-in-Ok-clause-translated
 returns-in-Ok-clause-translated g c = programs_meant c.program_files_have_sums.ensures _ _ _ _ c.in-Ok.ensures.cause c.deliver.ensures.delivered
+
+pub returns-in-Ok-clause-bounded : goal.returns-in-Ok-clause-bounded
+returns-in-Ok-clause-bounded g c = bounds_meant _ _ _ _ c.in-Ok.ensures.cause c.deliver.ensures.delivered
+
+pub returns-in-Ok-clause-refuted : goal.returns-in-Ok-clause-refuted
+returns-in-Ok-clause-refuted g c = violations_meant _ _ _ _ c.in-Ok.ensures.cause c.deliver.ensures.delivered

@@ -1,0 +1,10 @@
+mod SaidOfFiles
+mod FileLemmas
+mod ProgramReplies
+mod Reporting
+mod CheckedReports
+mod RunStarts
+mod RefuteStarts
+mod PairReplies
+mod WorkedAnswers
+mod RunExamples

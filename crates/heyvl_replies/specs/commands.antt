@@ -1,0 +1,10 @@
+pub mod Verify
+pub mod Print
+pub mod Run
+pub mod Certify
+pub mod Check
+pub mod Generate
+pub mod Pgcl
+pub mod Omega
+pub mod Remainder
+pub mod Refute

@@ -1,0 +1,10 @@
+-- What is answered where a file is refused, as the program holds the cause.
+use Rattle.heyvl_files.specs.declared.sources.SourceStop.TheVariants as sources
+use Rattle.heyvl_files.specs.declared.sources.SourceStop.{SourceStop}
+use Rattle.heyvl_replies.specs.Messages.{Reply, source_fault}
+use Rattle.std.specs.Prelude.{List, ◌≡◌, ℕ}
+
+-- The reply tells this fault of a file with these bytes; want of memory is no reply.
+abbrev pub IsRefusal : List ℕ → SourceStop → Reply → Type 0
+IsRefusal bytes (sources.Fault number place) reply = reply ≡ source_fault bytes number place
+IsRefusal bytes (sources.Memory error) reply = ⊥

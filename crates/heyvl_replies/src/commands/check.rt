@@ -1,0 +1,100 @@
+//! `check FILE CERT`: the report on a file by certificates.
+
+ghost use Rattle.cert_text.specs.Certificates.{IsGrowingAfter, certificates_of};
+ghost use Rattle.cert_text.specs.Texts.{Spells};
+ghost use Rattle.heyvl_acts.specs.PlainActs.{procedures_of};
+ghost use Rattle.heyvl_files.specs.Sources.{IsReady, file_limit};
+ghost use Rattle.heyvl_replies.specs.Responses.{reply_of};
+ghost use Rattle.heyvl_replies.specs.commands.Check.{FilesAreChecked, IsCheckReply, IsCheckReport, IsCheckedReply, certificate_fault};
+ghost use Rattle.std.specs.Prelude.{IfOk, List, None, codes, decimal, length, ◌++◌, ◌≡◌, ◌≤◌, ℕ};
+
+use crate::Fault;
+use crate::responses::{Response, Text, answered, message, refused};
+use cert_text::{CertStop, read_cert};
+use goal_answers::GoalCert;
+use heyvl_acts::Typed;
+use heyvl_files::{spelling_is_unique, typed_source};
+use heyvl_syntax::sources_have_no_fault;
+use itoa::Buffer;
+use std::alloc::{AllocError, Global};
+use verdict_report::report;
+use verify_core::check_all;
+
+/// The line on certificates with a fault.
+fn fault_text(alloc: Global, line: u32) -> Result<Vec<u8>, AllocError>
+    ensures { IfOk result (λ text. text.items ≡ codes "certificate line " ++ decimal line ++ codes ": fault\n") }
+{
+    let mut buffer = Buffer::new();
+    let mut text = Vec::new(alloc);
+    text.extend_from_slice(b"certificate line ")?;
+    text.extend_from_slice(buffer.format(line).as_bytes())?;
+    text.extend_from_slice(b": fault\n")?;
+    Ok(text)
+}
+
+/// What is said of certificates with a fault in this line.
+fn certificate_fault(alloc: Global, line: u32) -> Result<Response, AllocError>
+    ensures { IfOk result (λ response. reply_of response ≡ certificate_fault line) }
+{
+    let text = fault_text(alloc, line)?;
+    Ok(message(alloc, Fault::Cert(line), Text::Made(text)))
+}
+
+/// The report on a file by these certificates.
+fn report_by(
+    alloc: Global,
+    bytes: &[u8],
+    typed: &Typed,
+    certs: &[GoalCert],
+) -> Result<Response, AllocError>
+    requires short { length bytes.now ≤ file_limit }
+    requires ready { IsReady bytes.now typed.now }
+    requires order { IsGrowingAfter None (certificates_of certs.now) }
+    ensures { IfOk result (λ response. (text : List ℕ) → Spells (certificates_of certs.now) text
+        → IsCheckReport bytes.now (procedures_of typed.now) text (reply_of response)) }
+{
+    let whole = check_all(alloc, typed, certs)?;
+    let text = report(alloc, bytes, typed, &whole.answers, &whole.made)?;
+    Ok(answered(whole.answers, text))
+}
+
+/// What `check` says of a file without a fault and a text of certificates: the first line of the text that certificates don't allow,
+/// or else the report by them.
+fn check_typed(
+    alloc: Global,
+    bytes: &[u8],
+    typed: &Typed,
+    text: &[u8],
+) -> Result<Response, AllocError>
+    requires short { length bytes.now ≤ file_limit }
+    requires short_text { length text.now ≤ file_limit }
+    requires ready { IsReady bytes.now typed.now }
+    ensures { IfOk result (λ response. IsCheckedReply bytes.now text.now (procedures_of typed.now) (reply_of response)) }
+{
+    match read_cert(alloc, text) {
+        Ok(certs) => report_by(alloc, bytes, typed, &certs),
+        Err(CertStop::Fault(line)) => certificate_fault(alloc, line),
+        Err(CertStop::Memory(error)) => Err(error),
+    }
+}
+
+/// What `check` says of a file with these bytes and of a text of certificates.
+pub fn respond(alloc: Global, bytes: &[u8], text: &[u8]) -> Result<Response, AllocError>
+    requires short { length bytes.now ≤ file_limit }
+    requires short_text { length text.now ≤ file_limit }
+    ensures { IfOk result (λ response. IsCheckReply bytes.now text.now (reply_of response)) }
+{
+    match typed_source(alloc, bytes) {
+        Ok(typed) => check_typed(alloc, bytes, &typed, text),
+        Err(stop) => refused(alloc, bytes, stop),
+    }
+}
+
+/// Of bytes that spell a file without a fault, and of a text that spells certificates, `check` answers every procedure, its report by them is
+/// written, and the status is 0, 1 or 2.
+pub fn files_are_checked()
+    ensures { FilesAreChecked }
+{
+    sources_have_no_fault();
+    spelling_is_unique();
+}

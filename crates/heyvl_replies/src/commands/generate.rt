@@ -1,0 +1,25 @@
+//! `gen N`: the summary of the answers on a generated text.
+
+ghost use Rattle.generated_summary.specs.LineCounts.{is_line_count};
+ghost use Rattle.heyvl_replies.specs.Responses.{reply_of};
+ghost use Rattle.heyvl_replies.specs.commands.Generate.{GeneratedTextsAreAnswered, IsGenReply};
+ghost use Rattle.std.specs.Prelude.{IfOk, true, ◌≡◌};
+
+use crate::responses::{Response, answered};
+use generated_summary::summarize;
+use std::alloc::{AllocError, Global};
+
+/// What `gen` says of so many lines.
+pub fn respond(alloc: Global, lines: u32) -> Result<Response, AllocError>
+    requires { is_line_count lines ≡ true }
+    ensures { IfOk result (λ response. IsGenReply lines (reply_of response)) }
+{
+    let made = summarize(alloc, lines)?;
+    Ok(answered(made.answers, made.text))
+}
+
+/// On a generated text of as many lines as can be asked for every procedure is answered, the summary is written, and the status is 0, 1
+/// or 2.
+pub fn generated_texts_are_answered()
+    ensures { GeneratedTextsAreAnswered }
+{}

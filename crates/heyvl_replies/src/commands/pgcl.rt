@@ -1,0 +1,31 @@
+//! `pgcl FILE`: the file of HeyVL that a program of guarded commands becomes.
+
+ghost use Rattle.heyvl_files.specs.Sources.{file_limit};
+ghost use Rattle.heyvl_replies.specs.Responses.{reply_of};
+ghost use Rattle.heyvl_replies.specs.commands.Pgcl.{IsPgclReply, ProgramFaultsAreTold, ProgramsAreTranslated};
+ghost use Rattle.std.specs.Prelude.{IfOk, length, ◌≤◌};
+
+use crate::commands::print::print_file;
+use crate::responses::{Response, refused};
+use heyvl_files::{program_file, program_files_are_unique};
+use std::alloc::{AllocError, Global};
+
+/// What `pgcl` says of a program with these bytes.
+pub fn respond(alloc: Global, bytes: &[u8]) -> Result<Response, AllocError>
+    requires { length bytes.now ≤ file_limit }
+    ensures { IfOk result (λ response. IsPgclReply bytes.now (reply_of response)) }
+{
+    match program_file(alloc, bytes) {
+        Ok(file) => print_file(alloc, &file),
+        Err(stop) => refused(alloc, bytes, stop),
+    }
+}
+
+/// Of bytes that spell a program without a fault `pgcl` writes the text of the file that it becomes, which spells this file again; of others it
+/// tells the first fault.
+pub fn programs_are_translated()
+    ensures translated { ProgramsAreTranslated }
+    ensures told { ProgramFaultsAreTold }
+{
+    program_files_are_unique();
+}

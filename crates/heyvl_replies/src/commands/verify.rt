@@ -1,0 +1,45 @@
+//! `verify FILE`: the report on a file.
+
+ghost use Rattle.heyvl_acts.specs.PlainActs.{procedures_of};
+ghost use Rattle.heyvl_files.specs.Sources.{IsReady, file_limit};
+ghost use Rattle.heyvl_replies.specs.Responses.{reply_of};
+ghost use Rattle.heyvl_replies.specs.commands.Verify.{FilesAreVerified, IsReport, IsVerifyReply};
+ghost use Rattle.std.specs.Prelude.{IfOk, length, ◌≤◌};
+
+use crate::responses::{Response, answered, refused};
+use heyvl_acts::Typed;
+use heyvl_files::{spelling_is_unique, typed_source};
+use heyvl_syntax::sources_have_no_fault;
+use std::alloc::{AllocError, Global};
+use verdict_report::report;
+use verify_core::verify;
+
+/// The report on a file with these bytes, which has become this typed tree.
+fn report_typed(alloc: Global, bytes: &[u8], typed: &Typed) -> Result<Response, AllocError>
+    requires short { length bytes.now ≤ file_limit }
+    requires ready { IsReady bytes.now typed.now }
+    ensures { IfOk result (λ response. IsReport bytes.now (procedures_of typed.now) (reply_of response)) }
+{
+    let whole = verify(alloc, typed)?;
+    let text = report(alloc, bytes, typed, &whole.answers, &whole.made)?;
+    Ok(answered(whole.answers, text))
+}
+
+/// What `verify` says of a file with these bytes.
+pub fn respond(alloc: Global, bytes: &[u8]) -> Result<Response, AllocError>
+    requires { length bytes.now ≤ file_limit }
+    ensures { IfOk result (λ response. IsVerifyReply bytes.now (reply_of response)) }
+{
+    match typed_source(alloc, bytes) {
+        Ok(typed) => report_typed(alloc, bytes, &typed),
+        Err(stop) => refused(alloc, bytes, stop),
+    }
+}
+
+/// Of bytes that spell a file without a fault `verify` answers every procedure, its report is written, and the status is 0, 1 or 2.
+pub fn files_are_verified()
+    ensures { FilesAreVerified }
+{
+    sources_have_no_fault();
+    spelling_is_unique();
+}

@@ -1,0 +1,13 @@
+//! What each command says of the bytes of its files: the reply, before it is written.
+#![tactic(auto)]
+
+pub mod commands;
+mod faults;
+mod responses;
+mod running;
+mod statuses;
+
+pub use faults::Fault;
+pub use responses::{Response, Text, message};
+pub use run_unroller::{Sums, Unrolled};
+pub use verdict_report::{Answer, LoopAnswer, RankVerdict, Verdict};

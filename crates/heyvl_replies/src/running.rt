@@ -1,0 +1,5 @@
+//! What commands have in common that name a procedure.
+
+pub(crate) mod procedures;
+pub(crate) mod replies;
+pub(crate) mod texts;

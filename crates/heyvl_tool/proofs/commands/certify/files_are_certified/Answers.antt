@@ -1,5 +1,0 @@
-use Rattle.heyvl_tool.proofs.Complete.{certified}
-use Rattle.heyvl_tool.proofs.commands.certify.files_are_certified.Goals as goal
-
-pub returns : goal.returns
-returns c = certified c.sources_have_no_fault.ensures c.spelling_is_unique.ensures

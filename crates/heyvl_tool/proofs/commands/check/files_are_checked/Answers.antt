@@ -1,5 +1,0 @@
-use Rattle.heyvl_tool.proofs.Complete.{checked}
-use Rattle.heyvl_tool.proofs.commands.check.files_are_checked.Goals as goal
-
-pub returns : goal.returns
-returns c = checked c.sources_have_no_fault.ensures c.spelling_is_unique.ensures

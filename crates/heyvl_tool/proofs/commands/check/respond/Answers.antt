@@ -1,9 +1,0 @@
-use Rattle.heyvl_tool.proofs.FileLemmas.{typed_refused, typed_said}
-use Rattle.heyvl_tool.proofs.commands.check.respond.Goals as goal
-use Rattle.heyvl_tool.specs.commands.Check.{IsCheckedReply}
-
-pub returns-in-Ok : goal.returns-in-Ok
-returns-in-Ok c = typed_said (IsCheckedReply c.args.bytes.now c.args.text.now) c.args.bytes.now c.in-Ok.typed _ c.in-Ok.ensures c.check_typed.ensures
-
-pub returns-in-Err : goal.returns-in-Err
-returns-in-Err c = typed_refused (IsCheckedReply c.args.bytes.now c.args.text.now) c.args.bytes.now c.in-Err.stop _ c.in-Err.ensures c.refused.ensures

@@ -1,5 +1,0 @@
-use Rattle.heyvl_tool.proofs.Complete.{gen_said}
-use Rattle.heyvl_tool.proofs.commands.generate.respond.Goals as goal
-
-pub returns : goal.returns
-returns c = gen_said c.args.lines _ _ _ c.in_ok-made.ensures c.answered.ensures

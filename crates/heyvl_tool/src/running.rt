@@ -1,4 +1,0 @@
-//! Runs of a procedure by a script.
-
-pub(crate) mod procedures;
-pub(crate) mod texts;
