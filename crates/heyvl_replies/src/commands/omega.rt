@@ -1,0 +1,96 @@
+//! `omega FILE PROC NAME`: whether the pre of a procedure is an omega invariant of the loop of another.
+
+ghost use Rattle.heyvl_acts.specs.PlainActs.{procedures_of};
+ghost use Rattle.heyvl_files.specs.Sources.{IsReady, file_limit};
+ghost use Rattle.heyvl_replies.specs.Responses.{reply_of};
+ghost use Rattle.heyvl_replies.specs.commands.Omega.{IsOmegaOf, IsOmegaReply, OmegaPairsAreAnswered, TellsOmega, omega_reply};
+ghost use Rattle.std.specs.Prelude.{IfOk, length, ◌<◌, ◌≡◌, ◌≤◌};
+
+use crate::Fault;
+use crate::responses::{Response, Text, message, refused, stated};
+use crate::running::procedures::procedure_named;
+use crate::running::replies::no_procedure;
+use heyvl_acts::Typed;
+use heyvl_files::{spelling_is_unique, typed_source};
+use heyvl_syntax::sources_have_no_fault;
+use lower_rules::{Omega, omega};
+use lower_texts::omega_text;
+use std::alloc::{AllocError, Global};
+
+/// What is said of an answer that has this text.
+fn reply(alloc: Global, answer: &Omega, text: Vec<u8>) -> Response
+    ensures { reply_of result ≡ omega_reply answer.now text.items }
+{
+    match answer {
+        Omega::Holds => stated(alloc, 0, text),
+        Omega::Fails(_, _) => stated(alloc, 1, text),
+        Omega::Unknown(_, _) => stated(alloc, 2, text),
+        Omega::Shape => message(alloc, Fault::Shape, Text::Made(text)),
+    }
+}
+
+/// What is said of the procedures with these numbers.
+fn of_pair(
+    alloc: Global,
+    bytes: &[u8],
+    typed: &Typed,
+    p: u32,
+    q: u32,
+) -> Result<Response, AllocError>
+    requires short { length bytes.now ≤ file_limit }
+    requires ready { IsReady bytes.now typed.now }
+    requires first { p < length typed.now.procs.items }
+    requires second { q < length typed.now.procs.items }
+    ensures { IfOk result (λ response. TellsOmega bytes.now (procedures_of typed.now) p q (reply_of response)) }
+{
+    let answer = omega(alloc, typed, p, q)?;
+    let text = omega_text(alloc, bytes, typed, p, q, &answer)?;
+    Ok(reply(alloc, &answer, text))
+}
+
+/// What is said of the procedures of these names: that no procedure has the one or the other name; or else what is answered of them.
+fn of_names(
+    alloc: Global,
+    bytes: &[u8],
+    typed: &Typed,
+    procedure: &[u8],
+    name: &[u8],
+) -> Result<Response, AllocError>
+    requires short { length bytes.now ≤ file_limit }
+    requires ready { IsReady bytes.now typed.now }
+    ensures { IfOk result (λ response. IsOmegaOf procedure.now name.now bytes.now (procedures_of typed.now) (reply_of response)) }
+{
+    let first = procedure_named(typed, procedure);
+    let second = procedure_named(typed, name);
+    match first {
+        Some(p) => match second {
+            Some(q) => of_pair(alloc, bytes, typed, p, q),
+            None => Ok(no_procedure(alloc)),
+        },
+        None => Ok(no_procedure(alloc)),
+    }
+}
+
+/// What `omega` says of a file with these bytes, and of the names of two procedures.
+pub fn respond(
+    alloc: Global,
+    bytes: &[u8],
+    procedure: &[u8],
+    name: &[u8],
+) -> Result<Response, AllocError>
+    requires { length bytes.now ≤ file_limit }
+    ensures { IfOk result (λ response. IsOmegaReply procedure.now name.now bytes.now (reply_of response)) }
+{
+    match typed_source(alloc, bytes) {
+        Ok(typed) => of_names(alloc, bytes, &typed, procedure, name),
+        Err(stop) => refused(alloc, bytes, stop),
+    }
+}
+
+/// Of bytes that spell a file without a fault, and of the names of two of its procedures, `omega` tells what is answered of these.
+pub fn omega_pairs_are_answered()
+    ensures { OmegaPairsAreAnswered }
+{
+    sources_have_no_fault();
+    spelling_is_unique();
+}

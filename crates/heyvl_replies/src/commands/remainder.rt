@@ -1,0 +1,100 @@
+//! `remainder FILE PROC NAME`: whether the pre of a procedure bounds the remainder of another one's lower bound.
+
+ghost use Rattle.heyvl_acts.specs.PlainActs.{procedures_of};
+ghost use Rattle.heyvl_files.specs.Sources.{IsReady, file_limit};
+ghost use Rattle.heyvl_replies.specs.Responses.{reply_of};
+ghost use Rattle.heyvl_replies.specs.commands.Remainder.{IsRemainderOf, IsRemainderReply, RemainderPairsAreAnswered, TellsRemainder, remainder_reply};
+ghost use Rattle.std.specs.Prelude.{IfOk, length, ◌<◌, ◌≡◌, ◌≤◌};
+
+use crate::Fault;
+use crate::responses::{Response, Text, message, refused, stated};
+use crate::running::procedures::procedure_named;
+use crate::running::replies::no_procedure;
+use heyvl_acts::Typed;
+use heyvl_files::{spelling_is_unique, typed_source};
+use heyvl_syntax::sources_have_no_fault;
+use lower_rules::{Remainder, remainder};
+use lower_texts::remainder_text;
+use std::alloc::{AllocError, Global};
+use verify_core::verify;
+
+/// What is said of an answer that has this text.
+fn reply(alloc: Global, answer: &Remainder, text: Vec<u8>) -> Response
+    ensures { reply_of result ≡ remainder_reply answer.now text.items }
+{
+    match answer {
+        Remainder::Holds(_) => stated(alloc, 0, text),
+        Remainder::Fails(_) => stated(alloc, 1, text),
+        Remainder::NotVerified => stated(alloc, 2, text),
+        Remainder::NotRanked => stated(alloc, 2, text),
+        Remainder::Unknown(_) => stated(alloc, 2, text),
+        Remainder::Shape => message(alloc, Fault::Shape, Text::Made(text)),
+    }
+}
+
+/// What is said of the procedures with these numbers.
+fn of_pair(
+    alloc: Global,
+    bytes: &[u8],
+    typed: &Typed,
+    p: u32,
+    q: u32,
+) -> Result<Response, AllocError>
+    requires short { length bytes.now ≤ file_limit }
+    requires ready { IsReady bytes.now typed.now }
+    requires first { p < length typed.now.procs.items }
+    requires second { q < length typed.now.procs.items }
+    ensures { IfOk result (λ response. TellsRemainder bytes.now (procedures_of typed.now) p q (reply_of response)) }
+{
+    let whole = verify(alloc, typed)?;
+    let answer = remainder(alloc, typed, &whole.answers, p, q)?;
+    let text = remainder_text(alloc, bytes, typed, p, q, &answer)?;
+    Ok(reply(alloc, &answer, text))
+}
+
+/// What is said of the procedures of these names: that no procedure has the one or the other name; or else what is answered of them.
+fn of_names(
+    alloc: Global,
+    bytes: &[u8],
+    typed: &Typed,
+    procedure: &[u8],
+    name: &[u8],
+) -> Result<Response, AllocError>
+    requires short { length bytes.now ≤ file_limit }
+    requires ready { IsReady bytes.now typed.now }
+    ensures { IfOk result (λ response. IsRemainderOf procedure.now name.now bytes.now (procedures_of typed.now) (reply_of response)) }
+{
+    let first = procedure_named(typed, procedure);
+    let second = procedure_named(typed, name);
+    match first {
+        Some(p) => match second {
+            Some(q) => of_pair(alloc, bytes, typed, p, q),
+            None => Ok(no_procedure(alloc)),
+        },
+        None => Ok(no_procedure(alloc)),
+    }
+}
+
+/// What `remainder` says of a file with these bytes, and of the names of two procedures.
+pub fn respond(
+    alloc: Global,
+    bytes: &[u8],
+    procedure: &[u8],
+    name: &[u8],
+) -> Result<Response, AllocError>
+    requires { length bytes.now ≤ file_limit }
+    ensures { IfOk result (λ response. IsRemainderReply procedure.now name.now bytes.now (reply_of response)) }
+{
+    match typed_source(alloc, bytes) {
+        Ok(typed) => of_names(alloc, bytes, &typed, procedure, name),
+        Err(stop) => refused(alloc, bytes, stop),
+    }
+}
+
+/// Of bytes that spell a file without a fault, and of the names of two of its procedures, `remainder` tells what is answered of these.
+pub fn remainder_pairs_are_answered()
+    ensures { RemainderPairsAreAnswered }
+{
+    sources_have_no_fault();
+    spelling_is_unique();
+}
