@@ -12,7 +12,13 @@ print,a b=c gives print [a b=c] [none]
 run,f,p,s gives run [f] [s]
 certify,verify gives certify [verify] [none]
 check,f,c gives check [f] [c]
-pgcl,f gives pgcl [f] [none]";
+pgcl,f gives pgcl [f] [none]
+omega,f,p,q gives omega [f] [none]
+omega,f,p gives no command
+remainder,f,p,q gives remainder [f] [none]
+remainder,f,p,q,r gives no command
+refute,f,p,s gives refute [f] [s]
+refute,f,p gives no command";
 
 #[test]
 fn words_name_a_command_and_its_files(rt: HostRuntime) -> Result<(), AllocError> {
@@ -70,6 +76,24 @@ verify,f ; coin ;  ; 1 ; 25 gives 6 Write 1 25 Some(1) [coin: verified|1 procedu
 verify,f ; coin ;  ; 1 ; 26 gives 6 Write 1 26 Some(1) [coin: verified|1 procedure]
 verify,f ; coin ;  ; 1 ; 27 gives 6 Write 1 27 Some(1) [coin: verified|1 procedures]
 verify,f ; coin ;  ; 1 ; 28 gives 0 Nothing 1 28 Some(1) [coin: verified|1 procedures|]";
+
+/// Bounds from below give no answers; `refute` gives those of `verify`, also where the sink fails.
+const BOUNDS: &str = "\
+omega,f,two,j ; two ;  ; 64 ;  gives 0 Nothing 0 18 Some(1) [two: omega: holds|]
+omega,f,j,two ; two ;  ; 64 ;  gives 3 Shape 0 18 Some(1) [not an omega pair|]
+omega,f,two,k ; two ;  ; 64 ;  gives 3 NoProcedure 0 18 Some(1) [no such procedure|]
+remainder,f,two,u ; two ;  ; 64 ;  gives 0 Nothing 0 36 Some(1) [two: remainder: pre of u over 1 * m|]
+remainder,f,two,j ; two ;  ; 64 ;  gives 3 Shape 0 21 Some(1) [not a remainder pair|]
+refute,f,coin,c ; low coin ;  ; 64 ;  gives 1 Nothing 1 40 Some(2) [coin: violated at step 1: 1/2 above 1/3|]
+refute,f,coin,c ; coin ;  ; 64 ;  gives 0 Nothing 1 32 Some(2) [coin: within 1/2 at step 1: 1/2|]
+refute,f,coin,c ; low coin ;  ; 64 ; 0 gives 6 Write 1 0 Some(2) []
+refute,f,two,c ; two ;  ; 64 ;  gives 3 Shape 0 20 Some(2) [two is not a coproc|]
+refute,f,coin,c ; coin ; 3 ; 64 ;  gives 5 Read(1) 0 11 Some(2) [read fault|]";
+
+#[test]
+fn bounds_from_below_and_violations(rt: HostRuntime) -> Result<(), AllocError> {
+    check_texts(&rt, Kind::Call, &[BOUNDS])
+}
 
 #[test]
 fn calls_over_failing_devices(rt: HostRuntime) -> Result<(), AllocError> {

@@ -11,6 +11,16 @@ const COIN: &str = "coproc coin() -> (b: Bool) pre 1/2 post [b] { b = flip(1/2) 
 /// The coin, written closely.
 const CLOSE_COIN: &str = "coproc coin()->(b:Bool)pre 0.50 post[b]{b=flip(1/2);}";
 
+/// A coin that is thrown until it shows heads, with a bound on its turns and one for each number of them.
+const TWO: &str =
+    "@wlp proc two() -> (d: Bool) pre 1 post [d] { d = false @invariant(1) @ranking(1, ite(d, 0, 2)) while !d { d = flip(1/2) } } coproc u() -> () pre 2 proc j(d: Bool, m: UInt) -> () pre ite(d, 1, ite(m == 0, 0, 1/2))";
+
+/// A coin whose bound is too low, so that its first throw passes it.
+const LOW_COIN: &str = "coproc coin() -> (b: Bool) pre 1/3 post [b] { b = flip(1/2) }";
+
+/// A script of one step.
+const ONE_STEP: &str = "steps 1\n";
+
 /// The certificate of the coin.
 const COIN_CERT: &str = "caesar certificate 1\ngoal 0 main\nf 0:1\nend\n";
 
@@ -18,7 +28,18 @@ fn file_named(name: &str) -> &'static str {
     match name {
         "coin" => COIN,
         "close coin" => CLOSE_COIN,
+        "two" => TWO,
+        "low coin" => LOW_COIN,
         _ => "",
+    }
+}
+
+/// What the second text holds: a script for `refute`, and the certificate for every other command.
+fn second_of(words: &str) -> &'static str {
+    if words.starts_with("refute") {
+        ONE_STEP
+    } else {
+        COIN_CERT
     }
 }
 
@@ -86,7 +107,7 @@ pub fn write_run(
     write_outcome(&outcome, source, sink, text)
 }
 
-/// `words ; file ; calls ; most ; calls`: what the tool comes to over a file and the certificate of the coin, where these calls of the
+/// `words ; file ; calls ; most ; calls`: what the tool comes to over a file and a second text, where these calls of the
 /// source fail, a write takes at most so many bytes, and these writes fail.
 pub fn write_call(alloc: Global, asked: &str, text: &mut String) -> Result<(), AllocError> {
     let (words, rest) = cut(asked, ';');
@@ -94,7 +115,8 @@ pub fn write_call(alloc: Global, asked: &str, text: &mut String) -> Result<(), A
     let (fail, rest) = cut(rest, ';');
     let (most, stop) = cut(rest, ';');
     let file = file_named(file).as_bytes();
-    let mut source = source_of(alloc, file, COIN_CERT.as_bytes(), calls_of(alloc, fail)?)?;
+    let second = second_of(words).as_bytes();
+    let mut source = source_of(alloc, file, second, calls_of(alloc, fail)?)?;
     let mut sink = sink_of(alloc, size(most)?, calls_of(alloc, stop)?)?;
     write_run(alloc, words, &mut source, &mut sink, text)
 }
@@ -109,6 +131,9 @@ fn command(settings: &Settings) -> &'static str {
         Settings::Check(_, _) => "check",
         Settings::Gen(_) => "gen",
         Settings::Pgcl(_) => "pgcl",
+        Settings::Omega(_, _, _) => "omega",
+        Settings::Remainder(_, _, _) => "remainder",
+        Settings::Refute(_, _, _) => "refute",
     }
 }
 
