@@ -53,6 +53,16 @@ def spoiled(writer, text):
     return text
 
 
+def pairs(folder):
+    """The files of a folder that hold pairs of procedures, each with the words that ask for them: NAME.PROC.OTHER.omega stands for a pair of NAME.heyvl."""
+    found = {}
+    for name in sorted(os.listdir(folder)):
+        file, *words = name.split(".")
+        if words and words[-1] in ("omega", "remainder"):
+            found.setdefault(os.path.join(folder, file + ".heyvl"), []).append((words[-1], words[0], words[1]))
+    return sorted(found.items())
+
+
 class Hostile:
     """Calls one program with spoiled files, and counts what it answers."""
 
@@ -111,9 +121,17 @@ class Hostile:
         bad_cert = self.put("%d.bad.cert" % number, spoiled(writer, certificates))
         name = writer.choice(procedures)
         calls = [((command, broken), bad) for command in ("verify", "print", "certify")]
-        calls += [(("run", whole, name, bad_script), text), (("run", broken, name, good_script), bad)]
+        for command in ("run", "refute"):
+            calls += [((command, whole, name, bad_script), text), ((command, broken, name, good_script), bad)]
         calls += [(("check", whole, bad_cert), text), (("check", broken, good_cert), bad)]
+        calls += [((command, file, name, writer.choice(procedures)), held) for command in ("omega", "remainder") for file, held in ((whole, text), (broken, bad))]
         self.called(calls)
+
+    def of_pair(self, number, writer, text, pairs):
+        """Calls the commands on pairs of procedures, each with its words, on a spoiled file that holds them."""
+        bad = spoiled(writer, text)
+        broken = self.put("%d.pair.heyvl" % number, bad)
+        self.called([((command, broken, first, second), bad) for command, first, second in pairs])
 
     def of_program(self, number, writer, text):
         """Calls `pgcl` on a spoiled program of guarded commands, and `verify` on what it writes."""
