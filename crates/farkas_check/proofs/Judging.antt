@@ -1,6 +1,6 @@
 -- What the walk through a tree finds at its nodes.
 use Rattle.std.proofs.Common.{◌≡◌, ◌⊎◌, ℕ, List, [], ◌∷◌, ◌+◌, ◌*◌, ◌<◌, inl, inr, refl, sym, ap, ◌∙◌, subst, arith, Bool, true, false}
-use Rattle.std.specs.Prelude.{ℤ, Option, Result, Ok, Err, IfOk, map}
+use Rattle.std.specs.Prelude.{ℤ, Option, Some, None, Result, Ok, Err, IfOk, map}
 use Rattle.std.specs.declared.boxed.Box.{Box}
 use Rattle.std.specs.declared.alloc.Global.{Global}
 use Rattle.std.specs.declared.vec.Vec.{Vec}
@@ -12,7 +12,9 @@ use Rattle.linear_form.specs.Questions.{Ends}
 use Rattle.linear_form.specs.Splits.{split_at}
 use Rattle.linear_form.specs.Asked.{Answers}
 use Rattle.linear_form.specs.Paths.{Asks, IsPath, end_at}
-use Rattle.linear_form.specs.PathRows.{IsPlainAt}
+use Rattle.linear_form.specs.PathRows.{rows_of, IsPlainAt}
+use Rattle.linear_rows.specs.Row.{Row}
+use Rattle.linear_rows.specs.Combination.{IsContradiction}
 use Rattle.linear_form.specs.PlainPaths.{atom_of, taken_of, path_of}
 use Rattle.linear_form.specs.declared.paths.Atom as A
 use Rattle.linear_form.specs.declared.paths.Taken as T
@@ -23,11 +25,12 @@ use Rattle.goal_answers.specs.declared.trees.Tree as K
 use Rattle.goal_answers.specs.declared.trees.Tree.TheOpen.{Tree-F}
 use Rattle.goal_answers.specs.declared.trees.Tree.TheFolds.{fold-roll-Tree}
 use Rattle.goal_answers.specs.Trees.{Tree, tree_of, tree_layer}
-use Rattle.farkas_check.specs.Accepted.{CanSplit, IsAccepted, IsRefused, answers}
-use Rattle.farkas_check.specs.internal.Trails.{IsSame}
+use Rattle.farkas_check.specs.Accepted.{has_denied, CanSplit, IsAccepted, IsRefused, answers}
+use Rattle.farkas_check.specs.internal.Trails.{IsTrail, IsSame}
 use Rattle.farkas_check.specs.internal.Findings.{IsRefusedAt, IsFinding, IsFindingAtStart, AreFindings}
 use Rattle.farkas_check.specs.declared.trail.Trail.{Trail}
 use Rattle.farkas_check.specs.declared.checking.Judged as J
+use Rattle.farkas_check.proofs.TrailSteps.{none_refuted}
 
 split_tree : (a b : Box K.Tree Global) → tree_of (K.TheVariants.Split a b) ≡ Tree.split (tree_of a.value) (tree_of b.value)
 split_tree a b = ap tree_of (sym (K.TheVariants.rolls-Split a b)) ∙ fold-roll-Tree Tree tree_layer (Tree-F.Split a b) ∙ refl
@@ -107,6 +110,21 @@ plain_found g now s t k h e = (same_trail s, subst (IsAccepted g (path_of s.path
 
 pub multipliers_found : {E : Type 0} (r : Result J.Judged E) (g : Goal) (s : Trail) (t : K.Tree) (ms : Vec (ℕ × ℕ) Global) (ns : List (ℕ × ℕ)) → t ≡ K.TheVariants.Farkas ms → ns ≡ ms.items → IfOk r (IsFinding g s (Tree.farkas ns)) → IfOk r (IsFinding g s (tree_of t))
 multipliers_found r g s t ms ns k e h = subst (λ u. IfOk r (IsFinding g s u)) (sym (ap tree_of k ∙ farkas_tree ms ∙ ap Tree.farkas (sym e))) h
+
+-- the answers' rows aren't all there
+pub unstated_here : {E : Type 0} (r : Result J.Judged E) (g : Goal) (now : List T.Taken) (s : Trail) (ms : List (ℕ × ℕ)) → IsTrail g s → s.stated ≡ false → now ≡ s.path.items → IfOk r (IsRefusedAt now) → IfOk r (IsFinding g s (Tree.farkas ms))
+unstated_here r g now s ms h f e k = refused_here r g now s (Tree.farkas ms) (IsRefused.no_contradiction (path_of s.path.items) ms (none_refuted g s ms h f)) e k
+
+-- the denied goal has no row
+pub no_rows_here : {E : Type 0} (r : Result J.Judged E) (g : Goal) (now : List T.Taken) (s : Trail) (ms : List (ℕ × ℕ)) → rows_of g (path_of s.path.items) (has_denied g (path_of s.path.items)) ≡ None → now ≡ s.path.items → IfOk r (IsRefusedAt now) → IfOk r (IsFinding g s (Tree.farkas ms))
+no_rows_here r g now s ms n e k = refused_here r g now s (Tree.farkas ms) (IsRefused.no_contradiction (path_of s.path.items) ms (λ c. let i = sym c.are_rows ∙ n in absurd (cc))) e k
+
+pub unrefuted_here : {E : Type 0} (r : Result J.Judged E) (g : Goal) (now : List T.Taken) (s : Trail) (rows : List Row) (ms : List (ℕ × ℕ)) → rows_of g (path_of s.path.items) (has_denied g (path_of s.path.items)) ≡ Some rows → (IsContradiction ms rows → ⊥) → now ≡ s.path.items → IfOk r (IsRefusedAt now) → IfOk r (IsFinding g s (Tree.farkas ms))
+unrefuted_here r g now s rows ms a n e k = refused_here r g now s (Tree.farkas ms) (IsRefused.no_contradiction (path_of s.path.items) ms (λ c. let o : Some c.rows ≡ Some rows = sym c.are_rows ∙ a in let same : c.rows ≡ rows = cc in n (subst (IsContradiction ms) same c.contradiction))) e k
+
+-- the trail that is given back has its first rows again
+pub refuted_here : (g : Goal) (s back : Trail) (rows : List Row) (ms : List (ℕ × ℕ)) → rows_of g (path_of s.path.items) (has_denied g (path_of s.path.items)) ≡ Some rows → IsContradiction ms rows → IsSame s back → IsSame s back × IsAccepted g (path_of s.path.items) (Tree.farkas ms)
+refuted_here g s back rows ms a c h = (h, IsAccepted.farkas (path_of s.path.items) ms (record { rows = rows; are_rows = a; contradiction = c }))
 
 -- ---- Before the first question
 

@@ -12,7 +12,9 @@ use Rattle.linear_form.specs.Query.Query.{done, bits, ask}
 use Rattle.linear_form.specs.Questions.{Ends}
 use Rattle.linear_form.specs.Asked.{Answers}
 use Rattle.linear_form.specs.Paths.{end_at}
-use Rattle.linear_form.specs.PathRows.{denial, denial_at, IsPlainAt}
+use Rattle.linear_form.specs.PathRows.{denial, denial_at, rows_of, IsPlainAt}
+use Rattle.linear_form.specs.RowLists.{Lists}
+use Rattle.linear_form.specs.declared.path_rows.RowList.{RowList}
 use Rattle.linear_form.specs.declared.asking.Ask as Q
 use Rattle.linear_form.specs.declared.paths.Atom as A
 use Rattle.farkas_check.specs.Accepted.{CanSplit, has_denied}
@@ -54,6 +56,9 @@ some_or_none None = refl
 
 pub end_denied : (g : Goal) (ps : List Taken) (x y : Option Lin) (b : Bool) → Answers (Q.TheVariants.End x y) (end_at g ps) → b ≡ is_none (denial g.upper (linear_of x, linear_of y)) → has_denied g ps ≡ not b
 end_denied g ps x y b h e = ap (λ t. is_some (denial_at g.upper t)) (ended g ps x y h) ∙ some_or_none (denial g.upper (linear_of x, linear_of y)) ∙ ap not (sym e)
+
+pub rows_denied : (g : Goal) (ps : List Taken) (r : RowList) (b : Bool) → has_denied g ps ≡ b → Lists r (rows_of g ps b) → Lists r (rows_of g ps (has_denied g ps))
+rows_denied g ps r b e h = subst (λ d. Lists r (rows_of g ps d)) (sym e) h
 
 -- ---- Splits
 

@@ -19,9 +19,9 @@ use Rattle.linear_form.specs.declared.paths.Atom as A
 use Rattle.linear_form.specs.declared.places.Place.{Place}
 use Rattle.linear_form.specs.declared.path_rows.RowList as L
 use Rattle.linear_form.proofs.exported.LastRows.{more_rows, lost_here, lost_before, lost_rows}
+use Rattle.linear_form.proofs.exported.PathSteps.{empty_path}
 use Rattle.linear_form.proofs.exported.Places.{place_stays}
-use Rattle.goal_answers.specs.Trees.{Tree}
-use Rattle.farkas_check.specs.Accepted.{has_denied, IsRefuted, IsAccepted, IsRefused}
+use Rattle.farkas_check.specs.Accepted.{has_denied, CanSplit, IsRefuted}
 use Rattle.farkas_check.specs.internal.Trails.{IsStated, IsTrail, IsLonger, IsSame}
 use Rattle.farkas_check.specs.declared.trail.Trail.{Trail}
 
@@ -58,10 +58,13 @@ more_stated g before t items p list more h f l i b e r k = record {
   first = ap (take (length before.rows.items)) r ∙ take_at before.rows.items more.items (length before.rows.items) refl;
 }
 
+pub longer_path : (g : Goal) (before : Trail) (items : List T.Taken) (p : T.Taken) → items ≡ before.path.items ++ p ∷ [] → IsPath g (onto (path_of before.path.items) (atom_of p.atom) p.held) → IsPath g (path_of items)
+longer_path g before items p e h = subst (IsPath g) (sym (ap path_of e ∙ path_of-append before.path.items p)) h
+
 -- ---- The trail that goes on, and the trail that comes back
 
 pub longer_trail : (g : Goal) (before t : Trail) (p : T.Taken) → IsLonger g before p t → IsPath g (onto (path_of before.path.items) (atom_of p.atom) p.held) → IsTrail g t
-longer_trail g before t p l h = record { path = subst (IsPath g) (sym (ap path_of l.path ∙ path_of-append before.path.items p)) h; rows = l.rows }
+longer_trail g before t p l h = record { path = longer_path g before t.path.items p l.path h; rows = l.rows }
 
 pub longer_place : (g : Goal) (before t : Trail) (p : T.Taken) (e : Place) → IsLonger g before p t → IsOn g (path_of before.path.items) e → IsOn g (path_of t.path.items) e
 longer_place g before t p e l h = subst (λ ps. IsOn g ps e) (sym (ap path_of l.path ∙ path_of-append before.path.items p)) (place_stays g (path_of before.path.items) _ e h)
@@ -75,9 +78,37 @@ same_again s t u h k = record { path = k.path ∙ h.path; rows = k.rows ∙ h.ro
 pub same_stated : (g : Goal) (s t : Trail) → IsSame s t → IsStated g (path_of s.path.items) s.rows.items s.stated → IsStated g (path_of t.path.items) t.rows.items t.stated
 same_stated g s t h k = subst (λ ps. IsStated g (path_of ps) t.rows.items t.stated) (sym h.path) (subst (λ rows. IsStated g (path_of s.path.items) rows t.stated) (sym h.rows) (subst (IsStated g (path_of s.path.items) s.rows.items) (sym h.stated) k))
 
+-- the other answer to the question, copied, at the trail that came back
+pub again_onto : (g : Goal) (s here : Trail) (q r : A.Atom) → IsSame s here → atom_of r ≡ atom_of q → ((held : Bool) → IsPath g (onto (path_of s.path.items) (atom_of q) held)) → IsPath g (onto (path_of here.path.items) (atom_of r) false)
+again_onto g s here q r h e a = subst (λ k. IsPath g (onto (path_of here.path.items) k false)) (sym e) (subst (λ ps. IsPath g (onto (path_of ps) (atom_of q) false)) (sym h.path) (a false))
+
+-- the path and the place, where the program looks at them
+pub path_here : (g : Goal) (now : List T.Taken) (s : Trail) → now ≡ s.path.items → IsTrail g s → IsPath g (path_of now)
+path_here g now s e h = subst (λ ps. IsPath g (path_of ps)) (sym e) h.path
+
+pub place_here : (g : Goal) (now : List T.Taken) (s : Trail) (p : Place) → now ≡ s.path.items → IsOn g (path_of s.path.items) p → IsOn g (path_of now) p
+place_here g now s p e h = subst (λ ps. IsOn g (path_of ps) p) (sym e) h
+
+pub place_back : (g : Goal) (now : List T.Taken) (s : Trail) (p : Place) → now ≡ s.path.items → IsOn g (path_of now) p → IsOn g (path_of s.path.items) p
+place_back g now s p e h = subst (λ ps. IsOn g (path_of ps) p) e h
+
+pub split_here : (g : Goal) (now : List T.Taken) (s : Trail) (x : ℕ) → now ≡ s.path.items → CanSplit g (path_of now) x → CanSplit g (path_of s.path.items) x
+split_here g now s x e h = subst (λ ps. CanSplit g (path_of ps) x) e h
+
 -- what is said behind an answer to the trail that came back is said behind one to the first
 pub behind : (P : List Taken → Type 0) (s here t : Trail) (g : Goal) (p : T.Taken) → IsLonger g here p t → IsSame s here → P (path_of t.path.items) → P (onto (path_of s.path.items) (atom_of p.atom) p.held)
 behind P s here t g p l h k = subst (λ ps. P (onto (path_of ps) (atom_of p.atom) p.held)) h.path (subst P (ap path_of l.path ∙ path_of-append here.path.items p) k)
+
+-- ---- Before the first question
+
+pub first_trail : (g : Goal) (s : Trail) → s.path.items ≡ [] → s.rows.items ≡ [] → s.stated ≡ true → IsTrail g s
+first_trail g s e f h = record {
+  path = empty_path g s.path.items e;
+  rows = subst (IsStated g (path_of s.path.items) s.rows.items) (sym h) (record { are_rows = ap (λ (ps : List T.Taken). all_tightened (types_in g.types) (path_claims (path_of ps))) e ∙ ap Some (sym f) });
+}
+
+pub first_place : (g : Goal) (s : Trail) (e : Place) → s.path.items ≡ [] → IsOn g [] e → IsOn g (path_of s.path.items) e
+first_place g s e k h = subst (λ (ps : List T.Taken). IsOn g (path_of ps) e) (sym k) h
 
 -- ---- Multipliers
 

@@ -1,5 +1,5 @@
 -- The rows of a path with one more answer, from those of the answer alone.
-use Rattle.std.proofs.Common.{◌≡◌, List, [], ◌∷◌, ◌++◌, refl, sym, ap, ap₂, ◌∙◌, subst, Bool}
+use Rattle.std.proofs.Common.{◌≡◌, List, [], ◌∷◌, ◌++◌, length, sym, ap, ap₂, ◌∙◌, subst, arith, Bool}
 use Rattle.std.specs.Prelude.{Option, Some, None}
 use Rattle.heylo_formula.specs.Goals.{Goal}
 use Rattle.heylo_formula.specs.Typing.{Types, types_in}
@@ -20,8 +20,9 @@ use Rattle.linear_form.proofs.GrowingRows.{same_last, path_of_last, none_lacks}
 
 -- ---- The rows of an answer
 
-pub no_answer : (g : Goal) (xs : List T.Taken) (r : RowList) → xs ≡ [] → AreLastRows g (path_of xs) r
-no_answer g xs r e before last k = absurd (none_lacks before last (ap path_of (sym e) ∙ k))
+pub no_answer : (g : Goal) (xs : List T.Taken) (r : RowList) → length xs ≡ 0 → AreLastRows g (path_of xs) r
+no_answer g [] r e before last k = absurd (none_lacks before last k)
+no_answer g (x ∷ xs) r e before last k = absurd (omega (arith, e))
 
 pub answer_rows : (g : Goal) (tys : List Ty) (xs rest : List T.Taken) (t : T.Taken) (none : List Row) (r : RowList) → tys ≡ g.types → none ≡ [] → xs ≡ rest ++ (t ∷ []) → Lists r (rows_with (types_in tys) none (answer_claims (atom_of t.atom) t.held)) → AreLastRows g (path_of xs) r
 answer_rows g tys xs rest t none r i n e h before last k =

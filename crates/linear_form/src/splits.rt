@@ -2,7 +2,7 @@
 
 ghost use Rattle.std.specs.Prelude.{◌≡◌, IfOk};
 ghost use Rattle.heyvl_num.specs.Rational.{◌*ʳ◌};
-ghost use Rattle.heyvl_num.specs.Rounding.{whole};
+ghost use Rattle.heyvl_num.specs.Rounding.{whole as whole_fraction};
 ghost use Rattle.linear_rows.specs.Numbers.{minus_oneʳ};
 ghost use Rattle.linear_form.specs.PlainPaths.{atom_of};
 ghost use Rattle.linear_form.specs.Splits.{split_at};
@@ -10,6 +10,7 @@ ghost use Rattle.linear_form.specs.Splits.{split_at};
 use crate::paths::Atom;
 use heyvl_num::Frac;
 use linear_values::Lin;
+use linear_values::numbers::{minus_one, whole};
 use std::alloc::{AllocError, Global};
 
 /// The question whether a variable is at most a whole number. Past the last question of a path its answers split the path: a
@@ -28,7 +29,7 @@ pub fn split(alloc: Global, variable: u32, bound: i64) -> Result<Atom, AllocErro
 
 /// The negative of a whole number.
 fn negative(n: i64) -> Frac
-    ensures { result ≡ minus_oneʳ *ʳ whole n }
+    ensures { result ≡ minus_oneʳ *ʳ whole_fraction n }
 {
-    Frac::new(-i128::from(n), 1).unwrap()
+    minus_one().mul(&whole(n)).unwrap()
 }
