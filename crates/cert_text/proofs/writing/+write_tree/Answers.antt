@@ -1,4 +1,4 @@
-use Rattle.cert_text.proofs.Written.{split_written, farkas_written}
+use Rattle.cert_text.proofs.Written.{split_written, farkas_written, whole_written}
 use Rattle.cert_text.proofs.writing.+write_tree.Goals as goal
 
 pub returns-in_ok-write_tree-in-Split-2 : goal.returns-in_ok-write_tree-in-Split-2
@@ -10,3 +10,8 @@ pub returns-in_ok-push-in-Farkas-2 : goal.returns-in_ok-push-in-Farkas-2
 returns-in_ok-push-in-Farkas-2 t c =
     farkas_written c.args.tree.now c.in-Farkas.multipliers c.deref-in-Farkas.result.now _ _ _ _ c.in-Farkas.is c.deref-in-Farkas.ensures.value
     c.in_ok-push-in-Farkas.ensures.items c.in_ok-write_multipliers-in-Farkas.ensures c.in_ok-push-in-Farkas-2.ensures.items
+
+pub returns-in_ok-write_tree-in-Whole-2 : goal.returns-in_ok-write_tree-in-Whole-2
+returns-in_ok-write_tree-in-Whole-2 t c =
+    whole_written c.args.tree.now c.in-Whole.variable c.in-Whole.bound c.in-Whole.most c.in-Whole.more c.deref-in-Whole.result.now c.deref-in-Whole-2.result.now _ _ _ _ c.in-Whole.is c.deref-in-Whole.ensures c.deref-in-Whole-2.ensures
+    c.in_ok-write_whole.ensures c.in_ok-write_tree-in-Whole.ensures c.in_ok-write_tree-in-Whole-2.ensures
