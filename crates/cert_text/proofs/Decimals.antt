@@ -1,8 +1,10 @@
 -- Decimal numbers and their texts.
-use Rattle.std.proofs.Common.{◌≡◌, ℕ, ℤ, pos, negsuc, ◌<◌, ◌^◌, List, decimal, unsigned_abs, subst, sym, arith}
+use Rattle.std.proofs.Common.{◌≡◌, ℕ, ℤ, pos, negsuc, ◌<◌, ◌^◌, List, decimal, unsigned_abs, ap, ◌∙◌, subst, sym, arith, to_z, of_z}
 use Rattle.std.proofs.lemmas.Fmt.{IsAscii-decimal, IsAscii-signed}
 use Rattle.std.specs.Fmt.{signed_decimal}
+use Rattle.std.specs.Int.{w64}
 use Rattle.std.specs.Int.Signed.{mag}
+use Rattle.std.proofs.lemmas.Int.{to_z-of_z, fits_signed_from_abs}
 use Rattle.std.proofs.lemmas.Str.{IsUtf8-from_ascii}
 use Rattle.std.specs.Str.{IsUtf8}
 
@@ -22,3 +24,7 @@ below_top (negsuc n) h = omega arith
 -- The digits of a whole number are a text.
 pub signed_is_text : (m : ℤ) (bs : List ℕ) → unsigned_abs m < 2 ^ 63 → bs ≡ signed_decimal m → IsUtf8 bs
 signed_is_text m bs small e = let P : List ℕ → Type 0 = λ xs. IsUtf8 xs in subst P (sym e) (IsUtf8-from_ascii (signed_decimal m) (IsAscii-signed m (below_top m small)))
+
+-- The bits of a whole number below 2^63 without its sign stand for it.
+pub bits_stand : (n m : ℤ) → n ≡ m → unsigned_abs m < 2 ^ 63 → to_z w64 (of_z w64 n) ≡ m
+bits_stand n m e small = ap (λ (z : ℤ). to_z w64 (of_z w64 z)) e ∙ to_z-of_z w64 m (fits_signed_from_abs w64 m small)

@@ -13,7 +13,7 @@ use Rattle.cert_text.specs.declared.versions.Version.TheVariants as versions
 use Rattle.cert_text.specs.Certificates.{Certificate, may_follow, IsGrowingAfter, IsNumbered, IsWholeSplit, HasNumbers, IsWritable, AreWritable}
 use Rattle.cert_text.specs.Lines.{Line, title, goal, split, whole, farkas, plain, last}
 use Rattle.cert_text.specs.internal.WholeLines.{IsLine}
-use Rattle.cert_text.specs.Texts.{has_whole, have_whole, version, tree_lines, goals_lines, certificate_lines}
+use Rattle.cert_text.specs.Texts.{has_whole, have_whole, tree_lines, goals_lines, certificate_lines}
 use Rattle.cert_text.specs.internal.Reading.{Way, Open, Filled, complete, part, joined, fill, may_split, may_end, edition_of, State, start, between, inside, done, filled_state, next, advance, run}
 use Rattle.cert_text.proofs.Editions.{IsAllowed, passed, passed_twice, passed_same, allowed_first, allowed_second, splits, title_of, ends_in, begins_with}
 

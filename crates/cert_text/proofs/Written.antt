@@ -11,7 +11,7 @@ use Rattle.cert_text.specs.Certificates.{certificate_of, certificates_of}
 use Rattle.cert_text.specs.declared.versions.Version.{Version}
 use Rattle.cert_text.specs.declared.versions.Version.TheVariants as versions
 use Rattle.cert_text.specs.Lines.{Line, title, goal, whole, last, line_text, multiplier_text, multipliers_text}
-use Rattle.cert_text.specs.Texts.{closed, has_whole, have_whole, version, tree_lines, goals_lines, certificate_lines}
+use Rattle.cert_text.specs.Texts.{closed, has_whole, have_whole, version, tree_lines, goals_lines}
 use Rattle.cert_text.proofs.Multipliers.{multipliers_text_push}
 
 -- The bytes of lines.

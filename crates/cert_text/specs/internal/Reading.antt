@@ -102,7 +102,7 @@ run (l ∷ ls) o = run ls (advance l o)
 -- The node on the way that the program holds.
 abbrev pub way_of : W.Way → Way
 way_of (W.TheVariants.First k) = Way.first k
-way_of (W.TheVariants.Second k first) = Way.second k (tree_of first.value)
+way_of (W.TheVariants.Second k most) = Way.second k (tree_of most.value)
 
 -- The open place that the program holds, whose last entry is the innermost node.
 abbrev pub open_of : List W.Way → Open

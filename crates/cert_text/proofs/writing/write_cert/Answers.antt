@@ -1,7 +1,7 @@
 use Rattle.std.proofs.Common.{◌++◌, ap, ◌∙◌, List, ℕ, [], ◌∷◌}
 use Rattle.cert_text.specs.Certificates.{certificates_of}
 use Rattle.cert_text.specs.Lines.{title}
-use Rattle.cert_text.specs.Texts.{goals_lines, version}
+use Rattle.cert_text.specs.Texts.{goals_lines}
 use Rattle.cert_text.proofs.Written.{all_written, lines_text}
 use Rattle.cert_text.proofs.writing.write_cert.Goals as goal
 
