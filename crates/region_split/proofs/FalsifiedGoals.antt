@@ -22,6 +22,7 @@ use Rattle.linear_rows.specs.GreedyPoint.{Greedy, ChoosesFrom, chosen_value, val
 use Rattle.linear_form.specs.Cells.{IsFalseCell}
 use Rattle.linear_form.specs.PointLaws.{HasTruths}
 use Rattle.linear_form.proofs.exported.NumericRows.{unsigned_number, numeric_rows}
+use Rattle.linear_form.proofs.exported.PathSteps.{plain_path}
 use Rattle.linear_form.proofs.exported.FalsifyingPoints.{points_falsify}
 use Rattle.linear_form.proofs.exported.Truths.{truths_booleans, truths_variables}
 use Rattle.linear_form.proofs.exported.UnsignedRows.{unsigned_nonnegative}
@@ -120,7 +121,7 @@ pointed g ps point w v a h = record {
 
 cell_fails : (g : Goal) (ps : List Taken) (point : List Val) → IsTypedGoal g → HasItsVariables g → IsFalseCell g ps → IsPointOf g ps point → Fails g point
 cell_fails g ps point w v f h =
-    let a = front_path g ps f.cell.front in
+    let a = plain_path g ps (front_path g ps f.cell.front) in
     let p = pointed g ps point w v a h in
     let o : Some f.rows ≡ Some h.rows = sym f.are_rows ∙ h.are_rows in
     let same : f.rows ≡ h.rows = cc in

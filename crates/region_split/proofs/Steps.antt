@@ -8,7 +8,7 @@ use Rattle.heylo_formula.specs.Goals.{Goal}
 use Rattle.heylo_formula.specs.declared.values.Val.{Val}
 use Rattle.linear_form.specs.Query.{Atom, Taken, onto}
 use Rattle.linear_form.specs.Questions.{questions}
-use Rattle.linear_form.specs.Paths.{IsPath}
+use Rattle.linear_form.specs.Paths.{IsQuestionPath, IsPath}
 use Rattle.linear_form.specs.PathRows.{IsPlainAt}
 use Rattle.linear_form.specs.PlainPaths.{path_of, taken_of, atom_of}
 use Rattle.linear_form.specs.Cells.{GoesOn, IsFront, IsFalseCell}
@@ -21,6 +21,7 @@ use Rattle.goal_answers.specs.declared.causes.Cause.{Cause}
 use Rattle.region_split.specs.Walk.{IsReached}
 use Rattle.region_split.specs.Decisions.{HasCells, IsBreakOf, IsCause}
 use Rattle.heylo_formula.specs.TypedGoals.{IsTypedGoal}
+use Rattle.linear_form.proofs.exported.PathSteps.{plain_path}
 use Rattle.region_split.proofs.TypedBreaks.{break_of}
 use Rattle.region_split.specs.internal.Seen.{EndsWalk, IsEnd, IsPointAt, IsBreakAt, IsMetAt}
 use Rattle.region_split.specs.internal.Trails.{Comes, ComesBy, Stands, StandsAt, IsDroppedBy}
@@ -145,8 +146,11 @@ next_walk g w next tree h c k n f = (
 pub come_front : (g : Goal) (ps : List Taken) (w : Walk) → HasCome g ps w → IsFront g ps
 come_front g ps w h = stands_front g ps h.before w.trees.items h.stands
 
+pub come_asked : (g : Goal) (ps : List Taken) (w : Walk) → HasCome g ps w → IsQuestionPath g ps
+come_asked g ps w h = front_path g ps (come_front g ps w h)
+
 pub come_path : (g : Goal) (ps : List Taken) (w : Walk) → HasCome g ps w → IsPath g ps
-come_path g ps w h = front_path g ps (come_front g ps w h)
+come_path g ps w h = plain_path g ps (come_asked g ps w h)
 
 come_reached : (g : Goal) (ps : List Taken) (w : Walk) (h : HasCome g ps w) → IsReached g ps h.before
 come_reached g ps w h = let c = h.counted in let f = h.few in reached g ps h.before w.trees.items h.stands (omega (arith, c, f))
@@ -252,7 +256,7 @@ front_ends g ps w cause l h r = r h.before (come_reached g ps w h) tt l
 pub cell_ends : (g : Goal) (ps : List Taken) (w : Walk) (plain : Bool) (cause : Cause) → nonlinear_product g ≡ None → HasCome g ps w → IsEnd g ps plain → w.count < 4096 → (IsPlainAt g ps → ⊥) → EndsWalk g ps true cause → IsCause g cause
 cell_ends g ps w plain cause l h e f n r = r h.before (come_reached g ps w h) (let c = h.counted in omega (arith, c, f), (cell_here g ps plain (come_front g ps w h) e, n)) l
 
-pub walk_short : (g : Goal) (ps : List T.Taken) → AreShort g → IsPath g (path_of ps) → length ps + 1 + length g.types < 2 ^ 32
+pub walk_short : (g : Goal) (ps : List T.Taken) → AreShort g → IsQuestionPath g (path_of ps) → length ps + 1 + length g.types < 2 ^ 32
 walk_short g ps s p = let l = length-map ps taken_of in let h = s (path_of ps) p in omega (arith, l, h)
 
 pub dropped_walk : (g : Goal) (w : Walk) (ms : Vec (ℕ × ℕ) Global) (tree : Option F.Tree) (n : ℕ) → n ≡ length (path_of w.trail.path.items) → IsLeaf n (F.Farkas ms) tree → IsStandingWalk g w → IsDroppedBy g (path_of w.trail.path.items) ms.items → IsFinishedWalk g w tree
@@ -289,7 +293,7 @@ further_cell g ps plain point h e k p =
 pub break_cell : (g : Goal) (ps : List Taken) (found next : Found) (plain : Bool) (b : Broken) → IsTypedGoal g → IsFront g ps → IsEnd g ps plain → plain ≡ false → IsBreakAt g ps true b → ((cells : List (List Taken)) (ps : List Taken) → IsFound g cells found → IsFalseCell g ps → IsBreakOf g ps b → IsFound g (cells ++ (ps ∷ [])) next) → IsJudgedCell g ps found next None
 break_cell g ps found next plain b t h e k p f =
     let i = break_is_false g ps b (cell_here g ps plain h e) (not_plain_there g ps plain e k) p in
-    let o = break_of g ps b t (front_path g ps h) p in
+    let o = break_of g ps b t (plain_path g ps (front_path g ps h)) p in
     judged g ps found next None (false_leaf g ps plain e i) (λ cells j. f cells ps j i o)
 
 pub cell_walk : (g : Goal) (w next : Walk) (found : Found) (tree : Option F.Tree) → IsStandingWalk g w → w.count < 4096 → StandsAt g (path_of w.trail.path.items) next.trail → next.count ≡ w.count + 1 → next.trees ≡ w.trees → next.found ≡ found → IsJudgedCell g (path_of w.trail.path.items) w.found found tree → IsFinishedWalk g next tree

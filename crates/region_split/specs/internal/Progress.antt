@@ -6,7 +6,7 @@ use Rattle.heylo_formula.specs.Goals.{Goal}
 use Rattle.linear_form.specs.Query.{Query, Atom, Taken, onto}
 use Rattle.linear_form.specs.Query.Query.{done, bits, ask}
 use Rattle.linear_form.specs.Questions.{questions}
-use Rattle.linear_form.specs.Paths.{IsPath, end_at}
+use Rattle.linear_form.specs.Paths.{IsQuestionPath, end_at}
 use Rattle.linear_form.specs.PathRows.{IsPlainAt}
 use Rattle.linear_form.specs.PlainPaths.{path_of, atom_of}
 use Rattle.linear_form.specs.Cells.{GoesOn}
@@ -131,9 +131,9 @@ pub record HasRisen (g : Goal) (all : List (List Taken)) (from : List Taken) (t 
   pub after : IsAfter g (path_of t.path.items) trees all tree
   pub rest : rest_of (questions g) (path_of t.path.items) ≤ rest_of (questions g) from
 
--- The paths of the goal are so short that their rows can be counted.
+-- The paths of questions of the goal are so short that their rows can be counted.
 abbrev pub AreShort : Goal → Type 0
-AreShort g = (ps : List Taken) → IsPath g ps → length ps + 1 + length g.types < 2 ^ 32
+AreShort g = (ps : List Taken) → IsQuestionPath g ps → length ps + 1 + length g.types < 2 ^ 32
 
 -- The walk has come to a path: what lies before it.
 pub record HasCome (g : Goal) (ps : List Taken) (w : Walk) : Type 0 where

@@ -2,7 +2,7 @@ use Rattle.std.proofs.Common.{◌≡◌, refl, sym, ◌∙◌, subst, arith, tru
 use Rattle.std.specs.Prelude.{None}
 use Rattle.heylo_formula.specs.Goals.{goal_of}
 use Rattle.linear_form.specs.Asked.{Answers}
-use Rattle.linear_form.specs.Paths.{IsPath, end_at}
+use Rattle.linear_form.specs.Paths.{IsQuestionPath, IsPath, end_at}
 use Rattle.linear_form.specs.PathRows.{rows_of, IsPlainAt}
 use Rattle.linear_form.specs.PlainPaths.{path_of}
 use Rattle.linear_form.specs.Cells.{IsFront}
@@ -14,7 +14,7 @@ use Rattle.region_split.specs.internal.Seen.{AreRowsAt, EndsWalk, IsEnd}
 use Rattle.region_split.specs.internal.Progress.{IsJudgedCell}
 use Rattle.region_split.proofs.PathAnswers.{no_rows}
 use Rattle.region_split.proofs.Trails.{looked, remembers_list}
-use Rattle.region_split.proofs.Steps.{cell_walk, cell_ends, come_front, come_path, not_plain_there, walk_short}
+use Rattle.region_split.proofs.Steps.{cell_walk, cell_ends, come_front, come_asked, come_path, not_plain_there, walk_short}
 use Rattle.region_split.proofs.walk.denied_end.Goals as goal
 
 pub with_denied_goal-requires-clause-path : goal.with_denied_goal-requires-clause-path
@@ -36,7 +36,7 @@ pub judge-requires-clause-front : goal.judge-requires-clause-front
 judge-requires-clause-front c = subst (λ xs. IsFront (goal_of c.args.goal.now) (path_of xs)) (sym c.deref-2.ensures.value) (come_front (goal_of c.args.goal.now) (path_of c.args.walk.trail.path.items) c.args.walk c.requires.stands.come)
 
 pub judge-requires-clause-short : goal.judge-requires-clause-short
-judge-requires-clause-short c = walk_short (goal_of c.args.goal.now) c.deref-2.result.now c.requires.short (subst (λ xs. IsPath (goal_of c.args.goal.now) (path_of xs)) (sym c.deref-2.ensures.value) (come_path (goal_of c.args.goal.now) (path_of c.args.walk.trail.path.items) c.args.walk c.requires.stands.come))
+judge-requires-clause-short c = walk_short (goal_of c.args.goal.now) c.deref-2.result.now c.requires.short (subst (λ xs. IsQuestionPath (goal_of c.args.goal.now) (path_of xs)) (sym c.deref-2.ensures.value) (come_asked (goal_of c.args.goal.now) (path_of c.args.walk.trail.path.items) c.args.walk c.requires.stands.come))
 
 pub judge-requires-clause-at_end : goal.judge-requires-clause-at_end
 judge-requires-clause-at_end c = subst (λ xs. IsEnd (goal_of c.args.goal.now) (path_of xs) false) (sym c.deref-2.ensures.value) (subst (IsEnd (goal_of c.args.goal.now) (path_of c.args.walk.trail.path.items)) c.requires.not_plain c.requires.at_end.is_end)
@@ -45,7 +45,7 @@ pub judge-requires-clause-rows : goal.judge-requires-clause-rows
 judge-requires-clause-rows c =
     let g = goal_of c.args.goal.now in
     let a = rw c.in-Rows.is at c.in_ok-list.ensures.few in
-    let w = walk_short g c.deref.result.now c.requires.short (subst (λ xs. IsPath g (path_of xs)) (sym c.deref.ensures.value) (come_path g (path_of c.args.walk.trail.path.items) c.args.walk c.requires.stands.come)) in
+    let w = walk_short g c.deref.result.now c.requires.short (subst (λ xs. IsQuestionPath g (path_of xs)) (sym c.deref.ensures.value) (come_asked g (path_of c.args.walk.trail.path.items) c.args.walk c.requires.stands.come)) in
     subst (AreRowsAt g (path_of c.deref-2.result.now) true) (sym c.deref-3.ensures.value) (subst (λ xs. AreRowsAt g (path_of xs) true c.in-Rows.list.items) (c.deref.ensures.value ∙ sym c.deref-2.ensures.value) (record {
       are_rows = rw c.in-Rows.is at c.in_ok-list.ensures.rows;
       normal = rw c.in-Rows.is at c.in_ok-list.ensures.normal;
