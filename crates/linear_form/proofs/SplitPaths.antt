@@ -1,7 +1,6 @@
 -- Paths with splits behind their questions.
 use Rattle.std.proofs.Common.{◌≡◌, ◌⊎◌, ℕ, List, [], ◌∷◌, ◌++◌, refl, sym, ap, ◌∙◌, subst, Bool, true, false, cond, inl, inr, append_assoc}
 use Rattle.std.specs.Prelude.{ℤ}
-use Rattle.std.specs.List.{All}
 use Rattle.std.proofs.lemmas.List.{append-nil}
 use Rattle.std.proofs.lemmas.List.Elements.{All-nil, All-push}
 use Rattle.heylo_formula.specs.Goals.{Goal}

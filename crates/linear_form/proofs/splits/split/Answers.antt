@@ -1,7 +1,7 @@
 use Rattle.std.proofs.Common.{ap, ap₂, ◌∙◌, [], ◌∷◌, ◌++◌, false, rules, FitsSigned}
 use Rattle.std.proofs.lemmas.Int.{to_z-of_z}
 use mir.Syntax.{w64}
-use Rattle.heyvl_num.specs.Rational.{oneʳ, ◌*ʳ◌}
+use Rattle.heyvl_num.specs.Rational.{◌*ʳ◌}
 use Rattle.heyvl_num.specs.Rounding.{whole}
 use Rattle.linear_rows.specs.Numbers.{minus_oneʳ}
 use Rattle.linear_form.specs.Query.{Atom}
