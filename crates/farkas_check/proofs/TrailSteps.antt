@@ -1,6 +1,6 @@
 -- Trails that go on with an answer and come back.
 use Rattle.std.proofs.Common.{◌≡◌, ℕ, List, [], ◌∷◌, ◌++◌, take, length, refl, sym, ap, ap₂, ◌∙◌, subst, arith, Bool, true, false}
-use Rattle.std.specs.Prelude.{Some, None}
+use Rattle.std.specs.Prelude.{Option, Some, None}
 use Rattle.std.specs.declared.alloc.Global.{Global}
 use Rattle.std.specs.declared.vec.Vec.{Vec}
 use Rattle.std.proofs.lemmas.List.{take_at, take_all, map-append}
@@ -8,9 +8,9 @@ use Rattle.heylo_formula.specs.Goals.{Goal}
 use Rattle.heylo_formula.specs.Typing.{types_in}
 use Rattle.linear_rows.specs.Row.{Row}
 use Rattle.linear_values.specs.Tightening.{all_tightened}
-use Rattle.linear_form.specs.Query.{Atom, Taken, onto}
+use Rattle.linear_form.specs.Query.{Taken, onto}
 use Rattle.linear_form.specs.Paths.{IsPath}
-use Rattle.linear_form.specs.PathRows.{answer_claims, path_claims, rows_of}
+use Rattle.linear_form.specs.PathRows.{path_claims, rows_of}
 use Rattle.linear_form.specs.Places.{IsOn}
 use Rattle.linear_form.specs.PlainPaths.{atom_of, taken_of, path_of}
 use Rattle.linear_form.specs.RowLists.{ArePathRows, AreLastRows}
@@ -114,13 +114,16 @@ first_trail g s e f h = record {
   rows = subst (IsStated g (path_of s.path.items) s.rows.items) (sym h) (record { are_rows = ap (λ (ps : List T.Taken). all_tightened (types_in g.types) (path_claims (path_of ps))) e ∙ ap Some (sym f) });
 }
 
-pub first_place : (g : Goal) (s : Trail) (e : Place) → s.path.items ≡ [] → IsOn g [] e → IsOn g (path_of s.path.items) e
-first_place g s e k h = subst (λ (ps : List T.Taken). IsOn g (path_of ps) e) (sym k) h
+pub first_place : (g : Goal) (items : List T.Taken) (e : Place) → items ≡ [] → IsOn g [] e → IsOn g (path_of items) e
+first_place g items e k h = subst (λ (ps : List T.Taken). IsOn g (path_of ps) e) (sym k) h
 
 -- ---- Multipliers
 
 pub none_refuted : (g : Goal) (s : Trail) (ms : List (ℕ × ℕ)) → IsTrail g s → s.stated ≡ false → IsRefuted g (path_of s.path.items) ms → ⊥
 none_refuted g s ms h f r = let e = sym r.are_rows ∙ lost_rows g (path_of s.path.items) (has_denied g (path_of s.path.items)) (subst (IsStated g (path_of s.path.items) s.rows.items) f h.rows) in absurd (cc)
 
-pub rows_of_trail : (g : Goal) (s : Trail) → IsTrail g s → s.stated ≡ true → ArePathRows g (path_of s.path.items) s.rows.items
-rows_of_trail g s h f = subst (IsStated g (path_of s.path.items) s.rows.items) f h.rows
+pub rows_of_trail : (g : Goal) (now : List T.Taken) (s : Trail) → IsTrail g s → s.stated ≡ true → now ≡ s.path.items → ArePathRows g (path_of now) s.rows.items
+rows_of_trail g now s h f e = subst (λ ps. ArePathRows g (path_of ps) s.rows.items) (sym e) (subst (IsStated g (path_of s.path.items) s.rows.items) f h.rows)
+
+pub rows_back : (g : Goal) (now : List T.Taken) (s : Trail) (o : Option (List Row)) → now ≡ s.path.items → rows_of g (path_of now) (has_denied g (path_of now)) ≡ o → rows_of g (path_of s.path.items) (has_denied g (path_of s.path.items)) ≡ o
+rows_back g now s o e h = subst (λ ps. rows_of g (path_of ps) (has_denied g (path_of ps)) ≡ o) e h

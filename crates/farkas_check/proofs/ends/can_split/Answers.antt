@@ -12,7 +12,7 @@ returns-in-Decide c = (λ e. absurd (cc), λ k. absurd (question_unsplit (goal_o
 pub returns-then-holds_plainly : goal.returns-then-holds_plainly
 returns-then-holds_plainly c = end_splits (goal_of c.args.goal.now) (path_of c.args.path.now) c.args.variable c.in-End.stated c.in-End.found true (is_integral (types_in (goal_of c.args.goal.now).types c.args.variable)) (rw c.in-End.is at c.in_ok-ask_there.ensures) (sym c.if-holds_plainly.true ∙ c.holds_plainly.ensures) refl
 
-pub returns-in-End : goal.returns-else-holds_plainly
+pub returns-in-End : goal.returns-in-End
 returns-in-End c = end_splits (goal_of c.args.goal.now) (path_of c.args.path.now) c.args.variable c.in-End.stated c.in-End.found false c.is_whole.result (rw c.in-End.is at c.in_ok-ask_there.ensures) (sym c.if-holds_plainly.false ∙ c.holds_plainly.ensures) (c.is_whole.ensures ∙ ap (λ ts. is_integral (types_in ts c.args.variable)) c.deref.ensures.value)
 
 pub returns : goal.returns
