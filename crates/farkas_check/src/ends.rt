@@ -46,9 +46,8 @@ pub fn is_plain_at<'a>(
     ensures { IfOk result (λ b. IsTrue b ↔ IsPlainAt (goal_of goal.now) (path_of path.now)) }
 {
     match ask_there(alloc, goal, place, path)? {
-        Ask::Decide(_) => Ok(false),
         Ask::End(stated, found) => Ok(holds_plainly(goal.upper, &stated, &found)),
-        Ask::Bits => Ok(false),
+        Ask::Decide(_) | Ask::Bits => Ok(false),
     }
 }
 
