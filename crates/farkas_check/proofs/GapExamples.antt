@@ -1,6 +1,6 @@
 -- A goal that holds of whole numbers and fails for a fraction, and its certificate, in which x is split at 0. Split at 1 it is refused.
 use Rattle.std.proofs.Common.{◌≡◌, ℕ, ◌<◌, ◌^◌, List, [], ◌∷◌, refl, sym, ap, ◌∙◌, subst, arith, lit<, Bool, true, false, cond, eqb, inl, inr, ◌⊎◌}
-use Rattle.std.specs.Prelude.{pos, negsuc, Option, Some, None, is_some, ℤ, ◌+ℤ◌, ◌*ℤ◌, ◌<ℤ◌, length, take, unsigned_abs}
+use Rattle.std.specs.Prelude.{pos, negsuc, Some, None, is_some, ℤ, ◌+ℤ◌, ◌*ℤ◌, ◌<ℤ◌, length, take, unsigned_abs}
 use Prim.Native.Nat.{zero, suc}
 use borrow.Author.Differences.{ints}
 use Rattle.std.proofs.lemmas.List.Elements.{All-nil, All-cons}
@@ -190,7 +190,8 @@ unfolding combined three
 three_sums F i j rows zero = refl
 three_sums F i j rows (suc zero) = refl
 three_sums F i j rows (suc (suc zero)) = refl
-three_sums F i j rows (suc (suc (suc k))) = refl
+three_sums F i j rows (suc (suc (suc zero))) = refl
+three_sums F i j rows (suc (suc (suc (suc k)))) = refl
 
 three_small : (a b c : ℤ) → unsigned_abs a < 2 ^ 60 → unsigned_abs b < 2 ^ 60 → unsigned_abs c < 2 ^ 60 → (k : ℕ) → unsigned_abs (three a b c k) < 2 ^ 126
 unfolding three

@@ -1,6 +1,6 @@
 -- Trails that go on with an answer and come back.
 use Rattle.std.proofs.Common.{◌≡◌, ℕ, List, [], ◌∷◌, ◌++◌, take, length, refl, sym, ap, ap₂, ◌∙◌, subst, arith, Bool, true, false}
-use Rattle.std.specs.Prelude.{Some, None}
+use Rattle.std.specs.Prelude.{Option, Some, None}
 use Rattle.std.specs.declared.alloc.Global.{Global}
 use Rattle.std.specs.declared.vec.Vec.{Vec}
 use Rattle.std.proofs.lemmas.List.{take_at, take_all, map-append}
@@ -8,9 +8,9 @@ use Rattle.heylo_formula.specs.Goals.{Goal}
 use Rattle.heylo_formula.specs.Typing.{types_in}
 use Rattle.linear_rows.specs.Row.{Row}
 use Rattle.linear_values.specs.Tightening.{all_tightened}
-use Rattle.linear_form.specs.Query.{Atom, Taken, onto}
+use Rattle.linear_form.specs.Query.{Taken, onto}
 use Rattle.linear_form.specs.Paths.{IsPath}
-use Rattle.linear_form.specs.PathRows.{answer_claims, path_claims, rows_of}
+use Rattle.linear_form.specs.PathRows.{path_claims, rows_of}
 use Rattle.linear_form.specs.Places.{IsOn}
 use Rattle.linear_form.specs.PlainPaths.{atom_of, taken_of, path_of}
 use Rattle.linear_form.specs.RowLists.{ArePathRows, AreLastRows}
@@ -99,6 +99,13 @@ split_here g now s x e h = subst (λ ps. CanSplit g (path_of ps) x) e h
 pub behind : (P : List Taken → Type 0) (s here t : Trail) (g : Goal) (p : T.Taken) → IsLonger g here p t → IsSame s here → P (path_of t.path.items) → P (onto (path_of s.path.items) (atom_of p.atom) p.held)
 behind P s here t g p l h k = subst (λ ps. P (onto (path_of ps) (atom_of p.atom) p.held)) h.path (subst P (ap path_of l.path ∙ path_of-append here.path.items p) k)
 
+-- the same of the other answer, to the question copied
+pub behind_again : (P : List Taken → Type 0) (s here t : Trail) (g : Goal) (q r : A.Atom) → IsLonger g here (record { atom = r; held = false }) t → IsSame s here → atom_of r ≡ atom_of q → P (path_of t.path.items) → P (onto (path_of s.path.items) (atom_of q) false)
+behind_again P s here t g q r l h e k = subst (λ a. P (onto (path_of s.path.items) a false)) e (behind P s here t g (record { atom = r; held = false }) l h k)
+
+pub same_place : (g : Goal) (s t : Trail) (p : Place) → IsSame s t → IsOn g (path_of s.path.items) p → IsOn g (path_of t.path.items) p
+same_place g s t p h k = subst (λ ps. IsOn g (path_of ps) p) (sym h.path) k
+
 -- ---- Before the first question
 
 pub first_trail : (g : Goal) (s : Trail) → s.path.items ≡ [] → s.rows.items ≡ [] → s.stated ≡ true → IsTrail g s
@@ -107,13 +114,16 @@ first_trail g s e f h = record {
   rows = subst (IsStated g (path_of s.path.items) s.rows.items) (sym h) (record { are_rows = ap (λ (ps : List T.Taken). all_tightened (types_in g.types) (path_claims (path_of ps))) e ∙ ap Some (sym f) });
 }
 
-pub first_place : (g : Goal) (s : Trail) (e : Place) → s.path.items ≡ [] → IsOn g [] e → IsOn g (path_of s.path.items) e
-first_place g s e k h = subst (λ (ps : List T.Taken). IsOn g (path_of ps) e) (sym k) h
+pub first_place : (g : Goal) (items : List T.Taken) (e : Place) → items ≡ [] → IsOn g [] e → IsOn g (path_of items) e
+first_place g items e k h = subst (λ (ps : List T.Taken). IsOn g (path_of ps) e) (sym k) h
 
 -- ---- Multipliers
 
 pub none_refuted : (g : Goal) (s : Trail) (ms : List (ℕ × ℕ)) → IsTrail g s → s.stated ≡ false → IsRefuted g (path_of s.path.items) ms → ⊥
 none_refuted g s ms h f r = let e = sym r.are_rows ∙ lost_rows g (path_of s.path.items) (has_denied g (path_of s.path.items)) (subst (IsStated g (path_of s.path.items) s.rows.items) f h.rows) in absurd (cc)
 
-pub rows_of_trail : (g : Goal) (s : Trail) → IsTrail g s → s.stated ≡ true → ArePathRows g (path_of s.path.items) s.rows.items
-rows_of_trail g s h f = subst (IsStated g (path_of s.path.items) s.rows.items) f h.rows
+pub rows_of_trail : (g : Goal) (now : List T.Taken) (s : Trail) → IsTrail g s → s.stated ≡ true → now ≡ s.path.items → ArePathRows g (path_of now) s.rows.items
+rows_of_trail g now s h f e = subst (λ ps. ArePathRows g (path_of ps) s.rows.items) (sym e) (subst (IsStated g (path_of s.path.items) s.rows.items) f h.rows)
+
+pub rows_back : (g : Goal) (now : List T.Taken) (s : Trail) (o : Option (List Row)) → now ≡ s.path.items → rows_of g (path_of now) (has_denied g (path_of now)) ≡ o → rows_of g (path_of s.path.items) (has_denied g (path_of s.path.items)) ≡ o
+rows_back g now s o e h = subst (λ ps. rows_of g (path_of ps) (has_denied g (path_of ps)) ≡ o) e h
