@@ -2,7 +2,6 @@
 use Rattle.std.proofs.Common.{◌≡◌, ◌≤◌, List, [], ◌∷◌, ◌++◌, length, refl, sym, subst, arith, inl, inr}
 use Rattle.std.specs.Prelude.{Option, Some, None}
 use Rattle.std.specs.List.{All}
-use Rattle.std.proofs.lemmas.List.Elements.{All-head, All-tail}
 use Rattle.heylo_formula.specs.Goals.{Goal}
 use Rattle.linear_form.specs.Query.{Taken}
 use Rattle.linear_form.specs.Nonlinear.{nonlinear_product}
@@ -11,13 +10,9 @@ use Rattle.goal_answers.specs.declared.decisions.Decision.TheVariants.{Proved}
 use Rattle.goal_answers.specs.declared.trees.Tree as F
 use Rattle.region_split.specs.Decisions.{IsDecision, IsProved}
 use Rattle.region_split.specs.internal.Progress.{HasFalsePoint, HoldsAt, IsBranch, IsGrown}
-use Rattle.region_split.proofs.Climbing.{all_first}
+use Rattle.region_split.proofs.Climbing.{all_first, at_place}
 use Rattle.region_split.proofs.Leaves.{point_or_holds}
 use Rattle.region_split.proofs.UniqueWalks.{located}
-
-at_place : (P : List Taken → Type 0) (es : List (List Taken)) (a : List Taken) (bs : List (List Taken)) → All P (es ++ (a ∷ bs)) → P a
-at_place P [] a bs h = All-head P a bs h
-at_place P (x ∷ es) a bs h = at_place P es a bs (All-tail P x (es ++ (a ∷ bs)) h)
 
 -- where the goal holds in each cell, no point was found
 no_false_point : (g : Goal) (all : List (List Taken)) (tree : Option F.Tree) → All (HoldsAt g) all → IsBranch g [] all tree → HasFalsePoint g → ⊥

@@ -1,5 +1,5 @@
 -- How a walk goes on from its path.
-use Rattle.std.proofs.Common.{◌≡◌, ℕ, ◌+◌, ◌<◌, ◌≤◌, ◌^◌, List, [], ◌∷◌, ◌++◌, length, refl, sym, ap, ◌∙◌, subst, arith, length-append, Vec, Global, Bool, true, false, inl, inr}
+use Rattle.std.proofs.Common.{◌≡◌, ℕ, ◌+◌, ◌<◌, ◌≤◌, ◌^◌, List, [], ◌∷◌, ◌++◌, length, take, refl, sym, ap, ◌∙◌, subst, arith, length-append, Vec, Global, Bool, true, false, inl, inr}
 use Rattle.std.specs.Prelude.{Option, Some, None, Result, IfOk, option_to_list}
 use Rattle.std.specs.Option.{option_flatten}
 use Rattle.std.proofs.lemmas.List.Elements.{All-nil}
@@ -23,9 +23,14 @@ use Rattle.region_split.specs.Walk.{IsReached}
 use Rattle.region_split.specs.Decisions.{HasCells, IsCause, IsLookedAt}
 use Rattle.region_split.specs.Pieces.{HasFirstPoint, IsPieceOf}
 use Rattle.linear_form.proofs.exported.PathSteps.{plain_path}
-use Rattle.region_split.specs.internal.Seen.{EndsWalk, IsEnd, IsPointAt, IsMetAt}
+use Rattle.heylo_formula.specs.TypedGoals.{IsTypedGoal}
+use Rattle.linear_form.specs.RowLists.{ArePathRows}
+use Rattle.linear_rows.specs.Row.{Row}
+use Rattle.region_split.specs.internal.Seen.{AreRowsAt, EndsWalk, IsEnd, IsEndOf, IsPointAt, IsMetAt}
+use Rattle.region_split.specs.declared.front.End as E
+use Rattle.region_split.proofs.Trails.{starts_length}
 use Rattle.region_split.specs.internal.Trails.{Comes, ComesBy, Stands, StandsAt, IsDroppedBy}
-use Rattle.region_split.specs.internal.Progress.{EndsPiece, HoldsAt, AreShort, IsBroken, IsClosed, IsGrown, IsLeaf, KnowsPoint, IsBranch, HasBefore, IsAfter, HasRisen, IsNextFront, IsFound, HasCome, IsWalk, IsStandingWalk, IsFinishedWalk, IsBelow, IsStep, IsAt, IsJudgedCell, rest_of, left_of, left_after}
+use Rattle.region_split.specs.internal.Progress.{EndsPiece, HoldsAt, AreShort, IsBroken, IsCellStand, IsClosed, IsGrown, IsLeaf, KnowsPoint, IsBranch, HasBefore, IsAfter, HasRisen, IsNextFront, IsFound, HasCome, IsWalk, IsStandingWalk, IsFinishedWalk, IsBelow, IsStep, IsAt, IsJudgedCell, rest_of, left_of, left_after}
 use Rattle.region_split.specs.declared.found.Found.{Found}
 use Rattle.region_split.specs.declared.trail.Trail.{Trail}
 use Rattle.region_split.specs.declared.walk.Walk.{Walk}
@@ -259,10 +264,6 @@ cell_ends g ps w plain cause l h e f n r = r h.before (record { cell = ps; reach
 pub walk_short : (g : Goal) (ps : List T.Taken) → AreShort g → IsQuestionPath g (path_of ps) → length ps + 1 + length g.types < 2 ^ 32
 walk_short g ps s p = let l = length-map ps taken_of in let h = s (path_of ps) p in omega (arith, l, h)
 
--- with room for eight splits
-pub walk_shorter : (g : Goal) (ps : List T.Taken) → AreShort g → IsQuestionPath g (path_of ps) → length (path_of ps) + 9 + length g.types < 2 ^ 32
-walk_shorter g ps s p = s (path_of ps) p
-
 pub dropped_walk : (g : Goal) (w : Walk) (ms : Vec (ℕ × ℕ) Global) (tree : Option F.Tree) (n : ℕ) → n ≡ length (path_of w.trail.path.items) → IsLeaf n (F.Farkas ms) tree → IsStandingWalk g w → IsDroppedBy g (path_of w.trail.path.items) ms.items → IsFinishedWalk g w tree
 dropped_walk g w ms tree n e l h d = dropped_finished g w tree h (dropped_leaf g (path_of w.trail.path.items) ms tree (subst (λ i. IsLeaf i (F.Farkas ms) tree) e l) d)
 
@@ -313,7 +314,22 @@ knows_point g ps w h = go w.found h.found
     go (Found.Point p) i = record { path = ps; before = h.before; are_before = are_before g ps h.before w.trees.items h.stands; point = p.items; first = i }
 
 pub cell_walk : (g : Goal) (w next : Walk) (found : Found) (tree : Option F.Tree) → IsStandingWalk g w → w.count < 4096 → StandsAt g (path_of w.trail.path.items) next.trail → next.count ≡ w.count + 1 → next.trees ≡ w.trees → next.found ≡ found → IsJudgedCell g (path_of w.trail.path.items) w.found found tree → IsFinishedWalk g next tree
-cell_walk g w next found tree h l s k t f j = cell_finished g w next tree h l k s t j.branch (λ cells i. subst (IsFound g (cells ++ (path_of w.trail.path.items ∷ []))) (sym f) (j.shown cells i))
+cell_walk g w next found tree h l s k t f j = cell_finished g w next tree h l k s t (j.branch (knows_point g (path_of w.trail.path.items) w h.come)) (λ cells i. subst (IsFound g (cells ++ (path_of w.trail.path.items ∷ []))) (sym f) (j.shown cells i))
+
+-- what a cell is looked at with: its rows with the denied goal, which begin with those of its comparisons
+pub cell_stands : (g : Goal) (w : Walk) (path : List T.Taken) (list : List Row) (kept : ℕ) (e : E.End) → IsTypedGoal g → AreShort g → IsStandingWalk g w → IsEndOf g (path_of w.trail.path.items) e → e.plain ≡ false → path ≡ w.trail.path.items → AreRowsAt g (path_of w.trail.path.items) true list → kept ≡ length w.trail.rows.items → take (length w.trail.rows.items) list ≡ w.trail.rows.items → IsCellStand g (path_of path) list kept e
+cell_stands g w path list kept e t s h a n p r k f =
+    let ps = path_of w.trail.path.items in
+    subst (λ xs. IsCellStand g (path_of xs) list kept e) (sym p) (record {
+      typed = t;
+      front = come_front g ps w h.come;
+      end = a;
+      not_plain = n;
+      rows = r;
+      path_rows = subst (ArePathRows g ps) (sym (ap (λ m. take m list) k ∙ f)) h.stands.rows;
+      kept = starts_length w.trail.rows.items list kept f k;
+      short = s ps (come_asked g ps w h.come);
+    })
 
 -- ---- The start
 

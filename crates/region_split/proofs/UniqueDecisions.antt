@@ -2,15 +2,15 @@
 use Rattle.std.proofs.Common.{◌≡◌, ℕ, List, [], ◌∷◌, ◌++◌, length, refl, sym, ap, ap₂, ◌∙◌, subst, arith, length-append, true}
 use Rattle.std.specs.Prelude.{Option, Some, None}
 use Rattle.std.specs.List.{All}
-use Rattle.std.proofs.lemmas.List.Elements.{All-cons, All-head, All-tail}
-use Rattle.heyvl_num.specs.Rational.{Rational, zeroʳ}
+use Rattle.std.proofs.lemmas.List.Elements.{All-cons}
+use Rattle.heyvl_num.specs.Rational.{Rational}
 use Rattle.heylo_formula.specs.Goals.{Goal}
 use Rattle.heylo_formula.specs.declared.values.Val.{Val}
 use Rattle.linear_form.specs.Query.{Taken}
 use Rattle.linear_form.specs.Nonlinear.{nonlinear_product}
 use Rattle.linear_form.specs.PathRows.{IsPlainAt}
 use Rattle.linear_form.specs.Cells.{IsCell}
-use Rattle.linear_rows.specs.GreedyPoint.{End, Interval, Greedy, ChoosesFrom}
+use Rattle.linear_rows.specs.GreedyPoint.{Interval, Greedy, ChoosesFrom}
 use Rattle.linear_rows.proofs.exported.GreedyChoices.{choices_unique}
 use Rattle.linear_elim.specs.Answers.{ends_of, values_of}
 use Rattle.goal_answers.specs.declared.causes.Broken.{Broken}
@@ -27,9 +27,9 @@ use Rattle.region_split.specs.DecisionLaws.{AreAlike, IsSameBreak, GiveAlike, Is
 use Rattle.goal_answers.specs.declared.decisions.Decision.TheVariants.{Proved, Falsified, Unknown}
 use Rattle.region_split.proofs.PathAnswers.{same_rows}
 use Rattle.region_split.proofs.CellsFound.{breaks, no_ends}
-use Rattle.region_split.proofs.Climbing.{all_first, all_second}
+use Rattle.region_split.proofs.Climbing.{all_first, all_second, at_place}
 use Rattle.region_split.proofs.Leaves.{point_or_holds}
-use Rattle.region_split.proofs.UniqueEnds.{ends_unique, point_false, point_not_broken, point_unique}
+use Rattle.region_split.proofs.UniqueEnds.{the_end, ends_unique, point_false, point_not_broken, point_unique}
 use Rattle.region_split.proofs.UniqueWalks.{cells_unique, trees_alike, alike_depth, all_hold, kept_or_dropped, end_or_question, located}
 
 -- ---- Two places in a list
@@ -53,10 +53,6 @@ places (x ∷ es) a bs (y ∷ cs) c ds e = let f : x ∷ (es ++ (a ∷ bs)) ≡ 
 
 -- ---- One point, one break
 
-abbrev the_end : Option End → End
-the_end (Some e) = e
-the_end None = record { place = zeroʳ; inside = false }
-
 broken_parts : (b c : Broken) (ds es : List (ℕ × Rational)) → Greedy.broke b.var ds (ends_of b) ≡ Greedy.broke c.var es (ends_of c) → b.earlier.items ≡ values_of ds → c.earlier.items ≡ values_of es → IsSameBreak b c
 broken_parts b c ds es e h k =
     let v : b.var ≡ c.var = cc in
@@ -75,11 +71,6 @@ same_break : (g : Goal) (ps : List Taken) (b c : Broken) → IsBreakOf g ps b �
 same_break g ps b c p q =
     let e = same_rows g ps true q.rows p.rows q.are_rows p.are_rows in
     broken_parts b c p.broken.chosen q.broken.chosen (choices_unique p.rows g.types _ _ p.broken.solvable p.broken.choice (subst (λ rs. ChoosesFrom rs g.types (Greedy.broke c.var q.broken.chosen (ends_of c))) e q.broken.choice)) p.broken.earlier q.broken.earlier
-
--- what holds of a list holds at a place of it
-at_place : {A : Type 0} (P : A → Type 0) (es : List A) (a : A) (bs : List A) → All P (es ++ (a ∷ bs)) → P a
-at_place P [] a bs h = All-head P a bs h
-at_place P (x ∷ es) a bs h = at_place P es a bs (All-tail P x (es ++ (a ∷ bs)) h)
 
 -- What the ends of cells say of one of these.
 data EndsAt (g : Goal) (c : List Taken) (es : List (List Taken)) : Type 0 where

@@ -44,7 +44,7 @@ same_point g ps p q f a b =
     let e = same_rows g ps true b.rows a.rows b.are_rows a.are_rows in
     a.truths ∙ ap (with_truths ps 0) (points_unique a.rows g.types a.values b.values (rows_solvable g ps a.rows f a.are_rows) a.greedy (subst (λ rs. IsGreedyPoint rs g.types b.values) e b.greedy)) ∙ sym b.truths
 
-the_end : Option End → End
+abbrev pub the_end : Option End → End
 the_end (Some e) = e
 the_end None = record { place = zeroʳ; inside = false }
 

@@ -65,7 +65,7 @@ pub data IsLarge (g : Goal) : Type 0 where
   in_rows : (ps : List Taken) (cells : List (List Taken)) → IsReached g ps cells → rows_of g ps false ≡ None → IsLarge g
   in_denied_goal : (ps : List Taken) (cells : List (List Taken)) → IsReached g ps cells → IsDropped g ps → rows_of g ps true ≡ None → IsLarge g
   in_piece : (n : ℕ) (ps : List Taken) (cells : List (List Taken)) → IsLookedAt g n ps cells → rows_of g ps true ≡ None → IsLarge g
-  in_split : (n : ℕ) (ps : List Taken) (cells : List (List Taken)) (x : ℕ) (m : ℤ) → IsLookedAt g n ps cells → BreaksAbove g ps x m → is_narrow m ≡ false → IsLarge g
+  in_split : (n : ℕ) (ps : List Taken) (cells : List (List Taken)) (x : ℕ) (m : ℤ) → n < 8 → IsLookedAt g n ps cells → BreaksAbove g ps x m → is_narrow m ≡ false → IsLarge g
   in_elimination : (ps : List Taken) (rows : List Row) → Eliminates g ps rows → IsTooGreat rows g.types → IsShortLimited rows g.types → IsLarge g
 
 -- The first end among those of these cells whose greedy choice doesn't break gives the point. What lies behind it isn't split.

@@ -2,35 +2,29 @@
 
 ghost use Rattle.std.specs.Prelude.{◌≡◌, ◌++◌, ◌∷◌, [], IfOk, List, map, true, ℕ};
 ghost use Prim.Native.Nat.{suc};
-ghost use Rattle.heyvl_num.specs.Rounding.{floorʳ};
 ghost use Rattle.heylo_formula.specs.Goals.{Goal as PlainGoal, goal_of};
 ghost use Rattle.heylo_formula.specs.TypedGoals.{IsTypedGoal};
 ghost use Rattle.linear_form.specs.PlainPaths.{atom_of, path_of, taken_of};
 ghost use Rattle.linear_form.specs.Query.{Taken as PlainTaken, onto};
 ghost use Rattle.linear_form.specs.Splits.{split_at};
-ghost use Rattle.linear_values.specs.Operator.{narrow_value};
 ghost use Rattle.region_split.specs.Pieces.{IsSplitAt, first_half, second_half};
 ghost use Rattle.region_split.specs.internal.Seen.{IsBreakAt};
 ghost use Rattle.region_split.specs.internal.Progress.{IsBroken, IsClosed, IsPieceShown, IsPieceStand};
 
 use crate::front::End;
 use crate::growth::{joined_halves, leaf};
-use crate::known::copy_row;
+use crate::known::{copy_row, copy_value};
 use crate::points::with_path;
 use crate::solving::{Solved, solve_rows};
 use goal_answers::{Broken, Cause, Tree};
 use heylo_formula::{Goal, Val};
-use heyvl_num::Frac;
 use linear_form::{Atom, RowList, Taken, next_row, split, with_denied_goal};
 use linear_rows::Row;
-use linear_values::Lin;
+use linear_values::numbers::narrow;
 use std::alloc::{AllocError, Global};
 
 /// A piece isn't split below more splits than these.
 const MOST_SPLITS: u32 = 8;
-
-/// The whole numbers at which a piece may be split are below this one in absolute value.
-const BOUND: u128 = 4_611_686_018_427_387_904;
 
 /// What a piece of a cell shows.
 #[derive(Drop)]
@@ -102,7 +96,7 @@ pub fn broken_piece(
     if splits >= MOST_SPLITS {
         return Ok(Piece::Broke(Box::new(alloc, broken)?));
     }
-    match narrow_floor(&broken.low) {
+    match narrow(broken.low.floor()) {
         Some(bound) => {
             let at = Split {
                 variable: broken.var,
@@ -111,18 +105,6 @@ pub fn broken_piece(
             halves(alloc, goal, path, rows, end, splits, &at)
         }
         None => Ok(Piece::Unknown(Cause::Bits)),
-    }
-}
-
-/// The greatest whole number that isn't above the number; none where it reaches 2^62 in absolute value.
-fn narrow_floor(low: &Frac) -> Option<i64>
-    ensures { result ≡ narrow_value (floorʳ low.now) }
-{
-    let floor = low.floor();
-    if floor.unsigned_abs() < BOUND {
-        Some(floor as i64)
-    } else {
-        None
     }
 }
 
@@ -203,12 +185,10 @@ fn half(
     requires split { IsSplitAt (goal_of goal.now) splits (path_of path.now) at.now.variable at.now.bound }
     ensures { IfOk result (λ p. IsPieceShown (goal_of goal.now) (suc splits) (onto (path_of path.now) (split_at at.now.variable at.now.bound) held) p) }
 {
-    let answer = Taken {
-        atom: split(alloc, at.variable, at.bound)?,
-        held,
-    };
-    let longer = with_answer(alloc, path, answer)?;
-    match next_row(alloc, goal, &longer, copy_rows(alloc, rows)?)? {
+    let atom = split(alloc, at.variable, at.bound)?;
+    let longer = with_answer(alloc, path, Taken { atom, held })?;
+    let own = copy_rows(alloc, rows)?;
+    match next_row(alloc, goal, &longer, own)? {
         RowList::Rows(more) => piece(alloc, goal, &longer, &more, end, splits + 1),
         RowList::Bits => Ok(Piece::Unknown(Cause::Bits)),
     }
@@ -250,15 +230,7 @@ fn copy_atom(alloc: Global, atom: &Atom) -> Result<Atom, AllocError>
 {
     match atom {
         Atom::Truth(x) => Ok(Atom::Truth(*x)),
-        Atom::Row(left, strict) => {
-            let mut terms = Vec::new(alloc);
-            terms.extend_from_slice(&left.terms)?;
-            let left = Lin {
-                terms,
-                rest: left.rest,
-            };
-            Ok(Atom::Row(left, *strict))
-        }
+        Atom::Row(left, strict) => Ok(Atom::Row(copy_value(alloc, left)?, *strict)),
     }
 }
 

@@ -1,0 +1,174 @@
+use Prim.Native.Nat.{suc}
+use Rattle.std.proofs.Common.{◌≡◌, ℕ, length, refl, sym, ap, ◌∙◌, subst, arith, true, false}
+use Rattle.std.specs.Prelude.{Some}
+use Rattle.std.specs.List.{All}
+use Rattle.heylo_formula.specs.Goals.{goal_of}
+use Rattle.goal_answers.specs.declared.causes.Cause.TheVariants.{Bits}
+use Rattle.linear_form.specs.PlainPaths.{path_of}
+use Rattle.linear_form.specs.RowLists.{ArePathRows}
+use Rattle.linear_form.specs.Splits.{split_at}
+use Rattle.linear_form.specs.Query.{onto}
+use Rattle.linear_rows.specs.Row.{IsRow}
+use Rattle.linear_rows.specs.VariableTypes.{IsNumericRow}
+use Rattle.region_split.specs.Pieces.{HasFirstPoint}
+use Rattle.region_split.specs.internal.Progress.{IsPieceShown}
+use Rattle.region_split.proofs.PathAnswers.{no_rows}
+use Rattle.region_split.proofs.PieceSteps.{deepest_breaks, few_rows, few_variables, first_ends, half_is_path, half_lost, half_onto, half_stands, lacks_half, no_split_here, piece_closed, piece_ends, piece_given, split_here}
+use Rattle.region_split.proofs.Steps.{path_length, point_length}
+use Rattle.region_split.proofs.pieces.+splitting.Goals as goal
+
+-- ---- A piece, with its rows
+
+pub piece-with_denied_goal-requires-clause-path : goal.piece-with_denied_goal-requires-clause-path
+piece-with_denied_goal-requires-clause-path t c = c.requires.stands.is_path
+
+pub piece-with_denied_goal-requires-clause-ends : goal.piece-with_denied_goal-requires-clause-ends
+piece-with_denied_goal-requires-clause-ends t c = c.requires.stands.values
+
+pub piece-with_denied_goal-requires-clause-rows : goal.piece-with_denied_goal-requires-clause-rows
+piece-with_denied_goal-requires-clause-rows t c = subst (ArePathRows (goal_of c.args.goal.now) (path_of c.args.path.now)) (sym c.in_ok-own.ensures) c.requires.stands.rows
+
+pub piece-returns-in_default : goal.piece-returns-in_default
+piece-returns-in_default t c =
+    let g = goal_of c.args.goal.now in
+    let ps = path_of c.args.path.now in
+    piece_ends g c.args.splits ps Bits (no_rows g ps true (rw c.in_default.is at c.in_ok-list.ensures.rows))
+
+pub piece-solve_rows-requires-clause-rows : goal.piece-solve_rows-requires-clause-rows
+piece-solve_rows-requires-clause-rows t c = subst (All IsRow) (sym c.deref.ensures.value) (rw c.in-Rows.is at c.in_ok-list.ensures.normal)
+
+pub piece-solve_rows-requires-clause-numeric : goal.piece-solve_rows-requires-clause-numeric
+piece-solve_rows-requires-clause-numeric t c = subst (λ ts. All (IsNumericRow ts) c.deref.result.now) (sym c.deref-2.ensures.value) (subst (λ rs. All (IsNumericRow c.args.goal.now.vars.items) rs) (sym c.deref.ensures.value) (rw c.in-Rows.is at (c.in_ok-list.ensures.numeric c.requires.typed)))
+
+pub piece-solve_rows-requires-clause-few : goal.piece-solve_rows-requires-clause-few
+piece-solve_rows-requires-clause-few t c =
+    let g = goal_of c.args.goal.now in
+    let ps = path_of c.args.path.now in
+    let a = rw c.in-Rows.is at c.in_ok-list.ensures.few in
+    let b = ap length c.deref.ensures.value in
+    few_rows g c.args.splits ps c.args.rows.now c.args.end.now (length c.deref.result.now) (length c.args.path.now) c.requires.stands (path_length c.args.path.now (length c.args.path.now) refl) (omega (arith, a, b))
+
+pub piece-solve_rows-requires-clause-few_variables : goal.piece-solve_rows-requires-clause-few_variables
+piece-solve_rows-requires-clause-few_variables t c =
+    let v = ap length c.deref-2.ensures.value in
+    let f = few_variables (goal_of c.args.goal.now) c.args.splits (path_of c.args.path.now) c.args.rows.now c.args.end.now c.requires.stands in
+    omega (arith, v, f)
+
+pub piece-returns-in-Refuted : goal.piece-returns-in-Refuted
+piece-returns-in-Refuted t c =
+    let g = goal_of c.args.goal.now in
+    let ps = path_of c.args.path.now in
+    let h = c.in_ok-multipliers.ensures g ps true ((rw c.in-Rows.is at c.in_ok-list.ensures.rows) ∙ ap Some (sym c.deref.ensures.value)) (sym c.deref-2.ensures.value) in
+    piece_closed g c.args.splits ps c.args.rows.now c.args.end.now c.in-Refuted.multipliers c.leaf.result (length c.args.path.now) c.requires.stands (path_length c.args.path.now (length c.args.path.now) refl) c.leaf.ensures (rw c.in-Refuted.is at h)
+
+pub piece-with_path-requires : goal.piece-with_path-requires
+piece-with_path-requires t c =
+    let g = goal_of c.args.goal.now in
+    let ps = path_of c.args.path.now in
+    let h = c.in_ok-multipliers.ensures g ps true ((rw c.in-Rows.is at c.in_ok-list.ensures.rows) ∙ ap Some (sym c.deref.ensures.value)) (sym c.deref-2.ensures.value) in
+    let p = point_length g ps true c.in-Point.point.items (rw c.in-Point.is at h) in
+    let d = ap length c.deref-in-Point.ensures.value in
+    let f = few_variables g c.args.splits ps c.args.rows.now c.args.end.now c.requires.stands in
+    omega (arith, p, d, f)
+
+pub piece-returns-in_ok-with_path-in-Point : goal.piece-returns-in_ok-with_path-in-Point
+piece-returns-in_ok-with_path-in-Point t c =
+    let g = goal_of c.args.goal.now in
+    let ps = path_of c.args.path.now in
+    let h = c.in_ok-multipliers.ensures g ps true ((rw c.in-Rows.is at c.in_ok-list.ensures.rows) ∙ ap Some (sym c.deref.ensures.value)) (sym c.deref-2.ensures.value) in
+    piece_given g c.args.splits ps c.args.rows.now c.args.end.now c.in-Point.point.items _ c.requires.stands (rw c.in-Point.is at h) c.in_ok-with_path-in-Point.ensures
+
+pub piece-broken_piece-requires : goal.piece-broken_piece-requires
+piece-broken_piece-requires t c =
+    let g = goal_of c.args.goal.now in
+    let ps = path_of c.args.path.now in
+    let h = c.in_ok-multipliers.ensures g ps true ((rw c.in-Rows.is at c.in_ok-list.ensures.rows) ∙ ap Some (sym c.deref.ensures.value)) (sym c.deref-2.ensures.value) in
+    let d = c.decreases in
+    (omega (arith, d), record { typed = c.requires.typed; stands = c.requires.stands; breaks = rw c.in-Break.is at h })
+
+pub piece-returns : goal.piece-returns
+piece-returns t c =
+    let g = goal_of c.args.goal.now in
+    let ps = path_of c.args.path.now in
+    let h = c.in_ok-multipliers.ensures g ps true ((rw c.in-Rows.is at c.in_ok-list.ensures.rows) ∙ ap Some (sym c.deref.ensures.value)) (sym c.deref-2.ensures.value) in
+    piece_ends g c.args.splits ps c.in-Unknown.cause (rw c.in-Unknown.is at h)
+
+-- ---- A piece whose greedy choice breaks
+
+pub broken_piece-returns-in_ok-box : goal.broken_piece-returns-in_ok-box
+broken_piece-returns-in_ok-box t c = deepest_breaks (goal_of c.args.goal.now) c.args.splits (path_of c.args.path.now) c.args.rows.now c.args.end.now _ c.requires.typed c.requires.stands c.if-splits-ge-MOST_SPLITS.true c.requires.breaks
+
+pub broken_piece-halves-requires : goal.broken_piece-halves-requires
+broken_piece-halves-requires t c =
+    let d = c.decreases in
+    (omega (arith, d), record { typed = c.requires.typed; stands = c.requires.stands; split = split_here (goal_of c.args.goal.now) c.args.splits (path_of c.args.path.now) c.args.rows.now c.args.end.now c.args.broken c.floor.result c.in-Some.bound c.requires.stands c.if-splits-ge-MOST_SPLITS.false c.requires.breaks c.floor.ensures.value c.in-Some.ensures })
+
+pub broken_piece-returns : goal.broken_piece-returns
+broken_piece-returns t c = no_split_here (goal_of c.args.goal.now) c.args.splits (path_of c.args.path.now) c.args.broken c.floor.result c.if-splits-ge-MOST_SPLITS.false c.requires.breaks c.floor.ensures.value c.in-None.ensures
+
+-- ---- A piece that is split
+
+pub halves-half-requires : goal.halves-half-requires
+halves-half-requires t c = let d = c.decreases in let f = c.requires.split.few in (omega (arith, d, f), record { typed = c.requires.typed; stands = c.requires.stands; split = c.requires.split })
+
+pub halves-half-requires-in-Closed : goal.halves-half-requires-in-Closed
+halves-half-requires-in-Closed t c = let d = c.decreases in let f = c.requires.split.few in (omega (arith, d, f), record { typed = c.requires.typed; stands = c.requires.stands; split = c.requires.split })
+
+pub halves-half-requires-in-Broke : goal.halves-half-requires-in-Broke
+halves-half-requires-in-Broke t c = let d = c.decreases in let f = c.requires.split.few in (omega (arith, d, f), record { typed = c.requires.typed; stands = c.requires.stands; split = c.requires.split })
+
+pub halves-returns-in-Closed : goal.halves-returns-in-Closed
+halves-returns-in-Closed t c = c.behind_closed.ensures (goal_of c.args.goal.now) c.args.splits (path_of c.args.path.now) c.requires.split (rw c.in-Closed.is at c.in_ok-half.ensures) c.in_ok-second.ensures
+
+pub halves-returns-in-Broke : goal.halves-returns-in-Broke
+halves-returns-in-Broke t c = c.behind_broken.ensures (goal_of c.args.goal.now) c.args.splits (path_of c.args.path.now) c.requires.split (rw c.in-Broke.is at c.in_ok-half.ensures) c.in_ok-second-in-Broke.ensures
+
+pub halves-returns-in-Given : goal.halves-returns-in-Given
+halves-returns-in-Given t c = HasFirstPoint.first c.args.splits (path_of c.args.path.now) c.args.at.now.variable c.args.at.now.bound c.in-Given.point.items c.requires.split (rw c.in-Given.is at c.in_ok-half.ensures)
+
+pub halves-returns : goal.halves-returns
+halves-returns t c = first_ends (goal_of c.args.goal.now) c.args.splits (path_of c.args.path.now) c.args.at.now.variable c.args.at.now.bound c.in-Unknown.cause c.requires.split (rw c.in-Unknown.is at c.in_ok-half.ensures)
+
+-- ---- One half
+
+pub half-next_row-requires-clause-path : goal.half-next_row-requires-clause-path
+half-next_row-requires-clause-path t c =
+    let g = goal_of c.args.goal.now in
+    let ps = path_of c.args.path.now in
+    let x = c.args.at.now.variable in
+    let m = c.args.at.now.bound in
+    half_is_path g c.args.splits ps (path_of c.deref.result.now) x m c.args.held c.args.rows.now c.args.end.now c.requires.split c.requires.stands (ap path_of c.deref.ensures.value ∙ half_onto ps (path_of c.in_ok-longer.longer.items) x m _ c.args.held c.in_ok-longer.ensures c.in_ok-atom.ensures refl)
+
+pub half-next_row-requires-clause-rows : goal.half-next_row-requires-clause-rows
+half-next_row-requires-clause-rows t c =
+    let g = goal_of c.args.goal.now in
+    let ps = path_of c.args.path.now in
+    let x = c.args.at.now.variable in
+    let m = c.args.at.now.bound in
+    lacks_half g ps (path_of c.deref.result.now) x m c.args.held c.args.rows.now c.in_ok-own.own.items c.requires.stands.rows c.in_ok-own.ensures (ap path_of c.deref.ensures.value ∙ half_onto ps (path_of c.in_ok-longer.longer.items) x m _ c.args.held c.in_ok-longer.ensures c.in_ok-atom.ensures refl)
+
+pub half-piece-requires : goal.half-piece-requires
+half-piece-requires t c =
+    let g = goal_of c.args.goal.now in
+    let ps = path_of c.args.path.now in
+    let x = c.args.at.now.variable in
+    let m = c.args.at.now.bound in
+    let d = c.decreases in
+    let f = c.requires.split.few in
+    (omega (arith, d, f), record { typed = c.requires.typed; stands = half_stands g c.args.splits ps (path_of c.deref-in-Rows.result.now) x m c.args.held c.args.rows.now c.deref-in-Rows-2.result.now c.args.end.now c.requires.split c.requires.stands (ap path_of c.deref-in-Rows.ensures.value ∙ half_onto ps (path_of c.in_ok-longer.longer.items) x m _ c.args.held c.in_ok-longer.ensures c.in_ok-atom.ensures refl) (subst (ArePathRows g (path_of c.deref-in-Rows.result.now)) (sym c.deref-in-Rows-2.ensures.value) (record { are_rows = rw c.in-Rows.is at c.in_ok-more.ensures })) })
+
+pub half-returns-in-Rows : goal.half-returns-in-Rows
+half-returns-in-Rows t c =
+    let g = goal_of c.args.goal.now in
+    let ps = path_of c.args.path.now in
+    let x = c.args.at.now.variable in
+    let m = c.args.at.now.bound in
+    c.piece.ensures
+
+pub half-returns : goal.half-returns
+half-returns t c =
+    let g = goal_of c.args.goal.now in
+    let ps = path_of c.args.path.now in
+    let x = c.args.at.now.variable in
+    let m = c.args.at.now.bound in
+    half_lost g (suc c.args.splits) (onto ps (split_at x m) c.args.held) (path_of c.deref.result.now) (ap path_of c.deref.ensures.value ∙ half_onto ps (path_of c.in_ok-longer.longer.items) x m _ c.args.held c.in_ok-longer.ensures c.in_ok-atom.ensures refl) (rw c.in-Bits.is at c.in_ok-more.ensures)
