@@ -2,7 +2,7 @@
 use Prim.Native.Nat.{suc}
 use Rattle.std.proofs.Common.{◌≡◌, ℕ, ℤ, ◌+◌, ◌<◌, ◌≤◌, ◌^◌, List, [], ◌∷◌, ◌++◌, length, take, refl, sym, ap, ◌∙◌, subst, arith, length-append, Vec, Global, Bool, true, false}
 use Rattle.std.specs.List.{All}
-use Rattle.std.specs.Prelude.{Option, None, Some, cond}
+use Rattle.std.specs.Prelude.{Option, None, Some, cond, Result, IfOk}
 use Rattle.std.proofs.lemmas.List.Elements.{All-append, All-cons, All-nil}
 use Rattle.heyvl_num.specs.Rounding.{floorʳ}
 use Rattle.heylo_formula.specs.Goals.{Goal}
@@ -44,7 +44,8 @@ use Rattle.region_split.specs.Decisions.{IsLarge, IsLookedAt}
 use Rattle.region_split.specs.PathPoints.{Breaks, IsBreakOf, with_truths}
 use Rattle.region_split.specs.Pieces.{AreEnds, BreaksAbove, HasFirstPoint, IsPieceOf, IsSplitAt, first_half, second_half}
 use Rattle.region_split.specs.declared.front.End as E
-use Rattle.region_split.specs.internal.Progress.{EndsPiece, IsBroken, IsCellStand, IsClosed, IsLeaf, IsPieceStand}
+use Rattle.region_split.specs.internal.Progress.{EndsPiece, IsBroken, IsCellStand, IsClosed, IsLeaf, IsPieceShown, IsPieceStand}
+use Rattle.region_split.specs.declared.pieces.Piece.{Piece}
 use Rattle.region_split.specs.internal.Seen.{EndsWalk, IsBreakAt, IsPointAt}
 
 -- ---- Where a walk ends
@@ -159,6 +160,10 @@ piece_closed g n ps rows e ms tree k s l t r = let f = the_ends g ps e s.values 
 
 pub piece_given : (g : Goal) (n : ℕ) (ps : List Taken) (rows : List Row) (e : E.End) (values point : List Val) → IsPieceStand g n ps rows e → IsPointAt g ps true values → point ≡ with_truths ps 0 values → HasFirstPoint g n ps point
 piece_given g n ps rows e values point s p t = HasFirstPoint.whole n ps point (point_is_false g ps values s.not_plain p) (point_of g ps values point p t)
+
+-- what a piece shows, told of an equal path
+pub same_shown : {E : Type 0} (g : Goal) (n m : ℕ) (ps qs : List Taken) (r : Result Piece E) → n ≡ m → ps ≡ qs → IfOk r (λ p. IsPieceShown g n ps p) → IfOk r (λ p. IsPieceShown g m qs p)
+same_shown g n m ps qs r e k h = subst (λ i. IfOk r (λ p. IsPieceShown g i qs p)) e (subst (λ xs. IfOk r (λ p. IsPieceShown g n xs p)) k h)
 
 -- ---- A cell is the first piece
 

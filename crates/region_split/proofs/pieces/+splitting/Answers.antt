@@ -1,5 +1,5 @@
 use Prim.Native.Nat.{suc}
-use Rattle.std.proofs.Common.{◌≡◌, ℕ, length, refl, sym, ap, ◌∙◌, subst, arith, true, false}
+use Rattle.std.proofs.Common.{◌≡◌, ℕ, ◌+◌, length, refl, sym, ap, ◌∙◌, subst, arith, true, false}
 use Rattle.std.specs.Prelude.{Some}
 use Rattle.std.specs.List.{All}
 use Rattle.heylo_formula.specs.Goals.{goal_of}
@@ -11,9 +11,9 @@ use Rattle.linear_form.specs.Query.{onto}
 use Rattle.linear_rows.specs.Row.{IsRow}
 use Rattle.linear_rows.specs.VariableTypes.{IsNumericRow}
 use Rattle.region_split.specs.Pieces.{HasFirstPoint}
-use Rattle.region_split.specs.internal.Progress.{IsPieceShown}
+use Rattle.region_split.specs.internal.Progress.{IsBroken, IsPieceShown}
 use Rattle.region_split.proofs.PathAnswers.{no_rows}
-use Rattle.region_split.proofs.PieceSteps.{deepest_breaks, few_rows, few_variables, first_ends, half_is_path, half_lost, half_onto, half_stands, lacks_half, no_split_here, piece_closed, piece_ends, piece_given, split_here}
+use Rattle.region_split.proofs.PieceSteps.{same_shown, deepest_breaks, few_rows, few_variables, first_ends, half_is_path, half_lost, half_onto, half_stands, lacks_half, no_split_here, piece_closed, piece_ends, piece_given, split_here}
 use Rattle.region_split.proofs.Steps.{path_length, point_length}
 use Rattle.region_split.proofs.pieces.+splitting.Goals as goal
 
@@ -95,8 +95,11 @@ piece-returns t c =
 
 -- ---- A piece whose greedy choice breaks
 
-pub broken_piece-returns-in_ok-box : goal.broken_piece-returns-in_ok-box
-broken_piece-returns-in_ok-box t c = deepest_breaks (goal_of c.args.goal.now) c.args.splits (path_of c.args.path.now) c.args.rows.now c.args.end.now _ c.requires.typed c.requires.stands c.if-splits-ge-MOST_SPLITS.true c.requires.breaks
+pub broken_piece-returns-in_ok-new-then-splits-ge-MOST_SPLITS : goal.broken_piece-returns-in_ok-new-then-splits-ge-MOST_SPLITS
+broken_piece-returns-in_ok-new-then-splits-ge-MOST_SPLITS t c =
+    let g = goal_of c.args.goal.now in
+    let ps = path_of c.args.path.now in
+    subst (IsBroken g c.args.splits ps) (sym c.in_ok-new-then-splits-ge-MOST_SPLITS.ensures.ok) (deepest_breaks g c.args.splits ps c.args.rows.now c.args.end.now c.args.broken c.requires.typed c.requires.stands c.if-splits-ge-MOST_SPLITS.true c.requires.breaks)
 
 pub broken_piece-halves-requires : goal.broken_piece-halves-requires
 broken_piece-halves-requires t c =
@@ -163,7 +166,8 @@ half-returns-in-Rows t c =
     let ps = path_of c.args.path.now in
     let x = c.args.at.now.variable in
     let m = c.args.at.now.bound in
-    c.piece.ensures
+    let n : c.args.splits + 1 ≡ suc c.args.splits = omega arith in
+    same_shown g _ (suc c.args.splits) _ (onto ps (split_at x m) c.args.held) c.piece.result n (ap path_of c.deref-in-Rows.ensures.value ∙ half_onto ps (path_of c.in_ok-longer.longer.items) x m _ c.args.held c.in_ok-longer.ensures c.in_ok-atom.ensures refl) c.piece.ensures
 
 pub half-returns : goal.half-returns
 half-returns t c =
