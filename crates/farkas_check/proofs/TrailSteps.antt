@@ -99,6 +99,13 @@ split_here g now s x e h = subst (λ ps. CanSplit g (path_of ps) x) e h
 pub behind : (P : List Taken → Type 0) (s here t : Trail) (g : Goal) (p : T.Taken) → IsLonger g here p t → IsSame s here → P (path_of t.path.items) → P (onto (path_of s.path.items) (atom_of p.atom) p.held)
 behind P s here t g p l h k = subst (λ ps. P (onto (path_of ps) (atom_of p.atom) p.held)) h.path (subst P (ap path_of l.path ∙ path_of-append here.path.items p) k)
 
+-- the same of the other answer, to the question copied
+pub behind_again : (P : List Taken → Type 0) (s here t : Trail) (g : Goal) (q r : A.Atom) → IsLonger g here (record { atom = r; held = false }) t → IsSame s here → atom_of r ≡ atom_of q → P (path_of t.path.items) → P (onto (path_of s.path.items) (atom_of q) false)
+behind_again P s here t g q r l h e k = subst (λ a. P (onto (path_of s.path.items) a false)) e (behind P s here t g (record { atom = r; held = false }) l h k)
+
+pub same_place : (g : Goal) (s t : Trail) (p : Place) → IsSame s t → IsOn g (path_of s.path.items) p → IsOn g (path_of t.path.items) p
+same_place g s t p h k = subst (λ ps. IsOn g (path_of ps) p) (sym h.path) k
+
 -- ---- Before the first question
 
 pub first_trail : (g : Goal) (s : Trail) → s.path.items ≡ [] → s.rows.items ≡ [] → s.stated ≡ true → IsTrail g s

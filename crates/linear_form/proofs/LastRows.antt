@@ -1,18 +1,17 @@
 -- The rows of a path with one more answer, from those of the answer alone.
 use Rattle.std.proofs.Common.{◌≡◌, List, [], ◌∷◌, ◌++◌, length, sym, ap, ap₂, ◌∙◌, subst, arith, Bool}
-use Rattle.std.specs.Prelude.{Option, Some, None}
+use Rattle.std.specs.Prelude.{Some, None}
 use Rattle.heylo_formula.specs.Goals.{Goal}
 use Rattle.heylo_formula.specs.Typing.{Types, types_in}
 use Rattle.heylo_formula.specs.declared.types.Ty.{Ty}
 use Rattle.linear_rows.specs.Row.{Row}
 use Rattle.linear_form.specs.Query.{Atom, Taken, onto}
 use Rattle.linear_values.specs.Tightening.{Claim, all_tightened}
-use Rattle.linear_form.specs.PathRows.{answer_claims, path_claims, claims_of, rows_of}
+use Rattle.linear_form.specs.PathRows.{answer_claims, path_claims, rows_of}
 use Rattle.linear_form.specs.PlainPaths.{path_of, taken_of, atom_of}
 use Rattle.linear_form.specs.RowLists.{Lists, ArePathRows, AreLastRows}
 use Rattle.linear_form.specs.internal.FurtherRows.{rows_with}
 use Rattle.linear_form.specs.declared.path_rows.RowList.{RowList}
-use Rattle.linear_form.specs.declared.path_rows.RowList.TheVariants.{Rows}
 use Rattle.linear_form.specs.declared.paths.Taken as T
 use Rattle.linear_form.proofs.RowsOfClaims.{joined, none_before, tightened_append}
 use Rattle.linear_form.proofs.PathRowSteps.{claims_onto}

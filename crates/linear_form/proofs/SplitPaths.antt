@@ -1,7 +1,6 @@
 -- Paths with splits behind their questions.
 use Rattle.std.proofs.Common.{◌≡◌, ◌⊎◌, ℕ, List, [], ◌∷◌, ◌++◌, refl, sym, ap, ◌∙◌, subst, Bool, true, false, cond, inl, inr, append_assoc}
 use Rattle.std.specs.Prelude.{ℤ}
-use Rattle.std.specs.List.{All}
 use Rattle.std.proofs.lemmas.List.{append-nil}
 use Rattle.std.proofs.lemmas.List.Elements.{All-nil, All-push}
 use Rattle.heylo_formula.specs.Goals.{Goal}
@@ -31,11 +30,11 @@ walk_past : {A : Type 0} (t : Query A) (qs ss : List Taken) (a : A) → walk t q
 walk_past (done b) qs ss a e = e
 walk_past bits qs ss a e = absurd (cc)
 walk_past (ask q y n) [] ss a e = absurd (cc)
-walk_past {A} (ask q y n) (p ∷ qs) ss a e = go p.held e
+walk_past {A} (ask q y n) (p ∷ qs) ss a e = go p.held e (walk_past y qs ss a) (walk_past n qs ss a)
   where
-    go : (b : Bool) → cond b (walk y qs) (walk n qs) ≡ done a → cond b (walk y (qs ++ ss)) (walk n (qs ++ ss)) ≡ done a
-    go true k = walk_past y qs ss a k
-    go false k = walk_past n qs ss a k
+    go : (b : Bool) → cond b (walk y qs) (walk n qs) ≡ done a → (walk y qs ≡ done a → walk y (qs ++ ss) ≡ done a) → (walk n qs ≡ done a → walk n (qs ++ ss) ≡ done a) → cond b (walk y (qs ++ ss)) (walk n (qs ++ ss)) ≡ done a
+    go true k f g = f k
+    go false k f g = g k
 
 pub end_same : (g : Goal) (ps : List Taken) (h : IsPath g ps) → end_at g ps ≡ end_at g h.asked
 end_same g ps h = go h.at_end

@@ -1,10 +1,10 @@
-use Rattle.std.proofs.Common.{refl, inl, inr, ◌∙◌, true, false}
+use Rattle.std.proofs.Common.{refl, sym, ap, length, inl, inr, ◌∙◌, true, false}
 use Rattle.heylo_formula.specs.Goals.{goal_of}
 use Rattle.linear_form.specs.Query.{Taken}
 use Rattle.linear_form.specs.PlainPaths.{path_of, atom_of}
 use Rattle.goal_answers.specs.Trees.{tree_of}
 use Rattle.farkas_check.specs.Accepted.{IsAccepted, IsRefused}
-use Rattle.farkas_check.proofs.TrailSteps.{path_here, place_here, place_back, split_here, again_onto, longer_trail, longer_place, restored, same_again, same_stated, behind}
+use Rattle.farkas_check.proofs.TrailSteps.{path_here, place_here, place_back, split_here, again_onto, longer_trail, longer_place, restored, same_stated, same_place, behind, behind_again}
 use Rattle.farkas_check.proofs.Judging.{asked, ended_unasked, bits_unasked, question_onto, halves_onto, no_question_here, no_split_here, not_plain_here, split_found, whole_found, plain_found, multipliers_found, same_trail, lower_split, lower_whole, lower_first, lower_second}
 use Rattle.farkas_check.proofs.checking.+judging.Goals as goal
 
@@ -75,3 +75,24 @@ judge_both-further-requires-clause-rows t c =
     let j = rw c.in-Accepted.is at c.in_ok-judge.ensures in
     let h = restored (goal_of c.args.goal.now) c.args.trail c.in_ok-yes.yes c.in-Accepted.back c.shorter.result _ c.len.result c.args.trail.stated c.in_ok-yes.ensures j.0 c.len.ensures refl c.shorter.ensures.path c.shorter.ensures.rows c.shorter.ensures.stated in
     same_stated (goal_of c.args.goal.now) c.args.trail c.shorter.result h c.requires.trail.rows
+
+pub judge_both-judge-requires-in-Accepted : goal.judge_both-judge-requires-in-Accepted
+judge_both-judge-requires-in-Accepted t c =
+    let j = rw c.in-Accepted.is at c.in_ok-judge.ensures in
+    let h = restored (goal_of c.args.goal.now) c.args.trail c.in_ok-yes.yes c.in-Accepted.back c.shorter.result _ c.len.result c.args.trail.stated c.in_ok-yes.ensures j.0 c.len.ensures refl c.shorter.ensures.path c.shorter.ensures.rows c.shorter.ensures.stated in
+    (lower_second _ _ _ c.decreases, record { trail = longer_trail (goal_of c.args.goal.now) c.shorter.result c.in_ok-no.no _ c.in_ok-no.ensures (again_onto (goal_of c.args.goal.now) c.args.trail c.shorter.result c.args.atom c.in_ok-again.again h c.in_ok-again.ensures c.requires.answers); on = longer_place (goal_of c.args.goal.now) c.shorter.result c.in_ok-no.no _ c.args.place.now c.in_ok-no.ensures (same_place (goal_of c.args.goal.now) c.args.trail c.shorter.result c.args.place.now h c.requires.on) })
+
+pub judge_both-returns-in-Refused-2 : goal.judge_both-returns-in-Refused-2
+judge_both-returns-in-Refused-2 t c =
+    let j = rw c.in-Accepted.is at c.in_ok-judge.ensures in
+    let h = restored (goal_of c.args.goal.now) c.args.trail c.in_ok-yes.yes c.in-Accepted.back c.shorter.result _ c.len.result c.args.trail.stated c.in_ok-yes.ensures j.0 c.len.ensures refl c.shorter.ensures.path c.shorter.ensures.rows c.shorter.ensures.stated in
+    inr (behind (λ ps. IsAccepted (goal_of c.args.goal.now) ps (tree_of c.args.first.now)) c.args.trail c.args.trail c.in_ok-yes.yes (goal_of c.args.goal.now) _ c.in_ok-yes.ensures (same_trail c.args.trail) j.1, behind_again (λ ps. IsRefused (goal_of c.args.goal.now) ps (tree_of c.args.second.now) _) c.args.trail c.shorter.result c.in_ok-no.no (goal_of c.args.goal.now) c.args.atom c.in_ok-again.again c.in_ok-no.ensures h c.in_ok-again.ensures (rw c.in-Refused-2.is at c.in_ok-judge-in-Accepted.ensures))
+
+pub judge_both-returns-in-Accepted-2 : goal.judge_both-returns-in-Accepted-2
+judge_both-returns-in-Accepted-2 t c =
+    let j = rw c.in-Accepted.is at c.in_ok-judge.ensures in
+    let h = restored (goal_of c.args.goal.now) c.args.trail c.in_ok-yes.yes c.in-Accepted.back c.shorter.result _ c.len.result c.args.trail.stated c.in_ok-yes.ensures j.0 c.len.ensures refl c.shorter.ensures.path c.shorter.ensures.rows c.shorter.ensures.stated in
+    let k = rw c.in-Accepted-2.is at c.in_ok-judge-in-Accepted.ensures in
+    (same_again c.args.trail c.shorter.result c.shorter-in-Accepted-2.result h (restored (goal_of c.args.goal.now) c.shorter.result c.in_ok-no.no c.in-Accepted-2.back c.shorter-in-Accepted-2.result _ c.len.result c.args.trail.stated c.in_ok-no.ensures k.0 (c.len.ensures ∙ ap length (sym h.rows)) (sym h.stated) c.shorter-in-Accepted-2.ensures.path c.shorter-in-Accepted-2.ensures.rows c.shorter-in-Accepted-2.ensures.stated),
+      (behind (λ ps. IsAccepted (goal_of c.args.goal.now) ps (tree_of c.args.first.now)) c.args.trail c.args.trail c.in_ok-yes.yes (goal_of c.args.goal.now) _ c.in_ok-yes.ensures (same_trail c.args.trail) j.1,
+        behind_again (λ ps. IsAccepted (goal_of c.args.goal.now) ps (tree_of c.args.second.now)) c.args.trail c.shorter.result c.in_ok-no.no (goal_of c.args.goal.now) c.args.atom c.in_ok-again.again c.in_ok-no.ensures h c.in_ok-again.ensures k.1))
