@@ -1,6 +1,6 @@
 //! What stands at the end of a trail.
 
-ghost use Rattle.std.specs.Prelude.{◌≡◌, ◌↔◌, Bool, IsTrue, IfOk, List, map};
+ghost use Rattle.std.specs.Prelude.{◌≡◌, ◌↔◌, Bool, IsTrue, IfOk, List, false, map};
 ghost use Rattle.heylo_formula.specs.Goals.{goal_of};
 ghost use Rattle.heylo_formula.specs.Typing.{types_in};
 ghost use Rattle.linear_rows.specs.VariableTypes.{is_integral};
@@ -81,7 +81,11 @@ pub fn can_split<'a>(
     match ask_there(alloc, goal, place, path)? {
         Ask::Decide(_) => Ok(false),
         Ask::End(stated, found) => {
-            Ok(!holds_plainly(goal.upper, &stated, &found) && is_whole(&goal.vars, variable))
+            if holds_plainly(goal.upper, &stated, &found) {
+                Ok(false)
+            } else {
+                Ok(is_whole(&goal.vars, variable))
+            }
         }
         Ask::Bits => Ok(false),
     }

@@ -43,7 +43,7 @@ pub fn further(
 ) -> Result<Trail, AllocError>
     requires path { IsPath (goal_of goal.now) (onto (path_of trail.path.items) (atom_of answer.atom) answer.held) }
     requires rows { IsStated (goal_of goal.now) (path_of trail.path.items) trail.rows.items trail.stated }
-    ensures { IfOk result (IsLonger (goal_of goal.now) trail.entry answer) }
+    ensures { IfOk result (IsLonger (goal_of goal.now) trail answer) }
 {
     trail.path.push(answer)?;
     if !trail.stated {
@@ -63,8 +63,8 @@ pub fn further(
 
 /// The trail without its last answer, where it had this many rows before, and each comparison had its row or not.
 pub fn shorter(mut trail: Trail, count: usize, stated: bool) -> Trail
-    ensures path { (before : List TakenValue) (last : TakenValue) → trail.entry.path.items ≡ before ++ last ∷ [] → result.path.items ≡ before }
-    ensures rows { result.rows.items ≡ take count trail.entry.rows.items }
+    ensures path { (before : List TakenValue) (last : TakenValue) → trail.path.items ≡ before ++ last ∷ [] → result.path.items ≡ before }
+    ensures rows { result.rows.items ≡ take count trail.rows.items }
     ensures stated { result.stated ≡ stated }
 {
     trail.path.pop();

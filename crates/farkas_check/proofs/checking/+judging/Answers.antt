@@ -92,7 +92,10 @@ pub judge_both-returns-in-Accepted-2 : goal.judge_both-returns-in-Accepted-2
 judge_both-returns-in-Accepted-2 t c =
     let j = rw c.in-Accepted.is at c.in_ok-judge.ensures in
     let h = restored (goal_of c.args.goal.now) c.args.trail c.in_ok-yes.yes c.in-Accepted.back c.shorter.result _ c.len.result c.args.trail.stated c.in_ok-yes.ensures j.0 c.len.ensures refl c.shorter.ensures.path c.shorter.ensures.rows c.shorter.ensures.stated in
-    let k = rw c.in-Accepted-2.is at c.in_ok-judge-in-Accepted.ensures in
-    (same_again c.args.trail c.shorter.result c.shorter-in-Accepted-2.result h (restored (goal_of c.args.goal.now) c.shorter.result c.in_ok-no.no c.in-Accepted-2.back c.shorter-in-Accepted-2.result _ c.len.result c.args.trail.stated c.in_ok-no.ensures k.0 (c.len.ensures ∙ ap length (sym h.rows)) (sym h.stated) c.shorter-in-Accepted-2.ensures.path c.shorter-in-Accepted-2.ensures.rows c.shorter-in-Accepted-2.ensures.stated),
-      (behind (λ ps. IsAccepted (goal_of c.args.goal.now) ps (tree_of c.args.first.now)) c.args.trail c.args.trail c.in_ok-yes.yes (goal_of c.args.goal.now) _ c.in_ok-yes.ensures (same_trail c.args.trail) j.1,
-        behind_again (λ ps. IsAccepted (goal_of c.args.goal.now) ps (tree_of c.args.second.now)) c.args.trail c.shorter.result c.in_ok-no.no (goal_of c.args.goal.now) c.args.atom c.in_ok-again.again c.in_ok-no.ensures h c.in_ok-again.ensures k.1))
+    let k = rw c.in-Accepted-2.is at c.in_ok-judge-in-Accepted.ensures in (
+      same_again c.args.trail c.shorter.result c.shorter-in-Accepted-2.result h (restored (goal_of c.args.goal.now) c.shorter.result c.in_ok-no.no c.in-Accepted-2.back c.shorter-in-Accepted-2.result _ c.len.result c.args.trail.stated c.in_ok-no.ensures k.0 (c.len.ensures ∙ ap length (sym h.rows)) (sym h.stated) c.shorter-in-Accepted-2.ensures.path c.shorter-in-Accepted-2.ensures.rows c.shorter-in-Accepted-2.ensures.stated),
+      (
+        behind (λ ps. IsAccepted (goal_of c.args.goal.now) ps (tree_of c.args.first.now)) c.args.trail c.args.trail c.in_ok-yes.yes (goal_of c.args.goal.now) _ c.in_ok-yes.ensures (same_trail c.args.trail) j.1,
+        behind_again (λ ps. IsAccepted (goal_of c.args.goal.now) ps (tree_of c.args.second.now)) c.args.trail c.shorter.result c.in_ok-no.no (goal_of c.args.goal.now) c.args.atom c.in_ok-again.again c.in_ok-no.ensures h c.in_ok-again.ensures k.1,
+      ),
+    )

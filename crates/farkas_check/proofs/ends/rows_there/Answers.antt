@@ -14,8 +14,8 @@ returns-then-holds_plainly-clause-rows c = ok_then c.with_signs-then-holds_plain
 pub with_denied_goal-requires-clause-ends : goal.with_denied_goal-requires-clause-ends
 with_denied_goal-requires-clause-ends c = rw c.in-End.is at c.in_ok-ask_there.ensures
 
-pub returns-else-holds_plainly-clause-rows : goal.returns-else-holds_plainly-clause-rows
-returns-else-holds_plainly-clause-rows c = ok_then c.with_denied_goal.result _ _ (λ r h. rows_denied (goal_of c.args.goal.now) (path_of c.args.path.now) r _ (end_denied (goal_of c.args.goal.now) (path_of c.args.path.now) c.in-End.stated c.in-End.found c.holds_plainly.result (rw c.in-End.is at c.in_ok-ask_there.ensures) c.holds_plainly.ensures ∙ ap not c.if-holds_plainly.false) h) c.with_denied_goal.ensures.rows
+pub returns-in-End-clause-rows : goal.returns-else-holds_plainly-clause-rows
+returns-in-End-clause-rows c = ok_then c.with_denied_goal.result _ _ (λ r h. rows_denied (goal_of c.args.goal.now) (path_of c.args.path.now) r _ (end_denied (goal_of c.args.goal.now) (path_of c.args.path.now) c.in-End.stated c.in-End.found c.holds_plainly.result (rw c.in-End.is at c.in_ok-ask_there.ensures) c.holds_plainly.ensures ∙ ap not c.if-holds_plainly.false) h) c.with_denied_goal.ensures.rows
 
-pub returns-in-Bits-clause-rows : goal.returns-in-Bits-clause-rows
-returns-in-Bits-clause-rows c = ok_then c.with_signs-in-Bits.result _ _ (λ r h. rows_denied (goal_of c.args.goal.now) (path_of c.args.path.now) r _ (bits_undenied (goal_of c.args.goal.now) (path_of c.args.path.now) (rw c.in-Bits.is at c.in_ok-ask_there.ensures)) h) c.with_signs-in-Bits.ensures.rows
+pub returns-clause-rows : goal.returns-clause-rows
+returns-clause-rows c = ok_then c.with_signs-in-Bits.result _ _ (λ r h. rows_denied (goal_of c.args.goal.now) (path_of c.args.path.now) r _ (bits_undenied (goal_of c.args.goal.now) (path_of c.args.path.now) (rw c.in-Bits.is at c.in_ok-ask_there.ensures)) h) c.with_signs-in-Bits.ensures.rows

@@ -6,11 +6,11 @@ use Rattle.farkas_check.proofs.trail.further.Goals as goal
 pub last_rows-requires : goal.last_rows-requires
 last_rows-requires c = longer_path (goal_of c.args.goal.now) c.args.trail c.deref.result.now c.args.answer (c.deref.ensures.value ∙ c.in_ok-push.ensures.items) c.requires.path
 
-pub returns-then-stated : goal.returns-then-stated
-returns-then-stated c = still_lost (goal_of c.args.goal.now) c.args.trail _ c.args.answer c.requires.rows c.if-stated.true c.in_ok-push.ensures.items refl refl
+pub returns-then-not-trail : goal.returns-then-not-trail
+returns-then-not-trail c = still_lost (goal_of c.args.goal.now) c.args.trail _ c.args.answer c.requires.rows c.if-not-trail.true c.in_ok-push.ensures.items refl refl
 
 pub returns-in_ok-append-in-Rows : goal.returns-in_ok-append-in-Rows
-returns-in_ok-append-in-Rows c = more_stated (goal_of c.args.goal.now) c.args.trail _ c.deref.result.now c.args.answer _ c.in-Rows.more c.requires.rows c.if-stated.false c.in_ok-last_rows.ensures (c.deref.ensures.value ∙ c.in_ok-push.ensures.items) c.in-Rows.is c.in_ok-push.ensures.items c.in_ok-append.ensures.items c.if-stated.false
+returns-in_ok-append-in-Rows c = more_stated (goal_of c.args.goal.now) c.args.trail _ c.deref.result.now c.args.answer _ c.in-Rows.more c.requires.rows c.if-not-trail.false c.in_ok-last_rows.ensures (c.deref.ensures.value ∙ c.in_ok-push.ensures.items) c.in-Rows.is c.in_ok-push.ensures.items c.in_ok-append.ensures.items c.if-not-trail.false
 
 pub returns-in-Bits : goal.returns-in-Bits
-returns-in-Bits c = lost_now (goal_of c.args.goal.now) c.args.trail _ c.deref.result.now c.args.answer _ c.requires.rows c.if-stated.false c.in_ok-last_rows.ensures (c.deref.ensures.value ∙ c.in_ok-push.ensures.items) c.in-Bits.is c.in_ok-push.ensures.items refl refl
+returns-in-Bits c = lost_now (goal_of c.args.goal.now) c.args.trail _ c.deref.result.now c.args.answer _ c.requires.rows c.if-not-trail.false c.in_ok-last_rows.ensures (c.deref.ensures.value ∙ c.in_ok-push.ensures.items) c.in-Bits.is c.in_ok-push.ensures.items refl refl
