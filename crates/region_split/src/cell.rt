@@ -82,9 +82,7 @@ fn open_cell(
             Ok(Piece::Closed(leaf(Tree::Farkas(multipliers), path.len())))
         }
         Solved::Point(point) => Ok(Piece::Given(with_path(alloc, path, &point)?)),
-        Solved::Break(broken) => {
-            broken_piece(alloc, goal, path, &list[..kept], end, 0, broken)
-        }
+        Solved::Break(broken) => { broken_piece(alloc, goal, path, &list[..kept], end, 0, broken) }
         Solved::Unknown(cause) => Ok(Piece::Unknown(cause)),
     }
 }
