@@ -41,11 +41,11 @@ breaks g ps b p = record { rows = p.rows; are_rows = p.are_rows; var = b.var; ea
 -- cells at which the goal holds have none
 pub no_ends : (g : Goal) (cells : List (List Taken)) → All (HoldsAt g) cells → EndsOf g cells []
 no_ends g [] h = EndsOf.start
-no_ends g (ps ∷ cells) h = go (All-head (HoldsAt g) ps cells h)
+no_ends g (ps ∷ cells) h = go (All-head (HoldsAt g) ps cells h) (no_ends g cells (All-tail (HoldsAt g) ps cells h))
   where
-    go : HoldsAt g ps → EndsOf g (ps ∷ cells) []
-    go (inl p) = EndsOf.plain ps cells [] p (no_ends g cells (All-tail (HoldsAt g) ps cells h))
-    go (inr a) = EndsOf.pieces ps cells [] [] a (no_ends g cells (All-tail (HoldsAt g) ps cells h))
+    go : HoldsAt g ps → EndsOf g cells [] → EndsOf g (ps ∷ cells) []
+    go (inl p) e = EndsOf.plain ps cells [] p e
+    go (inr a) e = EndsOf.pieces ps cells [] [] a e
 
 -- one cell more, behind the others
 pub ends_longer : (g : Goal) (cells : List (List Taken)) (ps : List Taken) (es fs : List (List Taken)) → EndsOf g cells es → AreEnds g 0 ps fs → EndsOf g (cells ++ (ps ∷ [])) (es ++ fs)

@@ -22,11 +22,11 @@ walk_past : {A : Type 0} (t : Query A) (qs ss : List Taken) (a : A) → walk t q
 walk_past (done b) qs ss a e = e
 walk_past bits qs ss a e = absurd (cc)
 walk_past (ask q y n) [] ss a e = absurd (cc)
-walk_past {A} (ask q y n) (p ∷ qs) ss a e = go p.held e
+walk_past {A} (ask q y n) (p ∷ qs) ss a e = go p.held e (walk_past y qs ss a) (walk_past n qs ss a)
   where
-    go : (b : Bool) → cond b (walk y qs) (walk n qs) ≡ done a → cond b (walk y (qs ++ ss)) (walk n (qs ++ ss)) ≡ done a
-    go true k = walk_past y qs ss a k
-    go false k = walk_past n qs ss a k
+    go : (b : Bool) → cond b (walk y qs) (walk n qs) ≡ done a → (walk y qs ≡ done a → walk y (qs ++ ss) ≡ done a) → (walk n qs ≡ done a → walk n (qs ++ ss) ≡ done a) → cond b (walk y (qs ++ ss)) (walk n (qs ++ ss)) ≡ done a
+    go true k f h = f k
+    go false k f h = h k
 
 pub end_past : (g : Goal) (ps : List Taken) (q : Atom) (b : Bool) (e : Ends) → end_at g ps ≡ done e → end_at g (onto ps q b) ≡ done e
 end_past g ps q b e h = walk_past (questions g) ps _ e h

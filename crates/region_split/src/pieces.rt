@@ -49,7 +49,7 @@ pub struct Split {
 /// What the piece at this path shows, after so many splits: its rows are solved, and it is split where their greedy choice breaks. Want of
 /// memory is the one error.
 #[cycle(splitting)]
-fn piece(
+fn piece_shown(
     alloc: Global,
     goal: &Goal,
     path: &[Taken],
@@ -189,7 +189,7 @@ fn half(
     let longer = with_answer(alloc, path, Taken { atom, held })?;
     let own = copy_rows(alloc, rows)?;
     match next_row(alloc, goal, &longer, own)? {
-        RowList::Rows(more) => piece(alloc, goal, &longer, &more, end, splits + 1),
+        RowList::Rows(more) => piece_shown(alloc, goal, &longer, &more, end, splits + 1),
         RowList::Bits => Ok(Piece::Unknown(Cause::Bits)),
     }
 }

@@ -126,22 +126,22 @@ IsPieceShown g n ps (P.Given point) = HasFirstPoint g n ps point.items
 IsPieceShown g n ps (P.Unknown cause) = EndsPiece g n ps cause
 
 -- A cell at which the goal doesn't hold plainly, with its rows and the denied goal, of which so many are those of the path's comparisons.
-pub record IsCellStand (g : Goal) (ps : List Taken) (rows : List Row) (kept : ℕ) (e : E.End) : Type 0 where
+pub record IsCellStand (g : Goal) (ps : List Taken) (list : List Row) (count : ℕ) (e : E.End) : Type 0 where
   pub typed : IsTypedGoal g
   pub front : IsFront g ps
   pub end : IsEndOf g ps e
   pub not_plain : e.plain ≡ false
-  pub rows : AreRowsAt g ps true rows
-  pub path_rows : ArePathRows g ps (take kept rows)
-  pub kept : kept ≤ length rows
+  pub rows : AreRowsAt g ps true list
+  pub path_rows : ArePathRows g ps (take count list)
+  pub kept : count ≤ length list
   pub short : length ps + 9 + length g.types < 2 ^ 32
 
 -- A piece that can be looked at, after n splits: its path, the values of the two forms at its end, its rows, and that it is short.
-pub record IsPieceStand (g : Goal) (n : ℕ) (ps : List Taken) (rows : List Row) (e : E.End) : Type 0 where
+pub record IsPieceStand (g : Goal) (n : ℕ) (ps : List Taken) (list : List Row) (e : E.End) : Type 0 where
   pub is_path : IsPath g ps
   pub values : Answers (K.TheVariants.End e.stated e.found) (end_at g ps)
   pub not_plain : IsPlainAt g ps → ⊥
-  pub rows : ArePathRows g ps rows
+  pub rows : ArePathRows g ps list
   pub few : n ≤ 8
   pub short : length ps + 9 + length g.types < 2 ^ 32 + n
 

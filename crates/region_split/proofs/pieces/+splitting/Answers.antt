@@ -19,50 +19,50 @@ use Rattle.region_split.proofs.pieces.+splitting.Goals as goal
 
 -- ---- A piece, with its rows
 
-pub piece-with_denied_goal-requires-clause-path : goal.piece-with_denied_goal-requires-clause-path
-piece-with_denied_goal-requires-clause-path t c = c.requires.stands.is_path
+pub piece_shown-with_denied_goal-requires-clause-path : goal.piece_shown-with_denied_goal-requires-clause-path
+piece_shown-with_denied_goal-requires-clause-path t c = c.requires.stands.is_path
 
-pub piece-with_denied_goal-requires-clause-ends : goal.piece-with_denied_goal-requires-clause-ends
-piece-with_denied_goal-requires-clause-ends t c = c.requires.stands.values
+pub piece_shown-with_denied_goal-requires-clause-ends : goal.piece_shown-with_denied_goal-requires-clause-ends
+piece_shown-with_denied_goal-requires-clause-ends t c = c.requires.stands.values
 
-pub piece-with_denied_goal-requires-clause-rows : goal.piece-with_denied_goal-requires-clause-rows
-piece-with_denied_goal-requires-clause-rows t c = subst (ArePathRows (goal_of c.args.goal.now) (path_of c.args.path.now)) (sym c.in_ok-own.ensures) c.requires.stands.rows
+pub piece_shown-with_denied_goal-requires-clause-rows : goal.piece_shown-with_denied_goal-requires-clause-rows
+piece_shown-with_denied_goal-requires-clause-rows t c = subst (ArePathRows (goal_of c.args.goal.now) (path_of c.args.path.now)) (sym c.in_ok-own.ensures) c.requires.stands.rows
 
-pub piece-returns-in_default : goal.piece-returns-in_default
-piece-returns-in_default t c =
+pub piece_shown-returns-in_default : goal.piece_shown-returns-in_default
+piece_shown-returns-in_default t c =
     let g = goal_of c.args.goal.now in
     let ps = path_of c.args.path.now in
     piece_ends g c.args.splits ps Bits (no_rows g ps true (rw c.in_default.is at c.in_ok-list.ensures.rows))
 
-pub piece-solve_rows-requires-clause-rows : goal.piece-solve_rows-requires-clause-rows
-piece-solve_rows-requires-clause-rows t c = subst (All IsRow) (sym c.deref.ensures.value) (rw c.in-Rows.is at c.in_ok-list.ensures.normal)
+pub piece_shown-solve_rows-requires-clause-rows : goal.piece_shown-solve_rows-requires-clause-rows
+piece_shown-solve_rows-requires-clause-rows t c = subst (All IsRow) (sym c.deref.ensures.value) (rw c.in-Rows.is at c.in_ok-list.ensures.normal)
 
-pub piece-solve_rows-requires-clause-numeric : goal.piece-solve_rows-requires-clause-numeric
-piece-solve_rows-requires-clause-numeric t c = subst (λ ts. All (IsNumericRow ts) c.deref.result.now) (sym c.deref-2.ensures.value) (subst (λ rs. All (IsNumericRow c.args.goal.now.vars.items) rs) (sym c.deref.ensures.value) (rw c.in-Rows.is at (c.in_ok-list.ensures.numeric c.requires.typed)))
+pub piece_shown-solve_rows-requires-clause-numeric : goal.piece_shown-solve_rows-requires-clause-numeric
+piece_shown-solve_rows-requires-clause-numeric t c = subst (λ ts. All (IsNumericRow ts) c.deref.result.now) (sym c.deref-2.ensures.value) (subst (λ rs. All (IsNumericRow c.args.goal.now.vars.items) rs) (sym c.deref.ensures.value) (rw c.in-Rows.is at (c.in_ok-list.ensures.numeric c.requires.typed)))
 
-pub piece-solve_rows-requires-clause-few : goal.piece-solve_rows-requires-clause-few
-piece-solve_rows-requires-clause-few t c =
+pub piece_shown-solve_rows-requires-clause-few : goal.piece_shown-solve_rows-requires-clause-few
+piece_shown-solve_rows-requires-clause-few t c =
     let g = goal_of c.args.goal.now in
     let ps = path_of c.args.path.now in
     let a = rw c.in-Rows.is at c.in_ok-list.ensures.few in
     let b = ap length c.deref.ensures.value in
     few_rows g c.args.splits ps c.args.rows.now c.args.end.now (length c.deref.result.now) (length c.args.path.now) c.requires.stands (path_length c.args.path.now (length c.args.path.now) refl) (omega (arith, a, b))
 
-pub piece-solve_rows-requires-clause-few_variables : goal.piece-solve_rows-requires-clause-few_variables
-piece-solve_rows-requires-clause-few_variables t c =
+pub piece_shown-solve_rows-requires-clause-few_variables : goal.piece_shown-solve_rows-requires-clause-few_variables
+piece_shown-solve_rows-requires-clause-few_variables t c =
     let v = ap length c.deref-2.ensures.value in
     let f = few_variables (goal_of c.args.goal.now) c.args.splits (path_of c.args.path.now) c.args.rows.now c.args.end.now c.requires.stands in
     omega (arith, v, f)
 
-pub piece-returns-in-Refuted : goal.piece-returns-in-Refuted
-piece-returns-in-Refuted t c =
+pub piece_shown-returns-in-Refuted : goal.piece_shown-returns-in-Refuted
+piece_shown-returns-in-Refuted t c =
     let g = goal_of c.args.goal.now in
     let ps = path_of c.args.path.now in
     let h = c.in_ok-multipliers.ensures g ps true ((rw c.in-Rows.is at c.in_ok-list.ensures.rows) ∙ ap Some (sym c.deref.ensures.value)) (sym c.deref-2.ensures.value) in
     piece_closed g c.args.splits ps c.args.rows.now c.args.end.now c.in-Refuted.multipliers c.leaf.result (length c.args.path.now) c.requires.stands (path_length c.args.path.now (length c.args.path.now) refl) c.leaf.ensures (rw c.in-Refuted.is at h)
 
-pub piece-with_path-requires : goal.piece-with_path-requires
-piece-with_path-requires t c =
+pub piece_shown-with_path-requires : goal.piece_shown-with_path-requires
+piece_shown-with_path-requires t c =
     let g = goal_of c.args.goal.now in
     let ps = path_of c.args.path.now in
     let h = c.in_ok-multipliers.ensures g ps true ((rw c.in-Rows.is at c.in_ok-list.ensures.rows) ∙ ap Some (sym c.deref.ensures.value)) (sym c.deref-2.ensures.value) in
@@ -71,23 +71,23 @@ piece-with_path-requires t c =
     let f = few_variables g c.args.splits ps c.args.rows.now c.args.end.now c.requires.stands in
     omega (arith, p, d, f)
 
-pub piece-returns-in_ok-with_path-in-Point : goal.piece-returns-in_ok-with_path-in-Point
-piece-returns-in_ok-with_path-in-Point t c =
+pub piece_shown-returns-in_ok-with_path-in-Point : goal.piece_shown-returns-in_ok-with_path-in-Point
+piece_shown-returns-in_ok-with_path-in-Point t c =
     let g = goal_of c.args.goal.now in
     let ps = path_of c.args.path.now in
     let h = c.in_ok-multipliers.ensures g ps true ((rw c.in-Rows.is at c.in_ok-list.ensures.rows) ∙ ap Some (sym c.deref.ensures.value)) (sym c.deref-2.ensures.value) in
     piece_given g c.args.splits ps c.args.rows.now c.args.end.now c.in-Point.point.items _ c.requires.stands (rw c.in-Point.is at h) c.in_ok-with_path-in-Point.ensures
 
-pub piece-broken_piece-requires : goal.piece-broken_piece-requires
-piece-broken_piece-requires t c =
+pub piece_shown-broken_piece-requires : goal.piece_shown-broken_piece-requires
+piece_shown-broken_piece-requires t c =
     let g = goal_of c.args.goal.now in
     let ps = path_of c.args.path.now in
     let h = c.in_ok-multipliers.ensures g ps true ((rw c.in-Rows.is at c.in_ok-list.ensures.rows) ∙ ap Some (sym c.deref.ensures.value)) (sym c.deref-2.ensures.value) in
     let d = c.decreases in
     (omega (arith, d), record { typed = c.requires.typed; stands = c.requires.stands; breaks = rw c.in-Break.is at h })
 
-pub piece-returns : goal.piece-returns
-piece-returns t c =
+pub piece_shown-returns : goal.piece_shown-returns
+piece_shown-returns t c =
     let g = goal_of c.args.goal.now in
     let ps = path_of c.args.path.now in
     let h = c.in_ok-multipliers.ensures g ps true ((rw c.in-Rows.is at c.in_ok-list.ensures.rows) ∙ ap Some (sym c.deref.ensures.value)) (sym c.deref-2.ensures.value) in
@@ -150,8 +150,8 @@ half-next_row-requires-clause-rows t c =
     let m = c.args.at.now.bound in
     lacks_half g ps (path_of c.deref.result.now) x m c.args.held c.args.rows.now c.in_ok-own.own.items c.requires.stands.rows c.in_ok-own.ensures (ap path_of c.deref.ensures.value ∙ half_onto ps (path_of c.in_ok-longer.longer.items) x m _ c.args.held c.in_ok-longer.ensures c.in_ok-atom.ensures refl)
 
-pub half-piece-requires : goal.half-piece-requires
-half-piece-requires t c =
+pub half-piece_shown-requires : goal.half-piece_shown-requires
+half-piece_shown-requires t c =
     let g = goal_of c.args.goal.now in
     let ps = path_of c.args.path.now in
     let x = c.args.at.now.variable in
@@ -167,7 +167,7 @@ half-returns-in-Rows t c =
     let x = c.args.at.now.variable in
     let m = c.args.at.now.bound in
     let n : c.args.splits + 1 ≡ suc c.args.splits = omega arith in
-    same_shown g _ (suc c.args.splits) _ (onto ps (split_at x m) c.args.held) c.piece.result n (ap path_of c.deref-in-Rows.ensures.value ∙ half_onto ps (path_of c.in_ok-longer.longer.items) x m _ c.args.held c.in_ok-longer.ensures c.in_ok-atom.ensures refl) c.piece.ensures
+    same_shown g _ (suc c.args.splits) _ (onto ps (split_at x m) c.args.held) c.piece_shown.result n (ap path_of c.deref-in-Rows.ensures.value ∙ half_onto ps (path_of c.in_ok-longer.longer.items) x m _ c.args.held c.in_ok-longer.ensures c.in_ok-atom.ensures refl) c.piece_shown.ensures
 
 pub half-returns : goal.half-returns
 half-returns t c =
