@@ -1,5 +1,5 @@
 -- What a walk has found, once there is another cell.
-use Rattle.std.proofs.Common.{◌≡◌, ℕ, List, [], ◌∷◌, ◌++◌, refl, sym, ap, ◌∙◌, subst, append_assoc, true, inl, inr}
+use Rattle.std.proofs.Common.{◌≡◌, List, [], ◌∷◌, ◌++◌, refl, sym, ap, ◌∙◌, subst, append_assoc, true, inl, inr}
 use Rattle.std.specs.List.{All}
 use Rattle.std.proofs.lemmas.List.{append-nil}
 use Rattle.std.proofs.lemmas.List.Elements.{All-nil, All-cons, All-append, All-push, All-head, All-tail}
@@ -7,7 +7,6 @@ use Rattle.heylo_formula.specs.Goals.{Goal}
 use Rattle.heylo_formula.specs.declared.values.Val.{Val}
 use Rattle.linear_form.specs.Query.{Taken}
 use Rattle.linear_form.specs.PathRows.{IsPlainAt}
-use Rattle.linear_rows.specs.Solutions.{IsSolvable}
 use Rattle.linear_form.specs.Cells.{IsCell, IsFalseCell}
 use Rattle.linear_elim.specs.Answers.{ends_of}
 use Rattle.goal_answers.specs.declared.causes.Broken.{Broken}

@@ -41,7 +41,7 @@ use Rattle.region_split.proofs.PathAnswers.{no_rows}
 use Rattle.region_split.proofs.Trails.{unstated_denied}
 use Rattle.region_split.proofs.TypedBreaks.{break_of}
 use Rattle.region_split.specs.Decisions.{IsLarge, IsLookedAt}
-use Rattle.region_split.specs.PathPoints.{Breaks, IsBreakOf, with_truths}
+use Rattle.region_split.specs.PathPoints.{Breaks, with_truths}
 use Rattle.region_split.specs.Pieces.{AreEnds, BreaksAbove, HasFirstPoint, IsPieceOf, IsSplitAt, first_half, second_half}
 use Rattle.region_split.specs.declared.front.End as E
 use Rattle.region_split.specs.internal.Progress.{EndsPiece, IsBroken, IsCellStand, IsClosed, IsLeaf, IsPieceShown, IsPieceStand}

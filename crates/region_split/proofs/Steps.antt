@@ -20,7 +20,7 @@ use Rattle.goal_answers.specs.declared.trees.Tree as F
 use Rattle.linear_form.specs.Nonlinear.{nonlinear_product}
 use Rattle.goal_answers.specs.declared.causes.Cause.{Cause}
 use Rattle.region_split.specs.Walk.{IsReached}
-use Rattle.region_split.specs.Decisions.{HasCells, IsCause, IsLookedAt}
+use Rattle.region_split.specs.Decisions.{HasCells, IsCause}
 use Rattle.region_split.specs.Pieces.{HasFirstPoint, IsPieceOf}
 use Rattle.linear_form.proofs.exported.PathSteps.{plain_path}
 use Rattle.heylo_formula.specs.TypedGoals.{IsTypedGoal}

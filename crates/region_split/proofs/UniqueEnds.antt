@@ -1,9 +1,9 @@
 -- The ends of a piece are the same ones, and so is the point that one of them gives.
-use Rattle.std.proofs.Common.{◌≡◌, ℕ, ℤ, List, [], ◌∷◌, ◌++◌, refl, sym, ap, ap₂, ◌∙◌, subst, arith, true, false}
+use Rattle.std.proofs.Common.{◌≡◌, ℕ, ℤ, List, [], ◌++◌, refl, sym, ap, ap₂, ◌∙◌, subst, arith, true, false}
 use Prim.Native.Nat.{suc}
 use Rattle.std.specs.Prelude.{Option, Some, None}
 use Rattle.std.specs.List.{All}
-use Rattle.std.proofs.lemmas.List.Elements.{All-nil, All-head}
+use Rattle.std.proofs.lemmas.List.Elements.{All-head}
 use Rattle.heyvl_num.specs.Rational.{Rational, zeroʳ}
 use Rattle.heyvl_num.specs.Rounding.{floorʳ}
 use Rattle.heylo_formula.specs.Goals.{Goal}

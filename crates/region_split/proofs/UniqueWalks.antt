@@ -1,6 +1,6 @@
 -- The walk is one: its cells, those before a front, and its tree but for the multipliers.
 use Prim.Native.Nat.{suc}
-use Rattle.std.proofs.Common.{◌≡◌, ℕ, ℤ, ◌+◌, max, List, [], ◌++◌, refl, sym, ap, ap₂, ◌∙◌, subst, append_assoc, Bool, true, false, inl, inr}
+use Rattle.std.proofs.Common.{◌≡◌, ℕ, ◌+◌, max, List, [], ◌++◌, refl, sym, ap, ap₂, ◌∙◌, subst, append_assoc, true, false, inl, inr}
 use Rattle.std.specs.Prelude.{Option, None, Some, is_some}
 use Rattle.std.proofs.lemmas.List.{append-nil}
 use Rattle.std.specs.List.{All}
@@ -19,7 +19,7 @@ use Rattle.linear_rows.proofs.exported.Combinations.{contradiction_unsolvable}
 use Rattle.goal_answers.specs.Trees.{Tree, depth}
 use Rattle.farkas_check.specs.Accepted.{IsRefuted, has_denied}
 use Rattle.region_split.specs.Walk.{AreCells, AreBefore}
-use Rattle.region_split.specs.Pieces.{AreEnds, IsFalse, IsSplitAt, first_half, second_half}
+use Rattle.region_split.specs.Pieces.{AreEnds, IsFalse, first_half, second_half}
 use Rattle.region_split.specs.WalkTree.{IsPieceTree, IsWalkTree}
 use Rattle.region_split.specs.internal.Progress.{HoldsAt}
 use Rattle.region_split.proofs.HalvedPaths.{end_past, plain_before}

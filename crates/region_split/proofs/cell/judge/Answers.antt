@@ -7,10 +7,10 @@ pub returns-in-Nothing-clause-judged : goal.returns-in-Nothing-clause-judged
 returns-in-Nothing-clause-judged c =
     let g = goal_of c.args.goal.now in
     let ps = path_of c.args.path.now in
-    c.shown_cell.ensures g ps tt (cell_at g ps c.args.list.now c.args.kept c.args.end.now c.requires.stands) (unplain_at g ps c.args.list.now c.args.kept c.args.end.now c.requires.stands) c.in_ok-shown.ensures.shown
+    rw c.in-Nothing.is (c.shown_cell.ensures g ps tt (cell_at g ps c.args.list.now c.args.kept c.args.end.now c.requires.stands) (unplain_at g ps c.args.list.now c.args.kept c.args.end.now c.requires.stands) c.in_ok-shown.ensures.shown)
 
 pub returns-in-Break-clause-judged : goal.returns-in-Break-clause-judged
 returns-in-Break-clause-judged c =
     let g = goal_of c.args.goal.now in
     let ps = path_of c.args.path.now in
-    c.shown_cell-in-Break.ensures g ps tt (cell_at g ps c.args.list.now c.args.kept c.args.end.now c.requires.stands) (unplain_at g ps c.args.list.now c.args.kept c.args.end.now c.requires.stands) c.in_ok-shown-in-Break.ensures.shown
+    rw c.in-Break.is (c.shown_cell-in-Break.ensures g ps tt (cell_at g ps c.args.list.now c.args.kept c.args.end.now c.requires.stands) (unplain_at g ps c.args.list.now c.args.kept c.args.end.now c.requires.stands) c.in_ok-shown-in-Break.ensures.shown)

@@ -3,7 +3,7 @@ use Rattle.std.specs.List.{All}
 use Rattle.heylo_formula.specs.Goals.{goal_of}
 use Rattle.linear_form.specs.PlainPaths.{path_of}
 use Rattle.linear_rows.specs.VariableTypes.{IsNumericRow}
-use Rattle.region_split.proofs.PieceSteps.{few_variables, first_piece, piece_closed, piece_ends, piece_given}
+use Rattle.region_split.proofs.PieceSteps.{first_piece, piece_closed, piece_ends, piece_given}
 use Rattle.region_split.proofs.Steps.{path_length, point_length}
 use Rattle.region_split.proofs.cell.open_cell.Goals as goal
 

@@ -1,4 +1,4 @@
-use Rattle.std.proofs.Common.{◌∙◌, ap, to_z, of_z, FitsSigned, rules}
+use Rattle.std.proofs.Common.{◌∙◌, ap, FitsSigned, rules}
 use Rattle.std.specs.Int.{w64}
 use Rattle.std.proofs.lemmas.Int.{to_z-of_z}
 use Rattle.goal_answers.specs.Trees.{tree_of}

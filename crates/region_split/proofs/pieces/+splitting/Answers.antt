@@ -1,5 +1,5 @@
 use Prim.Native.Nat.{suc}
-use Rattle.std.proofs.Common.{◌≡◌, ℕ, ◌+◌, length, refl, sym, ap, ◌∙◌, subst, arith, true, false}
+use Rattle.std.proofs.Common.{◌≡◌, ◌+◌, length, refl, sym, ap, ◌∙◌, subst, arith, true, false}
 use Rattle.std.specs.Prelude.{Some}
 use Rattle.std.specs.List.{All}
 use Rattle.heylo_formula.specs.Goals.{goal_of}
@@ -11,7 +11,7 @@ use Rattle.linear_form.specs.Query.{onto}
 use Rattle.linear_rows.specs.Row.{IsRow}
 use Rattle.linear_rows.specs.VariableTypes.{IsNumericRow}
 use Rattle.region_split.specs.Pieces.{HasFirstPoint}
-use Rattle.region_split.specs.internal.Progress.{IsBroken, IsPieceShown}
+use Rattle.region_split.specs.internal.Progress.{IsBroken}
 use Rattle.region_split.proofs.PathAnswers.{no_rows}
 use Rattle.region_split.proofs.PieceSteps.{same_shown, deepest_breaks, few_rows, few_variables, first_ends, half_is_path, half_lost, half_onto, half_stands, lacks_half, no_split_here, piece_closed, piece_ends, piece_given, split_here}
 use Rattle.region_split.proofs.Steps.{path_length, point_length}

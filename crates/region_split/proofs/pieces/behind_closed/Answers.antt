@@ -1,4 +1,3 @@
-use Prim.Native.Nat.{suc}
 use Rattle.std.proofs.Common.{[]}
 use Rattle.std.proofs.lemmas.List.Elements.{All-nil}
 use Rattle.region_split.specs.PathPoints.{Breaks}
