@@ -1,4 +1,4 @@
-use Rattle.std.proofs.Common.{length, sym, subst, refl, true}
+use Rattle.std.proofs.Common.{length, arith, sym, ap, subst, refl, true}
 use Rattle.std.specs.List.{All}
 use Rattle.heylo_formula.specs.Goals.{goal_of}
 use Rattle.linear_form.specs.PlainPaths.{path_of}
@@ -15,6 +15,12 @@ settle-requires-clause-numeric c = subst (λ ts. All (IsNumericRow ts) c.args.li
 
 pub settle-requires-clause-few : goal.settle-requires-clause-few
 settle-requires-clause-few c = c.requires.stands.rows.few
+
+pub settle-requires-clause-few_variables : goal.settle-requires-clause-few_variables
+settle-requires-clause-few_variables c =
+    let v = ap length c.deref.ensures.value in
+    let s = c.requires.stands.short in
+    omega (arith, v, s)
 
 pub returns-in-Refuted-clause-judged : goal.returns-in-Refuted-clause-judged
 returns-in-Refuted-clause-judged c =

@@ -1,4 +1,4 @@
-use Rattle.std.proofs.Common.{length, take, arith, refl, sym, subst, true}
+use Rattle.std.proofs.Common.{length, take, arith, refl, sym, ap, subst, true}
 use Rattle.std.specs.List.{All}
 use Rattle.heylo_formula.specs.Goals.{goal_of}
 use Rattle.linear_form.specs.PlainPaths.{path_of}
@@ -15,6 +15,12 @@ solve-requires-clause-numeric c = subst (λ ts. All (IsNumericRow ts) c.args.lis
 
 pub solve-requires-clause-few : goal.solve-requires-clause-few
 solve-requires-clause-few c = c.requires.stands.rows.few
+
+pub solve-requires-clause-few_variables : goal.solve-requires-clause-few_variables
+solve-requires-clause-few_variables c =
+    let v = ap length c.deref.ensures.value in
+    let s = c.requires.stands.short in
+    omega (arith, v, s)
 
 pub returns-in-Refuted-clause-shown : goal.returns-in-Refuted-clause-shown
 returns-in-Refuted-clause-shown c =

@@ -10,5 +10,5 @@ returns-in-Broke c g ps o k n h = broken_cell g ps c.args.found c.with_break.res
 pub returns-in-Given : goal.returns-in-Given
 returns-in-Given c g ps o k n h = given_cell g ps c.args.found c.with_point.result c.in-Given.point.items k (rw c.in-Given.is at h) (λ cells qs i a p. c.with_point.ensures g cells qs i a p)
 
-pub returns : goal.returns
-returns c g ps o k n h = rw c.in-Unknown.is at h
+pub returns-in-Unknown : goal.returns-in-Unknown
+returns-in-Unknown c g ps o k n h = rw c.in-Unknown.is at h

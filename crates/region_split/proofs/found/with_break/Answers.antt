@@ -7,5 +7,5 @@ returns-in-Nothing c g cells ps h b = first_break g cells ps c.args.broken.value
 pub returns-in-Break : goal.returns-in-Break
 returns-in-Break c g cells ps h b = later_break g cells ps c.in-Break.first.value c.args.broken.value (rw c.in-Break.is at h) b
 
-pub returns : goal.returns
-returns c g cells ps h b = point_longer g cells ps c.in-Point.first.items (rw c.in-Point.is at h)
+pub returns-in-Point : goal.returns-in-Point
+returns-in-Point c g cells ps h b = point_longer g cells ps c.in-Point.first.items (rw c.in-Point.is at h)

@@ -129,8 +129,8 @@ halves-returns-in-Broke t c = c.behind_broken.ensures (goal_of c.args.goal.now) 
 pub halves-returns-in-Given : goal.halves-returns-in-Given
 halves-returns-in-Given t c = HasFirstPoint.first c.args.splits (path_of c.args.path.now) c.args.at.now.variable c.args.at.now.bound c.in-Given.point.items c.requires.split (rw c.in-Given.is at c.in_ok-half.ensures)
 
-pub halves-returns : goal.halves-returns
-halves-returns t c = first_ends (goal_of c.args.goal.now) c.args.splits (path_of c.args.path.now) c.args.at.now.variable c.args.at.now.bound c.in-Unknown.cause c.requires.split (rw c.in-Unknown.is at c.in_ok-half.ensures)
+pub halves-returns-in-Unknown : goal.halves-returns-in-Unknown
+halves-returns-in-Unknown t c = first_ends (goal_of c.args.goal.now) c.args.splits (path_of c.args.path.now) c.args.at.now.variable c.args.at.now.bound c.in-Unknown.cause c.requires.split (rw c.in-Unknown.is at c.in_ok-half.ensures)
 
 -- ---- One half
 
@@ -169,8 +169,8 @@ half-returns-in-Rows t c =
     let n : c.args.splits + 1 ≡ suc c.args.splits = omega arith in
     same_shown g _ (suc c.args.splits) _ (onto ps (split_at x m) c.args.held) c.piece_shown.result n (ap path_of c.deref-in-Rows.ensures.value ∙ half_onto ps (path_of c.in_ok-longer.longer.items) x m _ c.args.held c.in_ok-longer.ensures c.in_ok-atom.ensures refl) c.piece_shown.ensures
 
-pub half-returns : goal.half-returns
-half-returns t c =
+pub half-returns-in-Bits : goal.half-returns-in-Bits
+half-returns-in-Bits t c =
     let g = goal_of c.args.goal.now in
     let ps = path_of c.args.path.now in
     let x = c.args.at.now.variable in

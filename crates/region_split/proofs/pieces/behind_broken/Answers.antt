@@ -22,8 +22,8 @@ returns-in-Given c g n ps s a h =
     let m = c.args.at.now.bound in
     HasFirstPoint.second n ps x m (a.path ∷ a.after) c.in-Given.point.items s a.ends (all_broken g (suc n) (first_half ps x m) c.args.first.value a) (rw c.in-Given.is at h)
 
-pub returns : goal.returns
-returns c g n ps s a h =
+pub returns-in-Unknown : goal.returns-in-Unknown
+returns-in-Unknown c g n ps s a h =
     let x = c.args.at.now.variable in
     let m = c.args.at.now.bound in
     second_ends g n ps x m (a.path ∷ a.after) c.in-Unknown.cause s a.ends (all_broken g (suc n) (first_half ps x m) c.args.first.value a) (rw c.in-Unknown.is at h)

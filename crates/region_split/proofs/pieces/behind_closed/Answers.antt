@@ -16,5 +16,5 @@ returns-in-Broke c g n ps s a h = broken_behind_closed g n ps c.args.at.now.vari
 pub returns-in-Given : goal.returns-in-Given
 returns-in-Given c g n ps s a h = HasFirstPoint.second n ps c.args.at.now.variable c.args.at.now.bound [] c.in-Given.point.items s a.ends (All-nil (Breaks g)) (rw c.in-Given.is at h)
 
-pub returns : goal.returns
-returns c g n ps s a h = second_ends g n ps c.args.at.now.variable c.args.at.now.bound [] c.in-Unknown.cause s a.ends (All-nil (Breaks g)) (rw c.in-Unknown.is at h)
+pub returns-in-Unknown : goal.returns-in-Unknown
+returns-in-Unknown c g n ps s a h = second_ends g n ps c.args.at.now.variable c.args.at.now.bound [] c.in-Unknown.cause s a.ends (All-nil (Breaks g)) (rw c.in-Unknown.is at h)
