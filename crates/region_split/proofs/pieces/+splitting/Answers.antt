@@ -1,7 +1,9 @@
 use Prim.Native.Nat.{suc}
-use Rattle.std.proofs.Common.{◌≡◌, ◌+◌, length, refl, sym, ap, ◌∙◌, subst, arith, true, false}
+use Rattle.std.proofs.Common.{◌≡◌, ◌+◌, length, refl, sym, ap, ◌∙◌, subst, arith, true, FitsSigned, rules}
 use Rattle.std.specs.Prelude.{Some}
+use Rattle.std.specs.Int.{w64, w128}
 use Rattle.std.specs.List.{All}
+use Rattle.std.proofs.lemmas.Int.{to_z-of_z}
 use Rattle.heylo_formula.specs.Goals.{goal_of}
 use Rattle.goal_answers.specs.declared.causes.Cause.TheVariants.{Bits}
 use Rattle.linear_form.specs.PlainPaths.{path_of}
@@ -10,8 +12,8 @@ use Rattle.linear_form.specs.Splits.{split_at}
 use Rattle.linear_form.specs.Query.{onto}
 use Rattle.linear_rows.specs.Row.{IsRow}
 use Rattle.linear_rows.specs.VariableTypes.{IsNumericRow}
-use Rattle.region_split.specs.Pieces.{HasFirstPoint}
-use Rattle.region_split.specs.internal.Progress.{IsBroken}
+use Rattle.region_split.specs.Pieces.{HasFirstPoint, IsSplitAt}
+use Rattle.region_split.specs.internal.Progress.{IsBroken, IsPieceStand}
 use Rattle.region_split.proofs.PathAnswers.{no_rows}
 use Rattle.region_split.proofs.PieceSteps.{same_shown, deepest_breaks, few_rows, few_variables, first_ends, half_is_path, half_lost, half_onto, half_stands, lacks_half, no_split_here, piece_closed, piece_ends, piece_given, split_here}
 use Rattle.region_split.proofs.Steps.{path_length, point_length}
@@ -71,8 +73,8 @@ piece_shown-with_path-requires t c =
     let f = few_variables g c.args.splits ps c.args.rows.now c.args.end.now c.requires.stands in
     omega (arith, p, d, f)
 
-pub piece_shown-returns-in_ok-with_path-in-Point : goal.piece_shown-returns-in_ok-with_path-in-Point
-piece_shown-returns-in_ok-with_path-in-Point t c =
+pub piece_shown-returns-in-Point : goal.piece_shown-returns-in-Point
+piece_shown-returns-in-Point t c =
     let g = goal_of c.args.goal.now in
     let ps = path_of c.args.path.now in
     let h = c.in_ok-multipliers.ensures g ps true ((rw c.in-Rows.is at c.in_ok-list.ensures.rows) ∙ ap Some (sym c.deref.ensures.value)) (sym c.deref-2.ensures.value) in
@@ -84,7 +86,7 @@ piece_shown-broken_piece-requires t c =
     let ps = path_of c.args.path.now in
     let h = c.in_ok-multipliers.ensures g ps true ((rw c.in-Rows.is at c.in_ok-list.ensures.rows) ∙ ap Some (sym c.deref.ensures.value)) (sym c.deref-2.ensures.value) in
     let d = c.decreases in
-    (omega (arith, d), record { typed = c.requires.typed; stands = c.requires.stands; breaks = rw c.in-Break.is at h })
+    (omega (arith, d), (c.requires.typed, (c.requires.stands, rw c.in-Break.is at h)))
 
 pub piece_shown-returns : goal.piece_shown-returns
 piece_shown-returns t c =
@@ -95,42 +97,49 @@ piece_shown-returns t c =
 
 -- ---- A piece whose greedy choice breaks
 
-pub broken_piece-returns-in_ok-new-then-splits-ge-MOST_SPLITS : goal.broken_piece-returns-in_ok-new-then-splits-ge-MOST_SPLITS
-broken_piece-returns-in_ok-new-then-splits-ge-MOST_SPLITS t c =
+pub broken_piece-returns-then-splits-ge-MOST_SPLITS : goal.broken_piece-returns-then-splits-ge-MOST_SPLITS
+broken_piece-returns-then-splits-ge-MOST_SPLITS t c =
     let g = goal_of c.args.goal.now in
     let ps = path_of c.args.path.now in
-    subst (IsBroken g c.args.splits ps) (sym c.in_ok-new-then-splits-ge-MOST_SPLITS.ensures.ok) (deepest_breaks g c.args.splits ps c.args.rows.now c.args.end.now c.args.broken c.requires.typed c.requires.stands c.if-splits-ge-MOST_SPLITS.true c.requires.breaks)
+    subst (IsBroken g c.args.splits ps) (sym c.in_ok-new.ensures.ok) (deepest_breaks g c.args.splits ps c.args.rows.now c.args.end.now c.args.broken c.requires.typed c.requires.stands c.if-splits-ge-MOST_SPLITS.true c.requires.breaks)
 
 pub broken_piece-halves-requires : goal.broken_piece-halves-requires
 broken_piece-halves-requires t c =
+    let g = goal_of c.args.goal.now in
+    let ps = path_of c.args.path.now in
     let d = c.decreases in
-    (omega (arith, d), record { typed = c.requires.typed; stands = c.requires.stands; split = split_here (goal_of c.args.goal.now) c.args.splits (path_of c.args.path.now) c.args.rows.now c.args.end.now c.args.broken c.floor.result c.in-Some.bound c.requires.stands c.if-splits-ge-MOST_SPLITS.false c.requires.breaks c.floor.ensures.value c.in-Some.ensures })
+    let f : FitsSigned w128 c.floor.result = search rules in
+    let b : FitsSigned w64 c.in-Some.bound = search rules in
+    let s = split_here g c.args.splits ps c.args.rows.now c.args.end.now c.args.broken _ c.in-Some.bound c.requires.stands c.if-splits-ge-MOST_SPLITS.false c.requires.breaks (to_z-of_z w128 c.floor.result f ∙ c.floor.ensures.value) c.in-Some.ensures in
+    (omega (arith, d), (c.requires.typed, (c.requires.stands, subst (IsSplitAt g c.args.splits ps c.args.broken.var) (sym (to_z-of_z w64 c.in-Some.bound b)) s)))
 
 pub broken_piece-returns : goal.broken_piece-returns
-broken_piece-returns t c = no_split_here (goal_of c.args.goal.now) c.args.splits (path_of c.args.path.now) c.args.broken c.floor.result c.if-splits-ge-MOST_SPLITS.false c.requires.breaks c.floor.ensures.value c.in-None.ensures
+broken_piece-returns t c =
+    let f : FitsSigned w128 c.floor.result = search rules in
+    no_split_here (goal_of c.args.goal.now) c.args.splits (path_of c.args.path.now) c.args.broken _ c.if-splits-ge-MOST_SPLITS.false c.requires.breaks (to_z-of_z w128 c.floor.result f ∙ c.floor.ensures.value) c.in-None.ensures
 
 -- ---- A piece that is split
 
 pub halves-half-requires : goal.halves-half-requires
-halves-half-requires t c = let d = c.decreases in let f = c.requires.split.few in (omega (arith, d, f), record { typed = c.requires.typed; stands = c.requires.stands; split = c.requires.split })
+halves-half-requires t c = let d = c.decreases in let f = c.requires.split.few in (omega (arith, d, f), (c.requires.typed, (c.requires.stands, c.requires.split)))
 
 pub halves-half-requires-in-Closed : goal.halves-half-requires-in-Closed
-halves-half-requires-in-Closed t c = let d = c.decreases in let f = c.requires.split.few in (omega (arith, d, f), record { typed = c.requires.typed; stands = c.requires.stands; split = c.requires.split })
+halves-half-requires-in-Closed t c = let d = c.decreases in let f = c.requires.split.few in (omega (arith, d, f), (c.requires.typed, (c.requires.stands, c.requires.split)))
 
 pub halves-half-requires-in-Broke : goal.halves-half-requires-in-Broke
-halves-half-requires-in-Broke t c = let d = c.decreases in let f = c.requires.split.few in (omega (arith, d, f), record { typed = c.requires.typed; stands = c.requires.stands; split = c.requires.split })
+halves-half-requires-in-Broke t c = let d = c.decreases in let f = c.requires.split.few in (omega (arith, d, f), (c.requires.typed, (c.requires.stands, c.requires.split)))
 
-pub halves-returns-in-Closed : goal.halves-returns-in-Closed
-halves-returns-in-Closed t c = c.behind_closed.ensures (goal_of c.args.goal.now) c.args.splits (path_of c.args.path.now) c.requires.split (rw c.in-Closed.is at c.in_ok-half.ensures) c.in_ok-second.ensures
+pub halves-returns-in_ok-second-in-Closed : goal.halves-returns-in_ok-second-in-Closed
+halves-returns-in_ok-second-in-Closed t c = c.behind_closed.ensures (goal_of c.args.goal.now) c.args.splits (path_of c.args.path.now) c.requires.split (rw c.in-Closed.is at c.in_ok-tree.ensures) c.in_ok-second-in-Closed.ensures
 
-pub halves-returns-in-Broke : goal.halves-returns-in-Broke
-halves-returns-in-Broke t c = c.behind_broken.ensures (goal_of c.args.goal.now) c.args.splits (path_of c.args.path.now) c.requires.split (rw c.in-Broke.is at c.in_ok-half.ensures) c.in_ok-second-in-Broke.ensures
+pub halves-returns-in_ok-second-in-Broke : goal.halves-returns-in_ok-second-in-Broke
+halves-returns-in_ok-second-in-Broke t c = c.behind_broken.ensures (goal_of c.args.goal.now) c.args.splits (path_of c.args.path.now) c.requires.split (rw c.in-Broke.is at c.in_ok-tree.ensures) c.in_ok-second-in-Broke.ensures
 
 pub halves-returns-in-Given : goal.halves-returns-in-Given
-halves-returns-in-Given t c = HasFirstPoint.first c.args.splits (path_of c.args.path.now) c.args.at.now.variable c.args.at.now.bound c.in-Given.point.items c.requires.split (rw c.in-Given.is at c.in_ok-half.ensures)
+halves-returns-in-Given t c = HasFirstPoint.first c.args.splits (path_of c.args.path.now) c.args.at.now.variable c.args.at.now.bound c.in-Given.point.items c.requires.split (rw c.in-Given.is at c.in_ok-tree.ensures)
 
 pub halves-returns-in-Unknown : goal.halves-returns-in-Unknown
-halves-returns-in-Unknown t c = first_ends (goal_of c.args.goal.now) c.args.splits (path_of c.args.path.now) c.args.at.now.variable c.args.at.now.bound c.in-Unknown.cause c.requires.split (rw c.in-Unknown.is at c.in_ok-half.ensures)
+halves-returns-in-Unknown t c = first_ends (goal_of c.args.goal.now) c.args.splits (path_of c.args.path.now) c.args.at.now.variable c.args.at.now.bound c.in-Unknown.cause c.requires.split (rw c.in-Unknown.is at c.in_ok-tree.ensures)
 
 -- ---- One half
 
@@ -140,7 +149,8 @@ half-next_row-requires-clause-path t c =
     let ps = path_of c.args.path.now in
     let x = c.args.at.now.variable in
     let m = c.args.at.now.bound in
-    half_is_path g c.args.splits ps (path_of c.deref.result.now) x m c.args.held c.args.rows.now c.args.end.now c.requires.split c.requires.stands (ap path_of c.deref.ensures.value ∙ half_onto ps (path_of c.in_ok-longer.longer.items) x m _ c.args.held c.in_ok-longer.ensures c.in_ok-atom.ensures refl)
+    let b : FitsSigned w64 m = search rules in
+    half_is_path g c.args.splits ps (path_of c.deref.result.now) x m c.args.held c.args.rows.now c.args.end.now c.requires.split c.requires.stands (ap path_of c.deref.ensures.value ∙ half_onto ps (path_of c.in_ok-longer.longer.items) x m _ c.args.held c.in_ok-longer.ensures (c.in_ok-atom.ensures ∙ ap (split_at x) (to_z-of_z w64 m b)) refl)
 
 pub half-next_row-requires-clause-rows : goal.half-next_row-requires-clause-rows
 half-next_row-requires-clause-rows t c =
@@ -148,7 +158,8 @@ half-next_row-requires-clause-rows t c =
     let ps = path_of c.args.path.now in
     let x = c.args.at.now.variable in
     let m = c.args.at.now.bound in
-    lacks_half g ps (path_of c.deref.result.now) x m c.args.held c.args.rows.now c.in_ok-own.own.items c.requires.stands.rows c.in_ok-own.ensures (ap path_of c.deref.ensures.value ∙ half_onto ps (path_of c.in_ok-longer.longer.items) x m _ c.args.held c.in_ok-longer.ensures c.in_ok-atom.ensures refl)
+    let b : FitsSigned w64 m = search rules in
+    lacks_half g ps (path_of c.deref.result.now) x m c.args.held c.args.rows.now c.in_ok-own.own.items c.requires.stands.rows c.in_ok-own.ensures (ap path_of c.deref.ensures.value ∙ half_onto ps (path_of c.in_ok-longer.longer.items) x m _ c.args.held c.in_ok-longer.ensures (c.in_ok-atom.ensures ∙ ap (split_at x) (to_z-of_z w64 m b)) refl)
 
 pub half-piece_shown-requires : goal.half-piece_shown-requires
 half-piece_shown-requires t c =
@@ -156,9 +167,11 @@ half-piece_shown-requires t c =
     let ps = path_of c.args.path.now in
     let x = c.args.at.now.variable in
     let m = c.args.at.now.bound in
+    let b : FitsSigned w64 m = search rules in
     let d = c.decreases in
     let f = c.requires.split.few in
-    (omega (arith, d, f), record { typed = c.requires.typed; stands = half_stands g c.args.splits ps (path_of c.deref-in-Rows.result.now) x m c.args.held c.args.rows.now c.deref-in-Rows-2.result.now c.args.end.now c.requires.split c.requires.stands (ap path_of c.deref-in-Rows.ensures.value ∙ half_onto ps (path_of c.in_ok-longer.longer.items) x m _ c.args.held c.in_ok-longer.ensures c.in_ok-atom.ensures refl) (subst (ArePathRows g (path_of c.deref-in-Rows.result.now)) (sym c.deref-in-Rows-2.ensures.value) (record { are_rows = rw c.in-Rows.is at c.in_ok-more.ensures })) })
+    let n : c.args.splits + 1 ≡ suc c.args.splits = omega arith in
+    (omega (arith, d, f), (c.requires.typed, subst (λ i. IsPieceStand g i (path_of c.deref-in-Rows.result.now) c.deref-in-Rows-2.result.now c.args.end.now) (sym n) (half_stands g c.args.splits ps (path_of c.deref-in-Rows.result.now) x m c.args.held c.args.rows.now c.deref-in-Rows-2.result.now c.args.end.now c.requires.split c.requires.stands (ap path_of c.deref-in-Rows.ensures.value ∙ half_onto ps (path_of c.in_ok-longer.longer.items) x m _ c.args.held c.in_ok-longer.ensures (c.in_ok-atom.ensures ∙ ap (split_at x) (to_z-of_z w64 m b)) refl) (subst (ArePathRows g (path_of c.deref-in-Rows.result.now)) (sym c.deref-in-Rows-2.ensures.value) (record { are_rows = rw c.in-Rows.is at c.in_ok-more.ensures })))))
 
 pub half-returns-in-Rows : goal.half-returns-in-Rows
 half-returns-in-Rows t c =
@@ -166,13 +179,15 @@ half-returns-in-Rows t c =
     let ps = path_of c.args.path.now in
     let x = c.args.at.now.variable in
     let m = c.args.at.now.bound in
+    let b : FitsSigned w64 m = search rules in
     let n : c.args.splits + 1 ≡ suc c.args.splits = omega arith in
-    same_shown g _ (suc c.args.splits) _ (onto ps (split_at x m) c.args.held) c.piece_shown.result n (ap path_of c.deref-in-Rows.ensures.value ∙ half_onto ps (path_of c.in_ok-longer.longer.items) x m _ c.args.held c.in_ok-longer.ensures c.in_ok-atom.ensures refl) c.piece_shown.ensures
+    same_shown g _ (suc c.args.splits) _ (onto ps (split_at x m) c.args.held) c.piece_shown.result n (ap path_of c.deref-in-Rows.ensures.value ∙ half_onto ps (path_of c.in_ok-longer.longer.items) x m _ c.args.held c.in_ok-longer.ensures (c.in_ok-atom.ensures ∙ ap (split_at x) (to_z-of_z w64 m b)) refl) c.piece_shown.ensures
 
-pub half-returns-in-Bits : goal.half-returns-in-Bits
-half-returns-in-Bits t c =
+pub half-returns : goal.half-returns
+half-returns t c =
     let g = goal_of c.args.goal.now in
     let ps = path_of c.args.path.now in
     let x = c.args.at.now.variable in
     let m = c.args.at.now.bound in
-    half_lost g (suc c.args.splits) (onto ps (split_at x m) c.args.held) (path_of c.deref.result.now) (ap path_of c.deref.ensures.value ∙ half_onto ps (path_of c.in_ok-longer.longer.items) x m _ c.args.held c.in_ok-longer.ensures c.in_ok-atom.ensures refl) (rw c.in-Bits.is at c.in_ok-more.ensures)
+    let b : FitsSigned w64 m = search rules in
+    half_lost g (suc c.args.splits) (onto ps (split_at x m) c.args.held) (path_of c.deref.result.now) (ap path_of c.deref.ensures.value ∙ half_onto ps (path_of c.in_ok-longer.longer.items) x m _ c.args.held c.in_ok-longer.ensures (c.in_ok-atom.ensures ∙ ap (split_at x) (to_z-of_z w64 m b)) refl) (rw c.in-Bits.is at c.in_ok-more.ensures)
