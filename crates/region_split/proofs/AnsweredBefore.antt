@@ -100,7 +100,7 @@ rows_few g ps rows h = let a = rows_counted g ps rows h in let b = claims_few ps
 
 -- where the row of yes can't be stated, the walk ends in its branch
 pub unstated_yes : (g : Goal) (ps : List Taken) (q : Atom) → GoesOn g ps q → all_tightened (types_in g.types) (path_claims (onto ps q true)) ≡ None → EndsWalk g ps false Bits
-unstated_yes g ps q h e cells r m linear = (linear, IsLarge.in_rows (onto ps q true) cells (record { are_before = AreBefore.first ps q cells h r.are_before; few = r.few }) (unstated_path g (onto ps q true) e))
+unstated_yes g ps q h e cells r linear = (linear, IsLarge.in_rows (onto ps q true) cells (record { are_before = AreBefore.first ps q cells h r.are_before; few = r.few }) (unstated_path g (onto ps q true) e))
 
 -- a path with an answer to its question is a path
 pub question_path : (g : Goal) (ps : List Taken) (q : Atom) (held : Bool) → IsPath g ps → GoesOn g ps q → IsPath g (onto ps q held)
