@@ -1,5 +1,5 @@
 -- The halves of a piece: their paths, and what stands at the ends of these.
-use Rattle.std.proofs.Common.{◌≡◌, ℕ, ℤ, List, [], ◌∷◌, ◌++◌, refl, sym, ◌∙◌, Bool, true, false}
+use Rattle.std.proofs.Common.{◌≡◌, ℕ, ℤ, List, [], ◌∷◌, ◌++◌, sym, ◌∙◌, Bool, true, false}
 use Rattle.std.specs.Prelude.{cond}
 use Rattle.heyvl_num.specs.Rational.{Rational}
 use Rattle.heylo_formula.specs.Goals.{Goal}

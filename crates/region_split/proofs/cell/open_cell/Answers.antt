@@ -1,8 +1,9 @@
-use Rattle.std.proofs.Common.{length, take, arith, refl, sym, ap, subst, true}
+use Rattle.std.proofs.Common.{length, take, arith, refl, sym, ap, ◌∙◌, subst, true}
 use Rattle.std.specs.List.{All}
 use Rattle.heylo_formula.specs.Goals.{goal_of}
 use Rattle.linear_form.specs.PlainPaths.{path_of}
 use Rattle.linear_rows.specs.VariableTypes.{IsNumericRow}
+use Rattle.region_split.specs.PathPoints.{with_truths}
 use Rattle.region_split.proofs.PieceSteps.{first_piece, piece_closed, piece_ends, piece_given}
 use Rattle.region_split.proofs.Steps.{path_length, point_length}
 use Rattle.region_split.proofs.cell.open_cell.Goals as goal
@@ -45,13 +46,13 @@ returns-in_ok-with_path-in-Point-clause-shown c =
     let ps = path_of c.args.path.now in
     let first = take c.args.kept c.args.list.now in
     let h = c.in_ok-multipliers.ensures.solved g ps true c.requires.stands.rows.are_rows (sym c.deref.ensures.value) in
-    piece_given g 0 ps first c.args.end.now c.in-Point.point.items _ (first_piece g ps c.args.list.now first c.args.kept c.args.end.now c.requires.stands refl) (rw c.in-Point.is at h) c.in_ok-with_path-in-Point.ensures
+    piece_given g 0 ps first c.args.end.now c.in-Point.point.items _ (first_piece g ps c.args.list.now first c.args.kept c.args.end.now c.requires.stands refl) (rw c.in-Point.is at h) (c.in_ok-with_path-in-Point.ensures ∙ ap (with_truths ps 0) c.deref-in-Point.ensures.value)
 
 pub broken_piece-requires-clause-typed : goal.broken_piece-requires-clause-typed
 broken_piece-requires-clause-typed c = c.requires.stands.typed
 
 pub broken_piece-requires-clause-stands : goal.broken_piece-requires-clause-stands
-broken_piece-requires-clause-stands c = first_piece (goal_of c.args.goal.now) (path_of c.args.path.now) c.args.list.now _ c.args.kept c.args.end.now c.requires.stands c.index.ensures
+broken_piece-requires-clause-stands c = first_piece (goal_of c.args.goal.now) (path_of c.args.path.now) c.args.list.now _ c.args.kept c.args.end.now c.requires.stands refl
 
 pub broken_piece-requires-clause-breaks : goal.broken_piece-requires-clause-breaks
 broken_piece-requires-clause-breaks c = rw c.in-Break.is at (c.in_ok-multipliers.ensures.solved (goal_of c.args.goal.now) (path_of c.args.path.now) true c.requires.stands.rows.are_rows (sym c.deref.ensures.value))

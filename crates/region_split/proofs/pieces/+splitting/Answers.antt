@@ -12,6 +12,7 @@ use Rattle.linear_form.specs.Splits.{split_at}
 use Rattle.linear_form.specs.Query.{onto}
 use Rattle.linear_rows.specs.Row.{IsRow}
 use Rattle.linear_rows.specs.VariableTypes.{IsNumericRow}
+use Rattle.region_split.specs.PathPoints.{with_truths}
 use Rattle.region_split.specs.Pieces.{HasFirstPoint, IsSplitAt}
 use Rattle.region_split.specs.internal.Progress.{IsBroken, IsPieceStand}
 use Rattle.region_split.proofs.PathAnswers.{no_rows}
@@ -78,7 +79,7 @@ piece_shown-returns-in-Point t c =
     let g = goal_of c.args.goal.now in
     let ps = path_of c.args.path.now in
     let h = c.in_ok-multipliers.ensures g ps true ((rw c.in-Rows.is at c.in_ok-list.ensures.rows) ∙ ap Some (sym c.deref.ensures.value)) (sym c.deref-2.ensures.value) in
-    piece_given g c.args.splits ps c.args.rows.now c.args.end.now c.in-Point.point.items _ c.requires.stands (rw c.in-Point.is at h) c.in_ok-with_path-in-Point.ensures
+    piece_given g c.args.splits ps c.args.rows.now c.args.end.now c.in-Point.point.items _ c.requires.stands (rw c.in-Point.is at h) (c.in_ok-with_path-in-Point.ensures ∙ ap (with_truths ps 0) c.deref-in-Point.ensures.value)
 
 pub piece_shown-broken_piece-requires : goal.piece_shown-broken_piece-requires
 piece_shown-broken_piece-requires t c =
@@ -171,7 +172,7 @@ half-piece_shown-requires t c =
     let d = c.decreases in
     let f = c.requires.split.few in
     let n : c.args.splits + 1 ≡ suc c.args.splits = omega arith in
-    (omega (arith, d, f), (c.requires.typed, subst (λ i. IsPieceStand g i (path_of c.deref-in-Rows.result.now) c.deref-in-Rows-2.result.now c.args.end.now) (sym n) (half_stands g c.args.splits ps (path_of c.deref-in-Rows.result.now) x m c.args.held c.args.rows.now c.deref-in-Rows-2.result.now c.args.end.now c.requires.split c.requires.stands (ap path_of c.deref-in-Rows.ensures.value ∙ half_onto ps (path_of c.in_ok-longer.longer.items) x m _ c.args.held c.in_ok-longer.ensures (c.in_ok-atom.ensures ∙ ap (split_at x) (to_z-of_z w64 m b)) refl) (subst (ArePathRows g (path_of c.deref-in-Rows.result.now)) (sym c.deref-in-Rows-2.ensures.value) (record { are_rows = rw c.in-Rows.is at c.in_ok-more.ensures })))))
+    (omega (arith, d, f), (c.requires.typed, subst (λ i. IsPieceStand g i (path_of c.deref-in-Rows.result.now) c.deref-in-Rows-2.result.now c.args.end.now) (sym n) (half_stands g c.args.splits ps (path_of c.deref-in-Rows.result.now) x m c.args.held c.args.rows.now c.deref-in-Rows-2.result.now c.args.end.now c.requires.split c.requires.stands (ap path_of c.deref-in-Rows.ensures.value ∙ half_onto ps (path_of c.in_ok-longer.longer.items) x m _ c.args.held c.in_ok-longer.ensures (c.in_ok-atom.ensures ∙ ap (split_at x) (to_z-of_z w64 m b)) refl) (subst (ArePathRows g (path_of c.deref-in-Rows.result.now)) (sym c.deref-in-Rows-2.ensures.value) (subst (λ xs. ArePathRows g (path_of xs) c.in-Rows.more.items) (c.deref.ensures.value ∙ sym c.deref-in-Rows.ensures.value) (record { are_rows = rw c.in-Rows.is at c.in_ok-more.ensures }))))))
 
 pub half-returns-in-Rows : goal.half-returns-in-Rows
 half-returns-in-Rows t c =
