@@ -24,20 +24,30 @@ const ONE_STEP: &str = "steps 1\n";
 /// The certificate of the coin.
 const COIN_CERT: &str = "caesar certificate 1\ngoal 0 main\nf 0:1\nend\n";
 
+/// A goal that needs a split of a whole variable.
+const GAP: &str =
+    "coproc gap(x: Int, y: Int) -> () pre ite(y <= 2*x && y <= 2 - 2*x && 1 <= y, 0, 1) post 1 { }";
+
+/// Its certificate.
+const GAP_CERT: &str = "caesar certificate 2\ngoal 0 main\ns\ns\ns\ni 0 0\nf 0:1 2:1 3:2\nf 1:1 2:1 3:2\nf 3:1\nf 2:1\nf 1:1\nend\n";
+
 fn file_named(name: &str) -> &'static str {
     match name {
         "coin" => COIN,
         "close coin" => CLOSE_COIN,
         "two" => TWO,
         "low coin" => LOW_COIN,
+        "gap" => GAP,
         _ => "",
     }
 }
 
-/// What the second text holds: a script for `refute`, and the certificate for every other command.
-fn second_of(words: &str) -> &'static str {
+/// What the second text holds: a script for `refute`, and a certificate for every other command.
+fn second_of(words: &str, file: &str) -> &'static str {
     if words.starts_with("refute") {
         ONE_STEP
+    } else if file == "gap" {
+        GAP_CERT
     } else {
         COIN_CERT
     }
@@ -57,17 +67,22 @@ fn file_of(alloc: Global, name: &str, bytes: &[u8]) -> Result<(String, Vec<u8>),
     Ok((name, Vec::from_slice(alloc, bytes)?))
 }
 
-/// A source whose names `f` and `c` hold these bytes, of which a read gives at most 64, and these calls fail.
+/// A source whose names `f` and `c` hold these bytes, of which a read gives at most so many, and these calls fail; want of memory where it
+/// would give none.
 pub fn source_of(
     alloc: Global,
     file: &[u8],
     second: &[u8],
+    most: usize,
     fail: Vec<u64>,
 ) -> Result<MemSource, AllocError> {
+    if most == 0 {
+        return Err(AllocError);
+    }
     let mut files = Vec::new(alloc);
     files.push(file_of(alloc, "f", file)?)?;
     files.push(file_of(alloc, "c", second)?)?;
-    Ok(MemSource::new(files, 64, fail))
+    Ok(MemSource::new(files, most, fail))
 }
 
 /// A sink of which a write takes at most so many bytes, and these calls fail; want of memory where it would take none.
@@ -107,16 +122,17 @@ pub fn write_run(
     write_outcome(&outcome, source, sink, text)
 }
 
-/// `words ; file ; calls ; most ; calls`: what the tool comes to over a file and a second text, where these calls of the
-/// source fail, a write takes at most so many bytes, and these writes fail.
+/// `words ; file ; most ; calls ; most ; calls`: what the tool comes to over a file and a second text, where a read gives at most so many
+/// bytes, these calls of the source fail, a write takes at most so many bytes, and these writes fail.
 pub fn write_call(alloc: Global, asked: &str, text: &mut String) -> Result<(), AllocError> {
     let (words, rest) = cut(asked, ';');
     let (file, rest) = cut(rest, ';');
+    let (read, rest) = cut(rest, ';');
     let (fail, rest) = cut(rest, ';');
     let (most, stop) = cut(rest, ';');
+    let second = second_of(words, file).as_bytes();
     let file = file_named(file).as_bytes();
-    let second = second_of(words).as_bytes();
-    let mut source = source_of(alloc, file, second, calls_of(alloc, fail)?)?;
+    let mut source = source_of(alloc, file, second, size(read)?, calls_of(alloc, fail)?)?;
     let mut sink = sink_of(alloc, size(most)?, calls_of(alloc, stop)?)?;
     write_run(alloc, words, &mut source, &mut sink, text)
 }

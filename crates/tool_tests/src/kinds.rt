@@ -8,7 +8,7 @@ use test_lines::{LineKind, differences};
 /// What a line asks.
 #[derive(Clone, Copy)]
 pub enum Kind {
-    /// `words ; file ; calls ; most ; calls`: what a call of the tool comes to.
+    /// `words ; file ; most ; calls ; most ; calls`: what a call of the tool comes to.
     Call,
     /// `words`: what they ask for.
     Words,
