@@ -1,12 +1,20 @@
 """Spoils files, scripts and certificates, and sees how the program answers them."""
 import os
 import re
+import resource
+import signal
 import subprocess
-import time
+import tempfile
 from concurrent.futures import ThreadPoolExecutor
 
+import splits
+
+# What a call may take of a processor, and what is told of it, in seconds.
 SECONDS = 300
 SLOW = 10
+
+# How many spoiled certificates are checked of a file whose goals need splits.
+CERTIFICATES = 12
 
 # The statuses with which each command may end, where its files can be read, its output be written and there is memory.
 STATUSES = {
@@ -64,11 +72,11 @@ def pairs(folder):
 
 
 class Hostile:
-    """Calls one program with spoiled files, and counts what it answers."""
+    """Calls one program with spoiled files, so many times beside each other, and counts what it answers."""
 
-    def __init__(self, program, folder):
-        self.program, self.folder = os.path.abspath(program), folder
-        self.calls, self.slow, self.told = 0, [], []
+    def __init__(self, program, folder, beside):
+        self.program, self.folder, self.beside = os.path.abspath(program), folder, beside
+        self.calls, self.with_splits, self.slow, self.told = 0, 0, [], []
 
     def put(self, name, text):
         with open(os.path.join(self.folder, name), "wb") as file:
@@ -76,19 +84,23 @@ class Hostile:
         return name
 
     def answer(self, *words):
-        ran = subprocess.run([self.program, *words], cwd=self.folder, stdin=subprocess.DEVNULL, capture_output=True, timeout=SECONDS, check=False)
-        return ran.returncode, ran.stdout, ran.stderr
+        """The status of a call, what it writes to the two outputs, and the seconds that it takes of a processor."""
+        with tempfile.TemporaryFile() as output, tempfile.TemporaryFile() as errors:
+            called = subprocess.Popen([self.program, *words], cwd=self.folder, stdin=subprocess.DEVNULL, stdout=output, stderr=errors)
+            resource.prlimit(called.pid, resource.RLIMIT_CPU, (SECONDS, SECONDS))
+            _, status, used = os.wait4(called.pid, 0)
+            called.returncode = os.waitstatus_to_exitcode(status)
+            output.seek(0)
+            errors.seek(0)
+            return called.returncode, output.read(), errors.read(), used.ru_utime + used.ru_stime
 
     def fault(self, words, text):
         """What is wrong with the answer to a call whose first file has this text, or None."""
-        began = time.monotonic()
-        try:
-            status, output, errors = self.answer(*words)
-        except subprocess.TimeoutExpired:
-            return "no answer after %d seconds" % SECONDS
-        taken = time.monotonic() - began
+        status, output, errors, taken = self.answer(*words)
         if taken > SLOW:
-            self.slow.append((taken, words, text))
+            self.slow.append("%d seconds: %s" % (taken, self.shown(words)))
+        if status in (-signal.SIGXCPU, -signal.SIGKILL):
+            return "no answer after %d seconds" % SECONDS
         if status not in STATUSES[words[0]]:
             return "status %d" % status
         if errors:
@@ -102,13 +114,22 @@ class Hostile:
         lines = text.split(b"\n")
         return None if 1 <= line <= len(lines) and 1 <= column <= len(lines[line - 1]) + 1 else "a place outside the file"
 
+    def shown(self, words):
+        """The words of a call, and the texts of its files."""
+        texts = []
+        for word in words[1:]:
+            if os.path.exists(os.path.join(self.folder, word)):
+                with open(os.path.join(self.folder, word), "rb") as file:
+                    texts.append("%s:\n%s\n" % (word, file.read().decode("utf-8", "backslashreplace")))
+        return "%s\n%s" % (" ".join(words), "".join(texts))
+
     def called(self, calls):
         """Makes calls, each with the text of its first file, beside each other."""
-        with ThreadPoolExecutor(os.cpu_count()) as pool:
+        with ThreadPoolExecutor(self.beside) as pool:
             for (words, text), fault in zip(calls, pool.map(lambda call: self.fault(*call), calls)):
                 self.calls += 1
                 if fault is not None:
-                    self.told.append("%s: %s\nThe file:\n%s" % (" ".join(words), fault, text.decode("utf-8", "backslashreplace")))
+                    self.told.append("%s: %s" % (fault, self.shown(words)))
 
     def of_file(self, number, writer, text, script, procedures):
         """Calls the commands of HeyVL on a spoiled file, and on the file as it is with a spoiled script and spoiled certificates."""
@@ -117,14 +138,29 @@ class Hostile:
         certificates = self.answer("certify", whole)[1]
         good_script = self.put("%d.script" % number, script)
         bad_script = self.put("%d.bad.script" % number, spoiled(writer, script))
-        good_cert = self.put("%d.cert" % number, certificates)
-        bad_cert = self.put("%d.bad.cert" % number, spoiled(writer, certificates))
+        good_cert = self.put("%d.certificate" % number, certificates)
+        bad_cert = self.put("%d.bad.certificate" % number, spoiled(writer, certificates))
         name = writer.choice(procedures)
         calls = [((command, broken), bad) for command in ("verify", "print", "certify")]
         for command in ("run", "refute"):
             calls += [((command, whole, name, bad_script), text), ((command, broken, name, good_script), bad)]
         calls += [(("check", whole, bad_cert), text), (("check", broken, good_cert), bad)]
         calls += [((command, file, name, writer.choice(procedures)), held) for command in ("omega", "remainder") for file, held in ((whole, text), (broken, bad))]
+        self.called(calls)
+
+    def of_splits(self, number, writer, text):
+        """Calls the commands of goals on a spoiled file whose goals need splits, and `check` on the file as it is with certificates that are
+        spoiled at their splits."""
+        whole, bad = self.put("%d.heyvl" % number, text), spoiled(writer, text)
+        broken = self.put("%d.bad.heyvl" % number, bad)
+        certificates = self.answer("certify", whole)[1]
+        good_cert = self.put("%d.certificate" % number, certificates)
+        calls = [(("verify", broken), bad), (("certify", broken), bad), (("check", broken, good_cert), bad), (("check", whole, good_cert), text)]
+        for at in range(CERTIFICATES if splits.has_splits(certificates) else 0):
+            bad_cert = splits.spoiled(writer, certificates)
+            bad_cert = spoiled(writer, bad_cert) if writer.is_now(0.2) else bad_cert
+            calls.append((("check", whole, self.put("%d.%d.certificate" % (number, at), bad_cert)), text))
+            self.with_splits += 1
         self.called(calls)
 
     def of_pair(self, number, writer, text, pairs):
@@ -138,6 +174,6 @@ class Hostile:
         bad = spoiled(writer, text)
         words = "pgcl", self.put("%d.pgcl" % number, bad)
         self.called([(words, bad)])
-        status, output, _ = self.answer(*words)
+        status, output, _, _ = self.answer(*words)
         if status == 0:
             self.called([(("verify", self.put("%d.made.heyvl" % number, output)), output)])
