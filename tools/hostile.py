@@ -1,4 +1,4 @@
-"""Spoils files, scripts and certificates, and sees how the program answers them."""
+"""Spoils files, scripts and certificates, and sees how the program answers them; of certificates also by a reader of its own."""
 import os
 import re
 import resource
@@ -7,6 +7,7 @@ import subprocess
 import tempfile
 from concurrent.futures import ThreadPoolExecutor
 
+import certificates
 import splits
 
 # What a call may take of a processor, and what is told of it, in seconds.
@@ -26,6 +27,8 @@ REFUSALS = re.compile(
     rb"file too long\n|script line \d+: fault\n|certificate line \d+: fault\n|no such procedure\n|[^\n]+ is not a program\n"
     rb"|not an omega pair\n|not a remainder pair\n|[^\n]+ is not a coproc\n"
 )
+LINE = re.compile(rb"certificate line (\d+): fault\n")
+LONGEST = 2**20
 PIECES = [
     b"(", b")", b"{", b"}", b"[", b"]", b",", b":", b";", b"=", b"==", b"<", b"<=", b"==>", b"->", b".", b"..", b"?", b"!", b"~", b"@", b"/",
     b"/*", b"*/", b"//", b"\\cap ", b"\\cup ", b"\\infty ", b"\\", b"0", b"1", b"1/2", b"1/0", b"0.5", b"99999999999999999999",
@@ -105,14 +108,23 @@ class Hostile:
             return "status %d" % status
         if errors:
             return "it writes to standard error"
+        place = PLACE.fullmatch(output) if status == 3 else None
+        if words[0] == "check" and place is None and not self.is_told(words[2], output):
+            return "another line of the certificates is at fault, or none"
         if status != 3:
             return None if output.endswith(b"\n") or not output else "its last line has no end"
-        place = PLACE.fullmatch(output)
         if place is None:
             return None if REFUSALS.fullmatch(output) else "another refusal"
         line, column = map(int, place.groups())
         lines = text.split(b"\n")
         return None if 1 <= line <= len(lines) and 1 <= column <= len(lines[line - 1]) + 1 else "a place outside the file"
+
+    def is_told(self, name, output):
+        """Whether the output tells the line at which certificates are at fault, where they are."""
+        with open(os.path.join(self.folder, name), "rb") as file:
+            text = file.read()
+        told = LINE.fullmatch(output)
+        return len(text) > LONGEST or certificates.fault(text) == (int(told[1]) if told else None)
 
     def shown(self, words):
         """The words of a call, and the texts of its files."""
@@ -135,11 +147,11 @@ class Hostile:
         """Calls the commands of HeyVL on a spoiled file, and on the file as it is with a spoiled script and spoiled certificates."""
         whole, bad = self.put("%d.heyvl" % number, text), spoiled(writer, text)
         broken = self.put("%d.bad.heyvl" % number, bad)
-        certificates = self.answer("certify", whole)[1]
+        certified = self.answer("certify", whole)[1]
         good_script = self.put("%d.script" % number, script)
         bad_script = self.put("%d.bad.script" % number, spoiled(writer, script))
-        good_cert = self.put("%d.certificate" % number, certificates)
-        bad_cert = self.put("%d.bad.certificate" % number, spoiled(writer, certificates))
+        good_cert = self.put("%d.certificate" % number, certified)
+        bad_cert = self.put("%d.bad.certificate" % number, spoiled(writer, certified))
         name = writer.choice(procedures)
         calls = [((command, broken), bad) for command in ("verify", "print", "certify")]
         for command in ("run", "refute"):
@@ -153,11 +165,11 @@ class Hostile:
         spoiled at their splits."""
         whole, bad = self.put("%d.heyvl" % number, text), spoiled(writer, text)
         broken = self.put("%d.bad.heyvl" % number, bad)
-        certificates = self.answer("certify", whole)[1]
-        good_cert = self.put("%d.certificate" % number, certificates)
+        certified = self.answer("certify", whole)[1]
+        good_cert = self.put("%d.certificate" % number, certified)
         calls = [(("verify", broken), bad), (("certify", broken), bad), (("check", broken, good_cert), bad), (("check", whole, good_cert), text)]
-        for at in range(CERTIFICATES if splits.has_splits(certificates) else 0):
-            bad_cert = splits.spoiled(writer, certificates)
+        for at in range(CERTIFICATES if splits.has_splits(certified) else 0):
+            bad_cert = splits.spoiled(writer, certified)
             bad_cert = spoiled(writer, bad_cert) if writer.is_now(0.2) else bad_cert
             calls.append((("check", whole, self.put("%d.%d.certificate" % (number, at), bad_cert)), text))
             self.with_splits += 1
