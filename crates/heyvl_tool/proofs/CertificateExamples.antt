@@ -1,7 +1,8 @@
 -- Worked replies of `certify` and `check`, on a file with one procedure that has no body, and on an empty text.
 use Rattle.cert_text.specs.Certificates.{certificates_of}
+use Rattle.cert_text.specs.Lines.{last, line_text, title}
 use Rattle.cert_text.specs.Texts.AreFirstLines.{of_text}
-use Rattle.cert_text.specs.Texts.{IsFirstFault}
+use Rattle.cert_text.specs.Texts.{IsFirstFault, closed, goals_lines, version}
 use Rattle.heyvl_num.specs.Value.{zeroᵛ}
 use Rattle.heylo_formula.specs.Formula.{Form}
 use Rattle.heylo_formula.specs.declared.goals.GoalId.{GoalId}
@@ -22,7 +23,7 @@ use Rattle.heyvl_acts.specs.Acts.{TypedProcedure, procedure_at}
 use Rattle.heyvl_acts.specs.Program.{IsProgram}
 use Rattle.heyvl_types.specs.Files.{first_fault}
 use Rattle.std.proofs.lemmas.Bool.{false≢true}
-use Rattle.std.proofs.Common.{List, None, Some, [], ap, arith, codes, length, refl, sym, true, false, ◌++◌, ◌∙◌, ◌∷◌, ◌≡◌, ℕ}
+use Rattle.std.proofs.Common.{List, None, Some, [], ap, arith, codes, length, map, refl, sym, true, false, ◌++◌, ◌∙◌, ◌∷◌, ◌≡◌, ℕ}
 use Rattle.std.specs.Fmt.{digits}
 use Rattle.std.specs.List.{Contains}
 use Rattle.std.specs.Prelude.{Vec}
@@ -61,7 +62,7 @@ empty_fault = record {
   place = refl;
   allowed = of_text [] (codes "caesar certificate 1" ∷ codes "end" ∷ []) (record { growing = tt; each = tt }) refl;
   refused = λ next behind e lines. no_text_has_no_line next behind e;
-  unfinished = λ cs spells. let text = ap length spells.text in omega (arith, text);
+  unfinished = λ cs spells. no_text_has_no_line (line_text (title (version cs))) (closed (map line_text (goals_lines cs ++ last ∷ []))) spells.text;
 }
 
 abbrev empty_reply : Reply
