@@ -134,7 +134,11 @@ fn bounds_from_below_and_violations(rt: HostRuntime) -> Result<(), AllocError> {
 
 #[test]
 fn calls_over_failing_devices(rt: HostRuntime) -> Result<(), AllocError> {
-    check_texts(&rt, Kind::Call, &[READ_FAULTS, SHORT_READS, PREFIXES, BYTES, SPLITS])
+    check_texts(
+        &rt,
+        Kind::Call,
+        &[READ_FAULTS, SHORT_READS, PREFIXES, BYTES, SPLITS],
+    )
 }
 
 /// The second text is read, and may be too long, before a fault of the file is told.

@@ -29,7 +29,8 @@ const GAP: &str =
     "coproc gap(x: Int, y: Int) -> () pre ite(y <= 2*x && y <= 2 - 2*x && 1 <= y, 0, 1) post 1 { }";
 
 /// Its certificate.
-const GAP_CERT: &str = "caesar certificate 2\ngoal 0 main\ns\ns\ns\ni 0 0\nf 0:1 2:1 3:2\nf 1:1 2:1 3:2\nf 3:1\nf 2:1\nf 1:1\nend\n";
+const GAP_CERT: &str =
+    "caesar certificate 2\ngoal 0 main\ns\ns\ns\ni 0 0\nf 0:1 2:1 3:2\nf 1:1 2:1 3:2\nf 3:1\nf 2:1\nf 1:1\nend\n";
 
 fn file_named(name: &str) -> &'static str {
     match name {
