@@ -1,12 +1,12 @@
 -- What is answered at the end of a text, and at a line that isn't allowed.
 use Prim.Native.Nat.{suc, zero}
-use Rattle.std.proofs.Common.{◌≡◌, ◌≢◌, ℕ, ◌+◌, ◌≤◌, List, [], ◌∷◌, ◌++◌, Some, None, Result, Ok, Err, length, length-append, get_or, Vec, Global, IfOk, IfErr, MatchResult, refl, sym, ap, ◌∙◌, subst, arith}
+use Rattle.std.proofs.Common.{◌≡◌, ◌≢◌, ℕ, ℤ, ◌+◌, ◌≤◌, List, [], ◌∷◌, ◌++◌, Some, None, Result, Ok, Err, length, length-append, get_or, Vec, Global, IfOk, IfErr, MatchResult, refl, sym, ap, ◌∙◌, subst, arith}
 use Rattle.std.proofs.lemmas.List.{append-nil}
 use Rattle.std.specs.List.{All}
 use Rattle.goal_answers.specs.declared.trees.GoalCert.{GoalCert}
 use Rattle.cert_text.specs.declared.stops.CertStop.{CertStop}
 use Rattle.cert_text.specs.declared.stops.CertStop.TheVariants.{Fault, Memory}
-use Rattle.cert_text.specs.Certificates.{Certificate, certificates_of}
+use Rattle.cert_text.specs.Certificates.{Certificate, IsWholeSplit, certificates_of}
 use Rattle.cert_text.specs.declared.versions.Version.TheVariants as versions
 use Rattle.cert_text.specs.Lines.{Line, title, goal, split, whole, farkas, plain, last, line_text}
 use Rattle.cert_text.specs.internal.WholeLines.{IsLine}
@@ -15,8 +15,9 @@ use Rattle.cert_text.specs.Stops.{IsMemory, IsStop, IsFaultOrMemory}
 use Rattle.cert_text.specs.internal.Reading.{State, next}
 use Rattle.cert_text.specs.internal.Ends.{IsWhole}
 use Rattle.cert_text.specs.internal.Steps.{IsStep, IsStuck}
-use Rattle.cert_text.specs.internal.Words.{IsEndOrAt}
-use Rattle.cert_text.proofs.Progress.{IsProgress, progress_more, fault_here, fault_at_end, spelled_whole, spelled_only, fault_once}
+use Rattle.cert_text.specs.internal.Words.{IsFreeOf, IsEndOrAt}
+use Rattle.cert_text.proofs.Progress.{IsProgress, line_free, progress_more, fault_here, fault_at_end, spelled_whole, spelled_only, fault_once}
+use Rattle.cert_text.proofs.Unique.{line_once}
 
 -- The answer of a text.
 pub record IsAnswer (bytes : List ℕ) (r : Result (Vec GoalCert Global) CertStop) : Type 0 where
@@ -147,3 +148,18 @@ pub stuck_plain : (rest behind : List ℕ) (s s' : State) → rest ≡ 116 ∷ 1
 stuck_plain rest behind s s' e n =
     let P : Line → Type 0 = λ l. next s l ≡ None in
     IsStuck.refused (116 ∷ []) behind (letter_free 116 (λ h. omega arith)) e (λ l i t. subst P (sym (plain_only l i t)) n)
+
+-- What reading a line that splits a whole variable gives.
+
+all_from_free : (mark : ℕ) (bs : List ℕ) → IsFreeOf mark bs → All (λ b. b ≢ mark) bs
+all_from_free mark [] free i d l = absurd (omega arith)
+all_from_free mark (b ∷ bs) free zero d l = free.0
+all_from_free mark (b ∷ bs) free (suc k) d l = all_from_free mark bs free.1 k d (omega arith)
+
+pub step_whole : (rest behind : List ℕ) (s s' : State) (x : ℕ) (m : ℤ) → IsWholeSplit x m → rest ≡ line_text (whole x m) ++ 10 ∷ behind → next s (whole x m) ≡ Some s' → IsStep s s' rest behind
+step_whole rest behind s s' x m k e n = record { line = whole x m; valid = k; parts = e; step = n; only = λ l i t. line_once l (whole x m) i k (sym t) }
+
+pub stuck_whole : (rest behind : List ℕ) (s s' : State) (x : ℕ) (m : ℤ) → IsWholeSplit x m → rest ≡ line_text (whole x m) ++ 10 ∷ behind → next s (whole x m) ≡ None → IsStuck s s' rest
+stuck_whole rest behind s s' x m k e n =
+    let P : Line → Type 0 = λ l. next s l ≡ None in
+    IsStuck.refused (line_text (whole x m)) behind (all_from_free 10 (line_text (whole x m)) (line_free (whole x m) k)) e (λ l i t. subst P (line_once (whole x m) l k i t) n)

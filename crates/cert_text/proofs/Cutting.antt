@@ -4,9 +4,9 @@ use Rattle.std.proofs.Common.{◌≡◌, ◌≢◌, ℕ, ℤ, pos, negsuc, ◌<�
 use Rattle.std.specs.Fmt.{signed_decimal}
 use Rattle.std.specs.List.{All}
 use Rattle.std.specs.Int.{IsInRange}
-use Rattle.std.specs.Str.Parse.{AllDigits, digits_value}
 use Rattle.std.proofs.lemmas.Fmt.{decimal_is_IsNumeral}
-use Rattle.std.proofs.lemmas.Str.Parse.{IsNumeralModel, numerals_by_value, tells_digits, not_in_digits}
+use Rattle.std.proofs.lemmas.Str.Parse.{not_in_digits}
+use Rattle.cert_text.proofs.Decimals.{own}
 use Rattle.cert_text.specs.declared.goal_names.GoalName.{GoalName}
 use Rattle.heylo_formula.specs.declared.goals.GoalId.{GoalId}
 use Rattle.cert_text.specs.Lines.{multipliers_text}
@@ -24,9 +24,6 @@ free_from_reads mark (b ∷ bs) reads = (reads 0 (omega arith), free_from_reads 
 pub IsFreeOf-append : (mark : ℕ) (bs cs : List ℕ) → IsFreeOf mark bs → IsFreeOf mark cs → IsFreeOf mark (bs ++ cs)
 IsFreeOf-append mark [] cs f g = g
 IsFreeOf-append mark (b ∷ bs) cs f g = (f.0, IsFreeOf-append mark bs cs f.1 g)
-
-own : IsNumeralModel (AllDigits 10) (digits_value 10)
-own = numerals_by_value (AllDigits 10) tells_digits
 
 -- No digit of a number is a byte that is no digit.
 pub IsFreeOf-decimal : (mark n : ℕ) → (IsInRange 48 57 mark → ⊥) → n < 2 ^ 64 → IsFreeOf mark (decimal n)

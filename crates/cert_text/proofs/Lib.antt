@@ -6,6 +6,7 @@ pub mod Multipliers
 pub mod Filling
 pub mod Written
 pub mod Progress
-pub mod Answering
 pub mod Unique
+pub mod Answering
+pub mod FrontDigits
 pub mod Rows

@@ -118,7 +118,7 @@ initial_of last = refl
 same_initial : (k l : Line) → line_text k ≡ line_text l → initial k ≡ initial l
 same_initial k l e = sym (initial_of k) ∙ ap (λ (bs : List ℕ). get_or bs 0 0) e ∙ initial_of l
 
-line_once : (k l : Line) → IsLine k → IsLine l → line_text k ≡ line_text l → k ≡ l
+pub line_once : (k l : Line) → IsLine k → IsLine l → line_text k ≡ line_text l → k ≡ l
 unfolding initial
 line_once (title versions.One) (title versions.One) a b e = refl
 line_once (title versions.One) (title versions.Two) a b e = let f : 49 ≡ 50 = ap (λ (bs : List ℕ). get_or bs 19 0) e in absurd (omega (arith, f))

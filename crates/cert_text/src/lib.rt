@@ -1,6 +1,7 @@
 //! The text of certificates.
 #![tactic(auto)]
 
+mod fronts;
 mod goal_names;
 mod laws;
 mod lines;

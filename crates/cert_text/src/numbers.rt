@@ -1,22 +1,23 @@
 //! Numbers of a text of certificates.
 
-ghost use Rattle.std.specs.Prelude.{◌≡◌, ℕ, ℤ, ◌<◌, ◌^◌, decimal, IfSome, Some, unsigned_abs};
+ghost use Rattle.std.specs.Prelude.{◌≡◌, ℕ, ℤ, ◌<◌, ◌^◌, decimal, FitsSigned, IfSome, Some, neg_ℤ, pos, unsigned_abs};
 ghost use Rattle.std.specs.Fmt.{signed_decimal};
-
-use itoa::Buffer;
+ghost use Rattle.std.specs.Int.{w64};
 
 /// The number whose decimal digits these are, without a sign or a leading zero.
 pub fn number(digits: &[u8]) -> Option<u64>
     ensures found { IfSome result (λ n. digits.now ≡ decimal n) }
     ensures only { (n : ℕ) → n < 2 ^ 64 → digits.now ≡ decimal n → result ≡ Some n }
 {
-    let text = str::from_utf8(digits).ok()?;
-    let number = text.parse::<u64>().ok()?;
-    let mut buffer = Buffer::new();
-    if buffer.format(number).as_bytes() == digits {
-        Some(number)
-    } else {
+    let (first, behind) = digits.split_first()?;
+    if *first == b'0' {
+        if behind.is_empty() { Some(0) } else { None }
+    } else if *first == b'+' {
+        // `parse` takes a plus.
         None
+    } else {
+        let text = str::from_utf8(digits).ok()?;
+        text.parse::<u64>().ok()
     }
 }
 
@@ -28,17 +29,28 @@ pub fn short_number(digits: &[u8]) -> Option<u32>
     u32::try_from(number(digits)?).ok()
 }
 
+/// The number with a minus in front, where it isn't 0 and fits.
+pub fn negative(number: u64) -> Option<i64>
+    ensures found { IfSome result (λ z. (0 < number) × (z ≡ neg_ℤ (pos number))) }
+    ensures fits { IfSome result (λ z. FitsSigned w64 z) }
+    ensures only { 0 < number → number < 2 ^ 63 → result ≡ Some (neg_ℤ (pos number)) }
+{
+    if number == 0 {
+        None
+    } else {
+        0_i64.checked_sub_unsigned(number)
+    }
+}
+
 /// The whole number whose decimal digits these are, with `-` in front of a negative one, and without a leading zero.
 pub fn signed_number(digits: &[u8]) -> Option<i64>
     ensures found { IfSome result (λ z. digits.now ≡ signed_decimal z) }
     ensures only { (z : ℤ) → unsigned_abs z < 2 ^ 63 → digits.now ≡ signed_decimal z → result ≡ Some z }
 {
-    let text = str::from_utf8(digits).ok()?;
-    let number = text.parse::<i64>().ok()?;
-    let mut buffer = Buffer::new();
-    if buffer.format(number).as_bytes() == digits {
-        Some(number)
+    let (first, behind) = digits.split_first()?;
+    if *first == b'-' {
+        negative(number(behind)?)
     } else {
-        None
+        i64::try_from(number(digits)?).ok()
     }
 }

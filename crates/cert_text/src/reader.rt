@@ -8,8 +8,9 @@ ghost use Rattle.cert_text.specs.internal.Reading.{state_of};
 ghost use Rattle.cert_text.specs.internal.Ends.{IsWhole};
 ghost use Rattle.cert_text.specs.internal.Steps.{IsStep, IsStuck};
 
+use crate::fronts::front_split;
 use crate::lines::read_line;
-use crate::reading::{Place, Reading, next, next_plain, next_split, unread};
+use crate::reading::{Place, Reading, next, next_plain, next_split, next_whole, unread};
 use crate::stops::CertStop;
 use crate::words::cut;
 use goal_answers::GoalCert;
@@ -55,6 +56,12 @@ fn first_line<'a>(
         }
     } else if let Some(behind) = rest.strip_prefix(b"t\n".as_slice()) {
         if next_plain(alloc, reading)? {
+            Ok(Some(behind))
+        } else {
+            Ok(None)
+        }
+    } else if let Some((variable, bound, behind)) = front_split(rest) {
+        if next_whole(reading, variable, bound)? {
             Ok(Some(behind))
         } else {
             Ok(None)

@@ -144,7 +144,7 @@ pub fn next_split(reading: &mut Reading) -> Result<bool, AllocError>
 }
 
 /// Goes on by a split of a whole variable, where one is allowed.
-fn next_whole(reading: &mut Reading, variable: u32, bound: i64) -> Result<bool, AllocError>
+pub fn next_whole(reading: &mut Reading, variable: u32, bound: i64) -> Result<bool, AllocError>
     ensures { IfOk result (λ allowed. after allowed (state_of reading.new) ≡ next (state_of reading.old) (whole_line variable bound)) }
 {
     match reading.place {
