@@ -1,9 +1,13 @@
-"""Random goals over whole variables, and a search through whole points for the states in which they fail."""
+"""Random goals over whole variables, a search through whole points for the states in which they fail, and what others say of them."""
+import collections
 import functools
 import itertools
 import math
 import re
 from fractions import Fraction
+
+import goals
+import reports
 
 FACTORS = [1, 1, 1, 2, 2, 3, 3, 4, 5, 6, 7]
 MARKS = ["<=", "<=", "<"]
@@ -111,3 +115,31 @@ class Goal:
         state = {x: Fraction(value) for x, value in re.findall(r"(\w+) = ([-\d/]+)", shown)}
         is_typed = all(state[x].denominator == 1 and (t == "Int" or state[x] >= 0) for x, t in self.types.items())
         return is_typed and state.get(self.real, 0) >= 0 and self.fails_at(state)
+
+
+class Comparison:
+    """Compares one goal after another with what a program and Z3 say of it, and counts."""
+
+    def __init__(self, program, z3, folder):
+        self.program, self.z3, self.folder, self.counts = program, z3, folder, collections.Counter()
+
+    def asked(self, text):
+        """The verdict of the program, and Z3's answer to the first goal."""
+        self.folder.written("file.heyvl", text)
+        self.folder.written("file.smt2", goals.of_file(text)[1])
+        told = reports.verdicts(self.folder.answer(self.program, "verify", "file.heyvl")[1])
+        said = self.folder.answer(self.z3, "-t:2000", "file.smt2")[1].split()
+        return told.get(("goal", "goal"), "unknown (bound): time"), said[0] if said else "unknown"
+
+    def fault(self, goal):
+        """What is wrong about the answers to a goal, or none."""
+        verdict, said = self.asked(goal.text())
+        is_found = any(map(goal.fails_at, goal.points()))
+        kind, _, cause = verdict.partition(" (bound): ")
+        kind = "fraction" if kind == "unknown" and cause.startswith("fraction ") else kind
+        self.counts.update([kind, (kind, said), "found" if is_found else "none" if goal.is_bounded else "open"])
+        claims = [{"verified": False, "not verified": True}.get(kind), {"unsat": False, "sat": True}.get(said)]
+        claims += [is_found] if is_found or goal.is_bounded else []
+        is_one = len({claim for claim in claims if claim is not None}) <= 1
+        is_right = is_one and (kind != "not verified" or goal.is_shown_right(cause))
+        return None if is_right else f"{verdict}, Z3 {said}, {'a' if is_found else 'no'} point found"
