@@ -6,7 +6,7 @@ use Rattle.std.proofs.lemmas.Option.{slice_get_within}
 use Rattle.heylo_formula.specs.Formula.{Form, Cond}
 use Rattle.heylo_graph.specs.Trees.{Tree}
 use Rattle.heylo_graph.specs.declared.nodes.Node.{Node}
-use Rattle.heylo_graph.specs.Nodes.{as_form, as_cond, with, assembled, joined, found, trees_after, trees, tree_at, Stands, IsGraph, Begins}
+use Rattle.heylo_graph.specs.Nodes.{as_form, as_cond, with, assembled, joined, found, trees_after, trees, tree_at, Stands, IsGraph, IsJoined, Begins}
 
 pub get_left : {X : Type 0} (xs ys : List X) (i : ℕ) → i < length xs → slice_get (xs ++ ys) i ≡ slice_get xs i
 get_left [] ys i h = absurd (omega (arith, h))
@@ -173,6 +173,10 @@ stands_joined old new id n t g b h e =
 pub begins_inserted : (old new : List Node) (n : Node) (b : Bool) → new ≡ (if b then old else old ++ n ∷ []) → Begins old new
 begins_inserted old new n true e = record { more = []; whole = e ∙ sym (append-nil old) }
 begins_inserted old new n false e = record { more = n ∷ []; whole = e }
+
+-- The same of a list that is known by another name.
+pub joined_as : (old new seen : List Node) (n : Node) (b : Bool) → old ≡ seen → new ≡ (if b then old else old ++ n ∷ []) → IsJoined seen n new
+joined_as old new seen n b e k = subst (λ l. IsJoined l n new) e (record { stood = b; whole = k })
 
 pub graph_inserted : (old new : List Node) (n : Node) (t : Tree) (b : Bool) → IsGraph old → assembled (tree_at old) n ≡ Some t → new ≡ (if b then old else old ++ n ∷ []) → IsGraph new
 graph_inserted old new n t true g h e = subst IsGraph (sym e) g

@@ -1,5 +1,5 @@
 -- The trees of a list of nodes, each of whose parts stands before it.
-use Rattle.std.specs.Prelude.{◌≡◌, ℕ, ◌<◌, List, [], ◌∷◌, ◌++◌, Option, Some, None, slice_get, length}
+use Rattle.std.specs.Prelude.{◌≡◌, ℕ, ◌<◌, Bool, if◌then◌else◌, List, [], ◌∷◌, ◌++◌, Option, Some, None, slice_get, length}
 use Rattle.heyvl_num.specs.Extended.{value_of}
 use Rattle.heylo_formula.specs.Formula.{Form, Cond}
 use Rattle.heylo_graph.specs.Trees.{Tree}
@@ -117,3 +117,8 @@ pub record IsGraph (ns : List Node) : Type 0 where
 pub record Begins (old new : List Node) : Type 0 where
   pub more : List Node
   pub whole : new ≡ old ++ more
+
+-- The list is as it was, where the node stood there; else it has the node behind it.
+pub record IsJoined (old : List Node) (n : Node) (new : List Node) : Type 0 where
+  pub stood : Bool
+  pub whole : new ≡ (if stood then old else old ++ n ∷ [])

@@ -3,7 +3,7 @@
 ghost use Rattle.std.specs.Prelude.{◌^◌, ◌≡◌, ◌<◌, ◌≤◌, ℕ, [], List, Option, length, min, take, slice_get, IfOk, OnErr, Some, OnOk};
 ghost use Rattle.heylo_graph.specs.Trees.{Tree, nodes_of, depth_of};
 ghost use Rattle.heylo_graph.specs.Parts.{first, second, third};
-ghost use Rattle.heylo_graph.specs.Nodes.{Stands, IsGraph, IsFitting, AreDifferent, Begins, HasTree, assembled, tree_at};
+ghost use Rattle.heylo_graph.specs.Nodes.{Stands, IsGraph, IsFitting, IsJoined, AreDifferent, Begins, HasTree, assembled, tree_at};
 ghost use Rattle.heylo_graph.specs.internal.StoredSizes.{size_of, part_size};
 ghost use Rattle.heylo_graph.specs.internal.Tables.{IsBefore, PartTree};
 
@@ -100,6 +100,7 @@ impl Graph {
     pub fn join(&mut self, node: Node) -> Result<NodeId, AllocError>
         requires { IsFitting self.old node }
         ensures begins { OnOk result (Begins self.old self.new) }
+        ensures last { OnOk result (IsJoined self.old node self.new) }
         ensures joined { IfOk result (λ id. slice_get self.new id ≡ Some node) }
         ensures tree { IfOk result (λ id. (t : Tree) → assembled (tree_at self.old) node ≡ Some t → Stands self.new id t) }
         ensures present { (t : Tree) → HasTree self.old t → assembled (tree_at self.old) node ≡ Some t → OnOk result (self.new ≡ self.old) }

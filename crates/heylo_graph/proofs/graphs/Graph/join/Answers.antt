@@ -1,6 +1,6 @@
 use Rattle.std.proofs.Common.{Some, slice_get, ap, subst, sym, ◌∙◌}
 use Rattle.heylo_graph.specs.Nodes.{assembled, tree_at, Stands}
-use Rattle.heylo_graph.proofs.Trees.{graph_inserted, begins_inserted, stands_joined}
+use Rattle.heylo_graph.proofs.Trees.{graph_inserted, begins_inserted, joined_as, stands_joined}
 use Rattle.heylo_graph.proofs.SameNodes.{node_is}
 use Rattle.heylo_graph.proofs.SameTrees.{adds_none, found_at}
 use Rattle.heylo_graph.proofs.StoredSizes.{stored_after}
@@ -10,6 +10,9 @@ pub invariant_of-self-2 : goal.invariant_of-self-2
 invariant_of-self-2 c =
     stored_after c.self.inside.nodes.keys c.insert_full-result.new.self.keys c.args.node c.requires.tree c.self.inside.sizes.items c.push.new.self.items c.truncate.new.self.items c.size_over-size.result c.len-len.result _
     c.self.invariant (ap (λ l. assembled (tree_at l) c.args.node) c.self.view_is ∙ c.requires.stands) (c.size_over-size.ensures c.requires.tree c.requires.stands) c.in_ok-index.ensures.keys c.len-len.ensures.len c.in_ok-push.ensures.items c.truncate.ensures.items
+
+pub returns-clause-last : goal.returns-clause-last
+returns-clause-last c = joined_as c.self.inside.nodes.keys c.insert_full-result.new.self.keys _ c.args.node _ c.self.view_is c.in_ok-index.ensures.keys
 
 pub returns-clause-joined : goal.returns-clause-joined
 returns-clause-joined c =
