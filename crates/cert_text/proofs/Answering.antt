@@ -7,7 +7,8 @@ use Rattle.goal_answers.specs.declared.trees.GoalCert.{GoalCert}
 use Rattle.cert_text.specs.declared.stops.CertStop.{CertStop}
 use Rattle.cert_text.specs.declared.stops.CertStop.TheVariants.{Fault, Memory}
 use Rattle.cert_text.specs.Certificates.{Certificate, certificates_of}
-use Rattle.cert_text.specs.Lines.{Line, title, goal, split, farkas, plain, last, line_text}
+use Rattle.cert_text.specs.declared.versions.Version.TheVariants as versions
+use Rattle.cert_text.specs.Lines.{Line, title, goal, split, whole, farkas, plain, last, line_text}
 use Rattle.cert_text.specs.internal.WholeLines.{IsLine}
 use Rattle.cert_text.specs.Texts.{Spells, IsFirstFault}
 use Rattle.cert_text.specs.Stops.{IsMemory, IsStop, IsFaultOrMemory}
@@ -108,17 +109,21 @@ abbrev first : List ℕ → ℕ
 first bs = get_or bs 0 0
 
 split_only : (k : Line) → IsLine k → line_text split ≡ line_text k → k ≡ split
-split_only title i e = let h : 115 ≡ 99 = ap first e in absurd (omega (arith, h))
+split_only (title versions.One) i e = let h : 115 ≡ 99 = ap first e in absurd (omega (arith, h))
+split_only (title versions.Two) i e = let h : 115 ≡ 99 = ap first e in absurd (omega (arith, h))
 split_only (goal n) i e = let h : 115 ≡ 103 = ap first e in absurd (omega (arith, h))
 split_only split i e = refl
+split_only (whole x m) i e = let h : 115 ≡ 105 = ap first e in absurd (omega (arith, h))
 split_only (farkas ms) i e = let h : 115 ≡ 102 = ap first e in absurd (omega (arith, h))
 split_only plain i e = let h : 115 ≡ 116 = ap first e in absurd (omega (arith, h))
 split_only last i e = let h : 115 ≡ 101 = ap first e in absurd (omega (arith, h))
 
 plain_only : (k : Line) → IsLine k → line_text plain ≡ line_text k → k ≡ plain
-plain_only title i e = let h : 116 ≡ 99 = ap first e in absurd (omega (arith, h))
+plain_only (title versions.One) i e = let h : 116 ≡ 99 = ap first e in absurd (omega (arith, h))
+plain_only (title versions.Two) i e = let h : 116 ≡ 99 = ap first e in absurd (omega (arith, h))
 plain_only (goal n) i e = let h : 116 ≡ 103 = ap first e in absurd (omega (arith, h))
 plain_only split i e = let h : 116 ≡ 115 = ap first e in absurd (omega (arith, h))
+plain_only (whole x m) i e = let h : 116 ≡ 105 = ap first e in absurd (omega (arith, h))
 plain_only (farkas ms) i e = let h : 116 ≡ 102 = ap first e in absurd (omega (arith, h))
 plain_only plain i e = refl
 plain_only last i e = let h : 116 ≡ 101 = ap first e in absurd (omega (arith, h))

@@ -1,6 +1,7 @@
 -- Texts that are cut at a mark, in one way alone.
 use Prim.Native.Nat.{suc}
-use Rattle.std.proofs.Common.{◌≡◌, ◌≢◌, ℕ, ◌<◌, ◌^◌, List, [], ◌∷◌, ◌++◌, Some, length, get_or, decimal, refl, sym, ap, ◌∙◌, arith}
+use Rattle.std.proofs.Common.{◌≡◌, ◌≢◌, ℕ, ℤ, pos, negsuc, ◌<◌, ◌^◌, List, [], ◌∷◌, ◌++◌, Some, length, get_or, decimal, unsigned_abs, refl, sym, ap, ◌∙◌, arith}
+use Rattle.std.specs.Fmt.{signed_decimal}
 use Rattle.std.specs.List.{All}
 use Rattle.std.specs.Int.{IsInRange}
 use Rattle.std.specs.Str.Parse.{AllDigits, digits_value}
@@ -30,6 +31,11 @@ own = numerals_by_value (AllDigits 10) tells_digits
 -- No digit of a number is a byte that is no digit.
 pub IsFreeOf-decimal : (mark n : ℕ) → (IsInRange 48 57 mark → ⊥) → n < 2 ^ 64 → IsFreeOf mark (decimal n)
 IsFreeOf-decimal mark n apart small = free_from_reads mark (decimal n) (λ i l. not_in_digits own (decimal n) mark (decimal_is_IsNumeral n small).0.1 apart i l)
+
+-- The same of a whole number, where the byte is no `-` either.
+pub IsFreeOf-signed : (mark : ℕ) (m : ℤ) → (IsInRange 48 57 mark → ⊥) → 45 ≢ mark → unsigned_abs m < 2 ^ 62 → IsFreeOf mark (signed_decimal m)
+IsFreeOf-signed mark (pos n) apart other small = IsFreeOf-decimal mark n apart (omega arith)
+IsFreeOf-signed mark (negsuc n) apart other small = (other, IsFreeOf-decimal mark (suc n) apart (omega arith))
 
 pub space_is_no_digit : IsInRange 48 57 32 → ⊥
 space_is_no_digit r = let a = r.0 in omega arith
@@ -85,6 +91,9 @@ cut_after_multiplier text before behind m ms k parts free at e =
 pub same_name : (p q : ℕ) (i j : GoalId) → p ≡ q → i ≡ j → let N : Type 0 = GoalName in let a : N = record { proc = p; id = i } in let b : N = record { proc = q; id = j } in Some a ≡ Some b
 same_name p q i j e f = let N : Type 0 = GoalName in
     ap (λ (z : ℕ). let a : N = record { proc = z; id = i } in Some a) e ∙ ap (λ (z : GoalId). let a : N = record { proc = q; id = z } in Some a) f
+
+pub same_split : (x : ℕ) (m : ℤ) (y : ℕ) (n : ℤ) → x ≡ y → m ≡ n → let a : ℕ × ℤ = (x, m) in let b : ℕ × ℤ = (y, n) in Some a ≡ Some b
+same_split x m y n e f = ap (λ (z : ℕ). let a : ℕ × ℤ = (z, m) in Some a) e ∙ ap (λ (z : ℤ). let a : ℕ × ℤ = (y, z) in Some a) f
 
 pub same_pair : (i m j n : ℕ) → i ≡ j → m ≡ n → let a : ℕ × ℕ = (i, m) in let b : ℕ × ℕ = (j, n) in Some a ≡ Some b
 same_pair i m j n e f = ap (λ (z : ℕ). let a : ℕ × ℕ = (z, m) in Some a) e ∙ ap (λ (z : ℕ). let a : ℕ × ℕ = (j, z) in Some a) f

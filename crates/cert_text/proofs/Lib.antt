@@ -1,4 +1,5 @@
 pub mod Decimals
+pub mod Editions
 pub mod Walk
 pub mod Cutting
 pub mod Multipliers

@@ -1,20 +1,23 @@
 -- How far a text has been read, and what follows at its end or at a line that isn't allowed.
 use Rattle.std.proofs.Common.{◌≡◌, ◌≢◌, ℕ, ◌+◌, ◌<◌, ◌≤◌, ◌^◌, ◌==◌, true, not, List, [], ◌∷◌, ◌++◌, Option, Some, None, length, map, decimal, codes, refl, sym, ap, ◌∙◌, subst, arith, append_assoc, length-append}
 use Rattle.std.proofs.lemmas.List.{append-nil, map-append, length-map}
+use Rattle.std.specs.Fmt.{signed_decimal}
 use Rattle.std.specs.List.{All, AllByRecursion, list_all}
 use Rattle.goal_answers.specs.Trees.{Tree}
 use Rattle.heylo_formula.specs.declared.goals.GoalId.{GoalId}
 use Rattle.heylo_formula.specs.declared.goals.GoalId.TheVariants as ids
 use Rattle.heylo_formula.specs.GoalOrder.{loop_of}
-use Rattle.cert_text.specs.Certificates.{Certificate, HasMultipliers, IsWritable, AreWritable}
-use Rattle.cert_text.specs.Lines.{Line, title, goal, split, farkas, plain, last, line_text, id_text, multipliers_text}
+use Rattle.cert_text.specs.declared.versions.Version.TheVariants as versions
+use Rattle.cert_text.specs.Certificates.{Certificate, HasNumbers, IsWritable, AreWritable}
+use Rattle.cert_text.specs.Lines.{Line, title, goal, split, whole, farkas, plain, last, line_text, id_text, multipliers_text}
 use Rattle.cert_text.specs.internal.WholeLines.{IsLine}
 use Rattle.cert_text.specs.Texts.{tree_lines, goals_lines, certificate_lines, closed, Spells, AreFirstLines, IsFirstFault}
+use Rattle.cert_text.specs.Texts.AreFirstLines.{of_text, before_end}
 use Rattle.cert_text.specs.internal.Reading.{State, start, done, next, run, IsRising}
 use Rattle.cert_text.specs.internal.Words.{IsFreeOf}
-use Rattle.cert_text.proofs.Cutting.{IsFreeOf-append, IsFreeOf-decimal, line_feed_is_no_digit, multiplier_free, cut_once, free_from_all}
+use Rattle.cert_text.proofs.Cutting.{IsFreeOf-append, IsFreeOf-decimal, IsFreeOf-signed, line_feed_is_no_digit, multiplier_free, cut_once, free_from_all}
 use Rattle.cert_text.proofs.Multipliers.{rising_from_multipliers}
-use Rattle.cert_text.proofs.Walk.{run-append, first_lines, no_first_lines, end_of, whole_list}
+use Rattle.cert_text.proofs.Walk.{run-append, run-certificate_lines, run-front_lines, AreBegun, first_lines, no_state, end_of, whole_list}
 
 -- No line holds a line feed.
 
@@ -36,12 +39,17 @@ free_multipliers least (m ∷ ms) r =
     ((λ h. omega arith), IsFreeOf-append 10 text (multipliers_text ms) (multiplier_free 10 m line_feed_is_no_digit (λ h. omega arith) r.1) (free_multipliers (m.0 + 1) ms r.2))
 
 pub line_free : (l : Line) → IsLine l → IsFreeOf 10 (line_text l)
-line_free title k = free_by_test (codes "caesar certificate 1") refl
+line_free (title versions.One) k = free_by_test (codes "caesar certificate 1") refl
+line_free (title versions.Two) k = free_by_test (codes "caesar certificate 2") refl
 line_free (goal n) k =
     let small : n.proc < 2 ^ 64 = omega (arith, k.proc) in
     IsFreeOf-append 10 (codes "goal ") (decimal n.proc ++ 32 ∷ id_text n.id) (free_by_test (codes "goal ") refl)
     (IsFreeOf-append 10 (decimal n.proc) (32 ∷ id_text n.id) (IsFreeOf-decimal 10 n.proc line_feed_is_no_digit small) ((λ h. omega arith), free_id n.id k.loop))
 line_free split k = free_by_test (codes "s") refl
+line_free (whole x m) k =
+    let small : x < 2 ^ 64 = omega (arith, k.variable) in
+    IsFreeOf-append 10 (codes "i ") (decimal x ++ 32 ∷ signed_decimal m) (free_by_test (codes "i ") refl)
+    (IsFreeOf-append 10 (decimal x) (32 ∷ signed_decimal m) (IsFreeOf-decimal 10 x line_feed_is_no_digit small) ((λ h. omega arith), IsFreeOf-signed 10 m line_feed_is_no_digit (λ h. omega arith) k.number))
 line_free (farkas ms) k = ((λ h. omega arith), free_multipliers 0 ms (rising_from_multipliers ms k))
 line_free plain k = free_by_test (codes "t") refl
 line_free last k = free_by_test (codes "end") refl
@@ -52,17 +60,21 @@ lines-append : (ks ls : List Line) → AllByRecursion IsLine ks → AllByRecursi
 lines-append [] ls a b = b
 lines-append (k ∷ ks) ls a b = (a.0, lines-append ks ls a.1 b)
 
-tree_lines_are : (t : Tree) → HasMultipliers t → AllByRecursion IsLine (tree_lines t)
+tree_lines_are : (t : Tree) → HasNumbers t → AllByRecursion IsLine (tree_lines t)
 tree_lines_are (Tree.split t u) h = (tt, lines-append (tree_lines t) (tree_lines u) (tree_lines_are t h.0) (tree_lines_are u h.1))
 tree_lines_are (Tree.farkas ms) h = (h, tt)
 tree_lines_are Tree.plain h = (tt, tt)
+tree_lines_are (Tree.whole x m t u) h = (h.0, lines-append (tree_lines t) (tree_lines u) (tree_lines_are t h.1) (tree_lines_are u h.2))
 
 goals_lines_are : (cs : List Certificate) → AllByRecursion IsWritable cs → AllByRecursion IsLine (goals_lines cs)
 goals_lines_are [] h = tt
-goals_lines_are (c ∷ cs) h = (h.0.name, lines-append (tree_lines c.tree) (goals_lines cs) (tree_lines_are c.tree h.0.multipliers) (goals_lines_are cs h.1))
+goals_lines_are (c ∷ cs) h = (h.0.name, lines-append (tree_lines c.tree) (goals_lines cs) (tree_lines_are c.tree h.0.numbers) (goals_lines_are cs h.1))
 
 pub certificate_lines_are : (cs : List Certificate) → AreWritable cs → AllByRecursion IsLine (certificate_lines cs)
 certificate_lines_are cs w = (tt, lines-append (goals_lines cs) (last ∷ []) (goals_lines_are cs w.each) (tt, tt))
+
+pub front_lines_are : (cs : List Certificate) → AreWritable cs → AllByRecursion IsLine (title versions.Two ∷ goals_lines cs)
+front_lines_are cs w = (tt, goals_lines_are cs w.each)
 
 -- Lines of a text that begins with lines read.
 pub record GoesOn (ks lines : List Line) (more : List (List ℕ)) : Type 0 where
@@ -170,26 +182,34 @@ no_feed (b ∷ bs) (c ∷ before) behind f e = let h : bs ≡ before ++ 10 ∷ b
 
 -- The lines read are the first ones of a list.
 allowed_so_far : (bytes rest : List ℕ) (number : ℕ) (s : State) (p : IsProgress bytes rest number s) → AreFirstLines (map line_text p.lines)
-allowed_so_far bytes rest number s p =
-    let f = first_lines p.lines s p.valid p.reached in
-    record { certificates = f.0; others = map line_text f.1; writable = f.2; front = ap (λ (ls : List Line). map line_text ls) f.3 ∙ map-append line_text p.lines f.1 }
+allowed_so_far bytes rest number s p = texts_begun p.lines (first_lines p.lines s p.valid p.reached)
+  where
+    texts_begun : (ls : List Line) → AreBegun ls → AreFirstLines (map line_text ls)
+    texts_begun ls (AreBegun.of_list cs more w e) = of_text cs (map line_text more) w (ap (λ (ks : List Line). map line_text ks) e ∙ map-append line_text ls more)
+    texts_begun ls (AreBegun.of_front cs more w e) = before_end cs (map line_text more) w (ap (λ (ks : List Line). map line_text ks) e ∙ map-append line_text ls more)
 
 -- A line that isn't allowed.
 
-next_refused : (lines : List Line) (s : State) (word : List ℕ) (cs : List Certificate) → run lines (Some start) ≡ Some s → AreWritable cs
+next_refused : (lines : List Line) (s : State) (word : List ℕ) (ks : List Line) (z : State) → run lines (Some start) ≡ Some s → run ks (Some start) ≡ Some z
     → ((l : Line) → IsLine l → word ≡ line_text l → next s l ≡ None)
-    → (others : List Line) (more : List (List ℕ)) → AllByRecursion IsLine others → certificate_lines cs ≡ lines ++ others → map line_text others ≡ word ∷ more → ⊥
-next_refused lines s word cs e w none [] more k all t = absurd (cc)
-next_refused lines s word cs e w none (o ∷ os) more k all t =
+    → (others : List Line) (more : List (List ℕ)) → AllByRecursion IsLine others → ks ≡ lines ++ others → map line_text others ≡ word ∷ more → ⊥
+next_refused lines s word ks z e r none [] more k all t = absurd (cc)
+next_refused lines s word ks z e r none (o ∷ os) more k all t =
     let f : word ≡ line_text o = cc in
-    no_first_lines lines s o os cs e (none o k.0 f) w all
+    no_state lines s o os ks z e (none o k.0 f) r all
+
+-- A text that goes on from the lines read goes on otherwise than by a line that isn't allowed.
+none_of : (bytes rest word : List ℕ) (number : ℕ) (s : State) (p : IsProgress bytes rest number s) (ks : List Line) (z : State) (others : List (List ℕ)) → AllByRecursion IsLine ks
+    → run ks (Some start) ≡ Some z → ((l : Line) → IsLine l → word ≡ line_text l → next s l ≡ None) → map line_text ks ≡ (map line_text p.lines ++ word ∷ []) ++ others → ⊥
+none_of bytes rest word number s p ks z others valid r none e =
+    let g = p.only ks (word ∷ others) valid (e ∙ append_assoc (map line_text p.lines) (word ∷ []) others) in
+    next_refused p.lines s word ks z p.reached r none g.others others g.valid g.all g.texts
 
 stops_here : (bytes rest word behind : List ℕ) (number : ℕ) (s : State) (p : IsProgress bytes rest number s) → rest ≡ word ++ 10 ∷ behind → IsFreeOf 10 word
     → ((l : Line) → IsLine l → word ≡ line_text l → next s l ≡ None) → AreFirstLines (map line_text p.lines ++ word ∷ []) → ⊥
-stops_here bytes rest word behind number s p e free none a =
-    let f = a.front ∙ append_assoc (map line_text p.lines) (word ∷ []) a.others in
-    let g = p.only (certificate_lines a.certificates) (word ∷ a.others) (certificate_lines_are a.certificates a.writable) f in
-    next_refused p.lines s word a.certificates p.reached a.writable none g.others a.others g.valid g.all g.texts
+stops_here bytes rest word behind number s p e free none (of_text cs others w f) = none_of bytes rest word number s p (certificate_lines cs) _ others (certificate_lines_are cs w) (run-certificate_lines cs w) none f
+stops_here bytes rest word behind number s p e free none (before_end cs others w f) =
+    none_of bytes rest word number s p (title versions.Two ∷ goals_lines cs) _ others (front_lines_are cs w) (run-front_lines cs w) none f
 
 -- A text of which a line was cut is cut there alone.
 same_word : (rest word behind next' behind' : List ℕ) → rest ≡ word ++ 10 ∷ behind → IsFreeOf 10 word → rest ≡ next' ++ 10 ∷ behind' → IsFreeOf 10 next' → next' ≡ word
@@ -209,7 +229,8 @@ free_last [] x a = a.0
 free_last (y ∷ xs) x a = free_last xs x a.1
 
 first_lines_free : (xs : List (List ℕ)) → AreFirstLines xs → AllByRecursion (IsFreeOf 10) xs
-first_lines_free xs a = texts_free (certificate_lines a.certificates) xs a.others (certificate_lines_are a.certificates a.writable) a.front
+first_lines_free xs (of_text cs others w e) = texts_free (certificate_lines cs) xs others (certificate_lines_are cs w) e
+first_lines_free xs (before_end cs others w e) = texts_free (title versions.Two ∷ goals_lines cs) xs others (front_lines_are cs w) e
 
 spelled_past : (lines : List Line) (s : State) (rest word behind : List ℕ) (cs : List Certificate) → run lines (Some start) ≡ Some s → AreWritable cs
     → rest ≡ word ++ 10 ∷ behind → IsFreeOf 10 word → ((l : Line) → IsLine l → word ≡ line_text l → next s l ≡ None)
@@ -220,7 +241,7 @@ spelled_past lines s rest word behind cs r w e free none [] k all t =
     absurd (omega arith)
 spelled_past lines s rest word behind cs r w e free none (o ∷ os) k all t =
     let f = same_word rest word behind (line_text o) (closed (map line_text os)) e free t (line_free o k.0) in
-    no_first_lines lines s o os cs r (none o k.0 (sym f)) w all
+    no_state lines s o os (certificate_lines cs) (done cs) r (none o k.0 (sym f)) (run-certificate_lines cs w) all
 
 -- The line behind those read isn't allowed.
 pub fault_here : (bytes rest word behind : List ℕ) (number : ℕ) (s : State) → IsProgress bytes rest number s → rest ≡ word ++ 10 ∷ behind → All (λ b. b ≢ 10) word
@@ -287,7 +308,8 @@ spelled_only bytes rest number s cs ds p e f sp =
 -- The first fault is one.
 
 first_lines_front : (xs ys : List (List ℕ)) → AreFirstLines (xs ++ ys) → AreFirstLines xs
-first_lines_front xs ys a = record { certificates = a.certificates; others = ys ++ a.others; writable = a.writable; front = a.front ∙ append_assoc xs ys a.others }
+first_lines_front xs ys (of_text cs others w e) = of_text cs (ys ++ others) w (e ∙ append_assoc xs ys others)
+first_lines_front xs ys (before_end cs others w e) = before_end cs (ys ++ others) w (e ∙ append_assoc xs ys others)
 
 not_longer : (front xs ys : List (List ℕ)) (r t : List ℕ) → AllByRecursion (IsFreeOf 10) xs → AllByRecursion (IsFreeOf 10) ys → closed xs ++ r ≡ closed ys ++ t
     → ((next' behind : List ℕ) → r ≡ next' ++ 10 ∷ behind → AreFirstLines ((front ++ xs) ++ next' ∷ []) → ⊥) → AreFirstLines (front ++ ys) → length ys ≤ length xs

@@ -1,5 +1,5 @@
 -- The definitions, computed on worked rows.
-use Rattle.std.proofs.Common.{◌≡◌, ℕ, [], ◌∷◌, true, false, codes, refl}
+use Rattle.std.proofs.Common.{◌≡◌, ℕ, [], ◌∷◌, pos, negsuc, true, false, codes, refl}
 use Rattle.std.specs.Fmt.{digits}
 use Rattle.heylo_formula.specs.declared.goals.GoalId.{GoalId}
 use Rattle.heylo_formula.specs.declared.goals.GoalId.TheVariants as ids
@@ -26,6 +26,16 @@ a_dropped_front = refl
 two_goals : text_of (named 3 (ids.Invariant 12) Tree.plain ∷ named 10 (ids.Ranking 1) Tree.plain ∷ []) ≡ codes "caesar certificate 1\ngoal 3 invariant 12\nt\ngoal 10 ranking 1\nt\nend\n"
 unfolding digits
 two_goals = refl
+
+a_whole_split : text_of (named 0 ids.Main (Tree.whole 0 (pos 0) (Tree.farkas ((0, 1) ∷ (2, 1) ∷ (3, 2) ∷ [])) (Tree.farkas ((1, 1) ∷ (2, 1) ∷ (3, 2) ∷ []))) ∷ [])
+    ≡ codes "caesar certificate 2\ngoal 0 main\ni 0 0\nf 0:1 2:1 3:2\nf 1:1 2:1 3:2\nend\n"
+unfolding digits
+a_whole_split = refl
+
+below_zero : text_of (named 0 ids.Main Tree.plain ∷ named 1 ids.Main (Tree.split Tree.plain (Tree.whole 12 (negsuc 6) Tree.plain Tree.plain)) ∷ [])
+    ≡ codes "caesar certificate 2\ngoal 0 main\nt\ngoal 1 main\ns\nt\ni 12 -7\nt\nt\nend\n"
+unfolding digits
+below_zero = refl
 
 a_leaf : depth Tree.plain ≡ 1
 a_leaf = refl

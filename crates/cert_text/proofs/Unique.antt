@@ -1,17 +1,20 @@
 -- A text is the text of one list alone.
-use Rattle.std.proofs.Common.{◌≡◌, ℕ, ◌+◌, ◌*◌, ◌<◌, ◌^◌, List, [], ◌∷◌, ◌++◌, Some, length, get_or, map, decimal, refl, sym, ap, ◌∙◌, arith, length-append}
-use Rattle.std.proofs.lemmas.Fmt.{decimal_injective}
+use Rattle.std.proofs.Common.{◌≡◌, ℕ, ℤ, ◌+◌, ◌*◌, ◌<◌, ◌^◌, List, [], ◌∷◌, ◌++◌, Some, length, get_or, map, decimal, refl, sym, ap, ◌∙◌, arith, length-append}
+use Rattle.std.proofs.lemmas.Fmt.{decimal_injective, signed_decimal_injective}
+use Rattle.std.specs.Fmt.{signed_decimal}
 use Rattle.std.specs.List.{AllByRecursion}
 use Rattle.heylo_formula.specs.declared.goals.GoalId.{GoalId}
 use Rattle.heylo_formula.specs.declared.goals.GoalId.TheVariants as ids
 use Rattle.cert_text.specs.declared.goal_names.GoalName.{GoalName}
 use Rattle.heylo_formula.specs.GoalOrder.{loop_of}
-use Rattle.cert_text.specs.Certificates.{Certificate, IsNumbered}
-use Rattle.cert_text.specs.Lines.{Line, title, goal, split, farkas, plain, last, line_text, id_text, multipliers_text}
+use Rattle.cert_text.specs.declared.versions.Version.TheVariants as versions
+use Rattle.cert_text.specs.Certificates.{Certificate, IsNumbered, IsWholeSplit}
+use Rattle.cert_text.specs.Lines.{Line, title, goal, split, whole, farkas, plain, last, line_text, id_text, multipliers_text}
 use Rattle.cert_text.specs.internal.WholeLines.{IsLine}
 use Rattle.cert_text.specs.Texts.{certificate_lines, closed, Spells}
 use Rattle.cert_text.specs.internal.Reading.{start, done, run, IsMultiplier, IsRising}
 use Rattle.cert_text.proofs.Cutting.{IsFreeOf-decimal, colon_is_no_digit, space_is_no_digit, cut_once, multiplier_free, multipliers_end_or_at}
+use Rattle.cert_text.proofs.Decimals.{below_half}
 use Rattle.cert_text.proofs.Multipliers.{rising_from_multipliers}
 use Rattle.cert_text.proofs.Progress.{line_free, certificate_lines_are}
 use Rattle.cert_text.proofs.Walk.{run-certificate_lines}
@@ -81,20 +84,33 @@ multipliers_once (m ∷ ms) (n ∷ ns) i j r t e =
     let c = cut_once 32 a (multipliers_text ms) b (multipliers_text ns) (multiplier_free 32 m space_is_no_digit (λ h. omega arith) r.1) (multiplier_free 32 n space_is_no_digit (λ h. omega arith) t.1) (multipliers_end_or_at ms) (multipliers_end_or_at ns) f in
     ap (λ (z : ℕ × ℕ). z ∷ ms) (multiplier_once m n r.1 t.1 c.0) ∙ ap (λ (zs : List (ℕ × ℕ)). n ∷ zs) (multipliers_once ms ns (m.0 + 1) (n.0 + 1) r.2 t.2 c.1)
 
+split_once : (x y : ℕ) (m n : ℤ) → IsWholeSplit x m → IsWholeSplit y n → decimal x ++ 32 ∷ signed_decimal m ≡ decimal y ++ 32 ∷ signed_decimal n → whole x m ≡ whole y n
+split_once x y m n j k e =
+    let a : x < 2 ^ 64 = omega (arith, j.variable) in
+    let b : y < 2 ^ 64 = omega (arith, k.variable) in
+    let c = cut_once 32 (decimal x) (32 ∷ signed_decimal m) (decimal y) (32 ∷ signed_decimal n) (IsFreeOf-decimal 32 x space_is_no_digit a) (IsFreeOf-decimal 32 y space_is_no_digit b) refl refl e in
+    let d : 32 ∷ signed_decimal m ≡ 32 ∷ signed_decimal n = c.1 in
+    let f : signed_decimal m ≡ signed_decimal n = cc in
+    ap (λ (z : ℕ). whole z m) (decimal_injective x y a b c.0)
+    ∙ ap (λ (z : ℤ). whole y z) (signed_decimal_injective m n (below_half m j.number) (below_half n k.number) f)
+
 -- The first byte of a line.
 initial : Line → ℕ
-initial title = 99
+initial (title v) = 99
 initial (goal n) = 103
 initial split = 115
+initial (whole x m) = 105
 initial (farkas ms) = 102
 initial plain = 116
 initial last = 101
 
 initial_of : (l : Line) → get_or (line_text l) 0 0 ≡ initial l
 unfolding initial
-initial_of title = refl
+initial_of (title versions.One) = refl
+initial_of (title versions.Two) = refl
 initial_of (goal n) = refl
 initial_of split = refl
+initial_of (whole x m) = refl
 initial_of (farkas ms) = refl
 initial_of plain = refl
 initial_of last = refl
@@ -104,9 +120,13 @@ same_initial k l e = sym (initial_of k) ∙ ap (λ (bs : List ℕ). get_or bs 0 
 
 line_once : (k l : Line) → IsLine k → IsLine l → line_text k ≡ line_text l → k ≡ l
 unfolding initial
-line_once title title a b e = refl
+line_once (title versions.One) (title versions.One) a b e = refl
+line_once (title versions.One) (title versions.Two) a b e = let f : 49 ≡ 50 = ap (λ (bs : List ℕ). get_or bs 19 0) e in absurd (omega (arith, f))
+line_once (title versions.Two) (title versions.One) a b e = let f : 50 ≡ 49 = ap (λ (bs : List ℕ). get_or bs 19 0) e in absurd (omega (arith, f))
+line_once (title versions.Two) (title versions.Two) a b e = refl
 line_once (goal m) (goal n) a b e = let f : decimal m.proc ++ 32 ∷ id_text m.id ≡ decimal n.proc ++ 32 ∷ id_text n.id = cc in ap (λ (z : GoalName). goal z) (name_once m n a b f)
 line_once split split a b e = refl
+line_once (whole x m) (whole y n) a b e = let f : decimal x ++ 32 ∷ signed_decimal m ≡ decimal y ++ 32 ∷ signed_decimal n = cc in split_once x y m n a b f
 line_once (farkas ms) (farkas ns) a b e = let f : multipliers_text ms ≡ multipliers_text ns = cc in ap (λ (zs : List (ℕ × ℕ)). farkas zs) (multipliers_once ms ns 0 0 (rising_from_multipliers ms a) (rising_from_multipliers ns b) f)
 line_once plain plain a b e = refl
 line_once last last a b e = refl

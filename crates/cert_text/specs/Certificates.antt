@@ -1,5 +1,5 @@
 -- Lists of certificates as plain data, and which of them have a text. This project's own.
-use Rattle.std.specs.Prelude.{ℕ, ◌<◌, ◌≤◌, ◌^◌, ◌==◌, ◌&&◌, ◌||◌, Bool, true, IsTrue, List, [], ◌∷◌, Option, Some, None, length, map, nat_lt}
+use Rattle.std.specs.Prelude.{ℕ, ℤ, ◌<◌, ◌≤◌, ◌^◌, ◌==◌, ◌&&◌, ◌||◌, Bool, true, IsTrue, List, [], ◌∷◌, Option, Some, None, length, map, nat_lt, unsigned_abs}
 use Rattle.std.specs.List.{All, AllByRecursion}
 use Rattle.heylo_formula.specs.GoalOrder.{loop_of, stands_before}
 use Rattle.goal_answers.specs.Multipliers.{IsGrowing}
@@ -47,16 +47,22 @@ pub record AreMultipliers (ms : List (ℕ × ℕ)) : Type 0 where
   pub positive : All (λ m. 0 < m.1) ms
   pub narrow : All (λ m. m.1 < 2 ^ 62) ms
 
--- All multipliers of a tree are such.
-abbrev pub HasMultipliers : Tree → Type 0
-HasMultipliers (Tree.split t u) = HasMultipliers t × HasMultipliers u
-HasMultipliers (Tree.farkas ms) = AreMultipliers ms
-HasMultipliers Tree.plain = Unit {0}
+-- A whole variable is split at a number: the variable has 32 bits, the number is below 2^62 without its sign.
+pub record IsWholeSplit (x : ℕ) (m : ℤ) : Type 0 where
+  pub variable : x < 2 ^ 32
+  pub number : unsigned_abs m < 2 ^ 62
+
+-- All numbers of a tree are such.
+abbrev pub HasNumbers : Tree → Type 0
+HasNumbers (Tree.split t u) = HasNumbers t × HasNumbers u
+HasNumbers (Tree.farkas ms) = AreMultipliers ms
+HasNumbers Tree.plain = Unit {0}
+HasNumbers (Tree.whole x m t u) = IsWholeSplit x m × HasNumbers t × HasNumbers u
 
 -- The certificate has a text: a tree is at most 1,000 deep.
 pub record IsWritable (c : Certificate) : Type 0 where
   pub name : IsNumbered c.name
-  pub multipliers : HasMultipliers c.tree
+  pub numbers : HasNumbers c.tree
   pub depth : depth c.tree ≤ 1000
 
 -- The list has a text: each certificate has one, and their goals grow strictly.

@@ -1,14 +1,18 @@
 -- The lines of a text of certificates. This project's own.
-use Rattle.std.specs.Prelude.{ℕ, List, [], ◌∷◌, ◌++◌, codes, decimal}
+use Rattle.std.specs.Prelude.{ℕ, ℤ, List, [], ◌∷◌, ◌++◌, codes, decimal}
+use Rattle.std.specs.Fmt.{signed_decimal}
 use Rattle.heylo_formula.specs.declared.goals.GoalId.{GoalId}
 use Rattle.heylo_formula.specs.declared.goals.GoalId.TheVariants.{Main, Pre, Post, Invariant, Ranking}
 use Rattle.cert_text.specs.declared.goal_names.GoalName.{GoalName}
+use Rattle.cert_text.specs.declared.versions.Version.{Version}
+use Rattle.cert_text.specs.declared.versions.Version.TheVariants.{One, Two}
 
--- The title; a goal, whose tree follows; a node of a tree; the end.
+-- The title; a goal, whose tree follows; a node of a tree, `whole` that at which a whole variable is split; the end.
 pub data Line : Type 0 where
-  title : Line
+  title : Version → Line
   goal : GoalName → Line
   split : Line
+  whole : ℕ → ℤ → Line
   farkas : List (ℕ × ℕ) → Line
   plain : Line
   last : Line
@@ -32,9 +36,11 @@ multipliers_text (m ∷ ms) = multiplier_text m ++ multipliers_text ms
 
 -- The bytes of a line, without its line feed.
 abbrev pub line_text : Line → List ℕ
-line_text title = codes "caesar certificate 1"
+line_text (title One) = codes "caesar certificate 1"
+line_text (title Two) = codes "caesar certificate 2"
 line_text (goal n) = codes "goal " ++ (decimal n.proc ++ 32 ∷ id_text n.id)
 line_text split = codes "s"
+line_text (whole x m) = codes "i " ++ (decimal x ++ 32 ∷ signed_decimal m)
 line_text (farkas ms) = 102 ∷ multipliers_text ms
 line_text plain = codes "t"
 line_text last = codes "end"

@@ -4,10 +4,12 @@
 mod goal_names;
 mod laws;
 mod lines;
+mod nodes;
 mod numbers;
 mod reader;
 mod reading;
 mod stops;
+mod versions;
 mod words;
 mod writing;
 

@@ -1,17 +1,19 @@
 //! The lines of a text of certificates.
 
-ghost use Rattle.std.specs.Prelude.{◌≡◌, ℕ, ◌<◌, ◌≤◌, ◌^◌, ◌++◌, ◌∷◌, List, decimal, IfOk, IfSome, IsSomeAnd, Some, length};
+ghost use Rattle.std.specs.Prelude.{◌≡◌, ℕ, ℤ, ◌<◌, ◌≤◌, ◌^◌, ◌++◌, ◌∷◌, List, decimal, IfOk, IfSome, IsSomeAnd, Some, length};
+ghost use Rattle.std.specs.Fmt.{signed_decimal};
 ghost use Rattle.std.specs.Option.{option_map};
 ghost use Rattle.heylo_formula.specs.declared.goals.GoalId.{GoalId as GoalIdValue};
 ghost use Rattle.cert_text.specs.declared.goal_names.GoalName.{GoalName as GoalNameValue};
 ghost use Rattle.heylo_formula.specs.GoalOrder.{loop_of};
-ghost use Rattle.cert_text.specs.Certificates.{IsNumbered, AreMultipliers};
+ghost use Rattle.cert_text.specs.Certificates.{IsNumbered, IsWholeSplit, AreMultipliers};
 ghost use Rattle.cert_text.specs.Lines.{Line as LineValue, id_text, line_text, multiplier_text, multipliers_text};
 ghost use Rattle.cert_text.specs.internal.WholeLines.{IsLine};
 ghost use Rattle.cert_text.specs.internal.Reading.{line_of, IsMultiplier, IsRising, IsBareLine};
 
 use crate::goal_names::GoalName;
-use crate::numbers::{number, short_number};
+use crate::numbers::{number, short_number, signed_number};
+use crate::versions::Version;
 use crate::words::cut;
 use heylo_formula::GoalId;
 use std::alloc::{AllocError, Global};
@@ -19,9 +21,10 @@ use std::alloc::{AllocError, Global};
 /// A line of a text of certificates.
 #[derive(Drop)]
 pub enum Line {
-    Title,
+    Title(Version),
     Goal(GoalName),
     Split,
+    Whole(u32, i64),
     Farkas(Vec<(u32, u64)>),
     Plain,
     Last,
@@ -58,6 +61,22 @@ fn goal_name(text: &[u8]) -> Option<GoalName>
         proc: short_number(digits)?,
         id: goal_id(id)?,
     })
+}
+
+/// The variable and the number at which it is split that have this text.
+fn whole_split(text: &[u8]) -> Option<(u32, i64)>
+    ensures found { IfSome result (λ s. IsWholeSplit s.0 s.1 × (text.now ≡ decimal s.0 ++ 32 ∷ signed_decimal s.1)) }
+    ensures only { (x : ℕ) (m : ℤ) → IsWholeSplit x m → text.now ≡ decimal x ++ 32 ∷ signed_decimal m → result ≡ Some (x, m) }
+{
+    let (variable, rest) = cut(text, b' ');
+    let (_, digits) = rest.split_first()?;
+    let variable = short_number(variable)?;
+    let bound = signed_number(digits)?;
+    if bound.unsigned_abs() < 0x4000_0000_0000_0000 {
+        Some((variable, bound))
+    } else {
+        None
+    }
 }
 
 /// A row index and the multiplier behind it.
@@ -123,7 +142,9 @@ fn bare_line(text: &[u8]) -> Option<Line>
     } else if text == b"t".as_slice() {
         Some(Line::Plain)
     } else if text == b"caesar certificate 1".as_slice() {
-        Some(Line::Title)
+        Some(Line::Title(Version::One))
+    } else if text == b"caesar certificate 2".as_slice() {
+        Some(Line::Title(Version::Two))
     } else if text == b"end".as_slice() {
         Some(Line::Last)
     } else {
@@ -138,6 +159,11 @@ pub fn read_line(alloc: Global, text: &[u8]) -> Result<Option<Line>, AllocError>
 {
     if let Some(line) = bare_line(text) {
         Ok(Some(line))
+    } else if let Some(split) = text.strip_prefix(b"i ".as_slice()) {
+        Ok(match whole_split(split) {
+            Some((variable, bound)) => Some(Line::Whole(variable, bound)),
+            None => None,
+        })
     } else if let Some(name) = text.strip_prefix(b"goal ".as_slice()) {
         Ok(match goal_name(name) {
             Some(name) => Some(Line::Goal(name)),

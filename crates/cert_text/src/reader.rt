@@ -15,8 +15,8 @@ use crate::words::cut;
 use goal_answers::GoalCert;
 use std::alloc::{AllocError, Global};
 
-/// The list of certificates that has this text: its goals grow strictly, and its trees are at most 1,000 deep. Fails with the
-/// first line that isn't allowed where no list has this text, and otherwise for want of memory alone.
+/// The list of certificates that has this text, of either version: its goals grow strictly, and its trees are at most 1,000 deep.
+/// Fails with the first line that isn't allowed where no list has this text, and otherwise for want of memory alone.
 pub fn read_cert(alloc: Global, bytes: &[u8]) -> Result<Vec<GoalCert>, CertStop>
     requires { length bytes.now < 2 ^ 31 }
     ensures found { IfOk result (λ certs. Spells (certificates_of certs.items) bytes.now) }

@@ -3,11 +3,13 @@
 ghost use Rattle.std.specs.Prelude.{◌≡◌, IfOk};
 ghost use Rattle.goal_answers.specs.Trees.{tree_of};
 ghost use Rattle.cert_text.specs.Certificates.{certificates_of};
-ghost use Rattle.cert_text.specs.Lines.{farkas as farkas_line, goal as goal_line, last as last_line, plain as plain_line, split as split_line, title as title_line};
-ghost use Rattle.cert_text.specs.internal.Reading.{after, fill, filled_of, filled_state, line_of, next, open_of, start, state_of};
+ghost use Rattle.cert_text.specs.Lines.{farkas as farkas_line, goal as goal_line, last as last_line, plain as plain_line, split as split_line, title as title_line, whole as whole_line};
+ghost use Rattle.cert_text.specs.internal.Reading.{after, edition_of, fill, filled_of, filled_state, line_of, may_end, may_split, next, open_of, start, state_of};
 
 use crate::goal_names::{GoalName, may_follow};
 use crate::lines::Line;
+use crate::nodes::{Node, Way, joined};
+use crate::versions::Version;
 use goal_answers::{GoalCert, Tree};
 use std::alloc::{AllocError, Global};
 
@@ -24,14 +26,55 @@ pub enum Place {
     Done,
 }
 
+/// The version of the text, and what its end asks for.
+#[derive(Clone, Copy)]
+pub enum Edition {
+    /// Version 1, in which no whole variable is split.
+    One,
+    /// Version 2 in which none was split so far: its end isn't allowed.
+    Lacking,
+    /// Version 2 in which one was.
+    Two,
+}
+
 /// The certificates read so far, and what may come next.
 #[derive(Drop)]
 pub struct Reading {
     pub place: Place,
+    pub edition: Edition,
     pub certs: Vec<GoalCert>,
-    /// Inside a tree, the questions on the way to the open place, from the root, each with its first tree where the place
-    /// stands in its second.
-    pub questions: Vec<Option<Box<Tree>>>,
+    /// Inside a tree, the nodes on the way to the open place, from the root.
+    pub way: Vec<Way>,
+}
+
+/// What a text with this title is before anything else was read of it.
+fn edition_of(version: Version) -> Edition
+    ensures { result ≡ edition_of version }
+{
+    match version {
+        Version::One => Edition::One,
+        Version::Two => Edition::Lacking,
+    }
+}
+
+/// Whether a whole variable may be split.
+fn may_split(edition: Edition) -> bool
+    ensures { result ≡ may_split edition }
+{
+    match edition {
+        Edition::One => false,
+        Edition::Lacking | Edition::Two => true,
+    }
+}
+
+/// Whether the end may come.
+fn may_end(edition: Edition) -> bool
+    ensures { result ≡ may_end edition }
+{
+    match edition {
+        Edition::Lacking => false,
+        Edition::One | Edition::Two => true,
+    }
 }
 
 /// A reading of which nothing was read.
@@ -40,28 +83,25 @@ pub fn unread(alloc: Global) -> Reading
 {
     Reading {
         place: Place::Start,
+        edition: Edition::One,
         certs: Vec::new(alloc),
-        questions: Vec::new(alloc),
+        way: Vec::new(alloc),
     }
 }
 
-/// Puts the tree at the open place. Gives the whole tree where no other place is open then.
-fn fill(
-    alloc: Global,
-    questions: &mut Vec<Option<Box<Tree>>>,
-    tree: Tree,
-) -> Result<Option<Tree>, AllocError>
-    ensures { IfOk result (λ whole. fill (open_of questions.old.items) (tree_of tree) ≡ filled_of whole questions.new.items) }
+/// Puts the tree at the open place. Gives the complete tree where no other place is open then.
+fn fill(alloc: Global, way: &mut Vec<Way>, tree: Tree) -> Result<Option<Tree>, AllocError>
+    ensures { IfOk result (λ whole. fill (open_of way.old.items) (tree_of tree) ≡ filled_of whole way.new.items) }
 {
     let mut part = tree;
-    while let Some(question) = questions.pop() {
+    while let Some(step) = way.pop() {
         let boxed = Box::new(alloc, part)?;
-        match question {
-            None => {
-                questions.push(Some(boxed))?;
+        match step {
+            Way::First(node) => {
+                way.push(Way::Second(node, boxed))?;
                 return Ok(None);
             }
-            Some(first) => part = Tree::Split(first, boxed),
+            Way::Second(node, first) => part = joined(node, first, boxed),
         }
     }
     Ok(Some(part))
@@ -74,9 +114,9 @@ fn put_leaf(
     name: GoalName,
     leaf: Tree,
 ) -> Result<(), AllocError>
-    ensures { IfOk result (λ _. state_of reading.new ≡ filled_state (certificates_of reading.old.certs.items) name (fill (open_of reading.old.questions.items) (tree_of leaf))) }
+    ensures { IfOk result (λ _. state_of reading.new ≡ filled_state reading.old.edition (certificates_of reading.old.certs.items) name (fill (open_of reading.old.way.items) (tree_of leaf))) }
 {
-    match fill(alloc, &mut reading.questions, leaf)? {
+    match fill(alloc, &mut reading.way, leaf)? {
         None => reading.place = Place::Inside(name),
         Some(tree) => {
             reading.certs.push(GoalCert {
@@ -95,8 +135,22 @@ pub fn next_split(reading: &mut Reading) -> Result<bool, AllocError>
     ensures { IfOk result (λ allowed. after allowed (state_of reading.new) ≡ next (state_of reading.old) split_line) }
 {
     match reading.place {
-        Place::Inside(_) if reading.questions.len() < 999 => {
-            reading.questions.push(None)?;
+        Place::Inside(_) if reading.way.len() < 999 => {
+            reading.way.push(Way::First(Node::Question))?;
+            Ok(true)
+        }
+        _ => Ok(false),
+    }
+}
+
+/// Goes on by a split of a whole variable, where one is allowed.
+fn next_whole(reading: &mut Reading, variable: u32, bound: i64) -> Result<bool, AllocError>
+    ensures { IfOk result (λ allowed. after allowed (state_of reading.new) ≡ next (state_of reading.old) (whole_line variable bound)) }
+{
+    match reading.place {
+        Place::Inside(_) if may_split(reading.edition) && reading.way.len() < 999 => {
+            reading.way.push(Way::First(Node::Whole(variable, bound)))?;
+            reading.edition = Edition::Two;
             Ok(true)
         }
         _ => Ok(false),
@@ -134,12 +188,13 @@ fn next_farkas(
 }
 
 /// Goes on by the title, where it is allowed.
-fn next_title(alloc: Global, reading: &mut Reading) -> bool
-    ensures { after result (state_of reading.new) ≡ next (state_of reading.old) title_line }
+fn next_title(alloc: Global, reading: &mut Reading, version: Version) -> bool
+    ensures { after result (state_of reading.new) ≡ next (state_of reading.old) (title_line version) }
 {
     match reading.place {
         Place::Start => {
             reading.certs = Vec::new(alloc);
+            reading.edition = edition_of(version);
             reading.place = Place::Between(None);
             true
         }
@@ -153,7 +208,7 @@ fn next_goal(reading: &mut Reading, name: GoalName) -> bool
 {
     match reading.place {
         Place::Between(latest) if may_follow(latest, name) => {
-            reading.questions.clear();
+            reading.way.clear();
             reading.place = Place::Inside(name);
             true
         }
@@ -166,7 +221,7 @@ fn next_last(reading: &mut Reading) -> bool
     ensures { after result (state_of reading.new) ≡ next (state_of reading.old) last_line }
 {
     match reading.place {
-        Place::Between(_) => {
+        Place::Between(_) if may_end(reading.edition) => {
             reading.place = Place::Done;
             true
         }
@@ -179,9 +234,10 @@ pub fn next(alloc: Global, reading: &mut Reading, line: Line) -> Result<bool, Al
     ensures { IfOk result (λ allowed. after allowed (state_of reading.new) ≡ next (state_of reading.old) (line_of line)) }
 {
     match line {
-        Line::Title => Ok(next_title(alloc, reading)),
+        Line::Title(version) => Ok(next_title(alloc, reading, version)),
         Line::Goal(name) => Ok(next_goal(reading, name)),
         Line::Split => next_split(reading),
+        Line::Whole(variable, bound) => next_whole(reading, variable, bound),
         Line::Farkas(multipliers) => next_farkas(alloc, reading, multipliers),
         Line::Plain => next_plain(alloc, reading),
         Line::Last => Ok(next_last(reading)),

@@ -3,9 +3,10 @@
 ghost use Rattle.std.specs.Prelude.{◌≡◌, ◌++◌, ◌∷◌, [], OnOk, IfOk, map};
 ghost use Rattle.goal_answers.specs.Trees.{tree_of};
 ghost use Rattle.cert_text.specs.Certificates.{certificate_of, certificates_of};
-ghost use Rattle.cert_text.specs.Lines.{id_text, line_text, multiplier_text, multipliers_text, goal as goal_line};
-ghost use Rattle.cert_text.specs.Texts.{closed, goals_lines, text_of, tree_lines};
+ghost use Rattle.cert_text.specs.Lines.{id_text, line_text, multiplier_text, multipliers_text, goal as goal_line, title as title_line, whole as whole_line};
+ghost use Rattle.cert_text.specs.Texts.{closed, goals_lines, has_whole, text_of, tree_lines, version};
 
+use crate::versions::Version;
 use goal_answers::{GoalCert, Tree};
 use heylo_formula::GoalId;
 use number_texts::write_number;
@@ -54,6 +55,17 @@ fn write_multipliers(text: &mut Vec<u8>, multipliers: &[(u32, u64)]) -> Result<(
     Ok(())
 }
 
+/// Puts the line of a split of a whole variable behind the text.
+fn write_whole(text: &mut Vec<u8>, variable: u32, bound: i64) -> Result<(), AllocError>
+    ensures { OnOk result (text.new.items ≡ text.old.items ++ closed (map line_text (whole_line variable bound ∷ []))) }
+{
+    text.extend_from_slice(b"i ")?;
+    write_number(text, variable)?;
+    text.push(b' ')?;
+    write_number(text, bound)?;
+    Ok(text.push(b'\n')?)
+}
+
 /// Puts the lines of a tree behind the text.
 fn write_tree(text: &mut Vec<u8>, tree: &Tree) -> Result<(), AllocError>
     ensures { OnOk result (text.new.items ≡ text.old.items ++ closed (map line_text (tree_lines (tree_of tree.now)))) }
@@ -70,6 +82,11 @@ fn write_tree(text: &mut Vec<u8>, tree: &Tree) -> Result<(), AllocError>
             Ok(text.push(b'\n')?)
         }
         Tree::Plain => Ok(text.extend_from_slice(b"t\n")?),
+        Tree::Whole(variable, bound, most, more) => {
+            write_whole(text, *variable, *bound)?;
+            write_tree(text, most)?;
+            Ok(write_tree(text, more)?)
+        }
     }
 }
 
@@ -84,14 +101,48 @@ fn write_goals(text: &mut Vec<u8>, certs: &[GoalCert]) -> Result<(), AllocError>
     Ok(())
 }
 
-/// The text of a list of certificates. The bytes spell the list where each of its goals comes behind the one before it, its
-/// trees are at most 1,000 deep and hold multipliers from 1 to 2^62 - 1 with growing row indexes, one at least at each leaf.
-/// Fails for want of memory alone.
+/// Whether a whole variable is split in the tree.
+fn has_whole(tree: &Tree) -> bool
+    ensures { result ≡ has_whole (tree_of tree.now) }
+{
+    match tree {
+        Tree::Split(holds, fails) => has_whole(holds) || has_whole(fails),
+        Tree::Farkas(_) | Tree::Plain => false,
+        Tree::Whole(_, _, _, _) => true,
+    }
+}
+
+/// The version of the text of a list of certificates.
+fn version_of(certs: &[GoalCert]) -> Version
+    ensures { result ≡ version (certificates_of certs.now) }
+{
+    for cert in certs {
+        if has_whole(&cert.tree) {
+            return Version::Two;
+        }
+    }
+    Version::One
+}
+
+/// Puts the title behind the text.
+fn write_title(text: &mut Vec<u8>, version: Version) -> Result<(), AllocError>
+    ensures { OnOk result (text.new.items ≡ text.old.items ++ closed (map line_text (title_line version ∷ []))) }
+{
+    match version {
+        Version::One => Ok(text.extend_from_slice(b"caesar certificate 1\n")?),
+        Version::Two => Ok(text.extend_from_slice(b"caesar certificate 2\n")?),
+    }
+}
+
+/// The text of a list of certificates: version 2 where a whole variable is split in one of them, else version 1. The bytes spell
+/// the list where each of its goals comes behind the one before it, its trees are at most 1,000 deep, hold multipliers from 1 to
+/// 2^62 - 1 with growing row indexes, one at least at each leaf, and split at numbers between -2^62 and 2^62. Fails for want of
+/// memory alone.
 pub fn write_cert(alloc: Global, certs: &[GoalCert]) -> Result<Vec<u8>, AllocError>
     ensures { IfOk result (λ text. text.items ≡ text_of (certificates_of certs.now)) }
 {
     let mut text = Vec::new(alloc);
-    text.extend_from_slice(b"caesar certificate 1\n")?;
+    write_title(&mut text, version_of(certs))?;
     write_goals(&mut text, certs)?;
     text.extend_from_slice(b"end\n")?;
     Ok(text)

@@ -6,11 +6,31 @@ use std::process::Abort;
 use std::test::Fail;
 
 /// Whole texts.
-const TEXTS: [(&str, u32); 39] = [
+const TEXTS: [(&str, u32); 53] = [
     ("", 1),
     ("\n", 1),
     ("caesar certificate 1", 1),
-    ("caesar certificate 2\nend\n", 1),
+    ("caesar certificate 3\nend\n", 1),
+    ("caesar certificate 0\nend\n", 1),
+    ("caesar certificate 12\nend\n", 1),
+    ("caesar certificate 2 \nend\n", 1),
+    ("caesar certificate 2", 1),
+    ("caesar certificate 2\n", 2),
+    ("caesar certificate 2\nend", 2),
+    ("caesar certificate 2\nend\n", 2),
+    ("caesar certificate 2\ncaesar certificate 2\nend\n", 2),
+    ("caesar certificate 2\ngoal 0 main\nt\nend\n", 4),
+    (
+        "caesar certificate 2\ngoal 4294967295 ranking 4294967295\nt\nend\n",
+        4,
+    ),
+    ("caesar certificate 2\ngoal 0 main\nt\nend\nend\n", 4),
+    ("caesar certificate 2\ngoal 0 main\ns\ns\nt\nt\nt\nend\n", 8),
+    (
+        "caesar certificate 2\ngoal 0 main\ni 0 5\nt\nt\nend\nend\n",
+        7,
+    ),
+    ("caesar certificate 2\ngoal 0 main\ni 0 5\nt\nend\n", 5),
     ("caesar certificate 1 \nend\n", 1),
     (" caesar certificate 1\nend\n", 1),
     ("caesar certificate 1\r\nend\n", 1),
@@ -125,8 +145,46 @@ const NODES: [&str; 36] = [
     "goal 0 post",
 ];
 
+/// Splits of whole variables that are none, at the place of a tree in a text of version 2, the third.
+const SPLITS: [&str; 34] = [
+    "i",
+    "i ",
+    "i 0",
+    "i 0 ",
+    "i 0 -0",
+    "i 0 +1",
+    "i 0 01",
+    "i 0 00",
+    "i 0 -01",
+    "i 0 --1",
+    "i 0 -",
+    "i 0 1-",
+    "i 0 - 1",
+    "i 0 1.0",
+    "i 0 1/2",
+    "i 0:1",
+    "i 0 1 2",
+    "i 0  1",
+    "i  0 1",
+    "i 0 1 ",
+    " i 0 1",
+    "i 0 1\r",
+    "i\t0 1",
+    "i 00 1",
+    "i -0 1",
+    "i -1 1",
+    "i x 1",
+    "i 4294967296 1",
+    "i 0 4611686018427387904",
+    "i 0 -4611686018427387904",
+    "i 0 9223372036854775808",
+    "i 0 18446744073709551617",
+    "I 0 1",
+    "ii 0 1",
+];
+
 /// What stands between the title and the end.
-const MIDDLES: [(&str, u32); 19] = [
+const MIDDLES: [(&str, u32); 22] = [
     ("goal 0 main\nt\ngoal 0 main\nt\n", 4),
     ("goal 1 main\nt\ngoal 0 main\nt\n", 4),
     ("goal 1 main\nt\ngoal 0 ranking 9\nt\n", 4),
@@ -146,6 +204,9 @@ const MIDDLES: [(&str, u32); 19] = [
     ("goal 0 main\nf 0:1\nf 0:1\n", 4),
     ("goal 0 main\ns\ncaesar certificate 1\nt\n", 4),
     ("goal 0 main\nt\n\n", 4),
+    ("goal 0 main\ni 0 0\nt\nt\n", 3),
+    ("goal 0 main\ns\ni 0 0\nt\nt\nt\n", 4),
+    ("goal 0 main\nt\ngoal 1 main\ni 0 0\nt\nt\n", 5),
 ];
 
 /// Whether this line is the fault of the text.
@@ -187,13 +248,13 @@ fn check_lines(
     Ok(())
 }
 
-/// The first goal, a chain of questions and a leaf for each place that they leave open.
-fn chain(alloc: Global, questions: usize) -> Result<String, AllocError> {
-    let mut text = String::from_str(alloc, "caesar certificate 1\ngoal 0 main\n")?;
-    for question in 0..questions {
-        text.push_str("s\n")?;
+/// The first goal, a chain of such nodes with two trees and a leaf for each place that they leave open.
+fn chain(alloc: Global, title: &str, node: &str, nodes: usize) -> Result<String, AllocError> {
+    let mut text = format!(in alloc; "{title}goal 0 main\n")?;
+    for place in 0..nodes {
+        text.push_str(node)?;
     }
-    for question in 0..questions {
+    for place in 0..nodes {
         text.push_str("t\n")?;
     }
     text.push_str("t\nend\n")?;
@@ -216,15 +277,22 @@ fn broken_nodes_are_refused(rt: HostRuntime) -> Result<(), Fail> {
 }
 
 #[test]
+fn broken_splits_are_refused(rt: HostRuntime) -> Result<(), Fail> {
+    Ok(check_lines(&rt, "caesar certificate 2\ngoal 0 main\n", &SPLITS, 3)?)
+}
+
+#[test]
 fn broken_lists_and_trees_are_refused_at_their_line(rt: HostRuntime) -> Result<(), Fail> {
     Ok(check_middles(&rt, &MIDDLES)?)
 }
 
 #[test]
-fn a_tree_too_deep_is_refused_at_its_last_question(rt: HostRuntime) -> Result<(), Fail> {
-    for questions in [1000, 1001, 3000] {
-        let text = chain(rt.alloc(), questions)?;
-        assert!(rt; is_fault(rt.alloc(), text.as_str(), 1002));
+fn a_tree_too_deep_is_refused_at_its_last_node(rt: HostRuntime) -> Result<(), Fail> {
+    for nodes in [1000, 1001, 3000] {
+        let questions = chain(rt.alloc(), "caesar certificate 1\n", "s\n", nodes)?;
+        assert!(rt; is_fault(rt.alloc(), questions.as_str(), 1002));
+        let splits = chain(rt.alloc(), "caesar certificate 2\n", "i 3 -8\n", nodes)?;
+        assert!(rt; is_fault(rt.alloc(), splits.as_str(), 1002));
     }
     Ok(())
 }

@@ -66,11 +66,41 @@ inf true 1 x y *1 select ; rr ; t gives no
 inf true 1 x y *1 select ; rr ; f0:1 gives no
 inf true 1 x y *1 select ; rr ; t t s gives no";
 
+/// The first goal holds of whole numbers and fails of a fraction: y is at most 2x, at most 2 - 2x and at least 1.
+const SPLITS: &str = "\
+y x scale:2 <= y 2 x scale:2 - <= and 1 y <= and 0 1 select 1 ; ii ; f0:1,2:1,3:2 f1:1,2:1,3:2 i0:0 f3:1 s f2:1 s f1:1 s gives yes
+# at another number, with the halves exchanged, of the other variable
+y x scale:2 <= y 2 x scale:2 - <= and 1 y <= and 0 1 select 1 ; ii ; f0:1,2:1,3:2 f1:1,2:1,3:2 i0:1 f3:1 s f2:1 s f1:1 s gives no tttt
+y x scale:2 <= y 2 x scale:2 - <= and 1 y <= and 0 1 select 1 ; ii ; f0:1,2:1,3:2 f1:1,2:1,3:2 i0:-1 f3:1 s f2:1 s f1:1 s gives no tttf
+y x scale:2 <= y 2 x scale:2 - <= and 1 y <= and 0 1 select 1 ; ii ; f1:1,2:1,3:2 f0:1,2:1,3:2 i0:0 f3:1 s f2:1 s f1:1 s gives no tttt
+y x scale:2 <= y 2 x scale:2 - <= and 1 y <= and 0 1 select 1 ; ii ; f2:1,3:1 f1:1,2:1,3:2 i1:0 f3:1 s f2:1 s f1:1 s gives no tttf
+# a variable of type UInt or Int, and none else
+1/2 1/2 ; u ; f1:1 f1:1 i0:0 gives yes
+1/2 1/2 ; i ; f1:1 f1:1 i0:-7 gives yes
+1/2 1/2 ; r ; f1:1 f1:1 i0:0 gives no
+1/2 1/2 ; b ; f1:1 f1:1 i0:0 gives no
+1/2 1/2 ; u ; f1:1 f1:1 i1:0 gives no
+# one after another
+1/2 1/2 ; ui ; f2:1 f2:1 i1:3 f1:1 i0:0 gives yes
+1/2 1/2 ; ui ; f2:1 f1:1 i1:3 f1:1 i0:0 gives no tf
+1/2 1/2 ; ui ; f2:1 f2:1 i1:3 f0:1 i0:0 gives no f
+# before the last question, and where the goal holds plainly
+x 0 < 0 1 select 1 ; u ; f1:1 f1:1 i0:0 gives no
+inf 1/2 ; u ; f1:1 f1:1 i0:0 gives no
+# there is no question behind it, and the goal doesn't hold plainly there
+1/2 1/2 ; u ; f1:1 f1:1 s f1:1 i0:0 gives no t
+1/2 1/2 ; u ; f1:1 t i0:0 gives no f
+# where a number of a half reaches 2^62 there are no rows
+1/2 1/2 ; i ; f1:1 f1:1 i0:4611686018427387902 gives yes
+1/2 1/2 ; i ; f1:1 f1:1 i0:4611686018427387903 gives no f
+1/2 1/2 ; i ; f1:1 f1:1 i0:4611686018427387904 gives no t
+1/2 1/2 ; i ; f1:1 f1:1 i0:-9223372036854775808 gives no t";
+
 #[test]
 fn checked_certificates(rt: HostRuntime) -> Result<(), AllocError> {
     check_texts(
         &rt,
         Kind::Check,
-        &[HALVES, BELOW_ZERO, QUESTIONS, SUMS, INFINITE],
+        &[HALVES, BELOW_ZERO, QUESTIONS, SUMS, INFINITE, SPLITS],
     )
 }

@@ -22,8 +22,6 @@ b12 [] b11 [] b10 [] b9 [] b8 [] b7 [] b6 [] b5 [] b4 [] b3 [] b2 [] b1 [] b0 []
 
 /// The same of goals with few cells.
 const FEW: &str = "\
-# where y <= 2x, 2x + y <= 2 and 1 <= y: y takes 1, and x is 1/2 then
-y x x + <= x x + y + 2 <= and 1 y <= and 0 1 select 1 ; ii gives broken x0 [1/2 1/2] x1 1
 # a later false cell has a point
 b2 y x x + <= x x + y + 2 <= and 1 y <= and 0 1 select 0 select 1 ; iib gives fails at 0 0 false
 # 2^62, and a false cell before it
@@ -40,6 +38,21 @@ x 0 < 0 1 select 1 ; u gives proved 2 yes
 x 0 < 1/2147483647 1 select 1/2305843009213693951 ; u gives bits
 # a product of two variables
 x y *5 0 ; rr gives nonlinear at 5..6";
+
+/// The same of goals at which the greedy choice finds no whole number for a variable.
+const SPLITS: &str = "\
+# where y <= 2x, 2x + y <= 2 and 1 <= y: y takes 1, and x is 1/2 then; it is at most 0 or at least 1
+y x x + <= x x + y + 2 <= and 1 y <= and 0 1 select 1 ; ii gives proved 5 yes
+# where 2x = 2y + 1 both are split four times in turn
+x x + y y + v2 + <= y y + v2 + x x + <= and v2 1 <= and 1 v2 <= and 0 1 select 1 ; uuu gives broken x0 [9/2 9/2] x1 4
+# where 2x = 3y: the first half of a piece has no whole point, the second one has
+x x + y y y + + <= y y y + + x x + <= and 0 x < and 0 1 select 1 ; uu gives fails at 3 2
+x x + y y y + + <= y y y + + x x + <= and 0 x < and x 3 < and 0 1 select 1 ; uu gives proved 8 yes
+# a cell that breaks before one with a point, and behind it
+x x + y y + v2 + <= y y + v2 + x x + <= and v2 1 <= and 1 v2 <= and 0 x 3 <= 3 x <= and y 5 <= and 5 y <= and 1/2 1 select select 1 ; uuu gives fails at 3 5 0
+x 3 <= 3 x <= and y 5 <= and 5 y <= and 0 x x + y y + v2 + <= y y + v2 + x x + <= and v2 1 <= and 1 v2 <= and 1/2 1 select select 1 ; uuu gives fails at 3 5 0
+# the same of signed numbers
+x x + y y + v2 + <= y y + v2 + x x + <= and 1 v2 <= and v2 1 <= and 0 1 select 1 ; iii gives broken x0 [-7/2 -7/2] x1 -4";
 
 /// The same of goals that ask again what the path has answered.
 const REPEATED: &str = "\
@@ -58,6 +71,9 @@ x 0 < 0 1 select 1 ; u ; 0 gives sff 0:1 2:1
 x 0 < 0 1 select 1 ; u ; 1 gives sff 1:1
 # yes and then no to the same question: x <= 1 and 2 <= x
 3 x 1 <= [] x 1 <= [] x 1 <= [] + + ; u ; 2 gives sssfffsfsff 0:1 1:1
+# at a split of x at 0: the row of the split stands before that of the denied goal
+y x x + <= x x + y + 2 <= and 1 y <= and 0 1 select 1 ; ii ; 0 gives sssifffff 0:1 2:1 3:2
+y x x + <= x x + y + 2 <= and 1 y <= and 0 1 select 1 ; ii ; 1 gives sssifffff 1:1 2:1 3:2
 # a goal that holds plainly
 inf x ; r ; 0 gives t
 inf inf ;  ; 0 gives t";
@@ -80,6 +96,7 @@ fn too_many_cells(rt: HostRuntime) -> Result<(), AllocError> {
 #[test]
 fn decisions(rt: HostRuntime) -> Result<(), AllocError> {
     check_texts(&rt, Kind::Decision, &[FEW])?;
+    check_texts(&rt, Kind::Decision, &[SPLITS])?;
     check_texts(&rt, Kind::Decision, &[REPEATED])?;
     check_texts(&rt, Kind::Certificate, &[CERTIFICATES])
 }

@@ -2,6 +2,7 @@
 
 use goal_answers::Tree;
 use std::alloc::{AllocError, Global};
+use test_lines::{cut, index};
 use test_texts::{multipliers_of, write_multipliers};
 
 /// The last tree; want of memory where there is none.
@@ -23,6 +24,26 @@ fn split(alloc: Global, trees: &mut Vec<Box<Tree>>) -> Result<(), AllocError> {
     push(alloc, Tree::Split(holds, fails), trees)
 }
 
+/// The split of a variable at a number, as `0:-3`.
+fn whole(alloc: Global, text: &str, trees: &mut Vec<Box<Tree>>) -> Result<(), AllocError> {
+    let above = last(trees)?;
+    let below = last(trees)?;
+    let (variable, number) = cut(text, ':');
+    let bound = number.parse::<i64>().unwrap_or(0);
+    push(
+        alloc,
+        Tree::Whole(index(variable)?, bound, below, above),
+        trees,
+    )
+}
+
+fn read_other(alloc: Global, word: &str, trees: &mut Vec<Box<Tree>>) -> Result<(), AllocError> {
+    match word.strip_prefix('i') {
+        Some(text) => whole(alloc, text, trees),
+        None => Err(AllocError),
+    }
+}
+
 fn read_word(alloc: Global, word: &str, trees: &mut Vec<Box<Tree>>) -> Result<(), AllocError> {
     match word {
         "s" => split(alloc, trees),
@@ -33,13 +54,13 @@ fn read_word(alloc: Global, word: &str, trees: &mut Vec<Box<Tree>>) -> Result<()
                 Tree::Farkas(multipliers_of(alloc, leaf, ',')?),
                 trees,
             ),
-            None => Err(AllocError),
+            None => read_other(alloc, word, trees),
         },
     }
 }
 
 /// A certificate: `t` is a leaf that holds plainly, `f0:1,2:1` is one with multipliers of rows, and `s` splits into the two trees
-/// that stand before it.
+/// that stand before it, as `i0:3` does where the variable 0 is at most 3, and where it is at least 4.
 pub fn tree_of(alloc: Global, text: &str) -> Result<Box<Tree>, AllocError> {
     let mut trees = Vec::new(alloc);
     for word in text.split_whitespace() {
@@ -54,6 +75,7 @@ pub fn leaves(tree: &Tree) -> u32 {
         Tree::Split(holds, fails) => leaves(holds).saturating_add(leaves(fails)),
         Tree::Farkas(_) => 1,
         Tree::Plain => 1,
+        Tree::Whole(_, _, below, above) => leaves(below).saturating_add(leaves(above)),
     }
 }
 
@@ -67,18 +89,23 @@ pub fn write_letters(tree: &Tree, text: &mut String) -> Result<(), AllocError> {
         }
         Tree::Farkas(_) => text.push_str("f"),
         Tree::Plain => text.push_str("t"),
+        Tree::Whole(_, _, below, above) => {
+            text.push_str("i")?;
+            write_letters(below, text)?;
+            write_letters(above, text)
+        }
     }
 }
 
 /// The multipliers of the leaf with this number, among those that have any.
 pub fn write_leaf(tree: &Tree, leaf: u32, text: &mut String) -> Result<(), AllocError> {
     match tree {
-        Tree::Split(holds, fails) => {
-            let before = certified(holds);
+        Tree::Split(first, second) | Tree::Whole(_, _, first, second) => {
+            let before = certified(first);
             if leaf < before {
-                write_leaf(holds, leaf, text)
+                write_leaf(first, leaf, text)
             } else {
-                write_leaf(fails, leaf - before, text)
+                write_leaf(second, leaf - before, text)
             }
         }
         Tree::Farkas(multipliers) => write_multipliers(multipliers, text),
@@ -92,5 +119,6 @@ fn certified(tree: &Tree) -> u32 {
         Tree::Split(holds, fails) => certified(holds).saturating_add(certified(fails)),
         Tree::Farkas(_) => 1,
         Tree::Plain => 0,
+        Tree::Whole(_, _, below, above) => certified(below).saturating_add(certified(above)),
     }
 }

@@ -2,4 +2,7 @@ pub mod Acceptance
 mod Examples
 pub mod Soundness
 pub mod Judging
+pub mod TrailSteps
+pub mod PathEnds
+mod GapExamples
 pub mod exported

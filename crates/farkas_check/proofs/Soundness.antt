@@ -11,6 +11,7 @@ use Rattle.heylo_formula.specs.Meaning.{value}
 use Rattle.heylo_formula.specs.declared.values.Val.{Val}
 use Rattle.linear_form.specs.Query.{Taken, onto, holds_at}
 use Rattle.linear_form.specs.Questions.{Ends, value_in, questions}
+use Rattle.linear_form.specs.Splits.{split_at}
 use Rattle.linear_values.specs.Lin.{Linear}
 use Rattle.linear_form.specs.Paths.{IsPath, Path, Agrees}
 use Rattle.linear_form.specs.PathRows.{denial, below_claim, rows_of}
@@ -21,7 +22,7 @@ use Rattle.linear_form.proofs.exported.MetRows.{rows_are_met, denied_rows_are_me
 use Rattle.linear_form.proofs.exported.AgreedEnds.{ends_are_values}
 use Rattle.farkas_check.specs.CertificateLaws.{CertifiedGoalsHold}
 use Rattle.linear_rows.proofs.exported.Combinations.{contradiction_unsolvable}
-use Rattle.linear_form.proofs.exported.PathSteps.{path_onto, agrees_onto}
+use Rattle.linear_form.proofs.exported.PathSteps.{plain_path, asked_onto, split_onto, agrees_onto}
 use Rattle.goal_answers.specs.Trees.{Tree}
 use Rattle.farkas_check.specs.Accepted.{has_denied, IsAccepted}
 
@@ -57,7 +58,7 @@ rows_met g s ps true rows w t p a n e = denied_rows_are_met g s ps rows w t p a 
 rows_met g s ps false rows w t p a n e = rows_are_met g s ps rows t p a e
 
 pub accepted_holds : (g : Goal) (s : List Val) → IsTypedGoal g → IsTyped g.types s → (t : Tree) (ps : List Taken) → IsPath g ps → Agrees (environment s) ps → IsAccepted g ps t → HoldsIn g (environment s)
-accepted_holds g s w h (Tree.split t u) _ p k (IsAccepted.split ps q _ _ a x y) = go (holds_at q (environment s)) refl (accepted_holds g s w h t (onto ps q true) (path_onto (questions g) ps q a.yes a.no true p a.question)) (accepted_holds g s w h u (onto ps q false) (path_onto (questions g) ps q a.yes a.no false p a.question))
+accepted_holds g s w h (Tree.split t u) _ p k (IsAccepted.split ps q _ _ a x y) = go (holds_at q (environment s)) refl (accepted_holds g s w h t (onto ps q true) (asked_onto g ps q true p a)) (accepted_holds g s w h u (onto ps q false) (asked_onto g ps q false p a))
   where
     go : (b : Bool) → holds_at q (environment s) ≡ b → (Agrees (environment s) (onto ps q true) → IsAccepted g (onto ps q true) t → HoldsIn g (environment s)) → (Agrees (environment s) (onto ps q false) → IsAccepted g (onto ps q false) u → HoldsIn g (environment s)) → HoldsIn g (environment s)
     go true e l r = l (agrees_onto (environment s) ps q true k e) x
@@ -68,6 +69,11 @@ accepted_holds g s w h (Tree.farkas ms) _ p k (IsAccepted.farkas ps _ a) = go (h
     go (inl h) = h
     go (inr n) = absurd (contradiction_unsolvable ms a.rows a.contradiction (record { at_values = λ x. number_of (environment s x); meets = rows_met g s ps (has_denied g ps) a.rows w h p k n a.are_rows }))
 accepted_holds g s w h Tree.plain _ p k (IsAccepted.plain ps a) = let v = ends_are_values g s ps a.ends w h p k a.at_end in subst (λ y. Compares g.upper (value g.stated (environment s) Choices.stop) y) v.1 (subst (λ x. Compares g.upper x (value_in a.ends.1 (environment s))) v.0 (plain_holds g.upper a.ends (environment s) a.plain))
+accepted_holds g s w h (Tree.whole x m t u) _ p k (IsAccepted.whole ps _ _ _ _ a y z) = go (holds_at (split_at x m) (environment s)) refl (accepted_holds g s w h t (onto ps (split_at x m) true) (split_onto g ps x m true a.ends p a.at_end a.whole_type)) (accepted_holds g s w h u (onto ps (split_at x m) false) (split_onto g ps x m false a.ends p a.at_end a.whole_type))
+  where
+    go : (b : Bool) → holds_at (split_at x m) (environment s) ≡ b → (Agrees (environment s) (onto ps (split_at x m) true) → IsAccepted g (onto ps (split_at x m) true) t → HoldsIn g (environment s)) → (Agrees (environment s) (onto ps (split_at x m) false) → IsAccepted g (onto ps (split_at x m) false) u → HoldsIn g (environment s)) → HoldsIn g (environment s)
+    go true e l r = l (agrees_onto (environment s) ps (split_at x m) true k e) y
+    go false e l r = r (agrees_onto (environment s) ps (split_at x m) false k e) z
 
 pub certificate_holds : CertifiedGoalsHold
-certificate_holds g t w c s h = accepted_holds g s w h t [] (Path.start (questions g)) tt c.accepted
+certificate_holds g t w c s h = accepted_holds g s w h t [] (plain_path g [] (Path.start (questions g))) tt c.accepted

@@ -2,7 +2,9 @@
 #![tactic(auto)]
 
 mod checking;
+mod ends;
 mod laws;
+mod trail;
 
 pub use checking::check;
 pub use goal_answers::{Checked, GoalCert, Tree};

@@ -2,7 +2,8 @@
 
 use heylo_formula::GoalId;
 
-/// A certificate of a goal: each question of a path answered both ways, until no state goes on or the goal holds plainly.
+/// A certificate of a goal: each question of a path answered both ways, and past the last one a whole variable split at a number,
+/// until no state goes on or the goal holds plainly.
 #[derive(Drop)]
 pub enum Tree {
     /// The tree where the question's atom holds, and the tree where it fails.
@@ -11,6 +12,8 @@ pub enum Tree {
     Farkas(Vec<(u32, u64)>),
     /// The goal holds here plainly.
     Plain,
+    /// A whole variable is at most this number, or at least the next one: the tree for either.
+    Whole(u32, i64, Box<Tree>, Box<Tree>),
 }
 
 /// The certificate of a goal of a file: the procedure's number, which of its goals, and the tree.

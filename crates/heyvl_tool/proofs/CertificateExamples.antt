@@ -1,5 +1,6 @@
 -- Worked replies of `certify` and `check`, on a file with one procedure that has no body, and on an empty text.
 use Rattle.cert_text.specs.Certificates.{certificates_of}
+use Rattle.cert_text.specs.Texts.AreFirstLines.{of_text}
 use Rattle.cert_text.specs.Texts.{IsFirstFault}
 use Rattle.heyvl_num.specs.Value.{zeroᵛ}
 use Rattle.heylo_formula.specs.Formula.{Form}
@@ -58,7 +59,7 @@ empty_fault = record {
   rest = [];
   parts = refl;
   place = refl;
-  allowed = record { certificates = []; others = codes "caesar certificate 1" ∷ codes "end" ∷ []; writable = record { growing = tt; each = tt }; front = refl };
+  allowed = of_text [] (codes "caesar certificate 1" ∷ codes "end" ∷ []) (record { growing = tt; each = tt }) refl;
   refused = λ next behind e lines. no_text_has_no_line next behind e;
   unfinished = λ cs spells. let text = ap length spells.text in omega (arith, text);
 }

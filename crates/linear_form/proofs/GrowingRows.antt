@@ -34,7 +34,7 @@ last_normal' (x ∷ rest) t h = last_normal' rest t h.1
 pub last_normal : (xs rest : List T.Taken) (t : T.Taken) → xs ≡ rest ++ (t ∷ []) → IsNormalPath (path_of xs) → IsNormalAtom (atom_of t.atom)
 last_normal xs rest t e h = last_normal' rest t (subst (λ z. IsNormalPath (path_of z)) e h)
 
-same_last : (cs bs : List Taken) (a b : Taken) → cs ++ (a ∷ []) ≡ bs ++ (b ∷ []) → (cs ≡ bs) × (a ≡ b)
+pub same_last : (cs bs : List Taken) (a b : Taken) → cs ++ (a ∷ []) ≡ bs ++ (b ∷ []) → (cs ≡ bs) × (a ≡ b)
 same_last [] [] a b e = let k : a ≡ b = cc in (refl, k)
 same_last [] (y ∷ []) a b e = absurd (cc)
 same_last [] (y ∷ (z ∷ bs)) a b e = absurd (cc)
@@ -42,11 +42,11 @@ same_last (x ∷ []) [] a b e = absurd (cc)
 same_last (x ∷ (z ∷ cs)) [] a b e = absurd (cc)
 same_last (x ∷ cs) (y ∷ bs) a b e = let k : cs ++ (a ∷ []) ≡ bs ++ (b ∷ []) = cc in let l : x ≡ y = cc in let m = same_last cs bs a b k in (ap₂ (λ u v. u ∷ v) l m.0, m.1)
 
-path_of_last : (ps : List T.Taken) (p : T.Taken) → path_of (ps ++ (p ∷ [])) ≡ path_of ps ++ (taken_of p ∷ [])
+pub path_of_last : (ps : List T.Taken) (p : T.Taken) → path_of (ps ++ (p ∷ [])) ≡ path_of ps ++ (taken_of p ∷ [])
 path_of_last [] p = refl
 path_of_last (x ∷ ps) p = ap (λ qs. taken_of x ∷ qs) (path_of_last ps p)
 
-none_lacks : (ps : List Taken) (p : Taken) → [] ≡ ps ++ (p ∷ []) → ⊥
+pub none_lacks : (ps : List Taken) (p : Taken) → [] ≡ ps ++ (p ∷ []) → ⊥
 none_lacks [] p e = absurd (cc)
 none_lacks (x ∷ ps) p e = absurd (cc)
 

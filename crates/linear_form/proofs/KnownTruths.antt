@@ -1,9 +1,13 @@
 -- A path asks for a truth once, and so its answer is what the path knows of it.
-use Rattle.std.proofs.Common.{◌≡◌, ℕ, List, [], ◌∷◌, ◌++◌, refl, ap, ◌∙◌, subst, arith, Bool, true, false, cond, ◌==◌, append_assoc}
+use Rattle.std.proofs.Common.{◌≡◌, ℕ, List, [], ◌∷◌, ◌++◌, refl, sym, ap, ◌∙◌, subst, arith, Bool, true, false, cond, ◌==◌, append_assoc}
 use Rattle.std.specs.Prelude.{Option, Some, None}
+use Rattle.std.specs.List.{All}
+use Rattle.std.proofs.lemmas.List.Elements.{All-head, All-tail}
+use Rattle.heylo_formula.specs.declared.types.Ty.{Ty}
 use Rattle.heylo_formula.specs.Goals.{Goal}
 use Rattle.linear_form.specs.Query.{Query, Atom, Taken, known, known_by, unless_known, onto, once}
 use Rattle.linear_form.specs.Query.Query.{done, bits, ask}
+use Rattle.linear_form.specs.Splits.{IsSplit}
 use Rattle.linear_form.specs.Paths.{Path, IsPath}
 
 abbrev IsNew : List Taken → Atom → Type 0
@@ -63,6 +67,18 @@ new_known : (qs ps : List Taken) → AreNew qs ps → AreKnown (qs ++ ps) ps
 new_known qs [] h = tt
 new_known qs (p ∷ ps) h = (first_known p.atom p.held qs ps h.0, subst (λ ks. AreKnown ks ps) (append_assoc qs (p ∷ []) ps) (new_known (onto qs p.atom p.held) ps h.1))
 
+-- splits ask for no truth
+new_split : (types : List Ty) (qs : List Taken) (p : Taken) → IsSplit types p → IsNew qs p.atom
+new_split types qs p h = subst (IsNew qs) (sym h.atom) tt
+
+splits_new : (types : List Ty) (qs ss : List Taken) → All (IsSplit types) ss → AreNew qs ss
+splits_new types qs [] k = tt
+splits_new types qs (s ∷ ss) k = (new_split types qs s (All-head (IsSplit types) s ss k), splits_new types (onto qs s.atom s.held) ss (All-tail (IsSplit types) s ss k))
+
+new_splits : (types : List Ty) (qs ps ss : List Taken) → AreNew qs ps → All (IsSplit types) ss → AreNew qs (ps ++ ss)
+new_splits types qs [] ss h k = splits_new types qs ss k
+new_splits types qs (p ∷ ps) ss h k = (h.0, new_splits types (onto qs p.atom p.held) ps ss h.1 k)
+
 -- A path knows its own truths.
 pub path_known : (g : Goal) (ps : List Taken) → IsPath g ps → AreKnown ps ps
-path_known g ps p = new_known [] ps (once_new [] _ ps p)
+path_known g ps p = new_known [] ps (subst (AreNew []) (sym p.parts) (new_splits g.types [] p.asked p.splits (once_new [] _ p.asked p.is_asked) p.are_splits))

@@ -5,6 +5,7 @@ mod EndValues
 mod EachResults
 mod ConstantForms
 pub mod PathSteps
+pub mod SplitPaths
 pub mod AnsweredPaths
 pub mod AgreedEnds
 mod MetClaims
@@ -40,8 +41,10 @@ mod Resuming
 mod GrowingRows
 pub mod PathRowSteps
 mod RepeatedRows
+pub mod LastRows
 pub mod PlaceRuns
 pub mod exported
+mod SplitAtoms
 mod SureQuestions
 mod Growths
 mod FirstTerms

@@ -1,20 +1,25 @@
 -- The claims of a path of a goal have growing terms and no coefficient 0.
-use Rattle.std.proofs.Common.{ℕ, List, [], ◌∷◌, ◌++◌, length, Bool, true, false, cond, ◌&&◌}
+use Rattle.std.proofs.Common.{ℕ, List, [], ◌∷◌, ◌++◌, length, sym, subst, Bool, true, false, cond, ◌&&◌}
 use Rattle.std.specs.Prelude.{Option, Some, None}
+use Rattle.std.specs.List.{All}
+use Rattle.std.proofs.lemmas.List.Elements.{All-head, All-tail}
 use Prim.Native.Nat.{zero, suc}
 use Rattle.heyvl_num.specs.Rational.{Rational}
+use Rattle.heyvl_num.specs.Rounding.{whole}
 use Rattle.heyvl_num.specs.Value.{Value, is_zeroʳ}
 use Rattle.heyvl_num.specs.Value.Value.{finite, infinite}
 use Rattle.heyvl_num.proofs.exported.Values.{is_zero-one}
 use Rattle.heylo_formula.specs.Formula.{Form, Cond}
 use Rattle.heylo_formula.specs.Goals.{Goal}
 use Rattle.heylo_formula.specs.Typing.{Types, types_in}
+use Rattle.heylo_formula.specs.declared.types.Ty.{Ty}
 use Rattle.linear_values.specs.Lin.{Lin, Terms, constant, variable, plus, minus, scaled, is_sized, AreNormal, Linear}
 use Rattle.linear_rows.specs.Numbers.{minus_oneʳ}
 use Rattle.linear_form.specs.Query.{Query, Atom, Taken, next, known, unless_known, onto, once}
 use Rattle.linear_form.specs.Query.Query.{done, bits, ask}
 use Rattle.linear_form.specs.Questions as q
 use Rattle.linear_form.specs.Questions.{Ends, sized, asked, is_below, evaluate, test, both, questions}
+use Rattle.linear_form.specs.Splits.{IsSplit}
 use Rattle.linear_form.specs.Paths.{walk, Path, IsPath, end_at}
 use Rattle.linear_values.specs.Tightening.{Claim}
 use Rattle.linear_values.specs.Nonzero.{AllNonzero}
@@ -25,6 +30,7 @@ use Rattle.linear_values.specs.Kept.{IsKeptValue}
 use Rattle.linear_values.proofs.exported.KeptTerms.{of_two, plus_normal, minus_normal, scaled_normal}
 use Rattle.linear_form.proofs.EachResults.{each_next}
 use Rattle.linear_form.proofs.KeptValues.{form_kept}
+use Rattle.linear_form.proofs.SplitPaths.{end_same}
 use Rattle.linear_values.proofs.exported.Factors.{normal_nonzero}
 
 -- ---- The results and the questions of a tree
@@ -208,6 +214,24 @@ walk_good (ask q y n) _ P h (Path.start _) = h
 walk_good (ask q y n) _ P h (Path.yes _ _ _ ps p) = walk_good y ps P h.1 p
 walk_good (ask q y n) _ P h (Path.no _ _ _ ps p) = walk_good n ps P h.2 p
 
+normal_paths : (ps qs : List Taken) → IsNormalPath ps → IsNormalPath qs → IsNormalPath (ps ++ qs)
+normal_paths [] qs h k = k
+normal_paths (p ∷ ps) qs h k = (h.0, normal_paths ps qs h.1 k)
+
+split_normal : (types : List Ty) (p : Taken) → IsSplit types p → IsNormalAtom p.atom
+split_normal types p h = subst IsNormalAtom (sym h.atom) (minus_normal (variable h.var) (constant (whole h.bound)) (is_zero-one, (tt, tt)))
+
+splits_normal : (types : List Ty) (ps : List Taken) → All (IsSplit types) ps → IsNormalPath ps
+splits_normal types [] h = tt
+splits_normal types (p ∷ ps) h = (split_normal types p (All-head (IsSplit types) p ps h), splits_normal types ps (All-tail (IsSplit types) p ps h))
+
+-- the answers of a path, and what stands at its end
+pub answers_normal : (g : Goal) (ps : List Taken) → IsPath g ps → IsNormalPath ps
+answers_normal g ps p = subst IsNormalPath (sym p.parts) (normal_paths p.asked p.splits (path_good (questions g) p.asked AreGood (goal_good g) p.is_asked) (splits_normal g.types p.splits p.are_splits))
+
+end_good : (g : Goal) (ps : List Taken) → IsPath g ps → IsGood AreGood (end_at g ps)
+end_good g ps p = subst (IsGood AreGood) (sym (end_same g ps p)) (walk_good (questions g) p.asked AreGood (goal_good g) p.is_asked)
+
 -- ---- The claims
 
 abbrev pub AllNormal : List Claim → Type 0
@@ -243,7 +267,7 @@ signs_normal types ks zero = tt
 signs_normal types ks (suc n) = normal_append (sign_claims types ks n) _ (signs_normal types ks n) (of_two AllNormal (is_unsigned_type (types n) && occurs_in_claims n ks) (claim (negated (variable n)) false ∷ []) [] ((scaled_normal minus_oneʳ (variable n) (is_zero-one, (tt, tt))), tt) tt)
 
 pub all_normal : (g : Goal) (ps : List Taken) (denied : Bool) → IsPath g ps → AllNormal (claims_of g ps denied)
-all_normal g ps denied p = normal_append before (sign_claims (types_in g.types) before (length g.types)) (normal_append (path_claims ps) (cond denied (listed (denial_at g.upper (end_at g ps))) []) (path_normal ps (path_good (questions g) ps AreGood (goal_good g) p)) (of_two AllNormal denied (listed (denial_at g.upper (end_at g ps))) [] (denial_normal g.upper (end_at g ps) (walk_good (questions g) ps AreGood (goal_good g) p)) tt)) (signs_normal (types_in g.types) before (length g.types))
+all_normal g ps denied p = normal_append before (sign_claims (types_in g.types) before (length g.types)) (normal_append (path_claims ps) (cond denied (listed (denial_at g.upper (end_at g ps))) []) (path_normal ps (answers_normal g ps p)) (of_two AllNormal denied (listed (denial_at g.upper (end_at g ps))) [] (denial_normal g.upper (end_at g ps) (end_good g ps p)) tt)) (signs_normal (types_in g.types) before (length g.types))
   where
     before : List Claim
     before = path_claims ps ++ cond denied (listed (denial_at g.upper (end_at g ps))) []
@@ -254,9 +278,6 @@ claims_nonzero (k ∷ ks) h = (normal_nonzero k.left.terms h.0, claims_nonzero k
 
 pub all_nonzero : (g : Goal) (ps : List Taken) (denied : Bool) → IsPath g ps → AllNonzero (claims_of g ps denied)
 all_nonzero g ps denied p = claims_nonzero (claims_of g ps denied) (all_normal g ps denied p)
-
-pub answers_normal : (g : Goal) (ps : List Taken) → IsPath g ps → IsNormalPath ps
-answers_normal g ps p = path_good (questions g) ps AreGood (goal_good g) p
 
 -- ---- The values at an end
 
@@ -282,4 +303,4 @@ abbrev pub AreKept : Ends → Type 0
 AreKept e = IsKeptValue e.0 × IsKeptValue e.1
 
 pub ends_kept : (g : Goal) (ps : List Taken) → IsPath g ps → EachResult AreKept (end_at g ps)
-ends_kept g ps p = each_walk (questions g) ps AreKept (each_once [] _ AreKept (each_next (evaluate g.stated) _ IsKeptValue AreKept (form_kept g.stated) (λ x h. each_next (evaluate g.found) _ IsKeptValue AreKept (form_kept g.found) (λ y k. (h, k))))) p
+ends_kept g ps p = subst (EachResult AreKept) (sym (end_same g ps p)) (each_walk (questions g) p.asked AreKept (each_once [] _ AreKept (each_next (evaluate g.stated) _ IsKeptValue AreKept (form_kept g.stated) (λ x h. each_next (evaluate g.found) _ IsKeptValue AreKept (form_kept g.found) (λ y k. (h, k))))) p.is_asked)

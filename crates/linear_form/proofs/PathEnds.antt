@@ -1,11 +1,12 @@
 -- An evaluation along a path of a tree gives what stands at the path's end.
-use Rattle.std.proofs.Common.{◌≡◌, ℕ, ◌+◌, List, [], ◌∷◌, ◌++◌, refl, sym, ap, subst, arith, Bool, true, false, take, drop, length}
+use Rattle.std.proofs.Common.{◌≡◌, ◌⊎◌, ℕ, ◌+◌, List, [], ◌∷◌, ◌++◌, refl, sym, ap, ◌∙◌, subst, arith, Bool, true, false, inl, inr, take, drop, length}
 use Rattle.std.specs.Prelude.{Option, Some, None}
+use Rattle.std.proofs.lemmas.List.{append-nil, take-append-le}
 use Rattle.heylo_formula.specs.Goals.{Goal}
 use Rattle.linear_form.specs.Query.{Query, Atom, Taken, known, unless_known, once, onto}
 use Rattle.linear_form.specs.Query.Query.{done, bits, ask}
 use Rattle.linear_form.specs.Paths.{Path, walk, IsPath, end_at}
-use Rattle.linear_form.specs.Questions.{Ends, evaluate, both}
+use Rattle.linear_form.specs.Questions.{Ends, evaluate, both, all_questions}
 use Rattle.linear_form.specs.internal.Run.{Evaluation, along, turned, heard}
 use Rattle.linear_form.specs.internal.Run.Evaluation.{value, decide}
 use Rattle.linear_values.specs.PlainValues.{linear_of}
@@ -14,6 +15,8 @@ use Rattle.linear_form.specs.Asked.{Answers}
 use Rattle.linear_values.specs.declared.lin.Lin as L
 use Rattle.linear_form.specs.declared.paths.Atom as A
 use Rattle.linear_form.specs.declared.asking.Ask as K
+use Rattle.linear_form.proofs.GoingOn.{local}
+use Rattle.linear_form.proofs.SplitPaths.{end_same}
 
 -- an evaluation came to what the tree has at its head
 abbrev pub Same : {A : Type 0} → Evaluation A → Query A → Type 0
@@ -60,9 +63,28 @@ run_walk {A} past rest (ask (Atom.truth x) y n) p = subst (λ zs. Same (heard (k
     go (Some false) p f g k l = g p
     go None p f g k l = step past rest (Atom.truth x) y n _ _ p k l
 
+-- an evaluation that comes to its end comes there on each longer path
+past_end : (qs ss : List Taken) (t : Query Ends) (x : Ends) (j : ℕ) → along qs t 0 ≡ value x j → along (qs ++ ss) t 0 ≡ value x j
+past_end qs ss t x j e = let h = local qs t 0 j x e in h.same (qs ++ ss) (take-append-le j qs ss (h.within (omega arith)))
+
 -- what a goal's evaluation comes to is what stands at the end of the path
 pub goal_end : (g : Goal) (ps : List Taken) (o : Evaluation Ends) → IsPath g ps → along ps (both (evaluate g.stated) (evaluate g.found) (λ x y. done (x, y))) 0 ≡ o → Same o (end_at g ps)
-goal_end g ps o p e = subst (λ o. Same o (end_at g ps)) e (run_walk [] ps (both (evaluate g.stated) (evaluate g.found) (λ x y. done (x, y))) p)
+goal_end g ps o p e = subst (λ o. Same o (end_at g ps)) e (subst (Same (along ps (all_questions g) 0)) (sym (end_same g ps p)) (go p.at_end))
+  where
+    first : Same (along p.asked (all_questions g) 0) (end_at g p.asked)
+    first = run_walk [] p.asked (all_questions g) p.is_asked
+
+    whole : (ss : List Taken) → p.splits ≡ ss → ps ≡ p.asked ++ ss
+    whole ss e = p.parts ∙ ap (λ ss. p.asked ++ ss) e
+
+    ended : (x : Ends) → end_at g p.asked ≡ done x → (o : Evaluation Ends) → along p.asked (all_questions g) 0 ≡ o → Same o (done x) → Same (along ps (all_questions g) 0) (done x)
+    ended x k (value y j) f h = subst (λ qs. Same (along qs (all_questions g) 0) (done x)) (sym p.parts) (subst (λ o. Same o (done x)) (sym (past_end p.asked p.splits (all_questions g) y j f)) h)
+    ended x k (decide q) f h = absurd h
+    ended x k Evaluation.bits f h = absurd h
+
+    go : (p.splits ≡ []) ⊎ ((x : Ends) × (end_at g p.asked ≡ done x)) → Same (along ps (all_questions g) 0) (end_at g p.asked)
+    go (inl k) = subst (λ qs. Same (along qs (all_questions g) 0) (end_at g p.asked)) (sym (whole [] k ∙ append-nil p.asked)) first
+    go (inr k) = subst (Same (along ps (all_questions g) 0)) (sym k.1) (ended k.0 k.1 (along p.asked (all_questions g) 0) refl (subst (Same (along p.asked (all_questions g) 0)) k.1 first))
 
 pub answer_end : (x z : Option L.Lin) (i : ℕ) (t : Query Ends) → Same (value (linear_of x, linear_of z) i) t → Answers (K.TheVariants.End x z) t
 answer_end x z i (done e) h = h

@@ -1,13 +1,9 @@
 -- A path and one more answer.
-use Rattle.std.proofs.Common.{◌≡◌, List, [], ◌∷◌, sym, subst, Bool, true, false}
+use Rattle.std.proofs.Common.{◌≡◌, List, [], ◌∷◌, subst, Bool, true, false}
 use Rattle.heylo_formula.specs.State.{Env}
 use Rattle.linear_form.specs.Query.{Query, Atom, Taken, holds_at, onto}
 use Rattle.linear_form.specs.Query.Query.{done, bits, ask}
-use Rattle.heylo_formula.specs.Goals.{Goal}
-use Rattle.linear_form.specs.Paths.{walk, Path, Agrees, IsPath}
-use Rattle.linear_form.specs.Questions.{questions}
-use Rattle.linear_form.specs.PlainPaths.{path_of}
-use Rattle.linear_form.specs.declared.paths.Taken as T
+use Rattle.linear_form.specs.Paths.{walk, Path, Agrees}
 
 -- Where the path ends in a question, each answer goes on.
 pub path_onto : {A : Type 0} (t : Query A) (ps : List Taken) (q : Atom) (y n : Query A) (b : Bool) → Path t ps → walk t ps ≡ ask q y n → Path t (onto ps q b)
@@ -25,7 +21,3 @@ path_onto (ask r y' n') _ q y n b (Path.no _ _ _ ps p) e = Path.no r y' n' (onto
 pub agrees_onto : (s : Env) (ps : List Taken) (q : Atom) (b : Bool) → Agrees s ps → holds_at q s ≡ b → Agrees s (onto ps q b)
 agrees_onto s [] q b h e = (e, tt)
 agrees_onto s (p ∷ ps) q b h e = (h.0, agrees_onto s ps q b h.1 e)
-
--- the path without an answer
-pub empty_path : (g : Goal) (ps : List T.Taken) → ps ≡ [] → IsPath g (path_of ps)
-empty_path g ps e = subst (λ (ps : List T.Taken). IsPath g (path_of ps)) (sym e) (Path.start (questions g))

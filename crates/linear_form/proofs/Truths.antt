@@ -1,15 +1,19 @@
 -- The truths that a goal asks for are those of its free Boolean variables.
-use Rattle.std.proofs.Common.{◌≡◌, ℕ, ◌<◌, List, [], ◌∷◌, length, refl, subst, arith, Bool, true, false, cond, ◌==◌, ◌||◌}
+use Rattle.std.proofs.Common.{◌≡◌, ℕ, ◌<◌, List, [], ◌∷◌, ◌++◌, length, refl, sym, subst, arith, Bool, true, false, cond, ◌==◌, ◌||◌}
 use Rattle.std.specs.Prelude.{Option, Some, None}
+use Rattle.std.specs.List.{All}
+use Rattle.std.proofs.lemmas.List.Elements.{All-head, All-tail}
 use Rattle.heyvl_num.specs.Rational.{Rational}
 use Rattle.heylo_formula.specs.Formula.{Form, Cond}
 use Rattle.heylo_formula.specs.Typing.{Types, is_bool, types_in}
+use Rattle.heylo_formula.specs.declared.types.Ty.{Ty}
 use Rattle.heylo_formula.specs.Variables.{is_free, is_free_in}
 use Rattle.linear_values.specs.Lin.{Lin, Terms, plus, minus, scaled, is_sized, Linear}
 use Rattle.linear_form.specs.Query.{Query, Atom, Taken, next, known, known_by, unless_known, onto, once}
 use Rattle.linear_form.specs.Query.Query.{done, bits, ask}
 use Rattle.linear_form.specs.Questions as q
 use Rattle.linear_form.specs.Questions.{Ends, sized, asked, is_below, evaluate, test, both, questions}
+use Rattle.linear_form.specs.Splits.{IsSplit}
 use Rattle.linear_form.specs.Paths.{Path}
 use Rattle.linear_form.specs.PointLaws.{TruthsAreBooleans, TruthsHaveVariables}
 use Rattle.linear_form.proofs.TypedTrees.{IsTypedAtom, IsTypedPath, typed_path}
@@ -202,6 +206,15 @@ on_path P t _ h (Path.start _) = tt
 on_path P (ask q y n) _ h (Path.yes _ _ _ ps p) = (h.0, on_path P y ps h.1 p)
 on_path P (ask q y n) _ h (Path.no _ _ _ ps p) = (h.0, on_path P n ps h.2 p)
 
+-- splits ask for no truth
+on_splits : (P : ℕ → Type 0) (types : List Ty) (ss : List Taken) → All (IsSplit types) ss → OnPath P ss
+on_splits P types [] k = tt
+on_splits P types (s ∷ ss) k = (subst (OnAtom P) (sym (All-head (IsSplit types) s ss k).atom) tt, on_splits P types ss (All-tail (IsSplit types) s ss k))
+
+on_paths : (P : ℕ → Type 0) (types : List Ty) (ps ss : List Taken) → OnPath P ps → All (IsSplit types) ss → OnPath P (ps ++ ss)
+on_paths P types [] ss h k = on_splits P types ss k
+on_paths P types (p ∷ ps) ss h k = (h.0, on_paths P types ps ss h.1 k)
+
 on_known : (P : ℕ → Type 0) (ps : List Taken) (x : ℕ) (b : Bool) → OnPath P ps → known x ps ≡ Some b → P x
 on_known P [] x b h e = absurd (cc)
 on_known P (p ∷ ps) x b h e = go p.atom h.0 e (on_known P ps x b h.1)
@@ -226,4 +239,4 @@ pub truths_booleans : TruthsAreBooleans
 truths_booleans g ps x b w p e = on_known (λ x. is_bool (types_in g.types x) ≡ true) ps x b (typed_on (types_in g.types) ps (typed_path g ps w p)) e
 
 pub truths_variables : TruthsHaveVariables
-truths_variables g ps x b v p e = on_known (λ x. x < length g.types) ps x b (on_path (λ x. x < length g.types) (questions g) ps (on_once (λ x. x < length g.types) [] _ (on_next (λ x. x < length g.types) {B = Ends} (evaluate g.stated) _ (form_truths (λ x. x < length g.types) g.stated v.stated) (λ y. on_next (λ x. x < length g.types) {B = Ends} (evaluate g.found) _ (form_truths (λ x. x < length g.types) g.found v.found) (λ z. tt)))) p) e
+truths_variables g ps x b v p e = on_known (λ x. x < length g.types) ps x b (subst (OnPath (λ x. x < length g.types)) (sym p.parts) (on_paths (λ x. x < length g.types) g.types p.asked p.splits (on_path (λ x. x < length g.types) (questions g) p.asked (on_once (λ x. x < length g.types) [] _ (on_next (λ x. x < length g.types) {B = Ends} (evaluate g.stated) _ (form_truths (λ x. x < length g.types) g.stated v.stated) (λ y. on_next (λ x. x < length g.types) {B = Ends} (evaluate g.found) _ (form_truths (λ x. x < length g.types) g.found v.found) (λ z. tt)))) p.is_asked) p.are_splits)) e

@@ -1,23 +1,28 @@
 -- A typed goal asks about the variables that it may: linear values are of variables of numbers, and a truth is a Boolean's.
-use Rattle.std.proofs.Common.{◌≡◌, ℕ, List, [], ◌∷◌, refl, Bool, true, false, cond, ◌&&◌, ◌==◌, ltb}
+use Rattle.std.proofs.Common.{◌≡◌, ℕ, List, [], ◌∷◌, ◌++◌, refl, sym, subst, Bool, true, false, cond, ◌&&◌, ◌==◌, ltb}
 use Rattle.std.specs.Prelude.{Option, Some, None}
+use Rattle.std.specs.List.{All}
+use Rattle.std.proofs.lemmas.List.Elements.{All-head, All-tail}
 use Rattle.heyvl_num.specs.Rational.{Rational, zeroʳ, leqʳ, ◌+ʳ◌, ◌*ʳ◌}
+use Rattle.heyvl_num.specs.Rounding.{whole}
 use Rattle.heyvl_num.specs.Value.{Value, is_zeroʳ}
 use Rattle.heyvl_num.specs.Value.Value.{finite, infinite}
 use Rattle.heylo_formula.specs.Formula.{Form, Cond}
 use Rattle.heylo_formula.specs.Goals.{Goal}
 use Rattle.heylo_formula.specs.Typing.{Types, NumberType, number_type, is_bool, is_unsigned, is_finite_type, type_of, is_well_typed, types_in}
 use Rattle.heylo_formula.specs.declared.types.Ty.{Ty}
-use Rattle.linear_values.specs.Lin.{Lin, Terms, constant, unless_zero, more, merged, times, plus, minus, scaled, is_sized, Linear}
+use Rattle.linear_values.specs.Lin.{Lin, Terms, constant, variable, unless_zero, more, merged, times, plus, minus, scaled, is_sized, Linear}
 use Rattle.linear_rows.specs.Numbers.{minus_oneʳ}
 use Rattle.linear_form.specs.Query.{Query, Atom, Taken, next, known, unless_known, onto, once}
 use Rattle.linear_form.specs.Query.Query.{done, bits, ask}
 use Rattle.linear_form.specs.Questions as q
 use Rattle.linear_form.specs.Questions.{Ends, sized, asked, is_below, evaluate, test, both, questions}
+use Rattle.linear_form.specs.Splits.{IsSplit}
 use Rattle.linear_form.specs.Paths.{walk, Path, IsPath, end_at}
 use Rattle.heylo_formula.specs.TypedGoals.{IsTypedGoal}
-use Rattle.linear_rows.specs.VariableTypes.{is_numeric}
+use Rattle.linear_rows.specs.VariableTypes.{is_integral, is_numeric}
 use Rattle.linear_values.proofs.exported.KeptTerms.{of_two}
+use Rattle.linear_form.proofs.SplitPaths.{end_same}
 use Rattle.linear_form.proofs.TypedValues.{parts, only, unsigned, difference_joined, scale_joined}
 
 -- ---- Terms
@@ -263,9 +268,26 @@ walk_typed types (ask q y n) _ P h (Path.start _) = h
 walk_typed types (ask q y n) _ P h (Path.yes _ _ _ ps p) = walk_typed types y ps P h.1 p
 walk_typed types (ask q y n) _ P h (Path.no _ _ _ ps p) = walk_typed types n ps P h.2 p
 
+typed_paths : (types : Types) (ps qs : List Taken) → IsTypedPath types ps → IsTypedPath types qs → IsTypedPath types (ps ++ qs)
+typed_paths types [] qs h k = k
+typed_paths types (p ∷ ps) qs h k = (h.0, typed_paths types ps qs h.1 k)
+
+integral_numeric : (ty : Ty) → is_integral ty ≡ true → is_numeric ty ≡ true
+integral_numeric Ty.Bool e = absurd (cc)
+integral_numeric Ty.Int e = refl
+integral_numeric Ty.UInt e = refl
+integral_numeric Ty.UReal e = absurd (cc)
+
+split_typed : (tys : List Ty) (p : Taken) → IsSplit tys p → IsTypedAtom (types_in tys) p.atom
+split_typed tys p h = subst (IsTypedAtom (types_in tys)) (sym h.atom) (minus_numbers (types_in tys) (variable h.var) (constant (whole h.bound)) (integral_numeric (types_in tys h.var) h.whole_type, tt) tt)
+
+splits_typed : (tys : List Ty) (ps : List Taken) → All (IsSplit tys) ps → IsTypedPath (types_in tys) ps
+splits_typed tys [] h = tt
+splits_typed tys (p ∷ ps) h = (split_typed tys p (All-head (IsSplit tys) p ps h), splits_typed tys ps (All-tail (IsSplit tys) p ps h))
+
 -- A path of a typed goal asks about such variables.
 pub typed_path : (g : Goal) (ps : List Taken) → IsTypedGoal g → IsPath g ps → IsTypedPath (types_in g.types) ps
-typed_path g ps w p = path_typed (types_in g.types) (questions g) ps (AreNumberValues (types_in g.types)) (goal_typed g w) p
+typed_path g ps w p = subst (IsTypedPath (types_in g.types)) (sym p.parts) (typed_paths (types_in g.types) p.asked p.splits (path_typed (types_in g.types) (questions g) p.asked (AreNumberValues (types_in g.types)) (goal_typed g w) p.is_asked) (splits_typed g.types p.splits p.are_splits))
 
 abbrev pub AreNumberEnds : Types → Query Ends → Type 0
 AreNumberEnds types (done e) = AreNumberValues types e
@@ -279,4 +301,4 @@ number_ends types (ask q y n) h = tt
 
 -- The values at the end of its path are of variables of numbers.
 pub typed_end : (g : Goal) (ps : List Taken) → IsTypedGoal g → IsPath g ps → AreNumberEnds (types_in g.types) (end_at g ps)
-typed_end g ps w p = number_ends (types_in g.types) (end_at g ps) (walk_typed (types_in g.types) (questions g) ps (AreNumberValues (types_in g.types)) (goal_typed g w) p)
+typed_end g ps w p = subst (AreNumberEnds (types_in g.types)) (sym (end_same g ps p)) (number_ends (types_in g.types) (end_at g p.asked) (walk_typed (types_in g.types) (questions g) p.asked (AreNumberValues (types_in g.types)) (goal_typed g w) p.is_asked))

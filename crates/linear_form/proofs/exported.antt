@@ -8,3 +8,4 @@ pub mod Truths
 pub mod UnsignedRows
 pub mod AnsweredPaths
 pub mod Places
+pub mod LastRows

@@ -1,5 +1,6 @@
 pub mod Query
 pub mod Questions
+pub mod Splits
 pub mod Paths
 pub mod Nonlinear
 pub mod PathRows

@@ -1,10 +1,10 @@
--- What is proved of the length of paths.
-use Rattle.std.specs.Prelude.{◌+◌, ◌*◌, ◌≤◌, List, length}
+-- What is proved of the length of paths of questions.
+use Rattle.std.specs.Prelude.{◌+◌, ◌≤◌, List, length}
 use Rattle.heylo_formula.specs.Goals.{Goal}
 use Rattle.heylo_formula.specs.Sizes.{nodes}
 use Rattle.linear_form.specs.Query.{Taken}
-use Rattle.linear_form.specs.Paths.{IsPath}
+use Rattle.linear_form.specs.Paths.{IsQuestionPath}
 
--- Each node of the two forms asks at most two questions, and on a path only once.
+-- A path has at most as many questions as the two forms have nodes.
 abbrev pub PathsAreShort : Type 0
-PathsAreShort = (g : Goal) (ps : List Taken) → IsPath g ps → length ps ≤ 2 * (nodes g.stated + nodes g.found)
+PathsAreShort = (g : Goal) (ps : List Taken) → IsQuestionPath g ps → length ps ≤ nodes g.stated + nodes g.found

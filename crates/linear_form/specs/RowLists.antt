@@ -6,7 +6,7 @@ use Rattle.heylo_formula.specs.Goals.{Goal}
 use Rattle.linear_rows.specs.Row.{Row, IsRow}
 use Rattle.linear_form.specs.Query.{Taken}
 use Rattle.linear_values.specs.Tightening.{all_tightened}
-use Rattle.linear_form.specs.PathRows.{path_claims}
+use Rattle.linear_form.specs.PathRows.{path_claims, answer_claims}
 use Rattle.heylo_formula.specs.Typing.{types_in}
 use Rattle.linear_form.specs.declared.path_rows.RowList.{RowList}
 use Rattle.linear_form.specs.declared.path_rows.RowList.TheVariants.{Rows, Bits}
@@ -40,6 +40,11 @@ pub record LackLastRow (g : Goal) (ps : List Taken) (rows : List Row) : Type 0 w
   pub last : Taken
   pub split : ps ≡ before ++ (last ∷ [])
   pub are_rows : ArePathRows g before rows
+
+-- The rows are those of the last answer of the path alone: one where it is to a comparison, none where it is to the truth of a
+-- variable.
+abbrev pub AreLastRows : Goal → List Taken → RowList → Type 0
+AreLastRows g ps r = (before : List Taken) (last : Taken) → ps ≡ before ++ (last ∷ []) → Lists r (all_tightened (types_in g.types) (answer_claims last.atom last.held))
 
 -- The rows begin with these.
 abbrev pub StartsWith : List Row → RowList → Type 0

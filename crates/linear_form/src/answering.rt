@@ -13,7 +13,8 @@ use crate::places::Reached;
 use heylo_formula::Goal;
 use std::alloc::{AllocError, Global};
 
-/// What stands at the end of a path of the goal: the next question, the values of both forms, or Bits. In a goal without a
+/// What stands at the end of a path of the goal: the next question, the values of both forms, or Bits. Where the path goes on with
+/// splits behind its last question, these are the values at that end. In a goal without a
 /// nonlinear product Bits is given exactly where a number of a value that is evaluated on this path, or of a difference that
 /// is compared, reaches 2^62. Want of memory is the one error.
 pub fn ask(alloc: Global, goal: &Goal, path: &[Taken]) -> Result<Ask, AllocError>

@@ -11,7 +11,7 @@ ghost use Rattle.linear_form.specs.PathRows.{rows_of, path_claims, listed, denia
 ghost use Rattle.linear_values.specs.Tightening.{all_tightened};
 ghost use Rattle.linear_form.specs.PlainPaths.{path_of};
 ghost use Rattle.linear_form.specs.internal.FurtherRows.{rows_with};
-ghost use Rattle.linear_form.specs.RowLists.{Lists, AreRows, AreNumericRows, count_of, ArePathRows, LackLastRow, StartsWith};
+ghost use Rattle.linear_form.specs.RowLists.{Lists, AreRows, AreNumericRows, count_of, ArePathRows, LackLastRow, AreLastRows, StartsWith};
 ghost use Rattle.linear_form.specs.declared.asking.Ask.TheVariants.{End};
 
 use crate::further_rows::{with_answer, with_below};
@@ -38,6 +38,19 @@ pub fn next_row(
     match path.split_last() {
         None => Ok(RowList::Rows(rows)),
         Some((taken, _)) => with_answer(alloc, &goal.vars, rows, &taken.atom, taken.held),
+    }
+}
+
+/// The rows of the last answer of the path alone: one where it is to a comparison, none where it is to the truth of a variable, or
+/// where there is no answer. Want of memory is the one error.
+pub fn last_rows(alloc: Global, goal: &Goal, path: &[Taken]) -> Result<RowList, AllocError>
+    requires { IsPath (goal_of goal.now) (path_of path.now) }
+    ensures { IfOk result (AreLastRows (goal_of goal.now) (path_of path.now)) }
+{
+    let none = Vec::new(alloc);
+    match path.split_last() {
+        None => Ok(RowList::Rows(none)),
+        Some((taken, _)) => with_answer(alloc, &goal.vars, none, &taken.atom, taken.held),
     }
 }
 

@@ -24,6 +24,7 @@ mod question_laws;
 mod row_list_laws;
 mod signs;
 mod slopes;
+mod splits;
 mod steps;
 
 pub use answering::ask;
@@ -31,7 +32,7 @@ pub use asking::Ask;
 pub use claim_laws::{paths_claim_truths, paths_rows_are_met};
 pub use goal_products::nonlinear;
 pub use going_on::{begin, go_on, go_on_from};
-pub use growing_rows::{next_row, with_denied_goal, with_signs_of_path};
+pub use growing_rows::{last_rows, next_row, with_denied_goal, with_signs_of_path};
 pub use lasting::asks_on;
 pub use linear_rows::{
     Occurrences, Row, coefficient_of, contradicts, divided, divisor_of, greedy_choices_are_unique,
@@ -49,3 +50,4 @@ pub use question_laws::{constant_without_variables, one_path_agrees};
 pub use row_list_laws::{
     denied_rows_are_more, path_rows_grow, repeated_rows_stand, rows_are_numeric,
 };
+pub use splits::split;

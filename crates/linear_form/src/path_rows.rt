@@ -92,7 +92,7 @@ fn claimed_rows(
     }
 }
 
-/// The rows of a path of the goal: one for each comparison, in order, as it was answered; where asked for, the denied goal, if
+/// The rows of a path of the goal: one for each comparison, splits of whole variables among them, in order, as it was answered; where asked for, the denied goal, if
 /// the path is at an end at which the goal doesn't hold plainly; and for each UInt and UReal variable that occurs before, by
 /// number, that it isn't negative. Each is tightened. Bits is given exactly where a number of a row reaches 2^62 before or
 /// after it is tightened, or the constant's multiple 2^127. Want of memory is the one error.

@@ -11,7 +11,7 @@ pub enum Atom {
     Row(Lin, bool),
 }
 
-/// A question with its answer.
+/// A question, or a split of a whole variable, with its answer.
 #[derive(Drop)]
 pub struct Taken {
     pub atom: Atom,

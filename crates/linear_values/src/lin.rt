@@ -19,6 +19,7 @@ pub struct Lin {
     pub rest: Frac,
 }
 
+/// The linear value without variables that is this number.
 pub fn constant(alloc: Global, x: Frac) -> Lin
     ensures { lin_of result ≡ constant_lin x }
 {
@@ -28,6 +29,7 @@ pub fn constant(alloc: Global, x: Frac) -> Lin
     }
 }
 
+/// The linear value that is the variable with this number. Want of memory is the one error.
 pub fn variable(alloc: Global, x: u32) -> Result<Lin, AllocError>
     ensures { IfOk result (λ a. lin_of a ≡ variable_lin x) }
 {
@@ -111,6 +113,7 @@ fn times(alloc: Global, w: &Frac, terms: &[(u32, Frac)]) -> Result<Vec<(u32, Fra
     Ok(made)
 }
 
+/// The first linear value less the second. Want of memory is the one error.
 pub fn minus(alloc: Global, a: &Lin, b: &Lin) -> Result<Lin, AllocError>
     requires left { IsKept (lin_of a.now) }
     requires right { IsKept (lin_of b.now) }

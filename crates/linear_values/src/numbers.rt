@@ -20,6 +20,7 @@ pub fn whole(n: i64) -> Frac
     Frac::new(i128::from(n), 1).unwrap()
 }
 
+/// The number -1.
 pub fn minus_one() -> Frac
     ensures { result ≡ minus_oneʳ }
 {
@@ -52,6 +53,7 @@ pub fn narrow(z: i128) -> Option<i64>
     }
 }
 
+/// Whether the number is 0.
 pub fn is_zero(x: &Frac) -> bool
     ensures { result ≡ is_zeroʳ x.now }
 {

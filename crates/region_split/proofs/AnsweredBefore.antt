@@ -12,7 +12,6 @@ use Rattle.linear_form.specs.Query.{Atom, Taken, onto}
 use Rattle.linear_rows.specs.Row.{Row}
 use Rattle.linear_rows.specs.Combination.{row_at}
 use Rattle.linear_form.specs.Lasting.{IsNoEnd}
-use Rattle.linear_form.specs.Questions.{questions}
 use Rattle.linear_form.specs.Paths.{IsPath}
 use Rattle.linear_values.specs.Tightening.{all_tightened}
 use Rattle.linear_form.specs.PathRows.{path_claims, answer_claims}
@@ -21,7 +20,7 @@ use Rattle.linear_form.specs.declared.paths.Taken as T
 use Rattle.linear_form.specs.RowLists.{ArePathRows}
 use Rattle.linear_form.specs.RowListLaws.{HasFirstRows, RepeatedRowsStand}
 use Rattle.linear_form.specs.Cells.{IsKept, GoesOn}
-use Rattle.linear_form.proofs.exported.PathSteps.{path_onto}
+use Rattle.linear_form.proofs.exported.PathSteps.{asked_onto}
 use Rattle.linear_form.proofs.exported.Places.{rows_counted, path_rows_first, claims_counted}
 use Rattle.goal_answers.specs.declared.causes.Cause.TheVariants.{Bits}
 use Rattle.farkas_check.specs.Accepted.{IsRefutedWith}
@@ -101,8 +100,8 @@ rows_few g ps rows h = let a = rows_counted g ps rows h in let b = claims_few ps
 
 -- where the row of yes can't be stated, the walk ends in its branch
 pub unstated_yes : (g : Goal) (ps : List Taken) (q : Atom) → GoesOn g ps q → all_tightened (types_in g.types) (path_claims (onto ps q true)) ≡ None → EndsWalk g ps false Bits
-unstated_yes g ps q h e cells r m linear = (linear, IsLarge.in_rows (onto ps q true) cells (record { are_before = AreBefore.first ps q cells h r.are_before; few = r.few }) (unstated_path g (onto ps q true) e))
+unstated_yes g ps q h e cells r linear = (linear, IsLarge.in_rows (onto ps q true) cells (record { are_before = AreBefore.first ps q cells h r.are_before; few = r.few }) (unstated_path g (onto ps q true) e))
 
 -- a path with an answer to its question is a path
 pub question_path : (g : Goal) (ps : List Taken) (q : Atom) (held : Bool) → IsPath g ps → GoesOn g ps q → IsPath g (onto ps q held)
-question_path g ps q held p h = path_onto (questions g) ps q h.asks.yes h.asks.no held p h.asks.question
+question_path g ps q held p h = asked_onto g ps q held p h.asks

@@ -4,7 +4,7 @@ use Rattle.std.specs.Prelude.{Option}
 use Rattle.heylo_formula.specs.Goals.{Goal}
 use Rattle.linear_form.specs.Query.{Taken}
 use Rattle.linear_form.specs.Questions.{questions}
-use Rattle.linear_form.specs.Paths.{Path, IsPath}
+use Rattle.linear_form.specs.Paths.{Path, IsQuestionPath}
 use Rattle.linear_form.specs.Cells.{IsFront, IsCell}
 use Rattle.linear_form.proofs.exported.PathSteps.{path_onto}
 use Rattle.region_split.specs.Walk.{AreBefore, IsReached}
@@ -13,7 +13,7 @@ use Rattle.region_split.specs.internal.Seen.{IsEnd}
 use Rattle.region_split.specs.internal.Progress.{HasBefore}
 use Rattle.goal_answers.specs.declared.trees.Tree as F
 
-pub front_path : (g : Goal) (ps : List Taken) → IsFront g ps → IsPath g ps
+pub front_path : (g : Goal) (ps : List Taken) → IsFront g ps → IsQuestionPath g ps
 front_path g _ IsFront.start = Path.start (questions g)
 front_path g _ (IsFront.answer ps q held f h) = path_onto (questions g) ps q h.asks.yes h.asks.no held (front_path g ps f) h.asks.question
 

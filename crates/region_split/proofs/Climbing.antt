@@ -98,6 +98,9 @@ pub all_second : {A : Type 0} (P : A → Type 0) (xs ys : List A) → All P (xs 
 all_second P [] ys h = h
 all_second P (x ∷ xs) ys h = all_second P xs ys (All-tail P x (xs ++ ys) h)
 
+pub at_place : {A : Type 0} (P : A → Type 0) (xs : List A) (a : A) (ys : List A) → All P (xs ++ (a ∷ ys)) → P a
+at_place P xs a ys h = All-head P a ys (all_second P xs (a ∷ ys) h)
+
 -- once the second branch is finished, so is the question above
 pub after_second : (g : Goal) (ps : List Taken) (q : Atom) (trees others : List (Option F.Tree)) (all : List (List Taken)) (left tree joined : Option F.Tree) → IsAfter g (onto ps q false) trees all tree → trees ≡ others ++ (left ∷ []) → (GoesOn g ps q → IsGrown g (onto ps q true) left → IsGrown g (onto ps q false) tree → IsGrown g ps joined) → IsAfter g ps others all joined
 after_second g ps q trees others all left tree joined a e j =

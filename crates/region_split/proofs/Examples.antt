@@ -25,6 +25,7 @@ use Rattle.linear_form.specs.Cells.{IsKept, IsFront, IsFalseCell}
 use Rattle.goal_answers.specs.Trees.{Tree, depth}
 use Rattle.region_split.specs.Walk.{AreCells, AreBefore, IsReached, IsSettled}
 use Rattle.region_split.specs.WalkTree.{IsWalkTree}
+use Rattle.region_split.specs.Pieces.{EndsOf, HasFirstPoint, IsFalse}
 use Rattle.region_split.specs.Decisions.{IsFalsified}
 
 -- infinity is at least x
@@ -80,11 +81,14 @@ not_plain p = go p.ends (sym false_end ∙ p.at_end) p.plain
 false_cell : IsFalseCell false_goal []
 false_cell = record { cell = record { front = IsFront.start; kept = false_kept; ends = (zero, one); at_end = false_end }; not_plain = not_plain; rows = below_zero ∷ []; are_rows = denied_row; solvable = denied_solvable }
 
+false_piece : IsFalse false_goal []
+false_piece = record { not_plain = not_plain; rows = below_zero ∷ []; are_rows = denied_row; solvable = denied_solvable }
+
 -- the state without variables falsifies it
 falsified : IsFalsified false_goal []
 unfolding order_of
 falsified = record {
   cells = [] ∷ [];
   walked = record { are_cells = AreCells.end [] (zero, one) false_kept false_end (IsSettled.falsified false_cell); few = omega arith };
-  first = record { before = []; path = []; after = []; whole = refl; broken_before = All-nil _; false_cell = false_cell; point_of_cell = record { rows = below_zero ∷ []; are_rows = denied_row; values = []; greedy = record { chosen = []; choice = Chooses.ends []; state = record { each = refl; values = λ x l. absurd (omega (arith, l)) } }; truths = refl } };
+  first = record { before = []; cell = []; after = []; whole = refl; ends = []; are_ends = EndsOf.start; broken = All-nil _; is_cell = false_cell.cell; gives = HasFirstPoint.whole 0 [] [] false_piece (record { rows = below_zero ∷ []; are_rows = denied_row; values = []; greedy = record { chosen = []; choice = Chooses.ends []; state = record { each = refl; values = λ x l. absurd (omega (arith, l)) } }; truths = refl }) };
 }

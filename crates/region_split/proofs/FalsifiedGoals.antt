@@ -11,23 +11,29 @@ use Rattle.heylo_formula.specs.Typing.{is_bool, types_in}
 use Rattle.heylo_formula.specs.declared.types.Ty.{Ty}
 use Rattle.heylo_formula.specs.declared.values.Val.{Val}
 use Rattle.heylo_formula.specs.declared.values.Val.TheVariants.{Truth, Num}
+use Rattle.linear_form.specs.Query.Query.{done}
 use Rattle.linear_form.specs.Query.{Taken, known}
-use Rattle.linear_form.specs.Paths.{IsPath}
+use Rattle.linear_form.specs.Questions.{Ends}
+use Rattle.linear_form.specs.Splits.{split_at}
+use Rattle.linear_form.specs.Paths.{IsPath, end_at}
 use Rattle.linear_form.specs.PathRows.{rows_of, is_unsigned_type}
 use Rattle.linear_rows.specs.Row.{Row}
 use Rattle.linear_rows.specs.VariableTypes.{is_numeric, IsNumericRow, is_integral}
 use Rattle.linear_rows.specs.Solutions.{MeetsAt, IsSolvable}
 use Rattle.heylo_formula.specs.TypedGoals.{IsTypedGoal, HasItsVariables}
 use Rattle.linear_rows.specs.GreedyPoint.{Greedy, ChoosesFrom, chosen_value, value_for}
-use Rattle.linear_form.specs.Cells.{IsFalseCell}
 use Rattle.linear_form.specs.PointLaws.{HasTruths}
 use Rattle.linear_form.proofs.exported.NumericRows.{unsigned_number, numeric_rows}
+use Rattle.linear_form.proofs.exported.PathSteps.{plain_path}
 use Rattle.linear_form.proofs.exported.FalsifyingPoints.{points_falsify}
 use Rattle.linear_form.proofs.exported.Truths.{truths_booleans, truths_variables}
 use Rattle.linear_form.proofs.exported.UnsignedRows.{unsigned_nonnegative}
-use Rattle.region_split.specs.Decisions.{value_on, with_truths, IsPointOf, IsFalsified}
+use Rattle.region_split.specs.Decisions.{IsFalsified}
+use Rattle.region_split.specs.PathPoints.{value_on, with_truths, IsPointOf}
+use Rattle.region_split.specs.Pieces.{HasFirstPoint, IsFalse, first_half, second_half}
 use Rattle.region_split.specs.Meanings.{Fails}
 use Rattle.region_split.proofs.CellOrder.{front_path}
+use Rattle.region_split.proofs.HalvedPaths.{end_past, half_path}
 use Rattle.region_split.proofs.GreedyStates.{number_below, rows_same, greedy_meets, greedy_whole, greedy_value}
 
 -- ---- The truths of a path among the values
@@ -118,16 +124,34 @@ pointed g ps point w v a h = record {
     none : (x : ℕ) → 0 + x ≡ x
     none x = omega arith
 
-cell_fails : (g : Goal) (ps : List Taken) (point : List Val) → IsTypedGoal g → HasItsVariables g → IsFalseCell g ps → IsPointOf g ps point → Fails g point
-cell_fails g ps point w v f h =
-    let a = front_path g ps f.cell.front in
-    let p = pointed g ps point w v a h in
-    let o : Some f.rows ≡ Some h.rows = sym f.are_rows ∙ h.are_rows in
-    let same : f.rows ≡ h.rows = cc in
-    let n = numeric_rows g ps true h.rows w a h.are_rows in
-    let m = point_meets g ps h.rows h.greedy.chosen point p n (subst IsSolvable same f.solvable) in
-    let t = point_typed g ps h.rows h.greedy.chosen point p a h.are_rows m in
-    record { typed = t; fails = points_falsify g ps f.cell.ends h.rows point w t a f.cell.at_end f.not_plain h.are_rows (truths_are g ps h.rows h.greedy.chosen point p) m }
+-- ---- The piece that gives the point
+
+-- Its path, what stands at the path's end, and that it is false.
+record GivesPoint (g : Goal) (point : List Val) : Type 0 where
+  path : List Taken
+  is_path : IsPath g path
+  ends : Ends
+  at_end : end_at g path ≡ done ends
+  false_piece : IsFalse g path
+  point_of : IsPointOf g path point
+
+giving_piece : (g : Goal) (n : ℕ) (ps : List Taken) (point : List Val) (e : Ends) → IsPath g ps → end_at g ps ≡ done e → HasFirstPoint g n ps point → GivesPoint g point
+giving_piece g _ _ _ e a h (HasFirstPoint.whole n ps point f p) = record { path = ps; is_path = a; ends = e; at_end = h; false_piece = f; point_of = p }
+giving_piece g _ _ _ e a h (HasFirstPoint.first n ps x m point s i) = giving_piece g (suc n) (first_half ps x m) point e (half_path g n ps x m true e a h s) (end_past g ps (split_at x m) true e h) i
+giving_piece g _ _ _ e a h (HasFirstPoint.second n ps x m es point s u v i) = giving_piece g (suc n) (second_half ps x m) point e (half_path g n ps x m false e a h s) (end_past g ps (split_at x m) false e h) i
+
+piece_fails : (g : Goal) (point : List Val) → IsTypedGoal g → HasItsVariables g → GivesPoint g point → Fails g point
+piece_fails g point w v f =
+    let h = f.point_of in
+    let p = pointed g f.path point w v f.is_path h in
+    let o : Some f.false_piece.rows ≡ Some h.rows = sym f.false_piece.are_rows ∙ h.are_rows in
+    let same : f.false_piece.rows ≡ h.rows = cc in
+    let n = numeric_rows g f.path true h.rows w f.is_path h.are_rows in
+    let m = point_meets g f.path h.rows h.greedy.chosen point p n (subst IsSolvable same f.false_piece.solvable) in
+    let t = point_typed g f.path h.rows h.greedy.chosen point p f.is_path h.are_rows m in
+    record { typed = t; fails = points_falsify g f.path f.ends h.rows point w t f.is_path f.at_end f.false_piece.not_plain h.are_rows (truths_are g f.path h.rows h.greedy.chosen point p) m }
 
 pub falsified_fails : (g : Goal) (point : List Val) → IsTypedGoal g → HasItsVariables g → IsFalsified g point → Fails g point
-falsified_fails g point w v f = cell_fails g f.first.path point w v f.first.false_cell f.first.point_of_cell
+falsified_fails g point w v f =
+    let c = f.first.is_cell in
+    piece_fails g point w v (giving_piece g 0 f.first.cell point c.ends (plain_path g f.first.cell (front_path g f.first.cell c.front)) c.at_end f.first.gives)

@@ -3,6 +3,8 @@ mod PathAnswers
 mod Moved
 mod Climbing
 mod CellOrder
+mod HalvedPaths
+mod UniqueEnds
 mod CellsFound
 mod TypedBreaks
 mod Leaves
@@ -17,6 +19,8 @@ mod GreedyOrder
 mod GreedyStates
 mod FalsifiedGoals
 mod UniqueWalks
+mod ProvedWalks
+mod PieceSteps
 mod UniqueDecisions
 mod Examples
 pub mod Meaning

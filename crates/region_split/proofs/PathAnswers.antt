@@ -28,9 +28,8 @@ use Rattle.linear_elim.specs.Elimination.Outcome.{too_many}
 use Rattle.goal_answers.specs.declared.causes.Broken.{Broken}
 use Rattle.goal_answers.specs.declared.causes.Cause.TheVariants.{Bits, Rows}
 use Rattle.farkas_check.specs.Accepted.{has_denied, IsRefutedWith}
-use Rattle.region_split.specs.Walk.{IsReached}
 use Rattle.region_split.specs.Decisions.{Eliminates, IsLarge}
-use Rattle.region_split.specs.internal.Seen.{MayLook, EndsWalk, IsPointAt, IsBreakAt, IsMetAt, IsEnd}
+use Rattle.region_split.specs.internal.Seen.{Looks, EndsWalk, IsPointAt, IsBreakAt, IsMetAt, IsEnd}
 use Rattle.region_split.specs.internal.Trails.{IsDroppedBy}
 
 -- ---- What the elimination answers
@@ -38,19 +37,19 @@ use Rattle.region_split.specs.internal.Trails.{IsDroppedBy}
 pub has_point : (g : Goal) (ps : List Taken) (denied : Bool) (rows : List Row) (point : List Val) → rows_of g ps denied ≡ Some rows → IsGreedyPoint rows g.types point → MeetsAll point rows → IsPointAt g ps denied point
 has_point g ps denied rows point e greedy meets = record { rows = rows; are_rows = e; solvable = record { at_values = λ x. number_of (environment point x); meets = meets }; greedy = greedy }
 
-looks : (g : Goal) (ps : List Taken) (denied : Bool) (rows : List Row) (cells : List (List Taken)) → rows_of g ps denied ≡ Some rows → IsReached g ps cells → MayLook g ps denied cells → Eliminates g ps rows
-looks g ps false rows cells e r m = Eliminates.of_front cells r e
-looks g ps true rows cells e r m = Eliminates.of_cell cells r m.0 m.1.0 m.1.1 e
+looks : (g : Goal) (ps : List Taken) (denied : Bool) (rows : List Row) (cells : List (List Taken)) → rows_of g ps denied ≡ Some rows → Looks g ps denied cells → Eliminates g ps rows
+looks g ps false rows cells e r = Eliminates.of_front cells r e
+looks g ps true rows cells e r = Eliminates.of_piece r.0 cells r.1 e
 
 pub great_rows : (g : Goal) (ps : List Taken) (denied : Bool) (rows : List Row) → rows_of g ps denied ≡ Some rows → IsTooGreat rows g.types × IsShortLimited rows g.types → EndsWalk g ps denied Bits
-great_rows g ps denied rows e h cells r m linear = (linear, IsLarge.in_elimination ps rows (looks g ps denied rows cells e r m) h.0 h.1)
+great_rows g ps denied rows e h cells r linear = (linear, IsLarge.in_elimination ps rows (looks g ps denied rows cells e r) h.0 h.1)
 
 pub many_rows : (g : Goal) (ps : List Taken) (denied : Bool) (rows : List Row) (steps count : ℕ) → rows_of g ps denied ≡ Some rows → (eliminated rows g.types ≡ too_many steps count) × IsShortLimited rows g.types → EndsWalk g ps denied (Rows steps count)
-many_rows g ps denied rows steps count e h cells r m linear = (linear, record { path = ps; rows = rows; eliminates = looks g ps denied rows cells e r m; too_many_rows = h.0; short = h.1 })
+many_rows g ps denied rows steps count e h cells r linear = (linear, record { path = ps; rows = rows; eliminates = looks g ps denied rows cells e r; too_many_rows = h.0; short = h.1 })
 
 pub no_rows : (g : Goal) (ps : List Taken) (denied : Bool) → rows_of g ps denied ≡ None → EndsWalk g ps denied Bits
-no_rows g ps false e cells r m linear = (linear, IsLarge.in_rows ps cells r e)
-no_rows g ps true e cells r m linear = (linear, IsLarge.in_cell ps cells r m.0 m.1.0 e)
+no_rows g ps false e cells r linear = (linear, IsLarge.in_rows ps cells r e)
+no_rows g ps true e cells r linear = (linear, IsLarge.in_piece r.0 ps cells r.1 e)
 
 -- ---- What is found of rows
 
@@ -85,7 +84,7 @@ is_bits bits h = refl
 is_bits (ask q y n) h = absurd h
 
 pub bits_there : (g : Goal) (ps : List Taken) → IsKept g ps → Answers K.TheVariants.Bits (end_at g ps) → EndsWalk g ps false Bits
-bits_there g ps k a cells r m linear = (linear, IsLarge.in_values ps cells r k (is_bits (end_at g ps) a))
+bits_there g ps k a cells r linear = (linear, IsLarge.in_values ps cells r k (is_bits (end_at g ps) a))
 
 -- the next question
 pub question_there : (g : Goal) (ps : List Taken) (q : A.Atom) → IsKept g ps → Answers (K.TheVariants.Decide q) (end_at g ps) → GoesOn g ps (atom_of q)
@@ -174,7 +173,7 @@ end_denied g ps x y b a e f = at_an_end g.upper x y (end_at g ps) a ∙ some_or_
 
 -- the denied goal's row can't be stated
 pub unstated : (g : Goal) (ps : List Taken) (ms : List (ℕ × ℕ)) → IsRefutedWith g ps false ms → rows_of g ps true ≡ None → EndsWalk g ps false Bits
-unstated g ps ms d e cells r m linear = (linear, IsLarge.in_denied_goal ps cells r (is_dropped g ps ms d) e)
+unstated g ps ms d e cells r linear = (linear, IsLarge.in_denied_goal ps cells r (is_dropped g ps ms d) e)
 
 pub rows_there : (g : Goal) (ps : List Taken) (ms : List (ℕ × ℕ)) → IsRefutedWith g ps false ms → rows_of g ps false ≡ None → ⊥
 rows_there g ps ms d e = let k = sym e ∙ d.are_rows in absurd (cc)

@@ -1,5 +1,5 @@
 -- How a walk goes on from its path.
-use Rattle.std.proofs.Common.{◌≡◌, ℕ, ◌+◌, ◌<◌, ◌≤◌, ◌^◌, List, [], ◌∷◌, ◌++◌, length, refl, sym, ap, ◌∙◌, subst, arith, length-append, Vec, Global, Bool, true, false, inl}
+use Rattle.std.proofs.Common.{◌≡◌, ℕ, ◌+◌, ◌<◌, ◌≤◌, ◌^◌, List, [], ◌∷◌, ◌++◌, length, take, refl, sym, ap, ◌∙◌, subst, arith, length-append, Vec, Global, Bool, true, false, inl, inr}
 use Rattle.std.specs.Prelude.{Option, Some, None, Result, IfOk, option_to_list}
 use Rattle.std.specs.Option.{option_flatten}
 use Rattle.std.proofs.lemmas.List.Elements.{All-nil}
@@ -7,11 +7,12 @@ use Rattle.std.proofs.lemmas.List.{append-nil, length-map}
 use Rattle.heylo_formula.specs.Goals.{Goal}
 use Rattle.heylo_formula.specs.declared.values.Val.{Val}
 use Rattle.linear_form.specs.Query.{Atom, Taken, onto}
-use Rattle.linear_form.specs.Questions.{questions}
-use Rattle.linear_form.specs.Paths.{IsPath}
+use Rattle.linear_form.specs.Query.Query.{done}
+use Rattle.linear_form.specs.Questions.{Ends, questions}
+use Rattle.linear_form.specs.Paths.{IsQuestionPath, IsPath, end_at}
 use Rattle.linear_form.specs.PathRows.{IsPlainAt}
 use Rattle.linear_form.specs.PlainPaths.{path_of, taken_of, atom_of}
-use Rattle.linear_form.specs.Cells.{GoesOn, IsFront, IsFalseCell}
+use Rattle.linear_form.specs.Cells.{GoesOn, IsCell, IsFront}
 use Rattle.linear_form.specs.declared.paths.Taken as T
 use Rattle.goal_answers.specs.declared.causes.Broken.{Broken}
 use Rattle.farkas_check.specs.Accepted.{IsRefutedWith}
@@ -19,20 +20,25 @@ use Rattle.goal_answers.specs.declared.trees.Tree as F
 use Rattle.linear_form.specs.Nonlinear.{nonlinear_product}
 use Rattle.goal_answers.specs.declared.causes.Cause.{Cause}
 use Rattle.region_split.specs.Walk.{IsReached}
-use Rattle.region_split.specs.Decisions.{HasCells, IsBreakOf, IsCause}
+use Rattle.region_split.specs.Decisions.{HasCells, IsCause}
+use Rattle.region_split.specs.Pieces.{HasFirstPoint, IsPieceOf}
+use Rattle.linear_form.proofs.exported.PathSteps.{plain_path}
 use Rattle.heylo_formula.specs.TypedGoals.{IsTypedGoal}
-use Rattle.region_split.proofs.TypedBreaks.{break_of}
-use Rattle.region_split.specs.internal.Seen.{EndsWalk, IsEnd, IsPointAt, IsBreakAt, IsMetAt}
+use Rattle.linear_form.specs.RowLists.{ArePathRows}
+use Rattle.linear_rows.specs.Row.{Row}
+use Rattle.region_split.specs.internal.Seen.{AreRowsAt, EndsWalk, IsEnd, IsEndOf, IsPointAt, IsMetAt}
+use Rattle.region_split.specs.declared.front.End as E
+use Rattle.region_split.proofs.Trails.{starts_length}
 use Rattle.region_split.specs.internal.Trails.{Comes, ComesBy, Stands, StandsAt, IsDroppedBy}
-use Rattle.region_split.specs.internal.Progress.{HoldsAt, AreShort, IsGrown, IsLeaf, IsBranch, HasBefore, IsAfter, HasRisen, IsNextFront, IsFound, HasCome, IsWalk, IsStandingWalk, IsFinishedWalk, IsBelow, IsStep, IsAt, IsJudgedCell, rest_of, left_of, left_after}
+use Rattle.region_split.specs.internal.Progress.{EndsPiece, HoldsAt, AreShort, IsBroken, IsCellStand, IsClosed, IsGrown, IsLeaf, KnowsPoint, IsBranch, HasBefore, IsAfter, HasRisen, IsNextFront, IsFound, HasCome, IsWalk, IsStandingWalk, IsFinishedWalk, IsBelow, IsStep, IsAt, IsJudgedCell, rest_of, left_of, left_after}
 use Rattle.region_split.specs.declared.found.Found.{Found}
 use Rattle.region_split.specs.declared.trail.Trail.{Trail}
 use Rattle.region_split.specs.declared.walk.Walk.{Walk}
 use Rattle.region_split.specs.declared.walk.Step.{Step}
 use Rattle.region_split.proofs.Climbing.{taken, in_first, in_second, after_second, before_second, after_start, left_second, left_first, rest_below, rest_up, after_first, rest_up_first}
-use Rattle.region_split.proofs.CellOrder.{front_path, stands_front, reached, cell_here, many_cells}
-use Rattle.region_split.proofs.CellsFound.{found_holds, point_is_false, break_is_false, met_is_false, point_longer}
-use Rattle.region_split.proofs.Leaves.{dropped_leaf, plain_leaf, refuted_leaf, refuted_holds, false_leaf, dropped_finished, cell_finished}
+use Rattle.region_split.proofs.CellOrder.{are_before, front_path, stands_front, reached, cell_here, many_cells}
+use Rattle.region_split.proofs.CellsFound.{found_holds, met_is_false, point_longer}
+use Rattle.region_split.proofs.Leaves.{broken_branch, closed_branch, closed_leaf, dropped_leaf, further_branch, given_branch, plain_leaf, dropped_finished, cell_finished}
 
 -- ---- Paths that the program holds
 
@@ -145,8 +151,11 @@ next_walk g w next tree h c k n f = (
 pub come_front : (g : Goal) (ps : List Taken) (w : Walk) → HasCome g ps w → IsFront g ps
 come_front g ps w h = stands_front g ps h.before w.trees.items h.stands
 
+pub come_asked : (g : Goal) (ps : List Taken) (w : Walk) → HasCome g ps w → IsQuestionPath g ps
+come_asked g ps w h = front_path g ps (come_front g ps w h)
+
 pub come_path : (g : Goal) (ps : List Taken) (w : Walk) → HasCome g ps w → IsPath g ps
-come_path g ps w h = front_path g ps (come_front g ps w h)
+come_path g ps w h = plain_path g ps (come_asked g ps w h)
 
 come_reached : (g : Goal) (ps : List Taken) (w : Walk) (h : HasCome g ps w) → IsReached g ps h.before
 come_reached g ps w h = let c = h.counted in let f = h.few in reached g ps h.before w.trees.items h.stands (omega (arith, c, f))
@@ -247,12 +256,12 @@ step_from g ps qs r e h = subst (λ xs. IfOk r (λ s. IsStep g xs s)) e h
 
 -- the cause of a front, and that of a cell
 pub front_ends : (g : Goal) (ps : List Taken) (w : Walk) (cause : Cause) → nonlinear_product g ≡ None → HasCome g ps w → EndsWalk g ps false cause → IsCause g cause
-front_ends g ps w cause l h r = r h.before (come_reached g ps w h) tt l
+front_ends g ps w cause l h r = r h.before (come_reached g ps w h) l
 
-pub cell_ends : (g : Goal) (ps : List Taken) (w : Walk) (plain : Bool) (cause : Cause) → nonlinear_product g ≡ None → HasCome g ps w → IsEnd g ps plain → w.count < 4096 → (IsPlainAt g ps → ⊥) → EndsWalk g ps true cause → IsCause g cause
-cell_ends g ps w plain cause l h e f n r = r h.before (come_reached g ps w h) (let c = h.counted in omega (arith, c, f), (cell_here g ps plain (come_front g ps w h) e, n)) l
+pub cell_ends : (g : Goal) (ps : List Taken) (w : Walk) (plain : Bool) (cause : Cause) → nonlinear_product g ≡ None → HasCome g ps w → IsEnd g ps plain → w.count < 4096 → (IsPlainAt g ps → ⊥) → EndsPiece g 0 ps cause → IsCause g cause
+cell_ends g ps w plain cause l h e f n r = r h.before (record { cell = ps; reached = come_reached g ps w h; few = (let c = h.counted in omega (arith, c, f)); is_cell = cell_here g ps plain (come_front g ps w h) e; not_plain = n; piece = IsPieceOf.whole }) l
 
-pub walk_short : (g : Goal) (ps : List T.Taken) → AreShort g → IsPath g (path_of ps) → length ps + 1 + length g.types < 2 ^ 32
+pub walk_short : (g : Goal) (ps : List T.Taken) → AreShort g → IsQuestionPath g (path_of ps) → length ps + 1 + length g.types < 2 ^ 32
 walk_short g ps s p = let l = length-map ps taken_of in let h = s (path_of ps) p in omega (arith, l, h)
 
 pub dropped_walk : (g : Goal) (w : Walk) (ms : Vec (ℕ × ℕ) Global) (tree : Option F.Tree) (n : ℕ) → n ≡ length (path_of w.trail.path.items) → IsLeaf n (F.Farkas ms) tree → IsStandingWalk g w → IsDroppedBy g (path_of w.trail.path.items) ms.items → IsFinishedWalk g w tree
@@ -267,33 +276,60 @@ pub not_plain_there : (g : Goal) (ps : List Taken) (plain : Bool) → IsEnd g ps
 not_plain_there g ps plain e k p = let m = e.holds_plainly.1 p in let n : true ≡ false = sym m ∙ k in absurd (cc)
 
 judged : (g : Goal) (ps : List Taken) (found next : Found) (tree : Option F.Tree) → IsBranch g ps (ps ∷ []) tree → ((cells : List (List Taken)) → IsFound g cells found → IsFound g (cells ++ (ps ∷ [])) next) → IsJudgedCell g ps found next tree
-judged g ps found next tree b f = record { branch = b; shown = f }
+judged g ps found next tree b f = record { branch = λ _. b; shown = f }
 
 pub plain_cell : (g : Goal) (ps : List Taken) (found : Found) (plain : Bool) (tree : Option F.Tree) (n : ℕ) → n ≡ length ps → IsLeaf n F.Plain tree → IsEnd g ps plain → plain ≡ true → IsJudgedCell g ps found found tree
 plain_cell g ps found plain tree n l t e k = let p = e.holds_plainly.0 k in judged g ps found found tree (plain_leaf g ps plain tree (subst (λ i. IsLeaf i F.Plain tree) l t) e p) (λ cells i. found_holds g cells ps found i (inl p))
 
-pub refuted_cell : (g : Goal) (ps : List Taken) (found : Found) (plain : Bool) (ms : Vec (ℕ × ℕ) Global) (tree : Option F.Tree) (n : ℕ) → n ≡ length ps → IsLeaf n (F.Farkas ms) tree → IsEnd g ps plain → plain ≡ false → IsRefutedWith g ps true ms.items → IsJudgedCell g ps found found tree
-refuted_cell g ps found plain ms tree n l t e k r = judged g ps found found tree (refuted_leaf g ps plain ms tree (subst (λ i. IsLeaf i (F.Farkas ms) tree) l t) e (not_plain_there g ps plain e k) r) (λ cells i. found_holds g cells ps found i (refuted_holds g ps ms.items r))
+-- a cell with this end
+pub cell_of : (g : Goal) (ps : List Taken) (plain : Bool) → IsFront g ps → IsEnd g ps plain → IsCell g ps
+cell_of g ps plain f e = cell_here g ps plain f e
 
-pub point_cell : (g : Goal) (ps : List Taken) (found next : Found) (plain : Bool) (point : List Val) → IsFront g ps → IsEnd g ps plain → plain ≡ false → IsPointAt g ps true point → ((cells : List (List Taken)) → IsFound g cells found → IsFalseCell g ps → IsPointAt g ps true point → IsFound g (cells ++ (ps ∷ [])) next) → IsJudgedCell g ps found next None
-point_cell g ps found next plain point h e k p f =
-    let i = point_is_false g ps point (cell_here g ps plain h e) (not_plain_there g ps plain e k) p in
-    judged g ps found next None (false_leaf g ps plain e i) (λ cells j. f cells j i p)
+-- a cell without ends
+pub closed_cell : (g : Goal) (ps : List Taken) (found : Found) (tree : Option F.Tree) → IsCell g ps → IsClosed g 0 ps tree → IsJudgedCell g ps found found tree
+closed_cell g ps found tree c h = judged g ps found found tree (closed_branch g ps tree c h) (λ cells i. found_holds g cells ps found i (inr h.ends))
 
--- a further false cell, where a point is known
-pub further_cell : (g : Goal) (ps : List Taken) (plain : Bool) (point : Vec Val Global) → IsFront g ps → IsEnd g ps plain → plain ≡ false → IsMetAt g ps true → IsJudgedCell g ps (Found.Point point) (Found.Point point) None
-further_cell g ps plain point h e k p =
-    let i = met_is_false g ps (cell_here g ps plain h e) (not_plain_there g ps plain e k) p in
-    judged g ps (Found.Point point) (Found.Point point) None (false_leaf g ps plain e i) (λ cells j. point_longer g cells ps point.items j)
+-- a cell with ends, each of which breaks
+pub broken_cell : (g : Goal) (ps : List Taken) (found next : Found) (b : Broken) → IsCell g ps → (IsPlainAt g ps → ⊥) → IsBroken g 0 ps b → ((cells : List (List Taken)) (ps : List Taken) → IsFound g cells found → IsBroken g 0 ps b → IsFound g (cells ++ (ps ∷ [])) next) → IsJudgedCell g ps found next None
+broken_cell g ps found next b c n k f = judged g ps found next None (broken_branch g ps b c n k) (λ cells i. f cells ps i k)
 
-pub break_cell : (g : Goal) (ps : List Taken) (found next : Found) (plain : Bool) (b : Broken) → IsTypedGoal g → IsFront g ps → IsEnd g ps plain → plain ≡ false → IsBreakAt g ps true b → ((cells : List (List Taken)) (ps : List Taken) → IsFound g cells found → IsFalseCell g ps → IsBreakOf g ps b → IsFound g (cells ++ (ps ∷ [])) next) → IsJudgedCell g ps found next None
-break_cell g ps found next plain b t h e k p f =
-    let i = break_is_false g ps b (cell_here g ps plain h e) (not_plain_there g ps plain e k) p in
-    let o = break_of g ps b t (front_path g ps h) p in
-    judged g ps found next None (false_leaf g ps plain e i) (λ cells j. f cells ps j i o)
+-- a cell that gives a point
+pub given_cell : (g : Goal) (ps : List Taken) (found next : Found) (p : List Val) → IsCell g ps → HasFirstPoint g 0 ps p → ((cells : List (List Taken)) (ps : List Taken) → IsFound g cells found → IsCell g ps → HasFirstPoint g 0 ps p → IsFound g (cells ++ (ps ∷ [])) next) → IsJudgedCell g ps found next None
+given_cell g ps found next p c a f = judged g ps found next None (given_branch g ps p c a) (λ cells i. f cells ps i c a)
+
+-- a further cell, where a point is known: its rows are refuted, or it is false
+pub refuted_cell : (g : Goal) (ps : List Taken) (point : Vec Val Global) (e : Ends) (ms : Vec (ℕ × ℕ) Global) (tree : Option F.Tree) (n : ℕ) → n ≡ length ps → IsLeaf n (F.Farkas ms) tree → IsCell g ps → end_at g ps ≡ done e → (IsPlainAt g ps → ⊥) → IsRefutedWith g ps true ms.items → IsJudgedCell g ps (Found.Point point) (Found.Point point) tree
+refuted_cell g ps point e ms tree n l t c h k r = closed_cell g ps (Found.Point point) tree c (closed_leaf g 0 ps e ms tree (subst (λ i. IsLeaf i (F.Farkas ms) tree) l t) h k r)
+
+pub further_cell : (g : Goal) (ps : List Taken) (point : Vec Val Global) → IsCell g ps → (IsPlainAt g ps → ⊥) → IsMetAt g ps true → IsJudgedCell g ps (Found.Point point) (Found.Point point) None
+further_cell g ps point c k p = record { branch = λ h. further_branch g ps (met_is_false g ps c k p) h; shown = λ cells j. point_longer g cells ps point.items j }
+
+-- a walk knows where a point was found
+knows_point : (g : Goal) (ps : List Taken) (w : Walk) → HasCome g ps w → KnowsPoint g w.found
+knows_point g ps w h = go w.found h.found
+  where
+    go : (f : Found) → IsFound g h.before f → KnowsPoint g f
+    go Found.Nothing i = tt
+    go (Found.Break b) i = tt
+    go (Found.Point p) i = record { path = ps; before = h.before; are_before = are_before g ps h.before w.trees.items h.stands; point = p.items; first = i }
 
 pub cell_walk : (g : Goal) (w next : Walk) (found : Found) (tree : Option F.Tree) → IsStandingWalk g w → w.count < 4096 → StandsAt g (path_of w.trail.path.items) next.trail → next.count ≡ w.count + 1 → next.trees ≡ w.trees → next.found ≡ found → IsJudgedCell g (path_of w.trail.path.items) w.found found tree → IsFinishedWalk g next tree
-cell_walk g w next found tree h l s k t f j = cell_finished g w next tree h l k s t j.branch (λ cells i. subst (IsFound g (cells ++ (path_of w.trail.path.items ∷ []))) (sym f) (j.shown cells i))
+cell_walk g w next found tree h l s k t f j = cell_finished g w next tree h l k s t (j.branch (knows_point g (path_of w.trail.path.items) w h.come)) (λ cells i. subst (IsFound g (cells ++ (path_of w.trail.path.items ∷ []))) (sym f) (j.shown cells i))
+
+-- what a cell is looked at with: its rows with the denied goal, which begin with those of its comparisons
+pub cell_stands : (g : Goal) (w : Walk) (path : List T.Taken) (list : List Row) (kept : ℕ) (e : E.End) → IsTypedGoal g → AreShort g → IsStandingWalk g w → IsEndOf g (path_of w.trail.path.items) e → e.plain ≡ false → path ≡ w.trail.path.items → AreRowsAt g (path_of w.trail.path.items) true list → kept ≡ length w.trail.rows.items → take (length w.trail.rows.items) list ≡ w.trail.rows.items → IsCellStand g (path_of path) list kept e
+cell_stands g w path list kept e t s h a n p r k f =
+    let ps = path_of w.trail.path.items in
+    subst (λ xs. IsCellStand g (path_of xs) list kept e) (sym p) (record {
+      typed = t;
+      front = come_front g ps w h.come;
+      end = a;
+      not_plain = n;
+      rows = r;
+      path_rows = subst (ArePathRows g ps) (sym (ap (λ m. take m list) k ∙ f)) h.stands.rows;
+      kept = starts_length w.trail.rows.items list kept f k;
+      short = s ps (come_asked g ps w h.come);
+    })
 
 -- ---- The start
 

@@ -1,12 +1,13 @@
 -- What stands along a path, when an answer comes to it and when the last one is taken off.
-use Rattle.std.proofs.Common.{◌≡◌, ℕ, ◌-◌, ◌≤◌, List, [], ◌∷◌, ◌++◌, length, take, drop, refl, sym, ap, ◌∙◌, subst, arith, length-append, false}
+use Rattle.std.proofs.Common.{◌≡◌, ℕ, ◌-◌, ◌≤◌, List, [], ◌∷◌, ◌++◌, length, take, drop, refl, sym, ap, ◌∙◌, subst, arith, length-append, true, false}
 use Rattle.std.specs.Prelude.{Option, Some, None, slice_get}
 use Rattle.std.proofs.lemmas.List.{append-nil, map-append, take-append-drop, take-take, length-take, length-map}
 use Rattle.std.proofs.Math.Seq.{take-append_seam}
 use Rattle.heylo_formula.specs.Goals.{Goal}
 use Rattle.heylo_formula.specs.Typing.{Types, types_in}
 use Rattle.linear_form.specs.Query.{Taken}
-use Rattle.linear_form.specs.PathRows.{path_claims, answer_claims, sign_claims, rows_of}
+use Rattle.linear_form.specs.Paths.{end_at}
+use Rattle.linear_form.specs.PathRows.{path_claims, answer_claims, sign_claims, rows_of, listed, denial_at}
 use Rattle.linear_values.specs.Tightening.{all_tightened, with_row, Claim, tightened}
 use Rattle.linear_form.specs.PlainPaths.{path_of, taken_of, atom_of}
 use Rattle.linear_rows.specs.Row.{Row}
@@ -144,6 +145,9 @@ unstated_first types (k ∷ ks) js e = go (tightened types k) (all_tightened typ
 
 pub unstated_path : (g : Goal) (ps : List Taken) → all_tightened (types_in g.types) (path_claims ps) ≡ None → rows_of g ps false ≡ None
 unstated_path g ps e = unstated_first (types_in g.types) (path_claims ps ++ []) _ (unstated_first (types_in g.types) (path_claims ps) [] e)
+
+pub unstated_denied : (g : Goal) (ps : List Taken) → all_tightened (types_in g.types) (path_claims ps) ≡ None → rows_of g ps true ≡ None
+unstated_denied g ps e = unstated_first (types_in g.types) (path_claims ps ++ listed (denial_at g.upper (end_at g ps))) _ (unstated_first (types_in g.types) (path_claims ps) _ e)
 
 -- ---- Rows that are made again
 

@@ -23,7 +23,7 @@ use Rattle.linear_form.proofs.exported.NumericRows.{numeric_rows}
 use Rattle.linear_elim.proofs.exported.Numeric.{counted_numeric}
 use Rattle.linear_form.proofs.exported.UnsignedRows.{unsigned_nonnegative}
 use Rattle.goal_answers.specs.declared.causes.Broken.{Broken}
-use Rattle.region_split.specs.Decisions.{IsBreakOf}
+use Rattle.region_split.specs.PathPoints.{IsBreakOf}
 use Rattle.region_split.specs.internal.Seen.{IsBreakAt}
 use Rattle.region_split.proofs.Climbing.{all_first}
 use Rattle.linear_rows.proofs.exported.GreedyChoices.{AreWhole, completed, chosen_whole}

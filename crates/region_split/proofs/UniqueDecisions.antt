@@ -1,19 +1,17 @@
 -- A goal has one decision, but for the multipliers of its tree and the limits.
-use Rattle.std.proofs.Common.{◌≡◌, ℕ, List, [], ◌∷◌, ◌++◌, length, refl, sym, ap, ◌∙◌, subst, arith, length-append, true, false}
+use Rattle.std.proofs.Common.{◌≡◌, ℕ, List, [], ◌∷◌, ◌++◌, length, refl, sym, ap, ap₂, ◌∙◌, subst, arith, length-append, true}
 use Rattle.std.specs.Prelude.{Option, Some, None}
 use Rattle.std.specs.List.{All}
-use Rattle.std.proofs.lemmas.List.Elements.{All-cons, All-head, All-tail, All-append, All-weaker}
-use Rattle.heyvl_num.specs.Rational.{Rational, zeroʳ}
+use Rattle.std.proofs.lemmas.List.Elements.{All-cons}
+use Rattle.heyvl_num.specs.Rational.{Rational}
 use Rattle.heylo_formula.specs.Goals.{Goal}
 use Rattle.heylo_formula.specs.declared.values.Val.{Val}
 use Rattle.linear_form.specs.Query.{Taken}
-use Rattle.linear_form.specs.PathRows.{rows_of}
 use Rattle.linear_form.specs.Nonlinear.{nonlinear_product}
-use Rattle.linear_rows.specs.Row.{Row}
-use Rattle.linear_rows.specs.Solutions.{IsSolvable}
-use Rattle.linear_form.specs.Cells.{IsCell, IsFalseCell}
-use Rattle.linear_rows.specs.GreedyPoint.{End, Interval, Greedy, ChoosesFrom, IsGreedyPoint}
-use Rattle.linear_rows.proofs.exported.GreedyChoices.{choices_unique, points_unique}
+use Rattle.linear_form.specs.PathRows.{IsPlainAt}
+use Rattle.linear_form.specs.Cells.{IsCell}
+use Rattle.linear_rows.specs.GreedyPoint.{Interval, Greedy, ChoosesFrom}
+use Rattle.linear_rows.proofs.exported.GreedyChoices.{choices_unique}
 use Rattle.linear_elim.specs.Answers.{ends_of, values_of}
 use Rattle.goal_answers.specs.declared.causes.Broken.{Broken}
 use Rattle.goal_answers.specs.declared.causes.Cause.{Cause}
@@ -21,12 +19,18 @@ use Rattle.goal_answers.specs.declared.causes.Cause.TheVariants.{Depth, Nodes, N
 use Rattle.goal_answers.specs.Trees.{Tree, tree_of}
 use Rattle.goal_answers.specs.declared.trees.Tree as T
 use Rattle.region_split.specs.Walk.{AreCells, IsWalked}
-use Rattle.region_split.specs.Decisions.{with_truths, IsPointOf, IsBreakOf, Breaks, HasCells, IsFirstPoint, IsFirstBreak, IsFalsified, IsUndecided, IsGiven, IsProved, IsCause, IsDecision}
+use Rattle.region_split.specs.Decisions.{HasCells, IsFirstPoint, IsFirstBreak, IsFalsified, IsUndecided, IsGiven, IsProved, IsCause, IsDecision}
+use Rattle.region_split.specs.PathPoints.{Breaks, IsBreakOf}
+use Rattle.region_split.specs.Pieces.{AreEnds, EndsOf, HasFirstPoint}
+use Rattle.region_split.specs.internal.Progress.{HoldsAt}
 use Rattle.region_split.specs.DecisionLaws.{AreAlike, IsSameBreak, GiveAlike, IsOfLimits, IsSameCause, DecisionsAreUnique}
 use Rattle.goal_answers.specs.declared.decisions.Decision.TheVariants.{Proved, Falsified, Unknown}
 use Rattle.region_split.proofs.PathAnswers.{same_rows}
-use Rattle.region_split.proofs.CellsFound.{breaks}
-use Rattle.region_split.proofs.UniqueWalks.{cells_unique, trees_alike, alike_depth, none_false, kept_or_dropped, end_or_question, located}
+use Rattle.region_split.proofs.CellsFound.{breaks, no_ends}
+use Rattle.region_split.proofs.Climbing.{all_first, all_second, at_place}
+use Rattle.region_split.proofs.Leaves.{point_or_holds}
+use Rattle.region_split.proofs.UniqueEnds.{the_end, ends_unique, point_false, point_not_broken, point_unique}
+use Rattle.region_split.proofs.UniqueWalks.{cells_unique, trees_alike, alike_depth, all_hold, kept_or_dropped, end_or_question, located}
 
 -- ---- Two places in a list
 
@@ -49,29 +53,6 @@ places (x ∷ es) a bs (y ∷ cs) c ds e = let f : x ∷ (es ++ (a ∷ bs)) ≡ 
 
 -- ---- One point, one break
 
-abbrev BreaksIfFalse : Goal → List Taken → Type 0
-BreaksIfFalse g ps = IsFalseCell g ps → Breaks g ps
-
-rows_solvable : (g : Goal) (ps : List Taken) (rows : List Row) → IsFalseCell g ps → rows_of g ps true ≡ Some rows → IsSolvable rows
-rows_solvable g ps rows f e = subst IsSolvable (same_rows g ps true f.rows rows f.are_rows e) f.solvable
-
-chose_or_broke : (cs ds : List (ℕ × Rational)) (x : ℕ) (i : Interval) → Greedy.chose cs ≡ Greedy.broke x ds i → ⊥
-chose_or_broke cs ds x i e = absurd (cc)
-
-point_or_break : (g : Goal) (ps : List Taken) (point : List Val) → IsFalseCell g ps → IsPointOf g ps point → Breaks g ps → ⊥
-point_or_break g ps point f p b =
-    let e = same_rows g ps true b.rows p.rows b.are_rows p.are_rows in
-    chose_or_broke p.greedy.chosen b.earlier b.var b.interval (choices_unique p.rows g.types (Greedy.chose p.greedy.chosen) (Greedy.broke b.var b.earlier b.interval) (rows_solvable g ps p.rows f p.are_rows) p.greedy.choice (subst (λ rs. ChoosesFrom rs g.types (Greedy.broke b.var b.earlier b.interval)) e b.choice))
-
-same_point : (g : Goal) (ps : List Taken) (p q : List Val) → IsFalseCell g ps → IsPointOf g ps p → IsPointOf g ps q → p ≡ q
-same_point g ps p q f a b =
-    let e = same_rows g ps true b.rows a.rows b.are_rows a.are_rows in
-    a.truths ∙ ap (with_truths ps 0) (points_unique a.rows g.types a.values b.values (rows_solvable g ps a.rows f a.are_rows) a.greedy (subst (λ rs. IsGreedyPoint rs g.types b.values) e b.greedy)) ∙ sym b.truths
-
-abbrev the_end : Option End → End
-the_end (Some e) = e
-the_end None = record { place = zeroʳ; inside = false }
-
 broken_parts : (b c : Broken) (ds es : List (ℕ × Rational)) → Greedy.broke b.var ds (ends_of b) ≡ Greedy.broke c.var es (ends_of c) → b.earlier.items ≡ values_of ds → c.earlier.items ≡ values_of es → IsSameBreak b c
 broken_parts b c ds es e h k =
     let v : b.var ≡ c.var = cc in
@@ -91,32 +72,59 @@ same_break g ps b c p q =
     let e = same_rows g ps true q.rows p.rows q.are_rows p.are_rows in
     broken_parts b c p.broken.chosen q.broken.chosen (choices_unique p.rows g.types _ _ p.broken.solvable p.broken.choice (subst (λ rs. ChoosesFrom rs g.types (Greedy.broke c.var q.broken.chosen (ends_of c))) e q.broken.choice)) p.broken.earlier q.broken.earlier
 
--- what holds of a list holds at a place of it
-at_place : {A : Type 0} (P : A → Type 0) (es : List A) (a : A) (bs : List A) → All P (es ++ (a ∷ bs)) → P a
-at_place P [] a bs h = All-head P a bs h
-at_place P (x ∷ es) a bs h = at_place P es a bs (All-tail P x (es ++ (a ∷ bs)) h)
+-- What the ends of cells say of one of these.
+data EndsAt (g : Goal) (c : List Taken) (es : List (List Taken)) : Type 0 where
+  plain : IsPlainAt g c → EndsAt g c es
+  ends : (cs : List (List Taken)) → AreEnds g 0 c cs → (All (Breaks g) es → All (Breaks g) cs) → EndsAt g c es
+
+ends_at : (g : Goal) (before : List (List Taken)) (c : List Taken) (after es : List (List Taken)) → EndsOf g (before ++ (c ∷ after)) es → EndsAt g c es
+ends_at g [] c after _ (EndsOf.plain _ cells es p h) = EndsAt.plain p
+ends_at g [] c after _ (EndsOf.pieces _ cells cs es a h) = EndsAt.ends cs a (λ k. all_first (Breaks g) cs es k)
+ends_at g (b ∷ before) c after _ (EndsOf.plain _ cells es p h) = ends_at g before c after es h
+ends_at g (b ∷ before) c after _ (EndsOf.pieces _ cells cs es a h) = go (ends_at g before c after es h)
+  where
+    go : EndsAt g c es → EndsAt g c (cs ++ es)
+    go (EndsAt.plain p) = EndsAt.plain p
+    go (EndsAt.ends ds d k) = EndsAt.ends ds d (λ m. k (all_second (Breaks g) cs es m))
+
+-- No cell whose ends all break gives a point.
+broken_or_given : (g : Goal) (before : List (List Taken)) (c : List Taken) (after es : List (List Taken)) (p : List Val) → EndsOf g (before ++ (c ∷ after)) es → All (Breaks g) es → HasFirstPoint g 0 c p → ⊥
+broken_or_given g before c after es p h b a = go (ends_at g before c after es h)
+  where
+    go : EndsAt g c es → ⊥
+    go (EndsAt.plain k) = (point_false g 0 c p a).not_plain k
+    go (EndsAt.ends cs d k) = point_not_broken g 0 c p cs a d (k b)
 
 one_point : (g : Goal) (cells : List (List Taken)) (p q : List Val) → IsFirstPoint g cells p → IsFirstPoint g cells q → p ≡ q
-one_point g cells p q a b = go (places a.before a.path a.after b.before b.path b.after (a.whole ∙ sym b.whole)) a.broken_before b.broken_before a.false_cell b.false_cell a.point_of_cell b.point_of_cell
+one_point g cells p q a b = go (places a.before a.cell a.after b.before b.cell b.after (a.whole ∙ sym b.whole)) a.are_ends b.are_ends a.gives b.gives
   where
-    go : {es bs cs ds : List (List Taken)} {ps rs : List Taken} → Places es ps bs cs rs ds → All (BreaksIfFalse g) es → All (BreaksIfFalse g) cs → IsFalseCell g ps → IsFalseCell g rs → IsPointOf g ps p → IsPointOf g rs q → p ≡ q
-    go (Places.same es ps bs) h k f _ x y = same_point g ps p q f x y
-    go (Places.left es bs ps rs ds) h k f _ x y = absurd (point_or_break g ps p f x (at_place (BreaksIfFalse g) es ps bs k f))
-    go (Places.right es bs rs ps ds) h k _ f x y = absurd (point_or_break g rs q f y (at_place (BreaksIfFalse g) es rs bs h f))
+    go : {es bs cs ds : List (List Taken)} {c d : List Taken} → Places es c bs cs d ds → EndsOf g es a.ends → EndsOf g cs b.ends → HasFirstPoint g 0 c p → HasFirstPoint g 0 d q → p ≡ q
+    go (Places.same es c bs) h k x y = point_unique g 0 c p q x y
+    go (Places.left es bs c d ds) h k x y = absurd (broken_or_given g es c bs b.ends p k b.broken x)
+    go (Places.right es bs d c ds) h k x y = absurd (broken_or_given g es d bs a.ends q h a.broken y)
+
+-- the ends of cells are the same ones
+plain_ends : (g : Goal) (ps : List Taken) (es : List (List Taken)) → IsPlainAt g ps → AreEnds g 0 ps es → es ≡ []
+plain_ends g _ _ p (AreEnds.refuted n ps r) = refl
+plain_ends g _ _ p (AreEnds.whole n ps q f a) = absurd (f.not_plain p)
+plain_ends g _ _ p (AreEnds.deepest n ps l f b) = absurd (f.not_plain p)
+plain_ends g _ _ p (AreEnds.halves n ps x m cs ds s a b) = absurd (s.false_piece.not_plain p)
+
+all_ends_unique : (g : Goal) (cells es fs : List (List Taken)) → EndsOf g cells es → EndsOf g cells fs → es ≡ fs
+all_ends_unique g _ _ _ EndsOf.start EndsOf.start = refl
+all_ends_unique g _ _ _ (EndsOf.plain ps cells es p h) (EndsOf.plain _ _ fs q k) = all_ends_unique g cells es fs h k
+all_ends_unique g _ _ _ (EndsOf.plain ps cells es p h) (EndsOf.pieces _ _ cs fs a k) = all_ends_unique g cells es fs h k ∙ ap (λ ds. ds ++ fs) (sym (plain_ends g ps cs p a))
+all_ends_unique g _ _ _ (EndsOf.pieces ps cells cs es a h) (EndsOf.plain _ _ fs q k) = ap (λ ds. ds ++ es) (plain_ends g ps cs q a) ∙ all_ends_unique g cells es fs h k
+all_ends_unique g _ _ _ (EndsOf.pieces ps cells cs es a h) (EndsOf.pieces _ _ ds fs b k) = ap₂ (λ u v. u ++ v) (ends_unique g 0 ps cs ds a b) (all_ends_unique g cells es fs h k)
 
 one_break : (g : Goal) (cells : List (List Taken)) (p q : Broken) → IsFirstBreak g cells p → IsFirstBreak g cells q → IsSameBreak p q
-one_break g cells p q a b = go (places a.before a.path a.after b.before b.path b.after (a.whole ∙ sym b.whole)) a.none_before b.none_before a.false_cell b.false_cell a.breaks_here b.breaks_here
-  where
-    go : {es bs cs ds : List (List Taken)} {ps rs : List Taken} → Places es ps bs cs rs ds → All (λ ps. IsFalseCell g ps → ⊥) es → All (λ ps. IsFalseCell g ps → ⊥) cs → IsFalseCell g ps → IsFalseCell g rs → IsBreakOf g ps p → IsBreakOf g rs q → IsSameBreak p q
-    go (Places.same es ps bs) h k f _ x y = same_break g ps p q x y
-    go (Places.left es bs ps rs ds) h k f _ x y = absurd (at_place (λ ps. IsFalseCell g ps → ⊥) es ps bs k f)
-    go (Places.right es bs rs ps ds) h k _ f x y = absurd (at_place (λ ps. IsFalseCell g ps → ⊥) es rs bs h f)
-
-all_break : (g : Goal) (cells : List (List Taken)) (b : Broken) → IsFirstBreak g cells b → All (BreaksIfFalse g) cells
-all_break g cells b f = subst (All (BreaksIfFalse g)) f.whole (All-append (BreaksIfFalse g) f.before (f.path ∷ f.after) (All-weaker (λ ps. IsFalseCell g ps → ⊥) (BreaksIfFalse g) (λ ps n h. absurd (n h)) f.before f.none_before) (All-cons (BreaksIfFalse g) f.path f.after (λ _. breaks g f.path b f.breaks_here) f.broken_after))
+one_break g cells p q a b =
+    let e = all_ends_unique g cells (a.path ∷ a.after) (b.path ∷ b.after) a.are_ends b.are_ends in
+    let k : b.path ≡ a.path = cc in
+    same_break g a.path p q a.breaks_here (subst (λ ps. IsBreakOf g ps q) k b.breaks_here)
 
 point_and_break : (g : Goal) (cells : List (List Taken)) (p : List Val) (b : Broken) → IsFirstPoint g cells p → IsFirstBreak g cells b → ⊥
-point_and_break g cells p b a c = point_or_break g a.path p a.false_cell a.point_of_cell (at_place (BreaksIfFalse g) a.before a.path a.after (subst (All (BreaksIfFalse g)) (sym a.whole) (all_break g cells b c)) a.false_cell)
+point_and_break g cells p b a c = broken_or_given g a.before a.cell a.after (c.path ∷ c.after) p (subst (λ cs. EndsOf g cs (c.path ∷ c.after)) (sym a.whole) c.are_ends) (All-cons (Breaks g) c.path c.after (breaks g c.path b c.breaks_here) c.broken_after) a.gives
 
 -- ---- All cells
 
@@ -124,10 +132,10 @@ same_cells : (g : Goal) (cs ds : List (List Taken)) → IsWalked g cs → IsWalk
 same_cells g cs ds a b = cells_unique g [] cs ds a.are_cells b.are_cells
 
 proved_and_point : (g : Goal) (t : Option T.Tree) (p : List Val) → IsProved g t → IsFalsified g p → ⊥
-proved_and_point g t p a b = at_place (λ ps. IsFalseCell g ps → ⊥) b.first.before b.first.path b.first.after (subst (All (λ ps. IsFalseCell g ps → ⊥)) (sym b.first.whole) (none_false g [] a.tree b.cells a.is_tree b.walked.are_cells)) b.first.false_cell
+proved_and_point g t p a b = point_or_holds g b.first.cell p b.first.gives (at_place (HoldsAt g) b.first.before b.first.cell b.first.after (subst (All (HoldsAt g)) (sym b.first.whole) (all_hold g [] a.tree b.cells a.is_tree b.walked.are_cells)))
 
 proved_and_break : (g : Goal) (t : Option T.Tree) (c : Broken) → IsProved g t → IsUndecided g c → ⊥
-proved_and_break g t c a b = at_place (λ ps. IsFalseCell g ps → ⊥) b.first.before b.first.path b.first.after (subst (All (λ ps. IsFalseCell g ps → ⊥)) (sym b.first.whole) (none_false g [] a.tree b.cells a.is_tree b.walked.are_cells)) b.first.false_cell
+proved_and_break g t c a b = let e = all_ends_unique g b.cells [] (b.first.path ∷ b.first.after) (no_ends g b.cells (all_hold g [] a.tree b.cells a.is_tree b.walked.are_cells)) b.first.are_ends in absurd (cc)
 
 cell_count : (g : Goal) (ps : List Taken) (cells : List (List Taken)) → IsCell g ps → AreCells g ps cells → length cells ≡ 1
 cell_count g _ _ c (AreCells.dropped ps d s) = absurd (kept_or_dropped g ps c.kept d)

@@ -1,5 +1,5 @@
 -- What is proved of walks and decisions, for the crates above.
-use Rattle.std.specs.Prelude.{◌≡◌, ℕ, List, [], Option, Some, None}
+use Rattle.std.specs.Prelude.{◌≡◌, ℕ, ℤ, List, [], Option, Some, None}
 use Rattle.heylo_formula.specs.Goals.{Goal}
 use Rattle.linear_form.specs.Query.{Taken}
 use Rattle.linear_form.specs.Nonlinear.{nonlinear_product}
@@ -31,6 +31,7 @@ pub data AreAlike : Tree → Tree → Type 0 where
   split : (t u v w : Tree) → AreAlike t v → AreAlike u w → AreAlike (Tree.split t u) (Tree.split v w)
   farkas : (ms ns : List (ℕ × ℕ)) → AreAlike (Tree.farkas ms) (Tree.farkas ns)
   plain : AreAlike Tree.plain Tree.plain
+  whole : (x : ℕ) (m : ℤ) (t u v w : Tree) → AreAlike t v → AreAlike u w → AreAlike (Tree.whole x m t u) (Tree.whole x m v w)
 
 -- The walk has one tree, but for its multipliers.
 abbrev pub TreesAreAlike : Type 0

@@ -1,66 +1,29 @@
 -- What each decision says of a goal. This project's own.
-use Rattle.std.specs.Prelude.{◌≡◌, ℕ, ◌+◌, ◌≤◌, ◌<◌, List, [], ◌∷◌, ◌++◌, length, true, false, Bool, Option, Some, None}
-use Prim.Native.Nat.{suc}
+use Rattle.std.specs.Prelude.{◌≡◌, ℕ, ℤ, ◌+◌, ◌≤◌, ◌<◌, List, [], ◌∷◌, ◌++◌, length, true, false, Option, Some, None}
 use Rattle.std.specs.List.{All}
-use Rattle.heyvl_num.specs.Rational.{Rational}
 use Rattle.heylo_formula.specs.Goals.{Goal}
-use Rattle.heylo_formula.specs.State.{has}
 use Rattle.heylo_formula.specs.declared.values.Val.{Val}
-use Rattle.heylo_formula.specs.declared.values.Val.TheVariants.{Truth}
-use Rattle.linear_form.specs.Query.{Taken, known}
+use Rattle.linear_form.specs.Query.{Taken}
 use Rattle.linear_form.specs.Query.Query.{bits}
 use Rattle.linear_form.specs.Paths.{end_at}
 use Rattle.linear_form.specs.PathRows.{rows_of, IsPlainAt}
 use Rattle.linear_form.specs.Nonlinear.{nonlinear_product}
-use Rattle.heylo_formula.specs.Typing.{types_in}
 use Rattle.linear_rows.specs.Row.{Row}
-use Rattle.linear_form.specs.Cells.{IsDropped, IsKept, IsCell, IsFalseCell}
-use Rattle.linear_rows.specs.GreedyPoint.{Interval, Greedy, ChoosesFrom, IsGreedyPoint}
+use Rattle.linear_form.specs.Cells.{IsDropped, IsKept, IsCell}
+use Rattle.linear_rows.specs.Terms.{is_narrow}
 use Rattle.linear_elim.specs.Elimination.Outcome.{too_many}
-use Rattle.linear_elim.specs.Answers.{eliminated, IsBreak, IsTooGreat, IsShortLimited}
+use Rattle.linear_elim.specs.Answers.{eliminated, IsTooGreat, IsShortLimited}
 use Rattle.goal_answers.specs.declared.causes.Broken.{Broken}
 use Rattle.goal_answers.specs.declared.causes.Cause.{Cause}
 use Rattle.goal_answers.specs.declared.causes.Cause.TheVariants.{Depth, Nodes, Nonlinear, Cells, Rows, Bits, Fraction}
 use Rattle.goal_answers.specs.Trees.{Tree, tree_of, depth}
 use Rattle.goal_answers.specs.declared.trees.Tree as T
+use Rattle.region_split.specs.PathPoints.{Breaks, IsBreakOf}
+use Rattle.region_split.specs.Pieces.{BreaksAbove, EndsOf, HasFirstPoint, IsPieceOf}
 use Rattle.region_split.specs.Walk.{AreBefore, IsReached, IsWalked}
 use Rattle.region_split.specs.WalkTree.{IsWalkTree}
 use Rattle.goal_answers.specs.declared.decisions.Decision.{Decision}
 use Rattle.goal_answers.specs.declared.decisions.Decision.TheVariants.{Proved, Falsified, Unknown}
-
--- A Boolean that the path has decided has its truth.
-abbrev pub value_on : Option Bool → Val → Val
-value_on (Some b) v = Truth b
-value_on None v = v
-
--- The values from a variable on.
-abbrev pub with_truths : List Taken → ℕ → List Val → List Val
-with_truths ps x [] = []
-with_truths ps x (v ∷ vs) = value_on (known x ps) v ∷ with_truths ps (suc x) vs
-
--- The greedy point of a path's rows with the denied goal, with the truths of the path.
-pub record IsPointOf (g : Goal) (ps : List Taken) (point : List Val) : Type 0 where
-  pub rows : List Row
-  pub are_rows : rows_of g ps true ≡ Some rows
-  pub values : List Val
-  pub greedy : IsGreedyPoint rows g.types values
-  pub truths : point ≡ with_truths ps 0 values
-
--- The greedy choice for a path's rows with the denied goal breaks, as told, after values of the variables' types.
-pub record IsBreakOf (g : Goal) (ps : List Taken) (b : Broken) : Type 0 where
-  pub rows : List Row
-  pub are_rows : rows_of g ps true ≡ Some rows
-  pub broken : IsBreak rows g.types b
-  pub typed : All (λ c. has (types_in g.types c.0) c.1 ≡ true) b.earlier.items
-
--- The greedy choice for these rows breaks.
-pub record Breaks (g : Goal) (ps : List Taken) : Type 0 where
-  pub rows : List Row
-  pub are_rows : rows_of g ps true ≡ Some rows
-  pub var : ℕ
-  pub earlier : List (ℕ × Rational)
-  pub interval : Interval
-  pub choice : ChoosesFrom rows g.types (Greedy.broke var earlier interval)
 
 -- The walk reaches one cell more than these.
 pub record HasCells (g : Goal) (count : ℕ) : Type 0 where
@@ -70,11 +33,20 @@ pub record HasCells (g : Goal) (count : ℕ) : Type 0 where
   pub cell : IsCell g path
   pub counted : 1 + length before ≡ count
 
--- Rows that the walk eliminates: those of a front without the denied goal, and those of a cell with it, up to the 4,096th cell,
--- where the goal doesn't hold plainly.
+-- The walk looks at this piece, after n splits, of one of the first 4,096 cells, at which the goal doesn't hold plainly; these cells come
+-- before it.
+pub record IsLookedAt (g : Goal) (n : ℕ) (ps : List Taken) (cells : List (List Taken)) : Type 0 where
+  pub cell : List Taken
+  pub reached : IsReached g cell cells
+  pub few : length cells < 4096
+  pub is_cell : IsCell g cell
+  pub not_plain : IsPlainAt g cell → ⊥
+  pub piece : IsPieceOf g cell n ps
+
+-- Rows that the walk eliminates: those of a front without the denied goal, and those of a piece with it.
 pub data Eliminates (g : Goal) (ps : List Taken) (rows : List Row) : Type 0 where
   of_front : (cells : List (List Taken)) → IsReached g ps cells → rows_of g ps false ≡ Some rows → Eliminates g ps rows
-  of_cell : (cells : List (List Taken)) → IsReached g ps cells → length cells < 4096 → IsCell g ps → (IsPlainAt g ps → ⊥) → rows_of g ps true ≡ Some rows → Eliminates g ps rows
+  of_piece : (n : ℕ) (cells : List (List Taken)) → IsLookedAt g n ps cells → rows_of g ps true ≡ Some rows → Eliminates g ps rows
 
 -- The walk ends where it reaches rows that are too many after some steps, also where dominated rows are left out, unless a number is
 -- too great then.
@@ -86,43 +58,43 @@ pub record HasManyRows (g : Goal) (steps : ℕ) (count : ℕ) : Type 0 where
   pub short : IsShortLimited rows g.types
 
 -- The walk ends where it reaches a number that is too great: a value of a front that is kept; a row of a front; the row of the
--- denied goal at a dropped front, or at one of the first 4,096 cells; or a number of the rows that it eliminates, where the
--- elimination without dominated rows meets a limit too.
+-- denied goal at a dropped front, or a row of a piece; the whole number at which a piece would be split; or a number of the rows that
+-- it eliminates, where the elimination without dominated rows meets a limit too.
 pub data IsLarge (g : Goal) : Type 0 where
   in_values : (ps : List Taken) (cells : List (List Taken)) → IsReached g ps cells → IsKept g ps → end_at g ps ≡ bits → IsLarge g
   in_rows : (ps : List Taken) (cells : List (List Taken)) → IsReached g ps cells → rows_of g ps false ≡ None → IsLarge g
   in_denied_goal : (ps : List Taken) (cells : List (List Taken)) → IsReached g ps cells → IsDropped g ps → rows_of g ps true ≡ None → IsLarge g
-  in_cell : (ps : List Taken) (cells : List (List Taken)) → IsReached g ps cells → length cells < 4096 → IsCell g ps → rows_of g ps true ≡ None → IsLarge g
+  in_piece : (n : ℕ) (ps : List Taken) (cells : List (List Taken)) → IsLookedAt g n ps cells → rows_of g ps true ≡ None → IsLarge g
+  in_split : (n : ℕ) (ps : List Taken) (cells : List (List Taken)) (x : ℕ) (m : ℤ) → n < 8 → IsLookedAt g n ps cells → BreaksAbove g ps x m → is_narrow m ≡ false → IsLarge g
   in_elimination : (ps : List Taken) (rows : List Row) → Eliminates g ps rows → IsTooGreat rows g.types → IsShortLimited rows g.types → IsLarge g
 
--- The first false cell among these whose greedy choice doesn't break gives the point.
+-- The first end among those of these cells whose greedy choice doesn't break gives the point. What lies behind it isn't split.
 pub record IsFirstPoint (g : Goal) (cells : List (List Taken)) (point : List Val) : Type 0 where
   pub before : List (List Taken)
-  pub path : List Taken
+  pub cell : List Taken
   pub after : List (List Taken)
-  pub whole : before ++ (path ∷ after) ≡ cells
-  pub broken_before : All (λ ps. IsFalseCell g ps → Breaks g ps) before
-  pub false_cell : IsFalseCell g path
-  pub point_of_cell : IsPointOf g path point
+  pub whole : before ++ (cell ∷ after) ≡ cells
+  pub ends : List (List Taken)
+  pub are_ends : EndsOf g before ends
+  pub broken : All (Breaks g) ends
+  pub is_cell : IsCell g cell
+  pub gives : HasFirstPoint g 0 cell point
 
--- Every false cell among these breaks, and this is where the first one does.
+-- These cells have ends, each of which breaks, and this is where the first one does.
 pub record IsFirstBreak (g : Goal) (cells : List (List Taken)) (b : Broken) : Type 0 where
-  pub before : List (List Taken)
   pub path : List Taken
   pub after : List (List Taken)
-  pub whole : before ++ (path ∷ after) ≡ cells
-  pub none_before : All (λ ps. IsFalseCell g ps → ⊥) before
-  pub false_cell : IsFalseCell g path
+  pub are_ends : EndsOf g cells (path ∷ after)
   pub breaks_here : IsBreakOf g path b
-  pub broken_after : All (λ ps. IsFalseCell g ps → Breaks g ps) after
+  pub broken_after : All (Breaks g) after
 
--- All cells are walked, and one of them gives the point.
+-- All cells are walked, and one of their ends gives the point.
 pub record IsFalsified (g : Goal) (point : List Val) : Type 0 where
   pub cells : List (List Taken)
   pub walked : IsWalked g cells
   pub first : IsFirstPoint g cells point
 
--- All cells are walked, some are false, and each of these breaks.
+-- All cells are walked, they have ends, and each of these breaks.
 pub record IsUndecided (g : Goal) (b : Broken) : Type 0 where
   pub cells : List (List Taken)
   pub walked : IsWalked g cells

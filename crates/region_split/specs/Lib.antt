@@ -1,4 +1,6 @@
 pub mod Walk
+pub mod PathPoints
+pub mod Pieces
 pub mod WalkTree
 pub mod Decisions
 pub mod Meanings

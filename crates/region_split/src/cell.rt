@@ -1,17 +1,20 @@
 //! What a cell of the walk shows.
 
-ghost use Rattle.std.specs.Prelude.{◌≡◌, ◌<◌, ◌+◌, ◌^◌, take, length, IfOk, Some, true, false};
-ghost use Rattle.heylo_formula.specs.Goals.{goal_of};
-ghost use Rattle.linear_form.specs.Cells.{IsFront};
+ghost use Rattle.std.specs.Prelude.{List, take, IfOk};
+ghost use Rattle.heylo_formula.specs.Goals.{Goal as PlainGoal, goal_of};
+ghost use Rattle.linear_form.specs.Cells.{IsCell};
+ghost use Rattle.linear_form.specs.PathRows.{IsPlainAt};
 ghost use Rattle.linear_form.specs.PlainPaths.{path_of};
-ghost use Rattle.heylo_formula.specs.TypedGoals.{IsTypedGoal};
+ghost use Rattle.linear_form.specs.Query.{Taken as PlainTaken};
 ghost use Rattle.linear_guess.specs.Searches.{Remembers};
-ghost use Rattle.region_split.specs.internal.Seen.{IsEnd, AreRowsAt};
-ghost use Rattle.region_split.specs.internal.Progress.{IsJudged};
+ghost use Rattle.region_split.specs.internal.Progress.{IsCellStand, IsJudged, IsOpen, IsPieceShown};
 ghost use Rattle.region_split.specs.declared.found.Found.TheVariants.{Point as PointFound};
 
 use crate::found::{Found, with_break, with_point};
+use crate::front::End;
 use crate::growth::leaf;
+use crate::pieces::{Piece, broken_piece};
+use crate::points::with_path;
 use crate::solving::{Settled, Solved, settle, solve};
 use goal_answers::{Cause, Tree};
 use heylo_formula::{Goal, Val};
@@ -23,68 +26,76 @@ use std::alloc::{AllocError, Global};
 /// What a cell of the walk shows.
 #[derive(Drop)]
 pub enum Cell {
-    /// What all cells up to this one have shown, and the cell's tree; none where the cell is false or too deep.
+    /// What all cells up to this one have shown, and the cell's tree; none where the cell has ends or is too deep.
     Judged(Found, Option<Tree>),
     /// There are too many rows, or a number is too great.
     Unknown(Cause),
 }
 
-/// Looks at a cell that isn't plain, with the rows of its denied goal, once the cells before it have shown this. Its greedy point is
-/// chosen only where none is known. Want of memory is the one error.
+/// Looks at a cell that isn't plain, with the rows of its denied goal, once the cells before it have shown this. Its pieces are looked at
+/// only where no point is known. Want of memory is the one error.
 pub fn judge(
     alloc: Global,
     goal: &Goal,
     path: &[Taken],
     list: &[Row],
     kept: usize,
+    end: &End,
     found: Found,
     search: &mut Search,
 ) -> Result<Cell, AllocError>
-    requires front { IsFront (goal_of goal.now) (path_of path.now) }
-    requires typed { IsTypedGoal (goal_of goal.now) }
-    requires short { length path.now + 1 + length goal.now.vars.items < 2 ^ 32 }
-    requires at_end { IsEnd (goal_of goal.now) (path_of path.now) false }
-    requires rows { AreRowsAt (goal_of goal.now) (path_of path.now) true list.now }
+    requires stands { IsCellStand (goal_of goal.now) (path_of path.now) list.now kept end.now }
     requires remembered { Remembers search.old list.now }
     ensures judged { IfOk result (λ c. IsJudged (goal_of goal.now) (path_of path.now) found c) }
     ensures remembered { Remembers search.new (take kept list.now) }
 {
     match found {
-        Found::Nothing => judge_open(alloc, goal, path, list, kept, Found::Nothing, search),
-        Found::Break(broken) => {
-            judge_open(alloc, goal, path, list, kept, Found::Break(broken), search)
+        Found::Nothing => {
+            let shown = open_cell(alloc, goal, path, list, kept, end, search)?;
+            Ok(shown_cell(Found::Nothing, shown))
         }
-        Found::Point(point) => judge_further(alloc, goal, path, list, kept, point, search),
+        Found::Break(broken) => {
+            let shown = open_cell(alloc, goal, path, list, kept, end, search)?;
+            Ok(shown_cell(Found::Break(broken), shown))
+        }
+        Found::Point(point) => judge_further(alloc, goal, path, list, kept, end, point, search),
     }
 }
 
-/// Looks at a cell that isn't plain, where the cells before it have shown this.
-fn judge_open(
+/// What the pieces of a cell show, where no point is known. Want of memory is the one error.
+fn open_cell(
     alloc: Global,
     goal: &Goal,
     path: &[Taken],
     list: &[Row],
     kept: usize,
-    found: Found,
+    end: &End,
     search: &mut Search,
-) -> Result<Cell, AllocError>
-    requires front { IsFront (goal_of goal.now) (path_of path.now) }
-    requires typed { IsTypedGoal (goal_of goal.now) }
-    requires short { length path.now + 1 + length goal.now.vars.items < 2 ^ 32 }
-    requires at_end { IsEnd (goal_of goal.now) (path_of path.now) false }
-    requires rows { AreRowsAt (goal_of goal.now) (path_of path.now) true list.now }
+) -> Result<Piece, AllocError>
+    requires stands { IsCellStand (goal_of goal.now) (path_of path.now) list.now kept end.now }
     requires remembered { Remembers search.old list.now }
-    ensures judged { IfOk result (λ c. IsJudged (goal_of goal.now) (path_of path.now) found c) }
+    ensures shown { IfOk result (λ p. IsPieceShown (goal_of goal.now) 0 (path_of path.now) p) }
     ensures remembered { Remembers search.new (take kept list.now) }
 {
     match solve(alloc, list, kept, &goal.vars, search)? {
-        Solved::Refuted(multipliers) => Ok(Cell::Judged(
-            found,
-            leaf(Tree::Farkas(multipliers), path.len()),
-        )),
-        Solved::Point(point) => Ok(Cell::Judged(with_point(alloc, found, path, point)?, None)),
-        Solved::Break(broken) => Ok(Cell::Judged(with_break(alloc, found, broken)?, None)),
-        Solved::Unknown(cause) => Ok(Cell::Unknown(cause)),
+        Solved::Refuted(multipliers) => {
+            Ok(Piece::Closed(leaf(Tree::Farkas(multipliers), path.len())))
+        }
+        Solved::Point(point) => Ok(Piece::Given(with_path(alloc, path, &point)?)),
+        Solved::Break(broken) => { broken_piece(alloc, goal, path, &list[..kept], end, 0, broken) }
+        Solved::Unknown(cause) => Ok(Piece::Unknown(cause)),
+    }
+}
+
+/// What all cells up to this one have shown, where its pieces show this, and the cells before it have given no point.
+fn shown_cell(found: Found, shown: Piece) -> Cell
+    ensures { (g : PlainGoal) (ps : List PlainTaken) → IsOpen found → IsCell g ps → (IsPlainAt g ps → ⊥) → IsPieceShown g 0 ps shown → IsJudged g ps found result }
+{
+    match shown {
+        Piece::Closed(tree) => Cell::Judged(found, tree),
+        Piece::Broke(broken) => Cell::Judged(with_break(found, broken), None),
+        Piece::Given(point) => Cell::Judged(with_point(found, point), None),
+        Piece::Unknown(cause) => Cell::Unknown(cause),
     }
 }
 
@@ -95,14 +106,11 @@ fn judge_further(
     path: &[Taken],
     list: &[Row],
     kept: usize,
+    end: &End,
     point: Vec<Val>,
     search: &mut Search,
 ) -> Result<Cell, AllocError>
-    requires front { IsFront (goal_of goal.now) (path_of path.now) }
-    requires typed { IsTypedGoal (goal_of goal.now) }
-    requires short { length path.now + 1 + length goal.now.vars.items < 2 ^ 32 }
-    requires at_end { IsEnd (goal_of goal.now) (path_of path.now) false }
-    requires rows { AreRowsAt (goal_of goal.now) (path_of path.now) true list.now }
+    requires stands { IsCellStand (goal_of goal.now) (path_of path.now) list.now kept end.now }
     requires remembered { Remembers search.old list.now }
     ensures judged { IfOk result (λ c. IsJudged (goal_of goal.now) (path_of path.now) (PointFound point) c) }
     ensures remembered { Remembers search.new (take kept list.now) }

@@ -1,55 +1,44 @@
 //! What the cells of a walk have shown so far.
 
-ghost use Rattle.std.specs.Prelude.{◌<◌, ◌^◌, ◌++◌, ◌∷◌, [], List, length, true, IfOk};
+ghost use Rattle.std.specs.Prelude.{◌++◌, ◌∷◌, [], List};
 ghost use Rattle.heylo_formula.specs.Goals.{Goal as PlainGoal};
 ghost use Rattle.linear_form.specs.Query.{Taken as PlainTaken};
-ghost use Rattle.linear_form.specs.PlainPaths.{path_of};
-ghost use Rattle.linear_form.specs.Cells.{IsFalseCell};
-ghost use Rattle.region_split.specs.Decisions.{IsBreakOf};
-ghost use Rattle.region_split.specs.internal.Seen.{IsPointAt};
-ghost use Rattle.region_split.specs.internal.Progress.{IsFound};
+ghost use Rattle.linear_form.specs.Cells.{IsCell};
+ghost use Rattle.region_split.specs.Pieces.{HasFirstPoint};
+ghost use Rattle.region_split.specs.internal.Progress.{IsBroken, IsFound};
 
-use crate::points::with_path;
 use goal_answers::Broken;
 use heylo_formula::Val;
-use linear_form::Taken;
-use std::alloc::{AllocError, Global};
 
 /// What the cells of a walk have shown so far.
 #[derive(Drop)]
 pub enum Found {
     /// The goal holds in each cell.
     Nothing,
-    /// The first false cell breaks so, and so does each other false cell.
+    /// Some cells have ends, each of which breaks, the first one so.
     Break(Box<Broken>),
-    /// The point of the first false cell that doesn't break.
+    /// The point of the first end that doesn't break.
     Point(Vec<Val>),
 }
 
-/// What is shown once another cell, at this path, is false and has this greedy point. Want of memory is the one error.
-pub fn with_point(
-    alloc: Global,
-    found: Found,
-    path: &[Taken],
-    point: Vec<Val>,
-) -> Result<Found, AllocError>
-    requires { length point.items < 2 ^ 32 }
-    ensures { (g : PlainGoal) (cells : List (List PlainTaken)) → IsFound g cells found → IsFalseCell g (path_of path.now) → IsPointAt g (path_of path.now) true point.items → IfOk result (λ f. IsFound g (cells ++ (path_of path.now ∷ [])) f) }
+/// What is shown once another cell has this point as that of its first end that doesn't break.
+pub fn with_point(found: Found, point: Vec<Val>) -> Found
+    ensures { (g : PlainGoal) (cells : List (List PlainTaken)) (ps : List PlainTaken) → IsFound g cells found → IsCell g ps → HasFirstPoint g 0 ps point.items → IsFound g (cells ++ (ps ∷ [])) result }
 {
     match found {
-        Found::Nothing => Ok(Found::Point(with_path(alloc, path, &point)?)),
-        Found::Break(_) => Ok(Found::Point(with_path(alloc, path, &point)?)),
-        Found::Point(first) => Ok(Found::Point(first)),
+        Found::Nothing => Found::Point(point),
+        Found::Break(_) => Found::Point(point),
+        Found::Point(first) => Found::Point(first),
     }
 }
 
-/// What is shown once another cell is false and breaks so. Want of memory is the one error.
-pub fn with_break(alloc: Global, found: Found, broken: Broken) -> Result<Found, AllocError>
-    ensures { (g : PlainGoal) (cells : List (List PlainTaken)) (ps : List PlainTaken) → IsFound g cells found → IsFalseCell g ps → IsBreakOf g ps broken → IfOk result (λ f. IsFound g (cells ++ (ps ∷ [])) f) }
+/// What is shown once another cell has ends, each of which breaks, the first one so.
+pub fn with_break(found: Found, broken: Box<Broken>) -> Found
+    ensures { (g : PlainGoal) (cells : List (List PlainTaken)) (ps : List PlainTaken) → IsFound g cells found → IsBroken g 0 ps broken.value → IsFound g (cells ++ (ps ∷ [])) result }
 {
     match found {
-        Found::Nothing => Ok(Found::Break(Box::new(alloc, broken)?)),
-        Found::Break(first) => Ok(Found::Break(first)),
-        Found::Point(first) => Ok(Found::Point(first)),
+        Found::Nothing => Found::Break(broken),
+        Found::Break(first) => Found::Break(first),
+        Found::Point(first) => Found::Point(first),
     }
 }

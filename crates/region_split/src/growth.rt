@@ -1,12 +1,15 @@
 //! The trees of finished branches.
 
-ghost use Rattle.std.specs.Prelude.{◌≡◌, List, IfOk, true, false};
+ghost use Rattle.std.specs.Prelude.{◌≡◌, List, IfOk, true, false, ℕ};
+ghost use Prim.Native.Nat.{suc};
 ghost use Rattle.heylo_formula.specs.Goals.{Goal as PlainGoal};
 ghost use Rattle.linear_form.specs.Query.{Taken as PlainTaken, Atom, onto};
 ghost use Rattle.linear_form.specs.Cells.{GoesOn};
 ghost use Rattle.goal_answers.specs.Trees.{Tree as PlainTree, tree_of};
-ghost use Rattle.region_split.specs.internal.Progress.{IsGrown, IsLeaf};
+ghost use Rattle.region_split.specs.Pieces.{IsSplitAt, first_half, second_half};
+ghost use Rattle.region_split.specs.internal.Progress.{IsGrown, IsLeaf, IsPieceGrown};
 
+use crate::pieces::Split;
 use goal_answers::Tree;
 use std::alloc::{AllocError, Global};
 
@@ -40,6 +43,33 @@ pub fn joined(
         },
         None => Ok(None),
     }
+}
+
+/// The tree of a piece that is split into two with these trees; none where one of them is missing.
+pub fn joined_halves(
+    alloc: Global,
+    at: &Split,
+    first: Option<Tree>,
+    second: Option<Tree>,
+) -> Result<Option<Tree>, AllocError>
+    ensures { (g : PlainGoal) (n : ℕ) (ps : List PlainTaken) → IsSplitAt g n ps at.now.variable at.now.bound → IsPieceGrown g (suc n) (first_half ps at.now.variable at.now.bound) first → IsPieceGrown g (suc n) (second_half ps at.now.variable at.now.bound) second → IfOk result (λ t. IsPieceGrown g n ps t) }
+{
+    match first {
+        Some(left) => match second {
+            Some(right) => Ok(Some(whole(alloc, at, left, right)?)),
+            None => Ok(None),
+        },
+        None => Ok(None),
+    }
+}
+
+/// The tree that splits a whole variable, with these two below.
+fn whole(alloc: Global, at: &Split, left: Tree, right: Tree) -> Result<Tree, AllocError>
+    ensures { IfOk result (λ t. tree_of t ≡ PlainTree.whole at.now.variable at.now.bound (tree_of left) (tree_of right)) }
+{
+    let first = Box::new(alloc, left)?;
+    let second = Box::new(alloc, right)?;
+    Ok(Tree::Whole(at.variable, at.bound, first, second))
 }
 
 /// The tree that splits into these two.

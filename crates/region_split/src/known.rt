@@ -39,7 +39,7 @@ pub struct Recalled {
 }
 
 /// The same value again. Want of memory is the one error.
-fn copy_value(alloc: Global, value: &Lin) -> Result<Lin, AllocError>
+pub fn copy_value(alloc: Global, value: &Lin) -> Result<Lin, AllocError>
     ensures { IfOk result (λ v. lin_of v ≡ lin_of value.now) }
 {
     let mut terms = Vec::new(alloc);

@@ -13,6 +13,7 @@ mod front;
 mod growth;
 mod known;
 mod moving;
+mod pieces;
 mod points;
 mod repeats;
 mod solving;

@@ -3,7 +3,7 @@
 ghost use Rattle.std.specs.Prelude.{◌≡◌, ◌<◌, ◌^◌, length, IfOk, Bool, Option, Some, if◌then◌else◌};
 ghost use Rattle.linear_form.specs.Query.{known, known_by};
 ghost use Rattle.linear_form.specs.PlainPaths.{path_of, atom_of};
-ghost use Rattle.region_split.specs.Decisions.{value_on, with_truths};
+ghost use Rattle.region_split.specs.PathPoints.{value_on, with_truths};
 
 use heylo_formula::Val;
 use linear_form::{Atom, Taken};

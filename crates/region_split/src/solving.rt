@@ -103,7 +103,7 @@ pub fn settle(
 }
 
 /// Eliminates rows. Want of memory is the one error.
-fn solve_rows(alloc: Global, list: &[Row], vars: &[Ty]) -> Result<Solved, AllocError>
+pub fn solve_rows(alloc: Global, list: &[Row], vars: &[Ty]) -> Result<Solved, AllocError>
     requires rows { All IsRow list.now }
     requires numeric { All (IsNumericRow vars.now) list.now }
     requires few { length list.now < 2 ^ 32 }

@@ -186,7 +186,7 @@ fn denied_end<'a>(
     else {
         return Ok(Step::Done(Decision::Unknown(Cause::Bits)));
     };
-    let cell = judge(alloc, goal, &path, &list, kept, found, &mut search)?;
+    let cell = judge(alloc, goal, &path, &list, kept, &ends, found, &mut search)?;
     let trail = Trail {
         path,
         places,

@@ -37,7 +37,7 @@ reason_text bytes why.NoWlp = codes "no @wlp"
 reason_text bytes why.Quantifier = codes "quantifier in post"
 reason_text bytes (why.Statement span) = place_text bytes span.from ++ codes " is no program statement"
 
--- For each question on the way to a node, whether it holds or is denied.
+-- For each node on the way to another: its question holds, or is denied; the variable that it splits is at most its number, or above.
 abbrev pub way_text : List Bool → List ℕ
 way_text [] = []
 way_text (true ∷ bs) = codes "h" ++ way_text bs

@@ -1,13 +1,14 @@
 -- Lines whose numbers are within their bounds.
-use Rattle.cert_text.specs.Certificates.{IsNumbered, AreMultipliers}
-use Rattle.cert_text.specs.Lines.Line.{farkas, goal, last, plain, split, title}
+use Rattle.cert_text.specs.Certificates.{IsNumbered, IsWholeSplit, AreMultipliers}
+use Rattle.cert_text.specs.Lines.Line.{farkas, goal, last, plain, split, title, whole}
 use Rattle.cert_text.specs.Lines.{Line}
 
 -- The numbers of the line are within their bounds.
 abbrev pub IsLine : Line → Type 0
-IsLine title = Unit {0}
+IsLine (title v) = Unit {0}
 IsLine (goal n) = IsNumbered n
 IsLine split = Unit {0}
+IsLine (whole x m) = IsWholeSplit x m
 IsLine (farkas ms) = AreMultipliers ms
 IsLine plain = Unit {0}
 IsLine last = Unit {0}

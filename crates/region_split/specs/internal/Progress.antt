@@ -1,24 +1,38 @@
 -- How far a walk has come: the cells before its path, the trees of the branches to the left, what the cells have shown, and how
 -- much is left.
-use Rattle.std.specs.Prelude.{◌≡◌, ◌⊎◌, ℕ, ◌+◌, ◌≤◌, ◌<◌, ◌^◌, List, [], ◌∷◌, ◌++◌, length, true, false, Option, Some, None, if◌then◌else◌}
+use Rattle.std.specs.Prelude.{◌≡◌, ◌⊎◌, ℕ, ◌+◌, ◌≤◌, ◌<◌, ◌^◌, List, [], ◌∷◌, ◌++◌, length, take, true, false, Option, Some, None, if◌then◌else◌}
 use Rattle.std.specs.List.{All}
 use Rattle.heylo_formula.specs.Goals.{Goal}
+use Rattle.heylo_formula.specs.TypedGoals.{IsTypedGoal}
+use Rattle.region_split.specs.internal.Seen.{AreRowsAt, IsEndOf}
+use Rattle.heylo_formula.specs.declared.values.Val.{Val}
 use Rattle.linear_form.specs.Query.{Query, Atom, Taken, onto}
 use Rattle.linear_form.specs.Query.Query.{done, bits, ask}
 use Rattle.linear_form.specs.Questions.{questions}
-use Rattle.linear_form.specs.Paths.{IsPath, end_at}
+use Rattle.linear_form.specs.Paths.{IsPath, IsQuestionPath, end_at}
 use Rattle.linear_form.specs.PathRows.{IsPlainAt}
 use Rattle.linear_form.specs.PlainPaths.{path_of, atom_of}
-use Rattle.linear_form.specs.Cells.{GoesOn}
+use Rattle.linear_form.specs.Cells.{GoesOn, IsFront}
 use Rattle.linear_form.specs.Places.{IsOn}
 use Rattle.linear_form.specs.declared.places.Place.{Place}
 use Rattle.linear_form.specs.declared.paths.Atom as A
 use Rattle.goal_answers.specs.Trees.{Tree, tree_of, depth}
 use Rattle.goal_answers.specs.declared.trees.Tree as T
-use Rattle.region_split.specs.Walk.{IsRefutedCell, AreCells}
-use Rattle.region_split.specs.WalkTree.{IsWalkTree}
-use Rattle.region_split.specs.Decisions.{IsFirstPoint, IsFirstBreak, IsDecision}
-use Rattle.region_split.specs.internal.Seen.{EndsWalk}
+use Rattle.goal_answers.specs.declared.causes.Broken.{Broken}
+use Rattle.goal_answers.specs.declared.causes.Cause.{Cause}
+use Rattle.linear_form.specs.Asked.{Answers}
+use Rattle.linear_form.specs.declared.asking.Ask as K
+use Rattle.linear_form.specs.Nonlinear.{nonlinear_product}
+use Rattle.linear_form.specs.RowLists.{ArePathRows}
+use Rattle.linear_rows.specs.Row.{Row}
+use Rattle.region_split.specs.declared.front.End as E
+use Rattle.region_split.specs.declared.pieces.Piece.{Piece}
+use Rattle.region_split.specs.declared.pieces.Piece.TheVariants as P
+use Rattle.region_split.specs.Pieces.{AreEnds, HasFirstPoint}
+use Rattle.region_split.specs.Walk.{AreBefore, AreCells}
+use Rattle.region_split.specs.WalkTree.{IsWalkTree, IsPieceTree}
+use Rattle.region_split.specs.PathPoints.{Breaks, IsBreakOf}
+use Rattle.region_split.specs.Decisions.{IsCause, IsDecision, IsFirstPoint, IsFirstBreak, IsLookedAt}
 use Rattle.region_split.specs.internal.Trails.{Comes, Stands}
 use Rattle.region_split.specs.declared.found.Found.{Found}
 use Rattle.region_split.specs.declared.found.Found.TheVariants.{Nothing, Break, Point}
@@ -44,9 +58,31 @@ pub record IsDeep (g : Goal) (ps : List Taken) : Type 0 where
   pub is_tree : IsWalkTree g ps tree
   pub deep : 1000 < length ps + depth tree
 
+-- The walk has come to a path before which a point was found: no tree is asked for then.
+pub record HasFalsePoint (g : Goal) : Type 0 where
+  pub path : List Taken
+  pub before : List (List Taken)
+  pub are_before : AreBefore g path before
+  pub point : List Val
+  pub first : IsFirstPoint g before point
+
 abbrev pub IsGrown : Goal → List Taken → Option T.Tree → Type 0
 IsGrown g ps (Some t) = IsGrownTree g ps t
-IsGrown g ps None = IsDeep g ps
+IsGrown g ps None = IsDeep g ps ⊎ HasFalsePoint g
+
+-- The same of a piece after n splits.
+pub record IsPieceGrownTree (g : Goal) (n : ℕ) (ps : List Taken) (t : T.Tree) : Type 0 where
+  pub is_tree : IsPieceTree g n ps (tree_of t)
+  pub shallow : length ps + depth (tree_of t) ≤ 1000
+
+pub record IsPieceDeep (g : Goal) (n : ℕ) (ps : List Taken) : Type 0 where
+  pub tree : Tree
+  pub is_tree : IsPieceTree g n ps tree
+  pub deep : 1000 < length ps + depth tree
+
+abbrev pub IsPieceGrown : Goal → ℕ → List Taken → Option T.Tree → Type 0
+IsPieceGrown g n ps (Some t) = IsPieceGrownTree g n ps t
+IsPieceGrown g n ps None = IsPieceDeep g n ps
 
 -- What is kept of a leaf to which this many answers lead: none where it ends more than 1,000 deep in the whole tree.
 abbrev pub IsLeaf : ℕ → T.Tree → Option T.Tree → Type 0
@@ -55,14 +91,65 @@ IsLeaf n t None = 1000 ≤ n
 
 -- ---- What the cells have shown
 
--- The goal holds in a cell: plainly, or since its denial is refuted.
+-- The goal holds in a cell: plainly, or since it has no ends.
 abbrev pub HoldsAt : Goal → List Taken → Type 0
-HoldsAt g ps = IsPlainAt g ps ⊎ IsRefutedCell g ps
+HoldsAt g ps = IsPlainAt g ps ⊎ AreEnds g 0 ps []
 
 abbrev pub IsFound : Goal → List (List Taken) → Found → Type 0
 IsFound g cells Nothing = All (HoldsAt g) cells
 IsFound g cells (Break b) = IsFirstBreak g cells b.value
 IsFound g cells (Point point) = IsFirstPoint g cells point.items
+
+-- ---- What a piece shows
+
+-- It has no ends, and its tree is this one.
+pub record IsClosed (g : Goal) (n : ℕ) (ps : List Taken) (tree : Option T.Tree) : Type 0 where
+  pub ends : AreEnds g n ps []
+  pub grown : IsPieceGrown g n ps tree
+
+-- Each of its ends breaks, and this is where the first one does.
+pub record IsBroken (g : Goal) (n : ℕ) (ps : List Taken) (b : Broken) : Type 0 where
+  pub path : List Taken
+  pub after : List (List Taken)
+  pub ends : AreEnds g n ps (path ∷ after)
+  pub breaks_here : IsBreakOf g path b
+  pub broken_after : All (Breaks g) after
+
+-- The cause ends the walk, where it looks at this piece after n splits.
+abbrev pub EndsPiece : Goal → ℕ → List Taken → Cause → Type 0
+EndsPiece g n ps cause = (cells : List (List Taken)) → IsLookedAt g n ps cells → nonlinear_product g ≡ None → IsCause g cause
+
+abbrev pub IsPieceShown : Goal → ℕ → List Taken → Piece → Type 0
+IsPieceShown g n ps (P.Closed tree) = IsClosed g n ps tree
+IsPieceShown g n ps (P.Broke b) = IsBroken g n ps b.value
+IsPieceShown g n ps (P.Given point) = HasFirstPoint g n ps point.items
+IsPieceShown g n ps (P.Unknown cause) = EndsPiece g n ps cause
+
+-- A cell at which the goal doesn't hold plainly, with its rows and the denied goal, of which so many are those of the path's comparisons.
+pub record IsCellStand (g : Goal) (ps : List Taken) (list : List Row) (count : ℕ) (e : E.End) : Type 0 where
+  pub typed : IsTypedGoal g
+  pub front : IsFront g ps
+  pub end : IsEndOf g ps e
+  pub not_plain : e.plain ≡ false
+  pub rows : AreRowsAt g ps true list
+  pub path_rows : ArePathRows g ps (take count list)
+  pub kept : count ≤ length list
+  pub short : length ps + 9 + length g.types < 2 ^ 32
+
+-- A piece that can be looked at, after n splits: its path, the values of the two forms at its end, its rows, and that it is short.
+pub record IsPieceStand (g : Goal) (n : ℕ) (ps : List Taken) (list : List Row) (e : E.End) : Type 0 where
+  pub is_path : IsPath g ps
+  pub values : Answers (K.TheVariants.End e.stated e.found) (end_at g ps)
+  pub not_plain : IsPlainAt g ps → ⊥
+  pub rows : ArePathRows g ps list
+  pub few : n ≤ 8
+  pub short : length ps + 9 + length g.types < 2 ^ 32 + n
+
+-- No point was found.
+abbrev pub IsOpen : Found → Type 0
+IsOpen Nothing = Unit {0}
+IsOpen (Break b) = Unit {0}
+IsOpen (Point point) = ⊥
 
 -- ---- Where the walk stands
 
@@ -71,14 +158,20 @@ pub record IsBranch (g : Goal) (ps : List Taken) (cells : List (List Taken)) (tr
   pub are_cells : AreCells g ps cells
   pub grown : All (HoldsAt g) cells → IsGrown g ps tree
 
+-- Where a point is found, the walk has come to a path before which it was.
+abbrev pub KnowsPoint : Goal → Found → Type 0
+KnowsPoint g Nothing = Unit {0}
+KnowsPoint g (Break b) = Unit {0}
+KnowsPoint g (Point point) = HasFalsePoint g
+
 -- A cell whose branch has this tree, and what all cells up to it have shown, where those before it have shown this.
 pub record IsJudgedCell (g : Goal) (ps : List Taken) (found next : Found) (tree : Option T.Tree) : Type 0 where
-  pub branch : IsBranch g ps (ps ∷ []) tree
+  pub branch : KnowsPoint g found → IsBranch g ps (ps ∷ []) tree
   pub shown : (cells : List (List Taken)) → IsFound g cells found → IsFound g (cells ++ (ps ∷ [])) next
 
 abbrev pub IsJudged : Goal → List Taken → Found → Cell → Type 0
 IsJudged g ps found (Judged next tree) = IsJudgedCell g ps found next tree
-IsJudged g ps found (Unknown cause) = (IsPlainAt g ps → ⊥) × EndsWalk g ps true cause
+IsJudged g ps found (Unknown cause) = EndsPiece g 0 ps cause
 
 -- The cells before a path, in order, and the trees of the branches to its left, from the start of the path on.
 pub data HasBefore (g : Goal) : List Taken → List (List Taken) → List (Option T.Tree) → Type 0 where
@@ -131,9 +224,9 @@ pub record HasRisen (g : Goal) (all : List (List Taken)) (from : List Taken) (t 
   pub after : IsAfter g (path_of t.path.items) trees all tree
   pub rest : rest_of (questions g) (path_of t.path.items) ≤ rest_of (questions g) from
 
--- The paths of the goal are so short that their rows can be counted.
+-- The paths of questions of the goal are so short that their rows can be counted, and those of eight splits behind them.
 abbrev pub AreShort : Goal → Type 0
-AreShort g = (ps : List Taken) → IsPath g ps → length ps + 1 + length g.types < 2 ^ 32
+AreShort g = (ps : List Taken) → IsQuestionPath g ps → length ps + 9 + length g.types < 2 ^ 32
 
 -- The walk has come to a path: what lies before it.
 pub record HasCome (g : Goal) (ps : List Taken) (w : Walk) : Type 0 where

@@ -1,5 +1,5 @@
 -- What the program finds at a path of the walk.
-use Rattle.std.specs.Prelude.{◌≡◌, ◌↔◌, ◌<◌, ◌^◌, List, length, Bool, true, false, Some, None, IsTrue}
+use Rattle.std.specs.Prelude.{◌≡◌, ℕ, ◌↔◌, ◌<◌, ◌^◌, List, length, Bool, true, false, Some, None, IsTrue}
 use Rattle.heylo_formula.specs.Goals.{Goal}
 use Rattle.heylo_formula.specs.declared.values.Val.{Val}
 use Rattle.linear_form.specs.Query.{Query, Taken}
@@ -15,13 +15,13 @@ use Rattle.linear_form.specs.Asked.{Answers}
 use Rattle.linear_form.specs.declared.asking.Ask as K
 use Rattle.linear_rows.specs.Solutions.{IsSolvable}
 use Rattle.linear_rows.specs.GreedyPoint.{IsGreedyPoint}
-use Rattle.linear_form.specs.Cells.{IsKept, GoesOn, IsCell}
+use Rattle.linear_form.specs.Cells.{IsKept, GoesOn}
 use Rattle.linear_elim.specs.Answers.{IsBreak}
 use Rattle.goal_answers.specs.declared.causes.Broken.{Broken}
 use Rattle.goal_answers.specs.declared.causes.Cause.{Cause}
 use Rattle.farkas_check.specs.Accepted.{IsRefutedWith}
 use Rattle.region_split.specs.Walk.{IsReached}
-use Rattle.region_split.specs.Decisions.{IsCause}
+use Rattle.region_split.specs.Decisions.{IsCause, IsLookedAt}
 use Rattle.region_split.specs.declared.solving.Solved.{Solved}
 use Rattle.region_split.specs.declared.solving.Solved.TheVariants.{Refuted, Point, Break}
 use Rattle.region_split.specs.declared.solving.Solved.TheVariants as S
@@ -53,15 +53,15 @@ pub record IsBreakAt (g : Goal) (ps : List Taken) (denied : Bool) (b : Broken) :
   pub are_rows : rows_of g ps denied ≡ Some rows
   pub broken : IsBreak rows g.types b
 
--- Where the walk may look at these rows of a front, with these cells before it: at those with the denied goal only at one of the
--- first 4,096 cells, if it isn't plain.
-abbrev pub MayLook : Goal → List Taken → Bool → List (List Taken) → Type 0
-MayLook g ps false cells = Unit {0}
-MayLook g ps true cells = (length cells < 4096) × (IsCell g ps × (IsPlainAt g ps → ⊥))
+-- The walk looks at these rows of a path, with these cells before it: at those without the denied goal at a front that it reaches, at
+-- those with it at a piece of a cell.
+abbrev pub Looks : Goal → List Taken → Bool → List (List Taken) → Type 0
+Looks g ps false cells = IsReached g ps cells
+Looks g ps true cells = (n : ℕ) × IsLookedAt g n ps cells
 
--- The cause ends the walk, where it reaches the path and looks at these rows.
+-- The cause ends the walk, where it looks at these rows.
 abbrev pub EndsWalk : Goal → List Taken → Bool → Cause → Type 0
-EndsWalk g ps denied cause = (cells : List (List Taken)) → IsReached g ps cells → MayLook g ps denied cells → nonlinear_product g ≡ None → IsCause g cause
+EndsWalk g ps denied cause = (cells : List (List Taken)) → Looks g ps denied cells → nonlinear_product g ≡ None → IsCause g cause
 
 abbrev pub IsSolved : Goal → List Taken → Bool → Solved → Type 0
 IsSolved g ps denied (Refuted ms) = IsRefutedWith g ps denied ms.items

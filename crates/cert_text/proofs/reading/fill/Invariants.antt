@@ -3,8 +3,8 @@ use Rattle.goal_answers.specs.Trees.{tree_of}
 use Rattle.cert_text.specs.internal.Reading.{fill, open_of}
 use Rattle.cert_text.proofs.reading.fill.Given as goal
 
-abbrev pub decreases-loop-question : goal.decreases-loop-question
-decreases-loop-question l = vec_len l.questions
+abbrev pub decreases-loop-step : goal.decreases-loop-step
+decreases-loop-step l = vec_len l.way
 
-abbrev pub invariant-loop-question : goal.invariant-loop-question
-invariant-loop-question l = fill (open_of l.questions.items) (tree_of l.part) ≡ fill (open_of l.fn.questions.items) (tree_of l.fn.tree)
+abbrev pub invariant-loop-step : goal.invariant-loop-step
+invariant-loop-step l = fill (open_of l.way.items) (tree_of l.part) ≡ fill (open_of l.fn.way.items) (tree_of l.fn.tree)

@@ -6,14 +6,14 @@ use Rattle.linear_form.specs.Places.{IsOn}
 use Rattle.linear_form.proofs.exported.Places.{place_stays}
 use Rattle.region_split.specs.internal.Progress.{left_of}
 use Rattle.region_split.proofs.Climbing.{left_first, left_of_second}
-use Rattle.region_split.proofs.Steps.{path_length, come_path, walk_short, with_trail, standing_still, standing_first, standing_second, deeper_walk, step_below, front_ends}
+use Rattle.region_split.proofs.Steps.{path_length, come_asked, come_path, walk_short, with_trail, standing_still, standing_first, standing_second, deeper_walk, step_below, front_ends}
 use Rattle.region_split.proofs.descending.deeper.Goals as goal
 
 pub repeated-requires-clause-path : goal.repeated-requires-clause-path
 repeated-requires-clause-path c = come_path (goal_of c.args.goal.now) (path_of c.args.walk.trail.path.items) c.args.walk c.requires.asking.stands.come
 
 pub repeated-requires-clause-short : goal.repeated-requires-clause-short
-repeated-requires-clause-short c = walk_short (goal_of c.args.goal.now) c.args.walk.trail.path.items c.requires.short (come_path (goal_of c.args.goal.now) (path_of c.args.walk.trail.path.items) c.args.walk c.requires.asking.stands.come)
+repeated-requires-clause-short c = walk_short (goal_of c.args.goal.now) c.args.walk.trail.path.items c.requires.short (come_asked (goal_of c.args.goal.now) (path_of c.args.walk.trail.path.items) c.args.walk c.requires.asking.stands.come)
 
 pub returns-in-New : goal.returns-in-New
 returns-in-New c =

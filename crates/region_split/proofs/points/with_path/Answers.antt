@@ -5,7 +5,7 @@ use Prim.Native.Nat.{suc}
 use Rattle.heylo_formula.specs.declared.values.Val.{Val}
 use Rattle.linear_form.specs.Query.{Taken, known}
 use Rattle.linear_form.specs.PlainPaths.{path_of}
-use Rattle.region_split.specs.Decisions.{value_on, with_truths}
+use Rattle.region_split.specs.PathPoints.{value_on, with_truths}
 use Rattle.region_split.proofs.points.with_path.Goals as goal
 
 push_truth : (ps : List Taken) (x : ℕ) (vs : List Val) (v : Val) → with_truths ps x (vs ++ (v ∷ [])) ≡ with_truths ps x vs ++ (value_on (known (x + length vs) ps) v ∷ [])

@@ -5,14 +5,14 @@ use Rattle.linear_form.specs.PlainPaths.{path_of, atom_of}
 use Rattle.linear_form.specs.Places.{IsOn}
 use Rattle.region_split.specs.internal.Seen.{IsEndOf}
 use Rattle.region_split.specs.internal.Trails.{IsDroppedBy}
-use Rattle.region_split.proofs.Steps.{path_length, come_path, walk_short, standing, with_trail, step_from, dropped_walk, front_ends}
+use Rattle.region_split.proofs.Steps.{path_length, come_asked, come_path, walk_short, standing, with_trail, step_from, dropped_walk, front_ends}
 use Rattle.region_split.proofs.walk.visit.Goals as goal
 
 pub look-requires-clause-path : goal.look-requires-clause-path
 look-requires-clause-path c = come_path (goal_of c.args.goal.now) (path_of c.args.walk.trail.path.items) c.args.walk c.requires.comes.come
 
 pub look-requires-clause-short : goal.look-requires-clause-short
-look-requires-clause-short c = walk_short (goal_of c.args.goal.now) c.args.walk.trail.path.items c.requires.short (come_path (goal_of c.args.goal.now) (path_of c.args.walk.trail.path.items) c.args.walk c.requires.comes.come)
+look-requires-clause-short c = walk_short (goal_of c.args.goal.now) c.args.walk.trail.path.items c.requires.short (come_asked (goal_of c.args.goal.now) (path_of c.args.walk.trail.path.items) c.args.walk c.requires.comes.come)
 
 pub look-requires-clause-comes : goal.look-requires-clause-comes
 look-requires-clause-comes c = c.requires.comes.comes

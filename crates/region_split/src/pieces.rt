@@ -1,0 +1,246 @@
+//! The pieces of a cell: where the greedy choice finds no whole number for a variable, the cell is split there.
+
+ghost use Rattle.std.specs.Prelude.{◌≡◌, ◌++◌, ◌∷◌, [], IfOk, List, map, true, ℕ};
+ghost use Prim.Native.Nat.{suc};
+ghost use Rattle.heylo_formula.specs.Goals.{Goal as PlainGoal, goal_of};
+ghost use Rattle.heylo_formula.specs.TypedGoals.{IsTypedGoal};
+ghost use Rattle.linear_form.specs.PlainPaths.{atom_of, path_of, taken_of};
+ghost use Rattle.linear_form.specs.Query.{Taken as PlainTaken, onto};
+ghost use Rattle.linear_form.specs.Splits.{split_at};
+ghost use Rattle.region_split.specs.Pieces.{IsSplitAt, first_half, second_half};
+ghost use Rattle.region_split.specs.internal.Seen.{IsBreakAt};
+ghost use Rattle.region_split.specs.internal.Progress.{IsBroken, IsClosed, IsPieceShown, IsPieceStand};
+
+use crate::front::End;
+use crate::growth::{joined_halves, leaf};
+use crate::known::{copy_row, copy_value};
+use crate::points::with_path;
+use crate::solving::{Solved, solve_rows};
+use goal_answers::{Broken, Cause, Tree};
+use heylo_formula::{Goal, Val};
+use linear_form::{Atom, RowList, Taken, next_row, split, with_denied_goal};
+use linear_rows::Row;
+use linear_values::numbers::narrow;
+use std::alloc::{AllocError, Global};
+
+/// A piece isn't split below more splits than these.
+const MOST_SPLITS: u32 = 8;
+
+/// What a piece of a cell shows.
+#[derive(Drop)]
+pub enum Piece {
+    /// It has no ends: its tree, none where the whole tree is too deep with it.
+    Closed(Option<Tree>),
+    /// Each of its ends breaks, the first one so.
+    Broke(Box<Broken>),
+    /// The point of its first end that doesn't break.
+    Given(Vec<Val>),
+    /// There are too many rows, or a number is too great.
+    Unknown(Cause),
+}
+
+/// Where a piece is split: its first half has the variable at most the bound, its second half at least the next whole number.
+#[derive(Clone, Copy)]
+pub struct Split {
+    pub variable: u32,
+    pub bound: i64,
+}
+
+/// What the piece at this path shows, after so many splits: its rows are solved, and it is split where their greedy choice breaks. Want of
+/// memory is the one error.
+#[cycle(splitting)]
+fn piece_shown(
+    alloc: Global,
+    goal: &Goal,
+    path: &[Taken],
+    rows: &[Row],
+    end: &End,
+    splits: u32,
+) -> Result<Piece, AllocError>
+    requires typed { IsTypedGoal (goal_of goal.now) }
+    requires stands { IsPieceStand (goal_of goal.now) splits (path_of path.now) rows.now end.now }
+    ensures { IfOk result (λ p. IsPieceShown (goal_of goal.now) splits (path_of path.now) p) }
+{
+    let own = copy_rows(alloc, rows)?;
+    let RowList::Rows(list) = with_denied_goal(alloc, goal, path, &end.stated, &end.found, own)?
+    else {
+        return Ok(Piece::Unknown(Cause::Bits));
+    };
+    match solve_rows(alloc, &list, &goal.vars)? {
+        Solved::Refuted(multipliers) => {
+            Ok(Piece::Closed(leaf(Tree::Farkas(multipliers), path.len())))
+        }
+        Solved::Point(point) => Ok(Piece::Given(with_path(alloc, path, &point)?)),
+        Solved::Break(broken) => broken_piece(alloc, goal, path, rows, end, splits, broken),
+        Solved::Unknown(cause) => Ok(Piece::Unknown(cause)),
+    }
+}
+
+/// What the piece at this path shows, after so many splits, where the greedy choice for its rows breaks so. Want of memory is the one
+/// error.
+#[cycle(splitting)]
+pub fn broken_piece(
+    alloc: Global,
+    goal: &Goal,
+    path: &[Taken],
+    rows: &[Row],
+    end: &End,
+    splits: u32,
+    broken: Broken,
+) -> Result<Piece, AllocError>
+    requires typed { IsTypedGoal (goal_of goal.now) }
+    requires stands { IsPieceStand (goal_of goal.now) splits (path_of path.now) rows.now end.now }
+    requires breaks { IsBreakAt (goal_of goal.now) (path_of path.now) true broken }
+    ensures { IfOk result (λ p. IsPieceShown (goal_of goal.now) splits (path_of path.now) p) }
+{
+    if splits >= MOST_SPLITS {
+        return Ok(Piece::Broke(Box::new(alloc, broken)?));
+    }
+    match narrow(broken.low.floor()) {
+        Some(bound) => {
+            let at = Split {
+                variable: broken.var,
+                bound,
+            };
+            halves(alloc, goal, path, rows, end, splits, &at)
+        }
+        None => Ok(Piece::Unknown(Cause::Bits)),
+    }
+}
+
+/// What a piece shows that is split here: what its first half shows, and then what its second half does. Behind a point nothing more is
+/// looked at. Want of memory is the one error.
+#[cycle(splitting)]
+fn halves(
+    alloc: Global,
+    goal: &Goal,
+    path: &[Taken],
+    rows: &[Row],
+    end: &End,
+    splits: u32,
+    at: &Split,
+) -> Result<Piece, AllocError>
+    requires typed { IsTypedGoal (goal_of goal.now) }
+    requires stands { IsPieceStand (goal_of goal.now) splits (path_of path.now) rows.now end.now }
+    requires split { IsSplitAt (goal_of goal.now) splits (path_of path.now) at.now.variable at.now.bound }
+    ensures { IfOk result (λ p. IsPieceShown (goal_of goal.now) splits (path_of path.now) p) }
+{
+    match half(alloc, goal, path, rows, end, splits, at, true)? {
+        Piece::Closed(tree) => {
+            let second = half(alloc, goal, path, rows, end, splits, at, false)?;
+            behind_closed(alloc, at, tree, second)
+        }
+        Piece::Broke(first) => {
+            let second = half(alloc, goal, path, rows, end, splits, at, false)?;
+            Ok(behind_broken(at, first, second))
+        }
+        Piece::Given(point) => Ok(Piece::Given(point)),
+        Piece::Unknown(cause) => Ok(Piece::Unknown(cause)),
+    }
+}
+
+/// What a piece shows whose first half has no ends, but this tree, and whose second half shows this. Want of memory is the one error.
+fn behind_closed(
+    alloc: Global,
+    at: &Split,
+    tree: Option<Tree>,
+    second: Piece,
+) -> Result<Piece, AllocError>
+    ensures { (g : PlainGoal) (n : ℕ) (ps : List PlainTaken) → IsSplitAt g n ps at.now.variable at.now.bound → IsClosed g (suc n) (first_half ps at.now.variable at.now.bound) tree → IsPieceShown g (suc n) (second_half ps at.now.variable at.now.bound) second → IfOk result (λ p. IsPieceShown g n ps p) }
+{
+    match second {
+        Piece::Closed(other) => Ok(Piece::Closed(joined_halves(alloc, at, tree, other)?)),
+        Piece::Broke(broken) => Ok(Piece::Broke(broken)),
+        Piece::Given(point) => Ok(Piece::Given(point)),
+        Piece::Unknown(cause) => Ok(Piece::Unknown(cause)),
+    }
+}
+
+/// What a piece shows whose first half breaks so, and whose second half shows this.
+fn behind_broken(at: &Split, first: Box<Broken>, second: Piece) -> Piece
+    ensures { (g : PlainGoal) (n : ℕ) (ps : List PlainTaken) → IsSplitAt g n ps at.now.variable at.now.bound → IsBroken g (suc n) (first_half ps at.now.variable at.now.bound) first.value → IsPieceShown g (suc n) (second_half ps at.now.variable at.now.bound) second → IsPieceShown g n ps result }
+{
+    match second {
+        Piece::Closed(_) => Piece::Broke(first),
+        Piece::Broke(_) => Piece::Broke(first),
+        Piece::Given(point) => Piece::Given(point),
+        Piece::Unknown(cause) => Piece::Unknown(cause),
+    }
+}
+
+/// What one half of a piece shows that is split here: the first one, or the second one. Want of memory is the one error.
+#[cycle(splitting)]
+fn half(
+    alloc: Global,
+    goal: &Goal,
+    path: &[Taken],
+    rows: &[Row],
+    end: &End,
+    splits: u32,
+    at: &Split,
+    held: bool,
+) -> Result<Piece, AllocError>
+    requires typed { IsTypedGoal (goal_of goal.now) }
+    requires stands { IsPieceStand (goal_of goal.now) splits (path_of path.now) rows.now end.now }
+    requires split { IsSplitAt (goal_of goal.now) splits (path_of path.now) at.now.variable at.now.bound }
+    ensures { IfOk result (λ p. IsPieceShown (goal_of goal.now) (suc splits) (onto (path_of path.now) (split_at at.now.variable at.now.bound) held) p) }
+{
+    let atom = split(alloc, at.variable, at.bound)?;
+    let longer = with_answer(alloc, path, Taken { atom, held })?;
+    let own = copy_rows(alloc, rows)?;
+    match next_row(alloc, goal, &longer, own)? {
+        RowList::Rows(more) => piece_shown(alloc, goal, &longer, &more, end, splits + 1),
+        RowList::Bits => Ok(Piece::Unknown(Cause::Bits)),
+    }
+}
+
+/// A path with one more answer. Want of memory is the one error.
+fn with_answer(alloc: Global, path: &[Taken], answer: Taken) -> Result<Vec<Taken>, AllocError>
+    ensures { IfOk result (λ longer. path_of longer.items ≡ path_of path.now ++ (taken_of answer ∷ [])) }
+{
+    let mut longer = copy_path(alloc, path)?;
+    longer.push(answer)?;
+    Ok(longer)
+}
+
+/// The same path again. Want of memory is the one error.
+fn copy_path(alloc: Global, path: &[Taken]) -> Result<Vec<Taken>, AllocError>
+    ensures { IfOk result (λ made. map taken_of made.items ≡ map taken_of path.now) }
+{
+    let mut made = Vec::new(alloc);
+    for taken in path {
+        made.push(copy_answer(alloc, taken)?)?;
+    }
+    Ok(made)
+}
+
+/// The same answer again. Want of memory is the one error.
+fn copy_answer(alloc: Global, taken: &Taken) -> Result<Taken, AllocError>
+    ensures { IfOk result (λ made. taken_of made ≡ taken_of taken.now) }
+{
+    Ok(Taken {
+        atom: copy_atom(alloc, &taken.atom)?,
+        held: taken.held,
+    })
+}
+
+/// The same question again. Want of memory is the one error.
+fn copy_atom(alloc: Global, atom: &Atom) -> Result<Atom, AllocError>
+    ensures { IfOk result (λ made. atom_of made ≡ atom_of atom.now) }
+{
+    match atom {
+        Atom::Truth(x) => Ok(Atom::Truth(*x)),
+        Atom::Row(left, strict) => Ok(Atom::Row(copy_value(alloc, left)?, *strict)),
+    }
+}
+
+/// The same rows again. Want of memory is the one error.
+fn copy_rows(alloc: Global, rows: &[Row]) -> Result<Vec<Row>, AllocError>
+    ensures { IfOk result (λ made. made.items ≡ rows.now) }
+{
+    let mut made = Vec::new(alloc);
+    for row in rows {
+        made.push(copy_row(alloc, row)?)?;
+    }
+    Ok(made)
+}
