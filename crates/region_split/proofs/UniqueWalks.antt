@@ -93,8 +93,8 @@ pieces_alike g _ _ _ _ e h (IsPieceTree.halves n ps x m t u s a b) (IsPieceTree.
 pieces_alike g _ _ _ _ e h (IsPieceTree.halves n ps x m t u s a b) (IsPieceTree.halves _ _ y k v w i c d) =
     let o = same_split g n ps x y m k s i in
     subst (λ z. AreAlike (Tree.whole x m t u) (Tree.whole z k v w)) (sym o.var) (subst (λ z. AreAlike (Tree.whole x m t u) (Tree.whole x z v w)) (sym o.bound) (AreAlike.whole x m t u v w
-        (pieces_alike g (suc n) (first_half ps x m) t v e (end_past g ps (split_at x m) true e h) a (at_same (λ qs. IsPieceTree g (suc n) qs v) (first_half ps) x y m k o c))
-        (pieces_alike g (suc n) (second_half ps x m) u w e (end_past g ps (split_at x m) false e h) b (at_same (λ qs. IsPieceTree g (suc n) qs w) (second_half ps) x y m k o d))))
+    (pieces_alike g (suc n) (first_half ps x m) t v e (end_past g ps (split_at x m) true e h) a (at_same (λ qs. IsPieceTree g (suc n) qs v) (first_half ps) x y m k o c))
+    (pieces_alike g (suc n) (second_half ps x m) u w e (end_past g ps (split_at x m) false e h) b (at_same (λ qs. IsPieceTree g (suc n) qs w) (second_half ps) x y m k o d))))
 
 pub trees_alike : TreesAreAlike
 trees_alike g _ _ _ (IsWalkTree.dropped ps ms d r) (IsWalkTree.dropped _ ns c s) = AreAlike.farkas ms ns
