@@ -1,5 +1,5 @@
 -- Files that programs of guarded commands become, from the bytes of these, and the faults of programs.
-use Rattle.guarded_runs.specs.EqualSums.{GuardedSumsAreEqual, IsGuardedBound}
+use Rattle.pgcl_front.specs.EqualSums.{GuardedSumsAreEqual, IsGuardedBound}
 use Rattle.heyvl_files.specs.declared.sources.SourceStop.TheVariants.{Fault, Memory}
 use Rattle.heyvl_files.specs.declared.sources.SourceStop.{SourceStop}
 use Rattle.heyvl_places.specs.declared.spans.Span.{Span}
@@ -8,8 +8,8 @@ use Rattle.heyvl_print.specs.WithoutPlaces.{SameButPlaces}
 use Rattle.heyvl_syntax.specs.Grammar.{Spells}
 use Rattle.heyvl_syntax.specs.Procedures.{Procedure}
 use Rattle.heyvl_types.specs.Files.{first_fault, resolved}
-use Rattle.pgcl_front.specs.Programs.{ProgramTree}
-use Rattle.pgcl_front.specs.Sources.{IsPgclFault, IsPgclSource}
+use Rattle.guarded_commands.specs.Programs.{ProgramTree}
+use Rattle.guarded_commands.specs.Sources.{IsPgclFault, IsPgclSource}
 use Rattle.run_machine.specs.Bound.{Bound}
 use Rattle.std.specs.Prelude.{List, None, Some, ◌≡◌, ℕ}
 

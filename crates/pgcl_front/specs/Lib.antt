@@ -1,11 +1,4 @@
-pub mod Grammar
-pub mod Laws
-pub mod PlainCommands
-pub mod ProgramFaults
-pub mod Programs
-pub mod ReservedNames
-pub mod Sources
-pub mod Translation
-pub mod TranslationFaults
-pub mod Translations
-pub mod internal
+pub mod EqualSums
+pub mod GuardedRuns
+pub mod GuardedSteps
+pub mod Readings
