@@ -1,4 +1,4 @@
-//! The front end of the guarded command language with probabilistic and nondeterministic choice: its programs, the reading of them
+//! The guarded command language with probabilistic and nondeterministic choice: its programs, the reading of them
 //! from tokens, and the files of HeyVL that they become.
 #![tactic(auto)]
 

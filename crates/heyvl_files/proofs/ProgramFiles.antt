@@ -6,9 +6,9 @@ use Rattle.heyvl_files.specs.declared.sources.SourceStop.{SourceStop}
 use Rattle.heyvl_places.specs.declared.spans.Span.{Span}
 use Rattle.heyvl_types.specs.Files.{first_fault}
 use Rattle.heyvl_types.specs.Findings.{Finding}
-use Rattle.guarded_commands.specs.Sources.IsPgclFault.{unlexed}
-use Rattle.guarded_commands.specs.Sources.{IsPgclFault, PgclFaultIsUnique, PgclSourceIsUnique, PgclSourcesHaveNoFault}
-use Rattle.guarded_commands.specs.Translations.{TranslationsSpell}
+use Rattle.pgcl_front.specs.Sources.IsPgclFault.{unlexed}
+use Rattle.pgcl_front.specs.Sources.{IsPgclFault, PgclFaultIsUnique, PgclSourceIsUnique, PgclSourcesHaveNoFault}
+use Rattle.pgcl_front.specs.Translations.{TranslationsSpell}
 use Rattle.heyvl_syntax.specs.Tokens.{Stops}
 use Rattle.std.proofs.Common.{List, None, Option, Some, ap, sym, ◌∙◌, ◌≡◌, ℕ}
 

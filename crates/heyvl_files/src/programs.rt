@@ -3,16 +3,18 @@
 ghost use Rattle.heyvl_files.specs.Programs.{HasProgramSums, IsProgramFile, IsProgramStop, IsTranslationStop, ProgramFaultIsUnique, ProgramFileIsUnique, ProgramFilesAreSpelled, ProgramFilesHaveNoFault, ProgramFilesHaveSums};
 ghost use Rattle.heyvl_files.specs.Sources.{file_limit};
 ghost use Rattle.heyvl_syntax.specs.Procedures.{procedures};
-ghost use Rattle.guarded_commands.specs.Sources.{IsPgclSource};
+ghost use Rattle.pgcl_front.specs.Sources.{IsPgclSource};
 ghost use Rattle.std.specs.Prelude.{IfOk, MatchResult, length, ◌≤◌};
 
 use crate::fault_lines::token_place;
 use crate::print_laws::spelling_is_unique;
 use crate::sources::SourceStop;
-use guarded_commands::{PgclStop, pgcl_sources_are_unique, translate, translations_are_spelled};
 use heyvl_syntax::{File, LexStop, lex};
 use heyvl_types::{ResolveStop, resolve};
-use pgcl_front::{bounds_carry_over, sums_are_equal};
+use pgcl_front::{
+    PgclStop, bounds_carry_over, pgcl_sources_are_unique, sums_are_equal, translate,
+    translations_are_spelled,
+};
 use placeless_files::places_do_not_run;
 use std::alloc::Global;
 

@@ -10,5 +10,6 @@ pub mod Simulation
 pub mod Beginnings
 pub mod MainSums
 pub mod MainBounds
+pub mod TranslatedSums
 pub mod exported
 mod Examples

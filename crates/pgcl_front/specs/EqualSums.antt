@@ -41,6 +41,16 @@ IsGuardedBound program =
     (s : List Val) → IsGuardedState program.declarations s → (n : ℕ) (tree : Tree)
     → program_sum program n s tree ≤ᵛ amount (own_scope program.declarations) program.pre s
 
+-- The file has the sums of the program: those of its first procedure, which is `main`, are the program's; and where the bound of this
+-- procedure holds, each sum of the program is at most its pre.
+pub record HasSumsOf (program : ProgramTree) (file : List Procedure) : Type 0 where
+  pub equal : GuardedSumsAreEqual program file
+  pub bounded : Bound (resolved file) 0 → IsGuardedBound program
+
+-- Where the tokens are translated to this file, and it has no static fault, it has the sums of the program that they spell.
+abbrev pub HasTranslatedSums : List Token → List Procedure → Type 0
+HasTranslatedSums tokens file = (t : IsTranslation tokens file) → first_fault file ≡ None → HasSumsOf t.program file
+
 -- The sums of each program that is translated to a file without a static fault equal those of the coproc that it becomes.
 abbrev pub SumsAreEqual : Type 0
 SumsAreEqual = (tokens : List Token) (file : List Procedure) (t : IsTranslation tokens file) → first_fault file ≡ None → GuardedSumsAreEqual t.program file

@@ -1,3 +1,13 @@
+pub use Rattle.guarded_commands.specs.Grammar
+pub use Rattle.guarded_commands.specs.Laws
+pub use Rattle.guarded_commands.specs.PlainCommands
+pub use Rattle.guarded_commands.specs.ProgramFaults
+pub use Rattle.guarded_commands.specs.Programs
+pub use Rattle.guarded_commands.specs.ReservedNames
+pub use Rattle.guarded_commands.specs.Sources
+pub use Rattle.guarded_commands.specs.Translation
+pub use Rattle.guarded_commands.specs.TranslationFaults
+pub use Rattle.guarded_commands.specs.Translations
 pub mod EqualSums
 pub mod GuardedRuns
 pub mod GuardedSteps

@@ -5,9 +5,9 @@ use Rattle.heyvl_syntax.specs.SourceFaults.{token_place}
 use Rattle.heyvl_syntax.specs.Tokens.{Stops}
 use Rattle.heyvl_syntax.specs.declared.tokens.Token.{Token}
 use Rattle.heyvl_files.proofs.programs.translated_file.Goals as goal
-use Rattle.guarded_commands.specs.Sources.IsPgclFault.{untranslated}
-use Rattle.guarded_commands.specs.TranslationFaults.{IsTranslationFault}
-use Rattle.guarded_commands.specs.Translations.{IsTranslation}
+use Rattle.pgcl_front.specs.Sources.IsPgclFault.{untranslated}
+use Rattle.pgcl_front.specs.TranslationFaults.{IsTranslationFault}
+use Rattle.pgcl_front.specs.Translations.{IsTranslation}
 use Rattle.std.proofs.Common.{List, ap, arith, subst, ◌∙◌, ◌≡◌}
 
 pub returns-in-Err-Fault : goal.returns-in-Err-Fault
