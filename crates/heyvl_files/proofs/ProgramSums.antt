@@ -1,11 +1,11 @@
 -- The file that a program becomes has its sums, and so has each file that its text spells.
-use Rattle.guarded_runs.specs.EqualSums.{BoundsCarryOver, SumsAreEqual}
 use Rattle.heyvl_files.specs.PrintLaws.{SpellingIsUnique}
-use Rattle.heyvl_files.specs.Programs.{HasSumsOf, IsProgramFile, ProgramFilesAreSpelled, ProgramFilesHaveSums, program_of}
+use Rattle.heyvl_files.specs.Programs.{IsProgramFile, ProgramFilesAreSpelled, ProgramFilesHaveSums, program_of}
 use Rattle.heyvl_print.specs.Canonical.{canonical_text}
 use Rattle.heyvl_print.specs.WithoutPlaces.{SameButPlaces}
 use Rattle.heyvl_syntax.specs.Grammar.{Spells}
 use Rattle.heyvl_syntax.specs.Procedures.{Procedure}
+use Rattle.pgcl_front.specs.EqualSums.{BoundsCarryOver, HasSumsOf, SumsAreEqual}
 use Rattle.pgcl_front.specs.Programs.{ProgramTree}
 use Rattle.placeless_files.specs.PlacelessRuns.{BoundsIgnorePlaces, StatesIgnorePlaces, SumsIgnorePlaces}
 use Rattle.std.proofs.Common.{List, length, subst, sym, true, ◌+◌, ◌∙◌, ℕ}

@@ -1,5 +1,4 @@
 -- Files that programs of guarded commands become, from the bytes of these, and the faults of programs.
-use Rattle.guarded_runs.specs.EqualSums.{GuardedSumsAreEqual, IsGuardedBound}
 use Rattle.heyvl_files.specs.declared.sources.SourceStop.TheVariants.{Fault, Memory}
 use Rattle.heyvl_files.specs.declared.sources.SourceStop.{SourceStop}
 use Rattle.heyvl_places.specs.declared.spans.Span.{Span}
@@ -7,10 +6,10 @@ use Rattle.heyvl_print.specs.Canonical.{canonical_text}
 use Rattle.heyvl_print.specs.WithoutPlaces.{SameButPlaces}
 use Rattle.heyvl_syntax.specs.Grammar.{Spells}
 use Rattle.heyvl_syntax.specs.Procedures.{Procedure}
-use Rattle.heyvl_types.specs.Files.{first_fault, resolved}
+use Rattle.heyvl_types.specs.Files.{first_fault}
+use Rattle.pgcl_front.specs.EqualSums.{HasSumsOf, IsGuardedBound}
 use Rattle.pgcl_front.specs.Programs.{ProgramTree}
 use Rattle.pgcl_front.specs.Sources.{IsPgclFault, IsPgclSource}
-use Rattle.run_machine.specs.Bound.{Bound}
 use Rattle.std.specs.Prelude.{List, None, Some, ◌≡◌, ℕ}
 
 -- The bytes spell a program, it becomes this file, and the file has no static fault.
@@ -25,12 +24,6 @@ program_of bytes file p = p.source.translation.program
 -- Each sum of this program is at most its pre.
 abbrev pub IsProgramBounded : (bytes : List ℕ) (file : List Procedure) → IsProgramFile bytes file → Type 0
 IsProgramBounded bytes file p = IsGuardedBound (program_of bytes file p)
-
--- The file has the sums of the program: those of `main`, its first procedure, are the program's; and where the bound of `main` holds,
--- each sum of the program is at most its pre.
-pub record HasSumsOf (program : ProgramTree) (file : List Procedure) : Type 0 where
-  pub equal : GuardedSumsAreEqual program file
-  pub bounded : Bound (resolved file) 0 → IsGuardedBound program
 
 -- The file that was made has the sums of the program, and so has each file that its canonical text spells.
 pub record KeepsSumsOf (program : ProgramTree) (file : List Procedure) : Type 0 where

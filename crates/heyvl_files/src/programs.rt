@@ -9,10 +9,12 @@ ghost use Rattle.std.specs.Prelude.{IfOk, MatchResult, length, ◌≤◌};
 use crate::fault_lines::token_place;
 use crate::print_laws::spelling_is_unique;
 use crate::sources::SourceStop;
-use guarded_runs::{bounds_carry_over, sums_are_equal};
 use heyvl_syntax::{File, LexStop, lex};
 use heyvl_types::{ResolveStop, resolve};
-use pgcl_front::{PgclStop, pgcl_sources_are_unique, translate, translations_are_spelled};
+use pgcl_front::{
+    PgclStop, bounds_carry_over, pgcl_sources_are_unique, sums_are_equal, translate,
+    translations_are_spelled,
+};
 use placeless_files::places_do_not_run;
 use std::alloc::Global;
 

@@ -1,17 +1,15 @@
-mod AgainTexts
-mod CommandLaws
-mod CommandsAgain
-mod Endings
-mod ExpressionsAgain
-mod MadeWords
-mod PlainCommandsAre
-mod ProgramClauses
-mod ProgramLaws
-mod ProgramRows
-mod ProgramsAgain
-mod Quantifiers
-mod ReservedPlaces
-mod ReservedRows
-mod SourceClauses
-mod TranslationClauses
-mod TranslationRows
+pub mod QuietTokens
+pub mod QuietPrograms
+pub mod Meanings
+pub mod Scopes
+pub mod Probabilities
+pub mod Matching
+pub mod Translating
+pub mod Equations
+pub mod Simulation
+pub mod Beginnings
+pub mod MainSums
+pub mod MainBounds
+pub mod TranslatedSums
+pub mod exported
+mod Examples

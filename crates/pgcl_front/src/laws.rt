@@ -1,36 +1,15 @@
-//! Laws of the grammar of programs and of their translation.
+//! The laws. Each function does nothing: its contract is the law.
 
-ghost use Rattle.pgcl_front.specs.Laws.{ProgramFaultIsUnique, ProgramIsUnique};
-ghost use Rattle.pgcl_front.specs.TranslationFaults.{TranslationFaultIsUnique, TranslationsHaveNoFault};
-ghost use Rattle.pgcl_front.specs.Translations.{TranslationIsUnique, TranslationsSpell};
+ghost use Rattle.pgcl_front.specs.EqualSums.{BoundsCarryOver, SumsAreEqual};
 
-use heyvl_print::{printable_files_are_spelled, text_ignores_places};
-
-/// Tokens spell at most one program.
-pub fn program_is_unique()
-    ensures { ProgramIsUnique }
+/// The upper sums of a program's runs, by the steps of guarded commands, are those of the runs of the coproc that it becomes, where
+/// nothing is found against that: from every state, for every number of steps and under every scheduler, with one step more for each
+/// declared variable.
+pub fn sums_are_equal()
+    ensures { SumsAreEqual }
 {}
 
-/// Tokens have at most one first fault as a program.
-pub fn program_fault_is_unique()
-    ensures { ProgramFaultIsUnique }
+/// Where the bound of that coproc holds, every such sum of the program is at most its pre.
+pub fn bounds_carry_over()
+    ensures { BoundsCarryOver }
 {}
-
-/// Some tokens are translated to at most one file.
-pub fn translation_is_unique()
-    ensures { TranslationIsUnique }
-{}
-
-/// Some tokens have at most one first fault in translation, and those that are translated have none.
-pub fn translation_fault_is_unique()
-    ensures unique { TranslationFaultIsUnique }
-    ensures none { TranslationsHaveNoFault }
-{}
-
-/// The canonical text of a file that tokens are translated to spells this file again, up to places.
-pub fn translations_are_spelled()
-    ensures { TranslationsSpell }
-{
-    printable_files_are_spelled();
-    text_ignores_places();
-}

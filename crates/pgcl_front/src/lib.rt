@@ -1,28 +1,14 @@
-//! The front end of the guarded command language with probabilistic and nondeterministic choice: its programs, the reading of them
-//! from tokens, and the files of HeyVL that they become.
+//! The front end of the guarded command language with probabilistic and nondeterministic choice: the file of HeyVL that the tokens of a
+//! program become, the runs of the program, and that their sums are those of this file.
 #![tactic(auto)]
 
-mod commands;
-mod declarations;
 mod laws;
-mod lines;
-mod programs;
-mod reading;
-mod reserved;
-mod source_laws;
-mod starts;
-mod statements;
-mod stops;
 mod translation;
-mod tree_laws;
 
-pub use laws::{
-    program_fault_is_unique, program_is_unique, translation_fault_is_unique, translation_is_unique,
-    translations_are_spelled,
+pub use guarded_commands::{
+    Command, Declaration, PgclStop, Program, VariableType, commands_are_plain, parse_program,
+    pgcl_sources_are_unique, program_fault_is_unique, program_is_unique,
+    translation_fault_is_unique, translation_is_unique, translations_are_spelled,
 };
-pub use programs::{Command, Declaration, Program, VariableType};
-pub use reading::parse_program;
-pub use source_laws::pgcl_sources_are_unique;
-pub use stops::PgclStop;
+pub use laws::{bounds_carry_over, sums_are_equal};
 pub use translation::translate;
-pub use tree_laws::commands_are_plain;

@@ -1,0 +1,17 @@
+mod AgainTexts
+mod CommandLaws
+mod CommandsAgain
+mod Endings
+mod ExpressionsAgain
+mod MadeWords
+mod PlainCommandsAre
+mod ProgramClauses
+mod ProgramLaws
+mod ProgramRows
+mod ProgramsAgain
+mod Quantifiers
+mod ReservedPlaces
+mod ReservedRows
+mod SourceClauses
+mod TranslationClauses
+mod TranslationRows

@@ -1,0 +1,11 @@
+pub mod Grammar
+pub mod Laws
+pub mod PlainCommands
+pub mod ProgramFaults
+pub mod Programs
+pub mod ReservedNames
+pub mod Sources
+pub mod Translation
+pub mod TranslationFaults
+pub mod Translations
+pub mod internal

@@ -1,0 +1,131 @@
+//! Reading whole programs.
+
+ghost use Rattle.heyvl_parse.specs.readers.Combinators.{is_key, lead};
+ghost use Rattle.heyvl_parse.specs.readers.PartStops.{IsPartStop};
+ghost use Rattle.heyvl_parse.specs.readers.Results.{Gives};
+ghost use Rattle.heyvl_syntax.specs.Expressions.{expression};
+ghost use Rattle.heyvl_syntax.specs.SourceFaults.{IsLight};
+ghost use Rattle.heyvl_syntax.specs.declared.keys.Key.{Key};
+ghost use Rattle.guarded_commands.specs.Grammar.{IsProg, IsProgram, is_quantifier, quantifier_count};
+ghost use Rattle.guarded_commands.specs.ProgramFaults.{IsPgclMemory, IsPgclStop, IsProgramFault, IsThisPgclStop};
+ghost use Rattle.guarded_commands.specs.Programs.{ProgramTree, program_tree};
+ghost use Rattle.guarded_commands.specs.internal.Commands.{ended_expr};
+ghost use Rattle.guarded_commands.specs.internal.Programs.{parts, parts_tree, program};
+ghost use Rattle.std.specs.Prelude.{[], IfErr, IfOk, MatchResult, length, take, ◌+◌, ◌<◌, ◌^◌, ◌≡◌, ◌≤◌, ℕ};
+
+use crate::commands::{commands, ended_expr};
+use crate::declarations::declarations;
+use crate::programs::Program;
+use crate::stops::PgclStop;
+use heyvl_parse::{PartStop, expect_key, overload_at};
+use heyvl_syntax::{Expr, Key, Token, TokenKind};
+use std::alloc::Global;
+
+/// The key, an expression and `;`.
+fn clause(alloc: Global, key: Key, tokens: &[Token]) -> Result<(Expr, &[Token]), PartStop>
+    ensures value { (n : ℕ) → length tokens.now < n → Gives (λ x. expression x.0) (λ x. x.1.now) result (lead (is_key key) (ended_expr n) tokens.now) }
+    ensures shorter { IfOk result (λ x. length x.1.now < length tokens.now) }
+{
+    let (_, rest) = expect_key(key, tokens)?;
+    ended_expr(alloc, rest)
+}
+
+/// The program that is all of the tokens, quantifiers allowed.
+fn program(alloc: Global, tokens: &[Token]) -> Result<Program, PartStop>
+    ensures value { (n : ℕ) → length tokens.now < n → Gives program_tree (λ x. []) result (program n tokens.now) }
+{
+    let (declarations, rest) = declarations(alloc, tokens)?;
+    let (pre, rest) = clause(alloc, Key::Pre, rest)?;
+    let (post, rest) = clause(alloc, Key::Post, rest)?;
+    let (body, rest) = commands(alloc, rest)?;
+    match rest.split_first() {
+        None => Ok(Program {
+            declarations,
+            pre,
+            post,
+            body,
+        }),
+        Some(_) => Err(PartStop::Fault(rest.len())),
+    }
+}
+
+/// The program that the tokens spell, quantifiers allowed, or the least index at which none goes on.
+fn spelled(alloc: Global, tokens: &[Token]) -> Result<Program, PartStop>
+    ensures found { IfOk result (λ found. IsProg (program_tree found) tokens.now) }
+    ensures fault { IfErr result (λ stop. IsPartStop IsProg tokens.now stop) }
+{
+    program(alloc, tokens)
+}
+
+fn is_quantifier(kind: &TokenKind) -> bool
+    ensures { result ≡ is_quantifier kind.now }
+{
+    match kind {
+        TokenKind::Key(key) => match key {
+            Key::Sup | Key::Inf => true,
+            _ => false,
+        },
+        TokenKind::Word(_) => false,
+        TokenKind::Number(_) => false,
+        TokenKind::Mark(_) => false,
+    }
+}
+
+/// The index of the first `sup` or `inf`, or the number of tokens where there is none.
+fn quantifier_at(tokens: &[Token]) -> usize
+    ensures inside { result ≤ length tokens.now }
+    ensures before { quantifier_count (take result tokens.now) ≡ 0 }
+    ensures here { result < length tokens.now → quantifier_count (take (result + 1) tokens.now) ≡ 1 }
+{
+    'tokens: for (index, token) in tokens.iter().enumerate() {
+        if is_quantifier(&token.kind) {
+            return index;
+        }
+    }
+    tokens.len()
+}
+
+/// The program that the tokens spell, or the least index at which none goes on.
+fn unquantified(alloc: Global, tokens: &[Token]) -> Result<Program, PartStop>
+    ensures found { IfOk result (λ found. IsProgram (program_tree found) tokens.now) }
+    ensures fault { IfErr result (λ stop. IsPartStop IsProgram tokens.now stop) }
+{
+    let (front, behind) = tokens.split_at(quantifier_at(tokens));
+    match spelled(alloc, front) {
+        Err(PartStop::Memory(error)) => Err(PartStop::Memory(error)),
+        Err(PartStop::Fault(left)) => Err(PartStop::Fault(left + behind.len())),
+        Ok(found) => match behind.split_first() {
+            None => Ok(found),
+            Some(_) => Err(PartStop::Fault(behind.len())),
+        },
+    }
+}
+
+/// The program that the tokens spell, or their first fault.
+fn program_or_fault(alloc: Global, tokens: &[Token]) -> Result<Program, PgclStop>
+    requires { length tokens.now < 2 ^ 31 }
+    ensures found { IfOk result (λ found. IsLight tokens.now × IsProgram (program_tree found) tokens.now) }
+    ensures fault { IfErr result (λ stop. IsPgclStop tokens.now stop) }
+{
+    if let Some(index) = overload_at(alloc, tokens)? {
+        return Err(PgclStop::Fault(5, index as u32));
+    }
+    match unquantified(alloc, tokens) {
+        Ok(found) => Ok(found),
+        Err(PartStop::Memory(error)) => Err(PgclStop::Memory(error)),
+        Err(PartStop::Fault(left)) => Err(PgclStop::Fault(30, (tokens.len() - left) as u32)),
+    }
+}
+
+/// The program of guarded commands that the tokens spell, where they are fewer than 2^31. It is refused where the tokens have a fault
+/// as a program, with the first one of them: 5 where the load passes 200, and else 30 at the first token with which no program goes
+/// on, a `sup` or `inf` among them, or at the number of tokens where they end too early; and for want of memory.
+pub fn parse_program(alloc: Global, tokens: &[Token]) -> Result<Program, PgclStop>
+    requires { length tokens.now < 2 ^ 31 }
+    ensures found { IfOk result (λ found. IsLight tokens.now × IsProgram (program_tree found) tokens.now) }
+    ensures only { (program : ProgramTree) → IsLight tokens.now → IsProgram program tokens.now → MatchResult result (λ found. program_tree found ≡ program) (λ stop. IsPgclMemory stop) }
+    ensures fault { IfErr result (λ stop. IsPgclStop tokens.now stop) }
+    ensures only_fault { (number i : ℕ) → IsProgramFault tokens.now number i → MatchResult result (λ _. ⊥) (λ stop. IsThisPgclStop number i stop) }
+{
+    program_or_fault(alloc, tokens)
+}

@@ -1,0 +1,100 @@
+//! The statements that commands become.
+
+ghost use Rattle.heyvl_syntax.specs.Expressions.{Expression, expression};
+ghost use Rattle.heyvl_syntax.specs.Statements.{RightSide, Statement, block, statement};
+ghost use Rattle.guarded_commands.specs.Programs.{block_tree, command_tree};
+ghost use Rattle.guarded_commands.specs.Translation.{arm, lines, pick_name, picks, picks_in, statements};
+ghost use Rattle.std.specs.Prelude.{[], IfOk, OnOk, map, ◌+◌, ◌≡◌, ◌∷◌};
+
+use crate::lines::{assignment, branch, enclosed, nothing, picked, repetition, reward, toss};
+use crate::programs::Command;
+use heyvl_places::Span;
+use heyvl_syntax::{Expr, Stmt, TypeName};
+use std::alloc::{AllocError, Global};
+
+/// The number of the choice that comes now. The next one has the number behind it.
+fn next_pick(next: &mut u32) -> Result<u32, AllocError>
+    ensures given { IfOk result (λ number. number ≡ next.old) }
+    ensures counted { OnOk result (next.new ≡ next.old + 1) }
+{
+    let number = *next;
+    *next = number.checked_add(1).ok_or(AllocError)?;
+    Ok(number)
+}
+
+/// This statement alone.
+fn single(alloc: Global, one: Stmt) -> Result<Vec<Stmt>, AllocError>
+    ensures { IfOk result (λ made. map statement made.items ≡ statement one ∷ []) }
+{
+    Ok(vec![in alloc; one]?)
+}
+
+/// The statements of a choice of the first block with this probability, and the second else, which has this number.
+fn mixed(
+    alloc: Global,
+    number: u32,
+    probability: &Expr,
+    left: Vec<Stmt>,
+    right: Vec<Stmt>,
+    span: Span,
+) -> Result<Vec<Stmt>, AllocError>
+    ensures { IfOk result (λ made. map statement made.items ≡ Statement.var (pick_name number) TypeName.Bool (Some (RightSide.flip (expression probability.now))) span
+        ∷ Statement.branch (arm (Expression.name (pick_name number) span) (block left.items)) (block right.items) span ∷ []) }
+{
+    let toss = toss(alloc, number, probability, span)?;
+    let guard = picked(alloc, number, span)?;
+    let chosen = branch(alloc, guard, left, right, span)?;
+    Ok(vec![in alloc; toss, chosen]?)
+}
+
+/// The statements of a command. Its first probabilistic choice has the number `next`.
+#[cycle(translating)]
+fn lines(alloc: Global, next: &mut u32, command: &Command) -> Result<Vec<Stmt>, AllocError>
+    ensures lines { IfOk result (λ made. map statement made.items ≡ lines next.old (command_tree command.now)) }
+    ensures picks { OnOk result (next.new ≡ next.old + picks (command_tree command.now)) }
+{
+    match command {
+        Command::Skip(span) => single(alloc, nothing(alloc, *span)?),
+        Command::Assign(name, value, span) => single(alloc, assignment(alloc, name, value, *span)?),
+        Command::Tick(amount, span) => single(alloc, reward(alloc, amount, *span)?),
+        Command::If(guard, left, right, span) => {
+            let left = statements(alloc, next, left)?;
+            let right = statements(alloc, next, right)?;
+            let guard = enclosed(alloc, guard, *span)?;
+            single(alloc, branch(alloc, guard, left, right, *span)?)
+        }
+        Command::Mix(probability, left, right, span) => {
+            let number = next_pick(next)?;
+            let left = statements(alloc, next, left)?;
+            let right = statements(alloc, next, right)?;
+            mixed(alloc, number, probability, left, right, *span)
+        }
+        Command::Choice(left, right, span) => {
+            let left = statements(alloc, next, left)?;
+            let right = statements(alloc, next, right)?;
+            single(alloc, Stmt::Pick(true, left, right, *span))
+        }
+        Command::While(guard, bound, body, span) => {
+            let body = statements(alloc, next, body)?;
+            single(alloc, repetition(alloc, guard, bound, body, *span)?)
+        }
+    }
+}
+
+/// The statements of a block. Its first probabilistic choice has the number `next`.
+#[cycle(translating)]
+pub(crate) fn statements(
+    alloc: Global,
+    next: &mut u32,
+    commands: &[Command],
+) -> Result<Vec<Stmt>, AllocError>
+    ensures lines { IfOk result (λ made. map statement made.items ≡ statements next.old (block_tree commands.now)) }
+    ensures picks { OnOk result (next.new ≡ next.old + picks_in (block_tree commands.now)) }
+{
+    let mut made = Vec::new(alloc);
+    for command in commands {
+        let mut behind = lines(alloc, next, command)?;
+        made.append(&mut behind)?;
+    }
+    Ok(made)
+}

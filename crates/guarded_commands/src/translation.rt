@@ -1,0 +1,115 @@
+//! The file that tokens of a program become.
+
+ghost use Rattle.heyvl_syntax.specs.Procedures.{procedure, procedures};
+ghost use Rattle.heyvl_syntax.specs.Statements.{block, block_of};
+ghost use Rattle.heyvl_syntax.specs.SourceFaults.{IsLight};
+ghost use Rattle.guarded_commands.specs.Grammar.{IsProgram};
+ghost use Rattle.guarded_commands.specs.ProgramFaults.{IsPgclMemory, IsThisPgclStop};
+ghost use Rattle.guarded_commands.specs.Programs.{ProgramTree, block_tree, program_tree};
+ghost use Rattle.guarded_commands.specs.ReservedNames.{IsTranslatable};
+ghost use Rattle.guarded_commands.specs.Translation.{first_place, start, statements as statements_of, translated};
+ghost use Rattle.guarded_commands.specs.TranslationFaults.{IsTranslationFault, IsTranslationStop};
+ghost use Rattle.guarded_commands.specs.Translations.{IsTranslation};
+ghost use Rattle.std.specs.Prelude.{[], IfErr, IfOk, MatchResult, length, map, ◌++◌, ◌<◌, ◌^◌, ◌≡◌, ◌∷◌, ℕ};
+
+use crate::programs::Program;
+use crate::reading::parse_program;
+use crate::reserved::reserved_at;
+use crate::starts::{at_start, inputs, outputs, starts};
+use crate::statements::statements;
+use crate::stops::PgclStop;
+use heyvl_places::{Name, Span};
+use heyvl_syntax::{File, Proc, Stmt, Token};
+use std::alloc::{AllocError, Global};
+
+/// The place of the first token.
+fn first_place(tokens: &[Token]) -> Span
+    ensures { result ≡ first_place tokens.now }
+{
+    match tokens.split_first() {
+        None => Span { from: 0, to: 0 },
+        Some((token, _)) => token.span,
+    }
+}
+
+/// The statements of the coproc: `x = init_x` for each variable, and those that the commands become.
+fn body(alloc: Global, program: &Program) -> Result<Vec<Stmt>, AllocError>
+    ensures { IfOk result (λ made. block made.items ≡ block_of (map start program.now.declarations.items ++ statements_of 1 (block_tree program.now.body.items))) }
+{
+    let mut made = starts(alloc, &program.declarations)?;
+    let mut next = 1_u32;
+    let mut behind = statements(alloc, &mut next, &program.body)?;
+    made.append(&mut behind)?;
+    Ok(made)
+}
+
+/// The coproc that the program becomes, at this place.
+fn main_procedure(alloc: Global, place: Span, program: &Program) -> Result<Proc, AllocError>
+    ensures { IfOk result (λ made. procedure made ≡ translated place (program_tree program.now)) }
+{
+    let name = Name::new(alloc, b"main")?;
+    let inputs = inputs(alloc, &program.declarations)?;
+    let outputs = outputs(alloc, &program.declarations)?;
+    let pres = vec![in alloc; at_start(alloc, &program.pre)?]?;
+    let posts = vec![in alloc; program.post.copy(alloc)?]?;
+    let body = body(alloc, program)?;
+    Ok(Proc {
+        co: true,
+        note: None,
+        name,
+        inputs,
+        outputs,
+        pres,
+        posts,
+        body: Some(body),
+        span: place,
+    })
+}
+
+/// The file of the coproc that the program becomes, at this place.
+fn file_of(alloc: Global, place: Span, program: &Program) -> Result<File, AllocError>
+    ensures { IfOk result (λ file. procedures file ≡ translated place (program_tree program.now) ∷ []) }
+{
+    let main = main_procedure(alloc, place, program)?;
+    Ok(File {
+        procs: vec![in alloc; main]?,
+    })
+}
+
+/// The file that the program which these tokens spell becomes, or the first reserved name among them.
+fn file_or_reserved(alloc: Global, tokens: &[Token], program: &Program) -> Result<File, PgclStop>
+    requires short { length tokens.now < 2 ^ 31 }
+    requires spelled { IsLight tokens.now × IsProgram (program_tree program.now) tokens.now }
+    ensures found { IfOk result (λ file. IsTranslation tokens.now (procedures file)) }
+    ensures fault { IfErr result (λ stop. IsTranslationStop tokens.now stop) }
+{
+    match reserved_at(tokens, program.declarations.as_slice().len()) {
+        Some(index) => Err(PgclStop::Fault(31, index as u32)),
+        None => Ok(file_of(alloc, first_place(tokens), program)?),
+    }
+}
+
+/// The file that the tokens of a program become, or their first fault.
+fn file_or_fault(alloc: Global, tokens: &[Token]) -> Result<File, PgclStop>
+    requires { length tokens.now < 2 ^ 31 }
+    ensures found { IfOk result (λ file. IsTranslation tokens.now (procedures file)) }
+    ensures fault { IfErr result (λ stop. IsTranslationStop tokens.now stop) }
+{
+    let program = parse_program(alloc, tokens)?;
+    file_or_reserved(alloc, tokens, &program)
+}
+
+/// The file that the tokens become, where they are fewer than 2^31: one coproc `main`, whose inputs are the start values of the
+/// variables and whose outputs are the variables. It is refused where the tokens have a fault as a program, with the first one of them:
+/// 5 where the load passes 200; else 30 at the first token with which no program goes on, a `sup` or `inf` among them, or at the number
+/// of tokens where they end too early; else 31 at the first word that begins with `init_` or `pick_`, or that declares `skip`; and for
+/// want of memory.
+pub fn translate(alloc: Global, tokens: &[Token]) -> Result<File, PgclStop>
+    requires { length tokens.now < 2 ^ 31 }
+    ensures found { IfOk result (λ file. IsTranslation tokens.now (procedures file)) }
+    ensures only { (program : ProgramTree) → IsTranslatable program tokens.now → MatchResult result (λ file. procedures file ≡ translated (first_place tokens.now) program ∷ []) (λ stop. IsPgclMemory stop) }
+    ensures fault { IfErr result (λ stop. IsTranslationStop tokens.now stop) }
+    ensures only_fault { (number i : ℕ) → IsTranslationFault tokens.now number i → MatchResult result (λ _. ⊥) (λ stop. IsThisPgclStop number i stop) }
+{
+    file_or_fault(alloc, tokens)
+}

@@ -1,4 +1,0 @@
-pub mod EqualSums
-pub mod GuardedRuns
-pub mod GuardedSteps
-pub mod Readings

@@ -1,5 +1,0 @@
-use Rattle.pgcl_front.proofs.ProgramsAgain.{translations_spell}
-use Rattle.pgcl_front.proofs.laws.translations_are_spelled.Goals as goal
-
-pub returns : goal.returns
-returns c = translations_spell c.printable_files_are_spelled.ensures.spells c.printable_files_are_spelled.ensures.lexed c.text_ignores_places.ensures

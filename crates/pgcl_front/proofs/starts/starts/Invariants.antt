@@ -1,8 +1,0 @@
-use Rattle.heyvl_syntax.specs.Statements.{statement}
-use Rattle.pgcl_front.proofs.starts.starts.Given as goal
-use Rattle.pgcl_front.specs.Translation.{start}
-use Rattle.std.proofs.Common.{map, take, ◌≡◌}
-
--- What has been made is what comes of the declarations that have been visited.
-abbrev pub invariant-loop-one : goal.invariant-loop-one
-invariant-loop-one l = map statement l.made.items ≡ map start (take l.one-index l.declarations)
