@@ -1,5 +1,4 @@
 mod Counting
 mod Heads
-mod LoopSeeking
 mod Texts
 mod Examples

@@ -7,4 +7,3 @@ pub mod Verdicts
 pub mod Reports
 pub mod Placed
 pub mod VerdictsOn
-pub mod internal
