@@ -9,10 +9,10 @@ use Rattle.heylo_formula.specs.declared.goals.Made.{Made}
 use Rattle.heyvl_acts.specs.Acts.{Acts, Variable}
 use Rattle.heyvl_acts.specs.PlainActs.{variable_of}
 use Rattle.heyvl_acts.specs.declared.typed.VarInfo.{VarInfo}
-use Rattle.ranking_rule.specs.MadeGoals.{IsMadeWithin, goal_over}
+use Rattle.ranking_rule.specs.MadeGoals.{goal_over}
 use Rattle.ranking_rule.proofs.exported.MadeGoals.{is_made_within}
 use Rattle.vp_generator.specs.Fit.{AreFit}
-use Rattle.vp_generator.specs.PrenexedGoals.{IsMade}
+use Rattle.vp_generator.specs.PrenexedGoals.{IsMade, IsMadeWithin}
 use Rattle.vp_generator.specs.Scopes.{AreNamed}
 
 pub fit_as : (a b : Acts) (f g : Form) → a ≡ b → f ≡ g → AreFit b g → AreFit a f

@@ -11,7 +11,7 @@ use Rattle.lower_rules.specs.declared.remainder_answers.Remainder.{Remainder}
 use Rattle.lower_texts.specs.GoalNames.{names_of}
 use Rattle.lower_texts.specs.PlacedCauses.{placed}
 use Rattle.number_texts.specs.ValueTexts.{fraction_text}
-use Rattle.ranking_rule.specs.MadeGoals.{IsMadeWithin}
+use Rattle.vp_generator.specs.PrenexedGoals.{IsMadeWithin}
 use Rattle.ranking_rule.specs.RankingGoals.{generated}
 use Rattle.std.specs.Prelude.{List, codes, length, ◌++◌, ◌≡◌, ℕ}
 use Rattle.verdict_report.specs.Causes.{cause_text}

@@ -27,9 +27,9 @@ use Rattle.heyvl_acts.specs.declared.typed.Typed.{Typed}
 use Rattle.heyvl_acts.specs.declared.typed.VarInfo.{VarInfo}
 use Rattle.vp_generator.specs.Fit.{AreFit}
 use Rattle.vp_generator.specs.Generated.{vp}
-use Rattle.vp_generator.specs.PrenexedGoals.{IsMade, prenexed_goal}
+use Rattle.vp_generator.specs.PrenexedGoals.{IsMade, IsMadeWithin, prenexed_goal}
 use Rattle.vp_generator.specs.Scopes.{AreNamed, AnysAreBelow, AnysAreBelow_in, GeneratedFormIsNamed}
-use Rattle.ranking_rule.specs.MadeGoals.{IsMadeWithin, all_names, goal_over, names}
+use Rattle.ranking_rule.specs.MadeGoals.{all_names, goal_over, names}
 use Rattle.ranking_rule.specs.RankingGoals.{IsMadeOf, found, generated, goal}
 use Rattle.act_walks.specs.Lent.{parts_of}
 use Rattle.act_walks.specs.Loops.{loop_in}

@@ -17,7 +17,7 @@ use Rattle.goal_answers.specs.declared.causes.Cause.{Cause}
 use Rattle.goal_answers.specs.declared.causes.Cause.TheVariants as cause
 use Rattle.linear_form.specs.Nonlinear.{nonlinear_product}
 use Rattle.ranking_rule.specs.Laws.{IsFew}
-use Rattle.ranking_rule.specs.MadeGoals.{IsMadeWithin}
+use Rattle.vp_generator.specs.PrenexedGoals.{IsMadeWithin}
 use Rattle.region_split.specs.Meanings.{Fails}
 use Rattle.goal_answers.specs.declared.decisions.Decision.{Decision}
 use Rattle.goal_answers.specs.declared.decisions.Decision.TheVariants.{Proved, Falsified, Unknown}
