@@ -9,8 +9,8 @@ use Rattle.heyvl_io.specs.Order.{Order, first, other}
 abbrev pub File : Type 0
 File = String Global × Vec ℕ Global
 
-abbrev pub names_of : List File → List (List ℕ)
-names_of files = map (λ file. string_bytes file.0) files
+abbrev pub text_names : List File → List (List ℕ)
+text_names files = map (λ file. string_bytes file.0) files
 
 abbrev pub is_named : List ℕ → File → Bool
 is_named name file = bytes_eq name (string_bytes file.0)

@@ -15,7 +15,7 @@ use Rattle.heyvl_acts.specs.declared.typed.TProc.{TProc}
 use Rattle.heyvl_acts.specs.declared.typed.VarInfo.{VarInfo}
 use Rattle.heyvl_acts.proofs.exported.Each.{each_at}
 use Rattle.ranking_rule.proofs.exported.PrenexedSizes.{nodes_unbound}
-use Rattle.vp_generator.specs.Answers.{IsStop}
+use Rattle.vp_generator.specs.Answers.{IsVpStop}
 use Rattle.vp_generator.specs.Fit.{AreFit}
 use Rattle.vp_generator.specs.Laws.{GeneratedFormIsFormula}
 use Rattle.vp_generator.specs.Limits.{IsSmall}
@@ -132,7 +132,7 @@ module _ (x : Pair) (r : IsReady x) where
 
   -- ---- What is made
 
-  pub limited_step : (step : Step) (why : VpStop) (m : Made) (f : Form) → Contains (limited (first x) (body x) (behind x) (formula_of (first x) (head x) (second x)) step) f → IsStop f why → IsLimitBy why m → IsMadeStep x step m
+  pub limited_step : (step : Step) (why : VpStop) (m : Made) (f : Form) → Contains (limited (first x) (body x) (behind x) (formula_of (first x) (head x) (second x)) step) f → IsVpStop f why → IsLimitBy why m → IsMadeStep x step m
   limited_step step stop.Depth m f listed h e = subst (λ k. IsMadeStep x step k) (sym e) (IsMadeFor.too_deep f listed h)
   limited_step step stop.Nodes m f listed h e = subst (λ k. IsMadeStep x step k) (sym e) (IsMadeFor.too_many f listed h)
   limited_step step (stop.Memory w) m f listed h e = absurd e

@@ -12,7 +12,7 @@ use Rattle.heyvl_acts.specs.Acts.{Acts, Variable, variables}
 use Rattle.heyvl_acts.specs.PlainActs.{variable_of}
 use Rattle.heyvl_acts.specs.Rules.{Each}
 use Rattle.heyvl_acts.specs.declared.typed.VarInfo.{VarInfo}
-use Rattle.vp_generator.specs.Answers.{IsStop}
+use Rattle.vp_generator.specs.Answers.{IsVpStop}
 use Rattle.vp_generator.specs.Fit.{AreFit}
 use Rattle.vp_generator.specs.Generated.{vp}
 use Rattle.vp_generator.specs.Limits.{IsSmall}
@@ -53,8 +53,8 @@ module _ (x : Pair) (r : IsReady x) where
     pub small_one : IsSmall (vp acts f) → Each IsSmall (limited (first x) (body x) (behind x) (formula_of (first x) (head x) (second x)) One)
     small_one h = (subst IsSmall one_is h, tt)
 
-    pub limited_one : (why : VpStop) (m : Made) → IsStop (vp acts f) why → IsLimitBy why m → IsMadeStep x One m
-    limited_one why m h e = limited_step x r One why m (formula_of (first x) (head x) (second x)) (first_of (formula_of (first x) (head x) (second x)) []) (subst (λ g. IsStop g why) one_is h) e
+    pub limited_one : (why : VpStop) (m : Made) → IsVpStop (vp acts f) why → IsLimitBy why m → IsMadeStep x One m
+    limited_one why m h e = limited_step x r One why m (formula_of (first x) (head x) (second x)) (first_of (formula_of (first x) (head x) (second x)) []) (subst (λ g. IsVpStop g why) one_is h) e
 
   module _ (f : Form) (is : f ≡ form_of x.formula) where
     turn_formula : f ≡ formula_of (first x) (head x) (second x)
@@ -70,8 +70,8 @@ module _ (x : Pair) (r : IsReady x) where
       pub turn_of : (g : Form) → g ≡ vp acts f → IsSmall (vp acts f) → IsTurnOf x g
       turn_of g e h = record { form = e ∙ turn_is; small = subst IsSmall (sym e) h }
 
-      pub limited_turn : (why : VpStop) (m : Made) → IsStop (vp acts f) why → IsLimitBy why m → IsMadeStep x Turn m
-      limited_turn why m h e = limited_step x r Turn why m (after_body (body x) (formula_of (first x) (head x) (second x))) (first_of (after_body (body x) (formula_of (first x) (head x) (second x))) (after_loop (first x) (behind x) ∷ [])) (subst (λ g. IsStop g why) turn_is h) e
+      pub limited_turn : (why : VpStop) (m : Made) → IsVpStop (vp acts f) why → IsLimitBy why m → IsMadeStep x Turn m
+      limited_turn why m h e = limited_step x r Turn why m (after_body (body x) (formula_of (first x) (head x) (second x))) (first_of (after_body (body x) (formula_of (first x) (head x) (second x))) (after_loop (first x) (behind x) ∷ [])) (subst (λ g. IsVpStop g why) turn_is h) e
 
   module _ (f : Form) (is : f ≡ (first x).post) where
     pub loop_fit : AreFit (behind x) f
@@ -83,14 +83,14 @@ module _ (x : Pair) (r : IsReady x) where
     pub small_base : IsSmall (vp (behind x) f) → Each IsSmall (limited (first x) (body x) (behind x) (formula_of (first x) (head x) (second x)) Base)
     small_base h = (subst IsSmall loop_is h, tt)
 
-    pub limited_base : (why : VpStop) (m : Made) → IsStop (vp (behind x) f) why → IsLimitBy why m → IsMadeStep x Base m
-    limited_base why m h e = limited_step x r Base why m (after_loop (first x) (behind x)) (first_of (after_loop (first x) (behind x)) []) (subst (λ g. IsStop g why) loop_is h) e
+    pub limited_base : (why : VpStop) (m : Made) → IsVpStop (vp (behind x) f) why → IsLimitBy why m → IsMadeStep x Base m
+    limited_base why m h e = limited_step x r Base why m (after_loop (first x) (behind x)) (first_of (after_loop (first x) (behind x)) []) (subst (λ g. IsVpStop g why) loop_is h) e
 
     pub small_turn : (turn : Form) → IsTurnOf x turn → IsSmall (vp (behind x) f) → Each IsSmall (limited (first x) (body x) (behind x) (formula_of (first x) (head x) (second x)) Turn)
     small_turn turn t h = (subst IsSmall t.form t.small, (subst IsSmall loop_is h, tt))
 
-    pub limited_behind : (why : VpStop) (m : Made) → IsStop (vp (behind x) f) why → IsLimitBy why m → IsMadeStep x Turn m
-    limited_behind why m h e = limited_step x r Turn why m (after_loop (first x) (behind x)) (second_of (after_body (body x) (formula_of (first x) (head x) (second x))) (after_loop (first x) (behind x))) (subst (λ g. IsStop g why) loop_is h) e
+    pub limited_behind : (why : VpStop) (m : Made) → IsVpStop (vp (behind x) f) why → IsLimitBy why m → IsMadeStep x Turn m
+    limited_behind why m h e = limited_step x r Turn why m (after_loop (first x) (behind x)) (second_of (after_body (body x) (formula_of (first x) (head x) (second x))) (after_loop (first x) (behind x))) (subst (λ g. IsVpStop g why) loop_is h) e
 
 -- ---- The goal of a step
 

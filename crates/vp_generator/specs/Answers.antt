@@ -8,12 +8,12 @@ use Rattle.vp_generator.specs.declared.stops.VpStop.{VpStop}
 use Rattle.vp_generator.specs.declared.stops.VpStop.TheVariants.{Depth, Nodes, Memory}
 
 -- The limit that is named is one that the form passes. Want of memory says nothing.
-abbrev pub IsStop : Form → VpStop → Type 0
-IsStop f Depth = IsTooDeep f
-IsStop f Nodes = IsTooLarge f
-IsStop f (Memory e) = Unit {0}
+abbrev pub IsVpStop : Form → VpStop → Type 0
+IsVpStop f Depth = IsTooDeep f
+IsVpStop f Nodes = IsTooLarge f
+IsVpStop f (Memory e) = Unit {0}
 
 -- The form and that it is small, or a limit that it passes.
 abbrev pub IsAnswer : Form → Result F.Form VpStop → Type 0
 IsAnswer f (Ok g) = (form_of g ≡ f) × IsSmall f
-IsAnswer f (Err stop) = IsStop f stop
+IsAnswer f (Err stop) = IsVpStop f stop
