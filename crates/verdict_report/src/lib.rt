@@ -12,6 +12,7 @@ mod verdicts;
 
 pub use answers::{Answer, LoopAnswer, RankVerdict, Verdict};
 pub use causes::write_cause;
+pub use goal_names::names_of_made;
 pub use goal_answers::{Miss, NamedGoal};
 pub use loops::interface_of;
 pub use reports::report;
