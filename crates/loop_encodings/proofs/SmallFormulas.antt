@@ -16,7 +16,8 @@ use Rattle.heyvl_acts.specs.Acts.{Act, Acts, TypedProcedure, Variable, acts_in, 
 use Rattle.heyvl_acts.specs.Places.{in_order}
 use Rattle.heyvl_acts.specs.Program.{IsProgram}
 use Rattle.heyvl_acts.specs.Rules.{Each, MeetsRules, counted, loop_numbers}
-use Rattle.loop_encodings.specs.BoundGoals.{BoundGoalsHold, GoalHolds, IsAtMostOne, IsBounded, IsSmallThere, invariant_in}
+use Rattle.act_walks.specs.Loops.{loop_in}
+use Rattle.loop_encodings.specs.BoundGoals.{BoundGoalsHold, GoalHolds, IsAtMostOne, IsBounded, IsSmallThere, invariant_at, invariant_in}
 use Rattle.loop_encodings.specs.internal.Contracts.{picks}
 use Rattle.loop_encodings.specs.internal.Programs.{IsSmall}
 use Rattle.loop_encodings.proofs.ModifiedVariables.{self}
@@ -66,11 +67,11 @@ loops_have p from (suc n) (Act.loop k b ∷ rest) e h =
     let later = each_further (λ m. OfForm (IsSmallIn p) (invariant_in m (Act.loop k b ∷ rest))) (λ m. OfForm (IsSmallIn p) (invariant_in m rest)) (suc from) n (λ m l. skips m l number) (subst (Each (λ m. OfForm (IsSmallIn p) (invariant_in m (Act.loop k b ∷ rest)))) further h.1) in
     (here (k.number == k.number) (self k.number) h.0, loops_have p (suc from) n rest further (subst (Each (λ m. OfForm (IsSmallIn p) (invariant_in m rest))) (sym further) later))
   where
-    here : (t : Bool) → t ≡ true → OfForm (IsSmallIn p) (if t then Some k.inv else invariant_in k.number rest) → IsSmallIn p k.inv
+    here : (t : Bool) → t ≡ true → OfForm (IsSmallIn p) (invariant_at (if t then Some (k, b) else loop_in k.number rest)) → IsSmallIn p k.inv
     here true t h = h
     here false t h = absurd (cc)
 
-    past : (m : ℕ) (t : Bool) → t ≡ false → OfForm (IsSmallIn p) (if t then Some k.inv else invariant_in m rest) → OfForm (IsSmallIn p) (invariant_in m rest)
+    past : (m : ℕ) (t : Bool) → t ≡ false → OfForm (IsSmallIn p) (invariant_at (if t then Some (k, b) else loop_in m rest)) → OfForm (IsSmallIn p) (invariant_in m rest)
     past m true t h = absurd (cc)
     past m false t h = h
 
