@@ -5,7 +5,7 @@ ghost use Rattle.heyvl_acts.specs.PlainActs.{procedures_of};
 ghost use Rattle.heyvl_acts.specs.Rules.{Each, MeetsAllRules};
 ghost use Rattle.std.specs.Prelude.{IfOk, length, ◌^◌, ℕ};
 ghost use Rattle.verdict_report.specs.Placed.{IsAnswerPlaced};
-ghost use Rattle.verify_core.specs.Answered.{IsAnswered};
+ghost use Rattle.verify_core.specs.Answered.{AreAnswered};
 ghost use Rattle.verify_core.specs.Headline.{IsHeadline};
 ghost use Rattle.verify_core.specs.Places.{StandsWithin};
 ghost use Rattle.verify_core.specs.PostBinders.{HasNamedBinders};
@@ -29,7 +29,7 @@ pub fn verify(alloc: Global, typed: &Typed) -> Result<Whole, AllocError>
     requires rules { MeetsAllRules typed.now }
     requires named { Each HasNamedBinders (procedures_of typed.now) }
     requires small { Each (FormsWithin (2 ^ 27)) (procedures_of typed.now) }
-    ensures answered { IfOk result (λ whole. IsAnswered (procedures_of typed.now) whole.answers.items whole.made.items whole.certs.items) }
+    ensures answered { IfOk result (λ whole. AreAnswered (procedures_of typed.now) whole.answers.items whole.made.items whole.certs.items) }
     ensures placed { (bytes : ℕ) → Each (StandsWithin bytes) (procedures_of typed.now) → IfOk result (λ whole. Each (IsAnswerPlaced bytes (length typed.now.procs.items)) whole.answers.items) }
     ensures headline { IfOk result (λ whole. IsHeadline (procedures_of typed.now) whole.answers.items) }
 {
