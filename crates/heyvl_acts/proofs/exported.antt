@@ -1,3 +1,4 @@
+pub mod ActsInOrder
 pub mod Each
 pub mod Lengths
 pub mod PlainActsAre
