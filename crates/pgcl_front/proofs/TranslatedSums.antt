@@ -10,7 +10,7 @@ use Rattle.std.proofs.Common.{Err, IfOk, List, Ok, Result}
 
 -- Whichever file is given, it has the sums of the program that these tokens spell, if they are translated to it.
 pub translated_sums : (tokens : List Token) (r : Result File PgclStop) → IfOk r (λ file. HasTranslatedSums tokens (procedures file))
-translated_sums tokens (Ok file) t faultless = record {
+translated_sums tokens (Ok file) = λ t faultless. record {
   equal = sums_are_equal tokens (procedures file) t faultless;
   bounded = bounds_carry_over tokens (procedures file) t faultless;
 }
