@@ -44,7 +44,7 @@ const SPLITS: &str = "\
 # where y <= 2x, 2x + y <= 2 and 1 <= y: y takes 1, and x is 1/2 then; it is at most 0 or at least 1
 y x x + <= x x + y + 2 <= and 1 y <= and 0 1 select 1 ; ii gives proved 5 yes
 # where 2x = 2y + 1 both are split four times in turn
-x x + y y + v2 + <= y y + v2 + x x + <= and v2 1 <= and 1 v2 <= and 0 1 select 1 ; uuu gives broken x0 [9/2 9/2] x1 4
+x x + y y + v2 + <= y y + v2 + x x + <= and v2 1 <= and 1 v2 <= and 0 1 select 1 ; uur gives broken x0 [9/2 9/2] x1 4
 # where 2x = 3y: the first half of a piece has no whole point, the second one has
 x x + y y y + + <= y y y + + x x + <= and 0 x < and 0 1 select 1 ; uu gives fails at 3 2
 x x + y y y + + <= y y y + + x x + <= and 0 x < and x 3 < and 0 1 select 1 ; uu gives proved 8 yes
