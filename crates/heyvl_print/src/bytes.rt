@@ -14,12 +14,14 @@ pub(crate) fn write(text: &mut Vec<u8>, bytes: &[u8]) -> Result<(), AllocError>
     Ok(text.extend_from_slice(bytes)?)
 }
 
-/// Puts the byte behind the text, `count` times: more than a few at once. Want of memory, also where no memory could hold so many.
+/// Puts the byte behind the text, `count` times: more than a few at once. Once there is room for them, their number is in range.
 pub(crate) fn write_repeated(text: &mut Vec<u8>, byte: u8, count: usize) -> Result<(), AllocError>
     ensures { OnOk result (text.new.items ≡ text.old.items ++ replicate count byte) }
 {
     if count > FEW {
-        let length = text.len().checked_add(count).ok_or(AllocError)?;
+        text.reserve(count)?;
+        let _room = text.capacity();
+        let length = text.len() + count;
         return Ok(text.resize(length, byte)?);
     }
     for written in 0..count {

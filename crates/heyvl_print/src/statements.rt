@@ -5,7 +5,7 @@ ghost use Rattle.heyvl_print.specs.Pieces.{text_of};
 ghost use Rattle.heyvl_print.specs.WithoutPlaces.{no_place};
 ghost use Rattle.heyvl_syntax.specs.Expressions.{expression};
 ghost use Rattle.heyvl_syntax.specs.Statements.{Statement, arms, block, loop_rules, statement};
-ghost use Rattle.std.specs.Prelude.{◌++◌, ◌+◌, ◌≡◌, IfOk, OnOk};
+ghost use Rattle.std.specs.Prelude.{◌++◌, ◌+◌, ◌≡◌, ◌≤◌, OnOk, length};
 
 use crate::bytes::{write, write_repeated};
 use crate::expressions::print_expression;
@@ -14,20 +14,23 @@ use crate::symbols::{check_text, pick_text, validate_text};
 use heyvl_syntax::{Arm, Stmt};
 use std::alloc::AllocError;
 
-/// Two more blanks before a line. Want of memory where no memory could hold a line behind so many.
-fn deeper(margin: usize) -> Result<usize, AllocError>
-    ensures { IfOk result (λ more. more ≡ margin + 2) }
+/// Two more blanks before a line, where the text has as many bytes: so their number is in range.
+fn deeper(text: &[u8], margin: usize) -> usize
+    requires { margin + 2 ≤ length text.now }
+    ensures { result ≡ margin + 2 }
 {
-    margin.checked_add(2).ok_or(AllocError)
+    let _length = text.len();
+    margin + 2
 }
 
 /// Puts ` {`, the lines of the block and `}` behind the text.
 #[cycle(printing)]
 fn print_braced(text: &mut Vec<u8>, margin: usize, statements: &[Stmt]) -> Result<(), AllocError>
+    requires { margin ≤ length text.old.items }
     ensures { OnOk result (text.new.items ≡ text.old.items ++ text_of (braced margin (block_lines (margin + 2) (block statements.now)))) }
 {
     write(text, b" {\n")?;
-    let inner = deeper(margin)?;
+    let inner = deeper(text, margin);
     print_block(text, inner, statements)?;
     write_repeated(text, b' ', margin)?;
     Ok(write(text, b"}")?)
@@ -36,6 +39,7 @@ fn print_braced(text: &mut Vec<u8>, margin: usize, statements: &[Stmt]) -> Resul
 /// Puts ` else {`, the lines of the block and `}` behind the text.
 #[cycle(printing)]
 fn print_else(text: &mut Vec<u8>, margin: usize, statements: &[Stmt]) -> Result<(), AllocError>
+    requires { margin ≤ length text.old.items }
     ensures { OnOk result (text.new.items ≡ text.old.items ++ text_of (else_pieces margin (block_lines (margin + 2) (block statements.now)))) }
 {
     write(text, b" else")?;
@@ -45,6 +49,7 @@ fn print_else(text: &mut Vec<u8>, margin: usize, statements: &[Stmt]) -> Result<
 /// Puts `if a {`, the lines of the block and `}` behind the text.
 #[cycle(printing)]
 fn print_arm(text: &mut Vec<u8>, margin: usize, arm: &Arm) -> Result<(), AllocError>
+    requires { margin ≤ length text.old.items }
     ensures { OnOk result (text.new.items ≡ text.old.items ++ text_of (arm_pieces margin (expression arm.now.guard) (block_lines (margin + 2) (block arm.now.body.items)))) }
 {
     write(text, b"if ")?;
@@ -55,6 +60,7 @@ fn print_arm(text: &mut Vec<u8>, margin: usize, arm: &Arm) -> Result<(), AllocEr
 /// Puts `if a { .. }` behind the text, and ` else if b { .. }` for each further arm.
 #[cycle(printing)]
 fn print_arms(text: &mut Vec<u8>, margin: usize, all: &[Arm]) -> Result<(), AllocError>
+    requires { margin ≤ length text.old.items }
     ensures { OnOk result (text.new.items ≡ text.old.items ++ text_of (if_pieces margin (arms all.now))) }
 {
     let Some((first, others)) = all.split_first() else {
@@ -71,6 +77,7 @@ fn print_arms(text: &mut Vec<u8>, margin: usize, all: &[Arm]) -> Result<(), Allo
 /// Puts the lines of the statement behind the text, each behind the margin or more.
 #[cycle(printing)]
 fn print_statement(text: &mut Vec<u8>, margin: usize, printed: &Stmt) -> Result<(), AllocError>
+    requires { margin ≤ length text.old.items }
     ensures { OnOk result (text.new.items ≡ text.old.items ++ text_of (statement_lines margin (statement printed.now))) }
 {
     match printed {
@@ -112,6 +119,7 @@ pub(crate) fn print_block(
     margin: usize,
     statements: &[Stmt],
 ) -> Result<(), AllocError>
+    requires { margin ≤ length text.old.items }
     ensures { OnOk result (text.new.items ≡ text.old.items ++ text_of (block_lines margin (block statements.now))) }
 {
     for one in statements {

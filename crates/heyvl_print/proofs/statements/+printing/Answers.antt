@@ -23,7 +23,7 @@ print_arms-returns t c = arms_done guarded c.args.margin c.in-Some.first.now c.i
 
 pub print_braced-returns : goal.print_braced-returns
 print_braced-returns t c =
-    let b = rw c.in_ok-inner.ensures at c.in_ok-print_block.ensures in
+    let b = rw c.deeper-inner.ensures at c.in_ok-print_block.ensures in
     braced_text c.args.margin (block_lines (c.args.margin + 2) (block c.args.statements.now)) _ _ _ _ _ c.in_ok-write.ensures b c.in_ok-write_repeated.ensures c.in_ok-write-2.ensures
 
 pub print_statement-returns-in_ok-print_claim-in-Check : goal.print_statement-returns-in_ok-print_claim-in-Check
