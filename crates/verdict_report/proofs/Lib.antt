@@ -3,3 +3,4 @@ mod Heads
 mod LoopSeeking
 mod Texts
 mod Examples
+mod StateTexts

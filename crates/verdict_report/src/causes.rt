@@ -50,7 +50,7 @@ fn write_broken(
     ensures { OnOk result (text.new.items ≡ text.old.items ++ broken_text (named_by names.now own) broken.now) }
 {
     text.extend_from_slice(b"fraction ")?;
-    write_variable(text, names, own, broken.var)?;
+    write_variable(text, names, own, broken.var as usize)?;
     text.extend_from_slice(b" in ")?;
     write_interval(text, broken)?;
     write_earlier(text, names, own, &broken.earlier)

@@ -1,7 +1,7 @@
 //! Variables and their values in a report. The names are those of a goal's variables, by number; those from `own` on were
 //! binders.
 
-ghost use Rattle.std.specs.Prelude.{◌≡◌, ◌++◌, OnOk};
+ghost use Rattle.std.specs.Prelude.{◌≡◌, ◌++◌, ◌+◌, ◌<◌, ◌^◌, OnOk};
 ghost use Rattle.verdict_report.specs.Settings.{mark_text, more_settings_text, named_by, setting_text, settings_text, variable_text};
 
 use heylo_formula::Val;
@@ -10,14 +10,16 @@ use number_texts::{write_number, write_value};
 use std::alloc::AllocError;
 
 /// Puts behind the text what tells a variable that was a binder from others of its name.
-fn write_mark(text: &mut Vec<u8>, own: u32, var: u32) -> Result<(), AllocError>
+fn write_mark(text: &mut Vec<u8>, own: u32, var: usize) -> Result<(), AllocError>
+    requires { var + 1 < 2 ^ 64 }
     ensures { OnOk result (text.new.items ≡ text.old.items ++ mark_text own var) }
 {
+    let own = own as usize;
     if var < own {
         Ok(())
     } else {
         text.push(b'\'')?;
-        write_number(text, u64::from(var - own) + 1)
+        write_number(text, (var - own) as u64 + 1)
     }
 }
 
@@ -26,28 +28,31 @@ pub(crate) fn write_variable(
     text: &mut Vec<u8>,
     names: &[Name],
     own: u32,
-    var: u32,
+    var: usize,
 ) -> Result<(), AllocError>
+    requires { var + 1 < 2 ^ 64 }
     ensures { OnOk result (text.new.items ≡ text.old.items ++ variable_text (named_by names.now own) var) }
 {
-    if let Some(name) = names.get(var as usize) {
+    if let Some(name) = names.get(var) {
         text.extend_from_slice(name.as_bytes())?;
     }
     write_mark(text, own, var)
 }
 
 /// Puts a variable with its value behind the text.
-fn write_setting(
+pub(crate) fn write_setting(
     text: &mut Vec<u8>,
     names: &[Name],
     own: u32,
-    setting: (u32, Val),
+    var: usize,
+    value: Val,
 ) -> Result<(), AllocError>
-    ensures { OnOk result (text.new.items ≡ text.old.items ++ setting_text (named_by names.now own) setting) }
+    requires { var + 1 < 2 ^ 64 }
+    ensures { OnOk result (text.new.items ≡ text.old.items ++ setting_text (named_by names.now own) (var, value)) }
 {
-    write_variable(text, names, own, setting.0)?;
+    write_variable(text, names, own, var)?;
     text.extend_from_slice(b" = ")?;
-    write_value(text, setting.1)
+    write_value(text, value)
 }
 
 /// Puts variables with their values behind the text, each after a comma.
@@ -62,7 +67,7 @@ fn write_more(
     let mut rest = settings;
     'settings: while let Some((setting, more)) = rest.split_first() {
         text.extend_from_slice(b", ")?;
-        write_setting(text, names, own, *setting)?;
+        write_setting(text, names, own, setting.0 as usize, setting.1)?;
         rest = more;
     }
     Ok(())
@@ -80,7 +85,7 @@ pub(crate) fn write_settings(
     match settings.split_first() {
         None => Ok(()),
         Some((setting, more)) => {
-            write_setting(text, names, own, *setting)?;
+            write_setting(text, names, own, setting.0 as usize, setting.1)?;
             write_more(text, names, own, more)
         }
     }

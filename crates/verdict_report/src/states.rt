@@ -1,10 +1,11 @@
 //! States in a report.
 
-ghost use Rattle.std.specs.Prelude.{◌≡◌, ◌++◌, IfOk, OnOk};
+ghost use Rattle.std.specs.Prelude.{◌≡◌, ◌++◌, ◌+◌, ◌<◌, ◌^◌, ◌||◌, IfOk, OnOk, drop, length};
 ghost use Rattle.verdict_report.specs.Settings.{named_by};
-ghost use Rattle.verdict_report.specs.States.{is_telling, listed_text, state_settings, state_text, telling, valued};
+ghost use Rattle.verdict_report.specs.States.{is_telling, state_text, telling, valued};
+ghost use Rattle.verdict_report.specs.internal.Listings.{behind_text, is_some_setting};
 
-use crate::settings::write_settings;
+use crate::settings::{write_setting, write_settings};
 use heylo_formula::Val;
 use heyvl_places::Name;
 use std::alloc::{AllocError, Global};
@@ -39,37 +40,53 @@ fn add_valued(
     Ok(())
 }
 
-/// Puts the binders that are shown behind the settings. They have these values, and the first has the number `first`.
-fn add_telling(settings: &mut Vec<(u32, Val)>, first: u32, values: &[Val]) -> Result<(), AllocError>
-    ensures { OnOk result (settings.new.items ≡ settings.old.items ++ telling first values.now) }
-{
-    let mut var = first;
-    let mut rest = values;
-    'values: while let Some((value, more)) = rest.split_first() {
-        if is_telling(*value) {
-            settings.push((var, *value))?;
-        }
-        var = var.checked_add(1).ok_or(AllocError)?;
-        rest = more;
-    }
-    Ok(())
-}
-
-/// What is shown of a state: these variables, then the binders.
-fn settings_of(
-    alloc: Global,
-    own: u32,
-    shown: &[u32],
-    state: &[Val],
-) -> Result<Vec<(u32, Val)>, AllocError>
-    ensures { IfOk result (λ settings. settings.items ≡ state_settings own shown.now state.now) }
+/// The shown variables of a state with their values.
+fn settings_of(alloc: Global, shown: &[u32], state: &[Val]) -> Result<Vec<(u32, Val)>, AllocError>
+    ensures { IfOk result (λ settings. settings.items ≡ valued state.now shown.now) }
 {
     let mut settings = Vec::new(alloc);
     add_valued(&mut settings, shown, state)?;
-    if let Some(binders) = state.get(own as usize..) {
-        add_telling(&mut settings, own, binders)?;
-    }
     Ok(settings)
+}
+
+/// Puts the binders that are shown behind the text, each after a comma where settings stand there already, which is told, and told of the text
+/// that is made. They have these values, and the first has the number `own`.
+fn write_telling(
+    text: &mut Vec<u8>,
+    names: &[Name],
+    own: u32,
+    begun: bool,
+    values: &[Val],
+) -> Result<bool, AllocError>
+    requires { own + length values.now < 2 ^ 64 }
+    ensures text { OnOk result (text.new.items ≡ text.old.items ++ behind_text begun (named_by names.now own) (telling own values.now)) }
+    ensures begun { IfOk result (λ stands. stands ≡ (begun || is_some_setting (telling own values.now))) }
+{
+    let mut stands = begun;
+    let mut var = own as usize;
+    let mut rest = values;
+    'values: while let Some((value, more)) = rest.split_first() {
+        if is_telling(*value) {
+            if stands {
+                text.extend_from_slice(b", ")?;
+            }
+            write_setting(text, names, own, var, *value)?;
+            stands = true;
+        }
+        var += 1;
+        rest = more;
+    }
+    Ok(stands)
+}
+
+/// The values of the binders of a state, which have the numbers from `own` on.
+fn binders_of(own: u32, state: &[Val]) -> &[Val]
+    ensures { result.now ≡ drop own state.now }
+{
+    match state.get(own as usize..) {
+        Some(binders) => binders,
+        None => &[],
+    }
 }
 
 /// Puts the state of a goal behind the text: the values of the variables with the numbers `shown`, in this order, and then of the binders, which
@@ -85,10 +102,11 @@ pub fn write_state(
 ) -> Result<(), AllocError>
     ensures { OnOk result (text.new.items ≡ text.old.items ++ state_text (named_by names.now own) shown.now state.now) }
 {
-    let settings = settings_of(alloc, own, shown, state)?;
-    if settings.is_empty() {
-        Ok(text.extend_from_slice(b"any state")?)
-    } else {
-        write_settings(text, names, own, &settings)
+    let settings = settings_of(alloc, shown, state)?;
+    write_settings(text, names, own, &settings)?;
+    let begun = !settings.is_empty();
+    if !write_telling(text, names, own, begun, binders_of(own, state))? {
+        text.extend_from_slice(b"any state")?;
     }
+    Ok(())
 }

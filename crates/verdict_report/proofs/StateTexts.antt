@@ -1,0 +1,34 @@
+-- The text of a state: settings of shown variables, and behind them those of binders.
+use Rattle.heylo_formula.specs.declared.values.Val.{Val}
+use Rattle.std.proofs.Common.{Bool, List, [], append_assoc, ap, false, refl, sym, true, ◌++◌, ◌∙◌, ◌∷◌, ◌≡◌, ℕ}
+use Rattle.std.specs.Prelude.{codes, not, ◌||◌}
+use Rattle.verdict_report.specs.Settings.{Names, more_settings_text, setting_text, settings_text}
+use Rattle.verdict_report.specs.States.{listed_text}
+use Rattle.verdict_report.specs.internal.Listings.{behind_text, is_some_setting}
+
+more_append : (n : Names) (ps qs : List (ℕ × Val)) → more_settings_text n (ps ++ qs) ≡ more_settings_text n ps ++ more_settings_text n qs
+more_append n [] qs = refl
+more_append n (p ∷ ps) qs = ap (λ (t : List ℕ). codes ", " ++ setting_text n p ++ t) (more_append n ps qs) ∙ sym (append_assoc (codes ", " ++ setting_text n p) (more_settings_text n ps) (more_settings_text n qs))
+
+settings_append : (n : Names) (ps qs : List (ℕ × Val)) → settings_text n ps ++ behind_text (is_some_setting ps) n qs ≡ settings_text n (ps ++ qs)
+settings_append n [] qs = refl
+settings_append n (p ∷ ps) qs = append_assoc (setting_text n p) (more_settings_text n ps) (more_settings_text n qs) ∙ ap (λ (t : List ℕ). setting_text n p ++ t) (sym (more_append n ps qs))
+
+-- Two pieces, of which one holds a setting.
+pub listed_settings : (n : Names) (ps qs : List (ℕ × Val)) (t0 t1 t2 : List ℕ) → t1 ≡ t0 ++ settings_text n ps → t2 ≡ t1 ++ behind_text (is_some_setting ps) n qs → (is_some_setting ps || is_some_setting qs) ≡ true → t2 ≡ t0 ++ listed_text n (ps ++ qs)
+listed_settings n [] [] t0 t1 t2 e f h = absurd (cc)
+listed_settings n [] (q ∷ qs) t0 t1 t2 e f h = rw (f, e) (append_assoc t0 [] (settings_text n (q ∷ qs)))
+listed_settings n (p ∷ ps) qs t0 t1 t2 e f h = rw (f, e) (append_assoc t0 (settings_text n (p ∷ ps)) (more_settings_text n qs) ∙ ap (λ (t : List ℕ). t0 ++ t) (settings_append n (p ∷ ps) qs))
+
+-- Two pieces, of which none holds a setting.
+pub any_state : (n : Names) (ps qs : List (ℕ × Val)) (t0 t1 t2 t3 : List ℕ) → t1 ≡ t0 ++ settings_text n ps → t2 ≡ t1 ++ behind_text (is_some_setting ps) n qs → t3 ≡ t2 ++ codes "any state" → (is_some_setting ps || is_some_setting qs) ≡ false → t3 ≡ t0 ++ listed_text n (ps ++ qs)
+any_state n [] [] t0 t1 t2 t3 e f g h = rw (g, f, e) (simp append_assoc)
+any_state n [] (q ∷ qs) t0 t1 t2 t3 e f g h = absurd (cc)
+any_state n (p ∷ ps) qs t0 t1 t2 t3 e f g h = absurd (cc)
+
+-- One setting more, behind a comma where others stand there.
+pub comma_next : (n : Names) (p : ℕ × Val) (ps : List (ℕ × Val)) (t0 t1 t2 : List ℕ) → t1 ≡ t0 ++ codes ", " → t2 ≡ t1 ++ setting_text n p → t2 ++ more_settings_text n ps ≡ t0 ++ more_settings_text n (p ∷ ps)
+comma_next n p ps t0 t1 t2 e f = rw (f, e) (simp append_assoc)
+
+pub first_next : (n : Names) (p : ℕ × Val) (ps : List (ℕ × Val)) (t0 t1 : List ℕ) → t1 ≡ t0 ++ setting_text n p → t1 ++ more_settings_text n ps ≡ t0 ++ settings_text n (p ∷ ps)
+first_next n p ps t0 t1 e = rw e (append_assoc t0 (setting_text n p) (more_settings_text n ps))

@@ -1,0 +1,13 @@
+-- Settings that are listed in two pieces.
+use Rattle.heylo_formula.specs.declared.values.Val.{Val}
+use Rattle.std.specs.Prelude.{Bool, List, false, length, not, true, ◌==◌, ℕ}
+use Rattle.verdict_report.specs.Settings.{Names, more_settings_text, settings_text}
+
+-- Whether there is a setting.
+abbrev pub is_some_setting : List (ℕ × Val) → Bool
+is_some_setting ps = not (length ps == 0)
+
+-- Settings behind others, where others stand there, or alone.
+abbrev pub behind_text : Bool → Names → List (ℕ × Val) → List ℕ
+behind_text true n ps = more_settings_text n ps
+behind_text false n ps = settings_text n ps
