@@ -4,7 +4,7 @@ ghost use Rattle.heyvl_syntax.specs.Expressions.{Expression, expression};
 ghost use Rattle.heyvl_syntax.specs.Statements.{RightSide, Statement, block, statement};
 ghost use Rattle.guarded_commands.specs.Programs.{block_tree, command_tree};
 ghost use Rattle.guarded_commands.specs.Translation.{arm, lines, pick_name, picks, picks_in, statements};
-ghost use Rattle.std.specs.Prelude.{[], IfOk, OnOk, map, ◌+◌, ◌≡◌, ◌∷◌};
+ghost use Rattle.std.specs.Prelude.{[], IfOk, OnOk, map, ◌+◌, ◌<◌, ◌^◌, ◌≡◌, ◌∷◌};
 
 use crate::lines::{assignment, branch, enclosed, nothing, picked, repetition, reward, toss};
 use crate::programs::Command;
@@ -13,13 +13,14 @@ use heyvl_syntax::{Expr, Stmt, TypeName};
 use std::alloc::{AllocError, Global};
 
 /// The number of the choice that comes now. The next one has the number behind it.
-fn next_pick(next: &mut u32) -> Result<u32, AllocError>
-    ensures given { IfOk result (λ number. number ≡ next.old) }
-    ensures counted { OnOk result (next.new ≡ next.old + 1) }
+fn next_pick(next: &mut u32) -> u32
+    requires { next.old + 1 < 2 ^ 32 }
+    ensures given { result ≡ next.old }
+    ensures counted { next.new ≡ next.old + 1 }
 {
     let number = *next;
-    *next = number.checked_add(1).ok_or(AllocError)?;
-    Ok(number)
+    *next = number + 1;
+    number
 }
 
 /// This statement alone.
@@ -50,6 +51,7 @@ fn mixed(
 /// The statements of a command. Its first probabilistic choice has the number `next`.
 #[cycle(translating)]
 fn lines(alloc: Global, next: &mut u32, command: &Command) -> Result<Vec<Stmt>, AllocError>
+    requires { next.old + picks (command_tree command.now) < 2 ^ 32 }
     ensures lines { IfOk result (λ made. map statement made.items ≡ lines next.old (command_tree command.now)) }
     ensures picks { OnOk result (next.new ≡ next.old + picks (command_tree command.now)) }
 {
@@ -64,7 +66,7 @@ fn lines(alloc: Global, next: &mut u32, command: &Command) -> Result<Vec<Stmt>, 
             single(alloc, branch(alloc, guard, left, right, *span)?)
         }
         Command::Mix(probability, left, right, span) => {
-            let number = next_pick(next)?;
+            let number = next_pick(next);
             let left = statements(alloc, next, left)?;
             let right = statements(alloc, next, right)?;
             mixed(alloc, number, probability, left, right, *span)
@@ -88,6 +90,7 @@ pub(crate) fn statements(
     next: &mut u32,
     commands: &[Command],
 ) -> Result<Vec<Stmt>, AllocError>
+    requires { next.old + picks_in (block_tree commands.now) < 2 ^ 32 }
     ensures lines { IfOk result (λ made. map statement made.items ≡ statements next.old (block_tree commands.now)) }
     ensures picks { OnOk result (next.new ≡ next.old + picks_in (block_tree commands.now)) }
 {

@@ -7,7 +7,7 @@ ghost use Rattle.guarded_commands.specs.Grammar.{IsProgram};
 ghost use Rattle.guarded_commands.specs.ProgramFaults.{IsPgclMemory, IsThisPgclStop};
 ghost use Rattle.guarded_commands.specs.Programs.{ProgramTree, block_tree, program_tree};
 ghost use Rattle.guarded_commands.specs.ReservedNames.{IsTranslatable};
-ghost use Rattle.guarded_commands.specs.Translation.{first_place, start, statements as statements_of, translated};
+ghost use Rattle.guarded_commands.specs.Translation.{first_place, picks_in, start, statements as statements_of, translated};
 ghost use Rattle.guarded_commands.specs.TranslationFaults.{IsTranslationFault, IsTranslationStop};
 ghost use Rattle.guarded_commands.specs.Translations.{IsTranslation};
 ghost use Rattle.std.specs.Prelude.{[], IfErr, IfOk, MatchResult, length, map, ◌++◌, ◌<◌, ◌^◌, ◌≡◌, ◌∷◌, ℕ};
@@ -34,6 +34,7 @@ fn first_place(tokens: &[Token]) -> Span
 
 /// The statements of the coproc: `x = init_x` for each variable, and those that the commands become.
 fn body(alloc: Global, program: &Program) -> Result<Vec<Stmt>, AllocError>
+    requires { picks_in (block_tree program.now.body.items) < 2 ^ 31 }
     ensures { IfOk result (λ made. block made.items ≡ block_of (map start program.now.declarations.items ++ statements_of 1 (block_tree program.now.body.items))) }
 {
     let mut made = starts(alloc, &program.declarations)?;
@@ -45,6 +46,7 @@ fn body(alloc: Global, program: &Program) -> Result<Vec<Stmt>, AllocError>
 
 /// The coproc that the program becomes, at this place.
 fn main_procedure(alloc: Global, place: Span, program: &Program) -> Result<Proc, AllocError>
+    requires { picks_in (block_tree program.now.body.items) < 2 ^ 31 }
     ensures { IfOk result (λ made. procedure made ≡ translated place (program_tree program.now)) }
 {
     let name = Name::new(alloc, b"main")?;
@@ -68,6 +70,7 @@ fn main_procedure(alloc: Global, place: Span, program: &Program) -> Result<Proc,
 
 /// The file of the coproc that the program becomes, at this place.
 fn file_of(alloc: Global, place: Span, program: &Program) -> Result<File, AllocError>
+    requires { picks_in (block_tree program.now.body.items) < 2 ^ 31 }
     ensures { IfOk result (λ file. procedures file ≡ translated place (program_tree program.now) ∷ []) }
 {
     let main = main_procedure(alloc, place, program)?;
