@@ -1,11 +1,12 @@
 -- What the static rules demand of a typed file: each tree that names resolve to meets it, and whoever takes a typed tree asks
 -- for it. The rules of acts are stated for each act of a body, those inside others among them.
-use Rattle.std.specs.Prelude.{◌≡◌, ◌≤◌, ◌<◌, ◌+◌, ℕ, Bool, true, false, not, ◌&&◌, ◌||◌, List, [], ◌∷◌, ◌++◌, Option, Some, None, length}
+use Rattle.std.specs.Prelude.{◌≡◌, ◌≤◌, ◌<◌, ◌+◌, ◌^◌, ℕ, Bool, true, false, not, ◌&&◌, ◌||◌, List, [], ◌∷◌, ◌++◌, Option, Some, None, length}
 use Prim.Native.Nat.{zero, suc}
 use Rattle.heyvl_num.specs.Rational.{Rational, zeroʳ, oneʳ, ◌<ʳ◌}
 use Rattle.heyvl_num.specs.WeightedSums.{total_weight}
 use Rattle.heyvl_places.specs.declared.checks.CheckKind.{CheckKind}
 use Rattle.heylo_formula.specs.Formula.{Form, Term}
+use Rattle.heylo_formula.specs.BinderNames.{Binder, binders}
 use Rattle.heylo_formula.specs.Binders.{has_binder}
 use Rattle.heylo_formula.specs.Extrema.{is_directed}
 use Rattle.heylo_formula.specs.Operators.{agree}
@@ -245,6 +246,21 @@ loop_numbers (Act.call xs q es span ∷ rest) = loop_numbers rest
 abbrev pub counted : ℕ → ℕ → List ℕ
 counted from zero = []
 counted from (suc n) = from ∷ counted (suc from) n
+
+-- ---- Numbers of variables and places
+
+-- Each binder has the name of one of the first n variables.
+abbrev pub AreNamed : ℕ → List Binder → Type 0
+AreNamed n [] = Unit {0}
+AreNamed n (b ∷ bs) = (b.0 < n) × AreNamed n bs
+
+-- Each binder of the post is named after a variable of the procedure, whose name the goals' variables bear.
+abbrev pub HasNamedBinders : TypedProcedure → Type 0
+HasNamedBinders p = AreNamed (length (variables p)) (binders p.post)
+
+-- Each body has fewer acts than a place can count.
+abbrev pub HasFewActs : List TypedProcedure → Type 0
+HasFewActs ps = (p : ℕ) → length (in_order (acts_in (procedure_at ps p).body)) < 2 ^ 31
 
 -- ---- Procedures and files
 

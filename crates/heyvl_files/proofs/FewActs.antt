@@ -12,8 +12,7 @@ use Rattle.heyvl_acts.specs.Count.{count_of, count_of_act, count_of_arms}
 use Rattle.heyvl_types.specs.Files.{file_findings, resolved}
 use Rattle.heyvl_acts.specs.Places.{in_order, inside, inside_arms}
 use Rattle.heyvl_types.specs.ResolvedLaws.{ResolvedProceduresMeetRules}
-use Rattle.heyvl_acts.specs.Rules.{Each, LoopsMeet, MeetsRules}
-use Rattle.run_machine.specs.Names.{HasFewActs}
+use Rattle.heyvl_acts.specs.Rules.{Each, HasFewActs, LoopsMeet, MeetsRules}
 use Rattle.std.proofs.Common.{List, [], arith, length, length-append, suc, zero, ◌*◌, ◌+◌, ◌++◌, ◌<◌, ◌^◌, ◌∷◌, ◌≡◌, ◌≤◌, ℕ}
 
 -- ---- Each If has an arm

@@ -10,7 +10,7 @@ use Rattle.heyvl_places.specs.declared.spans.Span.{Span}
 use Rattle.heyvl_acts.specs.Acts.{variables}
 use Rattle.heyvl_types.specs.Files.{clause, file_findings, first_quantified, front_of, head_scope, joined_with, post_forms, posts_findings, procedure_findings, procedures_findings, resolved, typed}
 use Rattle.heyvl_types.specs.Findings.{Finding, at}
-use Rattle.heyvl_acts.specs.Rules.{Each}
+use Rattle.heyvl_acts.specs.Rules.{AreNamed, Each, HasNamedBinders}
 use Rattle.heyvl_types.specs.Scopes.{Scope, with_local}
 use Rattle.heyvl_types.specs.Signatures.{Called, called}
 use Rattle.heyvl_types.specs.StatementActs.{form}
@@ -21,8 +21,6 @@ use Rattle.std.proofs.Common.{Bool, List, None, Option, Some, [], arith, false, 
 use Rattle.std.proofs.lemmas.List.{length-map}
 use Rattle.std.specs.List.{list_any}
 use Rattle.std.specs.Str.{bytes_eq}
-use Rattle.verify_core.specs.PostBinders.{HasNamedBinders}
-use Rattle.vp_generator.specs.Scopes.{AreNamed}
 
 -- ---- Findings
 

@@ -8,14 +8,12 @@ use Rattle.heyvl_files.specs.Sources.{IsReady, file_limit}
 use Rattle.heyvl_acts.specs.Acts.{TypedProcedure}
 use Rattle.heyvl_types.specs.ResolvedLaws.{IsAnswer, ResolvedTreesMeetRules}
 use Rattle.heyvl_acts.specs.FormSizes.{FormsWithin}
-use Rattle.heyvl_acts.specs.Rules.{Each, IsCounted}
+use Rattle.heyvl_acts.specs.Rules.{Each, HasFewActs, HasNamedBinders, IsCounted}
 use Rattle.heyvl_types.specs.declared.stops.ResolveStop.{ResolveStop}
 use Rattle.heyvl_acts.specs.declared.typed.Typed.{Typed}
-use Rattle.run_machine.specs.Names.{HasFewActs}
 use Rattle.std.proofs.Common.{Err, List, Ok, arith, length, subst, sym, ◌≤◌, ℕ}
 use Rattle.std.specs.Prelude.{IfOk, Result, ◌^◌}
 use Rattle.verify_core.specs.Places.{StandsWithin}
-use Rattle.verify_core.specs.PostBinders.{HasNamedBinders}
 
 pub is_ready : ResolvedTreesMeetRules → FilesHaveFewActs → FilesHaveSmallForms → FilesStandWithin → FilesHaveNamedBinders → (file : List Procedure) (result : Result Typed ResolveStop) → IsAnswer file result
     → IfOk result (λ t. Each IsCounted t.procs.items) → (bytes : List ℕ) → length bytes ≤ file_limit → IsSource bytes file → IfOk result (λ t. IsReady bytes t)

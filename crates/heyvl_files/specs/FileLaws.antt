@@ -1,15 +1,13 @@
 -- The laws of files that tokens spell: what holds of the typed procedures that they become.
 use Rattle.heyvl_acts.specs.FormSizes.{FormsWithin}
-use Rattle.heyvl_acts.specs.Rules.{Each}
+use Rattle.heyvl_acts.specs.Rules.{Each, HasFewActs, HasNamedBinders}
 use Rattle.heyvl_syntax.specs.Grammar.{IsFile}
 use Rattle.heyvl_syntax.specs.Procedures.{Procedure}
 use Rattle.heyvl_syntax.specs.Tokens.{Lexes}
 use Rattle.heyvl_syntax.specs.declared.tokens.Token.{Token}
 use Rattle.heyvl_types.specs.Files.{file_findings, resolved}
-use Rattle.run_machine.specs.Names.{HasFewActs}
 use Rattle.std.specs.Prelude.{List, [], length, ◌^◌, ◌≡◌, ◌≤◌, ℕ}
 use Rattle.verify_core.specs.Places.{StandsWithin}
-use Rattle.verify_core.specs.PostBinders.{HasNamedBinders}
 
 -- In a file in which nothing is found, each body has fewer acts than a place can count.
 abbrev pub FilesHaveFewActs : Type 0

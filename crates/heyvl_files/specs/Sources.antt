@@ -1,7 +1,7 @@
 -- Files of HeyVL that bytes spell: their faults, and their typed trees. This project's own.
 use Rattle.heyvl_acts.specs.FormSizes.{FormsWithin}
 use Rattle.heyvl_acts.specs.PlainActs.{procedures_of}
-use Rattle.heyvl_acts.specs.Rules.{Each, MeetsAllRules}
+use Rattle.heyvl_acts.specs.Rules.{Each, HasFewActs, HasNamedBinders, MeetsAllRules}
 use Rattle.heyvl_acts.specs.declared.typed.Typed.{Typed}
 use Rattle.heyvl_places.specs.declared.spans.Span.{Span}
 use Rattle.heyvl_syntax.specs.Procedures.{Procedure}
@@ -9,10 +9,8 @@ use Rattle.heyvl_syntax.specs.SourceFaults.{IsSource, IsSourceFault}
 use Rattle.heyvl_files.specs.declared.sources.SourceStop.TheVariants.{Fault, Memory}
 use Rattle.heyvl_files.specs.declared.sources.SourceStop.{SourceStop}
 use Rattle.heyvl_types.specs.Files.{first_fault, resolved}
-use Rattle.run_machine.specs.Names.{HasFewActs}
 use Rattle.std.specs.Prelude.{List, None, Some, length, ◌^◌, ◌≡◌, ℕ}
 use Rattle.verify_core.specs.Places.{StandsWithin}
-use Rattle.verify_core.specs.PostBinders.{HasNamedBinders}
 
 -- The most bytes that a file may have.
 abbrev pub file_limit : ℕ

@@ -21,14 +21,14 @@ use Rattle.heylo_formula.proofs.exported.Plain.{joins, term_plain}
 use Rattle.heylo_formula.proofs.exported.Substitutions.{count_subst, subst_binders, subst_formula, subst_over}
 use Rattle.heyvl_acts.specs.Acts.{TypedProcedure, type_list, variables}
 use Rattle.heyvl_acts.specs.FormSizes.{FormsWithin}
-use Rattle.heyvl_acts.specs.Rules.{Each, MeetsRules}
+use Rattle.heyvl_acts.specs.Rules.{AreNamed, Each, MeetsRules}
 use Rattle.heyvl_acts.specs.WellTyped.{ActsFit}
 use Rattle.vp_generator.specs.Fit.{AreFit}
 use Rattle.vp_generator.specs.Laws.{GeneratedFormIsFormula}
 use Rattle.vp_generator.specs.Limits.{IsSmall}
 use Rattle.vp_generator.specs.Over.{GeneratedFormIsOver}
 use Rattle.vp_generator.specs.PrenexLaws.{PrenexedFormHasNoBinder, PrenexedFormIsFormula}
-use Rattle.vp_generator.specs.Scopes.{AreNamed, GeneratedFormIsNamed}
+use Rattle.vp_generator.specs.Scopes.{GeneratedFormIsNamed}
 use Rattle.lower_rules.specs.OmegaGoals.{after_body, after_loop, greater, limited, smaller}
 use Rattle.lower_rules.specs.OmegaPairs.{IsOmegaPair, formula_of}
 use Rattle.lower_rules.specs.OneLoop.{OneLoop}

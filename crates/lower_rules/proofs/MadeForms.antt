@@ -13,7 +13,7 @@ use Rattle.ranking_rule.specs.MadeGoals.{IsMadeWithin, goal_over}
 use Rattle.ranking_rule.proofs.exported.MadeGoals.{is_made_within}
 use Rattle.vp_generator.specs.Fit.{AreFit}
 use Rattle.vp_generator.specs.PrenexedGoals.{IsMade}
-use Rattle.vp_generator.specs.Scopes.{AreNamed}
+use Rattle.heyvl_acts.specs.Rules.{AreNamed}
 
 pub fit_as : (a b : Acts) (f g : Form) → a ≡ b → f ≡ g → AreFit b g → AreFit a f
 fit_as a b f g e i h = subst (λ x. AreFit x f) (sym e) (subst (λ x. AreFit b x) (sym i) h)

@@ -14,7 +14,7 @@ use Rattle.goal_answers.specs.declared.decisions.Decision.TheVariants as decisio
 use Rattle.heyvl_acts.specs.Acts.{Acts, TypedProcedure, Variable, procedure_at, variables}
 use Rattle.heyvl_acts.specs.FormSizes.{FormsWithin}
 use Rattle.heyvl_acts.specs.PlainActs.{acts_of, procedures_of, variable_of}
-use Rattle.heyvl_acts.specs.Rules.{Each, MeetsAllRules, MeetsRules}
+use Rattle.heyvl_acts.specs.Rules.{AreNamed, Each, MeetsAllRules, MeetsRules}
 use Rattle.heyvl_acts.specs.Upward.{upward}
 use Rattle.heyvl_acts.specs.declared.typed.TProc.{TProc}
 use Rattle.heyvl_acts.specs.declared.typed.Typed.{Typed}
@@ -29,7 +29,7 @@ use Rattle.vp_generator.specs.Fit.{AreFit}
 use Rattle.vp_generator.specs.Laws.{GeneratedFormIsFormula, GeneratedFormMeansActs}
 use Rattle.vp_generator.specs.Over.{GeneratedFormIsOver}
 use Rattle.vp_generator.specs.PrenexedGoals.{PrenexedGoalsAreGoals, PrenexedGoalsFailByChoices, PrenexedGoalsSpeakOfChoices}
-use Rattle.vp_generator.specs.Scopes.{AreNamed, GeneratedFormIsNamed}
+use Rattle.vp_generator.specs.Scopes.{GeneratedFormIsNamed}
 use Rattle.lower_rules.specs.RemainderPairs.{RemainderPair}
 use Rattle.lower_rules.specs.StartGoals.{start_goal}
 use Rattle.lower_rules.specs.UpperGoals.{IsDecidedWithin}

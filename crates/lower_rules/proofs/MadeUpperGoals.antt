@@ -12,7 +12,8 @@ use Rattle.heyvl_acts.specs.declared.typed.VarInfo.{VarInfo}
 use Rattle.ranking_rule.specs.MadeGoals.{all_names, names}
 use Rattle.vp_generator.specs.Prenexed.{new_types, prenexed}
 use Rattle.vp_generator.specs.PrenexedGoals.{names_of_variables, types_of_variables}
-use Rattle.vp_generator.specs.Scopes.{AreNamed, name_of, named}
+use Rattle.heyvl_acts.specs.Rules.{AreNamed}
+use Rattle.vp_generator.specs.Scopes.{name_of, named}
 use Rattle.lower_rules.specs.UpperGoals.{upper_goal}
 
 same_names : (vs : List VarInfo) → names (map variable_of vs) ≡ names_of_variables vs

@@ -10,7 +10,7 @@ use Rattle.heylo_formula.specs.declared.goals.Made.{Made}
 use Rattle.heylo_formula.specs.declared.types.Ty.{Ty}
 use Rattle.heyvl_acts.specs.Acts.{Act, Acts, TypedProcedure, Variable, procedure_at, type_list, variables}
 use Rattle.heyvl_acts.specs.PlainActs.{procedure_of, variable_of}
-use Rattle.heyvl_acts.specs.Rules.{Each, GrowBelow, IsCounted, LoopsMeet, MeetsRules}
+use Rattle.heyvl_acts.specs.Rules.{AreNamed, Each, GrowBelow, IsCounted, LoopsMeet, MeetsRules}
 use Rattle.heyvl_acts.specs.declared.typed.TProc.{TProc}
 use Rattle.heyvl_acts.specs.declared.typed.VarInfo.{VarInfo}
 use Rattle.heyvl_acts.proofs.exported.Each.{each_at}
@@ -22,7 +22,7 @@ use Rattle.vp_generator.specs.Limits.{IsSmall}
 use Rattle.vp_generator.specs.Over.{GeneratedFormIsOver}
 use Rattle.vp_generator.specs.PrenexedGoals.{PrenexedGoalsAreGoals}
 use Rattle.vp_generator.specs.PrenexLaws.{PrenexedFormHasNoBinder, PrenexedFormIsFormula}
-use Rattle.vp_generator.specs.Scopes.{AreNamed, GeneratedFormIsNamed}
+use Rattle.vp_generator.specs.Scopes.{GeneratedFormIsNamed}
 use Rattle.vp_generator.specs.declared.stops.VpStop.{VpStop}
 use Rattle.vp_generator.specs.declared.stops.VpStop.TheVariants as stop
 use Rattle.lower_rules.specs.OmegaGoals.{goal_variables, greater, limited, step_goal}

@@ -18,7 +18,7 @@ use Rattle.heylo_formula.proofs.exported.BinderNames.{unnamed}
 use Rattle.heyvl_acts.specs.Acts.{Acts, TypedProcedure, Variable, type_list, types_of, variables}
 use Rattle.heyvl_acts.specs.FormSizes.{FormsWithin}
 use Rattle.heyvl_acts.specs.Forward.{forward}
-use Rattle.heyvl_acts.specs.Rules.{MeetsRules}
+use Rattle.heyvl_acts.specs.Rules.{AreNamed, MeetsRules}
 use Rattle.heyvl_acts.specs.Upward.{upward}
 use Rattle.heyvl_acts.specs.WellTyped.{ActsFit}
 use Rattle.ranking_rule.specs.Laws.{IsFew}
@@ -31,7 +31,7 @@ use Rattle.vp_generator.specs.Limits.{IsSmall}
 use Rattle.vp_generator.specs.Over.{GeneratedFormIsOver}
 use Rattle.vp_generator.specs.Prenexed.{new_types}
 use Rattle.vp_generator.specs.PrenexedGoals.{PrenexedGoalsAreGoals, PrenexedGoalsFailByChoices, PrenexedGoalsSpeakOfChoices}
-use Rattle.vp_generator.specs.Scopes.{AreNamed, GeneratedFormIsNamed}
+use Rattle.vp_generator.specs.Scopes.{GeneratedFormIsNamed}
 use Rattle.lower_rules.specs.StartGoals.{StartFails, StartHolds, start_goal}
 use Rattle.lower_rules.proofs.StartParts.{IsStart, bound_formula, bound_over}
 use Rattle.ranking_rule.proofs.exported.MadeGoals.{all_names_length, new_types_length}

@@ -8,7 +8,7 @@ ghost use Rattle.ranking_rule.specs.MadeGoals.{IsMadeWithin, goal_over};
 ghost use Rattle.std.specs.Prelude.{IfOk, length, map, true, ◌<◌, ◌^◌};
 ghost use Rattle.vp_generator.specs.Fit.{AreFit};
 ghost use Rattle.vp_generator.specs.Generated.{vp};
-ghost use Rattle.vp_generator.specs.Scopes.{AreNamed};
+ghost use Rattle.heyvl_acts.specs.Rules.{AreNamed};
 
 use crate::copies::copied;
 use heylo_formula::{Form, Made};

@@ -9,7 +9,7 @@ ghost use Rattle.lower_rules.specs.UpperGoals.{upper_goal};
 ghost use Rattle.lower_rules.specs.internal.Pairs.{IsReady, first, head, second};
 ghost use Rattle.std.specs.Prelude.{IfOk, length, map, ◌+◌, ◌<◌, ◌^◌, ◌≡◌};
 ghost use Rattle.vp_generator.specs.PrenexedGoals.{names_of_variables, types_of_variables};
-ghost use Rattle.vp_generator.specs.Scopes.{AreNamed};
+ghost use Rattle.heyvl_acts.specs.Rules.{AreNamed};
 
 use crate::copies::{copied, copy_of};
 use crate::pairs::Pair;

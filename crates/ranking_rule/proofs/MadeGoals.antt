@@ -11,7 +11,8 @@ use Rattle.heyvl_acts.specs.PlainActs.{variable_of}
 use Rattle.heyvl_acts.specs.declared.typed.VarInfo.{VarInfo}
 use Rattle.vp_generator.specs.Prenexed.{new_types}
 use Rattle.vp_generator.specs.PrenexedGoals.{IsMade, names_of_variables, prenexed_goal, types_of_variables}
-use Rattle.vp_generator.specs.Scopes.{AreNamed, name_of, named}
+use Rattle.heyvl_acts.specs.Rules.{AreNamed}
+use Rattle.vp_generator.specs.Scopes.{name_of, named}
 use Rattle.ranking_rule.specs.MadeGoals.{IsMadeWithin, all_names, goal_over, names}
 
 same_names : (vs : List VarInfo) → names (map variable_of vs) ≡ names_of_variables vs

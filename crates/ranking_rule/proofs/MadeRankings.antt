@@ -20,7 +20,7 @@ use Rattle.heyvl_acts.proofs.exported.PlainActsAre.{head_of}
 use Rattle.heyvl_acts.specs.Acts.{Head, Act, Acts, Arms, TypedProcedure, Variable, acts_in, procedure_at, type_list, types_of, variables}
 use Rattle.heyvl_acts.specs.Places.{in_order, inside, inside_arms}
 use Rattle.heyvl_acts.specs.PlainActs.{acts_of, procedure_of, procedures_of, rank_of, variable_of}
-use Rattle.heyvl_acts.specs.Rules.{Each, MeetsAllRules, MeetsRules}
+use Rattle.heyvl_acts.specs.Rules.{AreNamed, Each, MeetsAllRules, MeetsRules}
 use Rattle.heyvl_acts.specs.declared.acts.LoopAct.{LoopAct}
 use Rattle.heyvl_acts.specs.declared.typed.TProc.{TProc}
 use Rattle.heyvl_acts.specs.declared.typed.Typed.{Typed}
@@ -28,7 +28,7 @@ use Rattle.heyvl_acts.specs.declared.typed.VarInfo.{VarInfo}
 use Rattle.vp_generator.specs.Fit.{AreFit}
 use Rattle.vp_generator.specs.Generated.{vp}
 use Rattle.vp_generator.specs.PrenexedGoals.{IsMade, prenexed_goal}
-use Rattle.vp_generator.specs.Scopes.{AreNamed, AnysAreBelow, AnysAreBelow_in, GeneratedFormIsNamed}
+use Rattle.vp_generator.specs.Scopes.{AnysAreBelow, AnysAreBelow_in, GeneratedFormIsNamed}
 use Rattle.ranking_rule.specs.MadeGoals.{IsMadeWithin, all_names, goal_over, names}
 use Rattle.ranking_rule.specs.RankingGoals.{IsMadeOf, found, generated, goal}
 use Rattle.ranking_rule.specs.Rankings.{RankedLoop, loop_in}

@@ -5,12 +5,11 @@ ghost use Rattle.heylo_formula.specs.Binders.{has_binder_in};
 ghost use Rattle.heylo_formula.specs.PlainTrees.{cond_of, form_of};
 ghost use Rattle.heyvl_acts.specs.Acts.{Acts as plain_acts, Head, TypedProcedure, procedure_at, variables};
 ghost use Rattle.heyvl_acts.specs.PlainActs.{procedures_of, variable_of};
-ghost use Rattle.heyvl_acts.specs.Rules.{MeetsAllRules};
+ghost use Rattle.heyvl_acts.specs.Rules.{AreNamed, MeetsAllRules};
 ghost use Rattle.ranking_rule.specs.RankingGoals.{IsMadeOf, generated, tested};
 ghost use Rattle.ranking_rule.specs.Rankings.{RankedLoop};
 ghost use Rattle.ranking_rule.specs.internal.Tested.{IsTested};
 ghost use Rattle.std.specs.Prelude.{IfOk, false, length, map, ◌<◌, ◌^◌, ◌≡◌};
-ghost use Rattle.vp_generator.specs.Scopes.{AreNamed};
 
 use crate::loops::loop_of;
 use crate::upward_acts::upward;

@@ -2,11 +2,11 @@
 
 ghost use Rattle.std.specs.Prelude.{◌≡◌, ◌≤◌, IfOk, min, ℕ};
 ghost use Rattle.heyvl_acts.specs.PlainActs.{procedures_of};
-ghost use Rattle.heyvl_acts.specs.Rules.{MeetsAllRules};
+ghost use Rattle.heyvl_acts.specs.Rules.{HasFewActs, MeetsAllRules};
 ghost use Rattle.heyvl_num.specs.Extended.{value_of};
 ghost use Rattle.refute_runs.specs.SumsAfter.{Unrollings, unrolled_from};
 ghost use Rattle.refute_runs.specs.internal.Probes.{IsSeen};
-ghost use Rattle.run_machine.specs.Names.{HasFewActs, stored};
+ghost use Rattle.run_machine.specs.Names.{stored};
 ghost use Rattle.run_unroller.specs.Unrolling.{Begins, Unrolling, totals_of};
 
 use crate::answers::Refuted;

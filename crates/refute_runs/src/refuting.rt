@@ -3,7 +3,7 @@
 ghost use Rattle.std.specs.Prelude.{◌≡◌, ◌≤◌, IfOk, option_map, true};
 ghost use Rattle.heyvl_acts.specs.Acts.{procedure_at};
 ghost use Rattle.heyvl_acts.specs.PlainActs.{procedures_of};
-ghost use Rattle.heyvl_acts.specs.Rules.{MeetsAllRules};
+ghost use Rattle.heyvl_acts.specs.Rules.{HasFewActs, MeetsAllRules};
 ghost use Rattle.heyvl_num.specs.Extended.{value_of};
 ghost use Rattle.quant_algebra.specs.ExactMeaning.{exact_value};
 ghost use Rattle.refute_runs.specs.RefutedAnswers.{IsRefutedAnswer};
@@ -12,7 +12,6 @@ ghost use Rattle.refute_runs.specs.Violations.{NumbersAreOfRuns, ViolationIsOfRu
 ghost use Rattle.refute_runs.specs.internal.Probes.{IsPossible};
 ghost use Rattle.run_machine.specs.Bound.{IsState};
 ghost use Rattle.run_machine.specs.ConfigConditions.{ReachesPrograms};
-ghost use Rattle.run_machine.specs.Names.{HasFewActs};
 
 use crate::answers::Refuted;
 use crate::searching::search;

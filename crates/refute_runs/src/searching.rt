@@ -2,12 +2,12 @@
 
 ghost use Rattle.std.specs.Prelude.{◌≤◌, IfOk, Some};
 ghost use Rattle.heyvl_acts.specs.PlainActs.{procedures_of};
-ghost use Rattle.heyvl_acts.specs.Rules.{MeetsAllRules};
+ghost use Rattle.heyvl_acts.specs.Rules.{HasFewActs, MeetsAllRules};
 ghost use Rattle.heyvl_num.specs.Extended.{value_of};
 ghost use Rattle.refute_runs.specs.RefutedAnswers.{MayCome};
 ghost use Rattle.refute_runs.specs.SumsAfter.{unrolled_from};
 ghost use Rattle.refute_runs.specs.internal.Probes.{IsCandidate, IsLeast};
-ghost use Rattle.run_machine.specs.Names.{HasFewActs, stored};
+ghost use Rattle.run_machine.specs.Names.{stored};
 ghost use Rattle.run_unroller.specs.Unrolling.{Begins};
 
 use crate::answers::Refuted;

@@ -9,13 +9,13 @@ use Rattle.heylo_formula.specs.Formula.{Term}
 use Rattle.heylo_formula.specs.State.{fit}
 use Rattle.heyvl_acts.specs.Acts.{Act, TypedProcedure, procedure_at, types_of}
 use Rattle.heyvl_acts.specs.Places.{nth, inside}
-use Rattle.heyvl_acts.specs.Rules.{Each, MeetsRules}
+use Rattle.heyvl_acts.specs.Rules.{Each, HasFewActs, MeetsRules}
 use Rattle.run_machine.specs.declared.configurations.Item.TheVariants.{Do, Turn, Out, Back}
 use Rattle.run_machine.specs.declared.configurations.Stepped.{Stepped}
 use Rattle.run_machine.specs.BoundedStep.{act_fits, item_fits, items_fit}
 use Rattle.run_machine.specs.ConfigConditions.{AreLists, IsConfig}
 use Rattle.run_machine.specs.Configurations.{Item}
-use Rattle.run_machine.specs.Names.{HasFewActs, Names, Numbered, Lists, Stored, act_item, call_parts, turn_item, item_of, items_of, config_of}
+use Rattle.run_machine.specs.Names.{Names, Numbered, Lists, Stored, act_item, call_parts, turn_item, item_of, items_of, config_of}
 use Rattle.run_machine.specs.Replies.{StoredOutcomes, reply_of, replied, surely}
 use Rattle.run_machine.specs.Step.{Decision, value_of}
 use Rattle.run_machine.specs.StepAnswers.{IsStep}

@@ -1,12 +1,12 @@
 -- The configurations that the program holds, which name acts by their places, read as those of the definition.
-use Rattle.std.specs.Prelude.{◌≡◌, ◌+◌, ◌<◌, ◌^◌, ℕ, true, false, List, [], ◌∷◌, Option, Some, None, map, length, reverse, get_or}
+use Rattle.std.specs.Prelude.{◌≡◌, ◌+◌, ℕ, true, false, List, [], ◌∷◌, Option, Some, None, map, length, reverse, get_or}
 use Rattle.std.specs.Borrow.{Bor}
 use Prim.Native.Nat.{zero, suc}
 use Rattle.heyvl_num.specs.Value.{Value}
 use Rattle.heyvl_num.specs.Extended as extended
 use Rattle.heylo_formula.specs.declared.values.Val.{Val}
-use Rattle.heyvl_acts.specs.Acts.{Act, Acts, TypedProcedure, types_of, acts_in, procedure_at}
-use Rattle.heyvl_acts.specs.Places.{act_named, in_order, inside}
+use Rattle.heyvl_acts.specs.Acts.{Act, Acts, TypedProcedure, types_of, procedure_at}
+use Rattle.heyvl_acts.specs.Places.{act_named, inside}
 use Rattle.run_machine.specs.declared.configurations.Item as I
 use Rattle.run_machine.specs.declared.configurations.Item.TheVariants.{Do, Turn, Out, Back}
 use Rattle.run_machine.specs.declared.configurations.Frame as F
@@ -129,7 +129,3 @@ decision_of (Some d) = decided d.now
 abbrev pub numbered : ℕ → ℕ → Acts → List Numbered
 numbered p place Acts.done = []
 numbered p place (Acts.next a rest) = Do p place ∷ numbered p (place + suc (length (inside a))) rest
-
--- Each body has fewer acts than a place can count.
-abbrev pub HasFewActs : List TypedProcedure → Type 0
-HasFewActs ps = (p : ℕ) → length (in_order (acts_in (procedure_at ps p).body)) < 2 ^ 31

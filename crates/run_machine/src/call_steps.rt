@@ -4,10 +4,10 @@ ghost use Rattle.std.specs.Prelude.{◌≡◌, ◌<◌, ◌≤◌, ◌+◌, ◌+
 ghost use Rattle.heylo_formula.specs.State.{default as default_of, environment};
 ghost use Rattle.heyvl_acts.specs.Acts.{procedure_at, type_list};
 ghost use Rattle.heyvl_acts.specs.PlainActs.{procedure_of, procedures_of, terms_of, variable_of};
-ghost use Rattle.heyvl_acts.specs.Rules.{Each};
+ghost use Rattle.heyvl_acts.specs.Rules.{Each, HasFewActs};
 ghost use Rattle.run_machine.specs.BoundedStep.{terms_fit};
 ghost use Rattle.run_machine.specs.Configurations.{evaluate, outputs_of, set_all};
-ghost use Rattle.run_machine.specs.Names.{HasFewActs, Lists, lists_of, stored};
+ghost use Rattle.run_machine.specs.Names.{Lists, lists_of, stored};
 ghost use Rattle.run_machine.specs.Replies.{reply_of, replied, surely};
 ghost use Rattle.run_machine.specs.StoredMoves.{behind, entered, out_items, resumed};
 ghost use Rattle.run_machine.specs.internal.Counts.{IsSmall};

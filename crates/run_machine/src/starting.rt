@@ -6,7 +6,8 @@ ghost use Rattle.heyvl_acts.specs.PlainActs.{procedures_of};
 ghost use Rattle.run_machine.specs.Bound.{IsState};
 ghost use Rattle.run_machine.specs.ConfigConditions.{IsConfig, ReachesPrograms};
 ghost use Rattle.run_machine.specs.Configurations.{begin as begin_of};
-ghost use Rattle.run_machine.specs.Names.{HasFewActs, stored, config_of, numbered};
+ghost use Rattle.heyvl_acts.specs.Rules.{HasFewActs};
+ghost use Rattle.run_machine.specs.Names.{stored, config_of, numbered};
 ghost use Rattle.run_machine.specs.StoredStep.{stored_begin};
 
 use crate::blocks::push_block;

@@ -3,9 +3,9 @@
 ghost use Rattle.std.specs.Prelude.{◌≡◌, ◌∷◌, IfOk, drop};
 ghost use Rattle.heyvl_acts.specs.Acts.{procedure_at, types_of};
 ghost use Rattle.heyvl_acts.specs.PlainActs.{act_of, procedures_of};
-ghost use Rattle.heyvl_acts.specs.Rules.{MeetsAllRules};
+ghost use Rattle.heyvl_acts.specs.Rules.{HasFewActs, MeetsAllRules};
 ghost use Rattle.run_machine.specs.ConfigConditions.{HasRoom, IsConfig};
-ghost use Rattle.run_machine.specs.Names.{HasFewActs, decision_of, stored};
+ghost use Rattle.run_machine.specs.Names.{decision_of, stored};
 ghost use Rattle.run_machine.specs.Step.{Decision};
 ghost use Rattle.run_machine.specs.StepAnswers.{IsStep};
 ghost use Rattle.run_machine.specs.declared.configurations.Item.TheVariants.{Back};

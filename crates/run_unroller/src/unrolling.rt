@@ -3,8 +3,8 @@
 ghost use Rattle.std.specs.Prelude.{◌≡◌, ◌≤◌, ◌+◌, IfOk};
 ghost use Rattle.heyvl_acts.specs.Acts.{procedure_at};
 ghost use Rattle.heyvl_acts.specs.PlainActs.{procedures_of};
-ghost use Rattle.heyvl_acts.specs.Rules.{MeetsAllRules};
-ghost use Rattle.run_machine.specs.Names.{HasFewActs, stored};
+ghost use Rattle.heyvl_acts.specs.Rules.{HasFewActs, MeetsAllRules};
+ghost use Rattle.run_machine.specs.Names.{stored};
 ghost use Rattle.run_machine.specs.Replies.{stored_outcomes};
 ghost use Rattle.run_unroller.specs.RunLists.{begun};
 ghost use Rattle.run_unroller.specs.Totals.{totals};

@@ -13,17 +13,15 @@ use Rattle.heylo_formula.specs.declared.goals.GoalId.TheVariants.{Pre, Post, Inv
 use Rattle.heyvl_acts.specs.Acts.{Act, TypedProcedure, acts_in, variables}
 use Rattle.heyvl_acts.specs.PlainActs.{act_of, acts_of}
 use Rattle.heyvl_acts.specs.Places.{in_order, inside}
-use Rattle.heyvl_acts.specs.Rules.{Each, IsTypedAct, MeetsRules, counted, loop_numbers}
+use Rattle.heyvl_acts.specs.Rules.{AreNamed, Each, HasNamedBinders, IsTypedAct, MeetsRules, counted, loop_numbers}
 use Rattle.heyvl_acts.specs.declared.acts.Act as A
 use Rattle.heyvl_acts.specs.declared.acts.LoopAct.{LoopAct}
 use Rattle.heyvl_acts.proofs.exported.PlainActsAre.{loop_act}
 use Rattle.std.specs.declared.boxed.Box.{Box}
 use Rattle.loop_encodings.specs.BoundGoals.{invariant_in}
-use Rattle.verify_core.specs.PostBinders.{HasNamedBinders}
 use Rattle.verify_core.specs.Questions.{form_or_zero, one_bound, question}
 use Rattle.verify_core.specs.declared.asking.Asked as declared
 use Rattle.verify_core.specs.internal.Asked.{Asked, IsAsked, asked, asked_by, asked_invariants, plain}
-use Rattle.vp_generator.specs.Scopes.{AreNamed}
 use Rattle.verify_core.proofs.ActWalks.{IsFirst, further, other_number, own_number, same_from}
 
 -- ---- The walk

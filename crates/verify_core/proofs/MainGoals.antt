@@ -10,7 +10,7 @@ use Rattle.heylo_formula.specs.declared.goals.GoalId.TheVariants.{Main}
 use Rattle.heylo_formula.specs.declared.goals.Made.{Made}
 use Rattle.heyvl_acts.specs.Acts.{TypedProcedure, Variable, acts_in, procedure_at, type_list, variables}
 use Rattle.heyvl_acts.specs.PlainActs.{acts_of, procedure_of, procedures_of, variable_of}
-use Rattle.heyvl_acts.specs.Rules.{Each, MeetsAllRules, MeetsRules}
+use Rattle.heyvl_acts.specs.Rules.{AreNamed, Each, HasNamedBinders, MeetsAllRules, MeetsRules}
 use Rattle.heyvl_acts.specs.declared.acts.Act as A
 use Rattle.heyvl_acts.specs.declared.typed.TProc.{TProc}
 use Rattle.heyvl_acts.specs.declared.typed.Typed.{Typed}
@@ -20,8 +20,7 @@ use Rattle.loop_encodings.specs.EncodingLaws.{EncodingBindsItsVariables}
 use Rattle.loop_encodings.specs.Fresh.{fresh}
 use Rattle.vp_generator.specs.Generated.{vp}
 use Rattle.vp_generator.specs.PrenexedGoals.{IsMade}
-use Rattle.vp_generator.specs.Scopes.{AreNamed, GeneratedFormIsNamed}
-use Rattle.verify_core.specs.PostBinders.{HasNamedBinders}
+use Rattle.vp_generator.specs.Scopes.{GeneratedFormIsNamed}
 use Rattle.verify_core.specs.Questions.{IsMadeOf, Question, one_bound, question}
 use Rattle.verify_core.proofs.AskedGoals.{few_variables}
 use Rattle.loop_encodings.proofs.exported.EncodedTypes.{encoding_fits}

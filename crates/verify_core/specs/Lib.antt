@@ -1,7 +1,6 @@
 pub mod Numbered
 pub mod LoopVerdicts
 pub mod Questions
-pub mod PostBinders
 pub mod Rankings
 pub mod Decided
 pub mod DecidedRankings

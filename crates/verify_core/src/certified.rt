@@ -2,13 +2,12 @@
 
 ghost use Rattle.cert_text.specs.Certificates.{IsGrowingAfter, certificates_of};
 ghost use Rattle.heyvl_acts.specs.PlainActs.{procedures_of};
-ghost use Rattle.heyvl_acts.specs.Rules.{Each, MeetsAllRules};
+ghost use Rattle.heyvl_acts.specs.Rules.{Each, HasNamedBinders, MeetsAllRules};
 ghost use Rattle.std.specs.Prelude.{IfOk, None, [], length, ◌≡◌, ℕ};
 ghost use Rattle.verdict_report.specs.Placed.{IsAnswerPlaced};
 ghost use Rattle.verify_core.specs.CheckedAnswers.{IsCheckedFile};
 ghost use Rattle.verify_core.specs.Headline.{IsHeadline};
 ghost use Rattle.verify_core.specs.Places.{StandsWithin};
-ghost use Rattle.verify_core.specs.PostBinders.{HasNamedBinders};
 
 use crate::checking::own_verdicts;
 use crate::laws::made_goals_say_bounds;

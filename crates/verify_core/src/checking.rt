@@ -4,12 +4,11 @@ ghost use Rattle.cert_text.specs.Certificates.{IsGrowingAfter, certificates_of};
 ghost use Rattle.goal_answers.specs.Trees.{tree_of};
 ghost use Rattle.heyvl_acts.specs.Acts.{procedure_at};
 ghost use Rattle.heyvl_acts.specs.PlainActs.{procedures_of};
-ghost use Rattle.heyvl_acts.specs.Rules.{Each, MeetsAllRules};
+ghost use Rattle.heyvl_acts.specs.Rules.{Each, HasNamedBinders, MeetsAllRules};
 ghost use Rattle.std.specs.Prelude.{IfOk, List, None, length, ◌<◌, ◌≡◌};
 ghost use Rattle.verify_core.specs.Checked.{CheckedGoal, IsMissOf, first_miss, missed};
 ghost use Rattle.verify_core.specs.CheckedRankings.{IsRankingAnswer};
 ghost use Rattle.verify_core.specs.Decided.{or_else};
-ghost use Rattle.verify_core.specs.PostBinders.{HasNamedBinders};
 ghost use Rattle.verify_core.specs.internal.Checking.{AreOwn, IsFirstMiss, IsFound, IsOwn, IsOwnVerdict};
 ghost use Rattle.verify_core.specs.internal.OwnRankings.{AreLoopAnswers, AreOwnRankings, IsLoopAnswer};
 

@@ -6,14 +6,12 @@ ghost use Rattle.heylo_formula.specs.declared.goals.GoalId.{GoalId};
 ghost use Rattle.heylo_formula.specs.declared.goals.GoalId.TheVariants.{Main};
 ghost use Rattle.heyvl_acts.specs.Acts.{procedure_at};
 ghost use Rattle.heyvl_acts.specs.PlainActs.{procedure_of, procedures_of, variable_of};
-ghost use Rattle.heyvl_acts.specs.Rules.{Each, MeetsAllRules};
+ghost use Rattle.heyvl_acts.specs.Rules.{AreNamed, Each, HasNamedBinders, MeetsAllRules};
 ghost use Rattle.loop_encodings.specs.BoundGoals.{bound_goals};
 ghost use Rattle.std.specs.Prelude.{IfOk, List, length, map, ◌++◌, ◌<◌, ◌≡◌, ◌^◌};
-ghost use Rattle.verify_core.specs.PostBinders.{HasNamedBinders};
 ghost use Rattle.verify_core.specs.Questions.{AreGoals, IsMadeOf, one_bound, question};
 ghost use Rattle.verify_core.specs.Rankings.{AreAllGoals};
 ghost use Rattle.verify_core.specs.internal.Asked.{IsAsked, plain};
-ghost use Rattle.vp_generator.specs.Scopes.{AreNamed};
 
 use crate::asking::{Asked, asked_of};
 use crate::rankings::rankings;

@@ -2,9 +2,8 @@
 
 ghost use Rattle.heyvl_acts.specs.FormSizes.{FormsWithin};
 ghost use Rattle.heyvl_acts.specs.PlainActs.{procedures_of};
-ghost use Rattle.heyvl_acts.specs.Rules.{Each, MeetsAllRules};
+ghost use Rattle.heyvl_acts.specs.Rules.{Each, HasNamedBinders, MeetsAllRules};
 ghost use Rattle.std.specs.Prelude.{IfOk, [], length, ◌<◌, ◌^◌, ◌≡◌};
-ghost use Rattle.verify_core.specs.PostBinders.{HasNamedBinders};
 ghost use Rattle.verify_core.specs.internal.Rows.{AreSettled, IsBoundRow, IsRankingRow, IsRow};
 
 use crate::deciding::decide_all;

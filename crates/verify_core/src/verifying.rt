@@ -2,13 +2,12 @@
 
 ghost use Rattle.heyvl_acts.specs.FormSizes.{FormsWithin};
 ghost use Rattle.heyvl_acts.specs.PlainActs.{procedures_of};
-ghost use Rattle.heyvl_acts.specs.Rules.{Each, MeetsAllRules};
+ghost use Rattle.heyvl_acts.specs.Rules.{Each, HasNamedBinders, MeetsAllRules};
 ghost use Rattle.std.specs.Prelude.{IfOk, length, ◌^◌, ℕ};
 ghost use Rattle.verdict_report.specs.Placed.{IsAnswerPlaced};
 ghost use Rattle.verify_core.specs.Answered.{IsAnswered};
 ghost use Rattle.verify_core.specs.Headline.{IsHeadline};
 ghost use Rattle.verify_core.specs.Places.{StandsWithin};
-ghost use Rattle.verify_core.specs.PostBinders.{HasNamedBinders};
 
 use crate::laws::made_goals_say_bounds;
 use crate::marks::open_procedures;

@@ -14,7 +14,8 @@ use Rattle.heyvl_acts.specs.Acts.{Act, Acts, Arms}
 use Rattle.vp_generator.specs.Generated.{pick_form, check_form, validate_form, part_form, sum_of_parts, toss_form, vp, vp_act, vp_arms}
 use Rattle.heyvl_acts.specs.WellTyped.{PartsFit, ActFits, ActsFit, ArmsFit}
 use Rattle.heylo_formula.specs.BinderNames.{Binder, binders, binders_in}
-use Rattle.vp_generator.specs.Scopes.{AreNamed, AnyIsBelow, AnysAreBelow, AnysAreBelow_in}
+use Rattle.heyvl_acts.specs.Rules.{AreNamed}
+use Rattle.vp_generator.specs.Scopes.{AnyIsBelow, AnysAreBelow, AnysAreBelow_in}
 use Rattle.heylo_formula.proofs.exported.Plain.{term_plain, typed_plain}
 use Rattle.heylo_formula.proofs.exported.BinderNames.{names_plain, unnamed, unnamed_in}
 

@@ -6,13 +6,9 @@ use Rattle.heylo_formula.specs.declared.types.Ty.TheVariants.{Bool}
 use Rattle.heylo_formula.specs.Formula.{Form}
 use Rattle.heylo_formula.specs.Typing.{Types}
 use Rattle.heyvl_acts.specs.Acts.{Act, Acts, Arms}
+use Rattle.heyvl_acts.specs.Rules.{AreNamed}
 use Rattle.vp_generator.specs.Generated.{vp}
 use Rattle.heyvl_acts.specs.WellTyped.{ActsFit}
-
--- Each binder has the name of one of the first n variables.
-abbrev pub AreNamed : ℕ → List Binder → Type 0
-AreNamed n [] = Unit {0}
-AreNamed n (b ∷ bs) = (b.0 < n) × AreNamed n bs
 
 abbrev pub name_of : List VarInfo → ℕ → List ℕ
 name_of vs x = (slice_index_or vs x (record { name = []; ty = Bool })).name

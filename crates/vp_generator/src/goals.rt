@@ -4,7 +4,7 @@ ghost use Rattle.std.specs.Prelude.{◌≡◌, ◌<◌, ◌^◌, ◌∷◌, leng
 ghost use Rattle.heylo_formula.specs.BinderNames.{binders};
 ghost use Rattle.heylo_formula.specs.PlainTrees.{form_of};
 ghost use Rattle.vp_generator.specs.PrenexedGoals.{IsMade, types_of_variables, names_of_variables};
-ghost use Rattle.vp_generator.specs.Scopes.{AreNamed};
+ghost use Rattle.heyvl_acts.specs.Rules.{AreNamed};
 
 use crate::limits::{DEEPEST, MOST_NODES};
 use crate::numbering::prenex;

@@ -6,7 +6,8 @@ ghost use Rattle.heylo_formula.specs.Formula.{Form as plain, Cond as plain_cond}
 ghost use Rattle.heylo_formula.specs.PlainTrees.{form_of, cond_of};
 ghost use Rattle.vp_generator.specs.Prenexed.{prenexed, renumbered, unbound, unbound_in};
 ghost use Rattle.heylo_formula.specs.BinderNames.{binders, binders_in};
-ghost use Rattle.vp_generator.specs.Scopes.{AreNamed, named};
+ghost use Rattle.heyvl_acts.specs.Rules.{AreNamed};
+ghost use Rattle.vp_generator.specs.Scopes.{named};
 ghost use Rattle.vp_generator.specs.internal.Lookup.{number_in};
 
 use crate::prenexed::Prenex;

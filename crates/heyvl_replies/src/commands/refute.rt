@@ -2,7 +2,7 @@
 
 ghost use Rattle.heyvl_acts.specs.Acts.{procedure_at};
 ghost use Rattle.heyvl_acts.specs.PlainActs.{procedures_of};
-ghost use Rattle.heyvl_acts.specs.Rules.{Each, MeetsAllRules};
+ghost use Rattle.heyvl_acts.specs.Rules.{Each, HasFewActs, HasNamedBinders, MeetsAllRules};
 ghost use Rattle.heyvl_acts.specs.FormSizes.{FormsWithin};
 ghost use Rattle.heyvl_files.specs.Sources.{file_limit};
 ghost use Rattle.heyvl_replies.specs.Responses.{reply_of};
@@ -13,11 +13,9 @@ ghost use Rattle.heyvl_replies.specs.declared.faults.Fault.TheVariants as faults
 ghost use Rattle.refute_runs.specs.RefutedAnswers.{IsRefutedAnswer};
 ghost use Rattle.refute_runs.specs.Violations.{NumbersAreOfRuns, ViolationIsOfRuns};
 ghost use Rattle.run_machine.specs.ConfigConditions.{ReachesPrograms};
-ghost use Rattle.run_machine.specs.Names.{HasFewActs};
 ghost use Rattle.run_script.specs.PlainScripts.{script_of};
 ghost use Rattle.run_script.specs.Scripts.{Spells};
 ghost use Rattle.std.specs.Prelude.{IfOk, List, Some, length, true, ◌<◌, ◌^◌, ◌≡◌, ◌≤◌, ℕ};
-ghost use Rattle.verify_core.specs.PostBinders.{HasNamedBinders};
 
 use crate::Fault;
 use crate::commands::run::{run_fault, run_text};

@@ -1,13 +1,12 @@
 //! `run FILE PROC SCRIPT`: the sums over the runs of a procedure of a file, by a script.
 
 ghost use Rattle.heyvl_acts.specs.PlainActs.{procedures_of};
-ghost use Rattle.heyvl_acts.specs.Rules.{MeetsAllRules};
+ghost use Rattle.heyvl_acts.specs.Rules.{HasFewActs, MeetsAllRules};
 ghost use Rattle.heyvl_files.specs.Sources.{file_limit};
 ghost use Rattle.heyvl_replies.specs.Responses.{reply_of};
 ghost use Rattle.heyvl_replies.specs.RunStarts.{known_at, procedure_named};
 ghost use Rattle.heyvl_replies.specs.commands.Run.{IsRunOf, IsRunReply, ProgramsAreRun, TellsRun, run_reply};
 ghost use Rattle.run_machine.specs.ConfigConditions.{ReachesPrograms};
-ghost use Rattle.run_machine.specs.Names.{HasFewActs};
 ghost use Rattle.run_script.specs.PlainScripts.{script_of};
 ghost use Rattle.run_script.specs.Scripts.{Spells};
 ghost use Rattle.std.specs.Prelude.{IfOk, List, Some, length, ◌<◌, ◌≡◌, ◌≤◌, ℕ};

@@ -9,7 +9,7 @@ use Rattle.heyvl_acts.specs.Acts.{Act, TypedProcedure, acts_in, variables}
 use Rattle.heyvl_acts.specs.Places.{in_order}
 use Rattle.verify_core.specs.Questions.{one_bound, question}
 use Rattle.verify_core.specs.declared.asking.Asked as declared
-use Rattle.vp_generator.specs.Scopes.{AreNamed}
+use Rattle.heyvl_acts.specs.Rules.{AreNamed}
 
 -- A goal, and the formula of which it asks.
 abbrev pub Asked : Type 0

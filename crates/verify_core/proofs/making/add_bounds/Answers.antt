@@ -3,8 +3,7 @@ use Rattle.heylo_formula.specs.BinderNames.{binders}
 use Rattle.heylo_formula.specs.PlainTrees.{form_of}
 use Rattle.heyvl_acts.specs.Acts.{TypedProcedure, procedure_at, variables}
 use Rattle.heyvl_acts.specs.PlainActs.{procedures_of}
-use Rattle.heyvl_acts.specs.Rules.{Each}
-use Rattle.vp_generator.specs.Scopes.{AreNamed}
+use Rattle.heyvl_acts.specs.Rules.{AreNamed, Each}
 use Rattle.verify_core.specs.internal.Asked.{IsAsked, plain}
 use Rattle.verify_core.proofs.ListedGoals.{pushed_goal}
 use Rattle.verify_core.proofs.MainGoals.{few_own, here}

@@ -3,9 +3,8 @@ use Rattle.std.proofs.lemmas.Result.{IfOk-weaker}
 use Rattle.heylo_formula.specs.declared.goals.GoalId.TheVariants.{Main}
 use Rattle.heyvl_acts.specs.Acts.{procedure_at}
 use Rattle.heyvl_acts.specs.PlainActs.{procedures_of}
-use Rattle.heyvl_acts.specs.Rules.{Each}
+use Rattle.heyvl_acts.specs.Rules.{Each, HasNamedBinders}
 use Rattle.loop_encodings.specs.BoundGoals.{bound_goals}
-use Rattle.verify_core.specs.PostBinders.{HasNamedBinders}
 use Rattle.verify_core.specs.Questions.{AreGoals}
 use Rattle.verify_core.specs.internal.Asked.{Asked, IsAsked, asked, plain}
 use Rattle.verify_core.proofs.AskedBounds.{each_is_asked}

@@ -1,5 +1,6 @@
 use Rattle.std.proofs.Common.{◌≡◌, ◌≤◌, length}
-use Rattle.vp_generator.specs.Scopes.{AreNamed, named}
+use Rattle.heyvl_acts.specs.Rules.{AreNamed}
+use Rattle.vp_generator.specs.Scopes.{named}
 use Rattle.vp_generator.proofs.numbering.with_vars.Given as goal
 
 abbrev pub invariant-found : goal.invariant-found
