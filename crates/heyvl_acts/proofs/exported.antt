@@ -1,3 +1,4 @@
+pub mod ArmedActs
 pub mod Each
 pub mod Lengths
 pub mod PlainActsAre

@@ -298,3 +298,5 @@ pub record MeetsAllRules (typed : Typed) : Type 0 where
   pub few : length typed.procs.items ≤ 1024
   pub counted : Each IsCounted typed.procs.items
   pub each : Each (MeetsRules (procedures_of typed)) (procedures_of typed)
+  pub named : Each HasNamedBinders (procedures_of typed)
+  pub few_acts : HasFewActs (procedures_of typed)

@@ -1,8 +1,7 @@
+mod ArmedFiles
 mod EachOf
-mod FewActs
 mod FewProcedures
 mod Meanings
-mod NamedBinders
 mod ProgramFiles
 mod ProgramSums
 mod ReadyFiles

@@ -3,25 +3,23 @@ use Rattle.heyvl_syntax.proofs.exported.InOrder.{tokens_few}
 use Rattle.heyvl_syntax.specs.Procedures.{Procedure}
 use Rattle.heyvl_syntax.specs.SourceFaults.{IsSource}
 use Rattle.heyvl_files.proofs.FewProcedures.{few_typed}
-use Rattle.heyvl_files.specs.FileLaws.{FilesHaveFewActs, FilesHaveNamedBinders, FilesHaveSmallForms, FilesStandWithin}
+use Rattle.heyvl_files.specs.FileLaws.{FilesHaveSmallForms, FilesStandWithin}
 use Rattle.heyvl_files.specs.Sources.{IsReady, file_limit}
 use Rattle.heyvl_acts.specs.Acts.{TypedProcedure}
-use Rattle.heyvl_types.specs.ResolvedLaws.{IsAnswer, ResolvedTreesMeetRules}
+use Rattle.heyvl_types.specs.ResolvedLaws.{IsAnswer}
 use Rattle.heyvl_acts.specs.FormSizes.{FormsWithin}
-use Rattle.heyvl_acts.specs.Rules.{Each, HasFewActs, HasNamedBinders, IsCounted}
+use Rattle.heyvl_acts.specs.Rules.{Each, MeetsAllRules}
 use Rattle.heyvl_types.specs.declared.stops.ResolveStop.{ResolveStop}
 use Rattle.heyvl_acts.specs.declared.typed.Typed.{Typed}
 use Rattle.std.proofs.Common.{Err, List, Ok, arith, length, subst, sym, ◌≤◌, ℕ}
 use Rattle.std.specs.Prelude.{IfOk, Result, ◌^◌}
 use Rattle.verify_core.specs.Places.{StandsWithin}
 
-pub is_ready : ResolvedTreesMeetRules → FilesHaveFewActs → FilesHaveSmallForms → FilesStandWithin → FilesHaveNamedBinders → (file : List Procedure) (result : Result Typed ResolveStop) → IsAnswer file result
-    → IfOk result (λ t. Each IsCounted t.procs.items) → (bytes : List ℕ) → length bytes ≤ file_limit → IsSource bytes file → IfOk result (λ t. IsReady bytes t)
-is_ready rules few small stand named file (Ok t) gives counted bytes short source = record {
-  rules = rules file (Ok t) gives counted (few_typed bytes file t source gives.1);
+pub is_ready : FilesHaveSmallForms → FilesStandWithin → (file : List Procedure) (result : Result Typed ResolveStop) → IsAnswer file result
+    → IfOk result (λ t. length t.procs.items ≤ 1024 → MeetsAllRules t) → (bytes : List ℕ) → length bytes ≤ file_limit → IsSource bytes file → IfOk result (λ t. IsReady bytes t)
+is_ready small stand file (Ok t) gives rules bytes short source = record {
+  rules = rules (few_typed bytes file t source gives.1);
   small = subst (λ (ps : List TypedProcedure). Each (FormsWithin (2 ^ 27)) ps) (sym gives.1) (small file source.tokens source.is_file gives.0 (let l = tokens_few bytes source.tokens source.lexes in omega (arith, l, short)));
   stand = subst (λ (ps : List TypedProcedure). Each (StandsWithin (length bytes)) ps) (sym gives.1) (stand bytes source.tokens file source.lexes source.is_file);
-  named = subst (λ (ps : List TypedProcedure). Each HasNamedBinders ps) (sym gives.1) (named file gives.0);
-  few_acts = subst (λ (ps : List TypedProcedure). HasFewActs ps) (sym gives.1) (few file source.tokens source.is_file gives.0);
 }
-is_ready rules few small stand named file (Err e) gives counted bytes short source = tt
+is_ready small stand file (Err e) gives rules bytes short source = tt

@@ -156,10 +156,10 @@ module _ (n : ℕ) where
 
   -- ---- Statements
 
-  braced : {P : List Token → Type 0} {Q : Type 0} → Gives n P Q → Gives n (IsBraced P) Q
+  pub braced : {P : List Token → Type 0} {Q : Type 0} → Gives n P Q → Gives n (IsBraced P) Q
   braced g = record { reads = λ ts h i. (within (any _ before g before any _) ts h i).1.0 }
 
-  otherwise : {P : List Token → Type 0} (Q : Block → Type 0) → Q Block.done → (b : Block) → Gives n P (Q b) → Gives n (IsElse b P) (Q b)
+  pub otherwise : {P : List Token → Type 0} (Q : Block → Type 0) → Q Block.done → (b : Block) → Gives n P (Q b) → Gives n (IsElse b P) (Q b)
   otherwise {P} Q d b g = record { reads = cases }
     where
       cases : (ts : List Token) → ArePlaced n ts → (IsKey keys.Else then P) ts ⊎ ((b ≡ Block.done) × IsNothing ts) → Q b

@@ -1,6 +1,6 @@
 -- The laws of files that tokens spell: what holds of the typed procedures that they become.
 use Rattle.heyvl_acts.specs.FormSizes.{FormsWithin}
-use Rattle.heyvl_acts.specs.Rules.{Each, HasFewActs, HasNamedBinders}
+use Rattle.heyvl_acts.specs.Rules.{Each}
 use Rattle.heyvl_syntax.specs.Grammar.{IsFile}
 use Rattle.heyvl_syntax.specs.Procedures.{Procedure}
 use Rattle.heyvl_syntax.specs.Tokens.{Lexes}
@@ -9,10 +9,6 @@ use Rattle.heyvl_types.specs.Files.{file_findings, resolved}
 use Rattle.std.specs.Prelude.{List, [], length, ◌^◌, ◌≡◌, ◌≤◌, ℕ}
 use Rattle.verify_core.specs.Places.{StandsWithin}
 
--- In a file in which nothing is found, each body has fewer acts than a place can count.
-abbrev pub FilesHaveFewActs : Type 0
-FilesHaveFewActs = (file : List Procedure) (tokens : List Token) → IsFile file tokens → file_findings file ≡ [] → HasFewActs (resolved file)
-
 -- In a file of at most 2^20 tokens in which nothing is found, each form and condition has at most 2^27 nodes.
 abbrev pub FilesHaveSmallForms : Type 0
 FilesHaveSmallForms = (file : List Procedure) (tokens : List Token) → IsFile file tokens → file_findings file ≡ [] → length tokens ≤ 2 ^ 20 → Each (FormsWithin (2 ^ 27)) (resolved file)
@@ -20,7 +16,3 @@ FilesHaveSmallForms = (file : List Procedure) (tokens : List Token) → IsFile f
 -- In a file that bytes spell, each statement and each product in a form begins within the bytes.
 abbrev pub FilesStandWithin : Type 0
 FilesStandWithin = (bytes : List ℕ) (tokens : List Token) (file : List Procedure) → Lexes 0 bytes tokens → IsFile file tokens → Each (StandsWithin (length bytes)) (resolved file)
-
--- In a file in which nothing is found, each binder of a post is named after a variable of its procedure.
-abbrev pub FilesHaveNamedBinders : Type 0
-FilesHaveNamedBinders = (file : List Procedure) → file_findings file ≡ [] → Each HasNamedBinders (resolved file)

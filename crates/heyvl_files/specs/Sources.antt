@@ -1,7 +1,7 @@
 -- Files of HeyVL that bytes spell: their faults, and their typed trees. This project's own.
 use Rattle.heyvl_acts.specs.FormSizes.{FormsWithin}
 use Rattle.heyvl_acts.specs.PlainActs.{procedures_of}
-use Rattle.heyvl_acts.specs.Rules.{Each, HasFewActs, HasNamedBinders, MeetsAllRules}
+use Rattle.heyvl_acts.specs.Rules.{Each, MeetsAllRules}
 use Rattle.heyvl_acts.specs.declared.typed.Typed.{Typed}
 use Rattle.heyvl_places.specs.declared.spans.Span.{Span}
 use Rattle.heyvl_syntax.specs.Procedures.{Procedure}
@@ -21,14 +21,12 @@ pub data IsFileFault (bytes : List ℕ) (number : ℕ) (place : Span) : Type 0 w
   spelling : IsSourceFault bytes number place → IsFileFault bytes number place
   static : (file : List Procedure) → IsSource bytes file → first_fault file ≡ Some (number, place) → IsFileFault bytes number place
 
--- A typed tree of bytes that every command may use: it meets the static rules, its forms are small, its parts stand within the bytes,
--- binders are named after its variables, and its bodies have few acts.
+-- A typed tree of bytes that every command may use: it meets the static rules, its forms are small, and its parts stand within the
+-- bytes.
 pub record IsReady (bytes : List ℕ) (typed : Typed) : Type 0 where
   pub rules : MeetsAllRules typed
   pub small : Each (FormsWithin (2 ^ 27)) (procedures_of typed)
   pub stand : Each (StandsWithin (length bytes)) (procedures_of typed)
-  pub named : Each HasNamedBinders (procedures_of typed)
-  pub few_acts : HasFewActs (procedures_of typed)
 
 -- The typed tree is that of the file without a fault that the bytes spell.
 pub record IsTypedSource (bytes : List ℕ) (typed : Typed) : Type 0 where

@@ -2,14 +2,7 @@
 
 ghost use Rattle.heyvl_files.specs.FileLaws as law;
 
-use heyvl_types::{resolved_files_meet_the_rules, resolved_forms_are_small};
-
-/// Each body of a file in which nothing is found has fewer acts than a place can count.
-pub fn files_have_few_acts()
-    ensures { law.FilesHaveFewActs }
-{
-    resolved_files_meet_the_rules();
-}
+use heyvl_types::resolved_forms_are_small;
 
 /// Each form and condition of a file of at most 2^20 tokens in which nothing is found has at most 2^27 nodes.
 pub fn files_have_small_forms()
@@ -21,9 +14,4 @@ pub fn files_have_small_forms()
 /// In a file that bytes spell, each statement and each product in a form begins within the bytes.
 pub fn files_stand_within()
     ensures { law.FilesStandWithin }
-{}
-
-/// In a file in which nothing is found, each binder of a post is named after a variable of its procedure.
-pub fn files_have_named_binders()
-    ensures { law.FilesHaveNamedBinders }
 {}

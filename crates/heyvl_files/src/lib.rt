@@ -9,9 +9,7 @@ mod programs;
 mod sources;
 
 pub use fault_lines::source_fault_line;
-pub use file_laws::{
-    files_have_few_acts, files_have_named_binders, files_have_small_forms, files_stand_within,
-};
+pub use file_laws::{files_have_small_forms, files_stand_within};
 pub use print_laws::{printed_text_prints_itself, spelling_is_unique};
 pub use programs::{program_file, program_files_are_unique, program_files_have_sums};
 pub use sources::{SourceStop, spelled_file, typed_source};

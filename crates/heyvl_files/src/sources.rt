@@ -6,18 +6,17 @@ ghost use Rattle.heyvl_files.specs.declared.sources.SourceStop.TheVariants.{Memo
 ghost use Rattle.heyvl_syntax.specs.Procedures.{procedures};
 ghost use Rattle.heyvl_syntax.specs.SourceFaults.{IsSource};
 ghost use Rattle.heyvl_types.specs.Answers.{Gives};
+ghost use Rattle.heyvl_types.specs.Armed.{HasArms};
 ghost use Rattle.heyvl_types.specs.Files.{file_findings, resolved};
 ghost use Rattle.std.specs.Prelude.{IfOk, List, MatchResult, length, ◌≡◌, ◌≤◌, ℕ};
 
 use crate::fault_lines::token_place;
-use crate::file_laws::{
-    files_have_few_acts, files_have_named_binders, files_have_small_forms, files_stand_within,
-};
+use crate::file_laws::{files_have_small_forms, files_stand_within};
 use heyvl_acts::Typed;
 use heyvl_parse::{ParseStop, parse};
 use heyvl_places::Span;
 use heyvl_syntax::{File, LexStop, lex};
-use heyvl_types::{ResolveStop, resolve, resolved_trees_meet_the_rules};
+use heyvl_types::{ResolveStop, resolve};
 use std::alloc::{AllocError, Global};
 use thiserror::Error;
 
@@ -60,16 +59,14 @@ pub fn spelled_file(alloc: Global, bytes: &[u8]) -> Result<File, SourceStop>
     }
 }
 
-/// The typed tree of a file, which is ready for every command, or the file's first static fault.
+/// The typed tree of a file in which each If has an arm, which is ready for every command, or the file's first static fault.
 fn typed_file(alloc: Global, file: &File) -> Result<Typed, ResolveStop>
+    requires { HasArms (procedures file.now) }
     ensures gives { Gives procedures_of result (file_findings (procedures file.now)) (resolved (procedures file.now)) }
     ensures ready { (bytes : List ℕ) → length bytes ≤ file_limit → IsSource bytes (procedures file.now) → IfOk result (λ typed. IsReady bytes typed) }
 {
-    resolved_trees_meet_the_rules();
-    files_have_few_acts();
     files_have_small_forms();
     files_stand_within();
-    files_have_named_binders();
     resolve(alloc, file)
 }
 

@@ -29,3 +29,5 @@ pub mod Bodies
 pub mod Sizes
 pub mod SmallActs
 pub mod SmallForms
+pub mod Armed
+pub mod NamedPosts

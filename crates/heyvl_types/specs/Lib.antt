@@ -24,6 +24,7 @@ pub mod StatementRules
 pub mod StatementActs
 pub mod Files
 pub mod Answers
+pub mod Armed
 pub mod ExpressionLaws
 pub mod ResolvedLaws
 pub mod ResolvedSizes

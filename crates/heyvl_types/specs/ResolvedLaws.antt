@@ -5,6 +5,7 @@ use Rattle.heyvl_acts.specs.Rules.{Each, IsCounted, MeetsAllRules, MeetsRules}
 use Rattle.heyvl_acts.specs.declared.typed.Typed.{Typed}
 use Rattle.heyvl_syntax.specs.Procedures.{Procedure}
 use Rattle.heyvl_types.specs.Answers.{Gives}
+use Rattle.heyvl_types.specs.Armed.{HasArms}
 use Rattle.heyvl_types.specs.Files.{file_findings, resolved}
 use Rattle.heyvl_types.specs.declared.stops.ResolveStop.{ResolveStop}
 use Rattle.std.specs.Prelude.{Err, IfOk, List, Ok, Result, [], length, ⊤, ◌≡◌, ◌≤◌}
@@ -12,17 +13,18 @@ use Rattle.std.specs.Prelude.{Err, IfOk, List, Ok, Result, [], length, ⊤, ◌�
 abbrev pub ResolvedProceduresMeetRules : Type 0
 ResolvedProceduresMeetRules = (ps : List Procedure) → file_findings ps ≡ [] → Each (MeetsRules (resolved ps)) (resolved ps)
 
--- At most 1,024 procedures, in a typed file whose numbers are in range.
+-- At most 1,024 procedures, in which each If has an arm, and a typed file whose numbers are in range.
 abbrev pub ResolvedFilesMeetRules : Type 0
-ResolvedFilesMeetRules = (ps : List Procedure) (typed : Typed) → file_findings ps ≡ [] → length ps ≤ 1024 → procedures_of typed ≡ resolved ps → Each IsCounted typed.procs.items → MeetsAllRules typed
+ResolvedFilesMeetRules = (ps : List Procedure) (typed : Typed) → HasArms ps → file_findings ps ≡ [] → length ps ≤ 1024 → procedures_of typed ≡ resolved ps → Each IsCounted typed.procs.items → MeetsAllRules typed
 
 -- What `resolve` ensures of its result.
 abbrev pub IsAnswer : List Procedure → Result Typed ResolveStop → Type 0
 IsAnswer ps result = Gives procedures_of result (file_findings ps) (resolved ps)
 
--- Of such a result with numbers in range, a typed file of at most 1,024 procedures meets the static rules.
+-- Of such a result with numbers in range, on a file in which each If has an arm, a typed file of at most 1,024 procedures meets the
+-- static rules.
 abbrev pub ResolvedTreesMeetRules : Type 0
-ResolvedTreesMeetRules = (ps : List Procedure) (result : Result Typed ResolveStop) → IsAnswer ps result → IfOk result (λ typed. Each IsCounted typed.procs.items) → IfOk result (λ typed. length typed.procs.items ≤ 1024 → MeetsAllRules typed)
+ResolvedTreesMeetRules = (ps : List Procedure) (result : Result Typed ResolveStop) → HasArms ps → IsAnswer ps result → IfOk result (λ typed. Each IsCounted typed.procs.items) → IfOk result (λ typed. length typed.procs.items ≤ 1024 → MeetsAllRules typed)
 
 -- Both are typed files with equal plain trees, or both are the same fault; or one is want of memory.
 abbrev pub Agree : Result Typed ResolveStop → Result Typed ResolveStop → Type 0

@@ -1,16 +1,18 @@
 //! Files: the typed procedures of a file, or its first fault.
 
 ghost use Rattle.heyvl_acts.specs.PlainActs.{procedure_of, procedures_of};
-ghost use Rattle.heyvl_acts.specs.Rules.{Each, IsCounted};
+ghost use Rattle.heyvl_acts.specs.Rules.{Each, IsCounted, MeetsAllRules};
 ghost use Rattle.heyvl_syntax.specs.Procedures.{procedure, procedures};
 ghost use Rattle.heyvl_types.specs.Answers.{Gives};
+ghost use Rattle.heyvl_types.specs.Armed.{HasArms};
 ghost use Rattle.heyvl_types.specs.Files.{file_findings, procedures_findings, resolved, typed};
 ghost use Rattle.heyvl_types.specs.Signatures.{find_call};
 ghost use Rattle.heyvl_types.specs.internal.Earlier.{is_before};
-ghost use Rattle.std.specs.Prelude.{◌≡◌, IfOk};
+ghost use Rattle.std.specs.Prelude.{◌≡◌, ◌≤◌, IfOk, length};
 
 use crate::calls::{Calls, calls_of};
 use crate::procedures::read_procedure;
+use crate::resolving_laws::resolved_trees_meet_the_rules;
 use crate::stops::ResolveStop;
 use heyvl_acts::Typed;
 use heyvl_places::Name;
@@ -27,8 +29,8 @@ fn is_before(calls: &Calls, number: u32, name: &Name) -> bool
     }
 }
 
-/// The typed tree of a file, or its first static fault.
-pub fn resolve(alloc: Global, file: &File) -> Result<Typed, ResolveStop>
+/// The typed procedures of a file, or its first static fault.
+fn read_procedures(alloc: Global, file: &File) -> Result<Typed, ResolveStop>
     ensures gives { Gives procedures_of result (file_findings (procedures file.now)) (resolved (procedures file.now)) }
     ensures counted { IfOk result (λ typed. Each IsCounted typed.procs.items) }
 {
@@ -41,4 +43,16 @@ pub fn resolve(alloc: Global, file: &File) -> Result<Typed, ResolveStop>
         number = number.checked_add(1).ok_or(AllocError)?;
     }
     Ok(Typed { procs })
+}
+
+/// The typed tree of a file in which each If has an arm, or its first static fault. Where there are at most 1,024 procedures, the typed
+/// tree meets the static rules.
+pub fn resolve(alloc: Global, file: &File) -> Result<Typed, ResolveStop>
+    requires { HasArms (procedures file.now) }
+    ensures gives { Gives procedures_of result (file_findings (procedures file.now)) (resolved (procedures file.now)) }
+    ensures counted { IfOk result (λ typed. Each IsCounted typed.procs.items) }
+    ensures rules { IfOk result (λ typed. length typed.procs.items ≤ 1024 → MeetsAllRules typed) }
+{
+    resolved_trees_meet_the_rules();
+    read_procedures(alloc, file)
 }

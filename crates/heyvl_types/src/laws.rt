@@ -11,7 +11,7 @@ pub fn expressions_are_typed()
 {}
 
 /// In a file in which nothing is found, each typed procedure meets the static rules. A typed file that holds the typed procedures
-/// of such a file meets all of them, where there are at most 1,024 procedures and its numbers are in range.
+/// of such a file meets all of them, where each If has an arm, there are at most 1,024 procedures and its numbers are in range.
 pub fn resolved_files_meet_the_rules()
     ensures procedures { trees.ResolvedProceduresMeetRules }
     ensures files { trees.ResolvedFilesMeetRules }

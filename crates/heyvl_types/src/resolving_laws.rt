@@ -10,7 +10,7 @@ pub fn resolving_is_unique()
     ensures { trees.ResolvingIsUnique }
 {}
 
-/// A typed file that `resolve` gives meets the static rules, where it has at most 1,024 procedures.
+/// A typed file that `resolve` gives meets the static rules, where it has at most 1,024 procedures and each If of the file has an arm.
 pub fn resolved_trees_meet_the_rules()
     ensures { trees.ResolvedTreesMeetRules }
 {

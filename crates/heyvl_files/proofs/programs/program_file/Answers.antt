@@ -1,3 +1,4 @@
+use Rattle.heyvl_files.proofs.ArmedFiles.{program_armed}
 use Rattle.heyvl_files.proofs.ProgramFiles.{stops_program}
 use Rattle.heyvl_files.proofs.programs.program_file.Goals as goal
 use Rattle.heyvl_files.specs.Programs.IsProgramFault.{static}
@@ -5,6 +6,9 @@ use Rattle.heyvl_syntax.specs.Procedures.{procedures}
 use Rattle.heyvl_types.specs.Files.{first_fault}
 use Rattle.heyvl_types.specs.Findings.{first}
 use Rattle.std.proofs.Common.{None, Some, ap, ◌≡◌}
+
+pub resolve-requires : goal.resolve-requires
+resolve-requires c = program_armed c.args.bytes.now (procedures c.in-Ok.file) c.in-Ok.ensures
 
 pub returns-in-Err-clause-made : goal.returns-in-Err-clause-made
 returns-in-Err-clause-made c = stops_program c.args.bytes.now c.in-Err.stop c.in-Err.ensures

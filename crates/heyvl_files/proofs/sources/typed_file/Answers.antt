@@ -3,4 +3,4 @@ use Rattle.heyvl_files.proofs.ReadyFiles.{is_ready}
 use Rattle.heyvl_files.proofs.sources.typed_file.Goals as goal
 
 pub returns-clause-ready : goal.returns-clause-ready
-returns-clause-ready c = is_ready c.resolved_trees_meet_the_rules.ensures c.files_have_few_acts.ensures c.files_have_small_forms.ensures c.files_stand_within.ensures c.files_have_named_binders.ensures (procedures c.args.file.now) c.resolve.result c.resolve.ensures.gives c.resolve.ensures.counted
+returns-clause-ready c = is_ready c.files_have_small_forms.ensures c.files_stand_within.ensures (procedures c.args.file.now) c.resolve.result c.resolve.ensures.gives c.resolve.ensures.rules

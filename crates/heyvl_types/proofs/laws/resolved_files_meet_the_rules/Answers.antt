@@ -1,5 +1,9 @@
 use Rattle.heyvl_syntax.specs.Procedures.{Procedure}
 use Rattle.heyvl_types.proofs.laws.resolved_files_meet_the_rules.Goals as goal
+use Rattle.heyvl_acts.proofs.exported.ArmedActs.{IsFew, few_armed, few_each}
+use Rattle.heyvl_types.proofs.resolved.Armed.{procedure_armed}
+use Rattle.heyvl_types.proofs.resolved.NamedPosts.{post_named}
+use Rattle.heyvl_types.specs.Armed.{HasArms}
 use Rattle.heyvl_types.proofs.resolved.Bodies.{binders_kept, directions_kept, each_act, loops_kept, numbers_kept, scopes_kept}
 use Rattle.heyvl_types.proofs.resolved.Calls.{AreCallees, callees}
 use Rattle.heyvl_types.proofs.resolved.Clauses.{post_directed, post_formula, post_over, pre_held, pre_over}
@@ -10,7 +14,7 @@ use Rattle.heyvl_types.proofs.resolved.Weights.{weighs}
 use Rattle.heyvl_acts.specs.Acts.{variables}
 use Rattle.heyvl_types.specs.Files.{file_findings, is_wlp, resolved, setting, typed}
 use Rattle.heyvl_acts.specs.PlainActs.{procedure_of}
-use Rattle.heyvl_acts.specs.Rules.{Each, HasOwnTargets, IsTypedAct, MeetsRules, WeighsOne}
+use Rattle.heyvl_acts.specs.Rules.{Each, HasFewActs, HasNamedBinders, HasOwnTargets, IsTypedAct, MeetsRules, WeighsOne}
 use Rattle.heyvl_types.specs.Signatures.{called}
 use Rattle.std.proofs.Common.{List, [], ap, arith, length, map, subst, sym, ◌∷◌, ◌≡◌}
 use Rattle.std.proofs.lemmas.List.{length-map}
@@ -45,12 +49,22 @@ each_meets ps (q ∷ qs) c k = (meets ps q c k.0, each_meets ps qs c k.1)
 procedures_meet : (ps : List Procedure) → file_findings ps ≡ [] → Each (MeetsRules (resolved ps)) (resolved ps)
 procedures_meet ps e = let k = all_clean (called ps) [] ps e in each_meets ps ps (callees ps k) k
 
+named : (ps qs : List Procedure) → Each (IsClean (called ps)) qs → Each HasNamedBinders (map (typed (called ps)) qs)
+named ps [] k = tt
+named ps (q ∷ qs) k = (post_named (called ps) q k.0, named ps qs k.1)
+
+few : (ps qs : List Procedure) → HasArms qs → Each (MeetsRules (resolved ps)) (map (typed (called ps)) qs) → Each IsFew (map (typed (called ps)) qs)
+few ps [] a k = tt
+few ps (q ∷ qs) a k = (few_armed (typed (called ps) q) (procedure_armed (called ps) q a.0) k.0.loops k.0.few_statements, few ps qs a.1 k.1)
+
 pub returns-clause-procedures : goal.returns-clause-procedures
 returns-clause-procedures c = procedures_meet
 
 pub returns-clause-files : goal.returns-clause-files
-returns-clause-files c = λ ps t e few is counted. record {
-  few = let l = ap length is in omega (arith, few, l, length-map ps (typed (called ps)), length-map t.procs.items procedure_of);
+returns-clause-files c = λ ps t armed e few_procs is counted. record {
+  few = let l = ap length is in omega (arith, few_procs, l, length-map ps (typed (called ps)), length-map t.procs.items procedure_of);
   counted = counted;
   each = subst (λ rs. Each (MeetsRules rs) rs) (sym is) (procedures_meet ps e);
+  named = subst (Each HasNamedBinders) (sym is) (named ps ps (all_clean (called ps) [] ps e));
+  few_acts = subst HasFewActs (sym is) (few_each (resolved ps) (few ps ps armed (procedures_meet ps e)));
 }

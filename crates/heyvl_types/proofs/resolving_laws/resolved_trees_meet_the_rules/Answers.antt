@@ -3,6 +3,7 @@ use Rattle.heyvl_acts.specs.Rules.{Each, IsCounted, MeetsAllRules}
 use Rattle.heyvl_acts.specs.declared.typed.Typed.{Typed}
 use Rattle.heyvl_syntax.specs.Procedures.{Procedure}
 use Rattle.heyvl_types.proofs.resolving_laws.resolved_trees_meet_the_rules.Goals as goal
+use Rattle.heyvl_types.specs.Armed.{HasArms}
 use Rattle.heyvl_types.specs.Files.{typed}
 use Rattle.heyvl_types.specs.ResolvedLaws.{IsAnswer, ResolvedFilesMeetRules}
 use Rattle.heyvl_types.specs.Signatures.{called}
@@ -11,9 +12,9 @@ use Rattle.std.proofs.Common.{Err, List, Ok, ap, arith, length, ◌≤◌}
 use Rattle.std.proofs.lemmas.List.{length-map}
 use Rattle.std.specs.Prelude.{IfOk, Result}
 
-meet : ResolvedFilesMeetRules → (ps : List Procedure) (result : Result Typed ResolveStop) → IsAnswer ps result → IfOk result (λ t. Each IsCounted t.procs.items) → IfOk result (λ t. length t.procs.items ≤ 1024 → MeetsAllRules t)
-meet files ps (Ok t) answer counted = λ few. files ps t answer.0 (let l = ap length answer.1 in omega (arith, few, l, length-map ps (typed (called ps)), length-map t.procs.items procedure_of)) answer.1 counted
-meet files ps (Err e) answer counted = tt
+meet : ResolvedFilesMeetRules → (ps : List Procedure) (result : Result Typed ResolveStop) → HasArms ps → IsAnswer ps result → IfOk result (λ t. Each IsCounted t.procs.items) → IfOk result (λ t. length t.procs.items ≤ 1024 → MeetsAllRules t)
+meet files ps (Ok t) armed answer counted = λ few. files ps t armed answer.0 (let l = ap length answer.1 in omega (arith, few, l, length-map ps (typed (called ps)), length-map t.procs.items procedure_of)) answer.1 counted
+meet files ps (Err e) armed answer counted = tt
 
 pub returns : goal.returns
 returns c = meet c.resolved_files_meet_the_rules.ensures.files
