@@ -2,7 +2,7 @@
 
 ghost use Rattle.std.specs.Prelude.{◌≡◌, ◌≤◌, IfOk, min, ℕ};
 ghost use Rattle.heyvl_acts.specs.PlainActs.{procedures_of};
-ghost use Rattle.heyvl_acts.specs.Rules.{HasFewActs, MeetsAllRules};
+ghost use Rattle.heyvl_acts.specs.Rules.{MeetsAllRules};
 ghost use Rattle.heyvl_num.specs.Extended.{value_of};
 ghost use Rattle.refute_runs.specs.SumsAfter.{Unrollings, unrolled_from};
 ghost use Rattle.refute_runs.specs.internal.Probes.{IsSeen};
@@ -37,7 +37,6 @@ pub(crate) fn look_at(
     n: u32,
 ) -> Result<Probe, AllocError>
     requires rules { MeetsAllRules typed.now }
-    requires few { HasFewActs (procedures_of typed.now) }
     requires begins { Begins (procedures_of typed.now) p (stored start.now) }
     requires steps { n ≤ 10000 }
     ensures { IfOk result (λ seen. IsSeen (unrolled_from (procedures_of typed.now) p (stored start.now) script.now) (value_of pre.now) n seen) }

@@ -3,7 +3,7 @@
 ghost use Rattle.std.specs.Prelude.{◌≡◌, ◌≤◌, IfOk, option_map, true};
 ghost use Rattle.heyvl_acts.specs.Acts.{procedure_at};
 ghost use Rattle.heyvl_acts.specs.PlainActs.{procedures_of};
-ghost use Rattle.heyvl_acts.specs.Rules.{HasFewActs, MeetsAllRules};
+ghost use Rattle.heyvl_acts.specs.Rules.{MeetsAllRules};
 ghost use Rattle.heyvl_num.specs.Extended.{value_of};
 ghost use Rattle.quant_algebra.specs.ExactMeaning.{exact_value};
 ghost use Rattle.refute_runs.specs.RefutedAnswers.{IsRefutedAnswer};
@@ -38,7 +38,6 @@ pub fn refute(
     n: u32,
 ) -> Result<Refuted, AllocError>
     requires rules { MeetsAllRules typed.now }
-    requires few { HasFewActs (procedures_of typed.now) }
     requires programs { ReachesPrograms (procedures_of typed.now) p }
     requires coproc { (procedure_at (procedures_of typed.now) p).co ≡ true }
     requires state { IsState (procedure_at (procedures_of typed.now) p) state.now }
@@ -64,7 +63,6 @@ fn answer(
     n: u32,
 ) -> Result<Refuted, AllocError>
     requires rules { MeetsAllRules typed.now }
-    requires few { HasFewActs (procedures_of typed.now) }
     requires programs { ReachesPrograms (procedures_of typed.now) p }
     requires state { IsState (procedure_at (procedures_of typed.now) p) state.now }
     requires steps { n ≤ 10000 }

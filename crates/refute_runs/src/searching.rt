@@ -2,7 +2,7 @@
 
 ghost use Rattle.std.specs.Prelude.{◌≤◌, IfOk, Some};
 ghost use Rattle.heyvl_acts.specs.PlainActs.{procedures_of};
-ghost use Rattle.heyvl_acts.specs.Rules.{HasFewActs, MeetsAllRules};
+ghost use Rattle.heyvl_acts.specs.Rules.{MeetsAllRules};
 ghost use Rattle.heyvl_num.specs.Extended.{value_of};
 ghost use Rattle.refute_runs.specs.RefutedAnswers.{MayCome};
 ghost use Rattle.refute_runs.specs.SumsAfter.{unrolled_from};
@@ -28,7 +28,6 @@ pub(crate) fn search(
     n: u32,
 ) -> Result<Refuted, AllocError>
     requires rules { MeetsAllRules typed.now }
-    requires few { HasFewActs (procedures_of typed.now) }
     requires begins { Begins (procedures_of typed.now) p (stored start.now) }
     requires steps { n ≤ 10000 }
     ensures { IfOk result (λ answer. MayCome (unrolled_from (procedures_of typed.now) p (stored start.now) script.now) (Some (value_of pre.now)) n answer) }
@@ -51,7 +50,6 @@ fn below(
     found: Refuted,
 ) -> Result<Refuted, AllocError>
     requires rules { MeetsAllRules typed.now }
-    requires few { HasFewActs (procedures_of typed.now) }
     requires begins { Begins (procedures_of typed.now) p (stored start.now) }
     requires steps { steps ≤ 10000 }
     requires candidate { IsCandidate (unrolled_from (procedures_of typed.now) p (stored start.now) script.now) (value_of pre.now) steps found }

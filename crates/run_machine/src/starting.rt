@@ -6,7 +6,7 @@ ghost use Rattle.heyvl_acts.specs.PlainActs.{procedures_of};
 ghost use Rattle.run_machine.specs.Bound.{IsState};
 ghost use Rattle.run_machine.specs.ConfigConditions.{IsConfig, ReachesPrograms};
 ghost use Rattle.run_machine.specs.Configurations.{begin as begin_of};
-ghost use Rattle.heyvl_acts.specs.Rules.{HasFewActs};
+ghost use Rattle.heyvl_acts.specs.Rules.{HasFewActs, MeetsAllRules};
 ghost use Rattle.run_machine.specs.Names.{stored, config_of, numbered};
 ghost use Rattle.run_machine.specs.StoredStep.{stored_begin};
 
@@ -20,7 +20,7 @@ use std::alloc::{AllocError, Global};
 /// The first configuration of the procedure's body in a state, with no decision made. Of a procedure that isn't there, or
 /// has no body, it has ended.
 pub fn begin(alloc: Global, typed: &Typed, p: u32, state: &[Val]) -> Result<Config, AllocError>
-    requires { HasFewActs (procedures_of typed.now) }
+    requires { MeetsAllRules typed.now }
     ensures stored { IfOk result (λ first. stored first ≡ stored_begin (procedures_of typed.now) p state.now) }
     ensures first { IfOk result (λ first. config_of (procedures_of typed.now) (stored first) ≡ begin_of (procedures_of typed.now) p state.now) }
     ensures config { ReachesPrograms (procedures_of typed.now) p → IsState (procedure_at (procedures_of typed.now) p) state.now → IfOk result (λ first. IsConfig (procedures_of typed.now) (stored first)) }

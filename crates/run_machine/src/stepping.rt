@@ -3,7 +3,7 @@
 ghost use Rattle.std.specs.Prelude.{◌≡◌, ◌∷◌, IfOk, drop};
 ghost use Rattle.heyvl_acts.specs.Acts.{procedure_at, types_of};
 ghost use Rattle.heyvl_acts.specs.PlainActs.{act_of, procedures_of};
-ghost use Rattle.heyvl_acts.specs.Rules.{HasFewActs, MeetsAllRules};
+ghost use Rattle.heyvl_acts.specs.Rules.{MeetsAllRules};
 ghost use Rattle.run_machine.specs.ConfigConditions.{HasRoom, IsConfig};
 ghost use Rattle.run_machine.specs.Names.{decision_of, stored};
 ghost use Rattle.run_machine.specs.Step.{Decision};
@@ -32,7 +32,6 @@ pub fn step(
     decision: Option<&Decide>,
 ) -> Result<Stepped, AllocError>
     requires rules { MeetsAllRules typed.now }
-    requires few { HasFewActs (procedures_of typed.now) }
     requires config { IsConfig (procedures_of typed.now) (stored config.now) }
     requires room { HasRoom (stored config.now) }
     ensures { IfOk result (λ stepped. IsStep (procedures_of typed.now) (stored config.now) (decision_of decision.entry) stepped) }
@@ -56,7 +55,6 @@ fn do_step(
     decision: Option<&Decide>,
 ) -> Result<Stepped, AllocError>
     requires rules { MeetsAllRules typed.now }
-    requires few { HasFewActs (procedures_of typed.now) }
     requires config { IsConfig (procedures_of typed.now) (stored config.now) }
     requires room { HasRoom (stored config.now) }
     requires first { IsAt p place config.now.items.items }
@@ -79,7 +77,6 @@ fn act_step(
     decision: Option<&Decide>,
 ) -> Result<Stepped, AllocError>
     requires rules { MeetsAllRules typed.now }
-    requires few { HasFewActs (procedures_of typed.now) }
     requires room { HasRoom (stored config.now) }
     requires comes { ComesNext (procedures_of typed.now) (stored config.now) p place (act_of act.now) }
     ensures { IfOk result (λ stepped. IsStep (procedures_of typed.now) (stored config.now) (decision_of decision.entry) stepped) }

@@ -4,7 +4,7 @@ ghost use Rattle.std.specs.Prelude.{◌≡◌, ◌∷◌, [], IfOk, map};
 ghost use Rattle.heyvl_num.specs.Rational.{◌*ʳ◌};
 ghost use Rattle.heyvl_num.specs.WeightedSums.{scaled};
 ghost use Rattle.heyvl_acts.specs.PlainActs.{procedures_of};
-ghost use Rattle.heyvl_acts.specs.Rules.{Each, HasFewActs, MeetsAllRules};
+ghost use Rattle.heyvl_acts.specs.Rules.{Each, MeetsAllRules};
 ghost use Rattle.run_machine.specs.ConfigConditions.{HasRoom, IsConfig};
 ghost use Rattle.run_machine.specs.Names.{decision_of, stored};
 ghost use Rattle.run_machine.specs.Replies.{stored_outcome, stored_outcomes};
@@ -30,7 +30,6 @@ pub(crate) fn after_step(
     runs: MergedRuns,
 ) -> Result<Grown, AllocError>
     requires rules { MeetsAllRules typed.now }
-    requires few { HasFewActs (procedures_of typed.now) }
     requires configs { Each (λ x. IsConfig (procedures_of typed.now) x.1) (runs_of runs.entries.entries) }
     requires rooms { Each (λ x. HasRoom x.1) (runs_of runs.entries.entries) }
     ensures { IfOk result (λ grown. IsAfterStep (procedures_of typed.now) script.now (runs_of runs.entries.entries) grown) }
@@ -54,7 +53,6 @@ fn follow_run(
     config: Config,
 ) -> Result<Option<Cause>, AllocError>
     requires rules { MeetsAllRules typed.now }
-    requires few { HasFewActs (procedures_of typed.now) }
     requires config { IsConfig (procedures_of typed.now) (stored config) }
     requires room { HasRoom (stored config) }
     ensures { IfOk result (λ cause. Extends (runs_of next.old.entries.entries) (runs_of next.new.entries.entries) (brought (procedures_of typed.now) script.now config.items.items weight (stored config)) (scaled weight (follow (procedures_of typed.now) script.now (stored config))) cause) }

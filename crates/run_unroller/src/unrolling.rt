@@ -3,7 +3,7 @@
 ghost use Rattle.std.specs.Prelude.{◌≡◌, ◌≤◌, ◌+◌, IfOk};
 ghost use Rattle.heyvl_acts.specs.Acts.{procedure_at};
 ghost use Rattle.heyvl_acts.specs.PlainActs.{procedures_of};
-ghost use Rattle.heyvl_acts.specs.Rules.{HasFewActs, MeetsAllRules};
+ghost use Rattle.heyvl_acts.specs.Rules.{MeetsAllRules};
 ghost use Rattle.run_machine.specs.Names.{stored};
 ghost use Rattle.run_machine.specs.Replies.{stored_outcomes};
 ghost use Rattle.run_unroller.specs.RunLists.{begun};
@@ -36,7 +36,6 @@ pub fn unroll(
     n: u32,
 ) -> Result<Unrolled, AllocError>
     requires rules { MeetsAllRules typed.now }
-    requires few { HasFewActs (procedures_of typed.now) }
     requires begins { Begins (procedures_of typed.now) p (stored start.now) }
     requires steps { n ≤ 10000 }
     ensures { IfOk result (λ answer. unrolling_of answer ≡ unrolled (procedures_of typed.now) p script.now n (begun (stored start.now))) }
@@ -77,7 +76,6 @@ fn after(
     n: u32,
 ) -> Result<Reached, AllocError>
     requires rules { MeetsAllRules typed.now }
-    requires few { HasFewActs (procedures_of typed.now) }
     requires within { AllWithin (procedures_of typed.now) 0 (runs_of start.entries.entries) }
     requires steps { n ≤ 10000 }
     ensures { IfOk result (λ reached. IsAfter (procedures_of typed.now) script.now n (runs_of start.entries.entries) reached) }

@@ -2,7 +2,7 @@
 
 ghost use Rattle.cert_text.specs.Certificates.{IsGrowingAfter, certificates_of};
 ghost use Rattle.heyvl_acts.specs.PlainActs.{procedures_of};
-ghost use Rattle.heyvl_acts.specs.Rules.{Each, HasNamedBinders, MeetsAllRules};
+ghost use Rattle.heyvl_acts.specs.Rules.{Each, MeetsAllRules};
 ghost use Rattle.std.specs.Prelude.{IfOk, None, [], length, ◌≡◌, ℕ};
 ghost use Rattle.verdict_report.specs.Placed.{IsAnswerPlaced};
 ghost use Rattle.verify_core.specs.CheckedAnswers.{IsCheckedFile};
@@ -28,7 +28,6 @@ use vp_generator::{generated_form_means_acts, prenexed_goals_speak_of_choices};
 /// of its turns. Want of memory is the one error.
 pub fn check_all(alloc: Global, typed: &Typed, certs: &[GoalCert]) -> Result<Whole, AllocError>
     requires rules { MeetsAllRules typed.now }
-    requires named { Each HasNamedBinders (procedures_of typed.now) }
     requires order { IsGrowingAfter None (certificates_of certs.now) }
     ensures checked { IfOk result (λ whole. IsCheckedFile (procedures_of typed.now) certs.now whole.answers.items) }
     ensures placed { (bytes : ℕ) → Each (StandsWithin bytes) (procedures_of typed.now) → IfOk result (λ whole. Each (IsAnswerPlaced bytes (length typed.now.procs.items)) whole.answers.items) }

@@ -4,7 +4,7 @@ ghost use Rattle.cert_text.specs.Certificates.{IsGrowingAfter, certificates_of};
 ghost use Rattle.goal_answers.specs.Trees.{tree_of};
 ghost use Rattle.heyvl_acts.specs.Acts.{procedure_at};
 ghost use Rattle.heyvl_acts.specs.PlainActs.{procedures_of};
-ghost use Rattle.heyvl_acts.specs.Rules.{Each, HasNamedBinders, MeetsAllRules};
+ghost use Rattle.heyvl_acts.specs.Rules.{Each, MeetsAllRules};
 ghost use Rattle.std.specs.Prelude.{IfOk, List, None, length, ◌<◌, ◌≡◌};
 ghost use Rattle.verify_core.specs.Checked.{CheckedGoal, IsMissOf, first_miss, missed};
 ghost use Rattle.verify_core.specs.CheckedRankings.{IsRankingAnswer};
@@ -88,7 +88,6 @@ fn own_verdict(
 ) -> Result<Verdict, AllocError>
     requires there { p < length typed.now.procs.items }
     requires rules { MeetsAllRules typed.now }
-    requires named { Each HasNamedBinders (procedures_of typed.now) }
     requires order { IsGrowingAfter None (certificates_of certs.now) }
     ensures { IfOk result (λ own. IsOwn (procedures_of typed.now) certs.now p (procedure_at (procedures_of typed.now) p) own) }
 {
@@ -179,7 +178,6 @@ pub(crate) fn own_verdicts(
     certs: &[GoalCert],
 ) -> Result<Vec<Verdict>, AllocError>
     requires rules { MeetsAllRules typed.now }
-    requires named { Each HasNamedBinders (procedures_of typed.now) }
     requires order { IsGrowingAfter None (certificates_of certs.now) }
     ensures { IfOk result (λ own. AreOwn (procedures_of typed.now) certs.now 0 (procedures_of typed.now) own.items) }
 {

@@ -6,7 +6,7 @@ ghost use Rattle.heylo_formula.specs.declared.goals.GoalId.{GoalId};
 ghost use Rattle.heylo_formula.specs.declared.goals.GoalId.TheVariants.{Main};
 ghost use Rattle.heyvl_acts.specs.Acts.{procedure_at};
 ghost use Rattle.heyvl_acts.specs.PlainActs.{procedure_of, procedures_of, variable_of};
-ghost use Rattle.heyvl_acts.specs.Rules.{AreNamed, Each, HasNamedBinders, MeetsAllRules};
+ghost use Rattle.heyvl_acts.specs.Rules.{AreNamed, Each, MeetsAllRules};
 ghost use Rattle.loop_encodings.specs.BoundGoals.{bound_goals};
 ghost use Rattle.std.specs.Prelude.{IfOk, List, length, map, ◌++◌, ◌<◌, ◌≡◌, ◌^◌};
 ghost use Rattle.verify_core.specs.Questions.{AreGoals, IsMadeOf, one_bound, question};
@@ -28,7 +28,6 @@ use vp_generator::{VpStop, generated_form_means_acts, goal_of_forms, vp};
 pub fn goals(alloc: Global, typed: &Typed, p: u32) -> Result<Vec<NamedGoal>, AllocError>
     requires there { p < length typed.now.procs.items }
     requires rules { MeetsAllRules typed.now }
-    requires named { Each HasNamedBinders (procedures_of typed.now) }
     ensures { IfOk result (λ all. AreAllGoals (procedures_of typed.now) p all.items) }
 {
     let mut all = bounds(alloc, typed, p)?;
@@ -42,7 +41,6 @@ pub fn goals(alloc: Global, typed: &Typed, p: u32) -> Result<Vec<NamedGoal>, All
 pub(crate) fn bounds(alloc: Global, typed: &Typed, p: u32) -> Result<Vec<NamedGoal>, AllocError>
     requires there { p < length typed.now.procs.items }
     requires rules { MeetsAllRules typed.now }
-    requires named { Each HasNamedBinders (procedures_of typed.now) }
     ensures { IfOk result (λ all. AreGoals (procedures_of typed.now) p (bound_goals (procedure_at (procedures_of typed.now) p)) all.items) }
 {
     what_substitution_gives();
@@ -68,7 +66,6 @@ pub(crate) fn bounds(alloc: Global, typed: &Typed, p: u32) -> Result<Vec<NamedGo
 fn main_goal(alloc: Global, typed: &Typed, p: u32) -> Result<Made, AllocError>
     requires there { p < length typed.now.procs.items }
     requires rules { MeetsAllRules typed.now }
-    requires named { Each HasNamedBinders (procedures_of typed.now) }
     ensures { IfOk result (λ made. IsMadeOf (question (procedures_of typed.now) (procedure_at (procedures_of typed.now) p) Main) made) }
 {
     generated_form_means_acts();

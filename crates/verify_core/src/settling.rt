@@ -2,7 +2,7 @@
 
 ghost use Rattle.heyvl_acts.specs.FormSizes.{FormsWithin};
 ghost use Rattle.heyvl_acts.specs.PlainActs.{procedures_of};
-ghost use Rattle.heyvl_acts.specs.Rules.{Each, HasNamedBinders, MeetsAllRules};
+ghost use Rattle.heyvl_acts.specs.Rules.{Each, MeetsAllRules};
 ghost use Rattle.std.specs.Prelude.{IfOk, [], length, ◌<◌, ◌^◌, ◌≡◌};
 ghost use Rattle.verify_core.specs.internal.Rows.{AreSettled, IsBoundRow, IsRankingRow, IsRow};
 
@@ -25,7 +25,6 @@ pub(crate) fn settle(
     certs: &mut Vec<GoalCert>,
 ) -> Result<Vec<ProcedureOutcome>, AllocError>
     requires rules { MeetsAllRules typed.now }
-    requires named { Each HasNamedBinders (procedures_of typed.now) }
     requires small { Each (FormsWithin (2 ^ 27)) (procedures_of typed.now) }
     requires none { certs.old.items ≡ [] }
     ensures { IfOk result (λ all. AreSettled (procedures_of typed.now) all.items certs.new.items) }
@@ -48,7 +47,6 @@ fn settle_one(
 ) -> Result<ProcedureOutcome, AllocError>
     requires there { p < length typed.now.procs.items }
     requires rules { MeetsAllRules typed.now }
-    requires named { Each HasNamedBinders (procedures_of typed.now) }
     requires small { Each (FormsWithin (2 ^ 27)) (procedures_of typed.now) }
     ensures { IfOk result (λ o. IsRow (procedures_of typed.now) p certs.old.items o certs.new.items) }
 {
@@ -66,7 +64,6 @@ fn settle_bound(
 ) -> Result<Outcome, AllocError>
     requires there { p < length typed.now.procs.items }
     requires rules { MeetsAllRules typed.now }
-    requires named { Each HasNamedBinders (procedures_of typed.now) }
     requires small { Each (FormsWithin (2 ^ 27)) (procedures_of typed.now) }
     ensures { IfOk result (λ o. IsBoundRow (procedures_of typed.now) p certs.old.items o certs.new.items) }
 {

@@ -2,7 +2,7 @@
 
 ghost use Rattle.heyvl_acts.specs.FormSizes.{FormsWithin};
 ghost use Rattle.heyvl_acts.specs.PlainActs.{procedures_of};
-ghost use Rattle.heyvl_acts.specs.Rules.{Each, HasNamedBinders, MeetsAllRules};
+ghost use Rattle.heyvl_acts.specs.Rules.{Each, MeetsAllRules};
 ghost use Rattle.std.specs.Prelude.{IfOk, length, ◌^◌, ℕ};
 ghost use Rattle.verdict_report.specs.Placed.{IsAnswerPlaced};
 ghost use Rattle.verify_core.specs.Answered.{IsAnswered};
@@ -26,7 +26,6 @@ use vp_generator::{generated_form_means_acts, prenexed_goals_speak_of_choices};
 /// on each ranking by its own goal alone. Want of memory is the one error.
 pub fn verify(alloc: Global, typed: &Typed) -> Result<Whole, AllocError>
     requires rules { MeetsAllRules typed.now }
-    requires named { Each HasNamedBinders (procedures_of typed.now) }
     requires small { Each (FormsWithin (2 ^ 27)) (procedures_of typed.now) }
     ensures answered { IfOk result (λ whole. IsAnswered (procedures_of typed.now) whole.answers.items whole.made.items whole.certs.items) }
     ensures placed { (bytes : ℕ) → Each (StandsWithin bytes) (procedures_of typed.now) → IfOk result (λ whole. Each (IsAnswerPlaced bytes (length typed.now.procs.items)) whole.answers.items) }

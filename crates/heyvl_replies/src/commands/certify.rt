@@ -2,7 +2,7 @@
 
 ghost use Rattle.heyvl_acts.specs.FormSizes.{FormsWithin};
 ghost use Rattle.heyvl_acts.specs.PlainActs.{procedures_of};
-ghost use Rattle.heyvl_acts.specs.Rules.{Each, HasNamedBinders, MeetsAllRules};
+ghost use Rattle.heyvl_acts.specs.Rules.{Each, MeetsAllRules};
 ghost use Rattle.heyvl_files.specs.Sources.{file_limit};
 ghost use Rattle.heyvl_replies.specs.Responses.{reply_of};
 ghost use Rattle.heyvl_replies.specs.commands.Certify.{FilesAreCertified, IsCertification, IsCertifyReply};
@@ -19,7 +19,6 @@ use verify_core::verify;
 /// The certificates of the proved goals of a file, with the answers on it.
 fn certify_typed(alloc: Global, typed: &Typed) -> Result<Response, AllocError>
     requires rules { MeetsAllRules typed.now }
-    requires named { Each HasNamedBinders (procedures_of typed.now) }
     requires small { Each (FormsWithin (2 ^ 27)) (procedures_of typed.now) }
     ensures { IfOk result (λ response. IsCertification (procedures_of typed.now) (reply_of response)) }
 {

@@ -2,7 +2,7 @@
 
 ghost use Rattle.heyvl_acts.specs.Acts.{procedure_at};
 ghost use Rattle.heyvl_acts.specs.PlainActs.{procedures_of};
-ghost use Rattle.heyvl_acts.specs.Rules.{Each, HasFewActs, HasNamedBinders, MeetsAllRules};
+ghost use Rattle.heyvl_acts.specs.Rules.{Each, MeetsAllRules};
 ghost use Rattle.heyvl_acts.specs.FormSizes.{FormsWithin};
 ghost use Rattle.heyvl_files.specs.Sources.{file_limit};
 ghost use Rattle.heyvl_replies.specs.Responses.{reply_of};
@@ -64,7 +64,6 @@ fn searched(
 ) -> Result<Refuted, AllocError>
     requires there { p < length typed.now.procs.items }
     requires rules { MeetsAllRules typed.now }
-    requires few { HasFewActs (procedures_of typed.now) }
     requires programs { ReachesPrograms (procedures_of typed.now) p }
     requires coproc { (procedure_at (procedures_of typed.now) p).co ≡ true }
     requires steps { script.now.steps ≤ 10000 }
@@ -155,9 +154,7 @@ fn refute_programs(
 ) -> Result<Response, AllocError>
     requires there { p < length typed.now.procs.items }
     requires rules { MeetsAllRules typed.now }
-    requires named { Each HasNamedBinders (procedures_of typed.now) }
     requires small { Each (FormsWithin (2 ^ 27)) (procedures_of typed.now) }
-    requires few { HasFewActs (procedures_of typed.now) }
     requires programs { ReachesPrograms (procedures_of typed.now) p }
     requires coproc { (procedure_at (procedures_of typed.now) p).co ≡ true }
     requires steps { script.now.steps ≤ 10000 }
@@ -178,9 +175,7 @@ fn refute_coproc(
 ) -> Result<Response, AllocError>
     requires there { p < length typed.now.procs.items }
     requires rules { MeetsAllRules typed.now }
-    requires named { Each HasNamedBinders (procedures_of typed.now) }
     requires small { Each (FormsWithin (2 ^ 27)) (procedures_of typed.now) }
-    requires few { HasFewActs (procedures_of typed.now) }
     requires coproc { (procedure_at (procedures_of typed.now) p).co ≡ true }
     requires steps { script.now.steps ≤ 10000 }
     ensures { IfOk result (λ response. (name bytes : List ℕ) → procedure_named name (procedures_of typed.now) ≡ Some p
@@ -197,9 +192,7 @@ fn refute_coproc(
 fn refute_at(alloc: Global, typed: &Typed, p: u32, script: &Script) -> Result<Response, AllocError>
     requires there { p < length typed.now.procs.items }
     requires rules { MeetsAllRules typed.now }
-    requires named { Each HasNamedBinders (procedures_of typed.now) }
     requires small { Each (FormsWithin (2 ^ 27)) (procedures_of typed.now) }
-    requires few { HasFewActs (procedures_of typed.now) }
     requires steps { script.now.steps ≤ 10000 }
     ensures { IfOk result (λ response. (name bytes : List ℕ) → procedure_named name (procedures_of typed.now) ≡ Some p
         → Spells (known_at (procedures_of typed.now) (procedure_named name (procedures_of typed.now))) (script_of script.now) bytes
@@ -222,9 +215,7 @@ fn refute_typed(
     script: &[u8],
 ) -> Result<Response, AllocError>
     requires rules { MeetsAllRules typed.now }
-    requires named { Each HasNamedBinders (procedures_of typed.now) }
     requires small { Each (FormsWithin (2 ^ 27)) (procedures_of typed.now) }
-    requires few { HasFewActs (procedures_of typed.now) }
     requires short { length script.now ≤ file_limit }
     ensures { IfOk result (λ response. IsRefuteOf name.now script.now (procedures_of typed.now) (reply_of response)) }
 {

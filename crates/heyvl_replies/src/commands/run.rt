@@ -1,7 +1,7 @@
 //! `run FILE PROC SCRIPT`: the sums over the runs of a procedure of a file, by a script.
 
 ghost use Rattle.heyvl_acts.specs.PlainActs.{procedures_of};
-ghost use Rattle.heyvl_acts.specs.Rules.{HasFewActs, MeetsAllRules};
+ghost use Rattle.heyvl_acts.specs.Rules.{MeetsAllRules};
 ghost use Rattle.heyvl_files.specs.Sources.{file_limit};
 ghost use Rattle.heyvl_replies.specs.Responses.{reply_of};
 ghost use Rattle.heyvl_replies.specs.RunStarts.{known_at, procedure_named};
@@ -62,7 +62,6 @@ fn run_programs(
 ) -> Result<Response, AllocError>
     requires there { p < length typed.now.procs.items }
     requires rules { MeetsAllRules typed.now }
-    requires few { HasFewActs (procedures_of typed.now) }
     requires programs { ReachesPrograms (procedures_of typed.now) p }
     requires steps { script.now.steps ≤ 10000 }
     ensures { IfOk result (λ response. TellsRun (procedures_of typed.now) p (script_of script.now) (reply_of response)) }
@@ -77,7 +76,6 @@ fn run_programs(
 fn run_at(alloc: Global, typed: &Typed, p: u32, script: &Script) -> Result<Response, AllocError>
     requires there { p < length typed.now.procs.items }
     requires rules { MeetsAllRules typed.now }
-    requires few { HasFewActs (procedures_of typed.now) }
     requires steps { script.now.steps ≤ 10000 }
     ensures { IfOk result (λ response. (name bytes : List ℕ) → procedure_named name (procedures_of typed.now) ≡ Some p
         → Spells (known_at (procedures_of typed.now) (procedure_named name (procedures_of typed.now))) (script_of script.now) bytes
@@ -98,7 +96,6 @@ fn run_typed(
     script: &[u8],
 ) -> Result<Response, AllocError>
     requires rules { MeetsAllRules typed.now }
-    requires few { HasFewActs (procedures_of typed.now) }
     requires short { length script.now ≤ file_limit }
     ensures { IfOk result (λ response. IsRunOf name.now script.now (procedures_of typed.now) (reply_of response)) }
 {

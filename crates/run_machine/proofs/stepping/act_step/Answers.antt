@@ -23,19 +23,22 @@ use Rattle.run_machine.proofs.StepReplies.{act_is, has_room}
 use Rattle.run_machine.proofs.stepping.act_step.Goals as goal
 
 pub overflow_add-place : goal.overflow_add-place
-overflow_add-place c = let r = has_room (procedures_of c.args.typed.now) c.args.p c.args.place (act_of c.args.act.now) c.requires.few c.requires.comes.names in omega (arith, r)
+overflow_add-place c = let r = has_room (procedures_of c.args.typed.now) c.args.p c.args.place (act_of c.args.act.now) c.requires.rules.few_acts c.requires.comes.names in omega (arith, r)
 
 pub overflow_add-place-in-Pick : goal.overflow_add-place-in-Pick
-overflow_add-place-in-Pick c = let r = has_room (procedures_of c.args.typed.now) c.args.p c.args.place (act_of c.args.act.now) c.requires.few c.requires.comes.names in omega (arith, r)
+overflow_add-place-in-Pick c = let r = has_room (procedures_of c.args.typed.now) c.args.p c.args.place (act_of c.args.act.now) c.requires.rules.few_acts c.requires.comes.names in omega (arith, r)
 
 pub if_step-requires : goal.if_step-requires
-if_step-requires c = let r = has_room (procedures_of c.args.typed.now) c.args.p c.args.place (act_of c.args.act.now) c.requires.few c.requires.comes.names in let e = if_size c.args.act.now c.in-If.arms c.in-If.other c.in-If.field-2 c.in-If.is in let a = ap (λ l. length (inside_arms (arms_of l))) c.deref-in-If.ensures.value in let b = ap (λ l. length (in_order (acts_of l))) c.deref-in-If-2.ensures.value in omega (arith, r, e, a, b)
+if_step-requires c = let r = has_room (procedures_of c.args.typed.now) c.args.p c.args.place (act_of c.args.act.now) c.requires.rules.few_acts c.requires.comes.names in let e = if_size c.args.act.now c.in-If.arms c.in-If.other c.in-If.field-2 c.in-If.is in let a = ap (λ l. length (inside_arms (arms_of l))) c.deref-in-If.ensures.value in let b = ap (λ l. length (in_order (acts_of l))) c.deref-in-If-2.ensures.value in omega (arith, r, e, a, b)
 
 pub pick_step-requires-clause-small : goal.pick_step-requires-clause-small
-pick_step-requires-clause-small c = let r = has_room (procedures_of c.args.typed.now) c.args.p c.args.place (act_of c.args.act.now) c.requires.few c.requires.comes.names in let e = pick_size c.args.act.now c.in-Pick.field-0 c.in-Pick.left c.in-Pick.right c.in-Pick.field-3 c.in-Pick.is in let a = ap (λ l. length (in_order (acts_of l))) c.deref-in-Pick.ensures.value in let b = ap (λ l. length (in_order (acts_of l))) c.deref-in-Pick-2.ensures.value in omega (arith, r, e, a, b)
+pick_step-requires-clause-small c = let r = has_room (procedures_of c.args.typed.now) c.args.p c.args.place (act_of c.args.act.now) c.requires.rules.few_acts c.requires.comes.names in let e = pick_size c.args.act.now c.in-Pick.field-0 c.in-Pick.left c.in-Pick.right c.in-Pick.field-3 c.in-Pick.is in let a = ap (λ l. length (in_order (acts_of l))) c.deref-in-Pick.ensures.value in let b = ap (λ l. length (in_order (acts_of l))) c.deref-in-Pick-2.ensures.value in omega (arith, r, e, a, b)
 
 pub test_step-requires-clause-small : goal.test_step-requires-clause-small
-test_step-requires-clause-small c = let r = has_room (procedures_of c.args.typed.now) c.args.p c.args.place (act_of c.args.act.now) c.requires.few c.requires.comes.names in let e = loop_size c.args.act.now c.in-Loop.one c.in-Loop.is in let a = ap (λ l. length (in_order (acts_of l.body.items))) c.deref-in-Loop.ensures in omega (arith, r, e, a)
+test_step-requires-clause-small c = let r = has_room (procedures_of c.args.typed.now) c.args.p c.args.place (act_of c.args.act.now) c.requires.rules.few_acts c.requires.comes.names in let e = loop_size c.args.act.now c.in-Loop.one c.in-Loop.is in let a = ap (λ l. length (in_order (acts_of l.body.items))) c.deref-in-Loop.ensures in omega (arith, r, e, a)
+
+pub call_step-requires-clause-few : goal.call_step-requires-clause-few
+call_step-requires-clause-few c = c.requires.rules.few_acts
 
 pub call_step-requires-clause-small : goal.call_step-requires-clause-small
 call_step-requires-clause-small c = all_small _ _ c.requires.rules.counted c.requires.rules.each

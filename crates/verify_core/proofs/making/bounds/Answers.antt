@@ -24,7 +24,7 @@ add_bounds-requires-clause-asked c =
     let l = is_there c.args.typed.now c.args.p c.requires.there in
     let h = here c.args.typed.now c.args.p c.index-procedure.result.now c.requires.rules c.requires.there c.index-procedure.ensures in
     let q = procedure_at (procedures_of c.args.typed.now) c.args.p in
-    subst (λ all. Each (IsAsked (procedures_of c.args.typed.now) q) all) (ap asked h ∙ sym c.in_ok-asked.ensures) (each_is_asked (procedures_of c.args.typed.now) q c.what_substitution_gives.ensures.no_names (rules_at c.args.typed.now c.args.p c.requires.rules l) (each_at HasNamedBinders (procedures_of c.args.typed.now) c.args.p c.requires.named l))
+    subst (λ all. Each (IsAsked (procedures_of c.args.typed.now) q) all) (ap asked h ∙ sym c.in_ok-asked.ensures) (each_is_asked (procedures_of c.args.typed.now) q c.what_substitution_gives.ensures.no_names (rules_at c.args.typed.now c.args.p c.requires.rules l) (each_at HasNamedBinders (procedures_of c.args.typed.now) c.args.p c.requires.rules.named l))
 
 pub returns : goal.returns
 returns c =

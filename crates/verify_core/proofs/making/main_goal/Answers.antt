@@ -26,10 +26,10 @@ pub goal_of_forms-requires-clause-few : goal.goal_of_forms-requires-clause-few
 goal_of_forms-requires-clause-few c = main_few c.args.typed.now c.args.p c.index-procedure.result.now c.requires.rules c.requires.there c.index-procedure.ensures c.in_ok-encoded.encoded.vars.items c.in_ok-encoded.ensures.vars
 
 pub goal_of_forms-requires-clause-named : goal.goal_of_forms-requires-clause-named
-goal_of_forms-requires-clause-named c = main_named c.args.typed.now c.args.p c.index-procedure.result.now c.requires.rules c.requires.there c.index-procedure.ensures c.in_ok-encoded.encoded.vars.items c.in_ok-encoded.ensures.vars c.deref.result.now (ap acts_of c.deref.ensures.value ∙ c.in_ok-encoded.ensures.acts) c.in_ok-post.post c.in_ok-post.ensures c.generated_form_means_acts.ensures.named c.encodings_are_over_their_variables.ensures.binds c.requires.named (form_of c.in-Ok.found) c.in-Ok.ensures.0
+goal_of_forms-requires-clause-named c = main_named c.args.typed.now c.args.p c.index-procedure.result.now c.requires.rules c.requires.there c.index-procedure.ensures c.in_ok-encoded.encoded.vars.items c.in_ok-encoded.ensures.vars c.deref.result.now (ap acts_of c.deref.ensures.value ∙ c.in_ok-encoded.ensures.acts) c.in_ok-post.post c.in_ok-post.ensures c.generated_form_means_acts.ensures.named c.encodings_are_over_their_variables.ensures.binds c.requires.rules.named (form_of c.in-Ok.found) c.in-Ok.ensures.0
 
 pub returns-in-Ok : goal.returns-in-Ok
-returns-in-Ok c = IfOk-weaker _ (λ made. IsMade c.index-procedure.result.now.co (form_of c.in_ok-pre.pre) (form_of c.in-Ok.found) c.in_ok-encoded.encoded.vars.items made) (λ made. IsMadeOf (question (procedures_of c.args.typed.now) (procedure_at (procedures_of c.args.typed.now) c.args.p) Main) made) (λ made h. main_made c.args.typed.now c.args.p c.index-procedure.result.now c.requires.rules c.requires.there c.index-procedure.ensures c.in_ok-encoded.encoded.vars.items c.in_ok-encoded.ensures.vars c.deref.result.now (ap acts_of c.deref.ensures.value ∙ c.in_ok-encoded.ensures.acts) c.in_ok-post.post c.in_ok-post.ensures c.in_ok-pre.pre (form_of c.in-Ok.found) made c.in_ok-pre.ensures c.in-Ok.ensures.0 (main_named c.args.typed.now c.args.p c.index-procedure.result.now c.requires.rules c.requires.there c.index-procedure.ensures c.in_ok-encoded.encoded.vars.items c.in_ok-encoded.ensures.vars c.deref.result.now (ap acts_of c.deref.ensures.value ∙ c.in_ok-encoded.ensures.acts) c.in_ok-post.post c.in_ok-post.ensures c.generated_form_means_acts.ensures.named c.encodings_are_over_their_variables.ensures.binds c.requires.named (form_of c.in-Ok.found) c.in-Ok.ensures.0) h) c.goal_of_forms.ensures
+returns-in-Ok c = IfOk-weaker _ (λ made. IsMade c.index-procedure.result.now.co (form_of c.in_ok-pre.pre) (form_of c.in-Ok.found) c.in_ok-encoded.encoded.vars.items made) (λ made. IsMadeOf (question (procedures_of c.args.typed.now) (procedure_at (procedures_of c.args.typed.now) c.args.p) Main) made) (λ made h. main_made c.args.typed.now c.args.p c.index-procedure.result.now c.requires.rules c.requires.there c.index-procedure.ensures c.in_ok-encoded.encoded.vars.items c.in_ok-encoded.ensures.vars c.deref.result.now (ap acts_of c.deref.ensures.value ∙ c.in_ok-encoded.ensures.acts) c.in_ok-post.post c.in_ok-post.ensures c.in_ok-pre.pre (form_of c.in-Ok.found) made c.in_ok-pre.ensures c.in-Ok.ensures.0 (main_named c.args.typed.now c.args.p c.index-procedure.result.now c.requires.rules c.requires.there c.index-procedure.ensures c.in_ok-encoded.encoded.vars.items c.in_ok-encoded.ensures.vars c.deref.result.now (ap acts_of c.deref.ensures.value ∙ c.in_ok-encoded.ensures.acts) c.in_ok-post.post c.in_ok-post.ensures c.generated_form_means_acts.ensures.named c.encodings_are_over_their_variables.ensures.binds c.requires.rules.named (form_of c.in-Ok.found) c.in-Ok.ensures.0) h) c.goal_of_forms.ensures
 
 pub returns-in-Err-Depth : goal.returns-in-Err-Depth
 returns-in-Err-Depth c = subst (λ f. 1000 < depth f) (generated c.args.typed.now c.args.p c.index-procedure.result.now c.requires.rules c.requires.there c.index-procedure.ensures c.in_ok-encoded.encoded.vars.items c.in_ok-encoded.ensures.vars c.deref.result.now (ap acts_of c.deref.ensures.value ∙ c.in_ok-encoded.ensures.acts) c.in_ok-post.post c.in_ok-post.ensures) (rw c.in-Err-Depth.field-0-is at c.in-Err-Depth.ensures)
