@@ -28,7 +28,7 @@ use crate::stops::ResolveStop;
 use heylo_formula::Form;
 use heyvl_acts::{Act, TProc, VarInfo, count};
 use heyvl_syntax::{Note, Proc, Stmt};
-use std::alloc::{AllocError, Global};
+use std::alloc::Global;
 
 /// What the head of a procedure declares.
 #[derive(Drop)]
@@ -111,7 +111,7 @@ fn read_head(alloc: Global, proc: &Proc) -> Result<Head, ResolveStop>
     let count = read_parameters(alloc, &mut inputs, &mut vars, 0, &proc.inputs)?;
     let mut all = inputs.copy()?;
     let arity = read_parameters(alloc, &mut all, &mut vars, count, &proc.outputs)?;
-    let outputs = arity.checked_sub(count).ok_or(AllocError)?;
+    let outputs = arity - count;
     Ok(Head {
         inputs,
         all,
@@ -164,7 +164,7 @@ fn read_body(
             let acts = read_block(
                 alloc, setting, calls, bound, scope, vars, &mut next, statements,
             )?;
-            let loops = next.checked_sub(1).ok_or(AllocError)?;
+            let loops = next - 1;
             Ok(Body {
                 acts: Some(acts),
                 loops,
