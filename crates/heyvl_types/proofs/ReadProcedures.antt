@@ -135,13 +135,13 @@ same_procedure called p inputs outputs vars pre post body loops ei eo ev epre ep
     cc
 
 -- What the parts of a procedure were read to, where nothing is found against them.
-pub record PartsAre (called : Called) (named : Bool) (p : Procedure) (inputs outputs n m : ℕ) (inner all : Scope) (h : Setting) (bound : Bool) (vars : List VarInfo) (pre post : Form) (body : Option Acts) (loops : ℕ) : Type 0 where
+pub record PartsAre (called : Called) (named : Bool) (p : Procedure) (inputs outputs n m : ℕ) (inner all : Scope) (h : Setting) (bound : Bool) (vars : List VarInfo) (pres posts : List Form) (body : Option Acts) (loops : ℕ) : Type 0 where
   pub head : HeadIs named p n inner all
   pub inputs_are : inputs ≡ length p.inputs
   pub outputs_are : outputs ≡ length p.outputs
   pub clauses_kept : clauses_part n inner all p ≡ []
-  pub pre_is : pre ≡ clause p.co (pre_forms n inner p.pres)
-  pub post_is : post ≡ clause p.co (post_forms (n + length (locals_of_body p.body)) all p.posts)
+  pub pres_are : pres ≡ pre_forms n inner p.pres
+  pub posts_are : posts ≡ post_forms (n + length (locals_of_body p.body)) all p.posts
   pub setting_is : h ≡ setting p
   pub bound_is : bound ≡ has_quantified_post p
   pub next_is : m ≡ arity p
@@ -150,19 +150,19 @@ pub record PartsAre (called : Called) (named : Bool) (p : Procedure) (inputs out
   pub loops_are : loops ≡ loops_of_body p.body
   pub vars_are : map variable_of vars ≡ variables_of p
 
-pub together : (called : Called) (named : Bool) (p : Procedure) (inputs outputs n m : ℕ) (inner all : Scope) (h : Setting) (bound : Bool) (vars : List VarInfo) (pre post : Form) (body : Option Acts) (loops : ℕ) (r : Result TProc ResolveStop)
-    → PartsAre called named p inputs outputs n m inner all h bound vars pre post body loops
-    → Gives procedure_of r (at p.span ((24, is_larger p (inputs + outputs) (length vars) body) ∷ [])) (with_parts p inputs outputs (map variable_of vars) pre post body loops)
+pub together : (called : Called) (named : Bool) (p : Procedure) (inputs outputs n m : ℕ) (inner all : Scope) (h : Setting) (bound : Bool) (vars : List VarInfo) (pres posts : List Form) (body : Option Acts) (loops : ℕ) (r : Result TProc ResolveStop)
+    → PartsAre called named p inputs outputs n m inner all h bound vars pres posts body loops
+    → Gives procedure_of r (at p.span ((24, is_larger p (inputs + outputs) (length vars) body) ∷ [])) (with_parts p inputs outputs (map variable_of vars) (clause p.co pres) (clause p.co posts) body loops)
     → Gives procedure_of r (procedure_findings called named p) (typed called p)
-together called named p inputs outputs n m inner all h bound vars pre post body loops r a g =
+together called named p inputs outputs n m inner all h bound vars pres posts body loops r a g =
     let k : inputs + outputs ≡ arity p = ap (λ i. i + outputs) a.inputs_are ∙ ap (λ i. length p.inputs + i) a.outputs_are in
     let acts : body ≡ body_acts (setting p) called (arity p) (head_scope p) p.body = sym a.body_is ∙ acts_with h called p m all a.setting_is a.next_is a.head.scope in
     let large : is_larger p (inputs + outputs) (length vars) body ≡ is_too_large called p = is_large called p (inputs + outputs) (length vars) body k (so_many p vars a.vars_are) acts in
-    let pre_here : pre ≡ clause p.co (pre_forms (arity p) (input_scope p) p.pres) = a.pre_is ∙ ap (λ i. clause p.co (pre_forms i inner p.pres)) a.head.number ∙ ap (λ s. clause p.co (pre_forms (arity p) s p.pres)) a.head.inputs in
-    let post_here : post ≡ clause p.co (post_forms (first_quantified p) (head_scope p) p.posts) = a.post_is ∙ ap (λ i. clause p.co (post_forms (i + length (locals_of_body p.body)) all p.posts)) a.head.number ∙ ap (λ s. clause p.co (post_forms (first_quantified p) s p.posts)) a.head.scope in
-    same_gives procedure_of r (at p.span ((24, is_larger p (inputs + outputs) (length vars) body) ∷ [])) (procedure_findings called named p) (with_parts p inputs outputs (map variable_of vars) pre post body loops) (typed called p)
+    let pre_here : clause p.co pres ≡ clause p.co (pre_forms (arity p) (input_scope p) p.pres) = ap (clause p.co) a.pres_are ∙ ap (λ i. clause p.co (pre_forms i inner p.pres)) a.head.number ∙ ap (λ s. clause p.co (pre_forms (arity p) s p.pres)) a.head.inputs in
+    let post_here : clause p.co posts ≡ clause p.co (post_forms (first_quantified p) (head_scope p) p.posts) = ap (clause p.co) a.posts_are ∙ ap (λ i. clause p.co (post_forms (i + length (locals_of_body p.body)) all p.posts)) a.head.number ∙ ap (λ s. clause p.co (post_forms (first_quantified p) s p.posts)) a.head.scope in
+    same_gives procedure_of r (at p.span ((24, is_larger p (inputs + outputs) (length vars) body) ∷ [])) (procedure_findings called named p) (with_parts p inputs outputs (map variable_of vars) (clause p.co pres) (clause p.co posts) body loops) (typed called p)
     (from_own called named p n m inner all h bound a.head a.clauses_kept a.setting_is a.bound_is a.next_is a.body_kept ∙ ap (λ b. at p.span ((24, b) ∷ [])) (sym large))
-    (same_procedure called p inputs outputs (map variable_of vars) pre post body loops a.inputs_are a.outputs_are a.vars_are pre_here post_here acts a.loops_are) g
+    (same_procedure called p inputs outputs (map variable_of vars) (clause p.co pres) (clause p.co posts) body loops a.inputs_are a.outputs_are a.vars_are pre_here post_here acts a.loops_are) g
 
 pub in_range : (p : Procedure) (inputs outputs : ℕ) (vars : List VarInfo) → inputs ≡ length p.inputs → outputs ≡ length p.outputs → map variable_of vars ≡ variables_of p → inputs + outputs ≤ length vars
 in_range p inputs outputs vars e f g = let l = so_many p vars g in omega (arith, e, f, l)

@@ -69,8 +69,8 @@ fn with_clause(alloc: Global, co: bool, joined: Option<Form>, one: Form) -> Resu
     }
 }
 
-/// Clauses joined from the left.
-fn clause(alloc: Global, co: bool, all: Vec<Form>) -> Result<Form, AllocError>
+/// Clauses joined from the left. The form that they give is as deep as they are many.
+pub(crate) fn clause(alloc: Global, co: bool, all: Vec<Form>) -> Result<Form, AllocError>
     ensures { IfOk result (λ made. form_of made ≡ clause co (map form_of all.items)) }
 {
     let mut joined = None;
@@ -105,8 +105,8 @@ fn read_post(
     Ok(form(meaning))
 }
 
-/// What pre clauses become one by one, or the first fault in them.
-fn read_pre_forms(
+/// What the pre clauses of a procedure become one by one, or the first fault in them.
+pub(crate) fn read_pres(
     alloc: Global,
     scope: &Scope,
     next: u32,
@@ -121,8 +121,8 @@ fn read_pre_forms(
     Ok(forms)
 }
 
-/// What post clauses become one by one, or the first fault in them. The first quantified variable has this number.
-fn read_post_forms(
+/// What the post clauses of a procedure become one by one, or the first fault in them. The first quantified variable has this number.
+pub(crate) fn read_posts(
     alloc: Global,
     scope: &mut Scope,
     first: u32,
@@ -139,33 +139,4 @@ fn read_post_forms(
         next = behind_front(next, e)?;
     }
     Ok(forms)
-}
-
-/// What the pre clauses of a procedure become, or the first fault in them.
-pub(crate) fn read_pres(
-    alloc: Global,
-    scope: &Scope,
-    next: u32,
-    co: bool,
-    all: &[Expr],
-) -> Result<Form, ResolveStop>
-    ensures { Gives form_of result (pres_findings next scope.now (expressions all.now)) (clause co (pre_forms next scope.now (expressions all.now))) }
-{
-    let forms = read_pre_forms(alloc, scope, next, all)?;
-    Ok(clause(alloc, co, forms)?)
-}
-
-/// What the post clauses of a procedure become, or the first fault in them. The first quantified variable has this number.
-pub(crate) fn read_posts(
-    alloc: Global,
-    scope: &mut Scope,
-    first: u32,
-    co: bool,
-    all: &[Expr],
-) -> Result<Form, ResolveStop>
-    ensures gives { Gives form_of result (posts_findings (front_of co) first scope.old (expressions all.now)) (clause co (post_forms first scope.old (expressions all.now))) }
-    ensures kept { OnOk result (scope.new ≡ scope.old) }
-{
-    let forms = read_post_forms(alloc, scope, first, co, all)?;
-    Ok(clause(alloc, co, forms)?)
 }

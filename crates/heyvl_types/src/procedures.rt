@@ -17,7 +17,7 @@ ghost use Rattle.std.specs.Prelude.{◌&&◌, ◌++◌, ◌+◌, ◌||◌, ◌�
 
 use crate::blocks::read_block;
 use crate::calls::Calls;
-use crate::clauses::{read_posts, read_pres};
+use crate::clauses::{clause, read_posts, read_pres};
 use crate::fronts::list_fronts;
 use crate::locals::{count_locals, plus};
 use crate::parameters::read_parameters;
@@ -47,11 +47,11 @@ struct Head {
     arity: u32,
 }
 
-/// The clauses of a procedure.
+/// The clauses of a procedure one by one: a file may have so many that their join is too deep to be dropped.
 #[derive(Drop)]
 struct Clauses {
-    pre: Form,
-    post: Form,
+    pre: Vec<Form>,
+    post: Vec<Form>,
 }
 
 /// The body of a procedure.
@@ -130,11 +130,11 @@ fn read_clauses(
     arity: u32,
     proc: &Proc,
 ) -> Result<Clauses, ResolveStop>
-    ensures gives { Gives (λ clauses. form_of clauses.pre) result (pres_findings arity inputs.now (expressions proc.now.pres.items) ++ posts_findings (front_of proc.now.co) (arity + length (locals_of_body (optional_block proc.now.body))) all.old (expressions proc.now.posts.items)) (clause proc.now.co (pre_forms arity inputs.now (expressions proc.now.pres.items))) }
-    ensures post { IfOk result (λ clauses. form_of clauses.post ≡ clause proc.now.co (post_forms (arity + length (locals_of_body (optional_block proc.now.body))) all.old (expressions proc.now.posts.items))) }
+    ensures gives { Gives (λ clauses. map form_of clauses.pre.items) result (pres_findings arity inputs.now (expressions proc.now.pres.items) ++ posts_findings (front_of proc.now.co) (arity + length (locals_of_body (optional_block proc.now.body))) all.old (expressions proc.now.posts.items)) (pre_forms arity inputs.now (expressions proc.now.pres.items)) }
+    ensures post { IfOk result (λ clauses. map form_of clauses.post.items ≡ post_forms (arity + length (locals_of_body (optional_block proc.now.body))) all.old (expressions proc.now.posts.items)) }
     ensures kept { OnOk result (all.new ≡ all.old) }
 {
-    let pre = read_pres(alloc, inputs, arity, proc.co, &proc.pres)?;
+    let pre = read_pres(alloc, inputs, arity, &proc.pres)?;
     let quantified = plus(arity, count_locals(&proc.body)?)?;
     let post = read_posts(alloc, all, quantified, proc.co, &proc.posts)?;
     Ok(Clauses { pre, post })
@@ -204,12 +204,14 @@ fn put_together(
     clauses: Clauses,
     body: Body,
 ) -> Result<TProc, ResolveStop>
-    ensures gives { Gives procedure_of result (at proc.now.span ((24, is_larger (procedure proc.now) (inputs + outputs) (length vars.items) (body_of body.acts)) ∷ [])) (with_parts (procedure proc.now) inputs outputs (map variable_of vars.items) (form_of clauses.pre) (form_of clauses.post) (body_of body.acts) body.loops) }
+    ensures gives { Gives procedure_of result (at proc.now.span ((24, is_larger (procedure proc.now) (inputs + outputs) (length vars.items) (body_of body.acts)) ∷ [])) (with_parts (procedure proc.now) inputs outputs (map variable_of vars.items) (clause proc.now.co (map form_of clauses.pre.items)) (clause proc.now.co (map form_of clauses.post.items)) (body_of body.acts) body.loops) }
     ensures counted { IfOk result (λ typed. (typed.inputs ≡ inputs) × (typed.outputs ≡ outputs) × (typed.vars ≡ vars)) }
 {
     if is_too_large(proc, plus(inputs, outputs)?, vars.len(), &body.acts) {
         return Err(ResolveStop::Fault(24, proc.span));
     }
+    let pre = clause(alloc, proc.co, clauses.pre)?;
+    let post = clause(alloc, proc.co, clauses.post)?;
     Ok(TProc {
         name: proc.name.copy(alloc)?,
         co: proc.co,
@@ -217,8 +219,8 @@ fn put_together(
         vars,
         inputs,
         outputs,
-        pre: clauses.pre,
-        post: clauses.post,
+        pre,
+        post,
         body: body.acts,
         loops: body.loops,
         span: proc.span,

@@ -6,10 +6,10 @@ use Rattle.heyvl_syntax.specs.Procedures.{procedure}
 use Rattle.heyvl_types.proofs.ReadProcedures.{HeadIs, all_in_range, all_variables, bad_body, bad_clauses, bad_head, bad_name, in_range, many_of, setting_with, together, variables_of}
 use Rattle.heyvl_types.proofs.procedures.read_procedure.Goals as goal
 use Rattle.heyvl_types.specs.Answers.{Gives}
-use Rattle.heyvl_types.specs.Files.{arity, body_acts, clause, has_quantified_post, head_scope, input_scope, pre_forms, procedure_findings, setting, typed}
+use Rattle.heyvl_types.specs.Files.{arity, body_acts, has_quantified_post, head_scope, input_scope, pre_forms, procedure_findings, setting, typed}
 use Rattle.heyvl_types.specs.TypedExpressions.{has_quantifier}
 use Rattle.heyvl_types.specs.Variables.{fronts_variables, locals_of_body, parameters}
-use Rattle.std.proofs.Common.{Err, ap, length, map, rules, sym, ◌++◌, ◌∙◌, ◌≡◌, ℕ}
+use Rattle.std.proofs.Common.{Err, List, ap, length, map, rules, sym, ◌++◌, ◌∙◌, ◌≡◌, ℕ}
 use Rattle.std.specs.List.{list_any}
 use Rattle.std.specs.Prelude.{Option}
 
@@ -32,7 +32,7 @@ returns-in_err-clauses-clause-gives c =
     let all : c.in_ok-inputs.field-0.all ≡ head_scope (procedure c.args.proc.now) = c.in_ok-inputs.ensures.all in
     let head : HeadIs c.args.named (procedure c.args.proc.now) c.in_ok-inputs.field-0.arity c.in_ok-inputs.field-0.inputs c.in_ok-inputs.field-0.all = record { named_well = c.in_ok-check_name.ensures; kept = c.in_ok-inputs.ensures.gives.0; number = number; inputs = inner; scope = all } in
     let stop : Gives procedure_of (Err c.in_err-clauses.field-0.0) (procedure_findings c.args.calls.now c.args.named (procedure c.args.proc.now)) (typed c.args.calls.now (procedure c.args.proc.now)) =
-    bad_clauses (λ (f : Form). f) procedure_of c.in_err-clauses.field-0.0 c.args.calls.now c.args.named (procedure c.args.proc.now) c.in_ok-inputs.field-0.arity c.in_ok-inputs.field-0.inputs c.in_ok-inputs.field-0.all (clause c.args.proc.now.co (pre_forms c.in_ok-inputs.field-0.arity c.in_ok-inputs.field-0.inputs (procedure c.args.proc.now).pres)) (typed c.args.calls.now (procedure c.args.proc.now)) head c.in_err-clauses.ensures.gives in
+    bad_clauses (λ (l : List Form). l) procedure_of c.in_err-clauses.field-0.0 c.args.calls.now c.args.named (procedure c.args.proc.now) c.in_ok-inputs.field-0.arity c.in_ok-inputs.field-0.inputs c.in_ok-inputs.field-0.all (pre_forms c.in_ok-inputs.field-0.arity c.in_ok-inputs.field-0.inputs (procedure c.args.proc.now).pres) (typed c.args.calls.now (procedure c.args.proc.now)) head c.in_err-clauses.ensures.gives in
     search rules
 
 pub returns-in_err-body-clause-gives : goal.returns-in_err-body-clause-gives
@@ -69,7 +69,7 @@ returns c =
     let vars : map variable_of c.list_fronts.new.vars.items ≡ variables_of (procedure c.args.proc.now) = all_variables (procedure c.args.proc.now) (map variable_of c.read_body.new.vars.items) (map variable_of c.list_fronts.new.vars.items) behind_body behind_fronts in
     record {
       gives = together c.args.calls.now c.args.named (procedure c.args.proc.now) c.in_ok-inputs.field-0.count c.in_ok-inputs.field-0.outputs c.in_ok-inputs.field-0.arity (length c.in_ok-inputs.field-0.vars.items) c.in_ok-inputs.field-0.inputs c.in_ok-inputs.field-0.all c.setting_of-setting.result c.any_quantified-bound.result c.list_fronts.new.vars.items _ _ _ _ c.put_together.result
-          (record { head = head; inputs_are = count; outputs_are = outputs; clauses_kept = c.in_ok-clauses.ensures.gives.0; pre_is = c.in_ok-clauses.ensures.gives.1; post_is = c.in_ok-clauses.ensures.post; setting_is = seen; bound_is = bound; next_is = next; body_kept = found.0; body_is = sym found.1; loops_are = c.in_ok-body.ensures.loops; vars_are = vars })
+          (record { head = head; inputs_are = count; outputs_are = outputs; clauses_kept = c.in_ok-clauses.ensures.gives.0; pres_are = c.in_ok-clauses.ensures.gives.1; posts_are = c.in_ok-clauses.ensures.post; setting_is = seen; bound_is = bound; next_is = next; body_kept = found.0; body_is = sym found.1; loops_are = c.in_ok-body.ensures.loops; vars_are = vars })
           c.put_together.ensures.gives;
       counted = all_in_range c.put_together.result c.in_ok-inputs.field-0.count c.in_ok-inputs.field-0.outputs c.list_fronts.new.vars c.put_together.ensures.counted (in_range (procedure c.args.proc.now) c.in_ok-inputs.field-0.count c.in_ok-inputs.field-0.outputs c.list_fronts.new.vars.items count outputs vars);
     }

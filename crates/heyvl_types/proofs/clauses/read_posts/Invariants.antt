@@ -1,7 +1,7 @@
 use Rattle.heylo_formula.specs.PlainTrees.{form_of}
 use Rattle.heyvl_types.proofs.ClauseForms.{Reads}
 use Rattle.heyvl_types.proofs.PreAndPost.{posts}
-use Rattle.heyvl_types.proofs.clauses.read_post_forms.Given as goal
+use Rattle.heyvl_types.proofs.clauses.read_posts.Given as goal
 use Rattle.std.proofs.Common.{map, ◌≡◌}
 
 abbrev pub invariant-loop-e : goal.invariant-loop-e

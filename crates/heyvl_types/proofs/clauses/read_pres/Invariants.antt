@@ -1,7 +1,7 @@
 use Rattle.heylo_formula.specs.PlainTrees.{form_of}
 use Rattle.heyvl_types.proofs.ClauseForms.{Reads}
 use Rattle.heyvl_types.proofs.PreAndPost.{pres}
-use Rattle.heyvl_types.proofs.clauses.read_pre_forms.Given as goal
+use Rattle.heyvl_types.proofs.clauses.read_pres.Given as goal
 use Rattle.std.proofs.Common.{map}
 
 abbrev pub invariant-loop-e : goal.invariant-loop-e
