@@ -1,0 +1,3 @@
+mod Gathering
+mod FoundLoops
+pub mod exported

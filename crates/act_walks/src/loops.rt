@@ -1,0 +1,62 @@
+//! The loop that a number names.
+
+ghost use Rattle.act_walks.specs.Lent.{lent_loop};
+ghost use Rattle.act_walks.specs.Loops.{loop_in};
+ghost use Rattle.heyvl_acts.specs.Acts.{acts_in};
+ghost use Rattle.heyvl_acts.specs.Places.{in_order, inside};
+ghost use Rattle.heyvl_acts.specs.PlainActs.{act_of, acts_of, procedure_of};
+ghost use Rattle.std.specs.Prelude.{◌≡◌, ◌∷◌};
+
+use heyvl_acts::{Act, LoopAct, TProc};
+
+/// The loop with this number of the procedure's body, if there is one. It takes no memory.
+pub fn loop_of(procedure: &TProc, number: u32) -> Option<&LoopAct>
+    ensures { lent_loop result ≡ loop_in number (in_order (acts_in (procedure_of procedure.now).body)) }
+{
+    match &procedure.body {
+        Some(acts) => loop_among(acts, number),
+        None => None,
+    }
+}
+
+/// The first loop with this number among the acts and those inside them.
+#[cycle(finding)]
+fn loop_among(acts: &[Act], number: u32) -> Option<&LoopAct>
+    ensures { lent_loop result ≡ loop_in number (in_order (acts_of acts.now)) }
+{
+    for act in acts {
+        if let Some(found) = loop_from(act, number) {
+            return Some(found);
+        }
+    }
+    None
+}
+
+/// The same for one act and those inside it.
+#[cycle(finding)]
+fn loop_from(act: &Act, number: u32) -> Option<&LoopAct>
+    ensures { lent_loop result ≡ loop_in number (act_of act.now ∷ inside (act_of act.now)) }
+{
+    match act {
+        Act::Loop(one) => {
+            if one.number == number {
+                Some(one)
+            } else {
+                loop_among(&one.body, number)
+            }
+        }
+        Act::If(arms, other, _) => {
+            for arm in arms {
+                if let Some(found) = loop_among(&arm.1, number) {
+                    return Some(found);
+                }
+            }
+            loop_among(other, number)
+        }
+        Act::Pick(_, left, right, _) => match loop_among(left, number) {
+            Some(found) => Some(found),
+            None => loop_among(right, number),
+        },
+        _ => None,
+    }
+}
