@@ -1,7 +1,9 @@
-use Rattle.std.proofs.Common.{◌∙◌, sym}
+use Rattle.std.proofs.Common.{◌∙◌, refl, sym}
 use Rattle.heyvl_acts.specs.PlainActs.{acts_of}
 use Rattle.heyvl_acts.specs.Places.{in_order}
-use Rattle.proc_contracts.proofs.Breaks.{act_found, act_past, arm_found, arm_past, found_first, past_first, if_start, pick_start}
+use Rattle.heyvl_acts.specs.Program.{first_break}
+use Rattle.act_walks.proofs.exported.ActsInOrder.{of_if}
+use Rattle.proc_contracts.proofs.Breaks.{act_found, act_past, arm_found, arm_past, found_first, past_first, pick_start}
 use Rattle.proc_contracts.proofs.programs.+breaking.Goals as goal
 
 pub first_break-returns-in-Some : goal.first_break-returns-in-Some
@@ -11,7 +13,7 @@ pub first_break-loop-act-preserved : goal.first_break-loop-act-preserved
 first_break-loop-act-preserved t c = act_past _ _ c.loop-act.act-index c.act-item.result c.loop-act-test.true c.act-item.is c.in_default.ensures ∙ c.loop-act.invariant
 
 pub break_from-loop-arm-init : goal.break_from-loop-arm-init
-break_from-loop-arm-init t c = rw c.deref-arm-items.ensures.value (if_start _ _ c.in-If.arms c.in-If.other c.in-If.field-2 c.in-If.is)
+break_from-loop-arm-init t c = rw c.deref-arm-items.ensures.value (of_if (first_break c.args.co) _ c.in-If.arms c.in-If.other c.in-If.field-2 refl c.in-If.is)
 
 pub break_from-returns-in-Some-first_break : goal.break_from-returns-in-Some-first_break
 break_from-returns-in-Some-first_break t c = arm_found _ _ c.loop-arm.arm-index _ c.arm-item.result _ c.loop-arm-test.true c.arm-item.is (rw c.deref-in-loop-arm.ensures.value at c.in-Some-first_break.ensures) ∙ c.loop-arm.invariant
