@@ -1,6 +1,5 @@
 mod Counting
 mod Heads
-mod LoopSeeking
 mod Texts
 mod Examples
 mod StateTexts

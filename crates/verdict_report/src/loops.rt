@@ -1,15 +1,14 @@
 //! The variables that a goal's state shows.
 
-ghost use Rattle.heyvl_acts.specs.Acts.{acts_in, procedure_at};
-ghost use Rattle.heyvl_acts.specs.Places.{in_order, inside};
-ghost use Rattle.heyvl_acts.specs.PlainActs.{act_of, acts_of, procedure_of, procedures_of};
+ghost use Rattle.heyvl_acts.specs.Acts.{procedure_at};
+ghost use Rattle.heyvl_acts.specs.PlainActs.{procedure_of, procedures_of};
 ghost use Rattle.heyvl_acts.specs.Rules.{IsCounted, MeetsAllRules, counted};
-ghost use Rattle.std.specs.Prelude.{◌≡◌, ◌≤◌, ◌+◌, ◌∷◌, ◌<◌, IfOk, length};
-ghost use Rattle.verdict_report.specs.LoopScopes.{always_shown, interface_numbers, loop_scope, scope_of_loop};
-ghost use Rattle.verdict_report.specs.internal.Slices.{lent};
+ghost use Rattle.std.specs.Prelude.{◌≡◌, ◌≤◌, ◌+◌, ◌<◌, IfOk, length};
+ghost use Rattle.verdict_report.specs.LoopScopes.{always_shown, interface_numbers, scope_of_loop};
 
+use act_walks::loop_of;
 use heylo_formula::GoalId;
-use heyvl_acts::{Act, TProc, Typed};
+use heyvl_acts::{TProc, Typed};
 use std::alloc::{AllocError, Global};
 
 /// The first numbers, so many.
@@ -65,53 +64,8 @@ pub(crate) fn always_shown(
 fn scope_of_loop(procedure: &TProc, number: u32) -> &[u32]
     ensures { result.now ≡ scope_of_loop (procedure_of procedure.now) number }
 {
-    match &procedure.body {
+    match loop_of(procedure, number) {
         None => &[],
-        Some(acts) => match scope_among(acts, number) {
-            None => &[],
-            Some(scope) => scope,
-        },
-    }
-}
-
-/// The variables that are visible at the loop with this number, where it is among these acts and those inside them.
-#[cycle(seeking)]
-fn scope_among(acts: &[Act], number: u32) -> Option<&[u32]>
-    ensures { lent result ≡ loop_scope number (in_order (acts_of acts.now)) }
-{
-    for act in acts {
-        if let Some(scope) = scope_from(act, number) {
-            return Some(scope);
-        }
-    }
-    None
-}
-
-/// The same of one act and those inside it.
-#[cycle(seeking)]
-fn scope_from(act: &Act, number: u32) -> Option<&[u32]>
-    ensures { lent result ≡ loop_scope number (act_of act.now ∷ inside (act_of act.now)) }
-{
-    match act {
-        Act::If(arms, other, _) => {
-            for arm in arms {
-                if let Some(scope) = scope_among(&arm.1, number) {
-                    return Some(scope);
-                }
-            }
-            scope_among(other, number)
-        }
-        Act::Pick(_, first, second, _) => match scope_among(first, number) {
-            Some(scope) => Some(scope),
-            None => scope_among(second, number),
-        },
-        Act::Loop(one) => {
-            if one.number == number {
-                Some(&one.scope)
-            } else {
-                scope_among(&one.body, number)
-            }
-        }
-        _ => None,
+        Some(one) => &one.scope,
     }
 }
