@@ -19,7 +19,7 @@ use Rattle.heyvl_acts.specs.Rules.{Each, MeetsRules, loop_numbers}
 use Rattle.heyvl_acts.specs.Straight.{IsStraight}
 use Rattle.heyvl_acts.proofs.exported.Each.{each_at}
 use Rattle.loop_encodings.specs.BoundGoals.{BoundGoalsHold, GoalHolds, bound_goals}
-use Rattle.ranking_rule.specs.Rankings.{loop_in}
+use Rattle.act_walks.specs.Loops.{loop_in}
 use Rattle.run_machine.specs.Bound.{Bound, IsState, RankedBy}
 use Rattle.verdict_report.specs.declared.answers.Answer.{Answer}
 use Rattle.verdict_report.specs.declared.answers.RankVerdict.TheVariants.{Ranked}

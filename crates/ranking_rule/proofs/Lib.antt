@@ -2,8 +2,6 @@ pub mod RankedActs
 pub mod RankedBodies
 pub mod Turns
 pub mod TurnsBound
-pub mod ActsInOrder
-pub mod FoundLoops
 pub mod Raising
 pub mod BinderFree
 pub mod FoundForms

@@ -31,9 +31,10 @@ use Rattle.vp_generator.specs.PrenexedGoals.{IsMade, prenexed_goal}
 use Rattle.vp_generator.specs.Scopes.{AnysAreBelow, AnysAreBelow_in, GeneratedFormIsNamed}
 use Rattle.ranking_rule.specs.MadeGoals.{IsMadeWithin, all_names, goal_over, names}
 use Rattle.ranking_rule.specs.RankingGoals.{IsMadeOf, found, generated, goal}
-use Rattle.ranking_rule.specs.Rankings.{RankedLoop, loop_in}
+use Rattle.act_walks.specs.Lent.{parts_of}
+use Rattle.act_walks.specs.Loops.{loop_in}
+use Rattle.ranking_rule.specs.Rankings.{RankedLoop}
 use Rattle.heyvl_acts.specs.Upward.{upward, upward_next, upward_arms}
-use Rattle.ranking_rule.specs.internal.Lent.{loop_of}
 use Rattle.ranking_rule.specs.internal.Tested.{IsTested, with_test}
 use Rattle.heyvl_acts.proofs.exported.Each.{each_at, each_first, each_second}
 use Rattle.ranking_rule.proofs.FoundForms.{found_binders, goal_found}
@@ -161,16 +162,16 @@ module _ (typed : Typed) (p n : ℕ) (x : TProc) (all : MeetsAllRules typed) (th
   pub few_vars : length x.vars.items < 2 ^ 30
   few_vars = let f = (rules_at typed p all there).few_variables in let e = ap (λ (l : List Variable). length l) vars_are in let m = length-map x.vars.items variable_of in omega (arith, f, e, m)
 
-  module _ (one : LoopAct) (found : Some (loop_of one) ≡ loop_in n (in_order (acts_in (procedure_of x).body))) where
+  module _ (one : LoopAct) (found : Some (parts_of one) ≡ loop_in n (in_order (acts_in (procedure_of x).body))) where
     pub no_rank : RankedLoop (procedure_at (procedures_of typed) p) n → one.rank ≡ None → ⊥
-    no_rank l f = absurd (let k = sym l.ranked ∙ (sym (ap (λ (y : Head × Acts). y.0.rank) (some_some (loop_of one) pair (named_loop (Some (loop_of one)) found ∙ l.named))) ∙ ap rank_of f) in cc)
+    no_rank l f = absurd (let k = sym l.ranked ∙ (sym (ap (λ (y : Head × Acts). y.0.rank) (some_some (parts_of one) pair (named_loop (Some (parts_of one)) found ∙ l.named))) ∙ ap rank_of f) in cc)
       where
         pair : Head × Acts
         pair = (l.head, l.body)
 
     module _ (step : Rational) (ranking : F.Form) (ranked : one.rank ≡ Some (step, ranking)) where
       abbrev here : RankedLoop (procedure_at (procedures_of typed) p) n
-      here = record { head = head_of one; body = acts_of one.body.items; rank = (step, form_of ranking); named = sym (named_loop (Some (loop_of one)) found); ranked = ap rank_of ranked }
+      here = record { head = head_of one; body = acts_of one.body.items; rank = (step, form_of ranking); named = sym (named_loop (Some (parts_of one)) found); ranked = ap rank_of ranked }
 
       rules : MeetsRules (procedures_of typed) (procedure_at (procedures_of typed) p)
       rules = rules_at typed p all there

@@ -4,7 +4,8 @@ use Rattle.std.specs.Prelude.{Option, Some, None}
 use Rattle.heyvl_acts.specs.Acts.{Head, Act, Acts, Arms, TypedProcedure, acts_in}
 use Rattle.heyvl_acts.specs.Places.{in_order, inside, inside_arms}
 use Rattle.heyvl_acts.specs.Rules.{Each}
-use Rattle.ranking_rule.specs.Rankings.{loop_in, RankedLoop}
+use Rattle.act_walks.specs.Loops.{loop_in}
+use Rattle.ranking_rule.specs.Rankings.{RankedLoop}
 use Rattle.heyvl_acts.proofs.exported.Each.{each_first, each_second, each_append}
 
 -- ---- What holds of each act holds of those inside each

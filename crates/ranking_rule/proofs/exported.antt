@@ -1,6 +1,5 @@
 -- Lemmas that are meant for the proofs of other crates. All else in proofs/ is private to this crate.
 pub mod Each
-pub mod ActsInOrder
 pub mod RankedActs
 pub mod MadeGoals
 pub mod PrenexedSizes

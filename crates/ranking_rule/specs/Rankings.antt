@@ -1,6 +1,6 @@
 -- Rankings of loops: while the guard holds, the ranking is at least the step and what it is worth after the body.
 -- Source: expected running times by ranking functions, as upper bounds of a loop's turns; this form is the project's own.
-use Rattle.std.specs.Prelude.{◌≡◌, ◌==◌, ℕ, List, [], ◌∷◌, Option, Some, None, if◌then◌else◌}
+use Rattle.std.specs.Prelude.{◌≡◌, ℕ, List, Some, if◌then◌else◌}
 use Rattle.heyvl_num.specs.Rational.{Rational}
 use Rattle.heyvl_num.specs.Value.{Value, zeroᵛ, ◌+ᵛ◌, ◌≤ᵛ◌}
 use Rattle.heyvl_num.specs.Value.Value.{finite}
@@ -9,26 +9,12 @@ use Rattle.heylo_formula.specs.Formula.{Form}
 use Rattle.heylo_formula.specs.Meaning.{value, holds}
 use Rattle.heylo_formula.specs.State.{Env, environment}
 use Rattle.heylo_formula.specs.declared.values.Val.{Val}
-use Rattle.heyvl_acts.specs.Acts.{Head, Act, Acts, TypedProcedure, acts_in}
+use Rattle.act_walks.specs.Loops.{loop_in}
+use Rattle.heyvl_acts.specs.Acts.{Head, Acts, TypedProcedure, acts_in}
 use Rattle.heyvl_acts.specs.Forward.{forward}
 use Rattle.heyvl_acts.specs.Places.{in_order}
 use Rattle.run_machine.specs.Bound.{IsState}
 use Rattle.heyvl_acts.specs.Upward.{upward}
-
--- The loop with this number among the acts: its head and its body.
-abbrev pub loop_in : ℕ → List Act → Option (Head × Acts)
-loop_in n [] = None
-loop_in n (Act.loop h b ∷ rest) = if h.number == n then Some (h, b) else loop_in n rest
-loop_in n (Act.set x t span ∷ rest) = loop_in n rest
-loop_in n (Act.draw x qs span ∷ rest) = loop_in n rest
-loop_in n (Act.toss x f span ∷ rest) = loop_in n rest
-loop_in n (Act.any x up ty span ∷ rest) = loop_in n rest
-loop_in n (Act.reward f span ∷ rest) = loop_in n rest
-loop_in n (Act.ifs arms e span ∷ rest) = loop_in n rest
-loop_in n (Act.pick up a b span ∷ rest) = loop_in n rest
-loop_in n (Act.check kind f span ∷ rest) = loop_in n rest
-loop_in n (Act.validate co span ∷ rest) = loop_in n rest
-loop_in n (Act.call xs q es span ∷ rest) = loop_in n rest
 
 -- The loop with this number of the procedure's body, which has a ranking: the step and the formula.
 pub record RankedLoop (p : TypedProcedure) (n : ℕ) : Type 0 where

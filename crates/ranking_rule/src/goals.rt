@@ -11,8 +11,8 @@ ghost use Rattle.ranking_rule.specs.Rankings.{RankedLoop};
 ghost use Rattle.ranking_rule.specs.internal.Tested.{IsTested};
 ghost use Rattle.std.specs.Prelude.{IfOk, false, length, map, ◌<◌, ◌^◌, ◌≡◌};
 
-use crate::loops::loop_of;
 use crate::upward_acts::upward;
+use act_walks::loop_of;
 use heylo_formula::{Cond, Form, Goal, Made};
 use heyvl_acts::{Typed, VarInfo};
 use heyvl_num::{Ext, Frac};

@@ -3,7 +3,6 @@
 
 mod goals;
 mod laws;
-mod loops;
 mod upward_acts;
 
 pub use goals::ranking_goal;

@@ -10,8 +10,8 @@ use Rattle.heyvl_acts.specs.PlainActs.{act_of, acts_of}
 use Rattle.heyvl_acts.specs.Places.{in_order, inside}
 use Rattle.heyvl_acts.specs.Rules.{Each}
 use Rattle.heyvl_acts.specs.declared.acts.Act as A
-use Rattle.ranking_rule.proofs.exported.ActsInOrder as walked
-use Rattle.ranking_rule.proofs.exported.ActsInOrder.{acts_from, arms_from, of_pick}
+use Rattle.act_walks.proofs.exported.ActsInOrder as walked
+use Rattle.act_walks.proofs.exported.ActsInOrder.{acts_from, arms_from, of_pick}
 
 -- ---- What is gathered of acts in a row
 

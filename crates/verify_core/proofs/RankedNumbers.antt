@@ -14,7 +14,8 @@ use Rattle.heyvl_acts.specs.Rules.{Each, MeetsRules, counted, loop_numbers}
 use Rattle.heyvl_acts.specs.declared.acts.Act as A
 use Rattle.heyvl_acts.specs.declared.acts.LoopAct.{LoopAct}
 use Rattle.heyvl_acts.proofs.exported.PlainActsAre.{head_of, loop_act}
-use Rattle.ranking_rule.specs.Rankings.{RankedLoop, loop_in}
+use Rattle.act_walks.specs.Loops.{loop_in}
+use Rattle.ranking_rule.specs.Rankings.{RankedLoop}
 use Rattle.goal_answers.specs.declared.named_goals.NamedGoal.{NamedGoal}
 use Rattle.verify_core.specs.Rankings.{AreRankingGoals, IsRankingGoal, ranked_in, ranked_loops}
 use Rattle.verify_core.proofs.ActWalks.{IsFirst, further, other_number, own_number, same_from}

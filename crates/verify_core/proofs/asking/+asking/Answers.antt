@@ -6,7 +6,7 @@ use Rattle.heyvl_acts.specs.declared.acts.LoopAct.{LoopAct}
 use Rattle.heyvl_acts.specs.Places.{in_order}
 use Rattle.heyvl_acts.specs.PlainActs.{acts_of}
 use Rattle.verify_core.specs.internal.Asked.{asked_invariants, plain}
-use Rattle.ranking_rule.proofs.exported.ActsInOrder.{of_if}
+use Rattle.act_walks.proofs.exported.ActsInOrder.{of_if}
 use Rattle.verify_core.proofs.ActWalks.{next_act, next_arm, of_both}
 use Rattle.verify_core.proofs.AskedBounds.{asked_append, loop_asked, pushed}
 use Rattle.verify_core.proofs.asking.+asking.Goals as goal

@@ -4,7 +4,7 @@ use Rattle.heyvl_acts.specs.declared.acts.LoopAct.{LoopAct}
 use Rattle.heyvl_acts.specs.Places.{in_order}
 use Rattle.heyvl_acts.specs.PlainActs.{acts_of}
 use Rattle.verify_core.specs.Rankings.{ranked_in}
-use Rattle.ranking_rule.proofs.exported.ActsInOrder.{of_if}
+use Rattle.act_walks.proofs.exported.ActsInOrder.{of_if}
 use Rattle.verify_core.proofs.ActWalks.{next_act, next_arm, of_both}
 use Rattle.verify_core.proofs.RankedNumbers.{alone, loop_ranked, ranked_append}
 use Rattle.verify_core.proofs.rankings.+ranking.Goals as goal

@@ -2,7 +2,7 @@ use Rattle.std.proofs.Common.{◌≡◌, ◌++◌, ◌∷◌, drop}
 use Rattle.heyvl_acts.specs.Places.{in_order, inside}
 use Rattle.heyvl_acts.specs.PlainActs.{act_of, acts_of}
 use Rattle.verify_core.specs.Rankings.{ranked_in}
-use Rattle.ranking_rule.proofs.exported.ActsInOrder.{arms_from}
+use Rattle.act_walks.proofs.exported.ActsInOrder.{arms_from}
 use Rattle.verify_core.proofs.rankings.+ranking.Given as goal
 
 -- What is appended and what the rest has are what all have.
