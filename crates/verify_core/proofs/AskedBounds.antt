@@ -1,7 +1,6 @@
--- The formulas of a weak proc that are to be at most 1: the walk over the loops' invariants, and what the goals ask.
-use Rattle.std.proofs.Common.{◌≡◌, ℕ, false, cond, ◌≤◌, ◌==◌, refl, ap, sym, subst, ◌∙◌, arith, map, List, [], ◌∷◌, ◌++◌, append_assoc, length}
+-- The formulas of a weak proc that are to be at most 1, and what the goals ask.
+use Rattle.std.proofs.Common.{◌≡◌, ℕ, false, cond, ◌==◌, refl, ap, sym, subst, ◌∙◌, arith, map, List, [], ◌∷◌, ◌++◌, append_assoc, length}
 use Rattle.std.specs.Prelude.{Some}
-use Rattle.std.specs.declared.alloc.Global.{Global}
 use Rattle.std.proofs.lemmas.List.{map-append}
 use Prim.Native.Nat.{zero, suc}
 use Rattle.heylo_formula.specs.BinderNames.{Binder, binders}
@@ -11,27 +10,13 @@ use Rattle.heylo_formula.specs.PlainTrees.{form_of}
 use Rattle.heylo_formula.specs.declared.goals.GoalId.{GoalId}
 use Rattle.heylo_formula.specs.declared.goals.GoalId.TheVariants.{Pre, Post, Invariant}
 use Rattle.heyvl_acts.specs.Acts.{Act, TypedProcedure, acts_in, variables}
-use Rattle.heyvl_acts.specs.PlainActs.{act_of, acts_of}
-use Rattle.heyvl_acts.specs.Places.{in_order, inside}
+use Rattle.heyvl_acts.specs.Places.{in_order}
 use Rattle.heyvl_acts.specs.Rules.{AreNamed, Each, HasNamedBinders, IsTypedAct, MeetsRules, counted, loop_numbers}
-use Rattle.heyvl_acts.specs.declared.acts.Act as A
-use Rattle.heyvl_acts.specs.declared.acts.LoopAct.{LoopAct}
-use Rattle.heyvl_acts.proofs.exported.PlainActsAre.{loop_act}
-use Rattle.std.specs.declared.boxed.Box.{Box}
 use Rattle.loop_encodings.specs.BoundGoals.{invariant_in}
 use Rattle.verify_core.specs.Questions.{form_or_zero, one_bound, question}
 use Rattle.verify_core.specs.declared.asking.Asked as declared
-use Rattle.verify_core.specs.internal.Asked.{Asked, IsAsked, asked, asked_by, asked_invariants, plain}
-use Rattle.verify_core.proofs.ActWalks.{IsFirst, further, other_number, own_number, same_from}
-
--- ---- The walk
-
-pub asked_append : (xs ys : List Act) → asked_invariants (xs ++ ys) ≡ asked_invariants xs ++ asked_invariants ys
-asked_append [] ys = refl
-asked_append (a ∷ rest) ys = ap (λ l. asked_by a ++ l) (asked_append rest ys) ∙ sym (append_assoc (asked_by a) (asked_invariants rest) (asked_invariants ys))
-
-pub loop_asked : (a : A.Act) (l : Box LoopAct Global) → a ≡ A.Loop l → (Invariant l.value.number, form_of l.value.inv) ∷ asked_invariants (in_order (acts_of l.value.body.items)) ≡ asked_invariants (act_of a ∷ inside (act_of a))
-loop_asked a l is = sym (ap (λ x. asked_invariants (act_of x ∷ inside (act_of x))) is ∙ ap (λ x. asked_invariants (x ∷ inside x)) (loop_act l))
+use Rattle.verify_core.specs.internal.Asked.{Asked, IsAsked, asked, asked_invariants, plain}
+use Rattle.verify_core.proofs.FirstFound.{IsFirst, further, other_number, own_number, same_from}
 
 -- ---- The goals' ids
 

@@ -1,5 +1,5 @@
 mod SideBySide
-mod ActWalks
+mod FirstFound
 mod MadeGoals
 mod AskedBounds
 mod AskedGoals

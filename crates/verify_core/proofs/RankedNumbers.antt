@@ -1,51 +1,18 @@
--- The numbers of the loops with a ranking: the walk over acts, and the loops that they name.
-use Rattle.std.proofs.Common.{◌≡◌, ℕ, Bool, true, false, cond, ◌≤◌, ◌==◌, refl, ap, sym, subst, ◌∙◌, arith, List, [], ◌∷◌, ◌++◌, append_assoc, append-nil}
+-- The numbers of the loops with a ranking, and the loops that they name.
+use Rattle.std.proofs.Common.{◌≡◌, ℕ, cond, ◌==◌, refl, ap, sym, subst, ◌∙◌, arith, List, [], ◌∷◌, ◌++◌, append_assoc, append-nil}
 use Rattle.std.specs.Option.{is_some}
 use Rattle.std.specs.Prelude.{Option, Some, None, if◌then◌else◌}
-use Rattle.std.specs.declared.alloc.Global.{Global}
-use Rattle.std.specs.declared.boxed.Box.{Box}
 use Prim.Native.Nat.{zero, suc}
 use Rattle.heyvl_num.specs.Rational.{Rational}
 use Rattle.heylo_formula.specs.Formula.{Form}
 use Rattle.heyvl_acts.specs.Acts.{Act, Acts, Head, TypedProcedure, acts_in}
-use Rattle.heyvl_acts.specs.PlainActs.{act_of, acts_of}
-use Rattle.heyvl_acts.specs.Places.{in_order, inside}
+use Rattle.heyvl_acts.specs.Places.{in_order}
 use Rattle.heyvl_acts.specs.Rules.{Each, MeetsRules, counted, loop_numbers}
-use Rattle.heyvl_acts.specs.declared.acts.Act as A
-use Rattle.heyvl_acts.specs.declared.acts.LoopAct.{LoopAct}
-use Rattle.heyvl_acts.proofs.exported.PlainActsAre.{head_of, loop_act}
 use Rattle.act_walks.specs.Loops.{loop_in}
 use Rattle.ranking_rule.specs.Rankings.{RankedLoop}
 use Rattle.goal_answers.specs.declared.named_goals.NamedGoal.{NamedGoal}
 use Rattle.verify_core.specs.Rankings.{AreRankingGoals, IsRankingGoal, ranked_in, ranked_loops}
-use Rattle.verify_core.proofs.ActWalks.{IsFirst, further, other_number, own_number, same_from}
-
--- ---- The walk
-
-either : (t : Bool) (n : ℕ) (xs ys : List ℕ) → (if t then n ∷ (xs ++ ys) else (xs ++ ys)) ≡ (if t then n ∷ xs else xs) ++ ys
-either true n xs ys = refl
-either false n xs ys = refl
-
-pub ranked_append : (xs ys : List Act) → ranked_in (xs ++ ys) ≡ ranked_in xs ++ ranked_in ys
-ranked_append [] ys = refl
-ranked_append (Act.loop h b ∷ rest) ys = ap (λ l. if is_some h.rank then h.number ∷ l else l) (ranked_append rest ys) ∙ either (is_some h.rank) h.number (ranked_in rest) (ranked_in ys)
-ranked_append (Act.set x t span ∷ rest) ys = ranked_append rest ys
-ranked_append (Act.draw x ps span ∷ rest) ys = ranked_append rest ys
-ranked_append (Act.toss x f span ∷ rest) ys = ranked_append rest ys
-ranked_append (Act.any x up ty span ∷ rest) ys = ranked_append rest ys
-ranked_append (Act.reward f span ∷ rest) ys = ranked_append rest ys
-ranked_append (Act.ifs arms e span ∷ rest) ys = ranked_append rest ys
-ranked_append (Act.pick up a b span ∷ rest) ys = ranked_append rest ys
-ranked_append (Act.check kind f span ∷ rest) ys = ranked_append rest ys
-ranked_append (Act.validate co span ∷ rest) ys = ranked_append rest ys
-ranked_append (Act.call xs q es span ∷ rest) ys = ranked_append rest ys
-
--- A loop by itself.
-abbrev pub alone : LoopAct → List Act
-alone l = Act.loop (head_of l) (acts_of l.body.items) ∷ []
-
-pub loop_ranked : (a : A.Act) (l : Box LoopAct Global) → a ≡ A.Loop l → ranked_in (alone l.value) ++ ranked_in (in_order (acts_of l.value.body.items)) ≡ ranked_in (act_of a ∷ inside (act_of a))
-loop_ranked a l is = sym (ap (λ x. ranked_in (act_of x ∷ inside (act_of x))) is ∙ (ap (λ x. ranked_in (x ∷ inside x)) (loop_act l) ∙ ranked_append (alone l.value) (in_order (acts_of l.value.body.items))))
+use Rattle.verify_core.proofs.FirstFound.{IsFirst, further, other_number, own_number, same_from}
 
 -- ---- The loops that they name
 

@@ -15,16 +15,7 @@ use Rattle.verify_core.specs.Questions.{AreGoals}
 abbrev pub ranked_in : List Act → List ℕ
 ranked_in [] = []
 ranked_in (Act.loop h b ∷ rest) = if is_some h.rank then h.number ∷ ranked_in rest else ranked_in rest
-ranked_in (Act.set x t span ∷ rest) = ranked_in rest
-ranked_in (Act.draw x qs span ∷ rest) = ranked_in rest
-ranked_in (Act.toss x f span ∷ rest) = ranked_in rest
-ranked_in (Act.any x up ty span ∷ rest) = ranked_in rest
-ranked_in (Act.reward f span ∷ rest) = ranked_in rest
-ranked_in (Act.ifs arms e span ∷ rest) = ranked_in rest
-ranked_in (Act.pick up a b span ∷ rest) = ranked_in rest
-ranked_in (Act.check kind f span ∷ rest) = ranked_in rest
-ranked_in (Act.validate co span ∷ rest) = ranked_in rest
-ranked_in (Act.call xs q es span ∷ rest) = ranked_in rest
+ranked_in (a ∷ rest) = ranked_in rest
 
 -- The numbers of the procedure's loops with a ranking, in the order of the text, an outer loop before those inside it.
 abbrev pub ranked_loops : TypedProcedure → List ℕ

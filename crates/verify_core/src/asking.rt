@@ -1,13 +1,15 @@
 //! The formulas of a weak proc that are to be at most 1.
 
-ghost use Rattle.heyvl_acts.specs.Acts.{acts_in};
-ghost use Rattle.heyvl_acts.specs.Places.{in_order, inside};
-ghost use Rattle.heyvl_acts.specs.PlainActs.{act_of, acts_of, procedure_of};
-ghost use Rattle.std.specs.Prelude.{IfOk, OnOk, map, ◌++◌, ◌≡◌, ◌∷◌};
+ghost use Rattle.act_walks.specs.Lent.{lent};
+ghost use Rattle.heyvl_acts.specs.PlainActs.{procedure_of};
+ghost use Rattle.heylo_formula.specs.PlainTrees.{form_of};
+ghost use Rattle.heylo_formula.specs.declared.goals.GoalId.TheVariants.{Invariant};
+ghost use Rattle.std.specs.Prelude.{IfOk, OnOk, [], map, ◌++◌, ◌≡◌, ◌∷◌};
 ghost use Rattle.verify_core.specs.internal.Asked.{asked, asked_invariants, plain};
 
+use act_walks::in_order;
 use heylo_formula::{Form, GoalId};
-use heyvl_acts::{Act, TProc};
+use heyvl_acts::{Act, LoopAct, TProc};
 use std::alloc::{AllocError, Global};
 
 /// A goal, and the formula of which it asks whether it is at most 1.
@@ -32,47 +34,31 @@ pub(crate) fn asked_of(alloc: Global, procedure: &TProc) -> Result<Vec<Asked>, A
         id: GoalId::Post,
         form: post,
     })?;
-    if let Some(acts) = &procedure.body {
-        add_invariants(alloc, &mut all, acts)?;
-    }
+    let acts = in_order(alloc, procedure)?;
+    add_invariants(alloc, &mut all, &acts)?;
     Ok(all)
 }
 
-/// The invariants of the loops among these acts and those inside them are appended.
-#[cycle(asking)]
-fn add_invariants(alloc: Global, all: &mut Vec<Asked>, acts: &[Act]) -> Result<(), AllocError>
-    ensures { OnOk result (map plain all.new.items ≡ map plain all.old.items ++ asked_invariants (in_order (acts_of acts.now))) }
+/// The invariants of those of these acts that are loops are appended.
+fn add_invariants(alloc: Global, all: &mut Vec<Asked>, acts: &[&Act]) -> Result<(), AllocError>
+    ensures { OnOk result (map plain all.new.items ≡ map plain all.old.items ++ asked_invariants (map lent acts.now)) }
 {
     for act in acts {
-        add_invariants_of_act(alloc, all, act)?;
+        if let Act::Loop(one) = act {
+            add_invariant(alloc, all, one)?;
+        }
     }
     Ok(())
 }
 
-/// The same for one act and those inside it.
-#[cycle(asking)]
-fn add_invariants_of_act(alloc: Global, all: &mut Vec<Asked>, act: &Act) -> Result<(), AllocError>
-    ensures { OnOk result (map plain all.new.items ≡ map plain all.old.items ++ asked_invariants (act_of act.now ∷ inside (act_of act.now))) }
+/// The invariant of a loop is appended.
+fn add_invariant(alloc: Global, all: &mut Vec<Asked>, one: &LoopAct) -> Result<(), AllocError>
+    ensures { OnOk result (map plain all.new.items ≡ map plain all.old.items ++ (Invariant one.now.number, form_of one.now.inv) ∷ []) }
 {
-    match act {
-        Act::Loop(one) => {
-            let form = one.inv.copy(alloc)?;
-            all.push(Asked {
-                id: GoalId::Invariant(one.number),
-                form,
-            })?;
-            add_invariants(alloc, all, &one.body)
-        }
-        Act::If(arms, other, _) => {
-            for arm in arms {
-                add_invariants(alloc, all, &arm.1)?;
-            }
-            add_invariants(alloc, all, other)
-        }
-        Act::Pick(_, left, right, _) => {
-            add_invariants(alloc, all, left)?;
-            add_invariants(alloc, all, right)
-        }
-        _ => Ok(()),
-    }
+    let form = one.inv.copy(alloc)?;
+    all.push(Asked {
+        id: GoalId::Invariant(one.number),
+        form,
+    })?;
+    Ok(())
 }

@@ -1,5 +1,5 @@
 -- The formulas of a weak proc that are to be at most 1, with the goals that ask it.
-use Rattle.std.specs.Prelude.{◌≡◌, List, [], ◌∷◌, ◌++◌, length}
+use Rattle.std.specs.Prelude.{◌≡◌, List, [], ◌∷◌, length}
 use Rattle.heylo_formula.specs.BinderNames.{binders}
 use Rattle.heylo_formula.specs.Formula.{Form}
 use Rattle.heylo_formula.specs.PlainTrees.{form_of}
@@ -18,24 +18,11 @@ Asked = GoalId × Form
 abbrev pub plain : declared.Asked → Asked
 plain a = (a.id, form_of a.form)
 
--- The invariant of an act that is a loop.
-abbrev pub asked_by : Act → List Asked
-asked_by (Act.loop h b) = (Invariant h.number, h.inv) ∷ []
-asked_by (Act.set x t span) = []
-asked_by (Act.draw x ps span) = []
-asked_by (Act.toss x f span) = []
-asked_by (Act.any x up ty span) = []
-asked_by (Act.reward f span) = []
-asked_by (Act.ifs arms e span) = []
-asked_by (Act.pick up a b span) = []
-asked_by (Act.check kind f span) = []
-asked_by (Act.validate co span) = []
-asked_by (Act.call xs q es span) = []
-
--- The invariants of the loops.
+-- The invariants of those of the acts that are loops, in their order.
 abbrev pub asked_invariants : List Act → List Asked
 asked_invariants [] = []
-asked_invariants (a ∷ rest) = asked_by a ++ asked_invariants rest
+asked_invariants (Act.loop h b ∷ rest) = (Invariant h.number, h.inv) ∷ asked_invariants rest
+asked_invariants (a ∷ rest) = asked_invariants rest
 
 -- The pre, the post and the invariants.
 abbrev pub asked : TypedProcedure → List Asked
