@@ -1,6 +1,7 @@
 //! What lines ask of numbers and formulas.
 
 use crate::formula_tests::{write_condition_size, write_renaming, write_size, write_substitution};
+use crate::graph_tests::{write_coins, write_put};
 use crate::number_tests::write_operation;
 use crate::value_tests::{held, write_value};
 use heylo_formula::Form;
@@ -19,6 +20,8 @@ pub enum Kind {
     Condition(OfCondition),
     /// `goal`: whether it holds.
     Goal,
+    /// `number`: the sizes in a graph of a formula before which so many coins are thrown.
+    Coins,
 }
 
 /// What a line asks of a form.
@@ -32,6 +35,8 @@ pub enum OfForm {
     Renaming,
     /// `form ; variable`: whether it is free and whether it occurs, and how many nodes the form has and how deep it is.
     Size,
+    /// `form`: its sizes in a graph in which it is put twice.
+    Put,
 }
 
 /// What a line asks of a condition, which is all of it.
@@ -55,6 +60,7 @@ fn write_of_form(
         OfForm::Substitution => write_substitution(alloc, form, rest, text),
         OfForm::Renaming => write_renaming(alloc, form, rest, text),
         OfForm::Size => write_size(form, rest, text),
+        OfForm::Put => write_put(alloc, form, text),
     }
 }
 
@@ -94,6 +100,7 @@ impl LineKind for Kind {
             Kind::Form(of) => write_form(alloc, of, asked, text),
             Kind::Condition(of) => write_condition(alloc, of, asked, text),
             Kind::Goal => write_truth(alloc, asked, text),
+            Kind::Coins => write_coins(alloc, asked.trim(), text),
         }
     }
 }

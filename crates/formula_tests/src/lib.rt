@@ -1,9 +1,11 @@
-//! Tests of numbers, of formulas and of their values, over the public calls of the crates that make them. Each line of a text is a
-//! test.
+//! Tests of numbers, of formulas, of their values and of their graphs, over the public calls of the crates that make them. Each line of
+//! a text is a test.
 #![tactic(auto)]
 
 #[cfg(test)]
 mod formula_tests;
+#[cfg(test)]
+mod graph_tests;
 #[cfg(test)]
 mod kinds;
 #[cfg(test)]
