@@ -20,6 +20,7 @@ abbrev pub IsBelow : Bool → ℤ → Type 0
 IsBelow true z = z <ℤ pos 0
 IsBelow false z = z ≤ℤ pos 0
 
+-- The point meets the row: the left side is at most 0 there, or below 0 where the row is strict.
 pub record Meets (w : Point) (r : Row) : Type 0 where
   pub met : IsBelow r.strict (left_side w r)
 
