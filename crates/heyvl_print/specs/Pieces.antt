@@ -57,7 +57,6 @@ feed = line_feed ∷ []
 abbrev pub margin : ℕ → List Piece
 margin n = replicate n blank
 
--- First the one and then the other.
 infixr 30 ◌then◌
 -- The pieces of the one, and behind them those of the other.
 abbrev pub ◌then◌ : List Piece → List Piece → List Piece

@@ -176,8 +176,7 @@ IsExpr (Expression.choice a b c s) k ts =
 abbrev pub IsFull : Expression → List Token → Type 0
 IsFull a = IsExpr a 9
 
--- right ::= 'flip' '(' expr ')' | 'unif' '(' expr ',' expr ')' | 'choose' '{' list(expr ':' expr) '}' | W '(' list0(expr) ')'
---         | expr
+-- expr ':' expr: a part of a choose.
 abbrev pub IsWeighted : Expression × Expression → List Token → Type 0
 IsWeighted part = IsFull part.0 then IsMark marks.Colon then IsFull part.1
 
@@ -185,7 +184,8 @@ IsWeighted part = IsFull part.0 then IsMark marks.Colon then IsFull part.1
 abbrev pub IsCall : List ℕ → List Expression → List Token → Type 0
 IsCall f arguments = IsName f then IsMark marks.ParenLeft then IsList0 IsFull arguments then IsMark marks.ParenRight
 
--- The production right: the tokens are a right side, and this is its tree.
+-- right ::= 'flip' '(' expr ')' | 'unif' '(' expr ',' expr ')' | 'choose' '{' list(expr ':' expr) '}' | W '(' list0(expr) ')'
+--         | expr
 abbrev pub IsRight : RightSide → List Token → Type 0
 IsRight (RightSide.flip p) = IsKey keys.Flip then IsMark marks.ParenLeft then IsFull p then IsMark marks.ParenRight
 IsRight (RightSide.unif a b) =
