@@ -61,17 +61,8 @@ calls q [] = false
 calls q (a ∷ rest) = is_call a || calls q rest
   where
     is_call : Act → Bool
-    is_call (Act.set x t span) = false
-    is_call (Act.draw x ps span) = false
-    is_call (Act.toss x p span) = false
-    is_call (Act.any x up ty span) = false
-    is_call (Act.reward f span) = false
-    is_call (Act.ifs arms e span) = false
-    is_call (Act.pick up a b span) = false
-    is_call (Act.check kind f span) = false
-    is_call (Act.validate co span) = false
-    is_call (Act.loop h b) = false
     is_call (Act.call xs p es span) = p == q
+    is_call a = false
 
 -- The body of the first procedure holds a call of the second.
 abbrev pub Calls : List TypedProcedure → ℕ → ℕ → Type 0

@@ -241,16 +241,7 @@ LoopsMeet p (Act.call xs q es span) = Unit {0}
 abbrev pub loop_numbers : List Act → List ℕ
 loop_numbers [] = []
 loop_numbers (Act.loop h b ∷ rest) = h.number ∷ loop_numbers rest
-loop_numbers (Act.set x t span ∷ rest) = loop_numbers rest
-loop_numbers (Act.draw x qs span ∷ rest) = loop_numbers rest
-loop_numbers (Act.toss x f span ∷ rest) = loop_numbers rest
-loop_numbers (Act.any x up ty span ∷ rest) = loop_numbers rest
-loop_numbers (Act.reward f span ∷ rest) = loop_numbers rest
-loop_numbers (Act.ifs arms e span ∷ rest) = loop_numbers rest
-loop_numbers (Act.pick up a b span ∷ rest) = loop_numbers rest
-loop_numbers (Act.check kind f span ∷ rest) = loop_numbers rest
-loop_numbers (Act.validate co span ∷ rest) = loop_numbers rest
-loop_numbers (Act.call xs q es span ∷ rest) = loop_numbers rest
+loop_numbers (a ∷ rest) = loop_numbers rest
 
 -- So many numbers, from the first on.
 abbrev pub counted : ℕ → ℕ → List ℕ

@@ -31,17 +31,7 @@ act_item None = Item.back
 
 abbrev pub turn_item : Option Act → Item
 turn_item (Some (Act.loop h b)) = Item.turn h b
-turn_item (Some (Act.set x t span)) = Item.back
-turn_item (Some (Act.draw x ps span)) = Item.back
-turn_item (Some (Act.toss x f span)) = Item.back
-turn_item (Some (Act.any x up ty span)) = Item.back
-turn_item (Some (Act.reward f span)) = Item.back
-turn_item (Some (Act.ifs arms e span)) = Item.back
-turn_item (Some (Act.pick up a b span)) = Item.back
-turn_item (Some (Act.check kind f span)) = Item.back
-turn_item (Some (Act.validate co span)) = Item.back
-turn_item (Some (Act.call xs p es span)) = Item.back
-turn_item None = Item.back
+turn_item other = Item.back
 
 -- The item of the definition that an item of the program names.
 abbrev pub item_of : List TypedProcedure → Numbered → Item
@@ -56,17 +46,7 @@ items_of ps is = map (item_of ps) is
 -- The targets and the procedure of a call; none and the first procedure where the act is no call.
 abbrev pub call_parts : Option Act → List ℕ × ℕ
 call_parts (Some (Act.call xs p es span)) = (xs, p)
-call_parts (Some (Act.set x t span)) = ([], 0)
-call_parts (Some (Act.draw x ps span)) = ([], 0)
-call_parts (Some (Act.toss x f span)) = ([], 0)
-call_parts (Some (Act.any x up ty span)) = ([], 0)
-call_parts (Some (Act.reward f span)) = ([], 0)
-call_parts (Some (Act.ifs arms e span)) = ([], 0)
-call_parts (Some (Act.pick up a b span)) = ([], 0)
-call_parts (Some (Act.check kind f span)) = ([], 0)
-call_parts (Some (Act.validate co span)) = ([], 0)
-call_parts (Some (Act.loop h b)) = ([], 0)
-call_parts None = ([], 0)
+call_parts other = ([], 0)
 
 -- The call from which an item returns.
 abbrev pub call_of : List TypedProcedure → Numbered → List ℕ × ℕ
