@@ -1,3 +1,2 @@
 mod Gathering
 mod FoundLoops
-pub mod exported
