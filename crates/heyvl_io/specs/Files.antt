@@ -10,8 +10,8 @@ abbrev pub File : Type 0
 File = String Global × Vec ℕ Global
 
 -- The bytes of each file's name, in the order of the files.
-abbrev pub names_of : List File → List (List ℕ)
-names_of files = map (λ file. string_bytes file.0) files
+abbrev pub text_names : List File → List (List ℕ)
+text_names files = map (λ file. string_bytes file.0) files
 
 -- Whether the file's name has exactly these bytes.
 abbrev pub is_named : List ℕ → File → Bool

@@ -112,11 +112,11 @@ right_type n sc (RightSide.choose parts) = type_of_choices n sc parts
 right_type n sc (RightSide.call p arguments) = None
 
 -- Whether a value of the first type may be given to a variable of the second. One of EUReal may be given to none.
-abbrev pub widens_to : ValueType → ValueType → Bool
-widens_to ValueType.truth ValueType.truth = true
-widens_to ValueType.truth (ValueType.number u) = false
-widens_to (ValueType.number t) ValueType.truth = false
-widens_to (ValueType.number t) (ValueType.number u) = is_finite_type (Some t) && widens t u
+abbrev pub value_widens_to : ValueType → ValueType → Bool
+value_widens_to ValueType.truth ValueType.truth = true
+value_widens_to ValueType.truth (ValueType.number u) = false
+value_widens_to (ValueType.number t) ValueType.truth = false
+value_widens_to (ValueType.number t) (ValueType.number u) = is_finite_type (Some t) && widens t u
 
 -- Whether a value of this type may not be given to a variable of this declared type. Nothing may be given to a Real.
 abbrev pub mismatches : Option ValueType → TypeName → Bool
@@ -125,7 +125,7 @@ mismatches (Some v) t = misses v (type_of_name t)
   where
     misses : ValueType → Option ValueType → Bool
     misses v None = true
-    misses v (Some u) = not (widens_to v u)
+    misses v (Some u) = not (value_widens_to v u)
 
 -- The same of a target, of which nothing is said where it isn't visible.
 abbrev pub mismatches_target : Option ValueType → Option TypeName → Bool
