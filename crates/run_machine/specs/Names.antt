@@ -29,6 +29,7 @@ abbrev pub act_item : Option Act → Item
 act_item (Some a) = Item.act a
 act_item None = Item.back
 
+-- Where no loop is named, the item stands for a return.
 abbrev pub turn_item : Option Act → Item
 turn_item (Some (Act.loop h b)) = Item.turn h b
 turn_item other = Item.back
@@ -40,6 +41,7 @@ item_of ps (Turn p place) = turn_item (act_named ps p place)
 item_of ps (Out p x) = Item.out x (types_of (procedure_at ps p) x)
 item_of ps (Back p place) = Item.back
 
+-- The items of the definition that the items of the program name.
 abbrev pub items_of : List TypedProcedure → List Numbered → List Item
 items_of ps is = map (item_of ps) is
 
@@ -65,6 +67,7 @@ last_call ps (i ∷ (j ∷ is)) = last_call ps (j ∷ is)
 abbrev pub Lists : Type 0
 Lists = List Numbered × List Val
 
+-- What a frame of the program holds, its vectors as lists.
 abbrev pub lists_of : F.Frame → Lists
 lists_of f = (f.items.items, f.state.items)
 
@@ -78,6 +81,7 @@ pub record Stored : Type 0 where
   pub turns : List ℕ
   pub made : ℕ
 
+-- A configuration of the program, its vectors as lists.
 abbrev pub stored : C.Config → Stored
 stored c = record { procedure = c.proc; items = c.items.items; state = c.state.items; frames = map lists_of c.frames.items; reward = extended.value_of c.reward; turns = c.turns.items; made = c.made }
 

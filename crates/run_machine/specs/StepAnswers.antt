@@ -33,6 +33,7 @@ asked_by_act (Act.validate co span) = 0
 asked_by_act (Act.loop h b) = 0
 asked_by_act (Act.call xs p es span) = 0
 
+-- How many decisions the step of the first item asks for.
 abbrev pub asked_by : List Item → ℕ
 asked_by [] = 0
 asked_by (Item.act a ∷ is) = asked_by_act a
