@@ -1,2 +1,2 @@
-mod Gathering
+mod GatheredActs
 mod FoundLoops

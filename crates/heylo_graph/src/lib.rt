@@ -2,14 +2,14 @@
 #![tactic(auto)]
 
 mod graphs;
+mod insertion;
 mod laws;
 mod marks;
 mod nodes;
-mod putting;
-mod reading;
 mod renaming;
 mod sizes;
 mod substitution;
+mod trees;
 
 pub use graphs::Graph;
 pub use laws::trees_stand_once;

@@ -17,7 +17,7 @@ use Rattle.linear_rows.specs.Terms.{is_narrow}
 use Rattle.linear_values.specs.Lin.{Terms, variable, IsAbove, AreNormal, is_sized}
 use Rattle.linear_form.specs.Query.{Atom, Taken}
 use Rattle.linear_form.specs.Paths.{IsPath, end_at}
-use Rattle.linear_rows.specs.Merging.{are_narrow}
+use Rattle.linear_rows.specs.TermResults.{are_narrow}
 use Rattle.linear_values.specs.Tightening.{Claim, tightened, tight_row, whole_terms, factor, rounded, are_whole, constant_fits, with_row, all_tightened}
 use Rattle.heylo_formula.specs.TypedGoals.{IsTypedGoal}
 use Rattle.linear_form.specs.PathRows.{claim, negated, answer_claims, path_claims, denial_at, listed, is_unsigned_type, occurs_in_claims, sign_claims, claims_of, rows_of}

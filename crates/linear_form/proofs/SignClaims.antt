@@ -12,7 +12,7 @@ use Rattle.linear_rows.specs.Terms.{is_narrow}
 use Rattle.linear_rows.specs.Row.{Row}
 use Rattle.linear_values.specs.Lin.{variable, scaled, is_sized}
 use Rattle.linear_rows.specs.Numbers.{minus_oneʳ, fits}
-use Rattle.linear_rows.specs.Merging.{are_narrow}
+use Rattle.linear_rows.specs.TermResults.{are_narrow}
 use Rattle.linear_values.specs.Tightening.{Claim, common_multiple, common_divisor, factor, are_whole, tightened, with_row}
 use Rattle.linear_form.specs.PathRows.{claim, negated}
 use Rattle.linear_form.specs.internal.FurtherRows.{followed_by, rows_with, unsigned_in, one_more, all_unsigned_in, sign_row}

@@ -22,7 +22,7 @@ use Rattle.linear_rows.specs.Numbers.{fits}
 use Rattle.linear_values.specs.Nonzero.{AreNonzero}
 use Rattle.linear_rows.specs.Terms.{is_narrow}
 use Rattle.heyvl_num.proofs.exported.Values.{is_zero-*, is_zero-one}
-use Rattle.linear_rows.specs.Merging.{are_narrow}
+use Rattle.linear_rows.specs.TermResults.{are_narrow}
 use Rattle.linear_values.specs.Tightening.{sign_of, common_multiple, common_divisor, factor, whole_terms}
 use Rattle.linear_values.specs.WholeTimes.{AreWholeTimes}
 use Rattle.linear_values.specs.Operator.{small_product, narrow_value}

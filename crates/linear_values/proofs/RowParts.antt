@@ -13,7 +13,7 @@ use Rattle.linear_rows.specs.Numbers.{fits}
 use Rattle.linear_rows.specs.Terms.{is_narrow}
 use Rattle.linear_values.specs.Operator.{narrow_value}
 use Rattle.linear_values.specs.Nonzero.{AreNonzero}
-use Rattle.linear_rows.specs.Merging.{are_narrow}
+use Rattle.linear_rows.specs.TermResults.{are_narrow}
 use Rattle.linear_values.specs.Tightening.{Claim, tightened, tight_row, sign_of, rounded, are_whole, factor, whole_terms, constant_fits}
 use Rattle.linear_values.specs.WholeTimes.{AreWholeTimes}
 use Rattle.linear_values.proofs.TightRows.{factor_whole}

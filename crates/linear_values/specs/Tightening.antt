@@ -7,7 +7,7 @@ use Rattle.heyvl_num.specs.Rational.{Rational, ratio, ◌*ʳ◌}
 use Rattle.heyvl_num.specs.Rounding.{floorʳ, ceilʳ}
 use Rattle.heyvl_num.specs.Exact.{product_fits}
 use Rattle.heylo_formula.specs.Typing.{Types}
-use Rattle.linear_rows.specs.Merging.{are_narrow}
+use Rattle.linear_rows.specs.TermResults.{are_narrow}
 use Rattle.linear_rows.specs.Terms.{is_narrow}
 use Rattle.linear_rows.specs.Row.{Row}
 use Rattle.linear_values.specs.Lin.{Lin, Terms, is_sized}

@@ -7,7 +7,7 @@ ghost use Rattle.heyvl_num.specs.Value.{is_zeroʳ};
 ghost use Rattle.linear_rows.specs.Terms.{is_narrow};
 ghost use Rattle.linear_values.specs.Lin.{AreNormal, all_fit, is_sized as lin_is_sized};
 ghost use Rattle.linear_rows.specs.Numbers.{fits as number_fits};
-ghost use Rattle.linear_rows.specs.Merging.{are_narrow};
+ghost use Rattle.linear_rows.specs.TermResults.{are_narrow};
 ghost use Rattle.linear_values.specs.Tightening.{factor, whole_terms, sign_of, rounded as rounded_constant, are_whole as variables_are_whole, tightened as row_tightened};
 ghost use Rattle.linear_rows.specs.VariableTypes.{is_integral};
 ghost use Rattle.linear_values.specs.WholeTimes.{AreWholeTimes};

@@ -6,11 +6,11 @@ mod FailingGoals
 mod Growth
 mod PrenexedTypes
 mod Examples
-mod Building
+mod BuiltForms
 mod PrenexedPlain
 mod Weights
-mod Generating
-mod Numbered
+mod GeneratorSteps
+mod NumberedParts
 mod GeneratedNames
 mod FreeTerms
 mod Directions

@@ -2,10 +2,10 @@
 
 ghost use Rattle.heylo_formula.specs.Formula.{Form as plain};
 ghost use Rattle.heylo_formula.specs.PlainTrees.{form_of, term_of};
-ghost use Rattle.vp_generator.specs.Generated.{part_form, draw_form, sum_of_parts};
+ghost use Rattle.vp_generator.specs.GeneratedForms.{part_form, draw_form, sum_of_parts};
 ghost use Rattle.heyvl_acts.specs.PlainActs.{parts_of};
 ghost use Rattle.vp_generator.specs.Limits.{IsSmall};
-ghost use Rattle.vp_generator.specs.internal.Fitting.{DrawIsFit, PartsAreFit, TermIsFit};
+ghost use Rattle.vp_generator.specs.internal.FittingActs.{DrawIsFit, PartsAreFit, TermIsFit};
 ghost use Rattle.vp_generator.specs.Answers.{IsAnswer};
 
 use crate::nodes_of_acts::{added, put, scaled, small};

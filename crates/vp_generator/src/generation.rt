@@ -3,11 +3,11 @@
 ghost use Rattle.std.specs.Prelude.{◌≡◌, ◌+◌, ◌<◌, ◌^◌};
 ghost use Rattle.heylo_formula.specs.Formula.{Form as plain};
 ghost use Rattle.heylo_formula.specs.PlainTrees.{form_of, cond_of};
-ghost use Rattle.vp_generator.specs.Generated.{pick_form, vp, vp_act, vp_arms};
+ghost use Rattle.vp_generator.specs.GeneratedForms.{pick_form, vp, vp_act, vp_arms};
 ghost use Rattle.heyvl_acts.specs.PlainActs.{act_of, acts_of, arms_of};
 ghost use Rattle.vp_generator.specs.Limits.{IsSmall};
 ghost use Rattle.vp_generator.specs.Fit.{AreFit};
-ghost use Rattle.vp_generator.specs.internal.Fitting.{IsFit, ArmsAreFit};
+ghost use Rattle.vp_generator.specs.internal.FittingActs.{IsFit, ArmsAreFit};
 ghost use Rattle.vp_generator.specs.Answers.{IsAnswer};
 
 use crate::draws::drawn;

@@ -5,9 +5,9 @@ ghost use Rattle.heylo_formula.specs.Formula.{Form as plain};
 ghost use Rattle.heylo_formula.specs.PlainTrees.{form_of, cond_of, term_of};
 ghost use Rattle.heylo_formula.specs.Sizes.{nodes};
 ghost use Rattle.heylo_formula.specs.Substitution.{subst};
-ghost use Rattle.vp_generator.specs.Generated.{pick_form, check_form, validate_form};
+ghost use Rattle.vp_generator.specs.GeneratedForms.{pick_form, check_form, validate_form};
 ghost use Rattle.vp_generator.specs.Limits.{IsSmall};
-ghost use Rattle.vp_generator.specs.internal.Fitting.{TermIsFit};
+ghost use Rattle.vp_generator.specs.internal.FittingActs.{TermIsFit};
 ghost use Rattle.vp_generator.specs.Answers.{IsAnswer};
 
 use crate::limits::{DEEPEST, MOST_NODES};

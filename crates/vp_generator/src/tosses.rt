@@ -7,9 +7,9 @@ ghost use Rattle.heylo_formula.specs.PlainTrees.{form_of};
 ghost use Rattle.heylo_formula.specs.Substitution.{subst};
 ghost use Rattle.heyvl_num.specs.Value.{oneᵛ};
 ghost use Rattle.vp_generator.specs.Answers.{IsAnswer};
-ghost use Rattle.vp_generator.specs.Generated.{toss_form};
+ghost use Rattle.vp_generator.specs.GeneratedForms.{toss_form};
 ghost use Rattle.vp_generator.specs.Limits.{IsSmall};
-ghost use Rattle.vp_generator.specs.internal.Fitting.{FlagIsFit, TossIsFit};
+ghost use Rattle.vp_generator.specs.internal.FittingActs.{FlagIsFit, TossIsFit};
 
 use crate::nodes_of_acts::{added, put, small};
 use crate::stops::VpStop;

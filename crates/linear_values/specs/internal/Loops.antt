@@ -1,7 +1,7 @@
 -- What the loops over terms keep.
 use Rattle.std.specs.Prelude.{◌≡◌, ℕ, ℤ, List, ◌++◌, Bool, true}
 use Rattle.heyvl_num.specs.Rational.{Rational, ratio, ◌*ʳ◌}
-use Rattle.linear_rows.specs.Merging.{are_narrow}
+use Rattle.linear_rows.specs.TermResults.{are_narrow}
 use Rattle.linear_values.specs.Tightening.{whole_terms}
 use Rattle.linear_values.specs.WholeTimes.{AreWholeTimes}
 use Rattle.linear_values.specs.Lin.{Terms, all_fit, times, merged, AreNormal}

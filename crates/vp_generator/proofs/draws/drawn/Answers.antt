@@ -1,5 +1,5 @@
 use Rattle.heylo_formula.specs.PlainTrees.{form_of}
-use Rattle.vp_generator.proofs.Building.{stop_of_draw}
+use Rattle.vp_generator.proofs.BuiltForms.{stop_of_draw}
 use Rattle.vp_generator.proofs.draws.drawn.Goals as goal
 
 pub returns-in-Err : goal.returns-in-Err

@@ -1,9 +1,9 @@
 use Rattle.std.proofs.Common.{◌≡◌, length}
 use Rattle.heylo_formula.specs.PlainTrees.{form_of}
-use Rattle.vp_generator.specs.Generated.{sum_of_parts}
+use Rattle.vp_generator.specs.GeneratedForms.{sum_of_parts}
 use Rattle.heyvl_acts.specs.PlainActs.{parts_of}
 use Rattle.vp_generator.specs.Limits.{IsSmall}
-use Rattle.vp_generator.specs.internal.Fitting.{PartsAreFit}
+use Rattle.vp_generator.specs.internal.FittingActs.{PartsAreFit}
 use Rattle.vp_generator.proofs.draws.sum_from.Given as goal
 
 abbrev pub invariant-parts : goal.invariant-parts

@@ -1,12 +1,12 @@
 use Rattle.std.proofs.Common.{sym, ap, subst, arith}
 use Rattle.heylo_formula.specs.PlainTrees.{form_of}
-use Rattle.vp_generator.specs.Generated.{vp, vp_act}
-use Rattle.vp_generator.specs.internal.Fitting.{IsFit}
+use Rattle.vp_generator.specs.GeneratedForms.{vp, vp_act}
+use Rattle.vp_generator.specs.internal.FittingActs.{IsFit}
 use Rattle.heyvl_acts.specs.PlainActs.{acts_of}
 use Rattle.vp_generator.specs.Answers.{IsAnswer}
 use Rattle.vp_generator.proofs.Weights.{weight}
-use Rattle.vp_generator.proofs.Building.{stop_of_act, stop_of_arm, stop_of_arms}
-use Rattle.vp_generator.proofs.Generating.{if_here, pick_here, last_fits, rest_weighs, kept_next, last_arm_fits, other_arms_weigh, kept_next_arm}
+use Rattle.vp_generator.proofs.BuiltForms.{stop_of_act, stop_of_arm, stop_of_arms}
+use Rattle.vp_generator.proofs.GeneratorSteps.{if_here, pick_here, last_fits, rest_weighs, kept_next, last_arm_fits, other_arms_weigh, kept_next_arm}
 use Rattle.vp_generator.proofs.generation.+generating.Goals as goal
 
 pub over_act-over_if-requires : goal.over_act-over_if-requires
