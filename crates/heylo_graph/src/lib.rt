@@ -1,6 +1,7 @@
 //! Formulas as nodes of a graph in which equal parts stand once.
 #![tactic(auto)]
 
+mod forms;
 mod graphs;
 mod insertion;
 mod laws;
@@ -9,7 +10,6 @@ mod nodes;
 mod renaming;
 mod sizes;
 mod substitution;
-mod trees;
 
 pub use graphs::Graph;
 pub use laws::trees_stand_once;
