@@ -8,12 +8,12 @@ use Rattle.std.specs.Prelude.{Bool, List, [], codes, decimal, false, true, ◌++
 use Rattle.number_texts.specs.ValueTexts.{fraction_text, place_text}
 use Rattle.verdict_report.specs.Settings.{Names, settings_text, variable_text}
 
--- Whether an end belongs to the interval.
+-- The bracket of the low end, which tells whether it belongs to the interval.
 abbrev pub low_mark : Bool → List ℕ
 low_mark true = codes "["
 low_mark false = codes "("
 
--- Whether the upper end belongs to the interval.
+-- The bracket of the high end, which tells whether it belongs to the interval.
 abbrev pub high_mark : Bool → List ℕ
 high_mark true = codes "]"
 high_mark false = codes ")"
