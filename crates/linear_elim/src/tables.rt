@@ -51,7 +51,7 @@ fn print_of(number: u64) -> u16
 }
 
 /// The first place for terms with this fingerprint.
-#[tactic(auto, unfolding(crate::specs::internal::Counting::home))]
+#[tactic(auto, unfolding(crate::specs::internal::CountedRows::home))]
 fn home_of(places: u64, number: u64) -> usize
     ensures { result ≡ home places number }
 {
