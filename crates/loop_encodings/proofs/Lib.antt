@@ -8,15 +8,6 @@ pub mod FromRules
 pub mod EncodedTypes
 pub mod Bodies
 pub mod Examples
-pub mod RunValues
-pub mod ProgramStates
-pub mod Monotone
-pub mod ScopedMeaning
-pub mod LoopTurns
-pub mod Kept
-pub mod Claims
-pub mod EncodedMeaning
-pub mod EncodedBounds
 pub mod PlainOccurrences
 pub mod EncodedOver
 pub mod SubstitutedVariables
@@ -26,21 +17,4 @@ pub mod GeneratedOverOwn
 pub mod FreshVariables
 mod FreshExamples
 pub mod EncodedBinders
-pub mod ModifiedVariables
-pub mod RuledPrograms
-pub mod ProgramReasons
-pub mod CalledProcedures
-pub mod SmallFormulas
-pub mod ShownBounds
-pub mod ViolationActs
-pub mod ViolationTrees
-pub mod Violations
-pub mod SmallPrograms
-mod ViolationExamples
-mod WrongGoals
-mod WrongEncodings
-mod WrongEncodingsTooStrong
-pub mod LawExamples
-mod LawExamplesOfChoices
-mod LawExamplesOfLoops
 pub mod exported

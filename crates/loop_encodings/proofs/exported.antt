@@ -3,3 +3,4 @@ pub mod OwnVariables
 pub mod FromRules
 pub mod Counts
 pub mod EncodedTypes
+pub mod Examples

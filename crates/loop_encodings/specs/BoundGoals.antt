@@ -2,7 +2,7 @@
 -- leave open, all choices.
 -- Source: the verification condition of a HeyVL procedure (Schroeer, Batz, Kaminski, Katoen, Matheja, OOPSLA 2023); that the
 -- formulas of a weak proc are at most 1 is asked of probabilities.
-use Rattle.std.specs.Prelude.{ℕ, ◌==◌, List, [], ◌∷◌, Option, Some, None, map, if◌then◌else◌}
+use Rattle.std.specs.Prelude.{ℕ, List, [], ◌∷◌, Option, Some, None, map, if◌then◌else◌}
 use Rattle.heyvl_num.specs.Value.{oneᵛ, ◌≤ᵛ◌}
 use Rattle.heylo_formula.specs.Choices.{Choices}
 use Rattle.heylo_formula.specs.Formula.{Form}
@@ -13,7 +13,8 @@ use Rattle.heylo_formula.specs.declared.goals.GoalId.{GoalId}
 use Rattle.heylo_formula.specs.declared.goals.GoalId.TheVariants.{Main, Pre, Post, Invariant, Ranking}
 use Rattle.heylo_formula.specs.declared.types.Ty.{Ty}
 use Rattle.heylo_formula.specs.declared.values.Val.{Val}
-use Rattle.heyvl_acts.specs.Acts.{Act, Acts, TypedProcedure, Variable, variables, type_list, acts_in}
+use Rattle.act_walks.specs.Loops.{loop_in}
+use Rattle.heyvl_acts.specs.Acts.{Act, Acts, Head, TypedProcedure, Variable, variables, type_list, acts_in}
 use Rattle.heyvl_acts.specs.Forward.{forward}
 use Rattle.heyvl_acts.specs.Places.{in_order}
 use Rattle.heyvl_acts.specs.Rules.{Each, loop_numbers}
@@ -31,20 +32,14 @@ bound_goals p = goals p.body
     goals None = []
     goals (Some acts) = Main ∷ (if p.weak then weak_goals acts else [])
 
+-- The invariant of this loop; none where there is no loop.
+abbrev pub invariant_at : Option (Head × Acts) → Option Form
+invariant_at (Some l) = Some l.0.inv
+invariant_at None = None
+
 -- The invariant of the loop with this number among the acts.
 abbrev pub invariant_in : ℕ → List Act → Option Form
-invariant_in n [] = None
-invariant_in n (Act.loop h b ∷ rest) = if h.number == n then Some h.inv else invariant_in n rest
-invariant_in n (Act.set x t span ∷ rest) = invariant_in n rest
-invariant_in n (Act.draw x qs span ∷ rest) = invariant_in n rest
-invariant_in n (Act.toss x f span ∷ rest) = invariant_in n rest
-invariant_in n (Act.any x up ty span ∷ rest) = invariant_in n rest
-invariant_in n (Act.reward f span ∷ rest) = invariant_in n rest
-invariant_in n (Act.ifs arms e span ∷ rest) = invariant_in n rest
-invariant_in n (Act.pick up a b span ∷ rest) = invariant_in n rest
-invariant_in n (Act.check kind f span ∷ rest) = invariant_in n rest
-invariant_in n (Act.validate co span ∷ rest) = invariant_in n rest
-invariant_in n (Act.call xs q es span ∷ rest) = invariant_in n rest
+invariant_in n acts = invariant_at (loop_in n acts)
 
 -- The variables that the goal speaks of: the main one of those of the encoding, the others of the procedure's.
 abbrev pub goal_variables : List TypedProcedure → TypedProcedure → GoalId → List Variable

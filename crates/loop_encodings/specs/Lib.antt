@@ -3,5 +3,4 @@ pub mod Encoding
 pub mod EncodingLaws
 pub mod FreshLaws
 pub mod BoundGoals
-pub mod Law
 pub mod internal

@@ -1,4 +1,1 @@
 pub mod Ready
-pub mod Contracts
-pub mod Programs
-pub mod EncodedPrograms

@@ -2,7 +2,6 @@
 
 ghost use Rattle.loop_encodings.specs.EncodingLaws as encodings;
 ghost use Rattle.loop_encodings.specs.FreshLaws as new;
-ghost use Rattle.loop_encodings.specs.Law as law;
 
 /// The encoding of a procedure of a file that meets the rules is over its own variables and the fresh ones, and gives any
 /// value to these alone.
@@ -18,15 +17,4 @@ pub fn main_goals_lack_fresh_variables()
     ensures over { new.MainFormsAreOverOwnVariables }
     ensures not_free { new.FreshVariablesAreNotFree }
     ensures lacking { new.MainGoalsLackFreshVariables }
-{}
-
-/// Where the goals of a program's bound hold, and of each procedure that it reaches, which is a program too, its bound holds:
-/// from every initial state, under every scheduler and for every number of steps.
-pub fn shown_bounds_hold()
-    ensures { law.ShownBoundsHold }
-{}
-
-/// A program without loops and calls whose body breaks the pre in a state has runs that break its bound there.
-pub fn broken_goals_break_bounds()
-    ensures { law.BrokenGoalsBreakBounds }
 {}

@@ -10,7 +10,4 @@ mod variables;
 
 pub use encoded_bodies::Encoded;
 pub use encoding::encode;
-pub use laws::{
-    broken_goals_break_bounds, encodings_are_over_their_variables, main_goals_lack_fresh_variables,
-    shown_bounds_hold,
-};
+pub use laws::{encodings_are_over_their_variables, main_goals_lack_fresh_variables};

@@ -1,0 +1,26 @@
+pub mod RunValues
+pub mod ProgramStates
+pub mod Monotone
+pub mod ScopedMeaning
+pub mod LoopTurns
+pub mod Kept
+pub mod Claims
+pub mod EncodedMeaning
+pub mod EncodedBounds
+pub mod ModifiedVariables
+pub mod RuledPrograms
+pub mod ProgramReasons
+pub mod CalledProcedures
+pub mod SmallFormulas
+pub mod ShownBounds
+pub mod ViolationActs
+pub mod ViolationTrees
+pub mod Violations
+pub mod SmallPrograms
+mod ViolationExamples
+mod WrongGoals
+mod WrongEncodings
+mod WrongEncodingsTooStrong
+pub mod LawExamples
+mod LawExamplesOfChoices
+mod LawExamplesOfLoops
