@@ -16,7 +16,6 @@ pub mod LentPairs
 pub mod StartParts
 pub mod StartLaws
 pub mod MadeDecisions
-pub mod MadeForms
 pub mod MadeStarts
 pub mod Promises
 pub mod PartAnswers
@@ -30,7 +29,6 @@ pub mod GoalVariables
 pub mod OmegaParts
 pub mod GoalForms
 pub mod MeantGoals
-pub mod MadeUpperGoals
 pub mod PairShapes
 pub mod ReadyPairs
 pub mod StepWays

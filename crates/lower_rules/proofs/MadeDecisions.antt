@@ -12,7 +12,7 @@ use Rattle.goal_answers.specs.declared.decisions.Decision.{Decision}
 use Rattle.goal_answers.specs.declared.decisions.Decision.TheVariants.{Unknown}
 use Rattle.heyvl_acts.specs.Rules.{Each}
 use Rattle.ranking_rule.specs.Laws.{IsFew}
-use Rattle.ranking_rule.specs.MadeGoals.{IsMadeWithin}
+use Rattle.vp_generator.specs.PrenexedGoals.{IsMadeWithin}
 use Rattle.region_split.specs.Decisions.{IsDecision}
 use Rattle.region_split.specs.Meanings.{Tells}
 use Rattle.vp_generator.specs.Limits.{IsSmall}

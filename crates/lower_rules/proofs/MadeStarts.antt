@@ -22,13 +22,13 @@ use Rattle.heyvl_acts.specs.declared.typed_trees.VarInfo.{VarInfo}
 use Rattle.heyvl_acts.proofs.exported.Each.{each_at}
 use Rattle.loop_encodings.proofs.exported.FromRules.{is_there, procedure_is}
 use Rattle.loop_encodings.proofs.exported.OwnVariables.{own_variables}
-use Rattle.ranking_rule.specs.MadeGoals.{IsMadeWithin, goal_over}
+use Rattle.made_goals.specs.MadeGoals.{goal_over}
 use Rattle.ranking_rule.specs.RankingGoals.{generated}
 use Rattle.region_split.specs.Meanings.{Tells}
 use Rattle.vp_generator.specs.Fit.{AreFit}
 use Rattle.vp_generator.specs.Laws.{GeneratedFormIsFormula, GeneratedFormMeansActs}
 use Rattle.vp_generator.specs.Over.{GeneratedFormIsOver}
-use Rattle.vp_generator.specs.PrenexedGoals.{PrenexedGoalsAreGoals, PrenexedGoalsFailByChoices, PrenexedGoalsSpeakOfChoices}
+use Rattle.vp_generator.specs.PrenexedGoals.{IsMadeWithin, PrenexedGoalsAreGoals, PrenexedGoalsFailByChoices, PrenexedGoalsSpeakOfChoices}
 use Rattle.vp_generator.specs.Scopes.{GeneratedFormIsNamed}
 use Rattle.lower_rules.specs.RemainderPairs.{RemainderPair}
 use Rattle.lower_rules.specs.StartGoals.{start_goal}

@@ -28,8 +28,8 @@ use Rattle.heyvl_acts.specs.FormSizes.{FormsWithin}
 use Rattle.heyvl_acts.specs.Forward.{forward}
 use Rattle.heyvl_acts.specs.Rules.{Each, MeetsRules}
 use Rattle.heyvl_acts.proofs.exported.UpwardMeaning.{behind}
-use Rattle.ranking_rule.specs.MadeGoals.{all_names}
-use Rattle.ranking_rule.proofs.exported.MadeGoals.{all_names_length, new_types_length}
+use Rattle.made_goals.specs.MadeGoals.{all_names}
+use Rattle.made_goals.proofs.exported.MadeGoals.{all_names_length, new_types_length}
 use Rattle.ranking_rule.proofs.exported.PrenexedSizes.{nodes_unbound}
 use Rattle.region_split.specs.Meanings.{Fails}
 use Rattle.run_machine.specs.Bound.{IsState}

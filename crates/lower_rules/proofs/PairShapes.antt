@@ -17,7 +17,7 @@ use Rattle.vp_generator.specs.PrenexedGoals.{types_of_variables}
 use Rattle.loop_encodings.proofs.exported.OwnVariables.{own_variables}
 use Rattle.lower_rules.specs.OmegaPairs.{IsOmegaPair}
 use Rattle.lower_rules.specs.internal.Pairs.{IsBare, wanted}
-use Rattle.lower_rules.proofs.MadeUpperGoals.{same_types}
+use Rattle.made_goals.proofs.exported.MadeGoals.{same_types}
 
 -- ---- Bodies and outputs
 

@@ -22,7 +22,7 @@ use Rattle.heyvl_acts.specs.Rules.{AreNamed, MeetsRules}
 use Rattle.heyvl_acts.specs.Upward.{upward}
 use Rattle.heyvl_acts.specs.WellTypedActs.{ActsFit}
 use Rattle.ranking_rule.specs.Laws.{IsFew}
-use Rattle.ranking_rule.specs.MadeGoals.{all_names}
+use Rattle.made_goals.specs.MadeGoals.{all_names}
 use Rattle.ranking_rule.specs.RankingGoals.{generated}
 use Rattle.region_split.specs.Meanings.{Fails}
 use Rattle.vp_generator.specs.Fit.{AreFit}
@@ -34,7 +34,7 @@ use Rattle.vp_generator.specs.PrenexedGoals.{PrenexedGoalsAreGoals, PrenexedGoal
 use Rattle.vp_generator.specs.Scopes.{GeneratedFormIsNamed}
 use Rattle.lower_rules.specs.StartGoals.{StartFails, StartHolds, start_goal}
 use Rattle.lower_rules.proofs.StartParts.{IsStart, bound_formula, bound_over}
-use Rattle.ranking_rule.proofs.exported.MadeGoals.{all_names_length, new_types_length}
+use Rattle.made_goals.proofs.exported.MadeGoals.{all_names_length, new_types_length}
 use Rattle.ranking_rule.proofs.exported.PrenexedSizes.{nodes_unbound}
 use Rattle.ranking_rule.proofs.exported.UpwardActs.{upward_below, upward_fit, upward_over}
 

@@ -26,7 +26,7 @@ use Rattle.lower_rules.specs.declared.answers.Step.{Step}
 use Rattle.lower_rules.specs.declared.answers.Step.TheVariants.{One, Base, Turn}
 use Rattle.lower_rules.specs.declared.pairs.Pair.{Pair}
 use Rattle.lower_rules.specs.internal.Pairs.{IsLimitBy, IsMadeStep, IsReady, IsTurnOf, behind, body, first, head, second}
-use Rattle.lower_rules.proofs.MadeForms.{fit_as}
+use Rattle.made_goals.proofs.exported.MadeGoals.{fit_as}
 use Rattle.lower_rules.proofs.ReadyPairs.{goal_few, goal_named, limited_step, loop_ready, none_ready, turn_ready}
 
 first_of : (f : Form) (rest : List Form) → Contains (f ∷ rest) f

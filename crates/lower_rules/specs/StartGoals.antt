@@ -13,7 +13,7 @@ use Rattle.heylo_formula.specs.declared.values.Val.{Val}
 use Rattle.heyvl_acts.specs.Acts.{Acts, TypedProcedure, variables}
 use Rattle.heyvl_acts.specs.Forward.{forward}
 use Rattle.heyvl_acts.specs.Upward.{upward}
-use Rattle.ranking_rule.specs.MadeGoals.{goal_over}
+use Rattle.made_goals.specs.MadeGoals.{goal_over}
 use Rattle.ranking_rule.specs.RankingGoals.{generated}
 use Rattle.run_machine.specs.Bound.{IsState}
 

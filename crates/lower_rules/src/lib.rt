@@ -2,13 +2,13 @@
 #![tactic(auto)]
 
 mod answers;
-mod copies;
 mod decisions;
 mod input_bounds;
 mod laws;
 mod omega_goals;
 mod omegas;
 mod pair_answers;
+mod pair_variables;
 mod pairs;
 mod placed_forms;
 mod remainder_answers;
@@ -18,7 +18,6 @@ mod shapes;
 mod start_goals;
 mod step_goals;
 mod step_sides;
-mod upper_goals;
 mod verdicts;
 
 pub use answers::{Omega, Step};

@@ -12,7 +12,7 @@ ghost use Rattle.lower_rules.specs.StartGoals.{start_goal};
 ghost use Rattle.verdict_report.specs.VerdictsOn.{IsVerdictOn, IsVerdictOnLoop};
 ghost use Rattle.lower_rules.specs.internal.Parts.{IsPairAs};
 ghost use Rattle.lower_rules.specs.internal.StartDecisions.{IsStarted, answer_by};
-ghost use Rattle.ranking_rule.specs.MadeGoals.{IsMadeWithin};
+ghost use Rattle.vp_generator.specs.PrenexedGoals.{IsMadeWithin};
 ghost use Rattle.ranking_rule.specs.RankingGoals.{generated};
 ghost use Rattle.run_machine.specs.Bound.{Bound};
 ghost use Rattle.std.specs.Prelude.{IfOk, List, length, ℕ, ◌<◌, ◌^◌, ◌≡◌};

@@ -3,19 +3,19 @@
 ghost use Rattle.heylo_formula.specs.BinderNames.{binders};
 ghost use Rattle.heylo_formula.specs.PlainTrees.{form_of};
 ghost use Rattle.heyvl_acts.specs.PlainActs.{acts_of, variable_of};
+ghost use Rattle.heyvl_acts.specs.Rules.{AreNamed};
 ghost use Rattle.heyvl_acts.specs.Upward.{upward};
-ghost use Rattle.ranking_rule.specs.MadeGoals.{IsMadeWithin, goal_over};
+ghost use Rattle.made_goals.specs.MadeGoals.{goal_over};
 ghost use Rattle.std.specs.Prelude.{IfOk, length, map, true, ◌<◌, ◌^◌};
 ghost use Rattle.vp_generator.specs.Fit.{AreFit};
 ghost use Rattle.vp_generator.specs.GeneratedForms.{vp};
-ghost use Rattle.heyvl_acts.specs.Rules.{AreNamed};
+ghost use Rattle.vp_generator.specs.PrenexedGoals.{IsMadeWithin};
 
-use crate::copies::copied;
 use heylo_formula::{Form, Made};
 use heyvl_acts::{Act, VarInfo};
+use made_goals::generated_goal;
 use ranking_rule::upward;
 use std::alloc::{AllocError, Global};
-use vp_generator::{VpStop, goal_of_forms, vp};
 
 /// The goal that states a bound over these variables and finds what acts, taken upward, make of a ranking; or the limit that the
 /// form with its binders passes.
@@ -32,20 +32,5 @@ pub(crate) fn start_goal(
     ensures { let found = vp (upward (acts_of front.now)) (form_of ranking.now) in IfOk result (λ made. IsMadeWithin found (goal_over true (map variable_of vars.now) (form_of bound.now) found) made) }
 {
     let acts = upward(alloc, front)?;
-    match vp(alloc, &acts, ranking.copy(alloc)?) {
-        Ok(generated) => goal_over(alloc, vars, bound, generated),
-        Err(VpStop::Depth) => Ok(Made::Depth),
-        Err(VpStop::Nodes) => Ok(Made::Nodes),
-        Err(VpStop::Memory(error)) => Err(error),
-    }
-}
-
-/// The goal that states a bound over these variables and finds this form.
-fn goal_over(alloc: Global, vars: &[VarInfo], bound: &Form, found: Form) -> Result<Made, AllocError>
-    requires few { length vars.now < 2 ^ 30 }
-    requires named { AreNamed (length vars.now) (binders (form_of found)) }
-    ensures { IfOk result (λ made. IsMadeWithin (form_of found) (goal_over true (map variable_of vars.now) (form_of bound.now) (form_of found)) made) }
-{
-    let own = copied(alloc, vars)?;
-    goal_of_forms(alloc, true, bound.copy(alloc)?, found, own)
+    generated_goal(alloc, true, vars, bound, &acts, ranking)
 }

@@ -11,10 +11,11 @@ ghost use Rattle.std.specs.Prelude.{IfOk, length, ◌≡◌};
 ghost use Rattle.vp_generator.specs.Limits.{IsSmall};
 
 use crate::answers::Step;
+use crate::pair_variables::goal_variables;
 use crate::pairs::Pair;
-use crate::upper_goals::{goal_variables, upper_goal};
 use heylo_formula::{Cond, Form, Made, Term};
 use heyvl_num::Ext;
+use made_goals::upper_goal;
 use std::alloc::{AllocError, Global};
 use vp_generator::{generated_form_means_acts, prenexed_form_means_choices};
 

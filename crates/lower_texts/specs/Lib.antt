@@ -1,5 +1,4 @@
 pub mod PlacedCauses
-pub mod GoalNames
 pub mod OmegaTexts
 pub mod RemainderTexts
 pub mod internal

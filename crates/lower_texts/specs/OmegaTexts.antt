@@ -10,7 +10,7 @@ use Rattle.lower_rules.specs.declared.answers.Omega.TheVariants.{Fails, Holds, S
 use Rattle.lower_rules.specs.declared.answers.Omega.{Omega}
 use Rattle.lower_rules.specs.declared.answers.Step.TheVariants.{Base, One, Turn}
 use Rattle.lower_rules.specs.declared.answers.Step.{Step}
-use Rattle.lower_texts.specs.GoalNames.{names_of}
+use Rattle.verdict_report.specs.GoalNames.{names_of_made}
 use Rattle.lower_texts.specs.PlacedCauses.{placed}
 use Rattle.std.specs.Prelude.{List, codes, length, ◌++◌, ◌≡◌, ℕ}
 use Rattle.verdict_report.specs.Causes.{cause_text}
@@ -52,14 +52,14 @@ pub record IsFailsText (ps : List TypedProcedure) (p q : ℕ) (step : Step) (s :
   pub pair : OmegaPair (procedure_at ps p) (procedure_at ps q)
   pub made : Made
   pub is_made : IsStepMade ps p q pair step made
-  pub is : text ≡ step_line (procedure_at ps p).name (codes "fails") step (state_text (names_of made) (places (procedure_at ps p) pair.loop.head) s)
+  pub is : text ≡ step_line (procedure_at ps p).name (codes "fails") step (state_text (names_of_made made) (places (procedure_at ps p) pair.loop.head) s)
 
 -- The line on a goal of which nothing is known, for this cause, in a file with these bytes.
 pub record IsUnknownText (bytes : List ℕ) (ps : List TypedProcedure) (p q : ℕ) (step : Step) (cause : Cause) (text : List ℕ) : Type 0 where
   pub pair : OmegaPair (procedure_at ps p) (procedure_at ps q)
   pub made : Made
   pub is_made : IsStepMade ps p q pair step made
-  pub is : text ≡ step_line (procedure_at ps p).name (codes "unknown") step (cause_text bytes (names_of made) (placed (length bytes) cause))
+  pub is : text ≡ step_line (procedure_at ps p).name (codes "unknown") step (cause_text bytes (names_of_made made) (placed (length bytes) cause))
 
 -- The line on an answer.
 abbrev pub IsOmegaText : List ℕ → List TypedProcedure → ℕ → ℕ → Omega → List ℕ → Type 0

@@ -8,10 +8,10 @@ use Rattle.lower_rules.specs.RemainderPairs.{RemainderPair}
 use Rattle.lower_rules.specs.StartGoals.{start_goal}
 use Rattle.lower_rules.specs.declared.remainder_answers.Remainder.TheVariants.{Fails, Holds, NotRanked, NotVerified, Shape, Unknown}
 use Rattle.lower_rules.specs.declared.remainder_answers.Remainder.{Remainder}
-use Rattle.lower_texts.specs.GoalNames.{names_of}
+use Rattle.verdict_report.specs.GoalNames.{names_of_made}
 use Rattle.lower_texts.specs.PlacedCauses.{placed}
 use Rattle.number_texts.specs.ValueTexts.{fraction_text}
-use Rattle.ranking_rule.specs.MadeGoals.{IsMadeWithin}
+use Rattle.vp_generator.specs.PrenexedGoals.{IsMadeWithin}
 use Rattle.ranking_rule.specs.RankingGoals.{generated}
 use Rattle.std.specs.Prelude.{List, codes, length, ◌++◌, ◌≡◌, ℕ}
 use Rattle.verdict_report.specs.Causes.{cause_text}
@@ -49,14 +49,14 @@ pub record IsFailsText (ps : List TypedProcedure) (p q : ℕ) (s : List Val) (te
   pub pair : RemainderPair (procedure_at ps p) (procedure_at ps q)
   pub made : Made
   pub is_made : IsStartMade ps p q pair made
-  pub is : text ≡ remainder_line (procedure_at ps p).name (codes "fails (start): " ++ state_text (names_of made) (interface_numbers (procedure_at ps p)) s)
+  pub is : text ≡ remainder_line (procedure_at ps p).name (codes "fails (start): " ++ state_text (names_of_made made) (interface_numbers (procedure_at ps p)) s)
 
 -- The line where nothing is known of it, for this cause, in a file with these bytes.
 pub record IsUnknownText (bytes : List ℕ) (ps : List TypedProcedure) (p q : ℕ) (cause : Cause) (text : List ℕ) : Type 0 where
   pub pair : RemainderPair (procedure_at ps p) (procedure_at ps q)
   pub made : Made
   pub is_made : IsStartMade ps p q pair made
-  pub is : text ≡ remainder_line (procedure_at ps p).name (codes "unknown (start): " ++ cause_text bytes (names_of made) (placed (length bytes) cause))
+  pub is : text ≡ remainder_line (procedure_at ps p).name (codes "unknown (start): " ++ cause_text bytes (names_of_made made) (placed (length bytes) cause))
 
 -- The line on an answer.
 abbrev pub IsRemainderText : List ℕ → List TypedProcedure → ℕ → ℕ → Remainder → List ℕ → Type 0

@@ -2,7 +2,6 @@
 #![tactic(auto)]
 
 mod causes;
-mod names;
 mod omega_texts;
 mod remainder_texts;
 mod scopes;

@@ -9,14 +9,13 @@ ghost use Rattle.lower_texts.specs.OmegaTexts.{HasPair, IsFailsText, IsOmegaText
 ghost use Rattle.std.specs.Prelude.{IfOk, OnOk, codes, length, ◌++◌, ◌<◌, ◌^◌, ◌≡◌};
 
 use crate::causes::write_placed;
-use crate::names::names_of;
 use crate::scopes::shown_variables;
 use goal_answers::Cause;
 use heylo_formula::Val;
 use heyvl_acts::Typed;
 use lower_rules::{Omega, Step, omega_goal};
 use std::alloc::{AllocError, Global};
-use verdict_report::write_state;
+use verdict_report::{names_of_made, write_state};
 
 /// Puts which goal it is behind the text.
 fn write_step(text: &mut Vec<u8>, step: Step) -> Result<(), AllocError>
@@ -70,7 +69,7 @@ fn fails_line(
     let procedure = &typed.procs[p as usize];
     let made = omega_goal(alloc, typed, p, q, step)?;
     let shown = shown_variables(alloc, procedure)?;
-    let (names, own) = names_of(&made);
+    let (names, own) = names_of_made(&made);
     let mut text = begun(alloc, procedure.name.as_bytes(), b"fails", step)?;
     write_state(alloc, &mut text, names, own, &shown, state)?;
     text.extend_from_slice(b"\n")?;
@@ -97,7 +96,7 @@ fn unknown_line(
 {
     let procedure = &typed.procs[p as usize];
     let made = omega_goal(alloc, typed, p, q, step)?;
-    let (names, own) = names_of(&made);
+    let (names, own) = names_of_made(&made);
     let mut text = begun(alloc, procedure.name.as_bytes(), b"unknown", step)?;
     write_placed(&mut text, bytes, names, own, cause)?;
     text.extend_from_slice(b"\n")?;

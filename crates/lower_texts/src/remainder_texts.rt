@@ -8,7 +8,6 @@ ghost use Rattle.lower_texts.specs.RemainderTexts.{HasPair, IsFailsText, IsRemai
 ghost use Rattle.std.specs.Prelude.{IfOk, codes, length, ◌++◌, ◌<◌, ◌^◌, ◌≡◌};
 
 use crate::causes::write_placed;
-use crate::names::names_of;
 use goal_answers::Cause;
 use heylo_formula::Val;
 use heyvl_acts::Typed;
@@ -16,7 +15,7 @@ use heyvl_num::Frac;
 use lower_rules::{Remainder, remainder_goal};
 use number_texts::write_fraction;
 use std::alloc::{AllocError, Global};
-use verdict_report::{interface_of, write_state};
+use verdict_report::{interface_of, names_of_made, write_state};
 
 /// The text up to what is said: `P: remainder: ` and this.
 fn begun(alloc: Global, name: &[u8], what: &[u8]) -> Result<Vec<u8>, AllocError>
@@ -65,7 +64,7 @@ fn fails_line(
 {
     let made = remainder_goal(alloc, typed, p, q)?;
     let shown = interface_of(alloc, typed, p)?;
-    let (names, own) = names_of(&made);
+    let (names, own) = names_of_made(&made);
     let name = typed.procs[p as usize].name.as_bytes();
     let mut text = begun(alloc, name, b"fails (start): ")?;
     write_state(alloc, &mut text, names, own, &shown, state)?;
@@ -90,7 +89,7 @@ fn unknown_line(
     ensures { IfOk result (λ text. IsUnknownText bytes.now (procedures_of typed.now) p q cause.now text.items) }
 {
     let made = remainder_goal(alloc, typed, p, q)?;
-    let (names, own) = names_of(&made);
+    let (names, own) = names_of_made(&made);
     let name = typed.procs[p as usize].name.as_bytes();
     let mut text = begun(alloc, name, b"unknown (start): ")?;
     write_placed(&mut text, bytes, names, own, cause)?;

@@ -26,12 +26,12 @@ use Rattle.vp_generator.specs.Over.{GeneratedFormIsOver}
 use Rattle.vp_generator.specs.PrenexedForms.{new_types}
 use Rattle.vp_generator.specs.PrenexedGoals.{HoldsByChoices, PrenexedGoalsFailByChoices, PrenexedGoalsSpeakOfChoices, PrenexedGoalsAreGoals}
 use Rattle.ranking_rule.specs.Laws.{RankingGoalsHold, RankingGoalsFail, RankingGoalsAreGoals, RankingGoalsAreFew}
-use Rattle.ranking_rule.specs.MadeGoals.{all_names}
+use Rattle.made_goals.specs.MadeGoals.{all_names}
 use Rattle.ranking_rule.specs.RankingGoals.{found, generated}
 use Rattle.ranking_rule.specs.Rankings.{RankedLoop, IsRanking, IsNoRanking, after_turn}
 use Rattle.heyvl_acts.specs.Upward.{upward}
 use Rattle.ranking_rule.proofs.FoundForms.{found_binders}
-use Rattle.ranking_rule.proofs.MadeGoals.{all_names_length, new_types_length}
+use Rattle.made_goals.proofs.exported.MadeGoals.{all_names_length, new_types_length}
 use Rattle.ranking_rule.proofs.MadeRankings.{guard_plain}
 use Rattle.ranking_rule.proofs.PrenexedSizes.{nodes_unbound}
 use Rattle.ranking_rule.proofs.RankedActs.{of_head}

@@ -5,7 +5,6 @@ pub mod TurnsBound
 pub mod UpwardCopies
 pub mod BinderFree
 pub mod FoundForms
-pub mod MadeGoals
 pub mod OwnVariables
 pub mod MadeRankings
 pub mod PrenexedSizes

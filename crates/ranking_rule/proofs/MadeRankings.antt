@@ -1,16 +1,16 @@
 -- What the code makes of a loop is made of its ranking.
 use Rattle.std.proofs.Common.{◌≡◌, ◌∙◌, ◌<◌, ◌^◌, ℕ, refl, sym, ap, subst, arith, true, false, List, [], ◌∷◌, ◌++◌, map, length, get_or}
 use Rattle.std.proofs.lemmas.List.{length-map}
-use Rattle.std.specs.Prelude.{Option, Some, None, Result, Ok, Err, IfOk}
+use Rattle.std.proofs.lemmas.Result.{IfOk-weaker}
+use Rattle.std.specs.Prelude.{Option, Some, None, Result, IfOk}
 use Rattle.std.specs.declared.alloc.AllocError.{AllocError}
 use Prim.Native.Nat.{zero, suc}
 use Rattle.heyvl_num.specs.Rational.{Rational}
 use Rattle.heylo_formula.specs.BinderNames.{Binder, binders}
 use Rattle.heylo_formula.specs.Binders.{has_binder_in}
-use Rattle.heylo_formula.specs.Formula.{Cond, Form}
+use Rattle.heylo_formula.specs.Formula.{Form}
 use Rattle.heylo_formula.specs.Goals.{Goal}
 use Rattle.heylo_formula.specs.PlainTrees.{cond_of, form_of}
-use Rattle.heylo_formula.specs.Sizes.{depth, nodes}
 use Rattle.heylo_formula.specs.declared.forms.Form as F
 use Rattle.heylo_formula.specs.declared.goals.Made.{Made}
 use Rattle.heylo_formula.specs.declared.goals.Made.TheVariants as made
@@ -26,10 +26,9 @@ use Rattle.heyvl_acts.specs.declared.typed_trees.TProc.{TProc}
 use Rattle.heyvl_acts.specs.declared.typed_trees.Typed.{Typed}
 use Rattle.heyvl_acts.specs.declared.typed_trees.VarInfo.{VarInfo}
 use Rattle.vp_generator.specs.Fit.{AreFit}
-use Rattle.vp_generator.specs.GeneratedForms.{vp}
-use Rattle.vp_generator.specs.PrenexedGoals.{IsMade, prenexed_goal}
+use Rattle.vp_generator.specs.PrenexedGoals.{IsMadeWithin, prenexed_goal}
 use Rattle.vp_generator.specs.Scopes.{AnysAreBelow, AnysAreBelow_in, GeneratedFormIsNamed}
-use Rattle.ranking_rule.specs.MadeGoals.{IsMadeWithin, all_names, goal_over, names}
+use Rattle.made_goals.specs.MadeGoals.{all_names, goal_over, names}
 use Rattle.ranking_rule.specs.RankingGoals.{IsMadeOf, found, generated, goal}
 use Rattle.act_walks.specs.Lent.{parts_of}
 use Rattle.act_walks.specs.Loops.{loop_in}
@@ -38,7 +37,7 @@ use Rattle.heyvl_acts.specs.Upward.{upward, upward_next, upward_arms}
 use Rattle.ranking_rule.specs.internal.GuardedGoals.{IsTested, with_test}
 use Rattle.heyvl_acts.proofs.exported.Each.{each_at, each_first, each_second}
 use Rattle.ranking_rule.proofs.FoundForms.{found_binders, goal_found}
-use Rattle.ranking_rule.proofs.MadeGoals.{is_made_within}
+use Rattle.made_goals.proofs.exported.MadeGoals.{fit_as, named_as}
 use Rattle.ranking_rule.proofs.OwnVariables.{own_variables}
 use Rattle.ranking_rule.proofs.RankedBodies.{IsTurnAct, body_acts, loop_fits, rank_fits, upward_fit}
 
@@ -96,25 +95,6 @@ tested_made p h b r (made.Goal x) made.Depth g m t = absurd t
 tested_made p h b r (made.Goal x) made.Nodes g m t = absurd t
 tested_made p h b r made.Depth after g m t = subst (IsMadeOf p h b r) (sym t) m
 tested_made p h b r made.Nodes after g m t = subst (IsMadeOf p h b r) (sym t) m
-
-made_of : (p : TypedProcedure) (h : Head) (b : Acts) (r : Rational × Form) (vs : List VarInfo) (before after : Made) → has_binder_in h.guard ≡ false → map variable_of vs ≡ variables p → AreNamed (length vs) (binders (generated b r)) → IsMade true r.1 (generated b r) vs before → IsTested h.guard r.0 before after → IsMadeOf p h b r after
-made_of p h b r vs before after g e n m t = tested_made p h b r before after g (is_made_within true vs (variables p) r.1 (generated b r) before e n m) t
-
-pub each_ok : {A E : Type 0} (P Q : A → Type 0) (r : Result A E) → ((x : A) → P x → Q x) → IfOk r P → IfOk r Q
-each_ok P Q (Ok x) f h = f x h
-each_ok P Q (Err e) f h = tt
-
-pub same_many : (xs ys : List VarInfo) → map variable_of xs ≡ map variable_of ys → length xs ≡ length ys
-same_many xs ys e = sym (length-map xs variable_of) ∙ (ap (λ (l : List Variable). length l) e ∙ length-map ys variable_of)
-
-pub named_as : (n m : ℕ) (f g : Form) → n ≡ m → f ≡ g → AreNamed m (binders g) → AreNamed n (binders f)
-named_as n m f g e i h = subst (λ x. AreNamed n (binders x)) (sym i) (subst (λ k. AreNamed k (binders g)) (sym e) h)
-
-made_as : (s t f g : Form) (vs : List VarInfo) (m : Made) → s ≡ t → f ≡ g → IsMade true s f vs m → IsMade true t g vs m
-made_as s t f g vs m e i h = subst (λ x. IsMade true t x vs m) i (subst (λ x. IsMade true x f vs m) e h)
-
-pub made_over : (p : TypedProcedure) (h : Head) (b : Acts) (g : Cond) (step : Rational) (ranking stated f : Form) (vs own : List VarInfo) (before : Made) (result : Result Made AllocError) → variables p ≡ map variable_of vs → h.guard ≡ g → has_binder_in h.guard ≡ false → generated b (step, ranking) ≡ f → map variable_of own ≡ map variable_of vs → stated ≡ ranking → AreNamed (length own) (binders f) → IsMade true stated f own before → IfOk result (λ after. IsTested g step before after) → IfOk result (λ after. IsMadeOf p h b (step, ranking) after)
-made_over p h b g step ranking stated f vs own before result v i plain w o s n m t = each_ok (λ after. IsTested g step before after) (λ after. IsMadeOf p h b (step, ranking) after) result (λ after k. made_of p h b (step, ranking) own before after plain (o ∙ sym v) (named_as (length own) (length own) (generated b (step, ranking)) f refl w n) (made_as stated ranking f (generated b (step, ranking)) own before s (sym w) m) (subst (λ x. IsTested x step before after) (sym i) k)) t
 
 -- ---- The program's loop
 
@@ -176,25 +156,14 @@ module _ (typed : Typed) (p n : ℕ) (x : TProc) (all : MeetsAllRules typed) (th
       rules : MeetsRules (procedures_of typed) (procedure_at (procedures_of typed) p)
       rules = rules_at typed p all there
 
-      pub is_fit : (acts : Acts) (post : Form) → acts ≡ upward (acts_of one.body.items) → post ≡ form_of ranking → AreFit acts post
-      is_fit acts post e f = subst (λ a. AreFit a post) (sym e) (subst (λ f. AreFit (upward (acts_of one.body.items)) f) (sym f) (loop_fit (procedures_of typed) (procedure_at (procedures_of typed) p) n here rules))
+      pub is_fit : (acts : Acts) → acts ≡ upward (acts_of one.body.items) → AreFit acts (form_of ranking)
+      is_fit acts e = fit_as acts (upward (acts_of one.body.items)) (form_of ranking) (form_of ranking) e refl (loop_fit (procedures_of typed) (procedure_at (procedures_of typed) p) n here rules)
 
       pub are_named : GeneratedFormIsNamed → (form : Form) → form ≡ generated (acts_of one.body.items) (step, form_of ranking) → AreNamed (length x.vars.items) (binders form)
       are_named law form e = named_as (length x.vars.items) (length (variables (procedure_at (procedures_of typed) p))) form (generated (acts_of one.body.items) (step, form_of ranking)) (sym (length-map x.vars.items variable_of) ∙ ap (λ (l : List Variable). length l) (sym vars_are)) e (loop_named (procedures_of typed) (procedure_at (procedures_of typed) p) n here rules law)
 
-      pub is_made : (form : Form) (made : Result Made AllocError) → form ≡ generated (acts_of one.body.items) (step, form_of ranking) → ((q : TypedProcedure) (h : Head) (b : Acts) → variables q ≡ map variable_of x.vars.items → h.guard ≡ cond_of one.guard → has_binder_in h.guard ≡ false → generated b (step, form_of ranking) ≡ form → IfOk made (λ m. IsMadeOf q h b (step, form_of ranking) m)) → (l : RankedLoop (procedure_at (procedures_of typed) p) n) → IfOk made (λ m. IsMadeOf (procedure_at (procedures_of typed) p) l.head l.body l.rank m)
-      is_made form made e f l = each_ok (λ m. IsMadeOf (procedure_at (procedures_of typed) p) (head_of one) (acts_of one.body.items) (step, form_of ranking) m) (λ m. IsMadeOf (procedure_at (procedures_of typed) p) l.head l.body l.rank m) made (λ m. one_loop (procedure_at (procedures_of typed) p) n here l m) (f (procedure_at (procedures_of typed) p) (head_of one) (acts_of one.body.items) vars_are refl (guard_plain (procedures_of typed) (procedure_at (procedures_of typed) p) n here rules) (sym e))
-
-      pub is_limit : (made : Made) → IsMadeOf (procedure_at (procedures_of typed) p) (head_of one) (acts_of one.body.items) (step, form_of ranking) made → (l : RankedLoop (procedure_at (procedures_of typed) p) n) → IsMadeOf (procedure_at (procedures_of typed) p) l.head l.body l.rank made
-      is_limit made h l = one_loop (procedure_at (procedures_of typed) p) n here l made h
-
--- ---- What vp answers
-
-pub vp_is : (a b : Acts) (f g h : Form) → h ≡ vp a f → a ≡ b → f ≡ g → h ≡ vp b g
-vp_is a b f g h e i j = e ∙ (ap (λ x. vp x f) i ∙ ap (λ x. vp b x) j)
-
-pub too_deep : (a b : Acts) (f g : Form) → 1000 < depth (vp a f) → a ≡ b → f ≡ g → 1000 < depth (vp b g)
-too_deep a b f g h i j = subst (λ x. 1000 < depth (vp b x)) j (subst (λ x. 1000 < depth (vp x f)) i h)
-
-pub too_many : (a b : Acts) (f g : Form) → 200000 < nodes (vp a f) → a ≡ b → f ≡ g → 200000 < nodes (vp b g)
-too_many a b f g h i j = subst (λ x. 200000 < nodes (vp b x)) j (subst (λ x. 200000 < nodes (vp x f)) i h)
+      pub is_made : (vs : List VarInfo) (form : Form) (before : Made) (result : Result Made AllocError) → vs ≡ x.vars.items → form ≡ generated (acts_of one.body.items) (step, form_of ranking) → IsMadeWithin form (goal_over true (map variable_of vs) (form_of ranking) form) before → IfOk result (λ after. IsTested (cond_of one.guard) step before after) → (l : RankedLoop (procedure_at (procedures_of typed) p) n) → IfOk result (λ m. IsMadeOf (procedure_at (procedures_of typed) p) l.head l.body l.rank m)
+      is_made vs form before result v e h t l = IfOk-weaker result (λ after. IsTested (cond_of one.guard) step before after) (λ m. IsMadeOf (procedure_at (procedures_of typed) p) l.head l.body l.rank m) (λ after k. one_loop (procedure_at (procedures_of typed) p) n here l after (tested_made (procedure_at (procedures_of typed) p) (head_of one) (acts_of one.body.items) (step, form_of ranking) before after (guard_plain (procedures_of typed) (procedure_at (procedures_of typed) p) n here rules) own k)) t
+        where
+          own : IsMadeWithin (generated (acts_of one.body.items) (step, form_of ranking)) (goal_over true (variables (procedure_at (procedures_of typed) p)) (form_of ranking) (generated (acts_of one.body.items) (step, form_of ranking))) before
+          own = subst (λ f. IsMadeWithin f (goal_over true (variables (procedure_at (procedures_of typed) p)) (form_of ranking) f) before) e (subst (λ us. IsMadeWithin form (goal_over true us (form_of ranking) form) before) (ap (λ l. map variable_of l) v ∙ sym vars_are) h)

@@ -1,7 +1,6 @@
 -- Lemmas that are meant for the proofs of other crates. All else in proofs/ is private to this crate.
 pub mod Each
 pub mod RankedActs
-pub mod MadeGoals
 pub mod PrenexedSizes
 pub mod ReadVariables
 pub mod UpwardActs

@@ -1,5 +1,4 @@
 pub mod Rankings
-pub mod MadeGoals
 pub mod RankingGoals
 pub mod Laws
 pub mod internal

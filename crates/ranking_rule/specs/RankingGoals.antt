@@ -9,7 +9,8 @@ use Rattle.heylo_formula.specs.Goals.{Goal}
 use Rattle.heylo_formula.specs.declared.goals.Made.{Made}
 use Rattle.heyvl_acts.specs.Acts.{Head, Acts, TypedProcedure, variables}
 use Rattle.vp_generator.specs.GeneratedForms.{vp}
-use Rattle.ranking_rule.specs.MadeGoals.{IsMadeWithin, goal_over}
+use Rattle.made_goals.specs.MadeGoals.{goal_over}
+use Rattle.vp_generator.specs.PrenexedGoals.{IsMadeWithin}
 use Rattle.heyvl_acts.specs.Upward.{upward}
 
 -- What the body makes of the ranking.

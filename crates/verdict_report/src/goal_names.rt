@@ -1,7 +1,7 @@
 //! The names of the variables of a goal that was made.
 
 ghost use Rattle.std.specs.Prelude.{◌≡◌};
-ghost use Rattle.verdict_report.specs.GoalNames.{is_same, names_of};
+ghost use Rattle.verdict_report.specs.GoalNames.{is_same, names_of, names_of_made};
 ghost use Rattle.verdict_report.specs.Settings.{named_by};
 
 use goal_answers::NamedGoal;
@@ -22,6 +22,16 @@ fn is_same(first: GoalId, second: GoalId) -> bool
     }
 }
 
+/// The names of the variables of what was made, by number, and how many of the first weren't binders; none where there is no goal.
+pub fn names_of_made(made: &Made) -> (&[Name], u32)
+    ensures { named_by result.0.now result.1 ≡ names_of_made made.now }
+{
+    match made {
+        Made::Goal(goal) => (&goal.names, goal.own),
+        Made::Depth | Made::Nodes => (&[], 0),
+    }
+}
+
 /// The names of the variables of the procedure's goal among those that were made, and how many of the first weren't binders.
 pub(crate) fn names_of(made: &[NamedGoal], proc: u32, id: GoalId) -> (&[Name], u32)
     ensures { named_by result.0.now result.1 ≡ names_of proc id made.now }
@@ -29,10 +39,7 @@ pub(crate) fn names_of(made: &[NamedGoal], proc: u32, id: GoalId) -> (&[Name], u
     let mut rest = made;
     'made: while let Some((goal, more)) = rest.split_first() {
         if goal.proc == proc && is_same(goal.id, id) {
-            return match &goal.made {
-                Made::Goal(goal) => (&goal.names, goal.own),
-                Made::Depth | Made::Nodes => (&[], 0),
-            };
+            return names_of_made(&goal.made);
         }
         rest = more;
     }

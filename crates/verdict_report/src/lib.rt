@@ -13,6 +13,7 @@ mod verdicts;
 pub use answers::{Answer, LoopAnswer, RankVerdict, Verdict};
 pub use causes::write_cause;
 pub use goal_answers::{Miss, NamedGoal};
+pub use goal_names::names_of_made;
 pub use loops::interface_of;
 pub use reports::report;
 pub use states::write_state;

@@ -1,5 +1,5 @@
 -- Inequalities over choice trees, and the goals without binders that say the same. This project's own.
-use Rattle.std.specs.Prelude.{◌≡◌, ◌↔◌, ◌+◌, ◌<◌, ℕ, Bool, false, List, ◌++◌, length, map, take}
+use Rattle.std.specs.Prelude.{◌≡◌, ◌↔◌, ◌+◌, ℕ, Bool, false, List, ◌++◌, length, map, take}
 use Rattle.heylo_formula.specs.Formula.{Form}
 use Rattle.heylo_formula.specs.State.{environment, IsTyped}
 use Rattle.heylo_formula.specs.Choices.{Choices}
@@ -7,7 +7,6 @@ use Rattle.heylo_formula.specs.Meaning.{value}
 use Rattle.heylo_formula.specs.Binders.{has_binder}
 use Rattle.heylo_formula.specs.BinderNames.{binders}
 use Rattle.heylo_formula.specs.Goals.{Goal, Compares, Holds, HoldsIn, goal_of}
-use Rattle.heylo_formula.specs.Sizes.{nodes, depth}
 use Rattle.heylo_formula.specs.TypedGoals.{IsGoal}
 use Rattle.heylo_formula.specs.Typing.{types_in, IsFormula}
 use Rattle.heylo_formula.specs.Variables.{IsOver}
@@ -15,7 +14,7 @@ use Rattle.heylo_formula.specs.declared.goals.Made.{Made}
 use Rattle.heylo_formula.specs.declared.types.Ty.{Ty}
 use Rattle.heylo_formula.specs.declared.values.Val.{Val}
 use Rattle.heyvl_acts.specs.declared.typed_trees.VarInfo.{VarInfo}
-use Rattle.vp_generator.specs.Limits.{IsSmall}
+use Rattle.vp_generator.specs.Limits.{IsSmall, IsTooDeep, IsTooLarge}
 use Rattle.vp_generator.specs.PrenexedForms.{prenexed, new_types}
 use Rattle.vp_generator.specs.Scopes.{named}
 
@@ -53,9 +52,13 @@ types_of_variables vs = map (λ v. v.ty) vs
 abbrev pub names_of_variables : List VarInfo → List (List ℕ)
 names_of_variables vs = map (λ v. v.name) vs
 
--- What is made of two forms over variables: the goal, where the found form with its binders passes no limit, or a limit
--- that it passes.
+-- What is made of a goal for which this form has limits: the goal, where the form with its binders passes none, or a limit that
+-- it passes.
+abbrev pub IsMadeWithin : Form → Goal → Made → Type 0
+IsMadeWithin f g (Made.Goal h) = (goal_of h ≡ g) × IsSmall f
+IsMadeWithin f g Made.Depth = IsTooDeep f
+IsMadeWithin f g Made.Nodes = IsTooLarge f
+
+-- What is made of two forms over variables: their goal, within the limits of the found form.
 abbrev pub IsMade : Bool → Form → Form → List VarInfo → Made → Type 0
-IsMade up stated found vs (Made.Goal g) = (goal_of g ≡ prenexed_goal up (types_of_variables vs) (names_of_variables (named vs (binders found))) stated found) × IsSmall found
-IsMade up stated found vs Made.Depth = 1000 < depth found
-IsMade up stated found vs Made.Nodes = 200000 < nodes found
+IsMade up stated found vs m = IsMadeWithin found (prenexed_goal up (types_of_variables vs) (names_of_variables (named vs (binders found))) stated found) m

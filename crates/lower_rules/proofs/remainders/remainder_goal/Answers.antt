@@ -1,7 +1,7 @@
 use Rattle.heylo_formula.specs.PlainTrees.{form_of}
 use Rattle.heyvl_acts.specs.Acts.{procedure_at}
 use Rattle.heyvl_acts.specs.PlainActs.{acts_of, procedures_of}
-use Rattle.ranking_rule.specs.MadeGoals.{IsMadeWithin}
+use Rattle.vp_generator.specs.PrenexedGoals.{IsMadeWithin}
 use Rattle.ranking_rule.specs.RankingGoals.{generated}
 use Rattle.lower_rules.specs.StartGoals.{start_goal}
 use Rattle.lower_rules.proofs.MadeStarts.{whole_goal}

@@ -3,7 +3,7 @@ use Rattle.heyvl_acts.specs.PlainActs.{procedures_of}
 use Rattle.lower_texts.proofs.Lines.{step_told}
 use Rattle.lower_texts.proofs.Procedures.{name_is}
 use Rattle.lower_texts.proofs.omega_texts.unknown_line.Goals as goal
-use Rattle.lower_texts.specs.GoalNames.{names_of}
+use Rattle.verdict_report.specs.GoalNames.{names_of_made}
 use Rattle.lower_texts.specs.OmegaTexts.{step_text}
 use Rattle.lower_texts.specs.PlacedCauses.{placed}
 use Rattle.std.proofs.Common.{ap, codes, length, ◌++◌, ◌∙◌}
@@ -17,8 +17,8 @@ returns c =
       pair = c.requires.pair;
       made = c.in_ok-made.made;
       is_made = c.in_ok-made.ensures c.requires.pair;
-      is = step_told (procedure_at (procedures_of c.args.typed.now) c.args.p).name (codes "unknown") (step_text c.args.step) (cause_text c.args.bytes.now (names_of c.in_ok-made.made) (placed (length c.args.bytes.now) c.args.cause.now)) _ _ _
+      is = step_told (procedure_at (procedures_of c.args.typed.now) c.args.p).name (codes "unknown") (step_text c.args.step) (cause_text c.args.bytes.now (names_of_made c.in_ok-made.made) (placed (length c.args.bytes.now) c.args.cause.now)) _ _ _
           (rw (c.as_bytes.ensures, name) at c.in_ok-text.ensures)
-          (c.in_ok-write_placed.ensures ∙ ap (λ (n : Names). c.in_ok-text.text.items ++ cause_text c.args.bytes.now n (placed (length c.args.bytes.now) c.args.cause.now)) c.names_of-own.ensures)
+          (c.in_ok-write_placed.ensures ∙ ap (λ (n : Names). c.in_ok-text.text.items ++ cause_text c.args.bytes.now n (placed (length c.args.bytes.now) c.args.cause.now)) c.names_of_made-own.ensures)
           c.in_ok-extend_from_slice.ensures.items;
     }

@@ -1,0 +1,4 @@
+pub mod MadeGoals
+pub mod MadeUpperGoals
+pub mod MadeForms
+pub mod exported

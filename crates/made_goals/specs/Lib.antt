@@ -1,0 +1,2 @@
+pub mod MadeGoals
+pub mod UpperGoals
