@@ -19,7 +19,7 @@ use Rattle.heyvl_types.specs.Files.{first_fault}
 use Rattle.heyvl_types.specs.Findings.{Finding}
 use Rattle.std.proofs.Common.{List, None, Option, Some, ap, length, subst, sym, ◌∙◌, ◌≡◌, ℕ}
 use Rattle.verdict_report.specs.declared.answers.Answer.{Answer}
-use Rattle.verify_core.specs.AnsweredProcedures.{IsAnswered}
+use Rattle.verify_core.specs.AnsweredProcedures.{AreAnswered}
 use Rattle.verify_core.specs.Headline.{IsHeadline}
 
 spelled : (bytes : List ℕ) (file : List Procedure) → IsSource bytes file → Spells bytes file
@@ -43,7 +43,7 @@ counted unique n bytes is other also = ap length (same_file unique bytes other i
 -- What is made of a generated text, from what its parts say.
 pub reported : SpellingIsUnique → (n : ℕ) (bytes lent : List ℕ) (typed : Typed) (answers lent_answers : List Answer) (made : List NamedGoal) (certs : List GoalCert) (text : List ℕ) →
     IsFaultless n (generated_text n) → lent ≡ bytes → bytes ≡ generated_text n → IsTypedSource lent typed →
-    IsAnswered (procedures_of typed) answers made certs → IsHeadline (procedures_of typed) answers → lent_answers ≡ answers → text ≡ summary n lent_answers → IsSummary n answers text
+    AreAnswered (procedures_of typed) answers made certs → IsHeadline (procedures_of typed) answers → lent_answers ≡ answers → text ≡ summary n lent_answers → IsSummary n answers text
 reported unique n bytes lent typed answers lent_answers made certs text none is_lent is_text source answered headline same text_is =
     let all : lent ≡ generated_text n = is_lent ∙ is_text in
     let spells : IsSource (generated_text n) source.file = subst (λ (z : List ℕ). IsSource z source.file) all source.spelled in
@@ -54,7 +54,7 @@ reported unique n bytes lent typed answers lent_answers made certs text none is_
       faultless = source.faultless;
       made = made;
       certs = certs;
-      answered = subst (λ (ps : List TypedProcedure). IsAnswered ps answers made certs) source.same answered;
+      answered = subst (λ (ps : List TypedProcedure). AreAnswered ps answers made certs) source.same answered;
       headline = subst (λ (ps : List TypedProcedure). IsHeadline ps answers) source.same headline;
       text_is = text_is ∙ ap (summary n) same;
     }

@@ -8,7 +8,7 @@ use Rattle.heyvl_syntax.specs.SourceFaults.{IsSource}
 use Rattle.heyvl_types.specs.Files.{first_fault, resolved}
 use Rattle.std.specs.Prelude.{List, None, length, ◌≡◌, ℕ}
 use Rattle.verdict_report.specs.declared.answers.Answer.{Answer}
-use Rattle.verify_core.specs.AnsweredProcedures.{IsAnswered}
+use Rattle.verify_core.specs.AnsweredProcedures.{AreAnswered}
 use Rattle.verify_core.specs.Headline.{IsHeadline}
 
 -- The generated text of n lines spells a file of n procedures without a fault; the answers are those of its goals and keep what the
@@ -20,6 +20,6 @@ pub record IsSummary (n : ℕ) (answers : List Answer) (text : List ℕ) : Type 
   pub faultless : first_fault file ≡ None
   pub made : List NamedGoal
   pub certs : List GoalCert
-  pub answered : IsAnswered (resolved file) answers made certs
+  pub answered : AreAnswered (resolved file) answers made certs
   pub headline : IsHeadline (resolved file) answers
   pub text_is : text ≡ summary n answers

@@ -11,7 +11,7 @@ use Rattle.std.specs.Prelude.{◌^◌}
 use Rattle.verdict_report.specs.PlacedAnswers.{CanReport, IsAnswerPlaced}
 use Rattle.verdict_report.specs.declared.answers.Answer.{Answer}
 use Rattle.goal_answers.specs.declared.named_goals.NamedGoal.{NamedGoal}
-use Rattle.verify_core.specs.AnsweredProcedures.{IsAnswered}
+use Rattle.verify_core.specs.AnsweredProcedures.{AreAnswered}
 
 -- The bytes of a file are few enough to be counted.
 pub short_bytes : (bytes : List ℕ) → length bytes ≤ file_limit → length bytes < 2 ^ 31
@@ -19,7 +19,7 @@ short_bytes bytes short = omega (arith, short)
 
 -- The answers of a file can be reported.
 pub can_report : (bytes : List ℕ) (tree : Typed) (answers : List Answer) (made : List NamedGoal) (certs : List GoalCert) → length bytes < 2 ^ 31 → MeetsAllRules tree
-    → IsAnswered (procedures_of tree) answers made certs → Each (IsAnswerPlaced (length bytes) (length tree.procs.items)) answers → CanReport bytes tree answers
+    → AreAnswered (procedures_of tree) answers made certs → Each (IsAnswerPlaced (length bytes) (length tree.procs.items)) answers → CanReport bytes tree answers
 can_report bytes tree answers made certs short rules answered placed = record {
   short = short;
   rules = rules;

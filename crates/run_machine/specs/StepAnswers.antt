@@ -1,6 +1,6 @@
 -- What the program's step gives: the stored step, which is the answer of the definition, one decision more where one is asked for,
 -- and configurations that meet the condition again.
-use Rattle.std.specs.Prelude.{◌≡◌, ◌+◌, ℕ, List, [], ◌∷◌}
+use Rattle.std.specs.Prelude.{◌≡◌, ◌+◌, ℕ, List, ◌∷◌}
 use Rattle.heyvl_acts.specs.Acts.{Act, TypedProcedure}
 use Rattle.heyvl_acts.specs.Rules.{Each}
 use Rattle.run_machine.specs.declared.configurations.Stepped.{Stepped}

@@ -28,7 +28,7 @@ use Rattle.verify_core.specs.NumberedLists.{AllNumbered}
 use Rattle.verify_core.specs.Questions.{IsGoalOf, goal, question}
 use Rattle.verify_core.specs.Rankings.{IsRankingGoal, ranked_loops}
 use Rattle.verify_core.proofs.CertOrder.{one_tree}
-use Rattle.verify_core.proofs.MadeGoals.{AreAlike, made_alike}
+use Rattle.verify_core.proofs.MadeGoals.{MadeAlike, made_alike}
 use Rattle.verify_core.proofs.ServedGoals.{proofs_are_accepted}
 
 same_some : {A : Type 0} (a b : A) → Some a ≡ Some b → a ≡ b
@@ -43,7 +43,7 @@ same_loop p n k l m i =
     let rank : k.rank ≡ l.rank = same_some k.rank l.rank (sym k.ranked ∙ (ap (λ (x : Head). x.rank) head ∙ l.ranked)) in
     subst (λ x. ranking.IsMadeOf p x l.body l.rank m) head (subst (λ x. ranking.IsMadeOf p k.head x l.rank m) body (subst (λ x. ranking.IsMadeOf p k.head k.body x m) rank i))
 
-never_refused : NeverBoth → (m n : Made) (t : Tree) (place : List Bool) → AreAlike m n → Certifies m t → IsRefusedAt n t place → ⊥
+never_refused : NeverBoth → (m n : Made) (t : Tree) (place : List Bool) → MadeAlike m n → Certifies m t → IsRefusedAt n t place → ⊥
 never_refused law (made.Goal g) (made.Goal h) t place e c r = law (goal_of g) t place c (subst (λ x. IsNoCertificate x t place) (sym e) r)
 never_refused law (made.Goal g) made.Depth t place e c r = e
 never_refused law (made.Goal g) made.Nodes t place e c r = e
@@ -57,7 +57,7 @@ has_moved certs p q i j t e f h = subst (λ x. HasTree certs x j t) e (subst (λ
 record AreOneGoal (g h : NamedGoal) : Type 0 where
   proc : g.proc ≡ h.proc
   id_of : g.id ≡ h.id
-  alike : AreAlike g.made h.made
+  alike : MadeAlike g.made h.made
 
 no_miss : NeverBoth → (certs : List GoalCert) (g : NamedGoal) (c : CheckedGoal) → IsGrowingAfter None (certificates_of certs) → AreOneGoal g c.goal → IsMissOf certs c.goal c.miss → IsGoalAccepted certs g → (m : Option Miss) → c.miss ≡ m → c.miss ≡ None
 no_miss law certs g c o x y a None e = e

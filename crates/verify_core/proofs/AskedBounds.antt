@@ -12,7 +12,8 @@ use Rattle.heylo_formula.specs.declared.goals.GoalId.TheVariants.{Pre, Post, Inv
 use Rattle.heyvl_acts.specs.Acts.{Act, TypedProcedure, acts_in, variables}
 use Rattle.heyvl_acts.specs.Places.{in_order}
 use Rattle.heyvl_acts.specs.Rules.{AreNamed, Each, HasNamedBinders, IsTypedAct, MeetsRules, counted, loop_numbers}
-use Rattle.loop_encodings.specs.BoundGoals.{invariant_in}
+use Rattle.act_walks.specs.Loops.{loop_in}
+use Rattle.loop_encodings.specs.BoundGoals.{invariant_at, invariant_in}
 use Rattle.verify_core.specs.Questions.{form_or_zero, one_bound, question}
 use Rattle.verify_core.specs.declared.bound_questions.Asked as declared
 use Rattle.verify_core.specs.internal.BoundQuestions.{Asked, IsAsked, asked, asked_invariants, plain}
@@ -55,8 +56,8 @@ module _ (ps : List TypedProcedure) (p : TypedProcedure) where
   found_from from (suc n) (Act.loop h b ∷ rest) e t =
       let k : h.number ≡ from = cc in
       let r : loop_numbers rest ≡ counted (suc from) n = cc in (
-        record { number = h.number; item = h.inv; least = omega (arith, k); found = own_number h.number h.inv (invariant_in h.number rest); says = record { id = refl; form = refl; plain = t.0.inv.1 } },
-        further invariant_in IsInvariant from rest (Act.loop h b ∷ rest) (asked_invariants rest) (λ m l. ap (λ i. cond (i == m) (Some h.inv) (invariant_in m rest)) k ∙ other_number from m h.inv (invariant_in m rest) l) (found_from (suc from) n rest r t.1),
+        record { number = h.number; item = h.inv; least = omega (arith, k); found = ap invariant_at (own_number h.number (h, b) (loop_in h.number rest)); says = record { id = refl; form = refl; plain = t.0.inv.1 } },
+        further invariant_in IsInvariant from rest (Act.loop h b ∷ rest) (asked_invariants rest) (λ m l. ap invariant_at (ap (λ i. cond (i == m) (Some (h, b)) (loop_in m rest)) k ∙ other_number from m (h, b) (loop_in m rest) l)) (found_from (suc from) n rest r t.1),
       )
   found_from from n (Act.set x u span ∷ rest) e t = same_from invariant_in IsInvariant from rest (Act.set x u span ∷ rest) (asked_invariants rest) (λ m. refl) (found_from from n rest e t.1)
   found_from from n (Act.draw x qs span ∷ rest) e t = same_from invariant_in IsInvariant from rest (Act.draw x qs span ∷ rest) (asked_invariants rest) (λ m. refl) (found_from from n rest e t.1)

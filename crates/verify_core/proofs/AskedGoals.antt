@@ -17,7 +17,8 @@ use Rattle.heylo_formula.proofs.exported.Agreement.{same_types}
 use Rattle.heyvl_acts.specs.Acts.{Act, TypedProcedure, Variable, acts_in, procedure_at, type_list, types_of, variables}
 use Rattle.heyvl_acts.specs.Places.{in_order}
 use Rattle.heyvl_acts.specs.Rules.{Each, IsTypedAct, MeetsRules}
-use Rattle.loop_encodings.specs.BoundGoals.{invariant_in}
+use Rattle.act_walks.specs.Loops.{loop_in}
+use Rattle.loop_encodings.specs.BoundGoals.{invariant_at, invariant_in}
 use Rattle.loop_encodings.specs.Encoding.{all_variables, encoding}
 use Rattle.loop_encodings.specs.EncodingLaws.{EncodingIsOver}
 use Rattle.loop_encodings.specs.Fresh.{fresh}
@@ -28,13 +29,13 @@ use Rattle.vp_generator.specs.Over.{GeneratedFormIsOver}
 use Rattle.vp_generator.specs.PrenexedForms.{new_types}
 use Rattle.vp_generator.specs.PrenexedGoals.{PrenexedGoalsAreGoals}
 use Rattle.ranking_rule.specs.Laws.{IsFew}
-use Rattle.ranking_rule.specs.MadeGoals.{all_names}
+use Rattle.made_goals.specs.MadeGoals.{all_names}
 use Rattle.verify_core.specs.Questions.{Question, form_or_zero, goal, one_bound, question}
 use Rattle.loop_encodings.proofs.exported.EncodedTypes.{encoding_fits, front_same, post_fits}
 use Rattle.loop_encodings.proofs.exported.Counts.{few_fresh}
 use Rattle.loop_encodings.proofs.exported.FromRules.{each_at}
 use Rattle.ranking_rule.proofs.exported.ReadVariables.{ReadsFirst, all_read}
-use Rattle.ranking_rule.proofs.exported.MadeGoals.{all_names_length, new_types_length}
+use Rattle.made_goals.proofs.exported.MadeGoals.{all_names_length, new_types_length}
 use Rattle.ranking_rule.proofs.exported.PrenexedSizes.{nodes_unbound}
 
 -- ---- What a question asks of its formulas
@@ -85,7 +86,7 @@ proper_bound p f few h o = record {
 -- An invariant of the acts is a formula over the procedure's variables.
 proper_invariant : (ps : List TypedProcedure) (p : TypedProcedure) (n : ℕ) (acts : List Act) → Each (IsTypedAct ps p) acts → Each (ReadsFirst (length (variables p))) acts → IsFormula (types_of p) (form_or_zero (invariant_in n acts)) × IsOver (length (variables p)) (form_or_zero (invariant_in n acts))
 proper_invariant ps p n [] t o = (zero_unsigned (types_of p), λ y e. absurd (cc))
-proper_invariant ps p n (Act.loop h b ∷ rest) t o = elim (h.number == n) as (λ c. IsFormula (types_of p) (form_or_zero (if c then Some h.inv else invariant_in n rest)) × IsOver (length (variables p)) (form_or_zero (if c then Some h.inv else invariant_in n rest))) [ true ↦ (t.0.inv.0, o.0.0) | false ↦ proper_invariant ps p n rest t.1 o.1 ]
+proper_invariant ps p n (Act.loop h b ∷ rest) t o = elim (h.number == n) as (λ c. IsFormula (types_of p) (form_or_zero (invariant_at (if c then Some (h, b) else loop_in n rest))) × IsOver (length (variables p)) (form_or_zero (invariant_at (if c then Some (h, b) else loop_in n rest)))) [ true ↦ (t.0.inv.0, o.0.0) | false ↦ proper_invariant ps p n rest t.1 o.1 ]
 proper_invariant ps p n (Act.set x u span ∷ rest) t o = proper_invariant ps p n rest t.1 o.1
 proper_invariant ps p n (Act.draw x qs span ∷ rest) t o = proper_invariant ps p n rest t.1 o.1
 proper_invariant ps p n (Act.toss x f span ∷ rest) t o = proper_invariant ps p n rest t.1 o.1

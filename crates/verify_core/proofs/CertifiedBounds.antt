@@ -11,7 +11,7 @@ use Rattle.heylo_formula.specs.declared.goals.GoalId.TheVariants.{Main}
 use Rattle.heyvl_acts.specs.Acts.{TypedProcedure, procedure_at}
 use Rattle.heyvl_acts.specs.Rules.{Each, MeetsRules}
 use Rattle.loop_encodings.specs.BoundGoals.{GoalHolds, bound_goals}
-use Rattle.loop_encodings.specs.Law.{IsShown, ShownBoundsHold}
+use Rattle.bounded_runs.specs.Law.{IsShown, ShownBoundsHold}
 use Rattle.verdict_report.specs.declared.answers.Answer.{Answer}
 use Rattle.goal_answers.specs.declared.misses.Miss.{Miss}
 use Rattle.verdict_report.specs.declared.answers.Verdict.{Verdict}

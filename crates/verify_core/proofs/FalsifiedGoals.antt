@@ -29,7 +29,7 @@ use Rattle.region_split.specs.Meanings.{Fails}
 use Rattle.goal_answers.specs.declared.decisions.Decision.{Decision}
 use Rattle.goal_answers.specs.declared.decisions.Decision.TheVariants.{Proved, Falsified, Unknown}
 use Rattle.goal_answers.specs.declared.named_goals.NamedGoal.{NamedGoal}
-use Rattle.ranking_rule.specs.MadeGoals.{all_names}
+use Rattle.made_goals.specs.MadeGoals.{all_names}
 use Rattle.run_machine.specs.Bound.{IsState}
 use Rattle.verify_core.specs.GoalDecisions.{AreDecided, DecidedGoal, IsDecisionOf, falsified, first_falsified, or_else}
 use Rattle.verify_core.specs.Headline.{IsFalsifiedIn}

@@ -4,7 +4,7 @@ use Rattle.goal_answers.specs.declared.trees.GoalCert.{GoalCert}
 use Rattle.heyvl_acts.specs.Acts.{TypedProcedure}
 use Rattle.verdict_report.specs.declared.answers.Answer.{Answer}
 use Rattle.goal_answers.specs.declared.named_goals.NamedGoal.{NamedGoal}
-use Rattle.verify_core.specs.AnsweredProcedures.{AreAnswers, IsAnswered}
+use Rattle.verify_core.specs.AnsweredProcedures.{AreAnswers, AreAnswered}
 use Rattle.verify_core.specs.GoalDecisions.{DecidedGoal}
 use Rattle.verify_core.specs.declared.outcomes.ProcedureOutcome.{ProcedureOutcome}
 use Rattle.verify_core.specs.internal.Marks.{AreMarks, marks}
@@ -21,7 +21,7 @@ settled_length ps os cs s = outcomes_length ps s.table s.ranks os s.outcomes_of
 pub answers_of_table : (ps : List TypedProcedure) (os : List ProcedureOutcome) (cs : List GoalCert) (ms : List Bool) (all : List Answer) (s : AreSettled ps os cs) → ms ≡ marks ps os → ((table ranks : List (List DecidedGoal)) → AreOutcomes ps table ranks os → AreMarks ps table ms → AreAnswers ps table ranks 0 ps all) → AreAnswers ps s.table s.ranks 0 ps all
 answers_of_table ps os cs ms all s e h = h s.table s.ranks s.outcomes_of (are_marks ps s.table s.ranks os ms s.outcomes_of e)
 
-pub is_answered : (ps : List TypedProcedure) (os : List ProcedureOutcome) (cs : List GoalCert) (all : List Answer) (none made : List NamedGoal) (s : AreSettled ps os cs) → AreAnswers ps s.table s.ranks 0 ps all → none ≡ [] → made ≡ none ++ all_told_by os → IsAnswered ps all made cs
+pub is_answered : (ps : List TypedProcedure) (os : List ProcedureOutcome) (cs : List GoalCert) (all : List Answer) (none made : List NamedGoal) (s : AreSettled ps os cs) → AreAnswers ps s.table s.ranks 0 ps all → none ≡ [] → made ≡ none ++ all_told_by os → AreAnswered ps all made cs
 is_answered ps os cs all none made s h n e = record {
   table = s.table;
   ranks = s.ranks;

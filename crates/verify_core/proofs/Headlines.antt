@@ -19,7 +19,7 @@ use Rattle.heyvl_acts.specs.Straight.{IsStraight}
 use Rattle.loop_encodings.specs.BoundGoals.{BoundGoalsHold, GoalFails, GoalHolds, bound_goals}
 use Rattle.loop_encodings.specs.Encoding.{all_variables}
 use Rattle.loop_encodings.specs.EncodingLaws.{EncodingIsOver}
-use Rattle.loop_encodings.specs.Law.{BrokenGoalsBreakBounds, IsShown, ShownBoundsHold}
+use Rattle.bounded_runs.specs.Law.{BrokenGoalsBreakBounds, IsShown, ShownBoundsHold}
 use Rattle.verdict_report.specs.declared.answers.Answer.{Answer}
 use Rattle.verdict_report.specs.declared.answers.Verdict.{Verdict}
 use Rattle.verdict_report.specs.declared.answers.Verdict.TheVariants.{Verified, Valid, NotVerified, Unknown, Unchecked, Conditional, NoBody}

@@ -17,7 +17,7 @@ use Rattle.goal_answers.specs.declared.causes.Cause.{Cause}
 use Rattle.goal_answers.specs.declared.causes.Cause.TheVariants as cause
 use Rattle.linear_form.specs.Nonlinear.{nonlinear_product}
 use Rattle.ranking_rule.specs.Laws.{IsFew}
-use Rattle.ranking_rule.specs.MadeGoals.{IsMadeWithin}
+use Rattle.vp_generator.specs.PrenexedGoals.{IsMadeWithin}
 use Rattle.region_split.specs.Meanings.{Fails}
 use Rattle.goal_answers.specs.declared.decisions.Decision.{Decision}
 use Rattle.goal_answers.specs.declared.decisions.Decision.TheVariants.{Proved, Falsified, Unknown}
@@ -39,15 +39,15 @@ decidable f g made.Depth i few h = tt
 decidable f g made.Nodes i few h = tt
 
 -- Where the first is a goal, the second is the same one.
-abbrev pub AreAlike : Made → Made → Type 0
-AreAlike (made.Goal g) (made.Goal h) = goal_of g ≡ goal_of h
-AreAlike (made.Goal g) made.Depth = ⊥
-AreAlike (made.Goal g) made.Nodes = ⊥
-AreAlike made.Depth n = Unit {0}
-AreAlike made.Nodes n = Unit {0}
+abbrev pub MadeAlike : Made → Made → Type 0
+MadeAlike (made.Goal g) (made.Goal h) = goal_of g ≡ goal_of h
+MadeAlike (made.Goal g) made.Depth = ⊥
+MadeAlike (made.Goal g) made.Nodes = ⊥
+MadeAlike made.Depth n = Unit {0}
+MadeAlike made.Nodes n = Unit {0}
 
 -- The same is made twice.
-pub made_alike : (f : Form) (g : Goal) (m n : Made) → IsMadeWithin f g m → IsMadeWithin f g n → AreAlike m n
+pub made_alike : (f : Form) (g : Goal) (m n : Made) → IsMadeWithin f g m → IsMadeWithin f g n → MadeAlike m n
 made_alike f g (made.Goal x) (made.Goal y) a b = a.0 ∙ sym b.0
 made_alike f g (made.Goal x) made.Depth a b = let s = a.1.shallow in omega (arith, s, b)
 made_alike f g (made.Goal x) made.Nodes a b = let s = a.1.few in omega (arith, s, b)

@@ -23,7 +23,7 @@ use Rattle.loop_encodings.specs.EncodingLaws.{EncodingIsOver}
 use Rattle.vp_generator.specs.Laws.{GeneratedFormIsFormula, GeneratedFormMeansActs}
 use Rattle.vp_generator.specs.Over.{GeneratedFormIsOver}
 use Rattle.vp_generator.specs.PrenexedGoals.{HoldsByChoices, PrenexedGoalsSpeakOfChoices}
-use Rattle.ranking_rule.specs.MadeGoals.{all_names}
+use Rattle.made_goals.specs.MadeGoals.{all_names}
 use Rattle.verify_core.specs.GoalLaws.{MadeGoalsSayBounds}
 use Rattle.verify_core.specs.Questions.{Question, form_or_zero, goal, question}
 use Rattle.verify_core.proofs.AskedGoals.{IsProper, proper}

@@ -15,7 +15,8 @@ use Rattle.heyvl_acts.specs.Places.{in_order, inside, inside_arms}
 use Rattle.heyvl_acts.specs.Rules.{Each}
 use Rattle.k_induction.specs.Copies.{copies, if_holds, may, meets, must, no_more}
 use Rattle.linear_form.specs.Nonlinear.{first_product, nonlinear_product}
-use Rattle.loop_encodings.specs.BoundGoals.{invariant_in}
+use Rattle.act_walks.specs.Loops.{loop_in}
+use Rattle.loop_encodings.specs.BoundGoals.{invariant_at, invariant_in}
 use Rattle.loop_encodings.specs.Encoding.{any_block, encoded, encoded_act, encoded_arms, encoded_call, encoded_loop, encoding, gets, havocs, read, sets, tested}
 use Rattle.loop_encodings.specs.Fresh.{fresh, fresh_of_act, fresh_of_arms}
 use Rattle.verify_core.specs.Places.{ActStands, CondStands, FormStands, GuardsStand, StandsWithin, TermStands}
@@ -130,13 +131,13 @@ record QuestionStands (n : ℕ) (q : Question) : Type 0 where
   pub stated : FormStands n q.stated
   pub found : FormStands n q.found
 
-or_next_stands : (n : ℕ) (b : Bool) (f : Form) (o : Option Form) → FormStands n f → FormStands n (form_or_zero o) → FormStands n (form_or_zero (if b then Some f else o))
-or_next_stands n true f o h k = h
-or_next_stands n false f o h k = k
+or_next_stands : (n : ℕ) (t : Bool) (l : Head × Acts) (o : Option (Head × Acts)) → FormStands n l.0.inv → FormStands n (form_or_zero (invariant_at o)) → FormStands n (form_or_zero (invariant_at (if t then Some l else o)))
+or_next_stands n true l o h k = h
+or_next_stands n false l o h k = k
 
 invariant_stands : (n k : ℕ) (acts : List Act) → Each (ActStands n) acts → FormStands n (form_or_zero (invariant_in k acts))
 invariant_stands n k [] h = tt
-invariant_stands n k (Act.loop g b ∷ rest) h = or_next_stands n (g.number == k) g.inv (invariant_in k rest) h.0.1.0 (invariant_stands n k rest h.1)
+invariant_stands n k (Act.loop g b ∷ rest) h = or_next_stands n (g.number == k) (g, b) (loop_in k rest) h.0.1.0 (invariant_stands n k rest h.1)
 invariant_stands n k (Act.set x t span ∷ rest) h = invariant_stands n k rest h.1
 invariant_stands n k (Act.draw x qs span ∷ rest) h = invariant_stands n k rest h.1
 invariant_stands n k (Act.toss x f span ∷ rest) h = invariant_stands n k rest h.1

@@ -48,7 +48,7 @@ AreAnswers ps table ranks p qs answers = AllNumbered (λ k (q : TypedProcedure) 
 
 -- What is answered of a file: for some decisions of its goals, those of bounds and those of rankings, the answers are theirs, the
 -- goals that are told are those whose state or cause is in an answer, and the certificates are those of the proved goals.
-pub record IsAnswered (ps : List TypedProcedure) (answers : List Answer) (made : List NamedGoal) (certs : List GoalCert) : Type 0 where
+pub record AreAnswered (ps : List TypedProcedure) (answers : List Answer) (made : List NamedGoal) (certs : List GoalCert) : Type 0 where
   pub table : List (List DecidedGoal)
   pub ranks : List (List DecidedGoal)
   pub decided : IsTable ps 0 ps table

@@ -10,7 +10,7 @@ use Rattle.heyvl_acts.specs.Places.{in_order}
 use Rattle.heyvl_acts.specs.Program.{IsProgram}
 use Rattle.heyvl_acts.specs.Rules.{Each}
 use Rattle.loop_encodings.specs.BoundGoals.{BoundGoalsHold, GoalFails, goal_variables}
-use Rattle.loop_encodings.specs.Law.{IsBroken}
+use Rattle.bounded_runs.specs.Law.{IsBroken}
 use Rattle.heyvl_acts.specs.Straight.{IsStraight}
 use Rattle.ranking_rule.specs.Rankings.{IsNoRanking, IsRanking, RankedLoop}
 use Rattle.run_machine.specs.Bound.{Bound, IsState, RankedBy}

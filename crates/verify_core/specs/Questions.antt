@@ -11,7 +11,8 @@ use Rattle.heyvl_acts.specs.Acts.{TypedProcedure, Variable, variables, acts_in, 
 use Rattle.heyvl_acts.specs.Places.{in_order}
 use Rattle.loop_encodings.specs.BoundGoals.{invariant_in}
 use Rattle.loop_encodings.specs.Encoding.{all_variables, encoding}
-use Rattle.ranking_rule.specs.MadeGoals.{IsMadeWithin, goal_over}
+use Rattle.made_goals.specs.MadeGoals.{goal_over}
+use Rattle.vp_generator.specs.PrenexedGoals.{IsMadeWithin}
 use Rattle.goal_answers.specs.declared.named_goals.NamedGoal.{NamedGoal}
 use Rattle.vp_generator.specs.GeneratedForms.{vp}
 

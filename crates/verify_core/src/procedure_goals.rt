@@ -5,10 +5,10 @@ ghost use Rattle.heylo_formula.specs.PlainTrees.{form_of};
 ghost use Rattle.heylo_formula.specs.declared.goals.GoalId.{GoalId};
 ghost use Rattle.heylo_formula.specs.declared.goals.GoalId.TheVariants.{Main};
 ghost use Rattle.heyvl_acts.specs.Acts.{procedure_at};
-ghost use Rattle.heyvl_acts.specs.PlainActs.{procedure_of, procedures_of, variable_of};
+ghost use Rattle.heyvl_acts.specs.PlainActs.{procedure_of, procedures_of};
 ghost use Rattle.heyvl_acts.specs.Rules.{AreNamed, Each, MeetsAllRules};
 ghost use Rattle.loop_encodings.specs.BoundGoals.{bound_goals};
-ghost use Rattle.std.specs.Prelude.{IfOk, List, length, map, ◌++◌, ◌<◌, ◌≡◌, ◌^◌};
+ghost use Rattle.std.specs.Prelude.{IfOk, List, length, map, ◌++◌, ◌<◌, ◌^◌};
 ghost use Rattle.verify_core.specs.Questions.{AreGoals, IsMadeOf, one_bound, question};
 ghost use Rattle.verify_core.specs.Rankings.{AreAllGoals};
 ghost use Rattle.verify_core.specs.internal.BoundQuestions.{IsAsked, plain};
@@ -17,11 +17,12 @@ use crate::bound_questions::{Asked, asked_of};
 use crate::rankings::rankings;
 use goal_answers::NamedGoal;
 use heylo_formula::{Form, GoalId, Made, what_substitution_gives};
-use heyvl_acts::{TProc, Typed, VarInfo};
+use heyvl_acts::{TProc, Typed};
 use heyvl_num::Ext;
 use loop_encodings::{encode, encodings_are_over_their_variables};
+use made_goals::{generated_goal, goal_over};
 use std::alloc::{AllocError, Global};
-use vp_generator::{VpStop, generated_form_means_acts, goal_of_forms, vp};
+use vp_generator::generated_form_means_acts;
 
 /// The goals of the procedure: none without a body; else those of its bound, and then one for each of its rankings, in the order
 /// of the text. Want of memory is the one error.
@@ -72,14 +73,14 @@ fn main_goal(alloc: Global, typed: &Typed, p: u32) -> Result<Made, AllocError>
     encodings_are_over_their_variables();
     let procedure = &typed.procs[p as usize];
     let encoded = encode(alloc, typed, p)?;
-    let post = procedure.post.copy(alloc)?;
-    let pre = procedure.pre.copy(alloc)?;
-    match vp(alloc, &encoded.acts, post) {
-        Ok(found) => goal_of_forms(alloc, procedure.co, pre, found, encoded.vars),
-        Err(VpStop::Depth) => Ok(Made::Depth),
-        Err(VpStop::Nodes) => Ok(Made::Nodes),
-        Err(VpStop::Memory(error)) => Err(error),
-    }
+    generated_goal(
+        alloc,
+        procedure.co,
+        &encoded.vars,
+        &procedure.pre,
+        &encoded.acts,
+        &procedure.post,
+    )
 }
 
 /// The goals that formulas of the procedure are at most 1 are appended.
@@ -110,26 +111,6 @@ fn bound_goal(alloc: Global, procedure: &TProc, form: Form) -> Result<Made, Allo
     requires named { AreNamed (length procedure.now.vars.items) (binders (form_of form)) }
     ensures { IfOk result (λ made. IsMadeOf (one_bound (procedure_of procedure.now) (form_of form)) made) }
 {
-    let vars = copied(alloc, &procedure.vars)?;
-    goal_of_forms(alloc, true, Form::Const(Ext::one()), form, vars)
-}
-
-/// Variables of the same names and types.
-fn copied(alloc: Global, all: &[VarInfo]) -> Result<Vec<VarInfo>, AllocError>
-    ensures { IfOk result (λ vars. map variable_of vars.items ≡ map variable_of all.now) }
-{
-    let mut vars = Vec::new(alloc);
-    for variable in all {
-        vars.push(copy_of(alloc, variable)?)?;
-    }
-    Ok(vars)
-}
-
-fn copy_of(alloc: Global, variable: &VarInfo) -> Result<VarInfo, AllocError>
-    ensures { IfOk result (λ made. variable_of made ≡ variable_of variable.now) }
-{
-    Ok(VarInfo {
-        name: variable.name.copy(alloc)?,
-        ty: variable.ty,
-    })
+    let most = Form::Const(Ext::one());
+    goal_over(alloc, true, &procedure.vars, &most, form)
 }

@@ -5,7 +5,7 @@ ghost use Rattle.heyvl_acts.specs.PlainActs.{procedures_of};
 ghost use Rattle.heyvl_acts.specs.Rules.{Each, MeetsAllRules};
 ghost use Rattle.std.specs.Prelude.{IfOk, length, ◌^◌, ℕ};
 ghost use Rattle.verdict_report.specs.PlacedAnswers.{IsAnswerPlaced};
-ghost use Rattle.verify_core.specs.AnsweredProcedures.{IsAnswered};
+ghost use Rattle.verify_core.specs.AnsweredProcedures.{AreAnswered};
 ghost use Rattle.verify_core.specs.Headline.{IsHeadline};
 ghost use Rattle.verify_core.specs.Places.{StandsWithin};
 
@@ -14,10 +14,9 @@ use crate::marks::open_procedures;
 use crate::settled_goals::settle;
 use crate::verdicts::answers;
 use crate::whole::Whole;
+use bounded_runs::{broken_goals_break_bounds, shown_bounds_hold};
 use heyvl_acts::Typed;
-use loop_encodings::{
-    broken_goals_break_bounds, encodings_are_over_their_variables, shown_bounds_hold,
-};
+use loop_encodings::encodings_are_over_their_variables;
 use ranking_rule::{ranking_goals_say_rankings, rankings_bound_turns};
 use std::alloc::{AllocError, Global};
 use vp_generator::{generated_form_means_acts, prenexed_goals_speak_of_choices};
@@ -27,7 +26,7 @@ use vp_generator::{generated_form_means_acts, prenexed_goals_speak_of_choices};
 pub fn verify(alloc: Global, typed: &Typed) -> Result<Whole, AllocError>
     requires rules { MeetsAllRules typed.now }
     requires small { Each (FormsWithin (2 ^ 27)) (procedures_of typed.now) }
-    ensures answered { IfOk result (λ whole. IsAnswered (procedures_of typed.now) whole.answers.items whole.made.items whole.certs.items) }
+    ensures answered { IfOk result (λ whole. AreAnswered (procedures_of typed.now) whole.answers.items whole.made.items whole.certs.items) }
     ensures placed { (bytes : ℕ) → Each (StandsWithin bytes) (procedures_of typed.now) → IfOk result (λ whole. Each (IsAnswerPlaced bytes (length typed.now.procs.items)) whole.answers.items) }
     ensures headline { IfOk result (λ whole. IsHeadline (procedures_of typed.now) whole.answers.items) }
 {
