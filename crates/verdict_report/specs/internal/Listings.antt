@@ -1,11 +1,12 @@
 -- Settings that are listed in two pieces.
 use Rattle.heylo_formula.specs.declared.values.Val.{Val}
-use Rattle.std.specs.Prelude.{Bool, List, false, length, not, true, ◌==◌, ℕ}
+use Rattle.std.specs.Prelude.{Bool, List, [], false, true, ◌∷◌, ℕ}
 use Rattle.verdict_report.specs.Settings.{Names, more_settings_text, settings_text}
 
 -- Whether there is a setting.
 abbrev pub is_some_setting : List (ℕ × Val) → Bool
-is_some_setting ps = not (length ps == 0)
+is_some_setting [] = false
+is_some_setting (p ∷ ps) = true
 
 -- Settings behind others, where others stand there, or alone.
 abbrev pub behind_text : Bool → Names → List (ℕ × Val) → List ℕ
