@@ -21,7 +21,8 @@ use Rattle.vp_generator.specs.PrenexLaws.{PrenexedFormHasNoBinder, PrenexedFormI
 use Rattle.vp_generator.specs.declared.stops.VpStop.{VpStop}
 use Rattle.lower_rules.specs.OmegaGoals.{after_body, after_loop, goal_variables, greater, limited, smaller, step_goal}
 use Rattle.lower_rules.specs.OmegaPairs.{formula_of}
-use Rattle.lower_rules.specs.UpperGoals.{IsMadeFor, upper_goal}
+use Rattle.lower_rules.specs.UpperGoals.{IsMadeFor}
+use Rattle.made_goals.specs.UpperGoals.{upper_goal}
 use Rattle.lower_rules.specs.declared.answers.Step.{Step}
 use Rattle.lower_rules.specs.declared.answers.Step.TheVariants.{One, Base, Turn}
 use Rattle.lower_rules.specs.declared.pairs.Pair.{Pair}
