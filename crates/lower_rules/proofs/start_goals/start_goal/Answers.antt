@@ -10,7 +10,7 @@ pub generated_goal-requires-clause-fit : goal.generated_goal-requires-clause-fit
 generated_goal-requires-clause-fit c = fit_as _ (upward (acts_of c.args.front.now)) _ (form_of c.args.ranking.now) (ap acts_of c.deref.ensures.value ∙ c.in_ok-acts.ensures) refl c.requires.fit
 
 pub generated_goal-requires-clause-named : goal.generated_goal-requires-clause-named
-generated_goal-requires-clause-named c = named_as _ _ (vp _ (form_of c.args.ranking.now)) (vp (upward (acts_of c.args.front.now)) (form_of c.args.ranking.now)) refl (ap (λ a. vp a (form_of c.args.ranking.now)) (ap acts_of c.deref.ensures.value ∙ c.in_ok-acts.ensures)) c.requires.named
+generated_goal-requires-clause-named c = named_as _ _ (vp (acts_of c.deref.result.now) (form_of c.args.ranking.now)) (vp (upward (acts_of c.args.front.now)) (form_of c.args.ranking.now)) refl (ap (λ a. vp a (form_of c.args.ranking.now)) (ap acts_of c.deref.ensures.value ∙ c.in_ok-acts.ensures)) c.requires.named
 
 pub returns : goal.returns
-returns c = made_as true (map variable_of c.args.vars.now) (form_of c.args.bound.now) (vp _ (form_of c.args.ranking.now)) (vp (upward (acts_of c.args.front.now)) (form_of c.args.ranking.now)) c.generated_goal.result (ap (λ a. vp a (form_of c.args.ranking.now)) (ap acts_of c.deref.ensures.value ∙ c.in_ok-acts.ensures)) c.generated_goal.ensures
+returns c = made_as true (map variable_of c.args.vars.now) (form_of c.args.bound.now) (vp (acts_of c.deref.result.now) (form_of c.args.ranking.now)) (vp (upward (acts_of c.args.front.now)) (form_of c.args.ranking.now)) c.generated_goal.result (ap (λ a. vp a (form_of c.args.ranking.now)) (ap acts_of c.deref.ensures.value ∙ c.in_ok-acts.ensures)) c.generated_goal.ensures
