@@ -73,7 +73,7 @@ fn thrown_often(
     ensures { IfOk result (λ i. StandsPlain graph.new i) }
 {
     let mut id = start;
-    for i in 0..times {
+    for _ in 0..times {
         id = thrown(graph, id, half)?;
     }
     Ok(id)
