@@ -1,22 +1,20 @@
--- The goals of a file with what certificates say of them, and what follows from this for a procedure. This project's own.
-use Rattle.std.specs.Prelude.{◌≡◌, ℕ, Bool, List, [], ◌∷◌, Option, Some, None}
-use Rattle.std.specs.List.{AllZip, Contains}
+-- The goals of a file with what certificates say of them. This project's own.
+use Rattle.std.specs.Prelude.{◌≡◌, ℕ, Bool, List, [], Option, Some, None}
+use Rattle.std.specs.List.{Contains}
 use Rattle.farkas_check.specs.AcceptedCertificates.{IsCertificate, IsNoCertificate}
 use Rattle.goal_answers.specs.Trees.{Tree, tree_of}
+use Rattle.goal_answers.specs.declared.misses.Miss.{Miss}
+use Rattle.goal_answers.specs.declared.misses.Miss.TheVariants.{Absent, Place}
+use Rattle.goal_answers.specs.declared.named_goals.NamedGoal.{NamedGoal}
 use Rattle.goal_answers.specs.declared.trees.GoalCert.{GoalCert}
 use Rattle.heylo_formula.specs.Goals.{goal_of}
 use Rattle.heylo_formula.specs.declared.goals.GoalId.{GoalId}
 use Rattle.heylo_formula.specs.declared.goals.Made.{Made}
 use Rattle.heylo_formula.specs.declared.goals.Made.TheVariants as made
-use Rattle.heyvl_acts.specs.Acts.{TypedProcedure, procedure_at}
-use Rattle.heyvl_acts.specs.Program.{IsProgram}
-use Rattle.loop_encodings.specs.BoundGoals.{bound_goals}
-use Rattle.goal_answers.specs.declared.misses.Miss.{Miss}
-use Rattle.goal_answers.specs.declared.misses.Miss.TheVariants.{Absent, Place}
-use Rattle.goal_answers.specs.declared.named_goals.NamedGoal.{NamedGoal}
-use Rattle.verify_core.specs.GoalDecisions.{or_else}
-use Rattle.verify_core.specs.NumberedLists.{AllNumbered, row_at}
-use Rattle.verify_core.specs.Questions.{IsGoalOf}
+use Rattle.heyvl_acts.specs.Acts.{TypedProcedure}
+use Rattle.verify_core.specs.Tables.{AreBoundsFound, AreRankingsFound, GoalWith}
+use Rattle.verify_core.specs.declared.outcomes.Outcome.{Outcome}
+use Rattle.verify_core.specs.declared.outcomes.Outcome.TheVariants.{Proved, Missed}
 
 -- The list has this tree for the goal of a procedure.
 pub record HasTree (certs : List GoalCert) (proc : ℕ) (id : GoalId) (tree : Tree) : Type 0 where
@@ -57,39 +55,19 @@ IsMissOf certs g None = IsGoalAccepted certs g
 IsMissOf certs g (Some Absent) = (t : Tree) → HasTree certs g.proc g.id t → ⊥
 IsMissOf certs g (Some (Place way)) = IsGoalRefused certs g way.items
 
--- A goal, or the limit that its form passes, and why the certificates don't prove it, if they don't.
-pub record CheckedGoal : Type 0 where
-  pub goal : NamedGoal
-  pub miss : Option Miss
+-- A goal and why the certificates don't prove it, if they don't.
+abbrev pub CheckedGoal : Type 0
+CheckedGoal = GoalWith (Option Miss)
 
--- The goal is such a one, and this is why the certificates don't prove it, if they don't.
-pub record HasMiss (Is : NamedGoal → Type 0) (certs : List GoalCert) (c : CheckedGoal) : Type 0 where
-  pub goal : Is c.goal
-  pub miss : IsMissOf certs c.goal c.miss
-
--- The goal with this id of the procedure with the number p, and why the certificates don't prove it, if they don't.
-abbrev pub IsChecked : List TypedProcedure → List GoalCert → ℕ → GoalId → CheckedGoal → Type 0
-IsChecked ps certs p id c = HasMiss (IsGoalOf ps p id) certs c
-
--- One checked goal of the procedure for each id.
-abbrev pub AreChecked : List TypedProcedure → List GoalCert → ℕ → List GoalId → List CheckedGoal → Type 0
-AreChecked ps certs p ids cs = AllZip (IsChecked ps certs p) ids cs
-
--- The checked goals of the procedures of a file, from the number p on; each list has the goals of one procedure's bound.
+-- The checked goals of the procedures' bounds, a list for each procedure from the number p on.
 abbrev pub IsCheckedTable : List TypedProcedure → List GoalCert → ℕ → List TypedProcedure → List (List CheckedGoal) → Type 0
-IsCheckedTable ps certs p qs table = AllNumbered (λ k (q : TypedProcedure) (cs : List CheckedGoal). AreChecked ps certs k (bound_goals q) cs) p qs table
+IsCheckedTable ps certs p qs table = AreBoundsFound (IsMissOf certs) ps p qs table
 
--- A goal that isn't accepted, and why.
-abbrev pub missed : GoalId → Option Miss → Option (GoalId × Miss)
-missed id (Some m) = Some (id, m)
-missed id None = None
+-- The checked goals of their rankings, in the same way.
+abbrev pub IsCheckedRankTable : List TypedProcedure → List GoalCert → ℕ → List TypedProcedure → List (List CheckedGoal) → Type 0
+IsCheckedRankTable ps certs p qs table = AreRankingsFound (IsMissOf certs) ps p qs table
 
--- Which goal isn't accepted first, and why.
-abbrev pub first_miss : List CheckedGoal → Option (GoalId × Miss)
-first_miss [] = None
-first_miss (c ∷ cs) = or_else (missed c.goal.id c.miss) (first_miss cs)
-
--- The procedure is a program, and each of its goals has a certificate.
-pub record IsCertified (ps : List TypedProcedure) (table : List (List CheckedGoal)) (p : ℕ) : Type 0 where
-  pub accepted : first_miss (row_at table p) ≡ None
-  pub program : IsProgram (procedure_at ps p)
+-- What comes of a goal by certificates.
+abbrev pub outcome_of : Option Miss → Outcome
+outcome_of None = Proved
+outcome_of (Some m) = Missed m

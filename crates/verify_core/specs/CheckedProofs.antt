@@ -7,14 +7,12 @@ use Rattle.goal_answers.specs.declared.trees.Tree.{Tree}
 use Rattle.heyvl_acts.specs.Acts.{TypedProcedure}
 use Rattle.heyvl_acts.specs.Rules.{Each, MeetsRules}
 use Rattle.goal_answers.specs.declared.decisions.Decision.TheVariants.{Proved}
-use Rattle.verify_core.specs.CertifiedGoals.{CheckedGoal, IsCheckedTable, IsGoalAccepted}
-use Rattle.verify_core.specs.CheckedRankings.{IsCheckedRankTable}
-use Rattle.verify_core.specs.GoalDecisions.{DecidedGoal, IsTable}
-use Rattle.verify_core.specs.DecidedRankings.{IsRankTable, certified_in_file}
+use Rattle.verify_core.specs.CertifiedGoals.{CheckedGoal, IsCheckedRankTable, IsCheckedTable, IsGoalAccepted}
+use Rattle.verify_core.specs.GoalDecisions.{DecidedGoal, IsRankTable, IsTable, certified_in_file}
 
 -- Where the goal is proved, with a tree, the list has a certificate of it.
 abbrev pub IsServed : List GoalCert → DecidedGoal → Type 0
-IsServed certs d = (t : Tree) → d.decision ≡ Proved (Some t) → IsGoalAccepted certs d.goal
+IsServed certs d = (t : Tree) → d.found ≡ Proved (Some t) → IsGoalAccepted certs d.goal
 
 -- The certificates of decided goals are in the order of a text, and serve each of these.
 pub record AreServed (table ranks : List (List DecidedGoal)) : Type 0 where
@@ -28,7 +26,7 @@ ProofsAreAccepted = (ps : List TypedProcedure) (table ranks : List (List Decided
 
 -- Where the goal is proved, with a tree, nothing is missed of it.
 abbrev pub IsNotMissed : DecidedGoal → CheckedGoal → Type 0
-IsNotMissed d c = (t : Tree) → d.decision ≡ Proved (Some t) → c.miss ≡ None
+IsNotMissed d c = (t : Tree) → d.found ≡ Proved (Some t) → c.found ≡ None
 
 -- So of each goal of a procedure, and so in each procedure.
 abbrev pub NothingIsMissed : List DecidedGoal → List CheckedGoal → Type 0

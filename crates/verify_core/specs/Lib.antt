@@ -1,9 +1,10 @@
 pub mod NumberedLists
-pub mod LoopVerdicts
 pub mod Questions
 pub mod Rankings
+pub mod Tables
+pub mod Outcomes
+pub mod Verdicts
 pub mod GoalDecisions
-pub mod DecidedRankings
 pub mod AnsweredProcedures
 pub mod Headline
 pub mod Places
@@ -11,7 +12,6 @@ pub mod GoalLaws
 pub mod FreshVariables
 pub mod TossProducts
 pub mod CertifiedGoals
-pub mod CheckedRankings
 pub mod CheckedAnswers
 pub mod CheckedProofs
 pub mod internal

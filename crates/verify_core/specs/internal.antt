@@ -1,9 +1,6 @@
 pub mod BoundQuestions
 pub mod SettledGoals
-pub mod Outcomes
-pub mod Rows
+pub mod Own
 pub mod Marks
-pub mod Verdicts
-pub mod OwnRankings
 pub mod CertificateAnswers
 pub mod Decidable

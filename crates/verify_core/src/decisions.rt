@@ -1,38 +1,39 @@
-//! The decisions of goals.
+//! What comes of a goal by its decision.
 
-ghost use Rattle.heyvl_acts.specs.Rules.{Each};
-ghost use Rattle.std.specs.Prelude.{IfOk, map, ◌≡◌};
-ghost use Rattle.verify_core.specs.internal.Decidable.{CanDecide};
+ghost use Rattle.std.specs.Prelude.{IfOk};
 ghost use Rattle.verify_core.specs.GoalDecisions.{IsDecisionOf};
-ghost use Rattle.verify_core.specs.internal.SettledGoals.{IsSettled, TellsOf, plain};
+ghost use Rattle.verify_core.specs.declared.settled_goals.Way.TheVariants.{Decide};
+ghost use Rattle.verify_core.specs.internal.Decidable.{CanDecide};
+ghost use Rattle.verify_core.specs.internal.SettledGoals.{IsSettled, TellsOf};
 
-use goal_answers::{Cause, Decision, NamedGoal};
+use crate::outcomes::Outcome;
+use goal_answers::{Cause, Decision, GoalCert, NamedGoal};
 use heylo_formula::Made;
 use region_split::decide;
 use std::alloc::{AllocError, Global};
 
-/// A goal, or the limit that its form passes, and what is decided of it.
-#[derive(Drop)]
-pub(crate) struct Decided {
-    pub goal: NamedGoal,
-    pub decision: Decision,
-}
-
-/// The goals with their decisions.
-pub(crate) fn decide_all(alloc: Global, goals: Vec<NamedGoal>) -> Result<Vec<Decided>, AllocError>
-    requires { Each (λ g. CanDecide g.made) goals.items }
-    ensures goals { IfOk result (λ all. map (λ d. d.goal) (map plain all.items) ≡ goals.items) }
-    ensures settled { IfOk result (λ all. Each IsSettled (map plain all.items)) }
+/// What comes of the goal by its decision. The certificate of a goal that is proved with a tree is appended.
+pub(crate) fn by_decision(
+    alloc: Global,
+    goal: &NamedGoal,
+    certs: &mut Vec<GoalCert>,
+) -> Result<Outcome, AllocError>
+    requires { CanDecide goal.now.made }
+    ensures { IfOk result (λ outcome. IsSettled Decide goal.now outcome certs.old.items certs.new.items) }
 {
-    let mut all = Vec::new(alloc);
-    for one in goals {
-        let decision = decision_of(alloc, &one.made)?;
-        all.push(Decided {
-            goal: one,
-            decision,
-        })?;
+    match decision_of(alloc, &goal.made)? {
+        Decision::Proved(None) => Ok(Outcome::Proved),
+        Decision::Proved(Some(tree)) => {
+            certs.push(GoalCert {
+                proc: goal.proc,
+                id: goal.id,
+                tree,
+            })?;
+            Ok(Outcome::Proved)
+        }
+        Decision::Falsified(point) => Ok(Outcome::Falsified(point)),
+        Decision::Unknown(cause) => Ok(Outcome::Unknown(cause)),
     }
-    Ok(all)
 }
 
 /// The decision of a goal; where there is none, nothing is known for the limit that its form passes.

@@ -1,91 +1,62 @@
-//! What comes of the goals of procedures.
+//! What comes of goals.
 
-ghost use Rattle.std.specs.Prelude.{IfOk, OnOk, map, ◌++◌, ◌≡◌};
-ghost use Rattle.verify_core.specs.GoalDecisions.{certificate, certificates};
-ghost use Rattle.verify_core.specs.internal.Outcomes.{both, outcome, outcome_of, unless_falsified};
-ghost use Rattle.verify_core.specs.internal.SettledGoals.{plain};
+ghost use Rattle.std.specs.Option.{option_or};
+ghost use Rattle.std.specs.Prelude.{◌≡◌};
+ghost use Rattle.verify_core.specs.Outcomes.{is_falsified, is_open, told};
 
-use crate::decisions::Decided;
-use crate::ranking_outcomes::RankingOutcome;
-use goal_answers::{Cause, Decision, GoalCert, NamedGoal};
+use goal_answers::{Cause, Miss, NamedGoal};
 use heylo_formula::Val;
-use std::alloc::AllocError;
 
-/// What comes of the goals of a procedure.
-#[derive(Drop)]
-pub(crate) struct ProcedureOutcome {
-    /// Of those of its bound.
-    pub(crate) bound: Outcome,
-    /// Of those of its rankings.
-    pub(crate) rankings: RankingOutcome,
-}
-
-/// What comes of the goals of a bound.
+/// What comes of a goal.
 #[derive(Drop)]
 pub(crate) enum Outcome {
-    /// All are proved.
+    /// It is proved.
     Proved,
-    /// This is the first that is falsified, by this state.
-    Falsified(NamedGoal, Vec<Val>),
-    /// None is falsified, and this is the first of which nothing is known, for this cause.
-    Unknown(NamedGoal, Cause),
+    /// It fails in this state.
+    Falsified(Vec<Val>),
+    /// Nothing is known of it, for this cause.
+    Unknown(Cause),
+    /// The certificates don't prove it.
+    Missed(Miss),
 }
 
-/// What comes of the goals. The certificates of those that are proved are appended.
-pub(crate) fn gather(
-    decided: Vec<Decided>,
-    certs: &mut Vec<GoalCert>,
-) -> Result<Outcome, AllocError>
-    ensures outcome { IfOk result (λ o. o ≡ outcome (map plain decided.items)) }
-    ensures certs { OnOk result (certs.new.items ≡ certs.old.items ++ certificates (map plain decided.items)) }
-{
-    let mut sum = Outcome::Proved;
-    for one in decided {
-        let next = outcome_of(one, certs)?;
-        sum = both(sum, next);
-    }
-    Ok(sum)
+/// A goal, and what comes of it.
+#[derive(Drop)]
+pub(crate) struct GoalOutcome {
+    pub(crate) goal: NamedGoal,
+    pub(crate) outcome: Outcome,
 }
 
-/// What comes of one goal. Its certificate is appended, where it is proved.
-pub(crate) fn outcome_of(one: Decided, certs: &mut Vec<GoalCert>) -> Result<Outcome, AllocError>
-    ensures outcome { IfOk result (λ o. o ≡ outcome_of (plain one)) }
-    ensures certs { OnOk result (certs.new.items ≡ certs.old.items ++ certificate (plain one)) }
+/// The first of the goals that is falsified, or else the first that is open.
+pub(crate) fn told(row: Vec<GoalOutcome>) -> Option<GoalOutcome>
+    ensures { result ≡ told row.items }
 {
-    let goal = one.goal;
-    match one.decision {
-        Decision::Proved(None) => Ok(Outcome::Proved),
-        Decision::Proved(Some(tree)) => {
-            certs.push(GoalCert {
-                proc: goal.proc,
-                id: goal.id,
-                tree,
-            })?;
-            Ok(Outcome::Proved)
+    let mut falsified = None;
+    let mut open = None;
+    for one in row {
+        if is_falsified(&one.outcome) {
+            falsified = falsified.or(Some(one));
+        } else if is_open(&one.outcome) {
+            open = open.or(Some(one));
         }
-        Decision::Falsified(point) => Ok(Outcome::Falsified(goal, point)),
-        Decision::Unknown(cause) => Ok(Outcome::Unknown(goal, cause)),
+    }
+    falsified.or(open)
+}
+
+fn is_falsified(outcome: &Outcome) -> bool
+    ensures { result ≡ is_falsified outcome.now }
+{
+    match outcome {
+        Outcome::Falsified(_) => true,
+        _ => false,
     }
 }
 
-/// What comes of some goals and of those behind them.
-fn both(first: Outcome, second: Outcome) -> Outcome
-    ensures { result ≡ both first second }
+fn is_open(outcome: &Outcome) -> bool
+    ensures { result ≡ is_open outcome.now }
 {
-    match first {
-        Outcome::Proved => second,
-        Outcome::Falsified(goal, point) => Outcome::Falsified(goal, point),
-        Outcome::Unknown(goal, cause) => unless_falsified(goal, cause, second),
-    }
-}
-
-/// Nothing is known of a goal, unless one behind it is falsified.
-fn unless_falsified(goal: NamedGoal, cause: Cause, second: Outcome) -> Outcome
-    ensures { result ≡ unless_falsified goal cause second }
-{
-    match second {
-        Outcome::Falsified(other, point) => Outcome::Falsified(other, point),
-        Outcome::Proved => Outcome::Unknown(goal, cause),
-        Outcome::Unknown(_, _) => Outcome::Unknown(goal, cause),
+    match outcome {
+        Outcome::Unknown(_) | Outcome::Missed(_) => true,
+        Outcome::Proved | Outcome::Falsified(_) => false,
     }
 }

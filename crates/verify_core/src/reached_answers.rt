@@ -1,49 +1,48 @@
-//! The answers of procedures from the verdicts on each by itself, with those on their rankings.
+//! The answers on procedures from those on each by itself.
 
-ghost use Rattle.cert_text.specs.Certificates.{IsGrowingAfter, certificates_of};
+ghost use Rattle.heyvl_acts.specs.Acts.{procedure_at};
 ghost use Rattle.heyvl_acts.specs.PlainActs.{procedures_of};
 ghost use Rattle.heyvl_acts.specs.Rules.{MeetsAllRules};
-ghost use Rattle.std.specs.Prelude.{IfOk, None, length, map, ◌<◌, ◌≡◌};
-ghost use Rattle.verify_core.specs.internal.CertificateAnswers.{AreMarkedAnswers, IsMarkedAnswer, IsReachingVerdict, is_unverified, is_verified};
+ghost use Rattle.std.specs.List.{All};
+ghost use Rattle.std.specs.Prelude.{IfOk, List, length, map, ◌<◌, ◌≡◌};
+ghost use Rattle.verify_core.specs.NumberedLists.{row_at};
+ghost use Rattle.verify_core.specs.Verdicts.{AreAnswers, IsAnswer, IsClosed, IsVerdict};
+ghost use Rattle.verify_core.specs.declared.outcomes.GoalOutcome.{GoalOutcome};
+ghost use Rattle.verify_core.specs.internal.Marks.{AreMarks, first_marked, is_unverified, is_verified};
+ghost use Rattle.verify_core.specs.internal.Own.{EachNumbered, IsOwnBy, IsOwnVerdict};
 
-use crate::certificate_verdicts::own_rankings;
-use crate::marks::first_marked;
-use goal_answers::GoalCert;
 use heyvl_acts::Typed;
 use proc_contracts::reach;
 use std::alloc::{AllocError, Global};
 use verdict_report::{Answer, Verdict};
 
-/// The answers: the verdicts, but for the procedures that are verified by themselves and reach one that isn't. A ranking is
-/// answered by its own goal alone.
+/// The answers by themselves, but for the procedures that are verified so and reach one that isn't.
 pub(crate) fn answers(
     alloc: Global,
     typed: &Typed,
-    certs: &[GoalCert],
-    own: Vec<Verdict>,
+    own: Vec<Answer>,
 ) -> Result<Vec<Answer>, AllocError>
-    requires each { length own.items ≡ length typed.now.procs.items }
     requires rules { MeetsAllRules typed.now }
-    requires order { IsGrowingAfter None (certificates_of certs.now) }
-    ensures { IfOk result (λ answers. AreMarkedAnswers (procedures_of typed.now) certs.now (map is_unverified own.items) 0 own.items answers.items) }
+    requires each { length own.items ≡ length typed.now.procs.items }
+    ensures { (table ranks : List (List GoalOutcome)) → EachNumbered (IsOwnBy (procedures_of typed.now) table ranks) 0 own.items → IfOk result (λ all. AreAnswers (procedures_of typed.now) table ranks 0 (procedures_of typed.now) all.items) }
 {
     let marks = marks(alloc, &own)?;
-    let mut answers = Vec::new(alloc);
+    let mut all = Vec::new(alloc);
     let mut p: u32 = 0;
-    for verdict in own {
-        answers.push(answer(alloc, typed, certs, p, verdict, &marks)?)?;
+    for one in own {
+        all.push(answer(alloc, typed, p, one, &marks)?)?;
         p += 1;
     }
-    Ok(answers)
+    Ok(all)
 }
 
 /// Which procedures aren't verified by themselves.
-fn marks(alloc: Global, own: &[Verdict]) -> Result<Vec<bool>, AllocError>
+fn marks(alloc: Global, own: &[Answer]) -> Result<Vec<bool>, AllocError>
     ensures { IfOk result (λ marks. marks.items ≡ map is_unverified own.now) }
 {
     let mut marks = Vec::new(alloc);
-    for verdict in own {
-        marks.push(!is_verified(verdict))?;
+    for one in own {
+        marks.push(!is_verified(&one.verdict))?;
     }
     Ok(marks)
 }
@@ -57,31 +56,44 @@ fn is_verified(verdict: &Verdict) -> bool
     }
 }
 
-/// The answer on a procedure from the verdict on it by itself.
+/// The answer on a procedure from that by itself.
 fn answer(
     alloc: Global,
     typed: &Typed,
-    certs: &[GoalCert],
     p: u32,
-    own: Verdict,
+    own: Answer,
     marks: &[bool],
 ) -> Result<Answer, AllocError>
     requires there { p < length typed.now.procs.items }
-    requires each { length marks.now ≡ length typed.now.procs.items }
     requires rules { MeetsAllRules typed.now }
-    requires order { IsGrowingAfter None (certificates_of certs.now) }
-    ensures { IfOk result (λ answer. IsMarkedAnswer (procedures_of typed.now) certs.now marks.now p own answer) }
+    requires each { length marks.now ≡ length typed.now.procs.items }
+    ensures { (table ranks : List (List GoalOutcome)) → IsOwnBy (procedures_of typed.now) table ranks p own → AreMarks (procedures_of typed.now) table marks.now → IfOk result (λ a. IsAnswer (procedures_of typed.now) table ranks p a) }
 {
-    let verdict = if is_verified(&own) {
-        reaching_verdict(alloc, typed, p, marks)?
-    } else {
-        own
-    };
+    let verdict = verdict_from(alloc, typed, p, own.verdict, marks)?;
     Ok(Answer {
-        name: typed.procs[p as usize].name.copy(alloc)?,
+        name: own.name,
         verdict,
-        loops: own_rankings(alloc, typed, certs, p)?,
+        loops: own.loops,
     })
+}
+
+/// The verdict on a procedure from that by itself.
+fn verdict_from(
+    alloc: Global,
+    typed: &Typed,
+    p: u32,
+    own: Verdict,
+    marks: &[bool],
+) -> Result<Verdict, AllocError>
+    requires there { p < length typed.now.procs.items }
+    requires rules { MeetsAllRules typed.now }
+    requires each { length marks.now ≡ length typed.now.procs.items }
+    ensures { (table : List (List GoalOutcome)) → IsOwnVerdict (procedure_at (procedures_of typed.now) p) (row_at table p) own → AreMarks (procedures_of typed.now) table marks.now → IfOk result (λ v. IsVerdict (procedures_of typed.now) table p v) }
+{
+    match own {
+        Verdict::Verified => reaching_verdict(alloc, typed, p, marks),
+        _ => Ok(own),
+    }
 }
 
 /// Verified, or conditional on the first procedure among those it reaches that is marked.
@@ -92,13 +104,26 @@ fn reaching_verdict(
     marks: &[bool],
 ) -> Result<Verdict, AllocError>
     requires there { p < length typed.now.procs.items }
-    requires each { length marks.now ≡ length typed.now.procs.items }
     requires rules { MeetsAllRules typed.now }
-    ensures { IfOk result (λ verdict. IsReachingVerdict (procedures_of typed.now) marks.now p verdict) }
+    requires each { length marks.now ≡ length typed.now.procs.items }
+    ensures { (table : List (List GoalOutcome)) → IsClosed (procedures_of typed.now) table p → AreMarks (procedures_of typed.now) table marks.now → IfOk result (λ v. IsVerdict (procedures_of typed.now) table p v) }
 {
     let reached = reach(alloc, typed, p)?;
     match first_marked(marks, &reached) {
         Some(q) => Ok(Verdict::Conditional(q)),
         None => Ok(Verdict::Verified),
     }
+}
+
+/// The first of the numbers that is marked.
+fn first_marked(marks: &[bool], numbers: &[u32]) -> Option<u32>
+    requires { All (λ q. q < length marks.now) numbers.now }
+    ensures { result ≡ first_marked marks.now numbers.now }
+{
+    for q in numbers {
+        if marks[*q as usize] {
+            return Some(*q);
+        }
+    }
+    None
 }

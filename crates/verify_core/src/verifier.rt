@@ -1,20 +1,25 @@
 //! The answers of a file.
 
+ghost use Rattle.cert_text.specs.Certificates.{IsGrowingAfter, certificates_of};
 ghost use Rattle.heyvl_acts.specs.FormSizes.{FormsWithin};
 ghost use Rattle.heyvl_acts.specs.PlainActs.{procedures_of};
 ghost use Rattle.heyvl_acts.specs.Rules.{Each, MeetsAllRules};
-ghost use Rattle.std.specs.Prelude.{IfOk, length, ◌^◌, ℕ};
+ghost use Rattle.std.specs.Prelude.{IfOk, None, [], length, ◌≡◌, ◌^◌, ℕ};
 ghost use Rattle.verdict_report.specs.PlacedAnswers.{IsAnswerPlaced};
 ghost use Rattle.verify_core.specs.AnsweredProcedures.{AreAnswered};
+ghost use Rattle.verify_core.specs.CheckedAnswers.{IsCheckedFile};
 ghost use Rattle.verify_core.specs.Headline.{IsHeadline};
 ghost use Rattle.verify_core.specs.Places.{StandsWithin};
+ghost use Rattle.verify_core.specs.internal.Own.{CanAnswer, IsWhole};
 
+use crate::answering::own_answers;
 use crate::laws::made_goals_say_bounds;
-use crate::marks::open_procedures;
-use crate::settled_goals::settle;
-use crate::verdicts::answers;
+use crate::reached_answers::answers;
+use crate::settled_goals::Way;
 use crate::whole::Whole;
 use bounded_runs::{broken_goals_break_bounds, shown_bounds_hold};
+use farkas_check::certified_goals_hold;
+use goal_answers::GoalCert;
 use heyvl_acts::Typed;
 use loop_encodings::encodings_are_over_their_variables;
 use ranking_rule::{ranking_goals_say_rankings, rankings_bound_turns};
@@ -30,7 +35,36 @@ pub fn verify(alloc: Global, typed: &Typed) -> Result<Whole, AllocError>
     ensures placed { (bytes : ℕ) → Each (StandsWithin bytes) (procedures_of typed.now) → IfOk result (λ whole. Each (IsAnswerPlaced bytes (length typed.now.procs.items)) whole.answers.items) }
     ensures headline { IfOk result (λ whole. IsHeadline (procedures_of typed.now) whole.answers.items) }
 {
+    whole_by(alloc, typed, Way::Decide)
+}
+
+/// The answers of the file's procedures, each by the certificates of its own goals, its kind and the procedures that it reaches, and
+/// of the rankings of their loops, each by the certificate of its own goal.
+/// The certificates are in the order of a text. Those of goals that the file doesn't have are not used; of a goal without a form
+/// a certificate is refused at its root. A procedure that is verified has its bound over all runs, and a loop that is ranked that
+/// of its turns. Want of memory is the one error.
+pub fn check_all(alloc: Global, typed: &Typed, certs: &[GoalCert]) -> Result<Whole, AllocError>
+    requires rules { MeetsAllRules typed.now }
+    requires order { IsGrowingAfter None (certificates_of certs.now) }
+    ensures checked { IfOk result (λ whole. IsCheckedFile (procedures_of typed.now) certs.now whole.answers.items) }
+    ensures placed { (bytes : ℕ) → Each (StandsWithin bytes) (procedures_of typed.now) → IfOk result (λ whole. Each (IsAnswerPlaced bytes (length typed.now.procs.items)) whole.answers.items) }
+    ensures headline { IfOk result (λ whole. IsHeadline (procedures_of typed.now) whole.answers.items) }
+    ensures made { IfOk result (λ whole. whole.made.items ≡ []) }
+    ensures certs { IfOk result (λ whole. whole.certs.items ≡ []) }
+{
+    whole_by(alloc, typed, Way::Check(certs))
+}
+
+/// The answers of the file's procedures, where goals are settled in this way.
+fn whole_by(alloc: Global, typed: &Typed, way: Way<'_>) -> Result<Whole, AllocError>
+    requires rules { MeetsAllRules typed.now }
+    requires ready { CanAnswer way (procedures_of typed.now) }
+    ensures whole { IfOk result (λ whole. IsWhole way.entry (procedures_of typed.now) whole.answers.items whole.made.items whole.certs.items) }
+    ensures placed { (bytes : ℕ) → Each (StandsWithin bytes) (procedures_of typed.now) → IfOk result (λ whole. Each (IsAnswerPlaced bytes (length typed.now.procs.items)) whole.answers.items) }
+    ensures headline { IfOk result (λ whole. IsHeadline (procedures_of typed.now) whole.answers.items) }
+{
     made_goals_say_bounds();
+    certified_goals_hold();
     shown_bounds_hold();
     broken_goals_break_bounds();
     encodings_are_over_their_variables();
@@ -39,10 +73,9 @@ pub fn verify(alloc: Global, typed: &Typed) -> Result<Whole, AllocError>
     ranking_goals_say_rankings();
     rankings_bound_turns();
     let mut certs = Vec::new(alloc);
-    let outcomes = settle(alloc, typed, &mut certs)?;
-    let marks = open_procedures(alloc, typed, &outcomes)?;
     let mut made = Vec::new(alloc);
-    let answers = answers(alloc, typed, outcomes, &marks, &mut made)?;
+    let own = own_answers(alloc, typed, way, &mut certs, &mut made)?;
+    let answers = answers(alloc, typed, own)?;
     Ok(Whole {
         answers,
         made,

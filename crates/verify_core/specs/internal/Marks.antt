@@ -1,31 +1,33 @@
 -- The marks of the procedures whose bound isn't shown by their own goals.
-use Rattle.std.specs.Prelude.{◌<◌, ℕ, Bool, true, false, List, [], ◌∷◌, Option, Some, None, length, get_or, is_some, if◌then◌else◌}
+use Rattle.std.specs.Prelude.{◌<◌, ℕ, Bool, true, false, not, List, [], ◌∷◌, Option, Some, None, length, get_or, if◌then◌else◌}
 use Rattle.heyvl_acts.specs.Acts.{TypedProcedure}
-use Rattle.heyvl_acts.specs.Program.{why_no_program}
-use Rattle.verify_core.specs.AnsweredProcedures.{IsClosed}
-use Rattle.verify_core.specs.GoalDecisions.{DecidedGoal, IsOpen}
-use Rattle.verify_core.specs.declared.outcomes.Outcome.{Outcome}
-use Rattle.verify_core.specs.declared.outcomes.Outcome.TheVariants.{Proved, Falsified, Unknown}
-use Rattle.verify_core.specs.declared.outcomes.ProcedureOutcome.{ProcedureOutcome}
+use Rattle.verdict_report.specs.declared.answers.Answer.{Answer}
+use Rattle.verdict_report.specs.declared.answers.Verdict.{Verdict}
+use Rattle.verdict_report.specs.declared.answers.Verdict.TheVariants as verdict
+use Rattle.verify_core.specs.Verdicts.{IsClosed}
+use Rattle.verify_core.specs.declared.outcomes.GoalOutcome.{GoalOutcome}
 
--- It is no program, or not all of its goals are proved.
-abbrev pub is_open : TypedProcedure → Outcome → Bool
-is_open p Proved = is_some (why_no_program p)
-is_open p (Falsified g s) = true
-is_open p (Unknown g c) = true
+-- Its own goals are proved, and it is a program.
+abbrev pub is_verified : Verdict → Bool
+is_verified verdict.Verified = true
+is_verified verdict.NoBody = false
+is_verified (verdict.Unchecked id miss) = false
+is_verified (verdict.Valid why) = false
+is_verified (verdict.NotVerified id s) = false
+is_verified (verdict.Unknown id c) = false
+is_verified (verdict.Conditional q) = false
 
--- The marks of procedures by what comes of their goals.
-abbrev pub marks : List TypedProcedure → List ProcedureOutcome → List Bool
-marks [] os = []
-marks (p ∷ ps) [] = []
-marks (p ∷ ps) (o ∷ os) = is_open p o.bound ∷ marks ps os
+-- The mark of a procedure, by the answer on it by itself.
+abbrev pub is_unverified : Answer → Bool
+is_unverified a = not (is_verified a.verdict)
 
-abbrev pub IsMark : List TypedProcedure → List (List DecidedGoal) → ℕ → Bool → Type 0
-IsMark ps table q true = IsOpen ps table q
+-- Where the mark is set, the procedure isn't closed, and else it is.
+abbrev pub IsMark : List TypedProcedure → List (List GoalOutcome) → ℕ → Bool → Type 0
+IsMark ps table q true = IsClosed ps table q → ⊥
 IsMark ps table q false = IsClosed ps table q
 
 -- The marks tell which procedures are open, and which are closed.
-abbrev pub AreMarks : List TypedProcedure → List (List DecidedGoal) → List Bool → Type 0
+abbrev pub AreMarks : List TypedProcedure → List (List GoalOutcome) → List Bool → Type 0
 AreMarks ps table ms = (q : ℕ) → q < length ps → IsMark ps table q (get_or ms q false)
 
 -- The first of these numbers that is marked.
