@@ -20,10 +20,10 @@ use Rattle.region_split.specs.DecisionLaws.{TreesCertify}
 use Rattle.goal_answers.specs.declared.misses.Miss.{Miss}
 use Rattle.goal_answers.specs.declared.misses.Miss.TheVariants.{Absent, Place}
 use Rattle.goal_answers.specs.declared.named_goals.NamedGoal.{NamedGoal}
-use Rattle.verify_core.specs.CertifiedGoals.{Certifies, CheckedGoal, HasMiss, HasTree, IsGoalAccepted, IsMissOf, IsRefusedAt}
+use Rattle.verify_core.specs.CertifiedGoals.{Certifies, CheckedGoal, HasTree, IsGoalAccepted, IsMissOf, IsRefusedAt}
 use Rattle.verify_core.specs.CheckedProofs.{IsServed, NothingIsMissed, NothingIsMissedThroughout, ProvedGoalsAreAccepted, ProvedRankingsAreAccepted}
-use Rattle.verify_core.specs.GoalDecisions.{DecidedGoal, HasDecision}
-use Rattle.verify_core.specs.DecidedRankings.{certified_in_file}
+use Rattle.verify_core.specs.GoalDecisions.{DecidedGoal, Decides, certified_in_file}
+use Rattle.verify_core.specs.Tables.{HasFound}
 use Rattle.verify_core.specs.NumberedLists.{AllNumbered}
 use Rattle.verify_core.specs.Questions.{IsGoalOf, goal, question}
 use Rattle.verify_core.specs.Rankings.{IsRankingGoal, ranked_loops}
@@ -59,7 +59,7 @@ record AreOneGoal (g h : NamedGoal) : Type 0 where
   id_of : g.id ≡ h.id
   alike : MadeAlike g.made h.made
 
-no_miss : NeverBoth → (certs : List GoalCert) (g : NamedGoal) (c : CheckedGoal) → IsGrowingAfter None (certificates_of certs) → AreOneGoal g c.goal → IsMissOf certs c.goal c.miss → IsGoalAccepted certs g → (m : Option Miss) → c.miss ≡ m → c.miss ≡ None
+no_miss : NeverBoth → (certs : List GoalCert) (g : NamedGoal) (c : CheckedGoal) → IsGrowingAfter None (certificates_of certs) → AreOneGoal g c.goal → IsMissOf certs c.goal c.found → IsGoalAccepted certs g → (m : Option Miss) → c.found ≡ m → c.found ≡ None
 no_miss law certs g c o x y a None e = e
 no_miss law certs g c o x y a (Some Absent) e = absurd (subst (λ m. IsMissOf certs c.goal m) e y a.tree (has_moved certs g.proc c.goal.proc g.id c.goal.id a.tree x.proc x.id_of a.has))
 no_miss law certs g c o x y a (Some (Place way)) e =
@@ -81,15 +81,15 @@ ranking_same ps k n g h x y =
 
 -- ---- The goals of a procedure, and of a file
 
-none_missed : {I : Type 0} (law : NeverBoth) (Is : I → NamedGoal → Type 0) → ((i : I) (g h : NamedGoal) → Is i g → Is i h → AreOneGoal g h) → (certs : List GoalCert) (is : List I) (ds : List DecidedGoal) (cs : List CheckedGoal) → IsGrowingAfter None (certificates_of certs) → AllZip (λ i (d : DecidedGoal). HasDecision (Is i) d) is ds → AllZip (λ i (c : CheckedGoal). HasMiss (Is i) certs c) is cs → Each (IsServed certs) ds → NothingIsMissed ds cs
+none_missed : {I : Type 0} (law : NeverBoth) (Is : I → NamedGoal → Type 0) → ((i : I) (g h : NamedGoal) → Is i g → Is i h → AreOneGoal g h) → (certs : List GoalCert) (is : List I) (ds : List DecidedGoal) (cs : List CheckedGoal) → IsGrowingAfter None (certificates_of certs) → AllZip (λ i (d : DecidedGoal). HasFound (Is i) Decides d) is ds → AllZip (λ i (c : CheckedGoal). HasFound (Is i) (IsMissOf certs) c) is cs → Each (IsServed certs) ds → NothingIsMissed ds cs
 none_missed law Is same certs [] [] [] g x y s = tt
 none_missed law Is same certs [] [] (c ∷ cs) g x y s = absurd y
 none_missed law Is same certs [] (d ∷ ds) cs g x y s = absurd x
 none_missed law Is same certs (i ∷ is) [] cs g x y s = absurd x
 none_missed law Is same certs (i ∷ is) (d ∷ ds) [] g x y s = absurd y
-none_missed law Is same certs (i ∷ is) (d ∷ ds) (c ∷ cs) g x y s = ((λ t e. no_miss law certs d.goal c g (same i d.goal c.goal x.0.goal y.0.goal) y.0.miss (s.0 t e) c.miss refl), none_missed law Is same certs is ds cs g x.1 y.1 s.1)
+none_missed law Is same certs (i ∷ is) (d ∷ ds) (c ∷ cs) g x y s = ((λ t e. no_miss law certs d.goal c g (same i d.goal c.goal x.0.goal y.0.goal) y.0.found (s.0 t e) c.found refl), none_missed law Is same certs is ds cs g x.1 y.1 s.1)
 
-none_missed_throughout : {I : Type 0} (law : NeverBoth) (Is : ℕ → I → NamedGoal → Type 0) (goals : TypedProcedure → List I) → ((k : ℕ) (i : I) (g h : NamedGoal) → Is k i g → Is k i h → AreOneGoal g h) → (certs : List GoalCert) (k : ℕ) (qs : List TypedProcedure) (table : List (List DecidedGoal)) (checked : List (List CheckedGoal)) → IsGrowingAfter None (certificates_of certs) → AllNumbered (λ n q (ds : List DecidedGoal). AllZip (λ i (d : DecidedGoal). HasDecision (Is n i) d) (goals q) ds) k qs table → AllNumbered (λ n q (cs : List CheckedGoal). AllZip (λ i (c : CheckedGoal). HasMiss (Is n i) certs c) (goals q) cs) k qs checked → Each (Each (IsServed certs)) table → NothingIsMissedThroughout table checked
+none_missed_throughout : {I : Type 0} (law : NeverBoth) (Is : ℕ → I → NamedGoal → Type 0) (goals : TypedProcedure → List I) → ((k : ℕ) (i : I) (g h : NamedGoal) → Is k i g → Is k i h → AreOneGoal g h) → (certs : List GoalCert) (k : ℕ) (qs : List TypedProcedure) (table : List (List DecidedGoal)) (checked : List (List CheckedGoal)) → IsGrowingAfter None (certificates_of certs) → AllNumbered (λ n q (ds : List DecidedGoal). AllZip (λ i (d : DecidedGoal). HasFound (Is n i) Decides d) (goals q) ds) k qs table → AllNumbered (λ n q (cs : List CheckedGoal). AllZip (λ i (c : CheckedGoal). HasFound (Is n i) (IsMissOf certs) c) (goals q) cs) k qs checked → Each (Each (IsServed certs)) table → NothingIsMissedThroughout table checked
 none_missed_throughout law Is goals same certs k [] [] [] g x y s = tt
 none_missed_throughout law Is goals same certs k [] [] (cs ∷ checked) g x y s = absurd y
 none_missed_throughout law Is goals same certs k [] (ds ∷ table) checked g x y s = absurd x

@@ -1,6 +1,6 @@
 -- What certificates say of goals, computed: of rankings with one that is accepted, one that is missing and one that is refused; and
 -- of goals of which one is proved.
-use Rattle.std.proofs.Common.{◌≡◌, ◌<◌, ℕ, refl, ap, ◌∙◌, arith, Bool, List, [], ◌∷◌, slice_index_or}
+use Rattle.std.proofs.Common.{◌≡◌, ◌<◌, ℕ, refl, ap, ◌∙◌, arith, sym, Bool, List, [], ◌∷◌, map, slice_index_or}
 use Rattle.std.specs.Prelude.{Some, None, Vec}
 use Rattle.std.specs.declared.alloc.Global.{Global}
 use Prim.Native.Nat.{zero, suc}
@@ -16,13 +16,11 @@ use Rattle.goal_answers.specs.declared.decisions.Decision.TheVariants.{Proved, U
 use Rattle.verdict_report.specs.declared.answers.LoopAnswer.{LoopAnswer}
 use Rattle.goal_answers.specs.declared.misses.Miss.TheVariants.{Absent, Place}
 use Rattle.verdict_report.specs.declared.answers.RankVerdict.TheVariants as rank
-use Rattle.verify_core.specs.CertifiedGoals.{Certifies, CheckedGoal, HasTree, IsMissOf, IsRefusedAt}
+use Rattle.verify_core.specs.CertifiedGoals.{Certifies, CheckedGoal, HasTree, IsCheckedRankTable, IsMissOf, IsRefusedAt, outcome_of}
 use Rattle.verify_core.specs.CheckedProofs.{AreServed, IsServed}
-use Rattle.verify_core.specs.CheckedRankings.{AreRankingsAnswered, IsCheckedRankTable}
-use Rattle.verify_core.specs.GoalDecisions.{DecidedGoal}
-use Rattle.verify_core.specs.DecidedRankings.{certified_in_file}
-use Rattle.verify_core.specs.Rankings.{ranked_loops}
-use Rattle.verify_core.proofs.RankingExamples.{AreMade, goal_named, nested, three_goals}
+use Rattle.verify_core.specs.GoalDecisions.{DecidedGoal, certified_in_file}
+use Rattle.verify_core.specs.Outcomes.{loop_answer, outcomes}
+use Rattle.verify_core.proofs.RankingExamples.{AreMade, first_of, goal_named, nested, none_more, others_of, three_goals}
 
 -- ---- Rankings: the certificates of the loops 1 and 4, where the loops 1, 3 and 4 have a ranking
 
@@ -32,7 +30,7 @@ module _ (t u : T.Tree) (way : Vec Bool Global) (a b c : Made) where
 
   -- The first is accepted, there is none for the second, and the third is refused.
   abbrev row : List CheckedGoal
-  row = (record { goal = goal_named (Ranking 1) a; miss = None }) ∷ ((record { goal = goal_named (Ranking 3) b; miss = Some Absent }) ∷ ((record { goal = goal_named (Ranking 4) c; miss = Some (Place way) }) ∷ []))
+  row = (record { goal = goal_named (Ranking 1) a; found = None }) ∷ ((record { goal = goal_named (Ranking 3) b; found = Some Absent }) ∷ ((record { goal = goal_named (Ranking 4) c; found = Some (Place way) }) ∷ []))
 
   first_tree : HasTree certs 0 (Ranking 1) (tree_of t)
   first_tree = record { cert = record { proc = 0; id = Ranking 1; tree = t }; listed = (0, omega arith, refl); of_procedure = refl; of_goal = refl; its_tree = refl }
@@ -52,10 +50,10 @@ module _ (t u : T.Tree) (way : Vec Bool Global) (a b c : Made) where
   checked m made accepted wrong =
       let goals = three_goals m a b c made in (
         (
-          record { goal = goals.0; miss = record { tree = tree_of t; has = first_tree; certifies = accepted } },
+          record { goal = goals.0; found = record { tree = tree_of t; has = first_tree; certifies = accepted } },
           (
-            record { goal = goals.1.0; miss = no_tree },
-            (record { goal = goals.1.1.0; miss = record { tree = tree_of u; has = third_tree; refused = wrong } }, tt),
+            record { goal = goals.1.0; found = no_tree },
+            (record { goal = goals.1.1.0; found = record { tree = tree_of u; has = third_tree; refused = wrong } }, tt),
           ),
         ),
         tt,
@@ -70,35 +68,39 @@ module _ (t u : T.Tree) (way : Vec Bool Global) (a b c : Made) where
   abbrev refused : LoopAnswer
   refused = record { number = 4; rank = rank.Unchecked (Place way) }
 
-  answered : AreRankingsAnswered (ranked_loops nested) row (ranked ∷ (missing ∷ (refused ∷ [])))
-  answered = ((refl, (refl, (refl, tt))), (refl, (refl, (refl, tt))))
+  -- The answers on the loops.
+  abbrev answers : List LoopAnswer
+  answers = map loop_answer (outcomes outcome_of row)
+
+  answered : answers ≡ ranked ∷ (missing ∷ (refused ∷ []))
+  answered = refl
 
   -- Without a certificate nothing is accepted, and no loop is ranked.
   not_accepted : IsMissOf certs (goal_named (Ranking 3) b) None → ⊥
   not_accepted h = no_tree h.tree h.has
 
-  not_ranked : AreRankingsAnswered (ranked_loops nested) row (ranked ∷ ((record { number = 3; rank = rank.Ranked }) ∷ (refused ∷ []))) → ⊥
-  not_ranked h = let e = h.1.1.0 in cc
+  not_ranked : answers ≡ ranked ∷ ((record { number = 3; rank = rank.Ranked }) ∷ (refused ∷ [])) → ⊥
+  not_ranked h = let e : rank.Unchecked Absent ≡ rank.Ranked = ap (λ (l : LoopAnswer). l.rank) (first_of missing (record { number = 3; rank = rank.Ranked }) (refused ∷ []) (refused ∷ []) (others_of ranked ranked _ _ h)) in cc
 
   -- What is refused isn't missing.
-  not_missing : AreRankingsAnswered (ranked_loops nested) row (ranked ∷ (missing ∷ ((record { number = 4; rank = rank.Unchecked Absent }) ∷ []))) → ⊥
-  not_missing h = let e = h.1.1.1.0 in cc
+  not_missing : answers ≡ ranked ∷ (missing ∷ ((record { number = 4; rank = rank.Unchecked Absent }) ∷ [])) → ⊥
+  not_missing h = let e : rank.Unchecked (Place way) ≡ rank.Unchecked Absent = ap (λ (l : LoopAnswer). l.rank) (first_of refused (record { number = 4; rank = rank.Unchecked Absent }) [] [] (others_of missing missing _ _ (others_of ranked ranked _ _ h))) in cc
 
   -- Loops aren't numbered from 0, and none is left out.
-  not_from_0 : (ls : List LoopAnswer) → AreRankingsAnswered (ranked_loops nested) row ((record { number = 0; rank = rank.Ranked }) ∷ ls) → ⊥
-  not_from_0 ls h = let e : 0 ≡ 1 = h.0.0 in omega (arith, e)
+  not_from_0 : (ls : List LoopAnswer) → answers ≡ (record { number = 0; rank = rank.Ranked }) ∷ ls → ⊥
+  not_from_0 ls h = let e : 1 ≡ 0 = ap (λ (l : LoopAnswer). l.number) (first_of ranked (record { number = 0; rank = rank.Ranked }) _ ls h) in omega (arith, e)
 
-  not_fewer : AreRankingsAnswered (ranked_loops nested) row (ranked ∷ (missing ∷ [])) → ⊥
-  not_fewer h = h.0.1.1
+  not_fewer : answers ≡ ranked ∷ (missing ∷ []) → ⊥
+  not_fewer h = none_more refused [] (others_of missing missing _ _ (others_of ranked ranked _ _ h))
 
 -- ---- Two goals, of which one is proved and of the other nothing is known
 
 module _ (t : T.Tree) (m n : Made) where
   abbrev proved : DecidedGoal
-  proved = record { goal = goal_named Main m; decision = Proved (Some t) }
+  proved = record { goal = goal_named Main m; found = Proved (Some t) }
 
   abbrev unknown : DecidedGoal
-  unknown = record { goal = goal_named Pre n; decision = Unknown cause.Bits }
+  unknown = record { goal = goal_named Pre n; found = Unknown cause.Bits }
 
   abbrev table : List (List DecidedGoal)
   table = (proved ∷ (unknown ∷ [])) ∷ []

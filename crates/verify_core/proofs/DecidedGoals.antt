@@ -1,5 +1,5 @@
 -- The goals that are made of a procedure of a file that meets the rules can be decided.
-use Rattle.std.proofs.Common.{◌<◌, ◌≤◌, ◌^◌, ℕ, arith, List, length}
+use Rattle.std.proofs.Common.{◌<◌, ◌≤◌, ◌^◌, ℕ, arith, List, [], ◌∷◌, length, None}
 use Rattle.heylo_formula.specs.Sizes.{nodes}
 use Rattle.heylo_formula.specs.declared.goals.GoalId.{GoalId}
 use Rattle.heylo_formula.specs.declared.goals.GoalId.TheVariants.{Main, Pre, Post, Invariant, Ranking}
@@ -16,7 +16,13 @@ use Rattle.vp_generator.specs.Laws.{GeneratedFormIsFormula}
 use Rattle.vp_generator.specs.Over.{GeneratedFormIsOver}
 use Rattle.vp_generator.specs.PrenexedGoals.{PrenexedGoalsAreGoals}
 use Rattle.verify_core.specs.Questions.{AreGoals, IsGoalOf, IsMadeOf, Question, goal, question}
+use Rattle.cert_text.specs.Certificates.{IsGrowingAfter, certificates_of}
+use Rattle.goal_answers.specs.declared.trees.GoalCert.{GoalCert}
+use Rattle.verify_core.specs.declared.settled_goals.Way.{Way}
+use Rattle.verify_core.specs.declared.settled_goals.Way.TheVariants.{Decide, Check}
 use Rattle.verify_core.specs.internal.Decidable.{CanDecide}
+use Rattle.verify_core.specs.internal.Own.{CanAnswer}
+use Rattle.verify_core.specs.internal.SettledGoals.{CanSettle}
 use Rattle.verify_core.specs.Rankings.{AreRankingGoals, IsRankingGoal}
 use Rattle.verify_core.proofs.AskedGoals.{IsProper, goal_is, goal_small, proper}
 use Rattle.verify_core.proofs.MadeGoals.{decidable}
@@ -34,12 +40,28 @@ module _ (goals : PrenexedGoalsAreGoals) (formula : GeneratedFormIsFormula) (ove
   stated_small (Invariant n) = omega arith
   stated_small (Ranking n) = omega arith
 
-  pub each_can : (ids : List GoalId) (gs : List NamedGoal) → AreGoals ps p ids gs → Each (λ (g : NamedGoal). CanDecide g.made) gs
+  each_can : (ids : List GoalId) (gs : List NamedGoal) → AreGoals ps p ids gs → Each (λ (g : NamedGoal). CanDecide g.made) gs
   each_can ids gs h = zip_seconds (IsGoalOf ps p) (λ g. CanDecide g.made) ids gs (λ i g k. bound_can goals (question ps (procedure_at ps p) i) g.made (proper formula over encoded ps rules p there i) (stated_small i) k.made) h
 
 ranking_can : RankingGoalsAreGoals → RankingGoalsAreFew → (ps : List TypedProcedure) (p : TypedProcedure) (n : ℕ) (l : RankedLoop p n) (m : Made) → MeetsRules ps p → FormsWithin (2 ^ 27) p → ranking.IsMadeOf p l.head l.body l.rank m → CanDecide m
 ranking_can goals few ps p n l m rules small h = decidable (ranking.generated l.body l.rank) (ranking.goal p l.head l.body l.rank) m (goals ps p n l rules) (λ k. few ps p n l rules small k) h
 
 -- So can those of its rankings.
-pub each_ranking_can : RankingGoalsAreGoals → RankingGoalsAreFew → (ps : List TypedProcedure) (p : ℕ) → MeetsRules ps (procedure_at ps p) → FormsWithin (2 ^ 27) (procedure_at ps p) → (ns : List ℕ) (gs : List NamedGoal) → AreRankingGoals ps p ns gs → Each (λ (g : NamedGoal). CanDecide g.made) gs
+each_ranking_can : RankingGoalsAreGoals → RankingGoalsAreFew → (ps : List TypedProcedure) (p : ℕ) → MeetsRules ps (procedure_at ps p) → FormsWithin (2 ^ 27) (procedure_at ps p) → (ns : List ℕ) (gs : List NamedGoal) → AreRankingGoals ps p ns gs → Each (λ (g : NamedGoal). CanDecide g.made) gs
 each_ranking_can goals few ps p rules small ns gs h = zip_seconds (IsRankingGoal ps p) (λ g. CanDecide g.made) ns gs (λ n g k. ranking_can goals few ps (procedure_at ps p) n k.ranked g.made rules small k.made) h
+
+-- ---- In either way
+
+each_can_settle : (certs : List GoalCert) (gs : List NamedGoal) → IsGrowingAfter None (certificates_of certs) → Each (λ (g : NamedGoal). IsGrowingAfter None (certificates_of certs)) gs
+each_can_settle certs [] h = tt
+each_can_settle certs (g ∷ gs) h = (h, each_can_settle certs gs h)
+
+-- The goals of a bound can be settled, where the file can be answered.
+pub bounds_settle : PrenexedGoalsAreGoals → GeneratedFormIsFormula → GeneratedFormIsOver → EncodingIsOver → (ps : List TypedProcedure) → Each (MeetsRules ps) ps → (p : ℕ) → p < length ps → (way : Way) → CanAnswer way ps → (ids : List GoalId) (gs : List NamedGoal) → AreGoals ps p ids gs → Each (CanSettle way) gs
+bounds_settle goals formula over encoded ps rules p there Decide small ids gs h = each_can goals formula over encoded ps rules small p there ids gs h
+bounds_settle goals formula over encoded ps rules p there (Check certs) order ids gs h = each_can_settle certs.now gs order
+
+-- So can those of rankings.
+pub rankings_settle : RankingGoalsAreGoals → RankingGoalsAreFew → (ps : List TypedProcedure) (p : ℕ) → p < length ps → MeetsRules ps (procedure_at ps p) → (way : Way) → CanAnswer way ps → (ns : List ℕ) (gs : List NamedGoal) → AreRankingGoals ps p ns gs → Each (CanSettle way) gs
+rankings_settle goals few ps p there rules Decide small ns gs h = each_ranking_can goals few ps p rules (each_at (FormsWithin (2 ^ 27)) ps p small there) ns gs h
+rankings_settle goals few ps p there rules (Check certs) order ns gs h = each_can_settle certs.now gs order

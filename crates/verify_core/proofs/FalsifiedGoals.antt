@@ -1,4 +1,4 @@
--- A goal that is falsified fails in the state that is shown: as it was made, and by the meaning of formulas.
+-- A goal that fails in a state as it was made fails there by the meaning of formulas.
 use Rattle.std.proofs.Common.{◌≡◌, ◌<◌, ℕ, refl, sym, ap, ◌∙◌, subst, append_assoc, List, [], ◌∷◌, ◌++◌, length, take}
 use Rattle.std.proofs.lemmas.List.{length-map}
 use Rattle.std.specs.Prelude.{Option, Some, None}
@@ -26,42 +26,15 @@ use Rattle.loop_encodings.specs.Fresh.{fresh}
 use Rattle.loop_encodings.proofs.exported.EncodedTypes.{encoding_fits}
 use Rattle.loop_encodings.proofs.exported.FromRules.{each_at}
 use Rattle.region_split.specs.Meanings.{Fails}
-use Rattle.goal_answers.specs.declared.decisions.Decision.{Decision}
-use Rattle.goal_answers.specs.declared.decisions.Decision.TheVariants.{Proved, Falsified, Unknown}
-use Rattle.goal_answers.specs.declared.named_goals.NamedGoal.{NamedGoal}
 use Rattle.made_goals.specs.MadeGoals.{all_names}
 use Rattle.run_machine.specs.Bound.{IsState}
-use Rattle.verify_core.specs.GoalDecisions.{AreDecided, DecidedGoal, IsDecisionOf, falsified, first_falsified, or_else}
 use Rattle.verify_core.specs.Headline.{IsFalsifiedIn}
-use Rattle.verify_core.specs.Questions.{IsGoalOf, form_or_zero, goal, question}
-use Rattle.verify_core.specs.internal.SettledGoals.{IsSettled, TellsOf}
+use Rattle.verify_core.specs.Questions.{form_or_zero, goal, question}
 use Rattle.verify_core.proofs.AskedGoals.{proper}
-use Rattle.verify_core.proofs.MadeGoals.{falsified_fails}
 use Rattle.vp_generator.specs.Laws.{GeneratedFormIsFormula, GeneratedFormMeansActs}
 use Rattle.vp_generator.specs.Over.{GeneratedFormIsOver}
 use Rattle.vp_generator.specs.PrenexedForms.{new_types}
 use Rattle.vp_generator.specs.PrenexedGoals.{FailsByChoices, PrenexedGoalsFailByChoices}
-
--- ---- As it was made
-
-same_some : {A : Type 0} (a b : A) → Some a ≡ Some b → a ≡ b
-same_some a b e = cc
-
-fails_by : (ps : List TypedProcedure) (p : ℕ) (i id : GoalId) (s : List Val) (g : NamedGoal) (d : Decision) (ds : List DecidedGoal) → IsGoalOf ps p i g → IsDecisionOf g.made d → TellsOf g.made d → or_else (falsified g.id d) (first_falsified ds) ≡ Some (id, s) → (first_falsified ds ≡ Some (id, s) → Fails (goal (question ps (procedure_at ps p) id)) s) → Fails (goal (question ps (procedure_at ps p) id)) s
-fails_by ps p i id s g (Proved t) ds h k m e f = f e
-fails_by ps p i id s g (Unknown c) ds h k m e f = f e
-fails_by ps p i id s g (Falsified t) ds h k m e f =
-    let w : ◌≡◌ {A = GoalId × List Val} (g.id, t.items) (id, s) = same_some _ _ e in
-    let there = falsified_fails (question ps (procedure_at ps p) i).found (goal (question ps (procedure_at ps p) i)) g.made t h.made k m in
-    subst (λ (x : GoalId × List Val). Fails (goal (question ps (procedure_at ps p) x.0)) x.1) w (subst (λ j. Fails (goal (question ps (procedure_at ps p) j)) t.items) (sym h.id_of) there)
-
-pub row_fails : (ps : List TypedProcedure) (p : ℕ) (ids : List GoalId) (row : List DecidedGoal) (id : GoalId) (s : List Val) → AreDecided ps p ids row → Each IsSettled row → first_falsified row ≡ Some (id, s) → Fails (goal (question ps (procedure_at ps p) id)) s
-row_fails ps p [] [] id s h k e = absurd (cc)
-row_fails ps p [] (d ∷ ds) id s h k e = absurd h
-row_fails ps p (i ∷ ids) [] id s h k e = absurd h
-row_fails ps p (i ∷ ids) (d ∷ ds) id s h k e = fails_by ps p i id s d.goal d.decision ds h.0.goal k.0.decision k.0.meaning e (row_fails ps p ids ds id s h.1 k.1)
-
--- ---- By the meaning of formulas
 
 types_length : (vs : List Variable) → length (type_list vs) ≡ length vs
 types_length vs = length-map vs (λ (v : Variable). v.ty)

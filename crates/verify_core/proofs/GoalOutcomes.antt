@@ -1,164 +1,133 @@
--- What comes of decided goals, goal by goal.
-use Rattle.std.proofs.Common.{◌≡◌, ℕ, refl, sym, ap, ◌∙◌, append_assoc, append-nil, Bool, true, false, List, [], ◌∷◌, ◌++◌, map, length, subst}
-use Rattle.std.specs.Prelude.{Option, Some, None, if◌then◌else◌}
-use Rattle.goal_answers.specs.declared.trees.GoalCert.{GoalCert}
-use Rattle.heylo_formula.specs.declared.goals.GoalId.{GoalId}
-use Rattle.heylo_formula.specs.declared.values.Val.{Val}
-use Rattle.heyvl_acts.specs.Acts.{TypedProcedure}
-use Rattle.heyvl_acts.specs.Rules.{Each}
-use Rattle.goal_answers.specs.declared.causes.Cause.{Cause}
-use Rattle.goal_answers.specs.declared.decisions.Decision.{Decision}
-use Rattle.goal_answers.specs.declared.decisions.Decision.TheVariants as decision
-use Rattle.verdict_report.specs.declared.answers.LoopAnswer.{LoopAnswer}
+-- What lists of outcomes tell.
+use Rattle.std.proofs.Common.{◌≡◌, ◌⊎◌, ℕ, refl, sym, ap, ◌∙◌, subst, append-nil, append_assoc, Bool, true, false, List, [], ◌∷◌, ◌++◌, length, map, inl, inr, ⊎_elim}
+use Rattle.std.proofs.lemmas.Bool.{false≢true}
+use Rattle.std.proofs.lemmas.List.{map-append}
+use Rattle.std.specs.Option.{option_or}
+use Rattle.std.specs.Prelude.{◌&&◌, Option, Some, None, if◌then◌else◌}
 use Rattle.goal_answers.specs.declared.named_goals.NamedGoal.{NamedGoal}
-use Rattle.verify_core.specs.GoalDecisions.{DecidedGoal, all_proved, certificate, certificates, first_falsified, first_unknown, first_with, is_falsified, is_proved, listed, or_else, told}
-use Rattle.verify_core.specs.DecidedRankings.{told_in_file, told_rankings}
-use Rattle.verify_core.specs.declared.decisions.Decided as declared
+use Rattle.heylo_formula.specs.GoalOrder.{loop_of}
+use Rattle.heyvl_acts.specs.Rules.{Each}
+use Rattle.verdict_report.specs.declared.answers.LoopAnswer.{LoopAnswer}
+use Rattle.verify_core.specs.Outcomes.{all_proved, all_shown, first_with, is_falsified, is_open, is_proved, loop_answer, rank_of, shown, told}
+use Rattle.verify_core.specs.declared.outcomes.GoalOutcome.{GoalOutcome}
 use Rattle.verify_core.specs.declared.outcomes.Outcome.{Outcome}
-use Rattle.verify_core.specs.declared.outcomes.Outcome.TheVariants.{Proved, Falsified, Unknown}
-use Rattle.verify_core.specs.declared.outcomes.ProcedureOutcome.{ProcedureOutcome}
-use Rattle.verify_core.specs.internal.Outcomes.{AreOutcomes, both, loop_answer, outcome, outcome_of, told_by, unless_falsified}
-use Rattle.verify_core.specs.internal.SettledGoals.{IsSettled, plain}
-use Rattle.verify_core.specs.internal.Verdicts.{all_told_by}
+use Rattle.verify_core.specs.declared.outcomes.Outcome.TheVariants.{Proved, Falsified, Unknown, Missed}
 
 -- A list of length 0 is empty.
 pub nothing_left : {A : Type 0} (n : ℕ) (xs : List A) → n ≡ length xs → n ≡ 0 → xs ≡ []
 nothing_left n [] e z = refl
 nothing_left n (x ∷ xs) e z = absurd (cc)
 
--- ---- Decisions so far
+-- ---- The first one with an outcome, goal by goal
 
-abbrev pub goals_of : List declared.Decided → List NamedGoal
-goals_of ds = map (λ (d : DecidedGoal). d.goal) (map plain ds)
+or_none : (kept : Option GoalOutcome) → option_or kept None ≡ kept
+or_none None = refl
+or_none (Some o) = refl
 
-goals_push : (xs : List declared.Decided) (d : declared.Decided) (us : List NamedGoal) → goals_of (xs ++ (d ∷ [])) ++ us ≡ goals_of xs ++ (d.goal ∷ us)
-goals_push [] d us = refl
-goals_push (x ∷ xs) d us = ap (λ l. x.goal ∷ l) (goals_push xs d us)
+or_found : (kept : Option GoalOutcome) (o : GoalOutcome) (rest : Option GoalOutcome) → option_or (option_or kept (Some o)) rest ≡ option_or kept (Some o)
+or_found None o rest = refl
+or_found (Some x) o rest = refl
 
-pub goals_next : (xs ys : List declared.Decided) (d : declared.Decided) (zs us all : List NamedGoal) → ys ≡ xs ++ (d ∷ []) → zs ≡ d.goal ∷ us → goals_of xs ++ zs ≡ all → goals_of ys ++ us ≡ all
-goals_next xs ys d zs us all e z h = ap (λ l. goals_of l ++ us) e ∙ goals_push xs d us ∙ ap (λ l. goals_of xs ++ l) (sym z) ∙ h
+pub found_next : (test : Outcome → Bool) (kept now : Option GoalOutcome) (o : GoalOutcome) (zs ys : List GoalOutcome) (all : Option GoalOutcome) → zs ≡ o ∷ ys → test o.outcome ≡ true → now ≡ option_or kept (Some o) → option_or kept (first_with test zs) ≡ all → option_or now (first_with test ys) ≡ all
+found_next test kept now o zs ys all z e n h =
+    ap (λ k. option_or k (first_with test ys)) n
+    ∙ (or_found kept o (first_with test ys)
+    ∙ (ap (λ b. option_or kept (if b then Some o else first_with test ys)) (sym e)
+    ∙ (ap (λ l. option_or kept (first_with test l)) (sym z) ∙ h)))
 
-settled_push : (xs : List declared.Decided) (d : declared.Decided) → Each IsSettled (map plain xs) → IsSettled (plain d) → Each IsSettled (map plain (xs ++ (d ∷ [])))
-settled_push [] d h k = (k, tt)
-settled_push (x ∷ xs) d h k = (h.0, settled_push xs d h.1 k)
+pub passed_next : (test : Outcome → Bool) (kept : Option GoalOutcome) (o : GoalOutcome) (zs ys : List GoalOutcome) (all : Option GoalOutcome) → zs ≡ o ∷ ys → test o.outcome ≡ false → option_or kept (first_with test zs) ≡ all → option_or kept (first_with test ys) ≡ all
+passed_next test kept o zs ys all z e h = ap (λ b. option_or kept (if b then Some o else first_with test ys)) (sym e) ∙ (ap (λ l. option_or kept (first_with test l)) (sym z) ∙ h)
 
-pub settled_next : (xs ys : List declared.Decided) (d : declared.Decided) → ys ≡ xs ++ (d ∷ []) → Each IsSettled (map plain xs) → IsSettled (plain d) → Each IsSettled (map plain ys)
-settled_next xs ys d e h k = subst (λ l. Each IsSettled (map plain l)) (sym e) (settled_push xs d h k)
+pub found_last : (test : Outcome → Bool) (kept : Option GoalOutcome) (zs : List GoalOutcome) (all : Option GoalOutcome) → zs ≡ [] → option_or kept (first_with test zs) ≡ all → kept ≡ all
+found_last test kept zs all z h = sym (or_none kept) ∙ (ap (λ l. option_or kept (first_with test l)) (sym z) ∙ h)
 
-pub all_goals : (xs : List declared.Decided) (zs all : List NamedGoal) → zs ≡ [] → goals_of xs ++ zs ≡ all → goals_of xs ≡ all
-all_goals xs zs all z h = sym (append-nil (goals_of xs)) ∙ ap (λ l. goals_of xs ++ l) (sym z) ∙ h
+pub falsified_not_open : (o : Outcome) → is_falsified o ≡ true → is_open o ≡ false
+falsified_not_open Proved e = refl
+falsified_not_open (Falsified s) e = refl
+falsified_not_open (Unknown c) e = absurd (false≢true e)
+falsified_not_open (Missed m) e = absurd (false≢true e)
 
--- ---- Outcomes so far
+-- ---- The one that is told
 
-unless_twice : (g h : NamedGoal) (c d : Cause) (o : Outcome) → unless_falsified g c o ≡ unless_falsified g c (unless_falsified h d o)
-unless_twice g h c d Proved = refl
-unless_twice g h c d (Falsified k s) = refl
-unless_twice g h c d (Unknown k e) = refl
+or_cases : (a b : Option GoalOutcome) (o : GoalOutcome) → option_or a b ≡ Some o → (a ≡ Some o) ⊎ (b ≡ Some o)
+or_cases None b o e = inr e
+or_cases (Some x) b o e = inl e
 
-both_assoc : (a b c : Outcome) → both (both a b) c ≡ both a (both b c)
-both_assoc Proved b c = refl
-both_assoc (Falsified g s) b c = refl
-both_assoc (Unknown g e) Proved c = refl
-both_assoc (Unknown g e) (Falsified h s) c = refl
-both_assoc (Unknown g e) (Unknown h d) c = unless_twice g h e d c
+same_some : {A : Type 0} (a b : A) → Some a ≡ Some b → a ≡ b
+same_some a b e = cc
 
-both_proved : (a : Outcome) → both a Proved ≡ a
-both_proved Proved = refl
-both_proved (Falsified g s) = refl
-both_proved (Unknown g c) = refl
+first_by : (P : GoalOutcome → Type 0) (test : Outcome → Bool) (x o : GoalOutcome) (b : Bool) (rest : Option GoalOutcome) → test x.outcome ≡ b → P x → (rest ≡ Some o → P o × (test o.outcome ≡ true)) → (if b then Some x else rest) ≡ Some o → P o × (test o.outcome ≡ true)
+first_by P test x o true rest e p f h = subst (λ y. P y × (test y.outcome ≡ true)) (same_some x o h) (p, e)
+first_by P test x o false rest e p f h = f h
 
-pub outcome_next : (zs ys : List declared.Decided) (x : declared.Decided) (a b c all : Outcome) → zs ≡ x ∷ ys → b ≡ outcome_of (plain x) → c ≡ both a b → both a (outcome (map plain zs)) ≡ all → both c (outcome (map plain ys)) ≡ all
-outcome_next zs ys x a b c all z e f h =
-    ap (λ o. both o (outcome (map plain ys))) f ∙ both_assoc a b (outcome (map plain ys)) ∙ ap (λ o. both a (both o (outcome (map plain ys)))) e ∙ ap (λ l. both a (outcome (map plain l))) (sym z) ∙ h
+first_is : (P : GoalOutcome → Type 0) (test : Outcome → Bool) (os : List GoalOutcome) (o : GoalOutcome) → Each P os → first_with test os ≡ Some o → P o × (test o.outcome ≡ true)
+first_is P test [] o h e = absurd (cc)
+first_is P test (x ∷ os) o h e = first_by P test x o (test x.outcome) (first_with test os) refl h.0 (λ k. first_is P test os o h.1 k) e
 
-pub outcome_last : (zs : List declared.Decided) (a all : Outcome) → zs ≡ [] → both a (outcome (map plain zs)) ≡ all → a ≡ all
-outcome_last zs a all z h = sym (both_proved a) ∙ ap (λ l. both a (outcome (map plain l))) (sym z) ∙ h
+falsified_unproved : (o : Outcome) → is_falsified o ≡ true → is_proved o ≡ false
+falsified_unproved Proved e = absurd (false≢true e)
+falsified_unproved (Falsified s) e = refl
+falsified_unproved (Unknown c) e = refl
+falsified_unproved (Missed m) e = refl
 
-pub certs_next : (zs ys : List declared.Decided) (x : declared.Decided) (cs ds all : List GoalCert) → zs ≡ x ∷ ys → ds ≡ cs ++ certificate (plain x) → cs ++ certificates (map plain zs) ≡ all → ds ++ certificates (map plain ys) ≡ all
-certs_next zs ys x cs ds all z e h =
-    ap (λ l. l ++ certificates (map plain ys)) e ∙ append_assoc cs (certificate (plain x)) (certificates (map plain ys)) ∙ ap (λ l. cs ++ certificates (map plain l)) (sym z) ∙ h
+open_unproved : (o : Outcome) → is_open o ≡ true → is_proved o ≡ false
+open_unproved Proved e = absurd (false≢true e)
+open_unproved (Falsified s) e = refl
+open_unproved (Unknown c) e = refl
+open_unproved (Missed m) e = refl
 
-pub certs_last : (zs : List declared.Decided) (cs all : List GoalCert) → zs ≡ [] → cs ++ certificates (map plain zs) ≡ all → cs ≡ all
-certs_last zs cs all z h = sym (append-nil cs) ∙ ap (λ l. cs ++ certificates (map plain l)) (sym z) ∙ h
+-- What is so of each goal is so of the one that is told, and this isn't proved.
+pub told_is : (P : GoalOutcome → Type 0) (os : List GoalOutcome) (o : GoalOutcome) → Each P os → told os ≡ Some o → P o × (is_proved o.outcome ≡ false)
+told_is P os o h e = ⊎_elim (λ a. let f = first_is P is_falsified os o h a in (f.0, falsified_unproved o.outcome f.1)) (λ b. let f = first_is P is_open os o h b in (f.0, open_unproved o.outcome f.1)) (or_cases (first_with is_falsified os) (first_with is_open os) o e)
 
--- ---- What an outcome says of the goals
+unit_each : (os : List GoalOutcome) → Each (λ o. Unit {0}) os
+unit_each [] = tt
+unit_each (o ∷ os) = (tt, unit_each os)
 
-abbrev pub is_all : Outcome → Bool
-is_all Proved = true
-is_all (Falsified g s) = false
-is_all (Unknown g c) = false
+-- A goal that is proved isn't told.
+pub proved_untold : (os : List GoalOutcome) (o : GoalOutcome) → told os ≡ Some o → o.outcome ≡ Proved → ⊥
+proved_untold os o e h = false≢true (sym (told_is (λ x. Unit {0}) os o (unit_each os) e).1 ∙ ap is_proved h)
 
-abbrev pub falsified_by : Outcome → Option (GoalId × List Val)
-falsified_by Proved = None
-falsified_by (Falsified g s) = Some (g.id, s.items)
-falsified_by (Unknown g c) = None
+-- ---- All are proved
 
-abbrev falsified_goal : Outcome → Option NamedGoal
-falsified_goal Proved = None
-falsified_goal (Falsified g s) = Some g
-falsified_goal (Unknown g c) = None
+and_both : (a b : Bool) → (a && b) ≡ true → (a ≡ true) × (b ≡ true)
+and_both true b e = (refl, e)
+and_both false b e = absurd (false≢true e)
 
-abbrev pub unknown_by : Outcome → Option (GoalId × Cause)
-unknown_by Proved = None
-unknown_by (Falsified g s) = None
-unknown_by (Unknown g c) = Some (g.id, c)
+abbrev pub IsProvedOne : GoalOutcome → Type 0
+IsProvedOne o = is_proved o.outcome ≡ true
 
-pub record Describes (ds : List DecidedGoal) (o : Outcome) : Type 0 where
-  pub all : all_proved ds ≡ is_all o
-  pub falsified : first_falsified ds ≡ falsified_by o
-  pub falsified_first : first_with is_falsified ds ≡ falsified_goal o
-  pub unknown : falsified_by o ≡ None → first_unknown ds ≡ unknown_by o
-  pub told_goal : told ds ≡ told_by o
+pub each_proved : (os : List GoalOutcome) → all_proved os ≡ true → Each IsProvedOne os
+each_proved [] e = tt
+each_proved (o ∷ os) e = let k = and_both (is_proved o.outcome) (all_proved os) e in (k.0, each_proved os k.1)
 
-describes_more : (g : NamedGoal) (d : Decision) (ds : List DecidedGoal) (o : Outcome) → Describes ds o → Describes (record { goal = g; decision = d } ∷ ds) (both (outcome_of (record { goal = g; decision = d })) o)
-describes_more g (decision.Proved t) ds o h = record { all = h.all; falsified = h.falsified; falsified_first = h.falsified_first; unknown = h.unknown; told_goal = h.told_goal }
-describes_more g (decision.Falsified s) ds o h = record { all = refl; falsified = refl; falsified_first = refl; unknown = λ e. absurd (cc); told_goal = refl }
-describes_more g (decision.Unknown c) ds Proved h = record { all = refl; falsified = h.falsified; falsified_first = h.falsified_first; unknown = λ _. refl; told_goal = ap (λ x. or_else x (Some g)) h.falsified_first }
-describes_more g (decision.Unknown c) ds (Falsified k s) h = record { all = refl; falsified = h.falsified; falsified_first = h.falsified_first; unknown = λ e. absurd (cc); told_goal = ap (λ x. or_else x (Some g)) h.falsified_first }
-describes_more g (decision.Unknown c) ds (Unknown k e) h = record { all = refl; falsified = h.falsified; falsified_first = h.falsified_first; unknown = λ _. refl; told_goal = ap (λ x. or_else x (Some g)) h.falsified_first }
+pub told_unproved : (os : List GoalOutcome) (o : GoalOutcome) → told os ≡ Some o → all_proved os ≡ true → ⊥
+told_unproved os o e h = let k = told_is IsProvedOne os o (each_proved os h) e in false≢true (sym k.1 ∙ k.0)
 
-pub describes : (ds : List DecidedGoal) → Describes ds (outcome ds)
-describes [] = record { all = refl; falsified = refl; falsified_first = refl; unknown = λ _. refl; told_goal = refl }
-describes (d ∷ ds) = describes_more d.goal d.decision ds (outcome ds) (describes ds)
+some_left : (a : Option GoalOutcome) (o : GoalOutcome) → option_or a (Some o) ≡ None → ⊥
+some_left None o e = cc
+some_left (Some x) o e = cc
 
--- ---- What is told
+none_by : (g : NamedGoal) (o : Outcome) (os : List GoalOutcome) → told ((record { goal = g; outcome = o }) ∷ os) ≡ None → (told os ≡ None → all_proved os ≡ true) → (is_proved o && all_proved os) ≡ true
+none_by g Proved os e f = f e
+none_by g (Falsified s) os e f = absurd (cc)
+none_by g (Unknown c) os e f = absurd (some_left (first_with is_falsified os) (record { goal = g; outcome = Unknown c }) e)
+none_by g (Missed m) os e f = absurd (some_left (first_with is_falsified os) (record { goal = g; outcome = Missed m }) e)
 
-pub told_all : (ps : List TypedProcedure) (table ranks : List (List DecidedGoal)) (os : List ProcedureOutcome) → AreOutcomes ps table ranks os → all_told_by os ≡ told_in_file table ranks
-told_all [] [] [] [] h = refl
-told_all [] [] [] (o ∷ os) h = absurd h
-told_all [] [] (rs ∷ ranks) os h = absurd h
-told_all [] (ds ∷ table) ranks os h = absurd h
-told_all (p ∷ ps) [] ranks os h = absurd h
-told_all (p ∷ ps) (ds ∷ table) [] os h = absurd h
-told_all (p ∷ ps) (ds ∷ table) (rs ∷ ranks) [] h = absurd h
-told_all (p ∷ ps) (ds ∷ table) (rs ∷ ranks) (o ∷ os) h =
-    ap (λ x. (listed x ++ o.rankings.told.items) ++ all_told_by os) (ap told_by h.0.bound ∙ sym (describes ds).told_goal)
-    ∙ (ap (λ l. (listed (told ds) ++ l) ++ all_told_by os) h.0.rankings.told
-    ∙ ap (λ l. (listed (told ds) ++ told_rankings rs) ++ l) (told_all ps table ranks os h.1))
+-- Where none is told, all are proved.
+pub none_told : (os : List GoalOutcome) → told os ≡ None → all_proved os ≡ true
+none_told [] e = refl
+none_told (o ∷ os) e = none_by o.goal o.outcome os e (none_told os)
 
--- ---- Rankings so far
+-- ---- Those whose state or cause is told
 
-told_of_one : (g : NamedGoal) (d : Decision) (more : List NamedGoal) → listed (told_by (outcome_of (record { goal = g; decision = d }))) ++ more ≡ (if is_proved d then more else g ∷ more)
-told_of_one g (decision.Proved t) more = refl
-told_of_one g (decision.Falsified s) more = refl
-told_of_one g (decision.Unknown c) more = refl
+pub shown_more : (os : List GoalOutcome) (o : GoalOutcome) → all_shown os ++ shown o ≡ all_shown (os ++ o ∷ [])
+shown_more [] o = sym (append-nil (shown o))
+shown_more (x ∷ os) o = append_assoc (shown x) (all_shown os) (shown o) ∙ ap (λ l. shown x ++ l) (shown_more os o)
 
-pub told_next : (zs ys : List declared.Decided) (x : declared.Decided) (gs hs all : List NamedGoal) → zs ≡ x ∷ ys → hs ≡ gs ++ listed (told_by (outcome_of (plain x))) → gs ++ told_rankings (map plain zs) ≡ all → hs ++ told_rankings (map plain ys) ≡ all
-told_next zs ys x gs hs all z e h =
-    ap (λ l. l ++ told_rankings (map plain ys)) e
-    ∙ (append_assoc gs (listed (told_by (outcome_of (plain x)))) (told_rankings (map plain ys))
-    ∙ (ap (λ l. gs ++ l) (told_of_one x.goal x.decision (told_rankings (map plain ys)))
-    ∙ (ap (λ l. gs ++ told_rankings (map plain l)) (sym z) ∙ h)))
-
-pub told_last : (zs : List declared.Decided) (gs all : List NamedGoal) → zs ≡ [] → gs ++ told_rankings (map plain zs) ≡ all → gs ≡ all
-told_last zs gs all z h = sym (append-nil gs) ∙ ap (λ l. gs ++ told_rankings (map plain l)) (sym z) ∙ h
-
-pub answers_next : (zs ys : List declared.Decided) (x : declared.Decided) (ls us all : List LoopAnswer) (a : LoopAnswer) → zs ≡ x ∷ ys → a ≡ loop_answer (plain x) → us ≡ ls ++ (a ∷ []) → ls ++ map loop_answer (map plain zs) ≡ all → us ++ map loop_answer (map plain ys) ≡ all
-answers_next zs ys x ls us all a z e f h =
-    ap (λ l. l ++ map loop_answer (map plain ys)) f
-    ∙ (append_assoc ls (a ∷ []) (map loop_answer (map plain ys))
-    ∙ (ap (λ b. ls ++ (b ∷ map loop_answer (map plain ys))) e
-    ∙ (ap (λ l. ls ++ map loop_answer (map plain l)) (sym z) ∙ h)))
-
-pub answers_last : (zs : List declared.Decided) (ls all : List LoopAnswer) → zs ≡ [] → ls ++ map loop_answer (map plain zs) ≡ all → ls ≡ all
-answers_last zs ls all z h = sym (append-nil ls) ∙ ap (λ l. ls ++ map loop_answer (map plain l)) (sym z) ∙ h
+-- The answers on loops, and one more.
+pub answer_more : (os : List GoalOutcome) (o : GoalOutcome) (xs ys : List LoopAnswer) (a : LoopAnswer) → ys ≡ xs ++ a ∷ [] → xs ≡ map loop_answer os → a.number ≡ loop_of o.goal.id → a.rank ≡ rank_of o.outcome → ys ≡ map loop_answer (os ++ o ∷ [])
+answer_more os o xs ys a e h n r = e ∙ (ap (λ l. l ++ a ∷ []) h ∙ (ap (λ x. map loop_answer os ++ x ∷ []) same ∙ sym (map-append loop_answer os (o ∷ []))))
+  where
+    same : a ≡ loop_answer o
+    same = ap (λ x. record a { number = x }) n ∙ ap (λ x. record a { number = loop_of o.goal.id; rank = x }) r

@@ -1,10 +1,12 @@
--- What the answers of a file promise, of its goals and of its runs, from decisions that tell the truth.
-use Rattle.std.proofs.Common.{◌≡◌, ◌<◌, ◌+◌, ℕ, refl, sym, ap, ◌∙◌, subst, append-nil, arith, Bool, true, false, List, [], ◌∷◌, ◌++◌, length, take}
+-- What the answers of a file promise, of its goals and of its runs, from what comes of its goals.
+use Rattle.std.proofs.Common.{◌≡◌, ◌<◌, ℕ, sym, ap, ◌∙◌, subst, append-nil, arith, true, List, [], ◌∷◌, ◌++◌, length, take}
 use Rattle.std.proofs.lemmas.Bool.{false≢true}
-use Rattle.std.specs.Prelude.{◌&&◌, Some}
+use Rattle.std.specs.List.{AllZip}
+use Rattle.std.specs.Prelude.{Vec}
+use Rattle.std.specs.declared.alloc.Global.{Global}
 use Prim.Native.Nat.{zero, suc}
 use Rattle.heylo_formula.specs.Choices.{Choices}
-use Rattle.heylo_formula.specs.Goals.{Compares, Holds}
+use Rattle.heylo_formula.specs.Goals.{Compares, Goal, Holds}
 use Rattle.heylo_formula.specs.Meaning.{value}
 use Rattle.heylo_formula.specs.State.{environment}
 use Rattle.heylo_formula.specs.declared.goals.GoalId.{GoalId}
@@ -20,25 +22,27 @@ use Rattle.loop_encodings.specs.BoundGoals.{BoundGoalsHold, GoalFails, GoalHolds
 use Rattle.loop_encodings.specs.Encoding.{all_variables}
 use Rattle.loop_encodings.specs.EncodingLaws.{EncodingIsOver}
 use Rattle.bounded_runs.specs.Law.{BrokenGoalsBreakBounds, IsShown, ShownBoundsHold}
+use Rattle.ranking_rule.specs.Laws.{RankingGoalsFail, RankingGoalsHold, RankingsBoundTurns}
+use Rattle.verdict_report.specs.VerdictsOn.{IsVerdictOn}
 use Rattle.verdict_report.specs.declared.answers.Answer.{Answer}
 use Rattle.verdict_report.specs.declared.answers.Verdict.{Verdict}
 use Rattle.verdict_report.specs.declared.answers.Verdict.TheVariants.{Verified, Valid, NotVerified, Unknown, Unchecked, Conditional, NoBody}
-use Rattle.verify_core.specs.AnsweredProcedures.{AreAnswers, IsAnswer, IsClosed, IsVerdict}
-use Rattle.verify_core.specs.GoalDecisions.{AreDecided, DecidedGoal, IsTable, all_proved, first_falsified, is_proved}
-use Rattle.verify_core.specs.DecidedRankings.{IsRankTable}
 use Rattle.verify_core.specs.GoalLaws.{MadeGoalsSayBounds}
 use Rattle.verify_core.specs.Headline.{IsBrokenFrom, IsFalsifiedIn, IsHeadline, says_proved}
-use Rattle.verdict_report.specs.VerdictsOn.{IsVerdictOn}
 use Rattle.verify_core.specs.NumberedLists.{row_at}
+use Rattle.verify_core.specs.Outcomes.{IsTold, all_proved, is_proved}
 use Rattle.verify_core.specs.Questions.{goal, question}
 use Rattle.verify_core.specs.Rankings.{ranked_loops}
-use Rattle.verify_core.specs.internal.SettledGoals.{IsSettled}
-use Rattle.ranking_rule.specs.Laws.{RankingGoalsFail, RankingGoalsHold, RankingsBoundTurns}
-use Rattle.verify_core.proofs.FalsifiedGoals.{falsified_in, row_fails}
-use Rattle.verify_core.proofs.MadeGoals.{proved_holds}
+use Rattle.verify_core.specs.Verdicts.{AreAnswers, IsAnswer, IsClosed, IsVerdict}
+use Rattle.verify_core.specs.declared.outcomes.GoalOutcome.{GoalOutcome}
+use Rattle.verify_core.specs.declared.outcomes.Outcome.{Outcome}
+use Rattle.verify_core.specs.declared.outcomes.Outcome.TheVariants as outcome
+use Rattle.verify_core.proofs.FalsifiedGoals.{falsified_in}
+use Rattle.verify_core.proofs.GoalOutcomes.{IsProvedOne, each_proved}
+use Rattle.verify_core.proofs.MadeGoals.{Means}
+use Rattle.verify_core.proofs.OutcomesMean.{AreOutcomes, IsBoundOutcome, told_means}
 use Rattle.verify_core.proofs.OwnEncoding.{itself, none_fresh}
 use Rattle.verify_core.proofs.RankedLoops.{ranked_loop, unranked_loop}
-use Rattle.verify_core.proofs.Rows.{bounds_at, rankings_at, settled_at}
 use Rattle.verify_core.proofs.SideBySide.{IsPlaced, placed}
 use Rattle.vp_generator.specs.Laws.{GeneratedFormIsFormula, GeneratedFormMeansActs}
 use Rattle.vp_generator.specs.Over.{GeneratedFormIsOver}
@@ -46,17 +50,16 @@ use Rattle.vp_generator.specs.PrenexedGoals.{PrenexedGoalsFailByChoices}
 
 -- ---- Proved goals hold
 
-and_both : (a b : Bool) → (a && b) ≡ true → (a ≡ true) × (b ≡ true)
-and_both true b e = (refl, e)
-and_both false b e = absurd (false≢true e)
+proved_holds : (g : Goal) (o : Outcome) → Means g o → is_proved o ≡ true → Holds g
+proved_holds g outcome.Proved m e = m
+proved_holds g (outcome.Falsified s) m e = absurd (false≢true e)
+proved_holds g (outcome.Unknown c) m e = absurd (false≢true e)
+proved_holds g (outcome.Missed k) m e = absurd (false≢true e)
 
-row_holds : (ps : List TypedProcedure) (p : ℕ) (ids : List GoalId) (row : List DecidedGoal) → AreDecided ps p ids row → Each IsSettled row → all_proved row ≡ true → Each (λ id. Holds (goal (question ps (procedure_at ps p) id))) ids
-row_holds ps p [] [] h s e = tt
-row_holds ps p [] (d ∷ ds) h s e = absurd h
-row_holds ps p (id ∷ ids) [] h s e = absurd h
-row_holds ps p (id ∷ ids) (d ∷ ds) h s e =
-    let k = and_both (is_proved d.decision) (all_proved ds) e in
-    (proved_holds (question ps (procedure_at ps p) id).found (goal (question ps (procedure_at ps p) id)) d.goal.made d.decision h.0.goal.made s.0.decision s.0.meaning k.0, row_holds ps p ids ds h.1 s.1 k.1)
+row_holds : (ps : List TypedProcedure) (p : ℕ) (ids : List GoalId) (os : List GoalOutcome) → AllZip (IsBoundOutcome ps p) ids os → Each IsProvedOne os → Each (λ id. Holds (goal (question ps (procedure_at ps p) id))) ids
+row_holds ps p [] os h e = tt
+row_holds ps p (id ∷ ids) [] h e = absurd h
+row_holds ps p (id ∷ ids) (o ∷ os) h e = (proved_holds (goal (question ps (procedure_at ps p) id)) o.outcome h.0.means e.0, row_holds ps p ids os h.1 e.1)
 
 each_there : {A : Type 0} (P Q : A → Type 0) (xs : List A) → ((x : A) → P x → Q x) → Each P xs → Each Q xs
 each_there P Q [] f h = tt
@@ -69,38 +72,38 @@ program_there [] q h = absurd (cc)
 program_there (p ∷ ps) zero h = omega arith
 program_there (p ∷ ps) (suc q) h = let k = program_there ps q h in omega (arith, k)
 
-answered : (ps : List TypedProcedure) (table ranks : List (List DecidedGoal)) (all before behind : List Answer) (a : Answer) (p : ℕ) → AreAnswers ps table ranks 0 ps all → all ≡ before ++ (a ∷ behind) → length before ≡ p → IsPlaced (IsAnswer ps table ranks) (length ps) p p a
+answered : (ps : List TypedProcedure) (table ranks : List (List GoalOutcome)) (all before behind : List Answer) (a : Answer) (p : ℕ) → AreAnswers ps table ranks 0 ps all → all ≡ before ++ (a ∷ behind) → length before ≡ p → IsPlaced (IsAnswer ps table ranks) (length ps) p p a
 answered ps table ranks all before behind a p h e place = placed (IsAnswer ps table ranks) ps all before behind a p h e place
 
-record Said (ps : List TypedProcedure) (table : List (List DecidedGoal)) (p : ℕ) (v : Verdict) : Type 0 where
+record Said (ps : List TypedProcedure) (table : List (List GoalOutcome)) (p : ℕ) (v : Verdict) : Type 0 where
   pub verdict : IsVerdict ps table p v
   pub there : p < length ps
 
-said : (ps : List TypedProcedure) (table ranks : List (List DecidedGoal)) (answers : List Answer) (p : ℕ) (v : Verdict) → AreAnswers ps table ranks 0 ps answers → IsVerdictOn answers p v → Said ps table p v
+said : (ps : List TypedProcedure) (table ranks : List (List GoalOutcome)) (answers : List Answer) (p : ℕ) (v : Verdict) → AreAnswers ps table ranks 0 ps answers → IsVerdictOn answers p v → Said ps table p v
 said ps table ranks answers p v h on =
     let r = answered ps table ranks answers on.before on.behind on.answer p h on.all on.place in
     record { verdict = subst (IsVerdict ps table p) on.verdict r.is.verdict; there = r.there }
 
-module _ (same : MadeGoalsSayBounds) (shown_bounds : ShownBoundsHold) (broken_goals : BrokenGoalsBreakBounds) (over : EncodingIsOver) (means : GeneratedFormMeansActs) (formula : GeneratedFormIsFormula) (generated_over : GeneratedFormIsOver) (failing : PrenexedGoalsFailByChoices) (ps : List TypedProcedure) (table : List (List DecidedGoal)) (rules : Each (MeetsRules ps) ps) (decided : IsTable ps 0 ps table) (settled : Each (Each IsSettled) table) where
+module _ (same : MadeGoalsSayBounds) (shown_bounds : ShownBoundsHold) (broken_goals : BrokenGoalsBreakBounds) (over : EncodingIsOver) (means : GeneratedFormMeansActs) (formula : GeneratedFormIsFormula) (generated_over : GeneratedFormIsOver) (failing : PrenexedGoalsFailByChoices) (ps : List TypedProcedure) (rules : Each (MeetsRules ps) ps) (table ranks : List (List GoalOutcome)) (are : AreOutcomes ps table ranks) where
   -- The goals of a procedure hold, where all are proved.
   held : (p : ℕ) → p < length ps → all_proved (row_at table p) ≡ true → BoundGoalsHold ps (procedure_at ps p)
-  held p l e = each_there (λ id. Holds (goal (question ps (procedure_at ps p) id))) (GoalHolds ps (procedure_at ps p)) (bound_goals (procedure_at ps p)) (λ id. (same ps p id rules l).0) (row_holds ps p (bound_goals (procedure_at ps p)) (row_at table p) (bounds_at ps table p l decided) (settled_at table p settled) e)
+  held p l e = each_there (λ id. Holds (goal (question ps (procedure_at ps p) id))) (GoalHolds ps (procedure_at ps p)) (bound_goals (procedure_at ps p)) (λ id. (same ps p id rules l).0) (row_holds ps p (bound_goals (procedure_at ps p)) (row_at table p) (are.bounds p l) (each_proved (row_at table p) e))
 
   shown : (q : ℕ) → IsClosed ps table q → IsShown ps q
   shown q h = record { program = h.program; goals = held q (program_there ps q h.program) h.proved }
 
   -- What is shown of the first goal that is falsified.
-  shown_falsified : (p : ℕ) (id : GoalId) (s : List Val) → p < length ps → first_falsified (row_at table p) ≡ Some (id, s) → IsFalsifiedIn ps p id s
-  shown_falsified p id s l e = falsified_in means formula generated_over over failing ps rules p l id s (row_fails ps p (bound_goals (procedure_at ps p)) (row_at table p) id s (bounds_at ps table p l decided) (settled_at table p settled) e)
+  shown_falsified : (p : ℕ) (id : GoalId) (s : Vec Val Global) → p < length ps → IsTold (row_at table p) id (outcome.Falsified s) → IsFalsifiedIn ps p id s.items
+  shown_falsified p id s l t = falsified_in means formula generated_over over failing ps rules p l id s.items (told_means ps p (bound_goals (procedure_at ps p)) (row_at table p) id (outcome.Falsified s) (are.bounds p l) t)
 
-  broken : (p : ℕ) (s : List Val) → p < length ps → first_falsified (row_at table p) ≡ Some (Main, s) → IsProgram (procedure_at ps p) → Each IsStraight (in_order (acts_in (procedure_at ps p).body)) → IsBrokenFrom ps p (take (length (variables (procedure_at ps p))) s)
+  broken : (p : ℕ) (s : Vec Val Global) → p < length ps → IsTold (row_at table p) Main (outcome.Falsified s) → IsProgram (procedure_at ps p) → Each IsStraight (in_order (acts_in (procedure_at ps p).body)) → IsBrokenFrom ps p (take (length (variables (procedure_at ps p))) s.items)
   broken p s l e program straight =
       let q = procedure_at ps p in
       let acts = acts_in q.body in
       let v : all_variables ps q ≡ variables q = ap (λ r. variables q ++ r) (none_fresh ps acts straight) ∙ append-nil (variables q) in
-      let r = take (length (variables q)) s in
+      let r = take (length (variables q)) s.items in
       let k = shown_falsified p Main s l e in
-      let f : GoalFails ps q Main r = subst (λ (vs : List Variable). GoalFails ps q Main (take (length vs) s)) v k.fails in
+      let f : GoalFails ps q Main r = subst (λ (vs : List Variable). GoalFails ps q Main (take (length vs) s.items)) v k.fails in
       record {
         state = k.state;
         broken = λ n m. broken_goals ps p r f.choices rules l program straight k.state (λ h. f.fails (subst (λ a. Compares q.co (value q.pre (environment r) Choices.stop) (forward a (value q.post) (environment r) f.choices)) (sym (itself ps q (length (variables q)) acts straight)) h)) n m;
@@ -115,16 +118,16 @@ module _ (same : MadeGoalsSayBounds) (shown_bounds : ShownBoundsHold) (broken_go
   proved_held p (Unchecked id miss) k e = absurd (false≢true e)
   proved_held p NoBody k e = absurd (false≢true e)
 
-  pub headline : RankingsBoundTurns → RankingGoalsHold → RankingGoalsFail → (ranks : List (List DecidedGoal)) → IsRankTable ps 0 ps ranks → Each (Each IsSettled) ranks → (answers : List Answer) → AreAnswers ps table ranks 0 ps answers → IsHeadline ps answers
-  headline bound hold unrank ranks ranked ranks_settled answers h = record {
+  pub headline : RankingsBoundTurns → RankingGoalsHold → RankingGoalsFail → (answers : List Answer) → AreAnswers ps table ranks 0 ps answers → IsHeadline ps answers
+  headline bound hold unrank answers h = record {
     verified = λ p on. let k = said ps table ranks answers p Verified h on in shown_bounds ps p rules k.there (record { itself = shown p k.verdict.0; reached = λ q m. shown q (k.verdict.1 q m) });
     ranked = λ p n on.
         let r = answered ps table ranks answers on.before on.behind on.answer p h on.all on.place in
-        ranked_loop bound hold ps p n (ranked_loops (procedure_at ps p)) (row_at ranks p) on.answer.loops.items on.line rules r.there (rankings_at ps ranks p r.there ranked) (settled_at ranks p ranks_settled) r.is.loops on.listed on.number on.verdict;
-    falsified = λ p s on program straight. let k = said ps table ranks answers p (NotVerified Main s) h on in broken p s.items k.there k.verdict program straight;
+        ranked_loop bound hold ps p n (ranked_loops (procedure_at ps p)) (row_at ranks p) on.answer.loops.items on.line rules r.there (are.rankings p r.there) r.is.loops on.listed on.number on.verdict;
+    falsified = λ p s on program straight. let k = said ps table ranks answers p (NotVerified Main s) h on in broken p s k.there k.verdict program straight;
     proved = λ p v on e. proved_held p v (said ps table ranks answers p v h on) e;
-    shown = λ p id s on. let k = said ps table ranks answers p (NotVerified id s) h on in shown_falsified p id s.items k.there k.verdict;
+    shown = λ p id s on. let k = said ps table ranks answers p (NotVerified id s) h on in shown_falsified p id s k.there k.verdict;
     unranked = λ p n s on.
         let r = answered ps table ranks answers on.before on.behind on.answer p h on.all on.place in
-        unranked_loop unrank ps p n (ranked_loops (procedure_at ps p)) (row_at ranks p) on.answer.loops.items on.line s rules r.there (rankings_at ps ranks p r.there ranked) (settled_at ranks p ranks_settled) r.is.loops on.listed on.number on.verdict;
+        unranked_loop unrank ps p n (ranked_loops (procedure_at ps p)) (row_at ranks p) on.answer.loops.items on.line s rules r.there (are.rankings p r.there) r.is.loops on.listed on.number on.verdict;
   }

@@ -1,8 +1,6 @@
 -- What is made of a goal, and what its decision or its certificate says of the goal.
-use Rattle.std.proofs.Common.{◌≡◌, ◌≤◌, ℕ, sym, ◌∙◌, subst, arith, true, Bool, List}
-use Rattle.std.proofs.lemmas.Bool.{false≢true}
-use Rattle.std.specs.Prelude.{Some, Vec}
-use Rattle.std.specs.declared.alloc.Global.{Global}
+use Rattle.std.proofs.Common.{◌≡◌, ◌≤◌, ℕ, sym, ◌∙◌, subst, arith, List}
+use Rattle.std.specs.Prelude.{Option, Some, None}
 use Rattle.heyvl_places.specs.declared.spans.Span.{Span}
 use Rattle.farkas_check.specs.AcceptedCertificates.{IsCertificate}
 use Rattle.farkas_check.specs.CertificateLaws.{CertifiedGoalsHold}
@@ -12,7 +10,6 @@ use Rattle.heylo_formula.specs.Goals.{Goal, Holds, goal_of}
 use Rattle.heylo_formula.specs.TypedGoals.{IsGoal, IsTypedGoal}
 use Rattle.heylo_formula.specs.declared.goals.Made.{Made}
 use Rattle.heylo_formula.specs.declared.goals.Made.TheVariants as made
-use Rattle.heylo_formula.specs.declared.values.Val.{Val}
 use Rattle.goal_answers.specs.declared.causes.Cause.{Cause}
 use Rattle.goal_answers.specs.declared.causes.Cause.TheVariants as cause
 use Rattle.linear_form.specs.Nonlinear.{nonlinear_product}
@@ -23,10 +20,19 @@ use Rattle.goal_answers.specs.declared.decisions.Decision.{Decision}
 use Rattle.goal_answers.specs.declared.decisions.Decision.TheVariants.{Proved, Falsified, Unknown}
 use Rattle.verdict_report.specs.PlacedAnswers.{IsCausePlaced}
 use Rattle.vp_generator.specs.Limits.{IsSmall}
-use Rattle.verify_core.specs.CertifiedGoals.{Certifies}
-use Rattle.verify_core.specs.GoalDecisions.{IsDecisionOf, is_proved}
+use Rattle.goal_answers.specs.declared.misses.Miss.{Miss}
+use Rattle.goal_answers.specs.declared.named_goals.NamedGoal.{NamedGoal}
+use Rattle.goal_answers.specs.declared.trees.GoalCert.{GoalCert}
+use Rattle.verify_core.specs.CertifiedGoals as checked
+use Rattle.verify_core.specs.CertifiedGoals.{Certifies, IsMissOf}
+use Rattle.verify_core.specs.GoalDecisions as decided
+use Rattle.verify_core.specs.GoalDecisions.{IsDecisionOf}
+use Rattle.verify_core.specs.declared.outcomes.Outcome.{Outcome}
+use Rattle.verify_core.specs.declared.outcomes.Outcome.TheVariants as outcome
+use Rattle.verify_core.specs.declared.settled_goals.Way.{Way}
+use Rattle.verify_core.specs.declared.settled_goals.Way.TheVariants.{Decide, Check}
 use Rattle.verify_core.specs.internal.Decidable.{CanDecide, IsDecidable}
-use Rattle.verify_core.specs.internal.SettledGoals.{TellsOf}
+use Rattle.verify_core.specs.internal.SettledGoals.{Finding, Finds, TellsOf, outcome_by}
 
 -- ---- What may be made
 
@@ -54,29 +60,21 @@ made_alike f g (made.Goal x) made.Nodes a b = let s = a.1.few in omega (arith, s
 made_alike f g made.Depth n a b = tt
 made_alike f g made.Nodes n a b = tt
 
--- ---- By its decision
+-- ---- What comes of a goal
 
-pub proved_holds : (f : Form) (g : Goal) (m : Made) (d : Decision) → IsMadeWithin f g m → IsDecisionOf m d → TellsOf m d → is_proved d ≡ true → Holds g
-proved_holds f g (made.Goal x) (Proved t) h k m e = subst (λ (y : Goal). Holds y) h.0 m
-proved_holds f g (made.Goal x) (Falsified s) h k m e = absurd (false≢true e)
-proved_holds f g (made.Goal x) (Unknown c) h k m e = absurd (false≢true e)
-proved_holds f g made.Depth (Proved t) h k m e = absurd (cc)
-proved_holds f g made.Depth (Falsified s) h k m e = absurd (false≢true e)
-proved_holds f g made.Depth (Unknown c) h k m e = absurd (false≢true e)
-proved_holds f g made.Nodes (Proved t) h k m e = absurd (cc)
-proved_holds f g made.Nodes (Falsified s) h k m e = absurd (false≢true e)
-proved_holds f g made.Nodes (Unknown c) h k m e = absurd (false≢true e)
-
-pub falsified_fails : (f : Form) (g : Goal) (m : Made) (s : Vec Val Global) → IsMadeWithin f g m → IsDecisionOf m (Falsified s) → TellsOf m (Falsified s) → Fails g s.items
-falsified_fails f g (made.Goal x) s h k t = subst (λ (y : Goal). Fails y s.items) h.0 t
-falsified_fails f g made.Depth s h k t = absurd (cc)
-falsified_fails f g made.Nodes s h k t = absurd (cc)
+-- What comes of a goal says so much: it holds, or it fails in this state, or the place that the cause names is in the text where its
+-- first product is.
+abbrev pub Means : Goal → Outcome → Type 0
+Means g outcome.Proved = Holds g
+Means g (outcome.Falsified s) = Fails g s.items
+Means g (outcome.Unknown c) = (n : ℕ) → ((s : Span) → nonlinear_product g ≡ Some s → s.from ≤ n) → IsCausePlaced n c
+Means g (outcome.Missed m) = Unit {0}
 
 same_cause : (c d : Cause) → ◌≡◌ {A = Decision} (Unknown c) (Unknown d) → c ≡ d
 same_cause c d e = cc
 
 -- The place that the cause names is in the text, where the goal's first product is.
-pub cause_placed : (n : ℕ) (f : Form) (g : Goal) (m : Made) (c : Cause) → ((s : Span) → nonlinear_product g ≡ Some s → s.from ≤ n) → IsMadeWithin f g m → IsDecisionOf m (Unknown c) → IsCausePlaced n c
+cause_placed : (n : ℕ) (f : Form) (g : Goal) (m : Made) (c : Cause) → ((s : Span) → nonlinear_product g ≡ Some s → s.from ≤ n) → IsMadeWithin f g m → IsDecisionOf m (Unknown c) → IsCausePlaced n c
 cause_placed n f g (made.Goal x) cause.Depth w h k = tt
 cause_placed n f g (made.Goal x) cause.Nodes w h k = tt
 cause_placed n f g (made.Goal x) (cause.Nonlinear s) w h k = w s (subst (λ (y : Goal). nonlinear_product y ≡ Some s) h.0 k)
@@ -87,9 +85,25 @@ cause_placed n f g (made.Goal x) (cause.Fraction b) w h k = tt
 cause_placed n f g made.Depth c w h k = subst (IsCausePlaced n) (sym (same_cause c cause.Depth k)) tt
 cause_placed n f g made.Nodes c w h k = subst (IsCausePlaced n) (sym (same_cause c cause.Nodes k)) tt
 
--- ---- By its certificate
+decision_means : (f : Form) (g : Goal) (m : Made) (d : Decision) → IsMadeWithin f g m → IsDecisionOf m d → TellsOf m d → Means g (decided.outcome_of d)
+decision_means f g m (Unknown c) h k t = λ n w. cause_placed n f g m c w h k
+decision_means f g (made.Goal x) (Proved t) h k m = subst (λ (y : Goal). Holds y) h.0 m
+decision_means f g (made.Goal x) (Falsified s) h k m = subst (λ (y : Goal). Fails y s.items) h.0 m
+decision_means f g made.Depth (Proved t) h k m = absurd (cc)
+decision_means f g made.Depth (Falsified s) h k m = absurd (cc)
+decision_means f g made.Nodes (Proved t) h k m = absurd (cc)
+decision_means f g made.Nodes (Falsified s) h k m = absurd (cc)
 
-pub certified_holds : CertifiedGoalsHold → (f : Form) (g : Goal) (m : Made) (t : Tree) → IsTypedGoal g → IsMadeWithin f g m → Certifies m t → Holds g
+certified_holds : CertifiedGoalsHold → (f : Form) (g : Goal) (m : Made) (t : Tree) → IsTypedGoal g → IsMadeWithin f g m → Certifies m t → Holds g
 certified_holds law f g (made.Goal x) t s h c = law g t s (subst (λ y. IsCertificate y t) h.0 c)
 certified_holds law f g made.Depth t s h c = absurd c
 certified_holds law f g made.Nodes t s h c = absurd c
+
+miss_means : CertifiedGoalsHold → (f : Form) (g : Goal) (certs : List GoalCert) (x : NamedGoal) (m : Option Miss) → IsTypedGoal g → IsMadeWithin f g x.made → IsMissOf certs x m → Means g (checked.outcome_of m)
+miss_means law f g certs x None s h k = certified_holds law f g x.made k.tree s h k.certifies
+miss_means law f g certs x (Some m) s h k = tt
+
+-- In either way.
+pub means : CertifiedGoalsHold → (way : Way) (f : Form) (g : Goal) (x : NamedGoal) (a : Finding way) → IsTypedGoal g → IsMadeWithin f g x.made → Finds way x a → Means g (outcome_by way a)
+means law Decide f g x d s h k = decision_means f g x.made d h k.0 k.1
+means law (Check certs) f g x m s h k = miss_means law f g certs.now x m s h k

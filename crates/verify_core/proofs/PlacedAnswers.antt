@@ -1,61 +1,41 @@
 -- What the answers of a file name is in its text, where the procedures stand within it.
-use Rattle.std.proofs.Common.{◌≡◌, ◌<◌, ◌≤◌, ◌+◌, ◌==◌, ◌||◌, ℕ, refl, sym, ap, ◌∙◌, subst, arith, Bool, true, false, not, List, [], ◌∷◌, length, ⊎_elim}
+use Rattle.std.proofs.Common.{◌≡◌, ◌<◌, ◌≤◌, ◌+◌, ◌==◌, ◌||◌, ℕ, refl, sym, ap, ◌∙◌, subst, arith, Bool, true, false, not, List, [], ◌∷◌, length, map, ⊎_elim}
 use Rattle.std.proofs.lemmas.Bool.{cases_eq, false≢true, ne_eqb, or_cases}
 use Rattle.std.specs.List.{AllZip}
 use Rattle.std.specs.Prelude.{Option, Some, None, if◌then◌else◌}
 use Prim.Native.Nat.{zero, suc}
 use Rattle.heyvl_places.specs.declared.spans.Span.{Span}
 use Rattle.heylo_formula.specs.Binders.{has_binder}
-use Rattle.heylo_formula.specs.declared.goals.GoalId.{GoalId}
 use Rattle.heyvl_acts.specs.Acts.{Act, Acts, TypedProcedure, acts_in, procedure_at}
 use Rattle.heyvl_acts.specs.Places.{in_order}
 use Rattle.heyvl_acts.specs.Program.{Reaches, Reason, calls, first_break, reason_of_break, why_no_program}
 use Rattle.heyvl_acts.specs.Program.Reaches.{directly, onward}
 use Rattle.heyvl_acts.specs.Rules.{Each, IsTypedAct, MeetsRules}
-use Rattle.goal_answers.specs.declared.causes.Cause.{Cause}
 use Rattle.loop_encodings.specs.BoundGoals.{bound_goals}
 use Rattle.proc_contracts.specs.Reasons.{plain}
 use Rattle.proc_contracts.specs.declared.reasons.WhyNot.{WhyNot}
-use Rattle.goal_answers.specs.declared.decisions.Decision.{Decision}
-use Rattle.goal_answers.specs.declared.decisions.Decision.TheVariants.{Proved, Falsified, Unknown}
 use Rattle.ranking_rule.specs.RankingGoals as ranking
-use Rattle.verdict_report.specs.PlacedAnswers.{IsAnswerPlaced, IsCausePlaced, IsLoopPlaced, IsRankPlaced, IsReasonPlaced, IsVerdictPlaced}
+use Rattle.verdict_report.specs.PlacedAnswers.{IsAnswerPlaced, IsLoopPlaced, IsRankPlaced, IsReasonPlaced, IsVerdictPlaced}
 use Rattle.verdict_report.specs.declared.answers.Answer.{Answer}
-use Rattle.verdict_report.specs.declared.answers.LoopAnswer.{LoopAnswer}
-use Rattle.goal_answers.specs.declared.named_goals.NamedGoal.{NamedGoal}
 use Rattle.verdict_report.specs.declared.answers.Verdict.{Verdict}
 use Rattle.verdict_report.specs.declared.answers.Verdict.TheVariants as verdict
-use Rattle.verdict_report.specs.declared.answers.RankVerdict.{RankVerdict}
-use Rattle.verdict_report.specs.declared.answers.RankVerdict.TheVariants as rank
-use Rattle.verify_core.specs.AnsweredProcedures.{AreAnswers, IsVerdict}
-use Rattle.verify_core.specs.GoalDecisions.{AreDecided, DecidedGoal, IsDecisionOf, IsTable, first_unknown, or_else, unknown}
-use Rattle.verify_core.specs.DecidedRankings.{AreRankingsDecided, IsRankTable, IsRankVerdict, IsRankingDecided}
+use Rattle.heylo_formula.specs.Goals.{Goal}
+use Rattle.linear_form.specs.Nonlinear.{nonlinear_product}
+use Rattle.verify_core.specs.Outcomes.{loop_answer, rank_of}
+use Rattle.verify_core.specs.Verdicts.{AreAnswers, IsVerdict}
+use Rattle.verify_core.specs.declared.outcomes.GoalOutcome.{GoalOutcome}
+use Rattle.verify_core.specs.declared.outcomes.Outcome.{Outcome}
+use Rattle.verify_core.specs.declared.outcomes.Outcome.TheVariants.{Proved, Falsified, Unknown, Missed}
+use Rattle.verify_core.proofs.MadeGoals.{Means}
+use Rattle.verify_core.proofs.OutcomesMean.{AreOutcomes, IsBoundOutcome, IsRankingOutcome, told_means}
 use Rattle.verify_core.specs.Places.{ActStands, StandsWithin}
 use Rattle.verify_core.specs.NumberedLists.{row_at}
-use Rattle.verify_core.specs.Questions.{IsGoalOf, goal, question}
 use Rattle.verify_core.specs.Rankings.{ranked_loops}
-use Rattle.verify_core.proofs.MadeGoals.{cause_placed}
-use Rattle.verify_core.proofs.Rows.{bounds_at, rankings_at}
 use Rattle.verify_core.proofs.StandingActs.{goal_stands, stands_at}
 use Rattle.verify_core.proofs.StandingRankings.{ranking_stands}
 
--- ---- Causes
-
 same_some : {A : Type 0} (a b : A) → Some a ≡ Some b → a ≡ b
 same_some a b e = cc
-
-unknown_by : (n : ℕ) (ps : List TypedProcedure) (p : ℕ) (i id : GoalId) (c : Cause) (g : NamedGoal) (d : Decision) (ds : List DecidedGoal) → Each (StandsWithin n) ps → IsGoalOf ps p i g → IsDecisionOf g.made d → or_else (unknown g.id d) (first_unknown ds) ≡ Some (id, c) → (first_unknown ds ≡ Some (id, c) → IsCausePlaced n c) → IsCausePlaced n c
-unknown_by n ps p i id c g (Proved t) ds s h k e f = f e
-unknown_by n ps p i id c g (Falsified t) ds s h k e f = f e
-unknown_by n ps p i id c g (Unknown d) ds s h k e f =
-    let w : ◌≡◌ {A = GoalId × Cause} (g.id, d) (id, c) = same_some _ _ e in
-    subst (IsCausePlaced n) (ap (λ (x : GoalId × Cause). x.1) w) (cause_placed n (question ps (procedure_at ps p) i).found (goal (question ps (procedure_at ps p) i)) g.made d (λ r m. goal_stands n ps p i r s m) h.made k)
-
-row_placed : (n : ℕ) (ps : List TypedProcedure) (p : ℕ) (ids : List GoalId) (row : List DecidedGoal) (id : GoalId) (c : Cause) → Each (StandsWithin n) ps → AreDecided ps p ids row → first_unknown row ≡ Some (id, c) → IsCausePlaced n c
-row_placed n ps p [] [] id c s h e = absurd (cc)
-row_placed n ps p [] (d ∷ ds) id c s h e = absurd h
-row_placed n ps p (i ∷ ids) [] id c s h e = absurd h
-row_placed n ps p (i ∷ ids) (d ∷ ds) id c s h e = unknown_by n ps p i id c d.goal d.decision ds s h.0.goal h.0.decision e (row_placed n ps p ids ds id c s h.1)
 
 -- ---- Reasons
 
@@ -126,51 +106,43 @@ reached_there ps _ _ h (onward p q r c k) = reached_there ps q r h k
 
 -- ---- Answers
 
-verdict_placed : (n : ℕ) (ps : List TypedProcedure) (table : List (List DecidedGoal)) (p : ℕ) (v : Verdict) → Each (MeetsRules ps) ps → IsTable ps 0 ps table → Each (StandsWithin n) ps → p < length ps → IsVerdict ps table p v → IsVerdictPlaced n (length ps) v
-verdict_placed n ps table p verdict.Verified r d s l h = tt
-verdict_placed n ps table p (verdict.Valid why) r d s l h = reason_placed n (procedure_at ps p) why (stands_at n ps p s) h.1.1
-verdict_placed n ps table p (verdict.Conditional q) r d s l h = reached_there ps p q r h.1.reached
-verdict_placed n ps table p (verdict.NotVerified id t) r d s l h = tt
-verdict_placed n ps table p (verdict.Unknown id c) r d s l h = row_placed n ps p (bound_goals (procedure_at ps p)) (row_at table p) id c s (bounds_at ps table p l d) h.1
-verdict_placed n ps table p verdict.NoBody r d s l h = tt
-verdict_placed n ps table p (verdict.Unchecked id miss) r d s l h = absurd h
+verdict_placed : (n : ℕ) (ps : List TypedProcedure) (table : List (List GoalOutcome)) (p : ℕ) (v : Verdict) → Each (MeetsRules ps) ps → Each (StandsWithin n) ps → AllZip (IsBoundOutcome ps p) (bound_goals (procedure_at ps p)) (row_at table p) → IsVerdict ps table p v → IsVerdictPlaced n (length ps) v
+verdict_placed n ps table p verdict.Verified r s o h = tt
+verdict_placed n ps table p (verdict.Valid why) r s o h = reason_placed n (procedure_at ps p) why (stands_at n ps p s) h.1.1
+verdict_placed n ps table p (verdict.Conditional q) r s o h = reached_there ps p q r h.1.reached
+verdict_placed n ps table p (verdict.NotVerified id t) r s o h = tt
+verdict_placed n ps table p (verdict.Unknown id c) r s o h = told_means ps p (bound_goals (procedure_at ps p)) (row_at table p) id (Unknown c) o h n (λ t e. goal_stands n ps p id t s e)
+verdict_placed n ps table p verdict.NoBody r s o h = tt
+verdict_placed n ps table p (verdict.Unchecked id miss) r s o h = tt
 
--- ---- Rankings
+rank_placed : (n : ℕ) (g : Goal) (o : Outcome) → ((t : Span) → nonlinear_product g ≡ Some t → t.from ≤ n) → Means g o → IsRankPlaced n (rank_of o)
+rank_placed n g Proved f m = tt
+rank_placed n g (Falsified s) f m = tt
+rank_placed n g (Unknown c) f m = m n f
+rank_placed n g (Missed k) f m = tt
 
-unknown_is : (d : Decision) (c : Cause) → IsRankVerdict d (rank.Unknown c) → d ≡ Unknown c
-unknown_is (Proved t) c h = h
-unknown_is (Falsified s) c h = h
-unknown_is (Unknown b) c h = h
+loops_placed : (n : ℕ) (ps : List TypedProcedure) (p : ℕ) (ns : List ℕ) (os : List GoalOutcome) → Each (StandsWithin n) ps → AllZip (IsRankingOutcome ps p) ns os → Each (IsLoopPlaced n) (map loop_answer os)
+loops_placed n ps p ns [] s h = tt
+loops_placed n ps p [] (o ∷ os) s h = absurd h
+loops_placed n ps p (k ∷ ns) (o ∷ os) s h =
+    let l = h.0.loop in
+    (rank_placed n (ranking.goal (procedure_at ps p) l.head l.body l.rank) o.outcome (λ t e. ranking_stands n ps p k l t s e) h.0.means, loops_placed n ps p ns os s h.1)
 
-rank_placed : (n : ℕ) (ps : List TypedProcedure) (p k : ℕ) (d : DecidedGoal) (r : RankVerdict) → Each (StandsWithin n) ps → IsRankingDecided ps p k d → IsRankVerdict d.decision r → IsRankPlaced n r
-rank_placed n ps p k d rank.Ranked s h v = tt
-rank_placed n ps p k d (rank.NotRanked t) s h v = tt
-rank_placed n ps p k d (rank.Unknown c) s h v = let l = h.goal.ranked in cause_placed n (ranking.generated l.body l.rank) (ranking.goal (procedure_at ps p) l.head l.body l.rank) d.goal.made c (λ t e. ranking_stands n ps p k l t s e) h.goal.made (subst (IsDecisionOf d.goal.made) (unknown_is d.decision c v) h.decision)
-rank_placed n ps p k d (rank.Unchecked miss) s h v = tt
-
-loops_placed : (n : ℕ) (ps : List TypedProcedure) (p : ℕ) (ns : List ℕ) (ds : List DecidedGoal) (ls : List LoopAnswer) → Each (StandsWithin n) ps → AreRankingsDecided ps p ns ds → AllZip (λ (d : DecidedGoal) (l : LoopAnswer). IsRankVerdict d.decision l.rank) ds ls → Each (IsLoopPlaced n) ls
-loops_placed n ps p ns ds [] s h r = tt
-loops_placed n ps p ns [] (l ∷ ls) s h r = absurd r
-loops_placed n ps p [] (d ∷ ds) (l ∷ ls) s h r = absurd h
-loops_placed n ps p (k ∷ ns) (d ∷ ds) (l ∷ ls) s h r = (rank_placed n ps p k d l.rank s h.0 r.0, loops_placed n ps p ns ds ls s h.1 r.1)
-
--- ---- A file
-
-placed_from : (n : ℕ) (ps : List TypedProcedure) (table ranks : List (List DecidedGoal)) (k : ℕ) (qs : List TypedProcedure) (answers : List Answer) → Each (MeetsRules ps) ps → IsTable ps 0 ps table → IsRankTable ps 0 ps ranks → Each (StandsWithin n) ps → k + length qs ≡ length ps → AreAnswers ps table ranks k qs answers → Each (IsAnswerPlaced n (length ps)) answers
-placed_from n ps table ranks k [] [] r d t s e h = tt
-placed_from n ps table ranks k [] (a ∷ rest) r d t s e h = absurd h
-placed_from n ps table ranks k (q ∷ qs) [] r d t s e h = absurd h
-placed_from n ps table ranks k (q ∷ qs) (a ∷ rest) r d t s e h =
+placed_from : (n : ℕ) (ps : List TypedProcedure) (table ranks : List (List GoalOutcome)) (k : ℕ) (qs : List TypedProcedure) (answers : List Answer) → Each (MeetsRules ps) ps → AreOutcomes ps table ranks → Each (StandsWithin n) ps → k + length qs ≡ length ps → AreAnswers ps table ranks k qs answers → Each (IsAnswerPlaced n (length ps)) answers
+placed_from n ps table ranks k [] [] r o s e h = tt
+placed_from n ps table ranks k [] (a ∷ rest) r o s e h = absurd h
+placed_from n ps table ranks k (q ∷ qs) [] r o s e h = absurd h
+placed_from n ps table ranks k (q ∷ qs) (a ∷ rest) r o s e h =
     let l : k < length ps = omega (arith, e) in (
       record {
-        verdict = verdict_placed n ps table k a.verdict r d s l h.0.verdict;
-        loops = loops_placed n ps k (ranked_loops (procedure_at ps k)) (row_at ranks k) a.loops.items s (rankings_at ps ranks k l t) h.0.loops.1;
+        verdict = verdict_placed n ps table k a.verdict r s (o.bounds k l) h.0.verdict;
+        loops = subst (λ x. Each (IsLoopPlaced n) x) (sym h.0.loops) (loops_placed n ps k (ranked_loops (procedure_at ps k)) (row_at ranks k) s (o.rankings k l));
       },
-      placed_from n ps table ranks (suc k) qs rest r d t s (omega (arith, e)) h.1,
+      placed_from n ps table ranks (suc k) qs rest r o s (omega (arith, e)) h.1,
     )
 
-pub answers_placed : (n : ℕ) (ps : List TypedProcedure) (table ranks : List (List DecidedGoal)) (answers : List Answer) → Each (MeetsRules ps) ps → IsTable ps 0 ps table → IsRankTable ps 0 ps ranks → Each (StandsWithin n) ps → AreAnswers ps table ranks 0 ps answers → Each (IsAnswerPlaced n (length ps)) answers
-answers_placed n ps table ranks answers r d t s h = placed_from n ps table ranks 0 ps answers r d t s (first (length ps)) h
+pub answers_placed : (n : ℕ) (ps : List TypedProcedure) (table ranks : List (List GoalOutcome)) (answers : List Answer) → Each (MeetsRules ps) ps → AreOutcomes ps table ranks → Each (StandsWithin n) ps → AreAnswers ps table ranks 0 ps answers → Each (IsAnswerPlaced n (length ps)) answers
+answers_placed n ps table ranks answers r o s h = placed_from n ps table ranks 0 ps answers r o s (first (length ps)) h
   where
     first : (k : ℕ) → 0 + k ≡ k
     first k = omega arith

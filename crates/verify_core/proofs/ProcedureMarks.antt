@@ -1,62 +1,16 @@
--- The marks tell which procedures are open, and the first mark is the first open procedure that is reached.
-use Rattle.std.proofs.Common.{◌≡◌, ◌<◌, ◌≤◌, ◌+◌, ◌==◌, ◌||◌, ℕ, refl, sym, ap, ◌∙◌, subst, append_assoc, arith, Bool, true, false, List, [], ◌∷◌, ◌++◌, drop, length, get_or, ⊎_elim}
-use Rattle.std.proofs.Math.Numerals.{add-one}
-use Rattle.std.proofs.Math.Seq.{drop-cons}
+-- The first mark is the first open procedure that is reached.
+use Rattle.std.proofs.Common.{◌≡◌, ◌<◌, ◌≤◌, ◌==◌, ◌||◌, ℕ, refl, sym, ap, ◌∙◌, subst, arith, Bool, true, false, List, [], ◌∷◌, length, get_or, ⊎_elim}
 use Rattle.std.proofs.lemmas.Bool.{cases_eq, eq-eqb, ne_eqb, or_cases, false≢true}
-use Rattle.std.specs.Prelude.{Option, Some, None, is_some, if◌then◌else◌}
-use mathlib.Core.Logic.◌⊎◌.{inl, inr}
+use Rattle.std.specs.Prelude.{Some, None, if◌then◌else◌}
 use Prim.Native.Nat.{zero, suc}
-use Rattle.heyvl_acts.specs.Acts.{TypedProcedure, procedure_at}
-use Rattle.heyvl_acts.specs.Program.{Reaches, Reason, why_no_program}
+use Rattle.heyvl_acts.specs.Acts.{TypedProcedure}
+use Rattle.heyvl_acts.specs.Program.{Reaches}
 use Rattle.heyvl_acts.specs.Rules.{GrowBelow}
 use Rattle.heyvl_acts.specs.Visible.{among}
 use Rattle.proc_contracts.specs.ReachedProcedures.{AreReached}
-use Rattle.verify_core.specs.AnsweredProcedures.{IsClosed, IsFirstOpen}
-use Rattle.verify_core.specs.GoalDecisions.{DecidedGoal, IsOpen, all_proved}
-use Rattle.verify_core.specs.NumberedLists.{row_at}
-use Rattle.verify_core.specs.declared.outcomes.Outcome.{Outcome}
-use Rattle.verify_core.specs.declared.outcomes.Outcome.TheVariants.{Proved, Falsified, Unknown}
-use Rattle.verify_core.specs.declared.outcomes.ProcedureOutcome.{ProcedureOutcome}
-use Rattle.verify_core.specs.internal.Marks.{AreMarks, IsMark, first_marked, is_open, marks}
-use Rattle.verify_core.specs.internal.Outcomes.{AreOutcomes, outcome}
-use Rattle.verify_core.proofs.GoalOutcomes.{describes, is_all}
-use Rattle.verify_core.proofs.Rows.{drop_next, drop_none}
-
--- ---- The marks
-
-proved_mark : (ps : List TypedProcedure) (table : List (List DecidedGoal)) (q : ℕ) (w : Option Reason) → all_proved (row_at table q) ≡ true → why_no_program (procedure_at ps q) ≡ w → IsMark ps table q (is_some w)
-proved_mark ps table q (Some r) h e = inl (λ k. absurd (cc))
-proved_mark ps table q None h e = record { proved = h; program = e }
-
-is_mark : (ps : List TypedProcedure) (table : List (List DecidedGoal)) (q : ℕ) (o : Outcome) → outcome (row_at table q) ≡ o → IsMark ps table q (is_open (procedure_at ps q) o)
-is_mark ps table q Proved e = proved_mark ps table q (why_no_program (procedure_at ps q)) ((describes (row_at table q)).all ∙ ap is_all e) refl
-is_mark ps table q (Falsified g s) e = inr ((describes (row_at table q)).all ∙ ap is_all e)
-is_mark ps table q (Unknown g c) e = inr ((describes (row_at table q)).all ∙ ap is_all e)
-
-mark_at : (qs : List TypedProcedure) (table ranks : List (List DecidedGoal)) (os : List ProcedureOutcome) (q : ℕ) → q < length qs → AreOutcomes qs table ranks os → get_or (marks qs os) q false ≡ is_open (procedure_at qs q) (outcome (row_at table q))
-mark_at [] table ranks os q l h = absurd (omega arith)
-mark_at (p ∷ qs) [] ranks os q l h = absurd h
-mark_at (p ∷ qs) (r ∷ table) [] os q l h = absurd h
-mark_at (p ∷ qs) (r ∷ table) (t ∷ ranks) [] q l h = absurd h
-mark_at (p ∷ qs) (r ∷ table) (t ∷ ranks) (o ∷ os) zero l h = ap (is_open p) h.0.bound
-mark_at (p ∷ qs) (r ∷ table) (t ∷ ranks) (o ∷ os) (suc q) l h = mark_at qs table ranks os q (omega arith) h.1
-
-pub are_marks : (ps : List TypedProcedure) (table ranks : List (List DecidedGoal)) (os : List ProcedureOutcome) (ms : List Bool) → AreOutcomes ps table ranks os → ms ≡ marks ps os → AreMarks ps table ms
-are_marks ps table ranks os ms h f q l = subst (IsMark ps table q) (sym (ap (λ m. get_or m q false) f ∙ mark_at ps table ranks os q l h)) (is_mark ps table q (outcome (row_at table q)) refl)
-
-pub marks_length : (ps : List TypedProcedure) (os : List ProcedureOutcome) → length os ≡ length ps → length (marks ps os) ≡ length ps
-marks_length [] os e = refl
-marks_length (p ∷ ps) [] e = e
-marks_length (p ∷ ps) (o ∷ os) e = ap suc (marks_length ps os (omega (arith, e)))
-
-pub no_marks : (ps : List TypedProcedure) (os : List ProcedureOutcome) (ms : List Bool) → ms ≡ [] → ms ++ marks (drop 0 ps) (drop 0 os) ≡ marks ps os
-no_marks ps os ms e = ap (λ l. l ++ marks (drop 0 ps) (drop 0 os)) e ∙ ap (λ l. marks l (drop 0 os)) (drop_none ps) ∙ ap (λ l. marks ps l) (drop_none os)
-
-pub next_mark : (ps : List TypedProcedure) (os : List ProcedureOutcome) (i : ℕ) (x : ProcedureOutcome) (b : Bool) (ms ns all : List Bool) → i < length ps → i < length os → x ≡ get_or os i x → b ≡ is_open (procedure_at ps i) x.bound → ns ≡ ms ++ (b ∷ []) → ms ++ marks (drop i ps) (drop i os) ≡ all → ns ++ marks (drop (i + 1) ps) (drop (i + 1) os) ≡ all
-next_mark ps os i x b ms ns all l k e f g h =
-    let there : drop i os ≡ x ∷ drop (suc i) os = drop-cons os i x k ∙ ap (λ o. o ∷ drop (suc i) os) (sym e) in
-    let first : marks (drop i ps) (drop i os) ≡ is_open (procedure_at ps i) x.bound ∷ marks (drop (suc i) ps) (drop (suc i) os) = ap (λ l. marks l (drop i os)) (drop_next ps i l) ∙ ap (λ l. marks (procedure_at ps i ∷ drop (suc i) ps) l) there in
-    ap (λ n. ns ++ marks (drop n ps) (drop n os)) (add-one i) ∙ ap (λ l. l ++ marks (drop (suc i) ps) (drop (suc i) os)) g ∙ append_assoc ms (b ∷ []) (marks (drop (suc i) ps) (drop (suc i) os)) ∙ ap (λ a. ms ++ (a ∷ marks (drop (suc i) ps) (drop (suc i) os))) f ∙ ap (λ l. ms ++ l) (sym first) ∙ h
+use Rattle.verify_core.specs.Verdicts.{IsClosed, IsFirstOpen}
+use Rattle.verify_core.specs.declared.outcomes.GoalOutcome.{GoalOutcome}
+use Rattle.verify_core.specs.internal.Marks.{AreMarks, IsMark, first_marked}
 
 -- ---- The first mark
 
@@ -116,12 +70,9 @@ all_within from n (x ∷ xs) h (suc k) d l = all_within (suc x) n xs h.1 k d (om
 
 -- ---- What a first mark says
 
-module _ (ps : List TypedProcedure) (table : List (List DecidedGoal)) (p : ℕ) (ms : List Bool) (found : List ℕ) (reached : AreReached ps p found) (are : AreMarks ps table ms) where
+module _ (ps : List TypedProcedure) (table : List (List GoalOutcome)) (p : ℕ) (ms : List Bool) (found : List ℕ) (reached : AreReached ps p found) (are : AreMarks ps table ms) where
   unmarked_closed : (r : ℕ) → among found r ≡ true → get_or ms r false ≡ false → IsClosed ps table r
   unmarked_closed r a e = subst (IsMark ps table r) e (are r (among_within 0 (length ps) found r reached.growing a).1)
-
-  closed_not_open : (r : ℕ) → IsClosed ps table r → IsOpen ps table r → ⊥
-  closed_not_open r h k = ⊎_elim (λ n. n h.program) (λ n. false≢true (sym n ∙ h.proved)) k
 
   pub first_open : (q : ℕ) → Some q ≡ first_marked ms found → IsFirstOpen ps table p q
   first_open q e =
@@ -129,7 +80,7 @@ module _ (ps : List TypedProcedure) (table : List (List DecidedGoal)) (p : ℕ) 
       record {
         reached = reached.only q f.listed;
         is_open = subst (IsMark ps table q) f.marked (are q (among_within 0 (length ps) found q reached.growing f.listed).1);
-        none_before = λ r l h k. closed_not_open r (unmarked_closed r (reached.all r h) (f.before r l (reached.all r h))) k;
+        closed_before = λ r l h. unmarked_closed r (reached.all r h) (f.before r l (reached.all r h));
       }
 
   pub all_closed : None ≡ first_marked ms found → (q : ℕ) → Reaches ps p q → IsClosed ps table q

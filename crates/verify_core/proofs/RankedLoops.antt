@@ -1,26 +1,27 @@
 -- A ranking whose goal holds bounds the turns of its loop.
-use Rattle.std.proofs.Common.{◌≡◌, ℕ, ◌<◌, refl, sym, subst, arith, true, List, [], ◌∷◌, length, slice_index_or, take}
-use Rattle.std.specs.List.{Contains}
+use Rattle.std.proofs.Common.{◌≡◌, ℕ, ◌<◌, refl, sym, ◌∙◌, subst, arith, List, [], ◌∷◌, length, map, slice_index_or}
+use Rattle.std.specs.List.{AllZip, Contains}
 use Rattle.std.specs.Prelude.{Vec}
 use Rattle.std.specs.declared.alloc.Global.{Global}
 use Prim.Native.Nat.{zero, suc}
 use Rattle.heylo_formula.specs.Goals.{Holds}
 use Rattle.heylo_formula.specs.declared.values.Val.{Val}
-use Rattle.heyvl_acts.specs.Acts.{TypedProcedure, procedure_at, variables}
+use Rattle.heyvl_acts.specs.Acts.{TypedProcedure, procedure_at}
 use Rattle.heyvl_acts.specs.Rules.{Each, MeetsRules}
 use Rattle.loop_encodings.proofs.exported.FromRules.{each_at}
 use Rattle.ranking_rule.specs.Laws.{RankingGoalsFail, RankingGoalsHold, RankingsBoundTurns}
-use Rattle.ranking_rule.specs.RankingGoals.{generated, goal}
-use Rattle.ranking_rule.specs.Rankings.{IsNoRanking, RankedLoop}
-use Rattle.goal_answers.specs.declared.decisions.Decision.{Decision}
-use Rattle.goal_answers.specs.declared.decisions.Decision.TheVariants.{Proved, Falsified, Unknown}
+use Rattle.ranking_rule.specs.RankingGoals.{goal}
+use Rattle.ranking_rule.specs.Rankings.{RankedLoop}
+use Rattle.region_split.specs.Meanings.{Fails}
 use Rattle.verdict_report.specs.declared.answers.LoopAnswer.{LoopAnswer}
 use Rattle.verdict_report.specs.declared.answers.RankVerdict.TheVariants.{NotRanked, Ranked}
-use Rattle.verify_core.specs.GoalDecisions.{DecidedGoal, IsDecisionOf, is_proved}
-use Rattle.verify_core.specs.DecidedRankings.{AreRanked, AreRankingsDecided, IsRankVerdict, IsRankingDecided}
 use Rattle.verify_core.specs.Headline.{IsRankedLoop, IsUnrankedIn}
-use Rattle.verify_core.specs.internal.SettledGoals.{IsSettled, TellsOf}
-use Rattle.verify_core.proofs.MadeGoals.{falsified_fails, proved_holds}
+use Rattle.verify_core.specs.Outcomes.{loop_answer, rank_of}
+use Rattle.verify_core.specs.declared.outcomes.GoalOutcome.{GoalOutcome}
+use Rattle.verify_core.specs.declared.outcomes.Outcome.{Outcome}
+use Rattle.verify_core.specs.declared.outcomes.Outcome.TheVariants.{Proved, Falsified, Unknown, Missed}
+use Rattle.verify_core.proofs.MadeGoals.{Means}
+use Rattle.verify_core.proofs.OutcomesMean.{IsRankingOutcome}
 
 -- ---- From the goal
 
@@ -31,58 +32,47 @@ turns_bounded bound hold ps p n l rules there h =
     let is = (hold ps (procedure_at ps p) n l meets).1 h in
     record { loop = l; ranking = is; turns = bound ps p n l meets is }
 
--- ---- From its decision
+-- ---- From what comes of it
 
--- The decision of the goal of the loop that an answer is on.
-record IsDecidedAt (ps : List TypedProcedure) (p : ℕ) (a : LoopAnswer) : Type 0 where
-  pub decided : DecidedGoal
-  pub is_of : IsRankingDecided ps p a.number decided
-  pub settled : IsSettled decided
-  pub verdict : IsRankVerdict decided.decision a.rank
+-- What comes of the goal of the loop that an answer is on.
+pub record IsOutcomeAt (ps : List TypedProcedure) (p : ℕ) (a : LoopAnswer) : Type 0 where
+  pub goal : GoalOutcome
+  pub is_of : IsRankingOutcome ps p a.number goal
+  pub rank : a.rank ≡ rank_of goal.outcome
 
-at_place : (ps : List TypedProcedure) (p : ℕ) (ns : List ℕ) (ds : List DecidedGoal) (ls : List LoopAnswer) (k : ℕ) (a : LoopAnswer) → AreRankingsDecided ps p ns ds → Each IsSettled ds → AreRanked ns ds ls → k < length ls → slice_index_or ls k a ≡ a → IsDecidedAt ps p a
-at_place ps p ns ds [] k a h s r l e = absurd (omega (arith, l))
-at_place ps p [] ds (x ∷ ls) k a h s r l e = absurd r.0
-at_place ps p (n ∷ ns) [] (x ∷ ls) k a h s r l e = absurd h
-at_place ps p (n ∷ ns) (d ∷ ds) (x ∷ ls) zero a h s r l e = subst (λ (y : LoopAnswer). IsDecidedAt ps p y) e (record { decided = d; is_of = subst (λ m. IsRankingDecided ps p m d) (sym r.0.0) h.0; settled = s.0; verdict = r.1.0 })
-at_place ps p (n ∷ ns) (d ∷ ds) (x ∷ ls) (suc k) a h s r l e = at_place ps p ns ds ls k a h.1 s.1 (r.0.1, r.1.1) (omega (arith, l)) e
+at_place : (ps : List TypedProcedure) (p : ℕ) (ns : List ℕ) (os : List GoalOutcome) (k : ℕ) (a : LoopAnswer) → AllZip (IsRankingOutcome ps p) ns os → k < length (map loop_answer os) → slice_index_or (map loop_answer os) k a ≡ a → IsOutcomeAt ps p a
+at_place ps p ns [] k a h l e = absurd (omega (arith, l))
+at_place ps p [] (o ∷ os) k a h l e = absurd h
+at_place ps p (n ∷ ns) (o ∷ os) zero a h l e = subst (IsOutcomeAt ps p) e (record { goal = o; is_of = subst (λ m. IsRankingOutcome ps p m o) (sym h.0.number) h.0; rank = refl })
+at_place ps p (n ∷ ns) (o ∷ os) (suc k) a h l e = at_place ps p ns os k a h.1 (omega (arith, l)) e
 
-decided_of : (ps : List TypedProcedure) (p : ℕ) (ns : List ℕ) (ds : List DecidedGoal) (ls : List LoopAnswer) (a : LoopAnswer) → AreRankingsDecided ps p ns ds → Each IsSettled ds → AreRanked ns ds ls → Contains ls a → IsDecidedAt ps p a
-decided_of ps p ns ds ls a h s r c = at_place ps p ns ds ls c.0 a h s r c.1 c.2
+outcome_at : (ps : List TypedProcedure) (p : ℕ) (ns : List ℕ) (os : List GoalOutcome) (ls : List LoopAnswer) (a : LoopAnswer) → AllZip (IsRankingOutcome ps p) ns os → ls ≡ map loop_answer os → Contains ls a → IsOutcomeAt ps p a
+outcome_at ps p ns os ls a h e c = let there = subst (λ l. Contains l a) e c in at_place ps p ns os there.0 a h there.1 there.2
 
-proved_by : (d : Decision) → IsRankVerdict d Ranked → is_proved d ≡ true
-proved_by (Proved t) h = h
-proved_by (Falsified s) h = h
-proved_by (Unknown c) h = h
+ranked_by : (o : Outcome) → rank_of o ≡ Ranked → o ≡ Proved
+ranked_by Proved e = refl
+ranked_by (Falsified s) e = cc
+ranked_by (Unknown c) e = cc
+ranked_by (Missed m) e = cc
 
 -- An answer that a loop is ranked.
-pub ranked_loop : RankingsBoundTurns → RankingGoalsHold → (ps : List TypedProcedure) (p n : ℕ) (ns : List ℕ) (ds : List DecidedGoal) (ls : List LoopAnswer) (a : LoopAnswer) → Each (MeetsRules ps) ps → p < length ps → AreRankingsDecided ps p ns ds → Each IsSettled ds → AreRanked ns ds ls → Contains ls a → a.number ≡ n → a.rank ≡ Ranked → IsRankedLoop ps p n
-ranked_loop bound hold ps p n ns ds ls a rules there h s r c e v =
-    let d = decided_of ps p ns ds ls a h s r c in
-    let g = d.is_of.goal in
-    let proved = proved_by d.decided.decision (subst (IsRankVerdict d.decided.decision) v d.verdict) in
-    let l = g.ranked in
-    let holds = proved_holds (generated l.body l.rank) (goal (procedure_at ps p) l.head l.body l.rank) d.decided.goal.made d.decided.decision g.made d.settled.decision d.settled.meaning proved in
-    subst (IsRankedLoop ps p) e (turns_bounded bound hold ps p a.number g.ranked rules there holds)
+pub ranked_loop : RankingsBoundTurns → RankingGoalsHold → (ps : List TypedProcedure) (p n : ℕ) (ns : List ℕ) (os : List GoalOutcome) (ls : List LoopAnswer) (a : LoopAnswer) → Each (MeetsRules ps) ps → p < length ps → AllZip (IsRankingOutcome ps p) ns os → ls ≡ map loop_answer os → Contains ls a → a.number ≡ n → a.rank ≡ Ranked → IsRankedLoop ps p n
+ranked_loop bound hold ps p n ns os ls a rules there h r c e v =
+    let x = outcome_at ps p ns os ls a h r c in
+    let l = x.is_of.loop in
+    let holds = subst (Means (goal (procedure_at ps p) l.head l.body l.rank)) (ranked_by x.goal.outcome (sym x.rank ∙ v)) x.is_of.means in
+    subst (IsRankedLoop ps p) e (turns_bounded bound hold ps p a.number l rules there holds)
 
--- The decision by which a loop is said to be not ranked, with this state.
-record IsFalsifiedBy (d : Decision) (s : Vec Val Global) : Type 0 where
-  pub point : Vec Val Global
-  pub is : d ≡ Falsified point
-  pub same : s.items ≡ point.items
-
-falsified_by : (d : Decision) (s : Vec Val Global) → IsRankVerdict d (NotRanked s) → IsFalsifiedBy d s
-falsified_by (Falsified t) s h = record { point = t; is = refl; same = h }
-falsified_by (Proved t) s h = absurd h
-falsified_by (Unknown c) s h = absurd h
+falsified_by : (o : Outcome) (s : Vec Val Global) → rank_of o ≡ NotRanked s → o ≡ Falsified s
+falsified_by Proved s e = cc
+falsified_by (Falsified t) s e = cc
+falsified_by (Unknown c) s e = cc
+falsified_by (Missed m) s e = cc
 
 -- An answer that a loop is not ranked.
-pub unranked_loop : RankingGoalsFail → (ps : List TypedProcedure) (p n : ℕ) (ns : List ℕ) (ds : List DecidedGoal) (ls : List LoopAnswer) (a : LoopAnswer) (s : Vec Val Global) → Each (MeetsRules ps) ps → p < length ps → AreRankingsDecided ps p ns ds → Each IsSettled ds → AreRanked ns ds ls → Contains ls a → a.number ≡ n → a.rank ≡ NotRanked s → IsUnrankedIn ps p n s.items
-unranked_loop fail ps p n ns ds ls a s rules there h settled r c e v =
-    let d = decided_of ps p ns ds ls a h settled r c in
-    let g = d.is_of.goal in
-    let l = g.ranked in
-    let w = falsified_by d.decided.decision s (subst (IsRankVerdict d.decided.decision) v d.verdict) in
-    let f = falsified_fails (generated l.body l.rank) (goal (procedure_at ps p) l.head l.body l.rank) d.decided.goal.made w.point g.made (subst (IsDecisionOf d.decided.goal.made) w.is d.settled.decision) (subst (TellsOf d.decided.goal.made) w.is d.settled.meaning) in
-    let k = fail ps (procedure_at ps p) a.number l (each_at (MeetsRules ps) ps p rules there) w.point.items f.typed f.fails in
-    subst (λ m. IsUnrankedIn ps p m s.items) e (record { loop = l; fails = subst (λ (x : List Val). IsNoRanking (procedure_at ps p) l.head l.body l.rank (take (length (variables (procedure_at ps p))) x)) (sym w.same) k })
+pub unranked_loop : RankingGoalsFail → (ps : List TypedProcedure) (p n : ℕ) (ns : List ℕ) (os : List GoalOutcome) (ls : List LoopAnswer) (a : LoopAnswer) (s : Vec Val Global) → Each (MeetsRules ps) ps → p < length ps → AllZip (IsRankingOutcome ps p) ns os → ls ≡ map loop_answer os → Contains ls a → a.number ≡ n → a.rank ≡ NotRanked s → IsUnrankedIn ps p n s.items
+unranked_loop fail ps p n ns os ls a s rules there h r c e v =
+    let x = outcome_at ps p ns os ls a h r c in
+    let l = x.is_of.loop in
+    let f : Fails (goal (procedure_at ps p) l.head l.body l.rank) s.items = subst (Means (goal (procedure_at ps p) l.head l.body l.rank)) (falsified_by x.goal.outcome s (sym x.rank ∙ v)) x.is_of.means in
+    subst (λ m. IsUnrankedIn ps p m s.items) e (record { loop = l; fails = fail ps (procedure_at ps p) a.number l (each_at (MeetsRules ps) ps p rules there) s.items f.typed f.fails })

@@ -1,5 +1,5 @@
 -- What is said of rankings, computed: which loops have one, the goals of a procedure in their order, and the answers by decisions.
-use Rattle.std.proofs.Common.{◌≡◌, ℕ, refl, ap, ◌∙◌, subst, arith, true, List, [], ◌∷◌, ◌++◌}
+use Rattle.std.proofs.Common.{◌≡◌, ℕ, refl, ap, sym, ◌∙◌, arith, true, List, [], ◌∷◌, ◌++◌, map}
 use Rattle.std.specs.Prelude.{Option, Some, None}
 use Rattle.heyvl_num.specs.Rational.{Rational, oneʳ}
 use Rattle.heyvl_num.specs.Value.{oneᵛ, zeroᵛ}
@@ -19,9 +19,9 @@ use Rattle.verdict_report.specs.declared.answers.Answer.{Answer}
 use Rattle.verdict_report.specs.declared.answers.LoopAnswer.{LoopAnswer}
 use Rattle.goal_answers.specs.declared.named_goals.NamedGoal.{NamedGoal}
 use Rattle.verdict_report.specs.declared.answers.RankVerdict.TheVariants as rank
-use Rattle.verify_core.specs.AnsweredProcedures.{IsAnswer}
-use Rattle.verify_core.specs.GoalDecisions.{DecidedGoal}
-use Rattle.verify_core.specs.DecidedRankings.{AreRanked, certified_in_file, told_in_file, told_rankings}
+use Rattle.verify_core.specs.GoalDecisions.{DecidedGoal, certified_in_file, outcome_of}
+use Rattle.verify_core.specs.Outcomes.{all_outcomes, all_shown, loop_answer, outcomes, told_in_file}
+use Rattle.verify_core.specs.Verdicts.{IsAnswer}
 use Rattle.verify_core.specs.Questions.{AreGoals, IsMadeOf, question}
 use Rattle.verify_core.specs.Rankings.{AreAllGoals, AreRankingGoals, ranked_loops}
 
@@ -133,10 +133,10 @@ not_fewer a b h = h.1.1
 -- ---- The answers by decisions
 
 abbrev proved : DecidedGoal
-proved = record { goal = goal_named (Ranking 1) made.Depth; decision = Proved None }
+proved = record { goal = goal_named (Ranking 1) made.Depth; found = Proved None }
 
 abbrev open_goal : DecidedGoal
-open_goal = record { goal = goal_named (Ranking 2) made.Depth; decision = Unknown cause.Depth }
+open_goal = record { goal = goal_named (Ranking 2) made.Depth; found = Unknown cause.Depth }
 
 abbrev ranked : LoopAnswer
 ranked = record { number = 1; rank = rank.Ranked }
@@ -145,40 +145,53 @@ abbrev unknown : LoopAnswer
 unknown = record { number = 2; rank = rank.Unknown cause.Depth }
 
 -- Only what isn't proved is told, in a procedure and in the file.
-told : told_rankings (proved ∷ open_goal ∷ []) ≡ open_goal.goal ∷ []
+told : all_shown (outcomes outcome_of (proved ∷ open_goal ∷ [])) ≡ open_goal.goal ∷ []
 told = refl
 
-told_of_all : told_in_file ([] ∷ []) ((proved ∷ open_goal ∷ []) ∷ []) ≡ open_goal.goal ∷ []
+told_of_all : told_in_file ([] ∷ []) (all_outcomes outcome_of ((proved ∷ open_goal ∷ []) ∷ [])) ≡ open_goal.goal ∷ []
 told_of_all = refl
 
 -- A proof without a tree has no certificate.
 certified : certified_in_file ([] ∷ []) ((proved ∷ open_goal ∷ []) ∷ []) ≡ []
 certified = refl
 
+-- The answers on loops by their decided goals.
+abbrev AreRanked : List DecidedGoal → List LoopAnswer → Type 0
+AreRanked ds ls = ls ≡ map loop_answer (outcomes outcome_of ds)
+
 -- Each loop by its own goal.
-answered : AreRanked (1 ∷ 2 ∷ []) (proved ∷ open_goal ∷ []) (ranked ∷ unknown ∷ [])
-answered = ((refl, (refl, tt)), (refl, (refl, tt)))
+answered : AreRanked (proved ∷ open_goal ∷ []) (ranked ∷ unknown ∷ [])
+answered = refl
+
+pub first_of : (a b : LoopAnswer) (xs ys : List LoopAnswer) → a ∷ xs ≡ b ∷ ys → a ≡ b
+first_of a b xs ys e = cc
+
+pub others_of : (a b : LoopAnswer) (xs ys : List LoopAnswer) → a ∷ xs ≡ b ∷ ys → xs ≡ ys
+others_of a b xs ys e = cc
+
+pub none_more : (a : LoopAnswer) (xs : List LoopAnswer) → a ∷ xs ≡ [] → ⊥
+none_more a xs e = cc
 
 -- An answer on a loop without a ranking, or none on one with a ranking.
-not_more : AreRanked (1 ∷ []) (proved ∷ []) (ranked ∷ unknown ∷ []) → ⊥
-not_more h = h.0.1
+not_more : AreRanked (proved ∷ []) (ranked ∷ unknown ∷ []) → ⊥
+not_more h = none_more unknown [] (others_of ranked ranked (unknown ∷ []) [] h)
 
-not_one_less : AreRanked (1 ∷ 2 ∷ []) (proved ∷ open_goal ∷ []) (ranked ∷ []) → ⊥
-not_one_less h = h.0.1
+not_one_less : AreRanked (proved ∷ open_goal ∷ []) (ranked ∷ []) → ⊥
+not_one_less h = none_more unknown [] (sym (others_of ranked ranked [] (unknown ∷ []) h))
 
-numbered_from_0 : AreRanked (1 ∷ []) (proved ∷ []) ((record { number = 0; rank = rank.Ranked }) ∷ []) → ⊥
-numbered_from_0 h = let e : 0 ≡ 1 = h.0.0 in omega (arith, e)
+numbered_from_0 : AreRanked (proved ∷ []) ((record { number = 0; rank = rank.Ranked }) ∷ []) → ⊥
+numbered_from_0 h = let e : 0 ≡ 1 = ap (λ (l : LoopAnswer). l.number) (first_of (record { number = 0; rank = rank.Ranked }) ranked [] [] h) in omega (arith, e)
 
 -- A procedure whose bound is proved, and of whose one ranking nothing is known.
 abbrev single : TypedProcedure
 single = record nobody { body = Some (only (Act.loop (head 1 (Some outer)) Acts.done)); loops = 1 }
 
 abbrev bound_proved : DecidedGoal
-bound_proved = record { goal = goal_named Main made.Depth; decision = Proved None }
+bound_proved = record { goal = goal_named Main made.Depth; found = Proved None }
 
 abbrev ranking_open : DecidedGoal
-ranking_open = record { goal = goal_named (Ranking 1) made.Depth; decision = Unknown cause.Depth }
+ranking_open = record { goal = goal_named (Ranking 1) made.Depth; found = Unknown cause.Depth }
 
 -- The proof of the bound doesn't answer the ranking.
-not_by_bound : (a : Answer) → a.loops.items ≡ ranked ∷ [] → IsAnswer (single ∷ []) ((bound_proved ∷ []) ∷ []) ((ranking_open ∷ []) ∷ []) 0 a → ⊥
-not_by_bound a e h = let k = subst (AreRanked (1 ∷ []) (ranking_open ∷ [])) e h.loops in let no = k.1.0 in cc
+not_by_bound : (a : Answer) → a.loops.items ≡ ranked ∷ [] → IsAnswer (single ∷ []) (all_outcomes outcome_of ((bound_proved ∷ []) ∷ [])) (all_outcomes outcome_of ((ranking_open ∷ []) ∷ [])) 0 a → ⊥
+not_by_bound a e h = let no : rank.Ranked ≡ rank.Unknown cause.Depth = ap (λ (l : LoopAnswer). l.rank) (first_of ranked (record { number = 1; rank = rank.Unknown cause.Depth }) [] [] (sym e ∙ h.loops)) in cc

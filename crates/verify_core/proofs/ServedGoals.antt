@@ -24,8 +24,8 @@ use Rattle.goal_answers.specs.declared.decisions.Decision.TheVariants.{Proved, F
 use Rattle.goal_answers.specs.declared.named_goals.NamedGoal.{NamedGoal}
 use Rattle.verify_core.specs.CertifiedGoals.{Certifies}
 use Rattle.verify_core.specs.CheckedProofs.{IsServed, ProofsAreAccepted}
-use Rattle.verify_core.specs.GoalDecisions.{AreDecided, DecidedGoal, HasDecision, IsDecisionOf, IsTable, certificate, certificates}
-use Rattle.verify_core.specs.DecidedRankings.{AreRankingsDecided, IsRankTable, certified_in_file}
+use Rattle.verify_core.specs.GoalDecisions.{DecidedGoal, Decides, IsDecisionOf, IsRankTable, IsTable, certificate, certificates, certified_in_file}
+use Rattle.verify_core.specs.Tables.{AreFound, HasFound}
 use Rattle.verify_core.specs.Questions.{IsGoalOf}
 use Rattle.verify_core.specs.Rankings.{IsRankingGoal, ranked_in, ranked_loops}
 use Rattle.verify_core.proofs.CertOrder.{precedes_onward}
@@ -59,7 +59,7 @@ skipped k o m [] h c = tt
 skipped k o m (id ∷ ids) h c = (follows_onward o m (goal_name k id) h c.0, c.1)
 
 -- One goal more: its certificate, if it has one, and what comes behind it.
-one_goal : (k : ℕ) (id : GoalId) (g : NamedGoal) (d : Decision) (cs : List GoalCert) (rest : List GoalCert) (o : Option GoalName) (ids : List GoalId) → g.proc ≡ k → g.id ≡ id → IsChain k o (id ∷ ids) → IsBelow (suc k) o → ((l : Option GoalName) → IsChain k l ids → IsBelow (suc k) l → IsGrowingAfter l (certificates_of (cs ++ rest))) → IsGrowingAfter o (certificates_of ((certificate (record { goal = g; decision = d }) ++ cs) ++ rest))
+one_goal : (k : ℕ) (id : GoalId) (g : NamedGoal) (d : Decision) (cs : List GoalCert) (rest : List GoalCert) (o : Option GoalName) (ids : List GoalId) → g.proc ≡ k → g.id ≡ id → IsChain k o (id ∷ ids) → IsBelow (suc k) o → ((l : Option GoalName) → IsChain k l ids → IsBelow (suc k) l → IsGrowingAfter l (certificates_of (cs ++ rest))) → IsGrowingAfter o (certificates_of ((certificate (record { goal = g; found = d }) ++ cs) ++ rest))
 one_goal k id g (Proved (Some t)) cs rest o ids p i c b f = (subst (λ n. IsTrue (may_follow o n)) (sym named) c.0, subst (λ n. IsGrowingAfter (Some n) (certificates_of (cs ++ rest))) (sym named) (f (Some (goal_name k id)) c.1 (omega arith)))
   where
     named : goal_name g.proc g.id ≡ goal_name k id
@@ -72,13 +72,13 @@ one_goal k id g (Unknown u) cs rest o ids p i c b f = f o (skipped k o (goal_nam
 abbrev AreNamed : ℕ → List GoalId → List DecidedGoal → Type 0
 AreNamed k ids ds = AllZip (λ id (d : DecidedGoal). (d.goal.proc ≡ k) × (d.goal.id ≡ id)) ids ds
 
-bounds_named : (ps : List TypedProcedure) (k : ℕ) (ids : List GoalId) (ds : List DecidedGoal) → AreDecided ps k ids ds → AreNamed k ids ds
+bounds_named : (ps : List TypedProcedure) (k : ℕ) (ids : List GoalId) (ds : List DecidedGoal) → AreFound (IsGoalOf ps k) Decides ids ds → AreNamed k ids ds
 bounds_named ps k [] [] h = tt
 bounds_named ps k [] (d ∷ ds) h = absurd h
 bounds_named ps k (id ∷ ids) [] h = absurd h
 bounds_named ps k (id ∷ ids) (d ∷ ds) h = ((h.0.goal.proc, h.0.goal.id_of), bounds_named ps k ids ds h.1)
 
-rankings_named : (ps : List TypedProcedure) (k : ℕ) (ns : List ℕ) (ds : List DecidedGoal) → AreRankingsDecided ps k ns ds → AreNamed k (map Ranking ns) ds
+rankings_named : (ps : List TypedProcedure) (k : ℕ) (ns : List ℕ) (ds : List DecidedGoal) → AreFound (IsRankingGoal ps k) Decides ns ds → AreNamed k (map Ranking ns) ds
 rankings_named ps k [] [] h = tt
 rankings_named ps k [] (d ∷ ds) h = absurd h
 rankings_named ps k (n ∷ ns) [] h = absurd h
@@ -89,7 +89,7 @@ of_goals : (k : ℕ) (ids later : List GoalId) (ds : List DecidedGoal) (rest : L
 of_goals k [] later [] rest o h c b f = f o c b
 of_goals k [] later (d ∷ ds) rest o h c b f = absurd h
 of_goals k (id ∷ ids) later [] rest o h c b f = absurd h
-of_goals k (id ∷ ids) later (d ∷ ds) rest o h c b f = one_goal k id d.goal d.decision (certificates ds) rest o (ids ++ later) h.0.0 h.0.1 c b (λ l x y. of_goals k ids later ds rest l h.1 x y f)
+of_goals k (id ∷ ids) later (d ∷ ds) rest o h c b f = one_goal k id d.goal d.found (certificates ds) rest o (ids ++ later) h.0.0 h.0.1 c b (λ l x y. of_goals k ids later ds rest l h.1 x y f)
 
 -- The goals of its bound, and those of its rankings.
 of_procedure : (k : ℕ) (ids later : List GoalId) (ds rs : List DecidedGoal) (rest : List GoalCert) (o : Option GoalName) → AreNamed k ids ds → AreNamed k later rs → IsChain k o (ids ++ later) → IsBelow (suc k) o → ((l : Option GoalName) → IsBelow (suc k) l → IsGrowingAfter l (certificates_of rest)) → IsGrowingAfter o (certificates_of ((certificates ds ++ certificates rs) ++ rest))
@@ -234,10 +234,10 @@ certifies law (made.Goal g) t h = subst (λ x. Certifies (made.Goal g) x) (sym h
 certifies law made.Depth t h = cc
 certifies law made.Nodes t h = cc
 
-one_served : TreesCertify → (certs : List GoalCert) (g : NamedGoal) (d : Decision) → IsDecisionOf g.made d → ((c : GoalCert) → Contains (certificate (record { goal = g; decision = d })) c → Contains certs c) → IsServed certs (record { goal = g; decision = d })
+one_served : TreesCertify → (certs : List GoalCert) (g : NamedGoal) (d : Decision) → IsDecisionOf g.made d → ((c : GoalCert) → Contains (certificate (record { goal = g; found = d })) c → Contains certs c) → IsServed certs (record { goal = g; found = d })
 one_served law certs g d h f t e = record {
   tree = tree_of t;
-  has = record { cert = cert; listed = f cert (subst (λ x. Contains (certificate (record { goal = g; decision = x })) cert) (sym e) (0, omega arith, refl)); of_procedure = refl; of_goal = refl; its_tree = refl };
+  has = record { cert = cert; listed = f cert (subst (λ x. Contains (certificate (record { goal = g; found = x })) cert) (sym e) (0, omega arith, refl)); of_procedure = refl; of_goal = refl; its_tree = refl };
   certifies = certifies law g.made t (subst (λ x. IsDecisionOf g.made x) e h);
 }
   where
@@ -245,14 +245,14 @@ one_served law certs g d h f t e = record {
     cert = record { proc = g.proc; id = g.id; tree = t }
 
 abbrev IsDecidedBy : DecidedGoal → Type 0
-IsDecidedBy d = IsDecisionOf d.goal.made d.decision
+IsDecidedBy d = IsDecisionOf d.goal.made d.found
 
-all_decided : {I : Type 0} (Is : I → NamedGoal → Type 0) (is : List I) (ds : List DecidedGoal) → AllZip (λ i (d : DecidedGoal). HasDecision (Is i) d) is ds → Each IsDecidedBy ds
-all_decided Is is ds h = zip_seconds (λ i (d : DecidedGoal). HasDecision (Is i) d) IsDecidedBy is ds (λ i d k. k.decision) h
+all_decided : {I : Type 0} (Is : I → NamedGoal → Type 0) (is : List I) (ds : List DecidedGoal) → AllZip (λ i (d : DecidedGoal). HasFound (Is i) Decides d) is ds → Each IsDecidedBy ds
+all_decided Is is ds h = zip_seconds (λ i (d : DecidedGoal). HasFound (Is i) Decides d) IsDecidedBy is ds (λ i d k. k.found) h
 
 all_served : TreesCertify → (certs : List GoalCert) (ds : List DecidedGoal) → Each IsDecidedBy ds → ((c : GoalCert) → Contains (certificates ds) c → Contains certs c) → Each (IsServed certs) ds
 all_served law certs [] h f = tt
-all_served law certs (d ∷ ds) h f = (one_served law certs d.goal d.decision h.0 (λ c x. f c (contains_left (certificate d) (certificates ds) c x)), all_served law certs ds h.1 (λ c x. f c (contains_right (certificate d) (certificates ds) c x)))
+all_served law certs (d ∷ ds) h f = (one_served law certs d.goal d.found h.0 (λ c x. f c (contains_left (certificate d) (certificates ds) c x)), all_served law certs ds h.1 (λ c x. f c (contains_right (certificate d) (certificates ds) c x)))
 
 -- The goals of bounds, and those of rankings.
 tables_served : TreesCertify → (ps : List TypedProcedure) (certs : List GoalCert) (k : ℕ) (qs : List TypedProcedure) (table ranks : List (List DecidedGoal)) → IsTable ps k qs table → IsRankTable ps k qs ranks → ((c : GoalCert) → Contains (certified_in_file table ranks) c → Contains certs c) → Each (Each (IsServed certs)) table × Each (Each (IsServed certs)) ranks

@@ -1,10 +1,11 @@
 -- Lists side by side: what holds of each pair, one pair more, and the pair at a place.
-use Rattle.std.proofs.Common.{◌≡◌, ◌<◌, ◌+◌, ℕ, refl, ap, subst, arith, List, [], ◌∷◌, ◌++◌, length, get_or}
+use Rattle.std.proofs.Common.{◌≡◌, ◌<◌, ◌+◌, ℕ, refl, ap, subst, arith, List, [], ◌∷◌, ◌++◌, length, map}
 use Rattle.std.specs.List.{AllZip}
 use Prim.Native.Nat.{zero, suc}
 use Rattle.heyvl_acts.specs.Acts.{TypedProcedure, procedure_at}
 use Rattle.heyvl_acts.specs.Rules.{Each}
 use Rattle.verify_core.specs.NumberedLists.{AllNumbered, row_at}
+use Rattle.verify_core.specs.internal.Own.{EachNumbered}
 
 -- ---- Each pair
 
@@ -22,6 +23,22 @@ zip_seconds R P (x ∷ xs) (y ∷ ys) f h = (f x y h.0, zip_seconds R P xs ys f 
 
 -- ---- With numbers
 
+pub numbered_map : {A B C : Type 0} (R : ℕ → A → B → Type 0) (S : ℕ → A → C → Type 0) (f : B → C) (k : ℕ) (xs : List A) (ys : List B) → ((n : ℕ) (x : A) (y : B) → R n x y → S n x (f y)) → AllNumbered R k xs ys → AllNumbered S k xs (map f ys)
+numbered_map R S f k [] [] g h = tt
+numbered_map R S f k [] (y ∷ ys) g h = absurd h
+numbered_map R S f k (x ∷ xs) [] g h = absurd h
+numbered_map R S f k (x ∷ xs) (y ∷ ys) g h = (g k x y h.0, numbered_map R S f (suc k) xs ys g h.1)
+
+pub each_more : {B : Type 0} (P : ℕ → B → Type 0) (k : ℕ) (ys : List B) (n : ℕ) (y : B) → EachNumbered P k ys → n ≡ k + length ys → P n y → EachNumbered P k (ys ++ y ∷ [])
+each_more P k [] n y h e p = let same : n ≡ k = omega (arith, e) in (subst (λ m. P m y) same p, tt)
+each_more P k (x ∷ ys) n y h e p = (h.0, each_more P (suc k) ys n y h.1 (omega (arith, e)) p)
+
+pub numbered_beside : {A B : Type 0} (P : ℕ → B → Type 0) (k : ℕ) (xs : List A) (ys : List B) → length ys ≡ length xs → EachNumbered P k ys → AllNumbered (λ n (x : A) (y : B). P n y) k xs ys
+numbered_beside P k [] [] e h = tt
+numbered_beside P k [] (y ∷ ys) e h = absurd (omega (arith, e))
+numbered_beside P k (x ∷ xs) [] e h = absurd (omega (arith, e))
+numbered_beside P k (x ∷ xs) (y ∷ ys) e h = (h.0, numbered_beside P (suc k) xs ys (omega (arith, e)) h.1)
+
 pub numbered_more : {A B : Type 0} (R : ℕ → A → B → Type 0) (k : ℕ) (xs : List A) (ys : List B) (n : ℕ) (x : A) (y : B) → AllNumbered R k xs ys → n ≡ k + length xs → R n x y → AllNumbered R k (xs ++ x ∷ []) (ys ++ y ∷ [])
 numbered_more R k [] [] n x y h e r = let same : n ≡ k = omega (arith, e) in (subst (λ m. R m x y) same r, tt)
 numbered_more R k [] (b ∷ ys) n x y h e r = absurd h
@@ -34,22 +51,14 @@ numbered_length R k [] (b ∷ ys) h = absurd h
 numbered_length R k (a ∷ xs) [] h = absurd h
 numbered_length R k (a ∷ xs) (b ∷ ys) h = ap (λ n. suc n) (numbered_length R (suc k) xs ys h.1)
 
-first_number : (k : ℕ) → k ≡ k + zero
+pub first_number : (k : ℕ) → k ≡ k + zero
 first_number k = omega arith
 
-next_number : (k n : ℕ) → suc k + n ≡ k + suc n
+pub next_number : (k n : ℕ) → suc k + n ≡ k + suc n
 next_number k n = omega arith
 
 pub from_none : (n : ℕ) → 0 + n ≡ n
 from_none n = omega arith
-
--- The pair with this place.
-pub numbered_at : {A B : Type 0} (R : ℕ → A → B → Type 0) (k : ℕ) (xs : List A) (ys : List B) (j : ℕ) (a : A) (b : B) → j < length ys → AllNumbered R k xs ys → R (k + j) (get_or xs j a) (get_or ys j b)
-numbered_at R k [] [] j a b l h = absurd (omega (arith, l))
-numbered_at R k [] (y ∷ ys) j a b l h = absurd h
-numbered_at R k (x ∷ xs) [] j a b l h = absurd h
-numbered_at R k (x ∷ xs) (y ∷ ys) zero a b l h = subst (λ n. R n x y) (first_number k) h.0
-numbered_at R k (x ∷ xs) (y ∷ ys) (suc j) a b l h = subst (λ n. R n (get_or xs j a) (get_or ys j b)) (next_number k j) (numbered_at R (suc k) xs ys j a b (omega (arith, l)) h.1)
 
 -- The item behind these, with as many items before it on the other side.
 pub record IsPlaced {B : Type 0} (P : ℕ → B → Type 0) (count place n : ℕ) (y : B) : Type 0 where
