@@ -3,7 +3,7 @@ use Rattle.goal_answers.specs.declared.trees.GoalCert.{GoalCert}
 use Rattle.heyvl_acts.specs.PlainActs.{procedure_of, procedures_of}
 use Rattle.heyvl_acts.specs.Rules.{Each, MeetsAllRules}
 use Rattle.heyvl_acts.specs.declared.typed_trees.Typed.{Typed}
-use Rattle.heyvl_replies.proofs.SaidOfFiles.{one_checked_for_each}
+use Rattle.heyvl_replies.proofs.SaidOfFiles.{one_for_each}
 use Rattle.std.proofs.Common.{List, length, ◌<◌, ◌∙◌, ℕ}
 use Rattle.std.proofs.lemmas.List.{length-map}
 use Rattle.std.specs.Prelude.{◌^◌}
@@ -17,6 +17,6 @@ pub can_report_checked : (bytes : List ℕ) (tree : Typed) (certs : List GoalCer
 can_report_checked bytes tree certs answers short rules checked placed = record {
   short = short;
   rules = rules;
-  each = one_checked_for_each (procedures_of tree) checked.table checked.ranks 0 (procedures_of tree) answers checked.answers_of ∙ length-map tree.procs.items procedure_of;
+  each = one_for_each (procedures_of tree) _ _ 0 (procedures_of tree) answers checked.answers_of ∙ length-map tree.procs.items procedure_of;
   placed = placed;
 }

@@ -23,6 +23,6 @@ pub can_report : (bytes : List ℕ) (tree : Typed) (answers : List Answer) (made
 can_report bytes tree answers made certs short rules answered placed = record {
   short = short;
   rules = rules;
-  each = one_for_each (procedures_of tree) answered.table answered.ranks 0 (procedures_of tree) answers answered.answers_of ∙ length-map tree.procs.items procedure_of;
+  each = one_for_each (procedures_of tree) _ _ 0 (procedures_of tree) answers answered.answers_of ∙ length-map tree.procs.items procedure_of;
   placed = placed;
 }

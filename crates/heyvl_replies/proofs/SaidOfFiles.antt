@@ -36,10 +36,8 @@ use Rattle.std.proofs.Common.{Bool, List, None, Option, Some, [], ap, arith, fal
 use Rattle.std.specs.List.{list_any}
 use Rattle.std.specs.Prelude.{if◌then◌else◌}
 use Rattle.verdict_report.specs.declared.answers.Answer.{Answer}
-use Rattle.verify_core.specs.AnsweredProcedures.{AreAnswers}
-use Rattle.verify_core.specs.CertifiedGoals.{CheckedGoal}
-use Rattle.verify_core.specs.CheckedAnswers.{AreCheckedAnswers}
-use Rattle.verify_core.specs.GoalDecisions.{DecidedGoal}
+use Rattle.verify_core.specs.Verdicts.{AreAnswers}
+use Rattle.verify_core.specs.declared.outcomes.GoalOutcome.{GoalOutcome}
 
 -- ---- Files
 
@@ -50,17 +48,11 @@ same_file : SpellingIsUnique → (bytes : List ℕ) (file other : List Procedure
 same_file unique bytes file other is also = unique bytes file other (spelled bytes file is) (spelled bytes other also)
 
 -- There are as many answers as procedures.
-pub one_for_each : (ps : List TypedProcedure) (table ranks : List (List DecidedGoal)) (p : ℕ) (qs : List TypedProcedure) (answers : List Answer) → AreAnswers ps table ranks p qs answers → length answers ≡ length qs
+pub one_for_each : (ps : List TypedProcedure) (table ranks : List (List GoalOutcome)) (p : ℕ) (qs : List TypedProcedure) (answers : List Answer) → AreAnswers ps table ranks p qs answers → length answers ≡ length qs
 one_for_each ps table ranks p [] [] h = refl
 one_for_each ps table ranks p [] (a ∷ rest) h = absurd h
 one_for_each ps table ranks p (q ∷ qs) [] h = absurd h
 one_for_each ps table ranks p (q ∷ qs) (a ∷ rest) h = ap suc (one_for_each ps table ranks (suc p) qs rest h.1)
-
-pub one_checked_for_each : (ps : List TypedProcedure) (table ranks : List (List CheckedGoal)) (p : ℕ) (qs : List TypedProcedure) (answers : List Answer) → AreCheckedAnswers ps table ranks p qs answers → length answers ≡ length qs
-one_checked_for_each ps table ranks p [] [] h = refl
-one_checked_for_each ps table ranks p [] (a ∷ rest) h = absurd h
-one_checked_for_each ps table ranks p (q ∷ qs) [] h = absurd h
-one_checked_for_each ps table ranks p (q ∷ qs) (a ∷ rest) h = ap suc (one_checked_for_each ps table ranks (suc p) qs rest h.1)
 
 at_most_two : (answers : List Answer) → answers_status answers ≤ 2
 at_most_two answers = by (list_any refutes answers) (list_any leaves_open answers)
@@ -98,12 +90,12 @@ printed_told clean unique bytes file reply is (IsSpelledReply.by_file other also
 pub verified : SourcesHaveNoFault → SpellingIsUnique → FilesAreVerified
 verified clean unique bytes file reply is none replied =
     let report : IsReport bytes (resolved file) reply = said_of_file clean unique (IsReport bytes) bytes file reply is none replied in
-    (report, answered_whole (resolved file) reply _ (one_for_each (resolved file) report.are_answers.table report.are_answers.ranks 0 (resolved file) reply.answers report.are_answers.answers_of) report.is_reply)
+    (report, answered_whole (resolved file) reply _ (one_for_each (resolved file) _ _ 0 (resolved file) reply.answers report.are_answers.answers_of) report.is_reply)
 
 pub certified : SourcesHaveNoFault → SpellingIsUnique → FilesAreCertified
 certified clean unique bytes file reply is none replied =
     let made : IsCertification (resolved file) reply = said_of_file clean unique IsCertification bytes file reply is none replied in
-    (made, answered_whole (resolved file) reply _ (one_for_each (resolved file) made.are_answers.table made.are_answers.ranks 0 (resolved file) reply.answers made.are_answers.answers_of) made.is_reply)
+    (made, answered_whole (resolved file) reply _ (one_for_each (resolved file) _ _ 0 (resolved file) reply.answers made.are_answers.answers_of) made.is_reply)
 
 -- A text of certificates is reported by.
 check_reported : (bytes text : List ℕ) (ps : List TypedProcedure) (certs : List GoalCert) (reply : Reply) → Spells (certificates_of certs) text → IsCheckedReply bytes text ps reply → IsCheckReport bytes ps text reply
@@ -114,7 +106,7 @@ pub checked : SourcesHaveNoFault → SpellingIsUnique → FilesAreChecked
 checked clean unique bytes text file certs reply is none spells replied =
     let report : IsCheckReport bytes (resolved file) text reply =
     check_reported bytes text (resolved file) certs reply spells (said_of_file clean unique (IsCheckedReply bytes text) bytes file reply is none replied) in
-    (report, answered_whole (resolved file) reply _ (one_checked_for_each (resolved file) report.checked.table report.checked.ranks 0 (resolved file) reply.answers report.checked.answers_of) report.is_reply)
+    (report, answered_whole (resolved file) reply _ (one_for_each (resolved file) _ _ 0 (resolved file) reply.answers report.checked.answers_of) report.is_reply)
 
 -- ---- What is said of programs
 
@@ -148,7 +140,7 @@ run_told clean unique name bytes script file reply is none s p named read progra
 pub gen_answered : GeneratedTextsAreAnswered
 gen_answered n reply fits is =
     let s = is.summary in
-    let each : length reply.answers ≡ length (resolved s.file) = one_for_each (resolved s.file) s.answered.table s.answered.ranks 0 (resolved s.file) reply.answers s.answered.answers_of in
+    let each : length reply.answers ≡ length (resolved s.file) = one_for_each (resolved s.file) _ _ 0 (resolved s.file) reply.answers s.answered.answers_of in
     record {
       each = each ∙ length-map s.file (typed (called s.file)) ∙ s.count;
       fault = ap (λ (r : Reply). r.fault) is.is_reply;

@@ -146,7 +146,7 @@ module _ (none : Vec LoopAnswer Global) (no_loops : none.items ≡ []) where
           ranks = [] ∷ [];
           decided = (tt, tt);
           ranks_decided = (tt, tt);
-          answers_of = (record { name = refl; verdict = refl; loops = rw no_loops (tt, tt) }, tt);
+          answers_of = (record { name = refl; verdict = refl; loops = no_loops }, tt);
           made_of = refl;
           certs_of = refl;
         };
@@ -181,7 +181,7 @@ module _ (none : Vec LoopAnswer Global) (no_loops : none.items ≡ []) where
           ranks = [] ∷ [];
           checked = (tt, tt);
           ranks_checked = (tt, tt);
-          answers_of = (record { name = refl; verdict = refl; loops = rw no_loops (tt, tt) }, tt);
+          answers_of = (record { name = refl; verdict = refl; loops = no_loops }, tt);
         };
     headline = promises_nothing;
     is_reply = ap (answered (one NoBody)) (sym report_is);

@@ -1,9 +1,8 @@
-use Rattle.std.proofs.Common.{arith, subst, sym, ◌∙◌, ◌≡◌, ◌<◌, length, slice_index_or}
+use Rattle.std.proofs.Common.{arith, subst, sym, ◌≡◌, ◌<◌, length, slice_index_or}
 use Rattle.std.proofs.lemmas.List.{length-map}
 use Rattle.heyvl_acts.specs.PlainActs.{procedure_of, procedures_of}
 use Rattle.proc_contracts.specs.ReachedProcedures.{AreReached}
-use Rattle.verify_core.proofs.ProcedureMarks.{all_within}
-use Rattle.verify_core.proofs.ReachedVerdicts.{all_unmarked, first_is_marked}
+use Rattle.verify_core.proofs.ProcedureMarks.{all_closed, all_within, first_open}
 use Rattle.verify_core.proofs.reached_answers.reaching_verdict.Goals as goal
 
 pub first_marked-requires : goal.first_marked-requires
@@ -16,12 +15,10 @@ pub returns-in-Some : goal.returns-in-Some
 returns-in-Some c =
     let ps = procedures_of c.args.typed.now in
     let reached : AreReached ps c.args.p c.deref.result.now = subst (AreReached ps c.args.p) (sym c.deref.ensures.value) c.in_ok-reached.ensures in
-    let sized : length c.args.marks.now ≡ length ps = c.requires.each ∙ sym (length-map c.args.typed.now.procs.items procedure_of) in
-    first_is_marked ps c.args.p c.args.marks.now c.deref.result.now reached sized c.in-Some.q c.in-Some.ensures
+    λ table h m. (h, first_open ps table c.args.p c.args.marks.now c.deref.result.now reached m c.in-Some.q c.in-Some.ensures)
 
 pub returns : goal.returns
 returns c =
     let ps = procedures_of c.args.typed.now in
     let reached : AreReached ps c.args.p c.deref.result.now = subst (AreReached ps c.args.p) (sym c.deref.ensures.value) c.in_ok-reached.ensures in
-    let sized : length c.args.marks.now ≡ length ps = c.requires.each ∙ sym (length-map c.args.typed.now.procs.items procedure_of) in
-    all_unmarked ps c.args.p c.args.marks.now c.deref.result.now reached sized c.in-None.ensures
+    λ table h m. (h, all_closed ps table c.args.p c.args.marks.now c.deref.result.now reached m c.in-None.ensures)
