@@ -37,7 +37,6 @@ use Rattle.std.specs.List.{list_any}
 use Rattle.std.specs.Prelude.{if◌then◌else◌}
 use Rattle.verdict_report.specs.declared.answers.Answer.{Answer}
 use Rattle.verify_core.specs.Verdicts.{AreAnswers}
-use Rattle.verify_core.specs.declared.outcomes.GoalOutcome.{GoalOutcome}
 
 -- ---- Files
 
@@ -48,7 +47,7 @@ same_file : SpellingIsUnique → (bytes : List ℕ) (file other : List Procedure
 same_file unique bytes file other is also = unique bytes file other (spelled bytes file is) (spelled bytes other also)
 
 -- There are as many answers as procedures.
-pub one_for_each : (ps : List TypedProcedure) (table ranks : List (List GoalOutcome)) (p : ℕ) (qs : List TypedProcedure) (answers : List Answer) → AreAnswers ps table ranks p qs answers → length answers ≡ length qs
+pub one_for_each : (ps : List TypedProcedure) (table ranks : _) (p : ℕ) (qs : List TypedProcedure) (answers : List Answer) → AreAnswers ps table ranks p qs answers → length answers ≡ length qs
 one_for_each ps table ranks p [] [] h = refl
 one_for_each ps table ranks p [] (a ∷ rest) h = absurd h
 one_for_each ps table ranks p (q ∷ qs) [] h = absurd h
