@@ -10,7 +10,7 @@ use Rattle.std.proofs.lemmas.List.{length-map}
 pub searched-requires-clause-each : goal.searched-requires-clause-each
 searched-requires-clause-each c =
     let a = c.in_ok-whole.ensures.answered in
-    rw c.deref.ensures.value (one_for_each (procedures_of c.args.typed.now) a.table a.ranks 0 (procedures_of c.args.typed.now) c.in_ok-whole.whole.answers.items a.answers_of ∙ length-map c.args.typed.now.procs.items procedure_of)
+    rw c.deref.ensures.value (one_for_each (procedures_of c.args.typed.now) _ _ 0 (procedures_of c.args.typed.now) c.in_ok-whole.whole.answers.items a.answers_of ∙ length-map c.args.typed.now.procs.items procedure_of)
 
 pub returns : goal.returns
 returns c =
