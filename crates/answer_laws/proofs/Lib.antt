@@ -1,0 +1,4 @@
+mod Named
+mod Rows
+mod Told
+mod Complete
