@@ -62,7 +62,7 @@ known made.Depth d c h r e = r
 known made.Nodes d c h r e = r
 
 -- Nothing is missed by a decision.
-unmissed : (d : Decision) (m : Miss) → outcome_of d ≡ certified.outcome_of (Some m) → ⊥
+pub unmissed : (d : Decision) (m : Miss) → outcome_of d ≡ certified.outcome_of (Some m) → ⊥
 unmissed (Proved t) m e = cc
 unmissed (Falsified s) m e = cc
 unmissed (Unknown c) m e = cc

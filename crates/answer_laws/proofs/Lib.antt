@@ -2,3 +2,8 @@ mod Named
 mod Rows
 mod Told
 mod Complete
+mod CertOrder
+mod AlikeVerdicts
+mod SingleTables
+mod SameDecisions
+mod SameMisses

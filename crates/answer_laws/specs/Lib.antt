@@ -1,1 +1,2 @@
 pub mod CompleteAnswers
+pub mod SingleAnswers

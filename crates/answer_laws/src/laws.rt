@@ -1,8 +1,10 @@
 //! The laws. Each function does nothing: its contract is the law.
 
 ghost use Rattle.answer_laws.specs.CompleteAnswers as complete;
+ghost use Rattle.answer_laws.specs.SingleAnswers as single;
 
-use region_split::decisions_tell;
+use farkas_check::certificates_are_told_apart;
+use region_split::{decisions_are_unique, decisions_tell};
 
 /// A decision of a typed goal at which no cause is proves it exactly where it holds.
 pub fn decisions_are_complete()
@@ -18,3 +20,19 @@ pub fn verdicts_are_complete()
     ensures bounds { complete.VerdictsAreComplete }
     ensures rankings { complete.RankVerdictsAreComplete }
 {}
+
+/// What is decided of the goals of a file, or what certificates miss of them, gives each procedure one verdict.
+pub fn tables_give_one_verdict()
+    ensures decisions { single.DecisionsGiveOneVerdict }
+    ensures misses { single.MissesGiveOneVerdict }
+{}
+
+/// The verdicts on a procedure say the same, however its goals were decided without too many rows and too great numbers, and
+/// however certificates were looked at.
+pub fn verdicts_are_unique()
+    ensures decided { single.DecidedVerdictsAreUnique }
+    ensures checked { single.CheckedVerdictsAreUnique }
+{
+    decisions_are_unique();
+    certificates_are_told_apart();
+}

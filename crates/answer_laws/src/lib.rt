@@ -3,4 +3,6 @@
 
 mod laws;
 
-pub use laws::{decisions_are_complete, verdicts_are_complete};
+pub use laws::{
+    decisions_are_complete, tables_give_one_verdict, verdicts_are_complete, verdicts_are_unique,
+};
