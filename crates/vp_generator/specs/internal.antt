@@ -1,2 +1,3 @@
 pub mod FittingActs
 pub mod Lookup
+pub mod GraphSteps
