@@ -10,6 +10,8 @@ mod BuiltForms
 mod PrenexedPlain
 mod Weights
 mod GeneratorSteps
+mod GeneratedBinders
+mod GraphForms
 mod NumberedParts
 mod GeneratedNames
 mod FreeTerms
