@@ -59,8 +59,7 @@ pub fn spelled_file(alloc: Global, bytes: &[u8]) -> Result<File, SourceStop>
     }
 }
 
-/// The typed tree of a file with fewer than 2^31 procedures in which each If has an arm, which is ready for every command, or the file's first
-/// static fault.
+/// The typed tree of a file with fewer than 2^31 procedures in which each If has an arm, which is ready for every command, or the file's first static fault.
 fn typed_file(alloc: Global, file: &File) -> Result<Typed, ResolveStop>
     requires few { length file.now.procs.items < 2 ^ 31 }
     requires armed { HasArms (procedures file.now) }

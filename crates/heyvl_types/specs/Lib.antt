@@ -25,6 +25,7 @@ pub mod StatementActs
 pub mod Files
 pub mod Answers
 pub mod ArmedFiles
+pub mod FewVariables
 pub mod ExpressionLaws
 pub mod ResolvedLaws
 pub mod ResolvedSizes
