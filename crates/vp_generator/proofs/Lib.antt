@@ -10,6 +10,8 @@ mod Building
 mod PrenexedPlain
 mod Weights
 mod Generating
+mod GeneratedPlain
+mod Making
 mod Numbered
 mod GeneratedNames
 mod FreeTerms

@@ -1,0 +1,104 @@
+-- What stands in a graph while a form is made there.
+use Rattle.std.proofs.Common.{◌≡◌, ℕ, ◌^◌, ◌+◌, ◌<◌, ◌≤◌, ◌⊎◌, inl, inr, min, Bool, true, false, List, [], ◌++◌, sym, ap, subst, ◌∙◌, arith, append_assoc, append-nil}
+use Rattle.std.specs.Prelude.{Option, Some, Result, Ok, Err}
+use Rattle.std.proofs.lemmas.Bool.{cases_lt}
+use Rattle.heylo_formula.specs.Formula.{Form, Term}
+use Rattle.heylo_formula.specs.Binders.{has_binder}
+use Rattle.heylo_formula.specs.Sizes.{nodes, depth, nodes_in_term}
+use Rattle.heylo_formula.specs.Substitution as Replaced
+use Rattle.heylo_formula.specs.Variables.{is_free}
+use Rattle.heylo_formula.proofs.exported.Substitutions.{kept_subst}
+use Rattle.heylo_graph.specs.Trees.{Tree}
+use Rattle.heylo_graph.specs.Nodes.{Begins, IsFormula, Stands}
+use Rattle.heylo_graph.specs.declared.nodes.Node.{Node}
+use Rattle.heylo_graph.proofs.exported.Standing.{stands_longer}
+use Rattle.vp_generator.specs.Answers.{IsStop}
+use Rattle.vp_generator.specs.InGraphs.{IsWithin, IsStopAt}
+use Rattle.vp_generator.specs.declared.stops.VpStop.{VpStop}
+use Rattle.vp_generator.specs.declared.stops.VpStop.TheVariants.{Depth, Nodes, Memory}
+use Rattle.vp_generator.specs.internal.Fitting.{TermIsFit}
+use Rattle.vp_generator.specs.internal.Making.{IsMade, IsPlaced, IsReady}
+use Rattle.vp_generator.proofs.FreeTerms.{term_counted}
+
+-- ---- Lists that begin others
+
+pub begins_itself : (ns : List Node) → Begins ns ns
+begins_itself ns = record { more = []; whole = sym (append-nil ns) }
+
+pub begins_on : (a b c : List Node) → Begins a b → Begins b c → Begins a c
+begins_on a b c p q = record { more = p.more ++ q.more; whole = q.whole ∙ ap (λ l. l ++ q.more) p.whole ∙ append_assoc a p.more q.more }
+
+formula_is : (f g : Form) → Some (Tree.formula f) ≡ Some (Tree.formula g) → f ≡ g
+formula_is f g e = cc
+
+-- One formula stands at a number.
+pub same_form : (ns : List Node) (i : ℕ) (f g : Form) → Stands ns i (Tree.formula f) → Stands ns i (Tree.formula g) → f ≡ g
+same_form ns i f g s u = formula_is f g (sym s.tree ∙ u.tree)
+
+pub begins_same : (old new : List Node) → new ≡ old → Begins old new
+begins_same old new e = subst (Begins old) (sym e) (begins_itself old)
+
+-- ---- In a longer list
+
+pub formula_longer : (old new : List Node) (i : ℕ) → Begins old new → IsFormula old i → IsFormula new i
+formula_longer old new i b f = record { form = f.form; stands = stands_longer old new i (Tree.formula f.form) b f.stands }
+
+pub placed_longer : (most : ℕ) (old new : List Node) (i : ℕ) → Begins old new → IsPlaced most old i → IsPlaced most new i
+placed_longer most old new i b p = record { form = p.form; stands = stands_longer old new i (Tree.formula p.form) b p.stands; within = p.within }
+
+pub ready_longer : (most : ℕ) (Asked : Form → Type 0) (old new : List Node) (i : ℕ) → Begins old new → IsReady most Asked old i → IsReady most Asked new i
+ready_longer most Asked old new i b r = record { form = r.form; stands = stands_longer old new i (Tree.formula r.form) b r.stands; asked = r.asked; within = r.within; plain = r.plain }
+
+-- ---- What is known of the formula at a number
+
+pub asked_of : (most : ℕ) (Asked : Form → Type 0) (ns : List Node) (i : ℕ) (k : Form) → IsReady most Asked ns i → Stands ns i (Tree.formula k) → Asked k
+asked_of most Asked ns i k r s = subst Asked (same_form ns i r.form k r.stands s) r.asked
+
+pub within_of : (most : ℕ) (Asked : Form → Type 0) (ns : List Node) (i : ℕ) (k : Form) → IsReady most Asked ns i → Stands ns i (Tree.formula k) → IsWithin most k
+within_of most Asked ns i k r s = subst (IsWithin most) (same_form ns i r.form k r.stands s) r.within
+
+pub ready_as : (most : ℕ) (Asked Told : Form → Type 0) (ns : List Node) (i : ℕ) → ((k : Form) → Asked k → Told k) → IsReady most Asked ns i → IsReady most Told ns i
+ready_as most Asked Told ns i f r = record { form = r.form; stands = r.stands; asked = f r.form r.asked; within = r.within; plain = r.plain }
+
+pub ready_form : (most : ℕ) (Asked : Form → Type 0) (ns : List Node) (i : ℕ) → IsReady most Asked ns i → IsFormula ns i
+ready_form most Asked ns i r = record { form = r.form; stands = r.stands }
+
+pub placed_form : (most : ℕ) (ns : List Node) (i : ℕ) → IsPlaced most ns i → IsFormula ns i
+placed_form most ns i p = record { form = p.form; stands = p.stands }
+
+pub made_placed : (most : ℕ) (f : Form) (ns : List Node) (i : ℕ) → IsMade most f (Ok i) ns → IsPlaced most ns i
+made_placed most f ns i m = record { form = f; stands = m.0; within = m.1 }
+
+pub made_form : (most : ℕ) (f : Form) (ns : List Node) (i : ℕ) → IsMade most f (Ok i) ns → IsFormula ns i
+made_form most f ns i m = record { form = f; stands = m.0 }
+
+-- ---- Counting
+
+pub passes : (most n count : ℕ) → count ≡ min (2 ^ 63) n → most < count → most < n
+passes most n count e h = omega (arith, e, h)
+
+pub keeps : (most n count : ℕ) → most < 2 ^ 63 → count ≡ min (2 ^ 63) n → count ≤ most → n ≤ most
+keeps most n count b e h = omega (arith, b, e, h)
+
+-- A term that is put in is small enough for fresh numbers, where there are binders.
+pub few_for_fresh : (most n : ℕ) (f : Form) → IsWithin most f → (2 ^ 30 ≤ most → has_binder f ≡ false) → n ≤ most → has_binder f ≡ true → nodes f + n < 2 ^ 31
+few_for_fresh most n f w p h b = go (cases_lt most (2 ^ 30))
+  where
+    go : (most < 2 ^ 30) ⊎ (2 ^ 30 ≤ most) → nodes f + n < 2 ^ 31
+    go (inl l) = let s = w.few in omega (arith, s, h, l)
+    go (inr l) = let e : true ≡ false = sym b ∙ p l in absurd (cc)
+
+-- A term that passes the limit alone passes it where it is put in.
+pub too_large : (most : ℕ) (x : ℕ) (t : Term) (k : Form) → TermIsFit x t k → most < nodes_in_term t → is_free x k ≡ true → most < nodes (Replaced.subst x t k)
+too_large most x t k f h i = let c = term_counted x t k f i in omega (arith, c, h)
+
+-- Where the variable isn't free, the formula is the changed one.
+pub not_changed : (most : ℕ) (ns : List Node) (i x : ℕ) (t : Term) (k : Form) → Stands ns i (Tree.formula k) → IsWithin most k → is_free x k ≡ false → IsMade most (Replaced.subst x t k) (Ok i) ns
+not_changed most ns i x t k s w h = subst (λ f. IsMade most f (Ok i) ns) (sym (kept_subst x t k h)) (s, w)
+
+-- ---- The limit of vp
+
+pub stop_is : (f : Form) (stop : VpStop) → IsStopAt 200000 f stop → IsStop f stop
+stop_is f Depth h = h
+stop_is f Nodes h = h
+stop_is f (Memory e) h = tt

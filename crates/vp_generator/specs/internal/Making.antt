@@ -1,0 +1,28 @@
+-- What the code that makes a form in a graph is asked and answers. The list may have grown where it stops.
+use Rattle.std.specs.Prelude.{◌≡◌, ℕ, ◌^◌, ◌≤◌, false, Result, Ok, Err, List}
+use Rattle.heylo_formula.specs.Formula.{Form}
+use Rattle.heylo_formula.specs.Binders.{has_binder}
+use Rattle.heylo_graph.specs.Trees.{Tree}
+use Rattle.heylo_graph.specs.Nodes.{Stands}
+use Rattle.heylo_graph.specs.declared.nodes.Node.{Node}
+use Rattle.vp_generator.specs.InGraphs.{IsWithin, IsStopAt}
+use Rattle.vp_generator.specs.declared.stops.VpStop.{VpStop}
+
+-- A formula within the limits stands at the number, and is what is asked; where many nodes may come, it has no binder.
+pub record IsReady (most : ℕ) (Asked : Form → Type 0) (ns : List Node) (i : ℕ) : Type 0 where
+  pub form : Form
+  pub stands : Stands ns i (Tree.formula form)
+  pub asked : Asked form
+  pub within : IsWithin most form
+  pub plain : 2 ^ 30 ≤ most → has_binder form ≡ false
+
+-- A formula within the limits stands at the number.
+pub record IsPlaced (most : ℕ) (ns : List Node) (i : ℕ) : Type 0 where
+  pub form : Form
+  pub stands : Stands ns i (Tree.formula form)
+  pub within : IsWithin most form
+
+-- The formula stands in the list and is within the limits, or passes one.
+abbrev pub IsMade : ℕ → Form → Result ℕ VpStop → List Node → Type 0
+IsMade most f (Ok i) ns = Stands ns i (Tree.formula f) × IsWithin most f
+IsMade most f (Err stop) ns = IsStopAt most f stop
