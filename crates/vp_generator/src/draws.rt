@@ -1,28 +1,37 @@
-//! The form of a draw: the sum of its parts, from the left.
+//! The form of a draw in a graph: the sum of its parts, from the left.
 
+ghost use Rattle.std.specs.Prelude.{◌≡◌, ◌<◌, ◌^◌};
 ghost use Rattle.heylo_formula.specs.Formula.{Form as plain};
-ghost use Rattle.heylo_formula.specs.PlainTrees.{form_of, term_of};
-ghost use Rattle.vp_generator.specs.Generated.{part_form, draw_form, sum_of_parts};
+ghost use Rattle.heylo_formula.specs.PlainTrees.{term_of};
+ghost use Rattle.heylo_graph.specs.Trees.{Tree};
+ghost use Rattle.heylo_graph.specs.Nodes.{Begins, IsFormula, Stands};
 ghost use Rattle.heyvl_acts.specs.PlainActs.{parts_of};
-ghost use Rattle.vp_generator.specs.Limits.{IsSmall};
+ghost use Rattle.vp_generator.specs.Generated.{part_form, draw_form, sum_of_parts};
 ghost use Rattle.vp_generator.specs.internal.Fitting.{DrawIsFit, PartsAreFit, TermIsFit};
-ghost use Rattle.vp_generator.specs.Answers.{IsAnswer};
+ghost use Rattle.vp_generator.specs.internal.Making.{IsMade, IsPlaced, IsReady};
 
-use crate::nodes_of_acts::{added, put, scaled, small};
+use crate::nodes_of_acts::{added, put, scaled};
 use crate::stops::VpStop;
-use heylo_formula::{Form, Term};
+use heylo_formula::Term;
+use heylo_graph::{Graph, NodeId};
 use heyvl_num::Frac;
-use std::alloc::Global;
 
 /// The form of a draw of a variable from its parts.
-pub fn drawn(alloc: Global, var: u32, parts: &[(Frac, Term)], form: &Form) -> Result<Form, VpStop>
-    requires small { IsSmall (form_of form.now) }
-    requires fit { DrawIsFit var (parts_of parts.now) (form_of form.now) }
-    ensures { IsAnswer (draw_form var (parts_of parts.now) (form_of form.now)) result }
+pub fn drawn(
+    graph: &mut Graph,
+    var: u32,
+    parts: &[(Frac, Term)],
+    form: NodeId,
+    most: u64,
+) -> Result<NodeId, VpStop>
+    requires most { most < 2 ^ 63 }
+    requires ready { IsReady most (DrawIsFit var (parts_of parts.now)) graph.old form }
+    ensures begins { Begins graph.old graph.new }
+    ensures made { (k : plain) → Stands graph.old form (Tree.formula k) → IsMade most (draw_form var (parts_of parts.now) k) result graph.new }
 {
     match parts.split_first() {
-        Some((first, others)) => match part(alloc, var, first, form) {
-            Ok(start) => sum_from(alloc, var, others, form, start),
+        Some((first, others)) => match part(graph, var, first, form, most) {
+            Ok(start) => sum_from(graph, var, others, form, start, most),
             Err(stop) => Err(stop),
         },
         None => unreachable!(),
@@ -31,21 +40,23 @@ pub fn drawn(alloc: Global, var: u32, parts: &[(Frac, Term)], form: &Form) -> Re
 
 /// The form that is summed so far, and then the parts.
 fn sum_from(
-    alloc: Global,
+    graph: &mut Graph,
     var: u32,
     parts: &[(Frac, Term)],
-    form: &Form,
-    start: Form,
-) -> Result<Form, VpStop>
-    requires small { IsSmall (form_of form.now) }
-    requires fit { PartsAreFit var (parts_of parts.now) (form_of form.now) }
-    requires start { IsSmall (form_of start) }
-    ensures { IsAnswer (sum_of_parts var (parts_of parts.now) (form_of form.now) (form_of start)) result }
+    form: NodeId,
+    start: NodeId,
+    most: u64,
+) -> Result<NodeId, VpStop>
+    requires most { most < 2 ^ 63 }
+    requires ready { IsReady most (PartsAreFit var (parts_of parts.now)) graph.old form }
+    requires start { IsPlaced most graph.old start }
+    ensures begins { Begins graph.old graph.new }
+    ensures made { (k l : plain) → Stands graph.old form (Tree.formula k) → Stands graph.old start (Tree.formula l) → IsMade most (sum_of_parts var (parts_of parts.now) k l) result graph.new }
 {
     let mut total = start;
     let mut rest = parts;
     'parts: while let Some((next, more)) = rest.split_first() {
-        match with_part(alloc, var, next, form, total) {
+        match with_part(graph, var, next, form, total, most) {
             Ok(longer) => total = longer,
             Err(stop) => return Err(stop),
         }
@@ -56,27 +67,40 @@ fn sum_from(
 
 /// One more part behind what is summed so far.
 fn with_part(
-    alloc: Global,
+    graph: &mut Graph,
     var: u32,
     one: &(Frac, Term),
-    form: &Form,
-    total: Form,
-) -> Result<Form, VpStop>
-    requires small { IsSmall (form_of form.now) }
-    requires fit { TermIsFit var (term_of one.now.1) (form_of form.now) }
-    ensures { IsAnswer (plain.sum (form_of total) (part_form var (one.now.0, term_of one.now.1) (form_of form.now))) result }
+    form: NodeId,
+    total: NodeId,
+    most: u64,
+) -> Result<NodeId, VpStop>
+    requires most { most < 2 ^ 63 }
+    requires ready { IsReady most (TermIsFit var (term_of one.now.1)) graph.old form }
+    requires total { IsFormula graph.old total }
+    ensures begins { Begins graph.old graph.new }
+    ensures made { (k l : plain) → Stands graph.old form (Tree.formula k) → Stands graph.old total (Tree.formula l) → IsMade most (plain.sum l (part_form var (one.now.0, term_of one.now.1) k)) result graph.new }
 {
-    match part(alloc, var, one, form) {
-        Ok(next) => added(alloc, total, next),
+    match part(graph, var, one, form, most) {
+        Ok(next) => added(graph, total, next, most),
         Err(stop) => Err(stop),
     }
 }
 
 /// The form of one part of a draw.
-fn part(alloc: Global, var: u32, one: &(Frac, Term), form: &Form) -> Result<Form, VpStop>
-    requires small { IsSmall (form_of form.now) }
-    requires fit { TermIsFit var (term_of one.now.1) (form_of form.now) }
-    ensures { IsAnswer (part_form var (one.now.0, term_of one.now.1) (form_of form.now)) result }
+fn part(
+    graph: &mut Graph,
+    var: u32,
+    one: &(Frac, Term),
+    form: NodeId,
+    most: u64,
+) -> Result<NodeId, VpStop>
+    requires most { most < 2 ^ 63 }
+    requires ready { IsReady most (TermIsFit var (term_of one.now.1)) graph.old form }
+    ensures begins { Begins graph.old graph.new }
+    ensures made { (k : plain) → Stands graph.old form (Tree.formula k) → IsMade most (part_form var (one.now.0, term_of one.now.1) k) result graph.new }
 {
-    scaled(alloc, one.0, put(alloc, form, var, &one.1)?)
+    match put(graph, form, var, &one.1, most) {
+        Ok(next) => scaled(graph, one.0, next, most),
+        Err(stop) => Err(stop),
+    }
 }

@@ -1,44 +1,101 @@
-//! The form that is generated from acts, from the last act to the first. It is built only while it is small.
+//! The form that is generated from acts, from the last act to the first, in a graph in which equal parts stand once.
 
-ghost use Rattle.std.specs.Prelude.{◌≡◌, ◌+◌, ◌<◌, ◌^◌};
+ghost use Rattle.std.specs.Prelude.{◌≡◌, ◌<◌, ◌≤◌, ◌^◌};
 ghost use Rattle.heylo_formula.specs.Formula.{Form as plain};
 ghost use Rattle.heylo_formula.specs.PlainTrees.{form_of, cond_of};
-ghost use Rattle.vp_generator.specs.Generated.{pick_form, vp, vp_act, vp_arms};
+ghost use Rattle.heylo_graph.specs.Trees.{Tree};
+ghost use Rattle.heylo_graph.specs.Nodes.{Begins, IsFormula, Stands};
 ghost use Rattle.heyvl_acts.specs.PlainActs.{act_of, acts_of, arms_of};
-ghost use Rattle.vp_generator.specs.Limits.{IsSmall};
-ghost use Rattle.vp_generator.specs.Fit.{AreFit};
-ghost use Rattle.vp_generator.specs.internal.Fitting.{IsFit, ArmsAreFit};
 ghost use Rattle.vp_generator.specs.Answers.{IsAnswer};
+ghost use Rattle.vp_generator.specs.Fit.{AreFit};
+ghost use Rattle.vp_generator.specs.Generated.{pick_form, vp, vp_act, vp_arms};
+ghost use Rattle.vp_generator.specs.InGraphs.{Follows, HasNoAny, HaveNoAny, HaveNoAnyIn, IsAnswerIn, MakeNoBinder};
+ghost use Rattle.vp_generator.specs.internal.Fitting.{IsFit, ArmsAreFit};
+ghost use Rattle.vp_generator.specs.internal.Making.{IsMade, IsPlaced, IsReady};
 
 use crate::draws::drawn;
-use crate::nodes_of_acts::{added, bound, checked, picked, put, selected, small, validated};
+use crate::limits::MOST_NODES;
+use crate::nodes_of_acts::{bound, checked, picked, put, rewarded, selected, small, validated};
 use crate::stops::VpStop;
 use crate::tosses::tossed;
 use heylo_formula::{Cond, Form};
+use heylo_graph::{Graph, NodeId};
 use heyvl_acts::Act;
 use std::alloc::Global;
 
-/// The form of acts, over the form of what follows them.
+/// The form of acts, over the form of what follows them; of at most 200,000 nodes.
 pub fn vp(alloc: Global, acts: &[Act], post: Form) -> Result<Form, VpStop>
     requires { AreFit (acts_of acts.now) (form_of post) }
     ensures { IsAnswer (vp (acts_of acts.now) (form_of post)) result }
 {
-    match small(post) {
-        Ok(form) => over_acts(alloc, acts, form),
+    if post.nodes() > MOST_NODES {
+        return Err(VpStop::Nodes);
+    }
+    let mut graph = Graph::new(alloc);
+    let start = graph.put(&post)?;
+    match vp_in(&mut graph, acts, start, MOST_NODES) {
+        Ok(id) => Ok(graph.tree(id)?),
+        Err(stop) => Err(stop),
+    }
+}
+
+/// The form of acts, over the form of what follows them, in its graph; of at most so many nodes, and at most 1,000 deep. Where
+/// it stops, the list is as it was. Where there may be 2^30 nodes, no binder may come of the acts, nor stand in what follows.
+pub fn vp_in(
+    graph: &mut Graph,
+    acts: &[Act],
+    post: NodeId,
+    most: u64,
+) -> Result<NodeId, VpStop>
+    requires most { most < 2 ^ 63 }
+    requires post { Follows (acts_of acts.now) graph.old post }
+    requires plain { 2 ^ 30 ≤ most → MakeNoBinder (acts_of acts.now) graph.old post }
+    ensures { (k : plain) → Stands graph.old post (Tree.formula k) → IsAnswerIn most graph.old (vp (acts_of acts.now) k) result graph.new }
+{
+    let len = graph.len();
+    let result = from_post(graph, acts, post, most);
+    if result.is_err() {
+        graph.cut(len);
+    }
+    result
+}
+
+/// The same, but the list may have grown where it stops, as below.
+fn from_post(
+    graph: &mut Graph,
+    acts: &[Act],
+    post: NodeId,
+    most: u64,
+) -> Result<NodeId, VpStop>
+    requires most { most < 2 ^ 63 }
+    requires post { Follows (acts_of acts.now) graph.old post }
+    requires plain { 2 ^ 30 ≤ most → MakeNoBinder (acts_of acts.now) graph.old post }
+    ensures begins { Begins graph.old graph.new }
+    ensures made { (k : plain) → Stands graph.old post (Tree.formula k) → IsMade most (vp (acts_of acts.now) k) result graph.new }
+{
+    match small(graph, post, most) {
+        Ok(form) => over_acts(graph, acts, form, most),
         Err(stop) => Err(stop),
     }
 }
 
 #[cycle(generating)]
-fn over_acts(alloc: Global, acts: &[Act], post: Form) -> Result<Form, VpStop>
-    requires fit { AreFit (acts_of acts.now) (form_of post) }
-    requires small { IsSmall (form_of post) }
-    ensures { IsAnswer (vp (acts_of acts.now) (form_of post)) result }
+fn over_acts(
+    graph: &mut Graph,
+    acts: &[Act],
+    post: NodeId,
+    most: u64,
+) -> Result<NodeId, VpStop>
+    requires most { most < 2 ^ 63 }
+    requires ready { IsReady most (AreFit (acts_of acts.now)) graph.old post }
+    requires calm { 2 ^ 30 ≤ most → HaveNoAny (acts_of acts.now) }
+    ensures begins { Begins graph.old graph.new }
+    ensures made { (k : plain) → Stands graph.old post (Tree.formula k) → IsMade most (vp (acts_of acts.now) k) result graph.new }
 {
     let mut form = post;
     let mut rest = acts;
     'acts: while let Some((act, before)) = rest.split_last() {
-        match over_act(alloc, act, form) {
+        match over_act(graph, act, form, most) {
             Ok(next) => form = next,
             Err(stop) => return Err(stop),
         }
@@ -48,51 +105,47 @@ fn over_acts(alloc: Global, acts: &[Act], post: Form) -> Result<Form, VpStop>
 }
 
 #[cycle(generating)]
-fn over_act(alloc: Global, act: &Act, form: Form) -> Result<Form, VpStop>
-    requires fit { IsFit (act_of act.now) (form_of form) }
-    requires small { IsSmall (form_of form) }
-    ensures { IsAnswer (vp_act (act_of act.now) (form_of form)) result }
+fn over_act(graph: &mut Graph, act: &Act, form: NodeId, most: u64) -> Result<NodeId, VpStop>
+    requires most { most < 2 ^ 63 }
+    requires ready { IsReady most (IsFit (act_of act.now)) graph.old form }
+    requires calm { 2 ^ 30 ≤ most → HasNoAny (act_of act.now) }
+    ensures begins { Begins graph.old graph.new }
+    ensures made { (k : plain) → Stands graph.old form (Tree.formula k) → IsMade most (vp_act (act_of act.now) k) result graph.new }
 {
     match act {
-        Act::Set(x, t, _) => put(alloc, &form, *x, t),
-        Act::Draw(x, parts, _) => drawn(alloc, *x, parts, &form),
-        Act::Toss(x, weight, span) => tossed(alloc, *x, weight, *span, &form),
-        Act::Any(x, up, ty, _) => bound(alloc, *up, *x, *ty, form),
-        Act::Reward(f, _) => with_reward(alloc, f, form),
-        Act::If(arms, otherwise, _) => over_if(alloc, arms, otherwise, &form),
-        Act::Pick(up, a, b, _) => over_pick(alloc, *up, a, b, &form),
-        Act::Check(kind, f, _) => checked(alloc, *kind, f, form),
-        Act::Validate(co, _) => validated(alloc, *co, form),
+        Act::Set(x, t, _) => put(graph, form, *x, t, most),
+        Act::Draw(x, parts, _) => drawn(graph, *x, parts, form, most),
+        Act::Toss(x, weight, span) => tossed(graph, *x, weight, *span, form, most),
+        Act::Any(x, up, ty, _) => bound(graph, *up, *x, *ty, form, most),
+        Act::Reward(f, _) => rewarded(graph, f, form, most),
+        Act::If(arms, otherwise, _) => over_if(graph, arms, otherwise, form, most),
+        Act::Pick(up, a, b, _) => over_pick(graph, *up, a, b, form, most),
+        Act::Check(kind, f, _) => checked(graph, *kind, f, form, most),
+        Act::Validate(co, _) => validated(graph, *co, form, most),
         Act::Loop(_) => unreachable!(),
         Act::Call(_, _, _, _) => unreachable!(),
     }
 }
 
-fn with_reward(alloc: Global, reward: &Form, form: Form) -> Result<Form, VpStop>
-    ensures { IsAnswer (plain.sum (form_of form) (form_of reward.now)) result }
-{
-    added(alloc, form, reward.copy(alloc)?)
-}
-
 #[cycle(generating)]
-fn over_block(alloc: Global, acts: &[Act], form: &Form) -> Result<Form, VpStop>
-    requires fit { AreFit (acts_of acts.now) (form_of form.now) }
-    requires small { IsSmall (form_of form.now) }
-    ensures { IsAnswer (vp (acts_of acts.now) (form_of form.now)) result }
+fn over_pick(
+    graph: &mut Graph,
+    up: bool,
+    a: &[Act],
+    b: &[Act],
+    form: NodeId,
+    most: u64,
+) -> Result<NodeId, VpStop>
+    requires most { most < 2 ^ 63 }
+    requires first { IsReady most (AreFit (acts_of a.now)) graph.old form }
+    requires second { IsReady most (AreFit (acts_of b.now)) graph.old form }
+    requires calm { 2 ^ 30 ≤ most → HaveNoAny (acts_of a.now) × HaveNoAny (acts_of b.now) }
+    ensures begins { Begins graph.old graph.new }
+    ensures made { (k : plain) → Stands graph.old form (Tree.formula k) → IsMade most (pick_form up (vp (acts_of a.now) k) (vp (acts_of b.now) k)) result graph.new }
 {
-    over_acts(alloc, acts, form.copy(alloc)?)
-}
-
-#[cycle(generating)]
-fn over_pick(alloc: Global, up: bool, a: &[Act], b: &[Act], form: &Form) -> Result<Form, VpStop>
-    requires first { AreFit (acts_of a.now) (form_of form.now) }
-    requires second { AreFit (acts_of b.now) (form_of form.now) }
-    requires small { IsSmall (form_of form.now) }
-    ensures { IsAnswer (pick_form up (vp (acts_of a.now) (form_of form.now)) (vp (acts_of b.now) (form_of form.now))) result }
-{
-    match over_block(alloc, a, form) {
-        Ok(first) => match over_block(alloc, b, form) {
-            Ok(second) => picked(alloc, up, first, second),
+    match over_acts(graph, a, form, most) {
+        Ok(first) => match over_acts(graph, b, form, most) {
+            Ok(second) => picked(graph, up, first, second, most),
             Err(stop) => Err(stop),
         },
         Err(stop) => Err(stop),
@@ -101,38 +154,44 @@ fn over_pick(alloc: Global, up: bool, a: &[Act], b: &[Act], form: &Form) -> Resu
 
 #[cycle(generating)]
 fn over_if(
-    alloc: Global,
+    graph: &mut Graph,
     arms: &[(Cond, Vec<Act>)],
     otherwise: &[Act],
-    form: &Form,
-) -> Result<Form, VpStop>
-    requires arms { ArmsAreFit (arms_of arms.now) (form_of form.now) }
-    requires otherwise { AreFit (acts_of otherwise.now) (form_of form.now) }
-    requires small { IsSmall (form_of form.now) }
-    ensures { IsAnswer (vp_arms (arms_of arms.now) (form_of form.now) (vp (acts_of otherwise.now) (form_of form.now))) result }
+    form: NodeId,
+    most: u64,
+) -> Result<NodeId, VpStop>
+    requires most { most < 2 ^ 63 }
+    requires arms { IsReady most (ArmsAreFit (arms_of arms.now)) graph.old form }
+    requires otherwise { IsReady most (AreFit (acts_of otherwise.now)) graph.old form }
+    requires calm { 2 ^ 30 ≤ most → HaveNoAnyIn (arms_of arms.now) × HaveNoAny (acts_of otherwise.now) }
+    ensures begins { Begins graph.old graph.new }
+    ensures made { (k : plain) → Stands graph.old form (Tree.formula k) → IsMade most (vp_arms (arms_of arms.now) k (vp (acts_of otherwise.now) k)) result graph.new }
 {
-    match over_block(alloc, otherwise, form) {
-        Ok(start) => over_arms(alloc, arms, form, start),
+    match over_acts(graph, otherwise, form, most) {
+        Ok(start) => over_arms(graph, arms, form, start, most),
         Err(stop) => Err(stop),
     }
 }
 
 #[cycle(generating)]
 fn over_arms(
-    alloc: Global,
+    graph: &mut Graph,
     arms: &[(Cond, Vec<Act>)],
-    form: &Form,
-    start: Form,
-) -> Result<Form, VpStop>
-    requires fit { ArmsAreFit (arms_of arms.now) (form_of form.now) }
-    requires small { IsSmall (form_of form.now) }
-    requires start { IsSmall (form_of start) }
-    ensures { IsAnswer (vp_arms (arms_of arms.now) (form_of form.now) (form_of start)) result }
+    form: NodeId,
+    start: NodeId,
+    most: u64,
+) -> Result<NodeId, VpStop>
+    requires most { most < 2 ^ 63 }
+    requires ready { IsReady most (ArmsAreFit (arms_of arms.now)) graph.old form }
+    requires start { IsPlaced most graph.old start }
+    requires calm { 2 ^ 30 ≤ most → HaveNoAnyIn (arms_of arms.now) }
+    ensures begins { Begins graph.old graph.new }
+    ensures made { (k l : plain) → Stands graph.old form (Tree.formula k) → Stands graph.old start (Tree.formula l) → IsMade most (vp_arms (arms_of arms.now) k l) result graph.new }
 {
     let mut chosen = start;
     let mut rest = arms;
     'arms: while let Some((arm, before)) = rest.split_last() {
-        match over_arm(alloc, arm, form, chosen) {
+        match over_arm(graph, arm, form, chosen, most) {
             Ok(next) => chosen = next,
             Err(stop) => return Err(stop),
         }
@@ -143,17 +202,21 @@ fn over_arms(
 
 #[cycle(generating)]
 fn over_arm(
-    alloc: Global,
+    graph: &mut Graph,
     arm: &(Cond, Vec<Act>),
-    form: &Form,
-    others: Form,
-) -> Result<Form, VpStop>
-    requires fit { AreFit (acts_of arm.now.1.items) (form_of form.now) }
-    requires small { IsSmall (form_of form.now) }
-    ensures { IsAnswer (plain.select (cond_of arm.now.0) (vp (acts_of arm.now.1.items) (form_of form.now)) (form_of others)) result }
+    form: NodeId,
+    others: NodeId,
+    most: u64,
+) -> Result<NodeId, VpStop>
+    requires most { most < 2 ^ 63 }
+    requires ready { IsReady most (AreFit (acts_of arm.now.1.items)) graph.old form }
+    requires others { IsFormula graph.old others }
+    requires calm { 2 ^ 30 ≤ most → HaveNoAny (acts_of arm.now.1.items) }
+    ensures begins { Begins graph.old graph.new }
+    ensures made { (k l : plain) → Stands graph.old form (Tree.formula k) → Stands graph.old others (Tree.formula l) → IsMade most (plain.select (cond_of arm.now.0) (vp (acts_of arm.now.1.items) k) l) result graph.new }
 {
-    match over_block(alloc, &arm.1, form) {
-        Ok(branch) => selected(alloc, &arm.0, branch, others),
+    match over_acts(graph, &arm.1, form, most) {
+        Ok(branch) => selected(graph, &arm.0, branch, others, most),
         Err(stop) => Err(stop),
     }
 }

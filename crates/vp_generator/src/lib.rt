@@ -12,7 +12,7 @@ mod prenexed;
 mod stops;
 mod tosses;
 
-pub use generation::vp;
+pub use generation::{vp, vp_in};
 pub use goals::goal_of_forms;
 pub use laws::{
     generated_form_is_directed, generated_form_means_acts, prenexed_form_means_choices,

@@ -1,127 +1,230 @@
-//! The form of one act, from the parts that it is made of.
+//! The node of the form of one act, joined to a graph over the nodes that it is made of. Where it stops, the list may have grown.
 
-ghost use Rattle.std.specs.Prelude.{◌≡◌, ◌≤◌, IfOk};
+ghost use Rattle.std.specs.Prelude.{◌≡◌, ◌<◌, ◌^◌, length};
 ghost use Rattle.heylo_formula.specs.Formula.{Form as plain};
 ghost use Rattle.heylo_formula.specs.PlainTrees.{form_of, cond_of, term_of};
-ghost use Rattle.heylo_formula.specs.Sizes.{nodes};
+ghost use Rattle.heylo_formula.specs.Sizes.{nodes_in_term};
 ghost use Rattle.heylo_formula.specs.Substitution.{subst};
+ghost use Rattle.heylo_graph.specs.Trees.{Tree};
+ghost use Rattle.heylo_graph.specs.Nodes.{Begins, IsFitting, IsFormula, IsNodeOf, Stands};
 ghost use Rattle.vp_generator.specs.Generated.{pick_form, check_form, validate_form};
-ghost use Rattle.vp_generator.specs.Limits.{IsSmall};
 ghost use Rattle.vp_generator.specs.internal.Fitting.{TermIsFit};
-ghost use Rattle.vp_generator.specs.Answers.{IsAnswer};
+ghost use Rattle.vp_generator.specs.internal.Making.{IsMade, IsReady};
 
-use crate::limits::{DEEPEST, MOST_NODES};
+use crate::limits::DEEPEST;
 use crate::stops::VpStop;
 use heylo_formula::{Cond, Form, Term, Ty};
+use heylo_graph::{Graph, Node, NodeId};
 use heyvl_num::Frac;
 use heyvl_places::CheckKind;
-use std::alloc::{AllocError, Global};
 
-/// The form, where it passes no limit.
-pub fn small(form: Form) -> Result<Form, VpStop>
-    ensures { IsAnswer (form_of form) result }
+/// The node, where its tree passes no limit.
+pub fn small(graph: &Graph, id: NodeId, most: u64) -> Result<NodeId, VpStop>
+    requires most { most < 2 ^ 63 }
+    requires there { id < length graph.now }
+    ensures { (f : plain) → Stands graph.now id (Tree.formula f) → IsMade most f result graph.now }
 {
-    if form.nodes() > MOST_NODES {
+    if graph.nodes(id) > most {
         return Err(VpStop::Nodes);
     }
-    if form.depth() > DEEPEST {
+    if graph.depth(id) > DEEPEST {
         return Err(VpStop::Depth);
     }
-    Ok(form)
+    Ok(id)
 }
 
-/// The form with the term for a variable. Its nodes are counted before it is built.
-pub fn put(alloc: Global, form: &Form, var: u32, with: &Term) -> Result<Form, VpStop>
-    requires small { IsSmall (form_of form.now) }
-    requires fit { TermIsFit var (term_of with.now) (form_of form.now) }
-    ensures { IsAnswer (subst var (term_of with.now) (form_of form.now)) result }
+/// The node, joined, where its tree passes no limit.
+pub fn joined(graph: &mut Graph, node: Node, most: u64) -> Result<NodeId, VpStop>
+    requires most { most < 2 ^ 63 }
+    requires fits { IsFitting graph.old node }
+    ensures begins { Begins graph.old graph.new }
+    ensures made { (f : plain) → IsNodeOf graph.old node (Tree.formula f) → IsMade most f result graph.new }
 {
-    if form.nodes_with(var, with) > MOST_NODES {
-        return Err(VpStop::Nodes);
+    let id = graph.join(node)?;
+    small(graph, id, most)
+}
+
+/// The form with the term for a variable. A term that passes the limit alone is put in nowhere.
+pub fn put(
+    graph: &mut Graph,
+    form: NodeId,
+    var: u32,
+    with: &Term,
+    most: u64,
+) -> Result<NodeId, VpStop>
+    requires most { most < 2 ^ 63 }
+    requires ready { IsReady most (TermIsFit var (term_of with.now)) graph.old form }
+    ensures begins { Begins graph.old graph.new }
+    ensures made { (k : plain) → Stands graph.old form (Tree.formula k) → IsMade most (subst var (term_of with.now) k) result graph.new }
+{
+    if with.nodes() > most {
+        return kept(graph, form, var, with, most);
     }
-    small(with_term(alloc, form, var, with)?)
+    let id = graph.subst(form, var, with)?;
+    small(graph, id, most)
 }
 
-/// The form with the term for a variable, where few nodes come of it; a copy where the variable isn't free.
-fn with_term(alloc: Global, form: &Form, var: u32, with: &Term) -> Result<Form, AllocError>
-    requires small { IsSmall (form_of form.now) }
-    requires fit { TermIsFit var (term_of with.now) (form_of form.now) }
-    requires few { nodes (subst var (term_of with.now) (form_of form.now)) ≤ 200000 }
-    ensures { IfOk result (λ f. form_of f ≡ subst var (term_of with.now) (form_of form.now)) }
+/// The form, where the variable isn't free there; else the term, which is too large, would be put in.
+fn kept(
+    graph: &Graph,
+    form: NodeId,
+    var: u32,
+    with: &Term,
+    most: u64,
+) -> Result<NodeId, VpStop>
+    requires ready { IsReady most (TermIsFit var (term_of with.now)) graph.now form }
+    requires large { most < nodes_in_term (term_of with.now) }
+    ensures { (k : plain) → Stands graph.now form (Tree.formula k) → IsMade most (subst var (term_of with.now) k) result graph.now }
 {
-    if form.free(var) {
-        form.subst(alloc, var, with)
+    if graph.free(form, var)? {
+        Err(VpStop::Nodes)
     } else {
-        form.copy(alloc)
+        Ok(form)
     }
 }
 
 /// The binder of a variable over the form.
-pub fn bound(alloc: Global, up: bool, var: u32, ty: Ty, body: Form) -> Result<Form, VpStop>
-    ensures { IsAnswer (plain.bind up var var ty (form_of body)) result }
+pub fn bound(
+    graph: &mut Graph,
+    up: bool,
+    var: u32,
+    ty: Ty,
+    body: NodeId,
+    most: u64,
+) -> Result<NodeId, VpStop>
+    requires most { most < 2 ^ 63 }
+    requires body { IsFormula graph.old body }
+    ensures begins { Begins graph.old graph.new }
+    ensures made { (k : plain) → Stands graph.old body (Tree.formula k) → IsMade most (plain.bind up var var ty k) result graph.new }
 {
-    small(Form::Bind(up, var, var, ty, Box::new(alloc, body)?))
+    joined(graph, Node::Bind(up, var, var, ty, body), most)
 }
 
 /// A weight times the form.
-pub fn scaled(alloc: Global, weight: Frac, form: Form) -> Result<Form, VpStop>
-    ensures { IsAnswer (plain.scale weight (form_of form)) result }
+pub fn scaled(graph: &mut Graph, weight: Frac, form: NodeId, most: u64) -> Result<NodeId, VpStop>
+    requires most { most < 2 ^ 63 }
+    requires form { IsFormula graph.old form }
+    ensures begins { Begins graph.old graph.new }
+    ensures made { (k : plain) → Stands graph.old form (Tree.formula k) → IsMade most (plain.scale weight k) result graph.new }
 {
-    small(Form::Scale(weight, Box::new(alloc, form)?))
+    joined(graph, Node::Scale(weight, form), most)
 }
 
 /// The sum of two forms.
-pub fn added(alloc: Global, first: Form, second: Form) -> Result<Form, VpStop>
-    ensures { IsAnswer (plain.sum (form_of first) (form_of second)) result }
+pub fn added(graph: &mut Graph, first: NodeId, second: NodeId, most: u64) -> Result<NodeId, VpStop>
+    requires most { most < 2 ^ 63 }
+    requires first { IsFormula graph.old first }
+    requires second { IsFormula graph.old second }
+    ensures begins { Begins graph.old graph.new }
+    ensures made { (k l : plain) → Stands graph.old first (Tree.formula k) → Stands graph.old second (Tree.formula l) → IsMade most (plain.sum k l) result graph.new }
 {
-    let left = Box::new(alloc, first)?;
-    small(Form::Sum(left, Box::new(alloc, second)?))
+    joined(graph, Node::Sum(first, second), most)
+}
+
+/// The form with a reward.
+pub fn rewarded(
+    graph: &mut Graph,
+    reward: &Form,
+    form: NodeId,
+    most: u64,
+) -> Result<NodeId, VpStop>
+    requires most { most < 2 ^ 63 }
+    requires form { IsFormula graph.old form }
+    ensures begins { Begins graph.old graph.new }
+    ensures made { (k : plain) → Stands graph.old form (Tree.formula k) → IsMade most (plain.sum k (form_of reward.now)) result graph.new }
+{
+    let held = graph.put(reward)?;
+    added(graph, form, held, most)
 }
 
 /// The first form where the guard holds, else the second.
-pub fn selected(alloc: Global, guard: &Cond, first: Form, second: Form) -> Result<Form, VpStop>
-    ensures { IsAnswer (plain.select (cond_of guard.now) (form_of first) (form_of second)) result }
+pub fn selected(
+    graph: &mut Graph,
+    guard: &Cond,
+    first: NodeId,
+    second: NodeId,
+    most: u64,
+) -> Result<NodeId, VpStop>
+    requires most { most < 2 ^ 63 }
+    requires first { IsFormula graph.old first }
+    requires second { IsFormula graph.old second }
+    ensures begins { Begins graph.old graph.new }
+    ensures made { (k l : plain) → Stands graph.old first (Tree.formula k) → Stands graph.old second (Tree.formula l) → IsMade most (plain.select (cond_of guard.now) k l) result graph.new }
 {
-    let test = Box::new(alloc, guard.copy(alloc)?)?;
-    let left = Box::new(alloc, first)?;
-    small(Form::Select(test, left, Box::new(alloc, second)?))
+    let test = graph.put_cond(guard)?;
+    joined(graph, Node::Select(test, first, second), most)
 }
 
 /// The greater of two forms upward, the smaller one downward.
-pub fn picked(alloc: Global, up: bool, first: Form, second: Form) -> Result<Form, VpStop>
-    ensures { IsAnswer (pick_form up (form_of first) (form_of second)) result }
+pub fn picked(
+    graph: &mut Graph,
+    up: bool,
+    first: NodeId,
+    second: NodeId,
+    most: u64,
+) -> Result<NodeId, VpStop>
+    requires most { most < 2 ^ 63 }
+    requires first { IsFormula graph.old first }
+    requires second { IsFormula graph.old second }
+    ensures begins { Begins graph.old graph.new }
+    ensures made { (k l : plain) → Stands graph.old first (Tree.formula k) → Stands graph.old second (Tree.formula l) → IsMade most (pick_form up k l) result graph.new }
 {
-    let left = Box::new(alloc, first)?;
-    let right = Box::new(alloc, second)?;
     if up {
-        small(Form::Max(left, right))
+        joined(graph, Node::Max(first, second), most)
     } else {
-        small(Form::Min(left, right))
+        joined(graph, Node::Min(first, second), most)
     }
 }
 
 /// A check's formula and the form, joined as the check's kind says.
-pub fn checked(alloc: Global, kind: CheckKind, held: &Form, form: Form) -> Result<Form, VpStop>
-    ensures { IsAnswer (check_form kind (form_of held.now) (form_of form)) result }
+pub fn checked(
+    graph: &mut Graph,
+    kind: CheckKind,
+    held: &Form,
+    form: NodeId,
+    most: u64,
+) -> Result<NodeId, VpStop>
+    requires most { most < 2 ^ 63 }
+    requires form { IsFormula graph.old form }
+    ensures begins { Begins graph.old graph.new }
+    ensures made { (k : plain) → Stands graph.old form (Tree.formula k) → IsMade most (check_form kind (form_of held.now) k) result graph.new }
 {
-    let left = Box::new(alloc, held.copy(alloc)?)?;
-    let right = Box::new(alloc, form)?;
+    let left = graph.put(held)?;
+    check_joined(graph, kind, left, form, most)
+}
+
+/// Two forms, joined as the check's kind says.
+fn check_joined(
+    graph: &mut Graph,
+    kind: CheckKind,
+    held: NodeId,
+    form: NodeId,
+    most: u64,
+) -> Result<NodeId, VpStop>
+    requires most { most < 2 ^ 63 }
+    requires held { IsFormula graph.old held }
+    requires form { IsFormula graph.old form }
+    ensures begins { Begins graph.old graph.new }
+    ensures made { (k l : plain) → Stands graph.old held (Tree.formula k) → Stands graph.old form (Tree.formula l) → IsMade most (check_form kind k l) result graph.new }
+{
     match kind {
-        CheckKind::Assert => small(Form::Min(left, right)),
-        CheckKind::Assume => small(Form::Imply(left, right)),
-        CheckKind::CoAssert => small(Form::Max(left, right)),
-        CheckKind::CoAssume => small(Form::CoImply(left, right)),
+        CheckKind::Assert => joined(graph, Node::Min(held, form), most),
+        CheckKind::Assume => joined(graph, Node::Imply(held, form), most),
+        CheckKind::CoAssert => joined(graph, Node::Max(held, form), most),
+        CheckKind::CoAssume => joined(graph, Node::CoImply(held, form), most),
     }
 }
 
 /// The form of a `covalidate` where the flag is true, else of a `validate`.
-pub fn validated(alloc: Global, co: bool, form: Form) -> Result<Form, VpStop>
-    ensures { IsAnswer (validate_form co (form_of form)) result }
+pub fn validated(graph: &mut Graph, co: bool, form: NodeId, most: u64) -> Result<NodeId, VpStop>
+    requires most { most < 2 ^ 63 }
+    requires form { IsFormula graph.old form }
+    ensures begins { Begins graph.old graph.new }
+    ensures made { (k : plain) → Stands graph.old form (Tree.formula k) → IsMade most (validate_form co k) result graph.new }
 {
-    let part = Box::new(alloc, form)?;
     if co {
-        small(Form::CoValidate(part))
+        joined(graph, Node::CoValidate(form), most)
     } else {
-        small(Form::Validate(part))
+        joined(graph, Node::Validate(form), most)
     }
 }

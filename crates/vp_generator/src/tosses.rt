@@ -1,40 +1,64 @@
-//! The form of a toss: the smaller of its formula and 1 times what follows where the variable is true, and the rest of 1 times what
-//! follows where it is false.
+//! The form of a toss in a graph: the smaller of its formula and 1 times what follows where the variable is true, and the rest of 1
+//! times what follows where it is false. The formula is put once.
 
-ghost use Rattle.std.specs.Prelude.{◌≡◌, IfOk};
+ghost use Rattle.std.specs.Prelude.{◌≡◌, ◌<◌, ◌^◌, true, false, IfOk};
 ghost use Rattle.heylo_formula.specs.Formula.{Cond as condition, Form as plain, Term as term};
 ghost use Rattle.heylo_formula.specs.PlainTrees.{form_of};
 ghost use Rattle.heylo_formula.specs.Substitution.{subst};
+ghost use Rattle.heylo_graph.specs.Trees.{Tree};
+ghost use Rattle.heylo_graph.specs.Nodes.{Begins, IsFormula, Stands};
 ghost use Rattle.heyvl_num.specs.Value.{oneᵛ};
-ghost use Rattle.vp_generator.specs.Answers.{IsAnswer};
 ghost use Rattle.vp_generator.specs.Generated.{toss_form};
-ghost use Rattle.vp_generator.specs.Limits.{IsSmall};
 ghost use Rattle.vp_generator.specs.internal.Fitting.{FlagIsFit, TossIsFit};
+ghost use Rattle.vp_generator.specs.internal.Making.{IsMade, IsReady};
 
-use crate::nodes_of_acts::{added, put, small};
+use crate::nodes_of_acts::{added, joined, put};
 use crate::stops::VpStop;
 use heylo_formula::{Cond, Form, Term};
+use heylo_graph::{Graph, Node, NodeId};
 use heyvl_num::Ext;
 use heyvl_places::Span;
-use std::alloc::{AllocError, Global};
+use std::alloc::AllocError;
 
 /// The form of a toss of a variable; both products have the toss's place.
 pub fn tossed(
-    alloc: Global,
+    graph: &mut Graph,
     var: u32,
     weight: &Form,
     span: Span,
-    form: &Form,
-) -> Result<Form, VpStop>
-    requires fit { TossIsFit var (form_of weight.now) (form_of form.now) }
-    requires small { IsSmall (form_of form.now) }
-    ensures { IsAnswer (toss_form var (form_of weight.now) span (form_of form.now)) result }
+    form: NodeId,
+    most: u64,
+) -> Result<NodeId, VpStop>
+    requires most { most < 2 ^ 63 }
+    requires ready { IsReady most (TossIsFit var (form_of weight.now)) graph.old form }
+    ensures begins { Begins graph.old graph.new }
+    ensures made { (k : plain) → Stands graph.old form (Tree.formula k) → IsMade most (toss_form var (form_of weight.now) span k) result graph.new }
 {
-    let heads = at_most_one(alloc, weight)?;
-    let tails = rest_of_one(alloc, weight)?;
-    match side(alloc, var, true, heads, span, form) {
-        Ok(first) => match side(alloc, var, false, tails, span, form) {
-            Ok(second) => added(alloc, first, second),
+    let heads = at_most_one(graph, weight)?;
+    let tails = rest_of_one(graph, heads)?;
+    both_sides(graph, var, heads, tails, span, form, most)
+}
+
+/// The sum of both sides, each with its weight.
+fn both_sides(
+    graph: &mut Graph,
+    var: u32,
+    heads: NodeId,
+    tails: NodeId,
+    span: Span,
+    form: NodeId,
+    most: u64,
+) -> Result<NodeId, VpStop>
+    requires most { most < 2 ^ 63 }
+    requires ready { IsReady most (FlagIsFit var) graph.old form }
+    requires heads { IsFormula graph.old heads }
+    requires tails { IsFormula graph.old tails }
+    ensures begins { Begins graph.old graph.new }
+    ensures made { (k h t : plain) → Stands graph.old form (Tree.formula k) → Stands graph.old heads (Tree.formula h) → Stands graph.old tails (Tree.formula t) → IsMade most (plain.sum (plain.product h (subst var (term.truth (condition.constant true)) k) span) (plain.product t (subst var (term.truth (condition.constant false)) k) span)) result graph.new }
+{
+    match side(graph, var, true, heads, span, form, most) {
+        Ok(first) => match side(graph, var, false, tails, span, form, most) {
+            Ok(second) => added(graph, first, second, most),
             Err(stop) => Err(stop),
         },
         Err(stop) => Err(stop),
@@ -42,46 +66,43 @@ pub fn tossed(
 }
 
 /// The smaller of the form and 1.
-fn at_most_one(alloc: Global, weight: &Form) -> Result<Form, AllocError>
-    ensures { IfOk result (λ f. form_of f ≡ plain.min (form_of weight.now) (plain.number oneᵛ)) }
+fn at_most_one(graph: &mut Graph, weight: &Form) -> Result<NodeId, AllocError>
+    ensures begins { Begins graph.old graph.new }
+    ensures tree { IfOk result (λ i. Stands graph.new i (Tree.formula (plain.min (form_of weight.now) (plain.number oneᵛ)))) }
 {
-    let left = Box::new(alloc, weight.copy(alloc)?)?;
-    Ok(Form::Min(left, Box::new(alloc, Form::Const(Ext::one()))?))
+    let held = graph.put(weight)?;
+    let one = graph.join(Node::Const(Ext::one()))?;
+    graph.join(Node::Min(held, one))
 }
 
-/// What the smaller of the form and 1 leaves of 1.
-fn rest_of_one(alloc: Global, weight: &Form) -> Result<Form, AllocError>
-    ensures { IfOk result (λ f. form_of f ≡ plain.cut (plain.number oneᵛ) (plain.min (form_of weight.now) (plain.number oneᵛ))) }
+/// What a form, which is at most 1, leaves of 1.
+fn rest_of_one(graph: &mut Graph, least: NodeId) -> Result<NodeId, AllocError>
+    requires { IsFormula graph.old least }
+    ensures begins { Begins graph.old graph.new }
+    ensures tree { IfOk result (λ i. (k : plain) → Stands graph.old least (Tree.formula k) → Stands graph.new i (Tree.formula (plain.cut (plain.number oneᵛ) k))) }
 {
-    let left = Box::new(alloc, Form::Const(Ext::one()))?;
-    Ok(Form::Cut(left, Box::new(alloc, at_most_one(alloc, weight)?)?))
+    let one = graph.join(Node::Const(Ext::one()))?;
+    graph.join(Node::Cut(one, least))
 }
 
 /// A weight times what follows where the variable has the truth value.
 fn side(
-    alloc: Global,
+    graph: &mut Graph,
     var: u32,
     truth: bool,
-    weight: Form,
+    weight: NodeId,
     span: Span,
-    form: &Form,
-) -> Result<Form, VpStop>
-    requires fit { FlagIsFit var (form_of form.now) }
-    requires small { IsSmall (form_of form.now) }
-    ensures { IsAnswer (plain.product (form_of weight) (subst var (term.truth (condition.constant truth)) (form_of form.now)) span) result }
+    form: NodeId,
+    most: u64,
+) -> Result<NodeId, VpStop>
+    requires most { most < 2 ^ 63 }
+    requires ready { IsReady most (FlagIsFit var) graph.old form }
+    requires weight { IsFormula graph.old weight }
+    ensures begins { Begins graph.old graph.new }
+    ensures made { (k w : plain) → Stands graph.old form (Tree.formula k) → Stands graph.old weight (Tree.formula w) → IsMade most (plain.product w (subst var (term.truth (condition.constant truth)) k) span) result graph.new }
 {
-    weighed(
-        alloc,
-        weight,
-        put(alloc, form, var, &Term::Truth(Cond::Const(truth)))?,
-        span,
-    )
-}
-
-/// A weight times the form.
-fn weighed(alloc: Global, weight: Form, form: Form, span: Span) -> Result<Form, VpStop>
-    ensures { IsAnswer (plain.product (form_of weight) (form_of form) span) result }
-{
-    let left = Box::new(alloc, weight)?;
-    small(Form::Product(left, Box::new(alloc, form)?, span))
+    match put(graph, form, var, &Term::Truth(Cond::Const(truth)), most) {
+        Ok(next) => joined(graph, Node::Product(weight, next, span), most),
+        Err(stop) => Err(stop),
+    }
 }
