@@ -1,0 +1,16 @@
+use Rattle.heyvl_acts.specs.PlainActs.{acts_of}
+use Rattle.vp_generator.proofs.Building.{stop_of_acts}
+use Rattle.vp_generator.proofs.Making.{same_form}
+use Rattle.vp_generator.proofs.generation.from_post.Goals as goal
+
+pub over_acts-requires-clause-ready : goal.over_acts-requires-clause-ready
+over_acts-requires-clause-ready c =
+    let p = c.requires.post in
+    let m = c.in-Ok.ensures p.form p.stands in
+    record { form = p.form; stands = m.0; asked = p.fit; within = m.1; plain = λ h. (c.requires.plain h).post p.form p.stands }
+
+pub over_acts-requires-clause-calm : goal.over_acts-requires-clause-calm
+over_acts-requires-clause-calm c = λ h. (c.requires.plain h).calm
+
+pub returns-in-Ok-clause-made : goal.returns-in-Ok-clause-made
+returns-in-Ok-clause-made c = λ k s. c.over_acts.ensures.made k (c.in-Ok.ensures k s).0
