@@ -84,11 +84,11 @@ kept_next most old post acts ns ms rest before a i j h d b m =
         stands = m.0;
         asked = others_fit rest before a f d t;
         within = m.1;
-        plain = λ l. plain_act t.types (act_of a) f (acts_fit t.types before a (subst (λ r. ActsFit t.types (acts_of r)) d t.fit)).1 (act_calm most rest before a d h.calm l) (h.ready.plain l)
+        plain = λ l. plain_act t.types (act_of a) f (acts_fit t.types before a (subst (λ r. ActsFit t.types (acts_of r)) d t.fit)).1 (act_calm most rest before a d h.calm l) (h.ready.plain l);
       };
       calm = λ l. (none_in before a (subst (λ r. HaveNoAny (acts_of r)) d (h.calm l))).0;
       weighs = omega (arith, w, v);
-      whole = λ k s. h.whole k s ∙ ap (λ r. vp (acts_of r) f) d ∙ acts_end before a f
+      whole = λ k s. h.whole k s ∙ ap (λ r. vp (acts_of r) f) d ∙ acts_end before a f;
     }
 
 pub kept_stop : (most : ℕ) (old : List Node) (post : ℕ) (acts : List A.Act) (ns : List Node) (rest before : List A.Act) (a : A.Act) (i : ℕ) (stop : VpStop) (k : Form) → (h : Kept most old post acts ns rest i) → rest ≡ before ++ a ∷ [] → IsStopAt most (vp_act (act_of a) h.ready.form) stop → Stands old post (Tree.formula k) → IsStopAt most (vp (acts_of acts) k) stop
@@ -138,7 +138,7 @@ arms_next most old form start arms ns ms rest before x i j h d b m =
       chosen = record { form = Form.select (cond_of x.0) (vp (acts_of x.1.items) f) g; stands = m.0; within = m.1 };
       calm = λ l. (none_in_arms before x (subst (λ r. HaveNoAnyIn (arms_of r)) d (h.calm l))).0;
       weighs = omega (arith, w, v);
-      whole = λ k l s u. h.whole k l s u ∙ ap (λ r. vp_arms (arms_of r) f g) d ∙ arms_end before x f g
+      whole = λ k l s u. h.whole k l s u ∙ ap (λ r. vp_arms (arms_of r) f g) d ∙ arms_end before x f g;
     }
 
 pub arms_stop : (most : ℕ) (old : List Node) (form start : ℕ) (arms : List (C.Cond × Vec A.Act Global)) (ns : List Node) (rest before : List (C.Cond × Vec A.Act Global)) (x : C.Cond × Vec A.Act Global) (i : ℕ) (stop : VpStop) (k l : Form) → (h : KeptArms most old form start arms ns rest i) → rest ≡ before ++ x ∷ [] → IsStopAt most (Form.select (cond_of x.0) (vp (acts_of x.1.items) h.ready.form) h.chosen.form) stop → Stands old form (Tree.formula k) → Stands old start (Tree.formula l) → IsStopAt most (vp_arms (arms_of arms) k l) stop
@@ -177,7 +177,7 @@ parts_next most x old form start parts ns ms rest more p i j h d b m =
       begins = begins_on old ns ms h.begins b;
       ready = record { form = f; stands = stands_longer ns ms form (Tree.formula f) b h.ready.stands; asked = (part_fits x rest more p f d h.ready.asked).1; within = h.ready.within; plain = h.ready.plain };
       total = record { form = Form.sum g (part_form x (p.0, term_of p.1) f); stands = m.0; within = m.1 };
-      whole = λ k l s u. h.whole k l s u ∙ ap (λ r. sum_of_parts x (parts_of r) f g) d
+      whole = λ k l s u. h.whole k l s u ∙ ap (λ r. sum_of_parts x (parts_of r) f g) d;
     }
 
 pub parts_stop : (most : ℕ) (x : ℕ) (old : List Node) (form start : ℕ) (parts : List (Rational × T.Term)) (ns : List Node) (rest more : List (Rational × T.Term)) (p : Rational × T.Term) (i : ℕ) (stop : VpStop) (k l : Form) → (h : KeptParts most x old form start parts ns rest i) → rest ≡ p ∷ more → IsStopAt most (Form.sum h.total.form (part_form x (p.0, term_of p.1) h.ready.form)) stop → Stands old form (Tree.formula k) → Stands old start (Tree.formula l) → IsStopAt most (sum_of_parts x (parts_of parts) k l) stop
@@ -192,15 +192,17 @@ parts_last most x old form start parts ns rest i k l h d s u = subst (λ f. IsMa
 
 pub if_ready : (most : ℕ) (arms : Arms) (e : Acts) (span : Span) (ns : List Node) (i : ℕ) → IsReady most (IsFit (Act.ifs arms e span)) ns i → IsReady most (ArmsAreFit arms) ns i × IsReady most (AreFit e) ns i
 if_ready most arms e span ns i r =
-    let b = r.asked in
-    (record { form = r.form; stands = r.stands; asked = record { types = b.types; fit = b.fit.0; formula = b.formula }; within = r.within; plain = r.plain },
-     record { form = r.form; stands = r.stands; asked = record { types = b.types; fit = b.fit.1; formula = b.formula }; within = r.within; plain = r.plain })
+    let b = r.asked in (
+      record { form = r.form; stands = r.stands; asked = record { types = b.types; fit = b.fit.0; formula = b.formula }; within = r.within; plain = r.plain },
+      record { form = r.form; stands = r.stands; asked = record { types = b.types; fit = b.fit.1; formula = b.formula }; within = r.within; plain = r.plain },
+    )
 
 pub pick_ready : (most : ℕ) (up : Bool) (a b : Acts) (span : Span) (ns : List Node) (i : ℕ) → IsReady most (IsFit (Act.pick up a b span)) ns i → IsReady most (AreFit a) ns i × IsReady most (AreFit b) ns i
 pick_ready most up a b span ns i r =
-    let q = r.asked in
-    (record { form = r.form; stands = r.stands; asked = record { types = q.types; fit = q.fit.0; formula = q.formula }; within = r.within; plain = r.plain },
-     record { form = r.form; stands = r.stands; asked = record { types = q.types; fit = q.fit.1; formula = q.formula }; within = r.within; plain = r.plain })
+    let q = r.asked in (
+      record { form = r.form; stands = r.stands; asked = record { types = q.types; fit = q.fit.0; formula = q.formula }; within = r.within; plain = r.plain },
+      record { form = r.form; stands = r.stands; asked = record { types = q.types; fit = q.fit.1; formula = q.formula }; within = r.within; plain = r.plain },
+    )
 
 pub toss_ready : (most x : ℕ) (f : Form) (ns : List Node) (i : ℕ) → IsReady most (TossIsFit x f) ns i → IsReady most (FlagIsFit x) ns i
 toss_ready most x f ns i r = let b = r.asked in record { form = r.form; stands = r.stands; asked = record { types = b.types; fit = b.fit.0; formula = b.formula }; within = r.within; plain = r.plain }
@@ -211,6 +213,7 @@ flag_ready most x b ns i r = let q = r.asked in record { form = r.form; stands =
 pub draw_ready : (most x : ℕ) (parts more : List (Rational × T.Term)) (p : Rational × T.Term) (ns : List Node) (i : ℕ) → parts ≡ p ∷ more → IsReady most (DrawIsFit x (parts_of parts)) ns i → IsReady most (TermIsFit x (term_of p.1)) ns i × IsReady most (PartsAreFit x (parts_of more)) ns i
 draw_ready most x parts more p ns i d r =
     let b = r.asked in
-    let f = subst (λ l. DrawFits b.types x (parts_of l)) d b.fit in
-    (record { form = r.form; stands = r.stands; asked = record { types = b.types; fit = f.0.1; formula = b.formula }; within = r.within; plain = r.plain },
-     record { form = r.form; stands = r.stands; asked = record { types = b.types; fit = f.1; formula = b.formula }; within = r.within; plain = r.plain })
+    let f = subst (λ l. DrawFits b.types x (parts_of l)) d b.fit in (
+      record { form = r.form; stands = r.stands; asked = record { types = b.types; fit = f.0.1; formula = b.formula }; within = r.within; plain = r.plain },
+      record { form = r.form; stands = r.stands; asked = record { types = b.types; fit = f.1; formula = b.formula }; within = r.within; plain = r.plain },
+    )

@@ -28,9 +28,6 @@ pub fn vp(alloc: Global, acts: &[Act], post: Form) -> Result<Form, VpStop>
     requires { AreFit (acts_of acts.now) (form_of post) }
     ensures { IsAnswer (vp (acts_of acts.now) (form_of post)) result }
 {
-    if post.nodes() > MOST_NODES {
-        return Err(VpStop::Nodes);
-    }
     let mut graph = Graph::new(alloc);
     let start = graph.put(&post)?;
     match vp_in(&mut graph, acts, start, MOST_NODES) {
@@ -41,12 +38,7 @@ pub fn vp(alloc: Global, acts: &[Act], post: Form) -> Result<Form, VpStop>
 
 /// The form of acts, over the form of what follows them, in its graph; of at most so many nodes, and at most 1,000 deep. Where
 /// it stops, the list is as it was. Where there may be 2^30 nodes, no binder may come of the acts, nor stand in what follows.
-pub fn vp_in(
-    graph: &mut Graph,
-    acts: &[Act],
-    post: NodeId,
-    most: u64,
-) -> Result<NodeId, VpStop>
+pub fn vp_in(graph: &mut Graph, acts: &[Act], post: NodeId, most: u64) -> Result<NodeId, VpStop>
     requires most { most < 2 ^ 63 }
     requires post { Follows (acts_of acts.now) graph.old post }
     requires plain { 2 ^ 30 ≤ most → MakeNoBinder (acts_of acts.now) graph.old post }
@@ -61,12 +53,7 @@ pub fn vp_in(
 }
 
 /// The same, but the list may have grown where it stops, as below.
-fn from_post(
-    graph: &mut Graph,
-    acts: &[Act],
-    post: NodeId,
-    most: u64,
-) -> Result<NodeId, VpStop>
+fn from_post(graph: &mut Graph, acts: &[Act], post: NodeId, most: u64) -> Result<NodeId, VpStop>
     requires most { most < 2 ^ 63 }
     requires post { Follows (acts_of acts.now) graph.old post }
     requires plain { 2 ^ 30 ≤ most → MakeNoBinder (acts_of acts.now) graph.old post }
@@ -80,12 +67,7 @@ fn from_post(
 }
 
 #[cycle(generating)]
-fn over_acts(
-    graph: &mut Graph,
-    acts: &[Act],
-    post: NodeId,
-    most: u64,
-) -> Result<NodeId, VpStop>
+fn over_acts(graph: &mut Graph, acts: &[Act], post: NodeId, most: u64) -> Result<NodeId, VpStop>
     requires most { most < 2 ^ 63 }
     requires ready { IsReady most (AreFit (acts_of acts.now)) graph.old post }
     requires calm { 2 ^ 30 ≤ most → HaveNoAny (acts_of acts.now) }

@@ -65,13 +65,7 @@ pub fn put(
 }
 
 /// The form, where the variable isn't free there; else the term, which is too large, would be put in.
-fn kept(
-    graph: &Graph,
-    form: NodeId,
-    var: u32,
-    with: &Term,
-    most: u64,
-) -> Result<NodeId, VpStop>
+fn kept(graph: &Graph, form: NodeId, var: u32, with: &Term, most: u64) -> Result<NodeId, VpStop>
     requires ready { IsReady most (TermIsFit var (term_of with.now)) graph.now form }
     requires large { most < nodes_in_term (term_of with.now) }
     ensures { (k : plain) → Stands graph.now form (Tree.formula k) → IsMade most (subst var (term_of with.now) k) result graph.now }
@@ -122,12 +116,7 @@ pub fn added(graph: &mut Graph, first: NodeId, second: NodeId, most: u64) -> Res
 }
 
 /// The form with a reward.
-pub fn rewarded(
-    graph: &mut Graph,
-    reward: &Form,
-    form: NodeId,
-    most: u64,
-) -> Result<NodeId, VpStop>
+pub fn rewarded(graph: &mut Graph, reward: &Form, form: NodeId, most: u64) -> Result<NodeId, VpStop>
     requires most { most < 2 ^ 63 }
     requires form { IsFormula graph.old form }
     ensures begins { Begins graph.old graph.new }
