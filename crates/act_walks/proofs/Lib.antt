@@ -1,3 +1,3 @@
-mod Gathering
+mod GatheredActs
 mod FoundLoops
 pub mod exported

@@ -1,10 +1,10 @@
 -- How the edition of a text goes on over trees.
 use Rattle.std.proofs.Common.{◌≡◌, Bool, true, false, ◌||◌, ◌&&◌, refl}
-use Rattle.cert_text.specs.declared.reading.Edition.{Edition}
-use Rattle.cert_text.specs.declared.reading.Edition.TheVariants.{One, Lacking, Two}
+use Rattle.cert_text.specs.declared.states.Edition.{Edition}
+use Rattle.cert_text.specs.declared.states.Edition.TheVariants.{One, Lacking, Two}
 use Rattle.cert_text.specs.declared.versions.Version.{Version}
 use Rattle.cert_text.specs.declared.versions.Version.TheVariants as versions
-use Rattle.cert_text.specs.internal.Reading.{may_split}
+use Rattle.cert_text.specs.internal.ReadStates.{may_split}
 
 -- The title of a text.
 abbrev pub title_of : Edition → Version

@@ -1,12 +1,12 @@
 pub mod Decimals
 pub mod Editions
 pub mod Walk
-pub mod Cutting
+pub mod TextCuts
 pub mod Multipliers
-pub mod Filling
-pub mod Written
+pub mod FilledTrees
+pub mod WrittenLines
 pub mod Progress
 pub mod Unique
-pub mod Answering
+pub mod EndAnswers
 pub mod FrontDigits
 pub mod Rows

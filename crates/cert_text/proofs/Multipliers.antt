@@ -6,7 +6,7 @@ use Rattle.std.specs.List.{All}
 use Rattle.goal_answers.specs.Multipliers.{IsGrowing}
 use Rattle.cert_text.specs.Certificates.{AreMultipliers}
 use Rattle.cert_text.specs.Lines.{multiplier_text, multipliers_text}
-use Rattle.cert_text.specs.internal.Reading.{IsMultiplier, IsRising, index_after}
+use Rattle.cert_text.specs.internal.ReadStates.{IsMultiplier, IsRising, index_after}
 
 rising_above : (least : ℕ) (ms : List (ℕ × ℕ)) (low : ℕ) → low ≤ least → IsRising least ms → All (λ m. low ≤ m.0) ms
 rising_above least [] low le r = λ k d l. absurd (omega arith)

@@ -13,9 +13,9 @@ use Rattle.cert_text.specs.Lines.{Line, title, goal, split, whole, farkas, plain
 use Rattle.cert_text.specs.internal.WholeLines.{IsLine}
 use Rattle.cert_text.specs.Texts.{tree_lines, goals_lines, certificate_lines, closed, Spells, AreFirstLines, IsFirstFault}
 use Rattle.cert_text.specs.Texts.AreFirstLines.{of_text, before_end}
-use Rattle.cert_text.specs.internal.Reading.{State, start, done, next, run, IsRising}
+use Rattle.cert_text.specs.internal.ReadStates.{State, start, done, next, run, IsRising}
 use Rattle.cert_text.specs.internal.Words.{IsFreeOf}
-use Rattle.cert_text.proofs.Cutting.{IsFreeOf-append, IsFreeOf-decimal, IsFreeOf-signed, line_feed_is_no_digit, multiplier_free, cut_once, free_from_all}
+use Rattle.cert_text.proofs.TextCuts.{IsFreeOf-append, IsFreeOf-decimal, IsFreeOf-signed, line_feed_is_no_digit, multiplier_free, cut_once, free_from_all}
 use Rattle.cert_text.proofs.Multipliers.{rising_from_multipliers}
 use Rattle.cert_text.proofs.Walk.{run-append, run-certificate_lines, run-front_lines, AreBegun, first_lines, no_state, end_of, whole_list}
 

@@ -12,8 +12,8 @@ use Rattle.cert_text.specs.Certificates.{Certificate, IsNumbered, IsWholeSplit}
 use Rattle.cert_text.specs.Lines.{Line, title, goal, split, whole, farkas, plain, last, line_text, id_text, multipliers_text}
 use Rattle.cert_text.specs.internal.WholeLines.{IsLine}
 use Rattle.cert_text.specs.Texts.{certificate_lines, closed, Spells}
-use Rattle.cert_text.specs.internal.Reading.{start, done, run, IsMultiplier, IsRising}
-use Rattle.cert_text.proofs.Cutting.{IsFreeOf-decimal, colon_is_no_digit, space_is_no_digit, cut_once, multiplier_free, multipliers_end_or_at}
+use Rattle.cert_text.specs.internal.ReadStates.{start, done, run, IsMultiplier, IsRising}
+use Rattle.cert_text.proofs.TextCuts.{IsFreeOf-decimal, colon_is_no_digit, space_is_no_digit, cut_once, multiplier_free, multipliers_end_or_at}
 use Rattle.cert_text.proofs.Decimals.{below_half}
 use Rattle.cert_text.proofs.Multipliers.{rising_from_multipliers}
 use Rattle.cert_text.proofs.Progress.{line_free, certificate_lines_are}

@@ -6,15 +6,15 @@ use Rattle.goal_answers.specs.Trees.{Tree, depth}
 use Rattle.cert_text.specs.declared.goal_names.GoalName.{GoalName}
 use Rattle.cert_text.specs.declared.nodes.Node.{Node}
 use Rattle.cert_text.specs.declared.nodes.Node.TheVariants.{Question, Whole}
-use Rattle.cert_text.specs.declared.reading.Edition.{Edition}
-use Rattle.cert_text.specs.declared.reading.Edition.TheVariants.{One, Lacking, Two}
+use Rattle.cert_text.specs.declared.states.Edition.{Edition}
+use Rattle.cert_text.specs.declared.states.Edition.TheVariants.{One, Lacking, Two}
 use Rattle.cert_text.specs.declared.versions.Version.{Version}
 use Rattle.cert_text.specs.declared.versions.Version.TheVariants as versions
 use Rattle.cert_text.specs.Certificates.{Certificate, may_follow, IsGrowingAfter, IsNumbered, IsWholeSplit, HasNumbers, IsWritable, AreWritable}
 use Rattle.cert_text.specs.Lines.{Line, title, goal, split, whole, farkas, plain, last}
 use Rattle.cert_text.specs.internal.WholeLines.{IsLine}
 use Rattle.cert_text.specs.Texts.{has_whole, have_whole, tree_lines, goals_lines, certificate_lines}
-use Rattle.cert_text.specs.internal.Reading.{Way, Open, Filled, complete, part, joined, fill, may_split, may_end, edition_of, State, start, between, inside, done, filled_state, next, advance, run}
+use Rattle.cert_text.specs.internal.ReadStates.{Way, Open, Filled, complete, part, joined, fill, may_split, may_end, edition_of, State, start, between, inside, done, filled_state, next, advance, run}
 use Rattle.cert_text.proofs.Editions.{IsAllowed, passed, passed_twice, passed_same, allowed_first, allowed_second, splits, title_of, ends_in, begins_with}
 
 -- Lines that are run one after another.

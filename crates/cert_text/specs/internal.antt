@@ -1,5 +1,5 @@
 pub mod Words
 pub mod Ends
-pub mod Reading
+pub mod ReadStates
 pub mod WholeLines
 pub mod Steps

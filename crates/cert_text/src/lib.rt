@@ -8,13 +8,13 @@ mod lines;
 mod nodes;
 mod numbers;
 mod reader;
-mod reading;
+mod states;
 mod stops;
 mod versions;
 mod words;
-mod writing;
+mod writer;
 
 pub use laws::{faults_are_unique, texts_are_unique};
 pub use reader::read_cert;
 pub use stops::CertStop;
-pub use writing::write_cert;
+pub use writer::write_cert;

@@ -2,7 +2,7 @@
 
 ghost use Rattle.std.specs.Prelude.{◌≡◌};
 ghost use Rattle.goal_answers.specs.Trees.{tree_of};
-ghost use Rattle.cert_text.specs.internal.Reading.{joined};
+ghost use Rattle.cert_text.specs.internal.ReadStates.{joined};
 
 use goal_answers::Tree;
 

@@ -4,13 +4,13 @@ ghost use Rattle.std.specs.Prelude.{◌≡◌, ◌<◌, ◌^◌, ⊤, ℕ, List,
 ghost use Rattle.cert_text.specs.Certificates.{Certificate, certificates_of};
 ghost use Rattle.cert_text.specs.Texts.{IsFirstFault, Spells};
 ghost use Rattle.cert_text.specs.Stops.{IsMemory, IsStop, IsFaultOrMemory};
-ghost use Rattle.cert_text.specs.internal.Reading.{state_of};
+ghost use Rattle.cert_text.specs.internal.ReadStates.{state_of};
 ghost use Rattle.cert_text.specs.internal.Ends.{IsWhole};
 ghost use Rattle.cert_text.specs.internal.Steps.{IsStep, IsStuck};
 
 use crate::fronts::front_split;
 use crate::lines::read_line;
-use crate::reading::{Place, Reading, next, next_plain, next_split, next_whole, unread};
+use crate::states::{Place, Reading, next, next_plain, next_split, next_whole, unread};
 use crate::stops::CertStop;
 use crate::words::cut;
 use goal_answers::GoalCert;

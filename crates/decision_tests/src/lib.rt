@@ -3,7 +3,7 @@
 #![tactic(auto)]
 
 #[cfg(test)]
-mod checking_tests;
+mod check_tests;
 #[cfg(test)]
 mod decision_tests;
 #[cfg(test)]

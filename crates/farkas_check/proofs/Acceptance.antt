@@ -10,7 +10,7 @@ use Rattle.linear_form.specs.Splits.{split_at}
 use Rattle.linear_form.specs.Nonlinear.{nonlinear_product}
 use Rattle.goal_answers.specs.Trees.{Tree}
 use Rattle.linear_form.specs.Paths.{Asks}
-use Rattle.farkas_check.specs.Accepted.{IsAccepted, IsRefused, IsCertificate, IsNoCertificate}
+use Rattle.farkas_check.specs.AcceptedCertificates.{IsAccepted, IsRefused, IsCertificate, IsNoCertificate}
 
 -- One question is asked at the end of a path.
 pub one_question : (g : Goal) (ps : List Taken) (q r : Atom) → Asks g ps q → Asks g ps r → q ≡ r

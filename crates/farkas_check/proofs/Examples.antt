@@ -23,7 +23,7 @@ use Rattle.linear_form.specs.PathRows.{rows_of, denial, IsPlainAt}
 use Rattle.linear_rows.specs.Row.{Row}
 use Rattle.linear_values.specs.Tightening.{common_multiple, common_divisor, factor, tightened}
 use Rattle.goal_answers.specs.Trees.{Tree}
-use Rattle.farkas_check.specs.Accepted.{IsRefuted, IsAccepted, IsRefused, has_denied}
+use Rattle.farkas_check.specs.AcceptedCertificates.{IsRefuted, IsAccepted, IsRefused, has_denied}
 
 half : Value
 half = finite (ratio (pos 1) 2)

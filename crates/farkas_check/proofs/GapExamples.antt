@@ -26,7 +26,7 @@ use Rattle.linear_form.specs.Splits.{split_at}
 use Rattle.linear_form.specs.Paths.{Asks, walk, end_at}
 use Rattle.linear_form.specs.PathRows.{rows_of, denial, denial_at, IsPlainAt}
 use Rattle.goal_answers.specs.Trees.{Tree}
-use Rattle.farkas_check.specs.Accepted.{CanSplit, IsRefuted, IsAccepted, IsRefused, has_denied}
+use Rattle.farkas_check.specs.AcceptedCertificates.{CanSplit, IsRefuted, IsAccepted, IsRefused, has_denied}
 
 number : ℤ → Form
 number n = Form.number (finite (whole n))

@@ -1,7 +1,7 @@
 pub mod Acceptance
 mod Examples
 pub mod Soundness
-pub mod Judging
+pub mod Judgements
 pub mod TrailSteps
 pub mod PathEnds
 mod GapExamples

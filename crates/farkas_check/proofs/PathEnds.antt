@@ -10,14 +10,14 @@ use Rattle.linear_values.specs.declared.lin.Lin.{Lin}
 use Rattle.linear_form.specs.Query.{Query, Taken}
 use Rattle.linear_form.specs.Query.Query.{done, bits, ask}
 use Rattle.linear_form.specs.Questions.{Ends}
-use Rattle.linear_form.specs.Asked.{Answers}
+use Rattle.linear_form.specs.AskAnswers.{Answers}
 use Rattle.linear_form.specs.Paths.{end_at}
 use Rattle.linear_form.specs.PathRows.{denial, denial_at, rows_of, IsPlainAt}
 use Rattle.linear_form.specs.RowLists.{Lists}
 use Rattle.linear_form.specs.declared.path_rows.RowList.{RowList}
-use Rattle.linear_form.specs.declared.asking.Ask as Q
+use Rattle.linear_form.specs.declared.questions.Ask as Q
 use Rattle.linear_form.specs.declared.paths.Atom as A
-use Rattle.farkas_check.specs.Accepted.{CanSplit, has_denied}
+use Rattle.farkas_check.specs.AcceptedCertificates.{CanSplit, has_denied}
 
 -- the values at an end
 pub ended : (g : Goal) (ps : List Taken) (x y : Option Lin) → Answers (Q.TheVariants.End x y) (end_at g ps) → end_at g ps ≡ done (linear_of x, linear_of y)

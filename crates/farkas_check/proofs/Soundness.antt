@@ -24,7 +24,7 @@ use Rattle.farkas_check.specs.CertificateLaws.{CertifiedGoalsHold}
 use Rattle.linear_rows.proofs.exported.Combinations.{contradiction_unsolvable}
 use Rattle.linear_form.proofs.exported.PathSteps.{plain_path, asked_onto, split_onto, agrees_onto}
 use Rattle.goal_answers.specs.Trees.{Tree}
-use Rattle.farkas_check.specs.Accepted.{has_denied, IsAccepted}
+use Rattle.farkas_check.specs.AcceptedCertificates.{has_denied, IsAccepted}
 
 at_most_infinite : (v : Value) → v ≤ᵛ infinite
 unfolding leqᵛ

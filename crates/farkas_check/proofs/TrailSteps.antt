@@ -21,7 +21,7 @@ use Rattle.linear_form.specs.declared.path_rows.RowList as L
 use Rattle.linear_form.proofs.exported.LastRows.{more_rows, lost_here, lost_before, lost_rows}
 use Rattle.linear_form.proofs.exported.PathSteps.{empty_path}
 use Rattle.linear_form.proofs.exported.Places.{place_stays}
-use Rattle.farkas_check.specs.Accepted.{has_denied, CanSplit, IsRefuted}
+use Rattle.farkas_check.specs.AcceptedCertificates.{has_denied, CanSplit, IsRefuted}
 use Rattle.farkas_check.specs.internal.Trails.{IsStated, IsTrail, IsLonger, IsSame}
 use Rattle.farkas_check.specs.declared.trail.Trail.{Trail}
 

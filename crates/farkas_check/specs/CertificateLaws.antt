@@ -3,7 +3,7 @@ use Rattle.std.specs.Prelude.{◌≡◌, List, Bool}
 use Rattle.heylo_formula.specs.Goals.{Goal, Holds}
 use Rattle.heylo_formula.specs.TypedGoals.{IsTypedGoal}
 use Rattle.goal_answers.specs.Trees.{Tree}
-use Rattle.farkas_check.specs.Accepted.{IsCertificate, IsNoCertificate}
+use Rattle.farkas_check.specs.AcceptedCertificates.{IsCertificate, IsNoCertificate}
 
 -- No tree is both accepted and refused.
 abbrev pub NeverBoth : Type 0

@@ -1,4 +1,4 @@
-pub mod Accepted
+pub mod AcceptedCertificates
 pub mod CertificateLaws
 pub mod Verdicts
 pub mod internal

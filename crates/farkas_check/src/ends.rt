@@ -4,13 +4,13 @@ ghost use Rattle.std.specs.Prelude.{◌≡◌, ◌↔◌, Bool, IsTrue, IfOk, Li
 ghost use Rattle.heylo_formula.specs.Goals.{goal_of};
 ghost use Rattle.heylo_formula.specs.Typing.{types_in};
 ghost use Rattle.linear_rows.specs.VariableTypes.{is_integral};
-ghost use Rattle.linear_form.specs.Asked.{Answers};
+ghost use Rattle.linear_form.specs.AskAnswers.{Answers};
 ghost use Rattle.linear_form.specs.Paths.{IsPath, end_at};
 ghost use Rattle.linear_form.specs.PathRows.{rows_of, IsPlainAt};
 ghost use Rattle.linear_form.specs.Places.{IsOn};
 ghost use Rattle.linear_form.specs.PlainPaths.{path_of};
 ghost use Rattle.linear_form.specs.RowLists.{ArePathRows, Lists, AreRows, StartsWith};
-ghost use Rattle.farkas_check.specs.Accepted.{has_denied, CanSplit};
+ghost use Rattle.farkas_check.specs.AcceptedCertificates.{has_denied, CanSplit};
 
 use heylo_formula::{Goal, Ty};
 use linear_form::{

@@ -4,7 +4,7 @@ use Rattle.generated_files.proofs.Lines.{call_flows, call_pieces, call_text, coi
 use Rattle.generated_files.proofs.Loads.{counts_behind, heads, is_light}
 use Rattle.generated_files.proofs.Names.{name_plain}
 use Rattle.generated_files.proofs.Pieces.{Piece, Splits, bytes, flows, kinds_of, splits_pieces}
-use Rattle.generated_files.proofs.Spelled.{call_spelled, coin_spelled, loop_spelled}
+use Rattle.generated_files.proofs.SpelledFiles.{call_spelled, coin_spelled, loop_spelled}
 use Rattle.generated_files.proofs.Spread.{Spots, spread}
 use Rattle.generated_files.proofs.Trees.{call, coin, loop, whole}
 use Rattle.generated_files.specs.Texts.{call_line, coin_line, line, loop_line, name}

@@ -4,8 +4,8 @@ mod Spread
 mod Loads
 mod Trees
 mod Lines
-mod Spelled
-mod Writing
+mod SpelledFiles
+mod WrittenLines
 mod Calls
 mod Findings
 mod GeneratedLines

@@ -1,3 +1,3 @@
 mod NoFault
-mod Written
+mod WrittenSummary
 mod Words

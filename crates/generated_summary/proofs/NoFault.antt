@@ -7,7 +7,7 @@ use Rattle.goal_answers.specs.declared.named_goals.NamedGoal.{NamedGoal}
 use Rattle.goal_answers.specs.declared.trees.GoalCert.{GoalCert}
 use Rattle.heyvl_acts.specs.Acts.{TypedProcedure}
 use Rattle.heyvl_acts.specs.PlainActs.{procedures_of}
-use Rattle.heyvl_acts.specs.declared.typed.Typed.{Typed}
+use Rattle.heyvl_acts.specs.declared.typed_trees.Typed.{Typed}
 use Rattle.heyvl_files.specs.PrintLaws.{SpellingIsUnique}
 use Rattle.heyvl_files.specs.Sources.IsFileFault.{spelling, static}
 use Rattle.heyvl_files.specs.Sources.{IsFileFault, IsTypedSource}
@@ -19,7 +19,7 @@ use Rattle.heyvl_types.specs.Files.{first_fault}
 use Rattle.heyvl_types.specs.Findings.{Finding}
 use Rattle.std.proofs.Common.{List, None, Option, Some, ap, length, subst, sym, ◌∙◌, ◌≡◌, ℕ}
 use Rattle.verdict_report.specs.declared.answers.Answer.{Answer}
-use Rattle.verify_core.specs.Answered.{IsAnswered}
+use Rattle.verify_core.specs.AnsweredProcedures.{IsAnswered}
 use Rattle.verify_core.specs.Headline.{IsHeadline}
 
 spelled : (bytes : List ℕ) (file : List Procedure) → IsSource bytes file → Spells bytes file

@@ -8,7 +8,7 @@ use Rattle.heyvl_syntax.specs.SourceFaults.{IsSource}
 use Rattle.heyvl_types.specs.Files.{first_fault, resolved}
 use Rattle.std.specs.Prelude.{List, None, length, ◌≡◌, ℕ}
 use Rattle.verdict_report.specs.declared.answers.Answer.{Answer}
-use Rattle.verify_core.specs.Answered.{IsAnswered}
+use Rattle.verify_core.specs.AnsweredProcedures.{IsAnswered}
 use Rattle.verify_core.specs.Headline.{IsHeadline}
 
 -- The generated text of n lines spells a file of n procedures without a fault; the answers are those of its goals and keep what the

@@ -15,7 +15,7 @@ use Rattle.heylo_graph.specs.declared.nodes.Node.{Node}
 use Rattle.heyvl_acts.specs.declared.acts.Act as A
 use Rattle.heyvl_acts.specs.Acts.{Acts}
 use Rattle.heyvl_acts.specs.PlainActs.{act_of, acts_of}
-use Rattle.heyvl_acts.specs.WellTyped.{ActsFit, IsProbability}
+use Rattle.heyvl_acts.specs.WellTypedActs.{ActsFit, IsProbability}
 use Rattle.vp_generator.specs.InGraphs.{Follows, HaveNoAny, MakeNoBinder}
 use Rattle.generation_tests.specs.BooleanActs.{bools, IsCalm, AreCalm, StandsPlain}
 

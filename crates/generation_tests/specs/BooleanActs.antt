@@ -8,7 +8,7 @@ use Rattle.heylo_graph.specs.Trees.{Tree}
 use Rattle.heylo_graph.specs.Nodes.{Stands}
 use Rattle.heylo_graph.specs.declared.nodes.Node.{Node}
 use Rattle.heyvl_acts.specs.Acts.{Act, Acts}
-use Rattle.heyvl_acts.specs.WellTyped.{ActFits, ActsFit}
+use Rattle.heyvl_acts.specs.WellTypedActs.{ActFits, ActsFit}
 use Rattle.vp_generator.specs.InGraphs.{HasNoAny, HaveNoAny}
 
 -- Each variable is a Bool.

@@ -4,7 +4,7 @@ ghost use Rattle.std.specs.Prelude.{◌<◌, IfOk};
 ghost use Rattle.heyvl_num.specs.Rational.{zeroʳ, ◌≤ʳ◌};
 ghost use Rattle.heylo_formula.specs.PlainTrees.{form_of};
 ghost use Rattle.heyvl_acts.specs.PlainActs.{act_of, acts_of};
-ghost use Rattle.heyvl_acts.specs.WellTyped.{ActsFit, IsProbability};
+ghost use Rattle.heyvl_acts.specs.WellTypedActs.{ActsFit, IsProbability};
 ghost use Rattle.generation_tests.specs.BooleanActs.{bools, IsCalm, AreCalm, StandsPlain};
 
 use heylo_formula::{Cond, Form, Term, Ty};

@@ -1,7 +1,7 @@
 -- The laws of the readers of commands and blocks.
 use Rattle.heyvl_parse.proofs.exported.Readers.{IsBarred, Laws, Local, Made, Right, RightAt, Some_text, anything, barred, chosen_local, each_laws, ended_by, expr_laws, key_test, lead_laws, lead_more, led, local_bind, local_mapped, local_one, local_refuse, made_laws, mapped_laws, mark_test, pair_free, pair_laws, sign_laws, right_as, right_bind, right_map, right_word, some_both, some_full, some_lead, some_trail, starts_same, trail_laws}
 use Rattle.heyvl_parse.specs.readers.Combinators.{either, is_operator, lead, no_kind, sign, spanned, starts}
-use Rattle.heyvl_parse.specs.readers.Reading.{Got, is_mark, word}
+use Rattle.heyvl_parse.specs.readers.ReadParts.{Got, is_mark, word}
 use Rattle.heyvl_syntax.specs.Expressions.{Expression}
 use Rattle.heyvl_syntax.specs.Grammar.{IsFull}
 use Rattle.heyvl_syntax.specs.Productions.{IsEach, IsKey, IsMark, IsName, at, extent, ◌then◌}

@@ -1,6 +1,6 @@
 -- Worked rows of the grammar: two small texts, computed. Places are numbers of tokens.
 use Rattle.heyvl_parse.proofs.exported.Wholes.{found_all}
-use Rattle.heyvl_parse.specs.readers.Reading.{Bad, Got}
+use Rattle.heyvl_parse.specs.readers.ReadParts.{Bad, Got}
 use Rattle.heyvl_places.specs.declared.spans.Span.{Span}
 use Rattle.heyvl_syntax.specs.Expressions.{Expression}
 use Rattle.heyvl_syntax.specs.declared.keys.Key.TheVariants as keys

@@ -1,7 +1,7 @@
 //! Reading commands and blocks.
 
 ghost use Rattle.heyvl_parse.specs.readers.Combinators.{spanned, starts};
-ghost use Rattle.heyvl_parse.specs.readers.Reading.{is_mark};
+ghost use Rattle.heyvl_parse.specs.readers.ReadParts.{is_mark};
 ghost use Rattle.heyvl_parse.specs.readers.Results.{Gives};
 ghost use Rattle.heyvl_syntax.specs.Expressions.{expression};
 ghost use Rattle.heyvl_syntax.specs.declared.marks.Mark.TheVariants as marks;

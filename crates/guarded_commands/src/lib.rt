@@ -6,9 +6,9 @@ mod commands;
 mod declarations;
 mod laws;
 mod lines;
+mod program_reader;
 mod programs;
-mod reading;
-mod reserved;
+mod reserved_names;
 mod source_laws;
 mod starts;
 mod statements;
@@ -20,8 +20,8 @@ pub use laws::{
     program_fault_is_unique, program_is_unique, translation_fault_is_unique, translation_is_unique,
     translations_are_spelled,
 };
+pub use program_reader::parse_program;
 pub use programs::{Command, Declaration, Program, VariableType};
-pub use reading::parse_program;
 pub use source_laws::pgcl_sources_are_unique;
 pub use stops::PgclStop;
 pub use translation::translate;

@@ -12,9 +12,9 @@ ghost use Rattle.guarded_commands.specs.TranslationFaults.{IsTranslationFault, I
 ghost use Rattle.guarded_commands.specs.Translations.{IsTranslation};
 ghost use Rattle.std.specs.Prelude.{[], IfErr, IfOk, MatchResult, length, map, ◌++◌, ◌<◌, ◌^◌, ◌≡◌, ◌∷◌, ℕ};
 
+use crate::program_reader::parse_program;
 use crate::programs::Program;
-use crate::reading::parse_program;
-use crate::reserved::reserved_at;
+use crate::reserved_names::reserved_at;
 use crate::starts::{at_start, inputs, outputs, starts};
 use crate::statements::statements;
 use crate::stops::PgclStop;

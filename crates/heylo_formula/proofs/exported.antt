@@ -1,5 +1,5 @@
 -- Lemmas that are meant for the proofs of other crates. All else in proofs/ is private to this crate.
-pub mod Shifted
+pub mod Shifts
 pub mod Plain
 pub mod TypedTerms
 pub mod States

@@ -14,7 +14,7 @@ pub mod GoalOrder
 pub mod TypedGoals
 pub mod Extrema
 pub mod Substitution
-pub mod Shifted
+pub mod Shifts
 pub mod Laws
 pub mod ExtremaLaws
 pub mod ShiftLaws

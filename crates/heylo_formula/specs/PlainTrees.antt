@@ -1,5 +1,5 @@
 -- The trees that the program holds, read as plain trees.
-use Rattle.heyvl_num.specs.Extended.{value_of}
+use Rattle.heyvl_num.specs.ExtendedNumbers.{value_of}
 use Rattle.heylo_formula.specs.declared.forms.Form as F
 use Rattle.heylo_formula.specs.declared.forms.Cond as C
 use Rattle.heylo_formula.specs.declared.forms.Cond.TheOpen.{Form-F, Cond-F}

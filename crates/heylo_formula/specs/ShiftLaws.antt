@@ -9,7 +9,7 @@ use Rattle.heylo_formula.specs.Binders.{has_binder, has_binder_in}
 use Rattle.heylo_formula.specs.Sizes.{nodes, depth}
 use Rattle.heylo_formula.specs.Extrema.{is_directed}
 use Rattle.heylo_formula.specs.Typing.{Types, type_of, is_well_typed}
-use Rattle.heylo_formula.specs.Shifted.{shifted, shifted_in, extent, extent_in}
+use Rattle.heylo_formula.specs.Shifts.{shifted, shifted_in, extent, extent_in}
 
 -- The value, or the truth, is that in the state without its first m variables.
 abbrev pub ShiftingMovesTheState : Type 0

@@ -2,16 +2,16 @@
 #![tactic(auto)]
 
 mod copies;
-mod counting;
 mod forms;
 mod goals;
 mod laws;
 mod numeric_variables;
 mod occurrences;
 mod renaming;
-mod shifting;
+mod shifts;
 mod sizes;
 mod substitution;
+mod substitution_sizes;
 mod terms;
 mod types;
 mod values;

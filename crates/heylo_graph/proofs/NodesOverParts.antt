@@ -1,8 +1,8 @@
 -- Nodes of trees, over parts that stand in a graph.
 use Rattle.std.proofs.Common.{◌≡◌, ℕ, Bool, List, Option, ap, ◌∙◌, refl}
 use Rattle.heyvl_num.specs.Rational.{Rational}
-use Rattle.heyvl_num.specs.Extended.{value_of}
-use Rattle.heyvl_num.specs.declared.extended.Ext.{Ext}
+use Rattle.heyvl_num.specs.ExtendedNumbers.{value_of}
+use Rattle.heyvl_num.specs.declared.extended_numbers.Ext.{Ext}
 use Rattle.heyvl_places.specs.declared.spans.Span.{Span}
 use Rattle.heylo_formula.specs.declared.types.Ty.{Ty}
 use Rattle.heylo_formula.specs.Formula.{Form, Cond}

@@ -3,8 +3,8 @@ use Prim.Native.Nat.{zero, suc}
 use Rattle.std.proofs.Common.{◌≡◌, ℕ, ◌<◌, List, [], ◌∷◌, Option, Some, None, slice_get, length, refl, sym, ap, subst, ◌∙◌, arith}
 use Rattle.heyvl_num.specs.Value.{Value}
 use Rattle.heyvl_num.specs.Value.Value.{finite, infinite}
-use Rattle.heyvl_num.specs.Extended.{value_of}
-use Rattle.heyvl_num.specs.declared.extended.Ext.{Ext}
+use Rattle.heyvl_num.specs.ExtendedNumbers.{value_of}
+use Rattle.heyvl_num.specs.declared.extended_numbers.Ext.{Ext}
 use Rattle.std.proofs.lemmas.Option.{slice_get_within}
 use Rattle.heylo_formula.specs.Formula.{Form, Cond}
 use Rattle.heylo_graph.specs.Trees.{Tree}

@@ -1,8 +1,8 @@
 -- A node is read as the tree over what its parts were read as.
 use Rattle.std.proofs.Common.{◌≡◌, ℕ, Bool, List, Some, slice_get, sym, ap, ap₂, subst, ◌∙◌}
 use Rattle.heyvl_num.specs.Rational.{Rational}
-use Rattle.heyvl_num.specs.Extended.{value_of}
-use Rattle.heyvl_num.specs.declared.extended.Ext.{Ext}
+use Rattle.heyvl_num.specs.ExtendedNumbers.{value_of}
+use Rattle.heyvl_num.specs.declared.extended_numbers.Ext.{Ext}
 use Rattle.heyvl_places.specs.declared.spans.Span.{Span}
 use Rattle.heylo_formula.specs.declared.types.Ty.{Ty}
 use Rattle.heylo_formula.specs.Formula.{Form, Cond, Term}

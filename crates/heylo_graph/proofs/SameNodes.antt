@@ -15,8 +15,8 @@ use Rattle.heyvl_places.specs.declared.spans.Span.{Span}
 use Rattle.heylo_graph.specs.declared.nodes.Node.{Node}
 use Rattle.heylo_graph.specs.contracts.nodes.NodePartialEq.TheImpl as node
 use Rattle.heyvl_num.specs.contracts.fractions.FracPartialEq.TheImpl as frac
-use Rattle.heyvl_num.specs.contracts.extended.ExtPartialEq.TheImpl as ext
-use Rattle.heyvl_num.specs.declared.extended.Ext.{Ext}
+use Rattle.heyvl_num.specs.contracts.extended_numbers.ExtPartialEq.TheImpl as ext
+use Rattle.heyvl_num.specs.declared.extended_numbers.Ext.{Ext}
 use Prim.Native.Nat.{compare}
 use Rattle.std.proofs.Math.Dec.{compare_is_eq}
 

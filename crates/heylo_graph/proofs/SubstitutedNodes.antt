@@ -13,7 +13,7 @@ use Rattle.heylo_formula.specs.Variables.{is_free, occurs_in_term}
 use Rattle.heylo_formula.specs.Substitution as Put
 use Rattle.heylo_formula.specs.Substitution.{renamed, fresh}
 use Rattle.heylo_formula.proofs.exported.Substitutions.{kept_subst, kept_subst_in, substitutions}
-use Rattle.heyvl_num.specs.Extended.{value_of}
+use Rattle.heyvl_num.specs.ExtendedNumbers.{value_of}
 use Rattle.heylo_graph.specs.Trees.{Tree, is_free_tree, subst_tree}
 use Rattle.heylo_graph.specs.internal.Tables.{IsCalm, put_tree}
 use Rattle.heylo_graph.proofs.PartTrees.{form_part}

@@ -1,6 +1,6 @@
 -- The trees of a list of nodes, each of whose parts stands before it.
 use Rattle.std.specs.Prelude.{◌≡◌, ℕ, ◌<◌, Bool, if◌then◌else◌, List, [], ◌∷◌, ◌++◌, Option, Some, None, slice_get, length}
-use Rattle.heyvl_num.specs.Extended.{value_of}
+use Rattle.heyvl_num.specs.ExtendedNumbers.{value_of}
 use Rattle.heylo_formula.specs.Formula.{Form, Cond}
 use Rattle.heylo_graph.specs.Trees.{Tree}
 use Rattle.heylo_graph.specs.declared.nodes.Node.{Node}

@@ -1,12 +1,12 @@
 //! Formulas as nodes of a graph in which equal parts stand once.
 #![tactic(auto)]
 
+mod forms;
 mod graphs;
+mod insertion;
 mod laws;
 mod marks;
 mod nodes;
-mod putting;
-mod reading;
 mod renaming;
 mod sizes;
 mod substitution;

@@ -20,7 +20,7 @@ use Rattle.heylo_formula.specs.declared.values.Val.TheVariants.{Truth, Num}
 use Rattle.heyvl_acts.specs.Acts.{Act, Acts, Arms, Head}
 use Rattle.heyvl_acts.specs.Forward.{forward}
 use Rattle.heyvl_acts.specs.Places.{in_order, nth}
-use Rattle.heyvl_acts.specs.Modified.{modified}
+use Rattle.heyvl_acts.specs.ModifiedVariables.{modified}
 use Rattle.heyvl_acts.specs.Count.{count_of}
 use Rattle.heyvl_acts.specs.Length.{length_of}
 

@@ -1,6 +1,6 @@
 mod Matching
-mod Copying
-mod Finding
+mod IfCopies
+mod ActsAtPlaces
 pub mod TargetSteps
 pub mod CountsLeft
 mod ActExamples

@@ -2,7 +2,7 @@
 use Rattle.heylo_formula.specs.declared.forms.Cond as C
 use Rattle.heyvl_acts.proofs.exported.PlainActsAre.{if_act}
 use Rattle.heyvl_acts.specs.Acts.{Acts}
-use Rattle.heyvl_acts.specs.Modified.{is_target_of, is_target_of_act, is_target_of_arms, modified}
+use Rattle.heyvl_acts.specs.ModifiedVariables.{is_target_of, is_target_of_act, is_target_of_arms, modified}
 use Rattle.heyvl_acts.specs.PlainActs.{act_of, acts_of, arms_of}
 use Rattle.heyvl_acts.specs.Visible.{among}
 use Rattle.heyvl_acts.specs.declared.acts.Act as A

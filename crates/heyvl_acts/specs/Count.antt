@@ -5,7 +5,7 @@
 -- Source: the encodings are this project's own, in the manner of latticed k-induction (Batz et al., CAV 2021).
 use Rattle.std.specs.Prelude.{ℕ, ◌+◌, ◌*◌, length}
 use Rattle.heyvl_acts.specs.Acts.{Act, Acts, Arms}
-use Rattle.heyvl_acts.specs.Modified.{modified}
+use Rattle.heyvl_acts.specs.ModifiedVariables.{modified}
 
 -- k copies of a body of n statements, with their Ifs and checks.
 abbrev pub count_of_copies : ℕ → ℕ → ℕ

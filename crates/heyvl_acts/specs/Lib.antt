@@ -5,10 +5,10 @@ pub mod Matching
 pub mod Places
 pub mod Length
 pub mod Visible
-pub mod Modified
+pub mod ModifiedVariables
 pub mod Count
 pub mod Program
-pub mod WellTyped
+pub mod WellTypedActs
 pub mod Rules
 pub mod Tosses
 pub mod FormSizes

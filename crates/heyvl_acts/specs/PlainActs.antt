@@ -11,9 +11,9 @@ use Rattle.heyvl_acts.specs.declared.acts.Act as A
 use Rattle.heyvl_acts.specs.declared.acts.LoopAct as L
 use Rattle.heyvl_acts.specs.declared.acts.Act.TheOpen.{Act-F, LoopAct-F}
 use Rattle.heyvl_acts.specs.declared.acts.Act.TheFolds.{fold-Act, fold-LoopAct}
-use Rattle.heyvl_acts.specs.declared.typed.VarInfo.{VarInfo}
-use Rattle.heyvl_acts.specs.declared.typed.TProc.{TProc}
-use Rattle.heyvl_acts.specs.declared.typed.Typed.{Typed}
+use Rattle.heyvl_acts.specs.declared.typed_trees.VarInfo.{VarInfo}
+use Rattle.heyvl_acts.specs.declared.typed_trees.TProc.{TProc}
+use Rattle.heyvl_acts.specs.declared.typed_trees.Typed.{Typed}
 use Rattle.heyvl_acts.specs.Acts.{Act, Acts, Arms, Variable, TypedProcedure}
 
 abbrev pub joined : List Act → Acts

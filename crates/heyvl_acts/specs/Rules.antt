@@ -13,14 +13,14 @@ use Rattle.heylo_formula.specs.Operators.{agree}
 use Rattle.heylo_formula.specs.Typing.{types_in, number_type, fits, is_bool, is_well_typed, IsFormula, TermFits}
 use Rattle.heylo_formula.specs.Variables.{IsOver}
 use Rattle.heylo_formula.specs.declared.types.Ty.{Ty}
-use Rattle.heyvl_acts.specs.declared.typed.TProc.{TProc}
-use Rattle.heyvl_acts.specs.declared.typed.Typed.{Typed}
+use Rattle.heyvl_acts.specs.declared.typed_trees.TProc.{TProc}
+use Rattle.heyvl_acts.specs.declared.typed_trees.Typed.{Typed}
 use Rattle.heyvl_acts.specs.Acts.{Head, Act, Acts, Arms, TypedProcedure, variables, type_list, types_of, acts_in, procedure_at}
 use Rattle.heyvl_acts.specs.PlainActs.{procedures_of}
 use Rattle.heyvl_acts.specs.Places.{in_order}
 use Rattle.heyvl_acts.specs.Count.{count_of}
 use Rattle.heyvl_acts.specs.Visible.{interface, Scoped}
-use Rattle.heyvl_acts.specs.WellTyped.{IsHeld, IsProbability, DrawFits}
+use Rattle.heyvl_acts.specs.WellTypedActs.{IsHeld, IsProbability, DrawFits}
 
 -- The predicate holds of each element.
 abbrev pub Each : {A : Type 0} → (A → Type 0) → List A → Type 0

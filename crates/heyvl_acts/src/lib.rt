@@ -7,11 +7,11 @@ mod counts;
 mod laws;
 mod places;
 mod targets;
-mod typed;
+mod typed_trees;
 
 pub use acts::{Act, LoopAct};
 pub use counts::count;
 pub use laws::forward_meaning_matches_runs;
 pub use places::act_at;
 pub use targets::is_target;
-pub use typed::{TProc, Typed, VarInfo};
+pub use typed_trees::{TProc, Typed, VarInfo};

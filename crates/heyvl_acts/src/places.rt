@@ -1,12 +1,12 @@
 //! The act at a place: its number in the text of its procedure's body, an act before those inside it.
 
-ghost use Rattle.heyvl_acts.specs.internal.Finding.{Finds};
+ghost use Rattle.heyvl_acts.specs.internal.PlaceWalks.{Finds};
 ghost use Rattle.heyvl_acts.specs.Places.{act_named, held, in_order, inside};
 ghost use Rattle.heyvl_acts.specs.PlainActs.{act_of, acts_of, procedures_of};
 ghost use Rattle.std.specs.Prelude.{◌≡◌, ◌∷◌};
 
 use crate::acts::Act;
-use crate::typed::Typed;
+use crate::typed_trees::Typed;
 
 /// The act of the procedure's body at this place, from 0 in the order of the text; none exactly where there is no such
 /// procedure or its body has no act there. It takes no memory.

@@ -1,6 +1,6 @@
 //! Which variables acts give a value.
 
-ghost use Rattle.heyvl_acts.specs.Modified.{is_target_of, is_target_of_act, modified};
+ghost use Rattle.heyvl_acts.specs.ModifiedVariables.{is_target_of, is_target_of_act, modified};
 ghost use Rattle.heyvl_acts.specs.PlainActs.{act_of, acts_of};
 ghost use Rattle.heyvl_acts.specs.Visible.{among};
 ghost use Rattle.std.specs.Prelude.{◌≡◌, length};

@@ -2,7 +2,7 @@
 use Rattle.pgcl_front.specs.Programs.{BlockTree, CommandTree, ProgramTree}
 use Rattle.pgcl_front.specs.Sources.{IsPgclSource}
 use Rattle.pgcl_front.specs.Translation.{first_place, lines, picks, picks_in, start, statements, translated}
-use Rattle.heyvl_files.proofs.Spelled.{ArePlaced, Gives, any, each, within, ◌before◌}
+use Rattle.heyvl_files.proofs.SpelledParts.{ArePlaced, Gives, any, each, within, ◌before◌}
 use Rattle.heyvl_files.proofs.SpelledStatements.{braced, otherwise}
 use Rattle.heyvl_places.specs.declared.spans.Span.{Span}
 use Rattle.heyvl_syntax.specs.Grammar.{IsBlock, IsElseIfs, IsFile, IsIf, IsProc, IsStmt, IsStmts}
@@ -10,7 +10,7 @@ use Rattle.heyvl_syntax.specs.Procedures.{Procedure}
 use Rattle.heyvl_syntax.specs.Productions.{IsOptional}
 use Rattle.heyvl_syntax.specs.Statements.{Arms, Block, Statement, block_of}
 use Rattle.heyvl_syntax.specs.declared.tokens.Token.{Token}
-use Rattle.heyvl_types.specs.Armed.{AreArmsArmed, HasArm, HasArms, IsArmed, IsBlockArmed, IsBodyArmed}
+use Rattle.heyvl_types.specs.ArmedFiles.{AreArmsArmed, HasArm, HasArms, IsArmed, IsBlockArmed, IsBodyArmed}
 use Rattle.std.proofs.Common.{List, None, Option, Some, [], arith, map, subst, sym, ◌+◌, ◌++◌, ◌∷◌, ◌≤◌, ℕ}
 
 -- ---- What tokens spell

@@ -1,6 +1,6 @@
 -- A file within the limits has at most 1,024 procedures.
 use Rattle.heyvl_acts.specs.PlainActs.{procedure_of, procedures_of}
-use Rattle.heyvl_acts.specs.declared.typed.Typed.{Typed}
+use Rattle.heyvl_acts.specs.declared.typed_trees.Typed.{Typed}
 use Rattle.heyvl_syntax.specs.Grammar.{IsFile, IsProc, proc_key}
 use Rattle.heyvl_syntax.specs.Procedures.{Procedure}
 use Rattle.heyvl_syntax.specs.Productions.{IsEach, IsKey}

@@ -6,7 +6,7 @@ mod ProgramFiles
 mod ProgramSums
 mod ReadyFiles
 mod SmallForms
-mod Spelled
+mod SpelledParts
 mod SpelledExpressions
 mod SpelledFiles
 mod SpelledStatements

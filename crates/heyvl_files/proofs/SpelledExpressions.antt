@@ -1,6 +1,6 @@
 -- The products in what expressions become begin within the bytes of the text: each has the place of its operator.
 use Rattle.heyvl_files.proofs.Meanings.{Holds, Spreads, bracketed_holds, chosen_holds, embedded_holds, infixed_holds, literal_holds, name_holds, prefixed_holds, quantified_holds}
-use Rattle.heyvl_files.proofs.Spelled.{Gives, any, here, within, ◌before◌}
+use Rattle.heyvl_files.proofs.SpelledParts.{Gives, any, here, within, ◌before◌}
 use Rattle.heyvl_syntax.specs.Expressions.{Expression}
 use Rattle.heyvl_syntax.specs.Grammar.{IsExpr, operator, ranks}
 use Rattle.heyvl_places.specs.declared.spans.Span.{Span}

@@ -2,7 +2,7 @@
 -- stand within the bytes of its text.
 use Rattle.heyvl_files.proofs.EachOf.{each_mapped, each_weaker}
 use Rattle.heyvl_files.proofs.SpelledExpressions.{ExpressionStands, expr, form_stands}
-use Rattle.heyvl_files.proofs.Spelled.{ArePlaced, Gives, any, each, tokens_inside, within, ◌before◌}
+use Rattle.heyvl_files.proofs.SpelledParts.{ArePlaced, Gives, any, each, tokens_inside, within, ◌before◌}
 use Rattle.heyvl_files.proofs.SpelledStatements.{IsSpelled, block}
 use Rattle.heylo_formula.specs.Formula.{Form}
 use Rattle.heyvl_syntax.proofs.exported.InOrder.{stand_in_order}

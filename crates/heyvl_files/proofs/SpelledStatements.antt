@@ -1,7 +1,7 @@
 -- The acts of statements, and the products in their forms, begin within the bytes of the text; and each If has an arm.
 use Rattle.heyvl_files.proofs.EachOf.{each_both, each_join}
 use Rattle.heyvl_files.proofs.SpelledExpressions.{ExpressionStands, condition_stands, expr, form_stands, term_stands}
-use Rattle.heyvl_files.proofs.Spelled.{ArePlaced, Gives, any, begins, each, items, items0, within, ◌before◌}
+use Rattle.heyvl_files.proofs.SpelledParts.{ArePlaced, Gives, any, begins, each, items, items0, within, ◌before◌}
 use Rattle.heylo_formula.specs.Formula.{Form}
 use Rattle.heyvl_num.specs.Rational.{Rational, ratio}
 use Rattle.heyvl_syntax.specs.Expressions.{Expression}

@@ -2,7 +2,7 @@
 use Rattle.heyvl_acts.specs.FormSizes.{FormsWithin}
 use Rattle.heyvl_acts.specs.PlainActs.{procedures_of}
 use Rattle.heyvl_acts.specs.Rules.{Each, MeetsAllRules}
-use Rattle.heyvl_acts.specs.declared.typed.Typed.{Typed}
+use Rattle.heyvl_acts.specs.declared.typed_trees.Typed.{Typed}
 use Rattle.heyvl_places.specs.declared.spans.Span.{Span}
 use Rattle.heyvl_syntax.specs.Procedures.{Procedure}
 use Rattle.heyvl_syntax.specs.SourceFaults.{IsSource, IsSourceFault}

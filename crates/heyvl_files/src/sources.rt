@@ -6,7 +6,7 @@ ghost use Rattle.heyvl_files.specs.declared.sources.SourceStop.TheVariants.{Memo
 ghost use Rattle.heyvl_syntax.specs.Procedures.{procedures};
 ghost use Rattle.heyvl_syntax.specs.SourceFaults.{IsSource};
 ghost use Rattle.heyvl_types.specs.Answers.{Gives};
-ghost use Rattle.heyvl_types.specs.Armed.{HasArms};
+ghost use Rattle.heyvl_types.specs.ArmedFiles.{HasArms};
 ghost use Rattle.heyvl_types.specs.Files.{file_findings, resolved};
 ghost use Rattle.std.specs.Prelude.{IfOk, List, MatchResult, length, ◌≡◌, ◌≤◌, ℕ};
 

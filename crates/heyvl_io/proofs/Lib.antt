@@ -3,4 +3,4 @@ mod Examples
 mod Held
 mod Told
 mod Pieces
-mod Starting
+mod StartOrder

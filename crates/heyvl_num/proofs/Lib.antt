@@ -1,8 +1,8 @@
 pub mod Integers
 pub mod Rationals
 pub mod Values
-mod Reducing
-mod Fitting
+mod Quotients
+mod ExactParts
 pub mod Roundings
 pub mod Signs
 pub mod WeightedSums

@@ -4,7 +4,7 @@ pub mod Rational
 pub mod RationalParts
 pub mod Value
 pub mod Exact
-pub mod Extended
+pub mod ExtendedNumbers
 pub mod ExactValues
 pub mod Rounding
 pub mod ValueOperators

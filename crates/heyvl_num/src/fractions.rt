@@ -7,7 +7,7 @@ ghost use Rattle.heyvl_num.specs.RationalParts.{ratio_num-lowest, ratio_den-lowe
 ghost use Rattle.heyvl_num.specs.Exact.{is_small, quotient_fits, exact_quotient, exact_sum, exact_difference, exact_product, exact_order};
 ghost use Rattle.heyvl_num.specs.Rounding.{floorʳ, ceilʳ, IsFloor, IsCeiling};
 
-use crate::bounded::{difference, product, sum};
+use crate::bounded_numbers::{difference, product, sum};
 use crate::divisors::gcd;
 use std::cmp::Ordering;
 use std::marker::Model;

@@ -1,14 +1,14 @@
 //! Exact fractions, and numbers extended by infinity.
 #![tactic(auto)]
 
-mod bounded;
+mod bounded_numbers;
 mod divisors;
-mod extended;
+mod extended_numbers;
 mod fractions;
 mod laws;
 
 pub use divisors::gcd;
-pub use extended::Ext;
+pub use extended_numbers::Ext;
 pub use fractions::Frac;
 pub use laws::{
     fractions_by_cross_products, growth_of_operators, operators_on_values, order_of_fractions,

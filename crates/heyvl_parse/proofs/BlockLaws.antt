@@ -6,7 +6,7 @@ use Rattle.heyvl_parse.proofs.Right.{Right, Some_text, is_mark_true, nowhere}
 use Rattle.heyvl_parse.proofs.RightLaws.{mark_test}
 use Rattle.heyvl_parse.proofs.StatementLaws.{on_stmt, stmt_begins, stmt_laws}
 use Rattle.heyvl_parse.specs.readers.Combinators.{either, no_kind, starts}
-use Rattle.heyvl_parse.specs.readers.Reading.{Bad, Got, Out, Read, is_mark, ◌>>=◌}
+use Rattle.heyvl_parse.specs.readers.ReadParts.{Bad, Got, Out, Read, is_mark, ◌>>=◌}
 use Rattle.heyvl_parse.specs.internal.Rights.{two}
 use Rattle.heyvl_parse.specs.internal.Statements.{BlockReader, braced, entry, is_opening, key_opening, mark_opening, opens, skip, stmt, stmts}
 use Rattle.heyvl_syntax.proofs.exported.Sequences.{then_assoc}

@@ -6,7 +6,7 @@ use Rattle.heyvl_parse.proofs.Right.{Right, RightAt, Some_text, nowhere, right_a
 use Rattle.heyvl_parse.proofs.RightLaws.{IsBarred, anything, barred, ended_by, expr_laws, key_test, led, some_full, some_lead}
 use Rattle.heyvl_parse.proofs.RuleLaws.{rules_laws}
 use Rattle.heyvl_parse.specs.readers.Combinators.{either, is_key, is_operator, is_there, lead, no_kind, starts}
-use Rattle.heyvl_parse.specs.readers.Reading.{Bad, Got, Out, Read, Whole, is_mark, mapped, pair, reading, ◌>>=◌}
+use Rattle.heyvl_parse.specs.readers.ReadParts.{Bad, Got, Out, Read, Whole, is_mark, mapped, pair, reading, ◌>>=◌}
 use Rattle.heyvl_parse.specs.internal.Rights.{two}
 use Rattle.heyvl_parse.specs.internal.Statements.{BlockReader, IfParts, Links, Looped, Next, arm, behind_else, behind_if, branched, else_by, else_if, fronted, further, if_by, if_parts, is_pick, key_pick, link, link_by, links, looped, otherwise, picked}
 use Rattle.heyvl_syntax.proofs.exported.Sequences.{then_assoc, then_map}

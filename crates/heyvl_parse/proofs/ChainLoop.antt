@@ -1,5 +1,5 @@
 -- The loop over the arms of an if.
-use Rattle.heyvl_parse.specs.readers.Reading.{Bad, Got, Out, Read}
+use Rattle.heyvl_parse.specs.readers.ReadParts.{Bad, Got, Out, Read}
 use Rattle.heyvl_parse.specs.readers.Results.{Fails}
 use Rattle.heyvl_parse.specs.internal.Statements.{BlockReader, Links, Next, arm, branched, fronted, link, links}
 use Rattle.heyvl_parse.specs.declared.stops.PartStop.TheVariants.{Fault, Memory}

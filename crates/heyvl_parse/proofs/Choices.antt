@@ -1,5 +1,5 @@
 -- A choice, read as three expressions with the marks that close them.
-use Rattle.heyvl_parse.specs.readers.Reading.{Bad, Got, Out, Read, Reader, Whole, choice, choice_tree, enclosed, expect, mapped, pair, ◌>>=◌}
+use Rattle.heyvl_parse.specs.readers.ReadParts.{Bad, Got, Out, Read, Reader, Whole, choice, choice_tree, enclosed, expect, mapped, pair, ◌>>=◌}
 use Rattle.heyvl_places.specs.declared.spans.Span.{Span}
 use Rattle.heyvl_syntax.specs.Expressions.{Expression}
 use Rattle.heyvl_syntax.specs.declared.marks.Mark.TheVariants as marks

@@ -2,7 +2,7 @@
 use Rattle.heyvl_parse.proofs.EachLoop.{Rest, loop_done, loop_fails, loop_init, loop_more}
 use Rattle.heyvl_parse.specs.readers.Combinators.{kind, starts}
 use Rattle.heyvl_parse.specs.internal.Procedures.{clause, clause_by, clause_of, clause_tree, clauses, divide, divided, is_clause}
-use Rattle.heyvl_parse.specs.readers.Reading.{Got, Read, expr, mapped, pair}
+use Rattle.heyvl_parse.specs.readers.ReadParts.{Got, Read, expr, mapped, pair}
 use Rattle.heyvl_parse.specs.readers.Results.{Fails}
 use Rattle.heyvl_parse.specs.declared.stops.PartStop.TheVariants.{Fault, Memory}
 use Rattle.heyvl_parse.specs.declared.stops.PartStop.{PartStop}

@@ -1,6 +1,6 @@
 -- What the tokens spell is read, where nothing follows that would go on.
 use Rattle.heyvl_parse.proofs.Right.{IsBounds, IsChoices, IsSign, Pair, Ranked, bound_text, bracket_text, choice_text, embed_text, group_text, prefix_text, wider}
-use Rattle.heyvl_parse.specs.readers.Reading.{Bad, Got, Read, Reader, Whole, bound_parts, by_kind, choice_parts, end_of, enclosed, expect, full, is_mark, mark_operator, more, operand, operator_at, operator_of, pair, placed, quantified, quantifier_of, reach, reading, repeats, type_name, whole, word}
+use Rattle.heyvl_parse.specs.readers.ReadParts.{Bad, Got, Read, Reader, Whole, bound_parts, by_kind, choice_parts, end_of, enclosed, expect, full, is_mark, mark_operator, more, operand, operator_at, operator_of, pair, placed, quantified, quantifier_of, reach, reading, repeats, type_name, whole, word}
 use Rattle.heyvl_places.specs.declared.spans.Span.{Span}
 use Rattle.heyvl_syntax.specs.Expressions.{Expression}
 use Rattle.heyvl_syntax.specs.Grammar.{IsExpr, IsType, operator, prefix, quantifier_key, ranks}

@@ -1,6 +1,6 @@
 -- The loop over items, for every kind of item.
 use Rattle.heyvl_parse.specs.readers.Combinators.{added, cons, each, starts, with_front}
-use Rattle.heyvl_parse.specs.readers.Reading.{Bad, Got, Out, Read}
+use Rattle.heyvl_parse.specs.readers.ReadParts.{Bad, Got, Out, Read}
 use Rattle.heyvl_parse.specs.readers.Results.{Fails}
 use Rattle.heyvl_parse.specs.declared.stops.PartStop.TheVariants.{Fault, Memory}
 use Rattle.heyvl_parse.specs.declared.stops.PartStop.{PartStop}

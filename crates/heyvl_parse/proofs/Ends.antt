@@ -1,5 +1,5 @@
 -- Where the last token of a text ends.
-use Rattle.heyvl_parse.specs.readers.Reading.{end_of}
+use Rattle.heyvl_parse.specs.readers.ReadParts.{end_of}
 use Rattle.heyvl_places.specs.declared.spans.Span.{Span}
 use Rattle.heyvl_syntax.specs.Expressions.{Expression}
 use Rattle.heyvl_syntax.specs.Grammar.{IsExpr}

@@ -3,8 +3,8 @@ use Rattle.heyvl_parse.proofs.Lawful.{Laws, each_laws}
 use Rattle.heyvl_parse.proofs.ProcedureLaws.{on_procedure, procedure_laws}
 use Rattle.heyvl_parse.proofs.WholeLaws.{ended_laws, every_kind}
 use Rattle.heyvl_parse.specs.readers.Combinators.{either, no_kind, starts}
-use Rattle.heyvl_parse.specs.internal.FileReading.{begins, file, procs}
-use Rattle.heyvl_parse.specs.readers.Reading.{Read}
+use Rattle.heyvl_parse.specs.internal.FileReaders.{begins, file, procs}
+use Rattle.heyvl_parse.specs.readers.ReadParts.{Read}
 use Rattle.heyvl_syntax.specs.Grammar.{IsBlock, IsFile, IsNote, IsProc, proc_key}
 use Rattle.heyvl_syntax.specs.Procedures.{Procedure}
 use Rattle.heyvl_syntax.specs.Productions.{IsKey, IsOptional, ◌then◌}

@@ -1,5 +1,5 @@
 -- Fuel above the number of tokens.
-use Rattle.heyvl_parse.specs.readers.Reading.{Reader, full, more, ◌>>=◌}
+use Rattle.heyvl_parse.specs.readers.ReadParts.{Reader, full, more, ◌>>=◌}
 use Rattle.heyvl_syntax.specs.declared.tokens.Token.{Token}
 use Rattle.std.proofs.Common.{List, arith, refl, suc, zero, ◌-◌, ◌<◌, ◌≡◌, ◌≤◌, ℕ}
 

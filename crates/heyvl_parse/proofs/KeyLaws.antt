@@ -4,7 +4,7 @@ use Rattle.heyvl_parse.proofs.Local.{local_one}
 use Rattle.heyvl_parse.proofs.Right.{Holds, nowhere, right_one, right_type}
 use Rattle.heyvl_parse.proofs.RightLaws.{key_test}
 use Rattle.heyvl_parse.specs.readers.Combinators.{is_key, kind, no_kind, sign, starts}
-use Rattle.heyvl_parse.specs.readers.Reading.{Got, type_name}
+use Rattle.heyvl_parse.specs.readers.ReadParts.{Got, type_name}
 use Rattle.heyvl_parse.specs.internal.Rights.{two}
 use Rattle.heyvl_parse.specs.internal.Statements.{by_key, is_reward, key_check, key_havoc, key_pick, key_validate}
 use Rattle.heyvl_places.specs.declared.checks.CheckKind.TheVariants as checks

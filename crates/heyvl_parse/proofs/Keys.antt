@@ -2,7 +2,7 @@
 use Rattle.heyvl_parse.specs.declared.stops.PartStop.TheVariants.{Fault, Memory}
 use Rattle.heyvl_parse.specs.declared.stops.PartStop.{PartStop}
 use Rattle.heyvl_parse.specs.readers.Combinators.{kind}
-use Rattle.heyvl_parse.specs.readers.Reading.{Bad, Got, given}
+use Rattle.heyvl_parse.specs.readers.ReadParts.{Bad, Got, given}
 use Rattle.heyvl_parse.specs.readers.Results.{Fails}
 use Rattle.heyvl_parse.specs.internal.Statements.{by_key}
 use Rattle.heyvl_syntax.specs.declared.keys.Key.{Key}

@@ -2,7 +2,7 @@
 use Rattle.heyvl_parse.proofs.Local.{Local, LocalAt, Moves, local_bind, local_got, local_mapped, local_one, local_pair}
 use Rattle.heyvl_parse.proofs.Right.{Holds, Pair, Right, RightAt, Some_text, is_mark_true, nowhere, right_as, right_bind, right_map, right_one, right_pair}
 use Rattle.heyvl_parse.specs.readers.Combinators.{cons, each, each_if, either, lead, list, list0, list_if, no_kind, optional, refuse, sign, some_if, spanned, starts, taken, trail, with_front}
-use Rattle.heyvl_parse.specs.readers.Reading.{Bad, Got, Out, Read, is_mark, mapped, one, pair, ◌>>=◌}
+use Rattle.heyvl_parse.specs.readers.ReadParts.{Bad, Got, Out, Read, is_mark, mapped, one, pair, ◌>>=◌}
 use Rattle.heyvl_places.specs.declared.spans.Span.{Span}
 use Rattle.heyvl_syntax.proofs.exported.Sequences.{then_assoc}
 use Rattle.heyvl_syntax.specs.Productions.{IsAt, IsEach, IsList, IsList0, IsMark, IsMore, IsOne, IsOptional, at, extent, ◌then◌}

@@ -1,8 +1,8 @@
 -- A name or a number behind which nothing goes on is a whole expression, and a whole right side.
-use Rattle.heyvl_parse.proofs.Climbing.{climb_ends, full_climbed}
+use Rattle.heyvl_parse.proofs.RankClimbs.{climb_ends, full_climbed}
 use Rattle.heyvl_parse.specs.readers.Combinators.{is_operator, is_there, starts}
 use Rattle.heyvl_parse.specs.internal.Leaves.{goes_on, is_alone, is_leaf, leaf, leaf_of}
-use Rattle.heyvl_parse.specs.readers.Reading.{Got, Read, Whole, by_kind, climbed, full, given, is_mark, mapped, operand, operator_of, operator_within, placed, quantified, quantifier_of, reading, within, ◌>>=◌}
+use Rattle.heyvl_parse.specs.readers.ReadParts.{Got, Read, Whole, by_kind, climbed, full, given, is_mark, mapped, operand, operator_of, operator_within, placed, quantified, quantifier_of, reading, within, ◌>>=◌}
 use Rattle.heyvl_parse.specs.internal.Rights.{called_behind, is_a_word, kind_right, right, right_by, right_if}
 use Rattle.heyvl_parse.specs.declared.rights.RightStart.TheVariants as right_starts
 use Rattle.heyvl_syntax.specs.Expressions.{Expression}

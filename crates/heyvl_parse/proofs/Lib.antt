@@ -3,12 +3,12 @@ mod BranchLaws
 mod ChainLoop
 mod Choices
 mod ClauseLoop
-mod Climbing
+mod RankClimbs
 mod Complete
 mod EachLoop
 mod Ends
 mod FileLaws
-mod Followed
+mod SequelLaws
 mod Fuel
 mod KeyLaws
 mod Keys

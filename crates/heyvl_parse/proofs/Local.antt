@@ -1,5 +1,5 @@
 -- Reading looks at no token behind the first that it leaves.
-use Rattle.heyvl_parse.specs.readers.Reading.{Bad, Full, Got, More, Out, Part, Read, Reader, Whole, after, bound, bound_parts, bound_tree, bracket_tree, by_kind, choice, choice_parts, choice_tree, embed_tree, enclosed, expect, full, given, group_tree, joined, key_start, mapped, mark_start, more, one, operand, operator_of, pair, placed, prefix_tree, prefixed, quantified, quantifier_of, ranked, reading, repeats, started, step, type_name, whole, word, ◌>>=◌}
+use Rattle.heyvl_parse.specs.readers.ReadParts.{Bad, Full, Got, More, Out, Part, Read, Reader, Whole, after, bound, bound_parts, bound_tree, bracket_tree, by_kind, choice, choice_parts, choice_tree, embed_tree, enclosed, expect, full, given, group_tree, joined, key_start, mapped, mark_start, more, one, operand, operator_of, pair, placed, prefix_tree, prefixed, quantified, quantifier_of, ranked, reading, repeats, started, step, type_name, whole, word, ◌>>=◌}
 use Rattle.heyvl_parse.specs.declared.starts.Start.TheVariants as starts
 use Rattle.heyvl_parse.specs.declared.starts.Start.{Start}
 use Rattle.heyvl_syntax.specs.Expressions.{Expression}

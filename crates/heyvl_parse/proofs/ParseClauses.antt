@@ -1,8 +1,8 @@
 -- What follows from the first two clauses of the parser: that it gives nothing else.
 use Rattle.heyvl_parse.specs.Files.{IsParseMemory, IsParseStop, IsThisParseStop}
 use Rattle.heyvl_parse.specs.Laws.{FileIsUnique}
-use Rattle.heyvl_parse.specs.declared.parsing.ParseStop.TheVariants.{Fault, Memory}
-use Rattle.heyvl_parse.specs.declared.parsing.ParseStop.{ParseStop}
+use Rattle.heyvl_parse.specs.declared.parser.ParseStop.TheVariants.{Fault, Memory}
+use Rattle.heyvl_parse.specs.declared.parser.ParseStop.{ParseStop}
 use Rattle.heyvl_syntax.proofs.exported.FewNodes.{few_nodes}
 use Rattle.heyvl_syntax.proofs.exported.OneFault.{no_token_fault, token_faults_unique}
 use Rattle.heyvl_syntax.specs.Grammar.{IsFile}

@@ -2,7 +2,7 @@
 use Rattle.heyvl_parse.proofs.Lawful.{Laws, spanned_laws}
 use Rattle.heyvl_parse.proofs.Right.{right_as}
 use Rattle.heyvl_parse.specs.readers.Combinators.{spanned}
-use Rattle.heyvl_parse.specs.readers.Reading.{Read}
+use Rattle.heyvl_parse.specs.readers.ReadParts.{Read}
 use Rattle.heyvl_places.specs.declared.spans.Span.{Span}
 use Rattle.heyvl_syntax.specs.Productions.{extent}
 use Rattle.heyvl_syntax.specs.declared.tokens.Token.{Token}

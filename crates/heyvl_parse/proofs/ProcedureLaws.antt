@@ -5,7 +5,7 @@ use Rattle.heyvl_parse.proofs.RightLaws.{expr_laws, mark_test, some_full, some_l
 use Rattle.heyvl_parse.proofs.KeyLaws.{OfKind, kind_laws, led_starts, type_laws}
 use Rattle.heyvl_parse.specs.readers.Combinators.{either, is_operator, kind, lead, no_kind, starts}
 use Rattle.heyvl_parse.specs.internal.Procedures.{Parts, clause, clause_by, clause_of, clause_tree, clauses, divide, divided, is_clause, key_clause, key_proc, note, note_of, opening, param, param_tree, params, proc_of, procedure, procedure_tree, promise, signature}
-use Rattle.heyvl_parse.specs.readers.Reading.{Read, expr, is_mark, pair, type_name, word}
+use Rattle.heyvl_parse.specs.readers.ReadParts.{Read, expr, is_mark, pair, type_name, word}
 use Rattle.heyvl_syntax.specs.Expressions.{Expression}
 use Rattle.heyvl_syntax.specs.Grammar.{Clause, IsBlock, IsClause, IsClauses, IsFull, IsNote, IsParam, IsProc, IsType, note_word, posts, pres, proc_key}
 use Rattle.heyvl_syntax.specs.Procedures.{Procedure}

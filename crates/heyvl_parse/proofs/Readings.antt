@@ -1,7 +1,7 @@
 -- Reading gives what is spelled, where nothing behind it goes on with it; so tokens spell at most one expression.
 use Rattle.heyvl_parse.proofs.Complete.{Quiet, complete}
 use Rattle.heyvl_parse.specs.Laws.{ExpressionIsUnique}
-use Rattle.heyvl_parse.specs.readers.Reading.{Got, Whole, reading}
+use Rattle.heyvl_parse.specs.readers.ReadParts.{Got, Whole, reading}
 use Rattle.heyvl_syntax.specs.Expressions.{Expression}
 use Rattle.heyvl_syntax.specs.Grammar.{IsExpr}
 use Rattle.heyvl_syntax.specs.declared.tokens.Token.{Token}

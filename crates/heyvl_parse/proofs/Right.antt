@@ -1,6 +1,6 @@
 -- What reading gives is spelled by the tokens that it took, and what it took before a fault can be completed.
 use Rattle.heyvl_parse.proofs.Ends.{LastIs, last_of, last_one, last_then}
-use Rattle.heyvl_parse.specs.readers.Reading.{Bad, Bounds, Choices, Full, Got, More, Out, Part, Read, Reader, Whole, after, bound_parts, bound_tree, bracket_tree, by_kind, choice_parts, choice_tree, embed_tree, enclosed, end_of, expect, full, given, group_tree, is_mark, joined, key_operator, key_start, key_type, mark_operator, mark_place, mark_start, more, one, operand, operator_of, pair, placed, prefix_tree, prefixed, quantified, quantifier_of, ranked, reach, reading, repeats, started, step, type_name, type_of, whole, word, word_of, ◌>>=◌}
+use Rattle.heyvl_parse.specs.readers.ReadParts.{Bad, Bounds, Choices, Full, Got, More, Out, Part, Read, Reader, Whole, after, bound_parts, bound_tree, bracket_tree, by_kind, choice_parts, choice_tree, embed_tree, enclosed, end_of, expect, full, given, group_tree, is_mark, joined, key_operator, key_start, key_type, mark_operator, mark_place, mark_start, more, one, operand, operator_of, pair, placed, prefix_tree, prefixed, quantified, quantifier_of, ranked, reach, reading, repeats, started, step, type_name, type_of, whole, word, word_of, ◌>>=◌}
 use Rattle.heyvl_parse.specs.declared.starts.Start.TheVariants as starts
 use Rattle.heyvl_parse.specs.declared.starts.Start.{Start}
 use Rattle.heyvl_syntax.specs.Expressions.{Expression}

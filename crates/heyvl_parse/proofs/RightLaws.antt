@@ -6,7 +6,7 @@ use Rattle.heyvl_parse.proofs.Local.{AllLocal, Local, LocalAt, Moves, local_bind
 use Rattle.heyvl_parse.proofs.Readings.{reads}
 use Rattle.heyvl_parse.proofs.Right.{Right, RightAt, Some_text, is_mark_true, nowhere, right_map, right_reading, right_word, some_expr}
 use Rattle.heyvl_parse.specs.readers.Combinators.{either, is_key, is_operator, is_there, lead, no_kind, starts}
-use Rattle.heyvl_parse.specs.readers.Reading.{Bad, Got, Out, Read, Reader, Whole, expr, full, is_mark, mapped, more, operator_of, pair, placed, ranked, reading, word, ◌>>=◌}
+use Rattle.heyvl_parse.specs.readers.ReadParts.{Bad, Got, Out, Read, Reader, Whole, expr, full, is_mark, mapped, more, operator_of, pair, placed, ranked, reading, word, ◌>>=◌}
 use Rattle.heyvl_parse.specs.internal.Rights.{arguments, call, call_tree, called_behind, enclosed_expr, is_a_word, is_call, key_right, kind_right, no_call, right, right_by, right_if, right_start, two, unif_tree, weighted, weights}
 use Rattle.heyvl_parse.specs.declared.rights.RightStart.TheVariants as starts_as
 use Rattle.heyvl_parse.specs.declared.rights.RightStart.{RightStart}

@@ -9,7 +9,7 @@ use Rattle.heyvl_parse.specs.declared.loops.RuleStart.TheVariants as rule_starts
 use Rattle.heyvl_parse.specs.declared.loops.RuleStart.{RuleStart}
 use Rattle.heyvl_parse.specs.readers.Combinators.{either, is_word, lead, no_kind, starts}
 use Rattle.heyvl_parse.specs.internal.Loops.{RuleParts, rule, rule_by, rule_parts, rule_start, rule_tree, rules}
-use Rattle.heyvl_parse.specs.readers.Reading.{Got, is_mark}
+use Rattle.heyvl_parse.specs.readers.ReadParts.{Got, is_mark}
 use Rattle.heyvl_parse.specs.internal.Rights.{enclosed_expr, two}
 use Rattle.heyvl_syntax.specs.Grammar.{IsFull, IsRule}
 use Rattle.heyvl_syntax.specs.Productions.{IsEach, IsMark, IsName, ◌then◌}

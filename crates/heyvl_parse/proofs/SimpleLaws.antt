@@ -5,7 +5,7 @@ use Rattle.heyvl_parse.proofs.Local.{Local, local_bind, local_mapped}
 use Rattle.heyvl_parse.proofs.Right.{Right, Some_text, right_as, right_map, some_type, some_word}
 use Rattle.heyvl_parse.proofs.RightLaws.{Takes, anything, call_laws, call_local, ended_by, expr_laws, key_test, led, mark_test, on_right, picked_by, right_laws, some_full, some_lead, some_right, takes_call, takes_mapped, within_local, word_laws}
 use Rattle.heyvl_parse.specs.readers.Combinators.{each, either, is_operator, lead, list, no_kind, starts, with_front}
-use Rattle.heyvl_parse.specs.readers.Reading.{Got, expr, is_mark, mapped, pair, word, ◌>>=◌}
+use Rattle.heyvl_parse.specs.readers.ReadParts.{Got, expr, is_mark, mapped, pair, word, ◌>>=◌}
 use Rattle.heyvl_parse.specs.internal.Rights.{call, is_call, two}
 use Rattle.heyvl_parse.specs.internal.Statements.{alone, assigned, assigned_if, checked, declared, given, havocked, is_reward, rewarded}
 use Rattle.heyvl_places.specs.declared.spans.Span.{Span}

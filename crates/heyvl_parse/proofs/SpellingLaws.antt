@@ -2,8 +2,8 @@
 use Rattle.heyvl_parse.specs.Files.{IsParseMemory, IsThisParseStop}
 use Rattle.heyvl_parse.specs.Laws.{ExpressionIsUnique}
 use Rattle.heyvl_parse.specs.Spellings.{IsExpressionFault, IsExpressionStop, IsSpellingFault}
-use Rattle.heyvl_parse.specs.declared.parsing.ParseStop.TheVariants.{Fault, Memory}
-use Rattle.heyvl_parse.specs.declared.parsing.ParseStop.{ParseStop}
+use Rattle.heyvl_parse.specs.declared.parser.ParseStop.TheVariants.{Fault, Memory}
+use Rattle.heyvl_parse.specs.declared.parser.ParseStop.{ParseStop}
 use Rattle.heyvl_syntax.proofs.exported.Beginnings.{unexpected_unique}
 use Rattle.heyvl_syntax.proofs.exported.OneFault.{light_or_over}
 use Rattle.heyvl_syntax.specs.Expressions.{Expression, expression}

@@ -12,7 +12,7 @@ use Rattle.heyvl_parse.specs.declared.statements.Opening.TheVariants as openings
 use Rattle.heyvl_parse.specs.declared.statements.Opening.{Opening}
 use Rattle.heyvl_parse.specs.readers.Combinators.{either, is_key, is_operator, kind, no_kind, spanned, starts}
 use Rattle.heyvl_parse.specs.internal.Loops.{rules}
-use Rattle.heyvl_parse.specs.readers.Reading.{Got, is_mark}
+use Rattle.heyvl_parse.specs.readers.ReadParts.{Got, is_mark}
 use Rattle.heyvl_parse.specs.internal.Rights.{two}
 use Rattle.heyvl_parse.specs.internal.Statements.{BlockReader, IfParts, assign_tree, assigned, by_key, check_tree, checked, declared, havoc_tree, havocked, if_parts, if_tree, is_opening, key_opening, key_validate, loop_tree, looped, opening, opens, rewarded, stmt, stmt_by, var_tree}
 use Rattle.heyvl_places.specs.declared.checks.CheckKind.TheVariants as checks

@@ -1,7 +1,7 @@
 -- What is read behind a name with its type.
-use Rattle.heyvl_parse.proofs.Followed.{both}
+use Rattle.heyvl_parse.proofs.SequelLaws.{both}
 use Rattle.heyvl_parse.specs.readers.Combinators.{lead, sign, trail}
-use Rattle.heyvl_parse.specs.readers.Reading.{Bad, Got, Out, Read, Reader, Whole, bound, bound_tree, end_of, expect, is_mark, pair, reach, type_name, word, ◌>>=◌}
+use Rattle.heyvl_parse.specs.readers.ReadParts.{Bad, Got, Out, Read, Reader, Whole, bound, bound_tree, end_of, expect, is_mark, pair, reach, type_name, word, ◌>>=◌}
 use Rattle.heyvl_places.specs.declared.spans.Span.{Span}
 use Rattle.heyvl_syntax.specs.Expressions.{Expression}
 use Rattle.heyvl_syntax.specs.declared.marks.Mark.TheVariants as marks

@@ -6,7 +6,7 @@ use Rattle.heyvl_parse.specs.declared.stops.PartStop.TheVariants.{Fault, Memory}
 use Rattle.heyvl_parse.specs.declared.stops.PartStop.{PartStop}
 use Rattle.heyvl_parse.specs.readers.Combinators.{ended, starts}
 use Rattle.heyvl_parse.specs.readers.PartStops.{IsPartStop}
-use Rattle.heyvl_parse.specs.readers.Reading.{Bad, Got, Read, ◌>>=◌}
+use Rattle.heyvl_parse.specs.readers.ReadParts.{Bad, Got, Read, ◌>>=◌}
 use Rattle.heyvl_parse.specs.readers.Results.{Fails, Gives}
 use Rattle.heyvl_syntax.specs.Beginnings.{IsBeginning, IsUnexpected}
 use Rattle.heyvl_syntax.specs.declared.tokens.Token.{Token}

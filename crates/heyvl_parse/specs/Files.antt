@@ -1,6 +1,6 @@
 -- Why tokens are not read as a file.
-use Rattle.heyvl_parse.specs.declared.parsing.ParseStop.TheVariants as stops
-use Rattle.heyvl_parse.specs.declared.parsing.ParseStop.{ParseStop}
+use Rattle.heyvl_parse.specs.declared.parser.ParseStop.TheVariants as stops
+use Rattle.heyvl_parse.specs.declared.parser.ParseStop.{ParseStop}
 use Rattle.heyvl_syntax.specs.SourceFaults.{IsTokenFault}
 use Rattle.heyvl_syntax.specs.declared.tokens.Token.{Token}
 use Rattle.std.specs.Prelude.{List, ◌≡◌, ℕ}

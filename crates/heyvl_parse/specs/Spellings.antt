@@ -1,6 +1,6 @@
 -- The first fault of tokens that should spell one thing, as an expression.
-use Rattle.heyvl_parse.specs.declared.parsing.ParseStop.TheVariants as stops
-use Rattle.heyvl_parse.specs.declared.parsing.ParseStop.{ParseStop}
+use Rattle.heyvl_parse.specs.declared.parser.ParseStop.TheVariants as stops
+use Rattle.heyvl_parse.specs.declared.parser.ParseStop.{ParseStop}
 use Rattle.heyvl_syntax.specs.Beginnings.{IsUnexpected}
 use Rattle.heyvl_syntax.specs.Grammar.{IsFull}
 use Rattle.heyvl_syntax.specs.SourceFaults.{IsLight, IsOverload}

@@ -1,6 +1,6 @@
-pub mod Counting
-pub mod ExpressionReading
-pub mod FileReading
+pub mod HeldCounts
+pub mod ExpressionReaders
+pub mod FileReaders
 pub mod Leaves
 pub mod Loops
 pub mod Procedures

@@ -1,4 +1,4 @@
 pub mod Combinators
 pub mod PartStops
-pub mod Reading
+pub mod ReadParts
 pub mod Results

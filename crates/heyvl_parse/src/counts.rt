@@ -1,6 +1,6 @@
 //! The counts of the load: one for each open bracket, and one for the text outside of them.
 
-ghost use Rattle.heyvl_parse.specs.internal.Counting.{IsCounted, counts_of, effect_of};
+ghost use Rattle.heyvl_parse.specs.internal.HeldCounts.{IsCounted, counts_of, effect_of};
 ghost use Rattle.heyvl_syntax.specs.Load.{changed, load};
 ghost use Rattle.std.specs.Prelude.{OnOk, [], ◌∷◌, ◌≡◌, ◌≤◌};
 

@@ -1,6 +1,6 @@
 //! What a token does to the counts of the load.
 
-ghost use Rattle.heyvl_parse.specs.internal.Counting.{effect_of};
+ghost use Rattle.heyvl_parse.specs.internal.HeldCounts.{effect_of};
 ghost use Rattle.heyvl_syntax.specs.Load.{effect, key_effect, mark_effect};
 ghost use Rattle.std.specs.Prelude.{◌≡◌};
 

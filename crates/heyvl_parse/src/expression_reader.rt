@@ -1,6 +1,6 @@
 //! The parser of expressions that are all of the tokens.
 
-ghost use Rattle.heyvl_parse.specs.internal.ExpressionReading.{only_expr};
+ghost use Rattle.heyvl_parse.specs.internal.ExpressionReaders.{only_expr};
 ghost use Rattle.heyvl_parse.specs.readers.PartStops.{IsPartStop};
 ghost use Rattle.heyvl_parse.specs.readers.Results.{Gives};
 ghost use Rattle.heyvl_syntax.specs.Expressions.{expression};

@@ -1,14 +1,14 @@
 //! The parser of expressions.
 
-ghost use Rattle.heyvl_parse.specs.readers.Reading.{Full, Whole, bound, choice, climbed, enclosed, end_of, operand, prefixed, reach, reading, started};
+ghost use Rattle.heyvl_parse.specs.readers.ReadParts.{Full, Whole, bound, choice, climbed, enclosed, end_of, operand, prefixed, reach, reading, started};
 ghost use Rattle.heyvl_parse.specs.readers.Results.{Gives};
 ghost use Rattle.heyvl_syntax.specs.declared.tokens.Token.{Token};
 ghost use Rattle.heyvl_syntax.specs.Expressions.{Expression, expression};
 ghost use Rattle.std.specs.Prelude.{IfOk, List, length, ◌<◌, ◌≡◌, ◌≤◌, ◌+◌, ℕ};
 
-use crate::following::closed;
 use crate::leaves::{is_alone, leaf};
 use crate::operators::{next_level, operator_within, ranks};
+use crate::sequels::closed;
 use crate::starts::{Start, key_start, mark_start, quantifier_at};
 use crate::stops::PartStop;
 use crate::tokens::{expect, next};

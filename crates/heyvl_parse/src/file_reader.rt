@@ -2,7 +2,7 @@
 
 ghost use Rattle.heyvl_parse.specs.internal.Statements.{braced, stmts};
 ghost use Rattle.heyvl_parse.specs.readers.Combinators.{starts};
-ghost use Rattle.heyvl_parse.specs.internal.FileReading.{begins, file, procs};
+ghost use Rattle.heyvl_parse.specs.internal.FileReaders.{begins, file, procs};
 ghost use Rattle.heyvl_parse.specs.readers.PartStops.{IsPartStop};
 ghost use Rattle.heyvl_parse.specs.readers.Results.{Gives};
 ghost use Rattle.heyvl_syntax.specs.Grammar.{IsFile};

@@ -1,7 +1,7 @@
 //! The parser of lists of expressions and of names.
 
 ghost use Rattle.heyvl_parse.specs.readers.Combinators.{lead, list, list0};
-ghost use Rattle.heyvl_parse.specs.readers.Reading.{expr, is_mark, word};
+ghost use Rattle.heyvl_parse.specs.readers.ReadParts.{expr, is_mark, word};
 ghost use Rattle.heyvl_parse.specs.readers.Results.{Gives};
 ghost use Rattle.heyvl_parse.specs.internal.Rights.{arguments};
 ghost use Rattle.heyvl_syntax.specs.Expressions.{expression, expressions};
@@ -9,7 +9,7 @@ ghost use Rattle.heyvl_syntax.specs.declared.marks.Mark.TheVariants as marks;
 ghost use Rattle.std.specs.Prelude.{[], IfOk, OnOk, length, ◌++◌, ◌<◌, ◌∷◌, ◌≡◌, ◌≤◌, ℕ};
 
 use crate::expressions::whole;
-use crate::following::closed;
+use crate::sequels::closed;
 use crate::stops::PartStop;
 use crate::tokens::{expect, starts_mark, word};
 use heyvl_places::Name;

@@ -1,6 +1,6 @@
 //! The operators between operands, and the table of their ranks.
 
-ghost use Rattle.heyvl_parse.specs.readers.Reading.{next_level, operator_of, operator_within};
+ghost use Rattle.heyvl_parse.specs.readers.ReadParts.{next_level, operator_of, operator_within};
 ghost use Rattle.heyvl_syntax.specs.Grammar.{ranks};
 ghost use Rattle.std.specs.Prelude.{IfSome, MatchOption, None, Some, length, ◌<◌, ◌≡◌, ◌≤◌};
 

@@ -3,7 +3,7 @@
 ghost use Rattle.heyvl_parse.specs.internal.Statements.{braced, stmts};
 ghost use Rattle.heyvl_parse.specs.readers.Combinators.{kind, lead, list, list0, optional, starts};
 ghost use Rattle.heyvl_parse.specs.internal.Procedures.{clause_of, divided, is_clause, key_clause, key_proc, note, note_of, opening, param, params, proc_of, procedure, promise, signature, word_note};
-ghost use Rattle.heyvl_parse.specs.readers.Reading.{expr, is_mark, pair};
+ghost use Rattle.heyvl_parse.specs.readers.ReadParts.{expr, is_mark, pair};
 ghost use Rattle.heyvl_parse.specs.readers.Results.{Gives};
 ghost use Rattle.heyvl_syntax.specs.Expressions.{expression, expressions};
 ghost use Rattle.heyvl_syntax.specs.Procedures.{optional_block, procedure as tree_of};
@@ -11,8 +11,8 @@ ghost use Rattle.heyvl_syntax.specs.declared.marks.Mark.TheVariants as marks;
 ghost use Rattle.std.specs.Prelude.{IfOk, length, ◌<◌, ◌≡◌, ◌≤◌, ℕ};
 
 use crate::expressions::whole;
-use crate::following::{beside, closed};
 use crate::places::span_between;
+use crate::sequels::{beside, closed};
 use crate::statements::block;
 use crate::stops::PartStop;
 use crate::tokens::{expect, known, next, starts_mark, word};

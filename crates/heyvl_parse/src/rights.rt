@@ -1,7 +1,7 @@
 //! The parser of right sides.
 
 ghost use Rattle.heyvl_parse.specs.readers.Combinators.{lead, list, trail};
-ghost use Rattle.heyvl_parse.specs.readers.Reading.{expr, is_mark};
+ghost use Rattle.heyvl_parse.specs.readers.ReadParts.{expr, is_mark};
 ghost use Rattle.heyvl_parse.specs.readers.Results.{Gives};
 ghost use Rattle.heyvl_parse.specs.internal.Rights.{call, choose, enclosed_expr, flip, is_a_word, is_call, key_right, kind_right, no_call, right, right_start, two, unif, weighted, weights};
 ghost use Rattle.heyvl_syntax.specs.Expressions.{expression, expressions};
@@ -10,8 +10,8 @@ ghost use Rattle.heyvl_syntax.specs.declared.marks.Mark.TheVariants as marks;
 ghost use Rattle.std.specs.Prelude.{IfOk, length, ◌<◌, ◌≡◌, ℕ};
 
 use crate::expressions::whole;
-use crate::following::{beside, closed};
 use crate::lists::arguments;
+use crate::sequels::{beside, closed};
 use crate::stops::PartStop;
 use crate::tokens::{expect, expect_key, starts_mark, word};
 use heyvl_places::Name;

@@ -2,7 +2,7 @@
 //! in its place.
 
 ghost use Rattle.heyvl_parse.specs.readers.Combinators.{added, kind, optional, sign, spanned, starts};
-ghost use Rattle.heyvl_parse.specs.readers.Reading.{is_mark, mapped};
+ghost use Rattle.heyvl_parse.specs.readers.ReadParts.{is_mark, mapped};
 ghost use Rattle.heyvl_parse.specs.readers.Results.{Gives};
 ghost use Rattle.heyvl_parse.specs.internal.Rights.{call, right};
 ghost use Rattle.heyvl_parse.specs.internal.Statements.{alone, assign_tree, assigned, by_key, check_tree, checked, declared, given, havoc_tree, havocked, is_pick, is_reward, key_check, key_havoc, key_pick, key_validate, rewarded, valued, var_tree};

@@ -1,6 +1,6 @@
 //! What keys and marks begin an expression.
 
-ghost use Rattle.heyvl_parse.specs.readers.Reading.{key_start, mark_start, quantifier_at, quantifier_of};
+ghost use Rattle.heyvl_parse.specs.readers.ReadParts.{key_start, mark_start, quantifier_at, quantifier_of};
 ghost use Rattle.std.specs.Prelude.{IfSome, MatchOption, None, Some, length, ◌<◌, ◌≡◌};
 
 use heyvl_places::Span;

@@ -7,10 +7,10 @@ ghost use Rattle.heyvl_syntax.specs.Statements.{block, guarded, loop_rules, stat
 ghost use Rattle.std.specs.Prelude.{[], IfOk, length, map, suc, vec_capacity, vec_len, ◌++◌, ◌<◌, ◌∷◌, ◌≡◌, ◌≤◌, ℕ};
 
 use crate::expressions::whole;
-use crate::following::beside;
 use crate::lists::{put, single};
 use crate::loops::rules;
 use crate::places::span_between;
+use crate::sequels::beside;
 use crate::simple::{assign, check, havoc, pick_word, reward, starts_pick, validate, var};
 use crate::stops::PartStop;
 use crate::tokens::{expect, expect_key, starts_key, starts_mark};

@@ -1,7 +1,7 @@
 //! Ways to take the token at the front of others.
 
 ghost use Rattle.heyvl_parse.specs.readers.Combinators.{is_key, is_word, kind, sign, starts};
-ghost use Rattle.heyvl_parse.specs.readers.Reading.{expect, given, is_mark, next, type_name, type_of, word};
+ghost use Rattle.heyvl_parse.specs.readers.ReadParts.{expect, given, is_mark, next, type_name, type_of, word};
 ghost use Rattle.heyvl_parse.specs.readers.Results.{Gives};
 ghost use Rattle.heyvl_parse.specs.internal.Statements.{by_key};
 ghost use Rattle.std.specs.Prelude.{IfOk, Some, length, ◌+◌, ◌<◌, ◌≡◌};

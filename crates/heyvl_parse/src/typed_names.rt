@@ -1,12 +1,12 @@
 //! The parser of names with their types.
 
 ghost use Rattle.heyvl_parse.specs.readers.Combinators.{lead};
-ghost use Rattle.heyvl_parse.specs.readers.Reading.{is_mark, pair, type_name, word};
+ghost use Rattle.heyvl_parse.specs.readers.ReadParts.{is_mark, pair, type_name, word};
 ghost use Rattle.heyvl_parse.specs.readers.Results.{Gives};
 ghost use Rattle.heyvl_syntax.specs.declared.marks.Mark.TheVariants as marks;
 ghost use Rattle.std.specs.Prelude.{IfOk, length, ◌<◌};
 
-use crate::following::{beside, closed};
+use crate::sequels::{beside, closed};
 use crate::stops::PartStop;
 use crate::tokens::{type_name, word};
 use heyvl_places::Name;

@@ -1,6 +1,6 @@
 -- The pieces of an expression spell it again.
 use Rattle.heyvl_print.proofs.NumbersAgain.{printed_is_number, printed_literal, printed_number_reads}
-use Rattle.heyvl_print.proofs.Respelling.{Reprints, printable_back, printable_front, r_blank, r_both, r_closed, r_made, r_one, r_token}
+use Rattle.heyvl_print.proofs.TreePieces.{Reprints, printable_back, printable_front, r_blank, r_both, r_closed, r_made, r_one, r_token}
 use Rattle.heyvl_print.specs.Canonical.{expression_pieces, parens}
 use Rattle.heyvl_print.specs.Numbers.{number_text}
 use Rattle.heyvl_print.specs.Pieces.{Piece, blank, text_of, token, token_text}

@@ -1,7 +1,7 @@
 -- The canonical text of a file spells it again.
-use Rattle.heyvl_print.proofs.Lexing.{Sound, lexes_pieces, tokens_at}
+use Rattle.heyvl_print.proofs.LexedPieces.{Sound, lexes_pieces, tokens_at}
 use Rattle.heyvl_print.proofs.ProceduresAgain.{file_again}
-use Rattle.heyvl_print.proofs.Respelling.{kinds_of, token_kinds}
+use Rattle.heyvl_print.proofs.TreePieces.{kinds_of, token_kinds}
 use Rattle.heyvl_print.specs.Canonical.{file_lines}
 use Rattle.heyvl_print.specs.Laws.{LexedTokensArePrintable, PrintableFilesSpell, PrintedTextSpells}
 use Rattle.heyvl_print.specs.Pieces.{Piece, blank, line_feed, token, token_text}

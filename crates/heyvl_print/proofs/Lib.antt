@@ -1,12 +1,12 @@
 mod BlockTexts
 mod ExpressionTexts
 mod NumberTexts
-mod Lexing
+mod LexedPieces
 mod ExpressionsAgain
 mod LineTexts
 mod NumbersAgain
 mod ProcedureTexts
-mod Respelling
+mod TreePieces
 mod Rows
 mod Texts
 mod StatementsAgain

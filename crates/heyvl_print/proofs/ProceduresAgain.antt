@@ -1,6 +1,6 @@
 -- The pieces of procedures and files spell them again.
 use Rattle.heyvl_print.proofs.ExpressionsAgain.{again, in_parens, r_free, r_key, r_key_alone, r_word, r_word_alone}
-use Rattle.heyvl_print.proofs.Respelling.{Prints, Reprints, any, both, printable_back, printable_front, r_blank, r_both, r_feed, r_line, r_made, r_margin, r_one, r_token, remade}
+use Rattle.heyvl_print.proofs.TreePieces.{Prints, Reprints, any, both, printable_back, printable_front, r_blank, r_both, r_feed, r_line, r_made, r_margin, r_one, r_token, remade}
 use Rattle.heyvl_print.proofs.StatementsAgain.{block_again, list0_again, nothing, r_nothing}
 use Rattle.heyvl_print.specs.Canonical.{body_lines, file_lines, head_line, note_line, param_pieces, post_line, pre_line, procedure_lines}
 use Rattle.heyvl_print.specs.Pieces.{Piece, blank, each, feed, text_of, token}

@@ -1,6 +1,6 @@
 -- The pieces of right sides, rules and statements spell them again.
 use Rattle.heyvl_print.proofs.ExpressionsAgain.{again, in_parens, r_comma, r_free, r_key, r_key_alone, r_shut, r_word, r_word_alone}
-use Rattle.heyvl_print.proofs.Respelling.{Prints, Reprints, any, blank_then, both, ends_line, margin_then, printable_back, printable_front, r_blank, r_both, r_feed, r_line, r_made, r_margin, r_one, r_token, remade, token_kinds, token_then}
+use Rattle.heyvl_print.proofs.TreePieces.{Prints, Reprints, any, blank_then, both, ends_line, margin_then, printable_back, printable_front, r_blank, r_both, r_feed, r_line, r_made, r_margin, r_one, r_token, remade, token_kinds, token_then}
 use Rattle.heyvl_print.specs.Canonical.{block_lines, braced, else_if_pieces, else_pieces, expression_pieces, given_pieces, if_pieces, right_pieces, rule_line, rule_pieces, statement_lines, weighted_pieces}
 use Rattle.heyvl_print.specs.Pieces.{Piece, blank, comma, each, feed, separated, text_of, token, word}
 use Rattle.heyvl_print.specs.Printable.{ArePrintable}

@@ -2,12 +2,12 @@
 use Rattle.goal_answers.specs.declared.trees.GoalCert.{GoalCert}
 use Rattle.heyvl_acts.specs.PlainActs.{procedure_of, procedures_of}
 use Rattle.heyvl_acts.specs.Rules.{Each, MeetsAllRules}
-use Rattle.heyvl_acts.specs.declared.typed.Typed.{Typed}
+use Rattle.heyvl_acts.specs.declared.typed_trees.Typed.{Typed}
 use Rattle.heyvl_replies.proofs.SaidOfFiles.{one_checked_for_each}
 use Rattle.std.proofs.Common.{List, length, ◌<◌, ◌∙◌, ℕ}
 use Rattle.std.proofs.lemmas.List.{length-map}
 use Rattle.std.specs.Prelude.{◌^◌}
-use Rattle.verdict_report.specs.Placed.{CanReport, IsAnswerPlaced}
+use Rattle.verdict_report.specs.PlacedAnswers.{CanReport, IsAnswerPlaced}
 use Rattle.verdict_report.specs.declared.answers.Answer.{Answer}
 use Rattle.verify_core.specs.CheckedAnswers.{IsCheckedFile}
 

@@ -1,7 +1,7 @@
 mod SaidOfFiles
 mod FileLemmas
 mod ProgramReplies
-mod Reporting
+mod ReportNeeds
 mod CheckedReports
 mod RunStarts
 mod RefuteStarts

@@ -2,13 +2,13 @@
 use Rattle.heylo_formula.specs.Formula.{Form, Term}
 use Rattle.heylo_formula.specs.declared.types.Ty.{Ty}
 use Rattle.heyvl_num.specs.Exact.{exact_order, exact_product, exact_sum, order_fits, product_fits, sum_fits}
-use Rattle.heyvl_num.specs.Extended.{value_of}
+use Rattle.heyvl_num.specs.ExtendedNumbers.{value_of}
 use Rattle.heyvl_num.specs.Gcd.{gcd, gcd_steps}
 use Rattle.heyvl_num.specs.Rational.{Rational, compareʳ, halfʳ, leqʳ, oneʳ, ratio, zeroʳ, ◌*ʳ◌, ◌+ʳ◌, ◌-ʳ◌}
 use Rattle.heyvl_num.specs.Value.Value.{finite, infinite}
 use Rattle.heyvl_num.specs.Value.{Value, infinite_times, is_zeroʳ, leqᵛ, oneᵛ, zeroᵛ, ◌*ᵛ◌, ◌+ᵛ◌}
 use Rattle.heyvl_num.specs.WeightedSums.{joined, scaled}
-use Rattle.heyvl_num.specs.declared.extended.Ext.{Ext}
+use Rattle.heyvl_num.specs.declared.extended_numbers.Ext.{Ext}
 use Rattle.heyvl_places.specs.declared.spans.Span.{Span}
 use Rattle.heyvl_replies.specs.Messages.{Reply, message}
 use Rattle.heyvl_replies.specs.commands.Run.IsRunOf.{by_name, by_program, by_run, by_script}
@@ -20,7 +20,7 @@ use Rattle.heyvl_acts.specs.Acts.{Act, Acts, TypedProcedure, procedure_at}
 use Rattle.heyvl_acts.specs.Program.Reaches.{directly, onward}
 use Rattle.heyvl_acts.specs.Program.{Calls, IsProgram, Reaches}
 use Rattle.run_machine.specs.ConfigConditions.{ReachesPrograms}
-use Rattle.run_script.proofs.exported.PlainReading.{read_right}
+use Rattle.run_script.proofs.exported.PlainReader.{read_right}
 use Rattle.run_script.proofs.exported.UniqueScripts.{faults_are_unique, scripts_have_no_fault}
 use Rattle.run_script.specs.Scripts.{IsFirstFault, Known, Script, Spells}
 use Rattle.run_script.specs.Texts.{sums_text}

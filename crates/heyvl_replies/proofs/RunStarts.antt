@@ -16,10 +16,10 @@ use Rattle.heyvl_acts.specs.Acts.{TypedProcedure, Variable, procedure_at, type_l
 use Rattle.heyvl_acts.specs.Program.{IsProgram, why_no_program}
 use Rattle.heyvl_acts.specs.PlainActs.{procedure_of, variable_of}
 use Rattle.heyvl_acts.specs.Rules.{Each, GrowBelow, IsCounted}
-use Rattle.heyvl_acts.specs.declared.typed.TProc.{TProc}
-use Rattle.heyvl_acts.specs.declared.typed.VarInfo.{VarInfo}
+use Rattle.heyvl_acts.specs.declared.typed_trees.TProc.{TProc}
+use Rattle.heyvl_acts.specs.declared.typed_trees.VarInfo.{VarInfo}
 use Rattle.heyvl_acts.specs.Visible.{among}
-use Rattle.proc_contracts.specs.Reached.{AreReached}
+use Rattle.proc_contracts.specs.ReachedProcedures.{AreReached}
 use Rattle.run_machine.specs.Bound.{IsState}
 use Rattle.run_machine.specs.ConfigConditions.{IsConfig, ReachesPrograms}
 use Rattle.run_machine.specs.Names.{Stored}

@@ -36,10 +36,10 @@ use Rattle.std.proofs.Common.{Bool, List, None, Option, Some, [], ap, arith, fal
 use Rattle.std.specs.List.{list_any}
 use Rattle.std.specs.Prelude.{if◌then◌else◌}
 use Rattle.verdict_report.specs.declared.answers.Answer.{Answer}
-use Rattle.verify_core.specs.Answered.{AreAnswers}
-use Rattle.verify_core.specs.Checked.{CheckedGoal}
+use Rattle.verify_core.specs.AnsweredProcedures.{AreAnswers}
+use Rattle.verify_core.specs.CertifiedGoals.{CheckedGoal}
 use Rattle.verify_core.specs.CheckedAnswers.{AreCheckedAnswers}
-use Rattle.verify_core.specs.Decided.{DecidedGoal}
+use Rattle.verify_core.specs.GoalDecisions.{DecidedGoal}
 
 -- ---- Files
 

@@ -3,8 +3,8 @@
 
 pub mod commands;
 mod faults;
+mod procedure_commands;
 mod responses;
-mod running;
 mod statuses;
 
 pub use faults::Fault;

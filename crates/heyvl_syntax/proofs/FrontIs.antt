@@ -1,5 +1,5 @@
 -- What is computed at the front of bytes is what stands there.
-use Rattle.heyvl_syntax.proofs.Closing.{closes_first, never_closes}
+use Rattle.heyvl_syntax.proofs.CommentEnds.{closes_first, never_closes}
 use Rattle.heyvl_syntax.proofs.Longest.{digit_number, mark_token, number-le, number_len-le, number_read, same_first, starts, word_le}
 use Rattle.heyvl_syntax.proofs.Runs.{and_left, not_true, run_passes, word_run_ends, word_run_stops}
 use Rattle.heyvl_syntax.proofs.Starts.{BeginsBy, digit_opens_no_word, opens_word, token_begins, word_no_white}

@@ -1,5 +1,5 @@
 mod Beginnings
-mod Closing
+mod CommentEnds
 mod Digits
 mod ExpressionRows
 mod FaultPlaces

@@ -3,8 +3,8 @@ use Rattle.heyvl_io.proofs.exported.Histories.{length-since_start}
 use Rattle.heyvl_io.specs.Faults.{Rose}
 use Rattle.heyvl_io.specs.History.{History, IsTaken, since_start}
 use Rattle.heyvl_io.specs.Order.{order_after}
-use Rattle.heyvl_io.specs.declared.reading.ReadStop.TheVariants as stops
-use Rattle.heyvl_io.specs.declared.reading.ReadStop.{ReadStop}
+use Rattle.heyvl_io.specs.declared.reader.ReadStop.TheVariants as stops
+use Rattle.heyvl_io.specs.declared.reader.ReadStop.{ReadStop}
 use Rattle.heyvl_tool.specs.Calls.IsReadReply.{by_bytes, by_length, by_source}
 use Rattle.heyvl_files.specs.Sources.{file_limit}
 use Rattle.heyvl_tool.specs.Calls.{AreRead, Call, IsFilesReply, IsLong, IsRead, IsReadReply, IsSaid, Moment, Names, file_too_long, read_fault}

@@ -1,6 +1,6 @@
 //! The top call.
 
-ghost use Rattle.heyvl_io.specs.declared.reading.ReadStop.{ReadStop};
+ghost use Rattle.heyvl_io.specs.declared.reader.ReadStop.{ReadStop};
 ghost use Rattle.heyvl_files.specs.Sources.{file_limit};
 ghost use Rattle.heyvl_tool.specs.Calls.{IsFilesReply, IsReadReply, IsSaid};
 ghost use Rattle.heyvl_tool.specs.GuardedPrograms.{ProgramsAreMeant};

@@ -11,7 +11,7 @@ mod ExampleTexts
 mod FaultExamples
 pub mod ScopeEntries
 pub mod LiteralFractions
-pub mod Reading
+pub mod PartAnswers
 pub mod TypedMeanings
 pub mod resolved
 pub mod Coprime
@@ -19,11 +19,11 @@ pub mod CallEntries
 pub mod IntegerParts
 mod Rests
 mod Walks
-mod LastPassing
+mod LastElement
 mod ReadRests
 mod RightRules
 mod FlipRules
-mod Nested
+mod NestedStatements
 pub mod WeightSums
-mod Declaring
+mod NewNames
 mod Havocs

@@ -1,6 +1,6 @@
 -- How what is found against parts makes up what is found against the whole.
 use Rattle.heyvl_types.specs.Answers.{Gives}
-use Rattle.heyvl_types.specs.internal.Lookings.{Tells}
+use Rattle.heyvl_types.specs.internal.Looks.{Tells}
 use Rattle.heyvl_types.specs.Findings.{Finding, first}
 use Rattle.heyvl_types.specs.declared.stops.ResolveStop.{ResolveStop}
 use Rattle.std.proofs.Common.{Err, List, Some, [], ap, refl, subst, sym, ◌++◌, ◌∙◌, ◌≡◌, ◌∷◌}

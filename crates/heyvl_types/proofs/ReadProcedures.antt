@@ -6,7 +6,7 @@ use Rattle.heyvl_types.proofs.Parts.{behind, stops, stops_at, tells_stop}
 use Rattle.heyvl_types.proofs.ProcedureParts.{regroup, the_inputs, the_locals, the_outputs}
 use Rattle.heyvl_acts.specs.Acts.{Acts, Variable}
 use Rattle.heyvl_types.specs.Answers.{Gives}
-use Rattle.heyvl_types.specs.internal.Lookings.{Tells}
+use Rattle.heyvl_types.specs.internal.Looks.{Tells}
 use Rattle.heyvl_types.specs.Files.{arity, body_acts, body_findings, clause, first_quantified, front_of, has_quantified_post, head_scope, input_scope, is_too_large, is_wlp, loops_of_body, parameters_findings, post_forms, posts_findings, pre_forms, pres_findings, procedure_findings, setting, typed}
 use Rattle.heyvl_types.specs.Findings.{Finding, at}
 use Rattle.heyvl_acts.specs.PlainActs.{procedure_of, variable_of}
@@ -16,8 +16,8 @@ use Rattle.heyvl_types.specs.Signatures.{Called}
 use Rattle.heyvl_types.specs.Variables.{declared, fronts_variables, locals_of_body, parameters}
 use Rattle.heyvl_types.specs.declared.settings.Setting.{Setting}
 use Rattle.heyvl_types.specs.declared.stops.ResolveStop.{ResolveStop}
-use Rattle.heyvl_acts.specs.declared.typed.TProc.{TProc}
-use Rattle.heyvl_acts.specs.declared.typed.VarInfo.{VarInfo}
+use Rattle.heyvl_acts.specs.declared.typed_trees.TProc.{TProc}
+use Rattle.heyvl_acts.specs.declared.typed_trees.VarInfo.{VarInfo}
 use Rattle.heyvl_types.specs.internal.ProcedureParts.{is_larger, with_parts}
 use Rattle.std.proofs.Common.{Bool, Err, List, [], ap, append_assoc, arith, drop, false, length, length-append, map, sym, take, true, ◌+◌, ◌++◌, ◌∙◌, ◌≡◌, ◌≤◌, ◌∷◌, ℕ}
 use Rattle.std.proofs.lemmas.List.{length-map}

@@ -4,7 +4,7 @@ use Rattle.heylo_formula.specs.declared.forms.Cond as C
 use Rattle.heyvl_acts.specs.Acts.{Acts}
 use Rattle.heyvl_acts.specs.PlainActs.{acts_of, arm_of, armed, variable_of}
 use Rattle.heyvl_acts.specs.declared.acts.Act as A
-use Rattle.heyvl_acts.specs.declared.typed.VarInfo.{VarInfo}
+use Rattle.heyvl_acts.specs.declared.typed_trees.VarInfo.{VarInfo}
 use Rattle.heyvl_syntax.proofs.exported.PlainTreesAre.{plain_statements}
 use Rattle.heyvl_syntax.specs.Expressions.{expression}
 use Rattle.heyvl_syntax.specs.Statements as text

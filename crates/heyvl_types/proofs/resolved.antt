@@ -1,7 +1,7 @@
 pub mod Findings
 pub mod InOrder
 pub mod Nodes
-pub mod Spreading
+pub mod PartTests
 pub mod Quantifiers
 pub mod Free
 pub mod Locals
@@ -29,5 +29,5 @@ pub mod Bodies
 pub mod Sizes
 pub mod SmallActs
 pub mod SmallForms
-pub mod Armed
+pub mod ArmedTrees
 pub mod NamedPosts

@@ -5,10 +5,10 @@ pub use Rattle.heyvl_acts.specs.Matching
 pub use Rattle.heyvl_acts.specs.Places
 pub use Rattle.heyvl_acts.specs.Length
 pub use Rattle.heyvl_acts.specs.Visible
-pub use Rattle.heyvl_acts.specs.Modified
+pub use Rattle.heyvl_acts.specs.ModifiedVariables
 pub use Rattle.heyvl_acts.specs.Count
 pub use Rattle.heyvl_acts.specs.Program
-pub use Rattle.heyvl_acts.specs.WellTyped
+pub use Rattle.heyvl_acts.specs.WellTypedActs
 pub use Rattle.heyvl_acts.specs.Rules
 pub use Rattle.heyvl_acts.specs.Tosses
 pub mod Findings
@@ -24,7 +24,7 @@ pub mod StatementRules
 pub mod StatementActs
 pub mod Files
 pub mod Answers
-pub mod Armed
+pub mod ArmedFiles
 pub mod ExpressionLaws
 pub mod ResolvedLaws
 pub mod ResolvedSizes

@@ -5,4 +5,4 @@ pub mod LoopHeads
 pub mod RightSideRules
 pub mod ProcedureParts
 pub mod Views
-pub mod Lookings
+pub mod Looks

@@ -4,7 +4,7 @@ ghost use Rattle.heyvl_num.specs.Rational.{leqʳ, oneʳ, zeroʳ, ◌+ʳ◌};
 ghost use Rattle.heyvl_syntax.specs.Expressions.{expression};
 ghost use Rattle.heyvl_syntax.specs.Statements.{choices};
 ghost use Rattle.heyvl_types.specs.Answers.{Gives};
-ghost use Rattle.heyvl_types.specs.internal.Lookings.{Tells};
+ghost use Rattle.heyvl_types.specs.internal.Looks.{Tells};
 ghost use Rattle.heyvl_types.specs.Literals.{is_over_zero, is_too_wide, is_usable, sums_wrong, weigh_wrong};
 ghost use Rattle.heyvl_types.specs.RightSides.{choices_findings, weight_findings, weights};
 ghost use Rattle.heyvl_types.specs.StatementActs.{choose_parts};

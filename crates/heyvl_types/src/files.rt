@@ -4,7 +4,7 @@ ghost use Rattle.heyvl_acts.specs.PlainActs.{procedure_of, procedures_of};
 ghost use Rattle.heyvl_acts.specs.Rules.{Each, IsCounted, MeetsAllRules};
 ghost use Rattle.heyvl_syntax.specs.Procedures.{procedure, procedures};
 ghost use Rattle.heyvl_types.specs.Answers.{Gives};
-ghost use Rattle.heyvl_types.specs.Armed.{HasArms};
+ghost use Rattle.heyvl_types.specs.ArmedFiles.{HasArms};
 ghost use Rattle.heyvl_types.specs.Files.{file_findings, procedures_findings, resolved, typed};
 ghost use Rattle.heyvl_types.specs.Signatures.{find_call};
 ghost use Rattle.heyvl_types.specs.internal.Earlier.{is_before};
@@ -12,7 +12,7 @@ ghost use Rattle.std.specs.Prelude.{◌≡◌, ◌≤◌, IfOk, length};
 
 use crate::calls::{Calls, calls_of};
 use crate::procedures::read_procedure;
-use crate::resolving_laws::resolved_trees_meet_the_rules;
+use crate::resolution_laws::resolved_trees_meet_the_rules;
 use crate::stops::ResolveStop;
 use heyvl_acts::Typed;
 use heyvl_places::Name;

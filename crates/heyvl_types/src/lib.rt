@@ -24,7 +24,7 @@ mod operators;
 mod parameters;
 mod procedures;
 mod quantifiers;
-mod resolving_laws;
+mod resolution_laws;
 mod right_sides;
 mod rules;
 mod scopes;
@@ -41,5 +41,5 @@ pub use heyvl_acts::{
     Act, LoopAct, TProc, Typed, VarInfo, act_at, forward_meaning_matches_runs, is_target,
 };
 pub use laws::{expressions_are_typed, resolved_files_meet_the_rules, resolved_forms_are_small};
-pub use resolving_laws::{resolved_trees_meet_the_rules, resolving_is_unique};
+pub use resolution_laws::{resolved_trees_meet_the_rules, resolving_is_unique};
 pub use stops::ResolveStop;

@@ -6,7 +6,7 @@ ghost use Rattle.heyvl_num.specs.Value.Value.{infinite};
 ghost use Rattle.heyvl_syntax.specs.Statements.{LoopRule, loop_rule, loop_rules};
 ghost use Rattle.heyvl_acts.specs.Acts.{Act as Plain};
 ghost use Rattle.heyvl_types.specs.Answers.{Gives};
-ghost use Rattle.heyvl_types.specs.internal.Lookings.{Tells};
+ghost use Rattle.heyvl_types.specs.internal.Looks.{Tells};
 ghost use Rattle.heyvl_types.specs.internal.Views.{acts_view, meaning_of, read};
 ghost use Rattle.heyvl_types.specs.Findings.{at};
 ghost use Rattle.heyvl_types.specs.LoopRules.{copies_wrong, count_of_rankings, formula, is_ranking, rule_findings, rules_findings, rules_wrong, step_wrong, steps_over_zero};

@@ -1,7 +1,7 @@
 //! Parameters: the variables that a procedure's head declares.
 
 ghost use Rattle.heyvl_types.specs.Answers.{Gives};
-ghost use Rattle.heyvl_types.specs.internal.Lookings.{Tells};
+ghost use Rattle.heyvl_types.specs.internal.Looks.{Tells};
 ghost use Rattle.heyvl_types.specs.Files.{parameters_findings};
 ghost use Rattle.heyvl_types.specs.Findings.{at};
 ghost use Rattle.heyvl_acts.specs.PlainActs.{variable_of};

@@ -5,7 +5,7 @@ ghost use Rattle.heyvl_syntax.specs.Expressions.{expressions};
 ghost use Rattle.heyvl_syntax.specs.Procedures.{optional_block, procedure};
 ghost use Rattle.heyvl_acts.specs.Acts.{acts_in};
 ghost use Rattle.heyvl_types.specs.Answers.{Gives};
-ghost use Rattle.heyvl_types.specs.internal.Lookings.{Tells};
+ghost use Rattle.heyvl_types.specs.internal.Looks.{Tells};
 ghost use Rattle.heyvl_acts.specs.Count.{count_of};
 ghost use Rattle.heyvl_types.specs.Files.{arity, body_acts, body_findings, clause, front_of, head_scope, input_scope, is_wlp, loops_of_body, parameters_findings, post_forms, posts_findings, pre_forms, pres_findings, procedure_findings, typed};
 ghost use Rattle.heyvl_types.specs.Findings.{at};

@@ -1,6 +1,6 @@
 //! The rules of a node.
 
-ghost use Rattle.heyvl_types.specs.internal.Lookings.{Tells};
+ghost use Rattle.heyvl_types.specs.internal.Looks.{Tells};
 ghost use Rattle.heyvl_types.specs.Findings.{at};
 
 use crate::stops::ResolveStop;

@@ -1,7 +1,7 @@
 pub mod PickLaws
 pub mod Middles
 pub mod Pasts
-pub mod Bounded
+pub mod BoundedFractions
 mod Wholes
 mod Inside
 pub mod exported

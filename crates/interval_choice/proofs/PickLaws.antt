@@ -21,10 +21,10 @@ use Rattle.interval_choice.specs.Sides.{IsWithin, IsPast}
 use Rattle.interval_choice.specs.Picks.{sided, across, between, IsNearer, IsNextWhole, IsPicked, narrow_pick, broken_pick, past_place}
 use Rattle.interval_choice.specs.declared.sides.Side.{Side}
 use Rattle.interval_choice.specs.declared.sides.Side.TheVariants.{Low, High}
-use Rattle.interval_choice.specs.declared.picking.Pick.{Pick}
-use Rattle.interval_choice.specs.declared.picking.Pick.TheVariants.{Value, Great}
+use Rattle.interval_choice.specs.declared.picks.Pick.{Pick}
+use Rattle.interval_choice.specs.declared.picks.Pick.TheVariants.{Value, Great}
 use Rattle.interval_choice.proofs.Wholes.{less_from, whole-zero, whole-one}
-use Rattle.interval_choice.proofs.Bounded.{<ʳ-≤ʳ-trans, ≤ʳ-<ʳ-trans, up_from_weak, up_to_weak, up_from_strong, up_to_strong}
+use Rattle.interval_choice.proofs.BoundedFractions.{<ʳ-≤ʳ-trans, ≤ʳ-<ʳ-trans, up_from_weak, up_to_weak, up_from_strong, up_to_strong}
 use Rattle.interval_choice.proofs.Inside.{inside_past}
 use Rattle.interval_choice.proofs.Middles.{whole_mono, whole_mono_out, floor_small, ceil_small}
 use Rattle.interval_choice.proofs.Pasts.{zero_fits}

@@ -1,4 +1,4 @@
-pub mod Bounded
+pub mod BoundedFractions
 pub mod Inside
 pub mod Pasts
 pub mod Wholes

@@ -8,8 +8,8 @@ use Rattle.linear_rows.specs.GreedyPoint.{End, Interval, IsInside, IsChoice, IsB
 use Rattle.interval_choice.specs.Sides.{IsWithin}
 use Rattle.interval_choice.specs.declared.sides.Side.{Side}
 use Rattle.interval_choice.specs.declared.sides.Side.TheVariants.{Low, High}
-use Rattle.interval_choice.specs.declared.picking.Pick.{Pick}
-use Rattle.interval_choice.specs.declared.picking.Pick.TheVariants.{Value, Breaks, Great}
+use Rattle.interval_choice.specs.declared.picks.Pick.{Pick}
+use Rattle.interval_choice.specs.declared.picks.Pick.TheVariants.{Value, Breaks, Great}
 
 -- The interval with these ends, where the first is on this side.
 abbrev pub between : Side → Option End → Option End → Interval

@@ -2,9 +2,9 @@
 #![tactic(auto)]
 
 mod fractions;
-mod picking;
+mod picks;
 mod sides;
 
 pub use fractions::{fits, order, whole_of};
-pub use picking::{Pick, taken_between};
+pub use picks::{Pick, taken_between};
 pub use sides::{End, Side};

@@ -3,7 +3,7 @@ use Rattle.std.proofs.Common.{◌≡◌, ℕ, [], ◌∷◌, refl, false}
 use Rattle.std.specs.Prelude.{ℤ, pos, negsuc}
 use Rattle.linear_rows.specs.Terms.{add_term, add_terms}
 use Rattle.linear_rows.specs.Row.{Row}
-use Rattle.linear_dominance.specs.Dominated.{are_increases, undominated}
+use Rattle.linear_dominance.specs.DominatedRows.{are_increases, undominated}
 
 -- `k*x + a*y + b*z <= 0` over the variables 0, 1 and 2
 abbrev row : ℤ → ℤ → ℤ → Row

@@ -1,5 +1,5 @@
-mod Walking
-mod Telling
+mod DifferenceWalk
+mod LeftRows
 mod Signless
 mod Examples
 pub mod exported

@@ -5,7 +5,7 @@ use Rattle.std.specs.Int.Signed.{lt_z}
 use Rattle.std.specs.List.{list_any}
 use Rattle.linear_rows.specs.Terms.{is_in}
 use Rattle.linear_rows.specs.Row.{Row}
-use Rattle.linear_dominance.specs.Dominated.{is_sign_row, signed_variables, less, are_increases, is_increase, dominates, is_dominated}
+use Rattle.linear_dominance.specs.DominatedRows.{is_sign_row, signed_variables, less, are_increases, is_increase, dominates, is_dominated}
 
 none_greater : (ts : List (ℕ × ℤ)) → is_increase [] ts ≡ false
 unfolding are_increases

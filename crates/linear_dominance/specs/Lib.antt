@@ -1,3 +1,3 @@
-pub mod Dominated
+pub mod DominatedRows
 pub mod Laws
 pub mod internal

@@ -4,7 +4,7 @@ ghost use Rattle.std.specs.Prelude.{◌≡◌, ◌<◌, ◌≤◌, ◌+◌, ◌^
 ghost use Rattle.std.specs.List.{All};
 ghost use Rattle.linear_rows.specs.Terms.{IsNormal, is_in};
 ghost use Rattle.linear_rows.specs.Row.{IsRow};
-ghost use Rattle.linear_dominance.specs.Dominated.{less, is_increase, dominates};
+ghost use Rattle.linear_dominance.specs.DominatedRows.{less, is_increase, dominates};
 ghost use Rattle.linear_dominance.specs.internal.NextLess.{IsNextLess};
 
 use linear_rows::Row;

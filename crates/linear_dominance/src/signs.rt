@@ -1,7 +1,7 @@
 //! Rows by which a variable isn't negative.
 
 ghost use Rattle.std.specs.Prelude.{◌≡◌, cond, Some, None};
-ghost use Rattle.linear_dominance.specs.Dominated.{first_variable, is_sign_row};
+ghost use Rattle.linear_dominance.specs.DominatedRows.{first_variable, is_sign_row};
 
 use linear_rows::Row;
 

@@ -25,8 +25,8 @@ use Rattle.linear_elim.specs.Answers.{IsBreak}
 use Rattle.linear_elim.specs.internal.Eliminations.{IsEliminated}
 use Rattle.goal_answers.specs.declared.causes.Broken.{Broken}
 use Rattle.interval_choice.specs.declared.sides.Side.TheVariants.{Low, High}
-use Rattle.interval_choice.specs.declared.picking.Pick.{Pick}
-use Rattle.interval_choice.specs.declared.picking.Pick.TheVariants.{Value, Breaks, Great}
+use Rattle.interval_choice.specs.declared.picks.Pick.{Pick}
+use Rattle.interval_choice.specs.declared.picks.Pick.TheVariants.{Value, Breaks, Great}
 use Rattle.linear_elim.proofs.Solutions.{all_append-left, all_append-right}
 use Rattle.linear_elim.proofs.EndRuns.{take_item}
 use Rattle.linear_elim.proofs.Greedily.{IsSofar, solved, goes_on, breaks_here, ordered_here, great_here}

@@ -16,10 +16,10 @@ use Rattle.linear_elim.specs.Steps.{is_stronger, put_row, has_terms, joins, pair
 use Rattle.linear_elim.specs.Elimination.{Step}
 use Rattle.linear_elim.specs.declared.tables.Name.{Name}
 use Rattle.linear_elim.specs.declared.tables.Table.{Table}
-use Rattle.linear_elim.specs.internal.Counting.{put_terms, puts, all_terms, terms_of, AreDifferent, no_row, nth, join_at, terms_at, home, print_of, no_name, print_at, name_at, IsSplit, IsNumberOf, IsFull, IsAt, AreAt, IsTable, IsOther, IsFree, IsTaken, IsCounting, Puts, Lacks, Counts}
+use Rattle.linear_elim.specs.internal.CountedRows.{put_terms, puts, all_terms, terms_of, AreDifferent, no_row, nth, join_at, terms_at, home, print_of, no_name, print_at, name_at, IsSplit, IsNumberOf, IsFull, IsAt, AreAt, IsTable, IsOther, IsFree, IsTaken, IsCounting, Puts, Lacks, Counts}
 use Rattle.linear_elim.specs.internal.DerivedRows.{IsDerived}
 use Rattle.linear_elim.specs.internal.Fingerprints.{hashed_all, fingerprint}
-use Rattle.linear_elim.specs.internal.Gathering.{found_after, rows_after, rows_all}
+use Rattle.linear_elim.specs.internal.GatheredRows.{found_after, rows_after, rows_all}
 use Rattle.linear_elim.specs.internal.Signless.{sign_terms, AreSignless}
 use Rattle.linear_elim.proofs.Solutions.{all_map-out}
 use Rattle.linear_rows.proofs.exported.SameTerms.{same_terms-is}

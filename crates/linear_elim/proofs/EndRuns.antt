@@ -20,9 +20,9 @@ use Rattle.interval_choice.specs.Sides.{IsWithin}
 use Rattle.linear_elim.specs.internal.ChoiceSteps.{bounded, narrow_end, IsTightest}
 use Rattle.interval_choice.specs.declared.sides.Side.{Side}
 use Rattle.interval_choice.specs.declared.sides.Side.TheVariants.{Low, High}
-use Rattle.linear_elim.proofs.Joining.{rest_item}
+use Rattle.linear_elim.proofs.JoinSequences.{rest_item}
 use Rattle.linear_elim.proofs.Solutions.{all_append-left, all_append-right}
-use Rattle.interval_choice.proofs.exported.Bounded.{ranks_less, ranks_equal, ranks_greater, stronger_low, stronger_high, low_same, high_same}
+use Rattle.interval_choice.proofs.exported.BoundedFractions.{ranks_less, ranks_equal, ranks_greater, stronger_low, stronger_high, low_same, high_same}
 
 same_var : (n : ℕ) → eqb n n ≡ true
 same_var n = grind arith

@@ -3,7 +3,7 @@ use Rattle.std.proofs.Common.{◌≡◌, [], ◌∷◌, refl, true, false}
 use Rattle.std.specs.Prelude.{pos, negsuc}
 use Rattle.heyvl_num.specs.Gcd.{gcd, gcd_steps}
 use Rattle.linear_rows.specs.Terms.{coefficient, add_term, add_terms}
-use Rattle.linear_rows.specs.Merging.{are_wide, are_narrow}
+use Rattle.linear_rows.specs.TermResults.{are_wide, are_narrow}
 use Rattle.linear_rows.specs.Divisors.{common}
 use Rattle.linear_elim.specs.Joins.{mixed_row, lowest, join}
 use Rattle.linear_elim.specs.Steps.{put_row, strongest, contradiction, pairs, fits_each, pairs_fit}

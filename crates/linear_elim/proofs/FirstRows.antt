@@ -14,14 +14,14 @@ use Rattle.linear_elim.specs.internal.DerivedRows.{IsDerived}
 use Rattle.linear_elim.specs.Steps.{tidied, contradiction}
 use Rattle.linear_elim.specs.Elimination.{Step, Gathered, Rule, tidied_by, run, own, start, elimination}
 use Rattle.linear_elim.specs.Elimination.Rule.{keeps}
-use Rattle.linear_elim.specs.internal.Gathering.{after_all, found_after, rows_after, found_all, rows_all}
+use Rattle.linear_elim.specs.internal.GatheredRows.{after_all, found_after, rows_after, found_all, rows_all}
 use Rattle.linear_elim.specs.internal.Outcomes.{outcome_of, Decided}
 use Rattle.linear_elim.specs.declared.elimination.Outcome.{Outcome}
 use Rattle.linear_elim.specs.declared.elimination.Outcome.TheVariants.{Refuted, Standing, TooMany, TooGreat}
-use Rattle.linear_elim.proofs.Joining.{found_none, rows_none, rest_end}
-use Rattle.linear_elim.proofs.Deciding.{complete, refuted-follows, start-all}
+use Rattle.linear_elim.proofs.JoinSequences.{found_none, rows_none, rest_end}
+use Rattle.linear_elim.proofs.Solvability.{complete, refuted-follows, start-all}
 use Rattle.linear_elim.proofs.Certificates.{refuted_unmet}
-use Rattle.linear_elim.proofs.Ruling.{ruled-all}
+use Rattle.linear_elim.proofs.RuledRows.{ruled-all}
 
 next : (n : ℕ) → suc n ≡ n + 1
 next n = omega arith

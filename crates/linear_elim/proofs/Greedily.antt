@@ -36,13 +36,13 @@ use Rattle.linear_elim.specs.internal.Picks.IsNextPick.{great_end, between_ends}
 use Rattle.linear_elim.specs.Answers.{MeetsAll, AreNarrow}
 use Rattle.linear_elim.specs.internal.Eliminations.{IsEliminated}
 use Rattle.interval_choice.specs.declared.sides.Side.TheVariants.{Low, High}
-use Rattle.interval_choice.specs.declared.picking.Pick.{Pick}
-use Rattle.interval_choice.specs.declared.picking.Pick.TheVariants.{Value, Breaks, Great}
-use Rattle.linear_elim.proofs.Deciding.{complete, start-all}
-use Rattle.interval_choice.proofs.exported.Bounded.{up_from_weak, up_to_weak}
+use Rattle.interval_choice.specs.declared.picks.Pick.{Pick}
+use Rattle.interval_choice.specs.declared.picks.Pick.TheVariants.{Value, Breaks, Great}
+use Rattle.linear_elim.proofs.Solvability.{complete, start-all}
+use Rattle.interval_choice.proofs.exported.BoundedFractions.{up_from_weak, up_to_weak}
 use Rattle.interval_choice.proofs.exported.Pasts.{zero_fits}
 use Rattle.linear_elim.proofs.Shapes.{Good}
-use Rattle.linear_elim.proofs.Reaching.{Stands, run_stands, vars_of, stands_vars, NoneTwice, Reached, reached, bare_start}
+use Rattle.linear_elim.proofs.Completions.{Stands, run_stands, vars_of, stands_vars, NoneTwice, Reached, reached, bare_start}
 use Rattle.linear_elim.proofs.Intervals.{meets_same, agrees_on, AreFor, vars_in, with_value, some_value, interval_is}
 
 -- ---- The order of variables

@@ -22,9 +22,9 @@ use Rattle.linear_elim.specs.internal.ChoiceSteps.{bounded, narrow_end, IsTighte
 use Rattle.interval_choice.specs.declared.sides.Side.TheVariants.{Low, High}
 use Rattle.linear_elim.proofs.Solutions.{by_sign, all_append-left}
 use Rattle.linear_elim.proofs.Shapes.{Good, step-good}
-use Rattle.linear_elim.proofs.Ruling.{ruled-all}
-use Rattle.linear_elim.proofs.Projecting.{Met, in_more, met_tidied, met_bare, bare_met}
-use Rattle.linear_elim.proofs.Reaching.{apart, Reached}
+use Rattle.linear_elim.proofs.RuledRows.{ruled-all}
+use Rattle.linear_elim.proofs.Projections.{Met, in_more, met_tidied, met_bare, bare_met}
+use Rattle.linear_elim.proofs.Completions.{apart, Reached}
 use Rattle.linear_elim.proofs.EndPlaces.{placed, lower_end, upper_end}
 use Rattle.linear_elim.proofs.EndRuns.{IsPastRow}
 use Rattle.interval_choice.proofs.exported.Inside.{inside_past}

@@ -9,10 +9,10 @@ use Prim.Native.Nat.{zero, suc, ◌∣◌}
 use Rattle.heyvl_num.specs.Gcd.{gcd}
 use Rattle.heyvl_num.specs.GcdLaws.{gcd-is, gcd-mod, gcd-zero}
 use Rattle.linear_rows.specs.Divisors.{common, or_one, divisor, divided_terms}
-use Rattle.linear_rows.specs.Merging.{mixed_terms}
+use Rattle.linear_rows.specs.TermResults.{mixed_terms}
 use Rattle.linear_rows.specs.Terms.{put_term}
 use Rattle.linear_elim.specs.internal.Fingerprints.{hashed, hashed_all}
-use Rattle.linear_elim.proofs.Mixed.{put_append, put_nonzero, drop_end, mixed-none}
+use Rattle.linear_elim.proofs.MixedTerms.{put_append, put_nonzero, drop_end, mixed-none}
 
 -- ---- Divisors
 

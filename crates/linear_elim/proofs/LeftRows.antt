@@ -4,11 +4,11 @@ use Rattle.std.specs.Prelude.{Option, Some, None, is_some}
 use Prim.Native.Nat.{suc}
 use Rattle.std.specs.List.{filter, list_any}
 use Rattle.std.proofs.lemmas.List.{get_or-map}
-use Rattle.linear_dominance.specs.Dominated.{first_variable, is_sign_row, signed_variables, dominates, is_dominated}
+use Rattle.linear_dominance.specs.DominatedRows.{first_variable, is_sign_row, signed_variables, dominates, is_dominated}
 use Rattle.linear_elim.specs.Joins.{Derived}
 use Rattle.linear_elim.specs.Steps.{bare}
-use Rattle.linear_elim.proofs.Joining.{rest_end}
-use Rattle.linear_elim.proofs.Splitting.{filter_yes, filter_no}
+use Rattle.linear_elim.proofs.JoinSequences.{rest_end}
+use Rattle.linear_elim.proofs.RowSplits.{filter_yes, filter_no}
 
 -- ---- Sign rows
 

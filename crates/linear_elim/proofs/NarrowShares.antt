@@ -5,7 +5,7 @@ use Prim.Native.Nat.{suc}
 use Rattle.std.specs.List.{All}
 use Rattle.std.proofs.lemmas.List.Elements.{All-nil, All-cons, All-append, All-filter}
 use Rattle.linear_rows.specs.Terms.{is_narrow}
-use Rattle.linear_rows.specs.Merging.{are_narrow}
+use Rattle.linear_rows.specs.TermResults.{are_narrow}
 use Rattle.linear_rows.specs.Row.{Row}
 use Rattle.linear_elim.specs.Joins.{Derived, join, join_fits, derived_fits, row_fits}
 use Rattle.linear_elim.specs.Steps.{lowers, uppers, kept, pairs, fits_each, pairs_fit, step_fits, eliminate_one}
@@ -13,8 +13,8 @@ use Rattle.linear_elim.specs.Elimination.{Rule, own, start, elimination_by}
 use Rattle.linear_elim.specs.Elimination.Outcome.{refuted}
 use Rattle.linear_elim.proofs.Solutions.{pairs-all}
 use Rattle.linear_rows.proofs.exported.SameTerms.{and_true}
-use Rattle.linear_elim.proofs.Keeping.{narrow_all_out}
-use Rattle.linear_elim.proofs.Deciding.{refuted-all}
+use Rattle.linear_elim.proofs.KeptRows.{narrow_all_out}
+use Rattle.linear_elim.proofs.Solvability.{refuted-all}
 
 abbrev pub AreNarrowShares : Derived → Type 0
 AreNarrowShares r = All (λ s. unsigned_abs s.1 < 2 ^ 62) r.shares

@@ -9,7 +9,7 @@ use Rattle.std.specs.List.{All}
 use Rattle.std.proofs.lemmas.List.Elements.{All-head, All-tail}
 use Rattle.std.proofs.lemmas.Bool.Decides.{nat_tests}
 use Rattle.linear_rows.specs.Terms.{is_wide}
-use Rattle.linear_rows.specs.Merging.{mixed_terms, are_wide}
+use Rattle.linear_rows.specs.TermResults.{mixed_terms, are_wide}
 use Rattle.linear_rows.specs.Divisors.{divisor}
 use Rattle.linear_elim.specs.Joins.{Derived, size, lowest, mixed_row, join, joined_over}
 use Rattle.linear_elim.specs.internal.DerivedRows.{derived_parts, parts_fit}

@@ -11,7 +11,7 @@ use Rattle.linear_rows.specs.Terms.{is_in, IsOver}
 use Rattle.linear_rows.specs.Row.{Row}
 use Rattle.linear_rows.specs.SameTerms.{same_terms}
 use Rattle.linear_rows.proofs.exported.Between.{All-both}
-use Rattle.linear_dominance.specs.Dominated.{first_variable, is_sign_row, signed_variables, is_dominated}
+use Rattle.linear_dominance.specs.DominatedRows.{first_variable, is_sign_row, signed_variables, is_dominated}
 use Rattle.linear_dominance.proofs.exported.Signless.{never_dominated}
 use Rattle.linear_elim.specs.Joins.{Derived}
 use Rattle.linear_elim.specs.Steps.{bare, undominated, tidied, contradiction, step_fits, eliminate_one}
@@ -21,7 +21,7 @@ use Rattle.linear_elim.specs.Elimination.Outcome.{too_many, too_great}
 use Rattle.linear_elim.specs.internal.DerivedRows.{IsDerived}
 use Rattle.linear_elim.specs.internal.Signless.{sign_terms, AreSignless}
 use Rattle.linear_elim.proofs.Shapes.{Good, step-good}
-use Rattle.linear_elim.proofs.Tidying.{tidied-all}
+use Rattle.linear_elim.proofs.TidyRows.{tidied-all}
 
 -- ---- No row is dominated
 

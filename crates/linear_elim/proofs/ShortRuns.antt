@@ -5,18 +5,18 @@ use Rattle.std.specs.List.{All}
 use Rattle.std.proofs.lemmas.List.Elements.{All-filter}
 use Rattle.linear_rows.specs.Row.{Row}
 use Rattle.linear_rows.specs.Terms.{IsOver}
-use Rattle.linear_dominance.specs.Dominated.{is_dominated}
+use Rattle.linear_dominance.specs.DominatedRows.{is_dominated}
 use Rattle.linear_elim.specs.Joins.{Derived}
 use Rattle.linear_elim.specs.Steps.{bare, undominated, tidied, contradiction, step_fits, eliminate_one}
 use Rattle.linear_elim.specs.Elimination.{Step, Gathered, Outcome, step_of, run, start, elimination_by}
 use Rattle.linear_elim.specs.Elimination.Rule.{drops}
 use Rattle.linear_elim.specs.Elimination.Outcome.{refuted, too_many, too_great}
-use Rattle.linear_elim.specs.internal.Gathering.{after_all}
+use Rattle.linear_elim.specs.internal.GatheredRows.{after_all}
 use Rattle.linear_elim.specs.internal.Outcomes.{IsLimited, IsShort, short_gathering}
 use Rattle.linear_elim.specs.declared.short_runs.Short.{Short}
 use Rattle.linear_elim.specs.internal.DerivedRows.{IsDerived}
-use Rattle.linear_elim.specs.declared.gathering.Gathering.{Gathering}
-use Rattle.linear_elim.proofs.Finishing.{ends_many, goes_on, found_next, many_next}
+use Rattle.linear_elim.specs.declared.gathered_rows.Gathering.{Gathering}
+use Rattle.linear_elim.proofs.FoundEnds.{ends_many, goes_on, found_next, many_next}
 
 -- Too many rows are a limit, and so is a number that is too great.
 pub many_limited : (n k : ℕ) (o : Outcome) → too_many n k ≡ o → IsLimited o

@@ -10,7 +10,7 @@ use Rattle.std.proofs.lemmas.Bool.{eqb-true, and_from}
 use Rattle.std.proofs.lemmas.Bool.Decides.{nat_tests}
 use Rattle.std.proofs.lemmas.List.Elements.{All-nil, All-cons, All-head, All-tail, All-weaker}
 use Rattle.linear_rows.specs.Terms.{coefficient, IsNormal, add_terms, is_narrow}
-use Rattle.linear_rows.specs.Merging.{mixed_terms, are_narrow}
+use Rattle.linear_rows.specs.TermResults.{mixed_terms, are_narrow}
 use Rattle.linear_rows.specs.Divisors.{divisor, divided_terms}
 use Rattle.linear_rows.proofs.exported.Moves.{coefficient-add}
 use Rattle.linear_rows.proofs.exported.Normal.{add-normal}

@@ -11,8 +11,8 @@ use Rattle.linear_elim.specs.Steps.{eliminate_one, contradiction, step_fits}
 use Rattle.linear_elim.specs.Elimination.{Step, step_of, Rule, tidied_by, gathered, after_step, ended_by, unless_many, run, start, elimination_by}
 use Rattle.linear_elim.specs.Elimination.Outcome.{standing, too_many, too_great}
 use Rattle.linear_elim.specs.internal.Picks.{IsDerivedStep}
-use Rattle.linear_elim.proofs.Deciding.{after-standing}
-use Rattle.linear_elim.proofs.Keeping.{step-derived}
+use Rattle.linear_elim.proofs.Solvability.{after-standing}
+use Rattle.linear_elim.proofs.KeptRows.{step-derived}
 use Rattle.linear_elim.proofs.FirstRows.{first-derived}
 
 run_derived : (rule : Rule) (n : ℕ) (xs : List ℕ) (rows : List Derived) (ss : List Step) → run rule n xs (gathered rule rows) ≡ standing ss → All IsDerived (tidied_by rule rows) → All IsDerivedStep ss

@@ -4,7 +4,7 @@ use Rattle.std.specs.Prelude.{ℕ, ◌*◌, ◌/◌, List, ℤ, pos, negsuc, ◌
 use Rattle.std.specs.Int.RustNames.{int_div}
 use Prim.Native.Nat.{zero, suc}
 use Rattle.linear_rows.specs.Terms.{coefficient, is_narrow, is_wide}
-use Rattle.linear_rows.specs.Merging.{mixed_terms, are_wide, are_narrow}
+use Rattle.linear_rows.specs.TermResults.{mixed_terms, are_wide, are_narrow}
 use Rattle.linear_rows.specs.Divisors.{divisor, divided_terms}
 use Rattle.linear_rows.specs.Row.{Row}
 

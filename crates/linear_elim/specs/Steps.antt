@@ -5,7 +5,7 @@ use Rattle.std.specs.Int.Signed.{lt_z}
 use Rattle.heyvl_num.specs.Value.{is_zero_num}
 use Rattle.linear_rows.specs.Terms.{coefficient}
 use Rattle.linear_rows.specs.Row.{Row}
-use Rattle.linear_dominance.specs.Dominated.{is_dominated}
+use Rattle.linear_dominance.specs.DominatedRows.{is_dominated}
 use Rattle.linear_elim.specs.Joins.{Derived, is_below_zero, is_above_zero, join, join_fits}
 use Rattle.linear_rows.specs.SameTerms.{same_number, same_terms}
 

@@ -6,10 +6,10 @@ pub mod Turns
 pub mod Outcomes
 pub mod Fingerprints
 pub mod Eliminations
-pub mod Gathering
+pub mod GatheredRows
 pub mod DerivedRows
 pub mod Places
-pub mod Counting
+pub mod CountedRows
 pub mod Afters
 pub mod Signless
 pub mod SmallRows

@@ -6,14 +6,14 @@ ghost use Rattle.linear_elim.specs.Elimination.{run};
 ghost use Rattle.linear_elim.specs.Elimination.Rule.{keeps};
 ghost use Rattle.linear_elim.specs.Elimination.Outcome.{refuted, too_many};
 ghost use Rattle.linear_elim.specs.Joins.{Derived as DerivedValue};
-ghost use Rattle.linear_elim.specs.internal.Gathering.{after_all};
+ghost use Rattle.linear_elim.specs.internal.GatheredRows.{after_all};
 ghost use Rattle.linear_elim.specs.internal.Outcomes.{outcome_of, gathering_of, IsSameShort};
 ghost use Rattle.linear_rows.specs.Terms.{IsOver};
 
-use crate::gathering::Gathering;
+use crate::gathered_rows::Gathering;
 use crate::joins::Derived;
-use crate::shortening::lack_signs;
 use crate::steps::{After, Step, eliminate_one};
+use crate::undominated_rows::lack_signs;
 use std::alloc::{AllocError, Global};
 
 /// How an elimination ends: with a contradiction; with no row left, after these steps; with too many rows, after so many steps;

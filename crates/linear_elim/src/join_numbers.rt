@@ -2,7 +2,7 @@
 ghost use Rattle.std.specs.Prelude.{◌≡◌, ◌<◌, ◌^◌, [], ℕ, pos, true, unsigned_abs};
 ghost use Rattle.std.specs.List.{All};
 ghost use Rattle.linear_rows.specs.Divisors.{common, divided_terms};
-ghost use Rattle.linear_rows.specs.Merging.{mixed_terms};
+ghost use Rattle.linear_rows.specs.TermResults.{mixed_terms};
 ghost use Rattle.linear_rows.specs.Terms.{coefficient, IsNormal, put_term};
 ghost use Rattle.linear_elim.specs.Joins.{is_below_zero, is_above_zero, join, join_fits};
 ghost use Rattle.linear_elim.specs.internal.DerivedRows.{IsDerived};

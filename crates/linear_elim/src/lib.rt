@@ -2,26 +2,26 @@
 #![tactic(auto)]
 
 mod answers;
-mod choosing;
-mod counting;
-mod eliminating;
+mod choices;
 mod elimination;
 mod ends;
 mod fingerprints;
-mod gathering;
+mod full_elimination;
+mod gathered_rows;
+mod join_counts;
 mod join_numbers;
 mod joins;
 mod laws;
 mod ordering;
-mod refuting;
+mod refutations;
 mod short_runs;
-mod shortening;
 mod small_joins;
-mod starting;
+mod starts;
 mod steps;
 mod tables;
+mod undominated_rows;
 
 pub use answers::Elim;
-pub use eliminating::eliminate;
+pub use full_elimination::eliminate;
 pub use goal_answers::{Broken, Cause};
 pub use laws::elimination_decides;

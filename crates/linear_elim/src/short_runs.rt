@@ -9,14 +9,14 @@ ghost use Rattle.linear_elim.specs.Elimination.{run, Outcome, elimination_by};
 ghost use Rattle.linear_elim.specs.Elimination.Outcome.{refuted};
 ghost use Rattle.linear_elim.specs.Elimination.Rule.{drops};
 ghost use Rattle.linear_elim.specs.internal.DerivedRows.{IsDerived};
-ghost use Rattle.linear_elim.specs.internal.Gathering.{after_all};
+ghost use Rattle.linear_elim.specs.internal.GatheredRows.{after_all};
 ghost use Rattle.linear_elim.specs.internal.Outcomes.{short_gathering, IsLimited, IsShort};
 
-use crate::gathering::Gathering;
+use crate::gathered_rows::Gathering;
 use crate::joins::Derived;
-use crate::shortening::without_dominated;
-use crate::starting::first_rows;
+use crate::starts::first_rows;
 use crate::steps::{After, Step, eliminate_one};
+use crate::undominated_rows::without_dominated;
 use linear_rows::Row;
 use std::alloc::{AllocError, Global};
 

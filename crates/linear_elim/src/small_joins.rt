@@ -3,7 +3,7 @@ ghost use Rattle.std.specs.Prelude.{◌≡◌, ◌<◌, ◌≤◌, ◌+◌, ◌^
 ghost use Rattle.std.specs.List.{All};
 ghost use Rattle.heyvl_num.specs.Gcd.{gcd};
 ghost use Rattle.linear_rows.specs.Divisors.{divisor, divided_terms};
-ghost use Rattle.linear_rows.specs.Merging.{mixed_terms};
+ghost use Rattle.linear_rows.specs.TermResults.{mixed_terms};
 ghost use Rattle.linear_rows.specs.Terms.{coefficient, IsNormal, put_term};
 ghost use Rattle.linear_elim.specs.Joins.{is_below_zero, is_above_zero, join, join_fits};
 ghost use Rattle.linear_elim.specs.internal.DerivedRows.{IsDerived};

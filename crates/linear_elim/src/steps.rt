@@ -8,10 +8,10 @@ ghost use Rattle.linear_elim.specs.internal.Signless.{IsSignlessAfter, IsSignles
 ghost use Rattle.linear_elim.specs.internal.DerivedRows.{IsDerived};
 ghost use Rattle.linear_elim.specs.Steps.{lowers, uppers, kept, fits_each, pairs_fit, joins, pairs};
 ghost use Rattle.linear_elim.specs.internal.Fingerprints.{ArePlaces};
-ghost use Rattle.linear_elim.specs.internal.Gathering.{found_all, rows_all};
+ghost use Rattle.linear_elim.specs.internal.GatheredRows.{found_all, rows_all};
 
-use crate::counting::{Counted, count_rows};
-use crate::gathering::Gathering;
+use crate::gathered_rows::Gathering;
+use crate::join_counts::{Counted, count_rows};
 use crate::joins::{Derived, joined};
 use linear_rows::coefficient_of;
 use std::alloc::{AllocError, Global};

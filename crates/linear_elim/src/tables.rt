@@ -3,7 +3,7 @@ ghost use Rattle.std.specs.Prelude.{◌≡◌, ◌<◌, ◌+◌, [], ℕ, List, 
 ghost use Rattle.std.specs.List.{All};
 ghost use Rattle.linear_elim.specs.Joins.{is_below_zero, is_above_zero, join};
 ghost use Rattle.linear_rows.specs.SameTerms.{same_terms};
-ghost use Rattle.linear_elim.specs.internal.Counting.{terms_at, home, print_of, IsSplit, IsTable, IsPlaceOf, Puts, Lacks};
+ghost use Rattle.linear_elim.specs.internal.CountedRows.{terms_at, home, print_of, IsSplit, IsTable, IsPlaceOf, Puts, Lacks};
 ghost use Rattle.linear_elim.specs.internal.DerivedRows.{IsDerived};
 ghost use Rattle.linear_elim.specs.internal.Fingerprints.{fingerprint};
 ghost use Rattle.linear_elim.specs.internal.Signless.{sign_terms};

@@ -6,10 +6,10 @@ use Rattle.linear_form.specs.Query.Query.{done, bits, ask}
 use Rattle.linear_form.specs.Questions.{Ends}
 use Rattle.linear_form.specs.Paths.{IsPath, end_at, Asks}
 use Rattle.linear_form.specs.PlainPaths.{path_of, atom_of, taken_of}
-use Rattle.linear_form.specs.Asked.{Answers}
+use Rattle.linear_form.specs.AskAnswers.{Answers}
 use Rattle.linear_form.specs.declared.paths.Atom as A
 use Rattle.linear_form.specs.declared.paths.Taken as T
-use Rattle.linear_form.specs.declared.asking.Ask as K
+use Rattle.linear_form.specs.declared.questions.Ask as K
 use Rattle.linear_form.proofs.SplitPaths.{asked_onto}
 
 decided : (g : Goal) (ps : List Taken) (w : Query Ends) (q : A.Atom) → end_at g ps ≡ w → Answers (K.TheVariants.Decide q) w → Asks g ps (atom_of q)

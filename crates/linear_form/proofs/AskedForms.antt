@@ -12,7 +12,7 @@ use Rattle.linear_form.specs.Questions as q
 use Rattle.linear_values.specs.Lin.{Linear}
 use Rattle.linear_form.specs.Questions.{evaluate, test, both}
 use Rattle.linear_form.specs.internal.Nodes.{comparison}
-use Rattle.linear_form.specs.internal.Lasting.{Lasts}
+use Rattle.linear_form.specs.internal.LastingTrees.{Lasts}
 use Rattle.linear_form.specs.declared.nodes.Comparison.{Comparison}
 use Rattle.linear_form.proofs.Parts as is
 use Rattle.linear_form.proofs.SureQuestions.{lasts_first, lasts_later, either_lasts, chosen_lasts}

@@ -9,7 +9,7 @@ use Rattle.heyvl_num.proofs.exported.Values.{is_zero-zero}
 use Rattle.heylo_formula.specs.State.{put, number_of}
 use Rattle.heylo_formula.specs.declared.values.Val.TheVariants.{Num}
 use Rattle.linear_values.specs.Lin.{Lin, Terms, total, IsAbove, AreNormal}
-use Rattle.linear_form.specs.internal.Lasting.{Lasts, BeginsBefore, all_zero, growth}
+use Rattle.linear_form.specs.internal.LastingTrees.{Lasts, BeginsBefore, all_zero, growth}
 use Rattle.linear_form.specs.internal.Nodes.{comparison}
 use Rattle.linear_form.specs.declared.nodes.Comparison.{Comparison}
 use Rattle.linear_values.proofs.exported.KeptTerms.{above_less}

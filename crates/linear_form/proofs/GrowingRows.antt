@@ -11,7 +11,7 @@ use Rattle.linear_form.specs.Query.{Query, Taken}
 use Rattle.linear_form.specs.Questions.{Ends}
 use Rattle.linear_values.specs.Tightening.{Claim, all_tightened}
 use Rattle.linear_form.specs.PathRows.{answer_claims, path_claims, below_claim, denial, denial_at, listed}
-use Rattle.linear_form.specs.Asked.{Answers}
+use Rattle.linear_form.specs.AskAnswers.{Answers}
 use Rattle.linear_form.specs.PlainPaths.{path_of, taken_of, atom_of}
 use Rattle.linear_values.specs.PlainValues.{linear_of}
 use Rattle.linear_form.specs.RowLists.{Lists, ArePathRows, LackLastRow, StartsWith}
@@ -21,7 +21,7 @@ use Rattle.linear_form.specs.declared.path_rows.RowList.{RowList}
 use Rattle.linear_form.specs.declared.path_rows.RowList.TheVariants.{Rows, Bits}
 use Rattle.linear_form.specs.declared.paths.Taken as T
 use Rattle.linear_values.specs.declared.lin.Lin as L
-use Rattle.linear_form.specs.declared.asking.Ask as K
+use Rattle.linear_form.specs.declared.questions.Ask as K
 use Rattle.linear_form.proofs.RowsOfClaims.{joined, tightened_append}
 use Rattle.linear_form.proofs.PathRowSteps.{claims_append}
 

@@ -15,7 +15,7 @@ use Rattle.linear_form.specs.Query.Query.{done, bits, ask}
 use Rattle.linear_form.specs.Questions as q
 use Rattle.linear_form.specs.Questions.{asked, is_below, both}
 use Rattle.linear_form.specs.QuestionLaws.{EachResult}
-use Rattle.linear_form.specs.internal.Lasting.{Lasts, all_zero, growth, IsSlope, HasSlope}
+use Rattle.linear_form.specs.internal.LastingTrees.{Lasts, all_zero, growth, IsSlope, HasSlope}
 use Rattle.linear_form.specs.internal.Nodes.{comparison}
 use Rattle.linear_form.specs.declared.nodes.Comparison.{Comparison}
 use Rattle.linear_form.specs.declared.slopes.Slope.{Slope}

@@ -16,7 +16,7 @@ use Rattle.linear_form.specs.declared.nodes.OfTruth.{OfTruth}
 use Rattle.std.specs.Prelude as M
 use Rattle.std.specs.Prelude.{Ok, Err, IfOk}
 use Rattle.linear_values.specs.PlainValues.{linear_of}
-use Rattle.linear_form.specs.internal.Seen.{Gives}
+use Rattle.linear_form.specs.internal.EvaluationResults.{Gives}
 use Rattle.linear_form.specs.declared.cursor.Found.{Found}
 use Rattle.linear_form.specs.declared.cursor.Stop.{Stop}
 use Rattle.linear_form.proofs.Runs.{run_after, run_done, run_result}

@@ -1,4 +1,4 @@
-mod OneSided
+mod OneSidedSums
 mod QueryTrees
 mod TypedValues
 mod EndValues
@@ -14,7 +14,7 @@ pub mod TypedTrees
 mod NumberRuns
 pub mod NumericRows
 pub mod DeniedRows
-mod RoomForDenied
+mod DeniedGoalPlaces
 mod ShortPaths
 mod ClaimedRows
 mod KnownTruths
@@ -32,12 +32,12 @@ mod RowsOfClaims
 mod SignRows
 mod SignClaims
 mod FoundRows
-mod Assembled
+mod AssembledTrees
 mod Parts
-mod GoingOn
+mod ContinuedRuns
 mod DirectValues
 mod KeptOperators
-mod Resuming
+mod Resumptions
 mod GrowingRows
 pub mod PathRowSteps
 mod RepeatedRows

@@ -19,8 +19,8 @@ use Rattle.linear_form.specs.declared.places.Place.{Place}
 use Rattle.linear_form.specs.declared.steps.Step as S
 use Rattle.linear_form.specs.declared.places.Frame as W
 use Rattle.linear_form.specs.declared.places.Frame.{Frame}
-use Rattle.linear_form.proofs.GoingOn.{through_push, weight_push, with_more}
-use Rattle.linear_form.proofs.Resuming.{kept_all}
+use Rattle.linear_form.proofs.ContinuedRuns.{through_push, weight_push, with_more}
+use Rattle.linear_form.proofs.Resumptions.{kept_all}
 use Rattle.linear_values.proofs.exported.Products.{product_some}
 
 pub number_is : (a : Lin) → has_no_terms a.terms ≡ true → a ≡ constant a.rest

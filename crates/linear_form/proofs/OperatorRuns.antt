@@ -9,7 +9,7 @@ use Rattle.linear_form.specs.Questions as q
 use Rattle.linear_values.specs.Operator.{has_no_terms}
 use Rattle.linear_form.specs.internal.Run.{Evaluation, along, turned}
 use Rattle.linear_form.specs.internal.Run.Evaluation.{value}
-use Rattle.linear_form.specs.internal.Seen.{Gives}
+use Rattle.linear_form.specs.internal.EvaluationResults.{Gives}
 use Rattle.linear_form.specs.declared.cursor.Found.{Found}
 use Rattle.linear_form.specs.declared.cursor.Stop.{Stop}
 

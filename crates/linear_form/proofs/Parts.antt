@@ -1,7 +1,7 @@
 -- The plain tree of each form and condition that the program holds, variant by variant.
 use Rattle.std.proofs.Common.{◌≡◌, ℕ, Bool}
-use Rattle.heyvl_num.specs.Extended.{value_of}
-use Rattle.heyvl_num.specs.declared.extended.Ext.{Ext}
+use Rattle.heyvl_num.specs.ExtendedNumbers.{value_of}
+use Rattle.heyvl_num.specs.declared.extended_numbers.Ext.{Ext}
 use Rattle.std.specs.declared.boxed.Box.{Box}
 use Rattle.std.specs.declared.alloc.Global.{Global}
 use Rattle.heyvl_num.specs.Rational.{Rational}

@@ -11,11 +11,11 @@ use Rattle.linear_form.specs.internal.Run.{Evaluation, along, turned, heard}
 use Rattle.linear_form.specs.internal.Run.Evaluation.{value, decide}
 use Rattle.linear_values.specs.PlainValues.{linear_of}
 use Rattle.linear_form.specs.PlainPaths.{atom_of}
-use Rattle.linear_form.specs.Asked.{Answers}
+use Rattle.linear_form.specs.AskAnswers.{Answers}
 use Rattle.linear_values.specs.declared.lin.Lin as L
 use Rattle.linear_form.specs.declared.paths.Atom as A
-use Rattle.linear_form.specs.declared.asking.Ask as K
-use Rattle.linear_form.proofs.GoingOn.{local}
+use Rattle.linear_form.specs.declared.questions.Ask as K
+use Rattle.linear_form.proofs.ContinuedRuns.{local}
 use Rattle.linear_form.proofs.SplitPaths.{end_same}
 
 -- an evaluation came to what the tree has at its head

@@ -20,7 +20,7 @@ use Rattle.linear_form.specs.RowLists.{ArePathRows}
 use Rattle.linear_rows.specs.Solutions.{MeetsAt}
 use Rattle.linear_form.specs.RowListLaws.{RepeatedRowsStand}
 use Rattle.linear_form.proofs.PathRowSteps.{claims_onto}
-use Rattle.linear_form.proofs.RoomForDenied.{two_parts}
+use Rattle.linear_form.proofs.DeniedGoalPlaces.{two_parts}
 use Rattle.linear_form.proofs.RowsOfClaims.{joined, tightened_append, not_zero}
 use Rattle.linear_form.proofs.SignRows.{claims_occur}
 

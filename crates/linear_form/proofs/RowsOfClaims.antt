@@ -19,10 +19,10 @@ use Rattle.linear_form.specs.PlainPaths.{path_of, atom_of}
 use Rattle.linear_values.specs.PlainValues.{linear_of}
 use Rattle.linear_form.specs.QuestionLaws.{EachResult}
 use Rattle.linear_values.specs.Kept.{IsKeptValue}
-use Rattle.linear_form.specs.Asked.{Answers}
+use Rattle.linear_form.specs.AskAnswers.{Answers}
 use Rattle.linear_values.specs.declared.lin.Lin as L
 use Rattle.linear_form.specs.declared.paths.Taken as T
-use Rattle.linear_form.specs.declared.asking.Ask as K
+use Rattle.linear_form.specs.declared.questions.Ask as K
 use Rattle.linear_rows.proofs.exported.Narrow.{fits_negated}
 use Rattle.linear_values.proofs.exported.RowParts.{too_large}
 use Rattle.linear_form.proofs.NormalClaims.{AreKept}

@@ -9,7 +9,7 @@ use Rattle.linear_form.specs.QuestionLaws.{EachResult}
 use Rattle.linear_form.specs.internal.Run.{Evaluation, along, turned, heard, onward}
 use Rattle.linear_form.specs.internal.Run.Evaluation.{value, decide}
 use Rattle.linear_form.specs.PlainPaths.{path_of}
-use Rattle.linear_form.specs.internal.Seen.{Stops, Gives}
+use Rattle.linear_form.specs.internal.EvaluationResults.{Stops, Gives}
 use Rattle.linear_form.specs.declared.paths.Taken as T
 use Rattle.linear_form.specs.declared.cursor.Stop as S
 use Rattle.linear_form.specs.declared.cursor.Stop.{Stop}

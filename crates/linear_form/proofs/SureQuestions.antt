@@ -11,19 +11,19 @@ use Rattle.linear_values.specs.Lin.{Linear}
 use Rattle.linear_form.specs.Questions.{Ends, evaluate, test, both}
 use Rattle.linear_form.specs.QuestionLaws.{EachResult}
 use Rattle.linear_form.specs.Paths.{IsPath}
-use Rattle.linear_form.specs.Lasting.{IsNoEnd}
+use Rattle.linear_form.specs.LastingPaths.{IsNoEnd}
 use Rattle.linear_form.specs.Places.{IsOn}
 use Rattle.linear_form.specs.internal.Run.{Evaluation, along, turned, heard}
 use Rattle.linear_form.specs.internal.Run.Evaluation.{value, decide}
 use Rattle.linear_form.specs.internal.Places.{Result, framed, resumed, ended, left_at, asked_by, valued}
-use Rattle.linear_form.specs.internal.Lasting.{Lasts}
+use Rattle.linear_form.specs.internal.LastingTrees.{Lasts}
 use Rattle.heylo_formula.specs.declared.forms.Form as F
 use Rattle.heylo_formula.specs.declared.forms.Cond as C
 use Rattle.linear_form.specs.declared.places.Two.{Two}
 use Rattle.linear_form.specs.declared.places.Place.{Place}
 use Rattle.linear_form.specs.declared.places.Frame.{Frame}
 use Rattle.linear_form.specs.declared.places.Frame as W
-use Rattle.linear_form.proofs.GoingOn.{local}
+use Rattle.linear_form.proofs.ContinuedRuns.{local}
 use Rattle.linear_form.proofs.PathEnds.{Same, goal_end}
 use Rattle.linear_form.proofs.PlaceRuns.{place_stays}
 

@@ -7,11 +7,11 @@ pub mod PathRows
 pub mod Cells
 pub mod QuestionLaws
 pub mod PlainPaths
-pub mod Asked
+pub mod AskAnswers
 pub mod ClaimLaws
 pub mod RowLists
 pub mod Places
-pub mod Lasting
+pub mod LastingPaths
 pub mod RowListLaws
 pub mod PathLaws
 pub mod PointLaws

@@ -1,6 +1,6 @@
-pub mod Lasting
+pub mod LastingTrees
 pub mod Run
-pub mod Seen
+pub mod EvaluationResults
 pub mod Direct
 pub mod FurtherRows
 pub mod NormalPaths

@@ -5,7 +5,7 @@ ghost use Rattle.linear_form.specs.Query.{Atom as PlainAtom, known, known_by};
 ghost use Rattle.linear_form.specs.Query.Query.{ask, done};
 ghost use Rattle.linear_form.specs.internal.Run.{along, turned, Evaluation};
 ghost use Rattle.linear_form.specs.PlainPaths.{path_of, atom_of};
-ghost use Rattle.linear_form.specs.internal.Seen.{Tells};
+ghost use Rattle.linear_form.specs.internal.EvaluationResults.{Tells};
 
 use crate::paths::{Atom, Taken};
 use linear_values::Lin;

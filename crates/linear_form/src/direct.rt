@@ -2,7 +2,7 @@
 
 ghost use Rattle.std.specs.Prelude.{◌≡◌, IfOk, Some, true};
 ghost use Rattle.heylo_formula.specs.PlainTrees.{form_of};
-ghost use Rattle.heyvl_num.specs.Extended.{value_of};
+ghost use Rattle.heyvl_num.specs.ExtendedNumbers.{value_of};
 ghost use Rattle.heyvl_num.specs.Rounding.{whole as whole_fraction};
 ghost use Rattle.linear_values.specs.Lin.{AreNormal, constant as constant_lin};
 ghost use Rattle.linear_rows.specs.Numbers.{fits as number_fits};

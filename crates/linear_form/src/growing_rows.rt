@@ -4,7 +4,7 @@ ghost use Rattle.std.specs.Prelude.{◌≤◌, ◌+◌, length, true, false, IfO
 ghost use Rattle.heylo_formula.specs.Goals.{goal_of};
 ghost use Rattle.heylo_formula.specs.TypedGoals.{IsTypedGoal};
 ghost use Rattle.heylo_formula.specs.Typing.{types_in};
-ghost use Rattle.linear_form.specs.Asked.{Answers};
+ghost use Rattle.linear_form.specs.AskAnswers.{Answers};
 ghost use Rattle.linear_rows.specs.Occurrences.{AreOccurrences};
 ghost use Rattle.linear_form.specs.Paths.{IsPath, end_at};
 ghost use Rattle.linear_form.specs.PathRows.{rows_of, path_claims, listed, denial_at};
@@ -12,7 +12,7 @@ ghost use Rattle.linear_values.specs.Tightening.{all_tightened};
 ghost use Rattle.linear_form.specs.PlainPaths.{path_of};
 ghost use Rattle.linear_form.specs.internal.FurtherRows.{rows_with};
 ghost use Rattle.linear_form.specs.RowLists.{Lists, AreRows, AreNumericRows, count_of, ArePathRows, LackLastRow, AreLastRows, StartsWith};
-ghost use Rattle.linear_form.specs.declared.asking.Ask.TheVariants.{End};
+ghost use Rattle.linear_form.specs.declared.questions.Ask.TheVariants.{End};
 
 use crate::further_rows::{with_answer, with_below};
 use crate::path_rows::RowList;

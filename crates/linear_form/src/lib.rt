@@ -1,18 +1,17 @@
 //! Linear questions of a goal along a path, and the rows of a path.
 #![tactic(auto)]
 
-mod answering;
-mod asking;
 mod claim_laws;
+mod continuations;
 mod cursor;
 mod direct;
+mod further_questions;
 mod further_rows;
 mod goal_products;
-mod going_on;
 mod growing_rows;
-mod lasting;
 mod nodes;
 mod operators;
+mod path_ends;
 mod path_laws;
 mod path_rows;
 mod paths;
@@ -21,24 +20,24 @@ mod places;
 mod plain_ends;
 mod point_laws;
 mod question_laws;
+mod questions;
 mod row_list_laws;
 mod signs;
 mod slopes;
 mod splits;
 mod steps;
 
-pub use answering::ask;
-pub use asking::Ask;
 pub use claim_laws::{paths_claim_truths, paths_rows_are_met};
+pub use continuations::{begin, go_on, go_on_from};
+pub use further_questions::asks_on;
 pub use goal_products::nonlinear;
-pub use going_on::{begin, go_on, go_on_from};
 pub use growing_rows::{last_rows, next_row, with_denied_goal, with_signs_of_path};
-pub use lasting::asks_on;
 pub use linear_rows::{
     Occurrences, Row, coefficient_of, contradicts, divided, divisor_of, greedy_choices_are_unique,
     merged, mixed, narrow_quotient, scaled, solutions_of_rows, wide_product,
 };
 pub use linear_values::{Lin, tightened};
+pub use path_ends::ask;
 pub use path_laws::paths_are_short;
 pub use path_rows::{RowList, rows};
 pub use paths::{Atom, Taken};
@@ -47,6 +46,7 @@ pub use places::{Place, Reached};
 pub use plain_ends::holds_plainly;
 pub use point_laws::{falsifying_points, truths_are_booleans, unsigned_are_nonnegative};
 pub use question_laws::{constant_without_variables, one_path_agrees};
+pub use questions::Ask;
 pub use row_list_laws::{
     denied_rows_are_more, path_rows_grow, repeated_rows_stand, rows_are_numeric,
 };

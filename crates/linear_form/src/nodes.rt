@@ -6,7 +6,7 @@ ghost use Rattle.linear_values.specs.Kept.{IsKeptValue};
 ghost use Rattle.linear_form.specs.internal.Nodes.{binary, unary, of_truth, comparison};
 ghost use Rattle.linear_values.specs.PlainValues.{linear_of};
 ghost use Rattle.linear_form.specs.PlainPaths.{path_of};
-ghost use Rattle.linear_form.specs.internal.Seen.{Gives, Tells};
+ghost use Rattle.linear_form.specs.internal.EvaluationResults.{Gives, Tells};
 
 use crate::cursor::{Found, Stop, Tested};
 use crate::operators::{

@@ -12,8 +12,8 @@ ghost use Rattle.linear_form.specs.internal.Run.{along, Evaluation};
 ghost use Rattle.linear_values.specs.Kept.{IsKept, IsKeptValue};
 ghost use Rattle.linear_values.specs.PlainValues.{lin_of, linear_of};
 ghost use Rattle.linear_form.specs.PlainPaths.{path_of};
-ghost use Rattle.linear_form.specs.internal.Seen.{Gives, Tells};
-ghost use Rattle.heyvl_num.specs.Extended.{value_of};
+ghost use Rattle.linear_form.specs.internal.EvaluationResults.{Gives, Tells};
+ghost use Rattle.heyvl_num.specs.ExtendedNumbers.{value_of};
 
 use crate::cursor::{Found, Stop, Tested, answered};
 use crate::paths::{Atom, Taken};

@@ -12,10 +12,10 @@ ghost use Rattle.linear_form.specs.RowLists.{Lists, AreRows, AreNumericRows, cou
 ghost use Rattle.heylo_formula.specs.TypedGoals.{IsTypedGoal};
 ghost use Rattle.heylo_formula.specs.Typing.{types_in};
 
-use crate::answering::ask;
-use crate::asking::Ask;
 use crate::further_rows::{with_answer, with_below};
+use crate::path_ends::ask;
 use crate::paths::Taken;
+use crate::questions::Ask;
 use crate::signs::with_signs;
 use heylo_formula::{Goal, Ty};
 use linear_rows::Row;

@@ -3,8 +3,8 @@
 ghost use Rattle.std.specs.Prelude.{IfOk};
 ghost use Rattle.linear_form.specs.internal.Steps.{AreAlike, IsAlike, IsSamePlace, IsSameFocus};
 
-use crate::asking::Ask;
 use crate::nodes::{Binary, Comparison, Connective, OfTruth, Unary};
+use crate::questions::Ask;
 use heylo_formula::{Cond, Form};
 use linear_values::Lin;
 use linear_values::lin::copy_value;

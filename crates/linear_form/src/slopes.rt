@@ -2,14 +2,14 @@
 
 ghost use Rattle.std.specs.Prelude.{◌≡◌, ℕ, Some, IsTrue};
 ghost use Rattle.heyvl_num.specs.Rational.{Rational, ◌+ʳ◌, ◌*ʳ◌, negʳ};
-ghost use Rattle.heyvl_num.specs.Extended.{value_of};
+ghost use Rattle.heyvl_num.specs.ExtendedNumbers.{value_of};
 ghost use Rattle.heylo_formula.specs.PlainTrees.{form_of};
 ghost use Rattle.linear_values.specs.Lin.{variable as variable_lin};
 ghost use Rattle.linear_form.specs.Query.Query.{done};
 ghost use Rattle.linear_form.specs.Questions as tree;
 ghost use Rattle.linear_form.specs.Questions.{evaluate, both};
 ghost use Rattle.linear_form.specs.QuestionLaws.{EachResult};
-ghost use Rattle.linear_form.specs.internal.Lasting.{Lasts, IsSlope, HasSlope};
+ghost use Rattle.linear_form.specs.internal.LastingTrees.{Lasts, IsSlope, HasSlope};
 ghost use Rattle.linear_form.specs.internal.Nodes.{comparison};
 ghost use Rattle.linear_form.specs.declared.nodes.Comparison.{Comparison};
 ghost use Rattle.linear_form.specs.declared.slopes.Slope.{Slope as PlainSlope};

@@ -1,7 +1,7 @@
 //! The steps of an evaluation: a form or a condition is taken apart, an operator is run, or a frame gets what it waits for.
 
 ghost use Rattle.std.specs.Prelude.{Bool, ◌≡◌, ◌<◌, ◌≤◌, ◌+◌, ◌*◌, ℕ, List, MatchOption, Some, IfOk, if◌then◌else◌, true};
-ghost use Rattle.heyvl_num.specs.Extended.{value_of};
+ghost use Rattle.heyvl_num.specs.ExtendedNumbers.{value_of};
 ghost use Rattle.heylo_formula.specs.Formula.{Form as PlainForm, Cond as PlainCond};
 ghost use Rattle.heylo_formula.specs.PlainTrees.{form_of, cond_of};
 ghost use Rattle.heylo_formula.specs.Sizes.{nodes, nodes_in};
@@ -15,7 +15,7 @@ ghost use Rattle.linear_values.specs.PlainValues.{lin_of, linear_of};
 ghost use Rattle.linear_form.specs.internal.Nodes.{unary, after_first};
 ghost use Rattle.linear_form.specs.internal.Run.{along};
 ghost use Rattle.linear_values.specs.Kept.{IsKept, IsKeptValue};
-ghost use Rattle.linear_form.specs.internal.Seen.{Gives, Tells, Stops};
+ghost use Rattle.linear_form.specs.internal.EvaluationResults.{Gives, Tells, Stops};
 ghost use Rattle.linear_form.specs.internal.Places.{Result as Outcomes, valued, told, of_two, of_number, of_bool, resumed, asked_by, through, left_at, weight, focus_weight, frame_weight, frames_weight, IsKeptFocus, IsKeptFrame, AreKeptFrames};
 ghost use Rattle.linear_form.specs.internal.Steps.{Steps};
 ghost use Rattle.linear_form.specs.declared.places.Place.{Place as PlainPlace};

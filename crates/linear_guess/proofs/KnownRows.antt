@@ -6,7 +6,7 @@ use Rattle.std.specs.Prelude.{slice_set}
 use Rattle.std.proofs.lemmas.List.Elements.{All-take, AllWithin-more_set}
 use Rattle.linear_rows.specs.Row.{Row}
 use Rattle.linear_guess.specs.declared.spots.Spot.{Spot}
-use Rattle.linear_guess.specs.declared.known.KnownPoint.{KnownPoint}
+use Rattle.linear_guess.specs.declared.known_points.KnownPoint.{KnownPoint}
 use Rattle.linear_guess.specs.Spots.{IsMetBy, AreMetBy}
 use Rattle.linear_guess.specs.Searches.{IsKnown}
 

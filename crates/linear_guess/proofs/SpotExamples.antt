@@ -8,7 +8,7 @@ use Rattle.linear_rows.specs.Terms.{sum_at}
 use Rattle.linear_rows.specs.Row.{Row}
 use Rattle.linear_guess.specs.Spots.{IsMetBy, AreMetBy}
 use Rattle.linear_guess.specs.Searches.{IsKnown, Remembers}
-use Rattle.linear_guess.specs.declared.known.KnownPoint.{KnownPoint}
+use Rattle.linear_guess.specs.declared.known_points.KnownPoint.{KnownPoint}
 use Rattle.linear_guess.specs.declared.search.Search.{Search}
 
 -- x <= 2, 1 < x and 2 <= x.

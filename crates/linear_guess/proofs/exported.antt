@@ -1,1 +1,1 @@
-pub mod Remembering
+pub mod SearchMemory

@@ -3,7 +3,7 @@ use Rattle.std.specs.Prelude.{◌<◌, ◌≤◌, List, length, take}
 use Rattle.std.specs.List.{All}
 use Rattle.linear_rows.specs.Row.{Row}
 use Rattle.linear_guess.specs.Spots.{AreMetBy}
-use Rattle.linear_guess.specs.declared.known.KnownPoint.{KnownPoint}
+use Rattle.linear_guess.specs.declared.known_points.KnownPoint.{KnownPoint}
 use Rattle.linear_guess.specs.declared.search.Search.{Search}
 
 -- The point meets the first rows, as many as are said of it.

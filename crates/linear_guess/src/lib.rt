@@ -1,17 +1,17 @@
 //! Quick answers for rows, each tested before it is given.
 #![tactic(auto)]
 
-mod finding;
-mod known;
+mod findings;
+mod known_points;
 mod lines;
-mod listing;
+mod listed_rows;
 mod pairs;
 mod row_shapes;
 mod search;
 mod simplex;
 mod spots;
 mod tableau;
-mod watched;
+mod watched_rows;
 
-pub use finding::Finding;
+pub use findings::Finding;
 pub use search::Search;

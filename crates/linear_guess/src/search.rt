@@ -6,9 +6,9 @@ ghost use Rattle.linear_guess.specs.Findings.{IsFinding};
 ghost use Rattle.linear_guess.specs.Spots.{AreMetBy};
 ghost use Rattle.linear_guess.specs.Searches.{IsKnown, Remembers};
 
-use crate::finding::{Finding, refuted_by};
-use crate::known::{KnownPoint, least, truncate_each};
-use crate::listing::Listing;
+use crate::findings::{Finding, refuted_by};
+use crate::known_points::{KnownPoint, least, truncate_each};
+use crate::listed_rows::Listing;
 use crate::simplex::{Proposal, Simplex};
 use crate::spots::{Spot, is_met, met_from, solved_by};
 use linear_rows::Row;

@@ -3,7 +3,7 @@
 use crate::lines::Line;
 use crate::spots::Spot;
 use crate::tableau::{Head, Tableau};
-use crate::watched::{Watched, sign_of};
+use crate::watched_rows::{Watched, sign_of};
 use heyvl_num::gcd;
 use linear_rows::{Row, TooGreat};
 use std::alloc::{AllocError, Global};

@@ -1,7 +1,7 @@
 //! The tableau of a simplex over rows: what each variable is once some of the rows' left sides are given. Nothing rests on it.
 use crate::lines::{Line, Value, common_denominator, common_multiple, exchange_lines, quotient};
 use crate::spots::Spot;
-use crate::watched::{Watched, bit_of};
+use crate::watched_rows::{Watched, bit_of};
 use linear_rows::Row;
 use std::alloc::{AllocError, Global};
 

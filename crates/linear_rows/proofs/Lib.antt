@@ -5,8 +5,8 @@ pub mod Normal
 pub mod Fractions
 pub mod Combinations
 pub mod Narrow
-pub mod Mixing
-pub mod Walking
+pub mod MixedSums
+pub mod TermWalks
 mod Coefficients
 mod PartialSums
 mod Positions

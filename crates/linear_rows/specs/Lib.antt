@@ -8,7 +8,7 @@ pub mod Occurrences
 pub mod RowLaws
 pub mod GreedyPoint
 pub mod GreedyLaws
-pub mod Merging
+pub mod TermResults
 pub mod Divisors
 pub mod Numbers
 pub mod VariableTypes

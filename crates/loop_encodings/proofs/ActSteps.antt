@@ -6,17 +6,17 @@ use Rattle.std.specs.declared.alloc.Global.{Global}
 use Rattle.heyvl_places.specs.declared.spans.Span.{Span}
 use Rattle.heylo_formula.specs.declared.forms.Cond as C
 use Rattle.heylo_formula.specs.Formula.{Term}
-use Rattle.heylo_formula.specs.Shifted.{shifted}
+use Rattle.heylo_formula.specs.Shifts.{shifted}
 use Rattle.heyvl_acts.proofs.exported.PlainActsAre.{if_act, pick_act}
 use Rattle.heyvl_acts.specs.declared.acts.Act as A
 use Rattle.heyvl_acts.specs.Acts.{Act, Acts, Arms, Head, TypedProcedure, Variable, join, procedure_at, types_of}
-use Rattle.heyvl_acts.specs.Modified.{modified}
+use Rattle.heyvl_acts.specs.ModifiedVariables.{modified}
 use Rattle.heyvl_acts.specs.PlainActs.{acts_of, arms_of}
 use Rattle.k_induction.specs.Copies.{must}
 use Rattle.loop_encodings.specs.Encoding.{encoded, encoded_act, encoded_arms, encoded_call, encoded_loop, sets}
 use Rattle.loop_encodings.specs.Fresh.{fresh, fresh_of_act, fresh_of_arms}
 use Rattle.loop_encodings.specs.internal.Ready.{AreReady, AreReadyArms, IsReady, returned}
-use Rattle.loop_encodings.proofs.Appending.{last_one}
+use Rattle.loop_encodings.proofs.AppendedActs.{last_one}
 
 -- What is to be shown of one act: what is made of it, and its variables.
 abbrev pub IsMade : List TypedProcedure → TypedProcedure → List Variable → List Variable → Act → List A.Act → List A.Act → Type 0

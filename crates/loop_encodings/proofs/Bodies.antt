@@ -5,10 +5,10 @@ use Rattle.heyvl_acts.specs.Acts.{Acts, TypedProcedure, Variable, acts_in, proce
 use Rattle.heyvl_acts.specs.Count.{count_of}
 use Rattle.heyvl_acts.specs.PlainActs.{procedure_of, procedures_of}
 use Rattle.heyvl_acts.specs.Rules.{MeetsAllRules, MeetsRules}
-use Rattle.heyvl_acts.specs.WellTyped.{ActsFit}
-use Rattle.heyvl_acts.specs.declared.typed.TProc.{TProc}
-use Rattle.heyvl_acts.specs.declared.typed.Typed.{Typed}
-use Rattle.heyvl_acts.specs.declared.typed.VarInfo.{VarInfo}
+use Rattle.heyvl_acts.specs.WellTypedActs.{ActsFit}
+use Rattle.heyvl_acts.specs.declared.typed_trees.TProc.{TProc}
+use Rattle.heyvl_acts.specs.declared.typed_trees.Typed.{Typed}
+use Rattle.heyvl_acts.specs.declared.typed_trees.VarInfo.{VarInfo}
 use Rattle.loop_encodings.specs.Encoding.{all_variables, encoded, encoding}
 use Rattle.loop_encodings.specs.Fresh.{fresh}
 use Rattle.loop_encodings.specs.internal.Ready.{AreReady, plain_variables}

@@ -10,17 +10,17 @@ use Rattle.heylo_formula.specs.declared.forms.Form as F
 use Rattle.heylo_formula.specs.declared.terms.Term as T
 use Rattle.heylo_formula.specs.declared.types.Ty.{Ty}
 use Rattle.heyvl_acts.specs.Acts.{Act, Acts, join, type_list}
-use Rattle.heylo_formula.specs.Shifted.{shifted}
+use Rattle.heylo_formula.specs.Shifts.{shifted}
 use Rattle.heyvl_acts.proofs.exported.PlainActsAre.{set_act, any_act, check_act}
 use Rattle.heyvl_acts.specs.PlainActs.{act_of, acts_of, procedure_of, terms_of}
 use Rattle.heyvl_acts.specs.declared.acts.Act as A
-use Rattle.heyvl_acts.specs.declared.typed.TProc.{TProc}
+use Rattle.heyvl_acts.specs.declared.typed_trees.TProc.{TProc}
 use Rattle.k_induction.specs.Copies.{may}
-use Rattle.heyvl_acts.specs.declared.typed.VarInfo.{VarInfo}
+use Rattle.heyvl_acts.specs.declared.typed_trees.VarInfo.{VarInfo}
 use Rattle.loop_encodings.specs.Encoding.{sets, any_block, read, gets, havocs}
 use Rattle.loop_encodings.specs.internal.Ready.{IsCallee, plain_variables, returned}
 use Rattle.loop_encodings.proofs.OwnVariables.{inputs_length}
-use Rattle.loop_encodings.proofs.Appending.{left_over, number_left, join_nothing, one_more, last_one}
+use Rattle.loop_encodings.proofs.AppendedActs.{left_over, number_left, join_nothing, one_more, last_one}
 
 pub sets_more : (span : Span) (m n : ℕ) (es : List T.Term) (i : ℕ) (e : T.Term) (rest : Acts) → n ≡ m + 1 → i < length es → e ≡ get_or es i e → Acts.next (Act.set m (term_of e) span) (sets span n (terms_of (drop (i + 1) es)) rest) ≡ sets span m (terms_of (drop i es)) rest
 sets_more span m n es i e rest up lt is = ap (λ k. Acts.next (Act.set m (term_of e) span) (sets span k (terms_of (drop (i + 1) es)) rest)) (up ∙ add-one m) ∙ ap (λ l. sets span m (terms_of l) rest) (sym (left_over es i e lt is))

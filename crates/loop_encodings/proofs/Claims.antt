@@ -29,10 +29,10 @@ use Rattle.heyvl_acts.proofs.exported.Tosses.{toss_fit, flips_weigh, before_prod
 use Rattle.heyvl_acts.specs.Acts.{Head, Act, Acts, Arms, Variable, TypedProcedure, variables, type_list, types_of, acts_in, procedure_at}
 use Rattle.heyvl_acts.specs.Forward.{Post, checked, picked, part, parts, drawn}
 use Rattle.heyvl_acts.specs.Matching.{taken}
-use Rattle.heyvl_acts.specs.Modified.{modified}
+use Rattle.heyvl_acts.specs.ModifiedVariables.{modified}
 use Rattle.heyvl_acts.specs.Rules.{IsOwn}
 use Rattle.heyvl_acts.specs.Visible.{Visible, among, shown, interface, Sees, SeesCond, shown_by, ScopedAct}
-use Rattle.heyvl_acts.specs.WellTyped.{PartsFit}
+use Rattle.heyvl_acts.specs.WellTypedActs.{PartsFit}
 use Rattle.k_induction.specs.Copies.{must}
 use Rattle.run_machine.specs.Bound.{BoundBy, IsState}
 use Rattle.run_machine.specs.Configurations.{Item, Frame, Config, Outcomes, push, evaluate, set_all, outs, callee_items, first_state, outputs_of, begin}

@@ -8,7 +8,7 @@ use Rattle.heylo_formula.specs.Formula.{Term}
 use Rattle.heylo_formula.specs.Typing.{Types}
 use Rattle.heylo_formula.specs.declared.types.Ty.{Ty}
 use Rattle.heyvl_acts.specs.Acts.{Head, Act, Acts, Arms, TypedProcedure, Variable, acts_in, join, procedure_at, type_list, types_of, variables}
-use Rattle.heyvl_acts.specs.Modified.{is_target_of, modified}
+use Rattle.heyvl_acts.specs.ModifiedVariables.{is_target_of, modified}
 use Rattle.heyvl_acts.specs.Places.{in_order, inside, inside_arms}
 use Rattle.heyvl_acts.specs.Rules.{Each, GrowBelow, MeetsRules}
 use Rattle.k_induction.specs.Copies.{copies}

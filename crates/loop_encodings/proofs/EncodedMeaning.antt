@@ -14,13 +14,13 @@ use Rattle.heylo_formula.specs.State.{Env, put, fit, has, truth_of, number_of, e
 use Rattle.heylo_formula.specs.Choices.{Choices, here, left, right}
 use Rattle.heylo_formula.specs.Formula.{Form, Cond, Term}
 use Rattle.heylo_formula.specs.Meaning.{value, holds, term_value}
-use Rattle.heylo_formula.specs.Shifted.{shifted}
+use Rattle.heylo_formula.specs.Shifts.{shifted}
 use Rattle.heylo_formula.specs.Typing.{Types, HasTypes}
 use Rattle.heylo_formula.specs.declared.types.Ty.{Ty}
 use Rattle.heylo_formula.specs.declared.values.Val.{Val}
 use Rattle.heylo_formula.specs.declared.values.Val.TheVariants.{Truth, Num}
 use Rattle.heylo_formula.proofs.exported.Agreement.{same_on, same_on_in}
-use Rattle.heylo_formula.proofs.exported.Shifted.{shifted_value}
+use Rattle.heylo_formula.proofs.exported.Shifts.{shifted_value}
 use Rattle.heylo_formula.proofs.exported.States.{fit_has, length-typed, put_keeps}
 use Rattle.heylo_formula.proofs.exported.TypedTerms.{term_typed}
 use Rattle.heyvl_num.specs.ValueOperators.{minᵛ}
@@ -28,10 +28,10 @@ use Rattle.heyvl_acts.specs.Tosses.{toss_parts, flip_parts}
 use Rattle.heyvl_acts.proofs.exported.Tosses.{toss_fit}
 use Rattle.heyvl_acts.specs.Acts.{Head, Act, Acts, Arms, TypedProcedure, Variable, join, procedure_at, type_list, types_of, variables}
 use Rattle.heyvl_acts.specs.Forward.{Post, OfLoops, OfCalls, checked, validated, past_products, part, parts, drawn, meant, meant_act, meant_arms, no_loops, no_calls, forward}
-use Rattle.heyvl_acts.specs.Modified.{modified}
+use Rattle.heyvl_acts.specs.ModifiedVariables.{modified}
 use Rattle.heyvl_acts.specs.Rules.{Each, IsOwn}
 use Rattle.heyvl_acts.specs.Visible.{Scoped, ScopedAct, ScopedArms, Sees, SeesCond, SeesParts, SeesTerm, SeesTerms, Visible, shown_by}
-use Rattle.heyvl_acts.specs.WellTyped.{PartsFit}
+use Rattle.heyvl_acts.specs.WellTypedActs.{PartsFit}
 use Rattle.k_induction.specs.Copies.{must, may, meets, copies, if_holds, no_more}
 use Rattle.run_machine.specs.Configurations.{evaluate}
 use Rattle.loop_encodings.specs.Encoding.{sets, any_block, read, gets, encoded_call, havocs, tested, encoded_loop, encoded_act, encoded, encoded_arms}

@@ -5,18 +5,18 @@ use Prim.Native.Nat.{zero, suc}
 use Rattle.heyvl_num.specs.Rational.{Rational}
 use Rattle.heyvl_places.specs.declared.spans.Span.{Span}
 use Rattle.heylo_formula.specs.Formula.{Form, Cond, Term}
-use Rattle.heylo_formula.specs.Shifted.{shifted}
+use Rattle.heylo_formula.specs.Shifts.{shifted}
 use Rattle.heylo_formula.specs.Typing.{Types, TermFits}
 use Rattle.heylo_formula.specs.Variables.{IsOver, IsOverIn}
 use Rattle.heylo_formula.specs.declared.types.Ty.{Ty}
 use Rattle.heylo_formula.proofs.exported.Plain.{term_plain}
-use Rattle.heylo_formula.proofs.exported.Shifted.{shifted_over}
+use Rattle.heylo_formula.proofs.exported.Shifts.{shifted_over}
 use Rattle.heyvl_acts.specs.Acts.{Head, Act, Acts, Arms, TypedProcedure, Variable, acts_in, join, procedure_at, type_list, types_of, variables}
-use Rattle.heyvl_acts.specs.Modified.{modified}
+use Rattle.heyvl_acts.specs.ModifiedVariables.{modified}
 use Rattle.heyvl_acts.specs.Places.{in_order, inside, inside_arms}
 use Rattle.heyvl_acts.specs.Rules.{ArgumentsFit, Each, GuardsFit, MeetsRules}
 use Rattle.heyvl_acts.specs.Visible.{Scoped, ScopedAct, ScopedArms, Sees, SeesCond, SeesParts, SeesTerm, SeesTerms, Visible, interface, shown_by}
-use Rattle.heyvl_acts.specs.WellTyped.{DrawFits, PartsFit}
+use Rattle.heyvl_acts.specs.WellTypedActs.{DrawFits, PartsFit}
 use Rattle.k_induction.specs.Copies.{copies}
 use Rattle.vp_generator.specs.Over.{TermIsOver, PartsAreOver, ActsAreOver, ArmsAreOver}
 use Rattle.loop_encodings.specs.Encoding.{all_variables, any_block, encoded, encoded_act, encoded_arms, encoded_loop, encoding, gets, havocs, read, sets, tested}

@@ -8,18 +8,18 @@ use Prim.Native.Nat.{zero, suc}
 use Rattle.heyvl_num.specs.Rational.{Rational}
 use Rattle.heyvl_places.specs.declared.spans.Span.{Span}
 use Rattle.heylo_formula.specs.Formula.{Form, Cond, Term}
-use Rattle.heylo_formula.specs.Shifted.{shifted}
+use Rattle.heylo_formula.specs.Shifts.{shifted}
 use Rattle.heylo_formula.specs.Typing.{IsFormula, Types, types_in, number_type, fits, is_bool, is_unsigned, is_well_typed, TermFits, is_finite_type}
 use Rattle.heylo_formula.specs.Variables.{IsOver}
 use Rattle.heylo_formula.specs.declared.types.Ty.{Ty}
 use Rattle.heylo_formula.proofs.exported.Agreement.{same_types, same_truth}
-use Rattle.heylo_formula.proofs.exported.Shifted.{shifted_type, shifted_binders}
+use Rattle.heylo_formula.proofs.exported.Shifts.{shifted_type, shifted_binders}
 use Rattle.heyvl_acts.specs.Acts.{Head, Act, Acts, Arms, TypedProcedure, Variable, acts_in, join, procedure_at, type_list, types_of, variables}
-use Rattle.heyvl_acts.specs.Modified.{is_target_of, modified}
+use Rattle.heyvl_acts.specs.ModifiedVariables.{is_target_of, modified}
 use Rattle.heyvl_acts.specs.Places.{in_order, inside, inside_arms}
 use Rattle.heyvl_acts.specs.Rules.{ArgumentsFit, Each, GrowBelow, GuardsFit, IsOwn, MeetsRules, TargetsFit, widens_to}
 use Rattle.heyvl_acts.specs.Visible.{Scoped, ScopedAct, ScopedArms, Sees, SeesCond, SeesParts, SeesTerm, SeesTerms, Visible, interface, shown, shown_all, shown_by}
-use Rattle.heyvl_acts.specs.WellTyped.{ActsFit, ArmsFit, DrawFits, IsHeld, IsProbability, PartsFit}
+use Rattle.heyvl_acts.specs.WellTypedActs.{ActsFit, ArmsFit, DrawFits, IsHeld, IsProbability, PartsFit}
 use Rattle.k_induction.specs.Copies.{copies}
 use Rattle.loop_encodings.specs.Encoding.{all_variables, any_block, encoded, encoded_act, encoded_arms, encoded_loop, encoding, gets, havocs, read, sets, tested}
 use Rattle.loop_encodings.specs.Fresh.{fresh, fresh_of_act, fresh_of_arms}

@@ -5,7 +5,7 @@ use Rattle.heylo_formula.specs.Formula.{Form, Cond, Term}
 use Rattle.heylo_formula.specs.Substitution as Replaced
 use Rattle.heylo_formula.specs.Variables.{is_free, is_free_in, occurs_in_term}
 use Rattle.heylo_formula.specs.declared.types.Ty.{Ty}
-use Rattle.vp_generator.specs.Generated.{check_form, pick_form, validate_form}
+use Rattle.vp_generator.specs.GeneratedForms.{check_form, pick_form, validate_form}
 use Rattle.loop_encodings.proofs.SubstitutedVariables.{left_free}
 
 -- P holds of each free variable.

@@ -9,7 +9,7 @@ use Rattle.heylo_formula.specs.Substitution as Replaced
 use Rattle.heylo_formula.specs.Variables.{is_free, occurs}
 use Rattle.heylo_formula.specs.declared.types.Ty.{Ty}
 use Rattle.heyvl_acts.specs.Acts.{Act, Acts, TypedProcedure, nobody}
-use Rattle.vp_generator.specs.Generated.{vp}
+use Rattle.vp_generator.specs.GeneratedForms.{vp}
 use Rattle.loop_encodings.specs.FreshLaws.{generated_form, main_goal}
 use Rattle.loop_encodings.proofs.Examples.{here, named}
 

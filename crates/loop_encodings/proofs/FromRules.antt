@@ -3,15 +3,15 @@ use Rattle.std.proofs.Common.{◌≡◌, ◌≤◌, ◌<◌, ◌+◌, ℕ, refl,
 use Rattle.std.proofs.lemmas.List.{length-append, length-map}
 use Prim.Native.Nat.{zero, suc}
 use Rattle.heylo_formula.specs.Formula.{Term}
-use Rattle.heylo_formula.specs.Shifted.{extent}
-use Rattle.heylo_formula.proofs.exported.Shifted.{extent_over}
+use Rattle.heylo_formula.specs.Shifts.{extent}
+use Rattle.heylo_formula.proofs.exported.Shifts.{extent_over}
 use Rattle.heylo_formula.specs.declared.types.Ty.{Ty}
 use Rattle.heyvl_acts.specs.Acts.{Act, Acts, Arms, TypedProcedure, Variable, acts_in, procedure_at, type_list}
 use Rattle.heyvl_acts.specs.PlainActs.{procedure_of, procedures_of}
 use Rattle.heyvl_acts.specs.Places.{in_order, inside, inside_arms}
 use Rattle.heyvl_acts.specs.Rules.{ArgumentsFit, Each, FollowsDirection, HasOwnTargets, IsCounted, IsTypedAct, LoopsMeet, MeetsAllRules, MeetsRules, TargetsFit}
-use Rattle.heyvl_acts.specs.declared.typed.TProc.{TProc}
-use Rattle.heyvl_acts.specs.declared.typed.Typed.{Typed}
+use Rattle.heyvl_acts.specs.declared.typed_trees.TProc.{TProc}
+use Rattle.heyvl_acts.specs.declared.typed_trees.Typed.{Typed}
 use Rattle.heyvl_acts.proofs.exported.Each.{each_first, each_second, each_two, each_at}
 use Rattle.loop_encodings.specs.internal.Ready.{AreReady, AreReadyArms, IsCall, IsCallee, IsReady}
 use Rattle.loop_encodings.proofs.OwnVariables.{inputs_length, outputs_length}

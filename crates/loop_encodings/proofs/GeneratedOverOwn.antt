@@ -6,19 +6,19 @@ use Rattle.heyvl_num.specs.Rational.{Rational}
 use Rattle.heyvl_num.specs.Value.{oneᵛ}
 use Rattle.heyvl_places.specs.declared.spans.Span.{Span}
 use Rattle.heylo_formula.specs.Formula.{Form, Cond, Term}
-use Rattle.heylo_formula.specs.Shifted.{shifted}
+use Rattle.heylo_formula.specs.Shifts.{shifted}
 use Rattle.heylo_formula.specs.Substitution as Replaced
 use Rattle.heylo_formula.specs.Typing.{Types}
 use Rattle.heylo_formula.specs.Variables.{occurs_in_term, IsOver, IsOverIn}
 use Rattle.heylo_formula.specs.declared.types.Ty.{Ty}
-use Rattle.heylo_formula.proofs.exported.Shifted.{above_shift, shifted_over}
+use Rattle.heylo_formula.proofs.exported.Shifts.{above_shift, shifted_over}
 use Rattle.heyvl_acts.specs.Acts.{Head, Act, Acts, Arms, TypedProcedure, Variable, acts_in, join, procedure_at, type_list, types_of, variables}
-use Rattle.heyvl_acts.specs.Modified.{modified}
+use Rattle.heyvl_acts.specs.ModifiedVariables.{modified}
 use Rattle.heyvl_acts.specs.Places.{in_order, inside, inside_arms}
 use Rattle.heyvl_acts.specs.Rules.{Each, GuardsFit, MeetsRules}
 use Rattle.heyvl_acts.specs.Visible.{Scoped, ScopedAct, ScopedArms, Visible, interface, shown_by}
 use Rattle.k_induction.specs.Copies.{copies, may, meets, must}
-use Rattle.vp_generator.specs.Generated.{draw_form, part_form, sum_of_parts, toss_form, vp, vp_act, vp_arms}
+use Rattle.vp_generator.specs.GeneratedForms.{draw_form, part_form, sum_of_parts, toss_form, vp, vp_act, vp_arms}
 use Rattle.vp_generator.specs.Over.{PartsAreOver, TermIsOver}
 use Rattle.loop_encodings.specs.Encoding.{any_block, encoded, encoded_act, encoded_arms, encoded_call, encoded_loop, gets, havocs, read, sets, tested}
 use Rattle.loop_encodings.specs.Fresh.{fresh, fresh_of_act, fresh_of_arms}

@@ -24,7 +24,7 @@ use Rattle.heyvl_acts.specs.Acts.{Head, Act, Acts, Arms, TypedProcedure, variabl
 use Rattle.heyvl_acts.specs.Matching.{taken}
 use Rattle.heyvl_acts.specs.Rules.{IsOwn}
 use Rattle.heyvl_acts.specs.Visible.{Visible, shown, interface, shown_by, ScopedAct, Scoped, ScopedArms}
-use Rattle.heyvl_acts.specs.WellTyped.{PartsFit}
+use Rattle.heyvl_acts.specs.WellTypedActs.{PartsFit}
 use Rattle.run_machine.specs.Bound.{IsState}
 use Rattle.run_machine.specs.Configurations.{Item, Frame, Config, Outcomes, push, evaluate, outs, callee_items, outputs_of}
 use Rattle.run_machine.specs.Runs.{Runner, spread, onward, runs}

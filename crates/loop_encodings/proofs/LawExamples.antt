@@ -14,7 +14,7 @@ use Rattle.heylo_formula.specs.declared.types.Ty.{Ty}
 use Rattle.heyvl_acts.specs.Acts.{Act, Arms, TypedProcedure, nobody}
 use Rattle.heyvl_acts.specs.Program.{Calls, IsProgram, Reaches}
 use Rattle.heyvl_acts.specs.Rules.{MeetsRules}
-use Rattle.heyvl_acts.specs.WellTyped.{IsHeld, IsProbability}
+use Rattle.heyvl_acts.specs.WellTypedActs.{IsHeld, IsProbability}
 use Rattle.run_machine.specs.Bound.{Bound}
 use Rattle.loop_encodings.specs.BoundGoals.{BoundGoalsHold}
 use Rattle.loop_encodings.specs.Law.{IsShown}

@@ -16,7 +16,7 @@ use Rattle.heylo_formula.specs.declared.types.Ty.{Ty}
 use Rattle.heyvl_acts.specs.Acts.{Act, Acts, Arms, TypedProcedure, nobody}
 use Rattle.heyvl_acts.specs.Program.{Calls}
 use Rattle.heyvl_acts.specs.Rules.{MeetsRules}
-use Rattle.heyvl_acts.specs.WellTyped.{IsHeld}
+use Rattle.heyvl_acts.specs.WellTypedActs.{IsHeld}
 use Rattle.run_machine.specs.Bound.{Bound}
 use Rattle.loop_encodings.proofs.LawExamples.{bound_of}
 use Rattle.loop_encodings.proofs.SmallPrograms.{half_form, half_held, nowhere, only, only_first, flag_named, zero_form, one_form, two_form, zero_held, one_held, two_held, coin, half_from_zero, fair_weighs_one}

@@ -1,4 +1,4 @@
-pub mod Appending
+pub mod AppendedActs
 pub mod OwnVariables
 pub mod CallSteps
 pub mod Steps

@@ -8,7 +8,7 @@ use Rattle.heylo_formula.specs.Meaning.{value, holds}
 use Rattle.heylo_formula.specs.Typing.{Types, HasTypes}
 use Rattle.heyvl_acts.specs.Acts.{Head, Acts, TypedProcedure, types_of, procedure_at}
 use Rattle.heyvl_acts.specs.Forward.{Post, checked}
-use Rattle.heyvl_acts.specs.Modified.{modified}
+use Rattle.heyvl_acts.specs.ModifiedVariables.{modified}
 use Rattle.heyvl_acts.specs.Visible.{among, Sees, SeesCond, Scoped}
 use Rattle.k_induction.specs.Copies.{must}
 use Rattle.loop_encodings.specs.internal.Contracts.{worst, havoc, after, more, once, way, blame, meaning}

@@ -1,7 +1,7 @@
 -- Of a loop's scope, the body changes the modified variables alone.
 use Rattle.std.proofs.Common.{◌≡◌, ◌∙◌, ℕ, refl, sym, ap, arith, Bool, true, false, cond, ◌==◌, ◌||◌, List, [], ◌∷◌, ◌⊎◌, inl, inr}
 use Rattle.heyvl_acts.specs.Acts.{Act, Acts, Arms}
-use Rattle.heyvl_acts.specs.Modified.{is_target_of, is_target_of_act, is_target_of_arms, modified}
+use Rattle.heyvl_acts.specs.ModifiedVariables.{is_target_of, is_target_of_act, is_target_of_arms, modified}
 use Rattle.heyvl_acts.specs.Visible.{Visible, among}
 use Rattle.loop_encodings.specs.internal.Programs.{In, AllIn, Within, WithinAct, WithinArms}
 

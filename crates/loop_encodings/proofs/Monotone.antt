@@ -25,10 +25,10 @@ use Rattle.heyvl_acts.specs.Tosses.{toss_weight, toss_parts}
 use Rattle.heyvl_acts.proofs.exported.Tosses.{toss_fit, flips_weigh, before_products}
 use Rattle.heyvl_acts.specs.Acts.{Head, Act, Acts, Arms, Variable, TypedProcedure, variables, type_list, types_of, procedure_at}
 use Rattle.heyvl_acts.specs.Forward.{Post, past_products, picked, part, parts, drawn, meant_arms}
-use Rattle.heyvl_acts.specs.Modified.{modified}
+use Rattle.heyvl_acts.specs.ModifiedVariables.{modified}
 use Rattle.heyvl_acts.specs.Rules.{ArgumentsFit}
 use Rattle.heyvl_acts.specs.Visible.{Visible}
-use Rattle.heyvl_acts.specs.WellTyped.{IsHeld, PartsFit}
+use Rattle.heyvl_acts.specs.WellTypedActs.{IsHeld, PartsFit}
 use Rattle.k_induction.specs.Copies.{must, meets}
 use Rattle.run_machine.specs.Configurations.{evaluate}
 use Rattle.run_machine.specs.Sums.{begun}

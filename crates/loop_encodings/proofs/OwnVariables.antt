@@ -7,8 +7,8 @@ use Rattle.heylo_formula.specs.Typing.{types_in}
 use Rattle.heyvl_acts.specs.Acts.{Variable, variables, type_list, types_of}
 use Rattle.heyvl_acts.specs.PlainActs.{procedure_of, variable_of}
 use Rattle.heyvl_acts.specs.Rules.{GrowBelow}
-use Rattle.heyvl_acts.specs.declared.typed.TProc.{TProc}
-use Rattle.heyvl_acts.specs.declared.typed.VarInfo.{VarInfo}
+use Rattle.heyvl_acts.specs.declared.typed_trees.TProc.{TProc}
+use Rattle.heyvl_acts.specs.declared.typed_trees.VarInfo.{VarInfo}
 use Rattle.loop_encodings.specs.internal.Ready.{plain_variables}
 
 take_none : {X : Type 0} → (n : ℕ) (none : List X) → length none ≤ 0 → take n none ≡ none

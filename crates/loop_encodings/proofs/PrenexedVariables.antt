@@ -5,7 +5,7 @@ use Rattle.heylo_formula.specs.Formula.{Form, Cond}
 use Rattle.heylo_formula.specs.BinderNames.{binders, binders_in}
 use Rattle.heylo_formula.specs.Variables.{is_free, is_free_in, occurs, occurs_in}
 use Rattle.heylo_formula.proofs.exported.Agreement.{clash, neither}
-use Rattle.vp_generator.specs.Prenexed.{Numbering, prenexed, renumbered, unbound, unbound_in}
+use Rattle.vp_generator.specs.PrenexedForms.{Numbering, prenexed, renumbered, unbound, unbound_in}
 
 or_left : (a b : Bool) → a ≡ true → (a || b) ≡ true
 or_left a b h = rw h

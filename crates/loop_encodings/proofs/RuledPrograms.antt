@@ -13,7 +13,7 @@ use Rattle.heyvl_acts.specs.Places.{in_order, inside, inside_arms}
 use Rattle.heyvl_acts.specs.Program.{breaks}
 use Rattle.heyvl_acts.specs.Rules.{Each, FollowsDirection, GrowBelow, GuardsFit, HasOwnTargets, IsOwn, IsTypedAct, LoopsMeet, TargetsFit, WeighsOne}
 use Rattle.heyvl_acts.specs.Visible.{Visible, Scoped, ScopedAct, ScopedArms, among, shown_by}
-use Rattle.heyvl_acts.specs.WellTyped.{DrawFits, PartsFit}
+use Rattle.heyvl_acts.specs.WellTypedActs.{DrawFits, PartsFit}
 use Rattle.loop_encodings.specs.BoundGoals.{IsAtMostOne}
 use Rattle.loop_encodings.specs.internal.Programs.{Owns, Program, ProgramAct, ProgramArms}
 use Rattle.heyvl_acts.proofs.exported.Each.{each_first, each_second}

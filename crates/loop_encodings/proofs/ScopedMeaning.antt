@@ -18,7 +18,7 @@ use Rattle.heyvl_num.specs.ValueOperators.{minᵛ}
 use Rattle.heyvl_acts.specs.Tosses.{toss_parts, flip_parts}
 use Rattle.heyvl_acts.specs.Acts.{Head, Act, Acts, Arms, TypedProcedure, type_list, types_of, procedure_at}
 use Rattle.heyvl_acts.specs.Forward.{Post, picked, checked, validated, past_products, part, parts, drawn, meant_arms}
-use Rattle.heyvl_acts.specs.Modified.{modified}
+use Rattle.heyvl_acts.specs.ModifiedVariables.{modified}
 use Rattle.heyvl_acts.specs.Visible.{Visible, shown, shown_all, Sees, SeesCond, SeesTerm, SeesTerms, SeesParts, shown_by, ScopedAct, Scoped, ScopedArms}
 use Rattle.k_induction.specs.Copies.{must, may, meets}
 use Rattle.run_machine.specs.Configurations.{evaluate}

@@ -12,7 +12,7 @@ use Rattle.heyvl_acts.specs.PlainActs.{act_of, acts_of, arms_of}
 use Rattle.loop_encodings.specs.Encoding.{encoded, encoded_act, encoded_arms}
 use Rattle.loop_encodings.specs.Fresh.{fresh, fresh_of_act, fresh_of_arms}
 use Rattle.loop_encodings.specs.internal.Ready.{AreReady, IsReady, AreReadyArms}
-use Rattle.loop_encodings.proofs.Appending.{join_nothing, join_twice, left_over}
+use Rattle.loop_encodings.proofs.AppendedActs.{join_nothing, join_twice, left_over}
 
 -- Arms, one list after the other.
 abbrev pub then_arms : Arms → Arms → Arms

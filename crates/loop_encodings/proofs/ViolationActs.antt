@@ -12,7 +12,7 @@ use Rattle.heyvl_acts.specs.Acts.{Act, Acts, TypedProcedure, acts_in, types_of, 
 use Rattle.heyvl_acts.specs.Places.{in_order}
 use Rattle.heyvl_acts.specs.Program.{Reason, first_break, reason_of_break, IsProgram}
 use Rattle.heyvl_acts.specs.Rules.{Each, IsOwn, FollowsDirection, HasOwnTargets, IsTypedAct, MeetsRules, WeighsOne}
-use Rattle.heyvl_acts.specs.WellTyped.{DrawFits, PartsFit, IsProbability}
+use Rattle.heyvl_acts.specs.WellTypedActs.{DrawFits, PartsFit, IsProbability}
 use Rattle.heylo_formula.specs.declared.types.Ty.{Ty}
 use Rattle.heyvl_acts.specs.Straight.{IsStraight}
 

@@ -20,7 +20,7 @@ use Rattle.heylo_formula.proofs.exported.Agreement.{clash}
 use Rattle.heylo_formula.proofs.exported.States.{env_typed, fit_has}
 use Rattle.heylo_formula.proofs.exported.TypedTerms.{term_typed}
 use Rattle.heylo_formula.specs.Typing.{TermFits}
-use Rattle.heyvl_acts.specs.WellTyped.{PartsFit}
+use Rattle.heyvl_acts.specs.WellTypedActs.{PartsFit}
 use Rattle.run_machine.specs.Bound.{IsState}
 use Rattle.loop_encodings.proofs.ProgramStates.{own_set, own_put}
 use Rattle.heyvl_num.proofs.exported.Rationals.{≤ʳ_refl, +ʳ_nonnegative}

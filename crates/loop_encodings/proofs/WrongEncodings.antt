@@ -18,10 +18,10 @@ use Rattle.heylo_formula.specs.declared.values.Val.{Val}
 use Rattle.heylo_formula.specs.declared.values.Val.TheVariants.{Truth}
 use Rattle.heyvl_acts.specs.Acts.{Act, Acts, TypedProcedure, nobody, Head, join, types_of}
 use Rattle.heyvl_acts.specs.Forward.{forward}
-use Rattle.heyvl_acts.specs.Modified.{modified}
+use Rattle.heyvl_acts.specs.ModifiedVariables.{modified}
 use Rattle.heyvl_acts.specs.Rules.{MeetsRules}
 use Rattle.heyvl_acts.specs.Visible.{among, Sees}
-use Rattle.heyvl_acts.specs.WellTyped.{IsHeld}
+use Rattle.heyvl_acts.specs.WellTypedActs.{IsHeld}
 use Rattle.k_induction.specs.Copies.{if_holds, last_copy, may, must, no_more}
 use Rattle.run_machine.specs.Bound.{Bound}
 use Rattle.run_machine.specs.Configurations.{begin}

@@ -20,7 +20,7 @@ use Rattle.heylo_formula.specs.declared.values.Val.TheVariants.{Truth, Num}
 use Rattle.heyvl_acts.specs.Acts.{Act, Acts, TypedProcedure, nobody, types_of}
 use Rattle.heyvl_acts.specs.Forward.{forward}
 use Rattle.heyvl_acts.specs.Rules.{MeetsRules}
-use Rattle.heyvl_acts.specs.WellTyped.{IsHeld}
+use Rattle.heyvl_acts.specs.WellTypedActs.{IsHeld}
 use Rattle.k_induction.specs.Copies.{if_holds, last_copy, may, meets, must}
 use Rattle.run_machine.specs.Bound.{Bound}
 use Rattle.loop_encodings.specs.BoundGoals.{IsBounded}

@@ -7,11 +7,11 @@ use Rattle.std.specs.Prelude.{ℕ, ◌+◌, Bool, List, [], ◌∷◌, ◌++◌,
 use Prim.Native.Nat.{suc}
 use Rattle.heyvl_places.specs.declared.spans.Span.{Span}
 use Rattle.heylo_formula.specs.Formula.{Form, Cond, Term}
-use Rattle.heylo_formula.specs.Shifted.{shifted}
+use Rattle.heylo_formula.specs.Shifts.{shifted}
 use Rattle.heylo_formula.specs.Typing.{Types}
 use Rattle.heylo_formula.specs.declared.types.Ty.{Ty}
 use Rattle.heyvl_acts.specs.Acts.{Head, Act, Acts, Arms, TypedProcedure, Variable, join, type_list, types_of, variables, acts_in, procedure_at}
-use Rattle.heyvl_acts.specs.Modified.{modified}
+use Rattle.heyvl_acts.specs.ModifiedVariables.{modified}
 use Rattle.k_induction.specs.Copies.{must, may, copies, if_holds}
 use Rattle.loop_encodings.specs.Fresh.{fresh, fresh_of_act, fresh_of_arms}
 

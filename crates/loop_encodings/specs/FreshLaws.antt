@@ -8,7 +8,7 @@ use Rattle.heylo_formula.specs.Goals.{Goal}
 use Rattle.heylo_formula.specs.Variables.{is_free, occurs, IsOver}
 use Rattle.heyvl_acts.specs.Acts.{TypedProcedure, acts_in, procedure_at, type_list, variables}
 use Rattle.heyvl_acts.specs.Rules.{Each, MeetsRules}
-use Rattle.vp_generator.specs.Generated.{vp}
+use Rattle.vp_generator.specs.GeneratedForms.{vp}
 use Rattle.vp_generator.specs.PrenexedGoals.{prenexed_goal}
 use Rattle.loop_encodings.specs.Encoding.{all_variables, encoding}
 use Rattle.loop_encodings.specs.Fresh.{fresh}

@@ -2,7 +2,7 @@
 //! one on.
 
 ghost use Rattle.heylo_formula.specs.PlainTrees.{form_of, term_of};
-ghost use Rattle.heylo_formula.specs.Shifted.{shifted};
+ghost use Rattle.heylo_formula.specs.Shifts.{shifted};
 ghost use Rattle.heyvl_acts.specs.Acts.{Act as plain_act, Acts as plain_acts, join, type_list};
 ghost use Rattle.heyvl_acts.specs.PlainActs.{acts_of, procedure_of, terms_of};
 ghost use Rattle.k_induction.specs.Copies.{may, must};

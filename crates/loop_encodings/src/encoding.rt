@@ -5,14 +5,14 @@ ghost use Rattle.heyvl_acts.specs.Acts.{Acts as plain_acts, acts_in, join, proce
 ghost use Rattle.heyvl_acts.specs.Count.{count_of};
 ghost use Rattle.heyvl_acts.specs.PlainActs.{act_of, acts_of, procedure_of, procedures_of, variable_of};
 ghost use Rattle.heyvl_acts.specs.Rules.{MeetsAllRules};
-ghost use Rattle.heyvl_acts.specs.WellTyped.{ActsFit};
+ghost use Rattle.heyvl_acts.specs.WellTypedActs.{ActsFit};
 ghost use Rattle.loop_encodings.specs.Encoding.{all_variables, encoded, encoded_act, encoding};
 ghost use Rattle.loop_encodings.specs.Fresh.{fresh, fresh_of_act};
 ghost use Rattle.loop_encodings.specs.internal.Ready.{AreReady, IsReady, plain_variables};
 ghost use Rattle.std.specs.Prelude.{IfOk, OnOk, length, map, ◌++◌, ◌+◌, ◌<◌, ◌^◌, ◌≡◌, ◌≤◌};
 
 use crate::calls::{add_entry, add_return};
-use crate::encoded::Encoded;
+use crate::encoded_bodies::Encoded;
 use crate::loops::add_loop;
 use crate::variables::{add_variables, interface_of};
 use heyvl_acts::{Act, TProc, Typed, VarInfo};

@@ -2,13 +2,13 @@
 #![tactic(auto)]
 
 mod calls;
-mod encoded;
+mod encoded_bodies;
 mod encoding;
 mod laws;
 mod loops;
 mod variables;
 
-pub use encoded::Encoded;
+pub use encoded_bodies::Encoded;
 pub use encoding::encode;
 pub use laws::{
     broken_goals_break_bounds, encodings_are_over_their_variables, main_goals_lack_fresh_variables,

@@ -1,7 +1,7 @@
 //! The encoding of a loop, whose body is encoded already.
 
 ghost use Rattle.heyvl_acts.specs.Acts.{Acts as plain_acts, join, types_of};
-ghost use Rattle.heyvl_acts.specs.Modified.{modified};
+ghost use Rattle.heyvl_acts.specs.ModifiedVariables.{modified};
 ghost use Rattle.heyvl_acts.specs.PlainActs.{acts_of, procedure_of};
 ghost use Rattle.heyvl_acts.specs.Rules.{GrowBelow};
 ghost use Rattle.heyvl_acts.proofs.exported.PlainActsAre.{head_of};

@@ -14,7 +14,7 @@ use Rattle.heyvl_acts.specs.Places.{in_order}
 use Rattle.heyvl_acts.specs.Program.{Reason, breaks, first_break, reason_of_break, IsProgram}
 use Rattle.heyvl_acts.specs.Rules.{Each, FollowsDirection, HasOwnTargets, IsOwn, IsTypedAct, MeetsRules, WeighsOne}
 use Rattle.heyvl_acts.specs.Straight.{IsStraight}
-use Rattle.heyvl_acts.specs.WellTyped.{DrawFits, IsProbability}
+use Rattle.heyvl_acts.specs.WellTypedActs.{DrawFits, IsProbability}
 use Rattle.heyvl_acts.proofs.exported.Each.{each_two}
 use Rattle.run_laws.specs.RuledConfigurations.{IsRuled}
 use Rattle.lower_rules.specs.OneLoop.{OneLoop}

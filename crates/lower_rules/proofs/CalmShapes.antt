@@ -23,7 +23,7 @@ use Rattle.heyvl_acts.specs.Matching.{taken}
 use Rattle.heyvl_acts.specs.Places.{in_order, inside, inside_arms}
 use Rattle.heyvl_acts.specs.Rules.{Each, IsOwn, WeighsOne}
 use Rattle.heyvl_acts.specs.Tosses.{toss_parts}
-use Rattle.heyvl_acts.specs.WellTyped.{PartsFit, DrawFits}
+use Rattle.heyvl_acts.specs.WellTypedActs.{PartsFit, DrawFits}
 use Rattle.run_machine.specs.Bound.{IsState}
 use Rattle.run_machine.specs.Configurations.{Item, Config, Outcomes, push}
 use Rattle.run_machine.specs.Runs.{Runner, spread}

@@ -17,7 +17,7 @@ use Rattle.goal_answers.specs.declared.causes.Cause.TheVariants as Cause
 use Rattle.goal_answers.specs.declared.decisions.Decision.TheVariants as decision
 use Rattle.std.specs.Prelude.{Vec, length}
 use Rattle.std.specs.declared.alloc.Global.{Global}
-use Rattle.lower_rules.specs.Collected.{settled}
+use Rattle.lower_rules.specs.CollectedSums.{settled}
 use Rattle.lower_rules.specs.OmegaAnswers.{told}
 use Rattle.lower_rules.specs.OmegaGoals.{greater, smaller}
 use Rattle.lower_rules.specs.OmegaPairs.{IsOmegaPair, formula_of, places}

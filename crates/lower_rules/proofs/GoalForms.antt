@@ -22,7 +22,7 @@ use Rattle.heylo_formula.proofs.exported.Substitutions.{count_subst, subst_binde
 use Rattle.heyvl_acts.specs.Acts.{TypedProcedure, type_list, variables}
 use Rattle.heyvl_acts.specs.FormSizes.{FormsWithin}
 use Rattle.heyvl_acts.specs.Rules.{AreNamed, Each, MeetsRules}
-use Rattle.heyvl_acts.specs.WellTyped.{ActsFit}
+use Rattle.heyvl_acts.specs.WellTypedActs.{ActsFit}
 use Rattle.vp_generator.specs.Fit.{AreFit}
 use Rattle.vp_generator.specs.Laws.{GeneratedFormIsFormula}
 use Rattle.vp_generator.specs.Limits.{IsSmall}

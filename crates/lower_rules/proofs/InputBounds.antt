@@ -10,8 +10,8 @@ use Rattle.heyvl_acts.specs.Acts.{Variable, type_list}
 use Rattle.heyvl_acts.specs.PlainActs.{body_of, procedure_of, variable_of}
 use Rattle.heyvl_acts.specs.Rules.{IsCounted}
 use Rattle.heyvl_acts.specs.declared.acts.Act as A
-use Rattle.heyvl_acts.specs.declared.typed.TProc.{TProc}
-use Rattle.heyvl_acts.specs.declared.typed.VarInfo.{VarInfo}
+use Rattle.heyvl_acts.specs.declared.typed_trees.TProc.{TProc}
+use Rattle.heyvl_acts.specs.declared.typed_trees.VarInfo.{VarInfo}
 use Rattle.lower_rules.specs.RemainderPairs.{IsInputBound}
 
 -- ---- The inputs

@@ -4,8 +4,8 @@ use Prim.Native.Nat.{zero, suc}
 use Rattle.heyvl_acts.specs.Acts.{TypedProcedure, procedure_at}
 use Rattle.heyvl_acts.specs.PlainActs.{procedure_of, procedures_of}
 use Rattle.heyvl_acts.specs.Rules.{Each, IsCounted, MeetsAllRules}
-use Rattle.heyvl_acts.specs.declared.typed.TProc.{TProc}
-use Rattle.heyvl_acts.specs.declared.typed.Typed.{Typed}
+use Rattle.heyvl_acts.specs.declared.typed_trees.TProc.{TProc}
+use Rattle.heyvl_acts.specs.declared.typed_trees.Typed.{Typed}
 use Rattle.loop_encodings.proofs.exported.FromRules.{procedure_is}
 use Rattle.lower_rules.specs.RemainderPairs.{IsInputBound, RemainderPair}
 

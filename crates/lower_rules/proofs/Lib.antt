@@ -4,7 +4,7 @@ pub mod Calm
 pub mod Straight
 pub mod OmegaBounds
 pub mod CalmShapes
-pub mod Raised
+pub mod RaisedBounds
 pub mod RemainderBounds
 mod Examples
 pub mod UniqueLoops
@@ -18,7 +18,7 @@ pub mod StartLaws
 pub mod MadeDecisions
 pub mod MadeForms
 pub mod MadeStarts
-pub mod Promised
+pub mod Promises
 pub mod PartAnswers
 mod RemainderExamples
 pub mod PlacedForms

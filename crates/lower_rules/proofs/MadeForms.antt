@@ -8,7 +8,7 @@ use Rattle.heylo_formula.specs.Formula.{Form}
 use Rattle.heylo_formula.specs.declared.goals.Made.{Made}
 use Rattle.heyvl_acts.specs.Acts.{Acts, Variable}
 use Rattle.heyvl_acts.specs.PlainActs.{variable_of}
-use Rattle.heyvl_acts.specs.declared.typed.VarInfo.{VarInfo}
+use Rattle.heyvl_acts.specs.declared.typed_trees.VarInfo.{VarInfo}
 use Rattle.ranking_rule.specs.MadeGoals.{IsMadeWithin, goal_over}
 use Rattle.ranking_rule.proofs.exported.MadeGoals.{is_made_within}
 use Rattle.vp_generator.specs.Fit.{AreFit}

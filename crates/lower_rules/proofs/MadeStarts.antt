@@ -16,9 +16,9 @@ use Rattle.heyvl_acts.specs.FormSizes.{FormsWithin}
 use Rattle.heyvl_acts.specs.PlainActs.{acts_of, procedures_of, variable_of}
 use Rattle.heyvl_acts.specs.Rules.{AreNamed, Each, MeetsAllRules, MeetsRules}
 use Rattle.heyvl_acts.specs.Upward.{upward}
-use Rattle.heyvl_acts.specs.declared.typed.TProc.{TProc}
-use Rattle.heyvl_acts.specs.declared.typed.Typed.{Typed}
-use Rattle.heyvl_acts.specs.declared.typed.VarInfo.{VarInfo}
+use Rattle.heyvl_acts.specs.declared.typed_trees.TProc.{TProc}
+use Rattle.heyvl_acts.specs.declared.typed_trees.Typed.{Typed}
+use Rattle.heyvl_acts.specs.declared.typed_trees.VarInfo.{VarInfo}
 use Rattle.heyvl_acts.proofs.exported.Each.{each_at}
 use Rattle.loop_encodings.proofs.exported.FromRules.{is_there, procedure_is}
 use Rattle.loop_encodings.proofs.exported.OwnVariables.{own_variables}
@@ -36,7 +36,7 @@ use Rattle.lower_rules.specs.UpperGoals.{IsDecidedWithin}
 use Rattle.lower_rules.specs.declared.remainder_pairs.RankedParts.{RankedParts}
 use Rattle.lower_rules.specs.internal.Parts.{IsPairAs}
 use Rattle.lower_rules.specs.internal.Decidable.{CanDecide}
-use Rattle.lower_rules.specs.internal.Started.{IsStarted, TellsOfStart}
+use Rattle.lower_rules.specs.internal.StartDecisions.{IsStarted, TellsOfStart}
 use Rattle.lower_rules.proofs.RemainderPairs.{one_front, one_rank}
 use Rattle.lower_rules.proofs.MadeDecisions.{both_ok, can_decide}
 use Rattle.lower_rules.proofs.StartLaws.{start_fails, start_fit, start_holds, start_is_few, start_is_goal, start_named}

@@ -8,9 +8,9 @@ use Rattle.heylo_formula.specs.Goals.{Goal}
 use Rattle.heylo_formula.specs.declared.types.Ty.{Ty}
 use Rattle.heyvl_acts.specs.Acts.{Variable, type_list}
 use Rattle.heyvl_acts.specs.PlainActs.{variable_of}
-use Rattle.heyvl_acts.specs.declared.typed.VarInfo.{VarInfo}
+use Rattle.heyvl_acts.specs.declared.typed_trees.VarInfo.{VarInfo}
 use Rattle.ranking_rule.specs.MadeGoals.{all_names, names}
-use Rattle.vp_generator.specs.Prenexed.{new_types, prenexed}
+use Rattle.vp_generator.specs.PrenexedForms.{new_types, prenexed}
 use Rattle.vp_generator.specs.PrenexedGoals.{names_of_variables, types_of_variables}
 use Rattle.heyvl_acts.specs.Rules.{AreNamed}
 use Rattle.vp_generator.specs.Scopes.{name_of, named}

@@ -36,7 +36,7 @@ use Rattle.run_machine.specs.Bound.{IsState}
 use Rattle.vp_generator.specs.Laws.{GeneratedFormMeansActs, GeneratedFormIsFormula}
 use Rattle.vp_generator.specs.Limits.{IsSmall}
 use Rattle.vp_generator.specs.Over.{GeneratedFormIsOver}
-use Rattle.vp_generator.specs.Prenexed.{new_types}
+use Rattle.vp_generator.specs.PrenexedForms.{new_types}
 use Rattle.vp_generator.specs.PrenexedGoals.{FailsByChoices, HoldsByChoices, PrenexedGoalsAreGoals, PrenexedGoalsFailByChoices, PrenexedGoalsSpeakOfChoices, prenexed_goal}
 use Rattle.vp_generator.specs.PrenexLaws.{PrenexedFormHasNoBinder, PrenexedFormIsFormula}
 use Rattle.lower_rules.specs.Omega.{IsOmega, turns_value, with_turns}

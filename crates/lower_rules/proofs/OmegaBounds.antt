@@ -21,7 +21,7 @@ use Rattle.run_machine.specs.Scheduler.{Tree, Forest, under, first}
 use Rattle.run_machine.specs.Step.{sure, moved, turned, counted}
 use Rattle.run_machine.specs.Sums.{ended}
 use Rattle.run_machine.proofs.exported.Equations.{runs-zero, runs-next, worth-one, worth-sure}
-use Rattle.lower_rules.specs.Collected.{settled}
+use Rattle.lower_rules.specs.CollectedSums.{settled}
 use Rattle.lower_rules.specs.Omega.{with_turns, IsOmega, OmegaBoundsRuns}
 use Rattle.lower_rules.specs.OneLoop.{OneLoop, steps_from_test}
 use Rattle.lower_rules.proofs.Calm.{CalmParts, calm_parts, ruled_parts}

@@ -3,7 +3,7 @@ use Rattle.std.proofs.Common.{◌≡◌, sym, subst, ℕ}
 use Rattle.heylo_formula.specs.declared.goals.Made.{Made}
 use Rattle.heyvl_acts.specs.Acts.{Acts, Head, TypedProcedure, procedure_at}
 use Rattle.heyvl_acts.specs.PlainActs.{procedures_of}
-use Rattle.heyvl_acts.specs.declared.typed.Typed.{Typed}
+use Rattle.heyvl_acts.specs.declared.typed_trees.Typed.{Typed}
 use Rattle.lower_rules.specs.OmegaGoals.{limited, step_goal}
 use Rattle.lower_rules.specs.OmegaPairs.{OmegaPair, formula_of}
 use Rattle.lower_rules.specs.OneLoop.{OneLoop}

@@ -11,8 +11,8 @@ use Rattle.heyvl_acts.specs.Acts.{Head, Variable, type_list, types_of, variables
 use Rattle.heyvl_acts.specs.PlainActs.{body_of, procedure_of, variable_of}
 use Rattle.heyvl_acts.specs.Rules.{IsCounted}
 use Rattle.heyvl_acts.specs.declared.acts.Act as A
-use Rattle.heyvl_acts.specs.declared.typed.TProc.{TProc}
-use Rattle.heyvl_acts.specs.declared.typed.VarInfo.{VarInfo}
+use Rattle.heyvl_acts.specs.declared.typed_trees.TProc.{TProc}
+use Rattle.heyvl_acts.specs.declared.typed_trees.VarInfo.{VarInfo}
 use Rattle.vp_generator.specs.PrenexedGoals.{types_of_variables}
 use Rattle.loop_encodings.proofs.exported.OwnVariables.{own_variables}
 use Rattle.lower_rules.specs.OmegaPairs.{IsOmegaPair}

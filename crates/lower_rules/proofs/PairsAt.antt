@@ -8,10 +8,10 @@ use Rattle.heyvl_acts.specs.Acts.{Acts, Head, TypedProcedure, procedure_at, vari
 use Rattle.heyvl_acts.specs.FormSizes.{FormsWithin}
 use Rattle.heyvl_acts.specs.PlainActs.{procedure_of, procedures_of}
 use Rattle.heyvl_acts.specs.Rules.{Each, MeetsAllRules, MeetsRules}
-use Rattle.heyvl_acts.specs.declared.typed.TProc.{TProc}
-use Rattle.heyvl_acts.specs.declared.typed.Typed.{Typed}
+use Rattle.heyvl_acts.specs.declared.typed_trees.TProc.{TProc}
+use Rattle.heyvl_acts.specs.declared.typed_trees.Typed.{Typed}
 use Rattle.loop_encodings.proofs.exported.FromRules.{procedure_is}
-use Rattle.vp_generator.specs.Prenexed.{unbound}
+use Rattle.vp_generator.specs.PrenexedForms.{unbound}
 use Rattle.lower_rules.specs.OmegaPairs.{IsOmegaPair, OmegaPair, by_position, formula_of}
 use Rattle.lower_rules.specs.OneLoop.{IsOneLoop, OneLoop}
 use Rattle.lower_rules.specs.declared.pairs.Pair.{Pair}

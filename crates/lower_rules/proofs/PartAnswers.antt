@@ -7,7 +7,7 @@ use Rattle.goal_answers.specs.declared.decisions.Decision.{Decision}
 use Rattle.heyvl_acts.specs.Acts.{TypedProcedure, procedure_at}
 use Rattle.heyvl_acts.specs.PlainActs.{acts_of, procedures_of}
 use Rattle.heyvl_acts.specs.Rules.{MeetsAllRules}
-use Rattle.heyvl_acts.specs.declared.typed.Typed.{Typed}
+use Rattle.heyvl_acts.specs.declared.typed_trees.Typed.{Typed}
 use Rattle.loop_encodings.specs.BoundGoals.{BoundGoalsHold}
 use Rattle.loop_encodings.proofs.exported.FromRules.{is_there}
 use Rattle.run_machine.specs.Bound.{Bound}
@@ -19,9 +19,9 @@ use Rattle.verdict_report.specs.VerdictsOn.{IsVerdictOn, IsVerdictOnLoop}
 use Rattle.lower_rules.specs.declared.remainder_answers.Remainder.{Remainder}
 use Rattle.lower_rules.specs.declared.remainder_pairs.RankedParts.{RankedParts}
 use Rattle.lower_rules.specs.internal.Parts.{IsPairAs}
-use Rattle.lower_rules.specs.internal.Started.{IsStarted, answer_by}
+use Rattle.lower_rules.specs.internal.StartDecisions.{IsStarted, answer_by}
 use Rattle.lower_rules.proofs.MadeStarts.{started_as}
-use Rattle.lower_rules.proofs.Promised.{is_answer, is_promised}
+use Rattle.lower_rules.proofs.Promises.{is_answer, is_promised}
 
 module _ (typed : Typed) (answers : List Answer) (p q : ℕ) (parts : RankedParts) (is : IsPairAs (procedure_at (procedures_of typed) p) (procedure_at (procedures_of typed) q) parts) where
   pub part_unverified : (IsVerdictOn answers p Verified → ⊥) → IsUnverified (procedures_of typed) answers p q

@@ -3,11 +3,11 @@ use Rattle.std.proofs.Common.{◌≡◌, ◌∙◌, ◌<◌, ◌+◌, ◌==◌, 
 use Rattle.heylo_formula.specs.BinderNames.{binders, binders_in}
 use Rattle.heylo_formula.specs.Binders.{has_binder, has_binder_in}
 use Rattle.heylo_formula.specs.Formula.{Form, Cond}
-use Rattle.heylo_formula.specs.Shifted.{shifted, shifted_in}
+use Rattle.heylo_formula.specs.Shifts.{shifted, shifted_in}
 use Rattle.heylo_formula.specs.Substitution.{renamed, renamed_in}
 use Rattle.heylo_formula.specs.Variables.{is_free, is_free_in, IsOver, IsOverIn}
 use Rattle.heylo_formula.proofs.exported.Agreement.{or_false}
-use Rattle.vp_generator.specs.Prenexed.{Numbering, unbound, unbound_in}
+use Rattle.vp_generator.specs.PrenexedForms.{Numbering, unbound, unbound_in}
 
 three : {A B C D : Type 0} (f : A → B → C → D) (a a' : A) (b b' : B) (c c' : C) → a ≡ a' → b ≡ b' → c ≡ c' → f a b c ≡ f a' b' c'
 three f a a' b b' c c' h k i = ap (λ x. f x b c) h ∙ (ap (λ x. f a' x c) k ∙ ap (λ x. f a' b' x) i)

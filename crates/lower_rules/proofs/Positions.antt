@@ -7,7 +7,7 @@ use Rattle.heylo_formula.specs.Formula.{Form}
 use Rattle.heylo_formula.specs.Substitution.{renamed}
 use Rattle.heylo_formula.specs.Variables.{IsOver}
 use Rattle.heyvl_acts.specs.Rules.{Each}
-use Rattle.vp_generator.specs.Prenexed.{unbound}
+use Rattle.vp_generator.specs.PrenexedForms.{unbound}
 use Rattle.lower_rules.specs.OmegaPairs.{by_position}
 use Rattle.lower_rules.proofs.PlacedForms.{renamed_is, same_is}
 

@@ -11,8 +11,8 @@ use Rattle.heylo_formula.specs.declared.types.Ty.{Ty}
 use Rattle.heyvl_acts.specs.Acts.{Act, Acts, TypedProcedure, Variable, procedure_at, type_list, variables}
 use Rattle.heyvl_acts.specs.PlainActs.{procedure_of, variable_of}
 use Rattle.heyvl_acts.specs.Rules.{AreNamed, Each, GrowBelow, IsCounted, LoopsMeet, MeetsRules}
-use Rattle.heyvl_acts.specs.declared.typed.TProc.{TProc}
-use Rattle.heyvl_acts.specs.declared.typed.VarInfo.{VarInfo}
+use Rattle.heyvl_acts.specs.declared.typed_trees.TProc.{TProc}
+use Rattle.heyvl_acts.specs.declared.typed_trees.VarInfo.{VarInfo}
 use Rattle.heyvl_acts.proofs.exported.Each.{each_at}
 use Rattle.ranking_rule.proofs.exported.PrenexedSizes.{nodes_unbound}
 use Rattle.vp_generator.specs.Answers.{IsStop}

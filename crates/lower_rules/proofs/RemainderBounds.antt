@@ -31,7 +31,7 @@ use Rattle.run_machine.specs.Step.{Decision, sure, moved, turned, counted, one_m
 use Rattle.run_machine.specs.Sums.{ended, worth, sum_of, turns_in}
 use Rattle.run_machine.proofs.exported.Equations.{runs-zero, runs-next, push_join, one_times, worth-one, worth-sure}
 use Rattle.heyvl_acts.specs.Upward.{upward}
-use Rattle.lower_rules.specs.Collected.{settled}
+use Rattle.lower_rules.specs.CollectedSums.{settled}
 use Rattle.lower_rules.specs.OneLoop.{OneLoop, steps_from_test}
 use Rattle.lower_rules.specs.Remainder.{RemainderBoundsRuns}
 use Rattle.lower_rules.proofs.Calm.{AreCalm, IsCalm, CalmParts, calm_parts, ruled_parts, some_length}
@@ -43,7 +43,7 @@ use Rattle.run_laws.proofs.exported.RuledSteps.{items_push}
 use Rattle.run_laws.proofs.exported.SideBySide.{both_spread}
 use Rattle.run_laws.proofs.exported.Outcomes.{all_more, all_sure, all_append, all_scaled, sum_at_most}
 use Rattle.lower_rules.proofs.OmegaBounds.{alike, after_turn, after_loop}
-use Rattle.lower_rules.proofs.Raised.{AtMost, Base, claims}
+use Rattle.lower_rules.proofs.RaisedBounds.{AtMost, Base, claims}
 use Rattle.run_laws.proofs.exported.RuledRuns.{spread_all, runs_all, fit_kept}
 use Rattle.lower_rules.proofs.CalmShapes.{before, ArePair, step_pair, IsAt, step_at, act_weighs, spread_const}
 

@@ -20,7 +20,7 @@ use Rattle.heyvl_acts.specs.FormSizes.{FormsWithin}
 use Rattle.heyvl_acts.specs.Forward.{forward}
 use Rattle.heyvl_acts.specs.Rules.{AreNamed, MeetsRules}
 use Rattle.heyvl_acts.specs.Upward.{upward}
-use Rattle.heyvl_acts.specs.WellTyped.{ActsFit}
+use Rattle.heyvl_acts.specs.WellTypedActs.{ActsFit}
 use Rattle.ranking_rule.specs.Laws.{IsFew}
 use Rattle.ranking_rule.specs.MadeGoals.{all_names}
 use Rattle.ranking_rule.specs.RankingGoals.{generated}
@@ -29,7 +29,7 @@ use Rattle.vp_generator.specs.Fit.{AreFit}
 use Rattle.vp_generator.specs.Laws.{GeneratedFormIsFormula, GeneratedFormMeansActs}
 use Rattle.vp_generator.specs.Limits.{IsSmall}
 use Rattle.vp_generator.specs.Over.{GeneratedFormIsOver}
-use Rattle.vp_generator.specs.Prenexed.{new_types}
+use Rattle.vp_generator.specs.PrenexedForms.{new_types}
 use Rattle.vp_generator.specs.PrenexedGoals.{PrenexedGoalsAreGoals, PrenexedGoalsFailByChoices, PrenexedGoalsSpeakOfChoices}
 use Rattle.vp_generator.specs.Scopes.{GeneratedFormIsNamed}
 use Rattle.lower_rules.specs.StartGoals.{StartFails, StartHolds, start_goal}

@@ -11,10 +11,10 @@ use Rattle.heylo_formula.specs.declared.goals.Made.TheVariants as made
 use Rattle.heyvl_acts.specs.Acts.{Acts, Variable, variables}
 use Rattle.heyvl_acts.specs.PlainActs.{variable_of}
 use Rattle.heyvl_acts.specs.Rules.{AreNamed, Each}
-use Rattle.heyvl_acts.specs.declared.typed.VarInfo.{VarInfo}
+use Rattle.heyvl_acts.specs.declared.typed_trees.VarInfo.{VarInfo}
 use Rattle.vp_generator.specs.Answers.{IsStop}
 use Rattle.vp_generator.specs.Fit.{AreFit}
-use Rattle.vp_generator.specs.Generated.{vp}
+use Rattle.vp_generator.specs.GeneratedForms.{vp}
 use Rattle.vp_generator.specs.Limits.{IsSmall}
 use Rattle.vp_generator.specs.Scopes.{GeneratedFormIsNamed}
 use Rattle.vp_generator.specs.PrenexLaws.{PrenexedFormHasNoBinder, PrenexedFormIsFormula}

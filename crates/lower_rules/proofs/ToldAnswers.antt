@@ -10,7 +10,7 @@ use Rattle.heylo_formula.specs.declared.values.Val.{Val}
 use Rattle.heyvl_acts.specs.Acts.{TypedProcedure, procedure_at}
 use Rattle.heyvl_acts.specs.PlainActs.{procedure_of, procedures_of}
 use Rattle.heyvl_acts.specs.Rules.{MeetsAllRules, MeetsRules}
-use Rattle.heyvl_acts.specs.declared.typed.Typed.{Typed}
+use Rattle.heyvl_acts.specs.declared.typed_trees.Typed.{Typed}
 use Rattle.heyvl_acts.proofs.exported.Each.{each_at}
 use Rattle.region_split.specs.Meanings.{Fails, Tells}
 use Rattle.vp_generator.specs.Laws.{GeneratedFormMeansActs}
@@ -27,7 +27,7 @@ use Rattle.lower_rules.specs.declared.answers.Step.{Step}
 use Rattle.lower_rules.specs.declared.answers.Step.TheVariants.{One, Base, Turn}
 use Rattle.lower_rules.specs.declared.pairs.Pair.{Pair}
 use Rattle.lower_rules.specs.internal.Pairs.{IsPairAt, IsReady, IsToldOf, first, second}
-use Rattle.lower_rules.specs.internal.Telling.{answer_of, both}
+use Rattle.lower_rules.specs.internal.PairAnswers.{answer_of, both}
 use Rattle.lower_rules.proofs.MeantGoals.{goal_fails, goals_say_omega}
 use Rattle.lower_rules.proofs.ReadyPairs.{the_loop}
 

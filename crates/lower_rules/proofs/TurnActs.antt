@@ -11,7 +11,7 @@ use Rattle.heylo_formula.proofs.exported.Agreement.{same_types, same_truth, unus
 use Rattle.heyvl_acts.specs.Acts.{Act, Acts, Arms, TypedProcedure, types_of, variables}
 use Rattle.heyvl_acts.specs.Places.{in_order, inside, inside_arms}
 use Rattle.heyvl_acts.specs.Rules.{Each, GuardsFit, IsTypedAct}
-use Rattle.heyvl_acts.specs.WellTyped.{ActFits, ActsFit, ArmsFit, DrawFits, PartsFit}
+use Rattle.heyvl_acts.specs.WellTypedActs.{ActFits, ActsFit, ArmsFit, DrawFits, PartsFit}
 use Rattle.heyvl_acts.proofs.exported.Each.{each_first, each_second}
 use Rattle.ranking_rule.proofs.exported.ReadVariables.{ReadsFirst}
 use Rattle.vp_generator.specs.Over.{TermIsOver, PartsAreOver, ActIsOver, ActsAreOver, ArmsAreOver}

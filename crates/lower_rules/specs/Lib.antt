@@ -1,5 +1,5 @@
 pub mod OneLoop
-pub mod Collected
+pub mod CollectedSums
 pub mod Omega
 pub mod Remainder
 pub mod UpperGoals

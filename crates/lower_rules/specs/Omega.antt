@@ -17,7 +17,7 @@ use Rattle.heyvl_acts.specs.Rules.{Each, MeetsRules}
 use Rattle.run_machine.specs.Bound.{IsState}
 use Rattle.run_machine.specs.Runs.{runs}
 use Rattle.run_machine.specs.Scheduler.{Tree}
-use Rattle.lower_rules.specs.Collected.{at_loop, collected}
+use Rattle.lower_rules.specs.CollectedSums.{at_loop, collected}
 use Rattle.lower_rules.specs.OneLoop.{OneLoop, steps}
 
 -- A number of turns, as the value of a variable.

@@ -7,7 +7,7 @@ use Rattle.heylo_formula.specs.Formula.{Form, Term}
 use Rattle.heylo_formula.specs.Goals.{Goal}
 use Rattle.heylo_formula.specs.Substitution.{subst}
 use Rattle.heyvl_acts.specs.Acts.{Head, Acts, TypedProcedure, Variable, variables}
-use Rattle.vp_generator.specs.Generated.{vp}
+use Rattle.vp_generator.specs.GeneratedForms.{vp}
 use Rattle.lower_rules.specs.OmegaPairs.{formula_of}
 use Rattle.lower_rules.specs.UpperGoals.{upper_goal}
 use Rattle.lower_rules.specs.declared.answers.Step.{Step}

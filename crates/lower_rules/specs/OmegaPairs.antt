@@ -4,7 +4,7 @@ use Rattle.std.specs.Prelude.{◌≡◌, ℕ, false, List, [], ◌∷◌, ◌++�
 use Rattle.heylo_formula.specs.Formula.{Form}
 use Rattle.heylo_formula.specs.declared.types.Ty.{Ty}
 use Rattle.heyvl_acts.specs.Acts.{Head, TypedProcedure, type_list, types_of, variables}
-use Rattle.vp_generator.specs.Prenexed.{Numbering, unbound}
+use Rattle.vp_generator.specs.PrenexedForms.{Numbering, unbound}
 use Rattle.lower_rules.specs.OneLoop.{OneLoop}
 
 -- The variables of the first procedure for which the inputs of the second one stand, by position: those of the loop's scope, and

@@ -17,7 +17,7 @@ use Rattle.run_machine.specs.Bound.{IsState, Bound, RankedBy}
 use Rattle.run_machine.specs.Configurations.{begin}
 use Rattle.run_machine.specs.Runs.{runs}
 use Rattle.run_machine.specs.Scheduler.{Tree}
-use Rattle.lower_rules.specs.Collected.{collected}
+use Rattle.lower_rules.specs.CollectedSums.{collected}
 use Rattle.lower_rules.specs.OneLoop.{OneLoop, steps}
 
 -- In each state of the procedure the post is at most 1.

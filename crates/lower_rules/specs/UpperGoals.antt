@@ -17,7 +17,7 @@ use Rattle.heyvl_acts.specs.Rules.{Each}
 use Rattle.ranking_rule.specs.MadeGoals.{all_names}
 use Rattle.region_split.specs.Decisions.{IsDecision}
 use Rattle.vp_generator.specs.Limits.{IsSmall}
-use Rattle.vp_generator.specs.Prenexed.{new_types, prenexed}
+use Rattle.vp_generator.specs.PrenexedForms.{new_types, prenexed}
 
 -- The goal over these variables that the first form is at least the second: the first one is stated, with a variable of its own for
 -- each of its binders, and the second one, which has none, is found.

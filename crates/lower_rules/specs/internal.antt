@@ -1,7 +1,7 @@
 pub mod Shapes
 pub mod Said
 pub mod Parts
-pub mod Started
+pub mod StartDecisions
 pub mod Decidable
 pub mod Pairs
-pub mod Telling
+pub mod PairAnswers

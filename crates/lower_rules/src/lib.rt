@@ -8,8 +8,9 @@ mod input_bounds;
 mod laws;
 mod omega_goals;
 mod omegas;
+mod pair_answers;
 mod pairs;
-mod placing;
+mod placed_forms;
 mod remainder_answers;
 mod remainder_pairs;
 mod remainders;
@@ -17,7 +18,6 @@ mod shapes;
 mod start_goals;
 mod step_goals;
 mod step_sides;
-mod telling;
 mod upper_goals;
 mod verdicts;
 

@@ -10,7 +10,7 @@ ghost use Rattle.lower_rules.specs.internal.Pairs.{IsBare, IsPairOf, IsPlainOver
 ghost use Rattle.std.specs.Prelude.{IfOk, [], false, length, take, true, ◌+◌, ◌<◌, ◌^◌, ◌≡◌};
 ghost use Rattle.vp_generator.specs.PrenexedGoals.{types_of_variables};
 
-use crate::placing::placed;
+use crate::placed_forms::placed;
 use crate::shapes::one_loop;
 use heylo_formula::{Form, Ty};
 use heyvl_acts::{Act, LoopAct, TProc, Typed, VarInfo};

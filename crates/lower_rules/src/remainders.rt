@@ -11,7 +11,7 @@ ghost use Rattle.lower_rules.specs.RemainderPairs.{RemainderPair};
 ghost use Rattle.lower_rules.specs.StartGoals.{start_goal};
 ghost use Rattle.verdict_report.specs.VerdictsOn.{IsVerdictOn, IsVerdictOnLoop};
 ghost use Rattle.lower_rules.specs.internal.Parts.{IsPairAs};
-ghost use Rattle.lower_rules.specs.internal.Started.{IsStarted, answer_by};
+ghost use Rattle.lower_rules.specs.internal.StartDecisions.{IsStarted, answer_by};
 ghost use Rattle.ranking_rule.specs.MadeGoals.{IsMadeWithin};
 ghost use Rattle.ranking_rule.specs.RankingGoals.{generated};
 ghost use Rattle.run_machine.specs.Bound.{Bound};

@@ -7,7 +7,7 @@ ghost use Rattle.heyvl_acts.specs.Upward.{upward};
 ghost use Rattle.ranking_rule.specs.MadeGoals.{IsMadeWithin, goal_over};
 ghost use Rattle.std.specs.Prelude.{IfOk, length, map, true, ◌<◌, ◌^◌};
 ghost use Rattle.vp_generator.specs.Fit.{AreFit};
-ghost use Rattle.vp_generator.specs.Generated.{vp};
+ghost use Rattle.vp_generator.specs.GeneratedForms.{vp};
 ghost use Rattle.heyvl_acts.specs.Rules.{AreNamed};
 
 use crate::copies::copied;

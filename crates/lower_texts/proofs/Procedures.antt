@@ -3,8 +3,8 @@ use Prim.Native.Nat.{suc, zero}
 use Rattle.heyvl_acts.specs.Acts.{TypedProcedure, Variable, procedure_at, variables}
 use Rattle.heyvl_acts.specs.PlainActs.{procedure_of, procedures_of, variable_of}
 use Rattle.heyvl_acts.specs.Rules.{Each, MeetsAllRules, MeetsRules}
-use Rattle.heyvl_acts.specs.declared.typed.TProc.{TProc}
-use Rattle.heyvl_acts.specs.declared.typed.Typed.{Typed}
+use Rattle.heyvl_acts.specs.declared.typed_trees.TProc.{TProc}
+use Rattle.heyvl_acts.specs.declared.typed_trees.Typed.{Typed}
 use Rattle.std.proofs.Common.{List, [], ap, append_assoc, arith, drop, get_or, length, map, subst, sym, take, take-add, ◌+◌, ◌++◌, ◌<◌, ◌^◌, ◌∙◌, ◌∷◌, ◌≡◌, ◌≤◌, ℕ}
 use Rattle.std.proofs.lemmas.List.{length-map, take-append-drop}
 

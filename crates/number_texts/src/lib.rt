@@ -1,6 +1,6 @@
 //! The texts of numbers, of variables' values and of places, as all that is written shows them.
 #![tactic(auto)]
 
-mod writing;
+mod writer;
 
-pub use writing::{write_fraction, write_number, write_place, write_value};
+pub use writer::{write_fraction, write_number, write_place, write_value};

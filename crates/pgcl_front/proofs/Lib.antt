@@ -4,7 +4,7 @@ pub mod Meanings
 pub mod Scopes
 pub mod Probabilities
 pub mod Matching
-pub mod Translating
+pub mod TranslatedActs
 pub mod Equations
 pub mod Simulation
 pub mod Beginnings

@@ -4,7 +4,7 @@ use Rattle.pgcl_front.proofs.Matching.{Matches, SameForm}
 use Rattle.pgcl_front.proofs.QuietPrograms.{IsQuietProgram, quiet_program}
 use Rattle.pgcl_front.proofs.Scopes.{FoundFrom, InScope, found, found_still, head_placed, no_back, no_front}
 use Rattle.pgcl_front.proofs.Simulation.{block_stands, same_sums}
-use Rattle.pgcl_front.proofs.Translating.{block_match, count, form_same}
+use Rattle.pgcl_front.proofs.TranslatedActs.{block_match, count, form_same}
 use Rattle.pgcl_front.specs.EqualSums.{GuardedSumsAreEqual, SumsAreEqual, descend}
 use Rattle.pgcl_front.specs.GuardedSteps.{does, listed}
 use Rattle.pgcl_front.specs.Readings.{own_scope}

@@ -10,9 +10,9 @@ use Rattle.heyvl_acts.specs.Places.{in_order}
 use Rattle.heyvl_acts.specs.Program.{calls}
 use Rattle.heyvl_acts.specs.Rules.{Each, IsTypedAct, MeetsAllRules, MeetsRules}
 use Rattle.heyvl_acts.specs.Visible.{among}
-use Rattle.heyvl_acts.specs.declared.typed.TProc.{TProc}
-use Rattle.heyvl_acts.specs.declared.typed.Typed.{Typed}
-use Rattle.proc_contracts.specs.internal.Calling.{AreCalled}
+use Rattle.heyvl_acts.specs.declared.typed_trees.TProc.{TProc}
+use Rattle.heyvl_acts.specs.declared.typed_trees.Typed.{Typed}
+use Rattle.proc_contracts.specs.internal.CallWalk.{AreCalled}
 use Rattle.proc_contracts.specs.internal.Callees.{callees}
 
 -- What acts call is what they are said to call.

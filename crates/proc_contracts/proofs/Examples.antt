@@ -9,10 +9,10 @@ use Rattle.heyvl_places.specs.declared.checks.CheckKind.{CheckKind}
 use Rattle.heylo_formula.specs.Formula.{Form, Cond, Term}
 use Rattle.heylo_formula.specs.declared.types.Ty.{Ty}
 use Rattle.heyvl_acts.specs.Acts.{Act, Acts, Arms, Head, TypedProcedure, nobody}
-use Rattle.heyvl_acts.specs.Modified.{modified}
+use Rattle.heyvl_acts.specs.ModifiedVariables.{modified}
 use Rattle.heyvl_acts.specs.Program.{Calls, Reaches, Reason, why_no_program}
 use Rattle.heyvl_acts.specs.Visible.{among}
-use Rattle.proc_contracts.specs.Reached.{AreReached}
+use Rattle.proc_contracts.specs.ReachedProcedures.{AreReached}
 
 abbrev nowhere : Span
 nowhere = record { from = 0; to = 0 }

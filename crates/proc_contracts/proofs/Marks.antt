@@ -6,7 +6,7 @@ use Rattle.std.proofs.lemmas.List.{length_push, length-set, get_or-set_same, get
 use Rattle.heyvl_acts.specs.Rules.{GrowBelow}
 use Rattle.heyvl_acts.specs.Visible.{among}
 use Rattle.proc_contracts.proofs.Targets.{grow_earlier}
-use Rattle.proc_contracts.specs.internal.Marking.{unset, marked, AreMarked, Grew}
+use Rattle.proc_contracts.specs.internal.MarkedNumbers.{unset, marked, AreMarked, Grew}
 
 or_assoc : (x y z : Bool) → ((x || y) || z) ≡ (x || (y || z))
 or_assoc true y z = refl

@@ -6,9 +6,9 @@ use Rattle.std.proofs.lemmas.List.{get_or_past, take-append-le, take_all, take_m
 use Rattle.heyvl_acts.specs.Acts.{TypedProcedure}
 use Rattle.heyvl_acts.specs.Program.{Calls, Reaches}
 use Rattle.heyvl_acts.specs.Visible.{among}
-use Rattle.proc_contracts.specs.Reached.{AreReached}
-use Rattle.proc_contracts.specs.internal.Calling.{AreCalled, ReachIsMarked}
-use Rattle.proc_contracts.specs.internal.Marking.{AreMarked, Grew, marked}
+use Rattle.proc_contracts.specs.ReachedProcedures.{AreReached}
+use Rattle.proc_contracts.specs.internal.CallWalk.{AreCalled, ReachIsMarked}
+use Rattle.proc_contracts.specs.internal.MarkedNumbers.{AreMarked, Grew, marked}
 use Rattle.proc_contracts.proofs.Marks.{among_push, marked_are, marked_grow}
 
 -- The list holds procedures that one reaches, those that it calls itself, and what the first ones of the list call.

@@ -1,3 +1,3 @@
 pub mod Reasons
-pub mod Reached
+pub mod ReachedProcedures
 pub mod internal

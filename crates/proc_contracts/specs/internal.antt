@@ -1,3 +1,3 @@
 pub mod Callees
-pub mod Marking
-pub mod Calling
+pub mod MarkedNumbers
+pub mod CallWalk

@@ -2,13 +2,13 @@
 #![tactic(auto)]
 
 mod calls;
-mod modifying;
+mod modified_variables;
 mod programs;
 mod quantifiers;
-mod reaching;
+mod reached_procedures;
 mod reasons;
 
-pub use modifying::modified;
+pub use modified_variables::modified;
 pub use programs::not_program;
-pub use reaching::reach;
+pub use reached_procedures::reach;
 pub use reasons::WhyNot;

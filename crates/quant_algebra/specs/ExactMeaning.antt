@@ -3,7 +3,7 @@
 use Rattle.std.specs.Prelude.{Bool, true, false, not, List, Option, Some, None, option_map, if◌then◌else◌}
 use Rattle.heyvl_num.specs.Value.{Value, zeroᵛ, oneᵛ}
 use Rattle.heyvl_num.specs.Value.Value.{finite, infinite}
-use Rattle.heyvl_num.specs.Extended.{value_of}
+use Rattle.heyvl_num.specs.ExtendedNumbers.{value_of}
 use Rattle.heyvl_num.specs.ExactValues.{exact_sumᵛ, exact_productᵛ}
 use Rattle.heylo_formula.specs.Formula.{Form, Cond}
 use Rattle.heylo_formula.specs.Goals.{Goal}

@@ -3,7 +3,7 @@
 
 ghost use Rattle.std.specs.Prelude.{◌≡◌, ◌↔◌, true, option_map, IfSome};
 ghost use Rattle.heyvl_num.specs.Value.Value.{finite};
-ghost use Rattle.heyvl_num.specs.Extended.{value_of};
+ghost use Rattle.heyvl_num.specs.ExtendedNumbers.{value_of};
 ghost use Rattle.heylo_formula.specs.PlainTrees.{form_of, cond_of};
 ghost use Rattle.heylo_formula.specs.Goals.{goal_of, HoldsIn};
 ghost use Rattle.heylo_formula.specs.Choices.{Choices};

@@ -1,7 +1,7 @@
 //! The operators of nodes, in the order of their parts, on the values of the parts. None comes where a number doesn't fit.
 
 ghost use Rattle.std.specs.Prelude.{◌≡◌, option_map};
-ghost use Rattle.heyvl_num.specs.Extended.{value_of};
+ghost use Rattle.heyvl_num.specs.ExtendedNumbers.{value_of};
 ghost use Rattle.quant_algebra.specs.internal.Nodes.{exact_binary, exact_unary, exact_comparison};
 
 use crate::operators::{

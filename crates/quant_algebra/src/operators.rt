@@ -1,7 +1,7 @@
 //! The operators of formulas on exact numbers. None comes where a number doesn't fit.
 
 ghost use Rattle.std.specs.Prelude.{◌≡◌, option_map};
-ghost use Rattle.heyvl_num.specs.Extended.{value_of};
+ghost use Rattle.heyvl_num.specs.ExtendedNumbers.{value_of};
 ghost use Rattle.heylo_formula.specs.Operators.{validateᵛ, covalidateᵛ};
 ghost use Rattle.quant_algebra.specs.ExactOperators.{exact_differenceᵛ, exact_cutᵛ, exact_scaleᵛ, exact_minᵛ, exact_maxᵛ, exact_impliesᵛ, exact_coimpliesᵛ, exact_leqᵛ, exact_lessᵛ, exact_equalᵛ};
 

@@ -11,10 +11,10 @@ use Rattle.heylo_formula.specs.Goals.{Goal}
 use Rattle.heylo_formula.specs.declared.types.Ty.{Ty}
 use Rattle.heylo_formula.proofs.exported.BinderNames.{unnamed_in}
 use Rattle.heyvl_acts.specs.Acts.{Head, Acts}
-use Rattle.vp_generator.specs.Prenexed.{prenexed, unbound, new_types}
+use Rattle.vp_generator.specs.PrenexedForms.{prenexed, unbound, new_types}
 use Rattle.vp_generator.specs.PrenexedGoals.{prenexed_goal}
 use Rattle.ranking_rule.specs.RankingGoals.{found, generated, tested}
-use Rattle.ranking_rule.specs.internal.Tested.{with_test}
+use Rattle.ranking_rule.specs.internal.GuardedGoals.{with_test}
 use Rattle.ranking_rule.proofs.BinderFree.{kept_in}
 
 module _ (h : Head) (b : Acts) (r : Rational × Form) (plain : has_binder_in h.guard ≡ false) where

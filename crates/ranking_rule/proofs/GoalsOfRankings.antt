@@ -23,7 +23,7 @@ use Rattle.heyvl_acts.specs.FormSizes.{ActWithin, RankWithin}
 use Rattle.heyvl_acts.specs.Rules.{MeetsRules}
 use Rattle.vp_generator.specs.Laws.{GeneratedFormMeansActs, GeneratedFormIsFormula}
 use Rattle.vp_generator.specs.Over.{GeneratedFormIsOver}
-use Rattle.vp_generator.specs.Prenexed.{new_types}
+use Rattle.vp_generator.specs.PrenexedForms.{new_types}
 use Rattle.vp_generator.specs.PrenexedGoals.{HoldsByChoices, PrenexedGoalsFailByChoices, PrenexedGoalsSpeakOfChoices, PrenexedGoalsAreGoals}
 use Rattle.ranking_rule.specs.Laws.{RankingGoalsHold, RankingGoalsFail, RankingGoalsAreGoals, RankingGoalsAreFew}
 use Rattle.ranking_rule.specs.MadeGoals.{all_names}

@@ -2,7 +2,7 @@ pub mod RankedActs
 pub mod RankedBodies
 pub mod Turns
 pub mod TurnsBound
-pub mod Raising
+pub mod UpwardCopies
 pub mod BinderFree
 pub mod FoundForms
 pub mod MadeGoals

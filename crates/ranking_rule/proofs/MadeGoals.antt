@@ -8,8 +8,8 @@ use Rattle.heylo_formula.specs.declared.goals.Made.{Made}
 use Rattle.heylo_formula.specs.declared.goals.Made.TheVariants as made
 use Rattle.heyvl_acts.specs.Acts.{Variable, type_list}
 use Rattle.heyvl_acts.specs.PlainActs.{variable_of}
-use Rattle.heyvl_acts.specs.declared.typed.VarInfo.{VarInfo}
-use Rattle.vp_generator.specs.Prenexed.{new_types}
+use Rattle.heyvl_acts.specs.declared.typed_trees.VarInfo.{VarInfo}
+use Rattle.vp_generator.specs.PrenexedForms.{new_types}
 use Rattle.vp_generator.specs.PrenexedGoals.{IsMade, names_of_variables, prenexed_goal, types_of_variables}
 use Rattle.heyvl_acts.specs.Rules.{AreNamed}
 use Rattle.vp_generator.specs.Scopes.{name_of, named}

@@ -22,11 +22,11 @@ use Rattle.heyvl_acts.specs.Places.{in_order, inside, inside_arms}
 use Rattle.heyvl_acts.specs.PlainActs.{acts_of, procedure_of, procedures_of, rank_of, variable_of}
 use Rattle.heyvl_acts.specs.Rules.{AreNamed, Each, MeetsAllRules, MeetsRules}
 use Rattle.heyvl_acts.specs.declared.acts.LoopAct.{LoopAct}
-use Rattle.heyvl_acts.specs.declared.typed.TProc.{TProc}
-use Rattle.heyvl_acts.specs.declared.typed.Typed.{Typed}
-use Rattle.heyvl_acts.specs.declared.typed.VarInfo.{VarInfo}
+use Rattle.heyvl_acts.specs.declared.typed_trees.TProc.{TProc}
+use Rattle.heyvl_acts.specs.declared.typed_trees.Typed.{Typed}
+use Rattle.heyvl_acts.specs.declared.typed_trees.VarInfo.{VarInfo}
 use Rattle.vp_generator.specs.Fit.{AreFit}
-use Rattle.vp_generator.specs.Generated.{vp}
+use Rattle.vp_generator.specs.GeneratedForms.{vp}
 use Rattle.vp_generator.specs.PrenexedGoals.{IsMade, prenexed_goal}
 use Rattle.vp_generator.specs.Scopes.{AnysAreBelow, AnysAreBelow_in, GeneratedFormIsNamed}
 use Rattle.ranking_rule.specs.MadeGoals.{IsMadeWithin, all_names, goal_over, names}
@@ -35,7 +35,7 @@ use Rattle.act_walks.specs.Lent.{parts_of}
 use Rattle.act_walks.specs.Loops.{loop_in}
 use Rattle.ranking_rule.specs.Rankings.{RankedLoop}
 use Rattle.heyvl_acts.specs.Upward.{upward, upward_next, upward_arms}
-use Rattle.ranking_rule.specs.internal.Tested.{IsTested, with_test}
+use Rattle.ranking_rule.specs.internal.GuardedGoals.{IsTested, with_test}
 use Rattle.heyvl_acts.proofs.exported.Each.{each_at, each_first, each_second}
 use Rattle.ranking_rule.proofs.FoundForms.{found_binders, goal_found}
 use Rattle.ranking_rule.proofs.MadeGoals.{is_made_within}

@@ -4,7 +4,7 @@ use Rattle.std.proofs.lemmas.List.{take_all, drop_all, take-append-drop}
 use Prim.Native.Nat.{zero, suc}
 use Rattle.heyvl_acts.specs.Acts.{variables}
 use Rattle.heyvl_acts.specs.PlainActs.{procedure_of, variable_of}
-use Rattle.heyvl_acts.specs.declared.typed.TProc.{TProc}
+use Rattle.heyvl_acts.specs.declared.typed_trees.TProc.{TProc}
 
 take_none : {X : Type 0} → (n : ℕ) (none : List X) → length none ≤ 0 → take n none ≡ none
 take_none n none h = take_all n none (omega (arith, h))

@@ -5,7 +5,7 @@ use Prim.Native.Nat.{suc}
 use Rattle.heylo_formula.specs.BinderNames.{Binder, binders, binders_in}
 use Rattle.heylo_formula.specs.Formula.{Form, Cond}
 use Rattle.heylo_formula.specs.Sizes.{nodes, nodes_in}
-use Rattle.vp_generator.specs.Prenexed.{Numbering, renumbered, unbound, unbound_in}
+use Rattle.vp_generator.specs.PrenexedForms.{Numbering, renumbered, unbound, unbound_in}
 
 two : (a b c d : ℕ) (xs ys : List Binder) → a + length xs ≡ c → b + length ys ≡ d → 1 + (a + b) + length (xs ++ ys) ≡ 1 + (c + d)
 two a b c d xs ys h k = let l = length-append xs ys in omega (arith, l, h, k)

@@ -6,7 +6,7 @@ use Rattle.heylo_formula.specs.Formula.{Form}
 use Rattle.heyvl_acts.specs.Acts.{Act, Acts, Arms, TypedProcedure, types_of}
 use Rattle.heyvl_acts.specs.Places.{in_order, inside, inside_arms}
 use Rattle.heyvl_acts.specs.Rules.{Each, HasOwnTargets, IsTypedAct, WeighsOne, LoopsMeet, LoopFits, LoopMeets, RankFits, RankedBodyIsPlain, is_rankable, GuardsFit, MeetsRules}
-use Rattle.heyvl_acts.specs.WellTyped.{ActsFit, ArmsFit}
+use Rattle.heyvl_acts.specs.WellTypedActs.{ActsFit, ArmsFit}
 use Rattle.heyvl_acts.specs.Upward.{upward, upward_next, upward_arms}
 use Rattle.ranking_rule.specs.Rankings.{RankedLoop}
 use Rattle.heyvl_acts.proofs.exported.Each.{each_first, each_second, each_two}

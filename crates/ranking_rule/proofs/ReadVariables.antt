@@ -17,7 +17,7 @@ use Rattle.heyvl_acts.specs.Acts.{Act, Acts, Arms, TypedProcedure, acts_in, type
 use Rattle.heyvl_acts.specs.Places.{in_order, inside, inside_arms}
 use Rattle.heyvl_acts.specs.Rules.{Each, HasOwnTargets, IsTypedAct, IsOwn, MeetsRules}
 use Rattle.heyvl_acts.specs.Visible.{Scoped, ScopedAct, ScopedArms, Sees, SeesCond, SeesParts, SeesRank, SeesTerm, Visible, interface, shown, shown_all, shown_by}
-use Rattle.heyvl_acts.specs.WellTyped.{DrawFits, PartsFit}
+use Rattle.heyvl_acts.specs.WellTypedActs.{DrawFits, PartsFit}
 use Rattle.vp_generator.specs.Over.{TermIsOver, PartsAreOver, ActsAreOver, ArmsAreOver}
 use Rattle.ranking_rule.specs.Rankings.{RankedLoop}
 use Rattle.heyvl_acts.specs.Upward.{upward, upward_next, upward_arms}

@@ -32,7 +32,7 @@ use Rattle.heyvl_acts.specs.Tosses.{toss_weight, toss_parts}
 use Rattle.heyvl_acts.proofs.exported.Tosses.{toss_fit, flips_weigh, before_products}
 use Rattle.heyvl_acts.specs.Places.{in_order, inside, inside_arms}
 use Rattle.heyvl_acts.specs.Rules.{Each, IsOwn}
-use Rattle.heyvl_acts.specs.WellTyped.{PartsFit, DrawFits}
+use Rattle.heyvl_acts.specs.WellTypedActs.{PartsFit, DrawFits}
 use Rattle.run_machine.specs.Bound.{IsState, RankedBy, at_test}
 use Rattle.run_machine.specs.Configurations.{Item, Config, Outcomes, push}
 use Rattle.run_machine.specs.Runs.{runs, spread}

@@ -11,9 +11,9 @@ use Rattle.heyvl_acts.specs.Acts.{Acts, procedure_at, type_list, types_of, varia
 use Rattle.heyvl_acts.specs.Forward.{forward}
 use Rattle.heyvl_acts.specs.Places.{in_order}
 use Rattle.heyvl_acts.specs.Rules.{Each}
-use Rattle.heyvl_acts.specs.WellTyped.{IsHeld}
+use Rattle.heyvl_acts.specs.WellTypedActs.{IsHeld}
 use Rattle.run_machine.specs.Bound.{IsState}
-use Rattle.vp_generator.specs.Generated.{vp}
+use Rattle.vp_generator.specs.GeneratedForms.{vp}
 use Rattle.vp_generator.specs.Laws.{GeneratedFormMeansActs, GeneratedFormIsFormula}
 use Rattle.ranking_rule.specs.Laws.{RankingsBoundTurns}
 use Rattle.heyvl_acts.specs.Upward.{upward}

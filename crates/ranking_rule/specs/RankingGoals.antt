@@ -8,7 +8,7 @@ use Rattle.heylo_formula.specs.Formula.{Cond, Form}
 use Rattle.heylo_formula.specs.Goals.{Goal}
 use Rattle.heylo_formula.specs.declared.goals.Made.{Made}
 use Rattle.heyvl_acts.specs.Acts.{Head, Acts, TypedProcedure, variables}
-use Rattle.vp_generator.specs.Generated.{vp}
+use Rattle.vp_generator.specs.GeneratedForms.{vp}
 use Rattle.ranking_rule.specs.MadeGoals.{IsMadeWithin, goal_over}
 use Rattle.heyvl_acts.specs.Upward.{upward}
 

@@ -8,7 +8,7 @@ ghost use Rattle.heyvl_acts.specs.PlainActs.{procedures_of, variable_of};
 ghost use Rattle.heyvl_acts.specs.Rules.{AreNamed, MeetsAllRules};
 ghost use Rattle.ranking_rule.specs.RankingGoals.{IsMadeOf, generated, tested};
 ghost use Rattle.ranking_rule.specs.Rankings.{RankedLoop};
-ghost use Rattle.ranking_rule.specs.internal.Tested.{IsTested};
+ghost use Rattle.ranking_rule.specs.internal.GuardedGoals.{IsTested};
 ghost use Rattle.std.specs.Prelude.{IfOk, false, length, map, ◌<◌, ◌^◌, ◌≡◌};
 
 use crate::upward_acts::upward;

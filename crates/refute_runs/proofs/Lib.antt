@@ -1,5 +1,5 @@
 mod Procedures
 mod Stops
-mod Seen
+mod ProbeResults
 mod OfRuns
 mod Examples

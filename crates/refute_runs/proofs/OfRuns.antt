@@ -6,7 +6,7 @@ use Prim.Native.Nat.{zero, suc}
 use Rattle.heyvl_num.proofs.exported.Exactness.{exact_sumᵛ_some}
 use Rattle.heyvl_num.proofs.exported.Values.{<ᵛ-not, ≤ᵛ_trans}
 use Rattle.heyvl_num.specs.ExactValues.{exact_sumᵛ}
-use Rattle.heyvl_num.specs.Extended.{value_of}
+use Rattle.heyvl_num.specs.ExtendedNumbers.{value_of}
 use Rattle.heyvl_num.specs.Value.{Value, ◌≤ᵛ◌, ◌<ᵛ◌}
 use Rattle.heylo_formula.specs.declared.values.Val.{Val}
 use Rattle.heyvl_acts.specs.Acts.{TypedProcedure, procedure_at}

@@ -3,7 +3,7 @@ use Rattle.std.proofs.Common.{◌≡◌, ℕ, ◌<◌, ◌≤◌, refl, ap, sym,
 use Prim.Native.Nat.{zero, suc}
 use Rattle.heyvl_acts.specs.Acts.{nobody, procedure_at}
 use Rattle.heyvl_acts.specs.PlainActs.{procedure_of}
-use Rattle.heyvl_acts.specs.declared.typed.TProc.{TProc}
+use Rattle.heyvl_acts.specs.declared.typed_trees.TProc.{TProc}
 
 pub found_at : (xs : List TProc) (p : ℕ) (x : TProc) → p < length xs → x ≡ get_or xs p x → procedure_at (map procedure_of xs) p ≡ procedure_of x
 found_at [] p x lt is = absurd (omega (arith, lt))

@@ -2,9 +2,9 @@
 #![tactic(auto)]
 
 mod answers;
+mod bisection;
 mod probes;
-mod refuting;
-mod searching;
+mod violation_search;
 
 pub use answers::Refuted;
-pub use refuting::refute;
+pub use violation_search::refute;

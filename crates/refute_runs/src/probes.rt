@@ -3,7 +3,7 @@
 ghost use Rattle.std.specs.Prelude.{◌≡◌, ◌≤◌, IfOk, min, ℕ};
 ghost use Rattle.heyvl_acts.specs.PlainActs.{procedures_of};
 ghost use Rattle.heyvl_acts.specs.Rules.{MeetsAllRules};
-ghost use Rattle.heyvl_num.specs.Extended.{value_of};
+ghost use Rattle.heyvl_num.specs.ExtendedNumbers.{value_of};
 ghost use Rattle.refute_runs.specs.SumsAfter.{Unrollings, unrolled_from};
 ghost use Rattle.refute_runs.specs.internal.Probes.{IsSeen};
 ghost use Rattle.run_machine.specs.Names.{stored};

@@ -11,7 +11,7 @@ use Rattle.heylo_formula.specs.Typing.{types_in}
 use Rattle.linear_form.specs.Query.{Atom, Taken, onto}
 use Rattle.linear_rows.specs.Row.{Row}
 use Rattle.linear_rows.specs.Combination.{row_at}
-use Rattle.linear_form.specs.Lasting.{IsNoEnd}
+use Rattle.linear_form.specs.LastingPaths.{IsNoEnd}
 use Rattle.linear_form.specs.Paths.{IsPath}
 use Rattle.linear_values.specs.Tightening.{all_tightened}
 use Rattle.linear_form.specs.PathRows.{path_claims, answer_claims}
@@ -23,15 +23,15 @@ use Rattle.linear_form.specs.Cells.{IsKept, GoesOn}
 use Rattle.linear_form.proofs.exported.PathSteps.{asked_onto}
 use Rattle.linear_form.proofs.exported.Places.{rows_counted, path_rows_first, claims_counted}
 use Rattle.goal_answers.specs.declared.causes.Cause.TheVariants.{Bits}
-use Rattle.farkas_check.specs.Accepted.{IsRefutedWith}
+use Rattle.farkas_check.specs.AcceptedCertificates.{IsRefutedWith}
 use Rattle.region_split.specs.Walk.{AreBefore}
 use Rattle.region_split.specs.Decisions.{IsLarge}
 use Rattle.region_split.specs.internal.Clashes.{Clash}
-use Rattle.region_split.specs.internal.Seen.{EndsWalk}
+use Rattle.region_split.specs.internal.PathFindings.{EndsWalk}
 use Rattle.region_split.specs.internal.Trails.{IsDroppedBy}
-use Rattle.region_split.specs.internal.Known.{StandsIn}
+use Rattle.region_split.specs.internal.KnownComparisons.{StandsIn}
 use Rattle.region_split.specs.internal.Repeats.{AreAnswerRows, IsAsked}
-use Rattle.region_split.specs.declared.answering.AnswerRows.{AnswerRows}
+use Rattle.region_split.specs.declared.answer_rows.AnswerRows.{AnswerRows}
 use Rattle.region_split.specs.declared.trail.Trail.{Trail}
 use Rattle.region_split.proofs.ClashingRows.{clash_contradicts}
 use Rattle.region_split.proofs.PathAnswers.{dropped_by, unended_undenied}

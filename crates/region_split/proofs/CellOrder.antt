@@ -9,7 +9,7 @@ use Rattle.linear_form.specs.Cells.{IsFront, IsCell}
 use Rattle.linear_form.proofs.exported.PathSteps.{path_onto}
 use Rattle.region_split.specs.Walk.{AreBefore, IsReached}
 use Rattle.region_split.specs.Decisions.{HasCells}
-use Rattle.region_split.specs.internal.Seen.{IsEnd}
+use Rattle.region_split.specs.internal.PathFindings.{IsEnd}
 use Rattle.region_split.specs.internal.Progress.{HasBefore}
 use Rattle.goal_answers.specs.declared.trees.Tree as F
 

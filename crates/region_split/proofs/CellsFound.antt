@@ -13,10 +13,10 @@ use Rattle.goal_answers.specs.declared.causes.Broken.{Broken}
 use Rattle.region_split.specs.Decisions.{IsFirstPoint, IsFirstBreak}
 use Rattle.region_split.specs.PathPoints.{with_truths, IsPointOf, IsBreakOf, Breaks}
 use Rattle.region_split.specs.Pieces.{AreEnds, EndsOf, HasFirstPoint, IsFalse}
-use Rattle.region_split.specs.internal.Seen.{IsPointAt, IsBreakAt, IsMetAt}
+use Rattle.region_split.specs.internal.PathFindings.{IsPointAt, IsBreakAt, IsMetAt}
 use Rattle.region_split.specs.internal.Progress.{HoldsAt, IsBroken, IsFound}
-use Rattle.region_split.specs.declared.found.Found.{Found}
-use Rattle.region_split.specs.declared.found.Found.TheVariants.{Nothing, Break, Point}
+use Rattle.region_split.specs.declared.findings.Found.{Found}
+use Rattle.region_split.specs.declared.findings.Found.TheVariants.{Nothing, Break, Point}
 
 -- ---- One piece
 

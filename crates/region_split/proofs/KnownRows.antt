@@ -9,7 +9,7 @@ use Rattle.linear_rows.specs.Row.{Row}
 use Rattle.linear_values.specs.Tightening.{all_tightened, with_row, tightened}
 use Rattle.linear_form.specs.PathRows.{path_claims, answer_claims, claim, negated}
 use Rattle.linear_form.specs.RowLists.{ArePathRows}
-use Rattle.region_split.specs.internal.Known.{IsRowOf}
+use Rattle.region_split.specs.internal.KnownComparisons.{IsRowOf}
 
 -- behind a path stands the row of the answer
 grown : (types : Types) (ps : List Taken) (t : Taken) (rows : List Row) (r : Row) → all_tightened types (path_claims ps) ≡ Some rows → all_tightened types (answer_claims t.atom t.held) ≡ Some (r ∷ []) → all_tightened types (path_claims (ps ++ (t ∷ []))) ≡ Some (rows ++ (r ∷ []))

@@ -4,12 +4,12 @@ use Rattle.heylo_formula.specs.Goals.{Goal}
 use Rattle.linear_form.specs.Query.{Atom, Taken, onto}
 use Rattle.linear_rows.specs.Row.{Row}
 use Rattle.linear_form.specs.RowLists.{ArePathRows}
-use Rattle.region_split.specs.internal.Known.{IsRowOf}
+use Rattle.region_split.specs.internal.KnownComparisons.{IsRowOf}
 use Rattle.region_split.specs.internal.Trails.{StandsAt, AreRowsSoFar}
 use Rattle.region_split.specs.internal.Repeats.{AreAnswerRows}
-use Rattle.region_split.specs.declared.answering.AnswerRows.{AnswerRows}
+use Rattle.region_split.specs.declared.answer_rows.AnswerRows.{AnswerRows}
 use Rattle.region_split.specs.declared.trail.Trail.{Trail}
-use Rattle.region_split.proofs.Climbing.{snoc_first}
+use Rattle.region_split.proofs.WalkMoves.{snoc_first}
 use Rattle.region_split.proofs.Trails.{rows_before_last}
 use Rattle.region_split.proofs.KnownRows.{row_behind, row_alone}
 

@@ -16,7 +16,7 @@ use Rattle.linear_form.specs.Cells.{GoesOn, IsCell, IsFalseCell}
 use Rattle.linear_form.specs.Splits.{split_at}
 use Rattle.linear_rows.proofs.exported.Combinations.{contradiction_unsolvable}
 use Rattle.goal_answers.specs.Trees.{Tree, tree_of, tree_layer, depth}
-use Rattle.farkas_check.specs.Accepted.{IsRefutedWith, has_denied}
+use Rattle.farkas_check.specs.AcceptedCertificates.{IsRefutedWith, has_denied}
 use Rattle.goal_answers.specs.declared.trees.Tree as T
 use Rattle.goal_answers.specs.declared.trees.Tree.TheOpen.{Tree-F}
 use Rattle.goal_answers.specs.declared.trees.Tree.TheFolds.{fold-roll-Tree}
@@ -26,7 +26,7 @@ use Rattle.heylo_formula.specs.declared.values.Val.{Val}
 use Rattle.region_split.specs.PathPoints.{Breaks}
 use Rattle.region_split.specs.Pieces.{AreEnds, HasFirstPoint, IsFalse, IsSplitAt, first_half, second_half}
 use Rattle.region_split.specs.WalkTree.{IsPieceTree, IsWalkTree}
-use Rattle.region_split.specs.internal.Seen.{IsEnd}
+use Rattle.region_split.specs.internal.PathFindings.{IsEnd}
 use Rattle.region_split.specs.internal.Trails.{StandsAt, IsDroppedBy}
 use Rattle.region_split.specs.internal.Progress.{HasFalsePoint, HoldsAt, IsBroken, IsClosed, IsGrownTree, IsDeep, IsGrown, IsLeaf, IsBranch, IsAfter, IsFound, IsPieceDeep, IsPieceGrown, IsPieceGrownTree, IsStandingWalk, IsFinishedWalk}
 use Rattle.region_split.specs.declared.walk.Walk.{Walk}

@@ -1,7 +1,7 @@
 mod Trails
 mod PathAnswers
-mod Moved
-mod Climbing
+mod MovedMultipliers
+mod WalkMoves
 mod CellOrder
 mod HalvedPaths
 mod UniqueEnds

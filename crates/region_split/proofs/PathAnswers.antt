@@ -13,13 +13,13 @@ use Rattle.linear_values.specs.PlainValues.{linear_of}
 use Rattle.linear_form.specs.PlainPaths.{atom_of}
 use Rattle.linear_values.specs.Tightening.{Claim}
 use Rattle.linear_rows.specs.Row.{Row}
-use Rattle.linear_form.specs.Asked.{Answers}
-use Rattle.linear_form.specs.Lasting.{IsNoEnd}
+use Rattle.linear_form.specs.AskAnswers.{Answers}
+use Rattle.linear_form.specs.LastingPaths.{IsNoEnd}
 use Rattle.linear_rows.specs.Solutions.{IsSolvable}
 use Rattle.linear_rows.specs.Combination.{IsContradiction}
 use Rattle.linear_rows.specs.GreedyPoint.{IsGreedyPoint}
 use Rattle.linear_form.specs.Cells.{IsDropped, IsKept, GoesOn}
-use Rattle.linear_form.specs.declared.asking.Ask as K
+use Rattle.linear_form.specs.declared.questions.Ask as K
 use Rattle.linear_form.specs.declared.paths.Atom as A
 use Rattle.linear_values.specs.declared.lin.Lin as L
 use Rattle.linear_rows.proofs.exported.Combinations.{contradiction_unsolvable}
@@ -27,9 +27,9 @@ use Rattle.linear_elim.specs.Answers.{MeetsAll, IsTooGreat, IsShortLimited, elim
 use Rattle.linear_elim.specs.Elimination.Outcome.{too_many}
 use Rattle.goal_answers.specs.declared.causes.Broken.{Broken}
 use Rattle.goal_answers.specs.declared.causes.Cause.TheVariants.{Bits, Rows}
-use Rattle.farkas_check.specs.Accepted.{has_denied, IsRefutedWith}
+use Rattle.farkas_check.specs.AcceptedCertificates.{has_denied, IsRefutedWith}
 use Rattle.region_split.specs.Decisions.{Eliminates, IsLarge}
-use Rattle.region_split.specs.internal.Seen.{Looks, EndsWalk, IsPointAt, IsBreakAt, IsMetAt, IsEnd}
+use Rattle.region_split.specs.internal.PathFindings.{Looks, EndsWalk, IsPointAt, IsBreakAt, IsMetAt, IsEnd}
 use Rattle.region_split.specs.internal.Trails.{IsDroppedBy}
 
 -- ---- What the elimination answers

@@ -14,9 +14,9 @@ use Rattle.goal_answers.specs.declared.causes.Cause.TheVariants.{Bits}
 use Rattle.goal_answers.specs.declared.causes.Cause.{Cause}
 use Rattle.linear_elim.specs.Answers.{ends_of}
 use Rattle.goal_answers.specs.declared.trees.Tree as T
-use Rattle.farkas_check.specs.Accepted.{IsRefutedWith}
+use Rattle.farkas_check.specs.AcceptedCertificates.{IsRefutedWith}
 use Rattle.linear_form.proofs.exported.PathSteps.{plain_path}
-use Rattle.linear_form.specs.Asked.{Answers}
+use Rattle.linear_form.specs.AskAnswers.{Answers}
 use Rattle.linear_form.specs.Cells.{IsCell}
 use Rattle.linear_form.specs.PathRows.{IsPlainAt, path_claims}
 use Rattle.linear_form.specs.PlainPaths.{atom_of, taken_of}
@@ -29,7 +29,7 @@ use Rattle.linear_form.specs.Query.{Taken, onto}
 use Rattle.linear_form.specs.Questions.{Ends}
 use Rattle.linear_form.specs.RowLists.{ArePathRows, LackLastRow}
 use Rattle.linear_form.specs.Splits.{split_at}
-use Rattle.linear_form.specs.declared.asking.Ask as K
+use Rattle.linear_form.specs.declared.questions.Ask as K
 use Rattle.linear_rows.specs.Row.{Row}
 use Rattle.linear_rows.specs.Terms.{is_narrow}
 use Rattle.region_split.proofs.CellOrder.{front_path}
@@ -46,7 +46,7 @@ use Rattle.region_split.specs.Pieces.{AreEnds, BreaksAbove, HasFirstPoint, IsPie
 use Rattle.region_split.specs.declared.front.End as E
 use Rattle.region_split.specs.internal.Progress.{EndsPiece, IsBroken, IsCellStand, IsClosed, IsLeaf, IsPieceShown, IsPieceStand}
 use Rattle.region_split.specs.declared.pieces.Piece.{Piece}
-use Rattle.region_split.specs.internal.Seen.{EndsWalk, IsBreakAt, IsPointAt}
+use Rattle.region_split.specs.internal.PathFindings.{EndsWalk, IsBreakAt, IsPointAt}
 
 -- ---- Where a walk ends
 

@@ -11,7 +11,7 @@ use Rattle.linear_form.specs.Splits.{split_at}
 use Rattle.linear_form.specs.Nonlinear.{nonlinear_product}
 use Rattle.heylo_formula.specs.TypedGoals.{IsTypedGoal}
 use Rattle.goal_answers.specs.Trees.{Tree}
-use Rattle.farkas_check.specs.Accepted.{IsAccepted, IsCertificate}
+use Rattle.farkas_check.specs.AcceptedCertificates.{IsAccepted, IsCertificate}
 use Rattle.goal_answers.specs.declared.trees.Tree as T
 use Rattle.farkas_check.proofs.exported.Soundness.{certificate_holds}
 use Rattle.region_split.proofs.HalvedPaths.{end_past, splits_whole}

@@ -10,7 +10,7 @@ use Rattle.goal_answers.specs.declared.decisions.Decision.TheVariants.{Proved}
 use Rattle.goal_answers.specs.declared.trees.Tree as F
 use Rattle.region_split.specs.Decisions.{IsDecision, IsProved}
 use Rattle.region_split.specs.internal.Progress.{HasFalsePoint, HoldsAt, IsBranch, IsGrown}
-use Rattle.region_split.proofs.Climbing.{all_first, at_place}
+use Rattle.region_split.proofs.WalkMoves.{all_first, at_place}
 use Rattle.region_split.proofs.Leaves.{point_or_holds}
 use Rattle.region_split.proofs.UniqueWalks.{located}
 

@@ -15,7 +15,7 @@ use Rattle.linear_form.specs.PlainPaths.{path_of, taken_of, atom_of}
 use Rattle.linear_form.specs.Cells.{GoesOn, IsCell, IsFront}
 use Rattle.linear_form.specs.declared.paths.Taken as T
 use Rattle.goal_answers.specs.declared.causes.Broken.{Broken}
-use Rattle.farkas_check.specs.Accepted.{IsRefutedWith}
+use Rattle.farkas_check.specs.AcceptedCertificates.{IsRefutedWith}
 use Rattle.goal_answers.specs.declared.trees.Tree as F
 use Rattle.linear_form.specs.Nonlinear.{nonlinear_product}
 use Rattle.goal_answers.specs.declared.causes.Cause.{Cause}
@@ -26,16 +26,16 @@ use Rattle.linear_form.proofs.exported.PathSteps.{plain_path}
 use Rattle.heylo_formula.specs.TypedGoals.{IsTypedGoal}
 use Rattle.linear_form.specs.RowLists.{ArePathRows}
 use Rattle.linear_rows.specs.Row.{Row}
-use Rattle.region_split.specs.internal.Seen.{AreRowsAt, EndsWalk, IsEnd, IsEndOf, IsPointAt, IsMetAt}
+use Rattle.region_split.specs.internal.PathFindings.{AreRowsAt, EndsWalk, IsEnd, IsEndOf, IsPointAt, IsMetAt}
 use Rattle.region_split.specs.declared.front.End as E
 use Rattle.region_split.proofs.Trails.{starts_length}
 use Rattle.region_split.specs.internal.Trails.{Comes, ComesBy, Stands, StandsAt, IsDroppedBy}
 use Rattle.region_split.specs.internal.Progress.{EndsPiece, HoldsAt, AreShort, IsBroken, IsCellStand, IsClosed, IsGrown, IsLeaf, KnowsPoint, IsBranch, HasBefore, IsAfter, HasRisen, IsNextFront, IsFound, HasCome, IsWalk, IsStandingWalk, IsFinishedWalk, IsBelow, IsStep, IsAt, IsJudgedCell, rest_of, left_of, left_after}
-use Rattle.region_split.specs.declared.found.Found.{Found}
+use Rattle.region_split.specs.declared.findings.Found.{Found}
 use Rattle.region_split.specs.declared.trail.Trail.{Trail}
 use Rattle.region_split.specs.declared.walk.Walk.{Walk}
 use Rattle.region_split.specs.declared.walk.Step.{Step}
-use Rattle.region_split.proofs.Climbing.{taken, in_first, in_second, after_second, before_second, after_start, left_second, left_first, rest_below, rest_up, after_first, rest_up_first}
+use Rattle.region_split.proofs.WalkMoves.{taken, in_first, in_second, after_second, before_second, after_start, left_second, left_first, rest_below, rest_up, after_first, rest_up_first}
 use Rattle.region_split.proofs.CellOrder.{are_before, front_path, stands_front, reached, cell_here, many_cells}
 use Rattle.region_split.proofs.CellsFound.{found_holds, met_is_false, point_longer}
 use Rattle.region_split.proofs.Leaves.{broken_branch, closed_branch, closed_leaf, dropped_leaf, further_branch, given_branch, plain_leaf, dropped_finished, cell_finished}

@@ -13,7 +13,7 @@ use Rattle.linear_form.specs.PlainPaths.{path_of, taken_of, atom_of}
 use Rattle.linear_rows.specs.Row.{Row}
 use Rattle.linear_form.specs.declared.paths.Taken as T
 use Rattle.linear_form.proofs.exported.Places.{place_stays, rows_counted, path_rows_first, claims_counted}
-use Rattle.linear_guess.proofs.exported.Remembering.{remembers_more}
+use Rattle.linear_guess.proofs.exported.SearchMemory.{remembers_more}
 use Rattle.linear_form.specs.RowLists.{ArePathRows, LackLastRow}
 use Rattle.linear_form.specs.Places.{IsOn}
 use Rattle.linear_rows.specs.Occurrences.{AreOccurrences}
@@ -24,8 +24,8 @@ use Rattle.region_split.specs.declared.trail.Way.{Way}
 use Rattle.region_split.specs.declared.trail.Way.TheVariants.{Open}
 use Rattle.region_split.specs.declared.trail.Trail.{Trail}
 use Rattle.region_split.specs.internal.Trails.{IsWay, ArePlaces, AreRowsSoFar, Comes, Stands, StandsAt, ComesBy, StoodBefore}
-use Rattle.region_split.specs.internal.Known.{AreKnown}
-use Rattle.region_split.proofs.Climbing.{snoc_first, snoc_last, snoc_not_empty}
+use Rattle.region_split.specs.internal.KnownComparisons.{AreKnown}
+use Rattle.region_split.proofs.WalkMoves.{snoc_first, snoc_last, snoc_not_empty}
 
 -- ---- What is kept of the answers
 

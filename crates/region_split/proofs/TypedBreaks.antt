@@ -24,8 +24,8 @@ use Rattle.linear_elim.proofs.exported.Numeric.{counted_numeric}
 use Rattle.linear_form.proofs.exported.UnsignedRows.{unsigned_nonnegative}
 use Rattle.goal_answers.specs.declared.causes.Broken.{Broken}
 use Rattle.region_split.specs.PathPoints.{IsBreakOf}
-use Rattle.region_split.specs.internal.Seen.{IsBreakAt}
-use Rattle.region_split.proofs.Climbing.{all_first}
+use Rattle.region_split.specs.internal.PathFindings.{IsBreakAt}
+use Rattle.region_split.proofs.WalkMoves.{all_first}
 use Rattle.linear_rows.proofs.exported.GreedyChoices.{AreWhole, completed, chosen_whole}
 use Rattle.region_split.proofs.GreedyOrder.{turned_occurs, chosen_all}
 use Rattle.region_split.proofs.GreedyStates.{number_below}

@@ -27,7 +27,7 @@ use Rattle.region_split.specs.DecisionLaws.{AreAlike, IsSameBreak, GiveAlike, Is
 use Rattle.goal_answers.specs.declared.decisions.Decision.TheVariants.{Proved, Falsified, Unknown}
 use Rattle.region_split.proofs.PathAnswers.{same_rows}
 use Rattle.region_split.proofs.CellsFound.{breaks, no_ends}
-use Rattle.region_split.proofs.Climbing.{all_first, all_second, at_place}
+use Rattle.region_split.proofs.WalkMoves.{all_first, all_second, at_place}
 use Rattle.region_split.proofs.Leaves.{point_or_holds}
 use Rattle.region_split.proofs.UniqueEnds.{the_end, ends_unique, point_false, point_not_broken, point_unique}
 use Rattle.region_split.proofs.UniqueWalks.{cells_unique, trees_alike, alike_depth, all_hold, kept_or_dropped, end_or_question, located}

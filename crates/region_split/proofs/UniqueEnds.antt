@@ -14,7 +14,7 @@ use Rattle.linear_rows.proofs.exported.GreedyChoices.{choices_unique, points_uni
 use Rattle.linear_rows.specs.GreedyPoint.{End, Interval, Greedy, ChoosesFrom, IsGreedyPoint}
 use Rattle.linear_rows.specs.Row.{Row}
 use Rattle.linear_rows.specs.Solutions.{IsSolvable}
-use Rattle.region_split.proofs.Climbing.{all_first, all_second}
+use Rattle.region_split.proofs.WalkMoves.{all_first, all_second}
 use Rattle.region_split.proofs.PathAnswers.{same_rows}
 use Rattle.region_split.specs.PathPoints.{Breaks, IsPointOf, with_truths}
 use Rattle.region_split.specs.Pieces.{AreEnds, BreaksAbove, HasFirstPoint, IsFalse, IsSplitAt, first_half, second_half}

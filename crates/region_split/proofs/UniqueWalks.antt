@@ -17,7 +17,7 @@ use Rattle.linear_rows.specs.Solutions.{IsSolvable}
 use Rattle.linear_form.specs.Cells.{IsDropped, IsKept, GoesOn}
 use Rattle.linear_rows.proofs.exported.Combinations.{contradiction_unsolvable}
 use Rattle.goal_answers.specs.Trees.{Tree, depth}
-use Rattle.farkas_check.specs.Accepted.{IsRefuted, has_denied}
+use Rattle.farkas_check.specs.AcceptedCertificates.{IsRefuted, has_denied}
 use Rattle.region_split.specs.Walk.{AreCells, AreBefore}
 use Rattle.region_split.specs.Pieces.{AreEnds, IsFalse, first_half, second_half}
 use Rattle.region_split.specs.WalkTree.{IsPieceTree, IsWalkTree}
@@ -27,7 +27,7 @@ use Rattle.region_split.proofs.Leaves.{denied_there}
 use Rattle.region_split.proofs.UniqueEnds.{at_same, same_split}
 use Rattle.region_split.specs.DecisionLaws.{AreAlike, TreesAreAlike, DepthIsUnique, CellsAreUnique, CellsBeforeAreUnique}
 use Rattle.region_split.proofs.PathAnswers.{same_rows}
-use Rattle.region_split.proofs.Climbing.{taken, snoc_first, snoc_last, snoc_not_empty}
+use Rattle.region_split.proofs.WalkMoves.{taken, snoc_first, snoc_last, snoc_not_empty}
 
 -- ---- What stands at a path is one thing
 

@@ -8,7 +8,7 @@ use Rattle.goal_answers.specs.declared.causes.Broken.{Broken}
 use Rattle.goal_answers.specs.declared.causes.Cause.{Cause}
 use Rattle.goal_answers.specs.declared.causes.Cause.TheVariants.{Nonlinear, Cells, Rows, Bits, Fraction}
 use Rattle.goal_answers.specs.Trees.{Tree, tree_of, depth}
-use Rattle.farkas_check.specs.Accepted.{IsCertificate}
+use Rattle.farkas_check.specs.AcceptedCertificates.{IsCertificate}
 use Rattle.goal_answers.specs.declared.trees.Tree as T
 use Rattle.region_split.specs.Walk.{AreCells, AreBefore}
 use Rattle.region_split.specs.WalkTree.{IsWalkTree}

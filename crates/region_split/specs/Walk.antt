@@ -10,7 +10,7 @@ use Rattle.linear_form.specs.Questions.{Ends}
 use Rattle.linear_form.specs.Paths.{end_at}
 use Rattle.linear_form.specs.PathRows.{rows_of, IsPlainAt}
 use Rattle.linear_form.specs.Cells.{IsDropped, IsKept, GoesOn, IsFalseCell}
-use Rattle.farkas_check.specs.Accepted.{has_denied}
+use Rattle.farkas_check.specs.AcceptedCertificates.{has_denied}
 
 -- The rows of which a certificate speaks at the path can be stated: with the denied goal among them at an end at which the goal
 -- doesn't hold plainly.

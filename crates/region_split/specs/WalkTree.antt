@@ -9,7 +9,7 @@ use Rattle.linear_form.specs.Paths.{end_at}
 use Rattle.linear_form.specs.PathRows.{IsPlainAt}
 use Rattle.linear_form.specs.Cells.{IsDropped, IsKept, GoesOn}
 use Rattle.goal_answers.specs.Trees.{Tree}
-use Rattle.farkas_check.specs.Accepted.{IsRefuted}
+use Rattle.farkas_check.specs.AcceptedCertificates.{IsRefuted}
 use Rattle.region_split.specs.Pieces.{IsSplitAt, first_half, second_half}
 
 -- The tree of a piece after n splits, where it has no ends: multipliers where its rows are refuted, else a split of a whole variable.

@@ -1,7 +1,7 @@
-pub mod Moving
+pub mod MovedRows
 pub mod Clashes
-pub mod Known
+pub mod KnownComparisons
 pub mod Trails
-pub mod Seen
+pub mod PathFindings
 pub mod Repeats
 pub mod Progress

@@ -8,14 +8,14 @@ ghost use Rattle.linear_form.specs.PlainPaths.{path_of};
 ghost use Rattle.linear_form.specs.Query.{Taken as PlainTaken};
 ghost use Rattle.linear_guess.specs.Searches.{Remembers};
 ghost use Rattle.region_split.specs.internal.Progress.{IsCellStand, IsJudged, IsOpen, IsPieceShown};
-ghost use Rattle.region_split.specs.declared.found.Found.TheVariants.{Point as PointFound};
+ghost use Rattle.region_split.specs.declared.findings.Found.TheVariants.{Point as PointFound};
 
-use crate::found::{Found, with_break, with_point};
+use crate::findings::{Found, with_break, with_point};
 use crate::front::End;
 use crate::growth::leaf;
 use crate::pieces::{Piece, broken_piece};
 use crate::points::with_path;
-use crate::solving::{Settled, Solved, settle, solve};
+use crate::solver::{Settled, Solved, settle, solve};
 use goal_answers::{Cause, Tree};
 use heylo_formula::{Goal, Val};
 use linear_form::Taken;

@@ -1,26 +1,26 @@
 //! The decision of a goal: its questions are walked, and each cell is refuted or gives a point at which the goal fails.
 #![tactic(auto)]
 
-mod answering;
-mod backing;
+mod answer_rows;
+mod ascent;
 mod cell;
 mod clashes;
-mod deciding;
+mod decision;
 mod decision_laws;
-mod descending;
-mod found;
+mod descent;
+mod findings;
 mod front;
 mod growth;
-mod known;
-mod moving;
+mod known_comparisons;
+mod moved_multipliers;
 mod pieces;
 mod points;
 mod repeats;
-mod solving;
+mod solver;
 mod trail;
 mod walk;
 
-pub use deciding::decide;
+pub use decision::decide;
 pub use decision_laws::{
     decisions_are_unique, decisions_tell, walk_trees_certify, walks_are_unique,
 };

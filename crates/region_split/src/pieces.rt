@@ -8,14 +8,14 @@ ghost use Rattle.linear_form.specs.PlainPaths.{atom_of, path_of, taken_of};
 ghost use Rattle.linear_form.specs.Query.{Taken as PlainTaken, onto};
 ghost use Rattle.linear_form.specs.Splits.{split_at};
 ghost use Rattle.region_split.specs.Pieces.{IsSplitAt, first_half, second_half};
-ghost use Rattle.region_split.specs.internal.Seen.{IsBreakAt};
+ghost use Rattle.region_split.specs.internal.PathFindings.{IsBreakAt};
 ghost use Rattle.region_split.specs.internal.Progress.{IsBroken, IsClosed, IsPieceShown, IsPieceStand};
 
 use crate::front::End;
 use crate::growth::{joined_halves, leaf};
-use crate::known::{copy_row, copy_value};
+use crate::known_comparisons::{copy_row, copy_value};
 use crate::points::with_path;
-use crate::solving::{Solved, solve_rows};
+use crate::solver::{Solved, solve_rows};
 use goal_answers::{Broken, Cause, Tree};
 use heylo_formula::{Goal, Val};
 use linear_form::{Atom, RowList, Taken, next_row, split, with_denied_goal};

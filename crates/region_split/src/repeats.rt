@@ -10,13 +10,13 @@ ghost use Rattle.linear_form.specs.Query.{Taken as PlainTaken};
 ghost use Rattle.linear_rows.specs.Row.{Row as PlainRow};
 ghost use Rattle.region_split.specs.internal.Clashes.{Clash};
 ghost use Rattle.region_split.specs.internal.Trails.{Stands, StandsAt};
-ghost use Rattle.region_split.specs.internal.Known.{IsRecalled, StandsIn};
+ghost use Rattle.region_split.specs.internal.KnownComparisons.{IsRecalled, StandsIn};
 ghost use Rattle.region_split.specs.internal.Repeats.{AreAnswerRows, IsAsked, IsRepeat};
 
-use crate::answering::{AnswerRows, Both, rows_of_answers};
+use crate::answer_rows::{AnswerRows, Both, rows_of_answers};
 use crate::clashes::clash;
-use crate::known::{Known, Recalled, make_known, recall};
-use crate::moving::is_same_row;
+use crate::known_comparisons::{Known, Recalled, make_known, recall};
+use crate::moved_multipliers::is_same_row;
 use crate::trail::{Trail, Way, further, is_comparison, knowing};
 use goal_answers::Cause;
 use heylo_formula::Goal;

@@ -6,11 +6,11 @@ ghost use Rattle.linear_form.specs.PathRows.{answer_claims};
 ghost use Rattle.linear_form.specs.PlainPaths.{path_of, atom_of, taken_of};
 ghost use Rattle.linear_form.specs.Query.{Taken as PlainTaken};
 ghost use Rattle.linear_form.specs.RowLists.{ArePathRows};
-ghost use Rattle.region_split.specs.internal.Known.{AreKnown, IsKnown};
+ghost use Rattle.region_split.specs.internal.KnownComparisons.{AreKnown, IsKnown};
 ghost use Rattle.heylo_formula.specs.declared.types.Ty.{Ty as PlainTy};
 ghost use Rattle.region_split.specs.internal.Trails.{Comes, Stands, StandsAt, IsWay, IsBack, IsShorter, ComesBy};
 
-use crate::known::Known;
+use crate::known_comparisons::Known;
 use heylo_formula::Goal;
 use linear_form::{Atom, Place, Taken, begin};
 use linear_guess::Search;

@@ -7,13 +7,13 @@ ghost use Rattle.linear_form.specs.Query.{Taken as PlainTaken};
 ghost use Rattle.linear_form.specs.Nonlinear.{nonlinear_product};
 ghost use Rattle.heylo_formula.specs.TypedGoals.{IsTypedGoal};
 ghost use Rattle.region_split.specs.Decisions.{IsDecision};
-ghost use Rattle.region_split.specs.internal.Seen.{IsEndOf};
+ghost use Rattle.region_split.specs.internal.PathFindings.{IsEndOf};
 ghost use Rattle.region_split.specs.internal.Progress.{AreShort, IsWalk, IsStandingWalk, IsFinishedWalk, IsStep, IsFound, IsBranch};
 
-use crate::backing::{Up, climb};
+use crate::ascent::{Up, climb};
 use crate::cell::{Cell, judge};
-use crate::descending::deeper;
-use crate::found::Found;
+use crate::descent::deeper;
+use crate::findings::Found;
 use crate::front::{End, Front, look};
 use crate::growth::leaf;
 use crate::trail::{Trail, first_rows, start};

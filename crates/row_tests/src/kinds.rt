@@ -2,7 +2,7 @@
 
 use crate::contradiction_tests::write_contradiction;
 use crate::elimination_tests::write_elimination;
-use crate::finding_tests::write_finding;
+use crate::guess_tests::write_finding;
 use crate::tightening_tests::write_tightened;
 use std::alloc::{AllocError, Global};
 use std::process::Abort;

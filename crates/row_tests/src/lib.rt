@@ -6,9 +6,9 @@ mod contradiction_tests;
 #[cfg(test)]
 mod elimination_tests;
 #[cfg(test)]
-mod finding_tests;
-#[cfg(test)]
 mod fractions;
+#[cfg(test)]
+mod guess_tests;
 #[cfg(test)]
 mod kinds;
 #[cfg(test)]

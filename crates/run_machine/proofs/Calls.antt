@@ -24,7 +24,7 @@ use Rattle.run_machine.proofs.Moves.{frames_kept}
 use Rattle.run_machine.proofs.Positions.{each_append, last_is, lists_restate}
 use Rattle.run_machine.proofs.Procedures.{body_named, text_stands}
 use Rattle.run_machine.proofs.RuledActs.{program_runs}
-use Rattle.run_machine.proofs.Running.{block_belongs}
+use Rattle.run_machine.proofs.RunPlaces.{block_belongs}
 use Rattle.run_machine.proofs.exported.TypedStates.{types_append, types_length}
 
 -- ---- Outputs

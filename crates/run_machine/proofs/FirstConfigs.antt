@@ -10,7 +10,7 @@ use Rattle.run_machine.specs.Names.{Numbered, Lists, numbered}
 use Rattle.run_machine.specs.StoredStep.{stored_begin}
 use Rattle.run_machine.proofs.Procedures.{text_stands}
 use Rattle.run_machine.proofs.RuledActs.{program_runs}
-use Rattle.run_machine.proofs.Running.{block_belongs}
+use Rattle.run_machine.proofs.RunPlaces.{block_belongs}
 
 pub first_config : (ps : List TypedProcedure) (p : ℕ) (s t : List Val) (is : List Numbered) (fs : List Lists) (v : Value) (ts : List ℕ) (made : ℕ) → ReachesPrograms ps p → IsState (procedure_at ps p) s → is ≡ numbered p 0 (acts_in (procedure_at ps p).body) → t ≡ s → fs ≡ [] → ts ≡ replicate (procedure_at ps p).loops 0 → IsConfig ps (record { procedure = p; items = is; state = t; frames = fs; reward = v; turns = ts; made = made })
 first_config ps p s t is fs v ts made r st e f g h = record {

@@ -11,7 +11,7 @@ mod Parts
 mod Places
 mod Positions
 mod Replies
-mod Running
+mod RunPlaces
 mod Steps
 mod StepReplies
 mod VariableTypes

@@ -3,7 +3,7 @@ use Rattle.std.proofs.Common.{◌≡◌, ℕ, ◌<◌, ◌≤◌, refl, ap, sym,
 use Rattle.std.proofs.lemmas.Option.{none-some}
 use Rattle.std.specs.Prelude.{Option, Some, None}
 use Prim.Native.Nat.{zero, suc}
-use Rattle.heyvl_acts.specs.declared.typed.TProc.{TProc}
+use Rattle.heyvl_acts.specs.declared.typed_trees.TProc.{TProc}
 use Rattle.heyvl_acts.specs.Acts.{Act, Acts, TypedProcedure, acts_in, nobody, procedure_at}
 use Rattle.heyvl_acts.specs.PlainActs.{procedure_of}
 use Rattle.heyvl_acts.specs.Places.{nth, in_order, acts_of_procedure}

@@ -7,7 +7,7 @@ use Rattle.std.specs.Prelude.{eqb, if◌then◌else◌, Option, Some, None}
 use Prim.Native.Nat.{zero, suc}
 use Rattle.heyvl_places.specs.declared.spans.Span.{Span}
 use Rattle.heylo_formula.specs.Operators.{agree}
-use Rattle.heyvl_acts.specs.declared.typed.TProc.{TProc}
+use Rattle.heyvl_acts.specs.declared.typed_trees.TProc.{TProc}
 use Rattle.heyvl_acts.specs.Acts.{Head, Act, Acts, TypedProcedure, acts_in, procedure_at, variables}
 use Rattle.heyvl_acts.specs.PlainActs.{procedure_of, variable_of}
 use Rattle.heyvl_acts.specs.Places.{nth, in_order, acts_of_procedure}

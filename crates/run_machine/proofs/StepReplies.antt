@@ -22,7 +22,7 @@ use Rattle.run_machine.specs.StepAnswers.{IsStep}
 use Rattle.run_machine.specs.StoredLaws.{MeansStep}
 use Rattle.run_machine.specs.StoredMoves.{asked, assigned, resumed}
 use Rattle.run_machine.specs.StoredStep.{stored_act, stored_item, stored_items, stored_return}
-use Rattle.run_machine.specs.internal.Comings.{ComesNext, IsAt}
+use Rattle.run_machine.specs.internal.NextItems.{ComesNext, IsAt}
 use Rattle.run_machine.specs.internal.Places.{Stands, text}
 use Rattle.run_machine.proofs.Places.{part_head, part_rest}
 use Rattle.run_machine.proofs.Procedures.{text_is}

@@ -21,7 +21,7 @@ use Rattle.heyvl_acts.specs.Matching.{taken}
 use Rattle.heyvl_acts.specs.Places.{in_order, inside, act_named}
 use Rattle.heyvl_acts.specs.Rules.{Each, IsOwn, MeetsRules}
 use Rattle.heyvl_acts.specs.Tosses.{toss_parts}
-use Rattle.heyvl_acts.specs.WellTyped.{DrawFits, PartsFit}
+use Rattle.heyvl_acts.specs.WellTypedActs.{DrawFits, PartsFit}
 use Rattle.heyvl_acts.proofs.exported.Tosses.{toss_fit}
 use Rattle.run_machine.specs.declared.configurations.Item.TheVariants.{Do, Turn, Out, Back}
 use Rattle.run_machine.specs.Bound.{IsState}
@@ -30,7 +30,7 @@ use Rattle.run_machine.specs.Configurations.{Item, evaluate, push}
 use Rattle.run_machine.specs.Names.{Names, call_parts, Numbered, Lists, Stored, act_item, turn_item, item_of, items_of, config_of, numbered}
 use Rattle.run_machine.specs.Step.{Decision, sure, moved, turned, test, step, step_item, step_items, value_of, side_of}
 use Rattle.run_machine.specs.StepAnswers.{asked_by}
-use Rattle.run_machine.specs.internal.Comings.{ComesNext, IsAt, ReturnsNext}
+use Rattle.run_machine.specs.internal.NextItems.{ComesNext, IsAt, ReturnsNext}
 use Rattle.run_machine.specs.internal.Places.{Stands, text}
 use Rattle.run_machine.specs.Replies.{StoredOutcomes, named, surely}
 use Rattle.run_machine.specs.StoredLaws.{Comes, MeansStep, StoredStepsAreMeant}
@@ -41,7 +41,7 @@ use Rattle.run_machine.proofs.Moves.{collects, draws, opens, passes, turns_round
 use Rattle.run_machine.proofs.Places.{inside_stands, part_first, part_second}
 use Rattle.run_machine.proofs.Positions.{At, each_append, lists_state, position}
 use Rattle.run_machine.proofs.RuledActs.{Ruled, loop_range, ruled}
-use Rattle.run_machine.proofs.Running.{block_belongs, each_first, each_second, taken_runs, taken_stands}
+use Rattle.run_machine.proofs.RunPlaces.{block_belongs, each_first, each_second, taken_runs, taken_stands}
 use Rattle.run_machine.proofs.exported.TypedStates.{first_typed, own_set, resumed_typed, term_has}
 
 -- The first item decides the step.

@@ -4,8 +4,8 @@ use Rattle.std.proofs.lemmas.List.{drop-drop, take-append-drop}
 use Prim.Native.Nat.{zero, suc}
 use Rattle.heylo_formula.specs.Typing.{types_in}
 use Rattle.heylo_formula.specs.declared.types.Ty.{Ty}
-use Rattle.heyvl_acts.specs.declared.typed.TProc.{TProc}
-use Rattle.heyvl_acts.specs.declared.typed.VarInfo.{VarInfo}
+use Rattle.heyvl_acts.specs.declared.typed_trees.TProc.{TProc}
+use Rattle.heyvl_acts.specs.declared.typed_trees.VarInfo.{VarInfo}
 use Rattle.heyvl_acts.specs.Acts.{type_list, types_of, variables}
 use Rattle.heyvl_acts.specs.PlainActs.{procedure_of, variable_of}
 

@@ -13,5 +13,5 @@ pub mod StoredMoves
 pub mod StoredStep
 pub mod StepAnswers
 pub mod StoredLaws
-pub mod SameStored
+pub mod SameConfigurations
 pub mod internal

@@ -3,7 +3,7 @@ use Rattle.std.specs.Prelude.{◌≡◌, ◌+◌, ℕ, true, false, List, [], �
 use Rattle.std.specs.Borrow.{Bor}
 use Prim.Native.Nat.{zero, suc}
 use Rattle.heyvl_num.specs.Value.{Value}
-use Rattle.heyvl_num.specs.Extended as extended
+use Rattle.heyvl_num.specs.ExtendedNumbers as extended
 use Rattle.heylo_formula.specs.declared.values.Val.{Val}
 use Rattle.heyvl_acts.specs.Acts.{Act, Acts, TypedProcedure, types_of, procedure_at}
 use Rattle.heyvl_acts.specs.Places.{act_named, inside}

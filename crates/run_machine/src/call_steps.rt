@@ -17,7 +17,7 @@ use crate::copies::{copy_frames, rest_of};
 use crate::evaluation::{assign, terms_at};
 use crate::limits::for_sure;
 use crate::plain_steps::pass_step;
-use crate::starting::push_body;
+use crate::starts::push_body;
 use heylo_formula::{Term, Val};
 use heyvl_acts::{TProc, Typed};
 use std::alloc::{AllocError, Global};

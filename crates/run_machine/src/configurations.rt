@@ -2,7 +2,7 @@
 
 ghost use Rattle.std.specs.Prelude.{◌≡◌};
 ghost use Rattle.run_machine.specs.Names.{stored};
-ghost use Rattle.run_machine.specs.SameStored.{same_stored};
+ghost use Rattle.run_machine.specs.SameConfigurations.{same_stored};
 
 use heylo_formula::Val;
 use heyvl_num::{Ext, Frac};

@@ -5,7 +5,7 @@ ghost use Rattle.heylo_formula.specs.PlainTrees.{term_of};
 ghost use Rattle.heylo_formula.specs.Meaning.{term_value};
 ghost use Rattle.heylo_formula.specs.State.{environment};
 ghost use Rattle.heylo_formula.specs.Operators.{finite_part};
-ghost use Rattle.heyvl_num.specs.Extended.{value_of};
+ghost use Rattle.heyvl_num.specs.ExtendedNumbers.{value_of};
 ghost use Rattle.heyvl_acts.specs.PlainActs.{terms_of};
 ghost use Rattle.run_machine.specs.BoundedStep.{exact_term, terms_fit};
 ghost use Rattle.run_machine.specs.Configurations.{evaluate};

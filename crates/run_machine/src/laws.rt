@@ -1,7 +1,7 @@
 //! Laws of steps and runs. Each function does nothing: its contract is the law.
 
 ghost use Rattle.run_machine.specs.RunLaws as law;
-ghost use Rattle.run_machine.specs.SameStored as same;
+ghost use Rattle.run_machine.specs.SameConfigurations as same;
 ghost use Rattle.run_machine.specs.StoredLaws as stored;
 
 /// The weights of a step add up to 1 where those of a draw do.

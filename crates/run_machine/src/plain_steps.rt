@@ -6,7 +6,7 @@ ghost use Rattle.heylo_formula.specs.Choices.{Choices};
 ghost use Rattle.heylo_formula.specs.Meaning.{term_value, value};
 ghost use Rattle.heylo_formula.specs.State.{environment};
 ghost use Rattle.heyvl_num.specs.ExactValues.{exact_sumᵛ};
-ghost use Rattle.heyvl_num.specs.Extended.{value_of as number_of};
+ghost use Rattle.heyvl_num.specs.ExtendedNumbers.{value_of as number_of};
 ghost use Rattle.heyvl_acts.specs.PlainActs.{parts_of};
 ghost use Rattle.quant_algebra.specs.ExactMeaning.{exact_value};
 ghost use Rattle.quant_algebra.specs.ExactOperators.{and_then};

@@ -6,7 +6,7 @@ ghost use Rattle.heylo_formula.specs.Operators.{finite_part};
 ghost use Rattle.heylo_formula.specs.PlainTrees.{form_of};
 ghost use Rattle.heylo_formula.specs.State.{environment};
 ghost use Rattle.heyvl_acts.specs.Tosses.{toss_parts, toss_weight};
-ghost use Rattle.heyvl_num.specs.Extended.{value_of};
+ghost use Rattle.heyvl_num.specs.ExtendedNumbers.{value_of};
 ghost use Rattle.heyvl_num.specs.Rational.{oneʳ, ◌-ʳ◌};
 ghost use Rattle.heyvl_num.specs.Value.{oneᵛ};
 ghost use Rattle.heyvl_num.specs.ValueOperators.{minᵛ};

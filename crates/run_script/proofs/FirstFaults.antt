@@ -1,8 +1,8 @@
 -- The first fault of a text.
-use Rattle.run_script.proofs.Going.{at_the_end, before_all, no_more, none_begins}
+use Rattle.run_script.proofs.NextLines.{at_the_end, before_all, no_more, none_begins}
 use Rattle.run_script.specs.Lines.{said}
 use Rattle.run_script.specs.Scripts.{AreFirstLines, AreLinesOf, IsFirstFaultOf, Known, Script}
-use Rattle.run_script.specs.internal.Reading.{begun, gone_on}
+use Rattle.run_script.specs.internal.ReadLines.{begun, gone_on}
 use Rattle.std.proofs.Common.{List, None, [], ap, append_assoc, arith, drop, inl, inr, length, length-append, refl, subst, sym, take, take-append-drop, ◌+◌, ◌++◌, ◌<◌, ◌∙◌, ◌∷◌, ◌≡◌, ◌⊎◌, ℕ}
 use Rattle.std.proofs.Math.Seq.{take-append_seam}
 use Rattle.std.proofs.lemmas.Bool.{cases_order}

@@ -2,8 +2,8 @@
 use Rattle.heylo_formula.specs.State.{default}
 use Rattle.heyvl_acts.specs.Acts.{variables}
 use Rattle.heyvl_acts.specs.PlainActs.{procedure_of, variable_of}
-use Rattle.heyvl_acts.specs.declared.typed.TProc.{TProc}
-use Rattle.heyvl_acts.specs.declared.typed.VarInfo.{VarInfo}
+use Rattle.heyvl_acts.specs.declared.typed_trees.TProc.{TProc}
+use Rattle.heyvl_acts.specs.declared.typed_trees.VarInfo.{VarInfo}
 use Rattle.run_script.specs.Starts.{start_state, start_value}
 use Rattle.run_script.specs.declared.scripts.Setting.{Setting}
 use Rattle.std.proofs.Common.{List, [], ap, ap₂, append_assoc, drop, map, refl, sym, take, take-add, ◌+◌, ◌++◌, ◌∙◌, ◌∷◌, ◌≡◌, ℕ}

@@ -1,9 +1,9 @@
 pub mod exported
-mod Answering
+mod ReaderAnswers
 mod Feeds
 mod FewSteps
 mod FirstFaults
-mod Going
+mod NextLines
 mod LineOrder
 mod Numbers
 mod ReadSoFar

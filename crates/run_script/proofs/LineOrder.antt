@@ -5,7 +5,7 @@ use Rattle.run_machine.specs.declared.configurations.Decide.{Decide}
 use Rattle.run_script.specs.Lines.{Line}
 use Rattle.run_script.specs.Scripts.{AreSettings, IsScript, Known, Script, lines_of, takes}
 use Rattle.run_script.specs.declared.scripts.Setting.{Setting}
-use Rattle.run_script.specs.internal.Reading.{is_set, may_follow, may_set, with_line}
+use Rattle.run_script.specs.internal.ReadLines.{is_set, may_follow, may_set, with_line}
 use Rattle.std.proofs.Common.{Bool, List, None, Some, [], ap, append_assoc, arith, false, length, map, not, refl, subst, sym, true, ◌&&◌, ◌++◌, ◌==◌, ◌||◌, ◌∙◌, ◌∷◌, ◌≡◌, ◌≢◌, ℕ}
 use Rattle.std.proofs.lemmas.Bool.Decides.{nat_tests}
 use Rattle.std.proofs.lemmas.List.{append-nil, map-append}

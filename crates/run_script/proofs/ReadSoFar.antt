@@ -1,9 +1,9 @@
 -- Lines that the program holds, read up to a place.
 use Rattle.run_script.proofs.FirstFaults.{fault_at_first, fault_behind}
-use Rattle.run_script.proofs.Going.{begins, goes_on}
+use Rattle.run_script.proofs.NextLines.{begins, goes_on}
 use Rattle.run_script.specs.Lines.{said}
 use Rattle.run_script.specs.Scripts.{AreLinesOf, IsFirstFaultOf, Known, Script}
-use Rattle.run_script.specs.internal.Reading.{begun, bytes_of, gone_on}
+use Rattle.run_script.specs.internal.ReadLines.{begun, bytes_of, gone_on}
 use Rattle.std.proofs.Common.{List, None, Some, [], add-one, ap, arith, drop, drop-cons, get_or, length, refl, subst, sym, take, take-append-drop, ◌+◌, ◌-◌, ◌++◌, ◌<◌, ◌∙◌, ◌∷◌, ◌≡◌, ◌≤◌, ℕ}
 use Prim.Native.Nat.{suc, zero}
 use Rattle.std.proofs.lemmas.List.{length-map, map-append, take_more, take_rest}

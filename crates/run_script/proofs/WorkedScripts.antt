@@ -4,7 +4,7 @@ use Rattle.heylo_formula.specs.declared.values.Val.TheVariants.{Num, Truth}
 use Rattle.heylo_formula.specs.declared.values.Val.{Val}
 use Rattle.heyvl_num.specs.Gcd.{gcd, gcd_steps}
 use Rattle.heyvl_num.specs.Rational.{leqʳ, ratio, zeroʳ}
-use Rattle.run_script.proofs.exported.PlainReading.{read_right}
+use Rattle.run_script.proofs.exported.PlainReader.{read_right}
 use Rattle.run_script.specs.Lines.{Line}
 use Rattle.run_script.specs.Scripts.{AreSettings, IsFirstFault, Known, Script, Spells}
 use Rattle.run_script.specs.declared.scripts.Setting.{Setting}

@@ -1,3 +1,3 @@
-pub mod PlainReading
+pub mod PlainReader
 pub mod StartStates
 pub mod UniqueScripts

@@ -1,6 +1,6 @@
 -- Scripts and variables that the program holds, read as those of the definitions.
 use Rattle.heyvl_acts.specs.PlainActs.{variable_of}
-use Rattle.heyvl_acts.specs.declared.typed.VarInfo.{VarInfo}
+use Rattle.heyvl_acts.specs.declared.typed_trees.VarInfo.{VarInfo}
 use Rattle.run_script.specs.Scripts as scripts
 use Rattle.run_script.specs.declared.scripts.Script.{Script}
 use Rattle.std.specs.Borrow.{Bor}

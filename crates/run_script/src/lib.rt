@@ -3,7 +3,7 @@
 
 mod laws;
 mod lines;
-mod reading;
+mod reader;
 mod scripts;
 mod starts;
 mod stops;
@@ -11,7 +11,7 @@ mod texts;
 mod values;
 
 pub use laws::{faults_are_unique, scripts_are_unique, scripts_have_no_fault};
-pub use reading::read_script;
+pub use reader::read_script;
 pub use scripts::{Script, Setting};
 pub use starts::{known_variables, start_state, start_state_over};
 pub use stops::ScriptStop;

@@ -3,7 +3,7 @@
 ghost use Rattle.heyvl_num.specs.Rational.{ratio};
 ghost use Rattle.heyvl_syntax.specs.Literals.{with_digit};
 ghost use Rattle.run_script.specs.Lines.{are_digits, below, decision, line_of_parts, natural, number_of_parts, pair_line, quotient, said, script_number, script_value, triple_line, value_limit, whole};
-ghost use Rattle.run_script.specs.internal.Reading.{line_of};
+ghost use Rattle.run_script.specs.internal.ReadLines.{line_of};
 ghost use Rattle.run_script.specs.Lines.Line.{decide, steps};
 ghost use Rattle.std.specs.Char.{is_ascii_digit};
 ghost use Rattle.std.specs.List.{list_all, slice_split};

@@ -4,7 +4,7 @@ ghost use Rattle.heyvl_acts.specs.PlainActs.{variable_of};
 ghost use Rattle.run_script.specs.Lines.{said as said_of};
 ghost use Rattle.run_script.specs.PlainScripts.{known_in, script_of};
 ghost use Rattle.run_script.specs.Scripts.{takes as takes_value};
-ghost use Rattle.run_script.specs.internal.Reading.{begun, gone_on, is_set, line_of, may_follow, may_set, with_line};
+ghost use Rattle.run_script.specs.internal.ReadLines.{begun, gone_on, is_set, line_of, may_follow, may_set, with_line};
 ghost use Rattle.std.specs.List.{list_any};
 ghost use Rattle.std.specs.Prelude.{IfOk, None, OnOk, Some, if◌then◌else◌, ◌≡◌};
 ghost use Rattle.std.specs.Str.{bytes_eq};

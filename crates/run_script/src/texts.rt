@@ -1,6 +1,6 @@
 //! The texts of what a run by a script comes to.
 
-ghost use Rattle.heyvl_num.specs.Extended.{value_of};
+ghost use Rattle.heyvl_num.specs.ExtendedNumbers.{value_of};
 ghost use Rattle.run_script.specs.Texts.{script_fault_text, stop_text, sum_text, sums_text, turns_text, violation_text, within_text};
 ghost use Rattle.run_unroller.specs.Unrolling.{totals_of};
 ghost use Rattle.std.specs.Prelude.{IfOk, OnOk, codes, decimal, ◌++◌, ◌≡◌};

@@ -1,11 +1,11 @@
 mod MergedSums
 mod ListsOfRuns
-mod Following
-mod Putting
+mod StepOutcomes
+mod RunEntries
 mod StepGrowth
-mod Stopping
-mod Adding
-mod Finding
+mod StoppedSteps
+mod AddedSums
+mod FoundProcedures
 mod Whole
 mod ScriptedGrowth
 mod ScriptExamples

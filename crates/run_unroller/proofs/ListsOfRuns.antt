@@ -16,7 +16,7 @@ use Rattle.run_machine.specs.Configurations.{Config, Outcomes}
 use Rattle.run_machine.specs.Names.{Numbered, Stored, item_of, items_of, config_of}
 use Rattle.run_machine.specs.Replies.{StoredOutcomes, named}
 use Rattle.run_machine.specs.Runs.{onward, runs, spread}
-use Rattle.run_machine.specs.SameStored.{same_stored}
+use Rattle.run_machine.specs.SameConfigurations.{same_stored}
 use Rattle.run_machine.specs.Scheduler.{Tree}
 use Rattle.run_machine.specs.Step.{Decision, step, step_items, sure}
 use Rattle.run_machine.specs.StepAnswers.{asked_by}

@@ -16,7 +16,7 @@ use Rattle.run_machine.specs.declared.configurations.Decide.{Decide}
 use Rattle.run_machine.specs.Configurations.{Item, Frame, Config, running}
 use Rattle.run_machine.specs.Names.{Numbered, Stored, items_of, turns_of, config_of}
 use Rattle.run_machine.specs.Replies.{StoredOutcomes, named}
-use Rattle.run_machine.specs.SameStored.{same_stored}
+use Rattle.run_machine.specs.SameConfigurations.{same_stored}
 use Rattle.run_machine.specs.Step.{Decision, sure, moved, turned, one_more, branches, step_act, step_back, step_items}
 use Rattle.run_machine.specs.StepAnswers.{asked_by}
 use Rattle.run_machine.specs.StoredLaws.{Comes, MeansStep}

@@ -24,7 +24,7 @@ use Rattle.run_machine.specs.Sums.{ended as ended_value, sum_of, turns_in, turns
 use Rattle.run_unroller.specs.RunLists.{RunList, outcomes}
 use Rattle.run_unroller.specs.Totals.{Totals, added, added_fractions, added_weights, all_turns, and_one, ended, if_ended, if_running, post_of, post_total, reward_of, reward_total, running, running_total, totals, turns_of, turns_total}
 use Rattle.run_unroller.specs.UnrollLaws.{AreSums, AreTurns, unfinished}
-use Rattle.run_unroller.proofs.Adding.{added-none, fractions-none, weights-none}
+use Rattle.run_unroller.proofs.AddedSums.{added-none, fractions-none, weights-none}
 
 no_value : {A : Type 0} (v : A) → None ≡ Some v → ⊥
 no_value v e = absurd (cc)

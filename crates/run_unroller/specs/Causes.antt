@@ -9,7 +9,7 @@ use Rattle.heyvl_acts.specs.Acts.{TypedProcedure}
 use Rattle.run_machine.specs.declared.configurations.Decide.{Decide}
 use Rattle.run_machine.specs.Names.{Numbered, Stored}
 use Rattle.run_machine.specs.Replies.{Reply}
-use Rattle.run_machine.specs.SameStored.{same_stored}
+use Rattle.run_machine.specs.SameConfigurations.{same_stored}
 use Rattle.run_machine.specs.StoredStep.{stored_reply}
 use Rattle.run_unroller.specs.declared.causes.Cause.{Cause}
 use Rattle.run_unroller.specs.declared.causes.Cause.TheVariants.{Full, Deep, Bits}

@@ -10,7 +10,7 @@ use Rattle.run_machine.specs.declared.configurations.Decide.{Decide}
 use Rattle.run_machine.specs.Configurations.{Outcomes}
 use Rattle.run_machine.specs.Names.{Numbered, Stored}
 use Rattle.run_machine.specs.Replies.{StoredOutcomes, named, surely}
-use Rattle.run_machine.specs.SameStored.{same_stored}
+use Rattle.run_machine.specs.SameConfigurations.{same_stored}
 use Rattle.run_machine.specs.StoredStep.{stored_step}
 use Rattle.run_unroller.specs.MergedLists.{merged}
 use Rattle.run_unroller.specs.Scripts.{entry}

@@ -1,7 +1,7 @@
 -- What unrolling gives: the sums of the list after the steps, or what stops it first. The adding counts as one step more.
 -- Source: this project's own.
 use Rattle.std.specs.Prelude.{◌≡◌, ◌+◌, ℕ, List, Option, Some, None}
-use Rattle.heyvl_num.specs.Extended as extended
+use Rattle.heyvl_num.specs.ExtendedNumbers as extended
 use Rattle.heylo_formula.specs.declared.values.Val.{Val}
 use Rattle.heyvl_acts.specs.Acts.{TypedProcedure, procedure_at}
 use Rattle.run_machine.specs.declared.configurations.Decide.{Decide}

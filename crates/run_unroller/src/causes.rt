@@ -1,6 +1,6 @@
 //! What stops a list of runs.
 
-use crate::merging::MergedRuns;
+use crate::merged_runs::MergedRuns;
 
 /// Why a list of runs can't be made.
 #[derive(Clone, Copy, Debug)]

@@ -6,7 +6,7 @@ mod causes;
 mod copies;
 mod laws;
 mod lists;
-mod merging;
+mod merged_runs;
 mod numbers;
 mod totals;
 mod turns;

@@ -15,7 +15,7 @@ ghost use Rattle.run_unroller.specs.internal.Extensions.{Extends, IsAfterStep};
 ghost use Rattle.run_unroller.specs.internal.RunViews.{runs_of};
 
 use crate::causes::{Cause, Grown};
-use crate::merging::MergedRuns;
+use crate::merged_runs::MergedRuns;
 use heyvl_acts::Typed;
 use heyvl_num::Frac;
 use run_machine::{Config, Decide, Stepped, step};

@@ -16,7 +16,7 @@ ghost use Rattle.run_unroller.specs.internal.RunViews.{runs_of};
 use crate::answers::Unrolled;
 use crate::causes::{Cause, Grown, Reached};
 use crate::lists::after_step;
-use crate::merging::MergedRuns;
+use crate::merged_runs::MergedRuns;
 use crate::totals::sums;
 use heyvl_acts::Typed;
 use heyvl_num::Frac;

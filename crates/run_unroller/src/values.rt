@@ -1,7 +1,7 @@
 //! Sums of values of runs, each times its weight.
 
 ghost use Rattle.std.specs.Prelude.{◌≡◌, ◌∷◌, List, [], Some, option_map};
-ghost use Rattle.heyvl_num.specs.Extended.{value_of};
+ghost use Rattle.heyvl_num.specs.ExtendedNumbers.{value_of};
 ghost use Rattle.heyvl_acts.specs.Acts.{procedure_at};
 ghost use Rattle.heyvl_acts.specs.PlainActs.{procedures_of};
 ghost use Rattle.quant_algebra.specs.ExactMeaning.{exact_value};

@@ -5,8 +5,8 @@ use Rattle.std.proofs.lemmas.List.{length-append, length-drop, length-map, lengt
 use Rattle.heyvl_acts.specs.Acts.{TypedProcedure, Variable, procedure_at}
 use Rattle.heyvl_acts.specs.PlainActs.{procedure_of, procedures_of, variable_of}
 use Rattle.heyvl_acts.specs.Rules.{Each, IsCounted, MeetsAllRules, MeetsRules}
-use Rattle.heyvl_acts.specs.declared.typed.TProc.{TProc}
-use Rattle.heyvl_acts.specs.declared.typed.Typed.{Typed}
+use Rattle.heyvl_acts.specs.declared.typed_trees.TProc.{TProc}
+use Rattle.heyvl_acts.specs.declared.typed_trees.Typed.{Typed}
 
 -- The inputs and outputs are as many as it is said.
 pub head_length : (p : TProc) → IsCounted p → length ((procedure_of p).inputs ++ (procedure_of p).outputs) ≡ p.inputs + p.outputs

@@ -1,4 +1,4 @@
-mod Counting
+mod NumberLists
 mod Heads
 mod Texts
 mod Examples

@@ -5,6 +5,6 @@ pub mod LoopScopes
 pub mod GoalNames
 pub mod Verdicts
 pub mod Reports
-pub mod Placed
+pub mod PlacedAnswers
 pub mod VerdictsOn
 pub mod internal

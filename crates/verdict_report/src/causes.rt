@@ -2,7 +2,7 @@
 
 ghost use Rattle.std.specs.Prelude.{◌≡◌, ◌++◌, ◌<◌, ◌^◌, OnOk, length};
 ghost use Rattle.verdict_report.specs.Causes.{broken_text, cause_text, earlier_text, interval_text, step_text};
-ghost use Rattle.verdict_report.specs.Placed.{IsCausePlaced};
+ghost use Rattle.verdict_report.specs.PlacedAnswers.{IsCausePlaced};
 ghost use Rattle.verdict_report.specs.Settings.{named_by};
 
 use crate::settings::{write_settings, write_variable};

@@ -4,7 +4,7 @@ ghost use Rattle.heyvl_acts.specs.Acts.{procedure_at};
 ghost use Rattle.heyvl_acts.specs.PlainActs.{procedures_of};
 ghost use Rattle.heyvl_acts.specs.Rules.{MeetsAllRules};
 ghost use Rattle.std.specs.Prelude.{◌≡◌, ◌++◌, ◌<◌, ◌^◌, OnOk, length};
-ghost use Rattle.verdict_report.specs.Placed.{IsRankPlaced, IsReasonPlaced, IsVerdictPlaced};
+ghost use Rattle.verdict_report.specs.PlacedAnswers.{IsRankPlaced, IsReasonPlaced, IsVerdictPlaced};
 ghost use Rattle.verdict_report.specs.Verdicts.{about_text, condition_text, goal_text, invariant_text, miss_text, node_text, rank_text, reason_text, state_of_goal, verdict_text, way_text};
 
 use crate::answers::{LoopAnswer, RankVerdict, Verdict};

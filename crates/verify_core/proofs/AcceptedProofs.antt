@@ -3,7 +3,7 @@ use Rattle.std.proofs.Common.{◌≡◌, ℕ, refl, ap, sym, subst, ◌∙◌, L
 use Prim.Native.Nat.{suc}
 use Rattle.std.specs.List.{AllZip}
 use Rattle.cert_text.specs.Certificates.{IsGrowingAfter, certificates_of}
-use Rattle.farkas_check.specs.Accepted.{IsNoCertificate}
+use Rattle.farkas_check.specs.AcceptedCertificates.{IsNoCertificate}
 use Rattle.farkas_check.specs.CertificateLaws.{NeverBoth}
 use Rattle.goal_answers.specs.Trees.{Tree}
 use Rattle.goal_answers.specs.declared.trees.GoalCert.{GoalCert}
@@ -20,11 +20,11 @@ use Rattle.region_split.specs.DecisionLaws.{TreesCertify}
 use Rattle.goal_answers.specs.declared.misses.Miss.{Miss}
 use Rattle.goal_answers.specs.declared.misses.Miss.TheVariants.{Absent, Place}
 use Rattle.goal_answers.specs.declared.named_goals.NamedGoal.{NamedGoal}
-use Rattle.verify_core.specs.Checked.{Certifies, CheckedGoal, HasMiss, HasTree, IsGoalAccepted, IsMissOf, IsRefusedAt}
+use Rattle.verify_core.specs.CertifiedGoals.{Certifies, CheckedGoal, HasMiss, HasTree, IsGoalAccepted, IsMissOf, IsRefusedAt}
 use Rattle.verify_core.specs.CheckedProofs.{IsServed, NothingIsMissed, NothingIsMissedThroughout, ProvedGoalsAreAccepted, ProvedRankingsAreAccepted}
-use Rattle.verify_core.specs.Decided.{DecidedGoal, HasDecision}
+use Rattle.verify_core.specs.GoalDecisions.{DecidedGoal, HasDecision}
 use Rattle.verify_core.specs.DecidedRankings.{certified_in_file}
-use Rattle.verify_core.specs.Numbered.{AllNumbered}
+use Rattle.verify_core.specs.NumberedLists.{AllNumbered}
 use Rattle.verify_core.specs.Questions.{IsGoalOf, goal, question}
 use Rattle.verify_core.specs.Rankings.{IsRankingGoal, ranked_loops}
 use Rattle.verify_core.proofs.CertOrder.{one_tree}

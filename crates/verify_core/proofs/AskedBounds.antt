@@ -14,8 +14,8 @@ use Rattle.heyvl_acts.specs.Places.{in_order}
 use Rattle.heyvl_acts.specs.Rules.{AreNamed, Each, HasNamedBinders, IsTypedAct, MeetsRules, counted, loop_numbers}
 use Rattle.loop_encodings.specs.BoundGoals.{invariant_in}
 use Rattle.verify_core.specs.Questions.{form_or_zero, one_bound, question}
-use Rattle.verify_core.specs.declared.asking.Asked as declared
-use Rattle.verify_core.specs.internal.Asked.{Asked, IsAsked, asked, asked_invariants, plain}
+use Rattle.verify_core.specs.declared.bound_questions.Asked as declared
+use Rattle.verify_core.specs.internal.BoundQuestions.{Asked, IsAsked, asked, asked_invariants, plain}
 use Rattle.verify_core.proofs.FirstFound.{IsFirst, further, other_number, own_number, same_from}
 
 -- ---- The goals' ids

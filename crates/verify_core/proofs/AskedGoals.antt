@@ -21,11 +21,11 @@ use Rattle.loop_encodings.specs.BoundGoals.{invariant_in}
 use Rattle.loop_encodings.specs.Encoding.{all_variables, encoding}
 use Rattle.loop_encodings.specs.EncodingLaws.{EncodingIsOver}
 use Rattle.loop_encodings.specs.Fresh.{fresh}
-use Rattle.vp_generator.specs.Generated.{vp}
+use Rattle.vp_generator.specs.GeneratedForms.{vp}
 use Rattle.vp_generator.specs.Laws.{GeneratedFormIsFormula}
 use Rattle.vp_generator.specs.Limits.{IsSmall}
 use Rattle.vp_generator.specs.Over.{GeneratedFormIsOver}
-use Rattle.vp_generator.specs.Prenexed.{new_types}
+use Rattle.vp_generator.specs.PrenexedForms.{new_types}
 use Rattle.vp_generator.specs.PrenexedGoals.{PrenexedGoalsAreGoals}
 use Rattle.ranking_rule.specs.Laws.{IsFew}
 use Rattle.ranking_rule.specs.MadeGoals.{all_names}

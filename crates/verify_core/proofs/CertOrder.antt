@@ -10,8 +10,8 @@ use Rattle.cert_text.specs.declared.goal_names.GoalName.{GoalName}
 use Rattle.goal_answers.specs.Trees.{Tree, tree_of}
 use Rattle.goal_answers.specs.declared.trees.GoalCert.{GoalCert}
 use Rattle.heylo_formula.specs.declared.goals.GoalId.{GoalId}
-use Rattle.verify_core.specs.Checked.{HasTree}
-use Rattle.verify_core.specs.internal.Checking.{IsPlaceOf, name_of}
+use Rattle.verify_core.specs.CertifiedGoals.{HasTree}
+use Rattle.verify_core.specs.internal.CertificateAnswers.{IsPlaceOf, name_of}
 
 abbrev goal_name : ℕ → GoalId → GoalName
 goal_name k id = record { proc = k; id = id }

@@ -16,13 +16,13 @@ use Rattle.verdict_report.specs.declared.answers.Answer.{Answer}
 use Rattle.goal_answers.specs.declared.misses.Miss.{Miss}
 use Rattle.verdict_report.specs.declared.answers.Verdict.{Verdict}
 use Rattle.verdict_report.specs.declared.answers.Verdict.TheVariants.{Conditional, NoBody, NotVerified, Unchecked, Unknown, Valid, Verified}
-use Rattle.verify_core.specs.Checked.{AreChecked, CheckedGoal, IsCertified, IsCheckedTable, IsMissOf, first_miss, missed}
+use Rattle.verify_core.specs.CertifiedGoals.{AreChecked, CheckedGoal, IsCertified, IsCheckedTable, IsMissOf, first_miss, missed}
 use Rattle.verify_core.specs.CheckedAnswers.{IsCheckedAnswer, IsCheckedFile, IsCheckedVerdict}
-use Rattle.verify_core.specs.Decided.{or_else}
+use Rattle.verify_core.specs.GoalDecisions.{or_else}
 use Rattle.verify_core.specs.GoalLaws.{MadeGoalsSayBounds}
 use Rattle.verify_core.specs.Headline.{FalsifiedBoundsBreak, ProvedGoalsHold, ShownStatesFalsify, VerifiedBoundsHold, says_proved}
 use Rattle.verdict_report.specs.VerdictsOn.{IsVerdictOn}
-use Rattle.verify_core.specs.Numbered.{row_at}
+use Rattle.verify_core.specs.NumberedLists.{row_at}
 use Rattle.verify_core.specs.Questions.{goal, question}
 use Rattle.verify_core.proofs.Headlines.{program_there}
 use Rattle.verify_core.proofs.MadeGoals.{certified_holds}

@@ -19,11 +19,11 @@ use Rattle.goal_answers.specs.declared.misses.Miss.{Miss}
 use Rattle.goal_answers.specs.declared.named_goals.NamedGoal.{NamedGoal}
 use Rattle.verdict_report.specs.declared.answers.RankVerdict.{RankVerdict}
 use Rattle.verdict_report.specs.declared.answers.RankVerdict.TheVariants as rank
-use Rattle.verify_core.specs.Checked.{CheckedGoal, IsMissOf}
+use Rattle.verify_core.specs.CertifiedGoals.{CheckedGoal, IsMissOf}
 use Rattle.verify_core.specs.CheckedAnswers.{IsCheckedFile}
 use Rattle.verify_core.specs.CheckedRankings.{AreRankingsAnswered, AreRankingsChecked, IsRankingAnswer}
 use Rattle.verify_core.specs.Headline.{IsRankedLoop, RankedLoopsAreBounded, ShownStatesUnrank}
-use Rattle.verify_core.specs.Numbered.{row_at}
+use Rattle.verify_core.specs.NumberedLists.{row_at}
 use Rattle.verify_core.specs.Rankings.{IsRankingGoal, ranked_loops}
 use Rattle.verify_core.proofs.CertifiedBounds.{answered}
 use Rattle.verify_core.proofs.MadeGoals.{certified_holds}

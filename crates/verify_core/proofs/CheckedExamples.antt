@@ -16,10 +16,10 @@ use Rattle.goal_answers.specs.declared.decisions.Decision.TheVariants.{Proved, U
 use Rattle.verdict_report.specs.declared.answers.LoopAnswer.{LoopAnswer}
 use Rattle.goal_answers.specs.declared.misses.Miss.TheVariants.{Absent, Place}
 use Rattle.verdict_report.specs.declared.answers.RankVerdict.TheVariants as rank
-use Rattle.verify_core.specs.Checked.{Certifies, CheckedGoal, HasTree, IsMissOf, IsRefusedAt}
+use Rattle.verify_core.specs.CertifiedGoals.{Certifies, CheckedGoal, HasTree, IsMissOf, IsRefusedAt}
 use Rattle.verify_core.specs.CheckedProofs.{AreServed, IsServed}
 use Rattle.verify_core.specs.CheckedRankings.{AreRankingsAnswered, IsCheckedRankTable}
-use Rattle.verify_core.specs.Decided.{DecidedGoal}
+use Rattle.verify_core.specs.GoalDecisions.{DecidedGoal}
 use Rattle.verify_core.specs.DecidedRankings.{certified_in_file}
 use Rattle.verify_core.specs.Rankings.{ranked_loops}
 use Rattle.verify_core.proofs.RankingExamples.{AreMade, goal_named, nested, three_goals}

@@ -8,12 +8,12 @@ use Rattle.heyvl_acts.specs.Program.{IsProgram, why_no_program}
 use Rattle.verdict_report.specs.declared.answers.Answer.{Answer}
 use Rattle.verdict_report.specs.declared.answers.Verdict.{Verdict}
 use Rattle.verdict_report.specs.declared.answers.Verdict.TheVariants as verdict
-use Rattle.verify_core.specs.Checked.{CheckedGoal, IsCertified, IsCheckedTable, first_miss}
+use Rattle.verify_core.specs.CertifiedGoals.{CheckedGoal, IsCertified, IsCheckedTable, first_miss}
 use Rattle.verify_core.specs.CheckedAnswers.{AreCheckedAnswers, IsCheckedAnswer, IsCheckedFile, IsCheckedVerdict}
 use Rattle.verify_core.specs.CheckedRankings.{AreRankingsAnswered, AreRankingsChecked, IsCheckedRankTable}
-use Rattle.verify_core.specs.Numbered.{row_at}
+use Rattle.verify_core.specs.NumberedLists.{row_at}
 use Rattle.verify_core.specs.Rankings.{ranked_loops}
-use Rattle.verify_core.specs.internal.Checking.{AreMarkedAnswers, AreOwn, IsMarkedAnswer, IsMarkedBy, IsOwn, IsOwnVerdict, IsReachingVerdict, IsUnmarked, is_unverified, is_verified}
+use Rattle.verify_core.specs.internal.CertificateAnswers.{AreMarkedAnswers, AreOwn, IsMarkedAnswer, IsMarkedBy, IsOwn, IsOwnVerdict, IsReachingVerdict, IsUnmarked, is_unverified, is_verified}
 use Rattle.verify_core.specs.internal.OwnRankings.{AreOwnRankings}
 use Rattle.verify_core.proofs.SideBySide.{numbered_at, numbered_length}
 

@@ -16,10 +16,10 @@ use Rattle.proc_contracts.specs.declared.reasons.WhyNot.TheVariants as why
 use Rattle.goal_answers.specs.declared.misses.Miss.{Miss}
 use Rattle.goal_answers.specs.declared.named_goals.NamedGoal.{NamedGoal}
 use Rattle.verdict_report.specs.declared.answers.Verdict.{Verdict}
-use Rattle.verify_core.specs.Checked.{CheckedGoal, HasMiss, IsMissOf, first_miss, missed}
-use Rattle.verify_core.specs.Decided.{or_else}
+use Rattle.verify_core.specs.CertifiedGoals.{CheckedGoal, HasMiss, IsMissOf, first_miss, missed}
+use Rattle.verify_core.specs.GoalDecisions.{or_else}
 use Rattle.verify_core.specs.Questions.{AreGoals, IsGoalOf}
-use Rattle.verify_core.specs.internal.Checking.{IsFirstMiss, IsOwn, IsOwnVerdict}
+use Rattle.verify_core.specs.internal.CertificateAnswers.{IsFirstMiss, IsOwn, IsOwnVerdict}
 use Rattle.verify_core.specs.internal.Verdicts.{verdict_for}
 
 -- ---- One after the other

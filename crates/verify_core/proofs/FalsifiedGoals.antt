@@ -31,15 +31,15 @@ use Rattle.goal_answers.specs.declared.decisions.Decision.TheVariants.{Proved, F
 use Rattle.goal_answers.specs.declared.named_goals.NamedGoal.{NamedGoal}
 use Rattle.ranking_rule.specs.MadeGoals.{all_names}
 use Rattle.run_machine.specs.Bound.{IsState}
-use Rattle.verify_core.specs.Decided.{AreDecided, DecidedGoal, IsDecisionOf, falsified, first_falsified, or_else}
+use Rattle.verify_core.specs.GoalDecisions.{AreDecided, DecidedGoal, IsDecisionOf, falsified, first_falsified, or_else}
 use Rattle.verify_core.specs.Headline.{IsFalsifiedIn}
 use Rattle.verify_core.specs.Questions.{IsGoalOf, form_or_zero, goal, question}
-use Rattle.verify_core.specs.internal.Settled.{IsSettled, TellsOf}
+use Rattle.verify_core.specs.internal.SettledGoals.{IsSettled, TellsOf}
 use Rattle.verify_core.proofs.AskedGoals.{proper}
 use Rattle.verify_core.proofs.MadeGoals.{falsified_fails}
 use Rattle.vp_generator.specs.Laws.{GeneratedFormIsFormula, GeneratedFormMeansActs}
 use Rattle.vp_generator.specs.Over.{GeneratedFormIsOver}
-use Rattle.vp_generator.specs.Prenexed.{new_types}
+use Rattle.vp_generator.specs.PrenexedForms.{new_types}
 use Rattle.vp_generator.specs.PrenexedGoals.{FailsByChoices, PrenexedGoalsFailByChoices}
 
 -- ---- As it was made

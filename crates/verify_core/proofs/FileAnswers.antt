@@ -4,8 +4,8 @@ use Rattle.goal_answers.specs.declared.trees.GoalCert.{GoalCert}
 use Rattle.heyvl_acts.specs.Acts.{TypedProcedure}
 use Rattle.verdict_report.specs.declared.answers.Answer.{Answer}
 use Rattle.goal_answers.specs.declared.named_goals.NamedGoal.{NamedGoal}
-use Rattle.verify_core.specs.Answered.{AreAnswers, IsAnswered}
-use Rattle.verify_core.specs.Decided.{DecidedGoal}
+use Rattle.verify_core.specs.AnsweredProcedures.{AreAnswers, IsAnswered}
+use Rattle.verify_core.specs.GoalDecisions.{DecidedGoal}
 use Rattle.verify_core.specs.declared.outcomes.ProcedureOutcome.{ProcedureOutcome}
 use Rattle.verify_core.specs.internal.Marks.{AreMarks, marks}
 use Rattle.verify_core.specs.internal.Outcomes.{AreOutcomes}

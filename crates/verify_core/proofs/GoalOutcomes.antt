@@ -11,14 +11,14 @@ use Rattle.goal_answers.specs.declared.decisions.Decision.{Decision}
 use Rattle.goal_answers.specs.declared.decisions.Decision.TheVariants as decision
 use Rattle.verdict_report.specs.declared.answers.LoopAnswer.{LoopAnswer}
 use Rattle.goal_answers.specs.declared.named_goals.NamedGoal.{NamedGoal}
-use Rattle.verify_core.specs.Decided.{DecidedGoal, all_proved, certificate, certificates, first_falsified, first_unknown, first_with, is_falsified, is_proved, listed, or_else, told}
+use Rattle.verify_core.specs.GoalDecisions.{DecidedGoal, all_proved, certificate, certificates, first_falsified, first_unknown, first_with, is_falsified, is_proved, listed, or_else, told}
 use Rattle.verify_core.specs.DecidedRankings.{told_in_file, told_rankings}
-use Rattle.verify_core.specs.declared.deciding.Decided as declared
+use Rattle.verify_core.specs.declared.decisions.Decided as declared
 use Rattle.verify_core.specs.declared.outcomes.Outcome.{Outcome}
 use Rattle.verify_core.specs.declared.outcomes.Outcome.TheVariants.{Proved, Falsified, Unknown}
 use Rattle.verify_core.specs.declared.outcomes.ProcedureOutcome.{ProcedureOutcome}
 use Rattle.verify_core.specs.internal.Outcomes.{AreOutcomes, both, loop_answer, outcome, outcome_of, told_by, unless_falsified}
-use Rattle.verify_core.specs.internal.Settled.{IsSettled, plain}
+use Rattle.verify_core.specs.internal.SettledGoals.{IsSettled, plain}
 use Rattle.verify_core.specs.internal.Verdicts.{all_told_by}
 
 -- A list of length 0 is empty.

@@ -23,16 +23,16 @@ use Rattle.loop_encodings.specs.Law.{BrokenGoalsBreakBounds, IsShown, ShownBound
 use Rattle.verdict_report.specs.declared.answers.Answer.{Answer}
 use Rattle.verdict_report.specs.declared.answers.Verdict.{Verdict}
 use Rattle.verdict_report.specs.declared.answers.Verdict.TheVariants.{Verified, Valid, NotVerified, Unknown, Unchecked, Conditional, NoBody}
-use Rattle.verify_core.specs.Answered.{AreAnswers, IsAnswer, IsClosed, IsVerdict}
-use Rattle.verify_core.specs.Decided.{AreDecided, DecidedGoal, IsTable, all_proved, first_falsified, is_proved}
+use Rattle.verify_core.specs.AnsweredProcedures.{AreAnswers, IsAnswer, IsClosed, IsVerdict}
+use Rattle.verify_core.specs.GoalDecisions.{AreDecided, DecidedGoal, IsTable, all_proved, first_falsified, is_proved}
 use Rattle.verify_core.specs.DecidedRankings.{IsRankTable}
 use Rattle.verify_core.specs.GoalLaws.{MadeGoalsSayBounds}
 use Rattle.verify_core.specs.Headline.{IsBrokenFrom, IsFalsifiedIn, IsHeadline, says_proved}
 use Rattle.verdict_report.specs.VerdictsOn.{IsVerdictOn}
-use Rattle.verify_core.specs.Numbered.{row_at}
+use Rattle.verify_core.specs.NumberedLists.{row_at}
 use Rattle.verify_core.specs.Questions.{goal, question}
 use Rattle.verify_core.specs.Rankings.{ranked_loops}
-use Rattle.verify_core.specs.internal.Settled.{IsSettled}
+use Rattle.verify_core.specs.internal.SettledGoals.{IsSettled}
 use Rattle.ranking_rule.specs.Laws.{RankingGoalsFail, RankingGoalsHold, RankingsBoundTurns}
 use Rattle.verify_core.proofs.FalsifiedGoals.{falsified_in, row_fails}
 use Rattle.verify_core.proofs.MadeGoals.{proved_holds}

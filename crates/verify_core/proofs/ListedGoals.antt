@@ -12,12 +12,12 @@ use Rattle.heyvl_acts.specs.PlainActs.{body_of, procedure_of}
 use Rattle.heyvl_acts.specs.Places.{in_order}
 use Rattle.heyvl_acts.specs.Rules.{loop_numbers}
 use Rattle.heyvl_acts.specs.declared.acts.Act as A
-use Rattle.heyvl_acts.specs.declared.typed.TProc.{TProc}
+use Rattle.heyvl_acts.specs.declared.typed_trees.TProc.{TProc}
 use Rattle.loop_encodings.specs.BoundGoals.{bound_goals}
 use Rattle.goal_answers.specs.declared.named_goals.NamedGoal.{NamedGoal}
 use Rattle.verify_core.specs.Questions.{AreGoals, IsGoalOf, IsMadeOf, one_bound, question}
-use Rattle.verify_core.specs.declared.asking.Asked as declared
-use Rattle.verify_core.specs.internal.Asked.{Asked, IsAsked, asked, plain}
+use Rattle.verify_core.specs.declared.bound_questions.Asked as declared
+use Rattle.verify_core.specs.internal.BoundQuestions.{Asked, IsAsked, asked, plain}
 use Rattle.verify_core.proofs.AskedBounds.{asked_ids}
 use Rattle.verify_core.proofs.SideBySide.{zip_more}
 

@@ -4,7 +4,7 @@ use Rattle.std.proofs.lemmas.Bool.{false≢true}
 use Rattle.std.specs.Prelude.{Some, Vec}
 use Rattle.std.specs.declared.alloc.Global.{Global}
 use Rattle.heyvl_places.specs.declared.spans.Span.{Span}
-use Rattle.farkas_check.specs.Accepted.{IsCertificate}
+use Rattle.farkas_check.specs.AcceptedCertificates.{IsCertificate}
 use Rattle.farkas_check.specs.CertificateLaws.{CertifiedGoalsHold}
 use Rattle.goal_answers.specs.Trees.{Tree}
 use Rattle.heylo_formula.specs.Formula.{Form}
@@ -21,12 +21,12 @@ use Rattle.ranking_rule.specs.MadeGoals.{IsMadeWithin}
 use Rattle.region_split.specs.Meanings.{Fails}
 use Rattle.goal_answers.specs.declared.decisions.Decision.{Decision}
 use Rattle.goal_answers.specs.declared.decisions.Decision.TheVariants.{Proved, Falsified, Unknown}
-use Rattle.verdict_report.specs.Placed.{IsCausePlaced}
+use Rattle.verdict_report.specs.PlacedAnswers.{IsCausePlaced}
 use Rattle.vp_generator.specs.Limits.{IsSmall}
-use Rattle.verify_core.specs.Checked.{Certifies}
-use Rattle.verify_core.specs.Decided.{IsDecisionOf, is_proved}
+use Rattle.verify_core.specs.CertifiedGoals.{Certifies}
+use Rattle.verify_core.specs.GoalDecisions.{IsDecisionOf, is_proved}
 use Rattle.verify_core.specs.internal.Decidable.{CanDecide, IsDecidable}
-use Rattle.verify_core.specs.internal.Settled.{TellsOf}
+use Rattle.verify_core.specs.internal.SettledGoals.{TellsOf}
 
 -- ---- What may be made
 

@@ -12,13 +12,13 @@ use Rattle.heyvl_acts.specs.Acts.{TypedProcedure, Variable, acts_in, procedure_a
 use Rattle.heyvl_acts.specs.PlainActs.{acts_of, procedure_of, procedures_of, variable_of}
 use Rattle.heyvl_acts.specs.Rules.{AreNamed, Each, HasNamedBinders, MeetsAllRules, MeetsRules}
 use Rattle.heyvl_acts.specs.declared.acts.Act as A
-use Rattle.heyvl_acts.specs.declared.typed.TProc.{TProc}
-use Rattle.heyvl_acts.specs.declared.typed.Typed.{Typed}
-use Rattle.heyvl_acts.specs.declared.typed.VarInfo.{VarInfo}
+use Rattle.heyvl_acts.specs.declared.typed_trees.TProc.{TProc}
+use Rattle.heyvl_acts.specs.declared.typed_trees.Typed.{Typed}
+use Rattle.heyvl_acts.specs.declared.typed_trees.VarInfo.{VarInfo}
 use Rattle.loop_encodings.specs.Encoding.{all_variables, encoding}
 use Rattle.loop_encodings.specs.EncodingLaws.{EncodingBindsItsVariables}
 use Rattle.loop_encodings.specs.Fresh.{fresh}
-use Rattle.vp_generator.specs.Generated.{vp}
+use Rattle.vp_generator.specs.GeneratedForms.{vp}
 use Rattle.vp_generator.specs.PrenexedGoals.{IsMade}
 use Rattle.vp_generator.specs.Scopes.{GeneratedFormIsNamed}
 use Rattle.verify_core.specs.Questions.{IsMadeOf, Question, one_bound, question}

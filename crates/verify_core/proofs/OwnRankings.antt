@@ -5,7 +5,7 @@ use Rattle.goal_answers.specs.declared.trees.GoalCert.{GoalCert}
 use Rattle.heyvl_acts.specs.Acts.{TypedProcedure, procedure_at}
 use Rattle.verdict_report.specs.declared.answers.LoopAnswer.{LoopAnswer}
 use Rattle.goal_answers.specs.declared.named_goals.NamedGoal.{NamedGoal}
-use Rattle.verify_core.specs.Checked.{CheckedGoal}
+use Rattle.verify_core.specs.CertifiedGoals.{CheckedGoal}
 use Rattle.verify_core.specs.CheckedRankings.{AreRankingsAnswered, AreRankingsChecked}
 use Rattle.verify_core.specs.Rankings.{AreRankingGoals, IsRankingGoal, ranked_loops}
 use Rattle.verify_core.specs.internal.OwnRankings.{AreLoopAnswers, AreOwnRankings, IsLoopAnswer}

@@ -19,7 +19,7 @@ use Rattle.proc_contracts.specs.declared.reasons.WhyNot.{WhyNot}
 use Rattle.goal_answers.specs.declared.decisions.Decision.{Decision}
 use Rattle.goal_answers.specs.declared.decisions.Decision.TheVariants.{Proved, Falsified, Unknown}
 use Rattle.ranking_rule.specs.RankingGoals as ranking
-use Rattle.verdict_report.specs.Placed.{IsAnswerPlaced, IsCausePlaced, IsLoopPlaced, IsRankPlaced, IsReasonPlaced, IsVerdictPlaced}
+use Rattle.verdict_report.specs.PlacedAnswers.{IsAnswerPlaced, IsCausePlaced, IsLoopPlaced, IsRankPlaced, IsReasonPlaced, IsVerdictPlaced}
 use Rattle.verdict_report.specs.declared.answers.Answer.{Answer}
 use Rattle.verdict_report.specs.declared.answers.LoopAnswer.{LoopAnswer}
 use Rattle.goal_answers.specs.declared.named_goals.NamedGoal.{NamedGoal}
@@ -27,11 +27,11 @@ use Rattle.verdict_report.specs.declared.answers.Verdict.{Verdict}
 use Rattle.verdict_report.specs.declared.answers.Verdict.TheVariants as verdict
 use Rattle.verdict_report.specs.declared.answers.RankVerdict.{RankVerdict}
 use Rattle.verdict_report.specs.declared.answers.RankVerdict.TheVariants as rank
-use Rattle.verify_core.specs.Answered.{AreAnswers, IsVerdict}
-use Rattle.verify_core.specs.Decided.{AreDecided, DecidedGoal, IsDecisionOf, IsTable, first_unknown, or_else, unknown}
+use Rattle.verify_core.specs.AnsweredProcedures.{AreAnswers, IsVerdict}
+use Rattle.verify_core.specs.GoalDecisions.{AreDecided, DecidedGoal, IsDecisionOf, IsTable, first_unknown, or_else, unknown}
 use Rattle.verify_core.specs.DecidedRankings.{AreRankingsDecided, IsRankTable, IsRankVerdict, IsRankingDecided}
 use Rattle.verify_core.specs.Places.{ActStands, StandsWithin}
-use Rattle.verify_core.specs.Numbered.{row_at}
+use Rattle.verify_core.specs.NumberedLists.{row_at}
 use Rattle.verify_core.specs.Questions.{IsGoalOf, goal, question}
 use Rattle.verify_core.specs.Rankings.{ranked_loops}
 use Rattle.verify_core.proofs.MadeGoals.{cause_placed}

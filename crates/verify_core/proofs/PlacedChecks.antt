@@ -4,7 +4,7 @@ use Prim.Native.Nat.{suc}
 use Rattle.goal_answers.specs.declared.trees.GoalCert.{GoalCert}
 use Rattle.heyvl_acts.specs.Acts.{TypedProcedure, procedure_at}
 use Rattle.heyvl_acts.specs.Rules.{Each}
-use Rattle.verdict_report.specs.Placed.{IsAnswerPlaced, IsLoopPlaced, IsRankPlaced, IsVerdictPlaced}
+use Rattle.verdict_report.specs.PlacedAnswers.{IsAnswerPlaced, IsLoopPlaced, IsRankPlaced, IsVerdictPlaced}
 use Rattle.verdict_report.specs.declared.answers.Answer.{Answer}
 use Rattle.verdict_report.specs.declared.answers.LoopAnswer.{LoopAnswer}
 use Rattle.goal_answers.specs.declared.misses.Miss.{Miss}
@@ -12,11 +12,11 @@ use Rattle.verdict_report.specs.declared.answers.RankVerdict.{RankVerdict}
 use Rattle.verdict_report.specs.declared.answers.RankVerdict.TheVariants as rank
 use Rattle.verdict_report.specs.declared.answers.Verdict.{Verdict}
 use Rattle.verdict_report.specs.declared.answers.Verdict.TheVariants as verdict
-use Rattle.verify_core.specs.Checked.{CheckedGoal}
+use Rattle.verify_core.specs.CertifiedGoals.{CheckedGoal}
 use Rattle.verify_core.specs.CheckedRankings.{AreRankingsAnswered, IsRankingAnswer}
 use Rattle.verify_core.specs.Places.{StandsWithin}
 use Rattle.verify_core.specs.Rankings.{ranked_loops}
-use Rattle.verify_core.specs.internal.Checking.{AreMarkedAnswers, AreOwn, IsMarkedBy, IsOwnVerdict, IsReachingVerdict, is_verified}
+use Rattle.verify_core.specs.internal.CertificateAnswers.{AreMarkedAnswers, AreOwn, IsMarkedBy, IsOwnVerdict, IsReachingVerdict, is_verified}
 use Rattle.verify_core.proofs.PlacedAnswers.{reason_placed}
 use Rattle.verify_core.proofs.SideBySide.{zip_seconds}
 

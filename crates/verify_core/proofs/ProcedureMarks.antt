@@ -10,10 +10,10 @@ use Rattle.heyvl_acts.specs.Acts.{TypedProcedure, procedure_at}
 use Rattle.heyvl_acts.specs.Program.{Reaches, Reason, why_no_program}
 use Rattle.heyvl_acts.specs.Rules.{GrowBelow}
 use Rattle.heyvl_acts.specs.Visible.{among}
-use Rattle.proc_contracts.specs.Reached.{AreReached}
-use Rattle.verify_core.specs.Answered.{IsClosed, IsFirstOpen}
-use Rattle.verify_core.specs.Decided.{DecidedGoal, IsOpen, all_proved}
-use Rattle.verify_core.specs.Numbered.{row_at}
+use Rattle.proc_contracts.specs.ReachedProcedures.{AreReached}
+use Rattle.verify_core.specs.AnsweredProcedures.{IsClosed, IsFirstOpen}
+use Rattle.verify_core.specs.GoalDecisions.{DecidedGoal, IsOpen, all_proved}
+use Rattle.verify_core.specs.NumberedLists.{row_at}
 use Rattle.verify_core.specs.declared.outcomes.Outcome.{Outcome}
 use Rattle.verify_core.specs.declared.outcomes.Outcome.TheVariants.{Proved, Falsified, Unknown}
 use Rattle.verify_core.specs.declared.outcomes.ProcedureOutcome.{ProcedureOutcome}

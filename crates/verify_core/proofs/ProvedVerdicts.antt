@@ -8,9 +8,9 @@ use Prim.Native.Nat.{zero, suc}
 use Rattle.heyvl_acts.specs.Acts.{TypedProcedure, procedure_at}
 use Rattle.verdict_report.specs.declared.answers.Answer.{Answer}
 use Rattle.goal_answers.specs.declared.named_goals.NamedGoal.{NamedGoal}
-use Rattle.verify_core.specs.Answered.{AreAnswers, IsAnswer}
-use Rattle.verify_core.specs.Decided.{DecidedGoal, all_proved, first_falsified, first_unknown}
-use Rattle.verify_core.specs.Numbered.{row_at}
+use Rattle.verify_core.specs.AnsweredProcedures.{AreAnswers, IsAnswer}
+use Rattle.verify_core.specs.GoalDecisions.{DecidedGoal, all_proved, first_falsified, first_unknown}
+use Rattle.verify_core.specs.NumberedLists.{row_at}
 use Rattle.verify_core.specs.declared.outcomes.Outcome.{Outcome}
 use Rattle.verify_core.specs.declared.outcomes.ProcedureOutcome.{ProcedureOutcome}
 use Rattle.verify_core.specs.internal.Outcomes.{AreOutcomes, IsOutcome, outcome, told_of}

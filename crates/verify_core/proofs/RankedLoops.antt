@@ -16,10 +16,10 @@ use Rattle.goal_answers.specs.declared.decisions.Decision.{Decision}
 use Rattle.goal_answers.specs.declared.decisions.Decision.TheVariants.{Proved, Falsified, Unknown}
 use Rattle.verdict_report.specs.declared.answers.LoopAnswer.{LoopAnswer}
 use Rattle.verdict_report.specs.declared.answers.RankVerdict.TheVariants.{NotRanked, Ranked}
-use Rattle.verify_core.specs.Decided.{DecidedGoal, IsDecisionOf, is_proved}
+use Rattle.verify_core.specs.GoalDecisions.{DecidedGoal, IsDecisionOf, is_proved}
 use Rattle.verify_core.specs.DecidedRankings.{AreRanked, AreRankingsDecided, IsRankVerdict, IsRankingDecided}
 use Rattle.verify_core.specs.Headline.{IsRankedLoop, IsUnrankedIn}
-use Rattle.verify_core.specs.internal.Settled.{IsSettled, TellsOf}
+use Rattle.verify_core.specs.internal.SettledGoals.{IsSettled, TellsOf}
 use Rattle.verify_core.proofs.MadeGoals.{falsified_fails, proved_holds}
 
 -- ---- From the goal

@@ -19,8 +19,8 @@ use Rattle.verdict_report.specs.declared.answers.Answer.{Answer}
 use Rattle.verdict_report.specs.declared.answers.LoopAnswer.{LoopAnswer}
 use Rattle.goal_answers.specs.declared.named_goals.NamedGoal.{NamedGoal}
 use Rattle.verdict_report.specs.declared.answers.RankVerdict.TheVariants as rank
-use Rattle.verify_core.specs.Answered.{IsAnswer}
-use Rattle.verify_core.specs.Decided.{DecidedGoal}
+use Rattle.verify_core.specs.AnsweredProcedures.{IsAnswer}
+use Rattle.verify_core.specs.GoalDecisions.{DecidedGoal}
 use Rattle.verify_core.specs.DecidedRankings.{AreRanked, certified_in_file, told_in_file, told_rankings}
 use Rattle.verify_core.specs.Questions.{AreGoals, IsMadeOf, question}
 use Rattle.verify_core.specs.Rankings.{AreAllGoals, AreRankingGoals, ranked_loops}

@@ -6,10 +6,10 @@ use Rattle.goal_answers.specs.declared.trees.GoalCert.{GoalCert}
 use Rattle.heyvl_acts.specs.Acts.{TypedProcedure}
 use Rattle.heyvl_acts.specs.Program.{Reaches}
 use Rattle.heyvl_acts.specs.Visible.{among}
-use Rattle.proc_contracts.specs.Reached.{AreReached}
+use Rattle.proc_contracts.specs.ReachedProcedures.{AreReached}
 use Rattle.verdict_report.specs.declared.answers.Answer.{Answer}
 use Rattle.verdict_report.specs.declared.answers.Verdict.{Verdict}
-use Rattle.verify_core.specs.internal.Checking.{AreMarkedAnswers, IsFirstMarked, IsMarkedAnswer, IsMarkedBy, IsMarkedVerdict, IsReachingVerdict, IsUnmarked, is_verified}
+use Rattle.verify_core.specs.internal.CertificateAnswers.{AreMarkedAnswers, IsFirstMarked, IsMarkedAnswer, IsMarkedBy, IsMarkedVerdict, IsReachingVerdict, IsUnmarked, is_verified}
 use Rattle.verify_core.specs.internal.Marks.{first_marked}
 use Rattle.verify_core.proofs.ProcedureMarks.{among_within, is_first, none_marked}
 

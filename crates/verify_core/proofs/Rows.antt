@@ -14,18 +14,18 @@ use Rattle.goal_answers.specs.declared.decisions.Decision.{Decision}
 use Rattle.goal_answers.specs.declared.decisions.Decision.TheVariants as decision
 use Rattle.verdict_report.specs.declared.answers.LoopAnswer.{LoopAnswer}
 use Rattle.goal_answers.specs.declared.named_goals.NamedGoal.{NamedGoal}
-use Rattle.verify_core.specs.Decided.{AreDecided, DecidedGoal, HasDecision, IsTable, certificates}
+use Rattle.verify_core.specs.GoalDecisions.{AreDecided, DecidedGoal, HasDecision, IsTable, certificates}
 use Rattle.verify_core.specs.DecidedRankings.{AreRanked, AreRankingsDecided, IsRankTable, IsRankVerdict, certified_in_file, told_rankings}
-use Rattle.verify_core.specs.Numbered.{row_at}
+use Rattle.verify_core.specs.NumberedLists.{row_at}
 use Rattle.verify_core.specs.Questions.{AreGoals, IsGoalOf}
 use Rattle.verify_core.specs.Rankings.{AreRankingGoals, IsRankingGoal, ranked_loops}
-use Rattle.verify_core.specs.declared.deciding.Decided as declared
+use Rattle.verify_core.specs.declared.decisions.Decided as declared
 use Rattle.verify_core.specs.declared.outcomes.Outcome.{Outcome}
 use Rattle.verify_core.specs.declared.outcomes.ProcedureOutcome.{ProcedureOutcome}
 use Rattle.verify_core.specs.declared.ranking_outcomes.RankingOutcome.{RankingOutcome}
 use Rattle.verify_core.specs.internal.Outcomes.{AreOutcomes, loop_answer, outcome, outcome_of, rank_by}
 use Rattle.verify_core.specs.internal.Rows.{AreSettled, AreSettledTo, IsBoundRow, IsRankingRow, IsRow}
-use Rattle.verify_core.specs.internal.Settled.{IsSettled, plain}
+use Rattle.verify_core.specs.internal.SettledGoals.{IsSettled, plain}
 use Rattle.verify_core.proofs.GoalOutcomes.{goals_of}
 use Rattle.verify_core.proofs.SideBySide.{row_of}
 

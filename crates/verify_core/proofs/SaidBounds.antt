@@ -16,7 +16,7 @@ use Rattle.heyvl_acts.specs.Acts.{TypedProcedure, acts_in, procedure_at, type_li
 use Rattle.heyvl_acts.specs.Forward.{forward}
 use Rattle.heyvl_acts.specs.Places.{in_order}
 use Rattle.heyvl_acts.specs.Rules.{Each, MeetsRules}
-use Rattle.heyvl_acts.specs.WellTyped.{ActsFit}
+use Rattle.heyvl_acts.specs.WellTypedActs.{ActsFit}
 use Rattle.loop_encodings.specs.BoundGoals.{GoalHolds, IsAtMostOne, IsBounded, invariant_in}
 use Rattle.loop_encodings.specs.Encoding.{all_variables, encoding}
 use Rattle.loop_encodings.specs.EncodingLaws.{EncodingIsOver}

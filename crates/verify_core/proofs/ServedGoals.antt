@@ -22,9 +22,9 @@ use Rattle.region_split.specs.DecisionLaws.{TreesCertify}
 use Rattle.goal_answers.specs.declared.decisions.Decision.{Decision}
 use Rattle.goal_answers.specs.declared.decisions.Decision.TheVariants.{Proved, Falsified, Unknown}
 use Rattle.goal_answers.specs.declared.named_goals.NamedGoal.{NamedGoal}
-use Rattle.verify_core.specs.Checked.{Certifies}
+use Rattle.verify_core.specs.CertifiedGoals.{Certifies}
 use Rattle.verify_core.specs.CheckedProofs.{IsServed, ProofsAreAccepted}
-use Rattle.verify_core.specs.Decided.{AreDecided, DecidedGoal, HasDecision, IsDecisionOf, IsTable, certificate, certificates}
+use Rattle.verify_core.specs.GoalDecisions.{AreDecided, DecidedGoal, HasDecision, IsDecisionOf, IsTable, certificate, certificates}
 use Rattle.verify_core.specs.DecidedRankings.{AreRankingsDecided, IsRankTable, certified_in_file}
 use Rattle.verify_core.specs.Questions.{IsGoalOf}
 use Rattle.verify_core.specs.Rankings.{IsRankingGoal, ranked_in, ranked_loops}

@@ -4,7 +4,7 @@ use Rattle.std.specs.List.{AllZip}
 use Prim.Native.Nat.{zero, suc}
 use Rattle.heyvl_acts.specs.Acts.{TypedProcedure, procedure_at}
 use Rattle.heyvl_acts.specs.Rules.{Each}
-use Rattle.verify_core.specs.Numbered.{AllNumbered, row_at}
+use Rattle.verify_core.specs.NumberedLists.{AllNumbered, row_at}
 
 -- ---- Each pair
 

@@ -8,7 +8,7 @@ use Rattle.heyvl_places.specs.declared.spans.Span.{Span}
 use Rattle.heyvl_places.specs.declared.checks.CheckKind.{CheckKind}
 use Rattle.heylo_formula.specs.BinderNames.{binders, binders_in}
 use Rattle.heylo_formula.specs.Formula.{Form, Cond, Term}
-use Rattle.heylo_formula.specs.Shifted.{shifted, shifted_in}
+use Rattle.heylo_formula.specs.Shifts.{shifted, shifted_in}
 use Rattle.heylo_formula.specs.Substitution.{as_cond, as_form, fresh, renamed, renamed_in, subst, subst_within, subst_within_in}
 use Rattle.heylo_formula.specs.Variables.{is_free, occurs_in_term}
 use Rattle.heylo_formula.specs.Sizes.{nodes}
@@ -19,8 +19,8 @@ use Rattle.heylo_formula.specs.NumericVariables.{has_variable}
 use Rattle.linear_form.specs.Nonlinear.{first_product, first_product_in, product_at}
 use Rattle.verify_core.specs.Places.{ActStands, CondStands, FormStands, GuardsStand, TermStands}
 use Rattle.loop_encodings.proofs.exported.FromRules.{each_first, each_second}
-use Rattle.vp_generator.specs.Generated.{check_form, draw_form, part_form, pick_form, sum_of_parts, toss_form, validate_form, vp, vp_act, vp_arms}
-use Rattle.vp_generator.specs.Prenexed.{Numbering, renumbered, unbound, unbound_in}
+use Rattle.vp_generator.specs.GeneratedForms.{check_form, draw_form, part_form, pick_form, sum_of_parts, toss_form, validate_form, vp, vp_act, vp_arms}
+use Rattle.vp_generator.specs.PrenexedForms.{Numbering, renumbered, unbound, unbound_in}
 
 if_stands : (n : ℕ) (b : Bool) (f g : Form) → FormStands n f → FormStands n g → FormStands n (if b then f else g)
 if_stands n true f g h k = h

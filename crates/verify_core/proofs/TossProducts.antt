@@ -9,7 +9,7 @@ use Rattle.heylo_formula.specs.Formula.{Form, Cond, Term}
 use Rattle.heylo_formula.specs.NumericVariables.{has_variable}
 use Rattle.heylo_formula.specs.Substitution as Replaced
 use Rattle.linear_form.specs.Nonlinear.{first_product, product_at}
-use Rattle.vp_generator.specs.Generated.{toss_form}
+use Rattle.vp_generator.specs.GeneratedForms.{toss_form}
 use Rattle.verify_core.specs.TossProducts.{TossProductsAreLinear}
 
 -- The parts of the form of a toss: whether its formula holds a variable, and what is first in the formula and in the two sides.

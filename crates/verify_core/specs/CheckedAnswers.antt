@@ -8,9 +8,9 @@ use Rattle.verdict_report.specs.declared.answers.Answer.{Answer}
 use Rattle.verdict_report.specs.declared.answers.Verdict.{Verdict}
 use Rattle.verdict_report.specs.declared.answers.Verdict.TheVariants as verdict
 use Rattle.verify_core.specs.CheckedRankings.{AreRankingsAnswered, IsCheckedRankTable}
-use Rattle.verify_core.specs.Numbered.{AllNumbered, row_at}
+use Rattle.verify_core.specs.NumberedLists.{AllNumbered, row_at}
 use Rattle.verify_core.specs.Rankings.{ranked_loops}
-use Rattle.verify_core.specs.Checked.{CheckedGoal, IsCertified, IsCheckedTable, first_miss}
+use Rattle.verify_core.specs.CertifiedGoals.{CheckedGoal, IsCertified, IsCheckedTable, first_miss}
 
 -- The first procedure of the file that this one reaches and whose bound isn't shown by certificates of its own goals: it is no
 -- program, or one of its goals isn't accepted.

@@ -7,9 +7,9 @@ use Rattle.goal_answers.specs.declared.trees.Tree.{Tree}
 use Rattle.heyvl_acts.specs.Acts.{TypedProcedure}
 use Rattle.heyvl_acts.specs.Rules.{Each, MeetsRules}
 use Rattle.goal_answers.specs.declared.decisions.Decision.TheVariants.{Proved}
-use Rattle.verify_core.specs.Checked.{CheckedGoal, IsCheckedTable, IsGoalAccepted}
+use Rattle.verify_core.specs.CertifiedGoals.{CheckedGoal, IsCheckedTable, IsGoalAccepted}
 use Rattle.verify_core.specs.CheckedRankings.{IsCheckedRankTable}
-use Rattle.verify_core.specs.Decided.{DecidedGoal, IsTable}
+use Rattle.verify_core.specs.GoalDecisions.{DecidedGoal, IsTable}
 use Rattle.verify_core.specs.DecidedRankings.{IsRankTable, certified_in_file}
 
 -- Where the goal is proved, with a tree, the list has a certificate of it.

@@ -7,9 +7,9 @@ use Rattle.verdict_report.specs.declared.answers.LoopAnswer.{LoopAnswer}
 use Rattle.goal_answers.specs.declared.misses.Miss.{Miss}
 use Rattle.verdict_report.specs.declared.answers.RankVerdict.{RankVerdict}
 use Rattle.verdict_report.specs.declared.answers.RankVerdict.TheVariants as rank
-use Rattle.verify_core.specs.Checked.{CheckedGoal, HasMiss}
+use Rattle.verify_core.specs.CertifiedGoals.{CheckedGoal, HasMiss}
 use Rattle.verify_core.specs.LoopVerdicts.{LoopsAreAnswered}
-use Rattle.verify_core.specs.Numbered.{AllNumbered}
+use Rattle.verify_core.specs.NumberedLists.{AllNumbered}
 use Rattle.verify_core.specs.Rankings.{IsRankingGoal, ranked_loops}
 
 abbrev pub IsRankingChecked : List TypedProcedure → List GoalCert → ℕ → ℕ → CheckedGoal → Type 0

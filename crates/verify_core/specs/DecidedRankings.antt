@@ -9,9 +9,9 @@ use Rattle.verdict_report.specs.declared.answers.RankVerdict.{RankVerdict}
 use Rattle.verdict_report.specs.declared.answers.RankVerdict.TheVariants as rank
 use Rattle.goal_answers.specs.declared.decisions.Decision.{Decision}
 use Rattle.goal_answers.specs.declared.decisions.Decision.TheVariants.{Proved, Falsified, Unknown}
-use Rattle.verify_core.specs.Decided.{DecidedGoal, HasDecision, certificates, is_proved, listed, told}
+use Rattle.verify_core.specs.GoalDecisions.{DecidedGoal, HasDecision, certificates, is_proved, listed, told}
 use Rattle.verify_core.specs.LoopVerdicts.{LoopsAreAnswered}
-use Rattle.verify_core.specs.Numbered.{AllNumbered}
+use Rattle.verify_core.specs.NumberedLists.{AllNumbered}
 use Rattle.verify_core.specs.Rankings.{IsRankingGoal, ranked_loops}
 
 -- ---- The rankings of a procedure

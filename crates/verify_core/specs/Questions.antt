@@ -13,7 +13,7 @@ use Rattle.loop_encodings.specs.BoundGoals.{invariant_in}
 use Rattle.loop_encodings.specs.Encoding.{all_variables, encoding}
 use Rattle.ranking_rule.specs.MadeGoals.{IsMadeWithin, goal_over}
 use Rattle.goal_answers.specs.declared.named_goals.NamedGoal.{NamedGoal}
-use Rattle.vp_generator.specs.Generated.{vp}
+use Rattle.vp_generator.specs.GeneratedForms.{vp}
 
 -- An inequality between two formulas over variables: the stated one is at least the found one, or at most where it isn't upper.
 -- The found one may have binders.

@@ -5,9 +5,9 @@ use Rattle.heyvl_places.specs.declared.spans.Span.{Span}
 use Rattle.heylo_formula.specs.Formula.{Form, Cond, Term}
 use Rattle.heylo_formula.specs.Substitution.{subst}
 use Rattle.heylo_formula.specs.Typing.{Types}
-use Rattle.heyvl_acts.specs.WellTyped.{IsProbability}
+use Rattle.heyvl_acts.specs.WellTypedActs.{IsProbability}
 use Rattle.linear_form.specs.Nonlinear.{first_product}
-use Rattle.vp_generator.specs.Generated.{toss_form}
+use Rattle.vp_generator.specs.GeneratedForms.{toss_form}
 
 -- The first product of the form of a toss is one inside the conditions of its formula, or else one of what follows it where the
 -- variable is true, or else where it is false: never one of its own two products.

@@ -1,9 +1,9 @@
-pub mod Asked
-pub mod Settled
+pub mod BoundQuestions
+pub mod SettledGoals
 pub mod Outcomes
 pub mod Rows
 pub mod Marks
 pub mod Verdicts
 pub mod OwnRankings
-pub mod Checking
+pub mod CertificateAnswers
 pub mod Decidable

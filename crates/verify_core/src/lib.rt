@@ -1,28 +1,28 @@
 //! The goals of the procedures of a file, and what is answered of the procedures.
 #![tactic(auto)]
 
-mod asking;
-mod certified;
-mod checking;
-mod deciding;
+mod bound_questions;
+mod certificate_search;
+mod certificate_verdicts;
+mod certified_answers;
+mod decisions;
 mod laws;
-mod making;
 mod marks;
 mod outcomes;
+mod procedure_goals;
 mod ranking_outcomes;
 mod rankings;
-mod reaching;
-mod searching;
-mod settling;
+mod reached_answers;
+mod settled_goals;
 mod verdicts;
-mod verifying;
+mod verifier;
 mod whole;
 
-pub use certified::check_all;
+pub use certified_answers::check_all;
 pub use laws::{
     made_goals_lack_fresh_variables, made_goals_say_bounds, proved_goals_are_accepted,
     toss_products_are_linear,
 };
-pub use making::goals;
-pub use verifying::verify;
+pub use procedure_goals::goals;
+pub use verifier::verify;
 pub use whole::Whole;

@@ -1,11 +1,11 @@
 //! What comes of the goals of procedures.
 
 ghost use Rattle.std.specs.Prelude.{IfOk, OnOk, map, ◌++◌, ◌≡◌};
-ghost use Rattle.verify_core.specs.Decided.{certificate, certificates};
+ghost use Rattle.verify_core.specs.GoalDecisions.{certificate, certificates};
 ghost use Rattle.verify_core.specs.internal.Outcomes.{both, outcome, outcome_of, unless_falsified};
-ghost use Rattle.verify_core.specs.internal.Settled.{plain};
+ghost use Rattle.verify_core.specs.internal.SettledGoals.{plain};
 
-use crate::deciding::Decided;
+use crate::decisions::Decided;
 use crate::ranking_outcomes::RankingOutcome;
 use goal_answers::{Cause, Decision, GoalCert, NamedGoal};
 use heylo_formula::Val;

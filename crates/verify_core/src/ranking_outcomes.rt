@@ -1,12 +1,12 @@
 //! What comes of the goals of rankings.
 
 ghost use Rattle.std.specs.Prelude.{IfOk, OnOk, map, ◌++◌, ◌≡◌};
-ghost use Rattle.verify_core.specs.Decided.{certificate, certificates, listed};
+ghost use Rattle.verify_core.specs.GoalDecisions.{certificate, certificates, listed};
 ghost use Rattle.verify_core.specs.DecidedRankings.{told_rankings};
 ghost use Rattle.verify_core.specs.internal.Outcomes.{loop_answer, outcome_of, rank_by, told_by};
-ghost use Rattle.verify_core.specs.internal.Settled.{plain};
+ghost use Rattle.verify_core.specs.internal.SettledGoals.{plain};
 
-use crate::deciding::Decided;
+use crate::decisions::Decided;
 use crate::outcomes::{Outcome, outcome_of};
 use goal_answers::{GoalCert, NamedGoal};
 use std::alloc::{AllocError, Global};

@@ -6,8 +6,8 @@ use Rattle.std.proofs.lemmas.List.{length-append, append-nil, append_assoc}
 use Rattle.heylo_formula.specs.BinderNames.{Binder, binders, binders_in}
 use Rattle.heylo_formula.specs.Formula.{Form, Cond}
 use Rattle.heylo_formula.specs.Sizes.{nodes, nodes_in}
-use Rattle.heyvl_acts.specs.declared.typed.VarInfo.{VarInfo}
-use Rattle.vp_generator.specs.Prenexed.{new_types}
+use Rattle.heyvl_acts.specs.declared.typed_trees.VarInfo.{VarInfo}
+use Rattle.vp_generator.specs.PrenexedForms.{new_types}
 use Rattle.vp_generator.specs.PrenexedGoals.{types_of_variables}
 use Rattle.vp_generator.specs.Scopes.{named, name_of}
 

@@ -16,9 +16,9 @@ use Rattle.heylo_formula.proofs.exported.Substitutions.{subst_binders, subst_dir
 use Rattle.heyvl_acts.specs.Acts.{Act, Acts, Arms, TypedProcedure, types_of, acts_in}
 use Rattle.heyvl_acts.specs.Places.{in_order, inside, inside_arms}
 use Rattle.heyvl_acts.specs.Rules.{Each, is_against, binds, any_binds, NothingBindsBehind, FollowsDirection, MeetsRules}
-use Rattle.heyvl_acts.specs.WellTyped.{PartsFit, ActFits, ActsFit, ArmsFit}
-use Rattle.vp_generator.specs.Generated.{pick_form, check_form, validate_form, part_form, sum_of_parts, vp, vp_act, vp_arms}
-use Rattle.vp_generator.specs.Directed.{ChoosesToward}
+use Rattle.heyvl_acts.specs.WellTypedActs.{PartsFit, ActFits, ActsFit, ArmsFit}
+use Rattle.vp_generator.specs.GeneratedForms.{pick_form, check_form, validate_form, part_form, sum_of_parts, vp, vp_act, vp_arms}
+use Rattle.vp_generator.specs.DirectedActs.{ChoosesToward}
 
 -- ---- Lists of acts
 

@@ -17,8 +17,8 @@ use Rattle.heylo_formula.specs.Substitution as Replaced
 use Rattle.heylo_formula.specs.declared.types.Ty.{Ty}
 use Rattle.heylo_formula.specs.declared.values.Val.TheVariants.{Truth}
 use Rattle.heyvl_acts.specs.Acts.{Act, Acts, Arms}
-use Rattle.vp_generator.specs.Generated.{vp}
-use Rattle.vp_generator.specs.Prenexed.{prenexed}
+use Rattle.vp_generator.specs.GeneratedForms.{vp}
+use Rattle.vp_generator.specs.PrenexedForms.{prenexed}
 
 abbrev nowhere : Span
 nowhere = record { from = 0; to = 0 }

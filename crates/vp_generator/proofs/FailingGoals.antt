@@ -13,7 +13,7 @@ use Rattle.heylo_formula.specs.declared.types.Ty.{Ty}
 use Rattle.heylo_formula.specs.declared.values.Val.{Val}
 use Rattle.heylo_formula.specs.declared.values.Val.TheVariants.{Truth}
 use Rattle.vp_generator.specs.PrenexLaws.{TypedFrom, ValuesAreChoices}
-use Rattle.vp_generator.specs.Prenexed.{new_types, prenexed}
+use Rattle.vp_generator.specs.PrenexedForms.{new_types, prenexed}
 use Rattle.vp_generator.specs.PrenexedGoals.{PrenexedGoalsFailByChoices}
 
 shifted_types : (n : ℕ) (bs : List Binder) (u : Val) (s : List Val) → TypedFrom n bs (environment s) → TypedFrom (suc n) bs (environment (u ∷ s))

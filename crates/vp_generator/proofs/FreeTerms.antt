@@ -10,7 +10,7 @@ use Rattle.heylo_formula.specs.Variables.{is_free, is_free_in}
 use Rattle.heylo_formula.specs.declared.types.Ty.{Ty}
 use Rattle.heylo_formula.proofs.exported.Plain.{and_both}
 use Rattle.heylo_formula.proofs.exported.Substitutions.{count_subst}
-use Rattle.vp_generator.specs.internal.Fitting.{TermIsFit}
+use Rattle.vp_generator.specs.internal.FittingActs.{TermIsFit}
 
 -- ---- The parts of what has a type
 

@@ -11,8 +11,8 @@ use Rattle.heylo_formula.specs.Typing.{Types, TermFits}
 use Rattle.heylo_formula.specs.declared.types.Ty.{Ty}
 use Rattle.heylo_formula.proofs.exported.Agreement.{or_false}
 use Rattle.heyvl_acts.specs.Acts.{Act, Acts, Arms}
-use Rattle.vp_generator.specs.Generated.{pick_form, check_form, validate_form, part_form, sum_of_parts, toss_form, vp, vp_act, vp_arms}
-use Rattle.heyvl_acts.specs.WellTyped.{PartsFit, ActFits, ActsFit, ArmsFit}
+use Rattle.vp_generator.specs.GeneratedForms.{pick_form, check_form, validate_form, part_form, sum_of_parts, toss_form, vp, vp_act, vp_arms}
+use Rattle.heyvl_acts.specs.WellTypedActs.{PartsFit, ActFits, ActsFit, ArmsFit}
 use Rattle.heylo_formula.specs.BinderNames.{Binder, binders, binders_in}
 use Rattle.heyvl_acts.specs.Rules.{AreNamed}
 use Rattle.vp_generator.specs.Scopes.{AnyIsBelow, AnysAreBelow, AnysAreBelow_in}

@@ -10,7 +10,7 @@ use Rattle.heylo_formula.specs.Variables.{is_free, IsOver}
 use Rattle.heylo_formula.specs.declared.types.Ty.{Ty}
 use Rattle.heylo_formula.proofs.exported.Substitutions.{subst_over}
 use Rattle.heyvl_acts.specs.Acts.{Act, Acts, Arms}
-use Rattle.vp_generator.specs.Generated.{pick_form, check_form, validate_form, part_form, sum_of_parts, toss_form, vp, vp_act, vp_arms}
+use Rattle.vp_generator.specs.GeneratedForms.{pick_form, check_form, validate_form, part_form, sum_of_parts, toss_form, vp, vp_act, vp_arms}
 use Rattle.vp_generator.specs.Over.{PartsAreOver, ActIsOver, ActsAreOver, ArmsAreOver}
 use Rattle.vp_generator.proofs.PrenexedOver.{two}
 

@@ -11,8 +11,8 @@ use Rattle.heylo_formula.specs.declared.types.Ty.{Ty}
 use Rattle.heylo_formula.proofs.exported.Plain.{term_plain, typed_plain}
 use Rattle.heylo_formula.proofs.exported.Substitutions.{subst_binders}
 use Rattle.heyvl_acts.specs.Acts.{Act, Acts, Arms}
-use Rattle.heyvl_acts.specs.WellTyped.{PartsFit, ActFits, ActsFit, ArmsFit}
-use Rattle.vp_generator.specs.Generated.{pick_form, check_form, validate_form, part_form, sum_of_parts, toss_form, vp, vp_act, vp_arms}
+use Rattle.heyvl_acts.specs.WellTypedActs.{PartsFit, ActFits, ActsFit, ArmsFit}
+use Rattle.vp_generator.specs.GeneratedForms.{pick_form, check_form, validate_form, part_form, sum_of_parts, toss_form, vp, vp_act, vp_arms}
 use Rattle.vp_generator.specs.InGraphs.{HasNoAny, HaveNoAny, HaveNoAnyIn}
 
 neither : (a b : Bool) → a ≡ false → b ≡ false → (a || b) ≡ false

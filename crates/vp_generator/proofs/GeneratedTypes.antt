@@ -10,8 +10,8 @@ use Rattle.heylo_formula.specs.Typing.{NumberType, Types, type_of, is_unsigned, 
 use Rattle.heylo_formula.specs.declared.types.Ty.{Ty}
 use Rattle.heylo_formula.proofs.exported.Substitutions.{subst_formula}
 use Rattle.heyvl_acts.specs.Acts.{Act, Acts, Arms}
-use Rattle.vp_generator.specs.Generated.{pick_form, check_form, validate_form, part_form, sum_of_parts, vp, vp_act, vp_arms}
-use Rattle.heyvl_acts.specs.WellTyped.{PartsFit, ActFits, ActsFit, ArmsFit}
+use Rattle.vp_generator.specs.GeneratedForms.{pick_form, check_form, validate_form, part_form, sum_of_parts, vp, vp_act, vp_arms}
+use Rattle.heyvl_acts.specs.WellTypedActs.{PartsFit, ActFits, ActsFit, ArmsFit}
 use Rattle.heylo_formula.proofs.exported.Plain.{joins}
 
 pub only : (b : Bool) (t : Option NumberType) → b ≡ true → is_unsigned t ≡ true → is_unsigned (only_if b t) ≡ true

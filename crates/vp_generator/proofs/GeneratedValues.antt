@@ -21,8 +21,8 @@ use Rattle.heylo_formula.proofs.exported.Agreement.{unchosen, unchosen_in, three
 use Rattle.heylo_formula.proofs.exported.Substitutions.{subst_value}
 use Rattle.heyvl_acts.specs.Acts.{Act, Acts, Arms}
 use Rattle.heyvl_acts.specs.Forward.{Post, picked, checked, validated, part, parts, forward, forward_act, no_loops, no_calls, meant_arms}
-use Rattle.vp_generator.specs.Generated.{pick_form, check_form, validate_form, part_form, sum_of_parts, toss_form, vp, vp_act, vp_arms}
-use Rattle.heyvl_acts.specs.WellTyped.{PartsFit, ActFits, ActsFit, ArmsFit}
+use Rattle.vp_generator.specs.GeneratedForms.{pick_form, check_form, validate_form, part_form, sum_of_parts, toss_form, vp, vp_act, vp_arms}
+use Rattle.heyvl_acts.specs.WellTypedActs.{PartsFit, ActFits, ActsFit, ArmsFit}
 use Rattle.heylo_formula.proofs.exported.Plain.{term_plain, typed_plain}
 
 -- the operators of forms have the values of those of numbers

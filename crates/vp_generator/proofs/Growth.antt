@@ -6,9 +6,9 @@ use Rattle.heylo_formula.specs.Formula.{Form, Cond, Term}
 use Rattle.heylo_formula.specs.Sizes.{nodes, nodes_in, depth, depth_in}
 use Rattle.heylo_formula.proofs.exported.Growth.{grow_subst, deepen_subst}
 use Rattle.heyvl_acts.specs.Acts.{Act, Acts, Arms}
-use Rattle.vp_generator.specs.Generated.{pick_form, check_form, validate_form, part_form, sum_of_parts, vp, vp_act, vp_arms}
+use Rattle.vp_generator.specs.GeneratedForms.{pick_form, check_form, validate_form, part_form, sum_of_parts, vp, vp_act, vp_arms}
 use Rattle.heylo_formula.specs.Typing.{Types}
-use Rattle.heyvl_acts.specs.WellTyped.{ActFits, ActsFit}
+use Rattle.heyvl_acts.specs.WellTypedActs.{ActFits, ActsFit}
 
 grow_parts : (x : ℕ) (ps : List (Rational × Term)) (k total : Form) → nodes k ≤ nodes total → nodes k ≤ nodes (sum_of_parts x ps k total)
 grow_parts x [] k total h = h

@@ -6,13 +6,13 @@ mod FailingGoals
 mod Growth
 mod PrenexedTypes
 mod Examples
-mod Building
+mod BuiltForms
 mod PrenexedPlain
 mod Weights
-mod Generating
+mod GeneratorSteps
 mod GeneratedPlain
 mod Making
-mod Numbered
+mod NumberedParts
 mod GeneratedNames
 mod FreeTerms
 mod Directions

@@ -5,8 +5,8 @@ use Rattle.heylo_formula.specs.BinderNames.{binders}
 use Rattle.heylo_formula.specs.Formula.{Form}
 use Rattle.heylo_formula.specs.Goals.{Goal}
 use Rattle.heylo_formula.specs.declared.types.Ty.{Ty}
-use Rattle.heyvl_acts.specs.declared.typed.VarInfo.{VarInfo}
-use Rattle.vp_generator.specs.Prenexed.{prenexed, new_types}
+use Rattle.heyvl_acts.specs.declared.typed_trees.VarInfo.{VarInfo}
+use Rattle.vp_generator.specs.PrenexedForms.{prenexed, new_types}
 use Rattle.vp_generator.specs.PrenexedGoals.{prenexed_goal, types_of_variables, names_of_variables}
 use Rattle.vp_generator.specs.Scopes.{named}
 use Rattle.vp_generator.proofs.BinderCounts.{named_types, same_length}

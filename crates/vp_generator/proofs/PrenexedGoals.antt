@@ -18,7 +18,7 @@ use Rattle.heylo_formula.specs.declared.values.Val.{Val}
 use Rattle.heylo_formula.specs.declared.values.Val.TheVariants.{Truth}
 use Rattle.heylo_formula.proofs.exported.Agreement.{same_on, same_types}
 use Rattle.heylo_formula.proofs.exported.States.{types_first}
-use Rattle.vp_generator.specs.Prenexed.{prenexed, chosen, new_types}
+use Rattle.vp_generator.specs.PrenexedForms.{prenexed, chosen, new_types}
 use Rattle.vp_generator.specs.PrenexedGoals.{HoldsByChoices, prenexed_goal}
 use Rattle.vp_generator.specs.PrenexLaws.{IsFrom, TypedFrom, TypesFrom}
 use Rattle.vp_generator.proofs.PrenexedValues.{given_value, found_value, chosen_typed}

@@ -6,7 +6,7 @@ use Prim.Native.Nat.{suc}
 use Rattle.heylo_formula.specs.Formula.{Form, Cond}
 use Rattle.heylo_formula.specs.BinderNames.{Binder, binders, binders_in}
 use Rattle.heylo_formula.specs.Variables.{is_free, is_free_in, IsOver, IsOverIn}
-use Rattle.vp_generator.specs.Prenexed.{Numbering, renumbered, unbound, unbound_in}
+use Rattle.vp_generator.specs.PrenexedForms.{Numbering, renumbered, unbound, unbound_in}
 
 left_free : (a b : Bool) → a ≡ true → (a || b) ≡ true
 left_free true b h = refl

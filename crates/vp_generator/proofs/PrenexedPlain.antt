@@ -6,7 +6,7 @@ use Rattle.heylo_formula.specs.Formula.{Form, Cond}
 use Rattle.heylo_formula.specs.Binders.{has_binder, has_binder_in}
 use Rattle.heylo_formula.proofs.exported.Agreement.{neither}
 use Rattle.heylo_formula.specs.BinderNames.{binders, binders_in}
-use Rattle.vp_generator.specs.Prenexed.{Numbering, renumbered, unbound, unbound_in}
+use Rattle.vp_generator.specs.PrenexedForms.{Numbering, renumbered, unbound, unbound_in}
 
 mutual
   pub unbound_plain : (f : Form) (m : Numbering) (n : ℕ) → has_binder (unbound m n f) ≡ false

@@ -13,7 +13,7 @@ use Rattle.heylo_formula.proofs.exported.Agreement.{or_false}
 use Rattle.vp_generator.proofs.TypedParts.{joined_parts, only_parts, only_part, scaled_part}
 use Rattle.vp_generator.specs.PrenexLaws.{TypesFrom}
 use Rattle.heylo_formula.specs.BinderNames.{Binder, binders, binders_in}
-use Rattle.vp_generator.specs.Prenexed.{Numbering, renumbered, unbound, unbound_in}
+use Rattle.vp_generator.specs.PrenexedForms.{Numbering, renumbered, unbound, unbound_in}
 use Rattle.heylo_formula.proofs.exported.Plain.{joins, finite_plain, typed_plain}
 use Rattle.vp_generator.proofs.GeneratedTypes.{only, both, scaled}
 

@@ -21,7 +21,7 @@ use Rattle.heylo_formula.specs.State.{IsTyped}
 use Rattle.heylo_formula.proofs.exported.States.{fit_has}
 use Rattle.vp_generator.specs.PrenexLaws.{IsFrom, TypedFrom, Found}
 use Rattle.heylo_formula.specs.BinderNames.{Binder, binders, binders_in}
-use Rattle.vp_generator.specs.Prenexed.{Numbering, renumbered, unbound, unbound_in, chosen, chosen_in, new_types}
+use Rattle.vp_generator.specs.PrenexedForms.{Numbering, renumbered, unbound, unbound_in, chosen, chosen_in, new_types}
 
 split : (us vs : List Val) (n : ℕ) (r : Env) → IsFrom n (us ++ vs) r → IsFrom n us r × IsFrom (n + length us) vs r
 split [] vs n r h = (tt, subst (λ k. IsFrom k vs r) (omega arith) h)

@@ -1,6 +1,6 @@
 -- The numbers of variables in a scope, by its innermost binder.
 use Rattle.std.proofs.Common.{◌≡◌, ℕ, ap, ◌∙◌, refl, List, [], ◌∷◌, ◌++◌}
-use Rattle.vp_generator.specs.Prenexed.{Numbering, renumbered}
+use Rattle.vp_generator.specs.PrenexedForms.{Numbering, renumbered}
 use Rattle.vp_generator.specs.internal.Lookup.{numbered_under, number_in}
 
 pub innermost : (m : Numbering) (ps : List (ℕ × ℕ)) (p : ℕ × ℕ) → numbered_under m (ps ++ p ∷ []) ≡ renumbered p.0 p.1 (numbered_under m ps)

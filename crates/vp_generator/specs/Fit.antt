@@ -3,7 +3,7 @@
 use Rattle.heylo_formula.specs.Formula.{Form}
 use Rattle.heylo_formula.specs.Typing.{Types, IsFormula}
 use Rattle.heyvl_acts.specs.Acts.{Acts}
-use Rattle.heyvl_acts.specs.WellTyped.{ActsFit}
+use Rattle.heyvl_acts.specs.WellTypedActs.{ActsFit}
 
 -- Some types of the variables that fit, for which what follows is a formula.
 pub record Fit (Part : Types → Type 0) (post : Form) : Type 0 where

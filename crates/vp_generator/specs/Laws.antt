@@ -7,8 +7,8 @@ use Rattle.heylo_formula.specs.Meaning.{value}
 use Rattle.heylo_formula.specs.Typing.{Types, IsFormula}
 use Rattle.heyvl_acts.specs.Acts.{Acts}
 use Rattle.heyvl_acts.specs.Forward.{forward}
-use Rattle.vp_generator.specs.Generated.{vp}
-use Rattle.heyvl_acts.specs.WellTyped.{ActsFit}
+use Rattle.vp_generator.specs.GeneratedForms.{vp}
+use Rattle.heyvl_acts.specs.WellTypedActs.{ActsFit}
 
 -- The generated form has the forward meaning of the acts as its value, for all choices: the same tree serves both.
 abbrev pub GeneratedFormMeansActs : Type 0

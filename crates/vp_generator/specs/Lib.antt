@@ -1,5 +1,5 @@
-pub mod Generated
-pub mod Prenexed
+pub mod GeneratedForms
+pub mod PrenexedForms
 pub mod Scopes
 pub mod Limits
 pub mod Fit
@@ -8,6 +8,6 @@ pub mod InGraphs
 pub mod Laws
 pub mod PrenexedGoals
 pub mod PrenexLaws
-pub mod Directed
+pub mod DirectedActs
 pub mod Over
 pub mod internal

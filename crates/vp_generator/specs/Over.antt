@@ -4,7 +4,7 @@ use Rattle.heyvl_num.specs.Rational.{Rational}
 use Rattle.heylo_formula.specs.Formula.{Form, Term}
 use Rattle.heylo_formula.specs.Variables.{occurs_in_term, IsOver, IsOverIn}
 use Rattle.heyvl_acts.specs.Acts.{Act, Acts, Arms}
-use Rattle.vp_generator.specs.Generated.{vp}
+use Rattle.vp_generator.specs.GeneratedForms.{vp}
 
 -- Each number in the term is below n.
 abbrev pub TermIsOver : ℕ → Term → Type 0

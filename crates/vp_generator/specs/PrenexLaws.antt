@@ -10,7 +10,7 @@ use Rattle.heylo_formula.specs.Binders.{has_binder}
 use Rattle.heylo_formula.specs.Typing.{Types, IsFormula}
 use Rattle.heylo_formula.specs.declared.values.Val.{Val}
 use Rattle.heylo_formula.specs.BinderNames.{Binder, binders}
-use Rattle.vp_generator.specs.Prenexed.{Numbering, unbound, chosen, new_types}
+use Rattle.vp_generator.specs.PrenexedForms.{Numbering, unbound, chosen, new_types}
 
 -- The variables from a number on have these values.
 abbrev pub IsFrom : ℕ → List Val → Env → Type 0

@@ -14,9 +14,9 @@ use Rattle.heylo_formula.specs.Variables.{IsOver}
 use Rattle.heylo_formula.specs.declared.goals.Made.{Made}
 use Rattle.heylo_formula.specs.declared.types.Ty.{Ty}
 use Rattle.heylo_formula.specs.declared.values.Val.{Val}
-use Rattle.heyvl_acts.specs.declared.typed.VarInfo.{VarInfo}
+use Rattle.heyvl_acts.specs.declared.typed_trees.VarInfo.{VarInfo}
 use Rattle.vp_generator.specs.Limits.{IsSmall}
-use Rattle.vp_generator.specs.Prenexed.{prenexed, new_types}
+use Rattle.vp_generator.specs.PrenexedForms.{prenexed, new_types}
 use Rattle.vp_generator.specs.Scopes.{named}
 
 -- The stated form compares with the found one in each state of these types, whatever is chosen in the found form.

@@ -1,14 +1,14 @@
 -- What the code that removes binders keeps: the numbers of the variables that are bound around a form.
 use Rattle.std.specs.Prelude.{◌<◌, slice_index_or, ◌++◌, ℕ, List, [], ◌∷◌}
 use Rattle.heylo_formula.specs.BinderNames.{Binder, binders}
-use Rattle.heyvl_acts.specs.declared.typed.VarInfo.{VarInfo}
+use Rattle.heyvl_acts.specs.declared.typed_trees.VarInfo.{VarInfo}
 use Rattle.heylo_formula.specs.declared.types.Ty.TheVariants.{Bool}
 use Rattle.heylo_formula.specs.Formula.{Form}
 use Rattle.heylo_formula.specs.Typing.{Types}
 use Rattle.heyvl_acts.specs.Acts.{Act, Acts, Arms}
 use Rattle.heyvl_acts.specs.Rules.{AreNamed}
-use Rattle.vp_generator.specs.Generated.{vp}
-use Rattle.heyvl_acts.specs.WellTyped.{ActsFit}
+use Rattle.vp_generator.specs.GeneratedForms.{vp}
+use Rattle.heyvl_acts.specs.WellTypedActs.{ActsFit}
 
 abbrev pub name_of : List VarInfo → ℕ → List ℕ
 name_of vs x = (slice_index_or vs x (record { name = []; ty = Bool })).name

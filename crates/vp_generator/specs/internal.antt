@@ -1,3 +1,3 @@
-pub mod Fitting
+pub mod FittingActs
 pub mod Lookup
 pub mod Making

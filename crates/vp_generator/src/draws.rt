@@ -6,8 +6,8 @@ ghost use Rattle.heylo_formula.specs.PlainTrees.{term_of};
 ghost use Rattle.heylo_graph.specs.Trees.{Tree};
 ghost use Rattle.heylo_graph.specs.Nodes.{Begins, IsFormula, Stands};
 ghost use Rattle.heyvl_acts.specs.PlainActs.{parts_of};
-ghost use Rattle.vp_generator.specs.Generated.{part_form, draw_form, sum_of_parts};
-ghost use Rattle.vp_generator.specs.internal.Fitting.{DrawIsFit, PartsAreFit, TermIsFit};
+ghost use Rattle.vp_generator.specs.GeneratedForms.{part_form, draw_form, sum_of_parts};
+ghost use Rattle.vp_generator.specs.internal.FittingActs.{DrawIsFit, PartsAreFit, TermIsFit};
 ghost use Rattle.vp_generator.specs.internal.Making.{IsMade, IsPlaced, IsReady};
 
 use crate::nodes_of_acts::{added, put, scaled};

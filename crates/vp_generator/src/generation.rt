@@ -8,9 +8,9 @@ ghost use Rattle.heylo_graph.specs.Nodes.{Begins, IsFormula, Stands};
 ghost use Rattle.heyvl_acts.specs.PlainActs.{act_of, acts_of, arms_of};
 ghost use Rattle.vp_generator.specs.Answers.{IsAnswer};
 ghost use Rattle.vp_generator.specs.Fit.{AreFit};
-ghost use Rattle.vp_generator.specs.Generated.{pick_form, vp, vp_act, vp_arms};
+ghost use Rattle.vp_generator.specs.GeneratedForms.{pick_form, vp, vp_act, vp_arms};
 ghost use Rattle.vp_generator.specs.InGraphs.{Follows, HasNoAny, HaveNoAny, HaveNoAnyIn, IsAnswerIn, MakeNoBinder};
-ghost use Rattle.vp_generator.specs.internal.Fitting.{IsFit, ArmsAreFit};
+ghost use Rattle.vp_generator.specs.internal.FittingActs.{IsFit, ArmsAreFit};
 ghost use Rattle.vp_generator.specs.internal.Making.{IsMade, IsPlaced, IsReady};
 
 use crate::draws::drawn;

@@ -3,7 +3,7 @@
 ghost use Rattle.vp_generator.specs.Laws as law;
 ghost use Rattle.vp_generator.specs.PrenexLaws as prenex;
 ghost use Rattle.vp_generator.specs.PrenexedGoals as goals;
-ghost use Rattle.vp_generator.specs.Directed as directed;
+ghost use Rattle.vp_generator.specs.DirectedActs as directed;
 ghost use Rattle.vp_generator.specs.Over as over;
 ghost use Rattle.vp_generator.specs.Scopes as scopes;
 

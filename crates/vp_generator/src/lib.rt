@@ -8,7 +8,7 @@ mod laws;
 mod limits;
 mod nodes_of_acts;
 mod numbering;
-mod prenexed;
+mod prenexed_forms;
 mod stops;
 mod tosses;
 
@@ -19,5 +19,5 @@ pub use laws::{
     prenexed_goals_speak_of_choices,
 };
 pub use numbering::prenex;
-pub use prenexed::Prenex;
+pub use prenexed_forms::Prenex;
 pub use stops::VpStop;

@@ -7,8 +7,8 @@ ghost use Rattle.heylo_formula.specs.Sizes.{nodes_in_term};
 ghost use Rattle.heylo_formula.specs.Substitution.{subst};
 ghost use Rattle.heylo_graph.specs.Trees.{Tree};
 ghost use Rattle.heylo_graph.specs.Nodes.{Begins, IsFitting, IsFormula, IsNodeOf, Stands};
-ghost use Rattle.vp_generator.specs.Generated.{pick_form, check_form, validate_form};
-ghost use Rattle.vp_generator.specs.internal.Fitting.{TermIsFit};
+ghost use Rattle.vp_generator.specs.GeneratedForms.{pick_form, check_form, validate_form};
+ghost use Rattle.vp_generator.specs.internal.FittingActs.{TermIsFit};
 ghost use Rattle.vp_generator.specs.internal.Making.{IsMade, IsReady};
 
 use crate::limits::DEEPEST;

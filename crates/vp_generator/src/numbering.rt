@@ -4,13 +4,13 @@ ghost use Rattle.std.specs.Prelude.{◌≡◌, ◌+◌, ◌<◌, ◌^◌, ◌++�
 ghost use Prim.Native.Nat.{suc};
 ghost use Rattle.heylo_formula.specs.Formula.{Form as plain, Cond as plain_cond};
 ghost use Rattle.heylo_formula.specs.PlainTrees.{form_of, cond_of};
-ghost use Rattle.vp_generator.specs.Prenexed.{prenexed, renumbered, unbound, unbound_in};
+ghost use Rattle.vp_generator.specs.PrenexedForms.{prenexed, renumbered, unbound, unbound_in};
 ghost use Rattle.heylo_formula.specs.BinderNames.{binders, binders_in};
 ghost use Rattle.heyvl_acts.specs.Rules.{AreNamed};
 ghost use Rattle.vp_generator.specs.Scopes.{named};
 ghost use Rattle.vp_generator.specs.internal.Lookup.{number_in};
 
-use crate::prenexed::Prenex;
+use crate::prenexed_forms::Prenex;
 use heylo_formula::{Cond, Form, Ty};
 use heyvl_acts::VarInfo;
 use std::alloc::{AllocError, Global};

@@ -8,8 +8,8 @@ ghost use Rattle.heylo_formula.specs.Substitution.{subst};
 ghost use Rattle.heylo_graph.specs.Trees.{Tree};
 ghost use Rattle.heylo_graph.specs.Nodes.{Begins, IsFormula, Stands};
 ghost use Rattle.heyvl_num.specs.Value.{oneᵛ};
-ghost use Rattle.vp_generator.specs.Generated.{toss_form};
-ghost use Rattle.vp_generator.specs.internal.Fitting.{FlagIsFit, TossIsFit};
+ghost use Rattle.vp_generator.specs.GeneratedForms.{toss_form};
+ghost use Rattle.vp_generator.specs.internal.FittingActs.{FlagIsFit, TossIsFit};
 ghost use Rattle.vp_generator.specs.internal.Making.{IsMade, IsReady};
 
 use crate::nodes_of_acts::{added, joined, put};

@@ -5,7 +5,7 @@ use Rattle.goal_answers.specs.declared.trees.GoalCert.{GoalCert}
 use Rattle.cert_text.specs.declared.stops.CertStop.{CertStop}
 use Rattle.cert_text.specs.declared.stops.CertStop.TheVariants.{Fault, Memory}
 use Rattle.cert_text.specs.Certificates.{Certificate, certificates_of}
-use Rattle.cert_text.specs.internal.Reading.{State, done}
+use Rattle.cert_text.specs.internal.ReadStates.{State, done}
 
 -- The certificates of an end with nothing left, or the fault of this line, where it is no such end.
 abbrev pub IsWhole : State → List ℕ → ℕ → Result (Vec GoalCert Global) CertStop → Type 0

@@ -1,7 +1,7 @@
 -- What reading the first line of a rest gives: a tool of the reader's proof, which no public clause cites.
 use Rattle.std.specs.Prelude.{◌≡◌, ◌≢◌, ℕ, All, List, ◌∷◌, ◌++◌, Some, None}
 use Rattle.cert_text.specs.Lines.{Line, line_text}
-use Rattle.cert_text.specs.internal.Reading.{State, next}
+use Rattle.cert_text.specs.internal.ReadStates.{State, next}
 use Rattle.cert_text.specs.internal.WholeLines.{IsLine}
 
 -- A line was read that leads from one state to another, and the rest goes on behind it.

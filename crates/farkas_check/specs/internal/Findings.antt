@@ -5,10 +5,10 @@ use Rattle.linear_form.specs.Query.{Atom, onto}
 use Rattle.linear_form.specs.PlainPaths.{path_of}
 use Rattle.linear_form.specs.declared.paths.Taken as T
 use Rattle.goal_answers.specs.Trees.{Tree}
-use Rattle.farkas_check.specs.Accepted.{IsAccepted, IsRefused}
+use Rattle.farkas_check.specs.AcceptedCertificates.{IsAccepted, IsRefused}
 use Rattle.farkas_check.specs.internal.Trails.{IsSame}
 use Rattle.farkas_check.specs.declared.trail.Trail.{Trail}
-use Rattle.farkas_check.specs.declared.checking.Judged as J
+use Rattle.farkas_check.specs.declared.checker.Judged as J
 
 -- It is refused, at the end of the path.
 abbrev pub IsRefusedAt : List T.Taken → J.Judged → Type 0

@@ -1,7 +1,7 @@
 -- Reading commands and blocks.
 use Prim.Native.Nat.{suc, zero}
 use Rattle.heyvl_parse.specs.readers.Combinators.{each, is_key, lead, refuse, sign, spanned, starts, trail}
-use Rattle.heyvl_parse.specs.readers.Reading.{Out, Read, expr, is_mark, mapped, pair, word, ◌>>=◌}
+use Rattle.heyvl_parse.specs.readers.ReadParts.{Out, Read, expr, is_mark, mapped, pair, word, ◌>>=◌}
 use Rattle.heyvl_places.specs.declared.spans.Span.{Span}
 use Rattle.heyvl_syntax.specs.Expressions.{Expression}
 use Rattle.heyvl_syntax.specs.declared.keys.Key.TheVariants as keys

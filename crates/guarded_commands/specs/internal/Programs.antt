@@ -1,6 +1,6 @@
 -- Reading whole programs.
 use Rattle.heyvl_parse.specs.readers.Combinators.{each, ended, is_key, is_there, lead, spanned, trail}
-use Rattle.heyvl_parse.specs.readers.Reading.{Read, is_mark, mapped, pair, one, word, ◌>>=◌}
+use Rattle.heyvl_parse.specs.readers.ReadParts.{Read, is_mark, mapped, pair, one, word, ◌>>=◌}
 use Rattle.heyvl_places.specs.declared.spans.Span.{Span}
 use Rattle.heyvl_syntax.specs.Expressions.{Expression}
 use Rattle.heyvl_syntax.specs.declared.keys.Key.TheVariants as keys

@@ -20,7 +20,7 @@ use Rattle.heylo_formula.specs.Typing.{Types, HasTypes}
 use Rattle.heylo_formula.specs.declared.types.Ty.{Ty}
 use Rattle.heylo_formula.proofs.exported.TypedTerms.{nonnegative_value}
 use Rattle.heyvl_acts.specs.Tosses.{toss_weight, flip_parts, toss_parts}
-use Rattle.heyvl_acts.specs.WellTyped.{IsHeld, IsProbability, PartsFit}
+use Rattle.heyvl_acts.specs.WellTypedActs.{IsHeld, IsProbability, PartsFit}
 
 at_most_one : (v : Value) → v ≤ᵛ oneᵛ → finite_part v ≤ʳ oneʳ
 unfolding oneᵛ

@@ -1,6 +1,6 @@
 -- Expressions of one token.
 use Rattle.heyvl_parse.specs.readers.Combinators.{either, is_operator, starts}
-use Rattle.heyvl_parse.specs.readers.Reading.{Read, is_mark, one}
+use Rattle.heyvl_parse.specs.readers.ReadParts.{Read, is_mark, one}
 use Rattle.heyvl_places.specs.declared.spans.Span.{Span}
 use Rattle.heyvl_syntax.specs.Expressions.{Expression}
 use Rattle.heyvl_syntax.specs.declared.marks.Mark.TheVariants as marks

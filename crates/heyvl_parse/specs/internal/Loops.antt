@@ -1,6 +1,6 @@
 -- Reading the rules of loops.
 use Rattle.heyvl_parse.specs.readers.Combinators.{each, is_word, lead, refuse, spanned}
-use Rattle.heyvl_parse.specs.readers.Reading.{Read, is_mark, mapped}
+use Rattle.heyvl_parse.specs.readers.ReadParts.{Read, is_mark, mapped}
 use Rattle.heyvl_parse.specs.internal.Rights.{enclosed_expr, two}
 use Rattle.heyvl_parse.specs.declared.loops.RuleStart.TheVariants as starts_as
 use Rattle.heyvl_parse.specs.declared.loops.RuleStart.{RuleStart}

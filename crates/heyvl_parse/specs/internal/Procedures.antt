@@ -1,6 +1,6 @@
 -- Reading procedures, where a reader of blocks is given.
 use Rattle.heyvl_parse.specs.readers.Combinators.{each, is_there, kind, lead, list0, optional, spanned, trail}
-use Rattle.heyvl_parse.specs.readers.Reading.{Read, expr, is_mark, mapped, pair, type_name, word}
+use Rattle.heyvl_parse.specs.readers.ReadParts.{Read, expr, is_mark, mapped, pair, type_name, word}
 use Rattle.heyvl_places.specs.declared.spans.Span.{Span}
 use Rattle.heyvl_syntax.specs.Expressions.{Expression}
 use Rattle.heyvl_syntax.specs.Grammar.{Clause, posts, pres}

@@ -2,7 +2,7 @@
 use Prim.Native.Nat.{suc, zero}
 use Rattle.heyvl_parse.specs.readers.Combinators.{each, either, is_key, is_there, kind, lead, list, optional, refuse, spanned, starts, taken, trail}
 use Rattle.heyvl_parse.specs.internal.Loops.{rules}
-use Rattle.heyvl_parse.specs.readers.Reading.{Bad, Got, Out, Read, expr, is_mark, mapped, pair, type_name, word, ◌>>=◌}
+use Rattle.heyvl_parse.specs.readers.ReadParts.{Bad, Got, Out, Read, expr, is_mark, mapped, pair, type_name, word, ◌>>=◌}
 use Rattle.heyvl_parse.specs.internal.Rights.{call, call_tree, is_call, right}
 use Rattle.heyvl_parse.specs.declared.statements.Link.TheVariants as steps
 use Rattle.heyvl_parse.specs.declared.statements.Link.{Link}

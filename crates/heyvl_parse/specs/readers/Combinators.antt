@@ -1,6 +1,6 @@
 -- Ways to put readers together. Each looks at no token behind the first that it leaves.
 use Prim.Native.Nat.{suc, zero}
-use Rattle.heyvl_parse.specs.readers.Reading.{Bad, Got, Out, Read, is_mark, mapped, one, operator_of, ◌>>=◌}
+use Rattle.heyvl_parse.specs.readers.ReadParts.{Bad, Got, Out, Read, is_mark, mapped, one, operator_of, ◌>>=◌}
 use Rattle.heyvl_syntax.specs.Productions.{extent}
 use Rattle.heyvl_syntax.specs.contracts.keys.Key.{the_type as the_keys}
 use Rattle.heyvl_syntax.specs.declared.keys.Key.{Key}

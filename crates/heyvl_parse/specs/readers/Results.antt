@@ -1,5 +1,5 @@
 -- What a function of the parser returns, against what reading gives.
-use Rattle.heyvl_parse.specs.readers.Reading.{Bad, Got, Read}
+use Rattle.heyvl_parse.specs.readers.ReadParts.{Bad, Got, Read}
 use Rattle.heyvl_parse.specs.declared.stops.PartStop.TheVariants.{Fault, Memory}
 use Rattle.heyvl_parse.specs.declared.stops.PartStop.{PartStop}
 use Rattle.heyvl_syntax.specs.declared.tokens.Token.{Token}

@@ -10,7 +10,7 @@ use Rattle.heyvl_replies.specs.FileReplies.{IsAnsweredWhole, IsTypedReply}
 use Rattle.heyvl_replies.specs.Messages.{Reply, answered}
 use Rattle.heyvl_types.specs.Files.{first_fault, resolved}
 use Rattle.std.specs.Prelude.{List, None, ◌≡◌, ℕ}
-use Rattle.verify_core.specs.Answered.{IsAnswered as AreAnswered}
+use Rattle.verify_core.specs.AnsweredProcedures.{IsAnswered as AreAnswered}
 use Rattle.verify_core.specs.Headline.{IsHeadline}
 
 -- The certificates of the proved goals of a file that has become these typed procedures: the answers are those of `verify`, they

@@ -4,7 +4,7 @@ use Rattle.goal_answers.specs.declared.trees.GoalCert.{GoalCert}
 use Rattle.heylo_formula.specs.declared.goals.GoalId.TheVariants.{Invariant, Main, Post, Pre, Ranking}
 use Rattle.heylo_formula.specs.declared.values.Val.{Val}
 use Rattle.heyvl_acts.specs.Acts.{TypedProcedure, procedure_at}
-use Rattle.heyvl_num.specs.Extended.{value_of}
+use Rattle.heyvl_num.specs.ExtendedNumbers.{value_of}
 use Rattle.heyvl_num.specs.Value.{Value}
 use Rattle.heyvl_syntax.specs.Procedures.{Procedure}
 use Rattle.heyvl_syntax.specs.SourceFaults.{IsSource}
@@ -28,7 +28,7 @@ use Prim.Native.Nat.{suc, zero}
 use Rattle.verdict_report.specs.declared.answers.Answer.{Answer}
 use Rattle.verdict_report.specs.declared.answers.Verdict.TheVariants as verdict
 use Rattle.verdict_report.specs.declared.answers.Verdict.{Verdict}
-use Rattle.verify_core.specs.Answered.{IsAnswered as AreAnswered}
+use Rattle.verify_core.specs.AnsweredProcedures.{IsAnswered as AreAnswered}
 use Rattle.verify_core.specs.Headline.{IsHeadline}
 
 -- ---- Where the runs start

@@ -16,7 +16,7 @@ use Rattle.lower_rules.specs.declared.remainder_answers.Remainder.{Remainder}
 use Rattle.lower_texts.specs.RemainderTexts.{IsRemainderText}
 use Rattle.std.specs.Prelude.{List, None, Some, ◌≡◌, ◌⊎◌, ℕ}
 use Rattle.verdict_report.specs.declared.answers.Answer.{Answer}
-use Rattle.verify_core.specs.Answered.{IsAnswered as AreAnswered}
+use Rattle.verify_core.specs.AnsweredProcedures.{IsAnswered as AreAnswered}
 
 -- The line on an answer, with its status.
 abbrev pub remainder_reply : Remainder → List ℕ → Reply

@@ -9,7 +9,7 @@ use Rattle.heyvl_replies.specs.Messages.{Reply, answered}
 use Rattle.heyvl_types.specs.Files.{first_fault, resolved}
 use Rattle.std.specs.Prelude.{List, None, ◌≡◌, ℕ}
 use Rattle.verdict_report.specs.Reports.{report_text}
-use Rattle.verify_core.specs.Answered.{IsAnswered as AreAnswered}
+use Rattle.verify_core.specs.AnsweredProcedures.{IsAnswered as AreAnswered}
 use Rattle.verify_core.specs.Headline.{IsHeadline}
 
 -- The report on a file with these bytes, which has become these typed procedures: the answers are those of their goals, they keep

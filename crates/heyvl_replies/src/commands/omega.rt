@@ -7,9 +7,9 @@ ghost use Rattle.heyvl_replies.specs.commands.Omega.{IsOmegaOf, IsOmegaReply, Om
 ghost use Rattle.std.specs.Prelude.{IfOk, length, ◌<◌, ◌≡◌, ◌≤◌};
 
 use crate::Fault;
+use crate::procedure_commands::procedures::procedure_named;
+use crate::procedure_commands::replies::no_procedure;
 use crate::responses::{Response, Text, message, refused, stated};
-use crate::running::procedures::procedure_named;
-use crate::running::replies::no_procedure;
 use heyvl_acts::Typed;
 use heyvl_files::{spelling_is_unique, typed_source};
 use heyvl_syntax::sources_have_no_fault;

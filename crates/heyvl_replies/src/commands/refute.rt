@@ -19,9 +19,13 @@ ghost use Rattle.std.specs.Prelude.{IfOk, List, Some, length, true, ◌<◌, ◌
 
 use crate::Fault;
 use crate::commands::run::{run_fault, run_text};
+use crate::procedure_commands::procedures::{
+    first_no_program, is_coproc, procedure, procedure_named,
+};
+use crate::procedure_commands::replies::{
+    known_at, no_coproc, no_procedure, no_program, script_fault,
+};
 use crate::responses::{Response, Text, refused};
-use crate::running::procedures::{first_no_program, is_coproc, procedure, procedure_named};
-use crate::running::replies::{known_at, no_coproc, no_procedure, no_program, script_fault};
 use crate::statuses::fault_status;
 use heylo_formula::{GoalId, Val};
 use heyvl_acts::Typed;

@@ -12,9 +12,9 @@ ghost use Rattle.run_script.specs.Scripts.{Spells};
 ghost use Rattle.std.specs.Prelude.{IfOk, List, Some, length, ◌<◌, ◌≡◌, ◌≤◌, ℕ};
 
 use crate::Fault;
+use crate::procedure_commands::procedures::{first_no_program, procedure, procedure_named};
+use crate::procedure_commands::replies::{known_at, no_procedure, no_program, script_fault};
 use crate::responses::{Response, Text, message, refused};
-use crate::running::procedures::{first_no_program, procedure, procedure_named};
-use crate::running::replies::{known_at, no_procedure, no_program, script_fault};
 use heyvl_acts::Typed;
 use heyvl_files::{spelling_is_unique, typed_source};
 use heyvl_syntax::sources_have_no_fault;

@@ -1,6 +1,6 @@
 -- What is answered where a file isn't read to its end, as the program holds the cause.
-use Rattle.heyvl_io.specs.declared.reading.ReadStop.TheVariants as reads
-use Rattle.heyvl_io.specs.declared.reading.ReadStop.{ReadStop}
+use Rattle.heyvl_io.specs.declared.reader.ReadStop.TheVariants as reads
+use Rattle.heyvl_io.specs.declared.reader.ReadStop.{ReadStop}
 use Rattle.heyvl_replies.specs.Messages.{Reply}
 use Rattle.heyvl_tool.specs.Calls.{file_too_long, read_fault}
 use Rattle.std.specs.Prelude.{◌≡◌, ℕ}

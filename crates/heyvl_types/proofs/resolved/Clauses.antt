@@ -10,7 +10,7 @@ use Rattle.heylo_formula.specs.Variables.{IsOver, is_free}
 use Rattle.heylo_formula.specs.declared.types.Ty.{Ty}
 use Rattle.heyvl_acts.specs.Acts.{type_list}
 use Rattle.heyvl_acts.specs.Rules.{Each}
-use Rattle.heyvl_acts.specs.WellTyped.{IsHeld}
+use Rattle.heyvl_acts.specs.WellTypedActs.{IsHeld}
 use Rattle.heyvl_num.specs.Gcd.{gcd, gcd_steps}
 use Rattle.heyvl_num.specs.Rational.{leqʳ, ratio, zeroʳ}
 use Rattle.heyvl_num.specs.Value.Value.{infinite}

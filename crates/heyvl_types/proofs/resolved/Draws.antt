@@ -7,7 +7,7 @@ use Rattle.heylo_formula.specs.Typing.{NumberType, TermFits, Types, constant_typ
 use Rattle.heylo_formula.specs.declared.types.Ty.{Ty}
 use Rattle.heyvl_acts.specs.Rules.{Each}
 use Rattle.heyvl_acts.specs.Tosses.{flip_parts}
-use Rattle.heyvl_acts.specs.WellTyped.{DrawFits, IsProbability, PartsFit}
+use Rattle.heyvl_acts.specs.WellTypedActs.{DrawFits, IsProbability, PartsFit}
 use Rattle.heyvl_num.proofs.exported.Integers.{*ℤ-one}
 use Rattle.heyvl_num.proofs.exported.Rationals.{leq_ratio, ratio_den, ratio_nonnegative}
 use Rattle.heyvl_num.proofs.exported.Signs.{difference_nonnegative}

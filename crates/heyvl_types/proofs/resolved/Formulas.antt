@@ -12,7 +12,7 @@ use Rattle.heyvl_types.specs.Scopes.{Scope}
 use Rattle.heyvl_types.specs.StatementActs.{condition, form}
 use Rattle.heyvl_types.specs.Table.{Meaning, meets}
 use Rattle.heyvl_types.specs.TypedExpressions.{closed_findings, elaborate, findings, has_quantifier, lacks}
-use Rattle.heyvl_acts.specs.WellTyped.{IsHeld}
+use Rattle.heyvl_acts.specs.WellTypedActs.{IsHeld}
 use Rattle.heyvl_types.specs.declared.demands.Demand.{Demand}
 use Rattle.heyvl_types.specs.declared.demands.Front.{Front}
 use Rattle.std.proofs.Common.{None, Option, Some, [], false, refl, subst, sym, true, ◌≡◌, ℕ}

@@ -6,7 +6,7 @@ use Rattle.heylo_formula.specs.declared.types.Ty.{Ty}
 use Rattle.heyvl_syntax.specs.Expressions.{Expression}
 use Rattle.heyvl_syntax.specs.declared.types.TypeName.{TypeName}
 use Rattle.heyvl_types.proofs.TypedMeanings.{become, found_with, given_some, map_some, never}
-use Rattle.heyvl_types.proofs.resolved.Spreading.{Fails, Spreads, fails_bracket, fails_choice, fails_embedding, fails_extended, fails_literal, fails_operated, fails_unary}
+use Rattle.heyvl_types.proofs.resolved.PartTests.{Fails, Spreads, fails_bracket, fails_choice, fails_embedding, fails_extended, fails_literal, fails_operated, fails_unary}
 use Rattle.heyvl_types.specs.Scopes.{Scope, find, with_local}
 use Rattle.heyvl_types.specs.Table.{Meaning, bound, bracket, choice, declarable, embedding, given, quantified, unary, variable, variable_of}
 use Rattle.heyvl_types.specs.TypedExpressions.{elaborate, operated}

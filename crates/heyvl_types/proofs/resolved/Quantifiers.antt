@@ -5,7 +5,7 @@ use Rattle.heyvl_syntax.specs.declared.types.TypeName.{TypeName}
 use Rattle.heyvl_types.proofs.TypedMeanings.{become, given_some, map_some}
 use Rattle.heyvl_types.proofs.resolved.Findings.{back_none, front_none}
 use Rattle.heyvl_types.proofs.resolved.Nodes.{own_kept}
-use Rattle.heyvl_types.proofs.resolved.Spreading.{Fails, Spreads, fails_bracket, fails_choice, fails_embedding, fails_literal, fails_operated, fails_unary}
+use Rattle.heyvl_types.proofs.resolved.PartTests.{Fails, Spreads, fails_bracket, fails_choice, fails_embedding, fails_literal, fails_operated, fails_unary}
 use Rattle.heyvl_types.specs.Scopes.{Scope, find}
 use Rattle.heyvl_types.specs.Table.{Meaning, bracket, choice, embedding, given, unary, variable, variable_of}
 use Rattle.heyvl_types.specs.TypedExpressions.{closed_findings, elaborate, has_quantifier, operated}

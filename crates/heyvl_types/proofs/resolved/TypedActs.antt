@@ -2,7 +2,7 @@
 use Rattle.heylo_formula.specs.Typing.{Types}
 use Rattle.heyvl_acts.specs.Acts.{TypedProcedure, types_of, variables}
 use Rattle.heyvl_acts.specs.Rules.{CallFits, Each, GuardsFit, IsTypedAct, LoopFits, RankFits}
-use Rattle.heyvl_acts.specs.WellTyped.{IsHeld}
+use Rattle.heyvl_acts.specs.WellTypedActs.{IsHeld}
 use Rattle.heyvl_places.specs.declared.spans.Span.{Span}
 use Rattle.heyvl_syntax.specs.Expressions.{Expression}
 use Rattle.heyvl_syntax.specs.Statements as text

@@ -1,7 +1,7 @@
 -- The next term of the difference of two lists.
 use Rattle.std.specs.Prelude.{◌≡◌, ℕ, ◌<◌, ◌≤◌, ◌+◌, List, ℤ, drop, length}
 use Rattle.linear_rows.specs.Terms.{IsNormal, put_term}
-use Rattle.linear_dominance.specs.Dominated.{less}
+use Rattle.linear_dominance.specs.DominatedRows.{less}
 
 -- The term (v, c) comes first from the places i and j, and k and l are the places after it.
 pub record IsNextLess (ts : List (ℕ × ℤ)) (i : ℕ) (us : List (ℕ × ℤ)) (j v : ℕ) (c : ℤ) (k l : ℕ) : Type 0 where

@@ -6,8 +6,8 @@ use Rattle.linear_rows.specs.GreedyPoint.{IsGreedyPoint}
 use Rattle.linear_elim.specs.Elimination.{Step}
 use Rattle.linear_elim.specs.ChoiceNumbers.{IsChoiceTooGreat}
 use Rattle.linear_elim.specs.Answers.{MeetsAll, AreNarrow, IsBreak}
-use Rattle.linear_elim.specs.declared.choosing.Choice.{Choice}
-use Rattle.linear_elim.specs.declared.choosing.Choice.TheVariants.{Point, Break, Great}
+use Rattle.linear_elim.specs.declared.choices.Choice.{Choice}
+use Rattle.linear_elim.specs.declared.choices.Choice.TheVariants.{Point, Break, Great}
 
 abbrev pub IsChosen : List Row → List Ty → List Step → Choice → Type 0
 IsChosen rows vars steps (Point point) = IsGreedyPoint rows vars point.items × MeetsAll point.items rows × AreNarrow point.items

@@ -2,7 +2,7 @@
 use Rattle.linear_elim.specs.Joins.{Derived, is_above_zero}
 use Rattle.linear_rows.specs.Combination.{row_at}
 use Rattle.linear_rows.specs.Divisors.{divisor, divided_terms}
-use Rattle.linear_rows.specs.Merging.{are_narrow}
+use Rattle.linear_rows.specs.TermResults.{are_narrow}
 use Rattle.linear_rows.specs.Row.{Row, IsRow}
 use Rattle.linear_rows.specs.Terms.{sum_at, IsNormal, is_narrow}
 use Rattle.std.specs.Int.RustNames.{int_div}

@@ -5,7 +5,7 @@ use Rattle.linear_rows.specs.Solutions.{IsSolvable}
 use Rattle.linear_elim.specs.Steps.{undominated}
 use Rattle.linear_elim.specs.Elimination as plain
 use Rattle.linear_elim.specs.Elimination.Rule.{keeps, drops}
-use Rattle.linear_elim.specs.declared.gathering.Gathering.{Gathering}
+use Rattle.linear_elim.specs.declared.gathered_rows.Gathering.{Gathering}
 use Rattle.linear_elim.specs.declared.short_runs.Short as Short
 use Rattle.linear_elim.specs.declared.short_runs.Short.{Short}
 use Rattle.linear_elim.specs.declared.elimination.Outcome.{Outcome}

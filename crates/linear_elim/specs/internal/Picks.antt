@@ -10,8 +10,8 @@ use Rattle.linear_elim.specs.Elimination.{Step}
 use Rattle.linear_elim.specs.ChoiceNumbers.{end_of, end_fits}
 use Rattle.linear_elim.specs.internal.ChoiceSteps.{IsTightest}
 use Rattle.interval_choice.specs.declared.sides.Side.TheVariants.{Low, High}
-use Rattle.interval_choice.specs.declared.picking.Pick.{Pick}
-use Rattle.interval_choice.specs.declared.picking.Pick.TheVariants.{Great}
+use Rattle.interval_choice.specs.declared.picks.Pick.{Pick}
+use Rattle.interval_choice.specs.declared.picks.Pick.TheVariants.{Great}
 use Rattle.interval_choice.specs.Picks.{between, IsPicked}
 
 -- What the step's variable takes next, after these values: an end of the step is too great, or it is taken between its ends.

@@ -1,6 +1,6 @@
 -- Rows whose numbers are small: each number on the way to their join fits.
 use Rattle.linear_elim.specs.Joins.{Derived}
-use Rattle.linear_rows.specs.Merging.{mixed_terms}
+use Rattle.linear_rows.specs.TermResults.{mixed_terms}
 use Rattle.linear_rows.specs.Terms.{IsNormal, put_term}
 use Rattle.std.specs.List.{All}
 use Rattle.std.specs.Prelude.{◌≡◌, ℕ, ◌<◌, ◌≤◌, ◌+◌, ◌^◌, List, ℤ, pos, unsigned_abs, drop, length}

@@ -1,5 +1,5 @@
 -- The next term of two lists that are merged.
-use Rattle.linear_rows.specs.Merging.{merged_terms}
+use Rattle.linear_rows.specs.TermResults.{merged_terms}
 use Rattle.linear_rows.specs.Terms.{IsNormal, put_term}
 use Rattle.std.specs.Prelude.{◌≡◌, ℕ, ◌<◌, ◌≤◌, ◌+◌, List, ℤ, drop, length}
 

@@ -14,7 +14,7 @@ use Rattle.heylo_formula.specs.declared.types.Ty.{Ty}
 use Rattle.heylo_formula.specs.declared.values.Val.{Val}
 use Rattle.heyvl_acts.specs.Acts.{Head, Act, Acts, TypedProcedure, type_list, procedure_at}
 use Rattle.heyvl_acts.specs.Forward.{Post, OfLoops, OfCalls, checked, validated, meant, meant_act}
-use Rattle.heyvl_acts.specs.Modified.{modified}
+use Rattle.heyvl_acts.specs.ModifiedVariables.{modified}
 use Rattle.k_induction.specs.Copies.{must, may, meets}
 use Rattle.run_machine.specs.Configurations.{evaluate}
 

@@ -14,10 +14,10 @@ use Rattle.heylo_formula.specs.Variables.{IsOver}
 use Rattle.heylo_formula.specs.declared.types.Ty.{Ty}
 use Rattle.heylo_formula.specs.declared.values.Val.{Val}
 use Rattle.heyvl_acts.specs.Acts.{Head, Act, Acts, Arms, TypedProcedure, variables, type_list, types_of, acts_in, procedure_at}
-use Rattle.heyvl_acts.specs.Modified.{modified}
+use Rattle.heyvl_acts.specs.ModifiedVariables.{modified}
 use Rattle.heyvl_acts.specs.Rules.{IsOwn, widens_to, ArgumentsFit}
 use Rattle.heyvl_acts.specs.Visible.{Visible, among, interface, Scoped}
-use Rattle.heyvl_acts.specs.WellTyped.{IsHeld, IsProbability, PartsFit}
+use Rattle.heyvl_acts.specs.WellTypedActs.{IsHeld, IsProbability, PartsFit}
 use Rattle.loop_encodings.specs.internal.Contracts.{meaning}
 
 -- ---- Of the visible variables, the acts change these alone

@@ -3,9 +3,9 @@ use Rattle.std.specs.Prelude.{◌≡◌, ◌≤◌, ◌<◌, ◌+◌, ℕ, Bool,
 use Rattle.heyvl_places.specs.declared.spans.Span.{Span}
 use Rattle.heylo_formula.specs.Formula.{Term}
 use Rattle.heylo_formula.specs.PlainTrees.{form_of}
-use Rattle.heylo_formula.specs.Shifted.{extent, shifted}
-use Rattle.heyvl_acts.specs.declared.typed.TProc.{TProc}
-use Rattle.heyvl_acts.specs.declared.typed.VarInfo.{VarInfo}
+use Rattle.heylo_formula.specs.Shifts.{extent, shifted}
+use Rattle.heyvl_acts.specs.declared.typed_trees.TProc.{TProc}
+use Rattle.heyvl_acts.specs.declared.typed_trees.VarInfo.{VarInfo}
 use Rattle.heyvl_acts.specs.Acts.{Act, Acts, Arms, TypedProcedure, Variable, procedure_at, type_list, variables}
 use Rattle.heyvl_acts.specs.PlainActs.{variable_of}
 use Rattle.heyvl_acts.specs.Rules.{GrowBelow}

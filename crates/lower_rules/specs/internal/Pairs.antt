@@ -13,9 +13,9 @@ use Rattle.heyvl_acts.specs.Acts.{Acts, Head, TypedProcedure, procedure_at}
 use Rattle.heyvl_acts.specs.FormSizes.{FormsWithin}
 use Rattle.heyvl_acts.specs.PlainActs.{acts_of, procedure_of, procedures_of}
 use Rattle.heyvl_acts.specs.Rules.{MeetsRules}
-use Rattle.heyvl_acts.specs.declared.typed.TProc.{TProc}
-use Rattle.heyvl_acts.specs.declared.typed.Typed.{Typed}
-use Rattle.heyvl_acts.specs.declared.typed.VarInfo.{VarInfo}
+use Rattle.heyvl_acts.specs.declared.typed_trees.TProc.{TProc}
+use Rattle.heyvl_acts.specs.declared.typed_trees.Typed.{Typed}
+use Rattle.heyvl_acts.specs.declared.typed_trees.VarInfo.{VarInfo}
 use Rattle.region_split.specs.Meanings.{Tells}
 use Rattle.goal_answers.specs.declared.decisions.Decision.{Decision}
 use Rattle.vp_generator.specs.Limits.{IsSmall}

@@ -1,6 +1,6 @@
 -- What is seen of the sum after one number of steps, and what a search has found so far. Private functions alone need this.
 use Rattle.std.specs.Prelude.{◌≡◌, ◌≤◌, ◌<◌, ◌+◌, ℕ, None, Option, Some}
-use Rattle.heyvl_num.specs.Extended.{value_of}
+use Rattle.heyvl_num.specs.ExtendedNumbers.{value_of}
 use Rattle.heyvl_num.specs.Value.{Value, ◌≤ᵛ◌, ◌<ᵛ◌}
 use Rattle.refute_runs.specs.RefutedAnswers.{MayCome}
 use Rattle.refute_runs.specs.Shortages.{IsShort}

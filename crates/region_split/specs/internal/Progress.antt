@@ -4,7 +4,7 @@ use Rattle.std.specs.Prelude.{◌≡◌, ◌⊎◌, ℕ, ◌+◌, ◌≤◌, ◌
 use Rattle.std.specs.List.{All}
 use Rattle.heylo_formula.specs.Goals.{Goal}
 use Rattle.heylo_formula.specs.TypedGoals.{IsTypedGoal}
-use Rattle.region_split.specs.internal.Seen.{AreRowsAt, IsEndOf}
+use Rattle.region_split.specs.internal.PathFindings.{AreRowsAt, IsEndOf}
 use Rattle.heylo_formula.specs.declared.values.Val.{Val}
 use Rattle.linear_form.specs.Query.{Query, Atom, Taken, onto}
 use Rattle.linear_form.specs.Query.Query.{done, bits, ask}
@@ -20,8 +20,8 @@ use Rattle.goal_answers.specs.Trees.{Tree, tree_of, depth}
 use Rattle.goal_answers.specs.declared.trees.Tree as T
 use Rattle.goal_answers.specs.declared.causes.Broken.{Broken}
 use Rattle.goal_answers.specs.declared.causes.Cause.{Cause}
-use Rattle.linear_form.specs.Asked.{Answers}
-use Rattle.linear_form.specs.declared.asking.Ask as K
+use Rattle.linear_form.specs.AskAnswers.{Answers}
+use Rattle.linear_form.specs.declared.questions.Ask as K
 use Rattle.linear_form.specs.Nonlinear.{nonlinear_product}
 use Rattle.linear_form.specs.RowLists.{ArePathRows}
 use Rattle.linear_rows.specs.Row.{Row}
@@ -34,13 +34,13 @@ use Rattle.region_split.specs.WalkTree.{IsWalkTree, IsPieceTree}
 use Rattle.region_split.specs.PathPoints.{Breaks, IsBreakOf}
 use Rattle.region_split.specs.Decisions.{IsCause, IsDecision, IsFirstPoint, IsFirstBreak, IsLookedAt}
 use Rattle.region_split.specs.internal.Trails.{Comes, Stands}
-use Rattle.region_split.specs.declared.found.Found.{Found}
-use Rattle.region_split.specs.declared.found.Found.TheVariants.{Nothing, Break, Point}
+use Rattle.region_split.specs.declared.findings.Found.{Found}
+use Rattle.region_split.specs.declared.findings.Found.TheVariants.{Nothing, Break, Point}
 use Rattle.region_split.specs.declared.cell.Cell.{Cell}
 use Rattle.region_split.specs.declared.cell.Cell.TheVariants.{Judged, Unknown}
 use Rattle.region_split.specs.declared.trail.Trail.{Trail}
-use Rattle.region_split.specs.declared.backing.Up.{Up}
-use Rattle.region_split.specs.declared.backing.Up.TheVariants.{Next, Whole}
+use Rattle.region_split.specs.declared.ascent.Up.{Up}
+use Rattle.region_split.specs.declared.ascent.Up.TheVariants.{Next, Whole}
 use Rattle.region_split.specs.declared.walk.Walk.{Walk}
 use Rattle.region_split.specs.declared.walk.Step.{Step}
 use Rattle.region_split.specs.declared.walk.Step.TheVariants.{On, Asks, Done}

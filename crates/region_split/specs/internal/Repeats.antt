@@ -8,17 +8,17 @@ use Rattle.linear_values.specs.Tightening.{all_tightened}
 use Rattle.linear_form.specs.PathRows.{path_claims}
 use Rattle.linear_form.specs.PlainPaths.{path_of, taken_of, atom_of}
 use Rattle.linear_form.specs.RowLists.{ArePathRows}
-use Rattle.linear_form.specs.Lasting.{IsNoEnd}
+use Rattle.linear_form.specs.LastingPaths.{IsNoEnd}
 use Rattle.linear_form.specs.Cells.{IsKept, GoesOn}
 use Rattle.linear_form.specs.declared.paths.Taken as T
 use Rattle.region_split.specs.internal.Trails.{StandsAt, IsDroppedBy}
-use Rattle.region_split.specs.internal.Seen.{EndsWalk}
+use Rattle.region_split.specs.internal.PathFindings.{EndsWalk}
 use Rattle.region_split.specs.declared.trail.Trail.{Trail}
-use Rattle.region_split.specs.declared.answering.Answered.{Answered}
-use Rattle.region_split.specs.declared.answering.Answered.TheVariants as A
-use Rattle.region_split.specs.declared.answering.AnswerRows.{AnswerRows}
-use Rattle.region_split.specs.declared.answering.Both.{Both}
-use Rattle.region_split.specs.declared.answering.Both.TheVariants as B
+use Rattle.region_split.specs.declared.answer_rows.Answered.{Answered}
+use Rattle.region_split.specs.declared.answer_rows.Answered.TheVariants as A
+use Rattle.region_split.specs.declared.answer_rows.AnswerRows.{AnswerRows}
+use Rattle.region_split.specs.declared.answer_rows.Both.{Both}
+use Rattle.region_split.specs.declared.answer_rows.Both.TheVariants as B
 use Rattle.region_split.specs.declared.repeats.Repeat.{Repeat}
 use Rattle.region_split.specs.declared.repeats.Repeat.TheVariants.{New, Yes, No, Unknown}
 

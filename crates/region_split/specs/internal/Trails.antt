@@ -12,8 +12,8 @@ use Rattle.linear_form.specs.RowLists.{ArePathRows, LackLastRow}
 use Rattle.linear_form.specs.Places.{IsOn}
 use Rattle.linear_guess.specs.Searches.{Remembers}
 use Rattle.linear_form.specs.declared.places.Place.{Place}
-use Rattle.farkas_check.specs.Accepted.{IsRefuted}
-use Rattle.region_split.specs.internal.Known.{AreKnown}
+use Rattle.farkas_check.specs.AcceptedCertificates.{IsRefuted}
+use Rattle.region_split.specs.internal.KnownComparisons.{AreKnown}
 use Rattle.region_split.specs.declared.trail.Way.{Way}
 use Rattle.region_split.specs.declared.trail.Way.TheVariants.{Open, Closed}
 use Rattle.region_split.specs.declared.trail.Trail.{Trail}

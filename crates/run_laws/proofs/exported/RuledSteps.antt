@@ -22,7 +22,7 @@ use Rattle.heyvl_acts.specs.Matching.{taken}
 use Rattle.heyvl_acts.specs.Places.{in_order, inside, inside_arms}
 use Rattle.heyvl_acts.specs.Rules.{Each, IsOwn, HasOwnTargets, IsTypedAct, WeighsOne, MeetsRules}
 use Rattle.heyvl_acts.specs.Tosses.{toss_parts}
-use Rattle.heyvl_acts.specs.WellTyped.{PartsFit, DrawFits}
+use Rattle.heyvl_acts.specs.WellTypedActs.{PartsFit, DrawFits}
 use Rattle.heyvl_acts.proofs.exported.Each.{each_first, each_second, each_two, each_taken}
 use Rattle.heyvl_acts.proofs.exported.Tosses.{toss_fit}
 use Rattle.run_machine.specs.Bound.{IsState}

@@ -10,14 +10,14 @@ use Rattle.std.specs.Int.RustNames.{unsigned_abs}
 use Rattle.std.specs.Prelude.{pos}
 use Prim.Native.Nat.{compare}
 use mathlib.Core.HLevel.{is_prop→PathP}
-use Rattle.heyvl_num.specs.Extended.{value_of}
+use Rattle.heyvl_num.specs.ExtendedNumbers.{value_of}
 use Rattle.heyvl_num.specs.Gcd.{gcd}
 use Rattle.heyvl_num.specs.Rational.{Rational}
 use Rattle.heyvl_num.specs.Value.{Value}
 use Rattle.heyvl_num.specs.Value.Value.{finite, infinite}
-use Rattle.heyvl_num.specs.declared.extended.Ext.{Ext}
+use Rattle.heyvl_num.specs.declared.extended_numbers.Ext.{Ext}
 use Rattle.heyvl_num.specs.contracts.fractions.FracPartialEq.TheImpl as fraction
-use Rattle.heyvl_num.specs.contracts.extended.ExtPartialEq.TheImpl as ext
+use Rattle.heyvl_num.specs.contracts.extended_numbers.ExtPartialEq.TheImpl as ext
 use Rattle.heylo_formula.specs.declared.values.Val.{Val}
 use Rattle.heylo_formula.specs.contracts.values.ValPartialEq.TheImpl as val
 use Rattle.run_machine.specs.declared.configurations.Config as C
@@ -26,7 +26,7 @@ use Rattle.run_machine.specs.contracts.configurations.ConfigPartialEq.TheImpl as
 use Rattle.run_machine.specs.contracts.configurations.FramePartialEq.TheImpl as frame
 use Rattle.run_machine.specs.contracts.configurations.ItemPartialEq.TheImpl as item
 use Rattle.run_machine.specs.Names.{Lists, Numbered, lists_of, stored}
-use Rattle.run_machine.specs.SameStored.{SameIsEqual, same_lists, same_stored, same_value}
+use Rattle.run_machine.specs.SameConfigurations.{SameIsEqual, same_lists, same_stored, same_value}
 
 -- ---- What the tests decide
 

@@ -1,6 +1,6 @@
 -- Procedures whose numbers are in range and whose variables a u32 can count. Private functions alone need this.
 use Rattle.std.specs.Prelude.{◌≤◌, ◌<◌, ◌+◌, ◌^◌, length}
-use Rattle.heyvl_acts.specs.declared.typed.TProc.{TProc}
+use Rattle.heyvl_acts.specs.declared.typed_trees.TProc.{TProc}
 
 pub record IsSmall (p : TProc) : Type 0 where
   pub counted : p.inputs + p.outputs ≤ length p.vars.items

@@ -1,6 +1,6 @@
 -- Bytes spell one script, or have one first fault.
 use Rattle.run_script.proofs.FirstFaults.{no_fault, same_fault}
-use Rattle.run_script.proofs.Going.{same_lines}
+use Rattle.run_script.proofs.NextLines.{same_lines}
 use Rattle.run_script.specs.Lines.{text_lines}
 use Rattle.run_script.specs.ScriptLaws.{FaultsAreUnique, ScriptsAreUnique, ScriptsHaveNoFault}
 

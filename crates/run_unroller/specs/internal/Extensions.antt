@@ -1,7 +1,7 @@
 -- A list of runs that others join. Private functions alone need this.
 use Rattle.std.specs.Prelude.{◌≡◌, ℕ, List, ◌++◌, Option, Some, None}
 use Rattle.heyvl_acts.specs.Acts.{TypedProcedure}
-use Rattle.run_machine.specs.SameStored.{same_stored}
+use Rattle.run_machine.specs.SameConfigurations.{same_stored}
 use Rattle.run_machine.specs.declared.configurations.Decide.{Decide}
 use Rattle.run_unroller.specs.declared.causes.Cause.{Cause}
 use Rattle.run_unroller.specs.declared.causes.Grown.{Grown}

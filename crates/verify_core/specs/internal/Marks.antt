@@ -2,8 +2,8 @@
 use Rattle.std.specs.Prelude.{◌<◌, ℕ, Bool, true, false, List, [], ◌∷◌, Option, Some, None, length, get_or, is_some, if◌then◌else◌}
 use Rattle.heyvl_acts.specs.Acts.{TypedProcedure}
 use Rattle.heyvl_acts.specs.Program.{why_no_program}
-use Rattle.verify_core.specs.Answered.{IsClosed}
-use Rattle.verify_core.specs.Decided.{DecidedGoal, IsOpen}
+use Rattle.verify_core.specs.AnsweredProcedures.{IsClosed}
+use Rattle.verify_core.specs.GoalDecisions.{DecidedGoal, IsOpen}
 use Rattle.verify_core.specs.declared.outcomes.Outcome.{Outcome}
 use Rattle.verify_core.specs.declared.outcomes.Outcome.TheVariants.{Proved, Falsified, Unknown}
 use Rattle.verify_core.specs.declared.outcomes.ProcedureOutcome.{ProcedureOutcome}

@@ -9,7 +9,7 @@ use Rattle.verdict_report.specs.declared.answers.LoopAnswer.{LoopAnswer}
 use Rattle.goal_answers.specs.declared.named_goals.NamedGoal.{NamedGoal}
 use Rattle.verdict_report.specs.declared.answers.RankVerdict.{RankVerdict}
 use Rattle.verdict_report.specs.declared.answers.RankVerdict.TheVariants as rank
-use Rattle.verify_core.specs.Decided.{DecidedGoal, listed}
+use Rattle.verify_core.specs.GoalDecisions.{DecidedGoal, listed}
 use Rattle.verify_core.specs.DecidedRankings.{AreRanked, told_rankings}
 use Rattle.verify_core.specs.Rankings.{ranked_loops}
 use Rattle.verify_core.specs.declared.outcomes.Outcome.{Outcome}

@@ -7,7 +7,7 @@ use Rattle.heyvl_acts.specs.Acts.{TypedProcedure, procedure_at}
 use Rattle.verdict_report.specs.declared.answers.LoopAnswer.{LoopAnswer}
 use Rattle.goal_answers.specs.declared.misses.Miss.{Miss}
 use Rattle.goal_answers.specs.declared.named_goals.NamedGoal.{NamedGoal}
-use Rattle.verify_core.specs.Checked.{CheckedGoal, IsMissOf}
+use Rattle.verify_core.specs.CertifiedGoals.{CheckedGoal, IsMissOf}
 use Rattle.verify_core.specs.CheckedRankings.{AreRankingsAnswered, AreRankingsChecked, IsRankingAnswer}
 use Rattle.verify_core.specs.Rankings.{ranked_loops}
 

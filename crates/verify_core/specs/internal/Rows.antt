@@ -4,14 +4,14 @@ use Rattle.goal_answers.specs.declared.trees.GoalCert.{GoalCert}
 use Rattle.heyvl_acts.specs.Acts.{TypedProcedure, procedure_at}
 use Rattle.heyvl_acts.specs.Rules.{Each}
 use Rattle.loop_encodings.specs.BoundGoals.{bound_goals}
-use Rattle.verify_core.specs.Decided.{AreDecided, DecidedGoal, IsTable, certificates}
+use Rattle.verify_core.specs.GoalDecisions.{AreDecided, DecidedGoal, IsTable, certificates}
 use Rattle.verify_core.specs.DecidedRankings.{AreRankingsDecided, IsRankTable, certified_in_file}
 use Rattle.verify_core.specs.Rankings.{ranked_loops}
 use Rattle.verify_core.specs.declared.outcomes.Outcome.{Outcome}
 use Rattle.verify_core.specs.declared.outcomes.ProcedureOutcome.{ProcedureOutcome}
 use Rattle.verify_core.specs.declared.ranking_outcomes.RankingOutcome.{RankingOutcome}
 use Rattle.verify_core.specs.internal.Outcomes.{AreOutcomes, IsOutcome, IsRankingOutcome, outcome}
-use Rattle.verify_core.specs.internal.Settled.{IsSettled}
+use Rattle.verify_core.specs.internal.SettledGoals.{IsSettled}
 
 -- What comes of the goals of the bound of the procedure with the number p, and the certificates before and after them.
 pub record IsBoundRow (ps : List TypedProcedure) (p : ℕ) (before : List GoalCert) (o : Outcome) (after : List GoalCert) : Type 0 where

@@ -1,6 +1,6 @@
 -- The number that a variable has in a scope in memory.
 use Rattle.std.specs.Prelude.{ℕ, List, [], ◌∷◌}
-use Rattle.vp_generator.specs.Prenexed.{Numbering, renumbered}
+use Rattle.vp_generator.specs.PrenexedForms.{Numbering, renumbered}
 
 -- The numbering, and then the binders of a list with their new numbers, each inside those before it.
 abbrev pub numbered_under : Numbering → List (ℕ × ℕ) → Numbering

@@ -3,7 +3,7 @@ use Rattle.std.proofs.lemmas.Result.{IfOk-equal}
 use Rattle.heyvl_acts.specs.Places.{in_order}
 use Rattle.heyvl_acts.specs.PlainActs.{acts_of}
 use Rattle.act_walks.specs.Lent.{lent}
-use Rattle.act_walks.proofs.Gathering.{inside_if, inside_pick, next_arm_gathered, next_gathered}
+use Rattle.act_walks.proofs.GatheredActs.{inside_if, inside_pick, next_arm_gathered, next_gathered}
 use Rattle.act_walks.proofs.order.+ordering.Goals as goal
 
 pub add_all-loop-act-preserved : goal.add_all-loop-act-preserved

@@ -1,7 +1,7 @@
 use Rattle.std.proofs.Common.{arith, ◌≡◌, ◌++◌, ◌∷◌, Some, decimal}
 use Rattle.std.proofs.lemmas.Grind.{common_steps}
 use Rattle.cert_text.specs.Lines.{multipliers_text}
-use Rattle.cert_text.proofs.Cutting.{cut_after_multiplier}
+use Rattle.cert_text.proofs.TextCuts.{cut_after_multiplier}
 use Rattle.cert_text.proofs.lines.first_multiplier.Goals as goal
 use Rattle.cert_text.proofs.lines.first_multiplier.Goals.{else-space-eq32-via-then-space-eq32+else-least-from, else-space-eq32-via-else-space-eq32}
 

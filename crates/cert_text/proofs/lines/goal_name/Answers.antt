@@ -1,7 +1,7 @@
 use Rattle.std.proofs.Common.{arith, ◌≡◌, ◌<◌, ◌^◌, Some}
 use Rattle.std.proofs.lemmas.Grind.{common_steps}
 use Rattle.cert_text.specs.Lines.{id_text}
-use Rattle.cert_text.proofs.Cutting.{cut_after_number, space_is_no_digit, same_name}
+use Rattle.cert_text.proofs.TextCuts.{cut_after_number, space_is_no_digit, same_name}
 use Rattle.cert_text.proofs.lines.goal_name.Goals as goal
 
 pub returns-in_err-id-clause-only : goal.returns-in_err-id-clause-only

@@ -1,6 +1,6 @@
 use Rattle.std.proofs.Common.{arith, ◌≡◌, ◌<◌, ◌^◌, Some, decimal}
 use Rattle.std.proofs.lemmas.Grind.{common_steps}
-use Rattle.cert_text.proofs.Cutting.{cut_after_number, colon_is_no_digit, same_pair}
+use Rattle.cert_text.proofs.TextCuts.{cut_after_number, colon_is_no_digit, same_pair}
 use Rattle.cert_text.proofs.lines.multiplier.Goals as goal
 use Rattle.cert_text.proofs.lines.multiplier.Goals.{else-multiplier-gt0-via-then-multiplier-gt0+else-multiplier-lt4611686018427387904, else-multiplier-gt0-via-else-multiplier-gt0}
 

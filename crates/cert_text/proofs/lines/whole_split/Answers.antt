@@ -2,7 +2,7 @@ use Rattle.std.proofs.Common.{arith, ap, ◌∙◌, ◌≡◌, ◌<◌, ◌^◌,
 use Rattle.std.proofs.lemmas.Grind.{common_steps}
 use Rattle.std.specs.Fmt.{signed_decimal}
 use Rattle.std.specs.Prelude.{unsigned_abs}
-use Rattle.cert_text.proofs.Cutting.{cut_after_number, space_is_no_digit, same_split}
+use Rattle.cert_text.proofs.TextCuts.{cut_after_number, space_is_no_digit, same_split}
 use Rattle.cert_text.proofs.Decimals.{bits_stand}
 use Rattle.cert_text.proofs.lines.whole_split.Goals as goal
 

@@ -2,8 +2,8 @@ use Rattle.std.proofs.Common.{arith, ◌≡◌, ◌<◌, ◌^◌, ◌∷◌, ℤ
 use Rattle.std.proofs.lemmas.Grind.{common_steps}
 use Rattle.std.specs.Int.{w64}
 use Rattle.cert_text.specs.Lines.{split, plain, whole}
-use Rattle.cert_text.specs.internal.Reading.{state_of, next}
-use Rattle.cert_text.proofs.Answering.{stuck_split, stuck_plain, step_whole, stuck_whole}
+use Rattle.cert_text.specs.internal.ReadStates.{state_of, next}
+use Rattle.cert_text.proofs.EndAnswers.{stuck_split, stuck_plain, step_whole, stuck_whole}
 use Rattle.cert_text.proofs.Decimals.{bits_stand}
 use Rattle.cert_text.proofs.reader.first_line.Goals as goal
 

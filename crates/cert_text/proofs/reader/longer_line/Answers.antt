@@ -1,8 +1,8 @@
 use Rattle.std.proofs.Common.{arith, ◌≡◌, ◌∷◌, Some, None, sym, subst}
 use Rattle.std.proofs.lemmas.Grind.{common_steps}
 use Rattle.cert_text.specs.Lines.{Line}
-use Rattle.cert_text.specs.internal.Reading.{state_of, line_of, next}
-use Rattle.cert_text.proofs.Answering.{stuck_refused}
+use Rattle.cert_text.specs.internal.ReadStates.{state_of, line_of, next}
+use Rattle.cert_text.proofs.EndAnswers.{stuck_refused}
 use Rattle.cert_text.proofs.reader.longer_line.Goals as goal
 
 pub returns-in_default-2 : goal.returns-in_default-2

@@ -1,6 +1,6 @@
-use Rattle.cert_text.specs.internal.Reading.{state_of}
+use Rattle.cert_text.specs.internal.ReadStates.{state_of}
 use Rattle.cert_text.specs.internal.Steps.{IsStep, IsStuck}
-use Rattle.cert_text.proofs.Answering.{IsAnswer, answer_stuck, step_more, step_shrinks}
+use Rattle.cert_text.proofs.EndAnswers.{IsAnswer, answer_stuck, step_more, step_shrinks}
 use Rattle.cert_text.proofs.reader.read_cert.Goals as goal
 
 stopped : (c : goal.After-whole) → IsAnswer c.args.bytes.now c.whole.result

@@ -1,5 +1,5 @@
 use Rattle.std.proofs.Common.{length, ◌+◌, ◌≤◌}
-use Rattle.cert_text.specs.internal.Reading.{state_of}
+use Rattle.cert_text.specs.internal.ReadStates.{state_of}
 use Rattle.cert_text.proofs.Progress.{IsProgress}
 use Rattle.cert_text.proofs.reader.read_cert.Given as goal
 

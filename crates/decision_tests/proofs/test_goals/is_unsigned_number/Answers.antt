@@ -6,7 +6,7 @@ use Rattle.std.specs.Int.{w128}
 use Rattle.std.proofs.lemmas.Int.{to_z-of_z}
 use Rattle.heyvl_num.specs.Rational.{Rational, ratio, zeroʳ, leqʳ}
 use Rattle.heyvl_num.specs.Value.Value.{finite}
-use Rattle.heyvl_num.specs.Extended.{value_of}
+use Rattle.heyvl_num.specs.ExtendedNumbers.{value_of}
 use Rattle.heyvl_num.proofs.exported.Integers.{*ℤ-one, zero_times}
 use Rattle.heyvl_num.proofs.exported.Rationals.{ratio_parts, leq_ratio}
 use Rattle.heylo_formula.specs.Typing.{NumberType, only_if, is_unsigned, constant_type}

@@ -1,4 +1,4 @@
-use Rattle.generated_files.proofs.Writing.{call_written}
+use Rattle.generated_files.proofs.WrittenLines.{call_written}
 use Rattle.generated_files.proofs.texts.write_call.Goals as goal
 
 pub returns : goal.returns

@@ -1,4 +1,4 @@
-use Rattle.generated_files.proofs.Writing.{coin_written}
+use Rattle.generated_files.proofs.WrittenLines.{coin_written}
 use Rattle.generated_files.proofs.texts.write_coin.Goals as goal
 
 pub returns : goal.returns

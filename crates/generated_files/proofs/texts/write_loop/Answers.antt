@@ -1,4 +1,4 @@
-use Rattle.generated_files.proofs.Writing.{loop_written}
+use Rattle.generated_files.proofs.WrittenLines.{loop_written}
 use Rattle.generated_files.proofs.texts.write_loop.Goals as goal
 
 pub returns : goal.returns

@@ -1,4 +1,4 @@
-use Rattle.generated_summary.proofs.Written.{summary_written}
+use Rattle.generated_summary.proofs.WrittenSummary.{summary_written}
 use Rattle.generated_summary.proofs.summaries.summary.Goals as goal
 
 pub returns : goal.returns

@@ -3,7 +3,7 @@ use Rattle.heyvl_parse.proofs.exported.Loops.{by_fuel, loop_done, loop_fails, lo
 use Rattle.heyvl_parse.specs.declared.stops.PartStop.TheVariants.{Fault, Memory}
 use Rattle.heyvl_parse.specs.declared.stops.PartStop.{PartStop}
 use Rattle.heyvl_parse.specs.readers.Combinators.{each}
-use Rattle.heyvl_parse.specs.readers.Reading.{Got, ◌>>=◌}
+use Rattle.heyvl_parse.specs.readers.ReadParts.{Got, ◌>>=◌}
 use Rattle.heyvl_parse.specs.readers.Results.{Fails}
 use Rattle.heyvl_syntax.specs.declared.tokens.Token.{Token}
 use Rattle.guarded_commands.proofs.commands.+commands.Goals as goal

@@ -1,4 +1,4 @@
-use Rattle.heylo_formula.proofs.exported.Shifted.{shifted_value, shifted_value_in, shifted_type, shifted_typed, shifted_binders, shifted_directed, shifted_nodes, shifted_depth, shifted_free, above_shift, shifted_over, extent_within, extent_over, extent_over_in}
+use Rattle.heylo_formula.proofs.exported.Shifts.{shifted_value, shifted_value_in, shifted_type, shifted_typed, shifted_binders, shifted_directed, shifted_nodes, shifted_depth, shifted_free, above_shift, shifted_over, extent_within, extent_over, extent_over_in}
 use Rattle.heylo_formula.proofs.laws.shifting_moves_the_state.Goals as goal
 
 pub returns : goal.returns

@@ -1,7 +1,7 @@
 use Rattle.std.proofs.Common.{arith, map, ap, sym, ◌∙◌}
 use Rattle.heyvl_acts.specs.Acts.{Act}
 use Rattle.heyvl_acts.specs.PlainActs.{act_of, acts_of, arm_of, arms_of}
-use Rattle.heyvl_acts.proofs.Copying.{branched, all_arms}
+use Rattle.heyvl_acts.proofs.IfCopies.{branched, all_arms}
 use Rattle.heyvl_acts.proofs.exported.PlainActsAre.{if_act}
 use Rattle.heyvl_acts.proofs.acts.+copying.Goals as goal
 

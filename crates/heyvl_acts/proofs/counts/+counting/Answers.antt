@@ -3,7 +3,7 @@ use Rattle.heyvl_acts.proofs.CountsLeft.{acts_left, arms_left, capped_self, if_c
 use Rattle.heyvl_acts.proofs.counts.+counting.Goals as goal
 use Rattle.heyvl_acts.proofs.exported.PlainActsAre.{call_act}
 use Rattle.heyvl_acts.specs.Count.{count_of, count_of_act, count_of_copies}
-use Rattle.heyvl_acts.specs.Modified.{modified}
+use Rattle.heyvl_acts.specs.ModifiedVariables.{modified}
 use Rattle.heyvl_acts.specs.PlainActs.{act_of, acts_of}
 use Rattle.std.proofs.Common.{ap, arith, length, refl, rules, sym, ◌+◌, ◌∙◌, ◌≡◌}
 use Rattle.std.proofs.lemmas.List.{length-map}

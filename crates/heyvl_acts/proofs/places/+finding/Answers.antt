@@ -1,6 +1,6 @@
 use Rattle.heyvl_acts.specs.PlainActs.{acts_of}
 use Rattle.heyvl_acts.specs.Places.{in_order}
-use Rattle.heyvl_acts.proofs.Finding.{act_found, act_past, arm_found, arm_past, if_start, pick_start, found_first, past_first, finds_rest}
+use Rattle.heyvl_acts.proofs.ActsAtPlaces.{act_found, act_past, arm_found, arm_past, if_start, pick_start, found_first, past_first, finds_rest}
 use Rattle.heyvl_acts.proofs.places.+finding.Goals as goal
 
 pub among-returns-in-Ok : goal.among-returns-in-Ok

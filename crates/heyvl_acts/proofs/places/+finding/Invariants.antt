@@ -1,8 +1,8 @@
 use Rattle.heyvl_acts.proofs.places.+finding.Given as goal
-use Rattle.heyvl_acts.proofs.Finding.{acts_from, arms_from}
+use Rattle.heyvl_acts.proofs.ActsAtPlaces.{acts_from, arms_from}
 use Rattle.heyvl_acts.specs.PlainActs.{act_of, acts_of}
 use Rattle.heyvl_acts.specs.Places.{in_order, inside}
-use Rattle.heyvl_acts.specs.internal.Finding.{Behind}
+use Rattle.heyvl_acts.specs.internal.PlaceWalks.{Behind}
 
 -- The place is in the rest, by the number that is left.
 abbrev pub invariant-among-loop-act : goal.invariant-among-loop-act

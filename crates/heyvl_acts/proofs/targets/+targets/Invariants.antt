@@ -1,6 +1,6 @@
 use Rattle.heyvl_acts.proofs.TargetSteps.{arms_from}
 use Rattle.heyvl_acts.proofs.targets.+targets.Given as goal
-use Rattle.heyvl_acts.specs.Modified.{is_target_of, is_target_of_act}
+use Rattle.heyvl_acts.specs.ModifiedVariables.{is_target_of, is_target_of_act}
 use Rattle.heyvl_acts.specs.PlainActs.{act_of, acts_of}
 use Rattle.std.proofs.Common.{drop, ◌≡◌}
 

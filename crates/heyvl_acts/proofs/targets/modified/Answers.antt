@@ -1,6 +1,6 @@
 use Rattle.heyvl_acts.proofs.TargetSteps.{modified_count}
 use Rattle.heyvl_acts.proofs.targets.modified.Goals as goal
-use Rattle.heyvl_acts.specs.Modified.{is_target_of}
+use Rattle.heyvl_acts.specs.ModifiedVariables.{is_target_of}
 use Rattle.heyvl_acts.specs.PlainActs.{acts_of}
 use Rattle.std.proofs.Common.{rules, sym, ◌∙◌, ◌≡◌}
 use Rattle.std.specs.Prelude.{count_by}

@@ -1,4 +1,4 @@
-use Rattle.heyvl_io.proofs.Starting.{order_after-next, order_after-other}
+use Rattle.heyvl_io.proofs.StartOrder.{order_after-next, order_after-other}
 use Rattle.heyvl_io.proofs.order_laws.names_in_order.Goals as goal
 
 pub returns-clause-next : goal.returns-clause-next

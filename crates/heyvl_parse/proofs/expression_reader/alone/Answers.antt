@@ -1,6 +1,6 @@
 use Rattle.heyvl_parse.proofs.WholeLaws.{ended_bad, ended_fails, ended_good}
 use Rattle.heyvl_parse.proofs.expression_reader.alone.Goals as goal
-use Rattle.heyvl_parse.specs.readers.Reading.{expr}
+use Rattle.heyvl_parse.specs.readers.ReadParts.{expr}
 use Rattle.heyvl_syntax.specs.Expressions.{expression}
 use Rattle.std.proofs.Common.{arith, refl}
 use Rattle.std.proofs.lemmas.Grind.{common_steps}

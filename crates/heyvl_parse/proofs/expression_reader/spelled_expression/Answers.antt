@@ -1,7 +1,7 @@
 use Rattle.heyvl_parse.proofs.RightLaws.{expr_laws}
 use Rattle.heyvl_parse.proofs.WholeLaws.{ended_laws, fault_clause, found_clause}
 use Rattle.heyvl_parse.proofs.expression_reader.spelled_expression.Goals as goal
-use Rattle.heyvl_parse.specs.internal.ExpressionReading.{only_expr}
+use Rattle.heyvl_parse.specs.internal.ExpressionReaders.{only_expr}
 use Rattle.heyvl_syntax.specs.Expressions.{expression}
 use Rattle.heyvl_syntax.specs.Grammar.{IsFull}
 

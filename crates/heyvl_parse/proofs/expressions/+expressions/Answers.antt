@@ -1,10 +1,10 @@
 use Rattle.heyvl_parse.proofs.Choices.{choice_is}
-use Rattle.heyvl_parse.proofs.Climbing.{climb_ends, climb_on, climb_stops, full_climbed, leads_first, next_within, passed}
+use Rattle.heyvl_parse.proofs.RankClimbs.{climb_ends, climb_on, climb_stops, full_climbed, leads_first, next_within, passed}
 use Rattle.heyvl_parse.proofs.Fuel.{by_fuel}
 use Rattle.heyvl_parse.proofs.TypedNames.{bound_by}
 use Rattle.heyvl_parse.proofs.expressions.+expressions.Goals as goal
 use Rattle.std.proofs.Common.{Bor, Box, Err, Global, List, Ok, arith, refl, suc}
-use Rattle.heyvl_parse.specs.readers.Reading.{reading}
+use Rattle.heyvl_parse.specs.readers.ReadParts.{reading}
 use Rattle.heyvl_parse.specs.readers.Results.{Gives}
 use Rattle.heyvl_syntax.proofs.exported.PlainTreesAre.{plain_expressions}
 use Rattle.heyvl_syntax.specs.Expressions.{expression}

@@ -1,4 +1,4 @@
-use Rattle.heyvl_parse.proofs.Climbing.{Leads}
+use Rattle.heyvl_parse.proofs.RankClimbs.{Leads}
 use Rattle.heyvl_parse.proofs.expressions.+expressions.Given as goal
 use Rattle.heyvl_syntax.specs.Expressions.{expression}
 use Rattle.heyvl_syntax.specs.declared.expressions.Expr.{Expr}

@@ -1,6 +1,6 @@
 use Rattle.heyvl_parse.proofs.WholeLaws.{ended_bad, ended_fails, ended_good}
 use Rattle.heyvl_parse.proofs.file_reader.file.Goals as goal
-use Rattle.heyvl_parse.specs.internal.FileReading.{procs}
+use Rattle.heyvl_parse.specs.internal.FileReaders.{procs}
 use Rattle.heyvl_parse.specs.internal.Statements.{braced, stmts}
 use Rattle.heyvl_syntax.specs.Procedures.{procedure as tree_of}
 use Rattle.std.proofs.Common.{arith, map, refl}

@@ -1,7 +1,7 @@
 use Rattle.heyvl_parse.proofs.EachLoop.{loop_done, loop_fails, loop_init, loop_more}
 use Rattle.heyvl_parse.proofs.file_reader.procs.Goals as goal
 use Rattle.heyvl_parse.specs.internal.Statements.{braced, stmts}
-use Rattle.heyvl_parse.specs.internal.FileReading.{begins, procs}
+use Rattle.heyvl_parse.specs.internal.FileReaders.{begins, procs}
 use Rattle.heyvl_parse.specs.internal.Procedures.{procedure}
 use Rattle.heyvl_syntax.specs.Procedures.{procedure as tree_of}
 use Rattle.std.proofs.Common.{arith, map, sym}

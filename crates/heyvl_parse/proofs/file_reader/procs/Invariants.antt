@@ -1,7 +1,7 @@
 use Rattle.heyvl_parse.proofs.EachLoop.{Rest}
 use Rattle.heyvl_parse.proofs.file_reader.procs.Given as goal
 use Rattle.heyvl_parse.specs.internal.Statements.{braced, stmts}
-use Rattle.heyvl_parse.specs.internal.FileReading.{begins, procs}
+use Rattle.heyvl_parse.specs.internal.FileReaders.{begins, procs}
 use Rattle.heyvl_parse.specs.internal.Procedures.{procedure}
 use Rattle.heyvl_syntax.specs.Procedures.{procedure as tree_of}
 use Rattle.std.proofs.Common.{length, map, ◌<◌, ◌≤◌, ℕ}

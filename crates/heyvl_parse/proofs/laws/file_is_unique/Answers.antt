@@ -3,7 +3,7 @@ use Rattle.heyvl_parse.proofs.FileLaws.{file_laws}
 use Rattle.heyvl_parse.proofs.WholeLaws.{read_unique}
 use Rattle.heyvl_parse.proofs.laws.file_is_unique.Goals as goal
 use Rattle.heyvl_parse.specs.internal.Statements.{braced, stmts}
-use Rattle.heyvl_parse.specs.internal.FileReading.{file}
+use Rattle.heyvl_parse.specs.internal.FileReaders.{file}
 use Rattle.heyvl_syntax.specs.Grammar.{IsFile}
 
 pub returns : goal.returns

@@ -1,5 +1,5 @@
 use Rattle.heyvl_parse.proofs.limits.overload_at.Given as goal
-use Rattle.heyvl_parse.specs.internal.Counting.{IsCounted, counts_of}
+use Rattle.heyvl_parse.specs.internal.HeldCounts.{IsCounted, counts_of}
 use Rattle.heyvl_syntax.specs.Load.{loads, overload}
 use Rattle.std.proofs.Common.{drop, ltb, ◌+◌, ◌≡◌, ◌≤◌}
 use Rattle.std.specs.List.{position_or_len}

@@ -1,7 +1,7 @@
 use Rattle.heyvl_parse.proofs.EachLoop.{loop_done, loop_fails, loop_first, loop_more}
 use Rattle.heyvl_parse.proofs.lists.expressions.Goals as goal
 use Rattle.heyvl_parse.specs.readers.Combinators.{lead, list}
-use Rattle.heyvl_parse.specs.readers.Reading.{expr, is_mark}
+use Rattle.heyvl_parse.specs.readers.ReadParts.{expr, is_mark}
 use Rattle.heyvl_syntax.specs.Expressions.{expression, expressions}
 use Rattle.heyvl_syntax.specs.declared.marks.Mark.TheVariants as marks
 use Rattle.std.proofs.Common.{arith, sym}

@@ -1,7 +1,7 @@
 use Rattle.heyvl_parse.proofs.EachLoop.{Rest}
 use Rattle.heyvl_parse.proofs.lists.expressions.Given as goal
 use Rattle.heyvl_parse.specs.readers.Combinators.{lead, list}
-use Rattle.heyvl_parse.specs.readers.Reading.{expr, is_mark}
+use Rattle.heyvl_parse.specs.readers.ReadParts.{expr, is_mark}
 use Rattle.heyvl_syntax.specs.Expressions.{expressions}
 use Rattle.heyvl_syntax.specs.declared.marks.Mark.TheVariants as marks
 use Rattle.std.proofs.Common.{length, ◌<◌, ℕ}

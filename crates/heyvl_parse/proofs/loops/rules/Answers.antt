@@ -1,7 +1,7 @@
 use Rattle.heyvl_parse.proofs.EachLoop.{loop_done, loop_fails, loop_init, loop_more}
 use Rattle.heyvl_parse.proofs.loops.rules.Goals as goal
 use Rattle.heyvl_parse.specs.internal.Loops.{rule, rules}
-use Rattle.heyvl_parse.specs.readers.Reading.{is_mark}
+use Rattle.heyvl_parse.specs.readers.ReadParts.{is_mark}
 use Rattle.heyvl_syntax.specs.Statements.{loop_rule, loop_rules}
 use Rattle.heyvl_syntax.specs.declared.marks.Mark.TheVariants as marks
 use Rattle.std.proofs.Common.{arith, sym}

@@ -1,7 +1,7 @@
 use Rattle.heyvl_parse.proofs.EachLoop.{Rest}
 use Rattle.heyvl_parse.proofs.loops.rules.Given as goal
 use Rattle.heyvl_parse.specs.internal.Loops.{rule, rules}
-use Rattle.heyvl_parse.specs.readers.Reading.{is_mark}
+use Rattle.heyvl_parse.specs.readers.ReadParts.{is_mark}
 use Rattle.heyvl_syntax.specs.Statements.{loop_rules}
 use Rattle.heyvl_syntax.specs.declared.marks.Mark.TheVariants as marks
 use Rattle.std.proofs.Common.{length, ◌<◌, ◌≤◌, ℕ}

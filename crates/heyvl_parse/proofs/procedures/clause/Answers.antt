@@ -1,5 +1,5 @@
-use Rattle.heyvl_parse.specs.readers.Reading.{expr}
-use Rattle.heyvl_parse.proofs.Followed.{beside_gives, beside_shorter}
+use Rattle.heyvl_parse.specs.readers.ReadParts.{expr}
+use Rattle.heyvl_parse.proofs.SequelLaws.{beside_gives, beside_shorter}
 use Rattle.heyvl_parse.proofs.procedures.clause.Goals as goal
 use Rattle.heyvl_syntax.specs.Expressions.{expression}
 use Rattle.std.proofs.Common.{Bool, arith, length}

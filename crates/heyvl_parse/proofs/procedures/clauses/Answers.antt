@@ -1,6 +1,6 @@
 use Rattle.heyvl_parse.proofs.ClauseLoop.{clauses_done, clauses_fail, clauses_init, clauses_post, clauses_pre}
 use Rattle.heyvl_parse.proofs.procedures.clauses.Goals as goal
-use Rattle.heyvl_parse.specs.readers.Reading.{Got}
+use Rattle.heyvl_parse.specs.readers.ReadParts.{Got}
 use Rattle.heyvl_syntax.specs.Expressions.{expression, expressions}
 use Rattle.std.proofs.Common.{ap, arith, sym, ◌∙◌}
 use Rattle.std.proofs.lemmas.Grind.{common_steps}

@@ -1,4 +1,4 @@
-use Rattle.heyvl_parse.proofs.Followed.{beside_gives, beside_shorter}
+use Rattle.heyvl_parse.proofs.SequelLaws.{beside_gives, beside_shorter}
 use Rattle.heyvl_parse.proofs.procedures.ends.Goals as goal
 use Rattle.heyvl_parse.specs.internal.Procedures.{params}
 use Rattle.heyvl_syntax.specs.declared.procedures.Param.{Param}

@@ -1,4 +1,4 @@
-use Rattle.heyvl_parse.proofs.Followed.{beside_gives, beside_shorter}
+use Rattle.heyvl_parse.proofs.SequelLaws.{beside_gives, beside_shorter}
 use Rattle.heyvl_parse.proofs.procedures.opening.Goals as goal
 use Rattle.heyvl_parse.specs.readers.Combinators.{kind}
 use Rattle.heyvl_parse.specs.internal.Procedures.{proc_of}

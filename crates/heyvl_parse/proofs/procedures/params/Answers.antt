@@ -1,7 +1,7 @@
-use Rattle.heyvl_parse.proofs.Followed.{closed_gives}
+use Rattle.heyvl_parse.proofs.SequelLaws.{closed_gives}
 use Rattle.heyvl_parse.proofs.procedures.params.Goals as goal
 use Rattle.heyvl_parse.specs.readers.Combinators.{sign}
-use Rattle.heyvl_parse.specs.readers.Reading.{is_mark}
+use Rattle.heyvl_parse.specs.readers.ReadParts.{is_mark}
 use Rattle.heyvl_syntax.specs.declared.procedures.Param.{Param}
 use Rattle.heyvl_syntax.specs.declared.marks.Mark.TheVariants as marks
 use Rattle.std.proofs.Common.{Global, Vec, arith}

@@ -1,7 +1,7 @@
-use Rattle.heyvl_parse.proofs.Followed.{beside_gives, beside_short}
+use Rattle.heyvl_parse.proofs.SequelLaws.{beside_gives, beside_short}
 use Rattle.heyvl_parse.proofs.procedures.promise.Goals as goal
 use Rattle.heyvl_parse.specs.readers.Combinators.{optional}
-use Rattle.heyvl_parse.specs.readers.Reading.{is_mark}
+use Rattle.heyvl_parse.specs.readers.ReadParts.{is_mark}
 use Rattle.heyvl_parse.specs.internal.Statements.{braced, stmts}
 use Rattle.heyvl_syntax.specs.Expressions.{expressions}
 use Rattle.heyvl_syntax.specs.Procedures.{optional_block}

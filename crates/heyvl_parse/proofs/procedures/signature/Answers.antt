@@ -1,8 +1,8 @@
-use Rattle.heyvl_parse.proofs.Followed.{beside_gives, beside_shorter}
+use Rattle.heyvl_parse.proofs.SequelLaws.{beside_gives, beside_shorter}
 use Rattle.heyvl_parse.proofs.procedures.signature.Goals as goal
 use Rattle.heyvl_parse.specs.readers.Combinators.{lead}
 use Rattle.heyvl_parse.specs.internal.Procedures.{params}
-use Rattle.heyvl_parse.specs.readers.Reading.{is_mark, pair}
+use Rattle.heyvl_parse.specs.readers.ReadParts.{is_mark, pair}
 use Rattle.heyvl_syntax.specs.declared.marks.Mark.TheVariants as marks
 use Rattle.heyvl_syntax.specs.declared.procedures.Param.{Param}
 use Rattle.std.proofs.Common.{Global, List, Vec, arith, length, ℕ}

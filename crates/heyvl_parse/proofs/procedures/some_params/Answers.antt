@@ -2,7 +2,7 @@ use Rattle.heyvl_parse.proofs.EachLoop.{loop_done, loop_fails, loop_first, loop_
 use Rattle.heyvl_parse.proofs.procedures.some_params.Goals as goal
 use Rattle.heyvl_parse.specs.readers.Combinators.{lead, list}
 use Rattle.heyvl_parse.specs.internal.Procedures.{param}
-use Rattle.heyvl_parse.specs.readers.Reading.{is_mark}
+use Rattle.heyvl_parse.specs.readers.ReadParts.{is_mark}
 use Rattle.heyvl_syntax.specs.declared.marks.Mark.TheVariants as marks
 use Rattle.std.proofs.Common.{arith, sym}
 use Rattle.std.proofs.lemmas.Grind.{common_steps}

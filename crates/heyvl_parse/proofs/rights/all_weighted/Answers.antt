@@ -1,7 +1,7 @@
 use Rattle.heyvl_parse.proofs.EachLoop.{loop_done, loop_fails, loop_first, loop_more}
 use Rattle.heyvl_parse.proofs.rights.all_weighted.Goals as goal
 use Rattle.heyvl_parse.specs.readers.Combinators.{lead, list}
-use Rattle.heyvl_parse.specs.readers.Reading.{is_mark}
+use Rattle.heyvl_parse.specs.readers.ReadParts.{is_mark}
 use Rattle.heyvl_parse.specs.internal.Rights.{weighted}
 use Rattle.heyvl_syntax.specs.Expressions.{expression}
 use Rattle.heyvl_syntax.specs.Statements.{choices}

@@ -1,4 +1,4 @@
-use Rattle.heyvl_parse.proofs.Followed.{beside_gives, beside_shorter}
+use Rattle.heyvl_parse.proofs.SequelLaws.{beside_gives, beside_shorter}
 use Rattle.heyvl_parse.proofs.rights.call.Goals as goal
 use Rattle.heyvl_parse.specs.internal.Rights.{arguments}
 use Rattle.heyvl_syntax.specs.Expressions.{expressions}

@@ -1,7 +1,7 @@
-use Rattle.heyvl_parse.proofs.Followed.{closed_gives}
+use Rattle.heyvl_parse.proofs.SequelLaws.{closed_gives}
 use Rattle.heyvl_parse.proofs.rights.expr_before.Goals as goal
 use Rattle.heyvl_parse.specs.readers.Combinators.{sign}
-use Rattle.heyvl_parse.specs.readers.Reading.{is_mark}
+use Rattle.heyvl_parse.specs.readers.ReadParts.{is_mark}
 use Rattle.heyvl_syntax.specs.Expressions.{expression}
 
 pub returns-clause-value : goal.returns-clause-value

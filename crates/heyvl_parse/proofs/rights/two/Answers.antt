@@ -1,7 +1,7 @@
-use Rattle.heyvl_parse.proofs.Followed.{beside_gives, beside_shorter, parted_by}
+use Rattle.heyvl_parse.proofs.SequelLaws.{beside_gives, beside_shorter, parted_by}
 use Rattle.heyvl_parse.proofs.rights.two.Goals as goal
 use Rattle.heyvl_parse.specs.readers.Combinators.{trail}
-use Rattle.heyvl_parse.specs.readers.Reading.{expr, is_mark}
+use Rattle.heyvl_parse.specs.readers.ReadParts.{expr, is_mark}
 use Rattle.heyvl_syntax.specs.Expressions.{expression}
 use Rattle.heyvl_syntax.specs.declared.marks.Mark.TheVariants as marks
 use Rattle.std.proofs.Common.{arith, length}

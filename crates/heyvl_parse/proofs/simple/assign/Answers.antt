@@ -1,7 +1,7 @@
 use Rattle.heyvl_parse.proofs.simple.assign.Goals as goal
 use Rattle.heyvl_parse.proofs.LeafLaws.{alone_right}
 use Rattle.heyvl_parse.specs.readers.Combinators.{taken}
-use Rattle.heyvl_parse.specs.readers.Reading.{Bad, Got, Out, Read, ◌>>=◌}
+use Rattle.heyvl_parse.specs.readers.ReadParts.{Bad, Got, Out, Read, ◌>>=◌}
 use Rattle.heyvl_parse.specs.internal.Rights.{right}
 use Rattle.heyvl_parse.specs.internal.Statements.{assign_tree, valued}
 use Rattle.heyvl_syntax.specs.Productions.{extent}

@@ -1,7 +1,7 @@
 use Rattle.heyvl_parse.proofs.simple.var.Goals as goal
 use Rattle.heyvl_parse.proofs.TypedNames.{typed_then}
 use Rattle.heyvl_parse.specs.readers.Combinators.{optional}
-use Rattle.heyvl_parse.specs.readers.Reading.{is_mark}
+use Rattle.heyvl_parse.specs.readers.ReadParts.{is_mark}
 use Rattle.heyvl_parse.specs.internal.Statements.{given}
 use Rattle.heyvl_syntax.specs.declared.marks.Mark.TheVariants as marks
 use Rattle.std.proofs.Common.{arith, refl}

@@ -1,10 +1,10 @@
 use Rattle.heyvl_parse.proofs.ChainLoop.{chain_done, chain_fails, chain_first, chain_more}
 use Rattle.heyvl_parse.proofs.EachLoop.{added_fails, loop_added, loop_done, loop_fails, loop_init}
-use Rattle.heyvl_parse.proofs.Followed.{beside_gives, both}
+use Rattle.heyvl_parse.proofs.SequelLaws.{beside_gives, both}
 use Rattle.heyvl_parse.proofs.Fuel.{by_fuel}
 use Rattle.heyvl_parse.proofs.statements.+statements.Goals as goal
 use Rattle.heyvl_parse.specs.readers.Combinators.{added, each}
-use Rattle.heyvl_parse.specs.readers.Reading.{Bad, Got, Out, Read, ◌>>=◌}
+use Rattle.heyvl_parse.specs.readers.ReadParts.{Bad, Got, Out, Read, ◌>>=◌}
 use Rattle.heyvl_parse.specs.readers.Results.{Fails, Gives}
 use Rattle.heyvl_parse.specs.internal.Statements.{braced, branched, entry, is_opening, next_of, skip, stmt, stmts}
 use Rattle.heyvl_parse.specs.declared.stops.PartStop.TheVariants.{Fault, Memory}

@@ -1,6 +1,6 @@
-use Rattle.heyvl_parse.proofs.Followed.{beside_gives, beside_shorter, parted_by}
+use Rattle.heyvl_parse.proofs.SequelLaws.{beside_gives, beside_shorter, parted_by}
 use Rattle.heyvl_parse.proofs.typed_names.typed_name.Goals as goal
-use Rattle.heyvl_parse.specs.readers.Reading.{is_mark, type_name, word}
+use Rattle.heyvl_parse.specs.readers.ReadParts.{is_mark, type_name, word}
 use Rattle.heyvl_syntax.specs.declared.marks.Mark.TheVariants as marks
 use Rattle.heyvl_syntax.specs.declared.types.TypeName.{TypeName}
 use Rattle.std.proofs.Common.{List, arith, length, ℕ}

@@ -1,4 +1,4 @@
-use Rattle.heyvl_types.proofs.LastPassing.{FreeBehind, binds_arm}
+use Rattle.heyvl_types.proofs.LastElement.{FreeBehind, binds_arm}
 use Rattle.heyvl_types.proofs.bindings.binding_arms.Given as goal
 use Rattle.std.proofs.Common.{length}
 

@@ -1,4 +1,4 @@
-use Rattle.heyvl_types.proofs.LastPassing.{binds_one, block_any, last_passes, none_passes}
+use Rattle.heyvl_types.proofs.LastElement.{binds_one, block_any, last_passes, none_passes}
 use Rattle.heyvl_types.proofs.bindings.binding_statements.Goals as goal
 use Rattle.std.proofs.Common.{drop, sym, ◌∙◌}
 

@@ -1,4 +1,4 @@
-use Rattle.heyvl_types.proofs.LastPassing.{FreeBehind, binds_one}
+use Rattle.heyvl_types.proofs.LastElement.{FreeBehind, binds_one}
 use Rattle.heyvl_types.proofs.bindings.binding_statements.Given as goal
 use Rattle.std.proofs.Common.{length}
 

@@ -1,7 +1,7 @@
 use Rattle.heyvl_syntax.proofs.exported.PlainTreesAre.{plain_statements}
 use Rattle.heyvl_syntax.specs.Expressions.{expression}
 use Rattle.heyvl_syntax.specs.Statements.{Statement, arms, block, loop_rules, statement}
-use Rattle.heyvl_types.proofs.Nested.{bound_by_first, bound_by_rest, if_gives, listed_both, loop_stops_body, pick_gives}
+use Rattle.heyvl_types.proofs.NestedStatements.{bound_by_first, bound_by_rest, if_gives, listed_both, loop_stops_body, pick_gives}
 use Rattle.heyvl_types.proofs.ReadRests.{arms_end_read, arms_give, arms_more, block_ends, block_gives, block_more}
 use Rattle.heyvl_types.proofs.blocks.+reading.Goals as goal
 use Rattle.heyvl_types.proofs.blocks.+reading.Goals.{read_arms-else-bound, read_arms-then-bound, read_block-else-bound, read_block-then-bound, read_statement-else-bound, read_statement-else-bound-2, read_statement-then-bound, read_statement-then-bound-2}

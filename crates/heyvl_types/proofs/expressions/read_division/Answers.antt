@@ -1,4 +1,4 @@
-use Rattle.heyvl_types.proofs.Reading.{second_broken}
+use Rattle.heyvl_types.proofs.PartAnswers.{second_broken}
 use Rattle.heyvl_types.proofs.expressions.read_division.Goals as goal
 use Rattle.std.proofs.Common.{rules}
 

@@ -1,9 +1,9 @@
 use Rattle.heyvl_syntax.specs.Procedures.{Procedure}
 use Rattle.heyvl_types.proofs.laws.resolved_files_meet_the_rules.Goals as goal
 use Rattle.heyvl_acts.proofs.exported.ArmedActs.{IsFew, few_armed, few_each}
-use Rattle.heyvl_types.proofs.resolved.Armed.{procedure_armed}
+use Rattle.heyvl_types.proofs.resolved.ArmedTrees.{procedure_armed}
 use Rattle.heyvl_types.proofs.resolved.NamedPosts.{post_named}
-use Rattle.heyvl_types.specs.Armed.{HasArms}
+use Rattle.heyvl_types.specs.ArmedFiles.{HasArms}
 use Rattle.heyvl_types.proofs.resolved.Bodies.{binders_kept, directions_kept, each_act, loops_kept, numbers_kept, scopes_kept}
 use Rattle.heyvl_types.proofs.resolved.Calls.{AreCallees, callees}
 use Rattle.heyvl_types.proofs.resolved.Clauses.{post_directed, post_formula, post_over, pre_held, pre_over}

@@ -1,5 +1,5 @@
 use Rattle.heyvl_syntax.specs.Statements.{optional_right}
-use Rattle.heyvl_types.proofs.Declaring.{not_visible}
+use Rattle.heyvl_types.proofs.NewNames.{not_visible}
 use Rattle.heyvl_types.proofs.statements.read_declaration.Goals as goal
 
 pub returns-clause-kept : goal.returns-clause-kept

@@ -1,7 +1,7 @@
 use Rattle.std.proofs.Common.{◌≡◌, sym, ◌∙◌, rules}
 use Rattle.std.specs.Prelude.{Some}
 use Rattle.heyvl_num.specs.Rational.{compareʳ}
-use Rattle.interval_choice.proofs.Bounded.{the_order}
+use Rattle.interval_choice.proofs.BoundedFractions.{the_order}
 use Rattle.interval_choice.proofs.fractions.order.Goals as goal
 
 pub unwrap-requires : goal.unwrap-requires

@@ -5,7 +5,7 @@ use Rattle.std.proofs.lemmas.Int.{to_z-of_z}
 use Rattle.heyvl_num.specs.Rounding.{whole}
 use Rattle.heyvl_num.specs.Exact.{exact_quotient}
 use Rattle.linear_rows.proofs.exported.Narrow.{same}
-use Rattle.interval_choice.proofs.Bounded.{the_whole}
+use Rattle.interval_choice.proofs.BoundedFractions.{the_whole}
 use Rattle.interval_choice.proofs.fractions.whole_number.Goals as goal
 
 pub unwrap-requires : goal.unwrap-requires

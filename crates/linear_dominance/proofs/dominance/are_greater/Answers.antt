@@ -1,4 +1,4 @@
-use Rattle.linear_dominance.proofs.Walking.{walk_ends, stops_negative, stops_unsigned, goes_signed}
+use Rattle.linear_dominance.proofs.DifferenceWalk.{walk_ends, stops_negative, stops_unsigned, goes_signed}
 use Rattle.std.proofs.Common.{◌≡◌, subst, rules, FitsSigned, true}
 use Rattle.std.specs.Prelude.{pos}
 use Rattle.std.specs.Int.Signed.{lt_z}

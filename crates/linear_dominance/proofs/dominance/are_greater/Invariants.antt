@@ -1,7 +1,7 @@
 use Rattle.std.proofs.Common.{◌≡◌, ◌+◌, ◌-◌, ◌≤◌, drop, length}
 use Rattle.linear_rows.specs.Terms.{IsNormal}
-use Rattle.linear_dominance.specs.Dominated.{less, is_increase}
-use Rattle.linear_dominance.proofs.Walking.{still}
+use Rattle.linear_dominance.specs.DominatedRows.{less, is_increase}
+use Rattle.linear_dominance.proofs.DifferenceWalk.{still}
 use Rattle.linear_dominance.proofs.dominance.are_greater.Given as goal
 
 abbrev pub invariant-loop-i : goal.invariant-loop-i

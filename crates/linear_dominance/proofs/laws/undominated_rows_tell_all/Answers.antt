@@ -1,4 +1,4 @@
-use Rattle.linear_dominance.proofs.Telling.{undominated_tell}
+use Rattle.linear_dominance.proofs.LeftRows.{undominated_tell}
 use Rattle.linear_dominance.proofs.laws.undominated_rows_tell_all.Goals as goal
 
 pub returns : goal.returns

@@ -3,7 +3,7 @@ use Rattle.std.specs.Prelude.{ℤ, negsuc, Some, None}
 use Rattle.heyvl_num.specs.Value.{is_zero_num}
 use Rattle.linear_rows.specs.Row.{Row}
 use Rattle.linear_rows.specs.SameTerms.{same_number, same_terms}
-use Rattle.linear_dominance.specs.Dominated.{first_variable, is_sign_row}
+use Rattle.linear_dominance.specs.DominatedRows.{first_variable, is_sign_row}
 use Rattle.linear_dominance.proofs.signs.sign_of.Goals as goal
 
 not_one : (ts : List (ℕ × ℤ)) (t : ℕ × ℤ) → (length ts ≡ 1 → ⊥) → same_terms ts (t ∷ []) ≡ false

@@ -4,8 +4,8 @@ use Rattle.linear_rows.specs.Terms.{IsOver}
 use Rattle.linear_elim.specs.internal.DerivedRows.{IsDerived}
 use Rattle.linear_elim.specs.internal.Outcomes.{gathering_of, outcome_of}
 use Rattle.linear_elim.specs.Elimination.Rule.{keeps}
-use Rattle.linear_elim.proofs.Finishing.{none_left, ends_found, ends_many, ends_standing, ends_great, goes_on, ends_next}
-use Rattle.linear_elim.proofs.Keeping.{step-derived}
+use Rattle.linear_elim.proofs.FoundEnds.{none_left, ends_found, ends_many, ends_standing, ends_great, goes_on, ends_next}
+use Rattle.linear_elim.proofs.KeptRows.{step-derived}
 use Rattle.linear_elim.proofs.SameRuns.{none_dominated, none_after, step_over, same_found, same_end, same_many, same_great, same_counted, same_kept}
 use Rattle.linear_rows.proofs.exported.SameTerms.{and_true}
 use Rattle.linear_elim.proofs.elimination.+eliminate_from.Goals as goal

@@ -1,6 +1,6 @@
 use Rattle.std.proofs.Common.{◌<◌, ◌^◌, subst, sym, ap, ap₂, ◌∙◌, ◌&&◌, unsigned_abs}
 use Rattle.linear_rows.specs.GreedyPoint.{End}
-use Rattle.interval_choice.proofs.exported.Bounded.{short_num, short_den}
+use Rattle.interval_choice.proofs.exported.BoundedFractions.{short_num, short_den}
 use Rattle.linear_elim.proofs.EndRuns.{Tighter, less_low, less_high, greater_low, greater_high, equal_made, places_less, places_equal, places_greater}
 use Rattle.linear_elim.proofs.ends.tighter.Goals as goal
 

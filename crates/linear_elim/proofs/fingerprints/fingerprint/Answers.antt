@@ -4,8 +4,8 @@ use Rattle.std.proofs.Common.{rules, FitsSigned, get_or, ap, sym, ◌∙◌}
 use Rattle.std.proofs.lemmas.List.{get_or_default}
 use Rattle.std.specs.Prelude.{pos}
 use Rattle.linear_elim.specs.internal.Fingerprints.{hashed}
-use Rattle.linear_elim.proofs.Joining.{rest_item}
-use Rattle.linear_elim.proofs.Fingerprinting.{all_hashed, one_more}
+use Rattle.linear_elim.proofs.JoinSequences.{rest_item}
+use Rattle.linear_elim.proofs.FingerprintSearch.{all_hashed, one_more}
 use Rattle.linear_elim.proofs.fingerprints.fingerprint.Goals as goal
 
 pub loop-i-preserved : goal.loop-i-preserved

@@ -3,11 +3,11 @@ use mir.Syntax.{w64}
 use Rattle.std.specs.Prelude.{pos, ◌*ℤ◌, ◌+ℤ◌}
 use Rattle.std.proofs.lemmas.Int.{to_z-of_z}
 use Rattle.linear_rows.specs.Row.{Row}
-use Rattle.linear_rows.specs.Merging.{mixed_terms}
+use Rattle.linear_rows.specs.TermResults.{mixed_terms}
 use Rattle.linear_rows.specs.Divisors.{common, divided_terms}
 use Rattle.linear_elim.specs.Joins.{Derived}
 use Rattle.linear_elim.specs.internal.Fingerprints.{fingerprint}
-use Rattle.linear_elim.proofs.Mixed.{divided_one}
+use Rattle.linear_elim.proofs.MixedTerms.{divided_one}
 use Rattle.linear_elim.proofs.JoinNumbers.{divisor_some}
 use Rattle.linear_elim.proofs.SmallJoins.{terms_are, divisor_is, size_small, small_fits}
 use Rattle.linear_elim.proofs.join_numbers.join_number.Goals as goal

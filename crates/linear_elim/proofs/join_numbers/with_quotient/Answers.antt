@@ -2,7 +2,7 @@ use Rattle.std.proofs.Common.{rules, FitsSigned, to_z, of_z, sym, ap, ◌∙◌}
 use mir.Syntax.{w64}
 use Rattle.std.proofs.lemmas.Int.{to_z-of_z}
 use Rattle.linear_elim.specs.internal.Fingerprints.{hashed}
-use Rattle.linear_elim.proofs.Mixed.{quotient_value}
+use Rattle.linear_elim.proofs.MixedTerms.{quotient_value}
 use Rattle.linear_elim.proofs.JoinNumbers.{quotient_none, quotient_hashed}
 use Rattle.linear_elim.proofs.join_numbers.with_quotient.Goals as goal
 

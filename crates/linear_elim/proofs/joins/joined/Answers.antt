@@ -1,6 +1,6 @@
 use Rattle.std.proofs.Common.{◌≡◌, ap, ap₂, ◌∙◌, subst, refl, ◌||◌}
 use Rattle.std.specs.Prelude.{pos, ◌*ℤ◌, ◌+ℤ◌, IfOk, IfSome}
-use Rattle.linear_rows.specs.Merging.{mixed_terms}
+use Rattle.linear_rows.specs.TermResults.{mixed_terms}
 use Rattle.linear_elim.proofs.Numbers.{joined_parts, joined_over_is, fits_from, fails_from, shares_fit, ok_map}
 use Rattle.linear_elim.proofs.joins.joined.Goals as goal
 

@@ -1,6 +1,6 @@
 use Rattle.linear_rows.proofs.exported.Fractions.{solvable_is}
 use Rattle.linear_elim.proofs.Certificates.{contradicts, refuted_unmet}
-use Rattle.linear_elim.proofs.Deciding.{complete, refuted-follows}
+use Rattle.linear_elim.proofs.Solvability.{complete, refuted-follows}
 use Rattle.linear_elim.proofs.laws.elimination_decides.Goals as goal
 
 pub returns : goal.returns

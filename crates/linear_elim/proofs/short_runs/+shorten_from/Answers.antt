@@ -4,10 +4,10 @@ use Rattle.linear_elim.specs.Steps.{undominated, step_fits}
 use Rattle.linear_elim.specs.Elimination.{run}
 use Rattle.linear_elim.specs.Elimination.Rule.{keeps, drops}
 use Rattle.linear_elim.specs.internal.DerivedRows.{IsDerived}
-use Rattle.linear_elim.specs.internal.Gathering.{after_all}
+use Rattle.linear_elim.specs.internal.GatheredRows.{after_all}
 use Rattle.linear_elim.specs.internal.Outcomes.{short_gathering}
-use Rattle.linear_elim.proofs.Finishing.{none_left, ends_found, ends_standing, ends_great}
-use Rattle.linear_elim.proofs.Keeping.{step-derived}
+use Rattle.linear_elim.proofs.FoundEnds.{none_left, ends_found, ends_standing, ends_great}
+use Rattle.linear_elim.proofs.KeptRows.{step-derived}
 use Rattle.linear_rows.specs.Terms.{IsOver}
 use Rattle.linear_elim.proofs.SameRuns.{step_over, none_after}
 use Rattle.linear_elim.proofs.ShortRuns.{great_limited, many_left, short_ok, next_short, left_derived, left_over, short_counted}

@@ -1,5 +1,5 @@
 use Rattle.std.proofs.Common.{ℕ, ◌<◌}
-use Rattle.linear_elim.specs.internal.Counting.{nth}
+use Rattle.linear_elim.specs.internal.CountedRows.{nth}
 use Rattle.linear_elim.specs.internal.SmallRows.{IsSmall}
 use Rattle.linear_elim.proofs.small_joins.all_small.Given as goal
 

@@ -1,7 +1,7 @@
 use Rattle.std.proofs.Common.{rules, FitsSigned, refl, subst, ◌∙◌, ◌<◌, length}
 use mir.Syntax.{w64}
 use Rattle.std.proofs.lemmas.Int.{to_z-of_z}
-use Rattle.linear_elim.proofs.Mixed.{quotient_value, divided_read}
+use Rattle.linear_elim.proofs.MixedTerms.{quotient_value, divided_read}
 use Rattle.linear_elim.proofs.small_joins.divide.Goals as goal
 
 pub loop-i-preserved : goal.loop-i-preserved

@@ -2,7 +2,7 @@ use Rattle.std.proofs.Common.{rules, arith, FitsSigned, get_or, ◌-◌}
 use Rattle.std.proofs.lemmas.Int.{to_z-of_z}
 use mir.Syntax.{w64}
 use Rattle.std.specs.Prelude.{pos}
-use Rattle.linear_elim.proofs.Mixed.{common_end, common_more}
+use Rattle.linear_elim.proofs.MixedTerms.{common_end, common_more}
 use Rattle.linear_elim.proofs.small_joins.divisor_in.Goals as goal
 
 pub loop-i-init : goal.loop-i-init

@@ -1,4 +1,4 @@
-use Rattle.linear_elim.proofs.Mixed.{all_mixed}
+use Rattle.linear_elim.proofs.MixedTerms.{all_mixed}
 use Rattle.linear_elim.proofs.small_joins.mix.Goals as goal
 
 pub returns : goal.returns

@@ -1,7 +1,7 @@
 use Rattle.std.proofs.Common.{◌≡◌, ◌++◌, ◌+◌, ◌-◌, ◌≤◌, drop, length}
 use Rattle.std.specs.Prelude.{pos}
 use Rattle.linear_rows.specs.Terms.{IsNormal}
-use Rattle.linear_rows.specs.Merging.{mixed_terms}
+use Rattle.linear_rows.specs.TermResults.{mixed_terms}
 use Rattle.linear_elim.proofs.small_joins.mix.Given as goal
 
 abbrev pub invariant-loop-i : goal.invariant-loop-i

@@ -2,7 +2,7 @@ use Rattle.std.proofs.Common.{arith, rules, FitsSigned, get_or, ◌∙◌}
 use Rattle.std.proofs.lemmas.Int.{to_z-of_z}
 use mir.Syntax.{w64}
 use Rattle.std.specs.Prelude.{pos}
-use Rattle.linear_elim.proofs.Mixed.{first_lower, first_alone, second_lower, second_alone, both_level}
+use Rattle.linear_elim.proofs.MixedTerms.{first_lower, first_alone, second_lower, second_alone, both_level}
 use Rattle.linear_elim.proofs.small_joins.next_mixed.Goals as goal
 
 pub returns-then-v-w : goal.returns-then-v-w

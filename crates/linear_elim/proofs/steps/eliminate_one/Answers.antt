@@ -6,7 +6,7 @@ use Rattle.linear_elim.specs.Steps.{kept}
 use Rattle.linear_elim.specs.internal.DerivedRows.{IsDerived}
 use Rattle.linear_elim.proofs.CountedTerms.{split_is, tidy_differ}
 use Rattle.linear_elim.specs.internal.Signless.{AreSignless}
-use Rattle.linear_elim.proofs.Joining.{step_kept, step_counted, step_rows}
+use Rattle.linear_elim.proofs.JoinSequences.{step_kept, step_counted, step_rows}
 use Rattle.linear_elim.proofs.steps.eliminate_one.Goals as goal
 
 pub count_rows-requires-clause-split : goal.count_rows-requires-clause-split

@@ -1,5 +1,5 @@
 use Rattle.std.proofs.Common.{sym, ◌∙◌}
-use Rattle.linear_elim.proofs.Joining.{rest_item, all_fits_more, all_fits_stop, all_fits_end, all_found_more, all_rows_more, all_found_end, all_rows_end}
+use Rattle.linear_elim.proofs.JoinSequences.{rest_item, all_fits_more, all_fits_stop, all_fits_end, all_found_more, all_rows_more, all_found_end, all_rows_end}
 use Rattle.linear_elim.proofs.steps.join_all.Goals as goal
 
 pub returns-then-not-branch-clause-fits : goal.returns-then-not-branch-clause-fits

@@ -1,7 +1,7 @@
 use Rattle.std.proofs.Common.{◌≡◌, drop}
 use Rattle.linear_elim.specs.Steps.{pairs_fit, pairs}
 use Rattle.linear_elim.specs.internal.Fingerprints.{ArePlaces}
-use Rattle.linear_elim.specs.internal.Gathering.{found_all, rows_all}
+use Rattle.linear_elim.specs.internal.GatheredRows.{found_all, rows_all}
 use Rattle.linear_elim.proofs.steps.join_all.Given as goal
 
 abbrev pub invariant-loop-low : goal.invariant-loop-low

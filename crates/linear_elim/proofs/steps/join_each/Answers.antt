@@ -1,4 +1,4 @@
-use Rattle.linear_elim.proofs.Joining.{rest_item, each_fits_more, each_fits_stop, each_fits_end, each_found_more, each_rows_more, each_found_end, each_rows_end}
+use Rattle.linear_elim.proofs.JoinSequences.{rest_item, each_fits_more, each_fits_stop, each_fits_end, each_found_more, each_rows_more, each_found_end, each_rows_end}
 use Rattle.linear_elim.proofs.steps.join_each.Goals as goal
 
 pub returns-in_default-clause-fits : goal.returns-in_default-clause-fits

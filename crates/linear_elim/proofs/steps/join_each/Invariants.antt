@@ -1,7 +1,7 @@
 use Rattle.std.proofs.Common.{◌≡◌, drop}
 use Rattle.linear_elim.specs.Steps.{fits_each, joins}
 use Rattle.linear_elim.specs.internal.Fingerprints.{ArePlaces}
-use Rattle.linear_elim.specs.internal.Gathering.{found_all, rows_all}
+use Rattle.linear_elim.specs.internal.GatheredRows.{found_all, rows_all}
 use Rattle.linear_elim.proofs.steps.join_each.Given as goal
 
 abbrev pub invariant-loop-up : goal.invariant-loop-up

@@ -2,8 +2,8 @@ use mir.Syntax.{w64}
 use Rattle.std.proofs.lemmas.Int.{to_z-of_z}
 use Rattle.std.proofs.Common.{rules, FitsSigned, sym, ap, ◌∙◌, ◌++◌, ◌∷◌, []}
 use Rattle.std.specs.Prelude.{None}
-use Rattle.linear_elim.specs.internal.Gathering.{found_all, rows_all}
-use Rattle.linear_elim.proofs.Splitting.{signs_low, signs_up, signs_none, low_yes, low_no, up_yes, up_no, kept_no, kept_found, kept_rows}
+use Rattle.linear_elim.specs.internal.GatheredRows.{found_all, rows_all}
+use Rattle.linear_elim.proofs.RowSplits.{signs_low, signs_up, signs_none, low_yes, low_no, up_yes, up_no, kept_no, kept_found, kept_rows}
 use Rattle.linear_elim.proofs.steps.split_by.Goals as goal
 
 pub loop-r-init : goal.loop-r-init

@@ -2,7 +2,7 @@ use Rattle.std.proofs.Common.{◌≡◌, []}
 use Rattle.std.specs.Prelude.{None}
 use Rattle.linear_elim.specs.Steps.{lowers, uppers, kept}
 use Rattle.linear_elim.specs.internal.Fingerprints.{ArePlaces}
-use Rattle.linear_elim.specs.internal.Gathering.{found_all, rows_all}
+use Rattle.linear_elim.specs.internal.GatheredRows.{found_all, rows_all}
 use Rattle.linear_elim.proofs.steps.split_by.Given as goal
 
 abbrev pub invariant-loop-r : goal.invariant-loop-r

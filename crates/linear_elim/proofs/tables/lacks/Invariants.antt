@@ -1,5 +1,5 @@
 use Rattle.std.proofs.Common.{◌≡◌, ℕ, ◌<◌, ◌≤◌}
-use Rattle.linear_elim.specs.internal.Counting.{home, print_of, print_at, IsFull}
+use Rattle.linear_elim.specs.internal.CountedRows.{home, print_of, print_at, IsFull}
 use Rattle.linear_elim.proofs.tables.lacks.Given as goal
 
 abbrev pub invariant-loop-place : goal.invariant-loop-place

@@ -2,9 +2,9 @@ use Rattle.std.proofs.Common.{subst, sym, drop}
 use Rattle.std.specs.List.{All}
 use Rattle.std.proofs.lemmas.List.{drop_more}
 use Rattle.std.proofs.lemmas.List.Elements.{All-nil, All-cons}
-use Rattle.linear_elim.specs.internal.Counting.{Lacks}
+use Rattle.linear_elim.specs.internal.CountedRows.{Lacks}
 use Rattle.linear_elim.specs.internal.Signless.{sign_terms}
-use Rattle.linear_elim.proofs.Joining.{rest_end}
+use Rattle.linear_elim.proofs.JoinSequences.{rest_end}
 use Rattle.linear_elim.proofs.tables.lacks_signs.Goals as goal
 
 pub loop-i-preserved : goal.loop-i-preserved

@@ -2,7 +2,7 @@ use Rattle.std.proofs.Common.{ℕ, List, drop}
 use Rattle.std.specs.Prelude.{ℤ}
 use Rattle.std.specs.List.{All}
 use Rattle.linear_elim.specs.declared.tables.Name.{Name}
-use Rattle.linear_elim.specs.internal.Counting.{Lacks}
+use Rattle.linear_elim.specs.internal.CountedRows.{Lacks}
 use Rattle.linear_elim.specs.internal.Signless.{sign_terms}
 use Rattle.linear_elim.proofs.tables.lacks_signs.Given as goal
 

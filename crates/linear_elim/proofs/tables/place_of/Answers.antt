@@ -1,5 +1,5 @@
 use Rattle.std.proofs.Common.{sym, ap, ◌∙◌}
-use Rattle.linear_elim.specs.internal.Counting.{print_of, terms_at}
+use Rattle.linear_elim.specs.internal.CountedRows.{print_of, terms_at}
 use Rattle.linear_elim.proofs.CountedTerms.{taken_at, other_at, others_more}
 use Rattle.linear_elim.proofs.tables.place_of.Goals as goal
 use Rattle.linear_elim.proofs.tables.place_of.Goals.{then-found-print+else-place-names-2+in_ok-name_alike+in-Some-false, else-found-print}

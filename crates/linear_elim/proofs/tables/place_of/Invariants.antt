@@ -1,5 +1,5 @@
 use Rattle.std.proofs.Common.{ℕ, ◌<◌, ◌≤◌}
-use Rattle.linear_elim.specs.internal.Counting.{terms_at, home, IsOther}
+use Rattle.linear_elim.specs.internal.CountedRows.{terms_at, home, IsOther}
 use Rattle.linear_elim.specs.internal.Fingerprints.{fingerprint}
 use Rattle.linear_elim.proofs.tables.place_of.Given as goal
 

@@ -1,5 +1,5 @@
 use Rattle.std.proofs.Common.{refl}
-use Rattle.linear_elim.specs.internal.Counting.{terms_at}
+use Rattle.linear_elim.specs.internal.CountedRows.{terms_at}
 use Rattle.linear_elim.proofs.CountedTerms.{put_free}
 use Rattle.linear_elim.proofs.tables.put.Goals as goal
 

@@ -1,5 +1,5 @@
 use Rattle.std.proofs.Common.{sym, ◌∙◌, subst}
-use Rattle.linear_form.specs.internal.Seen.{Tells}
+use Rattle.linear_form.specs.internal.EvaluationResults.{Tells}
 use Rattle.linear_form.proofs.Runs.{run_known, run_new}
 use Rattle.linear_form.proofs.cursor.truth.Goals as goal
 

@@ -8,7 +8,7 @@ use Rattle.linear_form.specs.internal.Direct.{MayGive}
 use Rattle.linear_values.proofs.exported.KeptParts.{rest_fits}
 use Rattle.linear_values.proofs.exported.KeptTerms.{minus_normal}
 use Rattle.linear_rows.proofs.exported.Narrow.{fits_negated}
-use Rattle.linear_form.proofs.OneSided.{minus_number}
+use Rattle.linear_form.proofs.OneSidedSums.{minus_number}
 use Rattle.linear_form.proofs.direct.difference.Goals as goal
 
 pub signed-requires : goal.signed-requires

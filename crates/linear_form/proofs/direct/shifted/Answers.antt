@@ -1,7 +1,7 @@
 use Rattle.std.proofs.Common.{sym, ◌∙◌}
 use Rattle.linear_values.specs.PlainValues.{lin_of}
 use Rattle.linear_values.proofs.exported.KeptParts.{rest_fits}
-use Rattle.linear_form.proofs.OneSided.{shifted_yields}
+use Rattle.linear_form.proofs.OneSidedSums.{shifted_yields}
 use Rattle.linear_form.proofs.direct.shifted.Goals as goal
 
 pub sum-moved-requires-clause-left : goal.sum-moved-requires-clause-left

@@ -6,7 +6,7 @@ use Rattle.linear_form.specs.Questions.{sized}
 use Rattle.linear_form.specs.internal.Direct.{MayGive}
 use Rattle.linear_values.proofs.exported.KeptParts.{rest_fits}
 use Rattle.linear_values.proofs.exported.KeptTerms.{plus_normal}
-use Rattle.linear_form.proofs.OneSided.{plus_with, number_plus}
+use Rattle.linear_form.proofs.OneSidedSums.{plus_with, number_plus}
 use Rattle.linear_form.proofs.direct.sum.Goals as goal
 
 pub shifted-requires-clause-number : goal.shifted-requires-clause-number

@@ -5,7 +5,7 @@ use Rattle.linear_values.specs.PlainValues.{lin_of}
 use Rattle.linear_form.specs.internal.Run.Evaluation.{value}
 use Rattle.linear_values.proofs.exported.KeptParts.{rest_fits}
 use Rattle.linear_rows.proofs.exported.Narrow.{fits_negated}
-use Rattle.linear_form.proofs.OneSided.{difference_large, difference_known, difference_told}
+use Rattle.linear_form.proofs.OneSidedSums.{difference_large, difference_known, difference_told}
 use Rattle.linear_form.proofs.operators.compare_on.Goals as goal
 
 pub signed-requires : goal.signed-requires

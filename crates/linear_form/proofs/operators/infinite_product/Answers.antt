@@ -2,7 +2,7 @@ use Rattle.std.proofs.Common.{subst}
 use Rattle.linear_form.specs.PlainPaths.{path_of}
 use Rattle.linear_form.specs.Questions as q
 use Rattle.linear_form.specs.internal.Run.{along}
-use Rattle.linear_form.specs.internal.Seen.{Gives}
+use Rattle.linear_form.specs.internal.EvaluationResults.{Gives}
 use Rattle.linear_form.proofs.operators.infinite_product.Goals as goal
 
 pub returns : goal.returns

@@ -1,5 +1,5 @@
 use Rattle.std.proofs.Common.{sym, ◌∙◌, subst, ap}
-use Rattle.linear_form.specs.internal.Seen.{Tells}
+use Rattle.linear_form.specs.internal.EvaluationResults.{Tells}
 use Rattle.linear_form.specs.PlainPaths.{path_of}
 use Rattle.linear_values.specs.PlainValues.{lin_of}
 use Rattle.linear_form.specs.internal.Run.Evaluation.{value}

@@ -1,7 +1,7 @@
 use Rattle.std.proofs.Common.{subst, sym, []}
 use Rattle.std.proofs.lemmas.List.{take_all}
 use Rattle.linear_form.specs.internal.Steps.{AreAlike}
-use Rattle.linear_form.proofs.Resuming.{alike_start, alike_next}
+use Rattle.linear_form.proofs.Resumptions.{alike_start, alike_next}
 use Rattle.linear_form.proofs.places.copy_frames.Goals as goal
 
 pub loop-frame-init : goal.loop-frame-init

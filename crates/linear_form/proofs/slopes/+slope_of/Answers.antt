@@ -1,7 +1,7 @@
 use Rattle.std.proofs.Common.{sym, subst}
 use Rattle.heyvl_num.specs.Rational.{negʳ}
 use Rattle.linear_form.specs.QuestionLaws.{EachResult}
-use Rattle.linear_form.specs.internal.Lasting.{HasSlope}
+use Rattle.linear_form.specs.internal.LastingTrees.{HasSlope}
 use Rattle.heylo_formula.specs.PlainTrees.{form_of}
 use Rattle.linear_form.specs.Questions.{evaluate}
 use Rattle.linear_form.proofs.Growths.{unknown, sum_slopes, difference_slopes, scale_slopes}

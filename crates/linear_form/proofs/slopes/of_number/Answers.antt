@@ -1,8 +1,8 @@
 use Rattle.std.proofs.Common.{sym, subst}
-use Rattle.heyvl_num.specs.Extended.{value_of}
+use Rattle.heyvl_num.specs.ExtendedNumbers.{value_of}
 use Rattle.linear_form.specs.Questions.{sized, number}
 use Rattle.linear_form.specs.QuestionLaws.{EachResult}
-use Rattle.linear_form.specs.internal.Lasting.{HasSlope}
+use Rattle.linear_form.specs.internal.LastingTrees.{HasSlope}
 use Rattle.linear_form.specs.declared.slopes.Slope.{Slope}
 use Rattle.linear_form.proofs.Growths.{number_level}
 use Rattle.linear_form.proofs.slopes.of_number.Goals as goal

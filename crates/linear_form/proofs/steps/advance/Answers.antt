@@ -6,8 +6,8 @@ use Rattle.linear_values.specs.PlainValues.{linear_of}
 use Rattle.linear_form.specs.internal.Nodes.{unary, binary, comparison}
 use Rattle.linear_form.specs.internal.Places.{Result, asked_by, of_two, through, focus_weight, weight, IsKeptFocus}
 use Rattle.linear_form.specs.internal.Steps.{Steps}
-use Rattle.linear_form.proofs.GoingOn.{with_more}
-use Rattle.linear_form.proofs.Resuming.{for_focus, for_query}
+use Rattle.linear_form.proofs.ContinuedRuns.{with_more}
+use Rattle.linear_form.proofs.Resumptions.{for_focus, for_query}
 use Rattle.linear_form.proofs.KeptOperators.{unary_kept, binary_kept, all_kept}
 use Rattle.linear_form.proofs.steps.advance.Goals as goal
 

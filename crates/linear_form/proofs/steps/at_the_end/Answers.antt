@@ -1,7 +1,7 @@
 use Rattle.std.proofs.Common.{arith, sym}
 use Rattle.std.proofs.lemmas.Bool.Decides.{nat_tests}
 use Rattle.linear_values.specs.PlainValues.{linear_of}
-use Rattle.linear_form.proofs.Resuming.{ends_are_given, ends_are_waited_for}
+use Rattle.linear_form.proofs.Resumptions.{ends_are_given, ends_are_waited_for}
 use Rattle.linear_form.proofs.steps.at_the_end.Goals as goal
 
 pub returns-in_ok-other : goal.returns-in_ok-other

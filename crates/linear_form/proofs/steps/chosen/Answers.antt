@@ -1,7 +1,7 @@
 use Rattle.std.proofs.Common.{ap, arith}
 use Rattle.std.specs.Prelude.{if◌then◌else◌}
 use Rattle.linear_form.specs.internal.Places.{asked_by}
-use Rattle.linear_form.proofs.Resuming.{query_step}
+use Rattle.linear_form.proofs.Resumptions.{query_step}
 use Rattle.linear_form.proofs.steps.chosen.Goals as goal
 
 pub returns-then-t : goal.returns-then-t

@@ -1,12 +1,12 @@
 use Rattle.std.proofs.Common.{◌≡◌, [], ap, sym, arith, ◌∙◌}
-use Rattle.heyvl_num.specs.Extended.{value_of}
+use Rattle.heyvl_num.specs.ExtendedNumbers.{value_of}
 use Rattle.heylo_formula.specs.PlainTrees.{form_of}
 use Rattle.heylo_formula.specs.Sizes.{nodes}
 use Rattle.linear_form.specs.Questions.{evaluate, sized, number}
 use Rattle.linear_form.specs.internal.Places.{valued}
 use Rattle.linear_form.proofs.KeptValues.{number_kept}
 use Rattle.linear_form.proofs.KeptOperators.{all_kept}
-use Rattle.linear_form.proofs.Resuming.{for_query}
+use Rattle.linear_form.proofs.Resumptions.{for_query}
 use Rattle.linear_form.proofs.steps.constant.Goals as goal
 
 pub value_found-requires-clause-value : goal.value_found-requires-clause-value

@@ -5,7 +5,7 @@ use Rattle.heylo_formula.specs.Formula.{Cond}
 use Rattle.linear_form.specs.Questions.{test}
 use Rattle.linear_form.specs.PlainPaths.{path_of}
 use Rattle.linear_form.specs.internal.Places.{told}
-use Rattle.linear_form.proofs.Resuming.{for_query}
+use Rattle.linear_form.proofs.Resumptions.{for_query}
 use Rattle.linear_form.proofs.steps.flag.Goals as goal
 
 pub returns : goal.returns

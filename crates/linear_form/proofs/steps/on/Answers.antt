@@ -1,5 +1,5 @@
 use Rattle.std.proofs.Common.{refl}
-use Rattle.linear_form.proofs.GoingOn.{stays}
+use Rattle.linear_form.proofs.ContinuedRuns.{stays}
 use Rattle.linear_form.proofs.steps.on.Goals as goal
 
 pub returns : goal.returns

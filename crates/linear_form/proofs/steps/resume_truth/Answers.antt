@@ -5,9 +5,9 @@ use Rattle.linear_form.specs.internal.Places.{Result, resumed}
 use Rattle.linear_form.proofs.KeptOperators.{agree_is, truth_kept}
 use Rattle.heylo_formula.specs.PlainTrees.{form_of, cond_of}
 use Rattle.linear_form.specs.Questions.{evaluate, test}
-use Rattle.linear_form.proofs.Assembled.{valued_either, told_either}
-use Rattle.linear_form.proofs.GoingOn.{with_more}
-use Rattle.linear_form.proofs.Resuming.{for_frame, for_query, frame_step, query_step, nothing_waits}
+use Rattle.linear_form.proofs.AssembledTrees.{valued_either, told_either}
+use Rattle.linear_form.proofs.ContinuedRuns.{with_more}
+use Rattle.linear_form.proofs.Resumptions.{for_frame, for_query, frame_step, query_step, nothing_waits}
 use Rattle.linear_form.proofs.steps.resume_truth.Goals as goal
 
 pub value_given-requires-clause-value : goal.value_given-requires-clause-value

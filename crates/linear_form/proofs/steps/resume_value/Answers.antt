@@ -1,7 +1,7 @@
 use Rattle.std.proofs.Common.{refl, ap, arith}
 use Rattle.linear_values.specs.PlainValues.{linear_of}
 use Rattle.linear_form.specs.internal.Places.{Result, resumed}
-use Rattle.linear_form.proofs.Resuming.{for_frame, frame_step, nothing_waits}
+use Rattle.linear_form.proofs.Resumptions.{for_frame, frame_step, nothing_waits}
 use Rattle.linear_form.proofs.steps.resume_value.Goals as goal
 
 pub returns-in-Left : goal.returns-in-Left

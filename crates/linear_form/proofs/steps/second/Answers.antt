@@ -3,8 +3,8 @@ use Rattle.heylo_formula.specs.Operators.{agree}
 use Rattle.heylo_formula.specs.PlainTrees.{cond_of}
 use Rattle.linear_form.specs.Query.Query.{done}
 use Rattle.linear_form.specs.Questions.{test}
-use Rattle.linear_form.proofs.Assembled.{truth_told}
-use Rattle.linear_form.proofs.Resuming.{for_second, for_query, second_step}
+use Rattle.linear_form.proofs.AssembledTrees.{truth_told}
+use Rattle.linear_form.proofs.Resumptions.{for_second, for_query, second_step}
 use Rattle.linear_form.proofs.steps.second.Goals as goal
 
 pub returns-then-t : goal.returns-then-t

@@ -1,8 +1,8 @@
 use Rattle.std.proofs.Common.{subst}
 use Rattle.linear_form.specs.internal.Places.{asked_by}
 use Rattle.linear_form.specs.internal.Run.{along}
-use Rattle.linear_form.specs.internal.Seen.{Stops}
-use Rattle.linear_form.proofs.GoingOn.{decides, through_large}
+use Rattle.linear_form.specs.internal.EvaluationResults.{Stops}
+use Rattle.linear_form.proofs.ContinuedRuns.{decides, through_large}
 use Rattle.linear_form.proofs.steps.stopped.Goals as goal
 
 pub returns-in-Decide : goal.returns-in-Decide

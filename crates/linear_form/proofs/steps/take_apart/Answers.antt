@@ -3,8 +3,8 @@ use Rattle.heylo_formula.specs.PlainTrees.{form_of, cond_of}
 use Rattle.linear_form.specs.Query.Query.{done, bits}
 use Rattle.linear_form.specs.Questions as q
 use Rattle.linear_form.specs.Questions.{evaluate, test}
-use Rattle.linear_form.proofs.GoingOn.{through_large, form_leaf, form_two, form_one, form_truth, form_chosen}
-use Rattle.linear_form.proofs.Assembled.{two_valued, one_valued, truth_valued}
+use Rattle.linear_form.proofs.ContinuedRuns.{through_large, form_leaf, form_two, form_one, form_truth, form_chosen}
+use Rattle.linear_form.proofs.AssembledTrees.{two_valued, one_valued, truth_valued}
 use Rattle.std.specs.Prelude.{if◌then◌else◌}
 use Rattle.linear_form.specs.internal.Nodes.{of_truth}
 use Rattle.linear_form.specs.internal.Run.{along}

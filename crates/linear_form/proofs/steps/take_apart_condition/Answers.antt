@@ -5,9 +5,9 @@ use Rattle.linear_form.specs.Questions as q
 use Rattle.linear_form.specs.Questions.{test}
 use Rattle.linear_form.specs.internal.Places.{told}
 use Rattle.linear_form.specs.PlainPaths.{path_of}
-use Rattle.linear_form.proofs.Resuming.{query_step}
-use Rattle.linear_form.proofs.GoingOn.{cond_two, cond_one, cond_both, cond_chosen}
-use Rattle.linear_form.proofs.Assembled.{two_told, truth_told}
+use Rattle.linear_form.proofs.Resumptions.{query_step}
+use Rattle.linear_form.proofs.ContinuedRuns.{cond_two, cond_one, cond_both, cond_chosen}
+use Rattle.linear_form.proofs.AssembledTrees.{two_told, truth_told}
 use Rattle.std.specs.Prelude.{if◌then◌else◌, not}
 use Rattle.linear_form.specs.Query.Query.{done}
 use Rattle.linear_form.specs.internal.Nodes.{after_first}

@@ -1,8 +1,8 @@
 use Rattle.std.proofs.Common.{ap, sym, subst, refl, ◌∙◌}
 use Rattle.linear_form.specs.internal.Places.{Result}
 use Rattle.linear_form.specs.internal.Run.{along}
-use Rattle.linear_form.specs.internal.Seen.{Tells, Stops}
-use Rattle.linear_form.proofs.GoingOn.{after_found, stops_told}
+use Rattle.linear_form.specs.internal.EvaluationResults.{Tells, Stops}
+use Rattle.linear_form.proofs.ContinuedRuns.{after_found, stops_told}
 use Rattle.linear_form.proofs.KeptOperators.{told_run}
 use Rattle.linear_form.proofs.steps.truth_found.Goals as goal
 

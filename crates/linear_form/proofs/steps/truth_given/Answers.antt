@@ -1,6 +1,6 @@
 use Rattle.std.proofs.Common.{arith, refl}
 use Rattle.linear_form.specs.internal.Places.{Result}
-use Rattle.linear_form.proofs.Resuming.{popped, kept_all, nothing_takes}
+use Rattle.linear_form.proofs.Resumptions.{popped, kept_all, nothing_takes}
 use Rattle.linear_form.proofs.steps.truth_given.Goals as goal
 
 pub returns-in-None : goal.returns-in-None

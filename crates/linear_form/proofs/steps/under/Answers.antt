@@ -1,5 +1,5 @@
 use Rattle.std.proofs.Common.{refl}
-use Rattle.linear_form.proofs.GoingOn.{pushed}
+use Rattle.linear_form.proofs.ContinuedRuns.{pushed}
 use Rattle.linear_form.proofs.steps.under.Goals as goal
 
 pub returns : goal.returns

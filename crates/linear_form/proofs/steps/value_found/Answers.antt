@@ -2,8 +2,8 @@ use Rattle.std.proofs.Common.{ap, sym, subst, refl, ◌∙◌}
 use Rattle.linear_values.specs.PlainValues.{linear_of}
 use Rattle.linear_form.specs.internal.Places.{Result}
 use Rattle.linear_form.specs.internal.Run.{along}
-use Rattle.linear_form.specs.internal.Seen.{Gives, Stops}
-use Rattle.linear_form.proofs.GoingOn.{after_found, stops_valued}
+use Rattle.linear_form.specs.internal.EvaluationResults.{Gives, Stops}
+use Rattle.linear_form.proofs.ContinuedRuns.{after_found, stops_valued}
 use Rattle.linear_form.proofs.KeptOperators.{valued_run}
 use Rattle.linear_form.proofs.steps.value_found.Goals as goal
 

@@ -1,7 +1,7 @@
 use Rattle.std.proofs.Common.{arith, refl}
 use Rattle.linear_values.specs.PlainValues.{linear_of, lin_of}
 use Rattle.linear_form.specs.internal.Places.{Result}
-use Rattle.linear_form.proofs.Resuming.{popped, kept_all, nothing_takes}
+use Rattle.linear_form.proofs.Resumptions.{popped, kept_all, nothing_takes}
 use Rattle.linear_form.proofs.NumberRuns.{lighter, handed_first, handed_further, handed_over, handed_last}
 use Rattle.linear_form.proofs.steps.value_given.Goals as goal
 

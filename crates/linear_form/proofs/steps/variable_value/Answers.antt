@@ -3,8 +3,8 @@ use Rattle.std.specs.Prelude.{Some}
 use Rattle.linear_form.specs.Query.Query.{done}
 use Rattle.linear_form.specs.internal.Places.{Result}
 use Rattle.linear_values.specs.Kept.{IsKeptValue}
-use Rattle.linear_form.proofs.GoingOn.{with_more}
-use Rattle.linear_form.proofs.Resuming.{for_query}
+use Rattle.linear_form.proofs.ContinuedRuns.{with_more}
+use Rattle.linear_form.proofs.Resumptions.{for_query}
 use Rattle.linear_form.proofs.KeptValues.{variable_kept}
 use Rattle.linear_form.proofs.steps.variable_value.Goals as goal
 

@@ -2,7 +2,7 @@ use Rattle.std.proofs.Common.{refl, rules, FitsSigned, ◌∙◌, get_or}
 use Rattle.std.proofs.lemmas.Int.{to_z-of_z}
 use mir.Syntax.{w64}
 use Rattle.std.specs.Prelude.{pos}
-use Rattle.linear_rows.proofs.Walking.{next_term, this_term, no_term}
+use Rattle.linear_rows.proofs.TermWalks.{next_term, this_term, no_term}
 use Rattle.linear_rows.proofs.terms.coefficient_of.Goals as goal
 
 pub loop-v-init : goal.loop-v-init

@@ -2,7 +2,7 @@ use Rattle.std.proofs.Common.{rules, FitsSigned, get_or}
 use Rattle.std.proofs.lemmas.Int.{to_z-of_z}
 use mir.Syntax.{w64, w128}
 use Rattle.std.specs.Prelude.{pos}
-use Rattle.linear_rows.proofs.Walking.{divided_more, narrow_more, narrow_fails, narrow_all}
+use Rattle.linear_rows.proofs.TermWalks.{divided_more, narrow_more, narrow_fails, narrow_all}
 use Rattle.linear_rows.proofs.terms.divided.Goals as goal
 
 pub loop-v-preserved : goal.loop-v-preserved

@@ -1,5 +1,5 @@
 use Rattle.std.proofs.Common.{◌≡◌, ◌++◌, drop}
-use Rattle.linear_rows.specs.Merging.{are_narrow}
+use Rattle.linear_rows.specs.TermResults.{are_narrow}
 use Rattle.linear_rows.specs.Divisors.{divided_terms}
 use Rattle.linear_rows.proofs.terms.divided.Given as goal
 

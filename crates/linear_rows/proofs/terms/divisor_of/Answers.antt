@@ -2,7 +2,7 @@ use Rattle.std.proofs.Common.{rules, arith, FitsSigned, get_or, ◌-◌}
 use Rattle.std.proofs.lemmas.Int.{to_z-of_z}
 use mir.Syntax.{w128}
 use Rattle.std.specs.Prelude.{pos}
-use Rattle.linear_rows.proofs.Walking.{common_end, common_more}
+use Rattle.linear_rows.proofs.TermWalks.{common_end, common_more}
 use Rattle.linear_rows.proofs.terms.divisor_of.Goals as goal
 
 pub loop-i-init : goal.loop-i-init

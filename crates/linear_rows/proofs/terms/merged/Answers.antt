@@ -1,4 +1,4 @@
-use Rattle.linear_rows.proofs.Walking.{all_merged}
+use Rattle.linear_rows.proofs.TermWalks.{all_merged}
 use Rattle.linear_rows.proofs.terms.merged.Goals as goal
 
 pub returns : goal.returns

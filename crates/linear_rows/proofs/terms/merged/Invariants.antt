@@ -1,6 +1,6 @@
 use Rattle.std.proofs.Common.{◌≡◌, ◌++◌, ◌+◌, ◌-◌, ◌≤◌, drop, length}
 use Rattle.linear_rows.specs.Terms.{IsNormal}
-use Rattle.linear_rows.specs.Merging.{merged_terms}
+use Rattle.linear_rows.specs.TermResults.{merged_terms}
 use Rattle.linear_rows.proofs.terms.merged.Given as goal
 
 abbrev pub invariant-loop-i : goal.invariant-loop-i

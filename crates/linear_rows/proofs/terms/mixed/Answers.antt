@@ -1,8 +1,8 @@
 use Rattle.std.proofs.Common.{subst, sym, ap₂, ◌∙◌}
 use Rattle.std.proofs.lemmas.Int.{to_z-of_z}
 use Rattle.linear_rows.specs.Terms.{IsNormal}
-use Rattle.linear_rows.specs.Merging.{merged_terms}
-use Rattle.linear_rows.proofs.Mixing.{scaled-normal, mixed-is}
+use Rattle.linear_rows.specs.TermResults.{merged_terms}
+use Rattle.linear_rows.proofs.MixedSums.{scaled-normal, mixed-is}
 use Rattle.linear_rows.proofs.terms.mixed.Goals as goal
 
 pub merged-requires-clause-left_normal : goal.merged-requires-clause-left_normal

@@ -2,7 +2,7 @@ use Rattle.std.proofs.Common.{arith, rules, FitsSigned, get_or}
 use Rattle.std.proofs.lemmas.Int.{to_z-of_z}
 use mir.Syntax.{w128}
 use Rattle.std.specs.Prelude.{pos}
-use Rattle.linear_rows.proofs.Walking.{first_lower, first_alone, second_lower, second_alone, both_level, wide_sum, read_wide}
+use Rattle.linear_rows.proofs.TermWalks.{first_lower, first_alone, second_lower, second_alone, both_level, wide_sum, read_wide}
 use Rattle.linear_rows.proofs.terms.next_term.Goals as goal
 
 pub returns-then-v-w : goal.returns-then-v-w

@@ -2,7 +2,7 @@ use Rattle.std.proofs.Common.{rules, FitsSigned, get_or}
 use Rattle.std.proofs.lemmas.Int.{to_z-of_z}
 use mir.Syntax.{w64, w128}
 use Rattle.std.specs.Prelude.{pos}
-use Rattle.linear_rows.proofs.Walking.{scaled_more, scaled_all, wide_more, wide_fails, wide_all, wide_push}
+use Rattle.linear_rows.proofs.TermWalks.{scaled_more, scaled_all, wide_more, wide_fails, wide_all, wide_push}
 use Rattle.linear_rows.proofs.terms.scaled.Goals as goal
 
 pub loop-v-preserved : goal.loop-v-preserved

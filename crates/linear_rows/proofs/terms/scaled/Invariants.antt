@@ -1,7 +1,7 @@
 use Rattle.std.proofs.Common.{◌≡◌, ◌<◌, ◌^◌, ◌++◌, drop}
 use Rattle.std.specs.Prelude.{unsigned_abs}
 use Rattle.std.specs.List.{All}
-use Rattle.linear_rows.specs.Merging.{scaled_terms, are_wide}
+use Rattle.linear_rows.specs.TermResults.{scaled_terms, are_wide}
 use Rattle.linear_rows.proofs.terms.scaled.Given as goal
 
 abbrev pub invariant-loop-v : goal.invariant-loop-v

@@ -1,8 +1,8 @@
 use Rattle.heylo_formula.specs.PlainTrees.{form_of}
-use Rattle.heylo_formula.specs.Shifted.{shifted}
+use Rattle.heylo_formula.specs.Shifts.{shifted}
 use Rattle.heyvl_acts.specs.Acts.{Act, Acts}
 use Rattle.k_induction.specs.Copies.{must}
-use Rattle.loop_encodings.proofs.Appending.{one_more}
+use Rattle.loop_encodings.proofs.AppendedActs.{one_more}
 use Rattle.loop_encodings.proofs.CallSteps.{check_made}
 use Rattle.loop_encodings.proofs.calls.add_entry.Goals as goal
 use Rattle.std.proofs.Common.{◌∙◌}

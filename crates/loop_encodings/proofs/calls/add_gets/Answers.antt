@@ -1,5 +1,5 @@
 use Rattle.std.proofs.Common.{ap, arith, refl, sym, ◌∙◌}
-use Rattle.heyvl_acts.specs.declared.typed.VarInfo.{VarInfo}
+use Rattle.heyvl_acts.specs.declared.typed_trees.VarInfo.{VarInfo}
 use Rattle.loop_encodings.specs.Encoding.{read}
 use Rattle.loop_encodings.proofs.CallSteps.{gets_step, gets_end}
 use Rattle.loop_encodings.proofs.calls.add_gets.Goals as goal

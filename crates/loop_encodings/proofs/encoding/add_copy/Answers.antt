@@ -1,4 +1,4 @@
-use Rattle.loop_encodings.proofs.Appending.{last_one}
+use Rattle.loop_encodings.proofs.AppendedActs.{last_one}
 use Rattle.loop_encodings.proofs.encoding.add_copy.Goals as goal
 
 pub returns : goal.returns

@@ -5,7 +5,7 @@ use Rattle.heyvl_acts.specs.Acts.{Act, Acts, join, types_of}
 use Rattle.heyvl_acts.specs.PlainActs.{acts_of, procedure_of}
 use Rattle.k_induction.specs.Copies.{must}
 use Rattle.loop_encodings.specs.Encoding.{havocs, tested}
-use Rattle.loop_encodings.proofs.Appending.{one_more}
+use Rattle.loop_encodings.proofs.AppendedActs.{one_more}
 use Rattle.loop_encodings.proofs.loops.add_loop.Goals as goal
 
 pub returns : goal.returns

@@ -4,7 +4,7 @@ use Prim.Native.Nat.{zero, suc}
 use denote.Enum.Bare.{same_true}
 use Rattle.heylo_formula.specs.contracts.types.Ty.{the_type}
 use Rattle.heyvl_acts.specs.Rules.{Each}
-use Rattle.heyvl_acts.specs.declared.typed.VarInfo.{VarInfo}
+use Rattle.heyvl_acts.specs.declared.typed_trees.VarInfo.{VarInfo}
 use Rattle.lower_rules.proofs.PairShapes.{none_left, one_less, type_at}
 use Rattle.lower_rules.proofs.pairs.have_types.Goals as goal
 

@@ -1,6 +1,6 @@
 use Rattle.std.proofs.Common.{◌∙◌, ℕ, List, sym, ap, ap₂}
 use Rattle.heyvl_acts.proofs.exported.PlainActsAre.{head_of}
-use Rattle.heyvl_acts.specs.declared.typed.VarInfo.{VarInfo}
+use Rattle.heyvl_acts.specs.declared.typed_trees.VarInfo.{VarInfo}
 use Rattle.vp_generator.specs.PrenexedGoals.{types_of_variables}
 use Rattle.lower_rules.proofs.PairShapes.{are_wanted, is_bare, is_omega_pair}
 use Rattle.lower_rules.specs.internal.Pairs.{wanted}

@@ -2,7 +2,7 @@ use Rattle.std.proofs.Common.{refl, ap, ◌∙◌, map}
 use Rattle.heylo_formula.specs.PlainTrees.{form_of}
 use Rattle.heyvl_acts.specs.PlainActs.{acts_of, variable_of}
 use Rattle.heyvl_acts.specs.Upward.{upward}
-use Rattle.vp_generator.specs.Generated.{vp}
+use Rattle.vp_generator.specs.GeneratedForms.{vp}
 use Rattle.ranking_rule.proofs.exported.UpwardActs.{named_as, too_deep, too_many, vp_is}
 use Rattle.lower_rules.proofs.MadeForms.{fit_as, made_as}
 use Rattle.lower_rules.proofs.start_goals.start_goal.Goals as goal

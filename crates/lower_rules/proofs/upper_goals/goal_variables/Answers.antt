@@ -1,6 +1,6 @@
 use Rattle.std.proofs.Common.{◌∙◌, ap, length, get_or, map, List}
 use Rattle.heyvl_acts.specs.PlainActs.{variable_of}
-use Rattle.heyvl_acts.specs.declared.typed.VarInfo.{VarInfo}
+use Rattle.heyvl_acts.specs.declared.typed_trees.VarInfo.{VarInfo}
 use Rattle.lower_rules.proofs.GoalVariables.{inputs_length}
 use Rattle.lower_rules.proofs.PairShapes.{goal_variables_are, last_there}
 use Rattle.lower_rules.specs.internal.Pairs.{first, head, second}

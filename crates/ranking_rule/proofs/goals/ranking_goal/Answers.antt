@@ -2,7 +2,7 @@ use Rattle.std.proofs.Common.{refl, sym, ap, ◌∙◌, arith, List, length, map
 use Rattle.heylo_formula.specs.PlainTrees.{form_of}
 use Rattle.heylo_formula.specs.declared.goals.Made.TheVariants as made
 use Rattle.heyvl_acts.specs.PlainActs.{acts_of, variable_of}
-use Rattle.heyvl_acts.specs.declared.typed.VarInfo.{VarInfo}
+use Rattle.heyvl_acts.specs.declared.typed_trees.VarInfo.{VarInfo}
 use Rattle.heyvl_acts.specs.Upward.{upward}
 use Rattle.ranking_rule.proofs.MadeRankings.{are_named, few_vars, is_fit, is_limit, is_made, named_as, no_loop, no_rank, too_deep, too_many, vp_is}
 use Rattle.ranking_rule.proofs.goals.ranking_goal.Goals as goal

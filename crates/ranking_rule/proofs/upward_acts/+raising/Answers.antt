@@ -3,7 +3,7 @@ use Rattle.heyvl_acts.proofs.exported.PlainActsAre.{any_act, if_act, pick_act, r
 use Rattle.heyvl_acts.specs.Acts.{Act}
 use Rattle.heyvl_acts.specs.PlainActs.{act_of, acts_of, arms_of}
 use Rattle.heyvl_acts.specs.Upward.{upward, upward_arms}
-use Rattle.ranking_rule.proofs.Raising.{arm_more, arms_end, arms_start, changed, left_out, turn_more, turns_end}
+use Rattle.ranking_rule.proofs.UpwardCopies.{arm_more, arms_end, arms_start, changed, left_out, turn_more, turns_end}
 use Rattle.heyvl_acts.proofs.exported.Weights.{act_within, arm_within, weight, weight_of}
 use Rattle.ranking_rule.proofs.upward_acts.+raising.Goals as goal
 

@@ -1,7 +1,7 @@
 use Rattle.std.proofs.Common.{◌≡◌, ◌+◌}
 use Rattle.heyvl_acts.specs.Acts.{Act}
 use Rattle.heyvl_acts.specs.PlainActs.{act_of, acts_of, arms_of}
-use Rattle.ranking_rule.proofs.Raising.{ArmTurns, Turns}
+use Rattle.ranking_rule.proofs.UpwardCopies.{ArmTurns, Turns}
 use Rattle.heyvl_acts.proofs.exported.Weights.{weight, weight_of}
 use Rattle.ranking_rule.proofs.upward_acts.+raising.Given as goal
 

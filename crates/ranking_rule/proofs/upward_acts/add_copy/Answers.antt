@@ -1,4 +1,4 @@
-use Rattle.ranking_rule.proofs.Raising.{one_act}
+use Rattle.ranking_rule.proofs.UpwardCopies.{one_act}
 use Rattle.ranking_rule.proofs.upward_acts.add_copy.Goals as goal
 
 pub returns : goal.returns

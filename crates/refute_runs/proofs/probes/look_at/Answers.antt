@@ -1,9 +1,9 @@
 use Rattle.std.proofs.Common.{◌∙◌, ap, refl, subst, sym}
 use Rattle.heyvl_acts.specs.PlainActs.{procedures_of}
-use Rattle.heyvl_num.specs.Extended.{value_of}
+use Rattle.heyvl_num.specs.ExtendedNumbers.{value_of}
 use Rattle.refute_runs.specs.SumsAfter.{unrolled_from}
 use Rattle.refute_runs.specs.internal.Probes.{IsSeen}
-use Rattle.refute_runs.proofs.Seen.{stop_ends}
+use Rattle.refute_runs.proofs.ProbeResults.{stop_ends}
 use Rattle.refute_runs.proofs.Stops.{steps_named}
 use Rattle.refute_runs.proofs.probes.look_at.Goals as goal
 use Rattle.run_machine.specs.Names.{stored}

@@ -1,16 +1,16 @@
 use Rattle.std.proofs.Common.{◌≡◌, refl, sym, ap, subst, length, arith, true}
 use Rattle.std.specs.Prelude.{Some, None}
 use Rattle.heylo_formula.specs.Goals.{goal_of}
-use Rattle.linear_form.specs.Asked.{Answers}
+use Rattle.linear_form.specs.AskAnswers.{Answers}
 use Rattle.linear_form.specs.Paths.{IsPath, end_at}
 use Rattle.linear_form.specs.PathRows.{rows_of}
 use Rattle.linear_form.specs.PlainPaths.{path_of}
-use Rattle.linear_form.specs.declared.asking.Ask as K
+use Rattle.linear_form.specs.declared.questions.Ask as K
 use Rattle.linear_form.specs.RowLists.{ArePathRows}
 use Rattle.linear_form.proofs.exported.Places.{rows_counted}
 use Rattle.region_split.proofs.PathAnswers.{unstated, dropped_by}
 use Rattle.region_split.proofs.Trails.{again}
-use Rattle.region_split.proofs.Moved.{signs_stand, stand_held, within_held, moved_held}
+use Rattle.region_split.proofs.MovedMultipliers.{signs_stand, stand_held, within_held, moved_held}
 use Rattle.region_split.proofs.front.dropped_end.Goals as goal
 
 pub with_denied_goal-requires-clause-path : goal.with_denied_goal-requires-clause-path

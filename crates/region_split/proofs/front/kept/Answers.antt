@@ -1,6 +1,6 @@
 use Rattle.std.proofs.Common.{sym, subst}
 use Rattle.heylo_formula.specs.Goals.{goal_of}
-use Rattle.linear_form.specs.Asked.{Answers}
+use Rattle.linear_form.specs.AskAnswers.{Answers}
 use Rattle.linear_form.specs.Paths.{IsPath, end_at}
 use Rattle.linear_form.specs.PlainPaths.{path_of}
 use Rattle.linear_form.specs.Places.{IsOn}

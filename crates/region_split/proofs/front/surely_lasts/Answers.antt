@@ -1,5 +1,5 @@
 use Rattle.std.proofs.Common.{refl, sym, subst}
-use Rattle.linear_form.specs.Lasting.{IsNoEnd}
+use Rattle.linear_form.specs.LastingPaths.{IsNoEnd}
 use Rattle.linear_form.specs.Paths.{IsPath}
 use Rattle.linear_form.specs.PlainPaths.{path_of, taken_of}
 use Rattle.region_split.specs.internal.Trails.{ArePlaces}

@@ -3,9 +3,9 @@ use Rattle.std.specs.Prelude.{IfOk, IfSome}
 use Rattle.std.proofs.lemmas.List.{length-map}
 use Rattle.heylo_formula.specs.Goals.{goal_of}
 use Rattle.linear_form.specs.PlainPaths.{path_of, atom_of, taken_of}
-use Rattle.region_split.specs.internal.Known.{AreKnown, IsRecalled}
+use Rattle.region_split.specs.internal.KnownComparisons.{AreKnown, IsRecalled}
 use Rattle.region_split.specs.internal.Repeats.{IsAsked, AreAnswerRows, IsRepeat}
-use Rattle.region_split.proofs.Climbing.{taken}
+use Rattle.region_split.proofs.WalkMoves.{taken}
 use Rattle.region_split.proofs.AnsweredBefore.{rows_few, question_path}
 use Rattle.region_split.proofs.repeats.repeated.Goals as goal
 

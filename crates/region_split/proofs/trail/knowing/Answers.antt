@@ -1,6 +1,6 @@
 use Rattle.std.proofs.Common.{refl, sym, subst}
 use Rattle.std.proofs.lemmas.List.Elements.{All-push}
-use Rattle.region_split.specs.internal.Known.{AreKnown, IsKnown}
+use Rattle.region_split.specs.internal.KnownComparisons.{AreKnown, IsKnown}
 use Rattle.region_split.proofs.Trails.{stands_still}
 use Rattle.region_split.proofs.trail.knowing.Goals as goal
 

@@ -5,7 +5,7 @@ use Rattle.linear_form.specs.PlainPaths.{path_of}
 use Rattle.linear_guess.specs.Searches.{Remembers}
 use Rattle.region_split.specs.declared.trail.Way.TheVariants.{Open}
 use Rattle.std.proofs.lemmas.List.Elements.{All-nil}
-use Rattle.region_split.specs.internal.Known.{AreKnown, IsKnown}
+use Rattle.region_split.specs.internal.KnownComparisons.{AreKnown, IsKnown}
 use Rattle.region_split.proofs.Trails.{comes_first}
 use Rattle.region_split.proofs.trail.start.Goals as goal
 

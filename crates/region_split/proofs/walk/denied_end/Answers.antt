@@ -1,15 +1,15 @@
 use Rattle.std.proofs.Common.{◌≡◌, length, refl, sym, ap, subst, arith, true}
 use Rattle.std.specs.Prelude.{None, Some}
 use Rattle.heylo_formula.specs.Goals.{goal_of}
-use Rattle.linear_form.specs.Asked.{Answers}
+use Rattle.linear_form.specs.AskAnswers.{Answers}
 use Rattle.linear_form.specs.Paths.{IsPath, end_at}
 use Rattle.linear_form.specs.PathRows.{rows_of}
 use Rattle.linear_form.specs.PlainPaths.{path_of}
-use Rattle.linear_form.specs.declared.asking.Ask as K
+use Rattle.linear_form.specs.declared.questions.Ask as K
 use Rattle.goal_answers.specs.declared.causes.Cause.TheVariants.{Bits}
 use Rattle.linear_form.specs.RowLists.{ArePathRows}
 use Rattle.linear_guess.specs.Searches.{Remembers}
-use Rattle.region_split.specs.internal.Seen.{AreRowsAt}
+use Rattle.region_split.specs.internal.PathFindings.{AreRowsAt}
 use Rattle.region_split.specs.internal.Progress.{EndsPiece, IsCellStand, IsJudgedCell}
 use Rattle.region_split.proofs.PathAnswers.{no_rows}
 use Rattle.region_split.proofs.Trails.{looked, remembers_list}

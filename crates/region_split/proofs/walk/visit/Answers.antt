@@ -3,7 +3,7 @@ use Rattle.heylo_formula.specs.Goals.{goal_of}
 use Rattle.linear_form.specs.Cells.{GoesOn}
 use Rattle.linear_form.specs.PlainPaths.{path_of, atom_of}
 use Rattle.linear_form.specs.Places.{IsOn}
-use Rattle.region_split.specs.internal.Seen.{IsEndOf}
+use Rattle.region_split.specs.internal.PathFindings.{IsEndOf}
 use Rattle.region_split.specs.internal.Trails.{IsDroppedBy}
 use Rattle.region_split.proofs.Steps.{path_length, come_asked, come_path, walk_short, standing, with_trail, step_from, dropped_walk, front_ends}
 use Rattle.region_split.proofs.walk.visit.Goals as goal

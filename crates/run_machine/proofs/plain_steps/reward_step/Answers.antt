@@ -1,5 +1,5 @@
 use Rattle.std.proofs.Common.{ap, ◌∙◌}
-use Rattle.heyvl_num.specs.Extended.{value_of}
+use Rattle.heyvl_num.specs.ExtendedNumbers.{value_of}
 use Rattle.heylo_formula.specs.PlainTrees.{form_of}
 use Rattle.heylo_formula.specs.State.{environment}
 use Rattle.heylo_formula.specs.Choices.{Choices}

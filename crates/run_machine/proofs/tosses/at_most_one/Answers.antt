@@ -1,4 +1,4 @@
-use Rattle.heyvl_num.specs.Extended.{value_of}
+use Rattle.heyvl_num.specs.ExtendedNumbers.{value_of}
 use Rattle.run_machine.proofs.TossWeights.{exact_is, part_of_one, weight_is}
 use Rattle.run_machine.proofs.tosses.at_most_one.Goals as goal
 use Rattle.std.proofs.Common.{Some, ap, ◌∙◌}

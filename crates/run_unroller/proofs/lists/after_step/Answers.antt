@@ -4,13 +4,13 @@ use Rattle.heyvl_acts.specs.PlainActs.{procedures_of}
 use Rattle.heyvl_acts.specs.Rules.{Each}
 use Rattle.run_machine.specs.ConfigConditions.{HasRoom, IsConfig}
 use Rattle.run_machine.specs.Names.{stored}
-use Rattle.run_machine.specs.SameStored.{same_stored}
+use Rattle.run_machine.specs.SameConfigurations.{same_stored}
 use Rattle.run_unroller.specs.Causes.{all_brought, brought, first_cause}
 use Rattle.run_unroller.specs.MergedLists.{merged_onto}
 use Rattle.run_unroller.specs.RunLists.{follow}
 use Rattle.run_unroller.specs.internal.Extensions.{Extends}
 use Rattle.run_unroller.specs.internal.RunViews.{runs_of}
-use Rattle.run_unroller.proofs.Following.{joined_next, joined_none, onto_more, onto_none}
+use Rattle.run_unroller.proofs.StepOutcomes.{joined_next, joined_none, onto_more, onto_none}
 use Rattle.run_unroller.proofs.lists.after_step.Goals as goal
 
 pub loop-config-init : goal.loop-config-init

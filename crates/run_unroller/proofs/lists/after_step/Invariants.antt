@@ -3,7 +3,7 @@ use Rattle.heyvl_num.specs.WeightedSums.{joined}
 use Rattle.heyvl_acts.specs.PlainActs.{procedures_of}
 use Rattle.heyvl_acts.specs.Rules.{Each}
 use Rattle.run_machine.specs.ConfigConditions.{HasRoom, IsConfig}
-use Rattle.run_machine.specs.SameStored.{same_stored}
+use Rattle.run_machine.specs.SameConfigurations.{same_stored}
 use Rattle.run_unroller.specs.Causes.{all_brought, first_cause, step_cause}
 use Rattle.run_unroller.specs.MergedLists.{merged_onto}
 use Rattle.run_unroller.specs.RunLists.{after_step, follow}

@@ -4,7 +4,7 @@ use Rattle.run_machine.specs.Names.{decision_of, stored}
 use Rattle.run_machine.specs.Replies.{stored_outcomes}
 use Rattle.run_machine.specs.StepAnswers.{IsStep}
 use Rattle.run_unroller.specs.internal.RunViews.{runs_of}
-use Rattle.run_unroller.proofs.Following.{ended_joins, if_ok, is_nothing, is_something, running_joins}
+use Rattle.run_unroller.proofs.StepOutcomes.{ended_joins, if_ok, is_nothing, is_something, running_joins}
 use Rattle.run_unroller.proofs.lists.follow_run.Goals as goal
 
 pub returns-then-is_empty : goal.returns-then-is_empty

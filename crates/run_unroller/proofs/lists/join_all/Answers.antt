@@ -3,12 +3,12 @@ use Rattle.std.specs.Vec.Iter.{into_iter_items}
 use Rattle.heyvl_num.specs.Rational.{◌*ʳ◌}
 use Rattle.heyvl_num.specs.WeightedSums.{scaled}
 use Rattle.run_machine.specs.Replies.{stored_outcome, stored_outcomes}
-use Rattle.run_machine.specs.SameStored.{same_stored}
+use Rattle.run_machine.specs.SameConfigurations.{same_stored}
 use Rattle.run_unroller.specs.Causes.{Brought, first_cause}
 use Rattle.run_unroller.specs.MergedLists.{merged_onto}
 use Rattle.run_unroller.specs.internal.Extensions.{Extends}
 use Rattle.run_unroller.specs.internal.RunViews.{runs_of}
-use Rattle.run_unroller.proofs.Following.{nothing_left, onto_more, onto_none, scaled_next, scaled_none}
+use Rattle.run_unroller.proofs.StepOutcomes.{nothing_left, onto_more, onto_none, scaled_next, scaled_none}
 use Rattle.run_unroller.proofs.lists.join_all.Goals as goal
 
 pub loop-outcome-preserved : goal.loop-outcome-preserved

@@ -2,7 +2,7 @@ use Rattle.std.proofs.Common.{◌≡◌, List, ◌++◌, map}
 use Rattle.std.specs.Vec.Iter.{into_iter_items}
 use Rattle.heyvl_num.specs.WeightedSums.{scaled}
 use Rattle.run_machine.specs.Replies.{stored_outcomes}
-use Rattle.run_machine.specs.SameStored.{same_stored}
+use Rattle.run_machine.specs.SameConfigurations.{same_stored}
 use Rattle.run_unroller.specs.Causes.{Brought, first_cause}
 use Rattle.run_unroller.specs.MergedLists.{merged_onto}
 use Rattle.run_unroller.specs.internal.RunViews.{runs_of}

@@ -1,6 +1,6 @@
 use Rattle.run_machine.specs.Names.{stored}
 use Rattle.run_unroller.specs.internal.RunViews.{runs_of}
-use Rattle.run_unroller.proofs.Following.{if_ok_both, product_joins}
+use Rattle.run_unroller.proofs.StepOutcomes.{if_ok_both, product_joins}
 use Rattle.run_unroller.proofs.lists.join_outcome.Goals as goal
 
 pub returns-in-Some : goal.returns-in-Some

@@ -5,7 +5,7 @@ use Rattle.std.specs.Int.{w128}
 use Rattle.std.proofs.lemmas.Bool.{lt-ltb}
 use Rattle.heyvl_num.specs.Rational.{ratio}
 use Rattle.heyvl_num.specs.Exact.{exact_quotient}
-use Rattle.run_unroller.proofs.Finding.{same_some, whole_quotient}
+use Rattle.run_unroller.proofs.FoundProcedures.{same_some, whole_quotient}
 use Rattle.run_unroller.proofs.numbers.whole.Goals as goal
 
 quotient_is : (n : ℕ) → n < 2 ^ 64 → exact_quotient (to_z w128 n) (pos 1) ≡ Some (ratio (pos n) 1)

@@ -1,5 +1,5 @@
 use Rattle.std.proofs.Common.{ap, sym}
-use Rattle.run_unroller.proofs.Finding.{found_at, past_all}
+use Rattle.run_unroller.proofs.FoundProcedures.{found_at, past_all}
 use Rattle.run_unroller.proofs.totals.loops_of.Goals as goal
 
 pub returns-in-Some : goal.returns-in-Some

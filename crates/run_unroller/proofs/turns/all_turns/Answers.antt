@@ -1,5 +1,5 @@
 use Rattle.run_machine.specs.Replies.{stored_outcomes}
-use Rattle.run_unroller.proofs.Adding.{no_sum}
+use Rattle.run_unroller.proofs.AddedSums.{no_sum}
 use Rattle.run_unroller.proofs.turns.all_turns.Goals as goal
 
 pub returns-in-None : goal.returns-in-None

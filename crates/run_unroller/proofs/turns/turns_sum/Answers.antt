@@ -5,7 +5,7 @@ use Rattle.heyvl_num.specs.Rational.{ratio}
 use Rattle.run_machine.specs.Names.{turns_of as turns_in}
 use Rattle.run_machine.specs.Replies.{stored_outcomes}
 use Rattle.run_unroller.specs.Totals.{added_fractions, turns_of}
-use Rattle.run_unroller.proofs.Adding.{fraction_next, fraction_one, fractions-none}
+use Rattle.run_unroller.proofs.AddedSums.{fraction_next, fraction_one, fractions-none}
 use Rattle.run_unroller.proofs.turns.turns_sum.Goals as goal
 
 pub loop-run-init : goal.loop-run-init

@@ -5,7 +5,7 @@ use Rattle.run_unroller.specs.internal.RunViews.{runs_of}
 use Rattle.run_unroller.specs.internal.Extensions.{IsAfterStep}
 use Rattle.run_unroller.specs.internal.Growth.{AllWithin}
 use Rattle.run_unroller.proofs.StepGrowth.{list_within}
-use Rattle.run_unroller.proofs.Stopping.{goes_on, one_more, stops, within_configs, within_rooms}
+use Rattle.run_unroller.proofs.StoppedSteps.{goes_on, one_more, stops, within_configs, within_rooms}
 use Rattle.run_unroller.proofs.unrolling.after.Goals as goal
 
 pub after_step-requires-clause-configs : goal.after_step-requires-clause-configs

@@ -6,7 +6,7 @@ use Rattle.run_unroller.specs.RunLists.{begun}
 use Rattle.run_unroller.specs.Unrolling.{unrolling_of}
 use Rattle.run_unroller.specs.internal.Extensions.{IsAfter}
 use Rattle.run_unroller.specs.internal.RunViews.{runs_of}
-use Rattle.run_unroller.proofs.Following.{if_ok}
+use Rattle.run_unroller.proofs.StepOutcomes.{if_ok}
 use Rattle.run_unroller.proofs.StepGrowth.{first_within}
 use Rattle.run_unroller.proofs.Whole.{summed_answer}
 use Rattle.run_unroller.proofs.unrolling.unroll.Goals as goal

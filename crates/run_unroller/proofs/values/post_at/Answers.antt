@@ -1,7 +1,7 @@
 use Rattle.std.proofs.Common.{ap, sym, ◌∙◌}
 use Rattle.std.specs.Prelude.{Some}
 use Rattle.quant_algebra.specs.ExactMeaning.{exact_value}
-use Rattle.run_unroller.proofs.Finding.{found_at, past_all, zero_value}
+use Rattle.run_unroller.proofs.FoundProcedures.{found_at, past_all, zero_value}
 use Rattle.run_unroller.proofs.values.post_at.Goals as goal
 
 pub returns-in-None : goal.returns-in-None

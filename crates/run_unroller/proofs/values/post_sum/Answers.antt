@@ -1,12 +1,12 @@
 use Rattle.std.proofs.Common.{ap, sym, ◌∙◌, ◌+◌, drop}
 use Rattle.std.specs.Prelude.{Some, None, option_map}
-use Rattle.heyvl_num.specs.Extended.{value_of}
+use Rattle.heyvl_num.specs.ExtendedNumbers.{value_of}
 use Rattle.heyvl_acts.specs.Acts.{procedure_at}
 use Rattle.heyvl_acts.specs.PlainActs.{procedures_of}
 use Rattle.run_machine.specs.Replies.{stored_outcomes}
 use Rattle.run_unroller.specs.Totals.{added, ended, post_of}
-use Rattle.run_unroller.proofs.Adding.{added-none, ended_next}
-use Rattle.run_unroller.proofs.Finding.{zero_value}
+use Rattle.run_unroller.proofs.AddedSums.{added-none, ended_next}
+use Rattle.run_unroller.proofs.FoundProcedures.{zero_value}
 use Rattle.run_unroller.proofs.values.post_sum.Goals as goal
 
 pub loop-run-init : goal.loop-run-init

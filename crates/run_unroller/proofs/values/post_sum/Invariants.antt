@@ -1,6 +1,6 @@
 use Rattle.std.proofs.Common.{◌≡◌, drop}
 use Rattle.std.specs.Prelude.{Some}
-use Rattle.heyvl_num.specs.Extended.{value_of}
+use Rattle.heyvl_num.specs.ExtendedNumbers.{value_of}
 use Rattle.heyvl_acts.specs.Acts.{procedure_at}
 use Rattle.heyvl_acts.specs.PlainActs.{procedures_of}
 use Rattle.run_machine.specs.Replies.{stored_outcomes}

@@ -1,10 +1,10 @@
 use Rattle.std.proofs.Common.{ap, sym, ◌∙◌, ◌+◌, drop}
 use Rattle.std.specs.Prelude.{Some, None, option_map}
-use Rattle.heyvl_num.specs.Extended.{value_of}
+use Rattle.heyvl_num.specs.ExtendedNumbers.{value_of}
 use Rattle.run_machine.specs.Replies.{stored_outcomes}
 use Rattle.run_unroller.specs.Totals.{added, reward_of}
-use Rattle.run_unroller.proofs.Adding.{added-none, value_next}
-use Rattle.run_unroller.proofs.Finding.{zero_value}
+use Rattle.run_unroller.proofs.AddedSums.{added-none, value_next}
+use Rattle.run_unroller.proofs.FoundProcedures.{zero_value}
 use Rattle.run_unroller.proofs.values.reward_sum.Goals as goal
 
 pub loop-run-init : goal.loop-run-init

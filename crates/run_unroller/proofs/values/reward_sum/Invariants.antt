@@ -1,6 +1,6 @@
 use Rattle.std.proofs.Common.{◌≡◌, drop}
 use Rattle.std.specs.Prelude.{Some}
-use Rattle.heyvl_num.specs.Extended.{value_of}
+use Rattle.heyvl_num.specs.ExtendedNumbers.{value_of}
 use Rattle.run_machine.specs.Replies.{stored_outcomes}
 use Rattle.run_unroller.specs.Totals.{added, reward_of, reward_total}
 use Rattle.run_unroller.proofs.values.reward_sum.Given as goal

@@ -2,7 +2,7 @@ use Rattle.std.proofs.Common.{sym, ◌∙◌, ◌+◌, drop}
 use Rattle.std.specs.Prelude.{Some, None}
 use Rattle.run_machine.specs.Replies.{stored_outcomes}
 use Rattle.run_unroller.specs.Totals.{running}
-use Rattle.run_unroller.proofs.Adding.{running_next, weights-none}
+use Rattle.run_unroller.proofs.AddedSums.{running_next, weights-none}
 use Rattle.run_unroller.proofs.weights.running_weight.Goals as goal
 
 pub loop-run-preserved : goal.loop-run-preserved

@@ -1,5 +1,5 @@
 use Rattle.std.proofs.Common.{arith, ◌∙◌}
-use Rattle.verdict_report.proofs.Counting.{next_number}
+use Rattle.verdict_report.proofs.NumberLists.{next_number}
 use Rattle.verdict_report.proofs.loops.first_numbers.Goals as goal
 
 pub loop-number-preserved : goal.loop-number-preserved

@@ -1,7 +1,7 @@
 use Rattle.std.proofs.Common.{length, ◌++◌, ◌+◌, ◌≡◌}
 use Rattle.heyvl_acts.specs.PlainActs.{procedures_of}
 use Rattle.heyvl_acts.specs.Rules.{Each}
-use Rattle.verdict_report.specs.Placed.{IsAnswerPlaced}
+use Rattle.verdict_report.specs.PlacedAnswers.{IsAnswerPlaced}
 use Rattle.verdict_report.specs.Reports.{lines_from}
 use Rattle.verdict_report.proofs.reports.report.Given as goal
 

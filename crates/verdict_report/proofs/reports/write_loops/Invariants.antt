@@ -1,7 +1,7 @@
 use Rattle.std.proofs.Common.{length, ◌++◌, ◌≡◌}
 use Rattle.heyvl_acts.specs.PlainActs.{procedures_of}
 use Rattle.heyvl_acts.specs.Rules.{Each}
-use Rattle.verdict_report.specs.Placed.{IsLoopPlaced}
+use Rattle.verdict_report.specs.PlacedAnswers.{IsLoopPlaced}
 use Rattle.verdict_report.specs.Reports.{loop_lines}
 use Rattle.verdict_report.proofs.reports.write_loops.Given as goal
 

@@ -1,9 +1,9 @@
 use Rattle.std.proofs.Common.{◌≡◌, map, ◌++◌}
 use Rattle.std.specs.Vec.Iter.{into_iter_items}
-use Rattle.verify_core.specs.Decided.{certificates}
+use Rattle.verify_core.specs.GoalDecisions.{certificates}
 use Rattle.verify_core.specs.DecidedRankings.{told_rankings}
 use Rattle.verify_core.specs.internal.Outcomes.{loop_answer}
-use Rattle.verify_core.specs.internal.Settled.{plain}
+use Rattle.verify_core.specs.internal.SettledGoals.{plain}
 use Rattle.verify_core.proofs.ranking_outcomes.gather_rankings.Given as goal
 
 -- What came so far and what comes of the goals that are left are what comes of all.

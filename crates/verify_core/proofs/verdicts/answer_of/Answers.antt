@@ -1,7 +1,7 @@
 use Rattle.std.proofs.Common.{ap, append_assoc, sym, ◌∙◌, ◌++◌}
 use Rattle.heyvl_acts.specs.Acts.{TypedProcedure}
 use Rattle.loop_encodings.proofs.exported.FromRules.{procedure_is}
-use Rattle.verify_core.specs.Decided.{listed}
+use Rattle.verify_core.specs.GoalDecisions.{listed}
 use Rattle.verify_core.specs.internal.Outcomes.{told_by}
 use Rattle.verify_core.proofs.verdicts.answer_of.Goals as goal
 

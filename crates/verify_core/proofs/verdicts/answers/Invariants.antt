@@ -1,7 +1,7 @@
 use Rattle.std.proofs.Common.{◌≡◌, ◌++◌, ◌+◌, List, drop, length}
 use Rattle.std.specs.Vec.Iter.{into_iter_items}
 use Rattle.heyvl_acts.specs.PlainActs.{procedures_of}
-use Rattle.verify_core.specs.Decided.{DecidedGoal}
+use Rattle.verify_core.specs.GoalDecisions.{DecidedGoal}
 use Rattle.verify_core.specs.internal.Marks.{AreMarks}
 use Rattle.verify_core.specs.internal.Outcomes.{AreOutcomes}
 use Rattle.verify_core.specs.internal.Verdicts.{all_told_by}

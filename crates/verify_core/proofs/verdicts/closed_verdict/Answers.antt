@@ -1,7 +1,7 @@
 use Rattle.std.proofs.Common.{arith, subst, sym, ◌<◌, length, slice_index_or}
 use Rattle.std.proofs.lemmas.List.{length-map}
 use Rattle.heyvl_acts.specs.PlainActs.{procedure_of, procedures_of}
-use Rattle.proc_contracts.specs.Reached.{AreReached}
+use Rattle.proc_contracts.specs.ReachedProcedures.{AreReached}
 use Rattle.verify_core.proofs.ProcedureMarks.{all_closed, all_within, first_open}
 use Rattle.verify_core.proofs.verdicts.closed_verdict.Goals as goal
 

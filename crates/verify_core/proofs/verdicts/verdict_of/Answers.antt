@@ -1,5 +1,5 @@
 use Rattle.std.proofs.Common.{refl}
-use Rattle.verify_core.specs.Numbered.{row_at}
+use Rattle.verify_core.specs.NumberedLists.{row_at}
 use Rattle.verify_core.proofs.ProvedVerdicts.{all_are_proved, falsified_here, unknown_here}
 use Rattle.verify_core.proofs.verdicts.verdict_of.Goals as goal
 

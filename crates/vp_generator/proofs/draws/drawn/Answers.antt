@@ -1,12 +1,12 @@
 use Rattle.std.proofs.Common.{sym, subst}
 use Rattle.heylo_formula.specs.PlainTrees.{term_of}
 use Rattle.heylo_graph.specs.Trees.{Tree}
-use Rattle.heylo_graph.proofs.exported.Standing.{stands_longer}
+use Rattle.heylo_graph.proofs.exported.LongerLists.{stands_longer}
 use Rattle.heyvl_acts.specs.PlainActs.{parts_of}
-use Rattle.vp_generator.specs.Generated.{part_form, draw_form}
+use Rattle.vp_generator.specs.GeneratedForms.{part_form, draw_form}
 use Rattle.vp_generator.specs.internal.Making.{IsMade}
-use Rattle.vp_generator.proofs.Building.{stop_of_draw}
-use Rattle.vp_generator.proofs.Generating.{draw_ready}
+use Rattle.vp_generator.proofs.BuiltForms.{stop_of_draw}
+use Rattle.vp_generator.proofs.GeneratorSteps.{draw_ready}
 use Rattle.vp_generator.proofs.Making.{ready_longer, made_placed}
 use Rattle.vp_generator.proofs.draws.drawn.Goals as goal
 

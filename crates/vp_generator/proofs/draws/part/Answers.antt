@@ -1,6 +1,6 @@
 use Rattle.heylo_formula.specs.PlainTrees.{term_of}
 use Rattle.heylo_formula.specs.Substitution as Replaced
-use Rattle.vp_generator.proofs.Building.{stop_of_scale}
+use Rattle.vp_generator.proofs.BuiltForms.{stop_of_scale}
 use Rattle.vp_generator.proofs.Making.{made_form}
 use Rattle.vp_generator.proofs.draws.part.Goals as goal
 

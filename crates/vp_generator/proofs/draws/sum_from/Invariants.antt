@@ -1,5 +1,5 @@
 use Rattle.std.proofs.Common.{length}
-use Rattle.vp_generator.proofs.Generating.{KeptParts}
+use Rattle.vp_generator.proofs.GeneratorSteps.{KeptParts}
 use Rattle.vp_generator.proofs.draws.sum_from.Given as goal
 
 abbrev pub invariant-parts : goal.invariant-parts

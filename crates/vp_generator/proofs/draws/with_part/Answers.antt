@@ -1,9 +1,9 @@
 use Rattle.heylo_formula.specs.PlainTrees.{term_of}
 use Rattle.heylo_graph.specs.Trees.{Tree}
-use Rattle.heylo_graph.proofs.exported.Standing.{stands_longer}
-use Rattle.vp_generator.proofs.Building.{stop_of_right}
+use Rattle.heylo_graph.proofs.exported.LongerLists.{stands_longer}
+use Rattle.vp_generator.proofs.BuiltForms.{stop_of_right}
 use Rattle.vp_generator.proofs.Making.{formula_longer, made_form}
-use Rattle.vp_generator.specs.Generated.{part_form}
+use Rattle.vp_generator.specs.GeneratedForms.{part_form}
 use Rattle.vp_generator.proofs.draws.with_part.Goals as goal
 
 pub added-requires-clause-first : goal.added-requires-clause-first

@@ -1,7 +1,7 @@
 use Rattle.std.proofs.Common.{◌+◌, length}
 use Rattle.heyvl_acts.specs.PlainActs.{act_of, acts_of, arms_of}
 use Rattle.vp_generator.proofs.Weights.{weight, weight_of, weight_of_arms}
-use Rattle.vp_generator.proofs.Generating.{Kept, KeptArms}
+use Rattle.vp_generator.proofs.GeneratorSteps.{Kept, KeptArms}
 use Rattle.vp_generator.proofs.generation.+generating.Given as goal
 
 abbrev pub invariant-over_acts-acts : goal.invariant-over_acts-acts

@@ -1,5 +1,5 @@
 use Rattle.heyvl_acts.specs.PlainActs.{acts_of}
-use Rattle.vp_generator.proofs.Building.{stop_of_acts}
+use Rattle.vp_generator.proofs.BuiltForms.{stop_of_acts}
 use Rattle.vp_generator.proofs.Making.{same_form}
 use Rattle.vp_generator.proofs.generation.from_post.Goals as goal
 

@@ -1,4 +1,4 @@
-use Rattle.heylo_graph.proofs.exported.Standing.{fits, bind_node}
+use Rattle.heylo_graph.proofs.exported.LongerLists.{fits, bind_node}
 use Rattle.vp_generator.proofs.nodes_of_acts.bound.Goals as goal
 
 pub joined-requires-clause-fits : goal.joined-requires-clause-fits

@@ -1,4 +1,4 @@
-use Rattle.heylo_graph.proofs.exported.Standing.{fits, min_node, max_node, imply_node, co_imply_node}
+use Rattle.heylo_graph.proofs.exported.LongerLists.{fits, min_node, max_node, imply_node, co_imply_node}
 use Rattle.vp_generator.proofs.nodes_of_acts.check_joined.Goals as goal
 
 pub joined-requires-clause-fits : goal.joined-requires-clause-fits

@@ -1,4 +1,4 @@
-use Rattle.heylo_graph.proofs.exported.Standing.{fits, min_node, max_node}
+use Rattle.heylo_graph.proofs.exported.LongerLists.{fits, min_node, max_node}
 use Rattle.vp_generator.proofs.nodes_of_acts.picked.Goals as goal
 
 pub joined-requires-clause-fits : goal.joined-requires-clause-fits

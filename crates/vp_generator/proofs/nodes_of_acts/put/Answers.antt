@@ -1,4 +1,4 @@
-use Rattle.heylo_graph.proofs.exported.Standing.{tree_within}
+use Rattle.heylo_graph.proofs.exported.LongerLists.{tree_within}
 use Rattle.vp_generator.proofs.nodes_of_acts.put.Goals as goal
 
 pub small-requires-clause-there : goal.small-requires-clause-there

@@ -1,5 +1,5 @@
 use Rattle.heylo_graph.specs.Trees.{Tree}
-use Rattle.heylo_graph.proofs.exported.Standing.{fits, select_node, stands_longer}
+use Rattle.heylo_graph.proofs.exported.LongerLists.{fits, select_node, stands_longer}
 use Rattle.vp_generator.proofs.nodes_of_acts.selected.Goals as goal
 
 pub joined-requires-clause-fits : goal.joined-requires-clause-fits

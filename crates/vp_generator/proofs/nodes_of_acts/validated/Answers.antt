@@ -1,4 +1,4 @@
-use Rattle.heylo_graph.proofs.exported.Standing.{fits, co_validate_node, validate_node}
+use Rattle.heylo_graph.proofs.exported.LongerLists.{fits, co_validate_node, validate_node}
 use Rattle.vp_generator.proofs.nodes_of_acts.validated.Goals as goal
 
 pub joined-requires-clause-fits : goal.joined-requires-clause-fits

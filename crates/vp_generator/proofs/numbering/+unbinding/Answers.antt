@@ -1,6 +1,6 @@
 use Rattle.std.proofs.Common.{◌+◌, ap, ◌∙◌}
 use Rattle.heylo_formula.specs.PlainTrees.{form_of, cond_of}
-use Rattle.vp_generator.proofs.Numbered.{select_numbered, ite_numbered, body_numbered}
+use Rattle.vp_generator.proofs.NumberedParts.{select_numbered, ite_numbered, body_numbered}
 use Rattle.vp_generator.proofs.numbering.+unbinding.Goals as goal
 
 pub choice-returns-clause-tree : goal.choice-returns-clause-tree

@@ -1,9 +1,9 @@
 use Rattle.heylo_formula.specs.Formula.{Cond, Term}
 use Rattle.heylo_formula.specs.Substitution as Replaced
 use Rattle.heylo_graph.specs.Trees.{Tree}
-use Rattle.heylo_graph.proofs.exported.Standing.{fits, product_node, stands_longer}
-use Rattle.vp_generator.proofs.Building.{stop_of_product}
-use Rattle.vp_generator.proofs.Generating.{flag_ready}
+use Rattle.heylo_graph.proofs.exported.LongerLists.{fits, product_node, stands_longer}
+use Rattle.vp_generator.proofs.BuiltForms.{stop_of_product}
+use Rattle.vp_generator.proofs.GeneratorSteps.{flag_ready}
 use Rattle.vp_generator.proofs.tosses.side.Goals as goal
 
 pub put-requires-clause-ready : goal.put-requires-clause-ready

@@ -1,5 +1,5 @@
 use Rattle.std.proofs.Common.{◌∙◌, sym}
-use Rattle.heyvl_num.proofs.Fitting.{sum_refuses_left, sum_refuses_right, sum_refuses_den, sum_refuses_num, sum_made}
+use Rattle.heyvl_num.proofs.ExactParts.{sum_refuses_left, sum_refuses_right, sum_refuses_den, sum_refuses_num, sum_made}
 use Rattle.heyvl_num.proofs.fractions.Frac.add.Goals as goal
 
 pub returns-in_err-left : goal.returns-in_err-left

@@ -1,5 +1,5 @@
 use Rattle.std.proofs.Common.{◌∙◌, sym}
-use Rattle.heyvl_num.proofs.Fitting.{order_refuses_left, order_refuses_right, order_made}
+use Rattle.heyvl_num.proofs.ExactParts.{order_refuses_left, order_refuses_right, order_made}
 use Rattle.heyvl_num.proofs.fractions.Frac.compare.Goals as goal
 
 pub returns-in_err-here : goal.returns-in_err-here

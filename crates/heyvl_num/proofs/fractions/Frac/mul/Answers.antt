@@ -1,5 +1,5 @@
 use Rattle.std.proofs.Common.{◌∙◌, sym}
-use Rattle.heyvl_num.proofs.Fitting.{product_refuses_num, product_refuses_den, product_made}
+use Rattle.heyvl_num.proofs.ExactParts.{product_refuses_num, product_refuses_den, product_made}
 use Rattle.heyvl_num.proofs.fractions.Frac.mul.Goals as goal
 
 pub returns-in_err-num : goal.returns-in_err-num

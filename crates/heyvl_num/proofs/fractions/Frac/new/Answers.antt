@@ -1,5 +1,5 @@
 use Rattle.std.proofs.Common.{sym}
-use Rattle.heyvl_num.proofs.Fitting.{given, quotient_refused, positive_den, negative_den, negated_fits, negated_small, quotient_made, quotient_turned}
+use Rattle.heyvl_num.proofs.ExactParts.{given, quotient_refused, positive_den, negative_den, negated_fits, negated_small, quotient_made, quotient_turned}
 use Rattle.heyvl_num.proofs.fractions.Frac.new.Goals as goal
 
 pub overflow_sub-num : goal.overflow_sub-num

@@ -1,4 +1,4 @@
-use Rattle.heyvl_num.proofs.Reducing.{divisor, parts, whole_parts}
+use Rattle.heyvl_num.proofs.Quotients.{divisor, parts, whole_parts}
 use Rattle.heyvl_num.proofs.fractions.Frac.reduced.Goals as goal
 
 pub overflow_cast-divisor : goal.overflow_cast-divisor

@@ -1,5 +1,5 @@
 use Rattle.std.proofs.Common.{◌∙◌, sym}
-use Rattle.heyvl_num.proofs.Fitting.{difference_refuses_left, difference_refuses_right, difference_refuses_den, difference_refuses_num, difference_made}
+use Rattle.heyvl_num.proofs.ExactParts.{difference_refuses_left, difference_refuses_right, difference_refuses_den, difference_refuses_num, difference_made}
 use Rattle.heyvl_num.proofs.fractions.Frac.sub.Goals as goal
 
 pub returns-in_err-left : goal.returns-in_err-left

@@ -1,5 +1,5 @@
 use Rattle.heyvl_replies.proofs.CheckedReports.{can_report_checked}
-use Rattle.heyvl_replies.proofs.Reporting.{short_bytes}
+use Rattle.heyvl_replies.proofs.ReportNeeds.{short_bytes}
 use Rattle.heyvl_replies.proofs.commands.check.report_by.Goals as goal
 
 pub report-requires : goal.report-requires

@@ -1,6 +1,6 @@
 use Rattle.heyvl_acts.specs.PlainActs.{procedures_of}
 use Rattle.heyvl_replies.proofs.PairReplies.{omega_has_pair}
-use Rattle.heyvl_replies.proofs.Reporting.{short_bytes}
+use Rattle.heyvl_replies.proofs.ReportNeeds.{short_bytes}
 use Rattle.heyvl_replies.proofs.commands.omega.of_pair.Goals as goal
 
 pub omega_text-requires-clause-short : goal.omega_text-requires-clause-short

@@ -1,7 +1,7 @@
 use Rattle.heyvl_acts.specs.PlainActs.{procedure_of, procedures_of}
 use Rattle.heyvl_replies.proofs.SaidOfFiles.{one_for_each}
 use Rattle.heyvl_replies.proofs.PairReplies.{gives_bound, gives_goals, gives_turns, remainder_has_pair}
-use Rattle.heyvl_replies.proofs.Reporting.{short_bytes}
+use Rattle.heyvl_replies.proofs.ReportNeeds.{short_bytes}
 use Rattle.heyvl_replies.proofs.commands.remainder.of_pair.Goals as goal
 use Rattle.std.proofs.Common.{◌∙◌}
 use Rattle.std.proofs.lemmas.List.{length-map}

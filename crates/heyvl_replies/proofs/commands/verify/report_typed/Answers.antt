@@ -1,4 +1,4 @@
-use Rattle.heyvl_replies.proofs.Reporting.{can_report, short_bytes}
+use Rattle.heyvl_replies.proofs.ReportNeeds.{can_report, short_bytes}
 use Rattle.heyvl_replies.proofs.commands.verify.report_typed.Goals as goal
 
 pub report-requires : goal.report-requires

@@ -1,6 +1,0 @@
-use Rattle.std.proofs.Common.{take, []}
-use Rattle.linear_elim.specs.internal.Counting.{terms_at, puts, all_terms, IsTable}
-use Rattle.linear_elim.proofs.counting.count_kept.Given as goal
-
-abbrev pub invariant-loop-k : goal.invariant-loop-k
-invariant-loop-k l = IsTable (terms_at l.step l.kept) l.table (puts (all_terms (take l.k l.kept)) [])

@@ -1,0 +1,10 @@
+use Rattle.std.proofs.Common.{◌≡◌, ◌++◌, drop}
+use Rattle.proc_contracts.specs.internal.MarkedNumbers.{marked}
+use Rattle.proc_contracts.proofs.reached_procedures.numbers_of.Given as goal
+
+-- What is found and what is marked of the rest are what is marked.
+abbrev pub invariant-loop-mark : goal.invariant-loop-mark
+invariant-loop-mark l = record {
+  counted : l.number ≡ l.mark-index;
+  found : l.found.items ++ marked l.number (drop l.mark-index l.marks) ≡ marked 0 l.marks;
+}

@@ -1,0 +1,195 @@
+//! Comparisons that are known with the rows of both answers.
+
+ghost use Rattle.std.specs.Prelude.{◌≡◌, List, true, false, IfOk, IfSome, IsTrue};
+ghost use Rattle.heylo_formula.specs.declared.types.Ty.{Ty as PlainTy};
+ghost use Rattle.linear_form.specs.PlainPaths.{atom_of};
+ghost use Rattle.linear_values.specs.PlainValues.{lin_of};
+ghost use Rattle.region_split.specs.internal.KnownComparisons.{AreKnown, IsKnown, IsRecalled, IsRowOf, question_of};
+
+use crate::answer_rows::AnswerRows;
+use crate::clashes::clash;
+use crate::moved_multipliers::is_same_row;
+use heyvl_num::Frac;
+use linear_form::{Atom, Taken};
+use linear_rows::Row;
+use linear_values::Lin;
+use std::alloc::{AllocError, Global};
+
+/// A comparison that a path has answered, and the rows of both answers, which clash.
+#[derive(Drop)]
+pub struct Known {
+    /// The linear value that is compared with 0.
+    pub left: Lin,
+    /// Whether it is to be below 0, and not only at most 0.
+    pub strict: bool,
+    /// The row of yes.
+    pub yes: Row,
+    /// The row of no.
+    pub no: Row,
+    /// The index that the answer's row has on the path.
+    pub index: usize,
+}
+
+/// An answer that a path has given before: its row, and the index that this row has on the path.
+#[derive(Drop)]
+pub struct Recalled {
+    pub held: bool,
+    pub row: Row,
+    pub index: usize,
+}
+
+/// The same value again. Want of memory is the one error.
+pub fn copy_value(alloc: Global, value: &Lin) -> Result<Lin, AllocError>
+    ensures { IfOk result (λ v. lin_of v ≡ lin_of value.now) }
+{
+    let mut terms = Vec::new(alloc);
+    terms.extend_from_slice(&value.terms)?;
+    Ok(Lin {
+        terms,
+        rest: value.rest,
+    })
+}
+
+/// The same row again. Want of memory is the one error.
+pub fn copy_row(alloc: Global, row: &Row) -> Result<Row, AllocError>
+    ensures { IfOk result (λ r. r ≡ row.now) }
+{
+    let mut terms = Vec::new(alloc);
+    terms.extend_from_slice(&row.terms)?;
+    Ok(Row {
+        terms,
+        rest: row.rest,
+        strict: row.strict,
+    })
+}
+
+/// The comparison with the rows of its answers; none where these don't clash. Want of memory is the one error.
+pub fn make_known(
+    alloc: Global,
+    atom: &Atom,
+    rows: AnswerRows,
+    index: usize,
+) -> Result<Option<Known>, AllocError>
+    ensures { (types : List PlainTy) → IsRowOf types (atom_of atom.now) true rows.yes → IsRowOf types (atom_of atom.now) false rows.no → IfOk result (λ k. IfSome k (λ k. IsKnown types k)) }
+{
+    let Atom::Row(left, strict) = atom else {
+        return Ok(None);
+    };
+    if !clash(&rows.yes, &rows.no) {
+        return Ok(None);
+    }
+    if !clash(&rows.no, &rows.yes) {
+        return Ok(None);
+    }
+    Ok(Some(Known {
+        left: copy_value(alloc, left)?,
+        strict: *strict,
+        yes: rows.yes,
+        no: rows.no,
+        index,
+    }))
+}
+
+/// Whether the terms are the same.
+fn are_same_terms(a: &[(u32, Frac)], b: &[(u32, Frac)]) -> bool
+    ensures { IsTrue result → a.now ≡ b.now }
+{
+    let mut first = a;
+    let mut second = b;
+    'terms: while let Some((term, more)) = first.split_first() {
+        let Some((other, rest)) = second.split_first() else {
+            return false;
+        };
+        if term.0 != other.0 || term.1 != other.1 {
+            return false;
+        }
+        first = more;
+        second = rest;
+    }
+    second.is_empty()
+}
+
+/// Whether the values are the same.
+fn is_same_value(a: &Lin, b: &Lin) -> bool
+    ensures { IsTrue result → lin_of a.now ≡ lin_of b.now }
+{
+    a.rest == b.rest && are_same_terms(&a.terms, &b.terms)
+}
+
+/// Whether this is the question.
+fn asks(known: &Known, atom: &Atom) -> bool
+    ensures { IsTrue result → question_of known.now ≡ atom_of atom.now }
+{
+    match atom {
+        Atom::Truth(_) => false,
+        Atom::Row(left, strict) => known.strict == *strict && is_same_value(&known.left, left),
+    }
+}
+
+/// The row of the answer.
+fn row_of(known: &Known, held: bool) -> &Row
+    ensures { (types : List PlainTy) → IsKnown types known.now → IsRowOf types (question_of known.now) held result.now }
+{
+    if held { &known.yes } else { &known.no }
+}
+
+/// The row of an answer that comes to stand at the index, where the last one of these comparisons tells it.
+pub fn row_of_last<'a>(visited: &'a [Known], index: usize, answer: &Taken) -> Option<&'a Row>
+    ensures { (types : List PlainTy) → AreKnown types visited.now → IfSome result (λ r. IsRowOf types (atom_of answer.now.atom) answer.now.held r.now) }
+{
+    let Some(known) = visited.last() else {
+        return None;
+    };
+    if known.index == index && asks(known, &answer.atom) {
+        Some(row_of(known, answer.held))
+    } else {
+        None
+    }
+}
+
+/// The answer whose row stands on the path, where one of them does at the index. Want of memory is the one error.
+fn answer(alloc: Global, known: &Known, rows: &[Row]) -> Result<Option<Recalled>, AllocError>
+    ensures { (types : List PlainTy) → IsKnown types known.now → IfOk result (λ r. IfSome r (λ r. IsRecalled types rows.now (question_of known.now) r)) }
+{
+    let index = known.index;
+    if index >= rows.len() {
+        return Ok(None);
+    }
+    if is_same_row(&rows[index], &known.yes) {
+        return Ok(Some(Recalled {
+            held: true,
+            row: copy_row(alloc, &known.yes)?,
+            index,
+        }));
+    }
+    if is_same_row(&rows[index], &known.no) {
+        return Ok(Some(Recalled {
+            held: false,
+            row: copy_row(alloc, &known.no)?,
+            index,
+        }));
+    }
+    Ok(None)
+}
+
+/// The answer that the path has given to the question, where one of these tells it. Want of memory is the one error.
+pub fn recall(
+    alloc: Global,
+    visited: &[Known],
+    rows: &[Row],
+    atom: &Atom,
+) -> Result<Option<Recalled>, AllocError>
+    ensures { (types : List PlainTy) → AreKnown types visited.now → IfOk result (λ r. IfSome r (λ r. IsRecalled types rows.now (atom_of atom.now) r)) }
+{
+    let mut rest = visited;
+    'known: while let Some((first, others)) = rest.split_first() {
+        if asks(first, atom) {
+            let found = answer(alloc, first, rows)?;
+            if found.is_some() {
+                return Ok(found);
+            }
+        }
+        rest = others;
+    }
+    Ok(None)
+}

@@ -1,0 +1,82 @@
+//! Multipliers of rows that stand among others.
+
+ghost use Rattle.std.specs.Prelude.{◌≡◌, ◌↔◌, ◌<◌, ◌≤◌, ◌+◌, ◌^◌, IsTrue, IfOk, drop, length};
+ghost use Rattle.std.specs.List.{All};
+ghost use Rattle.linear_form.specs.RowListLaws.{StandAmong};
+ghost use Rattle.region_split.specs.internal.MovedRows.{ArePlaces, place_of, moved_all};
+
+use linear_rows::Row;
+use std::alloc::{AllocError, Global};
+
+/// Whether the terms are the same.
+fn are_same_terms(a: &[(u32, i64)], b: &[(u32, i64)]) -> bool
+    ensures { IsTrue result ↔ (a.now ≡ b.now) }
+{
+    if a.len() != b.len() {
+        return false;
+    }
+    for i in 0..a.len() {
+        let (v, c) = a[i];
+        let (w, d) = b[i];
+        if v != w || c != d {
+            return false;
+        }
+    }
+    true
+}
+
+/// Whether the rows are the same.
+pub fn is_same_row(a: &Row, b: &Row) -> bool
+    ensures { IsTrue result ↔ (a.now ≡ b.now) }
+{
+    a.rest == b.rest && a.strict == b.strict && are_same_terms(&a.terms, &b.terms)
+}
+
+/// The places of rows that stand among others from a place on.
+pub fn places(
+    alloc: Global,
+    rows: &[Row],
+    more: &[Row],
+    from: usize,
+) -> Result<Vec<u32>, AllocError>
+    requires inside { from ≤ length more.now }
+    requires among { StandAmong rows.now (drop from more.now) }
+    requires few { length more.now < 2 ^ 32 }
+    ensures { IfOk result (λ v. ArePlaces from rows.now more.now v.items) }
+{
+    let mut places: Vec<u32> = Vec::new(alloc);
+    let mut at = from;
+    'others: while places.len() < rows.len() {
+        if is_same_row(&rows[places.len()], &more[at]) {
+            places.push(at as u32)?;
+        }
+        at += 1;
+    }
+    Ok(places)
+}
+
+/// Where a row stands, once the first rows, as many as are kept, stay where they were and the others stand at these places.
+fn place(index: u32, kept: usize, places: &[u32]) -> u32
+    requires { index < kept + length places.now }
+    ensures { result ≡ place_of kept places.now index }
+{
+    let i = index as usize;
+    if i < kept { index } else { places[i - kept] }
+}
+
+/// The multipliers with the places of their rows as indexes.
+pub fn moved(
+    alloc: Global,
+    multipliers: &[(u32, u64)],
+    kept: usize,
+    places: &[u32],
+) -> Result<Vec<(u32, u64)>, AllocError>
+    requires { All (λ m. m.0 < kept + length places.now) multipliers.now }
+    ensures { IfOk result (λ v. v.items ≡ moved_all (place_of kept places.now) multipliers.now) }
+{
+    let mut out: Vec<(u32, u64)> = Vec::new(alloc);
+    for &(index, multiplier) in multipliers {
+        out.push((place(index, kept, places), multiplier))?;
+    }
+    Ok(out)
+}

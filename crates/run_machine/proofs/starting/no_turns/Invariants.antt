@@ -1,5 +1,0 @@
-use Rattle.std.proofs.Common.{◌≡◌, replicate}
-use Rattle.run_machine.proofs.starting.no_turns.Given as goal
-
-abbrev pub invariant-loop : goal.invariant-loop
-invariant-loop l = l.turns.items ≡ replicate l.counter 0

@@ -1,0 +1,89 @@
+//! Reading a script.
+
+ghost use Rattle.run_script.specs.Lines.{said as said_of, text_lines, without_last_feed};
+ghost use Rattle.run_script.specs.PlainScripts.{known_in, script_of};
+ghost use Rattle.run_script.specs.Scripts.{AreLinesOf, IsFirstFault, Script as Scripted, Spells};
+ghost use Rattle.run_script.specs.Stops.{IsFaultOrMemory, IsMemory, IsStop};
+ghost use Rattle.run_script.specs.internal.ReadLines.{IsStopOf, begun, bytes_of};
+ghost use Rattle.std.specs.Prelude.{IfErr, IfOk, MatchResult, length, option_map, ◌+◌, ◌<◌, ◌^◌, ◌≡◌, ◌≤◌, ℕ};
+
+use crate::lines::{Line, parts, said};
+use crate::scripts::Script;
+use crate::stops::ScriptStop;
+use heyvl_acts::VarInfo;
+use std::alloc::{AllocError, Global};
+
+/// The text without a line feed at its end.
+fn without_last_feed(bytes: &[u8]) -> &[u8]
+    ensures value { result.now ≡ without_last_feed bytes.now }
+    ensures shorter { length result.now ≤ length bytes.now }
+{
+    match bytes.split_last() {
+        Some((last, front)) => { if *last == b'\n' { front } else { bytes } }
+        None => bytes,
+    }
+}
+
+/// The lines of a script.
+fn lines(alloc: Global, bytes: &[u8]) -> Result<Vec<&[u8]>, AllocError>
+    ensures value { IfOk result (λ lines. bytes_of lines.items ≡ text_lines bytes.now) }
+    ensures some { IfOk result (λ lines. 0 < length lines.items) }
+    ensures few { IfOk result (λ lines. length lines.items ≤ length bytes.now + 1) }
+{
+    parts(alloc, without_last_feed(bytes), b'\n')
+}
+
+/// The script of a first line, where it says how many steps the run takes.
+fn first_line(alloc: Global, line: &[u8]) -> Result<Option<Script>, AllocError>
+    ensures { IfOk result (λ script. option_map script_of script ≡ begun (said_of line.now)) }
+{
+    match said(alloc, line) {
+        Ok(Some(Line::Steps(steps))) => Ok(Some(Script::new(alloc, steps))),
+        Ok(_) => Ok(None),
+        Err(error) => Err(error),
+    }
+}
+
+/// The script that these lines are of, or the first one with which no script goes on.
+fn script_of_lines(
+    alloc: Global,
+    known: Option<&[VarInfo]>,
+    lines: &[&[u8]],
+) -> Result<Script, ScriptStop>
+    requires some { 0 < length lines.now }
+    requires few { length lines.now ≤ 2 ^ 31 }
+    ensures found { IfOk result (λ script. AreLinesOf (known_in known.entry) (script_of script) (bytes_of lines.now)) }
+    ensures fault { IfErr result (λ stop. IsStopOf (known_in known.entry) (bytes_of lines.now) stop) }
+{
+    let Some(mut script) = first_line(alloc, lines[0])? else {
+        return Err(ScriptStop::Fault(1));
+    };
+    let mut number = 2;
+    for line in &lines[1..] {
+        if !script.read(alloc, known, line)? {
+            return Err(ScriptStop::Fault(number));
+        }
+        number += 1;
+    }
+    Ok(script)
+}
+
+/// The script that has this text. `known` has the variables that may be set, the inputs and outputs of the procedure that is to
+/// be run; it is None where there is no such procedure. Fails with the first line with which no script goes on where no script
+/// has this text, and otherwise for want of memory alone.
+pub fn read_script(
+    alloc: Global,
+    known: Option<&[VarInfo]>,
+    bytes: &[u8],
+) -> Result<Script, ScriptStop>
+    requires { length bytes.now < 2 ^ 31 }
+    ensures found { IfOk result (λ script. Spells (known_in known.entry) (script_of script) bytes.now) }
+    ensures fault { IfErr result (λ stop. IsStop (known_in known.entry) bytes.now stop) }
+    ensures only { (s : Scripted) → Spells (known_in known.entry) s bytes.now
+        → MatchResult result (λ script. script_of script ≡ s) (λ stop. IsMemory stop) }
+    ensures only_fault { (line : ℕ) → IsFirstFault (known_in known.entry) bytes.now line
+        → MatchResult result (λ _. ⊥) (λ stop. IsFaultOrMemory line stop) }
+{
+    let lines = lines(alloc, bytes)?;
+    script_of_lines(alloc, known, &lines)
+}

@@ -1,0 +1,60 @@
+-- What a report asks of the answers that it shows.
+use Rattle.heyvl_acts.specs.Rules.{Each, MeetsAllRules}
+use Rattle.heyvl_acts.specs.declared.typed_trees.Typed.{Typed}
+use Rattle.goal_answers.specs.declared.causes.Cause.{Cause}
+use Rattle.goal_answers.specs.declared.causes.Cause.TheVariants.{Depth, Nodes, Nonlinear, Cells, Rows, Bits, Fraction}
+use Rattle.proc_contracts.specs.declared.reasons.WhyNot.{WhyNot}
+use Rattle.proc_contracts.specs.declared.reasons.WhyNot.TheVariants as why
+use Rattle.std.specs.Prelude.{List, length, ◌<◌, ◌^◌, ◌≡◌, ◌≤◌, ℕ}
+use Rattle.verdict_report.specs.declared.answers.Answer.{Answer}
+use Rattle.verdict_report.specs.declared.answers.LoopAnswer.{LoopAnswer}
+use Rattle.verdict_report.specs.declared.answers.RankVerdict.{RankVerdict}
+use Rattle.verdict_report.specs.declared.answers.RankVerdict.TheVariants as rank
+use Rattle.verdict_report.specs.declared.answers.Verdict.{Verdict}
+use Rattle.verdict_report.specs.declared.answers.Verdict.TheVariants as verdict
+
+-- The places that a cause, a reason, a verdict and an answer name are in a text of so many bytes, and so are the procedures
+-- among so many.
+abbrev pub IsCausePlaced : ℕ → Cause → Type 0
+IsCausePlaced bytes Depth = Unit {0}
+IsCausePlaced bytes Nodes = Unit {0}
+IsCausePlaced bytes (Nonlinear span) = span.from ≤ bytes
+IsCausePlaced bytes (Cells count) = Unit {0}
+IsCausePlaced bytes (Rows step count) = Unit {0}
+IsCausePlaced bytes Bits = Unit {0}
+IsCausePlaced bytes (Fraction b) = Unit {0}
+
+abbrev pub IsReasonPlaced : ℕ → WhyNot → Type 0
+IsReasonPlaced bytes why.NoBody = Unit {0}
+IsReasonPlaced bytes why.NoWlp = Unit {0}
+IsReasonPlaced bytes why.Quantifier = Unit {0}
+IsReasonPlaced bytes (why.Statement span) = span.from ≤ bytes
+
+abbrev pub IsVerdictPlaced : ℕ → ℕ → Verdict → Type 0
+IsVerdictPlaced bytes procs verdict.Verified = Unit {0}
+IsVerdictPlaced bytes procs (verdict.Valid reason) = IsReasonPlaced bytes reason
+IsVerdictPlaced bytes procs (verdict.Conditional q) = q < procs
+IsVerdictPlaced bytes procs (verdict.NotVerified id s) = Unit {0}
+IsVerdictPlaced bytes procs (verdict.Unknown id cause) = IsCausePlaced bytes cause
+IsVerdictPlaced bytes procs verdict.NoBody = Unit {0}
+IsVerdictPlaced bytes procs (verdict.Unchecked id miss) = Unit {0}
+
+abbrev pub IsRankPlaced : ℕ → RankVerdict → Type 0
+IsRankPlaced bytes rank.Ranked = Unit {0}
+IsRankPlaced bytes (rank.NotRanked s) = Unit {0}
+IsRankPlaced bytes (rank.Unknown cause) = IsCausePlaced bytes cause
+IsRankPlaced bytes (rank.Unchecked miss) = Unit {0}
+
+abbrev pub IsLoopPlaced : ℕ → LoopAnswer → Type 0
+IsLoopPlaced bytes l = IsRankPlaced bytes l.rank
+
+pub record IsAnswerPlaced (bytes procs : ℕ) (a : Answer) : Type 0 where
+  pub verdict : IsVerdictPlaced bytes procs a.verdict
+  pub loops : Each (IsLoopPlaced bytes) a.loops.items
+
+-- The typed tree meets the static rules, there is one answer for each procedure, and what the answers name is there.
+pub record CanReport (bytes : List ℕ) (typed : Typed) (answers : List Answer) : Type 0 where
+  pub short : length bytes < 2 ^ 31
+  pub rules : MeetsAllRules typed
+  pub each : length answers ≡ length typed.procs.items
+  pub placed : Each (IsAnswerPlaced (length bytes) (length typed.procs.items)) answers

@@ -1,4 +1,0 @@
-use Rattle.verify_core.proofs.checking.loop_answer.Goals as goal
-
-pub returns : goal.returns
-returns c = record { miss = c.in_ok-miss.miss; is_miss = c.in_ok-miss.ensures; number = c.loop_number.ensures; verdict = c.rank_for.ensures }

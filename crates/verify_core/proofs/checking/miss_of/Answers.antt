@@ -1,4 +1,0 @@
-use Rattle.verify_core.proofs.checking.miss_of.Goals as goal
-
-pub returns-in-None : goal.returns-in-None
-returns-in-None c = c.tree_for.ensures.none c.in-None.is

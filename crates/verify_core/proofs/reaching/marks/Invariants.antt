@@ -1,6 +1,0 @@
-use Rattle.std.proofs.Common.{◌≡◌, map, take}
-use Rattle.verify_core.specs.internal.Checking.{is_unverified}
-use Rattle.verify_core.proofs.reaching.marks.Given as goal
-
-abbrev pub invariant-loop-verdict : goal.invariant-loop-verdict
-invariant-loop-verdict l = l.marks.items ≡ map is_unverified (take l.verdict-index l.own)

@@ -1,0 +1,135 @@
+//! The goals of a procedure.
+
+ghost use Rattle.heylo_formula.specs.BinderNames.{binders};
+ghost use Rattle.heylo_formula.specs.PlainTrees.{form_of};
+ghost use Rattle.heylo_formula.specs.declared.goals.GoalId.{GoalId};
+ghost use Rattle.heylo_formula.specs.declared.goals.GoalId.TheVariants.{Main};
+ghost use Rattle.heyvl_acts.specs.Acts.{procedure_at};
+ghost use Rattle.heyvl_acts.specs.PlainActs.{procedure_of, procedures_of, variable_of};
+ghost use Rattle.heyvl_acts.specs.Rules.{AreNamed, Each, MeetsAllRules};
+ghost use Rattle.loop_encodings.specs.BoundGoals.{bound_goals};
+ghost use Rattle.std.specs.Prelude.{IfOk, List, length, map, ◌++◌, ◌<◌, ◌≡◌, ◌^◌};
+ghost use Rattle.verify_core.specs.Questions.{AreGoals, IsMadeOf, one_bound, question};
+ghost use Rattle.verify_core.specs.Rankings.{AreAllGoals};
+ghost use Rattle.verify_core.specs.internal.BoundQuestions.{IsAsked, plain};
+
+use crate::bound_questions::{Asked, asked_of};
+use crate::rankings::rankings;
+use goal_answers::NamedGoal;
+use heylo_formula::{Form, GoalId, Made, what_substitution_gives};
+use heyvl_acts::{TProc, Typed, VarInfo};
+use heyvl_num::Ext;
+use loop_encodings::{encode, encodings_are_over_their_variables};
+use std::alloc::{AllocError, Global};
+use vp_generator::{VpStop, generated_form_means_acts, goal_of_forms, vp};
+
+/// The goals of the procedure: none without a body; else those of its bound, and then one for each of its rankings, in the order
+/// of the text. Want of memory is the one error.
+pub fn goals(alloc: Global, typed: &Typed, p: u32) -> Result<Vec<NamedGoal>, AllocError>
+    requires there { p < length typed.now.procs.items }
+    requires rules { MeetsAllRules typed.now }
+    ensures { IfOk result (λ all. AreAllGoals (procedures_of typed.now) p all.items) }
+{
+    let mut all = bounds(alloc, typed, p)?;
+    let mut ranked = rankings(alloc, typed, p)?;
+    all.append(&mut ranked)?;
+    Ok(all)
+}
+
+/// The goals of the procedure's bound: none without a body; else the main one and, for a weak proc, that its pre, its post and
+/// each of its invariants, in the order of the text, are at most 1.
+pub(crate) fn bounds(alloc: Global, typed: &Typed, p: u32) -> Result<Vec<NamedGoal>, AllocError>
+    requires there { p < length typed.now.procs.items }
+    requires rules { MeetsAllRules typed.now }
+    ensures { IfOk result (λ all. AreGoals (procedures_of typed.now) p (bound_goals (procedure_at (procedures_of typed.now) p)) all.items) }
+{
+    what_substitution_gives();
+    let procedure = &typed.procs[p as usize];
+    let mut all = Vec::new(alloc);
+    if procedure.body.is_none() {
+        return Ok(all);
+    }
+    let made = main_goal(alloc, typed, p)?;
+    all.push(NamedGoal {
+        proc: p,
+        id: GoalId::Main,
+        made,
+    })?;
+    if !procedure.weak {
+        return Ok(all);
+    }
+    let asked = asked_of(alloc, procedure)?;
+    add_bounds(alloc, typed, p, asked, all)
+}
+
+/// The main goal: the encoded body, generated over the post, against the pre.
+fn main_goal(alloc: Global, typed: &Typed, p: u32) -> Result<Made, AllocError>
+    requires there { p < length typed.now.procs.items }
+    requires rules { MeetsAllRules typed.now }
+    ensures { IfOk result (λ made. IsMadeOf (question (procedures_of typed.now) (procedure_at (procedures_of typed.now) p) Main) made) }
+{
+    generated_form_means_acts();
+    encodings_are_over_their_variables();
+    let procedure = &typed.procs[p as usize];
+    let encoded = encode(alloc, typed, p)?;
+    let post = procedure.post.copy(alloc)?;
+    let pre = procedure.pre.copy(alloc)?;
+    match vp(alloc, &encoded.acts, post) {
+        Ok(found) => goal_of_forms(alloc, procedure.co, pre, found, encoded.vars),
+        Err(VpStop::Depth) => Ok(Made::Depth),
+        Err(VpStop::Nodes) => Ok(Made::Nodes),
+        Err(VpStop::Memory(error)) => Err(error),
+    }
+}
+
+/// The goals that formulas of the procedure are at most 1 are appended.
+fn add_bounds(
+    alloc: Global,
+    typed: &Typed,
+    p: u32,
+    asked: Vec<Asked>,
+    all: Vec<NamedGoal>,
+) -> Result<Vec<NamedGoal>, AllocError>
+    requires there { p < length typed.now.procs.items }
+    requires rules { MeetsAllRules typed.now }
+    requires asked { Each (IsAsked (procedures_of typed.now) (procedure_at (procedures_of typed.now) p)) (map plain asked.items) }
+    ensures { (ids : List GoalId) → AreGoals (procedures_of typed.now) p ids all.items → IfOk result (λ more. AreGoals (procedures_of typed.now) p (ids ++ map (λ a. a.0) (map plain asked.items)) more.items) }
+{
+    let mut more = all;
+    for one in asked {
+        let id = one.id;
+        let made = bound_goal(alloc, &typed.procs[p as usize], one.form)?;
+        more.push(NamedGoal { proc: p, id, made })?;
+    }
+    Ok(more)
+}
+
+/// The goal that a formula over the procedure's variables is at most 1.
+fn bound_goal(alloc: Global, procedure: &TProc, form: Form) -> Result<Made, AllocError>
+    requires few { length procedure.now.vars.items < 2 ^ 30 }
+    requires named { AreNamed (length procedure.now.vars.items) (binders (form_of form)) }
+    ensures { IfOk result (λ made. IsMadeOf (one_bound (procedure_of procedure.now) (form_of form)) made) }
+{
+    let vars = copied(alloc, &procedure.vars)?;
+    goal_of_forms(alloc, true, Form::Const(Ext::one()), form, vars)
+}
+
+/// Variables of the same names and types.
+fn copied(alloc: Global, all: &[VarInfo]) -> Result<Vec<VarInfo>, AllocError>
+    ensures { IfOk result (λ vars. map variable_of vars.items ≡ map variable_of all.now) }
+{
+    let mut vars = Vec::new(alloc);
+    for variable in all {
+        vars.push(copy_of(alloc, variable)?)?;
+    }
+    Ok(vars)
+}
+
+fn copy_of(alloc: Global, variable: &VarInfo) -> Result<VarInfo, AllocError>
+    ensures { IfOk result (λ made. variable_of made ≡ variable_of variable.now) }
+{
+    Ok(VarInfo {
+        name: variable.name.copy(alloc)?,
+        ty: variable.ty,
+    })
+}
