@@ -8,7 +8,7 @@ use Rattle.heyvl_acts.specs.Places.{in_order, inside}
 use Rattle.heyvl_acts.specs.PlainActs.{act_of, acts_of}
 use Rattle.heyvl_acts.specs.declared.acts.Act as A
 use Rattle.act_walks.specs.Loops.{loop_in}
-use Rattle.act_walks.proofs.exported.ActsInOrder.{acts_from, arms_from, next_act, next_arm}
+use Rattle.heyvl_acts.proofs.exported.ActsInOrder.{acts_from, arms_from, next_act, next_arm}
 
 abbrev Found : Type 0
 Found = Option (Head × Acts)

@@ -12,7 +12,7 @@ use Rattle.heyvl_acts.specs.Places.{in_order, inside}
 use Rattle.heyvl_acts.specs.PlainActs.{act_of, acts_of}
 use Rattle.heyvl_acts.specs.declared.acts.Act as A
 use Rattle.act_walks.specs.Lent.{lent}
-use Rattle.act_walks.proofs.exported.ActsInOrder.{acts_from, arms_from, next_act, next_arm}
+use Rattle.heyvl_acts.proofs.exported.ActsInOrder.{acts_from, arms_from, next_act, next_arm}
 
 -- An act behind those so far, and then the acts inside it.
 pub next_gathered : (before pushed after : List (Bor A.Act)) (x : Bor A.Act) (acts : List A.Act) (k : ℕ) → pushed ≡ before ++ x ∷ [] → map lent after ≡ map lent pushed ++ inside (act_of x.now) → k < length acts → x.now ≡ get_or acts k x.now → map lent after ++ acts_from acts (k + 1) ≡ map lent before ++ acts_from acts k

@@ -1,3 +1,2 @@
 mod GatheredActs
 mod FoundLoops
-pub mod exported

@@ -11,7 +11,7 @@ use Rattle.cert_text.specs.declared.versions.Version.TheVariants as versions
 use Rattle.cert_text.specs.Lines.{Line, title, goal, split, whole, farkas, plain, last, line_text}
 use Rattle.cert_text.specs.internal.WholeLines.{IsLine}
 use Rattle.cert_text.specs.Texts.{Spells, IsFirstFault}
-use Rattle.cert_text.specs.Stops.{IsMemory, IsStop, IsFaultOrMemory}
+use Rattle.cert_text.specs.Stops.{IsMemory, IsCertStop, IsFaultOrMemory}
 use Rattle.cert_text.specs.internal.ReadStates.{State, next}
 use Rattle.cert_text.specs.internal.Ends.{IsWhole}
 use Rattle.cert_text.specs.internal.Steps.{IsStep, IsStuck}
@@ -22,7 +22,7 @@ use Rattle.cert_text.proofs.Unique.{line_once}
 -- The answer of a text.
 pub record IsAnswer (bytes : List ℕ) (r : Result (Vec GoalCert Global) CertStop) : Type 0 where
   pub found : IfOk r (λ certs. Spells (certificates_of certs.items) bytes)
-  pub fault : IfErr r (λ stop. IsStop bytes stop)
+  pub fault : IfErr r (λ stop. IsCertStop bytes stop)
   pub only : (cs : List Certificate) → Spells cs bytes → MatchResult r (λ certs. certificates_of certs.items ≡ cs) (λ stop. IsMemory stop)
   pub only_fault : (line : ℕ) → IsFirstFault bytes line → MatchResult r (λ _. ⊥) (λ stop. IsFaultOrMemory line stop)
 

@@ -10,9 +10,9 @@ IsMemory (Fault line) = ⊥
 IsMemory (Memory error) = ⊤
 
 -- A fault names the first line at fault; memory may run out of any text.
-abbrev pub IsStop : List ℕ → CertStop → Type 0
-IsStop bytes (Fault line) = IsFirstFault bytes line
-IsStop bytes (Memory error) = ⊤
+abbrev pub IsCertStop : List ℕ → CertStop → Type 0
+IsCertStop bytes (Fault line) = IsFirstFault bytes line
+IsCertStop bytes (Memory error) = ⊤
 
 -- The fault of this line, or memory ran out.
 abbrev pub IsFaultOrMemory : ℕ → CertStop → Type 0

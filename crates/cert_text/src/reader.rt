@@ -3,7 +3,7 @@
 ghost use Rattle.std.specs.Prelude.{◌≡◌, ◌<◌, ◌^◌, ⊤, ℕ, List, IfErr, IfOk, MatchOption, MatchResult, length};
 ghost use Rattle.cert_text.specs.Certificates.{Certificate, certificates_of};
 ghost use Rattle.cert_text.specs.Texts.{IsFirstFault, Spells};
-ghost use Rattle.cert_text.specs.Stops.{IsMemory, IsStop, IsFaultOrMemory};
+ghost use Rattle.cert_text.specs.Stops.{IsMemory, IsCertStop, IsFaultOrMemory};
 ghost use Rattle.cert_text.specs.internal.ReadStates.{state_of};
 ghost use Rattle.cert_text.specs.internal.Ends.{IsWhole};
 ghost use Rattle.cert_text.specs.internal.Steps.{IsStep, IsStuck};
@@ -21,7 +21,7 @@ use std::alloc::{AllocError, Global};
 pub fn read_cert(alloc: Global, bytes: &[u8]) -> Result<Vec<GoalCert>, CertStop>
     requires { length bytes.now < 2 ^ 31 }
     ensures found { IfOk result (λ certs. Spells (certificates_of certs.items) bytes.now) }
-    ensures fault { IfErr result (λ stop. IsStop bytes.now stop) }
+    ensures fault { IfErr result (λ stop. IsCertStop bytes.now stop) }
     ensures only { (cs : List Certificate) → Spells cs bytes.now
         → MatchResult result (λ certs. certificates_of certs.items ≡ cs) (λ stop. IsMemory stop) }
     ensures only_fault { (line : ℕ) → IsFirstFault bytes.now line

@@ -27,7 +27,7 @@ use Rattle.goal_answers.specs.declared.trees.Tree.TheFolds.{fold-roll-Tree}
 use Rattle.goal_answers.specs.Trees.{Tree, tree_of, tree_layer}
 use Rattle.farkas_check.specs.AcceptedCertificates.{has_denied, CanSplit, IsAccepted, IsRefused, answers}
 use Rattle.farkas_check.specs.internal.Trails.{IsTrail, IsSame}
-use Rattle.farkas_check.specs.internal.Findings.{IsRefusedAt, IsFinding, IsFindingAtStart, AreFindings}
+use Rattle.farkas_check.specs.internal.Findings.{IsRefusedAt, IsJudgement, IsFindingAtStart, AreFindings}
 use Rattle.farkas_check.specs.declared.trail.Trail.{Trail}
 use Rattle.farkas_check.specs.declared.checker.Judged as J
 use Rattle.farkas_check.proofs.TrailSteps.{none_refuted}
@@ -72,33 +72,33 @@ halves_onto g items x m q p a e held = subst (λ r. IsPath g (onto (path_of item
 answers_here : (now items : List T.Taken) (place : List Bool) → place ≡ map (λ (p : T.Taken). p.held) now → now ≡ items → answers (path_of items) ≡ place
 answers_here now items place h e = ap (λ ps. answers (path_of ps)) (sym e) ∙ map-map (λ (p : Taken). p.held) taken_of now ∙ sym h
 
-pub refused_here : {E : Type 0} (r : Result J.Judged E) (g : Goal) (now : List T.Taken) (s : Trail) (t : Tree) → IsRefused g (path_of s.path.items) t (answers (path_of s.path.items)) → now ≡ s.path.items → IfOk r (IsRefusedAt now) → IfOk r (IsFinding g s t)
+pub refused_here : {E : Type 0} (r : Result J.Judged E) (g : Goal) (now : List T.Taken) (s : Trail) (t : Tree) → IsRefused g (path_of s.path.items) t (answers (path_of s.path.items)) → now ≡ s.path.items → IfOk r (IsRefusedAt now) → IfOk r (IsJudgement g s t)
 refused_here (Ok (J.TheVariants.Accepted back)) g now s t n e h = absurd h
 refused_here (Ok (J.TheVariants.Refused place)) g now s t n e h = subst (IsRefused g (path_of s.path.items) t) (answers_here now s.path.items place.items h e) n
 refused_here (Err x) g now s t n e h = h
 
-pub no_question_here : {E : Type 0} (r : Result J.Judged E) (g : Goal) (now : List T.Taken) (s : Trail) (t : K.Tree) (a b : Box K.Tree Global) → t ≡ K.TheVariants.Split a b → ((q : Atom) → Asks g (path_of s.path.items) q → ⊥) → now ≡ s.path.items → IfOk r (IsRefusedAt now) → IfOk r (IsFinding g s (tree_of t))
-no_question_here r g now s t a b k n e h = subst (λ u. IfOk r (IsFinding g s u)) (sym (ap tree_of k ∙ split_tree a b)) (refused_here r g now s _ (IsRefused.no_question (path_of s.path.items) (tree_of a.value) (tree_of b.value) n) e h)
+pub no_question_here : {E : Type 0} (r : Result J.Judged E) (g : Goal) (now : List T.Taken) (s : Trail) (t : K.Tree) (a b : Box K.Tree Global) → t ≡ K.TheVariants.Split a b → ((q : Atom) → Asks g (path_of s.path.items) q → ⊥) → now ≡ s.path.items → IfOk r (IsRefusedAt now) → IfOk r (IsJudgement g s (tree_of t))
+no_question_here r g now s t a b k n e h = subst (λ u. IfOk r (IsJudgement g s u)) (sym (ap tree_of k ∙ split_tree a b)) (refused_here r g now s _ (IsRefused.no_question (path_of s.path.items) (tree_of a.value) (tree_of b.value) n) e h)
 
-pub no_split_here : {E : Type 0} (r : Result J.Judged E) (g : Goal) (now later : List T.Taken) (s : Trail) (t : K.Tree) (x : ℕ) (m : ℤ) (a b : Box K.Tree Global) → t ≡ K.TheVariants.Whole x m a b → (CanSplit g (path_of now) x → ⊥) → now ≡ s.path.items → later ≡ s.path.items → IfOk r (IsRefusedAt later) → IfOk r (IsFinding g s (tree_of t))
-no_split_here r g now later s t x m a b k n e l h = subst (λ u. IfOk r (IsFinding g s u)) (sym (ap tree_of k ∙ whole_tree x m a b)) (refused_here r g later s _ (IsRefused.no_split (path_of s.path.items) x m (tree_of a.value) (tree_of b.value) (λ c. n (subst (λ ps. CanSplit g (path_of ps) x) (sym e) c))) l h)
+pub no_split_here : {E : Type 0} (r : Result J.Judged E) (g : Goal) (now later : List T.Taken) (s : Trail) (t : K.Tree) (x : ℕ) (m : ℤ) (a b : Box K.Tree Global) → t ≡ K.TheVariants.Whole x m a b → (CanSplit g (path_of now) x → ⊥) → now ≡ s.path.items → later ≡ s.path.items → IfOk r (IsRefusedAt later) → IfOk r (IsJudgement g s (tree_of t))
+no_split_here r g now later s t x m a b k n e l h = subst (λ u. IfOk r (IsJudgement g s u)) (sym (ap tree_of k ∙ whole_tree x m a b)) (refused_here r g later s _ (IsRefused.no_split (path_of s.path.items) x m (tree_of a.value) (tree_of b.value) (λ c. n (subst (λ ps. CanSplit g (path_of ps) x) (sym e) c))) l h)
 
-pub not_plain_here : {E : Type 0} (r : Result J.Judged E) (g : Goal) (now later : List T.Taken) (s : Trail) (t : K.Tree) → t ≡ K.TheVariants.Plain → (IsPlainAt g (path_of now) → ⊥) → now ≡ s.path.items → later ≡ s.path.items → IfOk r (IsRefusedAt later) → IfOk r (IsFinding g s (tree_of t))
-not_plain_here r g now later s t k n e l h = subst (λ u. IfOk r (IsFinding g s u)) (sym (ap tree_of k ∙ plain_tree)) (refused_here r g later s _ (IsRefused.not_plain (path_of s.path.items) (λ c. n (subst (λ ps. IsPlainAt g (path_of ps)) (sym e) c))) l h)
+pub not_plain_here : {E : Type 0} (r : Result J.Judged E) (g : Goal) (now later : List T.Taken) (s : Trail) (t : K.Tree) → t ≡ K.TheVariants.Plain → (IsPlainAt g (path_of now) → ⊥) → now ≡ s.path.items → later ≡ s.path.items → IfOk r (IsRefusedAt later) → IfOk r (IsJudgement g s (tree_of t))
+not_plain_here r g now later s t k n e l h = subst (λ u. IfOk r (IsJudgement g s u)) (sym (ap tree_of k ∙ plain_tree)) (refused_here r g later s _ (IsRefused.not_plain (path_of s.path.items) (λ c. n (subst (λ ps. IsPlainAt g (path_of ps)) (sym e) c))) l h)
 
 -- ---- A node with two parts
 
-both_found : {E : Type 0} (r : Result J.Judged E) (g : Goal) (s : Trail) (q : Atom) (t u v : Tree) → (IsAccepted g (onto (path_of s.path.items) q true) u → IsAccepted g (onto (path_of s.path.items) q false) v → IsAccepted g (path_of s.path.items) t) → ((place : List Bool) → IsRefused g (onto (path_of s.path.items) q true) u place → IsRefused g (path_of s.path.items) t place) → ((place : List Bool) → IsAccepted g (onto (path_of s.path.items) q true) u → IsRefused g (onto (path_of s.path.items) q false) v place → IsRefused g (path_of s.path.items) t place) → IfOk r (AreFindings g s q u v) → IfOk r (IsFinding g s t)
+both_found : {E : Type 0} (r : Result J.Judged E) (g : Goal) (s : Trail) (q : Atom) (t u v : Tree) → (IsAccepted g (onto (path_of s.path.items) q true) u → IsAccepted g (onto (path_of s.path.items) q false) v → IsAccepted g (path_of s.path.items) t) → ((place : List Bool) → IsRefused g (onto (path_of s.path.items) q true) u place → IsRefused g (path_of s.path.items) t place) → ((place : List Bool) → IsAccepted g (onto (path_of s.path.items) q true) u → IsRefused g (onto (path_of s.path.items) q false) v place → IsRefused g (path_of s.path.items) t place) → IfOk r (AreFindings g s q u v) → IfOk r (IsJudgement g s t)
 both_found (Ok (J.TheVariants.Accepted back)) g s q t u v a b c h = (h.0, a h.1 h.2)
 both_found (Ok (J.TheVariants.Refused place)) g s q t u v a b c (inl h) = b place.items h
 both_found (Ok (J.TheVariants.Refused place)) g s q t u v a b c (inr h) = c place.items h.0 h.1
 both_found (Err x) g s q t u v a b c h = h
 
-pub split_found : {E : Type 0} (r : Result J.Judged E) (g : Goal) (s : Trail) (t d f : K.Tree) (a b : Box K.Tree Global) (q : A.Atom) → t ≡ K.TheVariants.Split a b → Asks g (path_of s.path.items) (atom_of q) → d ≡ a.value → f ≡ b.value → IfOk r (AreFindings g s (atom_of q) (tree_of d) (tree_of f)) → IfOk r (IsFinding g s (tree_of t))
-split_found r g s t d f a b q k w e m h = subst (λ u. IfOk r (IsFinding g s u)) (sym (ap tree_of k ∙ split_tree a b)) (both_found r g s (atom_of q) _ (tree_of a.value) (tree_of b.value) (IsAccepted.split (path_of s.path.items) (atom_of q) (tree_of a.value) (tree_of b.value) w) (λ place. IsRefused.first (path_of s.path.items) (atom_of q) (tree_of a.value) (tree_of b.value) place w) (λ place. IsRefused.second (path_of s.path.items) (atom_of q) (tree_of a.value) (tree_of b.value) place w) (subst (λ y. IfOk r (AreFindings g s (atom_of q) (tree_of a.value) (tree_of y))) m (subst (λ y. IfOk r (AreFindings g s (atom_of q) (tree_of y) (tree_of f))) e h)))
+pub split_found : {E : Type 0} (r : Result J.Judged E) (g : Goal) (s : Trail) (t d f : K.Tree) (a b : Box K.Tree Global) (q : A.Atom) → t ≡ K.TheVariants.Split a b → Asks g (path_of s.path.items) (atom_of q) → d ≡ a.value → f ≡ b.value → IfOk r (AreFindings g s (atom_of q) (tree_of d) (tree_of f)) → IfOk r (IsJudgement g s (tree_of t))
+split_found r g s t d f a b q k w e m h = subst (λ u. IfOk r (IsJudgement g s u)) (sym (ap tree_of k ∙ split_tree a b)) (both_found r g s (atom_of q) _ (tree_of a.value) (tree_of b.value) (IsAccepted.split (path_of s.path.items) (atom_of q) (tree_of a.value) (tree_of b.value) w) (λ place. IsRefused.first (path_of s.path.items) (atom_of q) (tree_of a.value) (tree_of b.value) place w) (λ place. IsRefused.second (path_of s.path.items) (atom_of q) (tree_of a.value) (tree_of b.value) place w) (subst (λ y. IfOk r (AreFindings g s (atom_of q) (tree_of a.value) (tree_of y))) m (subst (λ y. IfOk r (AreFindings g s (atom_of q) (tree_of y) (tree_of f))) e h)))
 
-pub whole_found : {E : Type 0} (r : Result J.Judged E) (g : Goal) (now : List T.Taken) (s : Trail) (t d f : K.Tree) (x : ℕ) (m : ℤ) (a b : Box K.Tree Global) (q : A.Atom) → t ≡ K.TheVariants.Whole x m a b → CanSplit g (path_of now) x → now ≡ s.path.items → atom_of q ≡ split_at x m → d ≡ a.value → f ≡ b.value → IfOk r (AreFindings g s (atom_of q) (tree_of d) (tree_of f)) → IfOk r (IsFinding g s (tree_of t))
-whole_found r g now s t d f x m a b q k w n i e l h = let c = subst (λ ps. CanSplit g (path_of ps) x) n w in subst (λ u. IfOk r (IsFinding g s u)) (sym (ap tree_of k ∙ whole_tree x m a b)) (both_found r g s (split_at x m) _ (tree_of a.value) (tree_of b.value) (IsAccepted.whole (path_of s.path.items) x m (tree_of a.value) (tree_of b.value) c) (λ place. IsRefused.first_half (path_of s.path.items) x m (tree_of a.value) (tree_of b.value) place c) (λ place. IsRefused.second_half (path_of s.path.items) x m (tree_of a.value) (tree_of b.value) place c) (subst (λ y. IfOk r (AreFindings g s (split_at x m) (tree_of a.value) (tree_of y))) l (subst (λ y. IfOk r (AreFindings g s (split_at x m) (tree_of y) (tree_of f))) e (subst (λ y. IfOk r (AreFindings g s y (tree_of d) (tree_of f))) i h))))
+pub whole_found : {E : Type 0} (r : Result J.Judged E) (g : Goal) (now : List T.Taken) (s : Trail) (t d f : K.Tree) (x : ℕ) (m : ℤ) (a b : Box K.Tree Global) (q : A.Atom) → t ≡ K.TheVariants.Whole x m a b → CanSplit g (path_of now) x → now ≡ s.path.items → atom_of q ≡ split_at x m → d ≡ a.value → f ≡ b.value → IfOk r (AreFindings g s (atom_of q) (tree_of d) (tree_of f)) → IfOk r (IsJudgement g s (tree_of t))
+whole_found r g now s t d f x m a b q k w n i e l h = let c = subst (λ ps. CanSplit g (path_of ps) x) n w in subst (λ u. IfOk r (IsJudgement g s u)) (sym (ap tree_of k ∙ whole_tree x m a b)) (both_found r g s (split_at x m) _ (tree_of a.value) (tree_of b.value) (IsAccepted.whole (path_of s.path.items) x m (tree_of a.value) (tree_of b.value) c) (λ place. IsRefused.first_half (path_of s.path.items) x m (tree_of a.value) (tree_of b.value) place c) (λ place. IsRefused.second_half (path_of s.path.items) x m (tree_of a.value) (tree_of b.value) place c) (subst (λ y. IfOk r (AreFindings g s (split_at x m) (tree_of a.value) (tree_of y))) l (subst (λ y. IfOk r (AreFindings g s (split_at x m) (tree_of y) (tree_of f))) e (subst (λ y. IfOk r (AreFindings g s y (tree_of d) (tree_of f))) i h))))
 
 -- ---- A leaf
 
@@ -108,18 +108,18 @@ same_trail s = record { path = refl; rows = refl; stated = refl }
 pub plain_found : (g : Goal) (now : List T.Taken) (s : Trail) (t : K.Tree) → t ≡ K.TheVariants.Plain → IsPlainAt g (path_of now) → now ≡ s.path.items → IsSame s s × IsAccepted g (path_of s.path.items) (tree_of t)
 plain_found g now s t k h e = (same_trail s, subst (IsAccepted g (path_of s.path.items)) (sym (ap tree_of k ∙ plain_tree)) (IsAccepted.plain (path_of s.path.items) (subst (λ ps. IsPlainAt g (path_of ps)) e h)))
 
-pub multipliers_found : {E : Type 0} (r : Result J.Judged E) (g : Goal) (s : Trail) (t : K.Tree) (ms : Vec (ℕ × ℕ) Global) (ns : List (ℕ × ℕ)) → t ≡ K.TheVariants.Farkas ms → ns ≡ ms.items → IfOk r (IsFinding g s (Tree.farkas ns)) → IfOk r (IsFinding g s (tree_of t))
-multipliers_found r g s t ms ns k e h = subst (λ u. IfOk r (IsFinding g s u)) (sym (ap tree_of k ∙ farkas_tree ms ∙ ap Tree.farkas (sym e))) h
+pub multipliers_found : {E : Type 0} (r : Result J.Judged E) (g : Goal) (s : Trail) (t : K.Tree) (ms : Vec (ℕ × ℕ) Global) (ns : List (ℕ × ℕ)) → t ≡ K.TheVariants.Farkas ms → ns ≡ ms.items → IfOk r (IsJudgement g s (Tree.farkas ns)) → IfOk r (IsJudgement g s (tree_of t))
+multipliers_found r g s t ms ns k e h = subst (λ u. IfOk r (IsJudgement g s u)) (sym (ap tree_of k ∙ farkas_tree ms ∙ ap Tree.farkas (sym e))) h
 
 -- the answers' rows aren't all there
-pub unstated_here : {E : Type 0} (r : Result J.Judged E) (g : Goal) (now : List T.Taken) (s : Trail) (ms : List (ℕ × ℕ)) → IsTrail g s → s.stated ≡ false → now ≡ s.path.items → IfOk r (IsRefusedAt now) → IfOk r (IsFinding g s (Tree.farkas ms))
+pub unstated_here : {E : Type 0} (r : Result J.Judged E) (g : Goal) (now : List T.Taken) (s : Trail) (ms : List (ℕ × ℕ)) → IsTrail g s → s.stated ≡ false → now ≡ s.path.items → IfOk r (IsRefusedAt now) → IfOk r (IsJudgement g s (Tree.farkas ms))
 unstated_here r g now s ms h f e k = refused_here r g now s (Tree.farkas ms) (IsRefused.no_contradiction (path_of s.path.items) ms (none_refuted g s ms h f)) e k
 
 -- the denied goal has no row
-pub no_rows_here : {E : Type 0} (r : Result J.Judged E) (g : Goal) (now : List T.Taken) (s : Trail) (ms : List (ℕ × ℕ)) → rows_of g (path_of s.path.items) (has_denied g (path_of s.path.items)) ≡ None → now ≡ s.path.items → IfOk r (IsRefusedAt now) → IfOk r (IsFinding g s (Tree.farkas ms))
+pub no_rows_here : {E : Type 0} (r : Result J.Judged E) (g : Goal) (now : List T.Taken) (s : Trail) (ms : List (ℕ × ℕ)) → rows_of g (path_of s.path.items) (has_denied g (path_of s.path.items)) ≡ None → now ≡ s.path.items → IfOk r (IsRefusedAt now) → IfOk r (IsJudgement g s (Tree.farkas ms))
 no_rows_here r g now s ms n e k = refused_here r g now s (Tree.farkas ms) (IsRefused.no_contradiction (path_of s.path.items) ms (λ c. let i = sym c.are_rows ∙ n in absurd (cc))) e k
 
-pub unrefuted_here : {E : Type 0} (r : Result J.Judged E) (g : Goal) (now : List T.Taken) (s : Trail) (rows : List Row) (ms : List (ℕ × ℕ)) → rows_of g (path_of s.path.items) (has_denied g (path_of s.path.items)) ≡ Some rows → (IsContradiction ms rows → ⊥) → now ≡ s.path.items → IfOk r (IsRefusedAt now) → IfOk r (IsFinding g s (Tree.farkas ms))
+pub unrefuted_here : {E : Type 0} (r : Result J.Judged E) (g : Goal) (now : List T.Taken) (s : Trail) (rows : List Row) (ms : List (ℕ × ℕ)) → rows_of g (path_of s.path.items) (has_denied g (path_of s.path.items)) ≡ Some rows → (IsContradiction ms rows → ⊥) → now ≡ s.path.items → IfOk r (IsRefusedAt now) → IfOk r (IsJudgement g s (Tree.farkas ms))
 unrefuted_here r g now s rows ms a n e k = refused_here r g now s (Tree.farkas ms) (IsRefused.no_contradiction (path_of s.path.items) ms (λ c. let o : Some c.rows ≡ Some rows = sym c.are_rows ∙ a in let same : c.rows ≡ rows = cc in n (subst (IsContradiction ms) same c.contradiction))) e k
 
 -- the trail that is given back has its first rows again
@@ -128,7 +128,7 @@ refuted_here g s back rows ms a c h = (h, IsAccepted.farkas (path_of s.path.item
 
 -- ---- Before the first question
 
-pub at_start : {E : Type 0} (r : Result J.Judged E) (g : Goal) (s : Trail) (t : Tree) → s.path.items ≡ [] → IfOk r (IsFinding g s t) → IfOk r (IsFindingAtStart g t)
+pub at_start : {E : Type 0} (r : Result J.Judged E) (g : Goal) (s : Trail) (t : Tree) → s.path.items ≡ [] → IfOk r (IsJudgement g s t) → IfOk r (IsFindingAtStart g t)
 at_start (Ok (J.TheVariants.Accepted back)) g s t e h = subst (λ (ps : List T.Taken). IsAccepted g (path_of ps) t) e h.1
 at_start (Ok (J.TheVariants.Refused place)) g s t e h = subst (λ (ps : List T.Taken). IsRefused g (path_of ps) t place.items) e h
 at_start (Err x) g s t e h = h

@@ -11,7 +11,7 @@ ghost use Rattle.goal_answers.specs.Trees.{Tree as PlainTree, tree_of};
 ghost use Rattle.farkas_check.specs.AcceptedCertificates.{IsCertificate, IsNoCertificate};
 ghost use Rattle.farkas_check.specs.Verdicts.{IsNoAt};
 ghost use Rattle.farkas_check.specs.internal.Trails.{IsTrail};
-ghost use Rattle.farkas_check.specs.internal.Findings.{IsFinding, IsFindingAtStart, AreFindings, IsRefusedAt};
+ghost use Rattle.farkas_check.specs.internal.Findings.{IsJudgement, IsFindingAtStart, AreFindings, IsRefusedAt};
 
 use crate::ends::{can_split, is_plain_at, rows_there};
 use crate::trail::{Trail, copy_atom, further, shorter};
@@ -52,7 +52,7 @@ fn judge_multipliers<'a>(
 ) -> Result<Judged, AllocError>
     requires trail { IsTrail (goal_of goal.now) trail }
     requires on { IsOn (goal_of goal.now) (path_of trail.path.items) place.now }
-    ensures { IfOk result (IsFinding (goal_of goal.now) trail (PlainTree.farkas multipliers.now)) }
+    ensures { IfOk result (IsJudgement (goal_of goal.now) trail (PlainTree.farkas multipliers.now)) }
 {
     if !trail.stated {
         return refused_at(alloc, &trail.path);
@@ -91,7 +91,7 @@ fn judge<'a>(
 ) -> Result<Judged, AllocError>
     requires trail { IsTrail (goal_of goal.now) trail }
     requires on { IsOn (goal_of goal.now) (path_of trail.path.items) place.now }
-    ensures { IfOk result (IsFinding (goal_of goal.now) trail (tree_of tree.now)) }
+    ensures { IfOk result (IsJudgement (goal_of goal.now) trail (tree_of tree.now)) }
 {
     match tree {
         Tree::Split(holds, fails) => {

@@ -16,7 +16,7 @@ use Rattle.heyvl_acts.specs.declared.acts.Act as A
 use Rattle.heyvl_acts.specs.Acts.{Acts}
 use Rattle.heyvl_acts.specs.PlainActs.{act_of, acts_of}
 use Rattle.heyvl_acts.specs.WellTypedActs.{ActsFit, IsProbability}
-use Rattle.vp_generator.specs.InGraphs.{Follows, HaveNoAny, MakeNoBinder}
+use Rattle.vp_generator.specs.GraphAnswers.{Follows, HaveNoAny, MakeNoBinder}
 use Rattle.generation_tests.specs.BooleanActs.{bools, IsCalm, AreCalm, StandsPlain}
 
 -- ---- Acts

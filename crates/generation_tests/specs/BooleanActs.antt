@@ -9,7 +9,7 @@ use Rattle.heylo_graph.specs.Nodes.{Stands}
 use Rattle.heylo_graph.specs.declared.nodes.Node.{Node}
 use Rattle.heyvl_acts.specs.Acts.{Act, Acts}
 use Rattle.heyvl_acts.specs.WellTypedActs.{ActFits, ActsFit}
-use Rattle.vp_generator.specs.InGraphs.{HasNoAny, HaveNoAny}
+use Rattle.vp_generator.specs.GraphAnswers.{HasNoAny, HaveNoAny}
 
 -- Each variable is a Bool.
 abbrev pub bools : Types

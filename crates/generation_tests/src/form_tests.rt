@@ -2,7 +2,7 @@
 
 ghost use Rattle.std.specs.Prelude.{◌≡◌, ◌<◌, ◌≤◌, ◌^◌, ◌×◌, IfOk};
 ghost use Rattle.heyvl_acts.specs.PlainActs.{acts_of};
-ghost use Rattle.vp_generator.specs.InGraphs.{Follows, MakeNoBinder};
+ghost use Rattle.vp_generator.specs.GraphAnswers.{Follows, MakeNoBinder};
 ghost use Rattle.generation_tests.specs.BooleanActs.{AreCalm, StandsPlain};
 
 use crate::kinds::{Kind, check_text};

@@ -12,6 +12,7 @@ pub data Tree : Type 0 where
   plain : Tree
   whole : ℕ → ℤ → Tree → Tree → Tree
 
+-- One node of a tree that the program holds, as a plain tree, where the trees below it are plain already.
 abbrev pub tree_layer : Tree-F Tree → Tree
 tree_layer (Tree-F.Split t u) = Tree.split t.value u.value
 tree_layer (Tree-F.Farkas ms) = Tree.farkas ms.items

@@ -11,6 +11,7 @@ use Rattle.heylo_formula.specs.Typing.{Types, type_of, is_well_typed}
 abbrev pub ValuesDependOnFree : Type 0
 ValuesDependOnFree = (f : Form) (s t : Env) (c : Choices) → ((y : ℕ) → is_free y f ≡ true → s y ≡ t y) → value f s c ≡ value f t c
 
+-- In two environments that agree on its free variables a condition holds in both or in neither.
 abbrev pub TruthDependsOnFree : Type 0
 TruthDependsOnFree = (g : Cond) (s t : Env) (c : Choices) → ((y : ℕ) → is_free_in y g ≡ true → s y ≡ t y) → holds g s c ≡ holds g t c
 
@@ -18,5 +19,6 @@ TruthDependsOnFree = (g : Cond) (s t : Env) (c : Choices) → ((y : ℕ) → is_
 abbrev pub TypesDependOnFree : Type 0
 TypesDependOnFree = (f : Form) (s t : Types) → ((y : ℕ) → is_free y f ≡ true → s y ≡ t y) → type_of s f ≡ type_of t f
 
+-- For types that agree on its free variables a condition is well typed for both or for neither.
 abbrev pub ConditionsDependOnFree : Type 0
 ConditionsDependOnFree = (g : Cond) (s t : Types) → ((y : ℕ) → is_free_in y g ≡ true → s y ≡ t y) → is_well_typed s g ≡ is_well_typed t g

@@ -41,6 +41,7 @@ pub record Bound (up : Bool) (ty : Ty) (Body : Val → Value → Type 0) (m : Va
   pub meant : (v : Val) → has ty v ≡ true → Body v (family v)
   pub best : IsBest up ty family m
 
+-- The first of two claims where the flag is true, else the second.
 abbrev pub Chosen : Bool → Type 0 → Type 0 → Type 0
 Chosen true A B = A
 Chosen false A B = B

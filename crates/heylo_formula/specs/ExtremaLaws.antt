@@ -28,9 +28,11 @@ FiniteTermsArePlain = (types : Types) (f : Form) → has_binder f ≡ false → 
 abbrev pub SubstitutionKeepsTypes : Type 0
 SubstitutionKeepsTypes = (types : Types) (x : ℕ) (t : Term) (f : Form) → TermFits types (types x) t → fits (type_of types (subst x t f)) (type_of types f) ≡ true
 
+-- A formula stays a formula where a term that fits the type of the variable is put in.
 abbrev pub SubstitutionKeepsFormulas : Type 0
 SubstitutionKeepsFormulas = (types : Types) (x : ℕ) (t : Term) (f : Form) → TermFits types (types x) t → IsFormula types f → IsFormula types (subst x t f)
 
+-- A well-typed condition stays well typed where a term that fits the type of the variable is put in.
 abbrev pub SubstitutionKeepsConditions : Type 0
 SubstitutionKeepsConditions = (types : Types) (x : ℕ) (t : Term) (g : Cond) → TermFits types (types x) t → is_well_typed types g ≡ true → is_well_typed types (subst_in x t g) ≡ true
 
@@ -55,5 +57,6 @@ BinderFreeFormsAreDirected = (up : Bool) (f : Form) → has_binder f ≡ false �
 abbrev pub SubstitutionKeepsBinders : Type 0
 SubstitutionKeepsBinders = (x : ℕ) (t : Term) (f : Form) → IsPlain t → has_binder (subst x t f) ≡ has_binder f
 
+-- A form that is of a direction stays so where a plain term is put in.
 abbrev pub SubstitutionKeepsDirections : Type 0
 SubstitutionKeepsDirections = (up : Bool) (x : ℕ) (t : Term) (f : Form) → IsPlain t → is_directed up f ≡ true → is_directed up (subst x t f) ≡ true

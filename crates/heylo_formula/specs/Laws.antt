@@ -13,6 +13,7 @@ use Rattle.heylo_formula.specs.declared.values.Val.{Val}
 abbrev pub ValuesIgnoreOthers : Type 0
 ValuesIgnoreOthers = (x : ℕ) (f : Form) (v : Val) (s : Env) (c : Choices) → is_free x f ≡ false → value f (put x v s) c ≡ value f s c
 
+-- A variable that isn't free doesn't matter to the truth of a condition.
 abbrev pub TruthIgnoresOthers : Type 0
 TruthIgnoresOthers = (x : ℕ) (g : Cond) (v : Val) (s : Env) (c : Choices) → is_free_in x g ≡ false → holds g (put x v s) c ≡ holds g s c
 
@@ -20,6 +21,7 @@ TruthIgnoresOthers = (x : ℕ) (g : Cond) (v : Val) (s : Env) (c : Choices) → 
 abbrev pub ValuesIgnoreChoices : Type 0
 ValuesIgnoreChoices = (f : Form) (s : Env) (c : Choices) → has_binder f ≡ false → value f s c ≡ value f s Choices.stop
 
+-- Choices don't matter to the truth of a condition that has no binder.
 abbrev pub TruthIgnoresChoices : Type 0
 TruthIgnoresChoices = (g : Cond) (s : Env) (c : Choices) → has_binder_in g ≡ false → holds g s c ≡ holds g s Choices.stop
 
@@ -27,6 +29,7 @@ TruthIgnoresChoices = (g : Cond) (s : Env) (c : Choices) → has_binder_in g ≡
 abbrev pub RenamingKeepsValues : Type 0
 RenamingKeepsValues = (y z : ℕ) (f : Form) (s : Env) (c : Choices) → occurs z f ≡ false → value (renamed y z f) s c ≡ value f (put y (s z) s) c
 
+-- A renaming to a number that doesn't occur keeps the truth of a condition, where the state is renamed.
 abbrev pub RenamingKeepsTruth : Type 0
 RenamingKeepsTruth = (y z : ℕ) (g : Cond) (s : Env) (c : Choices) → occurs_in z g ≡ false → holds (renamed_in y z g) s c ≡ holds g (put y (s z) s) c
 
@@ -38,5 +41,6 @@ FreshIsLeast = (a : Form) (t : Term) → IsFresh a t (fresh a t)
 abbrev pub SubstitutionChangesState : Type 0
 SubstitutionChangesState = (x : ℕ) (t : Term) (f : Form) (s : Env) (c : Choices) → IsPlain t → value (subst x t f) s c ≡ value f (put x (term_value t s) s) c
 
+-- A substitution of a plain term in a condition is a change of state, for all choices.
 abbrev pub SubstitutionChangesStateOfTruth : Type 0
 SubstitutionChangesStateOfTruth = (x : ℕ) (t : Term) (g : Cond) (s : Env) (c : Choices) → IsPlain t → holds (subst_in x t g) s c ≡ holds g (put x (term_value t s) s) c

@@ -26,6 +26,7 @@ chooses_finitely (Form.iverson g) = true
 chooses_finitely (Form.select g a b) = chooses_finitely a && chooses_finitely b
 chooses_finitely (Form.bind up x name ty a) = is_bool ty && chooses_finitely a
 
+-- The form has a meaning in the state: a value that it means.
 pub record HasMeaning (f : Form) (s : Env) : Type 0 where
   pub meaning : Value
   pub meant : Means f s meaning

@@ -3,6 +3,7 @@ use Rattle.heyvl_num.specs.Value.{Value, zeroᵛ, ◌≤ᵛ◌}
 use Rattle.heyvl_num.specs.WholeNumbers.{IsWhole}
 use Rattle.heylo_formula.specs.Operators.{differenceᵛ, validateᵛ, covalidateᵛ}
 
+-- Validate keeps the order of all values, negative ones too.
 abbrev pub ValidateGrows : Type 0
 ValidateGrows = (x y : Value) → x ≤ᵛ y → validateᵛ x ≤ᵛ validateᵛ y
 

@@ -21,9 +21,11 @@ unfoldable pub covalidateᵛ : Value → Value
 covalidateᵛ (finite x) = if is_zeroʳ x then zeroᵛ else infinite
 covalidateᵛ infinite = infinite
 
+-- Whether the first value is less than the second.
 abbrev pub lessᵛ : Value → Value → Bool
 lessᵛ x y = not (leqᵛ y x)
 
+-- Whether each of the two values is at most the other.
 abbrev pub equalᵛ : Value → Value → Bool
 equalᵛ x y = leqᵛ x y && leqᵛ y x
 
@@ -37,6 +39,7 @@ abbrev pub finite_part : Value → Rational
 finite_part (finite x) = x
 finite_part infinite = zeroʳ
 
+-- Whether the value is a fraction, and not infinity.
 abbrev pub is_finite : Value → Bool
 is_finite (finite x) = true
 is_finite infinite = false

@@ -7,6 +7,7 @@ use Rattle.heylo_formula.specs.declared.forms.Cond.TheFolds.{fold-Form, fold-Con
 use Rattle.heylo_formula.specs.declared.terms.Term as T
 use Rattle.heylo_formula.specs.Formula.{Form, Cond, Term}
 
+-- The plain tree of a form whose parts are plain trees already.
 abbrev pub form_layer : Form-F Cond Form → Form
 form_layer (Form-F.«Form::Const» v) = Form.number (value_of v)
 form_layer (Form-F.«Form::Var» x) = Form.variable x
@@ -26,6 +27,7 @@ form_layer (Form-F.Iverson g) = Form.iverson g.value
 form_layer (Form-F.Select g a b) = Form.select g.value a.value b.value
 form_layer (Form-F.Bind up y name ty a) = Form.bind up y name ty a.value
 
+-- The plain tree of a condition whose parts are plain trees already.
 abbrev pub cond_layer : Cond-F Cond Form → Cond
 cond_layer (Cond-F.«Cond::Const» b) = Cond.constant b
 cond_layer (Cond-F.«Cond::Var» x) = Cond.flag x
@@ -38,12 +40,15 @@ cond_layer (Cond-F.Lt a b) = Cond.lt a.value b.value
 cond_layer (Cond-F.EqNum a b) = Cond.equal a.value b.value
 cond_layer (Cond-F.Ite g h k) = Cond.ite g.value h.value k.value
 
+-- The plain tree of a form.
 abbrev pub form_of : F.Form → Form
 form_of = fold-Form Cond Form cond_layer form_layer
 
+-- The plain tree of a condition.
 abbrev pub cond_of : C.Cond → Cond
 cond_of = fold-Cond Cond Form cond_layer form_layer
 
+-- The plain tree of a term.
 abbrev pub term_of : T.Term → Term
 term_of (T.TheVariants.Truth g) = Term.truth (cond_of g)
 term_of (T.TheVariants.Num f) = Term.number (form_of f)

@@ -15,6 +15,7 @@ use Rattle.heylo_formula.specs.Shifts.{shifted, shifted_in, extent, extent_in}
 abbrev pub ShiftingMovesTheState : Type 0
 ShiftingMovesTheState = (m : ℕ) (f : Form) (s : Env) (c : Choices) → value (shifted m f) s c ≡ value f (λ y. s (m + y)) c
 
+-- A shifted condition is true exactly where the condition is in the state without its first m variables.
 abbrev pub ShiftingMovesTheStateOfTruth : Type 0
 ShiftingMovesTheStateOfTruth = (m : ℕ) (g : Cond) (s : Env) (c : Choices) → holds (shifted_in m g) s c ≡ holds g (λ y. s (m + y)) c
 
@@ -22,6 +23,7 @@ ShiftingMovesTheStateOfTruth = (m : ℕ) (g : Cond) (s : Env) (c : Choices) → 
 abbrev pub ShiftingMovesTypes : Type 0
 ShiftingMovesTypes = (m : ℕ) (f : Form) (types : Types) → type_of types (shifted m f) ≡ type_of (λ y. types (m + y)) f
 
+-- A shifted condition is well typed exactly where the condition is for the types without their first m.
 abbrev pub ShiftingMovesTypesOfConditions : Type 0
 ShiftingMovesTypesOfConditions = (m : ℕ) (g : Cond) (types : Types) → is_well_typed types (shifted_in m g) ≡ is_well_typed (λ y. types (m + y)) g
 
@@ -29,6 +31,7 @@ ShiftingMovesTypesOfConditions = (m : ℕ) (g : Cond) (types : Types) → is_wel
 abbrev pub ShiftingKeepsBinders : Type 0
 ShiftingKeepsBinders = (m : ℕ) (f : Form) → has_binder (shifted m f) ≡ has_binder f
 
+-- A shifted form is of the directions of the form.
 abbrev pub ShiftingKeepsDirections : Type 0
 ShiftingKeepsDirections = (up : Bool) (m : ℕ) (f : Form) → is_directed up (shifted m f) ≡ is_directed up f
 
@@ -40,9 +43,11 @@ ShiftingKeepsSizes = (m : ℕ) (f : Form) → (nodes (shifted m f) ≡ nodes f) 
 abbrev pub ShiftingMovesFreeVariables : Type 0
 ShiftingMovesFreeVariables = (m x : ℕ) (f : Form) → is_free (m + x) (shifted m f) ≡ is_free x f
 
+-- No free variable of a shifted form is below m.
 abbrev pub NoneBelowTheShift : Type 0
 NoneBelowTheShift = (m y : ℕ) (f : Form) → is_free y (shifted m f) ≡ true → m ≤ y
 
+-- Where a form is over the first n variables, the shifted form is over the first m + n.
 abbrev pub ShiftedIsOver : Type 0
 ShiftedIsOver = (m n : ℕ) (f : Form) → IsOver n f → IsOver (m + n) (shifted m f)
 
@@ -50,8 +55,10 @@ ShiftedIsOver = (m n : ℕ) (f : Form) → IsOver n f → IsOver (m + n) (shifte
 abbrev pub ExtentIsLeast : Type 0
 ExtentIsLeast = (n : ℕ) (f : Form) → ((x : ℕ) → occurs x f ≡ true → x < n) → extent f ≤ n
 
+-- The extent of a form without binders is at most each number that all its free variables are below.
 abbrev pub ExtentOfFreeVariables : Type 0
 ExtentOfFreeVariables = (n : ℕ) (f : Form) → has_binder f ≡ false → IsOver n f → extent f ≤ n
 
+-- The extent of a condition without binders is at most each number that all its free variables are below.
 abbrev pub ExtentOfConditions : Type 0
 ExtentOfConditions = (n : ℕ) (g : Cond) → has_binder_in g ≡ false → IsOverIn n g → extent_in g ≤ n

@@ -35,6 +35,7 @@ abbrev mutual
   nodes_in (Cond.equal a b) = 1 + (nodes a + nodes b)
   nodes_in (Cond.ite g h k) = 1 + (nodes_in g + (nodes_in h + nodes_in k))
 
+-- The number of nodes of the condition or the form that a term is.
 abbrev pub nodes_in_term : Term → ℕ
 nodes_in_term (Term.truth g) = nodes_in g
 nodes_in_term (Term.number f) = nodes f

@@ -35,9 +35,11 @@ default Ty.Int = Num zeroʳ
 default Ty.UInt = Num zeroʳ
 default Ty.UReal = Num zeroʳ
 
+-- The value where it is of the type, else what stands for one that isn't: false, or 0.
 abbrev pub fit : Ty → Val → Val
 fit ty v = if has ty v then v else default ty
 
+-- An environment: a value for every number.
 abbrev pub Env : Type 0
 Env = ℕ → Val
 
@@ -49,6 +51,7 @@ put x v s y = if x == y then v else s y
 abbrev pub get : ℕ → List Val → Val
 get x s = get_or s x (Truth false)
 
+-- The environment that a list of values is, with false at each number beyond the list.
 abbrev pub environment : List Val → Env
 environment s x = get x s
 

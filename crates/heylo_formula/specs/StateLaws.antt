@@ -9,6 +9,7 @@ use Rattle.heylo_formula.specs.declared.values.Val.{Val}
 abbrev pub TypedListsHaveAllValues : Type 0
 TypedListsHaveAllValues = (tys : List Ty) (s : List Val) → IsTyped tys s → length s ≡ length tys
 
+-- In the environment of a typed list each variable has a value of its type.
 abbrev pub TypedListsAreTypedEnvironments : Type 0
 TypedListsAreTypedEnvironments = (tys : List Ty) (s : List Val) → IsTyped tys s → HasTypes (types_in tys) (environment s)
 
@@ -20,6 +21,7 @@ ChangedListsAreChangedEnvironments = (s : List Val) (x : ℕ) (v : Val) → x < 
 abbrev pub ChangesKeepTypedLists : Type 0
 ChangesKeepTypedLists = (tys : List Ty) (s : List Val) (x : ℕ) (v : Val) → IsTyped tys s → x < length tys → has (types_in tys x) v ≡ true → IsTyped tys (set s x v)
 
+-- An environment stays typed where a variable takes a value of its type.
 abbrev pub ChangesKeepTypes : Type 0
 ChangesKeepTypes = (types : Types) (s : Env) (x : ℕ) (v : Val) → HasTypes types s → has (types x) v ≡ true → HasTypes types (put x v s)
 
@@ -28,15 +30,19 @@ ChangesKeepTypes = (types : Types) (s : Env) (x : ℕ) (v : Val) → HasTypes ty
 abbrev pub TypedListsAppend : Type 0
 TypedListsAppend = (tys us : List Ty) (s t : List Val) → IsTyped tys s → IsTyped us t → IsTyped (tys ++ us) (s ++ t)
 
+-- The environment of two lists, one after the other, is that of the first so far as the first reaches.
 abbrev pub FirstOfTwoLists : Type 0
 FirstOfTwoLists = (s t : List Val) (y : ℕ) → y < length s → environment (s ++ t) y ≡ environment s y
 
+-- The environment of two lists, one after the other, is that of the second from the end of the first on.
 abbrev pub SecondOfTwoLists : Type 0
 SecondOfTwoLists = (s t : List Val) (y : ℕ) → environment (s ++ t) (length s + y) ≡ environment t y
 
+-- The types of two lists, one after the other, are those of the first so far as the first reaches.
 abbrev pub TypesOfTheFirst : Type 0
 TypesOfTheFirst = (tys us : List Ty) (y : ℕ) → y < length tys → types_in (tys ++ us) y ≡ types_in tys y
 
+-- The types of two lists, one after the other, are those of the second from the end of the first on.
 abbrev pub TypesOfTheSecond : Type 0
 TypesOfTheSecond = (tys us : List Ty) (y : ℕ) → types_in (tys ++ us) (length tys + y) ≡ types_in us y
 
@@ -44,6 +50,7 @@ TypesOfTheSecond = (tys us : List Ty) (y : ℕ) → types_in (tys ++ us) (length
 abbrev pub FirstValuesAreValues : Type 0
 FirstValuesAreValues = (n : ℕ) (s : Env) (y : ℕ) → y < n → s y ≡ environment (listed n s) y
 
+-- The first values of an environment are a typed list where each of them is of its type.
 abbrev pub FirstValuesAreTyped : Type 0
 FirstValuesAreTyped = (tys : List Ty) (s : Env) → ((y : ℕ) → y < length tys → has (types_in tys y) (s y) ≡ true) → IsTyped tys (listed (length tys) s)
 
@@ -51,5 +58,6 @@ FirstValuesAreTyped = (tys : List Ty) (s : Env) → ((y : ℕ) → y < length ty
 abbrev pub ChangesCommute : Type 0
 ChangesCommute = (x y : ℕ) (v w : Val) (s : Env) → (x == y) ≡ false → put x w (put y v s) ≡ put y v (put x w s)
 
+-- Of two changes of one variable the later counts.
 abbrev pub LaterChangesCount : Type 0
 LaterChangesCount = (x y : ℕ) (v w : Val) (s : Env) → (x == y) ≡ true → put y v (put x w s) ≡ put y v s

@@ -46,9 +46,11 @@ unfoldable pub least_unused : ℕ → ℕ → Form → Term → ℕ
 least_unused zero n a t = n
 least_unused (suc k) n a t = if occurs n a || occurs_in_term n t then least_unused k (n + 1) a t else n
 
+-- The number that a binder of this body takes where this term is put in: the least unused one from 1,048,576 on.
 unfoldable pub fresh : Form → Term → ℕ
 fresh a t = least_unused (nodes a + nodes_in_term t) 1048576 a t
 
+-- The number is the least from 1,048,576 on that occurs neither in the body nor in the term.
 pub record IsFresh (a : Form) (t : Term) (z : ℕ) : Type 0 where
   pub unused : (occurs z a || occurs_in_term z t) ≡ false
   pub from : 1048576 ≤ z
@@ -100,9 +102,11 @@ abbrev mutual
   subst_within_in (suc n) x t (Cond.equal a b) = Cond.equal (subst_within n x t a) (subst_within n x t b)
   subst_within_in (suc n) x t (Cond.ite g h k) = Cond.ite (subst_within_in n x t g) (subst_within_in n x t h) (subst_within_in n x t k)
 
+-- The form with a term in place of each free x, where no binder captures a variable of the term.
 unfoldable pub subst : ℕ → Term → Form → Form
 subst x t f = subst_within (suc (nodes f)) x t f
 
+-- The condition with a term in place of each free x, where no binder captures a variable of the term.
 unfoldable pub subst_in : ℕ → Term → Cond → Cond
 subst_in x t g = subst_within_in (suc (nodes_in g)) x t g
 

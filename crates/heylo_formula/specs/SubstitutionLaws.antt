@@ -15,6 +15,7 @@ use Rattle.heylo_formula.specs.Substitution.{renamed, renamed_in, subst, subst_i
 abbrev pub RenamingKeepsTypes : Type 0
 RenamingKeepsTypes = (y z : ℕ) (f : Form) (types : Types) → occurs z f ≡ false → type_of types (renamed y z f) ≡ type_of (retyped y (types z) types) f
 
+-- A renaming to a number that doesn't occur keeps whether a condition is well typed, where the types are renamed.
 abbrev pub RenamingKeepsConditions : Type 0
 RenamingKeepsConditions = (y z : ℕ) (g : Cond) (types : Types) → occurs_in z g ≡ false → is_well_typed types (renamed_in y z g) ≡ is_well_typed (retyped y (types z) types) g
 
@@ -26,6 +27,7 @@ RenamingKeepsSizes = (y z : ℕ) (f : Form) → (nodes (renamed y z f) ≡ nodes
 abbrev pub RenamingKeepsBinders : Type 0
 RenamingKeepsBinders = (y z : ℕ) (f : Form) → (has_binder (renamed y z f) ≡ has_binder f) × (binders (renamed y z f) ≡ binders f)
 
+-- A renamed form is of the directions of the form.
 abbrev pub RenamingKeepsDirections : Type 0
 RenamingKeepsDirections = (up : Bool) (y z : ℕ) (f : Form) → is_directed up (renamed y z f) ≡ is_directed up f
 
@@ -40,6 +42,7 @@ FreeInRenamed = (y w z : ℕ) (f : Form) → is_free y (renamed w z f) ≡ true 
 abbrev pub FreeInSubstitution : Type 0
 FreeInSubstitution = (x y : ℕ) (t : Term) (f : Form) → is_free y (subst x t f) ≡ true → (is_free y f ≡ true) ⊎ (occurs_in_term y t ≡ true)
 
+-- The result is over the first n variables where the form is, and each number that occurs in the term is below n.
 abbrev pub SubstitutionIsOver : Type 0
 SubstitutionIsOver = (n x : ℕ) (t : Term) (f : Form) → IsOver n f → ((y : ℕ) → occurs_in_term y t ≡ true → y < n) → IsOver n (subst x t f)
 
@@ -47,6 +50,7 @@ SubstitutionIsOver = (n x : ℕ) (t : Term) (f : Form) → IsOver n f → ((y : 
 abbrev pub SubstitutionOfOthers : Type 0
 SubstitutionOfOthers = (x : ℕ) (t : Term) (f : Form) → is_free x f ≡ false → subst x t f ≡ f
 
+-- Where the variable isn't free the condition stays as it is.
 abbrev pub SubstitutionOfOthersInConditions : Type 0
 SubstitutionOfOthersInConditions = (x : ℕ) (t : Term) (g : Cond) → is_free_in x g ≡ false → subst_in x t g ≡ g
 
@@ -58,6 +62,7 @@ SubstitutionGrows = (x : ℕ) (t : Term) (f : Form) → (nodes f ≤ nodes (subs
 abbrev pub SubstitutionCounts : Type 0
 SubstitutionCounts = (x : ℕ) (t : Term) (f : Form) → nodes (subst x t f) ≡ nodes_put x (nodes (as_form t)) (nodes_in (as_cond t)) f
 
+-- The nodes of a condition with a term for a variable can be counted without the result.
 abbrev pub SubstitutionCountsInConditions : Type 0
 SubstitutionCountsInConditions = (x : ℕ) (t : Term) (g : Cond) → nodes_in (subst_in x t g) ≡ nodes_put_in x (nodes (as_form t)) (nodes_in (as_cond t)) g
 

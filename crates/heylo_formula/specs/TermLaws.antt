@@ -22,6 +22,7 @@ TermsHaveValuesOfTheirTypes = (types : Types) (ty : Ty) (t : Term) (s : Env) →
 abbrev pub FiniteTypesHaveNoBinder : Type 0
 FiniteTypesHaveNoBinder = (types : Types) (f : Form) → is_finite_type (type_of types f) ≡ true → has_binder f ≡ false
 
+-- A well-typed condition has no binder.
 abbrev pub TypedConditionsHaveNoBinder : Type 0
 TypedConditionsHaveNoBinder = (types : Types) (g : Cond) → is_well_typed types g ≡ true → has_binder_in g ≡ false
 
@@ -33,6 +34,7 @@ TermsThatFitArePlain = (types : Types) (ty : Ty) (t : Term) → TermFits types t
 abbrev pub FitIsTyped : Type 0
 FitIsTyped = (ty : Ty) (v : Val) → has ty (fit ty v) ≡ true
 
+-- A value that is of the type stays as it is where it is made to fit.
 abbrev pub FitKeeps : Type 0
 FitKeeps = (ty : Ty) (v : Val) → has ty v ≡ true → fit ty v ≡ v
 

@@ -28,12 +28,14 @@ types_in tys x = get_or tys x Ty.Bool
 abbrev pub retyped : ℕ → Ty → Types → Types
 retyped x ty types y = if x == y then ty else types y
 
+-- The type of numbers that a variable's type is; none for Bool.
 abbrev pub number_type : Ty → Option NumberType
 number_type Ty.Bool = None
 number_type Ty.Int = Some NumberType.int
 number_type Ty.UInt = Some NumberType.uint
 number_type Ty.UReal = Some NumberType.ureal
 
+-- Whether the type is Bool.
 abbrev pub is_bool : Ty → Bool
 is_bool Ty.Bool = true
 is_bool Ty.Int = false
@@ -72,6 +74,7 @@ widens NumberType.eureal NumberType.uint = false
 widens NumberType.eureal NumberType.ureal = false
 widens NumberType.eureal NumberType.eureal = true
 
+-- Whether there is a second type and it widens to the first.
 abbrev pub has_type_within : NumberType → Option NumberType → Bool
 has_type_within u (Some t) = widens t u
 has_type_within u None = false
@@ -81,11 +84,13 @@ abbrev pub fits : Option NumberType → Option NumberType → Bool
 fits t (Some u) = has_type_within u t
 fits t None = true
 
+-- The join of two types, where there are both and they have one.
 abbrev pub joined : Option NumberType → Option NumberType → Option NumberType
 joined (Some t) (Some u) = join t u
 joined (Some t) None = None
 joined None t = None
 
+-- Int, UInt or UReal.
 abbrev pub is_finite_type : Option NumberType → Bool
 is_finite_type (Some NumberType.int) = true
 is_finite_type (Some NumberType.uint) = true
@@ -109,6 +114,7 @@ is_unsigned (Some NumberType.ureal) = true
 is_unsigned (Some NumberType.eureal) = true
 is_unsigned None = false
 
+-- The type where the flag is true, else none.
 abbrev pub only_if : Bool → Option NumberType → Option NumberType
 only_if true t = t
 only_if false t = None

@@ -68,6 +68,7 @@ abbrev mutual
   occurs_in x (Cond.equal a b) = occurs x a || occurs x b
   occurs_in x (Cond.ite g h k) = occurs_in x g || (occurs_in x h || occurs_in x k)
 
+-- Whether the number occurs in the condition or the form that a term is.
 abbrev pub occurs_in_term : ℕ → Term → Bool
 occurs_in_term x (Term.truth g) = occurs_in x g
 occurs_in_term x (Term.number f) = occurs x f

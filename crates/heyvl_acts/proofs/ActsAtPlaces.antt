@@ -1,6 +1,6 @@
 -- The act at a place, in lists of acts in a row.
-use Rattle.std.proofs.Common.{◌≡◌, ℕ, Bool, append_assoc, ◌+◌, ◌<◌, ◌≤◌, refl, ap, sym, subst, ◌∙◌, arith, List, [], ◌∷◌, ◌++◌, length, drop, get_or}
-use Rattle.std.proofs.lemmas.List.{at_drop_more, drop_all, length-append}
+use Rattle.std.proofs.Common.{◌≡◌, ℕ, Bool, ◌+◌, ◌<◌, ◌≤◌, refl, ap, sym, subst, ◌∙◌, arith, List, [], ◌∷◌, ◌++◌, length, get_or}
+use Rattle.std.proofs.lemmas.List.{drop_all, length-append}
 use Rattle.std.proofs.lemmas.Option.{none-some}
 use Rattle.std.specs.Prelude.{Some, None, Result, Ok, Err, Vec}
 use Rattle.std.specs.Borrow.{Bor}
@@ -10,6 +10,7 @@ use Rattle.heyvl_places.specs.declared.spans.Span.{Span}
 use Rattle.heylo_formula.specs.declared.forms.Cond as C
 use Rattle.heyvl_acts.specs.declared.acts.Act as A
 use Rattle.heyvl_acts.specs.Acts.{Act}
+use Rattle.heyvl_acts.proofs.exported.ActsInOrder.{acts_from, arms_from, next_act, next_arm}
 use Rattle.heyvl_acts.proofs.exported.PlainActsAre.{if_act, pick_act}
 use Rattle.heyvl_acts.specs.PlainActs.{act_of, acts_of, arms_of}
 use Rattle.heyvl_acts.specs.Places.{nth, in_order, inside, inside_arms}
@@ -50,15 +51,6 @@ finds_rest acts place rest left (Ok a) b h = b.same ∙ h
 finds_rest acts place rest left (Err n) b h = let e = b.apart in omega (arith, e, h)
 
 -- The rest of a loop over acts, and over arms.
-abbrev pub acts_from : List A.Act → ℕ → List Act
-acts_from acts k = in_order (acts_of (drop k acts))
-
-abbrev pub arms_from : List (C.Cond × Vec A.Act Global) → ℕ → List Act → List Act
-arms_from arms k e = inside_arms (arms_of (drop k arms)) ++ e
-
-pub next_act : (acts : List A.Act) (k : ℕ) (x : A.Act) → k < length acts → x ≡ get_or acts k x → acts_from acts k ≡ (act_of x ∷ inside (act_of x)) ++ acts_from acts (k + 1)
-next_act acts k x lt is = at_drop_more (λ l. in_order (acts_of l)) acts k x lt ∙ ap (λ y. (act_of y ∷ inside (act_of y)) ++ acts_from acts (k + 1)) (sym is)
-
 pub no_act : (acts : List A.Act) (k : ℕ) → length acts ≤ k → acts_from acts k ≡ []
 no_act acts k over = ap (λ l. in_order (acts_of l)) (drop_all k acts over)
 
@@ -70,9 +62,6 @@ act_found all place acts k x left a lt is b h = found_first all place (act_of x 
 
 pub act_past : (all : List Act) (place : ℕ) (acts : List A.Act) (k : ℕ) (x : A.Act) (left rest : ℕ) → k < length acts → x ≡ get_or acts k x → Behind all place (acts_from acts k) left → Finds (act_of x ∷ inside (act_of x)) left (Err rest) → Behind all place (acts_from acts (k + 1)) rest
 act_past all place acts k x left rest lt is b h = past_first all place (act_of x ∷ inside (act_of x)) (acts_from acts (k + 1)) left rest (subst (λ r. Behind all place r left) (next_act acts k x lt is) b) h
-
-next_arm : (arms : List (C.Cond × Vec A.Act Global)) (k : ℕ) (e : List Act) (x : C.Cond × Vec A.Act Global) → k < length arms → x ≡ get_or arms k x → arms_from arms k e ≡ in_order (acts_of x.1.items) ++ arms_from arms (k + 1) e
-next_arm arms k e x lt is = at_drop_more (λ l. inside_arms (arms_of l) ++ e) arms k x lt ∙ (ap (λ y. (in_order (acts_of y.1.items) ++ inside_arms (arms_of (drop (k + 1) arms))) ++ e) (sym is) ∙ append_assoc (in_order (acts_of x.1.items)) (inside_arms (arms_of (drop (k + 1) arms))) e)
 
 pub arm_found : (all : List Act) (place : ℕ) (arms : List (C.Cond × Vec A.Act Global)) (k : ℕ) (e : List Act) (x : C.Cond × Vec A.Act Global) (left : ℕ) (a : Bor A.Act) → k < length arms → x ≡ get_or arms k x → Behind all place (arms_from arms k e) left → Finds (in_order (acts_of x.1.items)) left (Ok a) → Finds all place (Ok a)
 arm_found all place arms k e x left a lt is b h = found_first all place (in_order (acts_of x.1.items)) (arms_from arms (k + 1) e) left a (subst (λ r. Behind all place r left) (next_arm arms k e x lt is) b) h

@@ -1,3 +1,4 @@
+pub mod ActsInOrder
 pub mod ArmedActs
 pub mod Each
 pub mod Lengths

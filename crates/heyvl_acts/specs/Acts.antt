@@ -67,12 +67,15 @@ pub record TypedProcedure : Type 0 where
   pub loops : ℕ
   pub span : Span
 
+-- The types of the variables, in their order.
 abbrev pub type_list : List Variable → List Ty
 type_list vs = map (λ v. v.ty) vs
 
+-- All variables of a procedure, in the order of their numbers.
 abbrev pub variables : TypedProcedure → List Variable
 variables p = p.inputs ++ (p.outputs ++ p.locals)
 
+-- The types of a procedure's variables, by number.
 abbrev pub types_of : TypedProcedure → Types
 types_of p = types_in (type_list (variables p))
 
@@ -85,6 +88,7 @@ acts_in None = Acts.done
 abbrev pub nobody : TypedProcedure
 nobody = record { name = []; co = Bool.true; weak = Bool.false; inputs = []; outputs = []; locals = []; pre = Form.number zeroᵛ; post = Form.number zeroᵛ; body = None; loops = 0; span = record { from = 0; to = 0 } }
 
+-- The procedure with this number, from 0, or `nobody` where the list is shorter.
 abbrev pub procedure_at : List TypedProcedure → ℕ → TypedProcedure
 procedure_at [] n = nobody
 procedure_at (p ∷ ps) zero = p

@@ -7,10 +7,12 @@ use Rattle.heyvl_acts.specs.Rules.{Each}
 use Rattle.heyvl_num.specs.Rational.{Rational}
 use Rattle.std.specs.Prelude.{None, Option, Some, ◌≤◌, ℕ}
 
+-- A loop's ranking, where it has one, has at most so many nodes.
 abbrev pub RankWithin : ℕ → Option (Rational × Form) → Type 0
 RankWithin most None = Unit {0}
 RankWithin most (Some r) = nodes r.1 ≤ most
 
+-- The guard of each arm has at most so many nodes.
 abbrev pub GuardsWithin : ℕ → Arms → Type 0
 GuardsWithin most Arms.no_arm = Unit {0}
 GuardsWithin most (Arms.arm g b more) = (nodes_in g ≤ most) × GuardsWithin most more

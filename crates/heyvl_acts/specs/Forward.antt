@@ -34,6 +34,7 @@ checked CheckKind.Assume x y = impliesᵛ x y
 checked CheckKind.CoAssert x y = maxᵛ x y
 checked CheckKind.CoAssume x y = coimpliesᵛ x y
 
+-- What a validation makes of the value of what follows: its covalidation where the flag is true, else its validation.
 abbrev pub validated : Bool → Value → Value
 validated true x = covalidateᵛ x
 validated false x = validateᵛ x
@@ -47,6 +48,7 @@ abbrev pub parts : ℕ → List (Rational × Term) → Post → Post → Post
 parts x [] k total s c = total s c
 parts x (p ∷ ps) k total s c = parts x ps k (λ r d. total r (left d) +ᵛ part x p k r (right d)) s c
 
+-- What a draw means: the sum of its parts, and 0 where it has none.
 abbrev pub drawn : ℕ → List (Rational × Term) → Post → Post
 drawn x [] k s c = zeroᵛ
 drawn x (p ∷ ps) k s c = parts x ps k (part x p k) s c
@@ -86,9 +88,11 @@ abbrev mutual
   meant_arms l q Arms.no_arm k otherwise s c = otherwise s c
   meant_arms l q (Arms.arm g b more) k otherwise s c = if holds g s Choices.stop then meant l q b k s (right c) else meant_arms l q more k otherwise s (right c)
 
+-- Each loop means 0, whatever follows.
 abbrev pub no_loops : OfLoops
 no_loops h b body k s c = zeroᵛ
 
+-- Each call means 0, whatever follows.
 abbrev pub no_calls : OfCalls
 no_calls xs p es k s c = zeroᵛ
 
@@ -96,5 +100,6 @@ no_calls xs p es k s c = zeroᵛ
 abbrev pub forward : Acts → Post → Post
 forward acts = meant no_loops no_calls acts
 
+-- The forward meaning of one act, where loops and calls mean 0.
 abbrev pub forward_act : Act → Post → Post
 forward_act a = meant_act no_loops no_calls a

@@ -2,6 +2,7 @@
 use Rattle.std.specs.Prelude.{ℕ, ◌+◌, if◌then◌else◌, leb}
 use Rattle.heyvl_acts.specs.Acts.{Act, Acts, Arms}
 
+-- The greater of two lengths.
 abbrev pub longer : ℕ → ℕ → ℕ
 longer m n = if leb m n then n else m
 

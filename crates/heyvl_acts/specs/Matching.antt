@@ -28,6 +28,7 @@ abbrev pub summed : ℕ → List (Rational × Term) → Post → Env → (ℕ �
 summed x [] k s ds v = v
 summed x (p ∷ ps) k s ds v = summed x ps k s (λ n. ds (suc n)) (v +ᵛ part x p k s (ds 0))
 
+-- The sum of a draw's parts, whose choices are given one by one; 0 where there is no part.
 abbrev pub summed_parts : ℕ → List (Rational × Term) → Post → Env → (ℕ → Choices) → Value
 summed_parts x [] k s ds = zeroᵛ
 summed_parts x (p ∷ ps) k s ds = summed x ps k s (λ n. ds (suc n)) (part x p k s (ds 0))
@@ -49,9 +50,11 @@ DrawsMatch = (l : OfLoops) (q : OfCalls) (x : ℕ) (ps : List (Rational × Term)
 abbrev pub TossesMatch : Type 0
 TossesMatch = (l : OfLoops) (q : OfCalls) (x : ℕ) (f : Form) (span : Span) (k : Post) (s : Env) (d e : Choices) → Reaches (meant_act l q (Act.toss x f span) k s) ((finite (toss_weight f s) *ᵛ k (put x (Truth true) s) d) +ᵛ (finite (oneʳ -ʳ toss_weight f s) *ᵛ k (put x (Truth false) s) e))
 
+-- What follows a reward may have any choices; the reward is added to it.
 abbrev pub RewardsMatch : Type 0
 RewardsMatch = (l : OfLoops) (q : OfCalls) (f : Form) (span : Span) (k : Post) (s : Env) (d : Choices) → Reaches (meant_act l q (Act.reward f span) k s) (k s d +ᵛ value f s Choices.stop)
 
+-- The block that an If takes may have any choices, together with what follows it.
 abbrev pub BranchesMatch : Type 0
 BranchesMatch = (l : OfLoops) (q : OfCalls) (arms : Arms) (e : Acts) (span : Span) (k : Post) (s : Env) (d : Choices) → Reaches (meant_act l q (Act.ifs arms e span) k s) (meant l q (taken arms e s) k s d)
 
@@ -63,5 +66,6 @@ AnysMatch = (l : OfLoops) (q : OfCalls) (x : ℕ) (up : Bool) (ty : Ty) (span : 
 abbrev pub PicksMatch : Type 0
 PicksMatch = (l : OfLoops) (q : OfCalls) (up : Bool) (a b : Acts) (span : Span) (k : Post) (s : Env) (d e : Choices) → Reaches (meant_act l q (Act.pick up a b span) k s) (picked up (meant l q a k s d) (meant l q b k s e))
 
+-- What follows a check may have any choices.
 abbrev pub ChecksMatch : Type 0
 ChecksMatch = (l : OfLoops) (q : OfCalls) (kind : CheckKind) (f : Form) (span : Span) (k : Post) (s : Env) (d : Choices) → Reaches (meant_act l q (Act.check kind f span) k s) (checked kind (value f s Choices.stop) (k s d))

@@ -35,6 +35,7 @@ nth [] n = None
 nth (x ∷ xs) zero = Some x
 nth (x ∷ xs) (suc n) = nth xs n
 
+-- The acts of a procedure's body and those inside them, in the order of the text; none where there is no procedure.
 abbrev pub acts_of_procedure : Option TypedProcedure → List Act
 acts_of_procedure (Some p) = in_order (acts_in p.body)
 acts_of_procedure None = []

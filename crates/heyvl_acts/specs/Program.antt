@@ -38,6 +38,7 @@ first_break co (a ∷ rest) = if_none (breaks co a) (first_break co rest)
     if_none (Some s) other = Some s
     if_none None other = other
 
+-- The reason that a statement at this place gives; none where no place is given.
 abbrev pub reason_of_break : Option Span → Option Reason
 reason_of_break (Some s) = Some (Reason.statement s)
 reason_of_break None = None
@@ -50,6 +51,7 @@ why_no_program p = why p.body
     why None = Some Reason.no_body
     why (Some acts) = if not (p.co || p.weak) then Some Reason.no_wlp else (if has_binder p.post then Some Reason.quantifier else reason_of_break (first_break p.co (in_order acts)))
 
+-- The procedure is a program: there is no reason why it is none.
 abbrev pub IsProgram : TypedProcedure → Type 0
 IsProgram p = why_no_program p ≡ None
 
@@ -59,18 +61,10 @@ calls q [] = false
 calls q (a ∷ rest) = is_call a || calls q rest
   where
     is_call : Act → Bool
-    is_call (Act.set x t span) = false
-    is_call (Act.draw x ps span) = false
-    is_call (Act.toss x p span) = false
-    is_call (Act.any x up ty span) = false
-    is_call (Act.reward f span) = false
-    is_call (Act.ifs arms e span) = false
-    is_call (Act.pick up a b span) = false
-    is_call (Act.check kind f span) = false
-    is_call (Act.validate co span) = false
-    is_call (Act.loop h b) = false
     is_call (Act.call xs p es span) = p == q
+    is_call a = false
 
+-- The body of the first procedure holds a call of the second.
 abbrev pub Calls : List TypedProcedure → ℕ → ℕ → Type 0
 Calls ps p q = calls q (in_order (acts_in (procedure_at ps p).body)) ≡ true
 

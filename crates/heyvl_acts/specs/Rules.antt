@@ -34,6 +34,7 @@ pub record IsOwn (p : TypedProcedure) (x : ℕ) : Type 0 where
   pub no_input : length p.inputs ≤ x
   pub below : x < length (variables p)
 
+-- The variables to which the act gives a value are the procedure's, and no inputs; acts inside it aside.
 abbrev pub HasOwnTargets : TypedProcedure → Act → Type 0
 HasOwnTargets p (Act.set x t span) = IsOwn p x
 HasOwnTargets p (Act.draw x ps span) = IsOwn p x
@@ -77,10 +78,12 @@ pub record CallFits (ps : List TypedProcedure) (p : TypedProcedure) (xs : List �
   pub arguments : ArgumentsFit p (type_list (procedure_at ps q).inputs) es
   pub targets : TargetsFit p xs (type_list (procedure_at ps q).outputs)
 
+-- The guard of each arm is a well-typed condition.
 abbrev pub GuardsFit : TypedProcedure → Arms → Type 0
 GuardsFit p Arms.no_arm = Unit {0}
 GuardsFit p (Arms.arm g b more) = (is_well_typed (types_of p) g ≡ true) × GuardsFit p more
 
+-- A loop's ranking, where it has one, has a positive step and is a formula without binders.
 abbrev pub RankFits : TypedProcedure → Option (Rational × Form) → Type 0
 RankFits p None = Unit {0}
 RankFits p (Some r) = (zeroʳ <ʳ r.0) × IsHeld (types_of p) r.1
@@ -91,6 +94,8 @@ pub record LoopFits (p : TypedProcedure) (h : Head) : Type 0 where
   pub guard : is_well_typed (types_of p) h.guard ≡ true
   pub rank : RankFits p h.rank
 
+-- The act is well typed, acts inside it aside: what it holds fits the types of the procedure's variables.
+-- A draw has a part and no negative weight, a ranking has a positive step, and a call fits a procedure of the list.
 abbrev pub IsTypedAct : List TypedProcedure → TypedProcedure → Act → Type 0
 IsTypedAct ps p (Act.set x t span) = TermFits (types_of p) (types_of p x) t
 IsTypedAct ps p (Act.draw x qs span) = DrawFits (types_of p) x qs
@@ -173,6 +178,7 @@ binds (Act.pick up a b span) = false
 binds (Act.check kind f span) = false
 binds (Act.validate co span) = false
 
+-- Whether one of the acts has an encoding that holds a binder.
 abbrev pub any_binds : List Act → Bool
 any_binds [] = false
 any_binds (a ∷ rest) = binds a || any_binds rest
@@ -184,6 +190,7 @@ NothingBindsBehind co quantified (a ∷ rest) = (is_against co a ≡ true → (q
 
 -- ---- Loops
 
+-- An act that may stand in the body of a loop with a ranking: no loop, call, check or validation.
 abbrev pub is_rankable : Act → Bool
 is_rankable (Act.loop h b) = false
 is_rankable (Act.call xs q es span) = false
@@ -207,6 +214,8 @@ abbrev pub GrowBelow : ℕ → ℕ → List ℕ → Type 0
 GrowBelow from below [] = Unit {0}
 GrowBelow from below (x ∷ xs) = ((from ≤ x) × (x < below)) × GrowBelow (suc x) below xs
 
+-- The loop has 1 to 16 copies of its body; its visible variables are the procedure's, in the order of their numbers, each once.
+-- Its body is plain where it has a ranking, and holds no check against the procedure's direction.
 pub record LoopMeets (p : TypedProcedure) (h : Head) (b : Acts) : Type 0 where
   pub some_copy : 1 ≤ h.k
   pub few_copies : h.k ≤ 16
@@ -214,6 +223,7 @@ pub record LoopMeets (p : TypedProcedure) (h : Head) (b : Acts) : Type 0 where
   pub ranked : RankedBodyIsPlain h.rank b
   pub nothing_against : Each (λ a. is_against p.co a ≡ false) (in_order b)
 
+-- The act, where it is a loop, meets the rules of loops.
 abbrev pub LoopsMeet : TypedProcedure → Act → Type 0
 LoopsMeet p (Act.loop h b) = LoopMeets p h b
 LoopsMeet p (Act.set x t span) = Unit {0}
@@ -231,16 +241,7 @@ LoopsMeet p (Act.call xs q es span) = Unit {0}
 abbrev pub loop_numbers : List Act → List ℕ
 loop_numbers [] = []
 loop_numbers (Act.loop h b ∷ rest) = h.number ∷ loop_numbers rest
-loop_numbers (Act.set x t span ∷ rest) = loop_numbers rest
-loop_numbers (Act.draw x qs span ∷ rest) = loop_numbers rest
-loop_numbers (Act.toss x f span ∷ rest) = loop_numbers rest
-loop_numbers (Act.any x up ty span ∷ rest) = loop_numbers rest
-loop_numbers (Act.reward f span ∷ rest) = loop_numbers rest
-loop_numbers (Act.ifs arms e span ∷ rest) = loop_numbers rest
-loop_numbers (Act.pick up a b span ∷ rest) = loop_numbers rest
-loop_numbers (Act.check kind f span ∷ rest) = loop_numbers rest
-loop_numbers (Act.validate co span ∷ rest) = loop_numbers rest
-loop_numbers (Act.call xs q es span ∷ rest) = loop_numbers rest
+loop_numbers (a ∷ rest) = loop_numbers rest
 
 -- So many numbers, from the first on.
 abbrev pub counted : ℕ → ℕ → List ℕ
@@ -264,6 +265,7 @@ HasFewActs ps = (p : ℕ) → length (in_order (acts_in (procedure_at ps p).body
 
 -- ---- Procedures and files
 
+-- The procedure meets the static rules in a file of these procedures.
 pub record MeetsRules (ps : List TypedProcedure) (p : TypedProcedure) : Type 0 where
   -- limits
   pub few_parameters : length (p.inputs ++ p.outputs) ≤ 16

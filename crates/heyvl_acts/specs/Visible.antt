@@ -11,6 +11,7 @@ use Rattle.heyvl_acts.specs.Acts.{Act, Acts, Arms, TypedProcedure}
 abbrev pub Visible : Type 0
 Visible = ℕ → Bool
 
+-- The variables of a list are visible, and no others.
 abbrev pub among : List ℕ → Visible
 among [] y = false
 among (x ∷ xs) y = (x == y) || among xs y
@@ -19,6 +20,7 @@ among (x ∷ xs) y = (x == y) || among xs y
 abbrev pub shown : ℕ → Visible → Visible
 shown x v y = (x == y) || v y
 
+-- With each variable of a list more.
 abbrev pub shown_all : List ℕ → Visible → Visible
 shown_all [] v = v
 shown_all (x ∷ xs) v = shown_all xs (shown x v)
@@ -27,20 +29,25 @@ shown_all (x ∷ xs) v = shown_all xs (shown x v)
 abbrev pub interface : TypedProcedure → Visible
 interface p y = leb (suc y) (length (p.inputs ++ p.outputs))
 
+-- Each variable that is free in the form is visible.
 abbrev pub Sees : Visible → Form → Type 0
 Sees v f = (y : ℕ) → is_free y f ≡ true → v y ≡ true
 
+-- Each variable that is free in the condition is visible.
 abbrev pub SeesCond : Visible → Cond → Type 0
 SeesCond v g = (y : ℕ) → is_free_in y g ≡ true → v y ≡ true
 
+-- Each variable that is free in the term is visible.
 abbrev pub SeesTerm : Visible → Term → Type 0
 SeesTerm v (Term.truth g) = SeesCond v g
 SeesTerm v (Term.number f) = Sees v f
 
+-- Each variable that is free in one of the terms is visible.
 abbrev pub SeesTerms : Visible → List Term → Type 0
 SeesTerms v [] = Unit {0}
 SeesTerms v (e ∷ es) = SeesTerm v e × SeesTerms v es
 
+-- Each variable that is free in the term of one of a draw's parts is visible.
 abbrev pub SeesParts : Visible → List (Rational × Term) → Type 0
 SeesParts v [] = Unit {0}
 SeesParts v (q ∷ qs) = SeesTerm v q.1 × SeesParts v qs

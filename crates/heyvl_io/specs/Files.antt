@@ -9,9 +9,11 @@ use Rattle.heyvl_io.specs.Order.{Order, first, other}
 abbrev pub File : Type 0
 File = String Global × Vec ℕ Global
 
-abbrev pub names_of : List File → List (List ℕ)
-names_of files = map (λ file. string_bytes file.0) files
+-- The bytes of each file's name, in the order of the files.
+abbrev pub text_names : List File → List (List ℕ)
+text_names files = map (λ file. string_bytes file.0) files
 
+-- Whether the file's name has exactly these bytes.
 abbrev pub is_named : List ℕ → File → Bool
 is_named name file = bytes_eq name (string_bytes file.0)
 

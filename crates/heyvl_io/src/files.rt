@@ -1,6 +1,6 @@
 ghost use Rattle.std.specs.Prelude.{◌≡◌, length, take, min};
 ghost use Rattle.std.specs.List.{position};
-ghost use Rattle.heyvl_io.specs.Files.{names_of, is_named, started_bytes, numbered_order};
+ghost use Rattle.heyvl_io.specs.Files.{text_names, is_named, started_bytes, numbered_order};
 ghost use Rattle.heyvl_io.specs.Order.{order_after};
 
 // The place of the first file of a name.
@@ -16,7 +16,7 @@ pub(crate) fn next_order(
     order: Option<usize>,
     name: &str,
 ) -> Option<usize>
-    ensures { numbered_order result ≡ order_after (names_of files.now) name.now (numbered_order order) }
+    ensures { numbered_order result ≡ order_after (text_names files.now) name.now (numbered_order order) }
 {
     let started = order?;
     let next = files.get(started)?;

@@ -1,7 +1,7 @@
 ghost use Rattle.std.specs.Prelude.{◌≡◌, ◌⊎◌, ◌+◌, ◌<◌, ◌≤◌, ◌↔◌, [], length, take, min, Contains, IfOk, OnErr, OnOk, IsErr, IsSome, Some, None};
 ghost use Rattle.heyvl_io.specs.Bytes.{HandsOut};
 ghost use Rattle.heyvl_io.specs.Faults.{Rose, next_count, faults_after};
-ghost use Rattle.heyvl_io.specs.Files.{names_of, held_bytes, started_bytes, rest_at, numbered_order};
+ghost use Rattle.heyvl_io.specs.Files.{text_names, held_bytes, started_bytes, rest_at, numbered_order};
 ghost use Rattle.heyvl_io.specs.History.{with_start, with_bytes};
 ghost use Rattle.heyvl_io.specs.Order.{order_after};
 
@@ -63,7 +63,7 @@ impl MemSource {
 }
 
 impl Source for MemSource {
-    ghost names = { λ s. names_of s.files.items };
+    ghost names = { λ s. text_names s.files.items };
 
     ghost holds = { λ s. held_bytes s.files.items };
 
@@ -85,7 +85,7 @@ impl Source for MemSource {
         ensures nothing { OnErr result (self.new.started ≡ None) }
         ensures place { self.new.place ≡ 0 }
         ensures order { numbered_order self.new.order
-            ≡ order_after (names_of self.old.files.items) name.now (numbered_order self.old.order) }
+            ≡ order_after (text_names self.old.files.items) name.now (numbered_order self.old.order) }
         ensures history { self.new.log.history ≡ with_start self.old.log.history name.now }
 
         ensures files { self.new.files ≡ self.old.files }

@@ -1,6 +1,6 @@
 ghost use Rattle.std.specs.Prelude.{◌≡◌, ◌+◌, ◌<◌, ◌≤◌, [], length, take, min, unwrap_or, IfOk, IsOk, IsSome, Some, None};
 ghost use Rattle.heyvl_io.specs.Bytes.{HandsOut};
-ghost use Rattle.heyvl_io.specs.Files.{names_of, held_bytes, started_bytes, rest_at};
+ghost use Rattle.heyvl_io.specs.Files.{text_names, held_bytes, started_bytes, rest_at};
 ghost use Rattle.heyvl_io.specs.History.{with_start, with_bytes};
 ghost use Rattle.heyvl_io.specs.Order.{untold};
 
@@ -46,7 +46,7 @@ impl SureSource {
 }
 
 impl Source for SureSource {
-    ghost names = { λ s. names_of s.files.items };
+    ghost names = { λ s. text_names s.files.items };
 
     ghost holds = { λ s name. Some (unwrap_or (held_bytes s.files.items name) []) };
 

@@ -40,38 +40,49 @@ FractionsHaveParts = (x : Rational) → ratio x.num x.den ≡ x
 
 -- ---- The ring
 
+-- Addition is associative.
 abbrev pub AdditionAssociates : Type 0
 AdditionAssociates = (x y z : Rational) → (x +ʳ y) +ʳ z ≡ x +ʳ (y +ʳ z)
 
+-- A sum does not depend on the order of its terms.
 abbrev pub AdditionCommutes : Type 0
 AdditionCommutes = (x y : Rational) → x +ʳ y ≡ y +ʳ x
 
+-- Adding 0 changes nothing.
 abbrev pub ZeroAddsNothing : Type 0
 ZeroAddsNothing = (x : Rational) → zeroʳ +ʳ x ≡ x
 
+-- A fraction and its negative add up to 0.
 abbrev pub NegationCancels : Type 0
 NegationCancels = (x : Rational) → x +ʳ negʳ x ≡ zeroʳ
 
+-- Multiplication is associative.
 abbrev pub MultiplicationAssociates : Type 0
 MultiplicationAssociates = (x y z : Rational) → (x *ʳ y) *ʳ z ≡ x *ʳ (y *ʳ z)
 
+-- A product does not depend on the order of its factors.
 abbrev pub MultiplicationCommutes : Type 0
 MultiplicationCommutes = (x y : Rational) → x *ʳ y ≡ y *ʳ x
 
+-- Multiplying by 1 changes nothing.
 abbrev pub OneChangesNothing : Type 0
 OneChangesNothing = (x : Rational) → oneʳ *ʳ x ≡ x
 
+-- A factor distributes over a sum.
 abbrev pub MultiplicationDistributes : Type 0
 MultiplicationDistributes = (x y z : Rational) → x *ʳ (y +ʳ z) ≡ (x *ʳ y) +ʳ (x *ʳ z)
 
 -- ---- Signs
 
+-- The negative of a fraction's negative is the fraction.
 abbrev pub NegationUndoesItself : Type 0
 NegationUndoesItself = (x : Rational) → negʳ (negʳ x) ≡ x
 
+-- A product with a negated factor is the negative of the product.
 abbrev pub NegationOfAFactor : Type 0
 NegationOfAFactor = (x y : Rational) → negʳ x *ʳ y ≡ negʳ (x *ʳ y)
 
+-- The negative of a sum is the sum of the negatives.
 abbrev pub NegationOfASum : Type 0
 NegationOfASum = (x y : Rational) → negʳ (x +ʳ y) ≡ negʳ x +ʳ negʳ y
 
@@ -89,21 +100,27 @@ DifferenceUndone = (x y : Rational) → (x -ʳ y) +ʳ y ≡ x
 
 -- ---- The order
 
+-- Each fraction is at most itself.
 abbrev pub OrderReflexive : Type 0
 OrderReflexive = (x : Rational) → x ≤ʳ x
 
+-- Where x is at most y, and y at most z, x is at most z.
 abbrev pub OrderTransitive : Type 0
 OrderTransitive = (x y z : Rational) → x ≤ʳ y → y ≤ʳ z → x ≤ʳ z
 
+-- Two fractions of which each is at most the other are equal.
 abbrev pub OrderAntisymmetric : Type 0
 OrderAntisymmetric = (x y : Rational) → x ≤ʳ y → y ≤ʳ x → x ≡ y
 
+-- Of two fractions one is at most the other.
 abbrev pub OrderTotal : Type 0
 OrderTotal = (x y : Rational) → (x ≤ʳ y) ⊎ (y ≤ʳ x)
 
+-- A sum grows with both terms.
 abbrev pub SumsMonotone : Type 0
 SumsMonotone = (x x' y y' : Rational) → x ≤ʳ x' → y ≤ʳ y' → x +ʳ y ≤ʳ x' +ʳ y'
 
+-- A factor that isn't negative keeps the order.
 abbrev pub ProductsMonotone : Type 0
 ProductsMonotone = (w x y : Rational) → zeroʳ ≤ʳ w → x ≤ʳ y → w *ʳ x ≤ʳ w *ʳ y
 

@@ -11,15 +11,19 @@ use Rattle.heyvl_num.specs.WholeNumbers.{IsWhole}
 abbrev pub WholeSums : Type 0
 WholeSums = (x y : Rational) → x.den ≡ 1 → y.den ≡ 1 → (x +ʳ y).den ≡ 1
 
+-- The difference of two whole numbers is whole.
 abbrev pub WholeDifferences : Type 0
 WholeDifferences = (x y : Rational) → x.den ≡ 1 → y.den ≡ 1 → (x -ʳ y).den ≡ 1
 
+-- The product of two whole numbers is whole.
 abbrev pub WholeProducts : Type 0
 WholeProducts = (x y : Rational) → x.den ≡ 1 → y.den ≡ 1 → (x *ʳ y).den ≡ 1
 
+-- The negative of a whole number is whole.
 abbrev pub WholeNegatives : Type 0
 WholeNegatives = (x : Rational) → x.den ≡ 1 → (negʳ x).den ≡ 1
 
+-- 0 and 1 are whole numbers.
 abbrev pub ZeroAndOneAreWhole : Type 0
 ZeroAndOneAreWhole = (zeroʳ.den ≡ 1) × (oneʳ.den ≡ 1)
 
@@ -31,6 +35,7 @@ WholeValues = (x y : Value) → IsWhole x → IsWhole y → IsWhole (x +ᵛ y) �
 abbrev pub MinimumGrows : Type 0
 MinimumGrows = (x x' y y' : Value) → x ≤ᵛ x' → y ≤ᵛ y' → minᵛ x y ≤ᵛ minᵛ x' y'
 
+-- A maximum grows with both parts.
 abbrev pub MaximumGrows : Type 0
 MaximumGrows = (x x' y y' : Value) → x ≤ᵛ x' → y ≤ᵛ y' → maxᵛ x y ≤ᵛ maxᵛ x' y'
 
@@ -50,6 +55,7 @@ CoimplicationNonnegative = (x y : Value) → zeroᵛ ≤ᵛ x → zeroᵛ ≤ᵛ
 abbrev pub WeightOfNothing : Type 0
 WeightOfNothing = total_weight {A = ℕ} [] ≡ zeroʳ
 
+-- The weight of one outcome more is added to that of the others.
 abbrev pub WeightsAddUp : Type 0
 WeightsAddUp = (w : Rational) (a : ℕ) (xs : List (Rational × ℕ)) → total_weight ((w, a) ∷ xs) ≡ w +ʳ total_weight xs
 

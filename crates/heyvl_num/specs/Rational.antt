@@ -28,10 +28,12 @@ abs_neg : (n : ℕ) → unsigned_abs (neg_ℤ (pos n)) ≡ n
 abs_neg zero = refl
 abs_neg (suc n) = refl
 
+-- The absolute value of a quotient by a natural number is the quotient of the absolute value.
 pub abs_div : (a : ℤ) (g : ℕ) → unsigned_abs (int_div a (pos g)) ≡ unsigned_abs a / g
 abs_div (pos n) g = refl
 abs_div (negsuc n) g = abs_neg (suc n / g)
 
+-- A whole number and a positive one, each divided by the greatest common divisor of both, have no common divisor but 1.
 pub quotients_lowest : (a : ℤ) (d : ℕ) → gcd (unsigned_abs (int_div a (pos (gcd (unsigned_abs a) (suc d))))) (suc d / gcd (unsigned_abs a) (suc d)) ≡ 1
 quotients_lowest a d = ap (λ x. gcd x (suc d / gcd (unsigned_abs a) (suc d))) (abs_div a (gcd (unsigned_abs a) (suc d))) ∙ gcd-quotients (unsigned_abs a) (suc d) (zero-lt-suc d)
 
@@ -46,9 +48,11 @@ ratio a (suc d) = record {
   lowest = quotients_lowest a d;
 }
 
+-- The fraction 0.
 unfoldable pub zeroʳ : Rational
 zeroʳ = ratio (pos 0) 1
 
+-- The fraction 1.
 unfoldable pub oneʳ : Rational
 oneʳ = ratio (pos 1) 1
 
@@ -80,6 +84,7 @@ pub record ◌≤ʳ◌ (x y : Rational) : Type 0 where
 pub record ◌<ʳ◌ (x y : Rational) : Type 0 where
   pub holds : leqʳ y x ≡ false
 
+-- The fraction 1/2.
 unfoldable pub halfʳ : Rational
 halfʳ = ratio (pos 1) 2
 

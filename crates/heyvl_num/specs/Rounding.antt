@@ -15,10 +15,12 @@ floorʳ x = int_div_euclid x.num (pos x.den)
 unfoldable pub ceilʳ : Rational → ℤ
 ceilʳ x = neg_ℤ (int_div_euclid (neg_ℤ x.num) (pos x.den))
 
+-- n is the greatest whole number that is at most the fraction x.
 pub record IsFloor (x : Rational) (n : ℤ) : Type 0 where
   pub at_most : whole n ≤ʳ x
   pub greatest : (m : ℤ) → whole m ≤ʳ x → m ≤ℤ n
 
+-- n is the least whole number that is at least the fraction x.
 pub record IsCeiling (x : Rational) (n : ℤ) : Type 0 where
   pub at_least : x ≤ʳ whole n
   pub least : (m : ℤ) → x ≤ʳ whole m → n ≤ℤ m

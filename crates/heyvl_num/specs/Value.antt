@@ -16,9 +16,11 @@ pub data Value : Type 0 where
   finite : Rational → Value
   infinite : Value
 
+-- The value 0.
 unfoldable pub zeroᵛ : Value
 zeroᵛ = finite zeroʳ
 
+-- The value 1.
 unfoldable pub oneᵛ : Value
 oneᵛ = finite oneʳ
 

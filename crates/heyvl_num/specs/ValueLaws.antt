@@ -9,21 +9,27 @@ use Rattle.heyvl_num.specs.WeightedSums.{weighted_sum, total_weight, scaled, joi
 
 -- ---- The semiring
 
+-- Addition is associative.
 abbrev pub AdditionAssociates : Type 0
 AdditionAssociates = (x y z : Value) → (x +ᵛ y) +ᵛ z ≡ x +ᵛ (y +ᵛ z)
 
+-- A sum does not depend on the order of its terms.
 abbrev pub AdditionCommutes : Type 0
 AdditionCommutes = (x y : Value) → x +ᵛ y ≡ y +ᵛ x
 
+-- Adding 0 changes nothing.
 abbrev pub ZeroAddsNothing : Type 0
 ZeroAddsNothing = (x : Value) → zeroᵛ +ᵛ x ≡ x
 
+-- Multiplication is associative.
 abbrev pub MultiplicationAssociates : Type 0
 MultiplicationAssociates = (x y z : Value) → (x *ᵛ y) *ᵛ z ≡ x *ᵛ (y *ᵛ z)
 
+-- A product does not depend on the order of its factors.
 abbrev pub MultiplicationCommutes : Type 0
 MultiplicationCommutes = (x y : Value) → x *ᵛ y ≡ y *ᵛ x
 
+-- Multiplying by 1 changes nothing.
 abbrev pub OneChangesNothing : Type 0
 OneChangesNothing = (x : Value) → oneᵛ *ᵛ x ≡ x
 
@@ -31,6 +37,7 @@ OneChangesNothing = (x : Value) → oneᵛ *ᵛ x ≡ x
 abbrev pub ZeroTakesAll : Type 0
 ZeroTakesAll = (x : Value) → zeroᵛ *ᵛ x ≡ zeroᵛ
 
+-- A sum with infinity is infinity.
 abbrev pub InfinityAbsorbs : Type 0
 InfinityAbsorbs = (x : Value) → x +ᵛ infinite ≡ infinite
 
@@ -48,27 +55,35 @@ HalvesAddUp = (x : Value) → (finite halfʳ *ᵛ x) +ᵛ (finite halfʳ *ᵛ x)
 
 -- ---- The order
 
+-- Each value is at most itself.
 abbrev pub OrderReflexive : Type 0
 OrderReflexive = (x : Value) → x ≤ᵛ x
 
+-- Where x is at most y, and y at most z, x is at most z.
 abbrev pub OrderTransitive : Type 0
 OrderTransitive = (x y z : Value) → x ≤ᵛ y → y ≤ᵛ z → x ≤ᵛ z
 
+-- Two values of which each is at most the other are equal.
 abbrev pub OrderAntisymmetric : Type 0
 OrderAntisymmetric = (x y : Value) → x ≤ᵛ y → y ≤ᵛ x → x ≡ y
 
+-- Of two values one is at most the other.
 abbrev pub OrderTotal : Type 0
 OrderTotal = (x y : Value) → (x ≤ᵛ y) ⊎ (y ≤ᵛ x)
 
+-- Every value is at most infinity.
 abbrev pub InfinityGreatest : Type 0
 InfinityGreatest = (x : Value) → x ≤ᵛ infinite
 
+-- A sum grows with both terms.
 abbrev pub SumsMonotone : Type 0
 SumsMonotone = (x x' y y' : Value) → x ≤ᵛ x' → y ≤ᵛ y' → x +ᵛ y ≤ᵛ x' +ᵛ y'
 
+-- A finite factor that isn't negative keeps the order.
 abbrev pub WeightsMonotone : Type 0
 WeightsMonotone = (w : Rational) (x y : Value) → zeroʳ ≤ʳ w → x ≤ᵛ y → finite w *ᵛ x ≤ᵛ finite w *ᵛ y
 
+-- A product of values that aren't negative grows with both factors.
 abbrev pub ProductsMonotone : Type 0
 ProductsMonotone = (x x' y y' : Value) → zeroᵛ ≤ᵛ x → zeroᵛ ≤ᵛ y → x ≤ᵛ x' → y ≤ᵛ y' → x *ᵛ y ≤ᵛ x' *ᵛ y'
 
@@ -104,6 +119,7 @@ DifferenceAdjoint = (x y z : Value) → zeroᵛ ≤ᵛ z → (monusᵛ x y ≤�
 
 -- ---- Weighted sums of numbered outcomes
 
+-- The weighted sum over two lists, one after the other, is the sum of the weighted sums over each.
 abbrev pub SumsOfAppendedLists : Type 0
 SumsOfAppendedLists = (f : ℕ → Value) (xs ys : List (Rational × ℕ)) → weighted_sum f (xs ++ ys) ≡ weighted_sum f xs +ᵛ weighted_sum f ys
 
@@ -115,6 +131,7 @@ FactorsMoveOut = (f : ℕ → Value) (w : Rational) (xs : List (Rational × ℕ)
 abbrev pub SumsOfJoinedLists : Type 0
 SumsOfJoinedLists = (f : ℕ → Value) (k : ℕ → List (Rational × ℕ)) (xs : List (Rational × ℕ)) → weighted_sum f (joined k xs) ≡ weighted_sum (λ a. weighted_sum f (k a)) xs
 
+-- Where no weight is negative, a weighted sum grows with the values of its outcomes.
 abbrev pub WeightedSumsMonotone : Type 0
 WeightedSumsMonotone = (f g : ℕ → Value) (xs : List (Rational × ℕ)) → IsWeighted xs → ((a : ℕ) → f a ≤ᵛ g a) → weighted_sum f xs ≤ᵛ weighted_sum g xs
 

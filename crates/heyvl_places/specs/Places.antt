@@ -3,6 +3,7 @@ use Rattle.heyvl_places.specs.declared.places.Place.{Place}
 use Rattle.std.specs.List.{suffix_len}
 use Rattle.std.specs.Prelude.{Bool, List, count_by, not, take, ℕ, ◌+◌, ◌==◌}
 
+-- Whether a byte is a line feed.
 abbrev pub is_line_feed : ℕ → Bool
 is_line_feed b = b == 10
 
@@ -14,5 +15,6 @@ line_of bytes at = count_by is_line_feed (take at bytes) + 1
 abbrev pub column_of : List ℕ → ℕ → ℕ
 column_of bytes at = suffix_len (λ b. not (is_line_feed b)) (take at bytes) + 1
 
+-- The place of the byte with this number, from 0, in a file of these bytes: its line and its column.
 abbrev pub place_at : List ℕ → ℕ → Place
 place_at bytes at = record { line = line_of bytes at; column = column_of bytes at }

@@ -146,6 +146,7 @@ head_line p =
 abbrev pub pre_line : Expression → List Piece
 pre_line a = margin 2 then key keys.Pre then space then expression_pieces a then feed
 
+-- A post clause on a line, behind two blanks.
 abbrev pub post_line : Expression → List Piece
 post_line a = margin 2 then key keys.Post then space then expression_pieces a then feed
 

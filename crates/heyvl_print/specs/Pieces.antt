@@ -33,18 +33,23 @@ abbrev pub text_of : List Piece → List ℕ
 text_of [] = []
 text_of (p ∷ ps) = piece_text p ++ text_of ps
 
+-- The token of a key, alone.
 abbrev pub key : Key → List Piece
 key k = token (kinds.Key k) ∷ []
 
+-- The token of a mark, alone.
 abbrev pub mark : Mark → List Piece
 mark m = token (kinds.Mark m) ∷ []
 
+-- The token of a word, alone.
 abbrev pub word : List ℕ → List Piece
 word x = token (kinds.Word x) ∷ []
 
+-- One blank.
 abbrev pub space : List Piece
 space = blank ∷ []
 
+-- One line feed.
 abbrev pub feed : List Piece
 feed = line_feed ∷ []
 
@@ -52,8 +57,8 @@ feed = line_feed ∷ []
 abbrev pub margin : ℕ → List Piece
 margin n = replicate n blank
 
--- First the one and then the other.
 infixr 30 ◌then◌
+-- The pieces of the one, and behind them those of the other.
 abbrev pub ◌then◌ : List Piece → List Piece → List Piece
 ◌then◌ ps qs = ps ++ qs
 
@@ -61,6 +66,7 @@ abbrev pub ◌then◌ : List Piece → List Piece → List Piece
 abbrev pub comma : List Piece
 comma = mark marks.Comma then space
 
+-- A `:` and one space.
 abbrev pub colon : List Piece
 colon = mark marks.Colon then space
 

@@ -10,6 +10,7 @@ use Rattle.std.specs.Prelude.{List, None, Option, Some, map, ◌≡◌}
 abbrev pub no_place : Span
 no_place = record { from = 0; to = 0 }
 
+-- The expression with no places: each node has the one that stands for all.
 abbrev pub bare_expression : Expression → Expression
 bare_expression (Expression.number n s) = Expression.number n no_place
 bare_expression (Expression.truth b s) = Expression.truth b no_place
@@ -24,12 +25,15 @@ bare_expression (Expression.choice a b c s) =
     Expression.choice (bare_expression a) (bare_expression b) (bare_expression c) no_place
 bare_expression (Expression.bound up x t a s) = Expression.bound up x t (bare_expression a) no_place
 
+-- The expressions with no places, in their order.
 abbrev pub bare_expressions : List Expression → List Expression
 bare_expressions = map bare_expression
 
+-- The part of a `choose` with no places.
 abbrev pub bare_part : Expression × Expression → Expression × Expression
 bare_part part = (bare_expression part.0, bare_expression part.1)
 
+-- The right side with no places.
 abbrev pub bare_right : RightSide → RightSide
 bare_right (RightSide.plain a) = RightSide.plain (bare_expression a)
 bare_right (RightSide.flip p) = RightSide.flip (bare_expression p)
@@ -37,10 +41,12 @@ bare_right (RightSide.unif a b) = RightSide.unif (bare_expression a) (bare_expre
 bare_right (RightSide.choose parts) = RightSide.choose (map bare_part parts)
 bare_right (RightSide.call f arguments) = RightSide.call f (bare_expressions arguments)
 
+-- The right side with no places, where there is one.
 abbrev pub bare_given : Option RightSide → Option RightSide
 bare_given None = None
 bare_given (Some r) = Some (bare_right r)
 
+-- The rule with no places.
 abbrev pub bare_rule : LoopRule → LoopRule
 bare_rule (LoopRule.invariant i s) = LoopRule.invariant (bare_expression i) no_place
 bare_rule (LoopRule.k_induction k i s) = LoopRule.k_induction (bare_expression k) (bare_expression i) no_place
@@ -66,13 +72,16 @@ abbrev mutual
   bare_arms Arms.no_arm = Arms.no_arm
   bare_arms (Arms.arm g b more) = Arms.arm (bare_expression g) (bare_block b) (bare_arms more)
 
+-- The body with no places, where there is one.
 abbrev pub bare_body : Option Block → Option Block
 bare_body None = None
 bare_body (Some b) = Some (bare_block b)
 
+-- The parameter with no place.
 abbrev pub bare_param : Param → Param
 bare_param p = record { name = p.name; ty = p.ty; span = no_place }
 
+-- The procedure with no places.
 abbrev pub bare_procedure : Procedure → Procedure
 bare_procedure p = record {
   co = p.co;

@@ -6,6 +6,7 @@ use Rattle.std.specs.Char.{is_ascii_alphabetic, is_ascii_digit}
 abbrev pub is_white : ℕ → Bool
 is_white b = b == 32 || b == 9 || b == 13 || b == 10
 
+-- A point: the byte of `.`.
 abbrev pub is_point : ℕ → Bool
 is_point b = b == 46
 

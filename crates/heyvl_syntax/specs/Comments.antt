@@ -4,12 +4,15 @@ use Rattle.heyvl_places.specs.Places.{is_line_feed}
 use Rattle.std.specs.List.{position_or_len, starts_with}
 use Rattle.std.specs.Prelude.{Bool, List, codes, drop, false, nat_eq, true, ◌+◌, ◌<◌, ◌||◌, ◌≡◌, ℕ}
 
+-- A `//` stands at the front.
 abbrev pub opens_line : List ℕ → Bool
 opens_line bytes = starts_with nat_eq bytes (codes "//")
 
+-- A `/*` stands at the front.
 abbrev pub opens_block : List ℕ → Bool
 opens_block bytes = starts_with nat_eq bytes (codes "/*")
 
+-- A `//` or a `/*` stands at the front.
 abbrev pub opens_comment : List ℕ → Bool
 opens_comment bytes = opens_line bytes || opens_block bytes
 

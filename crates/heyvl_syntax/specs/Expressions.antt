@@ -41,5 +41,6 @@ expression_layer (Layer.Bound up x t a s) = Expression.bound up x t a.value s
 abbrev pub expression : Expr → Expression
 expression = fold-Expr Expression expression_layer
 
+-- The plain trees of expressions, in their order.
 abbrev pub expressions : List Expr → List Expression
 expressions = map expression

@@ -66,6 +66,7 @@ pub record Ranks : Type 0 where
   pub left : ℕ
   pub right : ℕ
 
+-- A row of the table: the rank, and the highest ranks of the left and of the right operand.
 abbrev pub row : ℕ → ℕ → ℕ → Ranks
 row rank left right = record { rank = rank; left = left; right = right }
 
@@ -115,19 +116,23 @@ operator ops.Minus = kinds.Mark marks.Minus
 operator ops.Star = kinds.Mark marks.Star
 operator ops.Slash = kinds.Mark marks.Slash
 
+-- The mark of each prefix operator.
 abbrev pub prefix : UnaryOp → Mark
 prefix prefixes.Not = marks.Bang
 prefix prefixes.Minus = marks.Minus
 prefix prefixes.Tilde = marks.Tilde
 
+-- The key of a truth value: `true` or `false`.
 abbrev pub truth_key : Bool → Key
 truth_key true = keys.TrueWord
 truth_key false = keys.FalseWord
 
+-- The key of a quantifier: `sup` where the flag is true, else `inf`.
 abbrev pub quantifier_key : Bool → Key
 quantifier_key true = keys.Sup
 quantifier_key false = keys.Inf
 
+-- The key of each type.
 abbrev pub type_key : TypeName → Key
 type_key types.Bool = keys.BoolWord
 type_key types.Int = keys.IntWord
@@ -171,14 +176,16 @@ IsExpr (Expression.choice a b c s) k ts =
 abbrev pub IsFull : Expression → List Token → Type 0
 IsFull a = IsExpr a 9
 
--- right ::= 'flip' '(' expr ')' | 'unif' '(' expr ',' expr ')' | 'choose' '{' list(expr ':' expr) '}' | W '(' list0(expr) ')'
---         | expr
+-- expr ':' expr: a part of a choose.
 abbrev pub IsWeighted : Expression × Expression → List Token → Type 0
 IsWeighted part = IsFull part.0 then IsMark marks.Colon then IsFull part.1
 
+-- W '(' list0(expr) ')': a call of this name with these arguments.
 abbrev pub IsCall : List ℕ → List Expression → List Token → Type 0
 IsCall f arguments = IsName f then IsMark marks.ParenLeft then IsList0 IsFull arguments then IsMark marks.ParenRight
 
+-- right ::= 'flip' '(' expr ')' | 'unif' '(' expr ',' expr ')' | 'choose' '{' list(expr ':' expr) '}' | W '(' list0(expr) ')'
+--         | expr
 abbrev pub IsRight : RightSide → List Token → Type 0
 IsRight (RightSide.flip p) = IsKey keys.Flip then IsMark marks.ParenLeft then IsFull p then IsMark marks.ParenRight
 IsRight (RightSide.unif a b) =
@@ -201,20 +208,24 @@ IsRule (LoopRule.ranking e r s) ts =
     then IsFull r then IsMark marks.ParenRight) ts
     × (s ≡ extent ts)
 
+-- The key of each kind of check: `assert`, `assume`, `coassert` or `coassume`.
 abbrev pub check_key : CheckKind → Key
 check_key checks.Assert = keys.Assert
 check_key checks.Assume = keys.Assume
 check_key checks.CoAssert = keys.CoAssert
 check_key checks.CoAssume = keys.CoAssume
 
+-- The key of a validate statement: `covalidate` where the flag is true, else `validate`.
 abbrev pub validate_key : Bool → Key
 validate_key true = keys.CoValidate
 validate_key false = keys.Validate
 
+-- The key of a havoc statement: `cohavoc` where the flag is true, else `havoc`.
 abbrev pub havoc_key : Bool → Key
 havoc_key true = keys.CoHavoc
 havoc_key false = keys.Havoc
 
+-- The key of an if between two blocks: `\cup` where the flag is true, else `\cap`.
 abbrev pub pick_key : Bool → Key
 pick_key true = keys.Cup
 pick_key false = keys.Cap
@@ -288,11 +299,13 @@ abbrev pub IsClause : Clause → List Token → Type 0
 IsClause (Clause.pre a) = IsKey keys.Pre then IsFull a
 IsClause (Clause.post a) = IsKey keys.Post then IsFull a
 
+-- The expressions of the pre clauses, in their order.
 abbrev pub pres : List Clause → List Expression
 pres [] = []
 pres (Clause.pre a ∷ clauses) = a ∷ pres clauses
 pres (Clause.post a ∷ clauses) = pres clauses
 
+-- The expressions of the post clauses, in their order.
 abbrev pub posts : List Clause → List Expression
 posts [] = []
 posts (Clause.pre a ∷ clauses) = posts clauses
@@ -306,6 +319,7 @@ IsClauses before after ts = (clauses : List Clause) × IsEach IsClause clauses t
 abbrev pub IsParam : Param → List Token → Type 0
 IsParam p ts = (IsName p.name then IsMark marks.Colon then IsType p.ty) ts × (p.span ≡ extent ts)
 
+-- The word of each note, behind its '@'.
 abbrev pub note_word : Note → List ℕ
 note_word notes.Wlp = codes "wlp"
 note_word notes.Wp = codes "wp"
@@ -315,6 +329,7 @@ note_word notes.Ert = codes "ert"
 abbrev pub IsNote : Note → List Token → Type 0
 IsNote note = IsMark marks.AtSign then IsName (note_word note)
 
+-- The key of a procedure: `coproc` where the flag is true, else `proc`.
 abbrev pub proc_key : Bool → Key
 proc_key true = keys.CoProc
 proc_key false = keys.Proc

@@ -9,6 +9,7 @@ use Rattle.std.specs.Prelude.{Bool, List, [], cond, fold, length, nat_eq, nat_le
 abbrev pub IsDigits : List ℕ → Type 0
 IsDigits text = (0 < length text) × (list_all is_ascii_digit text ≡ true)
 
+-- The text is a number: digits, or digits, a point and digits.
 abbrev pub IsNumber : List ℕ → Type 0
 IsNumber text =
     IsDigits text

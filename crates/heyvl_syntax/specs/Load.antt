@@ -19,6 +19,7 @@ pub data Effect : Type 0 where
   resets : Effect  -- 0 as the innermost count
   keeps : Effect  -- the same counts
 
+-- What each mark does to the counts: brackets open and close, operators add, `,` `;` `=` and `@` reset, and the others keep.
 abbrev pub mark_effect : Mark → Effect
 mark_effect marks.ParenLeft = opens
 mark_effect marks.ParenRight = closes
@@ -51,6 +52,8 @@ mark_effect marks.Arrow = keeps
 mark_effect marks.Question = keeps
 mark_effect marks.AtSign = resets
 
+-- What each key does to the counts: those that begin a procedure, a clause, a statement or an else reset,
+-- `sup`, `inf`, `\cap` and `\cup` add, and the others keep.
 abbrev pub key_effect : Key → Effect
 key_effect keys.Proc = resets
 key_effect keys.CoProc = resets
@@ -88,6 +91,7 @@ key_effect keys.Cap = adds
 key_effect keys.Cup = adds
 key_effect keys.Infty = keeps
 
+-- What a token does to the counts. A word and a number keep them.
 abbrev pub effect : TokenKind → Effect
 effect (kinds.Word name) = keeps
 effect (kinds.Number lit) = keeps
@@ -106,6 +110,7 @@ changed (c ∷ counts) resets = 0 ∷ counts
 changed [] resets = []
 changed counts keeps = counts
 
+-- The counts after this token.
 abbrev pub counts_after : List ℕ → Token → List ℕ
 counts_after counts t = changed counts (effect t.kind)
 

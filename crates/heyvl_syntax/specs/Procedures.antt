@@ -22,6 +22,7 @@ pub record Procedure : Type 0 where
   pub body : Option Block
   pub span : Span
 
+-- The plain tree of a body, where there is one.
 abbrev pub optional_block : Option (Vec Stmt Global) → Option Block
 optional_block None = None
 optional_block (Some b) = Some (block b.items)

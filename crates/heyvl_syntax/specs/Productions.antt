@@ -26,6 +26,7 @@ last_end (t ∷ u ∷ ts) = last_end (u ∷ ts)
 abbrev pub extent : List Token → Span
 extent ts = record { from = first_byte ts; to = last_end ts }
 
+-- The token of this kind at this place.
 abbrev pub at : TokenKind → Span → Token
 at kind span = record { kind = kind; span = span }
 
@@ -37,9 +38,11 @@ IsAt kind span ts = ts ≡ at kind span ∷ []
 abbrev pub IsOne : TokenKind → List Token → Type 0
 IsOne kind ts = (span : Span) × IsAt kind span ts
 
+-- A token of this key, alone.
 abbrev pub IsKey : Key → List Token → Type 0
 IsKey key = IsOne (kinds.Key key)
 
+-- A token of this mark, alone.
 abbrev pub IsMark : Mark → List Token → Type 0
 IsMark mark = IsOne (kinds.Mark mark)
 
@@ -51,6 +54,7 @@ IsName name = IsOne (kinds.Word name)
 abbrev pub IsLiteral : Lit → List Token → Type 0
 IsLiteral lit = IsOne (kinds.Number lit)
 
+-- No token at all.
 abbrev pub IsNothing : List Token → Type 0
 IsNothing ts = ts ≡ []
 

@@ -25,6 +25,7 @@ nodes (Expression.bound up x t a s) = 1 + nodes a
 abbrev pub nodes_of_all : List Expression → ℕ
 nodes_of_all = sum_by nodes
 
+-- All nodes of the expressions of a right side.
 abbrev pub nodes_of_right : RightSide → ℕ
 nodes_of_right (RightSide.plain a) = nodes a
 nodes_of_right (RightSide.flip p) = nodes p
@@ -32,10 +33,12 @@ nodes_of_right (RightSide.unif a b) = nodes a + nodes b
 nodes_of_right (RightSide.choose parts) = sum_by (λ part. nodes part.0 + nodes part.1) parts
 nodes_of_right (RightSide.call f arguments) = nodes_of_all arguments
 
+-- All nodes of the expressions of a right side; 0 where there is none.
 abbrev pub nodes_of_optional : Option RightSide → ℕ
 nodes_of_optional None = 0
 nodes_of_optional (Some r) = nodes_of_right r
 
+-- All nodes of the expressions of a rule.
 abbrev pub nodes_of_rule : LoopRule → ℕ
 nodes_of_rule (LoopRule.invariant i s) = nodes i
 nodes_of_rule (LoopRule.k_induction k i s) = nodes k + nodes i
@@ -61,6 +64,7 @@ abbrev mutual
   nodes_of_arms Arms.no_arm = 0
   nodes_of_arms (Arms.arm g b more) = nodes g + nodes_of_block b + nodes_of_arms more
 
+-- All nodes of the expressions of a body; 0 where there is none.
 abbrev pub nodes_of_body : Option Block → ℕ
 nodes_of_body None = 0
 nodes_of_body (Some b) = nodes_of_block b

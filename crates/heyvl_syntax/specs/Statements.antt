@@ -50,6 +50,7 @@ mutual
     no_arm : Arms
     arm : Expression → Block → Arms → Arms
 
+-- The plain trees of the parts of a `choose`, each of two expressions.
 abbrev pub choices : List (Expr × Expr) → List (Expression × Expression)
 choices = map (λ part. (expression part.0, expression part.1))
 
@@ -67,17 +68,21 @@ loop_rule (rules.Invariant i s) = LoopRule.invariant (expression i) s
 loop_rule (rules.KInduction k i s) = LoopRule.k_induction (expression k) (expression i) s
 loop_rule (rules.Ranking e r s) = LoopRule.ranking (expression e) (expression r) s
 
+-- The plain trees of rules, in their order.
 abbrev pub loop_rules : List Rule → List LoopRule
 loop_rules = map loop_rule
 
+-- The plain tree of a right side, where there is one.
 abbrev pub optional_right : Option Right → Option RightSide
 optional_right None = None
 optional_right (Some r) = Some (right_side r)
 
+-- The block of statements that are plain trees already, in their order.
 abbrev pub block_of : List Statement → Block
 block_of [] = Block.done
 block_of (s ∷ ss) = Block.next s (block_of ss)
 
+-- The arms that have these guards and blocks, in their order.
 abbrev pub arms_of : List (Expression × Block) → Arms
 arms_of [] = Arms.no_arm
 arms_of (x ∷ xs) = Arms.arm x.0 x.1 (arms_of xs)
@@ -102,6 +107,7 @@ arm_layer a = (expression a.guard, block_of a.body.items)
 abbrev pub statement : Stmt → Statement
 statement = fold-Stmt Statement (Expression × Block) statement_layer arm_layer
 
+-- The plain tree of a list of statements.
 abbrev pub block : List Stmt → Block
 block ss = block_of (map statement ss)
 
@@ -109,5 +115,6 @@ block ss = block_of (map statement ss)
 abbrev pub guarded : Arm → Expression × Block
 guarded = fold-Arm Statement (Expression × Block) statement_layer arm_layer
 
+-- The plain tree of a list of arms.
 abbrev pub arms : List Arm → Arms
 arms xs = arms_of (map guarded xs)

@@ -41,6 +41,7 @@ StandInOrder place bytes (t ∷ ts) =
     × HasSmallLiteral t.kind
     × StandInOrder t.span.to bytes ts
 
+-- The tokens into which bytes are split stand in order, from the first byte on.
 abbrev pub TokensStandInOrder : Type 0
 TokensStandInOrder = (bytes : List ℕ) (tokens : List Token) → Lexes 0 bytes tokens → StandInOrder 0 bytes tokens
 

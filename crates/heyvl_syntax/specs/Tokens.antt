@@ -115,9 +115,9 @@ pub record Stops (place : ℕ) (bytes : List ℕ) (number : ℕ) (span : Span) :
   pub stops : StopsAfter place bytes parts number span
 
 -- Why lexing stops: the leftmost fault, or want of memory.
-abbrev pub IsStop : List ℕ → LexStop → Type 0
-IsStop bytes (stops.Fault number span) = Stops 0 bytes number span
-IsStop bytes (stops.Memory error) = Unit {0}
+abbrev pub IsLexStop : List ℕ → LexStop → Type 0
+IsLexStop bytes (stops.Fault number span) = Stops 0 bytes number span
+IsLexStop bytes (stops.Memory error) = Unit {0}
 
 -- Want of memory.
 abbrev pub IsMemory : LexStop → Type 0

@@ -1,6 +1,6 @@
 //! The tokens of bytes.
 
-ghost use Rattle.heyvl_syntax.specs.Tokens.{IsFaultOrMemory, IsMemory, IsStop, Lexes, Stops, span_of};
+ghost use Rattle.heyvl_syntax.specs.Tokens.{IsFaultOrMemory, IsMemory, IsLexStop, Lexes, Stops, span_of};
 ghost use Rattle.heyvl_syntax.specs.internal.Fronts.{token_of};
 ghost use Rattle.heyvl_places.specs.declared.spans.Span.{Span};
 ghost use Rattle.heyvl_syntax.specs.declared.tokens.Token.{Token};
@@ -38,7 +38,7 @@ fn token_of(kind: TokenKind, place: usize, n: usize) -> Token
 fn lex_parts(alloc: Global, bytes: &[u8]) -> Result<Vec<Token>, LexStop>
     requires { length bytes.now < 2 ^ 31 }
     ensures found { IfOk result (λ tokens. Lexes 0 bytes.now tokens.items) }
-    ensures fault { IfErr result (λ stop. IsStop bytes.now stop) }
+    ensures fault { IfErr result (λ stop. IsLexStop bytes.now stop) }
 {
     let mut tokens = Vec::new(alloc);
     let mut place = 0;
@@ -89,7 +89,7 @@ fn lex_parts(alloc: Global, bytes: &[u8]) -> Result<Vec<Token>, LexStop>
 pub fn lex(alloc: Global, bytes: &[u8]) -> Result<Vec<Token>, LexStop>
     requires { length bytes.now < 2 ^ 31 }
     ensures found { IfOk result (λ tokens. Lexes 0 bytes.now tokens.items) }
-    ensures fault { IfErr result (λ stop. IsStop bytes.now stop) }
+    ensures fault { IfErr result (λ stop. IsLexStop bytes.now stop) }
     ensures only { (tokens : List Token) → Lexes 0 bytes.now tokens
         → MatchResult result (λ found. found.items ≡ tokens) (λ stop. IsMemory stop) }
     ensures only_fault { (number : ℕ) (span : Span) → Stops 0 bytes.now number span

@@ -8,7 +8,7 @@ use Rattle.heyvl_syntax.specs.SourceFaults.{IsSourceFault}
 use Rattle.heyvl_tool.proofs.CallLemmas.{same_settings}
 use Rattle.heyvl_tool.specs.Calls.IsReadReply.{by_bytes, by_length, by_source}
 use Rattle.heyvl_files.specs.Sources.{file_limit}
-use Rattle.heyvl_tool.specs.Calls.{Call, IsFilesReply, IsRead, IsReadReply, IsSaid, Moment, Names, call, file_too_long, moment, names_of, read_fault}
+use Rattle.heyvl_tool.specs.Calls.{Call, IsFilesReply, IsRead, IsReadReply, IsSaid, Moment, Names, call, file_too_long, moment, names_holding, read_fault}
 use Rattle.heyvl_files.specs.Sources.IsFileFault.{spelling}
 use Rattle.heyvl_replies.specs.FileReplies.IsTypedReply.{by_fault}
 use Rattle.heyvl_replies.specs.Messages.{Reply, source_fault}
@@ -48,7 +48,7 @@ abbrev pub Told : Type 0
 Told = List ℕ → Option (List ℕ)
 
 abbrev pub source : Told → Names
-source told = names_of (file_name ∷ second_name ∷ []) told
+source told = names_holding (file_name ∷ second_name ∷ []) told
 
 abbrev pub silent : Told
 silent name = None

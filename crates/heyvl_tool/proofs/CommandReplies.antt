@@ -117,7 +117,7 @@ StaticTold Front.typed bytes reply =
 
 -- Its fault is one that is told once the files were read, and is there where it is one of the file; its answers keep the headline's
 -- promises.
-pub record IsKnown (front : Front) (bytes text : List ℕ) (reply : Reply) : Type 0 where
+pub record IsKnownReply (front : Front) (bytes text : List ℕ) (reply : Reply) : Type 0 where
   pub told : is_told reply.fault ≡ true
   pub there : (number : ℕ) (place : Span) → reply.fault ≡ faults.Source number place → MayTell front bytes number place
   pub static_told : StaticTold front bytes reply
@@ -164,7 +164,7 @@ fault_there bytes reply n p fault e number place is = subst (λ (f : Finding). I
 late_is_no_source : (reply : Reply) (number : ℕ) (place : Span) → is_told_late reply.fault ≡ true → reply.fault ≡ faults.Source number place → ⊥
 late_is_no_source reply number place late is = false≢true (sym (ap is_told_late is) ∙ late)
 
-typed_known : (Says : List TypedProcedure → Reply → Type 0) (bytes : List ℕ) (reply : Reply) → ((ps : List TypedProcedure) → Says ps reply → IsKnownOf ps reply) → IsTypedReply Says bytes reply → IsKnown Front.typed bytes bytes reply
+typed_known : (Says : List TypedProcedure → Reply → Type 0) (bytes : List ℕ) (reply : Reply) → ((ps : List TypedProcedure) → Says ps reply → IsKnownOf ps reply) → IsTypedReply Says bytes reply → IsKnownReply Front.typed bytes bytes reply
 typed_known Says bytes reply known (IsTypedReply.by_fault n p fault e) = record {
   told = ap (λ (r : Reply). is_told r.fault) e;
   there = fault_there bytes reply n p fault e;
@@ -185,7 +185,7 @@ typed_known Says bytes reply known (IsTypedReply.by_file file is none says) =
 spelled_there : (bytes : List ℕ) (reply : Reply) (n : ℕ) (p : Span) → IsSourceFault bytes n p → reply ≡ source_fault bytes n p → (number : ℕ) (place : Span) → reply.fault ≡ faults.Source number place → IsSourceFault bytes number place
 spelled_there bytes reply n p fault e number place is = subst (λ (f : Finding). IsSourceFault bytes f.0 f.1) (told_finding bytes reply n number p place e is) fault
 
-print_known : (bytes : List ℕ) (reply : Reply) → IsSpelledReply (λ file r. r ≡ printed file) bytes reply → IsKnown Front.spelled bytes bytes reply
+print_known : (bytes : List ℕ) (reply : Reply) → IsSpelledReply (λ file r. r ≡ printed file) bytes reply → IsKnownReply Front.spelled bytes bytes reply
 print_known bytes reply (IsSpelledReply.by_fault n p fault e) = record {
   told = ap (λ (r : Reply). is_told r.fault) e;
   there = spelled_there bytes reply n p fault e;
@@ -266,7 +266,7 @@ refute_known name script ps reply (IsRefuteOf.by_search s read p named upper rea
 
 -- ---- Of a command that reads no HeyVL
 
-pgcl_known : (bytes : List ℕ) (reply : Reply) → IsPgclReply bytes reply → IsKnown Front.other bytes bytes reply
+pgcl_known : (bytes : List ℕ) (reply : Reply) → IsPgclReply bytes reply → IsKnownReply Front.other bytes bytes reply
 pgcl_known bytes reply (IsPgclReply.by_fault n p fault e) = record {
   told = ap (λ (r : Reply). is_told r.fault) e;
   there = λ number place found. tt;
@@ -280,7 +280,7 @@ pgcl_known bytes reply (IsPgclReply.by_file file is e) = record {
   promised = λ some. absurd (no_message reply (printed file) e some refl);
 }
 
-gen_known : (n : ℕ) (bytes : List ℕ) (reply : Reply) → IsGenReply n reply → IsKnown Front.other bytes (generated_text n) reply
+gen_known : (n : ℕ) (bytes : List ℕ) (reply : Reply) → IsGenReply n reply → IsKnownReply Front.other bytes (generated_text n) reply
 gen_known n bytes reply is =
     let s = is.summary in
     record {
@@ -291,7 +291,7 @@ gen_known n bytes reply is =
     }
 
 -- The rows.
-pub reply_known : (settings : Settings) (bytes second : List ℕ) (reply : Reply) → IsReplyTo settings bytes second reply → IsKnown (row_of settings).front bytes (verified_text settings bytes) reply
+pub reply_known : (settings : Settings) (bytes second : List ℕ) (reply : Reply) → IsReplyTo settings bytes second reply → IsKnownReply (row_of settings).front bytes (verified_text settings bytes) reply
 reply_known (Verify file) bytes second reply said = typed_known (IsReport bytes) bytes reply (λ ps. report_known bytes ps reply) said
 reply_known (Print file) bytes second reply said = print_known bytes reply said
 reply_known (Run file procedure script) bytes second reply said = typed_known (IsRunOf procedure second) bytes reply (λ ps. run_known procedure second ps reply) said

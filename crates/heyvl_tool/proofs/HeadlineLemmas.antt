@@ -1,7 +1,7 @@
 -- What the answers of an outcome mean, from the reply that a call made.
 use Rattle.heyvl_tool.proofs.CallLemmas.CameTo.{failed, said, too_long}
 use Rattle.heyvl_tool.proofs.CallLemmas.{CameTo, came_to}
-use Rattle.heyvl_tool.proofs.CommandReplies.{IsKnown, Promised, no_message, reply_known}
+use Rattle.heyvl_tool.proofs.CommandReplies.{IsKnownReply, Promised, no_message, reply_known}
 use Rattle.heyvl_tool.specs.Calls.{Call}
 use Rattle.heyvl_tool.specs.Headline.{AnswersAreMeant, IsVerifiedFrom}
 use Rattle.heyvl_replies.specs.Messages.{Reply}
@@ -20,7 +20,7 @@ from_came : (settings : Settings) (made : Call) (done : Writing) (outcome : Outc
 from_came settings made done outcome reply (failed k rose e) delivered some = absurd (no_message reply _ e (λ none. some (delivered.answers ∙ none)) refl)
 from_came settings made done outcome reply (too_long k taken e) delivered some = absurd (no_message reply _ e (λ none. some (delivered.answers ∙ none)) refl)
 from_came settings made done outcome reply (said bytes second read replied) delivered some =
-    let k : IsKnown (row_of settings).front bytes (verified_text settings bytes) reply = reply_known settings bytes second reply replied in
+    let k : IsKnownReply (row_of settings).front bytes (verified_text settings bytes) reply = reply_known settings bytes second reply replied in
     let p : Promised (verified_text settings bytes) reply.answers = k.promised (λ none. some (delivered.answers ∙ none)) in
     record {
       bytes = bytes;

@@ -53,13 +53,13 @@ never_other next made NoMemory has right e = untouched_ends made.before made.aft
 
 -- ---- What the fault tells
 
-abbrev Tells : Fault → Moment → Type 0
-Tells fault after = IfSome (starts_of fault) (λ n. after.order ≡ first n)
+abbrev TellsFault : Fault → Moment → Type 0
+TellsFault fault after = IfSome (starts_of fault) (λ n. after.order ≡ first n)
 
-told_by : (reply said : Reply) (after : Moment) → reply ≡ said → Tells said.fault after → Tells reply.fault after
-told_by reply said after e = subst (λ (f : Fault). Tells f after) (sym (ap (λ (r : Reply). r.fault) e))
+told_by : (reply said : Reply) (after : Moment) → reply ≡ said → TellsFault said.fault after → TellsFault reply.fault after
+told_by reply said after e = subst (λ (f : Fault). TellsFault f after) (sym (ap (λ (r : Reply). r.fault) e))
 
-told_tells_none : (f : Fault) (after : Moment) → is_told f ≡ true → Tells f after
+told_tells_none : (f : Fault) (after : Moment) → is_told f ≡ true → TellsFault f after
 told_tells_none faults.Nothing after e = tt
 told_tells_none faults.Usage after e = absurd (false≢true e)
 told_tells_none (faults.Read k) after e = absurd (false≢true e)
@@ -74,17 +74,17 @@ told_tells_none (faults.Run stopped) after e = tt
 told_tells_none faults.Write after e = tt
 told_tells_none faults.Memory after e = tt
 
-reply_tells_none : (settings : Settings) (bytes second : List ℕ) (reply : Reply) (after : Moment) → IsReplyTo settings bytes second reply → Tells reply.fault after
+reply_tells_none : (settings : Settings) (bytes second : List ℕ) (reply : Reply) (after : Moment) → IsReplyTo settings bytes second reply → TellsFault reply.fault after
 reply_tells_none settings bytes second reply after said = let k = reply_known settings bytes second reply said in told_tells_none reply.fault after k.told
 
 second_tells : NextNameCounts → (settings : Settings) (names : Names) (second bytes : List ℕ) (between after : Moment) (reply : Reply) → between.order ≡ first 1 → slice_get names.order 1 ≡ Some second
-    → IsReadReply 1 names second (λ text now r. IsSaid (IsReplyTo settings bytes text) now after r) between after reply → Tells reply.fault after
+    → IsReadReply 1 names second (λ text now r. IsSaid (IsReplyTo settings bytes text) now after r) between after reply → TellsFault reply.fault after
 second_tells next settings names second bytes between after reply one is (by_source started rose e) = told_by reply _ after e (second_next next names second between.order after.order one is started.order)
 second_tells next settings names second bytes between after reply one is (by_length long e) = told_by reply _ after e (second_next next names second between.order after.order one is long.order)
 second_tells next settings names second bytes between after reply one is (by_bytes now text read rest) = reply_tells_none settings bytes text reply after rest.1
 
 reading_tells : NextNameCounts → (settings : Settings) (files : Files) (names : Names) (before after : Moment) (reply : Reply) → before.order ≡ first 0 → AreFirst files names.order
-    → IsFilesReply files (IsReplyTo settings) names before after reply → Tells reply.fault after
+    → IsFilesReply files (IsReplyTo settings) names before after reply → TellsFault reply.fault after
 reading_tells next settings Files.none names before after reply fresh are at_once = reply_tells_none settings _ _ reply after at_once.1
 reading_tells next settings (Files.one file) names before after reply fresh is (by_source started rose e) = told_by reply _ after e (file_first next names file before after fresh is started.order)
 reading_tells next settings (Files.one file) names before after reply fresh is (by_length long e) = told_by reply _ after e (file_first next names file before after fresh is long.order)
@@ -94,18 +94,18 @@ reading_tells next settings (Files.two file second) names before after reply fre
 reading_tells next settings (Files.two file second) names before after reply fresh are (by_bytes between bytes read rest) =
     second_tells next settings names second bytes between after reply (file_first next names file before between fresh are.0 read.order) are.1 rest
 
-cause_tells : NextNameCounts → (made : Call) (NoMemory : Type 0) (reply : Reply) → HasNamesOf made → IsStartedRight made NoMemory → HasCause made reply → Tells reply.fault made.after
+cause_tells : NextNameCounts → (made : Call) (NoMemory : Type 0) (reply : Reply) → HasNamesOf made → IsStartedRight made NoMemory → HasCause made reply → TellsFault reply.fault made.after
 cause_tells next made NoMemory reply has right (by_words usage e) = told_by reply _ made.after e (let untouched = right.no_start usage in untouched.order ∙ has.fresh)
 cause_tells next made NoMemory reply has right (by_command settings asks read) = reading_tells next settings (files_of settings) made.names made.before made.after reply has.fresh (has.files settings asks) read
 
-delivered_tells : (reply : Reply) (done : Writing) (outcome : Outcome) (after : Moment) → Tells reply.fault after → IsWritten reply done outcome ⊎ IsCut reply done outcome → Tells outcome.fault after
-delivered_tells reply done outcome after tells (inl written) = subst (λ (f : Fault). Tells f after) (sym written.fault) tells
-delivered_tells reply done outcome after tells (inr cut) = subst (λ (f : Fault). Tells f after) (sym cut.fault) tt
+delivered_tells : (reply : Reply) (done : Writing) (outcome : Outcome) (after : Moment) → TellsFault reply.fault after → IsWritten reply done outcome ⊎ IsCut reply done outcome → TellsFault outcome.fault after
+delivered_tells reply done outcome after tells (inl written) = subst (λ (f : Fault). TellsFault f after) (sym written.fault) tells
+delivered_tells reply done outcome after tells (inr cut) = subst (λ (f : Fault). TellsFault f after) (sym cut.fault) tt
 
-outcome_tells : NextNameCounts → (made : Call) (done : Writing) (outcome : Outcome) → HasNamesOf made → IsStartedRight made (outcome.fault ≡ faults.Memory) → IsAnswered made done outcome ⊎ IsOutOfMemory done outcome → Tells outcome.fault made.after
+outcome_tells : NextNameCounts → (made : Call) (done : Writing) (outcome : Outcome) → HasNamesOf made → IsStartedRight made (outcome.fault ≡ faults.Memory) → IsAnswered made done outcome ⊎ IsOutOfMemory done outcome → TellsFault outcome.fault made.after
 outcome_tells next made done outcome has right (inl answered) =
     delivered_tells answered.reply done outcome made.after (cause_tells next made (outcome.fault ≡ faults.Memory) answered.reply has right answered.cause) answered.is_delivered.delivered
-outcome_tells next made done outcome has right (inr out) = subst (λ (f : Fault). Tells f made.after) (sym out.fault) tt
+outcome_tells next made done outcome has right (inr out) = subst (λ (f : Fault). TellsFault f made.after) (sym out.fault) tt
 
 pub counted : NextNameCounts → StartsAreCounted
 counted next made done outcome has right answered = (outcome_tells next made done outcome has right answered, never_other next made (outcome.fault ≡ faults.Memory) has right)

@@ -2,7 +2,7 @@
 use Rattle.heyvl_places.specs.declared.spans.Span.{Span}
 use Rattle.heyvl_syntax.specs.Procedures.{Procedure}
 use Rattle.heyvl_syntax.specs.SourceFaults.{IsSource, SourcesHaveNoFault}
-use Rattle.heyvl_tool.proofs.CommandReplies.{IsKnown, reply_known}
+use Rattle.heyvl_tool.proofs.CommandReplies.{IsKnownReply, reply_known}
 use Rattle.heyvl_tool.specs.FaultLaws.{StaticFaultsAreTold, ToldFaultsAreThere}
 use Rattle.heyvl_replies.specs.Messages.{Reply, source_fault}
 use Rattle.heyvl_files.specs.PrintLaws.{SpellingIsUnique}
@@ -10,10 +10,10 @@ use Rattle.heyvl_tool.specs.commands.{Front, row_of, verified_text}
 use Rattle.heyvl_types.specs.Files.{first_fault}
 use Rattle.std.proofs.Common.{List, Some, subst, ◌≡◌, ℕ}
 
-typed_told : SourcesHaveNoFault → SpellingIsUnique → (front : Front) (bytes text : List ℕ) (reply : Reply) → front ≡ Front.typed → IsKnown front bytes text reply
+typed_told : SourcesHaveNoFault → SpellingIsUnique → (front : Front) (bytes text : List ℕ) (reply : Reply) → front ≡ Front.typed → IsKnownReply front bytes text reply
     → (file : List Procedure) (number : ℕ) (place : Span) → IsSource bytes file → first_fault file ≡ Some (number, place) → reply ≡ source_fault bytes number place
 typed_told clean unique front bytes text reply e known file number place is fault =
-    let k = subst (λ (f : Front). IsKnown f bytes text reply) e known in
+    let k = subst (λ (f : Front). IsKnownReply f bytes text reply) e known in
     k.static_told clean unique file number place is fault
 
 pub static_told : SourcesHaveNoFault → SpellingIsUnique → StaticFaultsAreTold

@@ -14,8 +14,8 @@ pub record Names : Type 0 where
   pub holds : List ℕ → Option (List ℕ)
 
 -- These names, of which each holds this.
-abbrev pub names_of : List (List ℕ) → (List ℕ → Option (List ℕ)) → Names
-names_of order holds = record { order = order; holds = holds }
+abbrev pub names_holding : List (List ℕ) → (List ℕ → Option (List ℕ)) → Names
+names_holding order holds = record { order = order; holds = holds }
 
 -- A source at some time: in which order its names were started so far, what it handed out behind each start, and how often it failed.
 pub record Moment : Type 0 where

@@ -1,6 +1,6 @@
 //! What contracts see of a call's source and of its sink.
 
-ghost use Rattle.heyvl_tool.specs.Calls.{Call, Moment, Names, call, moment, names_of};
+ghost use Rattle.heyvl_tool.specs.Calls.{Call, Moment, Names, call, moment, names_holding};
 ghost use Rattle.heyvl_tool.specs.Outcomes.{Writing, writing};
 ghost use Rattle.std.specs.Prelude.{List, ◌≡◌, ◌≤◌, ℕ};
 
@@ -22,13 +22,13 @@ pub trait Called: Source {
 }
 
 impl<F: Source> Called for F {
-    ghost told = { λ s. names_of (F.names s) (F.holds s) };
+    ghost told = { λ s. names_holding (F.names s) (F.holds s) };
 
     ghost kept = { λ before after. (F.names after ≡ F.names before) × (F.holds after ≡ F.holds before) × (F.faults before ≤ F.faults after) };
 
     ghost seen = { λ s. moment (F.order s) (F.history s) (F.faults s) };
 
-    ghost made = { λ words before after. call words (names_of (F.names before) (F.holds before))
+    ghost made = { λ words before after. call words (names_holding (F.names before) (F.holds before))
         (moment (F.order before) (F.history before) (F.faults before)) (moment (F.order after) (F.history after) (F.faults after)) };
 }
 

@@ -1,6 +1,6 @@
 -- How what is found against parts makes up what is found against the whole.
 use Rattle.heyvl_types.specs.Answers.{Gives}
-use Rattle.heyvl_types.specs.internal.Looks.{Tells}
+use Rattle.heyvl_types.specs.internal.Looks.{TellsFirst}
 use Rattle.heyvl_types.specs.Findings.{Finding, first}
 use Rattle.heyvl_types.specs.declared.stops.ResolveStop.{ResolveStop}
 use Rattle.std.proofs.Common.{Err, List, Some, [], ap, refl, subst, sym, ◌++◌, ◌∙◌, ◌≡◌, ◌∷◌}
@@ -23,6 +23,6 @@ pub stops_at : {A B C D : Type 0} (v : A → C) (w : B → D) (e : ResolveStop) 
 stops_at v w (ResolveStop.Fault n s) xs ys c d i h = ap first i ∙ h
 stops_at v w (ResolveStop.Memory e) xs ys c d i h = tt
 
-pub tells_stop : {B D : Type 0} (w : B → D) (e : ResolveStop) (xs ys : List Finding) (d : D) → Tells (Err e) xs → Gives w (Err e) (xs ++ ys) d
+pub tells_stop : {B D : Type 0} (w : B → D) (e : ResolveStop) (xs ys : List Finding) (d : D) → TellsFirst (Err e) xs → Gives w (Err e) (xs ++ ys) d
 tells_stop w (ResolveStop.Fault n s) xs ys d h = first_in xs ys (n, s) h
 tells_stop w (ResolveStop.Memory e) xs ys d h = tt

@@ -6,7 +6,7 @@ use Rattle.heyvl_types.proofs.Parts.{behind, stops, stops_at, tells_stop}
 use Rattle.heyvl_types.proofs.ProcedureParts.{regroup, the_inputs, the_locals, the_outputs}
 use Rattle.heyvl_acts.specs.Acts.{Acts, Variable}
 use Rattle.heyvl_types.specs.Answers.{Gives}
-use Rattle.heyvl_types.specs.internal.Looks.{Tells}
+use Rattle.heyvl_types.specs.internal.Looks.{TellsFirst}
 use Rattle.heyvl_types.specs.Files.{arity, body_acts, body_findings, clause, first_quantified, front_of, has_quantified_post, head_scope, input_scope, is_too_large, is_wlp, loops_of_body, parameters_findings, post_forms, posts_findings, pre_forms, pres_findings, procedure_findings, setting, typed}
 use Rattle.heyvl_types.specs.Findings.{Finding, at}
 use Rattle.heyvl_acts.specs.PlainActs.{procedure_of, variable_of}
@@ -80,7 +80,7 @@ from_own called named p n m inner all h bound r none e f g empty = from_body cal
 
 -- ---- Stops
 
-pub bad_name : {B D : Type 0} (w : B → D) (e : ResolveStop) (called : Called) (named : Bool) (p : Procedure) (d : D) → Tells (Err e) (name_part named p) → Gives w (Err e) (procedure_findings called named p) d
+pub bad_name : {B D : Type 0} (w : B → D) (e : ResolveStop) (called : Called) (named : Bool) (p : Procedure) (d : D) → TellsFirst (Err e) (name_part named p) → Gives w (Err e) (procedure_findings called named p) d
 bad_name w e called named p d h = stops_at w w e (name_part named p ++ (head_part p ++ behind_head called p)) (procedure_findings called named p) d d (from_name called named p) (tells_stop w e (name_part named p) (head_part p ++ behind_head called p) d h)
 
 pub bad_head : {A B C D : Type 0} (v : A → C) (w : B → D) (e : ResolveStop) (called : Called) (named : Bool) (p : Procedure) (c : C) (d : D) → name_part named p ≡ [] → Gives v (Err e) (head_part p) c → Gives w (Err e) (procedure_findings called named p) d

@@ -14,11 +14,13 @@ pub record Agrees (types : Types) (n : ℕ) (sc : Scope) : Type 0 where
   pub declared : (x : List ℕ) (l : Local) → find sc x ≡ Some l → declarable l.ty ≡ Some (types l.number)
   pub below : (x : List ℕ) (l : Local) → find sc x ≡ Some l → l.number < n
 
+-- A condition is well typed, and a form is well typed and of its type; a variable of type Real never is.
 abbrev pub IsTyped : Types → Meaning → Type 0
 IsTyped types (Meaning.truth g) = is_well_typed types g ≡ true
 IsTyped types (Meaning.number t a) = type_of types a ≡ Some t
 IsTyped types Meaning.real = ⊥
 
+-- How many nodes the condition or the form has that an expression becomes; 0 for a variable of type Real.
 abbrev pub size : Meaning → ℕ
 size (Meaning.truth g) = nodes_in g
 size (Meaning.number t a) = nodes a

@@ -27,6 +27,7 @@ use Rattle.std.specs.Str.{bytes_eq}
 
 -- ---- A procedure's head
 
+-- Whether a procedure's note is `@wlp`.
 abbrev pub is_wlp : Option Note → Bool
 is_wlp (Some Note.Wlp) = true
 is_wlp (Some Note.Wp) = false
@@ -41,6 +42,7 @@ setting p = record { co = p.co; weak = is_wlp p.note && not p.co; inputs = lengt
 abbrev pub input_scope : Procedure → Scope
 input_scope p = behind_parameters 0 [] p.inputs
 
+-- What a procedure's post clauses and its body see: its inputs, and behind them its outputs.
 abbrev pub head_scope : Procedure → Scope
 head_scope p = behind_parameters (length p.inputs) (input_scope p) p.outputs
 
@@ -52,10 +54,12 @@ arity p = length p.inputs + length p.outputs
 abbrev pub first_quantified : Procedure → ℕ
 first_quantified p = arity p + length (locals_of_body p.body)
 
+-- The quantifiers that may stand in the front of a post clause: `sup` in a coproc, `inf` in a proc.
 abbrev pub front_of : Bool → Front
 front_of true = Front.Sup
 front_of false = Front.Inf
 
+-- Whether a quantifier stands in one of a procedure's post clauses.
 abbrev pub has_quantified_post : Procedure → Bool
 has_quantified_post p = list_any has_quantifier p.posts
 
@@ -66,6 +70,7 @@ abbrev pub parameters_findings : ℕ → Scope → List Param → List Finding
 parameters_findings n sc [] = []
 parameters_findings n sc (p ∷ ps) = at p.span ((11, is_visible sc p.name) ∷ (12, is_none (declarable p.ty)) ∷ []) ++ parameters_findings (suc n) (with_local p.name (record { number = n; ty = p.ty }) sc) ps
 
+-- What is found against pre clauses, in their order: each has to be a formula, and no quantifier may stand in it.
 abbrev pub pres_findings : ℕ → Scope → List Expression → List Finding
 pres_findings n sc [] = []
 pres_findings n sc (e ∷ es) = closed_findings Demand.Formula n sc e ++ pres_findings n sc es
@@ -75,6 +80,7 @@ abbrev pub posts_findings : Front → ℕ → Scope → List Expression → List
 posts_findings f n sc [] = []
 posts_findings f n sc (e ∷ es) = findings f Demand.Formula n sc e ++ posts_findings f (n + length (front_variables e)) sc es
 
+-- What is found against a procedure's body; nothing where it has none.
 abbrev pub body_findings : Setting → Called → Bool → ℕ → Scope → Option Block → List Finding
 body_findings h called bound n sc None = []
 body_findings h called bound n sc (Some b) = block_findings h called bound n sc b
@@ -93,17 +99,22 @@ clause true [] = Form.number zeroᵛ
 clause false [] = Form.number infinite
 clause co (f ∷ fs) = joined_with co f fs
 
+-- The forms that pre clauses become, in their order.
 abbrev pub pre_forms : ℕ → Scope → List Expression → List Form
 pre_forms n sc es = map (λ e. form (elaborate n sc e)) es
 
+-- The forms that post clauses become, in their order. The quantified variables of the first have the numbers from n on, those of the
+-- next clause the numbers behind them.
 abbrev pub post_forms : ℕ → Scope → List Expression → List Form
 post_forms n sc [] = []
 post_forms n sc (e ∷ es) = form (elaborate n sc e) ∷ post_forms (n + length (front_variables e)) sc es
 
+-- The acts that a procedure's body becomes, whose first loop has the number 1; nothing where it has no body.
 abbrev pub body_acts : Setting → Called → ℕ → Scope → Option Block → Option Acts
 body_acts h called n sc None = None
 body_acts h called n sc (Some b) = Some (block_acts h called n 1 sc b)
 
+-- How many loops a procedure's body holds; 0 where it has no body.
 abbrev pub loops_of_body : Option Block → ℕ
 loops_of_body None = 0
 loops_of_body (Some b) = loops_of_block b

@@ -4,6 +4,7 @@
 use Rattle.heyvl_places.specs.declared.spans.Span.{Span}
 use Rattle.std.specs.Prelude.{Bool, List, None, Option, Some, [], if◌then◌else◌, ◌∷◌, ℕ}
 
+-- A broken rule of a node: the rule's number and the node's place.
 abbrev pub Finding : Type 0
 Finding = ℕ × Span
 
@@ -12,6 +13,7 @@ abbrev pub at : Span → List (ℕ × Bool) → List Finding
 at s [] = []
 at s (rule ∷ rules) = if rule.1 then (rule.0, s) ∷ at s rules else at s rules
 
+-- The finding that is told first; none where nothing is found.
 abbrev pub first : List Finding → Option Finding
 first [] = None
 first (f ∷ fs) = Some f

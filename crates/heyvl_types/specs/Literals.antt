@@ -40,9 +40,11 @@ literal_quotient n m = ratio (n.digits *ℤ pos (10 ^ m.places)) (10 ^ n.places 
 abbrev pub is_too_wide : Rational → Bool
 is_too_wide q = not (nat_lt (unsigned_abs q.num) (2 ^ 62) && nat_lt q.den (2 ^ 62))
 
+-- What a weight literal of this value is: too wide, or this value.
 abbrev pub weight_of_value : Rational → Weight
 weight_of_value q = if is_too_wide q then TooWide else Value q
 
+-- What one literal divided by another is as a weight.
 abbrev pub weight_of_quotient : Lit → Lit → Weight
 weight_of_quotient n m = if is_zero_literal m then OverZero else weight_of_value (literal_quotient n m)
 
@@ -52,6 +54,7 @@ weight (Expression.number n s) = if is_written n then weight_of_value (literal_v
 weight (Expression.binary BinaryOp.Slash (Expression.number n s) (Expression.number m t) u) = if is_written n && is_written m then weight_of_quotient n m else NotLiteral
 weight e = NotLiteral
 
+-- Whether it is a number literal, or one divided by another, whatever its value.
 abbrev pub is_weight_literal : Weight → Bool
 is_weight_literal NotLiteral = false
 is_weight_literal OverZero = true

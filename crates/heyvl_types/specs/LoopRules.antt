@@ -17,6 +17,7 @@ rule_findings n sc (LoopRule.invariant i s) = closed_findings Demand.Any n sc i
 rule_findings n sc (LoopRule.k_induction k i s) = closed_findings Demand.Any n sc k ++ closed_findings Demand.Any n sc i
 rule_findings n sc (LoopRule.ranking e r s) = weight_findings n sc e ++ closed_findings Demand.Any n sc r
 
+-- What is found in the parts of a loop's rules, one rule after the other.
 abbrev pub rules_findings : ℕ → Scope → List LoopRule → List Finding
 rules_findings n sc [] = []
 rules_findings n sc (r ∷ rs) = rule_findings n sc r ++ rules_findings n sc rs
@@ -43,15 +44,18 @@ steps_over_zero (LoopRule.ranking e r s) = is_over_zero (weight e)
 steps_over_zero (LoopRule.invariant i s) = false
 steps_over_zero (LoopRule.k_induction k i s) = false
 
+-- What one rule adds to a count: 1 where it is counted, 0 where it isn't.
 abbrev pub one_if : Bool → ℕ
 one_if true = 1
 one_if false = 0
 
+-- Whether a rule is a ranking, and no invariant.
 abbrev pub is_ranking : LoopRule → Bool
 is_ranking (LoopRule.ranking e r s) = true
 is_ranking (LoopRule.invariant i s) = false
 is_ranking (LoopRule.k_induction k i s) = false
 
+-- How many of a loop's rules are rankings.
 abbrev pub count_of_rankings : List LoopRule → ℕ
 count_of_rankings [] = 0
 count_of_rankings (r ∷ rs) = one_if (is_ranking r) + count_of_rankings rs

@@ -10,6 +10,7 @@ use Rattle.heyvl_types.specs.Files.{file_findings, resolved}
 use Rattle.heyvl_types.specs.declared.stops.ResolveStop.{ResolveStop}
 use Rattle.std.specs.Prelude.{Err, IfOk, List, Ok, Result, [], length, ⊤, ◌≡◌, ◌≤◌}
 
+-- In a file in which nothing is found, each typed procedure meets the static rules.
 abbrev pub ResolvedProceduresMeetRules : Type 0
 ResolvedProceduresMeetRules = (ps : List Procedure) → file_findings ps ≡ [] → Each (MeetsRules (resolved ps)) (resolved ps)
 

@@ -25,14 +25,17 @@ use Rattle.std.specs.Prelude.{Bool, List, None, Option, Some, [], false, if◌th
 abbrev pub weight_findings : ℕ → Scope → Expression → List Finding
 weight_findings n sc e = if is_weight_literal (weight e) then [] else closed_findings Demand.Any n sc e
 
+-- What is found in expressions of any type, one after the other. No quantifier may stand in them.
 abbrev pub all_findings : ℕ → Scope → List Expression → List Finding
 all_findings n sc [] = []
 all_findings n sc (e ∷ es) = closed_findings Demand.Any n sc e ++ all_findings n sc es
 
+-- What is found in the pairs of a choose, one after the other: in each weight, then in the expression that it weighs.
 abbrev pub choices_findings : ℕ → Scope → List (Expression × Expression) → List Finding
 choices_findings n sc [] = []
 choices_findings n sc (p ∷ ps) = weight_findings n sc p.0 ++ closed_findings Demand.Any n sc p.1 ++ choices_findings n sc ps
 
+-- What is found in the parts of a right side, in their order.
 abbrev pub right_findings : ℕ → Scope → RightSide → List Finding
 right_findings n sc (RightSide.plain e) = closed_findings Demand.Any n sc e
 right_findings n sc (RightSide.flip p) = weight_findings n sc p
@@ -47,14 +50,17 @@ pub data ValueType : Type 0 where
   truth : ValueType
   number : NumberType → ValueType
 
+-- The type of what an expression becomes; none for a variable of type Real.
 abbrev pub type_of_meaning : Meaning → Option ValueType
 type_of_meaning (Meaning.truth g) = Some ValueType.truth
 type_of_meaning (Meaning.number t a) = Some (ValueType.number t)
 type_of_meaning Meaning.real = None
 
+-- The type of an expression's value; none where it becomes nothing, or is a variable of type Real.
 abbrev pub type_of_expression : ℕ → Scope → Expression → Option ValueType
 type_of_expression n sc e = given (elaborate n sc e) type_of_meaning
 
+-- The type of the values that a type's name tells; none for Real.
 abbrev pub type_of_name : TypeName → Option ValueType
 type_of_name TypeName.Bool = Some ValueType.truth
 type_of_name TypeName.Int = Some (ValueType.number int)
@@ -75,6 +81,7 @@ abbrev pub join_with : ℕ → Scope → Option ValueType → List (Expression �
 join_with n sc t [] = t
 join_with n sc t (p ∷ ps) = join_with n sc (given t (λ t. given (type_of_expression n sc p.1) (join_types t))) ps
 
+-- The join of the types of all expressions of a choose; none where one has no type, or they have no join, or there are none.
 abbrev pub type_of_choices : ℕ → Scope → List (Expression × Expression) → Option ValueType
 type_of_choices n sc [] = None
 type_of_choices n sc (p ∷ ps) = join_with n sc (type_of_expression n sc p.1) ps
@@ -105,11 +112,11 @@ right_type n sc (RightSide.choose parts) = type_of_choices n sc parts
 right_type n sc (RightSide.call p arguments) = None
 
 -- Whether a value of the first type may be given to a variable of the second. One of EUReal may be given to none.
-abbrev pub widens_to : ValueType → ValueType → Bool
-widens_to ValueType.truth ValueType.truth = true
-widens_to ValueType.truth (ValueType.number u) = false
-widens_to (ValueType.number t) ValueType.truth = false
-widens_to (ValueType.number t) (ValueType.number u) = is_finite_type (Some t) && widens t u
+abbrev pub value_widens_to : ValueType → ValueType → Bool
+value_widens_to ValueType.truth ValueType.truth = true
+value_widens_to ValueType.truth (ValueType.number u) = false
+value_widens_to (ValueType.number t) ValueType.truth = false
+value_widens_to (ValueType.number t) (ValueType.number u) = is_finite_type (Some t) && widens t u
 
 -- Whether a value of this type may not be given to a variable of this declared type. Nothing may be given to a Real.
 abbrev pub mismatches : Option ValueType → TypeName → Bool
@@ -118,7 +125,7 @@ mismatches (Some v) t = misses v (type_of_name t)
   where
     misses : ValueType → Option ValueType → Bool
     misses v None = true
-    misses v (Some u) = not (widens_to v u)
+    misses v (Some u) = not (value_widens_to v u)
 
 -- The same of a target, of which nothing is said where it isn't visible.
 abbrev pub mismatches_target : Option ValueType → Option TypeName → Bool
@@ -147,10 +154,13 @@ calls_unknown called (RightSide.flip p) = false
 calls_unknown called (RightSide.unif a b) = false
 calls_unknown called (RightSide.choose parts) = false
 
+-- Whether an argument's type doesn't agree with its input's, or an output's with its target's.
+-- Nothing is said of a called procedure that isn't there.
 abbrev pub call_mismatches : ℕ → Scope → Option Signature → List Expression → List (Option TypeName) → Bool
 call_mismatches n sc None arguments targets = false
 call_mismatches n sc (Some p) arguments targets = any_argument_mismatches n sc arguments p.inputs || any_output_mismatches p.outputs targets
 
+-- Whether a value of this type may not be given to the first target. Nothing is said where there is no target.
 abbrev pub first_mismatches : Option ValueType → List (Option TypeName) → Bool
 first_mismatches v [] = false
 first_mismatches v (t ∷ ts) = mismatches_target v t
@@ -164,6 +174,8 @@ right_mismatches called n sc (RightSide.flip p) targets = first_mismatches (righ
 right_mismatches called n sc (RightSide.unif a b) targets = first_mismatches (right_type n sc (RightSide.unif a b)) targets
 right_mismatches called n sc (RightSide.choose parts) targets = first_mismatches (right_type n sc (RightSide.choose parts)) targets
 
+-- Whether a call has another number of arguments than the procedure has inputs, or of targets than it has outputs.
+-- Nothing is said of a called procedure that isn't there.
 abbrev pub call_counts_wrong : Option Signature → List Expression → List (Option TypeName) → Bool
 call_counts_wrong None arguments targets = false
 call_counts_wrong (Some p) arguments targets = not ((length arguments == length p.inputs) && (length targets == length p.outputs))
@@ -176,6 +188,7 @@ counts_wrong called (RightSide.flip p) targets = not (length targets == 1)
 counts_wrong called (RightSide.unif a b) targets = not (length targets == 1)
 counts_wrong called (RightSide.choose parts) targets = not (length targets == 1)
 
+-- What the weights of a choose are, in their order.
 abbrev pub weights : List (Expression × Expression) → List Weight
 weights parts = map (λ p. weight p.0) parts
 
@@ -199,10 +212,13 @@ has_over_zero (RightSide.unif a b) = false
 has_over_zero (RightSide.choose parts) = list_any is_over_zero (weights parts)
 has_over_zero (RightSide.call p arguments) = false
 
+-- Whether the called procedure is a proc and the caller a coproc, or the other way round.
+-- Nothing is said of a called procedure that isn't there.
 abbrev pub is_of_other_direction : Bool → Option Signature → Bool
 is_of_other_direction co None = false
 is_of_other_direction co (Some p) = not (agree co p.co)
 
+-- Whether a quantifier stands in a post clause of the called procedure. Nothing is said of one that isn't there.
 abbrev pub is_quantified : Option Signature → Bool
 is_quantified None = false
 is_quantified (Some p) = p.quantified

@@ -6,6 +6,7 @@ use Rattle.std.specs.Option.{is_none, is_some}
 use Rattle.std.specs.Prelude.{Bool, List, None, Option, Some, [], false, if◌then◌else◌, map, nat_lt, option_map, ◌||◌, ◌∷◌, ℕ}
 use Rattle.std.specs.Str.{bytes_eq}
 
+-- The visible variables, each as its name with its number and its declared type.
 abbrev pub Scope : Type 0
 Scope = List (List ℕ × Local)
 
@@ -14,6 +15,7 @@ abbrev pub find : Scope → List ℕ → Option Local
 find [] x = None
 find (e ∷ es) x = if bytes_eq x e.0 then Some e.1 else find es x
 
+-- Whether a variable of this name is visible.
 abbrev pub is_visible : Scope → List ℕ → Bool
 is_visible sc x = is_some (find sc x)
 

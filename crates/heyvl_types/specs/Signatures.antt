@@ -15,6 +15,7 @@ pub record Signature : Type 0 where
   pub outputs : List TypeName
   pub quantified : Bool
 
+-- What a call sees of the procedure that has the number n.
 abbrev pub signature : ℕ → Procedure → Signature
 signature n p = record {
   number = n;

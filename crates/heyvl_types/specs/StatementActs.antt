@@ -36,12 +36,14 @@ form (Some (Meaning.number t a)) = a
 form (Some Meaning.real) = Form.number infinite
 form None = Form.number infinite
 
+-- The term that an expression becomes, which is a condition or a form; some term where it becomes none.
 abbrev pub term : Option Meaning → Term
 term (Some (Meaning.truth g)) = Term.truth g
 term (Some (Meaning.number t a)) = Term.number a
 term (Some Meaning.real) = Term.number (Form.number infinite)
 term None = Term.number (Form.number infinite)
 
+-- The terms that expressions become, in their order.
 abbrev pub terms : ℕ → Scope → List Expression → List Term
 terms n sc es = map (λ e. term (elaborate n sc e)) es
 
@@ -50,11 +52,13 @@ abbrev pub number_or_zero : Option Local → ℕ
 number_or_zero (Some l) = l.number
 number_or_zero None = 0
 
+-- The numbers of the variables that have these names; 0 for a name that isn't visible.
 abbrev pub targets : Scope → List (List ℕ) → List ℕ
 targets sc xs = map (λ x. number_or_zero (find sc x)) xs
 
 -- ---- Right sides
 
+-- An integer as a term.
 abbrev pub whole_term : ℤ → Term
 whole_term a = Term.number (Form.number (finite (ratio a 1)))
 
@@ -69,13 +73,16 @@ unif_parts (Some a) (Some b) = integer_parts (ratio (pos 1) (suc (unsigned_abs (
 unif_parts (Some a) None = []
 unif_parts None b = []
 
+-- The terms that the expressions of a choose become, each with the value of its weight.
 abbrev pub choose_parts : ℕ → Scope → List (Expression × Expression) → List (Rational × Term)
 choose_parts n sc ps = map (λ p. (weight_value (weight p.0), term (elaborate n sc p.1))) ps
 
+-- The number of the called procedure; 0 where it isn't there.
 abbrev pub callee : Option Signature → ℕ
 callee (Some p) = p.number
 callee None = 0
 
+-- The number of the first target; 0 where there is no target.
 abbrev pub first_or_zero : List ℕ → ℕ
 first_or_zero (x ∷ xs) = x
 first_or_zero [] = 0
@@ -102,6 +109,7 @@ abbrev pub declared_act : Setting → Called → ℕ → Scope → TypeName → 
 declared_act h called n sc t None s = Act.any n h.co (type_or_bool (declarable t)) s
 declared_act h called n sc t (Some r) s = assigned called n sc (n ∷ []) r s
 
+-- The type of a visible variable; Bool for a name that isn't visible, and for a type that can't be declared.
 abbrev pub type_of_local : Option Local → Ty
 type_of_local (Some l) = type_or_bool (declarable l.ty)
 type_of_local None = Ty.Bool
@@ -113,6 +121,7 @@ havocs sc co (x ∷ xs) s = Acts.next (Act.any (number_or_zero (find sc x)) co (
 
 -- ---- Rules of loops
 
+-- The number of copies that is given; 1 where none is.
 abbrev pub number_or_one : Option ℕ → ℕ
 number_or_one (Some k) = k
 number_or_one None = 1

@@ -27,6 +27,7 @@ any_twice (x ∷ xs) = list_any (bytes_eq x) xs || any_twice xs
 
 -- ---- What stands in blocks
 
+-- Whether a right side is a procedure's call.
 abbrev pub is_call : RightSide → Bool
 is_call (RightSide.call p arguments) = true
 is_call (RightSide.plain e) = false
@@ -39,6 +40,7 @@ abbrev pub binds_value : Option RightSide → Bool
 binds_value None = true
 binds_value (Some r) = is_call r
 
+-- Whether a declaration's value is given by a call.
 abbrev pub calls_value : Option RightSide → Bool
 calls_value None = false
 calls_value (Some r) = is_call r
@@ -102,12 +104,15 @@ validates_against co covalidate = not (agree co covalidate)
 abbrev pub havocs_against : Bool → Bool → Bool
 havocs_against co cohavoc = not (agree co cohavoc)
 
+-- The rule of a check's own node. Whether one against the direction may not stand here is handed in as `bound`.
 abbrev pub check_rules : Setting → Bool → CheckKind → List (ℕ × Bool)
 check_rules h bound kind = (17, checks_against h.co kind && bound) ∷ []
 
+-- The rule of a validation's own node. Whether one against the direction may not stand here is handed in as `bound`.
 abbrev pub validate_rules : Setting → Bool → Bool → List (ℕ × Bool)
 validate_rules h bound co = (17, validates_against h.co co && bound) ∷ []
 
+-- The rules of a havoc's own node: those on its names, and the one on its direction.
 abbrev pub havoc_rules : Setting → Scope → Bool → List (List ℕ) → List (ℕ × Bool)
 havoc_rules h sc co xs =
     ((10, any_unknown sc xs)
@@ -116,16 +121,20 @@ havoc_rules h sc co xs =
     ∷ (17, havocs_against h.co co)
     ∷ [])
 
+-- The rule of a reward's own node: none may stand in a proc with `@wlp`.
 abbrev pub reward_rules : Setting → List (ℕ × Bool)
 reward_rules h = (20, h.weak) ∷ []
 
+-- The rules of an assignment's own node: those of giving its right side to the variables that it names.
 abbrev pub assign_rules : Setting → Called → ℕ → Scope → List (List ℕ) → RightSide → List (ℕ × Bool)
 assign_rules h called n sc xs r = right_rules h.co called n sc (any_unknown sc xs) (any_twice xs) false (any_input h.inputs sc xs) (types_of_names sc xs) r
 
+-- The rules of a declaration's own node: those on its name and its type, and those of giving it its value where it has one.
 abbrev pub var_rules : Setting → Called → ℕ → Scope → List ℕ → TypeName → Option RightSide → List (ℕ × Bool)
 var_rules h called n sc x t None = (11, is_visible sc x) ∷ (12, is_none (declarable t)) ∷ []
 var_rules h called n sc x t (Some r) = right_rules h.co called n sc false (is_visible sc x) (is_none (declarable t)) false (Some t ∷ []) r
 
+-- What is found in the parts of a declaration's value; nothing where it has none.
 abbrev pub value_findings : ℕ → Scope → Option RightSide → List Finding
 value_findings n sc None = []
 value_findings n sc (Some r) = right_findings n sc r

@@ -25,6 +25,7 @@ pub data Meaning : Type 0 where
   number : NumberType → Form → Meaning
   real : Meaning
 
+-- What a function makes of what is there; nothing where nothing is there.
 abbrev pub given : {A B : Type 0} → Option A → (A → Option B) → Option B
 given None f = None
 given (Some a) f = f a
@@ -59,6 +60,7 @@ variable_of TypeName.UReal x = Meaning.number ureal (Form.variable x)
 variable_of TypeName.EUReal x = Meaning.number eureal (Form.variable x)
 variable_of TypeName.Real x = Meaning.real
 
+-- What a visible variable's name becomes: the variable of its declared type, by its number.
 abbrev pub variable : Local → Meaning
 variable l = variable_of l.ty l.number
 

@@ -65,6 +65,7 @@ abbrev pub divides_by : BinaryOp → Expression → Bool
 divides_by BinaryOp.Slash b = is_none (divisor b)
 divides_by op b = false
 
+-- A division whose divisor isn't a number literal other than 0.
 abbrev pub divides_wrong : Expression → Bool
 divides_wrong (Expression.binary op a b s) = divides_by op b
 divides_wrong e = false

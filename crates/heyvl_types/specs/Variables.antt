@@ -15,9 +15,11 @@ abbrev pub type_or_bool : Option Ty → Ty
 type_or_bool (Some ty) = ty
 type_or_bool None = Ty.Bool
 
+-- The variable that the declaration of a name with a type declares.
 abbrev pub declared : List ℕ → TypeName → Variable
 declared x t = record { name = x; ty = type_or_bool (declarable t) }
 
+-- The variables that parameters declare, in their order.
 abbrev pub parameters : List Param → List Variable
 parameters ps = map (λ p. declared p.name p.ty) ps
 
@@ -41,6 +43,7 @@ abbrev mutual
   locals_of_arms Arms.no_arm = []
   locals_of_arms (Arms.arm g b more) = locals_of_block b ++ locals_of_arms more
 
+-- The variables that a procedure's body declares, in the order of the text; none where it has no body.
 abbrev pub locals_of_body : Option Block → List Variable
 locals_of_body None = []
 locals_of_body (Some b) = locals_of_block b
@@ -59,6 +62,7 @@ front_variables (Expression.unary op a s) = []
 front_variables (Expression.binary op a b s) = []
 front_variables (Expression.choice a b c s) = []
 
+-- The variables of the quantifiers in the fronts of expressions, one expression after the other.
 abbrev pub fronts_variables : List Expression → List Variable
 fronts_variables [] = []
 fronts_variables (e ∷ es) = front_variables e ++ fronts_variables es

@@ -4,7 +4,7 @@ ghost use Rattle.heyvl_num.specs.Rational.{leqʳ, oneʳ, zeroʳ, ◌+ʳ◌};
 ghost use Rattle.heyvl_syntax.specs.Expressions.{expression};
 ghost use Rattle.heyvl_syntax.specs.Statements.{choices};
 ghost use Rattle.heyvl_types.specs.Answers.{Gives};
-ghost use Rattle.heyvl_types.specs.internal.Looks.{Tells};
+ghost use Rattle.heyvl_types.specs.internal.Looks.{TellsFirst};
 ghost use Rattle.heyvl_types.specs.Literals.{is_over_zero, is_too_wide, is_usable, sums_wrong, weigh_wrong};
 ghost use Rattle.heyvl_types.specs.RightSides.{choices_findings, weight_findings, weights};
 ghost use Rattle.heyvl_types.specs.StatementActs.{choose_parts};
@@ -44,7 +44,7 @@ pub(crate) fn read_weight(
     next: u32,
     e: &Expr,
 ) -> Result<(), ResolveStop>
-    ensures { Tells result (weight_findings next scope.now (expression e.now)) }
+    ensures { TellsFirst result (weight_findings next scope.now (expression e.now)) }
 {
     if is_weight_literal(weight_of(e)) {
         return Ok(());

@@ -6,7 +6,7 @@ ghost use Rattle.heyvl_num.specs.Value.Value.{infinite};
 ghost use Rattle.heyvl_syntax.specs.Statements.{LoopRule, loop_rule, loop_rules};
 ghost use Rattle.heyvl_acts.specs.Acts.{Act as Plain};
 ghost use Rattle.heyvl_types.specs.Answers.{Gives};
-ghost use Rattle.heyvl_types.specs.internal.Looks.{Tells};
+ghost use Rattle.heyvl_types.specs.internal.Looks.{TellsFirst};
 ghost use Rattle.heyvl_types.specs.internal.Views.{acts_view, meaning_of, read};
 ghost use Rattle.heyvl_types.specs.Findings.{at};
 ghost use Rattle.heyvl_types.specs.LoopRules.{copies_wrong, count_of_rankings, formula, is_ranking, rule_findings, rules_findings, rules_wrong, step_wrong, steps_over_zero};
@@ -224,7 +224,7 @@ pub(crate) fn told_of_loop(
     rankable: bool,
     span: Span,
 ) -> Result<(), ResolveStop>
-    ensures { Tells result (at span ((12, misses) ∷ (15, list_any step_wrong (loop_rules rules.now)) ∷ (16, list_any steps_over_zero (loop_rules rules.now)) ∷ (18, rules_wrong (loop_rules rules.now)) ∷ (19, list_any copies_wrong (loop_rules rules.now)) ∷ (22, list_any is_ranking (loop_rules rules.now) && not rankable) ∷ [])) }
+    ensures { TellsFirst result (at span ((12, misses) ∷ (15, list_any step_wrong (loop_rules rules.now)) ∷ (16, list_any steps_over_zero (loop_rules rules.now)) ∷ (18, rules_wrong (loop_rules rules.now)) ∷ (19, list_any copies_wrong (loop_rules rules.now)) ∷ (22, list_any is_ranking (loop_rules rules.now) && not rankable) ∷ [])) }
 {
     told(
         span,

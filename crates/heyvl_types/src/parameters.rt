@@ -1,7 +1,7 @@
 //! Parameters: the variables that a procedure's head declares.
 
 ghost use Rattle.heyvl_types.specs.Answers.{Gives};
-ghost use Rattle.heyvl_types.specs.internal.Looks.{Tells};
+ghost use Rattle.heyvl_types.specs.internal.Looks.{TellsFirst};
 ghost use Rattle.heyvl_types.specs.Files.{parameters_findings};
 ghost use Rattle.heyvl_types.specs.Findings.{at};
 ghost use Rattle.heyvl_acts.specs.PlainActs.{variable_of};
@@ -35,7 +35,7 @@ pub(crate) fn declared(alloc: Global, name: &Name, ty: TypeName) -> Result<VarIn
 
 /// The first broken rule of a parameter.
 fn check_parameter(scope: &Scope, param: &Param) -> Result<(), ResolveStop>
-    ensures { Tells result (at param.now.span ((11, is_visible scope.now param.now.name) ∷ (12, is_none (declarable param.now.ty)) ∷ [])) }
+    ensures { TellsFirst result (at param.now.span ((11, is_visible scope.now param.now.name) ∷ (12, is_none (declarable param.now.ty)) ∷ [])) }
 {
     if scope.sees(&param.name) {
         return Err(ResolveStop::Fault(11, param.span));

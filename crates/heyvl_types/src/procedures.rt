@@ -5,7 +5,7 @@ ghost use Rattle.heyvl_syntax.specs.Expressions.{expressions};
 ghost use Rattle.heyvl_syntax.specs.Procedures.{optional_block, procedure};
 ghost use Rattle.heyvl_acts.specs.Acts.{acts_in};
 ghost use Rattle.heyvl_types.specs.Answers.{Gives};
-ghost use Rattle.heyvl_types.specs.internal.Looks.{Tells};
+ghost use Rattle.heyvl_types.specs.internal.Looks.{TellsFirst};
 ghost use Rattle.heyvl_acts.specs.Count.{count_of};
 ghost use Rattle.heyvl_types.specs.Files.{arity, body_acts, body_findings, clause, front_of, head_scope, input_scope, is_wlp, loops_of_body, parameters_findings, post_forms, posts_findings, pre_forms, pres_findings, procedure_findings, typed};
 ghost use Rattle.heyvl_types.specs.Findings.{at};
@@ -86,7 +86,7 @@ fn setting_of(proc: &Proc, inputs: u32) -> Setting
 
 /// The rules of a procedure's name and note. Whether an earlier procedure has its name is handed in.
 fn check_name(named: bool, proc: &Proc) -> Result<(), ResolveStop>
-    ensures { Tells result (at proc.now.span ((11, named) ∷ []) ++ at proc.now.span ((17, is_wlp proc.now.note && proc.now.co) ∷ [])) }
+    ensures { TellsFirst result (at proc.now.span ((11, named) ∷ []) ++ at proc.now.span ((17, is_wlp proc.now.note && proc.now.co) ∷ [])) }
 {
     if named {
         return Err(ResolveStop::Fault(11, proc.span));

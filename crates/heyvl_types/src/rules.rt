@@ -1,6 +1,6 @@
 //! The rules of a node.
 
-ghost use Rattle.heyvl_types.specs.internal.Looks.{Tells};
+ghost use Rattle.heyvl_types.specs.internal.Looks.{TellsFirst};
 ghost use Rattle.heyvl_types.specs.Findings.{at};
 
 use crate::stops::ResolveStop;
@@ -8,7 +8,7 @@ use heyvl_places::Span;
 
 /// The first of these rules that is broken, at this place. Each rule is its number and whether it is broken.
 pub(crate) fn told(span: Span, rules: &[(u8, bool)]) -> Result<(), ResolveStop>
-    ensures { Tells result (at span rules.now) }
+    ensures { TellsFirst result (at span rules.now) }
 {
     for (number, broken) in rules {
         if *broken {

@@ -1,7 +1,7 @@
 //! The types of values that may be given to variables.
 
 ghost use Rattle.heyvl_types.specs.internal.Views.{meaning_of, value_type};
-ghost use Rattle.heyvl_types.specs.RightSides.{flip_type, join_types, mismatches, mismatches_target, type_of_integers, type_of_meaning, type_of_name, widens_to};
+ghost use Rattle.heyvl_types.specs.RightSides.{flip_type, join_types, mismatches, mismatches_target, type_of_integers, type_of_meaning, type_of_name, value_widens_to};
 ghost use Rattle.heyvl_types.specs.internal.Views.{kind_of};
 ghost use Rattle.heylo_formula.specs.Typing.{is_finite_type, widens};
 ghost use Rattle.std.specs.Prelude.{◌≡◌, ◌&&◌, Some, false, option_map};
@@ -102,7 +102,7 @@ fn widens(from: Kind, to: Kind) -> bool
 
 /// Whether a value of the first type may be given to a variable of the second.
 fn widens_to(from: ValueType, to: ValueType) -> bool
-    ensures { result ≡ widens_to (value_type from) (value_type to) }
+    ensures { result ≡ value_widens_to (value_type from) (value_type to) }
 {
     match (from, to) {
         (ValueType::Truth, ValueType::Truth) => true,

@@ -16,13 +16,16 @@ abbrev pub between : Side → Option End → Option End → Interval
 between Low near far = record { low = near; high = far }
 between High near far = record { low = far; high = near }
 
+-- The interval with the near end on this side and, where there is one, the far end on the other side.
 abbrev pub sided : Side → End → Option End → Interval
 sided side near far = between side (Some near) far
 
+-- Of two whole numbers that keep to an end of this side, n is at least as near to it as m.
 abbrev pub IsNearer : Side → ℤ → ℤ → Type 0
 IsNearer Low n m = n ≤ℤ m
 IsNearer High n m = m ≤ℤ n
 
+-- The other side.
 abbrev pub across : Side → Side
 across Low = High
 across High = Low
@@ -39,9 +42,11 @@ IsPicked i ty (Value v) = IsChoice i ty v × IsInside i v × (fits v ≡ true)
 IsPicked i ty (Breaks low high) = IsBroken i ty × (i.low ≡ Some low) × (i.high ≡ Some high)
 IsPicked i ty Great = (v : Rational) × IsChoice i ty v × (fits v ≡ false)
 
+-- The value is picked, unless it is too great.
 abbrev pub narrow_pick : Rational → Pick
 narrow_pick v = cond (fits v) (Value v) Great
 
+-- The choice breaks between these ends, of which the near one is on this side. The low end is told first.
 abbrev pub broken_pick : Side → End → End → Pick
 broken_pick Low near far = Breaks near far
 broken_pick High near far = Breaks far near

@@ -10,6 +10,7 @@ abbrev pub IsWithin : Side → End → Rational → Type 0
 IsWithin Low e v = IsUpFrom e v
 IsWithin High e v = IsUpTo e v
 
+-- The value keeps to the end of this side, where there is one.
 abbrev pub IsPast : Side → Option End → Rational → Type 0
 IsPast side None v = Unit {0}
 IsPast side (Some e) v = IsWithin side e v

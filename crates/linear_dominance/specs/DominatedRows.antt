@@ -7,6 +7,7 @@ use Rattle.linear_rows.specs.Terms.{is_in, add_terms}
 use Rattle.linear_rows.specs.Row.{Row}
 use Rattle.linear_rows.specs.SameTerms.{same_terms}
 
+-- The variable of the first term, 0 where there is none.
 abbrev pub first_variable : List (ℕ × ℤ) → ℕ
 first_variable [] = 0
 first_variable (t ∷ ts) = t.0

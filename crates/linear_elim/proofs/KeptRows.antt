@@ -22,7 +22,6 @@ narrow_out : (n : ℕ) → nat_lt n (2 ^ 62) ≡ true → n < 2 ^ 62
 narrow_out n e = grind (arith, nat_tests)
 
 pub narrow_all_out : (ts : List (ℕ × ℤ)) → are_narrow ts ≡ true → All (λ t. unsigned_abs t.1 < 2 ^ 62) ts
-unfolding are_narrow
 narrow_all_out [] e = All-nil _
 narrow_all_out (t ∷ ts) e = let h = and_true (is_narrow t.1) (are_narrow ts) e in All-cons (λ t. unsigned_abs t.1 < 2 ^ 62) t ts (narrow_out (unsigned_abs t.1) h.0) (narrow_all_out ts h.1)
 

@@ -87,7 +87,6 @@ test_narrow : (n : ℕ) → n < 2 ^ 61 → nat_lt n (2 ^ 62) ≡ true
 test_narrow n h = grind (arith, nat_tests)
 
 divided_narrow : (g : ℕ) (ts : List (ℕ × ℤ)) → All (λ t. unsigned_abs t.1 < 2 ^ 61) ts → are_narrow (divided_terms g ts) ≡ true
-unfolding are_narrow
 divided_narrow g [] h = refl
 divided_narrow g (t ∷ ts) h = and_from _ _ (test_narrow _ (quotient_less (2 ^ 61) g t.1 (All-head (λ t. unsigned_abs t.1 < 2 ^ 61) t ts h))) (divided_narrow g ts (All-tail (λ t. unsigned_abs t.1 < 2 ^ 61) t ts h))
 

@@ -66,6 +66,7 @@ pub data IsTooGreatBy (rule : plain.Rule) (rows : List Row) (vars : List Ty) : T
   in_a_sum : (c : Derived) → eliminated_by rule rows vars ≡ plain.Outcome.refuted c → (IsWide (multipliers c) rows → ⊥) → IsTooGreatBy rule rows vars
   in_a_choice : (steps : List Step) → eliminated_by rule rows vars ≡ plain.Outcome.standing steps → IsChoiceTooGreat rows vars steps → IsTooGreatBy rule rows vars
 
+-- A number reaches its bound where the elimination is the plain one.
 abbrev pub IsTooGreat : List Row → List Ty → Type 0
 IsTooGreat rows vars = IsTooGreatBy keeps rows vars
 

@@ -22,10 +22,12 @@ pub data Rule : Type 0 where
   keeps : Rule
   drops : Rule
 
+-- The tidied rows, without those that another one dominates where the rule drops these.
 abbrev pub tidied_by : Rule → List Derived → List Derived
 tidied_by keeps rows = tidied rows
 tidied_by drops rows = undominated (tidied rows)
 
+-- The first contradiction among the rows, and what the rule leaves of the rows.
 abbrev pub gathered : Rule → List Derived → Gathered
 gathered rule rows = record { found = contradiction rows; rows = tidied_by rule rows }
 
@@ -43,13 +45,16 @@ after_step s (standing ss) = standing (s ∷ ss)
 after_step s (too_many n c) = too_many n c
 after_step s too_great = too_great
 
+-- A contradiction where there is one, else the outcome.
 abbrev pub ended_by : Option Derived → Outcome → Outcome
 ended_by None o = o
 ended_by (Some c) o = refuted c
 
+-- Too many rows after n steps where there are more than 4096, else the outcome.
 abbrev pub unless_many : ℕ → List Derived → Outcome → Outcome
 unless_many n rows o = cond (ltb 4096 (length rows)) (too_many n (length rows)) o
 
+-- The step of the variable x among these rows.
 abbrev pub step_of : ℕ → List Derived → Step
 step_of x rows = record { var = x; lows = lowers x rows; ups = uppers x rows }
 
@@ -63,10 +68,12 @@ run rule n (x ∷ xs) g = ended_by g.found (unless_many n g.rows (cond (step_fit
 abbrev pub own : ℕ → Row → Derived
 own k r = record { row = r; shares = (k, pos 1) ∷ []; over = 1 }
 
+-- The first rows, each as its own share, where k is the index of the first of them.
 unfoldable pub start : ℕ → List Row → List Derived
 start k [] = []
 start k (r ∷ rs) = own k r ∷ start (suc k) rs
 
+-- What the elimination of the rows by a rule ends with, where the variables are eliminated in this order.
 abbrev pub elimination_by : Rule → List ℕ → List Row → Outcome
 elimination_by rule order rows = run rule 0 order (gathered rule (start 0 rows))
 

@@ -15,15 +15,18 @@ pub record Derived : Type 0 where
   pub shares : List (ℕ × ℤ)
   pub over : ℕ
 
+-- Whether a whole number is below 0.
 abbrev pub is_below_zero : ℤ → Bool
 is_below_zero (pos n) = false
 is_below_zero (negsuc n) = true
 
+-- Whether a whole number is above 0.
 abbrev pub is_above_zero : ℤ → Bool
 is_above_zero (pos zero) = false
 is_above_zero (pos (suc n)) = true
 is_above_zero (negsuc n) = false
 
+-- The greatest number that divides the row's constant and all its coefficients, and 1 where all of them are 0.
 abbrev pub row_divisor : Row → ℕ
 row_divisor r = divisor r.terms (unsigned_abs r.rest)
 
@@ -39,6 +42,7 @@ size x r = unsigned_abs (coefficient x r.row.terms)
 unfoldable pub mixed_row : ℕ → Row → ℕ → Row → Row
 mixed_row p r q s = record { terms = mixed_terms (pos p) r.terms (pos q) s.terms; rest = (pos p *ℤ r.rest) +ℤ (pos q *ℤ s.rest); strict = r.strict || s.strict }
 
+-- p times the first shares and q times the second.
 abbrev pub mixed_shares : ℕ → List (ℕ × ℤ) → ℕ → List (ℕ × ℤ) → List (ℕ × ℤ)
 mixed_shares p ms q ns = mixed_terms (pos p) ms (pos q) ns
 
@@ -46,12 +50,15 @@ mixed_shares p ms q ns = mixed_terms (pos p) ms (pos q) ns
 abbrev pub joined_row : ℕ → Derived → Derived → Row
 joined_row x l u = mixed_row (size x u) l.row (size x l) u.row
 
+-- How often each first row is taken for the joined row times `over` of the one row and times `over` of the other.
 abbrev pub joined_shares : ℕ → Derived → Derived → List (ℕ × ℤ)
 joined_shares x l u = mixed_shares (size x u * u.over) l.shares (size x l * l.over) u.shares
 
+-- What the joined row in lowest terms is multiplied by to be the sum of the first rows by the joined shares.
 abbrev pub joined_over : ℕ → Derived → Derived → ℕ
 joined_over x l u = l.over * u.over * row_divisor (joined_row x l u)
 
+-- The greatest number that divides the joined shares and this multiplier of the joined row, and 1 where all of them are 0.
 abbrev pub share_divisor : ℕ → Derived → Derived → ℕ
 share_divisor x l u = divisor (joined_shares x l u) (joined_over x l u)
 
@@ -59,9 +66,11 @@ share_divisor x l u = divisor (joined_shares x l u) (joined_over x l u)
 unfoldable pub join : ℕ → Derived → Derived → Derived
 join x l u = record { row = lowest (joined_row x l u); shares = divided_terms (share_divisor x l u) (joined_shares x l u); over = joined_over x l u / share_divisor x l u }
 
+-- Each coefficient of the row and its constant are below 2^62 in absolute value.
 abbrev pub row_fits : Row → Bool
 row_fits r = are_narrow r.terms && is_narrow r.rest
 
+-- Each number of the row, each share and `over` are below 2^62 in absolute value.
 abbrev pub derived_fits : Derived → Bool
 derived_fits r = row_fits r.row && are_narrow r.shares && is_narrow (pos r.over)
 

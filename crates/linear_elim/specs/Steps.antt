@@ -9,15 +9,19 @@ use Rattle.linear_dominance.specs.DominatedRows.{is_dominated}
 use Rattle.linear_elim.specs.Joins.{Derived, is_below_zero, is_above_zero, join, join_fits}
 use Rattle.linear_rows.specs.SameTerms.{same_number, same_terms}
 
+-- The rows that bound x from below: those with a negative coefficient of x.
 abbrev pub lowers : ℕ → List Derived → List Derived
 lowers x rows = filter (λ r. is_below_zero (coefficient x r.row.terms)) rows
 
+-- The rows that bound x from above: those with a positive coefficient of x.
 abbrev pub uppers : ℕ → List Derived → List Derived
 uppers x rows = filter (λ r. is_above_zero (coefficient x r.row.terms)) rows
 
+-- The rows that don't bound x: its coefficient is 0 there.
 abbrev pub kept : ℕ → List Derived → List Derived
 kept x rows = filter (λ r. is_zero_num (coefficient x r.row.terms)) rows
 
+-- The joins of one row with each of the others, in order, in which x vanishes.
 abbrev pub joins : ℕ → Derived → List Derived → List Derived
 joins x l us = map (join x l) us
 
@@ -35,6 +39,7 @@ unfoldable pub fits_each : ℕ → Derived → List Derived → Bool
 fits_each x l [] = true
 fits_each x l (u ∷ us) = join_fits x l u && fits_each x l us
 
+-- Whether the joins of each of the first rows with each of the second fit.
 unfoldable pub pairs_fit : ℕ → List Derived → List Derived → Bool
 pairs_fit x [] us = true
 pairs_fit x (l ∷ ls) us = fits_each x l us && pairs_fit x ls us
@@ -52,10 +57,12 @@ unfoldable pub put_row : Derived → List Derived → List Derived
 put_row r [] = r ∷ []
 put_row r (k ∷ ks) = cond (same_terms k.row.terms r.row.terms) (cond (is_stronger r.row k.row) r k ∷ ks) (k ∷ put_row r ks)
 
+-- The second rows put among the first, one after the other: of two with equal coefficients the stronger stays.
 unfoldable pub strongest : List Derived → List Derived → List Derived
 strongest ks [] = ks
 strongest ks (r ∷ rs) = strongest (put_row r ks) rs
 
+-- There is a term, and so a variable.
 abbrev pub has_terms : List (ℕ × ℤ) → Bool
 has_terms [] = false
 has_terms (t ∷ ts) = true
@@ -64,6 +71,7 @@ has_terms (t ∷ ts) = true
 abbrev pub tidied : List Derived → List Derived
 tidied rows = strongest [] (filter (λ r. has_terms r.row.terms) rows)
 
+-- The rows alone, without their shares.
 abbrev pub bare : List Derived → List Row
 bare rows = map (λ d. d.row) rows
 

@@ -22,7 +22,7 @@ use Rattle.linear_form.proofs.MetClaims.{negated_at}
 use Rattle.linear_form.proofs.NormalClaims.{all_nonzero}
 use Rattle.linear_form.proofs.AgreedEnds.{ends_are_values}
 use Rattle.linear_form.proofs.ClaimedRows.{rows_claim}
-use Rattle.linear_form.proofs.KnownTruths.{IsKnown, AreKnown, path_known}
+use Rattle.linear_form.proofs.KnownTruths.{IsKnownTruth, AreKnown, path_known}
 
 pub first_claimed : (s : Env) (ks ls : List Claim) → AllClaimed s (ks ++ ls) → AllClaimed s ks
 first_claimed s [] ls h = tt
@@ -46,7 +46,7 @@ answer_holds : (s : Env) (a : Lin) (strict held : Bool) → AllClaimed s (answer
 answer_holds s a strict true h = h.0.claimed
 answer_holds s a strict false h = denied_back (at a s) strict (sym (ap (λ x. is_negative x (not strict)) (negated_at a s)) ∙ h.0.claimed)
 
-answered : (s : Env) (ks : List Taken) (q : Atom) (held : Bool) → HasTruths s ks → IsKnown ks q held → AllClaimed s (answer_claims q held) → holds_at q s ≡ held
+answered : (s : Env) (ks : List Taken) (q : Atom) (held : Bool) → HasTruths s ks → IsKnownTruth ks q held → AllClaimed s (answer_claims q held) → holds_at q s ≡ held
 answered s ks (Atom.truth x) held h k c = h x held k
 answered s ks (Atom.row a strict) held h k c = answer_holds s a strict held c
 

@@ -17,7 +17,8 @@ use Rattle.linear_rows.specs.Terms.{is_narrow}
 use Rattle.linear_values.specs.Lin.{Terms, variable, IsAbove, AreNormal, is_sized}
 use Rattle.linear_form.specs.Query.{Atom, Taken}
 use Rattle.linear_form.specs.Paths.{IsPath, end_at}
-use Rattle.linear_values.specs.Tightening.{Claim, tightened, tight_row, whole_terms, factor, rounded, are_whole, all_narrow, constant_fits, with_row, all_tightened}
+use Rattle.linear_rows.specs.TermResults.{are_narrow}
+use Rattle.linear_values.specs.Tightening.{Claim, tightened, tight_row, whole_terms, factor, rounded, are_whole, constant_fits, with_row, all_tightened}
 use Rattle.heylo_formula.specs.TypedGoals.{IsTypedGoal}
 use Rattle.linear_form.specs.PathRows.{claim, negated, answer_claims, path_claims, denial_at, listed, is_unsigned_type, occurs_in_claims, sign_claims, claims_of, rows_of}
 use Rattle.linear_form.specs.RowLists.{Lists, AreRows, AreNumericRows, count_of}
@@ -71,15 +72,15 @@ and_right false b e = absurd (cc)
 narrow_less : (z : ℤ) → is_narrow z ≡ true → unsigned_abs z < 2 ^ 62
 narrow_less z h = grind arith
 
-narrow_terms : (ts : List (ℕ × ℤ)) → all_narrow ts ≡ true → All (λ (t : ℕ × ℤ). unsigned_abs t.1 < 2 ^ 62) ts
+narrow_terms : (ts : List (ℕ × ℤ)) → are_narrow ts ≡ true → All (λ (t : ℕ × ℤ). unsigned_abs t.1 < 2 ^ 62) ts
 narrow_terms [] h = All-nil _
 narrow_terms (t ∷ ts) h = All-cons (λ (t : ℕ × ℤ). unsigned_abs t.1 < 2 ^ 62) t ts (narrow_less t.1 (and_left _ _ h)) (narrow_terms ts (and_right (is_narrow t.1) _ h))
 
-chosen_row : (a b : Bool) (r q : Row) → row.IsNormal r.terms → cond (a && (b && (all_narrow r.terms && is_narrow r.rest))) (Some r) None ≡ Some q → IsRow q
-chosen_row a b r q h e = go (a && (b && (all_narrow r.terms && is_narrow r.rest))) refl e
+chosen_row : (a b : Bool) (r q : Row) → row.IsNormal r.terms → cond (a && (b && (are_narrow r.terms && is_narrow r.rest))) (Some r) None ≡ Some q → IsRow q
+chosen_row a b r q h e = go (a && (b && (are_narrow r.terms && is_narrow r.rest))) refl e
   where
-    go : (d : Bool) → (a && (b && (all_narrow r.terms && is_narrow r.rest))) ≡ d → cond d (Some r) None ≡ Some q → IsRow q
-    go true f e = let n = and_right b _ (and_right a _ f) in let i : r ≡ q = cc in subst IsRow i (record { normal = h; narrow = narrow_terms r.terms (and_left _ _ n); rest_narrow = narrow_less r.rest (and_right (all_narrow r.terms) _ n) })
+    go : (d : Bool) → (a && (b && (are_narrow r.terms && is_narrow r.rest))) ≡ d → cond d (Some r) None ≡ Some q → IsRow q
+    go true f e = let n = and_right b _ (and_right a _ f) in let i : r ≡ q = cc in subst IsRow i (record { normal = h; narrow = narrow_terms r.terms (and_left _ _ n); rest_narrow = narrow_less r.rest (and_right (are_narrow r.terms) _ n) })
     go false f e = absurd (cc)
 
 tightened_row : (types : Types) (k : Claim) (r : Row) → AreNormal k.left.terms → tightened types k ≡ Some r → IsRow r

@@ -35,14 +35,14 @@ once_new {A} qs (ask (Atom.truth x) y n) ps p = go (known x qs) refl p (once_new
     go (Some false) e p a b c d = b p
     go None e p a b c d = asked_new qs ps (Atom.truth x) _ _ e c d p
 
-abbrev pub IsKnown : List Taken → Atom → Bool → Type 0
-IsKnown ks (Atom.truth x) held = known x ks ≡ Some held
-IsKnown ks (Atom.row a strict) held = Unit {0}
+abbrev pub IsKnownTruth : List Taken → Atom → Bool → Type 0
+IsKnownTruth ks (Atom.truth x) held = known x ks ≡ Some held
+IsKnownTruth ks (Atom.row a strict) held = Unit {0}
 
 -- A path knows each truth of the second path as it was answered there.
 abbrev pub AreKnown : List Taken → List Taken → Type 0
 AreKnown ks [] = Unit {0}
-AreKnown ks (p ∷ ps) = IsKnown ks p.atom p.held × AreKnown ks ps
+AreKnown ks (p ∷ ps) = IsKnownTruth ks p.atom p.held × AreKnown ks ps
 
 known_after : (x : ℕ) (qs ps : List Taken) → known x qs ≡ None → known x (qs ++ ps) ≡ known x ps
 known_after x [] ps e = refl
@@ -59,7 +59,7 @@ known_after x (q ∷ qs) ps e = go q.atom e (known_after x qs ps)
 same : (x : ℕ) → (x == x) ≡ true
 same x = grind arith
 
-first_known : (q : Atom) (held : Bool) (qs ps : List Taken) → IsNew qs q → IsKnown (qs ++ (record { atom = q; held = held } ∷ ps)) q held
+first_known : (q : Atom) (held : Bool) (qs ps : List Taken) → IsNew qs q → IsKnownTruth (qs ++ (record { atom = q; held = held } ∷ ps)) q held
 first_known (Atom.truth x) held qs ps e = known_after x qs _ e ∙ ap (λ b. cond b (Some held) (known x ps)) (same x)
 first_known (Atom.row a strict) held qs ps e = tt
 

@@ -26,7 +26,7 @@ use Rattle.linear_form.specs.Questions.{zero, one}
 use Rattle.linear_form.specs.Paths.{Asks}
 use Rattle.linear_values.specs.Tightening.{common_multiple, common_divisor, factor, tightened}
 use Rattle.linear_form.specs.PathRows.{rows_of}
-use Rattle.linear_form.specs.Cells.{IsDropped, IsKept, IsFront}
+use Rattle.linear_form.specs.Cells.{IsDropped, IsKeptPath, IsFront}
 use Rattle.linear_rows.proofs.exported.Combinations.{unmet}
 use Rattle.linear_rows.proofs.exported.Fractions.{solvable_is}
 
@@ -123,7 +123,7 @@ nothing_at_the_start : rows_of natural [] false ≡ Some []
 unfolding goal natural if_negative minus plus scaled minus_oneʳ is_sized fits is_zeroʳ leqʳ ratio gcd gcd_steps zeroʳ oneʳ ◌+ʳ◌ ◌*ʳ◌
 nothing_at_the_start = refl
 
-start_is_kept : IsKept natural []
+start_is_kept : IsKeptPath natural []
 start_is_kept = record { rows = []; are_rows = nothing_at_the_start; solvable = record { at_values = λ x. zeroʳ; meets = All-nil _ } }
 
 asks_at_the_start : Asks natural [] (Atom.row (variable 0) true)

@@ -14,7 +14,7 @@ use Rattle.linear_form.specs.internal.Nodes.{after_first}
 use Rattle.linear_form.specs.internal.Run.{Evaluation, along}
 use Rattle.linear_form.specs.internal.Places as places
 use Rattle.linear_form.specs.internal.Places.{told, asked_by, framed, resumed, ended, through, left_at, weight, focus_weight, frames_weight, frame_weight, IsKeptFrame, AreKeptFrames}
-use Rattle.linear_form.specs.internal.Steps.{Steps, AreAlike, IsAlike, IsSamePlace}
+use Rattle.linear_form.specs.internal.Steps.{Steps, AskAlike, IsAlike, IsSamePlace}
 use Rattle.linear_form.specs.Places.{IsOn}
 use Rattle.linear_values.specs.declared.lin.Lin.{Lin}
 use Rattle.linear_form.specs.declared.nodes.Connective.{Connective}
@@ -101,17 +101,17 @@ for_focus r ps p p' f e h = subst (λ f. IfOk r (Steps ps (through (asked_by f) 
 
 -- ---- Places that are copied
 
-pub alike_start : AreAlike [] []
+pub alike_start : AskAlike [] []
 alike_start = record { same = λ q. refl; kept = λ h. h }
 
-pub alike_more : (old new : List Frame) (f g : Frame) → AreAlike old new → IsAlike f g → AreAlike (old ++ (f ∷ [])) (new ++ (g ∷ []))
+pub alike_more : (old new : List Frame) (f g : Frame) → AskAlike old new → IsAlike f g → AskAlike (old ++ (f ∷ [])) (new ++ (g ∷ []))
 alike_more old new f g a b = record {
   same = λ q. through_push q new g ∙ ap (λ r. through (next q r) new) b.same ∙ a.same (next q (resumed f)) ∙ sym (through_push q old f);
   kept = λ h. let k = kept_pop old f h in kept_push new g (a.kept k.0) (b.kept k.1);
 }
 
-pub alike_next : (all : List Frame) (i : ℕ) (new made : List Frame) (f g : Frame) → i < length all → f ≡ get_or all i f → made ≡ new ++ (g ∷ []) → AreAlike (take i all) new → IsAlike f g → AreAlike (take (i + 1) all) made
-alike_next all i new made f g l e m a b = subst (λ z. AreAlike z made) (sym (take_more all i f l ∙ ap (λ z. take i all ++ (z ∷ [])) (sym e))) (subst (λ z. AreAlike (take i all ++ (f ∷ [])) z) (sym m) (alike_more (take i all) new f g a b))
+pub alike_next : (all : List Frame) (i : ℕ) (new made : List Frame) (f g : Frame) → i < length all → f ≡ get_or all i f → made ≡ new ++ (g ∷ []) → AskAlike (take i all) new → IsAlike f g → AskAlike (take (i + 1) all) made
+alike_next all i new made f g l e m a b = subst (λ z. AskAlike z made) (sym (take_more all i f l ∙ ap (λ z. take i all ++ (z ∷ [])) (sym e))) (subst (λ z. AskAlike (take i all ++ (f ∷ [])) z) (sym m) (alike_more (take i all) new f g a b))
 
 pub copied : (g : Goal) (ps : List Taken) (p p' : Place) → IsSamePlace p p' → IsOn g ps p → IsOn g ps p'
 copied g ps p p' s h = record {

@@ -2,7 +2,6 @@
 use Rattle.std.proofs.Common.{ℕ, ◌+◌, ◌<◌, ◌≤◌, List, [], ◌∷◌, length, arith, Bool, true, false, cond}
 use Rattle.std.specs.Prelude.{max, Option, Some, None}
 use Rattle.heyvl_num.specs.Rational.{Rational}
-use Rattle.heyvl_num.specs.Value.{Value}
 use Rattle.heylo_formula.specs.Formula.{Form, Cond}
 use Rattle.heylo_formula.specs.Goals.{Goal}
 use Rattle.heylo_formula.specs.Operators.{agree}

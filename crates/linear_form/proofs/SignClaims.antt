@@ -12,7 +12,8 @@ use Rattle.linear_rows.specs.Terms.{is_narrow}
 use Rattle.linear_rows.specs.Row.{Row}
 use Rattle.linear_values.specs.Lin.{variable, scaled, is_sized}
 use Rattle.linear_rows.specs.Numbers.{minus_oneʳ, fits}
-use Rattle.linear_values.specs.Tightening.{Claim, common_multiple, common_divisor, factor, are_whole, all_narrow, tightened, with_row}
+use Rattle.linear_rows.specs.TermResults.{are_narrow}
+use Rattle.linear_values.specs.Tightening.{Claim, common_multiple, common_divisor, factor, are_whole, tightened, with_row}
 use Rattle.linear_form.specs.PathRows.{claim, negated}
 use Rattle.linear_form.specs.internal.FurtherRows.{followed_by, rows_with, unsigned_in, one_more, all_unsigned_in, sign_row}
 use Rattle.linear_values.proofs.exported.KeptTerms.{of_two}
@@ -20,7 +21,7 @@ use Rattle.linear_form.proofs.RowsOfClaims.{then_more}
 
 sign_tightened : (types : Types) (x : ℕ) → tightened types (claim (negated (variable x)) false) ≡ Some (sign_row x)
 unfolding tightened scaled minus_oneʳ zeroʳ oneʳ ◌*ʳ◌ ratio gcd gcd_steps is_zeroʳ is_sized fits common_multiple common_divisor factor product_fits floorʳ ceilʳ
-sign_tightened types x = of_two (λ (r : Row). cond (all_narrow r.terms && is_narrow r.rest) (Some r) None ≡ Some (sign_row x)) (are_whole types (negated (variable x)).terms) (sign_row x) (sign_row x) refl refl
+sign_tightened types x = of_two (λ (r : Row). cond (are_narrow r.terms && is_narrow r.rest) (Some r) None ≡ Some (sign_row x)) (are_whole types (negated (variable x)).terms) (sign_row x) (sign_row x) refl refl
 
 sign_follows : (types : Types) (rows : List Row) (x : ℕ) → rows_with types rows (claim (negated (variable x)) false ∷ []) ≡ Some (rows ++ (sign_row x ∷ []))
 sign_follows types rows x = ap (λ o. followed_by rows (with_row o (Some []))) (sign_tightened types x)

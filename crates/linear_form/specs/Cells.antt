@@ -15,14 +15,14 @@ pub record IsDropped (g : Goal) (ps : List Taken) : Type 0 where
   pub unsolvable : IsSolvable rows → ⊥
 
 -- Some fractions meet the rows of the path.
-pub record IsKept (g : Goal) (ps : List Taken) : Type 0 where
+pub record IsKeptPath (g : Goal) (ps : List Taken) : Type 0 where
   pub rows : List Row
   pub are_rows : rows_of g ps false ≡ Some rows
   pub solvable : IsSolvable rows
 
 -- The path is kept, and its question is this one.
 pub record GoesOn (g : Goal) (ps : List Taken) (q : Atom) : Type 0 where
-  pub kept : IsKept g ps
+  pub kept : IsKeptPath g ps
   pub asks : Asks g ps q
 
 -- A path that the walk reaches: the start, and both answers to the question of a front that is kept.
@@ -33,7 +33,7 @@ pub data IsFront (g : Goal) : List Taken → Type 0 where
 -- A front that is kept, at an end.
 pub record IsCell (g : Goal) (ps : List Taken) : Type 0 where
   pub front : IsFront g ps
-  pub kept : IsKept g ps
+  pub kept : IsKeptPath g ps
   pub ends : Ends
   pub at_end : end_at g ps ≡ Query.done ends
 

@@ -13,9 +13,11 @@ use Rattle.linear_form.specs.Questions.{Ends}
 use Rattle.linear_form.specs.Paths.{end_at}
 use Rattle.linear_values.specs.Tightening.{Claim, all_tightened}
 
+-- The claim that the linear value is at most 0 or, where strict, below 0.
 abbrev pub claim : Lin → Bool → Claim
 claim a strict = record { left = a; strict = strict }
 
+-- The linear value times -1.
 abbrev pub negated : Lin → Lin
 negated a = scaled minus_oneʳ a
 
@@ -24,6 +26,7 @@ abbrev pub answer_claims : Atom → Bool → List Claim
 answer_claims (Atom.truth x) held = []
 answer_claims (Atom.row a strict) held = (if held then claim a strict else claim (negated a) (not strict)) ∷ []
 
+-- What all answers of a path say of the numbers, in their order.
 abbrev pub path_claims : List Taken → List Claim
 path_claims [] = []
 path_claims (p ∷ ps) = answer_claims p.atom p.held ++ path_claims ps
@@ -39,10 +42,12 @@ below_claim None y = None
 abbrev pub denial : Bool → Ends → Option Claim
 denial upper e = if upper then below_claim e.0 e.1 else below_claim e.1 e.0
 
+-- The list of the claim alone, or the empty list where there is none.
 abbrev pub listed : Option Claim → List Claim
 listed (Some k) = k ∷ []
 listed None = []
 
+-- The denied goal where both values stand. None where a question is left, a number is too large or the goal holds plainly.
 abbrev pub denial_at : Bool → Query Ends → Option Claim
 denial_at upper (Query.done e) = denial upper e
 denial_at upper Query.bits = None
@@ -54,14 +59,17 @@ pub record IsPlainAt (g : Goal) (ps : List Taken) : Type 0 where
   pub at_end : end_at g ps ≡ Query.done ends
   pub plain : denial g.upper ends ≡ None
 
+-- Whether one of the terms is of the variable.
 abbrev pub occurs_in_terms : ℕ → Terms → Bool
 occurs_in_terms x [] = false
 occurs_in_terms x (t ∷ ts) = (x == t.0) || occurs_in_terms x ts
 
+-- Whether the left side of one of the claims has a term of the variable.
 abbrev pub occurs_in_claims : ℕ → List Claim → Bool
 occurs_in_claims x [] = false
 occurs_in_claims x (k ∷ ks) = occurs_in_terms x k.left.terms || occurs_in_claims x ks
 
+-- A type of numbers that are never negative: UInt or UReal.
 abbrev pub is_unsigned_type : Ty → Bool
 is_unsigned_type Ty.Bool = false
 is_unsigned_type Ty.Int = false
@@ -73,6 +81,7 @@ abbrev pub sign_claims : Types → List Claim → ℕ → List Claim
 sign_claims types ks zero = []
 sign_claims types ks (suc n) = sign_claims types ks n ++ (if is_unsigned_type (types n) && occurs_in_claims n ks then claim (negated (variable n)) false ∷ [] else [])
 
+-- The claims, and then that each unsigned variable that occurs in them is at least 0.
 abbrev pub with_signs : Goal → List Claim → List Claim
 with_signs g ks = ks ++ sign_claims (types_in g.types) ks (length g.types)
 

@@ -22,6 +22,7 @@ pub data Path {A : Type 0} : Query A → List Taken → Type 0 where
   yes : (q : Atom) (y n : Query A) (ps : List Taken) → Path y ps → Path (Query.ask q y n) (record { atom = q; held = true } ∷ ps)
   no : (q : Atom) (y n : Query A) (ps : List Taken) → Path n ps → Path (Query.ask q y n) (record { atom = q; held = false } ∷ ps)
 
+-- The answers are to the questions of the goal, in their order, and none is to a split past the last one.
 abbrev pub IsQuestionPath : Goal → List Taken → Type 0
 IsQuestionPath g ps = Path (questions g) ps
 

@@ -10,6 +10,7 @@ pub data Atom : Type 0 where
   truth : ℕ → Atom
   row : Lin → Bool → Atom
 
+-- A tree of questions: a result, a number that is too large, or a question with what follows yes and what follows no.
 pub data Query (A : Type 0) : Type 0 where
   done : A → Query A
   bits : Query A
@@ -31,6 +32,7 @@ pub record Taken : Type 0 where
   pub atom : Atom
   pub held : Bool
 
+-- What is known of the Boolean x once a question is answered: the answer where it is about x, else what is known without it.
 abbrev pub known_by : ℕ → Atom → Bool → Option Bool → Option Bool
 known_by x (Atom.truth y) held other = if x == y then Some held else other
 known_by x (Atom.row a strict) held other = other

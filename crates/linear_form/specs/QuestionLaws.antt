@@ -32,6 +32,7 @@ EachResult P (done a) = P a
 EachResult P bits = Unit {0}
 EachResult P (ask q y n) = EachResult P y × EachResult P n
 
+-- The linear value has no terms, or it is infinity.
 abbrev pub IsConstant : Linear → Type 0
 IsConstant (Some a) = a.terms ≡ []
 IsConstant None = Unit {0}

@@ -13,13 +13,16 @@ use Rattle.linear_form.specs.Query.{Query, Atom, next, once}
 use Rattle.linear_rows.specs.Numbers.{is_negative}
 use Rattle.linear_form.specs.Query.Query.{done, bits, ask}
 
+-- What a linear value or infinity comes to in a state.
 abbrev pub value_in : Linear → Env → Value
 value_in (Some a) s = finite (at a s)
 value_in None s = infinite
 
+-- The linear value 0.
 abbrev pub zero : Linear
 zero = Some (constant zeroʳ)
 
+-- The linear value 1.
 abbrev pub one : Linear
 one = Some (constant oneʳ)
 
@@ -39,10 +42,12 @@ is_below a strict = if is_sized a then asked a.terms a strict else bits
 
 -- ---- The operators, on linear values and infinity
 
+-- A number, as a linear value without terms, or infinity.
 abbrev pub number : Value → Linear
 number (finite x) = Some (constant x)
 number infinite = None
 
+-- The sum: infinity where one of its parts is, and too large where one of its numbers is.
 abbrev pub sum : Linear → Linear → Query Linear
 sum (Some a) (Some b) = sized (Some (plus a b))
 sum (Some a) None = done None
@@ -77,6 +82,7 @@ finite_product (t ∷ ts) (u ∷ us) a b = bits
 abbrev pub infinite_product : Lin → Query Linear
 infinite_product a = next (is_below a false) (λ t. done (if t then zero else None))
 
+-- The product of two finite factors, of a finite one and infinity, or of infinity and itself, which is infinity.
 abbrev pub product : Linear → Linear → Query Linear
 product (Some a) (Some b) = finite_product a.terms b.terms a b
 product (Some a) None = infinite_product a
@@ -111,6 +117,7 @@ co_imply (Some a) None = done None
 co_imply None (Some b) = done zero
 co_imply None None = done zero
 
+-- Infinity where the value is infinity, else 0.
 abbrev pub validate : Linear → Linear
 validate (Some a) = zero
 validate None = None

@@ -9,7 +9,7 @@ use Rattle.linear_rows.specs.Row.{Row}
 use Rattle.linear_rows.specs.VariableTypes.{IsNumericRow}
 use Rattle.linear_form.specs.RowLists.{ArePathRows}
 use Rattle.linear_rows.specs.Solutions.{IsSolvable}
-use Rattle.linear_form.specs.Cells.{IsKept}
+use Rattle.linear_form.specs.Cells.{IsKeptPath}
 use Rattle.heylo_formula.specs.TypedGoals.{IsTypedGoal}
 
 -- Each variable of a row of a typed goal is a number by its type.
@@ -66,4 +66,4 @@ pub record HasFirstRows (g : Goal) (ps : List Taken) (first : List Row) : Type 0
 -- Where the row of an answer stands on the path already, the path with this answer is kept as the path is, and the rows of the path
 -- with the other answer are those of its answers, and then those of the signs.
 abbrev pub RepeatedRowsStand : Type 0
-RepeatedRowsStand = (g : Goal) (ps : List Taken) (q : Atom) (held : Bool) (rows : List Row) (r other : Row) → ArePathRows g ps rows → ArePathRows g (onto ps q held) (rows ++ (r ∷ [])) → ArePathRows g (onto ps q (not held)) (rows ++ (other ∷ [])) → Contains rows r → IsKept g ps → IsKept g (onto ps q held) × HasFirstRows g (onto ps q (not held)) (rows ++ (other ∷ []))
+RepeatedRowsStand = (g : Goal) (ps : List Taken) (q : Atom) (held : Bool) (rows : List Row) (r other : Row) → ArePathRows g ps rows → ArePathRows g (onto ps q held) (rows ++ (r ∷ [])) → ArePathRows g (onto ps q (not held)) (rows ++ (other ∷ [])) → Contains rows r → IsKeptPath g ps → IsKeptPath g (onto ps q held) × HasFirstRows g (onto ps q (not held)) (rows ++ (other ∷ []))

@@ -17,10 +17,12 @@ abbrev pub Lists : RowList → Option (List Row) → Type 0
 Lists (Rows rows) found = found ≡ Some rows.items
 Lists Bits found = found ≡ None
 
+-- Where rows are given, the variables of each grow, no coefficient is 0, and each number is below 2^62 in absolute value.
 abbrev pub AreRows : RowList → Type 0
 AreRows (Rows rows) = All IsRow rows.items
 AreRows Bits = Unit {0}
 
+-- Where rows are given, each of their variables has a type, and it is one of numbers.
 abbrev pub AreNumericRows : List Ty → RowList → Type 0
 AreNumericRows types (Rows rows) = All (IsNumericRow types) rows.items
 AreNumericRows types Bits = Unit {0}

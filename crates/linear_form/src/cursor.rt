@@ -5,7 +5,7 @@ ghost use Rattle.linear_form.specs.Query.{Atom as PlainAtom, known, known_by};
 ghost use Rattle.linear_form.specs.Query.Query.{ask, done};
 ghost use Rattle.linear_form.specs.internal.Run.{along, turned, Evaluation};
 ghost use Rattle.linear_form.specs.PlainPaths.{path_of, atom_of};
-ghost use Rattle.linear_form.specs.internal.EvaluationResults.{Tells};
+ghost use Rattle.linear_form.specs.internal.EvaluationResults.{GivesTruth};
 
 use crate::paths::{Atom, Taken};
 use linear_values::Lin;
@@ -53,7 +53,7 @@ fn boxed(alloc: Global, atom: Atom) -> Result<Box<Atom>, AllocError>
 
 /// The answer of the path to a question, or the question.
 pub fn answered(alloc: Global, atom: Atom, path: &[Taken], at: usize) -> Result<Tested, Stop>
-    ensures { Tells result (turned (drop at (path_of path.now)) (atom_of atom) (Evaluation.value true (at + 1)) (Evaluation.value false (at + 1))) }
+    ensures { GivesTruth result (turned (drop at (path_of path.now)) (atom_of atom) (Evaluation.value true (at + 1)) (Evaluation.value false (at + 1))) }
 {
     if at < path.len() {
         Ok(Tested {
@@ -98,7 +98,7 @@ fn known_truth(x: u32, path: &[Taken], count: usize) -> Option<bool>
 /// The truth of a Boolean variable: known where the path has decided it before this place, else asked.
 #[inline(never)]
 pub fn truth(alloc: Global, x: u32, path: &[Taken], at: usize) -> Result<Tested, Stop>
-    ensures { Tells result (along (path_of path.now) (ask (PlainAtom.truth x) (done true) (done false)) at) }
+    ensures { GivesTruth result (along (path_of path.now) (ask (PlainAtom.truth x) (done true) (done false)) at) }
 {
     match known_truth(x, path, at) {
         Some(holds) => Ok(Tested { holds, next: at }),

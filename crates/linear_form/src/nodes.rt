@@ -6,7 +6,7 @@ ghost use Rattle.linear_values.specs.Kept.{IsKeptValue};
 ghost use Rattle.linear_form.specs.internal.Nodes.{binary, unary, of_truth, comparison};
 ghost use Rattle.linear_values.specs.PlainValues.{linear_of};
 ghost use Rattle.linear_form.specs.PlainPaths.{path_of};
-ghost use Rattle.linear_form.specs.internal.EvaluationResults.{Gives, Tells};
+ghost use Rattle.linear_form.specs.internal.EvaluationResults.{Gives, GivesTruth};
 
 use crate::cursor::{Found, Stop, Tested};
 use crate::operators::{
@@ -132,7 +132,7 @@ pub(crate) fn comparison_of(
 ) -> Result<Tested, Stop>
     requires left { IsKeptValue (linear_of a.now) }
     requires right { IsKeptValue (linear_of b.now) }
-    ensures { Tells result (along (path_of path.now) (comparison operator (linear_of a.now) (linear_of b.now)) at) }
+    ensures { GivesTruth result (along (path_of path.now) (comparison operator (linear_of a.now) (linear_of b.now)) at) }
 {
     match operator {
         Comparison::AtMost => at_most(alloc, a, b, path, at),

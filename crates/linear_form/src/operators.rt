@@ -12,7 +12,7 @@ ghost use Rattle.linear_form.specs.internal.Run.{along, Evaluation};
 ghost use Rattle.linear_values.specs.Kept.{IsKept, IsKeptValue};
 ghost use Rattle.linear_values.specs.PlainValues.{lin_of, linear_of};
 ghost use Rattle.linear_form.specs.PlainPaths.{path_of};
-ghost use Rattle.linear_form.specs.internal.EvaluationResults.{Gives, Tells};
+ghost use Rattle.linear_form.specs.internal.EvaluationResults.{Gives, GivesTruth};
 ghost use Rattle.heyvl_num.specs.ExtendedNumbers.{value_of};
 
 use crate::cursor::{Found, Stop, Tested, answered};
@@ -26,7 +26,7 @@ use std::alloc::Global;
 
 /// Whether a linear value is at most 0 or, where strict, below 0: known without variables, else asked.
 fn is_below(alloc: Global, a: Lin, strict: bool, path: &[Taken], at: usize) -> Result<Tested, Stop>
-    ensures { Tells result (along (path_of path.now) (tree.is_below (lin_of a) strict) at) }
+    ensures { GivesTruth result (along (path_of path.now) (tree.is_below (lin_of a) strict) at) }
 {
     if !is_sized(&a) {
         Err(Stop::Bits)
@@ -51,7 +51,7 @@ fn compare(
 ) -> Result<Tested, Stop>
     requires left { IsKept (lin_of a.now) }
     requires right { IsKept (lin_of b.now) }
-    ensures { Tells result (along (path_of path.now) (tree.is_below (lin_minus (lin_of a.now) (lin_of b.now)) strict) at) }
+    ensures { GivesTruth result (along (path_of path.now) (tree.is_below (lin_minus (lin_of a.now) (lin_of b.now)) strict) at) }
 {
     if at < path.len() {
         if is_constant(a) || is_constant(b) {
@@ -75,7 +75,7 @@ fn compare_on(a: &Lin, b: &Lin, strict: bool, path: &[Taken], at: usize) -> Resu
     requires right { IsKept (lin_of b.now) }
     requires constant { (has_no_terms (lin_of a.now).terms || has_no_terms (lin_of b.now).terms) ≡ true }
     requires goes_on { at < length path.now }
-    ensures { Tells result (along (path_of path.now) (tree.is_below (lin_minus (lin_of a.now) (lin_of b.now)) strict) at) }
+    ensures { GivesTruth result (along (path_of path.now) (tree.is_below (lin_minus (lin_of a.now) (lin_of b.now)) strict) at) }
 {
     let rest = number_sum(&a.rest, &signed(&b.rest, true));
     if !fits(&rest) {
@@ -566,7 +566,7 @@ pub(crate) fn at_most(
 ) -> Result<Tested, Stop>
     requires left { IsKeptValue (linear_of a.now) }
     requires right { IsKeptValue (linear_of b.now) }
-    ensures { Tells result (along (path_of path.now) (tree.at_most (linear_of a.now) (linear_of b.now)) at) }
+    ensures { GivesTruth result (along (path_of path.now) (tree.at_most (linear_of a.now) (linear_of b.now)) at) }
 {
     match a {
         None => match b {
@@ -600,7 +600,7 @@ pub(crate) fn less(
 ) -> Result<Tested, Stop>
     requires left { IsKeptValue (linear_of a.now) }
     requires right { IsKeptValue (linear_of b.now) }
-    ensures { Tells result (along (path_of path.now) (tree.less (linear_of a.now) (linear_of b.now)) at) }
+    ensures { GivesTruth result (along (path_of path.now) (tree.less (linear_of a.now) (linear_of b.now)) at) }
 {
     match a {
         None => Ok(Tested {
@@ -628,7 +628,7 @@ pub(crate) fn equal(
 ) -> Result<Tested, Stop>
     requires left { IsKeptValue (linear_of a.now) }
     requires right { IsKeptValue (linear_of b.now) }
-    ensures { Tells result (along (path_of path.now) (tree.equal (linear_of a.now) (linear_of b.now)) at) }
+    ensures { GivesTruth result (along (path_of path.now) (tree.equal (linear_of a.now) (linear_of b.now)) at) }
 {
     let test = at_most(alloc, a, b, path, at)?;
     if test.holds {

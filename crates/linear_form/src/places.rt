@@ -1,7 +1,7 @@
 //! Places: evaluations of a goal that stand somewhere on a path, and can go on from there.
 
 ghost use Rattle.std.specs.Prelude.{IfOk};
-ghost use Rattle.linear_form.specs.internal.Steps.{AreAlike, IsAlike, IsSamePlace, IsSameFocus};
+ghost use Rattle.linear_form.specs.internal.Steps.{AskAlike, IsAlike, IsSamePlace, IsSameFocus};
 
 use crate::nodes::{Binary, Comparison, Connective, OfTruth, Unary};
 use crate::questions::Ask;
@@ -112,7 +112,7 @@ fn copy_frame<'a>(alloc: Global, frame: &Frame<'a>) -> Result<Frame<'a>, AllocEr
 }
 
 fn copy_frames<'a>(alloc: Global, frames: &[Frame<'a>]) -> Result<Vec<Frame<'a>>, AllocError>
-    ensures { IfOk result (λ v. AreAlike frames.now v.items) }
+    ensures { IfOk result (λ v. AskAlike frames.now v.items) }
 {
     let mut made = Vec::with_capacity(alloc, frames.len())?;
     for frame in frames {

@@ -15,7 +15,7 @@ ghost use Rattle.linear_values.specs.PlainValues.{lin_of, linear_of};
 ghost use Rattle.linear_form.specs.internal.Nodes.{unary, after_first};
 ghost use Rattle.linear_form.specs.internal.Run.{along};
 ghost use Rattle.linear_values.specs.Kept.{IsKept, IsKeptValue};
-ghost use Rattle.linear_form.specs.internal.EvaluationResults.{Gives, Tells, Stops};
+ghost use Rattle.linear_form.specs.internal.EvaluationResults.{Gives, GivesTruth, Stops};
 ghost use Rattle.linear_form.specs.internal.Places.{Result as Outcomes, valued, told, of_two, of_number, of_bool, resumed, asked_by, through, left_at, weight, focus_weight, frame_weight, frames_weight, IsKeptFocus, IsKeptFrame, AreKeptFrames};
 ghost use Rattle.linear_form.specs.internal.Steps.{Steps};
 ghost use Rattle.linear_form.specs.declared.places.Place.{Place as PlainPlace};
@@ -168,7 +168,7 @@ fn truth_found<'a>(
 ) -> Result<Step, AllocError>
     requires focus { IsKeptFocus place.old.focus }
     requires frames { AreKeptFrames place.old.frames.items }
-    ensures { (ps : List PlainTaken) (q : Query Bool) (w : ℕ) → asked_by place.old.focus ≡ told q → Tells tested (along ps q place.old.at) → frames_weight place.old.frames.items < w → IfOk result (Steps ps (left_at place.old) place.old.at w place.new) }
+    ensures { (ps : List PlainTaken) (q : Query Bool) (w : ℕ) → asked_by place.old.focus ≡ told q → GivesTruth tested (along ps q place.old.at) → frames_weight place.old.frames.items < w → IfOk result (Steps ps (left_at place.old) place.old.at w place.new) }
 {
     match tested {
         Ok(tested) => {

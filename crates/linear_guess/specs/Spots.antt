@@ -1,8 +1,7 @@
 -- Points that are given by a list of numbers over one denominator. Source: linear arithmetic over the rationals.
-use Rattle.std.specs.Prelude.{ℕ, List, ℤ, pos, ◌+ℤ◌, ◌*ℤ◌, get_or}
+use Rattle.std.specs.Prelude.{ℕ, List, ℤ, pos, get_or}
 use Rattle.std.specs.List.{All}
-use Rattle.linear_rows.specs.Terms.{sum_at}
-use Rattle.linear_rows.specs.Points.{IsBelow}
+use Rattle.linear_rows.specs.Points.{IsMetAt}
 use Rattle.linear_rows.specs.Row.{Row}
 
 -- A variable's value times the denominator, 0 beyond the list.
@@ -10,8 +9,8 @@ abbrev pub top_at : List ℤ → ℕ → ℤ
 top_at tops x = get_or tops x (pos 0)
 
 -- The values meet the row.
-pub record IsMetBy (below : ℕ) (tops : List ℤ) (r : Row) : Type 0 where
-  pub met : IsBelow r.strict (sum_at (top_at tops) r.terms +ℤ (r.rest *ℤ pos below))
+abbrev pub IsMetBy : ℕ → List ℤ → Row → Type 0
+IsMetBy below tops r = IsMetAt below (top_at tops) r
 
 -- The values meet each row.
 abbrev pub AreMetBy : ℕ → List ℤ → List Row → Type 0

@@ -166,7 +166,6 @@ pub divided_more : (g : ℕ) (ts : List (ℕ × ℤ)) (i : ℕ) (d : ℕ × ℤ)
 divided_more g ts i d out now f q l e h k = ap (λ xs. xs ++ divided_terms g (drop (i + 1) ts)) (e ∙ ap (λ z. out ++ ((get_or ts i d).0, z) ∷ []) h) ∙ append_assoc out (((get_or ts i d).0, int_div (get_or ts i d).1 (pos g)) ∷ []) (divided_terms g (drop (i + 1) ts)) ∙ ap (λ xs. out ++ divided_terms g xs) (sym (from ts i d l)) ∙ k
 
 pub narrow_more : (g : ℕ) (ts : List (ℕ × ℤ)) (i : ℕ) (d : ℕ × ℤ) (b : Bool) → i < length ts → unsigned_abs (int_div (get_or ts i d).1 (pos g)) < 2 ^ 62 → are_narrow (divided_terms g (drop i ts)) ≡ b → are_narrow (divided_terms g (drop (i + 1) ts)) ≡ b
-unfolding are_narrow
 narrow_more g ts i d b l w e = go (get_or ts i d) (from ts i d l) w
   where
     test : (n : ℕ) → n < 2 ^ 62 → nat_lt n (2 ^ 62) ≡ true
@@ -176,7 +175,6 @@ narrow_more g ts i d b l w e = go (get_or ts i d) (from ts i d l) w
     go t f w = ap (λ c. c && are_narrow (divided_terms g (drop (i + 1) ts))) (sym (test (unsigned_abs (int_div t.1 (pos g))) w)) ∙ ap (λ xs. are_narrow (divided_terms g xs)) (sym f) ∙ e
 
 pub narrow_fails : (g : ℕ) (ts : List (ℕ × ℤ)) (i : ℕ) (d : ℕ × ℤ) (b : Bool) → i < length ts → (unsigned_abs (int_div (get_or ts i d).1 (pos g)) < 2 ^ 62 → ⊥) → are_narrow (divided_terms g (drop i ts)) ≡ b → false ≡ b
-unfolding are_narrow
 narrow_fails g ts i d b l w e = go (get_or ts i d) (from ts i d l) w
   where
     test : (n : ℕ) → (n < 2 ^ 62 → ⊥) → nat_lt n (2 ^ 62) ≡ false
@@ -186,5 +184,4 @@ narrow_fails g ts i d b l w e = go (get_or ts i d) (from ts i d l) w
     go t f w = ap (λ c. c && are_narrow (divided_terms g (drop (i + 1) ts))) (sym (test (unsigned_abs (int_div t.1 (pos g))) w)) ∙ ap (λ xs. are_narrow (divided_terms g xs)) (sym f) ∙ e
 
 pub narrow_all : (g : ℕ) (ts : List (ℕ × ℤ)) (i : ℕ) (b : Bool) → length ts ≤ i → are_narrow (divided_terms g (drop i ts)) ≡ b → true ≡ b
-unfolding are_narrow
 narrow_all g ts i b l e = ap (λ xs. are_narrow (divided_terms g xs)) (sym (drop_end ts i l)) ∙ e

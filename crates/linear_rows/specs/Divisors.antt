@@ -9,6 +9,7 @@ unfoldable pub common : List (ℕ × ℤ) → ℕ → ℕ
 common [] n = n
 common (t ∷ ts) n = gcd (unsigned_abs t.1) (common ts n)
 
+-- The number itself, and 1 in place of 0.
 abbrev pub or_one : ℕ → ℕ
 or_one zero = 1
 or_one (suc n) = suc n
@@ -17,5 +18,6 @@ or_one (suc n) = suc n
 abbrev pub divisor : List (ℕ × ℤ) → ℕ → ℕ
 divisor ts n = or_one (common ts n)
 
+-- Each coefficient divided by g, rounded toward 0.
 abbrev pub divided_terms : ℕ → List (ℕ × ℤ) → List (ℕ × ℤ)
 divided_terms g ts = map (λ (t : ℕ × ℤ). (t.0, int_div t.1 (pos g))) ts

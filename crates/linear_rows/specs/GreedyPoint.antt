@@ -28,12 +28,15 @@ pub record Interval : Type 0 where
   pub low : Option End
   pub high : Option End
 
+-- The value is above this lower end, or at it where the end belongs to the interval.
 abbrev pub IsUpFrom : End → Rational → Type 0
 IsUpFrom e v = cond e.inside (e.place ≤ʳ v) (e.place <ʳ v)
 
+-- The value is below this upper end, or at it where the end belongs to the interval.
 abbrev pub IsUpTo : End → Rational → Type 0
 IsUpTo e v = cond e.inside (v ≤ʳ e.place) (v <ʳ e.place)
 
+-- The value lies in the interval: it keeps to each end that there is.
 pub record IsInside (i : Interval) (v : Rational) : Type 0 where
   pub from_low : (e : End) → i.low ≡ Some e → IsUpFrom e v
   pub to_high : (e : End) → i.high ≡ Some e → IsUpTo e v
@@ -42,6 +45,7 @@ pub record IsInside (i : Interval) (v : Rational) : Type 0 where
 pub record IsIntervalOf (rows : List Row) (chosen : List (ℕ × Rational)) (x : ℕ) (i : Interval) : Type 0 where
   pub values : (v : Rational) → IsInside i v ↔ IsCompleted rows (chosen ++ (x, v) ∷ [])
 
+-- The fraction is a whole number.
 pub record IsWhole (v : Rational) : Type 0 where
   pub whole : v.den ≡ 1
 
@@ -84,6 +88,7 @@ abbrev pub chosen_value : ℕ → List (ℕ × Rational) → Rational
 chosen_value x [] = zeroʳ
 chosen_value x (c ∷ cs) = cond (eqb c.0 x) c.1 (chosen_value x cs)
 
+-- What a variable of this type is where this number is chosen: the number, and false where it is a Boolean.
 abbrev pub value_for : Ty → Rational → Val
 value_for Ty.Bool v = Truth false
 value_for Ty.Int v = Num v

@@ -3,6 +3,7 @@ use Rattle.std.specs.Prelude.{◌&&◌, pos, negsuc, Bool, true, false, not}
 use Rattle.heyvl_num.specs.Rational.{Rational, ratio, zeroʳ, leqʳ}
 use Rattle.linear_rows.specs.Terms.{is_narrow}
 
+-- The fraction -1.
 unfoldable pub minus_oneʳ : Rational
 minus_oneʳ = ratio (negsuc 0) 1
 

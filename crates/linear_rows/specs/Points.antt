@@ -20,8 +20,13 @@ abbrev pub IsBelow : Bool → ℤ → Type 0
 IsBelow true z = z <ℤ pos 0
 IsBelow false z = z ≤ℤ pos 0
 
-pub record Meets (w : Point) (r : Row) : Type 0 where
-  pub met : IsBelow r.strict (left_side w r)
+-- Values over this denominator meet the row.
+pub record IsMetAt (below : ℕ) (top : ℕ → ℤ) (r : Row) : Type 0 where
+  pub met : IsBelow r.strict (sum_at top r.terms +ℤ (r.rest *ℤ pos below))
+
+-- The point meets the row: the left side is at most 0 there, or below 0 where the row is strict.
+abbrev pub Meets : Point → Row → Type 0
+Meets w r = IsMetAt w.below w.top r
 
 -- Some point meets all rows.
 pub record IsMetSomewhere (rows : List Row) : Type 0 where

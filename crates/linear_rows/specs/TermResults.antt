@@ -20,6 +20,6 @@ abbrev pub mixed_terms : ℤ → List (ℕ × ℤ) → ℤ → List (ℕ × ℤ)
 mixed_terms p ts q us = add_terms p ts (add_terms q us [])
 
 -- Whether each coefficient is below 2^62 in absolute value.
-unfoldable pub are_narrow : List (ℕ × ℤ) → Bool
+abbrev pub are_narrow : List (ℕ × ℤ) → Bool
 are_narrow [] = true
 are_narrow (t ∷ ts) = is_narrow t.1 && are_narrow ts

@@ -5,6 +5,7 @@ use Rattle.std.specs.List.{All}
 use Rattle.linear_rows.specs.Row.{Row}
 use Rattle.heylo_formula.specs.Typing.{types_in, is_bool}
 
+-- A type of whole numbers: Int or UInt.
 abbrev pub is_integral : Ty → Bool
 is_integral Ty.Bool = false
 is_integral Ty.Int = true

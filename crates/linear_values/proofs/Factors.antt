@@ -22,7 +22,8 @@ use Rattle.linear_rows.specs.Numbers.{fits}
 use Rattle.linear_values.specs.Nonzero.{AreNonzero}
 use Rattle.linear_rows.specs.Terms.{is_narrow}
 use Rattle.heyvl_num.proofs.exported.Values.{is_zero-*, is_zero-one}
-use Rattle.linear_values.specs.Tightening.{sign_of, common_multiple, common_divisor, factor, whole_terms, all_narrow}
+use Rattle.linear_rows.specs.TermResults.{are_narrow}
+use Rattle.linear_values.specs.Tightening.{sign_of, common_multiple, common_divisor, factor, whole_terms}
 use Rattle.linear_values.specs.WholeTimes.{AreWholeTimes}
 use Rattle.linear_values.specs.Operator.{small_product, narrow_value}
 use Rattle.linear_values.proofs.Products.{product_none, product_some}
@@ -199,16 +200,16 @@ right_false : (a b : Bool) → b ≡ false → (a && b) ≡ false
 right_false true b e = e
 right_false false b e = refl
 
-pub times_wide : (b : ℕ) (w : Rational) (ts : Terms) → 0 < b → AreWholeTimes w ts → all_narrow (whole_terms w ts) ≡ false → all_narrow (whole_terms (ratio (pos b) 1 *ʳ w) ts) ≡ false
+pub times_wide : (b : ℕ) (w : Rational) (ts : Terms) → 0 < b → AreWholeTimes w ts → are_narrow (whole_terms w ts) ≡ false → are_narrow (whole_terms (ratio (pos b) 1 *ʳ w) ts) ≡ false
 times_wide b w [] p h e = absurd (cc)
 times_wide b w (t ∷ ts) p h e = go (is_narrow (w *ʳ t.1).num) refl e (times_wide b w ts p h.1)
   where
-    go : (c : Bool) → is_narrow (w *ʳ t.1).num ≡ c → (c && all_narrow (whole_terms w ts)) ≡ false → (all_narrow (whole_terms w ts) ≡ false → all_narrow (whole_terms (ratio (pos b) 1 *ʳ w) ts) ≡ false) → all_narrow (whole_terms (ratio (pos b) 1 *ʳ w) (t ∷ ts)) ≡ false
+    go : (c : Bool) → is_narrow (w *ʳ t.1).num ≡ c → (c && are_narrow (whole_terms w ts)) ≡ false → (are_narrow (whole_terms w ts) ≡ false → are_narrow (whole_terms (ratio (pos b) 1 *ʳ w) ts) ≡ false) → are_narrow (whole_terms (ratio (pos b) 1 *ʳ w) (t ∷ ts)) ≡ false
     go true f g k = right_false _ _ (k g)
     go false f g k = left_false _ _ (ap is_narrow (entry b w t.1 h.0) ∙ multiple_wide b (w *ʳ t.1).num p f)
 
-pub wide_rest : (t u : ℕ × Rational) (us : Terms) → AreNonzero (t ∷ u ∷ us) → all_narrow (whole_terms (factor (u ∷ us)) (u ∷ us)) ≡ false → all_narrow (whole_terms (factor (t ∷ u ∷ us)) (t ∷ u ∷ us)) ≡ false
-wide_rest t u us n e = right_false _ _ (subst (λ w. all_narrow (whole_terms w (u ∷ us)) ≡ false) (sym (factor_step t u us n)) (times_wide (factor (u ∷ us) *ʳ t.1).den (factor (u ∷ us)) (u ∷ us) (factor (u ∷ us) *ʳ t.1).positive (factor_whole u us n.1) e))
+pub wide_rest : (t u : ℕ × Rational) (us : Terms) → AreNonzero (t ∷ u ∷ us) → are_narrow (whole_terms (factor (u ∷ us)) (u ∷ us)) ≡ false → are_narrow (whole_terms (factor (t ∷ u ∷ us)) (t ∷ u ∷ us)) ≡ false
+wide_rest t u us n e = right_false _ _ (subst (λ w. are_narrow (whole_terms w (u ∷ us)) ≡ false) (sym (factor_step t u us n)) (times_wide (factor (u ∷ us) *ʳ t.1).den (factor (u ∷ us)) (u ∷ us) (factor (u ∷ us) *ʳ t.1).positive (factor_whole u us n.1) e))
 
 -- the new term, times the new factor
 pub head_product : (t u : ℕ × Rational) (us : Terms) → AreNonzero (t ∷ u ∷ us) → factor (t ∷ u ∷ us) *ʳ t.1 ≡ whole (factor (u ∷ us) *ʳ t.1).num
@@ -245,11 +246,11 @@ positive_num : (x : Rational) → is_zeroʳ x ≡ false → 0 < unsigned_abs x.n
 unfolding is_zeroʳ
 positive_num x h = abs_of x.num h
 
-pub wide_head : (t u : ℕ × Rational) (us : Terms) → AreNonzero (t ∷ u ∷ us) → fits (factor (u ∷ us) *ʳ t.1) ≡ false → all_narrow (whole_terms (factor (t ∷ u ∷ us)) (t ∷ u ∷ us)) ≡ false
+pub wide_head : (t u : ℕ × Rational) (us : Terms) → AreNonzero (t ∷ u ∷ us) → fits (factor (u ∷ us) *ʳ t.1) ≡ false → are_narrow (whole_terms (factor (t ∷ u ∷ us)) (t ∷ u ∷ us)) ≡ false
 unfolding fits
 wide_head t u us n e = go (is_narrow (factor (u ∷ us) *ʳ t.1).num) refl e
   where
-    go : (c : Bool) → is_narrow (factor (u ∷ us) *ʳ t.1).num ≡ c → (c && is_narrow (pos (factor (u ∷ us) *ʳ t.1).den)) ≡ false → all_narrow (whole_terms (factor (t ∷ u ∷ us)) (t ∷ u ∷ us)) ≡ false
+    go : (c : Bool) → is_narrow (factor (u ∷ us) *ʳ t.1).num ≡ c → (c && is_narrow (pos (factor (u ∷ us) *ʳ t.1).den)) ≡ false → are_narrow (whole_terms (factor (t ∷ u ∷ us)) (t ∷ u ∷ us)) ≡ false
     go false f g = left_false _ _ (ap (λ (x : Rational). is_narrow x.num) (head_product t u us n) ∙ ap is_narrow (whole_num (factor (u ∷ us) *ʳ t.1).num) ∙ f)
     go true f g = right_false _ _ (left_false _ _ (ap (λ w. is_narrow (w *ʳ u.1).num) (factor_step t u us n) ∙ ap is_narrow (entry (factor (u ∷ us) *ʳ t.1).den (factor (u ∷ us)) u.1 (factor_whole u us n.1).0) ∙ not_narrow (pos (factor (u ∷ us) *ʳ t.1).den *ℤ (factor (u ∷ us) *ʳ u.1).num) (subst (λ (n : ℕ). 2 ^ 62 ≤ n) (sym (unsigned_abs-mul (pos (factor (u ∷ us) *ʳ t.1).den) (factor (u ∷ us) *ʳ u.1).num)) (let k = wide_of (pos (factor (u ∷ us) *ʳ t.1).den) g in larger (factor (u ∷ us) *ʳ t.1).den (unsigned_abs (factor (u ∷ us) *ʳ u.1).num) k (positive_num (factor (u ∷ us) *ʳ u.1) (nonzero_factor (factor (u ∷ us)) u.1 (factor_positive u us n.1) (zero_test u.1 n.1.0)))))))
       where
@@ -301,13 +302,13 @@ pub only_factor : (ts rest : Terms) (t : ℕ × Rational) (q : Rational) → ts 
 only_factor ts [] t q e l n h = h (factor (t ∷ [])) (single_product t (normal_nonzero (t ∷ []) (rw e at n)).0) ∙ ap factor (sym e)
 only_factor ts (u ∷ us) t q e l n h = absurd (omega arith)
 
-pub others_wide : (ts rest : Terms) (t : ℕ × Rational) → ts ≡ t ∷ rest → 0 < length rest → AreNormal ts → all_narrow (whole_terms (factor rest) rest) ≡ false → all_narrow (whole_terms (factor ts) ts) ≡ false
+pub others_wide : (ts rest : Terms) (t : ℕ × Rational) → ts ≡ t ∷ rest → 0 < length rest → AreNormal ts → are_narrow (whole_terms (factor rest) rest) ≡ false → are_narrow (whole_terms (factor ts) ts) ≡ false
 others_wide ts [] t e l n h = absurd (omega arith)
-others_wide ts (u ∷ us) t e l n h = ap (λ ts. all_narrow (whole_terms (factor ts) ts)) e ∙ wide_rest t u us (normal_nonzero (t ∷ u ∷ us) (rw e at n)) h
+others_wide ts (u ∷ us) t e l n h = ap (λ ts. are_narrow (whole_terms (factor ts) ts)) e ∙ wide_rest t u us (normal_nonzero (t ∷ u ∷ us) (rw e at n)) h
 
-pub first_wide : (ts rest : Terms) (t : ℕ × Rational) (w : Rational) → ts ≡ t ∷ rest → 0 < length rest → AreNormal ts → w ≡ factor rest → None ≡ small_product w t.1 → all_narrow (whole_terms (factor ts) ts) ≡ false
+pub first_wide : (ts rest : Terms) (t : ℕ × Rational) (w : Rational) → ts ≡ t ∷ rest → 0 < length rest → AreNormal ts → w ≡ factor rest → None ≡ small_product w t.1 → are_narrow (whole_terms (factor ts) ts) ≡ false
 first_wide ts [] t w e l n f h = absurd (omega arith)
-first_wide ts (u ∷ us) t w e l n f h = ap (λ ts. all_narrow (whole_terms (factor ts) ts)) e ∙ wide_head t u us (normal_nonzero (t ∷ u ∷ us) (rw e at n)) (ap (λ v. fits (v *ʳ t.1)) (sym f) ∙ product_none w t.1 h)
+first_wide ts (u ∷ us) t w e l n f h = ap (λ ts. are_narrow (whole_terms (factor ts) ts)) e ∙ wide_head t u us (normal_nonzero (t ∷ u ∷ us) (rw e at n)) (ap (λ v. fits (v *ʳ t.1)) (sym f) ∙ product_none w t.1 h)
 
 pub next_factor : (ts rest : Terms) (t : ℕ × Rational) (w p q : Rational) → ts ≡ t ∷ rest → 0 < length rest → AreNormal ts → w ≡ factor rest → Some p ≡ small_product w t.1 → ((v : Rational) → v *ʳ t.1 ≡ whole p.num → q ≡ v) → q ≡ factor ts
 next_factor ts [] t w p q e l n f h g = absurd (omega arith)

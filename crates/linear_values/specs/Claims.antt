@@ -9,6 +9,7 @@ use Rattle.linear_values.specs.Tightening.{Claim}
 pub record IsClaimed (s : Env) (k : Claim) : Type 0 where
   pub claimed : is_negative (at k.left s) k.strict ≡ true
 
+-- Each of the claims holds in the state.
 abbrev pub AllClaimed : Env → List Claim → Type 0
 AllClaimed s [] = Unit {0}
 AllClaimed s (k ∷ ks) = IsClaimed s k × AllClaimed s ks

@@ -7,6 +7,7 @@ pub record IsKept (a : Lin) : Type 0 where
   pub sized : is_sized a ≡ true
   pub normal : AreNormal a.terms
 
+-- A linear value as the program keeps it, or infinity.
 abbrev pub IsKeptValue : Linear → Type 0
 IsKeptValue (Some a) = IsKept a
 IsKeptValue None = Unit {0}

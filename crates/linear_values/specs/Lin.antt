@@ -9,6 +9,7 @@ use Rattle.linear_rows.specs.Numbers.{minus_oneʳ, fits}
 abbrev pub Terms : Type 0
 Terms = List (ℕ × Rational)
 
+-- A linear value: the sum of its terms, and a constant.
 pub record Lin : Type 0 where
   pub terms : Terms
   pub rest : Rational
@@ -32,18 +33,23 @@ abbrev pub times : Rational → Terms → Terms
 times w [] = []
 times w (t ∷ ts) = (t.0, w *ʳ t.1) ∷ times w ts
 
+-- The linear value that is this number in each state.
 abbrev pub constant : Rational → Lin
 constant x = record { terms = []; rest = x }
 
+-- The linear value that is a variable alone.
 abbrev pub variable : ℕ → Lin
 variable x = record { terms = (x, oneʳ) ∷ []; rest = zeroʳ }
 
+-- The sum of two linear values.
 unfoldable pub plus : Lin → Lin → Lin
 plus a b = record { terms = merged b.terms a.terms; rest = a.rest +ʳ b.rest }
 
+-- A linear value times a number. Times 0 it is the constant 0, without terms.
 unfoldable pub scaled : Rational → Lin → Lin
 scaled w a = if is_zeroʳ w then constant zeroʳ else (record { terms = times w a.terms; rest = w *ʳ a.rest })
 
+-- The first linear value less the second.
 unfoldable pub minus : Lin → Lin → Lin
 minus a b = plus a (scaled minus_oneʳ b)
 
@@ -52,9 +58,11 @@ abbrev pub total : Terms → Env → Rational
 total [] s = zeroʳ
 total (t ∷ ts) s = (t.1 *ʳ number_of (s t.0)) +ʳ total ts s
 
+-- What a linear value comes to in a state: the value of its terms there, with the constant added.
 abbrev pub at : Lin → Env → Rational
 at a s = total a.terms s +ʳ a.rest
 
+-- Each coefficient is below the bound.
 abbrev pub all_fit : Terms → Bool
 all_fit [] = true
 all_fit (t ∷ ts) = fits t.1 && all_fit ts

@@ -8,6 +8,7 @@ abbrev pub AreNonzero : Terms → Type 0
 AreNonzero [] = Unit {0}
 AreNonzero (t ∷ ts) = (t.1.num ≡ pos 0 → ⊥) × AreNonzero ts
 
+-- No left side of the claims has a coefficient that is 0.
 abbrev pub AllNonzero : List Claim → Type 0
 AllNonzero [] = Unit {0}
 AllNonzero (k ∷ ks) = AreNonzero k.left.terms × AllNonzero ks

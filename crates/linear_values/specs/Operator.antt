@@ -5,6 +5,7 @@ use Rattle.linear_rows.specs.Terms.{is_narrow}
 use Rattle.linear_values.specs.Lin.{Terms, times}
 use Rattle.linear_rows.specs.Numbers.{minus_oneʳ, fits}
 
+-- There is no term, and so no variable.
 abbrev pub has_no_terms : Terms → Bool
 has_no_terms [] = true
 has_no_terms (t ∷ ts) = false
@@ -22,6 +23,7 @@ abbrev pub signed_number : Bool → Rational → Rational
 signed_number true c = minus_oneʳ *ʳ c
 signed_number false c = c
 
+-- The terms or, downward, those with the negative of each coefficient.
 abbrev pub signed_terms : Bool → Terms → Terms
 signed_terms true ts = times minus_oneʳ ts
 signed_terms false ts = ts

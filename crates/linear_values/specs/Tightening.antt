@@ -7,6 +7,7 @@ use Rattle.heyvl_num.specs.Rational.{Rational, ratio, ◌*ʳ◌}
 use Rattle.heyvl_num.specs.Rounding.{floorʳ, ceilʳ}
 use Rattle.heyvl_num.specs.Exact.{product_fits}
 use Rattle.heylo_formula.specs.Typing.{Types}
+use Rattle.linear_rows.specs.TermResults.{are_narrow}
 use Rattle.linear_rows.specs.Terms.{is_narrow}
 use Rattle.linear_rows.specs.Row.{Row}
 use Rattle.linear_values.specs.Lin.{Lin, Terms, is_sized}
@@ -60,23 +61,22 @@ tight_row types (t ∷ ts) c strict = if are_whole types (t ∷ ts)
     then (record { terms = whole_terms (factor (t ∷ ts)) (t ∷ ts); rest = rounded strict (factor (t ∷ ts) *ʳ c); strict = false })
     else (record { terms = whole_terms (ratio (pos (factor (t ∷ ts) *ʳ c).den) 1 *ʳ factor (t ∷ ts)) (t ∷ ts); rest = (factor (t ∷ ts) *ʳ c).num; strict = strict })
 
-abbrev pub all_narrow : List (ℕ × ℤ) → Bool
-all_narrow [] = true
-all_narrow (t ∷ ts) = is_narrow t.1 && all_narrow ts
-
+-- The factor of the terms times the constant can be computed with numbers that fit. Without terms it isn't needed.
 abbrev pub constant_fits : Terms → Rational → Bool
 constant_fits [] c = true
 constant_fits (t ∷ ts) c = product_fits (factor (t ∷ ts)) c
 
 -- The row of an inequality, or none where one of its numbers is too large: before, on the way to the constant, or after.
 unfoldable pub tightened : Types → Claim → Option Row
-tightened types k = (λ (r : Row). if is_sized k.left && (constant_fits k.left.terms k.left.rest && (all_narrow r.terms && is_narrow r.rest)) then Some r else None) (tight_row types k.left.terms k.left.rest k.strict)
+tightened types k = (λ (r : Row). if is_sized k.left && (constant_fits k.left.terms k.left.rest && (are_narrow r.terms && is_narrow r.rest)) then Some r else None) (tight_row types k.left.terms k.left.rest k.strict)
 
+-- The row before the other rows, or none where it is missing or they are.
 abbrev pub with_row : Option Row → Option (List Row) → Option (List Row)
 with_row (Some r) (Some rows) = Some (r ∷ rows)
 with_row (Some r) None = None
 with_row None rows = None
 
+-- The rows of all claims, in order, or none where a number of one of them is too large.
 abbrev pub all_tightened : Types → List Claim → Option (List Row)
 all_tightened types [] = Some []
 all_tightened types (k ∷ ks) = with_row (tightened types k) (all_tightened types ks)

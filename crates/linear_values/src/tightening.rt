@@ -7,7 +7,8 @@ ghost use Rattle.heyvl_num.specs.Value.{is_zeroʳ};
 ghost use Rattle.linear_rows.specs.Terms.{is_narrow};
 ghost use Rattle.linear_values.specs.Lin.{AreNormal, all_fit, is_sized as lin_is_sized};
 ghost use Rattle.linear_rows.specs.Numbers.{fits as number_fits};
-ghost use Rattle.linear_values.specs.Tightening.{factor, whole_terms, all_narrow, sign_of, rounded as rounded_constant, are_whole as variables_are_whole, tightened as row_tightened};
+ghost use Rattle.linear_rows.specs.TermResults.{are_narrow};
+ghost use Rattle.linear_values.specs.Tightening.{factor, whole_terms, sign_of, rounded as rounded_constant, are_whole as variables_are_whole, tightened as row_tightened};
 ghost use Rattle.linear_rows.specs.VariableTypes.{is_integral};
 ghost use Rattle.linear_values.specs.WholeTimes.{AreWholeTimes};
 ghost use Rattle.heylo_formula.specs.Typing.{types_in};
@@ -66,7 +67,7 @@ fn factor_of(terms: &[(u32, Frac)]) -> Option<Frac>
     requires some { 0 < length terms.now }
     requires normal { AreNormal terms.now }
     requires sized { all_fit terms.now ≡ true }
-    ensures { MatchOption result (all_narrow (whole_terms (factor terms.now) terms.now) ≡ false) (λ w. w ≡ factor terms.now) }
+    ensures { MatchOption result (are_narrow (whole_terms (factor terms.now) terms.now) ≡ false) (λ w. w ≡ factor terms.now) }
 {
     match terms.split_first() {
         None => None,
@@ -111,7 +112,7 @@ fn coefficients(
     requires positive { pos 0 <ℤ scale }
     requires sized { all_fit terms.now ≡ true }
     requires whole { AreWholeTimes factor.now terms.now }
-    ensures { IfOk result (λ o. MatchOption o (all_narrow (whole_terms (ratio scale 1 *ʳ factor.now) terms.now) ≡ false) (λ v. (v.items ≡ whole_terms (ratio scale 1 *ʳ factor.now) terms.now) × (all_narrow (whole_terms (ratio scale 1 *ʳ factor.now) terms.now) ≡ true))) }
+    ensures { IfOk result (λ o. MatchOption o (are_narrow (whole_terms (ratio scale 1 *ʳ factor.now) terms.now) ≡ false) (λ v. (v.items ≡ whole_terms (ratio scale 1 *ʳ factor.now) terms.now) × (are_narrow (whole_terms (ratio scale 1 *ʳ factor.now) terms.now) ≡ true))) }
 {
     let mut made = Vec::with_capacity(alloc, terms.len())?;
     let mut rest = terms;
@@ -178,7 +179,7 @@ fn row(
     requires positive { pos 0 <ℤ scale }
     requires sized { all_fit terms.now ≡ true }
     requires whole { AreWholeTimes factor.now terms.now }
-    ensures { IfOk result (λ o. o ≡ (if all_narrow (whole_terms (ratio scale 1 *ʳ factor.now) terms.now) then Some (record { terms = whole_terms (ratio scale 1 *ʳ factor.now) terms.now; rest = rest; strict = strict }) else None)) }
+    ensures { IfOk result (λ o. o ≡ (if are_narrow (whole_terms (ratio scale 1 *ʳ factor.now) terms.now) then Some (record { terms = whole_terms (ratio scale 1 *ʳ factor.now) terms.now; rest = rest; strict = strict }) else None)) }
 {
     match coefficients(alloc, factor, scale, terms)? {
         None => Ok(None),

@@ -19,8 +19,8 @@ use Rattle.loop_encodings.specs.internal.Ready.{AreReady, AreReadyArms, IsReady,
 use Rattle.loop_encodings.proofs.AppendedActs.{last_one}
 
 -- What is to be shown of one act: what is made of it, and its variables.
-abbrev pub IsMade : List TypedProcedure → TypedProcedure → List Variable → List Variable → Act → List A.Act → List A.Act → Type 0
-IsMade ps p start vars a xs ys = (acts_of ys ≡ join (acts_of xs) (encoded_act ps p (length start) a)) × (vars ≡ start ++ fresh_of_act ps a)
+abbrev pub AppendsAct : List TypedProcedure → TypedProcedure → List Variable → List Variable → Act → List A.Act → List A.Act → Type 0
+AppendsAct ps p start vars a xs ys = (acts_of ys ≡ join (acts_of xs) (encoded_act ps p (length start) a)) × (vars ≡ start ++ fresh_of_act ps a)
 
 module _ (ps : List TypedProcedure) (p : TypedProcedure) (start : List Variable) (a : Act) (xs ys : List A.Act) where
   -- ---- An act that stays as it is
@@ -28,7 +28,7 @@ module _ (ps : List TypedProcedure) (p : TypedProcedure) (start : List Variable)
   abbrev pub Stays : Act → Type 0
   Stays b = (encoded_act ps p (length start) b ≡ Acts.next b Acts.done) × (fresh_of_act ps b ≡ [])
 
-  pub stay_made : (b : Act) → a ≡ b → Stays b → acts_of ys ≡ join (acts_of xs) (Acts.next a Acts.done) → IsMade ps p start start a xs ys
+  pub stay_made : (b : Act) → a ≡ b → Stays b → acts_of ys ≡ join (acts_of xs) (Acts.next a Acts.done) → AppendsAct ps p start start a xs ys
   stay_made b is h e = (e ∙ ap (λ r. join (acts_of xs) r) (sym k.0), sym (append-nil start) ∙ ap (λ l. start ++ l) (sym k.1))
     where
       k : Stays a
@@ -46,7 +46,7 @@ module _ (ps : List TypedProcedure) (p : TypedProcedure) (start : List Variable)
     pub last_room : (n : ℕ) (vars : List Variable) → length start + length (fresh_of_act ps a) ≤ n → vars ≡ start ++ fresh_of_arms ps arms → length vars + length (fresh ps e) ≤ n
     last_room n vars h f = let l = length-append (fresh_of_arms ps arms) (fresh ps e) in let k = ap (λ b. length (fresh_of_act ps b)) is in let m = ap (λ (l : List Variable). length l) f ∙ length-append start (fresh_of_arms ps arms) in omega (arith, h, l, k, m)
 
-    pub if_made : (vars vars' : List Variable) (made : Vec (C.Cond × Vec A.Act Global) Global) (last : Vec A.Act Global) → ys ≡ xs ++ A.If made last span ∷ [] → arms_of made.items ≡ encoded_arms ps p (length start) arms → vars ≡ start ++ fresh_of_arms ps arms → acts_of last.items ≡ encoded ps p (length vars) e → vars' ≡ vars ++ fresh ps e → IsMade ps p start vars' a xs ys
+    pub if_made : (vars vars' : List Variable) (made : Vec (C.Cond × Vec A.Act Global) Global) (last : Vec A.Act Global) → ys ≡ xs ++ A.If made last span ∷ [] → arms_of made.items ≡ encoded_arms ps p (length start) arms → vars ≡ start ++ fresh_of_arms ps arms → acts_of last.items ≡ encoded ps p (length vars) e → vars' ≡ vars ++ fresh ps e → AppendsAct ps p start vars' a xs ys
     if_made vars vars' made last i g f k f' = (
       last_one xs ys (A.If made last span) (Act.ifs (arms_of made.items) (acts_of last.items) span) i (if_act made last span)
           ∙ (ap (λ r. join (acts_of xs) (Acts.next (Act.ifs r (acts_of last.items) span) Acts.done)) g
@@ -67,7 +67,7 @@ module _ (ps : List TypedProcedure) (p : TypedProcedure) (start : List Variable)
     pub right_room : (n : ℕ) (vars : List Variable) → length start + length (fresh_of_act ps a) ≤ n → vars ≡ start ++ fresh ps b → length vars + length (fresh ps d) ≤ n
     right_room n vars h f = let l = length-append (fresh ps b) (fresh ps d) in let k = ap (λ x. length (fresh_of_act ps x)) is in let m = ap (λ (l : List Variable). length l) f ∙ length-append start (fresh ps b) in omega (arith, h, l, k, m)
 
-    pub pick_made : (vars vars' : List Variable) (first second : Vec A.Act Global) → ys ≡ xs ++ A.Pick up first second span ∷ [] → acts_of first.items ≡ encoded ps p (length start) b → vars ≡ start ++ fresh ps b → acts_of second.items ≡ encoded ps p (length vars) d → vars' ≡ vars ++ fresh ps d → IsMade ps p start vars' a xs ys
+    pub pick_made : (vars vars' : List Variable) (first second : Vec A.Act Global) → ys ≡ xs ++ A.Pick up first second span ∷ [] → acts_of first.items ≡ encoded ps p (length start) b → vars ≡ start ++ fresh ps b → acts_of second.items ≡ encoded ps p (length vars) d → vars' ≡ vars ++ fresh ps d → AppendsAct ps p start vars' a xs ys
     pick_made vars vars' first second i g f k f' = (
       last_one xs ys (A.Pick up first second span) (Act.pick up (acts_of first.items) (acts_of second.items) span) i (pick_act up first second span)
           ∙ (ap (λ r. join (acts_of xs) (Acts.next (Act.pick up r (acts_of second.items) span) Acts.done)) g
@@ -85,7 +85,7 @@ module _ (ps : List TypedProcedure) (p : TypedProcedure) (start : List Variable)
     pub loop_room : (n : ℕ) → length start + length (fresh_of_act ps a) ≤ n → length start + length (fresh ps b) ≤ n
     loop_room n k = let l = ap (λ x. length (fresh_of_act ps x)) is in omega (arith, k, l)
 
-    pub loop_made : (vars : List Variable) (body : Acts) → body ≡ encoded ps p (length start) b → vars ≡ start ++ fresh ps b → acts_of ys ≡ join (acts_of xs) (encoded_loop p.co (types_of p) h (modified h.scope b) body) → IsMade ps p start vars a xs ys
+    pub loop_made : (vars : List Variable) (body : Acts) → body ≡ encoded ps p (length start) b → vars ≡ start ++ fresh ps b → acts_of ys ≡ join (acts_of xs) (encoded_loop p.co (types_of p) h (modified h.scope b) body) → AppendsAct ps p start vars a xs ys
     loop_made vars body e f k = (
       k ∙ (ap (λ r. join (acts_of xs) (encoded_loop p.co (types_of p) h (modified h.scope b) r)) e ∙ ap (λ x. join (acts_of xs) (encoded_act ps p (length start) x)) (sym is)),
       f ∙ ap (λ x. start ++ fresh_of_act ps x) (sym is),
@@ -102,7 +102,7 @@ module _ (ps : List TypedProcedure) (p : TypedProcedure) (start : List Variable)
 
     pub call_made : (vars : List Variable) (callee : TypedProcedure) (first : ℕ) (zs : List A.Act) → procedure_at ps q ≡ callee → first ≡ length start → vars ≡ start ++ (callee.inputs ++ callee.outputs)
         → ((rest : Acts) → join (acts_of zs) rest ≡ join (acts_of xs) (sets span first es (Acts.next (Act.check (must p.co) (shifted first callee.pre) span) rest)))
-        → acts_of ys ≡ join (acts_of zs) (returned p.co span first ts callee) → IsMade ps p start vars a xs ys
+        → acts_of ys ≡ join (acts_of zs) (returned p.co span first ts callee) → AppendsAct ps p start vars a xs ys
     call_made vars callee first zs there from f entry back = (
       back ∙ (entry (returned p.co span first ts callee)
           ∙ (ap (λ m. join (acts_of xs) (encoded_call p.co span m ts callee es)) from

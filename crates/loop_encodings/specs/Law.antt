@@ -32,6 +32,7 @@ pub record IsShownThroughout (ps : List TypedProcedure) (p : ℕ) : Type 0 where
   pub itself : IsShown ps p
   pub reached : (q : ℕ) → Reaches ps p q → IsShown ps q
 
+-- Where the bound goals of a program hold, and of each procedure that it reaches, which is a program too, its bound holds over all runs.
 abbrev pub ShownBoundsHold : Type 0
 ShownBoundsHold = (ps : List TypedProcedure) (p : ℕ) → Each (MeetsRules ps) ps → p < length ps → IsShownThroughout ps p → Bound ps p
 

@@ -15,7 +15,7 @@ use Rattle.heyvl_acts.specs.declared.acts.Act as A
 use Rattle.lower_rules.specs.OneLoop.{OneLoop, IsOneLoop}
 use Rattle.lower_rules.specs.internal.Shapes.{HasNoLoop, IsNoLoop, all_straight, is_straight}
 use Rattle.lower_rules.proofs.UniqueLoops.{no_loop_in, same_parts, straight_no_loops}
-use Rattle.act_walks.proofs.exported.ActsInOrder.{acts_from, arms_from, next_act, next_arm}
+use Rattle.heyvl_acts.proofs.exported.ActsInOrder.{acts_from, arms_from, next_act, next_arm}
 
 -- ---- Whether acts are straight
 

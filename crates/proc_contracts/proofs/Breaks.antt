@@ -7,7 +7,7 @@ use Rattle.heyvl_places.specs.declared.spans.Span.{Span}
 use Rattle.heylo_formula.specs.declared.forms.Cond as C
 use Rattle.heyvl_acts.specs.declared.acts.Act as A
 use Rattle.std.proofs.lemmas.Bool.{false≢true}
-use Rattle.act_walks.proofs.exported.ActsInOrder.{acts_from, arms_from, next_act, next_arm, of_pick}
+use Rattle.heyvl_acts.proofs.exported.ActsInOrder.{acts_from, arms_from, next_act, next_arm, of_pick}
 use Rattle.heyvl_acts.specs.Acts.{Act, Acts}
 use Rattle.heyvl_acts.specs.Places.{in_order, inside}
 use Rattle.heyvl_acts.specs.PlainActs.{act_of, acts_of}

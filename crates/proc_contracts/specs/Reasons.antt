@@ -3,6 +3,7 @@ use Rattle.std.specs.Prelude.{Option, Some, None}
 use Rattle.heyvl_acts.specs.Program.{Reason}
 use Rattle.proc_contracts.specs.declared.reasons.WhyNot.{WhyNot}
 
+-- The plain reason that a reason of the program stands for.
 abbrev pub plain : WhyNot → Reason
 plain WhyNot.NoBody = Reason.no_body
 plain WhyNot.NoWlp = Reason.no_wlp

@@ -14,10 +14,12 @@ use Rattle.quant_algebra.specs.ExactOperators.{and_then, exact_differenceᵛ, ex
 use Rattle.quant_algebra.specs.declared.answers.At.{At}
 use Rattle.quant_algebra.specs.declared.answers.Held.{Held}
 
+-- The value that the answer gives, or none where a number doesn't fit.
 abbrev pub at_of : At → Option Value
 at_of (At.Value v) = Some (value_of v)
 at_of At.Bits = None
 
+-- The truth that the answer gives, or none where a number doesn't fit.
 abbrev pub held_of : Held → Option Bool
 held_of Held.Yes = Some true
 held_of Held.No = Some false

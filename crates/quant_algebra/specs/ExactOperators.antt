@@ -25,6 +25,7 @@ less_or Less x y = x
 less_or Equal x y = y
 less_or Greater x y = y
 
+-- Whether the order is equal.
 abbrev pub is_equal : Ordering → Bool
 is_equal Less = false
 is_equal Equal = true
@@ -49,20 +50,26 @@ exact_scaleᵛ w x = exact_productᵛ (finite w) x
 abbrev pub exact_minᵛ : Value → Value → Option Value
 exact_minᵛ x y = option_map (λ o. at_most_or o x y) (exact_orderᵛ x y)
 
+-- The greater of two values, or none where their comparison doesn't fit.
 abbrev pub exact_maxᵛ : Value → Value → Option Value
 exact_maxᵛ x y = option_map (λ o. at_most_or o y x) (exact_orderᵛ x y)
 
+-- Infinity where the first is at most the second, else the second; or none where their comparison doesn't fit.
 abbrev pub exact_impliesᵛ : Value → Value → Option Value
 exact_impliesᵛ x y = option_map (λ o. at_most_or o infinite y) (exact_orderᵛ x y)
 
+-- The second where the first is below it, else 0; or none where their comparison doesn't fit.
 abbrev pub exact_coimpliesᵛ : Value → Value → Option Value
 exact_coimpliesᵛ x y = option_map (λ o. less_or o y zeroᵛ) (exact_orderᵛ x y)
 
+-- Whether the first is at most the second, or none where their comparison doesn't fit.
 abbrev pub exact_leqᵛ : Value → Value → Option Bool
 exact_leqᵛ x y = option_map (λ o. at_most_or o true false) (exact_orderᵛ x y)
 
+-- Whether the first is below the second, or none where their comparison doesn't fit.
 abbrev pub exact_lessᵛ : Value → Value → Option Bool
 exact_lessᵛ x y = option_map (λ o. less_or o true false) (exact_orderᵛ x y)
 
+-- Whether the two values are equal, or none where their comparison doesn't fit.
 abbrev pub exact_equalᵛ : Value → Value → Option Bool
 exact_equalᵛ x y = option_map is_equal (exact_orderᵛ x y)

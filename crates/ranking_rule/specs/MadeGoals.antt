@@ -11,6 +11,7 @@ use Rattle.heyvl_acts.specs.Acts.{Variable, type_list}
 use Rattle.vp_generator.specs.Limits.{IsSmall}
 use Rattle.vp_generator.specs.PrenexedGoals.{prenexed_goal}
 
+-- The names of these variables, in their order.
 abbrev pub names : List Variable → List (List ℕ)
 names vs = map (λ v. v.name) vs
 

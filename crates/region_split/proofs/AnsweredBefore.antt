@@ -19,7 +19,7 @@ use Rattle.linear_form.specs.PlainPaths.{taken_of, atom_of}
 use Rattle.linear_form.specs.declared.paths.Taken as T
 use Rattle.linear_form.specs.RowLists.{ArePathRows}
 use Rattle.linear_form.specs.RowListLaws.{HasFirstRows, RepeatedRowsStand}
-use Rattle.linear_form.specs.Cells.{IsKept, GoesOn}
+use Rattle.linear_form.specs.Cells.{IsKeptPath, GoesOn}
 use Rattle.linear_form.proofs.exported.PathSteps.{asked_onto}
 use Rattle.linear_form.proofs.exported.Places.{rows_counted, path_rows_first, claims_counted}
 use Rattle.goal_answers.specs.declared.causes.Cause.TheVariants.{Bits}
@@ -54,7 +54,7 @@ contained rows r i s = subst (Contains rows) s.same (Contains-get_or rows i _ s.
 
 -- what the law says of a question that the path has answered
 pub record IsAnsweredBefore (g : Goal) (ps : List Taken) (q : Atom) (held : Bool) (i n : ℕ) : Type 0 where
-  pub kept : IsKept g (onto ps q held)
+  pub kept : IsKeptPath g (onto ps q held)
   pub dropped : IsDroppedBy g (onto ps q (not held)) ((i, 1) ∷ ((n, 1) ∷ []))
 
 pub answered_yes : (g : Goal) (ps : List Taken) (q : Atom) (t : Trail) (rows : AnswerRows) (i n : ℕ) → RepeatedRowsStand → IsAsked g ps q → AreAnswerRows g ps q t rows → StandsIn t.rows.items rows.yes i → Clash rows.yes rows.no → n ≡ length t.rows.items → IsAnsweredBefore g ps q true i n

@@ -21,7 +21,7 @@ use Rattle.linear_rows.specs.Solutions.{sum_of, MeetsAt, IsSolvable}
 use Rattle.linear_values.specs.Tightening.{tightened}
 use Rattle.linear_rows.specs.VariableOrder.{order_of}
 use Rattle.linear_rows.specs.GreedyPoint.{Chooses}
-use Rattle.linear_form.specs.Cells.{IsKept, IsFront, IsFalseCell}
+use Rattle.linear_form.specs.Cells.{IsKeptPath, IsFront, IsFalseCell}
 use Rattle.goal_answers.specs.Trees.{Tree, depth}
 use Rattle.region_split.specs.Walk.{AreCells, AreBefore, IsReached, IsSettled}
 use Rattle.region_split.specs.WalkTree.{IsWalkTree}
@@ -32,7 +32,7 @@ use Rattle.region_split.specs.Decisions.{IsFalsified}
 abbrev plain_goal : Goal
 plain_goal = record { upper = true; stated = Form.number infinite; found = Form.variable 0; types = Ty.UInt ∷ []; names = []; own = 0 }
 
-plain_kept : IsKept plain_goal []
+plain_kept : IsKeptPath plain_goal []
 plain_kept = record { rows = []; are_rows = refl; solvable = record { at_values = λ x. zeroʳ; meets = All-nil _ } }
 
 holds_plainly : IsPlainAt plain_goal []
@@ -54,7 +54,7 @@ false_goal = record { upper = true; stated = Form.number (finite zeroʳ); found 
 below_zero : Row
 below_zero = record { terms = []; rest = negsuc 0; strict = true }
 
-false_kept : IsKept false_goal []
+false_kept : IsKeptPath false_goal []
 false_kept = record { rows = []; are_rows = refl; solvable = record { at_values = λ x. zeroʳ; meets = All-nil _ } }
 
 false_end : end_at false_goal [] ≡ done (zero, one)

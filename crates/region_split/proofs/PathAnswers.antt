@@ -18,7 +18,7 @@ use Rattle.linear_form.specs.LastingPaths.{IsNoEnd}
 use Rattle.linear_rows.specs.Solutions.{IsSolvable}
 use Rattle.linear_rows.specs.Combination.{IsContradiction}
 use Rattle.linear_rows.specs.GreedyPoint.{IsGreedyPoint}
-use Rattle.linear_form.specs.Cells.{IsDropped, IsKept, GoesOn}
+use Rattle.linear_form.specs.Cells.{IsDropped, IsKeptPath, GoesOn}
 use Rattle.linear_form.specs.declared.questions.Ask as K
 use Rattle.linear_form.specs.declared.paths.Atom as A
 use Rattle.linear_values.specs.declared.lin.Lin as L
@@ -73,7 +73,7 @@ same_rows g ps denied rows others e f = let k = sym e ∙ f in cc
 pub is_dropped : (g : Goal) (ps : List Taken) (ms : List (ℕ × ℕ)) → IsRefutedWith g ps false ms → IsDropped g ps
 is_dropped g ps ms r = record { rows = r.rows; are_rows = r.are_rows; unsolvable = contradiction_unsolvable ms r.rows r.contradiction }
 
-pub kept_where_met : (g : Goal) (ps : List Taken) → IsMetAt g ps false → IsKept g ps
+pub kept_where_met : (g : Goal) (ps : List Taken) → IsMetAt g ps false → IsKeptPath g ps
 kept_where_met g ps p = record { rows = p.rows; are_rows = p.are_rows; solvable = p.solvable }
 
 -- ---- What is asked
@@ -83,11 +83,11 @@ is_bits (done e) h = absurd h
 is_bits bits h = refl
 is_bits (ask q y n) h = absurd h
 
-pub bits_there : (g : Goal) (ps : List Taken) → IsKept g ps → Answers K.TheVariants.Bits (end_at g ps) → EndsWalk g ps false Bits
+pub bits_there : (g : Goal) (ps : List Taken) → IsKeptPath g ps → Answers K.TheVariants.Bits (end_at g ps) → EndsWalk g ps false Bits
 bits_there g ps k a cells r linear = (linear, IsLarge.in_values ps cells r k (is_bits (end_at g ps) a))
 
 -- the next question
-pub question_there : (g : Goal) (ps : List Taken) (q : A.Atom) → IsKept g ps → Answers (K.TheVariants.Decide q) (end_at g ps) → GoesOn g ps (atom_of q)
+pub question_there : (g : Goal) (ps : List Taken) (q : A.Atom) → IsKeptPath g ps → Answers (K.TheVariants.Decide q) (end_at g ps) → GoesOn g ps (atom_of q)
 question_there g ps q k a = go (end_at g ps) refl a
   where
     go : (t : Query Ends) → end_at g ps ≡ t → Answers (K.TheVariants.Decide q) t → GoesOn g ps (atom_of q)
@@ -111,7 +111,7 @@ ends_there x y bits a = absurd a
 ends_there x y (ask q r n) a = absurd a
 
 -- an end
-pub end_there : (g : Goal) (ps : List Taken) (x y : Option L.Lin) (plain : Bool) → IsKept g ps → Answers (K.TheVariants.End x y) (end_at g ps) → plain ≡ is_none (denial g.upper (linear_of x, linear_of y)) → IsEnd g ps plain
+pub end_there : (g : Goal) (ps : List Taken) (x y : Option L.Lin) (plain : Bool) → IsKeptPath g ps → Answers (K.TheVariants.End x y) (end_at g ps) → plain ≡ is_none (denial g.upper (linear_of x, linear_of y)) → IsEnd g ps plain
 end_there g ps x y plain k a h =
     let e = ends_there x y (end_at g ps) a in
     record {

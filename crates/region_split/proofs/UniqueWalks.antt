@@ -14,7 +14,7 @@ use Rattle.linear_form.specs.PathRows.{IsPlainAt, denial, denial_at, rows_of}
 use Rattle.linear_form.specs.Splits.{split_at}
 use Rattle.linear_values.specs.Tightening.{Claim}
 use Rattle.linear_rows.specs.Solutions.{IsSolvable}
-use Rattle.linear_form.specs.Cells.{IsDropped, IsKept, GoesOn}
+use Rattle.linear_form.specs.Cells.{IsDropped, IsKeptPath, GoesOn}
 use Rattle.linear_rows.proofs.exported.Combinations.{contradiction_unsolvable}
 use Rattle.goal_answers.specs.Trees.{Tree, depth}
 use Rattle.farkas_check.specs.AcceptedCertificates.{IsRefuted, has_denied}
@@ -31,7 +31,7 @@ use Rattle.region_split.proofs.WalkMoves.{taken, snoc_first, snoc_last, snoc_not
 
 -- ---- What stands at a path is one thing
 
-pub kept_or_dropped : (g : Goal) (ps : List Taken) → IsKept g ps → IsDropped g ps → ⊥
+pub kept_or_dropped : (g : Goal) (ps : List Taken) → IsKeptPath g ps → IsDropped g ps → ⊥
 kept_or_dropped g ps k d = d.unsolvable (subst IsSolvable (same_rows g ps false k.rows d.rows k.are_rows d.are_rows) k.solvable)
 
 pub end_or_question : (g : Goal) (ps : List Taken) (e : Ends) (q : Atom) → end_at g ps ≡ done e → Asks g ps q → ⊥
@@ -44,7 +44,7 @@ one_question g ps q r a b = let k = sym a.question ∙ b.question in cc
 plain_undenied : (g : Goal) (ps : List Taken) → IsPlainAt g ps → has_denied g ps ≡ false
 plain_undenied g ps p = ap (λ t. is_some (denial_at g.upper t)) p.at_end ∙ ap is_some p.plain
 
-plain_or_piece : (g : Goal) (n : ℕ) (ps : List Taken) (t : Tree) → IsKept g ps → IsPlainAt g ps → IsPieceTree g n ps t → ⊥
+plain_or_piece : (g : Goal) (n : ℕ) (ps : List Taken) (t : Tree) → IsKeptPath g ps → IsPlainAt g ps → IsPieceTree g n ps t → ⊥
 plain_or_piece g _ _ _ k p (IsPieceTree.refuted n ps ms r) = contradiction_unsolvable ms r.rows r.contradiction (subst IsSolvable (same_rows g ps false k.rows r.rows k.are_rows (subst (λ b. rows_of g ps b ≡ Some r.rows) (plain_undenied g ps p) r.are_rows)) k.solvable)
 plain_or_piece g _ _ _ k p (IsPieceTree.halves n ps x m t u s a b) = s.false_piece.not_plain p
 

@@ -9,7 +9,7 @@ use Rattle.linear_form.specs.Paths.{end_at}
 use Rattle.linear_form.specs.PathRows.{rows_of, IsPlainAt}
 use Rattle.linear_form.specs.Nonlinear.{nonlinear_product}
 use Rattle.linear_rows.specs.Row.{Row}
-use Rattle.linear_form.specs.Cells.{IsDropped, IsKept, IsCell}
+use Rattle.linear_form.specs.Cells.{IsDropped, IsKeptPath, IsCell}
 use Rattle.linear_rows.specs.Terms.{is_narrow}
 use Rattle.linear_elim.specs.Elimination.Outcome.{too_many}
 use Rattle.linear_elim.specs.Answers.{eliminated, IsTooGreat, IsShortLimited}
@@ -61,7 +61,7 @@ pub record HasManyRows (g : Goal) (steps : ℕ) (count : ℕ) : Type 0 where
 -- denied goal at a dropped front, or a row of a piece; the whole number at which a piece would be split; or a number of the rows that
 -- it eliminates, where the elimination without dominated rows meets a limit too.
 pub data IsLarge (g : Goal) : Type 0 where
-  in_values : (ps : List Taken) (cells : List (List Taken)) → IsReached g ps cells → IsKept g ps → end_at g ps ≡ bits → IsLarge g
+  in_values : (ps : List Taken) (cells : List (List Taken)) → IsReached g ps cells → IsKeptPath g ps → end_at g ps ≡ bits → IsLarge g
   in_rows : (ps : List Taken) (cells : List (List Taken)) → IsReached g ps cells → rows_of g ps false ≡ None → IsLarge g
   in_denied_goal : (ps : List Taken) (cells : List (List Taken)) → IsReached g ps cells → IsDropped g ps → rows_of g ps true ≡ None → IsLarge g
   in_piece : (n : ℕ) (ps : List Taken) (cells : List (List Taken)) → IsLookedAt g n ps cells → rows_of g ps true ≡ None → IsLarge g

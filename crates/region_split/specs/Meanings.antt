@@ -11,6 +11,7 @@ pub record Fails (g : Goal) (point : List Val) : Type 0 where
   pub typed : IsTyped g.types point
   pub fails : HoldsIn g (environment point) → ⊥
 
+-- What a decision says: the goal holds in each state, or it fails in the one that is shown. An unknown one says nothing.
 abbrev pub Tells : Goal → Decision → Type 0
 Tells g (Proved t) = Holds g
 Tells g (Falsified point) = Fails g point.items

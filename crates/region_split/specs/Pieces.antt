@@ -49,6 +49,7 @@ pub record IsSplitAt (g : Goal) (n : ℕ) (ps : List Taken) (x : ℕ) (m : ℤ) 
 abbrev pub first_half : List Taken → ℕ → ℤ → List Taken
 first_half ps x m = onto ps (split_at x m) true
 
+-- The second half of a piece, in which the variable x isn't at most m.
 abbrev pub second_half : List Taken → ℕ → ℤ → List Taken
 second_half ps x m = onto ps (split_at x m) false
 

@@ -9,7 +9,7 @@ use Rattle.linear_form.specs.Query.Query.{done}
 use Rattle.linear_form.specs.Questions.{Ends}
 use Rattle.linear_form.specs.Paths.{end_at}
 use Rattle.linear_form.specs.PathRows.{rows_of, IsPlainAt}
-use Rattle.linear_form.specs.Cells.{IsDropped, IsKept, GoesOn, IsFalseCell}
+use Rattle.linear_form.specs.Cells.{IsDropped, IsKeptPath, GoesOn, IsFalseCell}
 use Rattle.farkas_check.specs.AcceptedCertificates.{has_denied}
 
 -- The rows of which a certificate speaks at the path can be stated: with the denied goal among them at an end at which the goal
@@ -35,7 +35,7 @@ pub data IsSettled (g : Goal) (ps : List Taken) : Type 0 where
 -- comes to something.
 pub data AreCells (g : Goal) : List Taken → List (List Taken) → Type 0 where
   dropped : (ps : List Taken) → IsDropped g ps → IsStated g ps → AreCells g ps []
-  end : (ps : List Taken) (e : Ends) → IsKept g ps → end_at g ps ≡ done e → IsSettled g ps → AreCells g ps (ps ∷ [])
+  end : (ps : List Taken) (e : Ends) → IsKeptPath g ps → end_at g ps ≡ done e → IsSettled g ps → AreCells g ps (ps ∷ [])
   question : (ps : List Taken) (q : Atom) (cs ds : List (List Taken)) → GoesOn g ps q → AreCells g (onto ps q true) cs → AreCells g (onto ps q false) ds → AreCells g ps (cs ++ ds)
 
 -- The cells before a front that the walk reaches, in order: it got past each front before.

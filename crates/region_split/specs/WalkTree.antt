@@ -7,7 +7,7 @@ use Rattle.linear_form.specs.Query.Query.{done}
 use Rattle.linear_form.specs.Questions.{Ends}
 use Rattle.linear_form.specs.Paths.{end_at}
 use Rattle.linear_form.specs.PathRows.{IsPlainAt}
-use Rattle.linear_form.specs.Cells.{IsDropped, IsKept, GoesOn}
+use Rattle.linear_form.specs.Cells.{IsDropped, IsKeptPath, GoesOn}
 use Rattle.goal_answers.specs.Trees.{Tree}
 use Rattle.farkas_check.specs.AcceptedCertificates.{IsRefuted}
 use Rattle.region_split.specs.Pieces.{IsSplitAt, first_half, second_half}
@@ -22,5 +22,5 @@ pub data IsPieceTree (g : Goal) : ℕ → List Taken → Tree → Type 0 where
 pub data IsWalkTree (g : Goal) : List Taken → Tree → Type 0 where
   dropped : (ps : List Taken) (ms : List (ℕ × ℕ)) → IsDropped g ps → IsRefuted g ps ms → IsWalkTree g ps (Tree.farkas ms)
   split : (ps : List Taken) (q : Atom) (t u : Tree) → GoesOn g ps q → IsWalkTree g (onto ps q true) t → IsWalkTree g (onto ps q false) u → IsWalkTree g ps (Tree.split t u)
-  pieces : (ps : List Taken) (e : Ends) (t : Tree) → IsKept g ps → end_at g ps ≡ done e → IsPieceTree g 0 ps t → IsWalkTree g ps t
-  plain : (ps : List Taken) → IsKept g ps → IsPlainAt g ps → IsWalkTree g ps Tree.plain
+  pieces : (ps : List Taken) (e : Ends) (t : Tree) → IsKeptPath g ps → end_at g ps ≡ done e → IsPieceTree g 0 ps t → IsWalkTree g ps t
+  plain : (ps : List Taken) → IsKeptPath g ps → IsPlainAt g ps → IsWalkTree g ps Tree.plain

@@ -9,7 +9,7 @@ ghost use Rattle.linear_form.specs.PlainPaths.{path_of, taken_of, atom_of};
 ghost use Rattle.linear_form.specs.Query.{onto};
 ghost use Rattle.linear_form.specs.RowLists.{ArePathRows};
 ghost use Rattle.region_split.specs.internal.Trails.{Stands};
-ghost use Rattle.region_split.specs.internal.Repeats.{IsAnswered, IsBoth};
+ghost use Rattle.region_split.specs.internal.Repeats.{IsRowAnswer, IsBoth};
 
 use crate::trail::{Trail, first_rows};
 use goal_answers::Cause;
@@ -56,7 +56,7 @@ fn row_of_answer(
     requires path { IsPath (goal_of goal.now) (path_of path.items ++ (taken_of answer ∷ [])) }
     requires rows { ArePathRows (goal_of goal.now) (path_of path.items) rows.items }
     requires comparison { length (answer_claims (atom_of answer.atom) answer.held) ≡ 1 }
-    ensures { IfOk result (λ a. IsAnswered (goal_of goal.now) path.items rows.items answer a) }
+    ensures { IfOk result (λ a. IsRowAnswer (goal_of goal.now) path.items rows.items answer a) }
 {
     path.push(answer)?;
     let list = next_row(alloc, goal, &path, rows)?;

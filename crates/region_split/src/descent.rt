@@ -3,7 +3,7 @@
 ghost use Rattle.std.specs.Prelude.{◌≡◌, ◌+◌, IfOk, None};
 ghost use Rattle.heylo_formula.specs.Goals.{goal_of};
 ghost use Rattle.heylo_formula.specs.TypedGoals.{IsTypedGoal};
-ghost use Rattle.linear_form.specs.Cells.{IsKept};
+ghost use Rattle.linear_form.specs.Cells.{IsKeptPath};
 ghost use Rattle.linear_form.specs.Nonlinear.{nonlinear_product};
 ghost use Rattle.linear_form.specs.Places.{IsOn};
 ghost use Rattle.linear_form.specs.PlainPaths.{path_of};
@@ -68,7 +68,7 @@ fn past<'a>(
     requires short { AreShort (goal_of goal.now) }
     requires linear { nonlinear_product (goal_of goal.now) ≡ None }
     requires stands { IsStandingWalk (goal_of goal.now) walk }
-    requires kept { IsKept (goal_of goal.now) (path_of walk.trail.path.items) }
+    requires kept { IsKeptPath (goal_of goal.now) (path_of walk.trail.path.items) }
     requires on { IsOn (goal_of goal.now) (path_of walk.trail.path.items) place }
     ensures { IfOk result (λ s. IsBelow (goal_of goal.now) (left_of (goal_of goal.now) (path_of walk.entry.trail.path.items) + 1) s) }
 {

@@ -5,7 +5,7 @@ ghost use Rattle.heylo_formula.specs.Goals.{Goal as PlainGoal, goal_of};
 ghost use Rattle.heylo_formula.specs.Typing.{types_in};
 ghost use Rattle.linear_form.specs.AskAnswers.{Answers};
 ghost use Rattle.linear_form.specs.Query.{Taken as PlainTaken};
-ghost use Rattle.linear_form.specs.Cells.{IsKept};
+ghost use Rattle.linear_form.specs.Cells.{IsKeptPath};
 ghost use Rattle.linear_form.specs.LastingPaths.{IsNoEnd};
 ghost use Rattle.linear_form.specs.Paths.{IsPath, end_at};
 ghost use Rattle.linear_values.specs.Tightening.{all_tightened};
@@ -200,7 +200,7 @@ fn reached<'a>(
 fn kept<'a>(alloc: Global, goal: &'a Goal, trail: Trail<'a>) -> Result<Front<'a>, AllocError>
     requires path { IsPath (goal_of goal.now) (path_of trail.path.items) }
     requires stands { Stands (goal_of goal.now) trail }
-    ensures { IsKept (goal_of goal.now) (path_of trail.entry.path.items) → IfOk result (λ f. IsSeen (goal_of goal.now) (path_of trail.entry.path.items) f) }
+    ensures { IsKeptPath (goal_of goal.now) (path_of trail.entry.path.items) → IfOk result (λ f. IsSeen (goal_of goal.now) (path_of trail.entry.path.items) f) }
 {
     let Reached { ask, place } = reached(alloc, goal, &trail.path, &trail.places)?;
     match ask {
@@ -212,7 +212,7 @@ fn kept<'a>(alloc: Global, goal: &'a Goal, trail: Trail<'a>) -> Result<Front<'a>
 
 /// The values of the two forms at an end, and whether the goal holds plainly there.
 pub fn end_of(goal: &Goal, stated: Option<Lin>, found: Option<Lin>) -> End
-    ensures { (ps : List PlainTaken) → IsKept (goal_of goal.now) ps → Answers (EndFound stated found) (end_at (goal_of goal.now) ps) → IsEndOf (goal_of goal.now) ps result }
+    ensures { (ps : List PlainTaken) → IsKeptPath (goal_of goal.now) ps → Answers (EndFound stated found) (end_at (goal_of goal.now) ps) → IsEndOf (goal_of goal.now) ps result }
 {
     let plain = holds_plainly(goal.upper, &stated, &found);
     End {

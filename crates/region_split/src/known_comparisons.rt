@@ -4,7 +4,7 @@ ghost use Rattle.std.specs.Prelude.{◌≡◌, List, true, false, IfOk, IfSome, 
 ghost use Rattle.heylo_formula.specs.declared.types.Ty.{Ty as PlainTy};
 ghost use Rattle.linear_form.specs.PlainPaths.{atom_of};
 ghost use Rattle.linear_values.specs.PlainValues.{lin_of};
-ghost use Rattle.region_split.specs.internal.KnownComparisons.{AreKnown, IsKnown, IsRecalled, IsRowOf, question_of};
+ghost use Rattle.region_split.specs.internal.KnownComparisons.{AreKnown, IsKnownQuestion, IsRecalled, IsRowOf, question_of};
 
 use crate::answer_rows::AnswerRows;
 use crate::clashes::clash;
@@ -70,7 +70,7 @@ pub fn make_known(
     rows: AnswerRows,
     index: usize,
 ) -> Result<Option<Known>, AllocError>
-    ensures { (types : List PlainTy) → IsRowOf types (atom_of atom.now) true rows.yes → IsRowOf types (atom_of atom.now) false rows.no → IfOk result (λ k. IfSome k (λ k. IsKnown types k)) }
+    ensures { (types : List PlainTy) → IsRowOf types (atom_of atom.now) true rows.yes → IsRowOf types (atom_of atom.now) false rows.no → IfOk result (λ k. IfSome k (λ k. IsKnownQuestion types k)) }
 {
     let Atom::Row(left, strict) = atom else {
         return Ok(None);
@@ -128,7 +128,7 @@ fn asks(known: &Known, atom: &Atom) -> bool
 
 /// The row of the answer.
 fn row_of(known: &Known, held: bool) -> &Row
-    ensures { (types : List PlainTy) → IsKnown types known.now → IsRowOf types (question_of known.now) held result.now }
+    ensures { (types : List PlainTy) → IsKnownQuestion types known.now → IsRowOf types (question_of known.now) held result.now }
 {
     if held { &known.yes } else { &known.no }
 }
@@ -149,7 +149,7 @@ pub fn row_of_last<'a>(visited: &'a [Known], index: usize, answer: &Taken) -> Op
 
 /// The answer whose row stands on the path, where one of them does at the index. Want of memory is the one error.
 fn answer(alloc: Global, known: &Known, rows: &[Row]) -> Result<Option<Recalled>, AllocError>
-    ensures { (types : List PlainTy) → IsKnown types known.now → IfOk result (λ r. IfSome r (λ r. IsRecalled types rows.now (question_of known.now) r)) }
+    ensures { (types : List PlainTy) → IsKnownQuestion types known.now → IfOk result (λ r. IfSome r (λ r. IsRecalled types rows.now (question_of known.now) r)) }
 {
     let index = known.index;
     if index >= rows.len() {

@@ -6,7 +6,7 @@ ghost use Rattle.linear_form.specs.PathRows.{answer_claims};
 ghost use Rattle.linear_form.specs.PlainPaths.{path_of, atom_of, taken_of};
 ghost use Rattle.linear_form.specs.Query.{Taken as PlainTaken};
 ghost use Rattle.linear_form.specs.RowLists.{ArePathRows};
-ghost use Rattle.region_split.specs.internal.KnownComparisons.{AreKnown, IsKnown};
+ghost use Rattle.region_split.specs.internal.KnownComparisons.{AreKnown, IsKnownQuestion};
 ghost use Rattle.heylo_formula.specs.declared.types.Ty.{Ty as PlainTy};
 ghost use Rattle.region_split.specs.internal.Trails.{Comes, Stands, StandsAt, IsWay, IsBack, IsShorter, ComesBy};
 
@@ -103,7 +103,7 @@ pub fn further<'a>(
 
 /// The trail with what is known of its next question. Want of memory is the one error.
 pub fn knowing<'a>(mut trail: Trail<'a>, known: Known) -> Result<Trail<'a>, AllocError>
-    ensures { (g : PlainGoal) → Stands g trail.entry → IsKnown g.types known → IfOk result (λ t. StandsAt g (path_of trail.entry.path.items) t) }
+    ensures { (g : PlainGoal) → Stands g trail.entry → IsKnownQuestion g.types known → IfOk result (λ t. StandsAt g (path_of trail.entry.path.items) t) }
 {
     trail.visited = forgotten(trail.visited, known.index);
     trail.visited.push(known)?;

@@ -1,7 +1,7 @@
 -- What the runs promise of a procedure, and of a loop with a ranking: bounds in every state, under every scheduler and for
 -- every number of steps.
 -- Source: this project's own.
-use Rattle.std.specs.Prelude.{ℕ, Bool, List, [], ◌∷◌, Option, Some, None}
+use Rattle.std.specs.Prelude.{ℕ, Bool, List, [], ◌∷◌}
 use Rattle.heyvl_num.specs.Rational.{Rational}
 use Rattle.heyvl_num.specs.Value.{zeroᵛ, ◌*ᵛ◌, ◌≤ᵛ◌}
 use Rattle.heyvl_num.specs.Value.Value.{finite}
@@ -36,11 +36,3 @@ at_test p h b s = record { procedure = p; items = Item.turn h b ∷ []; frames =
 -- The expected turns of a loop of the procedure, from its test on, times the step are at most the ranking in the first state.
 abbrev pub RankedBy : List TypedProcedure → ℕ → Head → Acts → Rational × Form → Type 0
 RankedBy ps p h b r = (s : List Val) → IsState (procedure_at ps p) s → (n : ℕ) (t : Tree) → finite r.0 *ᵛ turns_sum h.number (runs ps n (at_test p h b s) t) ≤ᵛ value r.1 (environment s) Choices.stop
-
--- The turns bound of a loop: that of its ranking, where it has one.
-abbrev pub TurnsBound : List TypedProcedure → ℕ → Head → Acts → Type 0
-TurnsBound ps p h b = ranked h.rank
-  where
-    ranked : Option (Rational × Form) → Type 0
-    ranked None = Unit {0}
-    ranked (Some r) = RankedBy ps p h b r

@@ -24,10 +24,12 @@ abbrev pub exact_term : Term → List Val → Option Val
 exact_term (Term.truth g) s = option_map Truth (exact_truth g s)
 exact_term (Term.number f) s = option_map (λ v. Num (finite_part v)) (exact_value f s)
 
+-- Whether each number that the values of these terms need fits.
 abbrev pub terms_fit : List Term → List Val → Bool
 terms_fit [] s = true
 terms_fit (e ∷ es) s = is_some (exact_term e s) && terms_fit es s
 
+-- Whether each number that the terms of a draw's parts need fits.
 abbrev pub parts_fit : List (Rational × Term) → List Val → Bool
 parts_fit [] s = true
 parts_fit (q ∷ qs) s = is_some (exact_term q.1 s) && parts_fit qs s
@@ -67,12 +69,14 @@ act_fits (Act.validate co span) c = true
 act_fits (Act.loop h b) c = is_some (exact_truth h.guard c.state)
 act_fits (Act.call xs p es span) c = terms_fit es c.state
 
+-- Whether each number that the item's step needs fits.
 abbrev pub item_fits : Item → Config → Bool
 item_fits (Item.act a) c = act_fits a c
 item_fits (Item.turn h b) c = is_some (exact_truth h.guard c.state)
 item_fits (Item.out x ty) c = true
 item_fits Item.back c = true
 
+-- Whether each number that the step of the first item needs fits. No item needs none.
 abbrev pub items_fit : List Item → Config → Bool
 items_fit [] c = true
 items_fit (i ∷ is) c = item_fits i c
@@ -82,9 +86,11 @@ abbrev pub frame_values : List Frame → ℕ
 frame_values [] = 0
 frame_values (f ∷ fs) = length f.state + frame_values fs
 
+-- The values of a configuration: those of its state, and of the states of its callers.
 abbrev pub values_in : Config → ℕ
 values_in c = length c.state + frame_values c.frames
 
+-- Whether one of the outcomes has more than 512 values.
 abbrev pub any_deep : Outcomes → Bool
 any_deep [] = false
 any_deep (x ∷ xs) = nat_lt 512 (values_in x.1) || any_deep xs
@@ -99,6 +105,7 @@ pub data Answer : Type 0 where
 abbrev pub limited : Outcomes → Answer
 limited cs = if any_deep cs then Answer.deep else Answer.next cs
 
+-- The outcomes within the limit of values, where the numbers fit; otherwise the answer that one does not.
 abbrev pub bounded : Bool → Outcomes → Answer
 bounded fits cs = if fits then limited cs else Answer.bits
 
@@ -106,9 +113,11 @@ bounded fits cs = if fits then limited cs else Answer.bits
 abbrev pub bounded_step : List TypedProcedure → Config → Decision → Answer
 bounded_step ps c d = bounded (items_fit c.items c) (step ps c d)
 
+-- The outcome of the definition that an outcome of the program stands for.
 abbrev pub outcome_of : List TypedProcedure → Rational × C.Config → Rational × Config
 outcome_of ps x = (x.0, config_of ps (stored x.1))
 
+-- The outcomes of the definition that those of the program stand for, in their order.
 abbrev pub outcomes_of : List TypedProcedure → List (Rational × C.Config) → Outcomes
 outcomes_of ps xs = map (outcome_of ps) xs
 

@@ -75,6 +75,7 @@ abbrev pub AreLists : List TypedProcedure → ℕ → ℕ → List Numbered → 
 AreLists ps start n items s [] = (n ≡ start) × (Each (IsItemOf ps n) items × IsState (procedure_at ps n) s)
 AreLists ps start n items s (f ∷ fs) = (m : ℕ) × (IsCalled ps m n items × (IsState (procedure_at ps n) s × AreLists ps start m f.0 f.1 fs))
 
+-- A configuration of these procedures: its items and states are those of the procedures that were called, and it counts the turns of each loop.
 pub record IsConfig (ps : List TypedProcedure) (c : Stored) : Type 0 where
   -- the procedure that runs
   pub running : ℕ

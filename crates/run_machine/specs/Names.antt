@@ -29,19 +29,10 @@ abbrev pub act_item : Option Act → Item
 act_item (Some a) = Item.act a
 act_item None = Item.back
 
+-- Where no loop is named, the item stands for a return.
 abbrev pub turn_item : Option Act → Item
 turn_item (Some (Act.loop h b)) = Item.turn h b
-turn_item (Some (Act.set x t span)) = Item.back
-turn_item (Some (Act.draw x ps span)) = Item.back
-turn_item (Some (Act.toss x f span)) = Item.back
-turn_item (Some (Act.any x up ty span)) = Item.back
-turn_item (Some (Act.reward f span)) = Item.back
-turn_item (Some (Act.ifs arms e span)) = Item.back
-turn_item (Some (Act.pick up a b span)) = Item.back
-turn_item (Some (Act.check kind f span)) = Item.back
-turn_item (Some (Act.validate co span)) = Item.back
-turn_item (Some (Act.call xs p es span)) = Item.back
-turn_item None = Item.back
+turn_item other = Item.back
 
 -- The item of the definition that an item of the program names.
 abbrev pub item_of : List TypedProcedure → Numbered → Item
@@ -50,23 +41,14 @@ item_of ps (Turn p place) = turn_item (act_named ps p place)
 item_of ps (Out p x) = Item.out x (types_of (procedure_at ps p) x)
 item_of ps (Back p place) = Item.back
 
+-- The items of the definition that the items of the program name.
 abbrev pub items_of : List TypedProcedure → List Numbered → List Item
 items_of ps is = map (item_of ps) is
 
 -- The targets and the procedure of a call; none and the first procedure where the act is no call.
 abbrev pub call_parts : Option Act → List ℕ × ℕ
 call_parts (Some (Act.call xs p es span)) = (xs, p)
-call_parts (Some (Act.set x t span)) = ([], 0)
-call_parts (Some (Act.draw x ps span)) = ([], 0)
-call_parts (Some (Act.toss x f span)) = ([], 0)
-call_parts (Some (Act.any x up ty span)) = ([], 0)
-call_parts (Some (Act.reward f span)) = ([], 0)
-call_parts (Some (Act.ifs arms e span)) = ([], 0)
-call_parts (Some (Act.pick up a b span)) = ([], 0)
-call_parts (Some (Act.check kind f span)) = ([], 0)
-call_parts (Some (Act.validate co span)) = ([], 0)
-call_parts (Some (Act.loop h b)) = ([], 0)
-call_parts None = ([], 0)
+call_parts other = ([], 0)
 
 -- The call from which an item returns.
 abbrev pub call_of : List TypedProcedure → Numbered → List ℕ × ℕ
@@ -85,6 +67,7 @@ last_call ps (i ∷ (j ∷ is)) = last_call ps (j ∷ is)
 abbrev pub Lists : Type 0
 Lists = List Numbered × List Val
 
+-- What a frame of the program holds, its vectors as lists.
 abbrev pub lists_of : F.Frame → Lists
 lists_of f = (f.items.items, f.state.items)
 
@@ -98,6 +81,7 @@ pub record Stored : Type 0 where
   pub turns : List ℕ
   pub made : ℕ
 
+-- A configuration of the program, its vectors as lists.
 abbrev pub stored : C.Config → Stored
 stored c = record { procedure = c.proc; items = c.items.items; state = c.state.items; frames = map lists_of c.frames.items; reward = extended.value_of c.reward; turns = c.turns.items; made = c.made }
 

@@ -37,6 +37,7 @@ PicksGoLeft = (ps : List TypedProcedure) (up : Bool) (a b : Acts) (span : Span) 
 abbrev pub IllTypedIsDefault : Type 0
 IllTypedIsDefault = (ps : List TypedProcedure) (x : ℕ) (ty : Ty) (is : List Item) (c : Config) (v : Val) → has ty v ≡ false → step_item ps (Item.out x ty) is c (Decision.given v) ≡ sure (moved c is (set c.state x (default ty)))
 
+-- Where nothing is decided, a variable that may take any value is false or 0.
 abbrev pub MissingIsDefault : Type 0
 MissingIsDefault = (ps : List TypedProcedure) (x : ℕ) (ty : Ty) (is : List Item) (c : Config) → step_item ps (Item.out x ty) is c Decision.none ≡ sure (moved c is (set c.state x (default ty)))
 
@@ -52,10 +53,12 @@ EndedStays = (ps : List TypedProcedure) (n : ℕ) (c : Config) (t : Tree) → c.
 abbrev pub Reached : Type 0
 Reached = List (Rational × (Config × Tree))
 
+-- What each outcome leads to under its own tree, one after another, with its probability.
 abbrev pub spread_reached : (Config → Tree → Reached) → Outcomes → Forest → Reached
 spread_reached f [] ts = []
 spread_reached f (x ∷ xs) ts = scaled x.0 (f x.1 (first ts)) ++ spread_reached f xs (rest ts)
 
+-- What the first step and those behind it lead to. A configuration that has ended stays, with its tree.
 abbrev pub onward_reached : List TypedProcedure → (Config → Tree → Reached) → List Item → Config → Tree → Reached
 onward_reached ps f [] c t = (oneʳ, (c, t)) ∷ []
 onward_reached ps f (i ∷ is) c t = spread_reached f (step_item ps i is c (decision t)) (under t)

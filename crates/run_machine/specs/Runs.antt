@@ -8,6 +8,7 @@ use Rattle.run_machine.specs.Configurations.{Item, Config, Outcomes}
 use Rattle.run_machine.specs.Step.{sure, step_item}
 use Rattle.run_machine.specs.Scheduler.{Tree, Forest, decision, under, first, rest}
 
+-- What leads from a configuration to outcomes, under a scheduler.
 abbrev pub Runner : Type 0
 Runner = Config → Tree → Outcomes
 

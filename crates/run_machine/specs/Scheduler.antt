@@ -12,18 +12,22 @@ mutual
     no_trees : Forest
     trees : Tree → Forest → Forest
 
+-- The decision for the next step.
 abbrev pub decision : Tree → Decision
 decision Tree.leaf = Decision.none
 decision (Tree.node d ts) = d
 
+-- The trees for the outcomes of the next step.
 abbrev pub under : Tree → Forest
 under Tree.leaf = Forest.no_trees
 under (Tree.node d ts) = ts
 
+-- The tree for the first outcome.
 abbrev pub first : Forest → Tree
 first Forest.no_trees = Tree.leaf
 first (Forest.trees t ts) = t
 
+-- The trees for the outcomes behind the first.
 abbrev pub rest : Forest → Forest
 rest Forest.no_trees = Forest.no_trees
 rest (Forest.trees t ts) = ts

@@ -42,6 +42,7 @@ sure c = (oneʳ, c) ∷ []
 abbrev pub moved : Config → List Item → List Val → Config
 moved c is s = record { procedure = c.procedure; items = is; frames = c.frames; state = s; reward = c.reward; turns = c.turns }
 
+-- The configuration with other items, and a reward more.
 abbrev pub rewarded : Config → List Item → Value → Config
 rewarded c is v = record { procedure = c.procedure; items = is; frames = c.frames; state = c.state; reward = c.reward +ᵛ v; turns = c.turns }
 
@@ -53,6 +54,7 @@ one_more n turns m = if m == n then 1 + turns m else turns m
 abbrev pub counted : Config → ℕ → ℕ → ℕ
 counted c n = if running c.procedure c.frames == c.procedure then one_more n c.turns else c.turns
 
+-- The configuration with other items, and a turn more of the loop with this number, where it counts.
 abbrev pub turned : Config → List Item → ℕ → Config
 turned c is n = record { procedure = c.procedure; items = is; frames = c.frames; state = c.state; reward = c.reward; turns = counted c n }
 
@@ -60,6 +62,7 @@ turned c is n = record { procedure = c.procedure; items = is; frames = c.frames;
 abbrev pub waiting : Config → List Item → List ℕ → ℕ → Frame
 waiting c is xs n = record { items = is; state = c.state; targets = xs; callee = n }
 
+-- The configuration in which a call begins: the callee's items and its first state, above the caller that waits.
 abbrev pub called : Config → List Item → List ℕ → ℕ → TypedProcedure → List Val → Config
 called c is xs n p vs = record { procedure = c.procedure; items = callee_items p; frames = waiting c is xs n ∷ c.frames; state = first_state p vs; reward = c.reward; turns = c.turns }
 
@@ -71,6 +74,7 @@ returned ps c f fs = record { procedure = c.procedure; items = f.items; frames =
 abbrev pub branch : Config → List Item → ℕ → Rational × Term → Rational × Config
 branch c is x q = (q.0, moved c is (set c.state x (term_value q.1 (environment c.state))))
 
+-- The outcomes of a draw, one for each of its parts.
 abbrev pub branches : Config → List Item → ℕ → List (Rational × Term) → Outcomes
 branches c is x qs = map (branch c is x) qs
 
@@ -92,16 +96,19 @@ step_act ps (Act.validate co span) is c d = sure (moved c is c.state)
 step_act ps (Act.loop h b) is c d = test c is h b
 step_act ps (Act.call xs p es span) is c d = sure (called c is xs p (procedure_at ps p) (evaluate es (environment c.state)))
 
+-- The step of a return, before these items: the last caller goes on, and where there is none the item is passed over.
 abbrev pub step_back : List TypedProcedure → List Item → Config → List Frame → Outcomes
 step_back ps is c [] = sure (moved c is c.state)
 step_back ps is c (f ∷ fs) = sure (returned ps c f fs)
 
+-- The step of an item, before these items.
 abbrev pub step_item : List TypedProcedure → Item → List Item → Config → Decision → Outcomes
 step_item ps (Item.act a) is c d = step_act ps a is c d
 step_item ps (Item.turn h b) is c d = test c is h b
 step_item ps (Item.out x ty) is c d = sure (moved c is (set c.state x (fit ty (value_of d))))
 step_item ps Item.back is c d = step_back ps is c c.frames
 
+-- The step of the first item; none where there is no item.
 abbrev pub step_items : List TypedProcedure → List Item → Config → Decision → Outcomes
 step_items ps [] c d = []
 step_items ps (i ∷ is) c d = step_item ps i is c d

@@ -23,22 +23,13 @@ EachNext P Bits = Unit {0}
 abbrev pub asked_by_act : Act → ℕ
 asked_by_act (Act.any x up ty span) = 1
 asked_by_act (Act.pick up a b span) = 1
-asked_by_act (Act.set x t span) = 0
-asked_by_act (Act.draw x qs span) = 0
-asked_by_act (Act.toss x f span) = 0
-asked_by_act (Act.reward f span) = 0
-asked_by_act (Act.ifs arms e span) = 0
-asked_by_act (Act.check kind f span) = 0
-asked_by_act (Act.validate co span) = 0
-asked_by_act (Act.loop h b) = 0
-asked_by_act (Act.call xs p es span) = 0
+asked_by_act other = 0
 
+-- How many decisions the step of the first item asks for.
 abbrev pub asked_by : List Item → ℕ
-asked_by [] = 0
 asked_by (Item.act a ∷ is) = asked_by_act a
-asked_by (Item.turn h b ∷ is) = 0
 asked_by (Item.out x ty ∷ is) = 1
-asked_by (Item.back ∷ is) = 0
+asked_by other = 0
 
 -- The answer to a configuration under a decision: what is stored, what it stands for, and what it keeps.
 pub record IsStep (ps : List TypedProcedure) (c : Stored) (d : Decision) (stepped : Stepped) : Type 0 where

@@ -10,9 +10,9 @@ IsMemory (Fault line) = ⊥
 IsMemory (Memory error) = ⊤
 
 -- A fault names the first line with which no script goes on; memory may run out of any text.
-abbrev pub IsStop : Known → List ℕ → ScriptStop → Type 0
-IsStop known bytes (Fault line) = IsFirstFault known bytes line
-IsStop known bytes (Memory error) = ⊤
+abbrev pub IsScriptStop : Known → List ℕ → ScriptStop → Type 0
+IsScriptStop known bytes (Fault line) = IsFirstFault known bytes line
+IsScriptStop known bytes (Memory error) = ⊤
 
 -- The fault of this line, or memory ran out.
 abbrev pub IsFaultOrMemory : ℕ → ScriptStop → Type 0

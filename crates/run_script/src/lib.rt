@@ -8,7 +8,6 @@ mod scripts;
 mod starts;
 mod stops;
 mod texts;
-mod values;
 
 pub use laws::{faults_are_unique, scripts_are_unique, scripts_have_no_fault};
 pub use reader::read_script;

@@ -3,7 +3,7 @@
 ghost use Rattle.run_script.specs.Lines.{said as said_of, text_lines, without_last_feed};
 ghost use Rattle.run_script.specs.PlainScripts.{known_in, script_of};
 ghost use Rattle.run_script.specs.Scripts.{AreLinesOf, IsFirstFault, Script as Scripted, Spells};
-ghost use Rattle.run_script.specs.Stops.{IsFaultOrMemory, IsMemory, IsStop};
+ghost use Rattle.run_script.specs.Stops.{IsFaultOrMemory, IsMemory, IsScriptStop};
 ghost use Rattle.run_script.specs.internal.ReadLines.{IsStopOf, begun, bytes_of};
 ghost use Rattle.std.specs.Prelude.{IfErr, IfOk, MatchResult, length, option_map, ◌+◌, ◌<◌, ◌^◌, ◌≡◌, ◌≤◌, ℕ};
 
@@ -78,7 +78,7 @@ pub fn read_script(
 ) -> Result<Script, ScriptStop>
     requires { length bytes.now < 2 ^ 31 }
     ensures found { IfOk result (λ script. Spells (known_in known.entry) (script_of script) bytes.now) }
-    ensures fault { IfErr result (λ stop. IsStop (known_in known.entry) bytes.now stop) }
+    ensures fault { IfErr result (λ stop. IsScriptStop (known_in known.entry) bytes.now stop) }
     ensures only { (s : Scripted) → Spells (known_in known.entry) s bytes.now
         → MatchResult result (λ script. script_of script ≡ s) (λ stop. IsMemory stop) }
     ensures only_fault { (line : ℕ) → IsFirstFault (known_in known.entry) bytes.now line

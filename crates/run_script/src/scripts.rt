@@ -10,7 +10,6 @@ ghost use Rattle.std.specs.Prelude.{IfOk, None, OnOk, Some, if◌then◌else◌,
 ghost use Rattle.std.specs.Str.{bytes_eq};
 
 use crate::lines::{Line, said};
-use crate::values::has;
 use heylo_formula::Val;
 use heyvl_acts::VarInfo;
 use heyvl_places::Name;
@@ -41,7 +40,7 @@ pub struct Script {
 fn takes(name: &[u8], value: &Val, variable: &VarInfo) -> bool
     ensures { result ≡ takes_value (record { name = name.now; value = value.now }) (variable_of variable.now) }
 {
-    name == variable.name.as_bytes() && has(variable.ty, value)
+    name == variable.name.as_bytes() && variable.ty.has(value)
 }
 
 /// Whether one of the variables has this name, and its type this value.

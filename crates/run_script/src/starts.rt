@@ -9,7 +9,6 @@ ghost use Rattle.std.specs.Prelude.{IfOk, OnOk, drop, map, take, ◌++◌, ◌+�
 ghost use Rattle.std.specs.Str.{bytes_eq};
 
 use crate::scripts::Setting;
-use crate::values::{default, has};
 use heylo_formula::{Ty, Val};
 use heyvl_acts::{TProc, VarInfo};
 use std::alloc::{AllocError, Global};
@@ -18,7 +17,7 @@ use std::alloc::{AllocError, Global};
 fn fit(ty: Ty, value: Val) -> Val
     ensures { result ≡ fit ty value }
 {
-    if has(ty, &value) { value } else { default(ty) }
+    if ty.has(&value) { value } else { ty.default() }
 }
 
 /// The value, where there is one of the type; else false or 0.
@@ -27,7 +26,7 @@ fn value_or(ty: Ty, shown: Option<Val>) -> Val
 {
     match shown {
         Some(value) => fit(ty, value),
-        None => default(ty),
+        None => ty.default(),
     }
 }
 
@@ -96,7 +95,7 @@ fn add_defaults(state: &mut Vec<Val>, variables: &[VarInfo]) -> Result<(), Alloc
     ensures { OnOk result (state.new.items ≡ state.old.items ++ map (λ x. default_of x.ty) variables.now) }
 {
     for variable in variables {
-        state.push(default(variable.ty))?;
+        state.push(variable.ty.default())?;
     }
     Ok(())
 }

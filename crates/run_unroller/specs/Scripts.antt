@@ -12,5 +12,6 @@ use Rattle.run_machine.specs.Step.{Decision}
 abbrev pub lent : Decide → Bor Decide
 lent d = record { ref_ptr = (0, 0); now = d }
 
+-- The decision that the script has for this number; none behind its end.
 abbrev pub entry : List Decide → ℕ → Decision
 entry script j = decision_of (option_map lent (nth script j))

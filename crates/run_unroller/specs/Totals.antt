@@ -20,14 +20,17 @@ abbrev pub if_ended : List Numbered → Rational × Stored → RunList → RunLi
 if_ended [] x xs = x ∷ xs
 if_ended (i ∷ is) x xs = xs
 
+-- The runs of a list that have ended, in their order.
 abbrev pub ended : RunList → RunList
 ended [] = []
 ended (x ∷ xs) = if_ended x.1.items x (ended xs)
 
+-- A run before others, where it has items left; otherwise the others alone.
 abbrev pub if_running : List Numbered → Rational × Stored → RunList → RunList
 if_running [] x xs = xs
 if_running (i ∷ is) x xs = x ∷ xs
 
+-- The runs of a list that are running, in their order.
 abbrev pub running : RunList → RunList
 running [] = []
 running (x ∷ xs) = if_running x.1.items x (running xs)
@@ -45,10 +48,12 @@ added f so_far (x ∷ xs) = added f (and_one so_far x.0 (f x.1)) xs
 abbrev pub and_one_fraction : Option Rational → Rational → Rational → Option Rational
 and_one_fraction so_far w v = and_then so_far (λ s. and_then (exact_product w v) (λ x. exact_sum s x))
 
+-- Fractions of the runs, each times the run's weight, added to a sum so far. There is none where a number on the way doesn't fit.
 abbrev pub added_fractions : (Stored → Rational) → Option Rational → RunList → Option Rational
 added_fractions f so_far [] = so_far
 added_fractions f so_far (x ∷ xs) = added_fractions f (and_one_fraction so_far x.0 (f x.1)) xs
 
+-- The weights of the runs, added to a sum so far. There is none where a number on the way doesn't fit.
 abbrev pub added_weights : Option Rational → RunList → Option Rational
 added_weights so_far [] = so_far
 added_weights so_far (x ∷ xs) = added_weights (and_then so_far (λ s. exact_sum s x.0)) xs
@@ -57,6 +62,7 @@ added_weights so_far (x ∷ xs) = added_weights (and_then so_far (λ s. exact_su
 abbrev pub post_of : Form → Stored → Option Value
 post_of post c = exact_value post c.state
 
+-- The reward of a run so far.
 abbrev pub reward_of : Stored → Option Value
 reward_of c = Some c.reward
 
@@ -64,15 +70,19 @@ reward_of c = Some c.reward
 abbrev pub turns_of : ℕ → Stored → Rational
 turns_of number c = ratio (pos (names.turns_of c.turns number)) 1
 
+-- The sum of the post over the runs that have ended, each by its weight.
 abbrev pub post_total : Form → RunList → Option Value
 post_total post rs = added (post_of post) (Some zeroᵛ) (ended rs)
 
+-- The sum of the rewards over all runs, each by its weight.
 abbrev pub reward_total : RunList → Option Value
 reward_total rs = added reward_of (Some zeroᵛ) rs
 
+-- The weight of the runs that are running.
 abbrev pub running_total : RunList → Option Rational
 running_total rs = added_weights (Some zeroʳ) (running rs)
 
+-- The sum of the turns of a loop over all runs, each by its weight.
 abbrev pub turns_total : ℕ → RunList → Option Rational
 turns_total number rs = added_fractions (turns_of number) (Some zeroʳ) rs
 
@@ -89,5 +99,6 @@ pub record Totals : Type 0 where
   pub running : Rational
   pub turns : List Rational
 
+-- The sums of a list of runs of the procedure. There are none where a number on the way doesn't fit.
 abbrev pub totals : TypedProcedure → RunList → Option Totals
 totals p rs = and_then (post_total p.post rs) (λ post. and_then (reward_total rs) (λ reward. and_then (running_total rs) (λ running. and_then (all_turns p.loops rs) (λ turns. Some (record { post = post; reward = reward; running = running; turns = turns })))))

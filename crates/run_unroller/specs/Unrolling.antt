@@ -17,18 +17,22 @@ use Rattle.run_unroller.specs.RunLists.{RunList, after}
 use Rattle.run_unroller.specs.Causes.{first_stop}
 use Rattle.run_unroller.specs.Totals.{Totals, totals}
 
+-- What unrolling gives: sums, or what stopped it and at which step.
 pub data Unrolling : Type 0 where
   sums : Totals → Unrolling
   stopped : Cause → ℕ → Unrolling
 
+-- The sums, or where they are missing a stop at this step for want of bits.
 abbrev pub sums_or : ℕ → Option Totals → Unrolling
 sums_or n (Some t) = Unrolling.sums t
 sums_or n None = Unrolling.stopped Bits n
 
+-- The stop, where there is one; otherwise the other answer.
 abbrev pub stop_or : Option (Cause × ℕ) → Unrolling → Unrolling
 stop_or (Some stop) u = Unrolling.stopped stop.0 stop.1
 stop_or None u = u
 
+-- What unrolling the procedure from these runs gives, n steps under the script: the first stop, or the sums behind the last step.
 abbrev pub unrolled : List TypedProcedure → ℕ → List Decide → ℕ → RunList → Unrolling
 unrolled ps p script n rs = stop_or (first_stop ps script n rs) (sums_or (n + 1) (totals (procedure_at ps p) (after ps script n rs)))
 
@@ -36,6 +40,7 @@ unrolled ps p script n rs = stop_or (first_stop ps script n rs) (sums_or (n + 1)
 abbrev pub totals_of : Sums → Totals
 totals_of s = record { post = extended.value_of s.post; reward = extended.value_of s.reward; running = s.running; turns = s.turns.items }
 
+-- What the program's answer stands for, its sums or its stop.
 abbrev pub unrolling_of : Unrolled → Unrolling
 unrolling_of (answer.Sums s) = Unrolling.sums (totals_of s)
 unrolling_of (answer.Full n) = Unrolling.stopped Full n

@@ -13,6 +13,7 @@ abbrev pub low_mark : Bool → List ℕ
 low_mark true = codes "["
 low_mark false = codes "("
 
+-- Whether the upper end belongs to the interval.
 abbrev pub high_mark : Bool → List ℕ
 high_mark true = codes "]"
 high_mark false = codes ")"
@@ -26,6 +27,7 @@ abbrev pub earlier_text : Names → List (ℕ × Val) → List ℕ
 earlier_text n [] = []
 earlier_text n (p ∷ ps) = codes " where " ++ settings_text n (p ∷ ps)
 
+-- A fraction that breaks the goal: the variable, the interval of its values, and the values that were chosen before.
 abbrev pub broken_text : Names → Broken → List ℕ
 broken_text n b = codes "fraction " ++ variable_text n b.var ++ codes " in " ++ interval_text b.low_in b.low b.high b.high_in ++ earlier_text n b.earlier.items
 
@@ -33,6 +35,7 @@ broken_text n b = codes "fraction " ++ variable_text n b.var ++ codes " in " ++ 
 abbrev pub step_text : ℕ → List ℕ
 step_text step = codes "rows at step " ++ decimal step
 
+-- The text of a cause.
 abbrev pub cause_text : List ℕ → Names → Cause → List ℕ
 cause_text bytes n Depth = codes "depth"
 cause_text bytes n Nodes = codes "nodes"

@@ -16,9 +16,11 @@ is_same (Invariant n) (Invariant m) = n == m
 is_same (Ranking n) (Ranking m) = n == m
 is_same i j = false
 
+-- The names of no variables.
 abbrev pub no_names : Names
 no_names = named_by [] 0
 
+-- The names of the variables of a goal, where it was made; otherwise none.
 abbrev pub names_of_made : Made → Names
 names_of_made (made.Goal g) = named_by g.names.items g.own
 names_of_made made.Depth = no_names

@@ -24,12 +24,14 @@ IsCausePlaced bytes (Rows step count) = Unit {0}
 IsCausePlaced bytes Bits = Unit {0}
 IsCausePlaced bytes (Fraction b) = Unit {0}
 
+-- The place that a reason names is in a text of so many bytes.
 abbrev pub IsReasonPlaced : ℕ → WhyNot → Type 0
 IsReasonPlaced bytes why.NoBody = Unit {0}
 IsReasonPlaced bytes why.NoWlp = Unit {0}
 IsReasonPlaced bytes why.Quantifier = Unit {0}
 IsReasonPlaced bytes (why.Statement span) = span.from ≤ bytes
 
+-- The place that a verdict names is in a text of so many bytes, and its procedure is one of so many.
 abbrev pub IsVerdictPlaced : ℕ → ℕ → Verdict → Type 0
 IsVerdictPlaced bytes procs verdict.Verified = Unit {0}
 IsVerdictPlaced bytes procs (verdict.Valid reason) = IsReasonPlaced bytes reason
@@ -39,15 +41,18 @@ IsVerdictPlaced bytes procs (verdict.Unknown id cause) = IsCausePlaced bytes cau
 IsVerdictPlaced bytes procs verdict.NoBody = Unit {0}
 IsVerdictPlaced bytes procs (verdict.Unchecked id miss) = Unit {0}
 
+-- The place that is named of a ranking is in a text of so many bytes.
 abbrev pub IsRankPlaced : ℕ → RankVerdict → Type 0
 IsRankPlaced bytes rank.Ranked = Unit {0}
 IsRankPlaced bytes (rank.NotRanked s) = Unit {0}
 IsRankPlaced bytes (rank.Unknown cause) = IsCausePlaced bytes cause
 IsRankPlaced bytes (rank.Unchecked miss) = Unit {0}
 
+-- The place that the answer to a loop's ranking names is in a text of so many bytes.
 abbrev pub IsLoopPlaced : ℕ → LoopAnswer → Type 0
 IsLoopPlaced bytes l = IsRankPlaced bytes l.rank
 
+-- The places and the procedure that an answer names are there: those of its verdict, and of its loops.
 pub record IsAnswerPlaced (bytes procs : ℕ) (a : Answer) : Type 0 where
   pub verdict : IsVerdictPlaced bytes procs a.verdict
   pub loops : Each (IsLoopPlaced bytes) a.loops.items

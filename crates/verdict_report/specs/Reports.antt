@@ -8,9 +8,11 @@ use Rattle.verdict_report.specs.declared.answers.LoopAnswer.{LoopAnswer}
 use Rattle.goal_answers.specs.declared.named_goals.NamedGoal.{NamedGoal}
 use Prim.Native.Nat.{suc}
 
+-- The line of the ranking of a loop, indented below its procedure's.
 abbrev pub loop_line : List ℕ → List TypedProcedure → List NamedGoal → ℕ → LoopAnswer → List ℕ
 loop_line bytes ps made p l = codes "  loop " ++ decimal l.number ++ codes ": " ++ rank_text bytes ps made p l.number l.rank ++ codes "\n"
 
+-- The lines of the rankings of loops, in their order.
 abbrev pub loop_lines : List ℕ → List TypedProcedure → List NamedGoal → ℕ → List LoopAnswer → List ℕ
 loop_lines bytes ps made p [] = []
 loop_lines bytes ps made p (l ∷ ls) = loop_line bytes ps made p l ++ loop_lines bytes ps made p ls
@@ -24,5 +26,6 @@ abbrev pub lines_from : List ℕ → List TypedProcedure → List NamedGoal → 
 lines_from bytes ps made p [] = []
 lines_from bytes ps made p (a ∷ rest) = answer_lines bytes ps made p a ++ lines_from bytes ps made (suc p) rest
 
+-- The whole report: the lines of all procedures, and how many they are.
 abbrev pub report_text : List ℕ → List TypedProcedure → List Answer → List NamedGoal → List ℕ
 report_text bytes ps answers made = lines_from bytes ps made 0 answers ++ decimal (length answers) ++ codes " procedures\n"

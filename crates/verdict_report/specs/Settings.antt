@@ -9,6 +9,7 @@ pub record Names : Type 0 where
   pub all : List (List ℕ)
   pub own : ℕ
 
+-- These names, of which so many are of variables that weren't binders.
 abbrev pub named_by : List (List ℕ) → ℕ → Names
 named_by all own = record { all = all; own = own }
 
@@ -16,6 +17,7 @@ named_by all own = record { all = all; own = own }
 abbrev pub mark_text : ℕ → ℕ → List ℕ
 mark_text own x = if nat_lt x own then [] else codes "'" ++ decimal (suc (x - own))
 
+-- A variable's name, and its mark where it was a binder.
 abbrev pub variable_text : Names → ℕ → List ℕ
 variable_text n x = get_or n.all x [] ++ mark_text n.own x
 

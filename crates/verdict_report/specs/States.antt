@@ -25,9 +25,11 @@ valued s xs = map (λ x. (x, get x s)) xs
 abbrev pub state_settings : ℕ → List ℕ → List Val → List (ℕ × Val)
 state_settings own xs s = valued s xs ++ telling own (drop own s)
 
+-- Settings with commas between them, and "any state" where there are none.
 abbrev pub listed_text : Names → List (ℕ × Val) → List ℕ
 listed_text n [] = codes "any state"
 listed_text n (p ∷ ps) = settings_text n (p ∷ ps)
 
+-- The text of a state: these variables, and the binders whose values tell something.
 abbrev pub state_text : Names → List ℕ → List Val → List ℕ
 state_text n xs s = listed_text n (state_settings n.own xs s)

@@ -19,6 +19,7 @@ use Rattle.verdict_report.specs.declared.answers.RankVerdict.TheVariants as rank
 use Rattle.verdict_report.specs.declared.answers.Verdict.{Verdict}
 use Rattle.verdict_report.specs.declared.answers.Verdict.TheVariants as verdict
 
+-- The goal that the invariant of this loop is at most 1.
 abbrev pub invariant_text : ℕ → List ℕ
 invariant_text n = codes "invariant of loop " ++ decimal n ++ codes " at most 1"
 
@@ -43,10 +44,12 @@ way_text [] = []
 way_text (true ∷ bs) = codes "h" ++ way_text bs
 way_text (false ∷ bs) = codes "d" ++ way_text bs
 
+-- The way to a node from the root, which has a name of its own.
 abbrev pub node_text : List Bool → List ℕ
 node_text [] = codes "root"
 node_text (b ∷ bs) = way_text (b ∷ bs)
 
+-- Why certificates don't prove a goal: there is none, or the node at which the one that there is is refused.
 abbrev pub miss_text : Miss → List ℕ
 miss_text Absent = codes "no certificate"
 miss_text (Place way) = codes "at " ++ node_text way.items
@@ -55,6 +58,7 @@ miss_text (Place way) = codes "at " ++ node_text way.items
 abbrev pub about_text : List ℕ → GoalId → List ℕ
 about_text head id = head ++ codes " (" ++ goal_text id ++ codes "): "
 
+-- The text of a state in which a procedure's goal fails, with the goal's own names.
 abbrev pub state_of_goal : List TypedProcedure → List NamedGoal → ℕ → GoalId → List Val → List ℕ
 state_of_goal ps made p id s = state_text (names_of p id made) (always_shown (procedure_at ps p) id) s
 

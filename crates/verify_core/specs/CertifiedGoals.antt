@@ -67,9 +67,11 @@ pub record HasMiss (Is : NamedGoal → Type 0) (certs : List GoalCert) (c : Chec
   pub goal : Is c.goal
   pub miss : IsMissOf certs c.goal c.miss
 
+-- The goal with this id of the procedure with the number p, and why the certificates don't prove it, if they don't.
 abbrev pub IsChecked : List TypedProcedure → List GoalCert → ℕ → GoalId → CheckedGoal → Type 0
 IsChecked ps certs p id c = HasMiss (IsGoalOf ps p id) certs c
 
+-- One checked goal of the procedure for each id.
 abbrev pub AreChecked : List TypedProcedure → List GoalCert → ℕ → List GoalId → List CheckedGoal → Type 0
 AreChecked ps certs p ids cs = AllZip (IsChecked ps certs p) ids cs
 

@@ -22,6 +22,7 @@ pub record AreServed (table ranks : List (List DecidedGoal)) : Type 0 where
   pub accepted : Each (Each (IsServed (certified_in_file table ranks))) table
   pub ranked : Each (Each (IsServed (certified_in_file table ranks))) ranks
 
+-- The certificates of what is decided of the goals of a typed file are in the order of a text, and each goal that is proved with a tree has one.
 abbrev pub ProofsAreAccepted : Type 0
 ProofsAreAccepted = (ps : List TypedProcedure) (table ranks : List (List DecidedGoal)) → Each (MeetsRules ps) ps → IsTable ps 0 ps table → IsRankTable ps 0 ps ranks → AreServed table ranks
 
@@ -33,6 +34,7 @@ IsNotMissed d c = (t : Tree) → d.decision ≡ Proved (Some t) → c.miss ≡ N
 abbrev pub NothingIsMissed : List DecidedGoal → List CheckedGoal → Type 0
 NothingIsMissed ds cs = AllZip IsNotMissed ds cs
 
+-- So of each procedure of a file.
 abbrev pub NothingIsMissedThroughout : List (List DecidedGoal) → List (List CheckedGoal) → Type 0
 NothingIsMissedThroughout table checked = AllZip NothingIsMissed table checked
 
@@ -40,5 +42,6 @@ NothingIsMissedThroughout table checked = AllZip NothingIsMissed table checked
 abbrev pub ProvedGoalsAreAccepted : Type 0
 ProvedGoalsAreAccepted = (ps : List TypedProcedure) (table ranks : List (List DecidedGoal)) (checked : List (List CheckedGoal)) → Each (MeetsRules ps) ps → IsTable ps 0 ps table → IsRankTable ps 0 ps ranks → IsCheckedTable ps (certified_in_file table ranks) 0 ps checked → NothingIsMissedThroughout table checked
 
+-- Of the rankings of a typed file nothing is missed that is proved with a tree.
 abbrev pub ProvedRankingsAreAccepted : Type 0
 ProvedRankingsAreAccepted = (ps : List TypedProcedure) (table ranks : List (List DecidedGoal)) (checked : List (List CheckedGoal)) → Each (MeetsRules ps) ps → IsTable ps 0 ps table → IsRankTable ps 0 ps ranks → IsCheckedRankTable ps (certified_in_file table ranks) 0 ps checked → NothingIsMissedThroughout ranks checked

@@ -12,9 +12,11 @@ use Rattle.verify_core.specs.LoopVerdicts.{LoopsAreAnswered}
 use Rattle.verify_core.specs.NumberedLists.{AllNumbered}
 use Rattle.verify_core.specs.Rankings.{IsRankingGoal, ranked_loops}
 
+-- The goal of the ranking of the loop with the number n, and why the certificates don't prove it, if they don't.
 abbrev pub IsRankingChecked : List TypedProcedure → List GoalCert → ℕ → ℕ → CheckedGoal → Type 0
 IsRankingChecked ps certs p n c = HasMiss (IsRankingGoal ps p n) certs c
 
+-- One checked goal of a ranking for each of these loops.
 abbrev pub AreRankingsChecked : List TypedProcedure → List GoalCert → ℕ → List ℕ → List CheckedGoal → Type 0
 AreRankingsChecked ps certs p ns cs = AllZip (IsRankingChecked ps certs p) ns cs
 

@@ -16,9 +16,11 @@ use Rattle.verify_core.specs.Rankings.{IsRankingGoal, ranked_loops}
 
 -- ---- The rankings of a procedure
 
+-- The goal of the ranking of the loop with the number n, and a decision of it.
 abbrev pub IsRankingDecided : List TypedProcedure → ℕ → ℕ → DecidedGoal → Type 0
 IsRankingDecided ps p n d = HasDecision (IsRankingGoal ps p n) d
 
+-- One decided goal of a ranking for each of these loops.
 abbrev pub AreRankingsDecided : List TypedProcedure → ℕ → List ℕ → List DecidedGoal → Type 0
 AreRankingsDecided ps p ns ds = AllZip (IsRankingDecided ps p) ns ds
 

@@ -36,9 +36,11 @@ pub record HasDecision (Is : NamedGoal → Type 0) (d : DecidedGoal) : Type 0 wh
   pub goal : Is d.goal
   pub decision : IsDecisionOf d.goal.made d.decision
 
+-- The goal with this id of the procedure with the number p, and a decision of it.
 abbrev pub IsDecided : List TypedProcedure → ℕ → GoalId → DecidedGoal → Type 0
 IsDecided ps p id d = HasDecision (IsGoalOf ps p id) d
 
+-- One decided goal of the procedure for each id.
 abbrev pub AreDecided : List TypedProcedure → ℕ → List GoalId → List DecidedGoal → Type 0
 AreDecided ps p ids ds = AllZip (IsDecided ps p) ids ds
 
@@ -48,6 +50,7 @@ IsTable ps p qs table = AllNumbered (λ k (q : TypedProcedure) (ds : List Decide
 
 -- ---- One procedure
 
+-- The first, where it is there; otherwise the other.
 abbrev pub or_else : {A : Type 0} → Option A → Option A → Option A
 or_else (Some x) other = Some x
 or_else None other = other
@@ -58,6 +61,7 @@ falsified id (Falsified s) = Some (id, s.items)
 falsified id (Proved t) = None
 falsified id (Unknown c) = None
 
+-- The cause for which nothing is known of a goal, where that is so.
 abbrev pub unknown : GoalId → Decision → Option (GoalId × Cause)
 unknown id (Unknown c) = Some (id, c)
 unknown id (Proved t) = None
@@ -73,20 +77,24 @@ abbrev pub first_unknown : List DecidedGoal → Option (GoalId × Cause)
 first_unknown [] = None
 first_unknown (d ∷ ds) = or_else (unknown d.goal.id d.decision) (first_unknown ds)
 
+-- Whether the decision is that the goal holds.
 abbrev pub is_proved : Decision → Bool
 is_proved (Proved t) = true
 is_proved (Falsified s) = false
 is_proved (Unknown c) = false
 
+-- Whether each goal is proved.
 abbrev pub all_proved : List DecidedGoal → Bool
 all_proved [] = true
 all_proved (d ∷ ds) = is_proved d.decision && all_proved ds
 
+-- Whether the decision is that the goal fails.
 abbrev pub is_falsified : Decision → Bool
 is_falsified (Falsified s) = true
 is_falsified (Proved t) = false
 is_falsified (Unknown c) = false
 
+-- Whether nothing is known of the goal.
 abbrev pub is_unknown : Decision → Bool
 is_unknown (Unknown c) = true
 is_unknown (Proved t) = false
@@ -107,6 +115,7 @@ told ds = or_else (first_with is_falsified ds) (first_with is_unknown ds)
 abbrev pub IsOpen : List TypedProcedure → List (List DecidedGoal) → ℕ → Type 0
 IsOpen ps table q = (IsProgram (procedure_at ps q) → ⊥) ⊎ (all_proved (row_at table q) ≡ false)
 
+-- The goal as a list, empty where there is none.
 abbrev pub listed : Option NamedGoal → List NamedGoal
 listed (Some g) = g ∷ []
 listed None = []
@@ -124,6 +133,7 @@ certificate d = of_decision d.decision
     of_decision (Falsified s) = []
     of_decision (Unknown c) = []
 
+-- The certificates of the proved goals, in their order.
 abbrev pub certificates : List DecidedGoal → List GoalCert
 certificates [] = []
 certificates (d ∷ ds) = certificate d ++ certificates ds

@@ -57,6 +57,7 @@ pub record IsBrokenFrom (ps : List TypedProcedure) (p : ℕ) (s : List Val) : Ty
   pub state : IsState (procedure_at ps p) s
   pub broken : (n : ℕ) → length_of (acts_in (procedure_at ps p).body) ≤ n → IsBroken ps p s n
 
+-- The bound of each program without loops and calls that is said to be falsified is broken from the state that is shown.
 abbrev pub FalsifiedBoundsBreak : List TypedProcedure → List Answer → Type 0
 FalsifiedBoundsBreak ps answers = (p : ℕ) (s : Vec Val Global) → IsVerdictOn answers p (NotVerified Main s) → IsProgram (procedure_at ps p) → Each IsStraight (in_order (acts_in (procedure_at ps p).body)) → IsBrokenFrom ps p (take (length (variables (procedure_at ps p))) s.items)
 
@@ -68,6 +69,7 @@ pub record IsRankedLoop (ps : List TypedProcedure) (p n : ℕ) : Type 0 where
   pub ranking : IsRanking (procedure_at ps p) loop.head loop.body loop.rank
   pub turns : RankedBy ps p loop.head loop.body loop.rank
 
+-- Each loop that is said to be ranked has a ranking that bounds its turns.
 abbrev pub RankedLoopsAreBounded : List TypedProcedure → List Answer → Type 0
 RankedLoopsAreBounded ps answers = (p n : ℕ) → IsVerdictOnLoop answers p n Ranked → IsRankedLoop ps p n
 

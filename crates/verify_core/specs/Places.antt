@@ -39,14 +39,17 @@ abbrev mutual
   CondStands n (Cond.equal a b) = FormStands n a × FormStands n b
   CondStands n (Cond.ite g h k) = CondStands n g × (CondStands n h × CondStands n k)
 
+-- Each product in the term begins within so many bytes.
 abbrev pub TermStands : ℕ → Term → Type 0
 TermStands n (Term.truth g) = CondStands n g
 TermStands n (Term.number f) = FormStands n f
 
+-- Each product in the guards of the arms begins within so many bytes.
 abbrev pub GuardsStand : ℕ → Arms → Type 0
 GuardsStand n Arms.no_arm = Unit {0}
 GuardsStand n (Arms.arm g b more) = CondStands n g × GuardsStand n more
 
+-- Each product in the ranking, if there is one, begins within so many bytes.
 abbrev pub RankStands : ℕ → Option (Rational × Form) → Type 0
 RankStands n None = Unit {0}
 RankStands n (Some r) = FormStands n r.1

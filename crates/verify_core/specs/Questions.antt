@@ -27,6 +27,7 @@ pub record Question : Type 0 where
 abbrev pub one_bound : TypedProcedure → Form → Question
 one_bound p f = record { upper = true; stated = Form.number oneᵛ; found = f; variables = variables p }
 
+-- The form, where it is there; otherwise 0.
 abbrev pub form_or_zero : Option Form → Form
 form_or_zero (Some f) = f
 form_or_zero None = Form.number zeroᵛ

@@ -15,7 +15,7 @@ use Rattle.vp_generator.specs.declared.stops.VpStop.TheVariants.{Depth, Nodes, M
 use Rattle.vp_generator.specs.GeneratedForms.{pick_form, vp, vp_act, vp_arms, part_form, draw_form, sum_of_parts}
 use Rattle.heylo_formula.specs.Typing.{Types}
 use Rattle.heyvl_acts.specs.WellTypedActs.{ActFits, ActsFit, ArmsFit}
-use Rattle.vp_generator.specs.InGraphs.{IsStopAt}
+use Rattle.vp_generator.specs.GraphAnswers.{IsStopAt}
 use Rattle.heyvl_acts.specs.PlainActs.{act_of, acts_of, arms_of, parts_of}
 use Rattle.vp_generator.proofs.Growth.{grow_acts, deepen_acts, grow_over, deepen_over, grow_sum, deepen_sum}
 

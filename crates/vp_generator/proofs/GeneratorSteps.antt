@@ -15,18 +15,18 @@ use Rattle.heylo_formula.specs.PlainTrees.{cond_of, term_of}
 use Rattle.heyvl_acts.specs.declared.acts.Act as A
 use Rattle.heyvl_acts.specs.Acts.{Act, Acts, Arms}
 use Rattle.vp_generator.specs.GeneratedForms.{vp, vp_act, vp_arms, part_form, sum_of_parts}
-use Rattle.vp_generator.specs.InGraphs.{HasNoAny, HaveNoAny, HaveNoAnyIn, IsStopAt}
+use Rattle.vp_generator.specs.GraphAnswers.{HasNoAny, HaveNoAny, HaveNoAnyIn, IsStopAt}
 use Rattle.vp_generator.specs.declared.stops.VpStop.{VpStop}
 use Rattle.vp_generator.specs.Fit.{AreFit}
 use Rattle.vp_generator.specs.internal.FittingActs.{IsFit, ArmsAreFit, DrawIsFit, PartsAreFit, TossIsFit, FlagIsFit, TermIsFit}
-use Rattle.vp_generator.specs.internal.Making.{IsMade, IsPlaced, IsReady}
+use Rattle.vp_generator.specs.internal.GraphSteps.{IsMade, IsPlaced, IsReady}
 use Rattle.heyvl_acts.specs.WellTypedActs.{ActsFit, ArmsFit, DrawFits}
 use Rattle.vp_generator.proofs.GeneratedTypes.{act_type}
 use Rattle.heyvl_acts.specs.PlainActs.{act_of, acts_of, arms_of, parts_of}
 use Rattle.heyvl_acts.proofs.exported.PlainActsAre.{if_act, pick_act}
 use Rattle.vp_generator.proofs.BuiltForms.{acts_end, acts_fit, arms_end, arms_fit, stop_of_act, stop_of_arm, stop_of_step}
-use Rattle.vp_generator.proofs.GeneratedPlain.{plain_act}
-use Rattle.vp_generator.proofs.Making.{begins_on, begins_itself, same_form, placed_longer, ready_longer}
+use Rattle.vp_generator.proofs.GeneratedBinders.{plain_act}
+use Rattle.vp_generator.proofs.GraphForms.{begins_on, begins_itself, same_form, placed_longer, ready_longer}
 use Rattle.vp_generator.proofs.Weights.{weight, weight_of, weight_of_arms, last_weighs, last_arm_weighs}
 
 pub if_here : (a : A.Act) (arms : Vec (C.Cond × Vec A.Act Global) Global) (e : Vec A.Act Global) (span : Span) (xs : List (C.Cond × Vec A.Act Global)) (ys : List A.Act) → a ≡ A.If arms e span → xs ≡ arms.items → ys ≡ e.items → act_of a ≡ Act.ifs (arms_of xs) (acts_of ys) span

@@ -10,8 +10,8 @@ mod BuiltForms
 mod PrenexedPlain
 mod Weights
 mod GeneratorSteps
-mod GeneratedPlain
-mod Making
+mod GeneratedBinders
+mod GraphForms
 mod NumberedParts
 mod GeneratedNames
 mod FreeTerms

@@ -8,6 +8,7 @@ use Rattle.vp_generator.specs.Limits.{IsSmall}
 use Rattle.vp_generator.specs.declared.stops.VpStop.{VpStop}
 use Rattle.vp_generator.specs.declared.stops.VpStop.TheVariants.{Depth, Nodes, Memory}
 
+-- The limit that is named is one that the form passes. Want of memory says nothing.
 abbrev pub IsStop : Form → VpStop → Type 0
 IsStop f Depth = 1000 < depth f
 IsStop f Nodes = 200000 < nodes f

@@ -11,5 +11,6 @@ pub record Fit (Part : Types → Type 0) (post : Form) : Type 0 where
   pub fit : Part types
   pub formula : IsFormula types post
 
+-- For some types of the variables, the acts are well typed and what follows them is a formula.
 abbrev pub AreFit : Acts → Form → Type 0
 AreFit acts post = Fit (λ types. ActsFit types acts) post

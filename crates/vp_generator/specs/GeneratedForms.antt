@@ -10,27 +10,33 @@ use Rattle.heyvl_places.specs.declared.spans.Span.{Span}
 use Rattle.heylo_formula.specs.Substitution.{subst}
 use Rattle.heyvl_acts.specs.Acts.{Act, Acts, Arms}
 
+-- The form of a pick: the larger of two forms where it goes up, otherwise the smaller.
 abbrev pub pick_form : Bool → Form → Form → Form
 pick_form true a b = Form.max a b
 pick_form false a b = Form.min a b
 
+-- The form of a check of a formula, before what follows it.
 abbrev pub check_form : CheckKind → Form → Form → Form
 check_form CheckKind.Assert f k = Form.min f k
 check_form CheckKind.Assume f k = Form.imply f k
 check_form CheckKind.CoAssert f k = Form.max f k
 check_form CheckKind.CoAssume f k = Form.co_imply f k
 
+-- The form of a validation, or of a covalidation, of what follows it.
 abbrev pub validate_form : Bool → Form → Form
 validate_form true k = Form.co_validate k
 validate_form false k = Form.validate k
 
+-- What follows a draw, with the variable replaced by the term of one part, times its weight.
 abbrev pub part_form : ℕ → Rational × Term → Form → Form
 part_form x p k = Form.scale p.0 (subst x p.1 k)
 
+-- The sum of a form so far and the forms of these parts.
 abbrev pub sum_of_parts : ℕ → List (Rational × Term) → Form → Form → Form
 sum_of_parts x [] k total = total
 sum_of_parts x (p ∷ ps) k total = sum_of_parts x ps k (Form.sum total (part_form x p k))
 
+-- The form of a draw: the sum of the forms of its parts, from the first on.
 abbrev pub draw_form : ℕ → List (Rational × Term) → Form → Form
 draw_form x [] k = Form.number zeroᵛ
 draw_form x (p ∷ ps) k = sum_of_parts x ps k (part_form x p k)

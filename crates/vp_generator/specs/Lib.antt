@@ -4,7 +4,7 @@ pub mod Scopes
 pub mod Limits
 pub mod Fit
 pub mod Answers
-pub mod InGraphs
+pub mod GraphAnswers
 pub mod Laws
 pub mod PrenexedGoals
 pub mod PrenexLaws

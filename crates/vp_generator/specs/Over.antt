@@ -10,6 +10,7 @@ use Rattle.vp_generator.specs.GeneratedForms.{vp}
 abbrev pub TermIsOver : ℕ → Term → Type 0
 TermIsOver n t = (y : ℕ) → occurs_in_term y t ≡ true → y < n
 
+-- Each number in the terms of these parts is below n.
 abbrev pub PartsAreOver : ℕ → List (Rational × Term) → Type 0
 PartsAreOver n [] = Unit {0}
 PartsAreOver n (p ∷ ps) = TermIsOver n p.1 × PartsAreOver n ps

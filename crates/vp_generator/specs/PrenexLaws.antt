@@ -44,8 +44,10 @@ ValuesAreChoices = (f : Form) (m : Numbering) (n : ℕ) (r : Env) → TypedFrom 
 abbrev pub ChoicesAreTyped : Type 0
 ChoicesAreTyped = (f : Form) (c : Choices) → IsTyped (new_types (binders f)) (chosen f c)
 
+-- A formula without its binders is a formula again, where the new variables have the types of the binders.
 abbrev pub PrenexedFormIsFormula : Type 0
 PrenexedFormIsFormula = (f : Form) (m : Numbering) (n : ℕ) (types : Types) → TypesFrom n (binders f) types → IsFormula (λ y. types (m y)) f → IsFormula types (unbound m n f)
 
+-- The prenexed form has no binder.
 abbrev pub PrenexedFormHasNoBinder : Type 0
 PrenexedFormHasNoBinder = (f : Form) (m : Numbering) (n : ℕ) → has_binder (unbound m n f) ≡ false

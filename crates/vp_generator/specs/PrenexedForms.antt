@@ -13,6 +13,7 @@ use Rattle.heylo_formula.specs.declared.values.Val.{Val}
 abbrev pub Numbering : Type 0
 Numbering = ℕ → ℕ
 
+-- The numbering in which the variable x has the number n.
 abbrev pub renumbered : ℕ → ℕ → Numbering → Numbering
 renumbered x n m y = if x == y then n else m y
 

@@ -45,9 +45,11 @@ PrenexedGoalsFailByChoices = (up : Bool) (tys : List Ty) (names : List (List ℕ
 abbrev pub PrenexedGoalsAreGoals : Type 0
 PrenexedGoalsAreGoals = (up : Bool) (tys : List Ty) (names : List (List ℕ)) (stated found : Form) → IsFormula (types_in tys) stated → IsFormula (types_in tys) found → IsOver (length tys) stated → IsOver (length tys) found → has_binder stated ≡ false → length names ≡ length tys + length (binders found) → IsGoal (prenexed_goal up tys names stated found)
 
+-- The types of these variables, in their order.
 abbrev pub types_of_variables : List VarInfo → List Ty
 types_of_variables vs = map (λ v. v.ty) vs
 
+-- The names of these variables, in their order.
 abbrev pub names_of_variables : List VarInfo → List (List ℕ)
 names_of_variables vs = map (λ v. v.name) vs
 

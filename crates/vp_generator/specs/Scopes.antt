@@ -10,6 +10,7 @@ use Rattle.heyvl_acts.specs.Rules.{AreNamed}
 use Rattle.vp_generator.specs.GeneratedForms.{vp}
 use Rattle.heyvl_acts.specs.WellTypedActs.{ActsFit}
 
+-- The name of the variable with this number; none where there is no such variable.
 abbrev pub name_of : List VarInfo → ℕ → List ℕ
 name_of vs x = (slice_index_or vs x (record { name = []; ty = Bool })).name
 

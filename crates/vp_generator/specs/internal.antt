@@ -1,3 +1,3 @@
 pub mod FittingActs
 pub mod Lookup
-pub mod Making
+pub mod GraphSteps

@@ -8,7 +8,7 @@ ghost use Rattle.heylo_graph.specs.Nodes.{Begins, IsFormula, Stands};
 ghost use Rattle.heyvl_acts.specs.PlainActs.{parts_of};
 ghost use Rattle.vp_generator.specs.GeneratedForms.{part_form, draw_form, sum_of_parts};
 ghost use Rattle.vp_generator.specs.internal.FittingActs.{DrawIsFit, PartsAreFit, TermIsFit};
-ghost use Rattle.vp_generator.specs.internal.Making.{IsMade, IsPlaced, IsReady};
+ghost use Rattle.vp_generator.specs.internal.GraphSteps.{IsMade, IsPlaced, IsReady};
 
 use crate::nodes_of_acts::{added, put, scaled};
 use crate::stops::VpStop;

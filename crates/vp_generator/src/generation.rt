@@ -9,9 +9,9 @@ ghost use Rattle.heyvl_acts.specs.PlainActs.{act_of, acts_of, arms_of};
 ghost use Rattle.vp_generator.specs.Answers.{IsAnswer};
 ghost use Rattle.vp_generator.specs.Fit.{AreFit};
 ghost use Rattle.vp_generator.specs.GeneratedForms.{pick_form, vp, vp_act, vp_arms};
-ghost use Rattle.vp_generator.specs.InGraphs.{Follows, HasNoAny, HaveNoAny, HaveNoAnyIn, IsAnswerIn, MakeNoBinder};
+ghost use Rattle.vp_generator.specs.GraphAnswers.{Follows, HasNoAny, HaveNoAny, HaveNoAnyIn, IsAnswerIn, MakeNoBinder};
 ghost use Rattle.vp_generator.specs.internal.FittingActs.{IsFit, ArmsAreFit};
-ghost use Rattle.vp_generator.specs.internal.Making.{IsMade, IsPlaced, IsReady};
+ghost use Rattle.vp_generator.specs.internal.GraphSteps.{IsMade, IsPlaced, IsReady};
 
 use crate::draws::drawn;
 use crate::limits::MOST_NODES;

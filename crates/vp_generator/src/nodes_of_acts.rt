@@ -9,7 +9,7 @@ ghost use Rattle.heylo_graph.specs.Trees.{Tree};
 ghost use Rattle.heylo_graph.specs.Nodes.{Begins, IsFitting, IsFormula, IsNodeOf, Stands};
 ghost use Rattle.vp_generator.specs.GeneratedForms.{pick_form, check_form, validate_form};
 ghost use Rattle.vp_generator.specs.internal.FittingActs.{TermIsFit};
-ghost use Rattle.vp_generator.specs.internal.Making.{IsMade, IsReady};
+ghost use Rattle.vp_generator.specs.internal.GraphSteps.{IsMade, IsReady};
 
 use crate::limits::DEEPEST;
 use crate::stops::VpStop;

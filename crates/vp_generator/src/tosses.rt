@@ -10,7 +10,7 @@ ghost use Rattle.heylo_graph.specs.Nodes.{Begins, IsFormula, Stands};
 ghost use Rattle.heyvl_num.specs.Value.{oneᵛ};
 ghost use Rattle.vp_generator.specs.GeneratedForms.{toss_form};
 ghost use Rattle.vp_generator.specs.internal.FittingActs.{FlagIsFit, TossIsFit};
-ghost use Rattle.vp_generator.specs.internal.Making.{IsMade, IsReady};
+ghost use Rattle.vp_generator.specs.internal.GraphSteps.{IsMade, IsReady};
 
 use crate::nodes_of_acts::{added, joined, put};
 use crate::stops::VpStop;

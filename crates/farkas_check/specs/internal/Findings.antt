@@ -16,9 +16,9 @@ IsRefusedAt ps (J.TheVariants.Accepted back) = ⊥
 IsRefusedAt ps (J.TheVariants.Refused place) = place.items ≡ map (λ p. p.held) ps
 
 -- The tree is accepted at the end of the trail, which is given back, or refused at a place.
-abbrev pub IsFinding : Goal → Trail → Tree → J.Judged → Type 0
-IsFinding g s t (J.TheVariants.Accepted back) = IsSame s back × IsAccepted g (path_of s.path.items) t
-IsFinding g s t (J.TheVariants.Refused place) = IsRefused g (path_of s.path.items) t place.items
+abbrev pub IsJudgement : Goal → Trail → Tree → J.Judged → Type 0
+IsJudgement g s t (J.TheVariants.Accepted back) = IsSame s back × IsAccepted g (path_of s.path.items) t
+IsJudgement g s t (J.TheVariants.Refused place) = IsRefused g (path_of s.path.items) t place.items
 
 -- The same before the first question.
 abbrev pub IsFindingAtStart : Goal → Tree → J.Judged → Type 0

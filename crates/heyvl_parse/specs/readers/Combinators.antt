@@ -23,22 +23,26 @@ abbrev pub starts : (TokenKind → Bool) → List Token → Bool
 starts test [] = false
 starts test (t ∷ ts) = test t.kind
 
+-- Whether a token is this key.
 abbrev pub is_key : Key → TokenKind → Bool
 is_key k (kinds.Key l) = sameb the_keys l k
 is_key k (kinds.Word w) = false
 is_key k (kinds.Number n) = false
 is_key k (kinds.Mark m) = false
 
+-- Whether a token is the word with these bytes.
 abbrev pub is_word : List ℕ → TokenKind → Bool
 is_word name (kinds.Word w) = pointwise nat_eq w name
 is_word name (kinds.Key k) = false
 is_word name (kinds.Number n) = false
 is_word name (kinds.Mark m) = false
 
+-- Whether the option holds something.
 abbrev pub is_there : {A : Type 0} → Option A → Bool
 is_there None = false
 is_there (Some x) = true
 
+-- Whether a token is a binary operator.
 abbrev pub is_operator : TokenKind → Bool
 is_operator kind = is_there (operator_of kind)
 
@@ -83,6 +87,7 @@ abbrev pub ended : {A : Type 0} → A → List Token → Read A
 ended x [] = Got x []
 ended x (t ∷ ts) = Bad (t ∷ ts)
 
+-- An item, or nothing. Whether an item starts at the front is handed in.
 abbrev pub some_if : {A : Type 0} → (List Token → Read A) → Bool → List Token → Read (Option A)
 some_if f false ts = Got None ts
 some_if f true ts = mapped Some f ts
@@ -91,6 +96,7 @@ some_if f true ts = mapped Some f ts
 abbrev pub optional : {A : Type 0} → (TokenKind → Bool) → (List Token → Read A) → List Token → Read (Option A)
 optional test f ts = some_if f (starts test ts) ts
 
+-- What was read, with these items before it.
 abbrev pub with_front : {A : Type 0} → List A → Read (List A) → Read (List A)
 with_front before (Got xs r) = Got (before ++ xs) r
 with_front before (Bad r) = Bad r
@@ -106,6 +112,7 @@ added before Out = Out
 abbrev pub cons : {A : Type 0} → (List Token → Read A) → (List Token → Read (List A)) → List Token → Read (List A)
 cons f g ts = f ts >>= λ x r. with_front (x ∷ []) (g r)
 
+-- An item and then others, or no item. Whether an item starts at the front is handed in.
 abbrev pub each_if : {A : Type 0} → (List Token → Read A) → (List Token → Read (List A)) → Bool → List Token → Read (List A)
 each_if f others false ts = Got [] ts
 each_if f others true ts = cons f others ts
@@ -119,6 +126,7 @@ each test f (suc n) ts = each_if f (each test f n) (starts test ts) ts
 abbrev pub list : {A : Type 0} → (List Token → Read A) → ℕ → List Token → Read (List A)
 list f n ts = cons f (each (is_mark marks.Comma) (lead (is_mark marks.Comma) f) n) ts
 
+-- No item, or items with ',' between. Whether there is none is handed in.
 abbrev pub list_if : {A : Type 0} → (List Token → Read A) → ℕ → Bool → List Token → Read (List A)
 list_if f n true ts = Got [] ts
 list_if f n false ts = list f n ts

@@ -30,6 +30,7 @@ pub data Read (A : Type 0) : Type 0 where
   Out : Read A
 
 infixl 10 ◌>>=◌
+-- Reading goes on with what was read, at the tokens behind it; a fault stays a fault, and fuel that ran out stays so.
 abbrev pub ◌>>=◌ : {A B : Type 0} → Read A → (A → List Token → Read B) → Read B
 (Got x r) >>= f = f x r
 (Bad r) >>= f = Bad r
@@ -43,10 +44,12 @@ pair f g ts = f ts >>= λ x r. g r >>= λ y r'. Got (x, y) r'
 abbrev pub mapped : {A B : Type 0} → (A → B) → (List Token → Read A) → List Token → Read B
 mapped h f ts = f ts >>= λ x r. Got (h x) r
 
+-- The token at the front; a fault where no token is left.
 abbrev pub next : List Token → Read Token
 next [] = Bad []
 next (t ∷ ts) = Got t ts
 
+-- What was found, with the rest behind it; where nothing was found, a fault at the front of all the tokens.
 abbrev pub given : {A : Type 0} → Option A → List Token → List Token → Read A
 given None all r = Bad all
 given (Some x) all r = Got x r
@@ -55,12 +58,14 @@ given (Some x) all r = Got x r
 abbrev pub one : {A : Type 0} → (Token → Option A) → List Token → Read A
 one of ts = next ts >>= λ t r. given (of t) ts r
 
+-- Whether a token is this mark.
 abbrev pub is_mark : Mark → TokenKind → Bool
 is_mark m (kinds.Mark n) = sameb the_marks n m
 is_mark m (kinds.Word w) = false
 is_mark m (kinds.Number n) = false
 is_mark m (kinds.Key k) = false
 
+-- The place of a token that is this mark; nothing for every other token.
 abbrev pub mark_place : Mark → Token → Option Span
 mark_place m t = cond (is_mark m t.kind) (Some t.span) None
 
@@ -68,15 +73,18 @@ mark_place m t = cond (is_mark m t.kind) (Some t.span) None
 abbrev pub expect : Mark → List Token → Read Span
 expect m ts = one (mark_place m) ts
 
+-- The bytes of a token that is a word; nothing for every other token.
 abbrev pub word_of : TokenKind → Option (List ℕ)
 word_of (kinds.Word w) = Some w
 word_of (kinds.Number n) = None
 word_of (kinds.Key k) = None
 word_of (kinds.Mark m) = None
 
+-- The bytes of the word at the front.
 abbrev pub word : List Token → Read (List ℕ)
 word ts = one (λ t. word_of t.kind) ts
 
+-- The type whose name a key is; nothing for every other key.
 abbrev pub key_type : Key → Option TypeName
 key_type keys.BoolWord = Some types.Bool
 key_type keys.IntWord = Some types.Int
@@ -86,12 +94,14 @@ key_type keys.EURealWord = Some types.EUReal
 key_type keys.RealWord = Some types.Real
 key_type _ = None
 
+-- The type whose name a token is; nothing for every other token.
 abbrev pub type_of : TokenKind → Option TypeName
 type_of (kinds.Key k) = key_type k
 type_of (kinds.Word w) = None
 type_of (kinds.Number n) = None
 type_of (kinds.Mark m) = None
 
+-- The type whose name stands at the front.
 abbrev pub type_name : List Token → Read TypeName
 type_name ts = one (λ t. type_of t.kind) ts
 
@@ -99,11 +109,13 @@ type_name ts = one (λ t. type_of t.kind) ts
 abbrev pub repeats : BinaryOp → Bool
 repeats op = nat_eq (ranks op).left (ranks op).rank
 
+-- The binary operator that a key is; nothing for every other key.
 abbrev pub key_operator : Key → Option BinaryOp
 key_operator keys.Cup = Some ops.Cup
 key_operator keys.Cap = Some ops.Cap
 key_operator _ = None
 
+-- The binary operator that a mark is; nothing for every other mark.
 abbrev pub mark_operator : Mark → Option BinaryOp
 mark_operator marks.Imply = Some ops.Imply
 mark_operator marks.CoImply = Some ops.CoImply
@@ -128,10 +140,12 @@ operator_of (kinds.Mark m) = mark_operator m
 operator_of (kinds.Word w) = None
 operator_of (kinds.Number n) = None
 
+-- The operator, where its rank is k.
 abbrev pub ranked : ℕ → Option BinaryOp → Option BinaryOp
 ranked k None = None
 ranked k (Some op) = cond (nat_eq (ranks op).rank k) (Some op) None
 
+-- What was found, with the place of its token and the tokens behind it; nothing where nothing was found.
 abbrev pub placed : {A : Type 0} → Span → List Token → Option A → Option (A × Span × List Token)
 placed s ts None = None
 placed s ts (Some x) = Some (x, s, ts)
@@ -141,6 +155,7 @@ abbrev pub operator_at : ℕ → List Token → Option (BinaryOp × Span × List
 operator_at k [] = None
 operator_at k (t ∷ ts) = placed t.span ts (ranked k (operator_of t.kind))
 
+-- The operator, where its rank is one from low to high.
 abbrev pub within : ℕ → ℕ → Option BinaryOp → Option BinaryOp
 within low high None = None
 within low high (Some op) = cond (nat_le low (ranks op).rank && nat_le (ranks op).rank high) (Some op) None
@@ -154,11 +169,13 @@ operator_within low high (t ∷ ts) = placed t.span ts (within low high (operato
 abbrev pub next_level : BinaryOp → ℕ
 next_level op = cond (repeats op) (ranks op).rank (suc (ranks op).rank)
 
+-- The quantifier that a key is: true for `sup`, false for `inf`; nothing for every other key.
 abbrev pub key_quantifier : Key → Option Bool
 key_quantifier keys.Sup = Some true
 key_quantifier keys.Inf = Some false
 key_quantifier _ = None
 
+-- The quantifier that a token is: true for `sup`, false for `inf`; nothing for every other token.
 abbrev pub quantifier_of : TokenKind → Option Bool
 quantifier_of (kinds.Key k) = key_quantifier k
 quantifier_of (kinds.Word w) = None
@@ -170,6 +187,7 @@ abbrev pub quantifier_at : List Token → Option (Bool × Span × List Token)
 quantifier_at [] = None
 quantifier_at (t ∷ ts) = placed t.span ts (quantifier_of t.kind)
 
+-- What begins with a key: `true` or `false`, infinity, an `ite`, or none of these.
 abbrev pub key_start : Key → Start
 key_start keys.TrueWord = starts.Truth true
 key_start keys.FalseWord = starts.Truth false
@@ -177,6 +195,7 @@ key_start keys.Infty = starts.Infinity
 key_start keys.Ite = starts.Choice
 key_start _ = starts.Other
 
+-- What begins with a mark: a group, a bracket, an embedding, a prefix operator, or none of these.
 abbrev pub mark_start : Mark → Start
 mark_start marks.ParenLeft = starts.Group
 mark_start marks.BracketLeft = starts.Bracket
@@ -210,6 +229,7 @@ pub data Part : Type 0 where
   Full : ℕ → Part
   More : ℕ → Expression → Part
 
+-- What is read of each part at the front of tokens, and the tokens that are left.
 abbrev pub Reader : Type 0
 Reader = Part → List Token → Read Expression
 
@@ -217,18 +237,23 @@ Reader = Part → List Token → Read Expression
 abbrev pub enclosed : Reader → Mark → List Token → Read (Expression × Span)
 enclosed self close ts = pair (self Whole) (expect close) ts
 
+-- ( a ) with the place from its '(' to its ')'.
 abbrev pub group_tree : Span → Expression × Span → Expression
 group_tree s (a, close) = Expression.group a (reach s close.to)
 
+-- [ a ] with the place from its '[' to its ']'.
 abbrev pub bracket_tree : Span → Expression × Span → Expression
 bracket_tree s (a, close) = Expression.bracket a (reach s close.to)
 
+-- ? ( a ) with the place from its '?' to its ')'.
 abbrev pub embed_tree : Span → Span × (Expression × Span) → Expression
 embed_tree s (front, (a, close)) = Expression.embed a (reach s close.to)
 
+-- A prefix operator and its operand, with the place from the operator to the operand's end.
 abbrev pub prefix_tree : UnaryOp → Span → Expression → Expression
 prefix_tree op s a = Expression.unary op a (reach s (end_of a))
 
+-- What a prefix operator at this place becomes with the operand behind it.
 abbrev pub prefixed : Reader → UnaryOp → Span → List Token → Read Expression
 prefixed self op s ts = mapped (prefix_tree op s) (self (Full 0)) ts
 
@@ -236,13 +261,16 @@ prefixed self op s ts = mapped (prefix_tree op s) (self (Full 0)) ts
 abbrev pub Choices : Type 0
 Choices = Span × (Expression × (Span × (Expression × (Span × (Expression × Span)))))
 
+-- ite ( a , b , c ) with the place from its key to its ')'.
 abbrev pub choice_tree : Span → Choices → Expression
 choice_tree s (front, (a, (first, (b, (second, (c, close)))))) = Expression.choice a b c (reach s close.to)
 
+-- What stands behind `ite`: three expressions in parentheses, with ',' between.
 abbrev pub choice_parts : Reader → List Token → Read Choices
 choice_parts self ts =
     pair (expect marks.ParenLeft) (pair (self Whole) (pair (expect marks.Comma) (pair (self Whole) (pair (expect marks.Comma) (enclosed self marks.ParenRight))))) ts
 
+-- What an `ite` at this place becomes with the parts behind it.
 abbrev pub choice : Reader → Span → List Token → Read Expression
 choice self s ts = mapped (choice_tree s) (choice_parts self) ts
 
@@ -257,6 +285,7 @@ started self (starts.Prefix op) s ts all = prefixed self op s ts
 started self starts.Choice s ts all = choice self s ts
 started self starts.Other s ts all = Bad all
 
+-- The operand whose first token has this kind and place. Where none begins with it, the fault is at the front of all the tokens.
 abbrev pub by_kind : Reader → TokenKind → Span → List Token → List Token → Read Expression
 by_kind self (kinds.Word w) s ts all = Got (Expression.name w s) ts
 by_kind self (kinds.Number n) s ts all = Got (Expression.number n s) ts
@@ -267,15 +296,19 @@ by_kind self (kinds.Mark m) s ts all = started self (mark_start m) s ts all
 abbrev pub operand : Reader → List Token → Read Expression
 operand self ts = next ts >>= λ t r. by_kind self t.kind t.span r ts
 
+-- More operators of rank k where they may follow, else the left part alone.
 abbrev pub joined : Reader → Bool → ℕ → Expression → List Token → Read Expression
 joined self true k left ts = self (More k left) ts
 joined self false k left ts = Got left ts
 
+-- What a left part becomes with the operator of rank k behind it, its right operand and what may follow; the left part alone where
+-- there is no operator.
 abbrev pub after : Reader → ℕ → Expression → List Token → Option (BinaryOp × Span × List Token) → Read Expression
 after self k left ts None = Got left ts
 after self k left ts (Some (op, s, r)) =
     self (Full (ranks op).right) r >>= λ right r'. joined self (repeats op) k (Expression.binary op left right s) r'
 
+-- What a left part becomes with the operators of rank k that stand behind it.
 abbrev pub more : Reader → ℕ → Expression → List Token → Read Expression
 more self k left ts = after self k left ts (operator_at k ts)
 
@@ -294,15 +327,19 @@ full self (suc k) ts = full self k ts >>= more self (suc k)
 abbrev pub Bounds : Type 0
 Bounds = List ℕ × (Span × (TypeName × (Span × Expression)))
 
+-- A quantifier with its variable, the variable's type and its body, with the place from the quantifier to the body's end.
 abbrev pub bound_tree : Bool → Span → Bounds → Expression
 bound_tree up s (x, (colon, (t, (dot, a)))) = Expression.bound up x t a (reach s (end_of a))
 
+-- What stands behind a quantifier: a variable, its type and the body, with their marks.
 abbrev pub bound_parts : Reader → List Token → Read Bounds
 bound_parts self ts = pair word (pair (expect marks.Colon) (pair type_name (pair (expect marks.Dot) (self Whole)))) ts
 
+-- What a quantifier at this place becomes with the parts behind it.
 abbrev pub bound : Reader → Bool → Span → List Token → Read Expression
 bound self up s ts = mapped (bound_tree up s) (bound_parts self) ts
 
+-- A quantified expression where a quantifier was found at the front, else one of at most rank 8 without quantifiers in front.
 abbrev pub quantified : Reader → List Token → Option (Bool × Span × List Token) → Read Expression
 quantified self ts None = full self 8 ts
 quantified self ts (Some (up, s, r)) = bound self up s r
@@ -311,6 +348,7 @@ quantified self ts (Some (up, s, r)) = bound self up s r
 abbrev pub whole : Reader → List Token → Read Expression
 whole self ts = quantified self ts (quantifier_at ts)
 
+-- What is read of each part, where its own parts are read by the reader that is handed in.
 abbrev pub step : Reader → Reader
 step self Whole ts = whole self ts
 step self (Full k) ts = full self k ts

@@ -14,14 +14,14 @@ back_none [] ys e = e
 back_none (x ∷ xs) ys e = absurd (cc)
 
 -- A rule of a node that isn't broken.
-abbrev pub IsKept : ℕ × Bool → Type 0
-IsKept rule = rule.1 ≡ false
+abbrev pub IsKeptFinding : ℕ × Bool → Type 0
+IsKeptFinding rule = rule.1 ≡ false
 
 -- Each rule of the node is kept.
-pub all_kept : (s : Span) (rules : List (ℕ × Bool)) → at s rules ≡ [] → Each IsKept rules
+pub all_kept : (s : Span) (rules : List (ℕ × Bool)) → at s rules ≡ [] → Each IsKeptFinding rules
 all_kept s [] e = tt
 all_kept s (rule ∷ rules) e = go rule.1 refl e (all_kept s rules)
   where
-    go : (b : Bool) → rule.1 ≡ b → (if b then (rule.0, s) ∷ at s rules else at s rules) ≡ [] → (at s rules ≡ [] → Each IsKept rules) → Each IsKept (rule ∷ rules)
+    go : (b : Bool) → rule.1 ≡ b → (if b then (rule.0, s) ∷ at s rules else at s rules) ≡ [] → (at s rules ≡ [] → Each IsKeptFinding rules) → Each IsKeptFinding (rule ∷ rules)
     go true h i more = absurd (cc)
     go false h i more = (h, more i)

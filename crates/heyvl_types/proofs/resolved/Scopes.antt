@@ -9,7 +9,7 @@ use Rattle.heyvl_syntax.specs.Expressions.{Expression}
 use Rattle.heyvl_syntax.specs.Statements as text
 use Rattle.heyvl_syntax.specs.Statements.{Block, LoopRule, RightSide, Statement}
 use Rattle.heyvl_syntax.specs.declared.types.TypeName.{TypeName}
-use Rattle.heyvl_types.proofs.resolved.Findings.{IsKept, all_kept, back_none, front_none}
+use Rattle.heyvl_types.proofs.resolved.Findings.{IsKeptFinding, all_kept, back_none, front_none}
 use Rattle.heyvl_types.proofs.resolved.Flips.{of_flip}
 use Rattle.heyvl_types.proofs.resolved.Growth.{new_name, numbers_with}
 use Rattle.heyvl_types.proofs.resolved.Sight.{found_among, sees_condition, sees_form, sees_term}
@@ -142,7 +142,7 @@ module _ (h : Setting) (called : Called) where
   shown_by_assigned : (n : ℕ) (sc : Scope) (v : Visible) (xs : List (List ℕ)) (r : RightSide) (s : Span) → at s (assign_rules h called n sc xs r) ≡ [] → Mirrors v sc → Mirrors (shown_by (assigned called n sc (targets sc xs) r s) v) sc
   shown_by_assigned n sc v xs r s f p = go r (all_kept s (assign_rules h called n sc xs r) f)
     where
-      go : (r : RightSide) → Each IsKept (assign_rules h called n sc xs r) → Mirrors (shown_by (assigned called n sc (targets sc xs) r s) v) sc
+      go : (r : RightSide) → Each IsKeptFinding (assign_rules h called n sc xs r) → Mirrors (shown_by (assigned called n sc (targets sc xs) r s) v) sc
       go (RightSide.plain e) k = same_shown v sc _ p (one_target sc xs (or_parts (any_unknown sc xs) false k.0).0 k.1.1.1.1.0)
       go (RightSide.flip q) k =
           let m = same_shown v sc _ p (one_target sc xs (or_parts (any_unknown sc xs) false k.0).0 k.1.1.1.1.0) in

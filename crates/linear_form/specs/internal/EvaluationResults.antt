@@ -18,6 +18,6 @@ abbrev pub Gives : Result F.Found S.Stop → Evaluation Linear → Type 0
 Gives (Ok r) o = o ≡ Evaluation.value (linear_of r.value) r.next
 Gives (Err e) o = Stops e o
 
-abbrev pub Tells : Result B.Tested S.Stop → Evaluation Bool → Type 0
-Tells (Ok r) o = o ≡ Evaluation.value r.holds r.next
-Tells (Err e) o = Stops e o
+abbrev pub GivesTruth : Result B.Tested S.Stop → Evaluation Bool → Type 0
+GivesTruth (Ok r) o = o ≡ Evaluation.value r.holds r.next
+GivesTruth (Err e) o = Stops e o

@@ -28,7 +28,7 @@ Steps ps q i w p (S.TheVariants.Ends x y) = (j : ℕ) × (along ps q i ≡ Evalu
 Steps ps q i w p S.TheVariants.Bits = along ps q i ≡ Evaluation.bits
 
 -- Frames that ask the same.
-pub record AreAlike (old new : List Frame) : Type 0 where
+pub record AskAlike (old new : List Frame) : Type 0 where
   pub same : (q : Query Result) → through q new ≡ through q old
   pub kept : AreKeptFrames old → AreKeptFrames new
 

@@ -1,7 +1,8 @@
 -- What the loops over terms keep.
 use Rattle.std.specs.Prelude.{◌≡◌, ℕ, ℤ, List, ◌++◌, Bool, true}
 use Rattle.heyvl_num.specs.Rational.{Rational, ratio, ◌*ʳ◌}
-use Rattle.linear_values.specs.Tightening.{whole_terms, all_narrow}
+use Rattle.linear_rows.specs.TermResults.{are_narrow}
+use Rattle.linear_values.specs.Tightening.{whole_terms}
 use Rattle.linear_values.specs.WholeTimes.{AreWholeTimes}
 use Rattle.linear_values.specs.Lin.{Terms, all_fit, times, merged, AreNormal}
 use Rattle.linear_values.specs.Operator.{signed_terms}
@@ -23,6 +24,6 @@ pub record IsSmallSoFar (w : Rational) (terms made rest : Terms) : Type 0 where
 
 pub record IsRowSoFar (s : ℤ) (w : Rational) (terms : Terms) (made : List (ℕ × ℤ)) (rest : Terms) : Type 0 where
   pub whole : whole_terms (ratio s 1 *ʳ w) terms ≡ made ++ whole_terms (ratio s 1 *ʳ w) rest
-  pub narrow : all_narrow (whole_terms (ratio s 1 *ʳ w) terms) ≡ all_narrow (whole_terms (ratio s 1 *ʳ w) rest)
+  pub narrow : are_narrow (whole_terms (ratio s 1 *ʳ w) terms) ≡ are_narrow (whole_terms (ratio s 1 *ʳ w) rest)
   pub rest_fits : all_fit rest ≡ true
   pub rest_whole : AreWholeTimes w rest

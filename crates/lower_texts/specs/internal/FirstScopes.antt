@@ -11,16 +11,7 @@ lent None = None
 -- The variables that are visible at an act, where it is a loop.
 abbrev pub own_scope : Act → Option (List ℕ)
 own_scope (Act.loop h b) = Some h.scope
-own_scope (Act.set x t span) = None
-own_scope (Act.draw x qs span) = None
-own_scope (Act.toss x f span) = None
-own_scope (Act.any x up ty span) = None
-own_scope (Act.reward f span) = None
-own_scope (Act.ifs arms e span) = None
-own_scope (Act.pick up a b span) = None
-own_scope (Act.check kind f span) = None
-own_scope (Act.validate co span) = None
-own_scope (Act.call xs q es span) = None
+own_scope a = None
 
 -- These numbers, or else the others.
 abbrev pub or_scope : Option (List ℕ) → List ℕ → List ℕ

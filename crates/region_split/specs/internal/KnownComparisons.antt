@@ -26,14 +26,14 @@ abbrev pub IsRowOf : List Ty → Atom → Bool → Row → Type 0
 IsRowOf types q held r = all_tightened (types_in types) (answer_claims q held) ≡ Some (r ∷ [])
 
 -- The rows are those of the two answers to the question, and nothing meets both.
-pub record IsKnown (types : List Ty) (k : Known) : Type 0 where
+pub record IsKnownQuestion (types : List Ty) (k : Known) : Type 0 where
   pub yes : IsRowOf types (question_of k) true k.yes
   pub no : IsRowOf types (question_of k) false k.no
   pub clash : Clash k.yes k.no
   pub other_clash : Clash k.no k.yes
 
 abbrev pub AreKnown : List Ty → List Known → Type 0
-AreKnown types ks = All (IsKnown types) ks
+AreKnown types ks = All (IsKnownQuestion types) ks
 
 -- The row is that of this answer to the question and stands at the index, and it clashes with the row of the other answer.
 pub record IsRecalled (types : List Ty) (rows : List Row) (q : Atom) (r : Recalled) : Type 0 where

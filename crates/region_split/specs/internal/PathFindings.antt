@@ -15,7 +15,7 @@ use Rattle.linear_form.specs.AskAnswers.{Answers}
 use Rattle.linear_form.specs.declared.questions.Ask as K
 use Rattle.linear_rows.specs.Solutions.{IsSolvable}
 use Rattle.linear_rows.specs.GreedyPoint.{IsGreedyPoint}
-use Rattle.linear_form.specs.Cells.{IsKept, GoesOn}
+use Rattle.linear_form.specs.Cells.{IsKeptPath, GoesOn}
 use Rattle.linear_elim.specs.Answers.{IsBreak}
 use Rattle.goal_answers.specs.declared.causes.Broken.{Broken}
 use Rattle.goal_answers.specs.declared.causes.Cause.{Cause}
@@ -82,7 +82,7 @@ IsSettledAs g ps denied (D.Unknown cause) = EndsWalk g ps denied cause
 
 -- The path is kept, and no question is left there; the flag tells whether the goal holds plainly.
 pub record IsEnd (g : Goal) (ps : List Taken) (plain : Bool) : Type 0 where
-  pub kept : IsKept g ps
+  pub kept : IsKeptPath g ps
   pub ends : Ends
   pub at_end : end_at g ps ≡ Query.done ends
   pub holds_plainly : IsTrue plain ↔ IsPlainAt g ps

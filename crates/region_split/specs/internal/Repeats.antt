@@ -9,7 +9,7 @@ use Rattle.linear_form.specs.PathRows.{path_claims}
 use Rattle.linear_form.specs.PlainPaths.{path_of, taken_of, atom_of}
 use Rattle.linear_form.specs.RowLists.{ArePathRows}
 use Rattle.linear_form.specs.LastingPaths.{IsNoEnd}
-use Rattle.linear_form.specs.Cells.{IsKept, GoesOn}
+use Rattle.linear_form.specs.Cells.{IsKeptPath, GoesOn}
 use Rattle.linear_form.specs.declared.paths.Taken as T
 use Rattle.region_split.specs.internal.Trails.{StandsAt, IsDroppedBy}
 use Rattle.region_split.specs.internal.PathFindings.{EndsWalk}
@@ -33,9 +33,9 @@ pub record LacksAnswerRow (g : Goal) (path : List T.Taken) (answer : T.Taken) (p
   pub same_path : path_after ≡ path
   pub no_rows : all_tightened (types_in g.types) (path_claims (path_of path ++ (taken_of answer ∷ []))) ≡ None
 
-abbrev pub IsAnswered : Goal → List T.Taken → List Row → T.Taken → Answered → Type 0
-IsAnswered g path rows answer (A.Row p rs q r) = (q ≡ answer.atom) × HasAnswerRow g path rows answer p.items rs.items r
-IsAnswered g path rows answer (A.Bits p q) = (q ≡ answer.atom) × LacksAnswerRow g path answer p.items
+abbrev pub IsRowAnswer : Goal → List T.Taken → List Row → T.Taken → Answered → Type 0
+IsRowAnswer g path rows answer (A.Row p rs q r) = (q ≡ answer.atom) × HasAnswerRow g path rows answer p.items rs.items r
+IsRowAnswer g path rows answer (A.Bits p q) = (q ≡ answer.atom) × LacksAnswerRow g path answer p.items
 
 -- The trail stands at the path, and these are the rows of the two answers to its question.
 pub record AreAnswerRows (g : Goal) (ps : List Taken) (q : Atom) (t : Trail) (rows : AnswerRows) : Type 0 where
@@ -57,6 +57,6 @@ pub record IsAsked (g : Goal) (ps : List Taken) (q : Atom) : Type 0 where
 -- The question may be new; or with one of its answers the path is kept and with the other one it's dropped; or the walk ends.
 abbrev pub IsRepeat : Goal → List Taken → Atom → Repeat → Type 0
 IsRepeat g ps q (New t a) = (atom_of a ≡ q) × StandsAt g ps t
-IsRepeat g ps q (Yes t) = StandsAt g (onto ps q true) t × IsKept g (onto ps q true)
-IsRepeat g ps q (No t ms) = StandsAt g (onto ps q false) t × (IsKept g (onto ps q false) × IsDroppedBy g (onto ps q true) ms.items)
+IsRepeat g ps q (Yes t) = StandsAt g (onto ps q true) t × IsKeptPath g (onto ps q true)
+IsRepeat g ps q (No t ms) = StandsAt g (onto ps q false) t × (IsKeptPath g (onto ps q false) × IsDroppedBy g (onto ps q true) ms.items)
 IsRepeat g ps q (Unknown cause) = EndsWalk g ps false cause

@@ -2,7 +2,7 @@ use Rattle.std.proofs.Common.{◌∙◌, refl, sym}
 use Rattle.heyvl_acts.specs.PlainActs.{acts_of}
 use Rattle.heyvl_acts.specs.Places.{in_order}
 use Rattle.act_walks.specs.Loops.{loop_in}
-use Rattle.act_walks.proofs.exported.ActsInOrder.{of_if, of_pick}
+use Rattle.heyvl_acts.proofs.exported.ActsInOrder.{of_if, of_pick}
 use Rattle.act_walks.proofs.FoundLoops.{act_found, act_past, arm_found, arm_past, found_first, past_first}
 use Rattle.act_walks.proofs.loops.+finding.Goals as goal
 

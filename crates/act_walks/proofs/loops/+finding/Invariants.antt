@@ -2,7 +2,7 @@ use Rattle.std.proofs.Common.{◌≡◌, ◌∷◌}
 use Rattle.heyvl_acts.specs.Places.{in_order, inside}
 use Rattle.heyvl_acts.specs.PlainActs.{act_of, acts_of}
 use Rattle.act_walks.specs.Loops.{loop_in}
-use Rattle.act_walks.proofs.exported.ActsInOrder.{acts_from, arms_from}
+use Rattle.heyvl_acts.proofs.exported.ActsInOrder.{acts_from, arms_from}
 use Rattle.act_walks.proofs.loops.+finding.Given as goal
 
 -- The first of the rest is the first of all.

@@ -2,7 +2,7 @@ use Rattle.std.proofs.Common.{◌≡◌, ◌++◌, map}
 use Rattle.heyvl_acts.specs.Places.{in_order, inside}
 use Rattle.heyvl_acts.specs.PlainActs.{act_of, acts_of}
 use Rattle.act_walks.specs.Lent.{lent}
-use Rattle.act_walks.proofs.exported.ActsInOrder.{acts_from, arms_from}
+use Rattle.heyvl_acts.proofs.exported.ActsInOrder.{acts_from, arms_from}
 use Rattle.act_walks.proofs.order.+ordering.Given as goal
 
 -- What is appended and what the rest holds are what all hold.

@@ -1,5 +1,5 @@
 use Rattle.heyvl_acts.proofs.places.+finding.Given as goal
-use Rattle.heyvl_acts.proofs.ActsAtPlaces.{acts_from, arms_from}
+use Rattle.heyvl_acts.proofs.exported.ActsInOrder.{acts_from, arms_from}
 use Rattle.heyvl_acts.specs.PlainActs.{act_of, acts_of}
 use Rattle.heyvl_acts.specs.Places.{in_order, inside}
 use Rattle.heyvl_acts.specs.internal.PlaceWalks.{Behind}

@@ -1,19 +1,19 @@
 use Rattle.heyvl_tool.proofs.CallLemmas.{read_refused, two_said, two_started}
 use Rattle.heyvl_tool.proofs.tool.answer_two.Goals as goal
 use Rattle.heyvl_files.specs.Sources.{file_limit}
-use Rattle.heyvl_tool.specs.Calls.{IsRead, moment, names_of}
+use Rattle.heyvl_tool.specs.Calls.{IsRead, moment, names_holding}
 use Rattle.std.proofs.Common.{ap₂, length, rules, ◌≤◌}
 
 pub returns-in-Ok-clause-answer : goal.returns-in-Ok-clause-answer
 returns-in-Ok-clause-answer g c =
     let short : length c.in-Ok.bytes.items ≤ file_limit = search rules in
-    let read : IsRead (names_of (g.F.Source.names c.args.source.now) (g.F.Source.holds c.args.source.now)) c.args.file.now c.in-Ok.bytes.items (moment (g.F.Source.order c.args.source.now) (g.F.Source.history c.args.source.now) (g.F.Source.faults c.args.source.now)) (moment (g.F.Source.order c.read_all.new.source) (g.F.Source.history c.read_all.new.source) (g.F.Source.faults c.read_all.new.source)) =
+    let read : IsRead (names_holding (g.F.Source.names c.args.source.now) (g.F.Source.holds c.args.source.now)) c.args.file.now c.in-Ok.bytes.items (moment (g.F.Source.order c.args.source.now) (g.F.Source.history c.args.source.now) (g.F.Source.faults c.args.source.now)) (moment (g.F.Source.order c.read_all.new.source) (g.F.Source.history c.read_all.new.source) (g.F.Source.faults c.read_all.new.source)) =
     record { order = c.read_all.ensures.order; history = c.in-Ok.ensures.returned; short = short; holds = c.in-Ok.ensures.bytes; faults = c.read_all.ensures.count } in
-    two_said c.args.settings.now _ _ c.args.file.now c.args.second.now c.in-Ok.bytes.items c.deref.result.now _ _ _ c.answer_second.result (ap₂ names_of c.read_all.ensures.names c.read_all.ensures.holds) c.deref.ensures.value read c.answer_second.ensures.answer
+    two_said c.args.settings.now _ _ c.args.file.now c.args.second.now c.in-Ok.bytes.items c.deref.result.now _ _ _ c.answer_second.result (ap₂ names_holding c.read_all.ensures.names c.read_all.ensures.holds) c.deref.ensures.value read c.answer_second.ensures.answer
 
 pub returns-in-Ok-clause-turn : goal.returns-in-Ok-clause-turn
 returns-in-Ok-clause-turn g c =
-    two_started _ _ c.args.file.now c.args.second.now _ _ _ (ap₂ names_of c.read_all.ensures.names c.read_all.ensures.holds) (record { order = c.read_all.ensures.order; taken = c.read_all.ensures.history }) c.answer_second.ensures.started
+    two_started _ _ c.args.file.now c.args.second.now _ _ _ (ap₂ names_holding c.read_all.ensures.names c.read_all.ensures.holds) (record { order = c.read_all.ensures.order; taken = c.read_all.ensures.history }) c.answer_second.ensures.started
 
 pub returns-in-Err-clause-answer : goal.returns-in-Err-clause-answer
 returns-in-Err-clause-answer g c =

@@ -1,5 +1,5 @@
 use Rattle.std.proofs.Common.{sym, ◌∙◌, subst, ap}
-use Rattle.linear_form.specs.internal.EvaluationResults.{Tells}
+use Rattle.linear_form.specs.internal.EvaluationResults.{GivesTruth}
 use Rattle.linear_form.specs.PlainPaths.{path_of}
 use Rattle.linear_values.specs.PlainValues.{lin_of}
 use Rattle.linear_form.specs.internal.Run.Evaluation.{value}
@@ -13,4 +13,4 @@ pub returns-then-is_constant : goal.returns-then-is_constant
 returns-then-is_constant c = run_below_known _ _ _ _ (sym c.is_sized.ensures ∙ c.if-not-is_sized.false) (sym c.is_constant.ensures ∙ c.if-is_constant.true) ∙ ap (λ b. value b c.args.at) (sym c.is_negative.ensures)
 
 pub returns-else-is_constant : goal.returns-else-is_constant
-returns-else-is_constant c = subst (λ o. Tells c.answered.result o) (sym (run_below_asked (path_of c.args.path.now) (lin_of c.args.a) c.args.strict c.args.at (sym c.is_sized.ensures ∙ c.if-not-is_sized.false) (sym c.is_constant.ensures ∙ c.if-is_constant.false))) c.answered.ensures
+returns-else-is_constant c = subst (λ o. GivesTruth c.answered.result o) (sym (run_below_asked (path_of c.args.path.now) (lin_of c.args.a) c.args.strict c.args.at (sym c.is_sized.ensures ∙ c.if-not-is_sized.false) (sym c.is_constant.ensures ∙ c.if-is_constant.false))) c.answered.ensures

@@ -2,7 +2,7 @@ use Rattle.std.proofs.Common.{◌∙◌, refl, sym, ap}
 use Rattle.heyvl_acts.specs.PlainActs.{acts_of}
 use Rattle.heyvl_acts.specs.Places.{in_order}
 use Rattle.lower_rules.specs.internal.Shapes.{all_straight}
-use Rattle.act_walks.proofs.exported.ActsInOrder.{of_if, of_pick}
+use Rattle.heyvl_acts.proofs.exported.ActsInOrder.{of_if, of_pick}
 use Rattle.lower_rules.proofs.LentLoops.{act_bent, act_past, arm_bent, arm_past, bent, past}
 use Rattle.lower_rules.proofs.shapes.+bending.Goals as goal
 

@@ -2,7 +2,7 @@ use Rattle.std.proofs.Common.{◌≡◌, ◌∷◌}
 use Rattle.heyvl_acts.specs.Places.{in_order, inside}
 use Rattle.heyvl_acts.specs.PlainActs.{act_of, acts_of}
 use Rattle.lower_rules.specs.internal.Shapes.{all_straight}
-use Rattle.act_walks.proofs.exported.ActsInOrder.{acts_from, arms_from}
+use Rattle.heyvl_acts.proofs.exported.ActsInOrder.{acts_from, arms_from}
 use Rattle.lower_rules.proofs.shapes.+bending.Given as goal
 
 -- The rest is straight exactly where all are.

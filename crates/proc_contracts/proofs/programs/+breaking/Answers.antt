@@ -2,7 +2,7 @@ use Rattle.std.proofs.Common.{◌∙◌, refl, sym}
 use Rattle.heyvl_acts.specs.PlainActs.{acts_of}
 use Rattle.heyvl_acts.specs.Places.{in_order}
 use Rattle.heyvl_acts.specs.Program.{first_break}
-use Rattle.act_walks.proofs.exported.ActsInOrder.{of_if}
+use Rattle.heyvl_acts.proofs.exported.ActsInOrder.{of_if}
 use Rattle.proc_contracts.proofs.Breaks.{act_found, act_past, arm_found, arm_past, found_first, past_first, pick_start}
 use Rattle.proc_contracts.proofs.programs.+breaking.Goals as goal
 

@@ -2,7 +2,7 @@ use Rattle.std.proofs.Common.{◌≡◌, ◌∷◌}
 use Rattle.heyvl_acts.specs.Places.{in_order, inside}
 use Rattle.heyvl_acts.specs.PlainActs.{act_of, acts_of}
 use Rattle.heyvl_acts.specs.Program.{first_break}
-use Rattle.act_walks.proofs.exported.ActsInOrder.{acts_from, arms_from}
+use Rattle.heyvl_acts.proofs.exported.ActsInOrder.{acts_from, arms_from}
 use Rattle.proc_contracts.proofs.programs.+breaking.Given as goal
 
 -- The first of the rest is the first of all.

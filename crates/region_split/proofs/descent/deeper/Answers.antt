@@ -1,6 +1,6 @@
 use Rattle.std.proofs.Common.{refl, sym, ap, subst, arith, true}
 use Rattle.heylo_formula.specs.Goals.{goal_of}
-use Rattle.linear_form.specs.Cells.{IsKept, GoesOn}
+use Rattle.linear_form.specs.Cells.{IsKeptPath, GoesOn}
 use Rattle.linear_form.specs.PlainPaths.{path_of, atom_of}
 use Rattle.linear_form.specs.Places.{IsOn}
 use Rattle.linear_form.proofs.exported.Places.{place_stays}
@@ -39,7 +39,7 @@ pub past-requires-clause-kept : goal.past-requires-clause-kept
 past-requires-clause-kept c =
     let g = goal_of c.args.goal.now in
     let r = rw c.in-Yes.is at c.in_ok-standing.ensures in
-    subst (IsKept g) (sym r.0.path) r.1
+    subst (IsKeptPath g) (sym r.0.path) r.1
 
 pub past-requires-clause-on : goal.past-requires-clause-on
 past-requires-clause-on c =
@@ -71,7 +71,7 @@ pub past-requires-in-No-clause-kept : goal.past-requires-in-No-clause-kept
 past-requires-in-No-clause-kept c =
     let g = goal_of c.args.goal.now in
     let r = rw c.in-No.is at c.in_ok-standing.ensures in
-    subst (IsKept g) (sym r.0.path) r.1.0
+    subst (IsKeptPath g) (sym r.0.path) r.1.0
 
 pub past-requires-in-No-clause-on : goal.past-requires-in-No-clause-on
 past-requires-in-No-clause-on c =

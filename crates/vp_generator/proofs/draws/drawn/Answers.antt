@@ -4,10 +4,10 @@ use Rattle.heylo_graph.specs.Trees.{Tree}
 use Rattle.heylo_graph.proofs.exported.LongerLists.{stands_longer}
 use Rattle.heyvl_acts.specs.PlainActs.{parts_of}
 use Rattle.vp_generator.specs.GeneratedForms.{part_form, draw_form}
-use Rattle.vp_generator.specs.internal.Making.{IsMade}
+use Rattle.vp_generator.specs.internal.GraphSteps.{IsMade}
 use Rattle.vp_generator.proofs.BuiltForms.{stop_of_draw}
 use Rattle.vp_generator.proofs.GeneratorSteps.{draw_ready}
-use Rattle.vp_generator.proofs.Making.{ready_longer, made_placed}
+use Rattle.vp_generator.proofs.GraphForms.{ready_longer, made_placed}
 use Rattle.vp_generator.proofs.draws.drawn.Goals as goal
 
 pub part-requires-clause-ready : goal.part-requires-clause-ready

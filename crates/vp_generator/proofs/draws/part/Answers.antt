@@ -1,7 +1,7 @@
 use Rattle.heylo_formula.specs.PlainTrees.{term_of}
 use Rattle.heylo_formula.specs.Substitution as Replaced
 use Rattle.vp_generator.proofs.BuiltForms.{stop_of_scale}
-use Rattle.vp_generator.proofs.Making.{made_form}
+use Rattle.vp_generator.proofs.GraphForms.{made_form}
 use Rattle.vp_generator.proofs.draws.part.Goals as goal
 
 pub scaled-requires-clause-form : goal.scaled-requires-clause-form

@@ -1,5 +1,5 @@
 use Rattle.vp_generator.proofs.GeneratorSteps.{none_left, part_ready, parts_first, parts_next, parts_stop, parts_last}
-use Rattle.vp_generator.proofs.Making.{begins_on, placed_form}
+use Rattle.vp_generator.proofs.GraphForms.{begins_on, placed_form}
 use Rattle.vp_generator.proofs.draws.sum_from.Goals as goal
 
 pub parts-init : goal.parts-init

@@ -2,7 +2,7 @@ use Rattle.heylo_formula.specs.PlainTrees.{term_of}
 use Rattle.heylo_graph.specs.Trees.{Tree}
 use Rattle.heylo_graph.proofs.exported.LongerLists.{stands_longer}
 use Rattle.vp_generator.proofs.BuiltForms.{stop_of_right}
-use Rattle.vp_generator.proofs.Making.{formula_longer, made_form}
+use Rattle.vp_generator.proofs.GraphForms.{formula_longer, made_form}
 use Rattle.vp_generator.specs.GeneratedForms.{part_form}
 use Rattle.vp_generator.proofs.draws.with_part.Goals as goal
 

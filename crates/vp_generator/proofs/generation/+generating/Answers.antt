@@ -1,12 +1,12 @@
 use Rattle.std.proofs.Common.{sym, ap, subst, arith}
 use Rattle.vp_generator.specs.GeneratedForms.{vp_act}
-use Rattle.vp_generator.specs.InGraphs.{HasNoAny}
+use Rattle.vp_generator.specs.GraphAnswers.{HasNoAny}
 use Rattle.vp_generator.specs.internal.FittingActs.{IsFit}
-use Rattle.vp_generator.specs.internal.Making.{IsMade, IsReady}
+use Rattle.vp_generator.specs.internal.GraphSteps.{IsMade, IsReady}
 use Rattle.heylo_graph.proofs.exported.LongerLists.{stands_longer}
 use Rattle.vp_generator.proofs.Weights.{weight}
 use Rattle.vp_generator.proofs.BuiltForms.{stop_of_part, stop_of_first, stop_of_second, stop_of_arms}
-use Rattle.vp_generator.proofs.Making.{begins_on, ready_longer, placed_longer, formula_longer, made_placed, made_form, placed_form}
+use Rattle.vp_generator.proofs.GraphForms.{begins_on, ready_longer, placed_longer, formula_longer, made_placed, made_form, placed_form}
 use Rattle.vp_generator.proofs.GeneratorSteps.{none_left, if_here, pick_here, if_ready, pick_ready, rest_weighs, act_ready, act_calm, kept_first, kept_next, kept_stop, kept_last, other_arms_weigh, arm_ready, arm_calm, arms_first, arms_next, arms_stop, arms_last}
 use Rattle.vp_generator.proofs.generation.+generating.Goals as goal
 

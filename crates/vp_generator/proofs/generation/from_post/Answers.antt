@@ -1,6 +1,6 @@
 use Rattle.heyvl_acts.specs.PlainActs.{acts_of}
 use Rattle.vp_generator.proofs.BuiltForms.{stop_of_acts}
-use Rattle.vp_generator.proofs.Making.{same_form}
+use Rattle.vp_generator.proofs.GraphForms.{same_form}
 use Rattle.vp_generator.proofs.generation.from_post.Goals as goal
 
 pub over_acts-requires-clause-ready : goal.over_acts-requires-clause-ready

@@ -2,7 +2,7 @@ use Rattle.std.proofs.Common.{arith}
 use Rattle.heylo_formula.specs.PlainTrees.{form_of}
 use Rattle.heyvl_acts.specs.PlainActs.{acts_of}
 use Rattle.vp_generator.specs.GeneratedForms.{vp}
-use Rattle.vp_generator.proofs.Making.{same_form, stop_is}
+use Rattle.vp_generator.proofs.GraphForms.{same_form, stop_is}
 use Rattle.vp_generator.proofs.generation.vp.Goals as goal
 
 pub vp_in-requires-clause-post : goal.vp_in-requires-clause-post

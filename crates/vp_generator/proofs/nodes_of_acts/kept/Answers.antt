@@ -2,7 +2,7 @@ use Rattle.std.proofs.Common.{rules, ◌≡◌, true, false, sym, ◌∙◌}
 use Rattle.heylo_formula.specs.PlainTrees.{term_of}
 use Rattle.heylo_graph.specs.Trees.{Tree}
 use Rattle.heylo_graph.proofs.exported.LongerLists.{tree_within}
-use Rattle.vp_generator.proofs.Making.{asked_of, within_of, too_large, not_changed}
+use Rattle.vp_generator.proofs.GraphForms.{asked_of, within_of, too_large, not_changed}
 use Rattle.vp_generator.proofs.nodes_of_acts.kept.Goals as goal
 
 pub free-requires : goal.free-requires

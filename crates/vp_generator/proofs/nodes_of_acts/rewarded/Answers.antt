@@ -1,7 +1,7 @@
 use Rattle.heylo_formula.specs.PlainTrees.{form_of}
 use Rattle.heylo_graph.specs.Trees.{Tree}
 use Rattle.heylo_graph.proofs.exported.LongerLists.{stands_longer}
-use Rattle.vp_generator.proofs.Making.{formula_longer}
+use Rattle.vp_generator.proofs.GraphForms.{formula_longer}
 use Rattle.vp_generator.proofs.nodes_of_acts.rewarded.Goals as goal
 
 pub added-requires-clause-first : goal.added-requires-clause-first

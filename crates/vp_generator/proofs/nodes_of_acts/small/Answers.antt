@@ -1,7 +1,7 @@
 use Rattle.std.proofs.Common.{arith}
 use Rattle.heylo_formula.specs.Sizes.{nodes, depth}
 use Rattle.heylo_graph.specs.Trees.{Tree}
-use Rattle.vp_generator.proofs.Making.{passes, keeps}
+use Rattle.vp_generator.proofs.GraphForms.{passes, keeps}
 use Rattle.vp_generator.proofs.nodes_of_acts.small.Goals as goal
 
 pub returns-then-nodes-most : goal.returns-then-nodes-most

@@ -1,6 +1,6 @@
 use Rattle.heylo_graph.specs.Trees.{Tree}
 use Rattle.heylo_graph.proofs.exported.LongerLists.{stands_longer}
-use Rattle.vp_generator.proofs.Making.{ready_longer, formula_longer, made_form}
+use Rattle.vp_generator.proofs.GraphForms.{ready_longer, formula_longer, made_form}
 use Rattle.vp_generator.proofs.tosses.both_sides.Goals as goal
 
 pub side-requires-2-clause-ready : goal.side-requires-2-clause-ready

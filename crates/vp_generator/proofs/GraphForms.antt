@@ -13,11 +13,11 @@ use Rattle.heylo_graph.specs.Nodes.{Begins, IsFormula, Stands}
 use Rattle.heylo_graph.specs.declared.nodes.Node.{Node}
 use Rattle.heylo_graph.proofs.exported.LongerLists.{stands_longer}
 use Rattle.vp_generator.specs.Answers.{IsStop}
-use Rattle.vp_generator.specs.InGraphs.{IsWithin, IsStopAt}
+use Rattle.vp_generator.specs.GraphAnswers.{IsWithin, IsStopAt}
 use Rattle.vp_generator.specs.declared.stops.VpStop.{VpStop}
 use Rattle.vp_generator.specs.declared.stops.VpStop.TheVariants.{Depth, Nodes, Memory}
 use Rattle.vp_generator.specs.internal.FittingActs.{TermIsFit}
-use Rattle.vp_generator.specs.internal.Making.{IsMade, IsPlaced, IsReady}
+use Rattle.vp_generator.specs.internal.GraphSteps.{IsMade, IsPlaced, IsReady}
 use Rattle.vp_generator.proofs.FreeTerms.{term_counted}
 
 -- ---- Lists that begin others

@@ -5,7 +5,7 @@ use Rattle.heylo_formula.specs.Binders.{has_binder}
 use Rattle.heylo_graph.specs.Trees.{Tree}
 use Rattle.heylo_graph.specs.Nodes.{Stands}
 use Rattle.heylo_graph.specs.declared.nodes.Node.{Node}
-use Rattle.vp_generator.specs.InGraphs.{IsWithin, IsStopAt}
+use Rattle.vp_generator.specs.GraphAnswers.{IsWithin, IsStopAt}
 use Rattle.vp_generator.specs.declared.stops.VpStop.{VpStop}
 
 -- A formula within the limits stands at the number, and is what is asked; where many nodes may come, it has no binder.

@@ -13,7 +13,7 @@ use Rattle.heylo_formula.proofs.exported.Substitutions.{subst_binders}
 use Rattle.heyvl_acts.specs.Acts.{Act, Acts, Arms}
 use Rattle.heyvl_acts.specs.WellTypedActs.{PartsFit, ActFits, ActsFit, ArmsFit}
 use Rattle.vp_generator.specs.GeneratedForms.{pick_form, check_form, validate_form, part_form, sum_of_parts, toss_form, vp, vp_act, vp_arms}
-use Rattle.vp_generator.specs.InGraphs.{HasNoAny, HaveNoAny, HaveNoAnyIn}
+use Rattle.vp_generator.specs.GraphAnswers.{HasNoAny, HaveNoAny, HaveNoAnyIn}
 
 neither : (a b : Bool) → a ≡ false → b ≡ false → (a || b) ≡ false
 neither true b h k = h
