@@ -1,7 +1,11 @@
 -- What stands in a graph while a form is made there.
-use Rattle.std.proofs.Common.{◌≡◌, ℕ, ◌^◌, ◌+◌, ◌<◌, ◌≤◌, ◌⊎◌, inl, inr, min, Bool, true, false, List, [], ◌++◌, sym, ap, subst, ◌∙◌, arith, append_assoc, append-nil}
-use Rattle.std.specs.Prelude.{Option, Some, Result, Ok, Err}
+use Rattle.std.proofs.Common.{◌≡◌, ℕ, ◌^◌, ◌+◌, ◌<◌, ◌≤◌, ◌⊎◌, inl, inr, min, Bool, true, false, List, [], ◌++◌, sym, ap, subst, ◌∙◌, ap₂, refl, arith, append_assoc, append-nil, length, take}
+use Rattle.std.specs.Prelude.{Option, Some, Result, Ok, Err, IfOk, OnOk, OnErr, is_err}
+use Rattle.std.proofs.lemmas.List.{take_at}
 use Rattle.std.proofs.lemmas.Bool.{cases_lt}
+use Rattle.heyvl_num.specs.Extended.{value_of}
+use Rattle.heyvl_num.specs.Value.{oneᵛ}
+use Rattle.heyvl_num.specs.declared.extended.Ext.{Ext}
 use Rattle.heylo_formula.specs.Formula.{Form, Term}
 use Rattle.heylo_formula.specs.Binders.{has_binder}
 use Rattle.heylo_formula.specs.Sizes.{nodes, depth, nodes_in_term}
@@ -9,11 +13,11 @@ use Rattle.heylo_formula.specs.Substitution as Replaced
 use Rattle.heylo_formula.specs.Variables.{is_free}
 use Rattle.heylo_formula.proofs.exported.Substitutions.{kept_subst}
 use Rattle.heylo_graph.specs.Trees.{Tree}
-use Rattle.heylo_graph.specs.Nodes.{Begins, IsFormula, Stands}
+use Rattle.heylo_graph.specs.Nodes.{Begins, IsFormula, IsNodeOf, Stands, assembled, tree_at}
 use Rattle.heylo_graph.specs.declared.nodes.Node.{Node}
-use Rattle.heylo_graph.proofs.exported.LongerLists.{stands_longer}
+use Rattle.heylo_graph.proofs.exported.LongerLists.{stands_longer, const_node, cut_node}
 use Rattle.vp_generator.specs.Answers.{IsStop}
-use Rattle.vp_generator.specs.GraphAnswers.{IsWithin, IsStopAt}
+use Rattle.vp_generator.specs.GraphAnswers.{IsAnswerIn, IsWithin, IsStopAt}
 use Rattle.vp_generator.specs.declared.stops.VpStop.{VpStop}
 use Rattle.vp_generator.specs.declared.stops.VpStop.TheVariants.{Depth, Nodes, Memory}
 use Rattle.vp_generator.specs.internal.FittingActs.{TermIsFit}
@@ -48,6 +52,34 @@ placed_longer most old new i b p = record { form = p.form; stands = stands_longe
 
 pub ready_longer : (most : ℕ) (Asked : Form → Type 0) (old new : List Node) (i : ℕ) → Begins old new → IsReady most Asked old i → IsReady most Asked new i
 ready_longer most Asked old new i b r = record { form = r.form; stands = stands_longer old new i (Tree.formula r.form) b r.stands; asked = r.asked; within = r.within; plain = r.plain }
+
+-- ---- Calls that may fail
+
+pub joined_begins : {E : Type 0} (r : Result ℕ E) (old new : List Node) → OnOk r (Begins old new) → OnErr r (new ≡ old) → Begins old new
+joined_begins (Ok i) old new b e = b
+joined_begins (Err x) old new b e = begins_same old new e
+
+pub joined_stands : {E : Type 0} (r : Result ℕ E) (ns ms : List Node) (n : Node) (t : Tree) → IfOk r (λ i. (u : Tree) → assembled (tree_at ns) n ≡ Some u → Stands ms i u) → IsNodeOf ns n t → IfOk r (λ i. Stands ms i t)
+joined_stands (Ok i) ns ms n t h k = h t k.gives
+joined_stands (Err x) ns ms n t h k = tt
+
+-- The number 1 stands where its node does.
+pub one_stands : (v : Ext) (ns ms : List Node) (i : ℕ) → value_of v ≡ oneᵛ → ((u : Tree) → assembled (tree_at ns) (Node.Const v) ≡ Some u → Stands ms i u) → Stands ms i (Tree.formula (Form.number oneᵛ))
+one_stands v ns ms i e h = subst (λ x. Stands ms i (Tree.formula (Form.number x))) e (h _ (const_node ns v).gives)
+
+-- What a form leaves of 1, behind the list in which the form stands.
+pub rest_stands : {E : Type 0} (r : Result ℕ E) (ns gs ms : List Node) (one least : ℕ) → Begins ns gs → Stands gs one (Tree.formula (Form.number oneᵛ)) → IfOk r (λ i. (u : Tree) → assembled (tree_at gs) (Node.Cut one least) ≡ Some u → Stands ms i u) → IfOk r (λ i. (k : Form) → Stands ns least (Tree.formula k) → Stands ms i (Tree.formula (Form.cut (Form.number oneᵛ) k)))
+rest_stands (Ok i) ns gs ms one least b s h = λ k u. h _ (cut_node gs one least (Form.number oneᵛ) k s (stands_longer ns gs least (Tree.formula k) b u)).gives
+rest_stands (Err x) ns gs ms one least b s h = tt
+
+-- Where the code stops the list is cut, and else it has grown.
+pub cut_answer : (most : ℕ) (old grown cut : List Node) (f : Form) (r : Result ℕ VpStop) (len : ℕ) → is_err r ≡ true → len ≡ length old → Begins old grown → cut ≡ take len grown → IsMade most f r grown → IsAnswerIn most old f r cut
+cut_answer most old grown cut f (Ok i) len e l b c m = absurd (cc)
+cut_answer most old grown cut f (Err stop) len e l b c m = (c ∙ ap₂ take l b.whole ∙ take_at old b.more (length old) refl, m)
+
+pub grown_answer : (most : ℕ) (old grown : List Node) (f : Form) (r : Result ℕ VpStop) → is_err r ≡ false → Begins old grown → IsMade most f r grown → IsAnswerIn most old f r grown
+grown_answer most old grown f (Ok i) e b m = (b, m)
+grown_answer most old grown f (Err stop) e b m = absurd (cc)
 
 -- ---- What is known of the formula at a number
 

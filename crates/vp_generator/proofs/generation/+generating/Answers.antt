@@ -1,5 +1,7 @@
 use Rattle.std.proofs.Common.{sym, ap, subst, arith}
-use Rattle.vp_generator.specs.GeneratedForms.{vp_act}
+use Rattle.heylo_graph.specs.Trees.{Tree}
+use Rattle.heyvl_acts.specs.PlainActs.{acts_of}
+use Rattle.vp_generator.specs.GeneratedForms.{vp, vp_act}
 use Rattle.vp_generator.specs.GraphAnswers.{HasNoAny}
 use Rattle.vp_generator.specs.internal.FittingActs.{IsFit}
 use Rattle.vp_generator.specs.internal.GraphSteps.{IsMade, IsReady}
@@ -13,14 +15,14 @@ use Rattle.vp_generator.proofs.generation.+generating.Goals as goal
 pub over_act-over_if-requires : goal.over_act-over_if-requires
 over_act-over_if-requires t c =
     let e = if_here c.args.act.now c.in-If.arms c.in-If.otherwise _ c.deref-in-If.result.now c.deref-in-If-2.result.now c.in-If.is c.deref-in-If.ensures.value c.deref-in-If-2.ensures.value in
-    let r = if_ready c.args.most _ _ _ c.args.graph.now c.args.form (subst (λ a. IsReady c.args.most (IsFit a) c.args.graph.now c.args.form) e c.requires.ready) in
+    let r = if_ready c.args.most _ _ c.in-If.field-2 c.args.graph.now c.args.form (subst (λ a. IsReady c.args.most (IsFit a) c.args.graph.now c.args.form) e c.requires.ready) in
     let w = ap weight e in let d = c.decreases in
     (omega (arith, w, d), (c.requires.most, (r.0, (r.1, λ l. subst HasNoAny e (c.requires.calm l)))))
 
 pub over_act-over_pick-requires : goal.over_act-over_pick-requires
 over_act-over_pick-requires t c =
     let e = pick_here c.args.act.now c.in-Pick.up c.in-Pick.a c.in-Pick.b _ c.deref-in-Pick.result.now c.deref-in-Pick-2.result.now c.in-Pick.is c.deref-in-Pick.ensures.value c.deref-in-Pick-2.ensures.value in
-    let r = pick_ready c.args.most _ _ _ _ c.args.graph.now c.args.form (subst (λ a. IsReady c.args.most (IsFit a) c.args.graph.now c.args.form) e c.requires.ready) in
+    let r = pick_ready c.args.most c.in-Pick.up _ _ c.in-Pick.field-3 c.args.graph.now c.args.form (subst (λ a. IsReady c.args.most (IsFit a) c.args.graph.now c.args.form) e c.requires.ready) in
     let w = ap weight e in let d = c.decreases in
     (omega (arith, w, d), (c.requires.most, (r.0, (r.1, λ l. subst HasNoAny e (c.requires.calm l)))))
 
@@ -56,8 +58,8 @@ over_acts-returns-in-Err-clause-made t c = λ k s. kept_stop c.args.most c.args.
 pub over_acts-returns-clause-made : goal.over_acts-returns-clause-made
 over_acts-returns-clause-made t c = λ k s. kept_last c.args.most c.args.graph.now c.args.post c.args.acts.now c.acts.graph c.acts.rest.now c.acts.form k c.acts.invariant (none_left c.acts.rest.now c.in_default.ensures.cases) s
 
-pub over_pick-over_acts-requires-2 : goal.over_pick-over_acts-requires-2
-over_pick-over_acts-requires-2 t c = let d = c.decreases in (omega (arith, d), (c.requires.most, (ready_longer c.args.most _ c.args.graph.now c.over_acts.new.graph c.args.form c.in-Ok.ensures.begins c.requires.second, λ l. (c.requires.calm l).1)))
+pub over_pick-over_acts-requires-in-Ok : goal.over_pick-over_acts-requires-in-Ok
+over_pick-over_acts-requires-in-Ok t c = let d = c.decreases in (omega (arith, d), (c.requires.most, (ready_longer c.args.most _ c.args.graph.now c.over_acts.new.graph c.args.form c.in-Ok.ensures.begins c.requires.second, λ l. (c.requires.calm l).1)))
 
 pub over_if-over_arms-requires : goal.over_if-over_arms-requires
 over_if-over_arms-requires t c = let d = c.decreases in (omega (arith, d), (c.requires.most, (ready_longer c.args.most _ c.args.graph.now c.over_acts.new.graph c.args.form c.in-Ok.ensures.begins c.requires.arms, (made_placed c.args.most _ c.over_acts.new.graph c.in-Ok.start (c.in-Ok.ensures.made c.requires.otherwise.form c.requires.otherwise.stands), λ l. (c.requires.calm l).0))))
@@ -89,3 +91,24 @@ over_arms-returns-clause-made t c = λ k l s u. arms_last c.args.most c.args.gra
 
 pub over_if-returns-in-Ok-clause-made : goal.over_if-returns-in-Ok-clause-made
 over_if-returns-in-Ok-clause-made t c = λ k s. c.over_arms.ensures.made k _ (stands_longer c.args.graph.now c.over_acts.new.graph c.args.form _ c.in-Ok.ensures.begins s) (c.in-Ok.ensures.made k s).0
+
+pub over_pick-picked-requires-clause-first : goal.over_pick-picked-requires-clause-first
+over_pick-picked-requires-clause-first t c = formula_longer c.over_acts.new.graph c.over_acts-in-Ok.new.graph c.in-Ok.first c.in-Ok-over_acts.ensures.begins (made_form c.args.most _ c.over_acts.new.graph c.in-Ok.first (c.in-Ok.ensures.made c.requires.first.form c.requires.first.stands))
+
+pub over_pick-picked-requires-clause-second : goal.over_pick-picked-requires-clause-second
+over_pick-picked-requires-clause-second t c = made_form c.args.most _ c.over_acts-in-Ok.new.graph c.in-Ok-over_acts.second (c.in-Ok-over_acts.ensures.made c.requires.second.form (stands_longer c.args.graph.now c.over_acts.new.graph c.args.form (Tree.formula c.requires.second.form) c.in-Ok.ensures.begins c.requires.second.stands))
+
+pub over_pick-returns-in-Ok-over_acts-clause-made : goal.over_pick-returns-in-Ok-over_acts-clause-made
+over_pick-returns-in-Ok-over_acts-clause-made t c = λ k s. c.picked.ensures.made _ _ (stands_longer c.over_acts.new.graph c.over_acts-in-Ok.new.graph c.in-Ok.first _ c.in-Ok-over_acts.ensures.begins (c.in-Ok.ensures.made k s).0) (c.in-Ok-over_acts.ensures.made k (stands_longer c.args.graph.now c.over_acts.new.graph c.args.form (Tree.formula k) c.in-Ok.ensures.begins s)).0
+
+pub over_pick-returns-in-Err-over_acts-clause-made : goal.over_pick-returns-in-Err-over_acts-clause-made
+over_pick-returns-in-Err-over_acts-clause-made t c = λ k s. stop_of_second c.args.most c.args.up (vp (acts_of c.args.a.now) k) (vp (acts_of c.args.b.now) k) c.in-Err-over_acts.stop (c.in-Err-over_acts.ensures.made k (stands_longer c.args.graph.now c.over_acts.new.graph c.args.form (Tree.formula k) c.in-Ok.ensures.begins s))
+
+pub over_arm-selected-requires-clause-first : goal.over_arm-selected-requires-clause-first
+over_arm-selected-requires-clause-first t c = made_form c.args.most _ c.over_acts.new.graph c.in-Ok.branch (c.in-Ok.ensures.made c.requires.ready.form c.requires.ready.stands)
+
+pub over_arm-selected-requires-clause-second : goal.over_arm-selected-requires-clause-second
+over_arm-selected-requires-clause-second t c = formula_longer c.args.graph.now c.over_acts.new.graph c.args.others c.in-Ok.ensures.begins c.requires.others
+
+pub over_arm-returns-in-Ok-clause-made : goal.over_arm-returns-in-Ok-clause-made
+over_arm-returns-in-Ok-clause-made t c = λ k l s u. c.selected.ensures.made _ l (c.in-Ok.ensures.made k s).0 (stands_longer c.args.graph.now c.over_acts.new.graph c.args.others (Tree.formula l) c.in-Ok.ensures.begins u)

@@ -1,7 +1,10 @@
-use Rattle.heyvl_acts.specs.PlainActs.{acts_of}
+use Rattle.heylo_graph.specs.Trees.{Tree}
+use Rattle.heylo_graph.proofs.exported.LongerLists.{tree_within}
 use Rattle.vp_generator.proofs.BuiltForms.{stop_of_acts}
-use Rattle.vp_generator.proofs.GraphForms.{same_form}
 use Rattle.vp_generator.proofs.generation.from_post.Goals as goal
+
+pub small-requires-clause-there : goal.small-requires-clause-there
+small-requires-clause-there c = tree_within c.args.graph.now c.args.post (Tree.formula c.requires.post.form) c.requires.post.stands.tree
 
 pub over_acts-requires-clause-ready : goal.over_acts-requires-clause-ready
 over_acts-requires-clause-ready c =
@@ -14,3 +17,6 @@ over_acts-requires-clause-calm c = λ h. (c.requires.plain h).calm
 
 pub returns-in-Ok-clause-made : goal.returns-in-Ok-clause-made
 returns-in-Ok-clause-made c = λ k s. c.over_acts.ensures.made k (c.in-Ok.ensures k s).0
+
+pub returns-in-Err-clause-made : goal.returns-in-Err-clause-made
+returns-in-Err-clause-made c = λ k s. stop_of_acts c.args.most c.requires.post.fit.types c.args.acts.now k c.in-Err.stop c.requires.post.fit.fit (c.in-Err.ensures k s)

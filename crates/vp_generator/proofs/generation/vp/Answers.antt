@@ -17,7 +17,7 @@ tree-requires c = record { form = vp (acts_of c.args.acts.now) (form_of c.args.p
 pub returns-in-Ok : goal.returns-in-Ok
 returns-in-Ok c =
     let a = c.in-Ok.ensures (form_of c.args.post) c.in_ok-start.ensures.tree in
-    (same_form c.vp_in.new.graph c.in-Ok.id _ _ c.in_ok-tree.ensures a.1.0, record { few = a.1.1.few; shallow = a.1.1.shallow })
+    (same_form c.vp_in.new.graph c.in-Ok.id _ _ c.in_ok-tree-in-Ok.ensures a.1.0, record { few = a.1.1.few; shallow = a.1.1.shallow })
 
-pub returns-in-Err : goal.returns-in-Err
-returns-in-Err c = stop_is (vp (acts_of c.args.acts.now) (form_of c.args.post)) c.in-Err.stop (c.in-Err.ensures (form_of c.args.post) c.in_ok-start.ensures.tree).1
+pub returns : goal.returns
+returns c = ?
