@@ -1,4 +1,6 @@
 use Rattle.std.proofs.Common.{sym, ap, subst, arith}
+use Rattle.heylo_formula.specs.Formula.{Form}
+use Rattle.heylo_formula.specs.PlainTrees.{cond_of}
 use Rattle.heylo_graph.specs.Trees.{Tree}
 use Rattle.heyvl_acts.specs.PlainActs.{acts_of}
 use Rattle.vp_generator.specs.GeneratedForms.{vp, vp_act}
@@ -111,4 +113,4 @@ pub over_arm-selected-requires-clause-second : goal.over_arm-selected-requires-c
 over_arm-selected-requires-clause-second t c = formula_longer c.args.graph.now c.over_acts.new.graph c.args.others c.in-Ok.ensures.begins c.requires.others
 
 pub over_arm-returns-in-Ok-clause-made : goal.over_arm-returns-in-Ok-clause-made
-over_arm-returns-in-Ok-clause-made t c = λ k l s u. c.selected.ensures.made _ l (c.in-Ok.ensures.made k s).0 (stands_longer c.args.graph.now c.over_acts.new.graph c.args.others (Tree.formula l) c.in-Ok.ensures.begins u)
+over_arm-returns-in-Ok-clause-made t c = λ k l s u. subst (λ a. IsMade c.args.most (Form.select (cond_of c.args.arm.now.0) (vp (acts_of a) k) l) c.selected.result c.selected.new.graph) c.deref.ensures.value (c.selected.ensures.made _ l (c.in-Ok.ensures.made k s).0 (stands_longer c.args.graph.now c.over_acts.new.graph c.args.others (Tree.formula l) c.in-Ok.ensures.begins u))

@@ -20,4 +20,4 @@ returns-in-Ok c =
     (same_form c.vp_in.new.graph c.in-Ok.id _ _ c.in_ok-tree-in-Ok.ensures a.1.0, record { few = a.1.1.few; shallow = a.1.1.shallow })
 
 pub returns : goal.returns
-returns c = ?
+returns c = stop_is (vp (acts_of c.args.acts.now) (form_of c.args.post)) c.in-Err.stop (c.in-Err.ensures (form_of c.args.post) c.in_ok-start.ensures.tree).1
