@@ -1,6 +1,6 @@
 -- Acts over Boolean variables are well typed, and what stands in a graph is what vp_in asks for.
 use Rattle.std.proofs.Common.{◌≡◌, ℕ, ◌<◌, refl, sym, ap, ap₂, subst, ◌∙◌, arith, ints, Bool, true, false, if◌then◌else◌, ◌==◌, List, [], ◌∷◌, ◌++◌}
-use Rattle.std.specs.Prelude.{Option, Some, None, pos}
+use Rattle.std.specs.Prelude.{Some, pos}
 use Rattle.heyvl_num.specs.Exact.{exact_quotient, quotient}
 use Rattle.heyvl_num.specs.Rational.{Rational, zeroʳ, ◌≤ʳ◌}
 use Rattle.heyvl_num.specs.Value.Value.{finite}
@@ -10,7 +10,6 @@ use Rattle.heylo_formula.specs.Formula.{Form, Cond}
 use Rattle.heylo_formula.specs.Binders.{has_binder}
 use Rattle.heylo_formula.specs.Typing.{NumberType, joined, only_if, is_unsigned, is_finite_type, constant_type}
 use Rattle.heylo_graph.specs.Trees.{Tree}
-use Rattle.heylo_graph.specs.Nodes.{Stands}
 use Rattle.heylo_graph.specs.declared.nodes.Node.{Node}
 use Rattle.heyvl_acts.specs.declared.acts.Act as A
 use Rattle.heyvl_acts.specs.Acts.{Acts}

@@ -1,9 +1,8 @@
 //! The forms of acts in a graph, worked out by hand: how large they are, or which limit they pass, and how long the list is then.
 
-ghost use Rattle.std.specs.Prelude.{◌≡◌, ◌<◌, ◌≤◌, ◌^◌, ◌×◌, IfOk};
+ghost use Rattle.std.specs.Prelude.{◌<◌, ◌≤◌, ◌^◌, length, IfOk};
 ghost use Rattle.heyvl_acts.specs.PlainActs.{acts_of};
 ghost use Rattle.vp_generator.specs.GraphAnswers.{Follows, MakeNoBinder};
-ghost use Rattle.generation_tests.specs.BooleanActs.{AreCalm, StandsPlain};
 
 use crate::kinds::{Kind, check_text};
 use crate::steps::{Step, before_any, holds, repeated, same};
@@ -26,6 +25,19 @@ fn limit(word: &str) -> Result<u64, AllocError>
     }
 }
 
+/// Writes the nodes and the depth of a node's tree, and the length of the list.
+fn write_sizes(graph: &Graph, id: NodeId, text: &mut String) -> Result<(), AllocError>
+    requires { id < length graph.now }
+{
+    let (nodes, depth, len) = (graph.nodes(id), graph.depth(id), graph.len());
+    write!(text, "{nodes} {depth} {len}")
+}
+
+/// Writes the limit that is passed, and the length of the list.
+fn write_stop(limit: &str, len: usize, text: &mut String) -> Result<(), AllocError> {
+    write!(text, "{limit} {len}")
+}
+
 /// Writes the nodes and the depth of the form, or the limit that it passes; and then the length of the list.
 fn write_form(
     graph: &mut Graph,
@@ -39,15 +51,9 @@ fn write_form(
     requires plain { 2 ^ 30 ≤ most → MakeNoBinder (acts_of acts.now) graph.old post }
 {
     match vp_in(graph, acts, post, most) {
-        Ok(id) => write!(
-            text,
-            "{} {} {}",
-            graph.nodes(id),
-            graph.depth(id),
-            graph.len()
-        ),
-        Err(VpStop::Nodes) => write!(text, "Nodes {}", graph.len()),
-        Err(VpStop::Depth) => write!(text, "Depth {}", graph.len()),
+        Ok(id) => write_sizes(graph, id, text),
+        Err(VpStop::Nodes) => write_stop("Nodes", graph.len(), text),
+        Err(VpStop::Depth) => write_stop("Depth", graph.len(), text),
         Err(VpStop::Memory(error)) => Err(error),
     }
 }
