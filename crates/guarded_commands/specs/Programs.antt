@@ -24,6 +24,7 @@ mutual
     -- The block as long as the guard holds. The second expression is the invariant.
     repeat : Expression → Expression → BlockTree → Span → CommandTree
 
+  -- Commands, one behind another.
   pub data BlockTree : Type 0 where
     done : BlockTree
     next : CommandTree → BlockTree → BlockTree

@@ -41,6 +41,7 @@ abbrev mutual
   picks (CommandTree.choice a b s) = picks_in a + picks_in b
   picks (CommandTree.repeat g i a s) = picks_in a
 
+  -- Those of a block.
   pub picks_in : BlockTree → ℕ
   picks_in BlockTree.done = 0
   picks_in (BlockTree.next x xs) = picks x + picks_in xs
@@ -74,6 +75,7 @@ abbrev mutual
   lines j (CommandTree.repeat g i a s) =
       Statement.loop (LoopRule.invariant i s ∷ []) (Expression.group g s) (heyvl.block_of (statements j a)) s ∷ []
 
+  -- The statements of a block whose first choice has the number j.
   pub statements : ℕ → BlockTree → List Statement
   statements j BlockTree.done = []
   statements j (BlockTree.next x xs) = lines j x ++ statements (j + picks x) xs

@@ -13,6 +13,5 @@ mod Examples
 pub mod SubstitutionTypes
 pub mod SubstitutionBinders
 pub mod OneMeaning
-pub mod StandingCounts
 pub mod FiniteChoices
 pub mod exported

@@ -28,6 +28,7 @@ abbrev mutual
   binders (Form.select g a b) = binders_in g ++ (binders a ++ binders b)
   binders (Form.bind up x name ty a) = (name, ty) ∷ binders a
 
+  -- Those of a condition.
   pub binders_in : Cond → List Binder
   binders_in (Cond.constant b) = []
   binders_in (Cond.flag x) = []

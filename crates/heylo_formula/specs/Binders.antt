@@ -7,6 +7,7 @@ use Rattle.heylo_formula.specs.Choices.{Choices}
 use Rattle.heylo_formula.specs.Meaning.{value}
 
 abbrev mutual
+  -- Whether a formula holds an infimum or a supremum.
   pub has_binder : Form → Bool
   has_binder (Form.number v) = false
   has_binder (Form.variable x) = false
@@ -26,6 +27,7 @@ abbrev mutual
   has_binder (Form.select g a b) = has_binder_in g || (has_binder a || has_binder b)
   has_binder (Form.bind up y name ty a) = true
 
+  -- Whether a condition does.
   pub has_binder_in : Cond → Bool
   has_binder_in (Cond.constant b) = false
   has_binder_in (Cond.flag x) = false

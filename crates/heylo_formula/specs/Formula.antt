@@ -6,6 +6,7 @@ use Rattle.heyvl_places.specs.declared.spans.Span.{Span}
 use Rattle.heylo_formula.specs.declared.types.Ty.{Ty}
 
 mutual
+  -- A formula: what has a value in [0, ∞].
   pub data Form : Type 0 where
     number : Value → Form
     variable : ℕ → Form
@@ -25,6 +26,7 @@ mutual
     select : Cond → Form → Form → Form
     bind : Bool → ℕ → ℕ → Ty → Form → Form
 
+  -- A condition: what is true or false.
   pub data Cond : Type 0 where
     constant : Bool → Cond
     flag : ℕ → Cond

@@ -13,6 +13,7 @@ use Rattle.heylo_formula.specs.declared.values.Val.{Val}
 use Rattle.heylo_formula.specs.declared.values.Val.TheVariants.{Truth, Num}
 
 abbrev mutual
+  -- The value of a formula in a state, under the choices for its binders.
   pub value : Form → Env → Choices → Value
   value (Form.number v) s c = v
   value (Form.variable x) s c = finite (number_of (s x))
@@ -32,6 +33,7 @@ abbrev mutual
   value (Form.select g a b) s c = if holds g s (left c) then value a s (right c) else value b s (right c)
   value (Form.bind up x name ty a) s c = value a (put x (fit ty (here c)) s) (left c)
 
+  -- Whether a condition is true in a state, under the choices for its binders.
   pub holds : Cond → Env → Choices → Bool
   holds (Cond.constant b) s c = b
   holds (Cond.flag x) s c = truth_of (s x)

@@ -24,6 +24,7 @@ abbrev mutual
   shifted m (Form.select g a b) = Form.select (shifted_in m g) (shifted m a) (shifted m b)
   shifted m (Form.bind up x name ty a) = Form.bind up (m + x) name ty (shifted m a)
 
+  -- The same in a condition.
   pub shifted_in : ℕ → Cond → Cond
   shifted_in m (Cond.constant b) = Cond.constant b
   shifted_in m (Cond.flag x) = Cond.flag (m + x)
@@ -57,6 +58,7 @@ abbrev mutual
   extent (Form.select g a b) = max (extent_in g) (max (extent a) (extent b))
   extent (Form.bind up x name ty a) = max (1 + x) (extent a)
 
+  -- That of a condition.
   pub extent_in : Cond → ℕ
   extent_in (Cond.constant b) = 0
   extent_in (Cond.flag x) = 1 + x

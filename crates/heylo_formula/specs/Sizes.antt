@@ -23,6 +23,7 @@ abbrev mutual
   nodes (Form.select g a b) = 1 + (nodes_in g + (nodes a + nodes b))
   nodes (Form.bind up y name ty a) = 1 + nodes a
 
+  -- Those of a condition.
   pub nodes_in : Cond → ℕ
   nodes_in (Cond.constant b) = 1
   nodes_in (Cond.flag x) = 1
@@ -61,6 +62,7 @@ abbrev mutual
   depth (Form.select g a b) = 1 + max (depth_in g) (max (depth a) (depth b))
   depth (Form.bind up y name ty a) = 1 + depth a
 
+  -- That of a condition.
   pub depth_in : Cond → ℕ
   depth_in (Cond.constant b) = 1
   depth_in (Cond.flag x) = 1

@@ -28,6 +28,7 @@ abbrev mutual
   renamed y z (Form.select g a b) = Form.select (renamed_in y z g) (renamed y z a) (renamed y z b)
   renamed y z (Form.bind up w name ty a) = Form.bind up w name ty (if y == w then a else renamed y z a)
 
+  -- The same in a condition.
   pub renamed_in : ℕ → ℕ → Cond → Cond
   renamed_in y z (Cond.constant b) = Cond.constant b
   renamed_in y z (Cond.flag w) = if y == w then Cond.flag z else Cond.flag w
@@ -89,6 +90,7 @@ abbrev mutual
   subst_within (suc n) x t (Form.select g a b) = Form.select (subst_within_in n x t g) (subst_within n x t a) (subst_within n x t b)
   subst_within (suc n) x t (Form.bind up w name ty a) = if x == w then Form.bind up w name ty a else (if occurs_in_term w t && is_free x a then Form.bind up (fresh a t) name ty (subst_within n x t (renamed w (fresh a t) a)) else Form.bind up w name ty (subst_within n x t a))
 
+  -- The same in a condition.
   pub subst_within_in : ℕ → ℕ → Term → Cond → Cond
   subst_within_in zero x t g = g
   subst_within_in (suc n) x t (Cond.constant b) = Cond.constant b
@@ -131,6 +133,7 @@ abbrev mutual
   nodes_put x m k (Form.select g a b) = 1 + (nodes_put_in x m k g + (nodes_put x m k a + nodes_put x m k b))
   nodes_put x m k (Form.bind up w name ty a) = 1 + (if x == w then nodes a else nodes_put x m k a)
 
+  -- The same of a condition.
   pub nodes_put_in : ℕ → ℕ → ℕ → Cond → ℕ
   nodes_put_in x m k (Cond.constant b) = 1
   nodes_put_in x m k (Cond.flag w) = if x == w then k else 1

@@ -165,6 +165,7 @@ abbrev mutual
   type_of types (Form.select g a b) = only_if (is_well_typed types g) (joined (type_of types a) (type_of types b))
   type_of types (Form.bind up x name ty a) = only_if (is_unsigned (type_of (retyped x ty types) a)) (Some NumberType.eureal)
 
+  -- Whether each part of a condition fits the types of its variables.
   pub is_well_typed : Types → Cond → Bool
   is_well_typed types (Cond.constant b) = true
   is_well_typed types (Cond.flag x) = is_bool (types x)

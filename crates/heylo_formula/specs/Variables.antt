@@ -23,6 +23,7 @@ abbrev mutual
   is_free x (Form.select g a b) = is_free_in x g || (is_free x a || is_free x b)
   is_free x (Form.bind up y name ty a) = if x == y then false else is_free x a
 
+  -- The same in a condition.
   pub is_free_in : ℕ → Cond → Bool
   is_free_in x (Cond.constant b) = false
   is_free_in x (Cond.flag y) = x == y
@@ -56,6 +57,7 @@ abbrev mutual
   occurs x (Form.select g a b) = occurs_in x g || (occurs x a || occurs x b)
   occurs x (Form.bind up y name ty a) = (x == y) || occurs x a
 
+  -- The same in a condition.
   pub occurs_in : ℕ → Cond → Bool
   occurs_in x (Cond.constant b) = false
   occurs_in x (Cond.flag y) = x == y

@@ -11,7 +11,6 @@ mod renaming;
 mod shifts;
 mod sizes;
 mod substitution;
-mod substitution_sizes;
 mod terms;
 mod types;
 mod values;

@@ -21,6 +21,7 @@ pub record Head : Type 0 where
   pub span : Span
 
 mutual
+  -- One step of a procedure, with its place in the file.
   pub data Act : Type 0 where
     set : ℕ → Term → Span → Act
     draw : ℕ → List (Rational × Term) → Span → Act
@@ -34,10 +35,12 @@ mutual
     loop : Head → Acts → Act
     call : List ℕ → ℕ → List Term → Span → Act
 
+  -- Acts, one behind another.
   pub data Acts : Type 0 where
     done : Acts
     next : Act → Acts → Acts
 
+  -- The arms of an if, each with its guard and its acts, in the order in which they are tried.
   pub data Arms : Type 0 where
     no_arm : Arms
     arm : Cond → Acts → Arms → Arms

@@ -12,6 +12,7 @@ abbrev pub count_of_copies : ℕ → ℕ → ℕ
 count_of_copies k n = k * (n + 2)
 
 abbrev mutual
+  -- How many acts an act is, those inside it counted too.
   pub count_of_act : Act → ℕ
   count_of_act (Act.set x t span) = 1
   count_of_act (Act.draw x ps span) = 1
@@ -25,10 +26,12 @@ abbrev mutual
   count_of_act (Act.loop h b) = 4 + (length (modified h.scope b) + count_of_copies h.k (count_of b))
   count_of_act (Act.call xs p es span) = 3 + (length es + (length xs + length xs))
 
+  -- How many acts stand one behind another, those inside them counted too.
   pub count_of : Acts → ℕ
   count_of Acts.done = 0
   count_of (Acts.next a rest) = count_of_act a + count_of rest
 
+  -- How many acts stand in arms; each arm counts as one more.
   pub count_of_arms : Arms → ℕ
   count_of_arms Arms.no_arm = 0
   count_of_arms (Arms.arm g b more) = 1 + (count_of b + count_of_arms more)

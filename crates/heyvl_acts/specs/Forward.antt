@@ -66,6 +66,7 @@ abbrev pub OfCalls : Type 0
 OfCalls = List ℕ → ℕ → List Term → Post → Post
 
 abbrev mutual
+  -- What an act means, where the two functions say what loops and calls mean.
   pub meant_act : OfLoops → OfCalls → Act → Post → Post
   meant_act l q (Act.set x t span) k s c = k (put x (term_value t s) s) c
   meant_act l q (Act.draw x ps span) k s c = drawn x ps k s c
@@ -79,6 +80,7 @@ abbrev mutual
   meant_act l q (Act.loop h b) k s c = l h b (meant l q b) k s c
   meant_act l q (Act.call xs p es span) k s c = q xs p es k s c
 
+  -- What acts mean: the first, with what the rest means behind it.
   pub meant : OfLoops → OfCalls → Acts → Post → Post
   meant l q Acts.done k s c = k s c
   meant l q (Acts.next a rest) k s c = meant_act l q a (meant l q rest k) s c

@@ -21,10 +21,12 @@ abbrev mutual
   length_of_act (Act.loop h b) = 1
   length_of_act (Act.call xs p es span) = 1
 
+  -- The length of acts, one behind another.
   pub length_of : Acts → ℕ
   length_of Acts.done = 0
   length_of (Acts.next a rest) = length_of_act a + length_of rest
 
+  -- The greatest length of an arm.
   pub longest : Arms → ℕ
   longest Arms.no_arm = 0
   longest (Arms.arm g b more) = longer (length_of b) (longest more)

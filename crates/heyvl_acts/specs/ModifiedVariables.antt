@@ -18,10 +18,12 @@ abbrev mutual
   is_target_of_act x (Act.loop h b) = is_target_of x b
   is_target_of_act x (Act.call ys p es span) = among ys x
 
+  -- Whether one of the acts gives the variable a value.
   pub is_target_of : ℕ → Acts → Bool
   is_target_of x Acts.done = false
   is_target_of x (Acts.next a rest) = is_target_of_act x a || is_target_of x rest
 
+  -- Whether an act of an arm does.
   pub is_target_of_arms : ℕ → Arms → Bool
   is_target_of_arms x Arms.no_arm = false
   is_target_of_arms x (Arms.arm g b more) = is_target_of x b || is_target_of_arms x more

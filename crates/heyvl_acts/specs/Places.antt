@@ -12,6 +12,7 @@ abbrev mutual
   in_order Acts.done = []
   in_order (Acts.next a rest) = a ∷ (inside a ++ in_order rest)
 
+  -- The acts inside an act, in the order of the text.
   pub inside : Act → List Act
   inside (Act.set x t span) = []
   inside (Act.draw x ps span) = []
@@ -25,6 +26,7 @@ abbrev mutual
   inside (Act.loop h b) = in_order b
   inside (Act.call xs p es span) = []
 
+  -- The acts inside the arms, in the order of the text.
   pub inside_arms : Arms → List Act
   inside_arms Arms.no_arm = []
   inside_arms (Arms.arm g b more) = in_order b ++ inside_arms more

@@ -5,6 +5,7 @@ use Rattle.std.specs.Prelude.{true}
 use Rattle.heyvl_acts.specs.Acts.{Act, Acts, Arms}
 
 abbrev mutual
+  -- Acts as a ranking counts them.
   pub upward : Acts → Acts
   upward Acts.done = Acts.done
   upward (Acts.next a rest) = upward_next a (upward rest)
@@ -23,6 +24,7 @@ abbrev mutual
   upward_next (Act.loop h b) rest = Acts.next (Act.loop h b) rest
   upward_next (Act.call xs p es span) rest = Acts.next (Act.call xs p es span) rest
 
+  -- Arms as a ranking counts them.
   pub upward_arms : Arms → Arms
   upward_arms Arms.no_arm = Arms.no_arm
   upward_arms (Arms.arm g b more) = Arms.arm g (upward b) (upward_arms more)

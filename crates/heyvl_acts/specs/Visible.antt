@@ -72,6 +72,7 @@ shown_by (Act.loop h b) v = v
 shown_by (Act.call xs p es span) v = shown_all xs v
 
 abbrev mutual
+  -- The act reads visible variables alone.
   pub ScopedAct : Visible → Act → Type 0
   ScopedAct v (Act.set x t span) = SeesTerm v t
   ScopedAct v (Act.draw x qs span) = SeesParts v qs
@@ -85,10 +86,12 @@ abbrev mutual
   ScopedAct v (Act.loop h b) = ((y : ℕ) → v y ≡ among h.scope y) × ((Sees v h.inv × (SeesCond v h.guard × SeesRank v h.rank)) × Scoped v b)
   ScopedAct v (Act.call xs p es span) = SeesTerms v es
 
+  -- Each of the acts reads what is visible where it stands.
   pub Scoped : Visible → Acts → Type 0
   Scoped v Acts.done = Unit {0}
   Scoped v (Acts.next a rest) = ScopedAct v a × Scoped (shown_by a v) rest
 
+  -- The guards and the acts of the arms read what is visible where they stand.
   pub ScopedArms : Visible → Arms → Type 0
   ScopedArms v Arms.no_arm = Unit {0}
   ScopedArms v (Arms.arm g b more) = SeesCond v g × (Scoped v b × ScopedArms v more)

@@ -27,6 +27,7 @@ DrawFits types x [] = ⊥
 DrawFits types x (p ∷ ps) = PartsFit types x (p ∷ ps)
 
 abbrev mutual
+  -- The act fits the types of the variables.
   pub ActFits : Types → Act → Type 0
   ActFits types (Act.set x t span) = TermFits types (types x) t
   ActFits types (Act.draw x ps span) = DrawFits types x ps
@@ -40,10 +41,12 @@ abbrev mutual
   ActFits types (Act.loop h b) = ⊥
   ActFits types (Act.call xs p es span) = ⊥
 
+  -- Each of the acts fits the types of the variables.
   pub ActsFit : Types → Acts → Type 0
   ActsFit types Acts.done = Unit {0}
   ActsFit types (Acts.next a rest) = ActFits types a × ActsFit types rest
 
+  -- The guards and the acts of the arms fit the types of the variables.
   pub ArmsFit : Types → Arms → Type 0
   ArmsFit types Arms.no_arm = Unit {0}
   ArmsFit types (Arms.arm g b more) = (is_well_typed types g ≡ true) × (ActsFit types b × ArmsFit types more)

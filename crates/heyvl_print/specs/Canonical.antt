@@ -115,10 +115,12 @@ abbrev mutual
   if_pieces n Arms.no_arm = []
   if_pieces n (Arms.arm g b more) = arm_pieces n g (block_lines (n + 2) b) then else_if_pieces n more
 
+  -- The pieces of the further arms, each behind `else`.
   pub else_if_pieces : ℕ → Arms → List Piece
   else_if_pieces n Arms.no_arm = []
   else_if_pieces n (Arms.arm g b more) = space then key keys.Else then space then arm_pieces n g (block_lines (n + 2) b) then else_if_pieces n more
 
+  -- The lines of a block, indented by n blanks.
   pub block_lines : ℕ → Block → List Piece
   block_lines n Block.done = []
   block_lines n (Block.next x xs) = statement_lines n x then block_lines n xs

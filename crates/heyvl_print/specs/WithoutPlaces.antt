@@ -53,6 +53,7 @@ bare_rule (LoopRule.k_induction k i s) = LoopRule.k_induction (bare_expression k
 bare_rule (LoopRule.ranking e r s) = LoopRule.ranking (bare_expression e) (bare_expression r) no_place
 
 abbrev mutual
+  -- The statement without its places.
   pub bare_statement : Statement → Statement
   bare_statement (Statement.var x t r s) = Statement.var x t (bare_given r) no_place
   bare_statement (Statement.assign xs r s) = Statement.assign xs (bare_right r) no_place
@@ -64,10 +65,12 @@ abbrev mutual
   bare_statement (Statement.pick up a b s) = Statement.pick up (bare_block a) (bare_block b) no_place
   bare_statement (Statement.loop rules g b s) = Statement.loop (map bare_rule rules) (bare_expression g) (bare_block b) no_place
 
+  -- The block without its places.
   pub bare_block : Block → Block
   bare_block Block.done = Block.done
   bare_block (Block.next x xs) = Block.next (bare_statement x) (bare_block xs)
 
+  -- The arms without their places.
   pub bare_arms : Arms → Arms
   bare_arms Arms.no_arm = Arms.no_arm
   bare_arms (Arms.arm g b more) = Arms.arm (bare_expression g) (bare_block b) (bare_arms more)

@@ -45,6 +45,7 @@ nodes_of_rule (LoopRule.k_induction k i s) = nodes k + nodes i
 nodes_of_rule (LoopRule.ranking e r s) = nodes e + nodes r
 
 abbrev mutual
+  -- The nodes of the expressions in a statement.
   pub nodes_of_statement : Statement → ℕ
   nodes_of_statement (Statement.var x t r s) = nodes_of_optional r
   nodes_of_statement (Statement.assign xs r s) = nodes_of_right r
@@ -56,10 +57,12 @@ abbrev mutual
   nodes_of_statement (Statement.pick up a b s) = nodes_of_block a + nodes_of_block b
   nodes_of_statement (Statement.loop rules g b s) = sum_by nodes_of_rule rules + nodes g + nodes_of_block b
 
+  -- Those of a block.
   pub nodes_of_block : Block → ℕ
   nodes_of_block Block.done = 0
   nodes_of_block (Block.next x xs) = nodes_of_statement x + nodes_of_block xs
 
+  -- Those of arms, their guards counted too.
   pub nodes_of_arms : Arms → ℕ
   nodes_of_arms Arms.no_arm = 0
   nodes_of_arms (Arms.arm g b more) = nodes g + nodes_of_block b + nodes_of_arms more

@@ -42,10 +42,12 @@ mutual
     pick : Bool → Block → Block → Span → Statement
     loop : List LoopRule → Expression → Block → Span → Statement
 
+  -- Statements, one behind another.
   pub data Block : Type 0 where
     done : Block
     next : Statement → Block → Block
 
+  -- The arms of an if, each with its guard and its block.
   pub data Arms : Type 0 where
     no_arm : Arms
     arm : Expression → Block → Arms → Arms

@@ -22,10 +22,12 @@ abbrev mutual
   IsArmed (Statement.havoc co xs s) = Unit {0}
   IsArmed (Statement.reward a s) = Unit {0}
 
+  -- The same of a block.
   pub IsBlockArmed : Block → Type 0
   IsBlockArmed Block.done = Unit {0}
   IsBlockArmed (Block.next s b) = IsArmed s × IsBlockArmed b
 
+  -- The same of the blocks of arms.
   pub AreArmsArmed : Arms → Type 0
   AreArmsArmed Arms.no_arm = Unit {0}
   AreArmsArmed (Arms.arm g b more) = IsBlockArmed b × AreArmsArmed more

@@ -162,10 +162,12 @@ abbrev mutual
   loops (Statement.pick up a b s) = loops_of_block a + loops_of_block b
   loops (Statement.loop rules g b s) = 1 + loops_of_block b
 
+  -- Those of a block.
   pub loops_of_block : Block → ℕ
   loops_of_block Block.done = 0
   loops_of_block (Block.next s b) = loops s + loops_of_block b
 
+  -- Those of arms.
   pub loops_of_arms : text.Arms → ℕ
   loops_of_arms text.Arms.no_arm = 0
   loops_of_arms (text.Arms.arm g b more) = loops_of_block b + loops_of_arms more
@@ -183,10 +185,12 @@ abbrev mutual
   statement_acts h called n m sc (Statement.pick up a b s) = Acts.next (Act.pick up (block_acts h called n m sc a) (block_acts h called (n + length (locals_of_block a)) (m + loops_of_block a) sc b) s) Acts.done
   statement_acts h called n m sc (Statement.loop rules g b s) = Acts.next (Act.loop (record { number = m; k = copies_of rules; inv = invariant_of n sc rules; guard = condition (elaborate n sc g); rank = ranking_of n sc rules; scope = numbers sc; span = s }) (block_acts h called n (suc m) sc b)) Acts.done
 
+  -- The acts of a block.
   pub block_acts : Setting → Called → ℕ → ℕ → Scope → Block → Acts
   block_acts h called n m sc Block.done = Acts.done
   block_acts h called n m sc (Block.next s b) = join (statement_acts h called n m sc s) (block_acts h called (n + length (locals s)) (m + loops s) (behind n sc s) b)
 
+  -- The arms, each with the acts of its block.
   pub arms_acts : Setting → Called → ℕ → ℕ → Scope → text.Arms → Arms
   arms_acts h called n m sc text.Arms.no_arm = Arms.no_arm
   arms_acts h called n m sc (text.Arms.arm g b more) = Arms.arm (condition (elaborate n sc g)) (block_acts h called n m sc b) (arms_acts h called (n + length (locals_of_block b)) (m + loops_of_block b) sc more)

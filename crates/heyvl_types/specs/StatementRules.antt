@@ -58,10 +58,12 @@ abbrev mutual
   binds (Statement.pick up a b s) = block_binds a || block_binds b
   binds (Statement.loop rules g b s) = true
 
+  -- Whether one stands in a block.
   pub block_binds : Block → Bool
   block_binds Block.done = false
   block_binds (Block.next s b) = binds s || block_binds b
 
+  -- Whether one stands in an arm.
   pub arms_bind : Arms → Bool
   arms_bind Arms.no_arm = false
   arms_bind (Arms.arm g b more) = block_binds b || arms_bind more
@@ -79,10 +81,12 @@ abbrev mutual
   is_rankable (Statement.pick up a b s) = block_is_rankable a && block_is_rankable b
   is_rankable (Statement.loop rules g b s) = false
 
+  -- The same of a block.
   pub block_is_rankable : Block → Bool
   block_is_rankable Block.done = true
   block_is_rankable (Block.next s b) = is_rankable s && block_is_rankable b
 
+  -- The same of arms.
   pub arms_are_rankable : Arms → Bool
   arms_are_rankable Arms.no_arm = true
   arms_are_rankable (Arms.arm g b more) = block_is_rankable b && arms_are_rankable more
@@ -155,10 +159,12 @@ abbrev mutual
   statement_findings h called bound n sc (Statement.pick up a b s) = block_findings h called (bound || block_binds b) n sc a ++ block_findings h called bound (n + length (locals_of_block a)) sc b
   statement_findings h called bound n sc (Statement.loop rules g b s) = rules_findings n sc rules ++ closed_findings Demand.Truth n sc g ++ block_findings h called true n sc b ++ at s (loop_rules n sc rules (block_is_rankable b))
 
+  -- What is found in a block, in the order of the text.
   pub block_findings : Setting → Called → Bool → ℕ → Scope → Block → List Finding
   block_findings h called bound n sc Block.done = []
   block_findings h called bound n sc (Block.next s b) = statement_findings h called (bound || block_binds b) n sc s ++ block_findings h called bound (n + length (locals s)) (behind n sc s) b
 
+  -- What is found in arms, in the order of the text.
   pub arms_findings : Setting → Called → Bool → ℕ → Scope → Arms → List Finding
   arms_findings h called bound n sc Arms.no_arm = []
   arms_findings h called bound n sc (Arms.arm g b more) = closed_findings Demand.Truth n sc g ++ block_findings h called (bound || arms_bind more) n sc b ++ arms_findings h called bound (n + length (locals_of_block b)) sc more

@@ -24,6 +24,7 @@ abbrev pub parameters : List Param → List Variable
 parameters ps = map (λ p. declared p.name p.ty) ps
 
 abbrev mutual
+  -- The variables that a statement declares, those of its blocks too, in the order of the text.
   pub locals : Statement → List Variable
   locals (Statement.var x t r s) = declared x t ∷ []
   locals (Statement.assign xs r s) = []
@@ -35,10 +36,12 @@ abbrev mutual
   locals (Statement.pick up a b s) = locals_of_block a ++ locals_of_block b
   locals (Statement.loop rules g b s) = locals_of_block b
 
+  -- Those that a block declares.
   pub locals_of_block : Block → List Variable
   locals_of_block Block.done = []
   locals_of_block (Block.next s b) = locals s ++ locals_of_block b
 
+  -- Those that arms declare.
   pub locals_of_arms : Arms → List Variable
   locals_of_arms Arms.no_arm = []
   locals_of_arms (Arms.arm g b more) = locals_of_block b ++ locals_of_arms more

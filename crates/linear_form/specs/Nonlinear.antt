@@ -32,6 +32,7 @@ abbrev mutual
   first_product (Form.select g a b) = option_or (first_product_in g) (option_or (first_product a) (first_product b))
   first_product (Form.bind up x name ty a) = first_product a
 
+  -- The first one in a condition.
   pub first_product_in : Cond → Option Span
   first_product_in (Cond.constant b) = None
   first_product_in (Cond.flag x) = None

@@ -175,6 +175,7 @@ abbrev mutual
   evaluate (Form.select g a b) = next (test g) (λ t. if t then evaluate a else evaluate b)
   evaluate (Form.bind up x name ty a) = bits
 
+  -- The questions of a condition, and whether it is true by their answers.
   pub test : Cond → Query Bool
   test (Cond.constant b) = done b
   test (Cond.flag x) = ask (Atom.truth x) (done true) (done false)

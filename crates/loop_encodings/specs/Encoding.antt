@@ -87,10 +87,12 @@ abbrev mutual
   encoded_act ps p m (Act.loop h b) = encoded_loop p.co (types_of p) h (modified h.scope b) (encoded ps p m b)
   encoded_act ps p m (Act.call xs q es span) = encoded_call p.co span m xs (procedure_at ps q) es
 
+  -- The acts, one behind another, each with fresh variables of its own.
   pub encoded : List TypedProcedure → TypedProcedure → ℕ → Acts → Acts
   encoded ps p m Acts.done = Acts.done
   encoded ps p m (Acts.next a rest) = join (encoded_act ps p m a) (encoded ps p (m + length (fresh_of_act ps a)) rest)
 
+  -- The arms, each with fresh variables of its own.
   pub encoded_arms : List TypedProcedure → TypedProcedure → ℕ → Arms → Arms
   encoded_arms ps p m Arms.no_arm = Arms.no_arm
   encoded_arms ps p m (Arms.arm g b more) = Arms.arm g (encoded ps p m b) (encoded_arms ps p (m + length (fresh ps b)) more)

@@ -32,6 +32,7 @@ chosen (Some false) x y = y
 chosen None x y = None
 
 abbrev mutual
+  -- The value of a formula in a list of values; nothing where a number on the way grows too large.
   pub exact_value : Form → List Val → Option Value
   exact_value (Form.number v) s = Some v
   exact_value (Form.variable x) s = Some (finite (number_of (get x s)))
@@ -51,6 +52,7 @@ abbrev mutual
   exact_value (Form.select g a b) s = chosen (exact_truth g s) (exact_value a s) (exact_value b s)
   exact_value (Form.bind up x name ty a) s = None
 
+  -- Whether a condition is true in a list of values; nothing where a number on the way grows too large.
   pub exact_truth : Cond → List Val → Option Bool
   exact_truth (Cond.constant b) s = Some b
   exact_truth (Cond.flag x) s = Some (truth_of (get x s))

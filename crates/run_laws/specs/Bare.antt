@@ -32,6 +32,7 @@ abbrev mutual
   bare_form (Form.select g a b) = Form.select (bare_cond g) (bare_form a) (bare_form b)
   bare_form (Form.bind up x name ty a) = Form.bind up x name ty (bare_form a)
 
+  -- The condition without its places.
   pub bare_cond : Cond → Cond
   bare_cond (Cond.constant b) = Cond.constant b
   bare_cond (Cond.flag x) = Cond.flag x
@@ -58,6 +59,7 @@ abbrev pub bare_head : Head → Head
 bare_head h = record { number = h.number; k = 1; inv = Form.number zeroᵛ; guard = bare_cond h.guard; rank = None; scope = h.scope; span = nowhere }
 
 abbrev mutual
+  -- The act without its places.
   pub bare_act : Act → Act
   bare_act (Act.set x t span) = Act.set x (bare_term t) nowhere
   bare_act (Act.draw x qs span) = Act.draw x (map bare_part qs) nowhere
@@ -71,10 +73,12 @@ abbrev mutual
   bare_act (Act.loop h b) = Act.loop (bare_head h) (bare b)
   bare_act (Act.call xs p es span) = Act.call xs p (map bare_term es) nowhere
 
+  -- The acts without their places.
   pub bare : Acts → Acts
   bare Acts.done = Acts.done
   bare (Acts.next a rest) = Acts.next (bare_act a) (bare rest)
 
+  -- The arms without their places.
   pub bare_arms : Arms → Arms
   bare_arms Arms.no_arm = Arms.no_arm
   bare_arms (Arms.arm g b more) = Arms.arm (bare_cond g) (bare b) (bare_arms more)

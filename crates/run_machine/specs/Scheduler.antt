@@ -4,10 +4,12 @@
 use Rattle.run_machine.specs.Step.{Decision}
 
 mutual
+  -- A scheduler: its decision, and how it goes on after each outcome.
   pub data Tree : Type 0 where
     leaf : Tree
     node : Decision → Forest → Tree
 
+  -- Schedulers, one for each outcome.
   pub data Forest : Type 0 where
     no_trees : Forest
     trees : Tree → Forest → Forest

@@ -27,6 +27,7 @@ abbrev mutual
   FormStands n (Form.select g a b) = CondStands n g × (FormStands n a × FormStands n b)
   FormStands n (Form.bind up x name ty a) = FormStands n a
 
+  -- Each product in the condition begins within so many bytes.
   pub CondStands : ℕ → Cond → Type 0
   CondStands n (Cond.constant b) = Unit {0}
   CondStands n (Cond.flag x) = Unit {0}

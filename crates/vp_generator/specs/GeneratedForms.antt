@@ -46,6 +46,7 @@ abbrev pub toss_form : ℕ → Form → Span → Form → Form
 toss_form x f span k = Form.sum (Form.product (Form.min f (Form.number oneᵛ)) (subst x (Term.truth (Cond.constant true)) k) span) (Form.product (Form.cut (Form.number oneᵛ) (Form.min f (Form.number oneᵛ))) (subst x (Term.truth (Cond.constant false)) k) span)
 
 abbrev mutual
+  -- The form of an act, where what follows has the given one.
   pub vp_act : Act → Form → Form
   vp_act (Act.set x t span) k = subst x t k
   vp_act (Act.draw x ps span) k = draw_form x ps k
@@ -59,10 +60,12 @@ abbrev mutual
   vp_act (Act.loop h b) k = Form.number zeroᵛ
   vp_act (Act.call xs p es span) k = Form.number zeroᵛ
 
+  -- The form of acts: that of the first over that of the rest.
   pub vp : Acts → Form → Form
   vp Acts.done k = k
   vp (Acts.next a rest) k = vp_act a (vp rest k)
 
+  -- The form of arms: the first whose guard holds, else the last form.
   pub vp_arms : Arms → Form → Form → Form
   vp_arms Arms.no_arm k otherwise = otherwise
   vp_arms (Arms.arm g b more) k otherwise = Form.select g (vp b k) (vp_arms more k otherwise)

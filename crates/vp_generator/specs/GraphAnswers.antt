@@ -32,10 +32,12 @@ abbrev mutual
   HasNoAny (Act.loop h b) = Unit {0}
   HasNoAny (Act.call xs p es span) = Unit {0}
 
+  -- The same of acts.
   pub HaveNoAny : Acts → Type 0
   HaveNoAny Acts.done = Unit {0}
   HaveNoAny (Acts.next a rest) = HasNoAny a × HaveNoAny rest
 
+  -- The same of arms.
   pub HaveNoAnyIn : Arms → Type 0
   HaveNoAnyIn Arms.no_arm = Unit {0}
   HaveNoAnyIn (Arms.arm g b more) = HaveNoAny b × HaveNoAnyIn more

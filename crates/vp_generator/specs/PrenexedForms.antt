@@ -38,6 +38,7 @@ abbrev mutual
   unbound m n (Form.select g a b) = Form.select (unbound_in m n g) (unbound m (n + length (binders_in g)) a) (unbound m (n + length (binders_in g) + length (binders a)) b)
   unbound m n (Form.bind up x name ty a) = unbound (renumbered x n m) (suc n) a
 
+  -- The same of a condition.
   pub unbound_in : Numbering → ℕ → Cond → Cond
   unbound_in m n (Cond.constant b) = Cond.constant b
   unbound_in m n (Cond.flag x) = Cond.flag (m x)
@@ -71,6 +72,7 @@ abbrev mutual
   chosen (Form.select g a b) c = chosen_in g (left c) ++ (chosen a (right c) ++ chosen b (right c))
   chosen (Form.bind up x name ty a) c = fit ty (here c) ∷ chosen a (left c)
 
+  -- Those of a condition.
   pub chosen_in : Cond → Choices → List Val
   chosen_in (Cond.constant b) c = []
   chosen_in (Cond.flag x) c = []

@@ -34,10 +34,12 @@ abbrev mutual
   AnyIsBelow n (Act.loop h b) = Unit {0}
   AnyIsBelow n (Act.call xs p es span) = Unit {0}
 
+  -- The same of acts.
   pub AnysAreBelow : ℕ → Acts → Type 0
   AnysAreBelow n Acts.done = Unit {0}
   AnysAreBelow n (Acts.next a rest) = AnyIsBelow n a × AnysAreBelow n rest
 
+  -- The same of arms.
   pub AnysAreBelow_in : ℕ → Arms → Type 0
   AnysAreBelow_in n Arms.no_arm = Unit {0}
   AnysAreBelow_in n (Arms.arm g b more) = AnysAreBelow n b × AnysAreBelow_in n more
