@@ -1,5 +1,6 @@
 -- The loop that a number names, in lists of acts in a row.
 use Rattle.std.proofs.Common.{◌≡◌, ℕ, Bool, true, false, cond, ◌<◌, ◌+◌, ◌==◌, refl, ap, sym, ◌∙◌, List, [], ◌∷◌, ◌++◌, length, get_or}
+use Rattle.std.specs.Option.{option_or}
 use Rattle.std.specs.Prelude.{Option, Some, None, Vec}
 use Rattle.std.specs.declared.alloc.Global.{Global}
 use Rattle.heylo_formula.specs.declared.forms.Cond as C
@@ -13,15 +14,11 @@ use Rattle.heyvl_acts.proofs.exported.ActsInOrder.{acts_from, arms_from, next_ac
 abbrev Found : Type 0
 Found = Option (Head × Acts)
 
-abbrev or_else : Found → Found → Found
-or_else (Some l) other = Some l
-or_else None other = other
-
-either : (t : Bool) (l : Head × Acts) (x y : Found) → cond t (Some l) (or_else x y) ≡ or_else (cond t (Some l) x) y
+either : (t : Bool) (l : Head × Acts) (x y : Found) → cond t (Some l) (option_or x y) ≡ option_or (cond t (Some l) x) y
 either true l x y = refl
 either false l x y = refl
 
-both : (n : ℕ) (xs ys : List Act) → loop_in n (xs ++ ys) ≡ or_else (loop_in n xs) (loop_in n ys)
+both : (n : ℕ) (xs ys : List Act) → loop_in n (xs ++ ys) ≡ option_or (loop_in n xs) (loop_in n ys)
 both n [] ys = refl
 both n (Act.set x t span ∷ rest) ys = both n rest ys
 both n (Act.draw x ps span ∷ rest) ys = both n rest ys
@@ -37,11 +34,11 @@ both n (Act.call xs p es span ∷ rest) ys = both n rest ys
 
 -- What is found in the first part is found in both.
 pub found_first : (n : ℕ) (xs ys : List Act) (l : Head × Acts) → Some l ≡ loop_in n xs → Some l ≡ loop_in n (xs ++ ys)
-found_first n xs ys l h = sym (both n xs ys ∙ ap (λ o. or_else o (loop_in n ys)) (sym h))
+found_first n xs ys l h = sym (both n xs ys ∙ ap (λ o. option_or o (loop_in n ys)) (sym h))
 
 -- Where there is none in the first part, the second counts.
 pub past_first : (n : ℕ) (xs ys : List Act) → None ≡ loop_in n xs → loop_in n (xs ++ ys) ≡ loop_in n ys
-past_first n xs ys h = both n xs ys ∙ ap (λ o. or_else o (loop_in n ys)) (sym h)
+past_first n xs ys h = both n xs ys ∙ ap (λ o. option_or o (loop_in n ys)) (sym h)
 
 pub act_found : (n : ℕ) (acts : List A.Act) (k : ℕ) (x : A.Act) (l : Head × Acts) → k < length acts → x ≡ get_or acts k x → Some l ≡ loop_in n (act_of x ∷ inside (act_of x)) → Some l ≡ loop_in n (acts_from acts k)
 act_found n acts k x l lt is h = found_first n (act_of x ∷ inside (act_of x)) (acts_from acts (k + 1)) l h ∙ ap (λ l. loop_in n l) (sym (next_act acts k x lt is))

@@ -7,6 +7,7 @@ use Rattle.std.proofs.lemmas.Bool.{lt-ltb}
 use Rattle.std.proofs.lemmas.Bool.Decides.{nat_tests}
 use Rattle.std.proofs.lemmas.Slice.Eq.{bytes_eq-Decides}
 use Rattle.std.specs.List.{list_any}
+use Rattle.std.specs.Option.{option_or}
 use Rattle.std.specs.Prelude.{if◌then◌else◌, nat_lt, suc, zero, ◌||◌}
 use Rattle.std.specs.Str.{bytes_eq}
 
@@ -15,42 +16,38 @@ abbrev pub first_named : ℕ → List Procedure → List ℕ → Option Signatur
 first_named n [] x = None
 first_named n (p ∷ ps) x = if bytes_eq x p.name then Some (signature n p) else first_named (suc n) ps x
 
-abbrev or_else : Option Signature → Option Signature → Option Signature
-or_else (Some s) r = Some s
-or_else None r = r
-
 abbrev one_named : List ℕ → List ℕ → Signature → Option Signature
 one_named x y s = if bytes_eq x y then Some s else None
 
 same_name : (x y : List ℕ) → bytes_eq x y ≡ true → x ≡ y
 same_name x y h = (bytes_eq-Decides x y).0 h
 
-or_none : (r : Option Signature) → r ≡ or_else r None
+or_none : (r : Option Signature) → r ≡ option_or r None
 or_none None = refl
 or_none (Some s) = refl
 
-found_one : (x y : List ℕ) (s : Signature) (c : Called) → find_call (with_signature y s c) x ≡ or_else (find_call c x) (one_named x y s)
+found_one : (x y : List ℕ) (s : Signature) (c : Called) → find_call (with_signature y s c) x ≡ option_or (find_call c x) (one_named x y s)
 found_one x y s [] = refl
 found_one x y s (e ∷ es) = go (bytes_eq y e.0) (bytes_eq x e.0) (same_name y e.0) refl refl (found_one x y s es)
   where
-    go : (b a : Bool) → (b ≡ true → y ≡ e.0) → bytes_eq y e.0 ≡ b → bytes_eq x e.0 ≡ a → find_call (with_signature y s es) x ≡ or_else (find_call es x) (one_named x y s) → find_call (if b then e ∷ es else e ∷ with_signature y s es) x ≡ or_else (if a then Some e.1 else find_call es x) (one_named x y s)
+    go : (b a : Bool) → (b ≡ true → y ≡ e.0) → bytes_eq y e.0 ≡ b → bytes_eq x e.0 ≡ a → find_call (with_signature y s es) x ≡ option_or (find_call es x) (one_named x y s) → find_call (if b then e ∷ es else e ∷ with_signature y s es) x ≡ option_or (if a then Some e.1 else find_call es x) (one_named x y s)
     go true true f p q r = ap (λ t. if t then Some e.1 else find_call es x) q
     go true false f p q r =
         ap (λ t. if t then Some e.1 else find_call es x) q ∙ or_none (find_call es x)
-        ∙ ap (λ t. or_else (find_call es x) (if t then Some s else None)) (sym (ap (bytes_eq x) (f refl) ∙ q))
+        ∙ ap (λ t. option_or (find_call es x) (if t then Some s else None)) (sym (ap (bytes_eq x) (f refl) ∙ q))
     go false true f p q r = ap (λ t. if t then Some e.1 else find_call (with_signature y s es) x) q
     go false false f p q r = ap (λ t. if t then Some e.1 else find_call (with_signature y s es) x) q ∙ r
 
-passed : (a : Option Signature) (b : Bool) (s : Signature) (r : Option Signature) → or_else (or_else a (if b then Some s else None)) r ≡ or_else a (if b then Some s else r)
+passed : (a : Option Signature) (b : Bool) (s : Signature) (r : Option Signature) → option_or (option_or a (if b then Some s else None)) r ≡ option_or a (if b then Some s else r)
 passed None true s r = refl
 passed None false s r = refl
 passed (Some a) b s r = refl
 
-found : (x : List ℕ) (n : ℕ) (c : Called) (ps : List Procedure) → find_call (with_signatures n c ps) x ≡ or_else (find_call c x) (first_named n ps x)
+found : (x : List ℕ) (n : ℕ) (c : Called) (ps : List Procedure) → find_call (with_signatures n c ps) x ≡ option_or (find_call c x) (first_named n ps x)
 found x n c [] = or_none (find_call c x)
 found x n c (p ∷ ps) =
     found x (suc n) (with_signature p.name (signature n p) c) ps
-    ∙ ap (λ a. or_else a (first_named (suc n) ps x)) (found_one x p.name (signature n p) c)
+    ∙ ap (λ a. option_or a (first_named (suc n) ps x)) (found_one x p.name (signature n p) c)
     ∙ passed (find_call c x) (bytes_eq x p.name) (signature n p) (first_named (suc n) ps x)
 
 not_below : (m n : ℕ) → m ≤ n → nat_lt n m ≡ false

@@ -2,13 +2,14 @@
 use Rattle.std.proofs.Common.{◌≡◌, ℕ, ◌+◌, ◌<◌, ◌≤◌, not, List, [], ◌∷◌, ◌++◌, length, get_or, drop, refl, sym, ap, ap₂, ◌∙◌, arith, Bool, true, false, cond, ◌&&◌}
 use Rattle.std.specs.Prelude.{Option, Some, None, is_some}
 use Rattle.std.specs.List.{filter}
+use Rattle.std.specs.Option.{option_or}
 use Prim.Native.Nat.{suc}
 use Rattle.std.proofs.Math.Seq.{drop-cons}
 use Rattle.std.proofs.lemmas.List.{drop_all}
 use Rattle.linear_elim.specs.Joins.{Derived, join, join_fits}
 use Rattle.linear_elim.specs.Steps.{fits_each, pairs_fit, joins, pairs, put_row, strongest, has_terms, tidied, is_contradiction, contradiction, lowers, uppers, kept, step_fits, eliminate_one}
 use Rattle.linear_elim.specs.Elimination.{step_of}
-use Rattle.linear_elim.specs.internal.GatheredRows.{or_else, found_after, rows_after, found_all, rows_all}
+use Rattle.linear_elim.specs.internal.GatheredRows.{found_after, rows_after, found_all, rows_all}
 
 pub rest_item : {A : Type 0} (xs : List A) (i : ℕ) (x : A) → i < length xs → x ≡ get_or xs i x → drop i xs ≡ x ∷ drop (i + 1) xs
 rest_item xs i x l e = drop-cons xs i x l ∙ ap₂ (λ y n. y ∷ drop n xs) (sym e) (next i)
@@ -91,14 +92,14 @@ all_rows_end x ls us i ks f e h = ap (λ vs. rows_all (pairs x vs us) ks) (sym (
 
 -- ---- What is gathered
 
-found_all-is : (ds : List Derived) (o : Option Derived) → found_all ds o ≡ or_else o (contradiction ds)
+found_all-is : (ds : List Derived) (o : Option Derived) → found_all ds o ≡ option_or o (contradiction ds)
 unfolding found_all contradiction
 found_all-is [] None = refl
 found_all-is [] (Some c) = refl
 found_all-is (d ∷ ds) (Some c) = found_all-is ds (Some c)
 found_all-is (d ∷ ds) None = found_all-is ds (cond (is_contradiction d.row) (Some d) None) ∙ go (is_contradiction d.row)
   where
-    go : (b : Bool) → or_else (cond b (Some d) None) (contradiction ds) ≡ cond b (Some d) (contradiction ds)
+    go : (b : Bool) → option_or (cond b (Some d) None) (contradiction ds) ≡ cond b (Some d) (contradiction ds)
     go true = refl
     go false = refl
 

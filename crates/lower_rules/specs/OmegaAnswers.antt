@@ -1,5 +1,6 @@
 -- Which answer an omega pair gets, and what the answers promise.
 -- Source: this project's own.
+use Rattle.std.specs.Option.{unwrap_or}
 use Rattle.std.specs.Prelude.{◌≡◌, ℕ, false, List, Option, Some, None, length, take}
 use Rattle.goal_answers.specs.declared.decisions.Decision.{Decision}
 use Rattle.goal_answers.specs.declared.decisions.Decision.TheVariants as decision
@@ -34,14 +35,9 @@ if_unknown step (decision.Unknown c) = Some (Unknown step c)
 if_unknown step (decision.Proved t) = None
 if_unknown step (decision.Falsified s) = None
 
--- The first answer where there is one, and else the other.
-abbrev pub or_else : Option Omega → Omega → Omega
-or_else (Some a) other = a
-or_else None other = other
-
 -- The first goal that is falsified is told, or else the first of which nothing is known; where there is neither, the pair holds.
 abbrev pub told : Decision → Decision → Decision → Omega
-told one base turn = or_else (if_falsified One one) (or_else (if_falsified Base base) (or_else (if_falsified Turn turn) (or_else (if_unknown One one) (or_else (if_unknown Base base) (or_else (if_unknown Turn turn) Holds)))))
+told one base turn = unwrap_or (if_falsified One one) (unwrap_or (if_falsified Base base) (unwrap_or (if_falsified Turn turn) (unwrap_or (if_unknown One one) (unwrap_or (if_unknown Base base) (unwrap_or (if_unknown Turn turn) Holds)))))
 
 -- The procedures are an omega pair, and the answer is told by what is decided of its three goals.
 pub record IsTold (p q : TypedProcedure) (answer : Omega) : Type 0 where

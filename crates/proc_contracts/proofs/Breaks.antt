@@ -1,6 +1,7 @@
 -- The first act that breaks a program, in lists of acts in a row.
 use Rattle.std.proofs.Common.{◌≡◌, ℕ, Bool, true, false, ◌<◌, ◌+◌, refl, ap, sym, ◌∙◌, List, [], ◌∷◌, ◌++◌, length, get_or}
 use mathlib.Core.Bool.{beq, not}
+use Rattle.std.specs.Option.{option_or}
 use Rattle.std.specs.Prelude.{Option, Some, None, Vec}
 use Rattle.std.specs.declared.alloc.Global.{Global}
 use Rattle.heyvl_places.specs.declared.spans.Span.{Span}
@@ -13,11 +14,7 @@ use Rattle.heyvl_acts.specs.Places.{in_order, inside}
 use Rattle.heyvl_acts.specs.PlainActs.{act_of, acts_of}
 use Rattle.heyvl_acts.specs.Program.{first_break}
 
-abbrev or_else : Option Span → Option Span → Option Span
-or_else (Some s) other = Some s
-or_else None other = other
-
-both : (co : Bool) (xs ys : List Act) → first_break co (xs ++ ys) ≡ or_else (first_break co xs) (first_break co ys)
+both : (co : Bool) (xs ys : List Act) → first_break co (xs ++ ys) ≡ option_or (first_break co xs) (first_break co ys)
 both co [] ys = refl
 both co (Act.set x t span ∷ rest) ys = both co rest ys
 both co (Act.draw x ps span ∷ rest) ys = both co rest ys
@@ -36,11 +33,11 @@ both co (Act.call xs p es span ∷ rest) ys = both co rest ys
 
 -- What is found in the first part is found in both.
 pub found_first : (co : Bool) (xs ys : List Act) (s : Span) → Some s ≡ first_break co xs → Some s ≡ first_break co (xs ++ ys)
-found_first co xs ys s h = sym (both co xs ys ∙ ap (λ o. or_else o (first_break co ys)) (sym h))
+found_first co xs ys s h = sym (both co xs ys ∙ ap (λ o. option_or o (first_break co ys)) (sym h))
 
 -- Where there is none in the first part, the second counts.
 pub past_first : (co : Bool) (xs ys : List Act) → None ≡ first_break co xs → first_break co (xs ++ ys) ≡ first_break co ys
-past_first co xs ys h = both co xs ys ∙ ap (λ o. or_else o (first_break co ys)) (sym h)
+past_first co xs ys h = both co xs ys ∙ ap (λ o. option_or o (first_break co ys)) (sym h)
 
 pub act_found : (co : Bool) (acts : List A.Act) (k : ℕ) (x : A.Act) (s : Span) → k < length acts → x ≡ get_or acts k x → Some s ≡ first_break co (act_of x ∷ inside (act_of x)) → Some s ≡ first_break co (acts_from acts k)
 act_found co acts k x s lt is h = found_first co (act_of x ∷ inside (act_of x)) (acts_from acts (k + 1)) s h ∙ ap (λ l. first_break co l) (sym (next_act acts k x lt is))

@@ -1,5 +1,6 @@
 -- A step that is stopped is named after every number of steps from its own on, and after none before.
 use Rattle.std.proofs.Common.{◌≡◌, ◌<◌, ◌≤◌, ◌+◌, ◌-◌, ℕ, refl, sym, ap, subst, ◌∙◌, arith, List}
+use Rattle.std.specs.Option.{option_or}
 use Rattle.std.specs.Prelude.{Option, Some, None}
 use Prim.Native.Nat.{zero, suc}
 use Rattle.heyvl_acts.specs.Acts.{TypedProcedure, procedure_at}
@@ -7,7 +8,7 @@ use Rattle.refute_runs.specs.RefutedAnswers.{GivesSums}
 use Rattle.refute_runs.specs.SumsAfter.{NamesStep, Unrollings, together, unrolled_from}
 use Rattle.run_machine.specs.Names.{Stored}
 use Rattle.run_machine.specs.declared.configurations.Decide.{Decide}
-use Rattle.run_unroller.specs.Causes.{at_step, first_stop, or_else, step_cause}
+use Rattle.run_unroller.specs.Causes.{at_step, first_stop, step_cause}
 use Rattle.run_unroller.specs.RunLists.{after, begun}
 use Rattle.run_unroller.specs.Totals.{Totals, totals}
 use Rattle.run_unroller.specs.Unrolling.{Unrolling, stop_or, sums_or, unrolling_of}
@@ -97,8 +98,8 @@ module _ (ps : List TypedProcedure) (p : ℕ) (first : Stored) (script : List De
   pub steps_named : IsNamed (unrolled_from ps p first script)
   steps_named =
       is_named (λ n. first_stop ps script n (begun first)) refl
-      (λ n x e. ap (λ o. or_else o (at_step (suc n) (step_cause ps script (after ps script n (begun first))))) e)
-      (λ n x none e. cases_option (λ o. at_step (suc n) o ≡ Some x → x.1 ≡ suc n) (λ c h. step_of c (suc n) x h) (λ h. no_step (suc n) x h) (step_cause ps script (after ps script n (begun first))) (sym (ap (λ o. or_else o (at_step (suc n) (step_cause ps script (after ps script n (begun first))))) none) ∙ e))
+      (λ n x e. ap (λ o. option_or o (at_step (suc n) (step_cause ps script (after ps script n (begun first))))) e)
+      (λ n x none e. cases_option (λ o. at_step (suc n) o ≡ Some x → x.1 ≡ suc n) (λ c h. step_of c (suc n) x h) (λ h. no_step (suc n) x h) (step_cause ps script (after ps script n (begun first))) (sym (ap (λ o. option_or o (at_step (suc n) (step_cause ps script (after ps script n (begun first))))) none) ∙ e))
       (unrolled_from ps p first script) (λ x. Unrolling.stopped x.0 x.1)
       (λ n x e. ap (λ o. stop_or o (sums_of n)) e)
       (λ x s names. names)

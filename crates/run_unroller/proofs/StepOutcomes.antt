@@ -1,5 +1,6 @@
 -- What the step of one run brings, and how outcomes join a list.
 use Rattle.std.proofs.Common.{◌≡◌, ℕ, ◌==◌, refl, ap, sym, subst, ◌∙◌, arith, Bool, true, false, List, [], ◌∷◌, ◌++◌, length, map}
+use Rattle.std.specs.Option.{option_or}
 use Rattle.std.specs.Prelude.{Option, Some, None, Result, Ok, Err, IfOk, if◌then◌else◌}
 use Rattle.heyvl_num.specs.Rational.{Rational, oneʳ, ◌*ʳ◌}
 use Rattle.heyvl_num.specs.Exact.{exact_product}
@@ -14,7 +15,7 @@ use Rattle.run_machine.specs.Step.{Decision}
 use Rattle.run_machine.specs.StoredStep.{stored_reply, stored_step}
 use Rattle.run_unroller.specs.declared.causes.Cause.{Cause}
 use Rattle.run_unroller.specs.declared.causes.Cause.TheVariants.{Bits}
-use Rattle.run_unroller.specs.Causes.{Brought, brought, brought_by, first_cause, or_else, product_cause, put_cause}
+use Rattle.run_unroller.specs.Causes.{Brought, brought, brought_by, first_cause, product_cause, put_cause}
 use Rattle.run_unroller.specs.MergedLists.{held, merged_onto, put}
 use Rattle.run_unroller.specs.RunLists.{RunList, follow, followed}
 use Rattle.run_unroller.specs.Scripts.{entry}
@@ -65,14 +66,14 @@ joined_next k x xs = refl
 
 -- An outcome whose product doesn't fit stops the list.
 pub product_stops : (old new : RunList) (w : Rational) (x : Rational × Stored) (more : RunList) → None ≡ exact_product w x.0 → Extends old new (Brought.joins w x ∷ []) more (Some Bits)
-product_stops old new w x more e = λ rest. ap (λ o. or_else (product_cause old x.1 o) (first_cause (put same_stored (w *ʳ x.0, x.1) old) rest)) (sym e)
+product_stops old new w x more e = λ rest. ap (λ o. option_or (product_cause old x.1 o) (first_cause (put same_stored (w *ʳ x.0, x.1) old) rest)) (sym e)
 
 -- An outcome whose product fits joins the list, or stops it, as the product does.
 pub product_joins : (old new : RunList) (w v : Rational) (x : Rational × Stored) (cause : Option Cause) → Some v ≡ exact_product w x.0 → cause ≡ put_cause (length old) v (held same_stored x.1 old) → (cause ≡ None → new ≡ put same_stored (v, x.1) old) → Extends old new (Brought.joins w x ∷ []) ((w *ʳ x.0, x.1) ∷ []) cause
 product_joins old new w v x cause e h k = go cause h k
   where
-    first : (rest : List Brought) (o : Option Cause) → o ≡ put_cause (length old) v (held same_stored x.1 old) → first_cause old (Brought.joins w x ∷ rest) ≡ or_else o (first_cause (put same_stored (w *ʳ x.0, x.1) old) rest)
-    first rest o q = ap (λ p. or_else (product_cause old x.1 p) (first_cause (put same_stored (w *ʳ x.0, x.1) old) rest)) (sym e) ∙ ap (λ p. or_else p (first_cause (put same_stored (w *ʳ x.0, x.1) old) rest)) (sym q)
+    first : (rest : List Brought) (o : Option Cause) → o ≡ put_cause (length old) v (held same_stored x.1 old) → first_cause old (Brought.joins w x ∷ rest) ≡ option_or o (first_cause (put same_stored (w *ʳ x.0, x.1) old) rest)
+    first rest o q = ap (λ p. option_or (product_cause old x.1 p) (first_cause (put same_stored (w *ʳ x.0, x.1) old) rest)) (sym e) ∙ ap (λ p. option_or p (first_cause (put same_stored (w *ʳ x.0, x.1) old) rest)) (sym q)
 
     go : (o : Option Cause) → o ≡ put_cause (length old) v (held same_stored x.1 old) → (o ≡ None → new ≡ put same_stored (v, x.1) old) → Extends old new (Brought.joins w x ∷ []) ((w *ʳ x.0, x.1) ∷ []) o
     go (Some c) q l = λ rest. first rest (Some c) q

@@ -1,5 +1,6 @@
 -- Steps of a list of runs, one after another, up to one that is stopped.
 use Rattle.std.proofs.Common.{◌≡◌, ℕ, ◌+◌, ◌-◌, ◌≤◌, ◌<◌, ◌^◌, ap, sym, ◌∙◌, arith, List, [], ◌∷◌}
+use Rattle.std.specs.Option.{option_or}
 use Rattle.std.specs.Prelude.{Option, Some, None}
 use Prim.Native.Nat.{zero, suc}
 use Rattle.heyvl_acts.specs.Acts.{TypedProcedure}
@@ -8,7 +9,7 @@ use Rattle.run_machine.specs.declared.configurations.Decide.{Decide}
 use Rattle.run_machine.specs.ConfigConditions.{HasRoom, IsConfig}
 use Rattle.run_machine.specs.Names.{turns_of}
 use Rattle.run_unroller.specs.declared.causes.Cause.{Cause}
-use Rattle.run_unroller.specs.Causes.{at_step, first_stop, or_else, step_cause}
+use Rattle.run_unroller.specs.Causes.{at_step, first_stop, step_cause}
 use Rattle.run_unroller.specs.RunLists.{RunList, after, after_step}
 use Rattle.run_unroller.specs.internal.Growth.{AllWithin}
 
@@ -32,10 +33,10 @@ stays_stopped : (ps : List TypedProcedure) (script : List Decide) (rs : RunList)
 stays_stopped ps script rs stop m zero h = ap (λ n. first_stop ps script n rs) (let e : m + 0 ≡ m = omega arith in e) ∙ h
 stays_stopped ps script rs stop m (suc k) h =
     ap (λ n. first_stop ps script n rs) (let e : m + suc k ≡ suc (m + k) = omega arith in e)
-    ∙ ap (λ o. or_else o (at_step (suc (m + k)) (step_cause ps script (after ps script (m + k) rs)))) (stays_stopped ps script rs stop m k h)
+    ∙ ap (λ o. option_or o (at_step (suc (m + k)) (step_cause ps script (after ps script (m + k) rs)))) (stays_stopped ps script rs stop m k h)
 
 next_stop : (ps : List TypedProcedure) (script : List Decide) (rs : RunList) (o : Option Cause) (m : ℕ) → first_stop ps script m rs ≡ None → step_cause ps script (after ps script m rs) ≡ o → first_stop ps script (suc m) rs ≡ at_step (suc m) o
-next_stop ps script rs o m free e = ap (λ p. or_else p (at_step (suc m) (step_cause ps script (after ps script m rs)))) free ∙ ap (at_step (suc m)) e
+next_stop ps script rs o m free e = ap (λ p. option_or p (at_step (suc m) (step_cause ps script (after ps script m rs)))) free ∙ ap (at_step (suc m)) e
 
 -- The first step that is stopped, after steps that aren't.
 pub stops : (ps : List TypedProcedure) (script : List Decide) (rs now : RunList) (cause : Cause) (m n : ℕ) → first_stop ps script m rs ≡ None → now ≡ after ps script m rs → step_cause ps script now ≡ Some cause → m < n → first_stop ps script n rs ≡ Some (cause, m + 1)

@@ -1,6 +1,7 @@
 -- What stops a step of the list of runs. The runs are taken in the order of the list, and the outcomes of each in theirs; the
 -- first cause that is met counts.
 -- Source: this project's own.
+use Rattle.std.specs.Option.{option_or}
 use Rattle.std.specs.Prelude.{ℕ, List, [], ◌∷◌, ◌++◌, length, map, Option, Some, None, is_some, nat_lt, if◌then◌else◌}
 use Prim.Native.Nat.{zero, suc}
 use Rattle.heyvl_num.specs.Rational.{Rational, oneʳ, ◌*ʳ◌}
@@ -53,16 +54,11 @@ product_cause es c (Some w) = put_cause (length es) w (held same_stored c es)
 abbrev pub join_cause : RunList → Rational → Rational × Stored → Option Cause
 join_cause es w x = product_cause es x.1 (exact_product w x.0)
 
--- The first of two that is there.
-abbrev pub or_else : {A : Type 0} → Option A → Option A → Option A
-or_else (Some a) o = Some a
-or_else None o = o
-
 -- The first cause, where this list has joined so far. It is full where one more would be the 65,537th.
 abbrev pub first_cause : RunList → List Brought → Option Cause
 first_cause es [] = None
 first_cause es (Brought.stops cause ∷ more) = Some cause
-first_cause es (Brought.joins w x ∷ more) = or_else (join_cause es w x) (first_cause (put same_stored (w *ʳ x.0, x.1) es) more)
+first_cause es (Brought.joins w x ∷ more) = option_or (join_cause es w x) (first_cause (put same_stored (w *ʳ x.0, x.1) es) more)
 
 -- What stops the next step of a list.
 abbrev pub step_cause : List TypedProcedure → List Decide → RunList → Option Cause
@@ -76,4 +72,4 @@ at_step n (Some cause) = Some (cause, n)
 -- The first of so many steps that is stopped, and by what. Steps are numbered from 1.
 abbrev pub first_stop : List TypedProcedure → List Decide → ℕ → RunList → Option (Cause × ℕ)
 first_stop ps script zero rs = None
-first_stop ps script (suc n) rs = or_else (first_stop ps script n rs) (at_step (suc n) (step_cause ps script (after ps script n rs)))
+first_stop ps script (suc n) rs = option_or (first_stop ps script n rs) (at_step (suc n) (step_cause ps script (after ps script n rs)))

@@ -2,6 +2,7 @@
 use Rattle.linear_elim.specs.Elimination.{Step, Outcome, after_step}
 use Rattle.linear_elim.specs.Joins.{Derived}
 use Rattle.linear_elim.specs.Steps.{has_terms, put_row, is_contradiction}
+use Rattle.std.specs.Option.{option_or}
 use Rattle.std.specs.Prelude.{List, [], ◌∷◌, cond, Option, Some, None}
 
 -- The steps put before those of the rest.
@@ -10,12 +11,8 @@ after_all [] o = o
 after_all (s ∷ ss) o = after_step s (after_all ss o)
 
 -- What was found, and the rows, once another row is put in.
-abbrev pub or_else : Option Derived → Option Derived → Option Derived
-or_else None o = o
-or_else (Some c) o = Some c
-
 abbrev pub found_after : Derived → Option Derived → Option Derived
-found_after r o = or_else o (cond (is_contradiction r.row) (Some r) None)
+found_after r o = option_or o (cond (is_contradiction r.row) (Some r) None)
 
 abbrev pub rows_after : Derived → List Derived → List Derived
 rows_after r ks = cond (has_terms r.row.terms) (put_row r ks) ks
