@@ -1,6 +1,7 @@
 -- Which procedures are programs, and which procedures one reaches by calls.
 -- Source: a HeyVL program without verification statements (Schroeer, Batz, Kaminski, Katoen, Matheja, OOPSLA 2023); that its
 -- choices are in the procedure's direction is this project's own rule.
+use Rattle.std.specs.Option.{option_or}
 use Rattle.std.specs.Prelude.{◌≡◌, ℕ, ◌==◌, Bool, true, false, not, ◌||◌, List, [], ◌∷◌, Option, Some, None, if◌then◌else◌}
 use Rattle.heyvl_places.specs.declared.spans.Span.{Span}
 use Rattle.heylo_formula.specs.Binders.{has_binder}
@@ -32,11 +33,7 @@ breaks co (Act.call xs p es span) = None
 -- The first of the acts, in the order of the text, that breaks it.
 abbrev pub first_break : Bool → List Act → Option Span
 first_break co [] = None
-first_break co (a ∷ rest) = if_none (breaks co a) (first_break co rest)
-  where
-    if_none : Option Span → Option Span → Option Span
-    if_none (Some s) other = Some s
-    if_none None other = other
+first_break co (a ∷ rest) = option_or (breaks co a) (first_break co rest)
 
 -- The reason that a statement at this place gives; none where no place is given.
 abbrev pub reason_of_break : Option Span → Option Reason
