@@ -11,9 +11,13 @@ pub record Point : Type 0 where
   pub positive : 0 < below
   pub top : ℕ → ℤ
 
--- The left side of a row, times the denominator.
+-- The left side of a row at values over this denominator, times the denominator.
+abbrev pub sum_of_row : ℕ → (ℕ → ℤ) → Row → ℤ
+sum_of_row below top r = sum_at top r.terms +ℤ (r.rest *ℤ pos below)
+
+-- The same at a point.
 abbrev pub left_side : Point → Row → ℤ
-left_side w r = sum_at w.top r.terms +ℤ (r.rest *ℤ pos w.below)
+left_side w r = sum_of_row w.below w.top r
 
 -- Below 0, or at most 0.
 abbrev pub IsBelow : Bool → ℤ → Type 0
@@ -22,7 +26,7 @@ IsBelow false z = z ≤ℤ pos 0
 
 -- Values over this denominator meet the row.
 pub record IsMetAt (below : ℕ) (top : ℕ → ℤ) (r : Row) : Type 0 where
-  pub met : IsBelow r.strict (sum_at top r.terms +ℤ (r.rest *ℤ pos below))
+  pub met : IsBelow r.strict (sum_of_row below top r)
 
 -- The point meets the row: the left side is at most 0 there, or below 0 where the row is strict.
 abbrev pub Meets : Point → Row → Type 0
