@@ -1,22 +1,20 @@
 -- Typed states of a procedure: a variable that is its own takes a value, a call begins and returns, and variables take any
 -- values; and environments that differ, of the visible variables, at some alone.
-use Rattle.std.proofs.Common.{◌≡◌, ◌≢◌, ◌≤◌, ◌<◌, ℕ, refl, sym, ap, ap₂, ◌∙◌, subst, arith, Bool, true, false, cond, ◌==◌, ◌⊎◌, inl, inr, List, [], ◌∷◌, ◌++◌, map}
+use Rattle.std.proofs.Common.{◌≡◌, ◌≢◌, ◌≤◌, ◌<◌, ℕ, refl, sym, ap, ap₂, ◌∙◌, subst, arith, Bool, true, false, cond, ◌==◌, ◌⊎◌, inl, inr, List, [], ◌∷◌, ◌++◌}
 use Rattle.std.specs.Prelude.{length, get_or, set, take, drop, eqb}
 use Rattle.std.proofs.lemmas.Bool.Decides.{eqb_tells}
 use mathlib.Core.Path.{fun_ext}
 use Prim.Native.Nat.{zero, suc}
-use Rattle.heyvl_num.specs.Rational.{zeroʳ, leqʳ}
-use Rattle.heylo_formula.specs.State.{Env, put, has, fit, default, environment, listed, IsTyped}
+use Rattle.heylo_formula.specs.State.{Env, put, has, fit, environment, listed, IsTyped}
 use Rattle.heylo_formula.specs.Choices.{Choices, here, left}
 use Rattle.heylo_formula.specs.Typing.{Types, types_in, HasTypes}
 use Rattle.heylo_formula.specs.declared.types.Ty.{Ty}
 use Rattle.heylo_formula.specs.declared.values.Val.{Val}
-use Rattle.heylo_formula.specs.declared.values.Val.TheVariants.{Truth, Num}
+use Rattle.heylo_formula.specs.declared.values.Val.TheVariants.{Truth}
 use Rattle.heylo_formula.proofs.exported.Agreement.{clash}
-use Rattle.heylo_formula.proofs.exported.Plain.{and_both}
 use Rattle.heylo_formula.proofs.exported.States.{set_is_put, set_typed, put_keeps, put_again, put_commute, fit_has, fit_same}
 use Rattle.heyvl_acts.specs.Acts.{Variable, TypedProcedure, type_list, types_of, variables}
-use Rattle.heyvl_acts.specs.Rules.{IsOwn, widens_to}
+use Rattle.heyvl_acts.specs.Rules.{IsOwn}
 use Rattle.heyvl_acts.specs.Visible.{Visible}
 use Rattle.run_machine.specs.Bound.{IsState}
 use Rattle.run_machine.specs.Configurations.{set_all, first_state, outputs_of}

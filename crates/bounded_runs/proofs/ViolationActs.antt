@@ -8,7 +8,7 @@ use Rattle.heylo_formula.specs.Binders.{has_binder}
 use Rattle.heylo_formula.specs.Formula.{Term}
 use Rattle.heylo_formula.specs.Operators.{agree}
 use Rattle.heylo_formula.specs.Typing.{Types, TermFits}
-use Rattle.heyvl_acts.specs.Acts.{Act, Acts, TypedProcedure, acts_in, types_of, variables}
+use Rattle.heyvl_acts.specs.Acts.{Act, Acts, TypedProcedure, acts_in, types_of}
 use Rattle.heyvl_acts.specs.Places.{in_order}
 use Rattle.heyvl_acts.specs.Program.{Reason, first_break, reason_of_break, IsProgram}
 use Rattle.heyvl_acts.specs.Rules.{Each, IsOwn, FollowsDirection, HasOwnTargets, IsTypedAct, MeetsRules, WeighsOne}

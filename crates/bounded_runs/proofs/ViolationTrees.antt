@@ -1,7 +1,6 @@
 -- For each choice tree, a scheduler whose runs give exactly the forward meaning under these choices.
-use Rattle.std.proofs.Common.{◌≡◌, ◌≤◌, ◌<◌, ◌+◌, ℕ, refl, sym, ap, ap₂, subst, ◌∙◌, arith, Bool, true, false, cond, List, [], ◌∷◌, length, leb, ◌⊎◌, inl, inr}
+use Rattle.std.proofs.Common.{◌≡◌, ◌≤◌, ◌+◌, ℕ, refl, sym, ap, ap₂, subst, ◌∙◌, arith, Bool, true, false, cond, List, [], ◌∷◌, ◌⊎◌, inl, inr}
 use Rattle.std.specs.Prelude.{set}
-use Rattle.std.proofs.lemmas.Bool.Decides.{leb_tells}
 use Prim.Native.Nat.{zero, suc}
 use Rattle.heyvl_num.specs.Rational.{Rational, oneʳ, zeroʳ, ◌+ʳ◌, ◌≤ʳ◌}
 use Rattle.heyvl_num.specs.Value.{Value, zeroᵛ, ◌+ᵛ◌, ◌*ᵛ◌, leqᵛ, is_zeroʳ}
@@ -28,7 +27,7 @@ use Rattle.heyvl_acts.specs.Tosses.{toss_weight, toss_parts}
 use Rattle.heyvl_acts.proofs.exported.Tosses.{toss_fit, flips_weigh}
 use Rattle.heyvl_acts.specs.Acts.{Act, Acts, Arms, TypedProcedure, type_list, types_of, variables}
 use Rattle.heyvl_acts.specs.Forward.{Post, past_products, picked, part, parts, drawn, meant_arms, no_loops, no_calls, forward, forward_act}
-use Rattle.heyvl_acts.specs.Length.{longer, length_of, length_of_act, longest}
+use Rattle.heyvl_acts.specs.Length.{longer, length_of, length_of_act}
 use Rattle.heyvl_acts.specs.Matching.{taken}
 use Rattle.heyvl_acts.specs.Places.{in_order, inside, inside_arms}
 use Rattle.heyvl_acts.specs.Rules.{Each, IsOwn}

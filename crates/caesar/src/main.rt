@@ -3,7 +3,7 @@
 
 use heyvl_io::{FileSource, StdoutSink};
 use heyvl_tool::run_tool;
-use std::alloc::{AllocError, Global};
+use std::alloc::AllocError;
 use std::env;
 use std::io::ErrorKind;
 use std::process::ExitCode;

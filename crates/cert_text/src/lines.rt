@@ -9,7 +9,7 @@ ghost use Rattle.heylo_formula.specs.GoalOrder.{loop_of};
 ghost use Rattle.cert_text.specs.Certificates.{IsNumbered, IsWholeSplit, AreMultipliers};
 ghost use Rattle.cert_text.specs.Lines.{Line as LineValue, id_text, line_text, multiplier_text, multipliers_text};
 ghost use Rattle.cert_text.specs.internal.WholeLines.{IsLine};
-ghost use Rattle.cert_text.specs.internal.ReadStates.{line_of, IsMultiplier, IsRising, IsBareLine};
+ghost use Rattle.cert_text.specs.internal.ReadStates.{line_of, IsMultiplier, IsBareLine};
 
 use crate::goal_names::GoalName;
 use crate::numbers::{number, short_number, signed_number};

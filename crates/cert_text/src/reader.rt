@@ -1,6 +1,6 @@
 //! Reading certificates.
 
-ghost use Rattle.std.specs.Prelude.{◌≡◌, ◌<◌, ◌^◌, ⊤, ℕ, List, IfErr, IfOk, MatchOption, MatchResult, length};
+ghost use Rattle.std.specs.Prelude.{◌≡◌, ◌<◌, ◌^◌, ℕ, List, IfErr, IfOk, MatchOption, MatchResult, length};
 ghost use Rattle.cert_text.specs.Certificates.{Certificate, certificates_of};
 ghost use Rattle.cert_text.specs.Texts.{IsFirstFault, Spells};
 ghost use Rattle.cert_text.specs.Stops.{IsMemory, IsCertStop, IsFaultOrMemory};

@@ -3,7 +3,7 @@
 ghost use Rattle.std.specs.Prelude.{◌≡◌, ◌++◌, ◌∷◌, [], OnOk, IfOk, map};
 ghost use Rattle.goal_answers.specs.Trees.{tree_of};
 ghost use Rattle.cert_text.specs.Certificates.{certificate_of, certificates_of};
-ghost use Rattle.cert_text.specs.Lines.{id_text, line_text, multiplier_text, multipliers_text, goal as goal_line, title as title_line, whole as whole_line};
+ghost use Rattle.cert_text.specs.Lines.{id_text, line_text, multipliers_text, goal as goal_line, title as title_line, whole as whole_line};
 ghost use Rattle.cert_text.specs.Texts.{closed, goals_lines, has_whole, text_of, tree_lines, version};
 
 use crate::versions::Version;

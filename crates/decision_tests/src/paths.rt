@@ -1,6 +1,6 @@
 //! Paths of tests.
 
-ghost use Rattle.std.specs.Prelude.{List, IfOk, IfSome};
+ghost use Rattle.std.specs.Prelude.{IfOk, IfSome};
 ghost use Rattle.heylo_formula.specs.Goals.{goal_of};
 ghost use Rattle.linear_form.specs.Paths.{IsPath};
 ghost use Rattle.linear_form.specs.PlainPaths.{path_of};

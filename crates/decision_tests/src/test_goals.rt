@@ -1,6 +1,6 @@
 //! Goals of tests. Their types are looked at before they are decided, for the kinds of formulas that the tests use.
 
-ghost use Rattle.std.specs.Prelude.{◌≡◌, ℕ, ◌<◌, ◌^◌, length, IsTrue, Some, true};
+ghost use Rattle.std.specs.Prelude.{◌≡◌, ℕ, ◌<◌, ◌^◌, IsTrue, Some, true};
 ghost use Rattle.heyvl_num.specs.ExtendedNumbers.{value_of};
 ghost use Rattle.heylo_formula.specs.PlainTrees.{form_of, cond_of};
 ghost use Rattle.heylo_formula.specs.Sizes.{nodes};

@@ -1,6 +1,6 @@
 //! A path through a goal, and the rows that are kept along it.
 
-ghost use Rattle.std.specs.Prelude.{◌≡◌, ◌++◌, ◌∷◌, List, [], take, length, IfOk};
+ghost use Rattle.std.specs.Prelude.{◌≡◌, ◌++◌, ◌∷◌, List, [], take, IfOk};
 ghost use Rattle.heylo_formula.specs.Goals.{goal_of};
 ghost use Rattle.linear_form.specs.Paths.{IsPath};
 ghost use Rattle.linear_form.specs.PlainPaths.{path_of, atom_of};

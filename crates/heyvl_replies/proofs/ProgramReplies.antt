@@ -3,7 +3,6 @@ use Rattle.heyvl_files.specs.Programs.{IsProgramFile, IsProgramStop, ProgramFaul
 use Rattle.heyvl_files.specs.declared.sources.SourceStop.TheVariants.{Fault, Memory}
 use Rattle.heyvl_files.specs.declared.sources.SourceStop.{SourceStop}
 use Rattle.heyvl_places.specs.declared.spans.Span.{Span}
-use Rattle.heyvl_print.specs.WithoutPlaces.{SameButPlaces}
 use Rattle.heyvl_syntax.specs.Grammar.{Spells}
 use Rattle.heyvl_syntax.specs.Procedures.{Procedure}
 use Rattle.heyvl_replies.specs.Messages.{Reply, source_fault}
@@ -13,7 +12,7 @@ use Rattle.heyvl_replies.specs.commands.Pgcl.{IsPgclReply, ProgramFaultsAreTold,
 use Rattle.heyvl_replies.specs.commands.Print.{printed}
 use Rattle.heyvl_replies.specs.declared.responses.Response.{Response}
 use Rattle.heyvl_replies.specs.internal.Refusals.{IsRefusal}
-use Rattle.std.proofs.Common.{Err, IfOk, List, Ok, Result, ap, refl, subst, sym, ◌∙◌, ◌≡◌, ℕ}
+use Rattle.std.proofs.Common.{Err, IfOk, List, Ok, Result, ap, subst, sym, ◌∙◌, ◌≡◌, ℕ}
 use Rattle.std.specs.declared.alloc.AllocError.{AllocError}
 
 -- The text of the file that it becomes is what is said of a program without a fault.

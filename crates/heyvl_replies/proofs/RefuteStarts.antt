@@ -5,7 +5,6 @@ use Rattle.goal_answers.specs.declared.trees.GoalCert.{GoalCert}
 use Rattle.heylo_formula.specs.declared.values.Val.{Val}
 use Rattle.heyvl_acts.specs.Acts.{TypedProcedure, procedure_at}
 use Rattle.heyvl_files.specs.PrintLaws.{SpellingIsUnique}
-use Rattle.heyvl_syntax.specs.Procedures.{Procedure}
 use Rattle.heyvl_syntax.specs.SourceFaults.{SourcesHaveNoFault}
 use Rattle.heyvl_replies.proofs.SaidOfFiles.{no_other_program, said_of_file, same_number}
 use Rattle.heyvl_replies.specs.Messages.{Reply}
@@ -22,7 +21,7 @@ use Rattle.run_script.proofs.exported.UniqueScripts.{scripts_are_unique, scripts
 use Rattle.run_script.specs.Scripts.{Script, Spells}
 use Rattle.run_script.specs.Starts.{start_state_over}
 use Rattle.run_script.specs.declared.scripts.Setting.{Setting}
-use Rattle.std.proofs.Common.{Bool, List, None, Option, Some, [], ap, arith, false, get_or, length, refl, subst, sym, true, ◌<◌, ◌∙◌, ◌∷◌, ◌≡◌, ℕ}
+use Rattle.std.proofs.Common.{List, None, Option, Some, [], ap, arith, false, get_or, length, refl, subst, sym, true, ◌<◌, ◌∙◌, ◌∷◌, ◌≡◌, ℕ}
 use Rattle.verdict_report.specs.declared.answers.Answer.{Answer}
 use Rattle.verify_core.specs.AnsweredProcedures.{AreAnswered}
 use Rattle.verify_core.specs.Headline.{IsHeadline}

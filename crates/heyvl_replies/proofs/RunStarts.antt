@@ -1,23 +1,17 @@
 -- Where a run starts.
 use Prim.Native.Nat.{suc, zero}
-use Rattle.heylo_formula.proofs.exported.States.{fit_has, typed_append}
-use Rattle.heylo_formula.specs.State.{IsTyped, default, fit, has}
 use Rattle.heylo_formula.specs.declared.values.Val.{Val}
-use Rattle.heyvl_num.specs.Gcd.{gcd, gcd_steps}
-use Rattle.heyvl_num.specs.Rational.{leqʳ, ratio, zeroʳ}
-use Rattle.heylo_formula.specs.declared.types.Ty.{Ty}
 use Rattle.heyvl_replies.specs.RunStarts.{IsFirstNoProgram}
 use Rattle.heyvl_replies.specs.commands.Run.{runs_by}
 use Rattle.run_script.proofs.exported.StartStates.{start_typed}
 use Rattle.run_script.specs.Scripts.{Script}
 use Rattle.run_script.specs.Starts.{start_state}
 use Rattle.run_script.specs.declared.scripts.Setting.{Setting}
-use Rattle.heyvl_acts.specs.Acts.{TypedProcedure, Variable, procedure_at, type_list, variables}
+use Rattle.heyvl_acts.specs.Acts.{TypedProcedure, procedure_at}
 use Rattle.heyvl_acts.specs.Program.{IsProgram, why_no_program}
-use Rattle.heyvl_acts.specs.PlainActs.{procedure_of, variable_of}
+use Rattle.heyvl_acts.specs.PlainActs.{procedure_of}
 use Rattle.heyvl_acts.specs.Rules.{Each, GrowBelow, IsCounted}
 use Rattle.heyvl_acts.specs.declared.typed_trees.TProc.{TProc}
-use Rattle.heyvl_acts.specs.declared.typed_trees.VarInfo.{VarInfo}
 use Rattle.heyvl_acts.specs.Visible.{among}
 use Rattle.proc_contracts.specs.ReachedProcedures.{AreReached}
 use Rattle.run_machine.specs.Bound.{IsState}
@@ -27,13 +21,10 @@ use Rattle.run_machine.specs.StoredStep.{stored_begin}
 use Rattle.run_machine.specs.declared.configurations.Decide.{Decide}
 use Rattle.run_unroller.specs.RunLists.{begun}
 use Rattle.run_unroller.specs.Unrolling.{Begins, Unrolling, unrolled}
-use Rattle.std.proofs.Common.{Bool, IfSome, List, MatchOption, None, Option, Some, [], ap, ap₂, append_assoc, arith, drop, false, get_or, inl, inr, is_some, length, map, refl, subst, sym, take, take-add, true, unwrap_or, ◌+◌, ◌++◌, ◌<◌, ◌==◌, ◌||◌, ◌∙◌, ◌∷◌, ◌≡◌, ◌≢◌, ◌≤◌, ◌⊎◌, ℕ}
+use Rattle.std.proofs.Common.{Bool, IfSome, List, MatchOption, None, Option, Some, [], ap, arith, false, get_or, inl, inr, is_some, length, map, refl, subst, sym, true, ◌<◌, ◌==◌, ◌||◌, ◌∙◌, ◌∷◌, ◌≡◌, ◌≢◌, ◌≤◌, ◌⊎◌, ℕ}
 use Rattle.std.proofs.lemmas.Bool.Decides.{eqb_tells, nat_tests}
 use Rattle.std.proofs.lemmas.List.Elements.{All-cons, All-nil}
-use Rattle.std.proofs.lemmas.List.{drop-map, take-map}
 use Rattle.std.specs.List.{All, find}
-use Rattle.std.specs.Option.{option_map_or}
-use Rattle.std.specs.Str.{bytes_eq}
 
 -- ---- Programs
 

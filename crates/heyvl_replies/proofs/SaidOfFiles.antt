@@ -31,8 +31,8 @@ use Rattle.heyvl_types.specs.Findings.{Finding}
 use Rattle.run_machine.specs.ConfigConditions.{ReachesPrograms}
 use Rattle.run_script.proofs.exported.UniqueScripts.{scripts_are_unique, scripts_have_no_fault}
 use Rattle.run_script.specs.Scripts as scripts
-use Rattle.run_script.specs.Scripts.{Known, Script}
-use Rattle.std.proofs.Common.{Bool, List, None, Option, Some, [], ap, arith, false, inl, inr, refl, length, subst, suc, sym, true, ◌∙◌, ◌∷◌, ◌≡◌, ◌≤◌, ◌⊎◌, ℕ}
+use Rattle.run_script.specs.Scripts.{Script}
+use Rattle.std.proofs.Common.{Bool, List, None, Option, Some, [], ap, arith, false, refl, length, subst, suc, sym, true, ◌∙◌, ◌∷◌, ◌≡◌, ◌≤◌, ℕ}
 use Rattle.std.specs.List.{list_any}
 use Rattle.std.specs.Prelude.{if◌then◌else◌}
 use Rattle.verdict_report.specs.declared.answers.Answer.{Answer}

@@ -1,28 +1,25 @@
 -- What the bounds of `omega` and `remainder` mean, from the reply that a call made.
-use Rattle.heyvl_acts.specs.Acts.{TypedProcedure, procedure_at}
-use Rattle.heyvl_num.specs.Rational.{Rational}
+use Rattle.heyvl_acts.specs.Acts.{TypedProcedure}
 use Rattle.heyvl_tool.proofs.CallLemmas.{came_to}
 use Rattle.heyvl_tool.proofs.LowStatuses.{SaidTyped, came_low, status_is, written_low}
 use Rattle.heyvl_tool.specs.Calls.{Call}
 use Rattle.heyvl_tool.specs.LowerBounds.{BoundsAreMeant, HoldsOmega, HoldsRemainder, IsPairFrom}
 use Rattle.heyvl_replies.specs.Messages.{Reply, stated}
 use Rattle.heyvl_tool.specs.Outcomes.{HasCause, IsDelivered, IsWritten, Writing}
-use Rattle.heyvl_replies.specs.RunStarts.{procedure_named}
-use Rattle.heyvl_tool.specs.Words.{AskFor}
-use Rattle.heyvl_replies.specs.commands.Omega.{IsOmegaOf, TellsOmega, omega_reply}
-use Rattle.heyvl_replies.specs.commands.Remainder.{IsRemainderOf, TellsRemainder, remainder_reply}
+use Rattle.heyvl_replies.specs.commands.Omega.{IsOmegaOf, omega_reply}
+use Rattle.heyvl_replies.specs.commands.Remainder.{IsRemainderOf, remainder_reply}
 use Rattle.heyvl_tool.specs.commands.{Files}
 use Rattle.heyvl_tool.specs.declared.outcomes.Outcome.{Outcome}
 use Rattle.heyvl_tool.specs.declared.requests.Settings.TheVariants as commands
 use Rattle.heyvl_types.specs.Files.{resolved}
 use Rattle.lower_rules.specs.OmegaAnswers.{OmegaHolds}
-use Rattle.lower_rules.specs.RemainderAnswers.{IsPromised, RemainderHolds}
+use Rattle.lower_rules.specs.RemainderAnswers.{IsPromised}
 use Rattle.lower_rules.specs.declared.answers.Omega.TheVariants as omega_answers
 use Rattle.lower_rules.specs.declared.answers.Omega.{Omega}
 use Rattle.lower_rules.specs.declared.remainder_answers.Remainder.TheVariants as remainder_answers
 use Rattle.lower_rules.specs.declared.remainder_answers.Remainder.{Remainder}
-use Rattle.lower_texts.specs.OmegaTexts.{IsOmegaText, holds_text}
-use Rattle.lower_texts.specs.RemainderTexts.{IsRemainderText, bound_text, remainder_line}
+use Rattle.lower_texts.specs.OmegaTexts.{IsOmegaText}
+use Rattle.lower_texts.specs.RemainderTexts.{IsRemainderText}
 use Rattle.std.proofs.Common.{List, ap, arith, refl, subst, sym, ◌∙◌, ◌≡◌, ◌≤◌, ℕ}
 
 low : (n : ℕ) → n ≡ 0 → n ≤ 2

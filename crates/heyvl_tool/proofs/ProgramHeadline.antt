@@ -16,7 +16,7 @@ use Rattle.heyvl_tool.specs.commands.{Files}
 use Rattle.heyvl_replies.specs.declared.faults.Fault.TheVariants as faults
 use Rattle.heyvl_tool.specs.declared.outcomes.Outcome.{Outcome}
 use Rattle.heyvl_tool.specs.declared.requests.Settings.TheVariants.{Pgcl}
-use Rattle.std.proofs.Common.{List, [], refl, subst, sym, ◌∙◌, ◌≡◌, ℕ}
+use Rattle.std.proofs.Common.{List, refl, subst, sym, ◌∙◌, ◌≡◌, ℕ}
 
 -- The file that bytes become, and that its text is the reply.
 record Translated (bytes : List ℕ) (reply : Reply) : Type 0 where

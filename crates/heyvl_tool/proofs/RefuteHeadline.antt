@@ -3,16 +3,15 @@ use Rattle.heylo_formula.specs.declared.values.Val.{Val}
 use Rattle.heyvl_acts.specs.Acts.{TypedProcedure, procedure_at}
 use Rattle.heyvl_num.specs.ExtendedNumbers.{value_of}
 use Rattle.heyvl_num.specs.Value.{Value}
-use Rattle.heyvl_syntax.specs.Procedures.{Procedure}
 use Rattle.heyvl_tool.proofs.CallLemmas.{came_to}
 use Rattle.heyvl_tool.proofs.LowStatuses.{SaidTyped, came_low, status_is, written_low}
 use Rattle.heyvl_tool.specs.Calls.{Call}
 use Rattle.heyvl_replies.specs.Messages.{Reply}
 use Rattle.heyvl_tool.specs.Outcomes.{HasCause, IsDelivered, IsWritten, Writing}
 use Rattle.heyvl_tool.specs.Refutations.{IsRefutedFrom, ViolationsAreMeant}
-use Rattle.heyvl_replies.specs.RunStarts.{known_at, procedure_named}
+use Rattle.heyvl_replies.specs.RunStarts.{known_at}
 use Rattle.heyvl_replies.specs.commands.Refute.IsRefuteOf.{by_name, by_program, by_script, by_search, by_shape}
-use Rattle.heyvl_replies.specs.commands.Refute.{IsRefuteOf, TellsRefuted, refute_start, refuted_reply, violated}
+use Rattle.heyvl_replies.specs.commands.Refute.{IsRefuteOf, refute_start, refuted_reply, violated}
 use Rattle.heyvl_replies.specs.commands.Run.{run_reply}
 use Rattle.heyvl_tool.specs.commands.{Files}
 use Rattle.heyvl_tool.specs.declared.outcomes.Outcome.{Outcome}
@@ -27,7 +26,7 @@ use Rattle.run_script.specs.Scripts.{Script, Spells}
 use Rattle.run_script.specs.Starts.{known_of}
 use Rattle.run_unroller.specs.declared.answers.Unrolled.TheVariants as answers
 use Rattle.run_unroller.specs.declared.answers.Unrolled.{Unrolled}
-use Rattle.std.proofs.Common.{List, Option, Some, ap, arith, refl, subst, sym, ◌∙◌, ◌≡◌, ◌≤◌, ℕ}
+use Rattle.std.proofs.Common.{List, Option, Some, ap, arith, subst, sym, ◌∙◌, ◌≡◌, ◌≤◌, ℕ}
 use Rattle.verdict_report.specs.declared.answers.Answer.{Answer}
 
 low : (n : ℕ) → n ≡ 1 → n ≤ 2

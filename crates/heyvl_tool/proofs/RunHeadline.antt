@@ -8,7 +8,7 @@ use Rattle.heyvl_tool.proofs.CallLemmas.CameTo.{failed, said, too_long}
 use Rattle.heyvl_tool.proofs.CallLemmas.{CameTo, came_to}
 use Rattle.heyvl_tool.specs.Calls.{Call}
 use Rattle.heyvl_replies.specs.FileReplies.IsTypedReply.{by_fault, by_file}
-use Rattle.heyvl_tool.specs.Headline.{IsSummedFrom, SumsAreMeant, scripted_runs, start_by}
+use Rattle.heyvl_tool.specs.Headline.{IsSummedFrom, SumsAreMeant, scripted_runs}
 use Rattle.heyvl_replies.specs.Messages.{Reply, message}
 use Rattle.heyvl_tool.specs.Outcomes.{HasCause, IsCut, IsDelivered, IsWritten, Writing}
 use Rattle.heyvl_replies.specs.RunStarts.{known_at, procedure_named}
@@ -32,7 +32,7 @@ use Rattle.run_unroller.specs.UnrollLaws.{AreSums, UnrolledSumsAreMeant}
 use Rattle.run_unroller.specs.Unrolling.{Unrolling, totals_of, unrolling_of}
 use Rattle.run_unroller.specs.declared.answers.Unrolled.TheVariants as answers
 use Rattle.run_unroller.specs.declared.answers.Unrolled.{Unrolled}
-use Rattle.std.proofs.Common.{List, None, Option, Some, [], ap, inl, inr, refl, subst, sym, unwrap_or, ◌∙◌, ◌∷◌, ◌≡◌, ◌⊎◌, ℕ}
+use Rattle.std.proofs.Common.{List, None, Option, Some, [], ap, inl, inr, refl, subst, sym, ◌∙◌, ◌∷◌, ◌≡◌, ◌⊎◌, ℕ}
 
 -- ---- No other reply has nothing in its way
 

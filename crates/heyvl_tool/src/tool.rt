@@ -13,7 +13,7 @@ ghost use Rattle.heyvl_tool.specs.SourceUses.{IsReadInTurn, IsStartedOnce, IsSta
 ghost use Rattle.heyvl_tool.specs.commands.Files.{one, two};
 ghost use Rattle.heyvl_tool.specs.commands.{IsReplyTo, files_of, row_of};
 ghost use Rattle.heyvl_tool.specs.internal.Refusals.{IsUnread};
-ghost use Rattle.std.specs.Prelude.{IfOk, IsErr, List, length, map, string_bytes, true, ◌≡◌, ◌≤◌, ◌⊎◌, ℕ};
+ghost use Rattle.std.specs.Prelude.{IfOk, IsErr, length, map, string_bytes, true, ◌≡◌, ◌≤◌, ◌⊎◌};
 
 use crate::command_line::{USAGE, settings};
 use crate::commands::respond;

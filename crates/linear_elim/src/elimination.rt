@@ -1,5 +1,5 @@
 //! The whole elimination, one variable after the other.
-ghost use Rattle.std.specs.Prelude.{◌≡◌, ◌<◌, ◌+◌, ◌^◌, ◌&&◌, ℕ, length, true, Some, IfOk};
+ghost use Rattle.std.specs.Prelude.{◌≡◌, ◌<◌, ◌+◌, ◌^◌, ◌&&◌, length, true, Some, IfOk};
 ghost use Rattle.std.specs.List.{All};
 ghost use Rattle.linear_elim.specs.internal.DerivedRows.{IsDerived};
 ghost use Rattle.linear_elim.specs.Elimination.{run};

@@ -1,5 +1,5 @@
 //! The rules that keep the rows few.
-ghost use Rattle.std.specs.Prelude.{◌≡◌, ◌<◌, ◌≤◌, ◌++◌, ◌∷◌, [], ℕ, IfOk, length, not};
+ghost use Rattle.std.specs.Prelude.{◌≡◌, ◌<◌, ◌++◌, ◌∷◌, [], IfOk, not};
 ghost use Rattle.linear_rows.specs.SameTerms.{same_terms};
 ghost use Rattle.linear_elim.specs.Steps.{is_stronger, is_contradiction, has_terms, put_row};
 ghost use Rattle.linear_elim.specs.internal.Places.{IsPlace};
@@ -8,7 +8,7 @@ ghost use Rattle.linear_elim.specs.internal.GatheredRows.{found_after, rows_afte
 
 use crate::fingerprints::fingerprint;
 use crate::joins::Derived;
-use linear_rows::{Row, have_same_terms};
+use linear_rows::have_same_terms;
 use std::alloc::{AllocError, Global};
 use std::collections::HashMap;
 

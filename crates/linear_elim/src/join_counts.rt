@@ -1,5 +1,5 @@
 //! The joins of a step, counted. Of many rows only the first contradiction is kept, and how many others there are.
-ghost use Rattle.std.specs.Prelude.{◌≡◌, ◌<◌, ◌∷◌, ◌++◌, [], ℕ, List, ℤ, true, Some, IfOk, IfSome, SomeIff, length};
+ghost use Rattle.std.specs.Prelude.{◌≡◌, ◌<◌, ◌∷◌, [], true, Some, IfOk, IfSome, length};
 ghost use Rattle.std.specs.List.{All};
 ghost use Rattle.linear_elim.specs.Joins.{join_fits};
 ghost use Rattle.linear_elim.specs.Steps.{fits_each, pairs_fit, joins, pairs};

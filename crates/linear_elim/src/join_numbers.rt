@@ -1,5 +1,5 @@
 //! The fingerprint of a join where the numbers of both rows are small. Neither the join nor its terms are made.
-ghost use Rattle.std.specs.Prelude.{◌≡◌, ◌<◌, ◌^◌, [], ℕ, pos, true, unsigned_abs};
+ghost use Rattle.std.specs.Prelude.{◌≡◌, ◌<◌, ◌^◌, [], pos, true, unsigned_abs};
 ghost use Rattle.std.specs.List.{All};
 ghost use Rattle.linear_rows.specs.Divisors.{common, divided_terms};
 ghost use Rattle.linear_rows.specs.TermResults.{mixed_terms};

@@ -1,9 +1,8 @@
 //! Rows made of the first rows, and the join of two in which a variable vanishes.
-ghost use Rattle.std.specs.Prelude.{◌≡◌, ◌<◌, ◌^◌, ◌*◌, ◌/◌, ◌+ℤ◌, ◌*ℤ◌, ◌<ℤ◌, ◌||◌, ◌&&◌, ℕ, ℤ, pos, unsigned_abs, int_div, true, is_some, IfOk, IfSome, SomeIff, IsSome};
-ghost use Rattle.std.specs.List.{All};
-ghost use Rattle.linear_rows.specs.Terms.{coefficient, is_narrow, is_wide};
-ghost use Rattle.linear_rows.specs.TermResults.{mixed_terms, are_wide, are_narrow};
-ghost use Rattle.linear_rows.specs.Divisors.{divisor, divided_terms};
+ghost use Rattle.std.specs.Prelude.{◌≡◌, ◌<◌, ◌^◌, ◌*◌, ◌/◌, ◌+ℤ◌, ◌*ℤ◌, ◌<ℤ◌, ◌||◌, ◌&&◌, ℤ, pos, unsigned_abs, true, is_some, IfOk, IfSome, SomeIff};
+ghost use Rattle.linear_rows.specs.Terms.{coefficient};
+ghost use Rattle.linear_rows.specs.TermResults.{mixed_terms, are_wide};
+ghost use Rattle.linear_rows.specs.Divisors.{divisor};
 ghost use Rattle.linear_rows.specs.Row.{IsRow};
 ghost use Rattle.linear_elim.specs.Joins.{Derived as DerivedValue, is_below_zero, is_above_zero, join, join_fits, size};
 ghost use Rattle.linear_elim.specs.internal.DerivedRows.{IsDerived, derived_parts, parts_fit};

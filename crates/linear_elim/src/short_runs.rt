@@ -3,7 +3,6 @@ ghost use Rattle.std.specs.Prelude.{◌≡◌, ◌<◌, ◌^◌, ℕ, length, So
 ghost use Rattle.std.specs.List.{All};
 ghost use Rattle.linear_rows.specs.Row.{IsRow};
 ghost use Rattle.linear_rows.specs.Terms.{IsOver};
-ghost use Rattle.linear_elim.specs.Steps.{undominated};
 ghost use Rattle.linear_elim.specs.Joins.{Derived as DerivedValue};
 ghost use Rattle.linear_elim.specs.Elimination.{run, Outcome, elimination_by};
 ghost use Rattle.linear_elim.specs.Elimination.Outcome.{refuted};

@@ -1,5 +1,5 @@
 //! The terms of a join where the numbers of both rows are small: then the join fits, and its shares aren't needed.
-ghost use Rattle.std.specs.Prelude.{◌≡◌, ◌<◌, ◌≤◌, ◌+◌, ◌^◌, ◌++◌, ◌*ℤ◌, ◌+ℤ◌, [], ℕ, ℤ, pos, true, unsigned_abs, length, drop, IfOk};
+ghost use Rattle.std.specs.Prelude.{◌≡◌, ◌<◌, ◌≤◌, ◌+◌, ◌^◌, ◌++◌, ◌*ℤ◌, ◌+ℤ◌, [], ℤ, pos, true, unsigned_abs, length, drop, IfOk};
 ghost use Rattle.std.specs.List.{All};
 ghost use Rattle.heyvl_num.specs.Gcd.{gcd};
 ghost use Rattle.linear_rows.specs.Divisors.{divisor, divided_terms};

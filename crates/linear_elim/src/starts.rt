@@ -1,5 +1,5 @@
 //! The first rows, and the elimination as a whole.
-ghost use Rattle.std.specs.Prelude.{◌≡◌, ◌<◌, ◌^◌, ◌∷◌, [], ℕ, ℤ, pos, true, length, IfOk};
+ghost use Rattle.std.specs.Prelude.{◌≡◌, ◌<◌, ◌^◌, ◌∷◌, [], true, length, IfOk};
 ghost use Rattle.std.specs.List.{All};
 ghost use Rattle.linear_rows.specs.Terms.{IsOver};
 ghost use Rattle.linear_rows.specs.Row.{IsRow};

@@ -1,5 +1,5 @@
 //! Points over one common denominator, and the rows that they meet.
-ghost use Rattle.std.specs.Prelude.{◌≡◌, ◌+ℤ◌, ◌*ℤ◌, ◌<◌, ◌≤◌, ℕ, ℤ, pos, true, IfSome, length, take};
+ghost use Rattle.std.specs.Prelude.{◌≡◌, ◌+ℤ◌, ◌*ℤ◌, ◌<◌, ◌≤◌, ℤ, true, IfSome, length, take};
 ghost use Rattle.linear_rows.specs.Terms.{sum_at};
 ghost use Rattle.linear_rows.specs.Points.{IsBelow};
 ghost use Rattle.linear_rows.specs.Solutions.{IsSolvable};

@@ -3,9 +3,8 @@
 ghost use Rattle.std.specs.Prelude.{◌≡◌, ◌↔◌, ◌+◌, ℕ, ◌<◌, ◌≤◌, ◌^◌, ℤ, pos, ◌+ℤ◌, ◌*ℤ◌, length, true, IsTrue, unsigned_abs};
 ghost use Rattle.std.specs.List.{All};
 ghost use Rattle.std.specs.Option.{SomeIff};
-ghost use Rattle.linear_rows.specs.Terms.{coefficient};
 ghost use Rattle.linear_rows.specs.Row.{IsRow};
-ghost use Rattle.linear_rows.specs.Combination.{row_at, combined, uses_strict, IsWideThroughout, IsContradiction};
+ghost use Rattle.linear_rows.specs.Combination.{combined, uses_strict, IsWideThroughout, IsContradiction};
 ghost use Rattle.linear_rows.specs.internal.Columns.{number_in, AreMultipliers, IsBeyondAt, Vanishes, IsUnmet};
 
 use crate::row::Row;

@@ -1,5 +1,5 @@
 //! Lists of terms: a variable's number and its coefficient, by growing number.
-ghost use Rattle.std.specs.Prelude.{◌≡◌, ◌<◌, ◌≤◌, ◌^◌, ◌+◌, ◌*ℤ◌, ◌+ℤ◌, ◌++◌, [], ℕ, ℤ, pos, ◌<ℤ◌, ◌&&◌, int_div, length, drop, unsigned_abs, is_some, IfOk, IfSome, SomeIff, IsTrue};
+ghost use Rattle.std.specs.Prelude.{◌≡◌, ◌<◌, ◌≤◌, ◌^◌, ◌+◌, ◌*ℤ◌, ◌++◌, [], ℤ, pos, ◌<ℤ◌, ◌&&◌, int_div, length, drop, unsigned_abs, is_some, IfOk, IfSome, SomeIff};
 ghost use Rattle.std.specs.List.{All};
 ghost use Rattle.linear_rows.specs.Terms.{coefficient, IsNormal, put_term};
 ghost use Rattle.linear_rows.specs.TermResults.{scaled_terms, merged_terms, mixed_terms, are_wide, are_narrow};

@@ -1,7 +1,7 @@
 //! Fractions below 2^62, whose sums and products are exact.
 
 ghost use Rattle.std.specs.Prelude.{◌≡◌, ◌==◌, ◌&&◌, MatchOption, true, if◌then◌else◌};
-ghost use Rattle.heyvl_num.specs.Rational.{zeroʳ, oneʳ, ◌+ʳ◌, ◌*ʳ◌};
+ghost use Rattle.heyvl_num.specs.Rational.{oneʳ, ◌+ʳ◌, ◌*ʳ◌};
 ghost use Rattle.heyvl_num.specs.Value.{is_zeroʳ};
 ghost use Rattle.linear_rows.specs.Terms.{is_narrow};
 ghost use Rattle.linear_rows.specs.Numbers.{minus_oneʳ, fits as number_fits, is_negative as number_is_negative};

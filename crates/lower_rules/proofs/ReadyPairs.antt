@@ -8,7 +8,7 @@ use Rattle.heylo_formula.specs.Formula.{Form}
 use Rattle.heylo_formula.specs.Sizes.{nodes}
 use Rattle.heylo_formula.specs.declared.goals.Made.{Made}
 use Rattle.heylo_formula.specs.declared.types.Ty.{Ty}
-use Rattle.heyvl_acts.specs.Acts.{Act, Acts, TypedProcedure, Variable, procedure_at, type_list, variables}
+use Rattle.heyvl_acts.specs.Acts.{Act, Acts, TypedProcedure, Variable, type_list, variables}
 use Rattle.heyvl_acts.specs.PlainActs.{procedure_of, variable_of}
 use Rattle.heyvl_acts.specs.Rules.{AreNamed, Each, GrowBelow, IsCounted, LoopsMeet, MeetsRules}
 use Rattle.heyvl_acts.specs.declared.typed_trees.TProc.{TProc}

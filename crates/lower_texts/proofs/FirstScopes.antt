@@ -8,7 +8,7 @@ use Rattle.heyvl_acts.specs.declared.acts.Act as A
 use Rattle.lower_rules.specs.OmegaPairs.{places}
 use Rattle.lower_rules.specs.OneLoop.{OneLoop}
 use Rattle.lower_texts.specs.internal.FirstScopes.{first_scope, or_scope, own_scope}
-use Rattle.std.proofs.Common.{List, None, Option, Some, [], ap, drop, get_or, length, refl, subst, sym, ◌+◌, ◌++◌, ◌<◌, ◌∙◌, ◌∷◌, ◌≡◌, ℕ}
+use Rattle.std.proofs.Common.{List, None, Some, [], ap, drop, get_or, length, refl, subst, sym, ◌+◌, ◌++◌, ◌<◌, ◌∙◌, ◌∷◌, ◌≡◌, ℕ}
 use Rattle.std.proofs.lemmas.List.{at_drop_more}
 
 -- ---- The program's walk

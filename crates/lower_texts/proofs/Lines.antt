@@ -1,5 +1,5 @@
 -- Lines that are written in parts.
-use Rattle.std.proofs.Common.{List, append_assoc, codes, refl, ◌++◌, ◌≡◌, ℕ}
+use Rattle.std.proofs.Common.{List, append_assoc, codes, ◌++◌, ◌≡◌, ℕ}
 
 -- The line on a step of an omega pair, up to why.
 pub step_begun : (name what step t0 t1 t2 t3 t4 t5 : List ℕ) → t0 ≡ name → t1 ≡ t0 ++ codes ": omega: " → t2 ≡ t1 ++ what → t3 ≡ t2 ++ codes " (" → t4 ≡ t3 ++ step → t5 ≡ t4 ++ codes "): "

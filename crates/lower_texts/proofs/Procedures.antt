@@ -1,6 +1,6 @@
 -- The procedures of a file that meets the rules, as the program holds them.
 use Prim.Native.Nat.{suc, zero}
-use Rattle.heyvl_acts.specs.Acts.{TypedProcedure, Variable, procedure_at, variables}
+use Rattle.heyvl_acts.specs.Acts.{TypedProcedure, procedure_at, variables}
 use Rattle.heyvl_acts.specs.PlainActs.{procedure_of, procedures_of, variable_of}
 use Rattle.heyvl_acts.specs.Rules.{Each, MeetsAllRules, MeetsRules}
 use Rattle.heyvl_acts.specs.declared.typed_trees.TProc.{TProc}

@@ -19,7 +19,7 @@ use Rattle.heyvl_num.specs.ValueOperators.{minᵛ}
 use Rattle.heyvl_places.specs.declared.spans.Span.{Span}
 use Rattle.heyvl_syntax.specs.Expressions.{Expression}
 use Rattle.heyvl_syntax.specs.Procedures.{Procedure}
-use Rattle.heyvl_syntax.specs.Statements.{Block, RightSide, Statement}
+use Rattle.heyvl_syntax.specs.Statements.{RightSide, Statement}
 use Rattle.heyvl_syntax.specs.Statements as heyvl
 use Rattle.heyvl_syntax.specs.declared.types.TypeName.TheVariants as names
 use Rattle.heyvl_types.specs.Files.{setting}

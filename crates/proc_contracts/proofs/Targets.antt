@@ -1,16 +1,10 @@
 -- Targets in the rest of a list of acts, and the variables of a scope that are modified.
-use Rattle.std.proofs.Common.{◌≡◌, ℕ, true, false, ◌||◌, ◌+◌, ◌<◌, ◌≤◌, ap, sym, ◌∙◌, arith, List, [], ◌∷◌, ◌++◌, append-nil, append_assoc, drop, get_or, length}
+use Rattle.std.proofs.Common.{◌≡◌, ℕ, true, false, ◌+◌, ◌<◌, ◌≤◌, ap, sym, ◌∙◌, arith, List, [], ◌∷◌, ◌++◌, append-nil, append_assoc, drop, get_or, length}
 use Rattle.std.proofs.lemmas.List.{at_drop_more, drop_all}
-use Rattle.std.specs.Prelude.{Vec, if◌then◌else◌}
-use Rattle.std.specs.declared.alloc.Global.{Global}
+use Rattle.std.specs.Prelude.{if◌then◌else◌}
 use Prim.Native.Nat.{suc}
-use Rattle.heyvl_places.specs.declared.spans.Span.{Span}
-use Rattle.heylo_formula.specs.declared.forms.Cond as C
-use Rattle.heyvl_acts.specs.declared.acts.Act as A
-use Rattle.heyvl_acts.proofs.exported.PlainActsAre.{if_act}
 use Rattle.heyvl_acts.specs.Acts.{Acts}
-use Rattle.heyvl_acts.specs.ModifiedVariables.{is_target_of, is_target_of_act, is_target_of_arms, modified}
-use Rattle.heyvl_acts.specs.PlainActs.{act_of, acts_of, arms_of}
+use Rattle.heyvl_acts.specs.ModifiedVariables.{is_target_of, modified}
 use Rattle.heyvl_acts.specs.Rules.{GrowBelow}
 
 -- Numbers that grow from a later one on grow from an earlier one on.

@@ -1,5 +1,5 @@
 -- The goal of a ranking holds exactly where it is a ranking; it is a goal, and has few nodes and variables.
-use Rattle.std.proofs.Common.{◌≡◌, ◌∙◌, ◌≤◌, ◌+◌, ◌^◌, ◌||◌, ℕ, refl, sym, ap, subst, arith, Bool, true, false, cond, List, [], ◌∷◌, map, length, get_or, take}
+use Rattle.std.proofs.Common.{◌≡◌, ◌∙◌, ◌≤◌, ◌+◌, ◌^◌, ◌||◌, ℕ, refl, sym, ap, subst, arith, Bool, true, false, cond, List, length, take}
 use Rattle.std.proofs.lemmas.List.{length-append, length-map}
 use Rattle.std.specs.Prelude.{Option, Some, if◌then◌else◌, ◌==◌}
 use Rattle.heyvl_num.specs.Rational.{Rational, zeroʳ, leqʳ, ◌≤ʳ◌}
@@ -17,8 +17,7 @@ use Rattle.heylo_formula.specs.Typing.{NumberType, type_of, constant_type, is_un
 use Rattle.heylo_formula.specs.Variables.{is_free, is_free_in, IsOver}
 use Rattle.heylo_formula.proofs.exported.Agreement.{unchosen_in}
 use Rattle.heylo_formula.proofs.exported.Plain.{joins}
-use Rattle.heyvl_acts.specs.Acts.{TypedProcedure, Variable, acts_in, type_list, types_of, variables}
-use Rattle.heyvl_acts.specs.Places.{in_order}
+use Rattle.heyvl_acts.specs.Acts.{TypedProcedure, Variable, type_list, types_of, variables}
 use Rattle.heyvl_acts.specs.FormSizes.{ActWithin, RankWithin}
 use Rattle.heyvl_acts.specs.Rules.{MeetsRules}
 use Rattle.vp_generator.specs.Laws.{GeneratedFormMeansActs, GeneratedFormIsFormula}

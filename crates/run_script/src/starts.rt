@@ -4,7 +4,6 @@ ghost use Rattle.heylo_formula.specs.State.{default as default_of, fit};
 ghost use Rattle.heyvl_acts.specs.PlainActs.{procedure_of, variable_of};
 ghost use Rattle.heyvl_acts.specs.Rules.{IsCounted};
 ghost use Rattle.run_script.specs.Starts.{known_of, start_state, start_state_over, start_value, start_value_over, start_values, value_or};
-ghost use Rattle.std.specs.List.{find};
 ghost use Rattle.std.specs.Prelude.{IfOk, OnOk, drop, map, take, ◌++◌, ◌+◌, ◌≡◌};
 ghost use Rattle.std.specs.Str.{bytes_eq};
 

@@ -1,6 +1,6 @@
 //! The turns of loops, over all runs.
 
-ghost use Rattle.std.specs.Prelude.{◌≡◌, List, IfOk, option_map, pos};
+ghost use Rattle.std.specs.Prelude.{◌≡◌, IfOk, option_map, pos};
 ghost use Prim.Native.Nat.{suc};
 ghost use Rattle.heyvl_num.specs.Rational.{ratio};
 ghost use Rattle.run_machine.specs.Names.{turns_of};

@@ -1,6 +1,6 @@
 //! The weight of the runs that haven't ended.
 
-ghost use Rattle.std.specs.Prelude.{◌≡◌, ◌∷◌, List, [], Some};
+ghost use Rattle.std.specs.Prelude.{◌≡◌, ◌∷◌, [], Some};
 ghost use Rattle.run_machine.specs.Replies.{stored_outcome, stored_outcomes};
 ghost use Rattle.run_unroller.specs.Totals.{added_weights, running, running_total};
 

@@ -2,9 +2,9 @@
 
 ghost use Rattle.heyvl_acts.specs.PlainActs.{procedures_of};
 ghost use Rattle.heyvl_acts.specs.Rules.{Each, MeetsAllRules};
-ghost use Rattle.std.specs.Prelude.{◌≡◌, ◌++◌, ◌+◌, ◌<◌, ◌≤◌, ◌^◌, IfOk, OnOk, length};
+ghost use Rattle.std.specs.Prelude.{◌≡◌, ◌++◌, ◌+◌, ◌<◌, ◌^◌, IfOk, OnOk, length};
 ghost use Rattle.verdict_report.specs.PlacedAnswers.{CanReport, IsAnswerPlaced, IsLoopPlaced};
-ghost use Rattle.verdict_report.specs.Reports.{answer_lines, lines_from, loop_line, loop_lines, report_text};
+ghost use Rattle.verdict_report.specs.Reports.{answer_lines, loop_line, loop_lines, report_text};
 
 use crate::answers::{Answer, LoopAnswer};
 use crate::verdicts::{write_rank, write_verdict};

@@ -1,6 +1,6 @@
 -- What certificates say of goals, computed: of rankings with one that is accepted, one that is missing and one that is refused; and
 -- of goals of which one is proved.
-use Rattle.std.proofs.Common.{◌≡◌, ◌<◌, ℕ, refl, ap, ◌∙◌, arith, sym, Bool, List, [], ◌∷◌, map, slice_index_or}
+use Rattle.std.proofs.Common.{◌≡◌, ◌<◌, ℕ, refl, ap, ◌∙◌, arith, Bool, List, [], ◌∷◌, map, slice_index_or}
 use Rattle.std.specs.Prelude.{Some, None, Vec}
 use Rattle.std.specs.declared.alloc.Global.{Global}
 use Prim.Native.Nat.{zero, suc}

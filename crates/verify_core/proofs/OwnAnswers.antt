@@ -1,12 +1,11 @@
 -- The answers on procedures by their own goals, one after the other, and their tables.
-use Rattle.std.proofs.Common.{◌≡◌, ℕ, ◌+◌, ◌<◌, refl, sym, ap, ◌∙◌, subst, append-nil, append_assoc, arith, Bool, true, false, not, List, [], ◌∷◌, ◌++◌, length, map, get_or, take}
+use Rattle.std.proofs.Common.{◌≡◌, ℕ, ◌+◌, ◌<◌, refl, sym, ap, ◌∙◌, subst, append-nil, append_assoc, arith, Bool, false, List, [], ◌∷◌, ◌++◌, length, map, get_or, take}
 use Prim.Native.Nat.{zero, suc}
 use Rattle.goal_answers.specs.declared.named_goals.NamedGoal.{NamedGoal}
 use Rattle.goal_answers.specs.declared.trees.GoalCert.{GoalCert}
 use Rattle.heyvl_acts.specs.Acts.{TypedProcedure, procedure_at}
 use Rattle.loop_encodings.specs.BoundGoals.{bound_goals}
 use Rattle.verdict_report.specs.declared.answers.Answer.{Answer}
-use Rattle.verify_core.specs.GoalDecisions.{certified_in_file}
 use Rattle.verify_core.specs.NumberedLists.{AllNumbered, row_at}
 use Rattle.verify_core.specs.Outcomes.{all_outcomes, all_shown, listed, loop_answer, outcomes, told, told_in_file}
 use Rattle.verify_core.specs.Questions.{AreGoals, IsGoalOf}

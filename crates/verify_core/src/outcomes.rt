@@ -1,6 +1,5 @@
 //! What comes of goals.
 
-ghost use Rattle.std.specs.Option.{option_or};
 ghost use Rattle.std.specs.Prelude.{◌≡◌};
 ghost use Rattle.verify_core.specs.Outcomes.{is_falsified, is_open, told};
 

@@ -7,7 +7,7 @@ use Rattle.heyvl_acts.specs.Acts.{TypedProcedure, Variable, type_list, variables
 use Rattle.heyvl_num.specs.Gcd.{gcd, gcd_steps}
 use Rattle.heyvl_num.specs.Rational.{leqʳ, ratio, zeroʳ}
 use Rattle.run_machine.specs.Bound.{IsState}
-use Rattle.run_script.specs.Starts.{known_of, start_state, start_state_over, start_value, start_value_over, start_values, value_or}
+use Rattle.run_script.specs.Starts.{known_of, start_state, start_state_over, start_value, start_values, value_or}
 use Rattle.run_script.specs.declared.scripts.Setting.{Setting}
 use Rattle.std.proofs.Common.{List, None, Option, Some, [], ap, append_assoc, map, refl, subst, sym, true, ◌++◌, ◌∙◌, ◌∷◌, ◌≡◌}
 use Rattle.std.proofs.lemmas.List.{map-append}

@@ -7,7 +7,7 @@ use Rattle.lower_texts.proofs.Procedures.{few_variables, name_is, procedure_is}
 use Rattle.lower_texts.proofs.omega_texts.fails_line.Goals as goal
 use Rattle.verdict_report.specs.GoalNames.{names_of_made}
 use Rattle.lower_texts.specs.OmegaTexts.{step_text}
-use Rattle.std.proofs.Common.{List, ap, ap₂, codes, ◌++◌, ◌∙◌, ℕ}
+use Rattle.std.proofs.Common.{ap, ap₂, codes, ◌++◌, ◌∙◌}
 use Rattle.verdict_report.specs.Settings.{Names}
 use Rattle.verdict_report.specs.States.{state_text}
 

@@ -4,7 +4,7 @@ use Rattle.lower_texts.proofs.Lines.{remainder_told}
 use Rattle.lower_texts.proofs.Procedures.{name_is}
 use Rattle.lower_texts.proofs.remainder_texts.fails_line.Goals as goal
 use Rattle.verdict_report.specs.GoalNames.{names_of_made}
-use Rattle.std.proofs.Common.{List, ap, ap₂, codes, ◌++◌, ◌∙◌, ℕ}
+use Rattle.std.proofs.Common.{ap, ap₂, codes, ◌++◌, ◌∙◌}
 use Rattle.verdict_report.specs.LoopScopes.{interface_numbers}
 use Rattle.verdict_report.specs.Settings.{Names}
 use Rattle.verdict_report.specs.States.{state_text}

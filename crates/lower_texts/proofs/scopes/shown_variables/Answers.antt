@@ -2,7 +2,7 @@ use Rattle.heyvl_acts.specs.PlainActs.{procedure_of}
 use Rattle.lower_texts.proofs.Procedures.{as_many}
 use Rattle.lower_texts.proofs.FirstScopes.{one_scope}
 use Rattle.lower_texts.proofs.scopes.shown_variables.Goals as goal
-use Rattle.std.proofs.Common.{List, [], ap, ap₂, sym, ◌++◌, ◌∙◌, ◌∷◌, ℕ}
+use Rattle.std.proofs.Common.{List, [], ap₂, sym, ◌++◌, ◌∙◌, ◌∷◌, ℕ}
 
 pub returns : goal.returns
 returns c l =

@@ -1,4 +1,4 @@
-use Rattle.std.proofs.Common.{◌≡◌, ◌<◌, ◌++◌, ◌∷◌, [], arith, length, refl, subst, sym, take}
+use Rattle.std.proofs.Common.{◌≡◌, ◌<◌, arith, length, refl, subst, sym, take}
 use Rattle.std.proofs.lemmas.List.{length-map, length-take-le}
 use Rattle.heyvl_acts.specs.Acts.{procedure_at}
 use Rattle.heyvl_acts.specs.PlainActs.{procedure_of, procedures_of}

@@ -1,4 +1,4 @@
-use Rattle.std.proofs.Common.{arith, subst, sym, ◌≡◌, ◌<◌, length, slice_index_or}
+use Rattle.std.proofs.Common.{arith, subst, sym, ◌<◌, length, slice_index_or}
 use Rattle.std.proofs.lemmas.List.{length-map}
 use Rattle.heyvl_acts.specs.PlainActs.{procedure_of, procedures_of}
 use Rattle.proc_contracts.specs.ReachedProcedures.{AreReached}

@@ -1,4 +1,3 @@
-use Rattle.heyvl_acts.specs.PlainActs.{procedures_of}
 use Rattle.heyvl_replies.proofs.commands.refute.refute_at.Goals as goal
 use Rattle.heyvl_replies.specs.commands.Refute.IsRefuteOf.{by_shape}
 use Rattle.run_script.specs.PlainScripts.{script_of}

@@ -3,7 +3,7 @@ use Rattle.heyvl_replies.proofs.commands.refute.refute_typed.Goals as goal
 use Rattle.heyvl_replies.specs.RunStarts.{known_at, procedure_named}
 use Rattle.heyvl_replies.specs.commands.Refute.IsRefuteOf.{by_name, by_script}
 use Rattle.run_script.specs.PlainScripts.{known_in, script_of}
-use Rattle.run_script.specs.Scripts.{AreLinesOf, IsFirstFault, Known, Spells}
+use Rattle.run_script.specs.Scripts.{IsFirstFault, Known, Spells}
 use Rattle.std.proofs.Common.{None, Some, ap, subst, sym, ◌∙◌, ◌≡◌}
 use Rattle.std.proofs.lemmas.Result.{IfOk-weaker}
 
