@@ -6,7 +6,7 @@ use Rattle.heyvl_syntax.specs.Expressions.{Expression}
 use Rattle.heyvl_syntax.specs.Grammar.{IsFull, IsStmt, IsStmts}
 use Rattle.heyvl_syntax.specs.Productions.{IsKey, IsMark, IsName, extent, ◌or◌, ◌then◌}
 use Rattle.heyvl_syntax.specs.Statements as heyvl
-use Rattle.heyvl_syntax.specs.Statements.{Arms, Block, LoopRule, RightSide, Statement}
+use Rattle.heyvl_syntax.specs.Statements.{Block, LoopRule, RightSide, Statement}
 use Rattle.heyvl_syntax.specs.declared.keys.Key.TheVariants as keys
 use Rattle.heyvl_syntax.specs.declared.marks.Mark.TheVariants as marks
 use Rattle.heyvl_syntax.specs.declared.tokens.Token.{Token}

@@ -10,9 +10,7 @@ ghost use Rattle.guarded_commands.specs.internal.Commands.{braced, bracketed, br
 ghost use Rattle.std.specs.Prelude.{IfOk, length, suc, ◌&&◌, ◌<◌, ◌≡◌, ◌≤◌, ℕ};
 
 use crate::programs::Command;
-use heyvl_parse::{
-    PartStop, beside, closed, expect, expect_key, span_between, starts_mark, whole, word,
-};
+use heyvl_parse::{PartStop, expect, expect_key, span_between, starts_mark, whole, word};
 use heyvl_places::Name;
 use heyvl_syntax::{Expr, Key, Mark, Token, TokenKind};
 use std::alloc::Global;

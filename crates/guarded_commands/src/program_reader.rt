@@ -10,7 +10,7 @@ ghost use Rattle.guarded_commands.specs.Grammar.{IsProg, IsProgram, is_quantifie
 ghost use Rattle.guarded_commands.specs.ProgramFaults.{IsPgclMemory, IsPgclStop, IsProgramFault, IsThisPgclStop};
 ghost use Rattle.guarded_commands.specs.Programs.{ProgramTree, program_tree};
 ghost use Rattle.guarded_commands.specs.internal.Commands.{ended_expr};
-ghost use Rattle.guarded_commands.specs.internal.Programs.{parts, parts_tree, program};
+ghost use Rattle.guarded_commands.specs.internal.Programs.{program};
 ghost use Rattle.std.specs.Prelude.{[], IfErr, IfOk, MatchResult, length, take, ◌+◌, ◌<◌, ◌^◌, ◌≡◌, ◌≤◌, ℕ};
 
 use crate::commands::{commands, ended_expr};

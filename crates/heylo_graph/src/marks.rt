@@ -1,6 +1,6 @@
 //! Where variables occur.
 
-ghost use Rattle.std.specs.Prelude.{◌≡◌, ◌<◌, ◌≤◌, ◌+◌, Bool, List, length, IfOk, Some};
+ghost use Rattle.std.specs.Prelude.{◌≡◌, ◌<◌, ◌+◌, Bool, List, length, IfOk, Some};
 ghost use Rattle.heylo_graph.specs.Trees.{Tree, is_free_tree, occurs_tree};
 ghost use Rattle.heylo_graph.specs.Nodes.{Stands, assembled, tree_at};
 ghost use Rattle.heylo_graph.specs.Parts.{first, second, third, variable_of, bound_by};

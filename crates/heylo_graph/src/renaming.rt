@@ -1,6 +1,6 @@
 //! Renaming of variables in a graph.
 
-ghost use Rattle.std.specs.Prelude.{◌≡◌, ◌<◌, ◌≤◌, Bool, true, false, List, Option, length, get_or, slice_get, Some, None, IfOk, IfSome, IfNone, OnOk};
+ghost use Rattle.std.specs.Prelude.{◌≡◌, ◌<◌, true, false, Option, length, get_or, slice_get, Some, None, IfOk, IfSome, IfNone, OnOk};
 ghost use Rattle.heylo_graph.specs.Trees.{Tree, is_free_tree, renamed_tree};
 ghost use Rattle.heylo_graph.specs.Nodes.{Begins, IsGraph, IsFitting, Stands, assembled, tree_at};
 ghost use Rattle.heylo_graph.specs.Parts.{first, second, third, with_parts, variable_of, is_flag};
@@ -8,7 +8,7 @@ ghost use Rattle.heylo_graph.specs.internal.Tables.{AreEmpty, IsBefore, IsReady,
 ghost use Rattle.heylo_graph.specs.declared.nodes.Node.{Node as NodeValue};
 
 use crate::graphs::Graph;
-use crate::nodes::{Node, NodeId};
+use crate::nodes::NodeId;
 use heyvl_num::Ext;
 use std::alloc::AllocError;
 

@@ -1,7 +1,7 @@
 //! Substitution in a graph. A node in whose tree the variable isn't free is handed on; each other one is visited once. A
 //! binder that would capture takes a fresh number, and its body as it was isn't visited.
 
-ghost use Rattle.std.specs.Prelude.{◌≡◌, ◌+◌, ◌^◌, ◌<◌, ◌≤◌, ◌||◌, Bool, true, false, List, Option, length, get_or, slice_get, Some, None, IfOk, IfSome, IfNone, OnOk, OnErr};
+ghost use Rattle.std.specs.Prelude.{◌≡◌, ◌+◌, ◌^◌, ◌<◌, ◌||◌, true, false, Option, length, get_or, slice_get, Some, None, IfOk, IfSome, IfNone, OnOk, OnErr};
 ghost use Rattle.heylo_formula.specs.Formula.{Form as PlainForm};
 ghost use Rattle.heylo_formula.specs.PlainTrees.{term_of};
 ghost use Rattle.heylo_formula.specs.Sizes.{nodes, nodes_in_term};
@@ -9,8 +9,8 @@ ghost use Rattle.heylo_formula.specs.Variables.{occurs, occurs_in_term};
 ghost use Rattle.heylo_formula.specs.Binders.{has_binder};
 ghost use Rattle.heylo_formula.specs.Substitution.{fresh, renamed, subst};
 ghost use Rattle.heylo_graph.specs.Trees.{Tree, is_free_tree, subst_tree, tree_of_term};
-ghost use Rattle.heylo_graph.specs.Nodes.{Begins, IsFormula, IsGraph, IsFitting, Stands, assembled, tree_at};
-ghost use Rattle.heylo_graph.specs.Parts.{first, second, third, with_parts, with_binder, variable_of, bound_by, binder_of};
+ghost use Rattle.heylo_graph.specs.Nodes.{Begins, IsFormula, IsFitting, Stands, assembled, tree_at};
+ghost use Rattle.heylo_graph.specs.Parts.{first, second, third, with_binder, variable_of, bound_by, binder_of};
 ghost use Rattle.heylo_graph.specs.internal.Tables.{IsBefore, IsCalm, IsReady, IsSmall, Moves, PartIsSmall, PartMoves, put_tree};
 ghost use Rattle.heylo_graph.specs.declared.nodes.Node.{Node as NodeValue};
 

@@ -1,7 +1,6 @@
 //! Copies of acts.
 
 ghost use Rattle.heyvl_acts.specs.PlainActs.{act_of, acts_of, loop_of, parts_of, terms_of, rank_of};
-ghost use Rattle.heylo_formula.specs.PlainTrees.{form_of, term_of};
 ghost use Rattle.std.specs.Prelude.{◌≡◌, IfOk};
 
 use crate::acts::{Act, LoopAct};

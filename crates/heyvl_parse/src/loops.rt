@@ -1,6 +1,5 @@
 //! The parser of the rules of loops.
 
-ghost use Rattle.heyvl_parse.specs.readers.Combinators.{is_word, lead, sign};
 ghost use Rattle.heyvl_parse.specs.internal.Loops.{kind_rule, rule, rule_start, rules, word_rule};
 ghost use Rattle.heyvl_parse.specs.readers.Results.{Gives};
 ghost use Rattle.heyvl_syntax.specs.Statements.{loop_rule, loop_rules};

@@ -5,7 +5,6 @@ use Rattle.heyvl_print.specs.Printable.{ArePrintable, IsPrintable}
 use Rattle.heyvl_syntax.proofs.exported.TokenReads.{Reads}
 use Rattle.heyvl_syntax.specs.Productions.{IsOne, at, ◌then◌}
 use Rattle.heyvl_syntax.specs.declared.tokens.Token.{Token}
-use Rattle.heyvl_syntax.specs.declared.tokens.TokenKind.TheVariants as kinds
 use Rattle.heyvl_syntax.specs.declared.tokens.TokenKind.{TokenKind}
 use Rattle.std.proofs.Common.{Bool, List, [], ap, append_assoc, map, refl, subst, suc, sym, true, zero, ◌++◌, ◌∙◌, ◌∷◌, ◌≡◌, ℕ}
 use Rattle.std.proofs.lemmas.List.{append-nil}

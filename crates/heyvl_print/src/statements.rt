@@ -2,9 +2,8 @@
 
 ghost use Rattle.heyvl_print.specs.Canonical.{arm_pieces, block_lines, braced, else_pieces, if_pieces, statement_lines};
 ghost use Rattle.heyvl_print.specs.Pieces.{text_of};
-ghost use Rattle.heyvl_print.specs.WithoutPlaces.{no_place};
 ghost use Rattle.heyvl_syntax.specs.Expressions.{expression};
-ghost use Rattle.heyvl_syntax.specs.Statements.{Statement, arms, block, loop_rules, statement};
+ghost use Rattle.heyvl_syntax.specs.Statements.{arms, block, statement};
 ghost use Rattle.std.specs.Prelude.{◌++◌, ◌+◌, ◌≡◌, ◌≤◌, OnOk, length};
 
 use crate::bytes::{write, write_repeated};

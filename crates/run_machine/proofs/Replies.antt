@@ -11,7 +11,7 @@ use Rattle.run_machine.specs.BoundedStep.{Answer, answer_of, any_deep, bounded, 
 use Rattle.run_machine.specs.ConfigConditions.{IsConfig}
 use Rattle.run_machine.specs.Configurations.{Config}
 use Rattle.run_machine.specs.Names.{Stored, stored, config_of, items_of}
-use Rattle.run_machine.specs.Step.{Decision, step}
+use Rattle.run_machine.specs.Step.{Decision}
 use Rattle.run_machine.specs.StepAnswers.{EachNext, IsStep}
 use Rattle.run_machine.specs.Replies.{StoredOutcomes, Reply, any_large, named, replied, reply_of, stored_outcomes}
 use Rattle.run_machine.specs.StoredLaws.{Comes, MeansStep}

@@ -1,13 +1,12 @@
 //! The step of a toss.
 
-ghost use Rattle.std.specs.Prelude.{◌≡◌, [], ◌∷◌, IfOk, IfSome, is_some, option_map, true, false};
+ghost use Rattle.std.specs.Prelude.{◌≡◌, [], ◌∷◌, IfOk, IfSome, option_map, true, false};
 ghost use Rattle.heylo_formula.specs.Formula.{Cond as condition, Term as term};
 ghost use Rattle.heylo_formula.specs.Operators.{finite_part};
 ghost use Rattle.heylo_formula.specs.PlainTrees.{form_of};
 ghost use Rattle.heylo_formula.specs.State.{environment};
 ghost use Rattle.heyvl_acts.specs.Tosses.{toss_parts, toss_weight};
 ghost use Rattle.heyvl_num.specs.ExtendedNumbers.{value_of};
-ghost use Rattle.heyvl_num.specs.Rational.{oneʳ, ◌-ʳ◌};
 ghost use Rattle.heyvl_num.specs.Value.{oneᵛ};
 ghost use Rattle.heyvl_num.specs.ValueOperators.{minᵛ};
 ghost use Rattle.quant_algebra.specs.ExactOperators.{exact_minᵛ};

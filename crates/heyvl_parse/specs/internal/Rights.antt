@@ -1,6 +1,6 @@
 -- Reading right sides.
 use Rattle.heyvl_parse.specs.readers.Combinators.{is_key, lead, list, list0, starts, trail}
-use Rattle.heyvl_parse.specs.readers.ReadParts.{Read, Whole, expr, is_mark, mapped, pair, reading, word}
+use Rattle.heyvl_parse.specs.readers.ReadParts.{Read, expr, is_mark, mapped, pair, word}
 use Rattle.heyvl_parse.specs.declared.rights.RightStart.TheVariants as starts_as
 use Rattle.heyvl_parse.specs.declared.rights.RightStart.{RightStart}
 use Rattle.heyvl_syntax.specs.Expressions.{Expression}
