@@ -1,17 +1,16 @@
 -- Lists of terms that are counted by a table.
 use Rattle.std.proofs.Common.{◌≡◌, ℕ, ◌+◌, ◌<◌, ◌≤◌, List, [], ◌∷◌, ◌++◌, length, get_or, set, take, drop, append_assoc, append-nil, refl, sym, ap, ap₂, subst, ◌∙◌, arith, Bool, true, false, cond, not, ◌&&◌, ◌||◌, eqb, ltb, ◌⊎◌, inl, inr, length-append}
-use Rattle.std.specs.Prelude.{ℤ, pos, negsuc, Option, Some, None}
+use Rattle.std.specs.Prelude.{ℤ, pos, Option, Some, None}
 use Rattle.std.specs.List.{All}
 use Rattle.std.specs.Int.Signed.{lt_z}
 use Rattle.heyvl_num.specs.Value.{is_zero_num}
 use Rattle.std.proofs.Math.Seq.{get_or-set_same, get_or-set_other}
-use Rattle.std.proofs.lemmas.Bool.{and_from}
 use Rattle.std.proofs.lemmas.List.{get_or_read, get_or_default, get_or_at, get_or_append_left, map_more, drop_more, drop_all}
 use Rattle.std.proofs.lemmas.List.Elements.{All-nil, All-cons, All-head, All-tail, All-append, All-weaker, All-filter, filter_passes}
 use Prim.Native.Nat.{suc}
 use Rattle.linear_rows.specs.Terms.{coefficient}
 use Rattle.linear_elim.specs.Joins.{Derived, is_below_zero, is_above_zero}
-use Rattle.linear_rows.specs.SameTerms.{same_number, same_terms}
+use Rattle.linear_rows.specs.SameTerms.{same_terms}
 use Rattle.linear_elim.specs.Steps.{is_stronger, put_row, has_terms, joins, pairs, lowers, uppers}
 use Rattle.linear_elim.specs.Elimination.{Step}
 use Rattle.linear_elim.specs.declared.tables.Name.{Name}
@@ -22,18 +21,7 @@ use Rattle.linear_elim.specs.internal.Fingerprints.{hashed_all, fingerprint}
 use Rattle.linear_elim.specs.internal.GatheredRows.{found_after, rows_after, rows_all}
 use Rattle.linear_elim.specs.internal.Signless.{sign_terms, AreSignless}
 use Rattle.linear_elim.proofs.Solutions.{all_map-out}
-use Rattle.linear_rows.proofs.exported.SameTerms.{same_terms-is}
-
-same_var : (n : ℕ) → eqb n n ≡ true
-same_var n = grind arith
-
-number-same : (z : ℤ) → same_number z z ≡ true
-number-same (pos n) = same_var n
-number-same (negsuc n) = same_var n
-
-pub terms-same : (ts : List (ℕ × ℤ)) → same_terms ts ts ≡ true
-terms-same [] = refl
-terms-same (t ∷ ts) = and_from _ _ (and_from _ _ (same_var t.0) (number-same t.1)) (terms-same ts)
+use Rattle.linear_rows.proofs.exported.SameTerms.{same_terms-is, terms-same}
 
 -- ---- Lists of terms put among others
 

@@ -1,7 +1,7 @@
--- Lists of terms that are told to be the same are equal.
-use Rattle.std.proofs.Common.{◌≡◌, ℕ, List, [], ◌∷◌, refl, ap, ap₂, Bool, true, false, eqb, ◌&&◌, length}
-use Rattle.std.specs.Prelude.{ℤ, pos, negsuc}
-use Rattle.std.proofs.lemmas.Bool.{eqb-true}
+-- Lists of terms that are told to be the same are equal, and equal ones are told so.
+use Rattle.std.proofs.Common.{◌≡◌, ℕ, List, [], ◌∷◌, refl, ap, ap₂, subst, arith, Bool, true, false, eqb, ◌&&◌, length}
+use Rattle.std.specs.Prelude.{ℤ, pos, negsuc, IsTrue, ◌↔◌}
+use Rattle.std.proofs.lemmas.Bool.{eqb-true, and_from}
 use Rattle.linear_rows.specs.SameTerms.{same_number, same_terms}
 
 pub and_true : (a b : Bool) → (a && b) ≡ true → (a ≡ true) × (b ≡ true)
@@ -22,6 +22,20 @@ same_terms-is (t ∷ ts) (u ∷ us) e =
     let h = and_true (eqb t.0 u.0 && same_number t.1 u.1) (same_terms ts us) e in
     let k = and_true (eqb t.0 u.0) (same_number t.1 u.1) h.0 in
     ap₂ (λ (x : ℕ × ℤ) (xs : List (ℕ × ℤ)). x ∷ xs) (ap₂ (λ (v : ℕ) (c : ℤ). (v, c)) (eqb-true t.0 u.0 k.0) (same_number-is t.1 u.1 k.1)) (same_terms-is ts us h.1)
+
+same_var : (n : ℕ) → eqb n n ≡ true
+same_var n = grind arith
+
+number-same : (z : ℤ) → same_number z z ≡ true
+number-same (pos n) = same_var n
+number-same (negsuc n) = same_var n
+
+pub terms-same : (ts : List (ℕ × ℤ)) → same_terms ts ts ≡ true
+terms-same [] = refl
+terms-same (t ∷ ts) = and_from _ _ (and_from _ _ (same_var t.0) (number-same t.1)) (terms-same ts)
+
+pub same_terms-tells : (ts us : List (ℕ × ℤ)) → IsTrue (same_terms ts us) ↔ (ts ≡ us)
+same_terms-tells ts us = (same_terms-is ts us, λ e. subst (λ vs. same_terms ts vs ≡ true) e (terms-same ts))
 
 pub lengths_differ : (a b : List (ℕ × ℤ)) → (length a ≡ length b → ⊥) → false ≡ same_terms a b
 lengths_differ a b n = go (same_terms a b) refl
