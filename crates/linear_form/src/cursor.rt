@@ -1,12 +1,13 @@
 //! An evaluation along a path: where it stands, and why it stops.
 
-ghost use Rattle.std.specs.Prelude.{◌≡◌, ◌+◌, drop, take, Bool, true, false, Option, Some, IfOk, if◌then◌else◌};
-ghost use Rattle.linear_form.specs.Query.{Atom as PlainAtom, known, known_by};
+ghost use Rattle.std.specs.Prelude.{◌≡◌, ◌+◌, drop, true, false, IfOk};
+ghost use Rattle.linear_form.specs.Query.{Atom as PlainAtom};
 ghost use Rattle.linear_form.specs.Query.Query.{ask, done};
 ghost use Rattle.linear_form.specs.internal.Run.{along, turned, Evaluation};
 ghost use Rattle.linear_form.specs.PlainPaths.{path_of, atom_of};
 ghost use Rattle.linear_form.specs.internal.EvaluationResults.{GivesTruth};
 
+use crate::known_truths::known_truth;
 use crate::paths::{Atom, Taken};
 use linear_values::Lin;
 use std::alloc::{AllocError, Global};
@@ -64,35 +65,6 @@ pub fn answered(alloc: Global, atom: Atom, path: &[Taken], at: usize) -> Result<
         let question = boxed(alloc, atom)?;
         Err(Stop::Decide(question))
     }
-}
-
-/// Whether the question is the truth of this variable.
-fn asks_truth(atom: &Atom, x: u32) -> bool
-    ensures { (held : Bool) (other : Option Bool) → known_by x (atom_of atom.now) held other ≡ (if result then Some held else other) }
-{
-    match atom {
-        Atom::Truth(y) => x == *y,
-        Atom::Row(_, _) => false,
-    }
-}
-
-/// The truth of a Boolean variable that the first `count` answers of a path have decided.
-fn known_truth(x: u32, path: &[Taken], count: usize) -> Option<bool>
-    ensures { result ≡ known x (take count (path_of path.now)) }
-{
-    let mut rest = path;
-    let mut left = count;
-    'search: while let Some((taken, others)) = rest.split_first() {
-        if left == 0 {
-            return None;
-        }
-        if asks_truth(&taken.atom, x) {
-            return Some(taken.held);
-        }
-        rest = others;
-        left -= 1;
-    }
-    None
 }
 
 /// The truth of a Boolean variable: known where the path has decided it before this place, else asked.

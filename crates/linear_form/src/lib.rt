@@ -9,6 +9,7 @@ mod further_questions;
 mod further_rows;
 mod goal_products;
 mod growing_rows;
+mod known_truths;
 mod nodes;
 mod operators;
 mod path_ends;
@@ -32,6 +33,7 @@ pub use continuations::{begin, go_on, go_on_from};
 pub use further_questions::asks_on;
 pub use goal_products::nonlinear;
 pub use growing_rows::{last_rows, next_row, with_denied_goal, with_signs_of_path};
+pub use known_truths::known_truth;
 pub use linear_rows::{
     Occurrences, Row, coefficient_of, contradicts, divided, divisor_of, greedy_choices_are_unique,
     merged, mixed, narrow_quotient, scaled, solutions_of_rows, wide_product,

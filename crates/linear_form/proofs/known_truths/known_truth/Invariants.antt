@@ -1,7 +1,7 @@
 use Rattle.std.proofs.Common.{◌≡◌, length, take}
 use Rattle.linear_form.specs.Query.{known}
 use Rattle.linear_form.specs.PlainPaths.{path_of}
-use Rattle.linear_form.proofs.cursor.known_truth.Given as goal
+use Rattle.linear_form.proofs.known_truths.known_truth.Given as goal
 
 abbrev pub decreases-search : goal.decreases-search
 decreases-search l = length l.rest

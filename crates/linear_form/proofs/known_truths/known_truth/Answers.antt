@@ -4,7 +4,7 @@ use Prim.Native.Nat.{zero, suc}
 use Rattle.linear_form.specs.Query.{known, known_by}
 use Rattle.linear_form.specs.PlainPaths.{path_of, atom_of}
 use Rattle.linear_form.specs.declared.paths.Taken.{Taken}
-use Rattle.linear_form.proofs.cursor.known_truth.Goals as goal
+use Rattle.linear_form.proofs.known_truths.known_truth.Goals as goal
 
 step : (x left : ℕ) (p : Taken) (others rest : List Taken) → rest ≡ p ∷ others → (left ≡ 0 → ⊥) → ((held : Bool) (other : Option Bool) → known_by x (atom_of p.atom) held other ≡ other) → known x (take left (path_of rest)) ≡ known x (take (left - 1) (path_of others))
 step x zero p others rest e h k = absurd (h refl)

@@ -1,0 +1,36 @@
+//! What a path has decided of Boolean variables.
+
+ghost use Rattle.std.specs.Prelude.{◌≡◌, take, Bool, Option, Some, if◌then◌else◌};
+ghost use Rattle.linear_form.specs.Query.{known, known_by};
+ghost use Rattle.linear_form.specs.PlainPaths.{path_of, atom_of};
+
+use crate::paths::{Atom, Taken};
+
+/// Whether the question is the truth of this variable.
+fn asks_truth(atom: &Atom, x: u32) -> bool
+    ensures { (held : Bool) (other : Option Bool) → known_by x (atom_of atom.now) held other ≡ (if result then Some held else other) }
+{
+    match atom {
+        Atom::Truth(y) => x == *y,
+        Atom::Row(_, _) => false,
+    }
+}
+
+/// The truth of a Boolean variable that the first `count` answers of a path have decided.
+pub fn known_truth(x: u32, path: &[Taken], count: usize) -> Option<bool>
+    ensures { result ≡ known x (take count (path_of path.now)) }
+{
+    let mut rest = path;
+    let mut left = count;
+    'search: while let Some((taken, others)) = rest.split_first() {
+        if left == 0 {
+            return None;
+        }
+        if asks_truth(&taken.atom, x) {
+            return Some(taken.held);
+        }
+        rest = others;
+        left -= 1;
+    }
+    None
+}
