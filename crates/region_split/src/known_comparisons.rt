@@ -90,8 +90,8 @@ pub fn make_known(
     }))
 }
 
-/// Whether the terms are the same.
-fn are_same_terms(a: &[(u32, Frac)], b: &[(u32, Frac)]) -> bool
+/// Whether the terms of two linear values are the same.
+fn are_same_value_terms(a: &[(u32, Frac)], b: &[(u32, Frac)]) -> bool
     ensures { IsTrue result → a.now ≡ b.now }
 {
     let mut first = a;
@@ -113,7 +113,7 @@ fn are_same_terms(a: &[(u32, Frac)], b: &[(u32, Frac)]) -> bool
 fn is_same_value(a: &Lin, b: &Lin) -> bool
     ensures { IsTrue result → lin_of a.now ≡ lin_of b.now }
 {
-    a.rest == b.rest && are_same_terms(&a.terms, &b.terms)
+    a.rest == b.rest && are_same_value_terms(&a.terms, &b.terms)
 }
 
 /// Whether this is the question.

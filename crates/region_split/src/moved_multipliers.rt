@@ -5,31 +5,14 @@ ghost use Rattle.std.specs.List.{All};
 ghost use Rattle.linear_form.specs.RowListLaws.{StandAmong};
 ghost use Rattle.region_split.specs.internal.MovedRows.{ArePlaces, place_of, moved_all};
 
-use linear_rows::Row;
+use linear_rows::{Row, have_same_terms};
 use std::alloc::{AllocError, Global};
-
-/// Whether the terms are the same.
-fn are_same_terms(a: &[(u32, i64)], b: &[(u32, i64)]) -> bool
-    ensures { IsTrue result ↔ (a.now ≡ b.now) }
-{
-    if a.len() != b.len() {
-        return false;
-    }
-    for i in 0..a.len() {
-        let (v, c) = a[i];
-        let (w, d) = b[i];
-        if v != w || c != d {
-            return false;
-        }
-    }
-    true
-}
 
 /// Whether the rows are the same.
 pub fn is_same_row(a: &Row, b: &Row) -> bool
     ensures { IsTrue result ↔ (a.now ≡ b.now) }
 {
-    a.rest == b.rest && a.strict == b.strict && are_same_terms(&a.terms, &b.terms)
+    a.rest == b.rest && a.strict == b.strict && have_same_terms(&a.terms, &b.terms)
 }
 
 /// The places of rows that stand among others from a place on.

@@ -6,6 +6,6 @@ pub returns-then-eq : goal.returns-then-eq
 returns-then-eq c t =
     let p = c.deref-then-eq.ensures.value in
     let q = c.deref.ensures.value in
-    let r = c.are_same_terms.ensures t in
+    let r = c.are_same_value_terms.ensures t in
     let e : c.args.a.now.terms.items ≡ c.args.b.now.terms.items = cc in
     same_value c.args.a.now.terms.items c.args.b.now.terms.items c.args.a.now.rest c.args.b.now.rest e (same_where _ _ c.eq.result c.eq.ensures c.if-eq.true)

@@ -1,6 +1,6 @@
 use Rattle.std.proofs.Common.{◌∷◌, ap₂, sym, ◌∙◌}
 use Rattle.region_split.proofs.KnownFractions.{same_unless}
-use Rattle.region_split.proofs.known_comparisons.are_same_terms.Goals as goal
+use Rattle.region_split.proofs.known_comparisons.are_same_value_terms.Goals as goal
 
 pub terms-preserved : goal.terms-preserved
 terms-preserved c e =

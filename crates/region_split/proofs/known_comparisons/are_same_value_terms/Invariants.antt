@@ -1,5 +1,5 @@
 use Rattle.std.proofs.Common.{◌≡◌, length}
-use Rattle.region_split.proofs.known_comparisons.are_same_terms.Given as goal
+use Rattle.region_split.proofs.known_comparisons.are_same_value_terms.Given as goal
 
 abbrev pub invariant-terms : goal.invariant-terms
 invariant-terms l = l.first ≡ l.second → l.fn.a ≡ l.fn.b
