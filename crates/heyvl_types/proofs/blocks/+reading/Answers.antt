@@ -10,7 +10,7 @@ use Rattle.heyvl_acts.specs.Acts.{Acts}
 use Rattle.heyvl_types.specs.Answers.{Gives}
 use Rattle.heyvl_types.specs.internal.Views.{acts_view, arms_view}
 use Rattle.heyvl_acts.specs.PlainActs.{acts_of, arm_of, variable_of}
-use Rattle.heyvl_types.specs.StatementActs.{block_acts, statement_acts}
+use Rattle.heyvl_types.specs.StatementActs.{statement_acts}
 use Rattle.heyvl_types.specs.StatementRules.{arms_bind, block_binds, statement_findings}
 use Rattle.heyvl_types.specs.Variables.{locals, locals_of_arms, locals_of_block}
 use Rattle.std.proofs.Common.{Err, [], ap, drop, length, map, rules, subst, sym, ◌++◌, ◌+◌, ◌||◌, ◌∙◌, ◌≡◌}
@@ -104,5 +104,5 @@ read_statement-returns-in_err-made-in-While-clause-gives t c =
     let stop : Gives acts_view (Err e) (statement_findings c.args.setting c.args.calls.now c.args.bound n c.args.scope.now (statement c.args.one.now)) (statement_acts c.args.setting c.args.calls.now n c.args.loops.now c.args.scope.now (statement c.args.one.now)) =
     subst (λ x. Gives acts_view (Err e) (statement_findings c.args.setting c.args.calls.now c.args.bound n c.args.scope.now x) (statement_acts c.args.setting c.args.calls.now n c.args.loops.now c.args.scope.now x))
     (sym (ap statement c.in-While.is ∙ plain_statements.loop c.in-While.rules c.in-While.guard c.in-While.body c.in-While.span))
-    (loop_stops_body c.args.setting c.args.calls.now c.args.bound n c.args.scope.now rs g b c.in-While.span e (block_acts c.args.setting c.args.calls.now n c.in_ok-loops-in-While.field-0 c.args.scope.now b) (statement_acts c.args.setting c.args.calls.now n c.args.loops.now c.args.scope.now (Statement.loop rs g b c.in-While.span)) head.0 body) in
+    (loop_stops_body c.args.setting c.args.calls.now c.args.bound n c.args.scope.now rs g b c.in-While.span e _ (statement_acts c.args.setting c.args.calls.now n c.args.loops.now c.args.scope.now (Statement.loop rs g b c.in-While.span)) head.0 body) in
     search rules
