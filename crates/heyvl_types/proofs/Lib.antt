@@ -9,13 +9,9 @@ pub mod ReadProcedures
 pub mod ProcedureList
 mod ExampleTexts
 mod FaultExamples
-pub mod ScopeEntries
-pub mod LiteralFractions
-pub mod PartAnswers
-pub mod TypedMeanings
+pub mod WeightFractions
 pub mod resolved
 pub mod Coprime
-pub mod CallEntries
 pub mod IntegerParts
 mod Rests
 mod Walks

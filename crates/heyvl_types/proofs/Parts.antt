@@ -1,8 +1,7 @@
 -- How what is found against parts makes up what is found against the whole.
-use Rattle.heyvl_types.specs.Answers.{Gives}
-use Rattle.heyvl_types.specs.internal.Looks.{TellsFirst}
-use Rattle.heyvl_types.specs.Findings.{Finding, first}
-use Rattle.heyvl_types.specs.declared.stops.ResolveStop.{ResolveStop}
+use Rattle.typed_expressions.specs.Answers.{Gives, TellsFirst}
+use Rattle.typed_expressions.specs.Findings.{Finding, first}
+use Rattle.typed_expressions.specs.declared.stops.ResolveStop.{ResolveStop}
 use Rattle.std.proofs.Common.{Err, List, Some, [], ap, refl, subst, sym, ◌++◌, ◌∙◌, ◌≡◌, ◌∷◌}
 
 pub first_in : (xs ys : List Finding) (f : Finding) → first xs ≡ Some f → first (xs ++ ys) ≡ Some f

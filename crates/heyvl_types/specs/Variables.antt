@@ -6,9 +6,9 @@ use Rattle.heyvl_syntax.specs.Expressions.{Expression}
 use Rattle.heyvl_syntax.specs.Statements.{Arms, Block, Statement}
 use Rattle.heyvl_syntax.specs.declared.procedures.Param.{Param}
 use Rattle.heyvl_syntax.specs.declared.types.TypeName.{TypeName}
-use Rattle.heyvl_types.specs.Scopes.{Scope, with_local}
-use Rattle.heyvl_types.specs.Table.{declarable}
 use Rattle.std.specs.Prelude.{List, None, Option, Some, [], map, suc, ◌++◌, ◌∷◌, ℕ}
+use Rattle.typed_expressions.specs.Scopes.{Scope, with_local}
+use Rattle.typed_expressions.specs.Table.{declarable}
 
 -- A type that a variable may have; some type where there is none, which is a fault.
 abbrev pub type_or_bool : Option Ty → Ty

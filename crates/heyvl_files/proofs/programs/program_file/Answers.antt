@@ -4,8 +4,8 @@ use Rattle.heyvl_files.proofs.programs.program_file.Goals as goal
 use Rattle.heyvl_files.specs.Programs.IsProgramFault.{static}
 use Rattle.heyvl_syntax.specs.Procedures.{procedures}
 use Rattle.heyvl_types.specs.Files.{first_fault}
-use Rattle.heyvl_types.specs.Findings.{first}
 use Rattle.std.proofs.Common.{None, Some, ap, ◌≡◌}
+use Rattle.typed_expressions.specs.Findings.{first}
 
 pub resolve-requires : goal.resolve-requires
 resolve-requires c = program_armed c.args.bytes.now (procedures c.in-Ok.file) c.in-Ok.ensures

@@ -1,0 +1,2 @@
+mod CallEntries
+pub mod exported
