@@ -49,3 +49,4 @@ mod SureQuestions
 mod Growths
 mod FirstTerms
 mod AskedForms
+mod KindsOfNodes
