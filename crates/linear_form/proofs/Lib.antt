@@ -50,3 +50,8 @@ mod Growths
 mod FirstTerms
 mod AskedForms
 mod KindsOfNodes
+mod KeptOperations
+mod NodeRuns
+mod NodeFrames
+mod NodeNumbers
+mod EnteredNodes

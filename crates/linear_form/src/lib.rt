@@ -1,6 +1,7 @@
 //! Linear questions of a goal along a path, and the rows of a path.
 #![tactic(auto)]
 
+mod asking_nodes;
 mod claim_laws;
 mod continuations;
 mod cursor;
@@ -23,6 +24,7 @@ mod paths;
 mod place_laws;
 mod places;
 mod plain_ends;
+mod plain_values;
 mod point_laws;
 mod question_laws;
 mod questions;

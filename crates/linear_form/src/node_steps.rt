@@ -1,6 +1,6 @@
 //! The steps of an evaluation: a node is entered, an operator is run, or a frame gets what it waits for.
 
-ghost use Rattle.std.specs.Prelude.{◌≡◌, ◌<◌, ◌+◌, ◌*◌, ℕ, List, MatchOption, Some, IfOk, IfSome, if◌then◌else◌};
+ghost use Rattle.std.specs.Prelude.{◌≡◌, ◌<◌, ◌+◌, ◌*◌, ℕ, List, MatchOption, Some, IfOk, if◌then◌else◌};
 ghost use Rattle.heylo_graph.specs.declared.nodes.Node.{Node as NodeValue};
 ghost use Rattle.linear_values.specs.Lin.{constant as constant_lin};
 ghost use Rattle.linear_rows.specs.Numbers.{fits as number_fits};
@@ -13,7 +13,7 @@ ghost use Rattle.linear_form.specs.internal.Run.{along};
 ghost use Rattle.linear_form.specs.internal.EvaluationResults.{Stops};
 ghost use Rattle.linear_form.specs.internal.Outcomes.{Result as Outcomes};
 ghost use Rattle.linear_form.specs.internal.NodeQuestions.{asks_at, kind_asks, kind_nodes, nodes_at};
-ghost use Rattle.linear_form.specs.internal.NodeTables.{AreValues, HasValue};
+ghost use Rattle.linear_form.specs.internal.NodeTables.{AreValues};
 ghost use Rattle.linear_form.specs.internal.Evaluations.{resumed, asked_by, through, left_at, weight, focus_weight, frame_weight, frames_weight, IsKeptFocus, IsKeptFrame, AreKeptFrames};
 ghost use Rattle.linear_form.specs.internal.NodeSteps.{Steps, Comes, IsKeptOutcome, outcome_of};
 ghost use Rattle.linear_form.specs.declared.evaluations.Evaluation.{Evaluation as PlainEvaluation};
@@ -24,6 +24,7 @@ use crate::kinds::{Kind, Operation, kind_of};
 use crate::operations::{Came, Outcome, number_came, operated, truth_came};
 use crate::operators::{embed, iverson, number, number_added, number_scaled};
 use crate::paths::{Atom, Taken};
+use crate::plain_values::noted;
 use heylo_graph::{Graph, NodeId};
 use heyvl_num::Frac;
 use linear_values::Lin;
@@ -74,16 +75,6 @@ pub(crate) fn advance(
             let found = copy_value(alloc, y)?;
             at_the_end(alloc, &place.frames, stated, found)
         }
-    }
-}
-
-/// The value that is noted of a node.
-fn noted(values: &[Option<Lin>], id: NodeId) -> Option<&Lin>
-    ensures { (ns : List NodeValue) → AreValues ns values.now → IfSome result (λ x. HasValue ns id x.now) }
-{
-    match values.get(id.index()) {
-        Some(value) => value.as_ref(),
-        None => None,
     }
 }
 

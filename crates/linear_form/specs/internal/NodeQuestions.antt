@@ -45,6 +45,23 @@ operation Operation.AtMost x y = told (q.at_most x y)
 operation Operation.Less x y = told (q.less x y)
 operation Operation.Equal x y = told (q.equal x y)
 
+-- The operator compares two values.
+abbrev pub is_comparison : Operation → Bool
+is_comparison Operation.Sum = false
+is_comparison Operation.Difference = false
+is_comparison Operation.Cut = false
+is_comparison (Operation.Scale w) = false
+is_comparison Operation.Product = false
+is_comparison Operation.Min = false
+is_comparison Operation.Max = false
+is_comparison Operation.Imply = false
+is_comparison Operation.CoImply = false
+is_comparison Operation.Validate = false
+is_comparison Operation.CoValidate = false
+is_comparison Operation.AtMost = true
+is_comparison Operation.Less = true
+is_comparison Operation.Equal = true
+
 -- What comes of the value of the first of two parts: the value of the second one, and then the operator.
 abbrev pub with_second : Operation → Query Result → Result → Query Result
 with_second o second = of_number (λ x. next second (of_number (λ y. operation o x y)))

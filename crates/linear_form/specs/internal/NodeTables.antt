@@ -1,5 +1,5 @@
 -- What is noted of the nodes of a graph, by their numbers.
-use Rattle.std.specs.Prelude.{◌≡◌, ℕ, true, List, slice_get, Option, Some, None, Bool}
+use Rattle.std.specs.Prelude.{◌≡◌, ℕ, true, List, slice_get, length, Option, Some, None, Bool}
 use Rattle.heylo_graph.specs.declared.nodes.Node.{Node}
 use Rattle.linear_values.specs.declared.lin.Lin as L
 use Rattle.linear_values.specs.Kept.{IsKept}
@@ -18,6 +18,11 @@ pub record HasValue (ns : List Node) (i : ℕ) (a : L.Lin) : Type 0 where
 -- Where a value is noted, the node asks nothing and has it.
 pub record AreValues (ns : List Node) (values : List (Option L.Lin)) : Type 0 where
   pub each : (i : ℕ) (a : L.Lin) → slice_get values i ≡ Some (Some a) → HasValue ns i a
+
+-- Values are taken out of the first list alone, and none come in.
+pub record AreLeftOf (old new : List (Option L.Lin)) : Type 0 where
+  pub long : length new ≡ length old
+  pub each : (i : ℕ) (a : L.Lin) → slice_get new i ≡ Some (Some a) → slice_get old i ≡ Some (Some a)
 
 -- Where yes is noted, each evaluation of the node asks a comparison.
 pub record AreAsking (ns : List Node) (table : List Bool) : Type 0 where
