@@ -40,7 +40,7 @@ kind_step ns s ps p k k' fs i e h = subst (λ k. Steps ns ps (through ns (kind_a
 pub kind_came : {E : Type 0} (ns : List Node) (r : M.Result S.Step E) (came : M.Result Came Stop) (ps : List Taken) (old new : V.Evaluation) (k k' : Kind) (w : ℕ) → k ≡ k' → asked_by ns old.focus ≡ kind_asks (asks_at ns) k → Comes came (along ps (kind_asks (asks_at ns) k') old.at) → (Comes came (along ps (asked_by ns old.focus) old.at) → IfOk r (Steps ns ps (left_at ns old) old.at w new)) → IfOk r (Steps ns ps (through ns (kind_asks (asks_at ns) k) old.frames.items) old.at w new)
 kind_came ns r came ps old new k k' w e a h g = for_query ns r ps new _ _ old.frames.items old.at w (sym a) (g (subst (λ t. Comes came (along ps t old.at)) (sym (a ∙ ap (kind_asks (asks_at ns)) e)) h))
 
-asked_as : (ns : List Node) (i : ℕ) (t : Tree) (k : Kind) → tree_at ns i ≡ Some t → IsKindOf ns t k → asks_at ns i ≡ kind_asks (asks_at ns) k
+pub asked_as : (ns : List Node) (i : ℕ) (t : Tree) (k : Kind) → tree_at ns i ≡ Some t → IsKindOf ns t k → asks_at ns i ≡ kind_asks (asks_at ns) k
 asked_as ns i t k e h = ap asked_if e ∙ h.asks
 
 -- what the focus asks, told by its node

@@ -55,3 +55,7 @@ mod NodeRuns
 mod NodeFrames
 mod NodeNumbers
 mod EnteredNodes
+mod NotedValues
+mod NodesThatAsk
+mod FramesThatAsk
+mod CopiedEvaluations

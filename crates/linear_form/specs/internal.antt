@@ -12,3 +12,5 @@ pub mod NodeQuestions
 pub mod NodeTables
 pub mod Evaluations
 pub mod NodeSteps
+pub mod GoalGraphs
+pub mod EvaluationCopies

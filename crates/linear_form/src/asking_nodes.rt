@@ -4,7 +4,7 @@ ghost use Rattle.std.specs.Prelude.{◌≡◌, List, IfOk, IsTrue, true};
 ghost use Rattle.heylo_graph.specs.declared.nodes.Node.{Node as NodeValue};
 ghost use Rattle.linear_form.specs.internal.LastingTrees.{Lasts};
 ghost use Rattle.linear_form.specs.internal.NodeQuestions.{asks_at, kind_asks, is_comparison};
-ghost use Rattle.linear_form.specs.internal.NodeTables.{AreValues, AreAsking};
+ghost use Rattle.linear_form.specs.internal.NodeTables.{AreValues, AreKeptValues, AreAsking};
 ghost use Rattle.linear_form.specs.declared.kinds.Operation.{Operation as PlainOperation};
 ghost use Rattle.linear_form.specs.declared.kinds.Kind.{Kind as PlainKind};
 
@@ -50,6 +50,7 @@ fn kind_is_asking(
     values: &[Option<Lin>],
     table: &[bool],
 ) -> Result<bool, AllocError>
+    requires { AreKeptValues values.now }
     ensures { (ns : List NodeValue) → AreValues ns values.now → AreAsking ns table.now → IfOk result (λ b. IsTrue b → Lasts 1 (kind_asks (asks_at ns) kind)) }
 {
     match kind {
@@ -84,6 +85,7 @@ fn compared(
     a: NodeId,
     b: NodeId,
 ) -> Result<bool, AllocError>
+    requires { AreKeptValues values.now }
     ensures { (ns : List NodeValue) → AreValues ns values.now → IfOk result (λ d. IsTrue d → Lasts 1 (kind_asks (asks_at ns) (PlainKind.Two operator a b))) }
 {
     if compares(operator) {
@@ -94,7 +96,7 @@ fn compared(
 }
 
 /// Whether the operator compares two values.
-fn compares(operator: Operation) -> bool
+pub(crate) fn compares(operator: Operation) -> bool
     ensures { IsTrue result → is_comparison operator ≡ true }
 {
     match operator {
@@ -112,6 +114,7 @@ fn differ(
     a: NodeId,
     b: NodeId,
 ) -> Result<bool, AllocError>
+    requires { AreKeptValues values.now }
     ensures { (ns : List NodeValue) → AreValues ns values.now → IfOk result (λ d. IsTrue d → (o : PlainOperation) → is_comparison o ≡ true → Lasts 1 (kind_asks (asks_at ns) (PlainKind.Two o a b))) }
 {
     match noted(values, a) {

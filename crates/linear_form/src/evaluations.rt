@@ -1,8 +1,13 @@
 //! Evaluations of a goal that stand somewhere on a path: what is evaluated next, and what waits for it.
 
+ghost use Rattle.std.specs.Prelude.{IfOk};
+ghost use Rattle.linear_form.specs.internal.EvaluationCopies.{AskAlike, IsAlike, IsSameEvaluation, IsSameFocus};
+
 use crate::kinds::Operation;
 use heylo_graph::NodeId;
 use linear_values::Lin;
+use linear_values::lin::copy_value;
+use std::alloc::{AllocError, Global};
 
 /// An evaluation that stands at a place of a path.
 #[derive(Drop)]
@@ -51,4 +56,66 @@ pub(crate) enum Frame {
     Stated(NodeId),
     /// The value of the found form; this is that of the stated one.
     Found(Option<Lin>),
+}
+
+/// The same evaluation again.
+pub(crate) fn copy_evaluation(alloc: Global, place: &Evaluation) -> Result<Evaluation, AllocError>
+    ensures { IfOk result (IsSameEvaluation place.now) }
+{
+    let focus = copy_focus(alloc, &place.focus)?;
+    let frames = copy_frames(alloc, &place.frames)?;
+    Ok(Evaluation {
+        focus,
+        frames,
+        at: place.at,
+    })
+}
+
+fn copy_focus(alloc: Global, focus: &Focus) -> Result<Focus, AllocError>
+    ensures { IfOk result (IsSameFocus focus.now) }
+{
+    match focus {
+        Focus::Node(id) => Ok(Focus::Node(*id)),
+        Focus::Truth(t) => Ok(Focus::Truth(*t)),
+        Focus::Operator(operator, x, y) => {
+            let left = copy_value(alloc, x)?;
+            let right = copy_value(alloc, y)?;
+            Ok(Focus::Operator(*operator, left, right))
+        }
+        Focus::Ends(x, y) => {
+            let stated = copy_value(alloc, x)?;
+            let found = copy_value(alloc, y)?;
+            Ok(Focus::Ends(stated, found))
+        }
+    }
+}
+
+fn copy_frame(alloc: Global, frame: &Frame) -> Result<Frame, AllocError>
+    ensures { IfOk result (IsAlike frame.now) }
+{
+    match frame {
+        Frame::First(operator, b) => Ok(Frame::First(*operator, *b)),
+        Frame::Second(operator, x) => Ok(Frame::Second(*operator, copy_value(alloc, x)?)),
+        Frame::Only(operator) => Ok(Frame::Only(*operator)),
+        Frame::Either(a, b) => Ok(Frame::Either(*a, *b)),
+        Frame::Embed => Ok(Frame::Embed),
+        Frame::Iverson => Ok(Frame::Iverson),
+        Frame::Not => Ok(Frame::Not),
+        Frame::And(h) => Ok(Frame::And(*h)),
+        Frame::Or(h) => Ok(Frame::Or(*h)),
+        Frame::Same(h) => Ok(Frame::Same(*h)),
+        Frame::Agree(t) => Ok(Frame::Agree(*t)),
+        Frame::Stated(id) => Ok(Frame::Stated(*id)),
+        Frame::Found(x) => Ok(Frame::Found(copy_value(alloc, x)?)),
+    }
+}
+
+fn copy_frames(alloc: Global, frames: &[Frame]) -> Result<Vec<Frame>, AllocError>
+    ensures { IfOk result (λ v. AskAlike frames.now v.items) }
+{
+    let mut made = Vec::with_capacity(alloc, frames.len())?;
+    for frame in frames {
+        made.push(copy_frame(alloc, frame)?)?;
+    }
+    Ok(made)
 }

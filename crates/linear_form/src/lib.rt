@@ -1,6 +1,7 @@
 //! Linear questions of a goal along a path, and the rows of a path.
 #![tactic(auto)]
 
+mod asking_evaluations;
 mod asking_nodes;
 mod claim_laws;
 mod continuations;
@@ -9,6 +10,7 @@ mod direct;
 mod evaluations;
 mod further_questions;
 mod further_rows;
+mod goal_graph;
 mod goal_products;
 mod growing_rows;
 mod kinds;

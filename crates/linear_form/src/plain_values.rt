@@ -1,9 +1,9 @@
 //! The values of nodes that ask nothing.
 
-ghost use Rattle.std.specs.Prelude.{List, IfOk, IfSome, Some, set, slice_get, ◌≡◌, None, IsTrue, is_some};
+ghost use Rattle.std.specs.Prelude.{List, IfOk, IfSome};
 ghost use Rattle.heylo_graph.specs.declared.nodes.Node.{Node as NodeValue};
 ghost use Rattle.linear_form.specs.internal.NodeQuestions.{asks_at, kind_asks};
-ghost use Rattle.linear_form.specs.internal.NodeTables.{AreValues, AreLeftOf, HasValue, MayHave};
+ghost use Rattle.linear_form.specs.internal.NodeTables.{AreValues, AreKeptValues, AreLeftOf, IsNoted, MayHave};
 
 use crate::direct::{difference, multiple, number, sum};
 use crate::kinds::{Kind, Operation, kind_of};
@@ -57,6 +57,7 @@ fn plain_value(
     counts: &[u32],
     values: &mut Vec<Option<Lin>>,
 ) -> Result<Option<Lin>, AllocError>
+    requires { AreKeptValues values.old.items }
     ensures left { AreLeftOf values.old.items values.new.items }
     ensures value { (ns : List NodeValue) → AreValues ns values.old.items → IfOk result (MayHave (kind_asks (asks_at ns) kind)) }
 {
@@ -88,7 +89,7 @@ fn both_values(
     values: &mut Vec<Option<Lin>>,
 ) -> Result<Option<(Lin, Lin)>, AllocError>
     ensures left { AreLeftOf values.old.items values.new.items }
-    ensures value { (ns : List NodeValue) → AreValues ns values.old.items → IfOk result (λ r. IfSome r (λ p. HasValue ns a p.0 × HasValue ns b p.1)) }
+    ensures value { IfOk result (λ r. IfSome r (λ p. IsNoted values.old.items a p.0 × IsNoted values.old.items b p.1)) }
 {
     if noted(values, a).is_none() || noted(values, b).is_none() {
         return Ok(None);
@@ -110,7 +111,7 @@ fn part_value(
     values: &mut Vec<Option<Lin>>,
 ) -> Result<Option<Lin>, AllocError>
     ensures left { AreLeftOf values.old.items values.new.items }
-    ensures value { (ns : List NodeValue) → AreValues ns values.old.items → IfOk result (λ r. IfSome r (λ x. HasValue ns id x)) }
+    ensures value { IfOk result (λ r. IfSome r (IsNoted values.old.items id)) }
 {
     if is_shared(counts, id) {
         copied(alloc, values, id)
@@ -129,7 +130,7 @@ fn is_shared(counts: &[u32], id: NodeId) -> bool {
 
 /// The value, which stays in the list.
 fn copied(alloc: Global, values: &[Option<Lin>], id: NodeId) -> Result<Option<Lin>, AllocError>
-    ensures { (ns : List NodeValue) → AreValues ns values.now → IfOk result (λ r. IfSome r (λ x. HasValue ns id x)) }
+    ensures { IfOk result (λ r. IfSome r (IsNoted values.now id)) }
 {
     match noted(values, id) {
         None => Ok(None),
@@ -140,7 +141,7 @@ fn copied(alloc: Global, values: &[Option<Lin>], id: NodeId) -> Result<Option<Li
 /// The value, which the list has no more.
 fn taken(values: &mut Vec<Option<Lin>>, id: NodeId) -> Option<Lin>
     ensures left { AreLeftOf values.old.items values.new.items }
-    ensures value { IfSome result (λ x. slice_get values.old.items id ≡ Some (Some x)) }
+    ensures value { IfSome result (IsNoted values.old.items id) }
 {
     match values.get_mut(id.index()) {
         None => None,
@@ -150,7 +151,7 @@ fn taken(values: &mut Vec<Option<Lin>>, id: NodeId) -> Option<Lin>
 
 /// The value that is noted of a node.
 pub(crate) fn noted(values: &[Option<Lin>], id: NodeId) -> Option<&Lin>
-    ensures { (ns : List NodeValue) → AreValues ns values.now → IfSome result (λ x. HasValue ns id x.now) }
+    ensures { IfSome result (λ x. IsNoted values.now id x.now) }
 {
     match values.get(id.index()) {
         None => None,

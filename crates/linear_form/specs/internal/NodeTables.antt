@@ -19,6 +19,16 @@ pub record HasValue (ns : List Node) (i : ℕ) (a : L.Lin) : Type 0 where
 pub record AreValues (ns : List Node) (values : List (Option L.Lin)) : Type 0 where
   pub each : (i : ℕ) (a : L.Lin) → slice_get values i ≡ Some (Some a) → HasValue ns i a
 
+-- The noted values have terms that grow, and small numbers.
+pub record AreKeptValues (values : List (Option L.Lin)) : Type 0 where
+  pub each : (i : ℕ) (a : L.Lin) → slice_get values i ≡ Some (Some a) → IsKept (lin_of a)
+
+-- The value that is noted of a node, or a copy of it.
+pub record IsNoted (values : List (Option L.Lin)) (i : ℕ) (a : L.Lin) : Type 0 where
+  pub noted : L.Lin
+  pub there : slice_get values i ≡ Some (Some noted)
+  pub same : lin_of a ≡ lin_of noted
+
 -- Values are taken out of the first list alone, and none come in.
 pub record AreLeftOf (old new : List (Option L.Lin)) : Type 0 where
   pub long : length new ≡ length old

@@ -1,0 +1,104 @@
+-- Values that are noted of nodes.
+use Rattle.std.proofs.Common.{◌≡◌, ℕ, List, [], ◌∷◌, ◌++◌, refl, sym, ap, ap₂, ◌∙◌, subst, ◌⊎◌, inl, inr, length, length-set, set}
+use Rattle.std.specs.Prelude as R
+use Rattle.std.specs.Prelude.{Option, Some, None, Ok, Err, IfOk, slice_get}
+use Prim.Native.Nat.{zero, suc}
+use Rattle.heyvl_num.specs.Rational.{Rational}
+use Rattle.heylo_graph.specs.declared.nodes.Node.{Node}
+use Rattle.linear_values.specs.Lin.{Linear}
+use Rattle.linear_values.specs.Kept.{IsKept}
+use Rattle.linear_values.specs.PlainValues.{lin_of}
+use Rattle.linear_values.specs.declared.lin.Lin as L
+use Rattle.linear_form.specs.Query.{Query, next}
+use Rattle.linear_form.specs.Query.Query.{done}
+use Rattle.linear_form.specs.Questions as q
+use Rattle.linear_form.specs.internal.Direct.{MayGive}
+use Rattle.linear_form.specs.internal.Outcomes.{Result, valued}
+use Rattle.linear_form.specs.internal.NodeQuestions.{asks_at, kind_asks, operation, with_second, alone}
+use Rattle.linear_form.specs.internal.NodeTables.{HasValue, AreValues, AreKeptValues, AreLeftOf, IsNoted, MayHave}
+use Rattle.linear_form.specs.declared.kinds.Operation.{Operation}
+use Rattle.linear_form.specs.declared.kinds.Kind.{Kind}
+
+-- an entry of a list with one more
+pub get_more : {A : Type 0} (xs : List A) (x y : A) (i : ℕ) → slice_get (xs ++ (x ∷ [])) i ≡ Some y → (slice_get xs i ≡ Some y) ⊎ ((i ≡ length xs) × (x ≡ y))
+get_more [] x y zero h = inr (refl, cc)
+get_more [] x y (suc i) h = absurd (cc)
+get_more (z ∷ xs) x y zero h = inl h
+get_more (z ∷ xs) x y (suc i) h = further (get_more xs x y i h)
+  where
+    further : (slice_get xs i ≡ Some y) ⊎ ((i ≡ length xs) × (x ≡ y)) → (slice_get (z ∷ xs) (suc i) ≡ Some y) ⊎ ((suc i ≡ length (z ∷ xs)) × (x ≡ y))
+    further (inl k) = inl k
+    further (inr k) = inr (ap suc k.0, k.1)
+
+-- ---- Values that are taken out
+
+get_emptied : (vs : List (Option L.Lin)) (i j : ℕ) (a : L.Lin) → slice_get (set vs i None) j ≡ Some (Some a) → slice_get vs j ≡ Some (Some a)
+get_emptied [] zero j a h = h
+get_emptied [] (suc i) j a h = h
+get_emptied (v ∷ vs) zero zero a h = absurd (cc)
+get_emptied (v ∷ vs) zero (suc j) a h = h
+get_emptied (v ∷ vs) (suc i) zero a h = h
+get_emptied (v ∷ vs) (suc i) (suc j) a h = get_emptied vs i j a h
+
+pub emptied : (vs new : List (Option L.Lin)) (i : ℕ) → new ≡ set vs i None → AreLeftOf vs new
+emptied vs new i e = subst (AreLeftOf vs) (sym e) (record { long = length-set vs i None; each = λ j a h. get_emptied vs i j a h })
+
+pub all_left : (vs : List (Option L.Lin)) → AreLeftOf vs vs
+all_left vs = record { long = refl; each = λ i a h. h }
+
+pub fewer_left : (us vs ws : List (Option L.Lin)) → AreLeftOf us vs → AreLeftOf vs ws → AreLeftOf us ws
+fewer_left us vs ws h k = record { long = k.long ∙ h.long; each = λ i a e. h.each i a (k.each i a e) }
+
+pub values_left : (ns : List Node) (old new : List (Option L.Lin)) → AreLeftOf old new → AreValues ns old → AreValues ns new
+values_left ns old new l h = record { each = λ i a e. h.each i a (l.each i a e) }
+
+pub kept_left : (old new : List (Option L.Lin)) → AreLeftOf old new → AreKeptValues old → AreKeptValues new
+kept_left old new l h = record { each = λ i a e. h.each i a (l.each i a e) }
+
+pub kept_values : (ns : List Node) (vs : List (Option L.Lin)) → AreValues ns vs → AreKeptValues vs
+kept_values ns vs h = record { each = λ i a e. (h.each i a e).kept }
+
+-- ---- Values that are noted
+
+pub noted_at : (vs : List (Option L.Lin)) (i : ℕ) (a : L.Lin) → slice_get vs i ≡ Some (Some a) → IsNoted vs i a
+noted_at vs i a e = record { noted = a; there = e; same = refl }
+
+pub noted_before : (old new : List (Option L.Lin)) (i : ℕ) (a : L.Lin) → AreLeftOf old new → IsNoted new i a → IsNoted old i a
+noted_before old new i a l h = record { noted = h.noted; there = l.each i h.noted h.there; same = h.same }
+
+pub noted_copy : (vs : List (Option L.Lin)) (i : ℕ) (a b : L.Lin) → lin_of b ≡ lin_of a → IsNoted vs i a → IsNoted vs i b
+noted_copy vs i a b e h = record { noted = h.noted; there = h.there; same = e ∙ h.same }
+
+pub kept_noted : (vs : List (Option L.Lin)) (i : ℕ) (a : L.Lin) → AreKeptValues vs → IsNoted vs i a → IsKept (lin_of a)
+kept_noted vs i a k h = subst IsKept (sym h.same) (k.each i h.noted h.there)
+
+pub value_noted : (ns : List Node) (vs : List (Option L.Lin)) (i : ℕ) (a : L.Lin) → AreValues ns vs → IsNoted vs i a → HasValue ns i a
+value_noted ns vs i a k h = let v = k.each i h.noted h.there in record { asks_nothing = v.asks_nothing ∙ ap (λ b. done (Result.number (Some b))) (sym h.same); kept = subst IsKept (sym h.same) v.kept }
+
+-- ---- The value of a node
+
+pub gives_value : (t : Query Linear) (r : Query Result) (o : Option L.Lin) → r ≡ valued t → MayGive t o → MayHave r o
+gives_value t r None e h = tt
+gives_value t r (Some a) e h = (e ∙ ap valued h.asks_nothing, h.kept)
+
+pub kind_given : {E : Type 0} (ns : List Node) (o : R.Result (Option L.Lin) E) (t : Query Linear) (k k' : Kind) → k ≡ k' → kind_asks (asks_at ns) k' ≡ valued t → IfOk o (MayGive t) → IfOk o (MayHave (kind_asks (asks_at ns) k))
+kind_given ns (Ok o) t k k' e g h = gives_value t (kind_asks (asks_at ns) k) o (ap (kind_asks (asks_at ns)) e ∙ g) h
+kind_given ns (Err m) t k k' e g h = h
+
+pub two_given : (ns : List Node) (a b : ℕ) (x y : L.Lin) (o : Operation) → HasValue ns a x → HasValue ns b y → kind_asks (asks_at ns) (Kind.Two o a b) ≡ operation o (Some (lin_of x)) (Some (lin_of y))
+two_given ns a b x y o h k = ap₂ (λ p r. next p (with_second o r)) h.asks_nothing k.asks_nothing
+
+pub one_given : (ns : List Node) (a : ℕ) (x : L.Lin) (o : Operation) → HasValue ns a x → kind_asks (asks_at ns) (Kind.One o a) ≡ operation o (Some (lin_of x)) None
+one_given ns a x o h = ap (λ p. next p (alone o)) h.asks_nothing
+
+-- a table with one more entry
+pub values_more : (ns : List Node) (vs new : List (Option L.Lin)) (o : Option L.Lin) (k : Kind) → new ≡ vs ++ (o ∷ []) → asks_at ns (length vs) ≡ kind_asks (asks_at ns) k → AreValues ns vs → MayHave (kind_asks (asks_at ns) k) o → AreValues ns new
+values_more ns vs new o k n e h m = subst (AreValues ns) (sym n) (record { each = λ i a g. go i a (get_more vs o (Some a) i g) })
+  where
+    here : (i : ℕ) (a : L.Lin) (p : Option L.Lin) → i ≡ length vs → p ≡ Some a → MayHave (kind_asks (asks_at ns) k) p → HasValue ns i a
+    here i a None f g m = absurd (cc)
+    here i a (Some b) f g m = let same : b ≡ a = cc in record { asks_nothing = ap (asks_at ns) f ∙ e ∙ m.0 ∙ ap (λ c. done (Result.number (Some (lin_of c)))) same; kept = subst (λ c. IsKept (lin_of c)) same m.1 }
+
+    go : (i : ℕ) (a : L.Lin) → (slice_get vs i ≡ Some (Some a)) ⊎ ((i ≡ length vs) × (o ≡ Some a)) → HasValue ns i a
+    go i a (inl g) = h.each i a g
+    go i a (inr g) = here i a o g.0 g.1 m
