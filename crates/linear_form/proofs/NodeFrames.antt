@@ -1,5 +1,5 @@
 -- What becomes of an outcome: the frame that waits for it goes on.
-use Rattle.std.proofs.Common.{◌≡◌, ℕ, ◌+◌, ◌<◌, List, [], ◌∷◌, ◌++◌, refl, sym, ap, ap₂, ◌∙◌, subst, arith, length}
+use Rattle.std.proofs.Common.{◌≡◌, ℕ, ◌+◌, ◌<◌, List, [], ◌∷◌, ◌++◌, refl, sym, ap, ap₂, ◌∙◌, subst, arith, length, Box, Global}
 use Rattle.std.specs.Prelude as M
 use Rattle.std.specs.Prelude.{Option, IfOk}
 use Rattle.heylo_graph.specs.declared.nodes.Node.{Node}
@@ -10,7 +10,7 @@ use Rattle.linear_values.specs.PlainValues.{linear_of}
 use Rattle.linear_values.specs.declared.lin.Lin.{Lin}
 use Rattle.linear_form.specs.internal.Run.{Evaluation, along}
 use Rattle.linear_form.specs.internal.Outcomes.{Result}
-use Rattle.linear_form.specs.internal.Evaluations.{asked_by, framed, resumed, ended, through, left_at, weight, focus_weight, frames_weight, frame_weight, IsKeptFrame, AreKeptFrames}
+use Rattle.linear_form.specs.internal.Evaluations.{asked_by, framed, resumed, ended, through, left_at, weight, focus_weight, frames_weight, frame_weight, IsKeptFocus, IsKeptFrame, AreKeptFrames}
 use Rattle.linear_form.specs.internal.NodeSteps.{Steps}
 use Rattle.linear_form.specs.declared.evaluations.Evaluation as V
 use Rattle.linear_form.specs.declared.evaluations.Focus.{Focus}
@@ -18,7 +18,7 @@ use Rattle.linear_form.specs.declared.evaluations.Frame as W
 use Rattle.linear_form.specs.declared.evaluations.Frame.{Frame}
 use Rattle.linear_form.specs.declared.node_steps.Step as S
 use Rattle.linear_form.proofs.Runs.{run_bits, run_done}
-use Rattle.linear_form.proofs.NodeRuns.{through_push, kept_pop, weight_push, through_large}
+use Rattle.linear_form.proofs.NodeRuns.{here, through_push, kept_pop, weight_push, through_large}
 
 -- ---- An outcome, and the frame that waits for it
 
@@ -56,12 +56,22 @@ ends_are_last : (ns : List Node) (ps : List Taken) (e : Ends) (all : List Frame)
 ends_are_last ns ps e [] i n = (i, run_done ps e i)
 ends_are_last ns ps e (f ∷ fs) i n = absurd (omega (arith, n))
 
-pub ends_are_given : (ns : List Node) (ps : List Taken) (x x' y y' : Option Lin) (all : List Frame) (i : ℕ) → x ≡ x' → y ≡ y' → length all ≡ 0 → (j : ℕ) × (along ps (through ns (done (Result.ends (linear_of x, linear_of y))) all) i ≡ Evaluation.value (linear_of x', linear_of y') j)
+ends_are_given : (ns : List Node) (ps : List Taken) (x x' y y' : Option Lin) (all : List Frame) (i : ℕ) → x ≡ x' → y ≡ y' → length all ≡ 0 → (j : ℕ) × (along ps (through ns (done (Result.ends (linear_of x, linear_of y))) all) i ≡ Evaluation.value (linear_of x', linear_of y') j)
 ends_are_given ns ps x x' y y' all i e f n = let h = ends_are_last ns ps (linear_of x, linear_of y) all i n in (h.0, h.1 ∙ ap₂ (λ x y. Evaluation.value (linear_of x, linear_of y) h.0) e f)
 
-pub ends_are_waited_for : (ns : List Node) (ps : List Taken) (e : Ends) (all : List Frame) (i : ℕ) → 0 < length all → along ps (through ns (done (Result.ends e)) all) i ≡ Evaluation.bits
+ends_are_waited_for : (ns : List Node) (ps : List Taken) (e : Ends) (all : List Frame) (i : ℕ) → 0 < length all → along ps (through ns (done (Result.ends e)) all) i ≡ Evaluation.bits
 ends_are_waited_for ns ps e [] i n = absurd (omega (arith, n))
 ends_are_waited_for ns ps e (f ∷ fs) i n = ap (λ q. along ps (next q ended) i) (ends_wait ns f fs e) ∙ run_bits ps i
+
+-- what is left at an evaluation that has the values of both forms
+left_at_end : (ns : List Node) (ps : List Taken) (p : V.Evaluation) (e : Ends) (fs : List Frame) → p.frames.items ≡ fs → asked_by ns p.focus ≡ done (Result.ends e) → along ps (left_at ns p) p.at ≡ along ps (through ns (done (Result.ends e)) fs) p.at
+left_at_end ns ps p e fs f a = ap₂ (λ q fs. along ps (through ns q fs) p.at) a f
+
+pub at_end_given : (ns : List Node) (ps : List Taken) (w : ℕ) (p : V.Evaluation) (x y : Option Lin) (a b : Box (Option Lin) Global) (fs : List Frame) → x ≡ a.value → y ≡ b.value → length fs ≡ 0 → p.frames.items ≡ fs → asked_by ns p.focus ≡ done (Result.ends (linear_of x, linear_of y)) → IsKeptFocus p.focus → AreKeptFrames p.frames.items → Steps ns ps (left_at ns p) p.at w p (S.TheVariants.Ends a b)
+at_end_given ns ps w p x y a b fs e f n g o h k = let r = ends_are_given ns ps x a.value y b.value fs p.at e f n in ((r.0, left_at_end ns ps p (linear_of x, linear_of y) fs g o ∙ r.1), here ns ps p h k)
+
+pub at_end_waited_for : (ns : List Node) (ps : List Taken) (p : V.Evaluation) (e : Ends) (fs : List Frame) → 0 < length fs → p.frames.items ≡ fs → asked_by ns p.focus ≡ done (Result.ends e) → along ps (left_at ns p) p.at ≡ Evaluation.bits
+at_end_waited_for ns ps p e fs n f a = left_at_end ns ps p e fs f a ∙ ends_are_waited_for ns ps e fs p.at n
 
 -- a value or a truth is no end
 pub nothing_takes : (ns : List Node) (ps : List Taken) (o : Result) (all : List Frame) (i : ℕ) → ended o ≡ bits → length all ≡ 0 → along ps (through ns (done o) all) i ≡ Evaluation.bits

@@ -93,7 +93,7 @@ step_after : (ns : List Node) (s : S.Step) (ps : List Taken) (t : Query Result) 
 unfolding along
 step_after ns S.TheVariants.On ps t fs i j w x p e l h = (composed ns ps t fs i j x p e h.0, let k = h.1 in omega (arith, k, l))
 step_after ns (S.TheVariants.Asks a) ps t fs i j w x p e l h = (through_run ns ps t (done x) fs i j e ∙ h.0, composed ns ps t fs i j x p e h.1)
-step_after ns (S.TheVariants.Ends y z) ps t fs i j w x p e l h = (h.0, through_run ns ps t (done x) fs i j e ∙ h.1)
+step_after ns (S.TheVariants.Ends y z) ps t fs i j w x p e l h = ((h.0.0, through_run ns ps t (done x) fs i j e ∙ h.0.1), composed ns ps t fs i j x p e h.1)
 step_after ns S.TheVariants.Bits ps t fs i j w x p e l h = through_run ns ps t (done x) fs i j e ∙ h
 
 pub after_found : {E : Type 0} (ns : List Node) (r : M.Result S.Step E) (ps : List Taken) (t : Query Result) (fs : List Frame) (i j w : ℕ) (x : Result) (p : V.Evaluation) → along ps t i ≡ value x j → frames_weight ns fs < w → IfOk r (Steps ns ps (through ns (done x) fs) j (frames_weight ns fs) p) → IfOk r (Steps ns ps (through ns t fs) i w p)

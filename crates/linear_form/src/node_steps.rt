@@ -221,14 +221,14 @@ fn given(alloc: Global, place: &mut Evaluation, outcome: Outcome) -> Result<Step
     }
 }
 
-/// The values of both forms, where no frame waits for them.
+/// The values of both forms, where no frame waits for them. The place stays.
 fn at_the_end(
     alloc: Global,
     frames: &[Frame],
     stated: Option<Lin>,
     found: Option<Lin>,
 ) -> Result<Step, AllocError>
-    ensures { (ns : List NodeValue) (ps : List PlainTaken) (i w : ℕ) (p : PlainEvaluation) → IfOk result (Steps ns ps (through ns (done (Outcomes.ends (linear_of stated, linear_of found))) frames.now) i w p) }
+    ensures { (ns : List NodeValue) (ps : List PlainTaken) (w : ℕ) (p : PlainEvaluation) → p.frames.items ≡ frames.now → asked_by ns p.focus ≡ done (Outcomes.ends (linear_of stated, linear_of found)) → IsKeptFocus p.focus → AreKeptFrames p.frames.items → IfOk result (Steps ns ps (left_at ns p) p.at w p) }
 {
     if frames.is_empty() {
         let one = Box::new(alloc, stated)?;

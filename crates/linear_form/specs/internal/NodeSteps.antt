@@ -25,11 +25,12 @@ pub record Moves (ns : List Node) (ps : List Taken) (q : Query Ends) (i : ℕ) (
   pub kept_focus : IsKeptFocus p.focus
   pub kept_frames : AreKeptFrames p.frames.items
 
--- What a step gives: another place with less to do, or what the evaluation along the path comes to.
+-- What a step gives: another place with less to do, or what the evaluation along the path comes to. A question and the values
+-- of both forms stand at the place.
 abbrev pub Steps : List Node → List Taken → Query Ends → ℕ → ℕ → E.Evaluation → S.Step → Type 0
 Steps ns ps q i w p S.TheVariants.On = Moves ns ps q i p × (weight ns p < w)
 Steps ns ps q i w p (S.TheVariants.Asks a) = (along ps q i ≡ Evaluation.decide (atom_of a.value)) × Moves ns ps q i p
-Steps ns ps q i w p (S.TheVariants.Ends x y) = (j : ℕ) × (along ps q i ≡ Evaluation.value (linear_of x.value, linear_of y.value) j)
+Steps ns ps q i w p (S.TheVariants.Ends x y) = ((j : ℕ) × (along ps q i ≡ Evaluation.value (linear_of x.value, linear_of y.value) j)) × Moves ns ps q i p
 Steps ns ps q i w p S.TheVariants.Bits = along ps q i ≡ Evaluation.bits
 
 -- What an outcome is, in plain words.

@@ -1,15 +1,14 @@
 use Rattle.std.proofs.Common.{◌≡◌, ap, ap₂, arith, sym, subst, ◌∙◌}
-use Rattle.std.specs.Prelude.{IfOk}
 use Rattle.linear_form.specs.Query.Query.{done}
 use Rattle.linear_form.specs.PlainPaths.{path_of}
 use Rattle.linear_values.specs.PlainValues.{linear_of}
 use Rattle.linear_form.specs.internal.Run.{along}
 use Rattle.linear_form.specs.internal.Outcomes.{Result}
 use Rattle.linear_form.specs.internal.NodeQuestions.{operation}
-use Rattle.linear_form.specs.internal.Evaluations.{asked_by, through, focus_weight, weight, IsKeptFocus}
-use Rattle.linear_form.specs.internal.NodeSteps.{Comes, Steps}
+use Rattle.linear_form.specs.internal.Evaluations.{asked_by, focus_weight, IsKeptFocus}
+use Rattle.linear_form.specs.internal.NodeSteps.{Comes}
 use Rattle.linear_form.proofs.NodeRuns.{with_more}
-use Rattle.linear_form.proofs.NodeFrames.{for_focus, for_query}
+use Rattle.linear_form.proofs.NodeFrames.{for_focus}
 use Rattle.linear_form.proofs.KeptOperations.{operation_kept, came_kept}
 use Rattle.linear_form.proofs.node_steps.advance.Goals as goal
 
@@ -35,4 +34,4 @@ pub returns-in-Operator : goal.returns-in-Operator
 returns-in-Operator c = let n : focus_weight c.args.graph.now c.args.place.now.focus ≡ 1 = ap (focus_weight c.args.graph.now) c.in-Operator.is in c.come_to.ensures c.args.graph.now (path_of c.args.path.now) _ (subst (λ t. Comes c.operated-came.result (along (path_of c.args.path.now) t c.args.place.now.at)) (sym (ap (asked_by c.args.graph.now) c.in-Operator.is)) c.operated-came.ensures) (omega (arith, n))
 
 pub returns-in_ok-found-in-Ends : goal.returns-in_ok-found-in-Ends
-returns-in_ok-found-in-Ends c = for_query c.args.graph.now c.at_the_end.result (path_of c.args.path.now) c.args.place.now _ _ c.args.place.now.frames.items c.args.place.now.at _ (ap (asked_by c.args.graph.now) c.in-Ends.is ∙ ap₂ (λ x y. done (Result.ends (x, y))) (sym c.in_ok-stated-in-Ends.ensures) (sym c.in_ok-found-in-Ends.ensures)) (subst (λ fs. IfOk c.at_the_end.result (Steps c.args.graph.now (path_of c.args.path.now) (through c.args.graph.now (done (Result.ends (linear_of c.in_ok-stated-in-Ends.stated, linear_of c.in_ok-found-in-Ends.found))) fs) c.args.place.now.at (weight c.args.graph.now c.args.place.now) c.args.place.now)) c.deref.ensures.value (c.at_the_end.ensures c.args.graph.now (path_of c.args.path.now) c.args.place.now.at (weight c.args.graph.now c.args.place.now) c.args.place.now))
+returns-in_ok-found-in-Ends c = c.at_the_end.ensures c.args.graph.now (path_of c.args.path.now) _ c.args.place.now (sym c.deref.ensures.value) (ap (asked_by c.args.graph.now) c.in-Ends.is ∙ ap₂ (λ x y. done (Result.ends (x, y))) (sym c.in_ok-stated-in-Ends.ensures) (sym c.in_ok-found-in-Ends.ensures)) c.requires.focus c.requires.frames
