@@ -58,3 +58,6 @@ pub record Entered (ns : List Node) (i : ℕ) (k : Kind) : Type 0 where
 
 pub entered_kind : (ns : List Node) (n : Node) (i : ℕ) (k : Kind) → IsGraph ns → i < length ns → ((t : Tree) → Stands ns i t → IsNodeOf ns n t) → ((t : Tree) → IsNodeOf ns n t → IsKindOf ns t k) → Entered ns i k
 entered_kind ns n i k g l f h = let r = g.each i l in record { tree = r.0; there = r.1; kind = h r.0 (f r.0 (record { tree = r.1 })) }
+
+pub node_asks_as : (ns : List Node) (i : ℕ) (k : Kind) → Entered ns i k → asks_at ns i ≡ kind_asks (asks_at ns) k
+node_asks_as ns i k e = asked_as ns i e.tree k e.there e.kind

@@ -97,6 +97,9 @@ both_ask ns g a b h k = lasts_later 1 (asks_at ns g) (either (asks_at ns a) (ask
 pub asking_at : (ns : List Node) (table : List Bool) (i : ℕ) (b : Bool) → AreAsking ns table → slice_get table i ≡ Some b → b ≡ true → Lasts 1 (asks_at ns i)
 asking_at ns table i b h e t = h.each i (e ∙ ap Some t)
 
+pub none_asks : (ns : List Node) → AreAsking ns []
+none_asks ns = record { each = λ i h. absurd (cc) }
+
 pub asking_more : (ns : List Node) (table new : List Bool) (b : Bool) (k : Kind) → new ≡ table ++ (b ∷ []) → asks_at ns (length table) ≡ kind_asks (asks_at ns) k → AreAsking ns table → (b ≡ true → Lasts 1 (kind_asks (asks_at ns) k)) → AreAsking ns new
 asking_more ns table new b k n e h m = subst (AreAsking ns) (sym n) (record { each = λ i g. go i (get_more table b true i g) })
   where

@@ -1,7 +1,7 @@
 -- Values that are noted of nodes.
-use Rattle.std.proofs.Common.{◌≡◌, ℕ, List, [], ◌∷◌, ◌++◌, refl, sym, ap, ap₂, ◌∙◌, subst, ◌⊎◌, inl, inr, length, length-set, set}
+use Rattle.std.proofs.Common.{◌≡◌, ℕ, ◌+◌, List, [], ◌∷◌, ◌++◌, refl, sym, ap, ap₂, ◌∙◌, subst, ◌⊎◌, inl, inr, length, length-append, length-set, set, arith, Bor}
 use Rattle.std.specs.Prelude as R
-use Rattle.std.specs.Prelude.{Option, Some, None, Ok, Err, IfOk, slice_get}
+use Rattle.std.specs.Prelude.{Option, Some, None, Ok, Err, IfOk, IfSome, option_copied, slice_get}
 use Prim.Native.Nat.{zero, suc}
 use Rattle.heyvl_num.specs.Rational.{Rational}
 use Rattle.heylo_graph.specs.declared.nodes.Node.{Node}
@@ -30,6 +30,9 @@ get_more (z ∷ xs) x y (suc i) h = further (get_more xs x y i h)
     further (inl k) = inl k
     further (inr k) = inr (ap suc k.0, k.1)
 
+pub one_longer : {A : Type 0} (xs ys : List A) (x : A) (i : ℕ) → length xs ≡ i → ys ≡ xs ++ (x ∷ []) → length ys ≡ i + 1
+one_longer xs ys x i n e = let l = ap length e in let m = length-append xs (x ∷ []) in omega (arith, l, m, n)
+
 -- ---- Values that are taken out
 
 get_emptied : (vs : List (Option L.Lin)) (i j : ℕ) (a : L.Lin) → slice_get (set vs i None) j ≡ Some (Some a) → slice_get vs j ≡ Some (Some a)
@@ -42,6 +45,9 @@ get_emptied (v ∷ vs) (suc i) (suc j) a h = get_emptied vs i j a h
 
 pub emptied : (vs new : List (Option L.Lin)) (i : ℕ) → new ≡ set vs i None → AreLeftOf vs new
 emptied vs new i e = subst (AreLeftOf vs) (sym e) (record { long = length-set vs i None; each = λ j a h. get_emptied vs i j a h })
+
+pub no_values : (ns : List Node) → AreValues ns []
+no_values ns = record { each = λ i a h. absurd (cc) }
 
 pub all_left : (vs : List (Option L.Lin)) → AreLeftOf vs vs
 all_left vs = record { long = refl; each = λ i a h. h }
@@ -62,6 +68,10 @@ kept_values ns vs h = record { each = λ i a e. (h.each i a e).kept }
 
 pub noted_at : (vs : List (Option L.Lin)) (i : ℕ) (a : L.Lin) → slice_get vs i ≡ Some (Some a) → IsNoted vs i a
 noted_at vs i a e = record { noted = a; there = e; same = refl }
+
+pub noted_ref : (vs : List (Option L.Lin)) (i : ℕ) (v : Option L.Lin) (o : Option (Bor L.Lin)) → slice_get vs i ≡ Some v → option_copied o ≡ v → IfSome o (λ x. IsNoted vs i x.now)
+noted_ref vs i v None e h = tt
+noted_ref vs i v (Some x) e h = noted_at vs i x.now (e ∙ ap Some (sym h))
 
 pub noted_before : (old new : List (Option L.Lin)) (i : ℕ) (a : L.Lin) → AreLeftOf old new → IsNoted new i a → IsNoted old i a
 noted_before old new i a l h = record { noted = h.noted; there = l.each i h.noted h.there; same = h.same }
