@@ -122,4 +122,3 @@ pushed ns ps fs f i w p e a l h k m = stays ns ps _ i w p (sym (ap (through ns (
 -- where the evaluation stops, it stays
 pub decides : (ns : List Node) (ps : List Taken) (w : ℕ) (a : Box A.Atom Global) (p : V.Evaluation) → along ps (asked_by ns p.focus) p.at ≡ decide (atom_of a.value) → IsKeptFocus p.focus → AreKeptFrames p.frames.items → Steps ns ps (left_at ns p) p.at w p (S.TheVariants.Asks a)
 decides ns ps w a p e h k = (through_decide ns ps (asked_by ns p.focus) p.frames.items p.at (atom_of a.value) e, here ns ps p h k)
-

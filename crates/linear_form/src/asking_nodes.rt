@@ -108,12 +108,7 @@ pub(crate) fn compares(operator: Operation) -> bool
 }
 
 /// Whether two nodes have values that differ in a variable, so that a comparison of them is asked.
-fn differ(
-    alloc: Global,
-    values: &[Option<Lin>],
-    a: NodeId,
-    b: NodeId,
-) -> Result<bool, AllocError>
+fn differ(alloc: Global, values: &[Option<Lin>], a: NodeId, b: NodeId) -> Result<bool, AllocError>
     requires { AreKeptValues values.now }
     ensures { (ns : List NodeValue) → AreValues ns values.now → IfOk result (λ d. IsTrue d → (o : PlainOperation) → is_comparison o ≡ true → Lasts 1 (kind_asks (asks_at ns) (PlainKind.Two o a b))) }
 {

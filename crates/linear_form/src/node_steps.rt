@@ -311,11 +311,7 @@ fn truth_given(alloc: Global, place: &mut Evaluation, t: bool) -> Result<Step, A
 
 /// A value for the frame that waited for it.
 #[inline(always)]
-fn resume_value(
-    place: &mut Evaluation,
-    frame: Frame,
-    x: Option<Lin>,
-) -> Result<Step, AllocError>
+fn resume_value(place: &mut Evaluation, frame: Frame, x: Option<Lin>) -> Result<Step, AllocError>
     requires value { IsKeptValue (linear_of x) }
     requires frame { IsKeptFrame frame }
     requires frames { AreKeptFrames place.old.frames.items }
