@@ -84,7 +84,7 @@ turned_reaches {A} {B} t ps f q i y n yes no w e a b = go (drop i ps) refl
     answer false l c = b l (ap (walk t) c ∙ passed t (take i ps) q false _ _ e ∙ ap (λ z. once z n) (sym c))
 
     go : (rest : List Taken) → drop i ps ≡ rest → Reaches t ps f (turned rest q yes no)
-    go [] k = (_, (_, further t ps i ∙ ap (λ z. walk z (drop i ps)) e ∙ ap (walk (ask q _ _)) k))
+    go [] k = (once (onto (take i ps) q true) y, (once (onto (take i ps) q false) n, further t ps i ∙ ap (λ z. walk z (drop i ps)) e ∙ ap (walk (ask q (once (onto (take i ps) q true) y) (once (onto (take i ps) q false) n))) k))
     go (p ∷ rest) k = let l = inside ps i p rest k in answer p.held (omega (arith, l)) (next_taken ps i p rest k ∙ ap (λ r. take i ps ++ (record { atom = r; held = p.held } ∷ [])) asked)
       where
         asked : p.atom ≡ q

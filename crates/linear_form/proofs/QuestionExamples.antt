@@ -13,6 +13,7 @@ use Rattle.linear_rows.specs.Numbers.{minus_oneʳ, fits}
 use Rattle.heylo_formula.specs.PlainTrees.{form_of}
 use Rattle.heylo_formula.specs.declared.forms.Form as F
 use Rattle.linear_form.specs.Paths.{end_at}
+use Rattle.linear_form.specs.Standings.{Standing}
 use Rattle.linear_form.specs.Places.{IsOn}
 use Rattle.linear_form.specs.Query.{Atom, Taken, next, once}
 use Rattle.linear_form.specs.Query.Query.{done, bits, ask}
@@ -164,9 +165,18 @@ unfolding later_goal three along
 resumed p found h = (ap₂ (along (three ∷ [])) (left_behind p found h) h.at, refl)
 
 -- so the place is on the path
-on_the_path : (p : Evaluation) (found : Bor F.Form) → IsBehindThree p found → IsOn later_goal (three ∷ []) (standing p)
+abbrev behind_three : Standing
+behind_three = record { left = ask (Atom.truth 3) (ask (Atom.truth 4) (done (one, None)) (done (one, zero))) (done (one, zero)); at = 1 }
+
+stands_behind : (p : Evaluation) (found : Bor F.Form) → IsBehindThree p found → behind_three ≡ standing p
+stands_behind p found h = λ i. record { left = sym (left_behind p found h) i; at = sym h.at i }
+
+behind_on : IsOn later_goal (three ∷ []) behind_three
 unfolding later_goal three
-on_the_path p found h = subst (λ s. IsOn later_goal (three ∷ []) s) (λ i. record { left = sym (left_behind p found h) i; at = sym h.at i }) (record { within = omega arith; left = refl })
+behind_on = record { within = omega arith; left = refl }
+
+on_the_path : (p : Evaluation) (found : Bor F.Form) → IsBehindThree p found → IsOn later_goal (three ∷ []) (standing p)
+on_the_path p found h = subst (IsOn later_goal (three ∷ [])) (stands_behind p found h) behind_on
 
 -- 2^62 is too large, as a value and as the difference of a comparison: 1 and 1 - 2^62
 bounds : (evaluate (Form.number (finite (ratio (pos 4611686018427387903) 1))) ≡ done (Some (constant (ratio (pos 4611686018427387903) 1)))) × (evaluate (Form.number (finite (ratio (pos 4611686018427387904) 1))) ≡ bits) × (sum (Some (constant (ratio (pos 4611686018427387903) 1))) (Some (constant oneʳ)) ≡ bits) × (min (Some (constant oneʳ)) (Some (constant (ratio (negsuc 4611686018427387902) 1))) ≡ bits) × (min (Some (constant zeroʳ)) (Some (constant (ratio (negsuc 4611686018427387902) 1))) ≡ done (Some (constant (ratio (negsuc 4611686018427387902) 1)))) × (scale (ratio (pos 4611686018427387904) 1) x ≡ bits) × (scale (ratio (pos 4611686018427387904) 1) zero ≡ done zero)
