@@ -14,3 +14,4 @@ pub mod Evaluations
 pub mod NodeSteps
 pub mod GoalGraphs
 pub mod EvaluationCopies
+pub mod Codes

@@ -15,7 +15,7 @@ use Rattle.heylo_formula.proofs.exported.Substitutions.{kept_subst}
 use Rattle.heylo_graph.specs.Trees.{Tree}
 use Rattle.heylo_graph.specs.Nodes.{Begins, IsFormula, IsNodeOf, Stands, assembled, tree_at}
 use Rattle.heylo_graph.specs.declared.nodes.Node.{Node}
-use Rattle.heylo_graph.proofs.exported.LongerLists.{stands_longer, const_node, cut_node}
+use Rattle.heylo_graph.proofs.exported.LongerLists.{stands_longer, tree_within, const_node, cut_node}
 use Rattle.vp_generator.specs.Answers.{IsStop}
 use Rattle.vp_generator.specs.GraphAnswers.{IsAnswerIn, IsWithin, IsStopAt}
 use Rattle.vp_generator.specs.declared.stops.VpStop.{VpStop}
@@ -52,6 +52,10 @@ placed_longer most old new i b p = record { form = p.form; stands = stands_longe
 
 pub ready_longer : (most : ℕ) (Asked : Form → Type 0) (old new : List Node) (i : ℕ) → Begins old new → IsReady most Asked old i → IsReady most Asked new i
 ready_longer most Asked old new i b r = record { form = r.form; stands = stands_longer old new i (Tree.formula r.form) b r.stands; asked = r.asked; within = r.within; plain = r.plain }
+
+-- Both a formula of a list and one that is made of it stand in the longer list.
+pub both_within : (most : ℕ) (Asked : Form → Type 0) (old new : List Node) (i j : ℕ) (f : Form) → Begins old new → IsReady most Asked old i → Stands new j (Tree.formula f) → (i < length new) × (j < length new)
+both_within most Asked old new i j f b r s = (tree_within new i (Tree.formula r.form) (stands_longer old new i (Tree.formula r.form) b r.stands).tree, tree_within new j (Tree.formula f) s.tree)
 
 -- ---- Calls that may fail
 

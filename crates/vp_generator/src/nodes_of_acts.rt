@@ -60,8 +60,8 @@ pub fn put(
     if with.nodes() > most {
         return kept(graph, form, var, with, most);
     }
-    let id = graph.subst(form, var, with)?;
-    small(graph, id, most)
+    let next = graph.subst(form, var, with)?;
+    small(graph, next, most)
 }
 
 /// The form, where the variable isn't free there; else the term, which is too large, would be put in.

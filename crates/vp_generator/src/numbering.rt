@@ -262,7 +262,8 @@ fn body(
     ensures scope { IfOk result (λ _. scope.new.items ≡ scope.old.items) }
 {
     let outer = scope.len();
-    scope.push((var, first + found.len() as u32))?;
+    let number = first + found.len() as u32;
+    scope.push((var, number))?;
     found.push(binder)?;
     let without = form_unbound(alloc, a, scope, first, found)?;
     scope.truncate(outer);
