@@ -91,9 +91,9 @@ pub gives_value : (t : Query Linear) (r : Query Result) (o : Option L.Lin) → r
 gives_value t r None e h = tt
 gives_value t r (Some a) e h = (e ∙ ap valued h.asks_nothing, h.kept)
 
-pub kind_given : {E : Type 0} (ns : List Node) (o : R.Result (Option L.Lin) E) (t : Query Linear) (k k' : Kind) → k ≡ k' → kind_asks (asks_at ns) k' ≡ valued t → IfOk o (MayGive t) → IfOk o (MayHave (kind_asks (asks_at ns) k))
-kind_given ns (Ok o) t k k' e g h = gives_value t (kind_asks (asks_at ns) k) o (ap (kind_asks (asks_at ns)) e ∙ g) h
-kind_given ns (Err m) t k k' e g h = h
+pub kind_given : {E : Type 0} (o : R.Result (Option L.Lin) E) (vs : List (Option L.Lin)) (t : Query Linear) (k k' : Kind) → k ≡ k' → ((ns : List Node) → AreValues ns vs → kind_asks (asks_at ns) k' ≡ valued t) → IfOk o (MayGive t) → IfOk o (λ v. (ns : List Node) → AreValues ns vs → MayHave (kind_asks (asks_at ns) k) v)
+kind_given (Ok o) vs t k k' e g h = λ ns a. gives_value t (kind_asks (asks_at ns) k) o (ap (kind_asks (asks_at ns)) e ∙ g ns a) h
+kind_given (Err m) vs t k k' e g h = h
 
 pub two_given : (ns : List Node) (a b : ℕ) (x y : L.Lin) (o : Operation) → HasValue ns a x → HasValue ns b y → kind_asks (asks_at ns) (Kind.Two o a b) ≡ operation o (Some (lin_of x)) (Some (lin_of y))
 two_given ns a b x y o h k = ap₂ (λ p r. next p (with_second o r)) h.asks_nothing k.asks_nothing

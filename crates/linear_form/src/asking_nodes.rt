@@ -51,7 +51,7 @@ fn kind_is_asking(
     table: &[bool],
 ) -> Result<bool, AllocError>
     requires { AreKeptValues values.now }
-    ensures { (ns : List NodeValue) → AreValues ns values.now → AreAsking ns table.now → IfOk result (λ b. IsTrue b → Lasts 1 (kind_asks (asks_at ns) kind)) }
+    ensures { IfOk result (λ b. IsTrue b → (ns : List NodeValue) → AreValues ns values.now → AreAsking ns table.now → Lasts 1 (kind_asks (asks_at ns) kind)) }
 {
     match kind {
         Kind::Two(operator, a, b) => if is_asking(table, a) || is_asking(table, b) {
@@ -86,7 +86,7 @@ fn compared(
     b: NodeId,
 ) -> Result<bool, AllocError>
     requires { AreKeptValues values.now }
-    ensures { (ns : List NodeValue) → AreValues ns values.now → IfOk result (λ d. IsTrue d → Lasts 1 (kind_asks (asks_at ns) (PlainKind.Two operator a b))) }
+    ensures { IfOk result (λ d. IsTrue d → (ns : List NodeValue) → AreValues ns values.now → Lasts 1 (kind_asks (asks_at ns) (PlainKind.Two operator a b))) }
 {
     if compares(operator) {
         differ(alloc, values, a, b)
@@ -110,7 +110,7 @@ pub(crate) fn compares(operator: Operation) -> bool
 /// Whether two nodes have values that differ in a variable, so that a comparison of them is asked.
 fn differ(alloc: Global, values: &[Option<Lin>], a: NodeId, b: NodeId) -> Result<bool, AllocError>
     requires { AreKeptValues values.now }
-    ensures { (ns : List NodeValue) → AreValues ns values.now → IfOk result (λ d. IsTrue d → (o : PlainOperation) → is_comparison o ≡ true → Lasts 1 (kind_asks (asks_at ns) (PlainKind.Two o a b))) }
+    ensures { IfOk result (λ d. IsTrue d → (ns : List NodeValue) → AreValues ns values.now → (o : PlainOperation) → is_comparison o ≡ true → Lasts 1 (kind_asks (asks_at ns) (PlainKind.Two o a b))) }
 {
     match noted(values, a) {
         None => Ok(false),

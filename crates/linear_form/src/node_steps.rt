@@ -263,7 +263,7 @@ fn value_given(alloc: Global, place: &mut Evaluation, x: Option<Lin>) -> Result<
 fn number_after(frame: &Frame, value: &Option<Lin>) -> Option<Frac>
     requires frame { IsKeptFrame frame.now }
     requires value { IsKeptValue (linear_of value.now) }
-    ensures gives { (ns : List NodeValue) → MatchOption result (Unit {0}) (λ r. resumed ns frame.now (Outcomes.number (linear_of value.now)) ≡ done (Outcomes.number (Some (constant_lin r)))) }
+    ensures gives { MatchOption result (Unit {0}) (λ r. (ns : List NodeValue) → resumed ns frame.now (Outcomes.number (linear_of value.now)) ≡ done (Outcomes.number (Some (constant_lin r)))) }
     ensures small { MatchOption result (Unit {0}) (λ r. number_fits r ≡ true) }
 {
     match value {
@@ -281,7 +281,7 @@ fn number_after(frame: &Frame, value: &Option<Lin>) -> Option<Frac>
 fn number_resumed(frame: &Frame, x: &Frac) -> Option<Frac>
     requires frame { IsKeptFrame frame.now }
     requires number { number_fits x.now ≡ true }
-    ensures gives { (ns : List NodeValue) → MatchOption result (Unit {0}) (λ r. resumed ns frame.now (Outcomes.number (Some (constant_lin x.now))) ≡ done (Outcomes.number (Some (constant_lin r)))) }
+    ensures gives { MatchOption result (Unit {0}) (λ r. (ns : List NodeValue) → resumed ns frame.now (Outcomes.number (Some (constant_lin x.now))) ≡ done (Outcomes.number (Some (constant_lin r)))) }
     ensures small { MatchOption result (Unit {0}) (λ r. number_fits r ≡ true) }
 {
     match frame {

@@ -59,7 +59,7 @@ fn plain_value(
 ) -> Result<Option<Lin>, AllocError>
     requires { AreKeptValues values.old.items }
     ensures left { AreLeftOf values.old.items values.new.items }
-    ensures value { (ns : List NodeValue) → AreValues ns values.old.items → IfOk result (MayHave (kind_asks (asks_at ns) kind)) }
+    ensures value { IfOk result (λ v. (ns : List NodeValue) → AreValues ns values.old.items → MayHave (kind_asks (asks_at ns) kind) v) }
 {
     match kind {
         Kind::Number(v) => Ok(number(alloc, &v)),

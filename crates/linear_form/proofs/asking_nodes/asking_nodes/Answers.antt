@@ -16,6 +16,6 @@ pub loop-i-preserved : goal.loop-i-preserved
 loop-i-preserved c =
     let k = entered_kind c.args.graph.now c.node.result.now c.loop-i.i c.kind_of-kind.result c.node.ensures.graph (omega arith) c.node.ensures.tree (c.kind_of-kind.ensures c.args.graph.now) in
     record {
-      asking = asking_more c.args.graph.now c.loop-i.table.items c.push.new.self.items c.in_ok-asks.asks c.kind_of-kind.result c.in_ok-push.ensures.items (ap (asks_at c.args.graph.now) c.loop-i.invariant.long ∙ node_asks_as c.args.graph.now c.loop-i.i c.kind_of-kind.result k) c.loop-i.invariant.asking (c.in_ok-asks.ensures c.args.graph.now c.requires c.loop-i.invariant.asking);
+      asking = asking_more c.args.graph.now c.loop-i.table.items c.push.new.self.items c.in_ok-asks.asks c.kind_of-kind.result c.in_ok-push.ensures.items (ap (asks_at c.args.graph.now) c.loop-i.invariant.long ∙ node_asks_as c.args.graph.now c.loop-i.i c.kind_of-kind.result k) c.loop-i.invariant.asking (λ t. c.in_ok-asks.ensures t c.args.graph.now c.requires c.loop-i.invariant.asking);
       long = one_longer c.loop-i.table.items c.push.new.self.items c.in_ok-asks.asks c.loop-i.i c.loop-i.invariant.long c.in_ok-push.ensures.items;
     }

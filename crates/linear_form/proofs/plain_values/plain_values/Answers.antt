@@ -15,6 +15,6 @@ pub loop-i-preserved : goal.loop-i-preserved
 loop-i-preserved c =
     let k = entered_kind c.args.graph.now c.node.result.now c.loop-i.i c.kind_of-kind.result c.node.ensures.graph (omega arith) c.node.ensures.tree (c.kind_of-kind.ensures c.args.graph.now) in
     record {
-      values = values_more c.args.graph.now c.plain_value-value.new.values.items c.push.new.self.items c.in_ok-value.value c.kind_of-kind.result c.in_ok-push.ensures.items (ap (asks_at c.args.graph.now) (c.plain_value-value.ensures.left.long ∙ c.loop-i.invariant.long) ∙ node_asks_as c.args.graph.now c.loop-i.i c.kind_of-kind.result k) (values_left c.args.graph.now c.loop-i.values.items c.plain_value-value.new.values.items c.plain_value-value.ensures.left c.loop-i.invariant.values) (c.in_ok-value.ensures c.args.graph.now c.loop-i.invariant.values);
+      values = values_more c.args.graph.now c.plain_value-value.new.values.items c.push.new.self.items c.in_ok-value.value c.kind_of-kind.result c.in_ok-push.ensures.items (ap (asks_at c.args.graph.now) (c.plain_value-value.ensures.left.long ∙ c.loop-i.invariant.long) ∙ node_asks_as c.args.graph.now c.loop-i.i c.kind_of-kind.result k) (values_left c.args.graph.now c.loop-i.values.items c.plain_value-value.new.values.items c.plain_value-value.ensures.left c.loop-i.invariant.values) (c.in_ok-value.ensures.value c.args.graph.now c.loop-i.invariant.values);
       long = one_longer c.plain_value-value.new.values.items c.push.new.self.items c.in_ok-value.value c.loop-i.i (c.plain_value-value.ensures.left.long ∙ c.loop-i.invariant.long) c.in_ok-push.ensures.items;
     }
