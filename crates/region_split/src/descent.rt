@@ -34,22 +34,18 @@ pub fn deeper<'a>(
     requires asking { IsAsking (goal_of goal.now) walk atom place }
     ensures { IfOk result (λ s. IsStep (goal_of goal.now) (path_of walk.entry.trail.path.items) s) }
 {
-    match repeated(alloc, goal, walk.trail, atom, &place)? {
-        Repeat::New(standing, question) => {
+    match repeated(alloc, goal, &mut walk.trail, atom, &place)? {
+        Repeat::New(question) => {
             let answer = Taken {
                 atom: question,
                 held: true,
             };
-            walk.trail = onward(standing, answer, Way::Open(place))?;
+            onward(&mut walk.trail, answer, Way::Open(place))?;
             Ok(Step::On(walk))
         }
-        Repeat::Yes(trail) => {
-            walk.trail = trail;
-            past(alloc, goal, walk, place)
-        }
-        Repeat::No(trail, multipliers) => {
-            let tree = leaf(Tree::Farkas(multipliers), trail.path.len());
-            walk.trail = trail;
+        Repeat::Yes => past(alloc, goal, walk, place),
+        Repeat::No(multipliers) => {
+            let tree = leaf(Tree::Farkas(multipliers), walk.trail.path.len());
             walk.trees.push(tree)?;
             past(alloc, goal, walk, place)
         }

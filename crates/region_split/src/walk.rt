@@ -16,7 +16,7 @@ use crate::descent::deeper;
 use crate::findings::Found;
 use crate::front::{End, Front, look};
 use crate::growth::leaf;
-use crate::trail::{Trail, first_rows, start};
+use crate::trail::{Trail, start};
 use goal_answers::{Cause, Decision, Tree};
 use heylo_formula::Goal;
 use linear_form::{Atom, Place, RowList, with_denied_goal};
@@ -69,48 +69,20 @@ pub fn walked(alloc: Global, goal: &Goal) -> Result<Decision, AllocError>
 }
 
 /// Looks at the front that the walk comes to, and goes on to the next one.
-fn visit<'a>(alloc: Global, goal: &'a Goal, walk: Walk<'a>) -> Result<Step<'a>, AllocError>
+fn visit<'a>(alloc: Global, goal: &'a Goal, mut walk: Walk<'a>) -> Result<Step<'a>, AllocError>
     requires typed { IsTypedGoal (goal_of goal.now) }
     requires short { AreShort (goal_of goal.now) }
     requires linear { nonlinear_product (goal_of goal.now) ≡ None }
     requires comes { IsWalk (goal_of goal.now) walk }
     ensures { IfOk result (λ s. IsStep (goal_of goal.now) (path_of walk.entry.trail.path.items) s) }
 {
-    let Walk {
-        trail,
-        trees,
-        count,
-        found,
-    } = walk;
-    match look(alloc, goal, trail)? {
-        Front::Dropped(trail, multipliers) => {
-            let tree = leaf(Tree::Farkas(multipliers), trail.path.len());
-            let next = Walk {
-                trail,
-                trees,
-                count,
-                found,
-            };
-            finish(alloc, next, tree)
+    match look(alloc, goal, &mut walk.trail)? {
+        Front::Dropped(multipliers) => {
+            let tree = leaf(Tree::Farkas(multipliers), walk.trail.path.len());
+            finish(alloc, walk, tree)
         }
-        Front::Question(trail, atom, place) => {
-            let next = Walk {
-                trail,
-                trees,
-                count,
-                found,
-            };
-            deeper(alloc, goal, next, atom, place)
-        }
-        Front::End(trail, ends) => {
-            let next = Walk {
-                trail,
-                trees,
-                count,
-                found,
-            };
-            end(alloc, goal, next, ends)
-        }
+        Front::Question(atom, place) => deeper(alloc, goal, walk, atom, place),
+        Front::End(ends) => end(alloc, goal, walk, ends),
         Front::Unknown(cause) => Ok(Step::Done(Decision::Unknown(cause))),
     }
 }
@@ -119,7 +91,7 @@ fn visit<'a>(alloc: Global, goal: &'a Goal, walk: Walk<'a>) -> Result<Step<'a>, 
 pub fn end<'a>(
     alloc: Global,
     goal: &'a Goal,
-    walk: Walk<'a>,
+    mut walk: Walk<'a>,
     ends: End,
 ) -> Result<Step<'a>, AllocError>
     requires typed { IsTypedGoal (goal_of goal.now) }
@@ -135,27 +107,16 @@ pub fn end<'a>(
     if !ends.plain {
         return denied_end(alloc, goal, walk, ends);
     }
-    let Walk {
-        trail,
-        trees,
-        count,
-        found,
-    } = walk;
-    let tree = leaf(Tree::Plain, trail.path.len());
-    let next = Walk {
-        trail,
-        trees,
-        count: count + 1,
-        found,
-    };
-    finish(alloc, next, tree)
+    let tree = leaf(Tree::Plain, walk.trail.path.len());
+    walk.count += 1;
+    finish(alloc, walk, tree)
 }
 
 /// Looks at a cell that isn't plain.
 fn denied_end<'a>(
     alloc: Global,
     goal: &'a Goal,
-    walk: Walk<'a>,
+    mut walk: Walk<'a>,
     ends: End,
 ) -> Result<Step<'a>, AllocError>
     requires typed { IsTypedGoal (goal_of goal.now) }
@@ -167,66 +128,43 @@ fn denied_end<'a>(
     requires few { walk.count < 4096 }
     ensures { IfOk result (λ s. IsStep (goal_of goal.now) (path_of walk.entry.trail.path.items) s) }
 {
-    let Walk {
-        trail,
-        trees,
-        count,
-        found,
-    } = walk;
-    let Trail {
-        path,
-        places,
+    let found = std::mem::replace(&mut walk.found, Found::Nothing);
+    let trail = &mut walk.trail;
+    let kept = trail.rows.len();
+    let rows = std::mem::replace(&mut trail.rows, Vec::new(alloc));
+    let RowList::Rows(mut list) = with_denied_goal(
+        alloc,
+        goal,
+        &trail.path,
+        &ends.stated,
+        &ends.found,
         rows,
-        visited,
-        occurrences,
-        mut search,
-    } = trail;
-    let kept = rows.len();
-    let RowList::Rows(list) = with_denied_goal(alloc, goal, &path, &ends.stated, &ends.found, rows)?
+    )?
     else {
         return Ok(Step::Done(Decision::Unknown(Cause::Bits)));
     };
-    let cell = judge(alloc, goal, &path, &list, kept, &ends, found, &mut search)?;
-    let trail = Trail {
-        path,
-        places,
-        rows: first_rows(list, kept),
-        visited,
-        occurrences,
-        search,
-    };
+    let search = &mut trail.search;
+    let cell = judge(alloc, goal, &trail.path, &list, kept, &ends, found, search)?;
+    list.truncate(kept);
+    trail.rows = list;
     match cell {
         Cell::Judged(found, tree) => {
-            let next = Walk {
-                trail,
-                trees,
-                count: count + 1,
-                found,
-            };
-            finish(alloc, next, tree)
+            walk.count += 1;
+            walk.found = found;
+            finish(alloc, walk, tree)
         }
         Cell::Unknown(cause) => Ok(Step::Done(Decision::Unknown(cause))),
     }
 }
 
 /// Goes up from a finished path, whose tree this is, and on to the next one.
-fn finish<'a>(alloc: Global, walk: Walk<'a>, tree: Option<Tree>) -> Result<Step<'a>, AllocError>
+fn finish<'a>(alloc: Global, mut walk: Walk<'a>, tree: Option<Tree>) -> Result<Step<'a>, AllocError>
     ensures { (g : PlainGoal) → nonlinear_product g ≡ None → IsFinishedWalk g walk.entry tree → IfOk result (λ s. IsStep g (path_of walk.entry.trail.path.items) s) }
 {
-    let Walk {
-        trail,
-        trees,
-        count,
-        found,
-    } = walk;
-    match climb(alloc, trail, trees, tree)? {
-        Up::Next(trail, trees) => Ok(Step::On(Walk {
-            trail,
-            trees,
-            count,
-            found,
-        })),
-        Up::Whole(tree) => Ok(Step::Done(decided(found, tree))),
+    let stand = &mut walk;
+    match climb(alloc, &mut stand.trail, &mut stand.trees, tree)? {
+        Up::Next => Ok(Step::On(walk)),
+        Up::Whole(tree) => Ok(Step::Done(decided(walk.found, tree))),
     }
 }
 

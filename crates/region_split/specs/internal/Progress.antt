@@ -213,9 +213,9 @@ pub record IsNextFront (g : Goal) (ps : List Taken) (all : List (List Taken)) (p
   pub stands : HasBefore g path all trees
   pub less : left_of g path < left_of g ps
 
-abbrev pub IsUp : Goal → List Taken → List (List Taken) → Up → Type 0
-IsUp g ps all (Next t trees) = Comes g t × IsNextFront g ps all (path_of t.path.items) trees.items
-IsUp g ps all (Whole tree) = IsBranch g [] all tree
+abbrev pub IsUp : Goal → List Taken → List (List Taken) → Trail → List (Option T.Tree) → Up → Type 0
+IsUp g ps all t trees Next = Comes g t × IsNextFront g ps all (path_of t.path.items) trees
+IsUp g ps all t trees (Whole tree) = IsBranch g [] all tree
 
 -- Where a way up from a path has come to: all these cells lie up to the branch at which the trail stands now, and no more is left to
 -- its right.

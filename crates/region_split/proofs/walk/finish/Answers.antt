@@ -4,12 +4,12 @@ use Rattle.region_split.proofs.walk.finish.Goals as goal
 
 pub returns-in-Next : goal.returns-in-Next
 returns-in-Next c g n h =
-    let u = rw c.in-Next.is at (c.in_ok-trail.ensures g h.all h.stands h.after) in
+    let u = rw c.in-Next.is at (c.in_ok-climb.ensures g h.all h.stands h.after) in
     next_walk g c.args.walk _ c.args.tree h u.0 u.1 refl refl
 
 pub returns-in-Whole : goal.returns-in-Whole
 returns-in-Whole c g n h =
-    let u = c.in_ok-trail.ensures g h.all h.stands h.after in
+    let u = c.in_ok-climb.ensures g h.all h.stands h.after in
     let a = h.counted in
     let b = h.few in
     let l : length h.all ≤ 4096 = omega (arith, a, b) in
