@@ -39,9 +39,9 @@ pub struct Walk<'a> {
 #[derive(Drop)]
 pub enum Step<'a> {
     /// The walk goes on: it comes to a front.
-    On(Walk<'a>),
+    On,
     /// The walk goes on: it stands at a front that is kept, with its question and the evaluation that asks it.
-    Asks(Walk<'a>, Atom, Place<'a>),
+    Asks(Atom, Place<'a>),
     /// The goal is decided.
     Done(Decision),
 }
@@ -53,28 +53,29 @@ pub fn walked(alloc: Global, goal: &Goal) -> Result<Decision, AllocError>
     requires linear { nonlinear_product (goal_of goal.now) ≡ None }
     ensures { IfOk result (λ d. IsDecision (goal_of goal.now) d) }
 {
-    let mut step = Step::On(Walk {
+    let mut walk = Walk {
         trail: start(alloc, goal)?,
         trees: Vec::new(alloc),
         count: 0,
         found: Found::Nothing,
-    });
+    };
+    let mut step = Step::On;
     'walk: loop {
         match step {
-            Step::On(walk) => step = visit(alloc, goal, walk)?,
-            Step::Asks(walk, atom, place) => step = deeper(alloc, goal, walk, atom, place)?,
+            Step::On => step = visit(alloc, goal, &mut walk)?,
+            Step::Asks(atom, place) => step = deeper(alloc, goal, &mut walk, atom, place)?,
             Step::Done(decision) => return Ok(decision),
         }
     }
 }
 
 /// Looks at the front that the walk comes to, and goes on to the next one.
-fn visit<'a>(alloc: Global, goal: &'a Goal, mut walk: Walk<'a>) -> Result<Step<'a>, AllocError>
+fn visit<'a>(alloc: Global, goal: &'a Goal, walk: &mut Walk<'a>) -> Result<Step<'a>, AllocError>
     requires typed { IsTypedGoal (goal_of goal.now) }
     requires short { AreShort (goal_of goal.now) }
     requires linear { nonlinear_product (goal_of goal.now) ≡ None }
-    requires comes { IsWalk (goal_of goal.now) walk }
-    ensures { IfOk result (λ s. IsStep (goal_of goal.now) (path_of walk.entry.trail.path.items) s) }
+    requires comes { IsWalk (goal_of goal.now) walk.old }
+    ensures { IfOk result (λ s. IsStep (goal_of goal.now) (path_of walk.old.trail.path.items) walk.new s) }
 {
     match look(alloc, goal, &mut walk.trail)? {
         Front::Dropped(multipliers) => {
@@ -91,15 +92,15 @@ fn visit<'a>(alloc: Global, goal: &'a Goal, mut walk: Walk<'a>) -> Result<Step<'
 pub fn end<'a>(
     alloc: Global,
     goal: &'a Goal,
-    mut walk: Walk<'a>,
+    walk: &mut Walk<'a>,
     ends: End,
 ) -> Result<Step<'a>, AllocError>
     requires typed { IsTypedGoal (goal_of goal.now) }
     requires short { AreShort (goal_of goal.now) }
     requires linear { nonlinear_product (goal_of goal.now) ≡ None }
-    requires stands { IsStandingWalk (goal_of goal.now) walk }
-    requires at_end { IsEndOf (goal_of goal.now) (path_of walk.trail.path.items) ends }
-    ensures { IfOk result (λ s. IsStep (goal_of goal.now) (path_of walk.entry.trail.path.items) s) }
+    requires stands { IsStandingWalk (goal_of goal.now) walk.old }
+    requires at_end { IsEndOf (goal_of goal.now) (path_of walk.old.trail.path.items) ends }
+    ensures { IfOk result (λ s. IsStep (goal_of goal.now) (path_of walk.old.trail.path.items) walk.new s) }
 {
     if walk.count >= MOST_CELLS {
         return Ok(Step::Done(Decision::Unknown(Cause::Cells(MOST_CELLS + 1))));
@@ -116,17 +117,17 @@ pub fn end<'a>(
 fn denied_end<'a>(
     alloc: Global,
     goal: &'a Goal,
-    mut walk: Walk<'a>,
+    walk: &mut Walk<'a>,
     ends: End,
 ) -> Result<Step<'a>, AllocError>
     requires typed { IsTypedGoal (goal_of goal.now) }
     requires short { AreShort (goal_of goal.now) }
     requires linear { nonlinear_product (goal_of goal.now) ≡ None }
-    requires stands { IsStandingWalk (goal_of goal.now) walk }
-    requires at_end { IsEndOf (goal_of goal.now) (path_of walk.trail.path.items) ends }
+    requires stands { IsStandingWalk (goal_of goal.now) walk.old }
+    requires at_end { IsEndOf (goal_of goal.now) (path_of walk.old.trail.path.items) ends }
     requires not_plain { ends.plain ≡ false }
-    requires few { walk.count < 4096 }
-    ensures { IfOk result (λ s. IsStep (goal_of goal.now) (path_of walk.entry.trail.path.items) s) }
+    requires few { walk.old.count < 4096 }
+    ensures { IfOk result (λ s. IsStep (goal_of goal.now) (path_of walk.old.trail.path.items) walk.new s) }
 {
     let found = std::mem::replace(&mut walk.found, Found::Nothing);
     let trail = &mut walk.trail;
@@ -158,13 +159,19 @@ fn denied_end<'a>(
 }
 
 /// Goes up from a finished path, whose tree this is, and on to the next one.
-fn finish<'a>(alloc: Global, mut walk: Walk<'a>, tree: Option<Tree>) -> Result<Step<'a>, AllocError>
-    ensures { (g : PlainGoal) → nonlinear_product g ≡ None → IsFinishedWalk g walk.entry tree → IfOk result (λ s. IsStep g (path_of walk.entry.trail.path.items) s) }
+fn finish<'a>(
+    alloc: Global,
+    walk: &mut Walk<'a>,
+    tree: Option<Tree>,
+) -> Result<Step<'a>, AllocError>
+    ensures { (g : PlainGoal) → nonlinear_product g ≡ None → IsFinishedWalk g walk.old tree → IfOk result (λ s. IsStep g (path_of walk.old.trail.path.items) walk.new s) }
 {
-    let stand = &mut walk;
-    match climb(alloc, &mut stand.trail, &mut stand.trees, tree)? {
-        Up::Next => Ok(Step::On(walk)),
-        Up::Whole(tree) => Ok(Step::Done(decided(walk.found, tree))),
+    match climb(alloc, &mut walk.trail, &mut walk.trees, tree)? {
+        Up::Next => Ok(Step::On),
+        Up::Whole(tree) => {
+            let found = std::mem::replace(&mut walk.found, Found::Nothing);
+            Ok(Step::Done(decided(found, tree)))
+        }
     }
 }
 
