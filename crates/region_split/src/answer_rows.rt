@@ -11,7 +11,7 @@ ghost use Rattle.linear_form.specs.RowLists.{ArePathRows};
 ghost use Rattle.region_split.specs.internal.Trails.{Stands};
 ghost use Rattle.region_split.specs.internal.Repeats.{IsRowAnswer, IsBoth};
 
-use crate::trail::{Trail, first_rows};
+use crate::trail::Trail;
 use goal_answers::Cause;
 use heylo_formula::Goal;
 use linear_form::{Atom, RowList, Taken, next_row, rows as rows_of_path};
@@ -21,10 +21,10 @@ use std::alloc::{AllocError, Global};
 /// What an answer's row comes to.
 #[derive(Drop)]
 pub enum Answered {
-    /// The path and its rows as they were, the question, and the row of the answer.
-    Row(Vec<Taken>, Vec<Row>, Atom, Row),
-    /// A number of the row is too great. The path as it was, and the question; its rows are gone.
-    Bits(Vec<Taken>, Atom),
+    /// The question, and the row of the answer. The path and its rows are as they were.
+    Row(Atom, Row),
+    /// A number of the row is too great. The path is as it was; its rows are gone.
+    Bits(Atom),
 }
 
 /// The rows of the two answers to a comparison.
@@ -36,11 +36,11 @@ pub struct AnswerRows {
 
 /// The rows of the answers to the next question of a path.
 #[derive(Drop)]
-pub enum Both<'a> {
-    /// The trail as it was, the question, and the rows.
-    Rows(Trail<'a>, Atom, AnswerRows),
-    /// A number of the second one is too great. The trail as it was, and the question.
-    Lost(Trail<'a>, Atom),
+pub enum Both {
+    /// The question, and the rows. The trail is as it was.
+    Rows(Atom, AnswerRows),
+    /// A number of the second one is too great. The trail is as it was.
+    Lost(Atom),
     /// A number is too great.
     Unknown(Cause),
 }
@@ -49,116 +49,80 @@ pub enum Both<'a> {
 fn row_of_answer(
     alloc: Global,
     goal: &Goal,
-    mut path: Vec<Taken>,
-    rows: Vec<Row>,
+    path: &mut Vec<Taken>,
+    rows: &mut Vec<Row>,
     answer: Taken,
 ) -> Result<Answered, AllocError>
-    requires path { IsPath (goal_of goal.now) (path_of path.items ++ (taken_of answer ∷ [])) }
-    requires rows { ArePathRows (goal_of goal.now) (path_of path.items) rows.items }
+    requires path { IsPath (goal_of goal.now) (path_of path.old.items ++ (taken_of answer ∷ [])) }
+    requires rows { ArePathRows (goal_of goal.now) (path_of path.old.items) rows.old.items }
     requires comparison { length (answer_claims (atom_of answer.atom) answer.held) ≡ 1 }
-    ensures { IfOk result (λ a. IsRowAnswer (goal_of goal.now) path.items rows.items answer a) }
+    ensures { IfOk result (λ a. IsRowAnswer (goal_of goal.now) path.old.items rows.old.items answer path.new.items rows.new.items a) }
 {
     path.push(answer)?;
-    let list = next_row(alloc, goal, &path, rows)?;
+    let before = std::mem::replace(rows, Vec::new(alloc));
+    let list = next_row(alloc, goal, path, before)?;
     let Some(last) = path.pop() else {
         unreachable!()
     };
     match list {
         RowList::Rows(mut more) => match more.pop() {
-            Some(row) => Ok(Answered::Row(path, more, last.atom, row)),
+            Some(row) => {
+                *rows = more;
+                Ok(Answered::Row(last.atom, row))
+            }
             None => unreachable!(),
         },
-        RowList::Bits => Ok(Answered::Bits(path, last.atom)),
+        RowList::Bits => Ok(Answered::Bits(last.atom)),
     }
 }
 
 /// The rows of both answers to the next question of the path at which a trail stands. The question is a comparison. Want of memory
 /// is the one error.
-pub fn rows_of_answers<'a>(
+pub fn rows_of_answers(
     alloc: Global,
     goal: &Goal,
-    trail: Trail<'a>,
+    trail: &mut Trail<'_>,
     atom: Atom,
-) -> Result<Both<'a>, AllocError>
-    requires path { IsPath (goal_of goal.now) (path_of trail.path.items) }
-    requires stands { Stands (goal_of goal.now) trail }
-    requires goes_on { GoesOn (goal_of goal.now) (path_of trail.path.items) (atom_of atom) }
+) -> Result<Both, AllocError>
+    requires path { IsPath (goal_of goal.now) (path_of trail.old.path.items) }
+    requires stands { Stands (goal_of goal.now) trail.old }
+    requires goes_on { GoesOn (goal_of goal.now) (path_of trail.old.path.items) (atom_of atom) }
     requires comparison { (held : Bool) → length (answer_claims (atom_of atom) held) ≡ 1 }
-    ensures { IfOk result (λ b. IsBoth (goal_of goal.now) (path_of trail.entry.path.items) (atom_of atom) b) }
+    ensures { IfOk result (λ b. IsBoth (goal_of goal.now) (path_of trail.old.path.items) (atom_of atom) trail.new b) }
 {
-    let Trail {
-        path,
-        places,
-        rows,
-        visited,
-        occurrences,
-        search,
-    } = trail;
-    match row_of_answer(alloc, goal, path, rows, Taken { atom, held: true })? {
-        Answered::Bits(_, _) => Ok(Both::Unknown(Cause::Bits)),
-        Answered::Row(path, rows, atom, yes) => {
-            let standing = Trail {
-                path,
-                places,
-                rows,
-                visited,
-                occurrences,
-                search,
-            };
-            with_no(alloc, goal, standing, atom, yes)
-        }
+    let yes = Taken { atom, held: true };
+    match row_of_answer(alloc, goal, &mut trail.path, &mut trail.rows, yes)? {
+        Answered::Bits(_) => Ok(Both::Unknown(Cause::Bits)),
+        Answered::Row(question, row) => with_no(alloc, goal, trail, question, row),
     }
 }
 
 /// The same, once the row of yes is known.
-fn with_no<'a>(
+fn with_no(
     alloc: Global,
     goal: &Goal,
-    trail: Trail<'a>,
+    trail: &mut Trail<'_>,
     atom: Atom,
     yes: Row,
-) -> Result<Both<'a>, AllocError>
-    requires path { IsPath (goal_of goal.now) (path_of trail.path.items) }
-    requires stands { Stands (goal_of goal.now) trail }
-    requires goes_on { GoesOn (goal_of goal.now) (path_of trail.path.items) (atom_of atom) }
+) -> Result<Both, AllocError>
+    requires path { IsPath (goal_of goal.now) (path_of trail.old.path.items) }
+    requires stands { Stands (goal_of goal.now) trail.old }
+    requires goes_on { GoesOn (goal_of goal.now) (path_of trail.old.path.items) (atom_of atom) }
     requires comparison { (held : Bool) → length (answer_claims (atom_of atom) held) ≡ 1 }
-    requires yes { ArePathRows (goal_of goal.now) (onto (path_of trail.path.items) (atom_of atom) true) (trail.rows.items ++ (yes ∷ [])) }
-    ensures { IfOk result (λ b. IsBoth (goal_of goal.now) (path_of trail.entry.path.items) (atom_of atom) b) }
+    requires yes { ArePathRows (goal_of goal.now) (onto (path_of trail.old.path.items) (atom_of atom) true) (trail.old.rows.items ++ (yes ∷ [])) }
+    ensures { IfOk result (λ b. IsBoth (goal_of goal.now) (path_of trail.old.path.items) (atom_of atom) trail.new b) }
 {
-    let Trail {
-        path,
-        places,
-        rows,
-        visited,
-        occurrences,
-        search,
-    } = trail;
-    let count = rows.len();
-    match row_of_answer(alloc, goal, path, rows, Taken { atom, held: false })? {
-        Answered::Row(path, rows, atom, no) => {
-            let standing = Trail {
-                path,
-                places,
-                rows,
-                visited,
-                occurrences,
-                search,
-            };
-            Ok(Both::Rows(standing, atom, AnswerRows { yes, no }))
-        }
-        Answered::Bits(path, atom) => {
-            let RowList::Rows(list) = rows_of_path(alloc, goal, &path, false)? else {
+    let count = trail.rows.len();
+    let other = Taken { atom, held: false };
+    match row_of_answer(alloc, goal, &mut trail.path, &mut trail.rows, other)? {
+        Answered::Row(question, no) => Ok(Both::Rows(question, AnswerRows { yes, no })),
+        Answered::Bits(question) => {
+            let RowList::Rows(mut list) = rows_of_path(alloc, goal, &trail.path, false)? else {
                 return Ok(Both::Unknown(Cause::Bits));
             };
-            let standing = Trail {
-                path,
-                places,
-                rows: first_rows(list, count),
-                visited,
-                occurrences,
-                search,
-            };
-            Ok(Both::Lost(standing, atom))
+            list.truncate(count);
+            trail.rows = list;
+            Ok(Both::Lost(question))
         }
     }
 }

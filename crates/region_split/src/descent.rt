@@ -24,32 +24,28 @@ use std::alloc::{AllocError, Global};
 pub fn deeper<'a>(
     alloc: Global,
     goal: &'a Goal,
-    mut walk: Walk<'a>,
+    walk: &mut Walk<'a>,
     atom: Atom,
     place: Place<'a>,
 ) -> Result<Step<'a>, AllocError>
     requires typed { IsTypedGoal (goal_of goal.now) }
     requires short { AreShort (goal_of goal.now) }
     requires linear { nonlinear_product (goal_of goal.now) ≡ None }
-    requires asking { IsAsking (goal_of goal.now) walk atom place }
-    ensures { IfOk result (λ s. IsStep (goal_of goal.now) (path_of walk.entry.trail.path.items) s) }
+    requires asking { IsAsking (goal_of goal.now) walk.old atom place }
+    ensures { IfOk result (λ s. IsStep (goal_of goal.now) (path_of walk.old.trail.path.items) walk.new s) }
 {
-    match repeated(alloc, goal, walk.trail, atom, &place)? {
-        Repeat::New(standing, question) => {
+    match repeated(alloc, goal, &mut walk.trail, atom, &place)? {
+        Repeat::New(question) => {
             let answer = Taken {
                 atom: question,
                 held: true,
             };
-            walk.trail = onward(standing, answer, Way::Open(place))?;
-            Ok(Step::On(walk))
+            onward(&mut walk.trail, answer, Way::Open(place))?;
+            Ok(Step::On)
         }
-        Repeat::Yes(trail) => {
-            walk.trail = trail;
-            past(alloc, goal, walk, place)
-        }
-        Repeat::No(trail, multipliers) => {
-            let tree = leaf(Tree::Farkas(multipliers), trail.path.len());
-            walk.trail = trail;
+        Repeat::Yes => past(alloc, goal, walk, place),
+        Repeat::No(multipliers) => {
+            let tree = leaf(Tree::Farkas(multipliers), walk.trail.path.len());
             walk.trees.push(tree)?;
             past(alloc, goal, walk, place)
         }
@@ -61,20 +57,20 @@ pub fn deeper<'a>(
 fn past<'a>(
     alloc: Global,
     goal: &'a Goal,
-    walk: Walk<'a>,
+    walk: &mut Walk<'a>,
     place: Place<'a>,
 ) -> Result<Step<'a>, AllocError>
     requires typed { IsTypedGoal (goal_of goal.now) }
     requires short { AreShort (goal_of goal.now) }
     requires linear { nonlinear_product (goal_of goal.now) ≡ None }
-    requires stands { IsStandingWalk (goal_of goal.now) walk }
-    requires kept { IsKeptPath (goal_of goal.now) (path_of walk.trail.path.items) }
-    requires on { IsOn (goal_of goal.now) (path_of walk.trail.path.items) place }
-    ensures { IfOk result (λ s. IsBelow (goal_of goal.now) (left_of (goal_of goal.now) (path_of walk.entry.trail.path.items) + 1) s) }
+    requires stands { IsStandingWalk (goal_of goal.now) walk.old }
+    requires kept { IsKeptPath (goal_of goal.now) (path_of walk.old.trail.path.items) }
+    requires on { IsOn (goal_of goal.now) (path_of walk.old.trail.path.items) place }
+    ensures { IfOk result (λ s. IsBelow (goal_of goal.now) (left_of (goal_of goal.now) (path_of walk.old.trail.path.items) + 1) walk.new s) }
 {
     let Reached { ask, place } = go_on_from(alloc, goal, place, &walk.trail.path)?;
     match ask {
-        Ask::Decide(atom) => Ok(Step::Asks(walk, atom, place)),
+        Ask::Decide(atom) => Ok(Step::Asks(atom, place)),
         Ask::End(stated, found) => end(alloc, goal, walk, end_of(goal, stated, found)),
         Ask::Bits => Ok(Step::Done(Decision::Unknown(Cause::Bits))),
     }

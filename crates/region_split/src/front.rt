@@ -24,7 +24,7 @@ ghost use Rattle.region_split.specs.declared.trail.Way.TheVariants.{Open};
 use crate::known_comparisons::{Known, copy_row, row_of_last};
 use crate::moved_multipliers::{moved, places};
 use crate::solver::{Settled, settle};
-use crate::trail::{Trail, Way, first_rows};
+use crate::trail::{Trail, Way};
 use goal_answers::Cause;
 use heylo_formula::Goal;
 use linear_form::{
@@ -43,48 +43,38 @@ pub struct End {
     pub plain: bool,
 }
 
-/// What stands at a path of the walk, with the trail that stands there.
+/// What stands at a path of the walk.
 #[derive(Drop)]
 pub enum Front<'a> {
     /// No fractions meet the path's rows: multipliers by row index, which a certificate takes here.
-    Dropped(Trail<'a>, Vec<(u32, u64)>),
+    Dropped(Vec<(u32, u64)>),
     /// The next question, and the evaluation that asks it.
-    Question(Trail<'a>, Atom, Place<'a>),
+    Question(Atom, Place<'a>),
     /// No question is left.
-    End(Trail<'a>, End),
+    End(End),
     /// There are too many rows, or a number is too great.
     Unknown(Cause),
 }
 
-/// What stands at the path that a trail comes to. Want of memory is the one error.
-pub fn look<'a>(alloc: Global, goal: &'a Goal, trail: Trail<'a>) -> Result<Front<'a>, AllocError>
-    requires path { IsPath (goal_of goal.now) (path_of trail.path.items) }
+/// What stands at the path that a trail comes to. The trail stands there then. Want of memory is the one error.
+pub fn look<'a>(
+    alloc: Global,
+    goal: &'a Goal,
+    trail: &mut Trail<'a>,
+) -> Result<Front<'a>, AllocError>
+    requires path { IsPath (goal_of goal.now) (path_of trail.old.path.items) }
     requires typed { IsTypedGoal (goal_of goal.now) }
-    requires short { length trail.path.items + 1 + length goal.now.vars.items < 2 ^ 32 }
-    requires comes { Comes (goal_of goal.now) trail }
-    ensures { IfOk result (λ f. IsSeen (goal_of goal.now) (path_of trail.entry.path.items) f) }
+    requires short { length trail.old.path.items + 1 + length goal.now.vars.items < 2 ^ 32 }
+    requires comes { Comes (goal_of goal.now) trail.old }
+    ensures { IfOk result (λ f. IsSeen (goal_of goal.now) (path_of trail.old.path.items) trail.new f) }
 {
-    let Trail {
-        path,
-        places,
-        rows,
-        visited,
-        mut occurrences,
-        search,
-    } = trail;
-    let noted = rows.len();
-    match with_last_row(alloc, goal, &path, &visited, rows)? {
+    let noted = trail.rows.len();
+    let before = std::mem::replace(&mut trail.rows, Vec::new(alloc));
+    match with_last_row(alloc, goal, &trail.path, &trail.visited, before)? {
         RowList::Rows(rows) => {
-            occurrences.note(&rows, noted);
-            let standing = Trail {
-                path,
-                places,
-                rows,
-                visited,
-                occurrences,
-                search,
-            };
-            look_there(alloc, goal, standing)
+            trail.rows = rows;
+            trail.occurrences.note(&trail.rows, noted);
+            look_there(alloc, goal, trail)
         }
         RowList::Bits => Ok(Front::Unknown(Cause::Bits)),
     }
@@ -117,39 +107,35 @@ fn with_last_row(
 }
 
 /// What stands at the path at which a trail stands. Want of memory is the one error.
-fn look_there<'a>(alloc: Global, goal: &'a Goal, trail: Trail<'a>) -> Result<Front<'a>, AllocError>
-    requires path { IsPath (goal_of goal.now) (path_of trail.path.items) }
+fn look_there<'a>(
+    alloc: Global,
+    goal: &'a Goal,
+    trail: &mut Trail<'a>,
+) -> Result<Front<'a>, AllocError>
+    requires path { IsPath (goal_of goal.now) (path_of trail.old.path.items) }
     requires typed { IsTypedGoal (goal_of goal.now) }
-    requires short { length trail.path.items + 1 + length goal.now.vars.items < 2 ^ 32 }
-    requires stands { Stands (goal_of goal.now) trail }
-    ensures { IfOk result (λ f. IsSeen (goal_of goal.now) (path_of trail.entry.path.items) f) }
+    requires short { length trail.old.path.items + 1 + length goal.now.vars.items < 2 ^ 32 }
+    requires stands { Stands (goal_of goal.now) trail.old }
+    ensures { IfOk result (λ f. IsSeen (goal_of goal.now) (path_of trail.old.path.items) trail.new f) }
 {
-    let Trail {
-        path,
-        places,
+    let kept_rows = trail.rows.len();
+    let rows = std::mem::replace(&mut trail.rows, Vec::new(alloc));
+    let RowList::Rows(mut list) = with_signs_of_path(
+        alloc,
+        goal,
+        &trail.path,
         rows,
-        visited,
-        occurrences,
-        mut search,
-    } = trail;
-    let kept_rows = rows.len();
-    let RowList::Rows(list) = with_signs_of_path(alloc, goal, &path, rows, &occurrences)? else {
+        &trail.occurrences,
+    )?
+    else {
         return Ok(Front::Unknown(Cause::Bits));
     };
-    let settled = settle(alloc, &list, kept_rows, &goal.vars, &mut search)?;
-    let mut rows = list;
-    let signs = rows.split_off(kept_rows)?;
-    let standing = Trail {
-        path,
-        places,
-        rows,
-        visited,
-        occurrences,
-        search,
-    };
+    let settled = settle(alloc, &list, kept_rows, &goal.vars, &mut trail.search)?;
+    let signs = list.split_off(kept_rows)?;
+    trail.rows = list;
     match settled {
-        Settled::Refuted(multipliers) => dropped(alloc, goal, standing, &signs, multipliers),
-        Settled::Met => kept(alloc, goal, standing),
+        Settled::Refuted(multipliers) => dropped(alloc, goal, trail, &signs, multipliers),
+        Settled::Met => kept(alloc, goal, trail),
         Settled::Unknown(cause) => Ok(Front::Unknown(cause)),
     }
 }
@@ -197,15 +183,15 @@ fn reached<'a>(
 }
 
 /// What stands at a path whose rows are solvable.
-fn kept<'a>(alloc: Global, goal: &'a Goal, trail: Trail<'a>) -> Result<Front<'a>, AllocError>
-    requires path { IsPath (goal_of goal.now) (path_of trail.path.items) }
-    requires stands { Stands (goal_of goal.now) trail }
-    ensures { IsKeptPath (goal_of goal.now) (path_of trail.entry.path.items) → IfOk result (λ f. IsSeen (goal_of goal.now) (path_of trail.entry.path.items) f) }
+fn kept<'a>(alloc: Global, goal: &'a Goal, trail: &Trail<'a>) -> Result<Front<'a>, AllocError>
+    requires path { IsPath (goal_of goal.now) (path_of trail.now.path.items) }
+    requires stands { Stands (goal_of goal.now) trail.now }
+    ensures { IsKeptPath (goal_of goal.now) (path_of trail.now.path.items) → IfOk result (λ f. IsSeen (goal_of goal.now) (path_of trail.now.path.items) trail.now f) }
 {
     let Reached { ask, place } = reached(alloc, goal, &trail.path, &trail.places)?;
     match ask {
-        Ask::Decide(atom) => Ok(Front::Question(trail, atom, place)),
-        Ask::End(stated, found) => Ok(Front::End(trail, end_of(goal, stated, found))),
+        Ask::Decide(atom) => Ok(Front::Question(atom, place)),
+        Ask::End(stated, found) => Ok(Front::End(end_of(goal, stated, found))),
         Ask::Bits => Ok(Front::Unknown(Cause::Bits)),
     }
 }
@@ -240,27 +226,27 @@ fn surely_lasts(path: &[Taken], places: &[Way<'_>]) -> bool
 fn dropped<'a>(
     alloc: Global,
     goal: &'a Goal,
-    trail: Trail<'a>,
+    trail: &mut Trail<'a>,
     signs: &[Row],
     multipliers: Vec<(u32, u64)>,
 ) -> Result<Front<'a>, AllocError>
-    requires path { IsPath (goal_of goal.now) (path_of trail.path.items) }
-    requires short { length trail.path.items + 1 + length goal.now.vars.items < 2 ^ 32 }
-    requires stands { Stands (goal_of goal.now) trail }
-    requires rows { rows_of (goal_of goal.now) (path_of trail.path.items) false ≡ Some (trail.rows.items ++ signs.now) }
-    requires refuted { IsRefutedWith (goal_of goal.now) (path_of trail.path.items) false multipliers.items }
-    ensures { IfOk result (λ f. IsSeen (goal_of goal.now) (path_of trail.entry.path.items) f) }
+    requires path { IsPath (goal_of goal.now) (path_of trail.old.path.items) }
+    requires short { length trail.old.path.items + 1 + length goal.now.vars.items < 2 ^ 32 }
+    requires stands { Stands (goal_of goal.now) trail.old }
+    requires rows { rows_of (goal_of goal.now) (path_of trail.old.path.items) false ≡ Some (trail.old.rows.items ++ signs.now) }
+    requires refuted { IsRefutedWith (goal_of goal.now) (path_of trail.old.path.items) false multipliers.items }
+    ensures { IfOk result (λ f. IsSeen (goal_of goal.now) (path_of trail.old.path.items) trail.new f) }
 {
     if surely_lasts(&trail.path, &trail.places) {
-        return Ok(Front::Dropped(trail, multipliers));
+        return Ok(Front::Dropped(multipliers));
     }
     let Reached { ask, place: _ } = reached(alloc, goal, &trail.path, &trail.places)?;
     match ask {
-        Ask::Decide(_) => Ok(Front::Dropped(trail, multipliers)),
-        Ask::Bits => Ok(Front::Dropped(trail, multipliers)),
+        Ask::Decide(_) => Ok(Front::Dropped(multipliers)),
+        Ask::Bits => Ok(Front::Dropped(multipliers)),
         Ask::End(stated, found) => {
             if holds_plainly(goal.upper, &stated, &found) {
-                Ok(Front::Dropped(trail, multipliers))
+                Ok(Front::Dropped(multipliers))
             } else {
                 dropped_end(alloc, goal, trail, &stated, &found, signs, &multipliers)
             }
@@ -272,44 +258,32 @@ fn dropped<'a>(
 /// denied goal, with the indexes that the rows have once it is among them. There are none where the denied goal can't be stated.
 fn dropped_end<'a>(
     alloc: Global,
-    goal: &'a Goal,
-    trail: Trail<'a>,
+    goal: &Goal,
+    trail: &mut Trail<'a>,
     stated: &Option<Lin>,
     found: &Option<Lin>,
     signs: &[Row],
     multipliers: &[(u32, u64)],
 ) -> Result<Front<'a>, AllocError>
-    requires path { IsPath (goal_of goal.now) (path_of trail.path.items) }
-    requires short { length trail.path.items + 1 + length goal.now.vars.items < 2 ^ 32 }
-    requires stands { Stands (goal_of goal.now) trail }
-    requires ends { Answers (EndFound stated.now found.now) (end_at (goal_of goal.now) (path_of trail.path.items)) }
-    requires rows { rows_of (goal_of goal.now) (path_of trail.path.items) false ≡ Some (trail.rows.items ++ signs.now) }
-    requires refuted { IsRefutedWith (goal_of goal.now) (path_of trail.path.items) false multipliers.now }
-    requires denied { has_denied (goal_of goal.now) (path_of trail.path.items) ≡ true }
-    ensures { IfOk result (λ f. IsSeen (goal_of goal.now) (path_of trail.entry.path.items) f) }
+    requires path { IsPath (goal_of goal.now) (path_of trail.old.path.items) }
+    requires short { length trail.old.path.items + 1 + length goal.now.vars.items < 2 ^ 32 }
+    requires stands { Stands (goal_of goal.now) trail.old }
+    requires ends { Answers (EndFound stated.now found.now) (end_at (goal_of goal.now) (path_of trail.old.path.items)) }
+    requires rows { rows_of (goal_of goal.now) (path_of trail.old.path.items) false ≡ Some (trail.old.rows.items ++ signs.now) }
+    requires refuted { IsRefutedWith (goal_of goal.now) (path_of trail.old.path.items) false multipliers.now }
+    requires denied { has_denied (goal_of goal.now) (path_of trail.old.path.items) ≡ true }
+    ensures { IfOk result (λ f. IsSeen (goal_of goal.now) (path_of trail.old.path.items) trail.new f) }
 {
-    let Trail {
-        path,
-        places: asked,
-        rows,
-        visited,
-        occurrences,
-        search,
-    } = trail;
-    let kept_rows = rows.len();
-    let RowList::Rows(more) = with_denied_goal(alloc, goal, &path, stated, found, rows)? else {
+    let kept_rows = trail.rows.len();
+    let rows = std::mem::replace(&mut trail.rows, Vec::new(alloc));
+    let RowList::Rows(mut more) = with_denied_goal(alloc, goal, &trail.path, stated, found, rows)?
+    else {
         return Ok(Front::Unknown(Cause::Bits));
     };
     denied_rows_are_more();
     let moved_signs = places(alloc, signs, &more, kept_rows + 1)?;
     let moved_all = moved(alloc, multipliers, kept_rows, &moved_signs)?;
-    let standing = Trail {
-        path,
-        places: asked,
-        rows: first_rows(more, kept_rows),
-        visited,
-        occurrences,
-        search,
-    };
-    Ok(Front::Dropped(standing, moved_all))
+    more.truncate(kept_rows);
+    trail.rows = more;
+    Ok(Front::Dropped(moved_all))
 }

@@ -17,7 +17,7 @@ use crate::answer_rows::{AnswerRows, Both, rows_of_answers};
 use crate::clashes::clash;
 use crate::known_comparisons::{Known, Recalled, make_known, recall};
 use crate::moved_multipliers::is_same_row;
-use crate::trail::{Trail, Way, further, is_comparison, knowing};
+use crate::trail::{Trail, Way, further, is_comparison, note};
 use goal_answers::Cause;
 use heylo_formula::Goal;
 use linear_form::{Atom, Place, Taken, asks_on, repeated_rows_stand};
@@ -26,65 +26,65 @@ use std::alloc::{AllocError, Global};
 
 /// What the path says of its next question.
 #[derive(Drop)]
-pub enum Repeat<'a> {
-    /// It may be new: the trail as it was, and the question.
-    New(Trail<'a>, Atom),
-    /// The path has answered it by yes: the trail with this answer.
-    Yes(Trail<'a>),
-    /// The path has answered it by no: the trail with this answer, and the multipliers that a certificate takes at the other one.
-    No(Trail<'a>, Vec<(u32, u64)>),
+pub enum Repeat {
+    /// It may be new: the trail is as it was.
+    New(Atom),
+    /// The path has answered it by yes: the trail has this answer.
+    Yes,
+    /// The path has answered it by no: the trail has this answer, and a certificate takes these multipliers at the other one.
+    No(Vec<(u32, u64)>),
     /// A number is too great.
     Unknown(Cause),
 }
 
 /// What a path says of its next question, which this evaluation asks. Want of memory is the one error.
-pub fn repeated<'a>(
+pub fn repeated(
     alloc: Global,
     goal: &Goal,
-    trail: Trail<'a>,
+    trail: &mut Trail<'_>,
     atom: Atom,
-    place: &Place<'a>,
-) -> Result<Repeat<'a>, AllocError>
-    requires path { IsPath (goal_of goal.now) (path_of trail.path.items) }
-    requires short { length trail.path.items + 1 + length goal.now.vars.items < 2 ^ 32 }
-    requires stands { Stands (goal_of goal.now) trail }
-    requires goes_on { GoesOn (goal_of goal.now) (path_of trail.path.items) (atom_of atom) }
-    requires on { IsOn (goal_of goal.now) (path_of trail.path.items) place.now }
-    ensures { IfOk result (λ r. IsRepeat (goal_of goal.now) (path_of trail.entry.path.items) (atom_of atom) r) }
+    place: &Place<'_>,
+) -> Result<Repeat, AllocError>
+    requires path { IsPath (goal_of goal.now) (path_of trail.old.path.items) }
+    requires short { length trail.old.path.items + 1 + length goal.now.vars.items < 2 ^ 32 }
+    requires stands { Stands (goal_of goal.now) trail.old }
+    requires goes_on { GoesOn (goal_of goal.now) (path_of trail.old.path.items) (atom_of atom) }
+    requires on { IsOn (goal_of goal.now) (path_of trail.old.path.items) place.now }
+    ensures { IfOk result (λ r. IsRepeat (goal_of goal.now) (path_of trail.old.path.items) (atom_of atom) trail.new r) }
 {
     if !is_comparison(&atom) {
-        return Ok(Repeat::New(trail, atom));
+        return Ok(Repeat::New(atom));
     }
     let lasts = asks_on(place, trail.path.len());
     if let Some(recalled) = recall(alloc, &trail.visited, &trail.rows, &atom)? {
         if lasts {
             return again(alloc, trail, atom, recalled);
         }
-        return Ok(Repeat::New(trail, atom));
+        return Ok(Repeat::New(atom));
     }
     match rows_of_answers(alloc, goal, trail, atom)? {
-        Both::Rows(standing, question, rows) => {
+        Both::Rows(question, rows) => {
             if lasts {
-                compared(alloc, standing, question, rows)
+                compared(alloc, trail, question, rows)
             } else {
-                noted(alloc, standing, question, rows)
+                noted(alloc, trail, question, rows)
             }
         }
-        Both::Lost(standing, question) => Ok(Repeat::New(standing, question)),
+        Both::Lost(question) => Ok(Repeat::New(question)),
         Both::Unknown(cause) => Ok(Repeat::Unknown(cause)),
     }
 }
 
 /// Goes on by the answer that the path has given to the question before.
-fn again<'a>(
+fn again(
     alloc: Global,
-    trail: Trail<'a>,
+    trail: &mut Trail<'_>,
     atom: Atom,
     recalled: Recalled,
-) -> Result<Repeat<'a>, AllocError>
-    requires few { length trail.rows.items < 2 ^ 32 }
-    requires stands_in { StandsIn trail.rows.items recalled.row recalled.index }
-    ensures { (g : PlainGoal) (ps : List PlainTaken) → IsAsked g ps (atom_of atom) → StandsAt g ps trail.entry → IsRecalled g.types trail.entry.rows.items (atom_of atom) recalled → IfOk result (λ r. IsRepeat g ps (atom_of atom) r) }
+) -> Result<Repeat, AllocError>
+    requires few { length trail.old.rows.items < 2 ^ 32 }
+    requires stands_in { StandsIn trail.old.rows.items recalled.row recalled.index }
+    ensures { (g : PlainGoal) (ps : List PlainTaken) → IsAsked g ps (atom_of atom) → StandsAt g ps trail.old → IsRecalled g.types trail.old.rows.items (atom_of atom) recalled → IfOk result (λ r. IsRepeat g ps (atom_of atom) trail.new r) }
 {
     let Recalled { held, row, index } = recalled;
     if held {
@@ -95,14 +95,14 @@ fn again<'a>(
 }
 
 /// Whether one of the answers' rows stands on the path, so that it clashes with the other one.
-fn compared<'a>(
+fn compared(
     alloc: Global,
-    trail: Trail<'a>,
+    trail: &mut Trail<'_>,
     atom: Atom,
     rows: AnswerRows,
-) -> Result<Repeat<'a>, AllocError>
-    requires few { length trail.rows.items < 2 ^ 32 }
-    ensures { (g : PlainGoal) (ps : List PlainTaken) → IsAsked g ps (atom_of atom) → AreAnswerRows g ps (atom_of atom) trail.entry rows → IfOk result (λ r. IsRepeat g ps (atom_of atom) r) }
+) -> Result<Repeat, AllocError>
+    requires few { length trail.old.rows.items < 2 ^ 32 }
+    ensures { (g : PlainGoal) (ps : List PlainTaken) → IsAsked g ps (atom_of atom) → AreAnswerRows g ps (atom_of atom) trail.old rows → IfOk result (λ r. IsRepeat g ps (atom_of atom) trail.new r) }
 {
     if clash(&rows.yes, &rows.no) {
         if let Some(at) = find(&trail.visited, &trail.rows, &rows.yes) {
@@ -117,61 +117,61 @@ fn compared<'a>(
     noted(alloc, trail, atom, rows)
 }
 
-/// The trail as it was, with what is known of the question.
-fn noted<'a>(
+/// Notes what is known of the question.
+fn noted(
     alloc: Global,
-    trail: Trail<'a>,
+    trail: &mut Trail<'_>,
     atom: Atom,
     rows: AnswerRows,
-) -> Result<Repeat<'a>, AllocError>
-    ensures { (g : PlainGoal) (ps : List PlainTaken) → AreAnswerRows g ps (atom_of atom) trail.entry rows → IfOk result (λ r. IsRepeat g ps (atom_of atom) r) }
+) -> Result<Repeat, AllocError>
+    ensures { (g : PlainGoal) (ps : List PlainTaken) → AreAnswerRows g ps (atom_of atom) trail.old rows → IfOk result (λ r. IsRepeat g ps (atom_of atom) trail.new r) }
 {
     let index = trail.rows.len();
     match make_known(alloc, &atom, rows, index)? {
         Some(found) => {
-            let next = knowing(trail, found)?;
-            Ok(Repeat::New(next, atom))
+            note(trail, found)?;
+            Ok(Repeat::New(atom))
         }
-        None => Ok(Repeat::New(trail, atom)),
+        None => Ok(Repeat::New(atom)),
     }
 }
 
 /// Goes on by yes, whose row stands on the path at this index.
-fn answered_yes<'a>(
+fn answered_yes(
     alloc: Global,
-    trail: Trail<'a>,
+    trail: &mut Trail<'_>,
     atom: Atom,
     yes: Row,
     at: usize,
-) -> Result<Repeat<'a>, AllocError>
-    requires few { length trail.rows.items < 2 ^ 32 }
-    requires stands_in { StandsIn trail.rows.items yes at }
-    ensures { (g : PlainGoal) (ps : List PlainTaken) (no : PlainRow) → IsAsked g ps (atom_of atom) → AreAnswerRows g ps (atom_of atom) trail.entry (record { yes = yes; no = no }) → Clash yes no → IfOk result (λ r. IsRepeat g ps (atom_of atom) r) }
+) -> Result<Repeat, AllocError>
+    requires few { length trail.old.rows.items < 2 ^ 32 }
+    requires stands_in { StandsIn trail.old.rows.items yes at }
+    ensures { (g : PlainGoal) (ps : List PlainTaken) (no : PlainRow) → IsAsked g ps (atom_of atom) → AreAnswerRows g ps (atom_of atom) trail.old (record { yes = yes; no = no }) → Clash yes no → IfOk result (λ r. IsRepeat g ps (atom_of atom) trail.new r) }
 {
     repeated_rows_stand();
     let multipliers = pair(alloc, at, trail.rows.len())?;
     let answer = Taken { atom, held: true };
-    let next = further(trail, answer, Way::Closed(multipliers), yes)?;
-    Ok(Repeat::Yes(next))
+    further(trail, answer, Way::Closed(multipliers), yes)?;
+    Ok(Repeat::Yes)
 }
 
 /// Goes on by no, whose row stands on the path at this index.
-fn answered_no<'a>(
+fn answered_no(
     alloc: Global,
-    trail: Trail<'a>,
+    trail: &mut Trail<'_>,
     atom: Atom,
     no: Row,
     at: usize,
-) -> Result<Repeat<'a>, AllocError>
-    requires few { length trail.rows.items < 2 ^ 32 }
-    requires stands_in { StandsIn trail.rows.items no at }
-    ensures { (g : PlainGoal) (ps : List PlainTaken) (yes : PlainRow) → IsAsked g ps (atom_of atom) → AreAnswerRows g ps (atom_of atom) trail.entry (record { yes = yes; no = no }) → Clash no yes → IfOk result (λ r. IsRepeat g ps (atom_of atom) r) }
+) -> Result<Repeat, AllocError>
+    requires few { length trail.old.rows.items < 2 ^ 32 }
+    requires stands_in { StandsIn trail.old.rows.items no at }
+    ensures { (g : PlainGoal) (ps : List PlainTaken) (yes : PlainRow) → IsAsked g ps (atom_of atom) → AreAnswerRows g ps (atom_of atom) trail.old (record { yes = yes; no = no }) → Clash no yes → IfOk result (λ r. IsRepeat g ps (atom_of atom) trail.new r) }
 {
     repeated_rows_stand();
     let multipliers = pair(alloc, at, trail.rows.len())?;
     let answer = Taken { atom, held: false };
-    let next = further(trail, answer, Way::Closed(Vec::new(alloc)), no)?;
-    Ok(Repeat::No(next, multipliers))
+    further(trail, answer, Way::Closed(Vec::new(alloc)), no)?;
+    Ok(Repeat::No(multipliers))
 }
 
 /// An index at which the row stands, where it's that of one of these comparisons.

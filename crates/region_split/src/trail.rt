@@ -1,6 +1,6 @@
 //! The path of a walk, and what is kept along it.
 
-ghost use Rattle.std.specs.Prelude.{◌≡◌, ◌++◌, ◌∷◌, List, [], take, length, Bool, IfOk, IsTrue};
+ghost use Rattle.std.specs.Prelude.{◌≡◌, ◌<◌, ◌++◌, ◌∷◌, List, [], length, Bool, IfOk, IfSome, IsTrue};
 ghost use Rattle.heylo_formula.specs.Goals.{Goal as PlainGoal, goal_of};
 ghost use Rattle.linear_form.specs.PathRows.{answer_claims};
 ghost use Rattle.linear_form.specs.PlainPaths.{path_of, atom_of, taken_of};
@@ -8,7 +8,7 @@ ghost use Rattle.linear_form.specs.Query.{Taken as PlainTaken};
 ghost use Rattle.linear_form.specs.RowLists.{ArePathRows};
 ghost use Rattle.region_split.specs.internal.KnownComparisons.{AreKnown, IsKnownQuestion};
 ghost use Rattle.heylo_formula.specs.declared.types.Ty.{Ty as PlainTy};
-ghost use Rattle.region_split.specs.internal.Trails.{Comes, Stands, StandsAt, IsWay, IsBack, IsShorter, ComesBy};
+ghost use Rattle.region_split.specs.internal.Trails.{Comes, Stands, StandsAt, IsWay, IsBack, ComesBy};
 
 use crate::known_comparisons::Known;
 use heylo_formula::Goal;
@@ -44,15 +44,6 @@ pub struct Trail<'a> {
     pub search: Box<Search>,
 }
 
-/// What is left of a trail once its last answer is taken off.
-#[derive(Drop)]
-pub enum Retreat<'a> {
-    /// The trail that ends before the answer, the answer, and what was kept of its question.
-    To(Trail<'a>, Taken, Way<'a>),
-    /// There is no answer.
-    Start,
-}
-
 /// The trail before the first question. Want of memory is the one error.
 pub fn start<'a>(alloc: Global, goal: &'a Goal) -> Result<Trail<'a>, AllocError>
     ensures { IfOk result (λ t. Comes (goal_of goal.now) t × (path_of t.path.items ≡ [])) }
@@ -69,55 +60,48 @@ pub fn start<'a>(alloc: Global, goal: &'a Goal) -> Result<Trail<'a>, AllocError>
     })
 }
 
-/// The trail with an answer to a question, of which this is kept. The answer has no row yet. Want of memory is the one error.
-pub fn onward<'a>(
-    mut trail: Trail<'a>,
-    answer: Taken,
-    way: Way<'a>,
-) -> Result<Trail<'a>, AllocError>
-    ensures { (g : PlainGoal) → Stands g trail.entry → IsWay g (path_of trail.entry.path.items) (taken_of answer) way.entry → IfOk result (λ t. ComesBy g trail.entry answer t) }
+/// Takes an answer to a question, of which this is kept, onto the trail. The answer has no row yet. Want of memory is the one error.
+pub fn onward<'a>(trail: &mut Trail<'a>, answer: Taken, way: Way<'a>) -> Result<(), AllocError>
+    ensures { (g : PlainGoal) → Stands g trail.old → IsWay g (path_of trail.old.path.items) (taken_of answer) way.entry → IfOk result (λ _. ComesBy g trail.old answer trail.new) }
 {
     trail.path.push(answer)?;
     trail.places.push(way)?;
-    Ok(trail)
+    Ok(())
 }
 
-/// The trail with an answer to a question, of which this is kept, and with the answer's row. Want of memory is the one error.
+/// Takes an answer to a question, of which this is kept, onto the trail, and the answer's row. Want of memory is the one error.
 pub fn further<'a>(
-    mut trail: Trail<'a>,
+    trail: &mut Trail<'a>,
     answer: Taken,
     way: Way<'a>,
     row: Row,
-) -> Result<Trail<'a>, AllocError>
-    ensures { (g : PlainGoal) (ps : List PlainTaken) → Stands g trail.entry → ps ≡ path_of trail.entry.path.items ++ (taken_of answer ∷ []) → IsWay g (path_of trail.entry.path.items) (taken_of answer) way.entry → ArePathRows g ps (trail.entry.rows.items ++ (row ∷ [])) → IfOk result (λ t. StandsAt g ps t) }
+) -> Result<(), AllocError>
+    ensures { (g : PlainGoal) (ps : List PlainTaken) → Stands g trail.old → ps ≡ path_of trail.old.path.items ++ (taken_of answer ∷ []) → IsWay g (path_of trail.old.path.items) (taken_of answer) way.entry → ArePathRows g ps (trail.old.rows.items ++ (row ∷ [])) → IfOk result (λ _. StandsAt g ps trail.new) }
 {
     let count = trail.rows.len();
     trail.path.push(answer)?;
     trail.places.push(way)?;
     trail.rows.push(row)?;
-    let mut occurrences = trail.occurrences;
-    occurrences.note(&trail.rows, count);
-    trail.occurrences = occurrences;
-    Ok(trail)
+    trail.occurrences.note(&trail.rows, count);
+    Ok(())
 }
 
-/// The trail with what is known of its next question. Want of memory is the one error.
-pub fn knowing<'a>(mut trail: Trail<'a>, known: Known) -> Result<Trail<'a>, AllocError>
-    ensures { (g : PlainGoal) → Stands g trail.entry → IsKnownQuestion g.types known → IfOk result (λ t. StandsAt g (path_of trail.entry.path.items) t) }
+/// Notes on the trail what is known of its next question. Want of memory is the one error.
+pub fn note(trail: &mut Trail<'_>, known: Known) -> Result<(), AllocError>
+    ensures { (g : PlainGoal) → Stands g trail.old → IsKnownQuestion g.types known → IfOk result (λ _. StandsAt g (path_of trail.old.path.items) trail.new) }
 {
-    trail.visited = forgotten(trail.visited, known.index);
+    forget(&mut trail.visited, known.index);
     trail.visited.push(known)?;
-    Ok(trail)
+    Ok(())
 }
 
-/// The comparisons without the last one, where its row has this index or a greater one.
-fn forgotten(mut visited: Vec<Known>, index: usize) -> Vec<Known>
-    ensures { (types : List PlainTy) → AreKnown types visited.items → AreKnown types result.items }
+/// Takes off the last one of the comparisons, where its row has this index or a greater one.
+fn forget(visited: &mut Vec<Known>, index: usize)
+    ensures { (types : List PlainTy) → AreKnown types visited.old.items → AreKnown types visited.new.items }
 {
-    if is_last_from(&visited, index) {
+    if is_last_from(visited, index) {
         visited.pop();
     }
-    visited
 }
 
 /// Whether the row of the last one of these comparisons has this index or a greater one.
@@ -148,29 +132,21 @@ fn row_count(atom: &Atom) -> usize
     }
 }
 
-/// Takes off the last answer, with its row, and forgets what was found of it.
-pub fn back<'a>(mut trail: Trail<'a>) -> Retreat<'a>
-    ensures back { (g : PlainGoal) → Stands g trail.entry → IsBack g trail.entry result }
-    ensures shorter { IsShorter trail.entry result }
+/// Takes off the last answer, with its row, and forgets what was found of it. Gives the answer and what was kept of its question.
+pub fn back<'a>(trail: &mut Trail<'a>) -> Option<(Taken, Way<'a>)>
+    ensures back { (g : PlainGoal) → Stands g trail.old → IsBack g trail.old trail.new result }
+    ensures shorter { IfSome result (λ _. length trail.new.path.items < length trail.old.path.items) }
 {
     let Some(answer) = trail.path.pop() else {
-        return Retreat::Start;
+        return None;
     };
     let Some(way) = trail.places.pop() else {
-        return Retreat::Start;
+        return None;
     };
     let left = trail.rows.len().saturating_sub(row_count(&answer.atom));
     trail.rows.truncate(left);
     trail.occurrences.truncate(left);
     trail.search.truncate(left);
-    trail.visited = forgotten(trail.visited, left + 1);
-    Retreat::To(trail, answer, way)
-}
-
-/// The first rows alone, as many as these.
-pub fn first_rows(mut rows: Vec<Row>, count: usize) -> Vec<Row>
-    ensures { result.items ≡ take count rows.items }
-{
-    rows.truncate(count);
-    rows
+    forget(&mut trail.visited, left + 1);
+    Some((answer, way))
 }

@@ -1,6 +1,6 @@
 //! The walk through the questions of a goal.
 
-ghost use Rattle.std.specs.Prelude.{◌≡◌, ◌<◌, ◌≤◌, List, [], length, IfOk, Some, None, false};
+ghost use Rattle.std.specs.Prelude.{◌≡◌, ◌<◌, ◌≤◌, List, [], length, IfOk, None, false};
 ghost use Rattle.heylo_formula.specs.Goals.{Goal as PlainGoal, goal_of};
 ghost use Rattle.linear_form.specs.PlainPaths.{path_of};
 ghost use Rattle.linear_form.specs.Query.{Taken as PlainTaken};
@@ -16,7 +16,7 @@ use crate::descent::deeper;
 use crate::findings::Found;
 use crate::front::{End, Front, look};
 use crate::growth::leaf;
-use crate::trail::{Trail, first_rows, start};
+use crate::trail::{Trail, start};
 use goal_answers::{Cause, Decision, Tree};
 use heylo_formula::Goal;
 use linear_form::{Atom, Place, RowList, with_denied_goal};
@@ -39,9 +39,9 @@ pub struct Walk<'a> {
 #[derive(Drop)]
 pub enum Step<'a> {
     /// The walk goes on: it comes to a front.
-    On(Walk<'a>),
+    On,
     /// The walk goes on: it stands at a front that is kept, with its question and the evaluation that asks it.
-    Asks(Walk<'a>, Atom, Place<'a>),
+    Asks(Atom, Place<'a>),
     /// The goal is decided.
     Done(Decision),
 }
@@ -53,64 +53,37 @@ pub fn walked(alloc: Global, goal: &Goal) -> Result<Decision, AllocError>
     requires linear { nonlinear_product (goal_of goal.now) ≡ None }
     ensures { IfOk result (λ d. IsDecision (goal_of goal.now) d) }
 {
-    let mut step = Step::On(Walk {
+    let mut walk = Walk {
         trail: start(alloc, goal)?,
         trees: Vec::new(alloc),
         count: 0,
         found: Found::Nothing,
-    });
+    };
+    let mut step = Step::On;
     'walk: loop {
         match step {
-            Step::On(walk) => step = visit(alloc, goal, walk)?,
-            Step::Asks(walk, atom, place) => step = deeper(alloc, goal, walk, atom, place)?,
+            Step::On => step = visit(alloc, goal, &mut walk)?,
+            Step::Asks(atom, place) => step = deeper(alloc, goal, &mut walk, atom, place)?,
             Step::Done(decision) => return Ok(decision),
         }
     }
 }
 
 /// Looks at the front that the walk comes to, and goes on to the next one.
-fn visit<'a>(alloc: Global, goal: &'a Goal, walk: Walk<'a>) -> Result<Step<'a>, AllocError>
+fn visit<'a>(alloc: Global, goal: &'a Goal, walk: &mut Walk<'a>) -> Result<Step<'a>, AllocError>
     requires typed { IsTypedGoal (goal_of goal.now) }
     requires short { AreShort (goal_of goal.now) }
     requires linear { nonlinear_product (goal_of goal.now) ≡ None }
-    requires comes { IsWalk (goal_of goal.now) walk }
-    ensures { IfOk result (λ s. IsStep (goal_of goal.now) (path_of walk.entry.trail.path.items) s) }
+    requires comes { IsWalk (goal_of goal.now) walk.old }
+    ensures { IfOk result (λ s. IsStep (goal_of goal.now) (path_of walk.old.trail.path.items) walk.new s) }
 {
-    let Walk {
-        trail,
-        trees,
-        count,
-        found,
-    } = walk;
-    match look(alloc, goal, trail)? {
-        Front::Dropped(trail, multipliers) => {
-            let tree = leaf(Tree::Farkas(multipliers), trail.path.len());
-            let next = Walk {
-                trail,
-                trees,
-                count,
-                found,
-            };
-            finish(alloc, next, tree)
+    match look(alloc, goal, &mut walk.trail)? {
+        Front::Dropped(multipliers) => {
+            let tree = leaf(Tree::Farkas(multipliers), walk.trail.path.len());
+            finish(alloc, walk, tree)
         }
-        Front::Question(trail, atom, place) => {
-            let next = Walk {
-                trail,
-                trees,
-                count,
-                found,
-            };
-            deeper(alloc, goal, next, atom, place)
-        }
-        Front::End(trail, ends) => {
-            let next = Walk {
-                trail,
-                trees,
-                count,
-                found,
-            };
-            end(alloc, goal, next, ends)
-        }
+        Front::Question(atom, place) => deeper(alloc, goal, walk, atom, place),
+        Front::End(ends) => end(alloc, goal, walk, ends),
         Front::Unknown(cause) => Ok(Step::Done(Decision::Unknown(cause))),
     }
 }
@@ -119,15 +92,15 @@ fn visit<'a>(alloc: Global, goal: &'a Goal, walk: Walk<'a>) -> Result<Step<'a>, 
 pub fn end<'a>(
     alloc: Global,
     goal: &'a Goal,
-    walk: Walk<'a>,
+    walk: &mut Walk<'a>,
     ends: End,
 ) -> Result<Step<'a>, AllocError>
     requires typed { IsTypedGoal (goal_of goal.now) }
     requires short { AreShort (goal_of goal.now) }
     requires linear { nonlinear_product (goal_of goal.now) ≡ None }
-    requires stands { IsStandingWalk (goal_of goal.now) walk }
-    requires at_end { IsEndOf (goal_of goal.now) (path_of walk.trail.path.items) ends }
-    ensures { IfOk result (λ s. IsStep (goal_of goal.now) (path_of walk.entry.trail.path.items) s) }
+    requires stands { IsStandingWalk (goal_of goal.now) walk.old }
+    requires at_end { IsEndOf (goal_of goal.now) (path_of walk.old.trail.path.items) ends }
+    ensures { IfOk result (λ s. IsStep (goal_of goal.now) (path_of walk.old.trail.path.items) walk.new s) }
 {
     if walk.count >= MOST_CELLS {
         return Ok(Step::Done(Decision::Unknown(Cause::Cells(MOST_CELLS + 1))));
@@ -135,98 +108,70 @@ pub fn end<'a>(
     if !ends.plain {
         return denied_end(alloc, goal, walk, ends);
     }
-    let Walk {
-        trail,
-        trees,
-        count,
-        found,
-    } = walk;
-    let tree = leaf(Tree::Plain, trail.path.len());
-    let next = Walk {
-        trail,
-        trees,
-        count: count + 1,
-        found,
-    };
-    finish(alloc, next, tree)
+    let tree = leaf(Tree::Plain, walk.trail.path.len());
+    walk.count += 1;
+    finish(alloc, walk, tree)
 }
 
 /// Looks at a cell that isn't plain.
 fn denied_end<'a>(
     alloc: Global,
     goal: &'a Goal,
-    walk: Walk<'a>,
+    walk: &mut Walk<'a>,
     ends: End,
 ) -> Result<Step<'a>, AllocError>
     requires typed { IsTypedGoal (goal_of goal.now) }
     requires short { AreShort (goal_of goal.now) }
     requires linear { nonlinear_product (goal_of goal.now) ≡ None }
-    requires stands { IsStandingWalk (goal_of goal.now) walk }
-    requires at_end { IsEndOf (goal_of goal.now) (path_of walk.trail.path.items) ends }
+    requires stands { IsStandingWalk (goal_of goal.now) walk.old }
+    requires at_end { IsEndOf (goal_of goal.now) (path_of walk.old.trail.path.items) ends }
     requires not_plain { ends.plain ≡ false }
-    requires few { walk.count < 4096 }
-    ensures { IfOk result (λ s. IsStep (goal_of goal.now) (path_of walk.entry.trail.path.items) s) }
+    requires few { walk.old.count < 4096 }
+    ensures { IfOk result (λ s. IsStep (goal_of goal.now) (path_of walk.old.trail.path.items) walk.new s) }
 {
-    let Walk {
-        trail,
-        trees,
-        count,
-        found,
-    } = walk;
-    let Trail {
-        path,
-        places,
+    let found = std::mem::replace(&mut walk.found, Found::Nothing);
+    let trail = &mut walk.trail;
+    let kept = trail.rows.len();
+    let rows = std::mem::replace(&mut trail.rows, Vec::new(alloc));
+    let RowList::Rows(mut list) = with_denied_goal(
+        alloc,
+        goal,
+        &trail.path,
+        &ends.stated,
+        &ends.found,
         rows,
-        visited,
-        occurrences,
-        mut search,
-    } = trail;
-    let kept = rows.len();
-    let RowList::Rows(list) = with_denied_goal(alloc, goal, &path, &ends.stated, &ends.found, rows)?
+    )?
     else {
         return Ok(Step::Done(Decision::Unknown(Cause::Bits)));
     };
-    let cell = judge(alloc, goal, &path, &list, kept, &ends, found, &mut search)?;
-    let trail = Trail {
-        path,
-        places,
-        rows: first_rows(list, kept),
-        visited,
-        occurrences,
-        search,
-    };
+    let search = &mut trail.search;
+    let cell = judge(alloc, goal, &trail.path, &list, kept, &ends, found, search)?;
+    list.truncate(kept);
+    trail.rows = list;
     match cell {
         Cell::Judged(found, tree) => {
-            let next = Walk {
-                trail,
-                trees,
-                count: count + 1,
-                found,
-            };
-            finish(alloc, next, tree)
+            walk.count += 1;
+            walk.found = found;
+            finish(alloc, walk, tree)
         }
         Cell::Unknown(cause) => Ok(Step::Done(Decision::Unknown(cause))),
     }
 }
 
 /// Goes up from a finished path, whose tree this is, and on to the next one.
-fn finish<'a>(alloc: Global, walk: Walk<'a>, tree: Option<Tree>) -> Result<Step<'a>, AllocError>
-    ensures { (g : PlainGoal) → nonlinear_product g ≡ None → IsFinishedWalk g walk.entry tree → IfOk result (λ s. IsStep g (path_of walk.entry.trail.path.items) s) }
+fn finish<'a>(
+    alloc: Global,
+    walk: &mut Walk<'a>,
+    tree: Option<Tree>,
+) -> Result<Step<'a>, AllocError>
+    ensures { (g : PlainGoal) → nonlinear_product g ≡ None → IsFinishedWalk g walk.old tree → IfOk result (λ s. IsStep g (path_of walk.old.trail.path.items) walk.new s) }
 {
-    let Walk {
-        trail,
-        trees,
-        count,
-        found,
-    } = walk;
-    match climb(alloc, trail, trees, tree)? {
-        Up::Next(trail, trees) => Ok(Step::On(Walk {
-            trail,
-            trees,
-            count,
-            found,
-        })),
-        Up::Whole(tree) => Ok(Step::Done(decided(found, tree))),
+    match climb(alloc, &mut walk.trail, &mut walk.trees, tree)? {
+        Up::Next => Ok(Step::On),
+        Up::Whole(tree) => {
+            let found = std::mem::replace(&mut walk.found, Found::Nothing);
+            Ok(Step::Done(decided(found, tree)))
+        }
     }
 }
 

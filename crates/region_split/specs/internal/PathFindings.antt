@@ -29,6 +29,7 @@ use Rattle.region_split.specs.declared.solver.Settled.{Settled}
 use Rattle.region_split.specs.declared.solver.Settled.TheVariants as D
 use Rattle.linear_form.specs.Places.{IsOn}
 use Rattle.region_split.specs.internal.Trails.{StandsAt, IsDroppedBy}
+use Rattle.region_split.specs.declared.trail.Trail.{Trail}
 use Rattle.region_split.specs.declared.front.End as E
 use Rattle.region_split.specs.declared.front.Front.{Front}
 use Rattle.region_split.specs.declared.front.Front.TheVariants.{Dropped, Question, End, Unknown}
@@ -92,8 +93,8 @@ pub record IsEndOf (g : Goal) (ps : List Taken) (e : E.End) : Type 0 where
   pub is_end : IsEnd g ps e.plain
   pub values : Answers (K.TheVariants.End e.stated e.found) (end_at g ps)
 
-abbrev pub IsSeen : Goal → List Taken → Front → Type 0
-IsSeen g ps (Dropped t ms) = StandsAt g ps t × IsDroppedBy g ps ms.items
-IsSeen g ps (Question t q p) = StandsAt g ps t × (GoesOn g ps (atom_of q) × IsOn g ps p)
-IsSeen g ps (End t e) = StandsAt g ps t × IsEndOf g ps e
-IsSeen g ps (Unknown cause) = EndsWalk g ps false cause
+abbrev pub IsSeen : Goal → List Taken → Trail → Front → Type 0
+IsSeen g ps t (Dropped ms) = StandsAt g ps t × IsDroppedBy g ps ms.items
+IsSeen g ps t (Question q p) = StandsAt g ps t × (GoesOn g ps (atom_of q) × IsOn g ps p)
+IsSeen g ps t (End e) = StandsAt g ps t × IsEndOf g ps e
+IsSeen g ps t (Unknown cause) = EndsWalk g ps false cause

@@ -213,9 +213,9 @@ pub record IsNextFront (g : Goal) (ps : List Taken) (all : List (List Taken)) (p
   pub stands : HasBefore g path all trees
   pub less : left_of g path < left_of g ps
 
-abbrev pub IsUp : Goal → List Taken → List (List Taken) → Up → Type 0
-IsUp g ps all (Next t trees) = Comes g t × IsNextFront g ps all (path_of t.path.items) trees.items
-IsUp g ps all (Whole tree) = IsBranch g [] all tree
+abbrev pub IsUp : Goal → List Taken → List (List Taken) → Trail → List (Option T.Tree) → Up → Type 0
+IsUp g ps all t trees Next = Comes g t × IsNextFront g ps all (path_of t.path.items) trees
+IsUp g ps all t trees (Whole tree) = IsBranch g [] all tree
 
 -- Where a way up from a path has come to: all these cells lie up to the branch at which the trail stands now, and no more is left to
 -- its right.
@@ -262,22 +262,22 @@ pub record IsAsking (g : Goal) (w : Walk) (q : A.Atom) (p : Place) : Type 0 wher
   pub on : IsOn g (path_of w.trail.path.items) p
 
 -- A step after which the walk has less before it than this.
-abbrev pub IsBelow : Goal → ℕ → Step → Type 0
-IsBelow g n (On w) = IsWalk g w × (left_of g (path_of w.trail.path.items) < n)
-IsBelow g n (Asks w q p) = IsAsking g w q p × (left_of g (path_of w.trail.path.items) < n)
-IsBelow g n (Done d) = IsDecision g d
+abbrev pub IsBelow : Goal → ℕ → Walk → Step → Type 0
+IsBelow g n w On = IsWalk g w × (left_of g (path_of w.trail.path.items) < n)
+IsBelow g n w (Asks q p) = IsAsking g w q p × (left_of g (path_of w.trail.path.items) < n)
+IsBelow g n w (Done d) = IsDecision g d
 
-abbrev pub IsStep : Goal → List Taken → Step → Type 0
-IsStep g ps s = IsBelow g (left_of g ps) s
+abbrev pub IsStep : Goal → List Taken → Walk → Step → Type 0
+IsStep g ps w s = IsBelow g (left_of g ps) w s
 
 -- Where a step has led.
-abbrev pub IsAt : Goal → Step → Type 0
-IsAt g (On w) = IsWalk g w
-IsAt g (Asks w q p) = IsAsking g w q p
-IsAt g (Done d) = IsDecision g d
+abbrev pub IsAt : Goal → Walk → Step → Type 0
+IsAt g w On = IsWalk g w
+IsAt g w (Asks q p) = IsAsking g w q p
+IsAt g w (Done d) = IsDecision g d
 
 -- How much the walk has before it after a step.
-abbrev pub left_after : Goal → Step → ℕ
-left_after g (On w) = left_of g (path_of w.trail.path.items) + 1
-left_after g (Asks w q p) = left_of g (path_of w.trail.path.items) + 1
-left_after g (Done d) = 0
+abbrev pub left_after : Goal → Walk → Step → ℕ
+left_after g w On = left_of g (path_of w.trail.path.items) + 1
+left_after g w (Asks q p) = left_of g (path_of w.trail.path.items) + 1
+left_after g w (Done d) = 0

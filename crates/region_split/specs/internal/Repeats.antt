@@ -33,9 +33,9 @@ pub record LacksAnswerRow (g : Goal) (path : List T.Taken) (answer : T.Taken) (p
   pub same_path : path_after ≡ path
   pub no_rows : all_tightened (types_in g.types) (path_claims (path_of path ++ (taken_of answer ∷ []))) ≡ None
 
-abbrev pub IsRowAnswer : Goal → List T.Taken → List Row → T.Taken → Answered → Type 0
-IsRowAnswer g path rows answer (A.Row p rs q r) = (q ≡ answer.atom) × HasAnswerRow g path rows answer p.items rs.items r
-IsRowAnswer g path rows answer (A.Bits p q) = (q ≡ answer.atom) × LacksAnswerRow g path answer p.items
+abbrev pub IsRowAnswer : Goal → List T.Taken → List Row → T.Taken → List T.Taken → List Row → Answered → Type 0
+IsRowAnswer g path rows answer path_after rows_after (A.Row q r) = (q ≡ answer.atom) × HasAnswerRow g path rows answer path_after rows_after r
+IsRowAnswer g path rows answer path_after rows_after (A.Bits q) = (q ≡ answer.atom) × LacksAnswerRow g path answer path_after
 
 -- The trail stands at the path, and these are the rows of the two answers to its question.
 pub record AreAnswerRows (g : Goal) (ps : List Taken) (q : Atom) (t : Trail) (rows : AnswerRows) : Type 0 where
@@ -43,10 +43,10 @@ pub record AreAnswerRows (g : Goal) (ps : List Taken) (q : Atom) (t : Trail) (ro
   pub yes : ArePathRows g (onto ps q true) (t.rows.items ++ (rows.yes ∷ []))
   pub no : ArePathRows g (onto ps q false) (t.rows.items ++ (rows.no ∷ []))
 
-abbrev pub IsBoth : Goal → List Taken → Atom → Both → Type 0
-IsBoth g ps q (B.Rows t a rows) = (atom_of a ≡ q) × AreAnswerRows g ps q t rows
-IsBoth g ps q (B.Lost t a) = (atom_of a ≡ q) × StandsAt g ps t
-IsBoth g ps q (B.Unknown cause) = EndsWalk g ps false cause
+abbrev pub IsBoth : Goal → List Taken → Atom → Trail → Both → Type 0
+IsBoth g ps q t (B.Rows a rows) = (atom_of a ≡ q) × AreAnswerRows g ps q t rows
+IsBoth g ps q t (B.Lost a) = (atom_of a ≡ q) × StandsAt g ps t
+IsBoth g ps q t (B.Unknown cause) = EndsWalk g ps false cause
 
 -- A question of a front that is kept, and with each answer the path is at no end.
 pub record IsAsked (g : Goal) (ps : List Taken) (q : Atom) : Type 0 where
@@ -55,8 +55,8 @@ pub record IsAsked (g : Goal) (ps : List Taken) (q : Atom) : Type 0 where
   pub lasts_no : IsNoEnd g (onto ps q false)
 
 -- The question may be new; or with one of its answers the path is kept and with the other one it's dropped; or the walk ends.
-abbrev pub IsRepeat : Goal → List Taken → Atom → Repeat → Type 0
-IsRepeat g ps q (New t a) = (atom_of a ≡ q) × StandsAt g ps t
-IsRepeat g ps q (Yes t) = StandsAt g (onto ps q true) t × IsKeptPath g (onto ps q true)
-IsRepeat g ps q (No t ms) = StandsAt g (onto ps q false) t × (IsKeptPath g (onto ps q false) × IsDroppedBy g (onto ps q true) ms.items)
-IsRepeat g ps q (Unknown cause) = EndsWalk g ps false cause
+abbrev pub IsRepeat : Goal → List Taken → Atom → Trail → Repeat → Type 0
+IsRepeat g ps q t (New a) = (atom_of a ≡ q) × StandsAt g ps t
+IsRepeat g ps q t Yes = StandsAt g (onto ps q true) t × IsKeptPath g (onto ps q true)
+IsRepeat g ps q t (No ms) = StandsAt g (onto ps q false) t × (IsKeptPath g (onto ps q false) × IsDroppedBy g (onto ps q true) ms.items)
+IsRepeat g ps q t (Unknown cause) = EndsWalk g ps false cause

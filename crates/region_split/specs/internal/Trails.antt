@@ -1,6 +1,6 @@
 -- The trail of a walk: along its path stand what is kept of each answer, the rows of the answers, where the variables occur in these,
 -- what was found of them, and what is known of the comparisons.
-use Rattle.std.specs.Prelude.{◌≡◌, ℕ, ◌<◌, List, [], ◌∷◌, ◌++◌, length, true, false}
+use Rattle.std.specs.Prelude.{◌≡◌, ℕ, List, [], ◌∷◌, ◌++◌, length, true, false, Option, Some, None}
 use Rattle.heylo_formula.specs.Goals.{Goal}
 use Rattle.linear_form.specs.Query.{Taken, onto}
 use Rattle.linear_form.specs.Cells.{IsDropped}
@@ -17,8 +17,6 @@ use Rattle.region_split.specs.internal.KnownComparisons.{AreKnown}
 use Rattle.region_split.specs.declared.trail.Way.{Way}
 use Rattle.region_split.specs.declared.trail.Way.TheVariants.{Open, Closed}
 use Rattle.region_split.specs.declared.trail.Trail.{Trail}
-use Rattle.region_split.specs.declared.trail.Retreat.{Retreat}
-use Rattle.region_split.specs.declared.trail.Retreat.TheVariants.{To, Start}
 
 -- The path is dropped, and a certificate takes these multipliers there.
 pub record IsDroppedBy (g : Goal) (ps : List Taken) (ms : List (ℕ × ℕ)) : Type 0 where
@@ -73,11 +71,7 @@ pub record StoodBefore (g : Goal) (t : Trail) (before : Trail) (answer : T.Taken
   pub asked : IsWay g (path_of before.path.items) (taken_of answer) way
   pub path : path_of t.path.items ≡ path_of before.path.items ++ (taken_of answer ∷ [])
 
-abbrev pub IsBack : Goal → Trail → Retreat → Type 0
-IsBack g t (To before a way) = StoodBefore g t before a way
-IsBack g t Start = path_of t.path.items ≡ []
-
--- There is one answer less.
-abbrev pub IsShorter : Trail → Retreat → Type 0
-IsShorter t (To before a way) = length before.path.items < length t.path.items
-IsShorter t Start = Unit {0}
+-- What is taken off the trail: an answer, and what was kept of it; nothing where there is none.
+abbrev pub IsBack : Goal → Trail → Trail → Option (T.Taken × Way) → Type 0
+IsBack g t before (Some p) = StoodBefore g t before p.0 p.1
+IsBack g t before None = path_of t.path.items ≡ []
