@@ -30,7 +30,7 @@ use Rattle.region_split.specs.internal.PathFindings.{AreRowsAt, EndsWalk, IsEnd,
 use Rattle.region_split.specs.declared.front.End as E
 use Rattle.region_split.proofs.Trails.{starts_length}
 use Rattle.region_split.specs.internal.Trails.{Comes, ComesBy, Stands, StandsAt, IsDroppedBy}
-use Rattle.region_split.specs.internal.Progress.{EndsPiece, HoldsAt, AreShort, IsBroken, IsCellStand, IsClosed, IsGrown, IsLeaf, KnowsPoint, IsBranch, HasBefore, IsAfter, HasRisen, IsNextFront, IsFound, HasCome, IsWalk, IsStandingWalk, IsFinishedWalk, IsBelow, IsStep, IsAt, IsJudgedCell, rest_of, left_of, left_after}
+use Rattle.region_split.specs.internal.Progress.{EndsPiece, HoldsAt, AreShort, IsBroken, IsCellStand, IsClosed, IsGrown, IsLeaf, KnowsPoint, IsBranch, HasBefore, IsAfter, HasRisen, IsNextFront, IsFound, HasCome, IsWalk, IsStandingWalk, IsFinishedWalk, IsBelow, IsStep, IsJudgedCell, rest_of, left_of}
 use Rattle.region_split.specs.declared.findings.Found.{Found}
 use Rattle.region_split.specs.declared.trail.Trail.{Trail}
 use Rattle.region_split.specs.declared.walk.Walk.{Walk}
@@ -164,33 +164,17 @@ come_reached g ps w h = let c = h.counted in let f = h.few in reached g ps h.bef
 abbrev pub with_trail : Walk → Trail → Walk
 with_trail w t = record { trail = t; trees = w.trees; count = w.count; found = w.found }
 
-pub standing : (g : Goal) (w : Walk) (t : Trail) → IsWalk g w → StandsAt g (path_of w.trail.path.items) t → IsStandingWalk g (with_trail w t)
-standing g w t h s =
-    let i = h.come in
-    record {
-      stands = s.stands;
-      come = subst (λ ps. HasCome g ps (with_trail w t)) (sym s.path) (record {
-        before = i.before;
-        stands = i.stands;
-        found = i.found;
-        counted = i.counted;
-        few = i.few;
-      });
-    }
-
-pub standing_still : (g : Goal) (w : Walk) (t : Trail) → IsStandingWalk g w → StandsAt g (path_of w.trail.path.items) t → IsStandingWalk g (with_trail w t)
-standing_still g w t h s =
-    let i = h.come in
-    record {
-      stands = s.stands;
-      come = subst (λ ps. HasCome g ps (with_trail w t)) (sym s.path) (record {
-        before = i.before;
-        stands = i.stands;
-        found = i.found;
-        counted = i.counted;
-        few = i.few;
-      });
-    }
+pub standing : (g : Goal) (w : Walk) (t : Trail) → HasCome g (path_of w.trail.path.items) w → StandsAt g (path_of w.trail.path.items) t → IsStandingWalk g (with_trail w t)
+standing g w t i s = record {
+  stands = s.stands;
+  come = subst (λ ps. HasCome g ps (with_trail w t)) (sym s.path) (record {
+    before = i.before;
+    stands = i.stands;
+    found = i.found;
+    counted = i.counted;
+    few = i.few;
+  });
+}
 
 -- the walk once its trail stands in the first branch
 pub standing_first : (g : Goal) (w : Walk) (t : Trail) (q : Atom) → IsStandingWalk g w → GoesOn g (path_of w.trail.path.items) q → StandsAt g (onto (path_of w.trail.path.items) q true) t → IsStandingWalk g (with_trail w t)
@@ -228,31 +212,21 @@ standing_second g w next q ms tree m h k s d t e r n f =
       });
     }
 
--- a step leads somewhere, and to less than before
-pub step_at : (g : Goal) (n : ℕ) (s : Step) → IsBelow g n s → IsAt g s
-step_at g n (Step.On w) h = h.0
-step_at g n (Step.Asks w q p) h = h.0
-step_at g n (Step.Done d) h = h
+-- a step below a number is below a greater one
+below_more : (g : Goal) (n m : ℕ) (w : Walk) (s : Step) → n ≤ m → IsBelow g n w s → IsBelow g m w s
+below_more g n m w Step.On l h = (h.0, let k = h.1 in omega (arith, k, l))
+below_more g n m w (Step.Asks q p) l h = (h.0, let k = h.1 in omega (arith, k, l))
+below_more g n m w (Step.Done d) l h = h
 
-pub step_less : (g : Goal) (n : ℕ) (s : Step) → IsBelow g n s → left_after g s < n + 1
-step_less g n (Step.On w) h = let l = h.1 in omega (arith, l)
-step_less g n (Step.Asks w q p) h = let l = h.1 in omega (arith, l)
-step_less g n (Step.Done d) h = omega arith
-
-below_more : (g : Goal) (n m : ℕ) (s : Step) → n ≤ m → IsBelow g n s → IsBelow g m s
-below_more g n m (Step.On w) l h = (h.0, let k = h.1 in omega (arith, k, l))
-below_more g n m (Step.Asks w q p) l h = (h.0, let k = h.1 in omega (arith, k, l))
-below_more g n m (Step.Done d) l h = h
-
-pub step_below : {E : Type 0} (g : Goal) (n m : ℕ) (r : Result Step E) → n ≤ m → IfOk r (λ s. IsBelow g n s) → IfOk r (λ s. IsBelow g m s)
-step_below g n m (Result.Ok s) l h = below_more g n m s l h
-step_below g n m (Result.Err e) l h = h
+pub step_below : {E : Type 0} (g : Goal) (n m : ℕ) (w : Walk) (r : Result Step E) → n ≤ m → IfOk r (λ s. IsBelow g n w s) → IfOk r (λ s. IsBelow g m w s)
+step_below g n m w (Result.Ok s) l h = below_more g n m w s l h
+step_below g n m w (Result.Err e) l h = h
 
 pub here : (g : Goal) (t : Trail) → Stands g t → StandsAt g (path_of t.path.items) t
 here g t s = record { stands = s; path = refl }
 
-pub step_from : {E : Type 0} (g : Goal) (ps qs : List Taken) (r : Result Step E) → qs ≡ ps → IfOk r (λ s. IsStep g qs s) → IfOk r (λ s. IsStep g ps s)
-step_from g ps qs r e h = subst (λ xs. IfOk r (λ s. IsStep g xs s)) e h
+pub step_from : {E : Type 0} (g : Goal) (ps qs : List Taken) (w : Walk) (r : Result Step E) → qs ≡ ps → IfOk r (λ s. IsStep g qs w s) → IfOk r (λ s. IsStep g ps w s)
+step_from g ps qs w r e h = subst (λ xs. IfOk r (λ s. IsStep g xs w s)) e h
 
 -- the cause of a front, and that of a cell
 pub front_ends : (g : Goal) (ps : List Taken) (w : Walk) (cause : Cause) → nonlinear_product g ≡ None → HasCome g ps w → EndsWalk g ps false cause → IsCause g cause

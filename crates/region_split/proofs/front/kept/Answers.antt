@@ -13,23 +13,23 @@ pub reached-requires-clause-path : goal.reached-requires-clause-path
 reached-requires-clause-path c = subst (λ xs. IsPath (goal_of c.args.goal.now) (path_of xs)) (sym c.deref.ensures.value) c.requires.path
 
 pub reached-requires-clause-places : goal.reached-requires-clause-places
-reached-requires-clause-places c = subst (λ xs. ArePlaces (goal_of c.args.goal.now) (path_of xs) c.deref-2.result.now) (sym c.deref.ensures.value) (subst (λ ys. ArePlaces (goal_of c.args.goal.now) (path_of c.args.trail.path.items) ys) (sym c.deref-2.ensures.value) c.requires.stands.places)
+reached-requires-clause-places c = subst (λ xs. ArePlaces (goal_of c.args.goal.now) (path_of xs) c.deref-2.result.now) (sym c.deref.ensures.value) (subst (λ ys. ArePlaces (goal_of c.args.goal.now) (path_of c.args.trail.now.path.items) ys) (sym c.deref-2.ensures.value) c.requires.stands.places)
 
 pub returns : goal.returns
 returns c k =
     let g = goal_of c.args.goal.now in
     let a = subst (λ xs. Answers c.in_ok-ask.field-0.ask (end_at g (path_of xs))) c.deref.ensures.value c.in_ok-ask.ensures.asked in
-    bits_there g (path_of c.args.trail.path.items) k (rw c.in-Bits.is at a)
+    bits_there g (path_of c.args.trail.now.path.items) k (rw c.in-Bits.is at a)
 
 pub returns-in-Decide : goal.returns-in-Decide
 returns-in-Decide c k =
     let g = goal_of c.args.goal.now in
     let a = subst (λ xs. Answers c.in_ok-ask.field-0.ask (end_at g (path_of xs))) c.deref.ensures.value c.in_ok-ask.ensures.asked in
     let o = subst (λ xs. IsOn g (path_of xs) c.in_ok-ask.field-0.place) c.deref.ensures.value c.in_ok-ask.ensures.on in
-    (here g c.args.trail c.requires.stands, (question_there g (path_of c.args.trail.path.items) c.in-Decide.atom k (rw c.in-Decide.is at a), o))
+    (here g c.args.trail.now c.requires.stands, (question_there g (path_of c.args.trail.now.path.items) c.in-Decide.atom k (rw c.in-Decide.is at a), o))
 
 pub returns-in-End : goal.returns-in-End
 returns-in-End c k =
     let g = goal_of c.args.goal.now in
     let a = subst (λ xs. Answers c.in_ok-ask.field-0.ask (end_at g (path_of xs))) c.deref.ensures.value c.in_ok-ask.ensures.asked in
-    (here g c.args.trail c.requires.stands, c.end_of.ensures (path_of c.args.trail.path.items) k (rw c.in-End.is at a))
+    (here g c.args.trail.now c.requires.stands, c.end_of.ensures (path_of c.args.trail.now.path.items) k (rw c.in-End.is at a))

@@ -13,7 +13,7 @@ returns-then-held c g ps a s r =
     let row = c.args.recalled.row in
     let own = subst (λ held. all_tightened (types_in g.types) (answer_claims q held) ≡ Some (row ∷ [])) c.if-held.true r.own in
     let others = subst (λ held. all_tightened (types_in g.types) (answer_claims q (not held)) ≡ Some (r.other ∷ [])) c.if-held.true r.others in
-    c.answered_yes.ensures g ps r.other a (are_answers g ps q c.args.trail row r.other s own others) r.clash
+    c.answered_yes.ensures g ps r.other a (are_answers g ps q c.args.trail.now row r.other s own others) r.clash
 
 pub returns-else-held : goal.returns-else-held
 returns-else-held c g ps a s r =
@@ -21,4 +21,4 @@ returns-else-held c g ps a s r =
     let row = c.args.recalled.row in
     let own = subst (λ held. all_tightened (types_in g.types) (answer_claims q held) ≡ Some (row ∷ [])) c.if-held.false r.own in
     let others = subst (λ held. all_tightened (types_in g.types) (answer_claims q (not held)) ≡ Some (r.other ∷ [])) c.if-held.false r.others in
-    c.answered_no.ensures g ps r.other a (are_answers g ps q c.args.trail r.other row s others own) r.clash
+    c.answered_no.ensures g ps r.other a (are_answers g ps q c.args.trail.now r.other row s others own) r.clash

@@ -11,8 +11,8 @@ use Rattle.region_split.proofs.repeats.repeated.Goals as goal
 
 pub again-requires-clause-few : goal.again-requires-clause-few
 again-requires-clause-few c =
-    let b = rows_few (goal_of c.args.goal.now) (path_of c.args.trail.path.items) c.args.trail.rows.items c.requires.stands.rows in
-    let e = length-map c.args.trail.path.items taken_of in
+    let b = rows_few (goal_of c.args.goal.now) (path_of c.args.trail.now.path.items) c.args.trail.now.rows.items c.requires.stands.rows in
+    let e = length-map c.args.trail.now.path.items taken_of in
     let s = c.requires.short in
     omega (arith, b, e, s)
 
@@ -26,11 +26,11 @@ again-requires-clause-stands_in c =
 pub returns-then-lasts : goal.returns-then-lasts
 returns-then-lasts c =
     let g = goal_of c.args.goal.now in
-    let ps = path_of c.args.trail.path.items in
+    let ps = path_of c.args.trail.now.path.items in
     let q = atom_of c.args.atom in
     let m = c.len.ensures in
-    let o = c.args.trail.path.ok.0 in
-    let e = length-map c.args.trail.path.items taken_of in
+    let o = c.args.trail.now.path.ok.0 in
+    let e = length-map c.args.trail.now.path.items taken_of in
     let n : length ps ≡ c.len.result = omega (arith, m, o, e) in
     let t = c.if-lasts.true in
     let f : IsAsked g ps q = record {
@@ -44,22 +44,22 @@ returns-then-lasts c =
 
 pub compared-requires : goal.compared-requires
 compared-requires c =
-    let a = rw c.in-Rows.is at c.in_ok-standing.ensures in
-    let b = rows_few (goal_of c.args.goal.now) (path_of c.in-Rows.standing.path.items) c.in-Rows.standing.rows.items a.1.at.stands.rows in
+    let a = rw c.in-Rows.is at c.in_ok-question.ensures in
+    let b = rows_few (goal_of c.args.goal.now) (path_of c.rows_of_answers.new.trail.path.items) c.rows_of_answers.new.trail.rows.items a.1.at.stands.rows in
     let d = ap length a.1.at.path in
-    let e = length-map c.args.trail.path.items taken_of in
+    let e = length-map c.args.trail.now.path.items taken_of in
     let s = c.requires.short in
     record { few = omega (arith, b, d, e, s) }
 
 pub returns-then-lasts-2 : goal.returns-then-lasts-2
 returns-then-lasts-2 c =
     let g = goal_of c.args.goal.now in
-    let ps = path_of c.args.trail.path.items in
+    let ps = path_of c.args.trail.now.path.items in
     let q = atom_of c.args.atom in
-    let a = rw c.in-Rows.is at c.in_ok-standing.ensures in
+    let a = rw c.in-Rows.is at c.in_ok-question.ensures in
     let m = c.len.ensures in
-    let o = c.args.trail.path.ok.0 in
-    let e = length-map c.args.trail.path.items taken_of in
+    let o = c.args.trail.now.path.ok.0 in
+    let e = length-map c.args.trail.now.path.items taken_of in
     let n : length ps ≡ c.len.result = omega (arith, m, o, e) in
     let t = c.if-lasts-2.true in
     let f : IsAsked g ps q = record {
@@ -67,13 +67,13 @@ returns-then-lasts-2 c =
       lasts_yes = c.asks_on-lasts.ensures g ps (taken q true) t n c.requires.on (question_path g ps q true c.requires.path c.requires.goes_on);
       lasts_no = c.asks_on-lasts.ensures g ps (taken q false) t n c.requires.on (question_path g ps q false c.requires.path c.requires.goes_on);
     } in
-    let h = c.compared.ensures g ps (subst (IsAsked g ps) (sym a.0) f) (subst (λ x. AreAnswerRows g ps x c.in-Rows.standing c.in-Rows.rows) (sym a.0) a.1) in
-    subst (λ x. IfOk c.compared.result (λ r. IsRepeat g ps x r)) a.0 h
+    let h = c.compared.ensures g ps (subst (IsAsked g ps) (sym a.0) f) (subst (λ x. AreAnswerRows g ps x c.rows_of_answers.new.trail c.in-Rows.rows) (sym a.0) a.1) in
+    subst (λ x. IfOk c.compared.result (λ r. IsRepeat g ps x c.compared.new.trail r)) a.0 h
 
 pub returns-else-lasts-2 : goal.returns-else-lasts-2
 returns-else-lasts-2 c =
     let g = goal_of c.args.goal.now in
-    let ps = path_of c.args.trail.path.items in
-    let a = rw c.in-Rows.is at c.in_ok-standing.ensures in
-    let h = c.noted.ensures g ps (subst (λ x. AreAnswerRows g ps x c.in-Rows.standing c.in-Rows.rows) (sym a.0) a.1) in
-    subst (λ x. IfOk c.noted.result (λ r. IsRepeat g ps x r)) a.0 h
+    let ps = path_of c.args.trail.now.path.items in
+    let a = rw c.in-Rows.is at c.in_ok-question.ensures in
+    let h = c.noted.ensures g ps (subst (λ x. AreAnswerRows g ps x c.rows_of_answers.new.trail c.in-Rows.rows) (sym a.0) a.1) in
+    subst (λ x. IfOk c.noted.result (λ r. IsRepeat g ps x c.noted.new.trail r)) a.0 h
