@@ -157,9 +157,6 @@ at_most_zero x h = go (leqʳ x zeroʳ) (is_zeroʳ x) refl refl
 zero_or_infinity : (a : Lin) (s : Env) → zeroʳ ≤ʳ at a s → Ends (next (is_below a false) (λ t. done (cond t q.zero None))) s (Is s (cond (is_zeroʳ (at a s)) zeroᵛ infinite))
 zero_or_infinity a s h = chosen a false s (λ t. cond t q.zero None) (Is s _) (value_cond _ q.zero None s ∙ ap₂ (λ t z. cond t z infinite) (at_most_zero (at a s) h) (zero_is s))
 
-nonnegative_at : (a : Lin) (s : Env) (v : Value) → finite (at a s) ≡ v → zeroᵛ ≤ᵛ v → zeroʳ ≤ʳ at a s
-nonnegative_at a s v e h = nonnegative_finite (at a s) (subst (λ z. zeroᵛ ≤ᵛ z) (sym e) h)
-
 co_validate_ends : (x : Linear) (s : Env) → zeroᵛ ≤ᵛ value_in x s → Ends (q.co_validate x) s (Is s (covalidateᵛ (value_in x s)))
 unfolding covalidateᵛ
 co_validate_ends (Some a) s h = zero_or_infinity a s (nonnegative_finite (at a s) h)

@@ -1,5 +1,5 @@
 -- Operators keep the terms of linear values growing and without zeros, and their numbers below the bound.
-use Rattle.std.proofs.Common.{◌≡◌, ℕ, List, [], ◌∷◌, refl, Bool, true, false, cond}
+use Rattle.std.proofs.Common.{◌≡◌, ℕ, [], ◌∷◌, refl, Bool, true, false, cond}
 use Rattle.std.specs.Prelude.{Some, None}
 use Rattle.heyvl_num.specs.Gcd.{gcd, gcd_steps}
 use Rattle.heyvl_num.specs.Rational.{Rational, ratio, zeroʳ, oneʳ}
@@ -9,14 +9,12 @@ use Rattle.heyvl_num.proofs.exported.Values.{is_zero-one}
 use Rattle.heylo_formula.specs.Formula.{Form}
 use Rattle.linear_values.specs.Lin.{Lin, Terms, constant, variable, plus, minus, scaled, is_sized, AreNormal, Linear}
 use Rattle.linear_rows.specs.Numbers.{fits}
-use Rattle.linear_form.specs.Query.{next, Taken}
+use Rattle.linear_form.specs.Query.{next}
 use Rattle.linear_form.specs.Query.Query.{done, bits}
 use Rattle.linear_form.specs.Questions as q
 use Rattle.linear_form.specs.Questions.{sized, is_below, evaluate, test}
 use Rattle.linear_form.specs.QuestionLaws.{EachResult}
 use Rattle.linear_values.specs.Kept.{IsKeptValue}
-use Rattle.linear_form.specs.internal.Run.{Evaluation, along}
-use Rattle.linear_form.proofs.Runs.{run_result}
 use Rattle.linear_form.proofs.EachResults.{each_next, each_after, each_both}
 use Rattle.linear_values.proofs.exported.KeptTerms.{of_two, plus_normal, scaled_normal, minus_normal}
 
@@ -133,6 +131,3 @@ form_kept (Form.embed g) = each_after (test g) _ IsKeptValue (λ t. of_two IsKep
 form_kept (Form.iverson g) = each_after (test g) _ IsKeptValue (λ t. of_two IsKeptValue t q.one q.zero one_kept zero_kept)
 form_kept (Form.select g a b) = each_after (test g) _ IsKeptValue (λ t. of_two (EachResult IsKeptValue) t (evaluate a) (evaluate b) (form_kept a) (form_kept b))
 form_kept (Form.bind up x name ty a) = tt
-
-pub kept_found : (ps : List Taken) (f : Form) (i : ℕ) (x : Linear) (j : ℕ) → along ps (evaluate f) i ≡ Evaluation.value x j → IsKeptValue x
-kept_found ps f i x j h = run_result ps (evaluate f) IsKeptValue i x j (form_kept f) h
