@@ -22,7 +22,7 @@ use Rattle.linear_form.specs.internal.Steps.{Steps}
 use Rattle.linear_values.specs.Kept.{IsKept}
 use Rattle.linear_values.specs.declared.lin.Lin as L
 use Rattle.linear_form.specs.declared.places.Frame.{Frame}
-use Rattle.linear_form.specs.declared.places.Place.{Place}
+use Rattle.linear_form.specs.declared.places.Evaluation as V
 use Rattle.linear_form.specs.declared.steps.Step as S
 use Rattle.linear_rows.specs.Terms.{is_narrow}
 use Rattle.linear_values.specs.Operator.{narrow_value}
@@ -82,8 +82,8 @@ pub whole_yields : (t : Query Linear) (o : Option ℤ) (n : ℤ) (x : Rational) 
 whole_yields t o n x a e h f g = subst (Yields t) (ap constant (sym f) ∙ sym g) (subst (MayGiveWhole t) e h)
 
 -- what comes of a value that is given at once
-pub left_yields : {E : Type 0} (r : Result S.Step E) (ps : List Taken) (p : Place) (t : Query Linear) (x : Lin) (g : Linear → Query places.Result) (fs : List Frame) (i w : ℕ) → Yields t x → IfOk r (Steps ps (through (g (Some x)) fs) i w p) → IfOk r (Steps ps (through (next (valued t) (of_number g)) fs) i w p)
+pub left_yields : {E : Type 0} (r : Result S.Step E) (ps : List Taken) (p : V.Evaluation) (t : Query Linear) (x : Lin) (g : Linear → Query places.Result) (fs : List Frame) (i w : ℕ) → Yields t x → IfOk r (Steps ps (through (g (Some x)) fs) i w p) → IfOk r (Steps ps (through (next (valued t) (of_number g)) fs) i w p)
 left_yields r ps p t x g fs i w h k = subst (λ t. IfOk r (Steps ps (through (next (valued t) (of_number g)) fs) i w p)) (sym h.asks_nothing) k
 
-pub step_yields : (s : S.Step) (ps : List Taken) (p : Place) (t : Query Linear) (x : Lin) (g : Linear → Query places.Result) (fs : List Frame) (i w : ℕ) → Yields t x → Steps ps (through (g (Some x)) fs) i w p s → Steps ps (through (next (valued t) (of_number g)) fs) i w p s
+pub step_yields : (s : S.Step) (ps : List Taken) (p : V.Evaluation) (t : Query Linear) (x : Lin) (g : Linear → Query places.Result) (fs : List Frame) (i w : ℕ) → Yields t x → Steps ps (through (g (Some x)) fs) i w p s → Steps ps (through (next (valued t) (of_number g)) fs) i w p s
 step_yields s ps p t x g fs i w h k = subst (λ t. Steps ps (through (next (valued t) (of_number g)) fs) i w p s) (sym h.asks_nothing) k

@@ -15,7 +15,7 @@ use Rattle.linear_form.specs.internal.Run.{Evaluation, along}
 use Rattle.linear_values.specs.Kept.{IsKept, IsKeptValue}
 use Rattle.linear_form.specs.internal.Places.{Result, resumed, through, frame_weight, frames_weight, AreKeptFrames}
 use Rattle.linear_form.specs.internal.Steps.{Steps}
-use Rattle.linear_form.specs.declared.places.Place.{Place}
+use Rattle.linear_form.specs.declared.places.Evaluation as V
 use Rattle.linear_form.specs.declared.steps.Step as S
 use Rattle.linear_form.specs.declared.places.Frame as W
 use Rattle.linear_form.specs.declared.places.Frame.{Frame}
@@ -97,7 +97,7 @@ handed_further x y all fs gs f r z h e g k n = record {
   less = let l = lighter fs gs f e in let m = h.less in omega (arith, l, m);
 }
 
-pub handed_over : {E : Type 0} (s : R.Result S.Step E) (ps : List Taken) (x y : Linear) (all fs : List Frame) (i j : ℕ) (p : Place) → IsHandedOn x all y fs → j ≡ i → IfOk s (Steps ps (through (done (Result.number y)) fs) j (frames_weight fs) p) → IfOk s (Steps ps (through (done (Result.number x)) all) i (frames_weight all) p)
+pub handed_over : {E : Type 0} (s : R.Result S.Step E) (ps : List Taken) (x y : Linear) (all fs : List Frame) (i j : ℕ) (p : V.Evaluation) → IsHandedOn x all y fs → j ≡ i → IfOk s (Steps ps (through (done (Result.number y)) fs) j (frames_weight fs) p) → IfOk s (Steps ps (through (done (Result.number x)) all) i (frames_weight all) p)
 handed_over s ps x y all fs i j p h e k = subst (λ q. IfOk s (Steps ps q i (frames_weight all) p)) h.left (subst (λ j. IfOk s (Steps ps (through (done (Result.number y)) fs) j (frames_weight all) p)) e (with_more s ps _ j (frames_weight fs) (frames_weight all) p h.less k))
 
 pub handed_last : (ps : List Taken) (x y : Linear) (all fs : List Frame) (i j : ℕ) → IsHandedOn x all y fs → j ≡ i → along ps (through (done (Result.number y)) fs) j ≡ Evaluation.bits → along ps (through (done (Result.number x)) all) i ≡ Evaluation.bits

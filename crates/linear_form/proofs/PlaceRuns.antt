@@ -1,28 +1,28 @@
--- Places on a path.
-use Rattle.std.proofs.Common.{◌≡◌, List, [], ◌∷◌, ◌++◌, sym, ap, ap₂, ◌∙◌, subst, arith}
+-- Places on a path: each stays on longer ones, and the first is before all questions.
+use Rattle.std.proofs.Common.{◌≡◌, List, [], ◌∷◌, ◌++◌, sym, ap, ◌∙◌, subst, arith}
 use Rattle.std.proofs.lemmas.List.{take-append-le, length-append}
 use Rattle.heylo_formula.specs.Goals.{Goal}
-use Rattle.linear_form.specs.Query.{Taken}
-use Rattle.linear_form.specs.Questions.{all_questions}
-use Rattle.linear_form.specs.internal.Run.{along}
-use Rattle.linear_form.specs.internal.Places.{asked_by, through, IsKeptFocus, IsKeptFrame, AreKeptFrames}
+use Rattle.linear_form.specs.Query.{Query, Taken, once}
+use Rattle.linear_form.specs.Paths.{end_at}
+use Rattle.linear_form.specs.Questions.{all_questions, questions}
+use Rattle.linear_form.specs.Standings.{Standing}
+use Rattle.linear_form.specs.internal.Places.{Result, through, IsKeptFrame, AreKeptFrames}
 use Rattle.linear_form.specs.Places.{IsOn}
-use Rattle.linear_form.specs.declared.places.Place.{Place}
 use Rattle.linear_form.specs.declared.places.Frame.{Frame}
+use Rattle.linear_form.proofs.SplitPaths.{walk_nil}
 
-pub place_stays : (g : Goal) (ps qs : List Taken) (p : Place) → IsOn g ps p → IsOn g (ps ++ qs) p
+pub place_stays : (g : Goal) (ps qs : List Taken) (p : Standing) → IsOn g ps p → IsOn g (ps ++ qs) p
 place_stays g ps qs p h = record {
   within = let l = length-append ps qs in let w = h.within in omega (arith, l, w);
-  left = λ rs e. h.left rs (e ∙ take-append-le p.at ps qs h.within);
-  kept_focus = h.kept_focus;
-  kept_frames = h.kept_frames;
+  left = subst (λ xs. end_at g xs ≡ once xs p.left) (sym (take-append-le p.at ps qs h.within)) h.left;
 }
 
 -- before the first question
-pub begins : (g : Goal) (p : Place) (before : List Frame) (f : Frame) → p.at ≡ 0 → p.frames.items ≡ before ++ (f ∷ []) → before ≡ [] → through (asked_by p.focus) (f ∷ []) ≡ all_questions g → IsKeptFocus p.focus → IsKeptFrame f → IsOn g [] p
-begins g p before f a i n e h k = let j : p.frames.items ≡ f ∷ [] = i ∙ ap (λ fs. fs ++ (f ∷ [])) n in record {
-  within = omega (arith, a);
-  left = λ qs m. ap₂ (λ t i. along qs t i) (sym e ∙ ap (through (asked_by p.focus)) (sym j)) (sym a);
-  kept_focus = h;
-  kept_frames = subst AreKeptFrames (sym j) (k, tt);
+pub begins : (g : Goal) (q : Query Result) (all before : List Frame) (f : Frame) → all ≡ before ++ (f ∷ []) → before ≡ [] → through q (f ∷ []) ≡ all_questions g → IsOn g [] (record { left = through q all; at = 0 })
+begins g q all before f i n e = record {
+  within = omega arith;
+  left = walk_nil (questions g) ∙ ap (once []) (sym (ap (through q) (i ∙ ap (λ fs. fs ++ (f ∷ [])) n) ∙ e));
 }
+
+pub begins_kept : (all before : List Frame) (f : Frame) → all ≡ before ++ (f ∷ []) → before ≡ [] → IsKeptFrame f → AreKeptFrames all
+begins_kept all before f i n k = subst AreKeptFrames (sym (i ∙ ap (λ fs. fs ++ (f ∷ [])) n)) (k, tt)

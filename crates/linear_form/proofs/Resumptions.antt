@@ -13,12 +13,12 @@ use Rattle.linear_values.specs.PlainValues.{linear_of}
 use Rattle.linear_form.specs.internal.Nodes.{after_first}
 use Rattle.linear_form.specs.internal.Run.{Evaluation, along}
 use Rattle.linear_form.specs.internal.Places as places
-use Rattle.linear_form.specs.internal.Places.{told, asked_by, framed, resumed, ended, through, left_at, weight, focus_weight, frames_weight, frame_weight, IsKeptFrame, AreKeptFrames}
-use Rattle.linear_form.specs.internal.Steps.{Steps, AskAlike, IsAlike, IsSamePlace}
+use Rattle.linear_form.specs.internal.Places.{told, asked_by, framed, resumed, ended, through, left_at, standing, weight, focus_weight, frames_weight, frame_weight, IsKeptFrame, AreKeptFrames}
+use Rattle.linear_form.specs.internal.Steps.{Steps, AskAlike, IsAlike, IsSameEvaluation}
 use Rattle.linear_form.specs.Places.{IsOn}
 use Rattle.linear_values.specs.declared.lin.Lin.{Lin}
 use Rattle.linear_form.specs.declared.nodes.Connective.{Connective}
-use Rattle.linear_form.specs.declared.places.Place.{Place}
+use Rattle.linear_form.specs.declared.places.Evaluation as V
 use Rattle.linear_form.specs.declared.places.Reached.{Reached}
 use Rattle.linear_form.specs.declared.places.Frame as W
 use Rattle.linear_form.specs.declared.places.Frame.{Frame}
@@ -28,13 +28,13 @@ use Rattle.linear_form.specs.declared.questions.Ask as K
 use Rattle.linear_form.specs.declared.paths.Atom as A
 use Rattle.linear_form.specs.declared.steps.Step as S
 use Rattle.linear_form.proofs.Runs.{run_bits, run_done}
-use Rattle.linear_form.proofs.PathEnds.{goal_end, answer_end, answer_decide, answer_bits}
+use Rattle.linear_form.proofs.PathEnds.{come_on, value_on}
 use Rattle.linear_form.proofs.PlaceRuns.{place_stays}
 use Rattle.linear_form.proofs.ContinuedRuns.{through_push, kept_push, kept_pop, weight_push, through_large}
 
 -- ---- An outcome, and the frame that waits for it
 
-pub popped : {E : Type 0} (r : Result S.Step E) (ps : List Taken) (p : Place) (o : places.Result) (all fs : List Frame) (f : Frame) (i : ℕ) → all ≡ fs ++ (f ∷ []) → IfOk r (Steps ps (through (resumed f o) fs) i (frame_weight f + frames_weight fs) p) → IfOk r (Steps ps (through (done o) all) i (frames_weight all) p)
+pub popped : {E : Type 0} (r : Result S.Step E) (ps : List Taken) (p : V.Evaluation) (o : places.Result) (all fs : List Frame) (f : Frame) (i : ℕ) → all ≡ fs ++ (f ∷ []) → IfOk r (Steps ps (through (resumed f o) fs) i (frame_weight f + frames_weight fs) p) → IfOk r (Steps ps (through (done o) all) i (frames_weight all) p)
 popped r ps p o all fs f i e h = subst (λ l. IfOk r (Steps ps (through (done o) l) i (frames_weight l) p)) (sym e) (subst (λ t. IfOk r (Steps ps t i (frames_weight (fs ++ (f ∷ []))) p)) (sym (through_push (done o) fs f)) (subst (λ n. IfOk r (Steps ps (through (resumed f o) fs) i n p)) (sym (weight_push fs f)) h))
 
 pub kept_all : (all fs : List Frame) (f : Frame) → all ≡ fs ++ (f ∷ []) → AreKeptFrames all → AreKeptFrames fs × IsKeptFrame f
@@ -76,27 +76,27 @@ pub nothing_takes : (ps : List Taken) (o : places.Result) (all : List Frame) (i 
 nothing_takes ps o [] i e n = ap (λ q. along ps q i) e ∙ run_bits ps i
 nothing_takes ps o (f ∷ fs) i e n = absurd (omega (arith, n))
 
-pub for_frame : {E : Type 0} (r : Result S.Step E) (ps : List Taken) (p : Place) (f f' : Frame) (o o' : places.Result) (fs : List Frame) (i : ℕ) → f ≡ f' → o ≡ o' → IfOk r (Steps ps (through (resumed f' o') fs) i (frame_weight f' + frames_weight fs) p) → IfOk r (Steps ps (through (resumed f o) fs) i (frame_weight f + frames_weight fs) p)
+pub for_frame : {E : Type 0} (r : Result S.Step E) (ps : List Taken) (p : V.Evaluation) (f f' : Frame) (o o' : places.Result) (fs : List Frame) (i : ℕ) → f ≡ f' → o ≡ o' → IfOk r (Steps ps (through (resumed f' o') fs) i (frame_weight f' + frames_weight fs) p) → IfOk r (Steps ps (through (resumed f o) fs) i (frame_weight f + frames_weight fs) p)
 for_frame r ps p f f' o o' fs i e k h = subst (λ f. IfOk r (Steps ps (through (resumed f o) fs) i (frame_weight f + frames_weight fs) p)) (sym e) (subst (λ o. IfOk r (Steps ps (through (resumed f' o) fs) i (frame_weight f' + frames_weight fs) p)) (sym k) h)
 
-pub for_second : {E : Type 0} (r : Result S.Step E) (ps : List Taken) (p : Place) (c c' : Connective) (t b : Bool) (q : Query Bool) (fs : List Frame) (i w : ℕ) → c ≡ c' → t ≡ b → IfOk r (Steps ps (through (told (after_first c' q b)) fs) i w p) → IfOk r (Steps ps (through (told (after_first c q t)) fs) i w p)
+pub for_second : {E : Type 0} (r : Result S.Step E) (ps : List Taken) (p : V.Evaluation) (c c' : Connective) (t b : Bool) (q : Query Bool) (fs : List Frame) (i w : ℕ) → c ≡ c' → t ≡ b → IfOk r (Steps ps (through (told (after_first c' q b)) fs) i w p) → IfOk r (Steps ps (through (told (after_first c q t)) fs) i w p)
 for_second r ps p c c' t b q fs i w e k h = subst (λ c. IfOk r (Steps ps (through (told (after_first c q t)) fs) i w p)) (sym e) (subst (λ t. IfOk r (Steps ps (through (told (after_first c' q t)) fs) i w p)) (sym k) h)
 
-pub for_query : {E : Type 0} (r : Result S.Step E) (ps : List Taken) (p : Place) (q q' : Query places.Result) (fs : List Frame) (i w : ℕ) → q ≡ q' → IfOk r (Steps ps (through q' fs) i w p) → IfOk r (Steps ps (through q fs) i w p)
+pub for_query : {E : Type 0} (r : Result S.Step E) (ps : List Taken) (p : V.Evaluation) (q q' : Query places.Result) (fs : List Frame) (i w : ℕ) → q ≡ q' → IfOk r (Steps ps (through q' fs) i w p) → IfOk r (Steps ps (through q fs) i w p)
 for_query r ps p q q' fs i w e h = subst (λ q. IfOk r (Steps ps (through q fs) i w p)) (sym e) h
 
-pub frame_step : (s : S.Step) (ps : List Taken) (p : Place) (f f' : Frame) (o o' : places.Result) (fs : List Frame) (i : ℕ) → f ≡ f' → o ≡ o' → Steps ps (through (resumed f' o') fs) i (frame_weight f' + frames_weight fs) p s → Steps ps (through (resumed f o) fs) i (frame_weight f + frames_weight fs) p s
+pub frame_step : (s : S.Step) (ps : List Taken) (p : V.Evaluation) (f f' : Frame) (o o' : places.Result) (fs : List Frame) (i : ℕ) → f ≡ f' → o ≡ o' → Steps ps (through (resumed f' o') fs) i (frame_weight f' + frames_weight fs) p s → Steps ps (through (resumed f o) fs) i (frame_weight f + frames_weight fs) p s
 frame_step s ps p f f' o o' fs i e k h = subst (λ f. Steps ps (through (resumed f o) fs) i (frame_weight f + frames_weight fs) p s) (sym e) (subst (λ o. Steps ps (through (resumed f' o) fs) i (frame_weight f' + frames_weight fs) p s) (sym k) h)
 
-pub second_step : (s : S.Step) (ps : List Taken) (p : Place) (c c' : Connective) (t b : Bool) (q : Query Bool) (fs : List Frame) (i w : ℕ) → c ≡ c' → t ≡ b → Steps ps (through (told (after_first c' q b)) fs) i w p s → Steps ps (through (told (after_first c q t)) fs) i w p s
+pub second_step : (s : S.Step) (ps : List Taken) (p : V.Evaluation) (c c' : Connective) (t b : Bool) (q : Query Bool) (fs : List Frame) (i w : ℕ) → c ≡ c' → t ≡ b → Steps ps (through (told (after_first c' q b)) fs) i w p s → Steps ps (through (told (after_first c q t)) fs) i w p s
 second_step s ps p c c' t b q fs i w e k h = subst (λ c. Steps ps (through (told (after_first c q t)) fs) i w p s) (sym e) (subst (λ t. Steps ps (through (told (after_first c' q t)) fs) i w p s) (sym k) h)
 
-pub query_step : (s : S.Step) (ps : List Taken) (p : Place) (q q' : Query places.Result) (fs : List Frame) (i w : ℕ) → q ≡ q' → Steps ps (through q' fs) i w p s → Steps ps (through q fs) i w p s
+pub query_step : (s : S.Step) (ps : List Taken) (p : V.Evaluation) (q q' : Query places.Result) (fs : List Frame) (i w : ℕ) → q ≡ q' → Steps ps (through q' fs) i w p s → Steps ps (through q fs) i w p s
 query_step s ps p q q' fs i w e h = subst (λ q. Steps ps (through q fs) i w p s) (sym e) h
 
 -- ---- One step from a place
 
-pub for_focus : {E : Type 0} (r : Result S.Step E) (ps : List Taken) (p p' : Place) (f : Focus) → p.focus ≡ f → IfOk r (Steps ps (through (asked_by f) p.frames.items) p.at (focus_weight f + frames_weight p.frames.items) p') → IfOk r (Steps ps (left_at p) p.at (weight p) p')
+pub for_focus : {E : Type 0} (r : Result S.Step E) (ps : List Taken) (p p' : V.Evaluation) (f : Focus) → p.focus ≡ f → IfOk r (Steps ps (through (asked_by f) p.frames.items) p.at (focus_weight f + frames_weight p.frames.items) p') → IfOk r (Steps ps (left_at p) p.at (weight p) p')
 for_focus r ps p p' f e h = subst (λ f. IfOk r (Steps ps (through (asked_by f) p.frames.items) p.at (focus_weight f + frames_weight p.frames.items) p')) (sym e) h
 
 -- ---- Places that are copied
@@ -113,24 +113,19 @@ alike_more old new f g a b = record {
 pub alike_next : (all : List Frame) (i : ℕ) (new made : List Frame) (f g : Frame) → i < length all → f ≡ get_or all i f → made ≡ new ++ (g ∷ []) → AskAlike (take i all) new → IsAlike f g → AskAlike (take (i + 1) all) made
 alike_next all i new made f g l e m a b = subst (λ z. AskAlike z made) (sym (take_more all i f l ∙ ap (λ z. take i all ++ (z ∷ [])) (sym e))) (subst (λ z. AskAlike (take i all ++ (f ∷ [])) z) (sym m) (alike_more (take i all) new f g a b))
 
-pub copied : (g : Goal) (ps : List Taken) (p p' : Place) → IsSamePlace p p' → IsOn g ps p → IsOn g ps p'
-copied g ps p p' s h = record {
-  within = let a = s.at in let w = h.within in omega (arith, a, w);
-  left = λ qs e. h.left qs (subst (λ n. take n qs ≡ take n ps) s.at e) ∙ sym (ap₂ (λ t n. along qs t n) s.left s.at);
-  kept_focus = s.kept_focus h.kept_focus;
-  kept_frames = s.kept_frames h.kept_frames;
-}
+pub same_standing : (p p' : V.Evaluation) → IsSameEvaluation p p' → standing p' ≡ standing p
+same_standing p p' s = λ i. record { left = s.left i; at = s.at i }
 
 -- ---- The end of a path
 
-pub on_decides : (g : Goal) (ps : List Taken) (p : Place) (a : A.Atom) → IsPath g ps → IsOn g ps p → along ps (left_at p) p.at ≡ Evaluation.decide (atom_of a) → Answers (K.TheVariants.Decide a) (end_at g ps)
-on_decides g ps p a w h e = answer_decide a (end_at g ps) (goal_end g ps (Evaluation.decide (atom_of a)) w (h.left ps refl ∙ e))
+pub on_decides : (g : Goal) (ps : List Taken) (p : V.Evaluation) (a : A.Atom) → IsPath g ps → IsOn g ps (standing p) → along ps (left_at p) p.at ≡ Evaluation.decide (atom_of a) → Answers (K.TheVariants.Decide a) (end_at g ps)
+on_decides g ps p a w h e = let k = come_on g ps (standing p) (Evaluation.decide (atom_of a)) w h e in subst (Answers (K.TheVariants.Decide a)) (sym k.1.1) refl
 
-pub on_ends : (g : Goal) (ps : List Taken) (p : Place) (x y : Option Lin) (j : ℕ) → IsPath g ps → IsOn g ps p → along ps (left_at p) p.at ≡ Evaluation.value (linear_of x, linear_of y) j → Answers (K.TheVariants.End x y) (end_at g ps)
-on_ends g ps p x y j w h e = answer_end x y j (end_at g ps) (goal_end g ps (Evaluation.value (linear_of x, linear_of y) j) w (h.left ps refl ∙ e))
+pub on_ends : (g : Goal) (ps : List Taken) (p : V.Evaluation) (x y : Option Lin) (j : ℕ) → IsPath g ps → IsOn g ps (standing p) → along ps (left_at p) p.at ≡ Evaluation.value (linear_of x, linear_of y) j → Answers (K.TheVariants.End x y) (end_at g ps)
+on_ends g ps p x y j w h e = subst (Answers (K.TheVariants.End x y)) (sym (value_on g ps (standing p) (linear_of x, linear_of y) j w h e)) refl
 
-pub on_bits : (g : Goal) (ps : List Taken) (p : Place) → IsPath g ps → IsOn g ps p → along ps (left_at p) p.at ≡ Evaluation.bits → Answers K.TheVariants.Bits (end_at g ps)
-on_bits g ps p w h e = answer_bits (end_at g ps) (goal_end g ps Evaluation.bits w (h.left ps refl ∙ e))
+pub on_bits : (g : Goal) (ps : List Taken) (p : V.Evaluation) → IsPath g ps → IsOn g ps (standing p) → along ps (left_at p) p.at ≡ Evaluation.bits → Answers K.TheVariants.Bits (end_at g ps)
+on_bits g ps p w h e = subst (Answers K.TheVariants.Bits) (sym (come_on g ps (standing p) Evaluation.bits w h e)) tt
 
 pub end_asked : {E : Type 0} (r : Result Reached E) (a : Ask) (t : Query Ends) → IfOk r (λ r. r.ask ≡ a) → Answers a t → IfOk r (λ r. Answers r.ask t)
 end_asked (Ok r) a t e h = subst (λ a. Answers a t) (sym e) h

@@ -1,31 +1,28 @@
 -- Trees of questions that surely ask comparisons, and what that says of the end of a path.
-use Rattle.std.proofs.Common.{◌≡◌, ℕ, ◌+◌, ◌<◌, ◌≤◌, List, [], ◌∷◌, ◌++◌, refl, subst, arith, Bool, true, false, cond, ◌⊎◌, inl, inr, take, drop, length, get_or, Bor}
-use Rattle.std.proofs.lemmas.List.{length-append}
+use Rattle.std.proofs.Common.{◌≡◌, ℕ, ◌<◌, List, [], ◌∷◌, ◌++◌, sym, ap, ◌∙◌, subst, arith, Bool, true, false, cond, ◌⊎◌, inl, inr, length, get_or, Bor}
+use Rattle.std.proofs.lemmas.List.{take_all}
 use Prim.Native.Nat.{zero, suc}
 use Rattle.std.specs.Prelude.{Option, Some, None}
 use Rattle.heylo_formula.specs.Goals.{Goal}
 use Rattle.heylo_formula.specs.PlainTrees.{form_of, cond_of}
-use Rattle.linear_form.specs.Query.{Query, Atom, Taken, next, known}
+use Rattle.linear_form.specs.Query.{Query, Atom, Taken, next, known, unless_known, onto, once}
 use Rattle.linear_form.specs.Query.Query.{done, bits, ask}
 use Rattle.linear_values.specs.Lin.{Linear}
-use Rattle.linear_form.specs.Questions.{Ends, evaluate, test, both}
+use Rattle.linear_form.specs.Questions.{evaluate, test, both, questions}
 use Rattle.linear_form.specs.QuestionLaws.{EachResult}
-use Rattle.linear_form.specs.Paths.{IsPath}
+use Rattle.linear_form.specs.Paths.{walk, end_at}
 use Rattle.linear_form.specs.LastingPaths.{IsNoEnd}
+use Rattle.linear_form.specs.Standings.{Standing}
 use Rattle.linear_form.specs.Places.{IsOn}
-use Rattle.linear_form.specs.internal.Run.{Evaluation, along, turned, heard}
-use Rattle.linear_form.specs.internal.Run.Evaluation.{value, decide}
-use Rattle.linear_form.specs.internal.Places.{Result, framed, resumed, ended, left_at, asked_by, valued}
+use Rattle.linear_form.specs.internal.Places.{Result, framed, resumed, ended, standing, asked_by, valued}
 use Rattle.linear_form.specs.internal.LastingTrees.{Lasts}
 use Rattle.heylo_formula.specs.declared.forms.Form as F
 use Rattle.heylo_formula.specs.declared.forms.Cond as C
 use Rattle.linear_form.specs.declared.places.Two.{Two}
-use Rattle.linear_form.specs.declared.places.Place.{Place}
+use Rattle.linear_form.specs.declared.places.Evaluation.{Evaluation}
 use Rattle.linear_form.specs.declared.places.Frame.{Frame}
 use Rattle.linear_form.specs.declared.places.Frame as W
-use Rattle.linear_form.proofs.ContinuedRuns.{local}
-use Rattle.linear_form.proofs.PathEnds.{Same, goal_end}
-use Rattle.linear_form.proofs.PlaceRuns.{place_stays}
+use Rattle.linear_form.proofs.SplitPaths.{walk_nil, walk_append}
 
 pub lasts_bits : (A : Type 0) (k : ℕ) → Lasts {A = A} k bits
 unfolding Lasts
@@ -111,55 +108,39 @@ choose_lasts g h k l (Result.number x) = lasts_bits Result 1
 choose_lasts g h k l (Result.truth t) = lasts_first 1 (cond t (test (cond_of g.now)) (test (cond_of h.now))) _ (chosen_lasts 1 t (test (cond_of g.now)) (test (cond_of h.now)) k l)
 choose_lasts g h k l (Result.ends e) = lasts_bits Result 1
 
--- ---- Each comparison takes an answer
+-- ---- A tree that surely asks two comparisons isn't at its end after one answer
 
-either_turn : {A : Type 0} (ps : List Taken) (q : Atom) (y n : Evaluation A) (a : A) (j : ℕ) (P : Type 0) → turned ps q y n ≡ value a j → (y ≡ value a j → P) → (n ≡ value a j → P) → P
-either_turn [] q y n a j P e f g = absurd (cc)
-either_turn (p ∷ ps) q y n a j P e f g = go p.held e
+known_lasts : {A : Type 0} (k : ℕ) (o : Option Bool) (y n z : Query A) → Lasts k y → Lasts k n → Lasts k z → Lasts k (unless_known o y n z)
+known_lasts k (Some true) y n z h g l = h
+known_lasts k (Some false) y n z h g l = g
+known_lasts k None y n z h g l = l
+
+-- comparisons are asked again
+lasts_once : {A : Type 0} (k : ℕ) (ps : List Taken) (t : Query A) → Lasts k t → Lasts k (once ps t)
+unfolding Lasts
+lasts_once zero ps t h = tt
+lasts_once (suc k) ps (done a) h = absurd h
+lasts_once (suc k) ps bits h = tt
+lasts_once (suc k) ps (ask (Atom.row a strict) y n) h = (lasts_once k (onto ps (Atom.row a strict) true) y h.0, lasts_once k (onto ps (Atom.row a strict) false) n h.1)
+lasts_once (suc k) ps (ask (Atom.truth x) y n) h = known_lasts (suc k) (known x ps) _ _ (ask (Atom.truth x) (once (onto ps (Atom.truth x) true) y) (once (onto ps (Atom.truth x) false) n)) (lasts_once (suc k) ps y h.0) (lasts_once (suc k) ps n h.1) (lasts_once (suc k) (onto ps (Atom.truth x) true) y h.0, lasts_once (suc k) (onto ps (Atom.truth x) false) n h.1)
+
+neither_given : {A : Type 0} (k : ℕ) (b : Bool) (y n : Query A) (a : A) → Lasts (suc k) y → Lasts (suc k) n → cond b (walk y []) (walk n []) ≡ done a → ⊥
+unfolding Lasts
+neither_given k true y n a h g e = subst (Lasts (suc k)) (sym (walk_nil y) ∙ e) h
+neither_given k false y n a h g e = subst (Lasts (suc k)) (sym (walk_nil n) ∙ e) g
+
+one_given : {A : Type 0} (t : Query A) (p : Taken) (a : A) → Lasts 2 t → walk t (p ∷ []) ≡ done a → ⊥
+unfolding Lasts
+one_given (done b) p a h e = h
+one_given bits p a h e = absurd (cc)
+one_given (ask (Atom.row l strict) y n) p a h e = neither_given 0 p.held y n a h.0 h.1 e
+one_given (ask (Atom.truth x) y n) p a h e = neither_given 1 p.held y n a h.0 h.1 e
+
+pub no_end : (g : Goal) (ps : List Taken) (t : Taken) (p : Standing) → p.at ≡ length ps → Lasts 2 p.left → IsOn g ps p → IsNoEnd g (ps ++ (t ∷ []))
+no_end g ps t p a h on e end = one_given (once ps p.left) t e (lasts_once 2 ps p.left h) (sym (ap (λ z. walk z (t ∷ [])) left) ∙ sym (walk_append (questions g) ps (t ∷ [])) ∙ end)
   where
-    go : (b : Bool) → cond b y n ≡ value a j → P
-    go true e = f e
-    go false e = g e
+    left : end_at g ps ≡ once ps p.left
+    left = subst (λ xs. end_at g xs ≡ once xs p.left) (take_all p.at ps (omega (arith, a))) on.left
 
-each_way : {A : Type 0} (o : Option Bool) (y n z : Evaluation A) (a : A) (j : ℕ) (P : Type 0) → heard o y n z ≡ value a j → (y ≡ value a j → P) → (n ≡ value a j → P) → (z ≡ value a j → P) → P
-each_way (Some true) y n z a j P e f g h = f e
-each_way (Some false) y n z a j P e f g h = g e
-each_way None y n z a j P e f g h = h e
-
-none_taken : (i j : ℕ) → i ≤ j → i + zero ≤ j
-none_taken i j h = omega (arith, h)
-
-one_taken : (i j k : ℕ) → (i + 1) + k ≤ j → i + suc k ≤ j
-one_taken i j k h = omega (arith, h)
-
-more_taken : (i j k : ℕ) → (i + 1) + k ≤ j → i + k ≤ j
-more_taken i j k h = omega (arith, h)
-
-pub answers_taken : {A : Type 0} (k : ℕ) (ps : List Taken) (t : Query A) (i j : ℕ) (a : A) → Lasts k t → along ps t i ≡ value a j → i + k ≤ j
-unfolding Lasts along
-answers_taken zero ps t i j a h e = none_taken i j (local ps t i j a e).behind
-answers_taken (suc k) ps (done b) i j a h e = absurd h
-answers_taken (suc k) ps bits i j a h e = absurd (cc)
-answers_taken (suc k) ps (ask (Atom.row l strict) y n) i j a h e = either_turn (drop i ps) _ (along ps y (i + 1)) (along ps n (i + 1)) a j _ e (λ m. one_taken i j k (answers_taken k ps y (i + 1) j a h.0 m)) (λ m. one_taken i j k (answers_taken k ps n (i + 1) j a h.1 m))
-answers_taken (suc k) ps (ask (Atom.truth x) y n) i j a h e = each_way (known x (take i ps)) (along ps y i) (along ps n i) _ a j _ e (answers_taken (suc k) ps y i j a h.0) (answers_taken (suc k) ps n i j a h.1) (λ z. either_turn (drop i ps) _ (along ps y (i + 1)) (along ps n (i + 1)) a j _ z (λ m. more_taken i j (suc k) (answers_taken (suc k) ps y (i + 1) j a h.0 m)) (λ m. more_taken i j (suc k) (answers_taken (suc k) ps n (i + 1) j a h.1 m)))
-
--- behind all answers, two comparisons more aren't answered by one
-pub no_end : (g : Goal) (ps : List Taken) (t : Taken) (p : Place) → p.at ≡ length ps → Lasts 2 (left_at p) → IsOn g ps p → IsPath g (ps ++ (t ∷ [])) → IsNoEnd g (ps ++ (t ∷ []))
-no_end g ps t p a h on path e end = go (along qs (left_at p) p.at) refl (subst (Same (along qs (left_at p) p.at)) end (goal_end g qs (along qs (left_at p) p.at) path (later.left qs refl)))
-  where
-    qs : List Taken
-    qs = ps ++ (t ∷ [])
-
-    later : IsOn g qs p
-    later = place_stays g ps (t ∷ []) p on
-
-    too_few : (i j n m : ℕ) → i ≡ n → m ≡ n + 1 → j ≤ m → i + 2 ≤ j → ⊥
-    too_few i j n m b c d f = absurd (omega (arith, b, c, d, f))
-
-    go : (o : Evaluation Ends) → along qs (left_at p) p.at ≡ o → Same o (done e) → ⊥
-    go (value b j) k s = too_few p.at j (length ps) (length qs) a (length-append ps (t ∷ [])) ((local qs (left_at p) p.at j b k).within later.within) (answers_taken 2 qs (left_at p) p.at j b h k)
-    go (decide q) k s = s
-    go Evaluation.bits k s = s
-
-pub no_end_here : (g : Goal) (ps : List Taken) (t : Taken) (p : Place) (count : ℕ) → p.at ≡ count → Lasts 2 (framed (asked_by p.focus) p.frames.items) → length ps ≡ count → IsOn g ps p → IsPath g (ps ++ (t ∷ [])) → IsNoEnd g (ps ++ (t ∷ []))
-no_end_here g ps t p count a h l on path = no_end g ps t p (omega (arith, a, l)) (lasts_first 2 (framed (asked_by p.focus) p.frames.items) ended h) on path
+pub no_end_here : (g : Goal) (ps : List Taken) (t : Taken) (p : Standing) (e : Evaluation) (count : ℕ) → standing e ≡ p → e.at ≡ count → Lasts 2 (framed (asked_by e.focus) e.frames.items) → length ps ≡ count → IsOn g ps p → IsNoEnd g (ps ++ (t ∷ []))
+no_end_here g ps t p e count s a h l on = no_end g ps t (standing e) (omega (arith, a, l)) (lasts_first 2 (framed (asked_by e.focus) e.frames.items) ended h) (subst (IsOn g ps) (sym s) on)

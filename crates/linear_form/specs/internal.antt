@@ -7,3 +7,4 @@ pub mod NormalPaths
 pub mod Nodes
 pub mod Places
 pub mod Steps
+pub mod Codes

@@ -8,7 +8,7 @@ ghost use Rattle.linear_form.specs.Places.{IsOn};
 ghost use Rattle.linear_form.specs.PlainPaths.{path_of};
 
 use crate::paths::Taken;
-use crate::places::{Focus, Frame, Place, Reached, Two, copy_place};
+use crate::places::{Evaluation, Focus, Frame, Place, Reached, Two, copy_place};
 use crate::questions::Ask;
 use crate::steps::{Step, advance};
 use heylo_formula::Goal;
@@ -20,11 +20,12 @@ pub fn begin<'a>(alloc: Global, goal: &'a Goal) -> Result<Place<'a>, AllocError>
 {
     let mut frames = Vec::new(alloc);
     frames.push(Frame::Left(Two::Ends, &goal.found))?;
-    Ok(Place {
+    let evaluation = Evaluation {
         focus: Focus::Form(&goal.stated),
         frames,
         at: 0,
-    })
+    };
+    Ok(Place { evaluation })
 }
 
 /// What stands at the end of a path, evaluated on from a place on it. The place that is reached is the one where the next
@@ -56,14 +57,15 @@ pub fn go_on_from<'a>(
     ensures asked { IfOk result (λ r. Answers r.ask (end_at (goal_of goal.now) (path_of path.now))) }
     ensures on { IfOk result (λ r. IsOn (goal_of goal.now) (path_of path.now) r.place) }
 {
-    let mut now = place;
+    let Place { evaluation } = place;
+    let mut now = evaluation;
     'steps: loop {
         match advance(alloc, &mut now, path)? {
             Step::On => {}
             Step::Asks(atom) => {
                 return Ok(Reached {
                     ask: Ask::Decide(Box::into_inner(atom)),
-                    place: now,
+                    place: Place { evaluation: now },
                 });
             }
             Step::Ends(stated, found) => {

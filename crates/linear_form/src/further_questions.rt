@@ -27,8 +27,9 @@ use linear_values::Lin;
 pub fn asks_on(place: &Place<'_>, count: usize) -> bool
     ensures { (g : PlainGoal) (ps : List PlainTaken) (t : PlainTaken) → IsTrue result → length ps ≡ count → IsOn g ps place.now → IsPath g (ps ++ (t ∷ [])) → IsNoEnd g (ps ++ (t ∷ [])) }
 {
-    if place.at == count {
-        focus_asks(&place.focus) && frames_ask(&place.frames)
+    let evaluation = &place.evaluation;
+    if evaluation.at == count {
+        focus_asks(&evaluation.focus) && frames_ask(&evaluation.frames)
     } else {
         false
     }

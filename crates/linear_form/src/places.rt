@@ -1,7 +1,7 @@
 //! Places: evaluations of a goal that stand somewhere on a path, and can go on from there.
 
-ghost use Rattle.std.specs.Prelude.{IfOk};
-ghost use Rattle.linear_form.specs.internal.Steps.{AskAlike, IsAlike, IsSamePlace, IsSameFocus};
+ghost use Rattle.std.specs.Prelude.{◌≡◌, IfOk};
+ghost use Rattle.linear_form.specs.internal.Steps.{AskAlike, IsAlike, IsSameEvaluation, IsSameFocus};
 
 use crate::nodes::{Binary, Comparison, Connective, OfTruth, Unary};
 use crate::questions::Ask;
@@ -9,11 +9,33 @@ use heylo_formula::{Cond, Form};
 use linear_values::Lin;
 use linear_values::lin::copy_value;
 use std::alloc::{AllocError, Global};
+use std::marker::Model;
 
-/// An evaluation of a goal that stands at a place of a path: what is evaluated next, what waits for it, and how many answers
-/// of the path are behind it.
+/// A place of a path, at which an evaluation of a goal stands. Contracts see what is left to ask there, and how many answers of
+/// the path are behind it.
 #[derive(Drop)]
 pub struct Place<'a> {
+    pub(crate) evaluation: Evaluation<'a>,
+}
+
+impl<'a> Model for Place<'a> {
+    ghost use Rattle.linear_form.specs.Standings.{Standing};
+    ghost use Rattle.linear_form.specs.internal.Codes.{standing_code};
+
+    ghost Value = { Standing };
+
+    ghost coded = { standing_code };
+
+    ghost use Rattle.linear_form.specs.internal.Places.{standing, IsKeptEvaluation};
+
+    ghost view = { λ p. standing p.evaluation };
+
+    ghost invariant = { λ p. IsKeptEvaluation p.evaluation };
+}
+
+/// An evaluation that stands somewhere: what is evaluated next, what waits for it, and how many answers are behind it.
+#[derive(Drop)]
+pub(crate) struct Evaluation<'a> {
     pub(crate) focus: Focus<'a>,
     /// What waits, the last one for the focus.
     pub(crate) frames: Vec<Frame<'a>>,
@@ -68,14 +90,24 @@ pub(crate) enum Frame<'a> {
 
 /// The same place again.
 pub(crate) fn copy_place<'a>(alloc: Global, place: &Place<'a>) -> Result<Place<'a>, AllocError>
-    ensures { IfOk result (IsSamePlace place.now) }
+    ensures { IfOk result (λ p. p ≡ place.now) }
 {
-    let focus = copy_focus(alloc, &place.focus)?;
-    let frames = copy_frames(alloc, &place.frames)?;
-    Ok(Place {
+    let evaluation = copy_evaluation(alloc, &place.evaluation)?;
+    Ok(Place { evaluation })
+}
+
+fn copy_evaluation<'a>(
+    alloc: Global,
+    evaluation: &Evaluation<'a>,
+) -> Result<Evaluation<'a>, AllocError>
+    ensures { IfOk result (IsSameEvaluation evaluation.now) }
+{
+    let focus = copy_focus(alloc, &evaluation.focus)?;
+    let frames = copy_frames(alloc, &evaluation.frames)?;
+    Ok(Evaluation {
         focus,
         frames,
-        at: place.at,
+        at: evaluation.at,
     })
 }
 

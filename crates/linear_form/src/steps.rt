@@ -18,7 +18,7 @@ ghost use Rattle.linear_values.specs.Kept.{IsKept, IsKeptValue};
 ghost use Rattle.linear_form.specs.internal.EvaluationResults.{Gives, GivesTruth, Stops};
 ghost use Rattle.linear_form.specs.internal.Places.{Result as Outcomes, valued, told, of_two, of_number, of_bool, resumed, asked_by, through, left_at, weight, focus_weight, frame_weight, frames_weight, IsKeptFocus, IsKeptFrame, AreKeptFrames};
 ghost use Rattle.linear_form.specs.internal.Steps.{Steps};
-ghost use Rattle.linear_form.specs.declared.places.Place.{Place as PlainPlace};
+ghost use Rattle.linear_form.specs.declared.places.Evaluation.{Evaluation as PlainEvaluation};
 
 use crate::cursor::{Found, Stop, Tested, truth};
 use crate::direct::direct;
@@ -28,7 +28,7 @@ use crate::nodes::{
 };
 use crate::operators::{number, number_added, number_scaled};
 use crate::paths::{Atom, Taken};
-use crate::places::{Focus, Frame, Place, Two};
+use crate::places::{Evaluation, Focus, Frame, Two};
 use heylo_formula::{Cond, Form};
 use heyvl_num::{Ext, Frac};
 use linear_values::Lin;
@@ -50,7 +50,7 @@ pub(crate) enum Step {
 /// One step on from a place.
 pub(crate) fn advance<'a>(
     alloc: Global,
-    place: &mut Place<'a>,
+    place: &mut Evaluation<'a>,
     path: &[Taken],
 ) -> Result<Step, AllocError>
     requires focus { IsKeptFocus place.old.focus }
@@ -95,7 +95,7 @@ pub(crate) fn advance<'a>(
 
 /// Goes on with this.
 #[inline(always)]
-fn on<'a>(place: &mut Place<'a>, focus: Focus<'a>) -> Step
+fn on<'a>(place: &mut Evaluation<'a>, focus: Focus<'a>) -> Step
     requires focus { IsKeptFocus focus }
     requires frames { AreKeptFrames place.old.frames.items }
     ensures { (ps : List PlainTaken) (w : ℕ) → focus_weight focus.entry + frames_weight place.old.frames.items < w → Steps ps (through (asked_by focus.entry) place.old.frames.items) place.old.at w place.new result }
@@ -105,7 +105,7 @@ fn on<'a>(place: &mut Place<'a>, focus: Focus<'a>) -> Step
 }
 
 /// Goes on with the first where the truth holds, else with the second.
-fn chosen<'a>(place: &mut Place<'a>, t: bool, yes: Focus<'a>, no: Focus<'a>) -> Step
+fn chosen<'a>(place: &mut Evaluation<'a>, t: bool, yes: Focus<'a>, no: Focus<'a>) -> Step
     requires yes { IsKeptFocus yes }
     requires no { IsKeptFocus no }
     requires frames { AreKeptFrames place.old.frames.items }
@@ -116,7 +116,11 @@ fn chosen<'a>(place: &mut Place<'a>, t: bool, yes: Focus<'a>, no: Focus<'a>) -> 
 
 /// Goes on with a form, while a frame waits for its value.
 #[inline(always)]
-fn under<'a>(place: &mut Place<'a>, frame: Frame<'a>, form: &'a Form) -> Result<Step, AllocError>
+fn under<'a>(
+    place: &mut Evaluation<'a>,
+    frame: Frame<'a>,
+    form: &'a Form,
+) -> Result<Step, AllocError>
     requires frame { IsKeptFrame frame }
     requires frames { AreKeptFrames place.old.frames.items }
     ensures { (ps : List PlainTaken) (w : ℕ) → 4 * nodes (form_of form.now) + frame_weight frame.entry + frames_weight place.old.frames.items < w → IfOk result (Steps ps (through (next (valued (evaluate (form_of form.now))) (resumed frame.entry)) place.old.frames.items) place.old.at w place.new) }
@@ -129,7 +133,7 @@ fn under<'a>(place: &mut Place<'a>, frame: Frame<'a>, form: &'a Form) -> Result<
 /// Where the evaluation stops, the place stays.
 #[inline(always)]
 fn stopped(stop: Stop) -> Result<Step, AllocError>
-    ensures { (ps : List PlainTaken) (w : ℕ) (p : PlainPlace) → IsKeptFocus p.focus → AreKeptFrames p.frames.items → Stops stop (along ps (asked_by p.focus) p.at) → IfOk result (Steps ps (left_at p) p.at w p) }
+    ensures { (ps : List PlainTaken) (w : ℕ) (p : PlainEvaluation) → IsKeptFocus p.focus → AreKeptFrames p.frames.items → Stops stop (along ps (asked_by p.focus) p.at) → IfOk result (Steps ps (left_at p) p.at w p) }
 {
     match stop {
         Stop::Decide(atom) => Ok(Step::Asks(atom)),
@@ -142,7 +146,7 @@ fn stopped(stop: Stop) -> Result<Step, AllocError>
 #[inline(always)]
 fn value_found<'a>(
     alloc: Global,
-    place: &mut Place<'a>,
+    place: &mut Evaluation<'a>,
     found: Result<Found, Stop>,
 ) -> Result<Step, AllocError>
     requires value { IfOk found (λ f. IsKeptValue (linear_of f.value)) }
@@ -163,7 +167,7 @@ fn value_found<'a>(
 #[inline(always)]
 fn truth_found<'a>(
     alloc: Global,
-    place: &mut Place<'a>,
+    place: &mut Evaluation<'a>,
     tested: Result<Tested, Stop>,
 ) -> Result<Step, AllocError>
     requires focus { IsKeptFocus place.old.focus }
@@ -186,7 +190,7 @@ fn at_the_end(
     stated: Option<Lin>,
     found: Option<Lin>,
 ) -> Result<Step, AllocError>
-    ensures { (ps : List PlainTaken) (i w : ℕ) (p : PlainPlace) → IfOk result (Steps ps (through (done (Outcomes.ends (linear_of stated, linear_of found))) frames.now) i w p) }
+    ensures { (ps : List PlainTaken) (i w : ℕ) (p : PlainEvaluation) → IfOk result (Steps ps (through (done (Outcomes.ends (linear_of stated, linear_of found))) frames.now) i w p) }
 {
     if frames.is_empty() {
         let one = Box::new(alloc, stated)?;
@@ -198,7 +202,11 @@ fn at_the_end(
 }
 
 /// A value, for the frame that waits for it. An operator on numbers is run at once, and the next frame waits for what it gives.
-fn value_given<'a>(alloc: Global, place: &mut Place<'a>, x: Option<Lin>) -> Result<Step, AllocError>
+fn value_given<'a>(
+    alloc: Global,
+    place: &mut Evaluation<'a>,
+    x: Option<Lin>,
+) -> Result<Step, AllocError>
     requires value { IsKeptValue (linear_of x) }
     requires frames { AreKeptFrames place.old.frames.items }
     ensures { (ps : List PlainTaken) → IfOk result (Steps ps (through (done (Outcomes.number (linear_of x))) place.old.frames.items) place.old.at (frames_weight place.old.frames.items) place.new) }
@@ -260,7 +268,7 @@ fn number_resumed(frame: &Frame<'_>, x: &Frac) -> Option<Frac>
 
 /// A truth, for the frame that waits for it.
 #[inline(always)]
-fn truth_given<'a>(alloc: Global, place: &mut Place<'a>, t: bool) -> Result<Step, AllocError>
+fn truth_given<'a>(alloc: Global, place: &mut Evaluation<'a>, t: bool) -> Result<Step, AllocError>
     requires frames { AreKeptFrames place.old.frames.items }
     ensures { (ps : List PlainTaken) → IfOk result (Steps ps (through (done (Outcomes.truth t)) place.old.frames.items) place.old.at (frames_weight place.old.frames.items) place.new) }
 {
@@ -273,7 +281,7 @@ fn truth_given<'a>(alloc: Global, place: &mut Place<'a>, t: bool) -> Result<Step
 /// A value for the frame that waited for it.
 #[inline(always)]
 fn resume_value<'a>(
-    place: &mut Place<'a>,
+    place: &mut Evaluation<'a>,
     frame: Frame<'a>,
     x: Option<Lin>,
 ) -> Result<Step, AllocError>
@@ -299,7 +307,7 @@ fn resume_value<'a>(
 #[inline(always)]
 fn resume_truth<'a>(
     alloc: Global,
-    place: &mut Place<'a>,
+    place: &mut Evaluation<'a>,
     frame: &Frame<'a>,
     t: bool,
 ) -> Result<Step, AllocError>
@@ -321,7 +329,7 @@ fn resume_truth<'a>(
 
 /// The second condition under a connective, where its truth is needed.
 fn second<'a>(
-    place: &mut Place<'a>,
+    place: &mut Evaluation<'a>,
     operator: Connective,
     t: bool,
     h: &'a Cond,
@@ -346,7 +354,7 @@ fn second<'a>(
 
 /// The left one of two forms, and then the right one and an operator on their values.
 fn two_parts<'a>(
-    place: &mut Place<'a>,
+    place: &mut Evaluation<'a>,
     operator: Two,
     a: &'a Form,
     b: &'a Form,
@@ -360,7 +368,7 @@ fn two_parts<'a>(
 /// Two forms, and then a comparison of their values. A form that asks nothing has its value at once.
 fn compared<'a>(
     alloc: Global,
-    place: &mut Place<'a>,
+    place: &mut Evaluation<'a>,
     operator: Comparison,
     a: &'a Form,
     b: &'a Form,
@@ -377,7 +385,7 @@ fn compared<'a>(
 /// The right one of two forms that are compared, where the left one has its value.
 fn compared_with<'a>(
     alloc: Global,
-    place: &mut Place<'a>,
+    place: &mut Evaluation<'a>,
     operator: Comparison,
     x: Lin,
     b: &'a Form,
@@ -393,7 +401,11 @@ fn compared_with<'a>(
 }
 
 /// A form, and then an operator on its value.
-fn one_part<'a>(place: &mut Place<'a>, operator: Unary<'a>, a: &'a Form) -> Result<Step, AllocError>
+fn one_part<'a>(
+    place: &mut Evaluation<'a>,
+    operator: Unary<'a>,
+    a: &'a Form,
+) -> Result<Step, AllocError>
     requires frames { AreKeptFrames place.old.frames.items }
     ensures { (ps : List PlainTaken) (w : ℕ) → 4 * nodes (form_of a.now) + 2 + frames_weight place.old.frames.items < w → IfOk result (Steps ps (through (next (valued (evaluate (form_of a.now))) (of_number (λ x. valued (unary operator.entry x)))) place.old.frames.items) place.old.at w place.new) }
 {
@@ -402,7 +414,11 @@ fn one_part<'a>(place: &mut Place<'a>, operator: Unary<'a>, a: &'a Form) -> Resu
 
 /// A condition, while a frame waits for its truth.
 #[inline(always)]
-fn condition<'a>(place: &mut Place<'a>, frame: Frame<'a>, g: &'a Cond) -> Result<Step, AllocError>
+fn condition<'a>(
+    place: &mut Evaluation<'a>,
+    frame: Frame<'a>,
+    g: &'a Cond,
+) -> Result<Step, AllocError>
     requires frame { IsKeptFrame frame }
     requires frames { AreKeptFrames place.old.frames.items }
     ensures { (ps : List PlainTaken) (w : ℕ) → 4 * nodes_in (cond_of g.now) + frame_weight frame.entry + frames_weight place.old.frames.items < w → IfOk result (Steps ps (through (next (told (test (cond_of g.now))) (resumed frame.entry)) place.old.frames.items) place.old.at w place.new) }
@@ -414,7 +430,7 @@ fn condition<'a>(place: &mut Place<'a>, frame: Frame<'a>, g: &'a Cond) -> Result
 
 /// A condition, and then the form that it chooses.
 fn chosen_form<'a>(
-    place: &mut Place<'a>,
+    place: &mut Evaluation<'a>,
     g: &'a Cond,
     a: &'a Form,
     b: &'a Form,
@@ -427,7 +443,7 @@ fn chosen_form<'a>(
 
 /// A condition, and then the second one under a connective, where it is needed.
 fn two_conditions<'a>(
-    place: &mut Place<'a>,
+    place: &mut Evaluation<'a>,
     operator: Connective,
     g: &'a Cond,
     h: &'a Cond,
@@ -440,7 +456,7 @@ fn two_conditions<'a>(
 
 /// A condition, and then the condition that it chooses.
 fn chosen_condition<'a>(
-    place: &mut Place<'a>,
+    place: &mut Evaluation<'a>,
     g: &'a Cond,
     h: &'a Cond,
     k: &'a Cond,
@@ -453,7 +469,11 @@ fn chosen_condition<'a>(
 
 /// A form, taken apart: its first part, while a frame waits for its outcome, or its value where it has no parts.
 #[inline(never)]
-fn take_apart<'a>(alloc: Global, place: &mut Place<'a>, form: &'a Form) -> Result<Step, AllocError>
+fn take_apart<'a>(
+    alloc: Global,
+    place: &mut Evaluation<'a>,
+    form: &'a Form,
+) -> Result<Step, AllocError>
     requires asked { asked_by place.old.focus ≡ valued (evaluate (form_of form.now)) }
     requires focus { IsKeptFocus place.old.focus }
     requires frames { AreKeptFrames place.old.frames.items }
@@ -483,7 +503,7 @@ fn take_apart<'a>(alloc: Global, place: &mut Place<'a>, form: &'a Form) -> Resul
 /// The value of a constant, the form that stands there.
 fn constant<'a>(
     alloc: Global,
-    place: &mut Place<'a>,
+    place: &mut Evaluation<'a>,
     form: &'a Form,
     v: &Ext,
 ) -> Result<Step, AllocError>
@@ -498,7 +518,7 @@ fn constant<'a>(
 }
 
 /// The value of a variable.
-fn variable_value<'a>(alloc: Global, place: &mut Place<'a>, x: u32) -> Result<Step, AllocError>
+fn variable_value<'a>(alloc: Global, place: &mut Evaluation<'a>, x: u32) -> Result<Step, AllocError>
     requires frames { AreKeptFrames place.old.frames.items }
     ensures { (ps : List PlainTaken) (w : ℕ) → frames_weight place.old.frames.items < w → IfOk result (Steps ps (through (done (Outcomes.number (Some (variable_lin x)))) place.old.frames.items) place.old.at w place.new) }
 {
@@ -510,7 +530,7 @@ fn variable_value<'a>(alloc: Global, place: &mut Place<'a>, x: u32) -> Result<St
 #[inline(never)]
 fn take_apart_condition<'a>(
     alloc: Global,
-    place: &mut Place<'a>,
+    place: &mut Evaluation<'a>,
     cond: &'a Cond,
     path: &[Taken],
 ) -> Result<Step, AllocError>
@@ -536,7 +556,7 @@ fn take_apart_condition<'a>(
 /// The truth of a Boolean variable, the condition that stands there.
 fn flag<'a>(
     alloc: Global,
-    place: &mut Place<'a>,
+    place: &mut Evaluation<'a>,
     cond: &'a Cond,
     x: u32,
     path: &[Taken],

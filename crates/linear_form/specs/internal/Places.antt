@@ -10,7 +10,8 @@ use Rattle.linear_form.specs.Questions.{Ends, evaluate, test}
 use Rattle.linear_values.specs.PlainValues.{linear_of}
 use Rattle.linear_form.specs.internal.Nodes.{binary, unary, comparison, of_truth, after_first}
 use Rattle.linear_values.specs.Kept.{IsKeptValue}
-use Rattle.linear_form.specs.declared.places.Place.{Place}
+use Rattle.linear_form.specs.Standings.{Standing}
+use Rattle.linear_form.specs.declared.places.Evaluation.{Evaluation}
 use Rattle.linear_form.specs.declared.places.Two.{Two}
 use Rattle.linear_form.specs.declared.places.Focus as F
 use Rattle.linear_form.specs.declared.places.Frame as W
@@ -78,9 +79,13 @@ ended (Result.ends e) = done e
 abbrev pub through : Query Result → List W.Frame → Query Ends
 through q fs = next (framed q fs) ended
 
--- What a place has left to ask.
-abbrev pub left_at : Place → Query Ends
-left_at p = through (asked_by p.focus) p.frames.items
+-- What an evaluation has left to ask.
+abbrev pub left_at : Evaluation → Query Ends
+left_at e = through (asked_by e.focus) e.frames.items
+
+-- Where it stands, as contracts see it.
+abbrev pub standing : Evaluation → Standing
+standing e = record { left = left_at e; at = e.at }
 
 -- ---- The values that are kept have terms that grow, and small numbers
 
@@ -106,6 +111,9 @@ abbrev pub AreKeptFrames : List W.Frame → Type 0
 AreKeptFrames [] = Unit {0}
 AreKeptFrames (f ∷ fs) = IsKeptFrame f × AreKeptFrames fs
 
+abbrev pub IsKeptEvaluation : Evaluation → Type 0
+IsKeptEvaluation e = IsKeptFocus e.focus × AreKeptFrames e.frames.items
+
 -- ---- How much is left to do
 
 abbrev pub focus_weight : F.Focus → ℕ
@@ -130,5 +138,5 @@ abbrev pub frames_weight : List W.Frame → ℕ
 frames_weight [] = 0
 frames_weight (f ∷ fs) = frame_weight f + frames_weight fs
 
-abbrev pub weight : Place → ℕ
-weight p = focus_weight p.focus + frames_weight p.frames.items
+abbrev pub weight : Evaluation → ℕ
+weight e = focus_weight e.focus + frames_weight e.frames.items

@@ -1,11 +1,11 @@
 use Rattle.heylo_formula.specs.Goals.{goal_of}
 use Rattle.linear_form.specs.Places.{IsOn}
 use Rattle.linear_form.specs.PlainPaths.{path_of}
-use Rattle.linear_form.specs.internal.Places.{weight}
+use Rattle.linear_form.specs.internal.Places.{standing, weight, IsKeptEvaluation}
 use Rattle.linear_form.proofs.continuations.go_on_from.Given as goal
 
 abbrev pub invariant-steps : goal.invariant-steps
-invariant-steps l = IsOn (goal_of l.goal) (path_of l.path) l.now
+invariant-steps l = IsOn (goal_of l.goal) (path_of l.path) (standing l.now) × IsKeptEvaluation l.now
 
 abbrev pub decreases-steps : goal.decreases-steps
 decreases-steps l = weight l.now
