@@ -22,3 +22,4 @@ mod MadeGoals
 mod GeneratedOver
 mod TypedParts
 mod ScopeNumbers
+mod KeptForms

@@ -11,6 +11,7 @@ ghost use Rattle.vp_generator.specs.Scopes.{named};
 ghost use Rattle.vp_generator.specs.internal.Lookup.{number_in};
 
 use crate::prenexed_forms::Prenex;
+use crate::quantifiers::has_binder;
 use heylo_formula::{Cond, Form, Ty};
 use heyvl_acts::VarInfo;
 use std::alloc::{AllocError, Global};
@@ -270,13 +271,16 @@ fn body(
     Ok(without)
 }
 
-/// The form with a variable of its own for each occurrence of a binder, added to the variables.
+/// The form with a variable of its own for each occurrence of a binder, added to the variables. A form that has none stays as it is.
 pub fn prenex(alloc: Global, form: Form, vars: Vec<VarInfo>) -> Result<Prenex, AllocError>
     requires few { length vars.items + length (binders (form_of form)) < 2 ^ 31 }
     requires named { AreNamed (length vars.items) (binders (form_of form)) }
     ensures tree { IfOk result (λ p. form_of p.form ≡ prenexed (length vars.items) (form_of form)) }
     ensures vars { IfOk result (λ p. p.vars.items ≡ named vars.items (binders (form_of form))) }
 {
+    if !has_binder(&form) {
+        return Ok(Prenex { form, vars });
+    }
     let mut scope = Vec::new(alloc);
     let mut found = Vec::new(alloc);
     let without = form_unbound(alloc, &form, &mut scope, vars.len() as u32, &mut found)?;
