@@ -7,7 +7,8 @@ use Rattle.heylo_formula.specs.Variables.{occurs, occurs_in_term}
 use Rattle.heylo_formula.specs.Sizes.{nodes, nodes_in_term}
 use Rattle.heylo_formula.specs.Substitution.{least_unused, fresh}
 use Rattle.heylo_formula.proofs.exported.Substitutions.{fresh_is}
-use Rattle.heylo_graph.specs.Trees.{Tree}
+use Rattle.heylo_graph.specs.Trees.{Tree, occurs_tree}
+use Rattle.std.specs.Prelude.{IfOk, Result, Ok, Err}
 use Rattle.heylo_graph.specs.declared.nodes.Node.{Node}
 use Rattle.heylo_graph.specs.Nodes.{Stands}
 
@@ -59,3 +60,8 @@ search_over ns body t n b h e c f s = over f t n h.from (h.below f s) (sym (e f 
 -- The next number is one of 32 bits.
 pub search_fits : (ns : List Node) (body : ℕ) (t : Term) (n : ℕ) (f : Form) → IsSearching ns body t n → Stands ns body (Tree.formula f) → nodes f + nodes_in_term t < 2 ^ 31 → n + 1 < 2 ^ 32
 search_fits ns body t n f h s k = let l = h.below f s in let m = fresh_below f t k in omega (arith, l, m)
+
+-- What is told of the tree of a node is told of its formula.
+pub told_of_formula : {E : Type 0} (ns : List Node) (i x : ℕ) (r : Result Bool E) → IfOk r (λ b. (t : Tree) → Stands ns i t → b ≡ occurs_tree x t) → IfOk r (λ b. (f : Form) → Stands ns i (Tree.formula f) → b ≡ occurs x f)
+told_of_formula ns i x (Ok b) h = λ f s. h (Tree.formula f) s
+told_of_formula ns i x (Err e) h = tt

@@ -50,6 +50,13 @@ trees_keep ts (n ∷ ns) i h = trees_keep (ts ++ assembled (found ts) n ∷ []) 
 pub tree_kept : (ns ms : List Node) (i : ℕ) → i < length ns → tree_at (ns ++ ms) i ≡ tree_at ns i
 tree_kept ns ms i h = ap (λ l. joined (slice_get l i)) (trees_append [] ns ms) ∙ ap joined (trees_keep (trees ns) ms i (omega (arith, h, trees_length [] ns)))
 
+form_is : (f g : Form) → Some (Tree.formula f) ≡ Some (Tree.formula g) → f ≡ g
+form_is f g e = cc
+
+-- One formula stands at a number.
+pub same_form : (ns : List Node) (i : ℕ) (f g : Form) → Stands ns i (Tree.formula f) → Stands ns i (Tree.formula g) → f ≡ g
+same_form ns i f g s u = form_is f g (sym s.tree ∙ u.tree)
+
 pub tree_within : (ns : List Node) (i : ℕ) (t : Tree) → tree_at ns i ≡ Some t → i < length ns
 tree_within ns i t h = go (slice_get (trees ns) i) refl h
   where

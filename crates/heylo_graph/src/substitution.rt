@@ -3,7 +3,7 @@
 
 ghost use Rattle.std.specs.Prelude.{◌≡◌, ◌+◌, ◌^◌, ◌<◌, ◌||◌, true, false, Option, length, get_or, slice_get, Some, None, IfOk, IfSome, IfNone, OnOk, OnErr};
 ghost use Rattle.heylo_formula.specs.Formula.{Form as PlainForm};
-ghost use Rattle.heylo_formula.specs.PlainTrees.{term_of};
+ghost use Rattle.heylo_formula.specs.PlainTrees.{form_of, term_of};
 ghost use Rattle.heylo_formula.specs.Sizes.{nodes, nodes_in_term};
 ghost use Rattle.heylo_formula.specs.Variables.{occurs, occurs_in_term};
 ghost use Rattle.heylo_formula.specs.Binders.{has_binder};
@@ -16,9 +16,12 @@ ghost use Rattle.heylo_graph.specs.declared.nodes.Node.{Node as NodeValue};
 
 use crate::graphs::Graph;
 use crate::nodes::{Node, NodeId};
-use heylo_formula::Term;
+use heylo_formula::{Form, Term};
 use heyvl_num::Ext;
 use std::alloc::AllocError;
+
+/// The most nodes of a tree that is made for a search.
+const FEW_NODES: u64 = 100_000;
 
 impl Graph {
     /// The formula with the term for each free occurrence of a variable. A binder of that variable is left as it is. A binder
@@ -323,19 +326,65 @@ impl Graph {
         requires small { (f : PlainForm) → Stands self.now body (Tree.formula f) → nodes f + nodes_in_term (term_of with.now) < 2 ^ 31 }
         ensures { IfOk result (λ z. (f : PlainForm) → Stands self.now body (Tree.formula f) → z ≡ fresh f (term_of with.now)) }
     {
+        let tree = self.small_tree(body)?;
+        self.least_number(body, &tree, with)
+    }
+
+    /// The same, by the tree of the body where it is at hand.
+    fn least_number(
+        &self,
+        body: NodeId,
+        tree: &Option<Form>,
+        with: &Term,
+    ) -> Result<u32, AllocError>
+        requires form { IsFormula self.now body }
+        requires tree { IfSome tree.now (λ f. Stands self.now body (Tree.formula (form_of f))) }
+        requires small { (f : PlainForm) → Stands self.now body (Tree.formula f) → nodes f + nodes_in_term (term_of with.now) < 2 ^ 31 }
+        ensures { IfOk result (λ z. (f : PlainForm) → Stands self.now body (Tree.formula f) → z ≡ fresh f (term_of with.now)) }
+    {
         let mut number = 1_048_576;
-        while self.is_taken(number, body, with)? {
+        while self.is_taken(number, body, tree, with)? {
             number += 1;
         }
         Ok(number)
     }
 
-    /// Whether the number occurs in the body or in the term.
-    fn is_taken(&self, number: u32, body: NodeId, with: &Term) -> Result<bool, AllocError>
+    /// The tree of the node, where it has few nodes: a search in it ends where it finds, and meets no node of other trees.
+    fn small_tree(&self, id: NodeId) -> Result<Option<Form>, AllocError>
+        requires { IsFormula self.now id }
+        ensures { IfOk result (λ tree. IfSome tree (λ f. Stands self.now id (Tree.formula (form_of f)))) }
+    {
+        if self.nodes(id) > FEW_NODES {
+            return Ok(None);
+        }
+        Ok(Some(self.tree(id)?))
+    }
+
+    /// Whether the number occurs in the body, whose tree this is where it is at hand, or in the term.
+    fn is_taken(
+        &self,
+        number: u32,
+        body: NodeId,
+        tree: &Option<Form>,
+        with: &Term,
+    ) -> Result<bool, AllocError>
         requires form { IsFormula self.now body }
+        requires tree { IfSome tree.now (λ f. Stands self.now body (Tree.formula (form_of f))) }
         ensures { IfOk result (λ b. (f : PlainForm) → Stands self.now body (Tree.formula f) → b ≡ (occurs number f || occurs_in_term number (term_of with.now))) }
     {
-        let inside = self.occurs(body, number)?;
+        let inside = self.in_body(number, body, tree)?;
         Ok(inside || with.occurs(number))
+    }
+
+    /// Whether the number occurs in the body, whose tree this is where it is at hand.
+    fn in_body(&self, number: u32, body: NodeId, tree: &Option<Form>) -> Result<bool, AllocError>
+        requires form { IsFormula self.now body }
+        requires tree { IfSome tree.now (λ f. Stands self.now body (Tree.formula (form_of f))) }
+        ensures { IfOk result (λ b. (f : PlainForm) → Stands self.now body (Tree.formula f) → b ≡ occurs number f) }
+    {
+        match tree {
+            Some(form) => Ok(form.occurs(number)),
+            None => self.occurs(body, number),
+        }
     }
 }

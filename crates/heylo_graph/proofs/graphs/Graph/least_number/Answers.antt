@@ -1,7 +1,7 @@
 use Rattle.std.proofs.Common.{arith}
 use Rattle.heylo_formula.specs.PlainTrees.{term_of}
 use Rattle.heylo_graph.proofs.FreshSearch.{search_begun, search_step, search_over, search_fits}
-use Rattle.heylo_graph.proofs.graphs.Graph.fresh_number.Goals as goal
+use Rattle.heylo_graph.proofs.graphs.Graph.least_number.Goals as goal
 
 pub loop-number-init : goal.loop-number-init
 loop-number-init c = search_begun c.args.self.now c.args.body (term_of c.args.with.now)
