@@ -15,6 +15,7 @@ use Rattle.heylo_formula.proofs.exported.Substitutions.{kept_subst}
 use Rattle.heylo_graph.specs.Trees.{Tree}
 use Rattle.heylo_graph.specs.Nodes.{Begins, IsFormula, IsNodeOf, Stands, assembled, tree_at}
 use Rattle.heylo_graph.specs.declared.nodes.Node.{Node}
+pub use Rattle.heylo_graph.proofs.exported.LongerLists.{same_form}
 use Rattle.heylo_graph.proofs.exported.LongerLists.{stands_longer, tree_within, const_node, cut_node}
 use Rattle.vp_generator.specs.Answers.{IsStop}
 use Rattle.vp_generator.specs.GraphAnswers.{IsAnswerIn, IsWithin, IsStopAt}
@@ -31,13 +32,6 @@ begins_itself ns = record { more = []; whole = sym (append-nil ns) }
 
 pub begins_on : (a b c : List Node) → Begins a b → Begins b c → Begins a c
 begins_on a b c p q = record { more = p.more ++ q.more; whole = q.whole ∙ ap (λ l. l ++ q.more) p.whole ∙ append_assoc a p.more q.more }
-
-formula_is : (f g : Form) → Some (Tree.formula f) ≡ Some (Tree.formula g) → f ≡ g
-formula_is f g e = cc
-
--- One formula stands at a number.
-pub same_form : (ns : List Node) (i : ℕ) (f g : Form) → Stands ns i (Tree.formula f) → Stands ns i (Tree.formula g) → f ≡ g
-same_form ns i f g s u = formula_is f g (sym s.tree ∙ u.tree)
 
 pub begins_same : (old new : List Node) → new ≡ old → Begins old new
 begins_same old new e = subst (Begins old) (sym e) (begins_itself old)

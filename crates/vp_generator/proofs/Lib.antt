@@ -23,3 +23,4 @@ mod GeneratedOver
 mod TypedParts
 mod ScopeNumbers
 mod KeptForms
+mod ActsInParts

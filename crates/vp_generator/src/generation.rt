@@ -1,6 +1,6 @@
 //! The form that is generated from acts, from the last act to the first, in a graph in which equal parts stand once.
 
-ghost use Rattle.std.specs.Prelude.{◌≡◌, ◌<◌, ◌≤◌, ◌^◌};
+ghost use Rattle.std.specs.Prelude.{IfOk, ◌≡◌, ◌<◌, ◌≤◌, ◌^◌};
 ghost use Rattle.heylo_formula.specs.Formula.{Form as plain};
 ghost use Rattle.heylo_formula.specs.PlainTrees.{form_of, cond_of};
 ghost use Rattle.heylo_graph.specs.Trees.{Tree};
@@ -21,7 +21,13 @@ use crate::tosses::tossed;
 use heylo_formula::{Cond, Form};
 use heylo_graph::{Graph, NodeId};
 use heyvl_acts::Act;
-use std::alloc::Global;
+use std::alloc::{AllocError, Global};
+
+/// How many acts are taken before it is looked at how many nodes the graph holds.
+const ACTS_AT_ONCE: usize = 4;
+
+/// A graph is crowded that holds more than so many times the nodes of the form's tree: those of forms that acts have changed since.
+const CROWDED: u64 = 4;
 
 /// The form of acts, over the form of what follows them; of at most 200,000 nodes.
 pub fn vp(alloc: Global, acts: &[Act], post: Form) -> Result<Form, VpStop>
@@ -29,11 +35,35 @@ pub fn vp(alloc: Global, acts: &[Act], post: Form) -> Result<Form, VpStop>
     ensures { IsAnswer (vp (acts_of acts.now) (form_of post)) result }
 {
     let mut graph = Graph::new(alloc);
-    let start = graph.put(&post)?;
-    match vp_in(&mut graph, acts, start, MOST_NODES) {
-        Ok(id) => Ok(graph.tree(id)?),
-        Err(stop) => Err(stop),
+    let mut form = graph.put(&post)?;
+    let mut rest = acts;
+    'parts: loop {
+        let (before, last) = rest.split_at(rest.len().saturating_sub(ACTS_AT_ONCE));
+        match vp_in(&mut graph, last, form, MOST_NODES) {
+            Ok(next) => {
+                if before.is_empty() {
+                    return Ok(graph.tree(next)?);
+                }
+                (graph, form) = uncrowded(alloc, graph, next)?;
+            }
+            Err(stop) => return Err(stop),
+        }
+        rest = before;
     }
+}
+
+/// The form, in its graph, or in one of its own where its graph is crowded. Want of memory is the one error.
+fn uncrowded(alloc: Global, graph: Graph, form: NodeId) -> Result<(Graph, NodeId), AllocError>
+    requires { IsFormula graph form }
+    ensures { IfOk result (λ r. (k : plain) → Stands graph form (Tree.formula k) → Stands r.0 r.1 (Tree.formula k)) }
+{
+    if graph.len() as u64 / CROWDED <= graph.nodes(form) {
+        return Ok((graph, form));
+    }
+    let tree = graph.tree(form)?;
+    let mut own = Graph::new(alloc);
+    let id = own.put(&tree)?;
+    Ok((own, id))
 }
 
 /// The form of acts, over the form of what follows them, in its graph; of at most so many nodes, and at most 1,000 deep. Where
