@@ -20,7 +20,8 @@ use Rattle.heylo_formula.specs.declared.goals.Made.TheVariants as made
 use Rattle.heylo_formula.specs.declared.values.Val.{Val}
 use Rattle.heyvl_acts.specs.Acts.{Acts, Head, TypedProcedure, procedure_at, variables}
 use Rattle.heyvl_acts.specs.Rules.{Each}
-use Rattle.loop_encodings.specs.BoundGoals.{BoundGoalsHold, GoalHolds, bound_goals, goal_variables}
+use Rattle.loop_encodings.specs.BoundGoals.{BoundGoal, BoundGoalsHold, GoalFails, GoalHolds, bound_goals, goal_id, goal_variables}
+use Rattle.loop_encodings.proofs.exported.BoundNames.{same_goal}
 use Rattle.ranking_rule.specs.RankingGoals as ranking
 use Rattle.ranking_rule.specs.Rankings.{IsNoRanking, IsRanking, RankedLoop}
 use Rattle.region_split.specs.DecisionLaws.{DecisionsTell}
@@ -81,19 +82,23 @@ rank_unmissed (Unknown c) m e = cc
 
 -- ---- The goals of a bound
 
--- The goal holds, and what comes of it is known.
+-- The goal is one of the bound that holds, and what comes of it is known.
 record IsKnown (ps : List TypedProcedure) (p : ℕ) (o : GoalOutcome) : Type 0 where
-  holds : GoalHolds ps (procedure_at ps p) o.goal.id
+  asked : BoundGoal
+  named : o.goal.id ≡ goal_id asked
+  holds : GoalHolds ps (procedure_at ps p) asked
   known : (c : Cause) → o.outcome ≡ outcome_of (Unknown c) → ⊥
   unmissed : (m : Miss) → o.outcome ≡ certified.outcome_of (Some m) → ⊥
 
-known_row : (ps : List TypedProcedure) (p : ℕ) (ids : List GoalId) (gs : List DecidedGoal) → AreFound (IsGoalOf ps p) Decides ids gs → Each (IsGoalWithinReach ps p) ids → Each (GoalHolds ps (procedure_at ps p)) ids → Each (IsKnown ps p) (outcomes outcome_of gs)
+known_row : (ps : List TypedProcedure) (p : ℕ) (ids : List BoundGoal) (gs : List DecidedGoal) → AreFound (IsGoalOf ps p) Decides ids gs → Each (IsGoalWithinReach ps p) ids → Each (GoalHolds ps (procedure_at ps p)) ids → Each (IsKnown ps p) (outcomes outcome_of gs)
 known_row ps p [] [] h r e = tt
 known_row ps p [] (g ∷ gs) h r e = absurd h
 known_row ps p (i ∷ ids) [] h r e = absurd h
 known_row ps p (i ∷ ids) (g ∷ gs) h r e = (
   record {
-    holds = subst (λ j. GoalHolds ps (procedure_at ps p) j) (sym h.0.goal.id_of) e.0;
+    asked = i;
+    named = h.0.goal.id_of;
+    holds = e.0;
     known = λ c. known g.goal.made g.found c h.0.found (r.0 g.goal.made h.0.goal.made);
     unmissed = λ m. unmissed g.found m;
   },
@@ -112,15 +117,18 @@ module _ (ps : List TypedProcedure) (answers : List Answer) (all : List NamedGoa
   told_known id o h t = (told_is (IsKnown ps p) (row_at (all_outcomes outcome_of are.table) p) (record { goal = t.goal; outcome = o }) h t.told_of).0
 
   -- The goal whose state is shown fails, and holds.
-  shown_or_holds : (id : GoalId) (s : Vec Val Global) → IsVerdictOn answers p (verdict.NotVerified id s) → GoalHolds ps (procedure_at ps p) id → ⊥
-  shown_or_holds id s on h = let f = (says.shown p id s on).fails in f.fails (h (take (length (goal_variables ps (procedure_at ps p) id)) s.items) f.choices f.state)
+  shown_or_holds : (id : GoalId) (s : Vec Val Global) (g : BoundGoal) → IsVerdictOn answers p (verdict.NotVerified id s) → goal_id g ≡ id → GoalHolds ps (procedure_at ps p) g → ⊥
+  shown_or_holds id s g on e h =
+      let k = says.shown p id s on in
+      let f = subst (λ (b : BoundGoal). GoalFails ps (procedure_at ps p) b (take (length (goal_variables ps (procedure_at ps p) b)) s.items)) (same_goal k.goal g (k.id_of ∙ sym e)) k.fails in
+      f.fails (h (take (length (goal_variables ps (procedure_at ps p) g)) s.items) f.choices f.state)
 
   must_prove : (v : Verdict) → ((procedure_at ps p).body ≡ None → ⊥) → Each (IsKnown ps p) (row_at (all_outcomes outcome_of are.table) p) → IsVerdictOn answers p v → IsVerdict ps (all_outcomes outcome_of are.table) p v → says_proved v ≡ true
   must_prove verdict.Verified b h on k = refl
   must_prove (verdict.Valid why) b h on k = refl
   must_prove (verdict.Conditional q) b h on k = refl
   must_prove verdict.NoBody b h on k = absurd (b k)
-  must_prove (verdict.NotVerified id s) b h on k = absurd (shown_or_holds id s on (subst (λ i. GoalHolds ps (procedure_at ps p) i) k.id_of (told_known id (outcome_of (Falsified s)) h k).holds))
+  must_prove (verdict.NotVerified id s) b h on k = let t = told_known id (outcome_of (Falsified s)) h k in absurd (shown_or_holds id s t.asked on (sym t.named ∙ k.id_of) t.holds)
   must_prove (verdict.Unknown id c) b h on k = absurd ((told_known id (outcome_of (Unknown c)) h k).known c refl)
   must_prove (verdict.Unchecked id m) b h on k = absurd ((told_known id (certified.outcome_of (Some m)) h k).unmissed m refl)
 

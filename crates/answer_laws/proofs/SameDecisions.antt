@@ -10,13 +10,12 @@ use Rattle.goal_answers.specs.declared.decisions.Decision.TheVariants.{Proved, F
 use Rattle.goal_answers.specs.declared.named_goals.NamedGoal.{NamedGoal}
 use Rattle.heylo_formula.specs.Formula.{Form}
 use Rattle.heylo_formula.specs.Goals.{Goal}
-use Rattle.heylo_formula.specs.declared.goals.GoalId.{GoalId}
 use Rattle.heylo_formula.specs.declared.goals.Made.{Made}
 use Rattle.heylo_formula.specs.declared.goals.Made.TheVariants as made
 use Rattle.heylo_formula.specs.declared.values.Val.{Val}
 use Rattle.heyvl_acts.specs.Acts.{TypedProcedure, procedure_at}
 use Rattle.heyvl_acts.specs.Rules.{Each}
-use Rattle.loop_encodings.specs.BoundGoals.{bound_goals}
+use Rattle.loop_encodings.specs.BoundGoals.{BoundGoal, bound_goals}
 use Rattle.region_split.specs.DecisionLaws.{DecisionsAreUnique, IsOfLimits, IsSameCause, IsSameDecision}
 use Rattle.region_split.specs.Decisions.{IsDecision}
 use Rattle.verify_core.specs.GoalDecisions.{DecidedGoal, Decides, IsDecisionOf, outcome_of}
@@ -122,7 +121,7 @@ agree_decided = record {
 
 -- ---- Tables
 
-within_row : (Is : GoalId → NamedGoal → Type 0) (ids : List GoalId) (gs : List DecidedGoal) → AreFound Is Decides ids gs → Each IsWithinLimits gs → AreFound Is DecidesWithin ids gs
+within_row : (Is : BoundGoal → NamedGoal → Type 0) (ids : List BoundGoal) (gs : List DecidedGoal) → AreFound Is Decides ids gs → Each IsWithinLimits gs → AreFound Is DecidesWithin ids gs
 within_row Is [] [] h l = tt
 within_row Is [] (g ∷ gs) h l = absurd h
 within_row Is (i ∷ ids) [] h l = absurd h
@@ -134,7 +133,7 @@ within ps k [] (r ∷ t) h l = absurd h
 within ps k (q ∷ qs) [] h l = absurd h
 within ps k (q ∷ qs) (r ∷ t) h l = (within_row (IsGoalOf ps k) (bound_goals q) r h.0 l.0, within ps (suc k) qs t h.1 l.1)
 
-goal_twice : DecisionsAreUnique → (ps : List TypedProcedure) (k : ℕ) (i : GoalId) (g h : DecidedGoal) → HasFound (IsGoalOf ps k i) DecidesWithin g → HasFound (IsGoalOf ps k i) DecidesWithin h → SaySame g.found h.found
+goal_twice : DecisionsAreUnique → (ps : List TypedProcedure) (k : ℕ) (i : BoundGoal) (g h : DecidedGoal) → HasFound (IsGoalOf ps k i) DecidesWithin g → HasFound (IsGoalOf ps k i) DecidesWithin h → SaySame g.found h.found
 goal_twice law ps k i g h a b =
     let q = question ps (procedure_at ps k) i in
     decided_twice law q.found (goal q) g.goal.made h.goal.made g.found h.found a.goal.made b.goal.made a.found.0 b.found.0 a.found.1 b.found.1

@@ -14,11 +14,11 @@ use Rattle.goal_answers.specs.declared.named_goals.NamedGoal.{NamedGoal}
 use Rattle.goal_answers.specs.declared.trees.GoalCert.{GoalCert}
 use Rattle.heylo_formula.specs.Formula.{Form}
 use Rattle.heylo_formula.specs.Goals.{Goal}
-use Rattle.heylo_formula.specs.declared.goals.GoalId.{GoalId}
 use Rattle.heylo_formula.specs.declared.goals.Made.{Made}
 use Rattle.heylo_formula.specs.declared.goals.Made.TheVariants as made
 use Rattle.heylo_formula.specs.declared.values.Val.{Val}
 use Rattle.heyvl_acts.specs.Acts.{TypedProcedure, procedure_at}
+use Rattle.loop_encodings.specs.BoundGoals.{BoundGoal, goal_id}
 use Rattle.verify_core.specs.CertifiedGoals.{Certifies, CheckedGoal, HasTree, IsMissOf, IsRefusedAt, outcome_of}
 use Rattle.verify_core.specs.GoalDecisions as decided
 use Rattle.verify_core.specs.Outcomes.{is_falsified, is_open, is_proved}
@@ -58,16 +58,16 @@ one_place law f g made.Nodes made.Nodes t p r a b h k = h ∙ sym k
 
 -- ---- One goal
 
-module _ (never : NeverBoth) (place : OnePlace) (certs : List GoalCert) (grows : IsGrowingAfter None (certificates_of certs)) (ps : List TypedProcedure) (k : ℕ) (i : GoalId) where
+module _ (never : NeverBoth) (place : OnePlace) (certs : List GoalCert) (grows : IsGrowingAfter None (certificates_of certs)) (ps : List TypedProcedure) (k : ℕ) (i : BoundGoal) where
   -- A tree of such a goal is one of its procedure and its name.
-  tree_of_goal : (g : NamedGoal) (t : Tree) → IsGoalOf ps k i g → HasTree certs g.proc g.id t → HasTree certs k i t
+  tree_of_goal : (g : NamedGoal) (t : Tree) → IsGoalOf ps k i g → HasTree certs g.proc g.id t → HasTree certs k (goal_id i) t
   tree_of_goal g t a h = subst (λ j. HasTree certs k j t) a.id_of (subst (λ n. HasTree certs n g.id t) a.proc h)
 
-  tree_for_goal : (g : NamedGoal) (t : Tree) → IsGoalOf ps k i g → HasTree certs k i t → HasTree certs g.proc g.id t
+  tree_for_goal : (g : NamedGoal) (t : Tree) → IsGoalOf ps k i g → HasTree certs k (goal_id i) t → HasTree certs g.proc g.id t
   tree_for_goal g t a h = subst (λ n. HasTree certs n g.id t) (sym a.proc) (subst (λ j. HasTree certs k j t) (sym a.id_of) h)
 
   same_tree : (g h : NamedGoal) (t u : Tree) → IsGoalOf ps k i g → IsGoalOf ps k i h → HasTree certs g.proc g.id t → HasTree certs h.proc h.id u → t ≡ u
-  same_tree g h t u a b c d = one_tree certs k i t u grows (tree_of_goal g t a c) (tree_of_goal h u b d)
+  same_tree g h t u a b c d = one_tree certs k (goal_id i) t u grows (tree_of_goal g t a c) (tree_of_goal h u b d)
 
   missed_twice : (g h : NamedGoal) (m n : Option Miss) → IsGoalOf ps k i g → IsGoalOf ps k i h → IsMissOf certs g m → IsMissOf certs h n → SaySame m n
   missed_twice g h None None a b c d = tt

@@ -8,10 +8,9 @@ use Rattle.goal_answers.specs.declared.decisions.Decision.{Decision}
 use Rattle.goal_answers.specs.declared.decisions.Decision.TheVariants.{Proved, Falsified, Unknown}
 use Rattle.goal_answers.specs.declared.misses.Miss.{Miss}
 use Rattle.goal_answers.specs.declared.named_goals.NamedGoal.{NamedGoal}
-use Rattle.heylo_formula.specs.declared.goals.GoalId.{GoalId}
 use Rattle.heyvl_acts.specs.Acts.{Acts, TypedProcedure, procedure_at}
 use Rattle.heyvl_acts.specs.Rules.{Each}
-use Rattle.loop_encodings.specs.BoundGoals.{bound_goals}
+use Rattle.loop_encodings.specs.BoundGoals.{BoundGoal, bound_goals}
 use Rattle.verdict_report.specs.declared.answers.Verdict.{Verdict}
 use Rattle.verdict_report.specs.declared.answers.Verdict.TheVariants as verdict
 use Rattle.verify_core.specs.CertifiedGoals as certified
@@ -28,11 +27,11 @@ use Rattle.answer_laws.proofs.Told.{IsLawful, IsLawfulOne}
 
 -- ---- Tables
 
-nothing_beside : {A : Type 0} (f : A → Outcome) (R : GoalId → GoalWith A → Type 0) (gs : List (GoalWith A)) → AllZip R [] gs → outcomes f gs ≡ []
+nothing_beside : {A : Type 0} (f : A → Outcome) (R : BoundGoal → GoalWith A → Type 0) (gs : List (GoalWith A)) → AllZip R [] gs → outcomes f gs ≡ []
 nothing_beside f R [] h = refl
 nothing_beside f R (g ∷ gs) h = absurd h
 
-no_goals : {A : Type 0} (f : A → Outcome) (R : GoalId → GoalWith A → Type 0) (p : TypedProcedure) (gs : List (GoalWith A)) → p.body ≡ None → AllZip R (bound_goals p) gs → outcomes f gs ≡ []
+no_goals : {A : Type 0} (f : A → Outcome) (R : BoundGoal → GoalWith A → Type 0) (p : TypedProcedure) (gs : List (GoalWith A)) → p.body ≡ None → AllZip R (bound_goals p) gs → outcomes f gs ≡ []
 no_goals f R p gs e h = nothing_beside f R gs (subst (λ (o : Option Acts). AllZip R (bound_goals (record p { body = o })) gs) e h)
 
 bare_rows : {A : Type 0} (f : A → Outcome) (Finds : NamedGoal → A → Type 0) (ps : List TypedProcedure) (k : ℕ) (qs : List TypedProcedure) (table : List (List (GoalWith A))) → AreBoundsFound Finds ps k qs table → (p : ℕ) → (procedure_at qs p).body ≡ None → row_at (all_outcomes f table) p ≡ []
@@ -112,8 +111,8 @@ pub record Comes {A : Type 0} (f : A → Outcome) (S : A → A → Type 0) (o u 
   pub second : f b ≡ u
   pub same : S a b
 
-module _ {A : Type 0} (f : A → Outcome) (S : A → A → Type 0) (Finds : NamedGoal → A → Type 0) (ps : List TypedProcedure) (one : (k : ℕ) (i : GoalId) (g h : GoalWith A) → HasFound (IsGoalOf ps k i) Finds g → HasFound (IsGoalOf ps k i) Finds h → S g.found h.found) where
-  row_alike : (k : ℕ) (ids : List GoalId) (gs hs : List (GoalWith A)) → AreFound (IsGoalOf ps k) Finds ids gs → AreFound (IsGoalOf ps k) Finds ids hs → AllZip (AlikeGoals (Comes f S)) (outcomes f gs) (outcomes f hs)
+module _ {A : Type 0} (f : A → Outcome) (S : A → A → Type 0) (Finds : NamedGoal → A → Type 0) (ps : List TypedProcedure) (one : (k : ℕ) (i : BoundGoal) (g h : GoalWith A) → HasFound (IsGoalOf ps k i) Finds g → HasFound (IsGoalOf ps k i) Finds h → S g.found h.found) where
+  row_alike : (k : ℕ) (ids : List BoundGoal) (gs hs : List (GoalWith A)) → AreFound (IsGoalOf ps k) Finds ids gs → AreFound (IsGoalOf ps k) Finds ids hs → AllZip (AlikeGoals (Comes f S)) (outcomes f gs) (outcomes f hs)
   row_alike k [] [] [] a b = tt
   row_alike k [] (g ∷ gs) hs a b = absurd a
   row_alike k [] [] (h ∷ hs) a b = absurd b

@@ -6,12 +6,11 @@ use Rattle.goal_answers.specs.declared.named_goals.NamedGoal.{NamedGoal}
 use Rattle.goal_answers.specs.declared.trees.GoalCert.{GoalCert}
 use Rattle.heylo_formula.specs.Goals.{Goal, Holds, goal_of}
 use Rattle.heylo_formula.specs.TypedGoals.{HasItsVariables, IsTypedGoal}
-use Rattle.heylo_formula.specs.declared.goals.GoalId.{GoalId}
 use Rattle.heylo_formula.specs.declared.goals.Made.{Made}
 use Rattle.heylo_formula.specs.declared.goals.Made.TheVariants as made
 use Rattle.heyvl_acts.specs.Acts.{TypedProcedure, procedure_at}
 use Rattle.heyvl_acts.specs.Rules.{Each}
-use Rattle.loop_encodings.specs.BoundGoals.{BoundGoalsHold, bound_goals}
+use Rattle.loop_encodings.specs.BoundGoals.{BoundGoal, BoundGoalsHold, bound_goals}
 use Rattle.ranking_rule.specs.RankingGoals as ranking
 use Rattle.ranking_rule.specs.Rankings.{IsRanking, RankedLoop}
 use Rattle.region_split.specs.Decisions.{IsCause, IsDecision}
@@ -41,8 +40,8 @@ IsWithinReach made.Depth = ⊥
 IsWithinReach made.Nodes = ⊥
 
 -- Nothing keeps the goal of a bound from being decided, whatever is made of its question.
-abbrev pub IsGoalWithinReach : List TypedProcedure → ℕ → GoalId → Type 0
-IsGoalWithinReach ps p id = (m : Made) → IsMadeOf (question ps (procedure_at ps p) id) m → IsWithinReach m
+abbrev pub IsGoalWithinReach : List TypedProcedure → ℕ → BoundGoal → Type 0
+IsGoalWithinReach ps p asked = (m : Made) → IsMadeOf (question ps (procedure_at ps p) asked) m → IsWithinReach m
 
 -- Nothing keeps the goals of the procedure's bound from being decided.
 abbrev pub IsBoundWithinReach : List TypedProcedure → ℕ → Type 0

@@ -8,7 +8,6 @@ use Rattle.heylo_formula.specs.Choices.{Choices}
 use Rattle.heylo_formula.specs.Formula.{Form}
 use Rattle.heylo_formula.specs.State.{environment}
 use Rattle.heylo_formula.specs.Variables.{IsOver}
-use Rattle.heylo_formula.specs.declared.goals.GoalId.TheVariants.{Invariant}
 use Rattle.heylo_formula.specs.declared.types.Ty.{Ty}
 use Rattle.heylo_formula.proofs.exported.Agreement.{same_on}
 use Rattle.heylo_formula.proofs.exported.States.{append_first, length-typed, typed_append}
@@ -17,7 +16,7 @@ use Rattle.heyvl_acts.specs.Places.{in_order}
 use Rattle.heyvl_acts.specs.Program.{IsProgram}
 use Rattle.heyvl_acts.specs.Rules.{Each, MeetsRules, counted, loop_numbers}
 use Rattle.act_walks.specs.Loops.{loop_in}
-use Rattle.loop_encodings.specs.BoundGoals.{BoundGoalsHold, GoalHolds, IsAtMostOne, IsBounded, IsSmallThere, invariant_at, invariant_in}
+use Rattle.loop_encodings.specs.BoundGoals.{BoundGoal, BoundGoalsHold, GoalHolds, IsAtMostOne, IsBounded, IsSmallThere, invariant_at, invariant_in}
 use Rattle.bounded_runs.specs.internal.Contracts.{picks}
 use Rattle.bounded_runs.specs.internal.Programs.{IsSmall}
 use Rattle.bounded_runs.proofs.ModifiedVariables.{self}
@@ -100,7 +99,7 @@ main_goal ps p h g = go p.body h g
 record WeakGoals (ps : List TypedProcedure) (p : TypedProcedure) : Type 0 where
   pub pre : IsAtMostOne (type_list (variables p)) p.pre
   pub post : IsAtMostOne (type_list (variables p)) p.post
-  pub invariants : Each (λ n. GoalHolds ps p (Invariant n)) (loop_numbers (in_order (acts_in p.body)))
+  pub invariants : Each (λ n. GoalHolds ps p (BoundGoal.invariant n)) (loop_numbers (in_order (acts_in p.body)))
 
 weak_goals : (ps : List TypedProcedure) (p : TypedProcedure) → IsProgram p → BoundGoalsHold ps p → p.weak ≡ true → WeakGoals ps p
 weak_goals ps p h g e = go p.body p.weak h g e
@@ -108,10 +107,10 @@ weak_goals ps p h g e = go p.body p.weak h g e
     go : (b : Option Acts) (w : Bool) → IsProgram (record p { body = b; weak = w }) → BoundGoalsHold ps (record p { body = b; weak = w }) → w ≡ true → WeakGoals ps (record p { body = b; weak = w })
     go None w h g e = absurd (cc)
     go (Some acts) false h g e = absurd (cc)
-    go (Some acts) true h g e = record { pre = g.1.0; post = g.1.1.0; invariants = each_map Invariant (GoalHolds ps (record p { body = Some acts; weak = true })) (loop_numbers (in_order acts)) g.1.1.1 }
+    go (Some acts) true h g e = record { pre = g.1.0; post = g.1.1.0; invariants = each_map BoundGoal.invariant (GoalHolds ps (record p { body = Some acts; weak = true })) (loop_numbers (in_order acts)) g.1.1.1 }
 
 module _ (ps : List TypedProcedure) (p : TypedProcedure) (rules : MeetsRules ps p) (program : IsProgram p) (goals : BoundGoalsHold ps p) (weak : p.weak ≡ true) where
-  invariant_small : (n : ℕ) → GoalHolds ps p (Invariant n) → OfForm (IsSmallIn p) (invariant_in n (in_order (acts_in p.body)))
+  invariant_small : (n : ℕ) → GoalHolds ps p (BoundGoal.invariant n) → OfForm (IsSmallIn p) (invariant_in n (in_order (acts_in p.body)))
   invariant_small n h = go (invariant_in n (in_order (acts_in p.body))) refl
     where
       go : (o : Option Form) → invariant_in n (in_order (acts_in p.body)) ≡ o → OfForm (IsSmallIn p) (invariant_in n (in_order (acts_in p.body)))
@@ -119,7 +118,7 @@ module _ (ps : List TypedProcedure) (p : TypedProcedure) (rules : MeetsRules ps 
       go (Some f) e = subst (OfForm (IsSmallIn p)) (sym e) (λ s c t. subst (λ (o : Option Form). IsSmallThere o s c) e (h s c t))
 
   pub small_invariants : Each (HasSmallInvariant p) (in_order (acts_in p.body))
-  small_invariants = loops_have p 1 p.loops (in_order (acts_in p.body)) rules.numbered (each_all (λ n. GoalHolds ps p (Invariant n)) (λ n. OfForm (IsSmallIn p) (invariant_in n (in_order (acts_in p.body)))) (loop_numbers (in_order (acts_in p.body))) invariant_small (weak_goals ps p program goals weak).invariants)
+  small_invariants = loops_have p 1 p.loops (in_order (acts_in p.body)) rules.numbered (each_all (λ n. GoalHolds ps p (BoundGoal.invariant n)) (λ n. OfForm (IsSmallIn p) (invariant_in n (in_order (acts_in p.body)))) (loop_numbers (in_order (acts_in p.body))) invariant_small (weak_goals ps p program goals weak).invariants)
 
   pub small_pre : IsSmall (type_list p.inputs) p.pre
   small_pre = small_front (type_list p.inputs) (type_list (p.outputs ++ p.locals)) p.pre (subst (λ n. IsOver n p.pre) (sym (length-map p.inputs (λ (v : Variable). v.ty))) rules.pre_over) (subst (λ tys. IsAtMostOne tys p.pre) (map-append (λ (v : Variable). v.ty) p.inputs (p.outputs ++ p.locals)) (weak_goals ps p program goals weak).pre)

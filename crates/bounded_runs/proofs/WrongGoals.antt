@@ -15,7 +15,6 @@ use Rattle.heylo_formula.specs.Goals.{Compares}
 use Rattle.heylo_formula.specs.Meaning.{value}
 use Rattle.heylo_formula.specs.Operators.{validateᵛ, covalidateᵛ}
 use Rattle.heylo_formula.specs.State.{environment, IsTyped}
-use Rattle.heylo_formula.specs.declared.goals.GoalId.TheVariants.{Pre, Post, Invariant}
 use Rattle.heylo_formula.specs.declared.types.Ty.{Ty}
 use Rattle.heylo_formula.specs.declared.values.Val.{Val}
 use Rattle.heylo_formula.specs.declared.values.Val.TheVariants.{Truth}
@@ -29,7 +28,7 @@ use Rattle.run_machine.specs.Runs.{runs}
 use Rattle.run_machine.specs.Scheduler.{Tree, Forest}
 use Rattle.run_machine.specs.Step.{Decision}
 use Rattle.run_machine.specs.Sums.{sum_of}
-use Rattle.loop_encodings.specs.BoundGoals.{GoalHolds, IsBounded}
+use Rattle.loop_encodings.specs.BoundGoals.{BoundGoal, GoalHolds, IsBounded}
 use Rattle.loop_encodings.specs.Encoding.{encoding}
 use Rattle.bounded_runs.proofs.SmallPrograms.{one_not_zero, zero_held, one_held, two_held, half_from_zero, fair_weighs_one, only_first, nowhere, only, flag_named, one_form, two_form, coin}
 
@@ -83,10 +82,10 @@ doubling_breaks_its_bound : Bound (doubling ∷ []) 0 → ⊥
 doubling_breaks_its_bound h = two_above_one (let k = h (Truth false ∷ []) (refl, refl) 0 Tree.leaf in rw doubling_begun at k)
 
 -- Its pre and its post are not at most 1.
-pre_goal_fails : GoalHolds (doubling ∷ []) doubling Pre → ⊥
+pre_goal_fails : GoalHolds (doubling ∷ []) doubling BoundGoal.pre → ⊥
 pre_goal_fails h = two_above_one (h (Truth false ∷ []) Choices.stop (refl, refl))
 
-post_goal_fails : GoalHolds (doubling ∷ []) doubling Post → ⊥
+post_goal_fails : GoalHolds (doubling ∷ []) doubling BoundGoal.post → ⊥
 post_goal_fails h = two_above_one (h (Truth false ∷ []) Choices.stop (refl, refl))
 
 -- ---- Without the goals of invariants: a weak proc that tosses a coin and then ends, or loops with the invariant 2
@@ -127,10 +126,10 @@ looping_or_not_is_bounded : IsBounded (looping_or_not ∷ []) looping_or_not
 unfolding minᵛ impliesᵛ validateᵛ halfʳ leqᵛ leqʳ ◌+ᵛ◌ ◌*ᵛ◌ zeroᵛ oneᵛ zeroʳ oneʳ ◌+ʳ◌ ◌*ʳ◌ ratio
 looping_or_not_is_bounded s c t = record { holds = refl }
 
-its_pre_is_small : GoalHolds (looping_or_not ∷ []) looping_or_not Pre
+its_pre_is_small : GoalHolds (looping_or_not ∷ []) looping_or_not BoundGoal.pre
 its_pre_is_small s c t = ≤ᵛ_refl oneᵛ
 
-its_post_is_small : GoalHolds (looping_or_not ∷ []) looping_or_not Post
+its_post_is_small : GoalHolds (looping_or_not ∷ []) looping_or_not BoundGoal.post
 its_post_is_small s c t = zero-≤ᵛ-one
 
 -- After the toss and the test, half of its runs have ended with the post 0.
@@ -138,7 +137,7 @@ looping_or_not_breaks_its_bound : Bound (looping_or_not ∷ []) 0 → ⊥
 unfolding runs weighted_sum scaled halfʳ leqᵛ leqʳ ◌+ᵛ◌ ◌*ᵛ◌ zeroᵛ oneᵛ zeroʳ oneʳ ◌+ʳ◌ ◌*ʳ◌ ratio
 looping_or_not_breaks_its_bound h = let e = (h (Truth false ∷ []) (refl, refl) 2 Tree.leaf).holds in absurd (cc)
 
-its_invariant_is_not_small : GoalHolds (looping_or_not ∷ []) looping_or_not (Invariant 1) → ⊥
+its_invariant_is_not_small : GoalHolds (looping_or_not ∷ []) looping_or_not (BoundGoal.invariant 1) → ⊥
 its_invariant_is_not_small h = two_above_one (h (Truth false ∷ []) Choices.stop (refl, refl))
 
 -- ---- Without the goals of a called procedure: a coproc with the pre 0 and the post 0 collects a reward of 1

@@ -8,6 +8,7 @@ pub mod FromRules
 pub mod EncodedTypes
 pub mod Bodies
 pub mod Examples
+pub mod BoundNames
 pub mod PlainOccurrences
 pub mod EncodedOver
 pub mod SubstitutedVariables

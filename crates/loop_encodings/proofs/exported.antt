@@ -4,3 +4,4 @@ pub mod FromRules
 pub mod Counts
 pub mod EncodedTypes
 pub mod Examples
+pub mod BoundNames

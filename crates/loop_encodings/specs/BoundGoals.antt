@@ -10,7 +10,7 @@ use Rattle.heylo_formula.specs.Goals.{Compares}
 use Rattle.heylo_formula.specs.Meaning.{value}
 use Rattle.heylo_formula.specs.State.{environment, IsTyped}
 use Rattle.heylo_formula.specs.declared.goals.GoalId.{GoalId}
-use Rattle.heylo_formula.specs.declared.goals.GoalId.TheVariants.{Main, Pre, Post, Invariant, Ranking}
+use Rattle.heylo_formula.specs.declared.goals.GoalId.TheVariants.{Main, Pre, Post, Invariant}
 use Rattle.heylo_formula.specs.declared.types.Ty.{Ty}
 use Rattle.heylo_formula.specs.declared.values.Val.{Val}
 use Rattle.act_walks.specs.Loops.{loop_in}
@@ -20,17 +20,31 @@ use Rattle.heyvl_acts.specs.Places.{in_order}
 use Rattle.heyvl_acts.specs.Rules.{Each, loop_numbers}
 use Rattle.loop_encodings.specs.Encoding.{all_variables, encoding}
 
+-- A goal of a bound: the main one, and that the pre, the post or the invariant of the loop with this number is at most 1.
+pub data BoundGoal : Type 0 where
+  main : BoundGoal
+  pre : BoundGoal
+  post : BoundGoal
+  invariant : ℕ → BoundGoal
+
+-- The goal's name among all goals of a procedure, of which rankings have some too.
+abbrev pub goal_id : BoundGoal → GoalId
+goal_id BoundGoal.main = Main
+goal_id BoundGoal.pre = Pre
+goal_id BoundGoal.post = Post
+goal_id (BoundGoal.invariant n) = Invariant n
+
 -- The goals: of a procedure with a body the main one, and of a weak proc also that its pre, its post and each invariant are at
 -- most 1.
-abbrev pub bound_goals : TypedProcedure → List GoalId
+abbrev pub bound_goals : TypedProcedure → List BoundGoal
 bound_goals p = goals p.body
   where
-    weak_goals : Acts → List GoalId
-    weak_goals acts = Pre ∷ (Post ∷ map Invariant (loop_numbers (in_order acts)))
+    weak_goals : Acts → List BoundGoal
+    weak_goals acts = BoundGoal.pre ∷ (BoundGoal.post ∷ map BoundGoal.invariant (loop_numbers (in_order acts)))
 
-    goals : Option Acts → List GoalId
+    goals : Option Acts → List BoundGoal
     goals None = []
-    goals (Some acts) = Main ∷ (if p.weak then weak_goals acts else [])
+    goals (Some acts) = BoundGoal.main ∷ (if p.weak then weak_goals acts else [])
 
 -- The invariant of this loop; none where there is no loop.
 abbrev pub invariant_at : Option (Head × Acts) → Option Form
@@ -42,12 +56,11 @@ abbrev pub invariant_in : ℕ → List Act → Option Form
 invariant_in n acts = invariant_at (loop_in n acts)
 
 -- The variables that the goal speaks of: the main one of those of the encoding, the others of the procedure's.
-abbrev pub goal_variables : List TypedProcedure → TypedProcedure → GoalId → List Variable
-goal_variables ps p Main = all_variables ps p
-goal_variables ps p Pre = variables p
-goal_variables ps p Post = variables p
-goal_variables ps p (Invariant n) = variables p
-goal_variables ps p (Ranking n) = variables p
+abbrev pub goal_variables : List TypedProcedure → TypedProcedure → BoundGoal → List Variable
+goal_variables ps p BoundGoal.main = all_variables ps p
+goal_variables ps p BoundGoal.pre = variables p
+goal_variables ps p BoundGoal.post = variables p
+goal_variables ps p (BoundGoal.invariant n) = variables p
 
 -- Where there is a formula, it is at most 1 in this state and for these choices.
 abbrev pub IsSmallThere : Option Form → List Val → Choices → Type 0
@@ -55,27 +68,26 @@ IsSmallThere None s c = Unit {0}
 IsSmallThere (Some f) s c = value f (environment s) c ≤ᵛ oneᵛ
 
 -- What the goal asks of a state and of what its forms and its encoding leave open. The main one asks that the pre bounds what the
--- encoded body makes of the post, from above in a coproc, from below in a proc. What a ranking asks is no goal of a bound.
-abbrev pub GoalHoldsIn : List TypedProcedure → TypedProcedure → GoalId → List Val → Choices → Type 0
-GoalHoldsIn ps p Main s c = Compares p.co (value p.pre (environment s) Choices.stop) (forward (encoding ps p) (value p.post) (environment s) c)
-GoalHoldsIn ps p Pre s c = value p.pre (environment s) c ≤ᵛ oneᵛ
-GoalHoldsIn ps p Post s c = value p.post (environment s) c ≤ᵛ oneᵛ
-GoalHoldsIn ps p (Invariant n) s c = IsSmallThere (invariant_in n (in_order (acts_in p.body))) s c
-GoalHoldsIn ps p (Ranking n) s c = Unit {0}
+-- encoded body makes of the post, from above in a coproc, from below in a proc.
+abbrev pub GoalHoldsIn : List TypedProcedure → TypedProcedure → BoundGoal → List Val → Choices → Type 0
+GoalHoldsIn ps p BoundGoal.main s c = Compares p.co (value p.pre (environment s) Choices.stop) (forward (encoding ps p) (value p.post) (environment s) c)
+GoalHoldsIn ps p BoundGoal.pre s c = value p.pre (environment s) c ≤ᵛ oneᵛ
+GoalHoldsIn ps p BoundGoal.post s c = value p.post (environment s) c ≤ᵛ oneᵛ
+GoalHoldsIn ps p (BoundGoal.invariant n) s c = IsSmallThere (invariant_in n (in_order (acts_in p.body))) s c
 
 -- The goal of the procedure holds: in each state of its variables, whatever is chosen.
-abbrev pub GoalHolds : List TypedProcedure → TypedProcedure → GoalId → Type 0
-GoalHolds ps p id = (s : List Val) (c : Choices) → IsTyped (type_list (goal_variables ps p id)) s → GoalHoldsIn ps p id s c
+abbrev pub GoalHolds : List TypedProcedure → TypedProcedure → BoundGoal → Type 0
+GoalHolds ps p goal = (s : List Val) (c : Choices) → IsTyped (type_list (goal_variables ps p goal)) s → GoalHoldsIn ps p goal s c
 
 -- It fails in a state of its variables, for some choices.
-pub record GoalFails (ps : List TypedProcedure) (p : TypedProcedure) (id : GoalId) (s : List Val) : Type 0 where
+pub record GoalFails (ps : List TypedProcedure) (p : TypedProcedure) (goal : BoundGoal) (s : List Val) : Type 0 where
   pub choices : Choices
-  pub state : IsTyped (type_list (goal_variables ps p id)) s
-  pub fails : GoalHoldsIn ps p id s choices → ⊥
+  pub state : IsTyped (type_list (goal_variables ps p goal)) s
+  pub fails : GoalHoldsIn ps p goal s choices → ⊥
 
 -- The main goal holds.
 abbrev pub IsBounded : List TypedProcedure → TypedProcedure → Type 0
-IsBounded ps p = GoalHolds ps p Main
+IsBounded ps p = GoalHolds ps p BoundGoal.main
 
 -- At most 1 in each state of these types, whatever is chosen.
 abbrev pub IsAtMostOne : List Ty → Form → Type 0

@@ -7,8 +7,6 @@ use Rattle.heylo_formula.specs.Choices.{Choices}
 use Rattle.heylo_formula.specs.Formula.{Form}
 use Rattle.heylo_formula.specs.Meaning.{value}
 use Rattle.heylo_formula.specs.State.{environment}
-use Rattle.heylo_formula.specs.declared.goals.GoalId.{GoalId}
-use Rattle.heylo_formula.specs.declared.goals.GoalId.TheVariants.{Main, Pre, Post, Invariant}
 use Rattle.heylo_formula.specs.declared.values.Val.{Val}
 use Rattle.goal_answers.specs.declared.decisions.Decision.{Decision}
 use Rattle.goal_answers.specs.declared.decisions.Decision.TheVariants as decision
@@ -18,7 +16,7 @@ use Rattle.heyvl_acts.specs.Program.{IsProgram}
 use Rattle.heyvl_acts.specs.Rules.{Each, MeetsRules, loop_numbers}
 use Rattle.heyvl_acts.specs.Straight.{IsStraight}
 use Rattle.heyvl_acts.proofs.exported.Each.{each_at}
-use Rattle.loop_encodings.specs.BoundGoals.{BoundGoalsHold, GoalHolds, bound_goals}
+use Rattle.loop_encodings.specs.BoundGoals.{BoundGoal, BoundGoalsHold, GoalHolds, bound_goals}
 use Rattle.act_walks.specs.Loops.{loop_in}
 use Rattle.run_machine.specs.Bound.{Bound, IsState, RankedBy}
 use Rattle.verdict_report.specs.declared.answers.Answer.{Answer}
@@ -49,8 +47,8 @@ program_body p h = go p.body refl h
     go None e k = absurd (cc)
     go (Some acts) e k = record { acts = acts; is = e }
 
-abbrev weak_goals : Acts → List GoalId
-weak_goals acts = Main ∷ (Pre ∷ (Post ∷ map Invariant (loop_numbers (in_order acts))))
+abbrev weak_goals : Acts → List BoundGoal
+weak_goals acts = BoundGoal.main ∷ (BoundGoal.pre ∷ (BoundGoal.post ∷ map BoundGoal.invariant (loop_numbers (in_order acts))))
 
 goals_of_weak : (p : TypedProcedure) (acts : Acts) → p.body ≡ Some acts → p.weak ≡ true → bound_goals p ≡ weak_goals acts
 goals_of_weak p acts e w = subst (λ b. bound_goals (record p { body = b }) ≡ weak_goals acts) (sym e) (subst (λ v. bound_goals (record p { body = Some acts; weak = v }) ≡ weak_goals acts) (sym w) refl)

@@ -13,7 +13,7 @@ use Rattle.heylo_formula.specs.declared.goals.Made.{Made}
 use Rattle.heylo_formula.specs.declared.goals.Made.TheVariants as made
 use Rattle.heyvl_acts.specs.Acts.{Acts, Head, TypedProcedure, procedure_at}
 use Rattle.heyvl_acts.specs.Rules.{Each}
-use Rattle.loop_encodings.specs.BoundGoals.{bound_goals}
+use Rattle.loop_encodings.specs.BoundGoals.{BoundGoal, bound_goals}
 use Rattle.ranking_rule.specs.RankingGoals as ranking
 use Rattle.ranking_rule.specs.Rankings.{RankedLoop}
 use Rattle.region_split.specs.DecisionLaws.{TreesCertify}
@@ -68,9 +68,9 @@ no_miss law certs g c o x y a (Some (Place way)) e =
     let same = one_tree certs c.goal.proc c.goal.id r.tree a.tree o r.has has in
     absurd (never_refused law g.made c.goal.made a.tree way.items x.alike a.certifies (subst (λ t. IsRefusedAt c.goal.made t way.items) same r.refused))
 
-bound_same : (ps : List TypedProcedure) (k : ℕ) (id : GoalId) (g h : NamedGoal) → IsGoalOf ps k id g → IsGoalOf ps k id h → AreOneGoal g h
-bound_same ps k id g h x y =
-    let q = question ps (procedure_at ps k) id in
+bound_same : (ps : List TypedProcedure) (k : ℕ) (asked : BoundGoal) (g h : NamedGoal) → IsGoalOf ps k asked g → IsGoalOf ps k asked h → AreOneGoal g h
+bound_same ps k asked g h x y =
+    let q = question ps (procedure_at ps k) asked in
     record { proc = x.proc ∙ sym y.proc; id_of = x.id_of ∙ sym y.id_of; alike = made_alike q.found (goal q) g.made h.made x.made y.made }
 
 ranking_same : (ps : List TypedProcedure) (k n : ℕ) (g h : NamedGoal) → IsRankingGoal ps k n g → IsRankingGoal ps k n h → AreOneGoal g h

@@ -13,7 +13,8 @@ use Rattle.heyvl_acts.specs.Acts.{Act, TypedProcedure, acts_in, variables}
 use Rattle.heyvl_acts.specs.Places.{in_order}
 use Rattle.heyvl_acts.specs.Rules.{AreNamed, Each, HasNamedBinders, IsTypedAct, MeetsRules, counted, loop_numbers}
 use Rattle.act_walks.specs.Loops.{loop_in}
-use Rattle.loop_encodings.specs.BoundGoals.{invariant_at, invariant_in}
+use Rattle.loop_encodings.specs.BoundGoals.{BoundGoal, goal_id, invariant_at, invariant_in}
+use Rattle.loop_encodings.proofs.exported.BoundNames.{same_goal}
 use Rattle.verify_core.specs.Questions.{form_or_zero, one_bound, question}
 use Rattle.verify_core.specs.declared.bound_questions.Asked as declared
 use Rattle.verify_core.specs.internal.BoundQuestions.{Asked, IsAsked, asked, asked_invariants, plain}
@@ -21,7 +22,7 @@ use Rattle.verify_core.proofs.FirstFound.{IsFirst, further, other_number, own_nu
 
 -- ---- The goals' ids
 
-invariant_ids : (acts : List Act) → map (λ (a : Asked). a.0) (asked_invariants acts) ≡ map Invariant (loop_numbers acts)
+invariant_ids : (acts : List Act) → map (λ (a : Asked). a.0) (asked_invariants acts) ≡ map goal_id (map BoundGoal.invariant (loop_numbers acts))
 invariant_ids [] = refl
 invariant_ids (Act.loop h b ∷ rest) = ap (λ l. Invariant h.number ∷ l) (invariant_ids rest)
 invariant_ids (Act.set x t span ∷ rest) = invariant_ids rest
@@ -35,7 +36,11 @@ invariant_ids (Act.check kind f span ∷ rest) = invariant_ids rest
 invariant_ids (Act.validate co span ∷ rest) = invariant_ids rest
 invariant_ids (Act.call xs q es span ∷ rest) = invariant_ids rest
 
-pub asked_ids : (p : TypedProcedure) → map (λ (a : Asked). a.0) (asked p) ≡ Pre ∷ (Post ∷ map Invariant (loop_numbers (in_order (acts_in p.body))))
+-- The goals of a weak proc besides the main one.
+abbrev pub weak_goals : TypedProcedure → List BoundGoal
+weak_goals p = BoundGoal.pre ∷ (BoundGoal.post ∷ map BoundGoal.invariant (loop_numbers (in_order (acts_in p.body))))
+
+pub asked_ids : (p : TypedProcedure) → map (λ (a : Asked). a.0) (asked p) ≡ map goal_id (weak_goals p)
 asked_ids p = ap (λ l. Pre ∷ (Post ∷ l)) (invariant_ids (in_order (acts_in p.body)))
 
 -- ---- What they ask
@@ -76,10 +81,10 @@ module _ (ps : List TypedProcedure) (p : TypedProcedure) where
 
     found_asked : (xs : List Asked) → Each (IsFoundFrom 1 (in_order (acts_in p.body))) xs → Each (IsAsked ps p) xs
     found_asked [] h = tt
-    found_asked (x ∷ xs) h = (record { asks = ap (λ i. question ps p i) h.0.says.id ∙ (ap (λ o. one_bound p (form_or_zero o)) h.0.found ∙ ap (λ f. one_bound p f) h.0.says.form); named = no_names (length (variables p)) x.1 h.0.says.plain }, found_asked xs h.1)
+    found_asked (x ∷ xs) h = (record { asks = λ g i. ap (λ b. question ps p b) (same_goal g (BoundGoal.invariant h.0.number) (i ∙ h.0.says.id)) ∙ (ap (λ o. one_bound p (form_or_zero o)) h.0.found ∙ ap (λ f. one_bound p f) h.0.says.form); named = no_names (length (variables p)) x.1 h.0.says.plain }, found_asked xs h.1)
 
     pub each_is_asked : MeetsRules ps p → HasNamedBinders p → Each (IsAsked ps p) (asked p)
-    each_is_asked meets named = (record { asks = refl; named = no_names (length (variables p)) p.pre meets.pre.1 }, (record { asks = refl; named = named }, found_asked (asked_invariants (in_order (acts_in p.body))) (found_from 1 p.loops (in_order (acts_in p.body)) meets.numbered meets.typed)))
+    each_is_asked meets named = (record { asks = λ g i. ap (λ b. question ps p b) (same_goal g BoundGoal.pre i); named = no_names (length (variables p)) p.pre meets.pre.1 }, (record { asks = λ g i. ap (λ b. question ps p b) (same_goal g BoundGoal.post i); named = named }, found_asked (asked_invariants (in_order (acts_in p.body))) (found_from 1 p.loops (in_order (acts_in p.body)) meets.numbered meets.typed)))
 
 -- A list with one more at its end, and more behind.
 pub pushed : (before after : List declared.Asked) (x : declared.Asked) (id : GoalId) (f : Form) (rest whole : List Asked) → after ≡ before ++ x ∷ [] → x.id ≡ id → form_of x.form ≡ f → (id, f) ∷ rest ≡ whole → map plain after ++ rest ≡ map plain before ++ whole

@@ -1,5 +1,5 @@
 -- The goal of a question is typed, over its variables and small, as its decision asks.
-use Rattle.std.proofs.Common.{◌≡◌, ◌<◌, ◌≤◌, ◌+◌, ◌^◌, ℕ, refl, sym, ap, ◌∙◌, subst, arith, true, false, List, [], ◌∷◌, ◌++◌, append_assoc, length, ◌==◌}
+use Rattle.std.proofs.Common.{◌≡◌, ◌<◌, ◌≤◌, ◌^◌, ℕ, refl, sym, ap, ◌∙◌, subst, arith, true, false, List, [], ◌∷◌, ◌++◌, append_assoc, length, ◌==◌}
 use Rattle.std.specs.Prelude.{Some, if◌then◌else◌}
 use Rattle.std.proofs.lemmas.List.{length-append, length-map}
 use Rattle.heyvl_num.specs.Rational.{zeroʳ, oneʳ, ratio, leqʳ}
@@ -11,14 +11,12 @@ use Rattle.heylo_formula.specs.Sizes.{nodes}
 use Rattle.heylo_formula.specs.TypedGoals.{IsGoal}
 use Rattle.heylo_formula.specs.Typing.{IsFormula, Types, is_unsigned, types_in}
 use Rattle.heylo_formula.specs.Variables.{IsOver}
-use Rattle.heylo_formula.specs.declared.goals.GoalId.{GoalId}
-use Rattle.heylo_formula.specs.declared.goals.GoalId.TheVariants.{Main, Pre, Post, Invariant, Ranking}
 use Rattle.heylo_formula.proofs.exported.Agreement.{same_types}
 use Rattle.heyvl_acts.specs.Acts.{Act, TypedProcedure, Variable, acts_in, procedure_at, type_list, types_of, variables}
 use Rattle.heyvl_acts.specs.Places.{in_order}
 use Rattle.heyvl_acts.specs.Rules.{Each, IsTypedAct, MeetsRules}
 use Rattle.act_walks.specs.Loops.{loop_in}
-use Rattle.loop_encodings.specs.BoundGoals.{invariant_at, invariant_in}
+use Rattle.loop_encodings.specs.BoundGoals.{BoundGoal, invariant_at, invariant_in}
 use Rattle.loop_encodings.specs.Encoding.{all_variables, encoding}
 use Rattle.loop_encodings.specs.EncodingLaws.{EncodingIsOver}
 use Rattle.loop_encodings.specs.Fresh.{fresh}
@@ -122,7 +120,7 @@ module _ (formula : GeneratedFormIsFormula) (over : GeneratedFormIsOver) (encode
   meets : MeetsRules ps (procedure_at ps p)
   meets = each_at (MeetsRules ps) ps p rules there
 
-  proper_main : IsProper (question ps (procedure_at ps p) Main)
+  proper_main : IsProper (question ps (procedure_at ps p) BoundGoal.main)
   proper_main =
       let q = procedure_at ps p in
       let pre_over = subst (λ l. IsOver (length l) q.pre) (sym (all_front ps q)) (over_front q.inputs _ q.pre meets.pre_over) in
@@ -136,12 +134,11 @@ module _ (formula : GeneratedFormIsFormula) (over : GeneratedFormIsOver) (encode
         few = few_variables ps q (λ r l. each_at (MeetsRules ps) ps r rules l) meets;
       }
 
-  pub proper : (id : GoalId) → IsProper (question ps (procedure_at ps p) id)
-  proper Main = proper_main
-  proper Pre = proper_bound (procedure_at ps p) (procedure_at ps p).pre meets.few_variables (formula_front (procedure_at ps p).inputs _ (procedure_at ps p).pre meets.pre_over meets.pre.0) (over_front (procedure_at ps p).inputs _ (procedure_at ps p).pre meets.pre_over)
-  proper Post = proper_bound (procedure_at ps p) (procedure_at ps p).post meets.few_variables (subst (λ l. IsFormula (types_in (type_list l)) (procedure_at ps p).post) (sym (own_front (procedure_at ps p))) (formula_front ((procedure_at ps p).inputs ++ (procedure_at ps p).outputs) _ (procedure_at ps p).post meets.post_over meets.post)) (subst (λ l. IsOver (length l) (procedure_at ps p).post) (sym (own_front (procedure_at ps p))) (over_front ((procedure_at ps p).inputs ++ (procedure_at ps p).outputs) _ (procedure_at ps p).post meets.post_over))
-  proper (Invariant n) = let h = proper_invariant ps (procedure_at ps p) n (in_order (acts_in (procedure_at ps p).body)) meets.typed (all_read ps (procedure_at ps p) meets) in proper_bound (procedure_at ps p) (form_or_zero (invariant_in n (in_order (acts_in (procedure_at ps p).body)))) meets.few_variables h.0 h.1
-  proper (Ranking n) = proper_bound (procedure_at ps p) (Form.number zeroᵛ) meets.few_variables (zero_unsigned (types_of (procedure_at ps p))) (λ y e. absurd (cc))
+  pub proper : (g : BoundGoal) → IsProper (question ps (procedure_at ps p) g)
+  proper BoundGoal.main = proper_main
+  proper BoundGoal.pre = proper_bound (procedure_at ps p) (procedure_at ps p).pre meets.few_variables (formula_front (procedure_at ps p).inputs _ (procedure_at ps p).pre meets.pre_over meets.pre.0) (over_front (procedure_at ps p).inputs _ (procedure_at ps p).pre meets.pre_over)
+  proper BoundGoal.post = proper_bound (procedure_at ps p) (procedure_at ps p).post meets.few_variables (subst (λ l. IsFormula (types_in (type_list l)) (procedure_at ps p).post) (sym (own_front (procedure_at ps p))) (formula_front ((procedure_at ps p).inputs ++ (procedure_at ps p).outputs) _ (procedure_at ps p).post meets.post_over meets.post)) (subst (λ l. IsOver (length l) (procedure_at ps p).post) (sym (own_front (procedure_at ps p))) (over_front ((procedure_at ps p).inputs ++ (procedure_at ps p).outputs) _ (procedure_at ps p).post meets.post_over))
+  proper (BoundGoal.invariant n) = let h = proper_invariant ps (procedure_at ps p) n (in_order (acts_in (procedure_at ps p).body)) meets.typed (all_read ps (procedure_at ps p) meets) in proper_bound (procedure_at ps p) (form_or_zero (invariant_in n (in_order (acts_in (procedure_at ps p).body)))) meets.few_variables h.0 h.1
 
 -- ---- Goals
 

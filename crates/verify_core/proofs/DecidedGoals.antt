@@ -1,12 +1,11 @@
 -- The goals that are made of a procedure of a file that meets the rules can be decided.
 use Rattle.std.proofs.Common.{◌<◌, ◌≤◌, ◌^◌, ℕ, arith, List, [], ◌∷◌, length, None}
 use Rattle.heylo_formula.specs.Sizes.{nodes}
-use Rattle.heylo_formula.specs.declared.goals.GoalId.{GoalId}
-use Rattle.heylo_formula.specs.declared.goals.GoalId.TheVariants.{Main, Pre, Post, Invariant, Ranking}
 use Rattle.heylo_formula.specs.declared.goals.Made.{Made}
 use Rattle.heyvl_acts.specs.Acts.{TypedProcedure, procedure_at}
 use Rattle.heyvl_acts.specs.FormSizes.{FormsWithin}
 use Rattle.heyvl_acts.specs.Rules.{Each, MeetsRules}
+use Rattle.loop_encodings.specs.BoundGoals.{BoundGoal}
 use Rattle.loop_encodings.specs.EncodingLaws.{EncodingIsOver}
 use Rattle.ranking_rule.specs.Laws.{RankingGoalsAreFew, RankingGoalsAreGoals}
 use Rattle.ranking_rule.specs.RankingGoals as ranking
@@ -33,15 +32,14 @@ bound_can : PrenexedGoalsAreGoals → (q : Question) (m : Made) → IsProper q �
 bound_can goals q m h s k = decidable q.found (goal q) m (goal_is goals q h) (λ l. goal_small q h l s) k
 
 module _ (goals : PrenexedGoalsAreGoals) (formula : GeneratedFormIsFormula) (over : GeneratedFormIsOver) (encoded : EncodingIsOver) (ps : List TypedProcedure) (rules : Each (MeetsRules ps) ps) (small : Each (FormsWithin (2 ^ 27)) ps) (p : ℕ) (there : p < length ps) where
-  stated_small : (id : GoalId) → nodes (question ps (procedure_at ps p) id).stated ≤ 2 ^ 27
-  stated_small Main = (each_at (FormsWithin (2 ^ 27)) ps p small there).pre
-  stated_small Pre = omega arith
-  stated_small Post = omega arith
-  stated_small (Invariant n) = omega arith
-  stated_small (Ranking n) = omega arith
+  stated_small : (g : BoundGoal) → nodes (question ps (procedure_at ps p) g).stated ≤ 2 ^ 27
+  stated_small BoundGoal.main = (each_at (FormsWithin (2 ^ 27)) ps p small there).pre
+  stated_small BoundGoal.pre = omega arith
+  stated_small BoundGoal.post = omega arith
+  stated_small (BoundGoal.invariant n) = omega arith
 
-  each_can : (ids : List GoalId) (gs : List NamedGoal) → AreGoals ps p ids gs → Each (λ (g : NamedGoal). CanDecide g.made) gs
-  each_can ids gs h = zip_seconds (IsGoalOf ps p) (λ g. CanDecide g.made) ids gs (λ i g k. bound_can goals (question ps (procedure_at ps p) i) g.made (proper formula over encoded ps rules p there i) (stated_small i) k.made) h
+  each_can : (asked : List BoundGoal) (gs : List NamedGoal) → AreGoals ps p asked gs → Each (λ (g : NamedGoal). CanDecide g.made) gs
+  each_can asked gs h = zip_seconds (IsGoalOf ps p) (λ g. CanDecide g.made) asked gs (λ i g k. bound_can goals (question ps (procedure_at ps p) i) g.made (proper formula over encoded ps rules p there i) (stated_small i) k.made) h
 
 ranking_can : RankingGoalsAreGoals → RankingGoalsAreFew → (ps : List TypedProcedure) (p : TypedProcedure) (n : ℕ) (l : RankedLoop p n) (m : Made) → MeetsRules ps p → FormsWithin (2 ^ 27) p → ranking.IsMadeOf p l.head l.body l.rank m → CanDecide m
 ranking_can goals few ps p n l m rules small h = decidable (ranking.generated l.body l.rank) (ranking.goal p l.head l.body l.rank) m (goals ps p n l rules) (λ k. few ps p n l rules small k) h
@@ -57,9 +55,9 @@ each_can_settle certs [] h = tt
 each_can_settle certs (g ∷ gs) h = (h, each_can_settle certs gs h)
 
 -- The goals of a bound can be settled, where the file can be answered.
-pub bounds_settle : PrenexedGoalsAreGoals → GeneratedFormIsFormula → GeneratedFormIsOver → EncodingIsOver → (ps : List TypedProcedure) → Each (MeetsRules ps) ps → (p : ℕ) → p < length ps → (way : Way) → CanAnswer way ps → (ids : List GoalId) (gs : List NamedGoal) → AreGoals ps p ids gs → Each (CanSettle way) gs
-bounds_settle goals formula over encoded ps rules p there Decide small ids gs h = each_can goals formula over encoded ps rules small p there ids gs h
-bounds_settle goals formula over encoded ps rules p there (Check certs) order ids gs h = each_can_settle certs.now gs order
+pub bounds_settle : PrenexedGoalsAreGoals → GeneratedFormIsFormula → GeneratedFormIsOver → EncodingIsOver → (ps : List TypedProcedure) → Each (MeetsRules ps) ps → (p : ℕ) → p < length ps → (way : Way) → CanAnswer way ps → (asked : List BoundGoal) (gs : List NamedGoal) → AreGoals ps p asked gs → Each (CanSettle way) gs
+bounds_settle goals formula over encoded ps rules p there Decide small asked gs h = each_can goals formula over encoded ps rules small p there asked gs h
+bounds_settle goals formula over encoded ps rules p there (Check certs) order asked gs h = each_can_settle certs.now gs order
 
 -- So can those of rankings.
 pub rankings_settle : RankingGoalsAreGoals → RankingGoalsAreFew → (ps : List TypedProcedure) (p : ℕ) → p < length ps → MeetsRules ps (procedure_at ps p) → (way : Way) → CanAnswer way ps → (ns : List ℕ) (gs : List NamedGoal) → AreRankingGoals ps p ns gs → Each (CanSettle way) gs

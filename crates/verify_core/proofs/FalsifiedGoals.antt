@@ -11,15 +11,13 @@ use Rattle.heylo_formula.specs.Goals.{Compares}
 use Rattle.heylo_formula.specs.Meaning.{value}
 use Rattle.heylo_formula.specs.State.{IsTyped, environment}
 use Rattle.heylo_formula.specs.Typing.{types_in}
-use Rattle.heylo_formula.specs.declared.goals.GoalId.{GoalId}
-use Rattle.heylo_formula.specs.declared.goals.GoalId.TheVariants.{Main, Pre, Post, Invariant, Ranking}
 use Rattle.heylo_formula.specs.declared.types.Ty.{Ty}
 use Rattle.heylo_formula.specs.declared.values.Val.{Val}
 use Rattle.heyvl_acts.specs.Acts.{TypedProcedure, Variable, acts_in, procedure_at, type_list, variables}
 use Rattle.heyvl_acts.specs.Forward.{forward}
 use Rattle.heyvl_acts.specs.Places.{in_order}
 use Rattle.heyvl_acts.specs.Rules.{Each, MeetsRules}
-use Rattle.loop_encodings.specs.BoundGoals.{GoalFails, IsSmallThere, goal_variables, invariant_in}
+use Rattle.loop_encodings.specs.BoundGoals.{BoundGoal, GoalFails, IsSmallThere, goal_id, goal_variables, invariant_in}
 use Rattle.loop_encodings.specs.Encoding.{all_variables, encoding}
 use Rattle.loop_encodings.specs.EncodingLaws.{EncodingIsOver}
 use Rattle.loop_encodings.specs.Fresh.{fresh}
@@ -62,47 +60,46 @@ small_fails (Some f) s c h k = h k
 
 module _ (means : GeneratedFormMeansActs) (formula : GeneratedFormIsFormula) (generated_over : GeneratedFormIsOver) (over : EncodingIsOver) (failing : PrenexedGoalsFailByChoices) (ps : List TypedProcedure) (rules : Each (MeetsRules ps) ps) (p : ℕ) (there : p < length ps) where
   -- The inequality of the question fails in the state of its own variables.
-  question_fails : (id : GoalId) (s : List Val) → Fails (goal (question ps (procedure_at ps p) id)) s → FailsByChoices (question ps (procedure_at ps p) id).upper (type_list (question ps (procedure_at ps p) id).variables) (question ps (procedure_at ps p) id).stated (question ps (procedure_at ps p) id).found (take (length (type_list (question ps (procedure_at ps p) id).variables)) s)
-  question_fails id s h =
-      let q = question ps (procedure_at ps p) id in
-      let k = proper formula generated_over over ps rules p there id in
+  question_fails : (asked : BoundGoal) (s : List Val) → Fails (goal (question ps (procedure_at ps p) asked)) s → FailsByChoices (question ps (procedure_at ps p) asked).upper (type_list (question ps (procedure_at ps p) asked).variables) (question ps (procedure_at ps p) asked).stated (question ps (procedure_at ps p) asked).found (take (length (type_list (question ps (procedure_at ps p) asked).variables)) s)
+  question_fails asked s h =
+      let q = question ps (procedure_at ps p) asked in
+      let k = proper formula generated_over over ps rules p there asked in
       failing q.upper (type_list q.variables) (all_names q.variables q.found) q.stated q.found k.stated_over k.found_over s h.typed h.fails
 
-  meaning : (s : List Val) (c : Choices) → value (question ps (procedure_at ps p) Main).found (environment s) c ≡ forward (encoding ps (procedure_at ps p)) (value (procedure_at ps p).post) (environment s) c
+  meaning : (s : List Val) (c : Choices) → value (question ps (procedure_at ps p) BoundGoal.main).found (environment s) c ≡ forward (encoding ps (procedure_at ps p)) (value (procedure_at ps p).post) (environment s) c
   meaning s c = means (types_in (type_list (all_variables ps (procedure_at ps p)))) (encoding ps (procedure_at ps p)) (procedure_at ps p).post (environment s) c (encoding_fits ps (procedure_at ps p) (λ r l. each_at (MeetsRules ps) ps r rules l) (each_at (MeetsRules ps) ps p rules there))
 
-  goal_fails : (id : GoalId) (s : List Val) → FailsByChoices (question ps (procedure_at ps p) id).upper (type_list (question ps (procedure_at ps p) id).variables) (question ps (procedure_at ps p) id).stated (question ps (procedure_at ps p) id).found s → GoalFails ps (procedure_at ps p) id s
-  goal_fails Main s f = record {
+  goal_fails : (asked : BoundGoal) (s : List Val) → FailsByChoices (question ps (procedure_at ps p) asked).upper (type_list (question ps (procedure_at ps p) asked).variables) (question ps (procedure_at ps p) asked).stated (question ps (procedure_at ps p) asked).found s → GoalFails ps (procedure_at ps p) asked s
+  goal_fails BoundGoal.main s f = record {
     choices = f.choices;
     state = f.state;
     fails = λ h. f.fails (subst (λ v. Compares (procedure_at ps p).co (value (procedure_at ps p).pre (environment s) Choices.stop) v) (sym (meaning s f.choices)) h);
   }
-  goal_fails Pre s f = record { choices = f.choices; state = f.state; fails = λ h. f.fails h }
-  goal_fails Post s f = record { choices = f.choices; state = f.state; fails = λ h. f.fails h }
-  goal_fails (Invariant n) s f = record { choices = f.choices; state = f.state; fails = λ h. small_fails (invariant_in n (in_order (acts_in (procedure_at ps p).body))) s f.choices (λ k. f.fails k) h }
-  goal_fails (Ranking n) s f = absurd (f.fails zero-≤ᵛ-one)
+  goal_fails BoundGoal.pre s f = record { choices = f.choices; state = f.state; fails = λ h. f.fails h }
+  goal_fails BoundGoal.post s f = record { choices = f.choices; state = f.state; fails = λ h. f.fails h }
+  goal_fails (BoundGoal.invariant n) s f = record { choices = f.choices; state = f.state; fails = λ h. small_fails (invariant_in n (in_order (acts_in (procedure_at ps p).body))) s f.choices (λ k. f.fails k) h }
 
-  own_state : (id : GoalId) (s : List Val) → IsTyped (type_list (question ps (procedure_at ps p) id).variables ++ new_types (binders (question ps (procedure_at ps p) id).found)) s → IsState (procedure_at ps p) (take (length (variables (procedure_at ps p))) s)
-  own_state Main s h =
+  own_state : (asked : BoundGoal) (s : List Val) → IsTyped (type_list (question ps (procedure_at ps p) asked).variables ++ new_types (binders (question ps (procedure_at ps p) asked).found)) s → IsState (procedure_at ps p) (take (length (variables (procedure_at ps p))) s)
+  own_state BoundGoal.main s h =
       let q = procedure_at ps p in
-      let more = new_types (binders (question ps q Main).found) in
+      let more = new_types (binders (question ps q BoundGoal.main).found) in
       first_state (variables q) (type_list (fresh ps (acts_in q.body)) ++ more) s (subst (λ l. IsTyped l s) (ap (λ l. l ++ more) (types_append (variables q) (fresh ps (acts_in q.body))) ∙ append_assoc (type_list (variables q)) (type_list (fresh ps (acts_in q.body))) more) h)
-  own_state Pre s h = first_state (variables (procedure_at ps p)) _ s h
-  own_state Post s h = first_state (variables (procedure_at ps p)) _ s h
-  own_state (Invariant n) s h = first_state (variables (procedure_at ps p)) _ s h
-  own_state (Ranking n) s h = first_state (variables (procedure_at ps p)) _ s h
+  own_state BoundGoal.pre s h = first_state (variables (procedure_at ps p)) _ s h
+  own_state BoundGoal.post s h = first_state (variables (procedure_at ps p)) _ s h
+  own_state (BoundGoal.invariant n) s h = first_state (variables (procedure_at ps p)) _ s h
 
   -- The question speaks of the goal's variables.
-  variables_are : (id : GoalId) → length (type_list (question ps (procedure_at ps p) id).variables) ≡ length (goal_variables ps (procedure_at ps p) id)
-  variables_are Main = types_length (all_variables ps (procedure_at ps p))
-  variables_are Pre = types_length (variables (procedure_at ps p))
-  variables_are Post = types_length (variables (procedure_at ps p))
-  variables_are (Invariant n) = types_length (variables (procedure_at ps p))
-  variables_are (Ranking n) = types_length (variables (procedure_at ps p))
+  variables_are : (asked : BoundGoal) → length (type_list (question ps (procedure_at ps p) asked).variables) ≡ length (goal_variables ps (procedure_at ps p) asked)
+  variables_are BoundGoal.main = types_length (all_variables ps (procedure_at ps p))
+  variables_are BoundGoal.pre = types_length (variables (procedure_at ps p))
+  variables_are BoundGoal.post = types_length (variables (procedure_at ps p))
+  variables_are (BoundGoal.invariant n) = types_length (variables (procedure_at ps p))
 
   -- The goal is falsified in what is shown.
-  pub falsified_in : (id : GoalId) (s : List Val) → Fails (goal (question ps (procedure_at ps p) id)) s → IsFalsifiedIn ps p id s
-  falsified_in id s h = record {
-    state = own_state id s h.typed;
-    fails = subst (λ n. GoalFails ps (procedure_at ps p) id (take n s)) (variables_are id) (goal_fails id (take (length (type_list (question ps (procedure_at ps p) id).variables)) s) (question_fails id s h));
+  pub falsified_in : (asked : BoundGoal) (s : List Val) → Fails (goal (question ps (procedure_at ps p) asked)) s → IsFalsifiedIn ps p (goal_id asked) s
+  falsified_in asked s h = record {
+    goal = asked;
+    id_of = refl;
+    state = own_state asked s h.typed;
+    fails = subst (λ n. GoalFails ps (procedure_at ps p) asked (take n s)) (variables_are asked) (goal_fails asked (take (length (type_list (question ps (procedure_at ps p) asked).variables)) s) (question_fails asked s h));
   }

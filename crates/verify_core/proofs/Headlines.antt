@@ -18,7 +18,8 @@ use Rattle.heyvl_acts.specs.Places.{in_order}
 use Rattle.heyvl_acts.specs.Program.{IsProgram}
 use Rattle.heyvl_acts.specs.Rules.{Each, MeetsRules}
 use Rattle.heyvl_acts.specs.Straight.{IsStraight}
-use Rattle.loop_encodings.specs.BoundGoals.{BoundGoalsHold, GoalFails, GoalHolds, bound_goals}
+use Rattle.loop_encodings.specs.BoundGoals.{BoundGoal, BoundGoalsHold, GoalFails, GoalHolds, bound_goals, goal_variables}
+use Rattle.loop_encodings.proofs.exported.BoundNames.{same_goal}
 use Rattle.loop_encodings.specs.Encoding.{all_variables}
 use Rattle.loop_encodings.specs.EncodingLaws.{EncodingIsOver}
 use Rattle.bounded_runs.specs.Law.{BrokenGoalsBreakBounds, IsShown, ShownBoundsHold}
@@ -56,10 +57,10 @@ proved_holds g (outcome.Falsified s) m e = absurd (false≢true e)
 proved_holds g (outcome.Unknown c) m e = absurd (false≢true e)
 proved_holds g (outcome.Missed k) m e = absurd (false≢true e)
 
-row_holds : (ps : List TypedProcedure) (p : ℕ) (ids : List GoalId) (os : List GoalOutcome) → AllZip (IsBoundOutcome ps p) ids os → Each IsProvedOne os → Each (λ id. Holds (goal (question ps (procedure_at ps p) id))) ids
+row_holds : (ps : List TypedProcedure) (p : ℕ) (goals : List BoundGoal) (os : List GoalOutcome) → AllZip (IsBoundOutcome ps p) goals os → Each IsProvedOne os → Each (λ b. Holds (goal (question ps (procedure_at ps p) b))) goals
 row_holds ps p [] os h e = tt
-row_holds ps p (id ∷ ids) [] h e = absurd h
-row_holds ps p (id ∷ ids) (o ∷ os) h e = (proved_holds (goal (question ps (procedure_at ps p) id)) o.outcome h.0.means e.0, row_holds ps p ids os h.1 e.1)
+row_holds ps p (b ∷ goals) [] h e = absurd h
+row_holds ps p (b ∷ goals) (o ∷ os) h e = (proved_holds (goal (question ps (procedure_at ps p) b)) o.outcome h.0.means e.0, row_holds ps p goals os h.1 e.1)
 
 each_there : {A : Type 0} (P Q : A → Type 0) (xs : List A) → ((x : A) → P x → Q x) → Each P xs → Each Q xs
 each_there P Q [] f h = tt
@@ -87,14 +88,16 @@ said ps table ranks answers p v h on =
 module _ (same : MadeGoalsSayBounds) (shown_bounds : ShownBoundsHold) (broken_goals : BrokenGoalsBreakBounds) (over : EncodingIsOver) (means : GeneratedFormMeansActs) (formula : GeneratedFormIsFormula) (generated_over : GeneratedFormIsOver) (failing : PrenexedGoalsFailByChoices) (ps : List TypedProcedure) (rules : Each (MeetsRules ps) ps) (table ranks : List (List GoalOutcome)) (are : AreOutcomes ps table ranks) where
   -- The goals of a procedure hold, where all are proved.
   held : (p : ℕ) → p < length ps → all_proved (row_at table p) ≡ true → BoundGoalsHold ps (procedure_at ps p)
-  held p l e = each_there (λ id. Holds (goal (question ps (procedure_at ps p) id))) (GoalHolds ps (procedure_at ps p)) (bound_goals (procedure_at ps p)) (λ id. (same ps p id rules l).0) (row_holds ps p (bound_goals (procedure_at ps p)) (row_at table p) (are.bounds p l) (each_proved (row_at table p) e))
+  held p l e = each_there (λ b. Holds (goal (question ps (procedure_at ps p) b))) (GoalHolds ps (procedure_at ps p)) (bound_goals (procedure_at ps p)) (λ b. (same ps p b rules l).0) (row_holds ps p (bound_goals (procedure_at ps p)) (row_at table p) (are.bounds p l) (each_proved (row_at table p) e))
 
   shown : (q : ℕ) → IsClosed ps table q → IsShown ps q
   shown q h = record { program = h.program; goals = held q (program_there ps q h.program) h.proved }
 
   -- What is shown of the first goal that is falsified.
   shown_falsified : (p : ℕ) (id : GoalId) (s : Vec Val Global) → p < length ps → IsTold (row_at table p) id (outcome.Falsified s) → IsFalsifiedIn ps p id s.items
-  shown_falsified p id s l t = falsified_in means formula generated_over over failing ps rules p l id s.items (told_means ps p (bound_goals (procedure_at ps p)) (row_at table p) id (outcome.Falsified s) (are.bounds p l) t)
+  shown_falsified p id s l t =
+      let k = told_means ps p (bound_goals (procedure_at ps p)) (row_at table p) id (outcome.Falsified s) (are.bounds p l) t in
+      subst (λ i. IsFalsifiedIn ps p i s.items) k.named (falsified_in means formula generated_over over failing ps rules p l k.asked s.items k.means)
 
   broken : (p : ℕ) (s : Vec Val Global) → p < length ps → IsTold (row_at table p) Main (outcome.Falsified s) → IsProgram (procedure_at ps p) → Each IsStraight (in_order (acts_in (procedure_at ps p).body)) → IsBrokenFrom ps p (take (length (variables (procedure_at ps p))) s.items)
   broken p s l e program straight =
@@ -103,7 +106,8 @@ module _ (same : MadeGoalsSayBounds) (shown_bounds : ShownBoundsHold) (broken_go
       let v : all_variables ps q ≡ variables q = ap (λ r. variables q ++ r) (none_fresh ps acts straight) ∙ append-nil (variables q) in
       let r = take (length (variables q)) s.items in
       let k = shown_falsified p Main s l e in
-      let f : GoalFails ps q Main r = subst (λ (vs : List Variable). GoalFails ps q Main (take (length vs) s.items)) v k.fails in
+      let main = subst (λ (b : BoundGoal). GoalFails ps q b (take (length (goal_variables ps q b)) s.items)) (same_goal k.goal BoundGoal.main k.id_of) k.fails in
+      let f : GoalFails ps q BoundGoal.main r = subst (λ (vs : List Variable). GoalFails ps q BoundGoal.main (take (length vs) s.items)) v main in
       record {
         state = k.state;
         broken = λ n m. broken_goals ps p r f.choices rules l program straight k.state (λ h. f.fails (subst (λ a. Compares q.co (value q.pre (environment r) Choices.stop) (forward a (value q.post) (environment r) f.choices)) (sym (itself ps q (length (variables q)) acts straight)) h)) n m;

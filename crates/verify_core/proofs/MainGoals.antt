@@ -5,7 +5,6 @@ use Rattle.heylo_formula.specs.BinderNames.{Binder, binders}
 use Rattle.heylo_formula.specs.Formula.{Form}
 use Rattle.heylo_formula.specs.PlainTrees.{form_of}
 use Rattle.heylo_formula.specs.Typing.{types_in}
-use Rattle.heylo_formula.specs.declared.goals.GoalId.TheVariants.{Main}
 use Rattle.heylo_formula.specs.declared.goals.Made.{Made}
 use Rattle.heyvl_acts.specs.Acts.{TypedProcedure, Variable, acts_in, procedure_at, type_list, variables}
 use Rattle.heyvl_acts.specs.PlainActs.{acts_of, procedure_of, procedures_of, variable_of}
@@ -14,6 +13,7 @@ use Rattle.heyvl_acts.specs.declared.acts.Act as A
 use Rattle.heyvl_acts.specs.declared.typed_trees.TProc.{TProc}
 use Rattle.heyvl_acts.specs.declared.typed_trees.Typed.{Typed}
 use Rattle.heyvl_acts.specs.declared.typed_trees.VarInfo.{VarInfo}
+use Rattle.loop_encodings.specs.BoundGoals.{BoundGoal}
 use Rattle.loop_encodings.specs.Encoding.{all_variables, encoding}
 use Rattle.loop_encodings.specs.EncodingLaws.{EncodingBindsItsVariables}
 use Rattle.loop_encodings.specs.Fresh.{fresh}
@@ -63,7 +63,7 @@ module _ (typed : Typed) (p : ℕ) (x : TProc) (rules : MeetsAllRules typed) (lt
           let r = law (length (all_variables (procedures_of typed) q)) (types_in (type_list (all_variables (procedures_of typed) q))) (encoding (procedures_of typed) q) q.post fits (bind (procedures_of typed) p rules.each l) own in
           subst (λ f. AreNamed (length vs) (binders f)) (sym generated) (subst (λ k. AreNamed k (binders (vp (encoding (procedures_of typed) q) q.post))) (sym m) r)
 
-      pub main_made : (made : Made) → IsMadeWithin (vp (acts_of acts) (form_of x.post)) (goal_over x.co (map variable_of vs) (form_of x.pre) (vp (acts_of acts) (form_of x.post))) made → IsMadeOf (question (procedures_of typed) (procedure_at (procedures_of typed) p) Main) made
+      pub main_made : (made : Made) → IsMadeWithin (vp (acts_of acts) (form_of x.post)) (goal_over x.co (map variable_of vs) (form_of x.pre) (vp (acts_of acts) (form_of x.post))) made → IsMadeOf (question (procedures_of typed) (procedure_at (procedures_of typed) p) BoundGoal.main) made
       main_made made h =
           subst (λ (y : TypedProcedure). IsMadeWithin (vp (encoding (procedures_of typed) (procedure_at (procedures_of typed) p)) y.post) (goal_over y.co (all_variables (procedures_of typed) (procedure_at (procedures_of typed) p)) y.pre (vp (encoding (procedures_of typed) (procedure_at (procedures_of typed) p)) y.post)) made) (sym here) (
           subst (λ us. IsMadeWithin (vp (encoding (procedures_of typed) (procedure_at (procedures_of typed) p)) (form_of x.post)) (goal_over x.co us (form_of x.pre) (vp (encoding (procedures_of typed) (procedure_at (procedures_of typed) p)) (form_of x.post))) made) all (

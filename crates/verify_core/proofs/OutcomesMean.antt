@@ -7,7 +7,7 @@ use Rattle.heylo_formula.specs.declared.goals.GoalId.{GoalId}
 use Rattle.heyvl_acts.specs.Acts.{TypedProcedure, procedure_at}
 use Rattle.heyvl_acts.specs.Rules.{Each, MeetsRules}
 use Rattle.loop_encodings.proofs.exported.FromRules.{each_at}
-use Rattle.loop_encodings.specs.BoundGoals.{bound_goals}
+use Rattle.loop_encodings.specs.BoundGoals.{BoundGoal, bound_goals, goal_id}
 use Rattle.loop_encodings.specs.EncodingLaws.{EncodingIsOver}
 use Rattle.ranking_rule.specs.Laws.{RankingGoalsAreGoals}
 use Rattle.ranking_rule.specs.RankingGoals as ranking
@@ -30,9 +30,9 @@ use Rattle.vp_generator.specs.Over.{GeneratedFormIsOver}
 use Rattle.vp_generator.specs.PrenexedGoals.{PrenexedGoalsAreGoals}
 
 -- The goal of a bound, and what comes of it.
-pub record IsBoundOutcome (ps : List TypedProcedure) (p : ℕ) (id : GoalId) (o : GoalOutcome) : Type 0 where
-  pub id_of : o.goal.id ≡ id
-  pub means : Means (goal (question ps (procedure_at ps p) id)) o.outcome
+pub record IsBoundOutcome (ps : List TypedProcedure) (p : ℕ) (asked : BoundGoal) (o : GoalOutcome) : Type 0 where
+  pub id_of : o.goal.id ≡ goal_id asked
+  pub means : Means (goal (question ps (procedure_at ps p) asked)) o.outcome
 
 -- The goal of a ranking, and what comes of it.
 pub record IsRankingOutcome (ps : List TypedProcedure) (p n : ℕ) (o : GoalOutcome) : Type 0 where
@@ -52,12 +52,12 @@ row_means way Is Says (i ∷ is) [] f h = absurd h
 row_means way Is Says (i ∷ is) (g ∷ gs) f h = (f i g h.0, row_means way Is Says is gs f h.1)
 
 module _ (law : CertifiedGoalsHold) (goals : PrenexedGoalsAreGoals) (formula : GeneratedFormIsFormula) (over : GeneratedFormIsOver) (encoded : EncodingIsOver) (rankings : RankingGoalsAreGoals) (ps : List TypedProcedure) (rules : Each (MeetsRules ps) ps) (way : Way) where
-  bound_row : (p : ℕ) (ids : List GoalId) (gs : List (GoalWith (Finding way))) → p < length ps → AreFound (IsGoalOf ps p) (Finds way) ids gs → AllZip (IsBoundOutcome ps p) ids (outcomes (outcome_by way) gs)
-  bound_row p ids gs there h = row_means way (λ (id : GoalId) (g : GoalWith (Finding way)). HasFound (IsGoalOf ps p id) (Finds way) g) (IsBoundOutcome ps p) ids gs (λ id g f. record {
+  bound_row : (p : ℕ) (asked : List BoundGoal) (gs : List (GoalWith (Finding way))) → p < length ps → AreFound (IsGoalOf ps p) (Finds way) asked gs → AllZip (IsBoundOutcome ps p) asked (outcomes (outcome_by way) gs)
+  bound_row p asked gs there h = row_means way (λ (b : BoundGoal) (g : GoalWith (Finding way)). HasFound (IsGoalOf ps p b) (Finds way) g) (IsBoundOutcome ps p) asked gs (λ b g f. record {
     id_of = f.goal.id_of;
     means =
-        let q = question ps (procedure_at ps p) id in
-        means law way q.found (goal q) g.goal g.found (goal_is goals q (proper formula over encoded ps rules p there id)).typed f.goal.made f.found;
+        let q = question ps (procedure_at ps p) b in
+        means law way q.found (goal q) g.goal g.found (goal_is goals q (proper formula over encoded ps rules p there b)).typed f.goal.made f.found;
   }) h
 
   ranking_row : (p : ℕ) (ns : List ℕ) (gs : List (GoalWith (Finding way))) → p < length ps → AreFound (IsRankingGoal ps p) (Finds way) ns gs → AllZip (IsRankingOutcome ps p) ns (outcomes (outcome_by way) gs)
@@ -79,11 +79,16 @@ module _ (law : CertifiedGoalsHold) (goals : PrenexedGoalsAreGoals) (formula : G
 
 -- ---- The goal that a verdict tells
 
--- What comes of it says so much of it.
-pub told_means : (ps : List TypedProcedure) (p : ℕ) (ids : List GoalId) (os : List GoalOutcome) (id : GoalId) (o : Outcome) → AllZip (IsBoundOutcome ps p) ids os → IsTold os id o → Means (goal (question ps (procedure_at ps p) id)) o
-told_means ps p ids os id o h t =
-    let each = zip_seconds (IsBoundOutcome ps p) Says ids os (λ i x k. subst (λ j. Means (goal (question ps (procedure_at ps p) j)) x.outcome) (sym k.id_of) k.means) h in
-    subst (λ i. Means (goal (question ps (procedure_at ps p) i)) o) t.id_of (told_is Says os (record { goal = t.goal; outcome = o }) each t.told_of).0
+-- It is this goal of the bound, and what comes of it says so much of it.
+pub record IsToldOf (ps : List TypedProcedure) (p : ℕ) (id : GoalId) (o : Outcome) : Type 0 where
+  pub asked : BoundGoal
+  pub named : goal_id asked ≡ id
+  pub means : Means (goal (question ps (procedure_at ps p) asked)) o
+
+pub told_means : (ps : List TypedProcedure) (p : ℕ) (goals : List BoundGoal) (os : List GoalOutcome) (id : GoalId) (o : Outcome) → AllZip (IsBoundOutcome ps p) goals os → IsTold os id o → IsToldOf ps p id o
+told_means ps p goals os id o h t =
+    let each = zip_seconds (IsBoundOutcome ps p) Says goals os (λ b x k. record { asked = b; named = sym k.id_of; means = k.means }) h in
+    subst (λ i. IsToldOf ps p i o) t.id_of (told_is Says os (record { goal = t.goal; outcome = o }) each t.told_of).0
   where
     Says : GoalOutcome → Type 0
-    Says x = Means (goal (question ps (procedure_at ps p) x.goal.id)) x.outcome
+    Says x = IsToldOf ps p x.goal.id x.outcome

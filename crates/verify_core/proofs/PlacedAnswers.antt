@@ -111,7 +111,7 @@ verdict_placed n ps table p verdict.Verified r s o h = tt
 verdict_placed n ps table p (verdict.Valid why) r s o h = reason_placed n (procedure_at ps p) why (stands_at n ps p s) h.1.1
 verdict_placed n ps table p (verdict.Conditional q) r s o h = reached_there ps p q r h.1.reached
 verdict_placed n ps table p (verdict.NotVerified id t) r s o h = tt
-verdict_placed n ps table p (verdict.Unknown id c) r s o h = told_means ps p (bound_goals (procedure_at ps p)) (row_at table p) id (Unknown c) o h n (λ t e. goal_stands n ps p id t s e)
+verdict_placed n ps table p (verdict.Unknown id c) r s o h = let k = told_means ps p (bound_goals (procedure_at ps p)) (row_at table p) id (Unknown c) o h in k.means n (λ t e. goal_stands n ps p k.asked t s e)
 verdict_placed n ps table p verdict.NoBody r s o h = tt
 verdict_placed n ps table p (verdict.Unchecked id miss) r s o h = tt
 

@@ -22,6 +22,7 @@ use Rattle.verdict_report.specs.declared.answers.RankVerdict.TheVariants as rank
 use Rattle.verify_core.specs.GoalDecisions.{DecidedGoal, certified_in_file, outcome_of}
 use Rattle.verify_core.specs.Outcomes.{all_outcomes, all_shown, loop_answer, outcomes, told_in_file}
 use Rattle.verify_core.specs.Verdicts.{IsAnswer}
+use Rattle.loop_encodings.specs.BoundGoals.{BoundGoal}
 use Rattle.verify_core.specs.Questions.{AreGoals, IsMadeOf, question}
 use Rattle.verify_core.specs.Rankings.{AreAllGoals, AreRankingGoals, ranked_loops}
 
@@ -90,7 +91,7 @@ goal_named id m = record { proc = 0; id = id; made = m }
 
 -- What is made for its bound, and for its rankings.
 pub record AreMade (m a b c : Made) : Type 0 where
-  pub main : IsMadeOf (question (nested ∷ []) nested Main) m
+  pub main : IsMadeOf (question (nested ∷ []) nested BoundGoal.main) m
   pub outer_one : ranking.IsMadeOf nested (head 1 (Some outer)) two_loops outer a
   pub inner_one : ranking.IsMadeOf nested (head 3 (Some inner)) Acts.done inner b
   pub last_one : ranking.IsMadeOf nested (head 4 (Some last)) Acts.done last c
@@ -114,7 +115,7 @@ all_goals m a b c h = record {
   ranked = three_goals m a b c h;
 }
 
-first_is_main : (bounds rankings : List NamedGoal) (g : NamedGoal) (gs : List NamedGoal) → AreGoals (nested ∷ []) 0 (Main ∷ []) bounds → g ∷ gs ≡ bounds ++ rankings → g.id ≡ Main
+first_is_main : (bounds rankings : List NamedGoal) (g : NamedGoal) (gs : List NamedGoal) → AreGoals (nested ∷ []) 0 (BoundGoal.main ∷ []) bounds → g ∷ gs ≡ bounds ++ rankings → g.id ≡ Main
 first_is_main [] rankings g gs h e = absurd h
 first_is_main (b ∷ bounds) rankings g gs h e = let same : g ≡ b = cc in ap (λ (x : NamedGoal). x.id) same ∙ h.0.id_of
 

@@ -17,7 +17,8 @@ use Rattle.heylo_formula.specs.declared.goals.Made.TheVariants as made
 use Rattle.heyvl_acts.specs.Acts.{Act, Acts, TypedProcedure, acts_in}
 use Rattle.heyvl_acts.specs.Places.{in_order}
 use Rattle.heyvl_acts.specs.Rules.{Each, MeetsRules, counted, loop_numbers}
-use Rattle.loop_encodings.specs.BoundGoals.{bound_goals}
+use Rattle.loop_encodings.specs.BoundGoals.{BoundGoal, bound_goals, goal_id}
+use Rattle.loop_encodings.proofs.exported.BoundNames.{invariant_ids}
 use Rattle.region_split.specs.DecisionLaws.{TreesCertify}
 use Rattle.goal_answers.specs.declared.decisions.Decision.{Decision}
 use Rattle.goal_answers.specs.declared.decisions.Decision.TheVariants.{Proved, Falsified, Unknown}
@@ -72,11 +73,11 @@ one_goal k id g (Unknown u) cs rest o ids p i c b f = f o (skipped k o (goal_nam
 abbrev AreNamed : ℕ → List GoalId → List DecidedGoal → Type 0
 AreNamed k ids ds = AllZip (λ id (d : DecidedGoal). (d.goal.proc ≡ k) × (d.goal.id ≡ id)) ids ds
 
-bounds_named : (ps : List TypedProcedure) (k : ℕ) (ids : List GoalId) (ds : List DecidedGoal) → AreFound (IsGoalOf ps k) Decides ids ds → AreNamed k ids ds
+bounds_named : (ps : List TypedProcedure) (k : ℕ) (goals : List BoundGoal) (ds : List DecidedGoal) → AreFound (IsGoalOf ps k) Decides goals ds → AreNamed k (map goal_id goals) ds
 bounds_named ps k [] [] h = tt
 bounds_named ps k [] (d ∷ ds) h = absurd h
-bounds_named ps k (id ∷ ids) [] h = absurd h
-bounds_named ps k (id ∷ ids) (d ∷ ds) h = ((h.0.goal.proc, h.0.goal.id_of), bounds_named ps k ids ds h.1)
+bounds_named ps k (b ∷ goals) [] h = absurd h
+bounds_named ps k (b ∷ goals) (d ∷ ds) h = ((h.0.goal.proc, h.0.goal.id_of), bounds_named ps k goals ds h.1)
 
 rankings_named : (ps : List TypedProcedure) (k : ℕ) (ns : List ℕ) (ds : List DecidedGoal) → AreFound (IsRankingGoal ps k) Decides ns ds → AreNamed k (map Ranking ns) ds
 rankings_named ps k [] [] h = tt
@@ -112,19 +113,19 @@ invariants : (k n : ℕ) → IsChain k (Some (goal_name k Post)) (map Invariant 
 invariants k zero = tt
 invariants k (suc n) = (grind (arith, nat_tests), later_invariants k 1 n)
 
-chain : (ps : List TypedProcedure) (k : ℕ) (o : Option GoalName) (q : TypedProcedure) → MeetsRules ps q → IsBelow k o → IsChain k o (bound_goals q)
+chain : (ps : List TypedProcedure) (k : ℕ) (o : Option GoalName) (q : TypedProcedure) → MeetsRules ps q → IsBelow k o → IsChain k o (map goal_id (bound_goals q))
 chain ps k o q h b = of_body q.body refl
   where
-    weak_ones : (acts : Acts) → loop_numbers (in_order acts) ≡ counted 1 q.loops → IsChain k (Some (goal_name k Main)) (Pre ∷ (Post ∷ map Invariant (loop_numbers (in_order acts))))
-    weak_ones acts e = (grind (arith, nat_tests), (grind (arith, nat_tests), subst (λ l. IsChain k (Some (goal_name k Post)) (map Invariant l)) (sym e) (invariants k q.loops)))
+    weak_ones : (acts : Acts) → loop_numbers (in_order acts) ≡ counted 1 q.loops → IsChain k (Some (goal_name k Main)) (Pre ∷ (Post ∷ map goal_id (map BoundGoal.invariant (loop_numbers (in_order acts)))))
+    weak_ones acts e = (grind (arith, nat_tests), (grind (arith, nat_tests), subst (λ l. IsChain k (Some (goal_name k Post)) (map goal_id (map BoundGoal.invariant l))) (sym e) (subst (λ ids. IsChain k (Some (goal_name k Post)) ids) (sym (invariant_ids (counted 1 q.loops))) (invariants k q.loops))))
 
-    of_weak : (acts : Acts) (w : Bool) → loop_numbers (in_order acts) ≡ counted 1 q.loops → IsChain k o (bound_goals (record q { body = Some acts; weak = w }))
+    of_weak : (acts : Acts) (w : Bool) → loop_numbers (in_order acts) ≡ counted 1 q.loops → IsChain k o (map goal_id (bound_goals (record q { body = Some acts; weak = w })))
     of_weak acts true e = (follows_later k o Main b, weak_ones acts e)
     of_weak acts false e = (follows_later k o Main b, tt)
 
-    of_body : (body : Option Acts) → q.body ≡ body → IsChain k o (bound_goals q)
-    of_body None e = subst (λ x. IsChain k o (bound_goals (record q { body = x }))) (sym e) tt
-    of_body (Some acts) e = subst (λ x. IsChain k o (bound_goals (record q { body = x }))) (sym e) (of_weak acts q.weak (subst (λ x. loop_numbers (in_order (acts_in x)) ≡ counted 1 q.loops) e h.numbered))
+    of_body : (body : Option Acts) → q.body ≡ body → IsChain k o (map goal_id (bound_goals q))
+    of_body None e = subst (λ x. IsChain k o (map goal_id (bound_goals (record q { body = x })))) (sym e) tt
+    of_body (Some acts) e = subst (λ x. IsChain k o (map goal_id (bound_goals (record q { body = x })))) (sym e) (of_weak acts q.weak (subst (λ x. loop_numbers (in_order (acts_in x)) ≡ counted 1 q.loops) e h.numbered))
 
 -- ---- Rankings behind them
 
@@ -144,20 +145,20 @@ post_before k n = grind (arith, nat_tests)
 invariant_before : (k m : ℕ) → IsBeforeRankings k (Invariant m)
 invariant_before k m n = grind (arith, nat_tests)
 
-invariants_before : (k : ℕ) (ns : List ℕ) → Each (IsBeforeRankings k) (map Invariant ns)
+invariants_before : (k : ℕ) (ns : List ℕ) → Each (IsBeforeRankings k) (map goal_id (map BoundGoal.invariant ns))
 invariants_before k [] = tt
 invariants_before k (m ∷ ns) = (invariant_before k m, invariants_before k ns)
 
-bounds_before : (k : ℕ) (q : TypedProcedure) → Each (IsBeforeRankings k) (bound_goals q)
+bounds_before : (k : ℕ) (q : TypedProcedure) → Each (IsBeforeRankings k) (map goal_id (bound_goals q))
 bounds_before k q = of_body q.body refl
   where
-    of_weak : (acts : Acts) (w : Bool) → Each (IsBeforeRankings k) (bound_goals (record q { body = Some acts; weak = w }))
+    of_weak : (acts : Acts) (w : Bool) → Each (IsBeforeRankings k) (map goal_id (bound_goals (record q { body = Some acts; weak = w })))
     of_weak acts true = (main_before k, (pre_before k, (post_before k, invariants_before k (loop_numbers (in_order acts)))))
     of_weak acts false = (main_before k, tt)
 
-    of_body : (body : Option Acts) → q.body ≡ body → Each (IsBeforeRankings k) (bound_goals q)
-    of_body None e = subst (λ x. Each (IsBeforeRankings k) (bound_goals (record q { body = x }))) (sym e) tt
-    of_body (Some acts) e = subst (λ x. Each (IsBeforeRankings k) (bound_goals (record q { body = x }))) (sym e) (of_weak acts q.weak)
+    of_body : (body : Option Acts) → q.body ≡ body → Each (IsBeforeRankings k) (map goal_id (bound_goals q))
+    of_body None e = subst (λ x. Each (IsBeforeRankings k) (map goal_id (bound_goals (record q { body = x })))) (sym e) tt
+    of_body (Some acts) e = subst (λ x. Each (IsBeforeRankings k) (map goal_id (bound_goals (record q { body = x })))) (sym e) (of_weak acts q.weak)
 
 later_ranking : (k m n : ℕ) → m < n → IsTrue (may_follow (Some (goal_name k (Ranking m))) (goal_name k (Ranking n)))
 later_ranking k m n l = grind (arith, nat_tests)
@@ -195,8 +196,8 @@ rankings_behind : (k : ℕ) (o : Option GoalName) (ids : List GoalId) (acts : Li
 rankings_behind k o [] acts n e c r f = rankings k o acts 1 n e (λ m l. f m)
 rankings_behind k o (id ∷ ids) acts n e c r f = (c.0, rankings_behind k (Some (goal_name k id)) ids acts n e c.1 r.1 r.0)
 
-whole_chain : (ps : List TypedProcedure) (k : ℕ) (o : Option GoalName) (q : TypedProcedure) → MeetsRules ps q → IsBelow k o → IsChain k o (bound_goals q ++ map Ranking (ranked_loops q))
-whole_chain ps k o q h b = rankings_behind k o (bound_goals q) (in_order (acts_in q.body)) q.loops h.numbered (chain ps k o q h b) (bounds_before k q) (λ n. follows_later k o (Ranking n) b)
+whole_chain : (ps : List TypedProcedure) (k : ℕ) (o : Option GoalName) (q : TypedProcedure) → MeetsRules ps q → IsBelow k o → IsChain k o (map goal_id (bound_goals q) ++ map Ranking (ranked_loops q))
+whole_chain ps k o q h b = rankings_behind k o (map goal_id (bound_goals q)) (in_order (acts_in q.body)) q.loops h.numbered (chain ps k o q h b) (bounds_before k q) (λ n. follows_later k o (Ranking n) b)
 
 -- ---- The file
 
@@ -205,7 +206,7 @@ of_file ps k [] [] ranks o r h t b = tt
 of_file ps k [] (ds ∷ table) ranks o r h t b = absurd h
 of_file ps k (q ∷ qs) [] ranks o r h t b = absurd h
 of_file ps k (q ∷ qs) (ds ∷ table) [] o r h t b = absurd t
-of_file ps k (q ∷ qs) (ds ∷ table) (rs ∷ ranks) o r h t b = of_procedure k (bound_goals q) (map Ranking (ranked_loops q)) ds rs (certified_in_file table ranks) o (bounds_named ps k (bound_goals q) ds h.0) (rankings_named ps k (ranked_loops q) rs t.0) (whole_chain ps k o q r.0 b) (below_next k o b) (λ l x. of_file ps (suc k) qs table ranks l r.1 h.1 t.1 x)
+of_file ps k (q ∷ qs) (ds ∷ table) (rs ∷ ranks) o r h t b = of_procedure k (map goal_id (bound_goals q)) (map Ranking (ranked_loops q)) ds rs (certified_in_file table ranks) o (bounds_named ps k (bound_goals q) ds h.0) (rankings_named ps k (ranked_loops q) rs t.0) (whole_chain ps k o q r.0 b) (below_next k o b) (λ l x. of_file ps (suc k) qs table ranks l r.1 h.1 t.1 x)
 
 -- ---- The goals that they serve
 

@@ -6,8 +6,6 @@ use Rattle.heyvl_places.specs.declared.spans.Span.{Span}
 use Rattle.heylo_formula.specs.Formula.{Form, Cond, Term}
 use Rattle.heylo_formula.specs.Shifts.{shifted}
 use Rattle.heylo_formula.specs.Typing.{Types}
-use Rattle.heylo_formula.specs.declared.goals.GoalId.{GoalId}
-use Rattle.heylo_formula.specs.declared.goals.GoalId.TheVariants.{Main, Pre, Post, Invariant, Ranking}
 use Rattle.heylo_formula.specs.declared.types.Ty.{Ty}
 use Rattle.heyvl_acts.specs.Acts.{Act, Acts, Arms, Head, TypedProcedure, acts_in, join, procedure_at, type_list, types_of, variables}
 use Rattle.heyvl_acts.specs.ModifiedVariables.{modified}
@@ -16,7 +14,7 @@ use Rattle.heyvl_acts.specs.Rules.{Each}
 use Rattle.k_induction.specs.Copies.{copies, if_holds, may, meets, must, no_more}
 use Rattle.linear_form.specs.Nonlinear.{first_product, nonlinear_product}
 use Rattle.act_walks.specs.Loops.{loop_in}
-use Rattle.loop_encodings.specs.BoundGoals.{invariant_at, invariant_in}
+use Rattle.loop_encodings.specs.BoundGoals.{BoundGoal, invariant_at, invariant_in}
 use Rattle.loop_encodings.specs.Encoding.{any_block, encoded, encoded_act, encoded_arms, encoded_call, encoded_loop, encoding, gets, havocs, read, sets, tested}
 use Rattle.loop_encodings.specs.Fresh.{fresh, fresh_of_act, fresh_of_arms}
 use Rattle.verify_core.specs.Places.{ActStands, CondStands, FormStands, GuardsStand, StandsWithin, TermStands}
@@ -149,20 +147,19 @@ invariant_stands n k (Act.check kind f span ∷ rest) h = invariant_stands n k r
 invariant_stands n k (Act.validate co span ∷ rest) h = invariant_stands n k rest h.1
 invariant_stands n k (Act.call xs q es span ∷ rest) h = invariant_stands n k rest h.1
 
-question_stands : (n : ℕ) (ps : List TypedProcedure) (p : ℕ) (id : GoalId) → Each (StandsWithin n) ps → QuestionStands n (question ps (procedure_at ps p) id)
-question_stands n ps p Main s =
+question_stands : (n : ℕ) (ps : List TypedProcedure) (p : ℕ) (asked : BoundGoal) → Each (StandsWithin n) ps → QuestionStands n (question ps (procedure_at ps p) asked)
+question_stands n ps p BoundGoal.main s =
     let q = procedure_at ps p in
     let h = stands_at n ps p s in
     record { stated = h.pre; found = vp_stands n (encoding ps q) q.post (encoded_stands n ps q s (length (variables q)) (acts_in q.body) h.acts) h.post }
-question_stands n ps p Pre s = record { stated = tt; found = (stands_at n ps p s).pre }
-question_stands n ps p Post s = record { stated = tt; found = (stands_at n ps p s).post }
-question_stands n ps p (Invariant k) s = record { stated = tt; found = invariant_stands n k (in_order (acts_in (procedure_at ps p).body)) (stands_at n ps p s).acts }
-question_stands n ps p (Ranking k) s = record { stated = tt; found = tt }
+question_stands n ps p BoundGoal.pre s = record { stated = tt; found = (stands_at n ps p s).pre }
+question_stands n ps p BoundGoal.post s = record { stated = tt; found = (stands_at n ps p s).post }
+question_stands n ps p (BoundGoal.invariant k) s = record { stated = tt; found = invariant_stands n k (in_order (acts_in (procedure_at ps p).body)) (stands_at n ps p s).acts }
 
 -- The first product of a goal that isn't linear stands within the text.
-pub goal_stands : (n : ℕ) (ps : List TypedProcedure) (p : ℕ) (id : GoalId) (s : Span) → Each (StandsWithin n) ps → nonlinear_product (goal (question ps (procedure_at ps p) id)) ≡ Some s → s.from ≤ n
-goal_stands n ps p id s h e =
-    let q = question ps (procedure_at ps p) id in
-    let k = question_stands n ps p id h in
+pub goal_stands : (n : ℕ) (ps : List TypedProcedure) (p : ℕ) (asked : BoundGoal) (s : Span) → Each (StandsWithin n) ps → nonlinear_product (goal (question ps (procedure_at ps p) asked)) ≡ Some s → s.from ≤ n
+goal_stands n ps p asked s h e =
+    let q = question ps (procedure_at ps p) asked in
+    let k = question_stands n ps p asked h in
     let g = goal q in
     or_stands n (first_product g.stated) (first_product g.found) s (product_stands n g.stated s k.stated) (product_stands n g.found s (unbound_stands n (λ x. x) (length (type_list q.variables)) q.found k.found)) e

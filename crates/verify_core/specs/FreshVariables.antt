@@ -2,11 +2,11 @@
 use Rattle.std.specs.Prelude.{◌≡◌, ◌<◌, ◌+◌, ℕ, false, List, length}
 use Rattle.heylo_formula.specs.PlainTrees.{form_of}
 use Rattle.heylo_formula.specs.Variables.{occurs}
-use Rattle.heylo_formula.specs.declared.goals.GoalId.TheVariants.{Main}
 use Rattle.heylo_formula.specs.declared.goals.Made.{Made}
 use Rattle.heylo_formula.specs.declared.goals.Made.TheVariants as made
 use Rattle.heyvl_acts.specs.Acts.{TypedProcedure, acts_in, procedure_at, variables}
 use Rattle.heyvl_acts.specs.Rules.{Each, MeetsRules}
+use Rattle.loop_encodings.specs.BoundGoals.{BoundGoal}
 use Rattle.loop_encodings.specs.Fresh.{fresh}
 use Rattle.loop_encodings.specs.FreshLaws.{IsFreshNumber}
 use Rattle.goal_answers.specs.declared.named_goals.NamedGoal.{NamedGoal}
@@ -26,8 +26,8 @@ Lacks x made.Nodes = Unit {0}
 
 -- The own variables of a main goal are the procedure's and the fresh ones of its encoding.
 abbrev pub MadeGoalsCountFreshVariables : Type 0
-MadeGoalsCountFreshVariables = (ps : List TypedProcedure) (p : ℕ) (g : NamedGoal) → IsGoalOf ps p Main g → OwnsSoMany (length (variables (procedure_at ps p)) + length (fresh ps (acts_in (procedure_at ps p).body))) g.made
+MadeGoalsCountFreshVariables = (ps : List TypedProcedure) (p : ℕ) (g : NamedGoal) → IsGoalOf ps p BoundGoal.main g → OwnsSoMany (length (variables (procedure_at ps p)) + length (fresh ps (acts_in (procedure_at ps p).body))) g.made
 
 -- In a file that meets the rules, the fresh variables of a procedure's encoding occur in neither form of its main goal.
 abbrev pub MadeGoalsLackFreshVariables : Type 0
-MadeGoalsLackFreshVariables = (ps : List TypedProcedure) (p : ℕ) (g : NamedGoal) (x : ℕ) → Each (MeetsRules ps) ps → p < length ps → IsGoalOf ps p Main g → IsFreshNumber ps (procedure_at ps p) x → Lacks x g.made
+MadeGoalsLackFreshVariables = (ps : List TypedProcedure) (p : ℕ) (g : NamedGoal) (x : ℕ) → Each (MeetsRules ps) ps → p < length ps → IsGoalOf ps p BoundGoal.main g → IsFreshNumber ps (procedure_at ps p) x → Lacks x g.made

@@ -9,7 +9,7 @@ use Rattle.heyvl_acts.specs.Length.{length_of}
 use Rattle.heyvl_acts.specs.Places.{in_order}
 use Rattle.heyvl_acts.specs.Program.{IsProgram}
 use Rattle.heyvl_acts.specs.Rules.{Each}
-use Rattle.loop_encodings.specs.BoundGoals.{BoundGoalsHold, GoalFails, goal_variables}
+use Rattle.loop_encodings.specs.BoundGoals.{BoundGoal, BoundGoalsHold, GoalFails, goal_id, goal_variables}
 use Rattle.bounded_runs.specs.Law.{IsBroken}
 use Rattle.heyvl_acts.specs.Straight.{IsStraight}
 use Rattle.ranking_rule.specs.Rankings.{IsNoRanking, IsRanking, RankedLoop}
@@ -40,11 +40,13 @@ says_proved NoBody = false
 abbrev pub ProvedGoalsHold : List TypedProcedure → List Answer → Type 0
 ProvedGoalsHold ps answers = (p : ℕ) (v : Verdict) → IsVerdictOn answers p v → says_proved v ≡ true → BoundGoalsHold ps (procedure_at ps p)
 
--- The first values of what is shown are a state of the procedure, and the goal fails there by the meaning of formulas: the main
--- goal with the values that are shown of its fresh variables.
+-- The name is that of a goal of the procedure's bound, the first values of what is shown are a state of the procedure, and the goal
+-- fails there by the meaning of formulas: the main goal with the values that are shown of its fresh variables.
 pub record IsFalsifiedIn (ps : List TypedProcedure) (p : ℕ) (id : GoalId) (s : List Val) : Type 0 where
+  pub goal : BoundGoal
+  pub id_of : goal_id goal ≡ id
   pub state : IsState (procedure_at ps p) (take (length (variables (procedure_at ps p))) s)
-  pub fails : GoalFails ps (procedure_at ps p) id (take (length (goal_variables ps (procedure_at ps p) id)) s)
+  pub fails : GoalFails ps (procedure_at ps p) goal (take (length (goal_variables ps (procedure_at ps p) goal)) s)
 
 -- Each goal that is said to be falsified is so in the state that is shown.
 abbrev pub ShownStatesFalsify : List TypedProcedure → List Answer → Type 0

@@ -4,12 +4,10 @@ use Rattle.std.specs.Prelude.{◌≡◌, ℕ, Bool, true, List, Option, Some, No
 use Rattle.heyvl_num.specs.Value.{oneᵛ, zeroᵛ}
 use Rattle.heylo_formula.specs.Formula.{Form}
 use Rattle.heylo_formula.specs.Goals.{Goal}
-use Rattle.heylo_formula.specs.declared.goals.GoalId.{GoalId}
-use Rattle.heylo_formula.specs.declared.goals.GoalId.TheVariants.{Main, Pre, Post, Invariant, Ranking}
 use Rattle.heylo_formula.specs.declared.goals.Made.{Made}
 use Rattle.heyvl_acts.specs.Acts.{TypedProcedure, Variable, variables, acts_in, procedure_at}
 use Rattle.heyvl_acts.specs.Places.{in_order}
-use Rattle.loop_encodings.specs.BoundGoals.{invariant_in}
+use Rattle.loop_encodings.specs.BoundGoals.{BoundGoal, goal_id, invariant_in}
 use Rattle.loop_encodings.specs.Encoding.{all_variables, encoding}
 use Rattle.made_goals.specs.MadeGoals.{goal_over}
 use Rattle.vp_generator.specs.PrenexedGoals.{IsMadeWithin}
@@ -33,15 +31,12 @@ abbrev pub form_or_zero : Option Form → Form
 form_or_zero (Some f) = f
 form_or_zero None = Form.number zeroᵛ
 
--- What the goal of a bound asks. The goal of a ranking is named by an id too, but is none of these (`bound_goals` lists no such id,
--- and what a ranking asks is said by its own goal): the row stands only so that each id has a question, and asks whether 0 is at
--- most 1, which is so.
-abbrev pub question : List TypedProcedure → TypedProcedure → GoalId → Question
-question ps p Main = record { upper = p.co; stated = p.pre; found = vp (encoding ps p) p.post; variables = all_variables ps p }
-question ps p Pre = one_bound p p.pre
-question ps p Post = one_bound p p.post
-question ps p (Invariant n) = one_bound p (form_or_zero (invariant_in n (in_order (acts_in p.body))))
-question ps p (Ranking n) = one_bound p (Form.number zeroᵛ)
+-- What the goal of a bound asks.
+abbrev pub question : List TypedProcedure → TypedProcedure → BoundGoal → Question
+question ps p BoundGoal.main = record { upper = p.co; stated = p.pre; found = vp (encoding ps p) p.post; variables = all_variables ps p }
+question ps p BoundGoal.pre = one_bound p p.pre
+question ps p BoundGoal.post = one_bound p p.post
+question ps p (BoundGoal.invariant n) = one_bound p (form_or_zero (invariant_in n (in_order (acts_in p.body))))
 
 -- The goal: the found formula with a variable of its own for each binder.
 abbrev pub goal : Question → Goal
@@ -51,12 +46,12 @@ goal q = goal_over q.upper q.variables q.stated q.found
 abbrev pub IsMadeOf : Question → Made → Type 0
 IsMadeOf q m = IsMadeWithin q.found (goal q) m
 
--- A goal of the procedure with the number p.
-pub record IsGoalOf (ps : List TypedProcedure) (p : ℕ) (id : GoalId) (g : NamedGoal) : Type 0 where
+-- A goal of the bound of the procedure with the number p.
+pub record IsGoalOf (ps : List TypedProcedure) (p : ℕ) (asked : BoundGoal) (g : NamedGoal) : Type 0 where
   pub proc : g.proc ≡ p
-  pub id_of : g.id ≡ id
-  pub made : IsMadeOf (question ps (procedure_at ps p) id) g.made
+  pub id_of : g.id ≡ goal_id asked
+  pub made : IsMadeOf (question ps (procedure_at ps p) asked) g.made
 
--- Its goals with these ids, in their order.
-abbrev pub AreGoals : List TypedProcedure → ℕ → List GoalId → List NamedGoal → Type 0
-AreGoals ps p ids gs = AllZip (IsGoalOf ps p) ids gs
+-- These goals of its bound, in their order.
+abbrev pub AreGoals : List TypedProcedure → ℕ → List BoundGoal → List NamedGoal → Type 0
+AreGoals ps p asked gs = AllZip (IsGoalOf ps p) asked gs

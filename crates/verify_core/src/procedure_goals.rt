@@ -2,16 +2,14 @@
 
 ghost use Rattle.heylo_formula.specs.BinderNames.{binders};
 ghost use Rattle.heylo_formula.specs.PlainTrees.{form_of};
-ghost use Rattle.heylo_formula.specs.declared.goals.GoalId.{GoalId};
-ghost use Rattle.heylo_formula.specs.declared.goals.GoalId.TheVariants.{Main};
 ghost use Rattle.heyvl_acts.specs.Acts.{procedure_at};
 ghost use Rattle.heyvl_acts.specs.PlainActs.{procedure_of, procedures_of};
 ghost use Rattle.heyvl_acts.specs.Rules.{AreNamed, Each, MeetsAllRules};
-ghost use Rattle.loop_encodings.specs.BoundGoals.{bound_goals};
+ghost use Rattle.loop_encodings.specs.BoundGoals.{BoundGoal, bound_goals};
 ghost use Rattle.std.specs.Prelude.{IfOk, List, length, map, ◌++◌, ◌<◌, ◌^◌};
 ghost use Rattle.verify_core.specs.Questions.{AreGoals, IsMadeOf, one_bound, question};
 ghost use Rattle.verify_core.specs.Rankings.{AreAllGoals};
-ghost use Rattle.verify_core.specs.internal.BoundQuestions.{IsAsked, plain};
+ghost use Rattle.verify_core.specs.internal.BoundQuestions.{AreMadeFor, IsAsked, NamedQuestion, asked_question, plain};
 
 use crate::bound_questions::{Asked, asked_of};
 use crate::rankings::rankings;
@@ -67,7 +65,7 @@ pub(crate) fn bounds(alloc: Global, typed: &Typed, p: u32) -> Result<Vec<NamedGo
 fn main_goal(alloc: Global, typed: &Typed, p: u32) -> Result<Made, AllocError>
     requires there { p < length typed.now.procs.items }
     requires rules { MeetsAllRules typed.now }
-    ensures { IfOk result (λ made. IsMadeOf (question (procedures_of typed.now) (procedure_at (procedures_of typed.now) p) Main) made) }
+    ensures { IfOk result (λ made. IsMadeOf (question (procedures_of typed.now) (procedure_at (procedures_of typed.now) p) BoundGoal.main) made) }
 {
     generated_form_means_acts();
     encodings_are_over_their_variables();
@@ -94,7 +92,7 @@ fn add_bounds(
     requires there { p < length typed.now.procs.items }
     requires rules { MeetsAllRules typed.now }
     requires asked { Each (IsAsked (procedures_of typed.now) (procedure_at (procedures_of typed.now) p)) (map plain asked.items) }
-    ensures { (ids : List GoalId) → AreGoals (procedures_of typed.now) p ids all.items → IfOk result (λ more. AreGoals (procedures_of typed.now) p (ids ++ map (λ a. a.0) (map plain asked.items)) more.items) }
+    ensures { (questions : List NamedQuestion) → AreMadeFor p questions all.items → IfOk result (λ more. AreMadeFor p (questions ++ map (asked_question (procedure_at (procedures_of typed.now) p)) (map plain asked.items)) more.items) }
 {
     let mut more = all;
     for one in asked {

@@ -1,5 +1,6 @@
 -- The formulas of a weak proc that are to be at most 1, with the goals that ask it.
-use Rattle.std.specs.Prelude.{◌≡◌, List, [], ◌∷◌, length}
+use Rattle.std.specs.List.{AllZip}
+use Rattle.std.specs.Prelude.{◌≡◌, ℕ, List, [], ◌∷◌, length}
 use Rattle.heylo_formula.specs.BinderNames.{binders}
 use Rattle.heylo_formula.specs.Formula.{Form}
 use Rattle.heylo_formula.specs.PlainTrees.{form_of}
@@ -7,7 +8,9 @@ use Rattle.heylo_formula.specs.declared.goals.GoalId.{GoalId}
 use Rattle.heylo_formula.specs.declared.goals.GoalId.TheVariants.{Pre, Post, Invariant}
 use Rattle.heyvl_acts.specs.Acts.{Act, TypedProcedure, acts_in, variables}
 use Rattle.heyvl_acts.specs.Places.{in_order}
-use Rattle.verify_core.specs.Questions.{one_bound, question}
+use Rattle.goal_answers.specs.declared.named_goals.NamedGoal.{NamedGoal}
+use Rattle.loop_encodings.specs.BoundGoals.{BoundGoal, goal_id}
+use Rattle.verify_core.specs.Questions.{IsMadeOf, Question, one_bound, question}
 use Rattle.verify_core.specs.declared.bound_questions.Asked as declared
 use Rattle.heyvl_acts.specs.Rules.{AreNamed}
 
@@ -28,7 +31,29 @@ asked_invariants (a ∷ rest) = asked_invariants rest
 abbrev pub asked : TypedProcedure → List Asked
 asked p = (Pre, p.pre) ∷ ((Post, p.post) ∷ asked_invariants (in_order (acts_in p.body)))
 
--- The goal's question is whether the formula is at most 1; its binders are named after the procedure's variables.
+-- The question of the goal of this name is whether the formula is at most 1; its binders are named after the procedure's variables.
 pub record IsAsked (ps : List TypedProcedure) (p : TypedProcedure) (a : Asked) : Type 0 where
-  pub asks : question ps p a.0 ≡ one_bound p a.1
+  pub asks : (g : BoundGoal) → goal_id g ≡ a.0 → question ps p g ≡ one_bound p a.1
   pub named : AreNamed (length (variables p)) (binders a.1)
+
+-- A goal's name, and what the goal asks.
+abbrev pub NamedQuestion : Type 0
+NamedQuestion = GoalId × Question
+
+-- That the formula is at most 1.
+abbrev pub asked_question : TypedProcedure → Asked → NamedQuestion
+asked_question p a = (a.0, one_bound p a.1)
+
+-- That of a goal of the procedure's bound.
+abbrev pub own_question : List TypedProcedure → TypedProcedure → BoundGoal → NamedQuestion
+own_question ps p g = (goal_id g, question ps p g)
+
+-- The goal of the procedure with the number p has this name, and is made of this question.
+pub record IsMadeFor (p : ℕ) (q : NamedQuestion) (g : NamedGoal) : Type 0 where
+  pub proc : g.proc ≡ p
+  pub id_of : g.id ≡ q.0
+  pub made : IsMadeOf q.1 g.made
+
+-- The goals for these questions, in their order.
+abbrev pub AreMadeFor : ℕ → List NamedQuestion → List NamedGoal → Type 0
+AreMadeFor p qs gs = AllZip (IsMadeFor p) qs gs

@@ -22,6 +22,6 @@ pub loop-one-preserved : goal.loop-one-preserved
 loop-one-preserved c =
     let asked = subst (λ l. Each (IsAsked (procedures_of c.args.typed.now) (procedure_at (procedures_of c.args.typed.now) c.args.p)) (map plain l)) c.in-Some.ensures.steps.0 c.loop-one.invariant.asked in
     record {
-      goals = λ ids h. pushed_goal (procedures_of c.args.typed.now) c.args.p c.index.result.now _ _ _ ids c.loop-one.yielded c.in-Some.one (here c.args.typed.now c.args.p c.index.result.now c.requires.rules c.requires.there c.index.ensures) asked.0 refl refl c.in_ok-made.ensures c.in_ok-push.ensures.items (c.loop-one.invariant.goals ids h);
+      goals = λ questions h. pushed_goal (procedure_at (procedures_of c.args.typed.now) c.args.p) c.args.p c.index.result.now _ _ _ questions c.loop-one.yielded c.in-Some.one (here c.args.typed.now c.args.p c.index.result.now c.requires.rules c.requires.there c.index.ensures) refl refl c.in_ok-made.ensures c.in_ok-push.ensures.items (c.loop-one.invariant.goals questions h);
       asked = asked.1;
     }

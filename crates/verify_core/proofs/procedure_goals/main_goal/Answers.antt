@@ -2,11 +2,11 @@ use Rattle.std.proofs.Common.{ap, subst, sym, ◌∙◌, List, map}
 use Rattle.std.proofs.lemmas.Result.{IfOk-weaker}
 use Rattle.heylo_formula.specs.PlainTrees.{form_of}
 use Rattle.heylo_formula.specs.Typing.{IsFormula, types_in}
-use Rattle.heylo_formula.specs.declared.goals.GoalId.TheVariants.{Main}
 use Rattle.heyvl_acts.specs.Acts.{TypedProcedure, procedure_at, type_list}
 use Rattle.heyvl_acts.specs.PlainActs.{acts_of, procedures_of, variable_of}
 use Rattle.heyvl_acts.specs.WellTypedActs.{ActsFit}
 use Rattle.heyvl_acts.specs.declared.typed_trees.VarInfo.{VarInfo}
+use Rattle.loop_encodings.specs.BoundGoals.{BoundGoal}
 use Rattle.made_goals.specs.MadeGoals.{goal_over}
 use Rattle.vp_generator.specs.GeneratedForms.{vp}
 use Rattle.vp_generator.specs.PrenexedGoals.{IsMadeWithin}
@@ -30,4 +30,4 @@ pub generated_goal-requires-clause-named : goal.generated_goal-requires-clause-n
 generated_goal-requires-clause-named c = main_named c.args.typed.now c.args.p c.index-procedure.result.now c.requires.rules c.requires.there c.index-procedure.ensures c.deref.result.now (ap (λ (l : List VarInfo). map variable_of l) c.deref.ensures.value ∙ c.in_ok-encoded.ensures.vars) c.deref-2.result.now (ap acts_of c.deref-2.ensures.value ∙ c.in_ok-encoded.ensures.acts) c.generated_form_means_acts.ensures.named c.encodings_are_over_their_variables.ensures.binds c.requires.rules.named
 
 pub returns : goal.returns
-returns c = IfOk-weaker _ (λ made. IsMadeWithin (vp (acts_of c.deref-2.result.now) (form_of c.index-procedure.result.now.post)) (goal_over c.index-procedure.result.now.co (map variable_of c.deref.result.now) (form_of c.index-procedure.result.now.pre) (vp (acts_of c.deref-2.result.now) (form_of c.index-procedure.result.now.post))) made) (λ made. IsMadeOf (question (procedures_of c.args.typed.now) (procedure_at (procedures_of c.args.typed.now) c.args.p) Main) made) (λ made h. main_made c.args.typed.now c.args.p c.index-procedure.result.now c.requires.rules c.requires.there c.index-procedure.ensures c.deref.result.now (ap (λ (l : List VarInfo). map variable_of l) c.deref.ensures.value ∙ c.in_ok-encoded.ensures.vars) c.deref-2.result.now (ap acts_of c.deref-2.ensures.value ∙ c.in_ok-encoded.ensures.acts) made h) c.generated_goal.ensures
+returns c = IfOk-weaker _ (λ made. IsMadeWithin (vp (acts_of c.deref-2.result.now) (form_of c.index-procedure.result.now.post)) (goal_over c.index-procedure.result.now.co (map variable_of c.deref.result.now) (form_of c.index-procedure.result.now.pre) (vp (acts_of c.deref-2.result.now) (form_of c.index-procedure.result.now.post))) made) (λ made. IsMadeOf (question (procedures_of c.args.typed.now) (procedure_at (procedures_of c.args.typed.now) c.args.p) BoundGoal.main) made) (λ made h. main_made c.args.typed.now c.args.p c.index-procedure.result.now c.requires.rules c.requires.there c.index-procedure.ensures c.deref.result.now (ap (λ (l : List VarInfo). map variable_of l) c.deref.ensures.value ∙ c.in_ok-encoded.ensures.vars) c.deref-2.result.now (ap acts_of c.deref-2.ensures.value ∙ c.in_ok-encoded.ensures.acts) made h) c.generated_goal.ensures
