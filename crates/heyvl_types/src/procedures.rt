@@ -184,7 +184,7 @@ fn has_too_many_statements(body: &Option<Vec<Act>>) -> bool
 }
 
 /// Whether a procedure with so many parameters and variables is too large.
-fn is_too_large(proc: &Proc, arity: u32, vars: usize, body: &Option<Vec<Act>>) -> bool
+fn is_too_large(proc: &Proc, arity: u64, vars: usize, body: &Option<Vec<Act>>) -> bool
     ensures { result ≡ is_larger (procedure proc.now) arity vars (body_of body.now) }
 {
     arity > 16
@@ -207,7 +207,8 @@ fn put_together(
     ensures gives { Gives procedure_of result (at proc.now.span ((24, is_larger (procedure proc.now) (inputs + outputs) (length vars.items) (body_of body.acts)) ∷ [])) (with_parts (procedure proc.now) inputs outputs (map variable_of vars.items) (clause proc.now.co (map form_of clauses.pre.items)) (clause proc.now.co (map form_of clauses.post.items)) (body_of body.acts) body.loops) }
     ensures counted { IfOk result (λ typed. (typed.inputs ≡ inputs) × (typed.outputs ≡ outputs) × (typed.vars ≡ vars)) }
 {
-    if is_too_large(proc, plus(inputs, outputs)?, vars.len(), &body.acts) {
+    let arity = u64::from(inputs) + u64::from(outputs);
+    if is_too_large(proc, arity, vars.len(), &body.acts) {
         return Err(ResolveStop::Fault(24, proc.span));
     }
     let pre = clause(alloc, proc.co, clauses.pre)?;
