@@ -1,14 +1,16 @@
--- A file within the limits has at most 1,024 procedures.
+-- A file within the limits has at most 1,024 procedures, and a program becomes one.
 use Rattle.heyvl_acts.specs.PlainActs.{procedure_of, procedures_of}
 use Rattle.heyvl_acts.specs.declared.typed_trees.Typed.{Typed}
 use Rattle.heyvl_syntax.specs.Grammar.{IsFile, IsProc, proc_key}
-use Rattle.heyvl_syntax.specs.Procedures.{Procedure}
+use Rattle.heyvl_syntax.specs.Procedures.{Procedure, procedure, procedures}
 use Rattle.heyvl_syntax.specs.Productions.{IsEach, IsKey}
 use Rattle.heyvl_syntax.specs.SourceFaults.{IsSource, IsWithinLimits, is_procedure_key, procedure_count}
+use Rattle.heyvl_syntax.specs.declared.procedures.File.{File}
 use Rattle.heyvl_syntax.specs.declared.tokens.Token.{Token}
 use Rattle.heyvl_types.specs.Files.{resolved, typed}
 use Rattle.heyvl_types.specs.Signatures.{called}
-use Rattle.std.proofs.Common.{Bool, List, [], ap, arith, cond, false, length, refl, true, ◌++◌, ◌+◌, ◌∷◌, ◌∙◌, ◌≡◌, ◌≤◌, ℕ}
+use Rattle.pgcl_front.specs.Sources.{IsPgclSource}
+use Rattle.std.proofs.Common.{Bool, List, [], ap, arith, cond, false, length, refl, true, ◌++◌, ◌+◌, ◌<◌, ◌^◌, ◌∷◌, ◌∙◌, ◌≡◌, ◌≤◌, ℕ}
 use Rattle.std.proofs.lemmas.List.{length-map}
 use Rattle.std.proofs.lemmas.List.Recursion.{is_count_by}
 
@@ -56,6 +58,19 @@ few_procedures file tokens within is =
     let same = keys_counted tokens in
     let few = within.uncrowded in
     omega (arith, some, same, few)
+
+pub few_in_file : (file : File) (tokens : List Token) → IsWithinLimits tokens → IsFile (procedures file) tokens → length file.procs.items < 2 ^ 31
+few_in_file file tokens within is =
+    let few = few_procedures (procedures file) tokens within is in
+    let same : length (procedures file) ≡ length file.procs.items = length-map file.procs.items procedure in
+    omega (arith, few, same)
+
+-- A file that a program becomes has one procedure.
+pub one_in_program : (bytes : List ℕ) (file : File) → IsPgclSource bytes (procedures file) → length file.procs.items < 2 ^ 31
+one_in_program bytes file source =
+    let one : length (procedures file) ≡ 1 = ap length source.translation.is_file in
+    let same : length (procedures file) ≡ length file.procs.items = length-map file.procs.items procedure in
+    omega (arith, one, same)
 
 -- The typed tree of a file that bytes spell has few procedures.
 pub few_typed : (bytes : List ℕ) (file : List Procedure) (tree : Typed) → IsSource bytes file → procedures_of tree ≡ resolved file → length tree.procs.items ≤ 1024

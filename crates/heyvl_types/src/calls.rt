@@ -3,7 +3,7 @@
 ghost use Rattle.heyvl_syntax.specs.Procedures.{procedure};
 ghost use Rattle.heyvl_types.specs.Signatures.{Called, called, find_call, signature, with_signature};
 ghost use Rattle.heyvl_types.specs.internal.Views.{called_of, signature_of};
-ghost use Rattle.std.specs.Prelude.{◌≡◌, [], IfOk, OnOk, map, option_map};
+ghost use Rattle.std.specs.Prelude.{◌<◌, ◌^◌, ◌≡◌, [], IfOk, OnOk, length, map, option_map};
 
 use crate::quantifiers::any_quantified;
 use heyvl_places::Name;
@@ -97,13 +97,14 @@ fn types(alloc: Global, params: &[Param]) -> Result<Vec<TypeName>, AllocError>
 
 /// The procedures of a file: of those with one name the first.
 pub(crate) fn calls_of(alloc: Global, procs: &Vec<Proc>) -> Result<Calls, AllocError>
+    requires { length procs.now.items < 2 ^ 31 }
     ensures { IfOk result (λ calls. calls ≡ called (map procedure procs.now.items)) }
 {
     let mut calls = Calls::new(alloc);
     let mut number = 0_u32;
     for proc in procs {
         calls.declare(alloc, number, proc)?;
-        number = number.checked_add(1).ok_or(AllocError)?;
+        number += 1;
     }
     Ok(calls)
 }

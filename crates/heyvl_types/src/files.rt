@@ -8,7 +8,7 @@ ghost use Rattle.heyvl_types.specs.ArmedFiles.{HasArms};
 ghost use Rattle.heyvl_types.specs.Files.{file_findings, procedures_findings, resolved, typed};
 ghost use Rattle.heyvl_types.specs.Signatures.{find_call};
 ghost use Rattle.heyvl_types.specs.internal.Earlier.{is_before};
-ghost use Rattle.std.specs.Prelude.{◌≡◌, ◌≤◌, IfOk, length};
+ghost use Rattle.std.specs.Prelude.{◌<◌, ◌^◌, ◌≡◌, ◌≤◌, IfOk, length};
 
 use crate::calls::{Calls, calls_of};
 use crate::procedures::read_procedure;
@@ -17,7 +17,7 @@ use crate::stops::ResolveStop;
 use heyvl_acts::Typed;
 use heyvl_places::Name;
 use heyvl_syntax::File;
-use std::alloc::{AllocError, Global};
+use std::alloc::Global;
 
 /// Whether a name calls a procedure before the one with this number.
 fn is_before(calls: &Calls, number: u32, name: &Name) -> bool
@@ -31,6 +31,7 @@ fn is_before(calls: &Calls, number: u32, name: &Name) -> bool
 
 /// The typed procedures of a file, or its first static fault.
 fn read_procedures(alloc: Global, file: &File) -> Result<Typed, ResolveStop>
+    requires { length file.now.procs.items < 2 ^ 31 }
     ensures gives { Gives procedures_of result (file_findings (procedures file.now)) (resolved (procedures file.now)) }
     ensures counted { IfOk result (λ typed. Each IsCounted typed.procs.items) }
 {
@@ -40,15 +41,16 @@ fn read_procedures(alloc: Global, file: &File) -> Result<Typed, ResolveStop>
     for proc in &file.procs {
         let named = is_before(&calls, number, &proc.name);
         procs.push(read_procedure(alloc, &calls, named, proc)?)?;
-        number = number.checked_add(1).ok_or(AllocError)?;
+        number += 1;
     }
     Ok(Typed { procs })
 }
 
-/// The typed tree of a file in which each If has an arm, or its first static fault. Where there are at most 1,024 procedures, the typed
-/// tree meets the static rules.
+/// The typed tree of a file with fewer than 2^31 procedures in which each If has an arm, or its first static fault. Where there are at most 1,024
+/// procedures, the typed tree meets the static rules.
 pub fn resolve(alloc: Global, file: &File) -> Result<Typed, ResolveStop>
-    requires { HasArms (procedures file.now) }
+    requires few { length file.now.procs.items < 2 ^ 31 }
+    requires armed { HasArms (procedures file.now) }
     ensures gives { Gives procedures_of result (file_findings (procedures file.now)) (resolved (procedures file.now)) }
     ensures counted { IfOk result (λ typed. Each IsCounted typed.procs.items) }
     ensures rules { IfOk result (λ typed. length typed.procs.items ≤ 1024 → MeetsAllRules typed) }

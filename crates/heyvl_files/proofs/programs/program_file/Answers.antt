@@ -1,4 +1,5 @@
 use Rattle.heyvl_files.proofs.ArmedFiles.{program_armed}
+use Rattle.heyvl_files.proofs.FewProcedures.{one_in_program}
 use Rattle.heyvl_files.proofs.ProgramFiles.{stops_program}
 use Rattle.heyvl_files.proofs.programs.program_file.Goals as goal
 use Rattle.heyvl_files.specs.Programs.IsProgramFault.{static}
@@ -7,8 +8,11 @@ use Rattle.heyvl_types.specs.Files.{first_fault}
 use Rattle.heyvl_types.specs.Findings.{first}
 use Rattle.std.proofs.Common.{None, Some, ap, ◌≡◌}
 
-pub resolve-requires : goal.resolve-requires
-resolve-requires c = program_armed c.args.bytes.now (procedures c.in-Ok.file) c.in-Ok.ensures
+pub resolve-requires-clause-few : goal.resolve-requires-clause-few
+resolve-requires-clause-few c = one_in_program c.args.bytes.now c.in-Ok.file c.in-Ok.ensures
+
+pub resolve-requires-clause-armed : goal.resolve-requires-clause-armed
+resolve-requires-clause-armed c = program_armed c.args.bytes.now (procedures c.in-Ok.file) c.in-Ok.ensures
 
 pub returns-in-Err-clause-made : goal.returns-in-Err-clause-made
 returns-in-Err-clause-made c = stops_program c.args.bytes.now c.in-Err.stop c.in-Err.ensures

@@ -1,13 +1,17 @@
 use Rattle.heyvl_syntax.specs.Procedures.{procedures}
 use Rattle.heyvl_files.proofs.ArmedFiles.{spelled_armed}
+use Rattle.heyvl_files.proofs.FewProcedures.{few_in_file}
 use Rattle.heyvl_files.proofs.sources.typed_source.Goals as goal
 use Rattle.heyvl_files.specs.Sources.IsFileFault.{static}
 use Rattle.heyvl_types.specs.Files.{first_fault}
 use Rattle.heyvl_types.specs.Findings.{first}
 use Rattle.std.proofs.Common.{None, Some, ap, ◌≡◌}
 
-pub typed_file-requires : goal.typed_file-requires
-typed_file-requires c = let source = c.in_ok-file.ensures in spelled_armed (procedures c.in_ok-file.file) source.tokens source.is_file
+pub typed_file-requires-clause-few : goal.typed_file-requires-clause-few
+typed_file-requires-clause-few c = let source = c.in_ok-file.ensures in few_in_file c.in_ok-file.file source.tokens source.within source.is_file
+
+pub typed_file-requires-clause-armed : goal.typed_file-requires-clause-armed
+typed_file-requires-clause-armed c = let source = c.in_ok-file.ensures in spelled_armed (procedures c.in_ok-file.file) source.tokens source.is_file
 
 pub returns-in-Ok : goal.returns-in-Ok
 returns-in-Ok c =

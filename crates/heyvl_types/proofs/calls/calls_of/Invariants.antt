@@ -3,6 +3,9 @@ use Rattle.heyvl_types.proofs.calls.calls_of.Given as goal
 use Rattle.heyvl_types.specs.Signatures.{called, with_signatures}
 use Rattle.std.proofs.Common.{drop, map, ◌≡◌}
 
--- With those that are left, the procedures are those of all.
+-- The next number is the place; and with those that are left, the procedures are those of all.
 abbrev pub invariant-loop-proc : goal.invariant-loop-proc
-invariant-loop-proc l = with_signatures l.number l.calls (map procedure (drop l.proc-index l.proc-items)) ≡ called (map procedure l.proc-items)
+invariant-loop-proc l = record {
+  number : l.number ≡ l.proc-index;
+  called : with_signatures l.number l.calls (map procedure (drop l.proc-index l.proc-items)) ≡ called (map procedure l.proc-items);
+}

@@ -7,7 +7,7 @@ use Rattle.heyvl_types.specs.Answers.{Gives}
 use Rattle.heyvl_types.specs.Files.{file_findings, resolved}
 use Rattle.heyvl_types.specs.Signatures.{find_call}
 use Rattle.heyvl_types.specs.internal.Earlier.{is_before}
-use Rattle.std.proofs.Common.{Err, List, [], ap, map, rules, subst, sym, ◌++◌, ◌∙◌, ◌∷◌}
+use Rattle.std.proofs.Common.{Err, List, [], ap, arith, map, refl, rules, subst, sym, ◌+◌, ◌++◌, ◌∙◌, ◌∷◌}
 use Rattle.std.proofs.lemmas.List.{map-append}
 
 each_more : {A : Type 0} (P : A → Type 0) (xs : List A) (x : A) → Each P xs → P x → Each P (xs ++ x ∷ [])
@@ -24,8 +24,9 @@ loop-proc-preserved c =
     (c.is_before-named.ensures ∙ ap (λ m. is_before c.loop-proc.number (find_call m c.proc-item.result.name)) c.in_ok-calls.ensures) in
     let found = rw c.in_ok-calls.ensures at c.in_ok-read_procedure.ensures.gives in
     record {
-      reads = goes_on (procedures c.args.file.now) k c.loop-proc.number c.in_ok-number.number (map procedure_of c.loop-proc.procs.items) _ (procedure c.proc-item.result) c.is_before-named.result c.loop-proc.invariant.reads here
-          found.0 (search rules)
+      number = let n = c.loop-proc.invariant.number in omega (arith, n);
+      reads = goes_on (procedures c.args.file.now) k c.loop-proc.number (c.loop-proc.number + 1) (map procedure_of c.loop-proc.procs.items) _ (procedure c.proc-item.result) c.is_before-named.result c.loop-proc.invariant.reads here
+          found.0 refl
           (ap (map procedure_of) c.in_ok-push.ensures.items ∙ map-append procedure_of c.loop-proc.procs.items (c.in_ok-read_procedure.field-0 ∷ []) ∙ ap (λ t. map procedure_of c.loop-proc.procs.items ++ t ∷ []) found.1);
       counted = subst (Each IsCounted) (sym c.in_ok-push.ensures.items) (each_more IsCounted c.loop-proc.procs.items c.in_ok-read_procedure.field-0 c.loop-proc.invariant.counted c.in_ok-read_procedure.ensures.counted);
     }
