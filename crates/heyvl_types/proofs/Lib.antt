@@ -13,6 +13,7 @@ pub mod ScopeEntries
 pub mod LiteralFractions
 pub mod PartAnswers
 pub mod TypedMeanings
+pub mod AnyNumbers
 pub mod resolved
 pub mod Coprime
 pub mod CallEntries

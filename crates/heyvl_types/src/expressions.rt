@@ -264,7 +264,8 @@ pub(crate) fn after(next: u32) -> Result<u32, AllocError>
     next.checked_add(1).ok_or(AllocError)
 }
 
-/// What an expression becomes where no quantifier may stand, or the first fault in it. The next variable has this number.
+/// What an expression becomes where no quantifier may stand, or the first fault in it. The next variable has this number. A quantifier is a
+/// fault, whatever its number.
 pub(crate) fn read(
     alloc: Global,
     scope: &Scope,
@@ -312,7 +313,7 @@ pub(crate) fn read(
                 ty: *ty,
             };
             let within = inside(alloc, scope, name, local)?;
-            let inner = read(alloc, &within, after(next)?, inner, Demand::Any)?;
+            let inner = read(alloc, &within, next, inner, Demand::Any)?;
             read_closed_quantifier(alloc, scope.sees(name), *up, local, inner, demand, *span)
         }
     }
