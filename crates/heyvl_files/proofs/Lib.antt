@@ -1,5 +1,6 @@
 mod ArmedFiles
 mod EachOf
+mod FewParts
 mod FewProcedures
 mod Meanings
 mod ProgramFiles

@@ -8,6 +8,7 @@ ghost use Rattle.heyvl_syntax.specs.SourceFaults.{IsSource};
 ghost use Rattle.heyvl_types.specs.Answers.{Gives};
 ghost use Rattle.heyvl_types.specs.ArmedFiles.{HasArms};
 ghost use Rattle.heyvl_types.specs.Files.{file_findings, resolved};
+ghost use Rattle.heyvl_types.specs.PartCounts.{HaveFewParts};
 ghost use Rattle.std.specs.Prelude.{IfOk, List, MatchResult, length, ◌<◌, ◌^◌, ◌≡◌, ◌≤◌, ℕ};
 
 use crate::fault_lines::token_place;
@@ -59,10 +60,11 @@ pub fn spelled_file(alloc: Global, bytes: &[u8]) -> Result<File, SourceStop>
     }
 }
 
-/// The typed tree of a file with fewer than 2^31 procedures in which each If has an arm, which is ready for every command, or the file's first
-/// static fault.
+/// The typed tree of a file with few procedures, variables and loops in which each If has an arm, which is ready for every command, or the
+/// file's first static fault.
 fn typed_file(alloc: Global, file: &File) -> Result<Typed, ResolveStop>
     requires few { length file.now.procs.items < 2 ^ 31 }
+    requires parts { HaveFewParts (procedures file.now) }
     requires armed { HasArms (procedures file.now) }
     ensures gives { Gives procedures_of result (file_findings (procedures file.now)) (resolved (procedures file.now)) }
     ensures ready { (bytes : List ℕ) → length bytes ≤ file_limit → IsSource bytes (procedures file.now) → IfOk result (λ typed. IsReady bytes typed) }

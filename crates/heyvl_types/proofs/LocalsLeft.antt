@@ -1,9 +1,11 @@
--- How many variables statements and arms declare, and those behind them.
+-- How many variables statements, arms and the fronts of expressions declare, and those behind them.
+use Rattle.heyvl_syntax.specs.Expressions.{expression, expressions}
 use Rattle.heyvl_syntax.specs.Statements.{arms, block, guarded, statement}
+use Rattle.heyvl_syntax.specs.declared.expressions.Expr.{Expr}
 use Rattle.heyvl_syntax.specs.declared.statements.Arm.{Arm}
 use Rattle.heyvl_syntax.specs.declared.statements.Stmt.{Stmt}
-use Rattle.heyvl_types.specs.Variables.{locals, locals_of_arms, locals_of_block}
-use Rattle.std.proofs.Common.{List, [], ap, arith, drop, get_or, length, refl, sym, ◌+◌, ◌++◌, ◌<◌, ◌∙◌, ◌≡◌, ◌≤◌, ◌∷◌, ℕ}
+use Rattle.heyvl_types.specs.Variables.{front_variables, fronts_variables, locals, locals_of_arms, locals_of_block}
+use Rattle.std.proofs.Common.{List, ap, drop, get_or, length, sym, ◌+◌, ◌++◌, ◌<◌, ◌∙◌, ◌≡◌, ◌≤◌, ℕ}
 use Rattle.std.proofs.lemmas.List.{at_drop_more, drop_all, length-append}
 
 abbrev pub locals_left : List Stmt → ℕ → ℕ
@@ -11,6 +13,9 @@ locals_left all k = length (locals_of_block (block (drop k all)))
 
 abbrev pub arm_locals_left : List Arm → ℕ → ℕ
 arm_locals_left all k = length (locals_of_arms (arms (drop k all)))
+
+abbrev pub fronts_left : List Expr → ℕ → ℕ
+fronts_left all k = length (fronts_variables (expressions (drop k all)))
 
 pub next_statement : (all : List Stmt) (k : ℕ) (s : Stmt) → k < length all → s ≡ get_or all k s → locals_left all k ≡ length (locals (statement s)) + locals_left all (k + 1)
 next_statement all k s lt is =
@@ -29,3 +34,9 @@ next_arm all k a lt is =
 
 pub no_arm : (all : List Arm) (k : ℕ) → length all ≤ k → arm_locals_left all k ≡ 0
 no_arm all k over = ap (λ l. length (locals_of_arms (arms l))) (drop_all k all over)
+
+pub next_front : (all : List Expr) (k : ℕ) (e : Expr) → k < length all → e ≡ get_or all k e → fronts_left all k ≡ length (front_variables (expression e)) + fronts_left all (k + 1)
+next_front all k e lt is =
+    at_drop_more (λ l. length (fronts_variables (expressions l))) all k e lt
+    ∙ ap (λ x. length (front_variables (expression x) ++ fronts_variables (expressions (drop (k + 1) all)))) (sym is)
+    ∙ length-append (front_variables (expression e)) (fronts_variables (expressions (drop (k + 1) all)))

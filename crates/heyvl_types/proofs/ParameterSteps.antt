@@ -10,8 +10,8 @@ use Rattle.heyvl_types.specs.Table.{declarable}
 use Rattle.heyvl_types.specs.Variables.{behind_parameters, declared, parameters}
 use Rattle.heyvl_types.specs.declared.scopes.Local.{Local}
 use Rattle.heyvl_types.specs.declared.stops.ResolveStop.{ResolveStop}
-use Rattle.std.proofs.Common.{Err, List, [], ap, append_assoc, arith, drop, get_or, length, map, refl, sym, ◌+◌, ◌++◌, ◌<◌, ◌∙◌, ◌≡◌, ◌≤◌, ◌∷◌, ℕ}
-use Rattle.std.proofs.lemmas.List.{at_drop_more, drop_all}
+use Rattle.std.proofs.Common.{Err, List, [], ap, append_assoc, arith, drop, get_or, length, map, refl, sym, ◌+◌, ◌++◌, ◌<◌, ◌^◌, ◌∙◌, ◌≡◌, ◌≤◌, ◌∷◌, ℕ}
+use Rattle.std.proofs.lemmas.List.{at_drop_more, drop_all, length-drop}
 use Rattle.std.specs.Option.{is_none}
 use Rattle.std.specs.Prelude.{suc}
 
@@ -42,6 +42,10 @@ goes_on all first outer before k n m sc next vars more p r lt is none number sco
   listed = r.listed ∙ ap (λ l. vars ++ l) (at_drop_more parameters all k p lt ∙ ap (λ q. declared q.name q.ty ∷ parameters (drop (k + 1) all)) (sym is)) ∙ sym (append_assoc vars (declared p.name p.ty ∷ []) (parameters (drop (k + 1) all))) ∙ ap (λ l. l ++ parameters (drop (k + 1) all)) (sym list);
   numbered = let d = at_drop_more length all k p lt in let e = r.numbered in omega (arith, d, e, number);
 }
+
+-- The number behind a parameter that is left is in range, where the number behind all is.
+pub in_range : (all : List Param) (first : ℕ) (outer : Scope) (before : List Variable) (k n : ℕ) (sc : Scope) (vars : List Variable) → Reads all first outer before k n sc vars → k < length all → first + length all < 2 ^ 32 → n + 1 < 2 ^ 32
+in_range all first outer before k n sc vars r lt few = let d = length-drop k all in let e = r.numbered in omega (arith, d, e, lt, few)
 
 pub fails : {A C : Type 0} (v : A → C) (c d : C) (all : List Param) (first : ℕ) (outer : Scope) (before : List Variable) (k n : ℕ) (sc : Scope) (vars : List Variable) (p : Param) (e : ResolveStop)
     → Reads all first outer before k n sc vars → k < length all → p ≡ get_or all k p → Gives v (Err e) (rules sc p) c → Gives v (Err e) (parameters_findings first outer all) d

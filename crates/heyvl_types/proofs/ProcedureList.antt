@@ -7,10 +7,11 @@ use Rattle.heyvl_types.proofs.Parts.{behind, stops, stops_at}
 use Rattle.heyvl_types.specs.Answers.{Gives}
 use Rattle.heyvl_types.specs.Files.{file_findings, procedure_findings, procedures_findings, resolved, typed}
 use Rattle.heyvl_types.specs.Findings.{Finding}
+use Rattle.heyvl_types.specs.PartCounts.{HasFewParts, HaveFewParts}
 use Rattle.heyvl_types.specs.Signatures.{Called, called, find_call}
 use Rattle.heyvl_types.specs.declared.stops.ResolveStop.{ResolveStop}
 use Rattle.heyvl_types.specs.internal.Earlier.{is_before}
-use Rattle.std.proofs.Common.{Bool, Err, List, [], ap, append_assoc, drop, get_or, length, map, refl, sym, take, ◌+◌, ◌++◌, ◌<◌, ◌∙◌, ◌≡◌, ◌≤◌, ◌∷◌, ℕ}
+use Rattle.std.proofs.Common.{Bool, Err, List, [], ap, append_assoc, arith, drop, get_or, length, map, refl, subst, suc, sym, take, zero, ◌+◌, ◌++◌, ◌<◌, ◌∙◌, ◌≡◌, ◌≤◌, ◌∷◌, ℕ}
 use Rattle.std.proofs.Math.ListN.{get_or-map}
 use Rattle.std.proofs.lemmas.List.{at_drop_more, drop_all, length-map, map-append, take_more}
 use Rattle.std.specs.List.{list_any}
@@ -40,6 +41,12 @@ stands all k n proc named e lt is h = record {
   here = ap procedure is ∙ sym (get_or-map procedure all k proc);
   asked = h ∙ ap (λ i. is_before i (find_call (called (map procedure all)) proc.name)) e ∙ earlier_named proc.name k (map procedure all);
 }
+
+-- The procedure at a place has few parts, where each has.
+pub few_parts_at : (all : List Proc) (k : ℕ) (proc : Proc) → k < length all → proc ≡ get_or all k proc → HaveFewParts (map procedure all) → HasFewParts (procedure proc)
+few_parts_at [] k proc lt is h = absurd (omega (arith, lt))
+few_parts_at (x ∷ xs) zero proc lt is h = subst (λ p. HasFewParts (procedure p)) (sym is) h.0
+few_parts_at (x ∷ xs) (suc k) proc lt is h = few_parts_at xs k proc (omega (arith, lt)) is h.1
 
 next_found : (ps : List Procedure) (k : ℕ) (p : Procedure) (named : Bool) → At ps k p named → procedures_findings (called ps) (names ps k) (drop k ps) ≡ procedure_findings (called ps) named p ++ procedures_findings (called ps) (names ps (k + 1)) (drop (k + 1) ps)
 next_found ps k p named a =

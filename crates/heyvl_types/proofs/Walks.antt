@@ -22,6 +22,17 @@ use Rattle.std.proofs.lemmas.List.{length-append, length-map}
 pub counted : (vs ws : List VarInfo) (ls : List Variable) → map variable_of ws ≡ map variable_of vs ++ ls → length ws ≡ length vs + length ls
 counted vs ws ls e = sym (length-map ws variable_of) ∙ (ap length e ∙ (length-append (map variable_of vs) ls ∙ ap (λ n. n + length ls) (length-map vs variable_of)))
 
+-- Variables that are there, and those that come.
+pub as_many : (ws vs : List VarInfo) (a b c : List Variable) → map variable_of ws ++ a ≡ map variable_of vs ++ (b ++ c) → length ws + length a ≡ length vs + (length b + length c)
+as_many ws vs a b c e =
+    let l = ap length e in
+    let x = length-append (map variable_of ws) a in
+    let y = length-append (map variable_of vs) (b ++ c) in
+    let z = length-append b c in
+    let n : length (map variable_of ws) ≡ length ws = length-map ws variable_of in
+    let m : length (map variable_of vs) ≡ length vs = length-map vs variable_of in
+    omega (arith, l, x, y, z, n, m)
+
 -- ---- Scopes
 
 -- The first variables stay where further ones come.

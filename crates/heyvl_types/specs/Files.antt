@@ -54,6 +54,10 @@ arity p = length p.inputs + length p.outputs
 abbrev pub first_quantified : Procedure → ℕ
 first_quantified p = arity p + length (locals_of_body p.body)
 
+-- How many variables a procedure declares.
+abbrev pub variable_count : Procedure → ℕ
+variable_count p = first_quantified p + length (fronts_variables p.posts)
+
 -- The quantifiers that may stand in the front of a post clause: `sup` in a coproc, `inf` in a proc.
 abbrev pub front_of : Bool → Front
 front_of true = Front.Sup
@@ -143,7 +147,7 @@ is_too_large called p =
     nat_lt 16 (arity p)
     || nat_lt 64 (length p.pres)
     || nat_lt 64 (length p.posts)
-    || nat_lt 256 (first_quantified p + length (fronts_variables p.posts))
+    || nat_lt 256 (variable_count p)
     || nat_lt 1024 (count_of (acts_in (body_acts (setting p) called (arity p) (head_scope p) p.body)))
 
 -- What is found against a procedure, in the order of its parts: name, note, inputs, outputs, pre clauses, post clauses, body; then

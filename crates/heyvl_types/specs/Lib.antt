@@ -25,6 +25,7 @@ pub mod StatementActs
 pub mod Files
 pub mod Answers
 pub mod ArmedFiles
+pub mod PartCounts
 pub mod ExpressionLaws
 pub mod ResolvedLaws
 pub mod ResolvedSizes

@@ -9,7 +9,7 @@ ghost use Rattle.heyvl_types.specs.StatementActs.{arms_acts, block_acts, conditi
 ghost use Rattle.heyvl_types.specs.StatementRules.{arms_findings, block_findings, statement_findings};
 ghost use Rattle.heyvl_types.specs.TypedExpressions.{closed_findings, elaborate};
 ghost use Rattle.heyvl_types.specs.Variables.{behind, locals, locals_of_arms, locals_of_block};
-ghost use Rattle.std.specs.Prelude.{◌++◌, ◌+◌, ◌≡◌, OnOk, length, map, take};
+ghost use Rattle.std.specs.Prelude.{◌++◌, ◌+◌, ◌<◌, ◌^◌, ◌≡◌, OnOk, length, map, take};
 
 use crate::bindings::{binding_arms, binding_statements, block_binds};
 use crate::calls::Calls;
@@ -41,12 +41,14 @@ fn read_arm(
     loops: &mut u32,
     arm: &Arm,
 ) -> Result<(Cond, Vec<Act>), ResolveStop>
+    requires variables { length vars.old.items + length (locals_of_block (block arm.now.body.items)) < 2 ^ 32 }
+    requires loops { loops.old + loops_of_block (block arm.now.body.items) < 2 ^ 32 }
     ensures gives { Gives arm_of result (closed_findings Demand.Truth (length vars.old.items) scope.old (expression arm.now.guard) ++ block_findings setting calls.now bound (length vars.old.items) scope.old (block arm.now.body.items)) (condition (elaborate (length vars.old.items) scope.old (expression arm.now.guard)), block_acts setting calls.now (length vars.old.items) loops.old scope.old (block arm.now.body.items)) }
     ensures kept { OnOk result (scope.new ≡ scope.old) }
     ensures listed { OnOk result (map variable_of vars.new.items ≡ map variable_of vars.old.items ++ locals_of_block (block arm.now.body.items)) }
     ensures numbered { OnOk result (loops.new ≡ loops.old + loops_of_block (block arm.now.body.items)) }
 {
-    let guard = read(alloc, scope, next_number(vars)?, &arm.guard, Demand::Truth)?;
+    let guard = read(alloc, scope, next_number(vars), &arm.guard, Demand::Truth)?;
     let body = read_block(alloc, setting, calls, bound, scope, vars, loops, &arm.body)?;
     Ok((condition(guard), body))
 }
@@ -63,6 +65,8 @@ fn read_arms(
     loops: &mut u32,
     all: &[Arm],
 ) -> Result<Vec<(Cond, Vec<Act>)>, ResolveStop>
+    requires variables { length vars.old.items + length (locals_of_arms (arms all.now)) < 2 ^ 32 }
+    requires loops { loops.old + loops_of_arms (arms all.now) < 2 ^ 32 }
     ensures gives { Gives arms_view result (arms_findings setting calls.now bound (length vars.old.items) scope.old (arms all.now)) (arms_acts setting calls.now (length vars.old.items) loops.old scope.old (arms all.now)) }
     ensures kept { OnOk result (scope.new ≡ scope.old) }
     ensures listed { OnOk result (map variable_of vars.new.items ≡ map variable_of vars.old.items ++ locals_of_arms (arms all.now)) }
@@ -90,6 +94,8 @@ fn read_statement(
     loops: &mut u32,
     one: &Stmt,
 ) -> Result<Vec<Act>, ResolveStop>
+    requires variables { length vars.old.items + length (locals (statement one.now)) < 2 ^ 32 }
+    requires loops { loops.old + loops_of (statement one.now) < 2 ^ 32 }
     ensures gives { Gives acts_view result (statement_findings setting calls.now bound (length vars.old.items) scope.old (statement one.now)) (statement_acts setting calls.now (length vars.old.items) loops.old scope.old (statement one.now)) }
     ensures shown { OnOk result (scope.new ≡ behind (length vars.old.items) scope.old (statement one.now)) }
     ensures kept { OnOk result (take (length scope.old) scope.new ≡ scope.old) }
@@ -123,7 +129,7 @@ fn read_statement(
         }
         Stmt::While(rules, guard, body, span) => {
             let number = *loops;
-            *loops = after(number)?;
+            *loops = after(number);
             let (found, guard) = read_head(alloc, scope, vars, rules, guard)?;
             let made = read_block(alloc, setting, calls, true, scope, vars, loops, body)?;
             close_loop(alloc, number, rules, found, guard, scope, made, body, *span)
@@ -144,6 +150,8 @@ pub(crate) fn read_block(
     loops: &mut u32,
     statements: &[Stmt],
 ) -> Result<Vec<Act>, ResolveStop>
+    requires variables { length vars.old.items + length (locals_of_block (block statements.now)) < 2 ^ 32 }
+    requires loops { loops.old + loops_of_block (block statements.now) < 2 ^ 32 }
     ensures gives { Gives acts_view result (block_findings setting calls.now bound (length vars.old.items) scope.old (block statements.now)) (block_acts setting calls.now (length vars.old.items) loops.old scope.old (block statements.now)) }
     ensures kept { OnOk result (scope.new ≡ scope.old) }
     ensures declared { OnOk result (map variable_of vars.new.items ≡ map variable_of vars.old.items ++ locals_of_block (block statements.now)) }

@@ -8,7 +8,8 @@ ghost use Rattle.heyvl_types.specs.Files.{clause, front_of, joined_with, post_fo
 ghost use Rattle.heyvl_types.specs.StatementActs.{form};
 ghost use Rattle.heyvl_types.specs.internal.Clauses.{joined_behind};
 ghost use Rattle.heyvl_types.specs.TypedExpressions.{closed_findings, elaborate, findings};
-ghost use Rattle.std.specs.Prelude.{◌≡◌, ◌∷◌, [], IfOk, OnOk, map, option_map};
+ghost use Rattle.heyvl_types.specs.Variables.{front_variables, fronts_variables};
+ghost use Rattle.std.specs.Prelude.{◌+◌, ◌<◌, ◌^◌, ◌≡◌, ◌∷◌, [], IfOk, OnOk, length, map, option_map};
 
 use crate::demands::{Demand, Front};
 use crate::expressions::{read, read_front};
@@ -98,6 +99,7 @@ fn read_post(
     co: bool,
     e: &Expr,
 ) -> Result<Form, ResolveStop>
+    requires { next + length (front_variables (expression e.now)) < 2 ^ 32 }
     ensures gives { Gives form_of result (findings (front_of co) Demand.Formula next scope.old (expression e.now)) (form (elaborate next scope.old (expression e.now))) }
     ensures kept { OnOk result (scope.new ≡ scope.old) }
 {
@@ -129,6 +131,7 @@ pub(crate) fn read_posts(
     co: bool,
     all: &[Expr],
 ) -> Result<Vec<Form>, ResolveStop>
+    requires { first + length (fronts_variables (expressions all.now)) < 2 ^ 32 }
     ensures gives { Gives (λ forms. map form_of forms.items) result (posts_findings (front_of co) first scope.old (expressions all.now)) (post_forms first scope.old (expressions all.now)) }
     ensures kept { OnOk result (scope.new ≡ scope.old) }
 {
@@ -136,7 +139,7 @@ pub(crate) fn read_posts(
     let mut next = first;
     for e in all {
         forms.push(read_post(alloc, scope, next, co, e)?)?;
-        next = behind_front(next, e)?;
+        next = behind_front(next, e);
     }
     Ok(forms)
 }

@@ -8,7 +8,8 @@ ghost use Rattle.heyvl_types.specs.Scopes.{with_local};
 ghost use Rattle.heyvl_types.specs.Table.{binary, bracket, choice, embedding, factor, meets, quantified, quotient, unary};
 ghost use Rattle.heyvl_types.specs.TypedExpressions.{allows, closed_findings, divides_by, elaborate, findings, lacks, operated};
 ghost use Rattle.std.specs.Option.{is_none};
-ghost use Rattle.std.specs.Prelude.{◌≡◌, ◌∷◌, [], IfOk, OnOk, not, option_map, suc, true};
+ghost use Rattle.heyvl_types.specs.Variables.{front_variables};
+ghost use Rattle.std.specs.Prelude.{◌+◌, ◌<◌, ◌^◌, ◌≡◌, ◌∷◌, [], IfOk, OnOk, length, not, option_map, suc, true};
 
 use crate::demands::{Demand, Front};
 use crate::literals::divisor;
@@ -258,10 +259,11 @@ fn inside(alloc: Global, scope: &Scope, name: &Name, local: Local) -> Result<Sco
 }
 
 /// The number after this one.
-pub(crate) fn after(next: u32) -> Result<u32, AllocError>
-    ensures { IfOk result (λ number. number ≡ suc next) }
+pub(crate) fn after(next: u32) -> u32
+    requires { next + 1 < 2 ^ 32 }
+    ensures { result ≡ suc next }
 {
-    next.checked_add(1).ok_or(AllocError)
+    next + 1
 }
 
 /// What an expression becomes where no quantifier may stand, or the first fault in it. The next variable has this number. A quantifier is a
@@ -328,6 +330,7 @@ pub(crate) fn read_front(
     front: Front,
     demand: Demand,
 ) -> Result<Meaning, ResolveStop>
+    requires { next + length (front_variables (expression e.now)) < 2 ^ 32 }
     ensures gives { Gives read result (findings front demand next scope.old (expression e.now)) (elaborate next scope.old (expression e.now)) }
     ensures kept { OnOk result (scope.new ≡ scope.old) }
 {
@@ -340,7 +343,7 @@ pub(crate) fn read_front(
             let twice = scope.sees(name);
             let kept = scope.len();
             scope.declare(alloc, name, local)?;
-            let inner = read_front(alloc, scope, after(next)?, inner, front, Demand::Any)?;
+            let inner = read_front(alloc, scope, after(next), inner, front, Demand::Any)?;
             if twice {
                 return Err(ResolveStop::Fault(11, *span));
             }

@@ -6,6 +6,7 @@ ghost use Rattle.heyvl_syntax.specs.Procedures.{procedure, procedures};
 ghost use Rattle.heyvl_types.specs.Answers.{Gives};
 ghost use Rattle.heyvl_types.specs.ArmedFiles.{HasArms};
 ghost use Rattle.heyvl_types.specs.Files.{file_findings, procedures_findings, resolved, typed};
+ghost use Rattle.heyvl_types.specs.PartCounts.{HaveFewParts};
 ghost use Rattle.heyvl_types.specs.Signatures.{find_call};
 ghost use Rattle.heyvl_types.specs.internal.Earlier.{is_before};
 ghost use Rattle.std.specs.Prelude.{◌<◌, ◌^◌, ◌≡◌, ◌≤◌, IfOk, length};
@@ -31,7 +32,8 @@ fn is_before(calls: &Calls, number: u32, name: &Name) -> bool
 
 /// The typed procedures of a file, or its first static fault.
 fn read_procedures(alloc: Global, file: &File) -> Result<Typed, ResolveStop>
-    requires { length file.now.procs.items < 2 ^ 31 }
+    requires few { length file.now.procs.items < 2 ^ 31 }
+    requires parts { HaveFewParts (procedures file.now) }
     ensures gives { Gives procedures_of result (file_findings (procedures file.now)) (resolved (procedures file.now)) }
     ensures counted { IfOk result (λ typed. Each IsCounted typed.procs.items) }
 {
@@ -46,10 +48,11 @@ fn read_procedures(alloc: Global, file: &File) -> Result<Typed, ResolveStop>
     Ok(Typed { procs })
 }
 
-/// The typed tree of a file with fewer than 2^31 procedures in which each If has an arm, or its first static fault. Where there are at most 1,024
-/// procedures, the typed tree meets the static rules.
+/// The typed tree of a file with fewer than 2^31 procedures in which each If has an arm, or its first static fault. Each procedure has fewer
+/// than 2^31 variables and fewer than 2^31 loops. Where there are at most 1,024 procedures, the typed tree meets the static rules.
 pub fn resolve(alloc: Global, file: &File) -> Result<Typed, ResolveStop>
     requires few { length file.now.procs.items < 2 ^ 31 }
+    requires parts { HaveFewParts (procedures file.now) }
     requires armed { HasArms (procedures file.now) }
     ensures gives { Gives procedures_of result (file_findings (procedures file.now)) (resolved (procedures file.now)) }
     ensures counted { IfOk result (λ typed. Each IsCounted typed.procs.items) }

@@ -3,7 +3,7 @@
 ghost use Rattle.heyvl_acts.specs.PlainActs.{variable_of};
 ghost use Rattle.heyvl_syntax.specs.Expressions.{expression, expressions};
 ghost use Rattle.heyvl_types.specs.Variables.{front_variables, fronts_variables};
-ghost use Rattle.std.specs.Prelude.{◌++◌, ◌+◌, ◌≡◌, IfOk, OnOk, length, map};
+ghost use Rattle.std.specs.Prelude.{◌++◌, ◌+◌, ◌<◌, ◌^◌, ◌≡◌, OnOk, length, map};
 
 use crate::parameters::declared;
 use heyvl_acts::VarInfo;
@@ -11,13 +11,12 @@ use heyvl_syntax::Expr;
 use std::alloc::{AllocError, Global};
 
 /// The number behind the variables of a front, of which the first has this number.
-pub(crate) fn behind_front(first: u32, e: &Expr) -> Result<u32, AllocError>
-    ensures { IfOk result (λ next. next ≡ first + length (front_variables (expression e.now))) }
+pub(crate) fn behind_front(first: u32, e: &Expr) -> u32
+    requires { first + length (front_variables (expression e.now)) < 2 ^ 32 }
+    ensures { result ≡ first + length (front_variables (expression e.now)) }
 {
     match e {
-        Expr::Bound(_, _, _, inner, _) => {
-            behind_front(first.checked_add(1).ok_or(AllocError)?, inner)
-        }
+        Expr::Bound(_, _, _, inner, _) => behind_front(first + 1, inner),
         Expr::Number(_, _)
         | Expr::Truth(_, _)
         | Expr::Infinity(_)
@@ -27,7 +26,7 @@ pub(crate) fn behind_front(first: u32, e: &Expr) -> Result<u32, AllocError>
         | Expr::Embed(_, _)
         | Expr::Unary(_, _, _)
         | Expr::Binary(_, _, _, _)
-        | Expr::Choice(_, _, _, _) => Ok(first),
+        | Expr::Choice(_, _, _, _) => first,
     }
 }
 

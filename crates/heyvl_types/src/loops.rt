@@ -14,7 +14,7 @@ ghost use Rattle.heyvl_types.specs.StatementRules.{block_is_rankable};
 ghost use Rattle.heyvl_types.specs.TypedExpressions.{closed_findings, elaborate};
 ghost use Rattle.heyvl_types.specs.internal.LoopHeads.{found_of, head_of, rules_found};
 ghost use Rattle.std.specs.List.{list_any};
-ghost use Rattle.std.specs.Prelude.{◌&&◌, ◌++◌, ◌∷◌, [], length, not};
+ghost use Rattle.std.specs.Prelude.{◌&&◌, ◌++◌, ◌<◌, ◌^◌, ◌∷◌, [], length, not};
 
 use crate::bindings::block_is_rankable;
 use crate::demands::Demand;
@@ -38,9 +38,10 @@ pub(crate) fn read_head(
     rules: &[Rule],
     guard: &Expr,
 ) -> Result<(Found, Cond), ResolveStop>
+    requires { length vars.now < 2 ^ 32 }
     ensures { Gives head_of result (rules_findings (length vars.now) scope.now (loop_rules rules.now) ++ closed_findings Demand.Truth (length vars.now) scope.now (expression guard.now)) (rules_found (length vars.now) scope.now (loop_rules rules.now), condition (elaborate (length vars.now) scope.now (expression guard.now))) }
 {
-    let next = next_number(vars)?;
+    let next = next_number(vars);
     let found = read_rules(alloc, scope, next, rules)?;
     let guard = read(alloc, scope, next, guard, Demand::Truth)?;
     Ok((found, condition(guard)))

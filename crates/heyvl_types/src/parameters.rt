@@ -9,7 +9,7 @@ ghost use Rattle.heyvl_types.specs.Scopes.{is_visible, with_local};
 ghost use Rattle.heyvl_types.specs.Table.{declarable};
 ghost use Rattle.heyvl_types.specs.Variables.{behind_parameters, declared, parameters};
 ghost use Rattle.std.specs.Option.{is_none};
-ghost use Rattle.std.specs.Prelude.{◌++◌, ◌+◌, ◌≡◌, ◌∷◌, [], IfOk, OnOk, length, map, suc};
+ghost use Rattle.std.specs.Prelude.{◌++◌, ◌+◌, ◌<◌, ◌^◌, ◌≡◌, ◌∷◌, [], IfOk, OnOk, length, map, suc};
 
 use crate::operators::declarable;
 use crate::scopes::{Local, Scope};
@@ -54,6 +54,7 @@ fn read_parameter(
     number: u32,
     param: &Param,
 ) -> Result<u32, ResolveStop>
+    requires { number + 1 < 2 ^ 32 }
     ensures gives { Gives (λ next. next) result (at param.now.span ((11, is_visible scope.old param.now.name) ∷ (12, is_none (declarable param.now.ty)) ∷ [])) (suc number) }
     ensures shown { OnOk result (scope.new ≡ with_local param.now.name (record { number = number; ty = param.now.ty }) scope.old) }
     ensures listed { OnOk result (map variable_of vars.new.items ≡ map variable_of vars.old.items ++ declared param.now.name param.now.ty ∷ []) }
@@ -65,8 +66,7 @@ fn read_parameter(
     };
     scope.declare(alloc, &param.name, local)?;
     vars.push(declared(alloc, &param.name, param.ty)?)?;
-    let next = number.checked_add(1).ok_or(AllocError)?;
-    Ok(next)
+    Ok(number + 1)
 }
 
 /// More parameters, of which the first has this number. What is returned is the number behind them.
@@ -77,6 +77,7 @@ pub(crate) fn read_parameters(
     first: u32,
     params: &[Param],
 ) -> Result<u32, ResolveStop>
+    requires { first + length params.now < 2 ^ 32 }
     ensures gives { Gives (λ next. next) result (parameters_findings first scope.old params.now) (first + length params.now) }
     ensures shown { OnOk result (scope.new ≡ behind_parameters first scope.old params.now) }
     ensures listed { OnOk result (map variable_of vars.new.items ≡ map variable_of vars.old.items ++ parameters params.now) }

@@ -9,17 +9,18 @@ ghost use Rattle.heyvl_types.specs.internal.Looks.{TellsFirst};
 ghost use Rattle.heyvl_acts.specs.Count.{count_of};
 ghost use Rattle.heyvl_types.specs.Files.{arity, body_acts, body_findings, clause, front_of, head_scope, input_scope, is_wlp, loops_of_body, parameters_findings, post_forms, posts_findings, pre_forms, pres_findings, procedure_findings, typed};
 ghost use Rattle.heyvl_types.specs.Findings.{at};
+ghost use Rattle.heyvl_types.specs.PartCounts.{HasFewParts};
 ghost use Rattle.heyvl_types.specs.internal.ProcedureParts.{is_larger, with_parts};
 ghost use Rattle.heyvl_acts.specs.PlainActs.{body_of, procedure_of, variable_of};
 ghost use Rattle.heyvl_acts.specs.Rules.{IsCounted};
-ghost use Rattle.heyvl_types.specs.Variables.{locals_of_body, parameters};
-ghost use Rattle.std.specs.Prelude.{◌&&◌, ◌++◌, ◌+◌, ◌||◌, ◌≡◌, ◌∷◌, [], IfOk, OnOk, length, map, nat_lt, not};
+ghost use Rattle.heyvl_types.specs.Variables.{fronts_variables, locals_of_body, parameters};
+ghost use Rattle.std.specs.Prelude.{◌&&◌, ◌++◌, ◌+◌, ◌<◌, ◌^◌, ◌||◌, ◌≡◌, ◌∷◌, [], IfOk, OnOk, length, map, nat_lt, not};
 
 use crate::blocks::read_block;
 use crate::calls::Calls;
 use crate::clauses::{clause, read_posts, read_pres};
 use crate::fronts::list_fronts;
-use crate::locals::{count_locals, plus};
+use crate::locals::count_locals;
 use crate::parameters::read_parameters;
 use crate::quantifiers::any_quantified;
 use crate::scopes::Scope;
@@ -99,6 +100,7 @@ fn check_name(named: bool, proc: &Proc) -> Result<(), ResolveStop>
 
 /// The inputs and outputs of a procedure, or the first fault in them.
 fn read_head(alloc: Global, proc: &Proc) -> Result<Head, ResolveStop>
+    requires { length proc.now.inputs.items + length proc.now.outputs.items < 2 ^ 32 }
     ensures gives { Gives (λ head. head.arity) result (parameters_findings 0 [] proc.now.inputs.items ++ parameters_findings (length proc.now.inputs.items) (input_scope (procedure proc.now)) proc.now.outputs.items) (arity (procedure proc.now)) }
     ensures inputs { IfOk result (λ head. head.inputs ≡ input_scope (procedure proc.now)) }
     ensures all { IfOk result (λ head. head.all ≡ head_scope (procedure proc.now)) }
@@ -130,12 +132,13 @@ fn read_clauses(
     arity: u32,
     proc: &Proc,
 ) -> Result<Clauses, ResolveStop>
+    requires { arity + length (locals_of_body (optional_block proc.now.body)) + length (fronts_variables (expressions proc.now.posts.items)) < 2 ^ 32 }
     ensures gives { Gives (λ clauses. map form_of clauses.pre.items) result (pres_findings arity inputs.now (expressions proc.now.pres.items) ++ posts_findings (front_of proc.now.co) (arity + length (locals_of_body (optional_block proc.now.body))) all.old (expressions proc.now.posts.items)) (pre_forms arity inputs.now (expressions proc.now.pres.items)) }
     ensures post { IfOk result (λ clauses. map form_of clauses.post.items ≡ post_forms (arity + length (locals_of_body (optional_block proc.now.body))) all.old (expressions proc.now.posts.items)) }
     ensures kept { OnOk result (all.new ≡ all.old) }
 {
     let pre = read_pres(alloc, inputs, arity, &proc.pres)?;
-    let quantified = plus(arity, count_locals(&proc.body)?)?;
+    let quantified = arity + count_locals(&proc.body);
     let post = read_posts(alloc, all, quantified, proc.co, &proc.posts)?;
     Ok(Clauses { pre, post })
 }
@@ -150,6 +153,8 @@ fn read_body(
     vars: &mut Vec<VarInfo>,
     body: &Option<Vec<Stmt>>,
 ) -> Result<Body, ResolveStop>
+    requires variables { length vars.old.items + length (locals_of_body (optional_block body.now)) < 2 ^ 32 }
+    requires loops { 1 + loops_of_body (optional_block body.now) < 2 ^ 32 }
     ensures gives { Gives (λ made. body_of made.acts) result (body_findings setting calls.now bound (length vars.old.items) scope.old (optional_block body.now)) (body_acts setting calls.now (length vars.old.items) scope.old (optional_block body.now)) }
     ensures loops { IfOk result (λ made. made.loops ≡ loops_of_body (optional_block body.now)) }
     ensures declared { OnOk result (map variable_of vars.new.items ≡ map variable_of vars.old.items ++ locals_of_body (optional_block body.now)) }
@@ -235,6 +240,7 @@ pub(crate) fn read_procedure(
     named: bool,
     proc: &Proc,
 ) -> Result<TProc, ResolveStop>
+    requires { HasFewParts (procedure proc.now) }
     ensures gives { Gives procedure_of result (procedure_findings calls.now named (procedure proc.now)) (typed calls.now (procedure proc.now)) }
     ensures counted { IfOk result (λ typed. IsCounted typed) }
 {

@@ -14,7 +14,7 @@ ghost use Rattle.heyvl_types.specs.StatementRules.{assign_rules, check_rules, ch
 ghost use Rattle.heyvl_types.specs.TypedExpressions.{closed_findings, elaborate};
 ghost use Rattle.heyvl_types.specs.Variables.{declared, type_or_bool};
 ghost use Rattle.heyvl_types.specs.Table.{declarable};
-ghost use Rattle.std.specs.Prelude.{◌++◌, ◌≡◌, ◌∷◌, [], IfOk, OnOk, false, length, map, take};
+ghost use Rattle.std.specs.Prelude.{◌++◌, ◌<◌, ◌^◌, ◌≡◌, ◌∷◌, [], IfOk, OnOk, false, length, map, take};
 
 use crate::assignments::{read_assign, read_var};
 use crate::calls::Calls;
@@ -43,10 +43,11 @@ pub(crate) fn single(alloc: Global, act: Act) -> Result<Vec<Act>, AllocError>
 }
 
 /// The number of the next variable.
-pub(crate) fn next_number(vars: &[VarInfo]) -> Result<u32, AllocError>
-    ensures { IfOk result (λ number. number ≡ length vars.now) }
+pub(crate) fn next_number(vars: &[VarInfo]) -> u32
+    requires { length vars.now < 2 ^ 32 }
+    ensures { result ≡ length vars.now }
 {
-    u32::try_from(vars.len()).ok().ok_or(AllocError)
+    vars.len() as u32
 }
 
 /// An assume in a coproc, a coassume in a proc.
@@ -71,9 +72,10 @@ pub(crate) fn read_check(
     claim: &Expr,
     span: Span,
 ) -> Result<Vec<Act>, ResolveStop>
+    requires { length vars.now < 2 ^ 32 }
     ensures { Gives acts_view result (closed_findings Demand.Formula (length vars.now) scope.now (expression claim.now) ++ at span (check_rules setting bound kind)) (Acts.next (Plain.check kind (form (elaborate (length vars.now) scope.now (expression claim.now))) span) Acts.done) }
 {
-    let claim = read(alloc, scope, next_number(vars)?, claim, Demand::Formula)?;
+    let claim = read(alloc, scope, next_number(vars), claim, Demand::Formula)?;
     told(span, &[(17, checks_against(setting.co, kind) && bound)])?;
     Ok(single(alloc, Act::Check(kind, form(claim), span))?)
 }
@@ -101,9 +103,10 @@ pub(crate) fn read_reward(
     amount: &Expr,
     span: Span,
 ) -> Result<Vec<Act>, ResolveStop>
+    requires { length vars.now < 2 ^ 32 }
     ensures { Gives acts_view result (closed_findings Demand.Formula (length vars.now) scope.now (expression amount.now) ++ at span (reward_rules setting)) (Acts.next (Plain.reward (form (elaborate (length vars.now) scope.now (expression amount.now))) span) Acts.done) }
 {
-    let amount = read(alloc, scope, next_number(vars)?, amount, Demand::Formula)?;
+    let amount = read(alloc, scope, next_number(vars), amount, Demand::Formula)?;
     told(span, &[(20, setting.weak)])?;
     Ok(single(alloc, Act::Reward(form(amount), span))?)
 }
@@ -201,12 +204,13 @@ pub(crate) fn read_declaration(
     right: &Option<Right>,
     span: Span,
 ) -> Result<Vec<Act>, ResolveStop>
+    requires { length vars.old.items < 2 ^ 32 }
     ensures gives { Gives acts_view result (value_findings (length vars.old.items) scope.old (optional_right right.now) ++ at span (var_rules setting calls.now (length vars.old.items) scope.old name.now ty (optional_right right.now))) (Acts.next (declared_act setting calls.now (length vars.old.items) scope.old ty (optional_right right.now) span) Acts.done) }
     ensures shown { OnOk result (scope.new ≡ with_local name.now (record { number = length vars.old.items; ty = ty }) scope.old) }
     ensures kept { OnOk result (take (length scope.old) scope.new ≡ scope.old) }
     ensures listed { OnOk result (map variable_of vars.new.items ≡ map variable_of vars.old.items ++ declared name.now ty ∷ []) }
 {
-    let next = next_number(vars)?;
+    let next = next_number(vars);
     let act = read_var(alloc, setting, calls, scope, next, name, ty, right, span)?;
     declare(alloc, scope, vars, next, name, ty)?;
     Ok(single(alloc, act)?)
@@ -223,9 +227,10 @@ pub(crate) fn read_targets(
     right: &Right,
     span: Span,
 ) -> Result<Vec<Act>, ResolveStop>
+    requires { length vars.now < 2 ^ 32 }
     ensures { Gives acts_view result (right_findings (length vars.now) scope.now (right_side right.now) ++ at span (assign_rules setting calls.now (length vars.now) scope.now names.now.items (right_side right.now))) (Acts.next (assigned calls.now (length vars.now) scope.now (targets scope.now names.now.items) (right_side right.now) span) Acts.done) }
 {
-    let next = next_number(vars)?;
+    let next = next_number(vars);
     let act = read_assign(alloc, setting, calls, scope, next, names, right, span)?;
     Ok(single(alloc, act)?)
 }

@@ -1,4 +1,5 @@
 use Rattle.heyvl_files.proofs.ArmedFiles.{program_armed}
+use Rattle.heyvl_files.proofs.FewParts.{program_few_parts}
 use Rattle.heyvl_files.proofs.FewProcedures.{one_in_program}
 use Rattle.heyvl_files.proofs.ProgramFiles.{stops_program}
 use Rattle.heyvl_files.proofs.programs.program_file.Goals as goal
@@ -10,6 +11,9 @@ use Rattle.std.proofs.Common.{None, Some, ap, ◌≡◌}
 
 pub resolve-requires-clause-few : goal.resolve-requires-clause-few
 resolve-requires-clause-few c = one_in_program c.args.bytes.now c.in-Ok.file c.in-Ok.ensures
+
+pub resolve-requires-clause-parts : goal.resolve-requires-clause-parts
+resolve-requires-clause-parts c = program_few_parts c.args.bytes.now (procedures c.in-Ok.file) c.in-Ok.ensures c.requires
 
 pub resolve-requires-clause-armed : goal.resolve-requires-clause-armed
 resolve-requires-clause-armed c = program_armed c.args.bytes.now (procedures c.in-Ok.file) c.in-Ok.ensures

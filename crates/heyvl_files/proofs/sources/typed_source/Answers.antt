@@ -1,5 +1,6 @@
 use Rattle.heyvl_syntax.specs.Procedures.{procedures}
 use Rattle.heyvl_files.proofs.ArmedFiles.{spelled_armed}
+use Rattle.heyvl_files.proofs.FewParts.{spelled_few_parts}
 use Rattle.heyvl_files.proofs.FewProcedures.{few_in_file}
 use Rattle.heyvl_files.proofs.sources.typed_source.Goals as goal
 use Rattle.heyvl_files.specs.Sources.IsFileFault.{static}
@@ -9,6 +10,9 @@ use Rattle.std.proofs.Common.{None, Some, ap, ◌≡◌}
 
 pub typed_file-requires-clause-few : goal.typed_file-requires-clause-few
 typed_file-requires-clause-few c = let source = c.in_ok-file.ensures in few_in_file c.in_ok-file.file source.tokens source.within source.is_file
+
+pub typed_file-requires-clause-parts : goal.typed_file-requires-clause-parts
+typed_file-requires-clause-parts c = spelled_few_parts c.args.bytes.now (procedures c.in_ok-file.file) c.in_ok-file.ensures c.requires
 
 pub typed_file-requires-clause-armed : goal.typed_file-requires-clause-armed
 typed_file-requires-clause-armed c = let source = c.in_ok-file.ensures in spelled_armed (procedures c.in_ok-file.file) source.tokens source.is_file

@@ -1,8 +1,10 @@
 use Rattle.heyvl_syntax.proofs.exported.PlainTreesAre.{plain_statements}
+use Rattle.heyvl_syntax.proofs.statements.Arm.TheLaws as arm_laws
+use Rattle.heyvl_syntax.proofs.statements.Stmt.TheLaws as statement_laws
 use Rattle.heyvl_syntax.specs.Expressions.{expression}
 use Rattle.heyvl_syntax.specs.Statements.{Statement, arms, block, loop_rules, statement}
 use Rattle.heyvl_types.proofs.NestedStatements.{bound_by_first, bound_by_rest, if_gives, listed_both, loop_stops_body, pick_gives}
-use Rattle.heyvl_types.proofs.ReadRests.{arms_end_read, arms_give, arms_more, block_ends, block_gives, block_more}
+use Rattle.heyvl_types.proofs.ReadRests.{arm_in_range, arms_end_read, arms_give, arms_more, arms_stop, block_ends, block_gives, block_more, statement_in_range}
 use Rattle.heyvl_types.proofs.blocks.+reading.Goals as goal
 use Rattle.heyvl_types.proofs.blocks.+reading.Goals.{read_arms-else-bound, read_arms-then-bound, read_block-else-bound, read_block-then-bound, read_statement-else-bound, read_statement-else-bound-2, read_statement-then-bound, read_statement-then-bound-2}
 use Rattle.heyvl_acts.proofs.exported.PlainActsAre.{if_act, pick_act}
@@ -10,10 +12,28 @@ use Rattle.heyvl_acts.specs.Acts.{Acts}
 use Rattle.heyvl_types.specs.Answers.{Gives}
 use Rattle.heyvl_types.specs.internal.Views.{acts_view, arms_view}
 use Rattle.heyvl_acts.specs.PlainActs.{acts_of, arm_of, variable_of}
-use Rattle.heyvl_types.specs.StatementActs.{block_acts, statement_acts}
-use Rattle.heyvl_types.specs.StatementRules.{arms_bind, block_binds, statement_findings}
+use Rattle.heyvl_types.specs.StatementActs.{arms_acts, statement_acts}
+use Rattle.heyvl_types.specs.StatementRules.{arms_bind, arms_findings, block_binds, statement_findings}
 use Rattle.heyvl_types.specs.Variables.{locals, locals_of_arms, locals_of_block}
-use Rattle.std.proofs.Common.{Err, [], ap, drop, length, map, rules, subst, sym, ◌++◌, ◌+◌, ◌||◌, ◌∙◌, ◌≡◌}
+use Rattle.std.proofs.Common.{Err, [], ap, arith, drop, length, map, rules, subst, sym, ◌++◌, ◌+◌, ◌||◌, ◌∙◌, ◌≡◌}
+use denote.Param.Weighed.{at_most}
+
+pub read_arms-read_arm-requires : goal.read_arms-read_arm-requires
+read_arms-read_arm-requires t c =
+    let deeper = at_most arm_laws.the_size c.args.all.now c.loop-i.i c.index-all-i.result c.loop-i-test.true in
+    let same = ap arm_laws.the_size c.index-all-i.is in
+    let depth = c.decreases in
+    (omega (arith, deeper, same, depth), arm_in_range c.args.setting c.args.calls.now c.args.bound c.args.vars.now.items c.args.loops.now c.args.scope.now c.args.all.now (map arm_of c.loop-i.made.items) c.loop-i.vars.items c.loop-i.loops c.loop-i.i c.index-all-i.result c.loop-i.invariant.read c.loop-i-test.true c.index-all-i.is c.requires.variables c.requires.loops)
+
+pub read_arms-returns-in_err-read_arm-clause-gives : goal.read_arms-returns-in_err-read_arm-clause-gives
+read_arms-returns-in_err-read_arm-clause-gives t c =
+    let rest = arms_bind (arms (drop (c.loop-i.i + 1) c.args.all.now)) in
+    let inner : c.if-bound.arm_bound ≡ (c.args.bound || rest) =
+    elim c.if-bound.branch [ read_arms-then-bound w ↦ bound_by_first c.args.bound c.if-bound.arm_bound rest w.if-bound.true w.arm_bound-is | read_arms-else-bound w ↦ bound_by_rest c.args.bound c.if-bound.arm_bound rest w.if-bound.false (w.arm_bound-is ∙ sym (c.binding_arms-binding.ensures (c.loop-i.i + 1))) ] in
+    let given = rw c.loop-i.invariant.kept at c.in_err-read_arm.ensures.gives in
+    let stop : Gives arms_view (Err c.in_err-read_arm.field-0.0) (arms_findings c.args.setting c.args.calls.now c.args.bound (length c.args.vars.now.items) c.args.scope.now (arms c.args.all.now)) (arms_acts c.args.setting c.args.calls.now (length c.args.vars.now.items) c.args.loops.now c.args.scope.now (arms c.args.all.now)) =
+    arms_stop c.args.setting c.args.calls.now c.args.bound c.args.vars.now.items c.args.loops.now c.args.scope.now c.args.all.now (map arm_of c.loop-i.made.items) c.loop-i.vars.items c.loop-i.loops c.loop-i.i c.index-all-i.result c.if-bound.arm_bound c.in_err-read_arm.field-0.0 _ _ c.loop-i.invariant.read c.loop-i-test.true c.index-all-i.is inner given in
+    search rules
 
 pub read_arms-loop-i-preserved : goal.read_arms-loop-i-preserved
 read_arms-loop-i-preserved t c =
@@ -32,6 +52,13 @@ pub read_arms-returns-clause-gives : goal.read_arms-returns-clause-gives
 read_arms-returns-clause-gives t c =
     arms_give c.args.setting c.args.calls.now c.args.bound c.args.vars.now.items c.args.loops.now c.args.scope.now (arms c.args.all.now) (map arm_of c.loop-i.made.items) c.loop-i.vars.items c.loop-i.loops
     (arms_end_read c.args.setting c.args.calls.now c.args.bound c.args.vars.now.items c.args.loops.now c.args.scope.now c.args.all.now (map arm_of c.loop-i.made.items) c.loop-i.vars.items c.loop-i.loops c.loop-i.i c.loop-i.invariant.read c.loop-i-test.false)
+
+pub read_block-read_statement-requires : goal.read_block-read_statement-requires
+read_block-read_statement-requires t c =
+    let deeper = at_most statement_laws.the_size c.args.statements.now c.loop-i.i c.index-statements-i.result c.loop-i-test.true in
+    let same = ap statement_laws.the_size c.index-statements-i.is in
+    let depth = c.decreases in
+    (omega (arith, deeper, same, depth), statement_in_range c.args.setting c.args.calls.now c.args.bound c.args.vars.now.items c.args.loops.now c.args.scope.now c.args.statements.now (acts_of c.loop-i.acts.items) c.loop-i.vars.items c.loop-i.loops c.loop-i.scope c.loop-i.i c.index-statements-i.result c.loop-i.invariant c.loop-i-test.true c.index-statements-i.is c.requires.variables c.requires.loops)
 
 pub read_block-loop-i-preserved : goal.read_block-loop-i-preserved
 read_block-loop-i-preserved t c =
@@ -104,5 +131,5 @@ read_statement-returns-in_err-made-in-While-clause-gives t c =
     let stop : Gives acts_view (Err e) (statement_findings c.args.setting c.args.calls.now c.args.bound n c.args.scope.now (statement c.args.one.now)) (statement_acts c.args.setting c.args.calls.now n c.args.loops.now c.args.scope.now (statement c.args.one.now)) =
     subst (λ x. Gives acts_view (Err e) (statement_findings c.args.setting c.args.calls.now c.args.bound n c.args.scope.now x) (statement_acts c.args.setting c.args.calls.now n c.args.loops.now c.args.scope.now x))
     (sym (ap statement c.in-While.is ∙ plain_statements.loop c.in-While.rules c.in-While.guard c.in-While.body c.in-While.span))
-    (loop_stops_body c.args.setting c.args.calls.now c.args.bound n c.args.scope.now rs g b c.in-While.span e (block_acts c.args.setting c.args.calls.now n c.in_ok-loops-in-While.field-0 c.args.scope.now b) (statement_acts c.args.setting c.args.calls.now n c.args.loops.now c.args.scope.now (Statement.loop rs g b c.in-While.span)) head.0 body) in
+    (loop_stops_body c.args.setting c.args.calls.now c.args.bound n c.args.scope.now rs g b c.in-While.span e _ (statement_acts c.args.setting c.args.calls.now n c.args.loops.now c.args.scope.now (Statement.loop rs g b c.in-While.span)) head.0 body) in
     search rules

@@ -1,7 +1,7 @@
 use Rattle.heyvl_acts.specs.PlainActs.{procedure_of, procedures_of}
 use Rattle.heyvl_acts.specs.Rules.{Each, IsCounted}
 use Rattle.heyvl_syntax.specs.Procedures.{procedure, procedures}
-use Rattle.heyvl_types.proofs.ProcedureList.{At, fails, goes_on, stands}
+use Rattle.heyvl_types.proofs.ProcedureList.{At, fails, few_parts_at, goes_on, stands}
 use Rattle.heyvl_types.proofs.files.read_procedures.Goals as goal
 use Rattle.heyvl_types.specs.Answers.{Gives}
 use Rattle.heyvl_types.specs.Files.{file_findings, resolved}
@@ -13,6 +13,10 @@ use Rattle.std.proofs.lemmas.List.{map-append}
 each_more : {A : Type 0} (P : A → Type 0) (xs : List A) (x : A) → Each P xs → P x → Each P (xs ++ x ∷ [])
 each_more P [] x h p = (p, tt)
 each_more P (y ∷ ys) x h p = (h.0, each_more P ys x h.1 p)
+
+pub read_procedure-requires : goal.read_procedure-requires
+read_procedure-requires c =
+    few_parts_at c.args.file.now.procs.items c.loop-proc.proc-index c.proc-item.result (rw c.deref-proc-items.ensures.value at c.loop-proc-test.true) (rw c.deref-proc-items.ensures.value at c.proc-item.is) c.requires.parts
 
 pub loop-proc-preserved : goal.loop-proc-preserved
 loop-proc-preserved c =

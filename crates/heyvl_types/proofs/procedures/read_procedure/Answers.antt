@@ -9,9 +9,28 @@ use Rattle.heyvl_types.specs.Answers.{Gives}
 use Rattle.heyvl_types.specs.Files.{arity, body_acts, has_quantified_post, head_scope, input_scope, pre_forms, procedure_findings, setting, typed}
 use Rattle.heyvl_types.specs.TypedExpressions.{has_quantifier}
 use Rattle.heyvl_types.specs.Variables.{fronts_variables, locals_of_body, parameters}
-use Rattle.std.proofs.Common.{Err, List, ap, length, map, rules, sym, ◌++◌, ◌∙◌, ◌≡◌, ℕ}
+use Rattle.std.proofs.Common.{Err, List, ap, arith, length, map, rules, sym, ◌++◌, ◌∙◌, ◌≡◌, ℕ}
 use Rattle.std.specs.List.{list_any}
 use Rattle.std.specs.Prelude.{Option}
+
+pub read_head-requires : goal.read_head-requires
+read_head-requires c = let few = c.requires.variables in omega (arith, few)
+
+pub read_clauses-requires : goal.read_clauses-requires
+read_clauses-requires c =
+    let few = c.requires.variables in
+    let number : c.in_ok-inputs.field-0.arity ≡ arity (procedure c.args.proc.now) = c.in_ok-inputs.ensures.gives.1 in
+    omega (arith, few, number)
+
+pub read_body-requires-clause-variables : goal.read_body-requires-clause-variables
+read_body-requires-clause-variables c =
+    let few = c.requires.variables in
+    let declared : map variable_of c.in_ok-inputs.field-0.vars.items ≡ parameters (procedure c.args.proc.now).inputs ++ parameters (procedure c.args.proc.now).outputs = c.in_ok-inputs.ensures.vars in
+    let next : length c.in_ok-inputs.field-0.vars.items ≡ arity (procedure c.args.proc.now) = many_of (procedure c.args.proc.now) c.in_ok-inputs.field-0.vars.items declared in
+    omega (arith, few, next)
+
+pub read_body-requires-clause-loops : goal.read_body-requires-clause-loops
+read_body-requires-clause-loops c = let few = c.requires.loops in omega (arith, few)
 
 pub returns-in_err-check_name-clause-gives : goal.returns-in_err-check_name-clause-gives
 returns-in_err-check_name-clause-gives c =
