@@ -12,6 +12,7 @@ use Rattle.heyvl_types.specs.Scopes.{Scope}
 use Rattle.heyvl_types.specs.StatementActs.{invariant_of, ranking_of}
 use Rattle.heyvl_types.specs.declared.loop_rules.Found as memory
 use Rattle.std.specs.List.{list_any}
+use Rattle.std.specs.Option.{option_or}
 use Rattle.std.specs.Prelude.{Bool, List, None, Option, Some, [], ◌||◌, ℕ}
 
 -- The first invariant, the first ranking with its step, and whether an invariant or a ranking is no formula.
@@ -29,13 +30,9 @@ abbrev pub or_invariant : Option F.Form → Form → Form
 or_invariant (Some a) b = form_of a
 or_invariant None b = b
 
-abbrev pub or_rank : Option (Rational × Form) → Option (Rational × Form) → Option (Rational × Form)
-or_rank (Some a) b = Some a
-or_rank None b = b
-
 -- What is found already, and in these further rules.
 abbrev pub found_with : memory.Found → ℕ → Scope → List LoopRule → Found
-found_with f n sc rs = record { invariant = or_invariant f.invariant (invariant_of n sc rs); rank = or_rank (rank_of f.rank) (ranking_of n sc rs); misses = f.misses || list_any (is_no_formula n sc) rs }
+found_with f n sc rs = record { invariant = or_invariant f.invariant (invariant_of n sc rs); rank = option_or (rank_of f.rank) (ranking_of n sc rs); misses = f.misses || list_any (is_no_formula n sc) rs }
 
 -- What is found already.
 abbrev pub found_of : memory.Found → Found
