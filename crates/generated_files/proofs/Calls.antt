@@ -1,9 +1,9 @@
 -- What a name calls, where one procedure after another is put behind those that calls can name.
 use Rattle.heyvl_syntax.specs.Procedures.{Procedure}
-use Rattle.heyvl_types.specs.Signatures.{Called, Signature, find_call, signature, with_signature, with_signatures}
 use Rattle.std.proofs.Common.{Bool, List, None, Option, Some, [], ap, arith, false, length, refl, true, ◌++◌, ◌+◌, ◌∙◌, ◌∷◌, ◌≡◌, ℕ, suc}
 use Rattle.std.specs.Prelude.{if◌then◌else◌}
 use Rattle.std.specs.Str.{bytes_eq}
+use Rattle.typed_expressions.specs.Signatures.{Called, Signature, find_call, signature, with_signature, with_signatures}
 
 behind_first : (e : List ℕ × Signature) (es fs : Called) (y : List ℕ) (o : Option Signature) → (find_call es y ≡ o → find_call fs y ≡ o) → find_call (e ∷ es) y ≡ o → find_call (e ∷ fs) y ≡ o
 behind_first e es fs y o more = pick (bytes_eq y e.0)

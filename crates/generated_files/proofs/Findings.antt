@@ -5,9 +5,10 @@ use Rattle.heyvl_num.specs.Gcd.{gcd, gcd_steps}
 use Rattle.heyvl_num.specs.Rational.{leqʳ, oneʳ, ratio, zeroʳ}
 use Rattle.heyvl_syntax.specs.declared.types.TypeName.TheVariants as types
 use Rattle.heyvl_types.specs.Files.{procedure_findings}
-use Rattle.heyvl_types.specs.Literals.{inverse_value, literal_quotient, literal_value}
-use Rattle.heyvl_types.specs.Signatures.{Called, Signature, find_call, signature}
+use Rattle.heyvl_types.specs.Literals.{literal_quotient}
 use Rattle.std.proofs.Common.{List, Some, [], false, refl, true, ◌∷◌, ◌≡◌, ℕ}
+use Rattle.typed_expressions.specs.LiteralValues.{inverse_value, literal_value}
+use Rattle.typed_expressions.specs.Signatures.{Called, Signature, find_call, signature}
 
 pub coin_half_clean : (called : Called) (x : List ℕ) (s : Spots) → procedure_findings called false (coin x (whole 2) s) ≡ []
 unfolding literal_value inverse_value literal_quotient zeroʳ ratio gcd gcd_steps leqʳ oneʳ

@@ -15,14 +15,14 @@ use Rattle.heyvl_syntax.specs.Tokens.{Lexes}
 use Rattle.heyvl_syntax.specs.declared.tokens.Token.{Token}
 use Rattle.heyvl_syntax.specs.declared.tokens.TokenKind.{TokenKind}
 use Rattle.heyvl_types.specs.Files.{procedure_findings, procedures_findings}
-use Rattle.heyvl_types.specs.Findings.{Finding, first}
-use Rattle.heyvl_types.specs.Signatures.{Called, Signature, called, find_call, signature, with_signature}
 use Rattle.std.proofs.Common.{Bool, List, None, Some, [], ap, append_assoc, arith, false, inl, inr, length, map, nat_lt, refl, subst, suc, sym, true, zero, ◌%◌, ◌++◌, ◌+◌, ◌-◌, ◌<◌, ◌^◌, ◌∙◌, ◌∷◌, ◌≡◌, ◌≤◌, ◌⊎◌, ℕ}
 use Rattle.std.proofs.lemmas.Bool.Decides.{nat_tests}
 use Rattle.std.proofs.lemmas.List.Folds.{list_any-append}
 use Rattle.std.proofs.lemmas.List.{append-nil, length-append, map-append}
 use Rattle.std.specs.List.{list_any}
 use Rattle.std.specs.Str.{bytes_eq}
+use Rattle.typed_expressions.specs.Findings.{Finding, first}
+use Rattle.typed_expressions.specs.Signatures.{Called, Signature, called, find_call, signature, with_signature}
 
 abbrev names : List Procedure → List (List ℕ)
 names ps = map (λ p. p.name) ps

@@ -12,10 +12,10 @@ use Rattle.heyvl_syntax.specs.Grammar.{IsProc}
 use Rattle.heyvl_syntax.specs.Procedures.{Procedure}
 use Rattle.heyvl_syntax.specs.declared.tokens.TokenKind.{TokenKind}
 use Rattle.heyvl_types.specs.Files.{procedure_findings}
-use Rattle.heyvl_types.specs.Signatures.{Called, find_call, signature}
 use Rattle.std.proofs.Common.{Bool, List, Some, [], arith, codes, false, refl, subst, true, ◌%◌, ◌++◌, ◌-◌, ◌<◌, ◌==◌, ◌^◌, ◌∷◌, ◌≡◌, ℕ}
 use Rattle.std.proofs.lemmas.Bool.Decides.{nat_tests}
 use Rattle.std.specs.Prelude.{if◌then◌else◌}
+use Rattle.typed_expressions.specs.Signatures.{Called, find_call, signature}
 
 -- A call on line i finds the loop two lines before.
 abbrev pub Answers : Called → ℕ → Type 0

@@ -16,8 +16,8 @@ use Rattle.heyvl_syntax.specs.Grammar.{Spells}
 use Rattle.heyvl_syntax.specs.Procedures.{Procedure}
 use Rattle.heyvl_syntax.specs.SourceFaults.{IsSource, SourcesHaveNoFault}
 use Rattle.heyvl_types.specs.Files.{first_fault}
-use Rattle.heyvl_types.specs.Findings.{Finding}
 use Rattle.std.proofs.Common.{List, None, Option, Some, ap, length, subst, sym, ◌∙◌, ◌≡◌, ℕ}
+use Rattle.typed_expressions.specs.Findings.{Finding}
 use Rattle.verdict_report.specs.declared.answers.Answer.{Answer}
 use Rattle.verify_core.specs.AnsweredProcedures.{AreAnswered}
 use Rattle.verify_core.specs.Headline.{IsHeadline}

@@ -21,13 +21,14 @@ use Rattle.heyvl_syntax.specs.declared.tokens.TokenKind.{TokenKind}
 use Rattle.heyvl_types.specs.Files.{loops_of_body, variable_count}
 use Rattle.heyvl_types.specs.PartCounts.{HasFewParts, HaveFewParts}
 use Rattle.heyvl_types.specs.StatementActs.{loops, loops_of_arms, loops_of_block}
-use Rattle.heyvl_types.specs.Variables.{front_variables, fronts_variables, locals, locals_of_arms, locals_of_block, locals_of_body}
+use Rattle.heyvl_types.specs.Variables.{locals, locals_of_arms, locals_of_block, locals_of_body}
 use Rattle.pgcl_front.specs.Grammar.{IsCommand, IsCommands, IsDeclaration}
 use Rattle.pgcl_front.specs.Programs.{BlockTree, CommandTree, ProgramTree}
 use Rattle.pgcl_front.specs.Sources.{IsPgclSource}
 use Rattle.pgcl_front.specs.Translation.{first_place, input, lines, output, picks, picks_in, start, statements, translated}
 use Rattle.std.proofs.Common.{List, None, Option, Some, [], ap, arith, inl, inr, length, length-append, map, refl, subst, sym, ◌+◌, ◌++◌, ◌^◌, ◌∷◌, ◌≡◌, ◌≤◌, ◌⊎◌, ℕ}
 use Rattle.std.proofs.lemmas.List.{length-map}
+use Rattle.typed_expressions.specs.DeclaredVariables.{front_variables, fronts_variables}
 
 -- A text of this production has so many tokens or more.
 record Counts (n : ℕ) (P : List Token → Type 0) : Type 0 where

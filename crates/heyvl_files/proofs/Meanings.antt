@@ -14,11 +14,11 @@ use Rattle.heyvl_syntax.specs.declared.operators.UnaryOp.TheVariants as prefixes
 use Rattle.heyvl_syntax.specs.declared.operators.UnaryOp.{UnaryOp}
 use Rattle.heyvl_syntax.specs.declared.types.TypeName.TheVariants as types
 use Rattle.heyvl_syntax.specs.declared.types.TypeName.{TypeName}
-use Rattle.heyvl_types.specs.Literals.{is_written, literal_value}
-use Rattle.heyvl_types.specs.Scopes.{Scope, find}
-use Rattle.heyvl_types.specs.Table.{Meaning, binary, bound, bracket, choice, comparison, declarable, divisor, embedding, extended, factor, given, joined_numbers, literal, minus, numbers, quantified, quotient, selected, truths, unary, variable, variable_of}
-use Rattle.heyvl_types.specs.TypedExpressions.{operated}
 use Rattle.std.proofs.Common.{Bool, List, None, Option, Some, false, if◌then◌else◌, option_map, true, ◌==◌, ℕ}
+use Rattle.typed_expressions.specs.LiteralValues.{is_written, literal_value}
+use Rattle.typed_expressions.specs.Scopes.{Scope, find}
+use Rattle.typed_expressions.specs.Table.{Meaning, binary, bound, bracket, choice, comparison, declarable, divisor, embedding, extended, factor, given, joined_numbers, literal, minus, numbers, quantified, quotient, selected, truths, unary, variable, variable_of}
+use Rattle.typed_expressions.specs.TypedExpressions.{operated}
 
 -- It holds of a form and a condition where it holds of the parts, and of a product where something holds of its place; of binders it
 -- says nothing.

@@ -5,7 +5,7 @@ use Rattle.heyvl_files.specs.declared.sources.SourceStop.TheVariants.{Fault, Mem
 use Rattle.heyvl_files.specs.declared.sources.SourceStop.{SourceStop}
 use Rattle.heyvl_places.specs.declared.spans.Span.{Span}
 use Rattle.heyvl_types.specs.Files.{first_fault}
-use Rattle.heyvl_types.specs.Findings.{Finding}
+use Rattle.typed_expressions.specs.Findings.{Finding}
 use Rattle.pgcl_front.specs.Sources.IsPgclFault.{unlexed}
 use Rattle.pgcl_front.specs.Sources.{IsPgclFault, PgclFaultIsUnique, PgclSourceIsUnique, PgclSourcesHaveNoFault}
 use Rattle.pgcl_front.specs.Translations.{TranslationsSpell}

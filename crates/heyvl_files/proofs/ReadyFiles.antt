@@ -9,7 +9,7 @@ use Rattle.heyvl_acts.specs.Acts.{TypedProcedure}
 use Rattle.heyvl_types.specs.ResolvedLaws.{IsAnswer}
 use Rattle.heyvl_acts.specs.FormSizes.{FormsWithin}
 use Rattle.heyvl_acts.specs.Rules.{Each, MeetsAllRules}
-use Rattle.heyvl_types.specs.declared.stops.ResolveStop.{ResolveStop}
+use Rattle.typed_expressions.specs.declared.stops.ResolveStop.{ResolveStop}
 use Rattle.heyvl_acts.specs.declared.typed_trees.Typed.{Typed}
 use Rattle.std.proofs.Common.{Err, List, Ok, arith, length, subst, sym, ◌≤◌, ℕ}
 use Rattle.std.specs.Prelude.{IfOk, Result, ◌^◌}

@@ -14,7 +14,7 @@ use Rattle.heyvl_acts.specs.Places.{in_order}
 use Rattle.heyvl_types.specs.ResolvedSizes.{ResolvedFormsAreSmall}
 use Rattle.heyvl_acts.specs.FormSizes.{ActWithin, FormsWithin, GuardsWithin, RankWithin}
 use Rattle.heyvl_acts.specs.Rules.{Each}
-use Rattle.heyvl_types.specs.Signatures.{Called, called}
+use Rattle.typed_expressions.specs.Signatures.{Called, called}
 use Rattle.std.proofs.Common.{List, None, Option, Some, [], arith, length, map, ◌*◌, ◌+◌, ◌^◌, ◌∷◌, ◌≡◌, ◌≤◌, ℕ}
 use Rattle.std.proofs.lemmas.List.Sums.{sum_by-cons}
 use Rattle.std.specs.List.{sum_by}

@@ -4,10 +4,10 @@ use Rattle.heyvl_files.proofs.SpelledParts.{Gives, any, here, within, ◌before�
 use Rattle.heyvl_syntax.specs.Expressions.{Expression}
 use Rattle.heyvl_syntax.specs.Grammar.{IsExpr, operator, ranks}
 use Rattle.heyvl_places.specs.declared.spans.Span.{Span}
-use Rattle.heyvl_types.specs.Scopes.{Scope, with_local}
-use Rattle.heyvl_types.specs.StatementActs.{condition, form, term}
-use Rattle.heyvl_types.specs.Table.{Meaning}
-use Rattle.heyvl_types.specs.TypedExpressions.{elaborate}
+use Rattle.typed_expressions.specs.Scopes.{Scope, with_local}
+use Rattle.typed_expressions.specs.Values.{condition, form, term}
+use Rattle.typed_expressions.specs.Table.{Meaning}
+use Rattle.typed_expressions.specs.TypedExpressions.{elaborate}
 use Rattle.std.proofs.Common.{None, Option, Some, suc, ◌≤◌, ℕ}
 use Rattle.verify_core.specs.Places.{CondStands, FormStands, TermStands}
 

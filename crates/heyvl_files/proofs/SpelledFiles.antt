@@ -17,10 +17,10 @@ use Rattle.heyvl_acts.specs.Acts.{TypedProcedure, acts_in}
 use Rattle.heyvl_types.specs.Files.{arity, body_acts, clause, first_quantified, head_scope, input_scope, joined_with, post_forms, pre_forms, resolved, setting, typed}
 use Rattle.heyvl_acts.specs.Places.{in_order}
 use Rattle.heyvl_acts.specs.Rules.{Each}
-use Rattle.heyvl_types.specs.Scopes.{Scope}
-use Rattle.heyvl_types.specs.Signatures.{Called, called}
-use Rattle.heyvl_types.specs.TypedExpressions.{elaborate}
-use Rattle.heyvl_types.specs.Variables.{front_variables}
+use Rattle.typed_expressions.specs.Scopes.{Scope}
+use Rattle.typed_expressions.specs.Signatures.{Called, called}
+use Rattle.typed_expressions.specs.TypedExpressions.{elaborate}
+use Rattle.typed_expressions.specs.DeclaredVariables.{front_variables}
 use Rattle.std.proofs.Common.{Bool, List, None, Option, Some, [], false, length, subst, true, ◌+◌, ◌∷◌, ℕ}
 use Rattle.verify_core.specs.Places.{ActStands, FormStands, StandsWithin}
 

@@ -5,11 +5,11 @@ ghost use Rattle.heyvl_files.specs.Sources.{IsReady, IsSourceStop, IsSpellingSto
 ghost use Rattle.heyvl_files.specs.declared.sources.SourceStop.TheVariants.{Memory};
 ghost use Rattle.heyvl_syntax.specs.Procedures.{procedures};
 ghost use Rattle.heyvl_syntax.specs.SourceFaults.{IsSource};
-ghost use Rattle.heyvl_types.specs.Answers.{Gives};
 ghost use Rattle.heyvl_types.specs.ArmedFiles.{HasArms};
 ghost use Rattle.heyvl_types.specs.Files.{file_findings, resolved};
 ghost use Rattle.heyvl_types.specs.PartCounts.{HaveFewParts};
 ghost use Rattle.std.specs.Prelude.{IfOk, List, MatchResult, length, ◌<◌, ◌^◌, ◌≡◌, ◌≤◌, ℕ};
+ghost use Rattle.typed_expressions.specs.Answers.{Gives};
 
 use crate::fault_lines::token_place;
 use crate::file_laws::{files_have_small_forms, files_stand_within};

@@ -24,10 +24,10 @@ use Rattle.heyvl_replies.specs.commands.Run.{IsRunOf, ProgramsAreRun, TellsRun}
 use Rattle.heyvl_replies.specs.commands.Verify.{FilesAreVerified, IsReport}
 use Rattle.generated_summary.specs.Reports.{IsSummary}
 use Rattle.heyvl_replies.specs.commands.Generate.{GeneratedTextsAreAnswered, IsGenReply}
-use Rattle.heyvl_types.specs.Signatures.{called}
+use Rattle.typed_expressions.specs.Signatures.{called}
 use Rattle.std.proofs.lemmas.List.{length-map}
 use Rattle.heyvl_types.specs.Files.{first_fault, resolved, typed}
-use Rattle.heyvl_types.specs.Findings.{Finding}
+use Rattle.typed_expressions.specs.Findings.{Finding}
 use Rattle.run_machine.specs.ConfigConditions.{ReachesPrograms}
 use Rattle.run_script.proofs.exported.UniqueScripts.{scripts_are_unique, scripts_have_no_fault}
 use Rattle.run_script.specs.Scripts as scripts

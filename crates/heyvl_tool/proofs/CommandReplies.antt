@@ -29,7 +29,7 @@ use Rattle.heyvl_replies.specs.declared.faults.Fault.{Fault}
 use Rattle.heyvl_tool.specs.declared.requests.Settings.TheVariants.{Certify, Check, Gen, Omega, Pgcl, Print, Refute, Remainder, Run, Verify}
 use Rattle.heyvl_tool.specs.declared.requests.Settings.{Settings}
 use Rattle.heyvl_types.specs.Files.{first_fault, resolved}
-use Rattle.heyvl_types.specs.Findings.{Finding}
+use Rattle.typed_expressions.specs.Findings.{Finding}
 use Rattle.lower_rules.specs.declared.answers.Omega.TheVariants as omega_answers
 use Rattle.lower_rules.specs.declared.answers.Omega.{Omega as OmegaAnswer}
 use Rattle.lower_rules.specs.declared.remainder_answers.Remainder.TheVariants as remainder_answers

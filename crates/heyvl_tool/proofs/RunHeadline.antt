@@ -24,7 +24,7 @@ use Rattle.heyvl_replies.specs.declared.faults.Fault.{Fault}
 use Rattle.heyvl_tool.specs.declared.outcomes.Outcome.{Outcome}
 use Rattle.heyvl_tool.specs.declared.requests.Settings.TheVariants.{Run}
 use Rattle.heyvl_types.specs.Files.{file_findings, first_fault, resolved}
-use Rattle.heyvl_types.specs.Findings.{Finding, first}
+use Rattle.typed_expressions.specs.Findings.{Finding, first}
 use Rattle.heyvl_types.specs.ResolvedLaws.{ResolvedProceduresMeetRules}
 use Rattle.run_machine.specs.ConfigConditions.{ReachesPrograms}
 use Rattle.run_unroller.specs.Totals.{Totals}

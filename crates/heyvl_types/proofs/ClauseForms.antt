@@ -1,12 +1,12 @@
 -- Clauses that are read one after the other, each with its findings and its form.
 use Rattle.heylo_formula.specs.Formula.{Form}
 use Rattle.heyvl_syntax.specs.declared.expressions.Expr.{Expr}
-use Rattle.heyvl_types.proofs.Parts.{behind, stops, stops_at}
-use Rattle.heyvl_types.specs.Answers.{Gives}
-use Rattle.heyvl_types.specs.Findings.{Finding}
-use Rattle.heyvl_types.specs.declared.stops.ResolveStop.{ResolveStop}
 use Rattle.std.proofs.Common.{Err, List, [], ap, append_assoc, drop, get_or, length, refl, sym, ◌+◌, ◌++◌, ◌<◌, ◌∙◌, ◌≡◌, ◌≤◌, ◌∷◌, ℕ}
 use Rattle.std.proofs.lemmas.List.{at_drop_more, drop_all}
+use Rattle.typed_expressions.proofs.exported.Parts.{behind, stops, stops_at}
+use Rattle.typed_expressions.specs.Answers.{Gives}
+use Rattle.typed_expressions.specs.Findings.{Finding}
+use Rattle.typed_expressions.specs.declared.stops.ResolveStop.{ResolveStop}
 
 -- What is found against clauses and what they become, clause by clause: each has its number, and tells that of the next.
 pub record Clauses : Type 0 where

@@ -1,6 +1,6 @@
 -- The first procedure of a name, and whether one stands before a place.
 use Rattle.heyvl_syntax.specs.Procedures.{Procedure}
-use Rattle.heyvl_types.specs.Signatures.{Called, Signature, called, find_call, signature, with_signature, with_signatures}
+use Rattle.typed_expressions.specs.Signatures.{Called, Signature, called, find_call, signature, with_signature, with_signatures}
 use Rattle.heyvl_types.specs.internal.Earlier.{is_before}
 use Rattle.std.proofs.Common.{Bool, List, None, Option, Some, [], ap, arith, false, map, refl, sym, take, true, ◌+◌, ◌<◌, ◌∙◌, ◌≡◌, ◌≤◌, ◌∷◌, ℕ}
 use Rattle.std.proofs.lemmas.Bool.{lt-ltb}

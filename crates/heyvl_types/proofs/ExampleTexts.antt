@@ -7,8 +7,8 @@ use Rattle.heyvl_syntax.specs.declared.operators.BinaryOp.{BinaryOp}
 use Rattle.heyvl_syntax.specs.declared.procedures.Note.{Note}
 use Rattle.heyvl_syntax.specs.declared.procedures.Param.{Param}
 use Rattle.heyvl_syntax.specs.declared.types.TypeName.{TypeName}
-use Rattle.heyvl_types.specs.Findings.{Finding}
 use Rattle.std.specs.Prelude.{Bool, List, Option, Some, [], pos, ◌∷◌, ℕ}
+use Rattle.typed_expressions.specs.Findings.{Finding}
 
 abbrev pub sp : ℕ → Span
 sp n = record { from = n; to = n }

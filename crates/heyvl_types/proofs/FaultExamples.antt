@@ -11,9 +11,10 @@ use Rattle.heyvl_syntax.specs.declared.procedures.Param.{Param}
 use Rattle.heyvl_syntax.specs.declared.types.TypeName.{TypeName}
 use Rattle.heyvl_types.proofs.ExampleTexts.{block, fault, num, over, param, procedure, sp, var}
 use Rattle.heyvl_types.specs.Files.{first_fault}
-use Rattle.heyvl_types.specs.Literals.{inverse_value, literal_quotient, literal_value}
+use Rattle.heyvl_types.specs.Literals.{literal_quotient}
 use Rattle.std.proofs.Common.{refl, replicate}
 use Rattle.std.specs.Prelude.{List, None, Some, [], codes, false, true, ◌∷◌, ◌≡◌, ℕ}
+use Rattle.typed_expressions.specs.LiteralValues.{inverse_value, literal_value}
 
 abbrev a : List ℕ
 a = codes "a"

@@ -7,16 +7,17 @@ use Rattle.heylo_formula.specs.NumericVariables.{has_variable}
 use Rattle.heyvl_places.specs.declared.spans.Span.{Span}
 use Rattle.heyvl_syntax.specs.Expressions.{Expression}
 use Rattle.heyvl_syntax.specs.Statements.{RightSide}
-use Rattle.heyvl_types.specs.Answers.{Gives}
-use Rattle.heyvl_types.specs.Findings.{at}
+use Rattle.typed_expressions.specs.Answers.{Gives}
+use Rattle.typed_expressions.specs.Findings.{at}
 use Rattle.heyvl_types.specs.Literals.{is_over_zero, is_probability, is_weight_literal, weight, weight_value}
 use Rattle.heyvl_types.specs.RightSides.{ValueType, flip_type, flip_wrong, has_over_zero, literal_wrong, right_findings, right_type, type_of_expression}
-use Rattle.heyvl_types.specs.Scopes.{Scope}
-use Rattle.heyvl_types.specs.StatementActs.{assigned, draw_or_toss, first_or_zero, form}
-use Rattle.heyvl_types.specs.TypedExpressions.{closed_findings, elaborate}
-use Rattle.heyvl_types.specs.declared.demands.Demand.{Demand}
+use Rattle.typed_expressions.specs.Scopes.{Scope}
+use Rattle.heyvl_types.specs.StatementActs.{assigned, draw_or_toss, first_or_zero}
+use Rattle.typed_expressions.specs.Values.{form}
+use Rattle.typed_expressions.specs.TypedExpressions.{closed_findings, elaborate}
+use Rattle.typed_expressions.specs.declared.demands.Demand.{Demand}
 use Rattle.heyvl_types.specs.declared.right_sides.Targets.{Targets}
-use Rattle.heyvl_types.specs.declared.stops.ResolveStop.{ResolveStop}
+use Rattle.typed_expressions.specs.declared.stops.ResolveStop.{ResolveStop}
 use Rattle.heyvl_types.specs.declared.weights.Weight.TheVariants.{NotLiteral, OverZero, TooWide, Value}
 use Rattle.heyvl_types.specs.declared.weights.Weight.{Weight}
 use Rattle.heyvl_types.specs.internal.RightSideRules.{value_rules}

@@ -1,5 +1,4 @@
 pub mod Earlier
-pub mod Parts
 pub mod ParameterSteps
 pub mod ClauseForms
 pub mod PreAndPost
@@ -9,14 +8,9 @@ pub mod ReadProcedures
 pub mod ProcedureList
 mod ExampleTexts
 mod FaultExamples
-pub mod ScopeEntries
-pub mod LiteralFractions
-pub mod PartAnswers
-pub mod TypedMeanings
-pub mod AnyNumbers
+pub mod WeightFractions
 pub mod resolved
 pub mod Coprime
-pub mod CallEntries
 pub mod IntegerParts
 mod Rests
 mod Walks

@@ -4,9 +4,10 @@ use Rattle.heyvl_syntax.specs.Statements.{arms, block, guarded, statement}
 use Rattle.heyvl_syntax.specs.declared.expressions.Expr.{Expr}
 use Rattle.heyvl_syntax.specs.declared.statements.Arm.{Arm}
 use Rattle.heyvl_syntax.specs.declared.statements.Stmt.{Stmt}
-use Rattle.heyvl_types.specs.Variables.{front_variables, fronts_variables, locals, locals_of_arms, locals_of_block}
+use Rattle.heyvl_types.specs.Variables.{locals, locals_of_arms, locals_of_block}
 use Rattle.std.proofs.Common.{List, ap, drop, get_or, length, sym, ◌+◌, ◌++◌, ◌<◌, ◌∙◌, ◌≡◌, ◌≤◌, ℕ}
 use Rattle.std.proofs.lemmas.List.{at_drop_more, drop_all, length-append}
+use Rattle.typed_expressions.specs.DeclaredVariables.{front_variables, fronts_variables}
 
 abbrev pub locals_left : List Stmt → ℕ → ℕ
 locals_left all k = length (locals_of_block (block (drop k all)))

@@ -3,23 +3,23 @@ use Rattle.heyvl_syntax.specs.Expressions.{Expression}
 use Rattle.heyvl_syntax.specs.Statements as text
 use Rattle.heyvl_syntax.specs.Statements.{Block, LoopRule, Statement}
 use Rattle.heyvl_places.specs.declared.spans.Span.{Span}
-use Rattle.heyvl_types.proofs.PartAnswers.{stops_first, stops_second}
+use Rattle.typed_expressions.proofs.exported.PartAnswers.{stops_first, stops_second}
 use Rattle.heyvl_types.proofs.Walks.{counted}
 use Rattle.heyvl_acts.specs.Acts.{Act, Acts, Arms, Variable}
-use Rattle.heyvl_types.specs.Answers.{Gives}
+use Rattle.typed_expressions.specs.Answers.{Gives}
 use Rattle.heyvl_types.specs.internal.Views.{acts_view}
-use Rattle.heyvl_types.specs.Findings.{Finding, at}
+use Rattle.typed_expressions.specs.Findings.{Finding, at}
 use Rattle.heyvl_types.specs.LoopRules.{loop_rules, rules_findings}
 use Rattle.heyvl_acts.specs.PlainActs.{variable_of}
-use Rattle.heyvl_types.specs.Scopes.{Scope}
-use Rattle.heyvl_types.specs.Signatures.{Called}
+use Rattle.typed_expressions.specs.Scopes.{Scope}
+use Rattle.typed_expressions.specs.Signatures.{Called}
 use Rattle.heyvl_types.specs.StatementActs.{arms_acts, block_acts, loops_of_arms, loops_of_block, statement_acts}
 use Rattle.heyvl_types.specs.StatementRules.{arms_findings, block_binds, block_findings, block_is_rankable, statement_findings}
-use Rattle.heyvl_types.specs.TypedExpressions.{closed_findings}
+use Rattle.typed_expressions.specs.TypedExpressions.{closed_findings}
 use Rattle.heyvl_types.specs.Variables.{locals_of_arms, locals_of_block}
-use Rattle.heyvl_types.specs.declared.demands.Demand.{Demand}
+use Rattle.typed_expressions.specs.declared.demands.Demand.{Demand}
 use Rattle.heyvl_types.specs.declared.settings.Setting.{Setting}
-use Rattle.heyvl_types.specs.declared.stops.ResolveStop.{ResolveStop}
+use Rattle.typed_expressions.specs.declared.stops.ResolveStop.{ResolveStop}
 use Rattle.heyvl_acts.specs.declared.typed_trees.VarInfo.{VarInfo}
 use Rattle.std.proofs.Common.{Bool, Err, List, [], ap, append_assoc, length, map, sym, true, false, ◌++◌, ◌+◌, ◌||◌, ◌∙◌, ◌≡◌, ℕ}
 

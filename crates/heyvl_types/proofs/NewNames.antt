@@ -1,8 +1,8 @@
 -- A declaration without a finding is of a name that isn't visible.
 use Rattle.heyvl_types.proofs.resolved.Findings.{all_kept, back_none}
-use Rattle.heyvl_types.specs.Findings.{at}
-use Rattle.heyvl_types.specs.Scopes.{Scope, is_visible}
-use Rattle.heyvl_types.specs.Signatures.{Called}
+use Rattle.typed_expressions.specs.Findings.{at}
+use Rattle.typed_expressions.specs.Scopes.{Scope, is_visible}
+use Rattle.typed_expressions.specs.Signatures.{Called}
 use Rattle.heyvl_types.specs.StatementRules.{value_findings, var_rules}
 use Rattle.heyvl_types.specs.declared.settings.Setting.{Setting}
 use Rattle.heyvl_syntax.specs.Statements.{RightSide}

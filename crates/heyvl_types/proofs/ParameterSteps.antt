@@ -1,19 +1,20 @@
 -- Parameters that are read one after the other.
 use Rattle.heyvl_acts.specs.Acts.{Variable}
 use Rattle.heyvl_syntax.specs.declared.procedures.Param.{Param}
-use Rattle.heyvl_types.proofs.Parts.{behind, stops, stops_at}
-use Rattle.heyvl_types.specs.Answers.{Gives}
 use Rattle.heyvl_types.specs.Files.{parameters_findings}
-use Rattle.heyvl_types.specs.Findings.{Finding, at}
-use Rattle.heyvl_types.specs.Scopes.{Scope, is_visible, with_local}
-use Rattle.heyvl_types.specs.Table.{declarable}
-use Rattle.heyvl_types.specs.Variables.{behind_parameters, declared, parameters}
-use Rattle.heyvl_types.specs.declared.scopes.Local.{Local}
-use Rattle.heyvl_types.specs.declared.stops.ResolveStop.{ResolveStop}
+use Rattle.heyvl_types.specs.Variables.{behind_parameters, parameters}
 use Rattle.std.proofs.Common.{Err, List, [], ap, append_assoc, arith, drop, get_or, length, map, refl, sym, ◌+◌, ◌++◌, ◌<◌, ◌^◌, ◌∙◌, ◌≡◌, ◌≤◌, ◌∷◌, ℕ}
 use Rattle.std.proofs.lemmas.List.{at_drop_more, drop_all, length-drop}
 use Rattle.std.specs.Option.{is_none}
 use Rattle.std.specs.Prelude.{suc}
+use Rattle.typed_expressions.proofs.exported.Parts.{behind, stops, stops_at}
+use Rattle.typed_expressions.specs.Answers.{Gives}
+use Rattle.typed_expressions.specs.DeclaredVariables.{declared}
+use Rattle.typed_expressions.specs.Findings.{Finding, at}
+use Rattle.typed_expressions.specs.Scopes.{Scope, is_visible, with_local}
+use Rattle.typed_expressions.specs.Table.{declarable}
+use Rattle.typed_expressions.specs.declared.scopes.Local.{Local}
+use Rattle.typed_expressions.specs.declared.stops.ResolveStop.{ResolveStop}
 
 abbrev pub rules : Scope → Param → List Finding
 rules sc p = at p.span ((11, is_visible sc p.name) ∷ (12, is_none (declarable p.ty)) ∷ [])

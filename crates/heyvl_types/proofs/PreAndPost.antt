@@ -2,12 +2,12 @@
 use Rattle.heyvl_syntax.specs.Expressions.{expression, expressions}
 use Rattle.heyvl_types.proofs.ClauseForms.{Clauses}
 use Rattle.heyvl_types.specs.Files.{front_of, post_forms, posts_findings, pre_forms, pres_findings}
-use Rattle.heyvl_types.specs.Scopes.{Scope}
-use Rattle.heyvl_types.specs.StatementActs.{form}
-use Rattle.heyvl_types.specs.TypedExpressions.{closed_findings, elaborate, findings}
-use Rattle.heyvl_types.specs.Variables.{front_variables}
-use Rattle.heyvl_types.specs.declared.demands.Demand.{Demand}
 use Rattle.std.proofs.Common.{Bool, length, refl, ◌+◌}
+use Rattle.typed_expressions.specs.DeclaredVariables.{front_variables}
+use Rattle.typed_expressions.specs.Scopes.{Scope}
+use Rattle.typed_expressions.specs.TypedExpressions.{closed_findings, elaborate, findings}
+use Rattle.typed_expressions.specs.Values.{form}
+use Rattle.typed_expressions.specs.declared.demands.Demand.{Demand}
 
 abbrev pub pres : Scope → Clauses
 pres sc = record {

@@ -3,19 +3,19 @@ use Rattle.heyvl_acts.specs.Acts.{TypedProcedure}
 use Rattle.heyvl_syntax.specs.Procedures.{Procedure, procedure}
 use Rattle.heyvl_syntax.specs.declared.procedures.Proc.{Proc}
 use Rattle.heyvl_types.proofs.Earlier.{earlier_named}
-use Rattle.heyvl_types.proofs.Parts.{behind, stops, stops_at}
-use Rattle.heyvl_types.specs.Answers.{Gives}
 use Rattle.heyvl_types.specs.Files.{file_findings, procedure_findings, procedures_findings, resolved, typed}
-use Rattle.heyvl_types.specs.Findings.{Finding}
 use Rattle.heyvl_types.specs.PartCounts.{HasFewParts, HaveFewParts}
-use Rattle.heyvl_types.specs.Signatures.{Called, called, find_call}
-use Rattle.heyvl_types.specs.declared.stops.ResolveStop.{ResolveStop}
 use Rattle.heyvl_types.specs.internal.Earlier.{is_before}
 use Rattle.std.proofs.Common.{Bool, Err, List, [], ap, append_assoc, arith, drop, get_or, length, map, refl, subst, suc, sym, take, zero, ◌+◌, ◌++◌, ◌<◌, ◌∙◌, ◌≡◌, ◌≤◌, ◌∷◌, ℕ}
 use Rattle.std.proofs.Math.ListN.{get_or-map}
 use Rattle.std.proofs.lemmas.List.{at_drop_more, drop_all, length-map, map-append, take_more}
 use Rattle.std.specs.List.{list_any}
 use Rattle.std.specs.Str.{bytes_eq}
+use Rattle.typed_expressions.proofs.exported.Parts.{behind, stops, stops_at}
+use Rattle.typed_expressions.specs.Answers.{Gives}
+use Rattle.typed_expressions.specs.Findings.{Finding}
+use Rattle.typed_expressions.specs.Signatures.{Called, called, find_call}
+use Rattle.typed_expressions.specs.declared.stops.ResolveStop.{ResolveStop}
 
 abbrev names : List Procedure → ℕ → List (List ℕ)
 names ps k = map (λ p. p.name) (take k ps)

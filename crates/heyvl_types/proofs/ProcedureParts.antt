@@ -1,9 +1,9 @@
 -- The parts of a procedure: what is found against them, and where its variables stand.
 use Rattle.heyvl_acts.specs.Acts.{Variable}
-use Rattle.heyvl_types.proofs.Parts.{behind, first_in, stops, stops_at, tells_stop}
-use Rattle.heyvl_types.specs.Findings.{Finding}
 use Rattle.std.proofs.Common.{List, [], ap, append_assoc, drop, length, refl, sym, take, ◌+◌, ◌++◌, ◌∙◌, ◌≡◌, ◌∷◌, ℕ}
 use Rattle.std.proofs.Math.Seq.{drop-append-add, drop-append_seam, take-append_seam}
+use Rattle.typed_expressions.proofs.exported.Parts.{behind, first_in, stops, stops_at, tells_stop}
+use Rattle.typed_expressions.specs.Findings.{Finding}
 
 -- Name, head, clauses, body and the procedure's own node.
 pub regroup : (a b c d e f g h : List Finding) → a ++ b ++ c ++ d ++ e ++ f ++ g ++ h ≡ (a ++ b) ++ ((c ++ d) ++ ((e ++ f) ++ (g ++ h)))

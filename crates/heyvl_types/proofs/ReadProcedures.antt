@@ -2,20 +2,20 @@
 use Rattle.heylo_formula.specs.Formula.{Form}
 use Rattle.heyvl_syntax.specs.Procedures.{Procedure}
 use Rattle.heyvl_syntax.specs.declared.procedures.Param.{Param}
-use Rattle.heyvl_types.proofs.Parts.{behind, stops, stops_at, tells_stop}
+use Rattle.typed_expressions.proofs.exported.Parts.{behind, stops, stops_at, tells_stop}
 use Rattle.heyvl_types.proofs.ProcedureParts.{regroup, the_inputs, the_locals, the_outputs}
 use Rattle.heyvl_acts.specs.Acts.{Acts, Variable}
-use Rattle.heyvl_types.specs.Answers.{Gives}
-use Rattle.heyvl_types.specs.internal.Looks.{TellsFirst}
+use Rattle.typed_expressions.specs.Answers.{Gives, TellsFirst}
 use Rattle.heyvl_types.specs.Files.{arity, body_acts, body_findings, clause, first_quantified, front_of, has_quantified_post, head_scope, input_scope, is_too_large, is_wlp, loops_of_body, parameters_findings, post_forms, posts_findings, pre_forms, pres_findings, procedure_findings, setting, typed}
-use Rattle.heyvl_types.specs.Findings.{Finding, at}
+use Rattle.typed_expressions.specs.Findings.{Finding, at}
 use Rattle.heyvl_acts.specs.PlainActs.{procedure_of, variable_of}
 use Rattle.heyvl_acts.specs.Rules.{IsCounted}
-use Rattle.heyvl_types.specs.Scopes.{Scope}
-use Rattle.heyvl_types.specs.Signatures.{Called}
-use Rattle.heyvl_types.specs.Variables.{declared, fronts_variables, locals_of_body, parameters}
+use Rattle.typed_expressions.specs.Scopes.{Scope}
+use Rattle.typed_expressions.specs.Signatures.{Called}
+use Rattle.heyvl_types.specs.Variables.{locals_of_body, parameters}
+use Rattle.typed_expressions.specs.DeclaredVariables.{declared, fronts_variables}
 use Rattle.heyvl_types.specs.declared.settings.Setting.{Setting}
-use Rattle.heyvl_types.specs.declared.stops.ResolveStop.{ResolveStop}
+use Rattle.typed_expressions.specs.declared.stops.ResolveStop.{ResolveStop}
 use Rattle.heyvl_acts.specs.declared.typed_trees.TProc.{TProc}
 use Rattle.heyvl_acts.specs.declared.typed_trees.VarInfo.{VarInfo}
 use Rattle.heyvl_types.specs.internal.ProcedureParts.{is_larger, with_parts}

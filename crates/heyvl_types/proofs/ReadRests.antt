@@ -12,23 +12,24 @@ use Rattle.heyvl_syntax.specs.Statements.{Block, arms, block, statement}
 use Rattle.heyvl_syntax.specs.declared.statements.Arm.{Arm}
 use Rattle.heyvl_syntax.specs.declared.statements.Stmt.{Stmt}
 use Rattle.heyvl_types.proofs.Havocs.{acts_append, join_done}
-use Rattle.heyvl_types.proofs.Parts.{stops, stops_at}
 use Rattle.heyvl_types.proofs.Rests.{arms_end, arms_next, block_end, block_next}
 use Rattle.heyvl_types.proofs.Walks.{ArmsRead, BlockRead, arms_step, arms_then_none, as_many, block_step}
-use Rattle.heyvl_types.specs.Answers.{Gives}
-use Rattle.heyvl_types.specs.Scopes.{Scope}
-use Rattle.heyvl_types.specs.Signatures.{Called}
-use Rattle.heyvl_types.specs.StatementActs.{arms_acts, block_acts, condition, loops, loops_of_arms, loops_of_block, statement_acts}
+use Rattle.heyvl_types.specs.StatementActs.{arms_acts, block_acts, loops, loops_of_arms, loops_of_block, statement_acts}
 use Rattle.heyvl_types.specs.StatementRules.{arms_bind, arms_findings, block_binds, block_findings, statement_findings}
-use Rattle.heyvl_types.specs.TypedExpressions.{closed_findings, elaborate}
 use Rattle.heyvl_types.specs.Variables.{behind, locals, locals_of_arms, locals_of_block}
-use Rattle.heyvl_types.specs.declared.demands.Demand.{Demand}
 use Rattle.heyvl_types.specs.declared.settings.Setting.{Setting}
-use Rattle.heyvl_types.specs.declared.stops.ResolveStop.{ResolveStop}
 use Rattle.heyvl_types.specs.internal.Views.{arms_view}
 use Rattle.std.proofs.Common.{Bool, Err, List, Vec, [], ap, arith, drop, get_or, length, map, subst, sym, take, ◌++◌, ◌+◌, ◌<◌, ◌^◌, ◌||◌, ◌∙◌, ◌≡◌, ◌∷◌, ◌≤◌, ℕ}
 use Rattle.std.proofs.lemmas.List.{map-append}
 use Rattle.std.specs.declared.alloc.Global.{Global}
+use Rattle.typed_expressions.proofs.exported.Parts.{stops, stops_at}
+use Rattle.typed_expressions.specs.Answers.{Gives}
+use Rattle.typed_expressions.specs.Scopes.{Scope}
+use Rattle.typed_expressions.specs.Signatures.{Called}
+use Rattle.typed_expressions.specs.TypedExpressions.{closed_findings, elaborate}
+use Rattle.typed_expressions.specs.Values.{condition}
+use Rattle.typed_expressions.specs.declared.demands.Demand.{Demand}
+use Rattle.typed_expressions.specs.declared.stops.ResolveStop.{ResolveStop}
 
 -- The next statement is one that is left.
 pub block_at : (h : Setting) (called : Called) (bound : Bool) (ws : List VarInfo) (k : ℕ) (wsc : Scope) (xs : List Stmt) (acts : Acts) (vs : List VarInfo) (m : ℕ) (sc : Scope) (i : ℕ) (x : Stmt) → BlockRead h called bound ws k wsc (block xs) acts vs m sc (block (drop i xs)) → i < length xs → x ≡ get_or xs i x → BlockRead h called bound ws k wsc (block xs) acts vs m sc (Block.next (statement x) (block (drop (i + 1) xs)))

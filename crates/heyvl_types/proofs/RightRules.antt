@@ -8,15 +8,9 @@ use Rattle.heyvl_syntax.specs.declared.expressions.Expr.{Expr}
 use Rattle.heyvl_syntax.specs.declared.statements.Right.TheVariants as rights
 use Rattle.heyvl_syntax.specs.declared.statements.Right.{Right}
 use Rattle.heyvl_syntax.specs.declared.types.TypeName.{TypeName}
-use Rattle.heyvl_types.specs.Answers.{Gives}
-use Rattle.heyvl_types.specs.Findings.{Finding, at}
 use Rattle.heyvl_types.specs.RightSides.{ValueType, any_argument_mismatches, any_output_mismatches, call_counts_wrong, call_mismatches, first_mismatches, has_over_zero, is_of_other_direction, is_quantified, join_types, join_with, literal_wrong, mismatches, right_findings, right_rules, type_of_choices, type_of_expression}
-use Rattle.heyvl_types.specs.Scopes.{Scope}
-use Rattle.heyvl_types.specs.Signatures.{Called, Signature, find_call}
 use Rattle.heyvl_types.specs.StatementActs.{assigned}
-use Rattle.heyvl_types.specs.Table.{given}
 use Rattle.heyvl_types.specs.declared.right_sides.Targets.{Targets}
-use Rattle.heyvl_types.specs.declared.stops.ResolveStop.{ResolveStop}
 use Rattle.heyvl_types.specs.internal.RightSideParts.{join_all, join_more, types_of, types_of_choices}
 use Rattle.heyvl_types.specs.internal.RightSideRules.{any_mismatches, arguments_mismatch, call_rules, counts_differ, value_rules}
 use Rattle.std.proofs.Common.{Bool, List, None, Option, Result, Some, Vec, [], ap, ap₂, false, length, not, refl, subst, sym, ◌++◌, ◌&&◌, ◌==◌, ◌∙◌, ◌||◌, ◌≡◌, ◌∷◌, ℕ}
@@ -24,6 +18,12 @@ use Rattle.std.proofs.Math.Bool.{or-false}
 use Rattle.std.proofs.lemmas.List.{length-map}
 use Rattle.std.specs.Option.{is_none}
 use Rattle.std.specs.declared.alloc.Global.{Global}
+use Rattle.typed_expressions.specs.Answers.{Gives}
+use Rattle.typed_expressions.specs.Findings.{Finding, at}
+use Rattle.typed_expressions.specs.Scopes.{Scope}
+use Rattle.typed_expressions.specs.Signatures.{Called, Signature, find_call}
+use Rattle.typed_expressions.specs.Table.{given}
+use Rattle.typed_expressions.specs.declared.stops.ResolveStop.{ResolveStop}
 
 -- An answer only depends on what is found.
 pub gives_same : {A B : Type 0} (v : A → B) (r : Result A ResolveStop) (xs ys : List Finding) (b : B) → ys ≡ xs → Gives v r xs b → Gives v r ys b

@@ -6,13 +6,14 @@ use Rattle.heyvl_syntax.specs.Statements as text
 use Rattle.heyvl_types.proofs.Havocs.{join_assoc}
 use Rattle.heyvl_acts.specs.Acts.{Acts, Arms, Variable, join}
 use Rattle.heyvl_acts.specs.PlainActs.{armed, variable_of}
-use Rattle.heyvl_types.specs.Scopes.{Scope}
-use Rattle.heyvl_types.specs.Signatures.{Called}
-use Rattle.heyvl_types.specs.StatementActs.{arms_acts, block_acts, condition, loops, loops_of_arms, loops_of_block, statement_acts}
+use Rattle.typed_expressions.specs.Scopes.{Scope}
+use Rattle.typed_expressions.specs.Signatures.{Called}
+use Rattle.heyvl_types.specs.StatementActs.{arms_acts, block_acts, loops, loops_of_arms, loops_of_block, statement_acts}
+use Rattle.typed_expressions.specs.Values.{condition}
 use Rattle.heyvl_types.specs.StatementRules.{arms_bind, arms_findings, block_binds, block_findings, statement_findings}
-use Rattle.heyvl_types.specs.TypedExpressions.{closed_findings, elaborate}
+use Rattle.typed_expressions.specs.TypedExpressions.{closed_findings, elaborate}
 use Rattle.heyvl_types.specs.Variables.{behind, locals, locals_of_arms, locals_of_block}
-use Rattle.heyvl_types.specs.declared.demands.Demand.{Demand}
+use Rattle.typed_expressions.specs.declared.demands.Demand.{Demand}
 use Rattle.heyvl_types.specs.declared.settings.Setting.{Setting}
 use Rattle.heyvl_acts.specs.declared.typed_trees.VarInfo.{VarInfo}
 use Rattle.std.proofs.Common.{Bool, List, [], ap, append_assoc, arith, length, map, refl, sym, take, ◌++◌, ◌+◌, ◌||◌, ◌∙◌, ◌≡◌, ◌∷◌, ℕ}

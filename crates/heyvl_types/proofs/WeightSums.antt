@@ -6,8 +6,8 @@ use Rattle.heyvl_places.specs.declared.spans.Span.{Span}
 use Rattle.heyvl_syntax.specs.Expressions.{Expression}
 use Rattle.heyvl_syntax.specs.declared.literals.Lit.{Lit}
 use Rattle.heyvl_syntax.specs.declared.operators.BinaryOp.{BinaryOp}
-use Rattle.heyvl_types.proofs.LiteralFractions.{is_small_from, narrow_parts}
-use Rattle.heyvl_types.specs.Literals.{is_too_wide, is_written, is_zero_literal, literal_quotient, literal_value, weight, weight_of_quotient, weight_of_value, weight_value}
+use Rattle.heyvl_types.proofs.WeightFractions.{is_small_from, narrow_parts}
+use Rattle.heyvl_types.specs.Literals.{is_too_wide, literal_quotient, weight, weight_of_quotient, weight_of_value, weight_value}
 use Rattle.heyvl_types.specs.declared.weights.Weight.TheVariants.{NotLiteral, OverZero, TooWide, Value}
 use Rattle.heyvl_types.specs.declared.weights.Weight.{Weight}
 use Rattle.std.proofs.Common.{Bool, None, Option, Some, arith, false, pos, refl, true, ◌*◌, ◌<◌, ◌^◌, ◌∙◌, ◌≡◌, ◌≤◌, ℕ, ℤ}
@@ -15,6 +15,7 @@ use Rattle.std.proofs.Math.Nat.{mul-le-mul}
 use Rattle.std.proofs.lemmas.Bool.{and_from}
 use Rattle.std.proofs.lemmas.Int.{ints, unsigned_abs-mul}
 use Rattle.std.specs.Prelude.{if◌then◌else◌, unsigned_abs, ◌&&◌, ◌*ℤ◌, ◌+ℤ◌}
+use Rattle.typed_expressions.specs.LiteralValues.{is_written, is_zero_literal, literal_value}
 
 pub narrow_zero : is_too_wide zeroʳ ≡ false
 unfolding zeroʳ ratio gcd gcd_steps

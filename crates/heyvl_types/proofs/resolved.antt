@@ -1,9 +1,7 @@
 pub mod Findings
 pub mod InOrder
 pub mod Nodes
-pub mod PartTests
 pub mod Quantifiers
-pub mod Free
 pub mod Locals
 pub mod Flips
 pub mod Walk

@@ -9,21 +9,23 @@ use Rattle.heyvl_syntax.specs.Procedures.{Procedure}
 use Rattle.heyvl_syntax.specs.Statements.{Block}
 use Rattle.heyvl_syntax.specs.declared.procedures.Note.{Note}
 use Rattle.heyvl_syntax.specs.declared.procedures.Param.{Param}
-use Rattle.heyvl_types.specs.Findings.{Finding, at, first}
-use Rattle.heyvl_types.specs.Scopes.{Scope, is_visible, with_local}
-use Rattle.heyvl_types.specs.Signatures.{Called, called}
-use Rattle.heyvl_types.specs.StatementActs.{block_acts, form, loops_of_block}
+use Rattle.heyvl_types.specs.StatementActs.{block_acts, loops_of_block}
 use Rattle.heyvl_types.specs.StatementRules.{block_findings}
-use Rattle.heyvl_types.specs.Table.{declarable}
-use Rattle.heyvl_types.specs.TypedExpressions.{closed_findings, elaborate, findings, has_quantifier}
-use Rattle.heyvl_types.specs.Variables.{behind_parameters, front_variables, fronts_variables, locals_of_body, parameters}
-use Rattle.heyvl_types.specs.declared.demands.Demand.{Demand}
-use Rattle.heyvl_types.specs.declared.demands.Front.{Front}
+use Rattle.heyvl_types.specs.Variables.{behind_parameters, locals_of_body, parameters}
 use Rattle.heyvl_types.specs.declared.settings.Setting.{Setting}
 use Rattle.std.specs.List.{list_any}
 use Rattle.std.specs.Option.{is_none}
 use Rattle.std.specs.Prelude.{Bool, List, None, Option, Some, [], false, length, map, nat_lt, not, suc, true, ◌&&◌, ◌++◌, ◌+◌, ◌||◌, ◌∷◌, ℕ}
 use Rattle.std.specs.Str.{bytes_eq}
+use Rattle.typed_expressions.specs.DeclaredVariables.{front_variables, fronts_variables}
+use Rattle.typed_expressions.specs.Findings.{Finding, at, first}
+use Rattle.typed_expressions.specs.Scopes.{Scope, is_visible, with_local}
+use Rattle.typed_expressions.specs.Signatures.{Called, called}
+use Rattle.typed_expressions.specs.Table.{declarable}
+use Rattle.typed_expressions.specs.TypedExpressions.{closed_findings, elaborate, findings, has_quantifier}
+use Rattle.typed_expressions.specs.Values.{form}
+use Rattle.typed_expressions.specs.declared.demands.Demand.{Demand}
+use Rattle.typed_expressions.specs.declared.demands.Front.{Front}
 
 -- ---- A procedure's head
 

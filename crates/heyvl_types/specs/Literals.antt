@@ -1,7 +1,6 @@
 -- Number literals where a static rule asks for one: whole numbers, integer literals, weights, numbers of copies. A weight is a
 -- literal, or one divided by another; this profile is the project's own.
 use Rattle.heyvl_num.specs.Rational.{Rational, leqʳ, oneʳ, ratio, zeroʳ, ◌+ʳ◌}
-use Rattle.heyvl_num.specs.Value.{is_zero_num}
 use Rattle.heyvl_syntax.specs.Expressions.{Expression}
 use Rattle.heyvl_syntax.specs.declared.literals.Lit.{Lit}
 use Rattle.heyvl_syntax.specs.declared.operators.BinaryOp.{BinaryOp}
@@ -10,27 +9,12 @@ use Rattle.heyvl_types.specs.declared.weights.Weight.TheVariants.{NotLiteral, Ov
 use Rattle.heyvl_types.specs.declared.weights.Weight.{Weight}
 use Rattle.std.specs.Int.Signed.{le_z}
 use Rattle.std.specs.List.{list_any}
-use Rattle.std.specs.Prelude.{Bool, List, None, Option, Some, [], false, if◌then◌else◌, length, nat_le, nat_lt, neg_ℤ, not, option_map, pos, true, unsigned_abs, ◌&&◌, ◌*ℤ◌, ◌*◌, ◌-ℤ◌, ◌==◌, ◌^◌, ◌||◌, ◌∷◌, ℤ, ℕ}
-
--- Whether the literal is one that a text can write.
-abbrev pub is_written : Lit → Bool
-is_written n = le_z (pos 0) n.digits && nat_le n.places 38
-
--- The number that a literal writes.
-unfoldable pub literal_value : Lit → Rational
-literal_value n = ratio n.digits (10 ^ n.places)
-
--- One divided by what a literal writes that isn't 0.
-unfoldable pub inverse_value : Lit → Rational
-inverse_value n = ratio (pos (10 ^ n.places)) (unsigned_abs n.digits)
+use Rattle.std.specs.Prelude.{Bool, List, None, Option, Some, [], false, if◌then◌else◌, length, nat_lt, neg_ℤ, not, option_map, pos, true, unsigned_abs, ◌&&◌, ◌*ℤ◌, ◌*◌, ◌-ℤ◌, ◌==◌, ◌^◌, ◌||◌, ◌∷◌, ℤ, ℕ}
+use Rattle.typed_expressions.specs.LiteralValues.{is_written, literal_value, is_zero_literal}
 
 -- The whole number that a literal writes, where it writes one.
 abbrev pub whole_value : Lit → Option ℤ
 whole_value n = if is_written n && ((literal_value n).den == 1) then Some (literal_value n).num else None
-
--- Whether the literal writes 0.
-abbrev pub is_zero_literal : Lit → Bool
-is_zero_literal n = is_zero_num n.digits
 
 -- One literal divided by another.
 unfoldable pub literal_quotient : Lit → Lit → Rational

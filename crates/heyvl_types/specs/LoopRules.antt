@@ -1,15 +1,15 @@
 -- What stands before a loop, and the rules that a loop breaks because of it.
 use Rattle.heyvl_syntax.specs.Expressions.{Expression}
 use Rattle.heyvl_syntax.specs.Statements.{LoopRule}
-use Rattle.heyvl_types.specs.Findings.{Finding}
 use Rattle.heyvl_types.specs.Literals.{copies, is_over_zero, is_step, weight}
 use Rattle.heyvl_types.specs.RightSides.{weight_findings}
-use Rattle.heyvl_types.specs.Scopes.{Scope}
-use Rattle.heyvl_types.specs.TypedExpressions.{closed_findings, elaborate, lacks}
-use Rattle.heyvl_types.specs.declared.demands.Demand.{Demand}
 use Rattle.std.specs.List.{list_any}
 use Rattle.std.specs.Option.{is_none}
 use Rattle.std.specs.Prelude.{Bool, List, [], false, not, true, ◌++◌, ◌+◌, ◌==◌, ◌∷◌, ℕ, nat_le, ◌&&◌}
+use Rattle.typed_expressions.specs.Findings.{Finding}
+use Rattle.typed_expressions.specs.Scopes.{Scope}
+use Rattle.typed_expressions.specs.TypedExpressions.{closed_findings, elaborate, lacks}
+use Rattle.typed_expressions.specs.declared.demands.Demand.{Demand}
 
 -- What is found in the parts of a rule, and of rules in their order.
 abbrev pub rule_findings : ℕ → Scope → LoopRule → List Finding

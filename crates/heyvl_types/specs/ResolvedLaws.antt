@@ -4,11 +4,11 @@ use Rattle.heyvl_acts.specs.PlainActs.{procedures_of}
 use Rattle.heyvl_acts.specs.Rules.{Each, IsCounted, MeetsAllRules, MeetsRules}
 use Rattle.heyvl_acts.specs.declared.typed_trees.Typed.{Typed}
 use Rattle.heyvl_syntax.specs.Procedures.{Procedure}
-use Rattle.heyvl_types.specs.Answers.{Gives}
 use Rattle.heyvl_types.specs.ArmedFiles.{HasArms}
 use Rattle.heyvl_types.specs.Files.{file_findings, resolved}
-use Rattle.heyvl_types.specs.declared.stops.ResolveStop.{ResolveStop}
 use Rattle.std.specs.Prelude.{Err, IfOk, List, Ok, Result, [], length, ⊤, ◌≡◌, ◌≤◌}
+use Rattle.typed_expressions.specs.Answers.{Gives}
+use Rattle.typed_expressions.specs.declared.stops.ResolveStop.{ResolveStop}
 
 -- In a file in which nothing is found, each typed procedure meets the static rules.
 abbrev pub ResolvedProceduresMeetRules : Type 0

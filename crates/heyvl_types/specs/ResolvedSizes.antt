@@ -4,8 +4,8 @@ use Rattle.heyvl_acts.specs.Rules.{Each}
 use Rattle.heyvl_syntax.specs.Procedures.{Procedure}
 use Rattle.heyvl_syntax.specs.Sizes.{nodes_of_procedure}
 use Rattle.heyvl_types.specs.Files.{file_findings, typed}
-use Rattle.heyvl_types.specs.Signatures.{called}
 use Rattle.std.specs.Prelude.{List, [], ◌*◌, ◌+◌, ◌≡◌}
+use Rattle.typed_expressions.specs.Signatures.{called}
 
 -- In a file in which nothing is found, each form and condition of a typed procedure has at most twice as many nodes as the
 -- procedure's expressions, and 64 more.

@@ -6,18 +6,18 @@ use Rattle.heylo_formula.specs.Typing.{NumberType, is_finite_type, join, widens}
 use Rattle.heyvl_syntax.specs.Expressions.{Expression}
 use Rattle.heyvl_syntax.specs.Statements.{RightSide}
 use Rattle.heyvl_syntax.specs.declared.types.TypeName.{TypeName}
-use Rattle.heyvl_types.specs.Findings.{Finding}
 use Rattle.heyvl_types.specs.Literals.{ends_wrong, integer, is_negative, is_over_zero, is_probability, is_weight_literal, weigh_wrong, weight}
-use Rattle.heyvl_types.specs.Scopes.{Scope}
-use Rattle.heyvl_types.specs.Signatures.{Called, Signature, find_call}
-use Rattle.heyvl_types.specs.StatementActs.{form}
-use Rattle.heyvl_types.specs.Table.{Meaning, given}
-use Rattle.heyvl_types.specs.TypedExpressions.{closed_findings, elaborate}
-use Rattle.heyvl_types.specs.declared.demands.Demand.{Demand}
 use Rattle.heyvl_types.specs.declared.weights.Weight.{Weight}
 use Rattle.std.specs.List.{list_any}
 use Rattle.std.specs.Option.{is_none}
 use Rattle.std.specs.Prelude.{Bool, List, None, Option, Some, [], false, if◌then◌else◌, length, map, not, option_map, true, ◌&&◌, ◌++◌, ◌==◌, ◌||◌, ◌∷◌, ℕ}
+use Rattle.typed_expressions.specs.Findings.{Finding}
+use Rattle.typed_expressions.specs.Scopes.{Scope}
+use Rattle.typed_expressions.specs.Signatures.{Called, Signature, find_call}
+use Rattle.typed_expressions.specs.Table.{Meaning, given}
+use Rattle.typed_expressions.specs.TypedExpressions.{closed_findings, elaborate}
+use Rattle.typed_expressions.specs.Values.{form}
+use Rattle.typed_expressions.specs.declared.demands.Demand.{Demand}
 
 -- ---- Parts
 

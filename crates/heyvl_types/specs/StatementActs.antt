@@ -1,5 +1,5 @@
 -- The acts that statements become. All of this is total: where something is found against a statement, its act is some act.
-use Rattle.heylo_formula.specs.Formula.{Cond, Form, Term}
+use Rattle.heylo_formula.specs.Formula.{Form, Term}
 use Rattle.heylo_formula.specs.declared.types.Ty.{Ty}
 use Rattle.heyvl_num.specs.Rational.{Rational, ratio}
 use Rattle.heyvl_num.specs.Value.Value.{finite, infinite}
@@ -11,41 +11,18 @@ use Rattle.heyvl_syntax.specs.declared.types.TypeName.{TypeName}
 use Rattle.heyvl_acts.specs.Acts.{Act, Acts, Arms, join}
 use Rattle.heyvl_acts.specs.Tosses.{flip_parts}
 use Rattle.heyvl_types.specs.Literals.{copies, integer, is_weight_literal, weight, weight_value}
-use Rattle.heyvl_types.specs.Scopes.{Scope, find, numbers}
-use Rattle.heyvl_types.specs.Signatures.{Called, Signature, find_call}
-use Rattle.heyvl_types.specs.Table.{Meaning, declarable}
-use Rattle.heyvl_types.specs.TypedExpressions.{elaborate}
-use Rattle.heyvl_types.specs.Variables.{behind, locals, locals_of_arms, locals_of_block, type_or_bool}
-use Rattle.heyvl_types.specs.declared.scopes.Local.{Local}
+use Rattle.typed_expressions.specs.Scopes.{Scope, find, numbers}
+use Rattle.typed_expressions.specs.Signatures.{Called, Signature, find_call}
+use Rattle.typed_expressions.specs.Table.{declarable}
+use Rattle.typed_expressions.specs.TypedExpressions.{elaborate}
+use Rattle.heyvl_types.specs.Variables.{behind, locals, locals_of_arms, locals_of_block}
+use Rattle.typed_expressions.specs.DeclaredVariables.{type_or_bool}
+use Rattle.typed_expressions.specs.declared.scopes.Local.{Local}
 use Rattle.heyvl_types.specs.declared.settings.Setting.{Setting}
 use Rattle.std.specs.Prelude.{Bool, List, None, Option, Some, [], false, length, map, pos, suc, true, unsigned_abs, zero, ◌+ℤ◌, ◌+◌, ◌-ℤ◌, ◌∷◌, ℤ, ℕ}
+use Rattle.typed_expressions.specs.Values.{condition, form, term, terms}
 
--- ---- Values
-
--- The condition that an expression becomes; some condition where it becomes none.
-abbrev pub condition : Option Meaning → Cond
-condition (Some (Meaning.truth g)) = g
-condition (Some (Meaning.number t a)) = Cond.constant false
-condition (Some Meaning.real) = Cond.constant false
-condition None = Cond.constant false
-
--- The form that an expression becomes; some form where it becomes none.
-abbrev pub form : Option Meaning → Form
-form (Some (Meaning.truth g)) = Form.number infinite
-form (Some (Meaning.number t a)) = a
-form (Some Meaning.real) = Form.number infinite
-form None = Form.number infinite
-
--- The term that an expression becomes, which is a condition or a form; some term where it becomes none.
-abbrev pub term : Option Meaning → Term
-term (Some (Meaning.truth g)) = Term.truth g
-term (Some (Meaning.number t a)) = Term.number a
-term (Some Meaning.real) = Term.number (Form.number infinite)
-term None = Term.number (Form.number infinite)
-
--- The terms that expressions become, in their order.
-abbrev pub terms : ℕ → Scope → List Expression → List Term
-terms n sc es = map (λ e. term (elaborate n sc e)) es
+-- ---- Targets
 
 -- The number of a visible variable; 0 for a name that isn't visible.
 abbrev pub number_or_zero : Option Local → ℕ

@@ -3,27 +3,19 @@ use Rattle.heylo_formula.specs.Operators.{agree}
 use Rattle.heyvl_places.specs.declared.checks.CheckKind.{CheckKind}
 use Rattle.heyvl_syntax.specs.Statements.{Arms, Block, RightSide, Statement}
 use Rattle.heyvl_syntax.specs.declared.types.TypeName.{TypeName}
-use Rattle.heyvl_types.specs.Findings.{Finding, at}
 use Rattle.heyvl_types.specs.LoopRules.{loop_rules, rules_findings}
 use Rattle.heyvl_types.specs.RightSides.{right_findings, right_rules}
-use Rattle.heyvl_types.specs.Scopes.{Scope, any_input, any_unknown, is_visible, types_of_names}
-use Rattle.heyvl_types.specs.Signatures.{Called}
-use Rattle.heyvl_types.specs.Table.{declarable}
-use Rattle.heyvl_types.specs.TypedExpressions.{closed_findings}
 use Rattle.heyvl_types.specs.Variables.{behind, locals, locals_of_arms, locals_of_block}
-use Rattle.heyvl_types.specs.declared.demands.Demand.{Demand}
 use Rattle.heyvl_types.specs.declared.settings.Setting.{Setting}
-use Rattle.std.specs.List.{list_any}
 use Rattle.std.specs.Option.{is_none}
 use Rattle.std.specs.Prelude.{Bool, List, None, Option, Some, [], false, length, not, true, ◌&&◌, ◌++◌, ◌+◌, ◌||◌, ◌∷◌, ℕ}
-use Rattle.std.specs.Str.{bytes_eq}
-
--- ---- Names
-
--- Whether a name stands among these twice.
-abbrev pub any_twice : List (List ℕ) → Bool
-any_twice [] = false
-any_twice (x ∷ xs) = list_any (bytes_eq x) xs || any_twice xs
+use Rattle.typed_expressions.specs.Findings.{Finding, at}
+use Rattle.typed_expressions.specs.Names.{any_twice}
+use Rattle.typed_expressions.specs.Scopes.{Scope, any_input, any_unknown, is_visible, types_of_names}
+use Rattle.typed_expressions.specs.Signatures.{Called}
+use Rattle.typed_expressions.specs.Table.{declarable}
+use Rattle.typed_expressions.specs.TypedExpressions.{closed_findings}
+use Rattle.typed_expressions.specs.declared.demands.Demand.{Demand}
 
 -- ---- What stands in blocks
 

@@ -5,4 +5,3 @@ pub mod LoopHeads
 pub mod RightSideRules
 pub mod ProcedureParts
 pub mod Views
-pub mod Looks

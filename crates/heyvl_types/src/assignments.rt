@@ -3,30 +3,28 @@
 ghost use Rattle.heyvl_acts.specs.Acts.Act.{any};
 ghost use Rattle.heyvl_acts.specs.PlainActs.{act_of};
 ghost use Rattle.heyvl_syntax.specs.Statements.{optional_right, right_side};
-ghost use Rattle.heyvl_types.specs.Answers.{Gives};
-ghost use Rattle.heyvl_types.specs.Findings.{at};
 ghost use Rattle.heyvl_types.specs.RightSides.{right_findings};
-ghost use Rattle.heyvl_types.specs.Scopes.{any_input, any_unknown, is_visible, types_of_names};
 ghost use Rattle.heyvl_types.specs.StatementActs.{assigned, declared_act, number_or_zero, targets};
-ghost use Rattle.heyvl_types.specs.StatementRules.{any_twice, assign_rules, value_findings, var_rules};
-ghost use Rattle.heyvl_types.specs.Table.{declarable};
-ghost use Rattle.heyvl_types.specs.Variables.{type_or_bool};
+ghost use Rattle.heyvl_types.specs.StatementRules.{assign_rules, value_findings, var_rules};
 ghost use Rattle.std.specs.Option.{is_none};
 ghost use Rattle.std.specs.Prelude.{◌++◌, ◌≡◌, ◌∷◌, [], IfOk, Some, false, option_map};
+ghost use Rattle.typed_expressions.specs.Answers.{Gives};
+ghost use Rattle.typed_expressions.specs.DeclaredVariables.{type_or_bool};
+ghost use Rattle.typed_expressions.specs.Findings.{at};
+ghost use Rattle.typed_expressions.specs.Names.{any_twice};
+ghost use Rattle.typed_expressions.specs.Scopes.{any_input, any_unknown, is_visible, types_of_names};
+ghost use Rattle.typed_expressions.specs.Table.{declarable};
 
-use crate::calls::Calls;
-use crate::names::{any_input, any_twice, any_unknown};
-use crate::operators::declarable;
 use crate::right_sides::{Targets, read_right};
-use crate::rules::told;
-use crate::scopes::{Local, Scope};
 use crate::settings::Setting;
-use crate::stops::ResolveStop;
 use heylo_formula::Ty;
 use heyvl_acts::Act;
 use heyvl_places::{Name, Span};
 use heyvl_syntax::{Right, TypeName};
 use std::alloc::{AllocError, Global};
+use typed_expressions::{
+    Calls, Local, ResolveStop, Scope, any_input, any_twice, any_unknown, declarable, told,
+};
 
 /// The number of a visible variable; 0 for a name that isn't visible.
 fn number_or_zero(local: Option<Local>) -> u32

@@ -3,31 +3,27 @@
 ghost use Rattle.heyvl_acts.specs.PlainActs.{arm_of, variable_of};
 ghost use Rattle.heyvl_syntax.specs.Expressions.{expression};
 ghost use Rattle.heyvl_syntax.specs.Statements.{arms, block, statement};
-ghost use Rattle.heyvl_types.specs.Answers.{Gives};
 ghost use Rattle.heyvl_types.specs.internal.Views.{acts_view, arms_view};
-ghost use Rattle.heyvl_types.specs.StatementActs.{arms_acts, block_acts, condition, loops as loops_of, loops_of_arms, loops_of_block, statement_acts};
+ghost use Rattle.heyvl_types.specs.StatementActs.{arms_acts, block_acts, loops as loops_of, loops_of_arms, loops_of_block, statement_acts};
 ghost use Rattle.heyvl_types.specs.StatementRules.{arms_findings, block_findings, statement_findings};
-ghost use Rattle.heyvl_types.specs.TypedExpressions.{closed_findings, elaborate};
 ghost use Rattle.heyvl_types.specs.Variables.{behind, locals, locals_of_arms, locals_of_block};
 ghost use Rattle.std.specs.Prelude.{◌++◌, ◌+◌, ◌<◌, ◌^◌, ◌≡◌, OnOk, length, map, take};
+ghost use Rattle.typed_expressions.specs.Answers.{Gives};
+ghost use Rattle.typed_expressions.specs.TypedExpressions.{closed_findings, elaborate};
+ghost use Rattle.typed_expressions.specs.Values.{condition};
 
 use crate::bindings::{binding_arms, binding_statements, block_binds};
-use crate::calls::Calls;
-use crate::demands::Demand;
-use crate::expressions::{after, read};
 use crate::loops::{close_loop, read_head};
-use crate::scopes::Scope;
 use crate::settings::Setting;
 use crate::statements::{
     next_number, read_check, read_declaration, read_havoc, read_reward, read_targets,
     read_validate, single,
 };
-use crate::stops::ResolveStop;
-use crate::values::condition;
 use heylo_formula::Cond;
 use heyvl_acts::{Act, VarInfo};
 use heyvl_syntax::{Arm, Stmt};
 use std::alloc::Global;
+use typed_expressions::{Calls, Demand, ResolveStop, Scope, after, condition, read};
 
 /// What an arm becomes, or the first fault in it.
 #[cycle(reading)]

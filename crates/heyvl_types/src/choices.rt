@@ -3,8 +3,7 @@
 ghost use Rattle.heyvl_num.specs.Rational.{leqʳ, oneʳ, zeroʳ, ◌+ʳ◌};
 ghost use Rattle.heyvl_syntax.specs.Expressions.{expression};
 ghost use Rattle.heyvl_syntax.specs.Statements.{choices};
-ghost use Rattle.heyvl_types.specs.Answers.{Gives};
-ghost use Rattle.heyvl_types.specs.internal.Looks.{TellsFirst};
+ghost use Rattle.typed_expressions.specs.Answers.{Gives, TellsFirst};
 ghost use Rattle.heyvl_types.specs.Literals.{is_over_zero, is_too_wide, is_usable, sums_wrong, weigh_wrong};
 ghost use Rattle.heyvl_types.specs.RightSides.{choices_findings, weight_findings, weights};
 ghost use Rattle.heyvl_types.specs.StatementActs.{choose_parts};
@@ -12,10 +11,6 @@ ghost use Rattle.heyvl_types.specs.internal.RightSideParts.{choices_of, types_of
 ghost use Rattle.std.specs.List.{list_any};
 ghost use Rattle.std.specs.Prelude.{◌&&◌, ◌≡◌, None, Some, false, if◌then◌else◌, not};
 
-use crate::demands::Demand;
-use crate::expressions::read;
-use crate::scopes::Scope;
-use crate::stops::ResolveStop;
 use crate::typed_values::{Value, read_value};
 use crate::value_types::ValueType;
 use crate::weights::{
@@ -26,6 +21,7 @@ use heylo_formula::Term;
 use heyvl_num::Frac;
 use heyvl_syntax::Expr;
 use std::alloc::Global;
+use typed_expressions::{Demand, ResolveStop, Scope, read};
 
 /// Values with their weights in their order, and beside them the types of the values.
 #[derive(Drop)]

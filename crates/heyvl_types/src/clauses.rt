@@ -2,25 +2,22 @@
 
 ghost use Rattle.heylo_formula.specs.PlainTrees.{form_of};
 ghost use Rattle.heyvl_syntax.specs.Expressions.{expression, expressions};
-ghost use Rattle.heyvl_types.specs.Answers.{Gives};
-ghost use Rattle.heyvl_types.specs.internal.Views.{meaning_of};
+ghost use Rattle.typed_expressions.specs.Answers.{Gives};
+ghost use Rattle.typed_expressions.specs.Views.{meaning_of};
 ghost use Rattle.heyvl_types.specs.Files.{clause, front_of, joined_with, post_forms, posts_findings, pre_forms, pres_findings};
-ghost use Rattle.heyvl_types.specs.StatementActs.{form};
+ghost use Rattle.typed_expressions.specs.Values.{form};
 ghost use Rattle.heyvl_types.specs.internal.Clauses.{joined_behind};
-ghost use Rattle.heyvl_types.specs.TypedExpressions.{closed_findings, elaborate, findings};
-ghost use Rattle.heyvl_types.specs.Variables.{front_variables, fronts_variables};
+ghost use Rattle.typed_expressions.specs.TypedExpressions.{closed_findings, elaborate, findings};
+ghost use Rattle.typed_expressions.specs.DeclaredVariables.{front_variables, fronts_variables};
 ghost use Rattle.std.specs.Prelude.{◌+◌, ◌<◌, ◌^◌, ◌≡◌, ◌∷◌, [], IfOk, OnOk, length, map, option_map};
 
-use crate::demands::{Demand, Front};
-use crate::expressions::{read, read_front};
 use crate::fronts::behind_front;
-use crate::meanings::Meaning;
-use crate::operators::{endless, nothing};
-use crate::scopes::Scope;
-use crate::stops::ResolveStop;
 use heylo_formula::Form;
 use heyvl_syntax::Expr;
 use std::alloc::{AllocError, Global};
+use typed_expressions::{
+    Demand, Front, Meaning, ResolveStop, Scope, endless, nothing, read, read_front,
+};
 
 /// The form of an expression; some form where it has none, which is a fault.
 fn form(meaning: Meaning) -> Form

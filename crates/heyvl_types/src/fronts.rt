@@ -2,8 +2,8 @@
 
 ghost use Rattle.heyvl_acts.specs.PlainActs.{variable_of};
 ghost use Rattle.heyvl_syntax.specs.Expressions.{expression, expressions};
-ghost use Rattle.heyvl_types.specs.Variables.{front_variables, fronts_variables};
 ghost use Rattle.std.specs.Prelude.{◌++◌, ◌+◌, ◌<◌, ◌^◌, ◌≡◌, OnOk, length, map};
+ghost use Rattle.typed_expressions.specs.DeclaredVariables.{front_variables, fronts_variables};
 
 use crate::parameters::declared;
 use heyvl_acts::VarInfo;

@@ -7,8 +7,8 @@ ghost use Rattle.heyvl_types.specs.Literals.{copies, ends_wrong, integer, is_neg
 ghost use Rattle.std.specs.Int.Signed.{le_z};
 ghost use Rattle.std.specs.Prelude.{◌&&◌, ◌-ℤ◌, ◌<◌, ◌^◌, ◌≡◌, IfSome, pos, true, unsigned_abs};
 
-use crate::literals::{literal_value, number};
 use heyvl_syntax::{Expr, Lit, UnaryOp};
+use typed_expressions::{literal_value, number};
 
 /// The most copies that a loop's body may have.
 const MAX_COPIES: i128 = 16;

@@ -1,14 +1,7 @@
 //! Laws of typed trees. Each function does nothing: its contract is the law.
 
-ghost use Rattle.heyvl_types.specs.ExpressionLaws as expressions;
 ghost use Rattle.heyvl_types.specs.ResolvedLaws as trees;
 ghost use Rattle.heyvl_types.specs.ResolvedSizes as sizes;
-
-/// What an expression becomes is well typed for the types of its scope and has its type, and it has at most twice as many
-/// nodes as the expression.
-pub fn expressions_are_typed()
-    ensures { expressions.ExpressionsAreTyped }
-{}
 
 /// In a file in which nothing is found, each typed procedure meets the static rules. A typed file that holds the typed procedures
 /// of such a file meets all of them, where each If has an arm, there are at most 1,024 procedures and its numbers are in range.

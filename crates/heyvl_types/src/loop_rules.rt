@@ -5,28 +5,21 @@ ghost use Rattle.heylo_formula.specs.PlainTrees.{cond_of, form_of};
 ghost use Rattle.heyvl_num.specs.Value.Value.{infinite};
 ghost use Rattle.heyvl_syntax.specs.Statements.{LoopRule, loop_rule, loop_rules};
 ghost use Rattle.heyvl_acts.specs.Acts.{Act as Plain};
-ghost use Rattle.heyvl_types.specs.Answers.{Gives};
-ghost use Rattle.heyvl_types.specs.internal.Looks.{TellsFirst};
-ghost use Rattle.heyvl_types.specs.internal.Views.{acts_view, meaning_of, read};
-ghost use Rattle.heyvl_types.specs.Findings.{at};
+ghost use Rattle.typed_expressions.specs.Answers.{Gives, TellsFirst};
+ghost use Rattle.heyvl_types.specs.internal.Views.{acts_view};
+ghost use Rattle.typed_expressions.specs.Views.{meaning_of, read};
+ghost use Rattle.typed_expressions.specs.Findings.{at};
 ghost use Rattle.heyvl_types.specs.LoopRules.{copies_wrong, count_of_rankings, formula, is_ranking, rule_findings, rules_findings, rules_wrong, step_wrong, steps_over_zero};
 ghost use Rattle.heyvl_acts.specs.PlainActs.{act_of};
-ghost use Rattle.heyvl_types.specs.Scopes.{Scope as Visible, numbers};
+ghost use Rattle.typed_expressions.specs.Scopes.{Scope as Visible, numbers};
 ghost use Rattle.heyvl_types.specs.StatementActs.{copies_of};
-ghost use Rattle.heyvl_types.specs.TypedExpressions.{elaborate};
+ghost use Rattle.typed_expressions.specs.TypedExpressions.{elaborate};
 ghost use Rattle.heyvl_types.specs.internal.LoopHeads.{found_of, found_with, or_invariant, rules_found};
 ghost use Rattle.std.specs.List.{list_any};
 ghost use Rattle.std.specs.Prelude.{◌&&◌, ◌≡◌, ◌∷◌, [], IfOk, List, Some, not, ℕ};
 
 use crate::choices::read_weight;
-use crate::demands::Demand;
-use crate::expressions::{meets, read};
 use crate::integers::copies;
-use crate::meanings::Meaning;
-use crate::rules::told;
-use crate::scopes::Scope;
-use crate::stops::ResolveStop;
-use crate::values::form;
 use crate::weights::{is_over_zero, is_step, weight_of, weight_value};
 use heylo_formula::{Cond, Form};
 use heyvl_acts::{Act, LoopAct};
@@ -34,6 +27,7 @@ use heyvl_num::{Ext, Frac};
 use heyvl_places::Span;
 use heyvl_syntax::Rule;
 use std::alloc::{AllocError, Global};
+use typed_expressions::{Demand, Meaning, ResolveStop, Scope, form, meets, read, told};
 
 /// What the rules before a loop give it.
 #[derive(Drop)]

@@ -4,31 +4,28 @@ ghost use Rattle.heylo_formula.specs.PlainTrees.{cond_of};
 ghost use Rattle.heyvl_syntax.specs.Expressions.{expression};
 ghost use Rattle.heyvl_syntax.specs.Statements.{block, loop_rules};
 ghost use Rattle.heyvl_acts.specs.Acts.{Act as Plain, Acts};
-ghost use Rattle.heyvl_types.specs.Answers.{Gives};
+ghost use Rattle.typed_expressions.specs.Answers.{Gives};
 ghost use Rattle.heyvl_types.specs.internal.Views.{acts_view};
-ghost use Rattle.heyvl_types.specs.Findings.{at};
+ghost use Rattle.typed_expressions.specs.Findings.{at};
 ghost use Rattle.heyvl_types.specs.LoopRules.{copies_wrong, is_ranking, rules_findings, rules_wrong, step_wrong, steps_over_zero};
-ghost use Rattle.heyvl_types.specs.Scopes.{numbers};
-ghost use Rattle.heyvl_types.specs.StatementActs.{condition, copies_of};
+ghost use Rattle.typed_expressions.specs.Scopes.{numbers};
+ghost use Rattle.heyvl_types.specs.StatementActs.{copies_of};
+ghost use Rattle.typed_expressions.specs.Values.{condition};
 ghost use Rattle.heyvl_types.specs.StatementRules.{block_is_rankable};
-ghost use Rattle.heyvl_types.specs.TypedExpressions.{closed_findings, elaborate};
+ghost use Rattle.typed_expressions.specs.TypedExpressions.{closed_findings, elaborate};
 ghost use Rattle.heyvl_types.specs.internal.LoopHeads.{found_of, head_of, rules_found};
 ghost use Rattle.std.specs.List.{list_any};
 ghost use Rattle.std.specs.Prelude.{◌&&◌, ◌++◌, ◌<◌, ◌^◌, ◌∷◌, [], length, not};
 
 use crate::bindings::block_is_rankable;
-use crate::demands::Demand;
-use crate::expressions::read;
 use crate::loop_rules::{Found, loop_act, read_rules, told_of_loop};
-use crate::scopes::Scope;
 use crate::statements::{next_number, single};
-use crate::stops::ResolveStop;
-use crate::values::condition;
 use heylo_formula::Cond;
 use heyvl_acts::{Act, VarInfo};
 use heyvl_places::Span;
 use heyvl_syntax::{Expr, Rule, Stmt};
 use std::alloc::Global;
+use typed_expressions::{Demand, ResolveStop, Scope, condition, read};
 
 /// What the rules and the guard of a loop become, or the first fault in them.
 pub(crate) fn read_head(

@@ -1,24 +1,22 @@
 //! Parameters: the variables that a procedure's head declares.
 
-ghost use Rattle.heyvl_types.specs.Answers.{Gives};
-ghost use Rattle.heyvl_types.specs.internal.Looks.{TellsFirst};
+ghost use Rattle.typed_expressions.specs.Answers.{Gives, TellsFirst};
 ghost use Rattle.heyvl_types.specs.Files.{parameters_findings};
-ghost use Rattle.heyvl_types.specs.Findings.{at};
+ghost use Rattle.typed_expressions.specs.Findings.{at};
 ghost use Rattle.heyvl_acts.specs.PlainActs.{variable_of};
-ghost use Rattle.heyvl_types.specs.Scopes.{is_visible, with_local};
-ghost use Rattle.heyvl_types.specs.Table.{declarable};
-ghost use Rattle.heyvl_types.specs.Variables.{behind_parameters, declared, parameters};
+ghost use Rattle.typed_expressions.specs.Scopes.{is_visible, with_local};
+ghost use Rattle.typed_expressions.specs.Table.{declarable};
+ghost use Rattle.heyvl_types.specs.Variables.{behind_parameters, parameters};
+ghost use Rattle.typed_expressions.specs.DeclaredVariables.{declared};
 ghost use Rattle.std.specs.Option.{is_none};
 ghost use Rattle.std.specs.Prelude.{◌++◌, ◌+◌, ◌<◌, ◌^◌, ◌≡◌, ◌∷◌, [], IfOk, OnOk, length, map, suc};
 
-use crate::operators::declarable;
-use crate::scopes::{Local, Scope};
-use crate::stops::ResolveStop;
 use heylo_formula::Ty;
 use heyvl_acts::VarInfo;
 use heyvl_places::Name;
 use heyvl_syntax::{Param, TypeName};
 use std::alloc::{AllocError, Global};
+use typed_expressions::{Local, ResolveStop, Scope, declarable};
 
 /// The variable of a declaration: where its type is none that a variable may have, which is a fault, of some type.
 pub(crate) fn declared(alloc: Global, name: &Name, ty: TypeName) -> Result<VarInfo, AllocError>

@@ -2,37 +2,32 @@
 
 ghost use Rattle.heyvl_syntax.specs.Expressions.{expression, expressions};
 ghost use Rattle.heyvl_syntax.specs.Statements.{RightSide, choices, right_side};
-ghost use Rattle.heyvl_types.specs.Answers.{Gives};
-ghost use Rattle.heyvl_types.specs.internal.Views.{value_type, signature_of};
-ghost use Rattle.heyvl_types.specs.Findings.{at};
+ghost use Rattle.typed_expressions.specs.Answers.{Gives};
+ghost use Rattle.heyvl_types.specs.internal.Views.{value_type};
+ghost use Rattle.typed_expressions.specs.Views.{signature_of};
+ghost use Rattle.typed_expressions.specs.Findings.{at};
 ghost use Rattle.heyvl_acts.specs.Acts.{Act as Plain};
 ghost use Rattle.heyvl_acts.specs.PlainActs.{act_of, parts_of};
 ghost use Rattle.heyvl_acts.specs.Tosses.{flip_parts};
 ghost use Rattle.heylo_formula.specs.NumericVariables.{has_variable};
 ghost use Rattle.heyvl_types.specs.Literals.{ends_wrong, is_over_zero, is_probability, weight, weight_value};
 ghost use Rattle.heyvl_types.specs.RightSides.{ValueType as Types, any_output_mismatches, first_mismatches, flip_type, has_over_zero, literal_wrong, right_findings, right_rules, right_type, type_of_expression};
-ghost use Rattle.heyvl_types.specs.Signatures.{find_call};
-ghost use Rattle.heyvl_types.specs.StatementActs.{assigned, callee, first_or_zero, form, unif_parts};
-ghost use Rattle.heyvl_types.specs.TypedExpressions.{closed_findings, elaborate};
+ghost use Rattle.typed_expressions.specs.Signatures.{find_call};
+ghost use Rattle.heyvl_types.specs.StatementActs.{assigned, callee, first_or_zero, unif_parts};
+ghost use Rattle.typed_expressions.specs.Values.{form};
+ghost use Rattle.typed_expressions.specs.TypedExpressions.{closed_findings, elaborate};
 ghost use Rattle.heyvl_types.specs.internal.RightSideParts.{join_all, types_of, types_of_choices};
 ghost use Rattle.heyvl_types.specs.internal.RightSideRules.{any_mismatches, call_rules, value_rules};
 ghost use Rattle.std.specs.Prelude.{◌++◌, ◌<◌, ◌^◌, ◌≡◌, [], IfOk, IfSome, Some, false, map, not, option_map, unsigned_abs};
 
-use crate::calls::{Calls, Signature};
 use crate::choices::{Choices, any_over_zero, read_choices, weigh_wrong};
-use crate::demands::Demand;
 use crate::draws::{flip_parts, unif_parts};
-use crate::expressions::read;
 use crate::integers::{ends_wrong, integer, is_negative};
-use crate::rules::told;
-use crate::scopes::Scope;
-use crate::stops::ResolveStop;
 use crate::typed_values::{Values, join_all, read_value, read_values};
 use crate::value_types::{
     ValueType, mismatches, mismatches_target, toss_type, type_of_integers, type_of_meaning,
     type_of_name,
 };
-use crate::values::form;
 use crate::weights::{is_over_zero, is_probability, is_weight_literal, weight_of, weight_value};
 use heylo_formula::Term;
 use heyvl_acts::Act;
@@ -40,6 +35,7 @@ use heyvl_num::Frac;
 use heyvl_places::{Name, Span};
 use heyvl_syntax::{Expr, Right, TypeName};
 use std::alloc::{AllocError, Global};
+use typed_expressions::{Calls, Demand, ResolveStop, Scope, Signature, form, read, told};
 
 /// The variables that a statement gives its right side to, with what its rules ask of them.
 #[derive(Drop)]

@@ -2,24 +2,21 @@
 
 ghost use Rattle.heylo_formula.specs.PlainTrees.{term_of};
 ghost use Rattle.heyvl_syntax.specs.Expressions.{expression, expressions};
-ghost use Rattle.heyvl_types.specs.Answers.{Gives};
-ghost use Rattle.heyvl_types.specs.internal.Views.{meaning_of, value_type};
+ghost use Rattle.typed_expressions.specs.Answers.{Gives};
+ghost use Rattle.heyvl_types.specs.internal.Views.{value_type};
+ghost use Rattle.typed_expressions.specs.Views.{meaning_of};
 ghost use Rattle.heyvl_types.specs.RightSides.{all_findings, type_of_expression};
-ghost use Rattle.heyvl_types.specs.StatementActs.{term, terms};
-ghost use Rattle.heyvl_types.specs.TypedExpressions.{closed_findings, elaborate};
+ghost use Rattle.typed_expressions.specs.Values.{term, terms};
+ghost use Rattle.typed_expressions.specs.TypedExpressions.{closed_findings, elaborate};
 ghost use Rattle.heyvl_types.specs.internal.RightSideParts.{join_all, join_more, types_of, value_of, values_of};
 ghost use Rattle.std.specs.Prelude.{◌≡◌, ◌∷◌, [], Some, map, option_map};
 
-use crate::demands::Demand;
-use crate::expressions::read;
-use crate::meanings::Meaning;
-use crate::scopes::Scope;
-use crate::stops::ResolveStop;
 use crate::value_types::{ValueType, join_types, type_of_meaning};
 use heylo_formula::{Form, Term};
 use heyvl_num::Ext;
 use heyvl_syntax::Expr;
 use std::alloc::Global;
+use typed_expressions::{Demand, Meaning, ResolveStop, Scope, read};
 
 /// A value, with its type where a variable may have it.
 #[derive(Drop)]

@@ -1,14 +1,13 @@
 //! The types of values that may be given to variables.
 
-ghost use Rattle.heyvl_types.specs.internal.Views.{meaning_of, value_type};
+ghost use Rattle.heyvl_types.specs.internal.Views.{value_type};
+ghost use Rattle.typed_expressions.specs.Views.{meaning_of, kind_of};
 ghost use Rattle.heyvl_types.specs.RightSides.{flip_type, join_types, mismatches, mismatches_target, type_of_integers, type_of_meaning, type_of_name, value_widens_to};
-ghost use Rattle.heyvl_types.specs.internal.Views.{kind_of};
 ghost use Rattle.heylo_formula.specs.Typing.{is_finite_type, widens};
 ghost use Rattle.std.specs.Prelude.{◌≡◌, ◌&&◌, Some, false, option_map};
 
-use crate::meanings::{Kind, Meaning};
-use crate::operators::joined;
 use heyvl_syntax::TypeName;
+use typed_expressions::{Kind, Meaning, joined};
 
 /// The type of a value that may be given to a variable.
 #[derive(Clone, Copy, Debug, PartialEq, Eq)]

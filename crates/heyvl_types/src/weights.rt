@@ -4,13 +4,14 @@ ghost use Rattle.heyvl_num.specs.Rational.{leqʳ, oneʳ, ratio, zeroʳ, ◌*ʳ�
 ghost use Rattle.heyvl_places.specs.declared.spans.Span.{Span as Place};
 ghost use Rattle.heyvl_syntax.specs.Expressions.{Expression, expression};
 ghost use Rattle.heyvl_syntax.specs.declared.operators.BinaryOp.{BinaryOp as Operator};
-ghost use Rattle.heyvl_types.specs.Literals.{is_over_zero, is_probability, is_step, is_too_wide, is_usable, is_weight_literal, is_written, literal_value, weight, weight_of_quotient, weight_of_value, weight_value};
+ghost use Rattle.heyvl_types.specs.Literals.{is_over_zero, is_probability, is_step, is_too_wide, is_usable, is_weight_literal, weight, weight_of_quotient, weight_of_value, weight_value};
 ghost use Rattle.std.specs.Int.Signed.{le_z};
 ghost use Rattle.std.specs.Prelude.{◌&&◌, ◌≡◌, false, if◌then◌else◌, pos, true, unsigned_abs};
+ghost use Rattle.typed_expressions.specs.LiteralValues.{is_written, literal_value};
 
-use crate::literals::{inverse, literal_value, number};
 use heyvl_num::Frac;
 use heyvl_syntax::{BinaryOp, Expr, Lit};
+use typed_expressions::{inverse, literal_value, number};
 
 /// What an expression is as a weight.
 #[derive(Clone, Copy, Debug)]

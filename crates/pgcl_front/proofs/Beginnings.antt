@@ -16,12 +16,14 @@ use Rattle.heyvl_syntax.specs.Procedures.{Procedure}
 use Rattle.heyvl_syntax.specs.Statements.{Statement}
 use Rattle.heyvl_syntax.specs.Statements as heyvl
 use Rattle.heyvl_types.specs.Files.{setting}
-use Rattle.heyvl_types.specs.Scopes.{Scope}
-use Rattle.heyvl_types.specs.Signatures.{Called}
-use Rattle.heyvl_types.specs.StatementActs.{block_acts, number_or_zero, term}
+use Rattle.typed_expressions.specs.Scopes.{Scope}
+use Rattle.typed_expressions.specs.Signatures.{Called}
+use Rattle.heyvl_types.specs.StatementActs.{block_acts, number_or_zero}
+use Rattle.typed_expressions.specs.Values.{term}
 use Rattle.heyvl_types.specs.StatementRules.{block_findings}
-use Rattle.heyvl_types.specs.Table.{declarable, variable}
-use Rattle.heyvl_types.specs.Variables.{parameters, type_or_bool}
+use Rattle.typed_expressions.specs.Table.{declarable, variable}
+use Rattle.heyvl_types.specs.Variables.{parameters}
+use Rattle.typed_expressions.specs.DeclaredVariables.{type_or_bool}
 use Rattle.guarded_commands.specs.Translation.{input, output, start, type_name}
 use Rattle.guarded_commands.specs.declared.programs.Declaration.{Declaration}
 use Rattle.guarded_commands.specs.declared.programs.VariableType.TheVariants as types

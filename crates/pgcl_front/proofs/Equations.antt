@@ -9,7 +9,7 @@ use Rattle.heyvl_num.specs.Value.Value.{finite}
 use Rattle.heyvl_num.specs.Value.{Value, ◌*ᵛ◌, ◌+ᵛ◌}
 use Rattle.heyvl_num.specs.WeightedSums.{scaled, weighted_sum}
 use Rattle.heyvl_acts.specs.Acts.{TypedProcedure}
-use Rattle.heyvl_types.specs.Scopes.{Scope}
+use Rattle.typed_expressions.specs.Scopes.{Scope}
 use Rattle.run_machine.proofs.exported.Equations.{one_times, worth-spread}
 use Rattle.run_machine.specs.Configurations.{Config, Outcomes}
 use Rattle.run_machine.specs.Runs.{runs}

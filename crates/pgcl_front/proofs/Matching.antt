@@ -11,7 +11,7 @@ use Rattle.heyvl_acts.specs.Acts.{Act, Acts, Arms, Head, TypedProcedure, join}
 use Rattle.heyvl_acts.specs.Tosses.{flip_parts}
 use Rattle.heyvl_places.specs.declared.spans.Span.{Span}
 use Rattle.heyvl_syntax.specs.Expressions.{Expression}
-use Rattle.heyvl_types.specs.Scopes.{Scope}
+use Rattle.typed_expressions.specs.Scopes.{Scope}
 use Rattle.guarded_commands.specs.Programs.{BlockTree, CommandTree}
 use Rattle.run_machine.specs.Configurations.{Config, Item}
 use Rattle.run_machine.specs.Step.{Decision, branches, step_act}

@@ -19,11 +19,11 @@ use Rattle.heyvl_syntax.specs.declared.operators.BinaryOp.TheVariants as ops
 use Rattle.heyvl_syntax.specs.declared.operators.BinaryOp.{BinaryOp}
 use Rattle.heyvl_syntax.specs.declared.operators.UnaryOp.TheVariants as prefixes
 use Rattle.heyvl_syntax.specs.declared.operators.UnaryOp.{UnaryOp}
-use Rattle.heyvl_types.specs.Literals.{is_written, literal_value}
-use Rattle.heyvl_types.specs.Scopes.{Scope, find}
-use Rattle.heyvl_types.specs.StatementActs.{condition, form, term}
-use Rattle.heyvl_types.specs.Table.{Meaning, binary, bracket, choice, comparison, conegation, divisor, embedding, extended, factor, given, joined_numbers, literal, minus, negation, negative, nought, numbers, quotient, selected, truths, unary, variable}
-use Rattle.heyvl_types.specs.TypedExpressions.{elaborate, operated}
+use Rattle.typed_expressions.specs.LiteralValues.{is_written, literal_value}
+use Rattle.typed_expressions.specs.Scopes.{Scope, find}
+use Rattle.typed_expressions.specs.Values.{condition, form, term}
+use Rattle.typed_expressions.specs.Table.{Meaning, binary, bracket, choice, comparison, conegation, divisor, embedding, extended, factor, given, joined_numbers, literal, minus, negation, negative, nought, numbers, quotient, selected, truths, unary, variable}
+use Rattle.typed_expressions.specs.TypedExpressions.{elaborate, operated}
 use Rattle.std.proofs.Common.{Bool, List, None, Option, Some, ap, ap₂, false, refl, subst, true, ◌≡◌, ℕ}
 use Rattle.std.specs.Prelude.{if◌then◌else◌, not, option_map, ◌&&◌, ◌==◌, ◌||◌}
 

@@ -14,15 +14,16 @@ use Rattle.heyvl_syntax.specs.Expressions.{Expression}
 use Rattle.heyvl_syntax.specs.declared.literals.Lit.{Lit}
 use Rattle.heyvl_syntax.specs.declared.operators.BinaryOp.TheVariants as ops
 use Rattle.heyvl_syntax.specs.declared.operators.BinaryOp.{BinaryOp}
-use Rattle.heyvl_types.specs.Literals.{inverse_value, is_over_zero, is_probability, is_too_wide, is_weight_literal, is_written, is_zero_literal, literal_quotient, literal_value, weight, weight_of_quotient, weight_of_value, weight_value}
-use Rattle.heyvl_types.specs.Scopes.{Scope}
-use Rattle.heyvl_types.specs.StatementActs.{form}
-use Rattle.heyvl_types.specs.Table.{Meaning, quotient}
-use Rattle.heyvl_types.specs.TypedExpressions.{elaborate}
+use Rattle.heyvl_types.specs.Literals.{is_over_zero, is_probability, is_too_wide, is_weight_literal, literal_quotient, weight, weight_of_quotient, weight_of_value, weight_value}
 use Rattle.std.proofs.Common.{Bool, ap, arith, false, inl, inr, negsuc, pos, refl, suc, true, zero, ◌+◌, ◌<◌, ◌^◌, ◌∙◌, ◌≡◌, ◌≤◌, ◌⊎◌, ℕ, ℤ}
 use Rattle.std.proofs.Math.Nat.{pow-suc}
 use Rattle.std.proofs.lemmas.Bool.{and_parts}
 use Rattle.std.specs.Prelude.{if◌then◌else◌, unsigned_abs, ◌&&◌, ◌==◌}
+use Rattle.typed_expressions.specs.LiteralValues.{inverse_value, is_written, is_zero_literal, literal_value}
+use Rattle.typed_expressions.specs.Scopes.{Scope}
+use Rattle.typed_expressions.specs.Table.{Meaning, quotient}
+use Rattle.typed_expressions.specs.TypedExpressions.{elaborate}
+use Rattle.typed_expressions.specs.Values.{form}
 
 -- What holds of a choice holds of the side that is chosen.
 chosen : {A : Type 0} (P : A → Type 0) (b : Bool) (x y : A) → P (if b then x else y) → ((b ≡ true) × P x) ⊎ ((b ≡ false) × P y)

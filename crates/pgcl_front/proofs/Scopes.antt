@@ -11,9 +11,9 @@ use Rattle.heyvl_syntax.specs.declared.tokens.TokenKind.TheVariants as kinds
 use Rattle.heyvl_syntax.specs.declared.types.TypeName.TheVariants as names
 use Rattle.heyvl_syntax.specs.declared.types.TypeName.{TypeName}
 use Rattle.heyvl_types.specs.Files.{parameters_findings}
-use Rattle.heyvl_types.specs.Findings.{at}
-use Rattle.heyvl_types.specs.Scopes.{Scope, find, is_visible, with_local}
-use Rattle.heyvl_types.specs.Table.{declarable, variable}
+use Rattle.typed_expressions.specs.Findings.{at}
+use Rattle.typed_expressions.specs.Scopes.{Scope, find, is_visible, with_local}
+use Rattle.typed_expressions.specs.Table.{declarable, variable}
 use Rattle.heyvl_types.specs.Variables.{behind_parameters}
 use Rattle.guarded_commands.specs.ReservedNames.{is_made}
 use Rattle.guarded_commands.specs.Translation.{input, input_name, output, pick_name, type_name}

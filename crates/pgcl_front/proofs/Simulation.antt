@@ -17,7 +17,7 @@ use Rattle.heyvl_num.specs.Value.{Value, ◌+ᵛ◌}
 use Rattle.heyvl_num.specs.WeightedSums.{weighted_sum}
 use Rattle.heyvl_places.specs.declared.spans.Span.{Span}
 use Rattle.heyvl_syntax.specs.Expressions.{Expression}
-use Rattle.heyvl_types.specs.Scopes.{Scope}
+use Rattle.typed_expressions.specs.Scopes.{Scope}
 use Rattle.guarded_commands.specs.Programs.{BlockTree, CommandTree}
 use Rattle.run_machine.proofs.exported.Equations.{push_join, runs-next, runs-zero, worth-one}
 use Rattle.run_machine.specs.Configurations.{Config, Item, push}

@@ -23,15 +23,16 @@ use Rattle.heyvl_syntax.specs.Statements.{RightSide, Statement}
 use Rattle.heyvl_syntax.specs.Statements as heyvl
 use Rattle.heyvl_syntax.specs.declared.types.TypeName.TheVariants as names
 use Rattle.heyvl_types.specs.Files.{setting}
-use Rattle.heyvl_types.specs.Findings.{at}
+use Rattle.typed_expressions.specs.Findings.{at}
 use Rattle.heyvl_types.specs.Literals.{is_probability, is_weight_literal, weight, weight_value}
 use Rattle.heyvl_types.specs.RightSides.{flip_wrong, has_over_zero, literal_wrong}
-use Rattle.heyvl_types.specs.Scopes.{Scope, find, with_local}
-use Rattle.heyvl_types.specs.Signatures.{Called}
-use Rattle.heyvl_types.specs.StatementActs.{block_acts, condition, draw_or_toss, flip_act, form, number_or_zero, term}
+use Rattle.typed_expressions.specs.Scopes.{Scope, find, with_local}
+use Rattle.typed_expressions.specs.Signatures.{Called}
+use Rattle.heyvl_types.specs.StatementActs.{block_acts, draw_or_toss, flip_act, number_or_zero}
+use Rattle.typed_expressions.specs.Values.{condition, form, term}
 use Rattle.heyvl_types.specs.StatementRules.{assign_rules, block_findings, var_rules}
-use Rattle.heyvl_types.specs.Table.{variable}
-use Rattle.heyvl_types.specs.TypedExpressions.{elaborate}
+use Rattle.typed_expressions.specs.Table.{variable}
+use Rattle.typed_expressions.specs.TypedExpressions.{elaborate}
 use Rattle.heyvl_types.specs.Variables.{locals_of_block}
 use Rattle.guarded_commands.specs.Programs.{BlockTree, CommandTree}
 use Rattle.guarded_commands.specs.Translation.{lines, pick_name, picks, picks_in, statements}

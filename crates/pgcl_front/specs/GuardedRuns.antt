@@ -6,7 +6,7 @@ use Rattle.heylo_formula.specs.declared.values.Val.{Val}
 use Rattle.heyvl_num.specs.Value.{Value, zeroᵛ, ◌+ᵛ◌}
 use Rattle.heyvl_num.specs.WeightedSums.{scaled, weighted_sum}
 use Rattle.heyvl_syntax.specs.Expressions.{Expression}
-use Rattle.heyvl_types.specs.Scopes.{Scope}
+use Rattle.typed_expressions.specs.Scopes.{Scope}
 use Rattle.pgcl_front.specs.GuardedSteps.{GuardedConfig, GuardedOutcomes, does, listed, step_command, surely}
 use Rattle.pgcl_front.specs.Readings.{amount, own_scope}
 use Rattle.guarded_commands.specs.Programs.{BlockTree, CommandTree, ProgramTree}

@@ -5,7 +5,7 @@
 use Rattle.heylo_formula.specs.declared.values.Val.{Val}
 use Rattle.heyvl_num.specs.Rational.{Rational, oneʳ, ◌-ʳ◌}
 use Rattle.heyvl_num.specs.Value.{Value, ◌+ᵛ◌}
-use Rattle.heyvl_types.specs.Scopes.{Scope}
+use Rattle.typed_expressions.specs.Scopes.{Scope}
 use Rattle.pgcl_front.specs.Readings.{amount, chance, index_in, is_true, new_value}
 use Rattle.guarded_commands.specs.Programs.{BlockTree, CommandTree}
 use Rattle.run_machine.specs.Step.{Decision, side_of}

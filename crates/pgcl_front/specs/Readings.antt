@@ -10,9 +10,10 @@ use Rattle.heyvl_acts.specs.Tosses.{toss_weight}
 use Rattle.heyvl_num.specs.Rational.{Rational}
 use Rattle.heyvl_num.specs.Value.{Value}
 use Rattle.heyvl_syntax.specs.Expressions.{Expression}
-use Rattle.heyvl_types.specs.Scopes.{Scope, find}
-use Rattle.heyvl_types.specs.StatementActs.{condition, form, number_or_zero, term}
-use Rattle.heyvl_types.specs.TypedExpressions.{elaborate}
+use Rattle.typed_expressions.specs.Scopes.{Scope, find}
+use Rattle.heyvl_types.specs.StatementActs.{number_or_zero}
+use Rattle.typed_expressions.specs.Values.{condition, form, term}
+use Rattle.typed_expressions.specs.TypedExpressions.{elaborate}
 use Rattle.heyvl_types.specs.Variables.{behind_parameters}
 use Rattle.guarded_commands.specs.Translation.{output}
 use Rattle.guarded_commands.specs.declared.programs.Declaration.{Declaration}

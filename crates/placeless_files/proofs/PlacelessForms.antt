@@ -15,15 +15,16 @@ use Rattle.heyvl_syntax.specs.declared.operators.UnaryOp.TheVariants as prefixes
 use Rattle.heyvl_syntax.specs.declared.operators.UnaryOp.{UnaryOp}
 use Rattle.heyvl_syntax.specs.declared.types.TypeName.TheVariants as names
 use Rattle.heyvl_syntax.specs.declared.types.TypeName.{TypeName}
-use Rattle.heyvl_types.specs.Literals.{integer, is_written, literal_value, weight}
-use Rattle.heyvl_types.specs.Scopes.{Scope, find, with_local}
-use Rattle.heyvl_types.specs.StatementActs.{condition, form, term}
-use Rattle.heyvl_types.specs.Table.{Meaning, binary, bound, bracket, choice, comparison, declarable, divisor, embedding, extended, factor, given, joined_numbers, literal, minus, numbers, quantified, quotient, selected, truths, unary, variable, variable_of}
-use Rattle.heyvl_types.specs.TypedExpressions.{elaborate, operated}
+use Rattle.heyvl_types.specs.Literals.{integer, weight}
 use Rattle.run_laws.specs.Bare.{bare_cond, bare_form, bare_term, nowhere}
 use Rattle.std.proofs.Common.{Bool, List, None, Option, Some, [], ap, ap₂, false, refl, suc, true, ◌∙◌, ◌∷◌, ◌≡◌, ℕ}
 use Rattle.std.specs.Prelude.{if◌then◌else◌, option_map, ◌&&◌, ◌==◌}
 use Rattle.std.specs.Str.{bytes_eq}
+use Rattle.typed_expressions.specs.LiteralValues.{is_written, literal_value}
+use Rattle.typed_expressions.specs.Scopes.{Scope, find, with_local}
+use Rattle.typed_expressions.specs.Table.{Meaning, binary, bound, bracket, choice, comparison, declarable, divisor, embedding, extended, factor, given, joined_numbers, literal, minus, numbers, quantified, quotient, selected, truths, unary, variable, variable_of}
+use Rattle.typed_expressions.specs.TypedExpressions.{elaborate, operated}
+use Rattle.typed_expressions.specs.Values.{condition, form, term}
 
 -- ---- What has no places stays
 

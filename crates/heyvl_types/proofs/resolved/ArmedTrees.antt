@@ -9,12 +9,12 @@ use Rattle.heyvl_syntax.specs.declared.types.TypeName.{TypeName}
 use Rattle.heyvl_types.proofs.resolved.Flips.{of_flip}
 use Rattle.heyvl_types.specs.ArmedFiles.{AreArmsArmed, HasArm, IsArmed, IsBlockArmed, IsBodyArmed}
 use Rattle.heyvl_types.specs.Files.{arity, body_acts, head_scope, setting, typed}
-use Rattle.heyvl_types.specs.Scopes.{Scope}
-use Rattle.heyvl_types.specs.Signatures.{Called}
 use Rattle.heyvl_types.specs.StatementActs.{arms_acts, assigned, block_acts, declared_act, first_or_zero, havocs, loops, loops_of_arms, loops_of_block, statement_acts, targets}
 use Rattle.heyvl_types.specs.Variables.{behind, locals, locals_of_arms, locals_of_block}
 use Rattle.heyvl_types.specs.declared.settings.Setting.{Setting}
 use Rattle.std.proofs.Common.{Bool, List, None, Option, Some, [], length, suc, ◌+◌, ◌∷◌, ℕ}
+use Rattle.typed_expressions.specs.Scopes.{Scope}
+use Rattle.typed_expressions.specs.Signatures.{Called}
 
 module _ (h : Setting) (c : Called) where
   assigned_armed : (n : ℕ) (sc : Scope) (xs : List ℕ) (r : RightSide) (s : Span) → IsArmedAct (assigned c n sc xs r s)

@@ -12,18 +12,19 @@ use Rattle.heyvl_types.proofs.resolved.Findings.{all_kept, back_none, front_none
 use Rattle.heyvl_types.proofs.resolved.Flips.{of_flip}
 use Rattle.heyvl_types.proofs.resolved.InOrder.{in_order_join}
 use Rattle.heyvl_types.specs.Files.{body_acts, body_findings}
-use Rattle.heyvl_types.specs.Scopes.{Scope}
-use Rattle.heyvl_types.specs.Signatures.{Called}
-use Rattle.heyvl_types.specs.StatementActs.{arms_acts, assigned, block_acts, declared_act, first_or_zero, form, havocs, loops, loops_of_arms, loops_of_block, statement_acts, targets}
+use Rattle.heyvl_types.specs.StatementActs.{arms_acts, assigned, block_acts, declared_act, first_or_zero, havocs, loops, loops_of_arms, loops_of_block, statement_acts, targets}
 use Rattle.heyvl_types.specs.StatementRules.{arms_bind, arms_findings, binds, binds_value, block_binds, block_findings, check_rules, checks_against, is_call, statement_findings, validate_rules, validates_against}
-use Rattle.heyvl_types.specs.TypedExpressions.{closed_findings, elaborate}
 use Rattle.heyvl_types.specs.Variables.{behind, locals, locals_of_arms, locals_of_block}
-use Rattle.heyvl_types.specs.declared.demands.Demand.{Demand}
 use Rattle.heyvl_types.specs.declared.settings.Setting.{Setting}
 use Rattle.std.proofs.Common.{Bool, List, None, Option, Some, [], append_assoc, false, refl, subst, suc, sym, true, ◌++◌, ◌+◌, ◌≡◌, ◌∷◌, ℕ}
 use Rattle.std.proofs.lemmas.Bool.{or_from, or_parts}
 use Rattle.std.proofs.lemmas.List.{append-nil}
 use Rattle.std.specs.Prelude.{length, not, ◌&&◌, ◌||◌}
+use Rattle.typed_expressions.specs.Scopes.{Scope}
+use Rattle.typed_expressions.specs.Signatures.{Called}
+use Rattle.typed_expressions.specs.TypedExpressions.{closed_findings, elaborate}
+use Rattle.typed_expressions.specs.Values.{form}
+use Rattle.typed_expressions.specs.declared.demands.Demand.{Demand}
 
 none_bind : (xs ys : List Act) → any_binds xs ≡ false → any_binds ys ≡ false → any_binds (xs ++ ys) ≡ false
 none_bind [] ys p q = q

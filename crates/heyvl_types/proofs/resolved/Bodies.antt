@@ -18,13 +18,13 @@ use Rattle.heyvl_types.proofs.resolved.Posts.{plain_post}
 use Rattle.heyvl_types.proofs.resolved.Scopes.{Mirrors, reads_body}
 use Rattle.heyvl_types.proofs.resolved.Walk.{Known, Locally, each_block}
 use Rattle.heyvl_types.specs.Files.{arity, body_acts, body_findings, first_quantified, has_quantified_post, head_scope, input_scope, resolved, setting, typed}
-use Rattle.heyvl_types.specs.Scopes.{numbers}
-use Rattle.heyvl_types.specs.Signatures.{called}
 use Rattle.heyvl_types.specs.Variables.{locals_of_body, parameters}
 use Rattle.std.proofs.Common.{Bool, List, None, Option, Some, [], ap, arith, false, inl, inr, refl, subst, suc, sym, true, zero, ◌++◌, ◌+◌, ◌<◌, ◌==◌, ◌∙◌, ◌≡◌, ◌≤◌, ◌⊎◌, ℕ}
 use Rattle.std.proofs.lemmas.Bool.{cases_lt, le-leb, lt-leb}
 use Rattle.std.proofs.lemmas.List.{length-append}
 use Rattle.std.specs.Prelude.{leb, length, ◌||◌}
+use Rattle.typed_expressions.specs.Scopes.{numbers}
+use Rattle.typed_expressions.specs.Signatures.{called}
 
 -- ---- Numbers in a row
 

@@ -3,19 +3,19 @@ use Rattle.heyvl_acts.specs.Acts.{TypedProcedure, procedure_at}
 use Rattle.heyvl_acts.specs.Rules.{Each}
 use Rattle.heyvl_syntax.specs.Procedures.{Procedure}
 use Rattle.heyvl_syntax.specs.declared.procedures.Param.{Param}
-use Rattle.heyvl_types.proofs.TypedMeanings.{some_is}
 use Rattle.heyvl_types.proofs.resolved.Findings.{all_kept, back_none, front_none}
 use Rattle.heyvl_types.proofs.resolved.Heads.{IsClean}
 use Rattle.heyvl_types.proofs.resolved.InOrder.{each_back}
 use Rattle.heyvl_types.specs.Files.{parameters_findings, typed}
-use Rattle.heyvl_types.specs.Scopes.{Scope, is_visible}
-use Rattle.heyvl_types.specs.Signatures.{Called, Signature, called, find_call, signature, with_signature, with_signatures}
-use Rattle.heyvl_types.specs.Table.{declarable}
 use Rattle.std.proofs.Common.{Bool, List, None, Some, [], ap, append_assoc, arith, false, inl, inr, length, length-append, refl, subst, suc, sym, true, ◌++◌, ◌<◌, ◌∙◌, ◌∷◌, ◌≡◌, ◌⊎◌, ℕ}
 use Rattle.std.proofs.lemmas.List.{length-map}
 use Rattle.std.specs.Option.{is_none}
 use Rattle.std.specs.Prelude.{if◌then◌else◌, map}
 use Rattle.std.specs.Str.{bytes_eq}
+use Rattle.typed_expressions.proofs.exported.TypedMeanings.{some_is}
+use Rattle.typed_expressions.specs.Scopes.{Scope, is_visible}
+use Rattle.typed_expressions.specs.Signatures.{Called, Signature, called, find_call, signature, with_signature, with_signatures}
+use Rattle.typed_expressions.specs.Table.{declarable}
 
 -- The signature is that of a procedure of the file, by its place.
 pub record IsSignature (ps : List Procedure) (t : Signature) : Type 0 where

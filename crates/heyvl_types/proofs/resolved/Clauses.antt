@@ -17,28 +17,29 @@ use Rattle.heyvl_num.specs.Value.Value.{infinite}
 use Rattle.heyvl_num.specs.Value.{zeroᵛ}
 use Rattle.heyvl_syntax.specs.Expressions.{Expression}
 use Rattle.heyvl_syntax.specs.Procedures.{Procedure}
-use Rattle.heyvl_types.proofs.TypedMeanings.{given_some, never, become}
 use Rattle.heyvl_types.proofs.resolved.Findings.{back_none, front_none}
 use Rattle.heyvl_types.proofs.resolved.Formulas.{closed_held, form_over, front_formula}
-use Rattle.heyvl_types.proofs.resolved.Free.{IsBelow}
 use Rattle.heyvl_types.proofs.resolved.Heads.{IsClean, head_agrees, inputs_agree, length_parameters}
 use Rattle.heyvl_types.proofs.resolved.Locals.{Stands, agrees_up}
 use Rattle.heyvl_types.proofs.resolved.Nodes.{own_kept}
 use Rattle.heyvl_types.proofs.resolved.Quantifiers.{IsPlain, becomes_plain, closed_plain}
-use Rattle.heyvl_types.specs.ExpressionLaws.{Agrees}
 use Rattle.heyvl_types.specs.Files.{arity, clause, first_quantified, front_of, head_scope, input_scope, joined_with, post_forms, posts_findings, pre_forms, pres_findings, typed}
-use Rattle.heyvl_types.specs.Scopes.{Scope, with_local}
-use Rattle.heyvl_types.specs.Signatures.{Called}
-use Rattle.heyvl_types.specs.StatementActs.{form}
-use Rattle.heyvl_types.specs.Table.{Meaning, bound, declarable, extended, quantified}
-use Rattle.heyvl_types.specs.TypedExpressions.{allows, closed_findings, elaborate, findings}
-use Rattle.heyvl_types.specs.Variables.{front_variables, parameters}
-use Rattle.heyvl_types.specs.declared.demands.Demand.{Demand}
-use Rattle.heyvl_types.specs.declared.demands.Front.{Front}
+use Rattle.heyvl_types.specs.Variables.{parameters}
 use Rattle.std.proofs.Common.{Bool, List, None, Option, Some, [], arith, false, inl, inr, length, length-append, refl, suc, sym, true, ◌+◌, ◌++◌, ◌<◌, ◌∷◌, ◌≡◌, ◌≤◌, ◌⊎◌, ℕ}
 use Rattle.std.proofs.lemmas.Bool.{and_from, not-false, or_cases, or_from}
 use Rattle.std.proofs.lemmas.List.{append-nil}
 use Rattle.std.specs.Prelude.{not}
+use Rattle.typed_expressions.proofs.exported.Free.{IsBelow}
+use Rattle.typed_expressions.proofs.exported.TypedMeanings.{given_some, never, become}
+use Rattle.typed_expressions.specs.DeclaredVariables.{front_variables}
+use Rattle.typed_expressions.specs.ExpressionLaws.{Agrees}
+use Rattle.typed_expressions.specs.Scopes.{Scope, with_local}
+use Rattle.typed_expressions.specs.Signatures.{Called}
+use Rattle.typed_expressions.specs.Table.{Meaning, bound, declarable, extended, quantified}
+use Rattle.typed_expressions.specs.TypedExpressions.{allows, closed_findings, elaborate, findings}
+use Rattle.typed_expressions.specs.Values.{form}
+use Rattle.typed_expressions.specs.declared.demands.Demand.{Demand}
+use Rattle.typed_expressions.specs.declared.demands.Front.{Front}
 
 -- ---- Joined clauses
 

@@ -12,17 +12,18 @@ use Rattle.heyvl_types.proofs.resolved.Flips.{of_flip}
 use Rattle.heyvl_types.proofs.resolved.Posts.{plain_post}
 use Rattle.heyvl_types.proofs.resolved.Walk.{Alone, Locally}
 use Rattle.heyvl_types.specs.Files.{first_quantified, head_scope}
-use Rattle.heyvl_types.specs.Findings.{at}
 use Rattle.heyvl_types.specs.RightSides.{is_of_other_direction, is_quantified, right_rules}
-use Rattle.heyvl_types.specs.Scopes.{Scope, any_input, any_unknown, is_visible, types_of_names}
-use Rattle.heyvl_types.specs.Signatures.{Called, Signature, find_call}
 use Rattle.heyvl_types.specs.StatementActs.{assigned, callee, declared_act, first_or_zero, havocs, targets}
-use Rattle.heyvl_types.specs.StatementRules.{any_twice, assign_rules, havoc_rules, reward_rules, value_findings, var_rules}
-use Rattle.heyvl_types.specs.Table.{declarable}
+use Rattle.heyvl_types.specs.StatementRules.{assign_rules, havoc_rules, reward_rules, value_findings, var_rules}
 use Rattle.heyvl_types.specs.declared.settings.Setting.{Setting}
 use Rattle.std.proofs.Common.{Bool, List, None, Option, Some, [], ap, false, refl, sym, true, ◌∙◌, ◌≡◌, ◌∷◌, ℕ}
 use Rattle.std.proofs.lemmas.Bool.{not-false, or_parts}
 use Rattle.std.specs.Option.{is_none}
+use Rattle.typed_expressions.specs.Findings.{at}
+use Rattle.typed_expressions.specs.Names.{any_twice}
+use Rattle.typed_expressions.specs.Scopes.{Scope, any_input, any_unknown, is_visible, types_of_names}
+use Rattle.typed_expressions.specs.Signatures.{Called, Signature, find_call}
+use Rattle.typed_expressions.specs.Table.{declarable}
 
 agreed : (a b : Bool) → agree a b ≡ true → b ≡ a
 agreed true b e = e

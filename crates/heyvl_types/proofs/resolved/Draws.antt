@@ -17,24 +17,25 @@ use Rattle.heyvl_num.specs.Value.Value.{finite}
 use Rattle.heyvl_syntax.specs.Expressions.{Expression}
 use Rattle.heyvl_syntax.specs.Statements.{RightSide}
 use Rattle.heyvl_syntax.specs.declared.types.TypeName.{TypeName}
-use Rattle.heyvl_types.proofs.TypedMeanings.{good}
 use Rattle.heyvl_types.proofs.resolved.RightSides.{RightKept}
 use Rattle.heyvl_types.proofs.resolved.Types.{NumberFits, choices_fit, number_fits, truth_fits, value_fits}
 use Rattle.heyvl_types.proofs.resolved.Weights.{probability_small, weight_nonnegative}
-use Rattle.heyvl_types.specs.ExpressionLaws.{Agrees, IsTyped}
 use Rattle.heyvl_types.specs.Literals.{ends_wrong, integer, is_negative, is_probability, is_weight_literal, weight, weight_value}
 use Rattle.heyvl_types.specs.RightSides.{ValueType, flip_wrong, is_probability_type, mismatches, type_of_expression, type_of_meaning}
-use Rattle.heyvl_types.specs.Scopes.{Scope}
-use Rattle.heyvl_types.specs.Signatures.{Called}
-use Rattle.heyvl_types.specs.StatementActs.{choose_parts, form, integer_parts, unif_parts, whole_term}
-use Rattle.heyvl_types.specs.Table.{Meaning, declarable, given}
-use Rattle.heyvl_types.specs.TypedExpressions.{elaborate}
+use Rattle.heyvl_types.specs.StatementActs.{choose_parts, integer_parts, unif_parts, whole_term}
 use Rattle.std.proofs.Common.{Bool, List, None, Option, Some, [], ap, arith, false, negsuc, pos, refl, subst, suc, true, zero, ◌∙◌, ◌∷◌, ◌≡◌, ℕ, ℤ}
 use Rattle.std.proofs.Math.Nat.{div-le_self}
 use Rattle.std.proofs.lemmas.Bool.{le-leb, not-false}
 use Rattle.std.proofs.lemmas.Int.{ints}
 use Rattle.std.specs.Int.Signed.{le_z}
 use Rattle.std.specs.Prelude.{if◌then◌else◌, unsigned_abs, ◌+ℤ◌, ◌-ℤ◌, ◌||◌}
+use Rattle.typed_expressions.proofs.exported.TypedMeanings.{good}
+use Rattle.typed_expressions.specs.ExpressionLaws.{Agrees, IsTyped}
+use Rattle.typed_expressions.specs.Scopes.{Scope}
+use Rattle.typed_expressions.specs.Signatures.{Called}
+use Rattle.typed_expressions.specs.Table.{Meaning, declarable, given}
+use Rattle.typed_expressions.specs.TypedExpressions.{elaborate}
+use Rattle.typed_expressions.specs.Values.{form}
 
 -- ---- Whole numbers
 

@@ -1,9 +1,9 @@
 -- Where nothing is found: nothing in any part of the findings, and each rule is kept.
 use Rattle.heyvl_acts.specs.Rules.{Each}
 use Rattle.heyvl_places.specs.declared.spans.Span.{Span}
-use Rattle.heyvl_types.specs.Findings.{at}
 use Rattle.std.proofs.Common.{Bool, List, [], false, refl, true, ◌∷◌, ◌++◌, ◌≡◌, ℕ}
 use Rattle.std.specs.Prelude.{if◌then◌else◌}
+use Rattle.typed_expressions.specs.Findings.{at}
 
 pub front_none : {A : Type 0} (xs ys : List A) → xs ++ ys ≡ [] → xs ≡ []
 front_none [] ys e = refl

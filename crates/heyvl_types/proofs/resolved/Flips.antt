@@ -6,9 +6,10 @@ use Rattle.heylo_formula.specs.Formula.{Form}
 use Rattle.heyvl_places.specs.declared.spans.Span.{Span}
 use Rattle.heyvl_syntax.specs.Expressions.{Expression}
 use Rattle.heyvl_types.specs.Literals.{is_weight_literal, weight, weight_value}
-use Rattle.heyvl_types.specs.Scopes.{Scope}
-use Rattle.heyvl_types.specs.StatementActs.{draw_or_toss, flip_act, form}
-use Rattle.heyvl_types.specs.TypedExpressions.{elaborate}
+use Rattle.typed_expressions.specs.Scopes.{Scope}
+use Rattle.heyvl_types.specs.StatementActs.{draw_or_toss, flip_act}
+use Rattle.typed_expressions.specs.Values.{form}
+use Rattle.typed_expressions.specs.TypedExpressions.{elaborate}
 use Rattle.std.proofs.Common.{Bool, false, refl, true, ◌≡◌, ℕ}
 
 module _ (P : Act → Type 0) where

@@ -3,18 +3,18 @@ use Rattle.heylo_formula.specs.Typing.{IsFormula, Types, is_well_typed}
 use Rattle.heylo_formula.specs.Variables.{IsOver}
 use Rattle.heylo_formula.specs.Binders.{has_binder}
 use Rattle.heyvl_syntax.specs.Expressions.{Expression}
-use Rattle.heyvl_types.proofs.TypedMeanings.{good}
-use Rattle.heyvl_types.proofs.resolved.Free.{IsBelow, IsOverMeaning, becomes_over}
+use Rattle.typed_expressions.proofs.exported.TypedMeanings.{good}
+use Rattle.typed_expressions.proofs.exported.Free.{IsBelow, IsOverMeaning, becomes_over}
 use Rattle.heyvl_types.proofs.resolved.Nodes.{meeting, node_kept}
 use Rattle.heyvl_types.proofs.resolved.Quantifiers.{IsPlain, becomes_plain, closed_plain}
-use Rattle.heyvl_types.specs.ExpressionLaws.{Agrees, IsTyped}
-use Rattle.heyvl_types.specs.Scopes.{Scope}
-use Rattle.heyvl_types.specs.StatementActs.{condition, form}
-use Rattle.heyvl_types.specs.Table.{Meaning, meets}
-use Rattle.heyvl_types.specs.TypedExpressions.{closed_findings, elaborate, findings, has_quantifier, lacks}
+use Rattle.typed_expressions.specs.ExpressionLaws.{Agrees, IsTyped}
+use Rattle.typed_expressions.specs.Scopes.{Scope}
+use Rattle.typed_expressions.specs.Values.{condition, form}
+use Rattle.typed_expressions.specs.Table.{Meaning, meets}
+use Rattle.typed_expressions.specs.TypedExpressions.{closed_findings, elaborate, findings, has_quantifier, lacks}
 use Rattle.heyvl_acts.specs.WellTypedActs.{IsHeld}
-use Rattle.heyvl_types.specs.declared.demands.Demand.{Demand}
-use Rattle.heyvl_types.specs.declared.demands.Front.{Front}
+use Rattle.typed_expressions.specs.declared.demands.Demand.{Demand}
+use Rattle.typed_expressions.specs.declared.demands.Front.{Front}
 use Rattle.std.proofs.Common.{None, Option, Some, [], false, refl, subst, sym, true, ◌≡◌, ℕ}
 
 -- ---- Meanings

@@ -4,21 +4,21 @@ use Rattle.heyvl_places.specs.declared.spans.Span.{Span}
 use Rattle.heyvl_syntax.specs.Statements.{RightSide, Statement}
 use Rattle.heyvl_syntax.specs.declared.procedures.Param.{Param}
 use Rattle.heyvl_syntax.specs.declared.types.TypeName.{TypeName}
-use Rattle.heyvl_types.proofs.ScopeEntries.{last_local}
 use Rattle.heyvl_types.proofs.resolved.Findings.{all_kept, back_none, front_none}
 use Rattle.heyvl_types.specs.Files.{parameters_findings}
-use Rattle.heyvl_types.specs.Findings.{at}
-use Rattle.heyvl_types.specs.Scopes.{Scope, is_visible, numbers, with_local}
-use Rattle.heyvl_types.specs.Signatures.{Called}
 use Rattle.heyvl_types.specs.StatementRules.{statement_findings, value_findings, var_rules}
-use Rattle.heyvl_types.specs.Table.{declarable}
 use Rattle.heyvl_types.specs.Variables.{behind, behind_parameters, locals}
-use Rattle.heyvl_types.specs.declared.scopes.Local.{Local}
 use Rattle.heyvl_types.specs.declared.settings.Setting.{Setting}
 use Rattle.std.proofs.Common.{Bool, List, None, Option, Some, [], ap, append_assoc, arith, false, refl, subst, suc, sym, zero, ◌++◌, ◌+◌, ◌<◌, ◌∙◌, ◌≡◌, ◌≤◌, ◌∷◌, ℕ}
 use Rattle.std.proofs.lemmas.List.{append-nil}
 use Rattle.std.specs.Option.{is_none}
 use Rattle.std.specs.Prelude.{length}
+use Rattle.typed_expressions.proofs.exported.ScopeEntries.{last_local}
+use Rattle.typed_expressions.specs.Findings.{at}
+use Rattle.typed_expressions.specs.Scopes.{Scope, is_visible, numbers, with_local}
+use Rattle.typed_expressions.specs.Signatures.{Called}
+use Rattle.typed_expressions.specs.Table.{declarable}
+use Rattle.typed_expressions.specs.declared.scopes.Local.{Local}
 
 pub grow_more : (from below more : ℕ) (xs : List ℕ) → GrowBelow from below xs → below ≤ more → GrowBelow from more xs
 grow_more from below more [] g l = tt

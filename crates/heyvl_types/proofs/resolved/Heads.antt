@@ -8,13 +8,8 @@ use Rattle.heyvl_syntax.specs.Procedures.{Procedure}
 use Rattle.heyvl_syntax.specs.declared.procedures.Param.{Param}
 use Rattle.heyvl_types.proofs.resolved.Findings.{all_kept, back_none, front_none}
 use Rattle.heyvl_types.proofs.resolved.Locals.{Stands, agrees_up, agrees_with, declared_at, stands_at, stands_back, stands_front, stands_next}
-use Rattle.heyvl_types.specs.ExpressionLaws.{Agrees}
 use Rattle.heyvl_types.specs.Files.{arity, body_acts, body_findings, first_quantified, front_of, has_quantified_post, head_scope, input_scope, is_too_large, is_wlp, parameters_findings, posts_findings, pres_findings, procedure_findings, procedures_findings, setting, typed}
-use Rattle.heyvl_types.specs.Findings.{at}
-use Rattle.heyvl_types.specs.Scopes.{Scope, is_visible}
-use Rattle.heyvl_types.specs.Signatures.{Called}
-use Rattle.heyvl_types.specs.Table.{declarable}
-use Rattle.heyvl_types.specs.Variables.{behind_parameters, declared, fronts_variables, locals_of_body, parameters}
+use Rattle.heyvl_types.specs.Variables.{behind_parameters, locals_of_body, parameters}
 use Rattle.std.proofs.Common.{Bool, List, [], append_assoc, arith, false, length, length-append, refl, suc, sym, ◌+◌, ◌++◌, ◌∷◌, ◌≡◌, ◌≤◌, ℕ}
 use Rattle.std.proofs.lemmas.Bool.{ltb-false, or_parts}
 use Rattle.std.proofs.lemmas.List.{length-map}
@@ -22,6 +17,12 @@ use Rattle.std.specs.List.{list_any}
 use Rattle.std.specs.Option.{is_none}
 use Rattle.std.specs.Prelude.{nat_lt, ◌&&◌}
 use Rattle.std.specs.Str.{bytes_eq}
+use Rattle.typed_expressions.specs.DeclaredVariables.{declared, fronts_variables}
+use Rattle.typed_expressions.specs.ExpressionLaws.{Agrees}
+use Rattle.typed_expressions.specs.Findings.{at}
+use Rattle.typed_expressions.specs.Scopes.{Scope, is_visible}
+use Rattle.typed_expressions.specs.Signatures.{Called}
+use Rattle.typed_expressions.specs.Table.{declarable}
 
 -- Nothing is found in any part of a procedure.
 pub record IsClean (c : Called) (p : Procedure) : Type 0 where

@@ -3,14 +3,14 @@ use Rattle.heylo_formula.specs.Typing.{types_in}
 use Rattle.heylo_formula.specs.declared.types.Ty.{Ty}
 use Rattle.heyvl_acts.specs.Acts.{Variable, type_list}
 use Rattle.heyvl_syntax.specs.declared.types.TypeName.{TypeName}
-use Rattle.heyvl_types.proofs.TypedMeanings.{found_with}
-use Rattle.heyvl_types.specs.ExpressionLaws.{Agrees}
-use Rattle.heyvl_types.specs.Scopes.{Scope, find, with_local}
-use Rattle.heyvl_types.specs.Table.{declarable}
-use Rattle.heyvl_types.specs.Variables.{declared, type_or_bool}
-use Rattle.heyvl_types.specs.declared.scopes.Local.{Local}
 use Rattle.std.proofs.Common.{List, None, Option, Some, [], ap, append_assoc, arith, false, inl, inr, length, length-append, refl, suc, sym, ◌+◌, ◌++◌, ◌<◌, ◌∙◌, ◌∷◌, ◌≡◌, ◌≤◌, ◌⊎◌, ℕ}
 use Rattle.std.specs.Option.{is_none}
+use Rattle.typed_expressions.proofs.exported.TypedMeanings.{found_with}
+use Rattle.typed_expressions.specs.DeclaredVariables.{declared, type_or_bool}
+use Rattle.typed_expressions.specs.ExpressionLaws.{Agrees}
+use Rattle.typed_expressions.specs.Scopes.{Scope, find, with_local}
+use Rattle.typed_expressions.specs.Table.{declarable}
+use Rattle.typed_expressions.specs.declared.scopes.Local.{Local}
 
 -- The variables stand in the list from this number on.
 pub record Stands (vs : List Variable) (n : ℕ) (ls : List Variable) : Type 0 where

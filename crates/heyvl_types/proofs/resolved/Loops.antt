@@ -17,14 +17,14 @@ use Rattle.heyvl_types.specs.LoopRules.{is_ranking, loop_rules, rules_findings}
 use Rattle.heyvl_acts.specs.Places.{in_order, inside_arms}
 use Rattle.heyvl_acts.specs.Rules.{Each, GrowBelow, LoopsMeet, NothingBindsBehind, RankedBodyIsPlain, is_against, is_rankable}
 use Rattle.heyvl_types.proofs.resolved.Flips.{of_flip}
-use Rattle.heyvl_types.specs.Scopes.{Scope, numbers}
-use Rattle.heyvl_types.specs.Signatures.{Called}
+use Rattle.typed_expressions.specs.Scopes.{Scope, numbers}
+use Rattle.typed_expressions.specs.Signatures.{Called}
 use Rattle.heyvl_types.specs.StatementActs.{arms_acts, assigned, block_acts, copies_of, declared_act, first_or_zero, havocs, loops, loops_of_arms, loops_of_block, number_or_one, ranking_of, statement_acts, targets}
 use Rattle.heyvl_types.specs.StatementRules.{arms_are_rankable, arms_bind, arms_findings, block_binds, block_findings, block_is_rankable, calls_value, check_rules, checks_against, is_call, statement_findings, validate_rules, validates_against}
 use Rattle.heyvl_types.specs.StatementRules as text_rules
-use Rattle.heyvl_types.specs.TypedExpressions.{closed_findings}
+use Rattle.typed_expressions.specs.TypedExpressions.{closed_findings}
 use Rattle.heyvl_types.specs.Variables.{behind, locals, locals_of_arms, locals_of_block}
-use Rattle.heyvl_types.specs.declared.demands.Demand.{Demand}
+use Rattle.typed_expressions.specs.declared.demands.Demand.{Demand}
 use Rattle.heyvl_types.specs.declared.settings.Setting.{Setting}
 use Rattle.std.proofs.Common.{Bool, List, None, Option, Some, [], arith, false, refl, subst, suc, sym, true, ◌++◌, ◌+◌, ◌≡◌, ◌≤◌, ◌∷◌, ℕ, ℤ}
 use Rattle.std.proofs.lemmas.Bool.{and_parts, false_from_ne_true}

@@ -8,21 +8,22 @@ use Rattle.heyvl_acts.specs.Acts.{variables}
 use Rattle.heyvl_acts.specs.Rules.{AreNamed, Each, HasNamedBinders}
 use Rattle.heyvl_syntax.specs.Expressions.{Expression}
 use Rattle.heyvl_syntax.specs.Procedures.{Procedure}
-use Rattle.heyvl_types.proofs.TypedMeanings.{become, given_some, never}
 use Rattle.heyvl_types.proofs.resolved.Clauses.{IsJoined, clause_holds}
 use Rattle.heyvl_types.proofs.resolved.Findings.{back_none, front_none}
 use Rattle.heyvl_types.proofs.resolved.Heads.{IsClean, length_parameters}
 use Rattle.heyvl_types.proofs.resolved.Quantifiers.{IsPlain, becomes_plain, closed_plain}
 use Rattle.heyvl_types.specs.Files.{first_quantified, front_of, head_scope, post_forms, posts_findings, typed}
-use Rattle.heyvl_types.specs.Scopes.{Scope, with_local}
-use Rattle.heyvl_types.specs.Signatures.{Called}
-use Rattle.heyvl_types.specs.StatementActs.{form}
-use Rattle.heyvl_types.specs.Table.{Meaning, bound, declarable, extended, quantified}
-use Rattle.heyvl_types.specs.TypedExpressions.{elaborate, findings}
-use Rattle.heyvl_types.specs.Variables.{front_variables, fronts_variables, locals_of_body, parameters}
-use Rattle.heyvl_types.specs.declared.demands.Demand.{Demand}
-use Rattle.heyvl_types.specs.declared.demands.Front.{Front}
+use Rattle.heyvl_types.specs.Variables.{locals_of_body, parameters}
 use Rattle.std.proofs.Common.{Bool, List, None, Option, Some, [], arith, false, length, length-append, refl, subst, suc, sym, true, ◌+◌, ◌++◌, ◌<◌, ◌∷◌, ◌≡◌, ◌≤◌, ℕ}
+use Rattle.typed_expressions.proofs.exported.TypedMeanings.{become, given_some, never}
+use Rattle.typed_expressions.specs.DeclaredVariables.{front_variables, fronts_variables}
+use Rattle.typed_expressions.specs.Scopes.{Scope, with_local}
+use Rattle.typed_expressions.specs.Signatures.{Called}
+use Rattle.typed_expressions.specs.Table.{Meaning, bound, declarable, extended, quantified}
+use Rattle.typed_expressions.specs.TypedExpressions.{elaborate, findings}
+use Rattle.typed_expressions.specs.Values.{form}
+use Rattle.typed_expressions.specs.declared.demands.Demand.{Demand}
+use Rattle.typed_expressions.specs.declared.demands.Front.{Front}
 
 module _ (k : ℕ) where
   named_both : (xs ys : List Binder) → AreNamed k xs → AreNamed k ys → AreNamed k (xs ++ ys)

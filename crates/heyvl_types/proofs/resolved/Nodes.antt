@@ -1,13 +1,13 @@
 -- The rules of an expression's own node, where nothing is found against the expression.
 use Rattle.heyvl_syntax.specs.Expressions.{Expression}
 use Rattle.heyvl_types.proofs.resolved.Findings.{all_kept, back_none}
-use Rattle.heyvl_types.specs.Scopes.{Scope}
-use Rattle.heyvl_types.specs.Table.{Meaning, meets}
-use Rattle.heyvl_types.specs.TypedExpressions.{divides_wrong, elaborate, findings, is_given_twice, is_misplaced, is_unknown, lacks, own, place}
-use Rattle.heyvl_types.specs.declared.demands.Demand.{Demand}
-use Rattle.heyvl_types.specs.declared.demands.Front.{Front}
 use Rattle.std.proofs.Common.{None, Option, Some, false, refl, true, ◌≡◌, ◌∷◌, [], ℕ}
 use Rattle.std.proofs.lemmas.Bool.{not-false}
+use Rattle.typed_expressions.specs.Scopes.{Scope}
+use Rattle.typed_expressions.specs.Table.{Meaning, meets}
+use Rattle.typed_expressions.specs.TypedExpressions.{divides_wrong, elaborate, findings, is_given_twice, is_misplaced, is_unknown, lacks, own, place}
+use Rattle.typed_expressions.specs.declared.demands.Demand.{Demand}
+use Rattle.typed_expressions.specs.declared.demands.Front.{Front}
 
 -- Each rule of the node is kept.
 pub record NodeKept (f : Front) (d : Demand) (n : ℕ) (sc : Scope) (e : Expression) : Type 0 where

@@ -5,15 +5,15 @@ use Rattle.heyvl_syntax.specs.Expressions.{Expression}
 use Rattle.heyvl_types.proofs.resolved.Clauses.{IsJoined, clause_holds}
 use Rattle.heyvl_types.proofs.resolved.Quantifiers.{IsPlain, becomes_plain}
 use Rattle.heyvl_types.specs.Files.{clause, post_forms}
-use Rattle.heyvl_types.specs.Scopes.{Scope}
-use Rattle.heyvl_types.specs.StatementActs.{form}
-use Rattle.heyvl_types.specs.Table.{Meaning}
-use Rattle.heyvl_types.specs.TypedExpressions.{elaborate, has_quantifier}
-use Rattle.heyvl_types.specs.Variables.{front_variables}
 use Rattle.std.proofs.Common.{Bool, List, None, Option, Some, [], false, refl, ◌+◌, ◌≡◌, ◌∷◌, ℕ}
 use Rattle.std.proofs.lemmas.Bool.{or_from, or_parts}
 use Rattle.std.specs.List.{list_any}
 use Rattle.std.specs.Prelude.{length}
+use Rattle.typed_expressions.specs.DeclaredVariables.{front_variables}
+use Rattle.typed_expressions.specs.Scopes.{Scope}
+use Rattle.typed_expressions.specs.Table.{Meaning}
+use Rattle.typed_expressions.specs.TypedExpressions.{elaborate, has_quantifier}
+use Rattle.typed_expressions.specs.Values.{form}
 
 plain_form : (o : Option Meaning) → ((m : Meaning) → o ≡ Some m → IsPlain m) → has_binder (form o) ≡ false
 plain_form None p = refl

@@ -2,15 +2,15 @@
 use Rattle.heylo_formula.specs.Binders.{has_binder, has_binder_in}
 use Rattle.heyvl_syntax.specs.Expressions.{Expression}
 use Rattle.heyvl_syntax.specs.declared.types.TypeName.{TypeName}
-use Rattle.heyvl_types.proofs.TypedMeanings.{become, given_some, map_some}
+use Rattle.typed_expressions.proofs.exported.TypedMeanings.{become, given_some, map_some}
 use Rattle.heyvl_types.proofs.resolved.Findings.{back_none, front_none}
 use Rattle.heyvl_types.proofs.resolved.Nodes.{own_kept}
-use Rattle.heyvl_types.proofs.resolved.PartTests.{Fails, Spreads, fails_bracket, fails_choice, fails_embedding, fails_literal, fails_operated, fails_unary}
-use Rattle.heyvl_types.specs.Scopes.{Scope, find}
-use Rattle.heyvl_types.specs.Table.{Meaning, bracket, choice, embedding, given, unary, variable, variable_of}
-use Rattle.heyvl_types.specs.TypedExpressions.{closed_findings, elaborate, has_quantifier, operated}
-use Rattle.heyvl_types.specs.declared.demands.Demand.{Demand}
-use Rattle.heyvl_types.specs.declared.demands.Front.{Front}
+use Rattle.typed_expressions.proofs.exported.PartTests.{Fails, Spreads, fails_bracket, fails_choice, fails_embedding, fails_literal, fails_operated, fails_unary}
+use Rattle.typed_expressions.specs.Scopes.{Scope, find}
+use Rattle.typed_expressions.specs.Table.{Meaning, bracket, choice, embedding, given, unary, variable, variable_of}
+use Rattle.typed_expressions.specs.TypedExpressions.{closed_findings, elaborate, has_quantifier, operated}
+use Rattle.typed_expressions.specs.declared.demands.Demand.{Demand}
+use Rattle.typed_expressions.specs.declared.demands.Front.{Front}
 use Rattle.std.proofs.Common.{Some, false, refl, ◌≡◌, [], ℕ}
 use Rattle.std.specs.Prelude.{◌||◌}
 use Rattle.std.proofs.lemmas.Bool.{or_from, or_parts}

@@ -4,10 +4,10 @@ use Rattle.heyvl_places.specs.declared.spans.Span.{Span}
 use Rattle.heyvl_syntax.specs.declared.types.TypeName.{TypeName}
 use Rattle.heyvl_types.proofs.resolved.Findings.{all_kept, back_none}
 use Rattle.heyvl_types.specs.RightSides.{calls_unknown, counts_wrong, has_over_zero, literal_wrong, right_findings, right_mismatches}
-use Rattle.heyvl_types.specs.Scopes.{Scope, any_unknown, types_of_names}
-use Rattle.heyvl_types.specs.Signatures.{Called}
+use Rattle.typed_expressions.specs.Scopes.{Scope, any_unknown, types_of_names}
+use Rattle.typed_expressions.specs.Signatures.{Called}
 use Rattle.heyvl_types.specs.StatementRules.{assign_rules, statement_findings, var_rules}
-use Rattle.heyvl_types.specs.Table.{declarable}
+use Rattle.typed_expressions.specs.Table.{declarable}
 use Rattle.heyvl_syntax.specs.Statements.Statement.{assign, var}
 use Rattle.heyvl_types.specs.declared.settings.Setting.{Setting}
 use Rattle.std.proofs.Common.{Bool, List, Option, Some, [], false, ◌∷◌, ◌≡◌, ℕ}

@@ -14,20 +14,21 @@ use Rattle.heyvl_types.proofs.resolved.Flips.{of_flip}
 use Rattle.heyvl_types.proofs.resolved.Growth.{new_name, numbers_with}
 use Rattle.heyvl_types.proofs.resolved.Sight.{found_among, sees_condition, sees_form, sees_term}
 use Rattle.heyvl_types.specs.Files.{body_acts, body_findings}
-use Rattle.heyvl_types.specs.Findings.{at}
 use Rattle.heyvl_types.specs.Literals.{integer, weight, weight_value}
 use Rattle.heyvl_types.specs.RightSides.{right_findings}
-use Rattle.heyvl_types.specs.Scopes.{Scope, any_unknown, find, is_visible, numbers, types_of_names, with_local}
-use Rattle.heyvl_types.specs.Signatures.{Called}
-use Rattle.heyvl_types.specs.StatementActs.{arms_acts, assigned, block_acts, choose_parts, declared_act, first_or_zero, havocs, integer_parts, invariant_of, loops, loops_of_arms, loops_of_block, number_or_zero, ranking_of, statement_acts, targets, terms, unif_parts}
+use Rattle.heyvl_types.specs.StatementActs.{arms_acts, assigned, block_acts, choose_parts, declared_act, first_or_zero, havocs, integer_parts, invariant_of, loops, loops_of_arms, loops_of_block, number_or_zero, ranking_of, statement_acts, targets, unif_parts}
 use Rattle.heyvl_types.specs.StatementRules.{arms_bind, arms_findings, assign_rules, block_binds, block_findings, havoc_rules, statement_findings, value_findings}
 use Rattle.heyvl_types.specs.Variables.{behind, locals, locals_of_arms, locals_of_block}
-use Rattle.heyvl_types.specs.declared.scopes.Local.{Local}
 use Rattle.heyvl_types.specs.declared.settings.Setting.{Setting}
 use Rattle.std.proofs.Common.{Bool, List, None, Option, Some, [], ap, false, pos, refl, suc, sym, true, zero, ◌++◌, ◌+◌, ◌==◌, ◌∙◌, ◌≡◌, ◌∷◌, ℕ, ℤ}
 use Rattle.std.proofs.lemmas.Bool.{eqb-true, or_parts}
 use Rattle.std.specs.Option.{is_none}
 use Rattle.std.specs.Prelude.{length, not, unsigned_abs, ◌+ℤ◌, ◌-ℤ◌, ◌||◌}
+use Rattle.typed_expressions.specs.Findings.{at}
+use Rattle.typed_expressions.specs.Scopes.{Scope, any_unknown, find, is_visible, numbers, types_of_names, with_local}
+use Rattle.typed_expressions.specs.Signatures.{Called}
+use Rattle.typed_expressions.specs.Values.{terms}
+use Rattle.typed_expressions.specs.declared.scopes.Local.{Local}
 
 -- What is visible is what the scope holds.
 abbrev pub Mirrors : Visible → Scope → Type 0

@@ -2,17 +2,17 @@
 use Rattle.heylo_formula.specs.Variables.{is_free, is_free_in}
 use Rattle.heyvl_acts.specs.Visible.{Sees, SeesCond, SeesTerm, Visible, among}
 use Rattle.heyvl_syntax.specs.Expressions.{Expression}
-use Rattle.heyvl_types.proofs.TypedMeanings.{some_is}
-use Rattle.heyvl_types.proofs.resolved.Free.{IsHidden, IsWithout, becomes_without}
-use Rattle.heyvl_types.specs.Scopes.{Scope, find, numbers}
-use Rattle.heyvl_types.specs.StatementActs.{condition, form, term}
-use Rattle.heyvl_types.specs.Table.{Meaning}
-use Rattle.heyvl_types.specs.TypedExpressions.{elaborate}
-use Rattle.heyvl_types.specs.declared.scopes.Local.{Local}
 use Rattle.std.proofs.Common.{Bool, List, None, Option, Some, [], ap, arith, false, refl, true, ◌==◌, ◌∙◌, ◌≡◌, ◌∷◌, ℕ}
 use Rattle.std.proofs.lemmas.Bool.{ne_eqb, or_left, or_right}
 use Rattle.std.specs.Prelude.{if◌then◌else◌, ◌||◌}
 use Rattle.std.specs.Str.{bytes_eq}
+use Rattle.typed_expressions.proofs.exported.Free.{IsHidden, IsWithout, becomes_without}
+use Rattle.typed_expressions.proofs.exported.TypedMeanings.{some_is}
+use Rattle.typed_expressions.specs.Scopes.{Scope, find, numbers}
+use Rattle.typed_expressions.specs.Table.{Meaning}
+use Rattle.typed_expressions.specs.TypedExpressions.{elaborate}
+use Rattle.typed_expressions.specs.Values.{condition, form, term}
+use Rattle.typed_expressions.specs.declared.scopes.Local.{Local}
 
 same_number : (n : ℕ) → (n == n) ≡ true
 same_number n = grind arith

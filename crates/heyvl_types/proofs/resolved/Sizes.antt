@@ -6,17 +6,18 @@ use Rattle.heyvl_syntax.specs.Expressions.{Expression}
 use Rattle.heyvl_syntax.specs.Sizes.{nodes as expression_nodes, nodes_of_all, nodes_of_right, nodes_of_rule}
 use Rattle.heyvl_syntax.specs.Statements.{LoopRule, RightSide}
 use Rattle.heyvl_places.specs.declared.spans.Span.{Span}
-use Rattle.heyvl_types.proofs.TypedMeanings.{good}
-use Rattle.heyvl_types.specs.ExpressionLaws.{Agrees}
+use Rattle.typed_expressions.proofs.exported.TypedMeanings.{good}
+use Rattle.typed_expressions.specs.ExpressionLaws.{Agrees}
 use Rattle.heyvl_types.specs.Literals.{integer}
 use Rattle.heyvl_acts.specs.FormSizes.{ActWithin, RankWithin}
 use Rattle.heyvl_acts.specs.Rules.{Each}
 use Rattle.heyvl_types.proofs.resolved.Flips.{of_flip}
-use Rattle.heyvl_types.specs.Scopes.{Scope}
-use Rattle.heyvl_types.specs.Signatures.{Called}
-use Rattle.heyvl_types.specs.StatementActs.{assigned, choose_parts, condition, first_or_zero, form, integer_parts, invariant_of, ranking_of, term, terms, unif_parts}
-use Rattle.heyvl_types.specs.Table.{Meaning}
-use Rattle.heyvl_types.specs.TypedExpressions.{elaborate}
+use Rattle.typed_expressions.specs.Scopes.{Scope}
+use Rattle.typed_expressions.specs.Signatures.{Called}
+use Rattle.heyvl_types.specs.StatementActs.{assigned, choose_parts, first_or_zero, integer_parts, invariant_of, ranking_of, unif_parts}
+use Rattle.typed_expressions.specs.Values.{condition, form, term, terms}
+use Rattle.typed_expressions.specs.Table.{Meaning}
+use Rattle.typed_expressions.specs.TypedExpressions.{elaborate}
 use Rattle.std.proofs.Common.{List, None, Option, Some, [], arith, pos, refl, suc, zero, ◌*◌, ◌+◌, ◌≡◌, ◌≤◌, ◌∷◌, ℕ, ℤ}
 use Rattle.std.proofs.lemmas.List.Sums.{sum_by-cons}
 use Rattle.std.specs.List.{sum_by}

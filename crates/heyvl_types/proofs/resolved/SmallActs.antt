@@ -14,14 +14,14 @@ use Rattle.heyvl_types.proofs.resolved.InOrder.{each_both, each_join}
 use Rattle.heyvl_types.proofs.resolved.Locals.{Stands, stands_back, stands_front}
 use Rattle.heyvl_types.proofs.resolved.Sizes.{assigned_small, condition_small, form_small, invariant_small, ranking_small}
 use Rattle.heyvl_types.proofs.resolved.Walk.{Known, known_behind, known_up}
-use Rattle.heyvl_types.specs.Scopes.{Scope}
-use Rattle.heyvl_types.specs.Signatures.{Called}
 use Rattle.heyvl_types.specs.StatementActs.{arms_acts, assigned, block_acts, declared_act, first_or_zero, havocs, loops, loops_of_arms, loops_of_block, statement_acts, targets}
 use Rattle.heyvl_types.specs.StatementRules.{arms_bind, arms_findings, block_binds, block_findings, statement_findings}
 use Rattle.heyvl_types.specs.Variables.{behind, locals, locals_of_arms, locals_of_block}
 use Rattle.heyvl_types.specs.declared.settings.Setting.{Setting}
 use Rattle.std.proofs.Common.{Bool, List, None, Option, Some, [], arith, suc, true, ◌*◌, ◌+◌, ◌≡◌, ◌≤◌, ◌∷◌, ℕ}
 use Rattle.std.specs.Prelude.{length, ◌||◌}
+use Rattle.typed_expressions.specs.Scopes.{Scope}
+use Rattle.typed_expressions.specs.Signatures.{Called}
 
 -- So many nodes are at most twice as many as these, and one more.
 abbrev Holds : ℕ → ℕ → Type 0

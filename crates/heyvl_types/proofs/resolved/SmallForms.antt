@@ -15,15 +15,16 @@ use Rattle.heyvl_types.proofs.resolved.Heads.{IsClean, body_stands, head_agrees,
 use Rattle.heyvl_types.proofs.resolved.Locals.{Stands, agrees_up, stands_front}
 use Rattle.heyvl_types.proofs.resolved.Sizes.{form_small}
 use Rattle.heyvl_types.proofs.resolved.SmallActs.{small_block}
-use Rattle.heyvl_types.specs.ExpressionLaws.{Agrees}
 use Rattle.heyvl_types.specs.Files.{arity, body_acts, body_findings, clause, first_quantified, has_quantified_post, head_scope, input_scope, joined_with, post_forms, pre_forms, setting, typed}
-use Rattle.heyvl_types.specs.Scopes.{Scope}
-use Rattle.heyvl_types.specs.Signatures.{called}
-use Rattle.heyvl_types.specs.Variables.{front_variables, locals_of_body, parameters}
+use Rattle.heyvl_types.specs.Variables.{locals_of_body, parameters}
 use Rattle.std.proofs.Common.{Bool, List, None, Option, Some, [], arith, false, true, ◌*◌, ◌+◌, ◌≡◌, ◌≤◌, ◌∷◌, ℕ}
 use Rattle.std.proofs.lemmas.Bool.{ltb-false, or_parts}
 use Rattle.std.proofs.lemmas.List.Sums.{sum_by-cons}
 use Rattle.std.specs.Prelude.{length}
+use Rattle.typed_expressions.specs.DeclaredVariables.{front_variables}
+use Rattle.typed_expressions.specs.ExpressionLaws.{Agrees}
+use Rattle.typed_expressions.specs.Scopes.{Scope}
+use Rattle.typed_expressions.specs.Signatures.{called}
 
 -- ---- Joined clauses
 

@@ -9,21 +9,21 @@ use Rattle.heyvl_types.proofs.resolved.Findings.{all_kept, back_none}
 use Rattle.heyvl_types.proofs.resolved.Flips.{of_flip}
 use Rattle.heyvl_types.proofs.resolved.Locals.{Stands, stands_within}
 use Rattle.heyvl_types.proofs.resolved.Walk.{Alone, Known, Locally}
-use Rattle.heyvl_types.specs.ExpressionLaws.{Agrees}
 use Rattle.heyvl_types.specs.RightSides.{counts_wrong, right_findings}
-use Rattle.heyvl_types.specs.Scopes.{Scope, any_input, any_unknown, find, is_input, types_of_names}
-use Rattle.heyvl_types.specs.Signatures.{Called}
 use Rattle.heyvl_types.specs.StatementActs.{assigned, declared_act, first_or_zero, havocs, number_or_zero, targets}
 use Rattle.heyvl_types.specs.StatementRules.{assign_rules, havoc_rules}
-use Rattle.heyvl_types.specs.Table.{declarable}
-use Rattle.heyvl_types.specs.Variables.{declared}
-use Rattle.heyvl_types.specs.declared.scopes.Local.{Local}
 use Rattle.heyvl_types.specs.declared.settings.Setting.{Setting}
 use Rattle.std.proofs.Common.{Bool, List, None, Option, Some, [], arith, false, length, refl, suc, ◌==◌, ◌∷◌, ◌≡◌, ◌≤◌, ℕ}
 use Rattle.std.proofs.lemmas.Bool.{eqb-true, ltb-false, not-false, or_parts}
 use Rattle.std.proofs.lemmas.List.{length-map}
 use Rattle.std.specs.Option.{is_none}
 use Rattle.std.specs.Prelude.{not, option_map}
+use Rattle.typed_expressions.specs.DeclaredVariables.{declared}
+use Rattle.typed_expressions.specs.ExpressionLaws.{Agrees}
+use Rattle.typed_expressions.specs.Scopes.{Scope, any_input, any_unknown, find, is_input, types_of_names}
+use Rattle.typed_expressions.specs.Signatures.{Called}
+use Rattle.typed_expressions.specs.Table.{declarable}
+use Rattle.typed_expressions.specs.declared.scopes.Local.{Local}
 
 -- ---- Types
 

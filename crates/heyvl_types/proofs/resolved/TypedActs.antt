@@ -20,19 +20,12 @@ use Rattle.heyvl_types.proofs.resolved.Targets.{AreOfTypes, IsOne, one_target, t
 use Rattle.heyvl_types.proofs.resolved.Types.{arguments_fit, targets_fit, value_fits}
 use Rattle.heyvl_types.proofs.resolved.Walk.{Alone, Known, Locally, var_declarable}
 use Rattle.heyvl_types.proofs.resolved.Weights.{step_above}
-use Rattle.heyvl_types.specs.ExpressionLaws.{Agrees}
 use Rattle.heyvl_types.specs.Literals.{is_over_zero, weight}
 use Rattle.heyvl_types.specs.LoopRules.{count_of_invariants, count_of_rankings, is_no_formula, loop_rules, rules_findings, rules_wrong, step_wrong, steps_over_zero}
 use Rattle.heyvl_types.specs.RightSides.{any_argument_mismatches, any_output_mismatches, call_counts_wrong, call_mismatches, weight_findings}
-use Rattle.heyvl_types.specs.Scopes.{Scope, any_unknown, find, types_of_names}
-use Rattle.heyvl_types.specs.Signatures.{Called, Signature, find_call}
-use Rattle.heyvl_types.specs.StatementActs.{arms_acts, assigned, callee, condition, form, havocs, invariant_of, loops_of_block, number_or_zero, ranking_of, targets, terms, type_of_local}
+use Rattle.heyvl_types.specs.StatementActs.{arms_acts, assigned, callee, havocs, invariant_of, loops_of_block, number_or_zero, ranking_of, targets, type_of_local}
 use Rattle.heyvl_types.specs.StatementRules.{arms_bind, arms_findings, block_findings, block_is_rankable, havoc_rules}
-use Rattle.heyvl_types.specs.Table.{declarable}
-use Rattle.heyvl_types.specs.TypedExpressions.{closed_findings, elaborate, lacks}
-use Rattle.heyvl_types.specs.Variables.{declared, locals_of_block}
-use Rattle.heyvl_types.specs.declared.demands.Demand.{Demand}
-use Rattle.heyvl_types.specs.declared.scopes.Local.{Local}
+use Rattle.heyvl_types.specs.Variables.{locals_of_block}
 use Rattle.heyvl_types.specs.declared.settings.Setting.{Setting}
 use Rattle.std.proofs.Common.{Bool, List, None, Option, Some, [], arith, false, length, refl, subst, sym, true, ◌+◌, ◌++◌, ◌==◌, ◌∙◌, ◌∷◌, ◌≡◌, ◌≤◌, ℕ}
 use Rattle.std.proofs.lemmas.Bool.{and_parts, eqb-true, not-false, or_parts}
@@ -40,6 +33,15 @@ use Rattle.std.proofs.lemmas.List.{length-map}
 use Rattle.std.specs.List.{list_any}
 use Rattle.std.specs.Option.{is_none}
 use Rattle.std.specs.Prelude.{nat_le, ◌||◌}
+use Rattle.typed_expressions.specs.DeclaredVariables.{declared}
+use Rattle.typed_expressions.specs.ExpressionLaws.{Agrees}
+use Rattle.typed_expressions.specs.Scopes.{Scope, any_unknown, find, types_of_names}
+use Rattle.typed_expressions.specs.Signatures.{Called, Signature, find_call}
+use Rattle.typed_expressions.specs.Table.{declarable}
+use Rattle.typed_expressions.specs.TypedExpressions.{closed_findings, elaborate, lacks}
+use Rattle.typed_expressions.specs.Values.{condition, form, terms}
+use Rattle.typed_expressions.specs.declared.demands.Demand.{Demand}
+use Rattle.typed_expressions.specs.declared.scopes.Local.{Local}
 
 -- ---- Calls
 

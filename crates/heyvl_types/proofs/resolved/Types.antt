@@ -8,20 +8,20 @@ use Rattle.heyvl_acts.specs.Rules.{ArgumentsFit, Each, TargetsFit, widens_to}
 use Rattle.heyvl_syntax.specs.Expressions.{Expression}
 use Rattle.heyvl_syntax.specs.declared.procedures.Param.{Param}
 use Rattle.heyvl_syntax.specs.declared.types.TypeName.{TypeName}
-use Rattle.heyvl_types.proofs.TypedMeanings.{good, map_some, never, some_is}
 use Rattle.heyvl_types.proofs.resolved.Calls.{IsDeclared}
 use Rattle.heyvl_types.proofs.resolved.Locals.{type_declared}
 use Rattle.heyvl_types.proofs.resolved.Targets.{AreOfTypes}
-use Rattle.heyvl_types.specs.ExpressionLaws.{Agrees, IsTyped}
 use Rattle.heyvl_types.specs.RightSides.{ValueType, any_argument_mismatches, any_output_mismatches, join_types, join_with, mismatches, type_of_choices, type_of_expression, type_of_meaning, type_of_name}
-use Rattle.heyvl_types.specs.Scopes.{Scope}
-use Rattle.heyvl_types.specs.StatementActs.{term, terms}
-use Rattle.heyvl_types.specs.Table.{Meaning, declarable, given}
-use Rattle.heyvl_types.specs.TypedExpressions.{elaborate}
 use Rattle.heyvl_types.specs.Variables.{parameters}
 use Rattle.std.proofs.Common.{List, None, Option, Some, [], arith, false, length, refl, subst, sym, true, ◌∷◌, ◌≡◌, ℕ}
 use Rattle.std.proofs.lemmas.Bool.{and_from, and_parts, not-false, not_from_true, or_parts}
 use Rattle.std.specs.Prelude.{map, not, ◌&&◌}
+use Rattle.typed_expressions.proofs.exported.TypedMeanings.{good, map_some, never, some_is}
+use Rattle.typed_expressions.specs.ExpressionLaws.{Agrees, IsTyped}
+use Rattle.typed_expressions.specs.Scopes.{Scope}
+use Rattle.typed_expressions.specs.Table.{Meaning, declarable, given}
+use Rattle.typed_expressions.specs.TypedExpressions.{elaborate}
+use Rattle.typed_expressions.specs.Values.{term, terms}
 
 -- ---- Types of values
 

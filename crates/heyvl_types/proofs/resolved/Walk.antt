@@ -10,18 +10,19 @@ use Rattle.heyvl_types.proofs.resolved.Growth.{grow_more, grown_behind}
 use Rattle.heyvl_types.proofs.resolved.InOrder.{each_both, each_join, each_one}
 use Rattle.heyvl_types.proofs.resolved.Locals.{Stands, agrees_up, agrees_with, declared_at, stands_back, stands_front}
 use Rattle.heyvl_acts.specs.Acts.{Act, Acts, Variable, type_list}
-use Rattle.heyvl_types.specs.ExpressionLaws.{Agrees}
+use Rattle.typed_expressions.specs.ExpressionLaws.{Agrees}
 use Rattle.heyvl_acts.specs.Places.{in_order, inside, inside_arms}
 use Rattle.heyvl_acts.specs.Rules.{Each, GrowBelow}
 use Rattle.heyvl_types.proofs.resolved.Flips.{of_flip}
-use Rattle.heyvl_types.specs.Scopes.{Scope, numbers}
-use Rattle.heyvl_types.specs.Signatures.{Called}
+use Rattle.typed_expressions.specs.Scopes.{Scope, numbers}
+use Rattle.typed_expressions.specs.Signatures.{Called}
 use Rattle.heyvl_types.specs.StatementActs.{arms_acts, assigned, block_acts, declared_act, first_or_zero, havocs, loops, loops_of_arms, loops_of_block, statement_acts, targets}
 use Rattle.heyvl_types.specs.StatementRules.{arms_findings, block_binds, block_findings, arms_bind, statement_findings, var_rules}
-use Rattle.heyvl_types.specs.TypedExpressions.{closed_findings}
-use Rattle.heyvl_types.specs.Table.{declarable}
-use Rattle.heyvl_types.specs.Variables.{behind, declared, locals, locals_of_arms, locals_of_block}
-use Rattle.heyvl_types.specs.declared.demands.Demand.{Demand}
+use Rattle.typed_expressions.specs.TypedExpressions.{closed_findings}
+use Rattle.typed_expressions.specs.Table.{declarable}
+use Rattle.heyvl_types.specs.Variables.{behind, locals, locals_of_arms, locals_of_block}
+use Rattle.typed_expressions.specs.DeclaredVariables.{declared}
+use Rattle.typed_expressions.specs.declared.demands.Demand.{Demand}
 use Rattle.heyvl_types.specs.declared.settings.Setting.{Setting}
 use Rattle.std.proofs.Common.{Bool, List, None, Option, Some, [], arith, false, length, suc, true, ◌+◌, ◌++◌, ◌∷◌, ◌≡◌, ◌≤◌, ℕ}
 use Rattle.std.proofs.lemmas.Bool.{or_parts}

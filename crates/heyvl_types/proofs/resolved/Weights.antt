@@ -14,17 +14,12 @@ use Rattle.heyvl_syntax.specs.Statements.{RightSide, Statement}
 use Rattle.heyvl_syntax.specs.declared.literals.Lit.{Lit}
 use Rattle.heyvl_syntax.specs.declared.operators.BinaryOp.{BinaryOp}
 use Rattle.heyvl_syntax.specs.declared.types.TypeName.{TypeName}
-use Rattle.heyvl_types.proofs.LiteralFractions.{power_positive}
-use Rattle.heyvl_types.proofs.TypedMeanings.{literal_nonnegative}
 use Rattle.heyvl_types.proofs.resolved.Flips.{of_flip}
 use Rattle.heyvl_types.proofs.resolved.RightSides.{RightKept, assign_kept, var_kept}
 use Rattle.heyvl_types.proofs.resolved.Walk.{Alone, Locally}
-use Rattle.heyvl_types.specs.Literals.{ends_wrong, integer, is_over_zero, is_probability, is_step, is_too_wide, is_usable, is_written, is_zero_literal, literal_quotient, literal_value, sums_wrong, weigh_wrong, weight, weight_of_quotient, weight_of_value, weight_value}
+use Rattle.heyvl_types.specs.Literals.{ends_wrong, integer, is_over_zero, is_probability, is_step, is_too_wide, is_usable, literal_quotient, sums_wrong, weigh_wrong, weight, weight_of_quotient, weight_of_value, weight_value}
 use Rattle.heyvl_types.specs.RightSides.{weights}
-use Rattle.heyvl_types.specs.Scopes.{Scope, types_of_names}
-use Rattle.heyvl_types.specs.Signatures.{Called}
-use Rattle.heyvl_types.specs.StatementActs.{assigned, choose_parts, first_or_zero, havocs, integer_parts, targets, term, unif_parts}
-use Rattle.heyvl_types.specs.TypedExpressions.{elaborate}
+use Rattle.heyvl_types.specs.StatementActs.{assigned, choose_parts, first_or_zero, havocs, integer_parts, targets, unif_parts}
 use Rattle.heyvl_types.specs.declared.settings.Setting.{Setting}
 use Rattle.heyvl_types.specs.declared.weights.Weight.TheVariants.{NotLiteral, OverZero, TooWide, Value}
 use Rattle.heyvl_types.specs.declared.weights.Weight.{Weight}
@@ -35,6 +30,13 @@ use Rattle.std.proofs.lemmas.Int.{ints}
 use Rattle.std.specs.Int.Signed.{le_z}
 use Rattle.std.specs.List.{list_any}
 use Rattle.std.specs.Prelude.{if◌then◌else◌, length, nat_lt, not, unsigned_abs, ◌&&◌, ◌+ℤ◌, ◌*ℤ◌, ◌-ℤ◌, ◌||◌, ◌≤ℤ◌}
+use Rattle.typed_expressions.proofs.exported.LiteralFractions.{power_positive}
+use Rattle.typed_expressions.proofs.exported.TypedMeanings.{literal_nonnegative}
+use Rattle.typed_expressions.specs.LiteralValues.{is_written, is_zero_literal, literal_value}
+use Rattle.typed_expressions.specs.Scopes.{Scope, types_of_names}
+use Rattle.typed_expressions.specs.Signatures.{Called}
+use Rattle.typed_expressions.specs.TypedExpressions.{elaborate}
+use Rattle.typed_expressions.specs.Values.{term}
 
 -- ---- Weights
 

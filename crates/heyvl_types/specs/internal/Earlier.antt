@@ -1,6 +1,6 @@
 -- Whether an earlier procedure has a name, by what the name calls.
-use Rattle.heyvl_types.specs.Signatures.{Signature}
 use Rattle.std.specs.Prelude.{Bool, None, Option, Some, false, nat_lt, ℕ}
+use Rattle.typed_expressions.specs.Signatures.{Signature}
 
 -- Whether what a name calls stands before the procedure with this number.
 abbrev pub is_before : ℕ → Option Signature → Bool

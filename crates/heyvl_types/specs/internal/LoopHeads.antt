@@ -8,12 +8,12 @@ use Rattle.heyvl_num.specs.Rational.{Rational}
 use Rattle.heyvl_num.specs.Value.Value.{infinite}
 use Rattle.heyvl_syntax.specs.Statements.{LoopRule}
 use Rattle.heyvl_types.specs.LoopRules.{is_no_formula}
-use Rattle.heyvl_types.specs.Scopes.{Scope}
 use Rattle.heyvl_types.specs.StatementActs.{invariant_of, ranking_of}
 use Rattle.heyvl_types.specs.declared.loop_rules.Found as memory
 use Rattle.std.specs.List.{list_any}
 use Rattle.std.specs.Option.{option_or}
 use Rattle.std.specs.Prelude.{Bool, List, None, Option, Some, [], ◌||◌, ℕ}
+use Rattle.typed_expressions.specs.Scopes.{Scope}
 
 -- The first invariant, the first ranking with its step, and whether an invariant or a ranking is no formula.
 pub record Found : Type 0 where

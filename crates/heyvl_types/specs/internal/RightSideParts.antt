@@ -6,8 +6,8 @@ use Rattle.heyvl_syntax.specs.Expressions.{Expression}
 use Rattle.heyvl_types.specs.internal.Views.{value_type}
 use Rattle.heyvl_acts.specs.PlainActs.{parts_of, terms_of}
 use Rattle.heyvl_types.specs.RightSides.{ValueType, join_types, type_of_expression}
-use Rattle.heyvl_types.specs.Scopes.{Scope}
-use Rattle.heyvl_types.specs.Table.{given}
+use Rattle.typed_expressions.specs.Scopes.{Scope}
+use Rattle.typed_expressions.specs.Table.{given}
 use Rattle.heyvl_types.specs.declared.choices.Choices.{Choices}
 use Rattle.heyvl_types.specs.declared.typed_values.Value.{Value}
 use Rattle.heyvl_types.specs.declared.typed_values.Values.{Values}

@@ -1,11 +1,11 @@
 -- The rules of a statement once the parts of its right side are read.
 use Rattle.heyvl_syntax.specs.declared.types.TypeName.{TypeName}
 use Rattle.heyvl_types.specs.RightSides.{ValueType, any_output_mismatches, first_mismatches, is_of_other_direction, is_quantified, mismatches}
-use Rattle.heyvl_types.specs.Signatures.{Signature}
 use Rattle.heyvl_types.specs.declared.right_sides.Targets.{Targets}
 use Rattle.heyvl_types.specs.internal.RightSideParts.{Types}
 use Rattle.std.specs.Option.{is_none}
 use Rattle.std.specs.Prelude.{Bool, List, None, Option, Some, [], false, length, not, ◌&&◌, ◌==◌, ◌||◌, ◌∷◌, ℕ}
+use Rattle.typed_expressions.specs.Signatures.{Signature}
 
 -- Whether one of these values may not be given to the input beside it.
 abbrev pub any_mismatches : Types → List TypeName → Bool

@@ -6,8 +6,8 @@ use Rattle.heyvl_files.proofs.programs.program_file.Goals as goal
 use Rattle.heyvl_files.specs.Programs.IsProgramFault.{static}
 use Rattle.heyvl_syntax.specs.Procedures.{procedures}
 use Rattle.heyvl_types.specs.Files.{first_fault}
-use Rattle.heyvl_types.specs.Findings.{first}
 use Rattle.std.proofs.Common.{None, Some, ap, ◌≡◌}
+use Rattle.typed_expressions.specs.Findings.{first}
 
 pub resolve-requires-clause-few : goal.resolve-requires-clause-few
 resolve-requires-clause-few c = one_in_program c.args.bytes.now c.in-Ok.file c.in-Ok.ensures

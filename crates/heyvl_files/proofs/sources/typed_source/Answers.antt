@@ -5,7 +5,7 @@ use Rattle.heyvl_files.proofs.FewProcedures.{few_in_file}
 use Rattle.heyvl_files.proofs.sources.typed_source.Goals as goal
 use Rattle.heyvl_files.specs.Sources.IsFileFault.{static}
 use Rattle.heyvl_types.specs.Files.{first_fault}
-use Rattle.heyvl_types.specs.Findings.{first}
+use Rattle.typed_expressions.specs.Findings.{first}
 use Rattle.std.proofs.Common.{None, Some, ap, ◌≡◌}
 
 pub typed_file-requires-clause-few : goal.typed_file-requires-clause-few

@@ -1,7 +1,7 @@
 use Rattle.heyvl_types.proofs.assignments.assigned_targets.Given as goal
-use Rattle.heyvl_types.specs.Scopes.{types_of_names}
 use Rattle.heyvl_types.specs.StatementActs.{targets}
 use Rattle.std.proofs.Common.{take, ◌≡◌}
+use Rattle.typed_expressions.specs.Scopes.{types_of_names}
 
 -- The types and numbers of the names that were visited.
 abbrev pub invariant-loop-name : goal.invariant-loop-name

@@ -9,7 +9,7 @@ use Rattle.heyvl_types.proofs.blocks.+reading.Goals as goal
 use Rattle.heyvl_types.proofs.blocks.+reading.Goals.{read_arms-else-bound, read_arms-then-bound, read_block-else-bound, read_block-then-bound, read_statement-else-bound, read_statement-else-bound-2, read_statement-then-bound, read_statement-then-bound-2}
 use Rattle.heyvl_acts.proofs.exported.PlainActsAre.{if_act, pick_act}
 use Rattle.heyvl_acts.specs.Acts.{Acts}
-use Rattle.heyvl_types.specs.Answers.{Gives}
+use Rattle.typed_expressions.specs.Answers.{Gives}
 use Rattle.heyvl_types.specs.internal.Views.{acts_view, arms_view}
 use Rattle.heyvl_acts.specs.PlainActs.{acts_of, arm_of, variable_of}
 use Rattle.heyvl_types.specs.StatementActs.{arms_acts, statement_acts}

@@ -1,9 +1,9 @@
 use Rattle.heyvl_num.specs.Rational.{◌+ʳ◌}
-use Rattle.heyvl_types.proofs.LiteralFractions.{some_is}
 use Rattle.heyvl_types.proofs.WeightSums.{sum_is}
 use Rattle.heyvl_types.proofs.choices.sum.Goals as goal
 use Rattle.heyvl_types.specs.Literals.{is_too_wide}
 use Rattle.std.proofs.Common.{Some, ap, false, refl, sym, true, ◌∙◌, ◌≡◌}
+use Rattle.typed_expressions.proofs.exported.LiteralFractions.{some_is}
 
 pub returns-in_err-sum : goal.returns-in_err-sum
 returns-in_err-sum c =

@@ -1,9 +1,10 @@
 use Rattle.heyvl_num.specs.Exact.{exact_difference}
 use Rattle.heyvl_num.specs.Rational.{oneʳ, ◌-ʳ◌}
-use Rattle.heyvl_types.proofs.LiteralFractions.{complement_is, some_is}
+use Rattle.heyvl_types.proofs.WeightFractions.{complement_is}
 use Rattle.heyvl_types.proofs.draws.complement.Goals as goal
 use Rattle.std.proofs.Common.{ap, rules, sym, ◌∙◌, ◌≡◌}
 use Rattle.std.specs.Prelude.{Some}
+use Rattle.typed_expressions.proofs.exported.LiteralFractions.{some_is}
 
 pub unwrap-requires : goal.unwrap-requires
 unwrap-requires c =

@@ -1,11 +1,12 @@
 use Rattle.heyvl_num.specs.Exact.{exact_quotient}
 use Rattle.heyvl_num.specs.Rational.{ratio}
-use Rattle.heyvl_types.proofs.LiteralFractions.{some_is, whole_quotient}
+use Rattle.heyvl_types.proofs.WeightFractions.{whole_quotient}
 use Rattle.heyvl_types.proofs.draws.whole.Goals as goal
 use Rattle.std.proofs.Common.{ap, pos, rules, sym, ◌∙◌, ◌≡◌}
 use Rattle.std.proofs.lemmas.Int.{to_z-of_z}
 use Rattle.std.specs.Int.{w128}
 use Rattle.std.specs.Prelude.{Some}
+use Rattle.typed_expressions.proofs.exported.LiteralFractions.{some_is}
 
 pub unwrap-requires : goal.unwrap-requires
 unwrap-requires c =

@@ -3,12 +3,12 @@ use Rattle.heyvl_acts.specs.Rules.{Each, IsCounted}
 use Rattle.heyvl_syntax.specs.Procedures.{procedure, procedures}
 use Rattle.heyvl_types.proofs.ProcedureList.{At, fails, few_parts_at, goes_on, stands}
 use Rattle.heyvl_types.proofs.files.read_procedures.Goals as goal
-use Rattle.heyvl_types.specs.Answers.{Gives}
 use Rattle.heyvl_types.specs.Files.{file_findings, resolved}
-use Rattle.heyvl_types.specs.Signatures.{find_call}
 use Rattle.heyvl_types.specs.internal.Earlier.{is_before}
 use Rattle.std.proofs.Common.{Err, List, [], ap, arith, map, refl, rules, subst, sym, ◌+◌, ◌++◌, ◌∙◌, ◌∷◌}
 use Rattle.std.proofs.lemmas.List.{map-append}
+use Rattle.typed_expressions.specs.Answers.{Gives}
+use Rattle.typed_expressions.specs.Signatures.{find_call}
 
 each_more : {A : Type 0} (P : A → Type 0) (xs : List A) (x : A) → Each P xs → P x → Each P (xs ++ x ∷ [])
 each_more P [] x h p = (p, tt)

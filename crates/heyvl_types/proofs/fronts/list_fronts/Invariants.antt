@@ -1,8 +1,8 @@
 use Rattle.heyvl_acts.specs.PlainActs.{variable_of}
 use Rattle.heyvl_syntax.specs.Expressions.{expressions}
 use Rattle.heyvl_types.proofs.fronts.list_fronts.Given as goal
-use Rattle.heyvl_types.specs.Variables.{fronts_variables}
 use Rattle.std.proofs.Common.{drop, map, ◌++◌, ◌≡◌}
+use Rattle.typed_expressions.specs.DeclaredVariables.{fronts_variables}
 
 -- What is listed and what is left are all.
 abbrev pub invariant-loop-e : goal.invariant-loop-e

@@ -1,8 +1,8 @@
-use Rattle.heyvl_types.proofs.LiteralFractions.{written_natural}
 use Rattle.heyvl_types.proofs.integers.whole_value.Goals as goal
 use Rattle.std.proofs.Common.{FitsSigned, rules}
 use Rattle.std.proofs.lemmas.Int.{to_z-of_z}
 use Rattle.std.specs.Int.{w128}
+use Rattle.typed_expressions.proofs.exported.LiteralFractions.{written_natural}
 
 pub returns-then-den-eq1-clause-natural : goal.returns-then-den-eq1-clause-natural
 returns-then-den-eq1-clause-natural c =

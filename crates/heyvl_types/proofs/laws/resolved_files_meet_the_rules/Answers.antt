@@ -15,7 +15,7 @@ use Rattle.heyvl_acts.specs.Acts.{variables}
 use Rattle.heyvl_types.specs.Files.{file_findings, is_wlp, resolved, setting, typed}
 use Rattle.heyvl_acts.specs.PlainActs.{procedure_of}
 use Rattle.heyvl_acts.specs.Rules.{Each, HasFewActs, HasNamedBinders, HasOwnTargets, IsTypedAct, MeetsRules, WeighsOne}
-use Rattle.heyvl_types.specs.Signatures.{called}
+use Rattle.typed_expressions.specs.Signatures.{called}
 use Rattle.std.proofs.Common.{List, [], ap, arith, length, map, subst, sym, ◌∷◌, ◌≡◌}
 use Rattle.std.proofs.lemmas.List.{length-map}
 use Rattle.std.proofs.lemmas.Bool.{and_parts, not-true}

@@ -6,8 +6,8 @@ use Rattle.heyvl_types.proofs.laws.resolved_forms_are_small.Goals as goal
 use Rattle.heyvl_types.proofs.resolved.Heads.{IsClean, all_clean}
 use Rattle.heyvl_types.proofs.resolved.SmallForms.{forms_small}
 use Rattle.heyvl_types.specs.Files.{typed}
-use Rattle.heyvl_types.specs.Signatures.{called}
 use Rattle.std.proofs.Common.{List, [], ◌*◌, ◌+◌, ◌∷◌}
+use Rattle.typed_expressions.specs.Signatures.{called}
 
 each_small : (ps qs : List Procedure) → Each (IsClean (called ps)) qs → Each (λ p. FormsWithin (2 * nodes_of_procedure p + 64) (typed (called ps) p)) qs
 each_small ps [] k = tt

@@ -6,11 +6,11 @@ use Rattle.heyvl_types.proofs.resolution_laws.resolved_trees_meet_the_rules.Goal
 use Rattle.heyvl_types.specs.ArmedFiles.{HasArms}
 use Rattle.heyvl_types.specs.Files.{typed}
 use Rattle.heyvl_types.specs.ResolvedLaws.{IsAnswer, ResolvedFilesMeetRules}
-use Rattle.heyvl_types.specs.Signatures.{called}
-use Rattle.heyvl_types.specs.declared.stops.ResolveStop.{ResolveStop}
 use Rattle.std.proofs.Common.{Err, List, Ok, ap, arith, length, ◌≤◌}
 use Rattle.std.proofs.lemmas.List.{length-map}
 use Rattle.std.specs.Prelude.{IfOk, Result}
+use Rattle.typed_expressions.specs.Signatures.{called}
+use Rattle.typed_expressions.specs.declared.stops.ResolveStop.{ResolveStop}
 
 meet : ResolvedFilesMeetRules → (ps : List Procedure) (result : Result Typed ResolveStop) → HasArms ps → IsAnswer ps result → IfOk result (λ t. Each IsCounted t.procs.items) → IfOk result (λ t. length t.procs.items ≤ 1024 → MeetsAllRules t)
 meet files ps (Ok t) armed answer counted = λ few. files ps t armed answer.0 (let l = ap length answer.1 in omega (arith, few, l, length-map ps (typed (called ps)), length-map t.procs.items procedure_of)) answer.1 counted

@@ -1,11 +1,11 @@
 use Rattle.heyvl_acts.specs.declared.typed_trees.Typed.{Typed}
 use Rattle.heyvl_syntax.specs.Procedures.{Procedure}
 use Rattle.heyvl_types.proofs.resolution_laws.resolving_is_unique.Goals as goal
-use Rattle.heyvl_types.specs.Findings.{Finding, first}
 use Rattle.heyvl_types.specs.ResolvedLaws.{Agree, IsAnswer}
-use Rattle.heyvl_types.specs.declared.stops.ResolveStop.{ResolveStop}
 use Rattle.std.proofs.Common.{Err, List, Ok, Some, [], ap, sym, ◌∙◌, ◌≡◌}
 use Rattle.std.specs.Prelude.{Result}
+use Rattle.typed_expressions.specs.Findings.{Finding, first}
+use Rattle.typed_expressions.specs.declared.stops.ResolveStop.{ResolveStop}
 
 no_finding : (found : List Finding) (f : Finding) → found ≡ [] → first found ≡ Some f → ⊥
 no_finding found f h i = let j = ap first h in absurd (cc)

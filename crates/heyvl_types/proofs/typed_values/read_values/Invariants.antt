@@ -2,10 +2,10 @@ use Rattle.heyvl_acts.specs.PlainActs.{terms_of}
 use Rattle.heyvl_syntax.specs.Expressions.{expressions}
 use Rattle.heyvl_types.proofs.typed_values.read_values.Given as goal
 use Rattle.heyvl_types.specs.RightSides.{all_findings}
-use Rattle.heyvl_types.specs.StatementActs.{terms}
 use Rattle.heyvl_types.specs.internal.RightSideParts.{types_of}
 use Rattle.heyvl_types.specs.internal.Views.{value_type}
 use Rattle.std.proofs.Common.{drop, map, option_map, take, ◌≡◌}
+use Rattle.typed_expressions.specs.Values.{terms}
 
 -- Nothing is found so far, and what was read is what the expressions become that were visited.
 abbrev pub invariant-loop-e : goal.invariant-loop-e

@@ -1,4 +1,4 @@
-use Rattle.heyvl_types.proofs.LiteralFractions.{at_least_one_is}
+use Rattle.heyvl_types.proofs.WeightFractions.{at_least_one_is}
 use Rattle.heyvl_types.proofs.weights.at_least_one.Goals as goal
 use Rattle.std.proofs.Common.{FitsSigned, rules}
 use Rattle.std.proofs.lemmas.Int.{to_z-of_z}

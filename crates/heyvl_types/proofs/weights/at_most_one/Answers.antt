@@ -1,4 +1,4 @@
-use Rattle.heyvl_types.proofs.LiteralFractions.{at_most_one_is}
+use Rattle.heyvl_types.proofs.WeightFractions.{at_most_one_is}
 use Rattle.heyvl_types.proofs.weights.at_most_one.Goals as goal
 use Rattle.std.proofs.Common.{FitsSigned, rules}
 use Rattle.std.proofs.lemmas.Int.{to_z-of_z}

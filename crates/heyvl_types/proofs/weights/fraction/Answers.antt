@@ -1,11 +1,11 @@
 use Rattle.heyvl_num.specs.Exact.{exact_quotient}
 use Rattle.heyvl_num.specs.Rational.{ratio}
-use Rattle.heyvl_types.proofs.LiteralFractions.{positive_quotient, some_is}
 use Rattle.heyvl_types.proofs.weights.fraction.Goals as goal
 use Rattle.std.proofs.Common.{ap₂, rules, sym, ◌∙◌, ◌≡◌}
 use Rattle.std.proofs.lemmas.Int.{to_z-of_z}
 use Rattle.std.specs.Int.{w128}
 use Rattle.std.specs.Prelude.{Some, unsigned_abs}
+use Rattle.typed_expressions.proofs.exported.LiteralFractions.{positive_quotient, some_is}
 
 pub unwrap-requires : goal.unwrap-requires
 unwrap-requires c =

@@ -1,6 +1,6 @@
 use Rattle.heyvl_num.specs.Rational.{ratio}
 use Rattle.heyvl_types.proofs.Coprime.{product_none, product_some}
-use Rattle.heyvl_types.proofs.LiteralFractions.{passed_parts}
+use Rattle.heyvl_types.proofs.WeightFractions.{passed_parts}
 use Rattle.heyvl_types.proofs.weights.weight_of_product.Goals as goal
 use Rattle.heyvl_types.specs.Literals.{weight_of_value}
 use Rattle.std.proofs.Common.{FitsSigned, ap, rules, ◌∙◌, ◌≡◌}

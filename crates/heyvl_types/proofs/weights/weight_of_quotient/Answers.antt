@@ -1,6 +1,7 @@
-use Rattle.heyvl_types.proofs.LiteralFractions.{inverse_natural, quotient_weight, written_natural}
+use Rattle.heyvl_types.proofs.WeightFractions.{quotient_weight}
 use Rattle.heyvl_types.proofs.weights.weight_of_quotient.Goals as goal
 use Rattle.std.proofs.Common.{◌∙◌}
+use Rattle.typed_expressions.proofs.exported.LiteralFractions.{inverse_natural, written_natural}
 
 pub weight_of_product-requires-clause-left : goal.weight_of_product-requires-clause-left
 weight_of_product-requires-clause-left c = written_natural c.args.dividend c.in-Some-Some.value c.in-Some-Some.ensures

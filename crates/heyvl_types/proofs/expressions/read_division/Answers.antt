@@ -1,6 +1,0 @@
-use Rattle.heyvl_types.proofs.PartAnswers.{second_broken}
-use Rattle.heyvl_types.proofs.expressions.read_division.Goals as goal
-use Rattle.std.proofs.Common.{rules}
-
-pub returns-then-is_none : goal.returns-then-is_none
-returns-then-is_none c = rw (← c.factor.ensures, ← c.in_ok-quotient.ensures) (second_broken c.args.span 12 16 _ _ c.in_ok-made.ensures.0 (search rules))

@@ -1,7 +1,0 @@
-use Rattle.heyvl_types.proofs.names.any_input.Given as goal
-use Rattle.heyvl_types.specs.Scopes.{any_input}
-use Rattle.std.proofs.Common.{drop, ◌≡◌}
-
--- What is true of the names that are left is true of all.
-abbrev pub invariant-loop-name : goal.invariant-loop-name
-invariant-loop-name l = any_input l.inputs l.scope l.names ≡ any_input l.inputs l.scope (drop l.name-index l.names)

@@ -1,9 +1,0 @@
-use Rattle.heyvl_syntax.specs.Expressions.{expressions}
-use Rattle.heyvl_types.proofs.quantifiers.any_quantified.Given as goal
-use Rattle.heyvl_types.specs.TypedExpressions.{has_quantifier}
-use Rattle.std.proofs.Common.{drop, ◌≡◌}
-use Rattle.std.specs.List.{list_any}
-
--- None has one so far.
-abbrev pub invariant-loop-e : goal.invariant-loop-e
-invariant-loop-e l = list_any has_quantifier (expressions l.all) ≡ list_any has_quantifier (expressions (drop l.e-index l.all))

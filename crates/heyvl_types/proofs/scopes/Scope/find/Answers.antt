@@ -1,7 +1,0 @@
-use Rattle.heyvl_types.proofs.ScopeEntries.{find_entries}
-use Rattle.heyvl_types.proofs.scopes.Scope.find.Goals as goal
-use Rattle.heyvl_types.specs.Scopes.{find}
-use Rattle.std.proofs.Common.{ap, ◌∙◌}
-
-pub returns : goal.returns
-returns c = c.copied.ensures ∙ c.get.ensures.value ∙ find_entries c.as_bytes.result.now c.self.inside.entries.entries ∙ ap (λ s. find s c.as_bytes.result.now) c.self.view_is ∙ ap (λ x. find c.args.self.now x) c.as_bytes.ensures

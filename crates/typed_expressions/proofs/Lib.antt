@@ -1,0 +1,3 @@
+mod AnyNumbers
+mod CallEntries
+pub mod exported

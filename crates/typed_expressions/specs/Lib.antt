@@ -1,0 +1,12 @@
+pub mod Findings
+pub mod Names
+pub mod DeclaredVariables
+pub mod Scopes
+pub mod LiteralValues
+pub mod Table
+pub mod TypedExpressions
+pub mod Values
+pub mod Signatures
+pub mod Views
+pub mod Answers
+pub mod ExpressionLaws

@@ -1,0 +1,30 @@
+//! Names, scopes and expressions with types: what each expression becomes, what is found against it, and what calls see.
+#![tactic(auto)]
+
+mod calls;
+mod demands;
+mod expressions;
+mod laws;
+mod literals;
+mod meanings;
+mod names;
+mod operators;
+mod quantifiers;
+mod rules;
+mod scopes;
+mod stops;
+mod values;
+
+pub use calls::{Calls, Signature, calls_of};
+pub use demands::{Demand, Front};
+pub use expressions::{after, meets, read, read_front};
+pub use laws::expressions_are_typed;
+pub use literals::{inverse, literal_value, number};
+pub use meanings::{Kind, Meaning};
+pub use names::{any_input, any_twice, any_unknown};
+pub use operators::{declarable, endless, joined, nothing};
+pub use quantifiers::any_quantified;
+pub use rules::told;
+pub use scopes::{Local, Scope};
+pub use stops::ResolveStop;
+pub use values::{condition, form};
