@@ -28,7 +28,7 @@ impl From<AllocError> for CertStop {
 impl<T: Drop> From<AllocFailed<T>> for CertStop {
     ghost from_gives = { λ _ stop. stop ≡ Memory alloc_error };
 
-    fn from(_failed: AllocFailed<T>) -> Self {
-        CertStop::Memory(AllocError)
+    fn from(failed: AllocFailed<T>) -> Self {
+        CertStop::Memory(AllocError::from(failed))
     }
 }

@@ -26,7 +26,7 @@ impl From<AllocError> for PartStop {
 impl<T: Drop> From<AllocFailed<T>> for PartStop {
     ghost from_gives = { λ _ stop. stop ≡ Memory alloc_error };
 
-    fn from(_failed: AllocFailed<T>) -> Self {
-        PartStop::Memory(AllocError)
+    fn from(failed: AllocFailed<T>) -> Self {
+        PartStop::Memory(AllocError::from(failed))
     }
 }

@@ -30,7 +30,7 @@ impl From<AllocError> for LexStop {
 impl<T: Drop> From<AllocFailed<T>> for LexStop {
     ghost from_gives = { λ _ stop. stop ≡ Memory alloc_error };
 
-    fn from(_failed: AllocFailed<T>) -> Self {
-        LexStop::Memory(AllocError)
+    fn from(failed: AllocFailed<T>) -> Self {
+        LexStop::Memory(AllocError::from(failed))
     }
 }

@@ -29,7 +29,7 @@ impl From<AllocError> for ResolveStop {
 impl<T: Drop> From<AllocFailed<T>> for ResolveStop {
     ghost from_gives = { λ _ stop. stop ≡ Memory alloc_error };
 
-    fn from(_failed: AllocFailed<T>) -> Self {
-        ResolveStop::Memory(AllocError)
+    fn from(failed: AllocFailed<T>) -> Self {
+        ResolveStop::Memory(AllocError::from(failed))
     }
 }

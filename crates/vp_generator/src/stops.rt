@@ -24,7 +24,7 @@ impl From<AllocError> for VpStop {
 impl<T: Drop> From<AllocFailed<T>> for VpStop {
     ghost from_gives = { λ _ stop. stop ≡ Memory alloc_error };
 
-    fn from(_failed: AllocFailed<T>) -> Self {
-        VpStop::Memory(AllocError)
+    fn from(failed: AllocFailed<T>) -> Self {
+        VpStop::Memory(AllocError::from(failed))
     }
 }
