@@ -7,3 +7,4 @@ mod AlikeVerdicts
 mod SingleTables
 mod SameDecisions
 mod SameMisses
+mod WorkedAnswers
