@@ -12,7 +12,6 @@ mod Weights
 mod GeneratorSteps
 mod GeneratedBinders
 mod GraphForms
-mod NumberedParts
 mod GeneratedNames
 mod FreeTerms
 mod Directions
@@ -22,3 +21,6 @@ mod MadeGoals
 mod GeneratedOver
 mod TypedParts
 mod ScopeNumbers
+mod PlainNumbers
+mod UnboundParts
+mod UnboundSteps

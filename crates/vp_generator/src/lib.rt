@@ -9,8 +9,11 @@ mod limits;
 mod nodes_of_acts;
 mod numbering;
 mod prenexed_forms;
+mod quantifiers;
+mod scopes;
 mod stops;
 mod tosses;
+mod unbound_nodes;
 
 pub use generation::{vp, vp_in};
 pub use goals::goal_of_forms;
