@@ -43,7 +43,7 @@ turned_once (p ∷ ps) (r ∷ qs) zero j q y n y' n' x e h f = let k : r ≡ p =
 turned_once (p ∷ ps) [] (suc i) j q y n y' n' x e h f = absurd (cc)
 turned_once (p ∷ ps) (r ∷ qs) (suc i) j q y n y' n' x e h f = let k : take (suc i) qs ≡ take (suc i) ps = cc in turned_once ps qs i j q y n y' n' x e k f
 
-less_taken : (ps qs : List Taken) (i j : ℕ) → i ≤ j → take j qs ≡ take j ps → take i qs ≡ take i ps
+pub less_taken : (ps qs : List Taken) (i j : ℕ) → i ≤ j → take j qs ≡ take j ps → take i qs ≡ take i ps
 less_taken [] [] i j h e = refl
 less_taken ps qs zero j h e = refl
 less_taken [] (q ∷ qs) (suc i) zero h e = absurd (omega arith)
@@ -113,7 +113,7 @@ framed_run ps q q' (f ∷ fs) i j e = run_same ps (framed q fs) (framed q' fs) (
 pub through_run : (ps : List Taken) (q q' : Query places.Result) (fs : List Frame) (i j : ℕ) → along ps q i ≡ along ps q' j → along ps (through q fs) i ≡ along ps (through q' fs) j
 through_run ps q q' fs i j e = run_same ps (framed q fs) (framed q' fs) ended i j (framed_run ps q q' fs i j e)
 
-run_decide : {A B : Type 0} (ps : List Taken) (q : Query A) (f : A → Query B) (i : ℕ) (a : Atom) → along ps q i ≡ decide a → along ps (next q f) i ≡ decide a
+pub run_decide : {A B : Type 0} (ps : List Taken) (q : Query A) (f : A → Query B) (i : ℕ) (a : Atom) → along ps q i ≡ decide a → along ps (next q f) i ≡ decide a
 run_decide ps q f i a e = run_next ps q f i ∙ ap (λ z. onward z (λ a k. along ps (f a) k)) e
 
 framed_decide : (ps : List Taken) (q : Query places.Result) (fs : List Frame) (i : ℕ) (a : Atom) → along ps q i ≡ decide a → along ps (framed q fs) i ≡ decide a
@@ -123,7 +123,7 @@ framed_decide ps q (f ∷ fs) i a e = run_decide ps (framed q fs) (resumed f) i 
 pub through_decide : (ps : List Taken) (q : Query places.Result) (fs : List Frame) (i : ℕ) (a : Atom) → along ps q i ≡ decide a → along ps (through q fs) i ≡ decide a
 through_decide ps q fs i a e = run_decide ps (framed q fs) ended i a (framed_decide ps q fs i a e)
 
-run_large : {A B : Type 0} (ps : List Taken) (q : Query A) (f : A → Query B) (i : ℕ) → along ps q i ≡ Evaluation.bits → along ps (next q f) i ≡ Evaluation.bits
+pub run_large : {A B : Type 0} (ps : List Taken) (q : Query A) (f : A → Query B) (i : ℕ) → along ps q i ≡ Evaluation.bits → along ps (next q f) i ≡ Evaluation.bits
 run_large ps q f i e = run_next ps q f i ∙ ap (λ z. onward z (λ a k. along ps (f a) k)) e
 
 framed_large : (ps : List Taken) (q : Query places.Result) (fs : List Frame) (i : ℕ) → along ps q i ≡ Evaluation.bits → along ps (framed q fs) i ≡ Evaluation.bits

@@ -49,3 +49,13 @@ mod SureQuestions
 mod Growths
 mod FirstTerms
 mod AskedForms
+mod KindsOfNodes
+mod KeptOperations
+mod NodeRuns
+mod NodeFrames
+mod NodeNumbers
+mod EnteredNodes
+mod NotedValues
+mod NodesThatAsk
+mod FramesThatAsk
+mod CopiedEvaluations

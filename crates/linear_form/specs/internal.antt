@@ -7,3 +7,10 @@ pub mod NormalPaths
 pub mod Nodes
 pub mod Places
 pub mod Steps
+pub mod Outcomes
+pub mod NodeQuestions
+pub mod NodeTables
+pub mod Evaluations
+pub mod NodeSteps
+pub mod GoalGraphs
+pub mod EvaluationCopies

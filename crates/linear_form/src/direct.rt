@@ -126,7 +126,7 @@ fn small(value: Lin) -> Option<Lin>
     if is_sized(&value) { Some(value) } else { None }
 }
 
-fn number(alloc: Global, v: &Ext) -> Option<Lin>
+pub(crate) fn number(alloc: Global, v: &Ext) -> Option<Lin>
     ensures { MayGive (tree.sized (tree.number (value_of v.now))) result }
 {
     match v {
@@ -136,7 +136,7 @@ fn number(alloc: Global, v: &Ext) -> Option<Lin>
 }
 
 /// The sum. Where one of the two holds no variable, the terms of the other one stay.
-fn sum(alloc: Global, x: Lin, y: Lin) -> Result<Option<Lin>, AllocError>
+pub(crate) fn sum(alloc: Global, x: Lin, y: Lin) -> Result<Option<Lin>, AllocError>
     requires left { IsKept (lin_of x) }
     requires right { IsKept (lin_of y) }
     ensures { IfOk result (MayGive (tree.sum (Some (lin_of x)) (Some (lin_of y)))) }
@@ -152,7 +152,7 @@ fn sum(alloc: Global, x: Lin, y: Lin) -> Result<Option<Lin>, AllocError>
 }
 
 /// The difference, where the terms of the first value stay if the second one holds no variable.
-fn difference(alloc: Global, x: Lin, y: &Lin) -> Result<Option<Lin>, AllocError>
+pub(crate) fn difference(alloc: Global, x: Lin, y: &Lin) -> Result<Option<Lin>, AllocError>
     requires left { IsKept (lin_of x) }
     requires right { IsKept (lin_of y.now) }
     ensures { IfOk result (MayGive (tree.difference (Some (lin_of x)) (Some (lin_of y.now)))) }
@@ -176,7 +176,7 @@ fn shifted(x: Lin, n: &Frac) -> Option<Lin>
     if fits(&moved.rest) { Some(moved) } else { None }
 }
 
-fn multiple(alloc: Global, w: &Frac, x: &Lin) -> Result<Option<Lin>, AllocError>
+pub(crate) fn multiple(alloc: Global, w: &Frac, x: &Lin) -> Result<Option<Lin>, AllocError>
     requires { IsKept (lin_of x.now) }
     ensures { IfOk result (MayGive (tree.scale w.now (Some (lin_of x.now)))) }
 {

@@ -52,7 +52,7 @@ fn focus_asks(focus: &Focus<'_>) -> bool
 }
 
 /// Whether two values surely differ in a variable, so that a comparison of them is asked.
-fn values_differ(x: &Option<Lin>, y: &Option<Lin>) -> bool
+pub(crate) fn values_differ(x: &Option<Lin>, y: &Option<Lin>) -> bool
     ensures { IsTrue result → IsKeptValue (linear_of x.now) → IsKeptValue (linear_of y.now) → (o : Comparison) → Lasts 1 (comparison o (linear_of x.now) (linear_of y.now)) }
 {
     match x {

@@ -1,16 +1,23 @@
 //! Linear questions of a goal along a path, and the rows of a path.
 #![tactic(auto)]
 
+mod asking_evaluations;
+mod asking_nodes;
 mod claim_laws;
 mod continuations;
 mod cursor;
 mod direct;
+mod evaluations;
 mod further_questions;
 mod further_rows;
+mod goal_graph;
 mod goal_products;
 mod growing_rows;
+mod kinds;
 mod known_truths;
+mod node_steps;
 mod nodes;
+mod operations;
 mod operators;
 mod path_ends;
 mod path_laws;
@@ -19,6 +26,7 @@ mod paths;
 mod place_laws;
 mod places;
 mod plain_ends;
+mod plain_values;
 mod point_laws;
 mod question_laws;
 mod questions;

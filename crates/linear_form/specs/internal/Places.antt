@@ -8,6 +8,7 @@ use Rattle.linear_form.specs.Query.Query.{done, bits}
 use Rattle.linear_values.specs.Lin.{Linear}
 use Rattle.linear_form.specs.Questions.{Ends, evaluate, test}
 use Rattle.linear_values.specs.PlainValues.{linear_of}
+pub use Rattle.linear_form.specs.internal.Outcomes.{Result, valued, told, of_number, of_bool}
 use Rattle.linear_form.specs.internal.Nodes.{binary, unary, comparison, of_truth, after_first}
 use Rattle.linear_values.specs.Kept.{IsKeptValue}
 use Rattle.linear_form.specs.declared.places.Place.{Place}
@@ -15,35 +16,11 @@ use Rattle.linear_form.specs.declared.places.Two.{Two}
 use Rattle.linear_form.specs.declared.places.Focus as F
 use Rattle.linear_form.specs.declared.places.Frame as W
 
--- What a part comes to: a value, a truth, or the values of both forms.
-pub data Result : Type 0 where
-  number : Linear → Result
-  truth : Bool → Result
-  ends : Ends → Result
-
-abbrev pub valued : Query Linear → Query Result
-valued q = next q (λ x. done (Result.number x))
-
-abbrev pub told : Query Bool → Query Result
-told q = next q (λ t. done (Result.truth t))
-
 -- What is asked of two values.
 abbrev pub of_two : Two → Linear → Linear → Query Result
 of_two (Two.Value o) x y = valued (binary o x y)
 of_two (Two.Test o) x y = told (comparison o x y)
 of_two Two.Ends x y = done (Result.ends (x, y))
-
--- What comes of a value. A truth never stands where a value is waited for.
-abbrev pub of_number : (Linear → Query Result) → Result → Query Result
-of_number f (Result.number x) = f x
-of_number f (Result.truth t) = bits
-of_number f (Result.ends e) = bits
-
--- What comes of a truth. A value never stands where a truth is waited for.
-abbrev pub of_bool : (Bool → Query Result) → Result → Query Result
-of_bool f (Result.number x) = bits
-of_bool f (Result.truth t) = f t
-of_bool f (Result.ends e) = bits
 
 -- What a frame does with the outcome that it waits for.
 abbrev pub resumed : W.Frame → Result → Query Result
