@@ -1,9 +1,11 @@
 -- Evaluations over a graph that are copied.
 use Rattle.std.proofs.Common.{◌≡◌, ℕ, ◌+◌, ◌<◌, List, [], ◌∷◌, ◌++◌, refl, sym, ap, ◌∙◌, subst, take, get_or, length}
 use Rattle.std.proofs.lemmas.List.{take_more}
+use Rattle.heylo_graph.specs.declared.nodes.Node.{Node}
 use Rattle.linear_form.specs.Query.{next}
-use Rattle.linear_form.specs.internal.Evaluations.{resumed, through}
-use Rattle.linear_form.specs.internal.EvaluationCopies.{AskAlike, IsAlike}
+use Rattle.linear_form.specs.internal.Evaluations.{resumed, standing, through}
+use Rattle.linear_form.specs.internal.EvaluationCopies.{AskAlike, IsAlike, IsSameEvaluation}
+use Rattle.linear_form.specs.declared.evaluations.Evaluation.{Evaluation}
 use Rattle.linear_form.specs.declared.evaluations.Frame.{Frame}
 use Rattle.linear_form.proofs.NodeRuns.{through_push, kept_push, kept_pop}
 
@@ -18,3 +20,6 @@ alike_more old new f g a b = record {
 
 pub alike_next : (all : List Frame) (i : ℕ) (new made : List Frame) (f g : Frame) → i < length all → f ≡ get_or all i f → made ≡ new ++ (g ∷ []) → AskAlike (take i all) new → IsAlike f g → AskAlike (take (i + 1) all) made
 alike_next all i new made f g l e m a b = subst (λ z. AskAlike z made) (sym (take_more all i f l ∙ ap (λ z. take i all ++ (z ∷ [])) (sym e))) (subst (λ z. AskAlike (take i all ++ (f ∷ [])) z) (sym m) (alike_more (take i all) new f g a b))
+
+pub same_standing : (ns : List Node) (p p' : Evaluation) → IsSameEvaluation p p' → standing ns p' ≡ standing ns p
+same_standing ns p p' s = λ i. record { left = s.left ns i; at = s.at i }

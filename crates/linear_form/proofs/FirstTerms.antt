@@ -8,12 +8,11 @@ use Rattle.heyvl_num.proofs.exported.Signs.{+ʳ--ʳ, -ʳ-self}
 use Rattle.heyvl_num.proofs.exported.Values.{is_zero-zero}
 use Rattle.heylo_formula.specs.State.{put, number_of}
 use Rattle.heylo_formula.specs.declared.values.Val.TheVariants.{Num}
-use Rattle.linear_values.specs.Lin.{Lin, Terms, total, IsAbove, AreNormal}
+use Rattle.linear_values.specs.Lin.{Lin, Terms, total, IsAbove, AreNormal, minus}
 use Rattle.linear_form.specs.internal.LastingTrees.{Lasts, BeginsBefore, all_zero, growth}
-use Rattle.linear_form.specs.internal.Nodes.{comparison}
-use Rattle.linear_form.specs.declared.nodes.Comparison.{Comparison}
+use Rattle.linear_form.specs.Questions.{is_below}
 use Rattle.linear_values.proofs.exported.KeptTerms.{above_less}
-use Rattle.linear_form.proofs.Growths.{comparison_asks}
+use Rattle.linear_form.proofs.Growths.{below_asks}
 
 other_number : (x y : ℕ) → x < y → (x == y) ≡ false
 other_number x y h = grind (arith, h)
@@ -45,11 +44,11 @@ not_zero c h e = clash (is_zeroʳ c) (ap is_zeroʳ e ∙ is_zero-zero) h
     clash false e h = absurd (cc)
 
 -- a variable of the first value that comes before all of the second
-pub left_first : (t : ℕ × Rational) (ts : Terms) (a b : Lin) (o : Comparison) → a.terms ≡ t ∷ ts → AreNormal (t ∷ ts) → IsAbove t.0 b.terms → Lasts 1 (comparison o (Some a) (Some b))
-left_first t ts a b o e n h = comparison_asks t.0 a b o (λ k. not_zero t.1 n.0 (sym (growth_first t ts a e n.1.0) ∙ k ∙ growth_absent t.0 b h))
+pub left_first : (t : ℕ × Rational) (ts : Terms) (a b : Lin) (strict : Bool) → a.terms ≡ t ∷ ts → AreNormal (t ∷ ts) → IsAbove t.0 b.terms → Lasts 1 (is_below (minus a b) strict)
+left_first t ts a b strict e n h = below_asks t.0 a b strict (λ k. not_zero t.1 n.0 (sym (growth_first t ts a e n.1.0) ∙ k ∙ growth_absent t.0 b h))
 
-pub right_first : (t : ℕ × Rational) (ts : Terms) (a b : Lin) (o : Comparison) → b.terms ≡ t ∷ ts → AreNormal (t ∷ ts) → IsAbove t.0 a.terms → Lasts 1 (comparison o (Some a) (Some b))
-right_first t ts a b o e n h = comparison_asks t.0 a b o (λ k. not_zero t.1 n.0 (sym (growth_first t ts b e n.1.0) ∙ sym k ∙ growth_absent t.0 a h))
+pub right_first : (t : ℕ × Rational) (ts : Terms) (a b : Lin) (strict : Bool) → b.terms ≡ t ∷ ts → AreNormal (t ∷ ts) → IsAbove t.0 a.terms → Lasts 1 (is_below (minus a b) strict)
+right_first t ts a b strict e n h = below_asks t.0 a b strict (λ k. not_zero t.1 n.0 (sym (growth_first t ts b e n.1.0) ∙ sym k ∙ growth_absent t.0 a h))
 
 -- ---- Which list begins first
 
@@ -60,8 +59,8 @@ above_none m (u ∷ us) h = absurd (omega (arith, h))
 pub above_second : (m : ℕ) (us vs : Terms) (t : ℕ × Rational) → us ≡ t ∷ vs → ltb m t.0 ≡ true → AreNormal us → IsAbove m us
 above_second m us vs t e l n = subst (IsAbove m) (sym e) (let k : m < t.0 = grind (arith, l) in (k, above_less m t.0 vs k (subst AreNormal e n).1.0))
 
-pub begins_left : (a b : Lin) (ts us : Terms) (o : Comparison) → ts ≡ a.terms → us ≡ b.terms → AreNormal a.terms → BeginsBefore ts us → Lasts 1 (comparison o (Some a) (Some b))
-begins_left a b ts us o e f n h = let g : a.terms ≡ h.first ∷ h.others = sym e ∙ h.begins in left_first h.first h.others a b o g (subst AreNormal g n) (subst (IsAbove h.first.0) f h.before)
+pub begins_left : (a b : Lin) (ts us : Terms) (strict : Bool) → ts ≡ a.terms → us ≡ b.terms → AreNormal a.terms → BeginsBefore ts us → Lasts 1 (is_below (minus a b) strict)
+begins_left a b ts us strict e f n h = let g : a.terms ≡ h.first ∷ h.others = sym e ∙ h.begins in left_first h.first h.others a b strict g (subst AreNormal g n) (subst (IsAbove h.first.0) f h.before)
 
-pub begins_right : (a b : Lin) (ts us : Terms) (o : Comparison) → ts ≡ b.terms → us ≡ a.terms → AreNormal b.terms → BeginsBefore ts us → Lasts 1 (comparison o (Some a) (Some b))
-begins_right a b ts us o e f n h = let g : b.terms ≡ h.first ∷ h.others = sym e ∙ h.begins in right_first h.first h.others a b o g (subst AreNormal g n) (subst (IsAbove h.first.0) f h.before)
+pub begins_right : (a b : Lin) (ts us : Terms) (strict : Bool) → ts ≡ b.terms → us ≡ a.terms → AreNormal b.terms → BeginsBefore ts us → Lasts 1 (is_below (minus a b) strict)
+begins_right a b ts us strict e f n h = let g : b.terms ≡ h.first ∷ h.others = sym e ∙ h.begins in right_first h.first h.others a b strict g (subst AreNormal g n) (subst (IsAbove h.first.0) f h.before)

@@ -1,7 +1,9 @@
 -- The operators of nodes, and the linear values that they keep as the program does.
-use Rattle.std.proofs.Common.{◌≡◌, ℕ, List, sym, subst}
+use Rattle.std.proofs.Common.{◌≡◌, ℕ, List, refl, sym, subst}
 use Rattle.std.specs.Prelude as M
 use Rattle.std.specs.Prelude.{Bool, true, false, None, Ok, Err, IfOk, if◌then◌else◌}
+use mathlib.Core.Bool.{beq}
+use Rattle.heylo_formula.specs.Operators.{agree}
 use Rattle.linear_values.specs.Lin.{Linear}
 use Rattle.linear_values.specs.Kept.{IsKeptValue}
 use Rattle.linear_form.specs.Query.{Query, Taken}
@@ -67,3 +69,9 @@ embed_kept false = zero_kept
 pub iverson_kept : (t : Bool) → IsKeptValue (if t then q.one else q.zero)
 iverson_kept true = one_kept
 iverson_kept false = zero_kept
+
+pub agree_is : (t u : Bool) → agree t u ≡ beq t u
+agree_is true true = refl
+agree_is true false = refl
+agree_is false true = refl
+agree_is false false = refl

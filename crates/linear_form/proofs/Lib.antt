@@ -33,11 +33,8 @@ mod SignRows
 mod SignClaims
 mod FoundRows
 mod AssembledTrees
-mod Parts
-mod ContinuedRuns
 mod DirectValues
-mod KeptOperators
-mod Resumptions
+mod EndAnswers
 mod GrowingRows
 pub mod PathRowSteps
 mod RepeatedRows
@@ -48,7 +45,6 @@ mod SplitAtoms
 mod SureQuestions
 mod Growths
 mod FirstTerms
-mod AskedForms
 mod KindsOfNodes
 mod KeptOperations
 mod NodeRuns

@@ -1,22 +1,27 @@
 -- Evaluations over a graph that go on from a place, step by step.
-use Rattle.std.proofs.Common.{◌≡◌, ℕ, ◌+◌, ◌<◌, ◌≤◌, List, [], ◌∷◌, ◌++◌, refl, sym, ap, ap₂, ◌∙◌, subst, arith, length, Box, Global}
+use Rattle.std.proofs.Common.{◌≡◌, ℕ, ◌+◌, ◌<◌, ◌≤◌, List, [], ◌∷◌, ◌++◌, refl, sym, ap, ◌∙◌, subst, arith, Box, Global}
 use Rattle.std.specs.Prelude as M
 use Rattle.std.specs.Prelude.{Ok, Err, IfOk}
 use Rattle.heylo_graph.specs.declared.nodes.Node.{Node}
+use Rattle.heylo_formula.specs.Goals.{Goal}
 use Rattle.linear_form.specs.Query.{Query, Atom, Taken, next}
 use Rattle.linear_form.specs.Query.Query.{done}
 use Rattle.linear_form.specs.Questions.{Ends}
+use Rattle.linear_form.specs.Paths.{IsPath}
+use Rattle.linear_form.specs.Places.{IsOn}
 use Rattle.linear_form.specs.PlainPaths.{atom_of}
 use Rattle.linear_form.specs.internal.Run.{Evaluation, along}
 use Rattle.linear_form.specs.internal.Run.Evaluation.{value, decide}
 use Rattle.linear_form.specs.internal.Outcomes.{Result}
-use Rattle.linear_form.specs.internal.Evaluations.{resumed, asked_by, framed, ended, through, left_at, weight, focus_weight, frames_weight, frame_weight, IsKeptFocus, IsKeptFrame, AreKeptFrames}
+use Rattle.linear_form.specs.internal.Evaluations.{resumed, asked_by, framed, ended, through, left_at, standing, weight, focus_weight, frames_weight, frame_weight, IsKeptFocus, IsKeptFrame, AreKeptFrames, IsKeptEvaluation}
 use Rattle.linear_form.specs.internal.NodeSteps.{Moves, Steps}
 use Rattle.linear_form.specs.declared.evaluations.Evaluation as V
 use Rattle.linear_form.specs.declared.evaluations.Frame.{Frame}
 use Rattle.linear_form.specs.declared.node_steps.Step as S
 use Rattle.linear_form.specs.declared.paths.Atom as A
-use Rattle.linear_form.proofs.ContinuedRuns.{Local, local, less_taken, run_same, run_decide, run_large}
+use Rattle.linear_form.proofs.AssembledTrees.{next_assoc}
+use Rattle.linear_form.proofs.PathEnds.{found_on, next_done}
+use Rattle.linear_form.proofs.Runs.{run_same, run_decide, run_large}
 
 -- ---- Frames
 
@@ -26,6 +31,14 @@ framed_run ns ps q q' (f ∷ fs) i j e = run_same ps (framed ns q fs) (framed ns
 
 pub through_run : (ns : List Node) (ps : List Taken) (q q' : Query Result) (fs : List Frame) (i j : ℕ) → along ps q i ≡ along ps q' j → along ps (through ns q fs) i ≡ along ps (through ns q' fs) j
 through_run ns ps q q' fs i j e = run_same ps (framed ns q fs) (framed ns q' fs) ended i j (framed_run ns ps q q' fs i j e)
+
+-- all that is left is what follows the part
+framed_next : (ns : List Node) (q : Query Result) (fs : List Frame) → framed ns q fs ≡ next q (λ x. framed ns (done x) fs)
+framed_next ns q [] = sym (next_done q)
+framed_next ns q (f ∷ fs) = ap (λ z. next z (resumed ns f)) (framed_next ns q fs) ∙ next_assoc q (λ x. framed ns (done x) fs) (resumed ns f)
+
+through_next : (ns : List Node) (q : Query Result) (fs : List Frame) → through ns q fs ≡ next q (λ x. through ns (done x) fs)
+through_next ns q fs = ap (λ z. next z ended) (framed_next ns q fs) ∙ next_assoc q (λ x. framed ns (done x) fs) ended
 
 framed_decide : (ns : List Node) (ps : List Taken) (q : Query Result) (fs : List Frame) (i : ℕ) (a : Atom) → along ps q i ≡ decide a → along ps (framed ns q fs) i ≡ decide a
 framed_decide ns ps q [] i a e = e
@@ -66,9 +79,7 @@ weight_push ns (g ∷ fs) f = let e = weight_push ns fs f in omega (arith, e)
 pub stays : (ns : List Node) (ps : List Taken) (q : Query Ends) (i w : ℕ) (p : V.Evaluation) → q ≡ left_at ns p → p.at ≡ i → weight ns p < w → IsKeptFocus p.focus → AreKeptFrames p.frames.items → Steps ns ps q i w p S.TheVariants.On
 stays ns ps q i w p e a l h k = (
   record {
-    within = λ n. omega (arith, n, a);
-    behind = omega (arith, a);
-    left = λ qs m. ap₂ (λ t j. along qs t j) e (sym a);
+    on = λ g path o. subst (λ t. IsOn g ps (record { left = t; at = p.at })) e (subst (λ n. IsOn g ps (record { left = q; at = n })) (sym a) o);
     kept_focus = h;
     kept_frames = k;
   },
@@ -77,20 +88,13 @@ stays ns ps q i w p e a l h k = (
 
 -- a step from what is found on the path
 composed : (ns : List Node) (ps : List Taken) (t : Query Result) (fs : List Frame) (i j : ℕ) (x : Result) (p : V.Evaluation) → along ps t i ≡ value x j → Moves ns ps (through ns (done x) fs) j p → Moves ns ps (through ns t fs) i p
-unfolding along
 composed ns ps t fs i j x p e m = record {
-  within = λ n. m.within (loc.within n);
-  behind = let k = loc.behind in let l = m.behind in omega (arith, k, l);
-  left = λ qs n. through_run ns qs t (done x) fs i j (loc.same qs (less_taken ps qs j p.at m.behind n)) ∙ m.left qs n;
+  on = λ g path o. m.on g path (found_on g ps t (λ x. through ns (done x) fs) i j x path e (subst (λ q. IsOn g ps (record { left = q; at = i })) (through_next ns t fs) o));
   kept_focus = m.kept_focus;
   kept_frames = m.kept_frames;
 }
-  where
-    loc : Local ps t i j x
-    loc = local ps t i j x e
 
 step_after : (ns : List Node) (s : S.Step) (ps : List Taken) (t : Query Result) (fs : List Frame) (i j w : ℕ) (x : Result) (p : V.Evaluation) → along ps t i ≡ value x j → frames_weight ns fs < w → Steps ns ps (through ns (done x) fs) j (frames_weight ns fs) p s → Steps ns ps (through ns t fs) i w p s
-unfolding along
 step_after ns S.TheVariants.On ps t fs i j w x p e l h = (composed ns ps t fs i j x p e h.0, let k = h.1 in omega (arith, k, l))
 step_after ns (S.TheVariants.Asks a) ps t fs i j w x p e l h = (through_run ns ps t (done x) fs i j e ∙ h.0, composed ns ps t fs i j x p e h.1)
 step_after ns (S.TheVariants.Ends y z) ps t fs i j w x p e l h = ((h.0.0, through_run ns ps t (done x) fs i j e ∙ h.0.1), composed ns ps t fs i j x p e h.1)
@@ -113,7 +117,10 @@ with_more ns (Err m) ps q i v w p l h = h
 
 -- the place itself
 pub here : (ns : List Node) (ps : List Taken) (p : V.Evaluation) → IsKeptFocus p.focus → AreKeptFrames p.frames.items → Moves ns ps (left_at ns p) p.at p
-here ns ps p h k = record { within = λ n. n; behind = omega arith; left = λ qs m. refl; kept_focus = h; kept_frames = k }
+here ns ps p h k = record { on = λ g path o. o; kept_focus = h; kept_frames = k }
+
+pub moved : (ns : List Node) (g : Goal) (ps : List Taken) (p p' : V.Evaluation) → IsPath g ps → IsOn g ps (standing ns p) → Moves ns ps (left_at ns p) p.at p' → IsOn g ps (standing ns p') × IsKeptEvaluation p'
+moved ns g ps p p' path h m = (m.on g path h, (m.kept_focus, m.kept_frames))
 
 -- a frame waits for the outcome of the focus
 pub pushed : (ns : List Node) (ps : List Taken) (fs : List Frame) (f : Frame) (i w : ℕ) (p : V.Evaluation) → p.frames.items ≡ fs ++ (f ∷ []) → p.at ≡ i → focus_weight ns p.focus + frame_weight ns f + frames_weight ns fs < w → IsKeptFocus p.focus → IsKeptFrame f → AreKeptFrames fs → Steps ns ps (through ns (next (asked_by ns p.focus) (resumed ns f)) fs) i w p S.TheVariants.On

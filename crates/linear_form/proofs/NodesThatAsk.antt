@@ -3,7 +3,7 @@ use Rattle.std.proofs.Common.{◌≡◌, ℕ, List, [], ◌∷◌, ◌++◌, ref
 use Rattle.std.specs.Prelude.{Option, Some, slice_get}
 use Rattle.std.proofs.lemmas.Option.{slice_get_read}
 use Rattle.heylo_graph.specs.declared.nodes.Node.{Node}
-use Rattle.linear_values.specs.Lin.{Lin, Linear, Terms, minus, is_sized}
+use Rattle.linear_values.specs.Lin.{Lin, Terms, minus, is_sized}
 use Rattle.linear_values.specs.Operator.{has_no_terms}
 use Rattle.linear_values.specs.PlainValues.{lin_of}
 use Rattle.linear_values.specs.declared.lin.Lin as L
@@ -13,11 +13,9 @@ use Rattle.linear_form.specs.Query.Query.{done, bits}
 use Rattle.linear_form.specs.Questions as q
 use Rattle.linear_form.specs.Questions.{asked, is_below}
 use Rattle.linear_form.specs.internal.LastingTrees.{Lasts}
-use Rattle.linear_form.specs.internal.Nodes.{comparison}
 use Rattle.linear_form.specs.internal.Outcomes.{Result, of_number, of_bool}
 use Rattle.linear_form.specs.internal.NodeQuestions.{asks_at, kind_asks, operation, is_comparison, with_second, either}
 use Rattle.linear_form.specs.internal.NodeTables.{HasValue, AreValues, AreAsking, IsNoted}
-use Rattle.linear_form.specs.declared.nodes.Comparison.{Comparison}
 use Rattle.linear_form.specs.declared.kinds.Operation.{Operation}
 use Rattle.linear_form.specs.declared.kinds.Kind.{Kind}
 use Rattle.linear_form.proofs.SureQuestions.{lasts_bits, lasts_first, lasts_later, chosen_lasts}
@@ -37,29 +35,24 @@ below_asks a strict h = go (is_sized a)
     go true = some_terms a.terms a strict h
     go false = lasts_bits Bool 1
 
-pub operation_asks : (x y : Linear) (o : Operation) → ((c : Comparison) → Lasts 1 (comparison c x y)) → is_comparison o ≡ true → Lasts 1 (operation o x y)
-operation_asks x y Operation.Sum h c = absurd (cc)
-operation_asks x y Operation.Difference h c = absurd (cc)
-operation_asks x y Operation.Cut h c = absurd (cc)
-operation_asks x y (Operation.Scale w) h c = absurd (cc)
-operation_asks x y Operation.Product h c = absurd (cc)
-operation_asks x y Operation.Min h c = absurd (cc)
-operation_asks x y Operation.Max h c = absurd (cc)
-operation_asks x y Operation.Imply h c = absurd (cc)
-operation_asks x y Operation.CoImply h c = absurd (cc)
-operation_asks x y Operation.Validate h c = absurd (cc)
-operation_asks x y Operation.CoValidate h c = absurd (cc)
-operation_asks x y Operation.AtMost h c = lasts_first 1 (q.at_most x y) _ (h Comparison.AtMost)
-operation_asks x y Operation.Less h c = lasts_first 1 (q.less x y) _ (h Comparison.Less)
-operation_asks x y Operation.Equal h c = lasts_first 1 (q.equal x y) _ (h Comparison.Equal)
-
-comparison_asks : (a b : Lin) → has_no_terms (minus a b).terms ≡ false → (c : Comparison) → Lasts 1 (comparison c (Some a) (Some b))
-comparison_asks a b h Comparison.AtMost = below_asks (minus a b) false h
-comparison_asks a b h Comparison.Less = below_asks (minus a b) true h
-comparison_asks a b h Comparison.Equal = lasts_first 1 (is_below (minus a b) false) _ (below_asks (minus a b) false h)
+pub operation_asks : (a b : Lin) (o : Operation) → ((strict : Bool) → Lasts 1 (is_below (minus a b) strict)) → is_comparison o ≡ true → Lasts 1 (operation o (Some a) (Some b))
+operation_asks a b Operation.Sum h c = absurd (cc)
+operation_asks a b Operation.Difference h c = absurd (cc)
+operation_asks a b Operation.Cut h c = absurd (cc)
+operation_asks a b (Operation.Scale w) h c = absurd (cc)
+operation_asks a b Operation.Product h c = absurd (cc)
+operation_asks a b Operation.Min h c = absurd (cc)
+operation_asks a b Operation.Max h c = absurd (cc)
+operation_asks a b Operation.Imply h c = absurd (cc)
+operation_asks a b Operation.CoImply h c = absurd (cc)
+operation_asks a b Operation.Validate h c = absurd (cc)
+operation_asks a b Operation.CoValidate h c = absurd (cc)
+operation_asks a b Operation.AtMost h c = lasts_first 1 (is_below (minus a b) false) _ (h false)
+operation_asks a b Operation.Less h c = lasts_first 1 (is_below (minus a b) true) _ (h true)
+operation_asks a b Operation.Equal h c = lasts_first 1 (q.equal (Some a) (Some b)) _ (lasts_first 1 (is_below (minus a b) false) _ (h false))
 
 values_ask : (ns : List Node) (a b : ℕ) (x y : L.Lin) (d : Lin) (o : Operation) → HasValue ns a x → HasValue ns b y → d ≡ minus (lin_of x) (lin_of y) → has_no_terms d.terms ≡ false → is_comparison o ≡ true → Lasts 1 (kind_asks (asks_at ns) (Kind.Two o a b))
-values_ask ns a b x y d o h k e n c = subst (Lasts 1) (sym (two_given ns a b x y o h k)) (operation_asks (Some (lin_of x)) (Some (lin_of y)) o (comparison_asks (lin_of x) (lin_of y) (sym (ap (λ d. has_no_terms d.terms) e) ∙ n)) c)
+values_ask ns a b x y d o h k e n c = subst (Lasts 1) (sym (two_given ns a b x y o h k)) (operation_asks (lin_of x) (lin_of y) o (λ strict. below_asks (minus (lin_of x) (lin_of y)) strict (sym (ap (λ d. has_no_terms d.terms) e) ∙ n)) c)
 
 untrue : (b : Bool) → not b ≡ true → b ≡ false
 untrue true e = absurd (cc)

@@ -1,102 +1,122 @@
--- An evaluation along a path of a tree gives what stands at the path's end.
-use Rattle.std.proofs.Common.{◌≡◌, ◌⊎◌, ℕ, ◌+◌, List, [], ◌∷◌, ◌++◌, refl, sym, ap, ◌∙◌, subst, arith, Bool, true, false, inl, inr, take, drop, length}
+-- An evaluation that goes on along a path from a place on it: where it comes to, and what stands at the path's end.
+use Rattle.std.proofs.Common.{◌≡◌, ◌⊎◌, ℕ, ◌+◌, ◌<◌, ◌≤◌, List, [], ◌∷◌, ◌++◌, refl, sym, ap, ◌∙◌, subst, arith, Bool, true, false, cond, inl, inr, take, drop, length, get_or}
+use Prim.Native.Nat.{zero, suc}
 use Rattle.std.specs.Prelude.{Option, Some, None}
-use Rattle.std.proofs.lemmas.List.{append-nil, take-append-le}
+use Rattle.std.proofs.lemmas.List.{take-append-drop, take_more, drop_more}
 use Rattle.heylo_formula.specs.Goals.{Goal}
-use Rattle.linear_form.specs.Query.{Query, Atom, Taken, known, unless_known, once, onto}
+use Rattle.linear_form.specs.Query.{Query, Atom, Taken, next, known, unless_known, once, onto}
 use Rattle.linear_form.specs.Query.Query.{done, bits, ask}
 use Rattle.linear_form.specs.Paths.{Path, walk, IsPath, end_at}
-use Rattle.linear_form.specs.Questions.{Ends, evaluate, both, all_questions}
+use Rattle.linear_form.specs.Questions.{Ends, questions}
+use Rattle.linear_form.specs.Standings.{Standing}
+use Rattle.linear_form.specs.Places.{IsOn}
 use Rattle.linear_form.specs.internal.Run.{Evaluation, along, turned, heard}
 use Rattle.linear_form.specs.internal.Run.Evaluation.{value, decide}
-use Rattle.linear_values.specs.PlainValues.{linear_of}
-use Rattle.linear_form.specs.PlainPaths.{atom_of}
-use Rattle.linear_form.specs.AskAnswers.{Answers}
-use Rattle.linear_values.specs.declared.lin.Lin as L
-use Rattle.linear_form.specs.declared.paths.Atom as A
-use Rattle.linear_form.specs.declared.questions.Ask as K
-use Rattle.linear_form.proofs.ContinuedRuns.{local}
-use Rattle.linear_form.proofs.SplitPaths.{end_same}
+use Rattle.linear_form.proofs.SplitPaths.{walk_nil, walk_append}
 
--- an evaluation came to what the tree has at its head
-abbrev pub Same : {A : Type 0} → Evaluation A → Query A → Type 0
-Same (Evaluation.value a i) (Query.done b) = a ≡ b
-Same (Evaluation.value a i) Query.bits = ⊥
-Same (Evaluation.value a i) (Query.ask q y n) = ⊥
-Same (Evaluation.decide q) (Query.done b) = ⊥
-Same (Evaluation.decide q) Query.bits = ⊥
-Same (Evaluation.decide q) (Query.ask r y n) = q ≡ r
-Same Evaluation.bits (Query.done b) = ⊥
-Same Evaluation.bits Query.bits = Unit {0}
-Same Evaluation.bits (Query.ask q y n) = ⊥
+-- ---- The answers of a path are to the questions of the tree, as far as it has any
 
-drop_past : (ps rest : List Taken) → drop (length ps) (ps ++ rest) ≡ rest
-drop_past [] rest = refl
-drop_past (p ∷ ps) rest = drop_past ps rest
+abbrev pub Follows : {A : Type 0} → Query A → List Taken → Type 0
+Follows (done a) ps = Unit {0}
+Follows bits ps = Unit {0}
+Follows (ask q y n) [] = Unit {0}
+Follows (ask q y n) (p ∷ ps) = (p.atom ≡ q) × ((p.held ≡ true → Follows y ps) × (p.held ≡ false → Follows n ps))
 
-take_past : (ps rest : List Taken) → take (length ps) (ps ++ rest) ≡ ps
-take_past [] rest = refl
-take_past (p ∷ ps) rest = ap (λ qs. p ∷ qs) (take_past ps rest)
+follows_path : {A : Type 0} (t : Query A) (qs ss : List Taken) → Path t qs → (ss ≡ []) ⊎ ((a : A) × (walk t qs ≡ done a)) → Follows t (qs ++ ss)
+follows_path (done a) _ ss (Path.start _) h = tt
+follows_path bits _ ss (Path.start _) h = tt
+follows_path (ask q y n) _ ss (Path.start _) (inl e) = subst (Follows (ask q y n)) (sym e) tt
+follows_path (ask q y n) _ ss (Path.start _) (inr k) = let e = k.1 in absurd (cc)
+follows_path (ask q y n) _ ss (Path.yes _ _ _ ps p) h = (refl, (λ e. follows_path y ps ss p h, λ e. absurd (cc)))
+follows_path (ask q y n) _ ss (Path.no _ _ _ ps p) h = (refl, (λ e. absurd (cc), λ e. follows_path n ps ss p h))
 
-onto_more : (ps rest : List Taken) (q : Atom) (b : Bool) → onto ps q b ++ rest ≡ ps ++ (record { atom = q; held = b } ∷ rest)
-onto_more [] rest q b = refl
-onto_more (p ∷ ps) rest q b = ap (λ qs. p ∷ qs) (onto_more ps rest q b)
+follows : (g : Goal) (ps : List Taken) → IsPath g ps → Follows (questions g) ps
+follows g ps h = subst (Follows (questions g)) (sym h.parts) (follows_path (questions g) h.asked h.splits h.is_asked h.at_end)
 
-onto_length : (ps : List Taken) (q : Atom) (b : Bool) → length (onto ps q b) ≡ length ps + 1
-onto_length [] q b = refl
-onto_length (p ∷ ps) q b = let e = onto_length ps q b in omega arith
+follows_further : {A : Type 0} (t : Query A) (xs ys : List Taken) → Follows t (xs ++ ys) → Follows (walk t xs) ys
+follows_further (done a) xs ys h = tt
+follows_further bits xs ys h = tt
+follows_further (ask q y n) [] ys h = h
+follows_further {A} (ask q y n) (x ∷ xs) ys h = go x.held refl (follows_further y xs ys) (follows_further n xs ys)
+  where
+    go : (b : Bool) → x.held ≡ b → (Follows y (xs ++ ys) → Follows (walk y xs) ys) → (Follows n (xs ++ ys) → Follows (walk n xs) ys) → Follows (cond b (walk y xs) (walk n xs)) ys
+    go true e f k = f (h.1.0 e)
+    go false e f k = k (h.1.1 e)
 
-step : {A : Type 0} (past rest : List Taken) (q : Atom) (y n y' n' : Query A) → Path (ask q y' n') rest → ((ps : List Taken) → Path y' ps → Same (along (onto past q true ++ ps) y (length (onto past q true))) (walk y' ps)) → ((ps : List Taken) → Path n' ps → Same (along (onto past q false ++ ps) n (length (onto past q false))) (walk n' ps)) → Same (turned (drop (length past) (past ++ rest)) q (along (past ++ rest) y (length past + 1)) (along (past ++ rest) n (length past + 1))) (walk (ask q y' n') rest)
-step past _ q y n y' n' (Path.start _) f g = subst (λ zs. Same (turned zs q (along (past ++ []) y (length past + 1)) (along (past ++ []) n (length past + 1))) (ask q y' n')) (sym (drop_past past [])) refl
-step past _ q y n y' n' (Path.yes _ _ _ ps p) f g = subst (λ zs. Same (turned zs q (along (past ++ (record { atom = q; held = true } ∷ ps)) y (length past + 1)) (along (past ++ (record { atom = q; held = true } ∷ ps)) n (length past + 1))) (walk y' ps)) (sym (drop_past past _)) (subst (λ i. Same (along (past ++ (record { atom = q; held = true } ∷ ps)) y i) (walk y' ps)) (onto_length past q true) (subst (λ zs. Same (along zs y (length (onto past q true))) (walk y' ps)) (onto_more past ps q true) (f ps p)))
-step past _ q y n y' n' (Path.no _ _ _ ps p) f g = subst (λ zs. Same (turned zs q (along (past ++ (record { atom = q; held = false } ∷ ps)) y (length past + 1)) (along (past ++ (record { atom = q; held = false } ∷ ps)) n (length past + 1))) (walk n' ps)) (sym (drop_past past _)) (subst (λ i. Same (along (past ++ (record { atom = q; held = false } ∷ ps)) n i) (walk n' ps)) (onto_length past q false) (subst (λ zs. Same (along zs n (length (onto past q false))) (walk n' ps)) (onto_more past ps q false) (g ps p)))
+-- ---- One more answer
 
-pub run_walk : {A : Type 0} (past rest : List Taken) (t : Query A) → Path (once past t) rest → Same (along (past ++ rest) t (length past)) (walk (once past t) rest)
+further : {A : Type 0} (t : Query A) (ps : List Taken) (i : ℕ) → walk t ps ≡ walk (walk t (take i ps)) (drop i ps)
+further t ps i = ap (walk t) (sym (take-append-drop i ps)) ∙ walk_append t (take i ps) (drop i ps)
+
+inside : (ps : List Taken) (i : ℕ) (p : Taken) (rest : List Taken) → drop i ps ≡ p ∷ rest → i < length ps
+inside [] zero p rest e = absurd (cc)
+inside [] (suc i) p rest e = absurd (cc)
+inside (x ∷ ps) zero p rest e = omega arith
+inside (x ∷ ps) (suc i) p rest e = let h = inside ps i p rest e in omega (arith, h)
+
+next_taken : (ps : List Taken) (i : ℕ) (p : Taken) (rest : List Taken) → drop i ps ≡ p ∷ rest → take (i + 1) ps ≡ take i ps ++ (p ∷ [])
+next_taken ps i p rest e = let l = inside ps i p rest e in let k : get_or ps i p ∷ drop (i + 1) ps ≡ p ∷ rest = sym (drop_more ps i p l) ∙ e in let m : get_or ps i p ≡ p = cc in take_more ps i p l ∙ ap (λ z. take i ps ++ (z ∷ [])) m
+
+passed : {A : Type 0} (t : Query A) (past : List Taken) (q : Atom) (b : Bool) (y n : Query A) → walk t past ≡ ask q y n → walk t (onto past q b) ≡ cond b y n
+passed {A} t past q b y n e = walk_append t past (record { atom = q; held = b } ∷ []) ∙ ap (λ z. walk z (record { atom = q; held = b } ∷ [])) e ∙ last b
+  where
+    last : (b : Bool) → cond b (walk y []) (walk n []) ≡ cond b y n
+    last true = walk_nil y
+    last false = walk_nil n
+
+-- ---- What the evaluation of a part comes to, where a whole tree has come to the part and what follows it
+
+abbrev pub Reaches : {A B : Type 0} → Query B → List Taken → (A → Query B) → Evaluation A → Type 0
+Reaches t ps f (value x j) = (j ≤ length ps) × (walk t (take j ps) ≡ once (take j ps) (f x))
+Reaches {A} {B} t ps f (decide q) = (y : Query B) × ((n : Query B) × (walk t ps ≡ ask q y n))
+Reaches t ps f Evaluation.bits = walk t ps ≡ bits
+
+heard_reaches : {A B : Type 0} (t : Query B) (ps : List Taken) (f : A → Query B) (o : Option Bool) (w y n z : Query B) (yes no out : Evaluation A) → w ≡ unless_known o y n z → (w ≡ y → Reaches t ps f yes) → (w ≡ n → Reaches t ps f no) → (w ≡ z → Reaches t ps f out) → Reaches t ps f (heard o yes no out)
+heard_reaches t ps f (Some true) w y n z yes no out e a b c = a e
+heard_reaches t ps f (Some false) w y n z yes no out e a b c = b e
+heard_reaches t ps f None w y n z yes no out e a b c = c e
+
+turned_reaches : {A B : Type 0} (t : Query B) (ps : List Taken) (f : A → Query B) (q : Atom) (i : ℕ) (y n : Query B) (yes no : Evaluation A) → Follows t ps → walk t (take i ps) ≡ ask q (once (onto (take i ps) q true) y) (once (onto (take i ps) q false) n) → (i + 1 ≤ length ps → walk t (take (i + 1) ps) ≡ once (take (i + 1) ps) y → Reaches t ps f yes) → (i + 1 ≤ length ps → walk t (take (i + 1) ps) ≡ once (take (i + 1) ps) n → Reaches t ps f no) → Reaches t ps f (turned (drop i ps) q yes no)
+turned_reaches {A} {B} t ps f q i y n yes no w e a b = go (drop i ps) refl
+  where
+    answer : (p : Bool) → i + 1 ≤ length ps → take (i + 1) ps ≡ onto (take i ps) q p → Reaches t ps f (cond p yes no)
+    answer true l c = a l (ap (walk t) c ∙ passed t (take i ps) q true _ _ e ∙ ap (λ z. once z y) (sym c))
+    answer false l c = b l (ap (walk t) c ∙ passed t (take i ps) q false _ _ e ∙ ap (λ z. once z n) (sym c))
+
+    go : (rest : List Taken) → drop i ps ≡ rest → Reaches t ps f (turned rest q yes no)
+    go [] k = (once (onto (take i ps) q true) y, (once (onto (take i ps) q false) n, further t ps i ∙ ap (λ z. walk z (drop i ps)) e ∙ ap (walk (ask q (once (onto (take i ps) q true) y) (once (onto (take i ps) q false) n))) k))
+    go (p ∷ rest) k = let l = inside ps i p rest k in answer p.held (omega (arith, l)) (next_taken ps i p rest k ∙ ap (λ r. take i ps ++ (record { atom = r; held = p.held } ∷ [])) asked)
+      where
+        asked : p.atom ≡ q
+        asked = (subst (Follows (ask q (once (onto (take i ps) q true) y) (once (onto (take i ps) q false) n))) k (subst (λ z. Follows z (drop i ps)) e (follows_further t (take i ps) (drop i ps) (subst (Follows t) (sym (take-append-drop i ps)) w)))).0
+
+pub reaches : {A B : Type 0} (t : Query B) (ps : List Taken) (u : Query A) (f : A → Query B) (i : ℕ) → Follows t ps → i ≤ length ps → walk t (take i ps) ≡ once (take i ps) (next u f) → Reaches t ps f (along ps u i)
 unfolding along
-run_walk past rest (done a) p = refl
-run_walk past rest bits p = tt
-run_walk past rest (ask (Atom.row a strict) y n) p = step past rest (Atom.row a strict) y n _ _ p (λ ps r. run_walk (onto past (Atom.row a strict) true) ps y r) (λ ps r. run_walk (onto past (Atom.row a strict) false) ps n r)
-run_walk {A} past rest (ask (Atom.truth x) y n) p = subst (λ zs. Same (heard (known x zs) (along (past ++ rest) y (length past)) (along (past ++ rest) n (length past)) (turned (drop (length past) (past ++ rest)) (Atom.truth x) (along (past ++ rest) y (length past + 1)) (along (past ++ rest) n (length past + 1)))) (walk (unless_known (known x past) (once past y) (once past n) (ask (Atom.truth x) (once (onto past (Atom.truth x) true) y) (once (onto past (Atom.truth x) false) n))) rest)) (sym (take_past past rest)) (go (known x past) p (run_walk past rest y) (run_walk past rest n) (λ ps r. run_walk (onto past (Atom.truth x) true) ps y r) (λ ps r. run_walk (onto past (Atom.truth x) false) ps n r))
-  where
-    go : (o : Option Bool) → Path (unless_known o (once past y) (once past n) (ask (Atom.truth x) (once (onto past (Atom.truth x) true) y) (once (onto past (Atom.truth x) false) n))) rest → (Path (once past y) rest → Same (along (past ++ rest) y (length past)) (walk (once past y) rest)) → (Path (once past n) rest → Same (along (past ++ rest) n (length past)) (walk (once past n) rest)) → ((ps : List Taken) → Path (once (onto past (Atom.truth x) true) y) ps → Same (along (onto past (Atom.truth x) true ++ ps) y (length (onto past (Atom.truth x) true))) (walk (once (onto past (Atom.truth x) true) y) ps)) → ((ps : List Taken) → Path (once (onto past (Atom.truth x) false) n) ps → Same (along (onto past (Atom.truth x) false ++ ps) n (length (onto past (Atom.truth x) false))) (walk (once (onto past (Atom.truth x) false) n) ps)) → Same (heard o (along (past ++ rest) y (length past)) (along (past ++ rest) n (length past)) (turned (drop (length past) (past ++ rest)) (Atom.truth x) (along (past ++ rest) y (length past + 1)) (along (past ++ rest) n (length past + 1)))) (walk (unless_known o (once past y) (once past n) (ask (Atom.truth x) (once (onto past (Atom.truth x) true) y) (once (onto past (Atom.truth x) false) n))) rest)
-    go (Some true) p f g k l = f p
-    go (Some false) p f g k l = g p
-    go None p f g k l = step past rest (Atom.truth x) y n _ _ p k l
+reaches t ps (done a) f i w l e = (l, e)
+reaches t ps bits f i w l e = further t ps i ∙ ap (λ z. walk z (drop i ps)) e
+reaches t ps (ask (Atom.row a strict) y n) f i w l e = turned_reaches t ps f (Atom.row a strict) i (next y f) (next n f) _ _ w e (reaches t ps y f (i + 1) w) (reaches t ps n f (i + 1) w)
+reaches t ps (ask (Atom.truth x) y n) f i w l e = heard_reaches t ps f (known x (take i ps)) _ _ _ _ _ _ _ e (reaches t ps y f i w l) (reaches t ps n f i w l) (λ k. turned_reaches t ps f (Atom.truth x) i (next y f) (next n f) _ _ w k (reaches t ps y f (i + 1) w) (reaches t ps n f (i + 1) w))
 
--- an evaluation that comes to its end comes there on each longer path
-past_end : (qs ss : List Taken) (t : Query Ends) (x : Ends) (j : ℕ) → along qs t 0 ≡ value x j → along (qs ++ ss) t 0 ≡ value x j
-past_end qs ss t x j e = let h = local qs t 0 j x e in h.same (qs ++ ss) (take-append-le j qs ss (h.within (omega arith)))
+-- ---- A goal's evaluation, from a place on a path
 
--- what a goal's evaluation comes to is what stands at the end of the path
-pub goal_end : (g : Goal) (ps : List Taken) (o : Evaluation Ends) → IsPath g ps → along ps (both (evaluate g.stated) (evaluate g.found) (λ x y. done (x, y))) 0 ≡ o → Same o (end_at g ps)
-goal_end g ps o p e = subst (λ o. Same o (end_at g ps)) e (subst (Same (along ps (all_questions g) 0)) (sym (end_same g ps p)) (go p.at_end))
-  where
-    first : Same (along p.asked (all_questions g) 0) (end_at g p.asked)
-    first = run_walk [] p.asked (all_questions g) p.is_asked
+-- where it comes to once a part has its value
+pub found_on : {A : Type 0} (g : Goal) (ps : List Taken) (u : Query A) (f : A → Query Ends) (i j : ℕ) (x : A) → IsPath g ps → along ps u i ≡ value x j → IsOn g ps (record { left = next u f; at = i }) → IsOn g ps (record { left = f x; at = j })
+found_on g ps u f i j x w e h = let k = subst (Reaches (questions g) ps f) e (reaches (questions g) ps u f i (follows g ps w) h.within h.left) in record { within = k.0; left = k.1 }
 
-    whole : (ss : List Taken) → p.splits ≡ ss → ps ≡ p.asked ++ ss
-    whole ss e = p.parts ∙ ap (λ ss. p.asked ++ ss) e
+pub next_done : {A : Type 0} (q : Query A) → next q (λ x. done x) ≡ q
+next_done (done a) = refl
+next_done bits = refl
+next_done (ask q y n) = λ i. ask q (next_done y i) (next_done n i)
 
-    ended : (x : Ends) → end_at g p.asked ≡ done x → (o : Evaluation Ends) → along p.asked (all_questions g) 0 ≡ o → Same o (done x) → Same (along ps (all_questions g) 0) (done x)
-    ended x k (value y j) f h = subst (λ qs. Same (along qs (all_questions g) 0) (done x)) (sym p.parts) (subst (λ o. Same o (done x)) (sym (past_end p.asked p.splits (all_questions g) y j f)) h)
-    ended x k (decide q) f h = absurd h
-    ended x k Evaluation.bits f h = absurd h
+come_on : (g : Goal) (ps : List Taken) (p : Standing) (o : Evaluation Ends) → IsPath g ps → IsOn g ps p → along ps p.left p.at ≡ o → Reaches (questions g) ps (λ x. done x) o
+come_on g ps p o w h e = subst (Reaches (questions g) ps (λ x. done x)) e (reaches (questions g) ps p.left (λ x. done x) p.at (follows g ps w) h.within (h.left ∙ ap (once (take p.at ps)) (sym (next_done p.left))))
 
-    go : (p.splits ≡ []) ⊎ ((x : Ends) × (end_at g p.asked ≡ done x)) → Same (along ps (all_questions g) 0) (end_at g p.asked)
-    go (inl k) = subst (λ qs. Same (along qs (all_questions g) 0) (end_at g p.asked)) (sym (whole [] k ∙ append-nil p.asked)) first
-    go (inr k) = subst (Same (along ps (all_questions g) 0)) (sym k.1) (ended k.0 k.1 (along p.asked (all_questions g) 0) refl (subst (Same (along p.asked (all_questions g) 0)) k.1 first))
+-- what stands at the path's end
+pub value_on : (g : Goal) (ps : List Taken) (p : Standing) (x : Ends) (j : ℕ) → IsPath g ps → IsOn g ps p → along ps p.left p.at ≡ value x j → end_at g ps ≡ done x
+value_on g ps p x j w h e = let k = come_on g ps p (value x j) w h e in further (questions g) ps j ∙ ap (λ z. walk z (drop j ps)) k.1
 
-pub answer_end : (x z : Option L.Lin) (i : ℕ) (t : Query Ends) → Same (value (linear_of x, linear_of z) i) t → Answers (K.TheVariants.End x z) t
-answer_end x z i (done e) h = h
-answer_end x z i bits h = h
-answer_end x z i (ask q y n) h = h
+pub question_on : (g : Goal) (ps : List Taken) (p : Standing) (q : Atom) → IsPath g ps → IsOn g ps p → along ps p.left p.at ≡ decide q → (y : Query Ends) × ((n : Query Ends) × (end_at g ps ≡ ask q y n))
+question_on g ps p q w h e = come_on g ps p (decide q) w h e
 
-pub answer_decide : (q : A.Atom) (t : Query Ends) → Same (decide (atom_of q)) t → Answers (K.TheVariants.Decide q) t
-answer_decide q (done e) h = h
-answer_decide q bits h = h
-answer_decide q (ask r y n) h = h
-
-pub answer_bits : (t : Query Ends) → Same Evaluation.bits t → Answers K.TheVariants.Bits t
-answer_bits (done e) h = h
-answer_bits bits h = h
-answer_bits (ask r y n) h = h
+pub bits_on : (g : Goal) (ps : List Taken) (p : Standing) → IsPath g ps → IsOn g ps p → along ps p.left p.at ≡ Evaluation.bits → end_at g ps ≡ bits
+bits_on g ps p w h e = come_on g ps p Evaluation.bits w h e

@@ -1,28 +1,40 @@
--- Places on a path.
-use Rattle.std.proofs.Common.{◌≡◌, List, [], ◌∷◌, ◌++◌, sym, ap, ap₂, ◌∙◌, subst, arith}
+-- Places on a path: each stays on longer ones, and the first is before all questions.
+use Rattle.std.proofs.Common.{◌≡◌, ℕ, List, [], ◌∷◌, ◌++◌, sym, ap, ap₂, ◌∙◌, subst, arith}
 use Rattle.std.proofs.lemmas.List.{take-append-le, length-append}
 use Rattle.heylo_formula.specs.Goals.{Goal}
-use Rattle.linear_form.specs.Query.{Taken}
-use Rattle.linear_form.specs.Questions.{all_questions}
-use Rattle.linear_form.specs.internal.Run.{along}
-use Rattle.linear_form.specs.internal.Places.{asked_by, through, IsKeptFocus, IsKeptFrame, AreKeptFrames}
+use Rattle.heylo_graph.specs.Trees.{Tree}
+use Rattle.heylo_graph.specs.Nodes.{Stands}
+use Rattle.linear_form.specs.Query.{Query, Taken, next, once}
+use Rattle.linear_form.specs.Query.Query.{done}
+use Rattle.linear_form.specs.Paths.{end_at}
+use Rattle.linear_form.specs.Questions.{all_questions, evaluate, questions}
+use Rattle.linear_form.specs.Standings.{Standing}
+use Rattle.heylo_graph.specs.declared.nodes.Node.{Node}
+use Rattle.linear_form.specs.internal.Outcomes.{Result, of_number}
+use Rattle.linear_form.specs.internal.NodeQuestions.{asks_at, asked_if}
+use Rattle.linear_form.specs.internal.Evaluations.{ended, through, IsKeptFrame, AreKeptFrames}
 use Rattle.linear_form.specs.Places.{IsOn}
-use Rattle.linear_form.specs.declared.places.Place.{Place}
-use Rattle.linear_form.specs.declared.places.Frame.{Frame}
+use Rattle.linear_form.specs.declared.evaluations.Frame as W
+use Rattle.linear_form.specs.declared.evaluations.Frame.{Frame}
+use Rattle.linear_form.proofs.AssembledTrees.{all_asked}
+use Rattle.linear_form.proofs.SplitPaths.{walk_nil}
 
-pub place_stays : (g : Goal) (ps qs : List Taken) (p : Place) → IsOn g ps p → IsOn g (ps ++ qs) p
+pub place_stays : (g : Goal) (ps qs : List Taken) (p : Standing) → IsOn g ps p → IsOn g (ps ++ qs) p
 place_stays g ps qs p h = record {
   within = let l = length-append ps qs in let w = h.within in omega (arith, l, w);
-  left = λ rs e. h.left rs (e ∙ take-append-le p.at ps qs h.within);
-  kept_focus = h.kept_focus;
-  kept_frames = h.kept_frames;
+  left = subst (λ xs. end_at g xs ≡ once xs p.left) (sym (take-append-le p.at ps qs h.within)) h.left;
 }
 
 -- before the first question
-pub begins : (g : Goal) (p : Place) (before : List Frame) (f : Frame) → p.at ≡ 0 → p.frames.items ≡ before ++ (f ∷ []) → before ≡ [] → through (asked_by p.focus) (f ∷ []) ≡ all_questions g → IsKeptFocus p.focus → IsKeptFrame f → IsOn g [] p
-begins g p before f a i n e h k = let j : p.frames.items ≡ f ∷ [] = i ∙ ap (λ fs. fs ++ (f ∷ [])) n in record {
-  within = omega (arith, a);
-  left = λ qs m. ap₂ (λ t i. along qs t i) (sym e ∙ ap (through (asked_by p.focus)) (sym j)) (sym a);
-  kept_focus = h;
-  kept_frames = subst AreKeptFrames (sym j) (k, tt);
+pub begins : (ns : List Node) (g : Goal) (q : Query Result) (all before : List Frame) (f : Frame) → all ≡ before ++ (f ∷ []) → before ≡ [] → through ns q (f ∷ []) ≡ all_questions g → IsOn g [] (record { left = through ns q all; at = 0 })
+begins ns g q all before f i n e = record {
+  within = omega arith;
+  left = walk_nil (questions g) ∙ ap (once []) (sym (ap (through ns q) (i ∙ ap (λ fs. fs ++ (f ∷ [])) n) ∙ e));
 }
+
+-- both forms of a goal that stand in a graph
+pub graph_asked : (ns : List Node) (g : Goal) (i j : ℕ) → Stands ns i (Tree.formula g.stated) → Stands ns j (Tree.formula g.found) → through ns (asks_at ns i) (W.TheVariants.Stated j ∷ []) ≡ all_questions g
+graph_asked ns g i j s f = ap₂ (λ p r. next (next p (of_number (λ x. next r (of_number (λ y. done (Result.ends (x, y))))))) ended) (ap asked_if s.tree) (ap asked_if f.tree) ∙ all_asked (evaluate g.stated) (evaluate g.found)
+
+pub begins_kept : (all before : List Frame) (f : Frame) → all ≡ before ++ (f ∷ []) → before ≡ [] → IsKeptFrame f → AreKeptFrames all
+begins_kept all before f i n k = subst AreKeptFrames (sym (i ∙ ap (λ fs. fs ++ (f ∷ [])) n)) (k, tt)

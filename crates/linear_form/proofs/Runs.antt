@@ -10,6 +10,8 @@ use Rattle.linear_form.specs.internal.Run.{Evaluation, along, turned, heard, onw
 use Rattle.linear_form.specs.internal.Run.Evaluation.{value, decide}
 use Rattle.linear_form.specs.PlainPaths.{path_of}
 use Rattle.linear_form.specs.internal.EvaluationResults.{Stops, Gives}
+use Rattle.linear_form.specs.internal.Outcomes as outcomes
+use Rattle.linear_form.specs.internal.Outcomes.{valued, told}
 use Rattle.linear_form.specs.declared.paths.Taken as T
 use Rattle.linear_form.specs.declared.cursor.Stop as S
 use Rattle.linear_form.specs.declared.cursor.Stop.{Stop}
@@ -106,3 +108,24 @@ gives_first r e ps q t f i h k g = rw (h, k) (stops_first e ps t f i g)
 
 pub gives_second : {A B : Type 0} (r : Result Found Stop) (e : Stop) (ps : List Taken) (q : Query Linear) (t : Query A) (u : Query B) (f : A → B → Query Linear) (i j : ℕ) (x : A) → r ≡ Err e → q ≡ next t (λ x. next u (λ y. f x y)) → along ps t i ≡ value x j → Stops e (along ps u j) → Gives r (along ps q i)
 gives_second r e ps q t u f i j x h k a g = rw (h, k) (stops_second e ps t u f i j x a g)
+
+pub run_same : {A B : Type 0} (ps : List Taken) (q q' : Query A) (f : A → Query B) (i j : ℕ) → along ps q i ≡ along ps q' j → along ps (next q f) i ≡ along ps (next q' f) j
+run_same ps q q' f i j e = run_next ps q f i ∙ ap (λ z. onward z (λ a k. along ps (f a) k)) e ∙ sym (run_next ps q' f j)
+
+pub run_decide : {A B : Type 0} (ps : List Taken) (q : Query A) (f : A → Query B) (i : ℕ) (a : Atom) → along ps q i ≡ decide a → along ps (next q f) i ≡ decide a
+run_decide ps q f i a e = run_next ps q f i ∙ ap (λ z. onward z (λ a k. along ps (f a) k)) e
+
+pub run_large : {A B : Type 0} (ps : List Taken) (q : Query A) (f : A → Query B) (i : ℕ) → along ps q i ≡ Evaluation.bits → along ps (next q f) i ≡ Evaluation.bits
+run_large ps q f i e = run_next ps q f i ∙ ap (λ z. onward z (λ a k. along ps (f a) k)) e
+
+pub stops_valued : (e : Stop) (ps : List Taken) (t t' : Query Linear) (i : ℕ) → t ≡ t' → Stops e (along ps t' i) → Stops e (along ps (valued t) i)
+stops_valued e ps t t' i k h = stops_first e ps t _ i (subst (λ t. Stops e (along ps t i)) (sym k) h)
+
+pub stops_told : (e : Stop) (ps : List Taken) (t t' : Query Bool) (i : ℕ) → t ≡ t' → Stops e (along ps t' i) → Stops e (along ps (told t) i)
+stops_told e ps t t' i k h = stops_first e ps t _ i (subst (λ t. Stops e (along ps t i)) (sym k) h)
+
+pub valued_run : (ps : List Taken) (t : Query Linear) (i j : ℕ) (x : Linear) → along ps t i ≡ value x j → along ps (valued t) i ≡ value (outcomes.Result.number x) j
+valued_run ps t i j x e = run_after ps t _ i j x e ∙ run_done ps _ j
+
+pub told_run : (ps : List Taken) (t : Query Bool) (i j : ℕ) (b : Bool) → along ps t i ≡ value b j → along ps (told t) i ≡ value (outcomes.Result.truth b) j
+told_run ps t i j b e = run_after ps t _ i j b e ∙ run_done ps _ j

@@ -26,22 +26,27 @@ empty_path g ps e = subst (λ (ps : List T.Taken). IsPath g (path_of ps)) (sym e
 
 -- ---- The end of a path is that of its questions
 
-walk_past : {A : Type 0} (t : Query A) (qs ss : List Taken) (a : A) → walk t qs ≡ done a → walk t (qs ++ ss) ≡ done a
-walk_past (done b) qs ss a e = e
-walk_past bits qs ss a e = absurd (cc)
-walk_past (ask q y n) [] ss a e = absurd (cc)
-walk_past {A} (ask q y n) (p ∷ qs) ss a e = go p.held e (walk_past y qs ss a) (walk_past n qs ss a)
+pub walk_nil : {A : Type 0} (t : Query A) → walk t [] ≡ t
+walk_nil (done a) = refl
+walk_nil bits = refl
+walk_nil (ask q y n) = refl
+
+pub walk_append : {A : Type 0} (t : Query A) (xs ys : List Taken) → walk t (xs ++ ys) ≡ walk (walk t xs) ys
+walk_append (done a) xs ys = refl
+walk_append bits xs ys = refl
+walk_append (ask q y n) [] ys = refl
+walk_append {A} (ask q y n) (x ∷ xs) ys = go x.held (walk_append y xs ys) (walk_append n xs ys)
   where
-    go : (b : Bool) → cond b (walk y qs) (walk n qs) ≡ done a → (walk y qs ≡ done a → walk y (qs ++ ss) ≡ done a) → (walk n qs ≡ done a → walk n (qs ++ ss) ≡ done a) → cond b (walk y (qs ++ ss)) (walk n (qs ++ ss)) ≡ done a
-    go true k f g = f k
-    go false k f g = g k
+    go : (b : Bool) → walk y (xs ++ ys) ≡ walk (walk y xs) ys → walk n (xs ++ ys) ≡ walk (walk n xs) ys → cond b (walk y (xs ++ ys)) (walk n (xs ++ ys)) ≡ walk (cond b (walk y xs) (walk n xs)) ys
+    go true e f = e
+    go false e f = f
 
 pub end_same : (g : Goal) (ps : List Taken) (h : IsPath g ps) → end_at g ps ≡ end_at g h.asked
 end_same g ps h = go h.at_end
   where
     go : (h.splits ≡ []) ⊎ ((e : Ends) × (end_at g h.asked ≡ done e)) → end_at g ps ≡ end_at g h.asked
     go (inl e) = ap (end_at g) (h.parts ∙ ap (λ ss. h.asked ++ ss) e ∙ append-nil h.asked)
-    go (inr k) = ap (end_at g) h.parts ∙ walk_past (questions g) h.asked h.splits k.0 k.1 ∙ sym k.1
+    go (inr k) = ap (end_at g) h.parts ∙ walk_append (questions g) h.asked h.splits ∙ ap (λ t. walk t h.splits) k.1 ∙ sym k.1
 
 -- Where a question stands at the end of the path, there are no splits.
 pub only_questions : (g : Goal) (ps : List Taken) (q : Atom) → IsPath g ps → Asks g ps q → IsQuestionPath g ps

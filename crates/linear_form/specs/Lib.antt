@@ -11,6 +11,7 @@ pub mod AskAnswers
 pub mod ClaimLaws
 pub mod RowLists
 pub mod Places
+pub mod Standings
 pub mod LastingPaths
 pub mod RowListLaws
 pub mod PathLaws

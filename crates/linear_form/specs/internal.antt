@@ -4,9 +4,6 @@ pub mod EvaluationResults
 pub mod Direct
 pub mod FurtherRows
 pub mod NormalPaths
-pub mod Nodes
-pub mod Places
-pub mod Steps
 pub mod Outcomes
 pub mod NodeQuestions
 pub mod NodeTables
@@ -14,3 +11,4 @@ pub mod Evaluations
 pub mod NodeSteps
 pub mod GoalGraphs
 pub mod EvaluationCopies
+pub mod Codes

@@ -1,122 +1,20 @@
-//! Forms that ask nothing, and their values.
+//! Operators that ask nothing, on linear values.
 
 ghost use Rattle.std.specs.Prelude.{◌≡◌, IfOk, Some, true};
-ghost use Rattle.heylo_formula.specs.PlainTrees.{form_of};
 ghost use Rattle.heyvl_num.specs.ExtendedNumbers.{value_of};
-ghost use Rattle.heyvl_num.specs.Rounding.{whole as whole_fraction};
 ghost use Rattle.linear_values.specs.Lin.{AreNormal, constant as constant_lin};
 ghost use Rattle.linear_rows.specs.Numbers.{fits as number_fits};
 ghost use Rattle.linear_values.specs.PlainValues.{lin_of};
 ghost use Rattle.linear_form.specs.Questions as tree;
-ghost use Rattle.linear_form.specs.internal.Direct.{MayGive, MayGiveWhole};
+ghost use Rattle.linear_form.specs.internal.Direct.{MayGive};
 ghost use Rattle.linear_values.specs.Kept.{IsKept};
 
-use heylo_formula::Form;
 use heyvl_num::{Ext, Frac};
 use linear_values::Lin;
-use linear_values::lin::{constant, is_constant, is_sized, minus, plus, variable};
+use linear_values::lin::{constant, is_constant, is_sized, minus, plus};
 use linear_values::multiples::small_multiple;
-use linear_values::numbers::{as_whole, fits, narrow, signed, sum as number_sum, whole};
+use linear_values::numbers::{fits, signed, sum as number_sum};
 use std::alloc::{AllocError, Global};
-
-/// The value of a form of finite numbers, variables, sums, plain differences and multiples. None for any other form, and
-/// where a number of the value, or of a part's, reaches 2^62.
-pub(crate) fn direct(alloc: Global, form: &Form) -> Result<Option<Lin>, AllocError>
-    ensures { IfOk result (MayGive (tree.evaluate (form_of form.now))) }
-{
-    match whole_in(form) {
-        Some(n) => Ok(Some(constant(alloc, whole(n)))),
-        None => linear_in(alloc, form),
-    }
-}
-
-/// The value of a whole number or of a sum of such. None for any other form, and where a part's value reaches 2^62.
-fn whole_in(form: &Form) -> Option<i64>
-    ensures { MayGiveWhole (tree.evaluate (form_of form.now)) result }
-{
-    match form {
-        Form::Const(v) => whole_number(v),
-        Form::Sum(a, b) => match whole_in(a) {
-            None => None,
-            Some(x) => match whole_in(b) {
-                None => None,
-                Some(y) => whole_total(x, y),
-            },
-        },
-        Form::Var(_)
-        | Form::Diff(_, _)
-        | Form::Scale(_, _)
-        | Form::Cut(_, _)
-        | Form::Product(_, _, _)
-        | Form::Min(_, _)
-        | Form::Max(_, _)
-        | Form::Imply(_, _)
-        | Form::CoImply(_, _)
-        | Form::Validate(_)
-        | Form::CoValidate(_)
-        | Form::Embed(_)
-        | Form::Iverson(_)
-        | Form::Select(_, _, _)
-        | Form::Bind(_, _, _, _, _) => None,
-    }
-}
-
-/// The constant, where it is a whole number below 2^62.
-fn whole_number(v: &Ext) -> Option<i64>
-    ensures { MayGiveWhole (tree.sized (tree.number (value_of v.now))) result }
-{
-    match v {
-        Ext::Inf => None,
-        Ext::Fin(x) => as_whole(x),
-    }
-}
-
-/// The sum of two whole numbers, where it is below 2^62.
-fn whole_total(x: i64, y: i64) -> Option<i64>
-    ensures { MayGiveWhole (tree.sum (Some (constant_lin (whole_fraction x))) (Some (constant_lin (whole_fraction y)))) result }
-{
-    narrow(i128::from(x) + i128::from(y))
-}
-
-/// The same for any form of finite numbers, variables, sums, plain differences and multiples.
-fn linear_in(alloc: Global, form: &Form) -> Result<Option<Lin>, AllocError>
-    ensures { IfOk result (MayGive (tree.evaluate (form_of form.now))) }
-{
-    match form {
-        Form::Const(v) => Ok(number(alloc, v)),
-        Form::Var(x) => Ok(Some(variable(alloc, *x)?)),
-        Form::Sum(a, b) => match linear_in(alloc, a)? {
-            None => Ok(None),
-            Some(x) => match linear_in(alloc, b)? {
-                None => Ok(None),
-                Some(y) => sum(alloc, x, y),
-            },
-        },
-        Form::Diff(a, b) => match linear_in(alloc, a)? {
-            None => Ok(None),
-            Some(x) => match linear_in(alloc, b)? {
-                None => Ok(None),
-                Some(y) => difference(alloc, x, &y),
-            },
-        },
-        Form::Scale(w, a) => match linear_in(alloc, a)? {
-            None => Ok(None),
-            Some(x) => multiple(alloc, w, &x),
-        },
-        Form::Cut(_, _)
-        | Form::Product(_, _, _)
-        | Form::Min(_, _)
-        | Form::Max(_, _)
-        | Form::Imply(_, _)
-        | Form::CoImply(_, _)
-        | Form::Validate(_)
-        | Form::CoValidate(_)
-        | Form::Embed(_)
-        | Form::Iverson(_)
-        | Form::Select(_, _, _)
-        | Form::Bind(_, _, _, _, _) => Ok(None),
-    }
-}
 
 /// The linear value, where its numbers are below 2^62.
 fn small(value: Lin) -> Option<Lin>

@@ -1,7 +1,6 @@
 //! Linear questions of a goal along a path, and the rows of a path.
 #![tactic(auto)]
 
-mod asking_evaluations;
 mod asking_nodes;
 mod claim_laws;
 mod continuations;
@@ -16,7 +15,6 @@ mod growing_rows;
 mod kinds;
 mod known_truths;
 mod node_steps;
-mod nodes;
 mod operations;
 mod operators;
 mod path_ends;
@@ -32,9 +30,7 @@ mod question_laws;
 mod questions;
 mod row_list_laws;
 mod signs;
-mod slopes;
 mod splits;
-mod steps;
 
 pub use claim_laws::{paths_claim_truths, paths_rows_are_met};
 pub use continuations::{begin, go_on, go_on_from};

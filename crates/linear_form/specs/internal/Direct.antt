@@ -1,9 +1,8 @@
 -- Trees of questions that are values.
-use Rattle.std.specs.Prelude.{◌≡◌, ℤ, Option, Some, None}
-use Rattle.heyvl_num.specs.Rounding.{whole}
+use Rattle.std.specs.Prelude.{◌≡◌, Option, Some, None}
 use Rattle.linear_form.specs.Query.{Query}
 use Rattle.linear_form.specs.Query.Query.{done}
-use Rattle.linear_values.specs.Lin.{Linear, Lin, constant}
+use Rattle.linear_values.specs.Lin.{Linear, Lin}
 use Rattle.linear_values.specs.PlainValues.{lin_of}
 use Rattle.linear_values.specs.Kept.{IsKept}
 use Rattle.linear_values.specs.declared.lin.Lin as L
@@ -17,8 +16,3 @@ pub record Yields (q : Query Linear) (a : Lin) : Type 0 where
 abbrev pub MayGive : Query Linear → Option L.Lin → Type 0
 MayGive q None = Unit {0}
 MayGive q (Some a) = Yields q (lin_of a)
-
--- Where there is a whole number, the tree gives it.
-abbrev pub MayGiveWhole : Query Linear → Option ℤ → Type 0
-MayGiveWhole q None = Unit {0}
-MayGiveWhole q (Some n) = Yields q (constant (whole n))

@@ -5,6 +5,7 @@ use Rattle.heylo_graph.specs.declared.nodes.Node.{Node}
 use Rattle.linear_form.specs.Query.{Query, next}
 use Rattle.linear_form.specs.Query.Query.{done, bits}
 use Rattle.linear_form.specs.Questions.{Ends, zero, one}
+use Rattle.linear_form.specs.Standings.{Standing}
 use Rattle.linear_values.specs.PlainValues.{linear_of}
 use Rattle.linear_values.specs.Kept.{IsKeptValue}
 use Rattle.linear_form.specs.internal.Outcomes.{Result, of_number, of_bool}
@@ -53,6 +54,10 @@ through ns q fs = next (framed ns q fs) ended
 abbrev pub left_at : List Node → Evaluation → Query Ends
 left_at ns p = through ns (asked_by ns p.focus) p.frames.items
 
+-- Where it stands, as contracts see it.
+abbrev pub standing : List Node → Evaluation → Standing
+standing ns p = record { left = left_at ns p; at = p.at }
+
 -- ---- The values that are kept have terms that grow, and small numbers
 
 abbrev pub IsKeptFocus : F.Focus → Type 0
@@ -79,6 +84,10 @@ IsKeptFrame (W.TheVariants.Found x) = IsKeptValue (linear_of x)
 abbrev pub AreKeptFrames : List W.Frame → Type 0
 AreKeptFrames [] = Unit {0}
 AreKeptFrames (f ∷ fs) = IsKeptFrame f × AreKeptFrames fs
+
+-- An evaluation keeps such values.
+abbrev pub IsKeptEvaluation : Evaluation → Type 0
+IsKeptEvaluation e = IsKeptFocus e.focus × AreKeptFrames e.frames.items
 
 -- ---- How much is left to do
 

@@ -1,27 +1,27 @@
 -- One step of an evaluation over a graph.
-use Rattle.std.specs.Prelude.{◌≡◌, ◌≤◌, ◌<◌, ℕ, List, take, length, Result, Ok, Err}
+use Rattle.std.specs.Prelude.{◌≡◌, ◌<◌, ℕ, List, Result, Ok, Err}
+use Rattle.heylo_formula.specs.Goals.{Goal}
 use Rattle.heylo_graph.specs.declared.nodes.Node.{Node}
 use Rattle.linear_form.specs.Query.{Query, Taken}
 use Rattle.linear_form.specs.Questions.{Ends}
+use Rattle.linear_form.specs.Paths.{IsPath}
+use Rattle.linear_form.specs.Places.{IsOn}
 use Rattle.linear_form.specs.PlainPaths.{atom_of}
 use Rattle.linear_values.specs.PlainValues.{linear_of}
 use Rattle.linear_values.specs.Kept.{IsKeptValue}
 use Rattle.linear_form.specs.internal.Run.{Evaluation, along}
 use Rattle.linear_form.specs.internal.EvaluationResults.{Stops}
 use Rattle.linear_form.specs.internal.Outcomes as outcomes
-use Rattle.linear_form.specs.internal.Evaluations.{left_at, weight, IsKeptFocus, AreKeptFrames}
+use Rattle.linear_form.specs.internal.Evaluations.{standing, weight, IsKeptFocus, AreKeptFrames}
 use Rattle.linear_form.specs.declared.evaluations.Evaluation as E
 use Rattle.linear_form.specs.declared.cursor.Stop.{Stop}
 use Rattle.linear_form.specs.declared.node_steps.Step as S
 use Rattle.linear_form.specs.declared.operations.Outcome as O
 use Rattle.linear_form.specs.declared.operations.Came.{Came}
 
--- From a place in a path with some questions left, the evaluation comes to another place, on each path with the answers up to
--- that place.
+-- Where an evaluation with so much left to ask stands on the path of a goal, the evaluation that it comes to stands on it too.
 pub record Moves (ns : List Node) (ps : List Taken) (q : Query Ends) (i : ℕ) (p : E.Evaluation) : Type 0 where
-  pub within : i ≤ length ps → p.at ≤ length ps
-  pub behind : i ≤ p.at
-  pub left : (qs : List Taken) → take p.at qs ≡ take p.at ps → along qs q i ≡ along qs (left_at ns p) p.at
+  pub on : (g : Goal) → IsPath g ps → IsOn g ps (record { left = q; at = i }) → IsOn g ps (standing ns p)
   pub kept_focus : IsKeptFocus p.focus
   pub kept_frames : AreKeptFrames p.frames.items
 

@@ -1,10 +1,12 @@
-use Rattle.std.proofs.Common.{refl}
+use Rattle.std.proofs.Common.{sym, subst}
 use Rattle.heylo_formula.specs.Goals.{goal_of}
-use Rattle.heylo_formula.specs.PlainTrees.{form_of}
-use Rattle.linear_form.specs.Questions.{evaluate}
-use Rattle.linear_form.proofs.PlaceRuns.{begins}
-use Rattle.linear_form.proofs.AssembledTrees.{all_asked}
+use Rattle.linear_form.specs.internal.GoalGraphs.{HasTables, IsGraphOf}
+use Rattle.linear_form.specs.internal.NodeQuestions.{asks_at}
+use Rattle.linear_form.proofs.PlaceRuns.{begins, begins_kept, graph_asked}
 use Rattle.linear_form.proofs.continuations.begin.Goals as goal
 
+pub invariant_of-result : goal.invariant_of-result
+invariant_of-result c = (subst HasTables (sym c.in_ok-graph.ensures) c.in_ok-made.ensures.tables, (tt, begins_kept _ _ _ c.in_ok-push.ensures.items c.new-frames.ensures.items tt))
+
 pub returns : goal.returns
-returns c = begins (goal_of c.args.goal.now) _ _ _ refl c.in_ok-push.ensures.items c.new-frames.ensures.items (all_asked (evaluate (form_of c.args.goal.now.stated)) (evaluate (form_of c.args.goal.now.found))) (tt {0}) (tt {0})
+returns c = let q = subst (IsGraphOf (goal_of c.args.goal.now)) (sym c.in_ok-graph.ensures) c.in_ok-made.ensures in begins c.in_ok-graph.graph.value.graph (goal_of c.args.goal.now) (asks_at c.in_ok-graph.graph.value.graph c.in_ok-made.made.stated) _ _ _ c.in_ok-push.ensures.items c.new-frames.ensures.items (graph_asked c.in_ok-graph.graph.value.graph (goal_of c.args.goal.now) c.in_ok-made.made.stated c.in_ok-made.made.found q.stated q.found)

@@ -4,8 +4,7 @@ use Rattle.linear_values.specs.Kept.{IsKeptValue}
 use Rattle.linear_form.specs.internal.Outcomes.{Result}
 use Rattle.linear_form.specs.internal.Evaluations.{resumed}
 use Rattle.linear_form.specs.internal.NodeQuestions.{asks_at}
-use Rattle.linear_form.proofs.KeptOperators.{agree_is}
-use Rattle.linear_form.proofs.KeptOperations.{embed_kept, iverson_kept}
+use Rattle.linear_form.proofs.KeptOperations.{embed_kept, iverson_kept, agree_is}
 use Rattle.linear_form.proofs.NodeRuns.{with_more}
 use Rattle.linear_form.proofs.NodeFrames.{for_frame, for_query, frame_step, query_step, nothing_waits}
 use Rattle.linear_form.proofs.node_steps.resume_truth.Goals as goal

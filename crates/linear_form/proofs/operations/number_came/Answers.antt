@@ -1,8 +1,7 @@
 use Rattle.std.proofs.Common.{refl, subst}
 use Rattle.linear_form.specs.internal.Run.{along}
 use Rattle.linear_form.specs.internal.EvaluationResults.{Gives}
-use Rattle.linear_form.proofs.ContinuedRuns.{stops_valued}
-use Rattle.linear_form.proofs.KeptOperators.{valued_run}
+use Rattle.linear_form.proofs.Runs.{stops_valued, valued_run}
 use Rattle.linear_form.proofs.operations.number_came.Goals as goal
 
 pub returns-in-Ok : goal.returns-in-Ok

@@ -1,8 +1,7 @@
 use Rattle.std.proofs.Common.{refl, subst}
 use Rattle.linear_form.specs.internal.Run.{along}
 use Rattle.linear_form.specs.internal.EvaluationResults.{GivesTruth}
-use Rattle.linear_form.proofs.ContinuedRuns.{stops_told}
-use Rattle.linear_form.proofs.KeptOperators.{told_run}
+use Rattle.linear_form.proofs.Runs.{stops_told, told_run}
 use Rattle.linear_form.proofs.operations.truth_came.Goals as goal
 
 pub returns-in-Ok : goal.returns-in-Ok
