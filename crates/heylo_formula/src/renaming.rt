@@ -1,8 +1,7 @@
 //! Renaming of variables. Boxes are made in calls of their own, so that each level of a deep tree takes little stack.
 
-ghost use Rattle.std.specs.Prelude.{◌≡◌, ◌==◌, false, IfOk, if◌then◌else◌};
+ghost use Rattle.std.specs.Prelude.{◌≡◌, ◌==◌, IfOk, if◌then◌else◌};
 ghost use Rattle.heylo_formula.specs.PlainTrees.{form_of, cond_of};
-ghost use Rattle.heylo_formula.specs.Variables.{occurs, occurs_in};
 ghost use Rattle.heylo_formula.specs.Substitution.{renamed, renamed_in};
 
 use crate::forms::{Cond, Form};

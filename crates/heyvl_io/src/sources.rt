@@ -1,4 +1,4 @@
-ghost use Rattle.std.specs.Prelude.{◌≡◌, ◌+◌, ◌<◌, ◌≤◌, List, ℕ, Option, length, take, IfOk, OnOk, OnErr};
+ghost use Rattle.std.specs.Prelude.{◌≡◌, ◌<◌, ◌≤◌, List, ℕ, Option, length, take, IfOk, OnOk, OnErr};
 ghost use Rattle.heyvl_io.specs.Bytes.{HandsOut, IsUsedUp};
 ghost use Rattle.heyvl_io.specs.Faults.{Rose};
 ghost use Rattle.heyvl_io.specs.History.{Start, with_start, with_bytes};

@@ -6,7 +6,7 @@ use Rattle.heyvl_syntax.specs.Grammar.{IsFile}
 use Rattle.heyvl_syntax.specs.Procedures.{Procedure}
 use Rattle.heyvl_syntax.specs.SourceFaults.{IsCrowd, IsLight, IsOverload, IsSource, IsSourceFault, IsTokenFault, IsUncrowded, IsWithinLimits, is_procedure_key, procedure_count, token_place}
 use Rattle.heyvl_syntax.specs.declared.tokens.Token.{Token}
-use Rattle.std.proofs.Common.{List, ap, arith, cond, inl, inr, length, subst, sym, take, ◌+◌, ◌<◌, ◌∙◌, ◌≡◌, ◌≤◌, ℕ}
+use Rattle.std.proofs.Common.{List, ap, arith, cond, inl, inr, subst, sym, take, ◌+◌, ◌<◌, ◌∙◌, ◌≡◌, ◌≤◌, ℕ}
 use Rattle.std.proofs.lemmas.List.Sums.{sum_by-take-le}
 use Rattle.std.proofs.lemmas.List.{take-take}
 

@@ -6,7 +6,7 @@ use Rattle.heylo_formula.specs.Formula.{Form, Cond, Term}
 use Rattle.heylo_formula.specs.Sizes.{nodes, nodes_in}
 use Rattle.heylo_formula.specs.Variables.{is_free, is_free_in, occurs, occurs_in, occurs_in_term, IsOver, IsOverIn}
 use Rattle.heylo_formula.specs.Substitution as Replaced
-use Rattle.heylo_formula.specs.Substitution.{renamed, renamed_in, fresh, as_form, as_cond, subst_within, subst_within_in, nodes_put, nodes_put_in, IsFresh}
+use Rattle.heylo_formula.specs.Substitution.{renamed, renamed_in, fresh, as_form, as_cond, subst_within, subst_within_in, nodes_put, nodes_put_in}
 use Rattle.heylo_formula.specs.declared.types.Ty.{Ty}
 use Rattle.heylo_formula.proofs.Dependence.{or_false, clash, unused_free, unused_free_in}
 use Rattle.heylo_formula.proofs.RenamedValues.{same_nodes}

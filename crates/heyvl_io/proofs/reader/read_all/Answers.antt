@@ -4,7 +4,6 @@ use Rattle.heyvl_io.specs.History.{handed_out, since_start, with_bytes}
 use Rattle.heyvl_io.proofs.exported.Histories.{length-since_start, more_taken}
 use Rattle.heyvl_io.proofs.Pieces.{length-more, none_more, taken_more}
 use Rattle.heyvl_io.proofs.reader.read_all.Goals as goal
-use Rattle.heyvl_io.proofs.reader.read_all.Goals.{then-room-lt-PIECE, else-room-lt-PIECE}
 
 pub returns-then-count-eq0-clause-returned : goal.returns-then-count-eq0-clause-returned
 returns-then-count-eq0-clause-returned g c =
