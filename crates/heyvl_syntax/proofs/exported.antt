@@ -11,4 +11,5 @@ pub mod Sequences
 pub mod Starts
 pub mod Steps
 pub mod TokenReads
+pub mod TreeSizes
 pub mod Unique

@@ -1,6 +1,5 @@
 use Rattle.heyvl_syntax.proofs.exported.PlainTreesAre.{plain_statements}
-use Rattle.heyvl_syntax.proofs.statements.Arm.TheLaws as arm_laws
-use Rattle.heyvl_syntax.proofs.statements.Stmt.TheLaws as statement_laws
+use Rattle.heyvl_syntax.proofs.exported.TreeSizes.{arm_size, statement_size}
 use Rattle.heyvl_syntax.specs.Expressions.{expression}
 use Rattle.heyvl_syntax.specs.Statements.{Statement, arms, block, loop_rules, statement}
 use Rattle.heyvl_types.proofs.NestedStatements.{bound_by_first, bound_by_rest, if_gives, listed_both, loop_stops_body, pick_gives}
@@ -20,8 +19,8 @@ use denote.Param.Weighed.{at_most}
 
 pub read_arms-read_arm-requires : goal.read_arms-read_arm-requires
 read_arms-read_arm-requires t c =
-    let deeper = at_most arm_laws.the_size c.args.all.now c.loop-i.i c.index-all-i.result c.loop-i-test.true in
-    let same = ap arm_laws.the_size c.index-all-i.is in
+    let deeper = at_most arm_size c.args.all.now c.loop-i.i c.index-all-i.result c.loop-i-test.true in
+    let same = ap arm_size c.index-all-i.is in
     let depth = c.decreases in
     (omega (arith, deeper, same, depth), arm_in_range c.args.setting c.args.calls.now c.args.bound c.args.vars.now.items c.args.loops.now c.args.scope.now c.args.all.now (map arm_of c.loop-i.made.items) c.loop-i.vars.items c.loop-i.loops c.loop-i.i c.index-all-i.result c.loop-i.invariant.read c.loop-i-test.true c.index-all-i.is c.requires.variables c.requires.loops)
 
@@ -55,8 +54,8 @@ read_arms-returns-clause-gives t c =
 
 pub read_block-read_statement-requires : goal.read_block-read_statement-requires
 read_block-read_statement-requires t c =
-    let deeper = at_most statement_laws.the_size c.args.statements.now c.loop-i.i c.index-statements-i.result c.loop-i-test.true in
-    let same = ap statement_laws.the_size c.index-statements-i.is in
+    let deeper = at_most statement_size c.args.statements.now c.loop-i.i c.index-statements-i.result c.loop-i-test.true in
+    let same = ap statement_size c.index-statements-i.is in
     let depth = c.decreases in
     (omega (arith, deeper, same, depth), statement_in_range c.args.setting c.args.calls.now c.args.bound c.args.vars.now.items c.args.loops.now c.args.scope.now c.args.statements.now (acts_of c.loop-i.acts.items) c.loop-i.vars.items c.loop-i.loops c.loop-i.scope c.loop-i.i c.index-statements-i.result c.loop-i.invariant c.loop-i-test.true c.index-statements-i.is c.requires.variables c.requires.loops)
 
