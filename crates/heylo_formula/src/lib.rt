@@ -7,6 +7,7 @@ mod goals;
 mod laws;
 mod numeric_variables;
 mod occurrences;
+mod quantifiers;
 mod renaming;
 mod shifts;
 mod sizes;

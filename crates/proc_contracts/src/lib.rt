@@ -4,7 +4,6 @@
 mod calls;
 mod modified_variables;
 mod programs;
-mod quantifiers;
 mod reached_procedures;
 mod reasons;
 

@@ -7,7 +7,6 @@ ghost use Rattle.heyvl_acts.specs.Program.{first_break, why_no_program};
 ghost use Rattle.proc_contracts.specs.Reasons.{stated};
 ghost use Rattle.std.specs.Prelude.{length, ◌<◌, ◌≡◌, ◌∷◌};
 
-use crate::quantifiers::has_binder;
 use crate::reasons::WhyNot;
 use heyvl_acts::{Act, TProc, Typed};
 use heyvl_places::Span;
@@ -29,7 +28,7 @@ fn why_not(procedure: &TProc) -> Option<WhyNot>
     if !(procedure.co || procedure.weak) {
         return Some(WhyNot::NoWlp);
     }
-    if has_binder(&procedure.post) {
+    if procedure.post.has_binder() {
         return Some(WhyNot::Quantifier);
     }
     first_break(procedure.co, acts).map(WhyNot::Statement)

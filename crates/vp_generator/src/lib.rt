@@ -9,7 +9,6 @@ mod limits;
 mod nodes_of_acts;
 mod numbering;
 mod prenexed_forms;
-mod quantifiers;
 mod stops;
 mod tosses;
 

@@ -11,7 +11,6 @@ ghost use Rattle.vp_generator.specs.Scopes.{named};
 ghost use Rattle.vp_generator.specs.internal.Lookup.{number_in};
 
 use crate::prenexed_forms::Prenex;
-use crate::quantifiers::has_binder;
 use heylo_formula::{Cond, Form, Ty};
 use heyvl_acts::VarInfo;
 use std::alloc::{AllocError, Global};
@@ -278,7 +277,7 @@ pub fn prenex(alloc: Global, form: Form, vars: Vec<VarInfo>) -> Result<Prenex, A
     ensures tree { IfOk result (λ p. form_of p.form ≡ prenexed (length vars.items) (form_of form)) }
     ensures vars { IfOk result (λ p. p.vars.items ≡ named vars.items (binders (form_of form))) }
 {
-    if !has_binder(&form) {
+    if !form.has_binder() {
         return Ok(Prenex { form, vars });
     }
     let mut scope = Vec::new(alloc);
