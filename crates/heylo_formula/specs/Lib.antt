@@ -1,6 +1,7 @@
 pub mod Formula
 pub mod PlainTrees
 pub mod Variables
+pub mod NamedVariables
 pub mod NumericVariables
 pub mod Sizes
 pub mod Operators

@@ -6,6 +6,7 @@ use Rattle.heyvl_num.specs.Value.{zeroᵛ}
 use Rattle.heyvl_places.specs.declared.spans.Span.{Span}
 use Rattle.heyvl_places.specs.declared.checks.CheckKind.{CheckKind}
 use Rattle.heylo_formula.specs.Formula.{Form, Cond, Term}
+pub use Rattle.heylo_formula.specs.NamedVariables.{Variable}
 use Rattle.heylo_formula.specs.Typing.{Types, types_in}
 use Rattle.heylo_formula.specs.declared.types.Ty.{Ty}
 
@@ -49,11 +50,6 @@ mutual
 abbrev pub join : Acts → Acts → Acts
 join Acts.done rest = rest
 join (Acts.next a more) rest = Acts.next a (join more rest)
-
--- A variable: its name's bytes and its type.
-pub record Variable : Type 0 where
-  pub name : List ℕ
-  pub ty : Ty
 
 -- A procedure. Its variables are its inputs, its outputs and its locals, in this order, by number from 0; the locals
 -- are those that its body declares, in the order of the text, and then the variables of the quantifiers of its post.

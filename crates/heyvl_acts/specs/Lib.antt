@@ -14,4 +14,5 @@ pub mod Tosses
 pub mod FormSizes
 pub mod Straight
 pub mod Upward
+pub mod StandingParts
 pub mod internal

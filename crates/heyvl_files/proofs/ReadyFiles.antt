@@ -13,7 +13,7 @@ use Rattle.typed_expressions.specs.declared.stops.ResolveStop.{ResolveStop}
 use Rattle.heyvl_acts.specs.declared.typed_trees.Typed.{Typed}
 use Rattle.std.proofs.Common.{Err, List, Ok, arith, length, subst, sym, ◌≤◌, ℕ}
 use Rattle.std.specs.Prelude.{IfOk, Result, ◌^◌}
-use Rattle.verify_core.specs.Places.{StandsWithin}
+use Rattle.heyvl_acts.specs.StandingParts.{StandsWithin}
 
 pub is_ready : FilesHaveSmallForms → FilesStandWithin → (file : List Procedure) (result : Result Typed ResolveStop) → IsAnswer file result
     → IfOk result (λ t. length t.procs.items ≤ 1024 → MeetsAllRules t) → (bytes : List ℕ) → length bytes ≤ file_limit → IsSource bytes file → IfOk result (λ t. IsReady bytes t)

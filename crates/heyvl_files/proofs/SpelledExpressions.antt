@@ -9,7 +9,7 @@ use Rattle.typed_expressions.specs.Values.{condition, form, term}
 use Rattle.typed_expressions.specs.Table.{Meaning}
 use Rattle.typed_expressions.specs.TypedExpressions.{elaborate}
 use Rattle.std.proofs.Common.{None, Option, Some, suc, ◌≤◌, ℕ}
-use Rattle.verify_core.specs.Places.{CondStands, FormStands, TermStands}
+use Rattle.heyvl_acts.specs.StandingParts.{CondStands, FormStands, TermStands}
 
 -- Where it becomes something, that stands within so many bytes.
 abbrev pub Stands : ℕ → Option Meaning → Type 0

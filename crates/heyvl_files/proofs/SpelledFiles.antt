@@ -22,7 +22,7 @@ use Rattle.typed_expressions.specs.Signatures.{Called, called}
 use Rattle.typed_expressions.specs.TypedExpressions.{elaborate}
 use Rattle.typed_expressions.specs.DeclaredVariables.{front_variables}
 use Rattle.std.proofs.Common.{Bool, List, None, Option, Some, [], false, length, subst, true, ◌+◌, ◌∷◌, ℕ}
-use Rattle.verify_core.specs.Places.{ActStands, FormStands, StandsWithin}
+use Rattle.heyvl_acts.specs.StandingParts.{ActStands, FormStands, StandsWithin}
 
 -- What holds of a procedure that a text spells, whose tokens begin within so many bytes.
 pub record HasSpelledParts (n : ℕ) (p : TypedProcedure) : Type 0 where

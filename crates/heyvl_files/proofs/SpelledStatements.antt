@@ -26,7 +26,7 @@ use Rattle.typed_expressions.specs.Values.{form, terms}
 use Rattle.typed_expressions.specs.TypedExpressions.{elaborate}
 use Rattle.heyvl_types.specs.Variables.{behind, locals, locals_of_arms, locals_of_block}
 use Rattle.std.proofs.Common.{Bool, List, None, Option, Some, [], false, inl, inr, length, suc, true, zero, ℤ, pos, unsigned_abs, ◌+ℤ◌, ◌-ℤ◌, ◌+◌, ◌++◌, ◌∷◌, ◌≡◌, ◌≤◌, ◌⊎◌, ℕ}
-use Rattle.verify_core.specs.Places.{ActStands, FormStands, GuardsStand, RankStands, TermStands}
+use Rattle.heyvl_acts.specs.StandingParts.{ActStands, FormStands, GuardsStand, RankStands, TermStands}
 
 -- ---- Acts
 

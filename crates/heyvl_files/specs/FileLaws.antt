@@ -7,7 +7,7 @@ use Rattle.heyvl_syntax.specs.Tokens.{Lexes}
 use Rattle.heyvl_syntax.specs.declared.tokens.Token.{Token}
 use Rattle.heyvl_types.specs.Files.{file_findings, resolved}
 use Rattle.std.specs.Prelude.{List, [], length, ◌^◌, ◌≡◌, ◌≤◌, ℕ}
-use Rattle.verify_core.specs.Places.{StandsWithin}
+use Rattle.heyvl_acts.specs.StandingParts.{StandsWithin}
 
 -- In a file of at most 2^20 tokens in which nothing is found, each form and condition has at most 2^27 nodes.
 abbrev pub FilesHaveSmallForms : Type 0

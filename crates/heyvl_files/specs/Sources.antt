@@ -10,7 +10,7 @@ use Rattle.heyvl_files.specs.declared.sources.SourceStop.TheVariants.{Fault, Mem
 use Rattle.heyvl_files.specs.declared.sources.SourceStop.{SourceStop}
 use Rattle.heyvl_types.specs.Files.{first_fault, resolved}
 use Rattle.std.specs.Prelude.{List, None, Some, length, ◌^◌, ◌≡◌, ℕ}
-use Rattle.verify_core.specs.Places.{StandsWithin}
+use Rattle.heyvl_acts.specs.StandingParts.{StandsWithin}
 
 -- The most bytes that a file may have.
 abbrev pub file_limit : ℕ

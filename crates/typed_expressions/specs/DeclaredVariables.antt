@@ -1,6 +1,6 @@
 -- The variables that names with types declare, and those of the quantifiers in the fronts of expressions.
+use Rattle.heylo_formula.specs.NamedVariables.{Variable}
 use Rattle.heylo_formula.specs.declared.types.Ty.{Ty}
-use Rattle.heyvl_acts.specs.Acts.{Variable}
 use Rattle.heyvl_syntax.specs.Expressions.{Expression}
 use Rattle.heyvl_syntax.specs.declared.types.TypeName.{TypeName}
 use Rattle.std.specs.Prelude.{List, None, Option, Some, [], ◌++◌, ◌∷◌, ℕ}

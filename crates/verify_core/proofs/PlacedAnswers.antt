@@ -28,7 +28,7 @@ use Rattle.verify_core.specs.declared.outcomes.Outcome.{Outcome}
 use Rattle.verify_core.specs.declared.outcomes.Outcome.TheVariants.{Proved, Falsified, Unknown, Missed}
 use Rattle.verify_core.proofs.MadeGoals.{Means}
 use Rattle.verify_core.proofs.OutcomesMean.{AreOutcomes, IsBoundOutcome, IsRankingOutcome, told_means}
-use Rattle.verify_core.specs.Places.{ActStands, StandsWithin}
+use Rattle.heyvl_acts.specs.StandingParts.{ActStands, StandsWithin}
 use Rattle.verify_core.specs.NumberedLists.{row_at}
 use Rattle.verify_core.specs.Rankings.{ranked_loops}
 use Rattle.verify_core.proofs.StandingActs.{goal_stands, stands_at}

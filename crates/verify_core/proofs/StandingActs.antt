@@ -17,7 +17,7 @@ use Rattle.act_walks.specs.Loops.{loop_in}
 use Rattle.loop_encodings.specs.BoundGoals.{BoundGoal, invariant_at, invariant_in}
 use Rattle.loop_encodings.specs.Encoding.{any_block, encoded, encoded_act, encoded_arms, encoded_call, encoded_loop, encoding, gets, havocs, read, sets, tested}
 use Rattle.loop_encodings.specs.Fresh.{fresh, fresh_of_act, fresh_of_arms}
-use Rattle.verify_core.specs.Places.{ActStands, CondStands, FormStands, GuardsStand, StandsWithin, TermStands}
+use Rattle.heyvl_acts.specs.StandingParts.{ActStands, CondStands, FormStands, GuardsStand, StandsWithin, TermStands}
 use Rattle.verify_core.specs.Questions.{Question, form_or_zero, goal, question}
 use Rattle.loop_encodings.proofs.exported.FromRules.{each_first, each_second}
 use Rattle.ranking_rule.proofs.exported.Each.{each_append}

@@ -17,7 +17,7 @@ use Rattle.heyvl_acts.specs.Places.{in_order, inside, inside_arms}
 use Rattle.heyvl_acts.specs.Rules.{Each}
 use Rattle.heylo_formula.specs.NumericVariables.{has_variable}
 use Rattle.linear_form.specs.Nonlinear.{first_product, first_product_in, product_at}
-use Rattle.verify_core.specs.Places.{ActStands, CondStands, FormStands, GuardsStand, TermStands}
+use Rattle.heyvl_acts.specs.StandingParts.{ActStands, CondStands, FormStands, GuardsStand, TermStands}
 use Rattle.loop_encodings.proofs.exported.FromRules.{each_first, each_second}
 use Rattle.vp_generator.specs.GeneratedForms.{check_form, draw_form, part_form, pick_form, sum_of_parts, toss_form, validate_form, vp, vp_act, vp_arms}
 use Rattle.vp_generator.specs.PrenexedForms.{Numbering, renumbered, unbound, unbound_in}

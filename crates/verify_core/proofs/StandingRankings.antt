@@ -12,7 +12,7 @@ use Rattle.loop_encodings.proofs.exported.FromRules.{each_first, each_second}
 use Rattle.ranking_rule.specs.RankingGoals.{found, goal}
 use Rattle.ranking_rule.specs.Rankings.{RankedLoop}
 use Rattle.heyvl_acts.specs.Upward.{upward, upward_arms, upward_next}
-use Rattle.verify_core.specs.Places.{ActStands, FormStands, GuardsStand, RankStands, StandsWithin}
+use Rattle.heyvl_acts.specs.StandingParts.{ActStands, FormStands, GuardsStand, RankStands, StandsWithin}
 use Rattle.ranking_rule.proofs.exported.Each.{each_append}
 use Rattle.ranking_rule.proofs.exported.RankedActs.{of_body, of_head}
 use Rattle.verify_core.proofs.StandingActs.{Stand, stands_at}

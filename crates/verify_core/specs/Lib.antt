@@ -7,7 +7,6 @@ pub mod Verdicts
 pub mod GoalDecisions
 pub mod AnsweredProcedures
 pub mod Headline
-pub mod Places
 pub mod GoalLaws
 pub mod FreshVariables
 pub mod TossProducts

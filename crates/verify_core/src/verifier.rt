@@ -9,7 +9,7 @@ ghost use Rattle.verdict_report.specs.PlacedAnswers.{IsAnswerPlaced};
 ghost use Rattle.verify_core.specs.AnsweredProcedures.{AreAnswered};
 ghost use Rattle.verify_core.specs.CheckedAnswers.{IsCheckedFile};
 ghost use Rattle.verify_core.specs.Headline.{IsHeadline};
-ghost use Rattle.verify_core.specs.Places.{StandsWithin};
+ghost use Rattle.heyvl_acts.specs.StandingParts.{StandsWithin};
 ghost use Rattle.verify_core.specs.internal.Own.{CanAnswer, IsWhole};
 
 use crate::answering::own_answers;
