@@ -4,8 +4,8 @@ use Rattle.generated_files.proofs.Trees.{call, coin, loop, whole}
 use Rattle.heyvl_num.specs.Gcd.{gcd, gcd_steps}
 use Rattle.heyvl_num.specs.Rational.{leqʳ, oneʳ, ratio, zeroʳ}
 use Rattle.heyvl_syntax.specs.declared.types.TypeName.TheVariants as types
-use Rattle.heyvl_types.specs.Files.{procedure_findings}
-use Rattle.heyvl_types.specs.Literals.{literal_quotient}
+use Rattle.static_rules.specs.Files.{procedure_findings}
+use Rattle.static_rules.specs.Literals.{literal_quotient}
 use Rattle.std.proofs.Common.{List, Some, [], false, refl, true, ◌∷◌, ◌≡◌, ℕ}
 use Rattle.typed_expressions.specs.LiteralValues.{inverse_value, literal_value}
 use Rattle.typed_expressions.specs.Signatures.{Called, Signature, find_call, signature}

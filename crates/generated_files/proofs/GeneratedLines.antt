@@ -11,7 +11,7 @@ use Rattle.generated_files.specs.Texts.{call_line, coin_line, line, loop_line, n
 use Rattle.heyvl_syntax.specs.Grammar.{IsProc}
 use Rattle.heyvl_syntax.specs.Procedures.{Procedure}
 use Rattle.heyvl_syntax.specs.declared.tokens.TokenKind.{TokenKind}
-use Rattle.heyvl_types.specs.Files.{procedure_findings}
+use Rattle.static_rules.specs.Files.{procedure_findings}
 use Rattle.std.proofs.Common.{Bool, List, Some, [], arith, codes, false, refl, subst, true, ◌%◌, ◌++◌, ◌-◌, ◌<◌, ◌==◌, ◌^◌, ◌∷◌, ◌≡◌, ℕ}
 use Rattle.std.proofs.lemmas.Bool.Decides.{nat_tests}
 use Rattle.std.specs.Prelude.{if◌then◌else◌}

@@ -2,7 +2,7 @@
 use Rattle.generated_files.specs.Texts.{generated_text}
 use Rattle.heyvl_syntax.specs.Procedures.{Procedure}
 use Rattle.heyvl_syntax.specs.SourceFaults.{IsSource, procedure_limit}
-use Rattle.heyvl_types.specs.Files.{first_fault}
+use Rattle.static_rules.specs.Files.{first_fault}
 use Rattle.std.specs.Prelude.{List, None, length, ◌*◌, ◌≡◌, ◌≤◌, ℕ}
 
 -- The bytes spell a file of so many procedures, which has no fault, neither as a text nor of names and types.

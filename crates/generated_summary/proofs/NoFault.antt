@@ -15,7 +15,7 @@ use Rattle.heyvl_places.specs.declared.spans.Span.{Span}
 use Rattle.heyvl_syntax.specs.Grammar.{Spells}
 use Rattle.heyvl_syntax.specs.Procedures.{Procedure}
 use Rattle.heyvl_syntax.specs.SourceFaults.{IsSource, SourcesHaveNoFault}
-use Rattle.heyvl_types.specs.Files.{first_fault}
+use Rattle.static_rules.specs.Files.{first_fault}
 use Rattle.std.proofs.Common.{List, None, Option, Some, ap, length, subst, sym, ◌∙◌, ◌≡◌, ℕ}
 use Rattle.typed_expressions.specs.Findings.{Finding}
 use Rattle.verdict_report.specs.declared.answers.Answer.{Answer}

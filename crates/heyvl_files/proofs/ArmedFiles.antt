@@ -10,7 +10,7 @@ use Rattle.heyvl_syntax.specs.Procedures.{Procedure}
 use Rattle.heyvl_syntax.specs.Productions.{IsOptional}
 use Rattle.heyvl_syntax.specs.Statements.{Arms, Block, Statement, block_of}
 use Rattle.heyvl_syntax.specs.declared.tokens.Token.{Token}
-use Rattle.heyvl_types.specs.ArmedFiles.{AreArmsArmed, HasArm, HasArms, IsArmed, IsBlockArmed, IsBodyArmed}
+use Rattle.static_rules.specs.ArmedFiles.{AreArmsArmed, HasArm, HasArms, IsArmed, IsBlockArmed, IsBodyArmed}
 use Rattle.std.proofs.Common.{List, None, Option, Some, [], arith, map, subst, sym, ◌+◌, ◌++◌, ◌∷◌, ◌≤◌, ℕ}
 
 -- ---- What tokens spell

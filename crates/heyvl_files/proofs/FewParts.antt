@@ -18,10 +18,10 @@ use Rattle.heyvl_syntax.specs.declared.procedures.Param.{Param}
 use Rattle.heyvl_syntax.specs.declared.tokens.Token.{Token}
 use Rattle.heyvl_syntax.specs.declared.tokens.TokenKind.TheVariants as kinds
 use Rattle.heyvl_syntax.specs.declared.tokens.TokenKind.{TokenKind}
-use Rattle.heyvl_types.specs.Files.{loops_of_body, variable_count}
-use Rattle.heyvl_types.specs.PartCounts.{HasFewParts, HaveFewParts}
-use Rattle.heyvl_types.specs.StatementActs.{loops, loops_of_arms, loops_of_block}
-use Rattle.heyvl_types.specs.Variables.{locals, locals_of_arms, locals_of_block, locals_of_body}
+use Rattle.static_rules.specs.Files.{loops_of_body, variable_count}
+use Rattle.static_rules.specs.PartCounts.{HasFewParts, HaveFewParts}
+use Rattle.static_rules.specs.StatementActs.{loops, loops_of_arms, loops_of_block}
+use Rattle.static_rules.specs.Variables.{locals, locals_of_arms, locals_of_block, locals_of_body}
 use Rattle.pgcl_front.specs.Grammar.{IsCommand, IsCommands, IsDeclaration}
 use Rattle.pgcl_front.specs.Programs.{BlockTree, CommandTree, ProgramTree}
 use Rattle.pgcl_front.specs.Sources.{IsPgclSource}

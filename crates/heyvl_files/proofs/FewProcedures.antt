@@ -7,7 +7,7 @@ use Rattle.heyvl_syntax.specs.Productions.{IsEach, IsKey}
 use Rattle.heyvl_syntax.specs.SourceFaults.{IsSource, IsWithinLimits, is_procedure_key, procedure_count}
 use Rattle.heyvl_syntax.specs.declared.procedures.File.{File}
 use Rattle.heyvl_syntax.specs.declared.tokens.Token.{Token}
-use Rattle.heyvl_types.specs.Files.{resolved, typed}
+use Rattle.static_rules.specs.Files.{resolved, typed}
 use Rattle.typed_expressions.specs.Signatures.{called}
 use Rattle.pgcl_front.specs.Sources.{IsPgclSource}
 use Rattle.std.proofs.Common.{Bool, List, [], ap, arith, cond, false, length, refl, true, ◌++◌, ◌+◌, ◌<◌, ◌^◌, ◌∷◌, ◌∙◌, ◌≡◌, ◌≤◌, ℕ}

@@ -4,7 +4,7 @@ use Rattle.heyvl_files.specs.Programs.{IsProgramStop, IsTranslationStop, Program
 use Rattle.heyvl_files.specs.declared.sources.SourceStop.TheVariants.{Fault, Memory}
 use Rattle.heyvl_files.specs.declared.sources.SourceStop.{SourceStop}
 use Rattle.heyvl_places.specs.declared.spans.Span.{Span}
-use Rattle.heyvl_types.specs.Files.{first_fault}
+use Rattle.static_rules.specs.Files.{first_fault}
 use Rattle.typed_expressions.specs.Findings.{Finding}
 use Rattle.pgcl_front.specs.Sources.IsPgclFault.{unlexed}
 use Rattle.pgcl_front.specs.Sources.{IsPgclFault, PgclFaultIsUnique, PgclSourceIsUnique, PgclSourcesHaveNoFault}

@@ -6,7 +6,7 @@ use Rattle.heyvl_files.proofs.FewProcedures.{few_typed}
 use Rattle.heyvl_files.specs.FileLaws.{FilesHaveSmallForms, FilesStandWithin}
 use Rattle.heyvl_files.specs.Sources.{IsReady, file_limit}
 use Rattle.heyvl_acts.specs.Acts.{TypedProcedure}
-use Rattle.heyvl_types.specs.ResolvedLaws.{IsAnswer}
+use Rattle.resolved_laws.specs.ResolvedLaws.{IsAnswer}
 use Rattle.heyvl_acts.specs.FormSizes.{FormsWithin}
 use Rattle.heyvl_acts.specs.Rules.{Each, MeetsAllRules}
 use Rattle.typed_expressions.specs.declared.stops.ResolveStop.{ResolveStop}

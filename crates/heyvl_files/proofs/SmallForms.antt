@@ -9,9 +9,9 @@ use Rattle.heyvl_syntax.specs.Procedures.{Procedure}
 use Rattle.heyvl_syntax.specs.Sizes.{expression_nodes, nodes_of_procedure}
 use Rattle.heyvl_syntax.specs.declared.tokens.Token.{Token}
 use Rattle.heyvl_acts.specs.Acts.{Act, Arms, TypedProcedure, acts_in}
-use Rattle.heyvl_types.specs.Files.{file_findings, resolved, typed}
+use Rattle.static_rules.specs.Files.{file_findings, resolved, typed}
 use Rattle.heyvl_acts.specs.Places.{in_order}
-use Rattle.heyvl_types.specs.ResolvedSizes.{ResolvedFormsAreSmall}
+use Rattle.resolved_laws.specs.ResolvedSizes.{ResolvedFormsAreSmall}
 use Rattle.heyvl_acts.specs.FormSizes.{ActWithin, FormsWithin, GuardsWithin, RankWithin}
 use Rattle.heyvl_acts.specs.Rules.{Each}
 use Rattle.typed_expressions.specs.Signatures.{Called, called}

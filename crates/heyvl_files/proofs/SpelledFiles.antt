@@ -14,7 +14,7 @@ use Rattle.heyvl_syntax.specs.Statements.{Block}
 use Rattle.heyvl_syntax.specs.Tokens.{Lexes}
 use Rattle.heyvl_syntax.specs.declared.tokens.Token.{Token}
 use Rattle.heyvl_acts.specs.Acts.{TypedProcedure, acts_in}
-use Rattle.heyvl_types.specs.Files.{arity, body_acts, clause, first_quantified, head_scope, input_scope, joined_with, post_forms, pre_forms, resolved, setting, typed}
+use Rattle.static_rules.specs.Files.{arity, body_acts, clause, first_quantified, head_scope, input_scope, joined_with, post_forms, pre_forms, resolved, setting, typed}
 use Rattle.heyvl_acts.specs.Places.{in_order}
 use Rattle.heyvl_acts.specs.Rules.{Each}
 use Rattle.typed_expressions.specs.Scopes.{Scope}

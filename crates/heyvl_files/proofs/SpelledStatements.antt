@@ -15,16 +15,16 @@ use Rattle.heyvl_places.specs.declared.spans.Span.{Span}
 use Rattle.heyvl_syntax.specs.declared.tokens.Token.{Token}
 use Rattle.heyvl_syntax.specs.declared.types.TypeName.{TypeName}
 use Rattle.heyvl_acts.specs.Acts.{Act, Acts, Arms}
-use Rattle.heyvl_types.specs.Files.{setting}
-use Rattle.heyvl_types.specs.Literals.{integer, is_weight_literal, weight, weight_value}
+use Rattle.static_rules.specs.Files.{setting}
+use Rattle.static_rules.specs.Literals.{integer, is_weight_literal, weight, weight_value}
 use Rattle.heyvl_acts.specs.Places.{in_order, inside_arms}
 use Rattle.heyvl_acts.specs.Rules.{Each}
 use Rattle.typed_expressions.specs.Scopes.{Scope}
 use Rattle.typed_expressions.specs.Signatures.{Called}
-use Rattle.heyvl_types.specs.StatementActs.{arms_acts, assigned, block_acts, choose_parts, declared_act, draw_or_toss, first_or_zero, havocs, integer_parts, invariant_of, loops, loops_of_arms, loops_of_block, ranking_of, statement_acts, targets, unif_parts}
+use Rattle.static_rules.specs.StatementActs.{arms_acts, assigned, block_acts, choose_parts, declared_act, draw_or_toss, first_or_zero, havocs, integer_parts, invariant_of, loops, loops_of_arms, loops_of_block, ranking_of, statement_acts, targets, unif_parts}
 use Rattle.typed_expressions.specs.Values.{form, terms}
 use Rattle.typed_expressions.specs.TypedExpressions.{elaborate}
-use Rattle.heyvl_types.specs.Variables.{behind, locals, locals_of_arms, locals_of_block}
+use Rattle.static_rules.specs.Variables.{behind, locals, locals_of_arms, locals_of_block}
 use Rattle.std.proofs.Common.{Bool, List, None, Option, Some, [], false, inl, inr, length, suc, true, zero, ℤ, pos, unsigned_abs, ◌+ℤ◌, ◌-ℤ◌, ◌+◌, ◌++◌, ◌∷◌, ◌≡◌, ◌≤◌, ◌⊎◌, ℕ}
 use Rattle.heyvl_acts.specs.StandingParts.{ActStands, FormStands, GuardsStand, RankStands, TermStands}
 

@@ -8,8 +8,8 @@ use Rattle.heyvl_syntax.specs.Statements.{Block, RightSide, Statement}
 use Rattle.heyvl_syntax.specs.declared.operators.BinaryOp.{BinaryOp}
 use Rattle.heyvl_syntax.specs.declared.types.TypeName.{TypeName}
 use Rattle.heyvl_files.specs.FaultTexts.{fault_text, source_fault_line}
-use Rattle.heyvl_types.specs.Files.{first_fault}
-use Rattle.heyvl_types.specs.Literals.{literal_quotient}
+use Rattle.static_rules.specs.Files.{first_fault}
+use Rattle.static_rules.specs.Literals.{literal_quotient}
 use Rattle.typed_expressions.specs.LiteralValues.{inverse_value, literal_value}
 use Rattle.std.proofs.Common.{List, None, Some, [], codes, false, pos, refl, true, ◌+◌, ◌≡◌, ◌∷◌, ℕ}
 use Rattle.std.specs.Fmt.{digits}

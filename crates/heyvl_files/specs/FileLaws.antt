@@ -5,7 +5,7 @@ use Rattle.heyvl_syntax.specs.Grammar.{IsFile}
 use Rattle.heyvl_syntax.specs.Procedures.{Procedure}
 use Rattle.heyvl_syntax.specs.Tokens.{Lexes}
 use Rattle.heyvl_syntax.specs.declared.tokens.Token.{Token}
-use Rattle.heyvl_types.specs.Files.{file_findings, resolved}
+use Rattle.static_rules.specs.Files.{file_findings, resolved}
 use Rattle.std.specs.Prelude.{List, [], length, ◌^◌, ◌≡◌, ◌≤◌, ℕ}
 use Rattle.heyvl_acts.specs.StandingParts.{StandsWithin}
 

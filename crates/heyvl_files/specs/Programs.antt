@@ -6,7 +6,7 @@ use Rattle.heyvl_print.specs.Canonical.{canonical_text}
 use Rattle.heyvl_print.specs.WithoutPlaces.{SameButPlaces}
 use Rattle.heyvl_syntax.specs.Grammar.{Spells}
 use Rattle.heyvl_syntax.specs.Procedures.{Procedure}
-use Rattle.heyvl_types.specs.Files.{first_fault}
+use Rattle.static_rules.specs.Files.{first_fault}
 use Rattle.pgcl_front.specs.EqualSums.{HasSumsOf, IsGuardedBound}
 use Rattle.pgcl_front.specs.Programs.{ProgramTree}
 use Rattle.pgcl_front.specs.Sources.{IsPgclFault, IsPgclSource}

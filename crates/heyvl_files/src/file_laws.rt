@@ -2,7 +2,7 @@
 
 ghost use Rattle.heyvl_files.specs.FileLaws as law;
 
-use heyvl_types::resolved_forms_are_small;
+use resolved_laws::resolved_forms_are_small;
 
 /// Each form and condition of a file of at most 2^20 tokens in which nothing is found has at most 2^27 nodes.
 pub fn files_have_small_forms()

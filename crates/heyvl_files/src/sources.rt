@@ -5,9 +5,9 @@ ghost use Rattle.heyvl_files.specs.Sources.{IsReady, IsSourceStop, IsSpellingSto
 ghost use Rattle.heyvl_files.specs.declared.sources.SourceStop.TheVariants.{Memory};
 ghost use Rattle.heyvl_syntax.specs.Procedures.{procedures};
 ghost use Rattle.heyvl_syntax.specs.SourceFaults.{IsSource};
-ghost use Rattle.heyvl_types.specs.ArmedFiles.{HasArms};
-ghost use Rattle.heyvl_types.specs.Files.{file_findings, resolved};
-ghost use Rattle.heyvl_types.specs.PartCounts.{HaveFewParts};
+ghost use Rattle.static_rules.specs.ArmedFiles.{HasArms};
+ghost use Rattle.static_rules.specs.Files.{file_findings, resolved};
+ghost use Rattle.static_rules.specs.PartCounts.{HaveFewParts};
 ghost use Rattle.std.specs.Prelude.{IfOk, List, MatchResult, length, ◌<◌, ◌^◌, ◌≡◌, ◌≤◌, ℕ};
 ghost use Rattle.typed_expressions.specs.Answers.{Gives};
 

@@ -7,7 +7,7 @@ use Rattle.heyvl_replies.specs.Messages.{Reply}
 use Rattle.heyvl_replies.specs.RunStarts.{procedure_named}
 use Rattle.heyvl_replies.specs.commands.Omega.{IsOmegaOf, OmegaPairsAreAnswered, TellsOmega}
 use Rattle.heyvl_replies.specs.commands.Remainder.{IsRemainderOf, RemainderPairsAreAnswered, TellsRemainder}
-use Rattle.heyvl_types.specs.Files.{resolved}
+use Rattle.static_rules.specs.Files.{resolved}
 use Rattle.lower_rules.specs.OmegaAnswers.{IsOmegaAnswer}
 use Rattle.lower_rules.specs.RemainderAnswers.{HasBoundedTurns, IsRemainderAnswer}
 use Rattle.lower_rules.specs.declared.answers.Omega.TheVariants as omega_answers

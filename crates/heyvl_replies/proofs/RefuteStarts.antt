@@ -11,7 +11,7 @@ use Rattle.heyvl_replies.specs.Messages.{Reply}
 use Rattle.heyvl_replies.specs.RunStarts.{known_at, procedure_named}
 use Rattle.heyvl_replies.specs.commands.Refute.IsRefuteOf.{by_name, by_program, by_script, by_search, by_shape}
 use Rattle.heyvl_replies.specs.commands.Refute.{CoprocsAreSearched, IsRefuteOf, TellsRefuted, refute_start, refuted_reply, shown_by, shown_of}
-use Rattle.heyvl_types.specs.Files.{resolved}
+use Rattle.static_rules.specs.Files.{resolved}
 use Rattle.refute_runs.specs.RefutedAnswers.{IsRefutedAnswer}
 use Rattle.refute_runs.specs.Violations.{NumbersAreOfRuns, ViolationIsOfRuns}
 use Rattle.refute_runs.specs.declared.answers.Refuted.TheVariants.{Stopped, Violation, Within}

@@ -26,7 +26,7 @@ use Rattle.generated_summary.specs.Reports.{IsSummary}
 use Rattle.heyvl_replies.specs.commands.Generate.{GeneratedTextsAreAnswered, IsGenReply}
 use Rattle.typed_expressions.specs.Signatures.{called}
 use Rattle.std.proofs.lemmas.List.{length-map}
-use Rattle.heyvl_types.specs.Files.{first_fault, resolved, typed}
+use Rattle.static_rules.specs.Files.{first_fault, resolved, typed}
 use Rattle.typed_expressions.specs.Findings.{Finding}
 use Rattle.run_machine.specs.ConfigConditions.{ReachesPrograms}
 use Rattle.run_script.proofs.exported.UniqueScripts.{scripts_are_unique, scripts_have_no_fault}

@@ -6,7 +6,7 @@ use Rattle.heyvl_syntax.specs.Procedures.{Procedure}
 use Rattle.heyvl_syntax.specs.SourceFaults.{IsSource, IsSourceFault}
 use Rattle.heyvl_replies.specs.Messages.{Reply, source_fault}
 use Rattle.heyvl_replies.specs.declared.faults.Fault.TheVariants as faults
-use Rattle.heyvl_types.specs.Files.{first_fault, resolved}
+use Rattle.static_rules.specs.Files.{first_fault, resolved}
 use Rattle.std.specs.Prelude.{List, None, length, ◌≡◌, ◌≤◌, ℕ}
 
 -- What is said of bytes by a command that asks for no types: the first of the faults 1 to 6, or else this of the file that they

@@ -11,7 +11,7 @@ use Rattle.heyvl_replies.specs.commands.Remainder.{IsRemainderOf, remainder_repl
 use Rattle.heyvl_tool.specs.commands.{Files}
 use Rattle.heyvl_tool.specs.declared.outcomes.Outcome.{Outcome}
 use Rattle.heyvl_tool.specs.declared.requests.Settings.TheVariants as commands
-use Rattle.heyvl_types.specs.Files.{resolved}
+use Rattle.static_rules.specs.Files.{resolved}
 use Rattle.lower_rules.specs.OmegaAnswers.{OmegaHolds}
 use Rattle.lower_rules.specs.RemainderAnswers.{IsPromised}
 use Rattle.lower_rules.specs.declared.answers.Omega.TheVariants as omega_answers

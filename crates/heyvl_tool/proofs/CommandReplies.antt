@@ -28,7 +28,7 @@ use Rattle.heyvl_replies.specs.declared.faults.Fault.TheVariants as faults
 use Rattle.heyvl_replies.specs.declared.faults.Fault.{Fault}
 use Rattle.heyvl_tool.specs.declared.requests.Settings.TheVariants.{Certify, Check, Gen, Omega, Pgcl, Print, Refute, Remainder, Run, Verify}
 use Rattle.heyvl_tool.specs.declared.requests.Settings.{Settings}
-use Rattle.heyvl_types.specs.Files.{first_fault, resolved}
+use Rattle.static_rules.specs.Files.{first_fault, resolved}
 use Rattle.typed_expressions.specs.Findings.{Finding}
 use Rattle.lower_rules.specs.declared.answers.Omega.TheVariants as omega_answers
 use Rattle.lower_rules.specs.declared.answers.Omega.{Omega as OmegaAnswer}

@@ -9,7 +9,7 @@ use Rattle.heyvl_tool.specs.Outcomes.{HasCause, IsDelivered, Writing}
 use Rattle.heyvl_tool.specs.commands.{files_of, row_of, verified_text}
 use Rattle.heyvl_tool.specs.declared.outcomes.Outcome.{Outcome}
 use Rattle.heyvl_tool.specs.declared.requests.Settings.{Settings}
-use Rattle.heyvl_types.specs.Files.{resolved}
+use Rattle.static_rules.specs.Files.{resolved}
 use Rattle.std.proofs.Common.{List, [], refl, subst, sym, ◌∙◌}
 use Rattle.std.specs.Prelude.{◌≢◌}
 use Rattle.verdict_report.specs.declared.answers.Answer.{Answer}

@@ -12,7 +12,7 @@ use Rattle.heyvl_tool.specs.Outcomes.{IsCut, IsWritten, Writing}
 use Rattle.heyvl_tool.specs.commands.{Files, IsReplyTo}
 use Rattle.heyvl_tool.specs.declared.outcomes.Outcome.{Outcome}
 use Rattle.heyvl_tool.specs.declared.requests.Settings.{Settings}
-use Rattle.heyvl_types.specs.Files.{first_fault, resolved}
+use Rattle.static_rules.specs.Files.{first_fault, resolved}
 use Rattle.std.proofs.Common.{List, None, ap, arith, inl, inr, subst, sym, ◌∙◌, ◌≡◌, ◌≤◌, ◌⊎◌, ℕ}
 
 -- The reply has the status of what it is.

@@ -16,7 +16,7 @@ use Rattle.heyvl_replies.specs.commands.Run.{run_reply}
 use Rattle.heyvl_tool.specs.commands.{Files}
 use Rattle.heyvl_tool.specs.declared.outcomes.Outcome.{Outcome}
 use Rattle.heyvl_tool.specs.declared.requests.Settings.TheVariants.{Refute}
-use Rattle.heyvl_types.specs.Files.{resolved}
+use Rattle.static_rules.specs.Files.{resolved}
 use Rattle.refute_runs.specs.RefutedAnswers.{IsRefutedAnswer}
 use Rattle.refute_runs.specs.ScriptedSums.{AreOfRuns}
 use Rattle.refute_runs.specs.Violations.{IsViolation, NumbersAreOfRuns, ViolationIsOfRuns}

@@ -23,9 +23,9 @@ use Rattle.heyvl_replies.specs.declared.faults.Fault.TheVariants as faults
 use Rattle.heyvl_replies.specs.declared.faults.Fault.{Fault}
 use Rattle.heyvl_tool.specs.declared.outcomes.Outcome.{Outcome}
 use Rattle.heyvl_tool.specs.declared.requests.Settings.TheVariants.{Run}
-use Rattle.heyvl_types.specs.Files.{file_findings, first_fault, resolved}
+use Rattle.static_rules.specs.Files.{file_findings, first_fault, resolved}
 use Rattle.typed_expressions.specs.Findings.{Finding, first}
-use Rattle.heyvl_types.specs.ResolvedLaws.{ResolvedProceduresMeetRules}
+use Rattle.resolved_laws.specs.ResolvedLaws.{ResolvedProceduresMeetRules}
 use Rattle.run_machine.specs.ConfigConditions.{ReachesPrograms}
 use Rattle.run_unroller.specs.Totals.{Totals}
 use Rattle.run_unroller.specs.UnrollLaws.{AreSums, UnrolledSumsAreMeant}

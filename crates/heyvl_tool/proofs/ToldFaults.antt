@@ -7,7 +7,7 @@ use Rattle.heyvl_tool.specs.FaultLaws.{StaticFaultsAreTold, ToldFaultsAreThere}
 use Rattle.heyvl_replies.specs.Messages.{Reply, source_fault}
 use Rattle.heyvl_files.specs.PrintLaws.{SpellingIsUnique}
 use Rattle.heyvl_tool.specs.commands.{Front, row_of, verified_text}
-use Rattle.heyvl_types.specs.Files.{first_fault}
+use Rattle.static_rules.specs.Files.{first_fault}
 use Rattle.std.proofs.Common.{List, Some, subst, ◌≡◌, ℕ}
 
 typed_told : SourcesHaveNoFault → SpellingIsUnique → (front : Front) (bytes text : List ℕ) (reply : Reply) → front ≡ Front.typed → IsKnownReply front bytes text reply

@@ -7,7 +7,7 @@ use Rattle.heyvl_replies.specs.Messages.{Reply, source_fault}
 use Rattle.heyvl_tool.specs.commands.{Front, IsReplyTo, row_of}
 use Rattle.heyvl_replies.specs.declared.faults.Fault.TheVariants.{Source}
 use Rattle.heyvl_tool.specs.declared.requests.Settings.{Settings}
-use Rattle.heyvl_types.specs.Files.{first_fault}
+use Rattle.static_rules.specs.Files.{first_fault}
 use Rattle.std.specs.Prelude.{List, Some, ◌≡◌, ℕ}
 
 -- Of bytes that spell a file with a static fault each command that asks for types tells its first one, and nothing else.

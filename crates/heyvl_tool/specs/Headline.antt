@@ -13,7 +13,7 @@ use Rattle.heyvl_tool.specs.declared.outcomes.Outcome.{Outcome}
 use Rattle.heyvl_tool.specs.declared.requests.Settings.TheVariants.{Run}
 use Rattle.heyvl_tool.specs.declared.requests.Settings.{Settings}
 use Rattle.heyvl_acts.specs.Acts.{TypedProcedure, procedure_at}
-use Rattle.heyvl_types.specs.Files.{first_fault, resolved}
+use Rattle.static_rules.specs.Files.{first_fault, resolved}
 use Rattle.run_machine.specs.ConfigConditions.{ReachesPrograms}
 use Rattle.run_machine.specs.Configurations.{Config, Outcomes, begin}
 use Rattle.run_machine.specs.Runs.{runs}

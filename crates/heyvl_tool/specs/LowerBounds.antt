@@ -11,7 +11,7 @@ use Rattle.heyvl_tool.specs.Words.{AskFor}
 use Rattle.heyvl_tool.specs.commands.{Files}
 use Rattle.heyvl_tool.specs.declared.outcomes.Outcome.{Outcome}
 use Rattle.heyvl_tool.specs.declared.requests.Settings.TheVariants.{Omega, Remainder}
-use Rattle.heyvl_types.specs.Files.{first_fault, resolved}
+use Rattle.static_rules.specs.Files.{first_fault, resolved}
 use Rattle.lower_rules.specs.OmegaAnswers.{OmegaHolds}
 use Rattle.lower_rules.specs.RemainderAnswers.{RemainderHolds}
 use Rattle.lower_texts.specs.OmegaTexts.{holds_text}

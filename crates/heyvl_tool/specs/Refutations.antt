@@ -12,7 +12,7 @@ use Rattle.heyvl_replies.specs.commands.Refute.{refute_start, violated}
 use Rattle.heyvl_tool.specs.commands.{Files}
 use Rattle.heyvl_tool.specs.declared.outcomes.Outcome.{Outcome}
 use Rattle.heyvl_tool.specs.declared.requests.Settings.TheVariants.{Refute}
-use Rattle.heyvl_types.specs.Files.{first_fault, resolved}
+use Rattle.static_rules.specs.Files.{first_fault, resolved}
 use Rattle.refute_runs.specs.ScriptedSums.{AreOfRuns}
 use Rattle.refute_runs.specs.Violations.{IsViolation}
 use Rattle.run_laws.specs.Bare.{bare_procedures}

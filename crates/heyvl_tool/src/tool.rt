@@ -22,7 +22,7 @@ use crate::{Fault, Files, Outcome, Response, Settings, SettingsStop, Text};
 use heyvl_files::program_files_have_sums;
 use heyvl_io::{ReadStop, Sink, Source, read_all, write_all};
 use heyvl_replies::message;
-use heyvl_types::resolved_files_meet_the_rules;
+use resolved_laws::resolved_files_meet_the_rules;
 use run_unroller::unrolled_sums_are_meant;
 use std::alloc::{AllocError, Global};
 

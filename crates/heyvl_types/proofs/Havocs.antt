@@ -3,7 +3,7 @@ use Rattle.heyvl_types.proofs.Rests.{rest_next}
 use Rattle.heyvl_acts.specs.Acts.{Act, Acts, join}
 use Rattle.heyvl_acts.specs.PlainActs.{act_of, acts_of}
 use Rattle.typed_expressions.specs.Scopes.{Scope, find}
-use Rattle.heyvl_types.specs.StatementActs.{havocs, number_or_zero, type_of_local}
+use Rattle.static_rules.specs.StatementActs.{havocs, number_or_zero, type_of_local}
 use Rattle.heyvl_acts.specs.declared.acts.Act as A
 use Rattle.heyvl_places.specs.declared.spans.Span.{Span}
 use Rattle.std.proofs.Common.{Bool, List, [], ap, drop, get_or, length, refl, sym, ◌++◌, ◌+◌, ◌<◌, ◌∙◌, ◌≡◌, ◌∷◌, ◌≤◌, ℕ}

@@ -2,7 +2,7 @@
 use Rattle.heyvl_syntax.specs.Statements.{arms, block, guarded, statement}
 use Rattle.heyvl_syntax.specs.declared.statements.Arm.{Arm}
 use Rattle.heyvl_syntax.specs.declared.statements.Stmt.{Stmt}
-use Rattle.heyvl_types.specs.StatementRules.{arms_bind, binds, block_binds}
+use Rattle.static_rules.specs.StatementRules.{arms_bind, binds, block_binds}
 use Rattle.std.proofs.Common.{Bool, List, [], ap, append_assoc, append-nil, drop, false, length, refl, arith, sym, true, ◌++◌, ◌+◌, ◌∙◌, ◌||◌, ◌≡◌, ◌∷◌, ℕ}
 use Rattle.std.proofs.lemmas.Bool.{le-ltb, lt-ltb, ltb-false, ltb-true}
 use Rattle.std.specs.List.{list_any}

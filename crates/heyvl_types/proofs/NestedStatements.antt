@@ -7,18 +7,18 @@ use Rattle.typed_expressions.proofs.exported.PartAnswers.{stops_first, stops_sec
 use Rattle.heyvl_types.proofs.Walks.{counted}
 use Rattle.heyvl_acts.specs.Acts.{Act, Acts, Arms, Variable}
 use Rattle.typed_expressions.specs.Answers.{Gives}
-use Rattle.heyvl_types.specs.internal.Views.{acts_view}
+use Rattle.typed_right_sides.specs.Views.{acts_view}
 use Rattle.typed_expressions.specs.Findings.{Finding, at}
-use Rattle.heyvl_types.specs.LoopRules.{loop_rules, rules_findings}
+use Rattle.static_rules.specs.LoopRules.{loop_rules, rules_findings}
 use Rattle.heyvl_acts.specs.PlainActs.{variable_of}
 use Rattle.typed_expressions.specs.Scopes.{Scope}
 use Rattle.typed_expressions.specs.Signatures.{Called}
-use Rattle.heyvl_types.specs.StatementActs.{arms_acts, block_acts, loops_of_arms, loops_of_block, statement_acts}
-use Rattle.heyvl_types.specs.StatementRules.{arms_findings, block_binds, block_findings, block_is_rankable, statement_findings}
+use Rattle.static_rules.specs.StatementActs.{arms_acts, block_acts, loops_of_arms, loops_of_block, statement_acts}
+use Rattle.static_rules.specs.StatementRules.{arms_findings, block_binds, block_findings, block_is_rankable, statement_findings}
 use Rattle.typed_expressions.specs.TypedExpressions.{closed_findings}
-use Rattle.heyvl_types.specs.Variables.{locals_of_arms, locals_of_block}
+use Rattle.static_rules.specs.Variables.{locals_of_arms, locals_of_block}
 use Rattle.typed_expressions.specs.declared.demands.Demand.{Demand}
-use Rattle.heyvl_types.specs.declared.settings.Setting.{Setting}
+use Rattle.static_rules.specs.declared.settings.Setting.{Setting}
 use Rattle.typed_expressions.specs.declared.stops.ResolveStop.{ResolveStop}
 use Rattle.heyvl_acts.specs.declared.typed_trees.VarInfo.{VarInfo}
 use Rattle.std.proofs.Common.{Bool, Err, List, [], ap, append_assoc, length, map, sym, true, false, ◌++◌, ◌+◌, ◌||◌, ◌∙◌, ◌≡◌, ℕ}

@@ -1,10 +1,10 @@
 -- A declaration without a finding is of a name that isn't visible.
-use Rattle.heyvl_types.proofs.resolved.Findings.{all_kept, back_none}
+use Rattle.static_rules.proofs.exported.Findings.{all_kept, back_none}
 use Rattle.typed_expressions.specs.Findings.{at}
 use Rattle.typed_expressions.specs.Scopes.{Scope, is_visible}
 use Rattle.typed_expressions.specs.Signatures.{Called}
-use Rattle.heyvl_types.specs.StatementRules.{value_findings, var_rules}
-use Rattle.heyvl_types.specs.declared.settings.Setting.{Setting}
+use Rattle.static_rules.specs.StatementRules.{value_findings, var_rules}
+use Rattle.static_rules.specs.declared.settings.Setting.{Setting}
 use Rattle.heyvl_syntax.specs.Statements.{RightSide}
 use Rattle.heyvl_places.specs.declared.spans.Span.{Span}
 use Rattle.heyvl_syntax.specs.declared.types.TypeName.{TypeName}

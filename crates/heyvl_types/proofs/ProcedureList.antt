@@ -3,8 +3,8 @@ use Rattle.heyvl_acts.specs.Acts.{TypedProcedure}
 use Rattle.heyvl_syntax.specs.Procedures.{Procedure, procedure}
 use Rattle.heyvl_syntax.specs.declared.procedures.Proc.{Proc}
 use Rattle.heyvl_types.proofs.Earlier.{earlier_named}
-use Rattle.heyvl_types.specs.Files.{file_findings, procedure_findings, procedures_findings, resolved, typed}
-use Rattle.heyvl_types.specs.PartCounts.{HasFewParts, HaveFewParts}
+use Rattle.static_rules.specs.Files.{file_findings, procedure_findings, procedures_findings, resolved, typed}
+use Rattle.static_rules.specs.PartCounts.{HasFewParts, HaveFewParts}
 use Rattle.heyvl_types.specs.internal.Earlier.{is_before}
 use Rattle.std.proofs.Common.{Bool, Err, List, [], ap, append_assoc, arith, drop, get_or, length, map, refl, subst, suc, sym, take, zero, ◌+◌, ◌++◌, ◌<◌, ◌∙◌, ◌≡◌, ◌≤◌, ◌∷◌, ℕ}
 use Rattle.std.proofs.Math.ListN.{get_or-map}

@@ -6,15 +6,15 @@ use Rattle.typed_expressions.proofs.exported.Parts.{behind, stops, stops_at, tel
 use Rattle.heyvl_types.proofs.ProcedureParts.{regroup, the_inputs, the_locals, the_outputs}
 use Rattle.heyvl_acts.specs.Acts.{Acts, Variable}
 use Rattle.typed_expressions.specs.Answers.{Gives, TellsFirst}
-use Rattle.heyvl_types.specs.Files.{arity, body_acts, body_findings, clause, first_quantified, front_of, has_quantified_post, head_scope, input_scope, is_too_large, is_wlp, loops_of_body, parameters_findings, post_forms, posts_findings, pre_forms, pres_findings, procedure_findings, setting, typed}
+use Rattle.static_rules.specs.Files.{arity, body_acts, body_findings, clause, first_quantified, front_of, has_quantified_post, head_scope, input_scope, is_too_large, is_wlp, loops_of_body, parameters_findings, post_forms, posts_findings, pre_forms, pres_findings, procedure_findings, setting, typed}
 use Rattle.typed_expressions.specs.Findings.{Finding, at}
 use Rattle.heyvl_acts.specs.PlainActs.{procedure_of, variable_of}
 use Rattle.heyvl_acts.specs.Rules.{IsCounted}
 use Rattle.typed_expressions.specs.Scopes.{Scope}
 use Rattle.typed_expressions.specs.Signatures.{Called}
-use Rattle.heyvl_types.specs.Variables.{locals_of_body, parameters}
+use Rattle.static_rules.specs.Variables.{locals_of_body, parameters}
 use Rattle.typed_expressions.specs.DeclaredVariables.{declared, fronts_variables}
-use Rattle.heyvl_types.specs.declared.settings.Setting.{Setting}
+use Rattle.static_rules.specs.declared.settings.Setting.{Setting}
 use Rattle.typed_expressions.specs.declared.stops.ResolveStop.{ResolveStop}
 use Rattle.heyvl_acts.specs.declared.typed_trees.TProc.{TProc}
 use Rattle.heyvl_acts.specs.declared.typed_trees.VarInfo.{VarInfo}

@@ -14,11 +14,11 @@ use Rattle.heyvl_syntax.specs.declared.statements.Stmt.{Stmt}
 use Rattle.heyvl_types.proofs.Havocs.{acts_append, join_done}
 use Rattle.heyvl_types.proofs.Rests.{arms_end, arms_next, block_end, block_next}
 use Rattle.heyvl_types.proofs.Walks.{ArmsRead, BlockRead, arms_step, arms_then_none, as_many, block_step}
-use Rattle.heyvl_types.specs.StatementActs.{arms_acts, block_acts, loops, loops_of_arms, loops_of_block, statement_acts}
-use Rattle.heyvl_types.specs.StatementRules.{arms_bind, arms_findings, block_binds, block_findings, statement_findings}
-use Rattle.heyvl_types.specs.Variables.{behind, locals, locals_of_arms, locals_of_block}
-use Rattle.heyvl_types.specs.declared.settings.Setting.{Setting}
-use Rattle.heyvl_types.specs.internal.Views.{arms_view}
+use Rattle.static_rules.specs.StatementActs.{arms_acts, block_acts, loops, loops_of_arms, loops_of_block, statement_acts}
+use Rattle.static_rules.specs.StatementRules.{arms_bind, arms_findings, block_binds, block_findings, statement_findings}
+use Rattle.static_rules.specs.Variables.{behind, locals, locals_of_arms, locals_of_block}
+use Rattle.static_rules.specs.declared.settings.Setting.{Setting}
+use Rattle.typed_right_sides.specs.Views.{arms_view}
 use Rattle.std.proofs.Common.{Bool, Err, List, Vec, [], ap, arith, drop, get_or, length, map, subst, sym, take, ◌++◌, ◌+◌, ◌<◌, ◌^◌, ◌||◌, ◌∙◌, ◌≡◌, ◌∷◌, ◌≤◌, ℕ}
 use Rattle.std.proofs.lemmas.List.{map-append}
 use Rattle.std.specs.declared.alloc.Global.{Global}

@@ -8,13 +8,13 @@ use Rattle.heyvl_acts.specs.Acts.{Acts, Arms, Variable, join}
 use Rattle.heyvl_acts.specs.PlainActs.{armed, variable_of}
 use Rattle.typed_expressions.specs.Scopes.{Scope}
 use Rattle.typed_expressions.specs.Signatures.{Called}
-use Rattle.heyvl_types.specs.StatementActs.{arms_acts, block_acts, loops, loops_of_arms, loops_of_block, statement_acts}
+use Rattle.static_rules.specs.StatementActs.{arms_acts, block_acts, loops, loops_of_arms, loops_of_block, statement_acts}
 use Rattle.typed_expressions.specs.Values.{condition}
-use Rattle.heyvl_types.specs.StatementRules.{arms_bind, arms_findings, block_binds, block_findings, statement_findings}
+use Rattle.static_rules.specs.StatementRules.{arms_bind, arms_findings, block_binds, block_findings, statement_findings}
 use Rattle.typed_expressions.specs.TypedExpressions.{closed_findings, elaborate}
-use Rattle.heyvl_types.specs.Variables.{behind, locals, locals_of_arms, locals_of_block}
+use Rattle.static_rules.specs.Variables.{behind, locals, locals_of_arms, locals_of_block}
 use Rattle.typed_expressions.specs.declared.demands.Demand.{Demand}
-use Rattle.heyvl_types.specs.declared.settings.Setting.{Setting}
+use Rattle.static_rules.specs.declared.settings.Setting.{Setting}
 use Rattle.heyvl_acts.specs.declared.typed_trees.VarInfo.{VarInfo}
 use Rattle.std.proofs.Common.{Bool, List, [], ap, append_assoc, arith, length, map, refl, sym, take, ◌++◌, ◌+◌, ◌||◌, ◌∙◌, ◌≡◌, ◌∷◌, ℕ}
 use Rattle.std.proofs.lemmas.List.{length-append, length-map}

@@ -1,7 +1,7 @@
 //! What stands in statements: whether a value is bound in them, and whether they may stand under a ranking.
 
 ghost use Rattle.heyvl_syntax.specs.Statements.{arms, block, optional_right, right_side, statement};
-ghost use Rattle.heyvl_types.specs.StatementRules.{arms_are_rankable, arms_bind, binds, binds_value, block_binds, block_is_rankable, calls_value, is_call, is_rankable};
+ghost use Rattle.static_rules.specs.StatementRules.{arms_are_rankable, arms_bind, binds, binds_value, block_binds, block_is_rankable, calls_value, is_call, is_rankable};
 ghost use Rattle.std.specs.Prelude.{◌≡◌, ◌<◌, drop, nat_lt, ℕ};
 
 use heyvl_syntax::{Arm, Right, Stmt};

@@ -3,10 +3,10 @@
 ghost use Rattle.heyvl_acts.specs.PlainActs.{arm_of, variable_of};
 ghost use Rattle.heyvl_syntax.specs.Expressions.{expression};
 ghost use Rattle.heyvl_syntax.specs.Statements.{arms, block, statement};
-ghost use Rattle.heyvl_types.specs.internal.Views.{acts_view, arms_view};
-ghost use Rattle.heyvl_types.specs.StatementActs.{arms_acts, block_acts, loops as loops_of, loops_of_arms, loops_of_block, statement_acts};
-ghost use Rattle.heyvl_types.specs.StatementRules.{arms_findings, block_findings, statement_findings};
-ghost use Rattle.heyvl_types.specs.Variables.{behind, locals, locals_of_arms, locals_of_block};
+ghost use Rattle.typed_right_sides.specs.Views.{acts_view, arms_view};
+ghost use Rattle.static_rules.specs.StatementActs.{arms_acts, block_acts, loops as loops_of, loops_of_arms, loops_of_block, statement_acts};
+ghost use Rattle.static_rules.specs.StatementRules.{arms_findings, block_findings, statement_findings};
+ghost use Rattle.static_rules.specs.Variables.{behind, locals, locals_of_arms, locals_of_block};
 ghost use Rattle.std.specs.Prelude.{◌++◌, ◌+◌, ◌<◌, ◌^◌, ◌≡◌, OnOk, length, map, take};
 ghost use Rattle.typed_expressions.specs.Answers.{Gives};
 ghost use Rattle.typed_expressions.specs.TypedExpressions.{closed_findings, elaborate};
@@ -14,7 +14,6 @@ ghost use Rattle.typed_expressions.specs.Values.{condition};
 
 use crate::bindings::{binding_arms, binding_statements, block_binds};
 use crate::loops::{close_loop, read_head};
-use crate::settings::Setting;
 use crate::statements::{
     next_number, read_check, read_declaration, read_havoc, read_reward, read_targets,
     read_validate, single,
@@ -22,6 +21,7 @@ use crate::statements::{
 use heylo_formula::Cond;
 use heyvl_acts::{Act, VarInfo};
 use heyvl_syntax::{Arm, Stmt};
+use static_rules::Setting;
 use std::alloc::Global;
 use typed_expressions::{Calls, Demand, ResolveStop, Scope, after, condition, read};
 

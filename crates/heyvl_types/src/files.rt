@@ -3,19 +3,19 @@
 ghost use Rattle.heyvl_acts.specs.PlainActs.{procedure_of, procedures_of};
 ghost use Rattle.heyvl_acts.specs.Rules.{Each, IsCounted, MeetsAllRules};
 ghost use Rattle.heyvl_syntax.specs.Procedures.{procedure, procedures};
-ghost use Rattle.heyvl_types.specs.ArmedFiles.{HasArms};
-ghost use Rattle.heyvl_types.specs.Files.{file_findings, procedures_findings, resolved, typed};
-ghost use Rattle.heyvl_types.specs.PartCounts.{HaveFewParts};
+ghost use Rattle.static_rules.specs.ArmedFiles.{HasArms};
+ghost use Rattle.static_rules.specs.Files.{file_findings, procedures_findings, resolved, typed};
+ghost use Rattle.static_rules.specs.PartCounts.{HaveFewParts};
 ghost use Rattle.heyvl_types.specs.internal.Earlier.{is_before};
 ghost use Rattle.std.specs.Prelude.{◌<◌, ◌^◌, ◌≡◌, ◌≤◌, IfOk, length};
 ghost use Rattle.typed_expressions.specs.Answers.{Gives};
 ghost use Rattle.typed_expressions.specs.Signatures.{find_call};
 
 use crate::procedures::read_procedure;
-use crate::resolution_laws::resolved_trees_meet_the_rules;
 use heyvl_acts::Typed;
 use heyvl_places::Name;
 use heyvl_syntax::File;
+use resolved_laws::resolved_trees_meet_the_rules;
 use std::alloc::Global;
 use typed_expressions::{Calls, ResolveStop, calls_of};
 

@@ -5,20 +5,19 @@ ghost use Rattle.heyvl_syntax.specs.Expressions.{expression};
 ghost use Rattle.heyvl_syntax.specs.Statements.{block, loop_rules};
 ghost use Rattle.heyvl_acts.specs.Acts.{Act as Plain, Acts};
 ghost use Rattle.typed_expressions.specs.Answers.{Gives};
-ghost use Rattle.heyvl_types.specs.internal.Views.{acts_view};
+ghost use Rattle.typed_right_sides.specs.Views.{acts_view};
 ghost use Rattle.typed_expressions.specs.Findings.{at};
-ghost use Rattle.heyvl_types.specs.LoopRules.{copies_wrong, is_ranking, rules_findings, rules_wrong, step_wrong, steps_over_zero};
+ghost use Rattle.static_rules.specs.LoopRules.{copies_wrong, is_ranking, rules_findings, rules_wrong, step_wrong, steps_over_zero};
 ghost use Rattle.typed_expressions.specs.Scopes.{numbers};
-ghost use Rattle.heyvl_types.specs.StatementActs.{copies_of};
+ghost use Rattle.static_rules.specs.StatementActs.{copies_of};
 ghost use Rattle.typed_expressions.specs.Values.{condition};
-ghost use Rattle.heyvl_types.specs.StatementRules.{block_is_rankable};
+ghost use Rattle.static_rules.specs.StatementRules.{block_is_rankable};
 ghost use Rattle.typed_expressions.specs.TypedExpressions.{closed_findings, elaborate};
-ghost use Rattle.heyvl_types.specs.internal.LoopHeads.{found_of, head_of, rules_found};
+ghost use Rattle.typed_right_sides.specs.LoopHeads.{found_of, head_of, rules_found};
 ghost use Rattle.std.specs.List.{list_any};
 ghost use Rattle.std.specs.Prelude.{◌&&◌, ◌++◌, ◌<◌, ◌^◌, ◌∷◌, [], length, not};
 
 use crate::bindings::block_is_rankable;
-use crate::loop_rules::{Found, loop_act, read_rules, told_of_loop};
 use crate::statements::{next_number, single};
 use heylo_formula::Cond;
 use heyvl_acts::{Act, VarInfo};
@@ -26,6 +25,7 @@ use heyvl_places::Span;
 use heyvl_syntax::{Expr, Rule, Stmt};
 use std::alloc::Global;
 use typed_expressions::{Demand, ResolveStop, Scope, condition, read};
+use typed_right_sides::{Found, loop_act, read_rules, told_of_loop};
 
 /// What the rules and the guard of a loop become, or the first fault in them.
 pub(crate) fn read_head(

@@ -6,27 +6,24 @@ ghost use Rattle.heyvl_syntax.specs.Procedures.{optional_block, procedure};
 ghost use Rattle.heyvl_acts.specs.Acts.{acts_in};
 ghost use Rattle.typed_expressions.specs.Answers.{Gives, TellsFirst};
 ghost use Rattle.heyvl_acts.specs.Count.{count_of};
-ghost use Rattle.heyvl_types.specs.Files.{arity, body_acts, body_findings, clause, front_of, head_scope, input_scope, is_wlp, loops_of_body, parameters_findings, post_forms, posts_findings, pre_forms, pres_findings, procedure_findings, typed};
+ghost use Rattle.static_rules.specs.Files.{arity, body_acts, body_findings, clause, front_of, head_scope, input_scope, is_wlp, loops_of_body, parameters_findings, post_forms, posts_findings, pre_forms, pres_findings, procedure_findings, typed};
 ghost use Rattle.typed_expressions.specs.Findings.{at};
-ghost use Rattle.heyvl_types.specs.PartCounts.{HasFewParts};
+ghost use Rattle.static_rules.specs.PartCounts.{HasFewParts};
 ghost use Rattle.heyvl_types.specs.internal.ProcedureParts.{is_larger, with_parts};
 ghost use Rattle.heyvl_acts.specs.PlainActs.{body_of, procedure_of, variable_of};
 ghost use Rattle.heyvl_acts.specs.Rules.{IsCounted};
-ghost use Rattle.heyvl_types.specs.Variables.{locals_of_body, parameters};
+ghost use Rattle.static_rules.specs.Variables.{locals_of_body, parameters};
 ghost use Rattle.typed_expressions.specs.DeclaredVariables.{fronts_variables};
 ghost use Rattle.std.specs.Prelude.{◌&&◌, ◌++◌, ◌+◌, ◌<◌, ◌^◌, ◌||◌, ◌≡◌, ◌∷◌, [], IfOk, OnOk, length, map, nat_lt, not};
 
 use crate::blocks::read_block;
-use crate::clauses::{clause, read_posts, read_pres};
-use crate::fronts::list_fronts;
-use crate::locals::count_locals;
-use crate::parameters::read_parameters;
-use crate::settings::Setting;
 use heylo_formula::Form;
 use heyvl_acts::{Act, TProc, VarInfo, count};
 use heyvl_syntax::{Note, Proc, Stmt};
+use static_rules::Setting;
 use std::alloc::Global;
 use typed_expressions::{Calls, ResolveStop, Scope, any_quantified};
+use typed_heads::{clause, count_locals, list_fronts, read_parameters, read_posts, read_pres};
 
 /// What the head of a procedure declares.
 #[derive(Drop)]

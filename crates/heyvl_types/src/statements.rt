@@ -4,30 +4,30 @@ ghost use Rattle.heyvl_syntax.specs.Expressions.{expression};
 ghost use Rattle.heyvl_syntax.specs.Statements.{optional_right, right_side};
 ghost use Rattle.heyvl_acts.specs.Acts.{Act as Plain, Acts};
 ghost use Rattle.typed_expressions.specs.Answers.{Gives};
-ghost use Rattle.heyvl_types.specs.internal.Views.{acts_view};
+ghost use Rattle.typed_right_sides.specs.Views.{acts_view};
 ghost use Rattle.typed_expressions.specs.Findings.{at};
 ghost use Rattle.heyvl_acts.specs.PlainActs.{act_of, variable_of};
 ghost use Rattle.typed_expressions.specs.Scopes.{find, is_visible, with_local};
-ghost use Rattle.heyvl_types.specs.StatementActs.{assigned, declared_act, havocs, number_or_zero, targets, type_of_local};
+ghost use Rattle.static_rules.specs.StatementActs.{assigned, declared_act, havocs, number_or_zero, targets, type_of_local};
 ghost use Rattle.typed_expressions.specs.Values.{form};
-ghost use Rattle.heyvl_types.specs.RightSides.{right_findings};
-ghost use Rattle.heyvl_types.specs.StatementRules.{assign_rules, check_rules, checks_against, havoc_rules, havocs_against, reward_rules, validate_rules, validates_against, value_findings, var_rules};
+ghost use Rattle.static_rules.specs.RightSides.{right_findings};
+ghost use Rattle.static_rules.specs.StatementRules.{assign_rules, check_rules, checks_against, havoc_rules, havocs_against, reward_rules, validate_rules, validates_against, value_findings, var_rules};
 ghost use Rattle.typed_expressions.specs.TypedExpressions.{closed_findings, elaborate};
 ghost use Rattle.typed_expressions.specs.DeclaredVariables.{declared, type_or_bool};
 ghost use Rattle.typed_expressions.specs.Table.{declarable};
 ghost use Rattle.std.specs.Prelude.{◌++◌, ◌<◌, ◌^◌, ◌≡◌, ◌∷◌, [], IfOk, OnOk, false, length, map, take};
 
-use crate::assignments::{read_assign, read_var};
-use crate::settings::Setting;
 use heylo_formula::Ty;
 use heyvl_acts::{Act, VarInfo};
 use heyvl_places::{CheckKind, Name, Span};
 use heyvl_syntax::{Expr, Right, TypeName};
+use static_rules::Setting;
 use std::alloc::{AllocError, Global};
 use typed_expressions::{
     Calls, Demand, Local, ResolveStop, Scope, any_input, any_twice, any_unknown, declarable, form,
     read, told,
 };
+use typed_right_sides::{read_assign, read_var};
 
 /// This act alone.
 pub(crate) fn single(alloc: Global, act: Act) -> Result<Vec<Act>, AllocError>

@@ -15,14 +15,14 @@ use Rattle.heyvl_num.specs.WeightedSums.{weighted_sum}
 use Rattle.heyvl_syntax.specs.Procedures.{Procedure}
 use Rattle.heyvl_syntax.specs.Statements.{Statement}
 use Rattle.heyvl_syntax.specs.Statements as heyvl
-use Rattle.heyvl_types.specs.Files.{setting}
+use Rattle.static_rules.specs.Files.{setting}
 use Rattle.typed_expressions.specs.Scopes.{Scope}
 use Rattle.typed_expressions.specs.Signatures.{Called}
-use Rattle.heyvl_types.specs.StatementActs.{block_acts, number_or_zero}
+use Rattle.static_rules.specs.StatementActs.{block_acts, number_or_zero}
 use Rattle.typed_expressions.specs.Values.{term}
-use Rattle.heyvl_types.specs.StatementRules.{block_findings}
+use Rattle.static_rules.specs.StatementRules.{block_findings}
 use Rattle.typed_expressions.specs.Table.{declarable, variable}
-use Rattle.heyvl_types.specs.Variables.{parameters}
+use Rattle.static_rules.specs.Variables.{parameters}
 use Rattle.typed_expressions.specs.DeclaredVariables.{type_or_bool}
 use Rattle.guarded_commands.specs.Translation.{input, output, start, type_name}
 use Rattle.guarded_commands.specs.declared.programs.Declaration.{Declaration}

@@ -13,8 +13,8 @@ use Rattle.heyvl_places.specs.declared.spans.Span.{Span}
 use Rattle.heyvl_syntax.specs.Expressions.{Expression}
 use Rattle.heyvl_syntax.specs.Procedures.{Procedure}
 use Rattle.heyvl_syntax.specs.declared.operators.BinaryOp.TheVariants as ops
-use Rattle.heyvl_types.specs.Files.{first_fault, resolved}
-use Rattle.heyvl_types.specs.Literals.{literal_quotient}
+use Rattle.static_rules.specs.Files.{first_fault, resolved}
+use Rattle.static_rules.specs.Literals.{literal_quotient}
 use Rattle.typed_expressions.specs.LiteralValues.{inverse_value, literal_value}
 use Rattle.guarded_commands.specs.Programs.{BlockTree, CommandTree, ProgramTree}
 use Rattle.guarded_commands.specs.Translation.{translated}

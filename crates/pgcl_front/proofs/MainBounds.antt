@@ -22,12 +22,12 @@ use Rattle.heyvl_syntax.specs.Expressions.{Expression}
 use Rattle.heyvl_syntax.specs.Procedures.{Procedure}
 use Rattle.heyvl_syntax.specs.declared.operators.BinaryOp.TheVariants as ops
 use Rattle.heyvl_syntax.specs.declared.operators.BinaryOp.{BinaryOp}
-use Rattle.heyvl_types.specs.Files.{arity, first_fault, head_scope, input_scope, resolved}
+use Rattle.static_rules.specs.Files.{arity, first_fault, head_scope, input_scope, resolved}
 use Rattle.typed_expressions.specs.Scopes.{Scope, find}
 use Rattle.typed_expressions.specs.Values.{form}
 use Rattle.typed_expressions.specs.Table.{Meaning, bracket, choice, divisor, embedding, factor, given, quotient, unary, variable}
 use Rattle.typed_expressions.specs.TypedExpressions.{elaborate, operated}
-use Rattle.heyvl_types.specs.Variables.{parameters}
+use Rattle.static_rules.specs.Variables.{parameters}
 use Rattle.guarded_commands.specs.Programs.{ProgramTree}
 use Rattle.guarded_commands.specs.Translation.{at_start, first_place, input, input_name, translated}
 use Rattle.guarded_commands.specs.declared.programs.Declaration.{Declaration}

@@ -16,14 +16,14 @@ use Rattle.heyvl_num.specs.Value.{zeroᵛ}
 use Rattle.heyvl_places.specs.declared.spans.Span.{Span}
 use Rattle.heyvl_syntax.specs.Procedures.{Procedure}
 use Rattle.heyvl_syntax.specs.Statements as heyvl
-use Rattle.heyvl_types.specs.Files.{arity, file_findings, first_fault, first_quantified, front_of, has_quantified_post, head_scope, input_scope, is_too_large, parameters_findings, posts_findings, pres_findings, procedures_findings, resolved, setting, typed}
+use Rattle.static_rules.specs.Files.{arity, file_findings, first_fault, first_quantified, front_of, has_quantified_post, head_scope, input_scope, is_too_large, parameters_findings, posts_findings, pres_findings, procedures_findings, resolved, setting, typed}
 use Rattle.typed_expressions.specs.Findings.{Finding, at, first}
 use Rattle.typed_expressions.specs.Signatures.{Called, called}
-use Rattle.heyvl_types.specs.StatementActs.{block_acts}
+use Rattle.static_rules.specs.StatementActs.{block_acts}
 use Rattle.typed_expressions.specs.Values.{form}
-use Rattle.heyvl_types.specs.StatementRules.{block_findings}
+use Rattle.static_rules.specs.StatementRules.{block_findings}
 use Rattle.typed_expressions.specs.TypedExpressions.{elaborate}
-use Rattle.heyvl_types.specs.Variables.{behind_parameters, locals_of_block, parameters}
+use Rattle.static_rules.specs.Variables.{behind_parameters, locals_of_block, parameters}
 use Rattle.typed_expressions.specs.DeclaredVariables.{fronts_variables}
 use Rattle.guarded_commands.specs.Programs.{ProgramTree}
 use Rattle.guarded_commands.specs.Translation.{first_place, input, output, picks_in, start, statements, translated}

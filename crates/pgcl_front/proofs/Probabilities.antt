@@ -14,7 +14,7 @@ use Rattle.heyvl_syntax.specs.Expressions.{Expression}
 use Rattle.heyvl_syntax.specs.declared.literals.Lit.{Lit}
 use Rattle.heyvl_syntax.specs.declared.operators.BinaryOp.TheVariants as ops
 use Rattle.heyvl_syntax.specs.declared.operators.BinaryOp.{BinaryOp}
-use Rattle.heyvl_types.specs.Literals.{is_over_zero, is_probability, is_too_wide, is_weight_literal, literal_quotient, weight, weight_of_quotient, weight_of_value, weight_value}
+use Rattle.static_rules.specs.Literals.{is_over_zero, is_probability, is_too_wide, is_weight_literal, literal_quotient, weight, weight_of_quotient, weight_of_value, weight_value}
 use Rattle.std.proofs.Common.{Bool, ap, arith, false, inl, inr, negsuc, pos, refl, suc, true, zero, ◌+◌, ◌<◌, ◌^◌, ◌∙◌, ◌≡◌, ◌≤◌, ◌⊎◌, ℕ, ℤ}
 use Rattle.std.proofs.Math.Nat.{pow-suc}
 use Rattle.std.proofs.lemmas.Bool.{and_parts}

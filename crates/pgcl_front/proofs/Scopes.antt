@@ -10,11 +10,11 @@ use Rattle.heyvl_syntax.specs.declared.procedures.Param.{Param}
 use Rattle.heyvl_syntax.specs.declared.tokens.TokenKind.TheVariants as kinds
 use Rattle.heyvl_syntax.specs.declared.types.TypeName.TheVariants as names
 use Rattle.heyvl_syntax.specs.declared.types.TypeName.{TypeName}
-use Rattle.heyvl_types.specs.Files.{parameters_findings}
+use Rattle.static_rules.specs.Files.{parameters_findings}
 use Rattle.typed_expressions.specs.Findings.{at}
 use Rattle.typed_expressions.specs.Scopes.{Scope, find, is_visible, with_local}
 use Rattle.typed_expressions.specs.Table.{declarable, variable}
-use Rattle.heyvl_types.specs.Variables.{behind_parameters}
+use Rattle.static_rules.specs.Variables.{behind_parameters}
 use Rattle.guarded_commands.specs.ReservedNames.{is_made}
 use Rattle.guarded_commands.specs.Translation.{input, input_name, output, pick_name, type_name}
 use Rattle.guarded_commands.specs.declared.programs.Declaration.{Declaration}

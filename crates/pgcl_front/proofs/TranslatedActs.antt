@@ -22,18 +22,18 @@ use Rattle.heyvl_syntax.specs.Procedures.{Procedure}
 use Rattle.heyvl_syntax.specs.Statements.{RightSide, Statement}
 use Rattle.heyvl_syntax.specs.Statements as heyvl
 use Rattle.heyvl_syntax.specs.declared.types.TypeName.TheVariants as names
-use Rattle.heyvl_types.specs.Files.{setting}
+use Rattle.static_rules.specs.Files.{setting}
 use Rattle.typed_expressions.specs.Findings.{at}
-use Rattle.heyvl_types.specs.Literals.{is_probability, is_weight_literal, weight, weight_value}
-use Rattle.heyvl_types.specs.RightSides.{flip_wrong, has_over_zero, literal_wrong}
+use Rattle.static_rules.specs.Literals.{is_probability, is_weight_literal, weight, weight_value}
+use Rattle.static_rules.specs.RightSides.{flip_wrong, has_over_zero, literal_wrong}
 use Rattle.typed_expressions.specs.Scopes.{Scope, find, with_local}
 use Rattle.typed_expressions.specs.Signatures.{Called}
-use Rattle.heyvl_types.specs.StatementActs.{block_acts, draw_or_toss, flip_act, number_or_zero}
+use Rattle.static_rules.specs.StatementActs.{block_acts, draw_or_toss, flip_act, number_or_zero}
 use Rattle.typed_expressions.specs.Values.{condition, form, term}
-use Rattle.heyvl_types.specs.StatementRules.{assign_rules, block_findings, var_rules}
+use Rattle.static_rules.specs.StatementRules.{assign_rules, block_findings, var_rules}
 use Rattle.typed_expressions.specs.Table.{variable}
 use Rattle.typed_expressions.specs.TypedExpressions.{elaborate}
-use Rattle.heyvl_types.specs.Variables.{locals_of_block}
+use Rattle.static_rules.specs.Variables.{locals_of_block}
 use Rattle.guarded_commands.specs.Programs.{BlockTree, CommandTree}
 use Rattle.guarded_commands.specs.Translation.{lines, pick_name, picks, picks_in, statements}
 use Rattle.run_machine.specs.Step.{branches}

@@ -9,7 +9,7 @@ use Rattle.heyvl_acts.specs.Acts.{procedure_at}
 use Rattle.heyvl_num.specs.Value.{◌≤ᵛ◌}
 use Rattle.heyvl_syntax.specs.Procedures.{Procedure}
 use Rattle.heyvl_syntax.specs.declared.tokens.Token.{Token}
-use Rattle.heyvl_types.specs.Files.{first_fault, resolved}
+use Rattle.static_rules.specs.Files.{first_fault, resolved}
 use Rattle.guarded_commands.specs.Programs.{ProgramTree}
 use Rattle.guarded_commands.specs.Translations.{IsTranslation}
 use Rattle.run_machine.specs.Bound.{Bound, IsState}

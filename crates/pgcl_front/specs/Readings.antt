@@ -11,10 +11,10 @@ use Rattle.heyvl_num.specs.Rational.{Rational}
 use Rattle.heyvl_num.specs.Value.{Value}
 use Rattle.heyvl_syntax.specs.Expressions.{Expression}
 use Rattle.typed_expressions.specs.Scopes.{Scope, find}
-use Rattle.heyvl_types.specs.StatementActs.{number_or_zero}
+use Rattle.static_rules.specs.StatementActs.{number_or_zero}
 use Rattle.typed_expressions.specs.Values.{condition, form, term}
 use Rattle.typed_expressions.specs.TypedExpressions.{elaborate}
-use Rattle.heyvl_types.specs.Variables.{behind_parameters}
+use Rattle.static_rules.specs.Variables.{behind_parameters}
 use Rattle.guarded_commands.specs.Translation.{output}
 use Rattle.guarded_commands.specs.declared.programs.Declaration.{Declaration}
 use Rattle.guarded_commands.specs.declared.programs.VariableType.TheVariants as types

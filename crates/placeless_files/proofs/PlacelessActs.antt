@@ -13,14 +13,14 @@ use Rattle.heyvl_syntax.specs.Statements as syntax
 use Rattle.heyvl_syntax.specs.Statements.{Block, RightSide, Statement}
 use Rattle.heyvl_syntax.specs.declared.types.TypeName.{TypeName}
 use Rattle.placeless_files.proofs.PlacelessForms.{bare_condition, bare_formula, bare_value, integer_bare, three_same, weight_bare}
-use Rattle.heyvl_types.specs.Files.{setting}
-use Rattle.heyvl_types.specs.Literals.{is_weight_literal, weight, weight_value}
+use Rattle.static_rules.specs.Files.{setting}
+use Rattle.static_rules.specs.Literals.{is_weight_literal, weight, weight_value}
 use Rattle.typed_expressions.specs.Scopes.{Scope, find, numbers}
 use Rattle.typed_expressions.specs.Signatures.{Called, find_call}
-use Rattle.heyvl_types.specs.StatementActs.{arms_acts, assigned, block_acts, callee, choose_parts, declared_act, draw_or_toss, first_or_zero, flip_act, havocs, loops, loops_of_arms, loops_of_block, number_or_zero, statement_acts, targets, type_of_local, unif_parts}
+use Rattle.static_rules.specs.StatementActs.{arms_acts, assigned, block_acts, callee, choose_parts, declared_act, draw_or_toss, first_or_zero, flip_act, havocs, loops, loops_of_arms, loops_of_block, number_or_zero, statement_acts, targets, type_of_local, unif_parts}
 use Rattle.typed_expressions.specs.Values.{form, terms}
 use Rattle.typed_expressions.specs.TypedExpressions.{elaborate}
-use Rattle.heyvl_types.specs.Variables.{behind, locals, locals_of_arms, locals_of_block}
+use Rattle.static_rules.specs.Variables.{behind, locals, locals_of_arms, locals_of_block}
 use Rattle.run_laws.specs.Bare.{bare, bare_act, bare_arms, bare_form, bare_part, bare_term, nowhere}
 use Rattle.std.proofs.Common.{Bool, List, None, Option, Some, [], ap, ap₂, false, length, map, refl, sym, true, ◌++◌, ◌+◌, ◌∙◌, ◌∷◌, ◌≡◌, ℕ}
 

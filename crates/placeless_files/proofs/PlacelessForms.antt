@@ -15,7 +15,7 @@ use Rattle.heyvl_syntax.specs.declared.operators.UnaryOp.TheVariants as prefixes
 use Rattle.heyvl_syntax.specs.declared.operators.UnaryOp.{UnaryOp}
 use Rattle.heyvl_syntax.specs.declared.types.TypeName.TheVariants as names
 use Rattle.heyvl_syntax.specs.declared.types.TypeName.{TypeName}
-use Rattle.heyvl_types.specs.Literals.{integer, weight}
+use Rattle.static_rules.specs.Literals.{integer, weight}
 use Rattle.run_laws.specs.Bare.{bare_cond, bare_form, bare_term, nowhere}
 use Rattle.std.proofs.Common.{Bool, List, None, Option, Some, [], ap, ap₂, false, refl, suc, true, ◌∙◌, ◌∷◌, ◌≡◌, ℕ}
 use Rattle.std.specs.Prelude.{if◌then◌else◌, option_map, ◌&&◌, ◌==◌}

@@ -11,11 +11,11 @@ use Rattle.heyvl_syntax.specs.declared.procedures.Param.{Param}
 use Rattle.heyvl_syntax.specs.declared.types.TypeName.{TypeName}
 use Rattle.placeless_files.proofs.PlacelessActs.{block_bare, locals_of_block_bare, loops_of_block_bare}
 use Rattle.placeless_files.proofs.PlacelessForms.{bare_formula, three_same}
-use Rattle.heyvl_types.specs.Files.{arity, body_acts, clause, first_quantified, head_scope, input_scope, is_wlp, joined_with, loops_of_body, post_forms, pre_forms, resolved, setting, typed}
+use Rattle.static_rules.specs.Files.{arity, body_acts, clause, first_quantified, head_scope, input_scope, is_wlp, joined_with, loops_of_body, post_forms, pre_forms, resolved, setting, typed}
 use Rattle.typed_expressions.specs.Scopes.{Scope, with_local}
 use Rattle.typed_expressions.specs.Signatures.{Called, Signature, called, signature, with_signature, with_signatures}
 use Rattle.typed_expressions.specs.TypedExpressions.{has_quantifier}
-use Rattle.heyvl_types.specs.Variables.{behind_parameters, locals_of_body, parameters}
+use Rattle.static_rules.specs.Variables.{behind_parameters, locals_of_body, parameters}
 use Rattle.typed_expressions.specs.DeclaredVariables.{declared, front_variables, fronts_variables}
 use Rattle.run_laws.specs.Bare as bare
 use Rattle.run_laws.specs.Bare.{bare_form, bare_procedures}

@@ -3,7 +3,7 @@ use Prim.Native.Nat.{suc, zero}
 use Rattle.heylo_formula.specs.declared.types.Ty.{Ty}
 use Rattle.heylo_formula.specs.State.{IsTyped}
 use Rattle.heyvl_acts.specs.Acts.{TypedProcedure, procedure_at, type_list, variables}
-use Rattle.heyvl_types.specs.Files.{resolved}
+use Rattle.static_rules.specs.Files.{resolved}
 use Rattle.placeless_files.proofs.PlacelessProcedures.{same_procedures}
 use Rattle.placeless_files.specs.PlacelessRuns.{BoundsIgnorePlaces, StatesIgnorePlaces, SumsIgnorePlaces}
 use Rattle.run_laws.specs.Bare.{bare_procedures}

@@ -4,7 +4,7 @@ use Rattle.heylo_formula.specs.declared.values.Val.{Val}
 use Rattle.heyvl_acts.specs.Acts.{procedure_at}
 use Rattle.heyvl_print.specs.WithoutPlaces.{SameButPlaces}
 use Rattle.heyvl_syntax.specs.Procedures.{Procedure}
-use Rattle.heyvl_types.specs.Files.{resolved}
+use Rattle.static_rules.specs.Files.{resolved}
 use Rattle.run_laws.specs.Bare.{bare_procedures}
 use Rattle.run_machine.specs.Bound.{Bound, IsState}
 use Rattle.run_machine.specs.Configurations.{begin}

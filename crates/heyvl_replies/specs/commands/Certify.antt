@@ -8,7 +8,7 @@ use Rattle.heyvl_syntax.specs.Procedures.{Procedure}
 use Rattle.heyvl_syntax.specs.SourceFaults.{IsSource}
 use Rattle.heyvl_replies.specs.FileReplies.{IsAnsweredWhole, IsTypedReply}
 use Rattle.heyvl_replies.specs.Messages.{Reply, answered}
-use Rattle.heyvl_types.specs.Files.{first_fault, resolved}
+use Rattle.static_rules.specs.Files.{first_fault, resolved}
 use Rattle.std.specs.Prelude.{List, None, ◌≡◌, ℕ}
 use Rattle.verify_core.specs.AnsweredProcedures.{AreAnswered}
 use Rattle.verify_core.specs.Headline.{IsHeadline}

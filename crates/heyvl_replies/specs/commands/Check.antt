@@ -8,7 +8,7 @@ use Rattle.heyvl_syntax.specs.SourceFaults.{IsSource}
 use Rattle.heyvl_replies.specs.FileReplies.{IsAnsweredWhole, IsTypedReply}
 use Rattle.heyvl_replies.specs.Messages.{Reply, answered, message}
 use Rattle.heyvl_replies.specs.declared.faults.Fault.TheVariants as faults
-use Rattle.heyvl_types.specs.Files.{first_fault, resolved}
+use Rattle.static_rules.specs.Files.{first_fault, resolved}
 use Rattle.std.specs.Prelude.{List, None, [], codes, decimal, ◌++◌, ◌≡◌, ℕ}
 use Rattle.verdict_report.specs.Reports.{report_text}
 use Rattle.verify_core.specs.CheckedAnswers.{IsCheckedFile}

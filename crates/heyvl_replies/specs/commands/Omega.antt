@@ -7,7 +7,7 @@ use Rattle.heyvl_replies.specs.Messages.{Reply, message, stated}
 use Rattle.heyvl_replies.specs.RunStarts.{procedure_named}
 use Rattle.heyvl_replies.specs.commands.Run.{no_procedure}
 use Rattle.heyvl_replies.specs.declared.faults.Fault.TheVariants as faults
-use Rattle.heyvl_types.specs.Files.{first_fault, resolved}
+use Rattle.static_rules.specs.Files.{first_fault, resolved}
 use Rattle.lower_rules.specs.OmegaAnswers.{IsOmegaAnswer, OmegaHolds, ShownStateFails}
 use Rattle.lower_rules.specs.declared.answers.Omega.TheVariants.{Fails, Holds, Shape, Unknown}
 use Rattle.lower_rules.specs.declared.answers.Omega.{Omega}

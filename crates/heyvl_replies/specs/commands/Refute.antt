@@ -14,7 +14,7 @@ use Rattle.heyvl_replies.specs.RunStarts.{IsFirstNoProgram, known_at, procedure_
 use Rattle.heyvl_replies.specs.RunTexts.{no_coproc_text}
 use Rattle.heyvl_replies.specs.commands.Run.{no_procedure, no_program, run_reply, script_fault}
 use Rattle.heyvl_replies.specs.declared.faults.Fault.TheVariants as faults
-use Rattle.heyvl_types.specs.Files.{first_fault, resolved}
+use Rattle.static_rules.specs.Files.{first_fault, resolved}
 use Rattle.refute_runs.specs.RefutedAnswers.{IsRefutedAnswer}
 use Rattle.refute_runs.specs.Violations.{NumbersAreOfRuns, ViolationIsOfRuns}
 use Rattle.refute_runs.specs.declared.answers.Refuted.TheVariants.{Stopped, Violation, Within}

@@ -9,7 +9,7 @@ use Rattle.heyvl_replies.specs.Messages.{Reply, message, stated}
 use Rattle.heyvl_replies.specs.RunStarts.{procedure_named}
 use Rattle.heyvl_replies.specs.commands.Run.{no_procedure}
 use Rattle.heyvl_replies.specs.declared.faults.Fault.TheVariants as faults
-use Rattle.heyvl_types.specs.Files.{first_fault, resolved}
+use Rattle.static_rules.specs.Files.{first_fault, resolved}
 use Rattle.lower_rules.specs.RemainderAnswers.{IsPromised, IsRemainderAnswer}
 use Rattle.lower_rules.specs.declared.remainder_answers.Remainder.TheVariants.{Fails, Holds, NotRanked, NotVerified, Shape, Unknown}
 use Rattle.lower_rules.specs.declared.remainder_answers.Remainder.{Remainder}

@@ -7,7 +7,7 @@ use Rattle.heyvl_replies.specs.Messages.{Reply, message}
 use Rattle.heyvl_replies.specs.RunStarts.{IsFirstNoProgram, known_at, procedure_named}
 use Rattle.heyvl_replies.specs.RunTexts.{no_procedure_text, no_program_text}
 use Rattle.heyvl_replies.specs.declared.faults.Fault.TheVariants as faults
-use Rattle.heyvl_types.specs.Files.{first_fault, resolved}
+use Rattle.static_rules.specs.Files.{first_fault, resolved}
 use Rattle.run_machine.specs.ConfigConditions.{ReachesPrograms}
 use Rattle.run_machine.specs.StoredStep.{stored_begin}
 use Rattle.run_script.specs.Scripts.{IsFirstFault, Script, Spells}

@@ -3,7 +3,7 @@ use Rattle.heylo_formula.specs.Formula.{Form}
 use Rattle.heyvl_acts.specs.Acts.{Acts, TypedProcedure, Variable, acts_in}
 use Rattle.heyvl_acts.specs.Count.{count_of}
 use Rattle.heyvl_syntax.specs.Procedures.{Procedure}
-use Rattle.heyvl_types.specs.Files.{is_wlp}
+use Rattle.static_rules.specs.Files.{is_wlp}
 use Rattle.std.specs.Prelude.{Bool, List, Option, drop, length, nat_lt, not, take, ◌&&◌, ◌+◌, ◌||◌, ℕ}
 
 -- Whether a procedure with so many parameters and variables, and with this body, is too large.

@@ -5,7 +5,7 @@ use Rattle.heyvl_files.proofs.ProgramFiles.{stops_program}
 use Rattle.heyvl_files.proofs.programs.program_file.Goals as goal
 use Rattle.heyvl_files.specs.Programs.IsProgramFault.{static}
 use Rattle.heyvl_syntax.specs.Procedures.{procedures}
-use Rattle.heyvl_types.specs.Files.{first_fault}
+use Rattle.static_rules.specs.Files.{first_fault}
 use Rattle.std.proofs.Common.{None, Some, ap, ◌≡◌}
 use Rattle.typed_expressions.specs.Findings.{first}
 

@@ -4,7 +4,7 @@ use Rattle.heyvl_files.proofs.FewParts.{spelled_few_parts}
 use Rattle.heyvl_files.proofs.FewProcedures.{few_in_file}
 use Rattle.heyvl_files.proofs.sources.typed_source.Goals as goal
 use Rattle.heyvl_files.specs.Sources.IsFileFault.{static}
-use Rattle.heyvl_types.specs.Files.{first_fault}
+use Rattle.static_rules.specs.Files.{first_fault}
 use Rattle.typed_expressions.specs.Findings.{first}
 use Rattle.std.proofs.Common.{None, Some, ap, ◌≡◌}
 

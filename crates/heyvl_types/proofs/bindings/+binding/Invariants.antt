@@ -1,6 +1,6 @@
 use Rattle.heyvl_syntax.specs.Statements.{arms, block}
 use Rattle.heyvl_types.proofs.bindings.+binding.Given as goal
-use Rattle.heyvl_types.specs.StatementRules.{arms_bind, block_binds}
+use Rattle.static_rules.specs.StatementRules.{arms_bind, block_binds}
 use Rattle.std.proofs.Common.{drop, ◌≡◌}
 
 -- What is true of the statements that are left is true of all.

@@ -1,6 +1,6 @@
 use Rattle.heyvl_syntax.specs.Statements.{arms, block}
 use Rattle.heyvl_types.proofs.bindings.+ranking.Given as goal
-use Rattle.heyvl_types.specs.StatementRules.{arms_are_rankable, block_is_rankable}
+use Rattle.static_rules.specs.StatementRules.{arms_are_rankable, block_is_rankable}
 use Rattle.std.proofs.Common.{drop, ◌≡◌}
 
 -- What is true of the statements that are left is true of all.

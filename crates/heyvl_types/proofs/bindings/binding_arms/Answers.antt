@@ -2,7 +2,7 @@ use Rattle.heyvl_syntax.proofs.exported.PlainTreesAre.{plain_statements}
 use Rattle.heyvl_syntax.specs.Statements.{block}
 use Rattle.heyvl_types.proofs.LastElement.{arms_any, binds_arm, free_step, last_passes, none_passes}
 use Rattle.heyvl_types.proofs.bindings.binding_arms.Goals as goal
-use Rattle.heyvl_types.specs.StatementRules.{block_binds}
+use Rattle.static_rules.specs.StatementRules.{block_binds}
 use Rattle.std.proofs.Common.{ap, drop, sym, ◌∙◌}
 
 pub returns-then-block_binds : goal.returns-then-block_binds

@@ -9,11 +9,11 @@ use Rattle.heyvl_types.proofs.blocks.+reading.Goals.{read_arms-else-bound, read_
 use Rattle.heyvl_acts.proofs.exported.PlainActsAre.{if_act, pick_act}
 use Rattle.heyvl_acts.specs.Acts.{Acts}
 use Rattle.typed_expressions.specs.Answers.{Gives}
-use Rattle.heyvl_types.specs.internal.Views.{acts_view, arms_view}
+use Rattle.typed_right_sides.specs.Views.{acts_view, arms_view}
 use Rattle.heyvl_acts.specs.PlainActs.{acts_of, arm_of, variable_of}
-use Rattle.heyvl_types.specs.StatementActs.{arms_acts, statement_acts}
-use Rattle.heyvl_types.specs.StatementRules.{arms_bind, arms_findings, block_binds, statement_findings}
-use Rattle.heyvl_types.specs.Variables.{locals, locals_of_arms, locals_of_block}
+use Rattle.static_rules.specs.StatementActs.{arms_acts, statement_acts}
+use Rattle.static_rules.specs.StatementRules.{arms_bind, arms_findings, block_binds, statement_findings}
+use Rattle.static_rules.specs.Variables.{locals, locals_of_arms, locals_of_block}
 use Rattle.std.proofs.Common.{Err, [], ap, arith, drop, length, map, rules, subst, sym, ◌++◌, ◌+◌, ◌||◌, ◌∙◌, ◌≡◌}
 use denote.Param.Weighed.{at_most}
 

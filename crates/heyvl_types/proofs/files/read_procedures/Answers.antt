@@ -3,7 +3,7 @@ use Rattle.heyvl_acts.specs.Rules.{Each, IsCounted}
 use Rattle.heyvl_syntax.specs.Procedures.{procedure, procedures}
 use Rattle.heyvl_types.proofs.ProcedureList.{At, fails, few_parts_at, goes_on, stands}
 use Rattle.heyvl_types.proofs.files.read_procedures.Goals as goal
-use Rattle.heyvl_types.specs.Files.{file_findings, resolved}
+use Rattle.static_rules.specs.Files.{file_findings, resolved}
 use Rattle.heyvl_types.specs.internal.Earlier.{is_before}
 use Rattle.std.proofs.Common.{Err, List, [], ap, arith, map, refl, rules, subst, sym, ◌+◌, ◌++◌, ◌∙◌, ◌∷◌}
 use Rattle.std.proofs.lemmas.List.{map-append}

@@ -5,8 +5,8 @@ use Rattle.heyvl_syntax.specs.Expressions.{expressions}
 use Rattle.heyvl_syntax.specs.Procedures.{procedure}
 use Rattle.heyvl_types.proofs.ReadProcedures.{HeadIs, all_in_range, all_variables, bad_body, bad_clauses, bad_head, bad_name, in_range, many_of, setting_with, together, variables_of}
 use Rattle.heyvl_types.proofs.procedures.read_procedure.Goals as goal
-use Rattle.heyvl_types.specs.Files.{arity, body_acts, has_quantified_post, head_scope, input_scope, pre_forms, procedure_findings, setting, typed}
-use Rattle.heyvl_types.specs.Variables.{locals_of_body, parameters}
+use Rattle.static_rules.specs.Files.{arity, body_acts, has_quantified_post, head_scope, input_scope, pre_forms, procedure_findings, setting, typed}
+use Rattle.static_rules.specs.Variables.{locals_of_body, parameters}
 use Rattle.std.proofs.Common.{Err, List, ap, arith, length, map, rules, sym, ◌++◌, ◌∙◌, ◌≡◌, ℕ}
 use Rattle.std.specs.List.{list_any}
 use Rattle.std.specs.Prelude.{Option}

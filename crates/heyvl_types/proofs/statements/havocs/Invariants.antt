@@ -1,7 +1,7 @@
 use Rattle.heyvl_acts.specs.Acts.{join}
 use Rattle.heyvl_acts.specs.PlainActs.{acts_of}
 use Rattle.heyvl_types.proofs.statements.havocs.Given as goal
-use Rattle.heyvl_types.specs.StatementActs.{havocs}
+use Rattle.static_rules.specs.StatementActs.{havocs}
 use Rattle.std.proofs.Common.{drop, ◌≡◌}
 
 -- What is there, and what is left, is the whole.

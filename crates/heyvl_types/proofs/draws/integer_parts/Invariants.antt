@@ -1,9 +1,0 @@
-use Rattle.heyvl_acts.specs.PlainActs.{parts_of}
-use Rattle.heyvl_types.proofs.draws.integer_parts.Given as goal
-use Rattle.heyvl_types.specs.StatementActs.{integer_parts}
-use Rattle.std.proofs.Common.{pos, ◌++◌, ◌-◌, ◌≡◌}
-use Rattle.std.specs.Prelude.{◌+ℤ◌}
-
--- With those that are left, the parts are all.
-abbrev pub invariant-loop-step : goal.invariant-loop-step
-invariant-loop-step l = parts_of l.parts.items ++ integer_parts l.weight (l.low +ℤ pos l.step) (l.count - l.step) ≡ integer_parts l.weight l.low l.count

@@ -1,9 +1,0 @@
-use Rattle.heyvl_syntax.specs.Statements.{loop_rules}
-use Rattle.heyvl_types.proofs.loop_rules.any_copies_wrong.Given as goal
-use Rattle.heyvl_types.specs.LoopRules.{copies_wrong}
-use Rattle.std.proofs.Common.{drop, ◌≡◌}
-use Rattle.std.specs.List.{list_any}
-
--- What is true of the rules that are left is true of all.
-abbrev pub invariant-loop-rule : goal.invariant-loop-rule
-invariant-loop-rule l = list_any copies_wrong (loop_rules l.rules) ≡ list_any copies_wrong (loop_rules (drop l.rule-index l.rules))

@@ -1,9 +1,0 @@
-use Rattle.heyvl_syntax.specs.Statements.{loop_rules}
-use Rattle.heyvl_types.proofs.loop_rules.read_rules.Given as goal
-use Rattle.heyvl_types.specs.LoopRules.{rules_findings}
-use Rattle.heyvl_types.specs.internal.LoopHeads.{found_with, rules_found}
-use Rattle.std.proofs.Common.{drop, ◌≡◌}
-
--- What is found already and in the rules that are left is what is found in all.
-abbrev pub invariant-loop-rule : goal.invariant-loop-rule
-invariant-loop-rule l = (rules_findings l.next l.scope (loop_rules l.rules) ≡ rules_findings l.next l.scope (loop_rules (drop l.rule-index l.rules))) × (rules_found l.next l.scope (loop_rules l.rules) ≡ found_with l.found l.next l.scope (loop_rules (drop l.rule-index l.rules)))

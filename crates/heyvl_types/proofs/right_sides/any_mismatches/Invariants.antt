@@ -1,8 +1,0 @@
-use Rattle.heyvl_types.proofs.right_sides.any_mismatches.Given as goal
-use Rattle.heyvl_types.specs.internal.Views.{value_type}
-use Rattle.heyvl_types.specs.internal.RightSideRules.{any_mismatches}
-use Rattle.std.proofs.Common.{drop, map, option_map, ◌≡◌}
-
--- No pair that was visited mismatches.
-abbrev pub invariant-loop-value : goal.invariant-loop-value
-invariant-loop-value l = any_mismatches (map (option_map value_type) l.values) l.inputs ≡ any_mismatches (map (option_map value_type) (drop l.value-index l.values)) l.rest

@@ -1,7 +1,0 @@
-use Rattle.heyvl_types.proofs.right_sides.any_output_mismatches.Given as goal
-use Rattle.heyvl_types.specs.RightSides.{any_output_mismatches}
-use Rattle.std.proofs.Common.{drop, ◌≡◌}
-
--- No pair that was visited mismatches.
-abbrev pub invariant-loop-output : goal.invariant-loop-output
-invariant-loop-output l = any_output_mismatches l.outputs l.targets ≡ any_output_mismatches (drop l.output-index l.outputs) l.rest

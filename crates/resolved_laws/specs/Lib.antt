@@ -1,0 +1,2 @@
+pub mod ResolvedLaws
+pub mod ResolvedSizes

@@ -1,0 +1,3 @@
+mod ExampleTexts
+mod FaultExamples
+pub mod exported

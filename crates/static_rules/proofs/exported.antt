@@ -1,0 +1,2 @@
+-- The lemmas that crates above may cite. All other proofs are private.
+pub mod Findings

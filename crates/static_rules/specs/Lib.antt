@@ -1,0 +1,9 @@
+pub mod Literals
+pub mod Variables
+pub mod RightSides
+pub mod LoopRules
+pub mod StatementRules
+pub mod StatementActs
+pub mod Files
+pub mod ArmedFiles
+pub mod PartCounts

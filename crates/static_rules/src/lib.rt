@@ -1,0 +1,8 @@
+//! The static rules of statements, procedures and files, and the typed tree that a file becomes, as definitions.
+#![tactic(auto)]
+
+mod settings;
+mod weights;
+
+pub use settings::Setting;
+pub use weights::Weight;

@@ -1,0 +1,4 @@
+pub mod ParameterSteps
+pub mod ClauseForms
+pub mod PreAndPost
+pub mod LocalsLeft

@@ -1,0 +1,10 @@
+use Rattle.typed_heads.proofs.LocalsLeft.{arm_locals_left, locals_left}
+use Rattle.typed_heads.proofs.locals.+local_counts.Given as goal
+use Rattle.std.proofs.Common.{◌+◌, ◌≡◌}
+
+-- What is counted and what is left are the whole.
+abbrev pub invariant-count_block-loop-one : goal.invariant-count_block-loop-one
+invariant-count_block-loop-one l = l.count + locals_left l.statements l.one-index ≡ locals_left l.statements 0
+
+abbrev pub invariant-count_arms-loop-arm : goal.invariant-count_arms-loop-arm
+invariant-count_arms-loop-arm l = l.count + arm_locals_left l.all l.arm-index ≡ arm_locals_left l.all 0

@@ -1,0 +1,2 @@
+pub mod RightSideParts
+pub mod RightSideRules
