@@ -8,9 +8,9 @@ use Rattle.goal_answers.specs.declared.trees.GoalCert.{GoalCert}
 use Rattle.heyvl_acts.specs.Acts.{TypedProcedure}
 use Rattle.heyvl_acts.specs.PlainActs.{procedures_of}
 use Rattle.heyvl_acts.specs.declared.typed_trees.Typed.{Typed}
-use Rattle.heyvl_files.specs.PrintLaws.{SpellingIsUnique}
-use Rattle.heyvl_files.specs.Sources.IsFileFault.{spelling, static}
-use Rattle.heyvl_files.specs.Sources.{IsFileFault, IsTypedSource}
+use Rattle.spelled_files.specs.PrintLaws.{SpellingIsUnique}
+use Rattle.spelled_files.specs.Sources.IsFileFault.{spelling, static}
+use Rattle.spelled_files.specs.Sources.{IsFileFault, IsTypedSource}
 use Rattle.heyvl_places.specs.declared.spans.Span.{Span}
 use Rattle.heyvl_syntax.specs.Grammar.{Spells}
 use Rattle.heyvl_syntax.specs.Procedures.{Procedure}

@@ -1,14 +1,2 @@
-mod ArmedFiles
-mod EachOf
-mod FewParts
-mod FewProcedures
-mod Meanings
-mod ProgramFiles
-mod ProgramSums
 mod ReadyFiles
-mod SmallForms
-mod SpelledParts
-mod SpelledExpressions
-mod SpelledFiles
-mod SpelledStatements
 mod WorkedFaults

@@ -2,9 +2,9 @@
 use Rattle.heyvl_syntax.proofs.exported.InOrder.{tokens_few}
 use Rattle.heyvl_syntax.specs.Procedures.{Procedure}
 use Rattle.heyvl_syntax.specs.SourceFaults.{IsSource}
-use Rattle.heyvl_files.proofs.FewProcedures.{few_typed}
-use Rattle.heyvl_files.specs.FileLaws.{FilesHaveSmallForms, FilesStandWithin}
-use Rattle.heyvl_files.specs.Sources.{IsReady, file_limit}
+use Rattle.spelled_files.proofs.exported.FewProcedures.{few_typed}
+use Rattle.spelled_files.specs.FileLaws.{FilesHaveSmallForms, FilesStandWithin}
+use Rattle.spelled_files.specs.Sources.{IsReady, file_limit}
 use Rattle.heyvl_acts.specs.Acts.{TypedProcedure}
 use Rattle.resolved_laws.specs.ResolvedLaws.{IsAnswer}
 use Rattle.heyvl_acts.specs.FormSizes.{FormsWithin}

@@ -1,5 +1,5 @@
 pub mod FaultTexts
-pub mod FileLaws
-pub mod PrintLaws
-pub mod Programs
-pub mod Sources
+pub use Rattle.spelled_files.specs.FileLaws
+pub use Rattle.spelled_files.specs.PrintLaws
+pub use Rattle.spelled_files.specs.Programs
+pub use Rattle.spelled_files.specs.Sources

@@ -3,13 +3,13 @@
 #![tactic(auto)]
 
 mod fault_lines;
-mod file_laws;
-mod print_laws;
 mod programs;
 mod sources;
 
 pub use fault_lines::source_fault_line;
-pub use file_laws::{files_have_small_forms, files_stand_within};
-pub use print_laws::{printed_text_prints_itself, spelling_is_unique};
-pub use programs::{program_file, program_files_are_unique, program_files_have_sums};
-pub use sources::{SourceStop, spelled_file, typed_source};
+pub use programs::program_file;
+pub use sources::{spelled_file, typed_source};
+pub use spelled_files::{
+    SourceStop, files_have_small_forms, files_stand_within, printed_text_prints_itself,
+    program_files_are_unique, program_files_have_sums, spelling_is_unique,
+};

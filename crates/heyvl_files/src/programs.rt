@@ -1,21 +1,16 @@
 //! Files that programs of guarded commands become.
 
-ghost use Rattle.heyvl_files.specs.Programs.{HasProgramSums, IsProgramFile, IsProgramStop, IsTranslationStop, ProgramFaultIsUnique, ProgramFileIsUnique, ProgramFilesAreSpelled, ProgramFilesHaveNoFault, ProgramFilesHaveSums};
-ghost use Rattle.heyvl_files.specs.Sources.{file_limit};
+ghost use Rattle.spelled_files.specs.Programs.{HasProgramSums, IsProgramFile, IsProgramStop, IsTranslationStop};
+ghost use Rattle.spelled_files.specs.Sources.{file_limit};
 ghost use Rattle.heyvl_syntax.specs.Procedures.{procedures};
 ghost use Rattle.pgcl_front.specs.Sources.{IsPgclSource};
 ghost use Rattle.std.specs.Prelude.{IfOk, MatchResult, length, ◌≤◌};
 
 use crate::fault_lines::token_place;
-use crate::print_laws::spelling_is_unique;
-use crate::sources::SourceStop;
 use heyvl_syntax::{File, LexStop, lex};
 use heyvl_types::{ResolveStop, resolve};
-use pgcl_front::{
-    PgclStop, bounds_carry_over, pgcl_sources_are_unique, sums_are_equal, translate,
-    translations_are_spelled,
-};
-use placeless_files::places_do_not_run;
+use pgcl_front::{PgclStop, translate};
+use spelled_files::{SourceStop, program_files_have_sums};
 use std::alloc::Global;
 
 /// The file that the program with these bytes becomes, or the first of its faults of bytes, tokens and names.
@@ -56,29 +51,4 @@ pub fn program_file(alloc: Global, bytes: &[u8]) -> Result<File, SourceStop>
         Err(ResolveStop::Fault(number, place)) => Err(SourceStop::Fault(number, place)),
         Err(ResolveStop::Memory(error)) => Err(SourceStop::Memory(error)),
     }
-}
-
-/// A program becomes at most one file without a static fault, has at most one first fault, and never both; and the canonical text of its
-/// file spells this file again, up to places.
-pub fn program_files_are_unique()
-    ensures file { ProgramFileIsUnique }
-    ensures fault { ProgramFaultIsUnique }
-    ensures either { ProgramFilesHaveNoFault }
-    ensures spelled { ProgramFilesAreSpelled }
-{
-    pgcl_sources_are_unique();
-    translations_are_spelled();
-}
-
-/// The upper sums of a program's runs, by the steps of guarded commands, are those of the runs of `main` in the file that the program becomes; and
-/// where the bound of `main` holds, each of them is at most the program's pre. The same holds of each file that the file's canonical text
-/// spells.
-pub fn program_files_have_sums()
-    ensures { ProgramFilesHaveSums }
-{
-    sums_are_equal();
-    bounds_carry_over();
-    places_do_not_run();
-    spelling_is_unique();
-    program_files_are_unique();
 }

@@ -1,8 +1,7 @@
 //! Files of HeyVL that bytes spell.
 
 ghost use Rattle.heyvl_acts.specs.PlainActs.{procedures_of};
-ghost use Rattle.heyvl_files.specs.Sources.{IsReady, IsSourceStop, IsSpellingStop, IsTypedSource, file_limit};
-ghost use Rattle.heyvl_files.specs.declared.sources.SourceStop.TheVariants.{Memory};
+ghost use Rattle.spelled_files.specs.Sources.{IsReady, IsSourceStop, IsSpellingStop, IsTypedSource, file_limit};
 ghost use Rattle.heyvl_syntax.specs.Procedures.{procedures};
 ghost use Rattle.heyvl_syntax.specs.SourceFaults.{IsSource};
 ghost use Rattle.static_rules.specs.ArmedFiles.{HasArms};
@@ -12,33 +11,12 @@ ghost use Rattle.std.specs.Prelude.{IfOk, List, MatchResult, length, ◌<◌, �
 ghost use Rattle.typed_expressions.specs.Answers.{Gives};
 
 use crate::fault_lines::token_place;
-use crate::file_laws::{files_have_small_forms, files_stand_within};
 use heyvl_acts::Typed;
 use heyvl_parse::{ParseStop, parse};
-use heyvl_places::Span;
 use heyvl_syntax::{File, LexStop, lex};
 use heyvl_types::{ResolveStop, resolve};
-use std::alloc::{AllocError, Global};
-use thiserror::Error;
-
-/// Why bytes are refused as a file.
-#[derive(Clone, Copy, Debug, Error)]
-pub enum SourceStop {
-    /// The file has the fault of this number, which stands there.
-    #[error("fault {0}")]
-    Fault(u8, Span),
-    /// Memory ran out.
-    #[error("out of memory")]
-    Memory(AllocError),
-}
-
-impl From<AllocError> for SourceStop {
-    ghost from_gives = { λ error stop. stop ≡ Memory error };
-
-    fn from(error: AllocError) -> Self {
-        SourceStop::Memory(error)
-    }
-}
+use spelled_files::{SourceStop, files_have_small_forms, files_stand_within};
+use std::alloc::Global;
 
 /// The file that these bytes spell, at most 1,048,576 of them, or the first of their faults 1 to 6.
 pub fn spelled_file(alloc: Global, bytes: &[u8]) -> Result<File, SourceStop>

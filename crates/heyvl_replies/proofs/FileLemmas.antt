@@ -8,9 +8,9 @@ use Rattle.heyvl_replies.specs.FileReplies.{IsSpelledReply, IsTypedReply}
 use Rattle.heyvl_replies.specs.Messages.{Reply}
 use Rattle.heyvl_replies.specs.Responses.{reply_of}
 use Rattle.heyvl_replies.specs.declared.responses.Response.{Response}
-use Rattle.heyvl_files.specs.declared.sources.SourceStop.TheVariants.{Fault, Memory}
-use Rattle.heyvl_files.specs.declared.sources.SourceStop.{SourceStop}
-use Rattle.heyvl_files.specs.Sources.{IsSourceStop, IsSpellingStop, IsTypedSource}
+use Rattle.spelled_files.specs.declared.stops.SourceStop.TheVariants.{Fault, Memory}
+use Rattle.spelled_files.specs.declared.stops.SourceStop.{SourceStop}
+use Rattle.spelled_files.specs.Sources.{IsSourceStop, IsSpellingStop, IsTypedSource}
 use Rattle.heyvl_replies.specs.internal.Refusals.{IsRefusal}
 use Rattle.std.proofs.Common.{Err, IfOk, List, Ok, Result, subst, ℕ}
 use Rattle.std.specs.declared.alloc.AllocError.{AllocError}

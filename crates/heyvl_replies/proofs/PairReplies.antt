@@ -1,7 +1,7 @@
 -- What is said of two procedures, from what its parts say; and that it is the one thing that is said of a file without a fault.
 use Rattle.heyvl_acts.specs.Acts.{TypedProcedure}
 use Rattle.heyvl_syntax.specs.SourceFaults.{SourcesHaveNoFault}
-use Rattle.heyvl_files.specs.PrintLaws.{SpellingIsUnique}
+use Rattle.spelled_files.specs.PrintLaws.{SpellingIsUnique}
 use Rattle.heyvl_replies.proofs.SaidOfFiles.{said_of_file, same_number}
 use Rattle.heyvl_replies.specs.Messages.{Reply}
 use Rattle.heyvl_replies.specs.RunStarts.{procedure_named}

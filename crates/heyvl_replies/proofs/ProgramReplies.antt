@@ -1,7 +1,7 @@
 -- What is said of a program of guarded commands, from what its parts say.
-use Rattle.heyvl_files.specs.Programs.{IsProgramFile, IsProgramStop, ProgramFaultIsUnique, ProgramFileIsUnique, ProgramFilesAreSpelled, ProgramFilesHaveNoFault}
-use Rattle.heyvl_files.specs.declared.sources.SourceStop.TheVariants.{Fault, Memory}
-use Rattle.heyvl_files.specs.declared.sources.SourceStop.{SourceStop}
+use Rattle.spelled_files.specs.Programs.{IsProgramFile, IsProgramStop, ProgramFaultIsUnique, ProgramFileIsUnique, ProgramFilesAreSpelled, ProgramFilesHaveNoFault}
+use Rattle.spelled_files.specs.declared.stops.SourceStop.TheVariants.{Fault, Memory}
+use Rattle.spelled_files.specs.declared.stops.SourceStop.{SourceStop}
 use Rattle.heyvl_places.specs.declared.spans.Span.{Span}
 use Rattle.heyvl_syntax.specs.Grammar.{Spells}
 use Rattle.heyvl_syntax.specs.Procedures.{Procedure}

@@ -4,7 +4,7 @@ use Rattle.goal_answers.specs.declared.named_goals.NamedGoal.{NamedGoal}
 use Rattle.goal_answers.specs.declared.trees.GoalCert.{GoalCert}
 use Rattle.heylo_formula.specs.declared.values.Val.{Val}
 use Rattle.heyvl_acts.specs.Acts.{TypedProcedure, procedure_at}
-use Rattle.heyvl_files.specs.PrintLaws.{SpellingIsUnique}
+use Rattle.spelled_files.specs.PrintLaws.{SpellingIsUnique}
 use Rattle.heyvl_syntax.specs.SourceFaults.{SourcesHaveNoFault}
 use Rattle.heyvl_replies.proofs.SaidOfFiles.{no_other_program, said_of_file, same_number}
 use Rattle.heyvl_replies.specs.Messages.{Reply}

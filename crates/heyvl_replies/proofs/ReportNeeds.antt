@@ -1,7 +1,7 @@
 -- What a report and the answers ask of a typed file.
 use Rattle.goal_answers.specs.declared.trees.GoalCert.{GoalCert}
 use Rattle.heyvl_replies.proofs.SaidOfFiles.{one_for_each}
-use Rattle.heyvl_files.specs.Sources.{file_limit}
+use Rattle.spelled_files.specs.Sources.{file_limit}
 use Rattle.heyvl_acts.specs.PlainActs.{procedure_of, procedures_of}
 use Rattle.heyvl_acts.specs.Rules.{Each, MeetsAllRules}
 use Rattle.heyvl_acts.specs.declared.typed_trees.Typed.{Typed}

@@ -6,12 +6,12 @@ use Rattle.heyvl_acts.specs.Acts.{TypedProcedure}
 use Rattle.heyvl_syntax.specs.Grammar as grammar
 use Rattle.heyvl_syntax.specs.Procedures.{Procedure}
 use Rattle.heyvl_syntax.specs.SourceFaults.{IsSource, SourcesHaveNoFault}
-use Rattle.heyvl_files.specs.Sources.IsFileFault.{spelling, static}
+use Rattle.spelled_files.specs.Sources.IsFileFault.{spelling, static}
 use Rattle.heyvl_replies.specs.FileReplies.IsTypedReply.{by_fault, by_file}
-use Rattle.heyvl_files.specs.Sources.{IsFileFault}
+use Rattle.spelled_files.specs.Sources.{IsFileFault}
 use Rattle.heyvl_replies.specs.FileReplies.{IsAnsweredWhole, IsSpelledReply, IsTypedReply}
 use Rattle.heyvl_replies.specs.Messages.{Reply, answered}
-use Rattle.heyvl_files.specs.PrintLaws.{SpellingIsUnique}
+use Rattle.spelled_files.specs.PrintLaws.{SpellingIsUnique}
 use Rattle.heyvl_replies.specs.RunStarts.IsFirstNoProgram.{itself, reached}
 use Rattle.heyvl_replies.specs.RunStarts.{IsFirstNoProgram, known_at, procedure_named}
 use Rattle.heyvl_replies.specs.Statuses.{answers_status, leaves_open, refutes}

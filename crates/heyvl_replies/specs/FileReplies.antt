@@ -1,6 +1,6 @@
 -- What commands have in common that read a file of HeyVL.
 use Rattle.heyvl_acts.specs.Acts.{TypedProcedure}
-use Rattle.heyvl_files.specs.Sources.{IsFileFault}
+use Rattle.spelled_files.specs.Sources.{IsFileFault}
 use Rattle.heyvl_places.specs.declared.spans.Span.{Span}
 use Rattle.heyvl_syntax.specs.Procedures.{Procedure}
 use Rattle.heyvl_syntax.specs.SourceFaults.{IsSource, IsSourceFault}

@@ -7,9 +7,9 @@ use Rattle.heyvl_places.specs.declared.spans.Span.{Span}
 use Rattle.heyvl_syntax.specs.SourceFaults.{IsSourceFault}
 use Rattle.heyvl_tool.proofs.CallLemmas.{same_settings}
 use Rattle.heyvl_tool.specs.Calls.IsReadReply.{by_bytes, by_length, by_source}
-use Rattle.heyvl_files.specs.Sources.{file_limit}
+use Rattle.spelled_files.specs.Sources.{file_limit}
 use Rattle.heyvl_tool.specs.Calls.{Call, IsFilesReply, IsRead, IsReadReply, IsSaid, Moment, Names, call, file_too_long, moment, names_holding, read_fault}
-use Rattle.heyvl_files.specs.Sources.IsFileFault.{spelling}
+use Rattle.spelled_files.specs.Sources.IsFileFault.{spelling}
 use Rattle.heyvl_replies.specs.FileReplies.IsTypedReply.{by_fault}
 use Rattle.heyvl_replies.specs.Messages.{Reply, source_fault}
 use Rattle.heyvl_tool.specs.Outcomes.HasCause.{by_command, by_words}

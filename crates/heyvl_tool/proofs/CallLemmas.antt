@@ -6,7 +6,7 @@ use Rattle.heyvl_io.specs.Order.{order_after}
 use Rattle.heyvl_io.specs.declared.reader.ReadStop.TheVariants as stops
 use Rattle.heyvl_io.specs.declared.reader.ReadStop.{ReadStop}
 use Rattle.heyvl_tool.specs.Calls.IsReadReply.{by_bytes, by_length, by_source}
-use Rattle.heyvl_files.specs.Sources.{file_limit}
+use Rattle.spelled_files.specs.Sources.{file_limit}
 use Rattle.heyvl_tool.specs.Calls.{AreRead, Call, IsFilesReply, IsLong, IsRead, IsReadReply, IsSaid, Moment, Names, file_too_long, read_fault}
 use Rattle.heyvl_replies.specs.Messages.{Reply}
 use Rattle.heyvl_tool.specs.Outcomes.HasCause.{by_command, by_words}

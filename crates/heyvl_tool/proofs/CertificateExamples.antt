@@ -13,7 +13,7 @@ use Rattle.heyvl_syntax.specs.Procedures.{Procedure}
 use Rattle.heyvl_syntax.specs.SourceFaults.{IsSource, SourcesHaveNoFault}
 use Rattle.heyvl_tool.proofs.ToldFaults.{static_told}
 use Rattle.heyvl_replies.specs.Messages.{Reply, answered, message}
-use Rattle.heyvl_files.specs.PrintLaws.{SpellingIsUnique}
+use Rattle.spelled_files.specs.PrintLaws.{SpellingIsUnique}
 use Rattle.heyvl_replies.specs.commands.Certify.{IsCertification}
 use Rattle.heyvl_replies.specs.commands.Check.IsCheckedReply.{by_certificates, by_line}
 use Rattle.heyvl_replies.specs.commands.Check.{IsCheckReply, IsCheckReport, IsCheckedReply, certificate_fault}

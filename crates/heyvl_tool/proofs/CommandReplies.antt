@@ -5,12 +5,12 @@ use Rattle.heyvl_syntax.specs.Grammar.{Spells}
 use Rattle.heyvl_syntax.specs.Procedures.{Procedure}
 use Rattle.heyvl_syntax.specs.SourceFaults.{IsSource, IsSourceFault, SourcesHaveNoFault}
 use Rattle.heyvl_tool.specs.FaultLaws.{MayTell}
-use Rattle.heyvl_files.specs.Sources.IsFileFault.{spelling, static}
-use Rattle.heyvl_files.specs.Sources.{IsFileFault}
+use Rattle.spelled_files.specs.Sources.IsFileFault.{spelling, static}
+use Rattle.spelled_files.specs.Sources.{IsFileFault}
 use Rattle.heyvl_replies.specs.FileReplies.{IsSpelledReply, IsTypedReply}
 use Rattle.generated_files.specs.Texts.{generated_text}
 use Rattle.heyvl_replies.specs.Messages.{Reply, answered, source_fault}
-use Rattle.heyvl_files.specs.PrintLaws.{SpellingIsUnique}
+use Rattle.spelled_files.specs.PrintLaws.{SpellingIsUnique}
 use Rattle.heyvl_replies.specs.commands.Certify.{IsCertification}
 use Rattle.heyvl_replies.specs.commands.Check.IsCheckedReply.{by_certificates, by_line}
 use Rattle.heyvl_replies.specs.commands.Check.{IsCheckedReply}

@@ -1,5 +1,5 @@
 -- What the file that `pgcl` writes means, from the reply that a call made.
-use Rattle.heyvl_files.specs.Programs.{IsProgramFile, KeepsSumsOf, ProgramFilesHaveSums, program_of}
+use Rattle.spelled_files.specs.Programs.{IsProgramFile, KeepsSumsOf, ProgramFilesHaveSums, program_of}
 use Rattle.heyvl_syntax.specs.Procedures.{Procedure}
 use Rattle.heyvl_syntax.specs.SourceFaults.{IsSource}
 use Rattle.heyvl_tool.proofs.CallLemmas.CameTo.{failed, said, too_long}

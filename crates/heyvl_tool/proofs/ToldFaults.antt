@@ -5,7 +5,7 @@ use Rattle.heyvl_syntax.specs.SourceFaults.{IsSource, SourcesHaveNoFault}
 use Rattle.heyvl_tool.proofs.CommandReplies.{IsKnownReply, reply_known}
 use Rattle.heyvl_tool.specs.FaultLaws.{StaticFaultsAreTold, ToldFaultsAreThere}
 use Rattle.heyvl_replies.specs.Messages.{Reply, source_fault}
-use Rattle.heyvl_files.specs.PrintLaws.{SpellingIsUnique}
+use Rattle.spelled_files.specs.PrintLaws.{SpellingIsUnique}
 use Rattle.heyvl_tool.specs.commands.{Front, row_of, verified_text}
 use Rattle.static_rules.specs.Files.{first_fault}
 use Rattle.std.proofs.Common.{List, Some, subst, ◌≡◌, ℕ}

@@ -1,5 +1,5 @@
 -- A call of the tool: its words, and what its source tells before and after. And what is answered where files are read.
-use Rattle.heyvl_files.specs.Sources.{file_limit}
+use Rattle.spelled_files.specs.Sources.{file_limit}
 use Rattle.heyvl_io.specs.Faults.{Rose}
 use Rattle.heyvl_io.specs.History.{History, IsTaken, handed_out}
 use Rattle.heyvl_io.specs.Order.{Order, order_after}

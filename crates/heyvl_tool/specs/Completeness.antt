@@ -1,7 +1,7 @@
 -- That each command answers whatever it can: where nothing stands in its way, all of its reply is written.
 use Rattle.heyvl_io.specs.Faults.{Rose}
 use Rattle.heyvl_io.specs.History.{since_start}
-use Rattle.heyvl_files.specs.Sources.{file_limit}
+use Rattle.spelled_files.specs.Sources.{file_limit}
 use Rattle.heyvl_tool.specs.Calls.{AreRead, Call}
 use Rattle.heyvl_replies.specs.Messages.{Reply}
 use Rattle.heyvl_tool.specs.Outcomes.{IsAnswered, IsOutOfMemory, IsWritten, Writing}

@@ -2,7 +2,7 @@
 use Rattle.heyvl_places.specs.declared.spans.Span.{Span}
 use Rattle.heyvl_syntax.specs.Procedures.{Procedure}
 use Rattle.heyvl_syntax.specs.SourceFaults.{IsSource, IsSourceFault}
-use Rattle.heyvl_files.specs.Sources.{IsFileFault}
+use Rattle.spelled_files.specs.Sources.{IsFileFault}
 use Rattle.heyvl_replies.specs.Messages.{Reply, source_fault}
 use Rattle.heyvl_tool.specs.commands.{Front, IsReplyTo, row_of}
 use Rattle.heyvl_replies.specs.declared.faults.Fault.TheVariants.{Source}

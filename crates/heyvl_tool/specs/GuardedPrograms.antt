@@ -1,6 +1,6 @@
 -- What a user may rely on where `pgcl` writes the file that a program of guarded commands becomes.
 -- Source: this project's own.
-use Rattle.heyvl_files.specs.Programs.{IsProgramBounded, IsProgramFile, KeepsSumsOf, program_of}
+use Rattle.spelled_files.specs.Programs.{IsProgramBounded, IsProgramFile, KeepsSumsOf, program_of}
 use Rattle.heyvl_print.specs.Canonical.{canonical_text}
 use Rattle.heyvl_syntax.specs.Procedures.{Procedure}
 use Rattle.heyvl_tool.specs.Calls.{AreRead, Call}

@@ -1,5 +1,5 @@
 -- What a call may do to the source that it is handed.
-use Rattle.heyvl_files.specs.Sources.{file_limit}
+use Rattle.spelled_files.specs.Sources.{file_limit}
 use Rattle.heyvl_tool.specs.Calls.{Call, IsStarted, Moment, Names}
 use Rattle.heyvl_tool.specs.Words.{AskFor, IsUsage}
 use Rattle.heyvl_tool.specs.commands.{Files, files_of}

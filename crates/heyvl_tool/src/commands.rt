@@ -1,6 +1,6 @@
 //! The commands: what each says of the bytes of its files.
 
-ghost use Rattle.heyvl_files.specs.Sources.{file_limit};
+ghost use Rattle.spelled_files.specs.Sources.{file_limit};
 ghost use Rattle.heyvl_replies.specs.Responses.{reply_of};
 ghost use Rattle.heyvl_tool.specs.commands.{IsReplyTo, row_of};
 ghost use Rattle.std.specs.Prelude.{IfOk, length, true, ◌≡◌, ◌≤◌};

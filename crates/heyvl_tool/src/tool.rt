@@ -1,7 +1,7 @@
 //! The top call.
 
 ghost use Rattle.heyvl_io.specs.declared.reader.ReadStop.{ReadStop};
-ghost use Rattle.heyvl_files.specs.Sources.{file_limit};
+ghost use Rattle.spelled_files.specs.Sources.{file_limit};
 ghost use Rattle.heyvl_tool.specs.Calls.{IsFilesReply, IsReadReply, IsSaid};
 ghost use Rattle.heyvl_tool.specs.GuardedPrograms.{ProgramsAreMeant};
 ghost use Rattle.heyvl_tool.specs.Headline.{AnswersAreMeant, SumsAreMeant};

@@ -1,5 +1,5 @@
 -- `pgcl FILE`: the file of HeyVL that a program of guarded commands becomes.
-use Rattle.heyvl_files.specs.Programs.{IsProgramFault, IsProgramFile}
+use Rattle.spelled_files.specs.Programs.{IsProgramFault, IsProgramFile}
 use Rattle.heyvl_places.specs.declared.spans.Span.{Span}
 use Rattle.heyvl_print.specs.WithoutPlaces.{SameButPlaces}
 use Rattle.heyvl_syntax.specs.Grammar.{Spells}

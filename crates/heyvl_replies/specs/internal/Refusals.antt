@@ -1,6 +1,6 @@
 -- What is answered where a file is refused, as the program holds the cause.
-use Rattle.heyvl_files.specs.declared.sources.SourceStop.TheVariants as sources
-use Rattle.heyvl_files.specs.declared.sources.SourceStop.{SourceStop}
+use Rattle.spelled_files.specs.declared.stops.SourceStop.TheVariants as sources
+use Rattle.spelled_files.specs.declared.stops.SourceStop.{SourceStop}
 use Rattle.heyvl_replies.specs.Messages.{Reply, source_fault}
 use Rattle.std.specs.Prelude.{List, ◌≡◌, ℕ}
 

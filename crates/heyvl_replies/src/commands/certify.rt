@@ -3,7 +3,7 @@
 ghost use Rattle.heyvl_acts.specs.FormSizes.{FormsWithin};
 ghost use Rattle.heyvl_acts.specs.PlainActs.{procedures_of};
 ghost use Rattle.heyvl_acts.specs.Rules.{Each, MeetsAllRules};
-ghost use Rattle.heyvl_files.specs.Sources.{file_limit};
+ghost use Rattle.spelled_files.specs.Sources.{file_limit};
 ghost use Rattle.heyvl_replies.specs.Responses.{reply_of};
 ghost use Rattle.heyvl_replies.specs.commands.Certify.{FilesAreCertified, IsCertification, IsCertifyReply};
 ghost use Rattle.std.specs.Prelude.{IfOk, length, ◌^◌, ◌≤◌};

@@ -3,7 +3,7 @@
 ghost use Rattle.cert_text.specs.Certificates.{IsGrowingAfter, certificates_of};
 ghost use Rattle.cert_text.specs.Texts.{Spells};
 ghost use Rattle.heyvl_acts.specs.PlainActs.{procedures_of};
-ghost use Rattle.heyvl_files.specs.Sources.{IsReady, file_limit};
+ghost use Rattle.spelled_files.specs.Sources.{IsReady, file_limit};
 ghost use Rattle.heyvl_replies.specs.Responses.{reply_of};
 ghost use Rattle.heyvl_replies.specs.commands.Check.{FilesAreChecked, IsCheckReply, IsCheckReport, IsCheckedReply, certificate_fault};
 ghost use Rattle.std.specs.Prelude.{IfOk, List, None, codes, decimal, length, ◌++◌, ◌≡◌, ◌≤◌, ℕ};

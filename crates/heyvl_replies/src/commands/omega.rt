@@ -1,7 +1,7 @@
 //! `omega FILE PROC NAME`: whether the pre of a procedure is an omega invariant of the loop of another.
 
 ghost use Rattle.heyvl_acts.specs.PlainActs.{procedures_of};
-ghost use Rattle.heyvl_files.specs.Sources.{IsReady, file_limit};
+ghost use Rattle.spelled_files.specs.Sources.{IsReady, file_limit};
 ghost use Rattle.heyvl_replies.specs.Responses.{reply_of};
 ghost use Rattle.heyvl_replies.specs.commands.Omega.{IsOmegaOf, IsOmegaReply, OmegaPairsAreAnswered, TellsOmega, omega_reply};
 ghost use Rattle.std.specs.Prelude.{IfOk, length, ◌<◌, ◌≡◌, ◌≤◌};

@@ -1,6 +1,6 @@
 //! `pgcl FILE`: the file of HeyVL that a program of guarded commands becomes.
 
-ghost use Rattle.heyvl_files.specs.Sources.{file_limit};
+ghost use Rattle.spelled_files.specs.Sources.{file_limit};
 ghost use Rattle.heyvl_replies.specs.Responses.{reply_of};
 ghost use Rattle.heyvl_replies.specs.commands.Pgcl.{IsPgclReply, ProgramFaultsAreTold, ProgramsAreTranslated};
 ghost use Rattle.std.specs.Prelude.{IfOk, length, ◌≤◌};

@@ -1,7 +1,7 @@
 //! `print FILE`: the canonical text of a file.
 
 ghost use Rattle.heyvl_syntax.specs.Procedures.{procedures};
-ghost use Rattle.heyvl_files.specs.Sources.{file_limit};
+ghost use Rattle.spelled_files.specs.Sources.{file_limit};
 ghost use Rattle.heyvl_replies.specs.Responses.{reply_of};
 ghost use Rattle.heyvl_replies.specs.commands.Print.{FilesArePrinted, IsPrintReply, printed};
 ghost use Rattle.std.specs.Prelude.{IfOk, length, ◌≡◌, ◌≤◌};

@@ -4,7 +4,7 @@ ghost use Rattle.heyvl_acts.specs.Acts.{procedure_at};
 ghost use Rattle.heyvl_acts.specs.PlainActs.{procedures_of};
 ghost use Rattle.heyvl_acts.specs.Rules.{Each, MeetsAllRules};
 ghost use Rattle.heyvl_acts.specs.FormSizes.{FormsWithin};
-ghost use Rattle.heyvl_files.specs.Sources.{file_limit};
+ghost use Rattle.spelled_files.specs.Sources.{file_limit};
 ghost use Rattle.heyvl_replies.specs.Responses.{reply_of};
 ghost use Rattle.heyvl_replies.specs.RunStarts.{known_at, procedure_named};
 ghost use Rattle.heyvl_replies.specs.commands.Refute.{CoprocsAreSearched, IsRefuteOf, IsRefuteReply, TellsRefuted, refute_start, refuted_reply, shown_by, shown_of, with_answers};

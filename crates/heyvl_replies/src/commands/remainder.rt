@@ -1,7 +1,7 @@
 //! `remainder FILE PROC NAME`: whether the pre of a procedure bounds the remainder of another one's lower bound.
 
 ghost use Rattle.heyvl_acts.specs.PlainActs.{procedures_of};
-ghost use Rattle.heyvl_files.specs.Sources.{IsReady, file_limit};
+ghost use Rattle.spelled_files.specs.Sources.{IsReady, file_limit};
 ghost use Rattle.heyvl_replies.specs.Responses.{reply_of};
 ghost use Rattle.heyvl_replies.specs.commands.Remainder.{IsRemainderOf, IsRemainderReply, RemainderPairsAreAnswered, TellsRemainder, remainder_reply};
 ghost use Rattle.std.specs.Prelude.{IfOk, length, ◌<◌, ◌≡◌, ◌≤◌};

@@ -2,7 +2,7 @@
 
 ghost use Rattle.heyvl_acts.specs.PlainActs.{procedures_of};
 ghost use Rattle.heyvl_acts.specs.Rules.{MeetsAllRules};
-ghost use Rattle.heyvl_files.specs.Sources.{file_limit};
+ghost use Rattle.spelled_files.specs.Sources.{file_limit};
 ghost use Rattle.heyvl_replies.specs.Responses.{reply_of};
 ghost use Rattle.heyvl_replies.specs.RunStarts.{known_at, procedure_named};
 ghost use Rattle.heyvl_replies.specs.commands.Run.{IsRunOf, IsRunReply, ProgramsAreRun, TellsRun, run_reply};

@@ -1,7 +1,7 @@
 //! `verify FILE`: the report on a file.
 
 ghost use Rattle.heyvl_acts.specs.PlainActs.{procedures_of};
-ghost use Rattle.heyvl_files.specs.Sources.{IsReady, file_limit};
+ghost use Rattle.spelled_files.specs.Sources.{IsReady, file_limit};
 ghost use Rattle.heyvl_replies.specs.Responses.{reply_of};
 ghost use Rattle.heyvl_replies.specs.commands.Verify.{FilesAreVerified, IsReport, IsVerifyReply};
 ghost use Rattle.std.specs.Prelude.{IfOk, length, ◌≤◌};

@@ -1,8 +1,8 @@
 use Rattle.generated_files.specs.Laws.{IsFaultless}
 use Rattle.generated_summary.proofs.NoFault.{no_fault}
 use Rattle.generated_summary.proofs.reports.typed_text.Goals as goal
-use Rattle.heyvl_files.specs.Sources.{IsSourceStop}
-use Rattle.heyvl_files.specs.declared.sources.SourceStop.{SourceStop}
+use Rattle.spelled_files.specs.Sources.{IsSourceStop}
+use Rattle.spelled_files.specs.declared.stops.SourceStop.{SourceStop}
 use Rattle.std.proofs.Common.{List, subst, sym, ℕ}
 
 pub unreachable-requires : goal.unreachable-requires

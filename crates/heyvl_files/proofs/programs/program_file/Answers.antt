@@ -1,9 +1,9 @@
-use Rattle.heyvl_files.proofs.ArmedFiles.{program_armed}
-use Rattle.heyvl_files.proofs.FewParts.{program_few_parts}
-use Rattle.heyvl_files.proofs.FewProcedures.{one_in_program}
-use Rattle.heyvl_files.proofs.ProgramFiles.{stops_program}
+use Rattle.spelled_files.proofs.exported.ArmedFiles.{program_armed}
+use Rattle.spelled_files.proofs.exported.FewParts.{program_few_parts}
+use Rattle.spelled_files.proofs.exported.FewProcedures.{one_in_program}
+use Rattle.spelled_files.proofs.exported.ProgramFiles.{stops_program}
 use Rattle.heyvl_files.proofs.programs.program_file.Goals as goal
-use Rattle.heyvl_files.specs.Programs.IsProgramFault.{static}
+use Rattle.spelled_files.specs.Programs.IsProgramFault.{static}
 use Rattle.heyvl_syntax.specs.Procedures.{procedures}
 use Rattle.static_rules.specs.Files.{first_fault}
 use Rattle.std.proofs.Common.{None, Some, ap, ◌≡◌}

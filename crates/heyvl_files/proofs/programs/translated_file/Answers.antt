@@ -1,4 +1,4 @@
-use Rattle.heyvl_files.proofs.ProgramFiles.{unlexed_at}
+use Rattle.spelled_files.proofs.exported.ProgramFiles.{unlexed_at}
 use Rattle.heyvl_syntax.proofs.exported.InOrder.{tokens_few}
 use Rattle.heyvl_syntax.specs.Procedures.{procedures}
 use Rattle.heyvl_syntax.specs.SourceFaults.{token_place}

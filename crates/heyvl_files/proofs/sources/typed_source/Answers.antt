@@ -1,9 +1,9 @@
 use Rattle.heyvl_syntax.specs.Procedures.{procedures}
-use Rattle.heyvl_files.proofs.ArmedFiles.{spelled_armed}
-use Rattle.heyvl_files.proofs.FewParts.{spelled_few_parts}
-use Rattle.heyvl_files.proofs.FewProcedures.{few_in_file}
+use Rattle.spelled_files.proofs.exported.ArmedFiles.{spelled_armed}
+use Rattle.spelled_files.proofs.exported.FewParts.{spelled_few_parts}
+use Rattle.spelled_files.proofs.exported.FewProcedures.{few_in_file}
 use Rattle.heyvl_files.proofs.sources.typed_source.Goals as goal
-use Rattle.heyvl_files.specs.Sources.IsFileFault.{static}
+use Rattle.spelled_files.specs.Sources.IsFileFault.{static}
 use Rattle.static_rules.specs.Files.{first_fault}
 use Rattle.typed_expressions.specs.Findings.{first}
 use Rattle.std.proofs.Common.{None, Some, ap, ◌≡◌}

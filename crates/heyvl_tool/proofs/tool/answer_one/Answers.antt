@@ -1,6 +1,6 @@
 use Rattle.heyvl_tool.proofs.CallLemmas.{one_said, read_refused}
 use Rattle.heyvl_tool.proofs.tool.answer_one.Goals as goal
-use Rattle.heyvl_files.specs.Sources.{file_limit}
+use Rattle.spelled_files.specs.Sources.{file_limit}
 use Rattle.heyvl_tool.specs.Calls.{IsRead, moment, names_holding}
 use Rattle.std.proofs.Common.{length, refl, rules, ◌≤◌}
 

@@ -1,0 +1,9 @@
+mod EachOf
+mod Meanings
+mod ProgramSums
+mod SmallForms
+mod SpelledExpressions
+mod SpelledFiles
+mod SpelledParts
+mod SpelledStatements
+pub mod exported

@@ -1,0 +1,4 @@
+pub mod FileLaws
+pub mod PrintLaws
+pub mod Programs
+pub mod Sources

@@ -1,0 +1,17 @@
+//! Laws of files that bytes spell and in which nothing is found. Each function does nothing: its contract is the law.
+
+ghost use Rattle.spelled_files.specs.FileLaws as law;
+
+use resolved_laws::resolved_forms_are_small;
+
+/// Each form and condition of a file of at most 2^20 tokens in which nothing is found has at most 2^27 nodes.
+pub fn files_have_small_forms()
+    ensures { law.FilesHaveSmallForms }
+{
+    resolved_forms_are_small();
+}
+
+/// In a file that bytes spell, each statement and each product in a form begins within the bytes.
+pub fn files_stand_within()
+    ensures { law.FilesStandWithin }
+{}

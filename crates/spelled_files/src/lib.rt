@@ -1,0 +1,12 @@
+//! Files that bytes spell, and files that programs of guarded commands become: what they are, and their laws.
+#![tactic(auto)]
+
+mod file_laws;
+mod print_laws;
+mod program_laws;
+mod stops;
+
+pub use file_laws::{files_have_small_forms, files_stand_within};
+pub use print_laws::{printed_text_prints_itself, spelling_is_unique};
+pub use program_laws::{program_files_are_unique, program_files_have_sums};
+pub use stops::SourceStop;

@@ -1,0 +1,23 @@
+//! Laws of printing a file that bytes spell.
+
+ghost use Rattle.spelled_files.specs.PrintLaws.{PrintedTextPrintsItself, SpellingIsUnique};
+
+use heyvl_parse::file_is_unique;
+use heyvl_print::printing_is_stable;
+use heyvl_syntax::tokens_are_unique;
+
+/// Some bytes spell at most one file, places included.
+pub fn spelling_is_unique()
+    ensures { SpellingIsUnique }
+{
+    tokens_are_unique();
+    file_is_unique();
+}
+
+/// Printing what was printed gives the same bytes, where what was printed is within the limits of a file.
+pub fn printed_text_prints_itself()
+    ensures { PrintedTextPrintsItself }
+{
+    printing_is_stable();
+    spelling_is_unique();
+}
