@@ -1,3 +1,2 @@
 mod NoFault
 mod WrittenSummary
-mod Words

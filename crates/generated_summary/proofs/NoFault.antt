@@ -1,8 +1,8 @@
 -- A text without a fault has none, and spells one file.
 use Rattle.generated_files.specs.Laws.{IsFaultless}
 use Rattle.generated_files.specs.Texts.{generated_text}
-use Rattle.generated_summary.specs.Reports.{IsSummary}
-use Rattle.generated_summary.specs.Summaries.{summary}
+use Rattle.command_rules.specs.Reports.{IsSummary}
+use Rattle.command_rules.specs.Summaries.{summary}
 use Rattle.goal_answers.specs.declared.named_goals.NamedGoal.{NamedGoal}
 use Rattle.goal_answers.specs.declared.trees.GoalCert.{GoalCert}
 use Rattle.heyvl_acts.specs.Acts.{TypedProcedure}

@@ -1,5 +1,5 @@
 -- The summary as it is put together.
-use Rattle.generated_summary.specs.Summaries.{how_many, is_not_verified, is_other, is_verified, summary}
+use Rattle.command_rules.specs.Summaries.{how_many, is_not_verified, is_other, is_verified, summary}
 use Rattle.std.proofs.Common.{List, append_assoc, codes, decimal, refl, ◌++◌, ◌≡◌, ℕ}
 use Rattle.verdict_report.specs.declared.answers.Answer.{Answer}
 

@@ -1,3 +1,3 @@
-pub mod LineCounts
-pub mod Summaries
-pub mod Reports
+pub use Rattle.command_rules.specs.LineCounts
+pub use Rattle.command_rules.specs.Summaries
+pub use Rattle.command_rules.specs.Reports

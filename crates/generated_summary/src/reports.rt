@@ -1,7 +1,7 @@
 //! The answers on a generated text.
 
 ghost use Rattle.generated_files.specs.Texts.{generated_text};
-ghost use Rattle.generated_summary.specs.Reports.{IsSummary};
+ghost use Rattle.command_rules.specs.Reports.{IsSummary};
 ghost use Rattle.spelled_files.specs.Sources.{IsTypedSource};
 ghost use Rattle.heyvl_syntax.specs.SourceFaults.{procedure_limit};
 ghost use Rattle.std.specs.Prelude.{IfOk, ◌≡◌, ◌≤◌};

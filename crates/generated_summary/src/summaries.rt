@@ -1,6 +1,6 @@
 //! The summary of answers.
 
-ghost use Rattle.generated_summary.specs.Summaries.{how_many, is_not_verified, is_other, is_verified, summary};
+ghost use Rattle.command_rules.specs.Summaries.{how_many, is_not_verified, is_other, is_verified, summary};
 ghost use Rattle.std.specs.Prelude.{IfOk, OnOk, decimal, ◌++◌, ◌≡◌};
 
 use number_texts::write_number;

@@ -1,2 +1,1 @@
 mod ReadyFiles
-mod WorkedFaults

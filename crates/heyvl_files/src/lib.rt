@@ -2,14 +2,12 @@
 //! the faults.
 #![tactic(auto)]
 
-mod fault_lines;
 mod programs;
 mod sources;
 
-pub use fault_lines::source_fault_line;
 pub use programs::program_file;
 pub use sources::{spelled_file, typed_source};
 pub use spelled_files::{
     SourceStop, files_have_small_forms, files_stand_within, printed_text_prints_itself,
-    program_files_are_unique, program_files_have_sums, spelling_is_unique,
+    program_files_are_unique, program_files_have_sums, source_fault_line, spelling_is_unique,
 };

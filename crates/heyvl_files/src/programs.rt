@@ -6,11 +6,10 @@ ghost use Rattle.heyvl_syntax.specs.Procedures.{procedures};
 ghost use Rattle.pgcl_front.specs.Sources.{IsPgclSource};
 ghost use Rattle.std.specs.Prelude.{IfOk, MatchResult, length, ◌≤◌};
 
-use crate::fault_lines::token_place;
 use heyvl_syntax::{File, LexStop, lex};
 use heyvl_types::{ResolveStop, resolve};
 use pgcl_front::{PgclStop, translate};
-use spelled_files::{SourceStop, program_files_have_sums};
+use spelled_files::{SourceStop, program_files_have_sums, token_place};
 use std::alloc::Global;
 
 /// The file that the program with these bytes becomes, or the first of its faults of bytes, tokens and names.

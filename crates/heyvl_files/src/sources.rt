@@ -10,12 +10,11 @@ ghost use Rattle.static_rules.specs.PartCounts.{HaveFewParts};
 ghost use Rattle.std.specs.Prelude.{IfOk, List, MatchResult, length, ◌<◌, ◌^◌, ◌≡◌, ◌≤◌, ℕ};
 ghost use Rattle.typed_expressions.specs.Answers.{Gives};
 
-use crate::fault_lines::token_place;
 use heyvl_acts::Typed;
 use heyvl_parse::{ParseStop, parse};
 use heyvl_syntax::{File, LexStop, lex};
 use heyvl_types::{ResolveStop, resolve};
-use spelled_files::{SourceStop, files_have_small_forms, files_stand_within};
+use spelled_files::{SourceStop, files_have_small_forms, files_stand_within, token_place};
 use std::alloc::Global;
 
 /// The file that these bytes spell, at most 1,048,576 of them, or the first of their faults 1 to 6.

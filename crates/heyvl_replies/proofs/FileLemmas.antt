@@ -4,14 +4,14 @@ use Rattle.heyvl_acts.specs.PlainActs.{procedures_of}
 use Rattle.heyvl_acts.specs.declared.typed_trees.Typed.{Typed}
 use Rattle.heyvl_syntax.specs.Procedures.{Procedure}
 use Rattle.heyvl_syntax.specs.SourceFaults.{IsSource}
-use Rattle.heyvl_replies.specs.FileReplies.{IsSpelledReply, IsTypedReply}
-use Rattle.heyvl_replies.specs.Messages.{Reply}
-use Rattle.heyvl_replies.specs.Responses.{reply_of}
-use Rattle.heyvl_replies.specs.declared.responses.Response.{Response}
+use Rattle.command_rules.specs.FileReplies.{IsSpelledReply, IsTypedReply}
+use Rattle.command_rules.specs.Messages.{Reply}
+use Rattle.command_rules.specs.Responses.{reply_of}
+use Rattle.command_rules.specs.declared.responses.Response.{Response}
 use Rattle.spelled_files.specs.declared.stops.SourceStop.TheVariants.{Fault, Memory}
 use Rattle.spelled_files.specs.declared.stops.SourceStop.{SourceStop}
 use Rattle.spelled_files.specs.Sources.{IsSourceStop, IsSpellingStop, IsTypedSource}
-use Rattle.heyvl_replies.specs.internal.Refusals.{IsRefusal}
+use Rattle.command_rules.specs.Refusals.{IsRefusal}
 use Rattle.std.proofs.Common.{Err, IfOk, List, Ok, Result, subst, ℕ}
 use Rattle.std.specs.declared.alloc.AllocError.{AllocError}
 

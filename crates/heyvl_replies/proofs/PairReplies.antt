@@ -3,10 +3,10 @@ use Rattle.heyvl_acts.specs.Acts.{TypedProcedure}
 use Rattle.heyvl_syntax.specs.SourceFaults.{SourcesHaveNoFault}
 use Rattle.spelled_files.specs.PrintLaws.{SpellingIsUnique}
 use Rattle.heyvl_replies.proofs.SaidOfFiles.{said_of_file, same_number}
-use Rattle.heyvl_replies.specs.Messages.{Reply}
-use Rattle.heyvl_replies.specs.RunStarts.{procedure_named}
-use Rattle.heyvl_replies.specs.commands.Omega.{IsOmegaOf, OmegaPairsAreAnswered, TellsOmega}
-use Rattle.heyvl_replies.specs.commands.Remainder.{IsRemainderOf, RemainderPairsAreAnswered, TellsRemainder}
+use Rattle.command_rules.specs.Messages.{Reply}
+use Rattle.command_rules.specs.RunStarts.{procedure_named}
+use Rattle.command_rules.specs.commands.Omega.{IsOmegaOf, OmegaPairsAreAnswered, TellsOmega}
+use Rattle.command_rules.specs.commands.Remainder.{IsRemainderOf, RemainderPairsAreAnswered, TellsRemainder}
 use Rattle.static_rules.specs.Files.{resolved}
 use Rattle.lower_rules.specs.OmegaAnswers.{IsOmegaAnswer}
 use Rattle.lower_rules.specs.RemainderAnswers.{HasBoundedTurns, IsRemainderAnswer}

@@ -5,13 +5,13 @@ use Rattle.spelled_files.specs.declared.stops.SourceStop.{SourceStop}
 use Rattle.heyvl_places.specs.declared.spans.Span.{Span}
 use Rattle.heyvl_syntax.specs.Grammar.{Spells}
 use Rattle.heyvl_syntax.specs.Procedures.{Procedure}
-use Rattle.heyvl_replies.specs.Messages.{Reply, source_fault}
-use Rattle.heyvl_replies.specs.Responses.{reply_of}
-use Rattle.heyvl_replies.specs.commands.Pgcl.IsPgclReply.{by_fault, by_file}
-use Rattle.heyvl_replies.specs.commands.Pgcl.{IsPgclReply, ProgramFaultsAreTold, ProgramsAreTranslated}
-use Rattle.heyvl_replies.specs.commands.Print.{printed}
-use Rattle.heyvl_replies.specs.declared.responses.Response.{Response}
-use Rattle.heyvl_replies.specs.internal.Refusals.{IsRefusal}
+use Rattle.command_rules.specs.Messages.{Reply, source_fault}
+use Rattle.command_rules.specs.Responses.{reply_of}
+use Rattle.command_rules.specs.commands.Pgcl.IsPgclReply.{by_fault, by_file}
+use Rattle.command_rules.specs.commands.Pgcl.{IsPgclReply, ProgramFaultsAreTold, ProgramsAreTranslated}
+use Rattle.command_rules.specs.commands.Print.{printed}
+use Rattle.command_rules.specs.declared.responses.Response.{Response}
+use Rattle.command_rules.specs.Refusals.{IsRefusal}
 use Rattle.std.proofs.Common.{Err, IfOk, List, Ok, Result, ap, subst, sym, ◌∙◌, ◌≡◌, ℕ}
 use Rattle.std.specs.declared.alloc.AllocError.{AllocError}
 

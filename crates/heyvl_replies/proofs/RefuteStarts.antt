@@ -7,10 +7,10 @@ use Rattle.heyvl_acts.specs.Acts.{TypedProcedure, procedure_at}
 use Rattle.spelled_files.specs.PrintLaws.{SpellingIsUnique}
 use Rattle.heyvl_syntax.specs.SourceFaults.{SourcesHaveNoFault}
 use Rattle.heyvl_replies.proofs.SaidOfFiles.{no_other_program, said_of_file, same_number}
-use Rattle.heyvl_replies.specs.Messages.{Reply}
-use Rattle.heyvl_replies.specs.RunStarts.{known_at, procedure_named}
-use Rattle.heyvl_replies.specs.commands.Refute.IsRefuteOf.{by_name, by_program, by_script, by_search, by_shape}
-use Rattle.heyvl_replies.specs.commands.Refute.{CoprocsAreSearched, IsRefuteOf, TellsRefuted, refute_start, refuted_reply, shown_by, shown_of}
+use Rattle.command_rules.specs.Messages.{Reply}
+use Rattle.command_rules.specs.RunStarts.{known_at, procedure_named}
+use Rattle.command_rules.specs.commands.Refute.IsRefuteOf.{by_name, by_program, by_script, by_search, by_shape}
+use Rattle.command_rules.specs.commands.Refute.{CoprocsAreSearched, IsRefuteOf, TellsRefuted, refute_start, refuted_reply, shown_by, shown_of}
 use Rattle.static_rules.specs.Files.{resolved}
 use Rattle.refute_runs.specs.RefutedAnswers.{IsRefutedAnswer}
 use Rattle.refute_runs.specs.Violations.{NumbersAreOfRuns, ViolationIsOfRuns}

@@ -10,12 +10,12 @@ use Rattle.heyvl_num.specs.Value.{Value, infinite_times, is_zeroʳ, leqᵛ, one�
 use Rattle.heyvl_num.specs.WeightedSums.{joined, scaled}
 use Rattle.heyvl_num.specs.declared.extended_numbers.Ext.{Ext}
 use Rattle.heyvl_places.specs.declared.spans.Span.{Span}
-use Rattle.heyvl_replies.specs.Messages.{Reply, message}
-use Rattle.heyvl_replies.specs.commands.Run.IsRunOf.{by_name, by_program, by_run, by_script}
-use Rattle.heyvl_replies.specs.commands.Run.{IsRunOf, TellsRun, no_procedure, no_program, run_reply, runs_by, script_fault}
-use Rattle.heyvl_replies.specs.RunStarts.IsFirstNoProgram.{itself, reached}
-use Rattle.heyvl_replies.specs.RunStarts.{IsFirstNoProgram, known_at, procedure_named}
-use Rattle.heyvl_replies.specs.declared.faults.Fault.TheVariants as faults
+use Rattle.command_rules.specs.Messages.{Reply, message}
+use Rattle.command_rules.specs.commands.Run.IsRunOf.{by_name, by_program, by_run, by_script}
+use Rattle.command_rules.specs.commands.Run.{IsRunOf, TellsRun, no_procedure, no_program, run_reply, runs_by, script_fault}
+use Rattle.command_rules.specs.RunStarts.IsFirstNoProgram.{itself, reached}
+use Rattle.command_rules.specs.RunStarts.{IsFirstNoProgram, known_at, procedure_named}
+use Rattle.command_rules.specs.declared.faults.Fault.TheVariants as faults
 use Rattle.heyvl_acts.specs.Acts.{Act, Acts, TypedProcedure, procedure_at}
 use Rattle.heyvl_acts.specs.Program.Reaches.{directly, onward}
 use Rattle.heyvl_acts.specs.Program.{Calls, IsProgram, Reaches}

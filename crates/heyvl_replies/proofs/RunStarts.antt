@@ -1,8 +1,8 @@
 -- Where a run starts.
 use Prim.Native.Nat.{suc, zero}
 use Rattle.heylo_formula.specs.declared.values.Val.{Val}
-use Rattle.heyvl_replies.specs.RunStarts.{IsFirstNoProgram}
-use Rattle.heyvl_replies.specs.commands.Run.{runs_by}
+use Rattle.command_rules.specs.RunStarts.{IsFirstNoProgram}
+use Rattle.command_rules.specs.commands.Run.{runs_by}
 use Rattle.run_script.proofs.exported.StartStates.{start_typed}
 use Rattle.run_script.specs.Scripts.{Script}
 use Rattle.run_script.specs.Starts.{start_state}

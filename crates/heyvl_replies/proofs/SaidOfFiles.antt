@@ -7,23 +7,23 @@ use Rattle.heyvl_syntax.specs.Grammar as grammar
 use Rattle.heyvl_syntax.specs.Procedures.{Procedure}
 use Rattle.heyvl_syntax.specs.SourceFaults.{IsSource, SourcesHaveNoFault}
 use Rattle.spelled_files.specs.Sources.IsFileFault.{spelling, static}
-use Rattle.heyvl_replies.specs.FileReplies.IsTypedReply.{by_fault, by_file}
+use Rattle.command_rules.specs.FileReplies.IsTypedReply.{by_fault, by_file}
 use Rattle.spelled_files.specs.Sources.{IsFileFault}
-use Rattle.heyvl_replies.specs.FileReplies.{IsAnsweredWhole, IsSpelledReply, IsTypedReply}
-use Rattle.heyvl_replies.specs.Messages.{Reply, answered}
+use Rattle.command_rules.specs.FileReplies.{IsAnsweredWhole, IsSpelledReply, IsTypedReply}
+use Rattle.command_rules.specs.Messages.{Reply, answered}
 use Rattle.spelled_files.specs.PrintLaws.{SpellingIsUnique}
-use Rattle.heyvl_replies.specs.RunStarts.IsFirstNoProgram.{itself, reached}
-use Rattle.heyvl_replies.specs.RunStarts.{IsFirstNoProgram, known_at, procedure_named}
-use Rattle.heyvl_replies.specs.Statuses.{answers_status, leaves_open, refutes}
-use Rattle.heyvl_replies.specs.commands.Certify.{FilesAreCertified, IsCertification}
-use Rattle.heyvl_replies.specs.commands.Check.IsCheckedReply.{by_certificates, by_line}
-use Rattle.heyvl_replies.specs.commands.Check.{FilesAreChecked, IsCheckReport, IsCheckedReply}
-use Rattle.heyvl_replies.specs.commands.Print.{FilesArePrinted, printed}
-use Rattle.heyvl_replies.specs.commands.Run.IsRunOf.{by_name, by_program, by_run, by_script}
-use Rattle.heyvl_replies.specs.commands.Run.{IsRunOf, ProgramsAreRun, TellsRun}
-use Rattle.heyvl_replies.specs.commands.Verify.{FilesAreVerified, IsReport}
-use Rattle.generated_summary.specs.Reports.{IsSummary}
-use Rattle.heyvl_replies.specs.commands.Generate.{GeneratedTextsAreAnswered, IsGenReply}
+use Rattle.command_rules.specs.RunStarts.IsFirstNoProgram.{itself, reached}
+use Rattle.command_rules.specs.RunStarts.{IsFirstNoProgram, known_at, procedure_named}
+use Rattle.command_rules.specs.Statuses.{answers_status, leaves_open, refutes}
+use Rattle.command_rules.specs.commands.Certify.{FilesAreCertified, IsCertification}
+use Rattle.command_rules.specs.commands.Check.IsCheckedReply.{by_certificates, by_line}
+use Rattle.command_rules.specs.commands.Check.{FilesAreChecked, IsCheckReport, IsCheckedReply}
+use Rattle.command_rules.specs.commands.Print.{FilesArePrinted, printed}
+use Rattle.command_rules.specs.commands.Run.IsRunOf.{by_name, by_program, by_run, by_script}
+use Rattle.command_rules.specs.commands.Run.{IsRunOf, ProgramsAreRun, TellsRun}
+use Rattle.command_rules.specs.commands.Verify.{FilesAreVerified, IsReport}
+use Rattle.command_rules.specs.Reports.{IsSummary}
+use Rattle.command_rules.specs.commands.Generate.{GeneratedTextsAreAnswered, IsGenReply}
 use Rattle.typed_expressions.specs.Signatures.{called}
 use Rattle.std.proofs.lemmas.List.{length-map}
 use Rattle.static_rules.specs.Files.{first_fault, resolved, typed}

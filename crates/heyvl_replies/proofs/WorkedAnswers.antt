@@ -1,7 +1,7 @@
 -- Worked answers: the status of each verdict, alone and beside others; and what is shown of a procedure.
 use Rattle.heylo_formula.specs.declared.goals.GoalId.TheVariants.{Main, Post}
-use Rattle.heyvl_replies.specs.Statuses.{answers_status, is_rank_open, is_rank_refuted}
-use Rattle.heyvl_replies.specs.commands.Refute.{shown_of}
+use Rattle.command_rules.specs.Statuses.{answers_status, is_rank_open, is_rank_refuted}
+use Rattle.command_rules.specs.commands.Refute.{shown_of}
 use Rattle.goal_answers.specs.declared.causes.Cause.TheVariants.{Bits}
 use Rattle.proc_contracts.specs.declared.reasons.WhyNot.TheVariants as why
 use Rattle.std.proofs.Common.{[], false, refl, true, ◌∷◌, ◌≡◌}

@@ -1,8 +1,6 @@
-pub mod Statuses
-pub mod Messages
-pub mod FileReplies
-pub mod RunTexts
-pub mod RunStarts
-pub mod Responses
-pub mod commands
-pub mod internal
+pub use Rattle.command_rules.specs.Statuses
+pub use Rattle.command_rules.specs.Messages
+pub use Rattle.command_rules.specs.FileReplies
+pub use Rattle.command_rules.specs.RunTexts
+pub use Rattle.command_rules.specs.RunStarts
+pub use Rattle.command_rules.specs.Responses

@@ -2,12 +2,8 @@
 #![tactic(auto)]
 
 pub mod commands;
-mod faults;
 mod procedure_commands;
-mod responses;
-mod statuses;
 
-pub use faults::Fault;
-pub use responses::{Response, Text, message};
+pub use command_rules::{Fault, Response, Text, message};
 pub use run_unroller::{Sums, Unrolled};
 pub use verdict_report::{Answer, LoopAnswer, RankVerdict, Verdict};

@@ -1,8 +1,8 @@
 //! The commands: what each says of the bytes of its files.
 
 ghost use Rattle.spelled_files.specs.Sources.{file_limit};
-ghost use Rattle.heyvl_replies.specs.Responses.{reply_of};
-ghost use Rattle.heyvl_tool.specs.commands.{IsReplyTo, row_of};
+ghost use Rattle.command_rules.specs.Responses.{reply_of};
+ghost use Rattle.command_rules.specs.commands.{IsReplyTo, row_of};
 ghost use Rattle.std.specs.Prelude.{IfOk, length, true, ◌≡◌, ◌≤◌};
 
 use crate::{Response, Settings};

@@ -1,7 +1,7 @@
 //! What contracts see of a call's source and of its sink.
 
-ghost use Rattle.heyvl_tool.specs.Calls.{Call, Moment, Names, call, moment, names_holding};
-ghost use Rattle.heyvl_tool.specs.Outcomes.{Writing, writing};
+ghost use Rattle.tool_laws.specs.Calls.{Call, Moment, Names, call, moment, names_holding};
+ghost use Rattle.tool_laws.specs.Outcomes.{Writing, writing};
 ghost use Rattle.std.specs.Prelude.{List, ◌≡◌, ◌≤◌, ℕ};
 
 use heyvl_io::{Sink, Source};

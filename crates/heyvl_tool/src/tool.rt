@@ -2,28 +2,28 @@
 
 ghost use Rattle.heyvl_io.specs.declared.reader.ReadStop.{ReadStop};
 ghost use Rattle.spelled_files.specs.Sources.{file_limit};
-ghost use Rattle.heyvl_tool.specs.Calls.{IsFilesReply, IsReadReply, IsSaid};
-ghost use Rattle.heyvl_tool.specs.GuardedPrograms.{ProgramsAreMeant};
-ghost use Rattle.heyvl_tool.specs.Headline.{AnswersAreMeant, SumsAreMeant};
-ghost use Rattle.heyvl_tool.specs.LowerBounds.{BoundsAreMeant};
-ghost use Rattle.heyvl_tool.specs.Outcomes.{HasCause, IsAnswered, IsDelivered, IsOutOfMemory};
-ghost use Rattle.heyvl_tool.specs.Refutations.{ViolationsAreMeant};
-ghost use Rattle.heyvl_replies.specs.Responses.{reply_of};
-ghost use Rattle.heyvl_tool.specs.SourceUses.{IsReadInTurn, IsStartedOnce, IsStartedRight};
-ghost use Rattle.heyvl_tool.specs.commands.Files.{one, two};
-ghost use Rattle.heyvl_tool.specs.commands.{IsReplyTo, files_of, row_of};
-ghost use Rattle.heyvl_tool.specs.internal.Refusals.{IsUnread};
+ghost use Rattle.tool_laws.specs.Calls.{IsFilesReply, IsReadReply, IsSaid};
+ghost use Rattle.tool_laws.specs.GuardedPrograms.{ProgramsAreMeant};
+ghost use Rattle.tool_laws.specs.Headline.{AnswersAreMeant, SumsAreMeant};
+ghost use Rattle.tool_laws.specs.LowerBounds.{BoundsAreMeant};
+ghost use Rattle.tool_laws.specs.Outcomes.{HasCause, IsAnswered, IsDelivered, IsOutOfMemory};
+ghost use Rattle.tool_laws.specs.Refutations.{ViolationsAreMeant};
+ghost use Rattle.command_rules.specs.Responses.{reply_of};
+ghost use Rattle.tool_laws.specs.SourceUses.{IsReadInTurn, IsStartedOnce, IsStartedRight};
+ghost use Rattle.command_rules.specs.commands.Files.{one, two};
+ghost use Rattle.command_rules.specs.commands.{IsReplyTo, files_of, row_of};
+ghost use Rattle.tool_laws.specs.Refusals.{IsUnread};
 ghost use Rattle.std.specs.Prelude.{IfOk, IsErr, length, map, string_bytes, true, ◌≡◌, ◌≤◌, ◌⊎◌};
 
-use crate::command_line::{USAGE, settings};
 use crate::commands::respond;
 use crate::moments::{Called, Written};
 use crate::{Fault, Files, Outcome, Response, Settings, SettingsStop, Text};
-use heyvl_files::program_files_have_sums;
+use command_line::{USAGE, settings};
 use heyvl_io::{ReadStop, Sink, Source, read_all, write_all};
 use heyvl_replies::message;
 use resolved_laws::resolved_files_meet_the_rules;
 use run_unroller::unrolled_sums_are_meant;
+use spelled_files::program_files_have_sums;
 use std::alloc::{AllocError, Global};
 
 /// The most bytes that a file may have.

@@ -6,4 +6,5 @@ mod SpelledExpressions
 mod SpelledFiles
 mod SpelledParts
 mod SpelledStatements
+mod WorkedFaults
 pub mod exported

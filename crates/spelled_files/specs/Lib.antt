@@ -1,3 +1,4 @@
+pub mod FaultTexts
 pub mod FileLaws
 pub mod PrintLaws
 pub mod Programs

@@ -1,11 +1,13 @@
 //! Files that bytes spell, and files that programs of guarded commands become: what they are, and their laws.
 #![tactic(auto)]
 
+mod fault_lines;
 mod file_laws;
 mod print_laws;
 mod program_laws;
 mod stops;
 
+pub use fault_lines::{source_fault_line, token_place};
 pub use file_laws::{files_have_small_forms, files_stand_within};
 pub use print_laws::{printed_text_prints_itself, spelling_is_unique};
 pub use program_laws::{program_files_are_unique, program_files_have_sums};

@@ -4,12 +4,12 @@ ghost use Rattle.heyvl_acts.specs.FormSizes.{FormsWithin};
 ghost use Rattle.heyvl_acts.specs.PlainActs.{procedures_of};
 ghost use Rattle.heyvl_acts.specs.Rules.{Each, MeetsAllRules};
 ghost use Rattle.spelled_files.specs.Sources.{file_limit};
-ghost use Rattle.heyvl_replies.specs.Responses.{reply_of};
-ghost use Rattle.heyvl_replies.specs.commands.Certify.{FilesAreCertified, IsCertification, IsCertifyReply};
+ghost use Rattle.command_rules.specs.Responses.{reply_of};
+ghost use Rattle.command_rules.specs.commands.Certify.{FilesAreCertified, IsCertification, IsCertifyReply};
 ghost use Rattle.std.specs.Prelude.{IfOk, length, ◌^◌, ◌≤◌};
 
-use crate::responses::{Response, answered, refused};
 use cert_text::write_cert;
+use command_rules::{Response, answered, refused};
 use heyvl_acts::Typed;
 use heyvl_files::{spelling_is_unique, typed_source};
 use heyvl_syntax::sources_have_no_fault;

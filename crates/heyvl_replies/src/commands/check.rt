@@ -4,13 +4,12 @@ ghost use Rattle.cert_text.specs.Certificates.{IsGrowingAfter, certificates_of};
 ghost use Rattle.cert_text.specs.Texts.{Spells};
 ghost use Rattle.heyvl_acts.specs.PlainActs.{procedures_of};
 ghost use Rattle.spelled_files.specs.Sources.{IsReady, file_limit};
-ghost use Rattle.heyvl_replies.specs.Responses.{reply_of};
-ghost use Rattle.heyvl_replies.specs.commands.Check.{FilesAreChecked, IsCheckReply, IsCheckReport, IsCheckedReply, certificate_fault};
+ghost use Rattle.command_rules.specs.Responses.{reply_of};
+ghost use Rattle.command_rules.specs.commands.Check.{FilesAreChecked, IsCheckReply, IsCheckReport, IsCheckedReply, certificate_fault};
 ghost use Rattle.std.specs.Prelude.{IfOk, List, None, codes, decimal, length, ◌++◌, ◌≡◌, ◌≤◌, ℕ};
 
-use crate::Fault;
-use crate::responses::{Response, Text, answered, message, refused};
 use cert_text::{CertStop, read_cert};
+use command_rules::{Fault, Response, Text, answered, message, refused};
 use goal_answers::GoalCert;
 use heyvl_acts::Typed;
 use heyvl_files::{spelling_is_unique, typed_source};

@@ -1,11 +1,11 @@
 //! `gen N`: the summary of the answers on a generated text.
 
-ghost use Rattle.generated_summary.specs.LineCounts.{is_line_count};
-ghost use Rattle.heyvl_replies.specs.Responses.{reply_of};
-ghost use Rattle.heyvl_replies.specs.commands.Generate.{GeneratedTextsAreAnswered, IsGenReply};
+ghost use Rattle.command_rules.specs.LineCounts.{is_line_count};
+ghost use Rattle.command_rules.specs.Responses.{reply_of};
+ghost use Rattle.command_rules.specs.commands.Generate.{GeneratedTextsAreAnswered, IsGenReply};
 ghost use Rattle.std.specs.Prelude.{IfOk, true, ◌≡◌};
 
-use crate::responses::{Response, answered};
+use command_rules::{Response, answered};
 use generated_summary::summarize;
 use std::alloc::{AllocError, Global};
 

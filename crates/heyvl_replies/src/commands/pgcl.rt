@@ -1,12 +1,12 @@
 //! `pgcl FILE`: the file of HeyVL that a program of guarded commands becomes.
 
 ghost use Rattle.spelled_files.specs.Sources.{file_limit};
-ghost use Rattle.heyvl_replies.specs.Responses.{reply_of};
-ghost use Rattle.heyvl_replies.specs.commands.Pgcl.{IsPgclReply, ProgramFaultsAreTold, ProgramsAreTranslated};
+ghost use Rattle.command_rules.specs.Responses.{reply_of};
+ghost use Rattle.command_rules.specs.commands.Pgcl.{IsPgclReply, ProgramFaultsAreTold, ProgramsAreTranslated};
 ghost use Rattle.std.specs.Prelude.{IfOk, length, ◌≤◌};
 
 use crate::commands::print::print_file;
-use crate::responses::{Response, refused};
+use command_rules::{Response, refused};
 use heyvl_files::{program_file, program_files_are_unique};
 use std::alloc::{AllocError, Global};
 

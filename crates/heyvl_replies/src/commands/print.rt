@@ -2,12 +2,11 @@
 
 ghost use Rattle.heyvl_syntax.specs.Procedures.{procedures};
 ghost use Rattle.spelled_files.specs.Sources.{file_limit};
-ghost use Rattle.heyvl_replies.specs.Responses.{reply_of};
-ghost use Rattle.heyvl_replies.specs.commands.Print.{FilesArePrinted, IsPrintReply, printed};
+ghost use Rattle.command_rules.specs.Responses.{reply_of};
+ghost use Rattle.command_rules.specs.commands.Print.{FilesArePrinted, IsPrintReply, printed};
 ghost use Rattle.std.specs.Prelude.{IfOk, length, ◌≡◌, ◌≤◌};
 
-use crate::Fault;
-use crate::responses::{Response, Text, message, refused};
+use command_rules::{Fault, Response, Text, message, refused};
 use heyvl_files::{spelled_file, spelling_is_unique};
 use heyvl_print::print;
 use heyvl_syntax::{File, sources_have_no_fault};

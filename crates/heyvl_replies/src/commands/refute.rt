@@ -5,11 +5,11 @@ ghost use Rattle.heyvl_acts.specs.PlainActs.{procedures_of};
 ghost use Rattle.heyvl_acts.specs.Rules.{Each, MeetsAllRules};
 ghost use Rattle.heyvl_acts.specs.FormSizes.{FormsWithin};
 ghost use Rattle.spelled_files.specs.Sources.{file_limit};
-ghost use Rattle.heyvl_replies.specs.Responses.{reply_of};
-ghost use Rattle.heyvl_replies.specs.RunStarts.{known_at, procedure_named};
-ghost use Rattle.heyvl_replies.specs.commands.Refute.{CoprocsAreSearched, IsRefuteOf, IsRefuteReply, TellsRefuted, refute_start, refuted_reply, shown_by, shown_of, with_answers};
-ghost use Rattle.heyvl_replies.specs.commands.Run.{run_reply};
-ghost use Rattle.heyvl_replies.specs.declared.faults.Fault.TheVariants as faults;
+ghost use Rattle.command_rules.specs.Responses.{reply_of};
+ghost use Rattle.command_rules.specs.RunStarts.{known_at, procedure_named};
+ghost use Rattle.command_rules.specs.commands.Refute.{CoprocsAreSearched, IsRefuteOf, IsRefuteReply, TellsRefuted, refute_start, refuted_reply, shown_by, shown_of, with_answers};
+ghost use Rattle.command_rules.specs.commands.Run.{run_reply};
+ghost use Rattle.command_rules.specs.declared.faults.Fault.TheVariants as faults;
 ghost use Rattle.refute_runs.specs.RefutedAnswers.{IsRefutedAnswer};
 ghost use Rattle.refute_runs.specs.Violations.{NumbersAreOfRuns, ViolationIsOfRuns};
 ghost use Rattle.run_machine.specs.ConfigConditions.{ReachesPrograms};
@@ -17,7 +17,6 @@ ghost use Rattle.run_script.specs.PlainScripts.{script_of};
 ghost use Rattle.run_script.specs.Scripts.{Spells};
 ghost use Rattle.std.specs.Prelude.{IfOk, List, Some, length, true, ◌<◌, ◌^◌, ◌≡◌, ◌≤◌, ℕ};
 
-use crate::Fault;
 use crate::commands::run::{run_fault, run_text};
 use crate::procedure_commands::procedures::{
     first_no_program, is_coproc, procedure, procedure_named,
@@ -25,8 +24,7 @@ use crate::procedure_commands::procedures::{
 use crate::procedure_commands::replies::{
     known_at, no_coproc, no_procedure, no_program, script_fault,
 };
-use crate::responses::{Response, Text, refused};
-use crate::statuses::fault_status;
+use command_rules::{Fault, Response, Text, fault_status, refused};
 use heylo_formula::{GoalId, Val};
 use heyvl_acts::Typed;
 use heyvl_files::{spelling_is_unique, typed_source};

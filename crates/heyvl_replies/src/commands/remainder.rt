@@ -2,14 +2,13 @@
 
 ghost use Rattle.heyvl_acts.specs.PlainActs.{procedures_of};
 ghost use Rattle.spelled_files.specs.Sources.{IsReady, file_limit};
-ghost use Rattle.heyvl_replies.specs.Responses.{reply_of};
-ghost use Rattle.heyvl_replies.specs.commands.Remainder.{IsRemainderOf, IsRemainderReply, RemainderPairsAreAnswered, TellsRemainder, remainder_reply};
+ghost use Rattle.command_rules.specs.Responses.{reply_of};
+ghost use Rattle.command_rules.specs.commands.Remainder.{IsRemainderOf, IsRemainderReply, RemainderPairsAreAnswered, TellsRemainder, remainder_reply};
 ghost use Rattle.std.specs.Prelude.{IfOk, length, ◌<◌, ◌≡◌, ◌≤◌};
 
-use crate::Fault;
 use crate::procedure_commands::procedures::procedure_named;
 use crate::procedure_commands::replies::no_procedure;
-use crate::responses::{Response, Text, message, refused, stated};
+use command_rules::{Fault, Response, Text, message, refused, stated};
 use heyvl_acts::Typed;
 use heyvl_files::{spelling_is_unique, typed_source};
 use heyvl_syntax::sources_have_no_fault;

@@ -3,18 +3,17 @@
 ghost use Rattle.heyvl_acts.specs.PlainActs.{procedures_of};
 ghost use Rattle.heyvl_acts.specs.Rules.{MeetsAllRules};
 ghost use Rattle.spelled_files.specs.Sources.{file_limit};
-ghost use Rattle.heyvl_replies.specs.Responses.{reply_of};
-ghost use Rattle.heyvl_replies.specs.RunStarts.{known_at, procedure_named};
-ghost use Rattle.heyvl_replies.specs.commands.Run.{IsRunOf, IsRunReply, ProgramsAreRun, TellsRun, run_reply};
+ghost use Rattle.command_rules.specs.Responses.{reply_of};
+ghost use Rattle.command_rules.specs.RunStarts.{known_at, procedure_named};
+ghost use Rattle.command_rules.specs.commands.Run.{IsRunOf, IsRunReply, ProgramsAreRun, TellsRun, run_reply};
 ghost use Rattle.run_machine.specs.ConfigConditions.{ReachesPrograms};
 ghost use Rattle.run_script.specs.PlainScripts.{script_of};
 ghost use Rattle.run_script.specs.Scripts.{Spells};
 ghost use Rattle.std.specs.Prelude.{IfOk, List, Some, length, ◌<◌, ◌≡◌, ◌≤◌, ℕ};
 
-use crate::Fault;
 use crate::procedure_commands::procedures::{first_no_program, procedure, procedure_named};
 use crate::procedure_commands::replies::{known_at, no_procedure, no_program, script_fault};
-use crate::responses::{Response, Text, message, refused};
+use command_rules::{Fault, Response, Text, message, refused};
 use heyvl_acts::Typed;
 use heyvl_files::{spelling_is_unique, typed_source};
 use heyvl_syntax::sources_have_no_fault;

@@ -2,11 +2,11 @@
 
 ghost use Rattle.heyvl_acts.specs.PlainActs.{procedures_of};
 ghost use Rattle.spelled_files.specs.Sources.{IsReady, file_limit};
-ghost use Rattle.heyvl_replies.specs.Responses.{reply_of};
-ghost use Rattle.heyvl_replies.specs.commands.Verify.{FilesAreVerified, IsReport, IsVerifyReply};
+ghost use Rattle.command_rules.specs.Responses.{reply_of};
+ghost use Rattle.command_rules.specs.commands.Verify.{FilesAreVerified, IsReport, IsVerifyReply};
 ghost use Rattle.std.specs.Prelude.{IfOk, length, ◌≤◌};
 
-use crate::responses::{Response, answered, refused};
+use command_rules::{Response, answered, refused};
 use heyvl_acts::Typed;
 use heyvl_files::{spelling_is_unique, typed_source};
 use heyvl_syntax::sources_have_no_fault;

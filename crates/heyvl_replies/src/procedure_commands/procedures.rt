@@ -4,7 +4,7 @@ ghost use Rattle.heyvl_acts.specs.Acts.{procedure_at};
 ghost use Rattle.heyvl_acts.specs.PlainActs.{procedure_of, procedures_of};
 ghost use Rattle.heyvl_acts.specs.Program.{why_no_program};
 ghost use Rattle.heyvl_acts.specs.Rules.{IsCounted, MeetsAllRules};
-ghost use Rattle.heyvl_replies.specs.RunStarts.{IsFirstNoProgram, procedure_named};
+ghost use Rattle.command_rules.specs.RunStarts.{IsFirstNoProgram, procedure_named};
 ghost use Rattle.run_machine.specs.ConfigConditions.{ReachesPrograms};
 ghost use Rattle.std.specs.List.{All, find};
 ghost use Rattle.std.specs.Prelude.{IfOk, IfSome, MatchOption, is_some, length, ◌<◌, ◌^◌, ◌≡◌};

@@ -2,17 +2,16 @@
 
 ghost use Rattle.heyvl_acts.specs.PlainActs.{procedures_of};
 ghost use Rattle.heyvl_acts.specs.Rules.{MeetsAllRules};
-ghost use Rattle.heyvl_replies.specs.Responses.{reply_of};
-ghost use Rattle.heyvl_replies.specs.RunStarts.{known_at};
-ghost use Rattle.heyvl_replies.specs.commands.Refute.{no_coproc as no_coproc_reply};
-ghost use Rattle.heyvl_replies.specs.commands.Run.{no_procedure as no_procedure_reply, no_program as no_program_reply, script_fault as script_fault_reply};
+ghost use Rattle.command_rules.specs.Responses.{reply_of};
+ghost use Rattle.command_rules.specs.RunStarts.{known_at};
+ghost use Rattle.command_rules.specs.commands.Refute.{no_coproc as no_coproc_reply};
+ghost use Rattle.command_rules.specs.commands.Run.{no_procedure as no_procedure_reply, no_program as no_program_reply, script_fault as script_fault_reply};
 ghost use Rattle.run_script.specs.PlainScripts.{known_in};
 ghost use Rattle.std.specs.Prelude.{IfOk, IfSome, length, ◌<◌, ◌≡◌};
 
-use crate::Fault;
 use crate::procedure_commands::procedures::procedure;
 use crate::procedure_commands::texts::{no_coproc_text, no_program_text};
-use crate::responses::{Response, Text, message};
+use command_rules::{Fault, Response, Text, message};
 use heyvl_acts::{Typed, VarInfo};
 use run_script::{known_variables, script_fault_text};
 use std::alloc::{AllocError, Global};

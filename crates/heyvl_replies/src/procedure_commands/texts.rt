@@ -1,6 +1,6 @@
 //! What commands write of a procedure.
 
-ghost use Rattle.heyvl_replies.specs.RunTexts.{no_coproc_text, no_program_text};
+ghost use Rattle.command_rules.specs.RunTexts.{no_coproc_text, no_program_text};
 ghost use Rattle.std.specs.Prelude.{IfOk, ◌≡◌};
 
 use std::alloc::{AllocError, Global};

@@ -1,7 +1,7 @@
-use Rattle.heyvl_tool.proofs.CallLemmas.{one_said, read_refused}
+use Rattle.tool_laws.proofs.exported.CallLemmas.{one_said, read_refused}
 use Rattle.heyvl_tool.proofs.tool.answer_one.Goals as goal
 use Rattle.spelled_files.specs.Sources.{file_limit}
-use Rattle.heyvl_tool.specs.Calls.{IsRead, moment, names_holding}
+use Rattle.tool_laws.specs.Calls.{IsRead, moment, names_holding}
 use Rattle.std.proofs.Common.{length, refl, rules, ◌≤◌}
 
 pub returns-in-Ok-clause-answer : goal.returns-in-Ok-clause-answer

@@ -1,8 +1,8 @@
-use Rattle.heyvl_tool.proofs.CallLemmas.{read_refused, text_said}
+use Rattle.tool_laws.proofs.exported.CallLemmas.{read_refused, text_said}
 use Rattle.heyvl_tool.proofs.tool.answer_second.Goals as goal
 use Rattle.spelled_files.specs.Sources.{file_limit}
-use Rattle.heyvl_tool.specs.Calls.{IsRead, moment, names_holding}
-use Rattle.heyvl_tool.specs.commands.{IsReplyTo}
+use Rattle.tool_laws.specs.Calls.{IsRead, moment, names_holding}
+use Rattle.command_rules.specs.commands.{IsReplyTo}
 use Rattle.std.proofs.Common.{length, rules, ◌≤◌}
 
 pub returns-in-Ok-clause-answer : goal.returns-in-Ok-clause-answer

@@ -1,7 +1,7 @@
-use Rattle.heyvl_tool.proofs.CallLemmas.{read_refused, two_said, two_started}
+use Rattle.tool_laws.proofs.exported.CallLemmas.{read_refused, two_said, two_started}
 use Rattle.heyvl_tool.proofs.tool.answer_two.Goals as goal
 use Rattle.spelled_files.specs.Sources.{file_limit}
-use Rattle.heyvl_tool.specs.Calls.{IsRead, moment, names_holding}
+use Rattle.tool_laws.specs.Calls.{IsRead, moment, names_holding}
 use Rattle.std.proofs.Common.{ap₂, length, rules, ◌≤◌}
 
 pub returns-in-Ok-clause-answer : goal.returns-in-Ok-clause-answer

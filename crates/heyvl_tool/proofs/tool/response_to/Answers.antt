@@ -1,5 +1,5 @@
 use Rattle.heyvl_tool.proofs.tool.response_to.Goals as goal
-use Rattle.heyvl_tool.specs.Outcomes.HasCause.{by_command}
+use Rattle.tool_laws.specs.Outcomes.HasCause.{by_command}
 use Rattle.std.proofs.lemmas.Result.{IfOk-weaker}
 
 pub returns-in-Ok-clause-cause : goal.returns-in-Ok-clause-cause

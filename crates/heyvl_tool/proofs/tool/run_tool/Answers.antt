@@ -1,8 +1,8 @@
-use Rattle.heyvl_tool.proofs.BoundHeadline.{bounds_meant}
-use Rattle.heyvl_tool.proofs.HeadlineLemmas.{answers_meant}
-use Rattle.heyvl_tool.proofs.ProgramHeadline.{programs_meant}
-use Rattle.heyvl_tool.proofs.RefuteHeadline.{violations_meant}
-use Rattle.heyvl_tool.proofs.RunHeadline.{sums_meant}
+use Rattle.tool_laws.proofs.exported.BoundHeadline.{bounds_meant}
+use Rattle.tool_laws.proofs.exported.HeadlineLemmas.{answers_meant}
+use Rattle.tool_laws.proofs.exported.ProgramHeadline.{programs_meant}
+use Rattle.tool_laws.proofs.exported.RefuteHeadline.{violations_meant}
+use Rattle.tool_laws.proofs.exported.RunHeadline.{sums_meant}
 use Rattle.heyvl_tool.proofs.tool.run_tool.Goals as goal
 
 pub returns-in-Ok-clause-verified : goal.returns-in-Ok-clause-verified

@@ -1,6 +1,6 @@
 use Rattle.cert_text.specs.Texts.{IsFirstFault}
 use Rattle.heyvl_replies.proofs.commands.check.check_typed.Goals as goal
-use Rattle.heyvl_replies.specs.commands.Check.IsCheckedReply.{by_line}
+use Rattle.command_rules.specs.commands.Check.IsCheckedReply.{by_line}
 use Rattle.std.proofs.Common.{subst, sym}
 use Rattle.std.proofs.lemmas.Result.{IfOk-weaker}
 

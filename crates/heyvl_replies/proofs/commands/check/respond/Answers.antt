@@ -1,6 +1,6 @@
 use Rattle.heyvl_replies.proofs.FileLemmas.{typed_refused, typed_said}
 use Rattle.heyvl_replies.proofs.commands.check.respond.Goals as goal
-use Rattle.heyvl_replies.specs.commands.Check.{IsCheckedReply}
+use Rattle.command_rules.specs.commands.Check.{IsCheckedReply}
 
 pub returns-in-Ok : goal.returns-in-Ok
 returns-in-Ok c = typed_said (IsCheckedReply c.args.bytes.now c.args.text.now) c.args.bytes.now c.in-Ok.typed _ c.in-Ok.ensures c.check_typed.ensures

@@ -1,7 +1,7 @@
 use Rattle.heyvl_acts.specs.PlainActs.{procedures_of}
 use Rattle.heyvl_replies.proofs.commands.omega.of_names.Goals as goal
-use Rattle.heyvl_replies.specs.RunStarts.{procedure_named}
-use Rattle.heyvl_replies.specs.commands.Omega.IsOmegaOf.{by_pair}
+use Rattle.command_rules.specs.RunStarts.{procedure_named}
+use Rattle.command_rules.specs.commands.Omega.IsOmegaOf.{by_pair}
 use Rattle.std.proofs.Common.{Some, sym, ◌∙◌, ◌≡◌}
 use Rattle.std.proofs.lemmas.Result.{IfOk-weaker}
 

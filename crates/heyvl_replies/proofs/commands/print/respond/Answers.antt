@@ -1,7 +1,7 @@
 use Rattle.heyvl_syntax.specs.Procedures.{procedures}
 use Rattle.heyvl_replies.proofs.FileLemmas.{spelled_refused, spelled_said}
 use Rattle.heyvl_replies.proofs.commands.print.respond.Goals as goal
-use Rattle.heyvl_replies.specs.commands.Print.{printed}
+use Rattle.command_rules.specs.commands.Print.{printed}
 use Rattle.std.proofs.Common.{◌≡◌}
 
 pub returns-in-Ok : goal.returns-in-Ok

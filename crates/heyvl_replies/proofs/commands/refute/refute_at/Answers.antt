@@ -1,5 +1,5 @@
 use Rattle.heyvl_replies.proofs.commands.refute.refute_at.Goals as goal
-use Rattle.heyvl_replies.specs.commands.Refute.IsRefuteOf.{by_shape}
+use Rattle.command_rules.specs.commands.Refute.IsRefuteOf.{by_shape}
 use Rattle.run_script.specs.PlainScripts.{script_of}
 use Rattle.std.proofs.Common.{sym, ◌∙◌}
 use Rattle.std.proofs.lemmas.Result.{IfOk-weaker}

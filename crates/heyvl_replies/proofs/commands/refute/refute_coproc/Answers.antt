@@ -1,7 +1,7 @@
 use Rattle.heyvl_acts.specs.PlainActs.{procedures_of}
 use Rattle.heyvl_replies.proofs.commands.refute.refute_coproc.Goals as goal
-use Rattle.heyvl_replies.specs.RunStarts.{IsFirstNoProgram}
-use Rattle.heyvl_replies.specs.commands.Refute.IsRefuteOf.{by_program, by_search}
+use Rattle.command_rules.specs.RunStarts.{IsFirstNoProgram}
+use Rattle.command_rules.specs.commands.Refute.IsRefuteOf.{by_program, by_search}
 use Rattle.run_machine.specs.ConfigConditions.{ReachesPrograms}
 use Rattle.run_script.specs.PlainScripts.{script_of}
 use Rattle.std.proofs.lemmas.Result.{IfOk-weaker}

@@ -1,7 +1,7 @@
 use Rattle.heyvl_acts.specs.PlainActs.{procedures_of}
 use Rattle.heyvl_replies.proofs.commands.refute.refute_typed.Goals as goal
-use Rattle.heyvl_replies.specs.RunStarts.{known_at, procedure_named}
-use Rattle.heyvl_replies.specs.commands.Refute.IsRefuteOf.{by_name, by_script}
+use Rattle.command_rules.specs.RunStarts.{known_at, procedure_named}
+use Rattle.command_rules.specs.commands.Refute.IsRefuteOf.{by_name, by_script}
 use Rattle.run_script.specs.PlainScripts.{known_in, script_of}
 use Rattle.run_script.specs.Scripts.{IsFirstFault, Known, Spells}
 use Rattle.std.proofs.Common.{None, Some, ap, subst, sym, ◌∙◌, ◌≡◌}

@@ -1,7 +1,7 @@
 use Rattle.heyvl_acts.specs.Acts.{TypedProcedure, procedure_at}
 use Rattle.heyvl_acts.specs.PlainActs.{procedures_of}
 use Rattle.heyvl_replies.proofs.commands.refute.refuted_line.Goals as goal
-use Rattle.heyvl_replies.specs.commands.Refute.{refuted_reply}
+use Rattle.command_rules.specs.commands.Refute.{refuted_reply}
 use Rattle.std.proofs.Common.{IfOk, List, ap, subst, ◌∙◌, ◌≡◌, ℕ}
 
 pub returns : goal.returns

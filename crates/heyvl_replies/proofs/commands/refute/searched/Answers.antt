@@ -3,7 +3,7 @@ use Rattle.heyvl_acts.specs.Acts.{procedure_at}
 use Rattle.heyvl_acts.specs.PlainActs.{procedures_of}
 use Rattle.heyvl_replies.proofs.commands.refute.searched.Goals as goal
 use Rattle.heyvl_replies.proofs.RefuteStarts.{starts_at}
-use Rattle.heyvl_replies.specs.commands.Refute.{refute_start}
+use Rattle.command_rules.specs.commands.Refute.{refute_start}
 use Rattle.refute_runs.specs.RefutedAnswers.{IsRefutedAnswer}
 use Rattle.refute_runs.specs.Violations.{NumbersAreOfRuns, ViolationIsOfRuns}
 use Rattle.run_machine.specs.Bound.{IsState}

@@ -1,6 +1,6 @@
 use Rattle.heyvl_replies.proofs.RefuteStarts.{shown_is}
 use Rattle.heyvl_replies.proofs.commands.refute.shown_of.Goals as goal
-use Rattle.heyvl_replies.specs.commands.Refute.{shown_by}
+use Rattle.command_rules.specs.commands.Refute.{shown_by}
 use Rattle.std.proofs.Common.{ap, sym, ◌∙◌}
 use Rattle.verdict_report.specs.declared.answers.Answer.{Answer}
 

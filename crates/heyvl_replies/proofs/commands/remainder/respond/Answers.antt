@@ -1,6 +1,6 @@
 use Rattle.heyvl_replies.proofs.FileLemmas.{typed_refused, typed_said}
 use Rattle.heyvl_replies.proofs.commands.remainder.respond.Goals as goal
-use Rattle.heyvl_replies.specs.commands.Remainder.{IsRemainderOf}
+use Rattle.command_rules.specs.commands.Remainder.{IsRemainderOf}
 
 pub returns-in-Ok : goal.returns-in-Ok
 returns-in-Ok c = typed_said (IsRemainderOf c.args.procedure.now c.args.name.now c.args.bytes.now) c.args.bytes.now c.in-Ok.typed _ c.in-Ok.ensures c.of_names.ensures

@@ -1,6 +1,6 @@
 use Rattle.heyvl_replies.proofs.FileLemmas.{typed_refused, typed_said}
 use Rattle.heyvl_replies.proofs.commands.run.respond.Goals as goal
-use Rattle.heyvl_replies.specs.commands.Run.{IsRunOf}
+use Rattle.command_rules.specs.commands.Run.{IsRunOf}
 
 pub returns-in-Ok : goal.returns-in-Ok
 returns-in-Ok c = typed_said (IsRunOf c.args.name.now c.args.script.now) c.args.bytes.now c.in-Ok.typed _ c.in-Ok.ensures c.run_typed.ensures

@@ -1,7 +1,7 @@
 use Rattle.heyvl_acts.specs.PlainActs.{procedures_of}
 use Rattle.heyvl_replies.proofs.commands.run.run_at.Goals as goal
-use Rattle.heyvl_replies.specs.commands.Run.IsRunOf.{by_program, by_run}
-use Rattle.heyvl_replies.specs.RunStarts.{IsFirstNoProgram}
+use Rattle.command_rules.specs.commands.Run.IsRunOf.{by_program, by_run}
+use Rattle.command_rules.specs.RunStarts.{IsFirstNoProgram}
 use Rattle.run_machine.specs.ConfigConditions.{ReachesPrograms}
 use Rattle.run_script.specs.PlainScripts.{script_of}
 use Rattle.std.proofs.lemmas.Result.{IfOk-weaker}

@@ -1,6 +1,6 @@
 use Rattle.heyvl_replies.proofs.FileLemmas.{typed_refused, typed_said}
 use Rattle.heyvl_replies.proofs.commands.verify.respond.Goals as goal
-use Rattle.heyvl_replies.specs.commands.Verify.{IsReport}
+use Rattle.command_rules.specs.commands.Verify.{IsReport}
 
 pub returns-in-Ok : goal.returns-in-Ok
 returns-in-Ok c = typed_said (IsReport c.args.bytes.now) c.args.bytes.now c.in-Ok.typed _ c.in-Ok.ensures c.report_typed.ensures

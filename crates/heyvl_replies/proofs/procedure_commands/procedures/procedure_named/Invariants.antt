@@ -1,6 +1,6 @@
 use Rattle.heyvl_acts.specs.PlainActs.{procedure_of, procedures_of}
 use Rattle.heyvl_replies.proofs.procedure_commands.procedures.procedure_named.Given as goal
-use Rattle.heyvl_replies.specs.RunStarts.{procedure_named}
+use Rattle.command_rules.specs.RunStarts.{procedure_named}
 use Rattle.std.proofs.Common.{drop, length, map, ◌≡◌}
 use Rattle.std.specs.List.{position_from}
 use Rattle.std.specs.Str.{bytes_eq}

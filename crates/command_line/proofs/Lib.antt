@@ -1,0 +1,3 @@
+mod ClapWords
+mod GenWords
+mod Words

@@ -1,0 +1,25 @@
+//! How many lines a word asks for.
+
+ghost use Rattle.command_rules.specs.LineCounts.{AsksFor};
+ghost use Rattle.std.specs.Prelude.{MatchOption, ℕ};
+
+use itoa::Buffer;
+
+/// The most lines that can be asked for, which is the most procedures that a file may have.
+const MOST_LINES: u32 = 1024;
+
+/// The number of lines, from 1 to 1,024, that a word asks for in digits without a leading zero; none where it is no such number.
+pub fn line_count(word: &str) -> Option<u32>
+    ensures { MatchOption result ((n : ℕ) → AsksFor n word.now → ⊥) (λ n. AsksFor n word.now) }
+{
+    let Ok(lines) = word.parse::<u32>() else {
+        return None;
+    };
+    let mut buffer = Buffer::new();
+    let is_plain = buffer.format(lines) == word;
+    if is_plain && 1 <= lines && lines <= MOST_LINES {
+        Some(lines)
+    } else {
+        None
+    }
+}

@@ -1,0 +1,84 @@
+//! What the words of the command line ask for.
+
+ghost use Rattle.command_rules.specs.commands.{files_of};
+ghost use Rattle.command_rules.specs.declared.requests.SettingsStop.TheVariants.{Memory};
+ghost use Rattle.command_rules.specs.internal.FileNames.{named};
+ghost use Rattle.std.specs.Prelude.{◌≡◌};
+
+use crate::Word;
+use std::alloc::AllocError;
+use thiserror::Error;
+
+/// What the words ask for.
+#[derive(Drop)]
+pub enum Settings {
+    /// `verify FILE`: the report on the file.
+    Verify(Word),
+    /// `print FILE`: the canonical text of the file.
+    Print(Word),
+    /// `run FILE PROC SCRIPT`: the sums over the runs of a procedure of the file, by a script.
+    Run(Word, Word, Word),
+    /// `certify FILE`: the certificates of the file's proved goals.
+    Certify(Word),
+    /// `check FILE CERT`: the report on the file by certificates.
+    Check(Word, Word),
+    /// `gen N`: the summary of the answers on the generated text of so many lines, from 1 to 1,024.
+    Gen(u32),
+    /// `pgcl FILE`: the file of HeyVL that a program of guarded commands becomes.
+    Pgcl(Word),
+    /// `omega FILE PROC NAME`: whether the second procedure's pre is an omega invariant of the first one's loop.
+    Omega(Word, Word, Word),
+    /// `remainder FILE PROC NAME`: whether the second procedure's pre bounds the turns of the first one's loop.
+    Remainder(Word, Word, Word),
+    /// `refute FILE PROC SCRIPT`: the least number of steps at which a run by the script passes the procedure's pre.
+    Refute(Word, Word, Word),
+}
+
+/// The names of the files of a command, in the order in which they are read.
+#[derive(Clone, Copy)]
+pub enum Files<'a> {
+    Zero,
+    One(&'a str),
+    Two(&'a str, &'a str),
+}
+
+impl Settings {
+    /// The files of the command.
+    pub fn files(&self) -> Files<'_>
+        ensures { named result ≡ files_of self.now }
+    {
+        match self {
+            Settings::Verify(file) => Files::One(file.as_str()),
+            Settings::Print(file) => Files::One(file.as_str()),
+            Settings::Run(file, _, script) => Files::Two(file.as_str(), script.as_str()),
+            Settings::Certify(file) => Files::One(file.as_str()),
+            Settings::Check(file, certificates) => {
+                Files::Two(file.as_str(), certificates.as_str())
+            }
+            Settings::Gen(_) => Files::Zero,
+            Settings::Pgcl(file) => Files::One(file.as_str()),
+            Settings::Omega(file, _, _) => Files::One(file.as_str()),
+            Settings::Remainder(file, _, _) => Files::One(file.as_str()),
+            Settings::Refute(file, _, script) => Files::Two(file.as_str(), script.as_str()),
+        }
+    }
+}
+
+/// Why the words ask for nothing.
+#[derive(Debug, Drop, Error)]
+pub enum SettingsStop {
+    /// They are no command.
+    #[error("no command")]
+    Usage,
+    /// Memory ran out.
+    #[error("out of memory")]
+    Memory(AllocError),
+}
+
+impl From<AllocError> for SettingsStop {
+    ghost from_gives = { λ error stop. stop ≡ Memory error };
+
+    fn from(error: AllocError) -> Self {
+        SettingsStop::Memory(error)
+    }
+}

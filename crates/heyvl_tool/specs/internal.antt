@@ -1,4 +1,0 @@
-pub mod CommandLine
-pub mod FileNames
-pub mod Met
-pub mod Refusals

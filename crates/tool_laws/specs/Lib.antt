@@ -1,0 +1,11 @@
+pub mod Calls
+pub mod SourceUses
+pub mod Outcomes
+pub mod FaultLaws
+pub mod StartLaws
+pub mod Headline
+pub mod GuardedPrograms
+pub mod LowerBounds
+pub mod Refutations
+pub mod Completeness
+pub mod Refusals

@@ -1,0 +1,60 @@
+-- What a user may rely on where `refute` says that a bound is violated.
+use Rattle.heylo_formula.specs.declared.values.Val.{Val}
+use Rattle.heyvl_acts.specs.Acts.{procedure_at}
+use Rattle.heyvl_num.specs.Value.{Value}
+use Rattle.heyvl_syntax.specs.Procedures.{Procedure}
+use Rattle.heyvl_syntax.specs.SourceFaults.{IsSource}
+use Rattle.tool_laws.specs.Calls.{AreRead, Call}
+use Rattle.tool_laws.specs.Outcomes.{IsWritten, Writing}
+use Rattle.command_rules.specs.RunStarts.{procedure_named}
+use Rattle.command_rules.specs.Words.{AskFor}
+use Rattle.command_rules.specs.commands.Refute.{refute_start, violated}
+use Rattle.command_rules.specs.commands.{Files}
+use Rattle.tool_laws.specs.declared.outcomes.Outcome.{Outcome}
+use Rattle.command_rules.specs.declared.requests.Settings.TheVariants.{Refute}
+use Rattle.static_rules.specs.Files.{first_fault, resolved}
+use Rattle.refute_runs.specs.ScriptedSums.{AreOfRuns}
+use Rattle.refute_runs.specs.Violations.{IsViolation}
+use Rattle.run_laws.specs.Bare.{bare_procedures}
+use Rattle.run_machine.specs.ConfigConditions.{ReachesPrograms}
+use Rattle.run_script.specs.Scripts.{Script, Spells}
+use Rattle.run_script.specs.Starts.{known_of}
+use Rattle.std.specs.Prelude.{List, None, Some, ◌≡◌, ◌≤◌, ℕ}
+use Rattle.verdict_report.specs.declared.answers.Answer.{Answer}
+use Rattle.verdict_report.specs.declared.answers.Verdict.TheVariants.{Verified}
+use Rattle.verdict_report.specs.VerdictsOn.{IsVerdictOn}
+use Rattle.verify_core.specs.Headline.{IsHeadline}
+
+-- A violation was written, and nothing else, and it is one of the runs. The bytes that were read, of the file and of the script, are those
+-- that the source holds where it tells them. They spell a file without a fault, in which a procedure has the name that was asked for, and it
+-- and all that it reaches are programs; and a script for it. From the state in which the runs start, which is what the script sets and else
+-- what the answers show, under the script's scheduler, the sum of reward and post over the runs of so many steps is above the pre, with fewer
+-- steps it isn't, and no bound holds of the procedure. So no answers on a file that differs in the rules of its loops and in places
+-- alone, of which the promises of the headline are kept, say that it is verified.
+pub record IsRefutedFrom (name procedure script : List ℕ) (made : Call) (done : Writing) (outcome : Outcome) : Type 0 where
+  pub bytes : List ℕ
+  pub text : List ℕ
+  pub read : AreRead (Files.two name script) made.names bytes text made.before made.after
+  pub file : List Procedure
+  pub spelled : IsSource bytes file
+  pub faultless : first_fault file ≡ None
+  pub number : ℕ
+  pub named : procedure_named procedure (resolved file) ≡ Some number
+  pub programs : ReachesPrograms (resolved file) number
+  pub said : Script
+  pub spells : Spells (Some (known_of (procedure_at (resolved file) number))) said text
+  pub start : List Val
+  pub starts : start ≡ refute_start (resolved file) number said outcome.answers.items
+  pub step : ℕ
+  pub few : step ≤ said.steps
+  pub violation : IsViolation (resolved file) number start said.decisions step
+  pub sum : Value
+  pub bound : Value
+  pub numbers : AreOfRuns (resolved file) number start said.decisions step sum bound
+  pub unverified : (other : List Procedure) (answers : List Answer) → bare_procedures (resolved file) ≡ bare_procedures (resolved other) → IsHeadline (resolved other) answers → IsVerdictOn answers number Verified → ⊥
+  pub written : IsWritten (violated (procedure_at (resolved file) number).name step sum bound outcome.answers.items) done outcome
+
+-- Where the status of `refute` is 1, it wrote a violation, of the bytes that were read.
+abbrev pub ViolationsAreMeant : Call → Writing → Outcome → Type 0
+ViolationsAreMeant made done outcome =
+    (file procedure script : List ℕ) → AskFor made.words (Refute file procedure script) → outcome.status ≡ 1 → IsRefutedFrom file procedure script made done outcome

@@ -1,0 +1,12 @@
+//! Calls of the tool: what they come to and what their answers mean, as definitions, and their laws.
+#![tactic(auto)]
+
+mod completeness;
+mod fault_laws;
+mod outcomes;
+mod start_laws;
+
+pub use completeness::commands_are_complete;
+pub use fault_laws::{static_faults_are_told, told_faults_are_there};
+pub use outcomes::Outcome;
+pub use start_laws::starts_are_counted;
