@@ -3,7 +3,7 @@
 ghost use Rattle.std.specs.Prelude.{◌^◌, ◌≡◌, ◌<◌, ◌≤◌, ℕ, [], List, Option, length, min, take, slice_get, IfOk, OnErr, Some, OnOk};
 ghost use Rattle.heylo_graph.specs.Trees.{Tree, nodes_of, depth_of};
 ghost use Rattle.heylo_graph.specs.Parts.{first, second, third};
-ghost use Rattle.heylo_graph.specs.Nodes.{Stands, IsGraph, IsFitting, IsJoined, AreDifferent, Begins, HasTree, assembled, tree_at};
+ghost use Rattle.heylo_graph.specs.Nodes.{Stands, IsGraph, IsNodeOf, IsFitting, IsJoined, AreDifferent, Begins, HasTree, assembled, tree_at};
 ghost use Rattle.heylo_graph.specs.internal.StoredSizes.{size_of, part_size};
 ghost use Rattle.heylo_graph.specs.internal.Tables.{IsBefore, PartTree};
 
@@ -61,6 +61,7 @@ impl Graph {
         requires { id < length self.now }
         ensures node { slice_get self.now id ≡ Some result.now }
         ensures graph { IsGraph self.now }
+        ensures tree { (t : Tree) → Stands self.now id t → IsNodeOf self.now result.now t }
     {
         &self.nodes.as_slice()[id.index()]
     }
