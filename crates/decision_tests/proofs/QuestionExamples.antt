@@ -1,5 +1,5 @@
 -- The questions of forms and conditions, computed at values found by hand.
-use Rattle.std.proofs.Common.{◌≡◌, ◌∙◌, ap, ap₂, arith, refl, subst, sym, Bor, [], ◌∷◌, true, false}
+use Rattle.std.proofs.Common.{◌≡◌, refl, [], ◌∷◌, true, false}
 use Rattle.std.specs.Prelude.{pos, negsuc, Some, None}
 use Rattle.heyvl_places.specs.declared.spans.Span.{Span}
 use Rattle.heyvl_num.specs.Gcd.{gcd, gcd_steps}
@@ -10,22 +10,9 @@ use Rattle.heylo_formula.specs.Formula.{Form, Cond}
 use Rattle.heylo_formula.specs.Goals.{Goal}
 use Rattle.linear_values.specs.Lin.{Lin, constant, variable, plus, minus, scaled, is_sized, Linear}
 use Rattle.linear_rows.specs.Numbers.{minus_oneʳ, fits}
-use Rattle.heylo_formula.specs.PlainTrees.{form_of}
-use Rattle.heylo_formula.specs.declared.forms.Form as F
-use Rattle.linear_form.specs.Paths.{end_at}
-use Rattle.linear_form.specs.Standings.{Standing}
-use Rattle.linear_form.specs.Places.{IsOn}
-use Rattle.linear_form.specs.Query.{Atom, Taken, next, once}
+use Rattle.linear_form.specs.Query.{Atom, once}
 use Rattle.linear_form.specs.Query.Query.{done, bits, ask}
 use Rattle.linear_form.specs.Questions.{zero, one, sum, difference, cut, scale, product, min, max, imply, co_imply, validate, co_validate, at_most, less, equal, evaluate, test, questions}
-use Rattle.linear_form.specs.declared.nodes.OfTruth.{OfTruth}
-use Rattle.linear_form.specs.declared.places.Focus.TheVariants as Focus
-use Rattle.linear_form.specs.declared.places.Frame.TheVariants as Frame
-use Rattle.linear_form.specs.declared.places.Evaluation.{Evaluation}
-use Rattle.linear_form.specs.declared.places.Two.{Two}
-use Rattle.linear_form.specs.internal.Places.{asked_by, ended, left_at, standing, of_number, of_two, through, valued}
-use Rattle.linear_form.specs.internal.Run.{along}
-use Rattle.linear_form.specs.internal.Run.Evaluation.{decide}
 
 x : Linear
 x = Some (variable 0)
@@ -139,44 +126,6 @@ goal = record { upper = true; stated = Form.iverson (Cond.flag 3); found = Form.
 of_a_goal : questions goal ≡ ask (Atom.truth 3) (ask (Atom.truth 4) (done (one, one)) (done (one, zero))) (ask (Atom.truth 4) (done (zero, zero)) (done (zero, zero)))
 unfolding goal minus plus scaled minus_oneʳ is_sized fits is_zeroʳ leqʳ ratio gcd gcd_steps zeroʳ oneʳ ◌+ʳ◌ ◌*ʳ◌
 of_a_goal = refl
-
--- [3] is stated, and found is infinity where 3 and 4 hold
-later_goal : Goal
-later_goal = record { upper = true; stated = Form.iverson (Cond.flag 3); found = Form.embed (Cond.and (Cond.flag 3) (Cond.flag 4)); types = []; names = []; own = 0 }
-
-three : Taken
-three = record { atom = Atom.truth 3; held = true }
-
--- a place at which 3 holds, and both what is done with this truth and the found form still wait
-record IsBehindThree (p : Evaluation) (found : Bor F.Form) : Type 0 where
-  at : p.at ≡ 1
-  focus : p.focus ≡ Focus.Truth true
-  frames : p.frames.items ≡ Frame.Left Two.Ends found ∷ (Frame.OfTruth OfTruth.Iverson ∷ [])
-  waits : form_of found.now ≡ later_goal.found
-
--- what is left to ask there: of the found form alone
-left_behind : (p : Evaluation) (found : Bor F.Form) → IsBehindThree p found → left_at p ≡ ask (Atom.truth 3) (ask (Atom.truth 4) (done (one, None)) (done (one, zero))) (done (one, zero))
-unfolding later_goal
-left_behind p found h = ap₂ (λ f ws. through (asked_by f) ws) h.focus h.frames ∙ ap (λ f. next (next (valued (evaluate f)) (of_number (of_two Two.Ends one))) ended) h.waits
-
--- resumed there, 3 is known and 4 is asked; and the end of a longer path is what its goal has there
-resumed : (p : Evaluation) (found : Bor F.Form) → IsBehindThree p found → (along (three ∷ []) (left_at p) p.at ≡ decide (Atom.truth 4)) × (end_at later_goal (three ∷ []) ≡ ask (Atom.truth 4) (done (one, None)) (done (one, zero)))
-unfolding later_goal three along
-resumed p found h = (ap₂ (along (three ∷ [])) (left_behind p found h) h.at, refl)
-
--- so the place is on the path
-abbrev behind_three : Standing
-behind_three = record { left = ask (Atom.truth 3) (ask (Atom.truth 4) (done (one, None)) (done (one, zero))) (done (one, zero)); at = 1 }
-
-stands_behind : (p : Evaluation) (found : Bor F.Form) → IsBehindThree p found → behind_three ≡ standing p
-stands_behind p found h = λ i. record { left = sym (left_behind p found h) i; at = sym h.at i }
-
-behind_on : IsOn later_goal (three ∷ []) behind_three
-unfolding later_goal three
-behind_on = record { within = omega arith; left = refl }
-
-on_the_path : (p : Evaluation) (found : Bor F.Form) → IsBehindThree p found → IsOn later_goal (three ∷ []) (standing p)
-on_the_path p found h = subst (IsOn later_goal (three ∷ [])) (stands_behind p found h) behind_on
 
 -- 2^62 is too large, as a value and as the difference of a comparison: 1 and 1 - 2^62
 bounds : (evaluate (Form.number (finite (ratio (pos 4611686018427387903) 1))) ≡ done (Some (constant (ratio (pos 4611686018427387903) 1)))) × (evaluate (Form.number (finite (ratio (pos 4611686018427387904) 1))) ≡ bits) × (sum (Some (constant (ratio (pos 4611686018427387903) 1))) (Some (constant oneʳ)) ≡ bits) × (min (Some (constant oneʳ)) (Some (constant (ratio (negsuc 4611686018427387902) 1))) ≡ bits) × (min (Some (constant zeroʳ)) (Some (constant (ratio (negsuc 4611686018427387902) 1))) ≡ done (Some (constant (ratio (negsuc 4611686018427387902) 1)))) × (scale (ratio (pos 4611686018427387904) 1) x ≡ bits) × (scale (ratio (pos 4611686018427387904) 1) zero ≡ done zero)

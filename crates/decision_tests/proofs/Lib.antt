@@ -1,0 +1,2 @@
+mod QuestionExamples
+mod PathRowExamples
