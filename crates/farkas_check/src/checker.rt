@@ -43,10 +43,10 @@ fn refused_at(alloc: Global, path: &[Taken]) -> Result<Judged, AllocError>
 }
 
 /// What is found of multipliers at the end of the trail.
-fn judge_multipliers<'a>(
+fn judge_multipliers(
     alloc: Global,
-    goal: &'a Goal,
-    place: &Place<'a>,
+    goal: &Goal,
+    place: &Place,
     trail: Trail,
     multipliers: &[(u32, u64)],
 ) -> Result<Judged, AllocError>
@@ -82,10 +82,10 @@ fn judge_multipliers<'a>(
 
 /// Goes through the tree from the end of the trail, in the order of the text, where the evaluation stands at a place on the path.
 #[cycle(judging)]
-fn judge<'a>(
+fn judge(
     alloc: Global,
-    goal: &'a Goal,
-    place: &Place<'a>,
+    goal: &Goal,
+    place: &Place,
     trail: Trail,
     tree: &Tree,
 ) -> Result<Judged, AllocError>
@@ -123,10 +123,10 @@ fn judge<'a>(
 
 /// Goes through the two trees from the two answers to a question, or to a split, at the end of the trail.
 #[cycle(judging)]
-fn judge_both<'a>(
+fn judge_both(
     alloc: Global,
-    goal: &'a Goal,
-    place: &Place<'a>,
+    goal: &Goal,
+    place: &Place,
     trail: Trail,
     atom: Atom,
     first: &Tree,

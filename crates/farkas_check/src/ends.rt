@@ -20,10 +20,10 @@ use linear_rows::{Occurrences, Row};
 use std::alloc::{AllocError, Global};
 
 /// What stands at the end of the path, evaluated on from a place on it. Want of memory is the one error.
-pub fn ask_there<'a>(
+pub fn ask_there(
     alloc: Global,
-    goal: &'a Goal,
-    place: &Place<'a>,
+    goal: &Goal,
+    place: &Place,
     path: &[Taken],
 ) -> Result<Ask, AllocError>
     requires path { IsPath (goal_of goal.now) (path_of path.now) }
@@ -35,10 +35,10 @@ pub fn ask_there<'a>(
 }
 
 /// Whether the path is at an end at which the goal holds plainly. Want of memory is the one error.
-pub fn is_plain_at<'a>(
+pub fn is_plain_at(
     alloc: Global,
-    goal: &'a Goal,
-    place: &Place<'a>,
+    goal: &Goal,
+    place: &Place,
     path: &[Taken],
 ) -> Result<bool, AllocError>
     requires path { IsPath (goal_of goal.now) (path_of path.now) }
@@ -66,10 +66,10 @@ fn is_whole(types: &[Ty], variable: u32) -> bool
 
 /// Whether the path is at an end at which the goal doesn't hold plainly, and the variable is an Int or UInt of the goal. Want of
 /// memory is the one error.
-pub fn can_split<'a>(
+pub fn can_split(
     alloc: Global,
-    goal: &'a Goal,
-    place: &Place<'a>,
+    goal: &Goal,
+    place: &Place,
     path: &[Taken],
     variable: u32,
 ) -> Result<bool, AllocError>
@@ -110,10 +110,10 @@ fn with_signs(
 
 /// The rows of which a certificate speaks at the end of the path, from those of the path's comparisons, which stand first: the
 /// denied goal is among them at an end at which the goal doesn't hold plainly. Want of memory is the one error.
-pub fn rows_there<'a>(
+pub fn rows_there(
     alloc: Global,
-    goal: &'a Goal,
-    place: &Place<'a>,
+    goal: &Goal,
+    place: &Place,
     path: &[Taken],
     rows: Vec<Row>,
 ) -> Result<RowList, AllocError>

@@ -1,12 +1,11 @@
 -- Trees of questions that are put together part by part.
-use Rattle.std.proofs.Common.{◌≡◌, refl, sym, ap, ap₂, ◌∙◌, Bool, true, false}
-use Rattle.std.specs.Prelude.{if◌then◌else◌}
+use Rattle.std.proofs.Common.{◌≡◌, refl, sym, ap, ap₂, ◌∙◌, Bool}
 use Rattle.linear_form.specs.Query.{Query, next}
 use Rattle.linear_form.specs.Query.Query.{done, bits, ask}
 use Rattle.linear_values.specs.Lin.{Linear}
 use Rattle.linear_form.specs.Questions.{both}
-use Rattle.linear_form.specs.internal.Places.{Result, valued, told, of_two, of_number, of_bool, ended}
-use Rattle.linear_form.specs.declared.places.Two.{Two}
+use Rattle.linear_form.specs.internal.Outcomes.{Result, valued, told, of_number, of_bool}
+use Rattle.linear_form.specs.internal.Evaluations.{ended}
 
 pub next_cong : {A B : Type 0} (q : Query A) (f g : A → Query B) → ((a : A) → f a ≡ g a) → next q f ≡ next q g
 next_cong (done a) f g h = h a
@@ -17,13 +16,6 @@ pub next_assoc : {A B C : Type 0} (q : Query A) (f : A → Query B) (g : B → Q
 next_assoc (done a) f g = refl
 next_assoc bits f g = refl
 next_assoc (ask q y n) f g = ap₂ (ask q) (next_assoc y f g) (next_assoc n f g)
-
--- one value, and what comes of it
-pub of_value : (q : Query Linear) (f : Linear → Query Result) → next (valued q) (of_number f) ≡ next q f
-of_value q f = next_assoc q _ (of_number f)
-
-pub of_truth : (q : Query Bool) (f : Bool → Query Result) → next (told q) (of_bool f) ≡ next q f
-of_truth q f = next_assoc q _ (of_bool f)
 
 pub of_values : (q r : Query Linear) (f : Linear → Linear → Query Result) → next (valued q) (of_number (λ x. next (valued r) (of_number (f x)))) ≡ both q r f
 of_values q r f = next_assoc q _ _ ∙ next_cong q _ _ (λ x. next_assoc r _ (of_number (f x)))
@@ -45,14 +37,5 @@ pub truth_told : (q : Query Bool) (f : Bool → Query Bool) → told (next q f) 
 truth_told q f = next_assoc q f _ ∙ sym (next_assoc q _ _)
 
 -- the stated form, and then the found one
-pub all_asked : (q r : Query Linear) → next (next (valued q) (of_number (λ x. next (valued r) (of_number (of_two Two.Ends x))))) ended ≡ both q r (λ x y. done (x, y))
-all_asked q r = ap (λ t. next t ended) (of_values q r (of_two Two.Ends)) ∙ next_assoc q _ ended ∙ next_cong q _ _ (λ x. next_assoc r (of_two Two.Ends x) ended)
-
--- one of two, by a truth
-pub valued_either : (t : Bool) (q r : Query Linear) → valued (if t then q else r) ≡ (if t then valued q else valued r)
-valued_either true q r = refl
-valued_either false q r = refl
-
-pub told_either : (t : Bool) (q r : Query Bool) → told (if t then q else r) ≡ (if t then told q else told r)
-told_either true q r = refl
-told_either false q r = refl
+pub all_asked : (q r : Query Linear) → next (next (valued q) (of_number (λ x. next (valued r) (of_number (λ y. done (Result.ends (x, y))))))) ended ≡ both q r (λ x y. done (x, y))
+all_asked q r = ap (λ t. next t ended) (of_values q r (λ x y. done (Result.ends (x, y)))) ∙ next_assoc q _ ended ∙ next_cong q _ _ (λ x. next_assoc r _ ended)

@@ -1,55 +1,46 @@
 -- Values whose first variables differ are compared by a question.
-use Rattle.std.proofs.Common.{◌≡◌, ℕ, ◌<◌, [], ◌∷◌, refl, sym, ap, ap₂, ◌∙◌, subst, arith, Bool, true, false, cond, ◌==◌, ltb, length}
-use Rattle.std.specs.Prelude.{Some}
-use Rattle.heyvl_num.specs.Rational.{Rational, zeroʳ, oneʳ, ◌+ʳ◌, ◌-ʳ◌, ◌*ʳ◌}
+use Rattle.std.proofs.Common.{◌≡◌, ℕ, ◌<◌, [], ◌∷◌, sym, ap, ◌∙◌, subst, arith, Bool, true, false, ◌==◌, ltb, length}
+use Rattle.heyvl_num.specs.Rational.{Rational, ◌*ʳ◌}
 use Rattle.heyvl_num.specs.Value.{is_zeroʳ}
-use Rattle.heyvl_num.proofs.exported.Rationals.{+ʳ_assoc, zero-+ʳ, *ʳ-one, *ʳ-zero}
-use Rattle.heyvl_num.proofs.exported.Signs.{+ʳ--ʳ, -ʳ-self}
-use Rattle.heyvl_num.proofs.exported.Values.{is_zero-zero}
-use Rattle.heylo_formula.specs.State.{put, number_of}
-use Rattle.heylo_formula.specs.declared.values.Val.TheVariants.{Num}
-use Rattle.linear_values.specs.Lin.{Lin, Terms, total, IsAbove, AreNormal}
-use Rattle.linear_form.specs.internal.LastingTrees.{Lasts, BeginsBefore, all_zero, growth}
-use Rattle.linear_form.specs.internal.Nodes.{comparison}
-use Rattle.linear_form.specs.declared.nodes.Comparison.{Comparison}
-use Rattle.linear_values.proofs.exported.KeptTerms.{above_less}
-use Rattle.linear_form.proofs.Growths.{comparison_asks}
+use Rattle.linear_rows.specs.Numbers.{minus_oneʳ}
+use Rattle.linear_values.specs.Lin.{Lin, Terms, IsAbove, AreNormal, merged, more, times, minus}
+use Rattle.linear_values.specs.Operator.{has_no_terms}
+use Rattle.linear_form.specs.internal.LastingTrees.{Lasts, BeginsBefore}
+use Rattle.linear_form.specs.Questions.{is_below}
+use Rattle.linear_values.proofs.exported.KeptTerms.{above_less, times_normal}
+use Rattle.linear_values.proofs.exported.MergedTerms.{passed, minus_one_nonzero}
+use Rattle.linear_form.proofs.NodesThatAsk.{below_asks}
+use Rattle.linear_form.proofs.OneSidedSums.{minus_is}
 
 other_number : (x y : ℕ) → x < y → (x == y) ≡ false
 other_number x y h = grind (arith, h)
 
-same_number : (x : ℕ) → (x == x) ≡ true
-same_number x = grind arith
+less_number : (x y : ℕ) → x < y → ltb x y ≡ true
+less_number x y h = grind (arith, h)
 
--- the terms of other variables are the same
-total_absent : (x : ℕ) (ts : Terms) → IsAbove x ts → total ts (put x (Num oneʳ) all_zero) ≡ total ts all_zero
-total_absent x [] h = refl
-total_absent x (t ∷ ts) h = ap₂ (λ u v. u +ʳ v) (ap (λ b. t.1 *ʳ number_of (cond b (Num oneʳ) (Num zeroʳ))) (other_number x t.0 h.0)) (total_absent x ts h.1)
+negated_above : (m : ℕ) (us : Terms) → IsAbove m us → IsAbove m (times minus_oneʳ us)
+negated_above m [] h = tt
+negated_above m (u ∷ us) h = (h.0, negated_above m us h.1)
 
-growth_absent : (x : ℕ) (a : Lin) → IsAbove x a.terms → growth x a ≡ zeroʳ
-unfolding growth
-growth_absent x a h = ap (λ z. (z +ʳ a.rest) -ʳ (total a.terms all_zero +ʳ a.rest)) (total_absent x a.terms h) ∙ -ʳ-self _
+put_first : (x : ℕ) (c : Rational) (ts : Terms) → is_zeroʳ c ≡ false → IsAbove x ts → more x c ts ≡ (x, c) ∷ ts
+put_first x c [] z h = rw z
+put_first x c (t ∷ ts) z h = rw (other_number x t.0 h.0, less_number x t.0 h.0, z)
 
-first_grows : (c z r : Rational) → (((c *ʳ oneʳ) +ʳ z) +ʳ r) -ʳ (((c *ʳ zeroʳ) +ʳ z) +ʳ r) ≡ c
-first_grows c z r = ap₂ (λ u v. u -ʳ v) (ap (λ u. (u +ʳ z) +ʳ r) (*ʳ-one c) ∙ +ʳ_assoc c z r) (ap (λ u. (u +ʳ z) +ʳ r) (*ʳ-zero c) ∙ ap (λ u. u +ʳ r) (zero-+ʳ z)) ∙ +ʳ--ʳ c (z +ʳ r)
+-- a variable of the first list that comes before all of the second stays in their difference
+left_stays : (t : ℕ × Rational) (ts us : Terms) → IsAbove t.0 us → has_no_terms (merged (times minus_oneʳ us) (t ∷ ts)) ≡ false
+left_stays t ts us h = ap has_no_terms (passed t (times minus_oneʳ us) ts (negated_above t.0 us h))
 
-growth_first : (t : ℕ × Rational) (ts : Terms) (a : Lin) → a.terms ≡ t ∷ ts → IsAbove t.0 ts → growth t.0 a ≡ t.1
-unfolding growth
-growth_first t ts a e h = ap (λ us. (total us (put t.0 (Num oneʳ) all_zero) +ʳ a.rest) -ʳ (total us all_zero +ʳ a.rest)) e ∙ ap₂ (λ b z. (((t.1 *ʳ number_of (cond b (Num oneʳ) (Num zeroʳ))) +ʳ z) +ʳ a.rest) -ʳ (((t.1 *ʳ zeroʳ) +ʳ total ts all_zero) +ʳ a.rest)) (same_number t.0) (total_absent t.0 ts h) ∙ first_grows t.1 (total ts all_zero) a.rest
+right_stays : (u : ℕ × Rational) (us ts : Terms) → AreNormal (u ∷ us) → IsAbove u.0 ts → has_no_terms (merged (times minus_oneʳ (u ∷ us)) ts) ≡ false
+right_stays u us ts n h = let k = times_normal minus_oneʳ (u ∷ us) minus_one_nonzero n in ap has_no_terms (ap (merged (times minus_oneʳ us)) (put_first u.0 (minus_oneʳ *ʳ u.1) ts k.0 h) ∙ passed (u.0, minus_oneʳ *ʳ u.1) (times minus_oneʳ us) ts k.1.0)
 
-not_zero : (c : Rational) → is_zeroʳ c ≡ false → c ≡ zeroʳ → ⊥
-not_zero c h e = clash (is_zeroʳ c) (ap is_zeroʳ e ∙ is_zero-zero) h
-  where
-    clash : (b : Bool) → b ≡ true → b ≡ false → ⊥
-    clash true e h = absurd (cc)
-    clash false e h = absurd (cc)
+differ : (a b : Lin) (strict : Bool) → has_no_terms (merged (times minus_oneʳ b.terms) a.terms) ≡ false → Lasts 1 (is_below (minus a b) strict)
+differ a b strict h = below_asks (minus a b) strict (ap (λ (l : Lin). has_no_terms l.terms) (minus_is a b) ∙ h)
 
--- a variable of the first value that comes before all of the second
-pub left_first : (t : ℕ × Rational) (ts : Terms) (a b : Lin) (o : Comparison) → a.terms ≡ t ∷ ts → AreNormal (t ∷ ts) → IsAbove t.0 b.terms → Lasts 1 (comparison o (Some a) (Some b))
-left_first t ts a b o e n h = comparison_asks t.0 a b o (λ k. not_zero t.1 n.0 (sym (growth_first t ts a e n.1.0) ∙ k ∙ growth_absent t.0 b h))
+pub begins_left : (a b : Lin) (ts us : Terms) (strict : Bool) → ts ≡ a.terms → us ≡ b.terms → BeginsBefore ts us → Lasts 1 (is_below (minus a b) strict)
+begins_left a b ts us strict e f h = differ a b strict (ap (λ ts. has_no_terms (merged (times minus_oneʳ b.terms) ts)) (sym e ∙ h.begins) ∙ left_stays h.first h.others b.terms (subst (IsAbove h.first.0) f h.before))
 
-pub right_first : (t : ℕ × Rational) (ts : Terms) (a b : Lin) (o : Comparison) → b.terms ≡ t ∷ ts → AreNormal (t ∷ ts) → IsAbove t.0 a.terms → Lasts 1 (comparison o (Some a) (Some b))
-right_first t ts a b o e n h = comparison_asks t.0 a b o (λ k. not_zero t.1 n.0 (sym (growth_first t ts b e n.1.0) ∙ sym k ∙ growth_absent t.0 a h))
+pub begins_right : (a b : Lin) (ts us : Terms) (strict : Bool) → ts ≡ b.terms → us ≡ a.terms → AreNormal b.terms → BeginsBefore ts us → Lasts 1 (is_below (minus a b) strict)
+begins_right a b ts us strict e f n h = let g : b.terms ≡ h.first ∷ h.others = sym e ∙ h.begins in differ a b strict (ap (λ us. has_no_terms (merged (times minus_oneʳ us) a.terms)) g ∙ right_stays h.first h.others a.terms (subst AreNormal g n) (subst (IsAbove h.first.0) f h.before))
 
 -- ---- Which list begins first
 
@@ -59,9 +50,3 @@ above_none m (u ∷ us) h = absurd (omega (arith, h))
 
 pub above_second : (m : ℕ) (us vs : Terms) (t : ℕ × Rational) → us ≡ t ∷ vs → ltb m t.0 ≡ true → AreNormal us → IsAbove m us
 above_second m us vs t e l n = subst (IsAbove m) (sym e) (let k : m < t.0 = grind (arith, l) in (k, above_less m t.0 vs k (subst AreNormal e n).1.0))
-
-pub begins_left : (a b : Lin) (ts us : Terms) (o : Comparison) → ts ≡ a.terms → us ≡ b.terms → AreNormal a.terms → BeginsBefore ts us → Lasts 1 (comparison o (Some a) (Some b))
-begins_left a b ts us o e f n h = let g : a.terms ≡ h.first ∷ h.others = sym e ∙ h.begins in left_first h.first h.others a b o g (subst AreNormal g n) (subst (IsAbove h.first.0) f h.before)
-
-pub begins_right : (a b : Lin) (ts us : Terms) (o : Comparison) → ts ≡ b.terms → us ≡ a.terms → AreNormal b.terms → BeginsBefore ts us → Lasts 1 (comparison o (Some a) (Some b))
-begins_right a b ts us o e f n h = let g : b.terms ≡ h.first ∷ h.others = sym e ∙ h.begins in right_first h.first h.others a b o g (subst AreNormal g n) (subst (IsAbove h.first.0) f h.before)

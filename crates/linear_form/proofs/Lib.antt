@@ -23,8 +23,7 @@ pub mod Truths
 pub mod UnsignedRows
 pub mod MetRows
 mod Runs
-mod QuestionExamples
-mod PathRowExamples
+mod PlaceExamples
 mod PathEnds
 mod KeptValues
 mod OperatorRuns
@@ -33,11 +32,7 @@ mod SignRows
 mod SignClaims
 mod FoundRows
 mod AssembledTrees
-mod Parts
-mod ContinuedRuns
-mod DirectValues
-mod KeptOperators
-mod Resumptions
+mod EndAnswers
 mod GrowingRows
 pub mod PathRowSteps
 mod RepeatedRows
@@ -46,6 +41,14 @@ pub mod PlaceRuns
 pub mod exported
 mod SplitAtoms
 mod SureQuestions
-mod Growths
 mod FirstTerms
-mod AskedForms
+mod KindsOfNodes
+mod KeptOperations
+mod NodeRuns
+mod NodeFrames
+mod NodeNumbers
+mod EnteredNodes
+mod NotedValues
+mod NodesThatAsk
+mod FramesThatAsk
+mod CopiedEvaluations

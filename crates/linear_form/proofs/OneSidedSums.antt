@@ -1,14 +1,11 @@
--- Sums and differences of linear values, one of which holds no variable.
-use Rattle.std.proofs.Common.{◌≡◌, [], ◌∷◌, refl, sym, ap, ap₂, ◌∙◌, subst, ℕ, List, Bool, true, false, ◌&&◌, ◌||◌, ◌<◌, ◌+◌, length, get_or, cond}
-use Rattle.std.specs.Prelude.{Some}
+-- Differences of linear values, one of which holds no variable.
+use Rattle.std.proofs.Common.{◌≡◌, [], ◌∷◌, refl, sym, ap, ap₂, ◌∙◌, ℕ, List, Bool, true, false, ◌&&◌, ◌||◌, ◌<◌, ◌+◌, length, get_or, cond}
 use Rattle.heyvl_num.specs.Rational.{Rational, ◌+ʳ◌, ◌*ʳ◌}
-use Rattle.heyvl_num.proofs.exported.Rationals.{+ʳ_comm}
-use Rattle.linear_values.specs.Lin.{Lin, Terms, AreNormal, constant, merged, more, times, plus, minus, all_fit, is_sized}
+use Rattle.linear_values.specs.Lin.{Lin, Terms, AreNormal, merged, more, times, minus, all_fit, is_sized}
 use Rattle.linear_rows.specs.Numbers.{minus_oneʳ, fits, is_negative}
 use Rattle.linear_form.specs.PlainPaths.{path_of}
 use Rattle.linear_form.specs.Query.{Taken}
 use Rattle.linear_form.specs.Questions as q
-use Rattle.linear_form.specs.internal.Direct.{Yields}
 use Rattle.linear_values.specs.Operator.{has_no_terms}
 use Rattle.linear_form.specs.internal.Run.{Evaluation, along}
 use Rattle.linear_values.specs.Kept.{IsKept}
@@ -16,18 +13,10 @@ use Rattle.linear_form.specs.internal.Run.Evaluation.{value}
 use Rattle.linear_form.specs.declared.paths.Taken as T
 use Rattle.linear_form.proofs.OperatorRuns.{run_below_large, run_below_known, run_below_asked}
 use Rattle.linear_form.proofs.Runs.{turned_at}
-use Rattle.linear_form.proofs.DirectValues.{yields_sized}
 use Rattle.linear_values.proofs.exported.KeptParts.{terms_fit}
 use Rattle.linear_values.proofs.exported.KeptTerms.{times_normal}
 use Rattle.linear_values.proofs.exported.MergedTerms.{passed, minus_one_nonzero, difference_made}
 use Rattle.linear_rows.proofs.exported.Narrow.{fits_negated}
-
-no_terms : (ts : Terms) → has_no_terms ts ≡ true → ts ≡ []
-no_terms [] e = refl
-no_terms (t ∷ ts) e = absurd (cc)
-
-pub plus_with : (a b : Lin) → has_no_terms b.terms ≡ true → plus a (constant b.rest) ≡ plus a b
-plus_with a b e = ap (λ ts. plus a (record { terms = ts; rest = b.rest })) (sym (no_terms b.terms e))
 
 alone : (us : Terms) → AreNormal us → merged us [] ≡ us
 alone [] h = refl
@@ -36,27 +25,8 @@ alone (u ∷ us) h = ap (merged us) put ∙ passed u us [] h.1.0 ∙ ap (λ z. u
     put : more u.0 u.1 [] ≡ u ∷ []
     put = rw h.0
 
-made : Terms → Rational → Lin
-made ts r = record { terms = ts; rest = r }
-
-plus_number : (a : Lin) (x : Rational) → plus a (constant x) ≡ record { terms = a.terms; rest = a.rest +ʳ x }
-unfolding plus
-plus_number a x = refl
-
-pub number_plus : (a b : Lin) → has_no_terms a.terms ≡ true → AreNormal b.terms → plus b (constant a.rest) ≡ plus a b
-unfolding plus made
-number_plus a b e h = ap₂ made (sym (ap (merged b.terms) (no_terms a.terms e) ∙ alone b.terms h)) (+ʳ_comm b.rest a.rest)
-
-pub shifted_yields : (a : Lin) (x s : Rational) → IsKept a → s ≡ a.rest +ʳ x → fits s ≡ true → Yields (q.sum (Some a) (Some (constant x))) (record { terms = a.terms; rest = s })
-unfolding is_sized made
-shifted_yields a x s h e f = subst (λ p. Yields (q.sized (Some p)) (made a.terms s)) (ap (made a.terms) e ∙ sym (plus_number a x)) (yields_sized (made a.terms s) h.normal (rw (f, terms_fit a h)))
-
-minus_is : (a b : Lin) → minus a b ≡ record { terms = merged (times minus_oneʳ b.terms) a.terms; rest = a.rest +ʳ (minus_oneʳ *ʳ b.rest) }
+pub minus_is : (a b : Lin) → minus a b ≡ record { terms = merged (times minus_oneʳ b.terms) a.terms; rest = a.rest +ʳ (minus_oneʳ *ʳ b.rest) }
 minus_is a b = sym (difference_made a b _ _ _ refl refl refl)
-
-pub minus_number : (a b : Lin) → has_no_terms b.terms ≡ true → plus a (constant (minus_oneʳ *ʳ b.rest)) ≡ minus a b
-unfolding made
-minus_number a b e = plus_number a (minus_oneʳ *ʳ b.rest) ∙ sym (minus_is a b ∙ ap (λ ts. made (merged (times minus_oneʳ ts) a.terms) (a.rest +ʳ (minus_oneʳ *ʳ b.rest))) (no_terms b.terms e))
 
 -- ---- A comparison with a number
 

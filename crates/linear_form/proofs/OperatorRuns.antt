@@ -43,15 +43,6 @@ run_below_asked ps a strict i e h = rw (e, asked_new a.terms a strict h)
 
 -- ---- Where the first value is infinity
 
-pub sum_none : (ps : List Taken) (y : Linear) (i : ℕ) → along ps (q.sum None y) i ≡ value None i
-unfolding along
-sum_none ps (Some b) i = refl
-sum_none ps None i = refl
-
-pub difference_none : (ps : List Taken) (y : Linear) (i : ℕ) → along ps (q.difference None y) i ≡ value None i
-unfolding along
-difference_none ps y i = refl
-
 pub min_none : (ps : List Taken) (y : Linear) (i : ℕ) → along ps (q.min None y) i ≡ value y i
 unfolding along
 min_none ps (Some b) i = refl
@@ -71,10 +62,6 @@ pub co_imply_none : (ps : List Taken) (y : Linear) (i : ℕ) → along ps (q.co_
 unfolding along
 co_imply_none ps (Some b) i = refl
 co_imply_none ps None i = refl
-
-pub less_none : (ps : List Taken) (y : Linear) (i : ℕ) → along ps (q.less None y) i ≡ value false i
-unfolding along
-less_none ps y i = refl
 
 pub finite_product_large : (ps : List Taken) (ts us : Terms) (a b : Lin) (i : ℕ) → has_no_terms ts ≡ false → has_no_terms us ≡ false → along ps (q.finite_product ts us a b) i ≡ Evaluation.bits
 unfolding along

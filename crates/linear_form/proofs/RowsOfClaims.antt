@@ -1,7 +1,6 @@
 -- The rows of claims, one after the other.
 use Rattle.std.proofs.Common.{◌≡◌, List, [], ◌∷◌, ◌++◌, refl, sym, ap, ap₂, ◌∙◌, subst, append_assoc, Bool, false, cond, ◌&&◌}
 use Rattle.std.specs.Prelude.{Option, Some, None}
-use Rattle.std.proofs.lemmas.List.{append-nil}
 use Rattle.heylo_formula.specs.Typing.{Types}
 use Rattle.linear_rows.specs.Row.{Row}
 use Rattle.linear_values.specs.Lin.{Lin, Terms, constant, times, scaled, all_fit, is_sized}
@@ -12,16 +11,13 @@ use Rattle.heyvl_num.specs.Value.{is_zeroʳ}
 use Rattle.linear_form.specs.Query.{Query}
 use Rattle.linear_form.specs.Questions.{Ends}
 use Rattle.linear_values.specs.Tightening.{Claim, tightened, with_row, all_tightened}
-use Rattle.linear_form.specs.internal.NormalPaths.{IsNormalAtom, IsNormalPath}
-use Rattle.linear_form.specs.PathRows.{claim, negated, answer_claims, path_claims}
+use Rattle.linear_form.specs.PathRows.{claim, negated}
 use Rattle.linear_form.specs.internal.FurtherRows.{followed_by, rows_with}
-use Rattle.linear_form.specs.PlainPaths.{path_of, atom_of}
 use Rattle.linear_values.specs.PlainValues.{linear_of}
 use Rattle.linear_form.specs.QuestionLaws.{EachResult}
 use Rattle.linear_values.specs.Kept.{IsKeptValue}
 use Rattle.linear_form.specs.AskAnswers.{Answers}
 use Rattle.linear_values.specs.declared.lin.Lin as L
-use Rattle.linear_form.specs.declared.paths.Taken as T
 use Rattle.linear_form.specs.declared.questions.Ask as K
 use Rattle.linear_rows.proofs.exported.Narrow.{fits_negated}
 use Rattle.linear_values.proofs.exported.RowParts.{too_large}
@@ -52,38 +48,8 @@ follows rows made (Some a) (Some b) e = let k : rows ++ a ≡ made = cc in ap So
 follows rows made (Some a) None e = refl
 follows rows made None q e = absurd (cc)
 
-lost : (rows : List Row) (o q : Option (List Row)) → followed_by rows o ≡ None → followed_by rows (joined o q) ≡ None
-lost rows (Some a) q e = absurd (cc)
-lost rows None q e = refl
-
 pub then_more : (types : Types) (rows made : List Row) (ks ls : List Claim) → rows_with types rows ks ≡ Some made → rows_with types rows (ks ++ ls) ≡ rows_with types made ls
 then_more types rows made ks ls e = ap (followed_by rows) (tightened_append types ks ls) ∙ follows rows made (all_tightened types ks) (all_tightened types ls) e
-
-pub then_none : (types : Types) (rows : List Row) (ks ls : List Claim) → rows_with types rows ks ≡ None → rows_with types rows (ks ++ ls) ≡ None
-then_none types rows ks ls e = ap (followed_by rows) (tightened_append types ks ls) ∙ lost rows (all_tightened types ks) (all_tightened types ls) e
-
-pub no_more : (types : Types) (rows : List Row) → rows_with types rows [] ≡ Some rows
-no_more types rows = ap Some (append-nil rows)
-
--- ---- The steps of a loop over claims
-
-pub path_start : (types : Types) (rows : List Row) (ks : List Claim) → rows ≡ [] → all_tightened types ks ≡ rows_with types rows ks
-path_start types rows ks e = sym (none_before (all_tightened types ks)) ∙ ap (λ z. rows_with types z ks) (sym e)
-
-pub path_step : (types : Types) (o : Option (List Row)) (rows made : List Row) (p : T.Taken) (others rest : List T.Taken) → rest ≡ p ∷ others → o ≡ rows_with types rows (path_claims (path_of rest)) → rows_with types rows (answer_claims (atom_of p.atom) p.held) ≡ Some made → o ≡ rows_with types made (path_claims (path_of others))
-path_step types o rows made p others rest e h k = h ∙ ap (λ z. rows_with types rows (path_claims (path_of z))) e ∙ then_more types rows made (answer_claims (atom_of p.atom) p.held) (path_claims (path_of others)) k
-
-pub path_lost : (types : Types) (o : Option (List Row)) (rows : List Row) (p : T.Taken) (others rest : List T.Taken) → rest ≡ p ∷ others → o ≡ rows_with types rows (path_claims (path_of rest)) → rows_with types rows (answer_claims (atom_of p.atom) p.held) ≡ None → o ≡ None
-path_lost types o rows p others rest e h k = h ∙ ap (λ z. rows_with types rows (path_claims (path_of z))) e ∙ then_none types rows (answer_claims (atom_of p.atom) p.held) (path_claims (path_of others)) k
-
-pub path_done : (types : Types) (o : Option (List Row)) (rows : List Row) (rest : List T.Taken) → rest ≡ [] → o ≡ rows_with types rows (path_claims (path_of rest)) → o ≡ Some rows
-path_done types o rows rest e h = h ∙ ap (λ z. rows_with types rows (path_claims (path_of z))) e ∙ no_more types rows
-
-pub first_normal : (p : T.Taken) (others rest : List T.Taken) → rest ≡ p ∷ others → IsNormalPath (path_of rest) → IsNormalAtom (atom_of p.atom)
-first_normal p others rest e h = (subst (λ z. IsNormalPath (path_of z)) e h).0
-
-pub others_normal : (p : T.Taken) (others rest : List T.Taken) → rest ≡ p ∷ others → IsNormalPath (path_of rest) → IsNormalPath (path_of others)
-others_normal p others rest e h = (subst (λ z. IsNormalPath (path_of z)) e h).1
 
 -- ---- Negation keeps sizes
 

@@ -1,5 +1,5 @@
 -- Evaluation along a path, operator by operator.
-use Rattle.std.proofs.Common.{◌≡◌, ℕ, ◌+◌, ◌<◌, ◌≤◌, List, [], ◌∷◌, refl, sym, ap, ◌∙◌, subst, arith, Bool, true, false, cond, take, drop, length, get_or}
+use Rattle.std.proofs.Common.{◌≡◌, ℕ, ◌+◌, ◌<◌, List, [], ◌∷◌, refl, sym, ap, ◌∙◌, subst, arith, Bool, true, false, cond, take, drop, length, get_or}
 use Prim.Native.Nat.{zero, suc}
 use Rattle.std.specs.Prelude.{Option, Some, None, Result, Err}
 use Rattle.linear_form.specs.Query.{Query, Atom, Taken, next, known}
@@ -10,6 +10,8 @@ use Rattle.linear_form.specs.internal.Run.{Evaluation, along, turned, heard, onw
 use Rattle.linear_form.specs.internal.Run.Evaluation.{value, decide}
 use Rattle.linear_form.specs.PlainPaths.{path_of}
 use Rattle.linear_form.specs.internal.EvaluationResults.{Stops, Gives}
+use Rattle.linear_form.specs.internal.Outcomes as outcomes
+use Rattle.linear_form.specs.internal.Outcomes.{valued, told}
 use Rattle.linear_form.specs.declared.paths.Taken as T
 use Rattle.linear_form.specs.declared.cursor.Stop as S
 use Rattle.linear_form.specs.declared.cursor.Stop.{Stop}
@@ -52,9 +54,6 @@ stops_first (S.TheVariants.Decide q) ps t f i h = run_next ps t f i ∙ ap (λ z
 stops_first S.TheVariants.Bits ps t f i h = run_next ps t f i ∙ ap (λ z. onward z (λ x j. along ps (f x) j)) h
 stops_first (S.TheVariants.Memory e) ps t f i h = tt
 
-pub stops_second : {A B C : Type 0} (e : Stop) (ps : List Taken) (t : Query A) (u : Query B) (f : A → B → Query C) (i j : ℕ) (x : A) → along ps t i ≡ value x j → Stops e (along ps u j) → Stops e (along ps (next t (λ x. next u (λ y. f x y))) i)
-stops_second e ps t u f i j x h g = subst (λ o. Stops e o) (sym (run_after ps t (λ x. next u (λ y. f x y)) i j x h)) (stops_first e ps u (λ y. f x y) j g)
-
 pub run_known : (ps : List Taken) (x i : ℕ) (b : Bool) → known x (take i ps) ≡ Some b → along ps (ask (Atom.truth x) (done true) (done false)) i ≡ value b i
 unfolding along
 run_known ps x i true e = rw e
@@ -68,12 +67,6 @@ pub turned_at : {A : Type 0} (ps : List T.Taken) (i : ℕ) (p : T.Taken) (q : At
 turned_at [] i p q y n h e = absurd (omega arith)
 turned_at (x ∷ ps) zero p q y n h e = ap (λ (z : T.Taken). cond z.held y n) (sym e)
 turned_at (x ∷ ps) (suc i) p q y n h e = turned_at ps i p q y n (omega arith) e
-
-pub turned_end : {A : Type 0} (ps : List T.Taken) (i : ℕ) (q : Atom) (y n : Evaluation A) → length ps ≤ i → turned (drop i (path_of ps)) q y n ≡ decide q
-turned_end [] zero q y n h = refl
-turned_end [] (suc i) q y n h = refl
-turned_end (x ∷ ps) zero q y n h = absurd (omega arith)
-turned_end (x ∷ ps) (suc i) q y n h = turned_end ps i q y n (omega arith)
 
 -- a value of an evaluation is a result of the tree
 turned_result : {A : Type 0} (ps : List Taken) (q : Atom) (o p : Evaluation A) (P : A → Type 0) (a : A) (j : ℕ) → (o ≡ value a j → P a) → (p ≡ value a j → P a) → turned ps q o p ≡ value a j → P a
@@ -104,5 +97,23 @@ run_result ps (ask (Atom.truth x) y n) P i a j h e = heard_result (known x (take
 pub gives_first : {A : Type 0} (r : Result Found Stop) (e : Stop) (ps : List Taken) (q : Query Linear) (t : Query A) (f : A → Query Linear) (i : ℕ) → r ≡ Err e → q ≡ next t f → Stops e (along ps t i) → Gives r (along ps q i)
 gives_first r e ps q t f i h k g = rw (h, k) (stops_first e ps t f i g)
 
-pub gives_second : {A B : Type 0} (r : Result Found Stop) (e : Stop) (ps : List Taken) (q : Query Linear) (t : Query A) (u : Query B) (f : A → B → Query Linear) (i j : ℕ) (x : A) → r ≡ Err e → q ≡ next t (λ x. next u (λ y. f x y)) → along ps t i ≡ value x j → Stops e (along ps u j) → Gives r (along ps q i)
-gives_second r e ps q t u f i j x h k a g = rw (h, k) (stops_second e ps t u f i j x a g)
+pub run_same : {A B : Type 0} (ps : List Taken) (q q' : Query A) (f : A → Query B) (i j : ℕ) → along ps q i ≡ along ps q' j → along ps (next q f) i ≡ along ps (next q' f) j
+run_same ps q q' f i j e = run_next ps q f i ∙ ap (λ z. onward z (λ a k. along ps (f a) k)) e ∙ sym (run_next ps q' f j)
+
+pub run_decide : {A B : Type 0} (ps : List Taken) (q : Query A) (f : A → Query B) (i : ℕ) (a : Atom) → along ps q i ≡ decide a → along ps (next q f) i ≡ decide a
+run_decide ps q f i a e = run_next ps q f i ∙ ap (λ z. onward z (λ a k. along ps (f a) k)) e
+
+pub run_large : {A B : Type 0} (ps : List Taken) (q : Query A) (f : A → Query B) (i : ℕ) → along ps q i ≡ Evaluation.bits → along ps (next q f) i ≡ Evaluation.bits
+run_large ps q f i e = run_next ps q f i ∙ ap (λ z. onward z (λ a k. along ps (f a) k)) e
+
+pub stops_valued : (e : Stop) (ps : List Taken) (t t' : Query Linear) (i : ℕ) → t ≡ t' → Stops e (along ps t' i) → Stops e (along ps (valued t) i)
+stops_valued e ps t t' i k h = stops_first e ps t _ i (subst (λ t. Stops e (along ps t i)) (sym k) h)
+
+pub stops_told : (e : Stop) (ps : List Taken) (t t' : Query Bool) (i : ℕ) → t ≡ t' → Stops e (along ps t' i) → Stops e (along ps (told t) i)
+stops_told e ps t t' i k h = stops_first e ps t _ i (subst (λ t. Stops e (along ps t i)) (sym k) h)
+
+pub valued_run : (ps : List Taken) (t : Query Linear) (i j : ℕ) (x : Linear) → along ps t i ≡ value x j → along ps (valued t) i ≡ value (outcomes.Result.number x) j
+valued_run ps t i j x e = run_after ps t _ i j x e ∙ run_done ps _ j
+
+pub told_run : (ps : List Taken) (t : Query Bool) (i j : ℕ) (b : Bool) → along ps t i ≡ value b j → along ps (told t) i ≡ value (outcomes.Result.truth b) j
+told_run ps t i j b e = run_after ps t _ i j b e ∙ run_done ps _ j

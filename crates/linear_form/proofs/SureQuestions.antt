@@ -1,27 +1,21 @@
 -- Trees of questions that surely ask comparisons, and what that says of the end of a path.
-use Rattle.std.proofs.Common.{◌≡◌, ℕ, ◌<◌, List, [], ◌∷◌, ◌++◌, sym, ap, ◌∙◌, subst, arith, Bool, true, false, cond, ◌⊎◌, inl, inr, length, get_or, Bor}
+use Rattle.std.proofs.Common.{◌≡◌, ℕ, List, [], ◌∷◌, ◌++◌, sym, ap, ◌∙◌, subst, arith, Bool, true, false, cond, length}
 use Rattle.std.proofs.lemmas.List.{take_all}
 use Prim.Native.Nat.{zero, suc}
 use Rattle.std.specs.Prelude.{Option, Some, None}
 use Rattle.heylo_formula.specs.Goals.{Goal}
-use Rattle.heylo_formula.specs.PlainTrees.{form_of, cond_of}
+use Rattle.heylo_graph.specs.declared.nodes.Node.{Node}
 use Rattle.linear_form.specs.Query.{Query, Atom, Taken, next, known, unless_known, onto, once}
 use Rattle.linear_form.specs.Query.Query.{done, bits, ask}
-use Rattle.linear_values.specs.Lin.{Linear}
-use Rattle.linear_form.specs.Questions.{evaluate, test, both, questions}
+use Rattle.linear_form.specs.Questions.{questions}
 use Rattle.linear_form.specs.QuestionLaws.{EachResult}
 use Rattle.linear_form.specs.Paths.{walk, end_at}
 use Rattle.linear_form.specs.LastingPaths.{IsNoEnd}
 use Rattle.linear_form.specs.Standings.{Standing}
 use Rattle.linear_form.specs.Places.{IsOn}
-use Rattle.linear_form.specs.internal.Places.{Result, framed, resumed, ended, standing, asked_by, valued}
+use Rattle.linear_form.specs.internal.Evaluations.{left_at, standing}
 use Rattle.linear_form.specs.internal.LastingTrees.{Lasts}
-use Rattle.heylo_formula.specs.declared.forms.Form as F
-use Rattle.heylo_formula.specs.declared.forms.Cond as C
-use Rattle.linear_form.specs.declared.places.Two.{Two}
-use Rattle.linear_form.specs.declared.places.Evaluation.{Evaluation}
-use Rattle.linear_form.specs.declared.places.Frame.{Frame}
-use Rattle.linear_form.specs.declared.places.Frame as W
+use Rattle.linear_form.specs.declared.evaluations.Evaluation.{Evaluation}
 use Rattle.linear_form.proofs.SplitPaths.{walk_nil, walk_append}
 
 pub lasts_bits : (A : Type 0) (k : ℕ) → Lasts {A = A} k bits
@@ -72,41 +66,9 @@ lasts_twice bits f h g = tt
 lasts_twice (ask (Atom.row a strict) y n) f h g = (lasts_later 1 y f g, lasts_later 1 n f g)
 lasts_twice (ask (Atom.truth x) y n) f h g = (lasts_twice y f h.0 g, lasts_twice n f h.1 g)
 
-pub either_lasts : {B : Type 0} (k : ℕ) (q r : Query Linear) (f : Linear → Linear → Query B) → Lasts k q ⊎ Lasts k r → Lasts k (both q r f)
-either_lasts k q r f (inl h) = lasts_first k q _ h
-either_lasts k q r f (inr h) = lasts_later k q _ (λ x. lasts_first k r _ h)
-
 pub chosen_lasts : {B : Type 0} (k : ℕ) (t : Bool) (q r : Query B) → Lasts k q → Lasts k r → Lasts k (cond t q r)
 chosen_lasts k true q r h g = h
 chosen_lasts k false q r h g = g
-
--- ---- Frames
-
-framed_first : (k : ℕ) (q : Query Result) (fs : List Frame) → Lasts k q → Lasts k (framed q fs)
-framed_first k q [] h = h
-framed_first k q (f ∷ fs) h = lasts_first k (framed q fs) (resumed f) (framed_first k q fs h)
-
-pub framed_twice : (q : Query Result) (fs : List Frame) (i : ℕ) (f : Frame) → Lasts 1 q → i < length fs → f ≡ get_or fs i f → ((r : Result) → Lasts 1 (resumed f r)) → Lasts 2 (framed q fs)
-framed_twice q [] i f h l e g = absurd (omega (arith, l))
-framed_twice q (x ∷ fs) zero f h l e g = lasts_twice (framed q fs) (resumed x) (framed_first 1 q fs h) (λ r. subst (λ f. Lasts 1 (resumed f r)) e (g r))
-framed_twice q (x ∷ fs) (suc i) f h l e g = lasts_first 2 (framed q fs) (resumed x) (framed_twice q fs i f h (omega (arith, l)) e g)
-
--- a form that is evaluated once a left value is there
-pub left_lasts : (o : Two) (b : Bor F.Form) → Lasts 1 (evaluate (form_of b.now)) → (r : Result) → Lasts 1 (resumed (W.TheVariants.Left o b) r)
-left_lasts o b h (Result.number x) = lasts_first 1 (valued (evaluate (form_of b.now))) _ (lasts_first 1 (evaluate (form_of b.now)) _ h)
-left_lasts o b h (Result.truth t) = lasts_bits Result 1
-left_lasts o b h (Result.ends e) = lasts_bits Result 1
-
--- forms and conditions one of which is evaluated once a truth is there
-pub select_lasts : (a b : Bor F.Form) → Lasts 1 (evaluate (form_of a.now)) → Lasts 1 (evaluate (form_of b.now)) → (r : Result) → Lasts 1 (resumed (W.TheVariants.Select a b) r)
-select_lasts a b h k (Result.number x) = lasts_bits Result 1
-select_lasts a b h k (Result.truth t) = lasts_first 1 (cond t (evaluate (form_of a.now)) (evaluate (form_of b.now))) _ (chosen_lasts 1 t (evaluate (form_of a.now)) (evaluate (form_of b.now)) h k)
-select_lasts a b h k (Result.ends e) = lasts_bits Result 1
-
-pub choose_lasts : (g h : Bor C.Cond) → Lasts 1 (test (cond_of g.now)) → Lasts 1 (test (cond_of h.now)) → (r : Result) → Lasts 1 (resumed (W.TheVariants.Choose g h) r)
-choose_lasts g h k l (Result.number x) = lasts_bits Result 1
-choose_lasts g h k l (Result.truth t) = lasts_first 1 (cond t (test (cond_of g.now)) (test (cond_of h.now))) _ (chosen_lasts 1 t (test (cond_of g.now)) (test (cond_of h.now)) k l)
-choose_lasts g h k l (Result.ends e) = lasts_bits Result 1
 
 -- ---- A tree that surely asks two comparisons isn't at its end after one answer
 
@@ -142,5 +104,5 @@ no_end g ps t p a h on e end = one_given (once ps p.left) t e (lasts_once 2 ps p
     left : end_at g ps ≡ once ps p.left
     left = subst (λ xs. end_at g xs ≡ once xs p.left) (take_all p.at ps (omega (arith, a))) on.left
 
-pub no_end_here : (g : Goal) (ps : List Taken) (t : Taken) (p : Standing) (e : Evaluation) (count : ℕ) → standing e ≡ p → e.at ≡ count → Lasts 2 (framed (asked_by e.focus) e.frames.items) → length ps ≡ count → IsOn g ps p → IsNoEnd g (ps ++ (t ∷ []))
-no_end_here g ps t p e count s a h l on = no_end g ps t (standing e) (omega (arith, a, l)) (lasts_first 2 (framed (asked_by e.focus) e.frames.items) ended h) (subst (IsOn g ps) (sym s) on)
+pub no_end_here : (g : Goal) (ps : List Taken) (t : Taken) (ns : List Node) (p : Standing) (e : Evaluation) (count : ℕ) → standing ns e ≡ p → e.at ≡ count → Lasts 2 (left_at ns e) → length ps ≡ count → IsOn g ps p → IsNoEnd g (ps ++ (t ∷ []))
+no_end_here g ps t ns p e count s a h l on = no_end g ps t (standing ns e) (omega (arith, a, l)) h (subst (IsOn g ps) (sym s) on)

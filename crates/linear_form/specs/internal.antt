@@ -1,10 +1,13 @@
 pub mod LastingTrees
 pub mod Run
 pub mod EvaluationResults
-pub mod Direct
 pub mod FurtherRows
 pub mod NormalPaths
-pub mod Nodes
-pub mod Places
-pub mod Steps
+pub mod Outcomes
+pub mod NodeQuestions
+pub mod NodeTables
+pub mod Evaluations
+pub mod NodeSteps
+pub mod GoalGraphs
+pub mod EvaluationCopies
 pub mod Codes

@@ -6,36 +6,42 @@ ghost use Rattle.linear_form.specs.AskAnswers.{Answers};
 ghost use Rattle.linear_form.specs.Paths.{IsPath, end_at};
 ghost use Rattle.linear_form.specs.Places.{IsOn};
 ghost use Rattle.linear_form.specs.PlainPaths.{path_of};
+ghost use Rattle.linear_form.specs.declared.questions.Ask.TheVariants.{Bits as BitsAsked};
 
+use crate::evaluations::{Evaluation, Focus, Frame};
+use crate::goal_graph::goal_graph;
+use crate::node_steps::{Step, advance};
 use crate::paths::Taken;
-use crate::places::{Evaluation, Focus, Frame, Place, Reached, Two, copy_place};
+use crate::places::{Place, Reached, copy_place};
 use crate::questions::Ask;
-use crate::steps::{Step, advance};
 use heylo_formula::Goal;
 use std::alloc::{AllocError, Global};
+use std::rc::Rc;
 
 /// The evaluation before the first question: the stated form, and then the found one. Want of memory is the one error.
-pub fn begin<'a>(alloc: Global, goal: &'a Goal) -> Result<Place<'a>, AllocError>
+pub fn begin(alloc: Global, goal: &Goal) -> Result<Place, AllocError>
     ensures { IfOk result (λ p. IsOn (goal_of goal.now) [] p) }
 {
+    let made = goal_graph(alloc, goal)?;
     let mut frames = Vec::new(alloc);
-    frames.push(Frame::Left(Two::Ends, &goal.found))?;
+    frames.push(Frame::Stated(made.found))?;
     let evaluation = Evaluation {
-        focus: Focus::Form(&goal.stated),
+        focus: Focus::Node(made.stated),
         frames,
         at: 0,
     };
-    Ok(Place { evaluation })
+    let graph = Rc::new(alloc, made)?;
+    Ok(Place { graph, evaluation })
 }
 
 /// What stands at the end of a path, evaluated on from a place on it. The place that is reached is the one where the next
-/// question stands, or the beginning where none is left. Want of memory is the one error.
-pub fn go_on<'a>(
+/// question stands, or the end; where numbers are too large it is the beginning. Want of memory is the one error.
+pub fn go_on(
     alloc: Global,
-    goal: &'a Goal,
-    place: &Place<'a>,
+    goal: &Goal,
+    place: &Place,
     path: &[Taken],
-) -> Result<Reached<'a>, AllocError>
+) -> Result<Reached, AllocError>
     requires path { IsPath (goal_of goal.now) (path_of path.now) }
     requires on { IsOn (goal_of goal.now) (path_of path.now) place.now }
     ensures asked { IfOk result (λ r. Answers r.ask (end_at (goal_of goal.now) (path_of path.now))) }
@@ -46,42 +52,51 @@ pub fn go_on<'a>(
 }
 
 /// The same, where the evaluation isn't needed at the first place any more.
-pub fn go_on_from<'a>(
+pub fn go_on_from(
     alloc: Global,
-    goal: &'a Goal,
-    place: Place<'a>,
+    goal: &Goal,
+    place: Place,
     path: &[Taken],
-) -> Result<Reached<'a>, AllocError>
+) -> Result<Reached, AllocError>
     requires path { IsPath (goal_of goal.now) (path_of path.now) }
     requires on { IsOn (goal_of goal.now) (path_of path.now) place }
     ensures asked { IfOk result (λ r. Answers r.ask (end_at (goal_of goal.now) (path_of path.now))) }
     ensures on { IfOk result (λ r. IsOn (goal_of goal.now) (path_of path.now) r.place) }
 {
-    let Place { evaluation } = place;
+    let Place { graph, evaluation } = place;
     let mut now = evaluation;
     'steps: loop {
-        match advance(alloc, &mut now, path)? {
+        match advance(alloc, &graph.graph, &graph.values, &mut now, path)? {
             Step::On => {}
             Step::Asks(atom) => {
-                return Ok(Reached {
-                    ask: Ask::Decide(Box::into_inner(atom)),
-                    place: Place { evaluation: now },
-                });
+                let ask = Ask::Decide(Box::into_inner(atom));
+                let place = Place {
+                    graph,
+                    evaluation: now,
+                };
+                return Ok(Reached { ask, place });
             }
             Step::Ends(stated, found) => {
                 let ask = Ask::End(Box::into_inner(stated), Box::into_inner(found));
-                return ended(alloc, goal, ask);
+                let place = Place {
+                    graph,
+                    evaluation: now,
+                };
+                return Ok(Reached { ask, place });
             }
-            Step::Bits => return ended(alloc, goal, Ask::Bits),
+            Step::Bits => return anew(alloc, goal),
         }
     }
 }
 
-/// Where no question is left, the evaluation stands at the beginning again.
-fn ended<'a>(alloc: Global, goal: &'a Goal, ask: Ask) -> Result<Reached<'a>, AllocError>
-    ensures same { IfOk result (λ r. r.ask ≡ ask) }
+/// Where numbers are too large, the evaluation stands at the beginning again.
+fn anew(alloc: Global, goal: &Goal) -> Result<Reached, AllocError>
+    ensures same { IfOk result (λ r. r.ask ≡ BitsAsked) }
     ensures on { IfOk result (λ r. IsOn (goal_of goal.now) [] r.place) }
 {
     let place = begin(alloc, goal)?;
-    Ok(Reached { ask, place })
+    Ok(Reached {
+        ask: Ask::Bits,
+        place,
+    })
 }

@@ -1,60 +1,64 @@
 //! Evaluations that surely ask a further question.
 
-ghost use Rattle.std.specs.Prelude.{◌≡◌, ◌++◌, ◌∷◌, [], List, length, Some, IsTrue};
+ghost use Rattle.std.specs.Prelude.{◌≡◌, ◌++◌, ◌∷◌, [], Bool, List, length, IsTrue};
 ghost use Rattle.heylo_formula.specs.Goals.{Goal as PlainGoal};
-ghost use Rattle.heylo_formula.specs.PlainTrees.{form_of, cond_of};
-ghost use Rattle.linear_form.specs.Query.{Query, Taken as PlainTaken};
-ghost use Rattle.linear_form.specs.Questions.{evaluate, test};
+ghost use Rattle.heylo_graph.specs.declared.nodes.Node.{Node as NodeValue};
+ghost use Rattle.linear_values.specs.Kept.{IsKept, IsKeptValue};
+ghost use Rattle.linear_values.specs.Lin.{AreNormal, minus as lin_minus};
+ghost use Rattle.linear_values.specs.PlainValues.{lin_of, linear_of};
 ghost use Rattle.linear_form.specs.LastingPaths.{IsNoEnd};
-ghost use Rattle.linear_values.specs.Lin.{AreNormal};
 ghost use Rattle.linear_form.specs.Paths.{IsPath};
 ghost use Rattle.linear_form.specs.Places.{IsOn};
-ghost use Rattle.linear_values.specs.PlainValues.{lin_of, linear_of};
+ghost use Rattle.linear_form.specs.Query.{Query, Taken as PlainTaken};
+ghost use Rattle.linear_form.specs.Questions.{is_below};
+ghost use Rattle.linear_form.specs.internal.Evaluations.{asked_by, framed, left_at, resumed, IsKeptFocus};
 ghost use Rattle.linear_form.specs.internal.LastingTrees.{Lasts, BeginsBefore};
-ghost use Rattle.linear_form.specs.internal.Nodes.{comparison};
-ghost use Rattle.linear_form.specs.internal.Places.{Result as Outcome, asked_by, framed, resumed, IsKeptFocus};
-ghost use Rattle.linear_values.specs.Kept.{IsKept, IsKeptValue};
-ghost use Rattle.linear_form.specs.declared.nodes.Comparison.{Comparison};
+ghost use Rattle.linear_form.specs.internal.NodeQuestions.{operation};
+ghost use Rattle.linear_form.specs.internal.NodeTables.{AreAsking, Compares};
+ghost use Rattle.linear_form.specs.internal.Outcomes.{Result as Outcome};
+ghost use Rattle.linear_form.specs.declared.kinds.Operation.{Operation};
 
-use crate::places::{Focus, Frame, Place, Two};
-use crate::slopes::differ;
-use heylo_formula::{Cond, Form};
+use crate::asking_nodes::{compares, is_asking};
+use crate::evaluations::{Evaluation, Focus, Frame};
+use crate::places::Place;
 use heyvl_num::Frac;
 use linear_values::Lin;
 
 /// Whether the evaluation stands behind as many answers, and surely asks twice from there on: so it isn't at its end once its
 /// question is answered. It may be told no of any evaluation.
-pub fn asks_on(place: &Place<'_>, count: usize) -> bool
+pub fn asks_on(place: &Place, count: usize) -> bool
     ensures { (g : PlainGoal) (ps : List PlainTaken) (t : PlainTaken) → IsTrue result → length ps ≡ count → IsOn g ps place.now → IsPath g (ps ++ (t ∷ [])) → IsNoEnd g (ps ++ (t ∷ [])) }
 {
     let evaluation = &place.evaluation;
     if evaluation.at == count {
-        focus_asks(&evaluation.focus) && frames_ask(&evaluation.frames)
+        asks_twice(&place.graph.asking, evaluation)
     } else {
         false
     }
 }
 
+/// Whether the evaluation surely asks twice, by the table of the nodes that ask. It may be told no of any.
+fn asks_twice(table: &[bool], place: &Evaluation) -> bool
+    ensures { (ns : List NodeValue) → AreAsking ns table.now → IsTrue result → IsKeptFocus place.now.focus → Lasts 2 (left_at ns place.now) }
+{
+    focus_asks(table, &place.focus) && frames_ask(table, &place.frames)
+}
+
 /// Whether what is evaluated next surely asks a comparison.
-fn focus_asks(focus: &Focus<'_>) -> bool
-    ensures { IsTrue result → IsKeptFocus focus.now → Lasts 1 (asked_by focus.now) }
+fn focus_asks(table: &[bool], focus: &Focus) -> bool
+    ensures { (ns : List NodeValue) → AreAsking ns table.now → IsTrue result → IsKeptFocus focus.now → Lasts 1 (asked_by ns focus.now) }
 {
     match focus {
-        Focus::Form(form) => form_asks(form),
-        Focus::Cond(cond) => cond_asks(cond),
+        Focus::Node(id) => is_asking(table, *id),
         Focus::Truth(_) => false,
-        Focus::One(_, _) => false,
-        Focus::Two(operator, x, y) => match *operator {
-            Two::Test(_) => values_differ(x, y),
-            Two::Value(_) => false,
-            Two::Ends => false,
-        },
+        Focus::Operator(operator, x, y) => compares(*operator) && values_differ(x, y),
+        Focus::Ends(_, _) => false,
     }
 }
 
 /// Whether two values surely differ in a variable, so that a comparison of them is asked.
 fn values_differ(x: &Option<Lin>, y: &Option<Lin>) -> bool
-    ensures { IsTrue result → IsKeptValue (linear_of x.now) → IsKeptValue (linear_of y.now) → (o : Comparison) → Lasts 1 (comparison o (linear_of x.now) (linear_of y.now)) }
+    ensures { IsTrue result → IsKeptValue (linear_of x.now) → IsKeptValue (linear_of y.now) → (o : Operation) → Compares o → Lasts 1 (operation o (linear_of x.now) (linear_of y.now)) }
 {
     match x {
         None => false,
@@ -67,7 +71,7 @@ fn values_differ(x: &Option<Lin>, y: &Option<Lin>) -> bool
 
 /// Whether the first variables of two values differ, or only one of them has a variable.
 fn first_differ(a: &Lin, b: &Lin) -> bool
-    ensures { IsTrue result → IsKept (lin_of a.now) → IsKept (lin_of b.now) → (o : Comparison) → Lasts 1 (comparison o (Some (lin_of a.now)) (Some (lin_of b.now))) }
+    ensures { IsTrue result → IsKept (lin_of a.now) → IsKept (lin_of b.now) → (strict : Bool) → Lasts 1 (is_below (lin_minus (lin_of a.now) (lin_of b.now)) strict) }
 {
     begins_before(&a.terms, &b.terms) || begins_before(&b.terms, &a.terms)
 }
@@ -86,11 +90,11 @@ fn begins_before(a: &[(u32, Frac)], b: &[(u32, Frac)]) -> bool
 }
 
 /// Whether a frame surely asks a comparison once its outcome is there.
-fn frames_ask(frames: &[Frame<'_>]) -> bool
-    ensures { IsTrue result → (q : Query Outcome) → Lasts 1 q → Lasts 2 (framed q frames.now) }
+fn frames_ask(table: &[bool], frames: &[Frame]) -> bool
+    ensures { (ns : List NodeValue) → AreAsking ns table.now → IsTrue result → (q : Query Outcome) → Lasts 1 q → Lasts 2 (framed ns q frames.now) }
 {
     for passed in 0..frames.len() {
-        if frame_asks(&frames[frames.len() - 1 - passed]) {
+        if frame_asks(table, &frames[frames.len() - 1 - passed]) {
             return true;
         }
     }
@@ -98,60 +102,22 @@ fn frames_ask(frames: &[Frame<'_>]) -> bool
 }
 
 /// Whether a comparison is surely asked once the frame gets the outcome that it waits for.
-fn frame_asks(frame: &Frame<'_>) -> bool
-    ensures { IsTrue result → (r : Outcome) → Lasts 1 (resumed frame.now r) }
+fn frame_asks(table: &[bool], frame: &Frame) -> bool
+    ensures { (ns : List NodeValue) → AreAsking ns table.now → IsTrue result → (r : Outcome) → Lasts 1 (resumed ns frame.now r) }
 {
     match frame {
-        Frame::Left(_, b) => form_asks(b),
-        Frame::Right(_, _) => false,
-        Frame::One(_) => false,
-        Frame::OfTruth(_) => false,
-        Frame::Select(a, b) => form_asks(a) && form_asks(b),
+        Frame::First(_, b) => is_asking(table, *b),
+        Frame::Either(a, b) => is_asking(table, *a) && is_asking(table, *b),
+        Frame::Stated(id) => is_asking(table, *id),
+        Frame::Second(_, _) => false,
+        Frame::Only(_) => false,
+        Frame::Embed => false,
+        Frame::Iverson => false,
         Frame::Not => false,
-        Frame::First(_, _) => false,
+        Frame::And(_) => false,
+        Frame::Or(_) => false,
         Frame::Same(_) => false,
-        Frame::Choose(g, h) => cond_asks(g) && cond_asks(h),
-    }
-}
-
-/// Whether each evaluation of the form asks a comparison.
-#[cycle(asking)]
-fn form_asks(form: &Form) -> bool
-    ensures { IsTrue result → Lasts 1 (evaluate (form_of form.now)) }
-{
-    match form {
-        Form::Const(_) | Form::Var(_) | Form::Bind(_, _, _, _, _) => false,
-        Form::Sum(a, b)
-        | Form::Diff(a, b)
-        | Form::Cut(a, b)
-        | Form::Product(a, b, _)
-        | Form::Min(a, b)
-        | Form::Max(a, b)
-        | Form::Imply(a, b)
-        | Form::CoImply(a, b) => form_asks(a) || form_asks(b),
-        Form::Scale(_, a) | Form::Validate(a) | Form::CoValidate(a) => form_asks(a),
-        Form::Embed(g) | Form::Iverson(g) => cond_asks(g),
-        Form::Select(g, a, b) => cond_asks(g) || (form_asks(a) && form_asks(b)),
-    }
-}
-
-/// Whether each evaluation of the condition asks a comparison.
-#[cycle(asking)]
-fn cond_asks(cond: &Cond) -> bool
-    ensures { IsTrue result → Lasts 1 (test (cond_of cond.now)) }
-{
-    match cond {
-        Cond::Const(_) | Cond::Var(_) => false,
-        Cond::Not(g) => cond_asks(g),
-        Cond::And(g, _) | Cond::Or(g, _) => cond_asks(g),
-        Cond::Same(g, h) => cond_asks(g) || cond_asks(h),
-        Cond::Le(a, b) | Cond::Lt(a, b) | Cond::EqNum(a, b) => {
-            if differ(a, b) {
-                true
-            } else {
-                form_asks(a) || form_asks(b)
-            }
-        }
-        Cond::Ite(g, h, k) => cond_asks(g) || (cond_asks(h) && cond_asks(k)),
+        Frame::Agree(_) => false,
+        Frame::Found(_) => false,
     }
 }

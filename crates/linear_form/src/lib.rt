@@ -1,16 +1,20 @@
 //! Linear questions of a goal along a path, and the rows of a path.
 #![tactic(auto)]
 
+mod asking_nodes;
 mod claim_laws;
 mod continuations;
 mod cursor;
-mod direct;
+mod evaluations;
 mod further_questions;
 mod further_rows;
+mod goal_graph;
 mod goal_products;
 mod growing_rows;
+mod kinds;
 mod known_truths;
-mod nodes;
+mod node_steps;
+mod operations;
 mod operators;
 mod path_ends;
 mod path_laws;
@@ -19,14 +23,13 @@ mod paths;
 mod place_laws;
 mod places;
 mod plain_ends;
+mod plain_values;
 mod point_laws;
 mod question_laws;
 mod questions;
 mod row_list_laws;
 mod signs;
-mod slopes;
 mod splits;
-mod steps;
 
 pub use claim_laws::{paths_claim_truths, paths_rows_are_met};
 pub use continuations::{begin, go_on, go_on_from};

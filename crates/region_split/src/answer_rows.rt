@@ -81,7 +81,7 @@ fn row_of_answer(
 pub fn rows_of_answers(
     alloc: Global,
     goal: &Goal,
-    trail: &mut Trail<'_>,
+    trail: &mut Trail,
     atom: Atom,
 ) -> Result<Both, AllocError>
     requires path { IsPath (goal_of goal.now) (path_of trail.old.path.items) }
@@ -101,7 +101,7 @@ pub fn rows_of_answers(
 fn with_no(
     alloc: Global,
     goal: &Goal,
-    trail: &mut Trail<'_>,
+    trail: &mut Trail,
     atom: Atom,
     yes: Row,
 ) -> Result<Both, AllocError>

@@ -27,7 +27,7 @@ pub enum Up {
 /// the left. Want of memory is the one error.
 pub fn climb(
     alloc: Global,
-    trail: &mut Trail<'_>,
+    trail: &mut Trail,
     trees: &mut Vec<Option<Tree>>,
     mut tree: Option<Tree>,
 ) -> Result<Up, AllocError>

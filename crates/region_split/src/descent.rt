@@ -21,13 +21,13 @@ use std::alloc::{AllocError, Global};
 
 /// Goes on from a question, which this evaluation asks: to the branch of yes. Where the path has answered the question before, one
 /// branch is done, and the walk goes past the front of the other one.
-pub fn deeper<'a>(
+pub fn deeper(
     alloc: Global,
-    goal: &'a Goal,
-    walk: &mut Walk<'a>,
+    goal: &Goal,
+    walk: &mut Walk,
     atom: Atom,
-    place: Place<'a>,
-) -> Result<Step<'a>, AllocError>
+    place: Place,
+) -> Result<Step, AllocError>
     requires typed { IsTypedGoal (goal_of goal.now) }
     requires short { AreShort (goal_of goal.now) }
     requires linear { nonlinear_product (goal_of goal.now) ≡ None }
@@ -54,12 +54,7 @@ pub fn deeper<'a>(
 }
 
 /// Goes past a front that is kept, on whose path this evaluation stands.
-fn past<'a>(
-    alloc: Global,
-    goal: &'a Goal,
-    walk: &mut Walk<'a>,
-    place: Place<'a>,
-) -> Result<Step<'a>, AllocError>
+fn past(alloc: Global, goal: &Goal, walk: &mut Walk, place: Place) -> Result<Step, AllocError>
     requires typed { IsTypedGoal (goal_of goal.now) }
     requires short { AreShort (goal_of goal.now) }
     requires linear { nonlinear_product (goal_of goal.now) ≡ None }

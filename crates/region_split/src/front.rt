@@ -45,11 +45,11 @@ pub struct End {
 
 /// What stands at a path of the walk.
 #[derive(Drop)]
-pub enum Front<'a> {
+pub enum Front {
     /// No fractions meet the path's rows: multipliers by row index, which a certificate takes here.
     Dropped(Vec<(u32, u64)>),
     /// The next question, and the evaluation that asks it.
-    Question(Atom, Place<'a>),
+    Question(Atom, Place),
     /// No question is left.
     End(End),
     /// There are too many rows, or a number is too great.
@@ -57,11 +57,7 @@ pub enum Front<'a> {
 }
 
 /// What stands at the path that a trail comes to. The trail stands there then. Want of memory is the one error.
-pub fn look<'a>(
-    alloc: Global,
-    goal: &'a Goal,
-    trail: &mut Trail<'a>,
-) -> Result<Front<'a>, AllocError>
+pub fn look(alloc: Global, goal: &Goal, trail: &mut Trail) -> Result<Front, AllocError>
     requires path { IsPath (goal_of goal.now) (path_of trail.old.path.items) }
     requires typed { IsTypedGoal (goal_of goal.now) }
     requires short { length trail.old.path.items + 1 + length goal.now.vars.items < 2 ^ 32 }
@@ -107,11 +103,7 @@ fn with_last_row(
 }
 
 /// What stands at the path at which a trail stands. Want of memory is the one error.
-fn look_there<'a>(
-    alloc: Global,
-    goal: &'a Goal,
-    trail: &mut Trail<'a>,
-) -> Result<Front<'a>, AllocError>
+fn look_there(alloc: Global, goal: &Goal, trail: &mut Trail) -> Result<Front, AllocError>
     requires path { IsPath (goal_of goal.now) (path_of trail.old.path.items) }
     requires typed { IsTypedGoal (goal_of goal.now) }
     requires short { length trail.old.path.items + 1 + length goal.now.vars.items < 2 ^ 32 }
@@ -141,7 +133,7 @@ fn look_there<'a>(
 }
 
 /// The evaluation that asked the last question, where it is kept.
-fn last_place<'b, 'a>(places: &'b [Way<'a>]) -> Option<&'b Place<'a>>
+fn last_place(places: &[Way]) -> Option<&Place>
     ensures on { (g : PlainGoal) (ps : List PlainTaken) → ArePlaces g ps places.now → IfSome result (λ p. IsOn g ps p.now) }
     ensures asked { (g : PlainGoal) (ps : List PlainTaken) (t : PlainTaken) → ArePlaces g (ps ++ (t ∷ [])) places.now → IfSome result (λ p. IsOn g ps p.now) }
 {
@@ -152,7 +144,7 @@ fn last_place<'b, 'a>(places: &'b [Way<'a>]) -> Option<&'b Place<'a>>
 }
 
 /// The evaluation, where it is kept.
-fn open_place<'b, 'a>(way: &'b Way<'a>) -> Option<&'b Place<'a>>
+fn open_place(way: &Way) -> Option<&Place>
     ensures { IfSome result (λ p. way.now ≡ Open p.now) }
 {
     match way {
@@ -162,12 +154,12 @@ fn open_place<'b, 'a>(way: &'b Way<'a>) -> Option<&'b Place<'a>>
 }
 
 /// What stands at the end of a path, evaluated on from the last one of these places. Want of memory is the one error.
-fn reached<'a>(
+fn reached(
     alloc: Global,
-    goal: &'a Goal,
+    goal: &Goal,
     path: &[Taken],
-    places: &[Way<'a>],
-) -> Result<Reached<'a>, AllocError>
+    places: &[Way],
+) -> Result<Reached, AllocError>
     requires path { IsPath (goal_of goal.now) (path_of path.now) }
     requires places { ArePlaces (goal_of goal.now) (path_of path.now) places.now }
     ensures asked { IfOk result (λ r. Answers r.ask (end_at (goal_of goal.now) (path_of path.now))) }
@@ -183,7 +175,7 @@ fn reached<'a>(
 }
 
 /// What stands at a path whose rows are solvable.
-fn kept<'a>(alloc: Global, goal: &'a Goal, trail: &Trail<'a>) -> Result<Front<'a>, AllocError>
+fn kept(alloc: Global, goal: &Goal, trail: &Trail) -> Result<Front, AllocError>
     requires path { IsPath (goal_of goal.now) (path_of trail.now.path.items) }
     requires stands { Stands (goal_of goal.now) trail.now }
     ensures { IsKeptPath (goal_of goal.now) (path_of trail.now.path.items) → IfOk result (λ f. IsSeen (goal_of goal.now) (path_of trail.now.path.items) trail.now f) }
@@ -209,7 +201,7 @@ pub fn end_of(goal: &Goal, stated: Option<Lin>, found: Option<Lin>) -> End
 }
 
 /// Whether the last one of these places surely asks on, so that a question stands at the end of the path, or a number is too large.
-fn surely_lasts(path: &[Taken], places: &[Way<'_>]) -> bool
+fn surely_lasts(path: &[Taken], places: &[Way]) -> bool
     ensures { (g : PlainGoal) → IsTrue result → IsPath g (path_of path.now) → ArePlaces g (path_of path.now) places.now → IsNoEnd g (path_of path.now) }
 {
     match path.split_last() {
@@ -223,13 +215,13 @@ fn surely_lasts(path: &[Taken], places: &[Way<'_>]) -> bool
 
 /// The multipliers that a certificate takes at a path whose rows these multipliers refute. At an end at which the goal doesn't
 /// hold plainly a certificate speaks of the rows with the denied goal, which stands before the rows of signs.
-fn dropped<'a>(
+fn dropped(
     alloc: Global,
-    goal: &'a Goal,
-    trail: &mut Trail<'a>,
+    goal: &Goal,
+    trail: &mut Trail,
     signs: &[Row],
     multipliers: Vec<(u32, u64)>,
-) -> Result<Front<'a>, AllocError>
+) -> Result<Front, AllocError>
     requires path { IsPath (goal_of goal.now) (path_of trail.old.path.items) }
     requires short { length trail.old.path.items + 1 + length goal.now.vars.items < 2 ^ 32 }
     requires stands { Stands (goal_of goal.now) trail.old }
@@ -256,15 +248,15 @@ fn dropped<'a>(
 
 /// The multipliers that a certificate takes at a dropped end at which the goal doesn't hold plainly: those of the rows without the
 /// denied goal, with the indexes that the rows have once it is among them. There are none where the denied goal can't be stated.
-fn dropped_end<'a>(
+fn dropped_end(
     alloc: Global,
     goal: &Goal,
-    trail: &mut Trail<'a>,
+    trail: &mut Trail,
     stated: &Option<Lin>,
     found: &Option<Lin>,
     signs: &[Row],
     multipliers: &[(u32, u64)],
-) -> Result<Front<'a>, AllocError>
+) -> Result<Front, AllocError>
     requires path { IsPath (goal_of goal.now) (path_of trail.old.path.items) }
     requires short { length trail.old.path.items + 1 + length goal.now.vars.items < 2 ^ 32 }
     requires stands { Stands (goal_of goal.now) trail.old }

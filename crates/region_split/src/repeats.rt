@@ -41,9 +41,9 @@ pub enum Repeat {
 pub fn repeated(
     alloc: Global,
     goal: &Goal,
-    trail: &mut Trail<'_>,
+    trail: &mut Trail,
     atom: Atom,
-    place: &Place<'_>,
+    place: &Place,
 ) -> Result<Repeat, AllocError>
     requires path { IsPath (goal_of goal.now) (path_of trail.old.path.items) }
     requires short { length trail.old.path.items + 1 + length goal.now.vars.items < 2 ^ 32 }
@@ -78,7 +78,7 @@ pub fn repeated(
 /// Goes on by the answer that the path has given to the question before.
 fn again(
     alloc: Global,
-    trail: &mut Trail<'_>,
+    trail: &mut Trail,
     atom: Atom,
     recalled: Recalled,
 ) -> Result<Repeat, AllocError>
@@ -97,7 +97,7 @@ fn again(
 /// Whether one of the answers' rows stands on the path, so that it clashes with the other one.
 fn compared(
     alloc: Global,
-    trail: &mut Trail<'_>,
+    trail: &mut Trail,
     atom: Atom,
     rows: AnswerRows,
 ) -> Result<Repeat, AllocError>
@@ -120,7 +120,7 @@ fn compared(
 /// Notes what is known of the question.
 fn noted(
     alloc: Global,
-    trail: &mut Trail<'_>,
+    trail: &mut Trail,
     atom: Atom,
     rows: AnswerRows,
 ) -> Result<Repeat, AllocError>
@@ -139,7 +139,7 @@ fn noted(
 /// Goes on by yes, whose row stands on the path at this index.
 fn answered_yes(
     alloc: Global,
-    trail: &mut Trail<'_>,
+    trail: &mut Trail,
     atom: Atom,
     yes: Row,
     at: usize,
@@ -158,7 +158,7 @@ fn answered_yes(
 /// Goes on by no, whose row stands on the path at this index.
 fn answered_no(
     alloc: Global,
-    trail: &mut Trail<'_>,
+    trail: &mut Trail,
     atom: Atom,
     no: Row,
     at: usize,

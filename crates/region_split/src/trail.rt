@@ -19,9 +19,9 @@ use std::alloc::{AllocError, Global};
 
 /// What is kept of an answered question.
 #[derive(Drop)]
-pub enum Way<'a> {
+pub enum Way {
     /// The evaluation that asked it.
-    Open(Place<'a>),
+    Open(Place),
     /// The path had answered it before, so the walk doesn't visit the other answer. Where this one is yes, these are the
     /// multipliers that a certificate takes at the other one.
     Closed(Vec<(u32, u64)>),
@@ -29,11 +29,11 @@ pub enum Way<'a> {
 
 /// The path of a walk, and what is kept along it.
 #[derive(Drop)]
-pub struct Trail<'a> {
+pub struct Trail {
     /// The questions that are answered.
     pub path: Vec<Taken>,
     /// The evaluation before the first question, and then what is kept of each answered question.
-    pub places: Vec<Way<'a>>,
+    pub places: Vec<Way>,
     /// The rows of the answers, in order.
     pub rows: Vec<Row>,
     /// The comparisons that the path hadn't answered before, in order. The last one may be the next question.
@@ -45,10 +45,10 @@ pub struct Trail<'a> {
 }
 
 /// The trail before the first question. Want of memory is the one error.
-pub fn start<'a>(alloc: Global, goal: &'a Goal) -> Result<Trail<'a>, AllocError>
+pub fn start(alloc: Global, goal: &Goal) -> Result<Trail, AllocError>
     ensures { IfOk result (λ t. Comes (goal_of goal.now) t × (path_of t.path.items ≡ [])) }
 {
-    let mut places: Vec<Way<'a>> = Vec::new(alloc);
+    let mut places: Vec<Way> = Vec::new(alloc);
     places.push(Way::Open(begin(alloc, goal)?))?;
     Ok(Trail {
         path: Vec::new(alloc),
@@ -61,8 +61,8 @@ pub fn start<'a>(alloc: Global, goal: &'a Goal) -> Result<Trail<'a>, AllocError>
 }
 
 /// Takes an answer to a question, of which this is kept, onto the trail. The answer has no row yet. Want of memory is the one error.
-pub fn onward<'a>(trail: &mut Trail<'a>, answer: Taken, way: Way<'a>) -> Result<(), AllocError>
-    ensures { (g : PlainGoal) → Stands g trail.old → IsWay g (path_of trail.old.path.items) (taken_of answer) way.entry → IfOk result (λ _. ComesBy g trail.old answer trail.new) }
+pub fn onward(trail: &mut Trail, answer: Taken, way: Way) -> Result<(), AllocError>
+    ensures { (g : PlainGoal) → Stands g trail.old → IsWay g (path_of trail.old.path.items) (taken_of answer) way → IfOk result (λ _. ComesBy g trail.old answer trail.new) }
 {
     trail.path.push(answer)?;
     trail.places.push(way)?;
@@ -70,13 +70,8 @@ pub fn onward<'a>(trail: &mut Trail<'a>, answer: Taken, way: Way<'a>) -> Result<
 }
 
 /// Takes an answer to a question, of which this is kept, onto the trail, and the answer's row. Want of memory is the one error.
-pub fn further<'a>(
-    trail: &mut Trail<'a>,
-    answer: Taken,
-    way: Way<'a>,
-    row: Row,
-) -> Result<(), AllocError>
-    ensures { (g : PlainGoal) (ps : List PlainTaken) → Stands g trail.old → ps ≡ path_of trail.old.path.items ++ (taken_of answer ∷ []) → IsWay g (path_of trail.old.path.items) (taken_of answer) way.entry → ArePathRows g ps (trail.old.rows.items ++ (row ∷ [])) → IfOk result (λ _. StandsAt g ps trail.new) }
+pub fn further(trail: &mut Trail, answer: Taken, way: Way, row: Row) -> Result<(), AllocError>
+    ensures { (g : PlainGoal) (ps : List PlainTaken) → Stands g trail.old → ps ≡ path_of trail.old.path.items ++ (taken_of answer ∷ []) → IsWay g (path_of trail.old.path.items) (taken_of answer) way → ArePathRows g ps (trail.old.rows.items ++ (row ∷ [])) → IfOk result (λ _. StandsAt g ps trail.new) }
 {
     let count = trail.rows.len();
     trail.path.push(answer)?;
@@ -87,7 +82,7 @@ pub fn further<'a>(
 }
 
 /// Notes on the trail what is known of its next question. Want of memory is the one error.
-pub fn note(trail: &mut Trail<'_>, known: Known) -> Result<(), AllocError>
+pub fn note(trail: &mut Trail, known: Known) -> Result<(), AllocError>
     ensures { (g : PlainGoal) → Stands g trail.old → IsKnownQuestion g.types known → IfOk result (λ _. StandsAt g (path_of trail.old.path.items) trail.new) }
 {
     forget(&mut trail.visited, known.index);
@@ -133,7 +128,7 @@ fn row_count(atom: &Atom) -> usize
 }
 
 /// Takes off the last answer, with its row, and forgets what was found of it. Gives the answer and what was kept of its question.
-pub fn back<'a>(trail: &mut Trail<'a>) -> Option<(Taken, Way<'a>)>
+pub fn back(trail: &mut Trail) -> Option<(Taken, Way)>
     ensures back { (g : PlainGoal) → Stands g trail.old → IsBack g trail.old trail.new result }
     ensures shorter { IfSome result (λ _. length trail.new.path.items < length trail.old.path.items) }
 {

@@ -28,8 +28,8 @@ const MOST_CELLS: u32 = 4096;
 /// Where a walk stands: its trail, the trees of the finished branches to its left, how many cells there were before, and what
 /// they have shown.
 #[derive(Drop)]
-pub struct Walk<'a> {
-    pub trail: Trail<'a>,
+pub struct Walk {
+    pub trail: Trail,
     pub trees: Vec<Option<Tree>>,
     pub count: u32,
     pub found: Found,
@@ -37,11 +37,11 @@ pub struct Walk<'a> {
 
 /// What one path comes to.
 #[derive(Drop)]
-pub enum Step<'a> {
+pub enum Step {
     /// The walk goes on: it comes to a front.
     On,
     /// The walk goes on: it stands at a front that is kept, with its question and the evaluation that asks it.
-    Asks(Atom, Place<'a>),
+    Asks(Atom, Place),
     /// The goal is decided.
     Done(Decision),
 }
@@ -70,7 +70,7 @@ pub fn walked(alloc: Global, goal: &Goal) -> Result<Decision, AllocError>
 }
 
 /// Looks at the front that the walk comes to, and goes on to the next one.
-fn visit<'a>(alloc: Global, goal: &'a Goal, walk: &mut Walk<'a>) -> Result<Step<'a>, AllocError>
+fn visit(alloc: Global, goal: &Goal, walk: &mut Walk) -> Result<Step, AllocError>
     requires typed { IsTypedGoal (goal_of goal.now) }
     requires short { AreShort (goal_of goal.now) }
     requires linear { nonlinear_product (goal_of goal.now) ≡ None }
@@ -89,12 +89,7 @@ fn visit<'a>(alloc: Global, goal: &'a Goal, walk: &mut Walk<'a>) -> Result<Step<
 }
 
 /// Counts a cell and looks at it.
-pub fn end<'a>(
-    alloc: Global,
-    goal: &'a Goal,
-    walk: &mut Walk<'a>,
-    ends: End,
-) -> Result<Step<'a>, AllocError>
+pub fn end(alloc: Global, goal: &Goal, walk: &mut Walk, ends: End) -> Result<Step, AllocError>
     requires typed { IsTypedGoal (goal_of goal.now) }
     requires short { AreShort (goal_of goal.now) }
     requires linear { nonlinear_product (goal_of goal.now) ≡ None }
@@ -114,12 +109,7 @@ pub fn end<'a>(
 }
 
 /// Looks at a cell that isn't plain.
-fn denied_end<'a>(
-    alloc: Global,
-    goal: &'a Goal,
-    walk: &mut Walk<'a>,
-    ends: End,
-) -> Result<Step<'a>, AllocError>
+fn denied_end(alloc: Global, goal: &Goal, walk: &mut Walk, ends: End) -> Result<Step, AllocError>
     requires typed { IsTypedGoal (goal_of goal.now) }
     requires short { AreShort (goal_of goal.now) }
     requires linear { nonlinear_product (goal_of goal.now) ≡ None }
@@ -159,11 +149,7 @@ fn denied_end<'a>(
 }
 
 /// Goes up from a finished path, whose tree this is, and on to the next one.
-fn finish<'a>(
-    alloc: Global,
-    walk: &mut Walk<'a>,
-    tree: Option<Tree>,
-) -> Result<Step<'a>, AllocError>
+fn finish(alloc: Global, walk: &mut Walk, tree: Option<Tree>) -> Result<Step, AllocError>
     ensures { (g : PlainGoal) → nonlinear_product g ≡ None → IsFinishedWalk g walk.old tree → IfOk result (λ s. IsStep g (path_of walk.old.trail.path.items) walk.new s) }
 {
     match climb(alloc, &mut walk.trail, &mut walk.trees, tree)? {

@@ -1,12 +1,9 @@
--- Trees of questions that surely ask so many comparisons, and how linear values change in a variable.
+-- Trees of questions that surely ask so many comparisons, and terms that begin before others.
 use Prim.Native.Nat.{zero, suc}
-use Rattle.std.specs.Prelude.{◌≡◌, ℕ, ◌∷◌, Some, None}
-use Rattle.heyvl_num.specs.Rational.{Rational, zeroʳ, oneʳ, ◌-ʳ◌, ◌<ʳ◌}
-use Rattle.heylo_formula.specs.State.{Env, put}
-use Rattle.heylo_formula.specs.declared.values.Val.TheVariants.{Num}
+use Rattle.std.specs.Prelude.{◌≡◌, ℕ, ◌∷◌}
+use Rattle.heyvl_num.specs.Rational.{Rational}
 use Rattle.linear_form.specs.Query.{Query, Atom}
-use Rattle.linear_values.specs.Lin.{Lin, Terms, IsAbove, at, Linear}
-use Rattle.linear_form.specs.declared.slopes.Slope.{Slope}
+use Rattle.linear_values.specs.Lin.{Terms, IsAbove}
 
 -- Each way to a result passes at least so many comparisons. The truth of a Boolean may be known already, and doesn't count.
 unfoldable pub Lasts : {A : Type 0} → ℕ → Query A → Type 0
@@ -15,26 +12,6 @@ Lasts (suc k) (Query.done a) = ⊥
 Lasts (suc k) Query.bits = Unit {0}
 Lasts (suc k) (Query.ask (Atom.row a strict) y n) = Lasts k y × Lasts k n
 Lasts (suc k) (Query.ask (Atom.truth x) y n) = Lasts (suc k) y × Lasts (suc k) n
-
--- Each variable is 0.
-abbrev pub all_zero : Env
-all_zero y = Num zeroʳ
-
--- How much a linear value grows where the variable goes from 0 to 1 while all others are 0: the variable's coefficient.
-unfoldable pub growth : ℕ → Lin → Rational
-growth x a = at a (put x (Num oneʳ) all_zero) -ʳ at a all_zero
-
--- How a number is called that says how much a value grows.
-abbrev pub IsSlope : Slope → Rational → Type 0
-IsSlope Slope.Level r = r ≡ zeroʳ
-IsSlope Slope.Rising r = zeroʳ <ʳ r
-IsSlope Slope.Falling r = r <ʳ zeroʳ
-IsSlope Slope.Unknown r = Unit {0}
-
--- How a value changes in a variable. Of infinity only what holds of any number is said.
-abbrev pub HasSlope : Slope → ℕ → Linear → Type 0
-HasSlope s x (Some a) = IsSlope s (growth x a)
-HasSlope s x None = (r : Rational) → IsSlope s r
 
 -- The first variable of the one list of terms comes before all of the other.
 pub record BeginsBefore (ts us : Terms) : Type 0 where

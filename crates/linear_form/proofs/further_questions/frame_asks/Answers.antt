@@ -1,14 +1,12 @@
-use Rattle.std.proofs.Common.{sym, subst}
-use Rattle.linear_form.specs.internal.LastingTrees.{Lasts}
-use Rattle.linear_form.specs.internal.Places.{resumed}
-use Rattle.linear_form.proofs.SureQuestions.{left_lasts, select_lasts, choose_lasts}
+use Rattle.linear_form.proofs.NodesThatAsk.{second_follows, either_follows}
+use Rattle.linear_form.proofs.FramesThatAsk.{frame_known, stated_follows}
 use Rattle.linear_form.proofs.further_questions.frame_asks.Goals as goal
 
-pub returns-in-Left : goal.returns-in-Left
-returns-in-Left c h r = subst (λ f. Lasts 1 (resumed f r)) (sym c.in-Left.is) (left_lasts c.in-Left.field-0 c.in-Left.b (c.form_asks.ensures h) r)
+pub returns-in-First : goal.returns-in-First
+returns-in-First c ns t h r = frame_known ns c.args.frame.now _ c.in-First.is (second_follows ns c.in-First.field-0 c.in-First.b (c.is_asking.ensures ns t h)) r
 
-pub returns-then-form_asks : goal.returns-then-form_asks
-returns-then-form_asks c h r = subst (λ f. Lasts 1 (resumed f r)) (sym c.in-Select.is) (select_lasts c.in-Select.a c.in-Select.b (c.form_asks-in-Select.ensures c.if-form_asks.true) (c.form_asks-then-form_asks.ensures h) r)
+pub returns-then-is_asking : goal.returns-then-is_asking
+returns-then-is_asking c ns t h r = frame_known ns c.args.frame.now _ c.in-Either.is (either_follows ns c.in-Either.a c.in-Either.b (c.is_asking-in-Either.ensures ns t c.if-is_asking.true) (c.is_asking-then-is_asking.ensures ns t h)) r
 
-pub returns-then-cond_asks : goal.returns-then-cond_asks
-returns-then-cond_asks c h r = subst (λ f. Lasts 1 (resumed f r)) (sym c.in-Choose.is) (choose_lasts c.in-Choose.g c.in-Choose.h (c.cond_asks.ensures c.if-cond_asks.true) (c.cond_asks-then-cond_asks.ensures h) r)
+pub returns-in-Stated : goal.returns-in-Stated
+returns-in-Stated c ns t h r = frame_known ns c.args.frame.now _ c.in-Stated.is (stated_follows ns c.in-Stated.id (c.is_asking-in-Stated.ensures ns t h)) r

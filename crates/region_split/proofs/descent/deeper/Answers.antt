@@ -15,8 +15,8 @@ repeated-requires-clause-path c = come_path (goal_of c.args.goal.now) (path_of c
 pub repeated-requires-clause-short : goal.repeated-requires-clause-short
 repeated-requires-clause-short c = walk_short (goal_of c.args.goal.now) c.args.walk.now.trail.path.items c.requires.short (come_asked (goal_of c.args.goal.now) (path_of c.args.walk.now.trail.path.items) c.args.walk.now c.requires.asking.stands.come)
 
-pub returns-in-New : goal.returns-in-New
-returns-in-New c =
+pub returns-in_ok-onward-in-New : goal.returns-in_ok-onward-in-New
+returns-in_ok-onward-in-New c =
     let g = goal_of c.args.goal.now in
     let ps = path_of c.args.walk.now.trail.path.items in
     let a = c.requires.asking in
@@ -81,8 +81,8 @@ past-requires-in-No-clause-on c =
     let r = rw c.in-No.is at c.in_ok-question.ensures in
     subst (λ qs. IsOn g qs c.args.place) (sym r.0.path) (place_stays g ps _ c.args.place a.on)
 
-pub returns-in-No : goal.returns-in-No
-returns-in-No c =
+pub returns-in_ok-push-in-No : goal.returns-in_ok-push-in-No
+returns-in_ok-push-in-No c =
     let g = goal_of c.args.goal.now in
     let ps = path_of c.args.walk.now.trail.path.items in
     let r = rw c.in-No.is at c.in_ok-question.ensures in
@@ -90,7 +90,7 @@ returns-in-No c =
     let e = ap (left_of g) r.0.path in
     step_below g _ (left_of g ps) c.past-in-No.new.walk c.past-in-No.result (omega (arith, l, e)) c.past-in-No.ensures
 
-pub returns : goal.returns
-returns c =
+pub returns-in-Unknown : goal.returns-in-Unknown
+returns-in-Unknown c =
     let g = goal_of c.args.goal.now in
     front_ends g (path_of c.args.walk.now.trail.path.items) c.args.walk.now c.in-Unknown.cause c.requires.linear c.requires.asking.stands.come (rw c.in-Unknown.is at c.in_ok-question.ensures)

@@ -33,8 +33,8 @@ end-requires-clause-at_end c =
 pub returns-in-End : goal.returns-in-End
 returns-in-End c = step_below (goal_of c.args.goal.now) _ _ c.end.new.walk c.end.result (omega arith) c.end.ensures
 
-pub returns : goal.returns
-returns c =
+pub returns-in-Bits : goal.returns-in-Bits
+returns-in-Bits c =
     let g = goal_of c.args.goal.now in
     let ps = path_of c.args.walk.now.trail.path.items in
     let a = subst (λ xs. Answers c.in_ok-ask.field-0.ask (end_at g (path_of xs))) c.deref.ensures.value c.in_ok-ask.ensures.asked in

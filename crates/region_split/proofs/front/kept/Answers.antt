@@ -15,8 +15,8 @@ reached-requires-clause-path c = subst (λ xs. IsPath (goal_of c.args.goal.now) 
 pub reached-requires-clause-places : goal.reached-requires-clause-places
 reached-requires-clause-places c = subst (λ xs. ArePlaces (goal_of c.args.goal.now) (path_of xs) c.deref-2.result.now) (sym c.deref.ensures.value) (subst (λ ys. ArePlaces (goal_of c.args.goal.now) (path_of c.args.trail.now.path.items) ys) (sym c.deref-2.ensures.value) c.requires.stands.places)
 
-pub returns : goal.returns
-returns c k =
+pub returns-in-Bits : goal.returns-in-Bits
+returns-in-Bits c k =
     let g = goal_of c.args.goal.now in
     let a = subst (λ xs. Answers c.in_ok-ask.field-0.ask (end_at g (path_of xs))) c.deref.ensures.value c.in_ok-ask.ensures.asked in
     bits_there g (path_of c.args.trail.now.path.items) k (rw c.in-Bits.is at a)
