@@ -4,20 +4,22 @@ ghost use Rattle.std.specs.Prelude.{◌≡◌, List, true, false, IfOk, IfSome, 
 ghost use Rattle.heylo_formula.specs.declared.types.Ty.{Ty as PlainTy};
 ghost use Rattle.linear_form.specs.PlainPaths.{atom_of};
 ghost use Rattle.linear_values.specs.PlainValues.{lin_of};
-ghost use Rattle.region_split.specs.internal.KnownComparisons.{AreKnown, IsKnownQuestion, IsRecalled, IsRowOf, question_of};
+ghost use Rattle.region_split.specs.internal.KnownComparisons.{IsKnownQuestion, IsRecalled, IsRowOf, question_of};
 
 use crate::answer_rows::AnswerRows;
 use crate::clashes::clash;
 use crate::moved_multipliers::is_same_row;
 use heyvl_num::Frac;
-use linear_form::{Atom, Taken};
+use linear_form::Atom;
 use linear_rows::Row;
 use linear_values::Lin;
 use std::alloc::{AllocError, Global};
 
-/// A comparison that a path has answered, and the rows of both answers, which clash.
+/// A comparison that a walk has met, and the rows of both answers, which clash.
 #[derive(Drop)]
 pub struct Known {
+    /// Its number among those that the walk has met.
+    pub number: usize,
     /// The linear value that is compared with 0.
     pub left: Lin,
     /// Whether it is to be below 0, and not only at most 0.
@@ -26,7 +28,7 @@ pub struct Known {
     pub yes: Row,
     /// The row of no.
     pub no: Row,
-    /// The index that the answer's row has on the path.
+    /// The index at which a path has the answer's row, where it has answered the comparison.
     pub index: usize,
 }
 
@@ -63,12 +65,12 @@ pub fn copy_row(alloc: Global, row: &Row) -> Result<Row, AllocError>
     })
 }
 
-/// The comparison with the rows of its answers; none where these don't clash. Want of memory is the one error.
+/// The comparison with the rows of its answers, under a number; none where these don't clash. Want of memory is the one error.
 pub fn make_known(
     alloc: Global,
     atom: &Atom,
     rows: AnswerRows,
-    index: usize,
+    number: usize,
 ) -> Result<Option<Known>, AllocError>
     ensures { (types : List PlainTy) → IsRowOf types (atom_of atom.now) true rows.yes → IsRowOf types (atom_of atom.now) false rows.no → IfOk result (λ k. IfSome k (λ k. IsKnownQuestion types k)) }
 {
@@ -82,11 +84,12 @@ pub fn make_known(
         return Ok(None);
     }
     Ok(Some(Known {
+        number,
         left: copy_value(alloc, left)?,
         strict: *strict,
         yes: rows.yes,
         no: rows.no,
-        index,
+        index: 0,
     }))
 }
 
@@ -117,7 +120,7 @@ fn is_same_value(a: &Lin, b: &Lin) -> bool
 }
 
 /// Whether this is the question.
-fn asks(known: &Known, atom: &Atom) -> bool
+pub fn asks(known: &Known, atom: &Atom) -> bool
     ensures { IsTrue result → question_of known.now ≡ atom_of atom.now }
 {
     match atom {
@@ -127,28 +130,14 @@ fn asks(known: &Known, atom: &Atom) -> bool
 }
 
 /// The row of the answer.
-fn row_of(known: &Known, held: bool) -> &Row
+pub fn row_of(known: &Known, held: bool) -> &Row
     ensures { (types : List PlainTy) → IsKnownQuestion types known.now → IsRowOf types (question_of known.now) held result.now }
 {
     if held { &known.yes } else { &known.no }
 }
 
-/// The row of an answer that comes to stand at the index, where the last one of these comparisons tells it.
-pub fn row_of_last<'a>(visited: &'a [Known], index: usize, answer: &Taken) -> Option<&'a Row>
-    ensures { (types : List PlainTy) → AreKnown types visited.now → IfSome result (λ r. IsRowOf types (atom_of answer.now.atom) answer.now.held r.now) }
-{
-    let Some(known) = visited.last() else {
-        return None;
-    };
-    if known.index == index && asks(known, &answer.atom) {
-        Some(row_of(known, answer.held))
-    } else {
-        None
-    }
-}
-
 /// The answer whose row stands on the path, where one of them does at the index. Want of memory is the one error.
-fn answer(alloc: Global, known: &Known, rows: &[Row]) -> Result<Option<Recalled>, AllocError>
+pub fn answer(alloc: Global, known: &Known, rows: &[Row]) -> Result<Option<Recalled>, AllocError>
     ensures { (types : List PlainTy) → IsKnownQuestion types known.now → IfOk result (λ r. IfSome r (λ r. IsRecalled types rows.now (question_of known.now) r)) }
 {
     let index = known.index;
@@ -168,28 +157,6 @@ fn answer(alloc: Global, known: &Known, rows: &[Row]) -> Result<Option<Recalled>
             row: copy_row(alloc, &known.no)?,
             index,
         }));
-    }
-    Ok(None)
-}
-
-/// The answer that the path has given to the question, where one of these tells it. Want of memory is the one error.
-pub fn recall(
-    alloc: Global,
-    visited: &[Known],
-    rows: &[Row],
-    atom: &Atom,
-) -> Result<Option<Recalled>, AllocError>
-    ensures { (types : List PlainTy) → AreKnown types visited.now → IfOk result (λ r. IfSome r (λ r. IsRecalled types rows.now (atom_of atom.now) r)) }
-{
-    let mut rest = visited;
-    'known: while let Some((first, others)) = rest.split_first() {
-        if asks(first, atom) {
-            let found = answer(alloc, first, rows)?;
-            if found.is_some() {
-                return Ok(found);
-            }
-        }
-        rest = others;
     }
     Ok(None)
 }

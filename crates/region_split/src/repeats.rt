@@ -10,13 +10,12 @@ ghost use Rattle.linear_form.specs.Query.{Taken as PlainTaken};
 ghost use Rattle.linear_rows.specs.Row.{Row as PlainRow};
 ghost use Rattle.region_split.specs.internal.Clashes.{Clash};
 ghost use Rattle.region_split.specs.internal.Trails.{Stands, StandsAt};
-ghost use Rattle.region_split.specs.internal.KnownComparisons.{IsRecalled, StandsIn};
-ghost use Rattle.region_split.specs.internal.Repeats.{AreAnswerRows, IsAsked, IsRepeat};
+ghost use Rattle.heylo_formula.specs.declared.types.Ty.{Ty as PlainTy};
+ghost use Rattle.region_split.specs.internal.KnownComparisons.{AreKnown, IsKnownQuestion, IsRecalled, StandsIn, question_of};
+ghost use Rattle.region_split.specs.internal.Repeats.{AreAnswerRows, IsAsked, IsMet, IsRepeat};
 
-use crate::answer_rows::{AnswerRows, Both, rows_of_answers};
-use crate::clashes::clash;
-use crate::known_comparisons::{Known, Recalled, make_known, recall};
-use crate::moved_multipliers::is_same_row;
+use crate::answer_rows::{Both, rows_of_answers};
+use crate::known_comparisons::{Known, Recalled, answer, copy_row};
 use crate::trail::{Trail, Way, further, is_comparison, note};
 use goal_answers::Cause;
 use heylo_formula::Goal;
@@ -37,6 +36,17 @@ pub enum Repeat {
     Unknown(Cause),
 }
 
+/// What is known of a question.
+#[derive(Drop)]
+pub enum Met {
+    /// The path has answered it.
+    Answered(Recalled),
+    /// The walk has met the comparison with this number, and the path hasn't answered it.
+    Open(usize),
+    /// The walk hasn't met it, or its answers' rows don't clash.
+    Unmet,
+}
+
 /// What a path says of its next question, which this evaluation asks. Want of memory is the one error.
 pub fn repeated(
     alloc: Global,
@@ -55,24 +65,93 @@ pub fn repeated(
     if !is_comparison(&atom) {
         return Ok(Repeat::New(atom));
     }
-    let lasts = asks_on(place, trail.path.len());
-    if let Some(recalled) = recall(alloc, &trail.visited, &trail.rows, &atom)? {
-        if lasts {
-            return again(alloc, trail, atom, recalled);
-        }
-        return Ok(Repeat::New(atom));
+    if trail.atoms.find(&atom).is_some() {
+        return met_again(alloc, goal, trail, atom, place);
     }
     match rows_of_answers(alloc, goal, trail, atom)? {
         Both::Rows(question, rows) => {
-            if lasts {
-                compared(alloc, trail, question, rows)
-            } else {
-                noted(alloc, trail, question, rows)
-            }
+            trail.atoms.add(alloc, &question, rows)?;
+            met_again(alloc, goal, trail, question, place)
         }
         Both::Lost(question) => Ok(Repeat::New(question)),
         Both::Unknown(cause) => Ok(Repeat::Unknown(cause)),
     }
+}
+
+/// The same, where the walk has met the question.
+fn met_again(
+    alloc: Global,
+    goal: &Goal,
+    trail: &mut Trail,
+    atom: Atom,
+    place: &Place,
+) -> Result<Repeat, AllocError>
+    requires path { IsPath (goal_of goal.now) (path_of trail.old.path.items) }
+    requires short { length trail.old.path.items + 1 + length goal.now.vars.items < 2 ^ 32 }
+    requires stands { Stands (goal_of goal.now) trail.old }
+    requires goes_on { GoesOn (goal_of goal.now) (path_of trail.old.path.items) (atom_of atom) }
+    requires on { IsOn (goal_of goal.now) (path_of trail.old.path.items) place.now }
+    ensures { IfOk result (λ r. IsRepeat (goal_of goal.now) (path_of trail.old.path.items) (atom_of atom) trail.new r) }
+{
+    let lasts = asks_on(place, trail.path.len());
+    match known_of(alloc, trail, &atom, lasts)? {
+        Met::Answered(recalled) => if lasts {
+            again(alloc, trail, atom, recalled)
+        } else {
+            Ok(Repeat::New(atom))
+        },
+        Met::Open(number) => {
+            note(trail, number)?;
+            Ok(Repeat::New(atom))
+        }
+        Met::Unmet => Ok(Repeat::New(atom)),
+    }
+}
+
+/// What is known of a question, on a path that surely lasts behind it or may end there. Want of memory is the one error.
+fn known_of(alloc: Global, trail: &Trail, atom: &Atom, lasts: bool) -> Result<Met, AllocError>
+    ensures { (types : List PlainTy) → AreKnown types trail.now.atoms → IfOk result (IsMet types trail.now.rows.items (atom_of atom.now)) }
+{
+    let Some(known) = trail.atoms.find(atom) else {
+        return Ok(Met::Unmet);
+    };
+    if let Some(recalled) = answer(alloc, known, &trail.rows)? {
+        return Ok(Met::Answered(recalled));
+    }
+    if lasts {
+        if let Some(recalled) = answered_elsewhere(alloc, known, trail)? {
+            return Ok(Met::Answered(recalled));
+        }
+    }
+    Ok(Met::Open(known.number))
+}
+
+/// The answer that other questions of the path give to a comparison, where one of them has the row of an answer. Want of memory is
+/// the one error.
+fn answered_elsewhere(
+    alloc: Global,
+    known: &Known,
+    trail: &Trail,
+) -> Result<Option<Recalled>, AllocError>
+    ensures { (types : List PlainTy) → IsKnownQuestion types known.now → IfOk result (λ r. IfSome r (λ r. IsRecalled types trail.now.rows.items (question_of known.now) r)) }
+{
+    if let Some(index) = trail.atoms.place(&trail.visited, &trail.rows, &known.yes) {
+        let row = copy_row(alloc, &known.yes)?;
+        return Ok(Some(Recalled {
+            held: true,
+            row,
+            index,
+        }));
+    }
+    if let Some(index) = trail.atoms.place(&trail.visited, &trail.rows, &known.no) {
+        let row = copy_row(alloc, &known.no)?;
+        return Ok(Some(Recalled {
+            held: false,
+            row,
+            index,
+        }));
+    }
+    Ok(None)
 }
 
 /// Goes on by the answer that the path has given to the question before.
@@ -91,48 +170,6 @@ fn again(
         answered_yes(alloc, trail, atom, row, index)
     } else {
         answered_no(alloc, trail, atom, row, index)
-    }
-}
-
-/// Whether one of the answers' rows stands on the path, so that it clashes with the other one.
-fn compared(
-    alloc: Global,
-    trail: &mut Trail,
-    atom: Atom,
-    rows: AnswerRows,
-) -> Result<Repeat, AllocError>
-    requires few { length trail.old.rows.items < 2 ^ 32 }
-    ensures { (g : PlainGoal) (ps : List PlainTaken) → IsAsked g ps (atom_of atom) → AreAnswerRows g ps (atom_of atom) trail.old rows → IfOk result (λ r. IsRepeat g ps (atom_of atom) trail.new r) }
-{
-    if clash(&rows.yes, &rows.no) {
-        if let Some(at) = find(&trail.visited, &trail.rows, &rows.yes) {
-            return answered_yes(alloc, trail, atom, rows.yes, at);
-        }
-    }
-    if clash(&rows.no, &rows.yes) {
-        if let Some(at) = find(&trail.visited, &trail.rows, &rows.no) {
-            return answered_no(alloc, trail, atom, rows.no, at);
-        }
-    }
-    noted(alloc, trail, atom, rows)
-}
-
-/// Notes what is known of the question.
-fn noted(
-    alloc: Global,
-    trail: &mut Trail,
-    atom: Atom,
-    rows: AnswerRows,
-) -> Result<Repeat, AllocError>
-    ensures { (g : PlainGoal) (ps : List PlainTaken) → AreAnswerRows g ps (atom_of atom) trail.old rows → IfOk result (λ r. IsRepeat g ps (atom_of atom) trail.new r) }
-{
-    let index = trail.rows.len();
-    match make_known(alloc, &atom, rows, index)? {
-        Some(found) => {
-            note(trail, found)?;
-            Ok(Repeat::New(atom))
-        }
-        None => Ok(Repeat::New(atom)),
     }
 }
 
@@ -172,19 +209,6 @@ fn answered_no(
     let answer = Taken { atom, held: false };
     further(trail, answer, Way::Closed(Vec::new(alloc)), no)?;
     Ok(Repeat::No(multipliers))
-}
-
-/// An index at which the row stands, where it's that of one of these comparisons.
-fn find(visited: &[Known], rows: &[Row], row: &Row) -> Option<usize>
-    ensures { IfSome result (λ i. StandsIn rows.now row.now i) }
-{
-    for known in visited {
-        let i = known.index;
-        if i < rows.len() && is_same_row(&rows[i], row) {
-            return Some(i);
-        }
-    }
-    None
 }
 
 /// Multipliers that add up two rows. Want of memory is the one error.

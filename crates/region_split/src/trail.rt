@@ -6,11 +6,9 @@ ghost use Rattle.linear_form.specs.PathRows.{answer_claims};
 ghost use Rattle.linear_form.specs.PlainPaths.{path_of, atom_of, taken_of};
 ghost use Rattle.linear_form.specs.Query.{Taken as PlainTaken};
 ghost use Rattle.linear_form.specs.RowLists.{ArePathRows};
-ghost use Rattle.region_split.specs.internal.KnownComparisons.{AreKnown, IsKnownQuestion};
-ghost use Rattle.heylo_formula.specs.declared.types.Ty.{Ty as PlainTy};
 ghost use Rattle.region_split.specs.internal.Trails.{Comes, Stands, StandsAt, IsWay, IsBack, ComesBy};
 
-use crate::known_comparisons::Known;
+use crate::atoms::Atoms;
 use heylo_formula::Goal;
 use linear_form::{Atom, Place, Taken, begin};
 use linear_guess::Search;
@@ -36,8 +34,10 @@ pub struct Trail {
     pub places: Vec<Way>,
     /// The rows of the answers, in order.
     pub rows: Vec<Row>,
-    /// The comparisons that the path hadn't answered before, in order. The last one may be the next question.
-    pub visited: Vec<Known>,
+    /// The comparisons that the walk has met.
+    pub atoms: Atoms,
+    /// The numbers of those that the path hadn't answered before, in order. The last one may be the next question.
+    pub visited: Vec<usize>,
     /// Where the variables occur first in these rows.
     pub occurrences: Occurrences,
     /// What was found of the rows.
@@ -54,6 +54,7 @@ pub fn start(alloc: Global, goal: &Goal) -> Result<Trail, AllocError>
         path: Vec::new(alloc),
         places,
         rows: Vec::new(alloc),
+        atoms: Atoms::new(alloc),
         visited: Vec::new(alloc),
         occurrences: Occurrences::new(alloc, goal.vars.len())?,
         search: Box::new(alloc, Search::new(alloc))?,
@@ -81,29 +82,21 @@ pub fn further(trail: &mut Trail, answer: Taken, way: Way, row: Row) -> Result<(
     Ok(())
 }
 
-/// Notes on the trail what is known of its next question. Want of memory is the one error.
-pub fn note(trail: &mut Trail, known: Known) -> Result<(), AllocError>
-    ensures { (g : PlainGoal) → Stands g trail.old → IsKnownQuestion g.types known → IfOk result (λ _. StandsAt g (path_of trail.old.path.items) trail.new) }
+/// Notes on the trail that its next question is the comparison with this number. Want of memory is the one error.
+pub fn note(trail: &mut Trail, number: usize) -> Result<(), AllocError>
+    ensures { (g : PlainGoal) → Stands g trail.old → IfOk result (λ _. StandsAt g (path_of trail.old.path.items) trail.new) }
 {
-    forget(&mut trail.visited, known.index);
-    trail.visited.push(known)?;
+    let index = trail.rows.len();
+    forget(&mut trail.visited, &trail.atoms, index);
+    trail.atoms.stands_at(number, index);
+    trail.visited.push(number)?;
     Ok(())
 }
 
-/// Takes off the last one of the comparisons, where its row has this index or a greater one.
-fn forget(visited: &mut Vec<Known>, index: usize)
-    ensures { (types : List PlainTy) → AreKnown types visited.old.items → AreKnown types visited.new.items }
-{
-    if is_last_from(visited, index) {
+/// Takes off the last one of the numbers, where the row of its comparison has this index or a greater one.
+fn forget(visited: &mut Vec<usize>, atoms: &Atoms, index: usize) {
+    if atoms.is_last_from(visited, index) {
         visited.pop();
-    }
-}
-
-/// Whether the row of the last one of these comparisons has this index or a greater one.
-fn is_last_from(visited: &[Known], index: usize) -> bool {
-    match visited.last() {
-        Some(known) => known.index >= index,
-        None => false,
     }
 }
 
@@ -142,6 +135,6 @@ pub fn back(trail: &mut Trail) -> Option<(Taken, Way)>
     trail.rows.truncate(left);
     trail.occurrences.truncate(left);
     trail.search.truncate(left);
-    forget(&mut trail.visited, left + 1);
+    forget(&mut trail.visited, &trail.atoms, left + 1);
     Some((answer, way))
 }

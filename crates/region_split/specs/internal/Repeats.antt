@@ -19,6 +19,10 @@ use Rattle.region_split.specs.declared.answer_rows.Answered.TheVariants as A
 use Rattle.region_split.specs.declared.answer_rows.AnswerRows.{AnswerRows}
 use Rattle.region_split.specs.declared.answer_rows.Both.{Both}
 use Rattle.region_split.specs.declared.answer_rows.Both.TheVariants as B
+use Rattle.heylo_formula.specs.declared.types.Ty.{Ty}
+use Rattle.region_split.specs.internal.KnownComparisons.{IsRecalled}
+use Rattle.region_split.specs.declared.repeats.Met.{Met}
+use Rattle.region_split.specs.declared.repeats.Met.TheVariants as M
 use Rattle.region_split.specs.declared.repeats.Repeat.{Repeat}
 use Rattle.region_split.specs.declared.repeats.Repeat.TheVariants.{New, Yes, No, Unknown}
 
@@ -60,3 +64,9 @@ IsRepeat g ps q t (New a) = (atom_of a ≡ q) × StandsAt g ps t
 IsRepeat g ps q t Yes = StandsAt g (onto ps q true) t × IsKeptPath g (onto ps q true)
 IsRepeat g ps q t (No ms) = StandsAt g (onto ps q false) t × (IsKeptPath g (onto ps q false) × IsDroppedBy g (onto ps q true) ms.items)
 IsRepeat g ps q t (Unknown cause) = EndsWalk g ps false cause
+
+-- What is told of a question is so: an answer stands on the path.
+abbrev pub IsMet : List Ty → List Row → Atom → Met → Type 0
+IsMet types rows q (M.Answered r) = IsRecalled types rows q r
+IsMet types rows q (M.Open n) = Unit {0}
+IsMet types rows q M.Unmet = Unit {0}
