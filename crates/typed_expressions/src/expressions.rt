@@ -266,8 +266,141 @@ pub fn after(next: u32) -> u32
     next + 1
 }
 
+/// What an expression in parentheses becomes, or the first fault in it.
+#[cycle(read)]
+#[inline(never)]
+fn read_group_of(
+    alloc: Global,
+    scope: &Scope,
+    next: u32,
+    inner: &Expr,
+    demand: Demand,
+    span: Span,
+) -> Result<Meaning, ResolveStop>
+    ensures { Gives read result (closed_findings demand next scope.now (Expression.group (expression inner.now) span)) (elaborate next scope.now (Expression.group (expression inner.now) span)) }
+{
+    let inner = read(alloc, scope, next, inner, Demand::Any)?;
+    judged(Some(inner), demand, span)
+}
+
+/// What brackets become, or the first fault in them.
+#[cycle(read)]
+#[inline(never)]
+fn read_bracket_of(
+    alloc: Global,
+    scope: &Scope,
+    next: u32,
+    inner: &Expr,
+    demand: Demand,
+    span: Span,
+) -> Result<Meaning, ResolveStop>
+    ensures { Gives read result (closed_findings demand next scope.now (Expression.bracket (expression inner.now) span)) (elaborate next scope.now (Expression.bracket (expression inner.now) span)) }
+{
+    let inner = read(alloc, scope, next, inner, Demand::Any)?;
+    read_bracket(alloc, inner, demand, span)
+}
+
+/// What an embedding becomes, or the first fault in it.
+#[cycle(read)]
+#[inline(never)]
+fn read_embedding_of(
+    alloc: Global,
+    scope: &Scope,
+    next: u32,
+    inner: &Expr,
+    demand: Demand,
+    span: Span,
+) -> Result<Meaning, ResolveStop>
+    ensures { Gives read result (closed_findings demand next scope.now (Expression.embed (expression inner.now) span)) (elaborate next scope.now (Expression.embed (expression inner.now) span)) }
+{
+    let inner = read(alloc, scope, next, inner, Demand::Any)?;
+    read_embedding(alloc, inner, demand, span)
+}
+
+/// What an operator before its operand becomes, or the first fault in it.
+#[cycle(read)]
+#[inline(never)]
+fn read_unary_of(
+    alloc: Global,
+    scope: &Scope,
+    next: u32,
+    op: UnaryOp,
+    inner: &Expr,
+    demand: Demand,
+    span: Span,
+) -> Result<Meaning, ResolveStop>
+    ensures { Gives read result (closed_findings demand next scope.now (Expression.unary op (expression inner.now) span)) (elaborate next scope.now (Expression.unary op (expression inner.now) span)) }
+{
+    let inner = read(alloc, scope, next, inner, Demand::Any)?;
+    read_unary(alloc, op, inner, demand, span)
+}
+
+/// What an operator between its operands becomes, or the first fault in it.
+#[cycle(read)]
+#[inline(never)]
+fn read_binary_of(
+    alloc: Global,
+    scope: &Scope,
+    next: u32,
+    op: BinaryOp,
+    first: &Expr,
+    second: &Expr,
+    demand: Demand,
+    span: Span,
+) -> Result<Meaning, ResolveStop>
+    ensures { Gives read result (closed_findings demand next scope.now (Expression.binary op (expression first.now) (expression second.now) span)) (elaborate next scope.now (Expression.binary op (expression first.now) (expression second.now) span)) }
+{
+    let left = read(alloc, scope, next, first, Demand::Any)?;
+    let right = read(alloc, scope, next, second, Demand::Any)?;
+    read_operator(alloc, op, second, left, right, demand, span)
+}
+
+/// What a choice becomes, or the first fault in it.
+#[cycle(read)]
+#[inline(never)]
+fn read_choice_of(
+    alloc: Global,
+    scope: &Scope,
+    next: u32,
+    test: &Expr,
+    left: &Expr,
+    right: &Expr,
+    demand: Demand,
+    span: Span,
+) -> Result<Meaning, ResolveStop>
+    ensures { Gives read result (closed_findings demand next scope.now (Expression.choice (expression test.now) (expression left.now) (expression right.now) span)) (elaborate next scope.now (Expression.choice (expression test.now) (expression left.now) (expression right.now) span)) }
+{
+    let test = read(alloc, scope, next, test, Demand::Any)?;
+    let left = read(alloc, scope, next, left, Demand::Any)?;
+    let right = read(alloc, scope, next, right, Demand::Any)?;
+    read_choice(alloc, test, left, right, demand, span)
+}
+
+/// What a quantifier becomes, which is a fault, or the first fault in it.
+#[cycle(read)]
+#[inline(never)]
+fn read_bound_of(
+    alloc: Global,
+    scope: &Scope,
+    next: u32,
+    up: bool,
+    name: &Name,
+    ty: TypeName,
+    inner: &Expr,
+    demand: Demand,
+    span: Span,
+) -> Result<Meaning, ResolveStop>
+    ensures { Gives read result (closed_findings demand next scope.now (Expression.bound up name.now ty (expression inner.now) span)) (elaborate next scope.now (Expression.bound up name.now ty (expression inner.now) span)) }
+{
+    let local = Local { number: next, ty };
+    let within = inside(alloc, scope, name, local)?;
+    let inner = read(alloc, &within, next, inner, Demand::Any)?;
+    read_closed_quantifier(alloc, scope.sees(name), up, local, inner, demand, span)
+}
+
 /// What an expression becomes where no quantifier may stand, or the first fault in it. The next variable has this number. A quantifier is a
 /// fault, whatever its number.
+#[cycle(read)]
 pub fn read(
     alloc: Global,
     scope: &Scope,
@@ -282,41 +415,20 @@ pub fn read(
         Expr::Truth(truth, span) => judged(Some(constant(*truth)), demand, *span),
         Expr::Infinity(span) => judged(Some(infinity()), demand, *span),
         Expr::Name(name, span) => read_name(scope, name, demand, next, *span),
-        Expr::Group(inner, span) => {
-            let inner = read(alloc, scope, next, inner, Demand::Any)?;
-            judged(Some(inner), demand, *span)
-        }
-        Expr::Bracket(inner, span) => {
-            let inner = read(alloc, scope, next, inner, Demand::Any)?;
-            read_bracket(alloc, inner, demand, *span)
-        }
-        Expr::Embed(inner, span) => {
-            let inner = read(alloc, scope, next, inner, Demand::Any)?;
-            read_embedding(alloc, inner, demand, *span)
-        }
+        Expr::Group(inner, span) => read_group_of(alloc, scope, next, inner, demand, *span),
+        Expr::Bracket(inner, span) => read_bracket_of(alloc, scope, next, inner, demand, *span),
+        Expr::Embed(inner, span) => read_embedding_of(alloc, scope, next, inner, demand, *span),
         Expr::Unary(op, inner, span) => {
-            let inner = read(alloc, scope, next, inner, Demand::Any)?;
-            read_unary(alloc, *op, inner, demand, *span)
+            read_unary_of(alloc, scope, next, *op, inner, demand, *span)
         }
         Expr::Binary(op, first, second, span) => {
-            let left = read(alloc, scope, next, first, Demand::Any)?;
-            let right = read(alloc, scope, next, second, Demand::Any)?;
-            read_operator(alloc, *op, second, left, right, demand, *span)
+            read_binary_of(alloc, scope, next, *op, first, second, demand, *span)
         }
         Expr::Choice(test, left, right, span) => {
-            let test = read(alloc, scope, next, test, Demand::Any)?;
-            let left = read(alloc, scope, next, left, Demand::Any)?;
-            let right = read(alloc, scope, next, right, Demand::Any)?;
-            read_choice(alloc, test, left, right, demand, *span)
+            read_choice_of(alloc, scope, next, test, left, right, demand, *span)
         }
         Expr::Bound(up, name, ty, inner, span) => {
-            let local = Local {
-                number: next,
-                ty: *ty,
-            };
-            let within = inside(alloc, scope, name, local)?;
-            let inner = read(alloc, &within, next, inner, Demand::Any)?;
-            read_closed_quantifier(alloc, scope.sees(name), *up, local, inner, demand, *span)
+            read_bound_of(alloc, scope, next, *up, name, *ty, inner, demand, *span)
         }
     }
 }
