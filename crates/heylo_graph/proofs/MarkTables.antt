@@ -103,17 +103,36 @@ marked_over : (binders : Bool) (x : ℕ) (t : Tree) (p q r : Bool) → Marked (i
 marked_over true x t p q r e f g = occurs_over x t p q r e f g
 marked_over false x t p q r e f g = free_over x t p q r e f g
 
-part_marked : (binders : Bool) (x : ℕ) (ns : List Node) (p : Option ℕ) (u : Option Tree) (b : Bool) → PartTree (tree_at ns) p u → PartIsMarked binders x ns p b → Marked (is_marked binders x) u b
+-- What is so of a part's tree; no where there is none.
+abbrev pub marked_part : Bool → ℕ → Option Tree → Bool
+marked_part binders x None = false
+marked_part binders x (Some u) = is_marked binders x u
+
+of_part : (binders : Bool) (x : ℕ) (u : Option Tree) → Marked (is_marked binders x) u (marked_part binders x u)
+of_part binders x None = refl
+of_part binders x (Some u) = refl
+
+pub part_marked : (binders : Bool) (x : ℕ) (ns : List Node) (p : Option ℕ) (u : Option Tree) (b : Bool) → PartTree (tree_at ns) p u → PartIsMarked binders x ns p b → b ≡ marked_part binders x u
 part_marked binders x ns None None b h k = k
 part_marked binders x ns None (Some u) b h k = absurd h
 part_marked binders x ns (Some p) None b h k = absurd h
 part_marked binders x ns (Some p) (Some u) b h k = k u h
 
-pub marked_assembled : (binders : Bool) (x : ℕ) (ns : List Node) (n : Node) (p q r : Bool) (t : Tree) → PartIsMarked binders x ns (first n) p → PartIsMarked binders x ns (second n) q → PartIsMarked binders x ns (third n) r → assembled (tree_at ns) n ≡ Some t → mark_over binders x (variable_of n) (bound_by n) p q r ≡ is_marked binders x t
-marked_assembled binders x ns n p q r t e f g h =
-    let k = taken_apart (tree_at ns) n t h in
-    ap₂ (λ v b. mark_over binders x v b p q r) k.variable k.bound
-    ∙ marked_over binders x t p q r (part_marked binders x ns (first n) (first_tree t) p k.one e) (part_marked binders x ns (second n) (second_tree t) q k.two f) (part_marked binders x ns (third n) (third_tree t) r k.three g)
+-- What is so of a node's tree, from that of its parts.
+pub marks_of_parts : (binders : Bool) (x : ℕ) (at : ℕ → Option Tree) (n : Node) (t : Tree) → assembled at n ≡ Some t → mark_over binders x (variable_of n) (bound_by n) (marked_part binders x (first_tree t)) (marked_part binders x (second_tree t)) (marked_part binders x (third_tree t)) ≡ is_marked binders x t
+marks_of_parts binders x at n t h =
+    let k = taken_apart at n t h in
+    ap₂ (λ v b. mark_over binders x v b (marked_part binders x (first_tree t)) (marked_part binders x (second_tree t)) (marked_part binders x (third_tree t))) k.variable k.bound
+    ∙ marked_over binders x t _ _ _ (of_part binders x (first_tree t)) (of_part binders x (second_tree t)) (of_part binders x (third_tree t))
+
+pub mark_of_variable : (binders : Bool) (x y : ℕ) (at : ℕ → Option Tree) (n : Node) (t : Tree) → variable_of n ≡ Some y → assembled at n ≡ Some t → (x == y) ≡ is_marked binders x t
+mark_of_variable binders x y at n t e h = sym (ap (λ v. mark_over binders x v (bound_by n) (marked_part binders x (first_tree t)) (marked_part binders x (second_tree t)) (marked_part binders x (third_tree t))) e) ∙ marks_of_parts binders x at n t h
+
+pub mark_of_binder : (binders : Bool) (x y : ℕ) (at : ℕ → Option Tree) (n : Node) (t : Tree) → variable_of n ≡ None → bound_by n ≡ Some y → assembled at n ≡ Some t → (if x == y then binders else marked_part binders x (first_tree t)) ≡ is_marked binders x t
+mark_of_binder binders x y at n t e f h = sym (ap₂ (λ v b. mark_over binders x v b (marked_part binders x (first_tree t)) (marked_part binders x (second_tree t)) (marked_part binders x (third_tree t))) e f) ∙ marks_of_parts binders x at n t h
+
+pub mark_of_other : (binders : Bool) (x : ℕ) (at : ℕ → Option Tree) (n : Node) (t : Tree) → variable_of n ≡ None → bound_by n ≡ None → assembled at n ≡ Some t → (marked_part binders x (first_tree t) || (marked_part binders x (second_tree t) || marked_part binders x (third_tree t))) ≡ is_marked binders x t
+mark_of_other binders x at n t e f h = sym (ap₂ (λ v b. mark_over binders x v b (marked_part binders x (first_tree t)) (marked_part binders x (second_tree t)) (marked_part binders x (third_tree t))) e f) ∙ marks_of_parts binders x at n t h
 
 pub marked_further : (binders : Bool) (x : ℕ) (ns : List Node) (table now : List Bool) (b : Bool) (i : ℕ) → length table ≡ i → now ≡ table ++ b ∷ [] → AreMarked binders x ns table → ((t : Tree) → tree_at ns i ≡ Some t → b ≡ is_marked binders x t) → AreMarked binders x ns now
 marked_further binders x ns table now b i e w f s = subst (AreMarked binders x ns) (sym w) (record { each = λ j u h k. go j u k (eq-or-lt_of_le (at_most j h)) })

@@ -1,5 +1,5 @@
 -- Nodes whose trees are changed, in one list and in a longer one.
-use Rattle.std.proofs.Common.{◌⊎◌, inl, inr, ◌≤◌, length-append, append_assoc, append-nil, ◌≡◌, ℕ, ◌<◌, ◌+◌, Bool, true, false, List, [], ◌∷◌, ◌++◌, Option, Some, None, length, get_or, set, slice_get, refl, sym, ap, subst, ◌∙◌, arith}
+use Rattle.std.proofs.Common.{◌⊎◌, inl, inr, ◌≤◌, length-append, append_assoc, append-nil, ◌≡◌, ℕ, ◌<◌, ◌+◌, Bool, true, false, List, [], ◌∷◌, ◌++◌, Option, Some, None, length, get_or, replicate, set, slice_get, refl, sym, ap, subst, ◌∙◌, arith}
 use Prim.Native.Nat.{zero, suc}
 use Rattle.std.specs.Prelude.{Result, Ok, Err, IfOk, OnOk}
 use Rattle.std.proofs.lemmas.Option.{slice_get_within, slice_get-get_or}
@@ -62,23 +62,14 @@ noted change ns notes k r m s = record { each = λ i j h. go i j (set_cases note
     go i j (inl p) = subst (λ z. Moves change ns z j) (sym p.0) (subst (λ z. Moves change ns k z) (some_is r j p.1) s)
     go i j (inr q) = m.each i j q
 
-pub none_empty : (notes : List (Option ℕ)) → notes ≡ [] → AreEmpty notes
-none_empty notes e = subst AreEmpty (sym e) (record { none = λ i j h. clash_none j h })
-  where
-    clash_none : (j : ℕ) → None ≡ Some j → ⊥
-    clash_none j h = cc
+no_note : (n i j : ℕ) → get_or (replicate n None) i None ≡ Some j → ⊥
+no_note zero zero j h = cc
+no_note zero (suc i) j h = cc
+no_note (suc n) zero j h = cc
+no_note (suc n) (suc i) j h = no_note n i j h
 
-more_none : (notes : List (Option ℕ)) (i j : ℕ) → get_or (notes ++ None ∷ []) i None ≡ Some j → get_or notes i None ≡ Some j
-more_none [] zero j h = h
-more_none [] (suc i) j h = h
-more_none (m ∷ ms) zero j h = h
-more_none (m ∷ ms) (suc i) j h = more_none ms i j h
-
-pub more_empty : (notes now : List (Option ℕ)) → now ≡ notes ++ None ∷ [] → AreEmpty notes → AreEmpty now
-more_empty notes now e s = subst AreEmpty (sym e) (record { none = λ i j h. s.none i j (more_none notes i j h) })
-
-pub counted_notes : (notes now : List (Option ℕ)) (i : ℕ) → length notes ≡ i → now ≡ notes ++ None ∷ [] → length now ≡ i + 1
-counted_notes notes now i e w = ap length w ∙ length-append notes (None ∷ []) ∙ omega (arith, e)
+pub none_noted : (notes : List (Option ℕ)) (n : ℕ) → notes ≡ replicate n None → AreEmpty notes
+none_noted notes n e = subst AreEmpty (sym e) (record { none = λ i j h. no_note n i j h })
 
 pub empty_moved : (change : Tree → Tree) (ns : List Node) (notes : List (Option ℕ)) → AreEmpty notes → AreMoved change ns notes
 empty_moved change ns notes s = record { each = λ i j h. absurd (s.none i j h) }
@@ -169,6 +160,10 @@ tree_here old new i n t g h b e =
 pub on_ok : {T E P : Type 0} (r : Result T E) → P → OnOk r P
 on_ok (Ok x) p = p
 on_ok (Err e) p = tt
+
+pub ok_as : {T E : Type 0} {P Q : T → Type 0} (r : Result T E) → ((x : T) → P x → Q x) → IfOk r P → IfOk r Q
+ok_as (Ok x) f h = f x h
+ok_as (Err e) f h = tt
 
 pub begins_itself : (ns : List Node) → Begins ns ns
 begins_itself ns = record { more = []; whole = sym (append-nil ns) }

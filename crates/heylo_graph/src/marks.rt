@@ -1,10 +1,10 @@
 //! Where variables occur.
 
-ghost use Rattle.std.specs.Prelude.{◌≡◌, ◌<◌, ◌+◌, Bool, List, length, IfOk, Some};
+ghost use Rattle.std.specs.Prelude.{◌≡◌, ◌<◌, ◌+◌, ◌||◌, Bool, List, length, IfOk, Some};
 ghost use Rattle.heylo_graph.specs.Trees.{Tree, is_free_tree, occurs_tree};
 ghost use Rattle.heylo_graph.specs.Nodes.{Stands, assembled, tree_at};
 ghost use Rattle.heylo_graph.specs.Parts.{first, second, third, variable_of, bound_by};
-ghost use Rattle.heylo_graph.specs.internal.Tables.{AreMarked, IsBefore, PartIsMarked, is_marked, mark_over};
+ghost use Rattle.heylo_graph.specs.internal.Tables.{AreMarked, IsBefore, PartIsMarked, is_marked};
 ghost use Rattle.heylo_graph.specs.declared.nodes.Node.{Node as NodeValue};
 
 use crate::graphs::Graph;
@@ -22,17 +22,11 @@ fn part_mark(table: &[bool], part: Option<NodeId>) -> bool
     }
 }
 
-/// Whether the variable occurs in a node, from what is known of its parts. Where binders don't count: whether it is free.
-fn mark_of(node: &Node, var: u32, binders: bool, a: bool, b: bool, c: bool) -> bool
-    ensures { result ≡ mark_over binders var (variable_of node.now) (bound_by node.now) a b c }
+/// Whether one of the three is so.
+fn one_of(a: bool, b: bool, c: bool) -> bool
+    ensures { result ≡ (a || (b || c)) }
 {
-    if let Some(x) = node.variable_of() {
-        return var == x;
-    }
-    match node.bound_by() {
-        Some(x) => if var == x { binders } else { a },
-        None => a || (b || c),
-    }
+    a || (b || c)
 }
 
 /// Whether the variable occurs in a node, by the table.
@@ -42,10 +36,22 @@ fn mark_by(node: &Node, var: u32, binders: bool, table: &[bool]) -> bool
     requires third { IsBefore (third node.now) (length table.now) }
     ensures { (ns : List NodeValue) (t : Tree) → AreMarked binders var ns table.now → assembled (tree_at ns) node.now ≡ Some t → result ≡ is_marked binders var t }
 {
-    let a = part_mark(table, node.first());
-    let b = part_mark(table, node.second());
-    let c = part_mark(table, node.third());
-    mark_of(node, var, binders, a, b, c)
+    match node.variable_of() {
+        Some(x) => var == x,
+        None => match node.bound_by() {
+            Some(x) => if var == x {
+                binders
+            } else {
+                part_mark(table, node.first())
+            },
+            None => {
+                let a = part_mark(table, node.first());
+                let b = part_mark(table, node.second());
+                let c = part_mark(table, node.third());
+                one_of(a, b, c)
+            }
+        },
+    }
 }
 
 impl Graph {
@@ -58,8 +64,7 @@ impl Graph {
         Ok(table[id.index()])
     }
 
-    /// Whether the number occurs in the tree of a node at all: as a variable, or as what a binder binds. Want of memory is
-    /// the one error.
+    /// Whether the number occurs in a node's tree at all, as a variable or as what a binder binds. Want of memory is the one error.
     pub fn occurs(&self, id: NodeId, var: u32) -> Result<bool, AllocError>
         requires { id < length self.now }
         ensures { IfOk result (λ b. (t : Tree) → Stands self.now id t → b ≡ occurs_tree var t) }
@@ -74,8 +79,8 @@ impl Graph {
         ensures len { IfOk result (λ t. length t.items ≡ id + 1) }
         ensures marked { IfOk result (λ t. AreMarked binders var self.now t.items) }
     {
-        let mut table: Vec<bool> = Vec::new(self.alloc());
         let count = self.count_to(id);
+        let mut table: Vec<bool> = Vec::with_capacity(self.alloc(), count)?;
         for i in 0..count {
             let mark = self.mark_at(i, var, binders, &table);
             table.push(mark)?;

@@ -13,8 +13,7 @@ use heyvl_num::Ext;
 use std::alloc::AllocError;
 
 impl Graph {
-    /// The node whose tree has another number for each free occurrence of a variable. The list may have grown where there is
-    /// want of memory.
+    /// The node whose tree has another number for each free occurrence of a variable. The list may have grown where memory wants.
     pub(crate) fn rename(&mut self, id: NodeId, from: u32, to: u32) -> Result<NodeId, AllocError>
         requires { id < length self.old }
         ensures begins { Begins self.old self.new }
@@ -30,11 +29,7 @@ impl Graph {
         ensures size { IfOk result (λ n. length n.items ≡ count) }
         ensures none { IfOk result (λ n. AreEmpty n.items) }
     {
-        let mut notes: Vec<Option<NodeId>> = Vec::new(self.alloc());
-        for i in 0..count {
-            notes.push(None)?;
-        }
-        Ok(notes)
+        vec![in self.alloc(); None; count]
     }
 
     /// The parts of a node.

@@ -49,11 +49,13 @@ impl Graph {
         ensures begins { Begins self.old self.new }
         ensures moves { IfOk result (λ r. Moves (subst_tree var (term_of with.now)) self.new id r) }
     {
-        if !self.free(id, var)? {
+        let free = self.marks(id, var, false)?;
+        if !free[id.index()] {
             return Ok(id);
         }
         let put = self.put_term(with)?;
-        self.substituted_anew(id, var, with, put)
+        let mut notes = self.no_notes(free.len())?;
+        self.substituted(id, var, with, put, &free, &mut notes)
     }
 
     /// The term, put into the graph.

@@ -1,8 +1,6 @@
-use Rattle.heylo_graph.proofs.NodeMoves.{more_empty, counted_notes}
+use Rattle.std.proofs.Common.{rules}
+use Rattle.heylo_graph.proofs.NodeMoves.{none_noted, ok_as}
 use Rattle.heylo_graph.proofs.graphs.Graph.no_notes.Goals as goal
 
-pub loop-i-preserved : goal.loop-i-preserved
-loop-i-preserved c = record {
-  size = counted_notes c.loop-i.notes.items c.push.new.self.items c.loop-i.i c.loop-i.invariant.size c.in_ok-push.ensures.items;
-  none = more_empty c.loop-i.notes.items c.push.new.self.items c.in_ok-push.ensures.items c.loop-i.invariant.none;
-}
+pub returns-clause-none : goal.returns-clause-none
+returns-clause-none c = ok_as c.vec.result (λ n h. none_noted n.items c.args.count (h (λ y e. search rules))) c.vec.ensures.items_if_clones_equal
