@@ -14,5 +14,6 @@ pub mod SameTrees
 pub mod SmallParts
 pub mod StoredSizes
 pub mod SubstitutedNodes
+pub mod TakenNumbers
 pub mod Trees
 pub mod exported

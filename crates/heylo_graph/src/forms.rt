@@ -1,5 +1,4 @@
-//! Trees that are read out of a graph. Boxes are made in calls of their own, so that each level of a deep tree takes little
-//! stack.
+//! Trees that are read out of a graph. Boxes are made in calls of their own, so that each level takes little of the stack.
 
 ghost use Rattle.std.specs.Prelude.{◌≡◌, ◌<◌, length, slice_get, Some, IfOk};
 ghost use Rattle.heylo_formula.specs.PlainTrees.{form_of, cond_of, term_of};
@@ -26,7 +25,7 @@ impl Graph {
     }
 
     /// The node with a number; its parts have smaller ones.
-    fn node_before(&self, id: NodeId) -> &Node
+    pub(crate) fn node_before(&self, id: NodeId) -> &Node
         requires { id < length self.now }
         ensures node { slice_get self.now id ≡ Some result.now }
         ensures first { IsBefore (first result.now) id }

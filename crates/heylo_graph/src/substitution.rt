@@ -1,9 +1,9 @@
 //! Substitution in a graph. A node in whose tree the variable isn't free is handed on; each other one is visited once. A
 //! binder that would capture takes a fresh number, and its body as it was isn't visited.
 
-ghost use Rattle.std.specs.Prelude.{◌≡◌, ◌+◌, ◌^◌, ◌<◌, ◌||◌, true, false, Option, length, get_or, slice_get, Some, None, IfOk, IfSome, IfNone, OnOk, OnErr};
+ghost use Rattle.std.specs.Prelude.{◌≡◌, ◌+◌, ◌^◌, ◌<◌, ◌≤◌, ◌||◌, true, false, Option, length, get_or, slice_get, Some, None, IfOk, IfSome, IfNone, OnOk, OnErr};
 ghost use Rattle.heylo_formula.specs.Formula.{Form as PlainForm};
-ghost use Rattle.heylo_formula.specs.PlainTrees.{form_of, term_of};
+ghost use Rattle.heylo_formula.specs.PlainTrees.{term_of};
 ghost use Rattle.heylo_formula.specs.Sizes.{nodes, nodes_in_term};
 ghost use Rattle.heylo_formula.specs.Variables.{occurs, occurs_in_term};
 ghost use Rattle.heylo_formula.specs.Binders.{has_binder};
@@ -11,17 +11,16 @@ ghost use Rattle.heylo_formula.specs.Substitution.{fresh, renamed, subst};
 ghost use Rattle.heylo_graph.specs.Trees.{Tree, is_free_tree, subst_tree, tree_of_term};
 ghost use Rattle.heylo_graph.specs.Nodes.{Begins, IsFormula, IsFitting, Stands, assembled, tree_at};
 ghost use Rattle.heylo_graph.specs.Parts.{first, second, third, with_binder, variable_of, bound_by, binder_of};
+ghost use Rattle.heylo_graph.specs.internal.TakenNumbers.{AreTaken};
 ghost use Rattle.heylo_graph.specs.internal.Tables.{IsBefore, IsCalm, IsReady, IsSmall, Moves, PartIsSmall, PartMoves, put_tree};
 ghost use Rattle.heylo_graph.specs.declared.nodes.Node.{Node as NodeValue};
 
 use crate::graphs::Graph;
+use crate::marks::FIRST;
 use crate::nodes::{Node, NodeId};
-use heylo_formula::{Form, Term};
+use heylo_formula::Term;
 use heyvl_num::Ext;
 use std::alloc::AllocError;
-
-/// The most nodes of a tree that is made for a search.
-const FEW_NODES: u64 = 100_000;
 
 impl Graph {
     /// The formula with the term for each free occurrence of a variable. A binder of that variable is left as it is. A binder
@@ -328,65 +327,43 @@ impl Graph {
         requires small { (f : PlainForm) → Stands self.now body (Tree.formula f) → nodes f + nodes_in_term (term_of with.now) < 2 ^ 31 }
         ensures { IfOk result (λ z. (f : PlainForm) → Stands self.now body (Tree.formula f) → z ≡ fresh f (term_of with.now)) }
     {
-        let tree = self.small_tree(body)?;
-        self.least_number(body, &tree, with)
-    }
-
-    /// The same, by the tree of the body where it is at hand.
-    fn least_number(
-        &self,
-        body: NodeId,
-        tree: &Option<Form>,
-        with: &Term,
-    ) -> Result<u32, AllocError>
-        requires form { IsFormula self.now body }
-        requires tree { IfSome tree.now (λ f. Stands self.now body (Tree.formula (form_of f))) }
-        requires small { (f : PlainForm) → Stands self.now body (Tree.formula f) → nodes f + nodes_in_term (term_of with.now) < 2 ^ 31 }
-        ensures { IfOk result (λ z. (f : PlainForm) → Stands self.now body (Tree.formula f) → z ≡ fresh f (term_of with.now)) }
-    {
-        let mut number = 1_048_576;
-        while self.is_taken(number, body, tree, with)? {
+        let taken = self.taken_numbers(body)?;
+        let mut number = FIRST;
+        while self.is_taken(number, body, &taken, with)? {
             number += 1;
         }
         Ok(number)
     }
 
-    /// The tree of the node, where it has few nodes: a search in it ends where it finds, and meets no node of other trees.
-    fn small_tree(&self, id: NodeId) -> Result<Option<Form>, AllocError>
-        requires { IsFormula self.now id }
-        ensures { IfOk result (λ tree. IfSome tree (λ f. Stands self.now id (Tree.formula (form_of f)))) }
-    {
-        if self.nodes(id) > FEW_NODES {
-            return Ok(None);
-        }
-        Ok(Some(self.tree(id)?))
-    }
-
-    /// Whether the number occurs in the body, whose tree this is where it is at hand, or in the term.
+    /// Whether the number occurs in the body or in the term.
     fn is_taken(
         &self,
         number: u32,
         body: NodeId,
-        tree: &Option<Form>,
+        table: &[bool],
         with: &Term,
     ) -> Result<bool, AllocError>
+        requires from { 1048576 ≤ number }
         requires form { IsFormula self.now body }
-        requires tree { IfSome tree.now (λ f. Stands self.now body (Tree.formula (form_of f))) }
+        requires taken { AreTaken self.now body table.now }
         ensures { IfOk result (λ b. (f : PlainForm) → Stands self.now body (Tree.formula f) → b ≡ (occurs number f || occurs_in_term number (term_of with.now))) }
     {
-        let inside = self.in_body(number, body, tree)?;
+        let inside = self.in_body(number, body, table)?;
         Ok(inside || with.occurs(number))
     }
 
-    /// Whether the number occurs in the body, whose tree this is where it is at hand.
-    fn in_body(&self, number: u32, body: NodeId, tree: &Option<Form>) -> Result<bool, AllocError>
+    /// Whether the number occurs in the body: by the table, where that reaches it.
+    fn in_body(&self, number: u32, body: NodeId, table: &[bool]) -> Result<bool, AllocError>
+        requires from { 1048576 ≤ number }
         requires form { IsFormula self.now body }
-        requires tree { IfSome tree.now (λ f. Stands self.now body (Tree.formula (form_of f))) }
+        requires taken { AreTaken self.now body table.now }
         ensures { IfOk result (λ b. (f : PlainForm) → Stands self.now body (Tree.formula f) → b ≡ occurs number f) }
     {
-        match tree {
-            Some(form) => Ok(form.occurs(number)),
-            None => self.occurs(body, number),
+        let at = (number - FIRST) as usize;
+        if at < table.len() {
+            Ok(table[at])
+        } else {
+            self.occurs(body, number)
         }
     }
 }

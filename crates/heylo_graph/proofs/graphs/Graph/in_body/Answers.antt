@@ -1,20 +1,14 @@
-use Rattle.std.proofs.Common.{ap, subst, sym, ◌∙◌}
-use Rattle.std.specs.Prelude.{IfSome}
-use Rattle.heylo_formula.specs.Variables.{occurs}
-use Rattle.heylo_formula.specs.PlainTrees.{form_of}
-use Rattle.heylo_graph.specs.Nodes.{Stands}
 use Rattle.heylo_graph.specs.Trees.{Tree}
-use Rattle.heylo_graph.proofs.Trees.{same_form, tree_within}
 use Rattle.heylo_graph.proofs.FreshSearch.{told_of_formula}
+use Rattle.heylo_graph.proofs.Trees.{tree_within}
+use Rattle.heylo_graph.proofs.TakenNumbers.{taken_at}
 use Rattle.heylo_graph.proofs.graphs.Graph.in_body.Goals as goal
 
-pub returns-in-Some : goal.returns-in-Some
-returns-in-Some c = λ f s.
-    let t = subst (λ o. IfSome o (λ g. Stands c.args.self.now c.args.body (Tree.formula (form_of g)))) c.in-Some.is c.requires.tree in
-    c.occurs.ensures ∙ ap (occurs c.args.number) (same_form c.args.self.now c.args.body (form_of c.in-Some.form) f t s)
+pub occurs-requires : goal.occurs-requires
+occurs-requires c = tree_within c.args.self.now c.args.body (Tree.formula c.requires.form.form) c.requires.form.stands.tree
 
-pub occurs-requires-in-None : goal.occurs-requires-in-None
-occurs-requires-in-None c = tree_within c.args.self.now c.args.body (Tree.formula c.requires.form.form) c.requires.form.stands.tree
+pub returns-then-at-table : goal.returns-then-at-table
+returns-then-at-table c = taken_at c.args.self.now c.args.body c.args.number _ c.args.table.now _ c.requires.from c.at.is c.if-at.true c.index.ensures c.requires.taken
 
-pub returns-in-None : goal.returns-in-None
-returns-in-None c = told_of_formula c.args.self.now c.args.body c.args.number c.occurs-in-None.result c.occurs-in-None.ensures
+pub returns-else-at-table : goal.returns-else-at-table
+returns-else-at-table c = told_of_formula c.args.self.now c.args.body c.args.number c.occurs.result c.occurs.ensures
