@@ -13,6 +13,9 @@ mod GeneratorSteps
 mod GeneratedBinders
 mod GraphForms
 mod NumberedParts
+mod PlainNumbers
+mod UnboundParts
+mod UnboundSteps
 mod GeneratedNames
 mod FreeTerms
 mod Directions

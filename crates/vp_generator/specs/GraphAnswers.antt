@@ -62,3 +62,8 @@ IsStopAt most f (Memory e) = Unit {0}
 abbrev pub IsAnswerIn : ℕ → List Node → Form → Result ℕ VpStop → List Node → Type 0
 IsAnswerIn most old f (Ok i) new = Begins old new × (Stands new i (Tree.formula f) × IsWithin most f)
 IsAnswerIn most old f (Err stop) new = (new ≡ old) × IsStopAt most f stop
+
+-- The formula stands in a graph of its own and is within the limits of a tree; or it passes a limit.
+abbrev pub IsAnswerOf : Form → Result (List Node × ℕ) VpStop → Type 0
+IsAnswerOf f (Ok r) = Stands r.0 r.1 (Tree.formula f) × IsWithin 200000 f
+IsAnswerOf f (Err stop) = IsStopAt 200000 f stop

@@ -1,3 +1,4 @@
 pub mod FittingActs
 pub mod Lookup
 pub mod GraphSteps
+pub mod UnboundNodes

@@ -9,7 +9,7 @@ ghost use Rattle.heyvl_acts.specs.PlainActs.{act_of, acts_of, arms_of};
 ghost use Rattle.vp_generator.specs.Answers.{IsAnswer};
 ghost use Rattle.vp_generator.specs.Fit.{AreFit};
 ghost use Rattle.vp_generator.specs.GeneratedForms.{pick_form, vp, vp_act, vp_arms};
-ghost use Rattle.vp_generator.specs.GraphAnswers.{Follows, HasNoAny, HaveNoAny, HaveNoAnyIn, IsAnswerIn, MakeNoBinder};
+ghost use Rattle.vp_generator.specs.GraphAnswers.{Follows, HasNoAny, HaveNoAny, HaveNoAnyIn, IsAnswerIn, IsAnswerOf, MakeNoBinder};
 ghost use Rattle.vp_generator.specs.internal.FittingActs.{IsFit, ArmsAreFit};
 ghost use Rattle.vp_generator.specs.internal.GraphSteps.{IsMade, IsPlaced, IsReady};
 
@@ -34,6 +34,17 @@ pub fn vp(alloc: Global, acts: &[Act], post: Form) -> Result<Form, VpStop>
     requires { AreFit (acts_of acts.now) (form_of post) }
     ensures { IsAnswer (vp (acts_of acts.now) (form_of post)) result }
 {
+    match vp_graph(alloc, acts, post) {
+        Ok((graph, form)) => Ok(graph.tree(form)?),
+        Err(stop) => Err(stop),
+    }
+}
+
+/// The same, as a node of a graph of its own.
+pub fn vp_graph(alloc: Global, acts: &[Act], post: Form) -> Result<(Graph, NodeId), VpStop>
+    requires { AreFit (acts_of acts.now) (form_of post) }
+    ensures { IsAnswerOf (vp (acts_of acts.now) (form_of post)) result }
+{
     let mut graph = Graph::new(alloc);
     let mut form = graph.put(&post)?;
     let mut rest = acts;
@@ -42,7 +53,7 @@ pub fn vp(alloc: Global, acts: &[Act], post: Form) -> Result<Form, VpStop>
         match vp_in(&mut graph, last, form, MOST_NODES) {
             Ok(next) => {
                 if before.is_empty() {
-                    return Ok(graph.tree(next)?);
+                    return Ok((graph, next));
                 }
                 (graph, form) = uncrowded(alloc, graph, next)?;
             }

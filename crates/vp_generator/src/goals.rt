@@ -3,11 +3,15 @@
 ghost use Rattle.std.specs.Prelude.{◌≡◌, ◌<◌, ◌^◌, ◌∷◌, length, IfOk};
 ghost use Rattle.heylo_formula.specs.BinderNames.{binders};
 ghost use Rattle.heylo_formula.specs.PlainTrees.{form_of};
+ghost use Rattle.heylo_formula.specs.Formula.{Form as plain};
+ghost use Rattle.heylo_graph.specs.Nodes.{IsFormula, Stands};
+ghost use Rattle.heylo_graph.specs.Trees.{Tree};
 ghost use Rattle.vp_generator.specs.PrenexedGoals.{IsMade, types_of_variables, names_of_variables};
 ghost use Rattle.heyvl_acts.specs.Rules.{AreNamed};
 
 use crate::limits::{DEEPEST, MOST_NODES};
-use crate::numbering::prenex;
+use crate::numbering::{prenex, prenex_in};
+use heylo_graph::{Graph, NodeId};
 use heylo_formula::{Form, Goal, Made, Ty};
 use heyvl_acts::VarInfo;
 use heyvl_places::Name;
@@ -41,6 +45,41 @@ pub fn goal_of_forms(
         upper,
         stated,
         found: without.form,
+        vars: types,
+        names,
+        own,
+    }))
+}
+
+/// The same of a found form that stands in a graph: of the form without binders alone a tree is made.
+pub fn goal_of_nodes(
+    alloc: Global,
+    upper: bool,
+    stated: Form,
+    graph: Graph,
+    found: NodeId,
+    vars: Vec<VarInfo>,
+) -> Result<Made, AllocError>
+    requires form { IsFormula graph found }
+    requires few { length vars.items < 2 ^ 30 }
+    requires named { (f : plain) → Stands graph found (Tree.formula f) → AreNamed (length vars.items) (binders f) }
+    ensures { IfOk result (λ made. (f : plain) → Stands graph found (Tree.formula f) → IsMade upper (form_of stated) f vars.items made) }
+{
+    let mut graph = graph;
+    if graph.nodes(found) > MOST_NODES {
+        return Ok(Made::Nodes);
+    }
+    if graph.depth(found) > DEEPEST {
+        return Ok(Made::Depth);
+    }
+    let own = vars.len() as u32;
+    let (without, all) = prenex_in(alloc, &mut graph, found, vars)?;
+    let types = types_of(alloc, &all)?;
+    let names = names_of(alloc, &all)?;
+    Ok(Made::Goal(Goal {
+        upper,
+        stated,
+        found: graph.tree(without)?,
         vars: types,
         names,
         own,

@@ -6,29 +6,21 @@ ghost use Rattle.heylo_formula.specs.Formula.{Form as plain, Cond as plain_cond}
 ghost use Rattle.heylo_formula.specs.PlainTrees.{form_of, cond_of};
 ghost use Rattle.vp_generator.specs.PrenexedForms.{prenexed, renumbered, unbound, unbound_in};
 ghost use Rattle.heylo_formula.specs.BinderNames.{binders, binders_in};
+ghost use Rattle.heylo_graph.specs.Nodes.{Begins, IsFormula, Stands};
+ghost use Rattle.heylo_graph.specs.Trees.{Tree};
 ghost use Rattle.heyvl_acts.specs.Rules.{AreNamed};
 ghost use Rattle.vp_generator.specs.Scopes.{named};
 ghost use Rattle.vp_generator.specs.internal.Lookup.{number_in};
 
 use crate::prenexed_forms::Prenex;
 use crate::quantifiers::has_binder;
+use crate::scopes::number_in;
+use crate::unbound_nodes::unbound as node_without;
 use heylo_formula::{Cond, Form, Ty};
+use heylo_graph::{Graph, NodeId};
 use heyvl_acts::VarInfo;
+use indexmap::IndexMap;
 use std::alloc::{AllocError, Global};
-
-/// The number of a variable under binders that are listed with their new numbers, the innermost last.
-fn number_in(scope: &[(u32, u32)], var: u32) -> u32
-    ensures { result ≡ number_in scope.now var }
-{
-    let mut rest = scope;
-    'binders: while let Some((last, outer)) = rest.split_last() {
-        if last.0 == var {
-            return last.1;
-        }
-        rest = outer;
-    }
-    var
-}
 
 /// The form without binders, which are added to those that were found. The first one found has the number `first`. The scope is
 /// as before, where nothing fails.
@@ -308,4 +300,30 @@ fn with_vars(
         rest = more;
     }
     Ok(all)
+}
+
+/// The same in a graph: the node of the form with a variable of its own for each occurrence of a binder, and the variables with these.
+/// Parts without binders are made once below the same binders.
+pub fn prenex_in(
+    alloc: Global,
+    graph: &mut Graph,
+    id: NodeId,
+    vars: Vec<VarInfo>,
+) -> Result<(NodeId, Vec<VarInfo>), AllocError>
+    requires form { IsFormula graph.old id }
+    requires few { (f : plain) → Stands graph.old id (Tree.formula f) → length vars.items + length (binders f) < 2 ^ 31 }
+    requires named { (f : plain) → Stands graph.old id (Tree.formula f) → AreNamed (length vars.items) (binders f) }
+    ensures begins { Begins graph.old graph.new }
+    ensures tree { IfOk result (λ p. (f : plain) → Stands graph.old id (Tree.formula f) → Stands graph.new p.0 (Tree.formula (prenexed (length vars.items) f))) }
+    ensures vars { IfOk result (λ p. (f : plain) → Stands graph.old id (Tree.formula f) → p.1.items ≡ named vars.items (binders f)) }
+{
+    let mut scope = Vec::new(alloc);
+    let mut found = Vec::new(alloc);
+    let mut notes = IndexMap::new(alloc);
+    let first = vars.len() as u32;
+    let made = node_without(
+        alloc, graph, id, &mut scope, first, &mut found, &mut notes,
+    )?;
+    let all = with_vars(alloc, vars, &found)?;
+    Ok((made, all))
 }

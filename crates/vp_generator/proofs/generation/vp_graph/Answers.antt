@@ -2,7 +2,7 @@ use Rattle.heylo_formula.specs.PlainTrees.{form_of}
 use Rattle.heyvl_acts.specs.PlainActs.{acts_of}
 use Rattle.vp_generator.specs.GeneratedForms.{vp}
 use Rattle.vp_generator.proofs.ActsInParts.{last_follow, over_next, over_stop}
-use Rattle.vp_generator.proofs.generation.vp.Goals as goal
+use Rattle.vp_generator.proofs.generation.vp_graph.Goals as goal
 
 pub vp_in-requires-clause-post : goal.vp_in-requires-clause-post
 vp_in-requires-clause-post c = last_follow c.args.acts.now (form_of c.args.post) c.parts.graph c.parts.rest.now c.split_at.result.0.now c.split_at.result.1.now c.parts.form c.parts.invariant c.split_at.ensures.by_index.0

@@ -1,6 +1,6 @@
 use Rattle.std.proofs.Common.{◌≡◌, length}
 use Rattle.vp_generator.specs.internal.Lookup.{number_in}
-use Rattle.vp_generator.proofs.numbering.number_in.Given as goal
+use Rattle.vp_generator.proofs.scopes.number_in.Given as goal
 
 abbrev pub invariant-binders : goal.invariant-binders
 invariant-binders l = number_in l.scope l.var ≡ number_in l.rest l.var

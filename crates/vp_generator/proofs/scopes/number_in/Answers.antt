@@ -1,6 +1,6 @@
 use Rattle.std.proofs.Common.{arith}
 use Rattle.vp_generator.proofs.ScopeNumbers.{looked_up}
-use Rattle.vp_generator.proofs.numbering.number_in.Goals as goal
+use Rattle.vp_generator.proofs.scopes.number_in.Goals as goal
 
 pub returns-then-last-var : goal.returns-then-last-var
 returns-then-last-var c =
