@@ -1,5 +1,5 @@
 -- What is said of two procedures, from what its parts say; and that it is the one thing that is said of a file without a fault.
-use Rattle.heyvl_acts.specs.Acts.{TypedProcedure}
+use Rattle.heyvl_acts.specs.Acts.{TypedProcedure, procedure_at}
 use Rattle.heyvl_syntax.specs.SourceFaults.{SourcesHaveNoFault}
 use Rattle.spelled_files.specs.PrintLaws.{SpellingIsUnique}
 use Rattle.heyvl_replies.proofs.SaidOfFiles.{said_of_file, same_number}
@@ -10,14 +10,13 @@ use Rattle.command_rules.specs.commands.Remainder.{IsRemainderOf, RemainderPairs
 use Rattle.static_rules.specs.Files.{resolved}
 use Rattle.lower_rules.specs.OmegaAnswers.{IsOmegaAnswer}
 use Rattle.lower_rules.specs.RemainderAnswers.{HasBoundedTurns, IsRemainderAnswer}
-use Rattle.lower_rules.specs.declared.answers.Omega.TheVariants as omega_answers
-use Rattle.lower_rules.specs.declared.answers.Omega.{Omega}
-use Rattle.lower_rules.specs.declared.remainder_answers.Remainder.TheVariants as remainder_answers
-use Rattle.lower_rules.specs.declared.remainder_answers.Remainder.{Remainder}
+use Rattle.lower_goals.specs.declared.answers.Omega.TheVariants as omega_answers
+use Rattle.lower_goals.specs.declared.answers.Omega.{Omega}
+use Rattle.lower_goals.specs.declared.remainder_answers.Remainder.TheVariants as remainder_answers
+use Rattle.lower_goals.specs.declared.remainder_answers.Remainder.{Remainder}
 use Rattle.lower_texts.specs.OmegaTexts as omega_texts
 use Rattle.lower_texts.specs.RemainderTexts as remainder_texts
 use Rattle.loop_encodings.specs.BoundGoals.{BoundGoalsHold}
-use Rattle.heyvl_acts.specs.Acts.{procedure_at}
 use Rattle.run_machine.specs.Bound.{Bound}
 use Rattle.std.proofs.Common.{List, None, Option, Some, inl, inr, refl, subst, sym, ◌∙◌, ◌≡◌, ◌⊎◌, ℕ}
 use Rattle.verdict_report.specs.VerdictsOn.{IsVerdictOn, IsVerdictOnLoop}

@@ -33,7 +33,7 @@ use Rattle.run_machine.proofs.exported.Equations.{push_join, worth-spread}
 use Rattle.run_machine.proofs.exported.StepWeights.{steps_weigh_one}
 use Rattle.run_laws.specs.EachOutcome.{EachOutcome}
 use Rattle.run_laws.proofs.exported.SideBySide.{Both}
-use Rattle.lower_rules.proofs.Calm.{IsCalm, AreCalm}
+use Rattle.lower_goals.proofs.exported.Calm.{IsCalm, AreCalm}
 use Rattle.heyvl_acts.proofs.exported.Each.{each_first, each_second, each_join, each_taken}
 use Rattle.heyvl_acts.proofs.exported.Lengths.{length_join, taken_length, pick_lengths}
 use Rattle.heyvl_acts.proofs.exported.Tosses.{toss_fit}

@@ -1,59 +1,36 @@
--- A weak proc with one loop by hand: `d = false`, and then `while !d { d = flip(1/2) }`. Its runs of at most m turns take 2m + 2 steps at
--- most, and what they have collected is the post where they have ended.
+-- What runs of the loop `while !d { d = flip(1/2) }` have collected is the post where they have ended; and the answers on three goals.
 use Rattle.std.proofs.Common.{◌≡◌, refl, ℕ, true, false, [], ◌∷◌, pos}
-use Rattle.std.specs.Prelude.{Some, None}
+use Rattle.std.specs.Prelude.{None, Vec}
 use Rattle.heyvl_num.specs.Rational.{Rational, ratio}
 use Rattle.heyvl_num.specs.Value.{zeroᵛ, oneᵛ}
 use Rattle.heyvl_places.specs.declared.spans.Span.{Span}
 use Rattle.heylo_formula.specs.Formula.{Form, Cond, Term}
-use Rattle.heylo_formula.specs.declared.types.Ty.{Ty}
 use Rattle.heylo_formula.specs.declared.values.Val.TheVariants.{Truth}
-use Rattle.heyvl_acts.specs.Acts.{Head, Act, Acts, TypedProcedure}
+use Rattle.heyvl_acts.specs.Acts.{Head, Act, Acts}
 use Rattle.run_machine.specs.Configurations.{Item, Config}
-use Rattle.heyvl_acts.specs.Acts.{variables}
-use Rattle.heylo_formula.specs.Substitution as Replaced
 use Rattle.heylo_formula.specs.declared.values.Val.{Val}
 use Rattle.goal_answers.specs.declared.causes.Cause.TheVariants as Cause
 use Rattle.goal_answers.specs.declared.decisions.Decision.TheVariants as decision
-use Rattle.std.specs.Prelude.{Vec, length}
 use Rattle.std.specs.declared.alloc.Global.{Global}
 use Rattle.lower_rules.specs.CollectedSums.{settled}
 use Rattle.lower_rules.specs.OmegaAnswers.{told}
-use Rattle.lower_rules.specs.OmegaGoals.{greater, smaller}
-use Rattle.lower_rules.specs.OmegaPairs.{IsOmegaPair, formula_of, places}
-use Rattle.lower_rules.specs.declared.answers.Omega.TheVariants as answer
-use Rattle.lower_rules.specs.declared.answers.Step.TheVariants as Step
-use Rattle.lower_rules.specs.OneLoop.{IsOneLoop, steps, steps_from_test}
+use Rattle.lower_goals.specs.declared.answers.Omega.TheVariants as answer
+use Rattle.lower_goals.specs.declared.answers.Step.TheVariants as Step
 
-abbrev pub nowhere : Span
+abbrev nowhere : Span
 nowhere = record { from = 0; to = 0 }
 
 abbrev half : Rational
 half = ratio (pos 1) 2
 
-abbrev pub set_false : Term
-set_false = Term.truth (Cond.constant false)
-
-abbrev pub front : Acts
-front = Acts.next (Act.set 0 set_false nowhere) Acts.done
-
-abbrev pub body : Acts
+abbrev body : Acts
 body = Acts.next (Act.draw 0 ((half, Term.truth (Cond.constant true)) ∷ (half, Term.truth (Cond.constant false)) ∷ []) nowhere) Acts.done
 
 abbrev head : Head
 head = record { number = 1; k = 1; inv = Form.number oneᵛ; guard = Cond.not (Cond.flag 0); rank = None; scope = 0 ∷ []; span = nowhere }
 
-abbrev pub post : Form
+abbrev post : Form
 post = Form.iverson (Cond.flag 0)
-
-abbrev two : TypedProcedure
-two = record { name = []; co = false; weak = true; inputs = []; outputs = record { name = []; ty = Ty.Bool } ∷ []; locals = []; pre = Form.number oneᵛ; post = post; body = Some (Acts.next (Act.set 0 (Term.truth (Cond.constant false)) nowhere) (Acts.next (Act.loop head body) Acts.done)); loops = 1; span = nowhere }
-
-two_has_one_loop : IsOneLoop two front head body Acts.done
-two_has_one_loop = record { whole = refl; plain_front = (tt, tt); plain_body = (tt, tt); plain_behind = tt; weak = refl; program = refl }
-
-steps_of_three_turns : (steps_from_test body Acts.done 3 ≡ 7) × (steps front body Acts.done 3 ≡ 8)
-steps_of_three_turns = (refl, refl)
 
 abbrev ended_after : ℕ → Config
 ended_after k = record { procedure = 0; items = []; frames = []; state = Truth true ∷ []; reward = zeroᵛ; turns = λ n. k }
@@ -64,35 +41,6 @@ running_after k = record { procedure = 0; items = Item.turn head body ∷ []; fr
 -- With at most two turns the post counts, with three it doesn't, and where the run hasn't ended neither.
 settled_rows : (settled 2 1 post (ended_after 2) ≡ oneᵛ) × (settled 2 1 post (ended_after 3) ≡ zeroᵛ) × (settled 2 1 post (running_after 2) ≡ zeroᵛ)
 settled_rows = (refl, refl, refl)
-
--- ---- An omega pair: the second procedure is `two_j(d: Bool, m: UInt)` with pre `ite(d, 1, 0)`
-
-abbrev two_j : TypedProcedure
-two_j = record { name = []; co = false; weak = false; inputs = record { name = []; ty = Ty.Bool } ∷ record { name = []; ty = Ty.UInt } ∷ []; outputs = []; locals = []; pre = Form.select (Cond.flag 0) (Form.number oneᵛ) (Form.variable 1); post = Form.number zeroᵛ; body = None; loops = 0; span = nowhere }
-
-two_are_a_pair : IsOmegaPair two head two_j
-two_are_a_pair = record { proc = refl; bodiless = refl; no_outputs = refl; inputs = refl }
-
--- Its first input stands for the variable d of the first procedure, and its last one for the variable behind those.
-formula_of_two : formula_of two head two_j ≡ Form.select (Cond.flag 0) (Form.number oneᵛ) (Form.variable 1)
-formula_of_two = refl
-
--- With a turn more, while d is false, it is at most what the body makes of it; else it is at most the post.
-turn_of_two : greater two head body Acts.done (formula_of two head two_j) Step.Turn ≡ Form.select (Cond.not (Cond.flag 0)) (Form.sum (Form.scale half (Form.select (Cond.constant true) (Form.number oneᵛ) (Form.variable 1))) (Form.scale half (Form.select (Cond.constant false) (Form.number oneᵛ) (Form.variable 1)))) (Form.iverson (Cond.flag 0))
-unfolding Replaced.subst
-turn_of_two = refl
-
-more_of_two : smaller 1 (formula_of two head two_j) Step.Turn ≡ Form.select (Cond.flag 0) (Form.number oneᵛ) (Form.sum (Form.variable 1) (Form.number oneᵛ))
-unfolding Replaced.subst
-more_of_two = refl
-
-base_of_two : (smaller 1 (formula_of two head two_j) Step.Base ≡ Form.select (Cond.flag 0) (Form.number oneᵛ) (Form.number zeroᵛ)) × (greater two head body Acts.done (formula_of two head two_j) Step.Base ≡ Form.select (Cond.not (Cond.flag 0)) (Form.number zeroᵛ) (Form.iverson (Cond.flag 0)))
-unfolding Replaced.subst
-base_of_two = (refl, refl)
-
--- A scope with gaps: the inputs stand for the variables 0 and 2, and the number of turns is behind all three.
-places_with_gaps : (x : TypedProcedure) → places x (record head { scope = 0 ∷ 2 ∷ [] }) ≡ 0 ∷ 2 ∷ length (variables x) ∷ []
-places_with_gaps x = refl
 
 -- ---- Answers: a goal that is falsified goes before an earlier one of which nothing is known
 

@@ -16,7 +16,8 @@ use Rattle.vp_generator.specs.PrenexedGoals.{IsMadeWithin}
 use Rattle.region_split.specs.Decisions.{IsDecision}
 use Rattle.region_split.specs.Meanings.{Tells}
 use Rattle.vp_generator.specs.Limits.{IsSmall}
-use Rattle.lower_rules.specs.UpperGoals.{IsDecidedWithin, IsMadeFor}
+use Rattle.lower_rules.specs.LimitedDecisions.{IsDecidedWithin}
+use Rattle.lower_goals.specs.LimitedGoals.{IsMadeFor}
 use Rattle.lower_rules.specs.internal.Decidable.{CanDecide, IsDecidable}
 
 -- ---- Goals of one form that has limits

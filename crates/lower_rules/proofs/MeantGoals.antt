@@ -40,17 +40,18 @@ use Rattle.vp_generator.specs.PrenexedForms.{new_types}
 use Rattle.vp_generator.specs.PrenexedGoals.{FailsByChoices, HoldsByChoices, PrenexedGoalsAreGoals, PrenexedGoalsFailByChoices, PrenexedGoalsSpeakOfChoices, prenexed_goal}
 use Rattle.vp_generator.specs.PrenexLaws.{PrenexedFormHasNoBinder, PrenexedFormIsFormula}
 use Rattle.lower_rules.specs.Omega.{IsOmega, turns_value, with_turns}
-use Rattle.lower_rules.specs.OmegaGoals.{after_body, after_loop, goal_variables, greater, limited, smaller, step_goal}
-use Rattle.lower_rules.specs.OmegaPairs.{IsOmegaPair, formula_of}
-use Rattle.lower_rules.specs.OneLoop.{OneLoop}
-use Rattle.lower_rules.specs.declared.answers.Step.{Step}
-use Rattle.lower_rules.specs.declared.answers.Step.TheVariants.{Base, Turn}
+use Rattle.lower_goals.specs.OmegaGoals.{after_body, after_loop, goal_variables, greater, limited, smaller, step_goal}
+use Rattle.lower_goals.specs.OmegaPairs.{IsOmegaPair, formula_of}
+use Rattle.lower_goals.specs.OneLoop.{OneLoop}
+use Rattle.lower_goals.specs.declared.answers.Step.{Step}
+use Rattle.lower_goals.specs.declared.answers.Step.TheVariants.{Base, Turn}
 use Rattle.lower_rules.specs.internal.Decidable.{IsDecidable}
 use Rattle.lower_rules.proofs.Apart.{acts_stand_apart}
-use Rattle.lower_rules.proofs.GoalForms.{behind_fit, body_fit, body_over, greater_few, greater_over, greater_typed, loop_over, no_turn, no_turn_plain, one_more, one_more_plain, smaller_few, smaller_over, smaller_plain, smaller_typed}
-use Rattle.lower_rules.proofs.GoalVariables.{goal_types, more_first, more_is, more_last, more_state, more_typed, put_more, turns_more, types_length}
-use Rattle.lower_rules.proofs.OmegaParts.{body_acts, formula_over, formula_plain, guard_over, guard_plain}
-use Rattle.lower_rules.proofs.TurnActs.{acts_lack}
+use Rattle.lower_goals.proofs.exported.GoalForms.{behind_fit, body_fit, body_over, greater_few, greater_over, greater_typed, loop_over, no_turn, no_turn_plain, one_more, one_more_plain, smaller_few, smaller_over, smaller_plain, smaller_typed}
+use Rattle.lower_goals.proofs.exported.GoalVariables.{goal_types, types_length}
+use Rattle.lower_rules.proofs.GoalStates.{more_first, more_is, more_last, more_state, more_typed, put_more, turns_more}
+use Rattle.lower_goals.proofs.exported.OmegaParts.{body_acts, formula_over, formula_plain, guard_over, guard_plain}
+use Rattle.lower_rules.proofs.TurnsApart.{acts_lack}
 
 -- ---- Terms that are put in
 

@@ -23,9 +23,10 @@ use Rattle.run_machine.specs.Sums.{ended}
 use Rattle.run_machine.proofs.exported.Equations.{runs-zero, runs-next, worth-one, worth-sure}
 use Rattle.lower_rules.specs.CollectedSums.{settled}
 use Rattle.lower_rules.specs.Omega.{with_turns, IsOmega, OmegaBoundsRuns}
-use Rattle.lower_rules.specs.OneLoop.{OneLoop, steps_from_test}
-use Rattle.lower_rules.proofs.Calm.{CalmParts, calm_parts, ruled_parts}
-use Rattle.lower_rules.proofs.LoopParts.{OfParts}
+use Rattle.lower_goals.specs.OneLoop.{OneLoop, steps_from_test}
+use Rattle.lower_goals.proofs.exported.Calm.{CalmParts, calm_parts}
+use Rattle.lower_rules.proofs.CalmSteps.{ruled_parts}
+use Rattle.lower_goals.proofs.exported.LoopParts.{OfParts}
 use Rattle.run_laws.proofs.exported.GrowingSums.{ended_held}
 use Rattle.heyvl_acts.proofs.exported.Each.{each_at}
 use Rattle.run_laws.specs.RuledConfigurations.{IsRuled, ConfigFits}

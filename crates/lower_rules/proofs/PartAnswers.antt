@@ -16,11 +16,11 @@ use Rattle.verdict_report.specs.declared.answers.RankVerdict.TheVariants.{Ranked
 use Rattle.verdict_report.specs.declared.answers.Verdict.TheVariants.{Verified}
 use Rattle.lower_rules.specs.RemainderAnswers.{HasBoundedTurns, IsPromised, IsRemainderAnswer, IsUnranked, IsUnverified}
 use Rattle.verdict_report.specs.VerdictsOn.{IsVerdictOn, IsVerdictOnLoop}
-use Rattle.lower_rules.specs.declared.remainder_answers.Remainder.{Remainder}
-use Rattle.lower_rules.specs.declared.remainder_pairs.RankedParts.{RankedParts}
-use Rattle.lower_rules.specs.internal.Parts.{IsPairAs}
+use Rattle.lower_goals.specs.declared.remainder_answers.Remainder.{Remainder}
+use Rattle.lower_goals.specs.declared.remainder_pairs.RankedParts.{RankedParts}
+use Rattle.lower_goals.specs.LentRemainderPairs.{IsPairAs}
 use Rattle.lower_rules.specs.internal.StartDecisions.{IsStarted, answer_by}
-use Rattle.lower_rules.proofs.MadeStarts.{started_as}
+use Rattle.lower_rules.proofs.StartedPairs.{started_as}
 use Rattle.lower_rules.proofs.Promises.{is_answer, is_promised}
 
 module _ (typed : Typed) (answers : List Answer) (p q : ℕ) (parts : RankedParts) (is : IsPairAs (procedure_at (procedures_of typed) p) (procedure_at (procedures_of typed) q) parts) where

@@ -22,17 +22,17 @@ use Rattle.run_machine.specs.Bound.{Bound, IsState, RankedBy}
 use Rattle.verdict_report.specs.declared.answers.Answer.{Answer}
 use Rattle.verdict_report.specs.declared.answers.RankVerdict.TheVariants.{Ranked}
 use Rattle.verdict_report.specs.declared.answers.Verdict.TheVariants.{Verified}
-use Rattle.lower_rules.specs.OneLoop.{OneLoop}
+use Rattle.lower_goals.specs.OneLoop.{OneLoop}
 use Rattle.lower_rules.specs.Remainder.{BoundsWithRemainder, HasSmallPost}
 use Rattle.lower_rules.specs.RemainderAnswers.{HasBoundedTurns, IsPromised, IsRemainderAnswer}
-use Rattle.lower_rules.specs.RemainderPairs.{RemainderPair}
-use Rattle.lower_rules.specs.StartGoals.{StartHolds}
+use Rattle.lower_goals.specs.RemainderPairs.{RemainderPair}
+use Rattle.lower_goals.specs.StartGoals.{StartHolds}
 use Rattle.verdict_report.specs.VerdictsOn.{IsVerdictOn, IsVerdictOnLoop}
 use Rattle.lower_rules.specs.internal.StartDecisions.{IsStarted, answer_by}
-use Rattle.lower_rules.proofs.LoopParts.{body_in_order}
+use Rattle.lower_goals.proofs.exported.LoopParts.{body_in_order}
 use Rattle.lower_rules.proofs.OmegaBounds.{alike}
 use Rattle.lower_rules.proofs.RemainderBounds.{remainder_bounds}
-use Rattle.lower_rules.proofs.StartParts.{is_start}
+use Rattle.lower_goals.proofs.exported.StartParts.{is_start}
 
 -- ---- The post is at most 1
 

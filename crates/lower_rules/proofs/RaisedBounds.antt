@@ -34,7 +34,8 @@ use Rattle.run_machine.specs.Runs.{runs, spread}
 use Rattle.run_machine.specs.Scheduler.{Tree, Forest, decision, under, first, rest}
 use Rattle.run_machine.specs.Step.{Decision, value_of, side_of, sure, branch, branches, step_act}
 use Rattle.run_machine.proofs.exported.Equations.{runs-next, push_join, worth-spread, worth-sure}
-use Rattle.lower_rules.proofs.Calm.{IsCalm, AreCalm, some_length}
+use Rattle.lower_goals.proofs.exported.Calm.{IsCalm, AreCalm}
+use Rattle.lower_rules.proofs.CalmSteps.{some_length}
 use Rattle.heyvl_acts.specs.Upward.{upward}
 use Rattle.heyvl_acts.proofs.exported.UpwardMeaning.{joined_meaning, raised_meaning}
 use Rattle.heyvl_acts.proofs.exported.Each.{each_first, each_second, each_join, each_taken}

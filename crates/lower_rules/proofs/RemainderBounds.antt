@@ -32,10 +32,11 @@ use Rattle.run_machine.specs.Sums.{ended, worth, sum_of, turns_in}
 use Rattle.run_machine.proofs.exported.Equations.{runs-zero, runs-next, push_join, one_times, worth-one, worth-sure}
 use Rattle.heyvl_acts.specs.Upward.{upward}
 use Rattle.lower_rules.specs.CollectedSums.{settled}
-use Rattle.lower_rules.specs.OneLoop.{OneLoop, steps_from_test}
+use Rattle.lower_goals.specs.OneLoop.{OneLoop, steps_from_test}
 use Rattle.lower_rules.specs.Remainder.{RemainderBoundsRuns}
-use Rattle.lower_rules.proofs.Calm.{AreCalm, IsCalm, CalmParts, calm_parts, ruled_parts, some_length}
-use Rattle.lower_rules.proofs.LoopParts.{OfParts}
+use Rattle.lower_goals.proofs.exported.Calm.{AreCalm, IsCalm, CalmParts, calm_parts}
+use Rattle.lower_rules.proofs.CalmSteps.{ruled_parts, some_length}
+use Rattle.lower_goals.proofs.exported.LoopParts.{OfParts}
 use Rattle.heyvl_acts.proofs.exported.Each.{each_at, each_first, each_second}
 use Rattle.run_laws.specs.EachOutcome.{EachOutcome}
 use Rattle.run_laws.specs.RuledConfigurations.{IsRuled, ConfigFits, ItemsFit, owner}

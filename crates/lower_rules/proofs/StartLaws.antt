@@ -14,29 +14,26 @@ use Rattle.heylo_formula.specs.TypedGoals.{IsGoal}
 use Rattle.heylo_formula.specs.Typing.{IsFormula, types_in}
 use Rattle.heylo_formula.specs.Variables.{IsOver}
 use Rattle.heylo_formula.specs.declared.values.Val.{Val}
-use Rattle.heylo_formula.proofs.exported.BinderNames.{unnamed}
 use Rattle.heyvl_acts.specs.Acts.{Acts, TypedProcedure, Variable, type_list, types_of, variables}
 use Rattle.heyvl_acts.specs.FormSizes.{FormsWithin}
 use Rattle.heyvl_acts.specs.Forward.{forward}
-use Rattle.heyvl_acts.specs.Rules.{AreNamed, MeetsRules}
+use Rattle.heyvl_acts.specs.Rules.{MeetsRules}
 use Rattle.heyvl_acts.specs.Upward.{upward}
 use Rattle.heyvl_acts.specs.WellTypedActs.{ActsFit}
 use Rattle.ranking_rule.specs.Laws.{IsFew}
 use Rattle.made_goals.specs.MadeGoals.{all_names}
 use Rattle.ranking_rule.specs.RankingGoals.{generated}
 use Rattle.region_split.specs.Meanings.{Fails}
-use Rattle.vp_generator.specs.Fit.{AreFit}
 use Rattle.vp_generator.specs.Laws.{GeneratedFormIsFormula, GeneratedFormMeansActs}
 use Rattle.vp_generator.specs.Limits.{IsSmall}
 use Rattle.vp_generator.specs.Over.{GeneratedFormIsOver}
 use Rattle.vp_generator.specs.PrenexedForms.{new_types}
 use Rattle.vp_generator.specs.PrenexedGoals.{PrenexedGoalsAreGoals, PrenexedGoalsFailByChoices, PrenexedGoalsSpeakOfChoices}
-use Rattle.vp_generator.specs.Scopes.{GeneratedFormIsNamed}
-use Rattle.lower_rules.specs.StartGoals.{StartFails, StartHolds, start_goal}
-use Rattle.lower_rules.proofs.StartParts.{IsStart, bound_formula, bound_over}
+use Rattle.lower_goals.specs.StartGoals.{StartFails, StartHolds, start_goal}
+use Rattle.lower_goals.proofs.exported.StartParts.{IsStart, bound_formula, bound_over}
 use Rattle.made_goals.proofs.exported.MadeGoals.{all_names_length, new_types_length}
 use Rattle.ranking_rule.proofs.exported.PrenexedSizes.{nodes_unbound}
-use Rattle.ranking_rule.proofs.exported.UpwardActs.{upward_below, upward_fit, upward_over}
+use Rattle.ranking_rule.proofs.exported.UpwardActs.{upward_fit, upward_over}
 
 module _ (ps : List TypedProcedure) (p q : TypedProcedure) (front : Acts) (r : Rational × Form) (start : IsStart ps p q front r) where
   abbrev own : ℕ
@@ -44,15 +41,6 @@ module _ (ps : List TypedProcedure) (p q : TypedProcedure) (front : Acts) (r : R
 
   acts_fit : ActsFit (types_of p) (upward front)
   acts_fit = upward_fit ps p front start.turns
-
-  pub start_fit : AreFit (upward front) r.1
-  start_fit = record { types = types_of p; fit = acts_fit; formula = start.fits.1.0 }
-
-  none_named : AreNamed own (binders r.1)
-  none_named = subst (λ bs. AreNamed own bs) (sym (unnamed r.1 start.fits.1.1)) tt
-
-  pub start_named : GeneratedFormIsNamed → AreNamed own (binders (generated front r))
-  start_named law = law own (types_of p) (upward front) r.1 acts_fit (upward_below ps p front start.turns) none_named
 
   as_many : length (type_list (variables p)) ≡ own
   as_many = length-map (variables p) (λ (v : Variable). v.ty)

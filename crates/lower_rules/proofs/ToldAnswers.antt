@@ -19,17 +19,18 @@ use Rattle.vp_generator.specs.PrenexedGoals.{PrenexedGoalsFailByChoices, Prenexe
 use Rattle.vp_generator.specs.PrenexLaws.{PrenexedFormHasNoBinder}
 use Rattle.lower_rules.specs.Omega.{OmegaBoundsRuns}
 use Rattle.lower_rules.specs.OmegaAnswers.{IsOmegaAnswer, IsStepDecided, IsTold, OmegaHolds, ShownStateFails, told}
-use Rattle.lower_rules.specs.OmegaGoals.{step_goal}
-use Rattle.lower_rules.specs.OmegaPairs.{OmegaPair, formula_of}
-use Rattle.lower_rules.specs.declared.answers.Omega.{Omega}
-use Rattle.lower_rules.specs.declared.answers.Omega.TheVariants as reply
-use Rattle.lower_rules.specs.declared.answers.Step.{Step}
-use Rattle.lower_rules.specs.declared.answers.Step.TheVariants.{One, Base, Turn}
-use Rattle.lower_rules.specs.declared.pairs.Pair.{Pair}
-use Rattle.lower_rules.specs.internal.Pairs.{IsPairAt, IsReady, IsToldOf, first, second}
+use Rattle.lower_goals.specs.OmegaGoals.{step_goal}
+use Rattle.lower_goals.specs.OmegaPairs.{OmegaPair, formula_of}
+use Rattle.lower_goals.specs.declared.answers.Omega.{Omega}
+use Rattle.lower_goals.specs.declared.answers.Omega.TheVariants as reply
+use Rattle.lower_goals.specs.declared.answers.Step.{Step}
+use Rattle.lower_goals.specs.declared.answers.Step.TheVariants.{One, Base, Turn}
+use Rattle.lower_goals.specs.declared.pairs.Pair.{Pair}
+use Rattle.lower_goals.specs.LentOmegaPairs.{IsPairAt, IsReady, first, second}
+use Rattle.lower_rules.specs.internal.PairDecisions.{IsToldOf}
 use Rattle.lower_rules.specs.internal.PairAnswers.{answer_of, both}
 use Rattle.lower_rules.proofs.MeantGoals.{goal_fails, goals_say_omega}
-use Rattle.lower_rules.proofs.ReadyPairs.{the_loop}
+use Rattle.lower_goals.proofs.exported.ReadyPairs.{the_loop}
 
 -- ---- Goal by goal
 

@@ -1,12 +1,7 @@
-pub mod OneLoop
 pub mod CollectedSums
 pub mod Omega
 pub mod Remainder
-pub mod UpperGoals
-pub mod RemainderPairs
-pub mod StartGoals
+pub mod LimitedDecisions
 pub mod RemainderAnswers
-pub mod OmegaPairs
-pub mod OmegaGoals
 pub mod OmegaAnswers
 pub mod internal

@@ -18,7 +18,7 @@ use Rattle.run_machine.specs.Bound.{IsState}
 use Rattle.run_machine.specs.Runs.{runs}
 use Rattle.run_machine.specs.Scheduler.{Tree}
 use Rattle.lower_rules.specs.CollectedSums.{at_loop, collected}
-use Rattle.lower_rules.specs.OneLoop.{OneLoop, steps}
+use Rattle.lower_goals.specs.OneLoop.{OneLoop, steps}
 
 -- A number of turns, as the value of a variable.
 abbrev pub turns_value : ℕ → Val

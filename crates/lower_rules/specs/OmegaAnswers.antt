@@ -9,13 +9,13 @@ use Rattle.heyvl_acts.specs.Acts.{TypedProcedure, procedure_at, type_list, varia
 use Rattle.run_machine.specs.Bound.{IsState}
 use Rattle.vp_generator.specs.PrenexedGoals.{FailsByChoices}
 use Rattle.lower_rules.specs.Omega.{BoundsFrom}
-use Rattle.lower_rules.specs.OmegaGoals.{goal_variables, greater, limited, smaller, step_goal}
-use Rattle.lower_rules.specs.OmegaPairs.{OmegaPair, formula_of}
-use Rattle.lower_rules.specs.UpperGoals.{IsDecidedWithin}
-use Rattle.lower_rules.specs.declared.answers.Omega.{Omega}
-use Rattle.lower_rules.specs.declared.answers.Omega.TheVariants.{Holds, Fails, Unknown, Shape}
-use Rattle.lower_rules.specs.declared.answers.Step.{Step}
-use Rattle.lower_rules.specs.declared.answers.Step.TheVariants.{One, Base, Turn}
+use Rattle.lower_goals.specs.OmegaGoals.{goal_variables, greater, limited, smaller, step_goal}
+use Rattle.lower_goals.specs.OmegaPairs.{OmegaPair, formula_of}
+use Rattle.lower_rules.specs.LimitedDecisions.{IsDecidedWithin}
+use Rattle.lower_goals.specs.declared.answers.Omega.{Omega}
+use Rattle.lower_goals.specs.declared.answers.Omega.TheVariants.{Holds, Fails, Unknown, Shape}
+use Rattle.lower_goals.specs.declared.answers.Step.{Step}
+use Rattle.lower_goals.specs.declared.answers.Step.TheVariants.{One, Base, Turn}
 
 -- ---- Which answer
 

@@ -18,7 +18,7 @@ use Rattle.run_machine.specs.Configurations.{begin}
 use Rattle.run_machine.specs.Runs.{runs}
 use Rattle.run_machine.specs.Scheduler.{Tree}
 use Rattle.lower_rules.specs.CollectedSums.{collected}
-use Rattle.lower_rules.specs.OneLoop.{OneLoop, steps}
+use Rattle.lower_goals.specs.OneLoop.{OneLoop, steps}
 
 -- In each state of the procedure the post is at most 1.
 abbrev pub HasSmallPost : TypedProcedure → Type 0

@@ -17,12 +17,12 @@ use Rattle.verdict_report.specs.declared.answers.Answer.{Answer}
 use Rattle.verdict_report.specs.declared.answers.RankVerdict.TheVariants.{Ranked}
 use Rattle.verdict_report.specs.declared.answers.Verdict.TheVariants.{Verified}
 use Rattle.lower_rules.specs.Remainder.{BoundsWithRemainder}
-use Rattle.lower_rules.specs.RemainderPairs.{RemainderPair}
-use Rattle.lower_rules.specs.StartGoals.{StartFails, start_goal}
-use Rattle.lower_rules.specs.UpperGoals.{IsDecidedWithin}
+use Rattle.lower_goals.specs.RemainderPairs.{RemainderPair}
+use Rattle.lower_goals.specs.StartGoals.{StartFails, start_goal}
+use Rattle.lower_rules.specs.LimitedDecisions.{IsDecidedWithin}
 use Rattle.verdict_report.specs.VerdictsOn.{IsVerdictOn, IsVerdictOnLoop}
-use Rattle.lower_rules.specs.declared.remainder_answers.Remainder.{Remainder}
-use Rattle.lower_rules.specs.declared.remainder_answers.Remainder.TheVariants.{Holds, NotVerified, NotRanked, Fails, Unknown, Shape}
+use Rattle.lower_goals.specs.declared.remainder_answers.Remainder.{Remainder}
+use Rattle.lower_goals.specs.declared.remainder_answers.Remainder.TheVariants.{Holds, NotVerified, NotRanked, Fails, Unknown, Shape}
 
 -- ---- What is asked of the answers
 

@@ -1,7 +1,5 @@
-pub mod Shapes
 pub mod Said
-pub mod Parts
 pub mod StartDecisions
 pub mod Decidable
-pub mod Pairs
+pub mod PairDecisions
 pub mod PairAnswers

@@ -2,7 +2,8 @@
 
 ghost use Rattle.heylo_formula.specs.Formula.{Form as plain_form};
 ghost use Rattle.heylo_formula.specs.Goals.{Goal as plain_goal};
-ghost use Rattle.lower_rules.specs.UpperGoals.{IsDecidedWithin, IsMadeFor};
+ghost use Rattle.lower_rules.specs.LimitedDecisions.{IsDecidedWithin};
+ghost use Rattle.lower_goals.specs.LimitedGoals.{IsMadeFor};
 ghost use Rattle.lower_rules.specs.internal.Decidable.{CanDecide};
 ghost use Rattle.region_split.specs.Meanings.{Tells};
 ghost use Rattle.std.specs.Prelude.{IfOk, List};

@@ -4,18 +4,18 @@ ghost use Rattle.heyvl_acts.specs.FormSizes.{FormsWithin};
 ghost use Rattle.heyvl_acts.specs.PlainActs.{procedures_of};
 ghost use Rattle.heyvl_acts.specs.Rules.{Each, MeetsAllRules};
 ghost use Rattle.lower_rules.specs.OmegaAnswers.{IsOmegaAnswer, OmegaHolds, ShownStateFails};
-ghost use Rattle.lower_rules.specs.declared.answers.Omega.TheVariants.{Holds};
-ghost use Rattle.lower_rules.specs.internal.Pairs.{IsReady, IsStep, IsToldOf};
+ghost use Rattle.lower_goals.specs.declared.answers.Omega.TheVariants.{Holds};
+ghost use Rattle.lower_goals.specs.LentOmegaPairs.{IsReady};
+ghost use Rattle.lower_rules.specs.internal.PairDecisions.{IsStep, IsToldOf};
 ghost use Rattle.std.specs.Prelude.{IfOk, length, ◌<◌, ◌^◌, ◌≡◌};
 
-use crate::answers::{Omega, Step};
 use crate::decisions::decided;
 use crate::laws::omega_bounds_runs;
 use crate::pair_answers::{answer_of, both};
-use crate::pairs::{Pair, pair_of};
-use crate::step_goals::step_goal;
 use goal_answers::Decision;
 use heyvl_acts::Typed;
+use lower_goals::pairs::{Pair, pair_of};
+use lower_goals::{Omega, Step, step_goal};
 use std::alloc::{AllocError, Global};
 use vp_generator::{
     generated_form_means_acts, prenexed_form_means_choices, prenexed_goals_speak_of_choices,

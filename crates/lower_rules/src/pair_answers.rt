@@ -3,8 +3,8 @@
 ghost use Rattle.lower_rules.specs.internal.PairAnswers.{answer_of, both, unless_fails};
 ghost use Rattle.std.specs.Prelude.{◌≡◌};
 
-use crate::answers::{Omega, Step};
 use goal_answers::{Cause, Decision};
+use lower_goals::{Omega, Step};
 
 /// The answer by one goal alone.
 pub(crate) fn answer_of(step: Step, decision: Decision) -> Omega

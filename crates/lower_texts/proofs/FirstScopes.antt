@@ -5,8 +5,8 @@ use Rattle.heyvl_acts.specs.PlainActs.{act_of, acts_of}
 use Rattle.heyvl_acts.specs.Rules.{Each}
 use Rattle.heyvl_acts.specs.Straight.{IsStraight}
 use Rattle.heyvl_acts.specs.declared.acts.Act as A
-use Rattle.lower_rules.specs.OmegaPairs.{places}
-use Rattle.lower_rules.specs.OneLoop.{OneLoop}
+use Rattle.lower_goals.specs.OmegaPairs.{places}
+use Rattle.lower_goals.specs.OneLoop.{OneLoop}
 use Rattle.lower_texts.specs.internal.FirstScopes.{first_scope, or_scope, own_scope}
 use Rattle.std.proofs.Common.{List, None, Some, [], ap, drop, get_or, length, refl, subst, sym, ◌+◌, ◌++◌, ◌<◌, ◌∙◌, ◌∷◌, ◌≡◌, ℕ}
 use Rattle.std.proofs.lemmas.List.{at_drop_more}

@@ -3,13 +3,13 @@ use Rattle.goal_answers.specs.declared.causes.Cause.{Cause}
 use Rattle.heylo_formula.specs.declared.goals.Made.{Made}
 use Rattle.heylo_formula.specs.declared.values.Val.{Val}
 use Rattle.heyvl_acts.specs.Acts.{TypedProcedure, procedure_at}
-use Rattle.lower_rules.specs.OmegaGoals.{limited, step_goal}
-use Rattle.lower_rules.specs.OmegaPairs.{OmegaPair, formula_of, places}
-use Rattle.lower_rules.specs.UpperGoals.{IsMadeFor}
-use Rattle.lower_rules.specs.declared.answers.Omega.TheVariants.{Fails, Holds, Shape, Unknown}
-use Rattle.lower_rules.specs.declared.answers.Omega.{Omega}
-use Rattle.lower_rules.specs.declared.answers.Step.TheVariants.{Base, One, Turn}
-use Rattle.lower_rules.specs.declared.answers.Step.{Step}
+use Rattle.lower_goals.specs.OmegaGoals.{limited, step_goal}
+use Rattle.lower_goals.specs.OmegaPairs.{OmegaPair, formula_of, places}
+use Rattle.lower_goals.specs.LimitedGoals.{IsMadeFor}
+use Rattle.lower_goals.specs.declared.answers.Omega.TheVariants.{Fails, Holds, Shape, Unknown}
+use Rattle.lower_goals.specs.declared.answers.Omega.{Omega}
+use Rattle.lower_goals.specs.declared.answers.Step.TheVariants.{Base, One, Turn}
+use Rattle.lower_goals.specs.declared.answers.Step.{Step}
 use Rattle.verdict_report.specs.GoalNames.{names_of_made}
 use Rattle.lower_texts.specs.PlacedCauses.{placed}
 use Rattle.std.specs.Prelude.{List, codes, length, ◌++◌, ◌≡◌, ℕ}

@@ -4,10 +4,10 @@ use Rattle.heylo_formula.specs.declared.goals.Made.{Made}
 use Rattle.heylo_formula.specs.declared.values.Val.{Val}
 use Rattle.heyvl_acts.specs.Acts.{TypedProcedure, procedure_at}
 use Rattle.heyvl_num.specs.Rational.{Rational}
-use Rattle.lower_rules.specs.RemainderPairs.{RemainderPair}
-use Rattle.lower_rules.specs.StartGoals.{start_goal}
-use Rattle.lower_rules.specs.declared.remainder_answers.Remainder.TheVariants.{Fails, Holds, NotRanked, NotVerified, Shape, Unknown}
-use Rattle.lower_rules.specs.declared.remainder_answers.Remainder.{Remainder}
+use Rattle.lower_goals.specs.RemainderPairs.{RemainderPair}
+use Rattle.lower_goals.specs.StartGoals.{start_goal}
+use Rattle.lower_goals.specs.declared.remainder_answers.Remainder.TheVariants.{Fails, Holds, NotRanked, NotVerified, Shape, Unknown}
+use Rattle.lower_goals.specs.declared.remainder_answers.Remainder.{Remainder}
 use Rattle.verdict_report.specs.GoalNames.{names_of_made}
 use Rattle.lower_texts.specs.PlacedCauses.{placed}
 use Rattle.number_texts.specs.ValueTexts.{fraction_text}

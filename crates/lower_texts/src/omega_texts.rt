@@ -4,7 +4,7 @@ ghost use Rattle.heyvl_acts.specs.Acts.{procedure_at};
 ghost use Rattle.heyvl_acts.specs.FormSizes.{FormsWithin};
 ghost use Rattle.heyvl_acts.specs.PlainActs.{procedures_of};
 ghost use Rattle.heyvl_acts.specs.Rules.{Each, MeetsAllRules};
-ghost use Rattle.lower_rules.specs.OmegaPairs.{OmegaPair};
+ghost use Rattle.lower_goals.specs.OmegaPairs.{OmegaPair};
 ghost use Rattle.lower_texts.specs.OmegaTexts.{HasPair, IsFailsText, IsOmegaText, IsUnknownText, holds_text, step_text};
 ghost use Rattle.std.specs.Prelude.{IfOk, OnOk, codes, length, ◌++◌, ◌<◌, ◌^◌, ◌≡◌};
 
@@ -13,7 +13,7 @@ use crate::scopes::shown_variables;
 use goal_answers::Cause;
 use heylo_formula::Val;
 use heyvl_acts::Typed;
-use lower_rules::{Omega, Step, omega_goal};
+use lower_goals::{Omega, Step, omega_goal};
 use std::alloc::{AllocError, Global};
 use verdict_report::{names_of_made, write_state};
 

@@ -3,7 +3,7 @@
 ghost use Rattle.heyvl_acts.specs.Acts.{procedure_at};
 ghost use Rattle.heyvl_acts.specs.PlainActs.{procedures_of};
 ghost use Rattle.heyvl_acts.specs.Rules.{MeetsAllRules};
-ghost use Rattle.lower_rules.specs.RemainderPairs.{RemainderPair};
+ghost use Rattle.lower_goals.specs.RemainderPairs.{RemainderPair};
 ghost use Rattle.lower_texts.specs.RemainderTexts.{HasPair, IsFailsText, IsRemainderText, IsUnknownText, bound_text, remainder_line};
 ghost use Rattle.std.specs.Prelude.{IfOk, codes, length, ◌++◌, ◌<◌, ◌^◌, ◌≡◌};
 
@@ -12,7 +12,7 @@ use goal_answers::Cause;
 use heylo_formula::Val;
 use heyvl_acts::Typed;
 use heyvl_num::Frac;
-use lower_rules::{Remainder, remainder_goal};
+use lower_goals::{Remainder, remainder_goal};
 use number_texts::write_fraction;
 use std::alloc::{AllocError, Global};
 use verdict_report::{interface_of, names_of_made, write_state};

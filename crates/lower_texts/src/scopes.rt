@@ -2,8 +2,8 @@
 
 ghost use Rattle.heyvl_acts.specs.Acts.{acts_in};
 ghost use Rattle.heyvl_acts.specs.PlainActs.{act_of, acts_of, procedure_of};
-ghost use Rattle.lower_rules.specs.OmegaPairs.{places};
-ghost use Rattle.lower_rules.specs.OneLoop.{OneLoop};
+ghost use Rattle.lower_goals.specs.OmegaPairs.{places};
+ghost use Rattle.lower_goals.specs.OneLoop.{OneLoop};
 ghost use Rattle.lower_texts.specs.internal.FirstScopes.{first_scope, lent, own_scope};
 ghost use Rattle.std.specs.Prelude.{IfOk, length, ◌<◌, ◌^◌, ◌≡◌};
 

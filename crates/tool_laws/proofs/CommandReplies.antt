@@ -30,10 +30,10 @@ use Rattle.command_rules.specs.declared.requests.Settings.TheVariants.{Certify, 
 use Rattle.command_rules.specs.declared.requests.Settings.{Settings}
 use Rattle.static_rules.specs.Files.{first_fault, resolved}
 use Rattle.typed_expressions.specs.Findings.{Finding}
-use Rattle.lower_rules.specs.declared.answers.Omega.TheVariants as omega_answers
-use Rattle.lower_rules.specs.declared.answers.Omega.{Omega as OmegaAnswer}
-use Rattle.lower_rules.specs.declared.remainder_answers.Remainder.TheVariants as remainder_answers
-use Rattle.lower_rules.specs.declared.remainder_answers.Remainder.{Remainder as RemainderAnswer}
+use Rattle.lower_goals.specs.declared.answers.Omega.TheVariants as omega_answers
+use Rattle.lower_goals.specs.declared.answers.Omega.{Omega as OmegaAnswer}
+use Rattle.lower_goals.specs.declared.remainder_answers.Remainder.TheVariants as remainder_answers
+use Rattle.lower_goals.specs.declared.remainder_answers.Remainder.{Remainder as RemainderAnswer}
 use Rattle.refute_runs.specs.declared.answers.Refuted.TheVariants.{Stopped, Violation, Within}
 use Rattle.refute_runs.specs.declared.answers.Refuted.{Refuted}
 use Rattle.run_unroller.specs.declared.answers.Unrolled.TheVariants as answers

@@ -9,8 +9,8 @@ use Rattle.command_rules.specs.commands.Run.{no_procedure}
 use Rattle.command_rules.specs.declared.faults.Fault.TheVariants as faults
 use Rattle.static_rules.specs.Files.{first_fault, resolved}
 use Rattle.lower_rules.specs.OmegaAnswers.{IsOmegaAnswer, OmegaHolds, ShownStateFails}
-use Rattle.lower_rules.specs.declared.answers.Omega.TheVariants.{Fails, Holds, Shape, Unknown}
-use Rattle.lower_rules.specs.declared.answers.Omega.{Omega}
+use Rattle.lower_goals.specs.declared.answers.Omega.TheVariants.{Fails, Holds, Shape, Unknown}
+use Rattle.lower_goals.specs.declared.answers.Omega.{Omega}
 use Rattle.lower_texts.specs.OmegaTexts.{IsOmegaText}
 use Rattle.std.specs.Prelude.{List, None, Some, ◌≡◌, ◌⊎◌, ℕ}
 

@@ -11,8 +11,8 @@ use Rattle.command_rules.specs.commands.Run.{no_procedure}
 use Rattle.command_rules.specs.declared.faults.Fault.TheVariants as faults
 use Rattle.static_rules.specs.Files.{first_fault, resolved}
 use Rattle.lower_rules.specs.RemainderAnswers.{IsPromised, IsRemainderAnswer}
-use Rattle.lower_rules.specs.declared.remainder_answers.Remainder.TheVariants.{Fails, Holds, NotRanked, NotVerified, Shape, Unknown}
-use Rattle.lower_rules.specs.declared.remainder_answers.Remainder.{Remainder}
+use Rattle.lower_goals.specs.declared.remainder_answers.Remainder.TheVariants.{Fails, Holds, NotRanked, NotVerified, Shape, Unknown}
+use Rattle.lower_goals.specs.declared.remainder_answers.Remainder.{Remainder}
 use Rattle.lower_texts.specs.RemainderTexts.{IsRemainderText}
 use Rattle.std.specs.Prelude.{List, None, Some, ◌≡◌, ◌⊎◌, ℕ}
 use Rattle.verdict_report.specs.declared.answers.Answer.{Answer}

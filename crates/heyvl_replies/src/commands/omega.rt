@@ -12,7 +12,8 @@ use command_rules::{Fault, Response, Text, message, refused, stated};
 use heyvl_acts::Typed;
 use heyvl_files::{spelling_is_unique, typed_source};
 use heyvl_syntax::sources_have_no_fault;
-use lower_rules::{Omega, omega};
+use lower_goals::Omega;
+use lower_rules::omega;
 use lower_texts::omega_text;
 use std::alloc::{AllocError, Global};
 

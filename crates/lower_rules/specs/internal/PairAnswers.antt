@@ -2,9 +2,9 @@
 use Rattle.goal_answers.specs.declared.causes.Cause.{Cause}
 use Rattle.goal_answers.specs.declared.decisions.Decision.{Decision}
 use Rattle.goal_answers.specs.declared.decisions.Decision.TheVariants as decision
-use Rattle.lower_rules.specs.declared.answers.Omega.{Omega}
-use Rattle.lower_rules.specs.declared.answers.Omega.TheVariants.{Holds, Fails, Unknown, Shape}
-use Rattle.lower_rules.specs.declared.answers.Step.{Step}
+use Rattle.lower_goals.specs.declared.answers.Omega.{Omega}
+use Rattle.lower_goals.specs.declared.answers.Omega.TheVariants.{Holds, Fails, Unknown, Shape}
+use Rattle.lower_goals.specs.declared.answers.Step.{Step}
 
 -- By one goal alone.
 abbrev pub answer_of : Step → Decision → Omega

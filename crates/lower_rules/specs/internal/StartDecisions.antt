@@ -6,10 +6,10 @@ use Rattle.heyvl_num.specs.Rational.{Rational}
 use Rattle.heylo_formula.specs.Formula.{Form}
 use Rattle.heyvl_acts.specs.Acts.{Acts, TypedProcedure, variables}
 use Rattle.ranking_rule.specs.RankingGoals.{generated}
-use Rattle.lower_rules.specs.StartGoals.{StartFails, StartHolds, start_goal}
-use Rattle.lower_rules.specs.UpperGoals.{IsDecidedWithin}
-use Rattle.lower_rules.specs.declared.remainder_answers.Remainder.{Remainder}
-use Rattle.lower_rules.specs.declared.remainder_answers.Remainder.TheVariants.{Holds, Fails, Unknown}
+use Rattle.lower_goals.specs.StartGoals.{StartFails, StartHolds, start_goal}
+use Rattle.lower_rules.specs.LimitedDecisions.{IsDecidedWithin}
+use Rattle.lower_goals.specs.declared.remainder_answers.Remainder.{Remainder}
+use Rattle.lower_goals.specs.declared.remainder_answers.Remainder.TheVariants.{Holds, Fails, Unknown}
 
 -- What a decision tells of the states of the first procedure.
 abbrev pub TellsOfStart : TypedProcedure → Acts → Rational × Form → Form → Decision → Type 0

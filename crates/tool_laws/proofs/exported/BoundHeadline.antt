@@ -14,10 +14,10 @@ use Rattle.command_rules.specs.declared.requests.Settings.TheVariants as command
 use Rattle.static_rules.specs.Files.{resolved}
 use Rattle.lower_rules.specs.OmegaAnswers.{OmegaHolds}
 use Rattle.lower_rules.specs.RemainderAnswers.{IsPromised}
-use Rattle.lower_rules.specs.declared.answers.Omega.TheVariants as omega_answers
-use Rattle.lower_rules.specs.declared.answers.Omega.{Omega}
-use Rattle.lower_rules.specs.declared.remainder_answers.Remainder.TheVariants as remainder_answers
-use Rattle.lower_rules.specs.declared.remainder_answers.Remainder.{Remainder}
+use Rattle.lower_goals.specs.declared.answers.Omega.TheVariants as omega_answers
+use Rattle.lower_goals.specs.declared.answers.Omega.{Omega}
+use Rattle.lower_goals.specs.declared.remainder_answers.Remainder.TheVariants as remainder_answers
+use Rattle.lower_goals.specs.declared.remainder_answers.Remainder.{Remainder}
 use Rattle.lower_texts.specs.OmegaTexts.{IsOmegaText}
 use Rattle.lower_texts.specs.RemainderTexts.{IsRemainderText}
 use Rattle.std.proofs.Common.{List, ap, arith, refl, subst, sym, ◌∙◌, ◌≡◌, ◌≤◌, ℕ}

@@ -1,7 +1,7 @@
 use Rattle.std.proofs.Common.{◌∙◌, ap₂}
 use Rattle.lower_rules.proofs.ToldAnswers.{told_by_goals}
 use Rattle.lower_rules.specs.internal.PairAnswers.{both}
-use Rattle.lower_rules.specs.declared.answers.Omega.{Omega}
+use Rattle.lower_goals.specs.declared.answers.Omega.{Omega}
 use Rattle.lower_rules.proofs.omegas.answer_on.Goals as goal
 
 pub returns : goal.returns

@@ -1,8 +1,8 @@
-use Rattle.lower_rules.specs.OmegaGoals.{limited, step_goal}
-use Rattle.lower_rules.specs.OmegaPairs.{formula_of}
-use Rattle.lower_rules.specs.internal.Pairs.{behind, body, first, head, second}
+use Rattle.lower_goals.specs.OmegaGoals.{limited, step_goal}
+use Rattle.lower_goals.specs.OmegaPairs.{formula_of}
+use Rattle.lower_goals.specs.LentOmegaPairs.{behind, body, first, head, second}
 use Rattle.lower_rules.proofs.MadeDecisions.{both_ok}
-use Rattle.lower_rules.proofs.ReadyPairs.{made_decidable}
+use Rattle.lower_rules.proofs.DecidablePairs.{made_decidable}
 use Rattle.lower_rules.proofs.omegas.decided_step.Goals as goal
 
 pub decided-requires : goal.decided-requires

@@ -1,5 +1,5 @@
 use Rattle.std.proofs.Common.{subst}
-use Rattle.lower_rules.specs.internal.Pairs.{IsPairOf}
+use Rattle.lower_goals.specs.LentOmegaPairs.{IsPairOf}
 use Rattle.std.proofs.lemmas.Result.{IfOk-weaker}
 use Rattle.lower_rules.proofs.ToldAnswers.{bound, is_answer, shown}
 use Rattle.lower_rules.proofs.omegas.omega.Goals as goal

@@ -1,5 +1,5 @@
 use Rattle.lower_rules.proofs.MadeDecisions.{made_for}
-use Rattle.lower_rules.proofs.MadeStarts.{is_started, made_can}
+use Rattle.lower_rules.proofs.StartedPairs.{is_started, made_can}
 use Rattle.lower_rules.proofs.remainders.started.Goals as goal
 
 pub decided-requires : goal.decided-requires

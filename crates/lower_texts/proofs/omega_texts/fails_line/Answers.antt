@@ -1,6 +1,6 @@
 use Rattle.heyvl_acts.specs.Acts.{procedure_at}
 use Rattle.heyvl_acts.specs.PlainActs.{procedures_of}
-use Rattle.lower_rules.specs.OmegaPairs.{places}
+use Rattle.lower_goals.specs.OmegaPairs.{places}
 use Rattle.lower_texts.proofs.FirstScopes.{shown_as}
 use Rattle.lower_texts.proofs.Lines.{step_told}
 use Rattle.lower_texts.proofs.Procedures.{few_variables, name_is, procedure_is}

@@ -1,0 +1,9 @@
+-- Lemmas that are meant for the proofs of other crates. All else in proofs/ is private to this crate.
+pub mod LoopParts
+pub mod Calm
+pub mod GoalVariables
+pub mod OmegaParts
+pub mod TurnActs
+pub mod GoalForms
+pub mod ReadyPairs
+pub mod StartParts

@@ -1,0 +1,9 @@
+pub mod OneLoop
+pub mod OmegaPairs
+pub mod OmegaGoals
+pub mod RemainderPairs
+pub mod StartGoals
+pub mod LimitedGoals
+pub mod LentOmegaPairs
+pub mod LentRemainderPairs
+pub mod internal
